@@ -1,0 +1,6 @@
+pub mod Cells
+pub mod Images
+pub mod Parts
+pub mod Powers
+pub mod Rules
+pub mod Words

@@ -2,7 +2,7 @@
 -- and the log base (line 2); blocks 1 to 4 the journal's records; then come the inode lines, the name lines and the
 -- log lines, each region rounded up to whole blocks; the rest are data blocks. Lines are counted from the first
 -- line of the image, 64 a block; words from its first word, 8 a line.
-use Rattle.std.specs.Prelude.{◌≡◌, ℕ, ◌+◌, ◌-◌, ◌*◌, ◌/◌, ◌<◌, ◌≤◌, min, Bool, ◌&&◌, ◌||◌, ◌==◌, nat_lt, nat_le}
+use Rattle.std.specs.Prelude.{◌≡◌, ℕ, ◌+◌, ◌-◌, ◌*◌, ◌/◌, ◌≤◌, min, Bool, ◌&&◌, ◌||◌, ◌==◌, nat_lt, nat_le}
 
 -- The numbers of an image: its version, its blocks, and the lines of its log, its inodes and its names.
 pub record Geometry : Type 0 where

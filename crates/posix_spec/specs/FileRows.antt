@@ -71,10 +71,14 @@ write_rows s who h start x =
   ∷ no_blocks s (write_need s.mode (length (content s who h)) start (start + length x))
   ∷ []
 
--- a place and a number that is added to it, if that is not below 0
+-- a place, if it is not above the limit
+abbrev pub within_limit : ℕ → Option ℕ
+within_limit place = if nat_lt furthest_offset place then None else Some place
+
+-- a place with a number added, if that is neither below 0 nor above the limit
 abbrev pub moved_place : ℕ → ℤ → Option ℕ
-moved_place place (pos by) = Some (place + by)
-moved_place place (negsuc less) = if nat_lt less place then Some (place - (less + 1)) else None
+moved_place place (pos by) = within_limit (place + by)
+moved_place place (negsuc less) = if nat_lt less place then within_limit (place - (less + 1)) else None
 
 -- what a seek counts from
 abbrev pub seek_base : State → Who → Handle → Whence → ℕ
@@ -82,14 +86,14 @@ seek_base s who h Whence.Set = 0
 seek_base s who h Whence.Cur = offset_of s.tables who h
 seek_base s who h Whence.End = length (content s who h)
 
--- where a seek leads, if that is not below 0
+-- where a seek leads, if it may lead there
 abbrev pub seek_target : State → Who → Handle → Whence → ℤ → Option ℕ
 seek_target s who h w i = moved_place (seek_base s who h w) i
 
 unfoldable pub seek_rows : State → Who → Handle → Whence → ℤ → List (Option Outcome)
 seek_rows s who h w i =
     unknown_row s.tables who h
-  ∷ row (option_map_or (λ place. nat_lt furthest_offset place) (seek_target s who h w i) true) Errno.EINVAL
+  ∷ row (is_none (seek_target s who h w i)) Errno.EINVAL
   ∷ []
 
 unfoldable pub truncate_rows : State → Who → Handle → ℕ → List (Option Outcome)

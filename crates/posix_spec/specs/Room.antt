@@ -1,15 +1,16 @@
 -- Room: how many blocks files hold, and how many are left. Lengths are in bytes, the rest is in blocks.
 use Rattle.std.specs.Prelude.{ℕ, ◌+◌, ◌-◌, ◌/◌, min, max, List, [], length, sum_by}
+use Rattle.std.specs.Int.{div_ceil}
 use Rattle.posix_types.specs.declared.call.Mode.{Mode}
 use Rattle.posix_spec.specs.declared.node.Node.{Node}
 
 -- the blocks that a length takes
 abbrev pub blocks_of : ℕ → ℕ
-blocks_of bytes = (bytes + 4095) / 4096
+blocks_of bytes = div_ceil bytes 4096
 
 -- the chain blocks that name so many blocks, 255 in each
 abbrev pub chain_of : ℕ → ℕ
-chain_of blocks = (blocks + 254) / 255
+chain_of blocks = div_ceil blocks 255
 
 -- what a file of a length holds: its blocks, and those of its chain
 abbrev pub held_by_length : ℕ → ℕ

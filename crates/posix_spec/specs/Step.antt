@@ -1,5 +1,5 @@
 -- What each call does: the first of its rows that fits gives the outcome and changes nothing, and where none fits the last row acts.
-use Rattle.std.specs.Prelude.{ℕ, ◌+◌, List, [], length, take, drop, Option, Some, None, unwrap_or, ℤ, if◌then◌else◌}
+use Rattle.std.specs.Prelude.{ℕ, Bool, ◌+◌, List, [], length, take, drop, Option, Some, None, unwrap_or, ℤ, if◌then◌else◌}
 use Rattle.posix_types.specs.declared.item.Outcome.{Outcome}
 use Rattle.posix_types.specs.declared.call.Who.{Who}
 use Rattle.posix_types.specs.declared.call.Call.{Call}
@@ -64,10 +64,10 @@ rename_done s p q =
 abbrev pub empty_file : Node
 empty_file = Node.File (record { bytes = []; published = 0 })
 
--- the file is made empty where it was missing, and cut to 0 where F has t
-unfoldable pub opening : State → List (List ℕ) → Flags → State
-opening s p f =
-    if exists_at (space s) p then (if f.truncate then with_node s (number_at (space s) p) empty_file else s)
+-- the file is made empty where it was missing, and cut to 0 where the flags say so
+unfoldable pub opening : State → List (List ℕ) → Bool → State
+opening s p truncate =
+    if exists_at (space s) p then (if truncate then with_node s (number_at (space s) p) empty_file else s)
     else made s p empty_file
 
 -- the number of the file that is opened: a new one where it was missing
@@ -78,7 +78,7 @@ opening_number s p = if exists_at (space s) p then number_at (space s) p else le
 unfoldable pub open_done : State → Who → Handle → List (List ℕ) → Flags → Stepped
 open_done s who h p f =
     let description : Description = record { node = opening_number s p; offset = 0; flags = f } in
-    done (record (opening s p f) { tables = with_opened s.tables who h description }) (Reply.Fd (next_descriptor s.tables))
+    done (record (opening s p f.truncate) { tables = with_opened s.tables who h description }) (Reply.Fd (next_descriptor s.tables))
 
 -- the length is published; handle and descriptor go, a description with its last descriptor, and a file without name and description
 unfoldable pub close_done : State → Who → Handle → Stepped

@@ -1,9 +1,17 @@
 //! The meaning of every file call.
 #![tactic(auto)]
 
+mod bytes;
+mod file_calls;
+mod name_calls;
+mod names;
 mod node;
 mod open;
+mod outcomes;
+mod room;
+mod state;
 mod tree;
+mod walk;
 
 pub use node::{DirEntry, File, Node};
 pub use open::{Binding, Description, Tables};

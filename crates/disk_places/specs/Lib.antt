@@ -1,0 +1,4 @@
+pub mod Fields
+pub mod Journal
+pub mod Places
+pub mod Superblock

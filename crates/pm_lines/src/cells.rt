@@ -1,7 +1,6 @@
-// What the steps of a memory do to its cells, and how cells go out and come back. A device, a loan and
-// a line do the same, each on its own cells.
-ghost use Rattle.std.specs.Prelude.{◌≡◌, ◌≢◌, ◌+◌, ◌-◌, ◌*◌, ◌/◌, ◌%◌, ◌<◌, ◌≤◌, ℕ, true, length, slice_index, slice_set, if◌then◌else◌};
-ghost use Rattle.pm_words.specs.Cells.{cell, is_single, is_lent, is_marked, newest, oldest, stored, flushed, fenced, unmarked};
+// What the steps of a memory do to its cells. A device, a loan and a line do the same, each on its own.
+ghost use Rattle.std.specs.Prelude.{◌≡◌, ◌≢◌, ◌/◌, ◌<◌, ℕ, true, length, slice_index, slice_set, if◌then◌else◌};
+ghost use Rattle.pm_words.specs.Cells.{cell, is_single, is_marked, newest, oldest, stored, flushed, fenced, unmarked};
 
 use pm_words::Cell;
 
@@ -15,11 +14,13 @@ pub(crate) fn newest(cell: Cell) -> u64
     }
 }
 
-pub(crate) fn oldest(cell: Cell) -> u64
-    ensures { result ≡ oldest cell }
+// What a power loss leaves, the newest candidate or the oldest.
+pub(crate) fn candidate(cell: Cell, is_newest: bool) -> u64
+    ensures { result ≡ (if is_newest then newest cell else oldest cell) }
 {
     match cell {
-        Cell::Single(value) | Cell::Two(value, _) | Cell::Marked(value, _) => value,
+        Cell::Single(value) => value,
+        Cell::Two(old, new) | Cell::Marked(old, new) => if is_newest { new } else { old },
         Cell::Lent => 0,
     }
 }
@@ -48,7 +49,7 @@ fn fenced(cell: Cell) -> Cell
     }
 }
 
-fn unmarked(cell: Cell) -> Cell
+pub(crate) fn unmarked(cell: Cell) -> Cell
     ensures { result ≡ unmarked cell }
 {
     match cell {
@@ -109,29 +110,5 @@ pub(crate) fn fence_lines(cells: &mut [Cell], lines: &[u64])
 {
     for line in lines {
         fence_line(cells, *line as usize);
-    }
-}
-
-// Lends the words from `first` on.
-pub(crate) fn lend(cells: &mut [Cell], first: usize, count: usize)
-    requires { first + count ≤ length cells.old }
-    ensures out { (i : ℕ) → first ≤ i → i < first + count → cell cells.new i ≡ Cell.Lent }
-    ensures below { (i : ℕ) → i < first → cell cells.new i ≡ cell cells.old i }
-    ensures above { (i : ℕ) → first + count ≤ i → cell cells.new i ≡ cell cells.old i }
-{
-    for word in first..first + count {
-        cells[word] = Cell::Lent;
-    }
-}
-
-// Puts a part back from `first` on, without its marks.
-pub(crate) fn settle(cells: &mut [Cell], first: usize, part: &[Cell])
-    requires { first + length part.now ≤ length cells.old }
-    ensures words { (i : ℕ) → first ≤ i → i < first + length part.now → cell cells.new i ≡ unmarked (cell part.now (i - first)) }
-    ensures below { (i : ℕ) → i < first → cell cells.new i ≡ cell cells.old i }
-    ensures above { (i : ℕ) → first + length part.now ≤ i → cell cells.new i ≡ cell cells.old i }
-{
-    for (k, cell) in part.iter().enumerate() {
-        cells[first + k] = unmarked(*cell);
     }
 }

@@ -14,7 +14,18 @@
 
 mod cells;
 mod choices;
+mod devices;
+mod images;
+mod lines;
+mod loans;
+mod parts;
 mod powers;
 
 pub use choices::Choice;
+pub use devices::Pm;
+pub use lines::Line;
+pub use loans::Loan;
 pub use powers::Power;
+
+#[cfg(test)]
+mod tests;

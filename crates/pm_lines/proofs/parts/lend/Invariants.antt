@@ -1,5 +1,5 @@
 use Rattle.pm_words.specs.declared.Cell.TheVariants.{Lent}
-use Rattle.pm_lines.proofs.cells.lend.Given as goal
+use Rattle.pm_lines.proofs.parts.lend.Given as goal
 use Rattle.pm_lines.proofs.CellsLoops.{ChangedUpTo}
 
 abbrev pub invariant-loop-word : goal.invariant-loop-word

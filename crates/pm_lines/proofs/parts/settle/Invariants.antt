@@ -1,6 +1,6 @@
 use Rattle.std.proofs.Common.{◌≡◌, ◌+◌, ◌-◌, ◌<◌, ◌≤◌, ℕ}
 use Rattle.pm_words.specs.Cells.{cell, unmarked}
-use Rattle.pm_lines.proofs.cells.settle.Given as goal
+use Rattle.pm_lines.proofs.parts.settle.Given as goal
 
 abbrev pub invariant-loop-k : goal.invariant-loop-k
 invariant-loop-k l = record {

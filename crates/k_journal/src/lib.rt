@@ -1,2 +1,7 @@
 //! The journal.
 #![tactic(auto)]
+
+mod batches;
+mod phases;
+
+pub use batches::Entry;

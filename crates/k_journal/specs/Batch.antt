@@ -34,6 +34,12 @@ HasLine b line = (k : ℕ) × (k < length b) × (target b k ≡ line)
 abbrev pub IsNew : List Entry → ℕ → Type 0
 IsNew b line = (k : ℕ) → k < length b → target b k ≢ line
 
+-- the first place of the line
+pub record IsFirstPlace (b : List Entry) (line place : ℕ) : Type 0 where
+  pub within : place < length b
+  pub here : target b place ≡ line
+  pub not_before : (k : ℕ) → k < place → target b k ≢ line
+
 -- the batch in which the line has this content: in the place that it has, or at the end
 abbrev pub with_line_set : List Entry → ℕ → List ℕ → List Entry
 with_line_set [] line bytes = record { line = line; bytes = bytes } ∷ []

@@ -2,6 +2,7 @@
 #![tactic(auto)]
 
 mod batches;
+mod commits;
 mod phases;
 
-pub use batches::Entry;
+pub use batches::{Batch, BatchFull, Entry};

@@ -1,8 +1,8 @@
 // The phases of a commit. Each ends with a fence.
 ghost use Rattle.std.specs.Prelude.{◌≡◌, ◌≢◌, ◌+◌, ◌*◌, ◌/◌, ◌%◌, ◌<◌, ◌≤◌, ℕ, true, length};
 ghost use Rattle.disk_places.specs.Places.{record_line};
-ghost use Rattle.k_journal.specs.Batch.{target, content, IsDistinct};
-ghost use Rattle.k_journal.specs.Phases.{IsRecorded, IsDone};
+ghost use Rattle.k_journal.specs.Batch.{target, content, IsDistinct, IsNew};
+ghost use Rattle.k_journal.specs.Phases.{IsApart, IsRecorded, IsDone};
 ghost use Rattle.pm_words.specs.declared.Cell.TheVariants.{Single};
 ghost use Rattle.pm_words.specs.Cells.{cell, is_single, fenced, MayHold, Settles};
 ghost use Rattle.pm_words.specs.Powers.{is_on, Steps};
@@ -63,6 +63,7 @@ pub(crate) fn set_count(count: u64, pm: &mut Pm, power: &mut Power)
     ensures others { (i : ℕ) → i ≢ 8 → Settles (cell pm.old i) (cell pm.new i) }
     ensures torn { MayHold (cell pm.old 8) count (cell pm.new 8) }
     ensures set { is_on power.new ≡ true → cell pm.new 8 ≡ Single count }
+    ensures keeps { is_on power.new ≡ true → (i : ℕ) → is_single (cell pm.old i) ≡ true → is_single (cell pm.new i) ≡ true }
 {
     pm.store_word(power, 8, count);
     pm.flush(power, 1);
@@ -72,12 +73,15 @@ pub(crate) fn set_count(count: u64, pm: &mut Pm, power: &mut Power)
 // Makes the content of the entries' lines durable.
 pub(crate) fn put_targets(entries: &[Entry], pm: &mut Pm, power: &mut Power)
     requires distinct { IsDistinct entries.now }
+    requires apart { IsApart entries.now }
     requires in_device { (k : ℕ) → k < length entries.now → target entries.now k < length pm.old / 8 }
     requires single { (k i : ℕ) → k < length entries.now → i / 8 ≡ target entries.now k → is_single (cell pm.old i) ≡ true }
     ensures size { length pm.new ≡ length pm.old }
     ensures steps { Steps (9 * length entries.now + 1) power.old power.new }
-    ensures others { (i : ℕ) → ((k : ℕ) → k < length entries.now → i / 8 ≢ target entries.now k) → Settles (cell pm.old i) (cell pm.new i) }
+    ensures others { (i : ℕ) → IsNew entries.now (i / 8) → Settles (cell pm.old i) (cell pm.new i) }
+    ensures journal { (i : ℕ) → i < 2560 → i / 8 ≢ 2 → Settles (cell pm.old i) (cell pm.new i) }
     ensures targets { is_on power.new ≡ true → IsDone entries.now (length entries.now) pm.new }
+    ensures keeps { is_on power.new ≡ true → (i : ℕ) → is_single (cell pm.old i) ≡ true → is_single (cell pm.new i) ≡ true }
 {
     for entry in entries {
         pm.write_line(power, entry.line, &entry.bytes);

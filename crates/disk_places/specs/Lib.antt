@@ -1,4 +1,3 @@
-pub mod FieldLaws
 pub mod Fields
 pub mod Journal
 pub mod PlaceLaws

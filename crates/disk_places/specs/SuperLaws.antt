@@ -1,9 +1,10 @@
 -- Laws of the superblock: what is written for a geometry is read as that geometry.
 use Rattle.std.specs.Prelude.{◌≡◌, ℕ, List, true, ◌&&◌, ◌==◌, refl}
 use Rattle.std.proofs.Common.{arith, ap, sym, ◌∙◌}
+use Rattle.std.proofs.lemmas.Bool.{and_from}
 use Rattle.std.proofs.lemmas.Bool.Decides.{nat_tests}
 use Rattle.std.proofs.lemmas.Nat.{from_le_bytes-to_le_bytes_4}
-use Rattle.disk_places.specs.FieldLaws.{equal-is_same, both_true}
+use Rattle.std.proofs.lemmas.Slice.Eq.{bytes_eq-Decides}
 use Rattle.disk_places.specs.Fields.{is_same}
 use Rattle.disk_places.specs.PlaceLaws.{in_range-IsGeometry}
 use Rattle.disk_places.specs.Places.{Geometry, IsGeometry, is_in_range}
@@ -28,9 +29,9 @@ pub record IsSuperblockOf (g : Geometry) (bytes : List ℕ) : Type 0 where
 
 same_numbers : (g h : Geometry) → IsGeometry g → h ≡ g → (is_in_range h && is_same (superblock g) (superblock h)) ≡ true
 same_numbers g h ok e =
-    both_true (is_in_range h) (is_same (superblock g) (superblock h))
+    and_from (is_in_range h) (is_same (superblock g) (superblock h))
     (ap is_in_range e ∙ in_range-IsGeometry g ok)
-    (equal-is_same (superblock g) (superblock h) (ap superblock (sym e)))
+    ((bytes_eq-Decides (superblock g) (superblock h)).1 (ap superblock (sym e)))
 
 known_version : (g h : Geometry) → IsGeometry g → h ≡ g → (h.version == 1) ≡ true
 known_version g h ok e = grind (arith, nat_tests, ok.version, ap (λ (x : Geometry). x.version) e)

@@ -58,10 +58,10 @@ journaled_bounds g line h = grind (arith, nat_tests)
 pub journaled_cases : (g : Geometry) (line : ℕ) → is_journaled_line g line ≡ true → (line ≡ state_line) ⊎ (((i : ℕ) × (i < g.inodes) × (line ≡ inode_line i)) ⊎ ((k : ℕ) × (k < g.names) × (line ≡ name_line g k)))
 journaled_cases g line h =
     elim (journaled_bounds g line h) [
-      inl e ↦ inl e
-    | inr inside ↦ inr (elim inside [
-        inl b ↦ inl (line - inode_line 0, omega arith, omega arith)
-      | inr b ↦ inr (line - name_line g 0, omega arith, omega arith)
+      | inl e ↦ inl e
+      | inr inside ↦ inr (elim inside [
+        | inl b ↦ inl (line - inode_line 0, omega arith, omega arith)
+        | inr b ↦ inr (line - name_line g 0, omega arith, omega arith)
       ])
     ]
 

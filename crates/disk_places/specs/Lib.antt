@@ -1,4 +1,6 @@
 pub mod Fields
 pub mod Journal
+pub mod PlaceLaws
 pub mod Places
+pub mod SuperLaws
 pub mod Superblock

@@ -1,6 +1,6 @@
 -- What the three steps of a memory do, for a power that is on or off before the step. Each speaks of the cells
 -- of a device, of a loan or of a line alike.
-use Rattle.std.specs.Prelude.{◌≡◌, ◌≢◌, ◌/◌, ℕ, Bool, true, false, List, length, if◌then◌else◌}
+use Rattle.std.specs.Prelude.{◌≡◌, ◌≢◌, ◌/◌, ℕ, Bool, false, List, length, if◌then◌else◌}
 use Rattle.pm_words.specs.declared.Cell.{Cell}
 use Rattle.pm_words.specs.Cells.{cell, stored, flushed, fenced}
 

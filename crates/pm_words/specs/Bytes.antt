@@ -23,7 +23,7 @@ pub word_at-same : (xs ys : List ℕ) (i j : ℕ) → ((k : ℕ) → k < 8 → g
 unfolding word_at
 word_at-same xs ys i j same =
     let at : (k : ℕ) → k < 8 → get_or (take 8 (drop (8 * i) xs)) k 0 ≡ get_or (take 8 (drop (8 * j) ys)) k 0 =
-        λ k h. byte_in_word xs i k h ∙ same k h ∙ sym (byte_in_word ys j k h) in
+    λ k h. byte_in_word xs i k h ∙ same k h ∙ sym (byte_in_word ys j k h) in
     omega (arith, at 0 (lit< tt), at 1 (lit< tt), at 2 (lit< tt), at 3 (lit< tt), at 4 (lit< tt), at 5 (lit< tt), at 6 (lit< tt), at 7 (lit< tt))
 
 -- a word past the end of the bytes is 0
@@ -100,7 +100,7 @@ pub line_bytes-words : (f : Words) (line : ℕ) (bytes : List ℕ) → length by
     → ((i : ℕ) → i / 8 ≡ line → f i ≡ word_at bytes (i % 8)) → line_bytes f line ≡ bytes
 line_bytes-words f line bytes size small words =
     let front : line_front f line 8 ≡ take 64 bytes = line_front-words f line bytes 8 (omega arith) small
-        (λ k h. let at : (8 * line + k) % 8 ≡ k = omega arith in words (8 * line + k) (omega arith) ∙ ap (word_at bytes) at) in
+    (λ k h. let at : (8 * line + k) % 8 ≡ k = omega arith in words (8 * line + k) (omega arith) ∙ ap (word_at bytes) at) in
     sym (line_front-all f line) ∙ front ∙ take_all 64 bytes (omega arith)
 
 word_at-line_front : (f : Words) (line n k : ℕ) → f (8 * line + k) < 2 ^ 64 → k < n → word_at (line_front f line n) k ≡ f (8 * line + k)
@@ -108,7 +108,7 @@ unfolding line_front
 word_at-line_front f line zero k small below = absurd (omega arith)
 word_at-line_front f line (suc n) k small below = ⊎_elim
     (λ (h : k < n). word_at-append_left (line_front f line n) (to_le_bytes w64 (f (8 * line + n))) k (omega (arith, length-line_front f line n))
-        ∙ word_at-line_front f line n k small h)
+    ∙ word_at-line_front f line n k small h)
     (λ (h : n ≤ k). let e : k ≡ n = omega arith in rw e (word_at-append_word (line_front f line n) n (f (8 * line + n)) (length-line_front f line n) (rw e at small)))
     (cases_lt k n)
 

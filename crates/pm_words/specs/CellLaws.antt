@@ -1,11 +1,11 @@
 -- Laws of cells and powers that the layers above cite.
-use Rattle.std.specs.Prelude.{◌≡◌, ◌<◌, ◌≤◌, ◌⊎◌, ℕ, true, false, List, length}
-use Rattle.std.proofs.Common.{refl, inl, inr, arith, ⊎_elim}
+use Rattle.std.specs.Prelude.{◌≡◌, ◌<◌, ◌≤◌, ℕ, true, false, List, length}
+use Rattle.std.proofs.Common.{refl, inl, inr, ⊎_elim}
 use Rattle.std.proofs.lemmas.Bool.{cases_lt}
 use Rattle.std.proofs.lemmas.List.{get_or_past}
 use Rattle.pm_words.specs.declared.Cell.{Cell}
 use Rattle.pm_words.specs.declared.Cell.TheVariants.{Single, Two, Marked, Lent}
-use Rattle.pm_words.specs.Cells.{cell, is_single, is_lent, is_marked, newest, oldest, fenced, flushed, IsCandidate, Settles}
+use Rattle.pm_words.specs.Cells.{cell, is_single, is_lent, newest, oldest, fenced, IsCandidate, Settles}
 
 -- past the end of a device
 pub cell-past : (d : List Cell) (i : ℕ) → length d ≤ i → cell d i ≡ Single 0

@@ -1,10 +1,9 @@
 -- Laws of parts that go out and come back, by the place of a word within its part.
 use Rattle.std.specs.Prelude.{◌≡◌, ◌+◌, ◌*◌, ◌/◌, ◌%◌, ◌<◌, ℕ, List}
-use Rattle.std.proofs.Common.{arith, sym, ◌∙◌, ap}
+use Rattle.std.proofs.Common.{arith}
 use Rattle.std.proofs.Math.Nat.{div-add-mod}
 use Rattle.std.proofs.lemmas.Nat.{same_from_place, mod_below}
 use Rattle.pm_words.specs.declared.Cell.{Cell}
-use Rattle.pm_words.specs.declared.Cell.TheVariants.{Lent}
 use Rattle.pm_words.specs.Cells.{cell, unmarked}
 use Rattle.pm_words.specs.Parts.{GoesOut, ComesBack}
 

@@ -1,5 +1,5 @@
 -- Laws of powers that the layers above cite.
-use Rattle.std.specs.Prelude.{◌≡◌, ◌+◌, ℕ, Option, Some, None, true, false, nat_lt}
+use Rattle.std.specs.Prelude.{◌≡◌, ◌+◌, ℕ, Option, Some, None, false}
 use Rattle.std.proofs.Common.{refl, ap, arith, ◌∙◌}
 use Rattle.pm_words.specs.Powers.{Supply, is_on, is_left, stepped, taken_after, Steps}
 

@@ -1,5 +1,4 @@
-use Rattle.std.proofs.Common.{◌≡◌, ◌+◌, ◌*◌, ◌/◌, ◌<◌, ◌≤◌, ◌≢◌, ℕ}
-use Rattle.pm_words.specs.Cells.{cell, fenced}
+use Rattle.pm_words.specs.Cells.{fenced}
 use Rattle.pm_lines.proofs.cells.fence_line.Given as goal
 use Rattle.pm_lines.proofs.CellsLoops.{ChangedUpTo}
 

@@ -1,5 +1,4 @@
-use Rattle.std.proofs.Common.{◌≡◌, ◌+◌, ◌*◌, ◌/◌, ◌<◌, ◌≤◌, ◌≢◌, ℕ}
-use Rattle.pm_words.specs.Cells.{cell, flushed}
+use Rattle.pm_words.specs.Cells.{flushed}
 use Rattle.pm_lines.proofs.cells.flush.Given as goal
 use Rattle.pm_lines.proofs.CellsLoops.{ChangedUpTo}
 

@@ -1,4 +1,4 @@
-use Rattle.std.proofs.Common.{◌≡◌, ◌+◌, ◌-◌, ◌*◌, ◌++◌, List, ℕ, take, refl, sym, ◌∙◌, ap, arith, rules, length}
+use Rattle.std.proofs.Common.{◌≡◌, ◌+◌, ◌-◌, ◌*◌, ◌++◌, List, ℕ, refl, sym, ◌∙◌, ap, arith, rules, length}
 use Rattle.std.specs.Int.{to_le_bytes, w64}
 use Rattle.std.proofs.lemmas.List.{places, take_all}
 use Rattle.std.proofs.lemmas.Slice.{take-put_mid}

@@ -1,3 +1,4 @@
+pub mod FieldLaws
 pub mod Fields
 pub mod Journal
 pub mod PlaceLaws

@@ -1,3 +1,4 @@
 pub mod Entries
+pub mod LineLaws
 pub mod Lines
 pub mod Names

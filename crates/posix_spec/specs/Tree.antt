@@ -16,11 +16,10 @@ use Rattle.posix_spec.specs.State.{State, node_at, made}
 abbrev pub printed : List (List ℕ) → List ℕ
 printed path = if is_root path then 47 ∷ [] else flat_map (λ name. 47 ∷ name) path
 
--- the path of a directory: that of its own directory, and its name. No path goes further up than the longest.
+-- the path of a directory: that of its own directory, and its name; the root has no entry. No path goes further up than the longest.
 unfoldable pub path_to : List DirEntry → ℕ → ℕ → List (List ℕ)
 path_to entries zero node = []
-path_to entries (suc most) node =
-    if node == 0 then [] else option_map_or (λ entry. path_to entries most entry.parent ++ entry.name ∷ []) (find (λ entry. entry.child == node) entries) []
+path_to entries (suc most) node = option_map_or (λ entry. path_to entries most entry.parent ++ entry.name ∷ []) (find (λ entry. entry.child == node) entries) []
 
 -- a path with its printed text, and the node that it leads to
 abbrev pub place_of : List (List ℕ) → ℕ → Place

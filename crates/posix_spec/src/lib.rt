@@ -1,6 +1,7 @@
 //! The meaning of every file call.
 #![tactic(auto)]
 
+mod apply;
 mod bytes;
 mod file_calls;
 mod name_calls;
@@ -15,6 +16,7 @@ mod walk;
 
 pub use node::{DirEntry, File, Node};
 pub use open::{Binding, Description, Tables};
+pub use state::State;
 pub use posix_types::{Call, CallList, Data, Errno, Flags, Handle, Item, Mode, Name, NameList};
 pub use posix_types::{Outcome, Path, Reply, Room, Scripts, Shape, Stat, Tree, TreeEntry, TreeNode};
 pub use posix_types::{What, Whence, Who};

@@ -2,4 +2,5 @@
 #![tactic(auto)]
 
 mod commands;
+mod fresh;
 mod scripts;

@@ -1,5 +1,5 @@
 -- Laws of numbers in a line: a number that is read from spelled bytes has room in them.
-use Rattle.std.specs.Prelude.{◌≡◌, ℕ, ◌<◌, ◌^◌}
+use Rattle.std.specs.Prelude.{ℕ, ◌<◌, ◌^◌}
 use Rattle.std.specs.Int.{from_le_bytes, to_le_bytes, w16, w32, w64}
 use Rattle.std.proofs.Common.{arith}
 

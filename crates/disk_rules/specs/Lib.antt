@@ -1,4 +1,5 @@
 pub mod Entries
+pub mod EntryLaws
 pub mod LineLaws
 pub mod Fresh
 pub mod Lines

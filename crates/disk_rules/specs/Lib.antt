@@ -1,3 +1,6 @@
 pub mod Entries
+pub mod EntryLaws
+pub mod LineLaws
+pub mod Fresh
 pub mod Lines
 pub mod Names

@@ -1,0 +1,8 @@
+-- The geometry that four numbers make.
+use Rattle.std.specs.Prelude.{ℕ}
+use Rattle.disk_places.specs.Places.{Geometry}
+
+-- a geometry of the one known version with these numbers
+abbrev pub numbered : ℕ → ℕ → ℕ → ℕ → Geometry
+numbered blocks log inodes names =
+    record { version = 1; blocks = blocks; log = log; inodes = inodes; names = names }

@@ -1,0 +1,91 @@
+//! Numbers in a line of an image.
+//!
+//! A line is 64 bytes; its fields are little-endian numbers of two, four or eight bytes at fixed places. The codecs
+//! of the layers above read and write each field by these functions, by the place of its first byte.
+//!
+//! A reader answers the number that stands in these bytes (`u16_at` and its kin, the definitions by which the
+//! spelling of each kind of line is stated); a writer changes these bytes and no other (`put_at`).
+//!
+//! Stands on `disk_places`.
+#![tactic(auto)]
+
+ghost use Rattle.std.specs.Prelude.{◌≡◌, ◌+◌, ◌≤◌};
+ghost use Rattle.std.specs.Int.{to_le_bytes, w16, w32, w64};
+ghost use Rattle.disk_places.specs.Fields.{u16_at, u32_at, u64_at};
+ghost use Rattle.line_fields.specs.Puts.{put_at};
+
+/// The number in the two bytes from byte `at` on.
+pub fn u16_at(line: &[u8; 64], at: usize) -> u16
+    requires { at + 2 ≤ 64 }
+    ensures { result ≡ u16_at line.now at }
+{
+    u16::from_le_bytes([line[at], line[at + 1]])
+}
+
+/// The number in the four bytes from byte `at` on.
+pub fn u32_at(line: &[u8; 64], at: usize) -> u32
+    requires { at + 4 ≤ 64 }
+    ensures { result ≡ u32_at line.now at }
+{
+    u32::from_le_bytes([line[at], line[at + 1], line[at + 2], line[at + 3]])
+}
+
+/// The number in the eight bytes from byte `at` on.
+pub fn u64_at(line: &[u8; 64], at: usize) -> u64
+    requires { at + 8 ≤ 64 }
+    ensures { result ≡ u64_at line.now at }
+{
+    u64::from_le_bytes([
+        line[at],
+        line[at + 1],
+        line[at + 2],
+        line[at + 3],
+        line[at + 4],
+        line[at + 5],
+        line[at + 6],
+        line[at + 7],
+    ])
+}
+
+/// Writes a number into the two bytes from byte `at` on.
+pub fn put_u16(line: &mut [u8; 64], at: usize, number: u16)
+    requires { at + 2 ≤ 64 }
+    ensures { line.new ≡ put_at line.old at (to_le_bytes w16 number) }
+{
+    line[at..at + 2].copy_from_slice(&number.to_le_bytes());
+}
+
+/// Writes a number into the four bytes from byte `at` on.
+pub fn put_u32(line: &mut [u8; 64], at: usize, number: u32)
+    requires { at + 4 ≤ 64 }
+    ensures { line.new ≡ put_at line.old at (to_le_bytes w32 number) }
+{
+    line[at..at + 4].copy_from_slice(&number.to_le_bytes());
+}
+
+/// Writes a number into the eight bytes from byte `at` on.
+pub fn put_u64(line: &mut [u8; 64], at: usize, number: u64)
+    requires { at + 8 ≤ 64 }
+    ensures { line.new ≡ put_at line.old at (to_le_bytes w64 number) }
+{
+    line[at..at + 8].copy_from_slice(&number.to_le_bytes());
+}
+
+#[cfg(test)]
+mod tests {
+    use super::*;
+
+    #[test]
+    fn fields_of_each_width(rt: HostRuntime) {
+        let mut line = [0; 64];
+        put_u16(&mut line, 62, 0x0102);
+        put_u32(&mut line, 4, 0x0304_0506);
+        put_u64(&mut line, 48, 0x0708_090a_0b0c_0d0e);
+        assert_eq!(rt; &line[..8], [0, 0, 0, 0, 6, 5, 4, 3].as_slice());
+        assert_eq!(rt; &line[48..56], [14, 13, 12, 11, 10, 9, 8, 7].as_slice());
+        assert_eq!(rt; &line[56..], [0, 0, 0, 0, 0, 0, 2, 1].as_slice());
+        assert_eq!(rt; u16_at(&line, 62), 0x0102);
+        assert_eq!(rt; u32_at(&line, 4), 0x0304_0506);
+        assert_eq!(rt; u64_at(&line, 48), 0x0708_090a_0b0c_0d0e);
+    }
+}

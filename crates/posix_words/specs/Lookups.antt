@@ -1,8 +1,8 @@
 -- Laws of look-ups: what a name leads to after an entry was put in or taken out.
-use Rattle.std.specs.Prelude.{◌≡◌, ℕ, zero, suc, ◌+◌, Bool, true, false, cond, not, ◌&&◌, ◌==◌, nat_lt, List, [], ◌∷◌, length, take, drop, find, position, insert, remove, Option, Some, None, unwrap_or, option_map, refl}
+use Rattle.std.specs.Prelude.{◌≡◌, ℕ, zero, suc, ◌+◌, Bool, true, false, cond, not, ◌&&◌, ◌==◌, nat_lt, List, [], ◌∷◌, length, find, position, insert, remove, Option, Some, None, unwrap_or, option_map, refl}
 use Rattle.std.specs.List.{prefix_len}
 use Rattle.std.specs.Cmp.Lexicographic.{bytes_decides}
-use Rattle.std.proofs.Common.{arith, sym, ap, ◌∙◌, eqb}
+use Rattle.std.proofs.Common.{arith, ap, ◌∙◌}
 use Rattle.std.proofs.lemmas.Bool.Decides.{nat_tests, Decides-eqb}
 use Rattle.posix_words.specs.declared.nodes.DirEntry.{DirEntry}
 use Rattle.posix_words.specs.Names.{child_of, is_entry, same_name, with_entry, without_entry, without_place, comes_before}

@@ -1,19 +1,19 @@
 //! The calls that take a handle: the rows of each, and what its last row does.
 ghost use Rattle.std.specs.Prelude.{◌≡◌, ◌+◌, ◌≤◌, ◌<◌, ◌^◌, IfOk, IfNone, OnErr, is_none, length, unwrap_or};
-ghost use Rattle.posix_spec.specs.FileRows.{appends, close_rows, content, dup_rows, file_number, fsync_rows, no_blocks, offset_of, read_rows, seek_base, seek_rows, seek_target, truncate_rows, write_rows, write_start};
-ghost use Rattle.posix_spec.specs.Open.{key_of, may_read, may_write, opened, with_offset};
+ghost use Rattle.posix_words.specs.Open.{key_of, may_read, may_write, opened};
+ghost use Rattle.posix_spec.specs.Step.{close_done, dup_done, fsync_done, Gives, moved_offset, pread_done, pwrite_done, read_done, seek_done, truncate_done, write_done, written};
 ghost use Rattle.posix_spec.specs.Outcomes.{first};
-ghost use Rattle.posix_spec.specs.Step.{close_done, dup_done, fsync_done, moved_offset, pread_done, pwrite_done, read_done, seek_done, stepped, truncate_done, write_done, written};
+ghost use Rattle.posix_spec.specs.FileRows.{appends, close_rows, content, dup_rows, file_number, fsync_rows, no_blocks, offset_of, read_rows, seek_base, seek_rows, seek_target, truncate_rows, write_rows, write_start};
 
-use std::alloc::AllocError;
-
-use posix_types::{Errno, Handle, Outcome, Reply, What, Whence, Who};
-
-use crate::bytes::{LONGEST_FILE, LONGEST_WRITE, bytes_from, is_too_far, moved_place, overwritten, resized};
-use crate::node::{bytes_at, published_at};
 use crate::outcomes::{answer, no_space, refused};
-use crate::room::{growth, write_need};
 use crate::state::State;
+use posix_types::{Errno, Handle, Outcome, Reply, What, Whence, Who};
+use posix_words::bytes::{
+    LONGEST_FILE, LONGEST_WRITE, bytes_from, is_too_far, moved_place, overwritten, resized,
+};
+use posix_words::nodes::{bytes_at, published_at};
+use posix_words::room::{growth, write_need};
+use std::alloc::AllocError;
 
 impl State {
     fn is_unknown(&self, who: Who, handle: Handle) -> bool
@@ -120,7 +120,7 @@ impl State {
     /// descriptor, and a file without name and description.
     #[tactic(auto, unfolding(crate::specs::Step::close_done, crate::specs::State::with_published))]
     pub(crate) fn close(&mut self, who: Who, handle: Handle) -> Outcome
-        ensures { record { state = self.new; outcome = result } ≡ stepped self.old (first (close_rows self.old.tables who handle)) (close_done self.old who handle) }
+        ensures { Gives self.old (close_rows self.old.tables who handle) (close_done self.old who handle) self.new result }
     {
         if let Some(outcome) = self.close_rows(who, handle) {
             return outcome;
@@ -148,7 +148,8 @@ impl State {
     /// `dup`: gives a description the lowest free descriptor too, bound to a further handle.
     #[tactic(auto, unfolding(crate::specs::Step::dup_done))]
     pub(crate) fn dup(&mut self, who: Who, old: Handle, new: Handle) -> Result<Outcome, AllocError>
-        ensures ok { IfOk result (λ outcome. record { state = self.new; outcome = outcome } ≡ stepped self.old (first (dup_rows self.old.tables who old)) (dup_done self.old who old new)) }
+        ensures ok { IfOk result (Gives self.old (dup_rows self.old.tables who old)
+            (dup_done self.old who old new) self.new) }
         ensures err { OnErr result (self.new ≡ self.old) }
     {
         if let Some(outcome) = self.dup_rows(who, old) {
@@ -173,28 +174,51 @@ impl State {
 
     /// `read`: answers bytes from the offset on, which rises by their number.
     #[tactic(auto, unfolding(crate::specs::Step::read_done))]
-    pub(crate) fn read(&mut self, who: Who, handle: Handle, count: u64) -> Result<Outcome, AllocError>
-        ensures ok { IfOk result (λ outcome. record { state = self.new; outcome = outcome } ≡ stepped self.old (first (read_rows self.old.tables who handle)) (read_done self.old who handle count)) }
+    pub(crate) fn read(
+        &mut self,
+        who: Who,
+        handle: Handle,
+        count: u64,
+    ) -> Result<Outcome, AllocError>
+        ensures ok { IfOk result (Gives self.old (read_rows self.old.tables who handle)
+            (read_done self.old who handle count) self.new) }
         ensures err { OnErr result (self.new ≡ self.old) }
     {
         if let Some(outcome) = self.read_rows(who, handle) {
             return Ok(outcome);
         }
         let offset = self.offset_of(who, handle);
-        let read = bytes_from(*self.nodes.allocator(), self.content(who, handle), offset, count)?;
+        let read = bytes_from(
+            *self.nodes.allocator(),
+            self.content(who, handle),
+            offset,
+            count,
+        )?;
         self.move_offset(who, handle, offset + read.bytes.len() as u64);
         Ok(answer(Reply::Bytes(read)))
     }
 
     /// `pread`: answers bytes from a place on.
     #[tactic(auto, unfolding(crate::specs::Step::pread_done))]
-    pub(crate) fn pread(&self, who: Who, handle: Handle, place: u64, count: u64) -> Result<Outcome, AllocError>
-        ensures { IfOk result (λ outcome. record { state = self.now; outcome = outcome } ≡ stepped self.now (first (read_rows self.now.tables who handle)) (pread_done self.now who handle place count)) }
+    pub(crate) fn pread(
+        &self,
+        who: Who,
+        handle: Handle,
+        place: u64,
+        count: u64,
+    ) -> Result<Outcome, AllocError>
+        ensures { IfOk result (Gives self.now (read_rows self.now.tables who handle)
+            (pread_done self.now who handle place count) self.now) }
     {
         if let Some(outcome) = self.read_rows(who, handle) {
             return Ok(outcome);
         }
-        let read = bytes_from(*self.nodes.allocator(), self.content(who, handle), place, count)?;
+        let read = bytes_from(
+            *self.nodes.allocator(),
+            self.content(who, handle),
+            place,
+            count,
+        )?;
         Ok(answer(Reply::Bytes(read)))
     }
 
@@ -233,22 +257,39 @@ impl State {
 
     /// Sets bytes of the file from a start on; a gap is filled with zeros.
     #[tactic(auto, unfolding(crate::specs::Step::written))]
-    fn put_bytes(&mut self, who: Who, handle: Handle, start: u64, bytes: &[u8]) -> Result<(), AllocError>
+    fn put_bytes(
+        &mut self,
+        who: Who,
+        handle: Handle,
+        start: u64,
+        bytes: &[u8],
+    ) -> Result<(), AllocError>
         requires { start + length bytes.now < 2 ^ 64 }
         ensures ok { IfOk result (λ _. self.new ≡ written self.old who handle start bytes.now) }
         ensures err { OnErr result (self.new ≡ self.old) }
     {
         let file = self.file_number(who, handle);
         let published = published_at(&self.nodes, file);
-        let made = overwritten(*self.nodes.allocator(), self.content(who, handle), start, bytes)?;
+        let made = overwritten(
+            *self.nodes.allocator(),
+            self.content(who, handle),
+            start,
+            bytes,
+        )?;
         self.set_file(file, made, published);
         Ok(())
     }
 
     /// `write`: sets bytes from the offset on, or from the end on; the offset is then behind them.
     #[tactic(auto, unfolding(crate::specs::Step::write_done))]
-    pub(crate) fn write(&mut self, who: Who, handle: Handle, bytes: &[u8]) -> Result<Outcome, AllocError>
-        ensures ok { IfOk result (λ outcome. record { state = self.new; outcome = outcome } ≡ stepped self.old (first (write_rows self.old who handle (write_start self.old who handle) bytes.now)) (write_done self.old who handle bytes.now)) }
+    pub(crate) fn write(
+        &mut self,
+        who: Who,
+        handle: Handle,
+        bytes: &[u8],
+    ) -> Result<Outcome, AllocError>
+        ensures ok { IfOk result (Gives self.old (write_rows self.old who handle (write_start self.old who handle) bytes.now)
+            (write_done self.old who handle bytes.now) self.new) }
         ensures err { OnErr result (self.new ≡ self.old) }
     {
         let start = self.write_start(who, handle);
@@ -262,14 +303,21 @@ impl State {
 
     /// `pwrite`: sets bytes from a place on.
     #[tactic(auto, unfolding(crate::specs::Step::pwrite_done))]
-    pub(crate) fn pwrite(&mut self, who: Who, handle: Handle, start: u64, bytes: &[u8]) -> Result<Outcome, AllocError>
-        ensures ok { IfOk result (λ outcome. record { state = self.new; outcome = outcome } ≡ stepped self.old (first (write_rows self.old who handle start bytes.now)) (pwrite_done self.old who handle start bytes.now)) }
+    pub(crate) fn pwrite(
+        &mut self,
+        who: Who,
+        handle: Handle,
+        place: u64,
+        bytes: &[u8],
+    ) -> Result<Outcome, AllocError>
+        ensures ok { IfOk result (Gives self.old (write_rows self.old who handle place bytes.now)
+            (pwrite_done self.old who handle place bytes.now) self.new) }
         ensures err { OnErr result (self.new ≡ self.old) }
     {
-        if let Some(outcome) = self.write_rows(who, handle, start, bytes) {
+        if let Some(outcome) = self.write_rows(who, handle, place, bytes) {
             return Ok(outcome);
         }
-        self.put_bytes(who, handle, start, bytes)?;
+        self.put_bytes(who, handle, place, bytes)?;
         Ok(answer(Reply::Count(bytes.len() as u64)))
     }
 
@@ -306,7 +354,7 @@ impl State {
     /// `seek`: sets the offset.
     #[tactic(auto, unfolding(crate::specs::Step::seek_done))]
     pub(crate) fn seek(&mut self, who: Who, handle: Handle, whence: Whence, by: i64) -> Outcome
-        ensures { record { state = self.new; outcome = result } ≡ stepped self.old (first (seek_rows self.old who handle whence by)) (seek_done self.old who handle whence by) }
+        ensures { Gives self.old (seek_rows self.old who handle whence by) (seek_done self.old who handle whence by) self.new result }
     {
         if let Some(outcome) = self.seek_rows(who, handle, whence, by) {
             return outcome;
@@ -336,8 +384,14 @@ impl State {
 
     /// `truncate`: cuts the file, or lengthens it with zeros, and publishes the length.
     #[tactic(auto, unfolding(crate::specs::Step::truncate_done))]
-    pub(crate) fn truncate(&mut self, who: Who, handle: Handle, length: u64) -> Result<Outcome, AllocError>
-        ensures ok { IfOk result (λ outcome. record { state = self.new; outcome = outcome } ≡ stepped self.old (first (truncate_rows self.old who handle length)) (truncate_done self.old who handle length)) }
+    pub(crate) fn truncate(
+        &mut self,
+        who: Who,
+        handle: Handle,
+        length: u64,
+    ) -> Result<Outcome, AllocError>
+        ensures ok { IfOk result (Gives self.old (truncate_rows self.old who handle length)
+            (truncate_done self.old who handle length) self.new) }
         ensures err { OnErr result (self.new ≡ self.old) }
     {
         if let Some(outcome) = self.truncate_rows(who, handle, length) {
@@ -361,13 +415,13 @@ impl State {
     /// `fsync`: publishes the length.
     #[tactic(auto, unfolding(crate::specs::Step::fsync_done))]
     pub(crate) fn fsync(&mut self, who: Who, handle: Handle) -> Outcome
-        ensures { record { state = self.new; outcome = result } ≡ stepped self.old (first (fsync_rows self.old.tables who handle)) (fsync_done self.old who handle) }
+        ensures { Gives self.old (fsync_rows self.old.tables who handle) (fsync_done self.old who handle) self.new result }
     {
         if let Some(outcome) = self.fsync_rows(who, handle) {
             return outcome;
         }
-        let file = self.file_number(who, handle);
-        self.publish(file);
+        let number = self.file_number(who, handle);
+        self.publish(number);
         answer(Reply::Ok)
     }
 }

@@ -1,21 +1,23 @@
 //! The calls that take a path: the rows of each, and what its last row does.
 ghost use Rattle.std.specs.Prelude.{◌≡◌, ◌+◌, ◌&&◌, ◌==◌, IfOk, OnErr, if◌then◌else◌, length, nat_lt};
-ghost use Rattle.posix_spec.specs.Names.{directory_stands, exists_at, has_entries, height, number_at};
-ghost use Rattle.posix_spec.specs.NameRows.{list_rows, mkdir_rows, open_rows, rename_kind_rows, rename_rows, rmdir_rows, stat_rows, unlink_rows};
-ghost use Rattle.posix_spec.specs.Open.{is_full};
+ghost use Rattle.posix_words.specs.Open.{is_full};
+ghost use Rattle.posix_words.specs.Nodes.{node_at};
+ghost use Rattle.posix_words.specs.Names.{directory_stands, exists_at, has_entries, height, number_at};
+ghost use Rattle.posix_spec.specs.Step.{Gives, list_done, mkdir_done, open_done, opening, opening_number, rename_done, renamed, rmdir_done, stat_done, stat_of, unlink_done};
+ghost use Rattle.posix_spec.specs.State.{space, swept, with_node};
 ghost use Rattle.posix_spec.specs.Outcomes.{first};
-ghost use Rattle.posix_spec.specs.State.{node_at, space, swept, with_node};
-ghost use Rattle.posix_spec.specs.Step.{list_done, mkdir_done, open_done, opening, opening_number, rename_done, renamed, rmdir_done, stat_done, stat_of, stepped, unlink_done};
+ghost use Rattle.posix_spec.specs.NameRows.{list_rows, mkdir_rows, open_rows, rename_kind_rows, rename_rows, rmdir_rows, stat_rows, unlink_rows};
 
-use std::alloc::{AllocError, Global};
-
-use posix_types::{Data, Errno, Flags, Handle, Name, Outcome, Path, Reply, Stat, Who};
-
-use crate::names::{LONGEST_PATH, has_entries, height, insert_entry, is_below, is_root, last_name, names_in, remove_entry};
-use crate::node::{DirEntry, File, Node};
-use crate::open::Description;
 use crate::outcomes::{answer, refused};
 use crate::state::State;
+use posix_types::{Data, Errno, Flags, Handle, Name, Outcome, Path, Reply, Stat, Who};
+use posix_words::entries::{
+    LONGEST_PATH, has_entries, height, insert_entry, is_below, is_root, last_name, names_in,
+    remove_entry,
+};
+use posix_words::nodes::{DirEntry, File, Node};
+use posix_words::open::Description;
+use std::alloc::{AllocError, Global};
 
 impl State {
     #[tactic(auto, unfolding(crate::specs::NameRows::mkdir_rows))]
@@ -43,7 +45,8 @@ impl State {
     /// `mkdir`: makes an empty directory.
     #[tactic(auto, unfolding(crate::specs::Step::mkdir_done))]
     pub(crate) fn mkdir(&mut self, path: &Path) -> Result<Outcome, AllocError>
-        ensures ok { IfOk result (λ outcome. record { state = self.new; outcome = outcome } ≡ stepped self.old (first (mkdir_rows (space self.old) path.now)) (mkdir_done self.old path.now)) }
+        ensures ok { IfOk result (Gives self.old (mkdir_rows (space self.old) path.now)
+            (mkdir_done self.old path.now) self.new) }
         ensures err { OnErr result (self.new ≡ self.old) }
     {
         if let Some(outcome) = self.mkdir_rows(path) {
@@ -83,7 +86,7 @@ impl State {
     /// `rmdir`: removes an empty directory.
     #[tactic(auto, unfolding(crate::specs::Step::rmdir_done))]
     pub(crate) fn rmdir(&mut self, path: &Path) -> Outcome
-        ensures { record { state = self.new; outcome = result } ≡ stepped self.old (first (rmdir_rows (space self.old) path.now)) (rmdir_done self.old path.now) }
+        ensures { Gives self.old (rmdir_rows (space self.old) path.now) (rmdir_done self.old path.now) self.new result }
     {
         if let Some(outcome) = self.rmdir_rows(path) {
             return outcome;
@@ -119,7 +122,7 @@ impl State {
     /// `unlink`: removes the name of a file, which stays while a description has it.
     #[tactic(auto, unfolding(crate::specs::Step::unlink_done))]
     pub(crate) fn unlink(&mut self, path: &Path) -> Outcome
-        ensures { record { state = self.new; outcome = result } ≡ stepped self.old (first (unlink_rows (space self.old) path.now)) (unlink_done self.old path.now) }
+        ensures { Gives self.old (unlink_rows (space self.old) path.now) (unlink_done self.old path.now) self.new result }
     {
         if let Some(outcome) = self.unlink_rows(path) {
             return outcome;
@@ -217,7 +220,14 @@ impl State {
         };
         self.unname(from);
         remove_entry(&mut self.entries, parent, last_name(to));
-        insert_entry(&mut self.entries, DirEntry { parent, name, child })?;
+        insert_entry(
+            &mut self.entries,
+            DirEntry {
+                parent,
+                name,
+                child,
+            },
+        )?;
         Ok(())
     }
 
@@ -236,7 +246,8 @@ impl State {
     /// `rename`: gives the node of a path another path, in place of what stood there.
     #[tactic(auto, unfolding(crate::specs::Step::rename_done))]
     pub(crate) fn rename(&mut self, from: &Path, to: &Path) -> Result<Outcome, AllocError>
-        ensures ok { IfOk result (λ outcome. record { state = self.new; outcome = outcome } ≡ stepped self.old (first (rename_rows (space self.old) from.now to.now)) (rename_done self.old from.now to.now)) }
+        ensures ok { IfOk result (Gives self.old (rename_rows (space self.old) from.now to.now)
+            (rename_done self.old from.now to.now) self.new) }
         ensures err { OnErr result (self.new ≡ self.old) }
     {
         if let Some(outcome) = self.rename_rows(from, to) {
@@ -302,7 +313,9 @@ impl State {
     {
         let number = self.number_at(path);
         let file = Node::File(File {
-            bytes: Data { bytes: Vec::new(*self.nodes.allocator()) },
+            bytes: Data {
+                bytes: Vec::new(*self.nodes.allocator()),
+            },
             published: 0,
         });
         if !self.exists_at(path) {
@@ -317,8 +330,15 @@ impl State {
 
     /// `open`: opens the file at a path with the lowest free descriptor, at offset 0.
     #[tactic(auto, unfolding(crate::specs::Step::open_done))]
-    pub(crate) fn open_call(&mut self, who: Who, handle: Handle, path: &Path, flags: Flags) -> Result<Outcome, AllocError>
-        ensures ok { IfOk result (λ outcome. record { state = self.new; outcome = outcome } ≡ stepped self.old (first (open_rows (space self.old) (is_full self.old.tables) path.now flags)) (open_done self.old who handle path.now flags)) }
+    pub(crate) fn open_call(
+        &mut self,
+        who: Who,
+        handle: Handle,
+        path: &Path,
+        flags: Flags,
+    ) -> Result<Outcome, AllocError>
+        ensures ok { IfOk result (Gives self.old (open_rows (space self.old) (is_full self.old.tables) path.now flags)
+            (open_done self.old who handle path.now flags) self.new) }
         ensures err { OnErr result (self.new ≡ self.old) }
     {
         if let Some(outcome) = self.open_rows(path, flags) {
@@ -327,7 +347,15 @@ impl State {
         let descriptor = self.tables.next_descriptor() as u32;
         let node = self.opening_number(path);
         let mut tables = self.tables.clone()?;
-        tables.open(who, handle, Description { node, offset: 0, flags })?;
+        tables.open(
+            who,
+            handle,
+            Description {
+                node,
+                offset: 0,
+                flags,
+            },
+        )?;
         let mut next = self.clone()?;
         next.open_file(path, flags.truncate)?;
         next.tables = tables;
@@ -354,7 +382,7 @@ impl State {
     /// `stat`: says what stands at a path.
     #[tactic(auto, unfolding(crate::specs::Step::stat_done))]
     pub(crate) fn stat(&self, path: &Path) -> Outcome
-        ensures { record { state = self.now; outcome = result } ≡ stepped self.now (first (stat_rows (space self.now) path.now)) (stat_done self.now path.now) }
+        ensures { Gives self.now (stat_rows (space self.now) path.now) (stat_done self.now path.now) self.now result }
     {
         match self.stat_rows(path) {
             Some(outcome) => outcome,
@@ -384,7 +412,8 @@ impl State {
     /// `list`: answers the names in a directory.
     #[tactic(auto, unfolding(crate::specs::Step::list_done))]
     pub(crate) fn list(&self, path: &Path) -> Result<Outcome, AllocError>
-        ensures { IfOk result (λ outcome. record { state = self.now; outcome = outcome } ≡ stepped self.now (first (list_rows (space self.now) path.now)) (list_done self.now path.now)) }
+        ensures { IfOk result (Gives self.now (list_rows (space self.now) path.now)
+            (list_done self.now path.now) self.now) }
     {
         if let Some(outcome) = self.list_rows(path) {
             return Ok(outcome);

@@ -1,5 +1,6 @@
 pub mod Command
 pub mod Made
 pub mod Reading
+pub mod Runs
 pub mod Script
 pub mod Seen

@@ -3,4 +3,5 @@
 
 mod commands;
 mod fresh;
+mod meaning;
 mod scripts;

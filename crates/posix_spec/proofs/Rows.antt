@@ -12,14 +12,15 @@ use Rattle.posix_types.specs.declared.reply.Reply.{Reply}
 use Rattle.posix_types.specs.declared.reply.What.{What}
 use Rattle.posix_types.specs.declared.tree.TreeEntry.{TreeEntry}
 use Rattle.posix_types.specs.declared.tree.TreeNode.{TreeNode}
+use Rattle.posix_words.specs.Places.{entry_place, path_to, places, with_place}
+use Rattle.posix_words.specs.Open.{binding_of, closed, key_of, opened, with_binding, with_descriptor, with_offset, with_opened, without_binding}
+use Rattle.posix_words.specs.Names.{height, node_at_path, walk, with_entry, without_entry}
+use Rattle.posix_spec.specs.Tree.{start, tree}
+use Rattle.posix_spec.specs.Step.{close_done, dup_done, fsync_done, list_done, mkdir_done, open_done, opening, pread_done, pwrite_done, read_done, rename_done, renamed, rmdir_done, seek_done, stat_done, step, truncate_done, unlink_done, write_done, written}
+use Rattle.posix_spec.specs.State.{made, State, swept, unnamed, with_file, with_published}
 use Rattle.posix_spec.specs.Outcomes.{answer, no_space}
-use Rattle.posix_spec.specs.Names.{with_entry, without_entry, walk, node_at_path, height}
-use Rattle.posix_spec.specs.NameRows.{mkdir_rows, rmdir_rows, unlink_rows, rename_kind_rows, rename_rows, open_rows, stat_rows, list_rows}
-use Rattle.posix_spec.specs.Open.{binding_of, key_of, opened, with_binding, with_descriptor, with_opened, with_offset, without_binding, closed}
-use Rattle.posix_spec.specs.State.{State, with_file, with_published, made, unnamed, swept}
-use Rattle.posix_spec.specs.FileRows.{dup_rows, write_rows, seek_rows, truncate_rows}
-use Rattle.posix_spec.specs.Step.{step, mkdir_done, rmdir_done, unlink_done, renamed, rename_done, opening, open_done, close_done, dup_done, read_done, pread_done, written, write_done, pwrite_done, seek_done, truncate_done, fsync_done, stat_done, list_done}
-use Rattle.posix_spec.specs.Tree.{start, tree, path_to, entry_place, with_place, places}
+use Rattle.posix_spec.specs.NameRows.{list_rows, mkdir_rows, open_rows, rename_kind_rows, rename_rows, rmdir_rows, stat_rows, unlink_rows}
+use Rattle.posix_spec.specs.FileRows.{dup_rows, seek_rows, truncate_rows, write_rows}
 
 -- the outcomes of calls of thread 0, one after another
 abbrev outcomes : State → List Call → List Outcome
@@ -64,7 +65,7 @@ unfolding with_entry without_entry walk node_at_path height mkdir_rows rmdir_row
 write_then_read_tree = refl
 
 no_room_for_a_second_file : outcomes small (Call.Open handle_a file_f flags ∷ Call.Write handle_a (replicate 131072 120) ∷ Call.Write handle_a (replicate 131072 120) ∷ [])
-  ≡ answer (Reply.Fd 0) ∷ answer (Reply.Count 131072) ∷ no_space What.Blocks 32 19 ∷ []
+    ≡ answer (Reply.Fd 0) ∷ answer (Reply.Count 131072) ∷ no_space What.Blocks 32 19 ∷ []
 unfolding with_entry without_entry walk node_at_path height mkdir_rows rmdir_rows unlink_rows rename_kind_rows rename_rows open_rows stat_rows list_rows binding_of key_of opened with_binding with_descriptor with_opened with_offset without_binding closed with_file with_published made unnamed swept dup_rows write_rows seek_rows truncate_rows mkdir_done rmdir_done unlink_done renamed rename_done opening open_done close_done dup_done read_done pread_done written write_done pwrite_done seek_done truncate_done fsync_done stat_done list_done path_to entry_place with_place places
 no_room_for_a_second_file = refl
 
@@ -81,6 +82,6 @@ abbrev path_x : List (List ℕ)
 path_x = codes "x" ∷ []
 
 rename_below_itself_and_away : outcomes default (Call.Mkdir path_a ∷ Call.Mkdir path_ab ∷ Call.Rename path_a path_abc ∷ Call.Rename path_ab path_x ∷ Call.Rmdir path_a ∷ Call.List [] ∷ [])
-  ≡ answer Reply.Ok ∷ answer Reply.Ok ∷ answer (Reply.Error Errno.EINVAL) ∷ answer Reply.Ok ∷ answer Reply.Ok ∷ answer (Reply.Names (codes "x" ∷ [])) ∷ []
+    ≡ answer Reply.Ok ∷ answer Reply.Ok ∷ answer (Reply.Error Errno.EINVAL) ∷ answer Reply.Ok ∷ answer Reply.Ok ∷ answer (Reply.Names (codes "x" ∷ [])) ∷ []
 unfolding with_entry without_entry walk node_at_path height mkdir_rows rmdir_rows unlink_rows rename_kind_rows rename_rows open_rows stat_rows list_rows binding_of key_of opened with_binding with_descriptor with_opened with_offset without_binding closed with_file with_published made unnamed swept dup_rows write_rows seek_rows truncate_rows mkdir_done rmdir_done unlink_done renamed rename_done opening open_done close_done dup_done read_done pread_done written write_done pwrite_done seek_done truncate_done fsync_done stat_done list_done path_to entry_place with_place places
 rename_below_itself_and_away = refl

@@ -6,7 +6,7 @@ use Rattle.posix_types.specs.declared.call.Who.{Who}
 use Rattle.posix_types.specs.declared.call.Call.{Call}
 use Rattle.posix_types.specs.declared.item.Item.{Item}
 use Rattle.posix_types.specs.Scripts.{Scripts}
-use Rattle.posix_spec.specs.Scripted.{script_of, items_of, call_count}
+use Rattle.posix_spec.specs.Scripted.{call_count, items_of, script_of}
 
 -- a call that may move data
 abbrev pub moves_data : Call → Bool

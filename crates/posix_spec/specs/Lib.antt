@@ -1,8 +1,5 @@
 pub mod Outcomes
-pub mod Names
 pub mod NameRows
-pub mod Room
-pub mod Open
 pub mod State
 pub mod FileRows
 pub mod Step

@@ -5,8 +5,8 @@ use Rattle.posix_types.specs.declared.reply.Reply.{Reply}
 use Rattle.posix_types.specs.declared.reply.Errno.{Errno}
 use Rattle.posix_types.specs.declared.reply.What.{What}
 use Rattle.posix_types.specs.declared.handle.Flags.{Flags}
-use Rattle.posix_spec.specs.Outcomes.{answer, row, idle_row, space_row, unless, first}
-use Rattle.posix_spec.specs.Names.{Space, lines_taken, longest_path, is_root, last_name, too_long, is_below, walk, number_at, exists_at, directory_stands, file_stands, has_entries, height}
+use Rattle.posix_words.specs.Names.{directory_stands, exists_at, file_stands, has_entries, height, is_below, is_root, last_name, lines_taken, longest_path, number_at, Space, too_long, walk}
+use Rattle.posix_spec.specs.Outcomes.{answer, first, idle_row, row, space_row, unless}
 
 -- a name that is too long, or too many names
 abbrev pub too_long_row : Space → List (List ℕ) → Option Outcome
@@ -30,78 +30,78 @@ no_line space path = space_row (nat_lt space.lines_left (lines_taken (last_name 
 unfoldable pub mkdir_rows : Space → List (List ℕ) → List (Option Outcome)
 mkdir_rows space p =
     row (is_root p) Errno.EEXIST
-  ∷ too_long_row space p
-  ∷ walk_row space p
-  ∷ row (exists_at space p) Errno.EEXIST
-  ∷ no_node space
-  ∷ no_line space p
-  ∷ []
+    ∷ too_long_row space p
+    ∷ walk_row space p
+    ∷ row (exists_at space p) Errno.EEXIST
+    ∷ no_node space
+    ∷ no_line space p
+    ∷ []
 
 unfoldable pub rmdir_rows : Space → List (List ℕ) → List (Option Outcome)
 rmdir_rows space p =
     row (is_root p) Errno.EBUSY
-  ∷ too_long_row space p
-  ∷ walk_row space p
-  ∷ row (not (exists_at space p)) Errno.ENOENT
-  ∷ row (file_stands space p) Errno.ENOTDIR
-  ∷ row (has_entries space.entries (number_at space p)) Errno.ENOTEMPTY
-  ∷ []
+    ∷ too_long_row space p
+    ∷ walk_row space p
+    ∷ row (not (exists_at space p)) Errno.ENOENT
+    ∷ row (file_stands space p) Errno.ENOTDIR
+    ∷ row (has_entries space.entries (number_at space p)) Errno.ENOTEMPTY
+    ∷ []
 
 unfoldable pub unlink_rows : Space → List (List ℕ) → List (Option Outcome)
 unlink_rows space p =
     row (is_root p) Errno.EPERM
-  ∷ too_long_row space p
-  ∷ walk_row space p
-  ∷ row (not (exists_at space p)) Errno.ENOENT
-  ∷ row (directory_stands space p) Errno.EPERM
-  ∷ []
+    ∷ too_long_row space p
+    ∷ walk_row space p
+    ∷ row (not (exists_at space p)) Errno.ENOENT
+    ∷ row (directory_stands space p) Errno.EPERM
+    ∷ []
 
 -- the rows of `rename` that go by what stands at P and at Q
 unfoldable pub rename_kind_rows : Space → List (List ℕ) → List (List ℕ) → List (Option Outcome)
 rename_kind_rows space p q =
     row (directory_stands space p && is_below q p) Errno.EINVAL
-  ∷ row (directory_stands space p && file_stands space q) Errno.ENOTDIR
-  ∷ row (directory_stands space p && (directory_stands space q && has_entries space.entries (number_at space q))) Errno.ENOTEMPTY
-  ∷ row (directory_stands space p && nat_lt longest_path (length q + height space.entries longest_path (number_at space p))) Errno.ENAMETOOLONG
-  ∷ row (file_stands space p && directory_stands space q) Errno.EISDIR
-  ∷ []
+    ∷ row (directory_stands space p && file_stands space q) Errno.ENOTDIR
+    ∷ row (directory_stands space p && (directory_stands space q && has_entries space.entries (number_at space q))) Errno.ENOTEMPTY
+    ∷ row (directory_stands space p && nat_lt longest_path (length q + height space.entries longest_path (number_at space p))) Errno.ENAMETOOLONG
+    ∷ row (file_stands space p && directory_stands space q) Errno.EISDIR
+    ∷ []
 
 unfoldable pub rename_rows : Space → List (List ℕ) → List (List ℕ) → List (Option Outcome)
 rename_rows space p q =
     row (is_root p || is_root q) Errno.EBUSY
-  ∷ too_long_row space p
-  ∷ too_long_row space q
-  ∷ walk_row space p
-  ∷ row (not (exists_at space p)) Errno.ENOENT
-  ∷ walk_row space q
-  ∷ idle_row (exists_at space q && (number_at space p == number_at space q)) Reply.Ok
-  ∷ first (rename_kind_rows space p q)
-  ∷ []
+    ∷ too_long_row space p
+    ∷ too_long_row space q
+    ∷ walk_row space p
+    ∷ row (not (exists_at space p)) Errno.ENOENT
+    ∷ walk_row space q
+    ∷ idle_row (exists_at space q && (number_at space p == number_at space q)) Reply.Ok
+    ∷ first (rename_kind_rows space p q)
+    ∷ []
 
 -- `full`: all descriptors are in use
 unfoldable pub open_rows : Space → Bool → List (List ℕ) → Flags → List (Option Outcome)
 open_rows space full p f =
     too_long_row space p
-  ∷ walk_row space p
-  ∷ row (exists_at space p && (f.create && f.exclusive)) Errno.EEXIST
-  ∷ row (directory_stands space p) Errno.EISDIR
-  ∷ row (not (exists_at space p) && not f.create) Errno.ENOENT
-  ∷ row full Errno.EMFILE
-  ∷ unless (exists_at space p) (no_node space)
-  ∷ unless (exists_at space p) (no_line space p)
-  ∷ []
+    ∷ walk_row space p
+    ∷ row (exists_at space p && (f.create && f.exclusive)) Errno.EEXIST
+    ∷ row (directory_stands space p) Errno.EISDIR
+    ∷ row (not (exists_at space p) && not f.create) Errno.ENOENT
+    ∷ row full Errno.EMFILE
+    ∷ unless (exists_at space p) (no_node space)
+    ∷ unless (exists_at space p) (no_line space p)
+    ∷ []
 
 unfoldable pub stat_rows : Space → List (List ℕ) → List (Option Outcome)
 stat_rows space p =
     too_long_row space p
-  ∷ walk_row space p
-  ∷ row (not (exists_at space p)) Errno.ENOENT
-  ∷ []
+    ∷ walk_row space p
+    ∷ row (not (exists_at space p)) Errno.ENOENT
+    ∷ []
 
 unfoldable pub list_rows : Space → List (List ℕ) → List (Option Outcome)
 list_rows space p =
     too_long_row space p
-  ∷ walk_row space p
-  ∷ row (not (exists_at space p)) Errno.ENOENT
-  ∷ row (file_stands space p) Errno.ENOTDIR
-  ∷ []
+    ∷ walk_row space p
+    ∷ row (not (exists_at space p)) Errno.ENOENT
+    ∷ row (file_stands space p) Errno.ENOTDIR
+    ∷ []

@@ -4,9 +4,9 @@ use Rattle.posix_types.specs.declared.item.Outcome.{Outcome}
 use Rattle.posix_types.specs.declared.call.Who.{Who}
 use Rattle.posix_types.specs.declared.call.Call.{Call}
 use Rattle.posix_types.specs.declared.handle.Handle.{Handle}
-use Rattle.posix_spec.specs.Outcomes.{first}
 use Rattle.posix_spec.specs.State.{State}
-use Rattle.posix_spec.specs.FileRows.{file_number, write_start, write_rows}
+use Rattle.posix_spec.specs.Outcomes.{first}
+use Rattle.posix_spec.specs.FileRows.{file_number, write_rows, write_start}
 
 -- bytes that stand in the file of a node from a place on
 pub record Put : Type 0 where

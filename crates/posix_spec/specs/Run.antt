@@ -3,8 +3,8 @@ use Rattle.std.specs.Prelude.{◌≡◌, List, [], ◌∷◌, ◌++◌, refl}
 use Rattle.posix_types.specs.declared.call.Who.{Who}
 use Rattle.posix_types.specs.declared.call.Call.{Call}
 use Rattle.posix_types.specs.declared.item.Item.{Item}
-use Rattle.posix_spec.specs.State.{State}
 use Rattle.posix_spec.specs.Step.{step}
+use Rattle.posix_spec.specs.State.{State}
 
 -- a call with its caller, before it has a reply
 abbrev pub Begun : Type 0

@@ -1,5 +1,5 @@
 -- What each call does: the first of its rows that fits gives the outcome and changes nothing, and where none fits the last row acts.
-use Rattle.std.specs.Prelude.{ℕ, Bool, ◌+◌, List, [], length, take, drop, Option, Some, None, unwrap_or, ℤ, if◌then◌else◌}
+use Rattle.std.specs.Prelude.{ℕ, Bool, ◌+◌, List, [], length, Option, Some, None, unwrap_or, ℤ, if◌then◌else◌}
 use Rattle.posix_types.specs.declared.item.Outcome.{Outcome}
 use Rattle.posix_types.specs.declared.call.Who.{Who}
 use Rattle.posix_types.specs.declared.call.Call.{Call}
@@ -8,15 +8,18 @@ use Rattle.posix_types.specs.declared.handle.Flags.{Flags}
 use Rattle.posix_types.specs.declared.handle.Whence.{Whence}
 use Rattle.posix_types.specs.declared.reply.Reply.{Reply}
 use Rattle.posix_types.specs.declared.reply.Stat.{Stat}
-use Rattle.posix_spec.specs.declared.node.Node.{Node}
-use Rattle.posix_spec.specs.declared.node.DirEntry.{DirEntry}
-use Rattle.posix_spec.specs.declared.open.Description.{Description}
+use Rattle.posix_words.specs.declared.nodes.Node.{Node}
+use Rattle.posix_words.specs.declared.nodes.DirEntry.{DirEntry}
+use Rattle.posix_words.specs.declared.open.Description.{Description}
+use Rattle.posix_words.specs.Open.{closed, is_full, key_of, next_descriptor, with_descriptor, with_offset, with_opened}
+use Rattle.posix_words.specs.Nodes.{node_at, published_of}
+use Rattle.posix_words.specs.Names.{directory_stands, exists_at, file_stands, last_name, names_in, number_at, parent_at, with_entry, without_entry}
+use Rattle.posix_words.specs.Bytes.{bytes_from, overwritten, resized}
+use Rattle.posix_spec.specs.State.{made, space, State, swept, unnamed, with_file, with_node, with_published}
 use Rattle.posix_spec.specs.Outcomes.{answer, first}
-use Rattle.posix_spec.specs.Names.{last_name, parent_at, number_at, exists_at, directory_stands, file_stands, names_in, with_entry, without_entry}
-use Rattle.posix_spec.specs.NameRows.{mkdir_rows, rmdir_rows, unlink_rows, rename_rows, open_rows, stat_rows, list_rows}
-use Rattle.posix_spec.specs.Open.{key_of, is_full, next_descriptor, with_opened, with_descriptor, with_offset, closed}
-use Rattle.posix_spec.specs.State.{State, node_at, space, published_of, with_node, with_file, with_published, made, unnamed, swept, resized, overwritten}
-use Rattle.posix_spec.specs.FileRows.{file_number, offset_of, content, write_start, seek_target, close_rows, dup_rows, read_rows, write_rows, seek_rows, truncate_rows, fsync_rows}
+use Rattle.posix_spec.specs.NameRows.{list_rows, mkdir_rows, open_rows, rename_rows, rmdir_rows, stat_rows, unlink_rows}
+use Rattle.posix_spec.specs.FileRows.{close_rows, content, dup_rows, file_number, fsync_rows, offset_of, read_rows, seek_rows, seek_target, truncate_rows, write_rows, write_start}
+use Rattle.posix_spec.specs.Tree.{start}
 
 -- the state after a call, and what the call answered
 pub record Stepped : Type 0 where
@@ -56,8 +59,8 @@ renamed s p q =
 unfoldable pub rename_done : State → List (List ℕ) → List (List ℕ) → Stepped
 rename_done s p q =
     done (if directory_stands (space s) q then with_node (renamed s p q) (number_at (space s) q) Node.Gone
-      else if file_stands (space s) q then swept (renamed s p q) (number_at (space s) q)
-      else renamed s p q) Reply.Ok
+    else if file_stands (space s) q then swept (renamed s p q) (number_at (space s) q)
+    else renamed s p q) Reply.Ok
 
 -- Open files.
 
@@ -94,10 +97,6 @@ dup_done s who h g =
 -- the description of a handle has another offset
 abbrev pub moved_offset : State → Who → Handle → ℕ → State
 moved_offset s who h offset = record s { tables = with_offset s.tables (unwrap_or (key_of s.tables who h) 0) offset }
-
--- at most n bytes from a place, up to the end
-abbrev pub bytes_from : List ℕ → ℕ → ℕ → List ℕ
-bytes_from bytes place n = take n (drop place bytes)
 
 -- the offset rises by the number of the bytes that are read
 unfoldable pub read_done : State → Who → Handle → ℕ → Stepped

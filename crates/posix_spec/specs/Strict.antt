@@ -2,9 +2,9 @@
 use Rattle.std.specs.Prelude.{◌≡◌, ◌⊎◌, List, [], ◌∷◌}
 use Rattle.posix_types.specs.declared.item.Item.{Item}
 use Rattle.posix_types.specs.declared.tree.TreeEntry.{TreeEntry}
-use Rattle.posix_spec.specs.State.{State}
-use Rattle.posix_spec.specs.Run.{Begun, after_call, run}
 use Rattle.posix_spec.specs.Tree.{tree}
+use Rattle.posix_spec.specs.State.{State}
+use Rattle.posix_spec.specs.Run.{after_call, Begun, run}
 
 -- the tree is that of the state after some of the unfinished calls, in order: each acts whole, or not at all
 abbrev pub StrictFrom : State → List Begun → List TreeEntry → Type 0

@@ -1,18 +1,16 @@
 //! The plain program: a state from a tree, the meaning of a call, and the tree of a state.
 ghost use Rattle.std.specs.Prelude.{◌≡◌, ◌∷◌, [], IfOk, OnOk, OnErr};
-ghost use Rattle.posix_spec.specs.State.{made};
-ghost use Rattle.posix_spec.specs.Step.{step};
 ghost use Rattle.posix_spec.specs.Tree.{bare, planted, start, tree};
+ghost use Rattle.posix_spec.specs.Step.{step};
+ghost use Rattle.posix_spec.specs.State.{made};
 
-use std::alloc::{AllocError, Global};
-
-use posix_types::{Call, Mode, Outcome, Shape, Tree, TreeEntry, Who};
-
-use crate::names::is_root;
-use crate::node::Node;
-use crate::open::Tables;
 use crate::state::State;
-use crate::tree::{node_of, tree_entries};
+use posix_types::{Call, Mode, Outcome, Shape, Tree, TreeEntry, Who};
+use posix_words::entries::is_root;
+use posix_words::nodes::Node;
+use posix_words::open::Tables;
+use posix_words::places::{node_of, tree_entries};
+use std::alloc::{AllocError, Global};
 
 impl State {
     /// The root alone, and nothing open.

@@ -1,19 +1,19 @@
 //! The calls that take a handle: the rows of each, and what its last row does.
 ghost use Rattle.std.specs.Prelude.{◌≡◌, ◌+◌, ◌≤◌, ◌<◌, ◌^◌, IfOk, IfNone, OnErr, is_none, length, unwrap_or};
-ghost use Rattle.posix_spec.specs.FileRows.{appends, close_rows, content, dup_rows, file_number, fsync_rows, no_blocks, offset_of, read_rows, seek_base, seek_rows, seek_target, truncate_rows, write_rows, write_start};
-ghost use Rattle.posix_spec.specs.Open.{key_of, may_read, may_write, opened, with_offset};
-ghost use Rattle.posix_spec.specs.Outcomes.{first};
+ghost use Rattle.posix_words.specs.Open.{key_of, may_read, may_write, opened, with_offset};
 ghost use Rattle.posix_spec.specs.Step.{close_done, dup_done, fsync_done, moved_offset, pread_done, pwrite_done, read_done, seek_done, stepped, truncate_done, write_done, written};
+ghost use Rattle.posix_spec.specs.Outcomes.{first};
+ghost use Rattle.posix_spec.specs.FileRows.{appends, close_rows, content, dup_rows, file_number, fsync_rows, no_blocks, offset_of, read_rows, seek_base, seek_rows, seek_target, truncate_rows, write_rows, write_start};
 
-use std::alloc::AllocError;
-
-use posix_types::{Errno, Handle, Outcome, Reply, What, Whence, Who};
-
-use crate::bytes::{LONGEST_FILE, LONGEST_WRITE, bytes_from, is_too_far, moved_place, overwritten, resized};
-use crate::node::{bytes_at, published_at};
 use crate::outcomes::{answer, no_space, refused};
-use crate::room::{growth, write_need};
 use crate::state::State;
+use posix_types::{Errno, Handle, Outcome, Reply, What, Whence, Who};
+use posix_words::bytes::{
+    LONGEST_FILE, LONGEST_WRITE, bytes_from, is_too_far, moved_place, overwritten, resized,
+};
+use posix_words::nodes::{bytes_at, published_at};
+use posix_words::room::{growth, write_need};
+use std::alloc::AllocError;
 
 impl State {
     fn is_unknown(&self, who: Who, handle: Handle) -> bool
@@ -173,7 +173,12 @@ impl State {
 
     /// `read`: answers bytes from the offset on, which rises by their number.
     #[tactic(auto, unfolding(crate::specs::Step::read_done))]
-    pub(crate) fn read(&mut self, who: Who, handle: Handle, count: u64) -> Result<Outcome, AllocError>
+    pub(crate) fn read(
+        &mut self,
+        who: Who,
+        handle: Handle,
+        count: u64,
+    ) -> Result<Outcome, AllocError>
         ensures ok { IfOk result (λ outcome. record { state = self.new; outcome = outcome } ≡ stepped self.old (first (read_rows self.old.tables who handle)) (read_done self.old who handle count)) }
         ensures err { OnErr result (self.new ≡ self.old) }
     {
@@ -181,20 +186,36 @@ impl State {
             return Ok(outcome);
         }
         let offset = self.offset_of(who, handle);
-        let read = bytes_from(*self.nodes.allocator(), self.content(who, handle), offset, count)?;
+        let read = bytes_from(
+            *self.nodes.allocator(),
+            self.content(who, handle),
+            offset,
+            count,
+        )?;
         self.move_offset(who, handle, offset + read.bytes.len() as u64);
         Ok(answer(Reply::Bytes(read)))
     }
 
     /// `pread`: answers bytes from a place on.
     #[tactic(auto, unfolding(crate::specs::Step::pread_done))]
-    pub(crate) fn pread(&self, who: Who, handle: Handle, place: u64, count: u64) -> Result<Outcome, AllocError>
+    pub(crate) fn pread(
+        &self,
+        who: Who,
+        handle: Handle,
+        place: u64,
+        count: u64,
+    ) -> Result<Outcome, AllocError>
         ensures { IfOk result (λ outcome. record { state = self.now; outcome = outcome } ≡ stepped self.now (first (read_rows self.now.tables who handle)) (pread_done self.now who handle place count)) }
     {
         if let Some(outcome) = self.read_rows(who, handle) {
             return Ok(outcome);
         }
-        let read = bytes_from(*self.nodes.allocator(), self.content(who, handle), place, count)?;
+        let read = bytes_from(
+            *self.nodes.allocator(),
+            self.content(who, handle),
+            place,
+            count,
+        )?;
         Ok(answer(Reply::Bytes(read)))
     }
 
@@ -233,21 +254,37 @@ impl State {
 
     /// Sets bytes of the file from a start on; a gap is filled with zeros.
     #[tactic(auto, unfolding(crate::specs::Step::written))]
-    fn put_bytes(&mut self, who: Who, handle: Handle, start: u64, bytes: &[u8]) -> Result<(), AllocError>
+    fn put_bytes(
+        &mut self,
+        who: Who,
+        handle: Handle,
+        start: u64,
+        bytes: &[u8],
+    ) -> Result<(), AllocError>
         requires { start + length bytes.now < 2 ^ 64 }
         ensures ok { IfOk result (λ _. self.new ≡ written self.old who handle start bytes.now) }
         ensures err { OnErr result (self.new ≡ self.old) }
     {
         let file = self.file_number(who, handle);
         let published = published_at(&self.nodes, file);
-        let made = overwritten(*self.nodes.allocator(), self.content(who, handle), start, bytes)?;
+        let made = overwritten(
+            *self.nodes.allocator(),
+            self.content(who, handle),
+            start,
+            bytes,
+        )?;
         self.set_file(file, made, published);
         Ok(())
     }
 
     /// `write`: sets bytes from the offset on, or from the end on; the offset is then behind them.
     #[tactic(auto, unfolding(crate::specs::Step::write_done))]
-    pub(crate) fn write(&mut self, who: Who, handle: Handle, bytes: &[u8]) -> Result<Outcome, AllocError>
+    pub(crate) fn write(
+        &mut self,
+        who: Who,
+        handle: Handle,
+        bytes: &[u8],
+    ) -> Result<Outcome, AllocError>
         ensures ok { IfOk result (λ outcome. record { state = self.new; outcome = outcome } ≡ stepped self.old (first (write_rows self.old who handle (write_start self.old who handle) bytes.now)) (write_done self.old who handle bytes.now)) }
         ensures err { OnErr result (self.new ≡ self.old) }
     {
@@ -262,7 +299,13 @@ impl State {
 
     /// `pwrite`: sets bytes from a place on.
     #[tactic(auto, unfolding(crate::specs::Step::pwrite_done))]
-    pub(crate) fn pwrite(&mut self, who: Who, handle: Handle, start: u64, bytes: &[u8]) -> Result<Outcome, AllocError>
+    pub(crate) fn pwrite(
+        &mut self,
+        who: Who,
+        handle: Handle,
+        start: u64,
+        bytes: &[u8],
+    ) -> Result<Outcome, AllocError>
         ensures ok { IfOk result (λ outcome. record { state = self.new; outcome = outcome } ≡ stepped self.old (first (write_rows self.old who handle start bytes.now)) (pwrite_done self.old who handle start bytes.now)) }
         ensures err { OnErr result (self.new ≡ self.old) }
     {
@@ -336,7 +379,12 @@ impl State {
 
     /// `truncate`: cuts the file, or lengthens it with zeros, and publishes the length.
     #[tactic(auto, unfolding(crate::specs::Step::truncate_done))]
-    pub(crate) fn truncate(&mut self, who: Who, handle: Handle, length: u64) -> Result<Outcome, AllocError>
+    pub(crate) fn truncate(
+        &mut self,
+        who: Who,
+        handle: Handle,
+        length: u64,
+    ) -> Result<Outcome, AllocError>
         ensures ok { IfOk result (λ outcome. record { state = self.new; outcome = outcome } ≡ stepped self.old (first (truncate_rows self.old who handle length)) (truncate_done self.old who handle length)) }
         ensures err { OnErr result (self.new ≡ self.old) }
     {

@@ -1,21 +1,23 @@
 //! The calls that take a path: the rows of each, and what its last row does.
 ghost use Rattle.std.specs.Prelude.{◌≡◌, ◌+◌, ◌&&◌, ◌==◌, IfOk, OnErr, if◌then◌else◌, length, nat_lt};
-ghost use Rattle.posix_spec.specs.Names.{directory_stands, exists_at, has_entries, height, number_at};
-ghost use Rattle.posix_spec.specs.NameRows.{list_rows, mkdir_rows, open_rows, rename_kind_rows, rename_rows, rmdir_rows, stat_rows, unlink_rows};
-ghost use Rattle.posix_spec.specs.Open.{is_full};
-ghost use Rattle.posix_spec.specs.Outcomes.{first};
-ghost use Rattle.posix_spec.specs.State.{node_at, space, swept, with_node};
+ghost use Rattle.posix_words.specs.Open.{is_full};
+ghost use Rattle.posix_words.specs.Nodes.{node_at};
+ghost use Rattle.posix_words.specs.Names.{directory_stands, exists_at, has_entries, height, number_at};
 ghost use Rattle.posix_spec.specs.Step.{list_done, mkdir_done, open_done, opening, opening_number, rename_done, renamed, rmdir_done, stat_done, stat_of, stepped, unlink_done};
+ghost use Rattle.posix_spec.specs.State.{space, swept, with_node};
+ghost use Rattle.posix_spec.specs.Outcomes.{first};
+ghost use Rattle.posix_spec.specs.NameRows.{list_rows, mkdir_rows, open_rows, rename_kind_rows, rename_rows, rmdir_rows, stat_rows, unlink_rows};
 
-use std::alloc::{AllocError, Global};
-
-use posix_types::{Data, Errno, Flags, Handle, Name, Outcome, Path, Reply, Stat, Who};
-
-use crate::names::{LONGEST_PATH, has_entries, height, insert_entry, is_below, is_root, last_name, names_in, remove_entry};
-use crate::node::{DirEntry, File, Node};
-use crate::open::Description;
 use crate::outcomes::{answer, refused};
 use crate::state::State;
+use posix_types::{Data, Errno, Flags, Handle, Name, Outcome, Path, Reply, Stat, Who};
+use posix_words::entries::{
+    LONGEST_PATH, has_entries, height, insert_entry, is_below, is_root, last_name, names_in,
+    remove_entry,
+};
+use posix_words::nodes::{DirEntry, File, Node};
+use posix_words::open::Description;
+use std::alloc::{AllocError, Global};
 
 impl State {
     #[tactic(auto, unfolding(crate::specs::NameRows::mkdir_rows))]
@@ -217,7 +219,14 @@ impl State {
         };
         self.unname(from);
         remove_entry(&mut self.entries, parent, last_name(to));
-        insert_entry(&mut self.entries, DirEntry { parent, name, child })?;
+        insert_entry(
+            &mut self.entries,
+            DirEntry {
+                parent,
+                name,
+                child,
+            },
+        )?;
         Ok(())
     }
 
@@ -302,7 +311,9 @@ impl State {
     {
         let number = self.number_at(path);
         let file = Node::File(File {
-            bytes: Data { bytes: Vec::new(*self.nodes.allocator()) },
+            bytes: Data {
+                bytes: Vec::new(*self.nodes.allocator()),
+            },
             published: 0,
         });
         if !self.exists_at(path) {
@@ -317,7 +328,13 @@ impl State {
 
     /// `open`: opens the file at a path with the lowest free descriptor, at offset 0.
     #[tactic(auto, unfolding(crate::specs::Step::open_done))]
-    pub(crate) fn open_call(&mut self, who: Who, handle: Handle, path: &Path, flags: Flags) -> Result<Outcome, AllocError>
+    pub(crate) fn open_call(
+        &mut self,
+        who: Who,
+        handle: Handle,
+        path: &Path,
+        flags: Flags,
+    ) -> Result<Outcome, AllocError>
         ensures ok { IfOk result (λ outcome. record { state = self.new; outcome = outcome } ≡ stepped self.old (first (open_rows (space self.old) (is_full self.old.tables) path.now flags)) (open_done self.old who handle path.now flags)) }
         ensures err { OnErr result (self.new ≡ self.old) }
     {
@@ -327,7 +344,15 @@ impl State {
         let descriptor = self.tables.next_descriptor() as u32;
         let node = self.opening_number(path);
         let mut tables = self.tables.clone()?;
-        tables.open(who, handle, Description { node, offset: 0, flags })?;
+        tables.open(
+            who,
+            handle,
+            Description {
+                node,
+                offset: 0,
+                flags,
+            },
+        )?;
         let mut next = self.clone()?;
         next.open_file(path, flags.truncate)?;
         next.tables = tables;

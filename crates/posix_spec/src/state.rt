@@ -1,20 +1,21 @@
 //! The state of a file system that the calls see.
 ghost use Rattle.std.specs.Prelude.{◌≡◌, ◌++◌, ◌==◌, [], ◌∷◌, IfOk, length, slice_set};
-ghost use Rattle.posix_spec.specs.Names.{directory_stands, exists_at, file_stands, longest_name, node_at_path, number_at, parent_at, too_long, walk};
-ghost use Rattle.posix_spec.specs.NameRows.{no_line, no_node};
+ghost use Rattle.posix_words.specs.Names.{directory_stands, exists_at, file_stands, longest_name, node_at_path, number_at, parent_at, too_long, walk};
 ghost use Rattle.posix_spec.specs.State.{made, room, space, swept, unnamed, with_file, with_node, with_published};
+ghost use Rattle.posix_spec.specs.NameRows.{no_line, no_node};
 
+use crate::outcomes::no_space;
+use posix_types::{Data, Errno, Mode, Name, Outcome, Path, Shape, What};
+use posix_words::entries::{
+    child_of, directory_names, insert_entry, is_named, is_root, is_too_long, last_name,
+    remove_entry,
+};
+use posix_words::nodes::{DirEntry, File, Node, count_live, is_directory, publish, set_node};
+use posix_words::open::Tables;
+use posix_words::room::room;
+use posix_words::walk::{lines_left, lines_taken, walk_down};
 use std::alloc::{AllocError, Global};
 use std::marker::Model;
-
-use posix_types::{Data, Errno, Mode, Name, Outcome, Path, Shape, What};
-
-use crate::names::{child_of, directory_names, insert_entry, is_named, is_root, is_too_long, last_name, remove_entry};
-use crate::node::{DirEntry, File, Node, count_live, is_directory, publish, set_node};
-use crate::open::Tables;
-use crate::outcomes::no_space;
-use crate::room::room;
-use crate::walk::{lines_left, lines_taken, walk_down};
 
 /// The longest name, in bytes.
 pub const LONGEST_NAME: usize = 48;
@@ -57,7 +58,7 @@ impl Clone for State {
 
 impl State {
     /// The directory of a path, or why there is none.
-    #[tactic(auto, unfolding(crate::specs::Names::walk))]
+    #[tactic(auto, unfolding(posix_words::specs::Names::walk))]
     pub(crate) fn walk(&self, path: &Path) -> Result<usize, Errno>
         ensures { result ≡ walk (space self.now) path.now }
     {
@@ -75,7 +76,7 @@ impl State {
     }
 
     /// The node at a path.
-    #[tactic(auto, unfolding(crate::specs::Names::node_at_path))]
+    #[tactic(auto, unfolding(posix_words::specs::Names::node_at_path))]
     pub(crate) fn node_at_path(&self, path: &Path) -> Option<usize>
         ensures { result ≡ node_at_path (space self.now) path.now }
     {
@@ -181,7 +182,14 @@ impl State {
         let name = Name {
             bytes: Vec::from_slice(*self.nodes.allocator(), last_name(path))?,
         };
-        insert_entry(&mut self.entries, DirEntry { parent, name, child })?;
+        insert_entry(
+            &mut self.entries,
+            DirEntry {
+                parent,
+                name,
+                child,
+            },
+        )?;
         self.nodes.push(node)?;
         Ok(())
     }

@@ -1,11 +1,10 @@
 //! The calls, and who makes them.
 ghost use Rattle.std.specs.Prelude.{◌≡◌};
 
-use std::alloc::AllocError;
-
 use crate::data::Data;
 use crate::handle::{Flags, Handle, Whence};
 use crate::name::Path;
+use std::alloc::AllocError;
 
 /// The guarantee that a file system gives: what a power loss may leave.
 #[derive(Clone, Copy, Debug, PartialEq, Eq)]
@@ -59,7 +58,11 @@ impl Clone for Call {
             Call::Read(handle, count) => Ok(Call::Read(*handle, *count)),
             Call::Pread(handle, offset, count) => Ok(Call::Pread(*handle, *offset, *count)),
             Call::Write(handle, bytes) => Ok(Call::Write(*handle, bytes.clone()?)),
-            Call::Pwrite(handle, offset, bytes) => Ok(Call::Pwrite(*handle, *offset, bytes.clone()?)),
+            Call::Pwrite(handle, offset, bytes) => Ok(Call::Pwrite(
+                *handle,
+                *offset,
+                bytes.clone()?,
+            )),
             Call::Seek(handle, whence, by) => Ok(Call::Seek(*handle, *whence, *by)),
             Call::Truncate(handle, length) => Ok(Call::Truncate(*handle, *length)),
             Call::Fsync(handle) => Ok(Call::Fsync(*handle)),

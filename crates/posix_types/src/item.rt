@@ -1,10 +1,9 @@
 //! The items of a history.
 ghost use Rattle.std.specs.Prelude.{◌≡◌};
 
-use std::alloc::AllocError;
-
 use crate::call::{Call, Who};
 use crate::reply::{Reply, Room};
+use std::alloc::AllocError;
 
 /// What a call gave: its reply and, exactly with ENOSPC, what it needed and what was left.
 #[derive(Debug, Drop, PartialEq, Eq)]

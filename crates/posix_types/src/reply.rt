@@ -1,10 +1,9 @@
 //! The replies, and the room of a file system.
 ghost use Rattle.std.specs.Prelude.{◌≡◌};
 
-use std::alloc::AllocError;
-
 use crate::data::Data;
 use crate::name::NameList;
+use std::alloc::AllocError;
 
 /// What a call answers. A descriptor's number, how many bytes a write wrote, the offset that a seek
 /// left in bytes, the bytes of a read, what `stat` and `list` found, or an error.

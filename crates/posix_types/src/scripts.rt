@@ -1,10 +1,9 @@
 //! The scripts of a run.
 ghost use Rattle.std.specs.Prelude.{◌≡◌};
 
+use crate::call::Call;
 use std::alloc::AllocError;
 use std::marker::Model;
-
-use crate::call::Call;
 
 /// The calls of one script, in order. Contracts see a list of calls.
 #[derive(Debug, Drop)]

@@ -1,11 +1,10 @@
 //! The tree of a file system.
 ghost use Rattle.std.specs.Prelude.{◌≡◌};
 
-use std::alloc::AllocError;
-use std::marker::Model;
-
 use crate::data::Data;
 use crate::name::Path;
+use std::alloc::AllocError;
+use std::marker::Model;
 
 /// What stands at a path: a directory, or a file with its bytes.
 #[derive(Debug, Drop, PartialEq, Eq)]

@@ -1,0 +1,6 @@
+pub mod Nodes
+pub mod Names
+pub mod Room
+pub mod Open
+pub mod Bytes
+pub mod Places

@@ -1,0 +1,5 @@
+pub mod Cleared
+pub mod Counts
+pub mod Lowest
+pub mod Marks
+pub mod Places

@@ -3,17 +3,19 @@ use Rattle.std.proofs.Common.{◌≡◌, ◌≢◌, ◌⊎◌, ◌+◌, ◌*◌,
 use Rattle.std.proofs.Math.Path.{fun_ext}
 use Rattle.std.proofs.lemmas.Bool.{cases_Bool, cond-true, cond-false, le-leb, both_ways, false_from_ne_true, or_cases, or_parts, and_parts, eqb-true, ne_eqb, leb-true, lt-leb, ltb-true, or_from, and_left}
 use Rattle.disk_places.specs.Journal.{is_journal_word, journaled, committed, patched, record_target, record_word, IsSound}
-use Rattle.disk_places.specs.Places.{Geometry, commit_word, record_line, name_line, is_journaled_line}
-use Rattle.k_journal.specs.Batch.{target, content, with_batch, IsDistinct, IsNew}
+use Rattle.disk_places.specs.PlaceLaws.{journaled_bounds, journaled-below_log}
+use Rattle.disk_places.specs.Places.{Geometry, IsGeometry, commit_word, record_line, name_line, log_line, is_journaled_line}
+use Rattle.k_journal.specs.Batch.{target, content, with_batch, AllLines, IsDistinct, IsNew}
 use Rattle.k_journal.specs.Commits.{MayCommit, IsBeforeOrAfter}
 use Rattle.k_journal.specs.Patches.{find_target, patched-none, patched-miss, patched-hit, patched-at, patched-same}
-use Rattle.k_journal.specs.Phases.{IsRecorded, IsDone}
+use Rattle.k_journal.specs.Phases.{IsApart, IsRecorded, IsDone, IsStage}
+use Rattle.k_journal.specs.Phases.IsStage.{Unbegun, Recorded, Applied}
 use Rattle.k_journal.specs.declared.batches.Entry.{Entry}
 use Rattle.pm_words.specs.declared.Cell.{Cell}
 use Rattle.pm_words.specs.declared.Cell.TheVariants.{Single}
-use Rattle.pm_words.specs.CellLaws.{candidate-single, candidate-settles, newest-candidate, single-home}
+use Rattle.pm_words.specs.CellLaws.{candidate-single, candidate-settles, newest-candidate, settled-single, single-home}
 use Rattle.pm_words.specs.Cells.{cell, is_single, is_lent, newest, IsCandidate, Settles}
-use Rattle.pm_words.specs.Images.{IsImage, ComesFrom}
+use Rattle.pm_words.specs.Images.{IsImage, ComesFrom, Follows, Follows-same, words_of}
 use Rattle.pm_words.specs.Words.{Words}
 
 -- ---- the words of the journal
@@ -133,7 +135,7 @@ old_view g b old new image may is count settles = record {
       (λ w journal. journaled-journal image w journal ∙ sym (journaled-journal (before old image) w journal))
       (λ w apart. journaled-idle image w count apart ∙ settled_word old new image w (settles w apart) is ∙ sym (before-view g b old image w may apart)));
   others = λ w apart fresh. settled_word old new image w (settles w apart) is;
-  sound = record { count = rw count (lit≤ tt); targets = λ r h. absurd (omega (arith, count)) };
+  sound = λ _. record { count = rw count (lit≤ tt); targets = λ r h. absurd (omega (arith, count)) };
 }
 
 recorded_target : (b : List Entry) (n k : ℕ) (new : List Cell) (image : Words) → IsRecorded b n new → IsImage new image → k < n → record_target image k ≡ target b k
@@ -167,7 +169,7 @@ recorded_view g b old new image may framed is most count recorded = record {
           ∙ same_below b image (journaled (before old image)) w
               (λ fresh. settled_word old new image w (framed.frame w apart fresh) is ∙ sym (before-view g b old image w may apart))));
   others = λ w apart fresh. settled_word old new image w (framed.frame w apart fresh) is;
-  sound = record { count = rw count most; targets = λ r h. rw (recorded_target b (length b) r new image recorded is (rw count at h)) (may.lines r (rw count at h)) };
+  sound = λ _. record { count = rw count most; targets = λ r h. rw (recorded_target b (length b) r new image recorded is (rw count at h)) (may.lines r (rw count at h)) };
 }
 
 -- no record counts and the lines are set
@@ -185,5 +187,47 @@ new_view g b old new image may framed is distinct count done = record {
               ∙ sym (patched-miss (length b) (target b) (content b) (journaled (before old image)) w none))
           (find_target (length b) (target b) (w / 8))));
   others = λ w apart fresh. settled_word old new image w (framed.frame w apart fresh) is;
-  sound = record { count = rw count (lit≤ tt); targets = λ r h. absurd (omega (arith, count)) };
+  sound = λ _. record { count = rw count (lit≤ tt); targets = λ r h. absurd (omega (arith, count)) };
 }
+
+-- whichever stage an image shows
+pub stage_view : (g : Geometry) (b : List Entry) (old new : List Cell) (image : Words) → MayCommit g b old → IsFramed b old new → IsImage new image
+    → length b ≤ 128 → IsDistinct b → IsStage b old new image → IsBeforeOrAfter g b (before old image) image
+stage_view g b old new image may framed is most distinct (Unbegun count settles) = old_view g b old new image may is count settles
+stage_view g b old new image may framed is most distinct (Recorded count recorded) = recorded_view g b old new image may framed is most count recorded
+stage_view g b old new image may framed is most distinct (Applied count done) = new_view g b old new image may framed is distinct count done
+
+-- The device after a commit, or after a part of it.
+pub follows : (g : Geometry) (b : List Entry) (old new : List Cell) → MayCommit g b old → IsFramed b old new → length b ≤ 128 → IsDistinct b
+    → ((image : Words) → IsImage new image → IsStage b old new image) → Follows (IsBeforeOrAfter g b) old new
+follows g b old new may framed most distinct stages image is =
+    (before old image, comes_from g b old new image may framed is, stage_view g b old new image may framed is most distinct (stages image is))
+
+-- a device that is as it was
+pub follows-same : (g : Geometry) (b : List Entry) (d : List Cell) → Follows (IsBeforeOrAfter g b) d d
+follows-same g b d = Follows-same (IsBeforeOrAfter g b) d (λ f. record { view = inl refl; others = λ w apart fresh. refl; sound = λ sound. sound })
+
+-- After the commit, each word of one candidate that is not the journal's is as the batch sets it.
+pub words-done : (b : List Entry) (old new : List Cell) → IsDistinct b → IsFramed b old new → IsDone b (length b) new
+    → (i : ℕ) → is_journal_word i ≡ false → is_single (cell old i) ≡ true → cell new i ≡ Single (with_batch b (words_of old) i)
+words-done b old new distinct framed done i apart single = ⊎_elim
+    (λ (found : (k : ℕ) × (k < length b) × (target b k ≡ i / 8)).
+        done found.0 i found.1 (sym found.2)
+        ∙ ap Single (sym (patched-at (length b) (target b) (content b) (words_of old) i found.0 distinct found.1 found.2)))
+    (λ (none : (k : ℕ) → k < length b → target b k ≢ i / 8).
+        settled-single (cell old i) (cell new i) (framed.frame i apart none) single
+        ∙ ap Single (sym (patched-miss (length b) (target b) (content b) (words_of old) i none)))
+    (find_target (length b) (target b) (i / 8))
+
+-- ---- the batch's lines
+
+pub lines_within : (g : Geometry) (b : List Entry) (d : List Cell) → IsGeometry g → MayCommit g b d → (k : ℕ) → k < length b → target b k < length d / 8
+lines_within g b d ok may k h =
+    let below : target b k < log_line g 0 = journaled-below_log g (target b k) (may.lines k h) in
+    omega (arith, may.blocks, ok.least_data)
+
+pub lines_apart : (g : Geometry) (b : List Entry) → AllLines (is_journaled_line g) b → IsApart b
+lines_apart g b lines k h = elim (journaled_bounds g (target b k) (lines k h)) [
+  | inl state ↦ inl state
+  | inr region ↦ inr (elim region [ inl inodes ↦ inodes.0 | inr names ↦ omega (arith, names.0) ])
+]

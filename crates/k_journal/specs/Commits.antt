@@ -19,8 +19,9 @@ pub record MayCommit (g : Geometry) (b : List Entry) (d : List Cell) : Type 0 wh
   pub targets : (k i : ℕ) → k < length b → i / 8 ≡ target b k → is_single (cell d i) ≡ true
 
 -- An image after a commit, or after a part of it, beside the image before. Its journaled view has all of the
--- batch's lines or none; outside the journal and these lines no word changed; and its journal can be recovered.
+-- batch's lines or none; outside the journal and these lines no word changed; and its journal can be recovered
+-- where the one before could.
 pub record IsBeforeOrAfter (g : Geometry) (b : List Entry) (before image : Words) : Type 0 where
   pub view : (journaled image ≡ journaled before) ⊎ (journaled image ≡ with_batch b (journaled before))
   pub others : (w : ℕ) → is_journal_word w ≡ false → IsNew b (w / 8) → image w ≡ before w
-  pub sound : IsSound g image
+  pub sound : IsSound g before → IsSound g image

@@ -1,27 +1,20 @@
 ghost use Rattle.std.specs.Prelude.{◌≡◌, ◌⊎◌, ◌+◌, ◌*◌, ◌/◌, ◌<◌, ◌≤◌, ℕ, true, false, [], length};
 ghost use Rattle.disk_places.specs.Journal.{is_journal_word};
-ghost use Rattle.disk_places.specs.Places.{Geometry, commit_word};
-ghost use Rattle.k_journal.specs.Batch.{target, IsDistinct, IsNew};
+ghost use Rattle.disk_places.specs.Places.{commit_word};
+ghost use Rattle.k_journal.specs.Batch.{target, with_batch, IsDistinct, IsNew};
 ghost use Rattle.k_journal.specs.Commits.{MayCommit, IsBeforeOrAfter};
 ghost use Rattle.k_journal.specs.Phases.{IsApart, IsRecorded, IsDone, IsStage};
 ghost use Rattle.pm_words.specs.declared.Cell.TheVariants.{Single};
 ghost use Rattle.pm_words.specs.Cells.{cell, is_single, Settles};
-ghost use Rattle.pm_words.specs.Images.{IsImage, Follows};
+ghost use Rattle.pm_words.specs.Images.{IsImage, Follows, words_of};
 ghost use Rattle.pm_words.specs.Powers.{is_on, Steps};
 ghost use Rattle.pm_words.specs.Words.{Words};
 
 use crate::batches::{Batch, Entry};
+use crate::outcomes::Commit;
 use crate::phases::{put_records, put_targets, set_count};
+use image_layout::Geometry;
 use pm_lines::{Pm, Power};
-
-/// How a commit ended.
-#[derive(Clone, Copy, Debug, PartialEq, Eq)]
-pub enum Commit {
-    /// The batch's lines are durable, and the batch is empty.
-    Done,
-    /// The power went. Every image recovers to all of the old lines or all of the new ones.
-    PowerLost,
-}
 
 // Makes the records durable, and then the commit word.
 fn write_journal(entries: &[Entry], pm: &mut Pm, power: &mut Power)
@@ -95,4 +88,41 @@ fn commit_entries(entries: &[Entry], pm: &mut Pm, power: &mut Power) -> Commit
     }
     apply_journal(entries, pm, power);
     if power.on() { Commit::Done } else { Commit::PowerLost }
+}
+
+/// Sets the batch's lines in one transaction: the records, the commit word, the lines, and then the
+/// commit word 0, each made durable before the next is begun. It takes no memory. Without power at the
+/// call it does nothing.
+///
+/// `Done` empties the batch; `PowerLost` keeps it.
+pub fn commit(batch: &mut Batch, pm: &mut Pm, geometry: &Geometry, power: &mut Power) -> Commit
+    requires ready { is_on power.old ≡ true → MayCommit geometry.now batch.old pm.old }
+    ensures size { length pm.new ≡ length pm.old }
+    ensures steps { Steps (32 * length batch.old + 16) power.old power.new }
+    ensures done { result ≡ Commit.Done → is_on power.new ≡ true }
+    ensures lost { result ≡ Commit.PowerLost → is_on power.new ≡ false }
+    ensures off { is_on power.old ≡ false → (pm.new ≡ pm.old) × (power.new ≡ power.old) }
+
+    // Wherever the power goes, each image recovers to all of the old lines or all of the new ones.
+    ensures each_image { Follows (IsBeforeOrAfter geometry.now batch.old) pm.old pm.new }
+    ensures others { (i : ℕ) → is_journal_word i ≡ false → IsNew batch.old (i / 8) → Settles (cell pm.old i) (cell pm.new i) }
+
+    // Done: the lines are durable and the journal is empty.
+    ensures lines { result ≡ Commit.Done → IsDone batch.old (length batch.old) pm.new }
+    ensures words { result ≡ Commit.Done → (i : ℕ) → is_journal_word i ≡ false → is_single (cell pm.old i) ≡ true → cell pm.new i ≡ Single (with_batch batch.old (words_of pm.old) i) }
+    ensures idle { result ≡ Commit.Done → cell pm.new commit_word ≡ Single 0 }
+    ensures keeps { result ≡ Commit.Done → (i : ℕ) → is_single (cell pm.old i) ≡ true → is_single (cell pm.new i) ≡ true }
+    ensures empty { result ≡ Commit.Done → batch.new ≡ [] }
+    ensures kept { result ≡ Commit.PowerLost → batch.new ≡ batch.old }
+{
+    if !power.on() {
+        return Commit::PowerLost;
+    }
+    let words = pm.words();
+    prove!(words == 512 * u64::from(geometry.blocks));
+    let outcome = commit_entries(batch.entries(), pm, power);
+    if outcome == Commit::Done {
+        batch.clear();
+    }
+    outcome
 }

@@ -3,6 +3,11 @@
 
 mod batches;
 mod commits;
+mod outcomes;
 mod phases;
 
 pub use batches::{Batch, BatchFull, Entry};
+pub use outcomes::{Commit, Recovered};
+
+/// The two calls of a journal.
+pub mod journal;

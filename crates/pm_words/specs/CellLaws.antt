@@ -1,6 +1,6 @@
 -- Laws of cells and powers that the layers above cite.
 use Rattle.std.specs.Prelude.{◌≡◌, ◌<◌, ◌≤◌, ℕ, true, false, List, length}
-use Rattle.std.proofs.Common.{refl, inl, inr, ⊎_elim}
+use Rattle.std.proofs.Common.{refl, ◌∙◌, inl, inr, ⊎_elim}
 use Rattle.std.proofs.lemmas.Bool.{cases_lt}
 use Rattle.std.proofs.lemmas.List.{get_or_past}
 use Rattle.pm_words.specs.declared.Cell.{Cell}
@@ -56,3 +56,21 @@ candidate-fenced Lent v is = tt
 pub candidate-settles : (old new : Cell) (v : ℕ) → Settles old new → IsCandidate new v → IsCandidate old v
 candidate-settles old new v settles is =
     ⊎_elim (λ (e : new ≡ old). rw e at is) (λ (e : new ≡ fenced old). candidate-fenced old v (rw e at is)) settles
+
+-- a word of one candidate that settles keeps it
+pub settled-single : (old new : Cell) → Settles old new → is_single old ≡ true → new ≡ Single (newest old)
+settled-single old new settles single = ⊎_elim
+    (λ (e : new ≡ old). e ∙ kept old single)
+    (λ (e : new ≡ fenced old). e ∙ kept_fenced old single)
+    settles
+  where
+    kept : (c : Cell) → is_single c ≡ true → c ≡ Single (newest c)
+    kept (Single a) single = refl
+    kept (Two a b) single = cc
+    kept (Marked a b) single = cc
+    kept Lent single = cc
+    kept_fenced : (c : Cell) → is_single c ≡ true → fenced c ≡ Single (newest c)
+    kept_fenced (Single a) single = refl
+    kept_fenced (Two a b) single = cc
+    kept_fenced (Marked a b) single = cc
+    kept_fenced Lent single = cc

@@ -1,0 +1,2 @@
+//! The calls of the journal.
+pub use crate::commits::commit;

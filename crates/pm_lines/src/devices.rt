@@ -106,7 +106,8 @@ impl Pm {
     pub fn read_line(&self, line: u64) -> [u8; 64]
         requires in_device { line < length self.now / 8 }
         requires home { (i : ℕ) → i / 8 ≡ line → is_lent (cell self.now i) ≡ false }
-        ensures { result ≡ line_bytes (words_of self.now) line }
+        ensures bytes { result ≡ line_bytes (words_of self.now) line }
+        ensures words { (i : ℕ) → i / 8 ≡ line → word_at result (i % 8) ≡ newest (cell self.now i) }
     {
         bytes_of_line(&self.cells, line as usize)
     }

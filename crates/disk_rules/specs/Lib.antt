@@ -1,6 +1,10 @@
 pub mod Entries
 pub mod EntryLaws
-pub mod LineLaws
 pub mod Fresh
+pub mod LineLaws
 pub mod Lines
+pub mod NameLaws
 pub mod Names
+pub mod RowLaws
+pub mod TableLaws
+pub mod Tables

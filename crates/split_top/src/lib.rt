@@ -2,6 +2,7 @@
 #![tactic(auto)]
 
 mod commands;
+mod directories;
 mod fresh;
 mod meaning;
 mod scripts;

@@ -44,3 +44,29 @@ fn put_directory(batch: &mut Batch, geometry: &Geometry, place: u32, line: &Name
     put_line(batch, geometry.inode_line(5 + place), inode);
     put_line(batch, geometry.name_line(place), encode_name(line));
 }
+
+/// Makes a directory below the root that has those of `made`: one transaction.
+pub(crate) fn make_directory(
+    pm: &mut Pm,
+    batch: &mut Batch,
+    geometry: &Geometry,
+    power: &mut Power,
+    made: &[Name],
+    line: &NameLine,
+) -> Commit
+    requires geometry { geometry.now ≡ default_geometry }
+    requires empty { batch.old ≡ [] }
+    requires at_rest { IsAtRest pm.old made.now }
+    requires place { length made.now < 59 }
+    requires name { is_name line.now.name ≡ true }
+    requires row { line.now ≡ name_row (length made.now) line.now.name }
+    ensures steps { Steps 80 power.old power.new }
+    ensures on { result ≡ Commit.Done → is_on power.new ≡ true }
+    ensures off { result ≡ Commit.PowerLost → is_on power.new ≡ false }
+    ensures done { result ≡ Commit.Done → IsAtRest pm.new (made.now ++ line.now.name ∷ []) }
+    ensures empty { result ≡ Commit.Done → batch.new ≡ [] }
+    ensures lost { MayShow pm.new made.now (made.now ++ line.now.name ∷ []) }
+{
+    put_directory(batch, geometry, made.len() as u32, line);
+    commit(batch, pm, geometry, power)
+}

@@ -9,7 +9,7 @@ ghost use Rattle.pm_words.specs.Powers.{is_on, Steps};
 ghost use Rattle.pm_words.specs.Words.{Words};
 
 use crate::outcomes::Recovered;
-use crate::phases::{record_line, set_count};
+use crate::phases::{COMMIT_WORD, record_line, set_count};
 use image_layout::Geometry;
 use pm_lines::{Pm, Power};
 
@@ -112,4 +112,46 @@ fn recover_records(count: u32, pm: &mut Pm, power: &mut Power) -> Recovered
     }
     set_count(0, pm, power);
     if power.on() { Recovered::Done } else { Recovered::PowerLost }
+}
+
+/// Recovers the journal of a device, so that each committed record stands in its line and the journal
+/// is empty. It takes no memory.
+///
+/// `Bad` comes exactly where the commit word is above 128, or a committed record has no journaled
+/// target; nothing is written then. `PowerLost` comes exactly where there is no power at the return,
+/// unless the journal is bad.
+pub fn recover(pm: &mut Pm, geometry: &Geometry, power: &mut Power) -> Recovered
+    requires blocks { length pm.old ≡ 512 * geometry.now.blocks }
+    requires single { AllSingle pm.old }
+    ensures size { length pm.new ≡ length pm.old }
+    ensures steps { Steps 1283 power.old power.new }
+    ensures bad { IfBad result (λ index. IsFirstFault geometry.now (words_of pm.old) index × (pm.new ≡ pm.old) × (power.new ≡ power.old)) }
+    ensures checked { IfNotBad result (IsSound geometry.now (words_of pm.old)) }
+    ensures done { result ≡ Recovered.Done → is_on power.new ≡ true }
+    ensures lost { result ≡ Recovered.PowerLost → is_on power.new ≡ false }
+    ensures off { is_on power.old ≡ false → (pm.new ≡ pm.old) × (power.new ≡ power.old) }
+
+    // Wherever the power goes, each image has the same journaled view.
+    ensures each_image { (image : Words) → IsImage pm.new image → KeepsView geometry.now (words_of pm.old) image }
+    ensures others { (i : ℕ) → is_journaled_line geometry.now (i / 8) ≡ false → i ≢ commit_word → cell pm.new i ≡ cell pm.old i }
+
+    // Done: each line is as the journal makes it, and the journal is empty.
+    ensures words { result ≡ Recovered.Done → (i : ℕ) → is_journal_word i ≡ false → cell pm.new i ≡ Single (journaled (words_of pm.old) i) }
+    ensures idle { result ≡ Recovered.Done → cell pm.new commit_word ≡ Single 0 }
+    ensures keeps { result ≡ Recovered.Done → AllSingle pm.new }
+{
+    let words = pm.words();
+    prove!(words == 512 * u64::from(geometry.blocks));
+    let count = pm.read_word(COMMIT_WORD);
+    if count > 128 {
+        return Recovered::Bad { index: 128 };
+    }
+    let count = count as u32;
+    if let Some(index) = first_fault(geometry, count, pm) {
+        return Recovered::Bad { index };
+    }
+    if !power.on() {
+        return Recovered::PowerLost;
+    }
+    recover_records(count, pm, power)
 }

@@ -1,7 +1,7 @@
 -- The journaled view of the images of a device, at each stage of a commit.
 use Rattle.std.proofs.Common.{◌≡◌, ◌≢◌, ◌⊎◌, ◌+◌, ◌*◌, ◌/◌, ◌%◌, ◌<◌, ◌≤◌, ℕ, zero, Bool, true, false, cond, leb, ltb, eqb, ◌&&◌, ◌||◌, List, length, refl, sym, ◌∙◌, ap, inl, inr, ⊎_elim, arith, lit≤, lit<, if◌then◌else◌}
 use Rattle.std.proofs.Math.Path.{fun_ext}
-use Rattle.std.proofs.lemmas.Bool.{cases_Bool, cond-true, cond-false, le-leb, both_ways, false_from_ne_true, or_cases, or_parts, and_parts, eqb-true, ne_eqb, leb-true, lt-leb, ltb-true, or_from, and_left}
+use Rattle.std.proofs.lemmas.Bool.{cases_Bool, cond-true, cond-false, le-leb, both_ways, false_from_ne_true, or_cases, or_parts, and_parts, eqb-true, eq-eqb, ne_eqb, leb-true, lt-leb, ltb-true, or_from, and_left}
 use Rattle.disk_places.specs.Journal.{is_journal_word, journaled, committed, patched, record_target, record_word, IsSound}
 use Rattle.disk_places.specs.PlaceLaws.{journaled_bounds, journaled-below_log}
 use Rattle.disk_places.specs.Places.{Geometry, IsGeometry, commit_word, record_line, name_line, log_line, is_journaled_line}
@@ -25,6 +25,9 @@ journal_word-below w journal = ⊎_elim
     (λ (e : (eqb w 8) ≡ true). let at : w ≡ 8 = eqb-true w 8 e in omega arith)
     (λ (e : (leb 512 w && ltb w 2560) ≡ true). ltb-true w 2560 (and_parts (leb 512 w) (ltb w 2560) e).1)
     (or_cases (eqb w 8) (leb 512 w && ltb w 2560) journal)
+
+pub not_commit_word : (w : ℕ) → is_journal_word w ≡ false → w ≢ commit_word
+not_commit_word w apart e = both_ways (eqb w 8) (or_parts (eqb w 8) (leb 512 w && ltb w 2560) apart).0 (eq-eqb w 8 e)
 
 -- a word of the journal is on no journaled line
 pub journal_word-apart : (g : Geometry) (w : ℕ) → is_journal_word w ≡ true → is_journaled_line g (w / 8) ≡ false

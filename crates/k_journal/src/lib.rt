@@ -5,6 +5,7 @@ mod batches;
 mod commits;
 mod outcomes;
 mod phases;
+mod recoveries;
 
 pub use batches::{Batch, BatchFull, Entry};
 pub use outcomes::{Commit, Recovered};

@@ -11,6 +11,10 @@ ghost use Rattle.pm_words.specs.Words.{word_at};
 use crate::batches::Entry;
 use pm_lines::{Pm, Power};
 
+// The word of the journal that says how many records count, and its line.
+pub(crate) const COMMIT_WORD: u64 = 8;
+const COMMIT_LINE: u64 = 1;
+
 // The line of record `index`, which holds the target; the next line holds the content.
 pub(crate) fn record_line(index: u64) -> u64
     requires { index < 128 }
@@ -65,8 +69,8 @@ pub(crate) fn set_count(count: u64, pm: &mut Pm, power: &mut Power)
     ensures set { is_on power.new ≡ true → cell pm.new 8 ≡ Single count }
     ensures keeps { is_on power.new ≡ true → (i : ℕ) → is_single (cell pm.old i) ≡ true → is_single (cell pm.new i) ≡ true }
 {
-    pm.store_word(power, 8, count);
-    pm.flush(power, 1);
+    pm.store_word(power, COMMIT_WORD, count);
+    pm.flush(power, COMMIT_LINE);
     pm.fence(power);
 }
 

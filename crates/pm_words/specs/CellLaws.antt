@@ -57,20 +57,22 @@ pub candidate-settles : (old new : Cell) (v : ℕ) → Settles old new → IsCan
 candidate-settles old new v settles is =
     ⊎_elim (λ (e : new ≡ old). rw e at is) (λ (e : new ≡ fenced old). candidate-fenced old v (rw e at is)) settles
 
+-- a word of one candidate, and what a fence makes of it
+pub single-newest : (c : Cell) → is_single c ≡ true → c ≡ Single (newest c)
+single-newest (Single a) single = refl
+single-newest (Two a b) single = cc
+single-newest (Marked a b) single = cc
+single-newest Lent single = cc
+
+fenced-single : (c : Cell) → is_single c ≡ true → fenced c ≡ Single (newest c)
+fenced-single (Single a) single = refl
+fenced-single (Two a b) single = cc
+fenced-single (Marked a b) single = cc
+fenced-single Lent single = cc
+
 -- a word of one candidate that settles keeps it
 pub settled-single : (old new : Cell) → Settles old new → is_single old ≡ true → new ≡ Single (newest old)
 settled-single old new settles single = ⊎_elim
-    (λ (e : new ≡ old). e ∙ kept old single)
-    (λ (e : new ≡ fenced old). e ∙ kept_fenced old single)
+    (λ (e : new ≡ old). e ∙ single-newest old single)
+    (λ (e : new ≡ fenced old). e ∙ fenced-single old single)
     settles
-  where
-    kept : (c : Cell) → is_single c ≡ true → c ≡ Single (newest c)
-    kept (Single a) single = refl
-    kept (Two a b) single = cc
-    kept (Marked a b) single = cc
-    kept Lent single = cc
-    kept_fenced : (c : Cell) → is_single c ≡ true → fenced c ≡ Single (newest c)
-    kept_fenced (Single a) single = refl
-    kept_fenced (Two a b) single = cc
-    kept_fenced (Marked a b) single = cc
-    kept_fenced Lent single = cc

@@ -4,7 +4,7 @@ ghost use Rattle.disk_places.specs.Places.{record_line};
 ghost use Rattle.k_journal.specs.Batch.{target, content, IsDistinct, IsNew};
 ghost use Rattle.k_journal.specs.Phases.{IsApart, IsRecorded, IsDone};
 ghost use Rattle.pm_words.specs.declared.Cell.TheVariants.{Single};
-ghost use Rattle.pm_words.specs.Cells.{cell, is_single, fenced, MayHold, Settles};
+ghost use Rattle.pm_words.specs.Cells.{cell, is_single, fenced, MayHold, Settles, SameHome};
 ghost use Rattle.pm_words.specs.Powers.{is_on, Steps};
 ghost use Rattle.pm_words.specs.Words.{word_at};
 
@@ -28,6 +28,7 @@ fn put_record(entry: &Entry, index: u64, pm: &mut Pm, power: &mut Power)
     requires index { index < 128 }
     requires device { 2560 ≤ length pm.old }
     requires single { (i : ℕ) → 512 + 16 * index ≤ i → i < 528 + 16 * index → is_single (cell pm.old i) ≡ true }
+    ensures home { SameHome pm.old pm.new }
     ensures size { length pm.new ≡ length pm.old }
     ensures steps { Steps 11 power.old power.new }
     ensures others { (i : ℕ) → i ≢ 8 * record_line index → i / 8 ≢ record_line index + 1 → cell pm.new i ≡ cell pm.old i }
@@ -45,6 +46,7 @@ pub(crate) fn put_records(entries: &[Entry], pm: &mut Pm, power: &mut Power)
     requires room { length entries.now ≤ 128 }
     requires device { 2560 ≤ length pm.old }
     requires single { (i : ℕ) → 512 ≤ i → i < 2560 → is_single (cell pm.old i) ≡ true }
+    ensures home { SameHome pm.old pm.new }
     ensures size { length pm.new ≡ length pm.old }
     ensures steps { Steps (11 * length entries.now + 1) power.old power.new }
     ensures below { (i : ℕ) → i < 512 → Settles (cell pm.old i) (cell pm.new i) }
@@ -62,6 +64,7 @@ pub(crate) fn put_records(entries: &[Entry], pm: &mut Pm, power: &mut Power)
 pub(crate) fn set_count(count: u64, pm: &mut Pm, power: &mut Power)
     requires device { 16 ≤ length pm.old }
     requires single { (i : ℕ) → i / 8 ≡ 1 → is_single (cell pm.old i) ≡ true }
+    ensures home { SameHome pm.old pm.new }
     ensures size { length pm.new ≡ length pm.old }
     ensures steps { Steps 3 power.old power.new }
     ensures others { (i : ℕ) → i ≢ 8 → Settles (cell pm.old i) (cell pm.new i) }
@@ -80,6 +83,7 @@ pub(crate) fn put_targets(entries: &[Entry], pm: &mut Pm, power: &mut Power)
     requires apart { IsApart entries.now }
     requires in_device { (k : ℕ) → k < length entries.now → target entries.now k < length pm.old / 8 }
     requires single { (k i : ℕ) → k < length entries.now → i / 8 ≡ target entries.now k → is_single (cell pm.old i) ≡ true }
+    ensures home { SameHome pm.old pm.new }
     ensures size { length pm.new ≡ length pm.old }
     ensures steps { Steps (9 * length entries.now + 1) power.old power.new }
     ensures others { (i : ℕ) → IsNew entries.now (i / 8) → Settles (cell pm.old i) (cell pm.new i) }

@@ -2,5 +2,6 @@ pub mod Batches
 pub mod OneMore
 pub mod Lines
 pub mod Numbers
+pub mod Ranges
 pub mod SetLines
 pub mod Zeros

@@ -5,4 +5,5 @@ mod commands;
 mod directories;
 mod fresh;
 mod meaning;
+mod remounts;
 mod scripts;

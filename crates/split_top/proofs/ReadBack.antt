@@ -10,7 +10,13 @@ use Rattle.pm_words.specs.Words.{Words, word_at, line_bytes, with_line}
 use Rattle.pm_words.specs.Bytes.{line_bytes-words, line_bytes-same}
 use Rattle.disk_places.specs.Fields.{zeros}
 use Rattle.disk_places.specs.Places.{Geometry, state_line, inode_line, name_line, is_journaled_line}
-use Rattle.disk_places.specs.Journal.{is_journal_word}
+use Rattle.disk_places.specs.Journal.{is_journal_word, journaled}
+use Rattle.std.proofs.Math.Path.{fun_ext}
+use Rattle.pm_words.specs.declared.Cell.{Cell}
+use Rattle.pm_words.specs.declared.Cell.TheVariants.{Single}
+use Rattle.pm_words.specs.Cells.{cell, newest}
+use Rattle.pm_words.specs.Images.{words_of}
+use Rattle.split_top.specs.Rest.{Shows}
 use Rattle.disk_places.specs.PlaceLaws.{journaled-name, journaled-words, inode_line-name_line}
 use Rattle.disk_rules.specs.Lines.{NameRow, NameSlot, FreeName, Named, BadName, line_name_bytes, is_name_byte, is_dots, is_name, is_name_row, encode_name, decode_name, encode_inode}
 use Rattle.disk_rules.specs.NameLaws.{FitsName, decode_name-encode_name, decode_name-zeros}
@@ -18,7 +24,7 @@ use Rattle.disk_rules.specs.declared.Kind.TheVariants.{Directory, Staging}
 use Rattle.disk_rules.specs.Fresh.{empty_inode, with_inode, state_bytes, blank, staging_files, first_inodes, fresh}
 use Rattle.disk_places.specs.Superblock.{superblock}
 use Rattle.split_top.proofs.Zeros.{word_at-replicate}
-use Rattle.split_top.specs.Made.{default_geometry, directory_inode, name_row, with_directory, with_directories, made, name_in_slot, name_at, names_on}
+use Rattle.split_top.specs.Made.{default_geometry, directory_inode, name_row, with_directory, with_directories, made, name_in_slot, name_at, names_on, ArePlain}
 use Rattle.split_top.proofs.Ranges.{kept-front}
 
 -- Bytes.
@@ -119,11 +125,6 @@ line-others k j name f ne small =
 
 -- Directories, one after the other.
 
--- each name may stand in a line, and there are lines for all
-pub record ArePlain (k : ℕ) (names : List (List ℕ)) : Type 0 where
-  pub each : (i : ℕ) (d : List ℕ) → i < length names → is_name (slice_index_or names i d) ≡ true
-  pub room : k + length names ≤ 59
-
 plain-rest : (k : ℕ) (name : List ℕ) (names : List (List ℕ)) → ArePlain k (name ∷ names) → ArePlain (k + 1) names
 plain-rest k name names plain =
     record { each = λ i d lt. plain.each (suc i) d (omega arith); room = let r = plain.room in omega arith }
@@ -203,3 +204,13 @@ read_back names f plain same =
     kept-front (name_at default_geometry f) names 0 128 (omega arith)
     (λ i d lt. name_read (0 + i) (slice_index_or names i d) f (plain.each i d lt) (omega arith) (same_name_line names f (0 + i) same (omega arith) ∙ lines-own 0 names (fresh default_geometry) i d lt plain))
     (λ i ge lt. none_read (0 + i) f (same_name_line names f (0 + i) same (omega arith) ∙ lines-others 0 (0 + i) names (fresh default_geometry) (inr (omega arith)) plain ∙ fresh-name_line (0 + i)))
+
+-- a device that was made of bytes and recovered
+pub read_recovered : (bytes : List ℕ) (old new : List Cell) (names : List (List ℕ)) → ArePlain 0 names → Shows (word_at bytes) names
+  → ((i : ℕ) → cell old i ≡ Single (word_at bytes i))
+  → ((i : ℕ) → is_journal_word i ≡ false → cell new i ≡ Single (journaled (words_of old) i))
+  → names_on default_geometry (words_of new) ≡ names
+read_recovered bytes old new names plain shows made_of recovered =
+    let same : words_of old ≡ word_at bytes = fun_ext (λ i. ap newest (made_of i)) in
+    read_back names (words_of new) plain (λ w content.
+      ap newest (recovered w content) ∙ ap (λ f. journaled f w) same ∙ shows w content)

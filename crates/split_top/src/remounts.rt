@@ -1,14 +1,19 @@
 //! Reading a device back: its journal is recovered, and the names are read from their lines.
-ghost use Rattle.std.specs.Prelude.{◌≡◌, ◌+◌, ◌*◌, ◌<◌, ◌++◌, ℕ, length, option_to_list, IfOk, OnOk};
+ghost use Rattle.std.specs.Prelude.{◌≡◌, ◌+◌, ◌*◌, ◌<◌, ◌++◌, ℕ, List, length, option_to_list, IfOk, OnOk};
 ghost use Rattle.pm_words.specs.Cells.{AllSingle};
 ghost use Rattle.pm_words.specs.Images.{words_of};
 ghost use Rattle.disk_places.specs.Places.{IsGeometry};
 ghost use Rattle.k_names.specs.Decoding.{slot_of};
-ghost use Rattle.split_top.specs.Made.{name_in_slot, names_on};
+ghost use Rattle.disk_places.specs.Journal.{IsSound};
+ghost use Rattle.pm_words.specs.Words.{word_at};
+ghost use Rattle.split_top.specs.Made.{default_geometry, name_in_slot, names_on, ArePlain};
+ghost use Rattle.split_top.specs.Rest.{Shows};
 
 use image_layout::Geometry;
 use k_names::{Decoded, decode_name};
-use pm_lines::Pm;
+use k_journal::Recovered;
+use k_journal::journal::recover;
+use pm_lines::{Pm, Power};
 use posix_types::Name;
 use std::alloc::{AllocError, Global};
 
@@ -37,4 +42,23 @@ fn read_names(alloc: Global, pm: &Pm, geometry: &Geometry) -> Result<Vec<Name>, 
         push_name(&mut names, decode_name(alloc, &bytes)?)?;
     }
     Ok(names)
+}
+
+/// The names on an image, once its journal is recovered.
+pub(crate) fn remount(
+    alloc: Global,
+    bytes: &[u8],
+    geometry: &Geometry,
+) -> Result<Vec<Name>, AllocError>
+    requires geometry { geometry.now ≡ default_geometry }
+    requires size { length bytes.now ≡ 4096 * default_geometry.blocks }
+    requires sound { IsSound default_geometry (word_at bytes.now) }
+    ensures { IfOk result (λ found. (names : List (List ℕ)) → ArePlain 0 names → Shows (word_at bytes.now) names → found.items ≡ names) }
+{
+    let mut pm = Pm::from_image(alloc, bytes)?;
+    let mut power = Power::always();
+    match recover(&mut pm, geometry, &mut power) {
+        Recovered::Done => read_names(alloc, &pm, geometry),
+        Recovered::PowerLost | Recovered::Bad { .. } => unreachable!(),
+    }
 }

@@ -214,6 +214,7 @@ impl Pm {
         requires in_device { line < length self.old / 8 }
         requires single { (i : ℕ) → i / 8 ≡ line → is_single (cell self.old i) ≡ true }
         ensures size { length self.new ≡ length self.old }
+        ensures lent { (i : ℕ) → is_lent (cell self.new i) ≡ is_lent (cell self.old i) }
         ensures others { (i : ℕ) → i / 8 ≢ line → cell self.new i ≡ cell self.old i }
         ensures steps { Steps 9 power.old power.new }
 

@@ -1,7 +1,7 @@
 -- The words after some records, as a recovery makes them durable one by one.
 use Rattle.std.proofs.Common.{◌≡◌, ◌≢◌, ◌⊎◌, ◌+◌, ◌*◌, ◌/◌, ◌%◌, ◌<◌, ◌≤◌, ℕ, false, List, refl, sym, ◌∙◌, ap, inl, inr, ⊎_elim, arith, lit≤}
 use Rattle.std.proofs.lemmas.Bool.{both_ways, cases_eq}
-use Rattle.disk_places.specs.Journal.{is_journal_word, journaled, patched, record_target, record_word}
+use Rattle.disk_places.specs.Journal.{journaled, patched, record_target, record_word}
 use Rattle.disk_places.specs.PlaceLaws.{journaled_bounds, journaled-below_log}
 use Rattle.disk_places.specs.Places.{Geometry, IsGeometry, commit_word, state_line, inode_line, record_line, log_line, is_journaled_line}
 use Rattle.k_journal.specs.Patches.{find_target, patched-miss, patched-hit, patched-same, patched-last, patched-skip}
@@ -50,19 +50,21 @@ replayed-more n old mid new h apart replayed others done i =
     let target : record_target (words_of mid) n ≡ record_target w n = record_target-kept n old mid h apart replayed in
     ⊎_elim
     (λ (at : record_target w n ≡ i / 8).
-        done i (target ∙ at) ∙ ap Single (record_word-kept n old mid i h apart replayed ∙ sym (patched-last n (record_target w) (record_word w) w i at)))
+    done i (target ∙ at) ∙ ap Single (record_word-kept n old mid i h apart replayed ∙ sym (patched-last n (record_target w) (record_word w) w i at)))
     (λ (ne : record_target w n ≢ i / 8).
-        others i (λ e. ne (sym target ∙ e)) ∙ replayed.words i ∙ ap Single (sym (patched-skip n (record_target w) (record_word w) w i ne)))
+    others i (λ e. ne (sym target ∙ e)) ∙ replayed.words i ∙ ap Single (sym (patched-skip n (record_target w) (record_word w) w i ne)))
     (cases_eq (record_target w n) (i / 8))
 
 -- ---- journaled targets
 
 -- the first n records have journaled targets, and so they are apart from the journal and within the device
 pub apart-journaled : (g : Geometry) (n : ℕ) (w : Words) → AreJournaled g n w → AreApart n w
-apart-journaled g n w journaled = record { apart = λ r h. elim (journaled_bounds g (record_target w r) (journaled r h)) [
-  | inl state ↦ inl state
-  | inr region ↦ inr (elim region [ inl inodes ↦ inodes.0 | inr names ↦ omega (arith, names.0) ])
-] }
+apart-journaled g n w journaled = record {
+  apart = λ r h. elim (journaled_bounds g (record_target w r) (journaled r h)) [
+    | inl state ↦ inl state
+    | inr region ↦ inr (elim region [ inl inodes ↦ inodes.0 | inr names ↦ omega (arith, names.0) ])
+  ];
+}
 
 pub within-journaled : (g : Geometry) (n size : ℕ) (w : Words) → IsGeometry g → size ≡ 512 * g.blocks → AreJournaled g n w → (r : ℕ) → r < n → record_target w r < size / 8
 within-journaled g n size w ok blocks journaled r h =
@@ -80,27 +82,27 @@ same_journal : (g : Geometry) (n : ℕ) (w image : Words) → AreJournaled g n w
     → (i : ℕ) → 64 ≤ i / 8 → i / 8 < 320 → image i ≡ w i
 same_journal g n w image journaled same i from below =
     same i (λ e. absurd (omega arith)) (λ r h e. ⊎_elim
-        (λ (state : record_target w r ≡ 2). absurd (omega arith))
-        (λ (region : 320 ≤ record_target w r). absurd (omega arith))
-        ((apart-journaled g n w journaled).apart r h))
+    (λ (state : record_target w r ≡ 2). absurd (omega arith))
+    (λ (region : 320 ≤ record_target w r). absurd (omega arith))
+    ((apart-journaled g n w journaled).apart r h))
 
 pub keeps_view : (g : Geometry) (n : ℕ) (w image : Words) → w commit_word ≡ n → n ≤ 128 → AreJournaled g n w → IsReplayStage n w image → KeepsView g w image
 keeps_view g n w image pending most journaled_targets (Pending count same) =
     let target : (r : ℕ) → r < n → record_target image r ≡ record_target w r = λ r h.
-        same_journal g n w image journaled_targets same (8 * record_line r) (omega arith) (omega arith) in
+    same_journal g n w image journaled_targets same (8 * record_line r) (omega arith) (omega arith) in
     let word : (r i : ℕ) → r < n → record_word image r (i % 8) ≡ record_word w r (i % 8) = λ r i h.
-        same_journal g n w image journaled_targets same (8 * (record_line r + 1) + i % 8) (omega arith) (omega arith) in
+    same_journal g n w image journaled_targets same (8 * (record_line r + 1) + i % 8) (omega arith) (omega arith) in
     record {
       view = same_views (journaled image) (journaled w)
           (λ i journal. journaled-journal image i journal ∙ sym (journaled-journal w i journal))
           (λ i apart. journaled-counted image n i count most apart
-              ∙ patched-same n (record_target image) (record_target w) (record_word image) (record_word w) image i target (λ r h. word r i h)
-              ∙ ⊎_elim
-                  (λ (found : (r : ℕ) × (r < n) × (record_target w r ≡ i / 8)). patched-hit n (record_target w) (record_word w) image w i found.0 found.1 found.2)
-                  (λ (none : (r : ℕ) → r < n → record_target w r ≢ i / 8). patched-miss n (record_target w) (record_word w) image i none
-                      ∙ same i (not_commit_word i apart) none ∙ sym (patched-miss n (record_target w) (record_word w) w i none))
-                  (find_target n (record_target w) (i / 8))
-              ∙ sym (journaled-counted w n i pending most apart));
+          ∙ patched-same n (record_target image) (record_target w) (record_word image) (record_word w) image i target (λ r h. word r i h)
+          ∙ ⊎_elim
+          (λ (found : (r : ℕ) × (r < n) × (record_target w r ≡ i / 8)). patched-hit n (record_target w) (record_word w) image w i found.0 found.1 found.2)
+          (λ (none : (r : ℕ) → r < n → record_target w r ≢ i / 8). patched-miss n (record_target w) (record_word w) image i none
+          ∙ same i (not_commit_word i apart) none ∙ sym (patched-miss n (record_target w) (record_word w) w i none))
+          (find_target n (record_target w) (i / 8))
+          ∙ sym (journaled-counted w n i pending most apart));
       others = λ i other not_count. same i not_count (not_target g n w i journaled_targets other);
       sound = λ sound. record { count = rw count most; targets = λ r h. rw (target r (rw count at h)) (journaled_targets r (rw count at h)) };
     }

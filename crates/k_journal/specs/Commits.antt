@@ -1,5 +1,5 @@
 -- What a commit asks for and what it leaves.
-use Rattle.std.specs.Prelude.{◌≡◌, ◌≢◌, ◌⊎◌, ◌*◌, ◌/◌, ◌<◌, ℕ, true, false, List, length}
+use Rattle.std.specs.Prelude.{◌≡◌, ◌⊎◌, ◌*◌, ◌/◌, ◌<◌, ℕ, true, false, List, length}
 use Rattle.disk_places.specs.Journal.{is_journal_word, journaled, IsSound}
 use Rattle.disk_places.specs.Places.{Geometry, commit_word, is_journaled_line}
 use Rattle.k_journal.specs.Batch.{target, with_batch, AllLines, IsNew}

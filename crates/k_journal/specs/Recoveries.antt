@@ -1,5 +1,5 @@
 -- What a recovery answers and what it leaves.
-use Rattle.std.specs.Prelude.{◌≡◌, ◌≢◌, ◌⊎◌, ◌/◌, ◌<◌, ◌≤◌, ℕ, true, false}
+use Rattle.std.specs.Prelude.{◌≡◌, ◌≢◌, ◌/◌, ◌<◌, ℕ, true, false}
 use Rattle.disk_places.specs.Journal.{journaled, patched, record_target, record_word, is_fault, IsSound}
 use Rattle.disk_places.specs.Places.{Geometry, commit_word, is_journaled_line}
 use Rattle.k_journal.specs.declared.outcomes.Recovered.{Recovered}

@@ -82,10 +82,7 @@ impl Batch {
         ensures meaning { OnOk result ((f : Words) (i : ℕ) → with_batch self.new f i ≡ with_line line bytes (with_batch self.old f) i) }
         ensures lines { (test : ℕ → Bool) → test line ≡ true → AllLines test self.old → AllLines test self.new }
     {
-        let entry = Entry {
-            line,
-            bytes,
-        };
+        let entry = Entry { line, bytes };
         if let Some(place) = place_of(&self.entries, line) {
             self.entries[place] = entry;
             return Ok(());

@@ -5,14 +5,15 @@ ghost use Rattle.k_journal.specs.Batch.{target, with_batch, IsDistinct, IsNew};
 ghost use Rattle.k_journal.specs.Commits.{MayCommit, IsBeforeOrAfter};
 ghost use Rattle.k_journal.specs.Phases.{IsApart, IsRecorded, IsDone, IsStage};
 ghost use Rattle.pm_words.specs.declared.Cell.TheVariants.{Single};
-ghost use Rattle.pm_words.specs.Cells.{cell, is_single, Settles, SameHome};
+ghost use Rattle.pm_words.specs.Cells.{cell, is_single, is_lent, Settles};
 ghost use Rattle.pm_words.specs.Images.{IsImage, Follows, words_of};
 ghost use Rattle.pm_words.specs.Powers.{is_on, Steps};
 ghost use Rattle.pm_words.specs.Words.{Words};
 
 use crate::batches::{Batch, Entry};
 use crate::outcomes::Commit;
-use crate::phases::{put_records, put_targets, set_count};
+use crate::phases::{put_targets, set_count};
+use crate::records::put_records;
 use image_layout::Geometry;
 use pm_lines::{Pm, Power};
 
@@ -22,8 +23,8 @@ fn write_journal(entries: &[Entry], pm: &mut Pm, power: &mut Power)
     requires device { 2560 ≤ length pm.old }
     requires idle { cell pm.old commit_word ≡ Single 0 }
     requires single { (i : ℕ) → i < 2560 → is_single (cell pm.old i) ≡ true }
-    ensures home { SameHome pm.old pm.new }
     ensures size { length pm.new ≡ length pm.old }
+    ensures lent { (i : ℕ) → is_lent (cell pm.new i) ≡ is_lent (cell pm.old i) }
     ensures steps { Steps (11 * length entries.now + 4) power.old power.new }
     ensures others { (i : ℕ) → is_journal_word i ≡ false → Settles (cell pm.old i) (cell pm.new i) }
     ensures each_image { (image : Words) → IsImage pm.new image → (image commit_word ≡ 0) ⊎ ((image commit_word ≡ length entries.now) × IsRecorded entries.now (length entries.now) pm.new) }
@@ -48,8 +49,8 @@ fn apply_journal(entries: &[Entry], pm: &mut Pm, power: &mut Power)
     requires single_lines { (k i : ℕ) → k < length entries.now → i / 8 ≡ target entries.now k → is_single (cell pm.old i) ≡ true }
     requires count { cell pm.old commit_word ≡ Single (length entries.now) }
     requires recorded { IsRecorded entries.now (length entries.now) pm.old }
-    ensures home { SameHome pm.old pm.new }
     ensures size { length pm.new ≡ length pm.old }
+    ensures lent { (i : ℕ) → is_lent (cell pm.new i) ≡ is_lent (cell pm.old i) }
     ensures steps { Steps (9 * length entries.now + 4) power.old power.new }
     ensures others { (i : ℕ) → is_journal_word i ≡ false → IsNew entries.now (i / 8) → Settles (cell pm.old i) (cell pm.new i) }
     ensures recorded { IsRecorded entries.now (length entries.now) pm.new }
@@ -74,8 +75,8 @@ fn commit_entries(entries: &[Entry], pm: &mut Pm, power: &mut Power) -> Commit
     requires idle { cell pm.old commit_word ≡ Single 0 }
     requires single { (i : ℕ) → i < 2560 → is_single (cell pm.old i) ≡ true }
     requires single_lines { (k i : ℕ) → k < length entries.now → i / 8 ≡ target entries.now k → is_single (cell pm.old i) ≡ true }
-    ensures home { SameHome pm.old pm.new }
     ensures size { length pm.new ≡ length pm.old }
+    ensures lent { (i : ℕ) → is_lent (cell pm.new i) ≡ is_lent (cell pm.old i) }
     ensures steps { Steps (20 * length entries.now + 8) power.old power.new }
     ensures done { result ≡ Commit.Done → is_on power.new ≡ true }
     ensures lost { result ≡ Commit.PowerLost → is_on power.new ≡ false }
@@ -90,7 +91,11 @@ fn commit_entries(entries: &[Entry], pm: &mut Pm, power: &mut Power) -> Commit
         return Commit::PowerLost;
     }
     apply_journal(entries, pm, power);
-    if power.on() { Commit::Done } else { Commit::PowerLost }
+    if power.on() {
+        Commit::Done
+    } else {
+        Commit::PowerLost
+    }
 }
 
 /// Sets the batch's lines in one transaction: the records, the commit word, the lines, and then the
@@ -100,8 +105,8 @@ fn commit_entries(entries: &[Entry], pm: &mut Pm, power: &mut Power) -> Commit
 /// `Done` empties the batch; `PowerLost` keeps it.
 pub fn commit(batch: &mut Batch, pm: &mut Pm, geometry: &Geometry, power: &mut Power) -> Commit
     requires ready { is_on power.old ≡ true → MayCommit geometry.now batch.old pm.old }
-    ensures home { SameHome pm.old pm.new }
     ensures size { length pm.new ≡ length pm.old }
+    ensures lent { (i : ℕ) → is_lent (cell pm.new i) ≡ is_lent (cell pm.old i) }
     ensures steps { Steps (32 * length batch.old + 16) power.old power.new }
     ensures done { result ≡ Commit.Done → is_on power.new ≡ true }
     ensures lost { result ≡ Commit.PowerLost → is_on power.new ≡ false }

@@ -3,13 +3,14 @@ ghost use Rattle.disk_places.specs.Journal.{is_journal_word, journaled, patched,
 ghost use Rattle.disk_places.specs.Places.{commit_word, state_line, inode_line, is_journaled_line};
 ghost use Rattle.k_journal.specs.Recoveries.{IsFirstFault, IfBad, IfNotBad, KeepsView, AreJournaled, IsReplayStage};
 ghost use Rattle.pm_words.specs.declared.Cell.TheVariants.{Single};
-ghost use Rattle.pm_words.specs.Cells.{cell, is_single, AllSingle, SameHome};
+ghost use Rattle.pm_words.specs.Cells.{cell, is_single, is_lent, AllHome, AllSingle};
 ghost use Rattle.pm_words.specs.Images.{IsImage, words_of};
 ghost use Rattle.pm_words.specs.Powers.{is_on, Steps};
 ghost use Rattle.pm_words.specs.Words.{Words};
 
 use crate::outcomes::Recovered;
-use crate::phases::{COMMIT_WORD, record_line, set_count};
+use crate::phases::{COMMIT_WORD, set_count};
+use crate::records::record_line;
 use image_layout::Geometry;
 use pm_lines::{Pm, Power};
 
@@ -57,8 +58,8 @@ fn replay_record(index: u32, pm: &mut Pm, power: &mut Power)
     requires device { 2560 ≤ length pm.old }
     requires single { AllSingle pm.old }
     requires target { record_target (words_of pm.old) index < length pm.old / 8 }
-    ensures home { SameHome pm.old pm.new }
     ensures size { length pm.new ≡ length pm.old }
+    ensures lent { (i : ℕ) → is_lent (cell pm.new i) ≡ is_lent (cell pm.old i) }
     ensures steps { Steps 10 power.old power.new }
     ensures others { (i : ℕ) → record_target (words_of pm.old) index ≢ i / 8 → cell pm.new i ≡ cell pm.old i }
     ensures done { is_on power.new ≡ true → (i : ℕ) → record_target (words_of pm.old) index ≡ i / 8 → cell pm.new i ≡ Single (record_word (words_of pm.old) index (i % 8)) }
@@ -76,8 +77,8 @@ fn replay(count: u32, pm: &mut Pm, power: &mut Power)
     requires single { AllSingle pm.old }
     requires within { (r : ℕ) → r < count → record_target (words_of pm.old) r < length pm.old / 8 }
     requires apart { (r : ℕ) → r < count → (record_target (words_of pm.old) r ≡ state_line) ⊎ (inode_line 0 ≤ record_target (words_of pm.old) r) }
-    ensures home { SameHome pm.old pm.new }
     ensures size { length pm.new ≡ length pm.old }
+    ensures lent { (i : ℕ) → is_lent (cell pm.new i) ≡ is_lent (cell pm.old i) }
     ensures steps { Steps (10 * count) power.old power.new }
     ensures others { (i : ℕ) → ((r : ℕ) → r < count → record_target (words_of pm.old) r ≢ i / 8) → cell pm.new i ≡ cell pm.old i }
     ensures done { is_on power.new ≡ true → (i : ℕ) → cell pm.new i ≡ Single (patched count (record_target (words_of pm.old)) (record_word (words_of pm.old)) (words_of pm.old) i) }
@@ -98,8 +99,8 @@ fn recover_records(count: u32, pm: &mut Pm, power: &mut Power) -> Recovered
     requires within { (r : ℕ) → r < count → record_target (words_of pm.old) r < length pm.old / 8 }
     requires apart { (r : ℕ) → r < count → (record_target (words_of pm.old) r ≡ state_line) ⊎ (inode_line 0 ≤ record_target (words_of pm.old) r) }
     requires pending { cell pm.old commit_word ≡ Single count }
-    ensures home { SameHome pm.old pm.new }
     ensures size { length pm.new ≡ length pm.old }
+    ensures lent { (i : ℕ) → is_lent (cell pm.new i) ≡ is_lent (cell pm.old i) }
     ensures steps { Steps (10 * count + 3) power.old power.new }
     ensures not_bad { IfBad result (λ _. ⊥) }
     ensures done { result ≡ Recovered.Done → is_on power.new ≡ true }
@@ -114,7 +115,11 @@ fn recover_records(count: u32, pm: &mut Pm, power: &mut Power) -> Recovered
         return Recovered::PowerLost;
     }
     set_count(0, pm, power);
-    if power.on() { Recovered::Done } else { Recovered::PowerLost }
+    if power.on() {
+        Recovered::Done
+    } else {
+        Recovered::PowerLost
+    }
 }
 
 /// Recovers the journal of a device, so that each committed record stands in its line and the journal
@@ -126,8 +131,8 @@ fn recover_records(count: u32, pm: &mut Pm, power: &mut Power) -> Recovered
 pub fn recover(pm: &mut Pm, geometry: &Geometry, power: &mut Power) -> Recovered
     requires blocks { length pm.old ≡ 512 * geometry.now.blocks }
     requires single { AllSingle pm.old }
-    ensures home { SameHome pm.old pm.new }
     ensures size { length pm.new ≡ length pm.old }
+    ensures home { AllHome pm.new }
     ensures steps { Steps 1283 power.old power.new }
     ensures bad { IfBad result (λ index. IsFirstFault geometry.now (words_of pm.old) index × (pm.new ≡ pm.old) × (power.new ≡ power.old)) }
     ensures checked { IfNotBad result (IsSound geometry.now (words_of pm.old)) }

@@ -1,5 +1,5 @@
 ghost use Rattle.std.specs.Prelude.{◌≡◌, ◌≢◌, ◌+◌, ◌*◌, ◌/◌, ◌%◌, ◌<◌, ◌≤◌, ℕ, true, false, length, IfOk, OnErr};
-ghost use Rattle.pm_words.specs.Cells.{cell, is_single, is_lent, newest, fenced, MayHold, AllHome, SameHome};
+ghost use Rattle.pm_words.specs.Cells.{cell, is_single, is_lent, newest, fenced, MayHold, AllHome};
 ghost use Rattle.pm_words.specs.Cells.{flushed as flushed_cell};
 ghost use Rattle.pm_words.specs.Images.{IsImageOf, words_of};
 ghost use Rattle.pm_words.specs.Parts.{GoesOut, ComesBack};
@@ -117,7 +117,6 @@ impl Pm {
         requires in_device { word < length self.old }
         requires single { is_single (cell self.old word) ≡ true }
         ensures store { StoresWord (is_on power.old) word value self.old self.new }
-        ensures home { SameHome self.old self.new }
         ensures power { power.new ≡ stepped power.old }
         ensures steps { Steps 1 power.old power.new }
     {
@@ -131,7 +130,6 @@ impl Pm {
         requires in_device { line < length self.old / 8 }
         requires home { (i : ℕ) → i / 8 ≡ line → is_lent (cell self.old i) ≡ false }
         ensures flush { FlushesLine (is_on power.old) line self.old self.new }
-        ensures home { SameHome self.old self.new }
         ensures power { power.new ≡ stepped power.old }
         ensures steps { Steps 1 power.old power.new }
     {
@@ -144,7 +142,6 @@ impl Pm {
     /// that were flushed since the last fence.
     pub fn fence(&mut self, power: &mut Power)
         ensures fence { Fences (is_on power.old) self.old self.new }
-        ensures home { SameHome self.old self.new }
         ensures power { power.new ≡ stepped power.old }
         ensures steps { Steps 1 power.old power.new }
     {
@@ -216,8 +213,8 @@ impl Pm {
     pub fn write_line(&mut self, power: &mut Power, line: u64, bytes: &[u8; 64])
         requires in_device { line < length self.old / 8 }
         requires single { (i : ℕ) → i / 8 ≡ line → is_single (cell self.old i) ≡ true }
-        ensures home { SameHome self.old self.new }
         ensures size { length self.new ≡ length self.old }
+        ensures lent { (i : ℕ) → is_lent (cell self.new i) ≡ is_lent (cell self.old i) }
         ensures others { (i : ℕ) → i / 8 ≢ line → cell self.new i ≡ cell self.old i }
         ensures steps { Steps 9 power.old power.new }
 

@@ -5,7 +5,7 @@ use Rattle.std.proofs.lemmas.Bool.{cases_lt}
 use Rattle.std.proofs.lemmas.List.{get_or_past}
 use Rattle.pm_words.specs.declared.Cell.{Cell}
 use Rattle.pm_words.specs.declared.Cell.TheVariants.{Single, Two, Marked, Lent}
-use Rattle.pm_words.specs.Cells.{cell, is_single, is_lent, newest, oldest, fenced, IsCandidate, Settles}
+use Rattle.pm_words.specs.Cells.{cell, is_single, is_lent, newest, oldest, stored, flushed, fenced, IsCandidate, Settles}
 
 -- past the end of a device
 pub cell-past : (d : List Cell) (i : ℕ) → length d ≤ i → cell d i ≡ Single 0
@@ -24,6 +24,25 @@ single-home (Single a) single = refl
 single-home (Two a b) single = refl
 single-home (Marked a b) single = refl
 single-home Lent single = cc
+
+-- no step of a memory lends a word or takes one back
+pub is_lent-stored : (v : ℕ) (c : Cell) → is_lent (stored v c) ≡ is_lent c
+is_lent-stored v (Single a) = refl
+is_lent-stored v (Two a b) = refl
+is_lent-stored v (Marked a b) = refl
+is_lent-stored v Lent = refl
+
+pub is_lent-flushed : (c : Cell) → is_lent (flushed c) ≡ is_lent c
+is_lent-flushed (Single a) = refl
+is_lent-flushed (Two a b) = refl
+is_lent-flushed (Marked a b) = refl
+is_lent-flushed Lent = refl
+
+pub is_lent-fenced : (c : Cell) → is_lent (fenced c) ≡ is_lent c
+is_lent-fenced (Single a) = refl
+is_lent-fenced (Two a b) = refl
+is_lent-fenced (Marked a b) = refl
+is_lent-fenced Lent = refl
 
 -- the candidate of a word that has one is what a read gives
 pub candidate-single : (c : Cell) (v : ℕ) → is_single c ≡ true → IsCandidate c v → v ≡ newest c

@@ -95,7 +95,3 @@ AllHome d = (i : ℕ) → is_lent (cell d i) ≡ false
 -- each word of the device has one candidate
 abbrev pub AllSingle : List Cell → Type 0
 AllSingle d = (i : ℕ) → is_single (cell d i) ≡ true
-
--- the same words are lent in both devices
-abbrev pub SameHome : List Cell → List Cell → Type 0
-SameHome old new = (i : ℕ) → is_lent (cell new i) ≡ is_lent (cell old i)

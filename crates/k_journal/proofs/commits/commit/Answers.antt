@@ -1,8 +1,5 @@
-use Rattle.std.proofs.Common.{◌≡◌, ◌≤◌, true, length, rules}
-use Rattle.k_journal.specs.Batch.{IsDistinct}
-use Rattle.k_journal.specs.Commits.{MayCommit}
+use Rattle.std.proofs.Common.{◌≡◌, true, rules}
 use Rattle.k_journal.specs.Phases.{IsStage}
-use Rattle.k_journal.specs.declared.outcomes.Commit.TheVariants.{Done}
 use Rattle.pm_words.specs.Images.{IsImage}
 use Rattle.pm_words.specs.Powers.{is_on}
 use Rattle.pm_words.specs.Words.{Words}
@@ -18,7 +15,7 @@ returns-then-eq-clause-each_image c =
     let on : is_on c.args.power.now ≡ true = search rules in
     let framed : IsFramed batch c.args.pm.now c.commit_entries-outcome.new.pm = record { frame = rw c.entries.ensures.entries at c.commit_entries-outcome.ensures.others } in
     let stages : (image : Words) → IsImage c.commit_entries-outcome.new.pm image → IsStage batch c.args.pm.now c.commit_entries-outcome.new.pm image =
-        rw c.entries.ensures.entries at c.commit_entries-outcome.ensures.each_image in
+    rw c.entries.ensures.entries at c.commit_entries-outcome.ensures.each_image in
     follows c.args.geometry.now batch c.args.pm.now c.commit_entries-outcome.new.pm (c.requires.ready on) framed c.entries.ensures.most c.entries.ensures.distinct stages
 
 pub returns-then-eq-clause-words : goal.returns-then-eq-clause-words
@@ -33,5 +30,5 @@ returns-else-eq-clause-each_image c =
     let on : is_on c.args.power.now ≡ true = search rules in
     let framed : IsFramed batch c.args.pm.now c.commit_entries-outcome.new.pm = record { frame = rw c.entries.ensures.entries at c.commit_entries-outcome.ensures.others } in
     let stages : (image : Words) → IsImage c.commit_entries-outcome.new.pm image → IsStage batch c.args.pm.now c.commit_entries-outcome.new.pm image =
-        rw c.entries.ensures.entries at c.commit_entries-outcome.ensures.each_image in
+    rw c.entries.ensures.entries at c.commit_entries-outcome.ensures.each_image in
     follows c.args.geometry.now batch c.args.pm.now c.commit_entries-outcome.new.pm (c.requires.ready on) framed c.entries.ensures.most c.entries.ensures.distinct stages

@@ -1,4 +1,4 @@
-use Rattle.std.proofs.Common.{◌≡◌, ◌≤◌, ◌<◌, ℕ, true, refl, sym, ◌∙◌, ap, arith, rules}
+use Rattle.std.proofs.Common.{◌≡◌, true, refl, sym, ◌∙◌, ap, arith, rules}
 use Rattle.std.proofs.lemmas.Grind.{common_steps}
 use Rattle.disk_places.specs.Journal.{record_target, record_word}
 use Rattle.k_journal.specs.Patches.{patched-none}
@@ -16,7 +16,7 @@ loop-index-init c =
     let w = words_of c.args.pm.now in
     record {
       size = refl;
-      home = λ i. refl;
+      lent = λ i. refl;
       steps = Steps-none c.args.power.now;
       others = λ i none. refl;
       done = λ on i. single-newest (cell c.args.pm.now i) (c.requires.single i) ∙ ap Single (sym (patched-none (record_target w) (record_word w) w i));
@@ -33,7 +33,7 @@ loop-index-preserved c =
     let target : record_target (words_of mid) n ≡ record_target (words_of old) n = record_target-kept n old mid (omega arith) apart replayed in
     record {
       size = c.replay_record.ensures.size ∙ c.loop-index.invariant.size;
-      home = λ i. c.replay_record.ensures.home i ∙ c.loop-index.invariant.home i;
+      lent = λ i. c.replay_record.ensures.lent i ∙ c.loop-index.invariant.lent i;
       steps = grind (arith, common_steps);
       others = λ i none. c.replay_record.ensures.others i (λ e. none n (omega arith) (sym target ∙ e)) ∙ c.loop-index.invariant.others i (λ r h. none r (omega arith));
       done = λ still. replayed-more n old mid c.replay_record.new.pm (omega arith) apart replayed c.replay_record.ensures.others (c.replay_record.ensures.done still);

@@ -13,5 +13,5 @@ returns-clause-done c done =
 pub returns-clause-lost : goal.returns-clause-lost
 returns-clause-lost c =
     may_show_more c.args.pm.now c.commit.new.pm c.args.made.now c.args.line.now.name c.put_directory.new.batch
-    c.requires.at_rest c.put_directory.ensures c.commit.ensures.size c.commit.ensures.home
+    c.requires.at_rest c.put_directory.ensures c.commit.ensures.size c.commit.ensures.lent
     (subst (λ g. Follows (IsBeforeOrAfter g c.put_directory.new.batch) c.args.pm.now c.commit.new.pm) c.requires.geometry c.commit.ensures.each_image)

@@ -1,6 +1,6 @@
 use Rattle.std.proofs.Common.{◌≡◌, ◌≢◌, ◌/◌, ◌%◌, ◌<◌, ◌≤◌, ℕ, true, false, length}
 use Rattle.pm_words.specs.declared.Cell.TheVariants.{Single}
-use Rattle.pm_words.specs.Cells.{cell, is_lent, flushed, fenced, MayHold, SameHome}
+use Rattle.pm_words.specs.Cells.{cell, is_lent, flushed, fenced, MayHold}
 use Rattle.pm_words.specs.Powers.{is_on, Steps}
 use Rattle.pm_words.specs.Words.{word_at}
 use Rattle.pm_lines.proofs.devices.Pm.write_line.Given as goal
@@ -12,7 +12,7 @@ invariant-loop-k l = record {
   steps : Steps l.k l.fn.power l.power;
   others : (i : ℕ) → i / 8 ≢ l.line → cell l.self i ≡ cell l.fn.self i;
   later : (i : ℕ) → i / 8 ≡ l.line → l.k ≤ i % 8 → cell l.self i ≡ cell l.fn.self i;
-  lent : SameHome l.fn.self l.self;
+  lent : (i : ℕ) → is_lent (cell l.self i) ≡ is_lent (cell l.fn.self i);
   home : (i : ℕ) → i / 8 ≡ l.line → is_lent (cell l.self i) ≡ false;
   torn : (i : ℕ) → i / 8 ≡ l.line → MayHold (cell l.fn.self i) (word_at l.bytes (i % 8)) (cell l.self i);
   done : is_on l.power ≡ true → (i : ℕ) → i / 8 ≡ l.line → i % 8 < l.k → fenced (flushed (cell l.self i)) ≡ Single (word_at l.bytes (i % 8));

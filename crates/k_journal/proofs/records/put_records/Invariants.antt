@@ -2,15 +2,15 @@ use Rattle.std.proofs.Common.{◌≡◌, ◌+◌, ◌*◌, ◌/◌, ◌%◌, ◌
 use Rattle.disk_places.specs.Places.{record_line}
 use Rattle.k_journal.specs.Batch.{target, content}
 use Rattle.pm_words.specs.declared.Cell.TheVariants.{Single}
-use Rattle.pm_words.specs.Cells.{cell, is_single, fenced, SameHome}
+use Rattle.pm_words.specs.Cells.{cell, is_single, is_lent, fenced}
 use Rattle.pm_words.specs.Powers.{is_on, Steps}
-use Rattle.k_journal.proofs.phases.put_records.Given as goal
+use Rattle.k_journal.proofs.records.put_records.Given as goal
 
 -- the records before `index` are flushed, the words behind them are as they were
 abbrev pub invariant-loop-index : goal.invariant-loop-index
 invariant-loop-index l = record {
   size : length l.pm ≡ length l.fn.pm;
-  home : SameHome l.fn.pm l.pm;
+  lent : (i : ℕ) → is_lent (cell l.pm i) ≡ is_lent (cell l.fn.pm i);
   steps : Steps (11 * l.index) l.fn.power l.power;
   below : (i : ℕ) → i < 512 → cell l.pm i ≡ cell l.fn.pm i;
   later : (i : ℕ) → 512 + 16 * l.index ≤ i → cell l.pm i ≡ cell l.fn.pm i;

@@ -1,5 +1,5 @@
--- Worked rows, by computation over the definitions alone.
-use Rattle.std.proofs.Common.{◌≡◌, ℕ, List, [], ◌∷◌, replicate, refl, true, false, pos, codes}
+-- Worked rows, by computation over the definitions alone: outcomes, trees, and published lengths, which no reply shows.
+use Rattle.std.proofs.Common.{◌≡◌, ℕ, List, [], ◌∷◌, ◌++◌, Some, replicate, refl, true, false, pos, codes}
 use Rattle.posix_types.specs.declared.call.Mode.{Mode}
 use Rattle.posix_types.specs.declared.call.Who.{Who}
 use Rattle.posix_types.specs.declared.call.Call.{Call}
@@ -21,6 +21,8 @@ use Rattle.posix_spec.specs.State.{made, State, swept, unnamed, with_file, with_
 use Rattle.posix_spec.specs.Outcomes.{answer, no_space}
 use Rattle.posix_spec.specs.NameRows.{list_rows, mkdir_rows, open_rows, rename_kind_rows, rename_rows, rmdir_rows, stat_rows, unlink_rows}
 use Rattle.posix_spec.specs.FileRows.{dup_rows, seek_rows, truncate_rows, write_rows}
+use Rattle.posix_words.specs.Nodes.{node_at, published_of}
+use Rattle.posix_spec.specs.Put.{put_by}
 
 -- the outcomes of calls of thread 0, one after another
 abbrev outcomes : State → List Call → List Outcome
@@ -56,18 +58,11 @@ file_f = codes "f" ∷ []
 abbrev write_then_read : List Call
 write_then_read = Call.Open handle_a file_f flags ∷ Call.Write handle_a (codes "hi") ∷ Call.Seek handle_a Whence.Set (pos 0) ∷ Call.Read handle_a 9 ∷ []
 
-write_then_read_back : outcomes default write_then_read ≡ answer (Reply.Fd 0) ∷ answer (Reply.Count 2) ∷ answer (Reply.Offset 0) ∷ answer (Reply.Bytes (codes "hi")) ∷ []
-unfolding with_entry without_entry walk node_at_path height mkdir_rows rmdir_rows unlink_rows rename_kind_rows rename_rows open_rows stat_rows list_rows binding_of key_of opened with_binding with_descriptor with_opened with_offset without_binding closed with_file with_published made unnamed swept dup_rows write_rows seek_rows truncate_rows mkdir_done rmdir_done unlink_done renamed rename_done opening open_done close_done dup_done read_done pread_done written write_done pwrite_done seek_done truncate_done fsync_done stat_done list_done path_to entry_place with_place places
-write_then_read_back = refl
+abbrev handle_b : Handle
+handle_b = record { len = 1; bytes = 98 ∷ 0 ∷ 0 ∷ 0 ∷ 0 ∷ 0 ∷ 0 ∷ 0 ∷ [] }
 
-write_then_read_tree : tree (after default write_then_read) ≡ record { path = []; node = TreeNode.Directory } ∷ record { path = file_f; node = TreeNode.File (codes "hi") } ∷ []
-unfolding with_entry without_entry walk node_at_path height mkdir_rows rmdir_rows unlink_rows rename_kind_rows rename_rows open_rows stat_rows list_rows binding_of key_of opened with_binding with_descriptor with_opened with_offset without_binding closed with_file with_published made unnamed swept dup_rows write_rows seek_rows truncate_rows mkdir_done rmdir_done unlink_done renamed rename_done opening open_done close_done dup_done read_done pread_done written write_done pwrite_done seek_done truncate_done fsync_done stat_done list_done path_to entry_place with_place places
-write_then_read_tree = refl
-
-no_room_for_a_second_file : outcomes small (Call.Open handle_a file_f flags ∷ Call.Write handle_a (replicate 131072 120) ∷ Call.Write handle_a (replicate 131072 120) ∷ [])
-    ≡ answer (Reply.Fd 0) ∷ answer (Reply.Count 131072) ∷ no_space What.Blocks 32 19 ∷ []
-unfolding with_entry without_entry walk node_at_path height mkdir_rows rmdir_rows unlink_rows rename_kind_rows rename_rows open_rows stat_rows list_rows binding_of key_of opened with_binding with_descriptor with_opened with_offset without_binding closed with_file with_published made unnamed swept dup_rows write_rows seek_rows truncate_rows mkdir_done rmdir_done unlink_done renamed rename_done opening open_done close_done dup_done read_done pread_done written write_done pwrite_done seek_done truncate_done fsync_done stat_done list_done path_to entry_place with_place places
-no_room_for_a_second_file = refl
+abbrev cutting : Flags
+cutting = record { read = true; write = true; append = false; create = false; exclusive = false; truncate = true }
 
 abbrev path_a : List (List ℕ)
 path_a = codes "a" ∷ []
@@ -81,7 +76,45 @@ path_abc = codes "a" ∷ codes "b" ∷ codes "c" ∷ []
 abbrev path_x : List (List ℕ)
 path_x = codes "x" ∷ []
 
-rename_below_itself_and_away : outcomes default (Call.Mkdir path_a ∷ Call.Mkdir path_ab ∷ Call.Rename path_a path_abc ∷ Call.Rename path_ab path_x ∷ Call.Rmdir path_a ∷ Call.List [] ∷ [])
-    ≡ answer Reply.Ok ∷ answer Reply.Ok ∷ answer (Reply.Error Errno.EINVAL) ∷ answer Reply.Ok ∷ answer Reply.Ok ∷ answer (Reply.Names (codes "x" ∷ [])) ∷ []
-unfolding with_entry without_entry walk node_at_path height mkdir_rows rmdir_rows unlink_rows rename_kind_rows rename_rows open_rows stat_rows list_rows binding_of key_of opened with_binding with_descriptor with_opened with_offset without_binding closed with_file with_published made unnamed swept dup_rows write_rows seek_rows truncate_rows mkdir_done rmdir_done unlink_done renamed rename_done opening open_done close_done dup_done read_done pread_done written write_done pwrite_done seek_done truncate_done fsync_done stat_done list_done path_to entry_place with_place places
-rename_below_itself_and_away = refl
+-- the published length of the first node made, after calls
+abbrev published_after : List Call → ℕ
+published_after calls = published_of (node_at (after default calls).nodes 1)
+
+-- open a /f rwc, write a 6869
+abbrev two_bytes : List Call
+two_bytes = Call.Open handle_a file_f flags ∷ Call.Write handle_a (codes "hi") ∷ []
+
+record WorkedRows : Type 0 where
+  write_then_read_back : outcomes default write_then_read ≡ answer (Reply.Fd 0) ∷ answer (Reply.Count 2) ∷ answer (Reply.Offset 0) ∷ answer (Reply.Bytes (codes "hi")) ∷ []
+  write_then_read_tree : tree (after default write_then_read) ≡ record { path = []; node = TreeNode.Directory } ∷ record { path = file_f; node = TreeNode.File (codes "hi") } ∷ []
+  no_room_for_a_second_file : outcomes small (Call.Open handle_a file_f flags ∷ Call.Write handle_a (replicate 131072 120) ∷ Call.Write handle_a (replicate 131072 120) ∷ [])
+      ≡ answer (Reply.Fd 0) ∷ answer (Reply.Count 131072) ∷ no_space What.Blocks 32 19 ∷ []
+  rename_below_itself_and_away : outcomes default (Call.Mkdir path_a ∷ Call.Mkdir path_ab ∷ Call.Rename path_a path_abc ∷ Call.Rename path_ab path_x ∷ Call.Rmdir path_a ∷ Call.List [] ∷ [])
+      ≡ answer Reply.Ok ∷ answer Reply.Ok ∷ answer (Reply.Error Errno.EINVAL) ∷ answer Reply.Ok ∷ answer Reply.Ok ∷ answer (Reply.Names (codes "x" ∷ [])) ∷ []
+  root_alone : tree default ≡ root
+  published_by_creation : published_after (Call.Open handle_a file_f flags ∷ []) ≡ 0
+  not_published_by_write : published_after two_bytes ≡ 0
+  published_by_fsync : published_after (two_bytes ++ Call.Fsync handle_a ∷ Call.Write handle_a (codes "!") ∷ []) ≡ 2
+  published_by_close : published_after (two_bytes ++ Call.Close handle_a ∷ []) ≡ 2
+  published_by_close_of_a_duplicate : published_after (two_bytes ++ Call.Dup handle_a handle_b ∷ Call.Close handle_b ∷ []) ≡ 2
+  published_by_truncate : published_after (two_bytes ++ Call.Truncate handle_a 5 ∷ []) ≡ 5
+  published_by_open_with_t : published_after (two_bytes ++ Call.Fsync handle_a ∷ Call.Open handle_b file_f cutting ∷ []) ≡ 0
+  put_by_a_write : put_by (after default (Call.Open handle_a file_f flags ∷ [])) (Who.Thread 0) (Call.Write handle_a (codes "hi")) ≡ Some (record { node = 1; place = 0; bytes = codes "hi" })
+
+worked_rows : WorkedRows
+unfolding with_entry without_entry walk node_at_path height mkdir_rows rmdir_rows unlink_rows rename_kind_rows rename_rows open_rows stat_rows list_rows binding_of key_of opened with_binding with_descriptor with_opened with_offset without_binding closed with_file with_published made unnamed swept dup_rows write_rows seek_rows truncate_rows mkdir_done rmdir_done unlink_done renamed rename_done opening open_done close_done dup_done read_done pread_done written write_done pwrite_done seek_done truncate_done fsync_done stat_done list_done path_to entry_place with_place places put_by
+worked_rows = record {
+  write_then_read_back = refl;
+  write_then_read_tree = refl;
+  no_room_for_a_second_file = refl;
+  rename_below_itself_and_away = refl;
+  root_alone = refl;
+  published_by_creation = refl;
+  not_published_by_write = refl;
+  published_by_fsync = refl;
+  published_by_close = refl;
+  published_by_close_of_a_duplicate = refl;
+  published_by_truncate = refl;
+  published_by_open_with_t = refl;
+  put_by_a_write = refl;
+}

@@ -1,8 +1,7 @@
 //! The plain program: a state from a tree, the meaning of a call, and the tree of a state.
-ghost use Rattle.std.specs.Prelude.{◌≡◌, ◌∷◌, [], IfOk, OnOk, OnErr};
+ghost use Rattle.std.specs.Prelude.{◌≡◌, IfOk, OnOk, OnErr};
 ghost use Rattle.posix_spec.specs.Tree.{bare, planted, start, tree};
 ghost use Rattle.posix_spec.specs.Step.{step};
-ghost use Rattle.posix_spec.specs.State.{made};
 
 use crate::state::State;
 use posix_types::{Call, Mode, Outcome, Shape, Tree, TreeEntry, Who};

@@ -1,6 +1,6 @@
 //! The calls that take a handle: the rows of each, and what its last row does.
 ghost use Rattle.std.specs.Prelude.{◌≡◌, ◌+◌, ◌≤◌, ◌<◌, ◌^◌, IfOk, IfNone, OnErr, is_none, length, unwrap_or};
-ghost use Rattle.posix_words.specs.Open.{key_of, may_read, may_write, opened, with_offset};
+ghost use Rattle.posix_words.specs.Open.{key_of, may_read, may_write, opened};
 ghost use Rattle.posix_spec.specs.Step.{close_done, dup_done, fsync_done, moved_offset, pread_done, pwrite_done, read_done, seek_done, stepped, truncate_done, write_done, written};
 ghost use Rattle.posix_spec.specs.Outcomes.{first};
 ghost use Rattle.posix_spec.specs.FileRows.{appends, close_rows, content, dup_rows, file_number, fsync_rows, no_blocks, offset_of, read_rows, seek_base, seek_rows, seek_target, truncate_rows, write_rows, write_start};
@@ -303,16 +303,16 @@ impl State {
         &mut self,
         who: Who,
         handle: Handle,
-        start: u64,
+        place: u64,
         bytes: &[u8],
     ) -> Result<Outcome, AllocError>
-        ensures ok { IfOk result (λ outcome. record { state = self.new; outcome = outcome } ≡ stepped self.old (first (write_rows self.old who handle start bytes.now)) (pwrite_done self.old who handle start bytes.now)) }
+        ensures ok { IfOk result (λ outcome. record { state = self.new; outcome = outcome } ≡ stepped self.old (first (write_rows self.old who handle place bytes.now)) (pwrite_done self.old who handle place bytes.now)) }
         ensures err { OnErr result (self.new ≡ self.old) }
     {
-        if let Some(outcome) = self.write_rows(who, handle, start, bytes) {
+        if let Some(outcome) = self.write_rows(who, handle, place, bytes) {
             return Ok(outcome);
         }
-        self.put_bytes(who, handle, start, bytes)?;
+        self.put_bytes(who, handle, place, bytes)?;
         Ok(answer(Reply::Count(bytes.len() as u64)))
     }
 
@@ -414,8 +414,8 @@ impl State {
         if let Some(outcome) = self.fsync_rows(who, handle) {
             return outcome;
         }
-        let file = self.file_number(who, handle);
-        self.publish(file);
+        let number = self.file_number(who, handle);
+        self.publish(number);
         answer(Reply::Ok)
     }
 }

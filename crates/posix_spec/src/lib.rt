@@ -1,4 +1,15 @@
-//! The meaning of every file call.
+//! The meaning of every file call, as a definition to be read and as a plain program.
+//!
+//! `specs/Step.antt` is the definition: a state of plain lists, and for each of the sixteen calls its
+//! rows in the order in which they are tried (`NameRows`, `FileRows`), of which the first that fits
+//! answers and changes nothing, and else what the call does. Runs and legal histories (`Run`), the
+//! tree of a state and the state of a tree (`Tree`), what a write puts (`Put`), histories that follow
+//! scripts (`Scripted`), the strict crash relation (`Strict`) and the bounds on steps (`Afforded`)
+//! stand on it.
+//!
+//! The layer above may rely on this: `State::open` is `start`, `State::apply` is `step` or is refused
+//! memory and leaves the state as it was, and `State::tree` is `tree`. It is slow and plain.
+//! Stands on `posix_words` and `posix_types`, whose types it hands on.
 #![tactic(auto)]
 
 mod apply;

@@ -1,5 +1,5 @@
 //! The state of a file system that the calls see.
-ghost use Rattle.std.specs.Prelude.{◌≡◌, ◌++◌, ◌==◌, [], ◌∷◌, IfOk, length, slice_set};
+ghost use Rattle.std.specs.Prelude.{◌≡◌, ◌==◌, IfOk};
 ghost use Rattle.posix_words.specs.Names.{directory_stands, exists_at, file_stands, longest_name, node_at_path, number_at, parent_at, too_long, walk};
 ghost use Rattle.posix_spec.specs.State.{made, room, space, swept, unnamed, with_file, with_node, with_published};
 ghost use Rattle.posix_spec.specs.NameRows.{no_line, no_node};

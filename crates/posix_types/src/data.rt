@@ -1,6 +1,7 @@
 //! The bytes of a file, of a write or of a read.
-ghost use Rattle.std.specs.Prelude.{◌≡◌, List, ℕ, nat_eq};
-ghost use Rattle.std.specs.Cmp.Lexicographic.{pointwise, nat_list_eq_equiv};
+ghost use Rattle.std.specs.Prelude.{◌≡◌, ◌↔◌, IsTrue, List, ℕ};
+ghost use Rattle.std.specs.Cmp.Lexicographic.{nat_list_eq_equiv};
+ghost use Rattle.posix_types.specs.SameNames.{same_bytes};
 ghost use Rattle.std.specs.Cmp.{partial_equiv_from_equiv};
 
 use std::alloc::AllocError;
@@ -28,11 +29,14 @@ impl Clone for Data {
 }
 
 impl PartialEq for Data {
-    ghost eq = { pointwise nat_eq };
+    ghost eq = { same_bytes };
 
     ghost laws = { partial_equiv_from_equiv nat_list_eq_equiv };
 
-    fn eq(&self, other: &Data) -> bool {
+    fn eq(&self, other: &Data) -> bool
+        ensures value { result ≡ same_bytes self.now other.now }
+        ensures exact { IsTrue result ↔ (self.now ≡ other.now) }
+    {
         self.bytes == other.bytes
     }
 }

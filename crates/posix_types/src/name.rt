@@ -1,6 +1,7 @@
 //! Names, lists of names, and paths.
-ghost use Rattle.std.specs.Prelude.{◌≡◌, List, ℕ, nat_eq};
-ghost use Rattle.std.specs.Cmp.Lexicographic.{pointwise, lists_equiv, nat_list_eq_equiv};
+ghost use Rattle.std.specs.Prelude.{◌≡◌, ◌↔◌, IsTrue, List, ℕ};
+ghost use Rattle.std.specs.Cmp.Lexicographic.{lists_equiv, nat_list_eq_equiv};
+ghost use Rattle.posix_types.specs.SameNames.{same_bytes, same_names};
 ghost use Rattle.std.specs.Cmp.{partial_equiv_from_equiv};
 
 use std::alloc::AllocError;
@@ -28,11 +29,14 @@ impl Clone for Name {
 }
 
 impl PartialEq for Name {
-    ghost eq = { pointwise nat_eq };
+    ghost eq = { same_bytes };
 
     ghost laws = { partial_equiv_from_equiv nat_list_eq_equiv };
 
-    fn eq(&self, other: &Name) -> bool {
+    fn eq(&self, other: &Name) -> bool
+        ensures value { result ≡ same_bytes self.now other.now }
+        ensures exact { IsTrue result ↔ (self.now ≡ other.now) }
+    {
         self.bytes == other.bytes
     }
 }
@@ -63,11 +67,14 @@ impl Clone for Path {
 }
 
 impl PartialEq for Path {
-    ghost eq = { pointwise (pointwise nat_eq) };
+    ghost eq = { same_names };
 
     ghost laws = { partial_equiv_from_equiv (lists_equiv nat_list_eq_equiv) };
 
-    fn eq(&self, other: &Path) -> bool {
+    fn eq(&self, other: &Path) -> bool
+        ensures value { result ≡ same_names self.now other.now }
+        ensures exact { IsTrue result ↔ (self.now ≡ other.now) }
+    {
         self.names == other.names
     }
 }
@@ -98,11 +105,14 @@ impl Clone for NameList {
 }
 
 impl PartialEq for NameList {
-    ghost eq = { pointwise (pointwise nat_eq) };
+    ghost eq = { same_names };
 
     ghost laws = { partial_equiv_from_equiv (lists_equiv nat_list_eq_equiv) };
 
-    fn eq(&self, other: &NameList) -> bool {
+    fn eq(&self, other: &NameList) -> bool
+        ensures value { result ≡ same_names self.now other.now }
+        ensures exact { IsTrue result ↔ (self.now ≡ other.now) }
+    {
         self.names == other.names
     }
 }

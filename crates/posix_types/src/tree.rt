@@ -1,5 +1,6 @@
 //! The tree of a file system.
-ghost use Rattle.std.specs.Prelude.{◌≡◌};
+ghost use Rattle.std.specs.Prelude.{◌≡◌, ◌↔◌, IsTrue};
+ghost use Rattle.std.specs.Cmp.{partial_equiv_from_equiv};
 
 use crate::data::Data;
 use crate::name::Path;
@@ -7,7 +8,7 @@ use std::alloc::AllocError;
 use std::marker::Model;
 
 /// What stands at a path: a directory, or a file with its bytes.
-#[derive(Debug, Drop, PartialEq, Eq)]
+#[derive(Debug, Drop)]
 pub enum TreeNode {
     Directory,
     File(Data),
@@ -24,8 +25,35 @@ impl Clone for TreeNode {
     }
 }
 
+impl PartialEq for TreeNode {
+    ghost use Rattle.posix_types.specs.SameNames.{equivalence};
+    ghost use Rattle.posix_types.specs.SameTrees.{node_decides, same_node};
+
+    ghost eq = { same_node };
+
+    ghost laws = { partial_equiv_from_equiv (equivalence node_decides) };
+
+    fn eq(&self, other: &TreeNode) -> bool
+        ensures value { result ≡ same_node self.now other.now }
+        ensures exact { IsTrue result ↔ (self.now ≡ other.now) }
+    {
+        match (self, other) {
+            (TreeNode::Directory, TreeNode::Directory) => true,
+            (TreeNode::File(a), TreeNode::File(b)) => a == b,
+            _ => false,
+        }
+    }
+}
+
+impl Eq for TreeNode {
+    ghost use Rattle.posix_types.specs.SameNames.{equivalence};
+    ghost use Rattle.posix_types.specs.SameTrees.{node_decides};
+
+    ghost laws = { equivalence node_decides };
+}
+
 /// A path of a tree, and what stands there.
-#[derive(Debug, Drop, PartialEq, Eq)]
+#[derive(Debug, Drop)]
 pub struct TreeEntry {
     pub path: Path,
     pub node: TreeNode,
@@ -39,6 +67,29 @@ impl Clone for TreeEntry {
         let node = self.node.clone()?;
         Ok(TreeEntry { path, node })
     }
+}
+
+impl PartialEq for TreeEntry {
+    ghost use Rattle.posix_types.specs.SameNames.{equivalence};
+    ghost use Rattle.posix_types.specs.SameTrees.{entry_decides, same_entry};
+
+    ghost eq = { same_entry };
+
+    ghost laws = { partial_equiv_from_equiv (equivalence entry_decides) };
+
+    fn eq(&self, other: &TreeEntry) -> bool
+        ensures value { result ≡ same_entry self.now other.now }
+        ensures exact { IsTrue result ↔ (self.now ≡ other.now) }
+    {
+        self.path == other.path && self.node == other.node
+    }
+}
+
+impl Eq for TreeEntry {
+    ghost use Rattle.posix_types.specs.SameNames.{equivalence};
+    ghost use Rattle.posix_types.specs.SameTrees.{entry_decides};
+
+    ghost laws = { equivalence entry_decides };
 }
 
 /// All paths of a file system with what stands there, in the byte order of the printed paths, the
@@ -64,4 +115,27 @@ impl Clone for Tree {
         let entries = self.entries.clone()?;
         Ok(Tree { entries })
     }
+}
+
+impl PartialEq for Tree {
+    ghost use Rattle.posix_types.specs.SameNames.{equivalence};
+    ghost use Rattle.posix_types.specs.SameTrees.{tree_decides, same_tree};
+
+    ghost eq = { same_tree };
+
+    ghost laws = { partial_equiv_from_equiv (equivalence tree_decides) };
+
+    fn eq(&self, other: &Tree) -> bool
+        ensures value { result ≡ same_tree self.now other.now }
+        ensures exact { IsTrue result ↔ (self.now ≡ other.now) }
+    {
+        self.entries == other.entries
+    }
+}
+
+impl Eq for Tree {
+    ghost use Rattle.posix_types.specs.SameNames.{equivalence};
+    ghost use Rattle.posix_types.specs.SameTrees.{tree_decides};
+
+    ghost laws = { equivalence tree_decides };
 }

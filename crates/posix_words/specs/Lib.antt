@@ -4,3 +4,4 @@ pub mod Room
 pub mod Open
 pub mod Bytes
 pub mod Places
+pub mod Lookups

@@ -1,5 +1,5 @@
 -- Room: how many blocks files hold, and how many are left. Lengths are in bytes, the rest is in blocks.
-use Rattle.std.specs.Prelude.{ℕ, ◌+◌, ◌-◌, ◌/◌, min, max, List, [], length, sum_by}
+use Rattle.std.specs.Prelude.{ℕ, ◌+◌, ◌-◌, ◌/◌, min, max, List, length, sum_by}
 use Rattle.std.specs.Int.{div_ceil}
 use Rattle.posix_types.specs.declared.call.Mode.{Mode}
 use Rattle.posix_words.specs.declared.nodes.Node.{Node}

@@ -1,5 +1,5 @@
 //! Words over the bytes of a file.
-ghost use Rattle.std.specs.Prelude.{◌≡◌, ◌+◌, ◌<◌, ◌≤◌, ◌++◌, ◌^◌, IfOk, IfSome, drop, length, nat_lt, take};
+ghost use Rattle.std.specs.Prelude.{◌≡◌, ◌+◌, ◌<◌, ◌^◌, IfOk, drop, length, nat_lt, take};
 ghost use Rattle.posix_words.specs.Bytes.{bytes_from, moved_place, overwritten, resized, within_limit};
 
 use posix_types::Data;

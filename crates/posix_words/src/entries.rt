@@ -1,5 +1,5 @@
 //! Words over directory entries and paths.
-ghost use Rattle.std.specs.Prelude.{◌≡◌, ◌+◌, ◌-◌, ◌==◌, ◌^◌, ◌<◌, ◌≤◌, length, nat_lt, position, unwrap_or, IfOk, OnErr};
+ghost use Rattle.std.specs.Prelude.{◌≡◌, ◌+◌, ◌-◌, ◌==◌, ◌<◌, ◌≤◌, length, nat_lt, position, unwrap_or, IfOk, OnErr, OnOk};
 ghost use Rattle.std.specs.List.{list_any};
 ghost use Rattle.posix_words.specs.Names.{bytes_before, child_of, comes_before, directory_path, has_entries, height, is_below, is_entry, is_named, is_root, last_name, names_in, same_name, too_long, with_entry, without_entry};
 
@@ -26,18 +26,21 @@ pub fn child_of(entries: &[DirEntry], parent: usize, name: &[u8]) -> Option<usiz
         .map(|entry| entry.child)
 }
 
+/// Whether a directory has entries.
 pub fn has_entries(entries: &[DirEntry], parent: usize) -> bool
     ensures { result ≡ has_entries entries.now parent }
 {
     entries.iter().any(|entry| entry.parent == parent)
 }
 
+/// Whether an entry leads to a node.
 pub fn is_named(entries: &[DirEntry], node: usize) -> bool
     ensures { result ≡ is_named entries.now node }
 {
     entries.iter().any(|entry| entry.child == node)
 }
 
+/// Whether a text stands before another in byte order.
 pub fn bytes_before(a: &[u8], b: &[u8]) -> bool
     ensures { result ≡ bytes_before a.now b.now }
 {
@@ -83,7 +86,8 @@ fn insertion_place(entries: &[DirEntry], entry: &DirEntry) -> usize
 /// Puts an entry at its place in the order of the entries.
 #[tactic(auto, unfolding(crate::specs::Names::with_entry))]
 pub fn insert_entry(entries: &mut Vec<DirEntry>, entry: DirEntry) -> Result<(), AllocError>
-    ensures { IfOk result (λ _. entries.new.items ≡ with_entry entries.old.items entry) }
+    ensures ok { OnOk result (entries.new.items ≡ with_entry entries.old.items entry) }
+    ensures err { OnErr result (entries.new.items ≡ entries.old.items) }
 {
     let place = insertion_place(entries, &entry);
     entries.insert(place, entry)?;
@@ -131,6 +135,7 @@ pub fn height(entries: &[DirEntry], most: usize, node: usize) -> usize
     deepest
 }
 
+/// Whether a path is that of the root.
 pub fn is_root(path: &Path) -> bool
     ensures { result ≡ is_root path.now }
 {

@@ -1,5 +1,5 @@
 //! Nodes and their names.
-ghost use Rattle.std.specs.Prelude.{◌≡◌, ◌++◌, [], ◌∷◌, length, count_by, slice_set};
+ghost use Rattle.std.specs.Prelude.{◌≡◌, [], length, count_by, slice_set};
 ghost use Rattle.posix_words.specs.Nodes.{bytes_of, is_directory, is_live, node_at, published_node, published_of};
 
 use posix_types::{Data, Name};
@@ -82,6 +82,7 @@ pub fn count_live(nodes: &[Node]) -> usize
     nodes.iter().filter(|node| is_live(node)).count()
 }
 
+/// Whether a number stands for a directory.
 pub fn is_directory(nodes: &[Node], number: usize) -> bool
     ensures { result ≡ is_directory nodes.now number }
 {

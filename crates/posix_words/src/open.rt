@@ -1,5 +1,5 @@
 //! What is open: descriptions, descriptors and handles.
-ghost use Rattle.std.specs.Prelude.{◌≡◌, ◌++◌, ◌<◌, [], ◌∷◌, Some, None, is_none, IfOk, length, find, position, replicate, unwrap_or, slice_get, slice_set};
+ghost use Rattle.std.specs.Prelude.{◌≡◌, ◌<◌, None, is_none, IfOk, length, find, position, replicate, slice_get};
 ghost use Rattle.std.specs.List.{list_any};
 ghost use Rattle.std.specs.Option.{option_flatten};
 ghost use Rattle.posix_words.specs.Open.{binding_of, closed, describes, description_number, free_descriptor, has_key, is_binding, is_full, is_open, key_of, next_descriptor, nothing_open, opened, same_who, with_binding, with_descriptor, with_offset, with_opened, without_binding, without_unused};

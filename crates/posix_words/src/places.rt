@@ -1,5 +1,5 @@
 //! The tree of a state, and the state of a tree.
-ghost use Rattle.std.specs.Prelude.{◌≡◌, ◌==◌, ◌≤◌, ◌∷◌, [], IfOk, find, flat_map, fold, length, map, option_copied, position, unwrap_or};
+ghost use Rattle.std.specs.Prelude.{◌≡◌, ◌==◌, ◌≤◌, ◌∷◌, [], IfOk, find, flat_map, length, map, option_copied, position, unwrap_or};
 ghost use Rattle.posix_words.specs.Places.{entry_place, node_of, path_to, place_of, places, printed, tree_entry, tree_node, with_place};
 ghost use Rattle.posix_words.specs.Nodes.{node_at};
 ghost use Rattle.posix_words.specs.Names.{bytes_before};

@@ -1,20 +1,22 @@
 //! Room: how many blocks files hold, and how many are left.
-ghost use Rattle.std.specs.Prelude.{◌≡◌, ◌+◌, ◌-◌, ◌^◌, ◌<◌, ◌≤◌, length, sum_by};
+ghost use Rattle.std.specs.Prelude.{◌≡◌, ◌+◌, ◌-◌, ◌^◌, ◌≤◌};
 ghost use Rattle.posix_words.specs.Room.{blocks_of, chain_of, growth, held, held_by_length, reserve_of, staged_below, touched_below, write_need};
-ghost use Rattle.posix_words.specs.Nodes.{bytes_of};
 
 use crate::nodes::{Node, length_of};
 use posix_types::Mode;
 
-/// Bytes of a block.
+/// The bytes of a block.
 pub const BLOCK: u64 = 4096;
+
+/// How many blocks one chain block names.
+const NAMED_BY_CHAIN_BLOCK: u64 = 255;
 
 /// The blocks that so many bytes take.
 fn blocks_of(bytes: u64) -> u64
     ensures value { result ≡ blocks_of bytes }
     ensures bounded { result ≤ 2 ^ 52 }
 {
-    bytes.div_ceil(4096)
+    bytes.div_ceil(BLOCK)
 }
 
 /// The chain blocks that name so many blocks.
@@ -22,7 +24,7 @@ fn chain_of(blocks: u64) -> u64
     ensures value { result ≡ chain_of blocks }
     ensures bounded { result ≤ blocks }
 {
-    blocks.div_ceil(255)
+    blocks.div_ceil(NAMED_BY_CHAIN_BLOCK)
 }
 
 /// The blocks that a file of so many bytes holds, those of its chain included.
@@ -67,7 +69,7 @@ fn touched_below(bytes: u64, start: u64, end: u64) -> u64
 {
     blocks_of(end)
         .min(blocks_of(bytes))
-        .saturating_sub(start / 4096)
+        .saturating_sub(start / BLOCK)
 }
 
 fn staged_below(mode: Mode, bytes: u64, start: u64, end: u64) -> u64

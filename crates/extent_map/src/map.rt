@@ -52,11 +52,10 @@ impl ExtentMap {
     }
 
     /// The same map once more.
-    pub fn copied(&self) -> Result<ExtentMap, AllocError>
+    pub fn copied(&self, alloc: Global) -> Result<ExtentMap, AllocError>
         ensures copy { IfOk result (λ copy. copy ≡ self.now) }
         ensures canonical { IsCanonical self.now }
     {
-        let alloc = *self.extents.allocator();
         Ok(ExtentMap {
             extents: Vec::from_slice(alloc, &self.extents)?,
         })

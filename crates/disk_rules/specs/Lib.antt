@@ -8,3 +8,4 @@ pub mod Names
 pub mod RowLaws
 pub mod TableLaws
 pub mod Tables
+pub mod UpLaws

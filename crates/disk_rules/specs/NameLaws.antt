@@ -1,10 +1,9 @@
 -- Laws of name lines: a line is read as a name exactly where it is the spelling of that name, and as free exactly
 -- where all its bytes are 0.
-use Rattle.std.specs.Prelude.{◌≡◌, ℕ, zero, suc, ◌-◌, ◌<◌, ◌≤◌, ◌^◌, List, [], ◌∷◌, ◌++◌, length, take, drop, slice_index, Bool, true, false, not, ◌&&◌, ◌==◌, if◌then◌else◌, refl}
+use Rattle.std.specs.Prelude.{◌≡◌, ℕ, ◌-◌, ◌<◌, ◌^◌, List, length, true, false, not, ◌&&◌, ◌==◌, refl}
 use Rattle.std.specs.Int.{from_le_bytes, to_le_bytes, w32}
-use Rattle.std.proofs.Common.{arith, ap, sym, ◌∙◌, subst}
-use Rattle.std.proofs.lemmas.Bool.{and_from, and_parts, cond-true, cond-false, cond_both, false_from_ne_true, not-true, eqb-false, both_ways}
-use Rattle.std.proofs.lemmas.Bool.Decides.{nat_tests}
+use Rattle.std.proofs.Common.{ap, sym, ◌∙◌, subst}
+use Rattle.std.proofs.lemmas.Bool.{and_from, and_parts, cond-true, cond-false, cond_both, false_from_ne_true, not-true, eqb-false}
 use Rattle.std.proofs.lemmas.List.{take_at}
 use Rattle.std.proofs.lemmas.Nat.{from_le_bytes-to_le_bytes_4}
 use Rattle.std.proofs.lemmas.Slice.Eq.{bytes_eq-Decides}
@@ -41,10 +40,10 @@ if_named-same r ok =
 not_free : (r : NameRow) → FitsName r → is_name_row r ≡ true → is_same (encode_name r) (zeros 64) ≡ false
 not_free r fits ok =
     false_from_ne_true (is_same (encode_name r) (zeros 64)) (λ same.
-      let equal = (bytes_eq-Decides (encode_name r) (zeros 64)).0 same in
-      let child : r.child ≡ 0 = sym (from_le_bytes-to_le_bytes_4 r.child fits.child) ∙ ap (λ (l : List ℕ). u32_at l 4) equal in
-      let used : (r.child == 0) ≡ false = not-true (r.child == 0) (and_parts (not (r.child == 0)) (is_name r.name) ok).0 in
-      eqb-false r.child 0 used child)
+    let equal = (bytes_eq-Decides (encode_name r) (zeros 64)).0 same in
+    let child : r.child ≡ 0 = sym (from_le_bytes-to_le_bytes_4 r.child fits.child) ∙ ap (λ (l : List ℕ). u32_at l 4) equal in
+    let used : (r.child == 0) ≡ false = not-true (r.child == 0) (and_parts (not (r.child == 0)) (is_name r.name) ok).0 in
+    eqb-false r.child 0 used child)
 
 -- what is spelled is read
 pub decode_name-encode_name : (r : NameRow) → FitsName r → is_name_row r ≡ true → decode_name (encode_name r) ≡ Named r
@@ -81,9 +80,9 @@ named_says bytes =
     let same = is_same bytes (encode_name r) in
     cond_both (is_name_row r && same) (Named r) BadName (Says bytes)
     (λ h.
-      let parts = and_parts (is_name_row r) same h in
-      let spelling = (bytes_eq-Decides bytes (encode_name r)).0 parts.1 in
-      record { fields = parts.0; spelling = spelling; fits = fields_fit bytes spelling })
+    let parts = and_parts (is_name_row r) same h in
+    let spelling = (bytes_eq-Decides bytes (encode_name r)).0 parts.1 in
+    record { fields = parts.0; spelling = spelling; fits = fields_fit bytes spelling })
     (λ _. tt)
 
 read_says : (bytes : List ℕ) → Says bytes (decode_name bytes)

@@ -1,14 +1,11 @@
 -- Laws of look-ups in a table of names.
-use Rattle.std.specs.Prelude.{◌≡◌, ℕ, zero, suc, ◌+◌, ◌<◌, ◌≤◌, List, [], ◌∷◌, length, drop, slice_index_or, Bool, true, false, ◌&&◌, ◌==◌, cond, Option, Some, None, option_and_then, refl}
-use Rattle.std.proofs.Common.{arith, ap, sym, ◌∙◌, subst, get_or}
-use Rattle.std.proofs.lemmas.Bool.{and_parts, and_from, eqb-true, eq-eqb, cond-true, cond-false, both_ways}
-use Rattle.std.proofs.lemmas.List.{at_drop_more, at_drop_all, get_or_past}
-use Rattle.std.proofs.lemmas.Option.{option_and_then_some, same_Some}
-use Rattle.std.proofs.lemmas.Slice.Eq.{bytes_eq-Decides}
-use Rattle.disk_places.specs.Fields.{is_same}
+use Rattle.std.specs.Prelude.{◌≡◌, ℕ, zero, suc, ◌+◌, ◌<◌, ◌≤◌, [], ◌∷◌, length, drop, Bool, true, false, cond, Option, Some, None, refl}
+use Rattle.std.proofs.Common.{arith, ap, ◌∙◌, subst}
+use Rattle.std.proofs.lemmas.Bool.{cond-true, cond-false}
+use Rattle.std.proofs.lemmas.List.{at_drop_more, at_drop_all}
 use Rattle.disk_rules.specs.Lines.{NameRow}
-use Rattle.disk_rules.specs.Names.{Rows, row, is_entry, is_child, child_of_row, parent_of_row, first_row_from, line_and_child, find_name, child_named, parent_of}
-use Rattle.disk_rules.specs.Tables.{IsKeyed, IsFirstRow, Names}
+use Rattle.disk_rules.specs.Names.{Rows, row, first_row_from}
+use Rattle.disk_rules.specs.Tables.{IsFirstRow}
 
 -- The steps of a loop over the lines: at line i the answer of the whole is that of the lines from i on.
 pub first_row_from-start : (test : Option NameRow → Bool) (rows : Rows) → first_row_from test 0 (drop 0 rows) ≡ first_row_from test 0 rows

@@ -1,6 +1,6 @@
 -- Laws of the names in a table that has one line for each parent and name, and in which no path leads back: going up
 -- is going back along a path, and no path is longer than the table.
-use Rattle.std.specs.Prelude.{◌≡◌, ◌≢◌, ◌⊎◌, ℕ, zero, suc, ◌+◌, ◌*◌, ◌<◌, ◌≤◌, List, [], ◌∷◌, ◌++◌, length, Bool, true, false, ◌&&◌, ◌||◌, ◌==◌, cond, Option, Some, None, option_and_then, IsSome, is_some, refl}
+use Rattle.std.specs.Prelude.{◌≡◌, ℕ, zero, suc, ◌<◌, ◌≤◌, List, [], ◌∷◌, ◌++◌, length, true, false, ◌==◌, Option, Some, None, option_and_then, refl}
 use Rattle.std.specs.List.{IsDistinct, AllByRecursion, list_any}
 use Rattle.std.proofs.Common.{arith, ap, sym, ◌∙◌, subst, ⊎_elim, eqb, length-append}
 use Rattle.std.proofs.lemmas.Bool.{and_parts, and_from, or_cases, or_parts, eqb-true, eq-eqb, false_from_ne_true, both_ways}
@@ -9,7 +9,7 @@ use Rattle.std.proofs.lemmas.Option.{option_and_then_some, same_Some}
 use Rattle.std.proofs.lemmas.Slice.Eq.{bytes_eq-Decides}
 use Rattle.disk_places.specs.Fields.{is_same}
 use Rattle.disk_rules.specs.Lines.{NameRow}
-use Rattle.disk_rules.specs.Names.{Rows, row, is_entry, is_child, child_of_row, parent_of_row, first_row_from, line_and_child, find_name, child_named, parent_of, up, walk, IsBelow}
+use Rattle.disk_rules.specs.Names.{Rows, row, is_entry, is_child, child_of_row, parent_of_row, first_row_from, line_and_child, find_name, child_named, parent_of, up, walk}
 use Rattle.disk_rules.specs.RowLaws.{first_row-is, first_row-none}
 use Rattle.disk_rules.specs.Tables.{IsKeyed, IsAcyclic, IsFirstRow, Names}
 
@@ -34,20 +34,20 @@ pub Names-child_named : (rows : Rows) (parent : ℕ) (name : List ℕ) (child : 
 Names-child_named rows parent name child h =
     option_and_then_some (λ found. Some found.1) (find_name rows parent name) child h
     (λ pair is_pair is_child.
-      option_and_then_some (λ found. Some (line_and_child found)) (first_row_from (is_entry parent name) 0 rows) pair is_pair
-      (λ found is_found is_line.
-        let first : IsFirstRow (is_entry parent name) rows found.0 found.1 = first_row-is (is_entry parent name) rows found.0 found.1 is_found in
-        let parts = is_entry-parts parent name found.1 first.passes in
-        let child_is : child_of_row found.1 ≡ child = ap (λ (p : ℕ × ℕ). p.1) (same_Some (line_and_child found) pair is_line) ∙ same_Some pair.1 child is_child in
-        record {
-          line = found.0;
-          at = parts.0;
-          within = first.within;
-          is = first.is ∙ parts.1;
-          parent_is = parts.2;
-          name_is = parts.3;
-          child_is = sym (ap child_of_row parts.1) ∙ child_is;
-        }))
+    option_and_then_some (λ found. Some (line_and_child found)) (first_row_from (is_entry parent name) 0 rows) pair is_pair
+    (λ found is_found is_line.
+    let first : IsFirstRow (is_entry parent name) rows found.0 found.1 = first_row-is (is_entry parent name) rows found.0 found.1 is_found in
+    let parts = is_entry-parts parent name found.1 first.passes in
+    let child_is : child_of_row found.1 ≡ child = ap (λ (p : ℕ × ℕ). p.1) (same_Some (line_and_child found) pair is_line) ∙ same_Some pair.1 child is_child in
+    record {
+      line = found.0;
+      at = parts.0;
+      within = first.within;
+      is = first.is ∙ parts.1;
+      parent_is = parts.2;
+      name_is = parts.3;
+      child_is = sym (ap child_of_row parts.1) ∙ child_is;
+    }))
 
 -- In a keyed table the look-up of a line's parent and name gives that line.
 pub find_name-at : (rows : Rows) (k : ℕ) (r : NameRow) → IsKeyed rows → k < length rows → row rows k ≡ Some r → find_name rows r.parent r.name ≡ Some (k, r.child)
@@ -70,10 +70,11 @@ pub Names-parent_of : (rows : Rows) (child parent : ℕ) → parent_of rows chil
 Names-parent_of rows child parent h =
     option_and_then_some (λ found. Some (parent_of_row found.1)) (first_row_from (is_child child) 0 rows) parent h
     (λ found is_found is_parent.
-      let first : IsFirstRow (is_child child) rows found.0 found.1 = first_row-is (is_child child) rows found.0 found.1 is_found in
-      let parts = is_child-parts child found.1 first.passes in
-      let r : NameRow = parts.0 in
-      (r.name, record {
+    let first : IsFirstRow (is_child child) rows found.0 found.1 = first_row-is (is_child child) rows found.0 found.1 is_found in
+    let parts = is_child-parts child found.1 first.passes in
+    let r : NameRow = parts.0 in (
+      r.name,
+      record {
         line = found.0;
         at = r;
         within = first.within;
@@ -81,7 +82,8 @@ Names-parent_of rows child parent h =
         parent_is = sym (ap parent_of_row parts.1) ∙ same_Some (parent_of_row found.1) parent is_parent;
         name_is = refl;
         child_is = parts.2;
-      }))
+      },
+    ))
 
 pub child_named-Names : (rows : Rows) (parent : ℕ) (name : List ℕ) (child : ℕ) → IsKeyed rows → Names rows parent name child → child_named rows parent name ≡ Some child
 child_named-Names rows parent name child keyed names =
@@ -91,7 +93,7 @@ child_named-Names rows parent name child keyed names =
 
 -- Paths.
 
-and_then-and_then : (o : Option ℕ) (f g h : ℕ → Option ℕ) → ((c : ℕ) → f c ≡ option_and_then h (g c)) → option_and_then f o ≡ option_and_then h (option_and_then g o)
+pub and_then-and_then : (o : Option ℕ) (f g h : ℕ → Option ℕ) → ((c : ℕ) → f c ≡ option_and_then h (g c)) → option_and_then f o ≡ option_and_then h (option_and_then g o)
 and_then-and_then None f g h same = refl
 and_then-and_then (Some c) f g h same = same c
 
@@ -129,12 +131,13 @@ walk-up rows zero ino above keyed h = ([], refl, sym h)
 walk-up rows (suc n) ino above keyed h =
     option_and_then_some (up rows n) (parent_of rows ino) above h
     (λ p is_parent is_above.
-      let before : (names : List (List ℕ)) × (length names ≡ n) × (walk rows above names ≡ Some p) = walk-up rows n p above keyed is_above in
-      let last : (name : List ℕ) × Names rows p name ino = Names-parent_of rows ino p is_parent in
-      let step = walk-one rows p last.0 ino (child_named-Names rows p last.0 ino keyed last.1) in
-      (before.0 ++ last.0 ∷ [],
-       omega (arith, length-append before.0 (last.0 ∷ []), before.1),
-       walk-append rows above before.0 (last.0 ∷ []) ∙ ap (option_and_then (λ c. walk rows c (last.0 ∷ []))) before.2 ∙ step))
+    let before : (names : List (List ℕ)) × (length names ≡ n) × (walk rows above names ≡ Some p) = walk-up rows n p above keyed is_above in
+    let last : (name : List ℕ) × Names rows p name ino = Names-parent_of rows ino p is_parent in
+    let step = walk-one rows p last.0 ino (child_named-Names rows p last.0 ino keyed last.1) in (
+      before.0 ++ last.0 ∷ [],
+      omega (arith, length-append before.0 (last.0 ∷ []), before.1),
+      walk-append rows above before.0 (last.0 ∷ []) ∙ ap (option_and_then (λ c. walk rows c (last.0 ∷ []))) before.2 ∙ step,
+    ))
 
 -- one directory more, counted from the top
 pub up-more : (rows : Rows) (n ino : ℕ) → up rows (suc n) ino ≡ option_and_then (parent_of rows) (up rows n ino)
@@ -174,11 +177,11 @@ longer_trail rows ino name names end keyed acyclic s t =
     let named : child_named rows ino name ≡ Some s.child = child_named-Names rows ino name s.child keyed s.first in
     let child : child_of_row (row rows k) ≡ s.child = ap child_of_row s.first.is ∙ s.first.child_is in
     let fresh : list_any (eqb k) t.lines ≡ false =
-      false_from_ne_true (list_any (eqb k) t.lines) (λ again.
-        let back : EndsAt rows s.child k = t.ends k again in
-        let returns : walk rows s.child (back.0 ∷ back.1) ≡ Some s.child = back.2 ∙ ap (λ (c : ℕ). Some c) child in
-        let none : back.0 ∷ back.1 ≡ [] = acyclic.no_return s.child (back.0 ∷ back.1) returns in
-        cc)
+    false_from_ne_true (list_any (eqb k) t.lines) (λ again.
+    let back : EndsAt rows s.child k = t.ends k again in
+    let returns : walk rows s.child (back.0 ∷ back.1) ≡ Some s.child = back.2 ∙ ap (λ (c : ℕ). Some c) child in
+    let none : back.0 ∷ back.1 ≡ [] = acyclic.no_return s.child (back.0 ∷ back.1) returns in
+    cc)
     in
     record {
       lines = k ∷ t.lines;
@@ -186,10 +189,10 @@ longer_trail rows ino name names end keyed acyclic s t =
       distinct = (not_among k t.lines fresh, t.distinct);
       within = λ j among. ⊎_elim (λ here. subst (λ n. n < length rows) (sym (eqb-true j k here)) s.first.within) (t.within j) (or_cases (eqb j k) (list_any (eqb j) t.lines) among);
       ends = λ j among.
-        ⊎_elim
-        (λ here. (name, [], walk-one rows ino name s.child named ∙ ap (λ (c : ℕ). Some c) (sym child) ∙ ap (λ n. Some (child_of_row (row rows n))) (sym (eqb-true j k here))))
-        (λ there. let more : EndsAt rows s.child j = t.ends j there in (name, more.0 ∷ more.1, walk-cons rows ino name (more.0 ∷ more.1) s.child named ∙ more.2))
-        (or_cases (eqb j k) (list_any (eqb j) t.lines) among);
+          ⊎_elim
+          (λ here. (name, [], walk-one rows ino name s.child named ∙ ap (λ (c : ℕ). Some c) (sym child) ∙ ap (λ n. Some (child_of_row (row rows n))) (sym (eqb-true j k here))))
+          (λ there. let more : EndsAt rows s.child j = t.ends j there in (name, more.0 ∷ more.1, walk-cons rows ino name (more.0 ∷ more.1) s.child named ∙ more.2))
+          (or_cases (eqb j k) (list_any (eqb j) t.lines) among);
     }
 
 trail : (rows : Rows) (ino : ℕ) (names : List (List ℕ)) (end : ℕ) → IsKeyed rows → IsAcyclic rows → walk rows ino names ≡ Some end → Trail rows ino names

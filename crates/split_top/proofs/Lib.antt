@@ -1,4 +1,5 @@
 pub mod Batches
+pub mod CallSteps
 pub mod OneMore
 pub mod Lines
 pub mod Numbers

@@ -1,4 +1,5 @@
 pub mod Batches
+pub mod Calls
 pub mod Command
 pub mod Made
 pub mod Reading

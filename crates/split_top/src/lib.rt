@@ -1,6 +1,7 @@
 //! The top call
 #![tactic(auto)]
 
+mod calls;
 mod commands;
 mod directories;
 mod fresh;

@@ -1,6 +1,7 @@
 pub mod Batches
 pub mod CallSteps
 pub mod OneMore
+pub mod Histories
 pub mod Lines
 pub mod Numbers
 pub mod Ranges

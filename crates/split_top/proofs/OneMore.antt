@@ -1,5 +1,5 @@
 -- One more directory, at rest and after a power loss.
-use Rattle.std.proofs.Common.{◌≡◌, ◌⊎◌, ℕ, ◌+◌, ◌*◌, Bool, true, false, List, [], ◌∷◌, ◌++◌, length, refl, sym, ◌∙◌, ap, subst, arith, inl, inr, add_assoc, add-zero, add-one}
+use Rattle.std.proofs.Common.{◌≡◌, ◌⊎◌, ℕ, ◌+◌, ◌*◌, ◌<◌, ◌≤◌, get_or, Bool, true, false, List, [], ◌∷◌, ◌++◌, length, refl, sym, ◌∙◌, ap, subst, arith, inl, inr, add_assoc, add-zero, add-one}
 use Rattle.pm_words.specs.declared.Cell.{Cell}
 use Rattle.pm_words.specs.declared.Cell.TheVariants.{Single}
 use Rattle.pm_words.specs.Cells.{cell, newest, is_single, is_lent, AllSingle, IsCandidate}
@@ -7,14 +7,16 @@ use Rattle.pm_words.specs.CellLaws.{single-home, candidate-single}
 use Rattle.pm_words.specs.Images.{IsImage, words_of, ComesFrom, Follows}
 use Rattle.pm_words.specs.Words.{Words}
 use Rattle.disk_places.specs.Places.{commit_word, inode_line, name_line}
-use Rattle.disk_rules.specs.Lines.{encode_inode, encode_name}
+use Rattle.disk_rules.specs.Lines.{encode_inode, encode_name, is_name}
+use Rattle.std.proofs.lemmas.Bool.{cases_lt}
+use Rattle.std.proofs.lemmas.List.{get_or_append_left, get_or_push, length_push}
 use Rattle.disk_rules.specs.Fresh.{with_inode}
 use Rattle.disk_places.specs.Journal.{is_journal_word, record_target, record_word, journaled, IsSound}
 use Rattle.k_journal.specs.Patches.{patched-none}
 use Rattle.k_journal.specs.declared.batches.Entry.{Entry}
 use Rattle.k_journal.specs.Batch.{with_batch}
 use Rattle.k_journal.specs.Commits.{IsBeforeOrAfter}
-use Rattle.split_top.specs.Made.{default_geometry, directory_inode, name_row, with_directory, with_directories, made}
+use Rattle.split_top.specs.Made.{default_geometry, directory_inode, name_row, with_directory, with_directories, made, ArePlain}
 use Rattle.split_top.specs.Rest.{IsAtRest, Shows, MayShow}
 use Rattle.split_top.specs.Batches.{SetsDirectory}
 use Rattle.split_top.proofs.Batches.{with_line-at}
@@ -71,16 +73,6 @@ shows_at_rest d names image rest is w content =
     rw (content, none) (patched-none (record_target image) (record_word image) image w)
     ∙ same_word d image w rest.single is ∙ rest.words w content
 
--- a device at rest may show its own directories alone
-pub may_show_at_rest : (d : List Cell) (names : List (List ℕ)) → IsAtRest d names → MayShow d names names
-may_show_at_rest d names rest =
-    record {
-      size = rest.size;
-      home = λ i. single-home (cell d i) (rest.single i);
-      sound = λ image is. sound_at_rest d names image rest is;
-      shows = λ image is. inl (shows_at_rest d names image rest is);
-    }
-
 -- after a commit, or a part of it
 pub may_show_more : (d e : List Cell) (names : List (List ℕ)) (name : List ℕ) (b : List Entry)
   → IsAtRest d names → SetsDirectory (length names) name b → length e ≡ length d
@@ -100,4 +92,27 @@ may_show_more d e names name b rest sets size home follows =
         | inl old ↦ inl (λ w content. ap (λ g. g w) old ∙ shows_at_rest d names f.0 rest f.1.is_image w content)
         | inr new ↦ inr (λ w content. ap (λ g. g w) new ∙ one_more names name b (journaled f.0) w sets (shows_at_rest d names f.0 rest f.1.is_image w content))
         ];
+    }
+
+-- a device at rest may show its own directories, whatever else is allowed
+pub may_show_also : (d : List Cell) (names more : List (List ℕ)) → IsAtRest d names → MayShow d names more
+may_show_also d names more rest =
+    record {
+      size = rest.size;
+      home = λ i. single-home (cell d i) (rest.single i);
+      sound = λ image is. sound_at_rest d names image rest is;
+      shows = λ image is. inl (shows_at_rest d names image rest is);
+    }
+
+-- one more plain name
+pub plain_more : (names : List (List ℕ)) (name : List ℕ) → ArePlain 0 names → is_name name ≡ true → length names < 59 → ArePlain 0 (names ++ name ∷ [])
+plain_more names name plain ok room =
+    record {
+      each = λ i d lt. elim (cases_lt i (length names)) [
+        | inl before ↦ subst (λ n. is_name n ≡ true) (sym (get_or_append_left names (name ∷ []) d i before)) (plain.each i d before)
+        | inr behind ↦
+          let last : i ≡ length names = omega (arith, length_push names name) in
+          subst (λ n. is_name n ≡ true) (sym (get_or_push names name d i (sym last))) ok
+      ];
+      room = omega (arith, length_push names name);
     }

@@ -7,4 +7,5 @@ mod directories;
 mod fresh;
 mod meaning;
 mod remounts;
+mod runs;
 mod scripts;

@@ -1,5 +1,7 @@
 -- Histories that follow scripts.
 use Rattle.std.specs.Prelude.{◌≡◌, ℕ, ◌+◌, List, [], ◌∷◌, ◌++◌, length, filter, sum_by, Some, slice_get, slice_index_or}
+use Rattle.std.proofs.Common.{sym, subst, append_assoc}
+use Rattle.std.proofs.lemmas.List.{append-nil}
 use Rattle.posix_types.specs.declared.call.Who.{Who}
 use Rattle.posix_types.specs.declared.call.Call.{Call}
 use Rattle.posix_types.specs.declared.item.Item.{Item}
@@ -40,3 +42,12 @@ Scripted scripts history = ScriptedAfter scripts [] history
 -- the history has all calls
 abbrev pub IsComplete : Scripts → List Item → Type 0
 IsComplete scripts history = length history ≡ call_count scripts
+
+ScriptedAfter-append : (scripts : Scripts) (past items : List Item) (item : Item) → ScriptedAfter scripts past items → IsNext scripts (past ++ items) item → ScriptedAfter scripts past (items ++ item ∷ [])
+ScriptedAfter-append scripts past [] item scripted next = (subst (λ p. IsNext scripts p item) (append-nil past) next, tt)
+ScriptedAfter-append scripts past (first ∷ items) item scripted next =
+    (scripted.0, ScriptedAfter-append scripts (past ++ first ∷ []) items item scripted.1 (subst (λ p. IsNext scripts p item) (sym (append_assoc past (first ∷ []) items)) next))
+
+-- a history stays scripted with one more item, if that is the next call of its script
+pub Scripted-append : (scripts : Scripts) (history : List Item) (item : Item) → Scripted scripts history → IsNext scripts history item → Scripted scripts (history ++ item ∷ [])
+Scripted-append scripts history item scripted next = ScriptedAfter-append scripts [] history item scripted next

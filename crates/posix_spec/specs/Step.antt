@@ -1,5 +1,5 @@
 -- What each call does: the first of its rows that fits gives the outcome and changes nothing, and where none fits the last row acts.
-use Rattle.std.specs.Prelude.{ℕ, Bool, ◌+◌, List, [], length, Option, Some, None, unwrap_or, ℤ, if◌then◌else◌}
+use Rattle.std.specs.Prelude.{◌≡◌, ℕ, Bool, ◌+◌, List, [], length, Option, Some, None, unwrap_or, ℤ, if◌then◌else◌}
 use Rattle.posix_types.specs.declared.item.Outcome.{Outcome}
 use Rattle.posix_types.specs.declared.call.Who.{Who}
 use Rattle.posix_types.specs.declared.call.Call.{Call}
@@ -34,6 +34,10 @@ done s reply = record { state = s; outcome = answer reply }
 abbrev pub stepped : State → Option Outcome → Stepped → Stepped
 stepped s (Some outcome) last = record { state = s; outcome = outcome }
 stepped s None last = last
+
+-- a call with these rows and this last row takes a state to a state with an outcome
+abbrev pub Gives : State → List (Option Outcome) → Stepped → State → Outcome → Type 0
+Gives old rows last new outcome = record { state = new; outcome = outcome } ≡ stepped old (first rows) last
 
 -- Names.
 

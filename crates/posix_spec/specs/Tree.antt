@@ -1,8 +1,9 @@
 -- The tree of a state, and the state of a tree.
-use Rattle.std.specs.Prelude.{List, [], ◌∷◌, map, fold, if◌then◌else◌}
+use Rattle.std.specs.Prelude.{◌≡◌, refl, List, [], ◌∷◌, map, fold, if◌then◌else◌}
 use Rattle.posix_types.specs.declared.call.Mode.{Mode}
 use Rattle.posix_types.specs.declared.reply.Shape.{Shape}
 use Rattle.posix_types.specs.declared.tree.TreeEntry.{TreeEntry}
+use Rattle.posix_types.specs.declared.tree.TreeNode.{TreeNode}
 use Rattle.posix_words.specs.declared.nodes.Node.{Node}
 use Rattle.posix_words.specs.Open.{nothing_open}
 use Rattle.posix_words.specs.Names.{is_root}
@@ -24,3 +25,12 @@ planted s entry = if is_root entry.path then s else made s entry.path (node_of e
 -- The state that a tree begins as: nothing is open, and published lengths are lengths.
 abbrev pub start : List TreeEntry → Shape → Mode → State
 start entries shape mode = fold planted (bare shape mode) entries
+
+-- the tree of a fresh file system: the root alone
+abbrev pub root_alone : List TreeEntry
+root_alone = record { path = []; node = TreeNode.Directory } ∷ []
+
+-- it is the tree of the state that it begins as
+pub tree-start-root_alone : (shape : Shape) (mode : Mode) → tree (start root_alone shape mode) ≡ root_alone
+unfolding places
+tree-start-root_alone shape mode = refl

@@ -1,7 +1,7 @@
 //! The calls that take a handle: the rows of each, and what its last row does.
 ghost use Rattle.std.specs.Prelude.{◌≡◌, ◌+◌, ◌≤◌, ◌<◌, ◌^◌, IfOk, IfNone, OnErr, is_none, length, unwrap_or};
 ghost use Rattle.posix_words.specs.Open.{key_of, may_read, may_write, opened};
-ghost use Rattle.posix_spec.specs.Step.{close_done, dup_done, fsync_done, moved_offset, pread_done, pwrite_done, read_done, seek_done, stepped, truncate_done, write_done, written};
+ghost use Rattle.posix_spec.specs.Step.{close_done, dup_done, fsync_done, Gives, moved_offset, pread_done, pwrite_done, read_done, seek_done, truncate_done, write_done, written};
 ghost use Rattle.posix_spec.specs.Outcomes.{first};
 ghost use Rattle.posix_spec.specs.FileRows.{appends, close_rows, content, dup_rows, file_number, fsync_rows, no_blocks, offset_of, read_rows, seek_base, seek_rows, seek_target, truncate_rows, write_rows, write_start};
 
@@ -120,7 +120,7 @@ impl State {
     /// descriptor, and a file without name and description.
     #[tactic(auto, unfolding(crate::specs::Step::close_done, crate::specs::State::with_published))]
     pub(crate) fn close(&mut self, who: Who, handle: Handle) -> Outcome
-        ensures { record { state = self.new; outcome = result } ≡ stepped self.old (first (close_rows self.old.tables who handle)) (close_done self.old who handle) }
+        ensures { Gives self.old (close_rows self.old.tables who handle) (close_done self.old who handle) self.new result }
     {
         if let Some(outcome) = self.close_rows(who, handle) {
             return outcome;
@@ -148,7 +148,8 @@ impl State {
     /// `dup`: gives a description the lowest free descriptor too, bound to a further handle.
     #[tactic(auto, unfolding(crate::specs::Step::dup_done))]
     pub(crate) fn dup(&mut self, who: Who, old: Handle, new: Handle) -> Result<Outcome, AllocError>
-        ensures ok { IfOk result (λ outcome. record { state = self.new; outcome = outcome } ≡ stepped self.old (first (dup_rows self.old.tables who old)) (dup_done self.old who old new)) }
+        ensures ok { IfOk result (Gives self.old (dup_rows self.old.tables who old)
+            (dup_done self.old who old new) self.new) }
         ensures err { OnErr result (self.new ≡ self.old) }
     {
         if let Some(outcome) = self.dup_rows(who, old) {
@@ -179,7 +180,8 @@ impl State {
         handle: Handle,
         count: u64,
     ) -> Result<Outcome, AllocError>
-        ensures ok { IfOk result (λ outcome. record { state = self.new; outcome = outcome } ≡ stepped self.old (first (read_rows self.old.tables who handle)) (read_done self.old who handle count)) }
+        ensures ok { IfOk result (Gives self.old (read_rows self.old.tables who handle)
+            (read_done self.old who handle count) self.new) }
         ensures err { OnErr result (self.new ≡ self.old) }
     {
         if let Some(outcome) = self.read_rows(who, handle) {
@@ -205,7 +207,8 @@ impl State {
         place: u64,
         count: u64,
     ) -> Result<Outcome, AllocError>
-        ensures { IfOk result (λ outcome. record { state = self.now; outcome = outcome } ≡ stepped self.now (first (read_rows self.now.tables who handle)) (pread_done self.now who handle place count)) }
+        ensures { IfOk result (Gives self.now (read_rows self.now.tables who handle)
+            (pread_done self.now who handle place count) self.now) }
     {
         if let Some(outcome) = self.read_rows(who, handle) {
             return Ok(outcome);
@@ -285,7 +288,8 @@ impl State {
         handle: Handle,
         bytes: &[u8],
     ) -> Result<Outcome, AllocError>
-        ensures ok { IfOk result (λ outcome. record { state = self.new; outcome = outcome } ≡ stepped self.old (first (write_rows self.old who handle (write_start self.old who handle) bytes.now)) (write_done self.old who handle bytes.now)) }
+        ensures ok { IfOk result (Gives self.old (write_rows self.old who handle (write_start self.old who handle) bytes.now)
+            (write_done self.old who handle bytes.now) self.new) }
         ensures err { OnErr result (self.new ≡ self.old) }
     {
         let start = self.write_start(who, handle);
@@ -306,7 +310,8 @@ impl State {
         place: u64,
         bytes: &[u8],
     ) -> Result<Outcome, AllocError>
-        ensures ok { IfOk result (λ outcome. record { state = self.new; outcome = outcome } ≡ stepped self.old (first (write_rows self.old who handle place bytes.now)) (pwrite_done self.old who handle place bytes.now)) }
+        ensures ok { IfOk result (Gives self.old (write_rows self.old who handle place bytes.now)
+            (pwrite_done self.old who handle place bytes.now) self.new) }
         ensures err { OnErr result (self.new ≡ self.old) }
     {
         if let Some(outcome) = self.write_rows(who, handle, place, bytes) {
@@ -349,7 +354,7 @@ impl State {
     /// `seek`: sets the offset.
     #[tactic(auto, unfolding(crate::specs::Step::seek_done))]
     pub(crate) fn seek(&mut self, who: Who, handle: Handle, whence: Whence, by: i64) -> Outcome
-        ensures { record { state = self.new; outcome = result } ≡ stepped self.old (first (seek_rows self.old who handle whence by)) (seek_done self.old who handle whence by) }
+        ensures { Gives self.old (seek_rows self.old who handle whence by) (seek_done self.old who handle whence by) self.new result }
     {
         if let Some(outcome) = self.seek_rows(who, handle, whence, by) {
             return outcome;
@@ -385,7 +390,8 @@ impl State {
         handle: Handle,
         length: u64,
     ) -> Result<Outcome, AllocError>
-        ensures ok { IfOk result (λ outcome. record { state = self.new; outcome = outcome } ≡ stepped self.old (first (truncate_rows self.old who handle length)) (truncate_done self.old who handle length)) }
+        ensures ok { IfOk result (Gives self.old (truncate_rows self.old who handle length)
+            (truncate_done self.old who handle length) self.new) }
         ensures err { OnErr result (self.new ≡ self.old) }
     {
         if let Some(outcome) = self.truncate_rows(who, handle, length) {
@@ -409,7 +415,7 @@ impl State {
     /// `fsync`: publishes the length.
     #[tactic(auto, unfolding(crate::specs::Step::fsync_done))]
     pub(crate) fn fsync(&mut self, who: Who, handle: Handle) -> Outcome
-        ensures { record { state = self.new; outcome = result } ≡ stepped self.old (first (fsync_rows self.old.tables who handle)) (fsync_done self.old who handle) }
+        ensures { Gives self.old (fsync_rows self.old.tables who handle) (fsync_done self.old who handle) self.new result }
     {
         if let Some(outcome) = self.fsync_rows(who, handle) {
             return outcome;

@@ -3,7 +3,7 @@ ghost use Rattle.std.specs.Prelude.{◌≡◌, ◌+◌, ◌&&◌, ◌==◌, IfOk
 ghost use Rattle.posix_words.specs.Open.{is_full};
 ghost use Rattle.posix_words.specs.Nodes.{node_at};
 ghost use Rattle.posix_words.specs.Names.{directory_stands, exists_at, has_entries, height, number_at};
-ghost use Rattle.posix_spec.specs.Step.{list_done, mkdir_done, open_done, opening, opening_number, rename_done, renamed, rmdir_done, stat_done, stat_of, stepped, unlink_done};
+ghost use Rattle.posix_spec.specs.Step.{Gives, list_done, mkdir_done, open_done, opening, opening_number, rename_done, renamed, rmdir_done, stat_done, stat_of, unlink_done};
 ghost use Rattle.posix_spec.specs.State.{space, swept, with_node};
 ghost use Rattle.posix_spec.specs.Outcomes.{first};
 ghost use Rattle.posix_spec.specs.NameRows.{list_rows, mkdir_rows, open_rows, rename_kind_rows, rename_rows, rmdir_rows, stat_rows, unlink_rows};
@@ -45,7 +45,8 @@ impl State {
     /// `mkdir`: makes an empty directory.
     #[tactic(auto, unfolding(crate::specs::Step::mkdir_done))]
     pub(crate) fn mkdir(&mut self, path: &Path) -> Result<Outcome, AllocError>
-        ensures ok { IfOk result (λ outcome. record { state = self.new; outcome = outcome } ≡ stepped self.old (first (mkdir_rows (space self.old) path.now)) (mkdir_done self.old path.now)) }
+        ensures ok { IfOk result (Gives self.old (mkdir_rows (space self.old) path.now)
+            (mkdir_done self.old path.now) self.new) }
         ensures err { OnErr result (self.new ≡ self.old) }
     {
         if let Some(outcome) = self.mkdir_rows(path) {
@@ -85,7 +86,7 @@ impl State {
     /// `rmdir`: removes an empty directory.
     #[tactic(auto, unfolding(crate::specs::Step::rmdir_done))]
     pub(crate) fn rmdir(&mut self, path: &Path) -> Outcome
-        ensures { record { state = self.new; outcome = result } ≡ stepped self.old (first (rmdir_rows (space self.old) path.now)) (rmdir_done self.old path.now) }
+        ensures { Gives self.old (rmdir_rows (space self.old) path.now) (rmdir_done self.old path.now) self.new result }
     {
         if let Some(outcome) = self.rmdir_rows(path) {
             return outcome;
@@ -121,7 +122,7 @@ impl State {
     /// `unlink`: removes the name of a file, which stays while a description has it.
     #[tactic(auto, unfolding(crate::specs::Step::unlink_done))]
     pub(crate) fn unlink(&mut self, path: &Path) -> Outcome
-        ensures { record { state = self.new; outcome = result } ≡ stepped self.old (first (unlink_rows (space self.old) path.now)) (unlink_done self.old path.now) }
+        ensures { Gives self.old (unlink_rows (space self.old) path.now) (unlink_done self.old path.now) self.new result }
     {
         if let Some(outcome) = self.unlink_rows(path) {
             return outcome;
@@ -245,7 +246,8 @@ impl State {
     /// `rename`: gives the node of a path another path, in place of what stood there.
     #[tactic(auto, unfolding(crate::specs::Step::rename_done))]
     pub(crate) fn rename(&mut self, from: &Path, to: &Path) -> Result<Outcome, AllocError>
-        ensures ok { IfOk result (λ outcome. record { state = self.new; outcome = outcome } ≡ stepped self.old (first (rename_rows (space self.old) from.now to.now)) (rename_done self.old from.now to.now)) }
+        ensures ok { IfOk result (Gives self.old (rename_rows (space self.old) from.now to.now)
+            (rename_done self.old from.now to.now) self.new) }
         ensures err { OnErr result (self.new ≡ self.old) }
     {
         if let Some(outcome) = self.rename_rows(from, to) {
@@ -335,7 +337,8 @@ impl State {
         path: &Path,
         flags: Flags,
     ) -> Result<Outcome, AllocError>
-        ensures ok { IfOk result (λ outcome. record { state = self.new; outcome = outcome } ≡ stepped self.old (first (open_rows (space self.old) (is_full self.old.tables) path.now flags)) (open_done self.old who handle path.now flags)) }
+        ensures ok { IfOk result (Gives self.old (open_rows (space self.old) (is_full self.old.tables) path.now flags)
+            (open_done self.old who handle path.now flags) self.new) }
         ensures err { OnErr result (self.new ≡ self.old) }
     {
         if let Some(outcome) = self.open_rows(path, flags) {
@@ -379,7 +382,7 @@ impl State {
     /// `stat`: says what stands at a path.
     #[tactic(auto, unfolding(crate::specs::Step::stat_done))]
     pub(crate) fn stat(&self, path: &Path) -> Outcome
-        ensures { record { state = self.now; outcome = result } ≡ stepped self.now (first (stat_rows (space self.now) path.now)) (stat_done self.now path.now) }
+        ensures { Gives self.now (stat_rows (space self.now) path.now) (stat_done self.now path.now) self.now result }
     {
         match self.stat_rows(path) {
             Some(outcome) => outcome,
@@ -409,7 +412,8 @@ impl State {
     /// `list`: answers the names in a directory.
     #[tactic(auto, unfolding(crate::specs::Step::list_done))]
     pub(crate) fn list(&self, path: &Path) -> Result<Outcome, AllocError>
-        ensures { IfOk result (λ outcome. record { state = self.now; outcome = outcome } ≡ stepped self.now (first (list_rows (space self.now) path.now)) (list_done self.now path.now)) }
+        ensures { IfOk result (Gives self.now (list_rows (space self.now) path.now)
+            (list_done self.now path.now) self.now) }
     {
         if let Some(outcome) = self.list_rows(path) {
             return Ok(outcome);

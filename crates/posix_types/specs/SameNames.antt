@@ -27,7 +27,8 @@ pub equivalence : {A : Type 0} {same : A → A → Bool} → DecidesEqual same �
 equivalence {A} {same} d = record {
   refl = λ x. (d x x).1 refl;
   symm = λ x y. symmetric (same x y) (same y x) (λ e. (d y x).1 (sym ((d x y).0 e))) (λ e. (d x y).1 (sym ((d y x).0 e)));
-  congr = λ x y z e. ap (λ w. same w z) ((d x y).0 e) }
+  congr = λ x y z e. ap (λ w. same w z) ((d x y).0 e);
+}
 
 -- what the answer of such a test has told
 pub told : {A : Type 0} {same : A → A → Bool} → DecidesEqual same → (a b : A) (r : Bool) → r ≡ same a b → (IsTrue r → a ≡ b) × (a ≡ b → IsTrue r)

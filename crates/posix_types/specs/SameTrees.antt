@@ -32,13 +32,14 @@ both_are : (a b : Bool) → a ≡ true → b ≡ true → (a && b) ≡ true
 both_are a b e f = rw (e, f) refl
 
 pub entry_decides : DecidesEqual same_entry
-entry_decides a b =
-    (λ e.
-        let parts = both_true (same_names a.path b.path) (same_node a.node b.node) e in
-        let path = (names_decide a.path b.path).0 parts.0 in
-        let node = (node_decides a.node b.node).0 parts.1 in
-        λ i. record { path = path i; node = node i },
-      λ e. both_are (same_names a.path b.path) (same_node a.node b.node) ((names_decide a.path b.path).1 (ap (λ (x : TreeEntry). x.path) e)) ((node_decides a.node b.node).1 (ap (λ (x : TreeEntry). x.node) e)))
+entry_decides a b = (
+  λ e.
+      let parts = both_true (same_names a.path b.path) (same_node a.node b.node) e in
+      let path = (names_decide a.path b.path).0 parts.0 in
+      let node = (node_decides a.node b.node).0 parts.1 in
+      λ i. record { path = path i; node = node i },
+  λ e. both_are (same_names a.path b.path) (same_node a.node b.node) ((names_decide a.path b.path).1 (ap (λ (x : TreeEntry). x.path) e)) ((node_decides a.node b.node).1 (ap (λ (x : TreeEntry). x.node) e)),
+)
 
 pub tree_decides : DecidesEqual same_tree
 tree_decides = pointwise_decides entry_decides

@@ -42,7 +42,7 @@ removed_after true x xs rest n same = next_place x xs n ∙ ap (λ l. x ∷ l) s
 removed_after false x xs rest n same = ap (λ l. x ∷ l) same
 
 removed : {X : Type 0} (b : Bool) (x : X) (xs rest : List X) (n : ℕ) → without_place xs (cond (nat_lt n (length xs)) (Some n) None) ≡ rest
-  → without_place (x ∷ xs) (cond (nat_lt (cond (not b) (1 + n) 0) (suc (length xs))) (Some (cond (not b) (1 + n) 0)) None) ≡ cond b xs (x ∷ rest)
+    → without_place (x ∷ xs) (cond (nat_lt (cond (not b) (1 + n) 0) (suc (length xs))) (Some (cond (not b) (1 + n) 0)) None) ≡ cond b xs (x ∷ rest)
 removed true x xs rest n same = rw zero_below refl
 removed false x xs rest n same = rw one_more (removed_after (nat_lt n (length xs)) x xs rest n same)
 
@@ -83,7 +83,7 @@ nowhere_else entries entry parent name new is =
 
 -- Where no entry has the name of a new one, that name leads to the new child afterwards, and each other name where it led.
 pub child_of-with_entry : (entries : List DirEntry) (entry : DirEntry) (parent : ℕ) (name : List ℕ) → child_of entries entry.parent entry.name ≡ None
-  → child_of (with_entry entries entry) parent name ≡ cond (is_entry parent name entry) (Some entry.child) (child_of entries parent name)
+    → child_of (with_entry entries entry) parent name ≡ cond (is_entry parent name entry) (Some entry.child) (child_of entries parent name)
 unfolding with_entry
 child_of-with_entry entries entry parent name new =
     ap (λ o. option_map (λ (e : DirEntry). e.child) o) (find-insert (is_entry parent name) entries (unwrap_or (position (comes_before entry) entries) (length entries)) entry (nowhere_else entries entry parent name new))
@@ -97,12 +97,12 @@ other_entry parent other_parent name other_name other entry is =
 
 -- Where an entry was taken out, each other name leads where it led.
 pub child_of-without_entry : (entries : List DirEntry) (parent other_parent : ℕ) (name other_name : List ℕ) → ((parent == other_parent) && same_name name other_name) ≡ false
-  → child_of (without_entry entries parent name) other_parent other_name ≡ child_of entries other_parent other_name
+    → child_of (without_entry entries parent name) other_parent other_name ≡ child_of entries other_parent other_name
 unfolding without_entry
 child_of-without_entry entries parent other_parent name other_name other =
     ap (λ o. option_map (λ (e : DirEntry). e.child) o)
-      (ap (find (is_entry other_parent other_name)) (without_place-position (is_entry parent name) entries)
-      ∙ find_past_first (is_entry parent name) (is_entry other_parent other_name) (other_entry parent other_parent name other_name other) entries)
+    (ap (find (is_entry other_parent other_name)) (without_place-position (is_entry parent name) entries)
+    ∙ find_past_first (is_entry parent name) (is_entry other_parent other_name) (other_entry parent other_parent name other_name other) entries)
 
 -- no two entries have one directory and one name
 abbrev pub AreDistinct : List DirEntry → Type 0
@@ -113,7 +113,7 @@ gone_from : (entries : List DirEntry) (parent : ℕ) (name : List ℕ) → AreDi
 gone_from [] parent name distinct = refl
 gone_from (entry ∷ entries) parent name distinct = gone (is_entry parent name entry) refl (gone_from entries parent name distinct.1) where
   gone : (b : Bool) → is_entry parent name entry ≡ b → find (is_entry parent name) (without_first (is_entry parent name) entries) ≡ None
-    → find (is_entry parent name) (cond b entries (entry ∷ without_first (is_entry parent name) entries)) ≡ None
+      → find (is_entry parent name) (cond b entries (entry ∷ without_first (is_entry parent name) entries)) ≡ None
   gone true is rest = nowhere_else entries entry parent name distinct.0 is
   gone false is rest = rw is rest
 
@@ -122,4 +122,4 @@ pub child_of-without_entry-itself : (entries : List DirEntry) (parent : ℕ) (na
 unfolding without_entry
 child_of-without_entry-itself entries parent name distinct =
     ap (λ o. option_map (λ (e : DirEntry). e.child) o)
-      (ap (find (is_entry parent name)) (without_place-position (is_entry parent name) entries) ∙ gone_from entries parent name distinct)
+    (ap (find (is_entry parent name)) (without_place-position (is_entry parent name) entries) ∙ gone_from entries parent name distinct)

@@ -40,8 +40,10 @@ pub(crate) fn clear_blocks(words: &mut [u64], first: u32, count: u32, blocks: &[
     requires words { count ≤ 64 * length words.old }
     requires rising { AllPairs ◌<◌ blocks.now }
     requires set { All (IsSetBlock words.old first count) blocks.now }
-    ensures bits { (p : ℕ) → is_set words.new p ≡ (is_set words.old p && not (is_among blocks.now (first + p))) }
-    ensures count { count_below (is_set words.new) count + length blocks.now ≡ count_below (is_set words.old) count }
+    ensures bits { (p : ℕ) →
+        is_set words.new p ≡ (is_set words.old p && not (is_among blocks.now (first + p))) }
+    ensures count { count_below (is_set words.new) count + length blocks.now
+        ≡ count_below (is_set words.old) count }
 {
     for block in blocks {
         clear(words, (*block - first) as usize);
@@ -53,7 +55,8 @@ pub(crate) fn clear_extents(words: &mut [u64], first: u32, count: u32, extents: 
     requires words { count ≤ 64 * length words.old }
     requires fits { first + count < 2 ^ 32 }
     requires within { All (LiesWithin first count) extents.now }
-    ensures { (p : ℕ) → is_set words.new p ≡ (is_set words.old p && not (covers extents.now (first + p))) }
+    ensures { (p : ℕ) →
+        is_set words.new p ≡ (is_set words.old p && not (covers extents.now (first + p))) }
 {
     for extent in extents {
         clear_run(words, (extent.disk - first) as usize, extent.count as usize);

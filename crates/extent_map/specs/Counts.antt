@@ -1,5 +1,5 @@
 -- The number of blocks of a map, counted file block by file block.
-use Rattle.std.proofs.Common.{◌≡◌, ℕ, zero, suc, ◌+◌, ◌-◌, ◌<◌, ◌≤◌, Bool, false, cond, List, [], ◌∷◌, min, refl, sym, ap, inl, inr, arith}
+use Rattle.std.proofs.Common.{◌≡◌, ℕ, zero, suc, ◌+◌, ◌-◌, ◌<◌, ◌≤◌, Bool, false, cond, List, [], ◌∷◌, length, min, refl, sym, ap, inl, inr, arith}
 use Rattle.std.specs.Prelude.{is_some}
 use Rattle.std.proofs.lemmas.Bool.{cases_lt, cases_Bool}
 use Rattle.std.proofs.lemmas.Bool.Decides.{nat_tests}
@@ -83,3 +83,25 @@ block_count-balance es fs gs first count c d e fits each =
       count_below-range first count 4096 fits,
       count_below-balance (λ b. is_mapped es b) (λ b. is_mapped fs b) (λ b. is_mapped gs b) (λ b. is_within first count b) 4096 each,
     )
+
+-- no more blocks pass than there are
+count_below-le : (f : ℕ → Bool) (n : ℕ) → count_below f n ≤ n
+unfolding count_below
+count_below-le f zero = omega arith
+count_below-le f (suc n) = elim (cases_Bool (f n)) [
+  | inl passes ↦ omega (arith, count_below-le f n, ap one_if passes)
+  | inr fails ↦ omega (arith, count_below-le f n, ap one_if fails)
+]
+
+length-le-block_count : (es : List Extent) → IsCanonical es → length es ≤ block_count es
+length-le-block_count [] c = omega arith
+length-le-block_count (e ∷ es) c =
+    let ok : IsExtent e = c.each 0 e (omega arith) in
+    omega (arith, sum_by-cons (λ (x : Extent). x.count) e es, length-le-block_count es (IsCanonical-tail e es c), ok.filled)
+
+-- a map has at most 4,096 blocks, and so at most as many extents
+pub block_count-le : (es : List Extent) → IsCanonical es → block_count es ≤ 4096
+block_count-le es c = omega (arith, block_count-mapped es c, count_below-le (λ b. is_mapped es b) 4096)
+
+pub length-le : (es : List Extent) → IsCanonical es → length es ≤ 4096
+length-le es c = omega (arith, length-le-block_count es c, block_count-le es c)

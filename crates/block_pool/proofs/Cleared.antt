@@ -4,8 +4,8 @@ use Rattle.std.specs.Prelude.{◌==◌, AllPairs}
 use Rattle.std.proofs.lemmas.Bool.{cases_eq, ne_eqb, eq-eqb}
 use Rattle.std.proofs.lemmas.List.Folds.{list_any_more}
 use Rattle.block_pool.specs.FreeSets.{is_among}
-use Rattle.block_pool.specs.Bits.{is_set, count_below, IsSetBlock}
-use Rattle.block_pool.proofs.Counts.{count_less}
+use Rattle.block_pool.specs.Bits.{is_set, IsSetBlock}
+use Rattle.extent_map.specs.Counts.{count_below, count_below-less}
 use Rattle.block_pool.proofs.Lowest.{fresh_at}
 
 -- the words at the start, with the first i blocks cleared, and with one more, whose bit is at `place`
@@ -46,4 +46,4 @@ module _ (old words new : List ℕ) (first count i place : ℕ) (blocks : List �
       let was : is_set old place ≡ true = subst (λ p. is_set old p ≡ true) (sym at) set.set in
       let fresh : is_among (take i blocks) (first + place) ≡ false = subst (λ b. is_among (take i blocks) b ≡ false) (sym block) (fresh_at blocks i 0 rising lt) in
       let still : is_set words place ≡ true = so_far place ∙ (rw (was, fresh) refl) in
-      count_less (is_set words) (is_set new) count place (omega (arith, set.high, set.low)) still here others
+      count_below-less (is_set words) (is_set new) count place (omega (arith, set.high, set.low)) still here others

@@ -7,8 +7,8 @@ use Rattle.std.proofs.lemmas.List.Elements.{All-push, All-weaker}
 use Rattle.std.proofs.lemmas.List.Quantifiers.{all_pairs_push}
 use Rattle.std.proofs.lemmas.List.Folds.{list_any-append, list_any_at, list_any_none}
 use Rattle.block_pool.specs.FreeSets.{is_among}
-use Rattle.block_pool.specs.Bits.{is_set, count_below, NoneSet, IsNext, IsSetBlock, AreLowest}
-use Rattle.block_pool.proofs.Counts.{one_if, count_more, count_none}
+use Rattle.block_pool.specs.Bits.{is_set, NoneSet, IsNext, IsSetBlock, AreLowest}
+use Rattle.extent_map.specs.Counts.{one_if, count_below, count_below-more, count_below-none}
 
 -- the blocks are those of all set bits before `from`
 pub record AreAllBefore (words : List ℕ) (first count from : ℕ) (blocks : List ℕ) : Type 0 where
@@ -27,6 +27,7 @@ among_kept : (blocks : List ℕ) (x b : ℕ) → is_among blocks b ≡ true → 
 among_kept blocks x b h = list_any-append (λ t. t == b) blocks (x ∷ []) ∙ or_left _ _ h
 
 pub none_yet : (words : List ℕ) (first count : ℕ) → AreAllBefore words first count 0 []
+unfolding count_below
 none_yet words first count = record {
   within = omega arith;
   rising = λ i j d lt in_range. absurd (omega arith);
@@ -39,7 +40,7 @@ none_yet words first count = record {
 module _ (words : List ℕ) (first count from : ℕ) (blocks : List ℕ) (so_far : AreAllBefore words first count from blocks) where
   -- where no bit is set any more, all set bits are found
   pub all_found : NoneSet words from count → count_below (is_set words) count ≡ length blocks
-  all_found none = count_none (is_set words) from count so_far.within none ∙ so_far.counted
+  all_found none = count_below-none (is_set words) from count so_far.within none ∙ so_far.counted
 
   -- the next set bit gives one more block
   pub next_found : (place : ℕ) → IsNext words from count place → AreAllBefore words first count (place + 1) (blocks ++ (first + place) ∷ [])
@@ -58,9 +59,9 @@ module _ (words : List ℕ) (first count from : ℕ) (blocks : List ℕ) (so_far
           ]
         ];
         counted =
-            let skipped = count_none (is_set words) from place next.behind next.none in
+            let skipped = count_below-none (is_set words) from place next.behind next.none in
             let one : one_if (is_set words place) ≡ 1 = ap one_if next.set in
-            omega (arith, count_more (is_set words) place, one, skipped, so_far.counted, length_push blocks x);
+            omega (arith, count_below-more (is_set words) place, one, skipped, so_far.counted, length_push blocks x);
       }
 
   -- so many are the lowest

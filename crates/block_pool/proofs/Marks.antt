@@ -8,8 +8,8 @@ use Rattle.std.proofs.lemmas.List.FromFn.{length-map-range_with_len, get_or-map-
 use Rattle.extent_map.specs.declared.extents.Extent.{Extent}
 use Rattle.extent_map.specs.Extents.{is_within, covers}
 use Rattle.block_pool.specs.FreeSets.{FreeSet, is_among, has_block, is_free_at, free_count, SameBlocks, Takes, Gives, IsUnused}
-use Rattle.block_pool.specs.Bits.{is_set, marks_of, count_below, IsSetBlock, AreLowest}
-use Rattle.block_pool.proofs.Counts.{one_if, count_less}
+use Rattle.block_pool.specs.Bits.{is_set, marks_of, IsSetBlock, AreLowest}
+use Rattle.extent_map.specs.Counts.{one_if, count_below, count_below-less}
 
 -- what contracts see of a pool
 abbrev pub seen : ℕ → ℕ → List ℕ → FreeSet
@@ -37,6 +37,7 @@ has_block-seen first count words b = ap (λ n. is_within first n b) (length-map-
 
 -- as many are free as bits are set
 pub free_count-seen : (first count : ℕ) (words : List ℕ) → free_count (seen first count words) ≡ count_below (is_set words) count
+unfolding count_below
 free_count-seen first zero words = refl
 free_count-seen first (suc n) words =
     ap (λ m. free_count (seen first m words)) {x = suc n} {y = n + 1} (omega arith)
@@ -85,7 +86,7 @@ seen_takes first count n words new blocks lowest bits fewer = record {
 pub set_count : (first count block : ℕ) (words new : List ℕ) → is_within first count block ≡ true → is_free_at (seen first count words) block ≡ false → is_set new (block - first) ≡ true → ((p : ℕ) → p ≢ block - first → is_set new p ≡ is_set words p) → count_below (is_set words) count + 1 ≡ count_below (is_set new) count
 set_count first count block words new within used here others =
     let was : is_set words (block - first) ≡ false = rw within at (sym (is_free_at-seen first count words block) ∙ used) in
-    count_less (is_set new) (is_set words) count (block - first) (in_range first count block within).1 here was (λ p apart. sym (others p apart))
+    count_below-less (is_set new) (is_set words) count (block - first) (in_range first count block within).1 here was (λ p apart. sym (others p apart))
 
 -- the bit of a block, set
 pub seen_gives : (first count block : ℕ) (words new : List ℕ) → is_within first count block ≡ true → is_free_at (seen first count words) block ≡ false → is_set new (block - first) ≡ true → ((p : ℕ) → p ≢ block - first → is_set new p ≡ is_set words p) → Gives block (seen first count words) (seen first count new)

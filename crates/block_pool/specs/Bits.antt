@@ -1,7 +1,8 @@
 -- The bits of a list of words, 64 a word.
-use Rattle.std.specs.Prelude.{◌≡◌, ℕ, zero, suc, ◌+◌, ◌-◌, ◌*◌, ◌/◌, ◌%◌, ◌^◌, ◌<◌, ◌≤◌, Bool, false, IsTrue, ◌==◌, if◌then◌else◌, List, slice_index, map, length, All, AllPairs}
+use Rattle.std.specs.Prelude.{◌≡◌, ℕ, ◌+◌, ◌-◌, ◌*◌, ◌/◌, ◌%◌, ◌^◌, ◌<◌, ◌≤◌, Bool, false, IsTrue, ◌==◌, List, slice_index, map, length, All, AllPairs}
 use Rattle.std.specs.List.{range_with_len}
 use Rattle.std.specs.Int.{bit_at}
+use Rattle.extent_map.specs.Counts.{count_below}
 use Rattle.block_pool.specs.FreeSets.{is_among}
 
 -- whether the bit at a place is set
@@ -11,11 +12,6 @@ is_set words place = bit_at (slice_index words (place / 64)) (place % 64) == 1
 -- the first bits, as marks
 abbrev pub marks_of : List ℕ → ℕ → List Bool
 marks_of words count = map (λ place. is_set words place) (range_with_len 0 count)
-
--- how many of the places below one pass
-abbrev pub count_below : (ℕ → Bool) → ℕ → ℕ
-count_below passes zero = 0
-count_below passes (suc n) = count_below passes n + (if passes n then 1 else 0)
 
 -- the bits between two places are not set
 abbrev pub NoneSet : List ℕ → ℕ → ℕ → Type 0

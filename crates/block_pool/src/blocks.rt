@@ -1,7 +1,8 @@
 //! Blocks by their bits: bit i of the words is that of block `first + i`.
 ghost use Rattle.std.specs.Prelude.{◌≡◌, ℕ, ◌+◌, ◌*◌, ◌<◌, ◌≤◌, ◌^◌, ◌&&◌, not, length, All, AllPairs, IfOk};
+ghost use Rattle.extent_map.specs.Counts.{count_below};
 ghost use Rattle.extent_map.specs.Extents.{covers};
-ghost use Rattle.block_pool.specs.Bits.{is_set, count_below, IsSetBlock, AreLowest};
+ghost use Rattle.block_pool.specs.Bits.{is_set, IsSetBlock, AreLowest};
 ghost use Rattle.block_pool.specs.FreeSets.{is_among, LiesWithin};
 
 use crate::bits::{clear, clear_run, next_set};
@@ -40,8 +41,10 @@ pub(crate) fn clear_blocks(words: &mut [u64], first: u32, count: u32, blocks: &[
     requires words { count ≤ 64 * length words.old }
     requires rising { AllPairs ◌<◌ blocks.now }
     requires set { All (IsSetBlock words.old first count) blocks.now }
-    ensures bits { (p : ℕ) → is_set words.new p ≡ (is_set words.old p && not (is_among blocks.now (first + p))) }
-    ensures count { count_below (is_set words.new) count + length blocks.now ≡ count_below (is_set words.old) count }
+    ensures bits { (p : ℕ) →
+        is_set words.new p ≡ (is_set words.old p && not (is_among blocks.now (first + p))) }
+    ensures count { count_below (is_set words.new) count + length blocks.now
+        ≡ count_below (is_set words.old) count }
 {
     for block in blocks {
         clear(words, (*block - first) as usize);
@@ -53,7 +56,8 @@ pub(crate) fn clear_extents(words: &mut [u64], first: u32, count: u32, extents: 
     requires words { count ≤ 64 * length words.old }
     requires fits { first + count < 2 ^ 32 }
     requires within { All (LiesWithin first count) extents.now }
-    ensures { (p : ℕ) → is_set words.new p ≡ (is_set words.old p && not (covers extents.now (first + p))) }
+    ensures { (p : ℕ) →
+        is_set words.new p ≡ (is_set words.old p && not (covers extents.now (first + p))) }
 {
     for extent in extents {
         clear_run(words, (extent.disk - first) as usize, extent.count as usize);

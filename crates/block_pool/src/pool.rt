@@ -67,8 +67,9 @@ impl Pool {
     /// Takes the n lowest free blocks and answers them in rising order. None, exactly where fewer are
     /// free, and an error leave the pool as it was.
     pub fn take(&mut self, n: u32) -> Result<Option<Vec<u32>>, AllocError>
-        ensures taken { IfOk result (λ answer. IfSome answer (λ taken. Takes n taken.items self.old self.new)) }
-        ensures few { IfOk result (λ answer. IsNone answer ↔ (free_count self.old < n)) }
+        ensures taken { IfOk result (λ answer.
+            IfSome answer (λ taken. Takes n taken.items self.old self.new)) }
+        ensures few { (result ≡ Ok None) ↔ (free_count self.old < n) }
         ensures none { IfOk result (λ answer. IfNone answer (self.new ≡ self.old)) }
         ensures err { OnErr result (self.new ≡ self.old) }
     {

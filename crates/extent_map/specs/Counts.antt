@@ -1,7 +1,7 @@
 -- The number of blocks of a map, counted file block by file block.
-use Rattle.std.proofs.Common.{◌≡◌, ℕ, zero, suc, ◌+◌, ◌-◌, ◌<◌, ◌≤◌, Bool, false, cond, List, [], ◌∷◌, min, refl, sym, ap, inl, inr, arith}
+use Rattle.std.proofs.Common.{◌≡◌, ◌≢◌, ℕ, zero, suc, ◌+◌, ◌-◌, ◌<◌, ◌≤◌, Bool, true, false, cond, List, [], ◌∷◌, length, min, refl, sym, ◌∙◌, ap, inl, inr, arith}
 use Rattle.std.specs.Prelude.{is_some}
-use Rattle.std.proofs.lemmas.Bool.{cases_lt, cases_Bool}
+use Rattle.std.proofs.lemmas.Bool.{cases_lt, cases_eq, cases_Bool}
 use Rattle.std.proofs.lemmas.Bool.Decides.{nat_tests}
 use Rattle.std.proofs.lemmas.List.Sums.{sum_by-cons}
 use Rattle.extent_map.specs.declared.extents.Extent.{Extent}
@@ -28,11 +28,54 @@ unfolding count_below
 count_below-balance f g h k zero each = refl
 count_below-balance f g h k (suc n) each = omega (arith, count_below-balance f g h k n each, each n)
 
--- a test that nothing passes counts nothing
-pub count_below-none : (f : ℕ → Bool) (n : ℕ) → ((b : ℕ) → f b ≡ false) → count_below f n ≡ 0
+-- one more block
+pub count_below-more : (f : ℕ → Bool) (n : ℕ) → count_below f (n + 1) ≡ count_below f n + one_if (f n)
 unfolding count_below
-count_below-none f zero none = refl
-count_below-none f (suc n) none = omega (arith, count_below-none f n none, ap one_if (none n))
+count_below-more f n = ap (count_below f) {x = n + 1} {y = suc n} (omega arith)
+
+-- no more blocks pass than there are
+pub count_below-le : (f : ℕ → Bool) (n : ℕ) → count_below f n ≤ n
+unfolding count_below
+count_below-le f zero = omega arith
+count_below-le f (suc n) = elim (cases_Bool (f n)) [
+  | inl passes ↦ omega (arith, count_below-le f n, ap one_if passes)
+  | inr fails ↦ omega (arith, count_below-le f n, ap one_if fails)
+]
+
+-- two tests that agree below n count the same
+pub count_below-agree : (f g : ℕ → Bool) (n : ℕ) → ((b : ℕ) → b < n → f b ≡ g b) → count_below f n ≡ count_below g n
+unfolding count_below
+count_below-agree f g zero agree = refl
+count_below-agree f g (suc n) agree =
+    omega (arith, count_below-agree f g n (λ b lt. agree b (omega arith)), ap one_if (agree n (omega arith)))
+
+-- blocks that fail add nothing
+pub count_below-none : (f : ℕ → Bool) (low high : ℕ) → low ≤ high → ((b : ℕ) → low ≤ b → b < high → f b ≡ false) → count_below f high ≡ count_below f low
+unfolding count_below
+count_below-none f low zero le none = ap (count_below f) {x = 0} {y = low} (omega arith)
+count_below-none f low (suc high) le none = elim (cases_eq low (suc high)) [
+  | inl same ↦ ap (count_below f) (sym same)
+  | inr apart ↦
+      omega (arith, count_below-none f low high (omega arith) (λ b ge lt. none b ge (omega arith)), ap one_if (none high (omega arith) (omega arith)))
+]
+
+-- a test that nothing passes counts nothing
+pub count_below-zero : (f : ℕ → Bool) (n : ℕ) → ((b : ℕ) → f b ≡ false) → count_below f n ≡ 0
+unfolding count_below
+count_below-zero f n none = count_below-none f 0 n (omega arith) (λ b ge lt. none b)
+
+-- one block that no longer passes counts one less
+pub count_below-less : (f g : ℕ → Bool) (n block : ℕ) → block < n → f block ≡ true → g block ≡ false → ((b : ℕ) → b ≢ block → g b ≡ f b) → count_below g n + 1 ≡ count_below f n
+unfolding count_below
+count_below-less f g zero block lt was is same = absurd (omega arith)
+count_below-less f g (suc n) block lt was is same = elim (cases_eq block n) [
+  | inl here ↦
+      let before = count_below-agree g f n (λ b below. same b (omega arith)) in
+      omega (arith, before, ap one_if (ap f (sym here) ∙ was), ap one_if (ap g (sym here) ∙ is))
+  | inr apart ↦
+      let below = count_below-less f g n block (omega arith) was is same in
+      omega (arith, below, ap one_if (same n (omega arith)))
+]
 
 range_below : (first count n : ℕ) → count_below (λ b. is_within first count b) n ≡ min (n - first) count
 unfolding count_below
@@ -56,7 +99,7 @@ count_below-range first count n fits = omega (arith, range_below first count n)
 
 -- the number of blocks is that of the file blocks that have a disk block
 pub block_count-mapped : (es : List Extent) → IsCanonical es → block_count es ≡ count_below (λ b. is_mapped es b) 4096
-block_count-mapped [] c = sym (count_below-none (λ b. is_mapped [] b) 4096 (λ b. refl))
+block_count-mapped [] c = sym (count_below-zero (λ b. is_mapped [] b) 4096 (λ b. refl))
 block_count-mapped (e ∷ es) c =
     let ok : IsExtent e = c.each 0 e (omega arith) in
     let each : (b : ℕ) → one_if (is_mapped (e ∷ es) b) + one_if false ≡ one_if (is_within e.file e.count b) + one_if (is_mapped es b) = λ b. elim (cases_Bool (holds e b)) [
@@ -68,7 +111,7 @@ block_count-mapped (e ∷ es) c =
       sum_by-cons (λ (x : Extent). x.count) e es,
       block_count-mapped es (IsCanonical-tail e es c),
       count_below-range e.file e.count 4096 ok.in_file,
-      count_below-none (λ b. false) 4096 (λ b. refl),
+      count_below-zero (λ b. false) 4096 (λ b. refl),
       count_below-balance (λ b. is_mapped (e ∷ es) b) (λ b. false) (λ b. is_within e.file e.count b) (λ b. is_mapped es b) 4096 each,
     )
 
@@ -83,3 +126,16 @@ block_count-balance es fs gs first count c d e fits each =
       count_below-range first count 4096 fits,
       count_below-balance (λ b. is_mapped es b) (λ b. is_mapped fs b) (λ b. is_mapped gs b) (λ b. is_within first count b) 4096 each,
     )
+
+length-le-block_count : (es : List Extent) → IsCanonical es → length es ≤ block_count es
+length-le-block_count [] c = omega arith
+length-le-block_count (e ∷ es) c =
+    let ok : IsExtent e = c.each 0 e (omega arith) in
+    omega (arith, sum_by-cons (λ (x : Extent). x.count) e es, length-le-block_count es (IsCanonical-tail e es c), ok.filled)
+
+-- a map has at most 4,096 blocks, and so at most as many extents
+pub block_count-le : (es : List Extent) → IsCanonical es → block_count es ≤ 4096
+block_count-le es c = omega (arith, block_count-mapped es c, count_below-le (λ b. is_mapped es b) 4096)
+
+pub length-le : (es : List Extent) → IsCanonical es → length es ≤ 4096
+length-le es c = omega (arith, length-le-block_count es c, block_count-le es c)

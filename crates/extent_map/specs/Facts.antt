@@ -125,3 +125,7 @@ disk_at-more_here es i b d c lt here =
 
 pub disk_at-more_away : (es : List Extent) (i b : ℕ) (d : Extent) → i < length es → holds (get_or es i d) b ≡ false → disk_at (take (i + 1) es) b ≡ disk_at (take i es) b
 disk_at-more_away es i b d lt away = rw (take_more es i d lt) (disk_at-push_away (take i es) (get_or es i d) b away)
+
+-- no block from 4,096 on is mapped
+pub disk_at-past : (es : List Extent) (b : ℕ) → IsCanonical es → 4096 ≤ b → disk_at es b ≡ None
+disk_at-past es b c le = disk_at-None es b (λ k d lt. let ok = c.each k d lt in grind (arith, nat_tests, ok.in_file))

@@ -31,6 +31,11 @@ pub enum RelinkFault {
 }
 
 impl fmt::Display for RelinkFault {
+    ghost use Rattle.std.specs.Prelude.{Some};
+    ghost use Rattle.k_relink.specs.Texts.{fault_text};
+
+    ghost output = { λ fault. Some (fault_text fault) };
+
     fn fmt<W: fmt::Write>(&self, f: &mut fmt::Formatter<W>) -> fmt::Result {
         match self {
             RelinkFault::Hole { block } => write!(f, "the source has no disk block at {block}"),
@@ -53,7 +58,8 @@ impl From<AllocError> for RelinkFault {
 }
 
 /// Moves the disk blocks of `count` file blocks of the source, from `src_block` on, to the target's
-/// file blocks from `dst_block` on.
+/// file blocks from `dst_block` on. Both ranges end by `FILE_BLOCKS`. The maps that are handed in stay
+/// as they are, and after an error there are no others.
 pub fn relink(
     alloc: Global,
     src: &ExtentMap,
@@ -64,8 +70,10 @@ pub fn relink(
 ) -> Result<Relinked, RelinkFault>
     requires source { src_block + count ≤ FILE_BLOCKS }
     requires target { dst_block + count ≤ FILE_BLOCKS }
-    ensures moved { IfOk result (λ r. Moves src_block dst_block count src.now dst.now r.src r.dst r.freed.items) }
-    ensures hole { (block : ℕ) → (result ≡ Err (RelinkFault.Hole block)) ↔ IsFirstHole src.now src_block count block }
+    ensures moved { IfOk result (λ r.
+        Moves src_block dst_block count src.now dst.now r.src r.dst r.freed.items) }
+    ensures hole { (block : ℕ) →
+        (result ≡ Err (RelinkFault.Hole block)) ↔ IsFirstHole src.now src_block count block }
 {
     if let Some(block) = first_hole(src, src_block, count) {
         return Err(RelinkFault::Hole { block });
@@ -110,7 +118,8 @@ fn lay(
     requires room { to + count ≤ FILE_BLOCKS }
     requires map { IsCanonical map.old }
     ensures canonical { IsCanonical map.new }
-    ensures blocks { OnOk result ((b : ℕ) → disk_at map.new b ≡ option_or (moved_at from to pieces.now b) (disk_at map.old b)) }
+    ensures blocks { OnOk result ((b : ℕ) →
+        disk_at map.new b ≡ option_or (moved_at from to pieces.now b) (disk_at map.old b)) }
 {
     for piece in pieces {
         map.replace_range(Extent {

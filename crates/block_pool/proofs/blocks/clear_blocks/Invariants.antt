@@ -1,6 +1,7 @@
 use Rattle.std.proofs.Common.{◌≡◌, ℕ, ◌+◌, ◌&&◌, not, take}
+use Rattle.extent_map.specs.Counts.{count_below}
 use Rattle.block_pool.specs.FreeSets.{is_among}
-use Rattle.block_pool.specs.Bits.{is_set, count_below}
+use Rattle.block_pool.specs.Bits.{is_set}
 use Rattle.block_pool.proofs.blocks.clear_blocks.Given as goal
 
 -- the bits of the blocks so far are cleared, and each counts one less

@@ -1,7 +1,10 @@
 use Rattle.std.proofs.Common.{◌+◌, arith}
 use Rattle.std.proofs.lemmas.List.{length_push}
-use Rattle.block_pool.proofs.Lowest.{all_found, next_found, lowest_found}
+use Rattle.block_pool.proofs.Lowest.{none_yet, all_found, next_found, lowest_found}
 use Rattle.block_pool.proofs.blocks.lowest_blocks.Goals as goal
+
+pub loop-taken-init : goal.loop-taken-init
+loop-taken-init c = rw c.in_ok-blocks.ensures.items (record { size = omega arith; all = none_yet c.args.words.now c.args.first c.args.count })
 
 -- there are more set bits than were found
 pub unreachable-requires : goal.unreachable-requires

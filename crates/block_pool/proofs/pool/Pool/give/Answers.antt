@@ -2,7 +2,7 @@ use Rattle.std.proofs.Common.{◌≡◌, ◌≢◌, ℕ, ◌+◌, ◌-◌, lengt
 use Rattle.std.proofs.lemmas.List.{with_items_is}
 use Rattle.block_pool.specs.FreeSets.{Gives}
 use Rattle.block_pool.specs.Bits.{is_set, IsKept}
-use Rattle.block_pool.proofs.Counts.{count_le}
+use Rattle.extent_map.specs.Counts.{count_below-le}
 use Rattle.block_pool.proofs.Marks.{seen, in_range, given_within, given_count, given}
 use Rattle.block_pool.proofs.pool.Pool.give.Goals as goal
 
@@ -18,7 +18,7 @@ overflow_add-self c =
     let new = c.set.new.words in
     let others = λ (p : ℕ) (apart : p ≢ c.args.block - inside.first). c.set.ensures.others p apart ∙ ap (λ words. is_set words p) c.deref_mut.ensures.value in
     let more = given_count inside.first inside.count c.args.block inside.words.items new c.args.self.now c.self.view_is c.requires.in_range c.requires.used c.set.ensures.here others in
-    omega (arith, more, c.self.invariant.counted, c.self.invariant.fits, count_le (is_set new) inside.count)
+    omega (arith, more, c.self.invariant.counted, c.self.invariant.fits, count_below-le (is_set new) inside.count)
 
 pub invariant_of-self : goal.invariant_of-self
 invariant_of-self c =

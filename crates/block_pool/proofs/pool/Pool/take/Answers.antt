@@ -1,8 +1,9 @@
 use Rattle.std.proofs.Common.{◌≡◌, ℕ, ◌+◌, ◌&&◌, not, length, refl, sym, ◌∙◌, ap, subst, arith}
-use Rattle.std.proofs.lemmas.Bool.{true≢false}
 use Rattle.std.proofs.lemmas.List.{with_items_is}
+use Rattle.std.proofs.lemmas.Result.{err_from_is_err_and}
+use Rattle.extent_map.specs.Counts.{count_below}
 use Rattle.block_pool.specs.FreeSets.{is_among, free_count, Takes}
-use Rattle.block_pool.specs.Bits.{is_set, count_below, AreLowest}
+use Rattle.block_pool.specs.Bits.{is_set, AreLowest}
 use Rattle.block_pool.proofs.Marks.{seen, free_count-seen, seen_takes}
 use Rattle.block_pool.proofs.pool.Pool.take.Goals as goal
 
@@ -11,10 +12,16 @@ returns-then-self-n-clause-few c =
     let inside = c.self.inside in
     (λ _. omega (arith, c.self.invariant.counted, free_count-seen inside.first inside.count inside.words.items, ap free_count c.self.view_is), λ _. refl)
 
+pub returns-in_err-taken-clause-few : goal.returns-in_err-taken-clause-few
+returns-in_err-taken-clause-few c =
+    let inside = c.self.inside in
+    let failed = err_from_is_err_and c.from_residual.result c.from_residual.ensures.1 in
+    (λ no_answer. absurd (cc), λ less. absurd (omega (arith, c.self.invariant.counted, free_count-seen inside.first inside.count inside.words.items, ap free_count c.self.view_is)))
+
 pub returns-clause-few : goal.returns-clause-few
 returns-clause-few c =
     let inside = c.self.inside in
-    (λ no_answer. absurd (true≢false no_answer), λ less. absurd (omega (arith, c.self.invariant.counted, free_count-seen inside.first inside.count inside.words.items, ap free_count c.self.view_is)))
+    (λ no_answer. absurd (cc), λ less. absurd (omega (arith, c.self.invariant.counted, free_count-seen inside.first inside.count inside.words.items, ap free_count c.self.view_is)))
 
 pub returns-clause-taken : goal.returns-clause-taken
 returns-clause-taken c =

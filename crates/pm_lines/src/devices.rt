@@ -1,6 +1,7 @@
 ghost use Rattle.std.specs.Prelude.{◌≡◌, ◌≢◌, ◌+◌, ◌*◌, ◌/◌, ◌%◌, ◌<◌, ◌≤◌, ℕ, true, false, length, IfOk, OnErr};
 ghost use Rattle.pm_words.specs.Cells.{cell, is_single, is_lent, newest, fenced, MayHold, AllHome};
 ghost use Rattle.pm_words.specs.Cells.{flushed as flushed_cell};
+ghost use Rattle.pm_words.specs.Frames.{SameLent, LineIsSingle, LineIsHome};
 ghost use Rattle.pm_words.specs.Images.{IsImageOf, words_of};
 ghost use Rattle.pm_words.specs.Parts.{GoesOut, ComesBack};
 ghost use Rattle.pm_words.specs.Powers.{is_on, stepped, Steps};
@@ -105,7 +106,7 @@ impl Pm {
     /// The 64 bytes of a line, of each word the newest candidate.
     pub fn read_line(&self, line: u64) -> [u8; 64]
         requires in_device { line < length self.now / 8 }
-        requires home { (i : ℕ) → i / 8 ≡ line → is_lent (cell self.now i) ≡ false }
+        requires home { LineIsHome line self.now }
         ensures bytes { result ≡ line_bytes (words_of self.now) line }
         ensures words { (i : ℕ) → i / 8 ≡ line → word_at result (i % 8) ≡ newest (cell self.now i) }
     {
@@ -128,7 +129,7 @@ impl Pm {
     /// Marks the present candidates of the line's words, in one step.
     pub fn flush(&mut self, power: &mut Power, line: u64)
         requires in_device { line < length self.old / 8 }
-        requires home { (i : ℕ) → i / 8 ≡ line → is_lent (cell self.old i) ≡ false }
+        requires home { LineIsHome line self.old }
         ensures flush { FlushesLine (is_on power.old) line self.old self.new }
         ensures power { power.new ≡ stepped power.old }
         ensures steps { Steps 1 power.old power.new }
@@ -159,7 +160,8 @@ impl Pm {
     pub fn choose(&self, alloc: Global, choice: Choice) -> Result<Vec<u8>, AllocError>
         requires { AllHome self.now }
         ensures image { IfOk result (λ bytes. IsImageOf self.now bytes.items) }
-        ensures chosen { IfOk result (λ bytes. (i : ℕ) → word_at bytes.items i ≡ chosen choice self.now i) }
+        ensures chosen { IfOk result (λ bytes. (i : ℕ)
+            → word_at bytes.items i ≡ chosen choice self.now i) }
     {
         chosen_bytes(alloc, &self.cells, choice)
     }
@@ -190,7 +192,7 @@ impl Pm {
     /// Takes a line out. Its words are then those of the `Line`, until `put_line`.
     pub fn take_line(&mut self, line: u64) -> Line
         requires in_device { line < length self.old / 8 }
-        requires single { (i : ℕ) → i / 8 ≡ line → is_single (cell self.old i) ≡ true }
+        requires single { LineIsSingle line self.old }
         ensures size { length self.new ≡ length self.old }
         ensures place { result.place ≡ line }
         ensures lent { GoesOut 8 line self.old self.new result.cells }
@@ -212,15 +214,17 @@ impl Pm {
     /// Stores the 64 bytes of a line and flushes it, in nine steps. The next fence makes them durable.
     pub fn write_line(&mut self, power: &mut Power, line: u64, bytes: &[u8; 64])
         requires in_device { line < length self.old / 8 }
-        requires single { (i : ℕ) → i / 8 ≡ line → is_single (cell self.old i) ≡ true }
+        requires single { LineIsSingle line self.old }
         ensures size { length self.new ≡ length self.old }
-        ensures lent { (i : ℕ) → is_lent (cell self.new i) ≡ is_lent (cell self.old i) }
+        ensures lent { SameLent self.old self.new }
         ensures others { (i : ℕ) → i / 8 ≢ line → cell self.new i ≡ cell self.old i }
         ensures steps { Steps 9 power.old power.new }
 
         // Wherever the power goes, each word is the old one or the new one.
-        ensures torn { (i : ℕ) → i / 8 ≡ line → MayHold (cell self.old i) (word_at bytes.now (i % 8)) (cell self.new i) }
-        ensures done { is_on power.new ≡ true → (i : ℕ) → i / 8 ≡ line → fenced (cell self.new i) ≡ Cell.Single (word_at bytes.now (i % 8)) }
+        ensures torn { (i : ℕ) → i / 8 ≡ line
+            → MayHold (cell self.old i) (word_at bytes.now (i % 8)) (cell self.new i) }
+        ensures done { is_on power.new ≡ true → (i : ℕ) → i / 8 ≡ line
+            → fenced (cell self.new i) ≡ Cell.Single (word_at bytes.now (i % 8)) }
         ensures off { is_on power.old ≡ false → (self.new ≡ self.old) × (power.new ≡ power.old) }
     {
         // It bounds the words' numbers.

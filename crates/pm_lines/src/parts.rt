@@ -21,7 +21,8 @@ fn lend(cells: &mut [Cell], first: usize, count: usize)
 // Puts a part back from `first` on, without its marks.
 fn settle(cells: &mut [Cell], first: usize, part: &[Cell])
     requires { first + length part.now ≤ length cells.old }
-    ensures words { (i : ℕ) → first ≤ i → i < first + length part.now → cell cells.new i ≡ unmarked (cell part.now (i - first)) }
+    ensures words { (i : ℕ) → first ≤ i → i < first + length part.now
+        → cell cells.new i ≡ unmarked (cell part.now (i - first)) }
     ensures below { (i : ℕ) → i < first → cell cells.new i ≡ cell cells.old i }
     ensures above { (i : ℕ) → first + length part.now ≤ i → cell cells.new i ≡ cell cells.old i }
 {
@@ -36,7 +37,8 @@ pub(crate) fn take_out(cells: &mut [Cell], size: usize, n: usize, part: &mut [Ce
     requires in_range { size * n + size ≤ length cells.old }
     requires fits { length part.old ≡ size }
     ensures out { GoesOut size n cells.old cells.new part.new }
-    ensures marks { (i : ℕ) → is_marked (cell cells.new i) ≡ true → is_marked (cell cells.old i) ≡ true }
+    ensures marks { (i : ℕ) → is_marked (cell cells.new i) ≡ true
+        → is_marked (cell cells.old i) ≡ true }
 {
     let first = size * n;
     part.copy_from_slice(&cells[first..first + size]);
@@ -49,7 +51,8 @@ pub(crate) fn put_back(cells: &mut [Cell], size: usize, n: usize, part: &[Cell])
     requires in_range { size * n + size ≤ length cells.old }
     requires fits { length part.now ≡ size }
     ensures back { ComesBack size n part.now cells.old cells.new }
-    ensures marks { (i : ℕ) → is_marked (cell cells.new i) ≡ true → is_marked (cell cells.old i) ≡ true }
+    ensures marks { (i : ℕ) → is_marked (cell cells.new i) ≡ true
+        → is_marked (cell cells.old i) ≡ true }
 {
     settle(cells, size * n, part);
 }

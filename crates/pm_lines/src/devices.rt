@@ -15,7 +15,7 @@ use crate::choices::Choice;
 use crate::images::{bytes_of_line, chosen_bytes, single_cells, word_in};
 use crate::lines::Line;
 use crate::loans::Loan;
-use crate::parts::{put_back, take_out};
+use crate::parts::{put_back, take_block, take_out};
 use crate::powers::Power;
 use pm_words::Cell;
 use std::alloc::{AllocError, Global};
@@ -175,8 +175,7 @@ impl Pm {
         ensures lent { IfOk result (λ loan. GoesOut 512 block self.old self.new loan.cells) }
         ensures err { OnErr result (self.new ≡ self.old) }
     {
-        let mut cells = vec![in alloc; Cell::Lent; 512]?;
-        take_out(&mut self.cells, 512, block as usize, &mut cells);
+        let cells = take_block(alloc, &mut self.cells, block as usize)?;
         Ok(Loan::of(block, cells))
     }
 
@@ -185,6 +184,7 @@ impl Pm {
         requires out { (i : ℕ) → i / 512 ≡ loan.place → is_lent (cell self.old i) ≡ true }
         ensures size { length self.new ≡ length self.old }
         ensures back { ComesBack 512 loan.place loan.cells self.old self.new }
+        ensures home { (i : ℕ) → i / 512 ≡ loan.place → is_lent (cell self.new i) ≡ false }
     {
         put_back(&mut self.cells, 512, loan.block() as usize, loan.cells());
     }
@@ -207,6 +207,7 @@ impl Pm {
         requires out { (i : ℕ) → i / 8 ≡ line.place → is_lent (cell self.old i) ≡ true }
         ensures size { length self.new ≡ length self.old }
         ensures back { ComesBack 8 line.place line.cells self.old self.new }
+        ensures home { LineIsHome line.place self.new }
     {
         put_back(&mut self.cells, 8, line.place() as usize, line.cells());
     }

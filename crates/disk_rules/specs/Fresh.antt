@@ -26,8 +26,14 @@ state_bytes base = to_le_bytes w64 base ++ zeros 56
 abbrev pub blank : Words
 blank w = 0
 
+-- inode 0 a directory, 1 to 4 staging files
+abbrev pub staging_files : Words
+staging_files =
+    with_inode 1 (empty_inode Staging 0) (with_inode 2 (empty_inode Staging 0)
+    (with_inode 3 (empty_inode Staging 0) (with_inode 4 (empty_inode Staging 0) blank)))
+
+abbrev pub first_inodes : Words
+first_inodes = with_inode 0 (empty_inode Directory 0) staging_files
+
 unfoldable pub fresh : Geometry → Words
-fresh g =
-    with_line 0 (superblock g) (with_line state_line (state_bytes 1)
-    (with_inode 0 (empty_inode Directory 0) (with_inode 1 (empty_inode Staging 0) (with_inode 2 (empty_inode Staging 0)
-    (with_inode 3 (empty_inode Staging 0) (with_inode 4 (empty_inode Staging 0) blank))))))
+fresh g = with_line 0 (superblock g) (with_line state_line (state_bytes 1) first_inodes)

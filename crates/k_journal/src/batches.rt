@@ -1,4 +1,4 @@
-ghost use Rattle.std.specs.Prelude.{◌≡◌, ◌≢◌, ◌<◌, ◌≤◌, ◌==◌, ℕ, Bool, true, [], length, IsOk, OnOk, OnErr, IfOk, IfErr, MatchOption};
+ghost use Rattle.std.specs.Prelude.{◌≡◌, ◌≢◌, ◌+◌, ◌<◌, ◌≤◌, ◌==◌, ℕ, Bool, true, [], length, IsOk, OnOk, OnErr, IfOk, IfErr, MatchOption};
 ghost use Rattle.k_journal.specs.Batch.{target, with_batch, with_line_set, AllLines, HasLine, IsDistinct, IsNew, IsFirstPlace};
 ghost use Rattle.pm_words.specs.Words.{Words, with_line};
 
@@ -79,6 +79,7 @@ impl Batch {
             × (length self.old ≡ 128) × IsNew self.old line) }
         ensures err { OnErr result (self.new ≡ self.old) }
 
+        ensures count { length self.new ≤ length self.old + 1 }
         ensures entries { OnOk result (self.new ≡ with_line_set self.old line bytes) }
         ensures meaning { OnOk result ((f : Words) (i : ℕ)
             → with_batch self.new f i ≡ with_line line bytes (with_batch self.old f) i) }

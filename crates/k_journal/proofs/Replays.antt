@@ -1,11 +1,11 @@
 -- The words after some records, as a recovery makes them durable one by one.
-use Rattle.std.proofs.Common.{◌≡◌, ◌≢◌, ◌⊎◌, ◌+◌, ◌*◌, ◌/◌, ◌%◌, ◌<◌, ◌≤◌, ℕ, false, List, refl, sym, ◌∙◌, ap, inl, inr, ⊎_elim, arith, lit≤}
+use Rattle.std.proofs.Common.{◌≡◌, ◌≢◌, ◌+◌, ◌*◌, ◌/◌, ◌%◌, ◌<◌, ◌≤◌, ℕ, false, List, refl, sym, ◌∙◌, ap, inl, inr, ⊎_elim, arith, lit≤}
 use Rattle.std.proofs.lemmas.Bool.{both_ways, cases_eq}
 use Rattle.disk_places.specs.Journal.{journaled, patched, record_target, record_word}
-use Rattle.disk_places.specs.PlaceLaws.{journaled_bounds, journaled-below_log}
-use Rattle.disk_places.specs.Places.{Geometry, IsGeometry, commit_word, state_line, inode_line, record_line, log_line, is_journaled_line}
+use Rattle.disk_places.specs.PlaceLaws.{journaled_bounds}
+use Rattle.disk_places.specs.Places.{Geometry, commit_word, record_line, is_journaled_line}
 use Rattle.k_journal.specs.Patches.{find_target, patched-miss, patched-hit, patched-same, patched-last, patched-skip}
-use Rattle.k_journal.specs.Recoveries.{KeepsView, AreJournaled, IsReplayStage}
+use Rattle.k_journal.specs.Recoveries.{KeepsView, AreApart, AreJournaled, IsReplayStage}
 use Rattle.k_journal.specs.Recoveries.IsReplayStage.{Pending, Emptied}
 use Rattle.pm_words.specs.declared.Cell.{Cell}
 use Rattle.pm_words.specs.declared.Cell.TheVariants.{Single}
@@ -15,16 +15,12 @@ use Rattle.pm_words.specs.Images.{IsImage, words_of}
 use Rattle.pm_words.specs.Words.{Words}
 use Rattle.k_journal.proofs.Views.{same_views, journaled-journal, journaled-counted, journaled-idle, not_commit_word}
 
--- no target is a line of the records
-pub record AreApart (n : ℕ) (w : Words) : Type 0 where
-  pub apart : (r : ℕ) → r < n → (record_target w r ≡ state_line) ⊎ (inode_line 0 ≤ record_target w r)
-
 -- a word of the records stays
 pub patched-record : (n : ℕ) (w : Words) (i : ℕ) → AreApart n w → 64 ≤ i / 8 → i / 8 < 320 → patched n (record_target w) (record_word w) w i ≡ w i
 patched-record n w i apart from below = patched-miss n (record_target w) (record_word w) w i (λ r h e. ⊎_elim
     (λ (state : record_target w r ≡ 2). absurd (omega arith))
     (λ (region : 320 ≤ record_target w r). absurd (omega arith))
-    (apart.apart r h))
+    (apart r h))
 
 -- The device `mid` has the words after n records of `old`.
 pub record IsReplayed (n : ℕ) (old mid : List Cell) : Type 0 where
@@ -57,19 +53,12 @@ replayed-more n old mid new h apart replayed others done i =
 
 -- ---- journaled targets
 
--- the first n records have journaled targets, and so they are apart from the journal and within the device
+-- journaled targets are apart from the journal
 pub apart-journaled : (g : Geometry) (n : ℕ) (w : Words) → AreJournaled g n w → AreApart n w
-apart-journaled g n w journaled = record {
-  apart = λ r h. elim (journaled_bounds g (record_target w r) (journaled r h)) [
-    | inl state ↦ inl state
-    | inr region ↦ inr (elim region [ inl inodes ↦ inodes.0 | inr names ↦ omega (arith, names.0) ])
-  ];
-}
-
-pub within-journaled : (g : Geometry) (n size : ℕ) (w : Words) → IsGeometry g → size ≡ 512 * g.blocks → AreJournaled g n w → (r : ℕ) → r < n → record_target w r < size / 8
-within-journaled g n size w ok blocks journaled r h =
-    let below : record_target w r < log_line g 0 = journaled-below_log g (record_target w r) (journaled r h) in
-    omega (arith, blocks, ok.least_data)
+apart-journaled g n w journaled r h = elim (journaled_bounds g (record_target w r) (journaled r h)) [
+  | inl state ↦ inl state
+  | inr region ↦ inr (elim region [ inl inodes ↦ inodes.0 | inr names ↦ omega (arith, names.0) ])
+]
 
 -- a word that is on no journaled line is on none of the records'
 pub not_target : (g : Geometry) (n : ℕ) (w : Words) (i : ℕ) → AreJournaled g n w → is_journaled_line g (i / 8) ≡ false → (r : ℕ) → r < n → record_target w r ≢ i / 8
@@ -84,7 +73,7 @@ same_journal g n w image journaled same i from below =
     same i (λ e. absurd (omega arith)) (λ r h e. ⊎_elim
     (λ (state : record_target w r ≡ 2). absurd (omega arith))
     (λ (region : 320 ≤ record_target w r). absurd (omega arith))
-    ((apart-journaled g n w journaled).apart r h))
+    (apart-journaled g n w journaled r h))
 
 pub keeps_view : (g : Geometry) (n : ℕ) (w image : Words) → w commit_word ≡ n → n ≤ 128 → AreJournaled g n w → IsReplayStage n w image → KeepsView g w image
 keeps_view g n w image pending most journaled_targets (Pending count same) =

@@ -3,12 +3,11 @@ use Rattle.std.proofs.Common.{◌≡◌, ◌≢◌, ◌+◌, ◌*◌, ◌/◌, �
 use Rattle.std.proofs.Math.Path.{fun_ext}
 use Rattle.std.proofs.lemmas.Bool.{cases_Bool, cond-true, cond-false, le-leb, both_ways, false_from_ne_true, or_cases, or_parts, and_parts, eqb-true, eq-eqb, ne_eqb, leb-true, lt-leb, ltb-true, or_from, and_left}
 use Rattle.disk_places.specs.Journal.{is_journal_word, journaled, committed, patched, record_target, record_word}
-use Rattle.disk_places.specs.PlaceLaws.{journaled_bounds, journaled-below_log}
-use Rattle.disk_places.specs.Places.{Geometry, IsGeometry, commit_word, record_line, name_line, log_line, is_journaled_line}
-use Rattle.k_journal.specs.Batch.{target, content, with_batch, AllLines, IsDistinct, IsNew}
-use Rattle.k_journal.specs.Commits.{MayCommit, IsBeforeOrAfter}
+use Rattle.disk_places.specs.Places.{Geometry, commit_word, record_line, name_line, is_journaled_line}
+use Rattle.k_journal.specs.Batch.{target, content, with_batch, IsDistinct, IsNew}
+use Rattle.k_journal.specs.Commits.{MayCommit, IsBeforeOrAfter, IsAfter}
 use Rattle.k_journal.specs.Patches.{find_target, patched-none, patched-miss, patched-hit, patched-at, patched-same}
-use Rattle.k_journal.specs.Phases.{IsApart, IsRecorded, IsDone, IsStage}
+use Rattle.k_journal.specs.Phases.{AreRecorded, AreInPlace, IsStage}
 use Rattle.k_journal.specs.Phases.IsStage.{Unbegun, Recorded, Applied}
 use Rattle.k_journal.specs.declared.batches.Entry.{Entry}
 use Rattle.pm_words.specs.declared.Cell.{Cell}
@@ -44,7 +43,7 @@ journal_word-apart g w journal =
 
 -- ---- the journaled view
 
-committed-is : (image : Words) (n : ℕ) → image 8 ≡ n → n ≤ 128 → committed image ≡ n
+pub committed-is : (image : Words) (n : ℕ) → image 8 ≡ n → n ≤ 128 → committed image ≡ n
 committed-is image n count most = rw count (cond-true (leb n 128) n 0 (le-leb n 128 most))
 
 pub journaled-journal : (image : Words) (w : ℕ) → is_journal_word w ≡ true → journaled image w ≡ 0
@@ -87,7 +86,7 @@ pub record IsFramed (b : List Entry) (old new : List Cell) : Type 0 where
 apart_word : (g : Geometry) (b : List Entry) (old : List Cell) (i : ℕ) → MayCommit g b old → is_single (cell old i) ≡ false → (is_journal_word i ≡ false) × IsNew b (i / 8)
 apart_word g b old i may other = (
   false_from_ne_true (is_journal_word i) (λ journal. both_ways (is_single (cell old i)) other (may.journal i (journal_word-below i journal))),
-  λ k h e. both_ways (is_single (cell old i)) other (may.targets k i h (sym e)),
+  λ k h e. both_ways (is_single (cell old i)) other (may.targets k h i (sym e)),
 )
 
 pub comes_from : (g : Geometry) (b : List Entry) (old new : List Cell) (image : Words) → MayCommit g b old → IsFramed b old new → IsImage new image
@@ -142,10 +141,10 @@ old_view g b old new image may is count settles = record {
   sound = λ _. record { count = rw count (lit≤ tt); targets = λ r h. absurd (omega (arith, count)) };
 }
 
-recorded_target : (b : List Entry) (n k : ℕ) (new : List Cell) (image : Words) → IsRecorded b n new → IsImage new image → k < n → record_target image k ≡ target b k
+recorded_target : (b : List Entry) (n k : ℕ) (new : List Cell) (image : Words) → AreRecorded b n new → IsImage new image → k < n → record_target image k ≡ target b k
 recorded_target b n k new image recorded is h = rw (recorded.targets k h) at (is (8 * record_line k))
 
-recorded_word : (b : List Entry) (n k w : ℕ) (new : List Cell) (image : Words) → IsRecorded b n new → IsImage new image → k < n → record_word image k (w % 8) ≡ content b k (w % 8)
+recorded_word : (b : List Entry) (n k w : ℕ) (new : List Cell) (image : Words) → AreRecorded b n new → IsImage new image → k < n → record_word image k (w % 8) ≡ content b k (w % 8)
 recorded_word b n k w new image recorded is h =
     let i : ℕ = 8 * (record_line k + 1) + w % 8 in
     let column : i % 8 ≡ w % 8 = omega arith in
@@ -161,7 +160,7 @@ same_below b f g w same = ⊎_elim
 
 -- the records count
 pub recorded_view : (g : Geometry) (b : List Entry) (old new : List Cell) (image : Words) → MayCommit g b old → IsFramed b old new → IsImage new image
-    → length b ≤ 128 → image 8 ≡ length b → IsRecorded b (length b) new → IsBeforeOrAfter g b (before old image) image
+    → length b ≤ 128 → image 8 ≡ length b → AreRecorded b (length b) new → IsBeforeOrAfter g b (before old image) image
 recorded_view g b old new image may framed is most count recorded = record {
   view = inr (same_views (journaled image) (with_batch b (journaled (before old image)))
       (λ w journal. journaled-journal image w journal ∙ sym (batch-journal g b old (before old image) w may journal))
@@ -178,9 +177,9 @@ recorded_view g b old new image may framed is most count recorded = record {
 
 -- no record counts and the lines are set
 pub new_view : (g : Geometry) (b : List Entry) (old new : List Cell) (image : Words) → MayCommit g b old → IsFramed b old new → IsImage new image
-    → IsDistinct b → image 8 ≡ 0 → IsDone b (length b) new → IsBeforeOrAfter g b (before old image) image
+    → IsDistinct b → image 8 ≡ 0 → AreInPlace b (length b) new → IsAfter g b (before old image) image
 new_view g b old new image may framed is distinct count done = record {
-  view = inr (same_views (journaled image) (with_batch b (journaled (before old image)))
+  view = same_views (journaled image) (with_batch b (journaled (before old image)))
       (λ w journal. journaled-journal image w journal ∙ sym (batch-journal g b old (before old image) w may journal))
       (λ w apart. journaled-idle image w count apart ∙ ⊎_elim
       (λ (found : (k : ℕ) × (k < length b) × (target b k ≡ w / 8)).
@@ -189,9 +188,9 @@ new_view g b old new image may framed is distinct count done = record {
       (λ (none : (k : ℕ) → k < length b → target b k ≢ w / 8).
       settled_word old new image w (framed.frame w apart none) is ∙ sym (before-view g b old image w may apart)
       ∙ sym (patched-miss (length b) (target b) (content b) (journaled (before old image)) w none))
-      (find_target (length b) (target b) (w / 8))));
+      (find_target (length b) (target b) (w / 8)));
   others = λ w apart fresh. settled_word old new image w (framed.frame w apart fresh) is;
-  sound = λ _. record { count = rw count (lit≤ tt); targets = λ r h. absurd (omega (arith, count)) };
+  sound = record { count = rw count (lit≤ tt); targets = λ r h. absurd (omega (arith, count)) };
 }
 
 -- whichever stage an image shows
@@ -199,7 +198,9 @@ pub stage_view : (g : Geometry) (b : List Entry) (old new : List Cell) (image : 
     → length b ≤ 128 → IsDistinct b → IsStage b old new image → IsBeforeOrAfter g b (before old image) image
 stage_view g b old new image may framed is most distinct (Unbegun count settles) = old_view g b old new image may is count settles
 stage_view g b old new image may framed is most distinct (Recorded count recorded) = recorded_view g b old new image may framed is most count recorded
-stage_view g b old new image may framed is most distinct (Applied count done) = new_view g b old new image may framed is distinct count done
+stage_view g b old new image may framed is most distinct (Applied count done) =
+    let after : IsAfter g b (before old image) image = new_view g b old new image may framed is distinct count done in
+    record { view = inr after.view; others = after.others; sound = λ _. after.sound }
 
 -- The device after a commit, or after a part of it.
 pub follows : (g : Geometry) (b : List Entry) (old new : List Cell) → MayCommit g b old → IsFramed b old new → length b ≤ 128 → IsDistinct b
@@ -207,12 +208,18 @@ pub follows : (g : Geometry) (b : List Entry) (old new : List Cell) → MayCommi
 follows g b old new may framed most distinct stages image is =
     (before old image, comes_from g b old new image may framed is, stage_view g b old new image may framed is most distinct (stages image is))
 
+-- the device after a whole commit
+pub follows-after : (g : Geometry) (b : List Entry) (old new : List Cell) → MayCommit g b old → IsFramed b old new → IsDistinct b
+    → cell new commit_word ≡ Single 0 → AreInPlace b (length b) new → Follows (IsAfter g b) old new
+follows-after g b old new may framed distinct idle done image is =
+    (before old image, comes_from g b old new image may framed is, new_view g b old new image may framed is distinct (rw idle at (is commit_word)) done)
+
 -- a device that is as it was
 pub follows-same : (g : Geometry) (b : List Entry) (d : List Cell) → Follows (IsBeforeOrAfter g b) d d
 follows-same g b d = Follows-same (IsBeforeOrAfter g b) d (λ f. record { view = inl refl; others = λ w apart fresh. refl; sound = λ sound. sound })
 
 -- After the commit, each word of one candidate that is not the journal's is as the batch sets it.
-pub words-done : (b : List Entry) (old new : List Cell) → IsDistinct b → IsFramed b old new → IsDone b (length b) new
+pub words-done : (b : List Entry) (old new : List Cell) → IsDistinct b → IsFramed b old new → AreInPlace b (length b) new
     → (i : ℕ) → is_journal_word i ≡ false → is_single (cell old i) ≡ true → cell new i ≡ Single (with_batch b (words_of old) i)
 words-done b old new distinct framed done i apart single = ⊎_elim
     (λ (found : (k : ℕ) × (k < length b) × (target b k ≡ i / 8)).
@@ -222,16 +229,3 @@ words-done b old new distinct framed done i apart single = ⊎_elim
     settled-single (cell old i) (cell new i) (framed.frame i apart none) single
     ∙ ap Single (sym (patched-miss (length b) (target b) (content b) (words_of old) i none)))
     (find_target (length b) (target b) (i / 8))
-
--- ---- the batch's lines
-
-pub lines_within : (g : Geometry) (b : List Entry) (d : List Cell) → IsGeometry g → MayCommit g b d → (k : ℕ) → k < length b → target b k < length d / 8
-lines_within g b d ok may k h =
-    let below : target b k < log_line g 0 = journaled-below_log g (target b k) (may.lines k h) in
-    omega (arith, may.blocks, ok.least_data)
-
-pub lines_apart : (g : Geometry) (b : List Entry) → AllLines (is_journaled_line g) b → IsApart b
-lines_apart g b lines k h = elim (journaled_bounds g (target b k) (lines k h)) [
-  | inl state ↦ inl state
-  | inr region ↦ inr (elim region [ inl inodes ↦ inodes.0 | inr names ↦ omega (arith, names.0) ])
-]

@@ -2,9 +2,10 @@
 ghost use Rattle.std.specs.Prelude.{◌≡◌, ◌≢◌, ◌+◌, ◌*◌, ◌/◌, ◌%◌, ◌<◌, ◌≤◌, ℕ, true, length};
 ghost use Rattle.disk_places.specs.Places.{record_line};
 ghost use Rattle.k_journal.specs.Batch.{target, content, IsDistinct, IsNew};
-ghost use Rattle.k_journal.specs.Phases.{IsApart, IsRecorded, IsDone};
+ghost use Rattle.k_journal.specs.Phases.{IsApart, AreRecorded, AreInPlace};
 ghost use Rattle.pm_words.specs.declared.Cell.TheVariants.{Single};
 ghost use Rattle.pm_words.specs.Cells.{cell, is_single, is_lent, fenced, MayHold, Settles};
+ghost use Rattle.pm_words.specs.Frames.{SameLent, KeepsSingle, LineIsSingle};
 ghost use Rattle.pm_words.specs.Powers.{is_on, Steps};
 ghost use Rattle.pm_words.specs.Words.{word_at};
 
@@ -19,14 +20,14 @@ const COMMIT_LINE: u64 = 1;
 // Makes the commit word durable.
 pub(crate) fn set_count(count: u64, pm: &mut Pm, power: &mut Power)
     requires device { 16 ≤ length pm.old }
-    requires single { (i : ℕ) → i / 8 ≡ 1 → is_single (cell pm.old i) ≡ true }
+    requires single { LineIsSingle 1 pm.old }
     ensures size { length pm.new ≡ length pm.old }
-    ensures lent { (i : ℕ) → is_lent (cell pm.new i) ≡ is_lent (cell pm.old i) }
+    ensures lent { SameLent pm.old pm.new }
     ensures steps { Steps 3 power.old power.new }
     ensures others { (i : ℕ) → i ≢ 8 → Settles (cell pm.old i) (cell pm.new i) }
     ensures torn { MayHold (cell pm.old 8) count (cell pm.new 8) }
     ensures set { is_on power.new ≡ true → cell pm.new 8 ≡ Single count }
-    ensures keeps { is_on power.new ≡ true → (i : ℕ) → is_single (cell pm.old i) ≡ true → is_single (cell pm.new i) ≡ true }
+    ensures keeps { is_on power.new ≡ true → KeepsSingle pm.old pm.new }
 {
     pm.store_word(power, COMMIT_WORD, count);
     pm.flush(power, COMMIT_LINE);
@@ -38,14 +39,14 @@ pub(crate) fn put_targets(entries: &[Entry], pm: &mut Pm, power: &mut Power)
     requires distinct { IsDistinct entries.now }
     requires apart { IsApart entries.now }
     requires in_device { (k : ℕ) → k < length entries.now → target entries.now k < length pm.old / 8 }
-    requires single { (k i : ℕ) → k < length entries.now → i / 8 ≡ target entries.now k → is_single (cell pm.old i) ≡ true }
+    requires single { (k : ℕ) → k < length entries.now → LineIsSingle (target entries.now k) pm.old }
     ensures size { length pm.new ≡ length pm.old }
-    ensures lent { (i : ℕ) → is_lent (cell pm.new i) ≡ is_lent (cell pm.old i) }
+    ensures lent { SameLent pm.old pm.new }
     ensures steps { Steps (9 * length entries.now + 1) power.old power.new }
     ensures others { (i : ℕ) → IsNew entries.now (i / 8) → Settles (cell pm.old i) (cell pm.new i) }
     ensures journal { (i : ℕ) → i < 2560 → i / 8 ≢ 2 → Settles (cell pm.old i) (cell pm.new i) }
-    ensures targets { is_on power.new ≡ true → IsDone entries.now (length entries.now) pm.new }
-    ensures keeps { is_on power.new ≡ true → (i : ℕ) → is_single (cell pm.old i) ≡ true → is_single (cell pm.new i) ≡ true }
+    ensures targets { is_on power.new ≡ true → AreInPlace entries.now (length entries.now) pm.new }
+    ensures keeps { is_on power.new ≡ true → KeepsSingle pm.old pm.new }
 {
     for entry in entries {
         pm.write_line(power, entry.line, &entry.bytes);

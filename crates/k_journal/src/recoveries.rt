@@ -1,9 +1,10 @@
-ghost use Rattle.std.specs.Prelude.{◌≡◌, ◌≢◌, ◌⊎◌, ◌+◌, ◌*◌, ◌/◌, ◌%◌, ◌<◌, ◌≤◌, ℕ, true, false, length, MatchOption};
-ghost use Rattle.disk_places.specs.Journal.{is_journal_word, journaled, patched, record_target, record_word, IsSound};
-ghost use Rattle.disk_places.specs.Places.{commit_word, state_line, inode_line, is_journaled_line};
-ghost use Rattle.k_journal.specs.Recoveries.{IsFirstFault, IfBad, IfNotBad, KeepsView, AreJournaled, IsReplayStage};
+ghost use Rattle.std.specs.Prelude.{◌≡◌, ◌≢◌, ◌+◌, ◌*◌, ◌/◌, ◌%◌, ◌<◌, ◌≤◌, ℕ, true, false, length, MatchOption};
+ghost use Rattle.disk_places.specs.Journal.{is_journal_word, journaled, record_target, record_word, IsSound};
+ghost use Rattle.disk_places.specs.Places.{commit_word, is_journaled_line};
+ghost use Rattle.k_journal.specs.Recoveries.{IsFirstFault, IfBad, IfNotBad, KeepsView, AreJournaled, AreWithin, AreApart, IsNoTarget, after_records, IsReplayStage};
 ghost use Rattle.pm_words.specs.declared.Cell.TheVariants.{Single};
-ghost use Rattle.pm_words.specs.Cells.{cell, is_single, is_lent, AllHome, AllSingle};
+ghost use Rattle.pm_words.specs.Cells.{cell, AllHome, AllSingle};
+ghost use Rattle.pm_words.specs.Frames.{SameLent};
 ghost use Rattle.pm_words.specs.Images.{IsImage, words_of};
 ghost use Rattle.pm_words.specs.Powers.{is_on, Steps};
 ghost use Rattle.pm_words.specs.Words.{Words};
@@ -42,7 +43,9 @@ fn first_fault(geometry: &Geometry, count: u32, pm: &Pm) -> Option<u32>
     requires count { count ≤ 128 }
     requires device { 2560 ≤ length pm.now }
     requires single { AllSingle pm.now }
-    ensures { MatchOption result (AreJournaled geometry.now count (words_of pm.now)) (λ index. (index < count) × (is_journaled_line geometry.now (record_target (words_of pm.now) index) ≡ false) × AreJournaled geometry.now index (words_of pm.now)) }
+    ensures { MatchOption result (AreJournaled geometry.now count (words_of pm.now))
+        (λ index. (index < count) × AreJournaled geometry.now index (words_of pm.now)
+        × (is_journaled_line geometry.now (record_target (words_of pm.now) index) ≡ false)) }
 {
     for index in 0..count {
         if !is_journaled(geometry, target_of(pm, index)) {
@@ -59,10 +62,12 @@ fn replay_record(index: u32, pm: &mut Pm, power: &mut Power)
     requires single { AllSingle pm.old }
     requires target { record_target (words_of pm.old) index < length pm.old / 8 }
     ensures size { length pm.new ≡ length pm.old }
-    ensures lent { (i : ℕ) → is_lent (cell pm.new i) ≡ is_lent (cell pm.old i) }
+    ensures lent { SameLent pm.old pm.new }
     ensures steps { Steps 10 power.old power.new }
-    ensures others { (i : ℕ) → record_target (words_of pm.old) index ≢ i / 8 → cell pm.new i ≡ cell pm.old i }
-    ensures done { is_on power.new ≡ true → (i : ℕ) → record_target (words_of pm.old) index ≡ i / 8 → cell pm.new i ≡ Single (record_word (words_of pm.old) index (i % 8)) }
+    ensures others { (i : ℕ) → record_target (words_of pm.old) index ≢ i / 8
+        → cell pm.new i ≡ cell pm.old i }
+    ensures done { is_on power.new ≡ true → (i : ℕ) → record_target (words_of pm.old) index ≡ i / 8
+        → cell pm.new i ≡ Single (record_word (words_of pm.old) index (i % 8)) }
 {
     let line = target_of(pm, index);
     let bytes = pm.read_line(record_line(u64::from(index)) + 1);
@@ -75,13 +80,14 @@ fn replay(count: u32, pm: &mut Pm, power: &mut Power)
     requires count { count ≤ 128 }
     requires device { 2560 ≤ length pm.old }
     requires single { AllSingle pm.old }
-    requires within { (r : ℕ) → r < count → record_target (words_of pm.old) r < length pm.old / 8 }
-    requires apart { (r : ℕ) → r < count → (record_target (words_of pm.old) r ≡ state_line) ⊎ (inode_line 0 ≤ record_target (words_of pm.old) r) }
+    requires within { AreWithin count (words_of pm.old) (length pm.old) }
+    requires apart { AreApart count (words_of pm.old) }
     ensures size { length pm.new ≡ length pm.old }
-    ensures lent { (i : ℕ) → is_lent (cell pm.new i) ≡ is_lent (cell pm.old i) }
+    ensures lent { SameLent pm.old pm.new }
     ensures steps { Steps (10 * count) power.old power.new }
-    ensures others { (i : ℕ) → ((r : ℕ) → r < count → record_target (words_of pm.old) r ≢ i / 8) → cell pm.new i ≡ cell pm.old i }
-    ensures done { is_on power.new ≡ true → (i : ℕ) → cell pm.new i ≡ Single (patched count (record_target (words_of pm.old)) (record_word (words_of pm.old)) (words_of pm.old) i) }
+    ensures others { (i : ℕ) → IsNoTarget count (words_of pm.old) (i / 8) → cell pm.new i ≡ cell pm.old i }
+    ensures done { is_on power.new ≡ true
+        → (i : ℕ) → cell pm.new i ≡ Single (after_records count (words_of pm.old) i) }
 {
     for index in 0..count {
         if !power.on() {
@@ -96,18 +102,21 @@ fn recover_records(count: u32, pm: &mut Pm, power: &mut Power) -> Recovered
     requires count { count ≤ 128 }
     requires device { 2560 ≤ length pm.old }
     requires single { AllSingle pm.old }
-    requires within { (r : ℕ) → r < count → record_target (words_of pm.old) r < length pm.old / 8 }
-    requires apart { (r : ℕ) → r < count → (record_target (words_of pm.old) r ≡ state_line) ⊎ (inode_line 0 ≤ record_target (words_of pm.old) r) }
+    requires within { AreWithin count (words_of pm.old) (length pm.old) }
+    requires apart { AreApart count (words_of pm.old) }
     requires pending { cell pm.old commit_word ≡ Single count }
     ensures size { length pm.new ≡ length pm.old }
-    ensures lent { (i : ℕ) → is_lent (cell pm.new i) ≡ is_lent (cell pm.old i) }
+    ensures lent { SameLent pm.old pm.new }
     ensures steps { Steps (10 * count + 3) power.old power.new }
     ensures not_bad { IfBad result (λ _. ⊥) }
     ensures done { result ≡ Recovered.Done → is_on power.new ≡ true }
     ensures lost { result ≡ Recovered.PowerLost → is_on power.new ≡ false }
-    ensures others { (i : ℕ) → i ≢ commit_word → ((r : ℕ) → r < count → record_target (words_of pm.old) r ≢ i / 8) → cell pm.new i ≡ cell pm.old i }
-    ensures each_image { (image : Words) → IsImage pm.new image → IsReplayStage count (words_of pm.old) image }
-    ensures words { result ≡ Recovered.Done → (i : ℕ) → i ≢ commit_word → cell pm.new i ≡ Single (patched count (record_target (words_of pm.old)) (record_word (words_of pm.old)) (words_of pm.old) i) }
+    ensures others { (i : ℕ) → i ≢ commit_word → IsNoTarget count (words_of pm.old) (i / 8)
+        → cell pm.new i ≡ cell pm.old i }
+    ensures each_image { (image : Words) → IsImage pm.new image
+        → IsReplayStage count (words_of pm.old) image }
+    ensures words { result ≡ Recovered.Done → (i : ℕ) → i ≢ commit_word
+        → cell pm.new i ≡ Single (after_records count (words_of pm.old) i) }
     ensures idle { result ≡ Recovered.Done → cell pm.new commit_word ≡ Single 0 }
 {
     replay(count, pm, power);
@@ -134,18 +143,23 @@ pub fn recover(pm: &mut Pm, geometry: &Geometry, power: &mut Power) -> Recovered
     ensures size { length pm.new ≡ length pm.old }
     ensures home { AllHome pm.new }
     ensures steps { Steps 1283 power.old power.new }
-    ensures bad { IfBad result (λ index. IsFirstFault geometry.now (words_of pm.old) index × (pm.new ≡ pm.old) × (power.new ≡ power.old)) }
+    ensures bad { IfBad result (λ index. IsFirstFault geometry.now (words_of pm.old) index
+        × (pm.new ≡ pm.old) × (power.new ≡ power.old)) }
     ensures checked { IfNotBad result (IsSound geometry.now (words_of pm.old)) }
+    ensures sound { IsSound geometry.now (words_of pm.old) → IfBad result (λ _. ⊥) }
     ensures done { result ≡ Recovered.Done → is_on power.new ≡ true }
     ensures lost { result ≡ Recovered.PowerLost → is_on power.new ≡ false }
     ensures off { is_on power.old ≡ false → (pm.new ≡ pm.old) × (power.new ≡ power.old) }
 
     // Wherever the power goes, each image has the same journaled view.
-    ensures each_image { (image : Words) → IsImage pm.new image → KeepsView geometry.now (words_of pm.old) image }
-    ensures others { (i : ℕ) → is_journaled_line geometry.now (i / 8) ≡ false → i ≢ commit_word → cell pm.new i ≡ cell pm.old i }
+    ensures each_image { (image : Words) → IsImage pm.new image
+        → KeepsView geometry.now (words_of pm.old) image }
+    ensures others { (i : ℕ) → is_journaled_line geometry.now (i / 8) ≡ false → i ≢ commit_word
+        → cell pm.new i ≡ cell pm.old i }
 
     // Done: each line is as the journal makes it, and the journal is empty.
-    ensures words { result ≡ Recovered.Done → (i : ℕ) → is_journal_word i ≡ false → cell pm.new i ≡ Single (journaled (words_of pm.old) i) }
+    ensures words { result ≡ Recovered.Done → (i : ℕ) → is_journal_word i ≡ false
+        → cell pm.new i ≡ Single (journaled (words_of pm.old) i) }
     ensures idle { result ≡ Recovered.Done → cell pm.new commit_word ≡ Single 0 }
     ensures keeps { result ≡ Recovered.Done → AllSingle pm.new }
 {

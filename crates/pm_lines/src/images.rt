@@ -32,7 +32,8 @@ pub(crate) fn word_in(bytes: &[u8], index: usize) -> u64
 pub(crate) fn single_cells(alloc: Global, bytes: &[u8]) -> Result<Vec<Cell>, AllocError>
     requires { length bytes.now % 8 ≡ 0 }
     ensures size { IfOk result (λ cells. 8 * vec_len cells ≡ length bytes.now) }
-    ensures words { IfOk result (λ cells. (i : ℕ) → cell cells.items i ≡ Cell.Single (word_at bytes.now i)) }
+    ensures words { IfOk result (λ cells. (i : ℕ)
+        → cell cells.items i ≡ Cell.Single (word_at bytes.now i)) }
 {
     let count = bytes.len() / 8;
     let mut cells = Vec::with_capacity(alloc, count)?;

@@ -1,6 +1,6 @@
 -- Laws of images that the layers above cite.
-use Rattle.std.specs.Prelude.{◌≡◌, ℕ, true, false, List}
-use Rattle.std.proofs.Common.{refl, sym, ◌∙◌}
+use Rattle.std.specs.Prelude.{◌≡◌, ℕ, true, List}
+use Rattle.std.proofs.Common.{◌∙◌}
 use Rattle.std.proofs.lemmas.Bool.{both_ways}
 use Rattle.std.proofs.Math.Path.{fun_ext}
 use Rattle.pm_words.specs.declared.Cell.{Cell}
@@ -27,7 +27,8 @@ pub Follows-then : (R S : Words → Words → Type 0) (a b c : List Cell) → ((
     → Follows R a b → Follows S b c → Follows (Then R S) a c
 Follows-then R S a b c still first second image is =
     let later : (between : Words) × ComesFrom b image between × S between image = second image is in
-    let earlier : (before : Words) × ComesFrom a later.0 before × R before later.0 = first later.0 later.1.is_image in
-    (earlier.0,
-     record { is_image = earlier.1.is_image; lent = λ i lent. earlier.1.lent i lent ∙ later.1.lent i (still i lent) },
-     (later.0, earlier.2, later.2))
+    let earlier : (before : Words) × ComesFrom a later.0 before × R before later.0 = first later.0 later.1.is_image in (
+      earlier.0,
+      record { is_image = earlier.1.is_image; lent = λ i lent. earlier.1.lent i lent ∙ later.1.lent i (still i lent) },
+      (later.0, earlier.2, later.2),
+    )

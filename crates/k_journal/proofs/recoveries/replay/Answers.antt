@@ -8,7 +8,8 @@ use Rattle.pm_words.specs.Cells.{cell}
 use Rattle.pm_words.specs.Images.{words_of}
 use Rattle.pm_words.specs.PowerLaws.{Steps-none}
 use Rattle.pm_words.specs.Powers.{is_on}
-use Rattle.k_journal.proofs.Replays.{AreApart, IsReplayed, record_target-kept, replayed-more}
+use Rattle.k_journal.specs.Recoveries.{AreApart}
+use Rattle.k_journal.proofs.Replays.{IsReplayed, record_target-kept, replayed-more}
 use Rattle.k_journal.proofs.recoveries.replay.Goals as goal
 
 pub loop-index-init : goal.loop-index-init
@@ -28,7 +29,7 @@ loop-index-preserved c =
     let mid = c.loop-index.pm in
     let n = c.loop-index.index in
     let on : is_on c.loop-index.power ≡ true = search rules in
-    let apart : AreApart n (words_of old) = record { apart = λ r h. c.requires.apart r (omega arith) } in
+    let apart : AreApart n (words_of old) = λ r h. c.requires.apart r (omega arith) in
     let replayed : IsReplayed n old mid = record { words = c.loop-index.invariant.done on } in
     let target : record_target (words_of mid) n ≡ record_target (words_of old) n = record_target-kept n old mid (omega arith) apart replayed in
     record {

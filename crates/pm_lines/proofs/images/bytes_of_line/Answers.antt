@@ -24,9 +24,9 @@ loop-k-preserved c =
       small = λ j h. ⊎_elim
           (λ (before : j < k). c.loop-k.invariant.small j before)
           (λ (last : k ≤ j).
-              let at : j ≡ k = omega arith in
-              let read : words (8 * c.args.line + k) < 2 ^ 64 = rw (← c.newest.ensures) c.newest.type_inv in
-              rw at read)
+          let at : j ≡ k = omega arith in
+          let read : words (8 * c.args.line + k) < 2 ^ 64 = rw (← c.newest.ensures) c.newest.type_inv in
+          rw at read)
           (cases_lt j k);
     }
 

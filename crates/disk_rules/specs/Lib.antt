@@ -1,6 +1,7 @@
 pub mod Entries
 pub mod EntryLaws
 pub mod LineLaws
+pub mod Fresh
 pub mod Lines
 pub mod NameLaws
 pub mod Names

@@ -1,6 +1,10 @@
+pub mod Bytes
+pub mod CellLaws
 pub mod Cells
 pub mod Images
+pub mod PartLaws
 pub mod Parts
+pub mod PowerLaws
 pub mod Powers
 pub mod Rules
 pub mod Words

@@ -1,0 +1,4 @@
+pub mod Between
+pub mod Found
+pub mod Grown
+pub mod Whole

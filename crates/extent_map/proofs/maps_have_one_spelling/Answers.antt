@@ -1,0 +1,5 @@
+use Rattle.extent_map.specs.Spelling.{has_one_spelling}
+use Rattle.extent_map.proofs.maps_have_one_spelling.Goals as goal
+
+pub returns : goal.returns
+returns c = has_one_spelling

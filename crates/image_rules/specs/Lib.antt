@@ -1,0 +1,10 @@
+pub mod Broken
+pub mod Chains
+pub mod Content
+pub mod Honest
+pub mod Live
+pub mod LogRule
+pub mod Room
+pub mod Rules
+pub mod Uses
+pub mod Volume

@@ -1,0 +1,35 @@
+-- The blocks that files hold, and those that nothing names.
+use Rattle.std.specs.Prelude.{ℕ, ◌+◌, ◌*◌, ◌/◌, ◌<◌, ◌≤◌, List, [], ◌∷◌, length, Bool, true, false, ◌&&◌, nat_lt, count_by, sum_by, cond}
+use Rattle.std.specs.List.{range_with_len, list_any}
+use Rattle.disk_places.specs.Places.{first_data, data_blocks, chains_for}
+use Rattle.disk_rules.specs.declared.Draft.{Draft}
+use Rattle.disk_rules.specs.Names.{names_of}
+use Rattle.image_rules.specs.Volume.{Volume, inode}
+use Rattle.image_rules.specs.Uses.{Use, owners}
+use Rattle.image_rules.specs.Live.{is_file}
+use Rattle.image_rules.specs.Content.{size_of}
+
+-- how many blocks so many bytes take
+abbrev pub blocks_for : ℕ → ℕ
+blocks_for size = (size + 4095) / 4096
+
+-- the blocks that a file of this length holds, at the most: its own and those of its chain
+abbrev pub held_by : ℕ → ℕ
+held_by size = blocks_for size + chains_for (blocks_for size)
+
+-- the file has a name
+abbrev pub is_named_file : Volume → ℕ → Bool
+is_named_file v ino = is_file (inode v ino).kind && nat_lt 0 (names_of v.names ino)
+
+-- what the files that have a name hold once recovery has carried out the live entries
+abbrev pub held_after_recovery : Volume → List Draft → ℕ
+held_after_recovery v live =
+    sum_by (λ ino. cond (is_named_file v ino) (held_by (size_of v live ino)) 0) (range_with_len 0 (length v.inodes))
+
+abbrev pub has_none : List Use → Bool
+has_none [] = true
+has_none (u ∷ us) = false
+
+-- how many data blocks are named by nothing
+abbrev pub unused_blocks : Volume → ℕ
+unused_blocks v = count_by (λ b. has_none (owners v b)) (range_with_len (first_data v.geometry) (data_blocks v.geometry))

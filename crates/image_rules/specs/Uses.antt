@@ -1,0 +1,22 @@
+-- Who uses a data block: the list of its uses, one for each time that a chain or an extent names it.
+use Rattle.std.specs.Prelude.{◌≡◌, ℕ, ◌+◌, ◌-◌, ◌==◌, List, [], ◌∷◌, ◌++◌, length, map, filter, Bool}
+use Rattle.std.specs.List.{flat_map, range_with_len}
+use Rattle.extent_map.specs.declared.extents.Extent.{Extent}
+use Rattle.extent_map.specs.Extents.{holds_disk}
+use Rattle.image_rules.specs.Volume.{Volume, chain, extents}
+
+-- a block of the chain of an inode, or the block of one of its file blocks
+pub data Use : Type 0 where
+  InChain : ℕ → Use
+  Holds : ℕ → ℕ → Use
+
+abbrev pub uses_by : ℕ → List ℕ → List Extent → ℕ → List Use
+uses_by ino blocks es b =
+    map (λ c. InChain ino) (filter (λ c. c == b) blocks) ++ map (λ e. Holds ino (e.file + (b - e.disk))) (filter (λ e. holds_disk e b) es)
+
+unfoldable pub owners : Volume → ℕ → List Use
+owners v b = flat_map (λ ino. uses_by ino (chain v ino) (extents v ino) b) (range_with_len 0 (length v.inodes))
+
+-- nothing names the block
+abbrev pub IsUnused : Volume → ℕ → Type 0
+IsUnused v b = owners v b ≡ []

@@ -1,0 +1,10 @@
+//! What an image stands for, as a whole.
+//!
+//! Definitions alone, over an image as a function from word number to word, its journal read through: the volume
+//! (the metadata as one value), who uses a data block, the live entries of the log, the content (what stands at
+//! each path), the rules of a checked image in their printed order, honest images, and what a log holds. The
+//! layers above the journal cite them; the check, the mount and the promises about a power loss are proved against
+//! them.
+//!
+//! Stands on `pm_words`, `disk_places`, `disk_rules` and `extent_map`.
+#![tactic(auto)]

@@ -1,0 +1,26 @@
+-- What a commit asks for and what it leaves.
+use Rattle.std.specs.Prelude.{◌≡◌, ◌≢◌, ◌⊎◌, ◌*◌, ◌/◌, ◌<◌, ℕ, true, false, List, length}
+use Rattle.disk_places.specs.Journal.{is_journal_word, journaled, IsSound}
+use Rattle.disk_places.specs.Places.{Geometry, commit_word, is_journaled_line}
+use Rattle.k_journal.specs.Batch.{target, with_batch, AllLines, IsNew}
+use Rattle.k_journal.specs.declared.batches.Entry.{Entry}
+use Rattle.pm_words.specs.declared.Cell.{Cell}
+use Rattle.pm_words.specs.declared.Cell.TheVariants.{Single}
+use Rattle.pm_words.specs.Cells.{cell, is_single}
+use Rattle.pm_words.specs.Words.{Words}
+
+-- The device has the blocks of the geometry, the batch's lines are journaled ones, the commit word is 0, and the
+-- words of blocks 0 to 4 and of the batch's lines have one candidate each.
+pub record MayCommit (g : Geometry) (b : List Entry) (d : List Cell) : Type 0 where
+  pub blocks : length d ≡ 512 * g.blocks
+  pub lines : AllLines (is_journaled_line g) b
+  pub idle : cell d commit_word ≡ Single 0
+  pub journal : (i : ℕ) → i < 2560 → is_single (cell d i) ≡ true
+  pub targets : (k i : ℕ) → k < length b → i / 8 ≡ target b k → is_single (cell d i) ≡ true
+
+-- An image after a commit, or after a part of it, beside the image before. Its journaled view has all of the
+-- batch's lines or none; outside the journal and these lines no word changed; and its journal can be recovered.
+pub record IsBeforeOrAfter (g : Geometry) (b : List Entry) (before image : Words) : Type 0 where
+  pub view : (journaled image ≡ journaled before) ⊎ (journaled image ≡ with_batch b (journaled before))
+  pub others : (w : ℕ) → is_journal_word w ≡ false → IsNew b (w / 8) → image w ≡ before w
+  pub sound : IsSound g image

@@ -1,0 +1,4 @@
+pub mod Batch
+pub mod Commits
+pub mod Patches
+pub mod Phases

@@ -1,0 +1,127 @@
+ghost use Rattle.std.specs.Prelude.{◌≡◌, ◌≢◌, ◌<◌, ◌≤◌, ◌==◌, ℕ, Bool, true, [], length, IsOk, OnOk, OnErr, IfOk, IfErr, MatchOption};
+ghost use Rattle.k_journal.specs.Batch.{target, with_batch, with_line_set, AllLines, HasLine, IsDistinct, IsNew, IsFirstPlace};
+ghost use Rattle.pm_words.specs.Words.{Words, with_line};
+
+use std::alloc::{AllocError, Global};
+use std::marker::Model;
+use thiserror::Error;
+
+/// The most lines that a batch holds, and that one transaction sets.
+pub const MOST_LINES: usize = 128;
+
+/// A line that a transaction sets, and the 64 bytes that it sets it to.
+#[derive(Clone, Copy, Debug, PartialEq, Eq)]
+pub struct Entry {
+    /// The line's number in the device.
+    pub line: u64,
+    /// Its content.
+    pub bytes: [u8; 64],
+}
+
+/// A batch has no room for another line.
+#[derive(Clone, Copy, Debug, PartialEq, Eq, Error)]
+#[error("the batch is full at {count} lines")]
+pub struct BatchFull {
+    /// How many lines are there.
+    pub count: u32,
+}
+
+/// The lines that the next commit sets, each once. It has room for 128.
+#[derive(Debug, Drop)]
+pub struct Batch {
+    entries: Vec<Entry>,
+}
+
+impl Model for Batch {
+    ghost use Rattle.std.specs.Prelude.{List};
+    ghost use Rattle.std.specs.Vec.{vec_capacity};
+    ghost use Rattle.k_journal.specs.declared.batches.Entry.{Entry};
+    ghost use Rattle.k_journal.specs.Batch.{HasRoom};
+
+    ghost Value = { List Entry };
+
+    ghost view = { λ batch. batch.entries.items };
+
+    ghost invariant = { λ batch. HasRoom batch.entries.items (vec_capacity batch.entries) };
+}
+
+impl Batch {
+    /// An empty batch, with all the room that it will need.
+    pub fn new(alloc: Global) -> Result<Batch, AllocError>
+        ensures { IfOk result (λ batch. batch ≡ []) }
+    {
+        Ok(Batch {
+            entries: Vec::with_capacity(alloc, MOST_LINES)?,
+        })
+    }
+
+    /// How many lines it sets.
+    pub fn len(&self) -> u32
+        ensures count { result ≡ length self.now }
+        ensures most { result ≤ 128 }
+    {
+        self.entries.len() as u32
+    }
+
+    /// Whether it sets no line.
+    pub fn is_empty(&self) -> bool
+        ensures { result ≡ (length self.now == 0) }
+    {
+        self.entries.is_empty()
+    }
+
+    /// Sets a line to 64 bytes. A line that is there already gets the new content. `BatchFull` comes
+    /// where the line is new and 128 are there; the batch is then as before.
+    pub fn put(&mut self, line: u64, bytes: [u8; 64]) -> Result<(), BatchFull>
+        ensures known { HasLine self.old line → IsOk result }
+        ensures free { length self.old < 128 → IsOk result }
+        ensures full { IfErr result (λ e. (e.count ≡ 128) × (length self.old ≡ 128) × IsNew self.old line) }
+        ensures err { OnErr result (self.new ≡ self.old) }
+
+        ensures entries { OnOk result (self.new ≡ with_line_set self.old line bytes) }
+        ensures meaning { OnOk result ((f : Words) (i : ℕ) → with_batch self.new f i ≡ with_line line bytes (with_batch self.old f) i) }
+        ensures lines { (test : ℕ → Bool) → test line ≡ true → AllLines test self.old → AllLines test self.new }
+    {
+        let entry = Entry {
+            line,
+            bytes,
+        };
+        if let Some(place) = place_of(&self.entries, line) {
+            self.entries[place] = entry;
+            return Ok(());
+        }
+        if self.entries.len() == MOST_LINES {
+            return Err(BatchFull { count: 128 });
+        }
+        self.entries.push_reserved(entry);
+        Ok(())
+    }
+
+    // Its entries, each line once.
+    pub(crate) fn entries(&self) -> &[Entry]
+        ensures entries { result.now ≡ self.now }
+        ensures most { length self.now ≤ 128 }
+        ensures distinct { IsDistinct self.now }
+    {
+        &self.entries
+    }
+
+    // Empties it, and keeps its room.
+    pub(crate) fn clear(&mut self)
+        ensures { self.new ≡ [] }
+    {
+        self.entries.clear();
+    }
+}
+
+// The first place of a line among the entries.
+fn place_of(entries: &[Entry], line: u64) -> Option<usize>
+    ensures { MatchOption result (IsNew entries.now line) (IsFirstPlace entries.now line) }
+{
+    for (place, entry) in entries.iter().enumerate() {
+        if entry.line == line {
+            return Some(place);
+        }
+    }
+    None
+}

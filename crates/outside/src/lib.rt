@@ -1,0 +1,20 @@
+//! The outside of the program, behind two traits: files that are read and replaced whole, and a sink for output.
+//!
+//! What the layer above may rely on are the traits' meanings: the list of files and the bytes taken, where an
+//! object tells them, and counts of failures that never fall, so that a failure that is reported has a cause that
+//! anyone can see. `MemFiles` and `MemSink` keep all in memory, tell it, and fail at the calls that they are given.
+//! `DiskFiles` and `OutSink` are the real ones: they tell nothing, since no contract can say what a disk holds, and
+//! count their failures.
+//!
+//! Stands on std alone.
+#![tactic(auto)]
+
+mod disk;
+mod faults;
+mod memory;
+#[cfg(test)]
+mod tests;
+
+pub use disk::{DiskFiles, OutSink};
+pub use faults::{FileFault, Files, Sink, SinkFault};
+pub use memory::{MemFiles, MemSink};

@@ -1,0 +1,2 @@
+pub mod CellsLoops
+pub mod ImageBytes

@@ -1,0 +1,9 @@
+use Rattle.std.proofs.Common.{◌+◌, ◌*◌, ◌<◌, length, arith}
+use Rattle.pm_words.specs.CellLaws.{lent-within}
+use Rattle.pm_lines.proofs.devices.Pm.put_line.Goals as goal
+
+-- the last word is lent, so that it is a word of the device
+pub put_back-requires-clause-in_range : goal.put_back-requires-clause-in_range
+put_back-requires-clause-in_range c =
+    let last : 8 * c.args.line.place + 7 < length c.args.self.now = lent-within c.args.self.now (8 * c.args.line.place + 7) (c.requires.out _ (omega arith)) in
+    rw (c.deref_mut.ensures.value, c.self.view_is) (omega (arith, last))

@@ -1,0 +1,14 @@
+pub mod Outcomes
+pub mod Names
+pub mod NameRows
+pub mod Room
+pub mod Open
+pub mod State
+pub mod FileRows
+pub mod Step
+pub mod Tree
+pub mod Run
+pub mod Put
+pub mod Strict
+pub mod Scripted
+pub mod Afforded

@@ -1,0 +1,29 @@
+//! The values that cross the file calls of a POSIX file system: who calls, the sixteen calls with
+//! their paths, handles, flags and data, their replies, the shape of a file system, the items of a
+//! history, the scripts of a run, and the tree of a file system.
+//!
+//! `Name`, `Path`, `Data`, `NameList`, `CallList` and `Tree` are made of a `Vec` and give it back by
+//! their public field, without taking memory. Contracts see them as lists: a name as its bytes, a
+//! path as its names from the root down, data as its bytes, a tree as its entries.
+//!
+//! The layer above may rely on this: `clone` gives an equal value or is refused memory, and `==` is
+//! true exactly of equal values. What the calls mean is not said here. Stands on std alone.
+#![tactic(auto)]
+
+mod call;
+mod data;
+mod handle;
+mod item;
+mod name;
+mod reply;
+mod scripts;
+mod tree;
+
+pub use call::{Call, Mode, Who};
+pub use data::Data;
+pub use handle::{Flags, Handle, Whence};
+pub use item::{Item, Outcome};
+pub use name::{Name, NameList, Path};
+pub use reply::{Errno, Reply, Room, Shape, Stat, What};
+pub use scripts::{CallList, Scripts};
+pub use tree::{Tree, TreeEntry, TreeNode};

@@ -1,0 +1,6 @@
+//! The top call
+#![tactic(auto)]
+
+mod commands;
+mod fresh;
+mod scripts;

@@ -1,8 +1,6 @@
 -- Laws of look-ups in a table of names.
-use Rattle.std.specs.Prelude.{◌≡◌, ℕ, zero, suc, ◌+◌, ◌<◌, ◌≤◌, [], ◌∷◌, length, drop, Bool, true, false, cond, Option, Some, None, refl}
-use Rattle.std.proofs.Common.{arith, ap, ◌∙◌, subst}
-use Rattle.std.proofs.lemmas.Bool.{cond-true, cond-false}
-use Rattle.std.proofs.lemmas.List.{at_drop_more, at_drop_all}
+use Rattle.std.specs.Prelude.{◌≡◌, ℕ, zero, suc, ◌+◌, ◌<◌, [], ◌∷◌, length, Bool, true, false, cond, Option, Some, None, refl}
+use Rattle.std.proofs.Common.{arith, subst}
 use Rattle.disk_rules.specs.Lines.{NameRow}
 use Rattle.disk_rules.specs.Names.{Rows, row, first_row_from}
 use Rattle.disk_rules.specs.Tables.{IsFirstRow}

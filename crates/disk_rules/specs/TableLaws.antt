@@ -280,10 +280,10 @@ pub free_line-some : (rows : Rows) (k : ℕ) → free_line rows ≡ Some k → (
 free_line-some rows k h =
     option_and_then_some (λ found. Some found.0) (first_row_from is_free_row 0 rows) k h
     (λ found is_found is_line.
-      let first : IsFirstRow is_free_row rows found.0 found.1 = first_row-is is_free_row rows found.0 found.1 is_found in
-      let same : found.0 ≡ k = same_Some found.0 k is_line in
-      let empty : row rows found.0 ≡ None = first.is ∙ free found.1 first.passes in
-      subst (λ n. (n < length rows) × (row rows n ≡ None)) same (first.within, empty))
+    let first : IsFirstRow is_free_row rows found.0 found.1 = first_row-is is_free_row rows found.0 found.1 is_found in
+    let same : found.0 ≡ k = same_Some found.0 k is_line in
+    let empty : row rows found.0 ≡ None = first.is ∙ free found.1 first.passes in
+    subst (λ n. (n < length rows) × (row rows n ≡ None)) same (first.within, empty))
   where
     free : (o : Option NameRow) → is_free_row o ≡ true → o ≡ None
     free None e = refl

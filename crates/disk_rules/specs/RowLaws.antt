@@ -1,30 +1,9 @@
 -- Laws of look-ups in a table of names.
-use Rattle.std.specs.Prelude.{◌≡◌, ℕ, zero, suc, ◌+◌, ◌<◌, ◌≤◌, [], ◌∷◌, length, drop, Bool, true, false, cond, Option, Some, None, refl}
-use Rattle.std.proofs.Common.{arith, ap, ◌∙◌, subst}
-use Rattle.std.proofs.lemmas.Bool.{cond-true, cond-false}
-use Rattle.std.proofs.lemmas.List.{at_drop_more, at_drop_all}
+use Rattle.std.specs.Prelude.{◌≡◌, ℕ, zero, suc, ◌+◌, ◌<◌, [], ◌∷◌, length, Bool, true, false, cond, Option, Some, None, refl}
+use Rattle.std.proofs.Common.{arith, subst}
 use Rattle.disk_rules.specs.Lines.{NameRow}
 use Rattle.disk_rules.specs.Names.{Rows, row, first_row_from}
 use Rattle.disk_rules.specs.Tables.{IsFirstRow}
-
--- The steps of a loop over the lines: at line i the answer of the whole is that of the lines from i on.
-pub first_row_from-start : (test : Option NameRow → Bool) (rows : Rows) → first_row_from test 0 (drop 0 rows) ≡ first_row_from test 0 rows
-first_row_from-start test rows = refl
-
-pub first_row_from-here : (test : Option NameRow → Bool) (rows : Rows) (i : ℕ) (r : Option NameRow) → i < length rows → row rows i ≡ r → test r ≡ true → first_row_from test i (drop i rows) ≡ Some (i, r)
-first_row_from-here test rows i r within is passes =
-    at_drop_more (first_row_from test i) rows i None within
-    ∙ ap (λ (x : Option NameRow). first_row_from test i (x ∷ drop (i + 1) rows)) is
-    ∙ cond-true (test r) (Some (i, r)) (first_row_from test (i + 1) (drop (i + 1) rows)) passes
-
-pub first_row_from-more : (test : Option NameRow → Bool) (rows : Rows) (i : ℕ) (r : Option NameRow) → i < length rows → row rows i ≡ r → test r ≡ false → first_row_from test i (drop i rows) ≡ first_row_from test (i + 1) (drop (i + 1) rows)
-first_row_from-more test rows i r within is fails =
-    at_drop_more (first_row_from test i) rows i None within
-    ∙ ap (λ (x : Option NameRow). first_row_from test i (x ∷ drop (i + 1) rows)) is
-    ∙ cond-false (test r) (Some (i, r)) (first_row_from test (i + 1) (drop (i + 1) rows)) fails
-
-pub first_row_from-end : (test : Option NameRow → Bool) (rows : Rows) (i : ℕ) → length rows ≤ i → first_row_from test i (drop i rows) ≡ None
-first_row_from-end test rows i past = at_drop_all (first_row_from test i) rows i past
 
 -- what a look-up says of the line that it finds
 abbrev Found : (Option NameRow → Bool) → ℕ → Rows → Option (ℕ × Option NameRow) → Type 0

@@ -1,7 +1,8 @@
 -- Laws of the names in a table that has one line for each parent and name, and in which no path leads back: going up
 -- is going back along a path, and no path is longer than the table.
-use Rattle.std.specs.Prelude.{◌≡◌, ℕ, zero, suc, ◌<◌, ◌≤◌, List, [], ◌∷◌, ◌++◌, length, true, false, ◌==◌, Option, Some, None, option_and_then, refl}
-use Rattle.std.specs.List.{IsDistinct, AllByRecursion, list_any}
+use Rattle.std.specs.Prelude.{◌≡◌, ℕ, zero, suc, ◌+◌, ◌<◌, ◌≤◌, List, [], ◌∷◌, ◌++◌, length, Bool, true, false, ◌==◌, ◌&&◌, Option, Some, None, option_and_then, cond, refl}
+use Rattle.std.specs.List.{IsDistinct, AllByRecursion, list_any, count_by}
+use Rattle.std.proofs.lemmas.List.Sums.{sum_by-cons, sum_by-append}
 use Rattle.std.proofs.Common.{arith, ap, sym, ◌∙◌, subst, ⊎_elim, eqb, length-append}
 use Rattle.std.proofs.lemmas.Bool.{and_parts, and_from, or_cases, or_parts, eqb-true, eq-eqb, false_from_ne_true, both_ways}
 use Rattle.std.proofs.lemmas.Map.Steps.{length-le_from_distinct_below}
@@ -9,9 +10,9 @@ use Rattle.std.proofs.lemmas.Option.{option_and_then_some, same_Some}
 use Rattle.std.proofs.lemmas.Slice.Eq.{bytes_eq-Decides}
 use Rattle.disk_places.specs.Fields.{is_same}
 use Rattle.disk_rules.specs.Lines.{NameRow}
-use Rattle.disk_rules.specs.Names.{Rows, row, is_entry, is_child, child_of_row, parent_of_row, first_row_from, line_and_child, find_name, child_named, parent_of, up, walk}
+use Rattle.disk_rules.specs.Names.{Rows, row, is_entry, is_child, is_free_row, free_line, child_of_row, parent_of_row, first_row_from, line_and_child, find_name, child_named, parent_of, up, walk}
 use Rattle.disk_rules.specs.RowLaws.{first_row-is, first_row-none}
-use Rattle.disk_rules.specs.Tables.{IsKeyed, IsAcyclic, IsFirstRow, Names}
+use Rattle.disk_rules.specs.Tables.{IsKeyed, IsAcyclic, IsFirstRow, Names, name_below, names_below}
 
 -- a line that passes the test of an entry or of a child, and the other way round
 pub is_entry-parts : (parent : ℕ) (name : List ℕ) (o : Option NameRow) → is_entry parent name o ≡ true → (r : NameRow) × (o ≡ Some r) × (r.parent ≡ parent) × (r.name ≡ name)
@@ -213,3 +214,77 @@ pub up-bound : (rows : Rows) (n ino above : ℕ) → IsKeyed rows → IsAcyclic 
 up-bound rows n ino above keyed acyclic h =
     let path : (names : List (List ℕ)) × (length names ≡ n) × (walk rows above names ≡ Some ino) = walk-up rows n ino above keyed h in
     omega (arith, walk-bound rows above path.0 ino keyed acyclic path.2, path.1)
+
+-- The names below a parent.
+
+-- the test holds of one line at most
+OnceAtMost : (Option NameRow → Bool) → Rows → Type 0
+OnceAtMost test rows = (j k : ℕ) → test (row rows j) ≡ true → test (row rows k) ≡ true → j ≡ k
+
+none_passes : (test : Option NameRow → Bool) (rows : Rows) → ((j : ℕ) → j < length rows → test (row rows j) ≡ false) → count_by test rows ≡ 0
+none_passes test [] none = refl
+none_passes test (o ∷ rows) none =
+    let head : test o ≡ false = none 0 (omega arith) in
+    sum_by-cons (λ x. cond (test x) 1 0) o rows ∙ (λ i. cond (head i) 1 0 + none_passes test rows (λ j below. none (suc j) (omega arith)) i)
+
+one_passes : (test : Option NameRow → Bool) (rows : Rows) → OnceAtMost test rows → count_by test rows ≤ 1
+unfolding OnceAtMost
+one_passes test [] once = omega arith
+one_passes test (o ∷ rows) once = by_head (test o) refl (one_passes test rows (λ j k h i. omega (arith, once (suc j) (suc k) h i)))
+  where
+    by_head : (b : Bool) → test o ≡ b → count_by test rows ≤ 1 → count_by test (o ∷ rows) ≤ 1
+    by_head true e rest =
+        let none = none_passes test rows (λ j below. false_from_ne_true (test (row rows j)) (λ h. absurd (omega (arith, once 0 (suc j) e h)))) in
+        omega (arith, sum_by-cons (λ x. cond (test x) 1 0) o rows, ap {B = ℕ} (λ (b : Bool). cond b 1 0) e, none)
+    by_head false e rest = omega (arith, sum_by-cons (λ x. cond (test x) 1 0) o rows, ap {B = ℕ} (λ (b : Bool). cond b 1 0) e, rest)
+
+-- a line adds the name that it has below the parent
+count_of_row : (parent : ℕ) (name : List ℕ) (o : Option NameRow) → count_by (λ x. is_same x name) (name_below parent o) ≡ cond (is_entry parent name o) 1 0
+count_of_row parent name None = refl
+count_of_row parent name (Some r) = by_parent (r.parent == parent)
+  where
+    by_parent : (b : Bool) → count_by (λ x. is_same x name) (cond b (r.name ∷ []) []) ≡ cond (b && is_same r.name name) 1 0
+    by_parent true = omega (arith, sum_by-cons (λ x. cond (is_same x name) 1 0) r.name [])
+    by_parent false = refl
+
+count_of_rows : (parent : ℕ) (name : List ℕ) (rows : Rows) → count_by (λ x. is_same x name) (names_below rows parent) ≡ count_by (is_entry parent name) rows
+count_of_rows parent name [] = refl
+count_of_rows parent name (o ∷ rows) =
+    sum_by-append (λ x. cond (is_same x name) 1 0) (name_below parent o) (names_below rows parent)
+    ∙ (λ i. count_of_row parent name o i + count_of_rows parent name rows i)
+    ∙ sym (sum_by-cons (λ x. cond (is_entry parent name x) 1 0) o rows)
+
+-- in a keyed table each of them stands once
+pub names_below-once : (rows : Rows) (parent : ℕ) (name : List ℕ) → IsKeyed rows → count_by (λ x. is_same x name) (names_below rows parent) ≤ 1
+unfolding OnceAtMost
+names_below-once rows parent name keyed =
+    omega (arith, count_of_rows parent name rows, one_passes (is_entry parent name) rows (keyed.one_line parent name))
+
+-- What the look-ups say where a name is to be added.
+
+row-within : (rows : Rows) (k : ℕ) (test : Option NameRow → Bool) → test None ≡ false → test (row rows k) ≡ true → k < length rows
+row-within [] k test fails h = absurd (both_ways (test None) fails h)
+row-within (o ∷ rows) zero test fails h = omega arith
+row-within (o ∷ rows) (suc k) test fails h = omega (arith, row-within rows k test fails h)
+
+-- a name that is not found is in no line
+pub find_name-none : (rows : Rows) (parent : ℕ) (name : List ℕ) → find_name rows parent name ≡ None → (k : ℕ) → is_entry parent name (row rows k) ≡ false
+find_name-none rows parent name h k = false_from_ne_true (is_entry parent name (row rows k)) (look (first_row_from (is_entry parent name) 0 rows) refl h)
+  where
+    look : (o : Option (ℕ × Option NameRow)) → first_row_from (is_entry parent name) 0 rows ≡ o → option_and_then (λ found. Some (line_and_child found)) o ≡ None → is_entry parent name (row rows k) ≡ true → ⊥
+    look None e g entry = both_ways (is_entry parent name (row rows k)) (first_row-none (is_entry parent name) rows e k (row-within rows k (is_entry parent name) refl entry)) entry
+    look (Some found) e g entry = cc
+
+-- a free line that is found is a line of the table and has no name
+pub free_line-some : (rows : Rows) (k : ℕ) → free_line rows ≡ Some k → (k < length rows) × (row rows k ≡ None)
+free_line-some rows k h =
+    option_and_then_some (λ found. Some found.0) (first_row_from is_free_row 0 rows) k h
+    (λ found is_found is_line.
+    let first : IsFirstRow is_free_row rows found.0 found.1 = first_row-is is_free_row rows found.0 found.1 is_found in
+    let same : found.0 ≡ k = same_Some found.0 k is_line in
+    let empty : row rows found.0 ≡ None = first.is ∙ free found.1 first.passes in
+    subst (λ n. (n < length rows) × (row rows n ≡ None)) same (first.within, empty))
+  where
+    free : (o : Option NameRow) → is_free_row o ≡ true → o ≡ None
+    free None e = refl
+    free (Some r) e = cc

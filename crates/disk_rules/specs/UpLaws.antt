@@ -1,6 +1,6 @@
 -- No path leads back where going up ends: how a table whose directories have one name each, and in which going up from
 -- each inode comes to an end, is seen to be acyclic.
-use Rattle.std.specs.Prelude.{◌≡◌, ℕ, zero, suc, ◌+◌, ◌-◌, ◌≤◌, List, [], ◌∷◌, length, true, Option, Some, None, option_and_then, unwrap_or, refl}
+use Rattle.std.specs.Prelude.{◌≡◌, ℕ, zero, suc, ◌+◌, ◌-◌, ◌<◌, ◌≤◌, List, [], ◌∷◌, length, true, Option, Some, None, option_and_then, unwrap_or, refl}
 use Rattle.std.proofs.Common.{arith, ap, sym, ◌∙◌, subst, zero-add}
 use Rattle.std.proofs.lemmas.Bool.{eq-eqb, both_ways, or_left, or_right}
 use Rattle.disk_rules.specs.Lines.{NameRow}
@@ -63,6 +63,14 @@ up-add rows zero m ino = ap (λ k. up rows k ino) (zero-add m)
 up-add rows (suc n) m ino =
     ap (λ k. up rows k ino) (suc-add n m)
     ∙ and_then-and_then (parent_of rows ino) (up rows (n + m)) (up rows n) (up rows m) (up-add rows n m)
+
+-- above an inode without a name there is nothing
+pub up-past : (rows : Rows) (n m ino top : ℕ) → up rows n ino ≡ Some top → parent_of rows top ≡ None → n < m → up rows m ino ≡ None
+unfolding up
+up-past rows n m ino top h none above =
+    let split : n + suc (m - n - 1) ≡ m = omega (arith, above) in
+    ap (λ k. up rows k ino) (sym split) ∙ up-add rows n (suc (m - n - 1)) ino ∙ ap (option_and_then (up rows (suc (m - n - 1)))) h
+    ∙ ap (option_and_then (up rows (m - n - 1))) none
 
 -- going round again and again
 up-round : (rows : Rows) (m n ino : ℕ) → up rows (suc m) ino ≡ Some ino → (k : ℕ) × (n ≤ k) × (up rows k ino ≡ Some ino)

@@ -112,7 +112,11 @@ pub fn decode_name(alloc: Global, bytes: &[u8; 64]) -> Result<Decoded, AllocErro
     let name = Name {
         bytes: Vec::from_slice(alloc, name)?,
     };
-    Ok(Decoded::Line(NameLine { parent, child, name }))
+    Ok(Decoded::Line(NameLine {
+        parent,
+        child,
+        name,
+    }))
 }
 
 /// What is spelled is read, what is read is spelled so, and what is read as free is all zeros.

@@ -15,9 +15,11 @@
 
 mod check;
 mod entry;
+mod scanning;
 
 pub use disk_rules::Draft;
 pub use entry::{Full, decode, encode, entries_are_exact};
+pub use scanning::scan;
 
 #[cfg(test)]
 mod tests;

@@ -3,10 +3,10 @@ use Rattle.std.proofs.Common.{◌≡◌, ℕ, ◌+◌, ◌<◌, List, [], ◌∷
 use Rattle.std.proofs.lemmas.Bool.{cases_eq, cases_lt}
 use Rattle.std.proofs.lemmas.List.{get_or-replicate, get_or_past, length-replicate}
 use Rattle.std.proofs.lemmas.Option.{same_Some}
-use Rattle.disk_rules.specs.Lines.{NameRow}
-use Rattle.disk_rules.specs.Names.{Rows, row, is_entry, walk}
-use Rattle.disk_rules.specs.TableLaws.{walk-step, is_entry-parts}
-use Rattle.disk_rules.specs.Tables.{IsAcyclic}
+use Rattle.disk_lines.specs.Lines.{NameRow}
+use Rattle.disk_lines.specs.Names.{Rows, row, is_entry, walk}
+use Rattle.disk_lines.specs.TableLaws.{walk-step, is_entry-parts}
+use Rattle.disk_lines.specs.Tables.{IsAcyclic}
 use Rattle.k_names.specs.Chains.{IsChain}
 
 no_row : (n k : ℕ) → row (replicate n None) k ≡ None

@@ -4,7 +4,7 @@ ghost use Rattle.std.specs.Prelude.{◌≡◌, ◌≤◌, ℕ, List, IfOk, IsSor
 ghost use Rattle.disk_places.specs.Fields.{is_same};
 ghost use Rattle.std.specs.Cmp.Lexicographic.{slice_cmp};
 ghost use Rattle.std.specs.Ordering.{nat_cmp};
-ghost use Rattle.disk_rules.specs.Tables.{IsKeyed, names_below};
+ghost use Rattle.disk_lines.specs.Tables.{IsKeyed, names_below};
 
 use crate::line::NameLine;
 use posix_types::Name;

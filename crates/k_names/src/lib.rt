@@ -8,7 +8,7 @@
 //! have the same parent and name. The layer above relies on its look-ups (the lowest free line, the children of a
 //! directory in the order of their bytes), and, where no path of names leads back, on the walks up and down.
 //!
-//! Stands on `posix_types`, `disk_places`, `disk_rules` and `line_fields`.
+//! Stands on `posix_types`, `disk_places`, `disk_lines` and `line_fields`.
 #![tactic(auto)]
 
 mod children;

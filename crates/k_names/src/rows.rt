@@ -1,7 +1,7 @@
 //! Look-ups in the lines of a table, the lowest line first.
 
 ghost use Rattle.std.specs.Prelude.{◌≡◌, ◌<◌, ◌^◌, ℕ, length, replicate, false, None, IfSome, IfNone, IfOk};
-ghost use Rattle.disk_rules.specs.Names.{row, is_entry, is_child, is_free_row, find_name, free_line, parent_of};
+ghost use Rattle.disk_lines.specs.Names.{row, is_entry, is_child, is_free_row, find_name, free_line, parent_of};
 
 use crate::line::NameLine;
 use std::alloc::{AllocError, Global};

@@ -2,8 +2,8 @@ ghost use Rattle.std.specs.Prelude.{◌≡◌, ◌<◌, ◌≤◌, ◌↔◌, �
 ghost use Rattle.disk_places.specs.Fields.{is_same};
 ghost use Rattle.std.specs.Cmp.Lexicographic.{slice_cmp};
 ghost use Rattle.std.specs.Ordering.{nat_cmp};
-ghost use Rattle.disk_rules.specs.Names.{row, is_entry, find_name, free_line, IsBelow, HasHeight};
-ghost use Rattle.disk_rules.specs.Tables.{IsKeyed, IsAcyclic, names_below};
+ghost use Rattle.disk_lines.specs.Names.{row, is_entry, find_name, free_line, IsBelow, HasHeight};
+ghost use Rattle.disk_lines.specs.Tables.{IsKeyed, IsAcyclic, names_below};
 
 use crate::children::sorted_children;
 use crate::line::NameLine;
@@ -21,8 +21,8 @@ pub struct NameTable {
 
 impl Model for NameTable {
     ghost use Rattle.std.specs.Prelude.{◌<◌, ◌^◌, length};
-    ghost use Rattle.disk_rules.specs.Names.{Rows};
-    ghost use Rattle.disk_rules.specs.Tables.{IsKeyed};
+    ghost use Rattle.disk_lines.specs.Names.{Rows};
+    ghost use Rattle.disk_lines.specs.Tables.{IsKeyed};
 
     ghost Value = { Rows };
 

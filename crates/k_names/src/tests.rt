@@ -1,5 +1,5 @@
 ghost use Rattle.std.specs.Prelude.{◌<◌, ◌^◌, IfOk};
-ghost use Rattle.disk_rules.specs.Tables.{IsAcyclic};
+ghost use Rattle.disk_lines.specs.Tables.{IsAcyclic};
 
 use super::*;
 use posix_types::Name;

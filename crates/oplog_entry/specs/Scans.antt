@@ -4,8 +4,8 @@ use Rattle.std.specs.List.{filter_map, range_with_len}
 use Rattle.pm_words.specs.Images.{words_of}
 use Rattle.pm_words.specs.Parts.{Part}
 use Rattle.pm_words.specs.Words.{line_bytes}
-use Rattle.disk_rules.specs.declared.Draft.{Draft}
-use Rattle.disk_rules.specs.Entries.{decode_entry}
+use Rattle.disk_lines.specs.declared.Draft.{Draft}
+use Rattle.disk_lines.specs.Entries.{decode_entry}
 
 -- the bytes of the line in a slot, of each word the newest candidate
 abbrev pub bytes_in : List Part → ℕ → List ℕ

@@ -4,7 +4,7 @@ ghost use Rattle.pm_words.specs.Words.{line_bytes};
 ghost use Rattle.oplog_entry.specs.Scans.{entries_in};
 
 use crate::entry::decode;
-use disk_rules::Draft;
+use disk_lines::Draft;
 use line_fields::put_u64;
 use pm_lines::Line;
 use std::alloc::{AllocError, Global};

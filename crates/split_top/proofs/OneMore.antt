@@ -7,10 +7,10 @@ use Rattle.pm_words.specs.CellLaws.{single-home, candidate-single}
 use Rattle.pm_words.specs.Images.{IsImage, words_of, ComesFrom, Follows}
 use Rattle.pm_words.specs.Words.{Words}
 use Rattle.disk_places.specs.Places.{commit_word, inode_line, name_line}
-use Rattle.disk_rules.specs.Lines.{encode_inode, encode_name, is_name}
+use Rattle.disk_lines.specs.Lines.{encode_inode, encode_name, is_name}
 use Rattle.std.proofs.lemmas.Bool.{cases_lt}
 use Rattle.std.proofs.lemmas.List.{get_or_append_left, get_or_push, length_push}
-use Rattle.disk_rules.specs.Fresh.{with_inode}
+use Rattle.disk_lines.specs.Fresh.{with_inode}
 use Rattle.disk_places.specs.Journal.{is_journal_word, record_target, record_word, journaled, IsSound}
 use Rattle.k_journal.specs.Patches.{patched-none}
 use Rattle.k_journal.specs.declared.batches.Entry.{Entry}

@@ -10,7 +10,7 @@ use Rattle.pm_words.specs.Cells.{cell, newest, AllSingle}
 use Rattle.pm_words.specs.CellLaws.{single-newest}
 use Rattle.pm_words.specs.Images.{words_of}
 use Rattle.disk_places.specs.Places.{commit_word}
-use Rattle.disk_rules.specs.Fresh.{fresh}
+use Rattle.disk_lines.specs.Fresh.{fresh}
 use Rattle.pm_words.specs.Powers.{Supply, Steps, is_on, is_left}
 use Rattle.posix_types.specs.declared.item.Item.{Item}
 use Rattle.posix_types.specs.declared.tree.TreeEntry.{TreeEntry}

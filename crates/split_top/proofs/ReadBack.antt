@@ -18,10 +18,10 @@ use Rattle.pm_words.specs.Cells.{cell, newest}
 use Rattle.pm_words.specs.Images.{words_of}
 use Rattle.split_top.specs.Rest.{Shows}
 use Rattle.disk_places.specs.PlaceLaws.{journaled-name, journaled-words, inode_line-name_line}
-use Rattle.disk_rules.specs.Lines.{NameRow, NameSlot, FreeName, Named, BadName, line_name_bytes, is_name_byte, is_dots, is_name, is_name_row, encode_name, decode_name, encode_inode}
-use Rattle.disk_rules.specs.NameLaws.{FitsName, decode_name-encode_name, decode_name-zeros}
-use Rattle.disk_rules.specs.declared.Kind.TheVariants.{Directory, Staging}
-use Rattle.disk_rules.specs.Fresh.{empty_inode, with_inode, state_bytes, blank, staging_files, first_inodes, fresh}
+use Rattle.disk_lines.specs.Lines.{NameRow, NameSlot, FreeName, Named, BadName, line_name_bytes, is_name_byte, is_dots, is_name, is_name_row, encode_name, decode_name, encode_inode}
+use Rattle.disk_lines.specs.NameLaws.{FitsName, decode_name-encode_name, decode_name-zeros}
+use Rattle.disk_lines.specs.declared.Kind.TheVariants.{Directory, Staging}
+use Rattle.disk_lines.specs.Fresh.{empty_inode, with_inode, state_bytes, blank, staging_files, first_inodes, fresh}
 use Rattle.disk_places.specs.Superblock.{superblock}
 use Rattle.split_top.proofs.Zeros.{word_at-replicate}
 use Rattle.split_top.specs.Made.{default_geometry, directory_inode, name_row, with_directory, with_directories, made, name_in_slot, name_at, names_on, ArePlain}

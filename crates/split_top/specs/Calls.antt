@@ -1,7 +1,7 @@
 -- What the calls of a script leave, one after the other.
 use Rattle.std.specs.Prelude.{◌≡◌, ℕ, ◌+◌, ◌*◌, ◌<◌, ◌≤◌, Bool, true, false, List, [], ◌∷◌, ◌++◌, length, slice_index_or, ◌⊎◌}
 use Rattle.pm_words.specs.Powers.{Supply, Steps, is_on}
-use Rattle.disk_rules.specs.Lines.{is_name}
+use Rattle.disk_lines.specs.Lines.{is_name}
 use Rattle.posix_types.specs.declared.call.Who.{Who}
 use Rattle.posix_types.specs.declared.item.Item.{Item}
 use Rattle.posix_spec.specs.State.{State}

@@ -3,10 +3,10 @@ use Rattle.std.specs.Prelude.{◌≡◌, ℕ, ◌+◌, ◌<◌, List, [], ◌∷
 use Rattle.std.specs.List.{filter_map, range_with_len}
 use Rattle.pm_words.specs.Words.{Words, with_line, line_bytes}
 use Rattle.disk_places.specs.Places.{Geometry, name_line}
-use Rattle.disk_rules.specs.declared.Inode.{Inode}
-use Rattle.disk_rules.specs.declared.Kind.TheVariants.{Directory}
-use Rattle.disk_rules.specs.Lines.{NameRow, NameSlot, FreeName, Named, BadName, is_name, encode_name, decode_name}
-use Rattle.disk_rules.specs.Fresh.{empty_inode, with_inode, fresh}
+use Rattle.disk_lines.specs.declared.Inode.{Inode}
+use Rattle.disk_lines.specs.declared.Kind.TheVariants.{Directory}
+use Rattle.disk_lines.specs.Lines.{NameRow, NameSlot, FreeName, Named, BadName, is_name, encode_name, decode_name}
+use Rattle.disk_lines.specs.Fresh.{empty_inode, with_inode, fresh}
 
 -- the default image: 256 blocks, 64 log lines, 64 inodes, 128 names
 abbrev pub default_geometry : Geometry

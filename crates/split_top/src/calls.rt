@@ -1,7 +1,7 @@
 //! The calls of a script, one after the other, on a device.
 ghost use Rattle.std.specs.Prelude.{◌≡◌, ◌+◌, ◌<◌, ◌++◌, ◌∷◌, [], ℕ, true, false, length, ◌≢◌, Ok, IfOk, IfSome, IfNone, IsTrue};
 ghost use Rattle.pm_words.specs.Powers.{is_on, Steps};
-ghost use Rattle.disk_rules.specs.Lines.{is_name};
+ghost use Rattle.disk_lines.specs.Lines.{is_name};
 ghost use Rattle.split_top.specs.Made.{ArePlain};
 ghost use Rattle.split_top.specs.Rest.{MayShow};
 ghost use Rattle.split_top.specs.Runs.{state_of};

@@ -3,13 +3,13 @@ ghost use Rattle.std.specs.Prelude.{◌≡◌, ◌+◌, ◌<◌, ◌≤◌, ◌+
 ghost use Rattle.pm_words.specs.Words.{Words, with_line};
 ghost use Rattle.k_journal.specs.Batch.{with_batch, AllLines};
 ghost use Rattle.pm_words.specs.Powers.{is_on, Steps};
-ghost use Rattle.disk_rules.specs.Lines.{is_name};
+ghost use Rattle.disk_lines.specs.Lines.{is_name};
 ghost use Rattle.split_top.specs.Made.{default_geometry, name_row, with_directory};
 ghost use Rattle.split_top.specs.Rest.{IsAtRest, MayShow};
 ghost use Rattle.split_top.specs.Batches.{SetsDirectory};
 
 use crate::fresh::empty_inode;
-use disk_rules::Kind;
+use disk_lines::Kind;
 use image_layout::Geometry;
 use k_inodes::encode_inode;
 use k_journal::journal::commit;

@@ -4,7 +4,7 @@ use Rattle.std.proofs.lemmas.Cmp.{nat_list_cmp_total}
 use Rattle.std.proofs.lemmas.List.Sorted.{ranks_by, answers_always, sum_by-IsPermutation}
 use Rattle.std.specs.Prelude.{count_by}
 use Rattle.disk_places.specs.Fields.{is_same}
-use Rattle.disk_rules.specs.TableLaws.{names_below-once}
+use Rattle.disk_lines.specs.TableLaws.{names_below-once}
 use Rattle.std.specs.Cmp.Lexicographic.{slice_cmp}
 use Rattle.std.specs.Ordering.{nat_cmp}
 use Rattle.k_names.proofs.children.sorted_children.Goals as goal

@@ -4,8 +4,8 @@ use Rattle.std.proofs.lemmas.List.{get_or_read}
 use Rattle.pm_words.specs.Images.{words_of}
 use Rattle.pm_words.specs.Parts.{Part}
 use Rattle.pm_words.specs.Words.{line_bytes}
-use Rattle.disk_rules.specs.declared.Draft.{Draft}
-use Rattle.disk_rules.specs.Entries.{decode_entry}
+use Rattle.disk_lines.specs.declared.Draft.{Draft}
+use Rattle.disk_lines.specs.Entries.{decode_entry}
 use Rattle.oplog_entry.specs.Scans.{bytes_in}
 use Rattle.oplog_entry.proofs.ScanLaws.{entries_skip, entries_take}
 use Rattle.oplog_entry.proofs.scanning.scan.Goals as goal

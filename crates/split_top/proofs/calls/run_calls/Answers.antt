@@ -5,7 +5,7 @@ use Rattle.std.proofs.lemmas.Bool.{true≢false}
 use Rattle.posix_spec.specs.Step.{step}
 use Rattle.pm_words.specs.Powers.{Supply, Steps, is_on}
 use Rattle.pm_words.specs.PowerLaws.{Steps-then}
-use Rattle.disk_rules.specs.Lines.{is_name}
+use Rattle.disk_lines.specs.Lines.{is_name}
 use Rattle.posix_spec.specs.Run.{run, IsAnswered, run-append}
 use Rattle.split_top.specs.Calls.{Returns, next_name}
 use Rattle.split_top.specs.Made.{ArePlain}

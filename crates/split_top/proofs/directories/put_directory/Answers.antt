@@ -1,7 +1,7 @@
 use Rattle.std.proofs.Common.{◌≡◌, ◌+◌, ◌<◌, ◌∙◌, [], ap, sym, subst, refl, arith, length, true, Bool, List, lit<}
 use Rattle.disk_places.specs.Places.{is_journaled_line, name_line}
 use Rattle.disk_places.specs.PlaceLaws.{journaled-inode, journaled-name}
-use Rattle.disk_rules.specs.Lines.{encode_inode, encode_name}
+use Rattle.disk_lines.specs.Lines.{encode_inode, encode_name}
 use Rattle.k_journal.specs.declared.batches.Entry.{Entry}
 use Rattle.k_journal.specs.Batch.{with_batch, AllLines}
 use Rattle.split_top.specs.Made.{default_geometry}

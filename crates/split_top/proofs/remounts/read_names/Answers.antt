@@ -4,7 +4,7 @@ use Rattle.std.specs.List.{filter_map, range_with_len}
 use Rattle.pm_words.specs.Images.{words_of}
 use Rattle.pm_words.specs.Words.{line_bytes}
 use Rattle.k_names.specs.Decoding.{slot_of}
-use Rattle.disk_rules.specs.Lines.{decode_name}
+use Rattle.disk_lines.specs.Lines.{decode_name}
 use Rattle.split_top.specs.Made.{name_in_slot, name_at, names_on}
 use Rattle.split_top.proofs.Ranges.{kept-first}
 use Rattle.split_top.proofs.remounts.read_names.Goals as goal

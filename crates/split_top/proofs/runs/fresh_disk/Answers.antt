@@ -1,6 +1,6 @@
 use Rattle.std.proofs.Common.{◌≡◌, ◌*◌, ◌∙◌, ap, length, subst, sym, List, []}
 use Rattle.disk_places.specs.Places.{Geometry}
-use Rattle.disk_rules.specs.Fresh.{fresh}
+use Rattle.disk_lines.specs.Fresh.{fresh}
 use Rattle.split_top.specs.Rest.{IsAtRest}
 use Rattle.split_top.proofs.Outcomes.{fresh_at_rest}
 use Rattle.split_top.proofs.runs.fresh_disk.Goals as goal

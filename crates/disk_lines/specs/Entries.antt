@@ -4,8 +4,8 @@
 use Rattle.std.specs.Prelude.{ℕ, ◌+◌, ◌*◌, ◌%◌, ◌^◌, List, [], ◌∷◌, ◌++◌, Bool, ◌&&◌, nat_le, if◌then◌else◌, Option, Some, None, is_some, bit_xor}
 use Rattle.std.specs.Int.{to_le_bytes, w16, w32, w64}
 use Rattle.disk_places.specs.Fields.{u16_at, u32_at, u64_at, zeros, is_same}
-use Rattle.disk_rules.specs.declared.Draft.{Draft}
-use Rattle.disk_rules.specs.Lines.{most_bytes}
+use Rattle.disk_lines.specs.declared.Draft.{Draft}
+use Rattle.disk_lines.specs.Lines.{most_bytes}
 
 -- FNV-1a with 32 bits: from the basis on, for each byte the exclusive or with it, times the prime
 abbrev pub fnv_basis : ℕ

@@ -3,11 +3,11 @@
 use Rattle.std.specs.Prelude.{◌≡◌, ℕ, zero, suc, ◌+◌, ◌-◌, ◌<◌, ◌≤◌, List, [], ◌∷◌, length, true, Option, Some, None, option_and_then, unwrap_or, refl}
 use Rattle.std.proofs.Common.{arith, ap, sym, ◌∙◌, subst, zero-add}
 use Rattle.std.proofs.lemmas.Bool.{eq-eqb, both_ways, or_left, or_right}
-use Rattle.disk_rules.specs.Lines.{NameRow}
-use Rattle.disk_rules.specs.Names.{Rows, row, is_child, is_below_parent, has_entries, parent_of_row, first_row_from, parent_of, up, walk}
-use Rattle.disk_rules.specs.RowLaws.{first_row-is, first_row-none}
-use Rattle.disk_rules.specs.TableLaws.{walk-step, is_child-parts, and_then-and_then, up-more}
-use Rattle.disk_rules.specs.Tables.{IsAcyclic, IsFirstRow, Names}
+use Rattle.disk_lines.specs.Lines.{NameRow}
+use Rattle.disk_lines.specs.Names.{Rows, row, is_child, is_below_parent, has_entries, parent_of_row, first_row_from, parent_of, up, walk}
+use Rattle.disk_lines.specs.RowLaws.{first_row-is, first_row-none}
+use Rattle.disk_lines.specs.TableLaws.{walk-step, is_child-parts, and_then-and_then, up-more}
+use Rattle.disk_lines.specs.Tables.{IsAcyclic, IsFirstRow, Names}
 
 -- an inode below which there are names has one name at most
 pub record HasOneNameEach (rows : Rows) : Type 0 where

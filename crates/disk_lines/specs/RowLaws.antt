@@ -1,9 +1,9 @@
 -- Laws of look-ups in a table of names.
 use Rattle.std.specs.Prelude.{◌≡◌, ℕ, zero, suc, ◌+◌, ◌<◌, [], ◌∷◌, length, Bool, true, false, cond, Option, Some, None, refl}
 use Rattle.std.proofs.Common.{arith, subst}
-use Rattle.disk_rules.specs.Lines.{NameRow}
-use Rattle.disk_rules.specs.Names.{Rows, row, first_row_from}
-use Rattle.disk_rules.specs.Tables.{IsFirstRow}
+use Rattle.disk_lines.specs.Lines.{NameRow}
+use Rattle.disk_lines.specs.Names.{Rows, row, first_row_from}
+use Rattle.disk_lines.specs.Tables.{IsFirstRow}
 
 -- what a look-up says of the line that it finds
 abbrev Found : (Option NameRow → Bool) → ℕ → Rows → Option (ℕ × Option NameRow) → Type 0

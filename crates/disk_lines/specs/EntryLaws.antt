@@ -10,8 +10,8 @@ use Rattle.std.proofs.lemmas.Option.{cond_some}
 use Rattle.std.proofs.lemmas.Slice.Eq.{bytes_eq-Decides}
 use Rattle.disk_places.specs.FieldLaws.{from_le_bytes-bound_4}
 use Rattle.disk_places.specs.Fields.{u32_at, is_same}
-use Rattle.disk_rules.specs.declared.Draft.{Draft}
-use Rattle.disk_rules.specs.Entries.{entry_body, encode_entry, is_draft, draft_fields, if_draft, decode_entry, held_seq, is_self_valid}
+use Rattle.disk_lines.specs.declared.Draft.{Draft}
+use Rattle.disk_lines.specs.Entries.{entry_body, encode_entry, is_draft, draft_fields, if_draft, decode_entry, held_seq, is_self_valid}
 
 -- The numbers of a draft that no test bounds have room in their places.
 pub record FitsDraft (d : Draft) : Type 0 where

@@ -9,10 +9,10 @@ use Rattle.std.proofs.lemmas.Map.Steps.{length-le_from_distinct_below}
 use Rattle.std.proofs.lemmas.Option.{option_and_then_some, same_Some}
 use Rattle.std.proofs.lemmas.Slice.Eq.{bytes_eq-Decides}
 use Rattle.disk_places.specs.Fields.{is_same}
-use Rattle.disk_rules.specs.Lines.{NameRow}
-use Rattle.disk_rules.specs.Names.{Rows, row, is_entry, is_child, is_free_row, free_line, child_of_row, parent_of_row, first_row_from, line_and_child, find_name, child_named, parent_of, up, walk}
-use Rattle.disk_rules.specs.RowLaws.{first_row-is, first_row-none}
-use Rattle.disk_rules.specs.Tables.{IsKeyed, IsAcyclic, IsFirstRow, Names, name_below, names_below}
+use Rattle.disk_lines.specs.Lines.{NameRow}
+use Rattle.disk_lines.specs.Names.{Rows, row, is_entry, is_child, is_free_row, free_line, child_of_row, parent_of_row, first_row_from, line_and_child, find_name, child_named, parent_of, up, walk}
+use Rattle.disk_lines.specs.RowLaws.{first_row-is, first_row-none}
+use Rattle.disk_lines.specs.Tables.{IsKeyed, IsAcyclic, IsFirstRow, Names, name_below, names_below}
 
 -- a line that passes the test of an entry or of a child, and the other way round
 pub is_entry-parts : (parent : ℕ) (name : List ℕ) (o : Option NameRow) → is_entry parent name o ≡ true → (r : NameRow) × (o ≡ Some r) × (r.parent ≡ parent) × (r.name ≡ name)

@@ -3,7 +3,7 @@
 use Rattle.std.specs.Prelude.{◌≡◌, ℕ, zero, suc, ◌+◌, ◌≤◌, List, [], ◌∷◌, length, Bool, true, false, ◌&&◌, ◌==◌, cond, Option, Some, None, option_and_then, IsSome, slice_index_or}
 use Rattle.std.specs.List.{list_any, count_by}
 use Rattle.disk_places.specs.Fields.{is_same}
-use Rattle.disk_rules.specs.Lines.{NameRow}
+use Rattle.disk_lines.specs.Lines.{NameRow}
 
 abbrev pub Rows : Type 0
 Rows = List (Option NameRow)

@@ -9,7 +9,7 @@ use Rattle.std.proofs.lemmas.Nat.{from_le_bytes-to_le_bytes_4}
 use Rattle.std.proofs.lemmas.Slice.Eq.{bytes_eq-Decides}
 use Rattle.disk_places.specs.FieldLaws.{from_le_bytes-bound_4}
 use Rattle.disk_places.specs.Fields.{u32_at, zeros, is_same}
-use Rattle.disk_rules.specs.Lines.{NameRow, NameSlot, FreeName, Named, BadName, line_name_bytes, is_name, encode_name, is_name_row, name_fields, if_named, decode_name}
+use Rattle.disk_lines.specs.Lines.{NameRow, NameSlot, FreeName, Named, BadName, line_name_bytes, is_name, encode_name, is_name_row, name_fields, if_named, decode_name}
 
 -- the numbers of a name have room in their places
 pub record FitsName (r : NameRow) : Type 0 where

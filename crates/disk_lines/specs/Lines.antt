@@ -4,9 +4,9 @@ use Rattle.std.specs.Prelude.{ℕ, ◌-◌, ◌^◌, List, [], ◌∷◌, ◌++�
 use Rattle.std.specs.List.{list_all}
 use Rattle.std.specs.Int.{to_le_bytes, w32, w64}
 use Rattle.disk_places.specs.Fields.{u32_at, u64_at, zeros, is_same}
-use Rattle.disk_rules.specs.declared.Kind.{Kind}
-use Rattle.disk_rules.specs.declared.Kind.TheVariants.{Free, Directory, File, Staging}
-use Rattle.disk_rules.specs.declared.Inode.{Inode}
+use Rattle.disk_lines.specs.declared.Kind.{Kind}
+use Rattle.disk_lines.specs.declared.Kind.TheVariants.{Free, Directory, File, Staging}
+use Rattle.disk_lines.specs.declared.Inode.{Inode}
 
 -- a file's length, in bytes, is at most this; so it has at most 4,096 blocks
 abbrev pub most_bytes : ℕ

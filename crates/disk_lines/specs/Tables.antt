@@ -1,8 +1,8 @@
 -- Words for a table of names: no two of its lines have the same parent and name, and no path leads back.
 use Rattle.std.specs.Prelude.{◌≡◌, ℕ, ◌<◌, ◌==◌, List, [], ◌∷◌, length, Bool, true, false, Option, Some, None, if◌then◌else◌}
 use Rattle.std.specs.List.{flat_map}
-use Rattle.disk_rules.specs.Lines.{NameRow}
-use Rattle.disk_rules.specs.Names.{Rows, row, is_entry, walk}
+use Rattle.disk_lines.specs.Lines.{NameRow}
+use Rattle.disk_lines.specs.Names.{Rows, row, is_entry, walk}
 
 -- no two lines have the same parent and name
 pub record IsKeyed (rows : Rows) : Type 0 where

@@ -6,10 +6,10 @@ use Rattle.pm_words.specs.Words.{Words, with_line}
 use Rattle.disk_places.specs.Fields.{zeros}
 use Rattle.disk_places.specs.Places.{Geometry, state_line, inode_line}
 use Rattle.disk_places.specs.Superblock.{superblock}
-use Rattle.disk_rules.specs.declared.Inode.{Inode}
-use Rattle.disk_rules.specs.declared.Kind.{Kind}
-use Rattle.disk_rules.specs.declared.Kind.TheVariants.{Directory, Staging}
-use Rattle.disk_rules.specs.Lines.{encode_inode}
+use Rattle.disk_lines.specs.declared.Inode.{Inode}
+use Rattle.disk_lines.specs.declared.Kind.{Kind}
+use Rattle.disk_lines.specs.declared.Kind.TheVariants.{Directory, Staging}
+use Rattle.disk_lines.specs.Lines.{encode_inode}
 
 -- an inode with no bytes, of a generation
 abbrev pub empty_inode : Kind → ℕ → Inode

@@ -4,10 +4,10 @@ use Rattle.std.specs.Prelude.{Some, None, true}
 use Rattle.disk_places.specs.Places.{Geometry, first_data, data_blocks, reserve, inode_line, name_line, log_line}
 use Rattle.disk_places.specs.Superblock.{superblock, has_magic, has_version, has_numbers}
 use Rattle.disk_places.specs.Fields.{zeros}
-use Rattle.disk_rules.specs.declared.Draft.{Draft}
-use Rattle.disk_rules.specs.declared.Kind.TheVariants.{Directory}
-use Rattle.disk_rules.specs.Lines.{FreeName, Named, BadName, decode_inode, decode_name}
-use Rattle.disk_rules.specs.Entries.{fnv_1a, fnv_1a_from, entry_body, encode_entry, decode_entry, is_self_valid}
+use Rattle.disk_lines.specs.declared.Draft.{Draft}
+use Rattle.disk_lines.specs.declared.Kind.TheVariants.{Directory}
+use Rattle.disk_lines.specs.Lines.{FreeName, Named, BadName, decode_inode, decode_name}
+use Rattle.disk_lines.specs.Entries.{fnv_1a, fnv_1a_from, entry_body, encode_entry, decode_entry, is_self_valid}
 
 -- the default image, and a small one
 default_geometry : Geometry

@@ -9,10 +9,10 @@ use Rattle.std.proofs.lemmas.Option.{cond_some, option_and_then_some}
 use Rattle.std.proofs.lemmas.Slice.Eq.{bytes_eq-Decides}
 use Rattle.disk_places.specs.FieldLaws.{from_le_bytes-bound_4}
 use Rattle.disk_places.specs.Fields.{u32_at, is_same}
-use Rattle.disk_rules.specs.declared.Inode.{Inode}
-use Rattle.disk_rules.specs.declared.Kind.{Kind}
-use Rattle.disk_rules.specs.declared.Kind.TheVariants.{Free, Directory, File, Staging}
-use Rattle.disk_rules.specs.Lines.{code_of_kind, kind_of_code, encode_inode, is_inode_of_kind, is_inode, inode_fields, if_inode, decode_inode}
+use Rattle.disk_lines.specs.declared.Inode.{Inode}
+use Rattle.disk_lines.specs.declared.Kind.{Kind}
+use Rattle.disk_lines.specs.declared.Kind.TheVariants.{Free, Directory, File, Staging}
+use Rattle.disk_lines.specs.Lines.{code_of_kind, kind_of_code, encode_inode, is_inode_of_kind, is_inode, inode_fields, if_inode, decode_inode}
 
 -- the numbers of an inode that no test bounds have room in their places
 pub record FitsInode (x : Inode) : Type 0 where

@@ -1,12 +1,11 @@
-//! What the bytes of an image stand for.
+//! What the lines of an image stand for, one by one.
 //!
-//! The types of what lies in the lines of an image (`Inode`, `Draft`), and the definitions that the layers above
-//! cite: how each line is spelled and read, the metadata of an image as one value (its volume), the rules of a
-//! checked image, the live entries of the log, and the content of an image, path by path. All of it is said of an
-//! image as a function from word number to word, with its journal read through. No work is done here: the codecs,
-//! the check and the replay are crates above.
+//! The types of what lies in the lines (`Inode`, `Draft`), and the definitions that the layers above cite: how an
+//! inode line, a name line and a log entry are spelled and read, the names of an image as rows with their look-ups,
+//! the fresh image, and laws of all these. No work is done here: the codecs are crates above, and what an image
+//! stands for as a whole is said in `image_rules`.
 //!
-//! Stands on `pm_words`, `disk_places` and, for what a list of extents says, `extent_map`.
+//! Stands on `pm_words` and `disk_places`.
 #![tactic(auto)]
 
 /// What an inode line is used for.

@@ -5,7 +5,7 @@ ghost use Rattle.k_journal.specs.Batch.{target, with_batch, IsDistinct, IsNew};
 ghost use Rattle.k_journal.specs.Commits.{MayCommit, IsBeforeOrAfter, IsAfter};
 ghost use Rattle.k_journal.specs.Phases.{IsApart, AreRecorded, AreInPlace, IsStage};
 ghost use Rattle.pm_words.specs.declared.Cell.TheVariants.{Single};
-ghost use Rattle.pm_words.specs.Cells.{cell, is_single, is_lent, Settles};
+ghost use Rattle.pm_words.specs.Cells.{cell, is_single, Settles};
 ghost use Rattle.pm_words.specs.Frames.{SameLent, KeepsSingle, LineIsSingle};
 ghost use Rattle.pm_words.specs.Images.{IsImage, Follows, words_of};
 ghost use Rattle.pm_words.specs.Powers.{is_on, Steps};

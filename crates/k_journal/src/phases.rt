@@ -1,13 +1,11 @@
 // The commit word, and the lines of a batch. Each call ends with a fence.
-ghost use Rattle.std.specs.Prelude.{◌≡◌, ◌≢◌, ◌+◌, ◌*◌, ◌/◌, ◌%◌, ◌<◌, ◌≤◌, ℕ, true, length};
-ghost use Rattle.disk_places.specs.Places.{record_line};
+ghost use Rattle.std.specs.Prelude.{◌≡◌, ◌≢◌, ◌+◌, ◌*◌, ◌/◌, ◌<◌, ◌≤◌, ℕ, true, length};
 ghost use Rattle.k_journal.specs.Batch.{target, content, IsDistinct, IsNew};
-ghost use Rattle.k_journal.specs.Phases.{IsApart, AreRecorded, AreInPlace};
+ghost use Rattle.k_journal.specs.Phases.{IsApart, AreInPlace};
 ghost use Rattle.pm_words.specs.declared.Cell.TheVariants.{Single};
-ghost use Rattle.pm_words.specs.Cells.{cell, is_single, is_lent, fenced, MayHold, Settles};
+ghost use Rattle.pm_words.specs.Cells.{cell, MayHold, Settles};
 ghost use Rattle.pm_words.specs.Frames.{SameLent, KeepsSingle, LineIsSingle};
 ghost use Rattle.pm_words.specs.Powers.{is_on, Steps};
-ghost use Rattle.pm_words.specs.Words.{word_at};
 
 use crate::batches::Entry;
 use pm_lines::{Pm, Power};

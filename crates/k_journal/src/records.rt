@@ -1,10 +1,10 @@
 // The records of the journal.
 ghost use Rattle.std.specs.Prelude.{◌≡◌, ◌≢◌, ◌+◌, ◌*◌, ◌/◌, ◌%◌, ◌<◌, ◌≤◌, ℕ, true, length};
 ghost use Rattle.disk_places.specs.Places.{record_line};
-ghost use Rattle.k_journal.specs.Batch.{target, content, IsDistinct, IsNew};
-ghost use Rattle.k_journal.specs.Phases.{IsApart, AreRecorded, AreInPlace};
+ghost use Rattle.k_journal.specs.Batch.{target, content};
+ghost use Rattle.k_journal.specs.Phases.{AreRecorded};
 ghost use Rattle.pm_words.specs.declared.Cell.TheVariants.{Single};
-ghost use Rattle.pm_words.specs.Cells.{cell, is_single, is_lent, fenced, MayHold, Settles};
+ghost use Rattle.pm_words.specs.Cells.{cell, is_single, fenced, Settles};
 ghost use Rattle.pm_words.specs.Frames.{SameLent, KeepsSingle};
 ghost use Rattle.pm_words.specs.Powers.{is_on, Steps};
 ghost use Rattle.pm_words.specs.Words.{word_at};

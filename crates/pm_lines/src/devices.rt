@@ -1,4 +1,4 @@
-ghost use Rattle.std.specs.Prelude.{◌≡◌, ◌≢◌, ◌+◌, ◌*◌, ◌/◌, ◌%◌, ◌<◌, ◌≤◌, ℕ, true, false, length, IfOk, OnErr};
+ghost use Rattle.std.specs.Prelude.{◌≡◌, ◌≢◌, ◌+◌, ◌*◌, ◌/◌, ◌%◌, ◌<◌, ℕ, true, false, length, IfOk, OnErr};
 ghost use Rattle.pm_words.specs.Cells.{cell, is_single, is_lent, newest, fenced, MayHold, AllHome};
 ghost use Rattle.pm_words.specs.Cells.{flushed as flushed_cell};
 ghost use Rattle.pm_words.specs.Frames.{SameLent, LineIsSingle, LineIsHome};

@@ -1,4 +1,4 @@
-ghost use Rattle.std.specs.Prelude.{◌≡◌, ◌+◌, ◌*◌, ◌/◌, ◌<◌, ℕ, true, length};
+ghost use Rattle.std.specs.Prelude.{◌≡◌, ◌/◌, ◌<◌, true};
 ghost use Rattle.pm_words.specs.Cells.{cell, is_single, newest};
 ghost use Rattle.pm_words.specs.Powers.{is_on, stepped, Steps};
 ghost use Rattle.pm_lines.specs.Effects.{StoresWord, FlushesLine, Fences};

@@ -12,7 +12,7 @@ use Rattle.disk_places.specs.Fields.{is_same}
 use Rattle.disk_lines.specs.Lines.{NameRow}
 use Rattle.disk_lines.specs.Names.{Rows, row, is_entry, is_child, is_free_row, free_line, child_of_row, parent_of_row, first_row_from, line_and_child, find_name, child_named, parent_of, up, walk}
 use Rattle.disk_lines.specs.RowLaws.{first_row-is, first_row-none}
-use Rattle.disk_lines.specs.Tables.{IsKeyed, IsAcyclic, IsFirstRow, Names, name_below, names_below}
+use Rattle.disk_lines.specs.Tables.{IsKeyed, IsAcyclic, IsFirstRow, NamingLine, name_below, names_below}
 
 -- a line that passes the test of an entry or of a child, and the other way round
 pub is_entry-parts : (parent : ℕ) (name : List ℕ) (o : Option NameRow) → is_entry parent name o ≡ true → (r : NameRow) × (o ≡ Some r) × (r.parent ≡ parent) × (r.name ≡ name)
@@ -31,8 +31,8 @@ is_child-parts child None h = cc
 is_child-parts child (Some r) h = (r, refl, eqb-true r.child child h)
 
 -- The look-up of a name gives a line that has it.
-pub Names-child_named : (rows : Rows) (parent : ℕ) (name : List ℕ) (child : ℕ) → child_named rows parent name ≡ Some child → Names rows parent name child
-Names-child_named rows parent name child h =
+pub NamingLine-child_named : (rows : Rows) (parent : ℕ) (name : List ℕ) (child : ℕ) → child_named rows parent name ≡ Some child → NamingLine rows parent name child
+NamingLine-child_named rows parent name child h =
     option_and_then_some (λ found. Some found.1) (find_name rows parent name) child h
     (λ pair is_pair is_child.
     option_and_then_some (λ found. Some (line_and_child found)) (first_row_from (is_entry parent name) 0 rows) pair is_pair
@@ -67,8 +67,8 @@ pub child_named-at : (rows : Rows) (k : ℕ) (r : NameRow) → IsKeyed rows → 
 child_named-at rows k r keyed within is = ap (option_and_then (λ found. Some found.1)) (find_name-at rows k r keyed within is)
 
 -- The directory above an inode is one that names it.
-pub Names-parent_of : (rows : Rows) (child parent : ℕ) → parent_of rows child ≡ Some parent → (name : List ℕ) × Names rows parent name child
-Names-parent_of rows child parent h =
+pub NamingLine-parent_of : (rows : Rows) (child parent : ℕ) → parent_of rows child ≡ Some parent → (name : List ℕ) × NamingLine rows parent name child
+NamingLine-parent_of rows child parent h =
     option_and_then_some (λ found. Some (parent_of_row found.1)) (first_row_from (is_child child) 0 rows) parent h
     (λ found is_found is_parent.
     let first : IsFirstRow (is_child child) rows found.0 found.1 = first_row-is (is_child child) rows found.0 found.1 is_found in
@@ -86,8 +86,8 @@ Names-parent_of rows child parent h =
       },
     ))
 
-pub child_named-Names : (rows : Rows) (parent : ℕ) (name : List ℕ) (child : ℕ) → IsKeyed rows → Names rows parent name child → child_named rows parent name ≡ Some child
-child_named-Names rows parent name child keyed names =
+pub child_named-NamingLine : (rows : Rows) (parent : ℕ) (name : List ℕ) (child : ℕ) → IsKeyed rows → NamingLine rows parent name child → child_named rows parent name ≡ Some child
+child_named-NamingLine rows parent name child keyed names =
     sym (λ i. child_named rows (names.parent_is i) (names.name_is i))
     ∙ child_named-at rows names.line names.at keyed names.within names.is
     ∙ ap (λ (c : ℕ). Some c) names.child_is
@@ -116,14 +116,14 @@ walk-append rows ino (x ∷ xs) ys =
 -- the first step of a path
 pub record Step (rows : Rows) (ino : ℕ) (name : List ℕ) (names : List (List ℕ)) (end : ℕ) : Type 0 where
   pub child : ℕ
-  pub first : Names rows ino name child
+  pub first : NamingLine rows ino name child
   pub rest : walk rows child names ≡ Some end
 
 pub walk-step : (rows : Rows) (ino : ℕ) (name : List ℕ) (names : List (List ℕ)) (end : ℕ) → walk rows ino (name ∷ names) ≡ Some end → Step rows ino name names end
 unfolding walk
 walk-step rows ino name names end h =
     option_and_then_some (λ c. walk rows c names) (child_named rows ino name) end h
-    (λ c is_child is_end. record { child = c; first = Names-child_named rows ino name c is_child; rest = is_end })
+    (λ c is_child is_end. record { child = c; first = NamingLine-child_named rows ino name c is_child; rest = is_end })
 
 -- going up n directories is going back along a path of n names
 pub walk-up : (rows : Rows) (n ino above : ℕ) → IsKeyed rows → up rows n ino ≡ Some above → (names : List (List ℕ)) × (length names ≡ n) × (walk rows above names ≡ Some ino)
@@ -133,8 +133,8 @@ walk-up rows (suc n) ino above keyed h =
     option_and_then_some (up rows n) (parent_of rows ino) above h
     (λ p is_parent is_above.
     let before : (names : List (List ℕ)) × (length names ≡ n) × (walk rows above names ≡ Some p) = walk-up rows n p above keyed is_above in
-    let last : (name : List ℕ) × Names rows p name ino = Names-parent_of rows ino p is_parent in
-    let step = walk-one rows p last.0 ino (child_named-Names rows p last.0 ino keyed last.1) in (
+    let last : (name : List ℕ) × NamingLine rows p name ino = NamingLine-parent_of rows ino p is_parent in
+    let step = walk-one rows p last.0 ino (child_named-NamingLine rows p last.0 ino keyed last.1) in (
       before.0 ++ last.0 ∷ [],
       omega (arith, length-append before.0 (last.0 ∷ []), before.1),
       walk-append rows above before.0 (last.0 ∷ []) ∙ ap (option_and_then (λ c. walk rows c (last.0 ∷ []))) before.2 ∙ step,
@@ -175,7 +175,7 @@ longer_trail : (rows : Rows) (ino : ℕ) (name : List ℕ) (names : List (List �
 unfolding IsDistinct
 longer_trail rows ino name names end keyed acyclic s t =
     let k = s.first.line in
-    let named : child_named rows ino name ≡ Some s.child = child_named-Names rows ino name s.child keyed s.first in
+    let named : child_named rows ino name ≡ Some s.child = child_named-NamingLine rows ino name s.child keyed s.first in
     let child : child_of_row (row rows k) ≡ s.child = ap child_of_row s.first.is ∙ s.first.child_is in
     let fresh : list_any (eqb k) t.lines ≡ false =
     false_from_ne_true (list_any (eqb k) t.lines) (λ again.

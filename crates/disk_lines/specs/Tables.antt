@@ -29,7 +29,7 @@ pub record IsFirstRow (test : Option NameRow → Bool) (rows : Rows) (k : ℕ) (
   pub before : (j : ℕ) → j < k → test (row rows j) ≡ false
 
 -- a line that names the child of the parent
-pub record Names (rows : Rows) (parent : ℕ) (name : List ℕ) (child : ℕ) : Type 0 where
+pub record NamingLine (rows : Rows) (parent : ℕ) (name : List ℕ) (child : ℕ) : Type 0 where
   pub line : ℕ
   pub at : NameRow
   pub within : line < length rows

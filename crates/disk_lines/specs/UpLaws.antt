@@ -7,7 +7,7 @@ use Rattle.disk_lines.specs.Lines.{NameRow}
 use Rattle.disk_lines.specs.Names.{Rows, row, is_child, is_below_parent, has_entries, parent_of_row, first_row_from, parent_of, up, walk}
 use Rattle.disk_lines.specs.RowLaws.{first_row-is, first_row-none}
 use Rattle.disk_lines.specs.TableLaws.{walk-step, is_child-parts, and_then-and_then, up-more}
-use Rattle.disk_lines.specs.Tables.{IsAcyclic, IsFirstRow, Names}
+use Rattle.disk_lines.specs.Tables.{IsAcyclic, IsFirstRow, NamingLine}
 
 -- an inode below which there are names has one name at most
 pub record HasOneNameEach (rows : Rows) : Type 0 where
@@ -22,8 +22,8 @@ has_line parent (o ∷ rows) (suc k) r is below =
     or_right (is_below_parent parent o) (has_entries rows parent) (has_line parent rows k r is below)
 
 -- the one line that names a child with entries tells its directory
-parent_of-Names : (rows : Rows) (parent : ℕ) (name : List ℕ) (child : ℕ) → HasOneNameEach rows → has_entries rows child ≡ true → Names rows parent name child → parent_of rows child ≡ Some parent
-parent_of-Names rows parent name child one entries names = look (first_row_from (is_child child) 0 rows) refl
+parent_of-NamingLine : (rows : Rows) (parent : ℕ) (name : List ℕ) (child : ℕ) → HasOneNameEach rows → has_entries rows child ≡ true → NamingLine rows parent name child → parent_of rows child ≡ Some parent
+parent_of-NamingLine rows parent name child one entries names = look (first_row_from (is_child child) 0 rows) refl
   where
     look : (o : Option (ℕ × Option NameRow)) → first_row_from (is_child child) 0 rows ≡ o → option_and_then (λ found. Some (parent_of_row found.1)) o ≡ Some parent
     look None e =
@@ -49,7 +49,7 @@ up-walk rows ino [] end one entries h =
 up-walk rows ino (name ∷ names) end one entries h =
     let s = walk-step rows ino name names end h in
     let rest : (up rows (length names) end ≡ Some s.child) × (has_entries rows s.child ≡ true) = up-walk rows s.child names end one entries s.rest in (
-      up-more rows (length names) end ∙ ap (option_and_then (parent_of rows)) rest.0 ∙ parent_of-Names rows ino name s.child one rest.1 s.first,
+      up-more rows (length names) end ∙ ap (option_and_then (parent_of rows)) rest.0 ∙ parent_of-NamingLine rows ino name s.child one rest.1 s.first,
       has_line ino rows s.first.line s.first.at s.first.is s.first.parent_is,
     )
 

@@ -6,6 +6,7 @@ ghost use Rattle.disk_lines.specs.Names.{row, is_entry, is_child, is_free_row, f
 use crate::line::NameLine;
 use std::alloc::{AllocError, Global};
 
+/// Whether the line has this parent and name.
 fn is_entry(row: &Option<NameLine>, parent: u32, name: &[u8]) -> bool
     ensures { result ≡ is_entry parent name.now row.now }
 {

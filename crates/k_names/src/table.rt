@@ -14,7 +14,7 @@ use std::marker::Model;
 
 /// The names of an image, line by line: a finite map from parent and name to line and child. Contracts see a list
 /// with one row a line, none where the line is free.
-#[derive(Drop)]
+#[derive(Debug, Drop)]
 pub struct NameTable {
     lines: Vec<Option<NameLine>>,
 }
@@ -40,7 +40,7 @@ impl NameTable {
         Ok(NameTable { lines })
     }
 
-    /// The line of the parent's name, and its child.
+    /// The line of the parent's name, and its child; None where no line has that parent and name.
     pub fn find(&self, parent: u32, name: &Name) -> Option<(u32, u32)>
         ensures found { result ≡ find_name self.now parent name.now }
         ensures within { IfSome result (λ found. found.0 < length self.now) }
@@ -67,7 +67,8 @@ impl NameTable {
         rows::free_line(&self.lines)
     }
 
-    /// Gives the line this name, in place of the one that it has. On an error the table is as before.
+    /// Gives a line of the table this name, in place of the one that it has. No other line may have the name's parent
+    /// and bytes. On an error the table is as before.
     pub fn set(&mut self, line: u32, value: NameLine) -> Result<(), AllocError>
         requires in_table { line < length self.old }
         requires new { (k : ℕ) → is_entry value.parent value.name (row self.old k) ≡ true → k ≡ line }
@@ -78,7 +79,7 @@ impl NameTable {
         Ok(())
     }
 
-    /// Frees the line.
+    /// Frees a line of the table.
     pub fn clear(&mut self, line: u32)
         requires { line < length self.old }
         ensures { self.new ≡ slice_set self.old line None }
@@ -86,7 +87,8 @@ impl NameTable {
         self.lines[line as usize] = None;
     }
 
-    /// Whether going up from the inode, itself included, comes to the ancestor.
+    /// Whether going up from the inode, itself included, comes to the ancestor. No path of names may lead back to where
+    /// it began.
     pub fn below(&self, ino: u32, ancestor: u32) -> bool
         requires { IsAcyclic self.now }
         ensures { IsTrue result ↔ IsBelow self.now ino ancestor }
@@ -94,7 +96,8 @@ impl NameTable {
         walks::is_below(&self.lines, ino, ancestor)
     }
 
-    /// How many names the longest path below the inode has, 0 where nothing is below it.
+    /// How many names the longest path below the inode has, 0 where nothing is below it. No path of names may lead back
+    /// to where it began.
     pub fn height(&self, ino: u32) -> u32
         requires { IsAcyclic self.now }
         ensures { HasHeight self.now ino result }

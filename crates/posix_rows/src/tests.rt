@@ -1,5 +1,6 @@
 //! Runs the tables.
 use crate::*;
+use posix_spec::{Call, CallList, Data, Handle, Item, Reply, Scripts, Who};
 use std::process::Abort;
 use std::test::Fail;
 
@@ -70,5 +71,53 @@ fn descriptor_limits_and_errors(rt: HostRuntime) -> Result<(), Fail> {
         let answered = reply_to(rt.alloc(), &mut state, row)?;
         assert_eq!(rt; answered.as_str(), reply, "{row}");
     }
+    Ok(())
+}
+
+#[test]
+fn copies_are_equal(rt: HostRuntime) -> Result<(), Fail> {
+    let alloc = rt.alloc();
+    let mut state = default_state(alloc)?;
+    for row in ["mkdir /d", "open a /f rwc", "write a 6869", "truncate a 3"] {
+        drop(reply_to(alloc, &mut state, row)?);
+    }
+    let copy = state.clone()?;
+    let tree = copy.tree()?;
+    assert!(rt; tree == state.tree()?, "the copy of a state has its tree");
+    assert!(rt; tree == tree.clone()?, "the copy of a tree is equal");
+    drop(reply_to(alloc, &mut state, "truncate a 2")?);
+    assert!(rt;
+        tree != state.tree()?,
+        "a file of another length is another tree"
+    );
+
+    let call = Call::Pwrite(
+        Handle {
+            len: 1,
+            bytes: *b"a\0\0\0\0\0\0\0",
+        },
+        7,
+        Data {
+            bytes: Vec::from_slice(alloc, b"hi")?,
+        },
+    );
+    let item = Item {
+        who: Who::Thread(1),
+        index: 2,
+        call,
+        reply: Reply::Count(2),
+        room: None,
+    };
+    assert_eq!(rt; item.clone()?, item);
+    let scripts = Scripts {
+        setup: CallList {
+            calls: Vec::new(alloc),
+        },
+        threads: Vec::new(alloc),
+    };
+    assert!(rt;
+        scripts.clone()?.threads.is_empty(),
+        "no thread is added by a copy"
+    );
     Ok(())
 }

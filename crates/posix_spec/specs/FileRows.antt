@@ -14,7 +14,6 @@ use Rattle.posix_words.specs.Nodes.{bytes_of, node_at}
 use Rattle.posix_spec.specs.State.{room, State}
 use Rattle.posix_spec.specs.Outcomes.{idle_row, row, space_row, unless}
 use Rattle.posix_words.specs.Bytes.{longest_file, longest_write, moved_place}
-use Rattle.posix_spec.specs.Tree.{start}
 
 -- The file that a handle stands for: its number, its bytes, the offset. Of an unknown handle nobody asks.
 abbrev pub file_number : Tables → Who → Handle → ℕ

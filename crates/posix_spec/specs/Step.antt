@@ -19,7 +19,6 @@ use Rattle.posix_spec.specs.State.{made, space, State, swept, unnamed, with_file
 use Rattle.posix_spec.specs.Outcomes.{answer, first}
 use Rattle.posix_spec.specs.NameRows.{list_rows, mkdir_rows, open_rows, rename_rows, rmdir_rows, stat_rows, unlink_rows}
 use Rattle.posix_spec.specs.FileRows.{close_rows, content, dup_rows, file_number, fsync_rows, offset_of, read_rows, seek_rows, seek_target, truncate_rows, write_rows, write_start}
-use Rattle.posix_spec.specs.Tree.{start}
 
 -- the state after a call, and what the call answered
 pub record Stepped : Type 0 where

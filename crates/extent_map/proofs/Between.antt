@@ -1,21 +1,12 @@
 -- A list that takes the parts of extents between two file blocks, one extent after the other.
-use Rattle.std.proofs.Common.{◌≡◌, ℕ, ◌+◌, ◌<◌, ◌≤◌, true, false, List, [], length, get_or, take, Some, None, min, max, refl, sym, ◌∙◌, subst, inl, inr, arith}
+use Rattle.std.proofs.Common.{◌≡◌, ℕ, ◌+◌, ◌<◌, ◌≤◌, true, false, List, [], length, get_or, take, Some, None, min, max, refl, ◌∙◌, inl, inr, arith}
 use Rattle.std.proofs.lemmas.Bool.{cases_Bool, lt-ltb, le-ltb}
 use Rattle.std.proofs.lemmas.Bool.Decides.{nat_tests}
-use Rattle.std.proofs.lemmas.List.{take_more, length-take-le, get_or-take, get_or_default}
 use Rattle.std.proofs.lemmas.List.Sums.{sum_by_more, count_by_more_yes, count_by_more_no}
 use Rattle.extent_map.specs.declared.extents.Extent.{Extent}
 use Rattle.extent_map.specs.Extents.{is_between, holds, disk_in, disk_at, IsCanonical}
 use Rattle.extent_map.specs.Pieces.{shared, overlaps, IsPiece, Appends, AppendsBetween}
-use Rattle.extent_map.specs.Facts.{disk_at-None, disk_at-push_here, disk_at-push_away}
-
--- the extents before one lie before it
-before_none : (es : List Extent) (i b : ℕ) (d : Extent) → IsCanonical es → i < length es → (get_or es i d).file ≤ b → disk_at (take i es) b ≡ None
-before_none es i b d c lt le = disk_at-None (take i es) b (λ k e in_front.
-    let size = length-take-le i es (omega arith) in
-    let before = c.rising k i d (omega arith) lt in
-    let read : get_or (take i es) k e ≡ get_or es k d = get_or-take i es k e (omega arith) ∙ get_or_default es k e d (omega arith) in
-    subst (λ (x : Extent). holds x b ≡ false) (sym read) (grind (arith, nat_tests, before.after)))
+use Rattle.extent_map.specs.Facts.{disk_at-take_None, disk_at-more_here, disk_at-more_away}
 
 -- nothing is taken yet
 pub between_none : (from to : ℕ) (old : List Extent) → IsCanonical old → ((b : ℕ) → from ≤ b → disk_at old b ≡ None) → AppendsBetween from to [] old old
@@ -31,17 +22,10 @@ between_none from to old c behind = record {
 
 -- the list so far, which has the parts of the first i extents, and the part of the next
 module _ (from to : ℕ) (es old out : List Extent) (i : ℕ) (d : Extent) (c : IsCanonical es) (lt : i < length es) (behind : (b : ℕ) → from ≤ b → disk_at old b ≡ None) (so_far : AppendsBetween from to (take i es) old out) where
-  -- a block that is not of the next extent has what the extents so far give it
-  away : (b : ℕ) → holds (get_or es i d) b ≡ false → disk_at (take (i + 1) es) b ≡ disk_at (take i es) b
-  away b h = rw (take_more es i d lt) (disk_at-push_away (take i es) (get_or es i d) b h)
-
-  here : (b : ℕ) → holds (get_or es i d) b ≡ true → disk_at (take (i + 1) es) b ≡ Some (disk_in (get_or es i d) b)
-  here b h = rw (take_more es i d lt) (disk_at-push_here (take i es) (get_or es i d) b (before_none es i b d c lt (grind (arith, nat_tests))) h)
-
   -- the next part lies behind the list
   pub piece_behind : (p : Extent) → IsPiece from to (get_or es i d) p → (b : ℕ) → p.file ≤ b → disk_at out b ≡ None
   piece_behind p piece b le = so_far.blocks b ∙ elim (cases_Bool (is_between from to b)) [
-    | inl in_range ↦ rw in_range (before_none es i b d c lt (omega (arith, piece.start)))
+    | inl in_range ↦ rw in_range (disk_at-take_None es i b d c lt (omega (arith, piece.start)))
     | inr outside ↦ rw outside (behind b (omega (arith, piece.start)))
   ]
 
@@ -53,10 +37,10 @@ module _ (from to : ℕ) (es old out : List Extent) (i : ℕ) (d : Extent) (c : 
       | inl held ↦
           let inside : is_between from to b ≡ true = grind (arith, nat_tests, piece.start, piece.end) in
           let same : disk_in p b ≡ disk_in (get_or es i d) b = grind (arith, nat_tests, piece.start, piece.disk) in
-          let there : disk_at (take (i + 1) es) b ≡ Some (disk_in (get_or es i d) b) = here b (grind (arith, nat_tests, piece.start, piece.end)) in
+          let there : disk_at (take (i + 1) es) b ≡ Some (disk_in (get_or es i d) b) = disk_at-more_here es i b d c lt (grind (arith, nat_tests, piece.start, piece.end)) in
           rw (held, inside, there, same) refl
       | inr not_held ↦ rw not_held (so_far.blocks b ∙ elim (cases_Bool (is_between from to b)) [
-        | inl inside ↦ rw (inside, away b (grind (arith, nat_tests, piece.start, piece.end))) refl
+        | inl inside ↦ rw (inside, disk_at-more_away es i b d lt (grind (arith, nat_tests, piece.start, piece.end))) refl
         | inr outside ↦ rw outside refl
       ])
     ];
@@ -71,7 +55,7 @@ module _ (from to : ℕ) (es old out : List Extent) (i : ℕ) (d : Extent) (c : 
   between_skip none = record {
     canonical = so_far.canonical;
     blocks = λ b. so_far.blocks b ∙ elim (cases_Bool (is_between from to b)) [
-      | inl inside ↦ rw (inside, away b (grind (arith, nat_tests))) refl
+      | inl inside ↦ rw (inside, disk_at-more_away es i b d lt (grind (arith, nat_tests))) refl
       | inr outside ↦ rw outside refl
     ];
     few =

@@ -1,15 +1,15 @@
 -- What the parts of a map before, in and behind a range make together.
-use Rattle.std.proofs.Common.{◌≡◌, ℕ, suc, ◌+◌, ◌-◌, ◌<◌, ◌≤◌, Bool, true, false, cond, not, nat_le, List, [], ◌∷◌, length, get_or, take, None, refl, sym, ◌∙◌, ap, subst, inl, inr, arith}
+use Rattle.std.proofs.Common.{◌≡◌, ℕ, suc, ◌+◌, ◌-◌, ◌<◌, ◌≤◌, Bool, true, false, cond, not, nat_le, List, [], ◌∷◌, length, get_or, take, refl, sym, ◌∙◌, ap, subst, inl, inr, arith}
 use Rattle.std.specs.Prelude.{All, sum_by, count_by}
 use Rattle.std.proofs.lemmas.Bool.{cases_Bool, ltb-true, le-ltb}
 use Rattle.std.proofs.lemmas.Bool.Decides.{nat_tests}
 use Rattle.std.proofs.lemmas.List.{take_more, length-take-le, get_or-take, get_or_default}
 use Rattle.std.proofs.lemmas.List.Sums.{sum_by-cons, count_by-le-length}
 use Rattle.extent_map.specs.declared.extents.Extent.{Extent}
-use Rattle.extent_map.specs.Extents.{is_between, holds, disk_at, block_count, IsExtent, ComesAfter, IsCanonical}
+use Rattle.extent_map.specs.Extents.{is_between, holds, block_count, IsExtent, ComesAfter, IsCanonical}
 use Rattle.extent_map.specs.Maps.{IsPart, Replaces}
 use Rattle.extent_map.specs.Pieces.{shared, overlaps, Appends, AppendsBetween}
-use Rattle.extent_map.specs.Facts.{disk_at-None, IsCanonical-tail, IsCanonical-push}
+use Rattle.extent_map.specs.Facts.{disk_at-past, IsCanonical-tail, IsCanonical-push}
 
 -- a front of the one spelling with the next extent, which comes after the one before it
 pub canonical_more : (es : List Extent) (i : ℕ) (d : Extent) → i < length es → IsCanonical (take i es) → IsExtent (get_or es i d) → (0 < i → ComesAfter (get_or es (i - 1) d) (get_or es i d)) → IsCanonical (take (i + 1) es)
@@ -18,10 +18,6 @@ canonical_more es i d lt c ok after =
     let size = length-take-le i es (omega arith) in
     let read : get_or (take i es) k e ≡ get_or es (i - 1) d = get_or-take i es k e (omega arith) ∙ get_or_default es k e d (omega arith) ∙ ap (λ n. get_or es n d) (omega arith) in
     subst (λ x. ComesAfter x (get_or es i d)) (sym read) (after (omega arith))))
-
--- no block from 4,096 on is mapped
-pub past_none : (es : List Extent) (b : ℕ) → IsCanonical es → 4096 ≤ b → disk_at es b ≡ None
-past_none es b c le = disk_at-None es b (λ k d lt. let ok = c.each k d lt in grind (arith, nat_tests, ok.in_file))
 
 -- the parts of a map before and behind a range
 pub outside_part : (from to : ℕ) (es low high : List Extent) → from ≤ to → to ≤ 4096 → IsCanonical es → AppendsBetween 0 from es [] low → AppendsBetween to 4096 es low high → IsPart (λ b. not (is_between from to b)) es high
@@ -37,7 +33,7 @@ outside_part from to es low high le in_file c first second = record {
           rw (before, out) refl
       | inr not_before ↦ rw not_before (elim (cases_Bool (is_between from to b)) [
         | inl inside ↦ rw inside refl
-        | inr out ↦ rw out (sym (past_none es b c (grind (arith, nat_tests))))
+        | inr out ↦ rw out (sym (disk_at-past es b c (grind (arith, nat_tests))))
       ])
     ])
   ]);
@@ -55,7 +51,7 @@ with_run_map run es low mid high in_file c first second third = record {
       | inl held ↦ rw held refl
       | inr out ↦ rw out (first.blocks b ∙ elim (cases_Bool (is_between 0 run.file b)) [
         | inl before ↦ rw before refl
-        | inr not_before ↦ rw not_before (sym (past_none es b c (grind (arith, nat_tests))))
+        | inr not_before ↦ rw not_before (sym (disk_at-past es b c (grind (arith, nat_tests))))
       ])
     ])
   ]);
@@ -127,7 +123,7 @@ cut_part from es part c h = record {
         let behind : nat_le from b ≡ true = grind (arith, nat_tests) in
         rw (inside, behind) refl
     | inr out ↦ rw out (elim (cases_Bool (nat_le from b)) [
-      | inl behind ↦ rw behind (sym (past_none es b c (grind (arith, nat_tests))))
+      | inl behind ↦ rw behind (sym (disk_at-past es b c (grind (arith, nat_tests))))
       | inr before ↦ rw before refl
     ])
   ]);

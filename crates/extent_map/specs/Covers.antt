@@ -1,10 +1,10 @@
 -- Which disk blocks the extents of a map have, and what a change of the map makes of them.
-use Rattle.std.proofs.Common.{◌≡◌, ℕ, ◌+◌, ◌-◌, ◌⊎◌, Bool, true, List, Some, None, sym, ◌∙◌, ap, subst, inl, inr, arith}
+use Rattle.std.proofs.Common.{◌≡◌, ℕ, ◌+◌, ◌-◌, ◌<◌, ◌≤◌, ◌⊎◌, Bool, true, List, length, get_or, Some, None, sym, ◌∙◌, ap, subst, inl, inr, arith}
 use Rattle.std.proofs.lemmas.Bool.{cases_Bool}
 use Rattle.std.proofs.lemmas.Bool.Decides.{nat_tests}
 use Rattle.std.proofs.lemmas.List.Folds.{list_any_at, Any-from_list_any}
 use Rattle.extent_map.specs.declared.extents.Extent.{Extent}
-use Rattle.extent_map.specs.Extents.{holds, holds_disk, disk_in, disk_at, covers, IsCanonical}
+use Rattle.extent_map.specs.Extents.{is_within, holds, holds_disk, disk_in, disk_at, covers, IsExtent, IsCanonical}
 use Rattle.extent_map.specs.Maps.{IsPart, Replaces}
 use Rattle.extent_map.specs.Facts.{disk_at_found, disk_at_is}
 
@@ -48,3 +48,18 @@ covers-Replaces run old new h n has =
           inr (grind (arith, nat_tests))
       | inr outside ↦ inl (covers-disk_at old at.0 n (rw outside at (sym (h.blocks at.0) ∙ at.1)))
     ]
+
+-- an extent of what a map has in a range lies in the range
+pub IsPart-range : (first count : ℕ) (whole part : List Extent) → IsPart (is_within first count) whole part → (k : ℕ) (d : Extent) → k < length part → (first ≤ (get_or part k d).file) × ((get_or part k d).file + (get_or part k d).count ≤ first + count)
+IsPart-range first count whole part h k d lt =
+    let e : Extent = get_or part k d in
+    let ok : IsExtent e = h.canonical.each k d lt in
+    let inside : (b : ℕ) → holds e b ≡ true → is_within first count b ≡ true = λ b here. elim (cases_Bool (is_within first count b)) [
+      | inl within ↦ within
+      | inr without ↦
+          let at : disk_at part b ≡ Some (disk_in e b) = disk_at_is part k b d h.canonical lt here in
+          absurd (none≢some (rw without at (sym (h.blocks b) ∙ at)))
+    ] in
+    let begins : is_within first count e.file ≡ true = inside e.file (grind (arith, nat_tests, ok.filled)) in
+    let ends : is_within first count (e.file + e.count - 1) ≡ true = inside (e.file + e.count - 1) (grind (arith, nat_tests, ok.filled)) in
+    (grind (arith, nat_tests, begins), grind (arith, nat_tests, ends, ok.filled))

@@ -1,10 +1,10 @@
 -- Laws of these words, for the layers above.
-use Rattle.std.proofs.Common.{◌≡◌, ℕ, zero, suc, ◌+◌, ◌-◌, ◌<◌, true, false, List, [], ◌∷◌, ◌++◌, length, get_or, Some, None, Option, IsSome, refl, subst, inl, inr, arith, length-append}
+use Rattle.std.proofs.Common.{◌≡◌, ℕ, zero, suc, ◌+◌, ◌-◌, ◌<◌, ◌≤◌, true, false, List, [], ◌∷◌, ◌++◌, length, get_or, take, Some, None, Option, IsSome, refl, sym, ◌∙◌, subst, inl, inr, arith, length-append}
 use Rattle.std.specs.Prelude.{All}
 use Rattle.std.specs.Option.{option_or}
 use Rattle.std.proofs.lemmas.Bool.{cases_Bool, cases_eq}
 use Rattle.std.proofs.lemmas.Bool.Decides.{nat_tests}
-use Rattle.std.proofs.lemmas.List.{get_or_append_left, get_or_at, length_push}
+use Rattle.std.proofs.lemmas.List.{get_or_append_left, get_or_at, get_or-take, get_or_default, length_push, length-take-le, take_more}
 use Rattle.std.proofs.lemmas.List.Elements.{All-push}
 use Rattle.std.proofs.lemmas.List.Quantifiers.{all_pairs_push}
 use Rattle.extent_map.specs.declared.extents.Extent.{Extent}
@@ -109,3 +109,23 @@ disk_at_found (x ∷ xs) b n d h = elim (cases_Bool (holds x b)) [
       let rest = disk_at_found xs b n d (rw away at h) in
       (suc rest.0, omega (arith, rest.1), rest.2, rest.3)
 ]
+
+-- the extents before one in the list lie before it in the file
+pub disk_at-take_None : (es : List Extent) (i b : ℕ) (d : Extent) → IsCanonical es → i < length es → (get_or es i d).file ≤ b → disk_at (take i es) b ≡ None
+disk_at-take_None es i b d c lt le = disk_at-None (take i es) b (λ k e in_front.
+    let size = length-take-le i es (omega arith) in
+    let before = c.rising k i d (omega arith) lt in
+    let read : get_or (take i es) k e ≡ get_or es k d = get_or-take i es k e (omega arith) ∙ get_or_default es k e d (omega arith) in
+    subst (λ (x : Extent). holds x b ≡ false) (sym read) (grind (arith, nat_tests, before.after)))
+
+-- one more extent of the list gives its blocks their disk blocks, and changes no other
+pub disk_at-more_here : (es : List Extent) (i b : ℕ) (d : Extent) → IsCanonical es → i < length es → holds (get_or es i d) b ≡ true → disk_at (take (i + 1) es) b ≡ Some (disk_in (get_or es i d) b)
+disk_at-more_here es i b d c lt here =
+    rw (take_more es i d lt) (disk_at-push_here (take i es) (get_or es i d) b (disk_at-take_None es i b d c lt (grind (arith, nat_tests))) here)
+
+pub disk_at-more_away : (es : List Extent) (i b : ℕ) (d : Extent) → i < length es → holds (get_or es i d) b ≡ false → disk_at (take (i + 1) es) b ≡ disk_at (take i es) b
+disk_at-more_away es i b d lt away = rw (take_more es i d lt) (disk_at-push_away (take i es) (get_or es i d) b away)
+
+-- no block from 4,096 on is mapped
+pub disk_at-past : (es : List Extent) (b : ℕ) → IsCanonical es → 4096 ≤ b → disk_at es b ≡ None
+disk_at-past es b c le = disk_at-None es b (λ k d lt. let ok = c.each k d lt in grind (arith, nat_tests, ok.in_file))

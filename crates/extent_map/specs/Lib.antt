@@ -1,3 +1,4 @@
+pub mod Counts
 pub mod Covers
 pub mod Extents
 pub mod Facts

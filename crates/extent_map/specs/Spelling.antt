@@ -21,7 +21,7 @@ abbrev pub HasOneSpelling : Type 0
 HasOneSpelling = (es fs : List Extent) → IsCanonical es → IsCanonical fs → AgreeEverywhere es fs → es ≡ fs
 
 -- no block before the first extent is mapped
-none_before : (f : Extent) (fs : List Extent) → IsCanonical (f ∷ fs) → (b : ℕ) → b < f.file → disk_at (f ∷ fs) b ≡ None
+pub none_before : (f : Extent) (fs : List Extent) → IsCanonical (f ∷ fs) → (b : ℕ) → b < f.file → disk_at (f ∷ fs) b ≡ None
 none_before f fs c b lt = disk_at-None (f ∷ fs) b each
   where
     each : (k : ℕ) (d : Extent) → k < length (f ∷ fs) → holds (get_or (f ∷ fs) k d) b ≡ false
@@ -29,13 +29,13 @@ none_before f fs c b lt = disk_at-None (f ∷ fs) b each
     each (suc k) d in_range = let after = (c.rising 0 (suc k) d (omega arith) in_range).after in grind (arith, nat_tests)
 
 -- no block of an extent is mapped by those behind it
-none_behind : (e : Extent) (es : List Extent) → IsCanonical (e ∷ es) → (b : ℕ) → holds e b ≡ true → disk_at es b ≡ None
+pub none_behind : (e : Extent) (es : List Extent) → IsCanonical (e ∷ es) → (b : ℕ) → holds e b ≡ true → disk_at es b ≡ None
 none_behind e es c b here = disk_at-None es b (λ k d lt.
     let after = (c.rising 0 (suc k) d (omega arith) (omega arith)).after in
     grind (arith, nat_tests))
 
 -- the first block of an extent is mapped, to its first disk block
-first_here : (e : Extent) (es : List Extent) → IsCanonical (e ∷ es) → disk_at (e ∷ es) e.file ≡ Some e.disk
+pub first_here : (e : Extent) (es : List Extent) → IsCanonical (e ∷ es) → disk_at (e ∷ es) e.file ≡ Some e.disk
 first_here e es c =
     let filled = (c.each 0 e (omega arith)).filled in
     let here : holds e e.file ≡ true = grind (arith, nat_tests) in

@@ -41,7 +41,8 @@ impl ExtentMap {
     /// The map of which these extents are the one spelling, or None where they are not that of any
     /// map.
     pub fn from_extents(alloc: Global, extents: &[Extent]) -> Result<Option<ExtentMap>, AllocError>
-        ensures { IfOk result (λ map. SomeIff map (IsCanonical extents.now) extents.now) }
+        ensures made { IfOk result (λ map. SomeIff map (IsCanonical extents.now) extents.now) }
+        ensures refused { ¬ IsCanonical extents.now → result ≡ Ok None }
     {
         if !is_canonical(extents) {
             return Ok(None);
@@ -52,11 +53,10 @@ impl ExtentMap {
     }
 
     /// The same map once more.
-    pub fn copied(&self) -> Result<ExtentMap, AllocError>
+    pub fn copied(&self, alloc: Global) -> Result<ExtentMap, AllocError>
         ensures copy { IfOk result (λ copy. copy ≡ self.now) }
         ensures canonical { IsCanonical self.now }
     {
-        let alloc = *self.extents.allocator();
         Ok(ExtentMap {
             extents: Vec::from_slice(alloc, &self.extents)?,
         })
@@ -73,6 +73,7 @@ impl ExtentMap {
     /// The extents, the one spelling of the map.
     pub fn extents(&self) -> &[Extent]
         ensures all { result.now ≡ self.now }
+        ensures few { length self.now ≤ FILE_BLOCKS }
         ensures canonical { IsCanonical self.now }
     {
         &self.extents
@@ -87,8 +88,9 @@ impl ExtentMap {
         file_end(&self.extents)
     }
 
-    /// Gives the file blocks of the run its disk blocks, and answers what they had before. A run of
-    /// no blocks changes nothing. An error leaves the map as it was.
+    /// Gives the file blocks of the run its disk blocks, and answers what they had before. The run
+    /// ends by file block `FILE_BLOCKS`, and its end on the disk fits 32 bits; a run of no blocks
+    /// changes nothing. An error leaves the map as it was.
     pub fn replace_range(&mut self, run: Extent) -> Result<Vec<Extent>, AllocError>
         requires in_file { run.file + run.count ≤ FILE_BLOCKS }
         requires on_disk { run.disk + run.count < 2 ^ 32 }
@@ -96,7 +98,8 @@ impl ExtentMap {
         ensures displaced { IfOk result (λ displaced. IsPart (holds run) self.old displaced.items) }
         ensures count { IfOk result (λ displaced.
             block_count self.new + block_count displaced.items ≡ block_count self.old + run.count) }
-        ensures disk { OnOk result ((d : ℕ) → IsTrue (covers self.new d) → IsTrue (covers self.old d) ⊎ IsTrue (holds_disk run d)) }
+        ensures disk { OnOk result ((d : ℕ) → IsTrue (covers self.new d) →
+            IsTrue (covers self.old d) ⊎ IsTrue (holds_disk run d)) }
         ensures few { length self.new ≤ length self.old + 2 }
         ensures canonical { IsCanonical self.new }
         ensures err { OnErr result (self.new ≡ self.old) }
@@ -107,12 +110,13 @@ impl ExtentMap {
         Ok(displaced)
     }
 
-    /// Takes `count` file blocks from `file` on out of the map, and answers what they had. An error
-    /// leaves the map as it was.
+    /// Takes `count` file blocks from `file` on, which end by `FILE_BLOCKS`, out of the map, and
+    /// answers what they had. An error leaves the map as it was.
     pub fn clear_range(&mut self, file: u32, count: u32) -> Result<Vec<Extent>, AllocError>
         requires in_file { file + count ≤ FILE_BLOCKS }
         ensures map { OnOk result (IsPart (λ b. not (is_within file count b)) self.old self.new) }
-        ensures displaced { IfOk result (λ displaced. IsPart (is_within file count) self.old displaced.items) }
+        ensures displaced { IfOk result (λ displaced.
+            IsPart (is_within file count) self.old displaced.items) }
         ensures count { IfOk result (λ displaced.
             block_count self.new + block_count displaced.items ≡ block_count self.old) }
         ensures few { length self.new ≤ length self.old + 1 }
@@ -129,7 +133,8 @@ impl ExtentMap {
     /// leaves the map as it was.
     pub fn cut(&mut self, from: u32) -> Result<Vec<Extent>, AllocError>
         ensures map { OnOk result (IsPart (λ b. nat_lt b from) self.old self.new) }
-        ensures displaced { IfOk result (λ displaced. IsPart (λ b. nat_le from b) self.old displaced.items) }
+        ensures displaced { IfOk result (λ displaced.
+            IsPart (λ b. nat_le from b) self.old displaced.items) }
         ensures count { IfOk result (λ displaced.
             block_count self.new + block_count displaced.items ≡ block_count self.old) }
         ensures few { length self.new ≤ length self.old }

@@ -126,9 +126,11 @@ pub(crate) fn outside(
     requires source { IsCanonical source.now }
     requires from { from ≤ to }
     requires to { to ≤ FILE_BLOCKS }
-    ensures part { IfOk result (λ part. IsPart (λ b. not (is_between from to b)) source.now part.items) }
+    ensures part { IfOk result (λ part.
+        IsPart (λ b. not (is_between from to b)) source.now part.items) }
     ensures few { IfOk result (λ part. length part.items ≤ length source.now + 1) }
-    ensures count { IfOk result (λ part. block_count part.items ≡ sum_by (shared 0 from) source.now + sum_by (shared to FILE_BLOCKS) source.now) }
+    ensures count { IfOk result (λ part. block_count part.items
+        ≡ sum_by (shared 0 from) source.now + sum_by (shared to FILE_BLOCKS) source.now) }
 {
     let mut extents = Vec::new(alloc);
     append_between(&mut extents, source, 0, from)?;
@@ -147,7 +149,9 @@ pub(crate) fn with_run(
     requires on_disk { run.disk + run.count < 2 ^ 32 }
     ensures map { IfOk result (λ map. Replaces run source.now map.items) }
     ensures few { IfOk result (λ map. length map.items ≤ length source.now + 2) }
-    ensures count { IfOk result (λ map. block_count map.items ≡ sum_by (shared 0 run.file) source.now + run.count + sum_by (shared (run.file + run.count) FILE_BLOCKS) source.now) }
+    ensures count { IfOk result (λ map. block_count map.items
+        ≡ sum_by (shared 0 run.file) source.now + run.count
+        + sum_by (shared (run.file + run.count) FILE_BLOCKS) source.now) }
 {
     let mut extents = Vec::new(alloc);
     append_between(&mut extents, source, 0, run.file)?;

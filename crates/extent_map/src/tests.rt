@@ -64,7 +64,7 @@ fn neighbours_become_one(rt: HostRuntime) -> Result<(), Fail> {
 #[test]
 fn lookups_and_copies(rt: HostRuntime) -> Result<(), Fail> {
     let map = map_of(rt.alloc(), &[extent(1, 20, 2), extent(5, 9, 1)])?;
-    let copy = map.copied()?;
+    let copy = map.copied(rt.alloc())?;
     let want = [None, Some(20), Some(21), None, None, Some(9), None];
     for (block, disk) in want.iter().enumerate() {
         assert_eq!(rt; copy.lookup(block as u32), *disk, "at {block}");

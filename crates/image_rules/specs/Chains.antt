@@ -6,7 +6,7 @@ use Rattle.std.specs.List.{flat_map, range_with_len}
 use Rattle.pm_words.specs.Words.{Words}
 use Rattle.disk_places.specs.Places.{chains_for}
 use Rattle.extent_map.specs.declared.extents.Extent.{Extent}
-use Rattle.disk_rules.specs.declared.Inode.{Inode}
+use Rattle.disk_lines.specs.declared.Inode.{Inode}
 
 abbrev pub extents_per_block : ℕ
 extents_per_block = 255

@@ -8,10 +8,10 @@ use Rattle.pm_words.specs.Words.{Words, byte_of}
 use Rattle.disk_places.specs.Places.{Geometry}
 use Rattle.disk_places.specs.Journal.{journaled}
 use Rattle.extent_map.specs.Extents.{disk_at, is_within}
-use Rattle.disk_rules.specs.declared.Draft.{Draft}
-use Rattle.disk_rules.specs.declared.Kind.{Kind}
-use Rattle.disk_rules.specs.declared.Kind.TheVariants.{Free, Directory, File, Staging}
-use Rattle.disk_rules.specs.Names.{walk}
+use Rattle.disk_lines.specs.declared.Draft.{Draft}
+use Rattle.disk_lines.specs.declared.Kind.{Kind}
+use Rattle.disk_lines.specs.declared.Kind.TheVariants.{Free, Directory, File, Staging}
+use Rattle.disk_lines.specs.Names.{walk}
 use Rattle.image_rules.specs.Volume.{Volume, volume, inode, extents}
 use Rattle.image_rules.specs.Live.{live_entries, latest}
 

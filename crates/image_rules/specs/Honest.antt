@@ -4,7 +4,7 @@ use Rattle.pm_words.specs.declared.Cell.{Cell}
 use Rattle.pm_words.specs.Cells.{cell, has_two, oldest, newest}
 use Rattle.pm_words.specs.Words.{Words, line_bytes}
 use Rattle.disk_places.specs.Places.{Geometry, log_line}
-use Rattle.disk_rules.specs.Entries.{is_self_valid}
+use Rattle.disk_lines.specs.Entries.{is_self_valid}
 
 -- the words of a line are its older candidates, or its newer ones
 abbrev pub HasOlder : List Cell → Words → ℕ → Type 0

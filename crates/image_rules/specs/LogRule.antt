@@ -5,8 +5,8 @@ use Rattle.pm_words.specs.declared.Cell.TheVariants.{Single}
 use Rattle.pm_words.specs.Cells.{cell, is_single, newest}
 use Rattle.pm_words.specs.Parts.{Part}
 use Rattle.pm_words.specs.Words.{Words, line_bytes}
-use Rattle.disk_rules.specs.declared.Draft.{Draft}
-use Rattle.disk_rules.specs.Entries.{encode_entry}
+use Rattle.disk_lines.specs.declared.Draft.{Draft}
+use Rattle.disk_lines.specs.Entries.{encode_entry}
 
 -- the cells of line n of those that were taken out
 abbrev pub cells_of_line : List (List Cell) → ℕ → List Cell

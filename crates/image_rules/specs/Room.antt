@@ -2,8 +2,8 @@
 use Rattle.std.specs.Prelude.{ℕ, ◌+◌, ◌*◌, ◌/◌, ◌<◌, ◌≤◌, List, [], ◌∷◌, length, Bool, true, false, ◌&&◌, nat_lt, count_by, sum_by, cond}
 use Rattle.std.specs.List.{range_with_len, list_any}
 use Rattle.disk_places.specs.Places.{first_data, data_blocks, chains_for}
-use Rattle.disk_rules.specs.declared.Draft.{Draft}
-use Rattle.disk_rules.specs.Names.{names_of}
+use Rattle.disk_lines.specs.declared.Draft.{Draft}
+use Rattle.disk_lines.specs.Names.{names_of}
 use Rattle.image_rules.specs.Volume.{Volume, inode}
 use Rattle.image_rules.specs.Uses.{Use, owners}
 use Rattle.image_rules.specs.Live.{is_file}

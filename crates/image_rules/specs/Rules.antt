@@ -8,13 +8,13 @@ use Rattle.disk_places.specs.Journal.{committed, record_target, journaled}
 use Rattle.disk_places.specs.Superblock.{has_magic, has_version, has_numbers, geometry_at}
 use Rattle.extent_map.specs.declared.extents.Extent.{Extent}
 use Rattle.extent_map.specs.Extents.{disk_at, is_within, IsCanonical}
-use Rattle.disk_rules.specs.declared.Draft.{Draft}
-use Rattle.disk_rules.specs.declared.Inode.{Inode}
-use Rattle.disk_rules.specs.declared.Kind.{Kind}
-use Rattle.disk_rules.specs.declared.Kind.TheVariants.{Free, Directory, File, Staging}
-use Rattle.disk_rules.specs.Entries.{is_self_valid, held_seq}
-use Rattle.disk_rules.specs.Lines.{NameRow, NameSlot, FreeName, Named, BadName}
-use Rattle.disk_rules.specs.Names.{Rows, row, names_of, parent_of, up}
+use Rattle.disk_lines.specs.declared.Draft.{Draft}
+use Rattle.disk_lines.specs.declared.Inode.{Inode}
+use Rattle.disk_lines.specs.declared.Kind.{Kind}
+use Rattle.disk_lines.specs.declared.Kind.TheVariants.{Free, Directory, File, Staging}
+use Rattle.disk_lines.specs.Entries.{is_self_valid, held_seq}
+use Rattle.disk_lines.specs.Lines.{NameRow, NameSlot, FreeName, Named, BadName}
+use Rattle.disk_lines.specs.Names.{Rows, row, names_of, parent_of, up}
 use Rattle.image_rules.specs.Chains.{SpellsChain}
 use Rattle.image_rules.specs.Volume.{Volume, volume, inode_at, name_at, inode, chain, extents}
 use Rattle.image_rules.specs.Uses.{owners}

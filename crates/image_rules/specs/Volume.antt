@@ -4,10 +4,10 @@ use Rattle.std.specs.List.{range_with_len}
 use Rattle.pm_words.specs.Words.{Words, line_bytes}
 use Rattle.disk_places.specs.Places.{Geometry, base_word, inode_line, name_line}
 use Rattle.extent_map.specs.declared.extents.Extent.{Extent}
-use Rattle.disk_rules.specs.declared.Inode.{Inode}
-use Rattle.disk_rules.specs.declared.Kind.TheVariants.{Free}
-use Rattle.disk_rules.specs.Lines.{NameRow, NameSlot, FreeName, Named, BadName, decode_inode, decode_name}
-use Rattle.disk_rules.specs.Names.{Rows}
+use Rattle.disk_lines.specs.declared.Inode.{Inode}
+use Rattle.disk_lines.specs.declared.Kind.TheVariants.{Free}
+use Rattle.disk_lines.specs.Lines.{NameRow, NameSlot, FreeName, Named, BadName, decode_inode, decode_name}
+use Rattle.disk_lines.specs.Names.{Rows}
 use Rattle.image_rules.specs.Chains.{chain_of, map_of}
 
 -- the log base; the inode lines; the name lines, one row a line; and of each inode its chain blocks and its extents

@@ -5,15 +5,15 @@
 //! is exact: a line is read as an inode exactly where it is the spelling of that inode and the inode's fields are
 //! ones that its kind may have, and each inode has one spelling (`inode_lines_are_exact`). No call takes memory.
 //!
-//! Stands on `disk_places`, `disk_rules` and `line_fields`.
+//! Stands on `disk_places`, `disk_lines` and `line_fields`.
 #![tactic(auto)]
 
 ghost use Rattle.std.specs.Prelude.{◌≡◌, ℕ, List, true, Some};
-ghost use Rattle.disk_rules.specs.LineLaws.{FitsInode, IsInodeLine};
-ghost use Rattle.disk_rules.specs.Lines.{code_of_kind, kind_of_code, has_map_or_none, is_inode, encode_inode, decode_inode};
-ghost use Rattle.disk_rules.specs.declared.Inode.{Inode};
+ghost use Rattle.disk_lines.specs.LineLaws.{FitsInode, IsInodeLine};
+ghost use Rattle.disk_lines.specs.Lines.{code_of_kind, kind_of_code, has_map_or_none, is_inode, encode_inode, decode_inode};
+ghost use Rattle.disk_lines.specs.declared.Inode.{Inode};
 
-pub use disk_rules::{Inode, Kind};
+pub use disk_lines::{Inode, Kind};
 use line_fields::{put_u32, put_u64, u32_at, u64_at};
 
 /// The longest file, in bytes.
@@ -81,7 +81,7 @@ pub fn encode_inode(inode: &Inode) -> [u8; 64]
 }
 
 /// The inode that the line stands for; None exactly where it is no inode line.
-#[tactic(auto, unfolding(disk_rules::specs::Lines::decode_inode))]
+#[tactic(auto, unfolding(disk_lines::specs::Lines::decode_inode))]
 pub fn decode_inode(bytes: &[u8; 64]) -> Option<Inode>
     ensures { result ≡ decode_inode bytes.now }
 {

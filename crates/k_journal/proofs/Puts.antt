@@ -1,8 +1,8 @@
 -- What a batch is after one more line, in its place or at the end.
-use Rattle.std.proofs.Common.{◌≡◌, ◌≢◌, ◌+◌, ◌/◌, ◌%◌, ◌<◌, ◌≤◌, ℕ, zero, suc, List, [], ◌∷◌, ◌++◌, length, set, slice_index_or, refl, sym, ◌∙◌, ap, arith, ⊎_elim}
-use Rattle.std.proofs.lemmas.Bool.{cases_eq, eq-eqb, ne_eqb, cond-true, cond-false}
+use Rattle.std.proofs.Common.{◌≡◌, ◌≢◌, ◌+◌, ◌/◌, ◌%◌, ◌<◌, ℕ, zero, suc, List, [], ◌∷◌, ◌++◌, length, set, slice_index_or, refl, sym, ◌∙◌, ap, arith, ⊎_elim}
+use Rattle.std.proofs.lemmas.Bool.{cases_eq, eq-eqb, ne_eqb}
 use Rattle.std.proofs.lemmas.List.{length-set, length_push, get_or-set_same, get_or-set_other, get_or_append_left, get_or_push}
-use Rattle.k_journal.specs.Batch.{no_entry, target, content, with_batch, with_line_set, HasRoom, IsDistinct, IsNew, IsFirstPlace}
+use Rattle.k_journal.specs.Batch.{no_entry, target, content, with_batch, with_line_set, IsDistinct, IsNew, IsFirstPlace}
 use Rattle.k_journal.specs.Patches.{find_target, patched-miss, patched-at}
 use Rattle.k_journal.specs.declared.batches.Entry.{Entry}
 use Rattle.pm_words.specs.Words.{Words, word_at, with_line}
@@ -41,21 +41,21 @@ record IsLike (b new : List Entry) (line : ℕ) (bytes : List ℕ) : Type 0 wher
 meaning : (b new : List Entry) (line : ℕ) (bytes : List ℕ) → IsLike b new line bytes → (f : Words) (i : ℕ) → with_batch new f i ≡ with_line line bytes (with_batch b f) i
 meaning b new line bytes like f i = ⊎_elim
     (λ (at : i / 8 ≡ line).
-        let place : (k : ℕ) × (k < length new) × (target new k ≡ line) × (content new k ≡ word_at bytes) = like.place in
-        with_batch-at new f i place.0 like.new_distinct place.1 (place.2 ∙ sym at) ∙ ap (λ (words : Words). words (i % 8)) place.3
-        ∙ rw (eq-eqb (i / 8) line at) refl)
+    let place : (k : ℕ) × (k < length new) × (target new k ≡ line) × (content new k ≡ word_at bytes) = like.place in
+    with_batch-at new f i place.0 like.new_distinct place.1 (place.2 ∙ sym at) ∙ ap (λ (words : Words). words (i % 8)) place.3
+    ∙ rw (eq-eqb (i / 8) line at) refl)
     (λ (other : i / 8 ≢ line). ⊎_elim
-        (λ (found : (k : ℕ) × (k < length b) × (target b k ≡ i / 8)).
-            let kept : (target new found.0 ≡ target b found.0) × (content new found.0 ≡ content b found.0) × (found.0 < length new) =
-                like.kept found.0 found.1 (λ e. other (sym found.2 ∙ e)) in
-            with_batch-at new f i found.0 like.new_distinct kept.2 (kept.0 ∙ found.2) ∙ ap (λ (words : Words). words (i % 8)) kept.1
-            ∙ sym (with_batch-at b f i found.0 like.distinct found.1 found.2) ∙ rw (ne_eqb (i / 8) line other) refl)
-        (λ (none : (k : ℕ) → k < length b → target b k ≢ i / 8).
-            with_batch-new new f i (λ k h e.
-                let old : (j : ℕ) × (j < length b) × (target b j ≡ target new k) = like.nothing_else k h (λ e'. other (sym e ∙ e')) in
-                none old.0 old.1 (old.2 ∙ e))
-            ∙ sym (with_batch-new b f i none) ∙ rw (ne_eqb (i / 8) line other) refl)
-        (find_target (length b) (target b) (i / 8)))
+    (λ (found : (k : ℕ) × (k < length b) × (target b k ≡ i / 8)).
+    let kept : (target new found.0 ≡ target b found.0) × (content new found.0 ≡ content b found.0) × (found.0 < length new) =
+    like.kept found.0 found.1 (λ e. other (sym found.2 ∙ e)) in
+    with_batch-at new f i found.0 like.new_distinct kept.2 (kept.0 ∙ found.2) ∙ ap (λ (words : Words). words (i % 8)) kept.1
+    ∙ sym (with_batch-at b f i found.0 like.distinct found.1 found.2) ∙ rw (ne_eqb (i / 8) line other) refl)
+    (λ (none : (k : ℕ) → k < length b → target b k ≢ i / 8).
+    with_batch-new new f i (λ k h e.
+    let old : (j : ℕ) × (j < length b) × (target b j ≡ target new k) = like.nothing_else k h (λ e'. other (sym e ∙ e')) in
+    none old.0 old.1 (old.2 ∙ e))
+    ∙ sym (with_batch-new b f i none) ∙ rw (ne_eqb (i / 8) line other) refl)
+    (find_target (length b) (target b) (i / 8)))
     (cases_eq (i / 8) line)
 
 -- ---- a line that is there already
@@ -78,11 +78,17 @@ meaning-known b e place distinct first f i =
     meaning b (set b place e) e.line e.bytes record {
       distinct = distinct;
       new_distinct = distinct-set b e place distinct first;
-      place = (place, omega (arith, first.within), target-set b e place place first.within first.here ∙ first.here,
-          ap (λ (x : Entry). word_at x.bytes) (get_or-set_same b place e no_entry first.within));
-      kept = λ k h other. (target-set b e place k first.within first.here,
-          ap (λ (x : Entry). word_at x.bytes) (get_or-set_other b place k e no_entry (λ at. other (ap (target b) at ∙ first.here))),
-          omega arith);
+      place = (
+        place,
+        omega (arith, first.within),
+        target-set b e place place first.within first.here ∙ first.here,
+        ap (λ (x : Entry). word_at x.bytes) (get_or-set_same b place e no_entry first.within),
+      );
+      kept = λ k h other. (
+        target-set b e place k first.within first.here,
+        ap (λ (x : Entry). word_at x.bytes) (get_or-set_other b place k e no_entry (λ at. other (ap (target b) at ∙ first.here))),
+        omega arith,
+      );
       nothing_else = λ k h other. (k, omega arith, sym (target-set b e place k first.within first.here));
     } f i
 
@@ -96,8 +102,8 @@ distinct-push b e distinct fresh j k less within same =
     ⊎_elim
     (λ (last : k ≡ length b). fresh j front (sym old ∙ same ∙ rw last (ap (λ (x : Entry). x.line) (get_or_push b e no_entry (length b) refl))))
     (λ (other : k ≢ length b).
-        let before : k < length b = omega arith in
-        distinct j k less before (sym old ∙ same ∙ ap (λ (x : Entry). x.line) (get_or_append_left b (e ∷ []) no_entry k before)))
+    let before : k < length b = omega arith in
+    distinct j k less before (sym old ∙ same ∙ ap (λ (x : Entry). x.line) (get_or_append_left b (e ∷ []) no_entry k before)))
     (cases_eq k (length b))
 
 pub meaning-new : (b : List Entry) (e : Entry) → IsDistinct b → IsNew b e.line → (f : Words) (i : ℕ) → with_batch (b ++ e ∷ []) f i ≡ with_line e.line e.bytes (with_batch b f) i

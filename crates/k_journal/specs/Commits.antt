@@ -1,5 +1,5 @@
 -- What a commit asks for and what it leaves.
-use Rattle.std.specs.Prelude.{◌≡◌, ◌≢◌, ◌⊎◌, ◌*◌, ◌/◌, ◌<◌, ℕ, true, false, List, length}
+use Rattle.std.specs.Prelude.{◌≡◌, ◌⊎◌, ◌*◌, ◌/◌, ◌<◌, ℕ, true, false, List, length}
 use Rattle.disk_places.specs.Journal.{is_journal_word, journaled, IsSound}
 use Rattle.disk_places.specs.Places.{Geometry, commit_word, is_journaled_line}
 use Rattle.k_journal.specs.Batch.{target, with_batch, AllLines, IsNew}
@@ -7,6 +7,7 @@ use Rattle.k_journal.specs.declared.batches.Entry.{Entry}
 use Rattle.pm_words.specs.declared.Cell.{Cell}
 use Rattle.pm_words.specs.declared.Cell.TheVariants.{Single}
 use Rattle.pm_words.specs.Cells.{cell, is_single}
+use Rattle.pm_words.specs.Frames.{LineIsSingle}
 use Rattle.pm_words.specs.Words.{Words}
 
 -- The device has the blocks of the geometry, the batch's lines are journaled ones, the commit word is 0, and the
@@ -16,11 +17,18 @@ pub record MayCommit (g : Geometry) (b : List Entry) (d : List Cell) : Type 0 wh
   pub lines : AllLines (is_journaled_line g) b
   pub idle : cell d commit_word ≡ Single 0
   pub journal : (i : ℕ) → i < 2560 → is_single (cell d i) ≡ true
-  pub targets : (k i : ℕ) → k < length b → i / 8 ≡ target b k → is_single (cell d i) ≡ true
+  pub targets : (k : ℕ) → k < length b → LineIsSingle (target b k) d
 
 -- An image after a commit, or after a part of it, beside the image before. Its journaled view has all of the
--- batch's lines or none; outside the journal and these lines no word changed; and its journal can be recovered.
+-- batch's lines or none; outside the journal and these lines no word changed; and its journal can be recovered
+-- where the one before could.
 pub record IsBeforeOrAfter (g : Geometry) (b : List Entry) (before image : Words) : Type 0 where
   pub view : (journaled image ≡ journaled before) ⊎ (journaled image ≡ with_batch b (journaled before))
+  pub others : (w : ℕ) → is_journal_word w ≡ false → IsNew b (w / 8) → image w ≡ before w
+  pub sound : IsSound g before → IsSound g image
+
+-- An image after a whole commit, beside the image before.
+pub record IsAfter (g : Geometry) (b : List Entry) (before image : Words) : Type 0 where
+  pub view : journaled image ≡ with_batch b (journaled before)
   pub others : (w : ℕ) → is_journal_word w ≡ false → IsNew b (w / 8) → image w ≡ before w
   pub sound : IsSound g image

@@ -14,19 +14,19 @@ abbrev pub IsApart : List Entry → Type 0
 IsApart b = (k : ℕ) → k < length b → (target b k ≡ state_line) ⊎ (inode_line 0 ≤ target b k)
 
 -- the first n entries of the batch stand in the journal's records
-pub record IsRecorded (b : List Entry) (n : ℕ) (d : List Cell) : Type 0 where
+pub record AreRecorded (b : List Entry) (n : ℕ) (d : List Cell) : Type 0 where
   pub targets : (k : ℕ) → k < n → cell d (8 * record_line k) ≡ Single (target b k)
   pub contents : (k i : ℕ) → k < n → i / 8 ≡ record_line k + 1 → cell d i ≡ Single (content b k (i % 8))
 
 -- the first n entries of the batch stand in their lines
-abbrev pub IsDone : List Entry → ℕ → List Cell → Type 0
-IsDone b n d = (k i : ℕ) → k < n → i / 8 ≡ target b k → cell d i ≡ Single (content b k (i % 8))
+abbrev pub AreInPlace : List Entry → ℕ → List Cell → Type 0
+AreInPlace b n d = (k i : ℕ) → k < n → i / 8 ≡ target b k → cell d i ≡ Single (content b k (i % 8))
 
 -- What an image of the device tells of how far the commit came.
 pub data IsStage (b : List Entry) (old new : List Cell) (image : Words) : Type 0 where
   -- no record counts, and the lines are as they were
   Unbegun : image commit_word ≡ 0 → ((i : ℕ) → is_journal_word i ≡ false → Settles (cell old i) (cell new i)) → IsStage b old new image
   -- the records count
-  Recorded : image commit_word ≡ length b → IsRecorded b (length b) new → IsStage b old new image
+  Recorded : image commit_word ≡ length b → AreRecorded b (length b) new → IsStage b old new image
   -- no record counts any more, and the lines are set
-  Applied : image commit_word ≡ 0 → IsDone b (length b) new → IsStage b old new image
+  Applied : image commit_word ≡ 0 → AreInPlace b (length b) new → IsStage b old new image

@@ -1,5 +1,5 @@
-ghost use Rattle.std.specs.Prelude.{◌≡◌, ◌≢◌, ◌<◌, ◌≤◌, ◌==◌, ℕ, Bool, true, [], length, IsOk, OnOk, OnErr, IfOk, IfErr, MatchOption};
-ghost use Rattle.k_journal.specs.Batch.{target, with_batch, with_line_set, AllLines, HasLine, IsDistinct, IsNew, IsFirstPlace};
+ghost use Rattle.std.specs.Prelude.{◌≡◌, ◌+◌, ◌<◌, ◌≤◌, ◌==◌, ℕ, Bool, true, [], length, IsOk, OnOk, OnErr, IfOk, IfErr, MatchOption};
+ghost use Rattle.k_journal.specs.Batch.{with_batch, with_line_set, AllLines, HasLine, IsDistinct, IsNew, IsFirstPlace};
 ghost use Rattle.pm_words.specs.Words.{Words, with_line};
 
 use std::alloc::{AllocError, Global};
@@ -75,17 +75,18 @@ impl Batch {
     pub fn put(&mut self, line: u64, bytes: [u8; 64]) -> Result<(), BatchFull>
         ensures known { HasLine self.old line → IsOk result }
         ensures free { length self.old < 128 → IsOk result }
-        ensures full { IfErr result (λ e. (e.count ≡ 128) × (length self.old ≡ 128) × IsNew self.old line) }
+        ensures full { IfErr result (λ e. (e.count ≡ 128)
+            × (length self.old ≡ 128) × IsNew self.old line) }
         ensures err { OnErr result (self.new ≡ self.old) }
 
+        ensures count { length self.new ≤ length self.old + 1 }
         ensures entries { OnOk result (self.new ≡ with_line_set self.old line bytes) }
-        ensures meaning { OnOk result ((f : Words) (i : ℕ) → with_batch self.new f i ≡ with_line line bytes (with_batch self.old f) i) }
-        ensures lines { (test : ℕ → Bool) → test line ≡ true → AllLines test self.old → AllLines test self.new }
+        ensures meaning { OnOk result ((f : Words) (i : ℕ)
+            → with_batch self.new f i ≡ with_line line bytes (with_batch self.old f) i) }
+        ensures lines { (test : ℕ → Bool) → test line ≡ true
+            → AllLines test self.old → AllLines test self.new }
     {
-        let entry = Entry {
-            line,
-            bytes,
-        };
+        let entry = Entry { line, bytes };
         if let Some(place) = place_of(&self.entries, line) {
             self.entries[place] = entry;
             return Ok(());

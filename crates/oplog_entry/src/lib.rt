@@ -10,14 +10,16 @@
 //! the log has the number of the log's base plus the slot, so entries of an earlier lap are no entries now. Neither
 //! `encode` nor `decode` takes memory.
 //!
-//! Stands on `disk_places`, `disk_rules`, `line_fields` and, for the lines of a log, `pm_lines`.
+//! Stands on `disk_places`, `disk_lines`, `line_fields` and, for the lines of a log, `pm_lines`.
 #![tactic(auto)]
 
 mod check;
 mod entry;
+mod scanning;
 
-pub use disk_rules::Draft;
+pub use disk_lines::Draft;
 pub use entry::{Full, decode, encode, entries_are_exact};
+pub use scanning::scan;
 
 #[cfg(test)]
 mod tests;

@@ -1,5 +1,10 @@
+ghost use Rattle.std.specs.Prelude.{◌≡◌, length, IfOk};
+
 use super::*;
 use crate::check::fnv_1a;
+use pm_lines::{Line, Pm};
+use std::alloc::{AllocError, Global};
+use std::test::Fail;
 
 const SMALL: Draft = Draft {
     count: 1,
@@ -181,4 +186,50 @@ fn no_other_byte_is_taken(rt: HostRuntime) {
             capacity: 2
         }
     );
+}
+
+/// A block that begins with the two lines.
+fn block_of(alloc: Global, first: &[u8; 64], second: &[u8; 64]) -> Result<Vec<u8>, AllocError>
+    ensures { IfOk result (λ bytes. length bytes.items ≡ 4096) }
+{
+    let mut bytes = vec![in alloc; 0; 4096]?;
+    bytes[..64].copy_from_slice(first);
+    bytes[64..128].copy_from_slice(second);
+    Ok(bytes)
+}
+
+/// The two lines, taken out of a device.
+fn lines_of(alloc: Global, first: &[u8; 64], second: &[u8; 64]) -> Result<Vec<Line>, AllocError>
+    ensures { IfOk result (λ lines. length lines.items ≡ 2) }
+{
+    let mut pm = Pm::from_image(alloc, &block_of(alloc, first, second)?)?;
+    let mut lines = Vec::new(alloc);
+    lines.push(pm.take_line(0))?;
+    lines.push(pm.take_line(1))?;
+    Ok(lines)
+}
+
+#[test]
+fn scan_of_two_lines(rt: HostRuntime) -> Result<(), Fail> {
+    let alloc = rt.alloc();
+    let none = [0; 64];
+    let rows = [
+        (
+            encode(&SMALL, 7),
+            encode(&LARGE, 8),
+            [(0, SMALL), (1, LARGE)].as_slice(),
+        ),
+        (none, encode(&LARGE, 8), [(1, LARGE)].as_slice()),
+        (encode(&SMALL, 7), none, [(0, SMALL)].as_slice()),
+        // of an earlier lap, and in each other's slot
+        (encode(&SMALL, 5), encode(&LARGE, 6), [].as_slice()),
+        (encode(&LARGE, 8), encode(&SMALL, 7), [].as_slice()),
+        (none, none, [].as_slice()),
+    ];
+    for (first, second, want) in rows {
+        let lines = lines_of(alloc, &first, &second)?;
+        let found = scan(alloc, &lines, 7)?;
+        assert_eq!(rt; found.as_slice(), want, "{want:?}");
+    }
+    Ok(())
 }

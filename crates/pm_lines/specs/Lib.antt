@@ -1,3 +1,4 @@
 pub mod Choices
 pub mod Effects
 pub mod Flushed
+pub mod Wholes

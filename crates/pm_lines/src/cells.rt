@@ -105,7 +105,8 @@ pub(crate) fn fence(cells: &mut [Cell])
 // The same as `fence`, where the lines are all those with a mark.
 pub(crate) fn fence_lines(cells: &mut [Cell], lines: &[u64])
     requires in_range { (k : ℕ) → k < length lines.now → slice_index lines.now k < length cells.old / 8 }
-    requires marked { (i : ℕ) → is_marked (cell cells.old i) ≡ true → (k : ℕ) × (k < length lines.now) × (slice_index lines.now k ≡ i / 8) }
+    requires marked { (i : ℕ) → is_marked (cell cells.old i) ≡ true
+        → (k : ℕ) × (k < length lines.now) × (slice_index lines.now k ≡ i / 8) }
     ensures { (i : ℕ) → cell cells.new i ≡ fenced (cell cells.old i) }
 {
     for line in lines {

@@ -1,6 +1,7 @@
-ghost use Rattle.std.specs.Prelude.{◌≡◌, ◌≢◌, ◌+◌, ◌*◌, ◌/◌, ◌%◌, ◌<◌, ◌≤◌, ℕ, true, false, length, IfOk, OnErr};
+ghost use Rattle.std.specs.Prelude.{◌≡◌, ◌≢◌, ◌+◌, ◌*◌, ◌/◌, ◌%◌, ◌<◌, ℕ, true, false, length, IfOk, OnErr};
 ghost use Rattle.pm_words.specs.Cells.{cell, is_single, is_lent, newest, fenced, MayHold, AllHome};
 ghost use Rattle.pm_words.specs.Cells.{flushed as flushed_cell};
+ghost use Rattle.pm_words.specs.Frames.{SameLent, LineIsSingle, LineIsHome};
 ghost use Rattle.pm_words.specs.Images.{IsImageOf, words_of};
 ghost use Rattle.pm_words.specs.Parts.{GoesOut, ComesBack};
 ghost use Rattle.pm_words.specs.Powers.{is_on, stepped, Steps};
@@ -14,7 +15,7 @@ use crate::choices::Choice;
 use crate::images::{bytes_of_line, chosen_bytes, single_cells, word_in};
 use crate::lines::Line;
 use crate::loans::Loan;
-use crate::parts::{put_back, take_out};
+use crate::parts::{put_back, take_block, take_out};
 use crate::powers::Power;
 use pm_words::Cell;
 use std::alloc::{AllocError, Global};
@@ -105,8 +106,9 @@ impl Pm {
     /// The 64 bytes of a line, of each word the newest candidate.
     pub fn read_line(&self, line: u64) -> [u8; 64]
         requires in_device { line < length self.now / 8 }
-        requires home { (i : ℕ) → i / 8 ≡ line → is_lent (cell self.now i) ≡ false }
-        ensures { result ≡ line_bytes (words_of self.now) line }
+        requires home { LineIsHome line self.now }
+        ensures bytes { result ≡ line_bytes (words_of self.now) line }
+        ensures words { (i : ℕ) → i / 8 ≡ line → word_at result (i % 8) ≡ newest (cell self.now i) }
     {
         bytes_of_line(&self.cells, line as usize)
     }
@@ -127,7 +129,7 @@ impl Pm {
     /// Marks the present candidates of the line's words, in one step.
     pub fn flush(&mut self, power: &mut Power, line: u64)
         requires in_device { line < length self.old / 8 }
-        requires home { (i : ℕ) → i / 8 ≡ line → is_lent (cell self.old i) ≡ false }
+        requires home { LineIsHome line self.old }
         ensures flush { FlushesLine (is_on power.old) line self.old self.new }
         ensures power { power.new ≡ stepped power.old }
         ensures steps { Steps 1 power.old power.new }
@@ -158,7 +160,8 @@ impl Pm {
     pub fn choose(&self, alloc: Global, choice: Choice) -> Result<Vec<u8>, AllocError>
         requires { AllHome self.now }
         ensures image { IfOk result (λ bytes. IsImageOf self.now bytes.items) }
-        ensures chosen { IfOk result (λ bytes. (i : ℕ) → word_at bytes.items i ≡ chosen choice self.now i) }
+        ensures chosen { IfOk result (λ bytes. (i : ℕ)
+            → word_at bytes.items i ≡ chosen choice self.now i) }
     {
         chosen_bytes(alloc, &self.cells, choice)
     }
@@ -172,8 +175,7 @@ impl Pm {
         ensures lent { IfOk result (λ loan. GoesOut 512 block self.old self.new loan.cells) }
         ensures err { OnErr result (self.new ≡ self.old) }
     {
-        let mut cells = vec![in alloc; Cell::Lent; 512]?;
-        take_out(&mut self.cells, 512, block as usize, &mut cells);
+        let cells = take_block(alloc, &mut self.cells, block as usize)?;
         Ok(Loan::of(block, cells))
     }
 
@@ -182,6 +184,7 @@ impl Pm {
         requires out { (i : ℕ) → i / 512 ≡ loan.place → is_lent (cell self.old i) ≡ true }
         ensures size { length self.new ≡ length self.old }
         ensures back { ComesBack 512 loan.place loan.cells self.old self.new }
+        ensures home { (i : ℕ) → i / 512 ≡ loan.place → is_lent (cell self.new i) ≡ false }
     {
         put_back(&mut self.cells, 512, loan.block() as usize, loan.cells());
     }
@@ -189,7 +192,7 @@ impl Pm {
     /// Takes a line out. Its words are then those of the `Line`, until `put_line`.
     pub fn take_line(&mut self, line: u64) -> Line
         requires in_device { line < length self.old / 8 }
-        requires single { (i : ℕ) → i / 8 ≡ line → is_single (cell self.old i) ≡ true }
+        requires single { LineIsSingle line self.old }
         ensures size { length self.new ≡ length self.old }
         ensures place { result.place ≡ line }
         ensures lent { GoesOut 8 line self.old self.new result.cells }
@@ -204,6 +207,7 @@ impl Pm {
         requires out { (i : ℕ) → i / 8 ≡ line.place → is_lent (cell self.old i) ≡ true }
         ensures size { length self.new ≡ length self.old }
         ensures back { ComesBack 8 line.place line.cells self.old self.new }
+        ensures home { LineIsHome line.place self.new }
     {
         put_back(&mut self.cells, 8, line.place() as usize, line.cells());
     }
@@ -211,14 +215,17 @@ impl Pm {
     /// Stores the 64 bytes of a line and flushes it, in nine steps. The next fence makes them durable.
     pub fn write_line(&mut self, power: &mut Power, line: u64, bytes: &[u8; 64])
         requires in_device { line < length self.old / 8 }
-        requires single { (i : ℕ) → i / 8 ≡ line → is_single (cell self.old i) ≡ true }
+        requires single { LineIsSingle line self.old }
         ensures size { length self.new ≡ length self.old }
+        ensures lent { SameLent self.old self.new }
         ensures others { (i : ℕ) → i / 8 ≢ line → cell self.new i ≡ cell self.old i }
         ensures steps { Steps 9 power.old power.new }
 
         // Wherever the power goes, each word is the old one or the new one.
-        ensures torn { (i : ℕ) → i / 8 ≡ line → MayHold (cell self.old i) (word_at bytes.now (i % 8)) (cell self.new i) }
-        ensures done { is_on power.new ≡ true → (i : ℕ) → i / 8 ≡ line → fenced (cell self.new i) ≡ Cell.Single (word_at bytes.now (i % 8)) }
+        ensures torn { (i : ℕ) → i / 8 ≡ line
+            → MayHold (cell self.old i) (word_at bytes.now (i % 8)) (cell self.new i) }
+        ensures done { is_on power.new ≡ true → (i : ℕ) → i / 8 ≡ line
+            → fenced (cell self.new i) ≡ Cell.Single (word_at bytes.now (i % 8)) }
         ensures off { is_on power.old ≡ false → (self.new ≡ self.old) × (power.new ≡ power.old) }
     {
         // It bounds the words' numbers.

@@ -1,6 +1,6 @@
 // The words of an image, and the bytes of words. Numbers are little endian.
 ghost use Rattle.std.specs.Prelude.{◌≡◌, ◌+◌, ◌*◌, ◌/◌, ◌%◌, ◌^◌, ◌<◌, ◌≤◌, ℕ, length, IfOk, vec_len};
-ghost use Rattle.pm_words.specs.Cells.{cell};
+ghost use Rattle.pm_words.specs.Cells.{cell, newest as newest_of};
 ghost use Rattle.pm_words.specs.Images.{words_of};
 ghost use Rattle.pm_words.specs.Words.{word_at, line_bytes};
 ghost use Rattle.pm_lines.specs.Choices.{chosen};
@@ -32,7 +32,8 @@ pub(crate) fn word_in(bytes: &[u8], index: usize) -> u64
 pub(crate) fn single_cells(alloc: Global, bytes: &[u8]) -> Result<Vec<Cell>, AllocError>
     requires { length bytes.now % 8 ≡ 0 }
     ensures size { IfOk result (λ cells. 8 * vec_len cells ≡ length bytes.now) }
-    ensures words { IfOk result (λ cells. (i : ℕ) → cell cells.items i ≡ Cell.Single (word_at bytes.now i)) }
+    ensures words { IfOk result (λ cells. (i : ℕ)
+        → cell cells.items i ≡ Cell.Single (word_at bytes.now i)) }
 {
     let count = bytes.len() / 8;
     let mut cells = Vec::with_capacity(alloc, count)?;
@@ -63,7 +64,8 @@ pub(crate) fn chosen_bytes(
 // The bytes of the line's words, as a read gives them.
 pub(crate) fn bytes_of_line(cells: &[Cell], line: usize) -> [u8; 64]
     requires { line < length cells.now / 8 }
-    ensures { result ≡ line_bytes (words_of cells.now) line }
+    ensures bytes { result ≡ line_bytes (words_of cells.now) line }
+    ensures words { (i : ℕ) → i / 8 ≡ line → word_at result (i % 8) ≡ newest_of (cell cells.now i) }
 {
     let first = 8 * line;
     let mut bytes = [0; 64];

@@ -1,7 +1,8 @@
-ghost use Rattle.std.specs.Prelude.{◌≡◌, ◌<◌, ◌/◌, ℕ, true, length};
+ghost use Rattle.std.specs.Prelude.{◌≡◌, ◌<◌, ◌/◌, true};
 ghost use Rattle.pm_words.specs.Cells.{cell, is_single, newest};
 ghost use Rattle.pm_words.specs.Powers.{is_on, stepped, Steps};
 ghost use Rattle.pm_lines.specs.Effects.{StoresWord, FlushesLine, Fences};
+ghost use Rattle.pm_lines.specs.Wholes.{IsWhole};
 
 use crate::cells::{self, is_single, newest};
 use crate::powers::Power;
@@ -17,15 +18,19 @@ pub struct Line {
 
 impl Model for Line {
     ghost use Rattle.pm_words.specs.Parts.{Part};
+    ghost use Rattle.pm_lines.specs.Wholes.{IsWhole};
 
     ghost Value = { Part };
 
     ghost view = { λ line. record { place = line.place; cells = line.cells } };
+
+    ghost invariant = { λ line. IsWhole 8 line.cells };
 }
 
 impl Line {
     // A line of these cells.
     pub(crate) fn of(place: u64, cells: [Cell; 8]) -> Line
+        requires { IsWhole 8 cells }
         ensures { result ≡ record { place = place; cells = cells } }
     {
         Line { place, cells }
@@ -33,7 +38,7 @@ impl Line {
 
     pub(crate) fn cells(&self) -> &[Cell]
         ensures cells { result.now ≡ self.now.cells }
-        ensures size { length result.now ≡ 8 }
+        ensures whole { IsWhole 8 result.now }
     {
         &self.cells
     }

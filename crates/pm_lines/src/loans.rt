@@ -1,7 +1,8 @@
-ghost use Rattle.std.specs.Prelude.{◌≡◌, ◌+◌, ◌*◌, ◌/◌, ◌<◌, ℕ, true, length};
+ghost use Rattle.std.specs.Prelude.{◌≡◌, ◌/◌, ◌<◌, true};
 ghost use Rattle.pm_words.specs.Cells.{cell, is_single, newest};
 ghost use Rattle.pm_words.specs.Powers.{is_on, stepped, Steps};
 ghost use Rattle.pm_lines.specs.Effects.{StoresWord, FlushesLine, Fences};
+ghost use Rattle.pm_lines.specs.Wholes.{IsWhole};
 
 use crate::cells::{self, is_single, newest};
 use crate::powers::Power;
@@ -16,20 +17,20 @@ pub struct Loan {
 }
 
 impl Model for Loan {
-    ghost use Rattle.std.specs.Prelude.{◌≡◌, length};
     ghost use Rattle.pm_words.specs.Parts.{Part};
+    ghost use Rattle.pm_lines.specs.Wholes.{IsWhole};
 
     ghost Value = { Part };
 
     ghost view = { λ loan. record { place = loan.block; cells = loan.cells.items } };
 
-    ghost invariant = { λ loan. length loan.cells.items ≡ 512 };
+    ghost invariant = { λ loan. IsWhole 512 loan.cells.items };
 }
 
 impl Loan {
     // A loan of these 512 cells.
     pub(crate) fn of(block: u32, cells: Vec<Cell>) -> Loan
-        requires { length cells.items ≡ 512 }
+        requires { IsWhole 512 cells.items }
         ensures { result ≡ record { place = block; cells = cells.items } }
     {
         Loan { block, cells }
@@ -37,7 +38,7 @@ impl Loan {
 
     pub(crate) fn cells(&self) -> &[Cell]
         ensures cells { result.now ≡ self.now.cells }
-        ensures size { length result.now ≡ 512 }
+        ensures whole { IsWhole 512 result.now }
     {
         &self.cells
     }

@@ -1,6 +1,8 @@
 pub mod Bytes
 pub mod CellLaws
 pub mod Cells
+pub mod Frames
+pub mod ImageLaws
 pub mod Images
 pub mod PartLaws
 pub mod Parts

@@ -7,7 +7,8 @@ use Rattle.pm_words.specs.declared.Cell.{Cell}
 use Rattle.pm_words.specs.Cells.{cell, unmarked}
 use Rattle.pm_words.specs.Parts.{GoesOut, ComesBack}
 
-part_of : (size n k : ℕ) → k < size → ((size * n + k) / size ≡ n) × ((size * n + k) % size ≡ k)
+-- the part of a word, and its place there
+pub part_of : (size n k : ℕ) → k < size → ((size * n + k) / size ≡ n) × ((size * n + k) % size ≡ k)
 part_of size n k within =
     let i : ℕ = size * n + k in
     same_from_place (i / size) (i % size) n k size (mod_below i size (omega arith)) within (omega (arith, div-add-mod i size))

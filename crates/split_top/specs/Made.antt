@@ -1,12 +1,12 @@
 -- Directories made below the root, one after the other: the k-th takes inode line 5 + k and name line k.
-use Rattle.std.specs.Prelude.{◌≡◌, ℕ, ◌+◌, ◌<◌, List, [], ◌∷◌, length, Option, Some, None}
+use Rattle.std.specs.Prelude.{◌≡◌, ℕ, ◌+◌, ◌<◌, List, [], ◌∷◌, length, Option, Some, None, ◌≤◌, slice_index_or, Bool, true}
 use Rattle.std.specs.List.{filter_map, range_with_len}
 use Rattle.pm_words.specs.Words.{Words, with_line, line_bytes}
 use Rattle.disk_places.specs.Places.{Geometry, name_line}
-use Rattle.disk_rules.specs.declared.Inode.{Inode}
-use Rattle.disk_rules.specs.declared.Kind.TheVariants.{Directory}
-use Rattle.disk_rules.specs.Lines.{NameRow, NameSlot, FreeName, Named, BadName, encode_name, decode_name}
-use Rattle.disk_rules.specs.Fresh.{empty_inode, with_inode, fresh}
+use Rattle.disk_lines.specs.declared.Inode.{Inode}
+use Rattle.disk_lines.specs.declared.Kind.TheVariants.{Directory}
+use Rattle.disk_lines.specs.Lines.{NameRow, NameSlot, FreeName, Named, BadName, is_name, encode_name, decode_name}
+use Rattle.disk_lines.specs.Fresh.{empty_inode, with_inode, fresh}
 
 -- the default image: 256 blocks, 64 log lines, 64 inodes, 128 names
 abbrev pub default_geometry : Geometry
@@ -44,3 +44,8 @@ name_at g f k = name_in_slot (decode_name (line_bytes f (name_line g k)))
 
 unfoldable pub names_on : Geometry → Words → List (List ℕ)
 names_on g f = filter_map (name_at g f) (range_with_len 0 g.names)
+
+-- each name may stand in a line, and there are inodes for directories of these names from the k-th on
+pub record ArePlain (k : ℕ) (names : List (List ℕ)) : Type 0 where
+  pub each : (i : ℕ) (d : List ℕ) → i < length names → is_name (slice_index_or names i d) ≡ true
+  pub room : k + length names ≤ 59

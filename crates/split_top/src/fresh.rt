@@ -4,9 +4,9 @@ ghost use Rattle.pm_words.specs.Cells.{AllSingle};
 ghost use Rattle.pm_words.specs.Images.{words_of};
 ghost use Rattle.pm_words.specs.Words.{word_at, with_line};
 ghost use Rattle.disk_places.specs.Places.{IsGeometry};
-ghost use Rattle.disk_rules.specs.Fresh.{empty_inode, state_bytes, blank, staging_files, first_inodes, fresh};
+ghost use Rattle.disk_lines.specs.Fresh.{empty_inode, state_bytes, blank, staging_files, first_inodes, fresh};
 
-use disk_rules::{Inode, Kind};
+use disk_lines::{Inode, Kind};
 use image_layout::Geometry;
 use k_inodes::encode_inode;
 use pm_lines::{Pm, Power};
@@ -79,7 +79,7 @@ fn set_staging_files(pm: &mut Pm, power: &mut Power, geometry: &Geometry)
 }
 
 /// Makes the fresh image on a device of zeros.
-#[tactic(auto, unfolding(disk_rules::specs::Fresh::fresh))]
+#[tactic(auto, unfolding(disk_lines::specs::Fresh::fresh))]
 fn format(pm: &mut Pm, power: &mut Power, geometry: &Geometry)
     requires geometry { IsGeometry geometry.now }
     requires always { power.old.given ≡ None }

@@ -1,6 +1,6 @@
 use Rattle.std.proofs.Common.{◌≡◌, ◌∙◌, ap, refl}
-use Rattle.disk_rules.specs.Lines.{encode_inode}
-use Rattle.disk_rules.specs.Fresh.{fresh}
+use Rattle.disk_lines.specs.Lines.{encode_inode}
+use Rattle.disk_lines.specs.Fresh.{fresh}
 use Rattle.split_top.proofs.SetLines.{set_more}
 use Rattle.split_top.proofs.fresh.format.Goals as goal
 

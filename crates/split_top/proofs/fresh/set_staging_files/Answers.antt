@@ -1,5 +1,5 @@
 use Rattle.std.proofs.Common.{◌≡◌, ◌∙◌, ap}
-use Rattle.disk_rules.specs.Lines.{encode_inode}
+use Rattle.disk_lines.specs.Lines.{encode_inode}
 use Rattle.split_top.proofs.SetLines.{set_more}
 use Rattle.split_top.proofs.fresh.set_staging_files.Goals as goal
 

@@ -12,6 +12,7 @@ invariant-loop-k l = record {
   steps : Steps l.k l.fn.power l.power;
   others : (i : ℕ) → i / 8 ≢ l.line → cell l.self i ≡ cell l.fn.self i;
   later : (i : ℕ) → i / 8 ≡ l.line → l.k ≤ i % 8 → cell l.self i ≡ cell l.fn.self i;
+  lent : (i : ℕ) → is_lent (cell l.self i) ≡ is_lent (cell l.fn.self i);
   home : (i : ℕ) → i / 8 ≡ l.line → is_lent (cell l.self i) ≡ false;
   torn : (i : ℕ) → i / 8 ≡ l.line → MayHold (cell l.fn.self i) (word_at l.bytes (i % 8)) (cell l.self i);
   done : is_on l.power ≡ true → (i : ℕ) → i / 8 ≡ l.line → i % 8 < l.k → fenced (flushed (cell l.self i)) ≡ Single (word_at l.bytes (i % 8));

@@ -1,0 +1,4 @@
+pub mod Cleared
+pub mod Lowest
+pub mod Marks
+pub mod Places

@@ -1,0 +1,82 @@
+-- Values worked out by hand, as computations of the definitions.
+use Rattle.std.proofs.Common.{◌≡◌, [], ◌∷◌, ◌++◌, refl}
+use Rattle.std.specs.Prelude.{Some, None, true}
+use Rattle.disk_places.specs.Places.{Geometry, first_data, data_blocks, reserve, inode_line, name_line, log_line}
+use Rattle.disk_places.specs.Superblock.{superblock, has_magic, has_version, has_numbers}
+use Rattle.disk_places.specs.Fields.{zeros}
+use Rattle.disk_lines.specs.declared.Draft.{Draft}
+use Rattle.disk_lines.specs.declared.Kind.TheVariants.{Directory}
+use Rattle.disk_lines.specs.Lines.{FreeName, Named, BadName, decode_inode, decode_name}
+use Rattle.disk_lines.specs.Entries.{fnv_1a, fnv_1a_from, entry_body, encode_entry, decode_entry, is_self_valid}
+
+-- the default image, and a small one
+default_geometry : Geometry
+default_geometry = record { version = 1; blocks = 256; log = 64; inodes = 64; names = 128 }
+
+small_geometry : Geometry
+small_geometry = record { version = 1; blocks = 64; log = 4; inodes = 16; names = 16 }
+
+default_places : first_data default_geometry ∷ data_blocks default_geometry ∷ reserve default_geometry ∷ [] ≡ 9 ∷ 247 ∷ 4 ∷ []
+unfolding default_geometry
+default_places = refl
+
+default_lines : inode_line 0 ∷ name_line default_geometry 0 ∷ log_line default_geometry 0 ∷ [] ≡ 320 ∷ 384 ∷ 512 ∷ []
+unfolding default_geometry
+default_lines = refl
+
+small_places : first_data small_geometry ∷ data_blocks small_geometry ∷ reserve small_geometry ∷ [] ≡ 8 ∷ 56 ∷ 4 ∷ []
+unfolding small_geometry
+small_places = refl
+
+default_superblock : (has_magic (superblock default_geometry) ≡ true) × (has_version (superblock default_geometry) ≡ true) × (has_numbers (superblock default_geometry) ≡ true)
+unfolding default_geometry
+default_superblock = (refl, refl, refl)
+
+fnv_of_a : fnv_1a (97 ∷ []) ≡ 3826002220
+unfolding fnv_1a_from
+fnv_of_a = refl
+
+directory_line : decode_inode ((1 ∷ 0 ∷ 0 ∷ 0 ∷ 7 ∷ []) ++ zeros 59) ≡ Some (record { kind = Directory; generation = 7; size = 0; applied = 0; root = 0; extents = 0 })
+unfolding decode_inode
+directory_line = refl
+
+-- a directory with a size, a file with a root and no extents, an unknown kind
+directory_with_a_size : decode_inode ((1 ∷ []) ++ zeros 7 ++ (1 ∷ []) ++ zeros 55) ≡ None
+unfolding decode_inode
+directory_with_a_size = refl
+
+root_without_extents : decode_inode ((2 ∷ []) ++ zeros 23 ++ (9 ∷ []) ++ zeros 39) ≡ None
+unfolding decode_inode
+root_without_extents = refl
+
+unknown_kind : decode_inode ((4 ∷ []) ++ zeros 63) ≡ None
+unfolding decode_inode
+unknown_kind = refl
+
+free_name_line : decode_name (zeros 64) ≡ FreeName
+unfolding decode_name
+free_name_line = refl
+
+name_of_length_49 : decode_name (zeros 4 ++ (5 ∷ 0 ∷ 0 ∷ 0 ∷ 49 ∷ []) ++ zeros 55) ≡ BadName
+unfolding decode_name
+name_of_length_49 = refl
+
+name_line_of_a : decode_name (zeros 4 ++ (5 ∷ 0 ∷ 0 ∷ 0 ∷ 1 ∷ []) ++ zeros 7 ++ (97 ∷ []) ++ zeros 47) ≡ Named (record { parent = 0; child = 5; name = 97 ∷ [] })
+unfolding decode_name
+name_line_of_a = refl
+
+-- an entry, read with its sequence number and with another
+an_entry : Draft
+an_entry = record { count = 1; order = 1; ino = 6; generation = 1; file_block = 0; staging = 1; staging_block = 1; staging_generation = 1; size = 1 }
+
+entry_read : decode_entry (encode_entry an_entry 7) 7 ≡ Some an_entry
+unfolding an_entry decode_entry encode_entry entry_body fnv_1a_from
+entry_read = refl
+
+entry_of_another_lap : decode_entry (encode_entry an_entry 7) 8 ≡ None
+unfolding an_entry decode_entry encode_entry entry_body fnv_1a_from
+entry_of_another_lap = refl
+
+entry_valid_for_itself : is_self_valid (encode_entry an_entry 7) ≡ true
+unfolding an_entry decode_entry encode_entry entry_body fnv_1a_from
+entry_valid_for_itself = refl

@@ -1,0 +1,11 @@
+pub mod Entries
+pub mod EntryLaws
+pub mod Fresh
+pub mod LineLaws
+pub mod Lines
+pub mod NameLaws
+pub mod Names
+pub mod RowLaws
+pub mod TableLaws
+pub mod Tables
+pub mod UpLaws

@@ -1,6 +1,0 @@
-pub mod Entries
-pub mod EntryLaws
-pub mod LineLaws
-pub mod Fresh
-pub mod Lines
-pub mod Names

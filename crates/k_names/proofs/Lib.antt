@@ -1,0 +1,3 @@
+pub mod ChainLaws
+pub mod Climbs
+pub mod HeightLaws

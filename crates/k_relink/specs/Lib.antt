@@ -1,0 +1,3 @@
+pub mod Relinks
+pub mod Steps
+pub mod Texts

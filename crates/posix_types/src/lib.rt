@@ -6,8 +6,9 @@
 //! their public field, without taking memory. Contracts see them as lists: a name as its bytes, a
 //! path as its names from the root down, data as its bytes, a tree as its entries.
 //!
-//! The layer above may rely on this: `clone` gives an equal value or is refused memory, and `==` is
-//! true exactly of equal values. What the calls mean is not said here. Stands on std alone.
+//! The layer above may rely on this: `clone` gives an equal value or is refused memory, and `==` of
+//! names, paths, lists of names, data and trees is true exactly of equal values. What the calls mean
+//! is not said here. Stands on std alone.
 #![tactic(auto)]
 
 mod call;

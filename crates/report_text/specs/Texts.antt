@@ -1,5 +1,5 @@
 -- What a history and a tree are printed as, byte by byte. Every line ends with byte 10.
-use Rattle.std.specs.Prelude.{ℕ, ◌+◌, ◌/◌, ◌%◌, ◌==◌, List, [], ◌∷◌, ◌++◌, length, take, codes, slice_index, Bool, true, false, ◌&&◌, nat_le, nat_lt, if◌then◌else◌, Option, Some, None, flat_map, decimal}
+use Rattle.std.specs.Prelude.{ℕ, ◌+◌, ◌/◌, ◌%◌, ◌==◌, List, [], ◌∷◌, ◌++◌, length, take, codes, slice_index, Bool, ◌&&◌, nat_le, nat_lt, if◌then◌else◌, Option, Some, None, flat_map, decimal}
 use Rattle.std.specs.Fmt.{signed_decimal}
 use Rattle.std.specs.List.{list_all}
 use Rattle.posix_types.specs.declared.call.Call.{Call}

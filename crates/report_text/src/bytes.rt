@@ -1,6 +1,5 @@
 //! Words, numbers, paths and handles, put behind a text.
-ghost use Rattle.std.specs.Prelude.{◌≡◌, ◌<◌, ◌++◌, ◌∷◌, [], true, OnOk};
-ghost use Rattle.std.specs.Prelude.{flat_map, decimal};
+ghost use Rattle.std.specs.Prelude.{◌≡◌, ◌++◌, ◌∷◌, OnOk, decimal, flat_map};
 ghost use Rattle.std.specs.Fmt.{signed_decimal};
 ghost use Rattle.posix_words.specs.Places.{printed};
 ghost use Rattle.report_text.specs.Texts.{handle_text};
@@ -61,7 +60,7 @@ pub(crate) fn put_path(text: &mut Vec<u8>, path: &Path) -> Result<(), AllocError
     ensures { OnOk result (text.new.items ≡ text.old.items ++ printed path.now) }
 {
     if path.names.is_empty() {
-        return text.push(b'/');
+        return put_str(text, "/");
     }
     put_steps(text, &path.names)
 }

@@ -1,5 +1,5 @@
 //! Calls, put behind a text.
-ghost use Rattle.std.specs.Prelude.{◌≡◌, ◌++◌, ◌&&◌, [], true, List, ℕ, OnOk, codes, decimal};
+ghost use Rattle.std.specs.Prelude.{◌≡◌, ◌++◌, OnOk, codes, decimal};
 ghost use Rattle.std.specs.Fmt.{signed_decimal};
 ghost use Rattle.posix_words.specs.Places.{printed};
 ghost use Rattle.report_text.specs.Texts.{call_text, data_text, flags_text, handle_text, letter_if, whence_text};
@@ -13,7 +13,11 @@ use std::alloc::AllocError;
 fn put_letter(text: &mut Vec<u8>, is_set: bool, letter: &str) -> Result<(), AllocError>
     ensures { OnOk result (text.new.items ≡ text.old.items ++ letter_if is_set letter.now) }
 {
-    if is_set { put_str(text, letter) } else { Ok(()) }
+    if is_set {
+        put_str(text, letter)
+    } else {
+        Ok(())
+    }
 }
 
 /// Puts flags behind a text.
@@ -57,7 +61,12 @@ fn put_on_handle(text: &mut Vec<u8>, call: &str, handle: Handle) -> Result<(), A
 }
 
 /// Puts the name of a call, a handle and a number.
-fn put_with_number(text: &mut Vec<u8>, call: &str, handle: Handle, number: u64) -> Result<(), AllocError>
+fn put_with_number(
+    text: &mut Vec<u8>,
+    call: &str,
+    handle: Handle,
+    number: u64,
+) -> Result<(), AllocError>
     ensures { OnOk result (text.new.items ≡ text.old.items ++ call.now ++ handle_text handle ++ codes " " ++ decimal number) }
 {
     put_on_handle(text, call, handle)?;
@@ -92,7 +101,12 @@ fn put_write(text: &mut Vec<u8>, handle: Handle, bytes: &Data) -> Result<(), All
 }
 
 /// Puts a write at a place.
-fn put_pwrite(text: &mut Vec<u8>, handle: Handle, offset: u64, bytes: &Data) -> Result<(), AllocError>
+fn put_pwrite(
+    text: &mut Vec<u8>,
+    handle: Handle,
+    offset: u64,
+    bytes: &Data,
+) -> Result<(), AllocError>
     ensures { OnOk result (text.new.items ≡ text.old.items ++ codes "pwrite " ++ handle_text handle ++ codes " " ++ decimal offset ++ codes " " ++ data_text bytes.now) }
 {
     put_with_number(text, "pwrite ", handle, offset)?;

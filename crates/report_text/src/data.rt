@@ -1,9 +1,8 @@
 //! Data, put behind a text.
-ghost use Rattle.std.specs.Prelude.{◌≡◌, ◌<◌, ◌++◌, OnOk};
-ghost use Rattle.std.specs.Prelude.{flat_map};
+ghost use Rattle.std.specs.Prelude.{◌≡◌, ◌<◌, ◌++◌, OnOk, flat_map};
 ghost use Rattle.report_text.specs.Texts.{are_equal, data_text, hex_byte, hex_digit};
 
-use crate::bytes::put_number;
+use crate::bytes::{put_number, put_str};
 use std::alloc::AllocError;
 
 /// The hexadecimal digit of a number below 16.
@@ -23,7 +22,8 @@ fn put_hex(text: &mut Vec<u8>, byte: u8) -> Result<(), AllocError>
     ensures { OnOk result (text.new.items ≡ text.old.items ++ hex_byte byte) }
 {
     text.push(hex_digit(byte / 16))?;
-    text.push(hex_digit(byte % 16))
+    text.push(hex_digit(byte % 16))?;
+    Ok(())
 }
 
 /// Puts bytes behind a text, each as two hexadecimal digits.
@@ -52,7 +52,7 @@ pub(crate) fn put_data(text: &mut Vec<u8>, bytes: &[u8]) -> Result<(), AllocErro
     ensures { OnOk result (text.new.items ≡ text.old.items ++ data_text bytes.now) }
 {
     if bytes.is_empty() {
-        return text.push(b'-');
+        return put_str(text, "-");
     }
     if bytes.len() < 9 || !are_equal(bytes) {
         return put_pairs(text, bytes);

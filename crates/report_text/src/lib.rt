@@ -1,10 +1,13 @@
 //! The texts of a run: its history, one line a call that returned, and its tree, one line a path.
 //!
-//! The layer above may rely on this: both texts are the functions of `specs/Texts.antt`, byte for byte. Nothing else
-//! is printed by a run, so what these functions say is what a person sees. Names and handles are put as the bytes
-//! that they are, so a text is a list of bytes and no name is refused.
+//! The layer above may rely on this: both texts are the functions of `specs/Texts.antt`, byte for
+//! byte, for every history and every tree. Names and handles are put as the bytes that they are, so
+//! a text is a list of bytes and no name is refused. Lines can be told apart where no name has a
+//! blank or a line end, as none of a script has. A tree is printed in its own order, and the need
+//! and the room behind a reply wherever an item has them.
 //!
-//! Stands on `posix_types` (what is printed), `posix_words` (how a path is spelled) and `itoa` (numbers in decimal).
+//! Stands on `posix_types` (what is printed), `posix_words` (how a path is spelled) and `itoa`
+//! (numbers in decimal).
 #![tactic(auto)]
 
 mod bytes;
@@ -12,5 +15,7 @@ mod calls;
 mod data;
 mod lines;
 mod replies;
+#[cfg(test)]
+mod tests;
 
 pub use lines::{history_text, tree_text};

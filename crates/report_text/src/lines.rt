@@ -1,6 +1,5 @@
 //! The lines of a history and of a tree.
-ghost use Rattle.std.specs.Prelude.{◌≡◌, ◌++◌, true, OnOk, IfOk, codes};
-ghost use Rattle.std.specs.List.{list_all};
+ghost use Rattle.std.specs.Prelude.{◌≡◌, ◌++◌, OnOk, IfOk, codes};
 ghost use Rattle.report_text.specs.Texts.{answer_text, entry_text, file_text, history_text, item_text, node_text, place_text, tree_text, who_text};
 
 use crate::bytes::{put_number, put_path, put_str};
@@ -15,7 +14,7 @@ fn put_who(text: &mut Vec<u8>, who: Who) -> Result<(), AllocError>
     ensures { OnOk result (text.new.items ≡ text.old.items ++ who_text who) }
 {
     match who {
-        Who::Setup => text.push(b's'),
+        Who::Setup => put_str(text, "s"),
         Who::Thread(number) => put_number(text, "", u64::from(number)),
     }
 }
@@ -26,7 +25,14 @@ fn put_place(text: &mut Vec<u8>, who: Who, index: u32) -> Result<(), AllocError>
 {
     put_who(text, who)?;
     put_number(text, ".", u64::from(index))?;
-    text.push(b' ')
+    put_str(text, " ")
+}
+
+/// Puts the end of a line.
+fn put_line_end(text: &mut Vec<u8>) -> Result<(), AllocError>
+    ensures { OnOk result (text.new.items ≡ text.old.items ++ codes "\n") }
+{
+    put_str(text, "\n")
 }
 
 /// Puts what a call answered, and the end of the line.
@@ -36,7 +42,7 @@ fn put_answer(text: &mut Vec<u8>, reply: &Reply, room: Option<Room>) -> Result<(
     put_str(text, " = ")?;
     put_reply(text, reply)?;
     put_room(text, room)?;
-    text.push(b'\n')
+    put_line_end(text)
 }
 
 /// Puts the line of a call that returned.
@@ -80,7 +86,7 @@ fn put_entry(text: &mut Vec<u8>, entry: &TreeEntry) -> Result<(), AllocError>
 {
     put_path(text, &entry.path)?;
     put_node(text, &entry.node)?;
-    text.push(b'\n')
+    put_line_end(text)
 }
 
 /// The lines of the paths of a tree.
@@ -94,7 +100,8 @@ fn entry_lines(alloc: Global, entries: &[TreeEntry]) -> Result<Vec<u8>, AllocErr
     Ok(text)
 }
 
-/// The text of a history: a line for each call that returned, in order.
+/// The text of a history: a line for each call that returned, in order. An error is want of memory,
+/// and leaves nothing.
 pub fn history_text(alloc: Global, history: &[Item]) -> Result<Vec<u8>, AllocError>
     ensures { IfOk result (λ text. text.items ≡ history_text history.now) }
 {
@@ -105,7 +112,8 @@ pub fn history_text(alloc: Global, history: &[Item]) -> Result<Vec<u8>, AllocErr
     Ok(text)
 }
 
-/// The text of a tree: a line for each path, in the tree's order.
+/// The text of a tree: a line for each path, in the tree's order. An error is want of memory, and
+/// leaves nothing.
 pub fn tree_text(alloc: Global, tree: &Tree) -> Result<Vec<u8>, AllocError>
     ensures { IfOk result (λ text. text.items ≡ tree_text tree.now) }
 {

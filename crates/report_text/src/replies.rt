@@ -1,5 +1,5 @@
 //! Replies, put behind a text.
-ghost use Rattle.std.specs.Prelude.{◌≡◌, ◌++◌, true, OnOk, codes};
+ghost use Rattle.std.specs.Prelude.{◌≡◌, ◌++◌, OnOk};
 ghost use Rattle.report_text.specs.Texts.{errno_text, reply_text, room_text, stat_text, what_text};
 
 use crate::bytes::{put_names, put_number, put_str};

@@ -1,0 +1,108 @@
+-- A run as a whole: what was left on the device, and what it says of the history.
+use Rattle.std.proofs.Common.{◌≡◌, ◌⊎◌, ℕ, ◌+◌, ◌*◌, ◌<◌, ◌≤◌, false, List, [], ◌∷◌, ◌++◌, length, map, take, drop, refl, sym, ◌∙◌, ap, arith, inl, inr, Option, Some, None}
+use Rattle.std.specs.Prelude.{slice_index_or, nat_lt}
+use Rattle.std.proofs.Math.Seq.{drop-cons}
+use Rattle.std.proofs.lemmas.Bool.{cases_Bool, true≢false, ltb-false}
+use Rattle.std.proofs.lemmas.List.{length-map}
+use Rattle.pm_words.specs.declared.Cell.{Cell}
+use Rattle.pm_words.specs.declared.Cell.TheVariants.{Single}
+use Rattle.pm_words.specs.Cells.{cell, AllSingle}
+use Rattle.pm_words.specs.CellLaws.{single-newest}
+use Rattle.pm_words.specs.Images.{words_of}
+use Rattle.disk_places.specs.Places.{commit_word}
+use Rattle.disk_lines.specs.Fresh.{fresh}
+use Rattle.pm_words.specs.Powers.{Supply, Steps, is_on, is_left}
+use Rattle.posix_types.specs.declared.item.Item.{Item}
+use Rattle.posix_types.specs.declared.tree.TreeEntry.{TreeEntry}
+use Rattle.posix_spec.specs.Run.{run, IsLegal, after_call}
+use Rattle.posix_spec.specs.Scripted.{Scripted, IsComplete}
+use Rattle.posix_spec.specs.Tree.{tree}
+use Rattle.split_top.specs.declared.calls.Called.{Called}
+use Rattle.split_top.specs.declared.calls.Disk.{Disk}
+use Rattle.split_top.specs.Calls.{IsCalled, next_name}
+use Rattle.split_top.specs.Made.{default_geometry, with_directories, made, ArePlain}
+use Rattle.split_top.specs.Rest.{IsAtRest, MayShow}
+use Rattle.split_top.specs.Runs.{first_state, mkdir_of, begun_of, scripts_of, state_of, IsWhole, IsRun}
+use Rattle.split_top.proofs.CallSteps.{state_of-more}
+use Rattle.split_top.proofs.OneMore.{may_show_also, plain_more}
+
+-- a device with the fresh image is at rest, with no directory
+pub fresh_at_rest : (d : List Cell) → length d ≡ 512 * default_geometry.blocks → AllSingle d → words_of d ≡ fresh default_geometry → IsAtRest d []
+unfolding with_directories fresh
+fresh_at_rest d size single words =
+    record {
+      size = size;
+      single = single;
+      idle = single-newest (cell d commit_word) (single commit_word) ∙ ap (λ f. Single (f commit_word)) words;
+      words = λ w content. ap (λ f. f w) words;
+    }
+
+-- what the device may show, whether the power went or not
+pub called_may_show : (names : List (List ℕ)) (before after : Supply) (disk : Disk) (called : Called) → IsCalled names before after disk called
+    → MayShow disk.pm disk.made.items (disk.made.items ++ next_name names called.history.items ∷ [])
+called_may_show names before after disk called h = elim (cases_Bool called.is_lost) [
+  | inl lost ↦ (h.lost lost).2
+  | inr whole ↦ may_show_also disk.pm disk.made.items _ (h.whole whole).1
+]
+
+-- the calls of a script are as many as its names
+all_calls : (names : List (List ℕ)) (history : List Item) → length history ≡ length names → IsComplete (scripts_of names) history
+all_calls names history count =
+    let calls : length (map mkdir_of names) ≡ length names = length-map names mkdir_of in
+    omega arith
+
+-- all calls returned
+pub run_whole : (names : List (List ℕ)) (stop : Option ℕ) (made : List (List ℕ)) (history : List Item) (left : List TreeEntry)
+    → IsLegal first_state history → Scripted (scripts_of names) history → run first_state history ≡ state_of made
+    → length history ≡ length names → left ≡ tree (state_of made) → IsRun names stop history [] left
+run_whole names stop made history left legal scripted state count found =
+    let is : left ≡ tree (run first_state history) = found ∙ ap tree (sym state) in
+    let whole : IsWhole names history left = record { complete = all_calls names history count; tree = is } in
+    record { legal = legal; scripted = scripted; next = inl refl; strict = is; whole = λ e. whole; stopped = λ n e. inl whole }
+
+-- the call that follows a history
+following : (names : List (List ℕ)) (k : ℕ) → k < length names → begun_of (slice_index_or names k []) ∷ [] ≡ take 1 (map begun_of (drop k names))
+following names k lt = sym (ap (λ xs. take 1 (map begun_of xs)) (drop-cons names k [] lt))
+
+-- a power that went had no more steps than were taken
+spent : (n steps : ℕ) (before after : Supply) → before ≡ record { given = Some n; taken = 0 } → Steps steps before after → is_on after ≡ false → n ≤ steps
+spent n steps before after start took off =
+    let given : after.given ≡ Some n = took.given ∙ ap (λ p. p.given) start in
+    let none : before.taken ≡ 0 = ap (λ p. p.taken) start in
+    let bound = took.bound in
+    let left : nat_lt after.taken n ≡ false = ap (λ g. is_left g after.taken) (sym given) ∙ off in
+    let least : n ≤ after.taken = ltb-false after.taken n left in
+    omega arith
+
+never_off : (steps : ℕ) (before after : Supply) → before ≡ record { given = None; taken = 0 } → Steps steps before after → is_on after ≡ false → ⊥
+never_off steps before after start took off =
+    let given : after.given ≡ None = took.given ∙ ap (λ p. p.given) start in
+    true≢false (ap (λ g. is_left g after.taken) (sym given) ∙ off)
+
+-- the power went
+pub run_lost : (names : List (List ℕ)) (stop : Option ℕ) (made : List (List ℕ)) (history : List Item) (left : List TreeEntry) (before after : Supply)
+    → IsLegal first_state history → Scripted (scripts_of names) history → run first_state history ≡ state_of made
+    → length history < length names → before ≡ record { given = stop; taken = 0 } → Steps (80 * (length history + 1)) before after → is_on after ≡ false
+    → (left ≡ tree (state_of made)) ⊎ (left ≡ tree (state_of (made ++ next_name names history ∷ [])))
+    → IsRun names stop history (begun_of (next_name names history) ∷ []) left
+run_lost names stop made history left before after legal scripted state lt start took off found =
+    record {
+      legal = legal;
+      scripted = scripted;
+      next = inr (following names (length history) lt);
+      strict = elim found [
+        | inl old ↦ inr (old ∙ ap tree (sym state))
+        | inr new ↦ inl (new ∙ ap tree (state_of-more made (next_name names history)) ∙ ap (λ s. tree (after_call s (begun_of (next_name names history)))) (sym state))
+      ];
+      whole = λ always. absurd (never_off (80 * (length history + 1)) before after (start ∙ ap (λ g. record { given = g; taken = 0 }) always) took off);
+      stopped = λ n some.
+          let most : n ≤ 80 * (length history + 1) = spent n (80 * (length history + 1)) before after (start ∙ ap (λ g. record { given = g; taken = 0 }) some) took off in
+          inr (omega arith);
+    }
+
+-- the directories that may be found besides
+pub next_plain : (names made : List (List ℕ)) (history : List Item) → ArePlain 0 names → ArePlain 0 made → length made ≤ length history → length history < length names
+    → ArePlain 0 (made ++ next_name names history ∷ [])
+next_plain names made history plain own few lt =
+    let room = plain.room in
+    plain_more made (next_name names history) own (plain.each (length history) [] lt) (omega arith)

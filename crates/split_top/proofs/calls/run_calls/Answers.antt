@@ -1,0 +1,68 @@
+use Rattle.std.proofs.Common.{◌≡◌, ◌+◌, ◌*◌, ◌<◌, ◌≤◌, ◌++◌, ◌∷◌, [], ℕ, List, length, true, false, sym, ◌∙◌, ap, subst, arith, inl, inr, IfSome, ◌⊎◌}
+use Rattle.std.specs.Prelude.{slice_index_or}
+use Rattle.std.proofs.lemmas.List.{get_or_default, length_push}
+use Rattle.std.proofs.lemmas.Bool.{true≢false}
+use Rattle.posix_spec.specs.Step.{step}
+use Rattle.pm_words.specs.Powers.{Supply, Steps, is_on}
+use Rattle.pm_words.specs.PowerLaws.{Steps-then}
+use Rattle.disk_lines.specs.Lines.{is_name}
+use Rattle.posix_spec.specs.Run.{run, IsAnswered, run-append}
+use Rattle.split_top.specs.Calls.{Returns}
+use Rattle.split_top.specs.Made.{ArePlain}
+use Rattle.split_top.specs.Runs.{first_state, mkdir_of}
+use Rattle.split_top.proofs.Histories.{history_more}
+use Rattle.split_top.proofs.OneMore.{may_show_also, plain_more}
+use Rattle.split_top.proofs.calls.run_calls.Goals as goal
+
+steps_more : (m n : ℕ) (a b : Supply) → m ≤ n → Steps m a b → Steps n a b
+steps_more m n a b le s = record { given = s.given; on_before = s.on_before; later = s.later; bound = let h = s.bound in omega arith }
+
+-- the directories made stay plain and few
+plain_after : (old new : List (List ℕ)) (name : List ℕ) (k : ℕ) → ArePlain 0 old → is_name name ≡ true → length old ≤ k → k < 59
+    → (new ≡ old) ⊎ (new ≡ old ++ name ∷ []) → ArePlain 0 new × (length new ≤ k + 1)
+plain_after old new name k plain ok few small made = elim made [
+  | inl same ↦ rw same (plain, omega arith)
+  | inr more ↦ rw more (plain_more old name plain ok (omega arith), omega (arith, length_push old name))
+]
+
+pub returns-then-not-on : goal.returns-then-not-on
+returns-then-not-on c =
+    let inv = c.loop-index.invariant in
+    let names = c.args.names.now in
+    let count = inv.history.count_is in
+    let off : is_on c.loop-index.power ≡ false = sym c.on.ensures ∙ c.if-not-on.true in
+    record {
+      legal = inv.history.legal;
+      scripted = inv.history.scripted;
+      state = inv.run ∙ inv.state;
+      plain = inv.plain;
+      few = rw count inv.few;
+      steps = rw count (steps_more (80 * c.loop-index.index) (80 * (c.loop-index.index + 1)) _ _ (omega arith) inv.steps);
+      whole = λ e. absurd (true≢false e);
+      lost = λ e. (rw count c.loop-index-test.true, off, may_show_also c.loop-index.disk.pm c.loop-index.disk.made.items _ inv.ready.at_rest);
+    }
+
+pub loop-index-preserved : goal.loop-index-preserved
+loop-index-preserved c =
+    let inv = c.loop-index.invariant in
+    let names = c.args.names.now in
+    let k = c.loop-index.index in
+    let item = c.in-Some.item in
+    let name = c.index-names-index.result in
+    let back : Returns c.loop-index.state k name c.loop-index.disk c.call_one.new.disk c.call_one.new.state item × (is_on c.call_one.new.power ≡ true) =
+    subst (λ o. IfSome o (λ i. Returns c.loop-index.state k name c.loop-index.disk c.call_one.new.disk c.call_one.new.state i × (is_on c.call_one.new.power ≡ true))) c.in-Some.is c.in_ok-item.ensures.some in
+    let pushed : c.push.new.self.items ≡ c.loop-index.history.items ++ item ∷ [] = c.in_ok-push-in-Some.ensures.items in
+    let named : name ≡ slice_index_or names k [] = c.index-names-index.is ∙ get_or_default names k name [] c.loop-index-test.true in
+    let spelled : is_name name ≡ true = rw c.index-names-index.is (c.requires.plain.each k name c.loop-index-test.true) in
+    let small : k < 59 = let room = c.requires.plain.room in omega arith in
+    let after = plain_after c.loop-index.disk.made.items c.call_one.new.disk.made.items name k inv.plain spelled inv.few small back.0.made in
+    let answered : IsAnswered (run first_state c.loop-index.history.items) item = rw inv.run back.0.answered in
+    record {
+      history = rw pushed (history_more names c.loop-index.history.items item k inv.history c.loop-index-test.true back.0.who back.0.index (back.0.call ∙ ap mkdir_of named) answered);
+      run = rw pushed (run-append first_state c.loop-index.history.items item ∙ ap (λ s. (step s item.who item.call).state) inv.run ∙ sym back.0.goes);
+      state = back.0.state;
+      ready = back.0.ready;
+      plain = after.0;
+      few = after.1;
+      steps = steps_more (80 * k + 80) (80 * (k + 1)) _ _ (omega arith) (Steps-then (80 * k) 80 _ _ _ inv.steps c.call_one.ensures.steps);
+    }

@@ -1,0 +1,21 @@
+use Rattle.std.proofs.Common.{◌≡◌, ◌*◌, ◌≤◌, length}
+use Rattle.pm_words.specs.Powers.{Steps}
+use Rattle.posix_spec.specs.Run.{run}
+use Rattle.split_top.specs.Calls.{IsReady}
+use Rattle.split_top.specs.Made.{ArePlain}
+use Rattle.split_top.specs.Runs.{first_state, state_of}
+use Rattle.split_top.proofs.Histories.{IsHistory}
+use Rattle.split_top.proofs.calls.run_calls.Given as goal
+
+-- so many calls returned, and the device is at rest
+abbrev pub invariant-loop-index : goal.invariant-loop-index
+invariant-loop-index l =
+    record {
+      history : IsHistory l.names l.index l.history.items;
+      run : run first_state l.history.items ≡ l.state;
+      state : l.state ≡ state_of l.disk.made.items;
+      ready : IsReady l.disk;
+      plain : ArePlain 0 l.disk.made.items;
+      few : length l.disk.made.items ≤ l.index;
+      steps : Steps (80 * l.index) l.fn.power l.power;
+    }

@@ -1,0 +1,51 @@
+-- What the calls of a script leave, one after the other.
+use Rattle.std.specs.Prelude.{◌≡◌, ℕ, ◌+◌, ◌*◌, ◌<◌, ◌≤◌, true, false, List, [], ◌∷◌, ◌++◌, length, slice_index_or, ◌⊎◌}
+use Rattle.pm_words.specs.Powers.{Supply, Steps, is_on}
+use Rattle.posix_types.specs.declared.call.Who.{Who}
+use Rattle.posix_types.specs.declared.item.Item.{Item}
+use Rattle.posix_spec.specs.State.{State}
+use Rattle.posix_spec.specs.Step.{step}
+use Rattle.posix_spec.specs.Run.{run, IsLegal, IsAnswered}
+use Rattle.posix_spec.specs.Scripted.{Scripted}
+use Rattle.split_top.specs.declared.calls.Disk.{Disk}
+use Rattle.split_top.specs.declared.calls.Called.{Called}
+use Rattle.split_top.specs.Made.{default_geometry, ArePlain}
+use Rattle.split_top.specs.Rest.{IsAtRest, MayShow}
+use Rattle.split_top.specs.Runs.{first_state, mkdir_of, state_of, scripts_of}
+
+-- the device is at rest with the directories made, and no line is put
+pub record IsReady (disk : Disk) : Type 0 where
+  pub geometry : disk.geometry ≡ default_geometry
+  pub empty : disk.batch ≡ []
+  pub at_rest : IsAtRest disk.pm disk.made.items
+
+-- one more directory is made
+pub record Lands (old new : Disk) (name : List ℕ) : Type 0 where
+  pub ready : IsReady new
+  pub made : new.made.items ≡ old.made.items ++ name ∷ []
+
+-- the directories made are as before, or one more
+pub record Returns (from : State) (place : ℕ) (name : List ℕ) (old new : Disk) (next : State) (item : Item) : Type 0 where
+  pub who : item.who ≡ Who.Thread 0
+  pub index : item.index ≡ place
+  pub call : item.call ≡ mkdir_of name
+  pub answered : IsAnswered from item
+  pub goes : next ≡ (step from item.who item.call).state
+  pub ready : IsReady new
+  pub state : next ≡ state_of new.made.items
+  pub made : (new.made.items ≡ old.made.items) ⊎ (new.made.items ≡ old.made.items ++ name ∷ [])
+
+-- the name of the call that follows
+abbrev pub next_name : List (List ℕ) → List Item → List ℕ
+next_name names history = slice_index_or names (length history) []
+
+-- The calls of these names were made: all returned and the device is at rest, or the power went.
+pub record IsCalled (names : List (List ℕ)) (before after : Supply) (disk : Disk) (called : Called) : Type 0 where
+  pub legal : IsLegal first_state called.history.items
+  pub scripted : Scripted (scripts_of names) called.history.items
+  pub state : run first_state called.history.items ≡ state_of disk.made.items
+  pub plain : ArePlain 0 disk.made.items
+  pub few : length disk.made.items ≤ length called.history.items
+  pub steps : Steps (80 * (length called.history.items + 1)) before after
+  pub whole : called.is_lost ≡ false → (length called.history.items ≡ length names) × IsAtRest disk.pm disk.made.items
+  pub lost : called.is_lost ≡ true → (length called.history.items < length names) × (is_on after ≡ false) × MayShow disk.pm disk.made.items (disk.made.items ++ next_name names called.history.items ∷ [])

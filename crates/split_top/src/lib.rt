@@ -1,0 +1,29 @@
+//! The top call: the words of a command, files and a sink in, a status out.
+//!
+//! Whoever calls it may rely on the clauses of `top` alone. The chief one is `done`: what was put is the text of a
+//! history and of a tree (`report_text`) where the history is legal and follows the script, and the tree is one that
+//! strict mode permits for it (`specs/Runs.antt`). Every other status says when it comes and what it leaves.
+//!
+//! A `mkdir` is answered by the plain program of the calls' meaning (`posix_spec`), and where it succeeds, its two
+//! lines are made durable by one transaction (`k_journal`). The tree is that of the names that are read back from the
+//! device after its journal was recovered.
+#![tactic(auto)]
+
+mod calls;
+mod commands;
+mod directories;
+mod file_names;
+mod fresh;
+mod jobs;
+mod meaning;
+mod program;
+mod remounts;
+mod runs;
+mod scripts;
+mod statuses;
+#[cfg(test)]
+mod tests;
+
+pub use file_names::FileName;
+pub use program::top;
+pub use statuses::{Status, exit_number, status_text};

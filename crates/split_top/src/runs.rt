@@ -1,0 +1,97 @@
+//! A run of a script: its calls on a fresh device, and what is read back of it.
+ghost use Rattle.std.specs.Prelude.{◌≡◌, ◌⊎◌, ◌*◌, [], ℕ, List, length, IfOk};
+ghost use Rattle.pm_words.specs.Cells.{AllHome};
+ghost use Rattle.pm_words.specs.Images.{IsImage};
+ghost use Rattle.pm_words.specs.Words.{Words};
+ghost use Rattle.disk_places.specs.Journal.{IsSound};
+ghost use Rattle.posix_spec.specs.Run.{Begun};
+ghost use Rattle.posix_spec.specs.Tree.{tree};
+ghost use Rattle.split_top.specs.Calls.{IsReady};
+ghost use Rattle.split_top.specs.Made.{default_geometry, ArePlain};
+ghost use Rattle.split_top.specs.Rest.{MayShow};
+ghost use Rattle.split_top.specs.Runs.{IsRun, state_of};
+
+use crate::calls::{Disk, run_calls};
+use crate::fresh::fresh_device;
+use crate::meaning::tree_of;
+use crate::remounts::remount;
+use image_layout::Geometry;
+use k_journal::Batch;
+use pm_lines::{Choice, Pm, Power};
+use posix_types::{Item, Name, Tree};
+use std::alloc::{AllocError, Global};
+
+/// What a run leaves: the calls that returned, and the tree that is found afterwards.
+#[derive(Drop)]
+pub(crate) struct Ran {
+    pub history: Vec<Item>,
+    pub tree: Tree,
+}
+
+/// The numbers of the default image.
+fn default_geometry() -> Geometry
+    ensures { result ≡ default_geometry }
+{
+    match Geometry::checked(256, 64, 64, 128) {
+        Some(geometry) => geometry,
+        None => unreachable!(),
+    }
+}
+
+/// The power of a run: for so many steps, or always.
+fn power_for(stop: Option<u64>) -> Power
+    ensures { result ≡ record { given = stop; taken = 0 } }
+{
+    match stop {
+        Some(steps) => Power::after(steps),
+        None => Power::always(),
+    }
+}
+
+/// A fresh device at rest, with no directory made.
+fn fresh_disk(alloc: Global) -> Result<Disk, AllocError>
+    ensures ready { IfOk result IsReady }
+    ensures none { IfOk result (λ disk. disk.made.items ≡ []) }
+{
+    let geometry = default_geometry();
+    let pm = fresh_device(alloc, &geometry)?;
+    let batch = Batch::new(alloc)?;
+    Ok(Disk {
+        pm,
+        batch,
+        geometry,
+        made: Vec::new(alloc),
+    })
+}
+
+/// The tree that is found on a device after its power went, or after all calls.
+fn left_on(alloc: Global, pm: &Pm, choice: Choice) -> Result<Tree, AllocError>
+    requires size { length pm.now ≡ 512 * default_geometry.blocks }
+    requires home { AllHome pm.now }
+    requires sound { (image : Words) → IsImage pm.now image → IsSound default_geometry image }
+    ensures { IfOk result (λ found. (old new : List (List ℕ)) → ArePlain 0 old → ArePlain 0 new → MayShow pm.now old new → (found ≡ tree (state_of old)) ⊎ (found ≡ tree (state_of new))) }
+{
+    let bytes = pm.choose(alloc, choice)?;
+    let names = remount(alloc, &bytes, &default_geometry())?;
+    tree_of(alloc, &names)
+}
+
+/// Runs the calls of a script on a fresh image, and reads back what is left.
+pub(crate) fn run(
+    alloc: Global,
+    names: &[Name],
+    stop: Option<u64>,
+    choice: Choice,
+) -> Result<Ran, AllocError>
+    requires { ArePlain 0 names.now }
+    ensures { IfOk result (λ ran. (unfinished : List Begun) × IsRun names.now stop ran.history.items unfinished ran.tree) }
+{
+    let mut disk = fresh_disk(alloc)?;
+    let mut power = power_for(stop);
+    let called = run_calls(alloc, names, &mut disk, &mut power)?;
+    let tree = left_on(alloc, &disk.pm, choice)?;
+    Ok(Ran {
+        history: called.history,
+        tree,
+    })
+}

@@ -1,0 +1,4 @@
+pub mod ChainLaws
+pub mod Placed
+pub mod Reads
+pub mod Writes

@@ -1,0 +1,18 @@
+-- What it takes to write a chain, and what the images are while it is written.
+use Rattle.std.specs.Prelude.{◌≡◌, ℕ, List, length}
+use Rattle.pm_words.specs.declared.Cell.{Cell}
+use Rattle.pm_words.specs.Words.{Words}
+use Rattle.disk_places.specs.Places.{chains_for}
+use Rattle.extent_map.specs.declared.extents.Extent.{Extent}
+use Rattle.map_chain.specs.Placed.{AreDistinct, AreInDevice, AreSingle, IsOutside}
+
+-- As many blocks as the extents take, no two the same, all in the device, and each of their words has one candidate.
+pub record MayWrite (es : List Extent) (blocks : List ℕ) (d : List Cell) : Type 0 where
+  pub count : length blocks ≡ chains_for (length es)
+  pub distinct : AreDistinct blocks
+  pub in_device : AreInDevice (length d) blocks
+  pub single : AreSingle blocks d
+
+-- two images that differ at most in words of the blocks
+abbrev pub SameOutside : List ℕ → Words → Words → Type 0
+SameOutside blocks before image = (i : ℕ) → IsOutside blocks i → image i ≡ before i

@@ -5,3 +5,4 @@ mod words;
 mod writing;
 
 pub use words::blocks_for;
+pub use writing::write;

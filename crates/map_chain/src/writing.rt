@@ -80,3 +80,31 @@ fn write_blocks(pm: &mut Pm, power: &mut Power, extents: &[Extent], blocks: &[u3
         write_block(pm, power, *block, next_in(blocks, k), part);
     }
 }
+
+/// Writes the chain of a map into the blocks, and makes it durable, in at most 577 steps a block and
+/// one more. It takes no memory. Without power at the call it does nothing.
+///
+/// The blocks are as many as the map takes (`blocks_for`), no two the same, and in the device; their
+/// words have one candidate each, and hold nothing that is still wanted.
+pub fn write(pm: &mut Pm, power: &mut Power, map: &ExtentMap, blocks: &[u32])
+    requires ready { is_on power.old ≡ true → MayWrite map.now blocks.now pm.old }
+    ensures size { length pm.new ≡ length pm.old }
+    ensures lent { SameLent pm.old pm.new }
+    ensures steps { Steps (577 * length blocks.now + 1) power.old power.new }
+    ensures off { is_on power.old ≡ false → (pm.new ≡ pm.old) × (power.new ≡ power.old) }
+
+    // Wherever the power goes, each image is one of those before, but for words of the blocks.
+    ensures each_image { Follows (SameOutside blocks.now) pm.old pm.new }
+    ensures others { (i : ℕ) → IsOutside blocks.now i → Settles (cell pm.old i) (cell pm.new i) }
+
+    // With power left, each image has the chain, and it is durable.
+    ensures written { is_on power.new ≡ true → (image : Words) → IsImage pm.new image
+        → SpellsChain image blocks.now map.now }
+    ensures keeps { is_on power.new ≡ true → KeepsSingle pm.old pm.new }
+{
+    if !power.on() {
+        return;
+    }
+    write_blocks(pm, power, map.extents(), blocks);
+    pm.fence(power);
+}

@@ -1,4 +1,5 @@
 pub mod ChainLaws
 pub mod Placed
 pub mod Reads
+pub mod RuleLaws
 pub mod Writes

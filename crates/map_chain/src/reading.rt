@@ -176,12 +176,7 @@ fn map_in(
 /// The map of so many extents that stands as a chain in the blocks from `root` on, or None where
 /// none does: where one comes to a block outside the device, where the blocks do not spell the one
 /// spelling of a map of so many extents, or where another word of them is not zero. Nothing is written.
-pub fn read(
-    alloc: Global,
-    pm: &Pm,
-    root: u32,
-    extents: u32,
-) -> Result<Option<Chain>, AllocError>
+pub fn read(alloc: Global, pm: &Pm, root: u32, extents: u32) -> Result<Option<Chain>, AllocError>
     requires home { AllHome pm.now }
     ensures chain { IfOk result (λ found. IfSome found (λ chain.
         IsChain (words_of pm.now) (length pm.now) root extents chain.blocks.items chain.map)) }

@@ -16,14 +16,7 @@ use pm_lines::{Pm, Power};
 
 // Stores and flushes a line of the chain block with these extents and this next block. Lines are
 // counted from the start of the block.
-fn write_line(
-    pm: &mut Pm,
-    power: &mut Power,
-    block: u32,
-    line: u64,
-    next: u32,
-    extents: &[Extent],
-)
+fn write_line(pm: &mut Pm, power: &mut Power, block: u32, line: u64, next: u32, extents: &[Extent])
     requires in_block { line < 64 }
     requires in_device { block < length pm.old / 512 }
     requires room { length extents.now ≤ 255 }

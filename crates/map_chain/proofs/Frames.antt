@@ -1,5 +1,5 @@
 -- What a chain that is written leaves: outside its blocks, and in them.
-use Rattle.std.proofs.Common.{◌≡◌, ◌≢◌, ◌⊎◌, ◌+◌, ◌*◌, ◌/◌, ◌%◌, ◌<◌, ◌≤◌, ℕ, zero, suc, Bool, true, false, List, [], ◌∷◌, length, if◌then◌else◌, ◌==◌, refl, sym, ◌∙◌, ap, arith, inl, inr, ⊎_elim}
+use Rattle.std.proofs.Common.{◌≡◌, ◌≢◌, ◌⊎◌, ◌+◌, ◌*◌, ◌/◌, ◌%◌, ◌<◌, ◌≤◌, ℕ, zero, suc, Bool, true, List, [], ◌∷◌, length, if◌then◌else◌, ◌==◌, refl, sym, ◌∙◌, ap, arith, inl, inr, ⊎_elim}
 use Rattle.std.proofs.lemmas.Bool.{cases_eq, eq-eqb, ne_eqb, both_ways}
 use Rattle.pm_words.specs.declared.Cell.{Cell}
 use Rattle.pm_words.specs.declared.Cell.TheVariants.{Single, Two, Marked, Lent}
@@ -12,8 +12,8 @@ use Rattle.extent_map.specs.declared.extents.Extent.{Extent}
 use Rattle.image_rules.specs.Chains.{chain_word, SpellsChain}
 use Rattle.pm_lines.specs.Effects.{Fences}
 use Rattle.map_chain.specs.ChainLaws.{spells-stands}
-use Rattle.map_chain.specs.Placed.{block_at, part_at, StandsIn, AreSingle, IsOutside}
-use Rattle.map_chain.specs.Writes.{SameOutside}
+use Rattle.map_chain.specs.Placed.{block_at, part_at, AreSingle, IsOutside}
+use Rattle.map_chain.specs.Writes.{SameOutside, IsWritten}
 
 -- one of the blocks is b, or none is
 find_block : (blocks : List ℕ) (b : ℕ) → ((k : ℕ) × (k < length blocks) × (block_at blocks k ≡ b)) ⊎ ((k : ℕ) → k < length blocks → block_at blocks k ≢ b)
@@ -91,7 +91,7 @@ keeps blocks es old new words others i single = ⊎_elim
     (find_block blocks (i / 512))
 
 -- each image has the chain
-pub spelled : (blocks : List ℕ) (es : List Extent) (new : List Cell) (image : Words) → HasChainWords blocks es new → length es ≤ 255 * length blocks → IsImage new image
+spelled : (blocks : List ℕ) (es : List Extent) (new : List Cell) (image : Words) → HasChainWords blocks es new → length es ≤ 255 * length blocks → IsImage new image
     → SpellsChain image blocks es
 spelled blocks es new image words room is = spells-stands image blocks es (record {
   words = λ k j below word.
@@ -100,3 +100,10 @@ spelled blocks es new image words room is = spells-stands image blocks es (recor
       rw (words k i below (omega arith)) at (is i) ∙ ap (chain_word (block_at blocks (k + 1)) (part_at es k)) place;
   room = room;
 })
+
+-- each image has the chain, and is as one before outside its blocks
+pub written : (blocks : List ℕ) (es : List Extent) (old new : List Cell) → AreSingle blocks old → ((i : ℕ) → IsOutside blocks i → Settles (cell old i) (cell new i))
+    → HasChainWords blocks es new → length es ≤ 255 * length blocks → Follows (IsWritten es blocks) old new
+written blocks es old new single others words room image is =
+    let same = follows blocks old new single others image is in
+    (same.0, same.1, record { chain = spelled blocks es new image words room is; others = same.2 })

@@ -1,5 +1,5 @@
 -- Blocks that follow one another, as one comes to them.
-use Rattle.std.proofs.Common.{◌≡◌, ◌+◌, ◌-◌, ◌*◌, ◌/◌, ◌<◌, ◌≤◌, ℕ, suc, List, [], ◌∷◌, ◌++◌, length, refl, sym, ◌∙◌, ap, arith, append_assoc, ⊎_elim}
+use Rattle.std.proofs.Common.{◌≡◌, ◌+◌, ◌-◌, ◌/◌, ◌<◌, ◌≤◌, ℕ, suc, List, [], ◌∷◌, ◌++◌, length, refl, sym, ◌∙◌, ap, arith, append_assoc, ⊎_elim}
 use Rattle.std.proofs.lemmas.List.{get_or_at, get_or_append_left, get_or_push, length_push, append-nil}
 use Rattle.std.proofs.lemmas.Bool.{cases_lt}
 use Rattle.pm_words.specs.Words.{Words}
@@ -32,11 +32,11 @@ in_device_more size b blocks in_device within k below = ⊎_elim
     (λ (h : length blocks ≤ k). rw (get_or_push blocks b 0 k (omega (arith, length_push blocks b))) within)
     (cases_lt k (length blocks))
 
--- the next block is one of those that have to be in the device
-pub linked_in_device : (f : Words) (root count b k size : ℕ) (blocks : List ℕ) → k < count → length blocks ≡ k
-    → blocks_from f root count ≡ blocks ++ blocks_from f b (count - k) → AreInDevice size (blocks_from f root count) → b < size / 512
-linked_in_device f root count b k size blocks below at linked in_device =
-    let here : block_at (blocks_from f root count) k ≡ b =
-    ap (λ bs. block_at bs k) (linked ∙ ap (λ rest. blocks ++ rest) (first_of f b (count - k) (count - (k + 1)) (omega arith)))
-    ∙ get_or_at blocks b (blocks_from f (next_block f b) (count - (k + 1))) 0 k at in
-    rw here at (in_device k (omega (arith, length-blocks_from f root count)))
+-- the next block is one of those that one comes to
+pub linked_at : (f : Words) (root count b k : ℕ) (blocks : List ℕ) → k < count → length blocks ≡ k → blocks_from f root count ≡ blocks ++ blocks_from f b (count - k)
+    → (k < length (blocks_from f root count)) × (block_at (blocks_from f root count) k ≡ b)
+linked_at f root count b k blocks below at linked = (
+  omega (arith, length-blocks_from f root count),
+  ap (λ bs. block_at bs k) (linked ∙ ap (λ rest. blocks ++ rest) (first_of f b (count - k) (count - (k + 1)) (omega arith)))
+      ∙ get_or_at blocks b (blocks_from f (next_block f b) (count - (k + 1))) 0 k at,
+)

@@ -1,16 +1,16 @@
 -- Laws of chains: block by block and as a whole they say the same; a chain has one map; what is written reads back.
-use Rattle.std.specs.Prelude.{◌≡◌, ◌≢◌, ◌≤◌, ◌<◌, ◌+◌, ◌-◌, ◌*◌, ◌/◌, ◌%◌, ◌^◌, ℕ, zero, suc, List, [], ◌∷◌, ◌++◌, length, map, take, drop, slice_index, slice_index_or}
-use Rattle.std.specs.List.{flat_map, range_with_len}
-use Rattle.std.proofs.Common.{refl, sym, ◌∙◌, ap, arith, lit<, add-zero, add-one, inl, inr, ⊎_elim, get_or, subst}
-use Rattle.std.proofs.lemmas.Bool.{cases_eq, cases_lt, eq-eqb, ne_eqb}
-use Rattle.std.proofs.lemmas.List.{get_or-take, get_or-drop, get_or-map, get_or_default, get_or_past, length-take, length-take-le, length-drop, length-map, take-append-drop, drop-drop, nil_from_length, same_lists}
+use Rattle.std.specs.Prelude.{◌≡◌, ◌≢◌, ◌≤◌, ◌<◌, ◌+◌, ◌-◌, ◌*◌, ◌/◌, ◌%◌, ◌^◌, ℕ, zero, suc, List, [], ◌∷◌, ◌++◌, length, map, take, drop}
+use Rattle.std.specs.List.{flat_map}
+use Rattle.std.proofs.Common.{refl, sym, ◌∙◌, ap, arith, lit<, add-zero, ⊎_elim}
+use Rattle.std.proofs.lemmas.Bool.{cases_lt, ne_eqb}
+use Rattle.std.proofs.lemmas.List.{get_or-take, get_or-drop, get_or_default, get_or_past, length-take, length-drop, take-append-drop, drop-drop, nil_from_length, same_lists}
 use Rattle.std.proofs.lemmas.List.FromFn.{length-map-range_with_len, get_or-map-range_with_len}
 use Rattle.pm_words.specs.Words.{Words}
 use Rattle.disk_places.specs.Places.{chains_for}
 use Rattle.extent_map.specs.declared.extents.Extent.{Extent}
 use Rattle.extent_map.specs.Extents.{IsExtent, ComesAfter, IsCanonical}
-use Rattle.image_rules.specs.Chains.{extents_per_block, extent_word, chain_word, first_or_zero, SpellsChain, next_block, extent_in, extents_in, blocks_from}
-use Rattle.map_chain.specs.Placed.{no_extent, extent_at, block_at, part_at, StandsIn, AreDistinct, AreInDevice}
+use Rattle.image_rules.specs.Chains.{extent_word, chain_word, first_or_zero, SpellsChain, next_block, extent_in, extents_in, blocks_from}
+use Rattle.map_chain.specs.Placed.{no_extent, extent_at, block_at, part_at, StandsIn, AreDistinct}
 use Rattle.map_chain.specs.Reads.{IsMapIn, IsChain, first_word, second_word, listed_at, AreListed, FitHalves, ReadsBack, HasOneChain}
 
 -- two extents with the same numbers are one

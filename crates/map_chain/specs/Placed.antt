@@ -1,7 +1,7 @@
 -- A chain seen from its blocks: which extents stand in block k, and which block comes next.
-use Rattle.std.specs.Prelude.{◌≡◌, ◌≢◌, ℕ, ◌+◌, ◌*◌, ◌/◌, ◌<◌, ◌≤◌, true, List, length, take, drop, slice_index, slice_index_or}
+use Rattle.std.specs.Prelude.{◌≡◌, ◌≢◌, ℕ, ◌+◌, ◌*◌, ◌/◌, ◌<◌, ◌≤◌, true, false, List, length, take, drop, slice_index, slice_index_or}
 use Rattle.pm_words.specs.declared.Cell.{Cell}
-use Rattle.pm_words.specs.Cells.{cell, is_single}
+use Rattle.pm_words.specs.Cells.{cell, is_single, is_lent}
 use Rattle.pm_words.specs.Words.{Words}
 use Rattle.extent_map.specs.declared.extents.Extent.{Extent}
 use Rattle.image_rules.specs.Chains.{extents_per_block, chain_word}
@@ -38,6 +38,13 @@ AreInDevice size blocks = (k : ℕ) → k < length blocks → block_at blocks k 
 -- each word of the blocks has one candidate
 abbrev pub AreSingle : List ℕ → List Cell → Type 0
 AreSingle blocks d = (k i : ℕ) → k < length blocks → i / 512 ≡ block_at blocks k → is_single (cell d i) ≡ true
+
+-- no word of the block is lent; of none of the blocks is one
+abbrev pub BlockIsHome : ℕ → List Cell → Type 0
+BlockIsHome block d = (i : ℕ) → i / 512 ≡ block → is_lent (cell d i) ≡ false
+
+abbrev pub AreHome : List ℕ → List Cell → Type 0
+AreHome blocks d = (k : ℕ) → k < length blocks → BlockIsHome (block_at blocks k) d
 
 -- no block has the word
 abbrev pub IsOutside : List ℕ → ℕ → Type 0

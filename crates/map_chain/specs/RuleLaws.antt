@@ -1,7 +1,7 @@
 -- A chain that stands in an image, beside the rule of a checked image on the map of an inode.
-use Rattle.std.specs.Prelude.{◌≡◌, ℕ, ◌+◌, ◌*◌, ◌/◌, ◌^◌, ◌<◌, ◌≤◌, All, true, List, [], length}
+use Rattle.std.specs.Prelude.{◌≡◌, ℕ, ◌*◌, ◌^◌, ◌<◌, All, true, List, []}
 use Rattle.std.specs.List.{flat_map}
-use Rattle.std.proofs.Common.{sym, ◌∙◌, ap, subst, arith}
+use Rattle.std.proofs.Common.{sym, ◌∙◌, ap, arith}
 use Rattle.std.proofs.lemmas.Bool.Decides.{nat_tests}
 use Rattle.std.proofs.lemmas.List.FromFn.{get_or-map-range_with_len}
 use Rattle.pm_words.specs.Words.{Words}
@@ -11,7 +11,6 @@ use Rattle.image_rules.specs.Chains.{extents_in, chain_of, map_of}
 use Rattle.image_rules.specs.Rules.{file_blocks_of, IsInData, HasChain}
 use Rattle.image_rules.specs.Volume.{Volume, volume, inode_or_free, free_inode, inode, chain, extents}
 use Rattle.map_chain.specs.ChainLaws.{chain-map}
-use Rattle.map_chain.specs.Placed.{AreInDevice}
 use Rattle.map_chain.specs.Reads.{IsChain}
 
 -- The volume has for the inode what the words have.

@@ -4,6 +4,7 @@ use Rattle.pm_words.specs.declared.Cell.{Cell}
 use Rattle.pm_words.specs.Words.{Words}
 use Rattle.disk_places.specs.Places.{chains_for}
 use Rattle.extent_map.specs.declared.extents.Extent.{Extent}
+use Rattle.image_rules.specs.Chains.{SpellsChain}
 use Rattle.map_chain.specs.Placed.{AreDistinct, AreInDevice, AreSingle, IsOutside}
 
 -- As many blocks as the extents take, no two the same, all in the device, and each of their words has one candidate.
@@ -16,3 +17,8 @@ pub record MayWrite (es : List Extent) (blocks : List ℕ) (d : List Cell) : Typ
 -- two images that differ at most in words of the blocks
 abbrev pub SameOutside : List ℕ → Words → Words → Type 0
 SameOutside blocks before image = (i : ℕ) → IsOutside blocks i → image i ≡ before i
+
+-- an image after a chain was written, beside the image before
+pub record IsWritten (es : List Extent) (blocks : List ℕ) (before image : Words) : Type 0 where
+  pub chain : SpellsChain image blocks es
+  pub others : SameOutside blocks before image

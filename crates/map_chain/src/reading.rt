@@ -1,11 +1,12 @@
 // Reading a chain.
-ghost use Rattle.std.specs.Prelude.{◌≡◌, ◌+◌, ◌*◌, ◌/◌, ◌%◌, ◌^◌, ◌<◌, ◌≤◌, ◌↔◌, ℕ, length, IsTrue, IfOk, IfSome, IfNone, vec_len};
+ghost use Rattle.std.specs.Prelude.{◌≡◌, ◌+◌, ◌*◌, ◌/◌, ◌%◌, ◌^◌, ◌<◌, ◌≤◌, ◌↔◌, ℕ, length, IsTrue, IfOk, IfSome, IfNone, vec_len, List};
 ghost use Rattle.std.specs.List.{flat_map};
+ghost use Rattle.std.specs.Option.{IsSomeAnd};
+ghost use Rattle.extent_map.specs.declared.extents.Extent.{Extent};
 ghost use Rattle.disk_places.specs.Places.{chains_for};
 ghost use Rattle.image_rules.specs.Chains.{chain_word as word_of_block, next_block as block_behind, extents_in, blocks_from};
-ghost use Rattle.map_chain.specs.Placed.{block_at, part_at, AreDistinct, AreInDevice, StandsIn};
+ghost use Rattle.map_chain.specs.Placed.{block_at, part_at, AreDistinct, AreInDevice, BlockIsHome, AreHome, StandsIn};
 ghost use Rattle.map_chain.specs.Reads.{IsMapIn, IsChain, HasNoMap, HasNoChain, AreListed};
-ghost use Rattle.pm_words.specs.Cells.{AllHome};
 ghost use Rattle.pm_words.specs.Images.{words_of};
 
 use crate::words::{blocks_for, chain_word, next_in, part_of};
@@ -39,7 +40,7 @@ fn high_half(word: u64) -> u32
 fn word_in(pm: &Pm, block: u32, j: u64) -> u64
     requires in_block { j < 512 }
     requires in_device { block < length pm.now / 512 }
-    requires home { AllHome pm.now }
+    requires home { BlockIsHome block pm.now }
     ensures { result ≡ words_of pm.now (512 * block + j) }
 {
     pm.read_word(512 * u64::from(block) + j)
@@ -48,7 +49,7 @@ fn word_in(pm: &Pm, block: u32, j: u64) -> u64
 // The block that a chain block names as the next.
 fn next_block(pm: &Pm, block: u32) -> u32
     requires in_device { block < length pm.now / 512 }
-    requires home { AllHome pm.now }
+    requires home { BlockIsHome block pm.now }
     ensures { result ≡ block_behind (words_of pm.now) block }
 {
     low_half(word_in(pm, block, 0))
@@ -61,7 +62,7 @@ fn linked_blocks(
     root: u32,
     count: u32,
 ) -> Result<Option<Vec<u32>>, AllocError>
-    requires home { AllHome pm.now }
+    requires home { AreHome (blocks_from (words_of pm.now) root count) pm.now }
     ensures count { IfOk result (λ found. IfSome found (λ blocks. vec_len blocks ≡ count)) }
     ensures linked { IfOk result (λ found. IfSome found (λ blocks.
         blocks.items ≡ blocks_from (words_of pm.now) root count)) }
@@ -87,7 +88,7 @@ fn linked_blocks(
 fn listed_extent(pm: &Pm, block: u32, k: u32) -> Extent
     requires in_block { k < 255 }
     requires in_device { block < length pm.now / 512 }
-    requires home { AllHome pm.now }
+    requires home { BlockIsHome block pm.now }
     ensures file { result.file ≡ words_of pm.now (512 * block + (2 + 2 * k)) % 2 ^ 32 }
     ensures disk { result.disk ≡ words_of pm.now (512 * block + (2 + 2 * k)) / 2 ^ 32 }
     ensures count { result.count ≡ words_of pm.now (512 * block + (3 + 2 * k)) % 2 ^ 32 }
@@ -110,7 +111,7 @@ fn listed_extents(
 ) -> Result<Vec<Extent>, AllocError>
     requires room { count ≤ 255 * length blocks.now }
     requires in_device { AreInDevice (length pm.now) blocks.now }
-    requires home { AllHome pm.now }
+    requires home { AreHome blocks.now pm.now }
     ensures count { IfOk result (λ es. vec_len es ≡ count) }
     ensures listed { IfOk result (λ es. AreListed (words_of pm.now) blocks.now es.items) }
 {
@@ -125,7 +126,7 @@ fn listed_extents(
 fn is_block(pm: &Pm, block: u32, next: u32, extents: &[Extent]) -> bool
     requires room { length extents.now ≤ 255 }
     requires in_device { block < length pm.now / 512 }
-    requires home { AllHome pm.now }
+    requires home { BlockIsHome block pm.now }
     ensures { IsTrue result ↔ ((j : ℕ) → j < 512
         → words_of pm.now (512 * block + j) ≡ word_of_block next extents.now j) }
 {
@@ -142,7 +143,7 @@ fn is_spelled(pm: &Pm, blocks: &[u32], extents: &[Extent]) -> bool
     requires room { length extents.now ≤ 255 * length blocks.now }
     requires filled { 255 * length blocks.now < length extents.now + 255 }
     requires in_device { AreInDevice (length pm.now) blocks.now }
-    requires home { AllHome pm.now }
+    requires home { AreHome blocks.now pm.now }
     ensures { IsTrue result ↔ StandsIn (words_of pm.now) blocks.now extents.now }
 {
     for (k, block) in blocks.iter().enumerate() {
@@ -162,7 +163,7 @@ fn map_in(
 ) -> Result<Option<ExtentMap>, AllocError>
     requires count { length blocks.now ≡ chains_for extents }
     requires in_device { AreInDevice (length pm.now) blocks.now }
-    requires home { AllHome pm.now }
+    requires home { AreHome blocks.now pm.now }
     ensures map { IfOk result (λ found. IfSome found (IsMapIn (words_of pm.now) blocks.now extents)) }
     ensures none { IfOk result (λ found. IfNone found (HasNoMap (words_of pm.now) blocks.now extents)) }
 {
@@ -177,12 +178,15 @@ fn map_in(
 /// none does: where one comes to a block outside the device, where the blocks do not spell the one
 /// spelling of a map of so many extents, or where another word of them is not zero. Nothing is written.
 pub fn read(alloc: Global, pm: &Pm, root: u32, extents: u32) -> Result<Option<Chain>, AllocError>
-    requires home { AllHome pm.now }
+    requires home { AreHome (blocks_from (words_of pm.now) root (chains_for extents)) pm.now }
     ensures chain { IfOk result (λ found. IfSome found (λ chain.
         IsChain (words_of pm.now) (length pm.now) root extents chain.blocks.items chain.map)) }
     ensures map { IfOk result (λ found. IfSome found (λ chain.
         flat_map (extents_in (words_of pm.now)) chain.blocks.items ≡ chain.map)) }
     ensures distinct { IfOk result (λ found. IfSome found (λ chain. AreDistinct chain.blocks.items)) }
+    ensures found { (blocks : List ℕ) (es : List Extent)
+        → IsChain (words_of pm.now) (length pm.now) root extents blocks es
+        → IfOk result (λ found. IsSomeAnd found (λ chain. (chain.blocks.items ≡ blocks) × (chain.map ≡ es))) }
     ensures none { IfOk result (λ found. IfNone found
         (HasNoChain (words_of pm.now) (length pm.now) root extents)) }
 {

@@ -2,7 +2,7 @@
 ghost use Rattle.std.specs.Prelude.{◌≡◌, ◌≢◌, ◌+◌, ◌*◌, ◌/◌, ◌%◌, ◌<◌, ◌≤◌, ℕ, true, false, length};
 ghost use Rattle.image_rules.specs.Chains.{chain_word as word_of_block, SpellsChain};
 ghost use Rattle.map_chain.specs.Placed.{block_at, part_at, AreDistinct, AreInDevice, AreSingle, IsOutside};
-ghost use Rattle.map_chain.specs.Writes.{MayWrite, SameOutside};
+ghost use Rattle.map_chain.specs.Writes.{MayWrite, SameOutside, IsWritten};
 ghost use Rattle.pm_words.specs.declared.Cell.TheVariants.{Single};
 ghost use Rattle.pm_words.specs.Cells.{cell, is_single, fenced, Settles};
 ghost use Rattle.pm_words.specs.Frames.{SameLent, KeepsSingle, LineIsSingle};
@@ -91,8 +91,7 @@ pub fn write(pm: &mut Pm, power: &mut Power, map: &ExtentMap, blocks: &[u32])
     ensures others { (i : ℕ) → IsOutside blocks.now i → Settles (cell pm.old i) (cell pm.new i) }
 
     // With power left, each image has the chain, and it is durable.
-    ensures written { is_on power.new ≡ true → (image : Words) → IsImage pm.new image
-        → SpellsChain image blocks.now map.now }
+    ensures durable { is_on power.new ≡ true → Follows (IsWritten map.now blocks.now) pm.old pm.new }
     ensures keeps { is_on power.new ≡ true → KeepsSingle pm.old pm.new }
 {
     if !power.on() {

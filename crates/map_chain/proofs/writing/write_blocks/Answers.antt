@@ -1,11 +1,10 @@
-use Rattle.std.proofs.Common.{◌≡◌, ◌≢◌, ◌+◌, ◌*◌, ◌/◌, ◌%◌, ◌<◌, ℕ, true, sym, ◌∙◌, ap, arith, rules, ⊎_elim}
+use Rattle.std.proofs.Common.{◌≡◌, ◌≢◌, ◌+◌, ◌%◌, sym, ◌∙◌, ap, arith, ⊎_elim}
 use Rattle.std.proofs.lemmas.Bool.{cases_eq}
 use Rattle.std.proofs.lemmas.Grind.{common_steps}
 use Rattle.image_rules.specs.Chains.{chain_word}
 use Rattle.map_chain.specs.Placed.{block_at, part_at}
 use Rattle.pm_words.specs.declared.Cell.TheVariants.{Single}
-use Rattle.pm_words.specs.Cells.{cell, fenced}
-use Rattle.pm_words.specs.Powers.{is_on}
+use Rattle.pm_words.specs.Cells.{fenced}
 use Rattle.map_chain.proofs.writing.write_blocks.Goals as goal
 
 pub loop-k-preserved : goal.loop-k-preserved

@@ -9,7 +9,7 @@ ghost use Rattle.map_chain.specs.Placed.{block_at, part_at, AreDistinct, AreInDe
 ghost use Rattle.map_chain.specs.Reads.{IsMapIn, IsChain, HasNoMap, HasNoChain, AreListed};
 ghost use Rattle.pm_words.specs.Images.{words_of};
 
-use crate::words::{blocks_for, chain_word, next_in, part_of};
+use crate::words::{EXTENTS_PER_BLOCK, blocks_for, chain_word, next_in, part_of};
 use extent_map::{Extent, ExtentMap, FILE_BLOCKS};
 use pm_lines::Pm;
 use std::alloc::{AllocError, Global};
@@ -85,7 +85,7 @@ fn linked_blocks(
 }
 
 // The extent at place `k` of a chain block, as far as its words fit one.
-fn listed_extent(pm: &Pm, block: u32, k: u32) -> Extent
+fn listed_extent(pm: &Pm, block: u32, k: usize) -> Extent
     requires in_block { k < 255 }
     requires in_device { block < length pm.now / 512 }
     requires home { BlockIsHome block pm.now }
@@ -93,7 +93,7 @@ fn listed_extent(pm: &Pm, block: u32, k: u32) -> Extent
     ensures disk { result.disk ≡ words_of pm.now (512 * block + (2 + 2 * k)) / 2 ^ 32 }
     ensures count { result.count ≡ words_of pm.now (512 * block + (3 + 2 * k)) % 2 ^ 32 }
 {
-    let first = 2 + 2 * u64::from(k);
+    let first = 2 + 2 * k as u64;
     let run = word_in(pm, block, first);
     Extent {
         file: low_half(run),
@@ -116,8 +116,9 @@ fn listed_extents(
     ensures listed { IfOk result (λ es. AreListed (words_of pm.now) blocks.now es.items) }
 {
     let mut listed = Vec::with_capacity(alloc, count as usize)?;
-    for k in 0..count {
-        listed.push(listed_extent(pm, blocks[(k / 255) as usize], k % 255))?;
+    for k in 0..count as usize {
+        let block = blocks[k / EXTENTS_PER_BLOCK];
+        listed.push(listed_extent(pm, block, k % EXTENTS_PER_BLOCK))?;
     }
     Ok(listed)
 }
@@ -164,8 +165,10 @@ fn map_in(
     requires count { length blocks.now ≡ chains_for extents }
     requires in_device { AreInDevice (length pm.now) blocks.now }
     requires home { AreHome blocks.now pm.now }
-    ensures map { IfOk result (λ found. IfSome found (IsMapIn (words_of pm.now) blocks.now extents)) }
-    ensures none { IfOk result (λ found. IfNone found (HasNoMap (words_of pm.now) blocks.now extents)) }
+    ensures map { IfOk result (λ found. IfSome found
+        (IsMapIn (words_of pm.now) blocks.now extents)) }
+    ensures none { IfOk result (λ found. IfNone found
+        (HasNoMap (words_of pm.now) blocks.now extents)) }
 {
     let listed = listed_extents(alloc, pm, blocks, extents)?;
     if !is_spelled(pm, blocks, &listed) {
@@ -174,9 +177,12 @@ fn map_in(
     Ok(ExtentMap::from_extents(alloc, &listed)?)
 }
 
-/// The map of so many extents that stands as a chain in the blocks from `root` on, or None where
-/// none does: where one comes to a block outside the device, where the blocks do not spell the one
-/// spelling of a map of so many extents, or where another word of them is not zero. Nothing is written.
+/// The map of so many extents that stands as a chain in the blocks from `root` on, with these blocks.
+/// None where no such map does: where the chain leads to a block outside the device, where an extent or
+/// another word is not as the one spelling of a map of so many extents has it.
+///
+/// Blocks are counted from the start of the device, and no word of those that the chain leads to is
+/// lent. Nothing is written. It takes memory for 17 blocks and 4,096 extents at most.
 pub fn read(alloc: Global, pm: &Pm, root: u32, extents: u32) -> Result<Option<Chain>, AllocError>
     requires home { AreHome (blocks_from (words_of pm.now) root (chains_for extents)) pm.now }
     ensures chain { IfOk result (λ found. IfSome found (λ chain.
@@ -186,7 +192,8 @@ pub fn read(alloc: Global, pm: &Pm, root: u32, extents: u32) -> Result<Option<Ch
     ensures distinct { IfOk result (λ found. IfSome found (λ chain. AreDistinct chain.blocks.items)) }
     ensures found { (blocks : List ℕ) (es : List Extent)
         → IsChain (words_of pm.now) (length pm.now) root extents blocks es
-        → IfOk result (λ found. IsSomeAnd found (λ chain. (chain.blocks.items ≡ blocks) × (chain.map ≡ es))) }
+        → IfOk result (λ found. IsSomeAnd found (λ chain.
+        (chain.blocks.items ≡ blocks) × (chain.map ≡ es))) }
     ensures none { IfOk result (λ found. IfNone found
         (HasNoChain (words_of pm.now) (length pm.now) root extents)) }
 {

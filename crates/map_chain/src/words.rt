@@ -6,10 +6,10 @@ ghost use Rattle.image_rules.specs.Chains.{extent_word, chain_word};
 
 use extent_map::Extent;
 
-// Extents in a block, and words of a block.
+// The extents that a block has room for.
 pub(crate) const EXTENTS_PER_BLOCK: usize = 255;
 
-/// How many chain blocks so many extents take.
+/// How many chain blocks so many extents take: one for each 255, rounded up, and none for none.
 pub fn blocks_for(extents: u32) -> u32
     ensures { result ≡ chains_for extents }
 {
@@ -17,7 +17,7 @@ pub fn blocks_for(extents: u32) -> u32
 }
 
 // A word of two halves.
-fn packed(low: u32, high: u32) -> u64
+fn word_of_halves(low: u32, high: u32) -> u64
     ensures { result ≡ low + 2 ^ 32 * high }
 {
     u64::from(low) + (u64::from(high) << 32)
@@ -33,7 +33,7 @@ fn extent_word(extents: &[Extent], j: usize) -> u64
     }
     let extent = extents[k];
     if j % 2 == 0 {
-        packed(extent.file, extent.disk)
+        word_of_halves(extent.file, extent.disk)
     } else {
         u64::from(extent.count)
     }
@@ -46,7 +46,7 @@ pub(crate) fn chain_word(next: u32, extents: &[Extent], j: usize) -> u64
     ensures { result ≡ chain_word next extents.now j }
 {
     if j == 0 {
-        packed(next, extents.len() as u32)
+        word_of_halves(next, extents.len() as u32)
     } else if j == 1 {
         0
     } else {

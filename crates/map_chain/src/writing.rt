@@ -65,8 +65,10 @@ fn write_blocks(pm: &mut Pm, power: &mut Power, extents: &[Extent], blocks: &[u3
     ensures lent { SameLent pm.old pm.new }
     ensures steps { Steps (576 * length blocks.now) power.old power.new }
     ensures others { (i : ℕ) → IsOutside blocks.now i → cell pm.new i ≡ cell pm.old i }
-    ensures done { is_on power.new ≡ true → (k i : ℕ) → k < length blocks.now → i / 512 ≡ block_at blocks.now k
-        → fenced (cell pm.new i) ≡ Single (word_of_block (block_at blocks.now (k + 1)) (part_at extents.now k) (i % 512)) }
+    ensures done { is_on power.new ≡ true
+        → (k i : ℕ) → k < length blocks.now → i / 512 ≡ block_at blocks.now k
+        → fenced (cell pm.new i) ≡ Single
+        (word_of_block (block_at blocks.now (k + 1)) (part_at extents.now k) (i % 512)) }
 {
     for (k, block) in blocks.iter().enumerate() {
         let part = part_of(extents, k);
@@ -74,11 +76,12 @@ fn write_blocks(pm: &mut Pm, power: &mut Power, extents: &[Extent], blocks: &[u3
     }
 }
 
-/// Writes the chain of a map into the blocks, and makes it durable, in at most 577 steps a block and
-/// one more. It takes no memory. Without power at the call it does nothing.
+/// Writes the chain of a map into the blocks, in their order, and makes it durable, in at most 577 steps
+/// a block and one more. It takes no memory. Without power at the call it does nothing.
 ///
-/// The blocks are as many as the map takes (`blocks_for`), no two the same, and in the device; their
-/// words have one candidate each, and hold nothing that is still wanted.
+/// Blocks are counted from the start of the device. There are as many as the map takes (`blocks_for`),
+/// no two of them the same; their words have one candidate each, and hold nothing that is still wanted.
+/// The last step is a fence, so marks of other words end too.
 pub fn write(pm: &mut Pm, power: &mut Power, map: &ExtentMap, blocks: &[u32])
     requires ready { is_on power.old ≡ true → MayWrite map.now blocks.now pm.old }
     ensures size { length pm.new ≡ length pm.old }

@@ -6,7 +6,7 @@ pub returns-then-k-extents : goal.returns-then-k-extents
 returns-then-k-extents c = sym (extent_word-past c.args.extents.now c.args.j (omega arith))
 
 pub returns-then-j-eq0 : goal.returns-then-j-eq0
-returns-then-j-eq0 c = c.packed.ensures ∙ sym (extent_word-even c.args.extents.now c.args.j c.if-j-eq0.true)
+returns-then-j-eq0 c = c.word_of_halves.ensures ∙ sym (extent_word-even c.args.extents.now c.args.j c.if-j-eq0.true)
 
 pub returns-else-j-eq0 : goal.returns-else-j-eq0
 returns-else-j-eq0 c = c.from.ensures ∙ sym (extent_word-odd c.args.extents.now c.args.j c.if-j-eq0.false)

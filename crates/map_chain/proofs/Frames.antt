@@ -1,19 +1,17 @@
 -- What a chain that is written leaves: outside its blocks, and in them.
-use Rattle.std.proofs.Common.{◌≡◌, ◌≢◌, ◌⊎◌, ◌+◌, ◌*◌, ◌/◌, ◌%◌, ◌<◌, ◌≤◌, ℕ, zero, suc, Bool, true, List, [], ◌∷◌, length, if◌then◌else◌, ◌==◌, refl, sym, ◌∙◌, ap, arith, inl, inr, ⊎_elim}
+use Rattle.std.proofs.Common.{◌≡◌, ◌≢◌, ◌⊎◌, ◌+◌, ◌*◌, ◌/◌, ◌%◌, ◌<◌, ◌≤◌, ℕ, zero, suc, List, [], ◌∷◌, length, if◌then◌else◌, ◌==◌, refl, sym, ◌∙◌, ap, arith, inl, inr, ⊎_elim}
 use Rattle.std.proofs.lemmas.Bool.{cases_eq, eq-eqb, ne_eqb, both_ways}
 use Rattle.pm_words.specs.declared.Cell.{Cell}
-use Rattle.pm_words.specs.declared.Cell.TheVariants.{Single, Two, Marked, Lent}
-use Rattle.pm_words.specs.CellLaws.{single-home, newest-candidate, candidate-settles}
-use Rattle.pm_words.specs.Cells.{cell, is_single, is_lent, newest, fenced, IsCandidate, Settles}
+use Rattle.pm_words.specs.CellLaws.{single-home, newest-candidate, candidate-settles, settled-single}
+use Rattle.pm_words.specs.Cells.{cell, is_lent, newest, IsCandidate, Settles}
 use Rattle.pm_words.specs.Frames.{KeepsSingle}
 use Rattle.pm_words.specs.Images.{IsImage, Follows}
 use Rattle.pm_words.specs.Words.{Words}
 use Rattle.extent_map.specs.declared.extents.Extent.{Extent}
 use Rattle.image_rules.specs.Chains.{chain_word, SpellsChain}
-use Rattle.pm_lines.specs.Effects.{Fences}
 use Rattle.map_chain.specs.ChainLaws.{spells-stands}
 use Rattle.map_chain.specs.Placed.{block_at, part_at, AreSingle, IsOutside}
-use Rattle.map_chain.specs.Writes.{SameOutside, IsWritten}
+use Rattle.map_chain.specs.Writes.{HasChainWords, SameOutside, IsWritten}
 
 -- one of the blocks is b, or none is
 find_block : (blocks : List ℕ) (b : ℕ) → ((k : ℕ) × (k < length blocks) × (block_at blocks k ≡ b)) ⊎ ((k : ℕ) → k < length blocks → block_at blocks k ≢ b)
@@ -68,26 +66,12 @@ follows blocks old new single others image is = (
   λ i out. sym (before-outside blocks old image i out),
 )
 
-single-fenced : (c : Cell) → is_single c ≡ true → is_single (fenced c) ≡ true
-single-fenced (Single a) single = refl
-single-fenced (Two a b) single = cc
-single-fenced (Marked a b) single = cc
-single-fenced Lent single = cc
-
--- a fence that came
-pub fence_came : (on : Bool) (mid new : List Cell) → Fences on mid new → on ≡ true → (i : ℕ) → cell new i ≡ fenced (cell mid i)
-fence_came on mid new fence is i = rw is at (fence.words i)
-
--- the blocks have the chain's words, as the only candidates
-abbrev pub HasChainWords : List ℕ → List Extent → List Cell → Type 0
-HasChainWords blocks es d =
-    (k i : ℕ) → k < length blocks → i / 512 ≡ block_at blocks k → cell d i ≡ Single (chain_word (block_at blocks (k + 1)) (part_at es k) (i % 512))
-
-pub keeps : (blocks : List ℕ) (es : List Extent) (old new : List Cell) → HasChainWords blocks es new → ((i : ℕ) → IsOutside blocks i → cell new i ≡ fenced (cell old i))
+-- words of one candidate have one again
+pub keeps : (blocks : List ℕ) (es : List Extent) (old new : List Cell) → HasChainWords blocks es new → ((i : ℕ) → IsOutside blocks i → Settles (cell old i) (cell new i))
     → KeepsSingle old new
 keeps blocks es old new words others i single = ⊎_elim
     (λ (found : (k : ℕ) × (k < length blocks) × (block_at blocks k ≡ i / 512)). rw (words found.0 i found.1 (sym found.2)) refl)
-    (λ (none : (k : ℕ) → k < length blocks → block_at blocks k ≢ i / 512). rw (others i none) (single-fenced (cell old i) single))
+    (λ (none : (k : ℕ) → k < length blocks → block_at blocks k ≢ i / 512). rw (settled-single (cell old i) (cell new i) (others i none) single) refl)
     (find_block blocks (i / 512))
 
 -- each image has the chain

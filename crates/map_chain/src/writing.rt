@@ -2,7 +2,7 @@
 ghost use Rattle.std.specs.Prelude.{◌≡◌, ◌≢◌, ◌+◌, ◌*◌, ◌/◌, ◌%◌, ◌<◌, ◌≤◌, ℕ, true, false, length};
 ghost use Rattle.image_rules.specs.Chains.{chain_word as word_of_block, SpellsChain};
 ghost use Rattle.map_chain.specs.Placed.{block_at, part_at, AreDistinct, AreInDevice, AreSingle, IsOutside};
-ghost use Rattle.map_chain.specs.Writes.{MayWrite, SameOutside, IsWritten};
+ghost use Rattle.map_chain.specs.Writes.{HasChainWords, MayWrite, SameOutside, IsWritten};
 ghost use Rattle.pm_words.specs.declared.Cell.TheVariants.{Single};
 ghost use Rattle.pm_words.specs.Cells.{cell, is_single, fenced, Settles};
 ghost use Rattle.pm_words.specs.Frames.{SameLent, KeepsSingle, LineIsSingle};
@@ -55,7 +55,7 @@ fn write_block(pm: &mut Pm, power: &mut Power, block: u32, next: u32, extents: &
     }
 }
 
-// Stores and flushes the blocks of the chain of these extents.
+// Makes the chain of these extents durable in the blocks.
 fn write_blocks(pm: &mut Pm, power: &mut Power, extents: &[Extent], blocks: &[u32])
     requires room { 255 * length blocks.now < length extents.now + 255 }
     requires distinct { AreDistinct blocks.now }
@@ -63,17 +63,15 @@ fn write_blocks(pm: &mut Pm, power: &mut Power, extents: &[Extent], blocks: &[u3
     requires single { AreSingle blocks.now pm.old }
     ensures size { length pm.new ≡ length pm.old }
     ensures lent { SameLent pm.old pm.new }
-    ensures steps { Steps (576 * length blocks.now) power.old power.new }
-    ensures others { (i : ℕ) → IsOutside blocks.now i → cell pm.new i ≡ cell pm.old i }
-    ensures done { is_on power.new ≡ true
-        → (k i : ℕ) → k < length blocks.now → i / 512 ≡ block_at blocks.now k
-        → fenced (cell pm.new i) ≡ Single
-        (word_of_block (block_at blocks.now (k + 1)) (part_at extents.now k) (i % 512)) }
+    ensures steps { Steps (576 * length blocks.now + 1) power.old power.new }
+    ensures others { (i : ℕ) → IsOutside blocks.now i → Settles (cell pm.old i) (cell pm.new i) }
+    ensures done { is_on power.new ≡ true → HasChainWords blocks.now extents.now pm.new }
 {
     for (k, block) in blocks.iter().enumerate() {
         let part = part_of(extents, k);
         write_block(pm, power, *block, next_in(blocks, k), part);
     }
+    pm.fence(power);
 }
 
 /// Writes the chain of a map into the blocks, in their order, and makes it durable, in at most 577 steps
@@ -101,5 +99,4 @@ pub fn write(pm: &mut Pm, power: &mut Power, map: &ExtentMap, blocks: &[u32])
         return;
     }
     write_blocks(pm, power, map.extents(), blocks);
-    pm.fence(power);
 }

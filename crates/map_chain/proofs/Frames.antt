@@ -9,9 +9,11 @@ use Rattle.pm_words.specs.Images.{IsImage, Follows}
 use Rattle.pm_words.specs.Words.{Words}
 use Rattle.extent_map.specs.declared.extents.Extent.{Extent}
 use Rattle.image_rules.specs.Chains.{chain_word, SpellsChain}
-use Rattle.map_chain.specs.ChainLaws.{spells-stands}
+use Rattle.map_chain.specs.ChainLaws.{spells-stands, reads_back}
 use Rattle.map_chain.specs.Placed.{block_at, part_at, AreSingle, IsOutside}
-use Rattle.map_chain.specs.Writes.{HasChainWords, SameOutside, IsWritten}
+use Rattle.map_chain.specs.Reads.{FitHalves}
+use Rattle.extent_map.specs.Extents.{IsCanonical}
+use Rattle.map_chain.specs.Writes.{HasChainWords, MayWrite, SameOutside, IsWritten}
 
 -- one of the blocks is b, or none is
 find_block : (blocks : List ℕ) (b : ℕ) → ((k : ℕ) × (k < length blocks) × (block_at blocks k ≡ b)) ⊎ ((k : ℕ) → k < length blocks → block_at blocks k ≢ b)
@@ -86,8 +88,14 @@ spelled blocks es new image words room is = spells-stands image blocks es (recor
 })
 
 -- each image has the chain, and is as one before outside its blocks
-pub written : (blocks : List ℕ) (es : List Extent) (old new : List Cell) → AreSingle blocks old → ((i : ℕ) → IsOutside blocks i → Settles (cell old i) (cell new i))
-    → HasChainWords blocks es new → length es ≤ 255 * length blocks → Follows (IsWritten es blocks) old new
-written blocks es old new single others words room image is =
-    let same = follows blocks old new single others image is in
-    (same.0, same.1, record { chain = spelled blocks es new image words room is; others = same.2 })
+pub written : (blocks : List ℕ) (es : List Extent) (old new : List Cell) → MayWrite es blocks old → FitHalves blocks → IsCanonical es
+    → ((i : ℕ) → IsOutside blocks i → Settles (cell old i) (cell new i)) → HasChainWords blocks es new → Follows (IsWritten (length old) es blocks) old new
+written blocks es old new may small canonical others words image is =
+    let same = follows blocks old new may.single others image is in (
+      same.0,
+      same.1,
+      record {
+        chain = reads_back image (length old) blocks es may.count small may.in_device canonical (spelled blocks es new image words (omega (arith, may.count)) is);
+        others = same.2;
+      },
+    )

@@ -1,4 +1,5 @@
 pub mod ChainLaws
+pub mod Listed
 pub mod Placed
 pub mod Reads
 pub mod RuleLaws

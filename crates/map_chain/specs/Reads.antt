@@ -1,11 +1,11 @@
 -- What stands as a chain in the words of a device.
-use Rattle.std.specs.Prelude.{◌≡◌, ℕ, ◌+◌, ◌*◌, ◌/◌, ◌%◌, ◌^◌, ◌<◌, List, length}
+use Rattle.std.specs.Prelude.{◌≡◌, ℕ, ◌^◌, ◌<◌, List, length}
 use Rattle.pm_words.specs.Words.{Words}
 use Rattle.disk_places.specs.Places.{chains_for}
 use Rattle.extent_map.specs.declared.extents.Extent.{Extent}
 use Rattle.extent_map.specs.Extents.{IsCanonical}
 use Rattle.image_rules.specs.Chains.{SpellsChain, blocks_from, first_or_zero}
-use Rattle.map_chain.specs.Placed.{extent_at, block_at, AreInDevice}
+use Rattle.map_chain.specs.Placed.{block_at, AreInDevice}
 
 -- The blocks spell a map of so many extents, the one spelling of it, with all their other words zero.
 pub record IsMapIn (f : Words) (blocks : List ℕ) (count : ℕ) (es : List Extent) : Type 0 where
@@ -27,21 +27,6 @@ HasNoMap f blocks count = (es : List Extent) → ¬ IsMapIn f blocks count es
 -- no map of so many extents stands in the blocks from `root` on
 abbrev pub HasNoChain : Words → ℕ → ℕ → ℕ → Type 0
 HasNoChain f size root count = (blocks : List ℕ) (es : List Extent) → ¬ IsChain f size root count blocks es
-
--- the words of extent k of a chain
-abbrev pub first_word : List ℕ → ℕ → ℕ
-first_word blocks k = 512 * block_at blocks (k / 255) + (2 + 2 * (k % 255))
-
-abbrev pub second_word : List ℕ → ℕ → ℕ
-second_word blocks k = 512 * block_at blocks (k / 255) + (3 + 2 * (k % 255))
-
--- what they say of it, as far as it fits an extent
-abbrev pub listed_at : Words → List ℕ → ℕ → Extent
-listed_at f blocks k =
-    record { file = f (first_word blocks k) % 2 ^ 32; disk = f (first_word blocks k) / 2 ^ 32; count = f (second_word blocks k) % 2 ^ 32 }
-
-abbrev pub AreListed : Words → List ℕ → List Extent → Type 0
-AreListed f blocks es = (k : ℕ) → k < length es → extent_at es k ≡ listed_at f blocks k
 
 -- each block number fits half a word
 abbrev pub FitHalves : List ℕ → Type 0

@@ -6,7 +6,8 @@ use Rattle.pm_words.specs.Cells.{cell}
 use Rattle.pm_words.specs.Words.{Words}
 use Rattle.disk_places.specs.Places.{chains_for}
 use Rattle.extent_map.specs.declared.extents.Extent.{Extent}
-use Rattle.image_rules.specs.Chains.{chain_word, SpellsChain}
+use Rattle.image_rules.specs.Chains.{chain_word, first_or_zero}
+use Rattle.map_chain.specs.Reads.{IsChain}
 use Rattle.map_chain.specs.Placed.{block_at, part_at, AreDistinct, AreInDevice, AreSingle, IsOutside}
 
 -- As many blocks as the extents take, no two the same, all in the device, and each of their words has one candidate.
@@ -25,7 +26,8 @@ HasChainWords blocks es d =
 abbrev pub SameOutside : List ℕ → Words → Words → Type 0
 SameOutside blocks before image = (i : ℕ) → IsOutside blocks i → image i ≡ before i
 
--- an image after a chain was written, beside the image before
-pub record IsWritten (es : List Extent) (blocks : List ℕ) (before image : Words) : Type 0 where
-  pub chain : SpellsChain image blocks es
+-- An image after a chain was written, beside the image before: from its first block on a read finds the map, and the
+-- blocks.
+pub record IsWritten (size : ℕ) (es : List Extent) (blocks : List ℕ) (before image : Words) : Type 0 where
+  pub chain : IsChain image size (first_or_zero blocks) (length es) blocks es
   pub others : SameOutside blocks before image

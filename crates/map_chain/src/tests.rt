@@ -1,5 +1,4 @@
 ghost use Rattle.std.specs.Prelude.{◌≡◌, ◌+◌, ◌*◌, ◌<◌, ◌≤◌, length, vec_len, IfOk};
-ghost use Rattle.map_chain.specs.Writes.{MayWrite};
 ghost use Rattle.pm_words.specs.Cells.{AllHome, AllSingle};
 
 use super::{blocks_for, read, write};

@@ -91,8 +91,9 @@ pub fn write(pm: &mut Pm, power: &mut Power, map: &ExtentMap, blocks: &[u32])
     ensures each_image { Follows (SameOutside blocks.now) pm.old pm.new }
     ensures others { (i : ℕ) → IsOutside blocks.now i → Settles (cell pm.old i) (cell pm.new i) }
 
-    // With power left, each image has the chain, and it is durable.
-    ensures durable { is_on power.new ≡ true → Follows (IsWritten map.now blocks.now) pm.old pm.new }
+    // With power left, the chain stands in each image, as a read finds it, and it is durable.
+    ensures durable { is_on power.new ≡ true
+        → Follows (IsWritten (length pm.old) map.now blocks.now) pm.old pm.new }
     ensures keeps { is_on power.new ≡ true → KeepsSingle pm.old pm.new }
 {
     if !power.on() {

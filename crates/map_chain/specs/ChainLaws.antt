@@ -53,14 +53,10 @@ extent_word-past (e ∷ es) zero past = absurd (omega arith)
 extent_word-past (e ∷ es) (suc zero) past = absurd (omega arith)
 extent_word-past (e ∷ es) (suc (suc j)) past = extent_word-past es j (omega arith)
 
--- word 0 of a block has the next block and the number of extents, word 1 nothing
+-- word 0 of a block has the next block and the number of extents
 pub chain_word-head : (next : ℕ) (es : List Extent) → chain_word next es 0 ≡ next + 2 ^ 32 * length es
 unfolding chain_word
 chain_word-head next es = refl
-
-pub chain_word-gap : (next : ℕ) (es : List Extent) → chain_word next es 1 ≡ 0
-unfolding chain_word
-chain_word-gap next es = refl
 
 chain_word-later : (next : ℕ) (es : List Extent) (j : ℕ) → chain_word next es (2 + j) ≡ extent_word es j
 unfolding chain_word
@@ -261,6 +257,28 @@ chain-distinct f size root count blocks es chain =
 pub chain-map : (f : Words) (size root count : ℕ) (blocks : List ℕ) (es : List Extent) → root < 2 ^ 32 → IsChain f size root count blocks es → flat_map (extents_in f) blocks ≡ es
 chain-map f size root count blocks es small chain =
     spelled-map f blocks es (chain-fits f size root count blocks es small chain) (canonical-fits es chain.map.canonical) chain.map.spelled
+
+blocks_from-same : (f g : Words) (root n : ℕ) → ((k : ℕ) → k < n → g (512 * block_at (blocks_from f root n) k) ≡ f (512 * block_at (blocks_from f root n) k))
+    → blocks_from g root n ≡ blocks_from f root n
+unfolding blocks_from
+blocks_from-same f g root zero same = refl
+blocks_from-same f g root (suc n) same =
+    let next : next_block g root ≡ next_block f root = ap (λ w. w % 2 ^ 32) (same 0 (omega arith)) in
+    ap (λ rest. root ∷ rest) (ap (λ b. blocks_from g b n) next ∙ blocks_from-same f g (next_block f root) n (λ k below. same (suc k) (omega arith)))
+
+-- words that agree in the blocks of a chain have the same chain
+pub IsChain-same : (f g : Words) (size root count : ℕ) (blocks : List ℕ) (es : List Extent)
+    → ((k j : ℕ) → k < length blocks → j < 512 → g (512 * block_at blocks k + j) ≡ f (512 * block_at blocks k + j))
+    → IsChain f size root count blocks es → IsChain g size root count blocks es
+IsChain-same f g size root count blocks es same chain =
+    let all : length blocks ≡ chains_for count = chain-count f size root count blocks es chain in
+    let heads : (k : ℕ) → k < chains_for count → g (512 * block_at blocks k) ≡ f (512 * block_at blocks k) =
+    λ k below. ap g (sym (add-zero (512 * block_at blocks k))) ∙ same k 0 (omega arith) (lit< tt) ∙ ap f (add-zero (512 * block_at blocks k)) in
+    record {
+      linked = chain.linked ∙ sym (blocks_from-same f g root (chains_for count) (rw chain.linked at heads));
+      in_device = chain.in_device;
+      map = record { spelled = SpellsChain-same f g blocks es same chain.map.spelled; counted = chain.map.counted; canonical = chain.map.canonical };
+    }
 
 pub reads_back : ReadsBack
 reads_back f size blocks es count small in_device canonical spelled = record {

@@ -18,6 +18,7 @@ pub record IsOfWords (v : Volume) (f : Words) (ino : ℕ) : Type 0 where
   pub chain_is : chain v ino ≡ chain_of f (inode v ino)
   pub map_is : extents v ino ≡ map_of f (inode v ino)
 
+-- the volume of words has for each of its inodes what they have
 pub volume-of_words : (g : Geometry) (f : Words) (ino : ℕ) → ino < g.inodes → IsOfWords (volume g f) f ino
 unfolding volume
 volume-of_words g f ino within =

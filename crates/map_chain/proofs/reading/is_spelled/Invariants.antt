@@ -1,0 +1,10 @@
+use Rattle.std.proofs.Common.{◌≡◌, ◌+◌, ◌*◌, ◌<◌, ℕ}
+use Rattle.image_rules.specs.Chains.{chain_word}
+use Rattle.map_chain.specs.Placed.{block_at, part_at}
+use Rattle.pm_words.specs.Images.{words_of}
+use Rattle.map_chain.proofs.reading.is_spelled.Given as goal
+
+-- the blocks before block k are right
+abbrev pub invariant-loop-k : goal.invariant-loop-k
+invariant-loop-k l =
+    (m j : ℕ) → m < l.k → j < 512 → words_of l.pm (512 * block_at l.blocks m + j) ≡ chain_word (block_at l.blocks (m + 1)) (part_at l.extents m) j

@@ -1,0 +1,13 @@
+use Rattle.std.proofs.Common.{◌≡◌, ◌++◌, ◌-◌, length}
+use Rattle.image_rules.specs.Chains.{blocks_from}
+use Rattle.map_chain.specs.Placed.{AreInDevice}
+use Rattle.pm_words.specs.Images.{words_of}
+use Rattle.map_chain.proofs.reading.linked_blocks.Given as goal
+
+-- the blocks so far, and those that come from `block` on
+abbrev pub invariant-loop-place : goal.invariant-loop-place
+invariant-loop-place l = record {
+  count : length l.blocks.items ≡ l._place;
+  linked : blocks_from (words_of l.pm) l.root l.count ≡ l.blocks.items ++ blocks_from (words_of l.pm) l.block (l.count - l._place);
+  in_device : AreInDevice (length l.pm) l.blocks.items;
+}

@@ -1,0 +1,18 @@
+use Rattle.std.proofs.Common.{◌≡◌, ◌≢◌, ◌+◌, ◌*◌, ◌/◌, ◌%◌, ◌<◌, ◌≤◌, ℕ, true, false, length}
+use Rattle.image_rules.specs.Chains.{chain_word}
+use Rattle.pm_words.specs.declared.Cell.TheVariants.{Single}
+use Rattle.pm_words.specs.Cells.{cell, is_lent, flushed, fenced}
+use Rattle.pm_words.specs.Powers.{is_on, Steps}
+use Rattle.map_chain.proofs.writing.write_line.Given as goal
+
+-- the words before k are stored, the others are as they were
+abbrev pub invariant-loop-k : goal.invariant-loop-k
+invariant-loop-k l = record {
+  size : length l.pm ≡ length l.fn.pm;
+  steps : Steps l.k l.fn.power l.power;
+  others : (i : ℕ) → i / 8 ≢ 64 * l.block + l.line → cell l.pm i ≡ cell l.fn.pm i;
+  later : (i : ℕ) → i / 8 ≡ 64 * l.block + l.line → l.k ≤ i % 8 → cell l.pm i ≡ cell l.fn.pm i;
+  lent : (i : ℕ) → is_lent (cell l.pm i) ≡ is_lent (cell l.fn.pm i);
+  home : (i : ℕ) → i / 8 ≡ 64 * l.block + l.line → is_lent (cell l.pm i) ≡ false;
+  done : is_on l.power ≡ true → (i : ℕ) → i / 8 ≡ 64 * l.block + l.line → i % 8 < l.k → fenced (flushed (cell l.pm i)) ≡ Single (chain_word l.next l.extents (i % 512));
+}

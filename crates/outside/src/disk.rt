@@ -1,6 +1,7 @@
 //! The real files and the real output. They tell no contents, and count their failures.
-ghost use Rattle.std.specs.Prelude.{◌≡◌, ◌≤◌, ◌<◌, ℕ, List, Option, None, OnOk, IfOk, IfSome, IsErrOf};
+ghost use Rattle.std.specs.Prelude.{◌≡◌, ◌≤◌, ◌<◌, ℕ, List, Option, None, OnOk, OnErr, IfOk, IfSome, IsErrOf};
 ghost use Rattle.std.specs.Io.KnownBytes.{Appends};
+ghost use Rattle.outside.specs.Outside.{Rose, Takes, TakesFront};
 
 use crate::faults::{FileFault, Files, Sink, SinkFault};
 use std::alloc::Global;
@@ -77,6 +78,14 @@ fn write_whole<W: Write>(writer: &mut W, bytes: &[u8]) -> io::Result<()>
     Err(io::Error::from(ErrorKind::WriteZero))
 }
 
+/// Writes all of the bytes and flushes.
+fn write_out<W: Write>(writer: &mut W, bytes: &[u8]) -> io::Result<()>
+    ensures { OnOk result (Appends (W.contents writer.old) (W.contents writer.new) bytes.now) }
+{
+    write_whole(writer, bytes)?;
+    writer.flush()
+}
+
 /// Opens a file and reads it.
 fn read_file<R: rt::Files>(files: &R, alloc: Global, name: &str) -> Result<Vec<u8>, FileFault> {
     match fs::open(files, name) {
@@ -97,7 +106,10 @@ fn write_file<R: rt::Files>(files: &R, name: &str, bytes: &[u8]) -> io::Result<(
 
 impl<R: rt::Files + Drop> DiskFiles<R> {
     /// The files that the runtime reaches.
-    pub fn new(files: R) -> DiskFiles<R> {
+    pub fn new(files: R) -> DiskFiles<R>
+        ensures faults { result.faults ≡ 0 }
+        ensures misses { result.misses ≡ 0 }
+    {
         DiskFiles {
             files,
             faults: 0,
@@ -139,7 +151,10 @@ impl<R: rt::Files + Drop> Files for DiskFiles<R> {
 
 impl<W: Write + Drop> OutSink<W> {
     /// A sink that writes to a writer.
-    pub fn new(writer: W) -> OutSink<W> {
+    pub fn new(writer: W) -> OutSink<W>
+        ensures writer { result.writer ≡ writer }
+        ensures faults { result.faults ≡ 0 }
+    {
         OutSink { writer, faults: 0 }
     }
 }
@@ -149,8 +164,17 @@ impl<W: Write + Drop> Sink for OutSink<W> {
 
     ghost faults = { λ s. s.faults };
 
-    fn put(&mut self, bytes: &[u8]) -> Result<(), SinkFault> {
-        match write_whole(&mut self.writer, bytes).and_then(|()| self.writer.flush()) {
+    fn put(&mut self, bytes: &[u8]) -> Result<(), SinkFault>
+        ensures taken { OnOk result (Takes None None bytes.now) }
+        ensures front { OnErr result (TakesFront None None bytes.now) }
+        ensures faults { self.old.faults ≤ self.new.faults }
+        ensures failed { IsErrOf result SinkFault.Failed → Rose self.old.faults self.new.faults }
+
+        // The writer has taken all of the bytes, where it tells what it holds.
+        ensures written { OnOk result (Appends (W.contents self.old.writer) (W.contents self.new.writer) bytes.now) }
+        ensures takes_no_memory { IsErrOf result SinkFault.NoMemory → ⊥ }
+    {
+        match write_out(&mut self.writer, bytes) {
             Ok(()) => Ok(()),
             Err(_) => {
                 self.faults = self.faults.saturating_add(1);

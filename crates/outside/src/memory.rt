@@ -100,7 +100,21 @@ impl Files for MemFiles {
 
     ghost misses = { λ m. m.misses };
 
-    fn read(&mut self, alloc: Global, name: &str) -> Result<Vec<u8>, FileFault> {
+    fn read(&mut self, alloc: Global, name: &str) -> Result<Vec<u8>, FileFault>
+        ensures bytes { IfOk result (λ bytes. AreOfFile (Some self.old.files) name.now bytes.items) }
+        ensures told { Some self.new.files ≡ Some self.old.files }
+        ensures faults { self.old.faults ≤ self.new.faults }
+        ensures misses { self.old.misses ≤ self.new.misses }
+        ensures failed { IsErrOf result FileFault.Failed → Rose self.old.faults self.new.faults }
+        ensures missing { IsErrOf result FileFault.Missing → Rose self.old.misses self.new.misses }
+        ensures absent { IsErrOf result FileFault.Missing → IsAbsent (Some self.old.files) name.now }
+        ensures missed { self.old.misses < self.new.misses → IsAbsent (Some self.old.files) name.now }
+
+        // Just the listed calls fail.
+        ensures listed { IsErrOf result FileFault.Failed ↔ Contains self.old.failing self.old.calls }
+        ensures list { self.new.failing ≡ self.old.failing }
+        ensures next { self.new.calls ≡ counted self.old.calls }
+    {
         if fails_now(&mut self.calls) {
             return Err(FileFault::Failed);
         }
@@ -113,7 +127,19 @@ impl Files for MemFiles {
         }
     }
 
-    fn replace(&mut self, name: &str, bytes: &[u8]) -> Result<(), FileFault> {
+    fn replace(&mut self, name: &str, bytes: &[u8]) -> Result<(), FileFault>
+        ensures replaced { OnOk result (IsReplaced (Some self.old.files) (Some self.new.files) name.now bytes.now) }
+        ensures kept { OnErr result (Some self.new.files ≡ Some self.old.files) }
+        ensures faults { self.old.faults ≤ self.new.faults }
+        ensures misses { self.new.misses ≡ self.old.misses }
+        ensures failed { IsErrOf result FileFault.Failed → Rose self.old.faults self.new.faults }
+        ensures never_missing { IsErrOf result FileFault.Missing → ⊥ }
+
+        // Just the listed calls fail.
+        ensures listed { IsErrOf result FileFault.Failed ↔ Contains self.old.failing self.old.calls }
+        ensures list { self.new.failing ≡ self.old.failing }
+        ensures next { self.new.calls ≡ counted self.old.calls }
+    {
         if fails_now(&mut self.calls) {
             return Err(FileFault::Failed);
         }
@@ -168,7 +194,17 @@ impl Sink for MemSink {
 
     ghost faults = { λ m. m.faults };
 
-    fn put(&mut self, bytes: &[u8]) -> Result<(), SinkFault> {
+    fn put(&mut self, bytes: &[u8]) -> Result<(), SinkFault>
+        ensures taken { OnOk result (Takes (Some self.old.taken) (Some self.new.taken) bytes.now) }
+        ensures front { OnErr result (TakesFront (Some self.old.taken) (Some self.new.taken) bytes.now) }
+        ensures faults { self.old.faults ≤ self.new.faults }
+        ensures failed { IsErrOf result SinkFault.Failed → Rose self.old.faults self.new.faults }
+
+        // Just the listed puts fail.
+        ensures listed { IsErrOf result SinkFault.Failed ↔ Contains self.old.failing self.old.calls }
+        ensures list { self.new.failing ≡ self.old.failing }
+        ensures next { self.new.calls ≡ counted self.old.calls }
+    {
         if fails_now(&mut self.calls) {
             return Err(SinkFault::Failed);
         }

@@ -1,13 +1,14 @@
 -- Values worked out by hand, as computations of the definitions.
-use Rattle.std.proofs.Common.{◌≡◌, [], ◌∷◌, ◌++◌, refl}
-use Rattle.std.specs.Prelude.{Some, None, true}
+use Rattle.std.proofs.Common.{◌≡◌, ◌+◌, ◌^◌, [], ◌∷◌, ◌++◌, refl}
+use Rattle.std.specs.Prelude.{Some, None, true, false, replicate}
 use Rattle.disk_places.specs.Places.{Geometry, first_data, data_blocks, reserve, inode_line, name_line, log_line}
 use Rattle.disk_places.specs.Superblock.{superblock, has_magic, has_version, has_numbers}
 use Rattle.disk_places.specs.Fields.{zeros}
 use Rattle.disk_lines.specs.declared.Draft.{Draft}
-use Rattle.disk_lines.specs.declared.Kind.TheVariants.{Directory}
-use Rattle.disk_lines.specs.Lines.{FreeName, Named, BadName, decode_inode, decode_name}
-use Rattle.disk_lines.specs.Entries.{fnv_1a, fnv_1a_from, entry_body, encode_entry, decode_entry, is_self_valid}
+use Rattle.disk_lines.specs.declared.Inode.{Inode}
+use Rattle.disk_lines.specs.declared.Kind.TheVariants.{Directory, File}
+use Rattle.disk_lines.specs.Lines.{FreeName, Named, BadName, decode_inode, decode_name, is_inode, is_name}
+use Rattle.disk_lines.specs.Entries.{fnv_1a, fnv_1a_from, entry_body, encode_entry, decode_entry, is_draft, is_self_valid}
 
 -- the default image, and a small one
 default_geometry : Geometry
@@ -65,6 +66,25 @@ name_line_of_a : decode_name (zeros 4 ++ (5 ∷ 0 ∷ 0 ∷ 0 ∷ 1 ∷ []) ++ z
 unfolding decode_name
 name_line_of_a = refl
 
+-- no bytes, `.`, `..`, `...`
+dots : is_name [] ∷ is_name (46 ∷ []) ∷ is_name (46 ∷ 46 ∷ []) ∷ is_name (46 ∷ 46 ∷ 46 ∷ []) ∷ [] ≡ false ∷ false ∷ false ∷ true ∷ []
+dots = refl
+
+-- a slash, a blank, byte 127, bytes 33 and 126
+name_bytes : is_name (97 ∷ 47 ∷ []) ∷ is_name (32 ∷ []) ∷ is_name (127 ∷ []) ∷ is_name (33 ∷ 126 ∷ []) ∷ [] ≡ false ∷ false ∷ false ∷ true ∷ []
+name_bytes = refl
+
+name_lengths : is_name (replicate 48 97) ∷ is_name (replicate 49 97) ∷ [] ≡ true ∷ false ∷ []
+name_lengths = refl
+
+-- the greatest size and order of a file, and one more
+a_file : Inode
+a_file = record { kind = File; generation = 1; size = 16777216; applied = 2 ^ 63; root = 9; extents = 1 }
+
+file_ranges : is_inode a_file ∷ is_inode (record a_file { size = 16777217 }) ∷ is_inode (record a_file { applied = 2 ^ 63 + 1 }) ∷ is_inode (record a_file { extents = 0 }) ∷ is_inode (record a_file { root = 0 }) ∷ [] ≡ true ∷ false ∷ false ∷ false ∷ false ∷ []
+unfolding a_file
+file_ranges = refl
+
 -- an entry, read with its sequence number and with another
 an_entry : Draft
 an_entry = record { count = 1; order = 1; ino = 6; generation = 1; file_block = 0; staging = 1; staging_block = 1; staging_generation = 1; size = 1 }
@@ -80,3 +100,24 @@ entry_of_another_lap = refl
 entry_valid_for_itself : is_self_valid (encode_entry an_entry 7) ≡ true
 unfolding an_entry decode_entry encode_entry entry_body fnv_1a_from
 entry_valid_for_itself = refl
+
+-- counts, orders, file blocks, staging files, staging blocks and sizes at the ends of their ranges and past them
+entry_counts : is_draft (record an_entry { count = 0 }) ∷ is_draft (record an_entry { count = 33 }) ∷ is_draft (record an_entry { count = 34 }) ∷ [] ≡ false ∷ true ∷ false ∷ []
+unfolding an_entry
+entry_counts = refl
+
+entry_orders : is_draft (record an_entry { order = 0 }) ∷ is_draft (record an_entry { order = 2 ^ 63 }) ∷ is_draft (record an_entry { order = 2 ^ 63 + 1 }) ∷ [] ≡ false ∷ true ∷ false ∷ []
+unfolding an_entry
+entry_orders = refl
+
+entry_blocks : is_draft (record an_entry { file_block = 4095 }) ∷ is_draft (record an_entry { file_block = 4096 }) ∷ is_draft (record an_entry { staging_block = 63 }) ∷ is_draft (record an_entry { staging_block = 64 }) ∷ [] ≡ true ∷ false ∷ true ∷ false ∷ []
+unfolding an_entry
+entry_blocks = refl
+
+entry_staging : is_draft (record an_entry { staging = 0 }) ∷ is_draft (record an_entry { staging = 4 }) ∷ is_draft (record an_entry { staging = 5 }) ∷ [] ≡ false ∷ true ∷ false ∷ []
+unfolding an_entry
+entry_staging = refl
+
+entry_sizes : is_draft (record an_entry { size = 16777216 }) ∷ is_draft (record an_entry { size = 16777217 }) ∷ [] ≡ true ∷ false ∷ []
+unfolding an_entry
+entry_sizes = refl

@@ -1,6 +1,6 @@
 -- The fresh image: the superblock, the log base 1, inode 0 a directory, inodes 1 to 4 staging files, all of
 -- generation 0; all else is zero. A directory that is made takes an inode line and a name line.
-use Rattle.std.specs.Prelude.{ℕ, ◌+◌, ◌++◌, List}
+use Rattle.std.specs.Prelude.{ℕ, ◌++◌, List}
 use Rattle.std.specs.Int.{to_le_bytes, w64}
 use Rattle.pm_words.specs.Words.{Words, with_line}
 use Rattle.disk_places.specs.Fields.{zeros}

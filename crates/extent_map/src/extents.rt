@@ -1,3 +1,4 @@
+//! Extents, and when two of them could be one.
 ghost use Rattle.std.specs.Prelude.{◌≡◌, ℕ, ◌+◌, ◌-◌, ◌<◌, ◌≤◌, ◌^◌, ◌↔◌, IsTrue, IfSome, IfNone, min, max};
 ghost use Rattle.extent_map.specs.Extents.{IsExtent, Continues, ComesAfter};
 ghost use Rattle.extent_map.specs.Pieces.{IsPiece};

@@ -1,3 +1,4 @@
+//! Numbers drawn from a seed.
 ghost use Rattle.std.specs.Prelude.{◌<◌};
 
 use rand_core::{Rng, SeedableRng};

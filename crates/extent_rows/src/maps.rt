@@ -1,3 +1,4 @@
+//! Changes of a map, beside the same changes of an array.
 use crate::draws::Draws;
 use crate::plain::{BLOCKS, Plain, run};
 use extent_map::ExtentMap;

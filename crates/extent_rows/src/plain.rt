@@ -1,3 +1,4 @@
+//! A map as a plain array of 64 file blocks.
 ghost use Rattle.std.specs.Prelude.{◌≡◌, ◌+◌, ◌<◌, ◌≤◌, ◌^◌, length};
 
 use crate::draws::Draws;

@@ -1,3 +1,4 @@
+//! Changes of a pool of free blocks, beside an array of marks.
 ghost use Rattle.std.specs.Prelude.{◌≡◌, length};
 
 use crate::draws::Draws;

@@ -1,3 +1,4 @@
+//! Moves from one map to another, beside moves between arrays.
 use crate::draws::Draws;
 use crate::plain::{BLOCKS, Plain, run};
 use extent_map::ExtentMap;

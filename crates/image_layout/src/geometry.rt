@@ -1,3 +1,4 @@
+//! The numbers of an image, and the places of its lines and regions.
 ghost use Rattle.std.specs.Prelude.{◌≡◌, ◌<◌, ◌≤◌, ◌↔◌, IsSome, IfSome};
 ghost use Rattle.disk_places.specs.PlaceLaws.{AreApart};
 ghost use Rattle.disk_places.specs.Places.{Geometry, IsGeometry, blocks_of_lines, data_blocks, first_data, name_block, log_block, reserve, nodes, state_line, record_line, inode_line, name_line, log_line};

@@ -1,3 +1,4 @@
+//! The superblock as 64 bytes, and back.
 ghost use Rattle.std.specs.Prelude.{◌≡◌, ◌↔◌, true, false, IfOk, IsOk, IsErrOf};
 ghost use Rattle.disk_places.specs.Places.{Geometry, IsGeometry};
 ghost use Rattle.disk_places.specs.SuperLaws.{IsSuperblockOf};

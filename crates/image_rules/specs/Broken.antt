@@ -1,6 +1,6 @@
 -- The first rule that an image breaks, with its lowest place. Each constructor says that all rules before it hold,
 -- that it holds at each lower place, and that it fails at this one.
-use Rattle.std.specs.Prelude.{◌≡◌, ℕ, ◌<◌, ◌≤◌, Bool, true}
+use Rattle.std.specs.Prelude.{◌≡◌, ℕ, ◌<◌, true}
 use Rattle.pm_words.specs.Words.{Words}
 use Rattle.disk_places.specs.Places.{is_data_block}
 use Rattle.disk_places.specs.Journal.{journaled}

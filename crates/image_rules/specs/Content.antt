@@ -2,7 +2,7 @@
 -- order, or, without one, that of its inode line. Byte i lies in file block i / 4,096, which is the staging block of
 -- the greatest live entry that covers it, else the block of the file's own extent, else a hole, whose bytes are
 -- zero. Nothing is moved here.
-use Rattle.std.specs.Prelude.{ℕ, ◌+◌, ◌-◌, ◌*◌, ◌/◌, ◌%◌, List, [], ◌∷◌, map, filter, Bool, ◌&&◌, ◌==◌, Option, Some, None, option_and_then}
+use Rattle.std.specs.Prelude.{ℕ, ◌+◌, ◌-◌, ◌*◌, ◌/◌, ◌%◌, List, map, filter, ◌&&◌, ◌==◌, Option, Some, None, option_and_then}
 use Rattle.std.specs.List.{range_with_len}
 use Rattle.pm_words.specs.Words.{Words, byte_of}
 use Rattle.disk_places.specs.Places.{Geometry}

@@ -1,5 +1,5 @@
 -- Honest images: those in which no torn log line passes its check by chance.
-use Rattle.std.specs.Prelude.{◌≡◌, ℕ, ◌+◌, ◌*◌, ◌<◌, Bool, true, false, List}
+use Rattle.std.specs.Prelude.{◌≡◌, ℕ, ◌+◌, ◌*◌, ◌<◌, true, false, List}
 use Rattle.pm_words.specs.declared.Cell.{Cell}
 use Rattle.pm_words.specs.Cells.{cell, has_two, oldest, newest}
 use Rattle.pm_words.specs.Words.{Words, line_bytes}

@@ -1,6 +1,6 @@
 -- The blocks that files hold, and those that nothing names.
-use Rattle.std.specs.Prelude.{ℕ, ◌+◌, ◌*◌, ◌/◌, ◌<◌, ◌≤◌, List, [], ◌∷◌, length, Bool, true, false, ◌&&◌, nat_lt, count_by, sum_by, cond}
-use Rattle.std.specs.List.{range_with_len, list_any}
+use Rattle.std.specs.Prelude.{ℕ, ◌+◌, ◌/◌, List, [], ◌∷◌, length, Bool, true, false, ◌&&◌, nat_lt, count_by, sum_by, cond}
+use Rattle.std.specs.List.{range_with_len}
 use Rattle.disk_places.specs.Places.{first_data, data_blocks, chains_for}
 use Rattle.disk_lines.specs.declared.Draft.{Draft}
 use Rattle.disk_lines.specs.Names.{names_of}

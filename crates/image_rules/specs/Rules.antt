@@ -1,20 +1,20 @@
 -- The rules of a checked image, each with the places at which it may be broken. An image is `length` bytes, and its
 -- words; lines are taken as the pending journal makes them. The rules are tried in their printed order: 1, 2, 3, 4,
 -- 11, 5, 6, 7, 8, 9, 10, 12, 13; of one rule the lowest place is named.
-use Rattle.std.specs.Prelude.{◌≡◌, ◌≢◌, ◌⊎◌, ℕ, ◌+◌, ◌-◌, ◌*◌, ◌^◌, ◌<◌, ◌≤◌, List, [], ◌∷◌, length, map, All, Bool, true, false, Option, Some, None, IsSome, slice_index, nat_lt}
+use Rattle.std.specs.Prelude.{◌≡◌, ◌≢◌, ◌⊎◌, ℕ, ◌+◌, ◌*◌, ◌^◌, ◌<◌, ◌≤◌, length, All, true, Option, Some, None, IsSome}
 use Rattle.pm_words.specs.Words.{Words, line_bytes}
 use Rattle.disk_places.specs.Places.{Geometry, first_data, data_blocks, reserve, commit_word, base_word, log_line, is_data_block, is_journaled_line}
 use Rattle.disk_places.specs.Journal.{committed, record_target, journaled}
 use Rattle.disk_places.specs.Superblock.{has_magic, has_version, has_numbers, geometry_at}
 use Rattle.extent_map.specs.declared.extents.Extent.{Extent}
-use Rattle.extent_map.specs.Extents.{disk_at, is_within, IsCanonical}
+use Rattle.extent_map.specs.Extents.{disk_at, IsCanonical}
 use Rattle.disk_lines.specs.declared.Draft.{Draft}
 use Rattle.disk_lines.specs.declared.Inode.{Inode}
 use Rattle.disk_lines.specs.declared.Kind.{Kind}
 use Rattle.disk_lines.specs.declared.Kind.TheVariants.{Free, Directory, File, Staging}
 use Rattle.disk_lines.specs.Entries.{is_self_valid, held_seq}
 use Rattle.disk_lines.specs.Lines.{NameRow, NameSlot, FreeName, Named, BadName}
-use Rattle.disk_lines.specs.Names.{Rows, row, names_of, parent_of, up}
+use Rattle.disk_lines.specs.Names.{row, names_of, up}
 use Rattle.image_rules.specs.Chains.{SpellsChain}
 use Rattle.image_rules.specs.Volume.{Volume, volume, inode_at, name_at, inode, chain, extents}
 use Rattle.image_rules.specs.Uses.{owners}

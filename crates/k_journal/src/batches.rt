@@ -1,3 +1,4 @@
+//! Batches: the lines that one commit sets, each with its new bytes.
 ghost use Rattle.std.specs.Prelude.{◌≡◌, ◌+◌, ◌<◌, ◌≤◌, ◌==◌, ℕ, Bool, true, [], length, IsOk, OnOk, OnErr, IfOk, IfErr, MatchOption};
 ghost use Rattle.k_journal.specs.Batch.{with_batch, with_line_set, AllLines, HasLine, IsDistinct, IsNew, IsFirstPlace};
 ghost use Rattle.pm_words.specs.Words.{Words, with_line};

@@ -1,3 +1,4 @@
+//! Commit: the records, the commit word, the targets, and the commit word again, with a fence behind each.
 ghost use Rattle.std.specs.Prelude.{◌≡◌, ◌⊎◌, ◌+◌, ◌*◌, ◌/◌, ◌<◌, ◌≤◌, ℕ, true, false, [], length};
 ghost use Rattle.disk_places.specs.Journal.{is_journal_word};
 ghost use Rattle.disk_places.specs.Places.{commit_word};

@@ -1,3 +1,5 @@
+//! How commit and recovery end.
+
 /// How a commit ended.
 #[derive(Clone, Copy, Debug, PartialEq, Eq)]
 pub enum Commit {

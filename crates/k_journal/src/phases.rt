@@ -1,4 +1,4 @@
-// The commit word, and the lines of a batch. Each call ends with a fence.
+//! The commit word, and the lines of a batch. Each call ends with a fence.
 ghost use Rattle.std.specs.Prelude.{◌≡◌, ◌≢◌, ◌+◌, ◌*◌, ◌/◌, ◌<◌, ◌≤◌, ℕ, true, length};
 ghost use Rattle.k_journal.specs.Batch.{target, content, IsDistinct, IsNew};
 ghost use Rattle.k_journal.specs.Phases.{IsApart, AreInPlace};

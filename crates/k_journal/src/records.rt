@@ -1,4 +1,4 @@
-// The records of the journal.
+//! The records of the journal.
 ghost use Rattle.std.specs.Prelude.{◌≡◌, ◌≢◌, ◌+◌, ◌*◌, ◌/◌, ◌%◌, ◌<◌, ◌≤◌, ℕ, true, length};
 ghost use Rattle.disk_places.specs.Places.{record_line};
 ghost use Rattle.k_journal.specs.Batch.{target, content};

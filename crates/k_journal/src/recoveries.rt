@@ -1,3 +1,4 @@
+//! Recovery: the committed records are written to their targets, and the commit word is cleared.
 ghost use Rattle.std.specs.Prelude.{◌≡◌, ◌≢◌, ◌+◌, ◌*◌, ◌/◌, ◌%◌, ◌<◌, ◌≤◌, ℕ, true, false, length, MatchOption};
 ghost use Rattle.disk_places.specs.Journal.{is_journal_word, journaled, record_target, record_word, IsSound};
 ghost use Rattle.disk_places.specs.Places.{commit_word, is_journaled_line};

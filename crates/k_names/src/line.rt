@@ -1,3 +1,4 @@
+//! A name line as 64 bytes, and back.
 ghost use Rattle.std.specs.Prelude.{◌≡◌, ◌≤◌, ℕ, List, length, take, drop, slice_index, true, IfOk};
 ghost use Rattle.std.specs.List.{list_all};
 ghost use Rattle.disk_lines.specs.Lines.{NameRow, FreeName, Named, line_name_bytes, is_name_byte, is_dots, is_name, encode_name, is_name_row, decode_name};

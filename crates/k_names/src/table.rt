@@ -1,3 +1,4 @@
+//! The table of the names of an image.
 ghost use Rattle.std.specs.Prelude.{◌≡◌, ◌<◌, ◌≤◌, ◌↔◌, ℕ, List, length, true, false, replicate, slice_set, Some, None, IsTrue, IfSome, IfNone, IfOk, OnOk, OnErr, IsSorted, IsPermutation, count_by};
 ghost use Rattle.disk_places.specs.Fields.{is_same};
 ghost use Rattle.std.specs.Cmp.Lexicographic.{slice_cmp};

@@ -1,4 +1,4 @@
-// The words of a chain's blocks.
+//! The words of a chain's blocks.
 ghost use Rattle.std.specs.Prelude.{◌≡◌, ◌+◌, ◌*◌, ◌/◌, ◌%◌, ◌^◌, ◌<◌, ◌≤◌, length, slice_index};
 ghost use Rattle.disk_places.specs.Places.{chains_for};
 ghost use Rattle.map_chain.specs.Placed.{part_at};

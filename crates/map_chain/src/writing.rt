@@ -1,4 +1,4 @@
-// Writing a chain.
+//! Writing a chain.
 ghost use Rattle.std.specs.Prelude.{◌≡◌, ◌≢◌, ◌+◌, ◌*◌, ◌/◌, ◌%◌, ◌<◌, ◌≤◌, ℕ, true, false, length};
 ghost use Rattle.image_rules.specs.Chains.{chain_word as word_of_block, SpellsChain};
 ghost use Rattle.map_chain.specs.Placed.{block_at, part_at, AreDistinct, AreInDevice, AreSingle, IsOutside};

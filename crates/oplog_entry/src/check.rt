@@ -1,3 +1,4 @@
+//! The check of an entry: FNV-1a with 32 bits.
 ghost use Rattle.std.specs.Prelude.{◌≡◌};
 ghost use Rattle.disk_lines.specs.Entries.{fnv_1a};
 

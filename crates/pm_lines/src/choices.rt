@@ -1,3 +1,4 @@
+//! Which candidate of each word a power loss leaves.
 ghost use Rattle.std.specs.Prelude.{◌≡◌};
 ghost use Rattle.pm_lines.specs.Choices.{takes_newest};
 

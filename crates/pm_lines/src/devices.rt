@@ -1,3 +1,4 @@
+//! The device: its words, and the stores, flushes and fences that change them.
 ghost use Rattle.std.specs.Prelude.{◌≡◌, ◌≢◌, ◌+◌, ◌*◌, ◌/◌, ◌%◌, ◌<◌, ℕ, true, false, length, IfOk, OnErr};
 ghost use Rattle.pm_words.specs.Cells.{cell, is_single, is_lent, newest, fenced, MayHold, AllHome};
 ghost use Rattle.pm_words.specs.Cells.{flushed as flushed_cell};

@@ -1,3 +1,4 @@
+//! A line that was taken out of a device, with its cells.
 ghost use Rattle.std.specs.Prelude.{◌≡◌, ◌<◌, ◌/◌, true};
 ghost use Rattle.pm_words.specs.Cells.{cell, is_single, newest};
 ghost use Rattle.pm_words.specs.Powers.{is_on, stepped, Steps};

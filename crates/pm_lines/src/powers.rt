@@ -1,3 +1,4 @@
+//! Power: for a number of device steps, or always.
 ghost use Rattle.std.specs.Prelude.{◌≡◌};
 ghost use Rattle.pm_words.specs.Powers.{is_on, stepped, Steps};
 

@@ -1,6 +1,9 @@
 //! The program `splitfs`: the real files, the real output and the words of the command line for the top call.
 #![tactic(auto)]
 
+ghost use Rattle.std.specs.Prelude.{◌≡◌};
+ghost use Rattle.split_top.specs.Statuses as meaning;
+
 use outside::{DiskFiles, OutSink};
 use split_top::{Status, exit_number, status_text, top};
 use std::io::Write;
@@ -24,14 +27,22 @@ fn job(rt: &HostRuntime) -> io::Result<Status> {
     Ok(top(rt, rt.alloc(), &words, &mut files, &mut out))
 }
 
-/// Tells the status, and gives its number.
-fn tell(rt: &HostRuntime, status: &Status) -> io::Result<u8> {
+/// Tells the status on standard error.
+fn tell(rt: &HostRuntime, status: &Status) -> io::Result<()> {
     let text = status_text(rt.alloc(), status)?;
-    rt.stderr().write_all(&text)?;
-    Ok(exit_number(status))
+    rt.stderr().write_all(&text)
+}
+
+/// Tells the status, and gives its number, which stays where the text could not be written.
+fn end(rt: &HostRuntime, status: &Status) -> u8
+    ensures { result ≡ meaning.exit_number status.now }
+{
+    let _told = tell(rt, status);
+    exit_number(status)
 }
 
 fn main(rt: HostRuntime) -> ExitCode {
+    // Words that cannot be read are want of memory.
     let status = job(&rt).unwrap_or(Status::NoMemory);
-    ExitCode::from(tell(&rt, &status).unwrap_or(8))
+    ExitCode::from(end(&rt, &status))
 }

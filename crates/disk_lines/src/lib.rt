@@ -3,7 +3,7 @@
 //! The types of what lies in the lines (`Inode`, `Draft`), and the definitions that the layers above cite: how an
 //! inode line, a name line and a log entry are spelled and read, the names of an image as rows with their look-ups,
 //! the fresh image, and laws of all these. No work is done here: the codecs are crates above, and what an image
-//! stands for as a whole is said in `image_rules`.
+//! stands for as a whole is said in `disk_rules`.
 //!
 //! Stands on `pm_words` and `disk_places`.
 #![tactic(auto)]

@@ -4,10 +4,10 @@ use Rattle.std.specs.Option.{SomeIff, IfSome, IfNone}
 use Rattle.pm_words.specs.Words.{Words}
 use Rattle.extent_map.specs.declared.extents.Extent.{Extent}
 use Rattle.extent_map.specs.Extents.{IsCanonical}
-use Rattle.map_chain.specs.ChainLaws.{spells-stands, stands-spelled, listed-map}
-use Rattle.map_chain.specs.Placed.{StandsIn}
-use Rattle.map_chain.specs.Listed.{AreListed}
-use Rattle.map_chain.specs.Reads.{IsMapIn, HasNoMap}
+use Rattle.chain_facts.specs.ChainLaws.{spells-stands, stands-spelled, listed-map}
+use Rattle.disk_rules.specs.Placed.{StandsIn}
+use Rattle.disk_rules.specs.Listed.{AreListed}
+use Rattle.disk_rules.specs.Standing.{IsMapIn, HasNoMap}
 
 -- they do not stand there: no map does
 pub not_spelled : (f : Words) (blocks : List ℕ) (count : ℕ) (listed : List Extent) → length listed ≡ count → AreListed f blocks listed → ¬ StandsIn f blocks listed

@@ -3,9 +3,9 @@ use Rattle.std.proofs.Common.{◌≡◌, ◌+◌, ◌-◌, ◌/◌, ◌<◌, ◌
 use Rattle.std.proofs.lemmas.List.{get_or_at, get_or_append_left, get_or_push, length_push, append-nil}
 use Rattle.std.proofs.lemmas.Bool.{cases_lt}
 use Rattle.pm_words.specs.Words.{Words}
-use Rattle.image_rules.specs.Chains.{next_block, blocks_from}
-use Rattle.map_chain.specs.ChainLaws.{length-blocks_from}
-use Rattle.map_chain.specs.Placed.{block_at, AreInDevice}
+use Rattle.disk_rules.specs.Chains.{next_block, blocks_from}
+use Rattle.chain_facts.specs.ChainLaws.{length-blocks_from}
+use Rattle.disk_rules.specs.Placed.{block_at, AreInDevice}
 
 -- n blocks, the first of them and those behind it
 first_of : (f : Words) (b n m : ℕ) → n ≡ suc m → blocks_from f b n ≡ b ∷ blocks_from f (next_block f b) m

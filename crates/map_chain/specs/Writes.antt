@@ -6,9 +6,9 @@ use Rattle.pm_words.specs.Cells.{cell}
 use Rattle.pm_words.specs.Words.{Words}
 use Rattle.disk_places.specs.Places.{chains_for}
 use Rattle.extent_map.specs.declared.extents.Extent.{Extent}
-use Rattle.image_rules.specs.Chains.{chain_word, first_or_zero}
-use Rattle.map_chain.specs.Reads.{IsChain}
-use Rattle.map_chain.specs.Placed.{block_at, part_at, AreDistinct, AreInDevice, AreSingle, IsOutside}
+use Rattle.disk_rules.specs.Chains.{chain_word, first_or_zero}
+use Rattle.disk_rules.specs.Standing.{IsChain}
+use Rattle.disk_rules.specs.Placed.{block_at, part_at, AreDistinct, AreInDevice, AreSingle, IsOutside}
 
 -- As many blocks as the extents take, no two the same, all in the device, and each of their words has one candidate.
 pub record MayWrite (es : List Extent) (blocks : List ℕ) (d : List Cell) : Type 0 where

@@ -8,13 +8,13 @@
 //! in every image a read from the first block finds the map and these blocks; wherever the power goes,
 //! each image differs from one before at most in words of these blocks. `read` answers a map and its
 //! blocks exactly where a map of so many extents stands there, with all other words zero. That blocks
-//! and extents lie in the data region is for the layer above to test: `specs/RuleLaws.antt` joins a
+//! and extents lie in the data region is for the layer above to test: `chain_facts` joins a
 //! chain that was read to the rule of a checked image.
 //!
-//! It stands on `pm_lines` (the device), `extent_map` (the map) and `image_rules` (the spelling).
+//! It stands on `pm_lines` (the device), `extent_map` (the map) and `disk_rules` (the spelling).
 #![tactic(auto)]
 
-ghost use Rattle.map_chain.specs.Reads.{ReadsBack, HasOneChain};
+ghost use Rattle.disk_rules.specs.Standing.{ReadsBack, HasOneChain};
 
 mod reading;
 #[cfg(test)]

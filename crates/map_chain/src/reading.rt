@@ -4,10 +4,10 @@ ghost use Rattle.std.specs.List.{flat_map};
 ghost use Rattle.std.specs.Option.{IsSomeAnd};
 ghost use Rattle.extent_map.specs.declared.extents.Extent.{Extent};
 ghost use Rattle.disk_places.specs.Places.{chains_for};
-ghost use Rattle.image_rules.specs.Chains.{chain_word as word_of_block, next_block as block_behind, extents_in, blocks_from};
-ghost use Rattle.map_chain.specs.Placed.{block_at, part_at, AreDistinct, AreInDevice, BlockIsHome, AreHome, StandsIn};
-ghost use Rattle.map_chain.specs.Listed.{AreListed};
-ghost use Rattle.map_chain.specs.Reads.{IsMapIn, IsChain, HasNoMap, HasNoChain};
+ghost use Rattle.disk_rules.specs.Chains.{chain_word as word_of_block, next_block as block_behind, extents_in, blocks_from};
+ghost use Rattle.disk_rules.specs.Placed.{block_at, part_at, AreDistinct, AreInDevice, BlockIsHome, AreHome, StandsIn};
+ghost use Rattle.disk_rules.specs.Listed.{AreListed};
+ghost use Rattle.disk_rules.specs.Standing.{IsMapIn, IsChain, HasNoMap, HasNoChain};
 ghost use Rattle.pm_words.specs.Images.{words_of};
 
 use crate::words::{EXTENTS_PER_BLOCK, blocks_for, chain_word, next_in, part_of};

@@ -1,7 +1,7 @@
 //! Writing a chain.
 ghost use Rattle.std.specs.Prelude.{◌≡◌, ◌≢◌, ◌+◌, ◌*◌, ◌/◌, ◌%◌, ◌<◌, ◌≤◌, ℕ, true, false, length};
-ghost use Rattle.image_rules.specs.Chains.{chain_word as word_of_block, SpellsChain};
-ghost use Rattle.map_chain.specs.Placed.{block_at, part_at, AreDistinct, AreInDevice, AreSingle, IsOutside};
+ghost use Rattle.disk_rules.specs.Chains.{chain_word as word_of_block, SpellsChain};
+ghost use Rattle.disk_rules.specs.Placed.{block_at, part_at, AreDistinct, AreInDevice, AreSingle, IsOutside};
 ghost use Rattle.map_chain.specs.Writes.{HasChainWords, MayWrite, SameOutside, IsWritten};
 ghost use Rattle.pm_words.specs.declared.Cell.TheVariants.{Single};
 ghost use Rattle.pm_words.specs.Cells.{cell, is_single, fenced, Settles};

@@ -1,5 +1,5 @@
 use Rattle.std.proofs.Common.{◌≡◌, ◌+◌, ◌*◌, ◌<◌, ℕ}
-use Rattle.image_rules.specs.Chains.{chain_word}
+use Rattle.disk_rules.specs.Chains.{chain_word}
 use Rattle.pm_words.specs.Images.{words_of}
 use Rattle.map_chain.proofs.reading.is_block.Given as goal
 

@@ -1,6 +1,6 @@
 use Rattle.std.proofs.Common.{◌≡◌, ◌+◌, ◌*◌, ◌<◌, ℕ}
-use Rattle.image_rules.specs.Chains.{chain_word}
-use Rattle.map_chain.specs.Placed.{block_at, part_at}
+use Rattle.disk_rules.specs.Chains.{chain_word}
+use Rattle.disk_rules.specs.Placed.{block_at, part_at}
 use Rattle.pm_words.specs.Images.{words_of}
 use Rattle.map_chain.proofs.reading.is_spelled.Given as goal
 

@@ -1,6 +1,6 @@
 use Rattle.std.proofs.Common.{◌≡◌, ◌++◌, ◌-◌, length}
-use Rattle.image_rules.specs.Chains.{blocks_from}
-use Rattle.map_chain.specs.Placed.{AreInDevice}
+use Rattle.disk_rules.specs.Chains.{blocks_from}
+use Rattle.disk_rules.specs.Placed.{AreInDevice}
 use Rattle.pm_words.specs.Images.{words_of}
 use Rattle.map_chain.proofs.reading.linked_blocks.Given as goal
 

@@ -1,5 +1,5 @@
 use Rattle.std.proofs.Common.{◌≡◌, length}
-use Rattle.map_chain.specs.Listed.{AreListed}
+use Rattle.disk_rules.specs.Listed.{AreListed}
 use Rattle.pm_words.specs.Images.{words_of}
 use Rattle.map_chain.proofs.reading.listed_extents.Given as goal
 

@@ -1,5 +1,5 @@
 use Rattle.std.proofs.Common.{◌≡◌, ◌≢◌, ◌+◌, ◌*◌, ◌/◌, ◌%◌, ◌<◌, ◌≤◌, ℕ, true, length}
-use Rattle.image_rules.specs.Chains.{chain_word}
+use Rattle.disk_rules.specs.Chains.{chain_word}
 use Rattle.pm_words.specs.declared.Cell.TheVariants.{Single}
 use Rattle.pm_words.specs.Cells.{cell, is_lent, fenced}
 use Rattle.pm_words.specs.Powers.{is_on, Steps}

@@ -1,6 +1,6 @@
 use Rattle.std.proofs.Common.{◌≡◌, ◌≢◌, ◌+◌, ◌*◌, ◌/◌, ◌%◌, ◌<◌, ℕ, true, length}
-use Rattle.image_rules.specs.Chains.{chain_word}
-use Rattle.map_chain.specs.Placed.{block_at, part_at}
+use Rattle.disk_rules.specs.Chains.{chain_word}
+use Rattle.disk_rules.specs.Placed.{block_at, part_at}
 use Rattle.pm_words.specs.declared.Cell.TheVariants.{Single}
 use Rattle.pm_words.specs.Cells.{cell, is_lent, fenced}
 use Rattle.pm_words.specs.Powers.{is_on, Steps}

@@ -5,8 +5,8 @@ use Rattle.pm_words.specs.Words.{Words}
 use Rattle.disk_places.specs.Places.{is_data_block}
 use Rattle.disk_places.specs.Journal.{journaled}
 use Rattle.disk_lines.specs.Names.{row}
-use Rattle.image_rules.specs.Volume.{Volume, volume, name_at}
-use Rattle.image_rules.specs.Rules.{geometry_of, IsWholeBlocks, HasMagic, HasVersion, HasNumbers, HasTarget, HasState, HasInode, IsNameSlot, HasChain, IsNamedOnce, IsRowPlaced, AreDirectoriesNamed, HasOneName, CanRecover, IsOfNoLater}
+use Rattle.disk_rules.specs.Volume.{Volume, volume, name_at}
+use Rattle.disk_rules.specs.Rules.{geometry_of, IsWholeBlocks, HasMagic, HasVersion, HasNumbers, HasTarget, HasState, HasInode, IsNameSlot, HasChain, IsNamedOnce, IsRowPlaced, AreDirectoriesNamed, HasOneName, CanRecover, IsOfNoLater}
 
 -- P holds at each place below n
 abbrev pub Below : (ℕ → Type 0) → ℕ → Type 0

@@ -9,10 +9,10 @@ use Rattle.pm_words.specs.Words.{Words}
 use Rattle.disk_places.specs.Places.{chains_for}
 use Rattle.extent_map.specs.declared.extents.Extent.{Extent}
 use Rattle.extent_map.specs.Extents.{IsExtent, ComesAfter, IsCanonical}
-use Rattle.image_rules.specs.Chains.{extent_word, chain_word, first_or_zero, SpellsChain, next_block, extent_in, extents_in, blocks_from}
-use Rattle.map_chain.specs.Placed.{no_extent, extent_at, block_at, part_at, StandsIn, AreDistinct}
-use Rattle.map_chain.specs.Listed.{first_word, second_word, listed_at, AreListed}
-use Rattle.map_chain.specs.Reads.{IsMapIn, IsChain, FitHalves, ReadsBack, HasOneChain}
+use Rattle.disk_rules.specs.Chains.{extent_word, chain_word, first_or_zero, SpellsChain, next_block, extent_in, extents_in, blocks_from}
+use Rattle.disk_rules.specs.Placed.{no_extent, extent_at, block_at, part_at, StandsIn, AreDistinct}
+use Rattle.disk_rules.specs.Listed.{first_word, second_word, listed_at, AreListed}
+use Rattle.disk_rules.specs.Standing.{IsMapIn, IsChain, FitHalves, ReadsBack, HasOneChain}
 
 -- two extents with the same numbers are one
 pub same_extent : (e f : Extent) → e.file ≡ f.file → e.disk ≡ f.disk → e.count ≡ f.count → e ≡ f

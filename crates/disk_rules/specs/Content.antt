@@ -12,8 +12,8 @@ use Rattle.disk_lines.specs.declared.Draft.{Draft}
 use Rattle.disk_lines.specs.declared.Kind.{Kind}
 use Rattle.disk_lines.specs.declared.Kind.TheVariants.{Free, Directory, File, Staging}
 use Rattle.disk_lines.specs.Names.{walk}
-use Rattle.image_rules.specs.Volume.{Volume, volume, inode, extents}
-use Rattle.image_rules.specs.Live.{live_entries, latest}
+use Rattle.disk_rules.specs.Volume.{Volume, volume, inode, extents}
+use Rattle.disk_rules.specs.Live.{live_entries, latest}
 
 -- what stands at a path
 pub data Node : Type 0 where

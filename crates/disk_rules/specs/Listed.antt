@@ -2,7 +2,7 @@
 use Rattle.std.specs.Prelude.{◌≡◌, ℕ, ◌+◌, ◌*◌, ◌/◌, ◌%◌, ◌^◌, ◌<◌, List, length}
 use Rattle.pm_words.specs.Words.{Words}
 use Rattle.extent_map.specs.declared.extents.Extent.{Extent}
-use Rattle.map_chain.specs.Placed.{extent_at, block_at}
+use Rattle.disk_rules.specs.Placed.{extent_at, block_at}
 
 -- the words of extent k of a chain
 abbrev pub first_word : List ℕ → ℕ → ℕ

@@ -15,11 +15,11 @@ use Rattle.disk_lines.specs.declared.Kind.TheVariants.{Free, Directory, File, St
 use Rattle.disk_lines.specs.Entries.{is_self_valid, held_seq}
 use Rattle.disk_lines.specs.Lines.{NameRow, NameSlot, FreeName, Named, BadName}
 use Rattle.disk_lines.specs.Names.{row, names_of, up}
-use Rattle.image_rules.specs.Chains.{SpellsChain}
-use Rattle.image_rules.specs.Volume.{Volume, volume, inode_at, name_at, inode, chain, extents}
-use Rattle.image_rules.specs.Uses.{owners}
-use Rattle.image_rules.specs.Live.{is_file, is_directory, entry_in, is_of_file, is_live, live_entries}
-use Rattle.image_rules.specs.Room.{held_after_recovery, unused_blocks}
+use Rattle.disk_rules.specs.Chains.{SpellsChain}
+use Rattle.disk_rules.specs.Volume.{Volume, volume, inode_at, name_at, inode, chain, extents}
+use Rattle.disk_rules.specs.Uses.{owners}
+use Rattle.disk_rules.specs.Live.{is_file, is_directory, entry_in, is_of_file, is_live, live_entries}
+use Rattle.disk_rules.specs.Room.{held_after_recovery, unused_blocks}
 
 -- what the superblock says
 abbrev pub geometry_of : Words → Geometry

@@ -4,7 +4,7 @@ use Rattle.pm_words.specs.declared.Cell.{Cell}
 use Rattle.pm_words.specs.Cells.{cell, is_single, is_lent}
 use Rattle.pm_words.specs.Words.{Words}
 use Rattle.extent_map.specs.declared.extents.Extent.{Extent}
-use Rattle.image_rules.specs.Chains.{extents_per_block, chain_word}
+use Rattle.disk_rules.specs.Chains.{extents_per_block, chain_word}
 
 -- an extent of no block, whose words are zero
 abbrev pub no_extent : Extent

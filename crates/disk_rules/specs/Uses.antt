@@ -3,7 +3,7 @@ use Rattle.std.specs.Prelude.{◌≡◌, ℕ, ◌+◌, ◌-◌, ◌==◌, List, 
 use Rattle.std.specs.List.{flat_map, range_with_len}
 use Rattle.extent_map.specs.declared.extents.Extent.{Extent}
 use Rattle.extent_map.specs.Extents.{holds_disk}
-use Rattle.image_rules.specs.Volume.{Volume, chain, extents}
+use Rattle.disk_rules.specs.Volume.{Volume, chain, extents}
 
 -- a block of the chain of an inode, or the block of one of its file blocks
 pub data Use : Type 0 where

@@ -7,11 +7,11 @@ use Rattle.std.proofs.lemmas.List.FromFn.{get_or-map-range_with_len}
 use Rattle.pm_words.specs.Words.{Words}
 use Rattle.disk_places.specs.Places.{Geometry, is_data_block}
 use Rattle.extent_map.specs.declared.extents.Extent.{Extent}
-use Rattle.image_rules.specs.Chains.{extents_in, chain_of, map_of}
-use Rattle.image_rules.specs.Rules.{file_blocks_of, IsInData, HasChain}
-use Rattle.image_rules.specs.Volume.{Volume, volume, inode_or_free, free_inode, inode, chain, extents}
-use Rattle.map_chain.specs.ChainLaws.{chain-map}
-use Rattle.map_chain.specs.Reads.{IsChain}
+use Rattle.disk_rules.specs.Chains.{extents_in, chain_of, map_of}
+use Rattle.disk_rules.specs.Rules.{file_blocks_of, IsInData, HasChain}
+use Rattle.disk_rules.specs.Volume.{Volume, volume, inode_or_free, free_inode, inode, chain, extents}
+use Rattle.chain_facts.specs.ChainLaws.{chain-map}
+use Rattle.disk_rules.specs.Standing.{IsChain}
 
 -- The volume has for the inode what the words have.
 pub record IsOfWords (v : Volume) (f : Words) (ino : ℕ) : Type 0 where

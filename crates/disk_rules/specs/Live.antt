@@ -7,7 +7,7 @@ use Rattle.disk_lines.specs.declared.Draft.{Draft}
 use Rattle.disk_lines.specs.declared.Kind.{Kind}
 use Rattle.disk_lines.specs.declared.Kind.TheVariants.{Free, Directory, File, Staging}
 use Rattle.disk_lines.specs.Entries.{decode_entry}
-use Rattle.image_rules.specs.Volume.{Volume, inode}
+use Rattle.disk_rules.specs.Volume.{Volume, inode}
 
 abbrev pub is_file : Kind → Bool
 is_file Free = false

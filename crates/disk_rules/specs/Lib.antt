@@ -2,9 +2,13 @@ pub mod Broken
 pub mod Chains
 pub mod Content
 pub mod Honest
+pub mod Listed
 pub mod Live
 pub mod LogRule
+pub mod Placed
+pub mod Reading
 pub mod Room
 pub mod Rules
+pub mod Standing
 pub mod Uses
 pub mod Volume

@@ -4,10 +4,10 @@ use Rattle.std.specs.List.{range_with_len}
 use Rattle.disk_places.specs.Places.{first_data, data_blocks, chains_for}
 use Rattle.disk_lines.specs.declared.Draft.{Draft}
 use Rattle.disk_lines.specs.Names.{names_of}
-use Rattle.image_rules.specs.Volume.{Volume, inode}
-use Rattle.image_rules.specs.Uses.{Use, owners}
-use Rattle.image_rules.specs.Live.{is_file}
-use Rattle.image_rules.specs.Content.{size_of}
+use Rattle.disk_rules.specs.Volume.{Volume, inode}
+use Rattle.disk_rules.specs.Uses.{Use, owners}
+use Rattle.disk_rules.specs.Live.{is_file}
+use Rattle.disk_rules.specs.Content.{size_of}
 
 -- how many blocks so many bytes take
 abbrev pub blocks_for : ℕ → ℕ

@@ -5,11 +5,11 @@ use Rattle.pm_words.specs.Words.{Words}
 use Rattle.disk_places.specs.Places.{chains_for}
 use Rattle.disk_lines.specs.declared.Draft.{Draft}
 use Rattle.extent_map.specs.declared.extents.Extent.{Extent}
-use Rattle.image_rules.specs.Chains.{chain_word, next_block, extents_in, blocks_from}
-use Rattle.image_rules.specs.Content.{entry_of_block, size_by}
-use Rattle.image_rules.specs.Live.{latest}
-use Rattle.image_rules.specs.Room.{blocks_for, held_by}
-use Rattle.image_rules.specs.Uses.{InChain, Holds, uses_by}
+use Rattle.disk_rules.specs.Chains.{chain_word, next_block, extents_in, blocks_from}
+use Rattle.disk_rules.specs.Content.{entry_of_block, size_by}
+use Rattle.disk_rules.specs.Live.{latest}
+use Rattle.disk_rules.specs.Room.{blocks_for, held_by}
+use Rattle.disk_rules.specs.Uses.{InChain, Holds, uses_by}
 
 -- how many chain blocks 0, 1, 255 and 256 extents take
 chain_counts : chains_for 0 ∷ chains_for 1 ∷ chains_for 255 ∷ chains_for 256 ∷ [] ≡ 0 ∷ 1 ∷ 1 ∷ 2 ∷ []

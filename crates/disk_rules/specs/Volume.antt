@@ -8,7 +8,7 @@ use Rattle.disk_lines.specs.declared.Inode.{Inode}
 use Rattle.disk_lines.specs.declared.Kind.TheVariants.{Free}
 use Rattle.disk_lines.specs.Lines.{NameRow, NameSlot, FreeName, Named, BadName, decode_inode, decode_name}
 use Rattle.disk_lines.specs.Names.{Rows}
-use Rattle.image_rules.specs.Chains.{chain_of, map_of}
+use Rattle.disk_rules.specs.Chains.{chain_of, map_of}
 
 -- the log base; the inode lines; the name lines, one row a line; and of each inode its chain blocks and its extents
 pub record Volume : Type 0 where

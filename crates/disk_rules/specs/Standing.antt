@@ -4,8 +4,8 @@ use Rattle.pm_words.specs.Words.{Words}
 use Rattle.disk_places.specs.Places.{chains_for}
 use Rattle.extent_map.specs.declared.extents.Extent.{Extent}
 use Rattle.extent_map.specs.Extents.{IsCanonical}
-use Rattle.image_rules.specs.Chains.{SpellsChain, blocks_from, first_or_zero}
-use Rattle.map_chain.specs.Placed.{block_at, AreInDevice}
+use Rattle.disk_rules.specs.Chains.{SpellsChain, blocks_from, first_or_zero}
+use Rattle.disk_rules.specs.Placed.{block_at, AreInDevice}
 
 -- The blocks spell a map of so many extents, the one spelling of it, with all their other words zero.
 pub record IsMapIn (f : Words) (blocks : List ℕ) (count : ℕ) (es : List Extent) : Type 0 where

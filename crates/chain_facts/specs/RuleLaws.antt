@@ -6,7 +6,7 @@ use Rattle.std.proofs.lemmas.Bool.Decides.{nat_tests}
 use Rattle.std.proofs.lemmas.List.FromFn.{get_or-map-range_with_len}
 use Rattle.pm_words.specs.Words.{Words}
 use Rattle.disk_places.specs.Places.{Geometry, is_data_block}
-use Rattle.extent_map.specs.declared.extents.Extent.{Extent}
+use Rattle.extent_words.specs.declared.Extent.{Extent}
 use Rattle.disk_rules.specs.Chains.{extents_in, chain_of, map_of}
 use Rattle.disk_rules.specs.Rules.{file_blocks_of, IsInData, HasChain}
 use Rattle.disk_rules.specs.Volume.{Volume, volume, inode_or_free, free_inode, inode, chain, extents}

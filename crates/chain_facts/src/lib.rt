@@ -5,5 +5,5 @@
 //! back; and a chain that stands in an image keeps the rule of a checked image on it, and the other way
 //! round. `map_chain` and the facts of volumes cite them.
 //!
-//! Stands on `pm_words`, `disk_places`, `disk_lines`, `extent_map` and `disk_rules`.
+//! Stands on `pm_words`, `disk_places`, `disk_lines`, `extent_words` and `disk_rules`.
 #![tactic(auto)]

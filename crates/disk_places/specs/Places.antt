@@ -2,7 +2,8 @@
 -- and the log base (line 2); blocks 1 to 4 the journal's records; then come the inode lines, the name lines and the
 -- log lines, each region rounded up to whole blocks; the rest are data blocks. Lines are counted from the first
 -- line of the image, 64 a block; words from its first word, 8 a line.
-use Rattle.std.specs.Prelude.{◌≡◌, ℕ, ◌+◌, ◌-◌, ◌*◌, ◌/◌, ◌≤◌, min, Bool, ◌&&◌, ◌||◌, ◌==◌, nat_lt, nat_le}
+use Rattle.std.specs.Prelude.{◌≡◌, ℕ, ◌+◌, ◌-◌, ◌*◌, ◌/◌, ◌≤◌, Bool, ◌&&◌, ◌||◌, ◌==◌, nat_lt, nat_le}
+use Rattle.block_counts.specs.Counts.{reserve_for}
 
 -- The numbers of an image: its version, its blocks, and the lines of its log, its inodes and its names.
 pub record Geometry : Type 0 where
@@ -59,14 +60,9 @@ log_line g s = 64 * log_block g + s
 abbrev pub is_data_block : Geometry → ℕ → Bool
 is_data_block g b = nat_le (first_data g) b && nat_lt b g.blocks
 
--- how many chain blocks so many extents take, 255 a block
-abbrev pub chains_for : ℕ → ℕ
-chains_for extents = (extents + 254) / 255
-
--- The blocks that no file may hold: enough for a changed map of the largest file to be written beside the old one,
--- and three more.
+-- the blocks that no file may hold
 abbrev pub reserve : Geometry → ℕ
-reserve g = chains_for (min 4096 (data_blocks g)) + 3
+reserve g = reserve_for (data_blocks g)
 
 -- nodes that an image has room for: inode lines 1 to 4 are the staging files'
 abbrev pub nodes : Geometry → ℕ

@@ -2,13 +2,12 @@
 use Rattle.std.proofs.Common.{◌≡◌, ◌-◌, [], ◌∷◌, refl}
 use Rattle.std.specs.Prelude.{Some, None}
 use Rattle.pm_words.specs.Words.{Words}
-use Rattle.disk_places.specs.Places.{chains_for}
+use Rattle.block_counts.specs.Counts.{blocks_for, chains_for, held_by}
 use Rattle.disk_lines.specs.declared.Draft.{Draft}
-use Rattle.extent_map.specs.declared.extents.Extent.{Extent}
+use Rattle.extent_words.specs.declared.Extent.{Extent}
 use Rattle.disk_rules.specs.Chains.{chain_word, next_block, extents_in, blocks_from}
 use Rattle.disk_rules.specs.Content.{entry_of_block, size_by}
 use Rattle.disk_rules.specs.Live.{latest}
-use Rattle.disk_rules.specs.Room.{blocks_for, held_by}
 use Rattle.disk_rules.specs.Uses.{InChain, Holds, uses_by}
 
 -- how many chain blocks 0, 1, 255 and 256 extents take

@@ -4,8 +4,8 @@
 use Rattle.std.specs.Prelude.{◌≡◌, ℕ, zero, suc, ◌+◌, ◌-◌, ◌*◌, ◌/◌, ◌%◌, ◌^◌, ◌<◌, ◌==◌, List, [], ◌∷◌, length, map, take, drop, if◌then◌else◌}
 use Rattle.std.specs.List.{flat_map, range_with_len}
 use Rattle.pm_words.specs.Words.{Words}
-use Rattle.disk_places.specs.Places.{chains_for}
-use Rattle.extent_map.specs.declared.extents.Extent.{Extent}
+use Rattle.block_counts.specs.Counts.{chains_for}
+use Rattle.extent_words.specs.declared.Extent.{Extent}
 use Rattle.disk_lines.specs.declared.Inode.{Inode}
 
 abbrev pub extents_per_block : ℕ

@@ -7,7 +7,7 @@ use Rattle.std.specs.List.{range_with_len}
 use Rattle.pm_words.specs.Words.{Words, byte_of}
 use Rattle.disk_places.specs.Places.{Geometry}
 use Rattle.disk_places.specs.Journal.{journaled}
-use Rattle.extent_map.specs.Extents.{disk_at, is_within}
+use Rattle.extent_words.specs.Extents.{disk_at, is_within}
 use Rattle.disk_lines.specs.declared.Draft.{Draft}
 use Rattle.disk_lines.specs.declared.Kind.{Kind}
 use Rattle.disk_lines.specs.declared.Kind.TheVariants.{Free, Directory, File, Staging}

@@ -3,7 +3,7 @@ use Rattle.std.specs.Prelude.{◌≡◌, ◌≢◌, ℕ, ◌+◌, ◌*◌, ◌/�
 use Rattle.pm_words.specs.declared.Cell.{Cell}
 use Rattle.pm_words.specs.Cells.{cell, is_single, is_lent}
 use Rattle.pm_words.specs.Words.{Words}
-use Rattle.extent_map.specs.declared.extents.Extent.{Extent}
+use Rattle.extent_words.specs.declared.Extent.{Extent}
 use Rattle.disk_rules.specs.Chains.{extents_per_block, chain_word}
 
 -- an extent of no block, whose words are zero

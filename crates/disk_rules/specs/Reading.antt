@@ -3,7 +3,7 @@ use Rattle.std.specs.Prelude.{◌≡◌, ℕ, ◌+◌, ◌*◌, ◌<◌, List, l
 use Rattle.pm_words.specs.Words.{Words}
 use Rattle.disk_places.specs.Fields.{zeros}
 use Rattle.disk_places.specs.Places.{Geometry, base_word, is_data_block}
-use Rattle.extent_map.specs.declared.extents.Extent.{Extent}
+use Rattle.extent_words.specs.declared.Extent.{Extent}
 use Rattle.disk_lines.specs.declared.Inode.{Inode}
 use Rattle.disk_lines.specs.Lines.{NameRow, NameSlot, FreeName, Named, encode_name}
 use Rattle.disk_lines.specs.Names.{row}

@@ -1,21 +1,14 @@
 -- The blocks that files hold, and those that nothing names.
-use Rattle.std.specs.Prelude.{ℕ, ◌+◌, ◌/◌, List, [], ◌∷◌, length, Bool, true, false, ◌&&◌, nat_lt, count_by, sum_by, cond}
+use Rattle.std.specs.Prelude.{ℕ, List, [], ◌∷◌, length, Bool, true, false, ◌&&◌, nat_lt, count_by, sum_by, cond}
 use Rattle.std.specs.List.{range_with_len}
-use Rattle.disk_places.specs.Places.{first_data, data_blocks, chains_for}
+use Rattle.block_counts.specs.Counts.{held_by}
+use Rattle.disk_places.specs.Places.{first_data, data_blocks}
 use Rattle.disk_lines.specs.declared.Draft.{Draft}
 use Rattle.disk_lines.specs.Names.{names_of}
 use Rattle.disk_rules.specs.Volume.{Volume, inode}
 use Rattle.disk_rules.specs.Uses.{Use, owners}
 use Rattle.disk_rules.specs.Live.{is_file}
 use Rattle.disk_rules.specs.Content.{size_of}
-
--- how many blocks so many bytes take
-abbrev pub blocks_for : ℕ → ℕ
-blocks_for size = (size + 4095) / 4096
-
--- the blocks that a file of this length holds, at the most: its own and those of its chain
-abbrev pub held_by : ℕ → ℕ
-held_by size = blocks_for size + chains_for (blocks_for size)
 
 -- the file has a name
 abbrev pub is_named_file : Volume → ℕ → Bool

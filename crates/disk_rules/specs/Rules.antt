@@ -6,8 +6,8 @@ use Rattle.pm_words.specs.Words.{Words, line_bytes}
 use Rattle.disk_places.specs.Places.{Geometry, first_data, data_blocks, reserve, commit_word, base_word, log_line, is_data_block, is_journaled_line}
 use Rattle.disk_places.specs.Journal.{committed, record_target, journaled}
 use Rattle.disk_places.specs.Superblock.{has_magic, has_version, has_numbers, geometry_at}
-use Rattle.extent_map.specs.declared.extents.Extent.{Extent}
-use Rattle.extent_map.specs.Extents.{disk_at, IsCanonical}
+use Rattle.extent_words.specs.declared.Extent.{Extent}
+use Rattle.extent_words.specs.Extents.{disk_at, IsCanonical}
 use Rattle.disk_lines.specs.declared.Draft.{Draft}
 use Rattle.disk_lines.specs.declared.Inode.{Inode}
 use Rattle.disk_lines.specs.declared.Kind.{Kind}

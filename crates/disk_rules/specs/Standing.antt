@@ -1,9 +1,9 @@
 -- What stands as a chain in the words of a device.
 use Rattle.std.specs.Prelude.{◌≡◌, ℕ, ◌^◌, ◌<◌, List, length}
 use Rattle.pm_words.specs.Words.{Words}
-use Rattle.disk_places.specs.Places.{chains_for}
-use Rattle.extent_map.specs.declared.extents.Extent.{Extent}
-use Rattle.extent_map.specs.Extents.{IsCanonical}
+use Rattle.block_counts.specs.Counts.{chains_for}
+use Rattle.extent_words.specs.declared.Extent.{Extent}
+use Rattle.extent_words.specs.Extents.{IsCanonical}
 use Rattle.disk_rules.specs.Chains.{SpellsChain, blocks_from, first_or_zero}
 use Rattle.disk_rules.specs.Placed.{block_at, AreInDevice}
 

@@ -1,8 +1,8 @@
 -- Who uses a data block: the list of its uses, one for each time that a chain or an extent names it.
 use Rattle.std.specs.Prelude.{◌≡◌, ℕ, ◌+◌, ◌-◌, ◌==◌, List, [], ◌++◌, length, map, filter}
 use Rattle.std.specs.List.{flat_map, range_with_len}
-use Rattle.extent_map.specs.declared.extents.Extent.{Extent}
-use Rattle.extent_map.specs.Extents.{holds_disk}
+use Rattle.extent_words.specs.declared.Extent.{Extent}
+use Rattle.extent_words.specs.Extents.{holds_disk}
 use Rattle.disk_rules.specs.Volume.{Volume, chain, extents}
 
 -- a block of the chain of an inode, or the block of one of its file blocks

@@ -3,7 +3,7 @@ use Rattle.std.specs.Prelude.{ℕ, List, [], map, Option, Some, None, unwrap_or,
 use Rattle.std.specs.List.{range_with_len}
 use Rattle.pm_words.specs.Words.{Words, line_bytes}
 use Rattle.disk_places.specs.Places.{Geometry, base_word, inode_line, name_line}
-use Rattle.extent_map.specs.declared.extents.Extent.{Extent}
+use Rattle.extent_words.specs.declared.Extent.{Extent}
 use Rattle.disk_lines.specs.declared.Inode.{Inode}
 use Rattle.disk_lines.specs.declared.Kind.TheVariants.{Free}
 use Rattle.disk_lines.specs.Lines.{NameRow, NameSlot, FreeName, Named, BadName, decode_inode, decode_name}

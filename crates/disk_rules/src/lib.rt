@@ -6,5 +6,5 @@
 //! layers above the journal cite them; the check, the mount and the promises about a power loss are proved against
 //! them.
 //!
-//! Stands on `pm_words`, `disk_places`, `disk_lines` and `extent_map`.
+//! Stands on `pm_words`, `disk_places`, `disk_lines` and `extent_words`.
 #![tactic(auto)]

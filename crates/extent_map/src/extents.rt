@@ -1,21 +1,9 @@
 //! Extents, and when two of them could be one.
 ghost use Rattle.std.specs.Prelude.{◌≡◌, ℕ, ◌+◌, ◌-◌, ◌<◌, ◌≤◌, ◌^◌, ◌↔◌, IsTrue, IfSome, IfNone, min, max};
-ghost use Rattle.extent_map.specs.Extents.{IsExtent, Continues, ComesAfter};
+ghost use Rattle.extent_words.specs.Extents.{IsExtent, Continues, ComesAfter};
 ghost use Rattle.extent_map.specs.Pieces.{IsPiece};
 
-/// The blocks that a file can have.
-pub const FILE_BLOCKS: u32 = 4096;
-
-/// A run of file blocks that lie one after the other on the disk.
-#[derive(Clone, Copy, Debug, PartialEq, Eq)]
-pub struct Extent {
-    /// The first file block.
-    pub file: u32,
-    /// The disk block of the first file block.
-    pub disk: u32,
-    /// The number of blocks.
-    pub count: u32,
-}
+use extent_words::{Extent, FILE_BLOCKS};
 
 /// Whether the extent has a block, its file blocks are below `FILE_BLOCKS`, and its end on the disk
 /// fits 32 bits.

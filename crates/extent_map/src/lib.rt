@@ -10,11 +10,11 @@
 //! what it has afterwards and what was displaced, how many extents and blocks there are then, and
 //! from where its disk blocks come; where memory is short, the map is as before.
 //!
-//! File blocks are below 4,096, disk blocks and their ends below 2^32. It stands on std alone. The
-//! words are in `specs/`, with the laws that layers above cite.
+//! File blocks are below 4,096, disk blocks and their ends below 2^32. It stands on `extent_words`
+//! (the words) and `extent_facts` (the laws).
 #![tactic(auto)]
 
-ghost use Rattle.extent_map.specs.Spelling.{HasOneSpelling};
+ghost use Rattle.extent_facts.specs.Spelling.{HasOneSpelling};
 
 mod extents;
 mod map;
@@ -22,7 +22,7 @@ mod pieces;
 #[cfg(test)]
 mod tests;
 
-pub use extents::{Extent, FILE_BLOCKS};
+pub use extent_words::{Extent, FILE_BLOCKS};
 pub use map::ExtentMap;
 
 /// Two maps that give every file block the same disk block have the same extents.

@@ -1,3 +1,2 @@
-pub mod Relinks
 pub mod Steps
 pub mod Texts

@@ -2,8 +2,8 @@
 use Rattle.std.proofs.Common.{◌≡◌, ℕ, List, length, Option, Some, None, sym, subst}
 use Rattle.std.specs.Option.{SomeIff, IfSome, IfNone}
 use Rattle.pm_words.specs.Words.{Words}
-use Rattle.extent_map.specs.declared.extents.Extent.{Extent}
-use Rattle.extent_map.specs.Extents.{IsCanonical}
+use Rattle.extent_words.specs.declared.Extent.{Extent}
+use Rattle.extent_words.specs.Extents.{IsCanonical}
 use Rattle.chain_facts.specs.ChainLaws.{spells-stands, stands-spelled, listed-map}
 use Rattle.disk_rules.specs.Placed.{StandsIn}
 use Rattle.disk_rules.specs.Listed.{AreListed}

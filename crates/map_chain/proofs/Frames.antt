@@ -7,12 +7,12 @@ use Rattle.pm_words.specs.Cells.{cell, is_lent, newest, IsCandidate, Settles}
 use Rattle.pm_words.specs.Frames.{KeepsSingle}
 use Rattle.pm_words.specs.Images.{IsImage, Follows}
 use Rattle.pm_words.specs.Words.{Words}
-use Rattle.extent_map.specs.declared.extents.Extent.{Extent}
+use Rattle.extent_words.specs.declared.Extent.{Extent}
 use Rattle.disk_rules.specs.Chains.{chain_word, SpellsChain}
 use Rattle.chain_facts.specs.ChainLaws.{spells-stands, reads_back}
 use Rattle.disk_rules.specs.Placed.{block_at, part_at, AreSingle, IsOutside}
 use Rattle.disk_rules.specs.Standing.{FitHalves}
-use Rattle.extent_map.specs.Extents.{IsCanonical}
+use Rattle.extent_words.specs.Extents.{IsCanonical}
 use Rattle.map_chain.specs.Writes.{HasChainWords, MayWrite, SameOutside, IsWritten}
 
 -- one of the blocks is b, or none is

@@ -2,8 +2,8 @@
 ghost use Rattle.std.specs.Prelude.{◌≡◌, ◌+◌, ◌*◌, ◌/◌, ◌%◌, ◌^◌, ◌<◌, ◌≤◌, ◌↔◌, ℕ, length, IsTrue, IfOk, IfSome, IfNone, vec_len, List};
 ghost use Rattle.std.specs.List.{flat_map};
 ghost use Rattle.std.specs.Option.{IsSomeAnd};
-ghost use Rattle.extent_map.specs.declared.extents.Extent.{Extent};
-ghost use Rattle.disk_places.specs.Places.{chains_for};
+ghost use Rattle.extent_words.specs.declared.Extent.{Extent};
+ghost use Rattle.block_counts.specs.Counts.{chains_for};
 ghost use Rattle.disk_rules.specs.Chains.{chain_word as word_of_block, next_block as block_behind, extents_in, blocks_from};
 ghost use Rattle.disk_rules.specs.Placed.{block_at, part_at, AreDistinct, AreInDevice, BlockIsHome, AreHome, StandsIn};
 ghost use Rattle.disk_rules.specs.Listed.{AreListed};

@@ -1,6 +1,6 @@
 //! The words of a chain's blocks.
 ghost use Rattle.std.specs.Prelude.{◌≡◌, ◌+◌, ◌*◌, ◌/◌, ◌%◌, ◌^◌, ◌<◌, ◌≤◌, length, slice_index};
-ghost use Rattle.disk_places.specs.Places.{chains_for};
+ghost use Rattle.block_counts.specs.Counts.{chains_for};
 ghost use Rattle.disk_rules.specs.Placed.{part_at};
 ghost use Rattle.disk_rules.specs.Chains.{extent_word, chain_word};
 

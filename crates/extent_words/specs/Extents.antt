@@ -1,7 +1,7 @@
 -- Words on extents and on lists of extents: which disk block a file block has, and the one spelling of a map.
 use Rattle.std.specs.Prelude.{◌≡◌, ℕ, ◌+◌, ◌-◌, ◌^◌, ◌<◌, ◌≤◌, Bool, ◌&&◌, nat_le, nat_lt, if◌then◌else◌, Option, Some, None, List, [], ◌∷◌, All, AllPairs, sum_by}
 use Rattle.std.specs.List.{list_any}
-use Rattle.extent_map.specs.declared.extents.Extent.{Extent}
+use Rattle.extent_words.specs.declared.Extent.{Extent}
 
 -- whether a block is from `from` on and before `to`, and whether it is one of `count` blocks from `first` on
 abbrev pub is_between : ℕ → ℕ → ℕ → Bool

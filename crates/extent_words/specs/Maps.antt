@@ -1,7 +1,7 @@
 -- What a change of a map leaves and takes, file block by file block.
 use Rattle.std.specs.Prelude.{◌≡◌, ℕ, Bool, if◌then◌else◌, Some, None, List}
-use Rattle.extent_map.specs.declared.extents.Extent.{Extent}
-use Rattle.extent_map.specs.Extents.{holds, disk_in, disk_at, IsCanonical}
+use Rattle.extent_words.specs.declared.Extent.{Extent}
+use Rattle.extent_words.specs.Extents.{holds, disk_in, disk_at, IsCanonical}
 
 -- `part` has what `whole` has of the chosen file blocks, and no other, in the one spelling
 pub record IsPart (chosen : ℕ → Bool) (whole part : List Extent) : Type 0 where

@@ -1,8 +1,8 @@
 -- What a relink finds and leaves, file block by file block.
 use Rattle.std.specs.Prelude.{◌≡◌, ℕ, ◌+◌, ◌-◌, ◌<◌, ◌≤◌, not, IsSome, if◌then◌else◌, None, List}
-use Rattle.extent_map.specs.declared.extents.Extent.{Extent}
-use Rattle.extent_map.specs.Extents.{is_within, disk_at, block_count, IsCanonical}
-use Rattle.extent_map.specs.Maps.{IsPart}
+use Rattle.extent_words.specs.declared.Extent.{Extent}
+use Rattle.extent_words.specs.Extents.{is_within, disk_at, block_count, IsCanonical}
+use Rattle.extent_words.specs.Maps.{IsPart}
 
 -- `block` is the first of `count` file blocks from `first` on that has no disk block
 pub record IsFirstHole (es : List Extent) (first count block : ℕ) : Type 0 where

@@ -4,10 +4,10 @@ use Rattle.std.specs.Prelude.{is_some}
 use Rattle.std.proofs.lemmas.Bool.{cases_lt, cases_eq, cases_Bool}
 use Rattle.std.proofs.lemmas.Bool.Decides.{nat_tests}
 use Rattle.std.proofs.lemmas.List.Sums.{sum_by-cons}
-use Rattle.extent_map.specs.declared.extents.Extent.{Extent}
-use Rattle.extent_map.specs.Extents.{is_within, holds, disk_at, block_count, IsExtent, IsCanonical}
-use Rattle.extent_map.specs.Facts.{IsCanonical-tail}
-use Rattle.extent_map.specs.Spelling.{none_behind}
+use Rattle.extent_words.specs.declared.Extent.{Extent}
+use Rattle.extent_words.specs.Extents.{is_within, holds, disk_at, block_count, IsExtent, IsCanonical}
+use Rattle.extent_facts.specs.Facts.{IsCanonical-tail}
+use Rattle.extent_facts.specs.Spelling.{none_behind}
 
 -- what a block adds to a number of blocks
 abbrev pub one_if : Bool → ℕ

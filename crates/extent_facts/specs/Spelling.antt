@@ -2,9 +2,9 @@
 use Rattle.std.proofs.Common.{◌≡◌, ℕ, zero, suc, ◌+◌, ◌<◌, ◌≤◌, true, false, List, [], ◌∷◌, length, get_or, Some, None, refl, sym, ◌∙◌, ap, subst, inl, inr, arith}
 use Rattle.std.proofs.lemmas.Bool.{cases_lt, cases_Bool}
 use Rattle.std.proofs.lemmas.Bool.Decides.{nat_tests}
-use Rattle.extent_map.specs.declared.extents.Extent.{Extent}
-use Rattle.extent_map.specs.Extents.{holds, disk_in, disk_at, ComesAfter, IsCanonical}
-use Rattle.extent_map.specs.Facts.{disk_at-None, disk_at_found, IsCanonical-tail}
+use Rattle.extent_words.specs.declared.Extent.{Extent}
+use Rattle.extent_words.specs.Extents.{holds, disk_in, disk_at, ComesAfter, IsCanonical}
+use Rattle.extent_facts.specs.Facts.{disk_at-None, disk_at_found, IsCanonical-tail}
 
 none≢some : {n : ℕ} → None ≡ Some n → ⊥
 none≢some h = cc

@@ -3,10 +3,10 @@ use Rattle.std.proofs.Common.{◌≡◌, ℕ, ◌+◌, ◌-◌, ◌<◌, ◌≤�
 use Rattle.std.proofs.lemmas.Bool.{cases_Bool}
 use Rattle.std.proofs.lemmas.Bool.Decides.{nat_tests}
 use Rattle.std.proofs.lemmas.List.Folds.{list_any_at, Any-from_list_any}
-use Rattle.extent_map.specs.declared.extents.Extent.{Extent}
-use Rattle.extent_map.specs.Extents.{is_within, holds, holds_disk, disk_in, disk_at, covers, IsExtent, IsCanonical}
-use Rattle.extent_map.specs.Maps.{IsPart, Replaces}
-use Rattle.extent_map.specs.Facts.{disk_at_found, disk_at_is}
+use Rattle.extent_words.specs.declared.Extent.{Extent}
+use Rattle.extent_words.specs.Extents.{is_within, holds, holds_disk, disk_in, disk_at, covers, IsExtent, IsCanonical}
+use Rattle.extent_words.specs.Maps.{IsPart, Replaces}
+use Rattle.extent_facts.specs.Facts.{disk_at_found, disk_at_is}
 
 none≢some : {n : ℕ} → None ≡ Some n → ⊥
 none≢some h = cc

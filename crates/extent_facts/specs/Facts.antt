@@ -7,8 +7,8 @@ use Rattle.std.proofs.lemmas.Bool.Decides.{nat_tests}
 use Rattle.std.proofs.lemmas.List.{get_or_append_left, get_or_at, get_or-take, get_or_default, length_push, length-take-le, take_more}
 use Rattle.std.proofs.lemmas.List.Elements.{All-push}
 use Rattle.std.proofs.lemmas.List.Quantifiers.{all_pairs_push}
-use Rattle.extent_map.specs.declared.extents.Extent.{Extent}
-use Rattle.extent_map.specs.Extents.{holds, disk_in, disk_at, IsExtent, ComesAfter, IsCanonical}
+use Rattle.extent_words.specs.declared.Extent.{Extent}
+use Rattle.extent_words.specs.Extents.{holds, disk_in, disk_at, IsExtent, ComesAfter, IsCanonical}
 
 -- what two lists one behind the other give a block
 pub disk_at-append : (xs ys : List Extent) (b : ℕ) → disk_at (xs ++ ys) b ≡ option_or (disk_at xs b) (disk_at ys b)

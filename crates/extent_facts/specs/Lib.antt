@@ -1,0 +1,4 @@
+pub mod Counts
+pub mod Covers
+pub mod Facts
+pub mod Spelling

@@ -1,0 +1,11 @@
+pub mod Changes
+pub mod Footprint
+pub mod FootprintLaws
+pub mod ImageLaws
+pub mod LineWords
+pub mod Lists
+pub mod LoanLaws
+pub mod Reading
+pub mod ReadingLaws
+pub mod SetLaws
+pub mod StateLaws

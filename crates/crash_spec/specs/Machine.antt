@@ -9,7 +9,7 @@ use Rattle.posix_types.specs.declared.item.Item.{Item}
 use Rattle.posix_types.specs.Scripts.{Scripts}
 use Rattle.posix_words.specs.Open.{same_who}
 use Rattle.posix_spec.specs.FileRows.{content, truncate_rows}
-use Rattle.posix_spec.specs.Outcomes.{first}
+use Rattle.posix_words.specs.Outcomes.{first}
 use Rattle.posix_spec.specs.Put.{put_by}
 use Rattle.posix_spec.specs.Run.{Begun, run}
 use Rattle.posix_spec.specs.Scripted.{call_count, items_of, script_of}

@@ -5,8 +5,8 @@ use Rattle.posix_types.specs.declared.call.Who.{Who}
 use Rattle.posix_types.specs.declared.call.Call.{Call}
 use Rattle.posix_types.specs.declared.item.Outcome.{Outcome}
 use Rattle.posix_types.specs.declared.reply.Reply.{Reply}
-use Rattle.posix_spec.specs.Outcomes.{first}
-use Rattle.posix_spec.specs.NameRows.{mkdir_rows}
+use Rattle.posix_words.specs.Outcomes.{first}
+use Rattle.posix_words.specs.NameRows.{mkdir_rows}
 use Rattle.posix_spec.specs.State.{State, space}
 use Rattle.posix_spec.specs.Step.{Stepped, stepped, mkdir_done, step}
 use Rattle.posix_spec.specs.Run.{Begun, after_call, after_calls}

@@ -15,7 +15,6 @@
 mod apply;
 mod file_calls;
 mod name_calls;
-mod outcomes;
 mod state;
 
 pub use posix_types::{

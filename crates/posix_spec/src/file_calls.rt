@@ -6,13 +6,13 @@ ghost use Rattle.posix_spec.specs.Step.{close_done, dup_done, fsync_done, Gives,
 ghost use Rattle.posix_words.specs.Outcomes.{first};
 ghost use Rattle.posix_spec.specs.FileRows.{appends, close_rows, content, dup_rows, file_number, fsync_rows, no_blocks, offset_of, read_rows, seek_base, seek_rows, seek_target, truncate_rows, write_rows, write_start};
 
-use posix_words::outcomes::{answer, no_space, refused};
 use crate::state::State;
 use posix_types::{Errno, Handle, Outcome, Reply, What, Whence, Who};
 use posix_words::bytes::{
     LONGEST_FILE, LONGEST_WRITE, bytes_from, is_too_far, moved_place, overwritten, resized,
 };
 use posix_words::nodes::{bytes_at, published_at};
+use posix_words::outcomes::{answer, no_space, refused};
 use posix_words::room::{growth, write_need};
 use std::alloc::AllocError;
 
@@ -121,7 +121,8 @@ impl State {
     /// descriptor, and a file without name and description.
     #[tactic(auto, unfolding(crate::specs::Step::close_done, crate::specs::State::with_published))]
     pub(crate) fn close(&mut self, who: Who, handle: Handle) -> Outcome
-        ensures { Gives self.old (close_rows self.old.tables who handle) (close_done alone self.old who handle) self.new result }
+        ensures { Gives self.old (close_rows self.old.tables who handle)
+            (close_done alone self.old who handle) self.new result }
     {
         if let Some(outcome) = self.close_rows(who, handle) {
             return outcome;

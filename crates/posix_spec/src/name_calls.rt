@@ -8,7 +8,6 @@ ghost use Rattle.posix_spec.specs.State.{alone, space, swept, with_node};
 ghost use Rattle.posix_words.specs.Outcomes.{first};
 ghost use Rattle.posix_words.specs.NameRows.{list_rows, mkdir_rows, open_rows, rename_kind_rows, rename_rows, rmdir_rows, stat_rows, unlink_rows};
 
-use posix_words::outcomes::{answer, refused};
 use crate::state::State;
 use posix_types::{Data, Errno, Flags, Handle, Name, Outcome, Path, Reply, Stat, Who};
 use posix_words::entries::{
@@ -17,6 +16,7 @@ use posix_words::entries::{
 };
 use posix_words::nodes::{DirEntry, File, Node};
 use posix_words::open::Description;
+use posix_words::outcomes::{answer, refused};
 use std::alloc::{AllocError, Global};
 
 impl State {
@@ -122,7 +122,8 @@ impl State {
     /// `unlink`: removes the name of a file, which stays while a description has it.
     #[tactic(auto, unfolding(crate::specs::Step::unlink_done))]
     pub(crate) fn unlink(&mut self, path: &Path) -> Outcome
-        ensures { Gives self.old (unlink_rows (space self.old) path.now) (unlink_done alone self.old path.now) self.new result }
+        ensures { Gives self.old (unlink_rows (space self.old) path.now)
+            (unlink_done alone self.old path.now) self.new result }
     {
         if let Some(outcome) = self.unlink_rows(path) {
             return outcome;
@@ -234,7 +235,8 @@ impl State {
     /// Lets a node go that lost its name: a directory, or a file that has no other name and no
     /// description.
     fn leave(&mut self, number: usize, directory: bool, file: bool)
-        ensures { self.new ≡ (if directory then with_node self.old number Node.Gone else if file then swept alone self.old number else self.old) }
+        ensures { self.new ≡ (if directory then with_node self.old number Node.Gone
+            else if file then swept alone self.old number else self.old) }
     {
         if directory {
             self.set_node(number, Node::Gone);
@@ -265,7 +267,8 @@ impl State {
 
     #[tactic(auto, unfolding(posix_words::specs::NameRows::open_rows))]
     fn open_rows(&self, path: &Path, flags: Flags) -> Option<Outcome>
-        ensures value { result ≡ first (open_rows (space self.now) (is_full self.now.tables) false path.now flags) }
+        ensures value { result ≡
+            first (open_rows (space self.now) (is_full self.now.tables) false path.now flags) }
         ensures free { IfNone result (is_full self.now.tables ≡ false) }
     {
         if self.is_too_long(path) {
@@ -338,7 +341,8 @@ impl State {
         path: &Path,
         flags: Flags,
     ) -> Result<Outcome, AllocError>
-        ensures ok { IfOk result (Gives self.old (open_rows (space self.old) (is_full self.old.tables) false path.now flags)
+        ensures ok { IfOk result (Gives self.old
+            (open_rows (space self.old) (is_full self.old.tables) false path.now flags)
             (open_done self.old who handle path.now flags) self.new) }
         ensures err { OnErr result (self.new ≡ self.old) }
     {

@@ -4,7 +4,6 @@ ghost use Rattle.posix_words.specs.Names.{directory_stands, exists_at, file_stan
 ghost use Rattle.posix_spec.specs.State.{alone, made, room, space, swept, unnamed, with_file, with_node, with_published};
 ghost use Rattle.posix_words.specs.NameRows.{no_line, no_node};
 
-use posix_words::outcomes::no_space;
 use posix_types::{Data, Errno, Mode, Name, Outcome, Path, Shape, What};
 use posix_words::entries::{
     child_of, directory_names, insert_entry, is_named, is_root, is_too_long, last_name,
@@ -12,6 +11,7 @@ use posix_words::entries::{
 };
 use posix_words::nodes::{DirEntry, File, Node, count_live, is_directory, publish, set_node};
 use posix_words::open::Tables;
+use posix_words::outcomes::no_space;
 use posix_words::room::room;
 use posix_words::walk::{lines_left, lines_taken, walk_down};
 use std::alloc::{AllocError, Global};

@@ -266,7 +266,8 @@ impl State {
         bytes: &[u8],
     ) -> Result<(), AllocError>
         requires { start + length bytes.now < 2 ^ 64 }
-        ensures ok { IfOk result (λ _. self.new ≡ written alone self.old who handle start bytes.now) }
+        ensures ok { IfOk result (λ _.
+            self.new ≡ written alone self.old who handle start bytes.now) }
         ensures err { OnErr result (self.new ≡ self.old) }
     {
         let file = self.file_number(who, handle);
@@ -289,7 +290,8 @@ impl State {
         handle: Handle,
         bytes: &[u8],
     ) -> Result<Outcome, AllocError>
-        ensures ok { IfOk result (Gives self.old (write_rows self.old who handle (write_start self.old who handle) bytes.now)
+        ensures ok { IfOk result (Gives self.old
+            (write_rows self.old who handle (write_start self.old who handle) bytes.now)
             (write_done alone self.old who handle bytes.now) self.new) }
         ensures err { OnErr result (self.new ≡ self.old) }
     {
@@ -355,7 +357,8 @@ impl State {
     /// `seek`: sets the offset.
     #[tactic(auto, unfolding(crate::specs::Step::seek_done))]
     pub(crate) fn seek(&mut self, who: Who, handle: Handle, whence: Whence, by: i64) -> Outcome
-        ensures { Gives self.old (seek_rows self.old who handle whence by) (seek_done self.old who handle whence by) self.new result }
+        ensures { Gives self.old (seek_rows self.old who handle whence by)
+            (seek_done self.old who handle whence by) self.new result }
     {
         if let Some(outcome) = self.seek_rows(who, handle, whence, by) {
             return outcome;
@@ -416,7 +419,8 @@ impl State {
     /// `fsync`: publishes the length.
     #[tactic(auto, unfolding(crate::specs::Step::fsync_done))]
     pub(crate) fn fsync(&mut self, who: Who, handle: Handle) -> Outcome
-        ensures { Gives self.old (fsync_rows self.old.tables who handle) (fsync_done self.old who handle) self.new result }
+        ensures { Gives self.old (fsync_rows self.old.tables who handle)
+            (fsync_done self.old who handle) self.new result }
     {
         if let Some(outcome) = self.fsync_rows(who, handle) {
             return outcome;

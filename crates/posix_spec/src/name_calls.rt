@@ -86,7 +86,8 @@ impl State {
     /// `rmdir`: removes an empty directory.
     #[tactic(auto, unfolding(crate::specs::Step::rmdir_done))]
     pub(crate) fn rmdir(&mut self, path: &Path) -> Outcome
-        ensures { Gives self.old (rmdir_rows (space self.old) path.now) (rmdir_done self.old path.now) self.new result }
+        ensures { Gives self.old (rmdir_rows (space self.old) path.now)
+            (rmdir_done self.old path.now) self.new result }
     {
         if let Some(outcome) = self.rmdir_rows(path) {
             return outcome;
@@ -136,14 +137,16 @@ impl State {
 
     /// Whether a directory with entries stands at a path.
     fn full_directory_stands(&self, path: &Path) -> bool
-        ensures { result ≡ directory_stands (space self.now) path.now && has_entries self.now.entries (number_at (space self.now) path.now) }
+        ensures { result ≡ directory_stands (space self.now) path.now
+            && has_entries self.now.entries (number_at (space self.now) path.now) }
     {
         self.directory_stands(path) && has_entries(&self.entries, self.number_at(path))
     }
 
     /// Whether a path below the target would have too many names, if the source's node moved there.
     fn is_too_deep(&self, from: &Path, to: &Path) -> bool
-        ensures { result ≡ nat_lt 16 (length to.now + height self.now.entries 16 (number_at (space self.now) from.now)) }
+        ensures { result ≡ nat_lt 16 (length to.now
+            + height self.now.entries 16 (number_at (space self.now) from.now)) }
     {
         let below = height(&self.entries, LONGEST_PATH, self.number_at(from));
         to.names.len() > LONGEST_PATH || LONGEST_PATH - to.names.len() < below
@@ -175,7 +178,8 @@ impl State {
 
     /// Whether the same node stands at both paths.
     fn same_node_stands(&self, from: &Path, to: &Path) -> bool
-        ensures { result ≡ exists_at (space self.now) to.now && (number_at (space self.now) from.now == number_at (space self.now) to.now) }
+        ensures { result ≡ exists_at (space self.now) to.now
+            && (number_at (space self.now) from.now == number_at (space self.now) to.now) }
     {
         self.exists_at(to) && self.number_at(from) == self.number_at(to)
     }
@@ -387,7 +391,8 @@ impl State {
     /// `stat`: says what stands at a path.
     #[tactic(auto, unfolding(crate::specs::Step::stat_done))]
     pub(crate) fn stat(&self, path: &Path) -> Outcome
-        ensures { Gives self.now (stat_rows (space self.now) path.now) (stat_done self.now path.now) self.now result }
+        ensures { Gives self.now (stat_rows (space self.now) path.now)
+            (stat_done self.now path.now) self.now result }
     {
         match self.stat_rows(path) {
             Some(outcome) => outcome,

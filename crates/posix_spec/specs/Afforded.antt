@@ -1,12 +1,12 @@
 -- How many device steps a history may take before the power goes, so that steps are not spent on nothing.
-use Rattle.std.specs.Prelude.{ℕ, ◌+◌, ◌*◌, ◌^◌, ◌≤◌, Bool, true, false, not, ◌&&◌, nat_lt, IsTrue, List, ◌∷◌, length, map, filter_map, slice_get}
+use Rattle.std.specs.Prelude.{ℕ, ◌+◌, ◌*◌, ◌^◌, ◌≤◌, Bool, true, false, not, ◌&&◌, nat_lt, IsTrue, List, ◌∷◌, length, map, filter_map}
 use Rattle.std.specs.List.{list_any, range_with_len}
 use Rattle.posix_types.specs.declared.call.Mode.{Mode}
 use Rattle.posix_types.specs.declared.call.Who.{Who}
 use Rattle.posix_types.specs.declared.call.Call.{Call}
 use Rattle.posix_types.specs.declared.item.Item.{Item}
 use Rattle.posix_types.specs.Scripts.{Scripts}
-use Rattle.posix_spec.specs.Scripted.{call_count, items_of, script_of}
+use Rattle.posix_spec.specs.Scripted.{call_count, next_call}
 
 -- a call that may move data
 abbrev pub moves_data : Call → Bool
@@ -22,7 +22,7 @@ abbrev pub callers : Scripts → List Who
 callers scripts = Who.Setup ∷ map (λ n. Who.Thread n) (range_with_len 0 (length scripts.threads))
 
 abbrev pub next_calls : Scripts → List Item → List Call
-next_calls scripts history = filter_map (λ who. slice_get (script_of scripts who) (length (items_of history who))) (callers scripts)
+next_calls scripts history = filter_map (next_call scripts history) (callers scripts)
 
 abbrev pub is_posix : Mode → Bool
 is_posix Mode.Posix = true

@@ -1,5 +1,3 @@
-pub mod Outcomes
-pub mod NameRows
 pub mod State
 pub mod FileRows
 pub mod Step
@@ -9,3 +7,5 @@ pub mod Put
 pub mod Strict
 pub mod Scripted
 pub mod Afforded
+pub mod Unfinished
+pub mod Ending

@@ -1,5 +1,5 @@
 -- Histories that follow scripts.
-use Rattle.std.specs.Prelude.{◌≡◌, ℕ, ◌+◌, List, [], ◌∷◌, ◌++◌, length, filter, sum_by, Some, slice_get, slice_index_or}
+use Rattle.std.specs.Prelude.{◌≡◌, ℕ, ◌+◌, List, [], ◌∷◌, ◌++◌, length, filter, sum_by, Option, Some, slice_get, slice_index_or}
 use Rattle.std.proofs.Common.{sym, subst, append_assoc}
 use Rattle.std.proofs.lemmas.List.{append-nil}
 use Rattle.posix_types.specs.declared.call.Who.{Who}
@@ -16,6 +16,10 @@ script_of scripts (Who.Thread n) = slice_index_or scripts.threads n []
 abbrev pub items_of : List Item → Who → List Item
 items_of items who = filter (λ item. same_who item.who who) items
 
+-- the call of a caller's script that follows the calls that it has made, if there is one
+abbrev pub next_call : Scripts → List Item → Who → Option Call
+next_call scripts past who = slice_get (script_of scripts who) (length (items_of past who))
+
 -- how many calls all scripts have
 abbrev pub call_count : Scripts → ℕ
 call_count scripts = length scripts.setup + sum_by (λ calls. length calls) scripts.threads
@@ -27,7 +31,7 @@ IsSetUp scripts past (Who.Thread n) = length (items_of past Who.Setup) ≡ lengt
 
 -- an item is the next call of its script after the items before it
 pub record IsNext (scripts : Scripts) (past : List Item) (item : Item) : Type 0 where
-  pub call : slice_get (script_of scripts item.who) (length (items_of past item.who)) ≡ Some item.call
+  pub call : next_call scripts past item.who ≡ Some item.call
   pub index : item.index ≡ length (items_of past item.who)
   pub set_up : IsSetUp scripts past item.who
 

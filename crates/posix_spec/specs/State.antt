@@ -1,10 +1,11 @@
 -- The state of a file system that the calls see, and what changes it.
-use Rattle.std.specs.Prelude.{ℕ, ◌-◌, ◌||◌, List, [], ◌∷◌, ◌++◌, length, count_by, sum_by, if◌then◌else◌, slice_set}
+use Rattle.std.specs.Prelude.{ℕ, ◌+◌, ◌-◌, ◌≤◌, Bool, false, ◌||◌, List, [], ◌∷◌, ◌++◌, length, count_by, sum_by, if◌then◌else◌, slice_set}
 use Rattle.posix_types.specs.declared.call.Mode.{Mode}
 use Rattle.posix_types.specs.declared.reply.Shape.{Shape}
 use Rattle.posix_words.specs.declared.nodes.Node.{Node}
 use Rattle.posix_words.specs.declared.nodes.DirEntry.{DirEntry}
-use Rattle.posix_words.specs.Room.{held, reserve_of}
+use Rattle.block_counts.specs.Counts.{reserve_for}
+use Rattle.posix_words.specs.Room.{held}
 use Rattle.posix_words.specs.Open.{is_open, Tables}
 use Rattle.posix_words.specs.Names.{is_named, last_name, lines_taken, longest_name, parent_at, Space, with_entry, without_entry}
 use Rattle.posix_words.specs.Nodes.{is_directory, is_live, node_at, published_node}
@@ -29,7 +30,21 @@ space s = record {
 
 -- the data blocks that are left
 abbrev pub room : State → ℕ
-room s = s.shape.data_blocks - reserve_of s.shape.data_blocks - held s.nodes
+room s = s.shape.data_blocks - reserve_for s.shape.data_blocks - held s.nodes
+
+-- What the files hold leaves the reserve. The room stops at 0, and does not say so.
+abbrev pub Fits : State → Type 0
+Fits s = held s.nodes + reserve_for s.shape.data_blocks ≤ s.shape.data_blocks
+
+-- Where several instances stand over one file system, each with tables and a mode of its own, a step asks this about the
+-- instance of its caller: whether another one has a node open, and whether a write publishes the length of the file.
+pub record Instance : Type 0 where
+  pub open_elsewhere : ℕ → Bool
+  pub write_publishes : Bool
+
+-- the instance of a file system that has no other
+abbrev pub alone : Instance
+alone = record { open_elsewhere = λ n. false; write_publishes = false }
 
 -- Changes.
 
@@ -57,6 +72,6 @@ made s path node =
 unfoldable pub unnamed : State → List (List ℕ) → State
 unnamed s path = record s { entries = without_entry s.entries (parent_at (space s) path) (last_name path) }
 
--- a file without a name and without a description goes
-unfoldable pub swept : State → ℕ → State
-swept s n = if is_named s.entries n || is_open s.tables n then s else with_node s n Node.Gone
+-- a file without a name and without a description of any instance goes
+unfoldable pub swept : Instance → State → ℕ → State
+swept i s n = if i.open_elsewhere n || (is_named s.entries n || is_open s.tables n) then s else with_node s n Node.Gone

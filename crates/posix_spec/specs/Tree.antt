@@ -26,7 +26,10 @@ planted s entry = if is_root entry.path then s else made s entry.path (node_of e
 abbrev pub start : List TreeEntry → Shape → Mode → State
 start entries shape mode = fold planted (bare shape mode) entries
 
--- the tree of a fresh file system: the root alone
+-- the shape of the default image, and the tree of a fresh one: the root alone
+abbrev pub default_shape : Shape
+default_shape = record { data_blocks = 247; nodes = 60; names = 128 }
+
 abbrev pub root_alone : List TreeEntry
 root_alone = record { path = []; node = TreeNode.Directory } ∷ []
 

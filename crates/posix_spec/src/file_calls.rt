@@ -1,17 +1,18 @@
 //! The calls that take a handle: the rows of each, and what its last row does.
-ghost use Rattle.std.specs.Prelude.{◌≡◌, ◌+◌, ◌≤◌, ◌<◌, ◌^◌, IfOk, IfNone, OnErr, is_none, length, unwrap_or};
-ghost use Rattle.posix_words.specs.Open.{key_of, may_read, may_write, opened};
+ghost use Rattle.std.specs.Prelude.{◌≡◌, ◌+◌, ◌≤◌, ◌<◌, ◌^◌, false, IfOk, IfNone, OnErr, is_none, length, unwrap_or};
+ghost use Rattle.posix_words.specs.Open.{is_full, key_of, may_read, may_write, opened};
+ghost use Rattle.posix_spec.specs.State.{alone};
 ghost use Rattle.posix_spec.specs.Step.{close_done, dup_done, fsync_done, Gives, moved_offset, pread_done, pwrite_done, read_done, seek_done, truncate_done, write_done, written};
-ghost use Rattle.posix_spec.specs.Outcomes.{first};
+ghost use Rattle.posix_words.specs.Outcomes.{first};
 ghost use Rattle.posix_spec.specs.FileRows.{appends, close_rows, content, dup_rows, file_number, fsync_rows, no_blocks, offset_of, read_rows, seek_base, seek_rows, seek_target, truncate_rows, write_rows, write_start};
 
-use crate::outcomes::{answer, no_space, refused};
 use crate::state::State;
 use posix_types::{Errno, Handle, Outcome, Reply, What, Whence, Who};
 use posix_words::bytes::{
     LONGEST_FILE, LONGEST_WRITE, bytes_from, is_too_far, moved_place, overwritten, resized,
 };
 use posix_words::nodes::{bytes_at, published_at};
+use posix_words::outcomes::{answer, no_space, refused};
 use posix_words::room::{growth, write_need};
 use std::alloc::AllocError;
 
@@ -120,7 +121,8 @@ impl State {
     /// descriptor, and a file without name and description.
     #[tactic(auto, unfolding(crate::specs::Step::close_done, crate::specs::State::with_published))]
     pub(crate) fn close(&mut self, who: Who, handle: Handle) -> Outcome
-        ensures { Gives self.old (close_rows self.old.tables who handle) (close_done self.old who handle) self.new result }
+        ensures { Gives self.old (close_rows self.old.tables who handle)
+            (close_done alone self.old who handle) self.new result }
     {
         if let Some(outcome) = self.close_rows(who, handle) {
             return outcome;
@@ -134,7 +136,8 @@ impl State {
 
     #[tactic(auto, unfolding(crate::specs::FileRows::dup_rows))]
     fn dup_rows(&self, who: Who, handle: Handle) -> Option<Outcome>
-        ensures { result ≡ first (dup_rows self.now.tables who handle) }
+        ensures value { result ≡ first (dup_rows self.now.tables who handle) }
+        ensures free { IfNone result (is_full self.now.tables ≡ false) }
     {
         if self.is_unknown(who, handle) {
             return refused(Errno::EBADF);
@@ -157,9 +160,7 @@ impl State {
         }
         let descriptor = self.tables.next_descriptor() as u32;
         let key = self.key_of(who, old);
-        let mut tables = self.tables.clone()?;
-        tables.give_descriptor(who, new, key)?;
-        self.tables = tables;
+        self.tables.give_descriptor(who, new, key)?;
         Ok(answer(Reply::Fd(descriptor)))
     }
 
@@ -265,7 +266,8 @@ impl State {
         bytes: &[u8],
     ) -> Result<(), AllocError>
         requires { start + length bytes.now < 2 ^ 64 }
-        ensures ok { IfOk result (λ _. self.new ≡ written self.old who handle start bytes.now) }
+        ensures ok { IfOk result (λ _.
+            self.new ≡ written alone self.old who handle start bytes.now) }
         ensures err { OnErr result (self.new ≡ self.old) }
     {
         let file = self.file_number(who, handle);
@@ -288,8 +290,9 @@ impl State {
         handle: Handle,
         bytes: &[u8],
     ) -> Result<Outcome, AllocError>
-        ensures ok { IfOk result (Gives self.old (write_rows self.old who handle (write_start self.old who handle) bytes.now)
-            (write_done self.old who handle bytes.now) self.new) }
+        ensures ok { IfOk result (Gives self.old
+            (write_rows self.old who handle (write_start self.old who handle) bytes.now)
+            (write_done alone self.old who handle bytes.now) self.new) }
         ensures err { OnErr result (self.new ≡ self.old) }
     {
         let start = self.write_start(who, handle);
@@ -311,7 +314,7 @@ impl State {
         bytes: &[u8],
     ) -> Result<Outcome, AllocError>
         ensures ok { IfOk result (Gives self.old (write_rows self.old who handle place bytes.now)
-            (pwrite_done self.old who handle place bytes.now) self.new) }
+            (pwrite_done alone self.old who handle place bytes.now) self.new) }
         ensures err { OnErr result (self.new ≡ self.old) }
     {
         if let Some(outcome) = self.write_rows(who, handle, place, bytes) {
@@ -354,7 +357,8 @@ impl State {
     /// `seek`: sets the offset.
     #[tactic(auto, unfolding(crate::specs::Step::seek_done))]
     pub(crate) fn seek(&mut self, who: Who, handle: Handle, whence: Whence, by: i64) -> Outcome
-        ensures { Gives self.old (seek_rows self.old who handle whence by) (seek_done self.old who handle whence by) self.new result }
+        ensures { Gives self.old (seek_rows self.old who handle whence by)
+            (seek_done self.old who handle whence by) self.new result }
     {
         if let Some(outcome) = self.seek_rows(who, handle, whence, by) {
             return outcome;
@@ -415,7 +419,8 @@ impl State {
     /// `fsync`: publishes the length.
     #[tactic(auto, unfolding(crate::specs::Step::fsync_done))]
     pub(crate) fn fsync(&mut self, who: Who, handle: Handle) -> Outcome
-        ensures { Gives self.old (fsync_rows self.old.tables who handle) (fsync_done self.old who handle) self.new result }
+        ensures { Gives self.old (fsync_rows self.old.tables who handle)
+            (fsync_done self.old who handle) self.new result }
     {
         if let Some(outcome) = self.fsync_rows(who, handle) {
             return outcome;

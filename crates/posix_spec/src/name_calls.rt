@@ -1,14 +1,13 @@
 //! The calls that take a path: the rows of each, and what its last row does.
-ghost use Rattle.std.specs.Prelude.{◌≡◌, ◌+◌, ◌&&◌, ◌==◌, IfOk, OnErr, if◌then◌else◌, length, nat_lt};
+ghost use Rattle.std.specs.Prelude.{◌≡◌, ◌+◌, ◌&&◌, ◌==◌, false, IfNone, IfOk, OnErr, if◌then◌else◌, length, nat_lt};
 ghost use Rattle.posix_words.specs.Open.{is_full};
 ghost use Rattle.posix_words.specs.Nodes.{node_at};
 ghost use Rattle.posix_words.specs.Names.{directory_stands, exists_at, has_entries, height, number_at};
 ghost use Rattle.posix_spec.specs.Step.{Gives, list_done, mkdir_done, open_done, opening, opening_number, rename_done, renamed, rmdir_done, stat_done, stat_of, unlink_done};
-ghost use Rattle.posix_spec.specs.State.{space, swept, with_node};
-ghost use Rattle.posix_spec.specs.Outcomes.{first};
-ghost use Rattle.posix_spec.specs.NameRows.{list_rows, mkdir_rows, open_rows, rename_kind_rows, rename_rows, rmdir_rows, stat_rows, unlink_rows};
+ghost use Rattle.posix_spec.specs.State.{alone, space, swept, with_node};
+ghost use Rattle.posix_words.specs.Outcomes.{first};
+ghost use Rattle.posix_words.specs.NameRows.{list_rows, mkdir_rows, open_rows, rename_kind_rows, rename_rows, rmdir_rows, stat_rows, unlink_rows};
 
-use crate::outcomes::{answer, refused};
 use crate::state::State;
 use posix_types::{Data, Errno, Flags, Handle, Name, Outcome, Path, Reply, Stat, Who};
 use posix_words::entries::{
@@ -17,10 +16,11 @@ use posix_words::entries::{
 };
 use posix_words::nodes::{DirEntry, File, Node};
 use posix_words::open::Description;
+use posix_words::outcomes::{answer, refused};
 use std::alloc::{AllocError, Global};
 
 impl State {
-    #[tactic(auto, unfolding(crate::specs::NameRows::mkdir_rows))]
+    #[tactic(auto, unfolding(posix_words::specs::NameRows::mkdir_rows))]
     fn mkdir_rows(&self, path: &Path) -> Option<Outcome>
         ensures { result ≡ first (mkdir_rows (space self.now) path.now) }
     {
@@ -58,7 +58,7 @@ impl State {
         Ok(answer(Reply::Ok))
     }
 
-    #[tactic(auto, unfolding(crate::specs::NameRows::rmdir_rows))]
+    #[tactic(auto, unfolding(posix_words::specs::NameRows::rmdir_rows))]
     fn rmdir_rows(&self, path: &Path) -> Option<Outcome>
         ensures { result ≡ first (rmdir_rows (space self.now) path.now) }
     {
@@ -86,7 +86,8 @@ impl State {
     /// `rmdir`: removes an empty directory.
     #[tactic(auto, unfolding(crate::specs::Step::rmdir_done))]
     pub(crate) fn rmdir(&mut self, path: &Path) -> Outcome
-        ensures { Gives self.old (rmdir_rows (space self.old) path.now) (rmdir_done self.old path.now) self.new result }
+        ensures { Gives self.old (rmdir_rows (space self.old) path.now)
+            (rmdir_done self.old path.now) self.new result }
     {
         if let Some(outcome) = self.rmdir_rows(path) {
             return outcome;
@@ -97,7 +98,7 @@ impl State {
         answer(Reply::Ok)
     }
 
-    #[tactic(auto, unfolding(crate::specs::NameRows::unlink_rows))]
+    #[tactic(auto, unfolding(posix_words::specs::NameRows::unlink_rows))]
     fn unlink_rows(&self, path: &Path) -> Option<Outcome>
         ensures { result ≡ first (unlink_rows (space self.now) path.now) }
     {
@@ -122,7 +123,8 @@ impl State {
     /// `unlink`: removes the name of a file, which stays while a description has it.
     #[tactic(auto, unfolding(crate::specs::Step::unlink_done))]
     pub(crate) fn unlink(&mut self, path: &Path) -> Outcome
-        ensures { Gives self.old (unlink_rows (space self.old) path.now) (unlink_done self.old path.now) self.new result }
+        ensures { Gives self.old (unlink_rows (space self.old) path.now)
+            (unlink_done alone self.old path.now) self.new result }
     {
         if let Some(outcome) = self.unlink_rows(path) {
             return outcome;
@@ -135,20 +137,22 @@ impl State {
 
     /// Whether a directory with entries stands at a path.
     fn full_directory_stands(&self, path: &Path) -> bool
-        ensures { result ≡ directory_stands (space self.now) path.now && has_entries self.now.entries (number_at (space self.now) path.now) }
+        ensures { result ≡ directory_stands (space self.now) path.now
+            && has_entries self.now.entries (number_at (space self.now) path.now) }
     {
         self.directory_stands(path) && has_entries(&self.entries, self.number_at(path))
     }
 
     /// Whether a path below the target would have too many names, if the source's node moved there.
     fn is_too_deep(&self, from: &Path, to: &Path) -> bool
-        ensures { result ≡ nat_lt 16 (length to.now + height self.now.entries 16 (number_at (space self.now) from.now)) }
+        ensures { result ≡ nat_lt 16 (length to.now
+            + height self.now.entries 16 (number_at (space self.now) from.now)) }
     {
         let below = height(&self.entries, LONGEST_PATH, self.number_at(from));
         to.names.len() > LONGEST_PATH || LONGEST_PATH - to.names.len() < below
     }
 
-    #[tactic(auto, unfolding(crate::specs::NameRows::rename_kind_rows))]
+    #[tactic(auto, unfolding(posix_words::specs::NameRows::rename_kind_rows))]
     fn rename_kind_rows(&self, from: &Path, to: &Path) -> Option<Outcome>
         ensures { result ≡ first (rename_kind_rows (space self.now) from.now to.now) }
     {
@@ -174,12 +178,13 @@ impl State {
 
     /// Whether the same node stands at both paths.
     fn same_node_stands(&self, from: &Path, to: &Path) -> bool
-        ensures { result ≡ exists_at (space self.now) to.now && (number_at (space self.now) from.now == number_at (space self.now) to.now) }
+        ensures { result ≡ exists_at (space self.now) to.now
+            && (number_at (space self.now) from.now == number_at (space self.now) to.now) }
     {
         self.exists_at(to) && self.number_at(from) == self.number_at(to)
     }
 
-    #[tactic(auto, unfolding(crate::specs::NameRows::rename_rows))]
+    #[tactic(auto, unfolding(posix_words::specs::NameRows::rename_rows))]
     fn rename_rows(&self, from: &Path, to: &Path) -> Option<Outcome>
         ensures { result ≡ first (rename_rows (space self.now) from.now to.now) }
     {
@@ -234,7 +239,8 @@ impl State {
     /// Lets a node go that lost its name: a directory, or a file that has no other name and no
     /// description.
     fn leave(&mut self, number: usize, directory: bool, file: bool)
-        ensures { self.new ≡ (if directory then with_node self.old number Node.Gone else if file then swept self.old number else self.old) }
+        ensures { self.new ≡ (if directory then with_node self.old number Node.Gone
+            else if file then swept alone self.old number else self.old) }
     {
         if directory {
             self.set_node(number, Node::Gone);
@@ -247,7 +253,7 @@ impl State {
     #[tactic(auto, unfolding(crate::specs::Step::rename_done))]
     pub(crate) fn rename(&mut self, from: &Path, to: &Path) -> Result<Outcome, AllocError>
         ensures ok { IfOk result (Gives self.old (rename_rows (space self.old) from.now to.now)
-            (rename_done self.old from.now to.now) self.new) }
+            (rename_done alone self.old from.now to.now) self.new) }
         ensures err { OnErr result (self.new ≡ self.old) }
     {
         if let Some(outcome) = self.rename_rows(from, to) {
@@ -263,9 +269,11 @@ impl State {
         Ok(answer(Reply::Ok))
     }
 
-    #[tactic(auto, unfolding(crate::specs::NameRows::open_rows))]
+    #[tactic(auto, unfolding(posix_words::specs::NameRows::open_rows))]
     fn open_rows(&self, path: &Path, flags: Flags) -> Option<Outcome>
-        ensures { result ≡ first (open_rows (space self.now) (is_full self.now.tables) path.now flags) }
+        ensures value { result ≡
+            first (open_rows (space self.now) (is_full self.now.tables) false path.now flags) }
+        ensures free { IfNone result (is_full self.now.tables ≡ false) }
     {
         if self.is_too_long(path) {
             return refused(Errno::ENAMETOOLONG);
@@ -337,7 +345,8 @@ impl State {
         path: &Path,
         flags: Flags,
     ) -> Result<Outcome, AllocError>
-        ensures ok { IfOk result (Gives self.old (open_rows (space self.old) (is_full self.old.tables) path.now flags)
+        ensures ok { IfOk result (Gives self.old
+            (open_rows (space self.old) (is_full self.old.tables) false path.now flags)
             (open_done self.old who handle path.now flags) self.new) }
         ensures err { OnErr result (self.new ≡ self.old) }
     {
@@ -363,7 +372,7 @@ impl State {
         Ok(answer(Reply::Fd(descriptor)))
     }
 
-    #[tactic(auto, unfolding(crate::specs::NameRows::stat_rows))]
+    #[tactic(auto, unfolding(posix_words::specs::NameRows::stat_rows))]
     fn stat_rows(&self, path: &Path) -> Option<Outcome>
         ensures { result ≡ first (stat_rows (space self.now) path.now) }
     {
@@ -382,7 +391,8 @@ impl State {
     /// `stat`: says what stands at a path.
     #[tactic(auto, unfolding(crate::specs::Step::stat_done))]
     pub(crate) fn stat(&self, path: &Path) -> Outcome
-        ensures { Gives self.now (stat_rows (space self.now) path.now) (stat_done self.now path.now) self.now result }
+        ensures { Gives self.now (stat_rows (space self.now) path.now)
+            (stat_done self.now path.now) self.now result }
     {
         match self.stat_rows(path) {
             Some(outcome) => outcome,
@@ -390,7 +400,7 @@ impl State {
         }
     }
 
-    #[tactic(auto, unfolding(crate::specs::NameRows::list_rows))]
+    #[tactic(auto, unfolding(posix_words::specs::NameRows::list_rows))]
     fn list_rows(&self, path: &Path) -> Option<Outcome>
         ensures { result ≡ first (list_rows (space self.now) path.now) }
     {

@@ -1,10 +1,9 @@
 //! The state of a file system that the calls see.
 ghost use Rattle.std.specs.Prelude.{◌≡◌, ◌==◌, IfOk};
 ghost use Rattle.posix_words.specs.Names.{directory_stands, exists_at, file_stands, longest_name, node_at_path, number_at, parent_at, too_long, walk};
-ghost use Rattle.posix_spec.specs.State.{made, room, space, swept, unnamed, with_file, with_node, with_published};
-ghost use Rattle.posix_spec.specs.NameRows.{no_line, no_node};
+ghost use Rattle.posix_spec.specs.State.{alone, made, room, space, swept, unnamed, with_file, with_node, with_published};
+ghost use Rattle.posix_words.specs.NameRows.{no_line, no_node};
 
-use crate::outcomes::no_space;
 use posix_types::{Data, Errno, Mode, Name, Outcome, Path, Shape, What};
 use posix_words::entries::{
     child_of, directory_names, insert_entry, is_named, is_root, is_too_long, last_name,
@@ -12,6 +11,7 @@ use posix_words::entries::{
 };
 use posix_words::nodes::{DirEntry, File, Node, count_live, is_directory, publish, set_node};
 use posix_words::open::Tables;
+use posix_words::outcomes::no_space;
 use posix_words::room::room;
 use posix_words::walk::{lines_left, lines_taken, walk_down};
 use std::alloc::{AllocError, Global};
@@ -229,7 +229,7 @@ impl State {
     /// Lets a file go that has no name and no description.
     #[tactic(auto, unfolding(crate::specs::State::swept))]
     pub(crate) fn sweep(&mut self, number: usize)
-        ensures { self.new ≡ swept self.old number }
+        ensures { self.new ≡ swept alone self.old number }
     {
         if !is_named(&self.entries, number) && !self.tables.is_open(number) {
             self.set_node(number, Node::Gone);

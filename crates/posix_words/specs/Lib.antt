@@ -1,5 +1,7 @@
 pub mod Nodes
 pub mod Names
+pub mod Outcomes
+pub mod NameRows
 pub mod Room
 pub mod Open
 pub mod Bytes

@@ -20,7 +20,7 @@ find-insert p [] (suc i) x alone = refl
 find-insert p (y ∷ ys) (suc i) x alone = found_after (p y) (p x) y x (find p ys) (find p (insert ys i x)) alone (find-insert p ys i x)
 
 -- a list without the first element that passes
-abbrev without_first : {X : Type 0} → (X → Bool) → List X → List X
+abbrev pub without_first : {X : Type 0} → (X → Bool) → List X → List X
 without_first p [] = []
 without_first p (x ∷ xs) = cond (p x) xs (x ∷ without_first p xs)
 
@@ -46,7 +46,8 @@ removed : {X : Type 0} (b : Bool) (x : X) (xs rest : List X) (n : ℕ) → witho
 removed true x xs rest n same = rw zero_below refl
 removed false x xs rest n same = rw one_more (removed_after (nat_lt n (length xs)) x xs rest n same)
 
-without_place-position : {X : Type 0} (p : X → Bool) (xs : List X) → without_place xs (position p xs) ≡ without_first p xs
+-- a list without the element at the place of the first that passes
+pub without_place-position : {X : Type 0} (p : X → Bool) (xs : List X) → without_place xs (position p xs) ≡ without_first p xs
 without_place-position p [] = refl
 without_place-position p (x ∷ xs) = removed (p x) x xs (without_first p xs) (prefix_len (λ y. not (p y)) xs) (without_place-position p xs)
 
@@ -62,7 +63,8 @@ child_mapped : (b : Bool) (entry : DirEntry) (o : Option DirEntry) → option_ma
 child_mapped true entry o = refl
 child_mapped false entry o = refl
 
-none_mapped : (o : Option DirEntry) → option_map (λ e. e.child) o ≡ None → o ≡ None
+-- a look-up that finds no entry
+pub none_mapped : (o : Option DirEntry) → option_map (λ e. e.child) o ≡ None → o ≡ None
 none_mapped None none = refl
 none_mapped (Some entry) none = cc
 
@@ -71,7 +73,7 @@ both_true true b both = (refl, both)
 both_true false b both = cc
 
 -- an entry is that of its directory and its name alone
-entry_of : (parent : ℕ) (name : List ℕ) (entry : DirEntry) → is_entry parent name entry ≡ true → (entry.parent ≡ parent) × (entry.name ≡ name)
+pub entry_of : (parent : ℕ) (name : List ℕ) (entry : DirEntry) → is_entry parent name entry ≡ true → (entry.parent ≡ parent) × (entry.name ≡ name)
 entry_of parent name entry is =
     let both = both_true (entry.parent == parent) (same_name entry.name name) is in
     ((Decides-eqb entry.parent parent).0 both.0, (bytes_decides entry.name name).0 both.1)

@@ -6,14 +6,14 @@ use Rattle.posix_types.specs.declared.tree.TreeNode.{TreeNode}
 use Rattle.posix_words.specs.declared.nodes.Node.{Node}
 use Rattle.posix_words.specs.declared.nodes.DirEntry.{DirEntry}
 use Rattle.posix_words.specs.declared.places.Place.{Place}
-use Rattle.posix_words.specs.Names.{longest_path, is_root, bytes_before}
+use Rattle.posix_words.specs.Names.{is_root, bytes_before}
 use Rattle.posix_words.specs.Nodes.{node_at}
 
 -- a path as it is printed: each name behind a slash, and the root a slash alone
 abbrev pub printed : List (List ℕ) → List ℕ
 printed path = if is_root path then 47 ∷ [] else flat_map (λ name. 47 ∷ name) path
 
--- the path of a directory: that of its own directory, and its name; the root has no entry. No path goes further up than the longest.
+-- the path of a directory, going up at most so many names: that of its own directory, and its name; the root has no entry
 unfoldable pub path_to : List DirEntry → ℕ → ℕ → List (List ℕ)
 path_to entries zero node = []
 path_to entries (suc most) node = option_map_or (λ entry. path_to entries most entry.parent ++ entry.name ∷ []) (find (λ entry. entry.child == node) entries) []
@@ -22,9 +22,9 @@ path_to entries (suc most) node = option_map_or (λ entry. path_to entries most 
 abbrev pub place_of : List (List ℕ) → ℕ → Place
 place_of path node = record { path = path; text = printed path; node = node }
 
--- where an entry leads
+-- where an entry leads; no path has more names than there are entries
 unfoldable pub entry_place : List DirEntry → DirEntry → Place
-entry_place entries entry = place_of (path_to entries longest_path entry.parent ++ entry.name ∷ []) entry.child
+entry_place entries entry = place_of (path_to entries (length entries) entry.parent ++ entry.name ∷ []) entry.child
 
 -- the places with one more, in the byte order of the printed paths
 unfoldable pub with_place : List Place → Place → List Place

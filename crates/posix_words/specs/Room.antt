@@ -1,37 +1,22 @@
--- Room: how many blocks files hold, and how many are left. Lengths are in bytes, the rest is in blocks.
+-- Room: how many blocks files hold, and what a write needs. Lengths are in bytes, the rest is in blocks. How many blocks
+-- a length takes, what a file of it holds and what is kept back stand in `block_counts`.
 use Rattle.std.specs.Prelude.{ℕ, ◌+◌, ◌-◌, ◌/◌, min, max, List, length, sum_by}
-use Rattle.std.specs.Int.{div_ceil}
+use Rattle.block_counts.specs.Counts.{blocks_for, held_by}
 use Rattle.posix_types.specs.declared.call.Mode.{Mode}
 use Rattle.posix_words.specs.declared.nodes.Node.{Node}
 use Rattle.posix_words.specs.Nodes.{bytes_of}
 
--- the blocks that a length takes
-abbrev pub blocks_of : ℕ → ℕ
-blocks_of bytes = div_ceil bytes 4096
-
--- the chain blocks that name so many blocks, 255 in each
-abbrev pub chain_of : ℕ → ℕ
-chain_of blocks = div_ceil blocks 255
-
--- what a file of a length holds: its blocks, and those of its chain
-abbrev pub held_by_length : ℕ → ℕ
-held_by_length bytes = blocks_of bytes + chain_of (blocks_of bytes)
-
--- what is kept back of a number of data blocks
-abbrev pub reserve_of : ℕ → ℕ
-reserve_of data_blocks = chain_of (min 4096 data_blocks) + 3
-
 -- what all files hold, also those without a name
 abbrev pub held : List Node → ℕ
-held nodes = sum_by (λ node. held_by_length (length (bytes_of node))) nodes
+held nodes = sum_by (λ node. held_by (length (bytes_of node))) nodes
 
 -- what a file needs that goes from one length to another, which is not below it
 abbrev pub growth : ℕ → ℕ → ℕ
-growth from to = held_by_length to - held_by_length from
+growth from to = held_by to - held_by from
 
 -- how many blocks of a file of a length a write touches, from a start up to an end
 abbrev pub touched_below : ℕ → ℕ → ℕ → ℕ
-touched_below bytes start end = min (blocks_of end) (blocks_of bytes) - start / 4096
+touched_below bytes start end = min (blocks_for end) (blocks_for bytes) - start / 4096
 
 -- how many of them the mode stages anew
 abbrev pub staged_below : Mode → ℕ → ℕ → ℕ → ℕ

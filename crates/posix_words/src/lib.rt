@@ -3,18 +3,20 @@
 //! entries and walks of paths, what is open, room in blocks, bytes of files, and the places of a tree.
 //!
 //! The layer above may rely on this: each function answers its word exactly, and those that change a
-//! list leave what the word says. After want of memory a list or the tables may be changed in part,
-//! unless a clause says otherwise, so a caller that goes on works on a copy.
+//! list leave what the word says. After want of memory the tables, and the entries of
+//! `insert_entry`, are as before.
 //!
-//! `specs/Names.antt` takes entries and a test for directories, and no state: another file system
-//! states its own rules of names by it. `specs/Lookups.antt` has the laws of look-ups.
-//! Stands on `posix_types`.
+//! `specs/Names.antt` and `specs/NameRows.antt`, the rows of the calls that take a path, look at a
+//! `Space` and at no state: every file system refuses by these rows. `specs/Outcomes.antt` has what
+//! rows answer, and `specs/Lookups.antt` the laws of look-ups. How many blocks things take stands in
+//! `block_counts`. Stands on it and on `posix_types`.
 #![tactic(auto)]
 
 pub mod bytes;
 pub mod entries;
 pub mod nodes;
 pub mod open;
+pub mod outcomes;
 pub mod places;
 pub mod room;
 pub mod walk;

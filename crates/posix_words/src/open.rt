@@ -1,5 +1,5 @@
 //! What is open: descriptions, descriptors and handles.
-ghost use Rattle.std.specs.Prelude.{◌≡◌, ◌<◌, None, is_none, IfOk, length, find, position, replicate, slice_get};
+ghost use Rattle.std.specs.Prelude.{◌≡◌, ◌<◌, None, false, is_none, IfOk, OnErr, OnOk, length, find, position, replicate, slice_get};
 ghost use Rattle.std.specs.List.{list_any};
 ghost use Rattle.std.specs.Option.{option_flatten};
 ghost use Rattle.posix_words.specs.Open.{binding_of, closed, describes, description_number, free_descriptor, has_key, is_binding, is_full, is_open, key_of, next_descriptor, nothing_open, opened, same_who, with_binding, with_descriptor, with_offset, with_opened, without_binding, without_unused};
@@ -103,10 +103,14 @@ fn drop_binding(handles: &mut Vec<Binding>, who: Who, handle: Handle)
 /// Binds a handle; an older binding of it is dropped.
 #[tactic(auto, unfolding(crate::specs::Open::with_binding))]
 fn bind(handles: &mut Vec<Binding>, binding: Binding) -> Result<(), AllocError>
-    ensures { IfOk result (λ _. handles.new.items ≡ with_binding handles.old.items binding) }
+    ensures ok { OnOk result (handles.new.items ≡ with_binding handles.old.items binding) }
+    ensures err { OnErr result (handles.new.items ≡ handles.old.items) }
 {
-    drop_binding(handles, binding.who, binding.handle);
+    let older = place_of(handles, binding.who, binding.handle);
     handles.push(binding)?;
+    if let Some(place) = older {
+        handles.remove(place);
+    }
     Ok(())
 }
 
@@ -245,7 +249,8 @@ impl Tables {
         describes(&self.descriptions, node)
     }
 
-    /// Gives a description the lowest free descriptor, bound to a handle of the caller.
+    /// Gives a description the lowest free descriptor, bound to a handle of the caller. A descriptor
+    /// has to be free.
     #[tactic(auto, unfolding(crate::specs::Open::with_descriptor))]
     pub fn give_descriptor(
         &mut self,
@@ -253,10 +258,11 @@ impl Tables {
         handle: Handle,
         key: usize,
     ) -> Result<(), AllocError>
-        ensures { IfOk result (λ _. self.new ≡ with_descriptor self.old who handle key) }
+        requires { is_full self.old ≡ false }
+        ensures ok { OnOk result (self.new ≡ with_descriptor self.old who handle key) }
+        ensures err { OnErr result (self.new ≡ self.old) }
     {
         let descriptor = self.next_descriptor();
-        self.descriptors[descriptor] = Some(key);
         bind(
             &mut self.handles,
             Binding {
@@ -265,10 +271,12 @@ impl Tables {
                 descriptor,
             },
         )?;
+        self.descriptors[descriptor] = Some(key);
         Ok(())
     }
 
-    /// Opens a description with the lowest free descriptor, bound to a handle of the caller.
+    /// Opens a description with the lowest free descriptor, bound to a handle of the caller. A
+    /// descriptor has to be free.
     #[tactic(auto, unfolding(crate::specs::Open::with_opened))]
     pub fn open(
         &mut self,
@@ -276,11 +284,17 @@ impl Tables {
         handle: Handle,
         description: Description,
     ) -> Result<(), AllocError>
-        ensures { IfOk result (λ _. self.new ≡ with_opened self.old who handle description) }
+        requires { is_full self.old ≡ false }
+        ensures ok { OnOk result (self.new ≡ with_opened self.old who handle description) }
+        ensures err { OnErr result (self.new ≡ self.old) }
     {
         let key = self.descriptions.len();
         self.descriptions.push(Some(description))?;
-        self.give_descriptor(who, handle, key)
+        if let Err(refused) = self.give_descriptor(who, handle, key) {
+            self.descriptions.truncate(key);
+            return Err(refused);
+        }
+        Ok(())
     }
 
     /// Moves the offset of a description.

@@ -4,7 +4,7 @@ ghost use Rattle.posix_words.specs.Places.{entry_place, node_of, path_to, place_
 ghost use Rattle.posix_words.specs.Nodes.{node_at};
 ghost use Rattle.posix_words.specs.Names.{bytes_before};
 
-use crate::entries::{LONGEST_PATH, bytes_before, is_root};
+use crate::entries::{bytes_before, is_root};
 use crate::nodes::{DirEntry, File, Node};
 use posix_types::{Data, Name, Path, TreeEntry, TreeNode};
 use std::alloc::{AllocError, Global};
@@ -84,7 +84,7 @@ fn path_to(
 fn entry_place(alloc: Global, entries: &[DirEntry], entry: &DirEntry) -> Result<Place, AllocError>
     ensures { IfOk result (λ place. place ≡ entry_place entries.now entry.now) }
 {
-    let mut path = path_to(alloc, entries, LONGEST_PATH, entry.parent)?;
+    let mut path = path_to(alloc, entries, entries.len(), entry.parent)?;
     path.names.push(entry.name.clone()?)?;
     let text = printed(alloc, &path)?;
     Ok(Place {

@@ -1,55 +1,19 @@
 //! Room: how many blocks files hold, and how many are left.
 ghost use Rattle.std.specs.Prelude.{◌≡◌, ◌+◌, ◌-◌, ◌^◌, ◌≤◌};
-ghost use Rattle.posix_words.specs.Room.{blocks_of, chain_of, growth, held, held_by_length, reserve_of, staged_below, touched_below, write_need};
+ghost use Rattle.block_counts.specs.Counts.{reserve_for};
+ghost use Rattle.posix_words.specs.Room.{growth, held, staged_below, touched_below, write_need};
 
 use crate::nodes::{Node, length_of};
+use block_counts::{BLOCK, blocks_for, held_by, reserve_for};
 use posix_types::Mode;
-
-/// The bytes of a block.
-pub const BLOCK: u64 = 4096;
-
-/// How many blocks one chain block names.
-const NAMED_BY_CHAIN_BLOCK: u64 = 255;
-
-/// The blocks that so many bytes take.
-fn blocks_of(bytes: u64) -> u64
-    ensures value { result ≡ blocks_of bytes }
-    ensures bounded { result ≤ 2 ^ 52 }
-{
-    bytes.div_ceil(BLOCK)
-}
-
-/// The chain blocks that name so many blocks.
-fn chain_of(blocks: u64) -> u64
-    ensures value { result ≡ chain_of blocks }
-    ensures bounded { result ≤ blocks }
-{
-    blocks.div_ceil(NAMED_BY_CHAIN_BLOCK)
-}
-
-/// The blocks that a file of so many bytes holds, those of its chain included.
-pub fn held_by_length(bytes: u64) -> u64
-    ensures value { result ≡ held_by_length bytes }
-    ensures bounded { result ≤ 2 ^ 53 }
-{
-    let blocks = blocks_of(bytes);
-    blocks + chain_of(blocks)
-}
-
-/// The blocks that are kept back of so many data blocks.
-fn reserve_of(data_blocks: u32) -> u64
-    ensures value { result ≡ reserve_of data_blocks }
-{
-    chain_of(u64::from(data_blocks).min(4096)) + 3
-}
 
 /// The data blocks that no file holds and that are not kept back.
 pub fn room(data_blocks: u32, nodes: &[Node]) -> u64
-    ensures { result ≡ data_blocks - reserve_of data_blocks - held nodes.now }
+    ensures { result ≡ data_blocks - reserve_for data_blocks - held nodes.now }
 {
-    let mut left = u64::from(data_blocks).saturating_sub(reserve_of(data_blocks));
+    let mut left = u64::from(data_blocks).saturating_sub(u64::from(reserve_for(data_blocks)));
     for node in nodes {
-        left = left.saturating_sub(held_by_length(length_of(node)));
+        left = left.saturating_sub(held_by(length_of(node)));
     }
     left
 }
@@ -59,7 +23,7 @@ pub fn growth(from: u64, to: u64) -> u64
     ensures value { result ≡ growth from to }
     ensures bounded { result ≤ 2 ^ 53 }
 {
-    held_by_length(to).saturating_sub(held_by_length(from))
+    held_by(to).saturating_sub(held_by(from))
 }
 
 /// The blocks of a file of so many bytes that a write from `start` up to `end` touches.
@@ -67,8 +31,8 @@ fn touched_below(bytes: u64, start: u64, end: u64) -> u64
     ensures value { result ≡ touched_below bytes start end }
     ensures bounded { result ≤ 2 ^ 52 }
 {
-    blocks_of(end)
-        .min(blocks_of(bytes))
+    blocks_for(end)
+        .min(blocks_for(bytes))
         .saturating_sub(start / BLOCK)
 }
 

@@ -1,4 +1,5 @@
--- The rows of the calls that take a path, in the order in which they are tried.
+-- The rows of the calls that take a path, in the order in which they are tried. They look at a `Space` alone, so that every
+-- file system refuses by the same rows.
 use Rattle.std.specs.Prelude.{ℕ, ◌+◌, Bool, not, ◌&&◌, ◌||◌, ◌==◌, nat_lt, List, [], ◌∷◌, length, Option, Some, None, Result, Ok, Err}
 use Rattle.posix_types.specs.declared.item.Outcome.{Outcome}
 use Rattle.posix_types.specs.declared.reply.Reply.{Reply}
@@ -6,7 +7,7 @@ use Rattle.posix_types.specs.declared.reply.Errno.{Errno}
 use Rattle.posix_types.specs.declared.reply.What.{What}
 use Rattle.posix_types.specs.declared.handle.Flags.{Flags}
 use Rattle.posix_words.specs.Names.{directory_stands, exists_at, file_stands, has_entries, height, is_below, is_root, last_name, lines_taken, longest_path, number_at, Space, too_long, walk}
-use Rattle.posix_spec.specs.Outcomes.{answer, first, idle_row, row, space_row, unless}
+use Rattle.posix_words.specs.Outcomes.{answer, first, idle_row, row, space_row, unless}
 
 -- a name that is too long, or too many names
 abbrev pub too_long_row : Space → List (List ℕ) → Option Outcome
@@ -78,13 +79,14 @@ rename_rows space p q =
     ∷ first (rename_kind_rows space p q)
     ∷ []
 
--- `full`: all descriptors are in use
-unfoldable pub open_rows : Space → Bool → List (List ℕ) → Flags → List (Option Outcome)
-open_rows space full p f =
+-- `full`: all descriptors are in use; `busy`: P is a file that another instance has open
+unfoldable pub open_rows : Space → Bool → Bool → List (List ℕ) → Flags → List (Option Outcome)
+open_rows space full busy p f =
     too_long_row space p
     ∷ walk_row space p
     ∷ row (exists_at space p && (f.create && f.exclusive)) Errno.EEXIST
     ∷ row (directory_stands space p) Errno.EISDIR
+    ∷ row busy Errno.EBUSY
     ∷ row (not (exists_at space p) && not f.create) Errno.ENOENT
     ∷ row full Errno.EMFILE
     ∷ unless (exists_at space p) (no_node space)

@@ -1,3 +1,5 @@
+pub mod PosixLaws
+pub mod Laws
 pub mod Orders
 pub mod Schedules
 pub mod Busy

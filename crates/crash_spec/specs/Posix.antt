@@ -4,7 +4,7 @@
 -- prefix, each file cut to the length that it had published by then. Bytes below that length are written in place, so
 -- that later writes may be seen in them: the last one, or, where the file was shortened since to that byte or less, any
 -- of them (its block may have been given up and the old one be found again). Unmounting publishes all at once.
-use Rattle.std.specs.Prelude.{◌≡◌, ◌⊎◌, ℕ, ◌<◌, Bool, true, false, ◌&&◌, List, [], ◌∷◌, ◌++◌, length, map, take, slice_index, Contains}
+use Rattle.std.specs.Prelude.{◌≡◌, ◌⊎◌, ℕ, ◌<◌, Bool, true, false, ◌&&◌, List, [], ◌∷◌, ◌++◌, length, map, take, slice_index}
 use Rattle.std.specs.List.{list_any}
 use Rattle.posix_types.specs.declared.call.Call.{Call}
 use Rattle.posix_types.specs.declared.reply.Reply.{Reply}
@@ -16,7 +16,7 @@ use Rattle.posix_words.specs.Nodes.{node_at}
 use Rattle.posix_spec.specs.Run.{after_calls, Begun, begun, run}
 use Rattle.posix_spec.specs.State.{State}
 use Rattle.posix_spec.specs.Tree.{tree}
-use Rattle.crash_spec.specs.Values.{is_shortened, last_of, value_before_cut, values_put}
+use Rattle.crash_spec.specs.Values.{is_shortened, IsOneOf, last_of, value_before_cut, values_put}
 
 -- A rule for bytes: of byte i of node n, which had value v, whether x may be found there.
 abbrev pub ByteRule : Type 1
@@ -28,7 +28,7 @@ LaterRule = State → List Begun → ByteRule
 
 -- the last of v and the later values, or any of them where the file was shortened
 abbrev pub IsLastOrAny : Bool → ℕ → List ℕ → ℕ → Type 0
-IsLastOrAny true v values x = Contains (v ∷ values) x
+IsLastOrAny true v values x = IsOneOf (v ∷ values) x
 IsLastOrAny false v values x = x ≡ last_of v values
 
 -- THE RULE: the last value that was put there; where a later call shortened the file to i bytes or less, any of them
@@ -42,7 +42,7 @@ LastBeforeCut s later n i v x = x ≡ value_before_cut s later n i v
 
 -- either rule, or a value that unfinished calls put there, which run after the history
 abbrev pub OrUnfinished : ByteRule → State → List Begun → ByteRule
-OrUnfinished rule s unfinished n i v x = rule n i v x ⊎ Contains (values_put s unfinished n i) x
+OrUnfinished rule s unfinished n i v x = rule n i v x ⊎ IsOneOf (values_put s unfinished n i) x
 
 -- a file is cut to its published length, and its bytes are by the rule
 pub record FileLeft (rule : ByteRule) (n : ℕ) (file : File) (bytes : List ℕ) : Type 0 where

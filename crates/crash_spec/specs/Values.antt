@@ -1,6 +1,6 @@
 -- Bytes and what calls make of them: the values that writes put at a byte of a file, in order, and whether the file was
 -- shortened to that byte or less. Files go by node numbers, which never change for a file.
-use Rattle.std.specs.Prelude.{ℕ, ◌-◌, Bool, false, ◌&&◌, ◌||◌, ◌==◌, nat_lt, nat_le, List, [], ◌∷◌, length, Option, Some, None, slice_get, if◌then◌else◌}
+use Rattle.std.specs.Prelude.{◌≡◌, ◌⊎◌, ℕ, ◌-◌, Bool, false, ◌&&◌, ◌||◌, ◌==◌, nat_lt, nat_le, List, [], ◌∷◌, length, Option, Some, None, slice_get, if◌then◌else◌}
 use Rattle.posix_words.specs.declared.nodes.Node.{Node}
 use Rattle.posix_words.specs.Nodes.{bytes_of, node_at}
 use Rattle.posix_spec.specs.Put.{Put, put_by}
@@ -40,6 +40,11 @@ with_value (Some x) values = x ∷ values
 unfoldable pub values_put : State → List Begun → ℕ → ℕ → List ℕ
 values_put s [] n i = []
 values_put s (c ∷ calls) n i = with_value (value_put s c n i) (values_put (after_call s c) calls n i)
+
+-- a value is one of these
+abbrev pub IsOneOf : List ℕ → ℕ → Type 0
+IsOneOf [] x = ⊥
+IsOneOf (v ∷ values) x = (x ≡ v) ⊎ IsOneOf values x
 
 -- the last of a value and the values that follow it
 abbrev pub last_of : ℕ → List ℕ → ℕ

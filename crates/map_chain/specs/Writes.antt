@@ -4,7 +4,7 @@ use Rattle.pm_words.specs.declared.Cell.{Cell}
 use Rattle.pm_words.specs.declared.Cell.TheVariants.{Single}
 use Rattle.pm_words.specs.Cells.{cell}
 use Rattle.pm_words.specs.Words.{Words}
-use Rattle.disk_places.specs.Places.{chains_for}
+use Rattle.block_counts.specs.Counts.{chains_for}
 use Rattle.extent_map.specs.declared.extents.Extent.{Extent}
 use Rattle.disk_rules.specs.Chains.{chain_word, first_or_zero}
 use Rattle.disk_rules.specs.Standing.{IsChain}

@@ -106,8 +106,8 @@ pub(crate) fn read_whole<R: Read>(alloc: Global, reader: &mut R) -> Result<Vec<u
     Err(ReadFault::Broken(ErrorKind::TimedOut))
 }
 
-// Writes all of the bytes, in as many writes as it takes. A write that was interrupted is tried again;
-// one that takes nothing is a failure.
+// Writes all of the bytes, in as many writes as it takes. A write that was interrupted is tried
+// again; one that takes nothing is a failure.
 pub(crate) fn write_whole<W: Write>(writer: &mut W, bytes: &[u8]) -> io::Result<()>
     ensures appended { OnOk result
         (Appends (W.contents writer.old) (W.contents writer.new) bytes.now) }

@@ -35,7 +35,8 @@ pub trait Files {
     /// The names with their bytes, where the object tells them.
     ghost told: { Self → Option FileList };
 
-    /// How often reading or writing failed, and how often a file was missing. Both stand still at 2^64 - 1.
+    /// How often reading or writing failed, and how often a file was missing. Both stand still at
+    /// 2^64 - 1.
     ghost faults: { Self → ℕ };
 
     ghost misses: { Self → ℕ };

@@ -8,7 +8,8 @@ use crate::faults::{FileFault, Files, Sink, SinkFault};
 use std::alloc::{AllocError, Global};
 use std::marker::Model;
 
-// The calls of an object: the numbers of those that are to fail, the number of the next, and how many failed.
+// The calls of an object: the numbers of those that are to fail, the number of the next, and how
+// many failed.
 #[derive(Drop)]
 struct Calls {
     failing: Vec<u64>,
@@ -34,7 +35,8 @@ fn fails_now(calls: &mut Calls) -> bool
     fails
 }
 
-/// Files in memory. The calls of the listed numbers fail, counted from 0 over `read` and `replace` alike.
+/// Files in memory. The calls of the listed numbers fail, counted from 0 over `read` and `replace`
+/// alike.
 #[derive(Drop)]
 pub struct MemFiles {
     alloc: Global,
@@ -77,7 +79,8 @@ fn make(alloc: Global, name: &str, bytes: &[u8]) -> Result<(String, Vec<u8>), Al
 }
 
 impl MemFiles {
-    /// These files, of which the first of a name counts, and the numbers of the calls that are to fail.
+    /// These files, of which the first of a name counts, and the numbers of the calls that are to
+    /// fail.
     pub fn new(alloc: Global, files: Vec<(String, Vec<u8>)>, failing: Vec<u64>) -> MemFiles
         ensures { result ≡ record {
           files = shown files.items;
@@ -116,7 +119,8 @@ impl Files for MemFiles {
     ghost misses = { λ m. m.misses };
 
     fn read(&mut self, alloc: Global, name: &str) -> Result<Vec<u8>, FileFault>
-        ensures bytes { IfOk result (λ bytes. AreOfFile (Some self.old.files) name.now bytes.items) }
+        ensures bytes { IfOk result (λ bytes.
+            AreOfFile (Some self.old.files) name.now bytes.items) }
         ensures told { Some self.new.files ≡ Some self.old.files }
         ensures faults { self.old.faults ≤ self.new.faults }
         ensures misses { self.old.misses ≤ self.new.misses }
@@ -130,7 +134,8 @@ impl Files for MemFiles {
             → IsAbsent (Some self.old.files) name.now }
 
         // Just the listed calls fail.
-        ensures listed { IsErrOf result FileFault.Failed ↔ Contains self.old.failing self.old.calls }
+        ensures listed { IsErrOf result FileFault.Failed
+            ↔ Contains self.old.failing self.old.calls }
         ensures list { self.new.failing ≡ self.old.failing }
         ensures next { self.new.calls ≡ counted self.old.calls }
     {
@@ -156,7 +161,8 @@ impl Files for MemFiles {
         ensures never_missing { IsErrOf result FileFault.Missing → ⊥ }
 
         // Just the listed calls fail.
-        ensures listed { IsErrOf result FileFault.Failed ↔ Contains self.old.failing self.old.calls }
+        ensures listed { IsErrOf result FileFault.Failed
+            ↔ Contains self.old.failing self.old.calls }
         ensures list { self.new.failing ≡ self.old.failing }
         ensures next { self.new.calls ≡ counted self.old.calls }
     {
@@ -232,7 +238,8 @@ impl Sink for MemSink {
         ensures failed { IsErrOf result SinkFault.Failed → Rose self.old.faults self.new.faults }
 
         // Just the listed puts fail.
-        ensures listed { IsErrOf result SinkFault.Failed ↔ Contains self.old.failing self.old.calls }
+        ensures listed { IsErrOf result SinkFault.Failed
+            ↔ Contains self.old.failing self.old.calls }
         ensures list { self.new.failing ≡ self.old.failing }
         ensures next { self.new.calls ≡ counted self.old.calls }
     {

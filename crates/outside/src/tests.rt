@@ -50,8 +50,8 @@ fn real_files(rt: HostRuntime) -> Result<(), Fail> {
     Ok(())
 }
 
-/// How an object ends its calls: the one of this number, counted from 1, fails with an error of this
-/// kind.
+// How an object ends its calls: the one of this number, counted from 1, fails with an error of this
+// kind.
 #[derive(Clone, Copy)]
 struct Rough {
     calls: u8,
@@ -78,7 +78,7 @@ impl Rough {
     }
 }
 
-/// A reader of some bytes, one a call.
+// A reader of some bytes, one a call.
 #[derive(Drop)]
 struct RoughReader {
     left: u8,
@@ -123,7 +123,7 @@ fn readers_that_fail_once(rt: HostRuntime) -> Result<(), Fail> {
     Ok(())
 }
 
-/// A writer that takes one byte a call, and holds what it takes until it is flushed.
+// A writer that takes one byte a call, and holds what it takes until it is flushed.
 #[derive(Drop)]
 struct RoughWriter {
     taken: Vec<u8>,

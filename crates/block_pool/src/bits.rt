@@ -4,7 +4,7 @@ ghost use Rattle.extent_facts.specs.Counts.{count_below};
 ghost use Rattle.extent_words.specs.Extents.{is_within};
 ghost use Rattle.block_pool.specs.Bits.{is_set as is_set_lem, NoneSet, IsNext};
 
-/// Whether the bit at a place is set.
+// Whether the bit at a place is set.
 pub(crate) fn is_set(words: &[u64], place: usize) -> bool
     requires { place < 64 * length words.now }
     ensures { result ≡ is_set_lem words.now place }
@@ -12,7 +12,7 @@ pub(crate) fn is_set(words: &[u64], place: usize) -> bool
     (words[place / 64] >> (place % 64)) & 1 == 1
 }
 
-/// Sets the bit at a place.
+// Sets the bit at a place.
 pub(crate) fn set(words: &mut [u64], place: usize)
     requires { place < 64 * length words.old }
     ensures here { is_set_lem words.new place ≡ true }
@@ -21,7 +21,7 @@ pub(crate) fn set(words: &mut [u64], place: usize)
     words[place / 64] |= 1 << (place % 64);
 }
 
-/// Clears the bit at a place.
+// Clears the bit at a place.
 pub(crate) fn clear(words: &mut [u64], place: usize)
     requires { place < 64 * length words.old }
     ensures here { is_set_lem words.new place ≡ false }
@@ -30,7 +30,7 @@ pub(crate) fn clear(words: &mut [u64], place: usize)
     words[place / 64] &= !(1 << (place % 64));
 }
 
-/// The lowest place from `from` on and before `to` whose bit is set. It looks at each word once.
+// The lowest place from `from` on and before `to` whose bit is set. It looks at each word once.
 pub(crate) fn next_set(words: &[u64], from: usize, to: usize) -> Option<usize>
     requires words { to ≤ 64 * length words.now }
     requires few { to < 2 ^ 32 }
@@ -49,7 +49,7 @@ pub(crate) fn next_set(words: &[u64], from: usize, to: usize) -> Option<usize>
     None
 }
 
-/// How many of the bits before `to` are set.
+// How many of the bits before `to` are set.
 pub(crate) fn count_set(words: &[u64], to: u32) -> u32
     requires { to ≤ 64 * length words.now }
     ensures { result ≡ count_below (is_set_lem words.now) to }
@@ -63,11 +63,12 @@ pub(crate) fn count_set(words: &[u64], to: u32) -> u32
     count
 }
 
-/// Clears `count` bits from `first` on.
+// Clears `count` bits from `first` on.
 pub(crate) fn clear_run(words: &mut [u64], first: usize, count: usize)
     requires words { first + count ≤ 64 * length words.old }
     requires few { first + count < 2 ^ 32 }
-    ensures { (p : ℕ) → is_set_lem words.new p ≡ (is_set_lem words.old p && not (is_within first count p)) }
+    ensures { (p : ℕ) → is_set_lem words.new p
+        ≡ (is_set_lem words.old p && not (is_within first count p)) }
 {
     for place in first..first + count {
         clear(words, place);

@@ -9,7 +9,7 @@ use crate::bits::{clear, clear_run, next_set};
 use extent_map::Extent;
 use std::alloc::{AllocError, Global};
 
-/// The blocks of the n lowest bits that are set among the first `count`, in rising order.
+// The blocks of the n lowest bits that are set among the first `count`, in rising order.
 pub(crate) fn lowest_blocks(
     alloc: Global,
     words: &[u64],
@@ -36,7 +36,7 @@ pub(crate) fn lowest_blocks(
     Ok(blocks)
 }
 
-/// Clears the bits of blocks that rise and are set.
+// Clears the bits of blocks that rise and are set.
 pub(crate) fn clear_blocks(words: &mut [u64], first: u32, count: u32, blocks: &[u32])
     requires words { count ≤ 64 * length words.old }
     requires rising { AllPairs ◌<◌ blocks.now }
@@ -51,7 +51,7 @@ pub(crate) fn clear_blocks(words: &mut [u64], first: u32, count: u32, blocks: &[
     }
 }
 
-/// Clears the bits of the disk blocks of extents.
+// Clears the bits of the disk blocks of extents.
 pub(crate) fn clear_extents(words: &mut [u64], first: u32, count: u32, extents: &[Extent])
     requires words { count ≤ 64 * length words.old }
     requires fits { first + count < 2 ^ 32 }

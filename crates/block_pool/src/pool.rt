@@ -64,8 +64,8 @@ impl Pool {
         place < self.count && is_set(&self.words, place as usize)
     }
 
-    /// Takes the n lowest free blocks and answers them in rising order. None, exactly where fewer are
-    /// free, and an error leave the pool as it was.
+    /// Takes the n lowest free blocks and answers them in rising order. None, exactly where fewer
+    /// are free, and an error leave the pool as it was.
     pub fn take(&mut self, n: u32) -> Result<Option<Vec<u32>>, AllocError>
         ensures taken { IfOk result (λ answer.
             IfSome answer (λ taken. Takes n taken.items self.old self.new)) }

@@ -2,18 +2,25 @@
 use crate::draws::Draws;
 use crate::plain::{BLOCKS, Plain, run};
 use extent_map::ExtentMap;
-use std::alloc::Global;
-use std::process::Abort;
-use std::test::Fail;
+use std::alloc::{AllocError, Global};
 
-// Makes one change to both, and compares what it displaced and what is left.
+// How many changes are made.
+pub(crate) const CHANGES: u32 = 3000;
+
+// Whether the map has the array's content.
+fn is_like(alloc: Global, map: &ExtentMap, plain: &Plain) -> Result<bool, AllocError> {
+    let extents = plain.extents(alloc)?;
+    let looks_up = (0..BLOCKS).all(|block| map.lookup(block) == plain.at(block));
+    Ok(map.extents() == extents.as_slice() && looks_up)
+}
+
+// Makes one change to both, and tells whether what it displaced and what is left are the same.
 fn change(
-    rt: &impl Abort,
     alloc: Global,
     draws: &mut Draws,
     map: &mut ExtentMap,
     plain: &mut Plain,
-) -> Result<(), Fail> {
+) -> Result<bool, AllocError> {
     let run = run(draws);
     let before = *plain;
     let (displaced, was) = match draws.below(4) {
@@ -32,21 +39,18 @@ fn change(
             (map.replace_range(run)?, part)
         }
     };
-    assert_eq!(rt; displaced.as_slice(), was.extents(alloc)?.as_slice());
-    assert_eq!(rt; map.extents(), plain.extents(alloc)?.as_slice());
-    for block in 0..BLOCKS {
-        assert_eq!(rt; map.lookup(block), plain.at(block), "at {block}");
-    }
-    Ok(())
+    Ok(displaced == was.extents(alloc)? && is_like(alloc, map, plain)?)
 }
 
-#[test]
-fn maps_are_like_arrays(rt: HostRuntime) -> Result<(), Fail> {
+// The first change after which map and array differ.
+pub(crate) fn first_difference(alloc: Global) -> Result<Option<u32>, AllocError> {
     let mut draws = Draws::new(20_190_427);
-    let mut map = ExtentMap::new(rt.alloc());
+    let mut map = ExtentMap::new(alloc);
     let mut plain = Plain::new();
-    for _change in 0..3000 {
-        change(&rt, rt.alloc(), &mut draws, &mut map, &mut plain)?;
+    for number in 0..CHANGES {
+        if !change(alloc, &mut draws, &mut map, &mut plain)? {
+            return Ok(Some(number));
+        }
     }
-    Ok(())
+    Ok(None)
 }

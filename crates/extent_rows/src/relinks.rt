@@ -3,9 +3,10 @@ use crate::draws::Draws;
 use crate::plain::{BLOCKS, Plain, run};
 use extent_map::ExtentMap;
 use k_relink::{RelinkFault, relink};
-use std::alloc::Global;
-use std::process::Abort;
-use std::test::Fail;
+use std::alloc::{AllocError, Global};
+
+// How many moves are made.
+pub(crate) const CHANGES: u32 = 2000;
 
 // A map and its array.
 #[derive(Drop)]
@@ -22,11 +23,17 @@ impl Pair {
         }
     }
 
-    fn grow(&mut self, draws: &mut Draws) -> Result<(), Fail> {
+    fn grow(&mut self, draws: &mut Draws) -> Result<(), AllocError> {
         let run = run(draws);
         let _displaced = self.map.replace_range(run)?;
         self.plain.set(run);
         Ok(())
+    }
+
+    // Whether the map has the array's content.
+    fn is_like(&self, alloc: Global) -> Result<bool, AllocError> {
+        let extents = self.plain.extents(alloc)?;
+        Ok(self.map.extents() == extents.as_slice())
     }
 }
 
@@ -35,47 +42,43 @@ fn first_hole(plain: &Plain, first: u32, count: u32) -> Option<u32> {
     (first..BLOCKS.min(first.saturating_add(count))).find(|block| plain.at(*block).is_none())
 }
 
-// Relinks a range that is drawn, and compares what is left with what the arrays say.
+// Relinks a range that is drawn, and tells whether what is left is what the arrays say.
 fn change(
-    rt: &impl Abort,
     alloc: Global,
     draws: &mut Draws,
     src: &mut Pair,
     dst: &mut Pair,
-) -> Result<(), Fail> {
+) -> Result<bool, RelinkFault> {
     let from = draws.below(BLOCKS);
     let to = draws.below(BLOCKS);
     let count = draws.below((BLOCKS - from.max(to)).min(6) + 1);
+    let hole = first_hole(&src.plain, from, count);
     let linked = match relink(alloc, &src.map, from, &dst.map, to, count) {
         Ok(linked) => linked,
-        Err(RelinkFault::Hole { block }) => {
-            assert_eq!(rt; Some(block), first_hole(&src.plain, from, count));
-            return Ok(());
-        }
-        Err(fault) => return Err(fault.into()),
+        Err(RelinkFault::Hole { block }) => return Ok(hole == Some(block)),
+        Err(fault) => return Err(fault),
     };
-    assert_eq!(rt; first_hole(&src.plain, from, count), None);
-    let freed = dst.plain.part(to, to + count);
+    let freed = dst.plain.part(to, to + count).extents(alloc)?;
     for i in 0..count {
         dst.plain.put(to + i, src.plain.at(from + i));
     }
     src.plain.clear(from, count);
-    assert_eq!(rt; linked.freed.as_slice(), freed.extents(alloc)?.as_slice());
-    assert_eq!(rt; linked.src.extents(), src.plain.extents(alloc)?.as_slice());
-    assert_eq!(rt; linked.dst.extents(), dst.plain.extents(alloc)?.as_slice());
+    let frees = linked.freed == freed;
     src.map = linked.src;
     dst.map = linked.dst;
-    Ok(())
+    Ok(hole.is_none() && frees && src.is_like(alloc)? && dst.is_like(alloc)?)
 }
 
-#[test]
-fn relinks_are_like_array_moves(rt: HostRuntime) -> Result<(), Fail> {
+// The first move after which maps and arrays differ.
+pub(crate) fn first_difference(alloc: Global) -> Result<Option<u32>, RelinkFault> {
     let mut draws = Draws::new(20_191_027);
-    let mut src = Pair::new(rt.alloc());
-    let mut dst = Pair::new(rt.alloc());
-    for _change in 0..2000 {
+    let mut src = Pair::new(alloc);
+    let mut dst = Pair::new(alloc);
+    for number in 0..CHANGES {
         src.grow(&mut draws)?;
-        change(&rt, rt.alloc(), &mut draws, &mut src, &mut dst)?;
+        if !change(alloc, &mut draws, &mut src, &mut dst)? {
+            return Ok(Some(number));
+        }
     }
-    Ok(())
+    Ok(None)
 }

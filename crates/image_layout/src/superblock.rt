@@ -6,18 +6,23 @@ ghost use Rattle.disk_places.specs.Superblock.{superblock, geometry_at, has_magi
 
 use crate::geometry::{Geometry, VERSION};
 use line_fields::{put_u32, u32_at};
+use thiserror::Error;
 
-/// The first eight bytes of a superblock.
+// The first eight bytes of a superblock.
 const MAGIC: &[u8; 8] = b"SPLITFS1";
 
 /// Why a line is no superblock: the first of these that holds.
-#[derive(Clone, Copy, Debug, PartialEq, Eq)]
+#[derive(Clone, Copy, Debug, PartialEq, Eq, Error)]
 pub enum SuperFault {
     /// It does not begin with the eight bytes of every superblock.
+    #[error("the first line is no superblock")]
     Magic,
     /// Its version is not 1.
+    #[error("the version of the image is not 1")]
     Version,
-    /// A number is out of its range, fewer than 32 data blocks are left, or a byte of no field is not 0.
+    /// A number is out of its range, fewer than 32 data blocks are left, or a byte of no field is
+    /// not 0.
+    #[error("the numbers of the image are not in range")]
     Numbers,
 }
 
@@ -39,11 +44,14 @@ impl Geometry {
 
 /// The geometry whose superblock the line is, or the first fault of the line.
 pub fn read_superblock(bytes: &[u8; 64]) -> Result<Geometry, SuperFault>
-    ensures ok { IsOk result ↔ (has_magic bytes.now ≡ true) × (has_version bytes.now ≡ true) × (has_numbers bytes.now ≡ true) }
+    ensures ok { IsOk result ↔ (has_magic bytes.now ≡ true) × (has_version bytes.now ≡ true)
+        × (has_numbers bytes.now ≡ true) }
     ensures geometry { IfOk result (λ g. g ≡ geometry_at bytes.now) }
     ensures magic { IsErrOf result SuperFault.Magic ↔ (has_magic bytes.now ≡ false) }
-    ensures version { IsErrOf result SuperFault.Version ↔ (has_magic bytes.now ≡ true) × (has_version bytes.now ≡ false) }
-    ensures numbers { IsErrOf result SuperFault.Numbers ↔ (has_magic bytes.now ≡ true) × (has_version bytes.now ≡ true) × (has_numbers bytes.now ≡ false) }
+    ensures version { IsErrOf result SuperFault.Version ↔ (has_magic bytes.now ≡ true)
+        × (has_version bytes.now ≡ false) }
+    ensures numbers { IsErrOf result SuperFault.Numbers ↔ (has_magic bytes.now ≡ true)
+        × (has_version bytes.now ≡ true) × (has_numbers bytes.now ≡ false) }
 {
     if &bytes[..8] != MAGIC.as_slice() {
         return Err(SuperFault::Magic);
@@ -63,7 +71,8 @@ pub fn read_superblock(bytes: &[u8; 64]) -> Result<Geometry, SuperFault>
     }
 }
 
-/// What `superblock` writes for a geometry is read as that geometry, by the clauses of `read_superblock`.
+/// What `superblock` writes for a geometry is read as that geometry, by the clauses of
+/// `read_superblock`.
 pub fn superblock_is_read_back()
     ensures { (g : Geometry) → IsGeometry g → IsSuperblockOf g (superblock g) }
 {}

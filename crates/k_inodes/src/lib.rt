@@ -1,14 +1,15 @@
 //! Inode lines as bytes.
 //!
-//! An inode line has 64 bytes: the kind in byte 0, the generation in bytes 4 to 7, the size in 8 to 15, `applied` in
-//! 16 to 23, the root of the map in 24 to 27 and the number of extents in 28 to 31; all other bytes are 0. The code
-//! is exact: a line is read as an inode exactly where it is the spelling of that inode and the inode's fields are
-//! ones that its kind may have, and each inode has one spelling (`inode_lines_are_exact`). No call takes memory.
+//! An inode line has 64 bytes: the kind in byte 0, the generation in bytes 4 to 7, the size in 8 to
+//! 15, `applied` in 16 to 23, the root of the map in 24 to 27 and the number of extents in 28 to
+//! 31; all other bytes are 0. The code is exact: a line is read as an inode exactly where it is the
+//! spelling of that inode and the inode's fields are ones that its kind may have, and each inode
+//! has one spelling (`inode_lines_are_exact`). No call takes memory.
 //!
 //! Stands on `disk_places`, `disk_lines` and `line_fields`.
 #![tactic(auto)]
 
-ghost use Rattle.std.specs.Prelude.{◌≡◌, ℕ, List, true, Some};
+ghost use Rattle.std.specs.Prelude.{◌≡◌, ◌<◌, ℕ, List, length, slice_index, true, Some};
 ghost use Rattle.disk_lines.specs.LineLaws.{FitsInode, IsInodeLine};
 ghost use Rattle.disk_lines.specs.Lines.{code_of_kind, kind_of_code, has_map_or_none, is_inode, encode_inode, decode_inode};
 ghost use Rattle.disk_lines.specs.declared.Inode.{Inode};
@@ -16,10 +17,10 @@ ghost use Rattle.disk_lines.specs.declared.Inode.{Inode};
 pub use disk_lines::{Inode, Kind};
 use line_fields::{put_u32, put_u64, u32_at, u64_at};
 
-/// The longest file, in bytes.
+// The longest file, in bytes.
 const MOST_BYTES: u64 = 16_777_216;
 
-/// The greatest order of an entry of the log.
+// The greatest order of an entry of the log.
 const MOST_APPLIED: u64 = 1 << 63;
 
 fn code_of_kind(kind: Kind) -> u8
@@ -45,14 +46,14 @@ fn kind_of_code(code: u8) -> Option<Kind>
     }
 }
 
-/// A root and extents, or neither.
+// A root and extents, or neither.
 fn has_map_or_none(inode: &Inode) -> bool
     ensures { result ≡ has_map_or_none inode.now }
 {
     (inode.root == 0) == (inode.extents == 0)
 }
 
-/// Whether an inode of its kind may have these fields.
+// Whether an inode of its kind may have these fields.
 fn is_inode(inode: &Inode) -> bool
     ensures { result ≡ is_inode inode.now }
 {
@@ -66,9 +67,10 @@ fn is_inode(inode: &Inode) -> bool
     }
 }
 
-/// The line that stands for the inode.
-pub fn encode_inode(inode: &Inode) -> [u8; 64]
-    ensures { result ≡ encode_inode inode.now }
+// The line of an inode, whose fields are of their widths.
+fn spelled(inode: &Inode) -> [u8; 64]
+    ensures line { result ≡ encode_inode inode.now }
+    ensures fits { FitsInode inode.now }
 {
     let mut line = [0; 64];
     line[0] = code_of_kind(inode.kind);
@@ -78,6 +80,17 @@ pub fn encode_inode(inode: &Inode) -> [u8; 64]
     put_u32(&mut line, 24, inode.root);
     put_u32(&mut line, 28, inode.extents);
     line
+}
+
+/// The line that stands for the inode, which is read as that inode where its fields are ones that
+/// its kind may have.
+pub fn encode_inode(inode: &Inode) -> [u8; 64]
+    ensures line { result ≡ encode_inode inode.now }
+    ensures read { is_inode inode.now ≡ true → decode_inode result ≡ Some inode.now }
+    ensures size { length result ≡ 64 }
+    ensures small { (k : ℕ) → slice_index result k < 256 }
+{
+    spelled(inode)
 }
 
 /// The inode that the line stands for; None exactly where it is no inode line.
@@ -94,7 +107,7 @@ pub fn decode_inode(bytes: &[u8; 64]) -> Option<Inode>
         root: u32_at(bytes, 24),
         extents: u32_at(bytes, 28),
     };
-    if is_inode(&inode) && *bytes == encode_inode(&inode) {
+    if is_inode(&inode) && *bytes == spelled(&inode) {
         Some(inode)
     } else {
         None
@@ -103,8 +116,10 @@ pub fn decode_inode(bytes: &[u8; 64]) -> Option<Inode>
 
 /// What is spelled is read, and what is read is spelled so.
 pub fn inode_lines_are_exact()
-    ensures read { (x : Inode) → FitsInode x → is_inode x ≡ true → decode_inode (encode_inode x) ≡ Some x }
-    ensures spelled { (bytes : List ℕ) (x : Inode) → decode_inode bytes ≡ Some x → IsInodeLine bytes x }
+    ensures read { (x : Inode) → FitsInode x → is_inode x ≡ true
+        → decode_inode (encode_inode x) ≡ Some x }
+    ensures spelled { (bytes : List ℕ) (x : Inode) → decode_inode bytes ≡ Some x
+        → IsInodeLine bytes x }
 {}
 
 #[cfg(test)]

@@ -1,5 +1,5 @@
 -- What a commit asks for and what it leaves.
-use Rattle.std.specs.Prelude.{◌≡◌, ◌⊎◌, ◌*◌, ◌/◌, ◌<◌, ℕ, true, false, List, length}
+use Rattle.std.specs.Prelude.{◌≡◌, ◌⊎◌, ◌*◌, ◌/◌, ◌<◌, ℕ, true, false, List, length, Some}
 use Rattle.disk_places.specs.Journal.{is_journal_word, journaled, IsSound}
 use Rattle.disk_places.specs.Places.{Geometry, commit_word, is_journaled_line}
 use Rattle.k_journal.specs.Batch.{target, with_batch, AllLines, IsNew}
@@ -8,6 +8,7 @@ use Rattle.pm_words.specs.declared.Cell.{Cell}
 use Rattle.pm_words.specs.declared.Cell.TheVariants.{Single}
 use Rattle.pm_words.specs.Cells.{cell, is_single}
 use Rattle.pm_words.specs.Frames.{LineIsSingle}
+use Rattle.pm_words.specs.Powers.{Supply}
 use Rattle.pm_words.specs.Words.{Words}
 
 -- The device has the blocks of the geometry, the batch's lines are journaled ones, the commit word is 0, and the
@@ -32,3 +33,7 @@ pub record IsAfter (g : Geometry) (b : List Entry) (before image : Words) : Type
   pub view : journaled image ≡ with_batch b (journaled before)
   pub others : (w : ℕ) → is_journal_word w ≡ false → IsNew b (w / 8) → image w ≡ before w
   pub sound : IsSound g image
+
+-- Between the two at least one step was taken. A power that always lasts keeps no count of them.
+abbrev pub TakesAStep : Supply → Supply → Type 0
+TakesAStep old new = (given : ℕ) → old.given ≡ Some given → old.taken < new.taken

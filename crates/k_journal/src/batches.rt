@@ -1,5 +1,5 @@
 //! Batches: the lines that one commit sets, each with its new bytes.
-ghost use Rattle.std.specs.Prelude.{◌≡◌, ◌+◌, ◌<◌, ◌≤◌, ◌==◌, ℕ, Bool, true, [], length, IsOk, OnOk, OnErr, IfOk, IfErr, MatchOption};
+ghost use Rattle.std.specs.Prelude.{◌≡◌, ◌+◌, ◌<◌, ◌≤◌, ◌==◌, ℕ, Bool, true, [], length, slice_index, IsOk, OnOk, OnErr, IfOk, IfErr, MatchOption};
 ghost use Rattle.k_journal.specs.Batch.{with_batch, with_line_set, AllLines, HasLine, IsDistinct, IsNew, IsFirstPlace};
 ghost use Rattle.pm_words.specs.Words.{Words, with_line};
 
@@ -71,8 +71,8 @@ impl Batch {
         self.entries.is_empty()
     }
 
-    /// Sets a line to 64 bytes. A line that is there already gets the new content. `BatchFull` comes
-    /// where the line is new and 128 are there; the batch is then as before.
+    /// Sets a line to 64 bytes. A line that is there already gets the new content. `BatchFull`
+    /// comes where the line is new and 128 are there; the batch is then as before.
     pub fn put(&mut self, line: u64, bytes: [u8; 64]) -> Result<(), BatchFull>
         ensures known { HasLine self.old line → IsOk result }
         ensures free { length self.old < 128 → IsOk result }
@@ -99,6 +99,24 @@ impl Batch {
         Ok(())
     }
 
+    /// Sets a line to 64 bytes, as `put` does, where there is room for another line.
+    pub fn put_line(&mut self, line: u64, bytes: [u8; 64])
+        requires room { length self.old < 128 }
+        ensures count { length self.new ≤ length self.old + 1 }
+        ensures entries { self.new ≡ with_line_set self.old line bytes }
+        ensures meaning { (f : Words) (i : ℕ)
+            → with_batch self.new f i ≡ with_line line bytes (with_batch self.old f) i }
+        ensures lines { (test : ℕ → Bool) → test line ≡ true
+            → AllLines test self.old → AllLines test self.new }
+        ensures size { length bytes ≡ 64 }
+        ensures small { (k : ℕ) → slice_index bytes k < 256 }
+    {
+        match self.put(line, bytes) {
+            Ok(()) => {}
+            Err(_) => unreachable!(),
+        }
+    }
+
     // Its entries, each line once.
     pub(crate) fn entries(&self) -> &[Entry]
         ensures entries { result.now ≡ self.now }
@@ -108,8 +126,8 @@ impl Batch {
         &self.entries
     }
 
-    // Empties it, and keeps its room.
-    pub(crate) fn clear(&mut self)
+    /// Empties it, and keeps its room.
+    pub fn clear(&mut self)
         ensures { self.new ≡ [] }
     {
         self.entries.clear();

@@ -1,9 +1,10 @@
-//! Commit: the records, the commit word, the targets, and the commit word again, with a fence behind each.
+//! Commit: the records, the commit word, the targets, and the commit word again, with a fence
+//! behind each.
 ghost use Rattle.std.specs.Prelude.{◌≡◌, ◌⊎◌, ◌+◌, ◌*◌, ◌/◌, ◌<◌, ◌≤◌, ℕ, true, false, [], length};
 ghost use Rattle.disk_places.specs.Journal.{is_journal_word};
 ghost use Rattle.disk_places.specs.Places.{commit_word};
 ghost use Rattle.k_journal.specs.Batch.{target, with_batch, IsDistinct, IsNew};
-ghost use Rattle.k_journal.specs.Commits.{MayCommit, IsBeforeOrAfter, IsAfter};
+ghost use Rattle.k_journal.specs.Commits.{MayCommit, IsBeforeOrAfter, IsAfter, TakesAStep};
 ghost use Rattle.k_journal.specs.Phases.{IsApart, AreRecorded, AreInPlace, IsStage};
 ghost use Rattle.pm_words.specs.declared.Cell.TheVariants.{Single};
 ghost use Rattle.pm_words.specs.Cells.{cell, is_single, Settles};
@@ -30,9 +31,11 @@ fn write_journal(entries: &[Entry], pm: &mut Pm, power: &mut Power)
     ensures steps { Steps (11 * length entries.now + 4) power.old power.new }
     ensures others { (i : ℕ) → is_journal_word i ≡ false → Settles (cell pm.old i) (cell pm.new i) }
     ensures each_image { (image : Words) → IsImage pm.new image → (image commit_word ≡ 0)
-        ⊎ ((image commit_word ≡ length entries.now) × AreRecorded entries.now (length entries.now) pm.new) }
+        ⊎ ((image commit_word ≡ length entries.now)
+        × AreRecorded entries.now (length entries.now) pm.new) }
     ensures count { is_on power.new ≡ true → cell pm.new commit_word ≡ Single (length entries.now) }
-    ensures recorded { is_on power.new ≡ true → AreRecorded entries.now (length entries.now) pm.new }
+    ensures recorded { is_on power.new ≡ true
+        → AreRecorded entries.now (length entries.now) pm.new }
     ensures keeps { is_on power.new ≡ true → KeepsSingle pm.old pm.new }
 {
     put_records(entries, pm, power);
@@ -46,19 +49,23 @@ fn apply_journal(entries: &[Entry], pm: &mut Pm, power: &mut Power)
     requires room { length entries.now ≤ 128 }
     requires distinct { IsDistinct entries.now }
     requires device { 2560 ≤ length pm.old }
-    requires in_device { (k : ℕ) → k < length entries.now → target entries.now k < length pm.old / 8 }
+    requires in_device { (k : ℕ) → k < length entries.now
+        → target entries.now k < length pm.old / 8 }
     requires apart { IsApart entries.now }
     requires single { (i : ℕ) → i < 2560 → is_single (cell pm.old i) ≡ true }
-    requires single_lines { (k : ℕ) → k < length entries.now → LineIsSingle (target entries.now k) pm.old }
+    requires single_lines { (k : ℕ) → k < length entries.now
+        → LineIsSingle (target entries.now k) pm.old }
     requires count { cell pm.old commit_word ≡ Single (length entries.now) }
     requires recorded { AreRecorded entries.now (length entries.now) pm.old }
     ensures size { length pm.new ≡ length pm.old }
     ensures lent { SameLent pm.old pm.new }
     ensures steps { Steps (9 * length entries.now + 4) power.old power.new }
+    ensures took { is_on power.new ≡ true → TakesAStep power.old power.new }
     ensures others { (i : ℕ) → is_journal_word i ≡ false → IsNew entries.now (i / 8)
         → Settles (cell pm.old i) (cell pm.new i) }
     ensures recorded { AreRecorded entries.now (length entries.now) pm.new }
-    ensures each_image { (image : Words) → IsImage pm.new image → (image commit_word ≡ length entries.now)
+    ensures each_image { (image : Words) → IsImage pm.new image
+        → (image commit_word ≡ length entries.now)
         ⊎ ((image commit_word ≡ 0) × AreInPlace entries.now (length entries.now) pm.new) }
     ensures count { is_on power.new ≡ true → cell pm.new commit_word ≡ Single 0 }
     ensures done { is_on power.new ≡ true → AreInPlace entries.now (length entries.now) pm.new }
@@ -75,19 +82,23 @@ fn commit_entries(entries: &[Entry], pm: &mut Pm, power: &mut Power) -> Commit
     requires room { length entries.now ≤ 128 }
     requires distinct { IsDistinct entries.now }
     requires device { 2560 ≤ length pm.old }
-    requires in_device { (k : ℕ) → k < length entries.now → target entries.now k < length pm.old / 8 }
+    requires in_device { (k : ℕ) → k < length entries.now
+        → target entries.now k < length pm.old / 8 }
     requires apart { IsApart entries.now }
     requires idle { cell pm.old commit_word ≡ Single 0 }
     requires single { (i : ℕ) → i < 2560 → is_single (cell pm.old i) ≡ true }
-    requires single_lines { (k : ℕ) → k < length entries.now → LineIsSingle (target entries.now k) pm.old }
+    requires single_lines { (k : ℕ) → k < length entries.now
+        → LineIsSingle (target entries.now k) pm.old }
     ensures size { length pm.new ≡ length pm.old }
     ensures lent { SameLent pm.old pm.new }
     ensures steps { Steps (20 * length entries.now + 8) power.old power.new }
+    ensures took { result ≡ Commit.Done → TakesAStep power.old power.new }
     ensures done { result ≡ Commit.Done → is_on power.new ≡ true }
     ensures lost { result ≡ Commit.PowerLost → is_on power.new ≡ false }
     ensures others { (i : ℕ) → is_journal_word i ≡ false → IsNew entries.now (i / 8)
         → Settles (cell pm.old i) (cell pm.new i) }
-    ensures each_image { (image : Words) → IsImage pm.new image → IsStage entries.now pm.old pm.new image }
+    ensures each_image { (image : Words) → IsImage pm.new image
+        → IsStage entries.now pm.old pm.new image }
     ensures idle { result ≡ Commit.Done → cell pm.new commit_word ≡ Single 0 }
     ensures targets { result ≡ Commit.Done → AreInPlace entries.now (length entries.now) pm.new }
     ensures keeps { result ≡ Commit.Done → KeepsSingle pm.old pm.new }
@@ -105,8 +116,8 @@ fn commit_entries(entries: &[Entry], pm: &mut Pm, power: &mut Power) -> Commit
 }
 
 /// Sets the batch's lines in one transaction: the records, the commit word, the lines, and then the
-/// commit word 0, each made durable before the next is begun. It takes no memory. Without power at the
-/// call it does nothing.
+/// commit word 0, each made durable before the next is begun. It takes no memory. Without power at
+/// the call it does nothing.
 ///
 /// `Done` empties the batch; `PowerLost` keeps it.
 pub fn commit(batch: &mut Batch, pm: &mut Pm, geometry: &Geometry, power: &mut Power) -> Commit
@@ -114,6 +125,8 @@ pub fn commit(batch: &mut Batch, pm: &mut Pm, geometry: &Geometry, power: &mut P
     ensures size { length pm.new ≡ length pm.old }
     ensures lent { SameLent pm.old pm.new }
     ensures steps { Steps (32 * length batch.old + 16) power.old power.new }
+    ensures took { result ≡ Commit.Done → 0 < length batch.old
+        → TakesAStep power.old power.new }
     ensures done { result ≡ Commit.Done → is_on power.new ≡ true }
     ensures lost { result ≡ Commit.PowerLost → is_on power.new ≡ false }
     ensures off { is_on power.old ≡ false → (pm.new ≡ pm.old) × (power.new ≡ power.old) }
@@ -124,7 +137,8 @@ pub fn commit(batch: &mut Batch, pm: &mut Pm, geometry: &Geometry, power: &mut P
         → Settles (cell pm.old i) (cell pm.new i) }
 
     // Done: each image has the new lines, they are durable, and the journal is empty.
-    ensures durable { result ≡ Commit.Done → Follows (IsAfter geometry.now batch.old) pm.old pm.new }
+    ensures durable { result ≡ Commit.Done
+        → Follows (IsAfter geometry.now batch.old) pm.old pm.new }
     ensures lines { result ≡ Commit.Done → AreInPlace batch.old (length batch.old) pm.new }
     ensures words { result ≡ Commit.Done → (i : ℕ) → is_journal_word i ≡ false
         → is_single (cell pm.old i) ≡ true

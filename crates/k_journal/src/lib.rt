@@ -1,16 +1,16 @@
 //! The journal: changes of several lines of a device that a power loss leaves whole or not at all.
 //!
-//! A `Batch` holds up to 128 lines with their new content. `journal::commit` makes the batch's records
-//! durable in the journal, then the commit word, then the lines themselves, and then empties the journal.
-//! So at every moment the device's journaled view, the image that a recovery would leave, has all of the
-//! old lines or all of the new ones. `journal::recover` leaves that view in place, and may lose its power
-//! at any moment too.
+//! A `Batch` holds up to 128 lines with their new content. `journal::commit` makes the batch's
+//! records durable in the journal, then the commit word, then the lines themselves, and then
+//! empties the journal. So at every moment the device's journaled view, the image that a recovery
+//! would leave, has all of the old lines or all of the new ones. `journal::recover` leaves that
+//! view in place, and may lose its power at any moment too.
 //!
-//! The layer above may rely on both calls for every power, whatever words are put back where words of the
-//! device are lent. Neither takes memory: `Batch::new` makes all the room.
+//! The layer above may rely on both calls for every power, whatever words are put back where words
+//! of the device are lent. Neither takes memory: `Batch::new` makes all the room.
 //!
-//! It stands on `pm_lines` (the device), `disk_places` (places and the journaled view) and `image_layout`
-//! (the geometry).
+//! It stands on `pm_lines` (the device), `disk_places` (places and the journaled view) and
+//! `image_layout` (the geometry).
 #![tactic(auto)]
 
 mod batches;

@@ -1,6 +1,7 @@
 //! The commit word, and the lines of a batch. Each call ends with a fence.
 ghost use Rattle.std.specs.Prelude.{◌≡◌, ◌≢◌, ◌+◌, ◌*◌, ◌/◌, ◌<◌, ◌≤◌, ℕ, true, length};
 ghost use Rattle.k_journal.specs.Batch.{target, content, IsDistinct, IsNew};
+ghost use Rattle.k_journal.specs.Commits.{TakesAStep};
 ghost use Rattle.k_journal.specs.Phases.{IsApart, AreInPlace};
 ghost use Rattle.pm_words.specs.declared.Cell.TheVariants.{Single};
 ghost use Rattle.pm_words.specs.Cells.{cell, MayHold, Settles};
@@ -24,6 +25,7 @@ pub(crate) fn set_count(count: u64, pm: &mut Pm, power: &mut Power)
     ensures steps { Steps 3 power.old power.new }
     ensures others { (i : ℕ) → i ≢ 8 → Settles (cell pm.old i) (cell pm.new i) }
     ensures torn { MayHold (cell pm.old 8) count (cell pm.new 8) }
+    ensures took { is_on power.new ≡ true → TakesAStep power.old power.new }
     ensures set { is_on power.new ≡ true → cell pm.new 8 ≡ Single count }
     ensures keeps { is_on power.new ≡ true → KeepsSingle pm.old pm.new }
 {
@@ -36,8 +38,10 @@ pub(crate) fn set_count(count: u64, pm: &mut Pm, power: &mut Power)
 pub(crate) fn put_targets(entries: &[Entry], pm: &mut Pm, power: &mut Power)
     requires distinct { IsDistinct entries.now }
     requires apart { IsApart entries.now }
-    requires in_device { (k : ℕ) → k < length entries.now → target entries.now k < length pm.old / 8 }
-    requires single { (k : ℕ) → k < length entries.now → LineIsSingle (target entries.now k) pm.old }
+    requires in_device { (k : ℕ) → k < length entries.now
+        → target entries.now k < length pm.old / 8 }
+    requires single { (k : ℕ) → k < length entries.now
+        → LineIsSingle (target entries.now k) pm.old }
     ensures size { length pm.new ≡ length pm.old }
     ensures lent { SameLent pm.old pm.new }
     ensures steps { Steps (9 * length entries.now + 1) power.old power.new }

@@ -52,7 +52,8 @@ pub(crate) fn put_records(entries: &[Entry], pm: &mut Pm, power: &mut Power)
     ensures steps { Steps (11 * length entries.now + 1) power.old power.new }
     ensures below { (i : ℕ) → i < 512 → Settles (cell pm.old i) (cell pm.new i) }
     ensures above { (i : ℕ) → 2560 ≤ i → Settles (cell pm.old i) (cell pm.new i) }
-    ensures recorded { is_on power.new ≡ true → AreRecorded entries.now (length entries.now) pm.new }
+    ensures recorded { is_on power.new ≡ true
+        → AreRecorded entries.now (length entries.now) pm.new }
     ensures keeps { is_on power.new ≡ true → KeepsSingle pm.old pm.new }
 {
     for (index, entry) in entries.iter().enumerate() {

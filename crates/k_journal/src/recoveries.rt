@@ -86,7 +86,8 @@ fn replay(count: u32, pm: &mut Pm, power: &mut Power)
     ensures size { length pm.new ≡ length pm.old }
     ensures lent { SameLent pm.old pm.new }
     ensures steps { Steps (10 * count) power.old power.new }
-    ensures others { (i : ℕ) → IsNoTarget count (words_of pm.old) (i / 8) → cell pm.new i ≡ cell pm.old i }
+    ensures others { (i : ℕ) → IsNoTarget count (words_of pm.old) (i / 8)
+        → cell pm.new i ≡ cell pm.old i }
     ensures done { is_on power.new ≡ true
         → (i : ℕ) → cell pm.new i ≡ Single (after_records count (words_of pm.old) i) }
 {
@@ -132,12 +133,12 @@ fn recover_records(count: u32, pm: &mut Pm, power: &mut Power) -> Recovered
     }
 }
 
-/// Recovers the journal of a device, so that each committed record stands in its line and the journal
-/// is empty. It takes no memory.
+/// Recovers the journal of a device, so that each committed record stands in its line and the
+/// journal is empty. It takes no memory.
 ///
 /// `Bad` comes exactly where the commit word is above 128, or a committed record has no journaled
-/// target; nothing is written then. `PowerLost` comes exactly where there is no power at the return,
-/// unless the journal is bad.
+/// target; nothing is written then. `PowerLost` comes exactly where there is no power at the
+/// return, unless the journal is bad.
 pub fn recover(pm: &mut Pm, geometry: &Geometry, power: &mut Power) -> Recovered
     requires blocks { length pm.old ≡ 512 * geometry.now.blocks }
     requires single { AllSingle pm.old }

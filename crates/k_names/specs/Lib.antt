@@ -1,3 +1,3 @@
-pub mod Chains
 pub mod Decoding
+pub mod Finding
 pub mod Heights

@@ -10,7 +10,7 @@ use crate::line::NameLine;
 use posix_types::Name;
 use std::alloc::{AllocError, Global};
 
-/// The names below the parent, in the order of the lines.
+// The names below the parent, in the order of the lines.
 fn children(alloc: Global, rows: &[Option<NameLine>], parent: u32) -> Result<Vec<Name>, AllocError>
     ensures { IfOk result (λ names. names.items ≡ names_below rows.now parent) }
 {
@@ -25,7 +25,7 @@ fn children(alloc: Global, rows: &[Option<NameLine>], parent: u32) -> Result<Vec
     Ok(names)
 }
 
-/// The names below the parent, in the order of their bytes.
+// The names below the parent, in the order of their bytes.
 pub(crate) fn sorted_children(
     alloc: Global,
     rows: &[Option<NameLine>],
@@ -34,7 +34,8 @@ pub(crate) fn sorted_children(
     requires { IsKeyed rows.now }
     ensures sorted { IfOk result (λ names. IsSorted (slice_cmp nat_cmp) names.items) }
     ensures names { IfOk result (λ names. IsPermutation (names_below rows.now parent) names.items) }
-    ensures once { IfOk result (λ names. (name : List ℕ) → count_by (λ x. is_same x name) names.items ≤ 1) }
+    ensures once { IfOk result (λ names. (name : List ℕ)
+        → count_by (λ x. is_same x name) names.items ≤ 1) }
 {
     let mut names = children(alloc, rows, parent)?;
     names.sort_unstable_by(|a, b| a.bytes.cmp(&b.bytes));

@@ -1,5 +1,5 @@
 //! A name line as 64 bytes, and back.
-ghost use Rattle.std.specs.Prelude.{◌≡◌, ◌≤◌, ℕ, List, length, take, drop, slice_index, true, IfOk};
+ghost use Rattle.std.specs.Prelude.{◌≡◌, ◌<◌, ◌≤◌, ℕ, List, length, take, drop, slice_index, true, IfOk};
 ghost use Rattle.std.specs.List.{list_all};
 ghost use Rattle.disk_lines.specs.Lines.{NameRow, FreeName, Named, line_name_bytes, is_name_byte, is_dots, is_name, encode_name, is_name_row, decode_name};
 ghost use Rattle.disk_lines.specs.NameLaws.{FitsName, IsNameLine};
@@ -11,10 +11,11 @@ use posix_types::Name;
 use std::alloc::{AllocError, Global};
 use std::marker::Model;
 
-/// The longest name of a line, in bytes.
+// The longest name of a line, in bytes.
 const LONGEST_NAME: usize = 48;
 
-/// A name of a directory: the inode of the directory, the inode that the name stands for, and the name.
+/// A name of a directory: the inode of the directory, the inode that the name stands for, and the
+/// name.
 #[derive(Debug, Drop)]
 pub struct NameLine {
     pub parent: u32,
@@ -27,7 +28,11 @@ impl Model for NameLine {
 
     ghost Value = { NameRow };
 
-    ghost view = { λ line. record { parent = line.parent; child = line.child; name = line.name } };
+    ghost view = { λ line. record {
+      parent = line.parent;
+      child = line.child;
+      name = line.name;
+    } };
 }
 
 /// What a name line stands for.
@@ -40,7 +45,7 @@ pub enum Decoded {
     Bad,
 }
 
-/// A printable byte that is not the slash.
+// A printable byte that is not the slash.
 fn is_name_byte(byte: u8) -> bool
     ensures { result ≡ is_name_byte byte }
 {
@@ -53,21 +58,22 @@ fn has_name_bytes(name: &[u8]) -> bool
     name.iter().all(|byte| is_name_byte(*byte))
 }
 
-/// One of the two names that every directory has by itself.
+// One of the two names that every directory has by itself.
 fn is_dots(name: &[u8]) -> bool
     ensures { result ≡ is_dots name.now }
 {
     name == b".".as_slice() || name == b"..".as_slice()
 }
 
-/// Whether a line may hold the name: 1 to 48 printable bytes other than the slash, neither `.` nor `..`.
+// Whether a line may hold the name: 1 to 48 printable bytes other than the slash, neither `.` nor
+// `..`.
 fn is_name(name: &[u8]) -> bool
     ensures { result ≡ is_name name.now }
 {
     has_name_bytes(name) && 1 <= name.len() && name.len() <= LONGEST_NAME && !is_dots(name)
 }
 
-/// The name's bytes in a line: as many as byte 8 says, or fewer where the line ends before.
+// The name's bytes in a line: as many as byte 8 says, or fewer where the line ends before.
 fn name_at(line: &[u8; 64]) -> &[u8]
     ensures { result.now ≡ take (slice_index line.now 8) (drop 16 line.now) }
 {
@@ -75,10 +81,12 @@ fn name_at(line: &[u8; 64]) -> &[u8]
     &line[16..end]
 }
 
-/// The line of a name that is given in parts.
+// The line of a name that is given in parts.
 fn spelled(parent: u32, child: u32, name: &[u8]) -> [u8; 64]
     requires { length name.now ≤ line_name_bytes }
-    ensures { result ≡ encode_name (record { parent = parent; child = child; name = name.now }) }
+    ensures line { result
+        ≡ encode_name (record { parent = parent; child = child; name = name.now }) }
+    ensures fits { FitsName (record { parent = parent; child = child; name = name.now }) }
 {
     let mut line = [0; 64];
     put_u32(&mut line, 0, parent);
@@ -88,15 +96,19 @@ fn spelled(parent: u32, child: u32, name: &[u8]) -> [u8; 64]
     line
 }
 
-/// The line that stands for the name.
+/// The line that stands for the name, which is read as that name where a line may hold it.
 pub fn encode_name(line: &NameLine) -> [u8; 64]
     requires { length line.now.name ≤ line_name_bytes }
-    ensures { result ≡ encode_name line.now }
+    ensures line { result ≡ encode_name line.now }
+    ensures read { is_name_row line.now ≡ true → decode_name result ≡ Named line.now }
+    ensures size { length result ≡ 64 }
+    ensures small { (k : ℕ) → slice_index result k < 256 }
 {
     spelled(line.parent, line.child, &line.name.bytes)
 }
 
-/// What the line stands for: no name exactly where it is all zeros, a name exactly where it is that name's line.
+/// What the line stands for: no name exactly where it is all zeros, a name exactly where it is that
+/// name's line.
 #[tactic(auto, unfolding(disk_lines::specs::Lines::decode_name))]
 pub fn decode_name(alloc: Global, bytes: &[u8; 64]) -> Result<Decoded, AllocError>
     ensures { IfOk result (λ d. slot_of d ≡ decode_name bytes.now) }
@@ -122,7 +134,9 @@ pub fn decode_name(alloc: Global, bytes: &[u8; 64]) -> Result<Decoded, AllocErro
 
 /// What is spelled is read, what is read is spelled so, and what is read as free is all zeros.
 pub fn name_lines_are_exact()
-    ensures read { (r : NameRow) → FitsName r → is_name_row r ≡ true → decode_name (encode_name r) ≡ Named r }
-    ensures spelled { (bytes : List ℕ) (r : NameRow) → decode_name bytes ≡ Named r → IsNameLine bytes r }
+    ensures read { (r : NameRow) → FitsName r → is_name_row r ≡ true
+        → decode_name (encode_name r) ≡ Named r }
+    ensures spelled { (bytes : List ℕ) (r : NameRow)
+        → decode_name bytes ≡ Named r → IsNameLine bytes r }
     ensures free { (bytes : List ℕ) → decode_name bytes ≡ FreeName → bytes ≡ zeros 64 }
 {}

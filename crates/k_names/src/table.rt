@@ -1,10 +1,11 @@
 //! The table of the names of an image.
-ghost use Rattle.std.specs.Prelude.{◌≡◌, ◌<◌, ◌≤◌, ◌↔◌, ℕ, List, length, true, false, replicate, slice_set, Some, None, IsTrue, IfSome, IfNone, IfOk, OnOk, OnErr, IsSorted, IsPermutation, count_by};
+ghost use Rattle.std.specs.Prelude.{◌≡◌, ◌<◌, ◌≤◌, ◌↔◌, ℕ, List, length, true, false, replicate, slice_set, Some, None, IsTrue, IfSome, IfNone, IfOk, IsSorted, IsPermutation, count_by};
 ghost use Rattle.disk_places.specs.Fields.{is_same};
 ghost use Rattle.std.specs.Cmp.Lexicographic.{slice_cmp};
 ghost use Rattle.std.specs.Ordering.{nat_cmp};
-ghost use Rattle.disk_lines.specs.Names.{row, is_entry, find_name, free_line, IsBelow, HasHeight};
+ghost use Rattle.disk_lines.specs.Names.{row, is_entry, is_free_row, find_name, free_line, IsBelow, HasHeight};
 ghost use Rattle.disk_lines.specs.Tables.{IsKeyed, IsAcyclic, names_below};
+ghost use Rattle.k_names.specs.Finding.{IsRow};
 
 use crate::children::sorted_children;
 use crate::line::NameLine;
@@ -13,8 +14,8 @@ use posix_types::Name;
 use std::alloc::{AllocError, Global};
 use std::marker::Model;
 
-/// The names of an image, line by line: a finite map from parent and name to line and child. Contracts see a list
-/// with one row a line, none where the line is free.
+/// The names of an image, line by line: a finite map from parent and name to line and child.
+/// Contracts see a list with one row a line, none where the line is free.
 #[derive(Debug, Drop)]
 pub struct NameTable {
     lines: Vec<Option<NameLine>>,
@@ -29,7 +30,8 @@ impl Model for NameTable {
 
     ghost view = { λ table. table.lines.items };
 
-    ghost invariant = { λ table. IsKeyed table.lines.items × (length table.lines.items < 2 ^ 32) };
+    ghost invariant = { λ table.
+        IsKeyed table.lines.items × (length table.lines.items < 2 ^ 32) };
 }
 
 impl NameTable {
@@ -37,7 +39,7 @@ impl NameTable {
     pub fn new(alloc: Global, lines: u32) -> Result<NameTable, AllocError>
         ensures { IfOk result (λ table. table ≡ replicate lines None) }
     {
-        let lines = rows::free_lines(alloc, lines)?;
+        let lines = rows::blank_lines(alloc, lines)?;
         Ok(NameTable { lines })
     }
 
@@ -45,6 +47,7 @@ impl NameTable {
     pub fn find(&self, parent: u32, name: &Name) -> Option<(u32, u32)>
         ensures found { result ≡ find_name self.now parent name.now }
         ensures within { IfSome result (λ found. found.0 < length self.now) }
+        ensures row { IfSome result (λ found. IsRow self.now parent name.now found.0 found.1) }
         ensures none { IfNone result ((k : ℕ) → is_entry parent name.now (row self.now k) ≡ false) }
         ensures keyed { IsKeyed self.now }
     {
@@ -54,8 +57,10 @@ impl NameTable {
     /// The names below the parent, each once, in the order of their bytes.
     pub fn children(&self, alloc: Global, parent: u32) -> Result<Vec<Name>, AllocError>
         ensures sorted { IfOk result (λ names. IsSorted (slice_cmp nat_cmp) names.items) }
-        ensures names { IfOk result (λ names. IsPermutation (names_below self.now parent) names.items) }
-        ensures once { IfOk result (λ names. (name : List ℕ) → count_by (λ x. is_same x name) names.items ≤ 1) }
+        ensures names { IfOk result (λ names.
+            IsPermutation (names_below self.now parent) names.items) }
+        ensures once { IfOk result (λ names. (name : List ℕ)
+            → count_by (λ x. is_same x name) names.items ≤ 1) }
     {
         sorted_children(alloc, &self.lines, parent)
     }
@@ -68,16 +73,22 @@ impl NameTable {
         rows::free_line(&self.lines)
     }
 
-    /// Gives a line of the table this name, in place of the one that it has. No other line may have the name's parent
-    /// and bytes. On an error the table is as before.
-    pub fn set(&mut self, line: u32, value: NameLine) -> Result<(), AllocError>
+    /// How many lines are free.
+    pub fn free_lines(&self) -> u32
+        ensures { result ≡ count_by is_free_row self.now }
+    {
+        rows::free_count(&self.lines)
+    }
+
+    /// Gives a line of the table this name, in place of the one that it has. No other line may have
+    /// the name's parent and bytes. It takes no memory.
+    pub fn set(&mut self, line: u32, value: NameLine)
         requires in_table { line < length self.old }
-        requires new { (k : ℕ) → is_entry value.parent value.name (row self.old k) ≡ true → k ≡ line }
-        ensures ok { OnOk result (self.new ≡ slice_set self.old line (Some value)) }
-        ensures err { OnErr result (self.new ≡ self.old) }
+        requires new { (k : ℕ) → is_entry value.parent value.name (row self.old k) ≡ true
+            → k ≡ line }
+        ensures { self.new ≡ slice_set self.old line (Some value) }
     {
         self.lines[line as usize] = Some(value);
-        Ok(())
     }
 
     /// Frees a line of the table.
@@ -88,8 +99,8 @@ impl NameTable {
         self.lines[line as usize] = None;
     }
 
-    /// Whether going up from the inode, itself included, comes to the ancestor. No path of names may lead back to where
-    /// it began.
+    /// Whether going up from the inode, itself included, comes to the ancestor. No path of names
+    /// may lead back to where it began.
     pub fn below(&self, ino: u32, ancestor: u32) -> bool
         requires { IsAcyclic self.now }
         ensures { IsTrue result ↔ IsBelow self.now ino ancestor }
@@ -97,8 +108,8 @@ impl NameTable {
         walks::is_below(&self.lines, ino, ancestor)
     }
 
-    /// How many names the longest path below the inode has, 0 where nothing is below it. No path of names may lead back
-    /// to where it began.
+    /// How many names the longest path below the inode has, 0 where nothing is below it. No path of
+    /// names may lead back to where it began.
     pub fn height(&self, ino: u32) -> u32
         requires { IsAcyclic self.now }
         ensures { HasHeight self.now ino result }

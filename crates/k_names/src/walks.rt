@@ -8,7 +8,7 @@ ghost use Rattle.k_names.specs.Heights.{HasHeightWithin, child_below};
 use crate::line::NameLine;
 use crate::rows::parent_of;
 
-/// Whether going up from the inode, itself included, comes to the ancestor.
+// Whether going up from the inode, itself included, comes to the ancestor.
 pub(crate) fn is_below(rows: &[Option<NameLine>], ino: u32, ancestor: u32) -> bool
     requires keyed { IsKeyed rows.now }
     requires acyclic { IsAcyclic rows.now }
@@ -29,7 +29,7 @@ pub(crate) fn is_below(rows: &[Option<NameLine>], ino: u32, ancestor: u32) -> bo
     at == ancestor
 }
 
-/// The child that the line names below the parent, if it does.
+// The child that the line names below the parent, if it does.
 fn child_below(row: &Option<NameLine>, parent: u32) -> Option<u32>
     ensures { result ≡ child_below parent row.now }
 {
@@ -39,7 +39,7 @@ fn child_below(row: &Option<NameLine>, parent: u32) -> Option<u32>
     }
 }
 
-/// How many names the longest path below the inode has, among those of at most `most` names.
+// How many names the longest path below the inode has, among those of at most `most` names.
 pub(crate) fn height_within(rows: &[Option<NameLine>], ino: u32, most: u32) -> u32
     requires { IsKeyed rows.now }
     ensures height { HasHeightWithin rows.now most ino result }

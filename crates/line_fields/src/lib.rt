@@ -1,10 +1,12 @@
 //! Numbers in a line of an image.
 //!
-//! A line is 64 bytes; its fields are little-endian numbers of two, four or eight bytes at fixed places. The codecs
-//! of the layers above read and write each field by these functions, by the place of its first byte.
+//! A line is 64 bytes; its fields are little-endian numbers of two, four or eight bytes at fixed
+//! places. The codecs of the layers above read and write each field by these functions, by the
+//! place of its first byte.
 //!
-//! A reader answers the number that stands in these bytes (`u16_at` and its kin, the definitions by which the
-//! spelling of each kind of line is stated); a writer changes these bytes and no other (`put_at`).
+//! A reader answers the number that stands in these bytes (`u16_at` and its kin, the definitions by
+//! which the spelling of each kind of line is stated); a writer changes these bytes and no other
+//! (`put_at`).
 //!
 //! Stands on `disk_places`.
 #![tactic(auto)]
@@ -69,23 +71,4 @@ pub fn put_u64(line: &mut [u8; 64], at: usize, number: u64)
     ensures { line.new ≡ put_at line.old at (to_le_bytes w64 number) }
 {
     line[at..at + 8].copy_from_slice(&number.to_le_bytes());
-}
-
-#[cfg(test)]
-mod tests {
-    use super::*;
-
-    #[test]
-    fn fields_of_each_width(rt: HostRuntime) {
-        let mut line = [0; 64];
-        put_u16(&mut line, 62, 0x0102);
-        put_u32(&mut line, 4, 0x0304_0506);
-        put_u64(&mut line, 48, 0x0708_090a_0b0c_0d0e);
-        assert_eq!(rt; &line[..8], [0, 0, 0, 0, 6, 5, 4, 3].as_slice());
-        assert_eq!(rt; &line[48..56], [14, 13, 12, 11, 10, 9, 8, 7].as_slice());
-        assert_eq!(rt; &line[56..], [0, 0, 0, 0, 0, 0, 2, 1].as_slice());
-        assert_eq!(rt; u16_at(&line, 62), 0x0102);
-        assert_eq!(rt; u32_at(&line, 4), 0x0304_0506);
-        assert_eq!(rt; u64_at(&line, 48), 0x0708_090a_0b0c_0d0e);
-    }
 }

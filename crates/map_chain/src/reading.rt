@@ -10,7 +10,8 @@ ghost use Rattle.disk_rules.specs.Listed.{AreListed};
 ghost use Rattle.disk_rules.specs.Standing.{IsMapIn, IsChain, HasNoMap, HasNoChain};
 ghost use Rattle.pm_words.specs.Images.{words_of};
 
-use crate::words::{EXTENTS_PER_BLOCK, blocks_for, chain_word, next_in, part_of};
+use crate::words::{EXTENTS_PER_BLOCK, chain_word, next_in, part_of};
+use block_counts::chains_for;
 use extent_map::{Extent, ExtentMap, FILE_BLOCKS};
 use pm_lines::Pm;
 use std::alloc::{AllocError, Global};
@@ -178,9 +179,9 @@ fn map_in(
     Ok(ExtentMap::from_extents(alloc, &listed)?)
 }
 
-/// The map of so many extents that stands as a chain in the blocks from `root` on, with these blocks.
-/// None where no such map does: where the chain leads to a block outside the device, where an extent or
-/// another word is not as the one spelling of a map of so many extents has it.
+/// The map of so many extents that stands as a chain in the blocks from `root` on, with these
+/// blocks. None where no such map does: where the chain leads to a block outside the device, where
+/// an extent or another word is not as the one spelling of a map of so many extents has it.
 ///
 /// Blocks are counted from the start of the device, and no word of those that the chain leads to is
 /// lent. Nothing is written. It takes memory for 17 blocks and 4,096 extents at most.
@@ -190,7 +191,8 @@ pub fn read(alloc: Global, pm: &Pm, root: u32, extents: u32) -> Result<Option<Ch
         IsChain (words_of pm.now) (length pm.now) root extents chain.blocks.items chain.map)) }
     ensures map { IfOk result (λ found. IfSome found (λ chain.
         flat_map (extents_in (words_of pm.now)) chain.blocks.items ≡ chain.map)) }
-    ensures distinct { IfOk result (λ found. IfSome found (λ chain. AreDistinct chain.blocks.items)) }
+    ensures distinct { IfOk result (λ found. IfSome found (λ chain.
+        AreDistinct chain.blocks.items)) }
     ensures found { (blocks : List ℕ) (es : List Extent)
         → IsChain (words_of pm.now) (length pm.now) root extents blocks es
         → IfOk result (λ found. IsSomeAnd found (λ chain.
@@ -202,7 +204,8 @@ pub fn read(alloc: Global, pm: &Pm, root: u32, extents: u32) -> Result<Option<Ch
     if extents > FILE_BLOCKS {
         return Ok(None);
     }
-    let Some(blocks) = linked_blocks(alloc, pm, root, blocks_for(extents))? else {
+    let count = chains_for(u64::from(extents)) as u32;
+    let Some(blocks) = linked_blocks(alloc, pm, root, count)? else {
         return Ok(None);
     };
     let Some(map) = map_in(alloc, pm, &blocks, extents)? else {

@@ -1,6 +1,5 @@
 //! The words of a chain's blocks.
 ghost use Rattle.std.specs.Prelude.{◌≡◌, ◌+◌, ◌*◌, ◌/◌, ◌%◌, ◌^◌, ◌<◌, ◌≤◌, length, slice_index};
-ghost use Rattle.block_counts.specs.Counts.{chains_for};
 ghost use Rattle.disk_rules.specs.Placed.{part_at};
 ghost use Rattle.disk_rules.specs.Chains.{extent_word, chain_word};
 
@@ -8,13 +7,6 @@ use extent_map::Extent;
 
 // The extents that a block has room for.
 pub(crate) const EXTENTS_PER_BLOCK: usize = 255;
-
-/// How many chain blocks so many extents take: one for each 255, rounded up, and none for none.
-pub fn blocks_for(extents: u32) -> u32
-    ensures { result ≡ chains_for extents }
-{
-    extents.div_ceil(EXTENTS_PER_BLOCK as u32)
-}
 
 // A word of two halves.
 fn word_of_halves(low: u32, high: u32) -> u64

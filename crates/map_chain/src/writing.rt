@@ -65,6 +65,8 @@ fn write_blocks(pm: &mut Pm, power: &mut Power, extents: &[Extent], blocks: &[u3
     ensures lent { SameLent pm.old pm.new }
     ensures steps { Steps (576 * length blocks.now + 1) power.old power.new }
     ensures others { (i : ℕ) → IsOutside blocks.now i → Settles (cell pm.old i) (cell pm.new i) }
+    ensures ended { is_on power.new ≡ true → (i : ℕ) → IsOutside blocks.now i
+        → cell pm.new i ≡ fenced (cell pm.old i) }
     ensures done { is_on power.new ≡ true → HasChainWords blocks.now extents.now pm.new }
 {
     for (k, block) in blocks.iter().enumerate() {
@@ -74,12 +76,12 @@ fn write_blocks(pm: &mut Pm, power: &mut Power, extents: &[Extent], blocks: &[u3
     pm.fence(power);
 }
 
-/// Writes the chain of a map into the blocks, in their order, and makes it durable, in at most 577 steps
-/// a block and one more. It takes no memory. Without power at the call it does nothing.
+/// Writes the chain of a map into the blocks, in their order, and makes it durable, in at most 577
+/// steps a block and one more. It takes no memory. Without power at the call it does nothing.
 ///
-/// Blocks are counted from the start of the device. There are as many as the map takes (`blocks_for`),
-/// no two of them the same; their words have one candidate each, and hold nothing that is still wanted.
-/// The last step is a fence, so marks of other words end too.
+/// Blocks are counted from the start of the device. There are as many as the map takes
+/// (`block_counts::chains_for`), no two of them the same; their words have one candidate each, and
+/// hold nothing that is still wanted.
 pub fn write(pm: &mut Pm, power: &mut Power, map: &ExtentMap, blocks: &[u32])
     requires ready { is_on power.old ≡ true → MayWrite map.now blocks.now pm.old }
     ensures size { length pm.new ≡ length pm.old }
@@ -91,9 +93,12 @@ pub fn write(pm: &mut Pm, power: &mut Power, map: &ExtentMap, blocks: &[u32])
     ensures each_image { Follows (SameOutside blocks.now) pm.old pm.new }
     ensures others { (i : ℕ) → IsOutside blocks.now i → Settles (cell pm.old i) (cell pm.new i) }
 
-    // With power left, the chain stands in each image, as a read finds it, and it is durable.
+    // With power left, the chain stands in each image, as a read finds it, and it is durable. The
+    // last step is a fence, so marks of other words end too.
     ensures durable { is_on power.new ≡ true
         → Follows (IsWritten (length pm.old) map.now blocks.now) pm.old pm.new }
+    ensures ended { is_on power.new ≡ true → (i : ℕ) → IsOutside blocks.now i
+        → cell pm.new i ≡ fenced (cell pm.old i) }
     ensures keeps { is_on power.new ≡ true → KeepsSingle pm.old pm.new }
 {
     if !power.on() {

@@ -2,13 +2,14 @@
 ghost use Rattle.std.specs.Prelude.{◌≡◌};
 ghost use Rattle.disk_lines.specs.Entries.{fnv_1a};
 
-/// Where the hash begins.
+// Where the hash begins.
 const FNV_BASIS: u32 = 2_166_136_261;
 
-/// What the hash is multiplied by for each byte.
+// What the hash is multiplied by for each byte.
 const FNV_PRIME: u32 = 16_777_619;
 
-/// The 32-bit FNV-1a hash of the bytes: for each byte the exclusive or with it, times the prime, modulo 2^32.
+// The 32-bit FNV-1a hash of the bytes: for each byte the exclusive or with it, times the prime,
+// modulo 2^32.
 #[tactic(auto, unfolding(disk_lines::specs::Entries::fnv_1a_from))]
 pub(crate) fn fnv_1a(bytes: &[u8]) -> u32
     ensures { result ≡ fnv_1a bytes.now }

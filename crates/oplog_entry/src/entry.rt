@@ -9,21 +9,12 @@ use crate::check::fnv_1a;
 use disk_lines::Draft;
 use line_fields::{put_u16, put_u32, put_u64, u16_at, u32_at, u64_at};
 
-/// The kind of the one sort of entry, and the version of its spelling.
+// The kind of the one sort of entry, and the version of its spelling.
 const KIND: u8 = 1;
 
 const VERSION: u8 = 1;
 
-/// A log has no free slot: this many were asked for, of so many.
-#[derive(Clone, Copy, Debug, PartialEq, Eq)]
-pub struct Full {
-    /// Slots that were claimed in this lap.
-    pub claimed: u64,
-    /// Slots that the log has.
-    pub capacity: u64,
-}
-
-/// Whether the fields are in range.
+// Whether the fields are in range.
 fn is_draft(draft: &Draft) -> bool
     ensures { result ≡ is_draft draft.now }
 {
@@ -38,7 +29,7 @@ fn is_draft(draft: &Draft) -> bool
         && draft.size <= 16_777_216
 }
 
-/// The line of an entry, its check still 0.
+// The line of an entry, its check still 0.
 #[tactic(auto, unfolding(disk_lines::specs::Entries::entry_body))]
 fn unchecked(draft: &Draft, seq: u64) -> [u8; 64]
     ensures { result ≡ zeros 4 ++ entry_body draft.now seq }
@@ -70,7 +61,8 @@ pub fn encode(draft: &Draft, seq: u64) -> [u8; 64]
     line
 }
 
-/// The draft that the line stands for with this sequence number; None exactly where it is no entry with that number.
+/// The draft that the line stands for with this sequence number; None exactly where it is no entry
+/// with that number.
 #[tactic(auto, unfolding(disk_lines::specs::Entries::decode_entry))]
 pub fn decode(bytes: &[u8; 64], seq: u64) -> Option<Draft>
     ensures { result ≡ decode_entry bytes.now seq }
@@ -93,10 +85,13 @@ pub fn decode(bytes: &[u8; 64], seq: u64) -> Option<Draft>
     }
 }
 
-/// What is spelled with a number is read with it, what is read is spelled so, and a line is read with one number
-/// alone.
+/// What is spelled with a number is read with it, what is read is spelled so, and a line is read
+/// with one number alone.
 pub fn entries_are_exact()
-    ensures read { (d : Draft) (seq : ℕ) → FitsDraft d → is_draft d ≡ true → decode_entry (encode_entry d seq) seq ≡ Some d }
-    ensures spelled { (bytes : List ℕ) (seq : ℕ) (d : Draft) → decode_entry bytes seq ≡ Some d → IsEntryLine bytes seq d }
-    ensures one_number { (bytes : List ℕ) (s t : ℕ) (d : Draft) → s < 2 ^ 64 → t < 2 ^ 64 → s ≢ t → decode_entry bytes s ≡ Some d → decode_entry bytes t ≡ None }
+    ensures read { (d : Draft) (seq : ℕ) → FitsDraft d → is_draft d ≡ true
+        → decode_entry (encode_entry d seq) seq ≡ Some d }
+    ensures spelled { (bytes : List ℕ) (seq : ℕ) (d : Draft)
+        → decode_entry bytes seq ≡ Some d → IsEntryLine bytes seq d }
+    ensures one_number { (bytes : List ℕ) (s t : ℕ) (d : Draft) → s < 2 ^ 64 → t < 2 ^ 64 → s ≢ t
+        → decode_entry bytes s ≡ Some d → decode_entry bytes t ≡ None }
 {}

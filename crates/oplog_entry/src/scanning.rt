@@ -10,7 +10,7 @@ use line_fields::put_u64;
 use pm_lines::Line;
 use std::alloc::{AllocError, Global};
 
-/// The bytes of the line, of each word the newest candidate.
+// The bytes of the line, of each word the newest candidate.
 fn bytes_of(line: &Line) -> [u8; 64]
     ensures { result ≡ line_bytes (words_of line.now.cells) 0 }
 {
@@ -21,8 +21,9 @@ fn bytes_of(line: &Line) -> [u8; 64]
     bytes
 }
 
-/// The slots whose lines are entries of this lap, by rising number, each with its draft. The lines are those of the
-/// log from slot 0 on, and `base` is its base; a line that is no entry is passed over, whatever comes behind it.
+/// The slots whose lines are entries of this lap, by rising number, each with its draft. The lines
+/// are those of the log from slot 0 on, and `base` is its base; a line that is no entry is passed
+/// over, whatever comes behind it.
 pub fn scan(alloc: Global, lines: &[Line], base: u64) -> Result<Vec<(u64, Draft)>, AllocError>
     requires { base + length lines.now < 2 ^ 64 }
     ensures { IfOk result (λ found. found.items ≡ entries_in lines.now base) }

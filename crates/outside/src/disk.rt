@@ -1,6 +1,7 @@
 //! The real files and the real output. They tell no contents, and count their failures.
-ghost use Rattle.std.specs.Prelude.{◌≡◌, ◌≤◌, ◌<◌, ℕ, List, Option, None, OnOk, OnErr, IfOk, IfSome, IsErrOf};
+ghost use Rattle.std.specs.Prelude.{◌≡◌, ◌≢◌, ◌≤◌, ◌<◌, ◌↔◌, ℕ, List, Option, None, length, OnOk, OnErr, IfOk, IfErr, IfSome, IsErrOf, IsErrAnd};
 ghost use Rattle.std.specs.Io.KnownBytes.{Appends};
+ghost use Rattle.std.specs.IoError.{error_kind};
 ghost use Rattle.outside.specs.Outside.{Rose, Takes, TakesFront};
 
 use crate::faults::{FileFault, Files, Sink, SinkFault};
@@ -26,11 +27,60 @@ pub struct OutSink<W: Write + Drop> {
     faults: u64,
 }
 
-/// All bytes that a reader still gives. A read that was interrupted is tried again; more than `LONGEST_READ` bytes
-/// are a failure.
-fn read_whole<R: Read>(alloc: Global, reader: &mut R) -> Result<Vec<u8>, FileFault>
-    ensures whole { IfOk result (λ bytes. IfSome (R.remaining reader.old) (λ left. bytes.items ≡ left)) }
-    ensures present { IsErrOf result FileFault.Missing → ⊥ }
+// Why a reader was not read whole.
+#[derive(Clone, Copy, Debug, PartialEq, Eq)]
+pub(crate) enum ReadFault {
+    // It gives more than `LONGEST_READ` bytes.
+    TooLong,
+    // It failed with an error of this kind, or no memory was left.
+    Broken(ErrorKind),
+}
+
+// The fault of an error where a file is opened: `Missing` exactly where there is none.
+fn opening_fault(kind: ErrorKind) -> FileFault
+    ensures missing { (result ≡ FileFault.Missing) ↔ (kind ≡ ErrorKind.NotFound) }
+    ensures memory { (result ≡ FileFault.NoMemory) ↔ (kind ≡ ErrorKind.OutOfMemory) }
+{
+    if kind == ErrorKind::NotFound {
+        FileFault::Missing
+    } else {
+        working_fault(kind)
+    }
+}
+
+// The fault of an error where a file is read or written, which is there.
+fn working_fault(kind: ErrorKind) -> FileFault
+    ensures memory { (result ≡ FileFault.NoMemory) ↔ (kind ≡ ErrorKind.OutOfMemory) }
+    ensures failed { (result ≡ FileFault.Failed) ↔ (kind ≢ ErrorKind.OutOfMemory) }
+{
+    if kind == ErrorKind::OutOfMemory {
+        FileFault::NoMemory
+    } else {
+        FileFault::Failed
+    }
+}
+
+// The fault of a read that ended early.
+fn reading_fault(fault: ReadFault) -> FileFault
+    ensures memory { (result ≡ FileFault.NoMemory)
+        ↔ (fault ≡ ReadFault.Broken ErrorKind.OutOfMemory) }
+    ensures failed { (result ≡ FileFault.Failed)
+        ↔ (fault ≢ ReadFault.Broken ErrorKind.OutOfMemory) }
+{
+    match fault {
+        ReadFault::TooLong => FileFault::Failed,
+        ReadFault::Broken(kind) => working_fault(kind),
+    }
+}
+
+// All bytes that a reader still gives. A read that was interrupted is tried again.
+pub(crate) fn read_whole<R: Read>(alloc: Global, reader: &mut R) -> Result<Vec<u8>, ReadFault>
+    ensures whole { IfOk result (λ bytes.
+        IfSome (R.remaining reader.old) (λ left. bytes.items ≡ left)) }
+    ensures within { IfOk result (λ bytes. length bytes.items ≤ LONGEST_READ) }
+    ensures long { IsErrOf result ReadFault.TooLong →
+        IfSome (R.remaining reader.old) (λ left. LONGEST_READ < length left) }
+    ensures tried_again { IsErrOf result (ReadFault.Broken ErrorKind.Interrupted) → ⊥ }
 {
     let mut bytes = Vec::new(alloc);
     let mut piece = [0u8; 4096];
@@ -39,26 +89,29 @@ fn read_whole<R: Read>(alloc: Global, reader: &mut R) -> Result<Vec<u8>, FileFau
             Ok(0) => return Ok(bytes),
             Ok(n) => {
                 if bytes.extend_from_slice(&piece[..n]).is_err() {
-                    return Err(FileFault::NoMemory);
+                    return Err(ReadFault::Broken(ErrorKind::OutOfMemory));
                 }
                 if bytes.len() > LONGEST_READ {
-                    return Err(FileFault::Failed);
+                    return Err(ReadFault::TooLong);
                 }
             }
             Err(error) => {
-                if error.kind() != ErrorKind::Interrupted {
-                    return Err(FileFault::Failed);
+                let kind = error.kind();
+                if kind != ErrorKind::Interrupted {
+                    return Err(ReadFault::Broken(kind));
                 }
             }
         }
     }
-    Err(FileFault::Failed)
+    Err(ReadFault::Broken(ErrorKind::TimedOut))
 }
 
-/// Writes all of the bytes, in as many writes as it takes. A write that was interrupted is tried again; one that
-/// takes nothing is a failure.
-fn write_whole<W: Write>(writer: &mut W, bytes: &[u8]) -> io::Result<()>
-    ensures { OnOk result (Appends (W.contents writer.old) (W.contents writer.new) bytes.now) }
+// Writes all of the bytes, in as many writes as it takes. A write that was interrupted is tried
+// again; one that takes nothing is a failure.
+pub(crate) fn write_whole<W: Write>(writer: &mut W, bytes: &[u8]) -> io::Result<()>
+    ensures appended { OnOk result
+        (Appends (W.contents writer.old) (W.contents writer.new) bytes.now) }
+    ensures tried_again { IfErr result (λ e. error_kind e ≢ ErrorKind.Interrupted) }
 {
     let mut written = 0;
     for _ in 0..u64::MAX {
@@ -78,7 +131,7 @@ fn write_whole<W: Write>(writer: &mut W, bytes: &[u8]) -> io::Result<()>
     Err(io::Error::from(ErrorKind::WriteZero))
 }
 
-/// Writes all of the bytes and flushes.
+// Writes all of the bytes and flushes.
 fn write_out<W: Write>(writer: &mut W, bytes: &[u8]) -> io::Result<()>
     ensures { OnOk result (Appends (W.contents writer.old) (W.contents writer.new) bytes.now) }
 {
@@ -86,22 +139,35 @@ fn write_out<W: Write>(writer: &mut W, bytes: &[u8]) -> io::Result<()>
     writer.flush()
 }
 
-/// Opens a file and reads it.
-fn read_file<R: rt::Files>(files: &R, alloc: Global, name: &str) -> Result<Vec<u8>, FileFault> {
-    match fs::open(files, name) {
-        Ok(mut file) => read_whole(alloc, &mut file),
-        Err(error) => Err(match error.kind() {
-            ErrorKind::NotFound => FileFault::Missing,
-            ErrorKind::OutOfMemory => FileFault::NoMemory,
-            _ => FileFault::Failed,
-        }),
+// The bytes of a file that was opened, or why it was not.
+fn read_opened<F: Read + Drop>(alloc: Global, opened: io::Result<F>) -> Result<Vec<u8>, FileFault>
+    ensures whole { IfOk opened (λ file. IfOk result (λ bytes.
+        IfSome (F.remaining file) (λ left. bytes.items ≡ left))) }
+    ensures missing { IsErrOf result FileFault.Missing
+        ↔ IsErrAnd opened (λ e. error_kind e ≡ ErrorKind.NotFound) }
+{
+    match opened {
+        Ok(mut file) => match read_whole(alloc, &mut file) {
+            Ok(bytes) => Ok(bytes),
+            Err(fault) => Err(reading_fault(fault)),
+        },
+        Err(error) => Err(opening_fault(error.kind())),
     }
 }
 
-/// Makes or empties a file and writes it.
-fn write_file<R: rt::Files>(files: &R, name: &str, bytes: &[u8]) -> io::Result<()> {
-    let mut file = fs::create(files, name)?;
-    write_whole(&mut file, bytes)
+// The file that was made or emptied, with all of the bytes written behind those that it has.
+fn write_opened<F: Write + Drop>(opened: io::Result<F>, bytes: &[u8]) -> Result<F, FileFault>
+    ensures appended { IfOk opened (λ made. IfOk result (λ file.
+        Appends (F.contents made) (F.contents file) bytes.now)) }
+    ensures never_missing { IsErrOf result FileFault.Missing → ⊥ }
+{
+    match opened {
+        Ok(mut file) => match write_whole(&mut file, bytes) {
+            Ok(()) => Ok(file),
+            Err(error) => Err(working_fault(error.kind())),
+        },
+        Err(error) => Err(working_fault(error.kind())),
+    }
 }
 
 impl<R: rt::Files + Drop> DiskFiles<R> {
@@ -126,7 +192,7 @@ impl<R: rt::Files + Drop> Files for DiskFiles<R> {
     ghost misses = { λ d. d.misses };
 
     fn read(&mut self, alloc: Global, name: &str) -> Result<Vec<u8>, FileFault> {
-        let result = read_file(&self.files, alloc, name);
+        let result = read_opened(alloc, fs::open(&self.files, name));
         match &result {
             Err(FileFault::Failed) => self.faults = self.faults.saturating_add(1),
             Err(FileFault::Missing) => self.misses = self.misses.saturating_add(1),
@@ -136,14 +202,13 @@ impl<R: rt::Files + Drop> Files for DiskFiles<R> {
     }
 
     fn replace(&mut self, name: &str, bytes: &[u8]) -> Result<(), FileFault> {
-        match write_file(&self.files, name, bytes) {
-            Ok(()) => Ok(()),
-            Err(error) => {
-                if error.kind() == ErrorKind::OutOfMemory {
-                    return Err(FileFault::NoMemory);
+        match write_opened(fs::create(&self.files, name), bytes) {
+            Ok(_) => Ok(()),
+            Err(fault) => {
+                if fault == FileFault::Failed {
+                    self.faults = self.faults.saturating_add(1);
                 }
-                self.faults = self.faults.saturating_add(1);
-                Err(FileFault::Failed)
+                Err(fault)
             }
         }
     }
@@ -171,7 +236,8 @@ impl<W: Write + Drop> Sink for OutSink<W> {
         ensures failed { IsErrOf result SinkFault.Failed → Rose self.old.faults self.new.faults }
 
         // The writer has taken all of the bytes, where it tells what it holds.
-        ensures written { OnOk result (Appends (W.contents self.old.writer) (W.contents self.new.writer) bytes.now) }
+        ensures written { OnOk result
+            (Appends (W.contents self.old.writer) (W.contents self.new.writer) bytes.now) }
         ensures takes_no_memory { IsErrOf result SinkFault.NoMemory → ⊥ }
     {
         match write_out(&mut self.writer, bytes) {

@@ -3,24 +3,30 @@ ghost use Rattle.std.specs.Prelude.{◌≡◌, ◌≤◌, ◌<◌, ℕ, List, Op
 ghost use Rattle.outside.specs.Outside.{FileList, AreOfFile, IsAbsent, IsReplaced, Rose, Takes, TakesFront};
 
 use std::alloc::Global;
+use thiserror::Error;
 
 /// Why a file was not read or replaced.
-#[derive(Clone, Copy, Debug, PartialEq, Eq)]
+#[derive(Clone, Copy, Debug, PartialEq, Eq, Error)]
 pub enum FileFault {
     /// There is no file of this name. Only a read answers it.
+    #[error("there is no such file")]
     Missing,
     /// Reading or writing failed.
+    #[error("the file was not read or written")]
     Failed,
     /// No memory was left.
+    #[error("no memory is left")]
     NoMemory,
 }
 
 /// Why bytes were not taken whole.
-#[derive(Clone, Copy, Debug, PartialEq, Eq)]
+#[derive(Clone, Copy, Debug, PartialEq, Eq, Error)]
 pub enum SinkFault {
     /// Writing failed.
+    #[error("the output was not written")]
     Failed,
     /// No memory was left.
+    #[error("no memory is left")]
     NoMemory,
 }
 
@@ -29,7 +35,8 @@ pub trait Files {
     /// The names with their bytes, where the object tells them.
     ghost told: { Self → Option FileList };
 
-    /// How often reading or writing failed, and how often a file was missing. Both stand still at 2^64 - 1.
+    /// How often reading or writing failed, and how often a file was missing. Both stand still at
+    /// 2^64 - 1.
     ghost faults: { Self → ℕ };
 
     ghost misses: { Self → ℕ };
@@ -40,8 +47,10 @@ pub trait Files {
         ensures told { told self.new ≡ told self.old }
         ensures faults { faults self.old ≤ faults self.new }
         ensures misses { misses self.old ≤ misses self.new }
-        ensures failed { IsErrOf result FileFault.Failed → Rose (faults self.old) (faults self.new) }
-        ensures missing { IsErrOf result FileFault.Missing → Rose (misses self.old) (misses self.new) }
+        ensures failed { IsErrOf result FileFault.Failed
+            → Rose (faults self.old) (faults self.new) }
+        ensures missing { IsErrOf result FileFault.Missing
+            → Rose (misses self.old) (misses self.new) }
 
         // A miss is of a file that is not there.
         ensures absent { IsErrOf result FileFault.Missing → IsAbsent (told self.old) name.now }
@@ -49,11 +58,13 @@ pub trait Files {
 
     /// Sets the bytes of one file, and makes it where it was missing. A refusal leaves the list.
     fn replace(&mut self, name: &str, bytes: &[u8]) -> Result<(), FileFault>
-        ensures replaced { OnOk result (IsReplaced (told self.old) (told self.new) name.now bytes.now) }
+        ensures replaced { OnOk result
+            (IsReplaced (told self.old) (told self.new) name.now bytes.now) }
         ensures kept { OnErr result (told self.new ≡ told self.old) }
         ensures faults { faults self.old ≤ faults self.new }
         ensures misses { misses self.new ≡ misses self.old }
-        ensures failed { IsErrOf result FileFault.Failed → Rose (faults self.old) (faults self.new) }
+        ensures failed { IsErrOf result FileFault.Failed
+            → Rose (faults self.old) (faults self.new) }
         ensures never_missing { IsErrOf result FileFault.Missing → ⊥ };
 }
 
@@ -70,5 +81,6 @@ pub trait Sink {
         ensures taken { OnOk result (Takes (told self.old) (told self.new) bytes.now) }
         ensures front { OnErr result (TakesFront (told self.old) (told self.new) bytes.now) }
         ensures faults { faults self.old ≤ faults self.new }
-        ensures failed { IsErrOf result SinkFault.Failed → Rose (faults self.old) (faults self.new) };
+        ensures failed { IsErrOf result SinkFault.Failed
+            → Rose (faults self.old) (faults self.new) };
 }

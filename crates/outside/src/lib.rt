@@ -1,13 +1,15 @@
-//! The outside of the program, behind two traits: files that are read and replaced whole, and a sink for output.
+//! The outside of the program, behind two traits: files that are read and replaced whole, and a
+//! sink for output.
 //!
-//! What the layer above may rely on are the traits' meanings: the list of files and the bytes taken, where an
-//! object tells them, and counts of failures that never fall, so that a failure that is reported has a cause that
-//! anyone can see. `MemFiles` and `MemSink` keep all in memory, tell it, and fail at just the calls that they are given.
-//! `DiskFiles` and `OutSink` are the real ones: they tell nothing, since no contract can say what a disk holds, and
-//! count their failures from 0. `OutSink::put` says what its writer has taken, where the writer tells it. That
-//! `DiskFiles` reads and replaces the right bytes is tested.
+//! What the layer above may rely on are the traits' meanings: the list of files and the bytes
+//! taken, where an object tells them, and counts of failures that never fall, so that a failure
+//! that is reported has a cause that anyone can see. `MemFiles` and `MemSink` keep all in memory,
+//! tell it, and fail at just the calls that they are given. `DiskFiles` and `OutSink` are the real
+//! ones: they tell nothing, since no contract can say what a disk holds, and count their failures
+//! from 0. `OutSink::put` says what its writer has taken, where the writer tells it. That
+//! `DiskFiles` reads and replaces the right bytes, and that `OutSink` flushes, is tested.
 //!
-//! Stands on std alone.
+//! Stands on std and `thiserror`.
 #![tactic(auto)]
 
 mod disk;

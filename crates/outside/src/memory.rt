@@ -8,7 +8,8 @@ use crate::faults::{FileFault, Files, Sink, SinkFault};
 use std::alloc::{AllocError, Global};
 use std::marker::Model;
 
-/// The calls of an object: the numbers of those that are to fail, the number of the next, and how many failed.
+// The calls of an object: the numbers of those that are to fail, the number of the next, and how
+// many failed.
 #[derive(Drop)]
 struct Calls {
     failing: Vec<u64>,
@@ -16,10 +17,13 @@ struct Calls {
     faults: u64,
 }
 
-/// Counts a call, and as a failure where it is one that fails.
+// Counts a call, and as a failure where it is one that fails.
 fn fails_now(calls: &mut Calls) -> bool
     ensures listed { IsTrue result ↔ Contains calls.old.failing.items calls.old.next }
-    ensures counted { calls.new ≡ record calls.old { next = counted calls.old.next; faults = (if result then counted calls.old.faults else calls.old.faults) } }
+    ensures counted { calls.new ≡ record calls.old {
+      next = counted calls.old.next;
+      faults = (if result then counted calls.old.faults else calls.old.faults);
+    } }
     ensures later { calls.old.faults ≤ calls.new.faults }
     ensures rose { IsTrue result → Rose calls.old.faults calls.new.faults }
 {
@@ -31,7 +35,8 @@ fn fails_now(calls: &mut Calls) -> bool
     fails
 }
 
-/// Files in memory. The calls of the listed numbers fail, counted from 0 over `read` and `replace` alike.
+/// Files in memory. The calls of the listed numbers fail, counted from 0 over `read` and `replace`
+/// alike.
 #[derive(Drop)]
 pub struct MemFiles {
     alloc: Global,
@@ -43,10 +48,16 @@ pub struct MemFiles {
 impl Model for MemFiles {
     ghost Value = { FilesInMemory };
 
-    ghost view = { λ m. record { files = shown m.files.items; failing = m.calls.failing.items; calls = m.calls.next; faults = m.calls.faults; misses = m.misses } };
+    ghost view = { λ m. record {
+      files = shown m.files.items;
+      failing = m.calls.failing.items;
+      calls = m.calls.next;
+      faults = m.calls.faults;
+      misses = m.misses;
+    } };
 }
 
-/// The bytes of the first file of this name.
+// The bytes of the first file of this name.
 fn find<'a>(files: &'a [(String, Vec<u8>)], name: &str) -> Option<&'a Vec<u8>>
     ensures { option_map (λ v. v.now.items) result ≡ bytes_named (shown files.now) name.now }
 {
@@ -58,7 +69,7 @@ fn find<'a>(files: &'a [(String, Vec<u8>)], name: &str) -> Option<&'a Vec<u8>>
     None
 }
 
-/// A file of its own, with copies of a name and bytes.
+// A file of its own, with copies of a name and bytes.
 fn make(alloc: Global, name: &str, bytes: &[u8]) -> Result<(String, Vec<u8>), AllocError>
     ensures { IfOk result (λ file. shown (file ∷ []) ≡ (name.now, bytes.now) ∷ []) }
 {
@@ -68,9 +79,16 @@ fn make(alloc: Global, name: &str, bytes: &[u8]) -> Result<(String, Vec<u8>), Al
 }
 
 impl MemFiles {
-    /// These files, of which the first of a name counts, and the numbers of the calls that are to fail.
+    /// These files, of which the first of a name counts, and the numbers of the calls that are to
+    /// fail.
     pub fn new(alloc: Global, files: Vec<(String, Vec<u8>)>, failing: Vec<u64>) -> MemFiles
-        ensures { result ≡ record { files = shown files.items; failing = failing.items; calls = 0; faults = 0; misses = 0 } }
+        ensures { result ≡ record {
+          files = shown files.items;
+          failing = failing.items;
+          calls = 0;
+          faults = 0;
+          misses = 0;
+        } }
     {
         MemFiles {
             alloc,
@@ -101,17 +119,23 @@ impl Files for MemFiles {
     ghost misses = { λ m. m.misses };
 
     fn read(&mut self, alloc: Global, name: &str) -> Result<Vec<u8>, FileFault>
-        ensures bytes { IfOk result (λ bytes. AreOfFile (Some self.old.files) name.now bytes.items) }
+        ensures bytes { IfOk result (λ bytes.
+            AreOfFile (Some self.old.files) name.now bytes.items) }
         ensures told { Some self.new.files ≡ Some self.old.files }
         ensures faults { self.old.faults ≤ self.new.faults }
         ensures misses { self.old.misses ≤ self.new.misses }
-        ensures failed { IsErrOf result FileFault.Failed → Rose self.old.faults self.new.faults }
-        ensures missing { IsErrOf result FileFault.Missing → Rose self.old.misses self.new.misses }
-        ensures absent { IsErrOf result FileFault.Missing → IsAbsent (Some self.old.files) name.now }
-        ensures missed { self.old.misses < self.new.misses → IsAbsent (Some self.old.files) name.now }
+        ensures failed { IsErrOf result FileFault.Failed
+            → Rose self.old.faults self.new.faults }
+        ensures missing { IsErrOf result FileFault.Missing
+            → Rose self.old.misses self.new.misses }
+        ensures absent { IsErrOf result FileFault.Missing
+            → IsAbsent (Some self.old.files) name.now }
+        ensures missed { self.old.misses < self.new.misses
+            → IsAbsent (Some self.old.files) name.now }
 
         // Just the listed calls fail.
-        ensures listed { IsErrOf result FileFault.Failed ↔ Contains self.old.failing self.old.calls }
+        ensures listed { IsErrOf result FileFault.Failed
+            ↔ Contains self.old.failing self.old.calls }
         ensures list { self.new.failing ≡ self.old.failing }
         ensures next { self.new.calls ≡ counted self.old.calls }
     {
@@ -128,7 +152,8 @@ impl Files for MemFiles {
     }
 
     fn replace(&mut self, name: &str, bytes: &[u8]) -> Result<(), FileFault>
-        ensures replaced { OnOk result (IsReplaced (Some self.old.files) (Some self.new.files) name.now bytes.now) }
+        ensures replaced { OnOk result
+            (IsReplaced (Some self.old.files) (Some self.new.files) name.now bytes.now) }
         ensures kept { OnErr result (Some self.new.files ≡ Some self.old.files) }
         ensures faults { self.old.faults ≤ self.new.faults }
         ensures misses { self.new.misses ≡ self.old.misses }
@@ -136,7 +161,8 @@ impl Files for MemFiles {
         ensures never_missing { IsErrOf result FileFault.Missing → ⊥ }
 
         // Just the listed calls fail.
-        ensures listed { IsErrOf result FileFault.Failed ↔ Contains self.old.failing self.old.calls }
+        ensures listed { IsErrOf result FileFault.Failed
+            ↔ Contains self.old.failing self.old.calls }
         ensures list { self.new.failing ≡ self.old.failing }
         ensures next { self.new.calls ≡ counted self.old.calls }
     {
@@ -163,13 +189,23 @@ pub struct MemSink {
 impl Model for MemSink {
     ghost Value = { SinkInMemory };
 
-    ghost view = { λ m. record { taken = m.taken.items; failing = m.calls.failing.items; calls = m.calls.next; faults = m.calls.faults } };
+    ghost view = { λ m. record {
+      taken = m.taken.items;
+      failing = m.calls.failing.items;
+      calls = m.calls.next;
+      faults = m.calls.faults;
+    } };
 }
 
 impl MemSink {
     /// An empty sink, and the numbers of the puts that are to fail.
     pub fn new(alloc: Global, failing: Vec<u64>) -> MemSink
-        ensures { result ≡ record { taken = []; failing = failing.items; calls = 0; faults = 0 } }
+        ensures { result ≡ record {
+          taken = [];
+          failing = failing.items;
+          calls = 0;
+          faults = 0;
+        } }
     {
         MemSink {
             taken: Vec::new(alloc),
@@ -196,12 +232,14 @@ impl Sink for MemSink {
 
     fn put(&mut self, bytes: &[u8]) -> Result<(), SinkFault>
         ensures taken { OnOk result (Takes (Some self.old.taken) (Some self.new.taken) bytes.now) }
-        ensures front { OnErr result (TakesFront (Some self.old.taken) (Some self.new.taken) bytes.now) }
+        ensures front { OnErr result
+            (TakesFront (Some self.old.taken) (Some self.new.taken) bytes.now) }
         ensures faults { self.old.faults ≤ self.new.faults }
         ensures failed { IsErrOf result SinkFault.Failed → Rose self.old.faults self.new.faults }
 
         // Just the listed puts fail.
-        ensures listed { IsErrOf result SinkFault.Failed ↔ Contains self.old.failing self.old.calls }
+        ensures listed { IsErrOf result SinkFault.Failed
+            ↔ Contains self.old.failing self.old.calls }
         ensures list { self.new.failing ≡ self.old.failing }
         ensures next { self.new.calls ≡ counted self.old.calls }
     {

@@ -48,7 +48,7 @@ fn push_room(text: &mut String, room: Room) -> Result<(), AllocError> {
     write!(text, " {what} {need} {left}")
 }
 
-/// An outcome as a row spells it.
+// An outcome as a row spells it.
 pub(crate) fn outcome_text(alloc: Global, outcome: &Outcome) -> Result<String, AllocError> {
     let mut text = String::new(alloc);
     match &outcome.reply {
@@ -98,7 +98,7 @@ fn push_entry(text: &mut String, entry: &TreeEntry) -> Result<(), AllocError> {
     }
 }
 
-/// A tree as a row spells it: its lines, with `; ` between them.
+// A tree as a row spells it: its lines, with `; ` between them.
 pub(crate) fn tree_text(alloc: Global, tree: &Tree) -> Result<String, RowError> {
     let mut text = String::new(alloc);
     for entry in &tree.entries {

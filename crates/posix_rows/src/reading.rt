@@ -1,40 +1,18 @@
 //! Reads a call of a row.
 use posix_spec::{Call, Data, Flags, Handle, Mode, Name, Path, Shape, Whence, Who};
-use std::alloc::{AllocError, AllocFailed, Global};
-use std::error::Error;
-use std::fmt;
+use std::alloc::{AllocError, Global};
+use thiserror::Error;
 
-/// Why a row gave no reply: no memory, or the row is misspelled.
-#[derive(Clone, Copy, Debug, PartialEq, Eq)]
-pub enum RowError {
-    NoMemory,
+// Why a row gave no reply.
+#[derive(Clone, Copy, Debug, PartialEq, Eq, Error)]
+pub(crate) enum RowError {
+    #[error(transparent)]
+    NoMemory(#[from(alloc)] AllocError),
+    #[error("a row is misspelled")]
     Misspelled,
 }
 
-impl fmt::Display for RowError {
-    fn fmt<W: fmt::Write>(&self, f: &mut fmt::Formatter<W>) -> fmt::Result {
-        match self {
-            RowError::NoMemory => write!(f, "no memory"),
-            RowError::Misspelled => write!(f, "misspelled row"),
-        }
-    }
-}
-
-impl Error for RowError {}
-
-impl From<AllocError> for RowError {
-    fn from(_refused: AllocError) -> RowError {
-        RowError::NoMemory
-    }
-}
-
-impl<T: Drop> From<AllocFailed<T>> for RowError {
-    fn from(_refused: AllocFailed<T>) -> RowError {
-        RowError::NoMemory
-    }
-}
-
-/// A word of a line by its place, and no text past the last one.
+// A word of a line by its place, and no text past the last one.
 fn word(line: &str, place: usize) -> &str {
     line.split(' ').nth(place).unwrap_or("")
 }
@@ -89,7 +67,7 @@ fn whence(text: &str) -> Whence {
     }
 }
 
-/// A hexadecimal digit.
+// A hexadecimal digit.
 fn digit(byte: u8) -> Result<u8, RowError> {
     match byte {
         b'0'..=b'9' => Ok(byte - b'0'),
@@ -107,7 +85,7 @@ fn byte(pair: &[u8]) -> Result<u8, RowError> {
     Ok(high.wrapping_mul(16).wrapping_add(low))
 }
 
-/// `-` for no bytes, `HH*N` for N equal bytes, or pairs of hexadecimal digits.
+// `-` for no bytes, `HH*N` for N equal bytes, or pairs of hexadecimal digits.
 fn data(alloc: Global, text: &str) -> Result<Data, RowError> {
     let mut bytes = Vec::new(alloc);
     if text == "-" {
@@ -124,7 +102,7 @@ fn data(alloc: Global, text: &str) -> Result<Data, RowError> {
     Ok(Data { bytes })
 }
 
-/// The caller that a row names, and the rest of the row.
+// The caller that a row names, and the rest of the row.
 pub(crate) fn caller(row: &str) -> Result<(Who, &str), RowError> {
     match row.split_once(": ") {
         None => Ok((Who::Thread(0), row)),
@@ -140,7 +118,7 @@ pub(crate) fn caller(row: &str) -> Result<(Who, &str), RowError> {
     }
 }
 
-/// The call of a row.
+// The call of a row.
 pub(crate) fn call(alloc: Global, row: &str) -> Result<Call, RowError> {
     let (a, b, c) = (word(row, 1), word(row, 2), word(row, 3));
     match word(row, 0) {
@@ -175,7 +153,7 @@ fn small(text: &str) -> Result<u32, RowError> {
     text.parse::<u32>().ok().ok_or(RowError::Misspelled)
 }
 
-/// The shape and the mode of a line `image D N L MODE`.
+// The shape and the mode of a line `image D N L MODE`.
 pub(crate) fn image(line: &str) -> Result<(Shape, Mode), RowError> {
     let shape = Shape {
         data_blocks: small(word(line, 1))?,

@@ -1,8 +1,8 @@
-//! Runs rows.
+//! Runs sequences.
 use crate::printing::{outcome_text, tree_text};
 use crate::reading::{RowError, call, caller, image};
-use posix_spec::{Mode, Path, Shape, State, Tree, TreeEntry, TreeNode};
-use std::alloc::Global;
+use posix_spec::{Mode, Outcome, Path, Shape, State, Tree, TreeEntry, TreeNode};
+use std::alloc::{AllocError, Global};
 
 fn fresh_state(alloc: Global, shape: Shape, mode: Mode) -> Result<State, RowError> {
     let mut entries = Vec::new(alloc);
@@ -15,8 +15,8 @@ fn fresh_state(alloc: Global, shape: Shape, mode: Mode) -> Result<State, RowErro
     Ok(State::open(alloc, &Tree { entries }, shape, mode)?)
 }
 
-/// The state of the default image: 247 data blocks, 60 nodes, 128 name lines, strict mode.
-pub fn default_state(alloc: Global) -> Result<State, RowError> {
+// The state of the default image: 247 data blocks, 60 nodes, 128 name lines, strict mode.
+pub(crate) fn default_state(alloc: Global) -> Result<State, RowError> {
     let shape = Shape {
         data_blocks: 247,
         nodes: 60,
@@ -25,22 +25,47 @@ pub fn default_state(alloc: Global) -> Result<State, RowError> {
     fresh_state(alloc, shape, Mode::Strict)
 }
 
-/// The reply to the call of a row. An empty line and an `image` line begin anew.
-pub fn reply_to(alloc: Global, state: &mut State, row: &str) -> Result<String, RowError> {
-    if row.is_empty() {
-        *state = default_state(alloc)?;
-        return Ok(String::new(alloc));
-    }
+// The tree of a state, taken from a copy of it, so that copies are tried too.
+fn tree_of(state: &State) -> Result<Tree, AllocError> {
+    state.clone()?.tree()?.clone()
+}
+
+// What the call of a row gives.
+fn outcome_of(alloc: Global, state: &mut State, row: &str) -> Result<Outcome, RowError> {
+    let (who, row) = caller(row)?;
+    let call = call(alloc, row)?;
+    Ok(state.apply(who, &call)?)
+}
+
+// The reply to a row. An `image` line begins anew, and has none.
+fn reply_to(alloc: Global, state: &mut State, row: &str) -> Result<String, RowError> {
     if row.starts_with("image ") {
         let (shape, mode) = image(row)?;
         *state = fresh_state(alloc, shape, mode)?;
         return Ok(String::new(alloc));
     }
     if row == "tree" {
-        return tree_text(alloc, &state.tree()?);
+        return tree_text(alloc, &tree_of(state)?);
     }
-    let (who, row) = caller(row)?;
-    let call = call(alloc, row)?;
-    let outcome = state.apply(who, &call)?;
-    Ok(outcome_text(alloc, &outcome)?)
+    Ok(outcome_text(alloc, &outcome_of(alloc, state, row)?)?)
+}
+
+// The first line of a sequence that is answered otherwise, with the reply that came.
+pub(crate) fn first_difference(
+    alloc: Global,
+    state: &mut State,
+    sequence: &str,
+) -> Result<Option<String>, RowError> {
+    *state = default_state(alloc)?;
+    for line in sequence.lines() {
+        if line.starts_with('#') {
+            continue;
+        }
+        let (row, wanted) = line.split_once(" = ").unwrap_or((line, ""));
+        let reply = reply_to(alloc, state, row)?;
+        if reply.as_str() != wanted {
+            return Ok(Some(format!(in alloc; "{line}, and not {reply}")?));
+        }
+    }
+    Ok(None)
 }

@@ -8,8 +8,8 @@ use Rattle.disk_places.specs.Fields.{zeros}
 use Rattle.line_fields.specs.Puts.{put_at}
 use Rattle.k_names.proofs.line.spelled.Goals as goal
 
-pub returns : goal.returns
-returns c =
+pub returns-clause-line : goal.returns-clause-line
+returns-clause-line c =
     let name = c.args.name.now in
     let n = length name in
     let parent = to_le_bytes w32 c.args.parent in

@@ -23,7 +23,7 @@ use Rattle.posix_spec.specs.Step.{close_done, dup_done, empty_file, fsync_done, 
 use Rattle.posix_facts.specs.RowLaws.{no_row, none_fits, stepped-keeps}
 
 -- an entry is that of its own directory and name
-own_entry : (entry : DirEntry) (parent : ℕ) (name : List ℕ) → entry.parent ≡ parent → entry.name ≡ name → is_entry parent name entry ≡ true
+pub own_entry : (entry : DirEntry) (parent : ℕ) (name : List ℕ) → entry.parent ≡ parent → entry.name ≡ name → is_entry parent name entry ≡ true
 own_entry entry parent name is_parent is_name =
     rw ((Decides-eqb entry.parent parent).1 is_parent, (bytes_decides entry.name name).1 is_name) refl
 

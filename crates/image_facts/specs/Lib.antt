@@ -5,3 +5,4 @@ pub mod ClimbLaws
 pub mod FreshLaws
 pub mod FreshLines
 pub mod HonestLaws
+pub mod ViewLaws

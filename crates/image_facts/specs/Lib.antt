@@ -2,7 +2,9 @@ pub mod BrokenLaws
 pub mod CheckedLaws
 pub mod ClaimLaws
 pub mod ClimbLaws
+pub mod Damage
 pub mod FreshLaws
 pub mod FreshLines
+pub mod HeadDamage
 pub mod HonestLaws
 pub mod ViewLaws

@@ -45,18 +45,18 @@ use Rattle.image_facts.specs.CheckedLaws.{checked-parts}
 use Rattle.image_facts.specs.FreshLines.{IsUnset, fresh-superblock, geometry_of-fresh, fresh-root, fresh-staging, fresh-zero, fresh-zeros, fresh-base, fresh-state, fresh-commit, journaled-fresh}
 
 -- Lists of one value.
-same-at : {X : Type 0} (d : X) (n k : ℕ) → get_or (replicate n d) k d ≡ d
+pub same-at : {X : Type 0} (d : X) (n k : ℕ) → get_or (replicate n d) k d ≡ d
 same-at d n k =
     elim (cases_lt k n) [
       | inl below ↦ get_or-replicate n k d d below
       | inr past ↦ get_or_past (replicate n d) k d (rw length-replicate past)
     ]
 
-flat_map-none : (a n : ℕ) → flat_map (λ (k : ℕ). let none : List Use = [] in none) (range_with_len a n) ≡ []
+pub flat_map-none : (a n : ℕ) → flat_map (λ (k : ℕ). let none : List Use = [] in none) (range_with_len a n) ≡ []
 flat_map-none a zero = refl
 flat_map-none a (suc n) = flat_map-none (a + 1) n
 
-filter_map-none : (a n : ℕ) → filter_map (λ (k : ℕ). let none : Option Draft = None in none) (range_with_len a n) ≡ []
+pub filter_map-none : (a n : ℕ) → filter_map (λ (k : ℕ). let none : Option Draft = None in none) (range_with_len a n) ≡ []
 filter_map-none a zero = refl
 filter_map-none a (suc n) = filter_map-none (a + 1) n
 
@@ -90,34 +90,37 @@ inode-fresh g ino least =
           ∙ sym (fresh_cases (λ i x. 5 ≤ i → x ≡ free_inode) ino (λ e far. absurd (omega arith)) (λ from to far. absurd (omega arith)) (λ far _. refl) (omega arith))
     ]
 
-row-fresh : (g : Geometry) (k : ℕ) → row (fresh_volume g).names k ≡ None
+pub row-fresh : (g : Geometry) (k : ℕ) → row (fresh_volume g).names k ≡ None
 row-fresh g k = same-at None g.names k
 
-chain-fresh : (g : Geometry) (ino : ℕ) → chain (fresh_volume g) ino ≡ []
+pub chain-fresh : (g : Geometry) (ino : ℕ) → chain (fresh_volume g) ino ≡ []
 chain-fresh g ino = same-at [] g.inodes ino
 
-extents-fresh : (g : Geometry) (ino : ℕ) → extents (fresh_volume g) ino ≡ []
+pub extents-fresh : (g : Geometry) (ino : ℕ) → extents (fresh_volume g) ino ≡ []
 extents-fresh g ino = same-at [] g.inodes ino
 
--- nothing is named
-owners-fresh : (g : Geometry) (b : ℕ) → owners (fresh_volume g) b ≡ []
+-- where there is no chain and no map nothing is named
+pub owners-none : (v : Volume) (b : ℕ) → ((ino : ℕ) → chain v ino ≡ []) → ((ino : ℕ) → extents v ino ≡ []) → owners v b ≡ []
 unfolding owners
-owners-fresh g b =
-    flat_map-agree (λ ino. uses_by ino (chain (fresh_volume g) ino) (extents (fresh_volume g) ino) b) (λ ino. []) 0 (length (fresh_volume g).inodes)
-    (λ ino from below. λ i. uses_by ino (chain-fresh g ino i) (extents-fresh g ino i) b)
-    ∙ flat_map-none 0 (length (fresh_volume g).inodes)
+owners-none v b chains maps =
+    flat_map-agree (λ ino. uses_by ino (chain v ino) (extents v ino) b) (λ ino. []) 0 (length v.inodes)
+    (λ ino from below. λ i. uses_by ino (chains ino i) (maps ino i) b)
+    ∙ flat_map-none 0 (length v.inodes)
+
+owners-fresh : (g : Geometry) (b : ℕ) → owners (fresh_volume g) b ≡ []
+owners-fresh g b = owners-none (fresh_volume g) b (chain-fresh g) (extents-fresh g)
 
 names-none : (ino n : ℕ) → names_of (replicate n None) ino ≡ 0
 names-none ino zero = refl
 names-none ino (suc n) = omega (arith, sum_by-cons (λ o. cond (is_child ino o) 1 0) None (replicate n None), names-none ino n)
 
-kind-fresh : (ino : ℕ) → IsKindAt ino (fresh_inode ino).kind
+pub kind-fresh : (ino : ℕ) → IsKindAt ino (fresh_inode ino).kind
 kind-fresh ino = fresh_cases (λ i x. IsKindAt i x.kind) ino (λ e. inl e) (λ from to. (from, to)) (λ far. far)
 
-no_file : (ino : ℕ) → is_file (fresh_inode ino).kind ≡ false
+pub no_file : (ino : ℕ) → is_file (fresh_inode ino).kind ≡ false
 no_file ino = fresh_cases (λ i x. is_file x.kind ≡ false) ino (λ e. refl) (λ from to. refl) (λ far. refl)
 
-one_directory : (ino : ℕ) → 0 < ino → is_directory (fresh_inode ino).kind ≡ true → ⊥
+pub one_directory : (ino : ℕ) → 0 < ino → is_directory (fresh_inode ino).kind ≡ true → ⊥
 one_directory ino = fresh_cases (λ i x. 0 < i → is_directory x.kind ≡ true → ⊥) ino (λ e above h. omega arith) (λ from to above h. cc) (λ far above h. cc)
 
 pub fresh-kept : (g : Geometry) → IsGeometry g → AreKept (fresh_volume g)
@@ -138,15 +141,15 @@ fresh-kept g ok =
 
 -- The words.
 
-unset-name : (g : Geometry) (k : ℕ) → IsGeometry g → IsUnset (name_line g k)
+pub unset-name : (g : Geometry) (k : ℕ) → IsGeometry g → IsUnset (name_line g k)
 unset-name g k ok =
     record { superblock = λ e. omega arith; state = λ e. omega arith; inodes = λ ino below e. omega (arith, ok.least_inodes) }
 
-unset-log : (g : Geometry) (s : ℕ) → IsGeometry g → IsUnset (log_line g s)
+pub unset-log : (g : Geometry) (s : ℕ) → IsGeometry g → IsUnset (log_line g s)
 unset-log g s ok =
     record { superblock = λ e. omega arith; state = λ e. omega arith; inodes = λ ino below e. omega (arith, ok.least_inodes) }
 
-unset-inode : (ino : ℕ) → 5 ≤ ino → IsUnset (inode_line ino)
+pub unset-inode : (ino : ℕ) → 5 ≤ ino → IsUnset (inode_line ino)
 unset-inode ino far =
     record { superblock = λ e. omega arith; state = λ e. omega arith; inodes = λ i below e. omega arith }
 
@@ -172,7 +175,7 @@ line-fresh g ino =
 no_map : (ino : ℕ) → ((fresh_inode ino).root ≡ 0) × ((fresh_inode ino).extents ≡ 0)
 no_map ino = fresh_cases (λ i x. (x.root ≡ 0) × (x.extents ≡ 0)) ino (λ e. (refl, refl)) (λ from to. (refl, refl)) (λ far. (refl, refl))
 
-empty-chain : (f : Words) (size : ℕ) → IsChain f size 0 0 [] []
+pub empty-chain : (f : Words) (size : ℕ) → IsChain f size 0 0 [] []
 unfolding blocks_from SpellsChain
 empty-chain f size =
     record {
@@ -243,11 +246,11 @@ fresh-head g ok =
     }
 
 -- the log
-zeros-no_entry : (n : ℕ) → decode_entry (zeros 64) n ≡ None
+pub zeros-no_entry : (n : ℕ) → decode_entry (zeros 64) n ≡ None
 unfolding decode_entry
 zeros-no_entry n = refl
 
-zeros-invalid : is_self_valid (zeros 64) ≡ false
+pub zeros-invalid : is_self_valid (zeros 64) ≡ false
 unfolding decode_entry
 zeros-invalid = refl
 
@@ -264,7 +267,7 @@ live-fresh g ok =
     )
 
 -- where nothing is live the files hold nothing, and every data block is unused
-held-fresh : (g : Geometry) (live : List Draft) → IsGeometry g → held_after_recovery (fresh_volume g) live ≡ 0
+pub held-fresh : (g : Geometry) (live : List Draft) → IsGeometry g → held_after_recovery (fresh_volume g) live ≡ 0
 held-fresh g live ok =
     let least : 5 ≤ g.inodes = omega (arith, ok.least_inodes) in
     let v = fresh_volume g in
@@ -272,7 +275,7 @@ held-fresh g live ok =
     (λ ino from below. let none : is_file (inode v ino).kind ≡ false = ap (λ (x : Inode). is_file x.kind) (inode-fresh g ino least) ∙ no_file ino in rw none refl)
     ∙ sum-none 0 (length v.inodes)
 
-unused-fresh : (g : Geometry) → unused_blocks (fresh_volume g) ≡ data_blocks g
+pub unused-fresh : (g : Geometry) → unused_blocks (fresh_volume g) ≡ data_blocks g
 unused-fresh g =
     count_by-agree (λ b. has_none (owners (fresh_volume g) b)) (λ b. true) (first_data g) (data_blocks g)
     (λ b from below. ap has_none (owners-fresh g b))

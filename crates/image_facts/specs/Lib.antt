@@ -7,4 +7,5 @@ pub mod FreshLaws
 pub mod FreshLines
 pub mod HeadDamage
 pub mod HonestLaws
+pub mod LineDamage
 pub mod ViewLaws

@@ -160,7 +160,7 @@ checked-parts bytes f v parts =
 
 -- The rules as a list.
 
-data-within : (g : Geometry) (b : ℕ) → first_data g ≤ b → b < first_data g + data_blocks g → is_data_block g b ≡ true
+pub data-within : (g : Geometry) (b : ℕ) → first_data g ≤ b → b < first_data g + data_blocks g → is_data_block g b ≡ true
 data-within g b from below = grind (arith, nat_tests)
 
 within-data : (g : Geometry) (b : ℕ) → is_data_block g b ≡ true → (first_data g ≤ b) × (b < first_data g + data_blocks g)

@@ -7,5 +7,6 @@ pub mod FreshLaws
 pub mod FreshLines
 pub mod HeadDamage
 pub mod HonestLaws
+pub mod KeptRules
 pub mod LineDamage
 pub mod ViewLaws

@@ -71,7 +71,7 @@ count-all a (suc n) = omega (arith, sum_by-cons (λ (k : ℕ). 1) a (range_with_
 -- The volume.
 
 -- what holds of a directory at 0, of staging files at 1 to 4 and of free inodes elsewhere holds of each inode
-fresh_cases : (P : ℕ → Inode → Type 0) (ino : ℕ) → (ino ≡ 0 → P ino (empty_inode Directory 0)) → (1 ≤ ino → ino ≤ 4 → P ino (empty_inode Staging 0)) → (5 ≤ ino → P ino free_inode)
+pub fresh_cases : (P : ℕ → Inode → Type 0) (ino : ℕ) → (ino ≡ 0 → P ino (empty_inode Directory 0)) → (1 ≤ ino → ino ≤ 4 → P ino (empty_inode Staging 0)) → (5 ≤ ino → P ino free_inode)
     → P ino (fresh_inode ino)
 fresh_cases P ino root staging free =
     cond_both (ino == 0) (empty_inode Directory 0) (cond (nat_le ino 4) (empty_inode Staging 0) free_inode) (P ino)

@@ -9,4 +9,7 @@ pub mod HeadDamage
 pub mod HonestLaws
 pub mod KeptRules
 pub mod LineDamage
+pub mod TreeImages
+pub mod TreeRows
 pub mod ViewLaws
+pub mod VolumeTests

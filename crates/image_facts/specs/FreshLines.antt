@@ -23,10 +23,10 @@ use Rattle.volume_facts.specs.LineWords.{with_line-in, with_line-out, line_bytes
 use Rattle.volume_facts.specs.StateLaws.{state_bytes-first, state_bytes-later}
 
 -- Numbers that are bytes.
-AreSmall : List ℕ → Type 0
+unfoldable pub AreSmall : List ℕ → Type 0
 AreSmall xs = (k : ℕ) → get_or xs k 0 < 256
 
-small-append : (xs ys : List ℕ) → AreSmall xs → AreSmall ys → AreSmall (xs ++ ys)
+pub small-append : (xs ys : List ℕ) → AreSmall xs → AreSmall ys → AreSmall (xs ++ ys)
 unfolding AreSmall
 small-append xs ys h g k =
     elim (cases_lt k (length xs)) [
@@ -34,7 +34,7 @@ small-append xs ys h g k =
       | inr ge ↦ subst (λ b. b < 256) (sym (get_or-append_right xs ys (length xs) k 0 refl ge)) (g (k - length xs))
     ]
 
-small-zeros : (n : ℕ) → AreSmall (zeros n)
+pub small-zeros : (n : ℕ) → AreSmall (zeros n)
 unfolding AreSmall
 small-zeros n k =
     elim (cases_lt k n) [
@@ -42,7 +42,7 @@ small-zeros n k =
       | inr ge ↦ let e : get_or (zeros n) k 0 ≡ 0 = get_or_past (zeros n) k 0 (rw length-replicate ge) in omega arith
     ]
 
-small-u32 : (n : ℕ) → AreSmall (to_le_bytes w32 n)
+pub small-u32 : (n : ℕ) → AreSmall (to_le_bytes w32 n)
 unfolding AreSmall
 small-u32 n zero = omega arith
 small-u32 n (suc zero) = omega arith

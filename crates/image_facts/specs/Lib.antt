@@ -9,6 +9,7 @@ pub mod HeadDamage
 pub mod HonestLaws
 pub mod KeptRules
 pub mod LineDamage
+pub mod LogDamage
 pub mod TreeImages
 pub mod TreeRows
 pub mod ViewLaws

@@ -1,6 +1,6 @@
 -- The names of a volume: one row a name line, none where the line is free. Names tie a parent directory and the
 -- bytes of a name to a child; inodes are numbers.
-use Rattle.std.specs.Prelude.{◌≡◌, ℕ, zero, suc, ◌+◌, ◌≤◌, List, [], ◌∷◌, length, Bool, true, false, ◌&&◌, ◌==◌, cond, Option, Some, None, option_and_then, IsSome, slice_index_or}
+use Rattle.std.specs.Prelude.{◌≡◌, ℕ, zero, suc, ◌+◌, ◌≤◌, List, [], ◌∷◌, length, Bool, true, false, ◌&&◌, ◌||◌, ◌==◌, cond, Option, Some, None, option_and_then, IsSome, slice_index_or}
 use Rattle.std.specs.List.{list_any, count_by}
 use Rattle.disk_places.specs.Fields.{is_same}
 use Rattle.disk_lines.specs.Lines.{NameRow}
@@ -75,6 +75,17 @@ up rows (suc n) ino = option_and_then (up rows n) (parent_of rows ino)
 -- going up from the inode, itself included, one comes to the ancestor
 abbrev pub IsBelow : Rows → ℕ → ℕ → Type 0
 IsBelow rows ino ancestor = (n : ℕ) × (up rows n ino ≡ Some ancestor)
+
+-- Whether going up from the inode, itself included, comes to the root, inode 0, within n steps. It is asked of tables
+-- of any kind: where a directory has several names one goes up by the lowest line, and where a path leads back one
+-- never comes to the root.
+abbrev pub holds_above : (ℕ → Bool) → Option ℕ → Bool
+holds_above test None = false
+holds_above test (Some parent) = test parent
+
+unfoldable pub ends_at_root : Rows → ℕ → ℕ → Bool
+ends_at_root rows zero ino = ino == 0
+ends_at_root rows (suc n) ino = (ino == 0) || holds_above (ends_at_root rows n) (parent_of rows ino)
 
 -- the inode that a path of names leads to, from an inode down
 unfoldable pub walk : Rows → ℕ → List (List ℕ) → Option ℕ

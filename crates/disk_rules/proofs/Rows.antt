@@ -31,9 +31,13 @@ unfolding chained an_extent chain_word blocks_from
 read_back = (refl, refl, refl)
 
 -- who uses blocks 10, 21 and 22, where inode 6 has that map
-users : (uses_by 6 (10 ∷ []) (an_extent ∷ []) 10 ≡ InChain 6 ∷ []) × (uses_by 6 (10 ∷ []) (an_extent ∷ []) 21 ≡ Holds 6 4 ∷ []) × (uses_by 6 (10 ∷ []) (an_extent ∷ []) 22 ≡ [])
+users : (uses_by 6 (10 ∷ []) (an_extent ∷ []) 10 ≡ InChain 6 0 ∷ []) × (uses_by 6 (10 ∷ []) (an_extent ∷ []) 21 ≡ Holds 6 4 ∷ []) × (uses_by 6 (10 ∷ []) (an_extent ∷ []) 22 ≡ [])
 unfolding an_extent
 users = (refl, refl, refl)
+
+-- the last of three blocks of a chain, and a block that stands in one twice
+chain_users : (uses_by 6 (10 ∷ 12 ∷ 11 ∷ []) [] 11 ≡ InChain 6 2 ∷ []) × (uses_by 6 (10 ∷ 12 ∷ 10 ∷ []) [] 10 ≡ InChain 6 0 ∷ InChain 6 2 ∷ [])
+chain_users = (refl, refl)
 
 -- blocks of 0, 1, 4,096 and 4,097 bytes, and what files of 0 and 1 bytes hold with their chains
 block_counts : blocks_for 0 ∷ blocks_for 1 ∷ blocks_for 4096 ∷ blocks_for 4097 ∷ [] ≡ 0 ∷ 1 ∷ 1 ∷ 2 ∷ []

@@ -1,7 +1,9 @@
 pub mod Broken
 pub mod Chains
+pub mod Checked
 pub mod Content
 pub mod Honest
+pub mod Kept
 pub mod Listed
 pub mod Live
 pub mod LogRule

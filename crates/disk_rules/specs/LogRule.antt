@@ -24,8 +24,9 @@ pub record HoldsEntry (cells : List Cell) (d : Draft) (seq : ℕ) : Type 0 where
 abbrev pub IsAsAtFirst : List Cell → Words → Type 0
 IsAsAtFirst cells first = (j : ℕ) → j < 8 → cell cells j ≡ Single (first j)
 
--- For each pair of a claimed number and an entry the line is that entry with the number's sequence number; a line
--- whose number nobody claimed has the words that it had when the lap began.
+-- For each pair of a claimed number and an entry there is a line of that number, and it is that entry with the
+-- number's sequence number: a claim past the last line is held by no lines. A line whose number nobody claimed has
+-- the words that it had when the lap began.
 pub record HoldsClaims (base : ℕ) (lines : List (List Cell)) (claims : List (ℕ × Draft)) (first : ℕ → Words) : Type 0 where
-  pub claimed : (n : ℕ) (d : Draft) → Contains claims (n, d) → n < length lines → HoldsEntry (cells_of_line lines n) d (base + n)
+  pub claimed : (n : ℕ) (d : Draft) → Contains claims (n, d) → (n < length lines) × HoldsEntry (cells_of_line lines n) d (base + n)
   pub unclaimed : (n : ℕ) → n < length lines → ((d : Draft) → ¬ Contains claims (n, d)) → IsAsAtFirst (cells_of_line lines n) (first n)

@@ -1,9 +1,9 @@
 -- The rules of a checked image, each with the places at which it may be broken. An image is `length` bytes, and its
 -- words; lines are taken as the pending journal makes them. The rules are tried in their printed order: 1, 2, 3, 4,
 -- 11, 5, 6, 7, 8, 9, 10, 12, 13; of one rule the lowest place is named.
-use Rattle.std.specs.Prelude.{◌≡◌, ◌≢◌, ◌⊎◌, ℕ, ◌+◌, ◌*◌, ◌^◌, ◌<◌, ◌≤◌, length, All, true, Option, Some, None, IsSome}
+use Rattle.std.specs.Prelude.{◌≡◌, ◌≢◌, ◌⊎◌, ℕ, ◌+◌, ◌*◌, ◌/◌, ◌^◌, ◌<◌, ◌≤◌, length, All, true, Option, Some, None, IsSome}
 use Rattle.pm_words.specs.Words.{Words, line_bytes}
-use Rattle.disk_places.specs.Places.{Geometry, first_data, data_blocks, reserve, commit_word, base_word, log_line, is_data_block, is_journaled_line}
+use Rattle.disk_places.specs.Places.{Geometry, first_data, data_blocks, reserve, state_line, commit_word, base_word, log_line, is_data_block, is_journaled_line}
 use Rattle.disk_places.specs.Journal.{committed, record_target, journaled}
 use Rattle.disk_places.specs.Superblock.{has_magic, has_version, has_numbers, geometry_at}
 use Rattle.extent_words.specs.declared.Extent.{Extent}
@@ -40,11 +40,13 @@ abbrev pub HasVersion : Words → Type 0
 HasVersion f = has_version (line_bytes f 0) ≡ true
 
 -- Rule 4, at 0: the numbers are in range, the blocks are those of the image, and all else in block 0 is zero but
--- the commit word and the log base.
+-- the commit word and the log base. Of block 0 the journal may change the line of the log base alone: that line is
+-- read as the journal makes it, every other one as it stands, also where a wrong record targets it.
 pub record HasNumbers (bytes : ℕ) (f : Words) : Type 0 where
   pub numbers : has_numbers (line_bytes f 0) ≡ true
   pub whole : bytes ≡ 4096 * (geometry_of f).blocks
-  pub zero : (w : ℕ) → 8 ≤ w → w < 512 → w ≢ commit_word → w ≢ base_word → journaled f w ≡ 0
+  pub state : (w : ℕ) → base_word < w → w < base_word + 8 → journaled f w ≡ 0
+  pub others : (w : ℕ) → 8 ≤ w → w < 512 → w ≢ commit_word → w / 8 ≢ state_line → f w ≡ 0
 
 -- Rule 11: at a record, a committed one has a journaled target; at 128, at most 128 are committed and the log base
 -- is from 1 to 2^63.

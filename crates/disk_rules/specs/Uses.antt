@@ -1,18 +1,23 @@
 -- Who uses a data block: the list of its uses, one for each time that a chain or an extent names it.
-use Rattle.std.specs.Prelude.{◌≡◌, ℕ, ◌+◌, ◌-◌, ◌==◌, List, [], ◌++◌, length, map, filter}
+use Rattle.std.specs.Prelude.{◌≡◌, ℕ, ◌+◌, ◌-◌, ◌==◌, List, [], ◌++◌, length, map, filter, slice_index}
 use Rattle.std.specs.List.{flat_map, range_with_len}
 use Rattle.extent_words.specs.declared.Extent.{Extent}
 use Rattle.extent_words.specs.Extents.{holds_disk}
 use Rattle.disk_rules.specs.Volume.{Volume, chain, extents}
 
--- a block of the chain of an inode, or the block of one of its file blocks
+-- A block of the chain of an inode, by its place there from 0 on, or the block of one of its file blocks. The two
+-- numbers tell the one use that a block of a sound image has.
 pub data Use : Type 0 where
-  InChain : ℕ → Use
+  InChain : ℕ → ℕ → Use
   Holds : ℕ → ℕ → Use
+
+-- the places at which a block stands in a chain, rising
+abbrev pub places_in : List ℕ → ℕ → List ℕ
+places_in blocks b = filter (λ k. slice_index blocks k == b) (range_with_len 0 (length blocks))
 
 abbrev pub uses_by : ℕ → List ℕ → List Extent → ℕ → List Use
 uses_by ino blocks es b =
-    map (λ c. InChain ino) (filter (λ c. c == b) blocks) ++ map (λ e. Holds ino (e.file + (b - e.disk))) (filter (λ e. holds_disk e b) es)
+    map (λ k. InChain ino k) (places_in blocks b) ++ map (λ e. Holds ino (e.file + (b - e.disk))) (filter (λ e. holds_disk e b) es)
 
 unfoldable pub owners : Volume → ℕ → List Use
 owners v b = flat_map (λ ino. uses_by ino (chain v ino) (extents v ino) b) (range_with_len 0 (length v.inodes))

@@ -1,0 +1,5 @@
+pub mod BoundLaws
+pub mod OwnerLaws
+pub mod PoolLaws
+pub mod UseLaws
+pub mod Uses

@@ -1,0 +1,2 @@
+//! Facts of the uses of blocks.
+#![tactic(auto)]

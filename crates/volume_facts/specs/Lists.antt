@@ -102,7 +102,8 @@ sum_by-add f h (x ∷ xs) =
     omega (arith, sum_by-cons (λ y. f y + h y) x xs, sum_by-cons f x xs, sum_by-cons h x xs, sum_by-add f h xs)
 
 -- the sum of sums may be taken either way round
-pub sum_by-swap : {X Y : Type 0} (f : X → Y → ℕ) (xs : List X) (ys : List Y) → sum_by (λ x. sum_by (f x) ys) xs ≡ sum_by (λ y. sum_by (λ x. f x y) xs) ys
+pub sum_by-swap : {X Y : Type 0} (f : X → Y → ℕ) (xs : List X) (ys : List Y)
+    → sum_by (λ x. sum_by (f x) ys) xs ≡ sum_by (λ y. sum_by (λ x. f x y) xs) ys
 sum_by-swap f [] ys = sym (sum_by-none ys)
 sum_by-swap f (x ∷ xs) ys =
     omega (
@@ -117,7 +118,8 @@ sum_by-swap f (x ∷ xs) ys =
 abbrev pub one_if : Bool → ℕ
 one_if b = cond b 1 0
 
-overlap : (first count a n : ℕ) → sum_by (λ b. one_if (nat_le first b && nat_lt b (first + count))) (range_with_len a n) ≡ min (a + n) (first + count) - (a + (first - a))
+overlap : (first count a n : ℕ)
+    → sum_by (λ b. one_if (nat_le first b && nat_lt b (first + count))) (range_with_len a n) ≡ min (a + n) (first + count) - (a + (first - a))
 overlap first count a zero = omega arith
 overlap first count a (suc n) = elim (cases_Bool (nat_le first a && nat_lt a (first + count))) [
   | inl inside ↦
@@ -133,7 +135,8 @@ overlap first count a (suc n) = elim (cases_Bool (nat_le first a && nat_lt a (fi
 ]
 
 -- a range counts its numbers, where all of them are among those counted
-pub count_by-range : (first count a n : ℕ) → a ≤ first → first + count ≤ a + n → count_by (λ b. nat_le first b && nat_lt b (first + count)) (range_with_len a n) ≡ count
+pub count_by-range : (first count a n : ℕ) → a ≤ first → first + count ≤ a + n
+    → count_by (λ b. nat_le first b && nat_lt b (first + count)) (range_with_len a n) ≡ count
 count_by-range first count a n low high = omega (arith, overlap first count a n)
 
 -- so does one number
@@ -146,12 +149,14 @@ count_by-one at a n low high =
     by b (inr apart) = grind (arith, nat_tests)
 
 -- elements of a list that pass are counted, one or two of them
-pub count_by-at : {X : Type 0} (p : X → Bool) (xs : List X) (i : ℕ) (d : X) → i < length xs → p (get_or xs i d) ≡ true → 1 ≤ count_by p xs
+pub count_by-at : {X : Type 0} (p : X → Bool) (xs : List X) (i : ℕ) (d : X) → i < length xs → p (get_or xs i d) ≡ true
+    → 1 ≤ count_by p xs
 count_by-at p [] i d below pass = absurd (omega arith)
 count_by-at p (x ∷ xs) zero d below pass = omega (arith, sum_by-cons (λ y. one_if (p y)) x xs, ap one_if pass)
 count_by-at p (x ∷ xs) (suc i) d below pass = omega (arith, sum_by-cons (λ y. one_if (p y)) x xs, count_by-at p xs i d (omega arith) pass)
 
-pub count_by-two : {X : Type 0} (p : X → Bool) (xs : List X) (i j : ℕ) (d : X) → i < j → j < length xs → p (get_or xs i d) ≡ true → p (get_or xs j d) ≡ true → 2 ≤ count_by p xs
+pub count_by-two : {X : Type 0} (p : X → Bool) (xs : List X) (i j : ℕ) (d : X) → i < j → j < length xs
+    → p (get_or xs i d) ≡ true → p (get_or xs j d) ≡ true → 2 ≤ count_by p xs
 count_by-two p [] i j d before below first second = absurd (omega arith)
 count_by-two p (x ∷ xs) i zero d before below first second = absurd (omega arith)
 count_by-two p (x ∷ xs) zero (suc j) d before below first second =
@@ -160,7 +165,8 @@ count_by-two p (x ∷ xs) (suc i) (suc j) d before below first second =
     omega (arith, sum_by-cons (λ y. one_if (p y)) x xs, count_by-two p xs i j d (omega arith) (omega arith) first second)
 
 -- where something is counted, some element passes
-pub count_by-some : {X : Type 0} (p : X → Bool) (xs : List X) (d : X) → 1 ≤ count_by p xs → (i : ℕ) × (i < length xs) × (p (get_or xs i d) ≡ true)
+pub count_by-some : {X : Type 0} (p : X → Bool) (xs : List X) (d : X) → 1 ≤ count_by p xs
+    → (i : ℕ) × (i < length xs) × (p (get_or xs i d) ≡ true)
 count_by-some p [] d some = absurd (omega arith)
 count_by-some p (x ∷ xs) d some = elim (cases_Bool (p x)) [
   | inl pass ↦ (0, omega arith, pass)
@@ -170,5 +176,6 @@ count_by-some p (x ∷ xs) d some = elim (cases_Bool (p x)) [
 ]
 
 -- one element that is set counts as it passes, and the one before no longer
-pub count_by-set : {X : Type 0} (p : X → Bool) (xs : List X) (i : ℕ) (y d : X) → i < length xs → count_by p (set xs i y) + one_if (p (get_or xs i d)) ≡ count_by p xs + one_if (p y)
+pub count_by-set : {X : Type 0} (p : X → Bool) (xs : List X) (i : ℕ) (y d : X) → i < length xs
+    → count_by p (set xs i y) + one_if (p (get_or xs i d)) ≡ count_by p xs + one_if (p y)
 count_by-set p xs i y d below = sum_by-set (λ x. one_if (p x)) xs i y d below

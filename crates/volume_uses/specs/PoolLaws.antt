@@ -1,29 +1,28 @@
 -- Laws of free blocks: which blocks are free after an inode's chain and map were set, and how many are.
-use Rattle.std.specs.Prelude.{◌≡◌, ◌≢◌, ℕ, suc, zero, ◌+◌, ◌-◌, ◌*◌, ◌<◌, ◌≤◌, ◌==◌, ◌&&◌, nat_le, nat_lt, Bool, true, false, List, [], ◌∷◌, length, sum_by, cond, All, slice_index_or, refl}
+use Rattle.std.specs.Prelude.{◌≡◌, ◌≢◌, ℕ, suc, zero, ◌+◌, ◌<◌, ◌≤◌, ◌==◌, true, false, List, [], ◌∷◌, length, sum_by, All, slice_index_or, refl}
 use Rattle.std.specs.List.{range_with_len, count_by}
-use Rattle.std.proofs.Common.{arith, ap, sym, ◌∙◌, subst}
+use Rattle.std.proofs.Common.{arith, ap, sym, ◌∙◌}
 use Rattle.std.proofs.Math.Path.{fun_ext}
 use Rattle.std.proofs.lemmas.Bool.{and_parts, false_from_ne_true}
 use Rattle.std.proofs.lemmas.Bool.Decides.{nat_tests}
 use Rattle.std.proofs.lemmas.List.{length-set}
-use Rattle.std.proofs.lemmas.List.FromFn.{length-range_with_len}
 use Rattle.std.proofs.lemmas.List.Sums.{sum_by-cons}
 use Rattle.pm_words.specs.Words.{Words}
 use Rattle.disk_places.specs.Places.{Geometry, first_data, data_blocks, is_data_block}
 use Rattle.extent_words.specs.declared.Extent.{Extent}
 use Rattle.extent_words.specs.Extents.{holds_disk, covers, block_count}
 use Rattle.disk_lines.specs.declared.Inode.{Inode}
-use Rattle.disk_rules.specs.Placed.{block_at}
+use Rattle.disk_rules.specs.Placed.{no_extent, extent_at, block_at}
 use Rattle.disk_rules.specs.Reading.{Reads, inode_set}
 use Rattle.disk_rules.specs.Room.{has_none, unused_blocks}
 use Rattle.disk_rules.specs.Rules.{IsInData, IsNamedOnce}
-use Rattle.disk_rules.specs.Uses.{Use, uses_by, owners}
+use Rattle.disk_rules.specs.Uses.{Use, owners}
 use Rattle.disk_rules.specs.Volume.{Volume, chain, extents}
 use Rattle.volume_facts.specs.Changes.{chain-set_same, extents-set_same, chain-set_other, extents-set_other}
 use Rattle.volume_facts.specs.Lists.{one_if, sum_by-agree, sum_by-but_one, sum_by-add, sum_by-swap, count_by-range, count_by-one}
 use Rattle.volume_facts.specs.Reading.{AreUnchained}
 use Rattle.volume_uses.specs.OwnerLaws.{length-owners, uses-le-owners, owners-set}
-use Rattle.volume_uses.specs.UseLaws.{length-uses_by, in_chain-at, in_map-covers}
+use Rattle.volume_uses.specs.UseLaws.{length-uses_by, in_chain-at, in_map-some, in_map-covers}
 use Rattle.volume_uses.specs.Uses.{in_chain, in_map, uses_of, blocks_of, blocks_held, is_unused, HasAllMaps, Freed}
 
 -- words that read as a volume give each inode a chain and a map
@@ -51,7 +50,8 @@ has_none-count [] (t ∷ ts) same = absurd (omega arith)
 has_none-count (u ∷ us) [] same = absurd (omega arith)
 has_none-count (u ∷ us) (t ∷ ts) same = refl
 
-pub freed-set : (v : Volume) (ino : ℕ) (x : Inode) (blocks : List ℕ) (es : List Extent) → ino < length v.inodes → HasAllMaps v → Freed v ino blocks es (inode_set ino x blocks es v)
+pub freed-set : (v : Volume) (ino : ℕ) (x : Inode) (blocks : List ℕ) (es : List Extent) → ino < length v.inodes
+    → HasAllMaps v → Freed v ino blocks es (inode_set ino x blocks es v)
 freed-set v ino x blocks es below all =
     let w = inode_set ino x blocks es v in
     record {
@@ -61,7 +61,8 @@ freed-set v ino x blocks es below all =
     }
 
 -- free blocks are in no chain and in no file
-pub unused-unchained : (v : Volume) (blocks : List ℕ) → length v.inodes ≡ v.geometry.inodes → All (λ b. is_unused v b ≡ true) blocks → AreUnchained v.geometry v blocks
+pub unused-unchained : (v : Volume) (blocks : List ℕ) → length v.inodes ≡ v.geometry.inodes
+    → All (λ b. is_unused v b ≡ true) blocks → AreUnchained v.geometry v blocks
 unused-unchained v blocks count free = record {
   in_data = λ k d below. (and_parts (is_data_block v.geometry (block_in k d)) (has_none (owners v (block_in k d))) (free k d below)).0;
   apart = λ ino k j ino_below k_below j_below same.
@@ -79,11 +80,21 @@ unused-unchained v blocks count free = record {
     block_in : ℕ → ℕ → ℕ
     block_in k d = slice_index_or blocks k d
 
-pub unused-uncovered : (v : Volume) (b ino : ℕ) → ino < length v.inodes → is_unused v b ≡ true → covers (extents v ino) b ≡ false
+pub unused-uncovered : (v : Volume) (b ino : ℕ) → ino < length v.inodes → is_unused v b ≡ true
+    → covers (extents v ino) b ≡ false
 unused-uncovered v b ino below free =
     false_from_ne_true (covers (extents v ino) b) (λ has.
     let none = has_none-length (owners v b) (and_parts (is_data_block v.geometry b) (has_none (owners v b)) free).1 in
     omega (arith, none, in_map-covers (extents v ino) b has, length-uses_by ino (chain v ino) (extents v ino) b, uses-le-owners v b ino below))
+
+-- a block that an extent in data blocks has is a data block
+pub covered-in_data : (g : Geometry) (limit : ℕ) (es : List Extent) (b : ℕ) → All (IsInData g limit) es
+    → covers es b ≡ true → is_data_block g b ≡ true
+covered-in_data g limit es b in_data has =
+    let found = in_map-some es b (in_map-covers es b has) in
+    let e : Extent = extent_at es found.0 in
+    let here : IsInData g limit e = in_data found.0 no_extent found.1 in
+    grind (arith, nat_tests, here.1, here.2, found.2)
 
 -- ---- how many are free
 
@@ -102,7 +113,8 @@ sum_by-bound f a (suc n) small =
     omega (arith, sum_by-cons f a (range_with_len (a + 1) n), small a (omega arith) (omega arith), sum_by-bound f (a + 1) n (λ k low high. small k (omega arith) (omega arith)))
 
 -- Of a chain of data blocks, counted block by block, there are as many as it has, of a map as many as its file has.
-pub chain-counted : (v : Volume) (blocks : List ℕ) → All (λ b. is_data_block v.geometry b ≡ true) blocks → sum_by (in_chain blocks) (data_range v) ≡ length blocks
+pub chain-counted : (v : Volume) (blocks : List ℕ) → All (λ b. is_data_block v.geometry b ≡ true) blocks
+    → sum_by (in_chain blocks) (data_range v) ≡ length blocks
 chain-counted v blocks in_data =
     sum_by-swap (λ b k. one_if (block_at blocks k == b)) (data_range v) (range_with_len 0 (length blocks))
     ∙ sum_by-agree (λ k. count_by (λ b. block_at blocks k == b) (data_range v)) (λ k. 1) 0 (length blocks) (λ k low below.
@@ -110,11 +122,13 @@ chain-counted v blocks in_data =
     count_by-one (block_at blocks k) (first_data v.geometry) (data_blocks v.geometry) (grind (arith, nat_tests, at)) (grind (arith, nat_tests, at)))
     ∙ ones 0 (length blocks)
 
-pub map-counted : (v : Volume) (limit : ℕ) (es : List Extent) → All (IsInData v.geometry limit) es → sum_by (in_map es) (data_range v) ≡ block_count es
+pub map-counted : (v : Volume) (limit : ℕ) (es : List Extent) → All (IsInData v.geometry limit) es
+    → sum_by (in_map es) (data_range v) ≡ block_count es
 map-counted v limit es in_data =
     sum_by-swap (λ b (e : Extent). one_if (holds_disk e b)) (data_range v) es ∙ each es in_data
   where
-    each : (es : List Extent) → All (IsInData v.geometry limit) es → sum_by (λ (e : Extent). count_by (holds_disk e) (data_range v)) es ≡ sum_by (λ (e : Extent). e.count) es
+    each : (es : List Extent) → All (IsInData v.geometry limit) es
+        → sum_by (λ (e : Extent). count_by (holds_disk e) (data_range v)) es ≡ sum_by (λ (e : Extent). e.count) es
     each [] in_data = refl
     each (e ∷ es) in_data =
         let here : IsInData v.geometry limit e = in_data 0 e (omega arith) in
@@ -132,7 +146,8 @@ pub record AreInData (v : Volume) (limit : ℕ → ℕ) : Type 0 where
   pub files : (ino : ℕ) → ino < length v.inodes → All (IsInData v.geometry (limit ino)) (extents v ino)
 
 -- all uses of data blocks are the blocks that the inodes have
-pub owners-counted : (v : Volume) (limit : ℕ → ℕ) → AreInData v limit → sum_by (λ b. length (owners v b)) (data_range v) ≡ blocks_held v
+pub owners-counted : (v : Volume) (limit : ℕ → ℕ) → AreInData v limit
+    → sum_by (λ b. length (owners v b)) (data_range v) ≡ blocks_held v
 owners-counted v limit in_data =
     ap (λ f. sum_by f (data_range v)) (fun_ext (λ b. length-owners v b))
     ∙ sum_by-swap (uses_of v) (data_range v) (range_with_len 0 (length v.inodes))
@@ -146,7 +161,9 @@ free_or_used [] once = refl
 free_or_used (u ∷ us) once = omega arith
 
 -- Where no data block is named twice, each is free or one that an inode has.
-pub unused-held : (v : Volume) (limit : ℕ → ℕ) → AreInData v limit → ((b : ℕ) → is_data_block v.geometry b ≡ true → IsNamedOnce v b) → unused_blocks v + blocks_held v ≡ data_blocks v.geometry
+pub unused-held : (v : Volume) (limit : ℕ → ℕ) → AreInData v limit
+    → ((b : ℕ) → is_data_block v.geometry b ≡ true → IsNamedOnce v b)
+    → unused_blocks v + blocks_held v ≡ data_blocks v.geometry
 unused-held v limit in_data once =
     ap (λ n. unused_blocks v + n) (sym (owners-counted v limit in_data))
     ∙ sym (sum_by-add (λ b. one_if (has_none (owners v b))) (λ b. length (owners v b)) (data_range v))
@@ -156,7 +173,8 @@ unused-held v limit in_data once =
     ∙ ones (first_data v.geometry) (data_blocks v.geometry)
 
 -- what the inodes have after one inode's chain and map were set
-pub held-set : (v : Volume) (ino : ℕ) (x : Inode) (blocks : List ℕ) (es : List Extent) → ino < length v.inodes → HasAllMaps v
+pub held-set : (v : Volume) (ino : ℕ) (x : Inode) (blocks : List ℕ) (es : List Extent) → ino < length v.inodes
+    → HasAllMaps v
     → blocks_held (inode_set ino x blocks es v) + blocks_of v ino ≡ blocks_held v + (length blocks + block_count es)
 held-set v ino x blocks es below all =
     let w = inode_set ino x blocks es v in
@@ -173,7 +191,8 @@ held-set v ino x blocks es below all =
     omega (arith, count, sum_by-but_one (blocks_of w) (blocks_of v) 0 (length v.inodes) ino (omega arith) (omega arith) other, own)
 
 -- and how many are free then
-pub unused-set : (v : Volume) (ino : ℕ) (x : Inode) (blocks : List ℕ) (es : List Extent) (before after : ℕ → ℕ) → ino < length v.inodes → HasAllMaps v
+pub unused-set : (v : Volume) (ino : ℕ) (x : Inode) (blocks : List ℕ) (es : List Extent) (before after : ℕ → ℕ)
+    → ino < length v.inodes → HasAllMaps v
     → AreInData v before → AreInData (inode_set ino x blocks es v) after
     → ((b : ℕ) → is_data_block v.geometry b ≡ true → IsNamedOnce v b) → ((b : ℕ) → is_data_block v.geometry b ≡ true → IsNamedOnce (inode_set ino x blocks es v) b)
     → unused_blocks (inode_set ino x blocks es v) + (length blocks + block_count es) ≡ unused_blocks v + blocks_of v ino

@@ -1,8 +1,8 @@
 -- Laws of the uses of a block by one inode.
-use Rattle.std.specs.Prelude.{◌≡◌, ◌≢◌, ℕ, ◌+◌, ◌-◌, ◌<◌, ◌≤◌, ◌==◌, true, false, List, [], length, map, filter, refl}
+use Rattle.std.specs.Prelude.{◌≡◌, ℕ, ◌+◌, ◌-◌, ◌<◌, ◌≤◌, ◌==◌, true, List, length, map, filter}
 use Rattle.std.specs.List.{range_with_len}
 use Rattle.std.proofs.Common.{arith, ap, sym, ◌∙◌, get_or, length-append}
-use Rattle.std.proofs.lemmas.Bool.{cases_Bool, eq-eqb, eqb-true}
+use Rattle.std.proofs.lemmas.Bool.{eq-eqb, eqb-true}
 use Rattle.std.proofs.lemmas.List.{length-map}
 use Rattle.std.proofs.lemmas.List.Folds.{list_any_at, Any-from_list_any}
 use Rattle.std.proofs.lemmas.List.FromFn.{length-range_with_len, get_or-range_with_len}
@@ -10,12 +10,13 @@ use Rattle.std.proofs.lemmas.List.Sums.{length-filter}
 use Rattle.extent_words.specs.declared.Extent.{Extent}
 use Rattle.extent_words.specs.Extents.{holds_disk, covers}
 use Rattle.disk_rules.specs.Placed.{no_extent, extent_at, block_at}
-use Rattle.disk_rules.specs.Uses.{Use, InChain, Holds, places_in, uses_by}
+use Rattle.disk_rules.specs.Uses.{InChain, Holds, places_in, uses_by}
 use Rattle.volume_facts.specs.Lists.{count_by-at, count_by-two, count_by-some}
 use Rattle.volume_uses.specs.Uses.{in_chain, in_map}
 
 -- an inode uses a block once for each place of its chain and each extent of its map that has it
-pub length-uses_by : (ino : ℕ) (blocks : List ℕ) (es : List Extent) (b : ℕ) → length (uses_by ino blocks es b) ≡ in_chain blocks b + in_map es b
+pub length-uses_by : (ino : ℕ) (blocks : List ℕ) (es : List Extent) (b : ℕ)
+    → length (uses_by ino blocks es b) ≡ in_chain blocks b + in_map es b
 length-uses_by ino blocks es b =
     omega (
       arith,
@@ -33,7 +34,8 @@ in_chain-at blocks k b below is =
     let at : get_or (range_with_len 0 (length blocks)) k 0 ≡ k = get_or-range_with_len 0 (length blocks) k 0 below ∙ omega arith in
     count_by-at (λ n. block_at blocks n == b) (range_with_len 0 (length blocks)) k 0 (omega arith) (eq-eqb (block_at blocks (get_or (range_with_len 0 (length blocks)) k 0)) b (ap (block_at blocks) at ∙ is))
 
-pub in_chain-two : (blocks : List ℕ) (j k b : ℕ) → j < k → k < length blocks → block_at blocks j ≡ b → block_at blocks k ≡ b → 2 ≤ in_chain blocks b
+pub in_chain-two : (blocks : List ℕ) (j k b : ℕ) → j < k → k < length blocks → block_at blocks j ≡ b
+    → block_at blocks k ≡ b → 2 ≤ in_chain blocks b
 in_chain-two blocks j k b before below first second =
     let long = length-range_with_len 0 (length blocks) in
     let at_j : get_or (range_with_len 0 (length blocks)) j 0 ≡ j = get_or-range_with_len 0 (length blocks) j 0 (omega arith) ∙ omega arith in
@@ -43,7 +45,8 @@ in_chain-two blocks j k b before below first second =
     (eq-eqb (block_at blocks (get_or (range_with_len 0 (length blocks)) k 0)) b (ap (block_at blocks) at_k ∙ second))
 
 -- a block that is used is one of the chain or one of the map
-pub in_chain-some : (blocks : List ℕ) (b : ℕ) → 1 ≤ in_chain blocks b → (k : ℕ) × (k < length blocks) × (block_at blocks k ≡ b)
+pub in_chain-some : (blocks : List ℕ) (b : ℕ) → 1 ≤ in_chain blocks b
+    → (k : ℕ) × (k < length blocks) × (block_at blocks k ≡ b)
 in_chain-some blocks b some =
     let found = count_by-some (λ n. block_at blocks n == b) (range_with_len 0 (length blocks)) 0 some in
     let below : found.0 < length blocks = omega (arith, found.1, length-range_with_len 0 (length blocks)) in
@@ -53,10 +56,12 @@ in_chain-some blocks b some =
 pub in_map-at : (es : List Extent) (k b : ℕ) → k < length es → holds_disk (extent_at es k) b ≡ true → 1 ≤ in_map es b
 in_map-at es k b below has = count_by-at (λ e. holds_disk e b) es k no_extent below has
 
-pub in_map-two : (es : List Extent) (j k b : ℕ) → j < k → k < length es → holds_disk (extent_at es j) b ≡ true → holds_disk (extent_at es k) b ≡ true → 2 ≤ in_map es b
+pub in_map-two : (es : List Extent) (j k b : ℕ) → j < k → k < length es → holds_disk (extent_at es j) b ≡ true
+    → holds_disk (extent_at es k) b ≡ true → 2 ≤ in_map es b
 in_map-two es j k b before below first second = count_by-two (λ e. holds_disk e b) es j k no_extent before below first second
 
-pub in_map-some : (es : List Extent) (b : ℕ) → 1 ≤ in_map es b → (k : ℕ) × (k < length es) × (holds_disk (extent_at es k) b ≡ true)
+pub in_map-some : (es : List Extent) (b : ℕ) → 1 ≤ in_map es b
+    → (k : ℕ) × (k < length es) × (holds_disk (extent_at es k) b ≡ true)
 in_map-some es b some = count_by-some (λ e. holds_disk e b) es no_extent some
 
 -- an extent of the map has the block where the map uses it

@@ -1,5 +1,5 @@
 -- How often a block is used: by a chain, by a map, by an inode; and whether it is free.
-use Rattle.std.specs.Prelude.{◌≡◌, ◌≢◌, ℕ, ◌<◌, ◌≤◌, ◌==◌, ◌&&◌, ◌+◌, List, length, sum_by, Bool, true, false}
+use Rattle.std.specs.Prelude.{◌≡◌, ℕ, ◌≤◌, ◌==◌, ◌&&◌, ◌+◌, List, length, sum_by, Bool, true, false}
 use Rattle.std.specs.List.{range_with_len, count_by}
 use Rattle.disk_places.specs.Places.{is_data_block}
 use Rattle.extent_words.specs.declared.Extent.{Extent}
@@ -40,5 +40,7 @@ pub record HasAllMaps (v : Volume) : Type 0 where
 -- free; all others are as before.
 pub record Freed (v : Volume) (ino : ℕ) (blocks : List ℕ) (es : List Extent) (w : Volume) : Type 0 where
   pub taken : (b : ℕ) → 1 ≤ length (uses_by ino blocks es b) → has_none (owners w b) ≡ false
-  pub given : (b : ℕ) → length (uses_by ino blocks es b) ≡ 0 → length (owners v b) ≡ uses_of v b ino → has_none (owners w b) ≡ true
-  pub others : (b : ℕ) → length (uses_by ino blocks es b) ≡ uses_of v b ino → has_none (owners w b) ≡ has_none (owners v b)
+  pub given : (b : ℕ) → length (uses_by ino blocks es b) ≡ 0 → length (owners v b) ≡ uses_of v b ino
+      → has_none (owners w b) ≡ true
+  pub others : (b : ℕ) → length (uses_by ino blocks es b) ≡ uses_of v b ino
+      → has_none (owners w b) ≡ has_none (owners v b)

@@ -11,7 +11,7 @@ use Rattle.disk_lines.specs.declared.Inode.{Inode}
 use Rattle.disk_lines.specs.Lines.{NameRow, NameSlot, FreeName, Named, BadName}
 use Rattle.disk_lines.specs.Names.{row}
 use Rattle.chain_facts.specs.RuleLaws.{volume-of_words, chain-of_rule}
-use Rattle.disk_rules.specs.Broken.{HoldAll, Breaks, rules_of}
+use Rattle.disk_rules.specs.Broken.{HoldAll, Breaks, head_rules, line_rules, rules_of}
 use Rattle.disk_rules.specs.Checked.{HasHead, AreLinesKept, IsLogKept, IsCheckedAs}
 use Rattle.disk_rules.specs.Chains.{chain_of, map_of}
 use Rattle.disk_rules.specs.Kept.{IsNamedRow, AreKept}
@@ -228,6 +228,27 @@ kept-HoldAll bytes f v j (r1, (r2, (r3, (r4, (records, (state, (r5, (r6, (r7, (r
       rule_12 = r12 0 (omega arith) (omega arith);
       rule_13 = λ slot below. r13 slot (omega arith) (omega arith);
     }
+
+-- The rules of the head, and of the lines.
+pub HoldAll-head : (bytes : ℕ) (f : Words) → HasHead bytes f → HoldAll (head_rules bytes f)
+HoldAll-head bytes f head =
+    (
+      λ p from below. head.whole_blocks,
+      (
+        λ p from below. head.magic,
+        (
+          λ p from below. head.version,
+          (λ p from below. head.numbers, (λ p from below. head.records p (omega arith), (λ p from below. head.state, tt))),
+        ),
+      ),
+    )
+
+pub HoldAll-lines : (v : Volume) (j : Words) → AreLinesKept v j → HoldAll (line_rules v j)
+HoldAll-lines v j lines =
+    (
+      λ p from below. lines.inodes p (omega arith),
+      (λ p from below. lines.names p (omega arith), (λ p from below. lines.chains p (omega arith), tt)),
+    )
 
 -- a checked image breaks no rule
 pub checked-unbroken : (bytes : ℕ) (f : Words) (number place : ℕ) → IsChecked bytes f → Breaks bytes f number place → ⊥

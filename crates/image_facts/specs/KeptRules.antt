@@ -4,18 +4,20 @@ use Rattle.std.specs.Prelude.{◌≡◌, ◌↔◌, ℕ, ◌+◌, ◌*◌, ◌<�
 use Rattle.std.proofs.Common.{arith, inl, inr, ap, sym, ◌∙◌, subst}
 use Rattle.std.proofs.lemmas.Option.{same_Some}
 use Rattle.pm_words.specs.Words.{Words}
-use Rattle.disk_places.specs.Places.{Geometry, IsGeometry, is_data_block}
+use Rattle.disk_places.specs.Journal.{journaled}
+use Rattle.disk_places.specs.Places.{Geometry, is_data_block}
 use Rattle.disk_lines.specs.declared.Inode.{Inode}
 use Rattle.disk_lines.specs.Lines.{NameRow}
 use Rattle.disk_lines.specs.Names.{row}
-use Rattle.disk_rules.specs.Broken.{Rule, below, Holds, FailsFirst, BreaksFirst, HoldAll, line_rules, volume_rules, log_rules, Breaks}
+use Rattle.disk_rules.specs.Broken.{Rule, below, Holds, FailsFirst, BreaksFirst, HoldAll, head_rules, line_rules, volume_rules, log_rules, Breaks}
+use Rattle.disk_rules.specs.Checked.{HasHead}
 use Rattle.disk_rules.specs.Kept.{IsNamedRow, AreKept}
 use Rattle.disk_rules.specs.Reading.{slot_for, Reads}
-use Rattle.disk_rules.specs.Rules.{IsKindAt, IsNameSlot, HasInode, HasChain, file_blocks_of, IsInData}
+use Rattle.disk_rules.specs.Rules.{geometry_of, IsKindAt, IsNameSlot, HasInode, HasChain, file_blocks_of, IsInData}
 use Rattle.disk_rules.specs.Volume.{Volume, volume, inode_at, name_at, inode, chain, extents}
 use Rattle.volume_facts.specs.ReadingLaws.{reads-volume}
-use Rattle.image_facts.specs.CheckedLaws.{data-within}
-use Rattle.image_facts.specs.LineDamage.{IsLaidOn, breaks-behind_head}
+use Rattle.image_facts.specs.BrokenLaws.{BreaksFirst-behind}
+use Rattle.image_facts.specs.CheckedLaws.{data-within, HoldAll-head}
 
 -- what a volume has to keep, as a list of rules
 abbrev pub kept_rules : Volume → List Rule
@@ -100,12 +102,15 @@ lines-break g h v n place r breaks =
     (same-break 7 v.geometry.inodes in_data (HasChain v h) rest rest n place (chains-same g h v r) (λ later. later)))
     breaks
 
--- words laid on a fresh image that read as a volume
-pub reads-break : (g : Geometry) (h : Words) (v : Volume) (n place : ℕ) → IsGeometry g → IsLaidOn g h → Reads g h v → BreaksFirst (kept_rules v ++ log_rules v h) n place
-    → Breaks (4096 * g.blocks) h n place
-reads-break g h v n place ok laid r breaks =
-    breaks-behind_head g h n place ok laid
-    (subst (λ w. BreaksFirst (line_rules w h ++ volume_rules w ++ log_rules w h) n place) (sym (reads-volume g h v r)) (lines-break g h v n place r breaks))
+-- An image whose head is right and whose words read as a volume breaks first what the volume does, or the log.
+pub reads-break : (bytes : ℕ) (h : Words) (v : Volume) (n place : ℕ) → HasHead bytes h → Reads (geometry_of h) (journaled h) v
+    → BreaksFirst (kept_rules v ++ log_rules v (journaled h)) n place → Breaks bytes h n place
+reads-break bytes h v n place head r breaks =
+    let g = geometry_of h in
+    let j = journaled h in
+    let w = volume g j in
+    BreaksFirst-behind (head_rules bytes h) (line_rules w j ++ volume_rules w ++ log_rules w j) n place (HoldAll-head bytes h head)
+    (subst (λ u. BreaksFirst (line_rules u j ++ volume_rules u ++ log_rules u j) n place) (sym (reads-volume g j v r)) (lines-break g j v n place r breaks))
 
 -- where the volume is kept, all hold
 pub HoldAll-volume : (v : Volume) → AreKept v → HoldAll (kept_rules v)

@@ -2,15 +2,8 @@ pub mod BrokenLaws
 pub mod CheckedLaws
 pub mod ClaimLaws
 pub mod ClimbLaws
-pub mod Damage
 pub mod FreshLaws
 pub mod FreshLines
-pub mod HeadDamage
 pub mod HonestLaws
 pub mod KeptRules
-pub mod LineDamage
-pub mod LogDamage
-pub mod TreeImages
-pub mod TreeRows
 pub mod ViewLaws
-pub mod VolumeTests

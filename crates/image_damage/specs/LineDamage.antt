@@ -25,10 +25,12 @@ use Rattle.disk_rules.specs.Volume.{Volume, volume, inode_at, name_at, inode}
 use Rattle.volume_facts.specs.ImageLaws.{journaled-idle}
 use Rattle.volume_facts.specs.LineWords.{with_line-out, line_bytes-set, line_bytes-other}
 use Rattle.volume_facts.specs.ReadingLaws.{reads-volume}
-use Rattle.image_facts.specs.BrokenLaws.{BreaksFirst-behind, HoldAll-append}
+use Rattle.image_facts.specs.BrokenLaws.{BreaksFirst-behind}
+use Rattle.image_facts.specs.CheckedLaws.{HoldAll-head, HoldAll-lines}
+use Rattle.image_facts.specs.KeptRules.{kept_rules, reads-break}
 use Rattle.image_facts.specs.FreshLaws.{kind-fresh, line-fresh, unset-name, fresh-head}
 use Rattle.image_facts.specs.FreshLines.{fresh-superblock, geometry_of-fresh, fresh-zeros, fresh-base, fresh-state, fresh-commit, journaled-fresh}
-use Rattle.image_facts.specs.HeadDamage.{HasFreshHead, fresh_others}
+use Rattle.image_damage.specs.HeadDamage.{HasFreshHead, fresh_others}
 
 -- 64 numbers below 256, by a test
 pub AreBytes-test : (bytes : List ℕ) → length bytes ≡ 64 → list_all (λ b. nat_lt b 256) bytes ≡ true → AreBytes bytes
@@ -106,26 +108,6 @@ laid-head g h ok laid =
     }
 
 -- The rules behind the head.
-pub HoldAll-head : (bytes : ℕ) (f : Words) → HasHead bytes f → HoldAll (head_rules bytes f)
-HoldAll-head bytes f head =
-    (
-      λ p from below. head.whole_blocks,
-      (
-        λ p from below. head.magic,
-        (
-          λ p from below. head.version,
-          (λ p from below. head.numbers, (λ p from below. head.records p (omega arith), (λ p from below. head.state, tt))),
-        ),
-      ),
-    )
-
-pub HoldAll-lines : (v : Volume) (j : Words) → AreLinesKept v j → HoldAll (line_rules v j)
-HoldAll-lines v j lines =
-    (
-      λ p from below. lines.inodes p (omega arith),
-      (λ p from below. lines.names p (omega arith), (λ p from below. lines.chains p (omega arith), tt)),
-    )
-
 pub breaks-behind_head : (g : Geometry) (h : Words) (number place : ℕ) → IsGeometry g → IsLaidOn g h
     → BreaksFirst (line_rules (volume g h) h ++ volume_rules (volume g h) ++ log_rules (volume g h) h) number place → Breaks (4096 * g.blocks) h number place
 breaks-behind_head g h number place ok laid breaks =
@@ -137,13 +119,14 @@ breaks-behind_head g h number place ok laid breaks =
     subst (λ k. BreaksFirst (rules_of bytes h (volume k (journaled h)) (journaled h)) number place) (sym (laid-geometry g h ok laid))
     (subst (λ j. BreaksFirst (rules_of bytes h (volume g j) j) number place) (sym (laid-view g h laid)) here)
 
--- the rules behind the lines, of words that read as a volume
-pub breaks-behind_lines : (g : Geometry) (h : Words) (v : Volume) (number place : ℕ) → IsGeometry g → IsLaidOn g h → Reads g h v → AreLinesKept v h
-    → BreaksFirst (volume_rules v ++ log_rules v h) number place → Breaks (4096 * g.blocks) h number place
-breaks-behind_lines g h v number place ok laid reads lines breaks =
-    breaks-behind_head g h number place ok laid
-    (subst (λ w. BreaksFirst (line_rules w h ++ volume_rules w ++ log_rules w h) number place) (sym (reads-volume g h v reads))
-    (BreaksFirst-behind (line_rules v h) (volume_rules v ++ log_rules v h) number place (HoldAll-lines v h lines) breaks))
+-- words laid on a fresh image that read as a volume break first what the volume does
+pub laid-break : (g : Geometry) (h : Words) (v : Volume) (n place : ℕ) → IsGeometry g → IsLaidOn g h → Reads g h v → BreaksFirst (kept_rules v ++ log_rules v h) n place
+    → Breaks (4096 * g.blocks) h n place
+laid-break g h v n place ok laid r breaks =
+    let view = laid-view g h laid in
+    reads-break (4096 * g.blocks) h v n place (laid-head g h ok laid)
+    (subst (λ k. Reads k (journaled h) v) (sym (laid-geometry g h ok laid)) (subst (λ j. Reads g j v) (sym view) r))
+    (subst (λ j. BreaksFirst (kept_rules v ++ log_rules v j) n place) (sym view) breaks)
 
 -- Rule 5: an inode line that is none, or of a kind that may not stand there.
 fresh-has_inode : (g : Geometry) (h : Words) (ino : ℕ) → line_bytes h (inode_line ino) ≡ line_bytes (fresh g) (inode_line ino) → HasInode h ino

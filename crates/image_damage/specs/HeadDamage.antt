@@ -16,7 +16,7 @@ use Rattle.disk_rules.specs.Broken.{Rule, at_one, below, Holds, FailsFirst, Hold
 use Rattle.disk_rules.specs.Checked.{HasHead}
 use Rattle.disk_rules.specs.Rules.{geometry_of, IsWholeBlocks, HasMagic, HasVersion, HasNumbers, HasTarget, HasState}
 use Rattle.disk_rules.specs.Volume.{volume}
-use Rattle.image_facts.specs.Damage.{with_word}
+use Rattle.image_damage.specs.Damage.{with_word}
 use Rattle.image_facts.specs.FreshLines.{IsUnset, fresh-superblock, geometry_of-fresh, fresh-zero, fresh-base, fresh-state, fresh-commit}
 
 -- a rule with one place fails there

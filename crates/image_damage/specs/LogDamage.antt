@@ -23,8 +23,8 @@ use Rattle.volume_facts.specs.LineWords.{with_line-out, line_bytes-set, line_byt
 use Rattle.image_facts.specs.BrokenLaws.{BreaksFirst-behind}
 use Rattle.image_facts.specs.FreshLaws.{fresh-reads, fresh-kept, unset-log, filter_map-none, zeros-no_entry, zeros-invalid, held-fresh, unused-fresh}
 use Rattle.image_facts.specs.FreshLines.{AreSmall, small-append, small-zeros, small-u32, fresh-zeros, journaled-fresh}
-use Rattle.image_facts.specs.KeptRules.{kept_rules, HoldAll-volume, reads-break}
-use Rattle.image_facts.specs.LineDamage.{IsLaidOn, laid-fresh, laid-line, laid-view}
+use Rattle.image_facts.specs.KeptRules.{kept_rules, HoldAll-volume}
+use Rattle.image_damage.specs.LineDamage.{laid-break, IsLaidOn, laid-fresh, laid-line, laid-view}
 use Rattle.image_facts.specs.ViewLaws.{AgreeButLog, reads-but_log}
 
 -- an entry's line is 64 bytes
@@ -134,7 +134,7 @@ later_lap g slot d seq ok within fits valid small late =
     let none : (s : ℕ) → s < g.log → entry_in v h s ≡ None = λ s below. no_entry g slot d seq s ok fits valid small (omega (arith, ok.most_log)) (λ e. omega arith) in
     let live : live_entries v h ≡ [] = ap (filter (is_live v)) (filter_map-agree (entry_in v h) (λ s. None) 0 g.log (λ s from below. none s (omega arith)) ∙ filter_map-none 0 g.log) in
     let enough : 32 ≤ data_blocks g = omega (arith, ok.least_data) in
-    reads-break g h v 13 slot ok (entry-laid g slot d seq) (entry-reads g slot d seq ok within)
+    laid-break g h v 13 slot ok (entry-laid g slot d seq) (entry-reads g slot d seq ok within)
     (BreaksFirst-behind (kept_rules v) (log_rules v h) 13 slot (HoldAll-volume v (fresh-kept g ok))
     (inr (
       λ p from below. record {

@@ -24,10 +24,10 @@ use Rattle.pm_words.specs.Words.{with_line}
 use Rattle.image_facts.specs.BrokenLaws.{BreaksFirst-before}
 use Rattle.image_facts.specs.ClimbLaws.{ReachesRoot, reaches-ends}
 use Rattle.image_facts.specs.FreshLaws.{same-at, owners-none}
-use Rattle.image_facts.specs.KeptRules.{kept_rules, reads-break}
-use Rattle.image_facts.specs.LineDamage.{AreBytes-test, inode_line-breaks, name_line-breaks}
-use Rattle.image_facts.specs.TreeImages.{with_nodes, with_names, nodes_set, names_set, tree_image, tree_volume, IsLineOf, AreLines, line_fits, AreLines-test, tree-reads, tree-laid}
-use Rattle.image_facts.specs.VolumeTests.{passes_below, passes-at, kind_fits, IsKindAt-test, is_named, IsNamedRow-test, is_placed, IsRowPlaced-test, has_name, AreDirectoriesNamed-test}
+use Rattle.image_facts.specs.KeptRules.{kept_rules}
+use Rattle.image_damage.specs.LineDamage.{laid-break, AreBytes-test, inode_line-breaks, name_line-breaks}
+use Rattle.image_damage.specs.TreeImages.{with_nodes, with_names, nodes_set, names_set, tree_image, tree_volume, IsLineOf, AreLines, line_fits, AreLines-test, tree-reads, tree-laid}
+use Rattle.image_damage.specs.VolumeTests.{passes_below, passes-at, kind_fits, IsKindAt-test, is_named, IsNamedRow-test, is_placed, IsRowPlaced-test, has_name, AreDirectoriesNamed-test}
 
 -- an image of 64 blocks with 4 log lines, 16 inodes and 16 names
 abbrev pub small : Geometry
@@ -199,7 +199,7 @@ tree-breaks : (g : Geometry) (kinds : List Kind) (rows : List NameRow) (n place 
 tree-breaks g kinds rows n place ok few few_names lines breaks =
     let v = tree_volume g kinds rows in
     let h = tree_image g kinds rows in
-    reads-break g h v n place ok (tree-laid g kinds rows) (tree-reads g kinds rows ok few few_names (AreLines-test rows lines))
+    laid-break g h v n place ok (tree-laid g kinds rows) (tree-reads g kinds rows ok few few_names (AreLines-test rows lines))
     (BreaksFirst-before (kept_rules v) (log_rules v h) n place breaks)
 
 -- names of one byte

@@ -17,7 +17,7 @@ use Rattle.disk_rules.specs.Reading.{Reads, AreBytes, node_set, row_set}
 use Rattle.disk_rules.specs.Volume.{Volume, inode, free_inode}
 use Rattle.volume_facts.specs.SetLaws.{reads-node, reads-row}
 use Rattle.image_facts.specs.FreshLaws.{fresh_cases, fresh-reads, inode-fresh}
-use Rattle.image_facts.specs.LineDamage.{AreBytes-test, IsLaidOn, laid-fresh, laid-line}
+use Rattle.image_damage.specs.LineDamage.{AreBytes-test, IsLaidOn, laid-fresh, laid-line}
 
 -- inode lines from line i on, of these kinds, each taken once; and name lines from line k on
 unfoldable pub with_nodes : ℕ → List Kind → Words → Words

@@ -1,5 +1,5 @@
 -- Laws of checked images: the rules by their parts and back, and as a list.
-use Rattle.std.specs.Prelude.{◌≡◌, ◌≢◌, ℕ, ◌+◌, ◌<◌, ◌≤◌, All, true, List, [], ◌∷◌, Option, Some, None, unwrap_or, slice_index_or, refl}
+use Rattle.std.specs.Prelude.{◌≡◌, ◌≢◌, ◌↔◌, ℕ, ◌+◌, ◌<◌, ◌≤◌, All, true, List, [], ◌∷◌, Option, Some, None, unwrap_or, slice_index_or, refl}
 use Rattle.std.proofs.Common.{arith, ap, sym, ◌∙◌, subst}
 use Rattle.std.proofs.lemmas.Bool.{and_from, and_parts}
 use Rattle.std.proofs.lemmas.Bool.Decides.{nat_tests}
@@ -259,3 +259,9 @@ checked-unbroken bytes f number place c =
 -- two first broken rules of an image are one rule, at one place
 pub Breaks-one : (bytes : ℕ) (f : Words) (m p n q : ℕ) → Breaks bytes f m p → Breaks bytes f n q → (m ≡ n) × (p ≡ q)
 Breaks-one bytes f = BreaksFirst-one (rules_of bytes f (volume (geometry_of f) (journaled f)) (journaled f))
+
+-- and its rules are those of the list
+pub checked-HoldAll : (bytes : ℕ) (f : Words) → IsChecked bytes f ↔ HoldAll (rules_of bytes f (volume (geometry_of f) (journaled f)) (journaled f))
+checked-HoldAll bytes f =
+    let v = volume (geometry_of f) (journaled f) in
+    (HoldAll-kept bytes f v (journaled f), kept-HoldAll bytes f v (journaled f))

@@ -6,4 +6,5 @@ pub mod FreshLaws
 pub mod FreshLines
 pub mod HonestLaws
 pub mod KeptRules
+pub mod Laws
 pub mod ViewLaws

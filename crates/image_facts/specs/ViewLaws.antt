@@ -183,3 +183,8 @@ reads-but_log g f h v agree r =
           data-behind_log g (block_at (chain v ino) k) j slot (r.blocks ino below k 0 within) word slot_below e);
     })
     r
+
+-- both
+pub stands-but_log : (bytes : ℕ) (f h : Words) (v : Volume) → HasHead bytes f → Reads (geometry_of f) (journaled f) v → AgreeButLog (geometry_of f) f h
+    → HasHead bytes h × Reads (geometry_of f) (journaled h) v
+stands-but_log bytes f h v head reads agree = (head-but_log bytes f h head agree, reads-but_log (geometry_of f) f h v agree reads)

@@ -1,5 +1,5 @@
 -- A volume with one inode or one row set: what its parts are.
-use Rattle.std.specs.Prelude.{◌≡◌, ◌≢◌, ℕ, ◌<◌, List, [], length, Option, None, refl}
+use Rattle.std.specs.Prelude.{◌≡◌, ◌≢◌, ℕ, ◌<◌, List, [], length, Option, None}
 use Rattle.std.proofs.lemmas.List.{get_or-set_same, get_or-set_other, set-get_or}
 use Rattle.extent_words.specs.declared.Extent.{Extent}
 use Rattle.disk_lines.specs.declared.Inode.{Inode}
@@ -10,22 +10,28 @@ use Rattle.disk_rules.specs.Volume.{Volume, free_inode, inode, chain, extents}
 use Rattle.std.specs.Prelude.{slice_set}
 
 -- the inode that was set, with its chain and its map, and another one
-pub inode-set_same : (ino : ℕ) (x : Inode) (blocks : List ℕ) (es : List Extent) (v : Volume) → ino < length v.inodes → inode (inode_set ino x blocks es v) ino ≡ x
+pub inode-set_same : (ino : ℕ) (x : Inode) (blocks : List ℕ) (es : List Extent) (v : Volume) → ino < length v.inodes
+    → inode (inode_set ino x blocks es v) ino ≡ x
 inode-set_same ino x blocks es v below = get_or-set_same v.inodes ino x free_inode below
 
-pub chain-set_same : (ino : ℕ) (x : Inode) (blocks : List ℕ) (es : List Extent) (v : Volume) → ino < length v.chains → chain (inode_set ino x blocks es v) ino ≡ blocks
+pub chain-set_same : (ino : ℕ) (x : Inode) (blocks : List ℕ) (es : List Extent) (v : Volume) → ino < length v.chains
+    → chain (inode_set ino x blocks es v) ino ≡ blocks
 chain-set_same ino x blocks es v below = get_or-set_same v.chains ino blocks [] below
 
-pub extents-set_same : (ino : ℕ) (x : Inode) (blocks : List ℕ) (es : List Extent) (v : Volume) → ino < length v.maps → extents (inode_set ino x blocks es v) ino ≡ es
+pub extents-set_same : (ino : ℕ) (x : Inode) (blocks : List ℕ) (es : List Extent) (v : Volume) → ino < length v.maps
+    → extents (inode_set ino x blocks es v) ino ≡ es
 extents-set_same ino x blocks es v below = get_or-set_same v.maps ino es [] below
 
-pub inode-set_other : (ino : ℕ) (x : Inode) (blocks : List ℕ) (es : List Extent) (v : Volume) (i : ℕ) → i ≢ ino → inode (inode_set ino x blocks es v) i ≡ inode v i
+pub inode-set_other : (ino : ℕ) (x : Inode) (blocks : List ℕ) (es : List Extent) (v : Volume) (i : ℕ) → i ≢ ino
+    → inode (inode_set ino x blocks es v) i ≡ inode v i
 inode-set_other ino x blocks es v i apart = get_or-set_other v.inodes ino i x free_inode apart
 
-pub chain-set_other : (ino : ℕ) (x : Inode) (blocks : List ℕ) (es : List Extent) (v : Volume) (i : ℕ) → i ≢ ino → chain (inode_set ino x blocks es v) i ≡ chain v i
+pub chain-set_other : (ino : ℕ) (x : Inode) (blocks : List ℕ) (es : List Extent) (v : Volume) (i : ℕ) → i ≢ ino
+    → chain (inode_set ino x blocks es v) i ≡ chain v i
 chain-set_other ino x blocks es v i apart = get_or-set_other v.chains ino i blocks [] apart
 
-pub extents-set_other : (ino : ℕ) (x : Inode) (blocks : List ℕ) (es : List Extent) (v : Volume) (i : ℕ) → i ≢ ino → extents (inode_set ino x blocks es v) i ≡ extents v i
+pub extents-set_other : (ino : ℕ) (x : Inode) (blocks : List ℕ) (es : List Extent) (v : Volume) (i : ℕ) → i ≢ ino
+    → extents (inode_set ino x blocks es v) i ≡ extents v i
 extents-set_other ino x blocks es v i apart = get_or-set_other v.maps ino i es [] apart
 
 -- the row that was set, and another one
@@ -36,7 +42,8 @@ pub row-set_other : (rows : Rows) (k : ℕ) (o : Option NameRow) (j : ℕ) → j
 row-set_other rows k o j apart = get_or-set_other rows k j o None apart
 
 -- an inode that is set with the chain and the map that it has
-pub inode_set-same : (ino : ℕ) (x : Inode) (v : Volume) → inode_set ino x (chain v ino) (extents v ino) v ≡ node_set ino x v
+pub inode_set-same : (ino : ℕ) (x : Inode) (v : Volume)
+    → inode_set ino x (chain v ino) (extents v ino) v ≡ node_set ino x v
 inode_set-same ino x v =
     let chains = set-get_or v.chains ino [] in
     let maps = set-get_or v.maps ino [] in

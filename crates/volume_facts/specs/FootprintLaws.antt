@@ -1,27 +1,28 @@
 -- Laws of the footprint: words that read as one volume, with the same log lines and the same words in the files'
 -- blocks, have the same content.
-use Rattle.std.specs.Prelude.{◌≡◌, ℕ, zero, suc, ◌+◌, ◌-◌, ◌*◌, ◌/◌, ◌%◌, ◌^◌, ◌<◌, ◌≤◌, true, List, filter, length, Option, Some, None, option_and_then, refl}
-use Rattle.std.proofs.Common.{arith, ap, sym, ◌∙◌, subst}
+use Rattle.std.specs.Prelude.{◌≡◌, ℕ, ◌+◌, ◌-◌, ◌*◌, ◌/◌, ◌%◌, ◌^◌, ◌<◌, true, List, filter, Option, Some, None, option_and_then, refl}
+use Rattle.std.proofs.Common.{arith, ap, sym, ◌∙◌}
 use Rattle.std.proofs.Math.Path.{fun_ext}
 use Rattle.pm_words.specs.Bytes.{line_bytes-same}
-use Rattle.pm_words.specs.Words.{Words, line_bytes, byte_of}
+use Rattle.pm_words.specs.Words.{Words}
 use Rattle.disk_places.specs.Places.{Geometry, log_line}
-use Rattle.extent_words.specs.Extents.{disk_at, covers}
+use Rattle.extent_words.specs.Extents.{covers}
 use Rattle.extent_facts.specs.Covers.{covers-disk_at}
 use Rattle.disk_lines.specs.declared.Draft.{Draft}
 use Rattle.disk_lines.specs.Entries.{decode_entry}
 use Rattle.disk_lines.specs.Names.{walk}
 use Rattle.disk_rules.specs.Content.{Node, size_of, entry_of_block, disk_by, disk_of, byte_in, bytes_of_file, node_by, node_of, found, content_of}
-use Rattle.disk_rules.specs.Live.{entry_in, is_live, valid_entries, live_entries}
+use Rattle.disk_rules.specs.Live.{entry_in, is_live, live_entries}
 use Rattle.disk_rules.specs.Reading.{Reads}
-use Rattle.disk_rules.specs.Volume.{Volume, volume, inode, extents}
+use Rattle.disk_rules.specs.Volume.{Volume, inode, extents}
 use Rattle.volume_facts.specs.Footprint.{SameLog, SameData}
 use Rattle.volume_facts.specs.Lists.{map-agree, filter_map-agree}
 use Rattle.volume_facts.specs.Reading.{AgreeFor}
 use Rattle.volume_facts.specs.ReadingLaws.{reads-same, reads-volume}
 
 -- log lines that are the same have the same entries, and so the same live ones
-pub entry_in-same : (v : Volume) (f h : Words) → SameLog v.geometry f h → (s : ℕ) → s < v.geometry.log → entry_in v h s ≡ entry_in v f s
+pub entry_in-same : (v : Volume) (f h : Words) → SameLog v.geometry f h → (s : ℕ) → s < v.geometry.log
+    → entry_in v h s ≡ entry_in v f s
 entry_in-same v f h same s below =
     ap (λ bytes. decode_entry bytes (v.base + s)) (line_bytes-same h f (log_line v.geometry s) (λ i at. same.words s i below at))
 
@@ -30,19 +31,22 @@ live_entries-same v f h same =
     ap (filter (is_live v)) (filter_map-agree (entry_in v h) (entry_in v f) 0 v.geometry.log (λ s low below. entry_in-same v f h same s (omega arith)))
 
 -- the bytes of a block whose words are the same
-byte_in-same : (f h : Words) (o : Option ℕ) (i : ℕ) → ((b j : ℕ) → o ≡ Some b → j < 512 → h (512 * b + j) ≡ f (512 * b + j)) → byte_in h o i ≡ byte_in f o i
+byte_in-same : (f h : Words) (o : Option ℕ) (i : ℕ)
+    → ((b j : ℕ) → o ≡ Some b → j < 512 → h (512 * b + j) ≡ f (512 * b + j)) → byte_in h o i ≡ byte_in f o i
 byte_in-same f h None i same = refl
 byte_in-same f h (Some b) i same =
     let k : ℕ = 4096 * b + i % 4096 in
     let place : 512 * b + i % 4096 / 8 ≡ k / 8 = omega arith in
     ap (λ (n : ℕ). n / 256 ^ (k % 8) % 256) (ap h (sym place) ∙ same b (i % 4096 / 8) refl (omega arith) ∙ ap f place)
 
-pub bytes_of_file-same : (v : Volume) (live : List Draft) (f h : Words) (ino : ℕ) → SameData v live f h → bytes_of_file v live h ino ≡ bytes_of_file v live f ino
+pub bytes_of_file-same : (v : Volume) (live : List Draft) (f h : Words) (ino : ℕ) → SameData v live f h
+    → bytes_of_file v live h ino ≡ bytes_of_file v live f ino
 bytes_of_file-same v live f h ino same =
     map-agree (λ i. byte_in h (disk_of v live ino (i / 4096)) i) (λ i. byte_in f (disk_of v live ino (i / 4096)) i) 0 (size_of v live ino)
     (λ i low below. byte_in-same f h (disk_of v live ino (i / 4096)) i (λ b j is word. same.words ino (i / 4096) b j is word))
 
-pub node_of-same : (v : Volume) (live : List Draft) (f h : Words) (ino : ℕ) → SameData v live f h → node_of v live h ino ≡ node_of v live f ino
+pub node_of-same : (v : Volume) (live : List Draft) (f h : Words) (ino : ℕ) → SameData v live f h
+    → node_of v live h ino ≡ node_of v live f ino
 unfolding node_of
 node_of-same v live f h ino same = ap (node_by (inode v ino).kind) (bytes_of_file-same v live f h ino same)
 
@@ -54,7 +58,8 @@ found-same v live f h same =
 
 -- The footprint: words that read as the volume, with the log lines and the files' blocks of others, have as their
 -- content what the volume makes of those.
-pub content-read : (g : Geometry) (v : Volume) (f h : Words) → Reads g h v → SameLog g f h → SameData v (live_entries v f) f h → content_of g h ≡ found v (live_entries v f) f
+pub content-read : (g : Geometry) (v : Volume) (f h : Words) → Reads g h v → SameLog g f h
+    → SameData v (live_entries v f) f h → content_of g h ≡ found v (live_entries v f) f
 content-read g v f h r log files =
     let same_log : SameLog v.geometry f h = rw r.geometry log in
     ap (λ (x : Volume). found x (live_entries x h) h) (reads-volume g h v r)
@@ -65,12 +70,14 @@ content-read g v f h r log files =
 pub content-own : (g : Geometry) (v : Volume) (f : Words) → Reads g f v → content_of g f ≡ found v (live_entries v f) f
 content-own g v f r = content-read g v f f r (record { words = λ s w below at. refl }) (record { words = λ ino block b j is word. refl })
 
-pub content-same : (g : Geometry) (v : Volume) (f h : Words) → AgreeFor g v f h → SameLog g f h → SameData v (live_entries v f) f h → Reads g f v → content_of g h ≡ content_of g f
+pub content-same : (g : Geometry) (v : Volume) (f h : Words) → AgreeFor g v f h → SameLog g f h
+    → SameData v (live_entries v f) f h → Reads g f v → content_of g h ≡ content_of g f
 content-same g v f h agree log files r =
     content-read g v f h (reads-same g f h v agree r) log files ∙ sym (content-own g v f r)
 
 -- a block that a file has is in the map of some inode
-pub disk_of-covered : (v : Volume) (live : List Draft) (ino block b : ℕ) → disk_of v live ino block ≡ Some b → (i : ℕ) × (covers (extents v i) b ≡ true)
+pub disk_of-covered : (v : Volume) (live : List Draft) (ino block b : ℕ) → disk_of v live ino block ≡ Some b
+    → (i : ℕ) × (covers (extents v i) b ≡ true)
 disk_of-covered v live ino block b is = by (entry_of_block live ino block) is
   where
     by : (o : Option Draft) → disk_by v o ino block ≡ Some b → (i : ℕ) × (covers (extents v i) b ≡ true)

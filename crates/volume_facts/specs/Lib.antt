@@ -9,3 +9,4 @@ pub mod Reading
 pub mod ReadingLaws
 pub mod SetLaws
 pub mod StateLaws
+pub mod Laws

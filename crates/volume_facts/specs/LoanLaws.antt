@@ -1,8 +1,8 @@
 -- Images of a device while parts of it are lent, and once they are back; and that words of blocks that no chain has
 -- do not matter to what its images read as.
-use Rattle.std.specs.Prelude.{◌≡◌, ◌≢◌, ◌⊎◌, ℕ, zero, suc, ◌+◌, ◌*◌, ◌/◌, ◌%◌, ◌<◌, ◌≤◌, ◌==◌, Bool, true, false, List, [], ◌∷◌, length, All, if◌then◌else◌, refl}
+use Rattle.std.specs.Prelude.{◌≡◌, ◌≢◌, ℕ, zero, suc, ◌+◌, ◌*◌, ◌/◌, ◌%◌, ◌<◌, ◌≤◌, ◌==◌, Bool, true, false, List, [], ◌∷◌, All, if◌then◌else◌, refl}
 use Rattle.std.proofs.Common.{arith, ap, sym, ◌∙◌, subst, inl, inr}
-use Rattle.std.proofs.lemmas.Bool.{both_ways, cases_Bool, cases_eq, cond-true, cond-false, eq-eqb, ne_eqb}
+use Rattle.std.proofs.lemmas.Bool.{both_ways, cases_eq, cond-true, cond-false, eq-eqb, ne_eqb}
 use Rattle.std.proofs.lemmas.Bool.Decides.{nat_tests}
 use Rattle.pm_words.specs.declared.Cell.{Cell}
 use Rattle.pm_words.specs.declared.Cell.TheVariants.{Single, Two, Marked, Lent}
@@ -25,7 +25,8 @@ use Rattle.volume_facts.specs.SetLaws.{reads-written}
 -- ---- cells that are put back
 
 -- The device with a part lent, and the part put back, has the cells that it had.
-pub put_back-lent : (size n : ℕ) (old new part : List Cell) (w : ℕ → Cell) → GoesOut size n old new part → ((i : ℕ) → i / size ≡ n → w i ≡ cell part (i % size)) → (i : ℕ) → put_back new w i ≡ put_back old w i
+pub put_back-lent : (size n : ℕ) (old new part : List Cell) (w : ℕ → Cell) → GoesOut size n old new part
+    → ((i : ℕ) → i / size ≡ n → w i ≡ cell part (i % size)) → (i : ℕ) → put_back new w i ≡ put_back old w i
 put_back-lent size n old new part w out has i = elim (cases_eq (i / size) n) [
   | inl inside ↦
       let own : w i ≡ cell old i = has i inside ∙ out.words i inside in
@@ -38,7 +39,8 @@ put_back-lent size n old new part w out has i = elim (cases_eq (i / size) n) [
     same false own = sym own
 
 -- Once a part is back the device has the cells that it had with the part, its marks taken off, put back.
-pub put_back-settled : (size n : ℕ) (part old new : List Cell) (w : ℕ → Cell) → ComesBack size n part old new → ((i : ℕ) → i / size ≡ n → is_lent (cell old i) ≡ true)
+pub put_back-settled : (size n : ℕ) (part old new : List Cell) (w : ℕ → Cell) → ComesBack size n part old new
+    → ((i : ℕ) → i / size ≡ n → is_lent (cell old i) ≡ true)
     → ((i : ℕ) → i / size ≡ n → w i ≡ unmarked (cell part (i % size))) → (i : ℕ) → put_back new w i ≡ put_back old w i
 put_back-settled size n part old new w back lent has i = elim (cases_eq (i / size) n) [
   | inl inside ↦
@@ -52,7 +54,8 @@ put_back-settled size n part old new w back lent has i = elim (cases_eq (i / siz
     same false own = sym own
 
 -- so their images are the same
-pub image-put_back : (d e : List Cell) (w : ℕ → Cell) (image : Words) → ((i : ℕ) → put_back e w i ≡ put_back d w i) → IsImageWith e w image → IsImageWith d w image
+pub image-put_back : (d e : List Cell) (w : ℕ → Cell) (image : Words) → ((i : ℕ) → put_back e w i ≡ put_back d w i)
+    → IsImageWith e w image → IsImageWith d w image
 image-put_back d e w image same is i = subst (λ c. IsCandidate c (image i)) (same i) (is i)
 
 -- with nothing lent there is nothing to put back
@@ -72,14 +75,17 @@ image-with d w image is i = by (cell d i) (is i)
 -- ---- images while a part is lent, and once it is back
 
 -- An image of the device with a part lent, whose words there are candidates of the part's, is one of the device without.
-pub image-lent : (size n : ℕ) (old new part : List Cell) (image : Words) → GoesOut size n old new part → IsImage new image → ((i : ℕ) → i / size ≡ n → IsCandidate (cell part (i % size)) (image i)) → IsImage old image
+pub image-lent : (size n : ℕ) (old new part : List Cell) (image : Words) → GoesOut size n old new part
+    → IsImage new image → ((i : ℕ) → i / size ≡ n → IsCandidate (cell part (i % size)) (image i)) → IsImage old image
 image-lent size n old new part image out is filled i = elim (cases_eq (i / size) n) [
   | inl inside ↦ subst (λ c. IsCandidate c (image i)) (out.words i inside) (filled i inside)
   | inr outside ↦ subst (λ c. IsCandidate c (image i)) (out.others i outside) (is i)
 ]
 
 -- Each image of the device with a part lent comes from an image without, which is the same outside the part.
-pub follows-lent : (size n : ℕ) (old new part : List Cell) → GoesOut size n old new part → ((i : ℕ) → i / size ≡ n → is_lent (cell old i) ≡ false) → Follows (λ before image. (i : ℕ) → i / size ≢ n → image i ≡ before i) old new
+pub follows-lent : (size n : ℕ) (old new part : List Cell) → GoesOut size n old new part
+    → ((i : ℕ) → i / size ≡ n → is_lent (cell old i) ≡ false)
+    → Follows (λ before image. (i : ℕ) → i / size ≢ n → image i ≡ before i) old new
 follows-lent size n old new part out home image is =
     let before : Words = λ i. if i / size == n then newest (cell old i) else image i in
     let inside : (i : ℕ) → i / size ≡ n → before i ≡ newest (cell old i) = λ i at. cond-true (i / size == n) (newest (cell old i)) (image i) (eq-eqb (i / size) n at) in
@@ -99,13 +105,15 @@ follows-lent size n old new part out home image is =
     )
 
 -- Each image of the device with the part back is one of the device before, since any word may stand where one is lent.
-pub image-settled : (size n : ℕ) (part old new : List Cell) (image : Words) → ComesBack size n part old new → ((i : ℕ) → i / size ≡ n → cell old i ≡ Lent) → IsImage new image → IsImage old image
+pub image-settled : (size n : ℕ) (part old new : List Cell) (image : Words) → ComesBack size n part old new
+    → ((i : ℕ) → i / size ≡ n → cell old i ≡ Lent) → IsImage new image → IsImage old image
 image-settled size n part old new image back lent is i = elim (cases_eq (i / size) n) [
   | inl inside ↦ subst (λ c. IsCandidate c (image i)) (sym (lent i inside)) tt
   | inr outside ↦ subst (λ c. IsCandidate c (image i)) (back.others i outside) (is i)
 ]
 
-pub follows-settled : (size n : ℕ) (part old new : List Cell) → ComesBack size n part old new → ((i : ℕ) → i / size ≡ n → cell old i ≡ Lent) → Follows (λ before image. (i : ℕ) → image i ≡ before i) old new
+pub follows-settled : (size n : ℕ) (part old new : List Cell) → ComesBack size n part old new
+    → ((i : ℕ) → i / size ≡ n → cell old i ≡ Lent) → Follows (λ before image. (i : ℕ) → image i ≡ before i) old new
 follows-settled size n part old new back lent image is =
     (image, record { is_image = image-settled size n part old new image back lent is; lent = λ i at. refl }, λ i. refl)
 
@@ -116,18 +124,21 @@ single-unmarked (Marked a b) single = cc
 single-unmarked Lent single = cc
 
 -- A part that comes back with one candidate a word leaves them in every image.
-pub settled-single : (size n : ℕ) (part old new : List Cell) → ComesBack size n part old new → ((i : ℕ) → i / size ≡ n → is_single (cell part (i % size)) ≡ true)
+pub settled-single : (size n : ℕ) (part old new : List Cell) → ComesBack size n part old new
+    → ((i : ℕ) → i / size ≡ n → is_single (cell part (i % size)) ≡ true)
     → (i : ℕ) → i / size ≡ n → cell new i ≡ cell part (i % size)
 settled-single size n part old new back single i inside = back.words i inside ∙ single-unmarked (cell part (i % size)) (single i inside)
 
-pub image-settled_words : (size n : ℕ) (part old new : List Cell) (image : Words) → ComesBack size n part old new → ((i : ℕ) → i / size ≡ n → is_single (cell part (i % size)) ≡ true)
+pub image-settled_words : (size n : ℕ) (part old new : List Cell) (image : Words) → ComesBack size n part old new
+    → ((i : ℕ) → i / size ≡ n → is_single (cell part (i % size)) ≡ true)
     → IsImage new image → (i : ℕ) → i / size ≡ n → image i ≡ newest (cell part (i % size))
 image-settled_words size n part old new image back single is i inside =
     candidate-single (cell part (i % size)) (image i) (single i inside) (subst (λ c. IsCandidate c (image i)) (settled-single size n part old new back single i inside) (is i))
 
 -- ---- what the images read as
 
-patched-same : (n : ℕ) (t s : ℕ → ℕ) (c e : ℕ → ℕ → ℕ) (f h : Words) (w : ℕ) → ((r : ℕ) → r < n → t r ≡ s r) → ((r : ℕ) → r < n → c r (w % 8) ≡ e r (w % 8)) → f w ≡ h w → patched n t c f w ≡ patched n s e h w
+patched-same : (n : ℕ) (t s : ℕ → ℕ) (c e : ℕ → ℕ → ℕ) (f h : Words) (w : ℕ) → ((r : ℕ) → r < n → t r ≡ s r)
+    → ((r : ℕ) → r < n → c r (w % 8) ≡ e r (w % 8)) → f w ≡ h w → patched n t c f w ≡ patched n s e h w
 unfolding patched
 patched-same zero t s c e f h w targets contents own = own
 patched-same (suc n) t s c e f h w targets contents own =
@@ -137,7 +148,8 @@ patched-same (suc n) t s c e f h w targets contents own =
     λ i. if target i == w / 8 then content i else rest i
 
 -- images with the same words in the journal are the same through it where they are the same
-pub journaled-same : (f h : Words) (i : ℕ) → ((w : ℕ) → is_journal_word w ≡ true → h w ≡ f w) → h i ≡ f i → journaled h i ≡ journaled f i
+pub journaled-same : (f h : Words) (i : ℕ) → ((w : ℕ) → is_journal_word w ≡ true → h w ≡ f w) → h i ≡ f i
+    → journaled h i ≡ journaled f i
 journaled-same f h i same own =
     let commit : h commit_word ≡ f commit_word = same commit_word refl in
     let count : committed h ≡ committed f = rw commit refl in
@@ -152,7 +164,8 @@ journaled-same f h i same own =
     ap (λ x. if is_journal_word i then 0 else x) (words ∙ ap (λ n. patched n (record_target f) (record_word f) f i) count)
 
 -- no word of the journal is in a data block
-pub journal-outside : (g : Geometry) (blocks : List ℕ) (w : ℕ) → All (λ b. is_data_block g b ≡ true) blocks → is_journal_word w ≡ true → IsOutside blocks w
+pub journal-outside : (g : Geometry) (blocks : List ℕ) (w : ℕ) → All (λ b. is_data_block g b ≡ true) blocks
+    → is_journal_word w ≡ true → IsOutside blocks w
 journal-outside g blocks w in_data journal k within at =
     let behind = data_word g (block_at blocks k) 0 (in_data k 0 within) (omega arith) in
     let low : w < 2560 = grind (arith, nat_tests) in
@@ -163,7 +176,8 @@ abbrev pub AllRead : Geometry → Volume → List Cell → Type 0
 AllRead g v d = (image : Words) → IsImage d image → Reads g (journaled image) v
 
 -- So they do where the device changes in data blocks that no chain has, whatever is written there.
-pub all_read-free : (g : Geometry) (v : Volume) (blocks : List ℕ) (d e : List Cell) → AreUnchained g v blocks → AllRead g v d
+pub all_read-free : (g : Geometry) (v : Volume) (blocks : List ℕ) (d e : List Cell) → AreUnchained g v blocks
+    → AllRead g v d
     → Follows (λ before image. (i : ℕ) → IsOutside blocks i → image i ≡ before i) d e → AllRead g v e
 all_read-free g v blocks d e free reads follows image is =
     let from : (before : Words) × ComesFrom d image before × ((i : ℕ) → IsOutside blocks i → image i ≡ before i) = follows image is in
@@ -175,14 +189,16 @@ one_block : (n i : ℕ) → IsOutside (n ∷ []) i → i / 512 ≢ n
 one_block n i outside same = outside 0 (omega arith) (sym same)
 
 -- where a block that no chain has is lent
-pub all_read-lent : (g : Geometry) (v : Volume) (n : ℕ) (d e part : List Cell) → AreUnchained g v (n ∷ []) → GoesOut 512 n d e part → ((i : ℕ) → i / 512 ≡ n → is_lent (cell d i) ≡ false) → AllRead g v d → AllRead g v e
+pub all_read-lent : (g : Geometry) (v : Volume) (n : ℕ) (d e part : List Cell) → AreUnchained g v (n ∷ [])
+    → GoesOut 512 n d e part → ((i : ℕ) → i / 512 ≡ n → is_lent (cell d i) ≡ false) → AllRead g v d → AllRead g v e
 all_read-lent g v n d e part free out home reads =
     all_read-free g v (n ∷ []) d e free reads (λ image is.
     let from = follows-lent 512 n d e part out home image is in
     (from.0, from.1, λ i outside. from.2 i (one_block n i outside)))
 
 -- and where it comes back
-pub all_read-settled : (g : Geometry) (v : Volume) (size n : ℕ) (part d e : List Cell) → ComesBack size n part d e → ((i : ℕ) → i / size ≡ n → cell d i ≡ Lent) → AllRead g v d → AllRead g v e
+pub all_read-settled : (g : Geometry) (v : Volume) (size n : ℕ) (part d e : List Cell) → ComesBack size n part d e
+    → ((i : ℕ) → i / size ≡ n → cell d i ≡ Lent) → AllRead g v d → AllRead g v e
 all_read-settled g v size n part d e back lent reads image is = reads image (image-settled size n part d e image back lent is)
 
 -- Log lines too may be lent, or change: no reading looks at them.

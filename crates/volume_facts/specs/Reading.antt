@@ -18,4 +18,5 @@ pub record AgreeFor (g : Geometry) (v : Volume) (f h : Words) : Type 0 where
 -- the blocks are data blocks that no chain of the volume has
 pub record AreUnchained (g : Geometry) (v : Volume) (blocks : List ℕ) : Type 0 where
   pub in_data : All (λ b. is_data_block g b ≡ true) blocks
-  pub apart : (ino k j : ℕ) → ino < g.inodes → k < length (chain v ino) → j < length blocks → block_at blocks j ≢ block_at (chain v ino) k
+  pub apart : (ino k j : ℕ) → ino < g.inodes → k < length (chain v ino) → j < length blocks
+      → block_at blocks j ≢ block_at (chain v ino) k

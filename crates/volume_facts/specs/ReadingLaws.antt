@@ -1,27 +1,21 @@
 -- Laws of reading: which words read as the volume too, what the volume of such words is, and what the words read as
 -- after one line was set, or a chain was written into data blocks that no chain has.
-use Rattle.std.specs.Prelude.{◌≡◌, ◌≢◌, ℕ, ◌+◌, ◌*◌, ◌/◌, ◌%◌, ◌^◌, ◌<◌, ◌≤◌, ◌==◌, true, false, List, [], length, All, Option, Some, None, unwrap_or, refl}
-use Rattle.std.proofs.Common.{arith, ap, sym, ◌∙◌, subst, ⊎_elim}
-use Rattle.std.proofs.lemmas.Bool.{both_ways, cases_eq, cases_lt}
-use Rattle.std.proofs.lemmas.List.{length-set, get_or-set_same, get_or-set_other}
+use Rattle.std.specs.Prelude.{◌≡◌, ℕ, ◌*◌, ◌/◌, ◌^◌, ◌<◌, true, [], Option, Some, None, unwrap_or, refl}
+use Rattle.std.proofs.Common.{arith, ap, sym, ◌∙◌, subst}
 use Rattle.std.proofs.lemmas.List.FromFn.{fill_by_all}
 use Rattle.pm_words.specs.Bytes.{line_bytes-same}
-use Rattle.pm_words.specs.Words.{Words, word_at, line_bytes, with_line}
-use Rattle.disk_places.specs.PlaceLaws.{journaled-state, journaled-inode, journaled-name, inode_line-name_line}
-use Rattle.disk_places.specs.Places.{Geometry, state_line, base_word, inode_line, name_line, is_data_block, is_journaled_line}
-use Rattle.extent_words.specs.declared.Extent.{Extent}
+use Rattle.pm_words.specs.Words.{Words, line_bytes}
+use Rattle.disk_places.specs.PlaceLaws.{journaled-state, journaled-inode, journaled-name}
+use Rattle.disk_places.specs.Places.{Geometry, state_line, base_word, inode_line, name_line, is_journaled_line}
 use Rattle.disk_lines.specs.declared.Inode.{Inode}
 use Rattle.disk_lines.specs.LineLaws.{IsInodeLine, IsInodeLine-decode_inode}
-use Rattle.disk_lines.specs.Lines.{NameRow, NameSlot, decode_inode, decode_name}
+use Rattle.disk_lines.specs.Lines.{NameRow, decode_inode, decode_name}
 use Rattle.disk_lines.specs.Names.{row}
 use Rattle.disk_rules.specs.Chains.{extents_in, chain_of, map_of}
-use Rattle.disk_rules.specs.Placed.{block_at, IsOutside}
-use Rattle.disk_rules.specs.Reading.{slot_for, StandsFor, Reads, inode_set, node_set, row_set, base_set, AreBytes}
-use Rattle.disk_rules.specs.Standing.{IsChain}
-use Rattle.disk_rules.specs.Volume.{Volume, volume, inode_at, name_at, inode_or_free, free_inode, row_of, inode, chain, extents}
+use Rattle.disk_rules.specs.Reading.{slot_for, Reads}
+use Rattle.disk_rules.specs.Volume.{Volume, volume, name_at, inode_or_free, free_inode, row_of, inode, chain, extents}
 use Rattle.chain_facts.specs.ChainLaws.{IsChain-same, chain-map}
-use Rattle.volume_facts.specs.LineWords.{with_line-in, with_line-out, line_bytes-set, line_bytes-other, data_word-apart, data_word-not_journaled}
-use Rattle.volume_facts.specs.Reading.{AgreeInChains, AgreeFor, AreUnchained}
+use Rattle.volume_facts.specs.Reading.{AgreeFor}
 use Rattle.std.specs.List.{flat_map}
 
 -- words that agree in journaled lines and in the blocks of its chains read as the volume too
@@ -51,7 +45,8 @@ row_of-slot_for None = refl
 row_of-slot_for (Some r) = refl
 
 -- an inode that is read has a root of 32 bits
-pub reads-root : (g : Geometry) (f : Words) (v : Volume) → Reads g f v → (ino : ℕ) → ino < g.inodes → (inode v ino).root < 2 ^ 32
+pub reads-root : (g : Geometry) (f : Words) (v : Volume) → Reads g f v → (ino : ℕ) → ino < g.inodes
+    → (inode v ino).root < 2 ^ 32
 reads-root g f v r ino below =
     let line : IsInodeLine (line_bytes f (inode_line ino)) (inode v ino) = IsInodeLine-decode_inode (line_bytes f (inode_line ino)) (inode v ino) (r.inodes ino below) in
     line.fits.root

@@ -1,9 +1,9 @@
 -- What words read as after one line was set, or after a chain was written into data blocks that no chain has.
-use Rattle.std.specs.Prelude.{◌≡◌, ◌≢◌, ℕ, ◌+◌, ◌*◌, ◌/◌, ◌%◌, ◌<◌, ◌≤◌, true, false, List, [], length, All, Option, Some, None, refl}
+use Rattle.std.specs.Prelude.{◌≡◌, ◌≢◌, ℕ, ◌+◌, ◌*◌, ◌/◌, ◌%◌, ◌<◌, true, false, List, length, All, Option, Some, refl}
 use Rattle.std.proofs.Common.{arith, ap, sym, ◌∙◌, subst, inl, inr}
 use Rattle.std.proofs.lemmas.Bool.{both_ways, cases_eq}
 use Rattle.std.proofs.lemmas.List.{length-set}
-use Rattle.pm_words.specs.Words.{Words, word_at, line_bytes, with_line}
+use Rattle.pm_words.specs.Words.{Words, word_at, with_line}
 use Rattle.disk_places.specs.PlaceLaws.{journaled-inode, journaled-name, inode_line-name_line}
 use Rattle.disk_places.specs.Places.{Geometry, state_line, base_word, inode_line, name_line, is_data_block, is_journaled_line}
 use Rattle.extent_words.specs.declared.Extent.{Extent}
@@ -17,7 +17,7 @@ use Rattle.disk_rules.specs.Volume.{Volume, volume, inode_at, name_at, inode, ch
 use Rattle.chain_facts.specs.ChainLaws.{IsChain-same}
 use Rattle.volume_facts.specs.Changes.{inode-set_same, chain-set_same, extents-set_same, inode-set_other, chain-set_other, extents-set_other, row-set_same, row-set_other, inode_set-same}
 use Rattle.volume_facts.specs.LineWords.{with_line-in, with_line-out, line_bytes-set, line_bytes-other, data_word-apart, data_word-not_journaled}
-use Rattle.volume_facts.specs.Reading.{AgreeFor, AreUnchained}
+use Rattle.volume_facts.specs.Reading.{AreUnchained}
 use Rattle.volume_facts.specs.ReadingLaws.{reads-same, reads-volume}
 
 -- a chain in data blocks still stands when a journaled line is set
@@ -31,7 +31,8 @@ StandsFor-set g f x blocks es line bytes journaled stands = record {
 }
 
 -- the chain of an inode of a volume that is read
-pub reads-stands : (g : Geometry) (f : Words) (v : Volume) (ino : ℕ) → ino < g.inodes → Reads g f v → StandsFor g f (inode v ino) (chain v ino) (extents v ino)
+pub reads-stands : (g : Geometry) (f : Words) (v : Volume) (ino : ℕ) → ino < g.inodes → Reads g f v
+    → StandsFor g f (inode v ino) (chain v ino) (extents v ino)
 reads-stands g f v ino below r = record { is_chain = r.chains ino below; in_data = r.blocks ino below }
 
 -- After an inode line was set, where a chain stands for the inode, the words read as the volume with that inode.
@@ -137,45 +138,48 @@ reads-base g f v base bytes first zero r =
     }
 
 -- the volumes of such words
-pub volume-inode : (g : Geometry) (f : Words) (v : Volume) (ino : ℕ) (x : Inode) (blocks : List ℕ) (es : List Extent) (bytes : List ℕ)
+pub volume-with_inode : (g : Geometry) (f : Words) (v : Volume) (ino : ℕ) (x : Inode) (blocks : List ℕ) (es : List Extent) (bytes : List ℕ)
     → ino < g.inodes → AreBytes bytes → decode_inode bytes ≡ Some x → StandsFor g f x blocks es → Reads g f v
     → volume g (with_line (inode_line ino) bytes f) ≡ inode_set ino x blocks es v
-volume-inode g f v ino x blocks es bytes within are decoded stands r =
+volume-with_inode g f v ino x blocks es bytes within are decoded stands r =
     reads-volume g (with_line (inode_line ino) bytes f) (inode_set ino x blocks es v) (reads-inode g f v ino x blocks es bytes within are decoded stands r)
 
-pub volume-node : (g : Geometry) (f : Words) (v : Volume) (ino : ℕ) (x : Inode) (bytes : List ℕ)
+pub volume-with_node : (g : Geometry) (f : Words) (v : Volume) (ino : ℕ) (x : Inode) (bytes : List ℕ)
     → ino < g.inodes → AreBytes bytes → decode_inode bytes ≡ Some x → x.root ≡ (inode v ino).root → x.extents ≡ (inode v ino).extents → Reads g f v
     → volume g (with_line (inode_line ino) bytes f) ≡ node_set ino x v
-volume-node g f v ino x bytes within are decoded root count r =
+volume-with_node g f v ino x bytes within are decoded root count r =
     reads-volume g (with_line (inode_line ino) bytes f) (node_set ino x v) (reads-node g f v ino x bytes within are decoded root count r)
 
-pub volume-row : (g : Geometry) (f : Words) (v : Volume) (k : ℕ) (o : Option NameRow) (bytes : List ℕ)
+pub volume-with_row : (g : Geometry) (f : Words) (v : Volume) (k : ℕ) (o : Option NameRow) (bytes : List ℕ)
     → k < g.names → AreBytes bytes → decode_name bytes ≡ slot_for o → Reads g f v
     → volume g (with_line (name_line g k) bytes f) ≡ row_set k o v
-volume-row g f v k o bytes within are decoded r =
+volume-with_row g f v k o bytes within are decoded r =
     reads-volume g (with_line (name_line g k) bytes f) (row_set k o v) (reads-row g f v k o bytes within are decoded r)
 
-pub volume-base : (g : Geometry) (f : Words) (v : Volume) (base : ℕ) (bytes : List ℕ)
+pub volume-with_base : (g : Geometry) (f : Words) (v : Volume) (base : ℕ) (bytes : List ℕ)
     → word_at bytes 0 ≡ base → ((k : ℕ) → 0 < k → k < 8 → word_at bytes k ≡ 0) → Reads g f v
     → volume g (with_line state_line bytes f) ≡ base_set base v
-volume-base g f v base bytes first zero r =
+volume-with_base g f v base bytes first zero r =
     reads-volume g (with_line state_line bytes f) (base_set base v) (reads-base g f v base bytes first zero r)
 
 -- ---- a chain is written
 
 -- a word of a block that is none of these blocks is outside them
-pub block-outside : (blocks : List ℕ) (b j : ℕ) → j < 512 → ((k : ℕ) → k < length blocks → block_at blocks k ≢ b) → IsOutside blocks (512 * b + j)
+pub block-outside : (blocks : List ℕ) (b j : ℕ) → j < 512 → ((k : ℕ) → k < length blocks → block_at blocks k ≢ b)
+    → IsOutside blocks (512 * b + j)
 block-outside blocks b j word apart k below same = apart k below (omega arith)
 
 -- a word of a journaled line is outside data blocks
-pub journaled-outside : (g : Geometry) (blocks : List ℕ) (w : ℕ) → All (λ b. is_data_block g b ≡ true) blocks → is_journaled_line g (w / 8) ≡ true → IsOutside blocks w
+pub journaled-outside : (g : Geometry) (blocks : List ℕ) (w : ℕ) → All (λ b. is_data_block g b ≡ true) blocks
+    → is_journaled_line g (w / 8) ≡ true → IsOutside blocks w
 journaled-outside g blocks w in_data journaled k below same =
     let other = data_word-not_journaled g (block_at blocks k) (w % 512) (in_data k 0 below) (omega arith) in
     let at : 512 * block_at blocks k + w % 512 ≡ w = omega arith in
     both_ways (is_journaled_line g (w / 8)) (subst (λ n. is_journaled_line g (n / 8) ≡ false) at other) journaled
 
 -- Words that agree but in data blocks that no chain of the volume has read as the same volume.
-pub reads-written : (g : Geometry) (f h : Words) (v : Volume) (blocks : List ℕ) → AreUnchained g v blocks → ((i : ℕ) → IsOutside blocks i → h i ≡ f i) → Reads g f v → Reads g h v
+pub reads-written : (g : Geometry) (f h : Words) (v : Volume) (blocks : List ℕ) → AreUnchained g v blocks
+    → ((i : ℕ) → IsOutside blocks i → h i ≡ f i) → Reads g f v → Reads g h v
 reads-written g f h v blocks free same r =
     reads-same g f h v (record {
       lines = λ w journaled. same w (journaled-outside g blocks w free.in_data journaled);

@@ -1,8 +1,8 @@
 -- The line of the log base: its first word is the base, all others are zero.
-use Rattle.std.specs.Prelude.{◌≡◌, ◌+◌, ◌-◌, ◌*◌, ◌^◌, ◌<◌, ◌≤◌, ℕ, [], ◌++◌, length, refl}
+use Rattle.std.specs.Prelude.{◌≡◌, ◌+◌, ◌-◌, ◌*◌, ◌^◌, ◌<◌, ℕ, [], refl}
 use Rattle.std.specs.Int.{to_le_bytes, w64}
-use Rattle.std.proofs.Common.{arith, ap, sym, ◌∙◌, get_or}
-use Rattle.std.proofs.lemmas.List.{get_or-append_right, get_or-replicate, get_or_past, length-replicate}
+use Rattle.std.proofs.Common.{arith, sym, ◌∙◌}
+use Rattle.std.proofs.lemmas.List.{get_or-append_right, get_or-replicate}
 use Rattle.pm_words.specs.Bytes.{word_at-same, word_at-append_left, word_at-append_word}
 use Rattle.pm_words.specs.Words.{Words, word_at, with_line}
 use Rattle.disk_places.specs.Fields.{zeros}
@@ -28,6 +28,7 @@ state_bytes-later base k later below =
     ∙ zero_word
 
 -- words in which the line of the log base was set to a base
-pub reads-state : (g : Geometry) (f : Words) (v : Volume) (base : ℕ) → base < 2 ^ 64 → Reads g f v → Reads g (with_line state_line (state_bytes base) f) (base_set base v)
+pub reads-state : (g : Geometry) (f : Words) (v : Volume) (base : ℕ) → base < 2 ^ 64 → Reads g f v
+    → Reads g (with_line state_line (state_bytes base) f) (base_set base v)
 reads-state g f v base small r =
     reads-base g f v base (state_bytes base) (state_bytes-first base small) (state_bytes-later base) r

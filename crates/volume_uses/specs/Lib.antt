@@ -1,0 +1,6 @@
+pub mod BoundLaws
+pub mod Laws
+pub mod OwnerLaws
+pub mod PoolLaws
+pub mod UseLaws
+pub mod Uses

@@ -1,24 +1,31 @@
 -- Laws of the footprint: words that read as one volume, with the same log lines and the same words in the files'
 -- blocks, have the same content.
-use Rattle.std.specs.Prelude.{◌≡◌, ℕ, ◌+◌, ◌-◌, ◌*◌, ◌/◌, ◌%◌, ◌^◌, ◌<◌, true, List, filter, Option, Some, None, option_and_then, refl}
+use Rattle.std.specs.Prelude.{◌≡◌, ℕ, ◌+◌, ◌-◌, ◌*◌, ◌/◌, ◌%◌, ◌^◌, ◌<◌, ◌≤◌, true, List, filter, length, All, Option, Some, None, option_and_then, refl}
 use Rattle.std.proofs.Common.{arith, ap, sym, ◌∙◌}
 use Rattle.std.proofs.Math.Path.{fun_ext}
+use Rattle.std.proofs.lemmas.Bool.Decides.{nat_tests}
 use Rattle.pm_words.specs.Bytes.{line_bytes-same}
 use Rattle.pm_words.specs.Words.{Words}
-use Rattle.disk_places.specs.Places.{Geometry, log_line}
+use Rattle.disk_places.specs.Journal.{journaled}
+use Rattle.disk_places.specs.Places.{Geometry, first_data, log_line, is_data_block}
 use Rattle.extent_words.specs.Extents.{covers}
 use Rattle.extent_facts.specs.Covers.{covers-disk_at}
 use Rattle.disk_lines.specs.declared.Draft.{Draft}
 use Rattle.disk_lines.specs.Entries.{decode_entry}
+use Rattle.disk_lines.specs.declared.Kind.{Kind}
+use Rattle.disk_lines.specs.declared.Kind.TheVariants.{Free, Directory, File, Staging}
 use Rattle.disk_lines.specs.Names.{walk}
-use Rattle.disk_rules.specs.Content.{Node, size_of, entry_of_block, disk_by, disk_of, byte_in, bytes_of_file, node_by, node_of, found, content_of}
-use Rattle.disk_rules.specs.Live.{entry_in, is_live, live_entries}
+use Rattle.disk_rules.specs.Content.{Node, size_of, entry_of_block, disk_by, disk_of, byte_in, bytes_of_file, node_by, node_of, found, content_of, content}
+use Rattle.disk_rules.specs.Live.{is_file, entry_in, is_live, live_entries}
+use Rattle.disk_rules.specs.Placed.{block_at, IsOutside}
 use Rattle.disk_rules.specs.Reading.{Reads}
 use Rattle.disk_rules.specs.Volume.{Volume, inode, extents}
-use Rattle.volume_facts.specs.Footprint.{SameLog, SameData}
+use Rattle.volume_facts.specs.Footprint.{SameLog, SameData, AreUnread}
 use Rattle.volume_facts.specs.Lists.{map-agree, filter_map-agree}
-use Rattle.volume_facts.specs.Reading.{AgreeFor}
+use Rattle.volume_facts.specs.ImageLaws.{journaled-same, journal-outside}
+use Rattle.volume_facts.specs.Reading.{AgreeFor, AreUnchained}
 use Rattle.volume_facts.specs.ReadingLaws.{reads-same, reads-volume}
+use Rattle.volume_facts.specs.SetLaws.{reads-written, block-outside}
 
 -- log lines that are the same have the same entries, and so the same live ones
 pub entry_in-same : (v : Volume) (f h : Words) → SameLog v.geometry f h → (s : ℕ) → s < v.geometry.log
@@ -39,16 +46,20 @@ byte_in-same f h (Some b) i same =
     let place : 512 * b + i % 4096 / 8 ≡ k / 8 = omega arith in
     ap (λ (n : ℕ). n / 256 ^ (k % 8) % 256) (ap h (sym place) ∙ same b (i % 4096 / 8) refl (omega arith) ∙ ap f place)
 
-pub bytes_of_file-same : (v : Volume) (live : List Draft) (f h : Words) (ino : ℕ) → SameData v live f h
-    → bytes_of_file v live h ino ≡ bytes_of_file v live f ino
-bytes_of_file-same v live f h ino same =
+pub bytes_of_file-same : (v : Volume) (live : List Draft) (f h : Words) (ino : ℕ) → is_file (inode v ino).kind ≡ true → SameData v live f h → bytes_of_file v live h ino ≡ bytes_of_file v live f ino
+bytes_of_file-same v live f h ino file same =
     map-agree (λ i. byte_in h (disk_of v live ino (i / 4096)) i) (λ i. byte_in f (disk_of v live ino (i / 4096)) i) 0 (size_of v live ino)
-    (λ i low below. byte_in-same f h (disk_of v live ino (i / 4096)) i (λ b j is word. same.words ino (i / 4096) b j is word))
+    (λ i low below. byte_in-same f h (disk_of v live ino (i / 4096)) i (λ b j is word. same.words ino (i / 4096) b j file (omega arith) is word))
 
-pub node_of-same : (v : Volume) (live : List Draft) (f h : Words) (ino : ℕ) → SameData v live f h
-    → node_of v live h ino ≡ node_of v live f ino
+pub node_of-same : (v : Volume) (live : List Draft) (f h : Words) (ino : ℕ) → SameData v live f h → node_of v live h ino ≡ node_of v live f ino
 unfolding node_of
-node_of-same v live f h ino same = ap (node_by (inode v ino).kind) (bytes_of_file-same v live f h ino same)
+node_of-same v live f h ino same = by (inode v ino).kind (λ file. bytes_of_file-same v live f h ino file same)
+  where
+    by : (kind : Kind) → (is_file kind ≡ true → bytes_of_file v live h ino ≡ bytes_of_file v live f ino) → node_by kind (bytes_of_file v live h ino) ≡ node_by kind (bytes_of_file v live f ino)
+    by Free bytes = refl
+    by Directory bytes = refl
+    by File bytes = ap (node_by File) (bytes refl)
+    by Staging bytes = refl
 
 -- the same stands at every path
 pub found-same : (v : Volume) (live : List Draft) (f h : Words) → SameData v live f h → found v live h ≡ found v live f
@@ -68,7 +79,7 @@ content-read g v f h r log files =
 
 -- the content of words that read as a volume, and of others that agree in all that it rests on
 pub content-own : (g : Geometry) (v : Volume) (f : Words) → Reads g f v → content_of g f ≡ found v (live_entries v f) f
-content-own g v f r = content-read g v f f r (record { words = λ s w below at. refl }) (record { words = λ ino block b j is word. refl })
+content-own g v f r = content-read g v f f r (record { words = λ s w below at. refl }) (record { words = λ ino block b j file within is word. refl })
 
 pub content-same : (g : Geometry) (v : Volume) (f h : Words) → AgreeFor g v f h → SameLog g f h
     → SameData v (live_entries v f) f h → Reads g f v → content_of g h ≡ content_of g f
@@ -83,3 +94,30 @@ disk_of-covered v live ino block b is = by (entry_of_block live ino block) is
     by : (o : Option Draft) → disk_by v o ino block ≡ Some b → (i : ℕ) × (covers (extents v i) b ≡ true)
     by None own = (ino, covers-disk_at (extents v ino) block b own)
     by (Some d) staged = (d.staging, covers-disk_at (extents v d.staging) (d.staging_block + (block - d.file_block)) b staged)
+
+-- ---- blocks that no chain has and no file reads
+
+-- the log lines lie outside data blocks
+log-outside : (g : Geometry) (blocks : List ℕ) (s w : ℕ) → All (λ b. is_data_block g b ≡ true) blocks → s < g.log → w / 8 ≡ log_line g s → IsOutside blocks w
+log-outside g blocks s w in_data below at k within same =
+    let in_range : first_data g ≤ block_at blocks k = let of_data = in_data k 0 within in grind (arith, nat_tests) in
+    omega arith
+
+-- Words that agree but in data blocks that no chain has and no file reads have the same content.
+pub content-outside : (g : Geometry) (v : Volume) (blocks : List ℕ) (f h : Words) → AreUnchained g v blocks → AreUnread v (live_entries v f) blocks
+    → ((i : ℕ) → IsOutside blocks i → h i ≡ f i) → Reads g f v → content_of g h ≡ content_of g f
+content-outside g v blocks f h free unread same r =
+    content-read g v f h (reads-written g f h v blocks free same r)
+    (record { words = λ s w below at. same w (log-outside g blocks s w free.in_data below at) })
+    (record {
+      words = λ ino block b j file within is word.
+          same (512 * b + j) (block-outside blocks b j word (λ k in_blocks. unread.apart ino block b k file within is in_blocks));
+    })
+    ∙ sym (content-own g v f r)
+
+-- So have images, whatever their journals: while such a block is lent, the content is as before.
+pub content-image : (g : Geometry) (v : Volume) (blocks : List ℕ) (before image : Words) → AreUnchained g v blocks → AreUnread v (live_entries v (journaled before)) blocks
+    → ((i : ℕ) → IsOutside blocks i → image i ≡ before i) → Reads g (journaled before) v → content g image ≡ content g before
+content-image g v blocks before image free unread same r =
+    content-outside g v blocks (journaled before) (journaled image) free unread
+    (λ i outside. journaled-same before image i (λ w journal. same w (journal-outside g blocks w free.in_data journal)) (same i outside)) r

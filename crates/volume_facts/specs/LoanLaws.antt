@@ -17,7 +17,7 @@ use Rattle.disk_places.specs.Places.{Geometry, commit_word, first_data, is_data_
 use Rattle.disk_rules.specs.Placed.{block_at, IsOutside}
 use Rattle.disk_rules.specs.Reading.{Reads}
 use Rattle.disk_rules.specs.Volume.{Volume, chain}
-use Rattle.volume_facts.specs.LineWords.{data_word}
+use Rattle.volume_facts.specs.ImageLaws.{journaled-same, journal-outside}
 use Rattle.volume_facts.specs.Reading.{AreUnchained}
 use Rattle.volume_facts.specs.ReadingLaws.{reads-same}
 use Rattle.volume_facts.specs.SetLaws.{reads-written}
@@ -136,40 +136,6 @@ image-settled_words size n part old new image back single is i inside =
     candidate-single (cell part (i % size)) (image i) (single i inside) (subst (λ c. IsCandidate c (image i)) (settled-single size n part old new back single i inside) (is i))
 
 -- ---- what the images read as
-
-patched-same : (n : ℕ) (t s : ℕ → ℕ) (c e : ℕ → ℕ → ℕ) (f h : Words) (w : ℕ) → ((r : ℕ) → r < n → t r ≡ s r)
-    → ((r : ℕ) → r < n → c r (w % 8) ≡ e r (w % 8)) → f w ≡ h w → patched n t c f w ≡ patched n s e h w
-unfolding patched
-patched-same zero t s c e f h w targets contents own = own
-patched-same (suc n) t s c e f h w targets contents own =
-    let rest = patched-same n t s c e f h w (λ r below. targets r (omega arith)) (λ r below. contents r (omega arith)) own in
-    let target = targets n (omega arith) in
-    let content = contents n (omega arith) in
-    λ i. if target i == w / 8 then content i else rest i
-
--- images with the same words in the journal are the same through it where they are the same
-pub journaled-same : (f h : Words) (i : ℕ) → ((w : ℕ) → is_journal_word w ≡ true → h w ≡ f w) → h i ≡ f i
-    → journaled h i ≡ journaled f i
-journaled-same f h i same own =
-    let commit : h commit_word ≡ f commit_word = same commit_word refl in
-    let count : committed h ≡ committed f = rw commit refl in
-    let few : committed h ≤ 128 = grind (arith, nat_tests) in
-    let in_journal : (w : ℕ) → 512 ≤ w → w < 2560 → is_journal_word w ≡ true = λ w low high. grind (arith, nat_tests) in
-    let words : patched (committed h) (record_target h) (record_word h) h i ≡ patched (committed h) (record_target f) (record_word f) f i =
-    patched-same (committed h) (record_target h) (record_target f) (record_word h) (record_word f) h f i
-    (λ r below. same (8 * record_line r) (in_journal (8 * record_line r) (omega arith) (omega arith)))
-    (λ r below. same (8 * (record_line r + 1) + i % 8) (in_journal (8 * (record_line r + 1) + i % 8) (omega arith) (omega arith)))
-    own
-    in
-    ap (λ x. if is_journal_word i then 0 else x) (words ∙ ap (λ n. patched n (record_target f) (record_word f) f i) count)
-
--- no word of the journal is in a data block
-pub journal-outside : (g : Geometry) (blocks : List ℕ) (w : ℕ) → All (λ b. is_data_block g b ≡ true) blocks
-    → is_journal_word w ≡ true → IsOutside blocks w
-journal-outside g blocks w in_data journal k within at =
-    let behind = data_word g (block_at blocks k) 0 (in_data k 0 within) (omega arith) in
-    let low : w < 2560 = grind (arith, nat_tests) in
-    omega arith
 
 -- each image of the device reads as the volume
 abbrev pub AllRead : Geometry → Volume → List Cell → Type 0

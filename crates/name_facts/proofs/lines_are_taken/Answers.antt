@@ -1,0 +1,19 @@
+-- the laws of the definitions
+use Rattle.name_facts.specs.ForestLaws.{forest-taken}
+use Rattle.name_facts.specs.SetLaws.{find_name-set, names_of-taken, free_lines-taken, parent_of-taken}
+use Rattle.name_facts.proofs.lines_are_taken.Goals as goal
+
+pub returns-clause-found : goal.returns-clause-found
+returns-clause-found c = find_name-set
+
+pub returns-clause-count : goal.returns-clause-count
+returns-clause-count c = names_of-taken
+
+pub returns-clause-free : goal.returns-clause-free
+returns-clause-free c = free_lines-taken
+
+pub returns-clause-above : goal.returns-clause-above
+returns-clause-above c = parent_of-taken
+
+pub returns-clause-trees : goal.returns-clause-trees
+returns-clause-trees c = forest-taken

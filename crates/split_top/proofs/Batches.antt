@@ -15,6 +15,14 @@ length-with_line_set (e ∷ es) line bytes = elim (cases_Bool (e.line == line)) 
   | inr other ↦ rw other (omega (arith, length-with_line_set es line bytes))
 ]
 
+-- and it does not shrink
+pub length-with_line_set_least : (b : List Entry) (line : ℕ) (bytes : List ℕ) → 1 ≤ length (with_line_set b line bytes)
+length-with_line_set_least [] line bytes = omega arith
+length-with_line_set_least (e ∷ es) line bytes = elim (cases_Bool (e.line == line)) [
+  | inl here ↦ rw here (omega arith)
+  | inr other ↦ rw other (omega arith)
+]
+
 -- a word of words in which a line is set depends on that word alone
 pub with_line-at : (line : ℕ) (bytes : List ℕ) (f g : Words) (w : ℕ) → f w ≡ g w → with_line line bytes f w ≡ with_line line bytes g w
 with_line-at line bytes f g w h = ap (λ x. if w / 8 == line then word_at bytes (w % 8) else x) h

@@ -22,7 +22,7 @@ use Rattle.split_top.specs.declared.calls.Disk.{Disk}
 use Rattle.split_top.specs.Calls.{IsCalled, next_name}
 use Rattle.split_top.specs.Made.{default_geometry, with_directories, made, ArePlain}
 use Rattle.split_top.specs.Rest.{IsAtRest, MayShow}
-use Rattle.split_top.specs.Runs.{first_state, mkdir_of, begun_of, scripts_of, state_of, IsWhole, IsRun}
+use Rattle.split_top.specs.Runs.{first_state, made_count, mkdir_of, begun_of, scripts_of, state_of, IsWhole, IsRun}
 use Rattle.split_top.proofs.CallSteps.{state_of-more}
 use Rattle.split_top.proofs.OneMore.{may_show_also, plain_more}
 
@@ -54,11 +54,11 @@ all_calls names history count =
 -- all calls returned
 pub run_whole : (names : List (List ℕ)) (stop : Option ℕ) (made : List (List ℕ)) (history : List Item) (left : List TreeEntry)
     → IsLegal first_state history → Scripted (scripts_of names) history → run first_state history ≡ state_of made
-    → length history ≡ length names → left ≡ tree (state_of made) → IsRun names stop history [] left
-run_whole names stop made history left legal scripted state count found =
+    → length history ≡ length names → left ≡ tree (state_of made) → ((steps : ℕ) → stop ≡ Some steps → made_count history ≤ steps) → IsRun names stop history [] left
+run_whole names stop made history left legal scripted state count found kept =
     let is : left ≡ tree (run first_state history) = found ∙ ap tree (sym state) in
     let whole : IsWhole names history left = record { complete = all_calls names history count; tree = is } in
-    record { legal = legal; scripted = scripted; next = inl refl; strict = is; whole = λ e. whole; stopped = λ n e. inl whole }
+    record { legal = legal; scripted = scripted; next = inl refl; strict = is; whole = λ e. whole; stopped = λ n e. inl whole; kept = kept }
 
 -- the call that follows a history
 following : (names : List (List ℕ)) (k : ℕ) → k < length names → begun_of (slice_index_or names k []) ∷ [] ≡ take 1 (map begun_of (drop k names))
@@ -84,8 +84,9 @@ pub run_lost : (names : List (List ℕ)) (stop : Option ℕ) (made : List (List 
     → IsLegal first_state history → Scripted (scripts_of names) history → run first_state history ≡ state_of made
     → length history < length names → before ≡ record { given = stop; taken = 0 } → Steps (80 * (length history + 1)) before after → is_on after ≡ false
     → (left ≡ tree (state_of made)) ⊎ (left ≡ tree (state_of (made ++ next_name names history ∷ [])))
+    → ((steps : ℕ) → stop ≡ Some steps → made_count history ≤ steps)
     → IsRun names stop history (begun_of (next_name names history) ∷ []) left
-run_lost names stop made history left before after legal scripted state lt start took off found =
+run_lost names stop made history left before after legal scripted state lt start took off found kept =
     record {
       legal = legal;
       scripted = scripted;
@@ -98,6 +99,7 @@ run_lost names stop made history left before after legal scripted state lt start
       stopped = λ n some.
           let most : n ≤ 80 * (length history + 1) = spent n (80 * (length history + 1)) before after (start ∙ ap (λ g. record { given = g; taken = 0 }) some) took off in
           inr (omega arith);
+      kept = kept;
     }
 
 -- the directories that may be found besides

@@ -1,5 +1,5 @@
 -- What the calls of a script leave, one after the other.
-use Rattle.std.specs.Prelude.{◌≡◌, ℕ, ◌+◌, ◌*◌, ◌<◌, ◌≤◌, true, false, List, [], ◌∷◌, ◌++◌, length, slice_index_or, ◌⊎◌}
+use Rattle.std.specs.Prelude.{◌≡◌, ℕ, ◌+◌, ◌*◌, ◌<◌, ◌≤◌, true, false, List, [], ◌∷◌, ◌++◌, length, slice_index_or, ◌⊎◌, Some}
 use Rattle.pm_words.specs.Powers.{Supply, Steps, is_on}
 use Rattle.posix_types.specs.declared.call.Who.{Who}
 use Rattle.posix_types.specs.declared.item.Item.{Item}
@@ -11,7 +11,7 @@ use Rattle.split_top.specs.declared.calls.Disk.{Disk}
 use Rattle.split_top.specs.declared.calls.Called.{Called}
 use Rattle.split_top.specs.Made.{default_geometry, ArePlain}
 use Rattle.split_top.specs.Rest.{IsAtRest, MayShow}
-use Rattle.split_top.specs.Runs.{first_state, mkdir_of, state_of, scripts_of}
+use Rattle.split_top.specs.Runs.{first_state, made_count, mkdir_of, state_of, scripts_of}
 
 -- the device is at rest with the directories made, and no line is put
 pub record IsReady (disk : Disk) : Type 0 where
@@ -35,6 +35,10 @@ pub record Returns (from : State) (place : ℕ) (name : List ℕ) (old new : Dis
   pub state : next ≡ state_of new.made.items
   pub made : (new.made.items ≡ old.made.items) ⊎ (new.made.items ≡ old.made.items ++ name ∷ [])
 
+-- the items that made a directory are as many as the steps that were taken, or fewer
+abbrev pub MakesBySteps : Supply → Supply → List Item → Type 0
+MakesBySteps before after items = (given : ℕ) → before.given ≡ Some given → made_count items + before.taken ≤ after.taken
+
 -- the name of the call that follows
 abbrev pub next_name : List (List ℕ) → List Item → List ℕ
 next_name names history = slice_index_or names (length history) []
@@ -46,6 +50,7 @@ pub record IsCalled (names : List (List ℕ)) (before after : Supply) (disk : Di
   pub state : run first_state called.history.items ≡ state_of disk.made.items
   pub plain : ArePlain 0 disk.made.items
   pub few : length disk.made.items ≤ length called.history.items
+  pub kept : (given : ℕ) → before.given ≡ Some given → made_count called.history.items ≤ given
   pub steps : Steps (80 * (length called.history.items + 1)) before after
   pub whole : called.is_lost ≡ false → (length called.history.items ≡ length names) × IsAtRest disk.pm disk.made.items
   pub lost : called.is_lost ≡ true → (length called.history.items < length names) × (is_on after ≡ false) × MayShow disk.pm disk.made.items (disk.made.items ++ next_name names called.history.items ∷ [])

@@ -1,9 +1,10 @@
 -- What a run of a script of `mkdir` lines is, on the fresh default image in strict mode.
-use Rattle.std.specs.Prelude.{◌≡◌, ◌⊎◌, ℕ, List, [], ◌∷◌, length, map, take, drop, Option, Some, None}
+use Rattle.std.specs.Prelude.{◌≡◌, ◌⊎◌, ℕ, List, [], ◌∷◌, length, map, take, drop, count_by, ◌≤◌, Bool, true, false, Option, Some, None}
 use Rattle.posix_types.specs.declared.call.Call.{Call}
 use Rattle.posix_types.specs.declared.call.Mode.{Mode}
 use Rattle.posix_types.specs.declared.call.Who.{Who}
 use Rattle.posix_types.specs.declared.item.Item.{Item}
+use Rattle.posix_types.specs.declared.reply.Reply.{Reply}
 use Rattle.posix_types.specs.declared.reply.Shape.{Shape}
 use Rattle.posix_types.specs.declared.tree.TreeEntry.{TreeEntry}
 use Rattle.posix_types.specs.declared.tree.TreeNode.{TreeNode}
@@ -39,6 +40,15 @@ scripts_of names = record { setup = []; threads = map mkdir_of names ∷ [] }
 abbrev pub state_of : List (List ℕ) → State
 state_of names = after_calls first_state (map begun_of names)
 
+-- how many calls of a history made a directory: each call here is a `mkdir`, and each such one is a commit, which takes a
+-- step
+abbrev pub makes : Reply → Bool
+makes Reply.Ok = true
+makes reply = false
+
+abbrev pub made_count : List Item → ℕ
+made_count history = count_by (λ item. makes item.reply) history
+
 -- all calls returned, and the tree is that of the history
 pub record IsWhole (names : List (List ℕ)) (history : List Item) (left : List TreeEntry) : Type 0 where
   pub complete : IsComplete (scripts_of names) history
@@ -62,3 +72,4 @@ pub record IsRun (names : List (List ℕ)) (stop : Option ℕ) (history : List I
   pub strict : Strict first_state history unfinished left
   pub whole : stop ≡ None → IsWhole names history left
   pub stopped : (steps : ℕ) → stop ≡ Some steps → IsWholeOrAfforded names steps history left
+  pub kept : (steps : ℕ) → stop ≡ Some steps → made_count history ≤ steps

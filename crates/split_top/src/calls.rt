@@ -1,11 +1,12 @@
 //! The calls of a script, one after the other, on a device.
 ghost use Rattle.std.specs.Prelude.{◌≡◌, ◌+◌, ◌<◌, ◌++◌, ◌∷◌, [], ℕ, true, false, length, ◌≢◌, Ok, IfOk, IfSome, IfNone, IsTrue};
+ghost use Rattle.k_journal.specs.Commits.{TakesAStep};
 ghost use Rattle.pm_words.specs.Powers.{is_on, Steps};
 ghost use Rattle.disk_lines.specs.Lines.{is_name};
 ghost use Rattle.split_top.specs.Made.{ArePlain};
 ghost use Rattle.split_top.specs.Rest.{MayShow};
 ghost use Rattle.split_top.specs.Runs.{state_of};
-ghost use Rattle.split_top.specs.Calls.{IsReady, Lands, Returns, IsCalled};
+ghost use Rattle.split_top.specs.Calls.{IsReady, Lands, Returns, IsCalled, MakesBySteps};
 
 use crate::directories::make_directory;
 use crate::meaning::{first_state, mkdir_call};
@@ -39,6 +40,7 @@ fn land(disk: &mut Disk, power: &mut Power, name: &Name) -> Result<Commit, Alloc
     requires name { is_name name.now ≡ true }
     requires room { length disk.old.made.items < 59 }
     ensures steps { Steps 80 power.old power.new }
+    ensures took { result ≡ Ok Commit.Done → TakesAStep power.old power.new }
     ensures done { result ≡ Ok Commit.Done → Lands disk.old disk.new name.now × (is_on power.new ≡ true) }
     ensures lost { result ≡ Ok Commit.PowerLost → MayShow disk.new.pm disk.old.made.items (disk.old.made.items ++ name.now ∷ []) × (disk.new.made.items ≡ disk.old.made.items) × (is_on power.new ≡ false) }
 {
@@ -86,6 +88,7 @@ fn call_one(
     requires on { is_on power.old ≡ true }
     ensures steps { Steps 80 power.old power.new }
     ensures some { IfOk result (λ o. IfSome o (λ item. Returns state.old index name.now disk.old disk.new state.new item × (is_on power.new ≡ true))) }
+    ensures makes { IfOk result (λ o. IfSome o (λ item. MakesBySteps power.old power.new (item ∷ []))) }
     ensures none { IfOk result (λ o. IfNone o (MayShow disk.new.pm disk.old.made.items (disk.old.made.items ++ name.now ∷ []) × (disk.new.made.items ≡ disk.old.made.items) × (is_on power.new ≡ false))) }
 {
     let call = mkdir_call(alloc, name)?;

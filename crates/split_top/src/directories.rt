@@ -1,7 +1,6 @@
 //! Directories on a device: one is made by a transaction of its inode line and its name line.
-ghost use Rattle.std.specs.Prelude.{◌≡◌, ◌+◌, ◌<◌, ◌≤◌, ◌++◌, ◌∷◌, [], ℕ, Bool, true, false, length};
-ghost use Rattle.pm_words.specs.Words.{Words, with_line};
-ghost use Rattle.k_journal.specs.Batch.{with_batch, AllLines};
+ghost use Rattle.std.specs.Prelude.{◌≡◌, ◌+◌, ◌<◌, ◌≤◌, ◌++◌, ◌∷◌, [], true, false, length};
+ghost use Rattle.k_journal.specs.Commits.{TakesAStep};
 ghost use Rattle.pm_words.specs.Powers.{is_on, Steps};
 ghost use Rattle.disk_lines.specs.Lines.{is_name};
 ghost use Rattle.split_top.specs.Made.{default_geometry, name_row, with_directory};
@@ -18,19 +17,6 @@ use k_names::{NameLine, encode_name};
 use pm_lines::{Pm, Power};
 use posix_types::Name;
 
-/// Puts a line into a batch that has room.
-fn put_line(batch: &mut Batch, line: u64, bytes: [u8; 64])
-    requires { length batch.old < 128 }
-    ensures count { length batch.new ≤ length batch.old + 1 }
-    ensures meaning { (f : Words) (i : ℕ) → with_batch batch.new f i ≡ with_line line bytes (with_batch batch.old f) i }
-    ensures lines { (test : ℕ → Bool) → test line ≡ true → AllLines test batch.old → AllLines test batch.new }
-{
-    match batch.put(line, bytes) {
-        Ok(()) => {}
-        Err(_) => unreachable!(),
-    }
-}
-
 /// Puts the two lines of the k-th directory into an empty batch.
 fn put_directory(batch: &mut Batch, geometry: &Geometry, place: u32, line: &NameLine)
     requires geometry { geometry.now ≡ default_geometry }
@@ -41,8 +27,8 @@ fn put_directory(batch: &mut Batch, geometry: &Geometry, place: u32, line: &Name
     ensures { SetsDirectory place line.now.name batch.new }
 {
     let inode = encode_inode(&empty_inode(Kind::Directory, 1));
-    put_line(batch, geometry.inode_line(5 + place), inode);
-    put_line(batch, geometry.name_line(place), encode_name(line));
+    batch.put_line(geometry.inode_line(5 + place), inode);
+    batch.put_line(geometry.name_line(place), encode_name(line));
 }
 
 /// Makes a directory below the root that has those of `made`: one transaction.
@@ -61,6 +47,7 @@ pub(crate) fn make_directory(
     requires name { is_name line.now.name ≡ true }
     requires row { line.now ≡ name_row (length made.now) line.now.name }
     ensures steps { Steps 80 power.old power.new }
+    ensures took { result ≡ Commit.Done → TakesAStep power.old power.new }
     ensures on { result ≡ Commit.Done → is_on power.new ≡ true }
     ensures off { result ≡ Commit.PowerLost → is_on power.new ≡ false }
     ensures done { result ≡ Commit.Done → IsAtRest pm.new (made.now ++ line.now.name ∷ []) }

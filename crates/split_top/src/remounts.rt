@@ -36,7 +36,7 @@ fn read_names(alloc: Global, pm: &Pm, geometry: &Geometry) -> Result<Vec<Name>, 
     ensures { IfOk result (λ names. names.items ≡ names_on geometry.now (words_of pm.now)) }
 {
     let mut names = Vec::new(alloc);
-    let lines = geometry.shape().2;
+    let lines = geometry.shape().names;
     for line in 0..lines {
         let bytes = pm.read_line(geometry.name_line(line));
         push_name(&mut names, decode_name(alloc, &bytes)?)?;

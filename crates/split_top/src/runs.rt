@@ -28,16 +28,6 @@ pub(crate) struct Ran {
     pub tree: Tree,
 }
 
-/// The numbers of the default image.
-fn default_geometry() -> Geometry
-    ensures { result ≡ default_geometry }
-{
-    match Geometry::checked(256, 64, 64, 128) {
-        Some(geometry) => geometry,
-        None => unreachable!(),
-    }
-}
-
 /// The power of a run: for so many steps, or always.
 fn power_for(stop: Option<u64>) -> Power
     ensures { result ≡ record { given = stop; taken = 0 } }
@@ -53,7 +43,7 @@ fn fresh_disk(alloc: Global) -> Result<Disk, AllocError>
     ensures ready { IfOk result IsReady }
     ensures none { IfOk result (λ disk. disk.made.items ≡ []) }
 {
-    let geometry = default_geometry();
+    let geometry = Geometry::default_image();
     let pm = fresh_device(alloc, &geometry)?;
     let batch = Batch::new(alloc)?;
     Ok(Disk {
@@ -72,7 +62,7 @@ fn left_on(alloc: Global, pm: &Pm, choice: Choice) -> Result<Tree, AllocError>
     ensures { IfOk result (λ found. (old new : List (List ℕ)) → ArePlain 0 old → ArePlain 0 new → MayShow pm.now old new → (found ≡ tree (state_of old)) ⊎ (found ≡ tree (state_of new))) }
 {
     let bytes = pm.choose(alloc, choice)?;
-    let names = remount(alloc, &bytes, &default_geometry())?;
+    let names = remount(alloc, &bytes, &Geometry::default_image())?;
     tree_of(alloc, &names)
 }
 

@@ -5,7 +5,7 @@ use Rattle.disk_lines.specs.Lines.{encode_inode, encode_name}
 use Rattle.k_journal.specs.Batch.{with_batch, AllLines}
 use Rattle.split_top.specs.Made.{default_geometry}
 use Rattle.pm_words.specs.Words.{with_line}
-use Rattle.split_top.proofs.Batches.{two_lines}
+use Rattle.split_top.proofs.Batches.{two_lines, length-with_line_set_least}
 use Rattle.split_top.proofs.directories.put_directory.Goals as goal
 
 no_lines : (test : _) → AllLines test []
@@ -21,10 +21,11 @@ returns c =
           let one = c.put_line.ensures.count in
           let two = c.put_line-2.ensures.count in
           omega arith;
+      some = rw c.put_line-2.ensures.entries (length-with_line_set_least c.put_line.new.self c.name_line.result c.encode_name.result);
       lines = c.put_line-2.ensures.lines (is_journaled_line default_geometry) (rw named (journaled-name default_geometry c.args.place (omega arith)))
           (c.put_line.ensures.lines (is_journaled_line default_geometry) (rw c.inode_line.ensures (journaled-inode default_geometry (5 + c.args.place) (omega arith))) (empty (is_journaled_line default_geometry)));
       meaning = λ f w.
-          two_lines c.put_line.new.batch c.put_line-2.new.batch _ _ _ _ _ _ _ _ f w
+          two_lines c.put_line.new.self c.put_line-2.new.self _ _ _ _ _ _ _ _ f w
           (c.put_line.ensures.meaning f w ∙ ap (λ b. with_line c.inode_line.result c.encode_inode-inode.result (with_batch b f) w) c.requires.empty) (c.put_line-2.ensures.meaning f w)
-          c.inode_line.ensures named (c.encode_inode-inode.ensures ∙ ap encode_inode c.empty_inode.ensures) (c.encode_name.ensures ∙ ap encode_name c.requires.row);
+          c.inode_line.ensures named (c.encode_inode-inode.ensures.line ∙ ap encode_inode c.empty_inode.ensures) (c.encode_name.ensures.line ∙ ap encode_name c.requires.row);
     }

@@ -9,4 +9,4 @@ unfolding fresh
 returns-clause-words c =
     set_more _ _ _ _ _ _ _ c.set_line-3.ensures.words refl c.superblock.ensures
     (set_more _ _ _ _ _ _ _ c.set_line-2.ensures.words c.state_line.ensures c.state_bytes.ensures
-    (set_more _ _ _ _ _ _ _ c.set_line.ensures.words c.inode_line.ensures (c.encode_inode-root.ensures ∙ ap encode_inode c.empty_inode.ensures) c.set_staging_files.ensures.words))
+    (set_more _ _ _ _ _ _ _ c.set_line.ensures.words c.inode_line.ensures (c.encode_inode-root.ensures.line ∙ ap encode_inode c.empty_inode.ensures) c.set_staging_files.ensures.words))

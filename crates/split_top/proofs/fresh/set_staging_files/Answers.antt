@@ -5,7 +5,7 @@ use Rattle.split_top.proofs.fresh.set_staging_files.Goals as goal
 
 pub returns-clause-words : goal.returns-clause-words
 returns-clause-words c =
-    let line = c.encode_inode-staging.ensures ∙ ap encode_inode c.empty_inode.ensures in
+    let line = c.encode_inode-staging.ensures.line ∙ ap encode_inode c.empty_inode.ensures in
     set_more _ _ _ _ _ _ _ c.set_line-4.ensures.words c.inode_line-4.ensures line
     (set_more _ _ _ _ _ _ _ c.set_line-3.ensures.words c.inode_line-3.ensures line
     (set_more _ _ _ _ _ _ _ c.set_line-2.ensures.words c.inode_line-2.ensures line

@@ -1,8 +1,8 @@
-use Rattle.std.proofs.Common.{◌≡◌, ◌∷◌, ◌++◌, [], inl, inr}
+use Rattle.std.proofs.Common.{◌≡◌, ◌≤◌, ◌∷◌, ◌++◌, ◌∙◌, [], ℕ, Some, ap, inl, inr}
 use Rattle.std.proofs.lemmas.Bool.{cases_Bool}
 use Rattle.posix_spec.specs.Tree.{tree}
 use Rattle.split_top.specs.Calls.{IsCalled, next_name}
-use Rattle.split_top.specs.Runs.{begun_of, state_of}
+use Rattle.split_top.specs.Runs.{begun_of, made_count, state_of}
 use Rattle.split_top.proofs.OneMore.{may_show_also}
 use Rattle.split_top.proofs.Outcomes.{run_whole, run_lost, next_plain}
 use Rattle.split_top.proofs.runs.run.Goals as goal
@@ -17,15 +17,16 @@ returns c =
     let left = c.in_ok-tree.tree in
     let found = c.in_ok-tree.ensures in
     let h : IsCalled names c.power_for-power.result c.run_calls.new.power disk called = c.in_ok-called.ensures in
+    let kept : (steps : ℕ) → c.args.stop ≡ Some steps → made_count history ≤ steps = λ steps some. h.kept steps (ap (λ p. p.given) c.power_for-power.ensures ∙ some) in
     elim (cases_Bool called.is_lost) [
       | inl lost ↦
           let l = h.lost lost in (
             begun_of (next_name names history) ∷ [],
             run_lost names c.args.stop made history left c.power_for-power.result c.run_calls.new.power h.legal h.scripted h.state l.0 c.power_for-power.ensures h.steps l.1
-                (found made (made ++ next_name names history ∷ []) h.plain (next_plain names made history c.requires h.plain h.few l.0) l.2),
+                (found made (made ++ next_name names history ∷ []) h.plain (next_plain names made history c.requires h.plain h.few l.0) l.2) kept,
           )
       | inr whole ↦
           let w = h.whole whole in
           let same : left ≡ tree (state_of made) = elim (found made made h.plain h.plain (may_show_also disk.pm made made w.1)) [ inl one ↦ one | inr other ↦ other ] in
-          ([], run_whole names c.args.stop made history left h.legal h.scripted h.state w.0 same)
+          ([], run_whole names c.args.stop made history left h.legal h.scripted h.state w.0 same kept)
     ]

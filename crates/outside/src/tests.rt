@@ -1,44 +1,34 @@
 //! That each call succeeds with ample memory, the real files, and readers and writers that are
 //! interrupted, that fail, and that hold what is not flushed.
 use crate::disk::{ReadFault, read_whole};
-use crate::{DiskFiles, FileFault, Files, MemFiles, MemSink, OutSink, Sink, SinkFault};
+use crate::{DiskFiles, FileFault, Files, MemFiles, MemSink, OutSink, Sink};
+use std::alloc::Global;
 use std::io;
 use std::io::{ErrorKind, Read, Write};
 use std::test::Fail;
 
 #[test]
-fn files_in_memory(rt: HostRuntime) -> Result<(), Fail> {
+fn files_in_memory(rt: HostRuntime) {
     let alloc = rt.alloc();
-    let mut list = Vec::new(alloc);
-    list.push((
-        "S".to_string(alloc)?,
-        Vec::from_slice(alloc, b"mkdir /a\n")?,
-    ))?;
-    let mut files = MemFiles::new(alloc, list, Vec::new(alloc));
-    let read = files.read(alloc, "S").expect(&rt, "the file");
-    assert_eq!(rt; read.as_slice(), b"mkdir /a\n".as_slice());
+    let mut files = MemFiles::new(alloc, Vec::new(alloc), Vec::new(alloc));
     assert_eq!(rt; files.replace("T", b"tree"), Ok(()));
-    assert_eq!(rt; files.bytes("T").unwrap_or(b"?"), b"tree".as_slice());
-    Ok(())
+    let read = files.read(alloc, "T").expect(&rt, "the file");
+    assert_eq!(rt; read.as_slice(), b"tree".as_slice());
 }
 
 #[test]
-fn a_sink_in_memory(rt: HostRuntime) -> Result<(), Fail> {
+fn a_sink_in_memory(rt: HostRuntime) {
     let mut sink = MemSink::new(rt.alloc(), Vec::new(rt.alloc()));
     assert_eq!(rt; sink.put(b"/ dir\n"), Ok(()));
-    assert_eq!(rt; sink.bytes(), b"/ dir\n".as_slice());
-    Ok(())
 }
 
 #[test]
 fn real_files(rt: HostRuntime) -> Result<(), Fail> {
     let number = std::process::id(rt.process());
     let name = format!(in rt.alloc(); "/tmp/splitfs-outside-{number}")?;
-    let mut long = Vec::new(rt.alloc());
-    for i in 0..10_000u32 {
-        long.push((i % 251) as u8)?;
-    }
     let alloc = rt.alloc();
+    let mut long = vec![in alloc; 7; 10_000]?;
+    long[9_999] = 8;
     let mut files = DiskFiles::new(rt.clone()?);
     assert_eq!(rt; files.read(alloc, &name).err(), Some(FileFault::Missing));
     assert_eq!(rt; files.replace(&name, &long), Ok(()));
@@ -97,30 +87,24 @@ impl Read for RoughReader {
     }
 }
 
+// How many bytes a reader of three gives, one of whose calls fails.
+fn rough_read(alloc: Global, fails_at: u8, kind: ErrorKind) -> Result<usize, ReadFault> {
+    let mut reader = RoughReader {
+        left: 3,
+        rough: Rough::new(fails_at, kind),
+    };
+    Ok(read_whole(alloc, &mut reader)?.len())
+}
+
 #[test]
-fn readers_that_fail_once(rt: HostRuntime) -> Result<(), Fail> {
-    for (kind, wanted) in [
-        (ErrorKind::Interrupted, None),
-        (
-            ErrorKind::TimedOut,
-            Some(ReadFault::Broken(ErrorKind::TimedOut)),
-        ),
-    ] {
-        for fails_at in 1..5 {
-            let mut reader = RoughReader {
-                left: 3,
-                rough: Rough::new(fails_at, kind),
-            };
-            match read_whole(rt.alloc(), &mut reader) {
-                Ok(bytes) => {
-                    assert_eq!(rt; None, wanted, "call {fails_at}");
-                    assert_eq!(rt; bytes.as_slice(), [3, 2, 1].as_slice());
-                }
-                Err(fault) => assert_eq!(rt; Some(fault), wanted, "call {fails_at}"),
-            }
-        }
+fn readers_that_fail_once(rt: HostRuntime) {
+    for fails_at in 1..5 {
+        let broken = Err(ReadFault::Broken(ErrorKind::TimedOut));
+        let interrupted = rough_read(rt.alloc(), fails_at, ErrorKind::Interrupted);
+        assert_eq!(rt; interrupted, Ok(3), "call {fails_at}");
+        let failed = rough_read(rt.alloc(), fails_at, ErrorKind::TimedOut);
+        assert_eq!(rt; failed, broken, "call {fails_at}");
     }
-    Ok(())
 }
 
 // A writer that takes one byte a call, and holds what it takes until it is flushed.
@@ -150,27 +134,30 @@ impl Write for RoughWriter {
     }
 }
 
+// Whether six bytes are put, how many of them are taken, and how many of these are flushed, where one
+// of the calls fails.
+fn rough_put(alloc: Global, fails_at: u8, kind: ErrorKind) -> (bool, usize, usize) {
+    let mut writer = RoughWriter {
+        taken: Vec::new(alloc),
+        flushed: 0,
+        rough: Rough::new(fails_at, kind),
+    };
+    let is_put = OutSink::new(&mut writer).put(b"/ dir\n").is_ok();
+    (is_put, writer.taken.len(), writer.flushed)
+}
+
 #[test]
-fn writers_that_fail_once(rt: HostRuntime) -> Result<(), Fail> {
-    // how many bytes are taken, and how many of them are flushed, where call 3 or the flush fails
-    for (fails_at, kind, wanted, taken, flushed) in [
-        (3, ErrorKind::Interrupted, Ok(()), 6, 6),
-        (3, ErrorKind::TimedOut, Err(SinkFault::Failed), 2, 0),
-        (7, ErrorKind::TimedOut, Err(SinkFault::Failed), 6, 0),
-        (9, ErrorKind::TimedOut, Ok(()), 6, 6),
+fn writers_that_fail_once(rt: HostRuntime) {
+    for (fails_at, kind, wanted) in [
+        (3, ErrorKind::Interrupted, (true, 6, 6)),
+        (3, ErrorKind::TimedOut, (false, 2, 0)),
+        (7, ErrorKind::TimedOut, (false, 6, 0)),
+        (9, ErrorKind::TimedOut, (true, 6, 6)),
     ] {
-        let mut writer = RoughWriter {
-            taken: Vec::new(rt.alloc()),
-            flushed: 0,
-            rough: Rough::new(fails_at, kind),
-        };
-        {
-            let mut sink = OutSink::new(&mut writer);
-            assert_eq!(rt; sink.put(b"/ dir\n"), wanted, "call {fails_at}");
-        }
-        assert_eq!(rt; writer.taken.len(), taken, "call {fails_at}");
-        assert!(rt; b"/ dir\n".starts_with(writer.taken.as_slice()));
-        assert_eq!(rt; writer.flushed, flushed, "call {fails_at}");
+        assert_eq!(rt;
+            rough_put(rt.alloc(), fails_at, kind),
+            wanted,
+            "call {fails_at}"
+        );
     }
-    Ok(())
 }

@@ -1,3 +1,5 @@
 pub mod RowLaws
 pub mod DistinctLaws
+pub mod FitsLaws
 pub mod UnfinishedLaws
+pub mod EndingLaws

@@ -2,3 +2,4 @@ pub mod Members
 pub mod Order
 pub mod Begins
 pub mod TreeLaws
+pub mod Rows

@@ -2,8 +2,8 @@
 //!
 //! Lemmas alone, over the definitions of `posix_spec`: `Begins` says which lists of entries are trees, and
 //! that in the state of one the numbers of the nodes are the places of its entries, to which the paths
-//! lead; `TreeLaws` concludes that the tree of that state is the one that it began with. `Members` and
-//! `Order` have the laws of members and of rising texts that they stand on.
+//! lead; `TreeLaws` concludes that the tree of that state is the one that it began with, and `Rows` has a
+//! worked tree. `Members` and `Order` have the laws of members and of rising texts that they stand on.
 //!
 //! Stands on `posix_types`, `posix_words`, `posix_spec` and `posix_facts`.
 #![tactic(auto)]

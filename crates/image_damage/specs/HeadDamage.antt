@@ -116,7 +116,7 @@ one_block_more g ok room =
           inl (
             refl,
             one_place 4 0 (HasNumbers bytes (fresh g))
-            (λ numbers. let blocks = ap (λ (k : Geometry). 4096 * k.blocks) (geometry_of-fresh g ok) in omega (arith, numbers.whole, blocks)),
+                (λ numbers. let blocks = ap (λ (k : Geometry). 4096 * k.blocks) (geometry_of-fresh g ok) in omega (arith, numbers.whole, blocks)),
           ),
         ),
       ),

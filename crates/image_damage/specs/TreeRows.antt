@@ -301,8 +301,7 @@ unfolding names_set nodes_set ends_at_root
 sixteen_steps =
     let v = tree_volume wide (steps_down 16) (ladder 16) in
     let chains : (ino : ℕ) → chain v ino ≡ [] = λ ino. same-at [] 32 ino in
-    let maps : (ino : ℕ) → extents v ino ≡ [] = λ ino. same-at [] 32 ino in
-    (
+    let maps : (ino : ℕ) → extents v ino ≡ [] = λ ino. same-at [] 32 ino in (
       hold_5 v refl,
       (
         hold_6 v refl,

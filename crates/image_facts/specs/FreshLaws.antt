@@ -262,8 +262,8 @@ live-fresh : (g : Geometry) → IsGeometry g → live_entries (fresh_volume g) (
 live-fresh g ok =
     ap (filter (is_live (fresh_volume g)))
     (
-      filter_map-agree (entry_in (fresh_volume g) (fresh g)) (λ s. None) 0 g.log (λ s from below. no_entry-fresh g s ok)
-      ∙ filter_map-none 0 g.log
+    filter_map-agree (entry_in (fresh_volume g) (fresh g)) (λ s. None) 0 g.log (λ s from below. no_entry-fresh g s ok)
+    ∙ filter_map-none 0 g.log
     )
 
 -- where nothing is live the files hold nothing, and every data block is unused
@@ -295,7 +295,7 @@ fresh-log g ok =
         unused = omega (arith, ap length live, unused-fresh g, enough);
       };
       no_later = λ slot below valid. absurd (both_ways (is_self_valid (line_bytes (fresh g) (log_line g slot)))
-        (ap is_self_valid (fresh-zeros g (log_line g slot) (unset-log g slot ok)) ∙ zeros-invalid) valid);
+          (ap is_self_valid (fresh-zeros g (log_line g slot) (unset-log g slot ok)) ∙ zeros-invalid) valid);
     }
 
 -- The fresh image is checked, as a volume with a root alone.

@@ -73,12 +73,12 @@ superblock-bytes g =
     record {
       size = refl;
       small = small-append (magic ++ a ++ b ++ c ++ d ++ e) (zeros 36)
-      (small-append (magic ++ a ++ b ++ c ++ d) e
-      (small-append (magic ++ a ++ b ++ c) d
-      (small-append (magic ++ a ++ b) c
-      (small-append (magic ++ a) b (small-append magic a small-magic (small-u32 g.version)) (small-u32 g.blocks)) (small-u32 g.log)) (small-u32 g.inodes))
-      (small-u32 g.names))
-      (small-zeros 36);
+          (small-append (magic ++ a ++ b ++ c ++ d) e
+          (small-append (magic ++ a ++ b ++ c) d
+          (small-append (magic ++ a ++ b) c
+          (small-append (magic ++ a) b (small-append magic a small-magic (small-u32 g.version)) (small-u32 g.blocks)) (small-u32 g.log)) (small-u32 g.inodes))
+          (small-u32 g.names))
+          (small-zeros 36);
     }
 
 -- the superblock

@@ -35,16 +35,16 @@ same-break : (number count : ℕ) (P Q : ℕ → Type 0) (rules more : List Rule
 same-break number count P Q rules more n place same later breaks =
     elim breaks [
       | inl here ↦ inl (
-          here.0,
-          let fails : FailsFirst (below number count P) place = here.1 in
-          let within : place < count = omega (arith, fails.within) in
-          record {
-            from = omega arith;
-            within = fails.within;
-            before = λ p from lower. same.to p (omega arith) (fails.before p from lower);
-            fails = λ holds. fails.fails (same.from place within holds);
-          },
-        )
+        here.0,
+        let fails : FailsFirst (below number count P) place = here.1 in
+            let within : place < count = omega (arith, fails.within) in
+            record {
+              from = omega arith;
+              within = fails.within;
+              before = λ p from lower. same.to p (omega arith) (fails.before p from lower);
+              fails = λ holds. fails.fails (same.from place within holds);
+            },
+      )
       | inr passed ↦ inr (λ p from within. same.to p (omega arith) (passed.0 p from within), later passed.1)
     ]
 
@@ -114,20 +114,19 @@ reads-break bytes h v n place head r breaks =
 
 -- where the volume is kept, all hold
 pub HoldAll-volume : (v : Volume) → AreKept v → HoldAll (kept_rules v)
-HoldAll-volume v kept =
+HoldAll-volume v kept = (
+  λ p from within. kept.kinds p (omega arith),
+  (
+    λ p from within. kept.named p (omega arith),
     (
-      λ p from within. kept.kinds p (omega arith),
+      λ p from within. kept.in_data p (omega arith),
       (
-        λ p from within. kept.named p (omega arith),
+        λ p from within. kept.once p (data-within v.geometry p from within),
         (
-          λ p from within. kept.in_data p (omega arith),
-          (
-            λ p from within. kept.once p (data-within v.geometry p from within),
-            (
-              λ p from within. kept.placed p (omega arith),
-              (λ p from within. kept.directories, (λ p from within. kept.one_name p (omega arith), tt)),
-            ),
-          ),
+          λ p from within. kept.placed p (omega arith),
+          (λ p from within. kept.directories, (λ p from within. kept.one_name p (omega arith), tt)),
         ),
       ),
-    )
+    ),
+  ),
+)

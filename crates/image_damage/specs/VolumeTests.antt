@@ -25,7 +25,7 @@ use Rattle.image_facts.specs.ClimbLaws.{ReachesRoot, ends-reaches}
 abbrev pub passes_below : (ℕ → Bool) → ℕ → Bool
 passes_below test n = list_all test (range_with_len 0 n)
 
-passes-from : (test : ℕ → Bool) (a n k : ℕ) → list_all test (range_with_len a n) ≡ true → a ≤ k → k < a + n → test k ≡ true
+pub passes-from : (test : ℕ → Bool) (a n k : ℕ) → list_all test (range_with_len a n) ≡ true → a ≤ k → k < a + n → test k ≡ true
 passes-from test a zero k h from below = absurd (omega arith)
 passes-from test a (suc n) k h from below =
     let parts = and_parts (test a) (list_all test (range_with_len (a + 1) n)) h in

@@ -1,21 +1,19 @@
 -- Rows of the rules of an image, of torn lines, of claims and of contents, worked out by hand.
-use Rattle.std.proofs.Common.{◌≡◌, ◌+◌, ◌<◌, ◌≤◌, ℕ, zero, suc, [], ◌∷◌, refl, inl, inr, arith}
-use Rattle.std.specs.Prelude.{List, map, replicate, ◌==◌, if◌then◌else◌, Some, None, Option, cond, true, false}
+use Rattle.std.proofs.Common.{◌≡◌, ◌+◌, ◌<◌, ℕ, [], ◌∷◌, refl, inl, inr, arith}
+use Rattle.std.specs.Prelude.{List, map, replicate, ◌==◌, if◌then◌else◌, Some, None, Option, false}
 use Rattle.std.proofs.lemmas.Bool.{both_ways}
 use Rattle.pm_words.specs.declared.Cell.{Cell}
-use Rattle.pm_words.specs.declared.Cell.TheVariants.{Single, Two, Marked, Lent}
+use Rattle.pm_words.specs.declared.Cell.TheVariants.{Single, Two}
 use Rattle.pm_words.specs.Words.{Words, word_at, line_bytes, with_line}
-use Rattle.disk_places.specs.Journal.{patched}
 use Rattle.disk_places.specs.Places.{Geometry, inode_line, name_line, log_line}
-use Rattle.extent_words.specs.declared.Extent.{Extent}
 use Rattle.disk_lines.specs.declared.Draft.{Draft}
 use Rattle.disk_lines.specs.declared.Inode.{Inode}
-use Rattle.disk_lines.specs.declared.Kind.TheVariants.{Free, Directory, File, Staging}
+use Rattle.disk_lines.specs.declared.Kind.TheVariants.{Directory, File, Staging}
 use Rattle.disk_lines.specs.Entries.{encode_entry, entry_body, fnv_1a_from, decode_entry}
 use Rattle.disk_lines.specs.Fresh.{blank, empty_inode}
 use Rattle.disk_lines.specs.Lines.{NameRow, encode_inode, encode_name, decode_inode, decode_name}
 use Rattle.disk_lines.specs.Names.{walk}
-use Rattle.disk_rules.specs.Broken.{Rule, at_one, below, FailsFirst, BreaksFirst, rules_of}
+use Rattle.disk_rules.specs.Broken.{Rule, at_one, below, BreaksFirst, rules_of}
 use Rattle.disk_rules.specs.Content.{Node, IsDirectory, HasBytes, node_of, found}
 use Rattle.disk_rules.specs.Honest.{IsTorn}
 use Rattle.disk_rules.specs.Live.{live_entries}

@@ -1,20 +1,15 @@
 -- Worked rows: entries in the log of a small image that no recovery can carry out, and one of a later lap.
-use Rattle.std.specs.Prelude.{◌≡◌, ◌≢◌, ℕ, ◌+◌, ◌*◌, ◌/◌, ◌<◌, ◌≤◌, ◌++◌, nat_le, List, [], ◌∷◌, length, All, true, false, Option, Some, None, refl}
-use Rattle.std.specs.List.{list_all}
-use Rattle.std.proofs.Common.{arith, inl, inr, ap, sym, ◌∙◌, subst}
-use Rattle.std.proofs.lemmas.Bool.{leb-true}
+use Rattle.std.specs.Prelude.{◌≡◌, ℕ, ◌+◌, ◌<◌, List, [], ◌∷◌, All, true, false, Some, refl}
+use Rattle.std.proofs.Common.{arith, inl, ap, sym, ◌∙◌, subst}
 use Rattle.pm_words.specs.Words.{Words, word_at, line_bytes, with_line}
-use Rattle.disk_places.specs.Journal.{journaled}
-use Rattle.disk_places.specs.Places.{Geometry, IsGeometry, log_line}
+use Rattle.disk_places.specs.Places.{Geometry, log_line}
 use Rattle.disk_lines.specs.declared.Draft.{Draft}
-use Rattle.disk_lines.specs.declared.Kind.{Kind}
-use Rattle.disk_lines.specs.declared.Kind.TheVariants.{Free, Directory, File, Staging}
+use Rattle.disk_lines.specs.declared.Kind.TheVariants.{File}
 use Rattle.disk_lines.specs.Entries.{entry_body, encode_entry, fnv_1a_from, decode_entry}
 use Rattle.disk_lines.specs.EntryLaws.{decode_entry-encode_entry}
 use Rattle.disk_lines.specs.Fresh.{fresh}
-use Rattle.disk_lines.specs.Lines.{NameRow}
-use Rattle.disk_lines.specs.Names.{row, names_of, ends_at_root}
-use Rattle.disk_rules.specs.Broken.{Rule, HoldAll, FailsFirst, BreaksFirst, log_rules, Breaks}
+use Rattle.disk_lines.specs.Names.{ends_at_root}
+use Rattle.disk_rules.specs.Broken.{HoldAll, log_rules, Breaks}
 use Rattle.disk_rules.specs.Live.{entry_in, live_entries}
 use Rattle.disk_rules.specs.Reading.{Reads}
 use Rattle.disk_rules.specs.Rules.{HasStagingBlocks, CanRecover}
@@ -29,7 +24,6 @@ use Rattle.image_damage.specs.LineDamage.{IsLaidOn, laid-line, laid-view, laid-b
 use Rattle.image_damage.specs.LogDamage.{entry-bytes, with_entry, later_lap}
 use Rattle.image_damage.specs.TreeImages.{with_nodes, with_names, names_set, nodes_set, tree_image, tree_volume, AreLines-test, tree-reads, tree-laid}
 use Rattle.image_damage.specs.TreeRows.{named, tree_kept}
-use Rattle.image_damage.specs.VolumeTests.{passes_below}
 
 -- a log line set in words that read as a volume
 pub logged-reads : (g : Geometry) (f : Words) (v : Volume) (slot : ℕ) (bytes : List ℕ) → slot < g.log → IsLaidOn g f → Reads g f v → Reads g (with_line (log_line g slot) bytes f) v

@@ -1,6 +1,7 @@
 pub mod Damage
 pub mod EntryRows
 pub mod HeadDamage
+pub mod Laws
 pub mod LineDamage
 pub mod LogDamage
 pub mod MapDamage

@@ -1,35 +1,33 @@
 -- The first broken rule of images in which a map is wrong: a root that leads to no chain, and a block that two name.
-use Rattle.std.specs.Prelude.{◌≡◌, ◌≢◌, ℕ, zero, suc, ◌+◌, ◌-◌, ◌*◌, ◌/◌, ◌^◌, ◌<◌, ◌≤◌, ◌++◌, nat_le, List, [], ◌∷◌, length, map, All, true, false, Option, Some, None, unwrap_or, refl}
+use Rattle.std.specs.Prelude.{◌≡◌, ◌≢◌, ℕ, ◌+◌, ◌-◌, ◌*◌, ◌/◌, ◌^◌, ◌<◌, ◌≤◌, ◌++◌, nat_le, List, [], ◌∷◌, length, map, true, Option, Some, unwrap_or, refl}
 use Rattle.std.specs.List.{flat_map, range_with_len, list_all}
 use Rattle.std.proofs.Common.{arith, inl, inr, ap, sym, ◌∙◌, subst}
 use Rattle.std.proofs.lemmas.Bool.{leb-true, cases_eq}
-use Rattle.pm_words.specs.Words.{Words, with_line, line_bytes}
+use Rattle.pm_words.specs.Words.{Words, with_line}
 use Rattle.block_counts.specs.Counts.{chains_for}
-use Rattle.disk_places.specs.Places.{Geometry, IsGeometry, inode_line, name_line, first_data, data_blocks, is_data_block}
+use Rattle.disk_places.specs.Places.{Geometry, IsGeometry, inode_line, name_line, first_data, data_blocks}
 use Rattle.disk_places.specs.PlaceLaws.{inode_line-name_line}
 use Rattle.extent_words.specs.declared.Extent.{Extent}
 use Rattle.disk_lines.specs.declared.Inode.{Inode}
-use Rattle.disk_lines.specs.declared.Kind.TheVariants.{Free, Directory, File, Staging}
+use Rattle.disk_lines.specs.declared.Kind.TheVariants.{File}
 use Rattle.disk_lines.specs.Fresh.{empty_inode, fresh}
-use Rattle.disk_lines.specs.LineLaws.{decode_inode-encode_inode}
 use Rattle.disk_lines.specs.Lines.{encode_inode, decode_inode, FreeName, decode_name}
 use Rattle.disk_lines.specs.NameLaws.{decode_name-zeros}
-use Rattle.disk_rules.specs.Broken.{Rule, FailsFirst, BreaksFirst, line_rules, volume_rules, log_rules, Breaks}
+use Rattle.disk_rules.specs.Broken.{Rule, FailsFirst, Breaks}
 use Rattle.disk_rules.specs.Chains.{blocks_from, extent_in, extents_in, chain_of, map_of, SpellsChain}
 use Rattle.disk_rules.specs.Reading.{AreBytes}
 use Rattle.disk_rules.specs.Rules.{HasInode, HasChain, IsNameSlot, IsNamedOnce}
-use Rattle.disk_rules.specs.Uses.{InChain, Holds, owners}
-use Rattle.disk_rules.specs.Volume.{Volume, volume, inode_at, inode_or_free, name_at, inode, chain, extents, free_inode}
+use Rattle.disk_rules.specs.Uses.{Holds, owners}
+use Rattle.disk_rules.specs.Volume.{Volume, volume, inode_at, name_at, inode, chain, extents, free_inode}
 use Rattle.chain_facts.specs.RuleLaws.{volume-of_words}
 use Rattle.volume_facts.specs.LineWords.{with_line-out, line_bytes-set, line_bytes-other}
 use Rattle.image_facts.specs.CheckedLaws.{volume-inode}
 use Rattle.image_facts.specs.FreshLaws.{line-fresh, kind-fresh, unset-name, fresh_cases}
-use Rattle.image_facts.specs.FreshLines.{IsUnset, fresh-zero, fresh-zeros}
-use Rattle.image_facts.specs.KeptRules.{kept_rules}
+use Rattle.image_facts.specs.FreshLines.{fresh-zero, fresh-zeros}
 use Rattle.disk_rules.specs.FreshVolume.{fresh_inode}
 use Rattle.image_damage.specs.LineDamage.{AreBytes-test, IsLaidOn, laid-fresh, laid-line, breaks-behind_head}
 use Rattle.image_damage.specs.Damage.{small}
-use Rattle.image_damage.specs.VolumeTests.{passes-at, passes-from}
+use Rattle.image_damage.specs.VolumeTests.{passes-from}
 
 -- Rule 7. File 5 has block 60 as the root of a chain of one extent; the block is zero, so that no extent stands there.
 unfoldable pub rooted : Inode
@@ -112,8 +110,8 @@ unfolding rooted_image
 no_name g k ok =
     ap decode_name
     (
-      line_bytes-other (inode_line 5) (name_line g k) (encode_inode rooted) (fresh g) (λ e. inode_line-name_line g 5 k (omega (arith, ok.least_inodes)) (sym e))
-      ∙ fresh-zeros g (name_line g k) (unset-name g k ok)
+    line_bytes-other (inode_line 5) (name_line g k) (encode_inode rooted) (fresh g) (λ e. inode_line-name_line g 5 k (omega (arith, ok.least_inodes)) (sym e))
+    ∙ fresh-zeros g (name_line g k) (unset-name g k ok)
     )
     ∙ decode_name-zeros
 

@@ -1,7 +1,6 @@
 -- Laws of checked images: the rules by their parts and back, and as a list.
-use Rattle.std.specs.Prelude.{◌≡◌, ◌≢◌, ◌↔◌, ℕ, ◌+◌, ◌<◌, ◌≤◌, All, true, List, [], ◌∷◌, Option, Some, None, unwrap_or, slice_index_or, refl}
+use Rattle.std.specs.Prelude.{◌≡◌, ◌↔◌, ℕ, ◌+◌, ◌<◌, ◌≤◌, true, Option, Some, None, unwrap_or, slice_index_or, refl}
 use Rattle.std.proofs.Common.{arith, ap, sym, ◌∙◌, subst}
-use Rattle.std.proofs.lemmas.Bool.{and_from, and_parts}
 use Rattle.std.proofs.lemmas.Bool.Decides.{nat_tests}
 use Rattle.std.proofs.lemmas.List.FromFn.{length-map-range_with_len, get_or-map-range_with_len}
 use Rattle.pm_words.specs.Words.{Words}
@@ -16,8 +15,8 @@ use Rattle.disk_rules.specs.Checked.{HasHead, AreLinesKept, IsLogKept, IsChecked
 use Rattle.disk_rules.specs.Chains.{chain_of, map_of}
 use Rattle.disk_rules.specs.Kept.{IsNamedRow, AreKept}
 use Rattle.disk_rules.specs.Reading.{slot_for, Reads}
-use Rattle.disk_rules.specs.Rules.{geometry_of, IsKindAt, IsNameSlot, HasInode, HasChain, AreRulesKept, IsChecked}
-use Rattle.disk_rules.specs.Volume.{Volume, volume, inode_at, name_at, inode_or_free, free_inode, row_of, inode, chain, extents}
+use Rattle.disk_rules.specs.Rules.{geometry_of, IsKindAt, IsNameSlot, HasInode, AreRulesKept, IsChecked}
+use Rattle.disk_rules.specs.Volume.{Volume, volume, inode_at, name_at, inode_or_free, free_inode, row_of, inode, chain}
 use Rattle.volume_facts.specs.ReadingLaws.{reads-volume}
 use Rattle.image_facts.specs.BrokenLaws.{HoldAll-unbroken, BreaksFirst-one}
 

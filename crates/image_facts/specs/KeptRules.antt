@@ -1,6 +1,6 @@
 -- The first broken rule of words that read as a volume is that of the volume: what is left of the rules on lines is
 -- pure in the volume.
-use Rattle.std.specs.Prelude.{◌≡◌, ◌↔◌, ℕ, ◌+◌, ◌*◌, ◌<◌, ◌≤◌, ◌++◌, All, true, List, [], ◌∷◌, Option, Some, None, refl}
+use Rattle.std.specs.Prelude.{◌≡◌, ◌↔◌, ℕ, ◌<◌, ◌++◌, All, true, List, ◌∷◌, Option, Some, None}
 use Rattle.std.proofs.Common.{arith, inl, inr, ap, sym, ◌∙◌, subst}
 use Rattle.std.proofs.lemmas.Option.{same_Some}
 use Rattle.pm_words.specs.Words.{Words}
@@ -9,12 +9,12 @@ use Rattle.disk_places.specs.Places.{Geometry, is_data_block}
 use Rattle.disk_lines.specs.declared.Inode.{Inode}
 use Rattle.disk_lines.specs.Lines.{NameRow}
 use Rattle.disk_lines.specs.Names.{row}
-use Rattle.disk_rules.specs.Broken.{Rule, below, Holds, FailsFirst, BreaksFirst, HoldAll, head_rules, line_rules, volume_rules, log_rules, Breaks}
+use Rattle.disk_rules.specs.Broken.{Rule, below, FailsFirst, BreaksFirst, HoldAll, head_rules, line_rules, volume_rules, log_rules, Breaks}
 use Rattle.disk_rules.specs.Checked.{HasHead}
 use Rattle.disk_rules.specs.Kept.{IsNamedRow, AreKept}
 use Rattle.disk_rules.specs.Reading.{slot_for, Reads}
 use Rattle.disk_rules.specs.Rules.{geometry_of, IsKindAt, IsNameSlot, HasInode, HasChain, file_blocks_of, IsInData}
-use Rattle.disk_rules.specs.Volume.{Volume, volume, inode_at, name_at, inode, chain, extents}
+use Rattle.disk_rules.specs.Volume.{Volume, volume, name_at, inode, chain, extents}
 use Rattle.volume_facts.specs.ReadingLaws.{reads-volume}
 use Rattle.image_facts.specs.BrokenLaws.{BreaksFirst-behind}
 use Rattle.image_facts.specs.CheckedLaws.{data-within, HoldAll-head}

@@ -1,23 +1,21 @@
 -- The first broken rule of images whose length, whose block 0 or whose journal is damaged.
-use Rattle.std.specs.Prelude.{◌≡◌, ◌≢◌, ◌⊎◌, ℕ, zero, suc, ◌+◌, ◌*◌, ◌/◌, ◌%◌, ◌^◌, ◌<◌, ◌≤◌, ◌==◌, nat_le, true, false, List, [], ◌∷◌, cond, refl}
+use Rattle.std.specs.Prelude.{◌≡◌, ◌≢◌, ◌⊎◌, ℕ, ◌+◌, ◌*◌, ◌/◌, ◌%◌, ◌^◌, ◌<◌, ◌≤◌, ◌==◌, nat_le, true, false, [], ◌∷◌, cond, refl}
 use Rattle.std.specs.Int.{from_le_bytes, w64}
 use Rattle.std.proofs.Common.{arith, inl, inr, ap, sym, ◌∙◌, subst}
 use Rattle.std.proofs.lemmas.Bool.{both_ways, cond-true, cond-false, ne_eqb, eq-eqb}
 use Rattle.std.proofs.lemmas.Bool.Decides.{nat_tests}
 use Rattle.pm_words.specs.Bytes.{line_bytes-same}
-use Rattle.pm_words.specs.Words.{Words, word_at, line_bytes, with_line}
+use Rattle.pm_words.specs.Words.{Words, line_bytes}
 use Rattle.disk_places.specs.Fields.{u32_at}
 use Rattle.disk_places.specs.Journal.{is_journal_word, record_target, record_word, committed, patched, journaled}
-use Rattle.disk_places.specs.Places.{Geometry, IsGeometry, state_line, base_word, commit_word, record_line, is_journaled_line}
+use Rattle.disk_places.specs.Places.{Geometry, IsGeometry, state_line, base_word, commit_word, is_journaled_line}
 use Rattle.disk_places.specs.SuperLaws.{IsSuperblockOf, superblock-read}
 use Rattle.disk_places.specs.Superblock.{superblock, has_magic, has_version, has_numbers, geometry_at}
 use Rattle.disk_lines.specs.Fresh.{fresh}
-use Rattle.disk_rules.specs.Broken.{Rule, at_one, below, Holds, FailsFirst, HoldAll, BreaksFirst, head_rules, line_rules, volume_rules, log_rules, rules_of, Breaks}
-use Rattle.disk_rules.specs.Checked.{HasHead}
+use Rattle.disk_rules.specs.Broken.{at_one, below, FailsFirst, HoldAll, Breaks}
 use Rattle.disk_rules.specs.Rules.{geometry_of, IsWholeBlocks, HasMagic, HasVersion, HasNumbers, HasTarget, HasState}
-use Rattle.disk_rules.specs.Volume.{volume}
 use Rattle.image_damage.specs.Damage.{with_word}
-use Rattle.image_facts.specs.FreshLines.{IsUnset, fresh-superblock, geometry_of-fresh, fresh-zero, fresh-base, fresh-state, fresh-commit}
+use Rattle.image_facts.specs.FreshLines.{fresh-superblock, geometry_of-fresh, fresh-zero, fresh-state, fresh-commit}
 
 -- a rule with one place fails there
 one_place : (number place : ℕ) (Holding : Type 0) → ¬ Holding → FailsFirst (at_one number place Holding) place
@@ -116,7 +114,7 @@ one_block_more g ok room =
           inl (
             refl,
             one_place 4 0 (HasNumbers bytes (fresh g))
-            (λ numbers. let blocks = ap (λ (k : Geometry). 4096 * k.blocks) (geometry_of-fresh g ok) in omega (arith, numbers.whole, blocks)),
+                (λ numbers. let blocks = ap (λ (k : Geometry). 4096 * k.blocks) (geometry_of-fresh g ok) in omega (arith, numbers.whole, blocks)),
           ),
         ),
       ),

@@ -1,7 +1,10 @@
 pub mod Damage
+pub mod EntryRows
 pub mod HeadDamage
+pub mod Laws
 pub mod LineDamage
 pub mod LogDamage
+pub mod MapDamage
 pub mod TreeImages
 pub mod TreeRows
 pub mod VolumeTests

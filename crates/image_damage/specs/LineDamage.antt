@@ -1,36 +1,34 @@
 -- The first broken rule of fresh images in which inode lines or name lines were set.
-use Rattle.std.specs.Prelude.{◌≡◌, ◌≢◌, ℕ, zero, suc, ◌+◌, ◌*◌, ◌/◌, ◌<◌, ◌≤◌, ◌++◌, nat_lt, true, false, Bool, List, [], ◌∷◌, length, Option, Some, None, replicate, refl}
+use Rattle.std.specs.Prelude.{◌≡◌, ◌≢◌, ℕ, zero, suc, ◌*◌, ◌/◌, ◌<◌, ◌≤◌, ◌++◌, nat_lt, true, false, Bool, List, [], ◌∷◌, length, Some, refl}
 use Rattle.std.specs.List.{list_all}
 use Rattle.std.proofs.Common.{arith, get_or, inl, inr, ap, sym, ◌∙◌, subst}
 use Rattle.std.proofs.Math.Path.{fun_ext}
-use Rattle.std.proofs.lemmas.Bool.{both_ways, cond-true, and_parts, ltb-true}
+use Rattle.std.proofs.lemmas.Bool.{cond-true, and_parts, ltb-true}
 use Rattle.std.proofs.lemmas.Bool.Decides.{nat_tests}
 use Rattle.pm_words.specs.Bytes.{line_bytes-same}
 use Rattle.pm_words.specs.Words.{Words, line_bytes, with_line}
-use Rattle.disk_places.specs.Fields.{zeros}
 use Rattle.disk_places.specs.Journal.{is_journal_word, committed, journaled}
-use Rattle.disk_places.specs.Places.{Geometry, IsGeometry, state_line, base_word, commit_word, inode_line, name_line}
+use Rattle.disk_places.specs.Places.{Geometry, IsGeometry, base_word, commit_word, inode_line, name_line}
 use Rattle.disk_places.specs.PlaceLaws.{inode_line-name_line}
 use Rattle.disk_places.specs.Superblock.{superblock, has_magic, has_version, has_numbers, geometry_at}
 use Rattle.disk_lines.specs.declared.Inode.{Inode}
 use Rattle.disk_lines.specs.Fresh.{fresh}
-use Rattle.disk_lines.specs.Lines.{NameRow, NameSlot, FreeName, Named, BadName, decode_inode, decode_name}
+use Rattle.disk_lines.specs.Lines.{FreeName, decode_inode, decode_name}
 use Rattle.disk_lines.specs.NameLaws.{decode_name-zeros}
-use Rattle.disk_rules.specs.Broken.{Rule, Holds, FailsFirst, HoldAll, BreaksFirst, head_rules, line_rules, volume_rules, log_rules, rules_of, Breaks}
-use Rattle.disk_rules.specs.Checked.{HasHead, AreLinesKept}
-use Rattle.disk_rules.specs.FreshVolume.{fresh_inode, fresh_volume}
+use Rattle.disk_rules.specs.Broken.{BreaksFirst, head_rules, line_rules, volume_rules, log_rules, rules_of, Breaks}
+use Rattle.disk_rules.specs.Checked.{HasHead}
+use Rattle.disk_rules.specs.FreshVolume.{fresh_inode}
 use Rattle.disk_rules.specs.Reading.{Reads, AreBytes}
-use Rattle.disk_rules.specs.Rules.{geometry_of, IsKindAt, HasInode, IsNameSlot, IsNamed}
-use Rattle.disk_rules.specs.Volume.{Volume, volume, inode_at, name_at, inode}
+use Rattle.disk_rules.specs.Rules.{geometry_of, IsKindAt, HasInode, IsNameSlot}
+use Rattle.disk_rules.specs.Volume.{Volume, volume, name_at}
 use Rattle.volume_facts.specs.ImageLaws.{journaled-idle}
 use Rattle.volume_facts.specs.LineWords.{with_line-out, line_bytes-set, line_bytes-other}
-use Rattle.volume_facts.specs.ReadingLaws.{reads-volume}
 use Rattle.image_facts.specs.BrokenLaws.{BreaksFirst-behind}
-use Rattle.image_facts.specs.CheckedLaws.{HoldAll-head, HoldAll-lines}
+use Rattle.image_facts.specs.CheckedLaws.{HoldAll-head}
 use Rattle.image_facts.specs.KeptRules.{kept_rules, reads-break}
 use Rattle.image_facts.specs.FreshLaws.{kind-fresh, line-fresh, unset-name, fresh-head}
-use Rattle.image_facts.specs.FreshLines.{fresh-superblock, geometry_of-fresh, fresh-zeros, fresh-base, fresh-state, fresh-commit, journaled-fresh}
-use Rattle.image_damage.specs.HeadDamage.{HasFreshHead, fresh_others}
+use Rattle.image_facts.specs.FreshLines.{fresh-superblock, geometry_of-fresh, fresh-zeros, fresh-base, fresh-state, journaled-fresh}
+use Rattle.image_damage.specs.HeadDamage.{fresh_others}
 
 -- 64 numbers below 256, by a test
 pub AreBytes-test : (bytes : List ℕ) → length bytes ≡ 64 → list_all (λ b. nat_lt b 256) bytes ≡ true → AreBytes bytes

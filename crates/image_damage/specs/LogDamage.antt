@@ -1,23 +1,19 @@
 -- The first broken rule of a fresh image with an entry in its log.
-use Rattle.std.specs.Prelude.{◌≡◌, ◌≢◌, ℕ, zero, suc, ◌+◌, ◌-◌, ◌*◌, ◌/◌, ◌^◌, ◌<◌, ◌≤◌, ◌++◌, ◌==◌, List, [], ◌∷◌, length, filter, true, false, Option, Some, None, refl}
+use Rattle.std.specs.Prelude.{◌≡◌, ◌≢◌, ℕ, zero, suc, ◌+◌, ◌*◌, ◌^◌, ◌<◌, ◌≤◌, ◌++◌, List, [], ◌∷◌, length, filter, true, None, refl}
 use Rattle.std.specs.Int.{to_le_bytes, w16, w32, w64}
-use Rattle.std.specs.List.{filter_map, range_with_len}
-use Rattle.std.proofs.Common.{arith, get_or, inl, inr, ap, sym, ◌∙◌, subst}
+use Rattle.std.proofs.Common.{arith, inl, inr, ap, sym, ◌∙◌, subst}
 use Rattle.std.proofs.lemmas.Bool.{both_ways, cases_eq}
 use Rattle.pm_words.specs.Words.{Words, line_bytes, with_line}
 use Rattle.disk_places.specs.Fields.{zeros}
-use Rattle.disk_places.specs.Journal.{journaled}
-use Rattle.disk_places.specs.Places.{Geometry, IsGeometry, inode_line, log_line, data_blocks, reserve}
+use Rattle.disk_places.specs.Places.{Geometry, IsGeometry, log_line, data_blocks}
 use Rattle.disk_lines.specs.declared.Draft.{Draft}
 use Rattle.disk_lines.specs.Entries.{fnv_1a, entry_body, encode_entry, is_draft, decode_entry, held_seq, is_self_valid}
 use Rattle.disk_lines.specs.EntryLaws.{FitsDraft, decode_entry-encode_entry, held_seq-encode_entry, decode_entry-other_seq, is_self_valid-encode_entry}
 use Rattle.disk_lines.specs.Fresh.{fresh}
-use Rattle.disk_rules.specs.Broken.{Rule, Holds, FailsFirst, BreaksFirst, log_rules, Breaks}
+use Rattle.disk_rules.specs.Broken.{log_rules, Breaks}
 use Rattle.disk_rules.specs.FreshVolume.{fresh_volume}
 use Rattle.disk_rules.specs.Live.{entry_in, is_live, live_entries}
 use Rattle.disk_rules.specs.Reading.{Reads, AreBytes}
-use Rattle.disk_rules.specs.Rules.{CanRecover, IsOfNoLater}
-use Rattle.disk_rules.specs.Volume.{Volume}
 use Rattle.volume_facts.specs.Lists.{filter_map-agree}
 use Rattle.volume_facts.specs.LineWords.{with_line-out, line_bytes-set, line_bytes-other}
 use Rattle.image_facts.specs.BrokenLaws.{BreaksFirst-behind}

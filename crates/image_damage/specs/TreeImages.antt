@@ -1,9 +1,9 @@
 -- Images with some files, directories and names on a fresh image, and the volumes that they read as.
-use Rattle.std.specs.Prelude.{◌≡◌, ◌≢◌, ℕ, zero, suc, ◌+◌, ◌*◌, ◌<◌, ◌≤◌, List, [], ◌∷◌, length, true, Option, Some, None, slice_set, Bool, nat_lt, ◌&&◌, ◌==◌, ◌^◌, refl}
+use Rattle.std.specs.Prelude.{◌≡◌, ℕ, suc, ◌+◌, ◌<◌, ◌≤◌, List, [], ◌∷◌, length, true, Some, Bool, nat_lt, ◌&&◌, ◌==◌, ◌^◌, refl}
 use Rattle.std.specs.List.{list_all}
-use Rattle.std.proofs.Common.{arith, inl, inr, ap, sym, ◌∙◌, subst}
+use Rattle.std.proofs.Common.{arith, inl, inr, ap, sym, ◌∙◌}
 use Rattle.std.proofs.lemmas.Bool.{cases_eq, and_parts, eqb-true, ltb-true}
-use Rattle.std.proofs.lemmas.List.{length-set, get_or-set_same, get_or-set_other}
+use Rattle.std.proofs.lemmas.List.{get_or-set_same, get_or-set_other}
 use Rattle.pm_words.specs.Words.{Words, with_line}
 use Rattle.disk_places.specs.Places.{Geometry, IsGeometry, inode_line, name_line}
 use Rattle.disk_lines.specs.declared.Inode.{Inode}

@@ -1,47 +1,31 @@
 -- Worked rows: the first broken rule of small images with wrong names, and how deep a tree may be.
-use Rattle.std.specs.Prelude.{◌≡◌, ◌≢◌, ℕ, zero, suc, ◌+◌, ◌-◌, ◌*◌, ◌<◌, ◌≤◌, ◌++◌, ◌==◌, nat_le, List, [], ◌∷◌, length, map, replicate, All, true, false, Bool, Option, Some, None, if◌then◌else◌, refl}
+use Rattle.std.specs.Prelude.{◌≡◌, ℕ, ◌+◌, ◌*◌, ◌<◌, ◌≤◌, ◌++◌, ◌==◌, nat_le, List, [], ◌∷◌, length, map, replicate, All, true, false, Some, if◌then◌else◌, refl}
 use Rattle.std.specs.List.{list_all, range_with_len}
 use Rattle.std.proofs.Common.{arith, inl, inr, ap, sym, ◌∙◌, subst}
-use Rattle.std.proofs.lemmas.Bool.{both_ways, leb-true}
+use Rattle.std.proofs.lemmas.Bool.{leb-true}
 use Rattle.std.proofs.lemmas.Option.{same_Some}
-use Rattle.pm_words.specs.Words.{Words}
-use Rattle.disk_places.specs.PlaceLaws.{IsGeometry-in_range}
 use Rattle.disk_places.specs.Fields.{zeros}
 use Rattle.disk_places.specs.Places.{Geometry, IsGeometry, inode_line, name_line, first_data, data_blocks}
 use Rattle.disk_lines.specs.declared.Inode.{Inode}
 use Rattle.disk_lines.specs.declared.Kind.{Kind}
 use Rattle.disk_lines.specs.declared.Kind.TheVariants.{Free, Directory, File, Staging}
 use Rattle.disk_lines.specs.Fresh.{empty_inode, fresh}
-use Rattle.disk_lines.specs.Lines.{NameRow, Named, encode_inode, decode_inode, encode_name, decode_name}
-use Rattle.disk_lines.specs.Names.{Rows, row, names_of, up, ends_at_root}
-use Rattle.disk_rules.specs.Broken.{Rule, below, Holds, FailsFirst, HoldAll, BreaksFirst, volume_rules, log_rules, Breaks}
-use Rattle.disk_rules.specs.FreshVolume.{fresh_inode, fresh_volume}
+use Rattle.disk_lines.specs.Lines.{NameRow, encode_inode, decode_inode, decode_name}
+use Rattle.disk_lines.specs.Names.{row, names_of, ends_at_root}
+use Rattle.disk_rules.specs.Broken.{below, Holds, HoldAll, BreaksFirst, log_rules, Breaks}
 use Rattle.disk_rules.specs.Kept.{IsNamedRow}
 use Rattle.disk_rules.specs.Reading.{AreBytes}
-use Rattle.disk_rules.specs.Rules.{IsKindAt, IsNamed, IsPlaced, IsRowPlaced, AreDirectoriesNamed, HasOneName, IsNamedOnce, IsInData, file_blocks_of}
+use Rattle.disk_rules.specs.Rules.{IsKindAt, IsRowPlaced, AreDirectoriesNamed, HasOneName, IsNamedOnce, IsInData, file_blocks_of}
 use Rattle.disk_rules.specs.Volume.{Volume, inode, chain, extents}
 use Rattle.pm_words.specs.Words.{with_line}
 use Rattle.image_facts.specs.BrokenLaws.{BreaksFirst-before}
-use Rattle.image_facts.specs.ClimbLaws.{ReachesRoot, reaches-ends}
+use Rattle.image_facts.specs.ClimbLaws.{reaches-ends}
 use Rattle.image_facts.specs.FreshLaws.{same-at, owners-none}
 use Rattle.image_facts.specs.KeptRules.{kept_rules}
+use Rattle.image_damage.specs.Damage.{small, small-in_range, wide, wide-in_range}
 use Rattle.image_damage.specs.LineDamage.{laid-break, AreBytes-test, inode_line-breaks, name_line-breaks}
-use Rattle.image_damage.specs.TreeImages.{with_nodes, with_names, nodes_set, names_set, tree_image, tree_volume, IsLineOf, AreLines, line_fits, AreLines-test, tree-reads, tree-laid}
+use Rattle.image_damage.specs.TreeImages.{nodes_set, names_set, tree_image, tree_volume, line_fits, AreLines-test, tree-reads, tree-laid}
 use Rattle.image_damage.specs.VolumeTests.{passes_below, passes-at, kind_fits, IsKindAt-test, is_named, IsNamedRow-test, is_placed, IsRowPlaced-test, has_name, AreDirectoriesNamed-test}
-
--- an image of 64 blocks with 4 log lines, 16 inodes and 16 names
-abbrev pub small : Geometry
-small = record { version = 1; blocks = 64; log = 4; inodes = 16; names = 16 }
-
-pub small-in_range : IsGeometry small
-small-in_range = IsGeometry-in_range small refl refl
-
--- one with 32 inodes and 32 names
-abbrev pub wide : Geometry
-wide = record { version = 1; blocks = 64; log = 4; inodes = 32; names = 32 }
-
-pub wide-in_range : IsGeometry wide
-wide-in_range = IsGeometry-in_range wide refl refl
 
 -- Inode lines that may not stand where they stand.
 
@@ -95,11 +79,34 @@ hold_9 : (v : Volume) → passes_below (λ k. is_placed v k (row v.names k)) v.g
 hold_9 v h p from within = IsRowPlaced-test v p (row v.names p) (passes-at (λ k. is_placed v k (row v.names k)) v.geometry.names p h (omega arith))
 
 -- a volume without maps whose tests pass up to rule 8
-record IsBare (v : Volume) : Type 0 where
-  kinds : passes_below (λ ino. kind_fits ino (inode v ino).kind) v.geometry.inodes ≡ true
-  named : passes_below (λ k. is_named v (row v.names k)) v.geometry.names ≡ true
-  chains : (ino : ℕ) → chain v ino ≡ []
-  maps : (ino : ℕ) → extents v ino ≡ []
+pub record IsBare (v : Volume) : Type 0 where
+  pub kinds : passes_below (λ ino. kind_fits ino (inode v ino).kind) v.geometry.inodes ≡ true
+  pub named : passes_below (λ k. is_named v (row v.names k)) v.geometry.names ≡ true
+  pub chains : (ino : ℕ) → chain v ino ≡ []
+  pub maps : (ino : ℕ) → extents v ino ≡ []
+
+-- where all tests pass it is kept
+pub tree_kept : (v : Volume) → IsBare v → passes_below (λ i. is_placed v i (row v.names i)) v.geometry.names ≡ true → passes_below (has_name v) (length v.inodes) ≡ true
+    → names_of v.names 0 ≡ 0 → passes_below (λ i. nat_le (names_of v.names i) 1) v.geometry.inodes ≡ true → HoldAll (kept_rules v)
+tree_kept v bare placed each root names = (
+  hold_5 v bare.kinds,
+  (
+    hold_6 v bare.named,
+    (
+      hold_7 v bare.maps,
+      (
+        hold_8 v bare.chains bare.maps,
+        (
+          hold_9 v placed,
+          (
+            λ p from within. AreDirectoriesNamed-test v each root,
+            (λ p from within. leb-true (names_of v.names p) 1 (passes-at (λ i. nat_le (names_of v.names i) 1) v.geometry.inodes p names (omega arith)), tt),
+          ),
+        ),
+      ),
+    ),
+  ),
+)
 
 -- it breaks rule 9 at a line, or at the number of lines, or rule 10
 break_9 : (v : Volume) (k : ℕ) → IsBare v → k < v.geometry.names → passes_below (λ i. is_placed v i (row v.names i)) k ≡ true → ¬ IsRowPlaced v k (row v.names k) → BreaksFirst (kept_rules v) 9 k
@@ -229,13 +236,13 @@ two_names_of_a_file =
     (AreDirectoriesNamed-test v refl refl) (omega arith) refl (λ one. omega arith))
 
 -- a parent past the last inode; a child that is free
-pub parent_past : Breaks 262144 (tree_image small (File ∷ []) (named 16 5 97 ∷ [])) 6 0
+pub parent_past : Breaks 262144 (tree_image small (File ∷ []) (named 0 5 98 ∷ named 16 5 97 ∷ [])) 6 1
 unfolding names_set nodes_set
 parent_past =
     let kinds : List Kind = File ∷ [] in
-    let rows : List NameRow = named 16 5 97 ∷ [] in
-    tree-breaks small kinds rows 6 0 small-in_range (omega arith) (omega arith) refl
-    (break_6 (tree_volume small kinds rows) 0 refl (omega arith) refl (λ both. let below : 16 < 16 = both.1 in omega arith))
+    let rows : List NameRow = named 0 5 98 ∷ named 16 5 97 ∷ [] in
+    tree-breaks small kinds rows 6 1 small-in_range (omega arith) (omega arith) refl
+    (break_6 (tree_volume small kinds rows) 1 refl (omega arith) refl (λ both. let below : 16 < 16 = both.1 in omega arith))
 
 pub child_free : Breaks 262144 (tree_image small (File ∷ []) (named 0 5 97 ∷ named 0 6 98 ∷ [])) 6 1
 unfolding names_set nodes_set
@@ -299,28 +306,8 @@ steps_down n = replicate n Directory
 pub sixteen_steps : HoldAll (kept_rules (tree_volume wide (steps_down 16) (ladder 16)))
 unfolding names_set nodes_set ends_at_root
 sixteen_steps =
-    let v = tree_volume wide (steps_down 16) (ladder 16) in
-    let chains : (ino : ℕ) → chain v ino ≡ [] = λ ino. same-at [] 32 ino in
-    let maps : (ino : ℕ) → extents v ino ≡ [] = λ ino. same-at [] 32 ino in
-    (
-      hold_5 v refl,
-      (
-        hold_6 v refl,
-        (
-          hold_7 v maps,
-          (
-            hold_8 v chains maps,
-            (
-              hold_9 v refl,
-              (
-                λ p from within. AreDirectoriesNamed-test v refl refl,
-                (λ p from within. leb-true (names_of v.names p) 1 (passes-at (λ i. nat_le (names_of v.names i) 1) 32 p refl (omega arith)), tt),
-              ),
-            ),
-          ),
-        ),
-      ),
-    )
+    tree_kept (tree_volume wide (steps_down 16) (ladder 16)) (record { kinds = refl; named = refl; chains = λ ino. same-at [] 32 ino; maps = λ ino. same-at [] 32 ino })
+    refl refl refl refl
 
 pub seventeen_steps : Breaks 262144 (tree_image wide (steps_down 17) (ladder 17)) 9 16
 unfolding names_set nodes_set ends_at_root

@@ -1,31 +1,27 @@
 -- Tests of what a volume has to keep, by which worked rows are computed: where a test passes at each place below a
 -- count, the rule holds there.
-use Rattle.std.specs.Prelude.{◌≡◌, ◌≢◌, ◌⊎◌, ℕ, zero, suc, ◌+◌, ◌-◌, ◌<◌, ◌≤◌, ◌==◌, ◌&&◌, ◌||◌, not, nat_le, nat_lt, List, [], ◌∷◌, length, drop, All, Bool, true, false, Option, Some, None, count_by, sum_by, cond, refl}
+use Rattle.std.specs.Prelude.{◌≡◌, ℕ, zero, suc, ◌+◌, ◌-◌, ◌<◌, ◌≤◌, ◌==◌, ◌&&◌, ◌||◌, not, nat_le, nat_lt, [], ◌∷◌, length, drop, Bool, true, false, Option, Some, None, count_by, cond, refl}
 use Rattle.std.specs.List.{list_all, range_with_len}
-use Rattle.std.proofs.Common.{arith, get_or, inl, inr, ap, sym, ◌∙◌, subst}
-use Rattle.std.proofs.lemmas.Bool.{and_parts, or_cases, leb-true, ltb-true, eqb-true, eq-eqb, both_ways, and_from, cases_eq, cases_lt}
-use Rattle.std.proofs.lemmas.Bool.Decides.{nat_tests}
+use Rattle.std.proofs.Common.{arith, inl, inr, ap, sym, ◌∙◌, subst}
+use Rattle.std.proofs.lemmas.Bool.{and_parts, or_cases, leb-true, ltb-true, eqb-true, both_ways, cases_eq, cases_lt}
 use Rattle.std.proofs.lemmas.List.{get_or_past, get_or-drop}
 use Rattle.std.proofs.lemmas.List.Sums.{sum_by-cons}
-use Rattle.std.proofs.lemmas.Option.{same_Some}
-use Rattle.std.proofs.lemmas.Slice.Eq.{bytes_eq-Decides}
-use Rattle.disk_places.specs.Fields.{is_same}
 use Rattle.disk_lines.specs.declared.Kind.{Kind}
 use Rattle.disk_lines.specs.declared.Kind.TheVariants.{Free, Directory, File, Staging}
 use Rattle.disk_lines.specs.Lines.{NameRow}
-use Rattle.disk_lines.specs.Names.{Rows, row, is_entry, names_of, up, ends_at_root}
+use Rattle.disk_lines.specs.Names.{Rows, row, is_entry, names_of, ends_at_root}
 use Rattle.disk_lines.specs.TableLaws.{is_entry-own}
 use Rattle.disk_rules.specs.Kept.{IsNamedRow}
 use Rattle.disk_rules.specs.Live.{is_file, is_directory}
-use Rattle.disk_rules.specs.Rules.{IsKindAt, IsNamed, IsPlaced, IsRowPlaced, AreDirectoriesNamed, HasOneName}
+use Rattle.disk_rules.specs.Rules.{IsKindAt, IsRowPlaced, AreDirectoriesNamed}
 use Rattle.disk_rules.specs.Volume.{Volume, inode, free_inode}
-use Rattle.image_facts.specs.ClimbLaws.{ReachesRoot, ends-reaches}
+use Rattle.image_facts.specs.ClimbLaws.{ends-reaches}
 
 -- a test at each number below a count
 abbrev pub passes_below : (ℕ → Bool) → ℕ → Bool
 passes_below test n = list_all test (range_with_len 0 n)
 
-passes-from : (test : ℕ → Bool) (a n k : ℕ) → list_all test (range_with_len a n) ≡ true → a ≤ k → k < a + n → test k ≡ true
+pub passes-from : (test : ℕ → Bool) (a n k : ℕ) → list_all test (range_with_len a n) ≡ true → a ≤ k → k < a + n → test k ≡ true
 passes-from test a zero k h from below = absurd (omega arith)
 passes-from test a (suc n) k h from below =
     let parts = and_parts (test a) (list_all test (range_with_len (a + 1) n)) h in

@@ -1,9 +1,9 @@
 -- Laws of the first broken rule: an image that keeps all rules breaks none, one that breaks a rule breaks one alone,
 -- at one place, and how the first broken rule of a list is found in a part of it.
-use Rattle.std.specs.Prelude.{◌≡◌, ℕ, ◌+◌, ◌<◌, ◌≤◌, List, [], ◌∷◌, ◌++◌}
-use Rattle.std.proofs.Common.{arith, inl, inr, sym, ◌∙◌}
+use Rattle.std.specs.Prelude.{◌≡◌, ℕ, List, [], ◌∷◌, ◌++◌}
+use Rattle.std.proofs.Common.{inl, inr, sym, ◌∙◌}
 use Rattle.std.proofs.lemmas.Bool.{cases_order}
-use Rattle.disk_rules.specs.Broken.{Rule, Holds, FailsFirst, HoldAll, BreaksFirst}
+use Rattle.disk_rules.specs.Broken.{Rule, FailsFirst, HoldAll, BreaksFirst}
 
 -- of one rule the lowest place is one
 lowest-same : (r : Rule) (p q : ℕ) → FailsFirst r p → FailsFirst r q → p ≡ q

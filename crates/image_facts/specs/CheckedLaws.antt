@@ -1,7 +1,6 @@
 -- Laws of checked images: the rules by their parts and back, and as a list.
-use Rattle.std.specs.Prelude.{◌≡◌, ◌≢◌, ◌↔◌, ℕ, ◌+◌, ◌<◌, ◌≤◌, All, true, List, [], ◌∷◌, Option, Some, None, unwrap_or, slice_index_or, refl}
+use Rattle.std.specs.Prelude.{◌≡◌, ◌↔◌, ℕ, ◌+◌, ◌<◌, ◌≤◌, true, Option, Some, None, unwrap_or, slice_index_or, refl}
 use Rattle.std.proofs.Common.{arith, ap, sym, ◌∙◌, subst}
-use Rattle.std.proofs.lemmas.Bool.{and_from, and_parts}
 use Rattle.std.proofs.lemmas.Bool.Decides.{nat_tests}
 use Rattle.std.proofs.lemmas.List.FromFn.{length-map-range_with_len, get_or-map-range_with_len}
 use Rattle.pm_words.specs.Words.{Words}
@@ -16,8 +15,8 @@ use Rattle.disk_rules.specs.Checked.{HasHead, AreLinesKept, IsLogKept, IsChecked
 use Rattle.disk_rules.specs.Chains.{chain_of, map_of}
 use Rattle.disk_rules.specs.Kept.{IsNamedRow, AreKept}
 use Rattle.disk_rules.specs.Reading.{slot_for, Reads}
-use Rattle.disk_rules.specs.Rules.{geometry_of, IsKindAt, IsNameSlot, HasInode, HasChain, AreRulesKept, IsChecked}
-use Rattle.disk_rules.specs.Volume.{Volume, volume, inode_at, name_at, inode_or_free, free_inode, row_of, inode, chain, extents}
+use Rattle.disk_rules.specs.Rules.{geometry_of, IsKindAt, IsNameSlot, HasInode, AreRulesKept, IsChecked}
+use Rattle.disk_rules.specs.Volume.{Volume, volume, inode_at, name_at, inode_or_free, free_inode, row_of, inode, chain}
 use Rattle.volume_facts.specs.ReadingLaws.{reads-volume}
 use Rattle.image_facts.specs.BrokenLaws.{HoldAll-unbroken, BreaksFirst-one}
 
@@ -167,36 +166,33 @@ within-data : (g : Geometry) (b : ℕ) → is_data_block g b ≡ true → (first
 within-data g b h = grind (arith, nat_tests)
 
 pub HoldAll-kept : (bytes : ℕ) (f : Words) (v : Volume) (j : Words) → AreRulesKept bytes f v j → HoldAll (rules_of bytes f v j)
-HoldAll-kept bytes f v j c =
+HoldAll-kept bytes f v j c = (
+  λ p from below. c.rule_1,
+  (
+    λ p from below. c.rule_2,
     (
-      λ p from below. c.rule_1,
+      λ p from below. c.rule_3,
       (
-        λ p from below. c.rule_2,
+        λ p from below. c.rule_4,
         (
-          λ p from below. c.rule_3,
+          λ p from below. c.rule_11_records p (omega arith),
           (
-            λ p from below. c.rule_4,
+            λ p from below. c.rule_11_state,
             (
-              λ p from below. c.rule_11_records p (omega arith),
+              λ p from below. c.rule_5 p (omega arith),
               (
-                λ p from below. c.rule_11_state,
+                λ p from below. c.rule_6 p (omega arith),
                 (
-                  λ p from below. c.rule_5 p (omega arith),
+                  λ p from below. c.rule_7 p (omega arith),
                   (
-                    λ p from below. c.rule_6 p (omega arith),
+                    λ p from below. c.rule_8 p (data-within v.geometry p from below),
                     (
-                      λ p from below. c.rule_7 p (omega arith),
+                      λ p from below. c.rule_9_lines p (omega arith),
                       (
-                        λ p from below. c.rule_8 p (data-within v.geometry p from below),
+                        λ p from below. c.rule_9_directories,
                         (
-                          λ p from below. c.rule_9_lines p (omega arith),
-                          (
-                            λ p from below. c.rule_9_directories,
-                            (
-                              λ p from below. c.rule_10 p (omega arith),
-                              (λ p from below. c.rule_12, (λ p from below. c.rule_13 p (omega arith), tt)),
-                            ),
-                          ),
+                          λ p from below. c.rule_10 p (omega arith),
+                          (λ p from below. c.rule_12, (λ p from below. c.rule_13 p (omega arith), tt)),
                         ),
                       ),
                     ),
@@ -207,7 +203,9 @@ HoldAll-kept bytes f v j c =
           ),
         ),
       ),
-    )
+    ),
+  ),
+)
 
 pub kept-HoldAll : (bytes : ℕ) (f : Words) (v : Volume) (j : Words) → HoldAll (rules_of bytes f v j) → AreRulesKept bytes f v j
 kept-HoldAll bytes f v j (r1, (r2, (r3, (r4, (records, (state, (r5, (r6, (r7, (r8, (lines, (directories, (r10, (r12, (r13, end))))))))))))))) =
@@ -231,24 +229,22 @@ kept-HoldAll bytes f v j (r1, (r2, (r3, (r4, (records, (state, (r5, (r6, (r7, (r
 
 -- The rules of the head, and of the lines.
 pub HoldAll-head : (bytes : ℕ) (f : Words) → HasHead bytes f → HoldAll (head_rules bytes f)
-HoldAll-head bytes f head =
+HoldAll-head bytes f head = (
+  λ p from below. head.whole_blocks,
+  (
+    λ p from below. head.magic,
     (
-      λ p from below. head.whole_blocks,
-      (
-        λ p from below. head.magic,
-        (
-          λ p from below. head.version,
-          (λ p from below. head.numbers, (λ p from below. head.records p (omega arith), (λ p from below. head.state, tt))),
-        ),
-      ),
-    )
+      λ p from below. head.version,
+      (λ p from below. head.numbers, (λ p from below. head.records p (omega arith), (λ p from below. head.state, tt))),
+    ),
+  ),
+)
 
 pub HoldAll-lines : (v : Volume) (j : Words) → AreLinesKept v j → HoldAll (line_rules v j)
-HoldAll-lines v j lines =
-    (
-      λ p from below. lines.inodes p (omega arith),
-      (λ p from below. lines.names p (omega arith), (λ p from below. lines.chains p (omega arith), tt)),
-    )
+HoldAll-lines v j lines = (
+  λ p from below. lines.inodes p (omega arith),
+  (λ p from below. lines.names p (omega arith), (λ p from below. lines.chains p (omega arith), tt)),
+)
 
 -- a checked image breaks no rule
 pub checked-unbroken : (bytes : ℕ) (f : Words) (number place : ℕ) → IsChecked bytes f → Breaks bytes f number place → ⊥

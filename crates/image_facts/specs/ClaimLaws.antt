@@ -1,5 +1,5 @@
 -- Laws of lines that hold claims.
-use Rattle.std.specs.Prelude.{◌≡◌, ℕ, ◌+◌, ◌<◌, ◌≤◌, List, [], length, Contains, true, Option, Some}
+use Rattle.std.specs.Prelude.{◌≡◌, ℕ, ◌+◌, ◌<◌, ◌≤◌, List, [], length, Contains, true}
 use Rattle.std.proofs.Common.{arith, ap, sym, ◌∙◌}
 use Rattle.std.proofs.lemmas.Option.{same_Some}
 use Rattle.pm_words.specs.declared.Cell.{Cell}
@@ -7,7 +7,7 @@ use Rattle.pm_words.specs.Words.{Words}
 use Rattle.disk_lines.specs.declared.Draft.{Draft}
 use Rattle.disk_lines.specs.Entries.{encode_entry, is_draft, decode_entry}
 use Rattle.disk_lines.specs.EntryLaws.{FitsDraft, decode_entry-encode_entry}
-use Rattle.disk_rules.specs.LogRule.{cells_of_line, HoldsEntry, IsAsAtFirst, HoldsClaims}
+use Rattle.disk_rules.specs.LogRule.{cells_of_line, IsAsAtFirst, HoldsClaims}
 
 -- a claim whose number lies past the lines is held by none
 pub claim-past : (base : ℕ) (lines : List (List Cell)) (claims : List (ℕ × Draft)) (first : ℕ → Words) (n : ℕ) (d : Draft)
@@ -29,6 +29,6 @@ claim-one base lines claims first n d e ok fits e_ok e_fits claimed e_claimed ho
     let same : encode_entry d (base + n) ≡ encode_entry e (base + n) = sym (holds.claimed n d claimed).1.spelled ∙ (holds.claimed n e e_claimed).1.spelled in
     same_Some d e
     (
-      sym (decode_entry-encode_entry d (base + n) fits ok) ∙ ap (λ bytes. decode_entry bytes (base + n)) same
-      ∙ decode_entry-encode_entry e (base + n) e_fits e_ok
+    sym (decode_entry-encode_entry d (base + n) fits ok) ∙ ap (λ bytes. decode_entry bytes (base + n)) same
+    ∙ decode_entry-encode_entry e (base + n) e_fits e_ok
     )

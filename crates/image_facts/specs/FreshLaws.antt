@@ -3,42 +3,39 @@ use Rattle.std.specs.Prelude.{◌≡◌, ◌≢◌, ℕ, zero, suc, ◌+◌, ◌
 use Rattle.std.specs.List.{range_with_len, filter_map, flat_map}
 use Rattle.std.proofs.Common.{arith, get_or, inl, inr, ap, sym, ◌∙◌, subst}
 use Rattle.std.proofs.Math.Path.{fun_ext}
-use Rattle.std.proofs.lemmas.Bool.{cases_lt, cond_both, cond-true, both_ways, leb-true, leb-false, eqb-true, ne_eqb, le-leb}
+use Rattle.std.proofs.lemmas.Bool.{cases_lt, cond_both, both_ways, leb-true, leb-false, eqb-true}
 use Rattle.std.proofs.lemmas.Bool.Decides.{nat_tests}
 use Rattle.std.proofs.lemmas.List.{get_or_past, get_or-replicate, length-replicate}
-use Rattle.std.proofs.lemmas.List.FromFn.{length-map-range_with_len, get_or-map-range_with_len, length-range_with_len}
+use Rattle.std.proofs.lemmas.List.FromFn.{length-map-range_with_len, get_or-map-range_with_len}
 use Rattle.std.proofs.lemmas.List.Sums.{sum_by-cons}
 use Rattle.pm_words.specs.Words.{Words, line_bytes}
 use Rattle.block_counts.specs.Counts.{held_by}
 use Rattle.disk_places.specs.Fields.{zeros}
 use Rattle.disk_places.specs.Journal.{committed, journaled}
-use Rattle.disk_places.specs.PlaceLaws.{in_range-IsGeometry}
-use Rattle.disk_places.specs.Places.{Geometry, IsGeometry, state_line, base_word, commit_word, inode_line, name_line, log_line, first_data, data_blocks, is_data_block}
+use Rattle.disk_places.specs.Places.{Geometry, IsGeometry, state_line, base_word, commit_word, inode_line, name_line, log_line, first_data, data_blocks}
 use Rattle.disk_places.specs.SuperLaws.{IsSuperblockOf, superblock-read}
 use Rattle.disk_places.specs.Superblock.{superblock, has_magic, has_version, has_numbers}
 use Rattle.disk_lines.specs.declared.Draft.{Draft}
 use Rattle.disk_lines.specs.declared.Inode.{Inode}
-use Rattle.disk_lines.specs.declared.Kind.{Kind}
-use Rattle.disk_lines.specs.declared.Kind.TheVariants.{Free, Directory, File, Staging}
+use Rattle.disk_lines.specs.declared.Kind.TheVariants.{Directory, Staging}
 use Rattle.disk_lines.specs.Entries.{decode_entry, is_self_valid}
 use Rattle.disk_lines.specs.Fresh.{empty_inode, fresh}
-use Rattle.disk_lines.specs.LineLaws.{decode_inode-encode_inode}
-use Rattle.disk_lines.specs.Lines.{NameRow, FreeName, encode_inode, decode_inode, decode_name}
+use Rattle.disk_lines.specs.Lines.{NameRow, encode_inode, decode_inode, decode_name}
 use Rattle.disk_lines.specs.NameLaws.{decode_name-zeros}
-use Rattle.disk_lines.specs.Names.{Rows, row, is_child, is_entry, names_of, first_row_from, child_named, walk}
+use Rattle.disk_lines.specs.Names.{row, is_child, is_entry, names_of, first_row_from, walk}
 use Rattle.extent_words.specs.declared.Extent.{Extent}
 use Rattle.disk_rules.specs.Chains.{SpellsChain, blocks_from}
 use Rattle.disk_rules.specs.Checked.{HasHead, IsLogKept, IsCheckedAs}
-use Rattle.disk_rules.specs.Content.{Node, IsDirectory, HasBytes, size_of, node_by, node_of, bytes_of_file, found, content}
+use Rattle.disk_rules.specs.Content.{size_of, node_by, node_of, bytes_of_file, found, content}
 use Rattle.disk_rules.specs.FreshVolume.{fresh_inode, fresh_volume, root_alone}
 use Rattle.disk_rules.specs.Kept.{AreKept}
-use Rattle.disk_rules.specs.Live.{is_file, is_directory, entry_in, valid_entries, live_entries, is_live}
+use Rattle.disk_rules.specs.Live.{is_file, is_directory, entry_in, live_entries, is_live}
 use Rattle.disk_rules.specs.Reading.{slot_for, Reads}
 use Rattle.disk_rules.specs.Room.{is_named_file, held_after_recovery, has_none, unused_blocks}
-use Rattle.disk_rules.specs.Rules.{geometry_of, IsKindAt, IsChecked, CanRecover}
+use Rattle.disk_rules.specs.Rules.{IsKindAt, IsChecked}
 use Rattle.disk_rules.specs.Standing.{IsChain}
 use Rattle.disk_rules.specs.Uses.{Use, uses_by, owners}
-use Rattle.disk_rules.specs.Volume.{Volume, volume, inode_at, name_at, inode, chain, extents, free_inode}
+use Rattle.disk_rules.specs.Volume.{Volume, volume, inode_at, inode, chain, extents, free_inode}
 use Rattle.volume_facts.specs.Lists.{filter_map-agree, flat_map-agree, sum_by-agree, count_by-agree}
 use Rattle.volume_facts.specs.ReadingLaws.{reads-volume}
 use Rattle.image_facts.specs.CheckedLaws.{checked-parts}
@@ -262,8 +259,8 @@ live-fresh : (g : Geometry) → IsGeometry g → live_entries (fresh_volume g) (
 live-fresh g ok =
     ap (filter (is_live (fresh_volume g)))
     (
-      filter_map-agree (entry_in (fresh_volume g) (fresh g)) (λ s. None) 0 g.log (λ s from below. no_entry-fresh g s ok)
-      ∙ filter_map-none 0 g.log
+    filter_map-agree (entry_in (fresh_volume g) (fresh g)) (λ s. None) 0 g.log (λ s from below. no_entry-fresh g s ok)
+    ∙ filter_map-none 0 g.log
     )
 
 -- where nothing is live the files hold nothing, and every data block is unused
@@ -295,7 +292,7 @@ fresh-log g ok =
         unused = omega (arith, ap length live, unused-fresh g, enough);
       };
       no_later = λ slot below valid. absurd (both_ways (is_self_valid (line_bytes (fresh g) (log_line g slot)))
-        (ap is_self_valid (fresh-zeros g (log_line g slot) (unset-log g slot ok)) ∙ zeros-invalid) valid);
+          (ap is_self_valid (fresh-zeros g (log_line g slot) (unset-log g slot ok)) ∙ zeros-invalid) valid);
     }
 
 -- The fresh image is checked, as a volume with a root alone.

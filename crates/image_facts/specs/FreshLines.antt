@@ -1,5 +1,5 @@
 -- The fresh image line by line: the superblock, the log base, five inode lines, and zeros.
-use Rattle.std.specs.Prelude.{◌≡◌, ◌≢◌, ℕ, zero, suc, ◌+◌, ◌-◌, ◌*◌, ◌/◌, ◌%◌, ◌<◌, ◌≤◌, List, [], ◌∷◌, ◌++◌, length, Bool, true, false, refl}
+use Rattle.std.specs.Prelude.{◌≡◌, ◌≢◌, ℕ, zero, suc, ◌+◌, ◌-◌, ◌/◌, ◌%◌, ◌<◌, ◌≤◌, List, ◌++◌, length, Bool, true, false, refl}
 use Rattle.std.specs.Int.{to_le_bytes, w32}
 use Rattle.std.proofs.Common.{arith, get_or, inl, inr, ap, sym, ◌∙◌, subst}
 use Rattle.std.proofs.Math.Path.{fun_ext}
@@ -7,7 +7,7 @@ use Rattle.std.proofs.lemmas.Bool.{cases_lt, cond-true}
 use Rattle.std.proofs.lemmas.Bool.Decides.{nat_tests}
 use Rattle.std.proofs.lemmas.List.{get_or_past, get_or-replicate, length-replicate, get_or_append_left, get_or-append_right}
 use Rattle.pm_words.specs.Bytes.{line_bytes-same}
-use Rattle.pm_words.specs.Words.{Words, word_at, line_bytes, with_line}
+use Rattle.pm_words.specs.Words.{word_at, line_bytes, with_line}
 use Rattle.disk_places.specs.Fields.{zeros}
 use Rattle.disk_places.specs.Journal.{is_journal_word, journaled}
 use Rattle.disk_places.specs.Places.{Geometry, IsGeometry, state_line, base_word, commit_word, inode_line}
@@ -73,12 +73,12 @@ superblock-bytes g =
     record {
       size = refl;
       small = small-append (magic ++ a ++ b ++ c ++ d ++ e) (zeros 36)
-      (small-append (magic ++ a ++ b ++ c ++ d) e
-      (small-append (magic ++ a ++ b ++ c) d
-      (small-append (magic ++ a ++ b) c
-      (small-append (magic ++ a) b (small-append magic a small-magic (small-u32 g.version)) (small-u32 g.blocks)) (small-u32 g.log)) (small-u32 g.inodes))
-      (small-u32 g.names))
-      (small-zeros 36);
+          (small-append (magic ++ a ++ b ++ c ++ d) e
+          (small-append (magic ++ a ++ b ++ c) d
+          (small-append (magic ++ a ++ b) c
+          (small-append (magic ++ a) b (small-append magic a small-magic (small-u32 g.version)) (small-u32 g.blocks)) (small-u32 g.log)) (small-u32 g.inodes))
+          (small-u32 g.names))
+          (small-zeros 36);
     }
 
 -- the superblock

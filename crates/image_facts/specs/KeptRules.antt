@@ -1,6 +1,6 @@
 -- The first broken rule of words that read as a volume is that of the volume: what is left of the rules on lines is
 -- pure in the volume.
-use Rattle.std.specs.Prelude.{◌≡◌, ◌↔◌, ℕ, ◌+◌, ◌*◌, ◌<◌, ◌≤◌, ◌++◌, All, true, List, [], ◌∷◌, Option, Some, None, refl}
+use Rattle.std.specs.Prelude.{◌≡◌, ◌↔◌, ℕ, ◌<◌, ◌++◌, All, true, List, ◌∷◌, Option, Some, None}
 use Rattle.std.proofs.Common.{arith, inl, inr, ap, sym, ◌∙◌, subst}
 use Rattle.std.proofs.lemmas.Option.{same_Some}
 use Rattle.pm_words.specs.Words.{Words}
@@ -9,12 +9,12 @@ use Rattle.disk_places.specs.Places.{Geometry, is_data_block}
 use Rattle.disk_lines.specs.declared.Inode.{Inode}
 use Rattle.disk_lines.specs.Lines.{NameRow}
 use Rattle.disk_lines.specs.Names.{row}
-use Rattle.disk_rules.specs.Broken.{Rule, below, Holds, FailsFirst, BreaksFirst, HoldAll, head_rules, line_rules, volume_rules, log_rules, Breaks}
+use Rattle.disk_rules.specs.Broken.{Rule, below, FailsFirst, BreaksFirst, HoldAll, head_rules, line_rules, volume_rules, log_rules, Breaks}
 use Rattle.disk_rules.specs.Checked.{HasHead}
 use Rattle.disk_rules.specs.Kept.{IsNamedRow, AreKept}
 use Rattle.disk_rules.specs.Reading.{slot_for, Reads}
 use Rattle.disk_rules.specs.Rules.{geometry_of, IsKindAt, IsNameSlot, HasInode, HasChain, file_blocks_of, IsInData}
-use Rattle.disk_rules.specs.Volume.{Volume, volume, inode_at, name_at, inode, chain, extents}
+use Rattle.disk_rules.specs.Volume.{Volume, volume, name_at, inode, chain, extents}
 use Rattle.volume_facts.specs.ReadingLaws.{reads-volume}
 use Rattle.image_facts.specs.BrokenLaws.{BreaksFirst-behind}
 use Rattle.image_facts.specs.CheckedLaws.{data-within, HoldAll-head}
@@ -35,16 +35,16 @@ same-break : (number count : ℕ) (P Q : ℕ → Type 0) (rules more : List Rule
 same-break number count P Q rules more n place same later breaks =
     elim breaks [
       | inl here ↦ inl (
-          here.0,
-          let fails : FailsFirst (below number count P) place = here.1 in
-          let within : place < count = omega (arith, fails.within) in
-          record {
-            from = omega arith;
-            within = fails.within;
-            before = λ p from lower. same.to p (omega arith) (fails.before p from lower);
-            fails = λ holds. fails.fails (same.from place within holds);
-          },
-        )
+        here.0,
+        let fails : FailsFirst (below number count P) place = here.1 in
+            let within : place < count = omega (arith, fails.within) in
+            record {
+              from = omega arith;
+              within = fails.within;
+              before = λ p from lower. same.to p (omega arith) (fails.before p from lower);
+              fails = λ holds. fails.fails (same.from place within holds);
+            },
+      )
       | inr passed ↦ inr (λ p from within. same.to p (omega arith) (passed.0 p from within), later passed.1)
     ]
 
@@ -114,20 +114,19 @@ reads-break bytes h v n place head r breaks =
 
 -- where the volume is kept, all hold
 pub HoldAll-volume : (v : Volume) → AreKept v → HoldAll (kept_rules v)
-HoldAll-volume v kept =
+HoldAll-volume v kept = (
+  λ p from within. kept.kinds p (omega arith),
+  (
+    λ p from within. kept.named p (omega arith),
     (
-      λ p from within. kept.kinds p (omega arith),
+      λ p from within. kept.in_data p (omega arith),
       (
-        λ p from within. kept.named p (omega arith),
+        λ p from within. kept.once p (data-within v.geometry p from within),
         (
-          λ p from within. kept.in_data p (omega arith),
-          (
-            λ p from within. kept.once p (data-within v.geometry p from within),
-            (
-              λ p from within. kept.placed p (omega arith),
-              (λ p from within. kept.directories, (λ p from within. kept.one_name p (omega arith), tt)),
-            ),
-          ),
+          λ p from within. kept.placed p (omega arith),
+          (λ p from within. kept.directories, (λ p from within. kept.one_name p (omega arith), tt)),
         ),
       ),
-    )
+    ),
+  ),
+)

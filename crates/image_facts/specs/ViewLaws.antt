@@ -1,25 +1,23 @@
 -- What a checked image rests on: an image with the same journaled view and a sound journal is checked as the other is,
 -- and the head and the reading of an image do not rest on its log lines.
-use Rattle.std.specs.Prelude.{◌≡◌, ◌≢◌, ℕ, zero, suc, ◌+◌, ◌*◌, ◌/◌, ◌%◌, ◌^◌, ◌<◌, ◌≤◌, ◌==◌, nat_le, true, false, List, length, Option, cond, refl}
+use Rattle.std.specs.Prelude.{◌≡◌, ◌≢◌, ℕ, zero, suc, ◌+◌, ◌*◌, ◌/◌, ◌%◌, ◌^◌, ◌<◌, ◌≤◌, ◌==◌, nat_le, true, false, cond}
 use Rattle.std.proofs.Common.{arith, ap, sym, ◌∙◌, subst}
 use Rattle.std.proofs.Math.Path.{fun_ext}
-use Rattle.std.proofs.lemmas.Bool.{cond-true, cond-false, le-leb}
+use Rattle.std.proofs.lemmas.Bool.{cond-true, le-leb}
 use Rattle.std.proofs.lemmas.Bool.Decides.{nat_tests}
 use Rattle.pm_words.specs.Bytes.{line_bytes-same}
 use Rattle.pm_words.specs.Words.{Words, line_bytes}
 use Rattle.disk_places.specs.Journal.{is_journal_word, record_target, record_word, committed, patched, journaled, IsSound}
 use Rattle.disk_places.specs.Places.{Geometry, state_line, base_word, commit_word, record_line, log_block, log_line, is_data_block, is_journaled_line}
-use Rattle.disk_places.specs.PlaceLaws.{behind_log-words, journaled-below_log}
+use Rattle.disk_places.specs.PlaceLaws.{journaled-below_log}
 use Rattle.disk_places.specs.Superblock.{has_magic, has_version, has_numbers, geometry_at}
 use Rattle.disk_rules.specs.Checked.{HasHead, IsLogKept, IsCheckedAs}
-use Rattle.disk_rules.specs.Content.{Node, content_of, content}
+use Rattle.disk_rules.specs.Content.{content_of, content}
 use Rattle.disk_rules.specs.Placed.{block_at}
 use Rattle.disk_rules.specs.Reading.{Reads}
-use Rattle.disk_rules.specs.Rules.{geometry_of, HasTarget, HasState, HasNumbers, IsChecked}
+use Rattle.disk_rules.specs.Rules.{geometry_of, HasTarget, IsChecked}
 use Rattle.disk_rules.specs.Volume.{Volume, volume, chain}
 use Rattle.volume_facts.specs.ImageLaws.{journaled-other}
-use Rattle.volume_facts.specs.LineWords.{data_word}
-use Rattle.volume_facts.specs.Reading.{AgreeFor}
 use Rattle.volume_facts.specs.ReadingLaws.{reads-same}
 use Rattle.image_facts.specs.CheckedLaws.{parts-checked, checked-parts}
 

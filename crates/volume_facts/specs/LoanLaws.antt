@@ -1,6 +1,6 @@
 -- Images of a device while parts of it are lent, and once they are back; and that words of blocks that no chain has
 -- do not matter to what its images read as.
-use Rattle.std.specs.Prelude.{◌≡◌, ◌≢◌, ℕ, zero, suc, ◌+◌, ◌*◌, ◌/◌, ◌%◌, ◌<◌, ◌≤◌, ◌==◌, Bool, true, false, List, [], ◌∷◌, All, if◌then◌else◌, refl}
+use Rattle.std.specs.Prelude.{◌≡◌, ◌≢◌, ℕ, ◌+◌, ◌*◌, ◌/◌, ◌%◌, ◌<◌, ◌≤◌, ◌==◌, Bool, true, false, List, [], ◌∷◌, if◌then◌else◌, refl}
 use Rattle.std.proofs.Common.{arith, ap, sym, ◌∙◌, subst, inl, inr}
 use Rattle.std.proofs.lemmas.Bool.{both_ways, cases_eq, cond-true, cond-false, eq-eqb, ne_eqb}
 use Rattle.std.proofs.lemmas.Bool.Decides.{nat_tests}
@@ -11,9 +11,9 @@ use Rattle.pm_words.specs.Cells.{cell, is_single, is_lent, newest, unmarked, IsC
 use Rattle.pm_words.specs.Images.{IsImage, ComesFrom, Follows}
 use Rattle.pm_words.specs.Parts.{GoesOut, ComesBack, put_back, IsImageWith}
 use Rattle.pm_words.specs.Words.{Words}
-use Rattle.disk_places.specs.Journal.{is_journal_word, record_target, record_word, committed, patched, journaled}
+use Rattle.disk_places.specs.Journal.{is_journal_word, journaled}
 use Rattle.disk_places.specs.PlaceLaws.{log_line-not_journaled}
-use Rattle.disk_places.specs.Places.{Geometry, commit_word, first_data, is_data_block, is_journaled_line, log_line, record_line}
+use Rattle.disk_places.specs.Places.{Geometry, first_data, is_journaled_line, log_line}
 use Rattle.disk_rules.specs.Placed.{block_at, IsOutside}
 use Rattle.disk_rules.specs.Reading.{Reads}
 use Rattle.disk_rules.specs.Volume.{Volume, chain}

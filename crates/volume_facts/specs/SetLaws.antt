@@ -76,7 +76,8 @@ reads-inode g f v ino x blocks es bytes within are decoded stands r =
 
 -- the same of an inode that keeps its root and its number of extents, and so its map
 pub reads-node : (g : Geometry) (f : Words) (v : Volume) (ino : ℕ) (x : Inode) (bytes : List ℕ)
-    → ino < g.inodes → AreBytes bytes → decode_inode bytes ≡ Some x → x.root ≡ (inode v ino).root → x.extents ≡ (inode v ino).extents → Reads g f v
+    → ino < g.inodes → AreBytes bytes → decode_inode bytes ≡ Some x → x.root ≡ (inode v ino).root
+    → x.extents ≡ (inode v ino).extents → Reads g f v
     → Reads g (with_line (inode_line ino) bytes f) (node_set ino x v)
 reads-node g f v ino x bytes within are decoded root count r =
     let own = reads-stands g f v ino within r in
@@ -145,7 +146,8 @@ volume-with_inode g f v ino x blocks es bytes within are decoded stands r =
     reads-volume g (with_line (inode_line ino) bytes f) (inode_set ino x blocks es v) (reads-inode g f v ino x blocks es bytes within are decoded stands r)
 
 pub volume-with_node : (g : Geometry) (f : Words) (v : Volume) (ino : ℕ) (x : Inode) (bytes : List ℕ)
-    → ino < g.inodes → AreBytes bytes → decode_inode bytes ≡ Some x → x.root ≡ (inode v ino).root → x.extents ≡ (inode v ino).extents → Reads g f v
+    → ino < g.inodes → AreBytes bytes → decode_inode bytes ≡ Some x → x.root ≡ (inode v ino).root
+    → x.extents ≡ (inode v ino).extents → Reads g f v
     → volume g (with_line (inode_line ino) bytes f) ≡ node_set ino x v
 volume-with_node g f v ino x bytes within are decoded root count r =
     reads-volume g (with_line (inode_line ino) bytes f) (node_set ino x v) (reads-node g f v ino x bytes within are decoded root count r)
@@ -188,7 +190,8 @@ reads-written g f h v blocks free same r =
 
 -- And then, where the blocks have a chain for the inode that is set, they read as the volume with that inode.
 pub reads-switched : (g : Geometry) (f h : Words) (v : Volume) (ino : ℕ) (x : Inode) (blocks : List ℕ) (es : List Extent) (bytes : List ℕ)
-    → AreUnchained g v blocks → ((i : ℕ) → IsOutside blocks i → h i ≡ f i) → IsChain h (512 * g.blocks) x.root x.extents blocks es
+    → AreUnchained g v blocks → ((i : ℕ) → IsOutside blocks i → h i ≡ f i)
+    → IsChain h (512 * g.blocks) x.root x.extents blocks es
     → ino < g.inodes → AreBytes bytes → decode_inode bytes ≡ Some x → Reads g f v
     → Reads g (with_line (inode_line ino) bytes h) (inode_set ino x blocks es v)
 reads-switched g f h v ino x blocks es bytes free same stands within are decoded r =

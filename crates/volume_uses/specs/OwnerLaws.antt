@@ -132,7 +132,8 @@ pub record IsOnePlace (i j k l : ℕ) : Type 0 where
   pub place : k ≡ l
 
 pub one_chain_place : (v : Volume) (b i j k l : ℕ) → IsNamedOnce v b → i < length v.inodes → j < length v.inodes
-    → k < length (chain v i) → l < length (chain v j) → block_at (chain v i) k ≡ b → block_at (chain v j) l ≡ b → IsOnePlace i j k l
+    → k < length (chain v i) → l < length (chain v j) → block_at (chain v i) k ≡ b → block_at (chain v j) l ≡ b
+    → IsOnePlace i j k l
 one_chain_place v b i j k l once i_below j_below k_below l_below first second =
     let used_i : 1 ≤ uses_of v b i = omega (arith, in_chain-at (chain v i) k b k_below first, length-uses_by i (chain v i) (extents v i) b) in
     let used_j : 1 ≤ uses_of v b j = omega (arith, in_chain-at (chain v j) l b l_below second, length-uses_by j (chain v j) (extents v j) b) in
@@ -152,7 +153,8 @@ one_chain_place v b i j k l once i_below j_below k_below l_below first second =
 
 -- two extents that have the block are one
 pub one_extent : (v : Volume) (b i j k l : ℕ) → IsNamedOnce v b → i < length v.inodes → j < length v.inodes
-    → k < length (extents v i) → l < length (extents v j) → holds_disk (extent_at (extents v i) k) b ≡ true → holds_disk (extent_at (extents v j) l) b ≡ true → IsOnePlace i j k l
+    → k < length (extents v i) → l < length (extents v j) → holds_disk (extent_at (extents v i) k) b ≡ true
+    → holds_disk (extent_at (extents v j) l) b ≡ true → IsOnePlace i j k l
 one_extent v b i j k l once i_below j_below k_below l_below first second =
     let used_i : 1 ≤ uses_of v b i = omega (arith, in_map-at (extents v i) k b k_below first, length-uses_by i (chain v i) (extents v i) b) in
     let used_j : 1 ≤ uses_of v b j = omega (arith, in_map-at (extents v j) l b l_below second, length-uses_by j (chain v j) (extents v j) b) in

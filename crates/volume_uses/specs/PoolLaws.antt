@@ -194,7 +194,8 @@ held-set v ino x blocks es below all =
 pub unused-set : (v : Volume) (ino : ℕ) (x : Inode) (blocks : List ℕ) (es : List Extent) (before after : ℕ → ℕ)
     → ino < length v.inodes → HasAllMaps v
     → AreInData v before → AreInData (inode_set ino x blocks es v) after
-    → ((b : ℕ) → is_data_block v.geometry b ≡ true → IsNamedOnce v b) → ((b : ℕ) → is_data_block v.geometry b ≡ true → IsNamedOnce (inode_set ino x blocks es v) b)
+    → ((b : ℕ) → is_data_block v.geometry b ≡ true → IsNamedOnce v b)
+    → ((b : ℕ) → is_data_block v.geometry b ≡ true → IsNamedOnce (inode_set ino x blocks es v) b)
     → unused_blocks (inode_set ino x blocks es v) + (length blocks + block_count es) ≡ unused_blocks v + blocks_of v ino
 unused-set v ino x blocks es before after below all in_data now once still =
     omega (

@@ -1,13 +1,14 @@
 -- Values worked out by hand, as computations of the definitions.
-use Rattle.std.proofs.Common.{◌≡◌, ◌+◌, ◌^◌, [], ◌∷◌, ◌++◌, refl}
-use Rattle.std.specs.Prelude.{Some, None, true, false, replicate}
+use Rattle.std.proofs.Common.{◌≡◌, ℕ, ◌+◌, ◌^◌, [], ◌∷◌, ◌++◌, refl}
+use Rattle.std.specs.Prelude.{Option, Some, None, true, false, replicate}
 use Rattle.disk_places.specs.Places.{Geometry, first_data, data_blocks, reserve, inode_line, name_line, log_line}
 use Rattle.disk_places.specs.Superblock.{superblock, has_magic, has_version, has_numbers}
 use Rattle.disk_places.specs.Fields.{zeros}
 use Rattle.disk_lines.specs.declared.Draft.{Draft}
 use Rattle.disk_lines.specs.declared.Inode.{Inode}
 use Rattle.disk_lines.specs.declared.Kind.TheVariants.{Directory, File}
-use Rattle.disk_lines.specs.Lines.{FreeName, Named, BadName, decode_inode, decode_name, is_inode, is_name}
+use Rattle.disk_lines.specs.Lines.{NameRow, FreeName, Named, BadName, decode_inode, decode_name, is_inode, is_name}
+use Rattle.disk_lines.specs.Names.{Rows, parent_of, ends_at_root}
 use Rattle.disk_lines.specs.Entries.{fnv_1a, fnv_1a_from, entry_body, encode_entry, decode_entry, is_draft, is_self_valid}
 
 -- the default image, and a small one
@@ -121,3 +122,23 @@ entry_staging = refl
 entry_sizes : is_draft (record an_entry { size = 16777216 }) ∷ is_draft (record an_entry { size = 16777217 }) ∷ [] ≡ true ∷ false ∷ []
 unfolding an_entry
 entry_sizes = refl
+
+-- Going up: two directories one in the other and a file below, a second name of the file higher up in the table, and a
+-- ring of two directories.
+row_of : ℕ → ℕ → Option NameRow
+row_of parent child = Some (record { parent = parent; child = child; name = 97 ∷ [] })
+
+table : Rows
+table = row_of 0 5 ∷ row_of 6 7 ∷ None ∷ row_of 5 6 ∷ row_of 0 7 ∷ row_of 9 8 ∷ row_of 8 9 ∷ []
+
+lowest_line : parent_of table 7 ∷ parent_of table 6 ∷ parent_of table 0 ∷ [] ≡ Some 6 ∷ Some 5 ∷ None ∷ []
+unfolding table row_of
+lowest_line = refl
+
+steps_up : ends_at_root table 0 0 ∷ ends_at_root table 2 7 ∷ ends_at_root table 3 7 ∷ ends_at_root table 16 7 ∷ [] ≡ true ∷ false ∷ true ∷ true ∷ []
+unfolding table row_of ends_at_root
+steps_up = refl
+
+no_way_up : ends_at_root table 16 8 ∷ ends_at_root table 16 9 ∷ ends_at_root table 16 3 ∷ [] ≡ false ∷ false ∷ false ∷ []
+unfolding table row_of ends_at_root
+no_way_up = refl

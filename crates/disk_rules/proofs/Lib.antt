@@ -1,1 +1,2 @@
+mod ImageRows
 mod Rows

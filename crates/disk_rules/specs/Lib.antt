@@ -2,6 +2,7 @@ pub mod Broken
 pub mod Chains
 pub mod Checked
 pub mod Content
+pub mod FreshVolume
 pub mod Honest
 pub mod Kept
 pub mod Listed

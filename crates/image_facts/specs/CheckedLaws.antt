@@ -1,5 +1,5 @@
 -- Laws of checked images: the rules by their parts and back, and as a list.
-use Rattle.std.specs.Prelude.{◌≡◌, ◌≢◌, ℕ, ◌+◌, ◌<◌, ◌≤◌, All, true, List, [], ◌∷◌, Option, Some, None, unwrap_or, slice_index_or, refl}
+use Rattle.std.specs.Prelude.{◌≡◌, ◌≢◌, ◌↔◌, ℕ, ◌+◌, ◌<◌, ◌≤◌, All, true, List, [], ◌∷◌, Option, Some, None, unwrap_or, slice_index_or, refl}
 use Rattle.std.proofs.Common.{arith, ap, sym, ◌∙◌, subst}
 use Rattle.std.proofs.lemmas.Bool.{and_from, and_parts}
 use Rattle.std.proofs.lemmas.Bool.Decides.{nat_tests}
@@ -11,7 +11,7 @@ use Rattle.disk_lines.specs.declared.Inode.{Inode}
 use Rattle.disk_lines.specs.Lines.{NameRow, NameSlot, FreeName, Named, BadName}
 use Rattle.disk_lines.specs.Names.{row}
 use Rattle.chain_facts.specs.RuleLaws.{volume-of_words, chain-of_rule}
-use Rattle.disk_rules.specs.Broken.{HoldAll, Breaks, rules_of}
+use Rattle.disk_rules.specs.Broken.{HoldAll, Breaks, head_rules, line_rules, rules_of}
 use Rattle.disk_rules.specs.Checked.{HasHead, AreLinesKept, IsLogKept, IsCheckedAs}
 use Rattle.disk_rules.specs.Chains.{chain_of, map_of}
 use Rattle.disk_rules.specs.Kept.{IsNamedRow, AreKept}
@@ -160,43 +160,40 @@ checked-parts bytes f v parts =
 
 -- The rules as a list.
 
-data-within : (g : Geometry) (b : ℕ) → first_data g ≤ b → b < first_data g + data_blocks g → is_data_block g b ≡ true
+pub data-within : (g : Geometry) (b : ℕ) → first_data g ≤ b → b < first_data g + data_blocks g → is_data_block g b ≡ true
 data-within g b from below = grind (arith, nat_tests)
 
 within-data : (g : Geometry) (b : ℕ) → is_data_block g b ≡ true → (first_data g ≤ b) × (b < first_data g + data_blocks g)
 within-data g b h = grind (arith, nat_tests)
 
 pub HoldAll-kept : (bytes : ℕ) (f : Words) (v : Volume) (j : Words) → AreRulesKept bytes f v j → HoldAll (rules_of bytes f v j)
-HoldAll-kept bytes f v j c =
+HoldAll-kept bytes f v j c = (
+  λ p from below. c.rule_1,
+  (
+    λ p from below. c.rule_2,
     (
-      λ p from below. c.rule_1,
+      λ p from below. c.rule_3,
       (
-        λ p from below. c.rule_2,
+        λ p from below. c.rule_4,
         (
-          λ p from below. c.rule_3,
+          λ p from below. c.rule_11_records p (omega arith),
           (
-            λ p from below. c.rule_4,
+            λ p from below. c.rule_11_state,
             (
-              λ p from below. c.rule_11_records p (omega arith),
+              λ p from below. c.rule_5 p (omega arith),
               (
-                λ p from below. c.rule_11_state,
+                λ p from below. c.rule_6 p (omega arith),
                 (
-                  λ p from below. c.rule_5 p (omega arith),
+                  λ p from below. c.rule_7 p (omega arith),
                   (
-                    λ p from below. c.rule_6 p (omega arith),
+                    λ p from below. c.rule_8 p (data-within v.geometry p from below),
                     (
-                      λ p from below. c.rule_7 p (omega arith),
+                      λ p from below. c.rule_9_lines p (omega arith),
                       (
-                        λ p from below. c.rule_8 p (data-within v.geometry p from below),
+                        λ p from below. c.rule_9_directories,
                         (
-                          λ p from below. c.rule_9_lines p (omega arith),
-                          (
-                            λ p from below. c.rule_9_directories,
-                            (
-                              λ p from below. c.rule_10 p (omega arith),
-                              (λ p from below. c.rule_12, (λ p from below. c.rule_13 p (omega arith), tt)),
-                            ),
-                          ),
+                          λ p from below. c.rule_10 p (omega arith),
+                          (λ p from below. c.rule_12, (λ p from below. c.rule_13 p (omega arith), tt)),
                         ),
                       ),
                     ),
@@ -207,7 +204,9 @@ HoldAll-kept bytes f v j c =
           ),
         ),
       ),
-    )
+    ),
+  ),
+)
 
 pub kept-HoldAll : (bytes : ℕ) (f : Words) (v : Volume) (j : Words) → HoldAll (rules_of bytes f v j) → AreRulesKept bytes f v j
 kept-HoldAll bytes f v j (r1, (r2, (r3, (r4, (records, (state, (r5, (r6, (r7, (r8, (lines, (directories, (r10, (r12, (r13, end))))))))))))))) =
@@ -229,6 +228,25 @@ kept-HoldAll bytes f v j (r1, (r2, (r3, (r4, (records, (state, (r5, (r6, (r7, (r
       rule_13 = λ slot below. r13 slot (omega arith) (omega arith);
     }
 
+-- The rules of the head, and of the lines.
+pub HoldAll-head : (bytes : ℕ) (f : Words) → HasHead bytes f → HoldAll (head_rules bytes f)
+HoldAll-head bytes f head = (
+  λ p from below. head.whole_blocks,
+  (
+    λ p from below. head.magic,
+    (
+      λ p from below. head.version,
+      (λ p from below. head.numbers, (λ p from below. head.records p (omega arith), (λ p from below. head.state, tt))),
+    ),
+  ),
+)
+
+pub HoldAll-lines : (v : Volume) (j : Words) → AreLinesKept v j → HoldAll (line_rules v j)
+HoldAll-lines v j lines = (
+  λ p from below. lines.inodes p (omega arith),
+  (λ p from below. lines.names p (omega arith), (λ p from below. lines.chains p (omega arith), tt)),
+)
+
 -- a checked image breaks no rule
 pub checked-unbroken : (bytes : ℕ) (f : Words) (number place : ℕ) → IsChecked bytes f → Breaks bytes f number place → ⊥
 checked-unbroken bytes f number place c =
@@ -238,3 +256,9 @@ checked-unbroken bytes f number place c =
 -- two first broken rules of an image are one rule, at one place
 pub Breaks-one : (bytes : ℕ) (f : Words) (m p n q : ℕ) → Breaks bytes f m p → Breaks bytes f n q → (m ≡ n) × (p ≡ q)
 Breaks-one bytes f = BreaksFirst-one (rules_of bytes f (volume (geometry_of f) (journaled f)) (journaled f))
+
+-- and its rules are those of the list
+pub checked-HoldAll : (bytes : ℕ) (f : Words) → IsChecked bytes f ↔ HoldAll (rules_of bytes f (volume (geometry_of f) (journaled f)) (journaled f))
+checked-HoldAll bytes f =
+    let v = volume (geometry_of f) (journaled f) in
+    (HoldAll-kept bytes f v (journaled f), kept-HoldAll bytes f v (journaled f))

@@ -29,6 +29,6 @@ claim-one base lines claims first n d e ok fits e_ok e_fits claimed e_claimed ho
     let same : encode_entry d (base + n) ≡ encode_entry e (base + n) = sym (holds.claimed n d claimed).1.spelled ∙ (holds.claimed n e e_claimed).1.spelled in
     same_Some d e
     (
-      sym (decode_entry-encode_entry d (base + n) fits ok) ∙ ap (λ bytes. decode_entry bytes (base + n)) same
-      ∙ decode_entry-encode_entry e (base + n) e_fits e_ok
+    sym (decode_entry-encode_entry d (base + n) fits ok) ∙ ap (λ bytes. decode_entry bytes (base + n)) same
+    ∙ decode_entry-encode_entry e (base + n) e_fits e_ok
     )

@@ -2,4 +2,9 @@ pub mod BrokenLaws
 pub mod CheckedLaws
 pub mod ClaimLaws
 pub mod ClimbLaws
+pub mod FreshLaws
+pub mod FreshLines
 pub mod HonestLaws
+pub mod KeptRules
+pub mod Laws
+pub mod ViewLaws

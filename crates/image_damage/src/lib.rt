@@ -1,0 +1,2 @@
+//! The first broken rule of damaged images.
+#![tactic(auto)]

@@ -18,7 +18,8 @@ use Rattle.volume_facts.specs.Lists.{one_if}
 pub forest-one_name_each : (rows : Rows) → ((ino : ℕ) → names_of rows ino ≤ 1) → HasOneNameEach rows
 forest-one_name_each rows few = record {
   one_line = λ j k r s is_r is_s same entries.
-      names_of-one_line rows s.child j k (few s.child) (ap (is_child s.child) is_r ∙ eq-eqb r.child s.child same) (ap (is_child s.child) is_s ∙ eq-eqb s.child s.child refl);
+      names_of-one_line rows s.child j k (few s.child) (ap (is_child s.child) is_r ∙ eq-eqb r.child s.child same)
+      (ap (is_child s.child) is_s ∙ eq-eqb s.child s.child refl);
 }
 
 pub forest-acyclic : (rows : Rows) → IsForest rows → IsAcyclic rows
@@ -49,7 +50,8 @@ up-unmoved rows others child zero ino same never = refl
 up-unmoved rows others child (suc n) ino same never =
     let apart : ino ≢ child = λ e. never 0 (omega arith) (ap (λ (i : ℕ). Some i) e) in
     by (parent_of rows ino) refl (same ino apart)
-    (λ p is. up-unmoved rows others child n p same (λ m below meets. never (suc m) (omega arith) (ap (option_and_then (up rows m)) is ∙ meets)))
+    (λ p is. up-unmoved rows others child n p same
+    (λ m below meets. never (suc m) (omega arith) (ap (option_and_then (up rows m)) is ∙ meets)))
   where
     by : (o : Option ℕ) → parent_of rows ino ≡ o → parent_of others ino ≡ parent_of rows ino
         → ((p : ℕ) → parent_of rows ino ≡ Some p → up others n p ≡ up rows n p)
@@ -70,30 +72,36 @@ unfolding up
 empty-not_met rows child n ino empty apart zero below meets = apart (same_Some ino child meets)
 empty-not_met rows child n ino empty apart (suc m) below meets =
     option_and_then_some (up rows m) (parent_of rows ino) child meets (λ p is_parent is_met.
-    empty-not_met rows child n p empty (λ e. both_ways (has_entries rows child) empty (subst (λ i. has_entries rows i ≡ true) e (parent-has_entries rows ino p is_parent))) m (omega arith) is_met)
+    empty-not_met rows child n p empty
+    (λ e. both_ways (has_entries rows child) empty
+    (subst (λ i. has_entries rows i ≡ true) e (parent-has_entries rows ino p is_parent))) m (omega arith) is_met)
 
 -- going up from every other inode is the same, where one without entries gets a name, or loses it
 pub up-empty : (rows others : Rows) (child n ino : ℕ) → SameAbove child rows others → has_entries rows child ≡ false
     → ino ≢ child → up others n ino ≡ up rows n ino
-up-empty rows others child n ino same empty apart = up-unmoved rows others child n ino same (empty-not_met rows child n ino empty apart)
+up-empty rows others child n ino same empty apart =
+    up-unmoved rows others child n ino same (empty-not_met rows child n ino empty apart)
 
 -- so it is when a free line is taken for a node without entries, and when the line of one is freed
 pub up-taken : (rows : Rows) (line : ℕ) (r : NameRow) (n ino : ℕ) → row rows line ≡ None
     → has_entries rows r.child ≡ false → ino ≢ r.child → up (slice_set rows line (Some r)) n ino ≡ up rows n ino
 up-taken rows line r n ino free empty apart =
-    up-empty rows (slice_set rows line (Some r)) r.child n ino (λ i other. parent_of-taken_other rows line r i free (λ e. other (sym e))) empty apart
+    up-empty rows (slice_set rows line (Some r)) r.child n ino
+    (λ i other. parent_of-taken_other rows line r i free (λ e. other (sym e))) empty apart
 
 pub up-freed : (rows : Rows) (line : ℕ) (r : NameRow) (n ino : ℕ) → row rows line ≡ Some r
     → has_entries rows r.child ≡ false → ino ≢ r.child → up (slice_set rows line None) n ino ≡ up rows n ino
 up-freed rows line r n ino is empty apart =
-    up-empty rows (slice_set rows line None) r.child n ino (λ i other. parent_of-freed_other rows line r i is (λ e. other (sym e))) empty apart
+    up-empty rows (slice_set rows line None) r.child n ino
+    (λ i other. parent_of-freed_other rows line r i is (λ e. other (sym e))) empty apart
 
 -- from the new node one goes up by the directory of its line
 pub up-taken_child : (rows : Rows) (line : ℕ) (r : NameRow) (n : ℕ) → line < length rows → row rows line ≡ None
     → names_of rows r.child ≡ 0 → has_entries rows r.child ≡ false → r.parent ≢ r.child
     → up (slice_set rows line (Some r)) (suc n) r.child ≡ up rows n r.parent
 up-taken_child rows line r n within free unnamed empty apart =
-    up-parent (slice_set rows line (Some r)) n r.child r.parent (parent_of-taken rows line r within free unnamed) ∙ up-taken rows line r n r.parent free empty apart
+    up-parent (slice_set rows line (Some r)) n r.child r.parent (parent_of-taken rows line r within free unnamed)
+    ∙ up-taken rows line r n r.parent free empty apart
 
 -- within n steps one meets it, or does not
 pub meets-or_not : (rows : Rows) (child n ino : ℕ)
@@ -166,7 +174,8 @@ pub forest-taken : (rows : Rows) (line : ℕ) (r : NameRow) → line < length ro
     → names_of rows r.child ≡ 0 → has_entries rows r.child ≡ false → r.parent ≢ r.child → IsForest rows
     → IsForest (slice_set rows line (Some r))
 forest-taken rows line r within free new unnamed empty apart forest = record {
-  keyed = keyed-set rows line r forest.keyed (λ k entry. absurd (both_ways (is_entry r.parent r.name (row rows k)) (new k) entry));
+  keyed = keyed-set rows line r forest.keyed
+      (λ k entry. absurd (both_ways (is_entry r.parent r.name (row rows k)) (new k) entry));
   one_name = λ ino. elim (cases_eq r.child ino) [
     | inl same ↦ omega (arith, names_of-taken rows line r ino within free, ap (names_of rows) same, unnamed, ap one_if (eq-eqb r.child ino same))
     | inr other ↦ omega (arith, names_of-taken rows line r ino within free, forest.one_name ino, ap one_if (ne_eqb r.child ino other))
@@ -198,6 +207,7 @@ forest-moved rows line r s within is same new outside forest = record {
   one_name = λ ino. omega (arith, names_of-moved rows line r s ino within is same, forest.one_name ino);
   ends = ends-moved rows (slice_set rows line (Some s)) r.child s.parent
       (λ ino other. parent_of-moved_other rows line r s ino is same (λ e. other (sym e)))
-      (ap (parent_of (slice_set rows line (Some s))) (sym same) ∙ parent_of-moved rows line r s within is same (forest.one_name r.child))
+      (ap (parent_of (slice_set rows line (Some s))) (sym same)
+      ∙ parent_of-moved rows line r s within is same (forest.one_name r.child))
       outside forest.ends;
 }

@@ -35,7 +35,8 @@ reads-all_lines g f v r = record {
 -- a row of it is placed, and names a node
 pub kept-placed : (v : Volume) (k : ℕ) (r : NameRow) → AreKept v → HasAllLines v → row v.names k ≡ Some r
     → IsPlaced v k r
-kept-placed v k r kept all is = subst (IsRowPlaced v k) is (kept.placed k (omega (arith, all.name_count, row-below v.names k r is)))
+kept-placed v k r kept all is =
+    subst (IsRowPlaced v k) is (kept.placed k (omega (arith, all.name_count, row-below v.names k r is)))
 
 pub kept-named : (v : Volume) (k : ℕ) (r : NameRow) → AreKept v → HasAllLines v → row v.names k ≡ Some r → IsNamed v r
 kept-named v k r kept all is = subst (IsNamedRow v) is (kept.named k (omega (arith, all.name_count, row-below v.names k r is)))
@@ -98,11 +99,15 @@ kept-ends v kept all ino = by (parent_of v.names ino) refl
         let placed = kept-placed v named.1.line named.1.at kept all named.1.is in
         let steps : (n : ℕ) × (n < 16) × (up v.names n named.1.at.parent ≡ Some 0) = placed.steps in
         let at_p : up v.names steps.0 p ≡ Some 0 = ap (up v.names steps.0) (sym named.1.parent_is) ∙ steps.2 in
-        let top : parent_of v.names 0 ≡ None = parent_of-none v.names 0 kept.directories.root in
-        (suc (suc steps.0), up-parent v.names (suc steps.0) ino p is ∙ up-past v.names steps.0 (suc steps.0) p 0 at_p top (omega arith))
+        let top : parent_of v.names 0 ≡ None = parent_of-none v.names 0 kept.directories.root in (
+          suc (suc steps.0),
+          up-parent v.names (suc steps.0) ino p is
+              ∙ up-past v.names steps.0 (suc steps.0) p 0 at_p top (omega arith),
+        )
 
 pub kept-forest : (v : Volume) → AreKept v → HasAllLines v → IsForest v.names
-kept-forest v kept all = record { keyed = kept-keyed v kept all; one_name = kept-one_name v kept all; ends = kept-ends v kept all }
+kept-forest v kept all =
+    record { keyed = kept-keyed v kept all; one_name = kept-one_name v kept all; ends = kept-ends v kept all }
 
 pub kept-acyclic : (v : Volume) → AreKept v → HasAllLines v → IsAcyclic v.names
 kept-acyclic v kept all = forest-acyclic v.names (kept-forest v kept all)

@@ -52,7 +52,8 @@ pub first_row-nothing : (test : Option NameRow → Bool) (n : ℕ) (rows : Rows)
     → first_row_from test n rows ≡ None
 first_row-nothing test n [] none = refl
 first_row-nothing test n (o ∷ rows) none =
-    cond-false (test o) (Some (n, o)) (first_row_from test (n + 1) rows) (none 0) ∙ first_row-nothing test (n + 1) rows (λ k. none (suc k))
+    cond-false (test o) (Some (n, o)) (first_row_from test (n + 1) rows) (none 0)
+    ∙ first_row-nothing test (n + 1) rows (λ k. none (suc k))
 
 -- ---- one line is set
 
@@ -62,8 +63,10 @@ pub first_row-past : (test : Option NameRow → Bool) (rows : Rows) (n line : �
     → first_row_from test n (slice_set rows line o) ≡ first_row_from test n rows
 first_row-past test [] n line o was is = refl
 first_row-past test (x ∷ rows) n zero o was is =
-    cond-false (test o) (Some (n, o)) (first_row_from test (n + 1) rows) is ∙ sym (cond-false (test x) (Some (n, x)) (first_row_from test (n + 1) rows) was)
-first_row-past test (x ∷ rows) n (suc line) o was is = ap (cond (test x) (Some (n, x))) (first_row-past test rows (n + 1) line o was is)
+    cond-false (test o) (Some (n, o)) (first_row_from test (n + 1) rows) is
+    ∙ sym (cond-false (test x) (Some (n, x)) (first_row_from test (n + 1) rows) was)
+first_row-past test (x ∷ rows) n (suc line) o was is =
+    ap (cond (test x) (Some (n, x))) (first_row-past test rows (n + 1) line o was is)
 
 -- whether some line passes is the same, where the line passes after as it did before
 pub list_any-past : (test : Option NameRow → Bool) (rows : Rows) (line : ℕ) (o : Option NameRow)
@@ -83,7 +86,8 @@ has_entries-line rows parent k r is below =
 
 pub has_entries-parent : (rows : Rows) (parent k : ℕ) (r : NameRow) → has_entries rows parent ≡ false
     → row rows k ≡ Some r → r.parent ≢ parent
-has_entries-parent rows parent k r none is same = both_ways (has_entries rows parent) none (has_entries-line rows parent k r is same)
+has_entries-parent rows parent k r none is same =
+    both_ways (has_entries rows parent) none (has_entries-line rows parent k r is same)
 
 pub has_entries-none : (rows : Rows) (parent : ℕ) → ((k : ℕ) → is_below_parent parent (row rows k) ≡ false)
     → has_entries rows parent ≡ false
@@ -107,7 +111,8 @@ names_of-none rows ino none = elim (cases_lt 0 (names_of rows ino)) [
 
 pub names_of-zero : (rows : Rows) (ino : ℕ) → names_of rows ino ≡ 0 → (k : ℕ) → is_child ino (row rows k) ≡ false
 names_of-zero rows ino none k =
-    false_from_ne_true (is_child ino (row rows k)) (λ pass. omega (arith, count_by-at (is_child ino) rows k None (row-within rows k (is_child ino) refl pass) pass))
+    false_from_ne_true (is_child ino (row rows k))
+    (λ pass. omega (arith, count_by-at (is_child ino) rows k None (row-within rows k (is_child ino) refl pass) pass))
 
 -- an inode of one name at most has it in one line
 pub names_of-one_line : (rows : Rows) (ino j k : ℕ) → names_of rows ino ≤ 1 → is_child ino (row rows j) ≡ true

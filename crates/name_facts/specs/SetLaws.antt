@@ -104,19 +104,22 @@ find_name-past rows line o parent name was is =
 pub child_named-past : (rows : Rows) (line : ℕ) (o : Option NameRow) (parent : ℕ) (name : List ℕ)
     → is_entry parent name (row rows line) ≡ false → is_entry parent name o ≡ false
     → child_named (slice_set rows line o) parent name ≡ child_named rows parent name
-child_named-past rows line o parent name was is = ap (option_and_then (λ found. Some found.1)) (find_name-past rows line o parent name was is)
+child_named-past rows line o parent name was is =
+    ap (option_and_then (λ found. Some found.1)) (find_name-past rows line o parent name was is)
 
 -- a name that is new is found in its line
 pub find_name-set : (rows : Rows) (line : ℕ) (r : NameRow) → line < length rows → IsKeyed rows
     → ((k : ℕ) → is_entry r.parent r.name (row rows k) ≡ true → k ≡ line)
     → find_name (slice_set rows line (Some r)) r.parent r.name ≡ Some (line, r.child)
 find_name-set rows line r within keyed new =
-    find_name-at (slice_set rows line (Some r)) line r (keyed-set rows line r keyed new) (omega (arith, length-set rows line (Some r))) (row-set_same rows line (Some r) within)
+    find_name-at (slice_set rows line (Some r)) line r (keyed-set rows line r keyed new)
+    (omega (arith, length-set rows line (Some r))) (row-set_same rows line (Some r) within)
 
 pub child_named-set : (rows : Rows) (line : ℕ) (r : NameRow) → line < length rows → IsKeyed rows
     → ((k : ℕ) → is_entry r.parent r.name (row rows k) ≡ true → k ≡ line)
     → child_named (slice_set rows line (Some r)) r.parent r.name ≡ Some r.child
-child_named-set rows line r within keyed new = ap (option_and_then (λ found. Some found.1)) (find_name-set rows line r within keyed new)
+child_named-set rows line r within keyed new =
+    ap (option_and_then (λ found. Some found.1)) (find_name-set rows line r within keyed new)
 
 -- The same of every name at once, where the name was not found before.
 pub child_named-none : (rows : Rows) (parent : ℕ) (name : List ℕ) → child_named rows parent name ≡ None → (k : ℕ)
@@ -141,7 +144,9 @@ child_named-taken rows line r parent name within free new = elim (cases_Bool (is
         before = λ j below. ap (is_entry parent name) (row-set_other rows line (Some r) j (λ e. omega arith)) ∙ child_named-none rows parent name (new entry) j;
       }
       in
-      ap (λ o. option_and_then (λ (found : ℕ × ℕ). Some found.1) (option_and_then (λ (found : ℕ × Option NameRow). Some (line_and_child found)) o)) (first_row-first (is_entry parent name) others line (Some r) first)
+      ap (λ o. option_and_then (λ (found : ℕ × ℕ). Some found.1)
+      (option_and_then (λ (found : ℕ × Option NameRow). Some (line_and_child found)) o))
+      (first_row-first (is_entry parent name) others line (Some r) first)
       ∙ sym (cond-true (is_entry parent name (Some r)) (Some r.child) (child_named rows parent name) entry)
   | inr away ↦
       child_named-past rows line (Some r) parent name (ap (is_entry parent name) free) away
@@ -152,14 +157,16 @@ child_named-taken rows line r parent name within free new = elim (cases_Bool (is
 pub find_name-freed : (rows : Rows) (line : ℕ) (r : NameRow) → IsKeyed rows → row rows line ≡ Some r
     → find_name (slice_set rows line None) r.parent r.name ≡ None
 find_name-freed rows line r keyed is =
-    ap (option_and_then (λ found. Some (line_and_child found))) (first_row-nothing (is_entry r.parent r.name) 0 (slice_set rows line None) none)
+    ap (option_and_then (λ found. Some (line_and_child found)))
+    (first_row-nothing (is_entry r.parent r.name) 0 (slice_set rows line None) none)
   where
     none : (k : ℕ) → is_entry r.parent r.name (row (slice_set rows line None) k) ≡ false
     none k =
         false_from_ne_true (is_entry r.parent r.name (row (slice_set rows line None) k)) (λ entry.
         let parts = is_entry-parts r.parent r.name (row (slice_set rows line None) k) entry in
         let before = row-freed rows line k parts.0 parts.1 in
-        before.0 (keyed.one_line r.parent r.name k line (ap (is_entry r.parent r.name) (before.1 ∙ sym parts.1) ∙ entry) (is_entry-own (row rows line) r is)))
+        before.0 (keyed.one_line r.parent r.name k line
+        (ap (is_entry r.parent r.name) (before.1 ∙ sym parts.1) ∙ entry) (is_entry-own (row rows line) r is)))
 
 pub child_named-freed : (rows : Rows) (line : ℕ) (r : NameRow) → IsKeyed rows → row rows line ≡ Some r
     → child_named (slice_set rows line None) r.parent r.name ≡ None
@@ -189,26 +196,43 @@ naming_line-past rows line o parent name child names apart = record {
 -- one more name of the child whose line is taken, as many of each other one
 pub names_of-taken : (rows : Rows) (line : ℕ) (r : NameRow) (ino : ℕ) → line < length rows → row rows line ≡ None
     → names_of (slice_set rows line (Some r)) ino ≡ names_of rows ino + one_if (r.child == ino)
-names_of-taken rows line r ino within free = omega (arith, count_by-set (is_child ino) rows line (Some r) None within, ap (λ (o : Option NameRow). one_if (is_child ino o)) free)
+names_of-taken rows line r ino within free =
+    omega (
+      arith,
+      count_by-set (is_child ino) rows line (Some r) None within,
+      ap (λ (o : Option NameRow). one_if (is_child ino o)) free,
+    )
 
 -- one less where it is freed
 pub names_of-freed : (rows : Rows) (line : ℕ) (r : NameRow) (ino : ℕ) → line < length rows → row rows line ≡ Some r
     → names_of (slice_set rows line None) ino + one_if (r.child == ino) ≡ names_of rows ino
-names_of-freed rows line r ino within is = omega (arith, count_by-set (is_child ino) rows line None None within, ap (λ (o : Option NameRow). one_if (is_child ino o)) is)
+names_of-freed rows line r ino within is =
+    omega (arith, count_by-set (is_child ino) rows line None None within, ap (λ (o : Option NameRow). one_if (is_child ino o)) is)
 
 -- as many where a line goes over to another row of the same child
 pub names_of-moved : (rows : Rows) (line : ℕ) (r s : NameRow) (ino : ℕ) → line < length rows → row rows line ≡ Some r
     → s.child ≡ r.child → names_of (slice_set rows line (Some s)) ino ≡ names_of rows ino
 names_of-moved rows line r s ino within is same =
-    omega (arith, count_by-set (is_child ino) rows line (Some s) None within, ap (λ (o : Option NameRow). one_if (is_child ino o)) is, ap (λ c. one_if (c == ino)) same)
+    omega (
+      arith,
+      count_by-set (is_child ino) rows line (Some s) None within,
+      ap (λ (o : Option NameRow). one_if (is_child ino o)) is,
+      ap (λ c. one_if (c == ino)) same,
+    )
 
 pub free_lines-taken : (rows : Rows) (line : ℕ) (r : NameRow) → line < length rows → row rows line ≡ None
     → count_by is_free_row (slice_set rows line (Some r)) + 1 ≡ count_by is_free_row rows
-free_lines-taken rows line r within free = omega (arith, count_by-set is_free_row rows line (Some r) None within, ap (λ (o : Option NameRow). one_if (is_free_row o)) free)
+free_lines-taken rows line r within free =
+    omega (
+      arith,
+      count_by-set is_free_row rows line (Some r) None within,
+      ap (λ (o : Option NameRow). one_if (is_free_row o)) free,
+    )
 
 pub free_lines-freed : (rows : Rows) (line : ℕ) (r : NameRow) → line < length rows → row rows line ≡ Some r
     → count_by is_free_row (slice_set rows line None) ≡ count_by is_free_row rows + 1
-free_lines-freed rows line r within is = omega (arith, count_by-set is_free_row rows line None None within, ap (λ (o : Option NameRow). one_if (is_free_row o)) is)
+free_lines-freed rows line r within is =
+    omega (arith, count_by-set is_free_row rows line None None within, ap (λ (o : Option NameRow). one_if (is_free_row o)) is)
 
 -- ---- entries
 
@@ -220,26 +244,31 @@ has_entries-past rows line o parent same = list_any-past (is_below_parent parent
 
 pub has_entries-taken_other : (rows : Rows) (line : ℕ) (r : NameRow) (parent : ℕ) → row rows line ≡ None
     → r.parent ≢ parent → has_entries (slice_set rows line (Some r)) parent ≡ has_entries rows parent
-has_entries-taken_other rows line r parent free apart = has_entries-past rows line (Some r) parent (ne_eqb r.parent parent apart ∙ sym (ap (is_below_parent parent) free))
+has_entries-taken_other rows line r parent free apart =
+    has_entries-past rows line (Some r) parent (ne_eqb r.parent parent apart ∙ sym (ap (is_below_parent parent) free))
 
 pub has_entries-freed_other : (rows : Rows) (line : ℕ) (r : NameRow) (parent : ℕ) → row rows line ≡ Some r
     → r.parent ≢ parent → has_entries (slice_set rows line None) parent ≡ has_entries rows parent
-has_entries-freed_other rows line r parent is apart = has_entries-past rows line None parent (sym (ap (is_below_parent parent) is ∙ ne_eqb r.parent parent apart))
+has_entries-freed_other rows line r parent is apart =
+    has_entries-past rows line None parent (sym (ap (is_below_parent parent) is ∙ ne_eqb r.parent parent apart))
 
 -- a directory in which a line is taken has an entry; one that has another line keeps it
 pub has_entries-taken : (rows : Rows) (line : ℕ) (r : NameRow) → line < length rows
     → has_entries (slice_set rows line (Some r)) r.parent ≡ true
-has_entries-taken rows line r within = has_entries-line (slice_set rows line (Some r)) r.parent line r (row-set_same rows line (Some r) within) refl
+has_entries-taken rows line r within =
+    has_entries-line (slice_set rows line (Some r)) r.parent line r (row-set_same rows line (Some r) within) refl
 
 pub has_entries-kept : (rows : Rows) (line : ℕ) (o : Option NameRow) (parent k : ℕ) (r : NameRow) → k ≢ line
     → row rows k ≡ Some r → r.parent ≡ parent → has_entries (slice_set rows line o) parent ≡ true
-has_entries-kept rows line o parent k r apart is below = has_entries-line (slice_set rows line o) parent k r (row-set_other rows line o k apart ∙ is) below
+has_entries-kept rows line o parent k r apart is below =
+    has_entries-line (slice_set rows line o) parent k r (row-set_other rows line o k apart ∙ is) below
 
 -- one whose last entry is freed has none
 pub has_entries-emptied : (rows : Rows) (line parent : ℕ)
     → ((k : ℕ) (r : NameRow) → k ≢ line → row rows k ≡ Some r → r.parent ≢ parent)
     → has_entries (slice_set rows line None) parent ≡ false
-has_entries-emptied rows line parent last = has_entries-none (slice_set rows line None) parent (λ k. by k (row (slice_set rows line None) k) refl)
+has_entries-emptied rows line parent last =
+    has_entries-none (slice_set rows line None) parent (λ k. by k (row (slice_set rows line None) k) refl)
   where
     by : (k : ℕ) (o : Option NameRow) → row (slice_set rows line None) k ≡ o → is_below_parent parent o ≡ false
     by k None is = refl
@@ -250,24 +279,30 @@ has_entries-emptied rows line parent last = has_entries-none (slice_set rows lin
 -- of a child that another line names it is as before
 pub parent_of-past : (rows : Rows) (line : ℕ) (o : Option NameRow) (ino : ℕ) → is_child ino (row rows line) ≡ false
     → is_child ino o ≡ false → parent_of (slice_set rows line o) ino ≡ parent_of rows ino
-parent_of-past rows line o ino was is = ap (option_and_then (λ found. Some (parent_of_row found.1))) (first_row-past (is_child ino) rows 0 line o was is)
+parent_of-past rows line o ino was is =
+    ap (option_and_then (λ found. Some (parent_of_row found.1))) (first_row-past (is_child ino) rows 0 line o was is)
 
 pub parent_of-taken_other : (rows : Rows) (line : ℕ) (r : NameRow) (ino : ℕ) → row rows line ≡ None → r.child ≢ ino
     → parent_of (slice_set rows line (Some r)) ino ≡ parent_of rows ino
-parent_of-taken_other rows line r ino free apart = parent_of-past rows line (Some r) ino (ap (is_child ino) free) (ne_eqb r.child ino apart)
+parent_of-taken_other rows line r ino free apart =
+    parent_of-past rows line (Some r) ino (ap (is_child ino) free) (ne_eqb r.child ino apart)
 
 pub parent_of-freed_other : (rows : Rows) (line : ℕ) (r : NameRow) (ino : ℕ) → row rows line ≡ Some r → r.child ≢ ino
     → parent_of (slice_set rows line None) ino ≡ parent_of rows ino
-parent_of-freed_other rows line r ino is apart = parent_of-past rows line None ino (ap (is_child ino) is ∙ ne_eqb r.child ino apart) refl
+parent_of-freed_other rows line r ino is apart =
+    parent_of-past rows line None ino (ap (is_child ino) is ∙ ne_eqb r.child ino apart) refl
 
 pub parent_of-moved_other : (rows : Rows) (line : ℕ) (r s : NameRow) (ino : ℕ) → row rows line ≡ Some r
     → s.child ≡ r.child → r.child ≢ ino → parent_of (slice_set rows line (Some s)) ino ≡ parent_of rows ino
 parent_of-moved_other rows line r s ino is same apart =
-    parent_of-past rows line (Some s) ino (ap (is_child ino) is ∙ ne_eqb r.child ino apart) (ne_eqb s.child ino (λ e. apart (sym same ∙ e)))
+    parent_of-past rows line (Some s) ino (ap (is_child ino) is ∙ ne_eqb r.child ino apart)
+    (ne_eqb s.child ino (λ e. apart (sym same ∙ e)))
 
 -- of a child without a name there is none; of one with one name it is that line's, entries below it or not
 pub parent_of-none : (rows : Rows) (ino : ℕ) → names_of rows ino ≡ 0 → parent_of rows ino ≡ None
-parent_of-none rows ino none = ap (option_and_then (λ found. Some (parent_of_row found.1))) (first_row-nothing (is_child ino) 0 rows (names_of-zero rows ino none))
+parent_of-none rows ino none =
+    ap (option_and_then (λ found. Some (parent_of_row found.1)))
+    (first_row-nothing (is_child ino) 0 rows (names_of-zero rows ino none))
 
 pub parent_of-one_name : (rows : Rows) (line : ℕ) (r : NameRow) → names_of rows r.child ≤ 1 → row rows line ≡ Some r
     → parent_of rows r.child ≡ Some r.parent
@@ -287,15 +322,19 @@ parent_of-one_name rows line r few is =
 pub parent_of-taken : (rows : Rows) (line : ℕ) (r : NameRow) → line < length rows → row rows line ≡ None
     → names_of rows r.child ≡ 0 → parent_of (slice_set rows line (Some r)) r.child ≡ Some r.parent
 parent_of-taken rows line r within free none =
-    parent_of-one_name (slice_set rows line (Some r)) line r (omega (arith, names_of-taken rows line r r.child within free, none, ap one_if (eq-eqb r.child r.child refl))) (row-set_same rows line (Some r) within)
+    parent_of-one_name (slice_set rows line (Some r)) line r
+    (omega (arith, names_of-taken rows line r r.child within free, none, ap one_if (eq-eqb r.child r.child refl)))
+    (row-set_same rows line (Some r) within)
 
 pub parent_of-freed : (rows : Rows) (line : ℕ) (r : NameRow) → line < length rows → row rows line ≡ Some r
     → names_of rows r.child ≤ 1 → parent_of (slice_set rows line None) r.child ≡ None
 parent_of-freed rows line r within is few =
-    parent_of-none (slice_set rows line None) r.child (omega (arith, names_of-freed rows line r r.child within is, few, ap one_if (eq-eqb r.child r.child refl)))
+    parent_of-none (slice_set rows line None) r.child
+    (omega (arith, names_of-freed rows line r r.child within is, few, ap one_if (eq-eqb r.child r.child refl)))
 
 pub parent_of-moved : (rows : Rows) (line : ℕ) (r s : NameRow) → line < length rows → row rows line ≡ Some r
     → s.child ≡ r.child → names_of rows r.child ≤ 1 → parent_of (slice_set rows line (Some s)) s.child ≡ Some s.parent
 parent_of-moved rows line r s within is same few =
     let few_s : names_of rows s.child ≤ 1 = rw same few in
-    parent_of-one_name (slice_set rows line (Some s)) line s (omega (arith, names_of-moved rows line r s s.child within is same, few_s)) (row-set_same rows line (Some s) within)
+    parent_of-one_name (slice_set rows line (Some s)) line s
+    (omega (arith, names_of-moved rows line r s s.child within is same, few_s)) (row-set_same rows line (Some s) within)

@@ -17,7 +17,8 @@ unfolding walk
 walk-empty rows ino [] end empty leads = same_Some ino end leads
 walk-empty rows ino (name ∷ names) end empty leads =
     let step = walk-step rows ino name names end leads in
-    absurd (both_ways (has_entries rows ino) empty (has_entries-line rows ino step.first.line step.first.at step.first.is step.first.parent_is))
+    absurd (both_ways (has_entries rows ino) empty
+    (has_entries-line rows ino step.first.line step.first.at step.first.is step.first.parent_is))
 
 -- ---- a line is taken
 
@@ -36,7 +37,8 @@ walk-kept rows line r ino (name ∷ names) end free new leads =
     let clash : None ≡ Some c = sym none ∙ is_child in
     cc)
     in
-    walk-cons (slice_set rows line (Some r)) ino name names c (child_named-past rows line (Some r) ino name (ap (is_entry ino name) free) other ∙ is_child)
+    walk-cons (slice_set rows line (Some r)) ino name names c
+    (child_named-past rows line (Some r) ino name (ap (is_entry ino name) free) other ∙ is_child)
     ∙ walk-kept rows line r c names end free new rest)
 
 -- the new name is found behind each path to its directory
@@ -59,7 +61,9 @@ entry_child rows line r ino name c within keyed new entry is_child =
     let is : r ≡ parts.0 = same_Some r parts.0 parts.1 in
     let parent_is : r.parent ≡ ino = ap (λ (x : NameRow). x.parent) is ∙ parts.2 in
     let name_is : r.name ≡ name = ap (λ (x : NameRow). x.name) is ∙ parts.3 in
-    same_Some c r.child (sym is_child ∙ sym (λ i. child_named (slice_set rows line (Some r)) (parent_is i) (name_is i)) ∙ child_named-set rows line r within keyed new)
+    same_Some c r.child (sym is_child
+    ∙ sym (λ i. child_named (slice_set rows line (Some r)) (parent_is i) (name_is i))
+    ∙ child_named-set rows line r within keyed new)
 
 -- and no other path leads where none led: a path leads where it led, or to the new child
 pub walk-taken : (rows : Rows) (line : ℕ) (r : NameRow) (ino : ℕ) (names : List (List ℕ)) (end : ℕ)
@@ -70,12 +74,14 @@ pub walk-taken : (rows : Rows) (line : ℕ) (r : NameRow) (ino : ℕ) (names : L
 unfolding walk
 walk-taken rows line r ino [] end within keyed free new empty apart leads = inl leads
 walk-taken rows line r ino (name ∷ names) end within keyed free new empty apart leads =
-    option_and_then_some (λ c. walk (slice_set rows line (Some r)) c names) (child_named (slice_set rows line (Some r)) ino name) end leads
+    option_and_then_some (λ c. walk (slice_set rows line (Some r)) c names)
+    (child_named (slice_set rows line (Some r)) ino name) end leads
     (λ c is_child rest. elim (cases_Bool (is_entry ino name (Some r))) [
       | inl entry ↦
           let still : has_entries (slice_set rows line (Some r)) r.child ≡ false = has_entries-taken_other rows line r r.child free apart ∙ empty in
           let same : c ≡ r.child = entry_child rows line r ino name c within keyed new entry is_child in
-          inr (sym (walk-empty (slice_set rows line (Some r)) c names end (ap (has_entries (slice_set rows line (Some r))) same ∙ still) rest) ∙ same)
+          inr (sym (walk-empty (slice_set rows line (Some r)) c names end
+          (ap (has_entries (slice_set rows line (Some r))) same ∙ still) rest) ∙ same)
       | inr away ↦
           let before : child_named rows ino name ≡ Some c = sym (child_named-past rows line (Some r) ino name (ap (is_entry ino name) free) away) ∙ is_child in
           elim (walk-taken rows line r c names end within keyed free new empty apart rest) [
@@ -105,7 +111,8 @@ walk-led rows line ino (name ∷ names) end keyed leads =
       child_is = step.first.child_is;
     }
     in
-    walk-cons rows ino name names step.child (child_named-NamingLine rows ino name step.child keyed named) ∙ walk-led rows line step.child names end keyed step.rest
+    walk-cons rows ino name names step.child (child_named-NamingLine rows ino name step.child keyed named)
+    ∙ walk-led rows line step.child names end keyed step.rest
 
 -- a path to another inode than the child, which has no entries, leads there still
 pub walk-stays : (rows : Rows) (line : ℕ) (r : NameRow) (ino : ℕ) (names : List (List ℕ)) (end : ℕ) → IsKeyed rows

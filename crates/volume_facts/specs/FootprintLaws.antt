@@ -35,7 +35,8 @@ entry_in-same v f h same s below =
 
 pub live_entries-same : (v : Volume) (f h : Words) → SameLog v.geometry f h → live_entries v h ≡ live_entries v f
 live_entries-same v f h same =
-    ap (filter (is_live v)) (filter_map-agree (entry_in v h) (entry_in v f) 0 v.geometry.log (λ s low below. entry_in-same v f h same s (omega arith)))
+    ap (filter (is_live v)) (filter_map-agree (entry_in v h) (entry_in v f) 0 v.geometry.log
+    (λ s low below. entry_in-same v f h same s (omega arith)))
 
 -- the bytes of a block whose words are the same
 byte_in-same : (f h : Words) (o : Option ℕ) (i : ℕ)
@@ -49,8 +50,10 @@ byte_in-same f h (Some b) i same =
 pub bytes_of_file-same : (v : Volume) (live : List Draft) (f h : Words) (ino : ℕ) → is_file (inode v ino).kind ≡ true
     → SameData v live f h → bytes_of_file v live h ino ≡ bytes_of_file v live f ino
 bytes_of_file-same v live f h ino file same =
-    map-agree (λ i. byte_in h (disk_of v live ino (i / 4096)) i) (λ i. byte_in f (disk_of v live ino (i / 4096)) i) 0 (size_of v live ino)
-    (λ i low below. byte_in-same f h (disk_of v live ino (i / 4096)) i (λ b j is word. same.words ino (i / 4096) b j file (omega arith) is word))
+    map-agree (λ i. byte_in h (disk_of v live ino (i / 4096)) i) (λ i. byte_in f (disk_of v live ino (i / 4096)) i) 0
+    (size_of v live ino)
+    (λ i low below. byte_in-same f h (disk_of v live ino (i / 4096)) i
+    (λ b j is word. same.words ino (i / 4096) b j file (omega arith) is word))
 
 pub node_of-same : (v : Volume) (live : List Draft) (f h : Words) (ino : ℕ) → SameData v live f h
     → node_of v live h ino ≡ node_of v live f ino
@@ -68,7 +71,8 @@ node_of-same v live f h ino same = by (inode v ino).kind (λ file. bytes_of_file
 pub found-same : (v : Volume) (live : List Draft) (f h : Words) → SameData v live f h → found v live h ≡ found v live f
 unfolding found
 found-same v live f h same =
-    fun_ext (λ path. ap (λ (node : ℕ → Option Node). option_and_then node (walk v.names 0 path)) (fun_ext (λ ino. node_of-same v live f h ino same)))
+    fun_ext (λ path. ap (λ (node : ℕ → Option Node). option_and_then node (walk v.names 0 path))
+    (fun_ext (λ ino. node_of-same v live f h ino same)))
 
 -- The footprint: words that read as the volume, with the log lines and the files' blocks of others, have as their
 -- content what the volume makes of those.
@@ -127,4 +131,5 @@ pub content-image : (g : Geometry) (v : Volume) (blocks : List ℕ) (before imag
     → content g image ≡ content g before
 content-image g v blocks before image free unread same r =
     content-outside g v blocks (journaled before) (journaled image) free unread
-    (λ i outside. journaled-same before image i (λ w journal. same w (journal-outside g blocks w free.in_data journal)) (same i outside)) r
+    (λ i outside. journaled-same before image i
+    (λ w journal. same w (journal-outside g blocks w free.in_data journal)) (same i outside)) r

@@ -1,4 +1,5 @@
 pub mod BoundLaws
+pub mod KeptLaws
 pub mod Laws
 pub mod OwnerLaws
 pub mod PoolLaws

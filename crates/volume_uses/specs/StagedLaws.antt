@@ -41,8 +41,11 @@ pub entry_of_block-of : (P : Draft → Type 0) (live : List Draft) (ino block : 
     → entry_of_block live ino block ≡ Some d → P d × (is_within d.file_block d.count block ≡ true)
 entry_of_block-of P live ino block d all is =
     let test : Draft → Bool = λ x. (x.ino == ino) && is_within x.file_block x.count block in
-    let has : test d ≡ true = latest-of (λ x. test x ≡ true) (filter test live) d (filter_passes test live) is in
-    (latest-of P (filter test live) d (All-filter test P live all) is, (and_parts (d.ino == ino) (is_within d.file_block d.count block) has).1)
+    let has : test d ≡ true = latest-of (λ x. test x ≡ true) (filter test live) d (filter_passes test live) is in (
+      latest-of P (filter test live) d
+          (All-filter test P live all) is,
+      (and_parts (d.ino == ino) (is_within d.file_block d.count block) has).1,
+    )
 
 -- a file is an inode in range
 file_below : (v : Volume) (ino : ℕ) → is_file (inode v ino).kind ≡ true → ino < length v.inodes
@@ -61,7 +64,8 @@ unchained-staged v staging from blocks count once staged = record {
   in_data = staged.in_data;
   apart = λ ino k j ino_below k_below j_below same.
       let b = block_at blocks j in
-      no_chain_has v b staging ino k (once b (staged.in_data j 0 j_below)) staged.below (omega arith) (covers-disk_at (extents v staging) (from + j) b (staged.at j j_below)) k_below (sym same);
+      let covered = covers-disk_at (extents v staging) (from + j) b (staged.at j j_below) in
+      no_chain_has v b staging ino k (once b (staged.in_data j 0 j_below)) staged.below (omega arith) covered k_below (sym same);
 }
 
 pub unread-staged : (v : Volume) (live : List Draft) (staging from : ℕ) (blocks : List ℕ)
@@ -70,7 +74,8 @@ pub unread-staged : (v : Volume) (live : List Draft) (staging from : ℕ) (block
     → AreUnread v live blocks
 unread-staged v live staging from blocks once staged elsewhere = record {
   apart = λ ino block b k file within is below same.
-      by ino block b k file below (subst (λ n. IsNamedOnce v n) same (once (block_at blocks k) (staged.in_data k 0 below))) (staged.at k below ∙ ap Some same) (entry_of_block live ino block) refl is;
+      let named : IsNamedOnce v b = subst (λ n. IsNamedOnce v n) same (once (block_at blocks k) (staged.in_data k 0 below)) in
+      by ino block b k file below named (staged.at k below ∙ ap Some same) (entry_of_block live ino block) refl is;
 }
   where
     by : (ino block b k : ℕ) → is_file (inode v ino).kind ≡ true → k < length blocks → IsNamedOnce v b
@@ -97,5 +102,7 @@ pub content-staged : (g : Geometry) (v : Volume) (staging from : ℕ) (blocks : 
     → ((i : ℕ) → IsOutside blocks i → image i ≡ before i)
     → content g image ≡ content g before
 content-staged g v staging from blocks before image r once staged elsewhere same =
-    let unchained : AreUnchained g v blocks = subst (λ x. AreUnchained x v blocks) r.geometry (unchained-staged v staging from blocks (omega (arith, r.inode_count, ap (λ (x : Geometry). x.inodes) r.geometry)) once staged) in
-    content-image g v blocks before image unchained (unread-staged v (live_entries v (journaled before)) staging from blocks once staged elsewhere) same r
+    let count : length v.inodes ≡ v.geometry.inodes = r.inode_count ∙ ap (λ (x : Geometry). x.inodes) (sym r.geometry) in
+    let unchained : AreUnchained g v blocks = subst (λ x. AreUnchained x v blocks) r.geometry (unchained-staged v staging from blocks count once staged) in
+    content-image g v blocks before image unchained
+    (unread-staged v (live_entries v (journaled before)) staging from blocks once staged elsewhere) same r

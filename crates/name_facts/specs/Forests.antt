@@ -1,7 +1,7 @@
 -- Tables whose names are trees: one line for each parent and name, at most one name an inode, and no way up without an
 -- end.
-use Rattle.std.specs.Prelude.{◌≡◌, ◌≢◌, ℕ, suc, ◌<◌, ◌≤◌, Option, Some, None}
-use Rattle.disk_lines.specs.Names.{Rows, names_of, has_entries, parent_of, up}
+use Rattle.std.specs.Prelude.{◌≡◌, ◌≢◌, ℕ, ◌<◌, ◌≤◌, Some, None}
+use Rattle.disk_lines.specs.Names.{Rows, names_of, parent_of, up}
 use Rattle.disk_lines.specs.Tables.{IsKeyed}
 
 -- going up from each inode comes to an end

@@ -1,15 +1,18 @@
 -- The names of a sane volume are trees: what a table of names asks for.
-use Rattle.std.specs.Prelude.{◌≡◌, ◌≢◌, ◌⊎◌, ℕ, zero, suc, ◌+◌, ◌<◌, ◌≤◌, ◌==◌, List, length, true, false, Option, Some, None, refl}
+use Rattle.std.specs.Prelude.{◌≡◌, ◌⊎◌, ℕ, suc, ◌<◌, ◌≤◌, List, length, true, false, Option, Some, None, refl}
 use Rattle.std.proofs.Common.{arith, ap, sym, ◌∙◌, subst, inl, inr}
 use Rattle.std.proofs.lemmas.Bool.{cases_lt, cases_order, false_from_ne_true}
 use Rattle.std.proofs.lemmas.List.{get_or_past}
+use Rattle.pm_words.specs.Words.{Words}
+use Rattle.disk_places.specs.Places.{Geometry}
 use Rattle.disk_lines.specs.Lines.{NameRow}
-use Rattle.disk_lines.specs.Names.{Rows, row, is_entry, is_child, names_of, parent_of, up}
+use Rattle.disk_lines.specs.Names.{row, is_entry, is_child, names_of, parent_of, up}
 use Rattle.disk_lines.specs.TableLaws.{is_entry-parts, is_child-parts, NamingLine-parent_of}
 use Rattle.disk_lines.specs.Tables.{IsKeyed, IsAcyclic}
 use Rattle.disk_lines.specs.UpLaws.{up-past}
 use Rattle.disk_rules.specs.Kept.{IsNamedRow, AreKept}
 use Rattle.disk_rules.specs.Live.{is_file, is_directory}
+use Rattle.disk_rules.specs.Reading.{Reads}
 use Rattle.disk_rules.specs.Rules.{IsNamed, IsPlaced, IsRowPlaced}
 use Rattle.disk_rules.specs.Volume.{Volume, free_inode, inode}
 use Rattle.name_facts.specs.Forests.{EndsUpwards, IsForest}
@@ -22,15 +25,25 @@ pub record HasAllLines (v : Volume) : Type 0 where
   pub inode_count : length v.inodes ≡ v.geometry.inodes
   pub name_count : length v.names ≡ v.geometry.names
 
--- it is placed, and names a node
-pub kept-placed : (v : Volume) (k : ℕ) (r : NameRow) → AreKept v → HasAllLines v → row v.names k ≡ Some r → IsPlaced v k r
-kept-placed v k r kept all is = subst (IsRowPlaced v k) is (kept.placed k (omega (arith, all.name_count, row-below v.names k r is)))
+-- so has one that words read as
+pub reads-all_lines : (g : Geometry) (f : Words) (v : Volume) → Reads g f v → HasAllLines v
+reads-all_lines g f v r = record {
+  inode_count = r.inode_count ∙ ap (λ (x : Geometry). x.inodes) (sym r.geometry);
+  name_count = r.name_count ∙ ap (λ (x : Geometry). x.names) (sym r.geometry);
+}
+
+-- a row of it is placed, and names a node
+pub kept-placed : (v : Volume) (k : ℕ) (r : NameRow) → AreKept v → HasAllLines v → row v.names k ≡ Some r
+    → IsPlaced v k r
+kept-placed v k r kept all is =
+    subst (IsRowPlaced v k) is (kept.placed k (omega (arith, all.name_count, row-below v.names k r is)))
 
 pub kept-named : (v : Volume) (k : ℕ) (r : NameRow) → AreKept v → HasAllLines v → row v.names k ≡ Some r → IsNamed v r
 kept-named v k r kept all is = subst (IsNamedRow v) is (kept.named k (omega (arith, all.name_count, row-below v.names k r is)))
 
 -- a directory or a file is an inode in range
-pub node-below : (v : Volume) (ino : ℕ) → (is_directory (inode v ino).kind ≡ true) ⊎ (is_file (inode v ino).kind ≡ true) → ino < length v.inodes
+pub node-below : (v : Volume) (ino : ℕ)
+    → (is_directory (inode v ino).kind ≡ true) ⊎ (is_file (inode v ino).kind ≡ true) → ino < length v.inodes
 node-below v ino node = elim (cases_lt ino (length v.inodes)) [
   | inl below ↦ below
   | inr past ↦
@@ -45,12 +58,15 @@ node-below v ino node = elim (cases_lt ino (length v.inodes)) [
 pub kept-keyed : (v : Volume) → AreKept v → HasAllLines v → IsKeyed v.names
 kept-keyed v kept all = record { one_line = one }
   where
-    apart : (parent : ℕ) (name : List ℕ) (j k : ℕ) → j < k → is_entry parent name (row v.names j) ≡ true → is_entry parent name (row v.names k) ≡ true → ⊥
+    apart : (parent : ℕ) (name : List ℕ) (j k : ℕ) → j < k → is_entry parent name (row v.names j) ≡ true
+        → is_entry parent name (row v.names k) ≡ true → ⊥
     apart parent name j k before first second =
         let at_j = is_entry-parts parent name (row v.names j) first in
         let at_k = is_entry-parts parent name (row v.names k) second in
         (kept-placed v j at_j.0 kept all at_j.1).only k at_k.0 before at_k.1 (at_k.2 ∙ sym at_j.2) (at_k.3 ∙ sym at_j.3)
-    one : (parent : ℕ) (name : List ℕ) (j k : ℕ) → is_entry parent name (row v.names j) ≡ true → is_entry parent name (row v.names k) ≡ true → j ≡ k
+
+    one : (parent : ℕ) (name : List ℕ) (j k : ℕ) → is_entry parent name (row v.names j) ≡ true
+        → is_entry parent name (row v.names k) ≡ true → j ≡ k
     one parent name j k first second = elim (cases_order j k) [
       | inl same ↦ same
       | inr order ↦ elim order [
@@ -83,11 +99,15 @@ kept-ends v kept all ino = by (parent_of v.names ino) refl
         let placed = kept-placed v named.1.line named.1.at kept all named.1.is in
         let steps : (n : ℕ) × (n < 16) × (up v.names n named.1.at.parent ≡ Some 0) = placed.steps in
         let at_p : up v.names steps.0 p ≡ Some 0 = ap (up v.names steps.0) (sym named.1.parent_is) ∙ steps.2 in
-        let top : parent_of v.names 0 ≡ None = parent_of-none v.names 0 kept.directories.root in
-        (suc (suc steps.0), up-parent v.names (suc steps.0) ino p is ∙ up-past v.names steps.0 (suc steps.0) p 0 at_p top (omega arith))
+        let top : parent_of v.names 0 ≡ None = parent_of-none v.names 0 kept.directories.root in (
+          suc (suc steps.0),
+          up-parent v.names (suc steps.0) ino p is
+              ∙ up-past v.names steps.0 (suc steps.0) p 0 at_p top (omega arith),
+        )
 
 pub kept-forest : (v : Volume) → AreKept v → HasAllLines v → IsForest v.names
-kept-forest v kept all = record { keyed = kept-keyed v kept all; one_name = kept-one_name v kept all; ends = kept-ends v kept all }
+kept-forest v kept all =
+    record { keyed = kept-keyed v kept all; one_name = kept-one_name v kept all; ends = kept-ends v kept all }
 
 pub kept-acyclic : (v : Volume) → AreKept v → HasAllLines v → IsAcyclic v.names
 kept-acyclic v kept all = forest-acyclic v.names (kept-forest v kept all)

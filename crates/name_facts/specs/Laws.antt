@@ -1,8 +1,8 @@
 -- The chief laws of tables of names, each as one statement.
-use Rattle.std.specs.Prelude.{◌≡◌, ◌≢◌, ℕ, suc, ◌+◌, ◌<◌, ◌≤◌, ◌==◌, List, length, true, false, slice_set, Option, Some, None}
+use Rattle.std.specs.Prelude.{◌≡◌, ◌≢◌, ◌⊎◌, ℕ, suc, ◌+◌, ◌<◌, ◌≤◌, ◌==◌, List, length, true, false, cond, slice_set, Option, Some, None}
 use Rattle.std.specs.List.{count_by}
 use Rattle.disk_lines.specs.Lines.{NameRow}
-use Rattle.disk_lines.specs.Names.{Rows, row, is_entry, is_free_row, find_name, child_named, names_of, has_entries, parent_of, up}
+use Rattle.disk_lines.specs.Names.{Rows, row, is_entry, is_free_row, find_name, child_named, names_of, has_entries, parent_of, up, walk}
 use Rattle.disk_lines.specs.Tables.{IsKeyed, IsAcyclic}
 use Rattle.disk_rules.specs.Kept.{AreKept}
 use Rattle.disk_rules.specs.Volume.{Volume}
@@ -22,8 +22,16 @@ HaveNoWayBack = (rows : Rows) → IsForest rows → IsAcyclic rows
 -- the name is found in the line
 abbrev pub FindsTaken : Type 0
 FindsTaken =
-    (rows : Rows) (line : ℕ) (r : NameRow) → line < length rows → IsKeyed rows → ((k : ℕ) → is_entry r.parent r.name (row rows k) ≡ true → k ≡ line)
+    (rows : Rows) (line : ℕ) (r : NameRow) → line < length rows → IsKeyed rows
+    → ((k : ℕ) → is_entry r.parent r.name (row rows k) ≡ true → k ≡ line)
     → find_name (slice_set rows line (Some r)) r.parent r.name ≡ Some (line, r.child)
+
+-- each name, the new one and every other, leads where it should
+abbrev pub NamesTaken : Type 0
+NamesTaken =
+    (rows : Rows) (line : ℕ) (r : NameRow) (parent : ℕ) (name : List ℕ) → line < length rows → row rows line ≡ None
+    → (is_entry parent name (Some r) ≡ true → child_named rows parent name ≡ None)
+    → child_named (slice_set rows line (Some r)) parent name ≡ cond (is_entry parent name (Some r)) (Some r.child) (child_named rows parent name)
 
 -- the child has one name more
 abbrev pub CountsTaken : Type 0
@@ -39,14 +47,17 @@ LiesAbove =
 
 abbrev pub StaysForestTaken : Type 0
 StaysForestTaken =
-    (rows : Rows) (line : ℕ) (r : NameRow) → line < length rows → row rows line ≡ None → ((k : ℕ) → is_entry r.parent r.name (row rows k) ≡ false)
-    → names_of rows r.child ≡ 0 → has_entries rows r.child ≡ false → r.parent ≢ r.child → IsForest rows → IsForest (slice_set rows line (Some r))
+    (rows : Rows) (line : ℕ) (r : NameRow) → line < length rows → row rows line ≡ None
+    → ((k : ℕ) → is_entry r.parent r.name (row rows k) ≡ false)
+    → names_of rows r.child ≡ 0 → has_entries rows r.child ≡ false → r.parent ≢ r.child → IsForest rows
+    → IsForest (slice_set rows line (Some r))
 
 -- ---- a line is freed
 
 abbrev pub FindsNoneFreed : Type 0
 FindsNoneFreed =
-    (rows : Rows) (line : ℕ) (r : NameRow) → IsKeyed rows → row rows line ≡ Some r → child_named (slice_set rows line None) r.parent r.name ≡ None
+    (rows : Rows) (line : ℕ) (r : NameRow) → IsKeyed rows → row rows line ≡ Some r
+    → child_named (slice_set rows line None) r.parent r.name ≡ None
 
 abbrev pub CountsFreed : Type 0
 CountsFreed =
@@ -60,7 +71,8 @@ HasNoneAbove =
 
 abbrev pub StaysForestFreed : Type 0
 StaysForestFreed =
-    (rows : Rows) (line : ℕ) (r : NameRow) → line < length rows → row rows line ≡ Some r → has_entries rows r.child ≡ false → IsForest rows
+    (rows : Rows) (line : ℕ) (r : NameRow) → line < length rows → row rows line ≡ Some r
+    → has_entries rows r.child ≡ false → IsForest rows
     → IsForest (slice_set rows line None)
 
 -- ---- elsewhere
@@ -68,8 +80,38 @@ StaysForestFreed =
 -- names of other lines are found as before
 abbrev pub FindsOthers : Type 0
 FindsOthers =
-    (rows : Rows) (line : ℕ) (o : Option NameRow) (parent : ℕ) (name : List ℕ) → is_entry parent name (row rows line) ≡ false → is_entry parent name o ≡ false
+    (rows : Rows) (line : ℕ) (o : Option NameRow) (parent : ℕ) (name : List ℕ)
+    → is_entry parent name (row rows line) ≡ false → is_entry parent name o ≡ false
     → child_named (slice_set rows line o) parent name ≡ child_named rows parent name
+
+-- paths: those that led somewhere lead there still, and new ones to the new child alone; where a name is freed, only
+-- those to its child lead there no more
+abbrev pub LeadsStill : Type 0
+LeadsStill =
+    (rows : Rows) (line : ℕ) (r : NameRow) (ino : ℕ) (names : List (List ℕ)) (end : ℕ) → row rows line ≡ None
+    → child_named rows r.parent r.name ≡ None
+    → walk rows ino names ≡ Some end → walk (slice_set rows line (Some r)) ino names ≡ Some end
+
+abbrev pub LeadsToNew : Type 0
+LeadsToNew =
+    (rows : Rows) (line : ℕ) (r : NameRow) (ino : ℕ) (names : List (List ℕ)) (end : ℕ) → line < length rows
+    → IsKeyed rows → row rows line ≡ None
+    → ((k : ℕ) → is_entry r.parent r.name (row rows k) ≡ true → k ≡ line) → has_entries rows r.child ≡ false
+    → r.parent ≢ r.child
+    → walk (slice_set rows line (Some r)) ino names ≡ Some end → (walk rows ino names ≡ Some end) ⊎ (end ≡ r.child)
+
+abbrev pub LeadsElsewhere : Type 0
+LeadsElsewhere =
+    (rows : Rows) (line : ℕ) (r : NameRow) (ino : ℕ) (names : List (List ℕ)) (end : ℕ) → IsKeyed rows
+    → row rows line ≡ Some r
+    → has_entries rows r.child ≡ false → end ≢ r.child → walk rows ino names ≡ Some end
+    → walk (slice_set rows line None) ino names ≡ Some end
+
+abbrev pub LeadsNoMore : Type 0
+LeadsNoMore =
+    (rows : Rows) (line : ℕ) (r : NameRow) (ino : ℕ) (names : List (List ℕ)) → row rows line ≡ Some r
+    → names_of rows r.child ≤ 1 → ino ≢ r.child
+    → walk (slice_set rows line None) ino names ≢ Some r.child
 
 -- going up is the same from all but a child without entries, and below one that moves as far as that one
 abbrev pub GoesUpAsBefore : Type 0

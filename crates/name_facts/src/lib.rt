@@ -11,7 +11,7 @@
 //! proved to hold. Stands on `disk_lines`, `disk_rules` and `volume_facts`.
 #![tactic(auto)]
 
-ghost use Rattle.name_facts.specs.Laws.{AreTrees, HaveNoWayBack, FindsTaken, CountsTaken, LiesAbove, StaysForestTaken, FindsNoneFreed, CountsFreed, HasNoneAbove, StaysForestFreed, FindsOthers, GoesUpAsBefore, GoesUpThrough, StaysForestMoved, CountsFreeLines};
+ghost use Rattle.name_facts.specs.Laws.{AreTrees, HaveNoWayBack, FindsTaken, NamesTaken, CountsTaken, LiesAbove, StaysForestTaken, FindsNoneFreed, CountsFreed, HasNoneAbove, StaysForestFreed, FindsOthers, LeadsStill, LeadsToNew, LeadsElsewhere, LeadsNoMore, GoesUpAsBefore, GoesUpThrough, StaysForestMoved, CountsFreeLines};
 
 /// The names of a sane volume are trees, and have no way back.
 pub fn sane_names_are_trees()
@@ -22,6 +22,7 @@ pub fn sane_names_are_trees()
 /// What a table says after a free line was taken.
 pub fn lines_are_taken()
     ensures found { FindsTaken }
+    ensures names { NamesTaken }
     ensures count { CountsTaken }
     ensures free { CountsFreeLines }
     ensures above { LiesAbove }
@@ -42,4 +43,12 @@ pub fn other_lines_stay()
     ensures above { GoesUpAsBefore }
     ensures through { GoesUpThrough }
     ensures trees { StaysForestMoved }
+{}
+
+/// Where paths lead after a line was taken or freed.
+pub fn paths_lead_on()
+    ensures still { LeadsStill }
+    ensures new { LeadsToNew }
+    ensures elsewhere { LeadsElsewhere }
+    ensures gone { LeadsNoMore }
 {}

@@ -15,8 +15,10 @@ pub record SameLog (g : Geometry) (f h : Words) : Type 0 where
 -- The blocks that files read, in their maps or staged, have the same words; those of staging files, and behind a
 -- file's length, may differ.
 pub record SameData (v : Volume) (live : List Draft) (f h : Words) : Type 0 where
-  pub words : (ino block b j : ℕ) → is_file (inode v ino).kind ≡ true → 4096 * block < size_of v live ino → disk_of v live ino block ≡ Some b → j < 512 → h (512 * b + j) ≡ f (512 * b + j)
+  pub words : (ino block b j : ℕ) → is_file (inode v ino).kind ≡ true → 4096 * block < size_of v live ino
+      → disk_of v live ino block ≡ Some b → j < 512 → h (512 * b + j) ≡ f (512 * b + j)
 
 -- no file reads any of these blocks
 pub record AreUnread (v : Volume) (live : List Draft) (blocks : List ℕ) : Type 0 where
-  pub apart : (ino block b k : ℕ) → is_file (inode v ino).kind ≡ true → 4096 * block < size_of v live ino → disk_of v live ino block ≡ Some b → k < length blocks → block_at blocks k ≢ b
+  pub apart : (ino block b k : ℕ) → is_file (inode v ino).kind ≡ true → 4096 * block < size_of v live ino
+      → disk_of v live ino block ≡ Some b → k < length blocks → block_at blocks k ≢ b

@@ -1,6 +1,6 @@
 -- Laws of the footprint: words that read as one volume, with the same log lines and the same words in the files'
 -- blocks, have the same content.
-use Rattle.std.specs.Prelude.{◌≡◌, ℕ, ◌+◌, ◌-◌, ◌*◌, ◌/◌, ◌%◌, ◌^◌, ◌<◌, ◌≤◌, true, List, filter, length, All, Option, Some, None, option_and_then, refl}
+use Rattle.std.specs.Prelude.{◌≡◌, ℕ, ◌+◌, ◌-◌, ◌*◌, ◌/◌, ◌%◌, ◌^◌, ◌<◌, ◌≤◌, true, List, filter, All, Option, Some, None, option_and_then, refl}
 use Rattle.std.proofs.Common.{arith, ap, sym, ◌∙◌}
 use Rattle.std.proofs.Math.Path.{fun_ext}
 use Rattle.std.proofs.lemmas.Bool.Decides.{nat_tests}
@@ -35,7 +35,8 @@ entry_in-same v f h same s below =
 
 pub live_entries-same : (v : Volume) (f h : Words) → SameLog v.geometry f h → live_entries v h ≡ live_entries v f
 live_entries-same v f h same =
-    ap (filter (is_live v)) (filter_map-agree (entry_in v h) (entry_in v f) 0 v.geometry.log (λ s low below. entry_in-same v f h same s (omega arith)))
+    ap (filter (is_live v)) (filter_map-agree (entry_in v h) (entry_in v f) 0 v.geometry.log
+    (λ s low below. entry_in-same v f h same s (omega arith)))
 
 -- the bytes of a block whose words are the same
 byte_in-same : (f h : Words) (o : Option ℕ) (i : ℕ)
@@ -46,16 +47,21 @@ byte_in-same f h (Some b) i same =
     let place : 512 * b + i % 4096 / 8 ≡ k / 8 = omega arith in
     ap (λ (n : ℕ). n / 256 ^ (k % 8) % 256) (ap h (sym place) ∙ same b (i % 4096 / 8) refl (omega arith) ∙ ap f place)
 
-pub bytes_of_file-same : (v : Volume) (live : List Draft) (f h : Words) (ino : ℕ) → is_file (inode v ino).kind ≡ true → SameData v live f h → bytes_of_file v live h ino ≡ bytes_of_file v live f ino
+pub bytes_of_file-same : (v : Volume) (live : List Draft) (f h : Words) (ino : ℕ) → is_file (inode v ino).kind ≡ true
+    → SameData v live f h → bytes_of_file v live h ino ≡ bytes_of_file v live f ino
 bytes_of_file-same v live f h ino file same =
-    map-agree (λ i. byte_in h (disk_of v live ino (i / 4096)) i) (λ i. byte_in f (disk_of v live ino (i / 4096)) i) 0 (size_of v live ino)
-    (λ i low below. byte_in-same f h (disk_of v live ino (i / 4096)) i (λ b j is word. same.words ino (i / 4096) b j file (omega arith) is word))
+    map-agree (λ i. byte_in h (disk_of v live ino (i / 4096)) i) (λ i. byte_in f (disk_of v live ino (i / 4096)) i) 0
+    (size_of v live ino)
+    (λ i low below. byte_in-same f h (disk_of v live ino (i / 4096)) i
+    (λ b j is word. same.words ino (i / 4096) b j file (omega arith) is word))
 
-pub node_of-same : (v : Volume) (live : List Draft) (f h : Words) (ino : ℕ) → SameData v live f h → node_of v live h ino ≡ node_of v live f ino
+pub node_of-same : (v : Volume) (live : List Draft) (f h : Words) (ino : ℕ) → SameData v live f h
+    → node_of v live h ino ≡ node_of v live f ino
 unfolding node_of
 node_of-same v live f h ino same = by (inode v ino).kind (λ file. bytes_of_file-same v live f h ino file same)
   where
-    by : (kind : Kind) → (is_file kind ≡ true → bytes_of_file v live h ino ≡ bytes_of_file v live f ino) → node_by kind (bytes_of_file v live h ino) ≡ node_by kind (bytes_of_file v live f ino)
+    by : (kind : Kind) → (is_file kind ≡ true → bytes_of_file v live h ino ≡ bytes_of_file v live f ino)
+        → node_by kind (bytes_of_file v live h ino) ≡ node_by kind (bytes_of_file v live f ino)
     by Free bytes = refl
     by Directory bytes = refl
     by File bytes = ap (node_by File) (bytes refl)
@@ -65,7 +71,8 @@ node_of-same v live f h ino same = by (inode v ino).kind (λ file. bytes_of_file
 pub found-same : (v : Volume) (live : List Draft) (f h : Words) → SameData v live f h → found v live h ≡ found v live f
 unfolding found
 found-same v live f h same =
-    fun_ext (λ path. ap (λ (node : ℕ → Option Node). option_and_then node (walk v.names 0 path)) (fun_ext (λ ino. node_of-same v live f h ino same)))
+    fun_ext (λ path. ap (λ (node : ℕ → Option Node). option_and_then node (walk v.names 0 path))
+    (fun_ext (λ ino. node_of-same v live f h ino same)))
 
 -- The footprint: words that read as the volume, with the log lines and the files' blocks of others, have as their
 -- content what the volume makes of those.
@@ -98,13 +105,15 @@ disk_of-covered v live ino block b is = by (entry_of_block live ino block) is
 -- ---- blocks that no chain has and no file reads
 
 -- the log lines lie outside data blocks
-log-outside : (g : Geometry) (blocks : List ℕ) (s w : ℕ) → All (λ b. is_data_block g b ≡ true) blocks → s < g.log → w / 8 ≡ log_line g s → IsOutside blocks w
+log-outside : (g : Geometry) (blocks : List ℕ) (s w : ℕ) → All (λ b. is_data_block g b ≡ true) blocks → s < g.log
+    → w / 8 ≡ log_line g s → IsOutside blocks w
 log-outside g blocks s w in_data below at k within same =
     let in_range : first_data g ≤ block_at blocks k = let of_data = in_data k 0 within in grind (arith, nat_tests) in
     omega arith
 
 -- Words that agree but in data blocks that no chain has and no file reads have the same content.
-pub content-outside : (g : Geometry) (v : Volume) (blocks : List ℕ) (f h : Words) → AreUnchained g v blocks → AreUnread v (live_entries v f) blocks
+pub content-outside : (g : Geometry) (v : Volume) (blocks : List ℕ) (f h : Words) → AreUnchained g v blocks
+    → AreUnread v (live_entries v f) blocks
     → ((i : ℕ) → IsOutside blocks i → h i ≡ f i) → Reads g f v → content_of g h ≡ content_of g f
 content-outside g v blocks f h free unread same r =
     content-read g v f h (reads-written g f h v blocks free same r)
@@ -116,8 +125,11 @@ content-outside g v blocks f h free unread same r =
     ∙ sym (content-own g v f r)
 
 -- So have images, whatever their journals: while such a block is lent, the content is as before.
-pub content-image : (g : Geometry) (v : Volume) (blocks : List ℕ) (before image : Words) → AreUnchained g v blocks → AreUnread v (live_entries v (journaled before)) blocks
-    → ((i : ℕ) → IsOutside blocks i → image i ≡ before i) → Reads g (journaled before) v → content g image ≡ content g before
+pub content-image : (g : Geometry) (v : Volume) (blocks : List ℕ) (before image : Words) → AreUnchained g v blocks
+    → AreUnread v (live_entries v (journaled before)) blocks
+    → ((i : ℕ) → IsOutside blocks i → image i ≡ before i) → Reads g (journaled before) v
+    → content g image ≡ content g before
 content-image g v blocks before image free unread same r =
     content-outside g v blocks (journaled before) (journaled image) free unread
-    (λ i outside. journaled-same before image i (λ w journal. same w (journal-outside g blocks w free.in_data journal)) (same i outside)) r
+    (λ i outside. journaled-same before image i
+    (λ w journal. same w (journal-outside g blocks w free.in_data journal)) (same i outside)) r

@@ -1,6 +1,6 @@
 -- Laws of images and their journals: which words of an image are as they stand, whatever is committed.
-use Rattle.std.specs.Prelude.{◌≡◌, ◌≢◌, ℕ, zero, suc, ◌+◌, ◌*◌, ◌/◌, ◌%◌, ◌<◌, ◌≤◌, ◌==◌, true, false, if◌then◌else◌, List, length, All, refl}
-use Rattle.std.proofs.Common.{arith, ap, sym, ◌∙◌, subst}
+use Rattle.std.specs.Prelude.{◌≡◌, ◌≢◌, ℕ, zero, suc, ◌+◌, ◌*◌, ◌/◌, ◌%◌, ◌<◌, ◌≤◌, ◌==◌, true, false, if◌then◌else◌, List, All, refl}
+use Rattle.std.proofs.Common.{arith, ap, ◌∙◌, subst}
 use Rattle.std.proofs.lemmas.Bool.{both_ways, cond-false, ne_eqb}
 use Rattle.std.proofs.lemmas.Bool.Decides.{nat_tests}
 use Rattle.pm_words.specs.Words.{Words}
@@ -24,14 +24,16 @@ committed-le image = grind (arith, nat_tests)
 
 outside_journal : (image : Words) (w : ℕ) → is_journal_word w ≡ false
     → journaled image w ≡ patched (committed image) (record_target image) (record_word image) image w
-outside_journal image w outside = cond-false (is_journal_word w) 0 (patched (committed image) (record_target image) (record_word image) image w) outside
+outside_journal image w outside =
+    cond-false (is_journal_word w) 0 (patched (committed image) (record_target image) (record_word image) image w) outside
 
 -- where nothing is committed, words outside the journal are as they stand
 pub journaled-idle : (image : Words) (w : ℕ) → image commit_word ≡ 0 → is_journal_word w ≡ false
     → journaled image w ≡ image w
 journaled-idle image w idle outside =
     outside_journal image w outside
-    ∙ untargeted (committed image) (record_target image) (record_word image) image w (λ r below. absurd (omega (arith, committed-le image)))
+    ∙ untargeted (committed image) (record_target image) (record_word image) image w
+    (λ r below. absurd (omega (arith, committed-le image)))
 
 -- words that no recovery sets are as they stand
 pub journaled-other : (g : Geometry) (image : Words) (w : ℕ) → IsSound g image → is_journal_word w ≡ false
@@ -39,7 +41,8 @@ pub journaled-other : (g : Geometry) (image : Words) (w : ℕ) → IsSound g ima
 journaled-other g image w sound outside other =
     outside_journal image w outside
     ∙ untargeted (committed image) (record_target image) (record_word image) image w
-    (λ r below same. both_ways (is_journaled_line g (w / 8)) other (subst (λ n. is_journaled_line g n ≡ true) same (sound.targets r (omega (arith, committed-le image)))))
+    (λ r below same. both_ways (is_journaled_line g (w / 8)) other
+    (subst (λ n. is_journaled_line g n ≡ true) same (sound.targets r (omega (arith, committed-le image)))))
 
 -- ---- images with the same journal
 

@@ -1,22 +1,23 @@
 -- The chief laws of volumes, each as one statement.
-use Rattle.std.specs.Prelude.{◌≡◌, ℕ, ◌*◌, ◌/◌, ◌<◌, ◌^◌, List, [], ◌∷◌, Option, Some, false}
+use Rattle.std.specs.Prelude.{◌≡◌, ℕ, ◌*◌, ◌/◌, ◌%◌, ◌<◌, ◌^◌, List, [], ◌∷◌, Option, Some, true, false}
 use Rattle.pm_words.specs.declared.Cell.{Cell}
 use Rattle.pm_words.specs.declared.Cell.TheVariants.{Lent}
-use Rattle.pm_words.specs.Cells.{cell, is_lent}
-use Rattle.pm_words.specs.Parts.{GoesOut, ComesBack}
+use Rattle.pm_words.specs.Cells.{cell, is_lent, unmarked}
+use Rattle.pm_words.specs.Parts.{GoesOut, ComesBack, put_back}
 use Rattle.pm_words.specs.Words.{Words, with_line}
+use Rattle.disk_places.specs.Journal.{journaled}
 use Rattle.disk_places.specs.Places.{Geometry, state_line, inode_line, name_line}
 use Rattle.extent_words.specs.declared.Extent.{Extent}
 use Rattle.disk_lines.specs.declared.Inode.{Inode}
 use Rattle.disk_lines.specs.Fresh.{state_bytes}
 use Rattle.disk_lines.specs.Lines.{NameRow, decode_inode, decode_name}
-use Rattle.disk_rules.specs.Content.{found, content_of}
+use Rattle.disk_rules.specs.Content.{found, content_of, content}
 use Rattle.disk_rules.specs.Live.{live_entries}
 use Rattle.disk_rules.specs.Placed.{IsOutside}
 use Rattle.disk_rules.specs.Reading.{slot_for, StandsFor, Reads, inode_set, row_set, base_set, AreBytes}
 use Rattle.disk_rules.specs.Standing.{IsChain}
 use Rattle.disk_rules.specs.Volume.{Volume, volume}
-use Rattle.volume_facts.specs.Footprint.{SameLog, SameData}
+use Rattle.volume_facts.specs.Footprint.{SameLog, SameData, AreUnread}
 use Rattle.volume_facts.specs.LoanLaws.{AllRead}
 use Rattle.volume_facts.specs.Reading.{AgreeFor, AreUnchained}
 
@@ -54,7 +55,8 @@ WritesFree =
 abbrev pub Switches : Type 0
 Switches =
     (g : Geometry) (f h : Words) (v : Volume) (ino : ℕ) (x : Inode) (blocks : List ℕ) (es : List Extent) (bytes : List ℕ)
-    → AreUnchained g v blocks → ((i : ℕ) → IsOutside blocks i → h i ≡ f i) → IsChain h (512 * g.blocks) x.root x.extents blocks es
+    → AreUnchained g v blocks → ((i : ℕ) → IsOutside blocks i → h i ≡ f i)
+    → IsChain h (512 * g.blocks) x.root x.extents blocks es
     → ino < g.inodes → AreBytes bytes → decode_inode bytes ≡ Some x → Reads g f v
     → Reads g (with_line (inode_line ino) bytes h) (inode_set ino x blocks es v)
 
@@ -63,6 +65,25 @@ abbrev pub HasFootprint : Type 0
 HasFootprint =
     (g : Geometry) (v : Volume) (f h : Words) → Reads g h v → SameLog g f h → SameData v (live_entries v f) f h
     → content_of g h ≡ found v (live_entries v f) f
+
+-- so images that differ in blocks that no chain has and no file reads have the same content
+abbrev pub HasContentBeside : Type 0
+HasContentBeside =
+    (g : Geometry) (v : Volume) (blocks : List ℕ) (before image : Words) → AreUnchained g v blocks
+    → AreUnread v (live_entries v (journaled before)) blocks
+    → ((i : ℕ) → IsOutside blocks i → image i ≡ before i) → Reads g (journaled before) v
+    → content g image ≡ content g before
+
+-- a device with a part lent and put back has the cells that it had; once the part is back, those with it put back
+abbrev pub PutsBackLent : Type 0
+PutsBackLent =
+    (size n : ℕ) (old new part : List Cell) (w : ℕ → Cell) → GoesOut size n old new part → ((i : ℕ) → i / size ≡ n → w i ≡ cell part (i % size))
+    → (i : ℕ) → put_back new w i ≡ put_back old w i
+
+abbrev pub PutsBackSettled : Type 0
+PutsBackSettled =
+    (size n : ℕ) (part old new : List Cell) (w : ℕ → Cell) → ComesBack size n part old new → ((i : ℕ) → i / size ≡ n → is_lent (cell old i) ≡ true)
+    → ((i : ℕ) → i / size ≡ n → w i ≡ unmarked (cell part (i % size))) → (i : ℕ) → put_back new w i ≡ put_back old w i
 
 -- what reads as a volume reads as it while a block that no chain has is lent, and once a part is back
 abbrev pub ReadsWhileLent : Type 0

@@ -42,4 +42,5 @@ data_word-not_journaled g b j in_data word =
 pub data_word-apart : (g : Geometry) (line b j : ℕ) → is_journaled_line g line ≡ true → is_data_block g b ≡ true
     → j < 512 → (512 * b + j) / 8 ≢ line
 data_word-apart g line b j journaled in_data word same =
-    both_ways (is_journaled_line g line) (subst (λ n. is_journaled_line g n ≡ false) same (data_word-not_journaled g b j in_data word)) journaled
+    both_ways (is_journaled_line g line)
+    (subst (λ n. is_journaled_line g n ≡ false) same (data_word-not_journaled g b j in_data word)) journaled

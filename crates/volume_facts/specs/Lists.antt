@@ -48,7 +48,8 @@ sum_by-agree f h a (suc n) same =
 
 pub count_by-agree : (f h : ℕ → Bool) (a n : ℕ) → ((k : ℕ) → a ≤ k → k < a + n → f k ≡ h k)
     → count_by f (range_with_len a n) ≡ count_by h (range_with_len a n)
-count_by-agree f h a n same = sum_by-agree (λ k. cond (f k) 1 0) (λ k. cond (h k) 1 0) a n (λ k low high. ap (λ b. cond b 1 0) (same k low high))
+count_by-agree f h a n same =
+    sum_by-agree (λ k. cond (f k) 1 0) (λ k. cond (h k) 1 0) a n (λ k low high. ap (λ b. cond b 1 0) (same k low high))
 
 -- the sum of functions that agree but at one number
 pub sum_by-but_one : (f h : ℕ → ℕ) (a n at : ℕ) → a ≤ at → at < a + n → ((k : ℕ) → k ≢ at → f k ≡ h k)
@@ -125,12 +126,22 @@ overlap first count a (suc n) = elim (cases_Bool (nat_le first a && nat_lt a (fi
   | inl inside ↦
       let low : first ≤ a = grind (arith, nat_tests, inside) in
       let high : a < first + count = grind (arith, nat_tests, inside) in
-      omega (arith, sum_by-cons (λ b. one_if (nat_le first b && nat_lt b (first + count))) a (range_with_len (a + 1) n), overlap first count (a + 1) n, ap one_if inside)
+      omega (
+        arith,
+        sum_by-cons (λ b. one_if (nat_le first b && nat_lt b (first + count))) a (range_with_len (a + 1) n),
+        overlap first count (a + 1) n,
+        ap one_if inside,
+      )
   | inr outside ↦ elim (cases_lt a first) [
     | inl before ↦ omega (arith, sum_by-cons (λ b. one_if (nat_le first b && nat_lt b (first + count))) a (range_with_len (a + 1) n), overlap first count (a + 1) n, ap one_if outside)
     | inr behind ↦
         let past : first + count ≤ a = grind (arith, nat_tests, outside) in
-        omega (arith, sum_by-cons (λ b. one_if (nat_le first b && nat_lt b (first + count))) a (range_with_len (a + 1) n), overlap first count (a + 1) n, ap one_if outside)
+        omega (
+          arith,
+          sum_by-cons (λ b. one_if (nat_le first b && nat_lt b (first + count))) a (range_with_len (a + 1) n),
+          overlap first count (a + 1) n,
+          ap one_if outside,
+        )
   ]
 ]
 
@@ -142,7 +153,8 @@ count_by-range first count a n low high = omega (arith, overlap first count a n)
 -- so does one number
 pub count_by-one : (at a n : ℕ) → a ≤ at → at < a + n → count_by (λ b. at == b) (range_with_len a n) ≡ 1
 count_by-one at a n low high =
-    count_by-agree (λ b. at == b) (λ b. nat_le at b && nat_lt b (at + 1)) a n (λ b above below. by b (cases_eq at b)) ∙ count_by-range at 1 a n low (omega arith)
+    count_by-agree (λ b. at == b) (λ b. nat_le at b && nat_lt b (at + 1)) a n (λ b above below. by b (cases_eq at b))
+    ∙ count_by-range at 1 a n low (omega arith)
   where
     by : (b : ℕ) → (at ≡ b) ⊎ (at ≡ b → ⊥) → (at == b) ≡ (nat_le at b && nat_lt b (at + 1))
     by b (inl same) = grind (arith, nat_tests)
@@ -153,7 +165,8 @@ pub count_by-at : {X : Type 0} (p : X → Bool) (xs : List X) (i : ℕ) (d : X) 
     → 1 ≤ count_by p xs
 count_by-at p [] i d below pass = absurd (omega arith)
 count_by-at p (x ∷ xs) zero d below pass = omega (arith, sum_by-cons (λ y. one_if (p y)) x xs, ap one_if pass)
-count_by-at p (x ∷ xs) (suc i) d below pass = omega (arith, sum_by-cons (λ y. one_if (p y)) x xs, count_by-at p xs i d (omega arith) pass)
+count_by-at p (x ∷ xs) (suc i) d below pass =
+    omega (arith, sum_by-cons (λ y. one_if (p y)) x xs, count_by-at p xs i d (omega arith) pass)
 
 pub count_by-two : {X : Type 0} (p : X → Bool) (xs : List X) (i j : ℕ) (d : X) → i < j → j < length xs
     → p (get_or xs i d) ≡ true → p (get_or xs j d) ≡ true → 2 ≤ count_by p xs

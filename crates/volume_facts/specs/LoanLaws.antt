@@ -1,6 +1,6 @@
 -- Images of a device while parts of it are lent, and once they are back; and that words of blocks that no chain has
 -- do not matter to what its images read as.
-use Rattle.std.specs.Prelude.{◌≡◌, ◌≢◌, ℕ, zero, suc, ◌+◌, ◌*◌, ◌/◌, ◌%◌, ◌<◌, ◌≤◌, ◌==◌, Bool, true, false, List, [], ◌∷◌, All, if◌then◌else◌, refl}
+use Rattle.std.specs.Prelude.{◌≡◌, ◌≢◌, ℕ, ◌+◌, ◌*◌, ◌/◌, ◌%◌, ◌<◌, ◌≤◌, ◌==◌, Bool, true, false, List, [], ◌∷◌, if◌then◌else◌, refl}
 use Rattle.std.proofs.Common.{arith, ap, sym, ◌∙◌, subst, inl, inr}
 use Rattle.std.proofs.lemmas.Bool.{both_ways, cases_eq, cond-true, cond-false, eq-eqb, ne_eqb}
 use Rattle.std.proofs.lemmas.Bool.Decides.{nat_tests}
@@ -11,9 +11,9 @@ use Rattle.pm_words.specs.Cells.{cell, is_single, is_lent, newest, unmarked, IsC
 use Rattle.pm_words.specs.Images.{IsImage, ComesFrom, Follows}
 use Rattle.pm_words.specs.Parts.{GoesOut, ComesBack, put_back, IsImageWith}
 use Rattle.pm_words.specs.Words.{Words}
-use Rattle.disk_places.specs.Journal.{is_journal_word, record_target, record_word, committed, patched, journaled}
+use Rattle.disk_places.specs.Journal.{is_journal_word, journaled}
 use Rattle.disk_places.specs.PlaceLaws.{log_line-not_journaled}
-use Rattle.disk_places.specs.Places.{Geometry, commit_word, first_data, is_data_block, is_journaled_line, log_line, record_line}
+use Rattle.disk_places.specs.Places.{Geometry, first_data, is_journaled_line, log_line}
 use Rattle.disk_rules.specs.Placed.{block_at, IsOutside}
 use Rattle.disk_rules.specs.Reading.{Reads}
 use Rattle.disk_rules.specs.Volume.{Volume, chain}
@@ -60,7 +60,8 @@ image-put_back d e w image same is i = subst (λ c. IsCandidate c (image i)) (sa
 
 -- with nothing lent there is nothing to put back
 pub image-home : (d : List Cell) (w : ℕ → Cell) (image : Words) → AllHome d → IsImageWith d w image → IsImage d image
-image-home d w image home is i = subst (λ c. IsCandidate c (image i)) (cond-false (is_lent (cell d i)) (w i) (cell d i) (home i)) (is i)
+image-home d w image home is i =
+    subst (λ c. IsCandidate c (image i)) (cond-false (is_lent (cell d i)) (w i) (cell d i) (home i)) (is i)
 
 -- an image with some cells put back is an image
 pub image-with : (d : List Cell) (w : ℕ → Cell) (image : Words) → IsImageWith d w image → IsImage d image
@@ -127,13 +128,15 @@ single-unmarked Lent single = cc
 pub settled-single : (size n : ℕ) (part old new : List Cell) → ComesBack size n part old new
     → ((i : ℕ) → i / size ≡ n → is_single (cell part (i % size)) ≡ true)
     → (i : ℕ) → i / size ≡ n → cell new i ≡ cell part (i % size)
-settled-single size n part old new back single i inside = back.words i inside ∙ single-unmarked (cell part (i % size)) (single i inside)
+settled-single size n part old new back single i inside =
+    back.words i inside ∙ single-unmarked (cell part (i % size)) (single i inside)
 
 pub image-settled_words : (size n : ℕ) (part old new : List Cell) (image : Words) → ComesBack size n part old new
     → ((i : ℕ) → i / size ≡ n → is_single (cell part (i % size)) ≡ true)
     → IsImage new image → (i : ℕ) → i / size ≡ n → image i ≡ newest (cell part (i % size))
 image-settled_words size n part old new image back single is i inside =
-    candidate-single (cell part (i % size)) (image i) (single i inside) (subst (λ c. IsCandidate c (image i)) (settled-single size n part old new back single i inside) (is i))
+    candidate-single (cell part (i % size)) (image i) (single i inside)
+    (subst (λ c. IsCandidate c (image i)) (settled-single size n part old new back single i inside) (is i))
 
 -- ---- what the images read as
 
@@ -148,7 +151,8 @@ pub all_read-free : (g : Geometry) (v : Volume) (blocks : List ℕ) (d e : List 
 all_read-free g v blocks d e free reads follows image is =
     let from : (before : Words) × ComesFrom d image before × ((i : ℕ) → IsOutside blocks i → image i ≡ before i) = follows image is in
     reads-written g (journaled from.0) (journaled image) v blocks free
-    (λ i outside. journaled-same from.0 image i (λ w journal. from.2 w (journal-outside g blocks w free.in_data journal)) (from.2 i outside))
+    (λ i outside. journaled-same from.0 image i
+    (λ w journal. from.2 w (journal-outside g blocks w free.in_data journal)) (from.2 i outside))
     (reads from.0 from.1.is_image)
 
 one_block : (n i : ℕ) → IsOutside (n ∷ []) i → i / 512 ≢ n
@@ -181,7 +185,8 @@ all_read-log g v d e reads follows image is =
     (record {
       lines = λ w line.
           journaled-same from.0 image w journal
-          (from.2 w (λ s below at. both_ways (is_journaled_line g (w / 8)) (subst (λ n. is_journaled_line g n ≡ false) (sym at) (log_line-not_journaled g s)) line));
+          (from.2 w (λ s below at. both_ways (is_journaled_line g (w / 8))
+          (subst (λ n. is_journaled_line g n ≡ false) (sym at) (log_line-not_journaled g s)) line));
       chains = λ ino k j below within word.
           let b = block_at (chain v ino) k in
           let behind : first_data g ≤ b = let in_data = r.blocks ino below k 0 within in grind (arith, nat_tests) in

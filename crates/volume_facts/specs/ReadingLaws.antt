@@ -59,7 +59,8 @@ reads-volume g f v r =
     let linked : (ino : ℕ) → ino < g.inodes → chain v ino ≡ chain_of f (inode_or_free f ino) = λ ino below. (r.chains ino below).linked ∙ ap (chain_of f) (line ino below) in
     let mapped : (ino : ℕ) → ino < g.inodes → extents v ino ≡ map_of f (inode_or_free f ino) =
     λ ino below.
-    sym (chain-map f (512 * g.blocks) (inode v ino).root (inode v ino).extents (chain v ino) (extents v ino) (reads-root g f v r ino below) (r.chains ino below))
+    sym (chain-map f (512 * g.blocks) (inode v ino).root (inode v ino).extents (chain v ino) (extents v ino)
+    (reads-root g f v r ino below) (r.chains ino below))
     ∙ ap (flat_map (extents_in f)) (linked ino below)
     in
     let inodes = fill_by_all (inode_or_free f) v.inodes g.inodes free_inode r.inode_count line in

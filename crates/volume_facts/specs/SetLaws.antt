@@ -25,7 +25,8 @@ pub StandsFor-set : (g : Geometry) (f : Words) (x : Inode) (blocks : List ℕ) (
     → is_journaled_line g line ≡ true → StandsFor g f x blocks es → StandsFor g (with_line line bytes f) x blocks es
 StandsFor-set g f x blocks es line bytes journaled stands = record {
   is_chain = IsChain-same f (with_line line bytes f) (512 * g.blocks) x.root x.extents blocks es
-      (λ k j within word. with_line-out line bytes f (512 * block_at blocks k + j) (data_word-apart g line (block_at blocks k) j journaled (stands.in_data k 0 within) word))
+      (λ k j within word. with_line-out line bytes f (512 * block_at blocks k + j)
+      (data_word-apart g line (block_at blocks k) j journaled (stands.in_data k 0 within) word))
       stands.is_chain;
   in_data = stands.in_data;
 }
@@ -49,10 +50,12 @@ reads-inode g f v ino x blocks es bytes within are decoded stands r =
     λ i below. elim (cases_eq i ino) [
       | inl same ↦
           subst (λ n. StandsFor g h (inode w n) (chain w n) (extents w n)) (sym same)
-          (rw (own_inode, own_chain, own_extents) (StandsFor-set g f x blocks es (inode_line ino) bytes (journaled-inode g ino within) stands))
+          (rw (own_inode, own_chain, own_extents)
+          (StandsFor-set g f x blocks es (inode_line ino) bytes (journaled-inode g ino within) stands))
       | inr apart ↦
           rw (inode-set_other ino x blocks es v i apart, chain-set_other ino x blocks es v i apart, extents-set_other ino x blocks es v i apart)
-          (StandsFor-set g f (inode v i) (chain v i) (extents v i) (inode_line ino) bytes (journaled-inode g ino within) (reads-stands g f v i below r))
+          (StandsFor-set g f (inode v i) (chain v i) (extents v i) (inode_line ino) bytes
+          (journaled-inode g ino within) (reads-stands g f v i below r))
     ]
     in
     record {
@@ -76,7 +79,8 @@ reads-inode g f v ino x blocks es bytes within are decoded stands r =
 
 -- the same of an inode that keeps its root and its number of extents, and so its map
 pub reads-node : (g : Geometry) (f : Words) (v : Volume) (ino : ℕ) (x : Inode) (bytes : List ℕ)
-    → ino < g.inodes → AreBytes bytes → decode_inode bytes ≡ Some x → x.root ≡ (inode v ino).root → x.extents ≡ (inode v ino).extents → Reads g f v
+    → ino < g.inodes → AreBytes bytes → decode_inode bytes ≡ Some x → x.root ≡ (inode v ino).root
+    → x.extents ≡ (inode v ino).extents → Reads g f v
     → Reads g (with_line (inode_line ino) bytes f) (node_set ino x v)
 reads-node g f v ino x bytes within are decoded root count r =
     let own = reads-stands g f v ino within r in
@@ -91,7 +95,8 @@ pub reads-row : (g : Geometry) (f : Words) (v : Volume) (k : ℕ) (o : Option Na
 reads-row g f v k o bytes within are decoded r =
     let h = with_line (name_line g k) bytes f in
     let chain_is : (i : ℕ) → i < g.inodes → StandsFor g h (inode v i) (chain v i) (extents v i) =
-    λ i below. StandsFor-set g f (inode v i) (chain v i) (extents v i) (name_line g k) bytes (journaled-name g k within) (reads-stands g f v i below r)
+    λ i below. StandsFor-set g f (inode v i) (chain v i) (extents v i) (name_line g k) bytes
+    (journaled-name g k within) (reads-stands g f v i below r)
     in
     record {
       geometry = r.geometry;
@@ -105,7 +110,8 @@ reads-row g f v k o bytes within are decoded r =
       names = λ j below. elim (cases_eq j k) [
         | inl same ↦
             subst (λ n. name_at g h n ≡ slot_for (row (row_set k o v).names n)) (sym same)
-            (ap decode_name (line_bytes-set (name_line g k) bytes f are) ∙ decoded ∙ ap slot_for (sym (row-set_same v.names k o (omega (arith, r.name_count)))))
+            (ap decode_name (line_bytes-set (name_line g k) bytes f are) ∙ decoded
+            ∙ ap slot_for (sym (row-set_same v.names k o (omega (arith, r.name_count)))))
         | inr apart ↦
             ap decode_name (line_bytes-other (name_line g k) (name_line g j) bytes f (λ e. apart (omega arith)))
             ∙ r.names j below ∙ ap slot_for (sym (row-set_other v.names k o j apart))
@@ -142,13 +148,16 @@ pub volume-with_inode : (g : Geometry) (f : Words) (v : Volume) (ino : ℕ) (x :
     → ino < g.inodes → AreBytes bytes → decode_inode bytes ≡ Some x → StandsFor g f x blocks es → Reads g f v
     → volume g (with_line (inode_line ino) bytes f) ≡ inode_set ino x blocks es v
 volume-with_inode g f v ino x blocks es bytes within are decoded stands r =
-    reads-volume g (with_line (inode_line ino) bytes f) (inode_set ino x blocks es v) (reads-inode g f v ino x blocks es bytes within are decoded stands r)
+    reads-volume g (with_line (inode_line ino) bytes f) (inode_set ino x blocks es v)
+    (reads-inode g f v ino x blocks es bytes within are decoded stands r)
 
 pub volume-with_node : (g : Geometry) (f : Words) (v : Volume) (ino : ℕ) (x : Inode) (bytes : List ℕ)
-    → ino < g.inodes → AreBytes bytes → decode_inode bytes ≡ Some x → x.root ≡ (inode v ino).root → x.extents ≡ (inode v ino).extents → Reads g f v
+    → ino < g.inodes → AreBytes bytes → decode_inode bytes ≡ Some x → x.root ≡ (inode v ino).root
+    → x.extents ≡ (inode v ino).extents → Reads g f v
     → volume g (with_line (inode_line ino) bytes f) ≡ node_set ino x v
 volume-with_node g f v ino x bytes within are decoded root count r =
-    reads-volume g (with_line (inode_line ino) bytes f) (node_set ino x v) (reads-node g f v ino x bytes within are decoded root count r)
+    reads-volume g (with_line (inode_line ino) bytes f) (node_set ino x v)
+    (reads-node g f v ino x bytes within are decoded root count r)
 
 pub volume-with_row : (g : Geometry) (f : Words) (v : Volume) (k : ℕ) (o : Option NameRow) (bytes : List ℕ)
     → k < g.names → AreBytes bytes → decode_name bytes ≡ slot_for o → Reads g f v
@@ -188,8 +197,10 @@ reads-written g f h v blocks free same r =
 
 -- And then, where the blocks have a chain for the inode that is set, they read as the volume with that inode.
 pub reads-switched : (g : Geometry) (f h : Words) (v : Volume) (ino : ℕ) (x : Inode) (blocks : List ℕ) (es : List Extent) (bytes : List ℕ)
-    → AreUnchained g v blocks → ((i : ℕ) → IsOutside blocks i → h i ≡ f i) → IsChain h (512 * g.blocks) x.root x.extents blocks es
+    → AreUnchained g v blocks → ((i : ℕ) → IsOutside blocks i → h i ≡ f i)
+    → IsChain h (512 * g.blocks) x.root x.extents blocks es
     → ino < g.inodes → AreBytes bytes → decode_inode bytes ≡ Some x → Reads g f v
     → Reads g (with_line (inode_line ino) bytes h) (inode_set ino x blocks es v)
 reads-switched g f h v ino x blocks es bytes free same stands within are decoded r =
-    reads-inode g h v ino x blocks es bytes within are decoded (record { is_chain = stands; in_data = free.in_data }) (reads-written g f h v blocks free same r)
+    reads-inode g h v ino x blocks es bytes within are decoded (record { is_chain = stands; in_data = free.in_data })
+    (reads-written g f h v blocks free same r)

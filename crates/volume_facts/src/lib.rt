@@ -12,7 +12,7 @@
 //! and `chain_facts`.
 #![tactic(auto)]
 
-ghost use Rattle.volume_facts.specs.Laws.{HasOneVolume, ReadsAlike, SetsInode, SetsRow, SetsBase, WritesFree, Switches, HasFootprint, ReadsWhileLent, ReadsOnceBack};
+ghost use Rattle.volume_facts.specs.Laws.{HasOneVolume, ReadsAlike, SetsInode, SetsRow, SetsBase, WritesFree, Switches, HasFootprint, HasContentBeside, PutsBackLent, PutsBackSettled, ReadsWhileLent, ReadsOnceBack};
 
 /// Words read as one volume at most, and as the same one where they agree in what its reading looks
 /// at.
@@ -36,7 +36,14 @@ pub fn chains_are_written_beside()
 
 /// The content rests on the volume, the log lines and the files' blocks alone.
 pub fn contents_have_a_footprint()
-    ensures { HasFootprint }
+    ensures footprint { HasFootprint }
+    ensures beside { HasContentBeside }
+{}
+
+/// A device with a part lent and put back has the cells that it had, and so once the part is back.
+pub fn lent_parts_are_put_back()
+    ensures lent { PutsBackLent }
+    ensures back { PutsBackSettled }
 {}
 
 /// An image reads as the same volume while a block of no chain is lent, and once a part is back.

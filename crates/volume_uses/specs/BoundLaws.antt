@@ -57,7 +57,8 @@ reads-chain_bound g f v limit ino r below in_data once =
     let within : ino < length v.inodes = omega (arith, r.inode_count) in
     let geometry = r.geometry in
     let bound : chains_for (length (extents v ino)) + 3 ≤ reserve v.geometry =
-    chains-bound v limit (extents v ino) stands.map.canonical (rw geometry in_data) (λ b of_data. omega (arith, one_use v b ino (once b (rw geometry at of_data)) within))
+    chains-bound v limit (extents v ino) stands.map.canonical (rw geometry in_data)
+    (λ b of_data. omega (arith, one_use v b ino (once b (rw geometry at of_data)) within))
     in
     let fits : chains_for (length (extents v ino)) + 3 ≤ reserve g = rw geometry at bound in
     omega (arith, count, stands.map.counted, fits)

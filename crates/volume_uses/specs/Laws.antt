@@ -1,11 +1,14 @@
 -- The chief laws of the uses of blocks, each as one statement.
 use Rattle.std.specs.Prelude.{◌≡◌, ◌≢◌, ℕ, ◌+◌, ◌<◌, ◌≤◌, true, List, length, All, Some}
 use Rattle.pm_words.specs.Words.{Words}
+use Rattle.disk_places.specs.Journal.{journaled}
 use Rattle.disk_places.specs.Places.{Geometry, data_blocks, reserve, is_data_block}
 use Rattle.extent_words.specs.declared.Extent.{Extent}
 use Rattle.extent_words.specs.Extents.{disk_at, covers}
 use Rattle.disk_lines.specs.declared.Inode.{Inode}
-use Rattle.disk_rules.specs.Placed.{block_at}
+use Rattle.disk_rules.specs.Content.{content}
+use Rattle.disk_rules.specs.Live.{live_entries}
+use Rattle.disk_rules.specs.Placed.{block_at, IsOutside}
 use Rattle.disk_rules.specs.Reading.{Reads, inode_set}
 use Rattle.disk_rules.specs.Room.{unused_blocks}
 use Rattle.disk_rules.specs.Rules.{IsInData, IsNamedOnce}
@@ -14,6 +17,7 @@ use Rattle.disk_rules.specs.Volume.{Volume, chain, extents}
 use Rattle.volume_facts.specs.Reading.{AreUnchained}
 use Rattle.volume_uses.specs.OwnerLaws.{IsOnePlace}
 use Rattle.volume_uses.specs.PoolLaws.{AreInData}
+use Rattle.volume_uses.specs.Staged.{AreStaged, IsStagedElsewhere}
 use Rattle.volume_uses.specs.Uses.{uses_of, blocks_held, is_unused, HasAllMaps, Freed}
 
 -- a change of one inode's chain and map takes its old uses of a block and adds the new ones
@@ -64,3 +68,13 @@ FitsReserve =
     (g : Geometry) (f : Words) (v : Volume) (limit ino : ℕ) → Reads g f v → ino < g.inodes
     → All (IsInData g limit) (extents v ino)
     → ((b : ℕ) → is_data_block g b ≡ true → IsNamedOnce v b) → length (chain v ino) + 3 ≤ reserve g
+
+-- blocks of a staging file that no live entry tells of are read by no file: the content is as before, whatever is there
+abbrev pub HasContentBesideStaged : Type 0
+HasContentBesideStaged =
+    (g : Geometry) (v : Volume) (staging from : ℕ) (blocks : List ℕ) (before image : Words)
+    → Reads g (journaled before) v
+    → ((b : ℕ) → is_data_block v.geometry b ≡ true → IsNamedOnce v b) → AreStaged v staging from blocks
+    → All (IsStagedElsewhere v staging from (length blocks)) (live_entries v (journaled before))
+    → ((i : ℕ) → IsOutside blocks i → image i ≡ before i)
+    → content g image ≡ content g before

@@ -34,7 +34,8 @@ uses-le-owners v b ino below = omega (arith, length-owners v b, at-le-sum_by (us
 
 pub two-le-owners : (v : Volume) (b i j : ℕ) → i < j → j < length v.inodes
     → uses_of v b i + uses_of v b j ≤ length (owners v b)
-two-le-owners v b i j before below = omega (arith, length-owners v b, two-le-sum_by (uses_of v b) 0 (length v.inodes) i j (omega arith) before (omega arith))
+two-le-owners v b i j before below =
+    omega (arith, length-owners v b, two-le-sum_by (uses_of v b) 0 (length v.inodes) i j (omega arith) before (omega arith))
 
 -- ---- one inode's chain and map are set
 
@@ -61,12 +62,15 @@ pub owners-set : (v : Volume) (ino : ℕ) (x : Inode) (blocks : List ℕ) (es : 
 owners-set v ino x blocks es b below all =
     let w = inode_set ino x blocks es v in
     let count : length w.inodes ≡ length v.inodes = length-set v.inodes ino x in
-    let new : length (owners w b) ≡ sum_by (uses_of w b) (range_with_len 0 (length v.inodes)) = length-owners w b ∙ ap (λ n. sum_by (uses_of w b) (range_with_len 0 n)) count in
+    let new : length (owners w b) ≡ sum_by (uses_of w b) (range_with_len 0 (length v.inodes)) =
+    length-owners w b ∙ ap (λ n. sum_by (uses_of w b) (range_with_len 0 n)) count
+    in
     omega (
       arith,
       new,
       length-owners v b,
-      sum_by-but_one (uses_of w b) (uses_of v b) 0 (length v.inodes) ino (omega arith) (omega arith) (λ j apart. uses-set_other v ino x blocks es b j apart),
+      sum_by-but_one (uses_of w b) (uses_of v b) 0 (length v.inodes) ino (omega arith) (omega arith)
+          (λ j apart. uses-set_other v ino x blocks es b j apart),
       uses-set_same v ino x blocks es b below all,
     )
 
@@ -80,7 +84,8 @@ once-set v ino x blocks es below all room b in_data = omega (arith, owners-set v
 -- The same where two inodes change, as when blocks go from one file to another.
 pub owners-set_two : (v : Volume) (i j : ℕ) (x y : Inode) (us ts : List ℕ) (es fs : List Extent) (b : ℕ) → i ≢ j
     → i < length v.inodes → j < length v.inodes → HasAllMaps v
-    → length (owners (inode_set j y ts fs (inode_set i x us es v)) b) + uses_of v b i + uses_of v b j ≡ length (owners v b) + length (uses_by i us es b) + length (uses_by j ts fs b)
+    → length (owners (inode_set j y ts fs (inode_set i x us es v)) b) + uses_of v b i + uses_of v b j
+    ≡ length (owners v b) + length (uses_by i us es b) + length (uses_by j ts fs b)
 owners-set_two v i j x y us ts es fs b apart i_below j_below all =
     let w = inode_set i x us es v in
     let inodes = length-set v.inodes i x in
@@ -98,7 +103,8 @@ owners-set_two v i j x y us ts es fs b apart i_below j_below all =
 -- another inode with the same map, another row, another base: the uses are the same
 pub owners-node : (v : Volume) (ino : ℕ) (x : Inode) (b : ℕ) → owners (node_set ino x v) b ≡ owners v b
 unfolding owners
-owners-node v ino x b = ap (λ n. flat_map (λ i. uses_by i (chain v i) (extents v i) b) (range_with_len 0 n)) (length-set v.inodes ino x)
+owners-node v ino x b =
+    ap (λ n. flat_map (λ i. uses_by i (chain v i) (extents v i) b) (range_with_len 0 n)) (length-set v.inodes ino x)
 
 pub owners-row : (v : Volume) (k : ℕ) (o : Option NameRow) (b : ℕ) → owners (row_set k o v) b ≡ owners v b
 unfolding owners
@@ -132,7 +138,8 @@ pub record IsOnePlace (i j k l : ℕ) : Type 0 where
   pub place : k ≡ l
 
 pub one_chain_place : (v : Volume) (b i j k l : ℕ) → IsNamedOnce v b → i < length v.inodes → j < length v.inodes
-    → k < length (chain v i) → l < length (chain v j) → block_at (chain v i) k ≡ b → block_at (chain v j) l ≡ b → IsOnePlace i j k l
+    → k < length (chain v i) → l < length (chain v j) → block_at (chain v i) k ≡ b → block_at (chain v j) l ≡ b
+    → IsOnePlace i j k l
 one_chain_place v b i j k l once i_below j_below k_below l_below first second =
     let used_i : 1 ≤ uses_of v b i = omega (arith, in_chain-at (chain v i) k b k_below first, length-uses_by i (chain v i) (extents v i) b) in
     let used_j : 1 ≤ uses_of v b j = omega (arith, in_chain-at (chain v j) l b l_below second, length-uses_by j (chain v j) (extents v j) b) in
@@ -152,7 +159,8 @@ one_chain_place v b i j k l once i_below j_below k_below l_below first second =
 
 -- two extents that have the block are one
 pub one_extent : (v : Volume) (b i j k l : ℕ) → IsNamedOnce v b → i < length v.inodes → j < length v.inodes
-    → k < length (extents v i) → l < length (extents v j) → holds_disk (extent_at (extents v i) k) b ≡ true → holds_disk (extent_at (extents v j) l) b ≡ true → IsOnePlace i j k l
+    → k < length (extents v i) → l < length (extents v j) → holds_disk (extent_at (extents v i) k) b ≡ true
+    → holds_disk (extent_at (extents v j) l) b ≡ true → IsOnePlace i j k l
 one_extent v b i j k l once i_below j_below k_below l_below first second =
     let used_i : 1 ≤ uses_of v b i = omega (arith, in_map-at (extents v i) k b k_below first, length-uses_by i (chain v i) (extents v i) b) in
     let used_j : 1 ≤ uses_of v b j = omega (arith, in_map-at (extents v j) l b l_below second, length-uses_by j (chain v j) (extents v j) b) in
@@ -182,12 +190,16 @@ no_chain_has v b i j k once i_below j_below has k_below is =
     let both : in_map (extents v j) b ≡ in_map (extents v i) b = ap (λ n. in_map (extents v n) b) (sym same) in
     omega (arith, one_use v b j once j_below, in_file, chained, both)
 
+-- the extent that gives a file block its disk block
+abbrev IsGivenBy : List Extent → ℕ → ℕ → Type 0
+IsGivenBy es m b = (k : ℕ) × (k < length es) × (holds (extent_at es k) m ≡ true) × (disk_in (extent_at es k) m ≡ b)
+
 -- A block that is named once is the block of one file block of one inode.
 pub one_owner : (v : Volume) (b i j m n : ℕ) → IsNamedOnce v b → i < length v.inodes → j < length v.inodes
     → disk_at (extents v i) m ≡ Some b → disk_at (extents v j) n ≡ Some b → IsOnePlace i j m n
 one_owner v b i j m n once i_below j_below first second =
-    let at_m : (k : ℕ) × (k < length (extents v i)) × (holds (extent_at (extents v i) k) m ≡ true) × (disk_in (extent_at (extents v i) k) m ≡ b) = disk_at_found (extents v i) m b no_extent first in
-    let at_n : (k : ℕ) × (k < length (extents v j)) × (holds (extent_at (extents v j) k) n ≡ true) × (disk_in (extent_at (extents v j) k) n ≡ b) = disk_at_found (extents v j) n b no_extent second in
+    let at_m : IsGivenBy (extents v i) m b = disk_at_found (extents v i) m b no_extent first in
+    let at_n : IsGivenBy (extents v j) n b = disk_at_found (extents v j) n b no_extent second in
     let has_m : holds_disk (extent_at (extents v i) at_m.0) b ≡ true = grind (arith, nat_tests, at_m.2, at_m.3) in
     let has_n : holds_disk (extent_at (extents v j) at_n.0) b ≡ true = grind (arith, nat_tests, at_n.2, at_n.3) in
     let one : IsOnePlace i j at_m.0 at_n.0 = one_extent v b i j at_m.0 at_n.0 once i_below j_below at_m.1 at_n.1 has_m has_n in

@@ -1,9 +1,9 @@
 -- Laws of free blocks: which blocks are free after an inode's chain and map were set, and how many are.
-use Rattle.std.specs.Prelude.{◌≡◌, ◌≢◌, ℕ, suc, zero, ◌+◌, ◌<◌, ◌≤◌, ◌==◌, true, false, List, [], ◌∷◌, length, sum_by, All, slice_index_or, refl}
+use Rattle.std.specs.Prelude.{◌&&◌, ◌≡◌, ◌≢◌, ℕ, suc, zero, ◌+◌, ◌<◌, ◌≤◌, ◌==◌, true, false, List, [], ◌∷◌, length, sum_by, All, slice_index_or, refl}
 use Rattle.std.specs.List.{range_with_len, count_by}
 use Rattle.std.proofs.Common.{arith, ap, sym, ◌∙◌}
 use Rattle.std.proofs.Math.Path.{fun_ext}
-use Rattle.std.proofs.lemmas.Bool.{and_parts, false_from_ne_true}
+use Rattle.std.proofs.lemmas.Bool.{and_parts, and_from, and_right, false_from_ne_true}
 use Rattle.std.proofs.lemmas.Bool.Decides.{nat_tests}
 use Rattle.std.proofs.lemmas.List.{length-set}
 use Rattle.std.proofs.lemmas.List.Sums.{sum_by-cons}
@@ -16,7 +16,7 @@ use Rattle.disk_rules.specs.Placed.{no_extent, extent_at, block_at}
 use Rattle.disk_rules.specs.Reading.{Reads, inode_set}
 use Rattle.disk_rules.specs.Room.{has_none, unused_blocks}
 use Rattle.disk_rules.specs.Rules.{IsInData, IsNamedOnce}
-use Rattle.disk_rules.specs.Uses.{Use, owners}
+use Rattle.disk_rules.specs.Uses.{Use, uses_by, owners}
 use Rattle.disk_rules.specs.Volume.{Volume, chain, extents}
 use Rattle.volume_facts.specs.Changes.{chain-set_same, extents-set_same, chain-set_other, extents-set_other}
 use Rattle.volume_facts.specs.Lists.{one_if, sum_by-agree, sum_by-but_one, sum_by-add, sum_by-swap, count_by-range, count_by-one}
@@ -60,6 +60,31 @@ freed-set v ino x blocks es below all =
       others = λ b same. has_none-count (owners w b) (owners v b) (omega (arith, owners-set v ino x blocks es b below all));
     }
 
+-- the same of the test by which blocks are taken from a pool
+pub is_unused-taken : (v : Volume) (ino : ℕ) (x : Inode) (blocks : List ℕ) (es : List Extent) (b : ℕ)
+    → ino < length v.inodes → HasAllMaps v
+    → 1 ≤ length (uses_by ino blocks es b) → is_unused (inode_set ino x blocks es v) b ≡ false
+is_unused-taken v ino x blocks es b below all some =
+    and_right (is_data_block v.geometry b) (has_none (owners (inode_set ino x blocks es v) b))
+    (has_none-some (owners (inode_set ino x blocks es v) b)
+    (omega (arith, owners-set v ino x blocks es b below all, uses-le-owners v b ino below)))
+
+pub is_unused-given : (v : Volume) (ino : ℕ) (x : Inode) (blocks : List ℕ) (es : List Extent) (b : ℕ)
+    → ino < length v.inodes → HasAllMaps v
+    → is_data_block v.geometry b ≡ true → length (uses_by ino blocks es b) ≡ 0 → length (owners v b) ≡ uses_of v b ino
+    → is_unused (inode_set ino x blocks es v) b ≡ true
+is_unused-given v ino x blocks es b below all in_data none only =
+    and_from (is_data_block v.geometry b) (has_none (owners (inode_set ino x blocks es v) b)) in_data
+    (has_none-zero (owners (inode_set ino x blocks es v) b) (omega (arith, owners-set v ino x blocks es b below all)))
+
+pub is_unused-others : (v : Volume) (ino : ℕ) (x : Inode) (blocks : List ℕ) (es : List Extent) (b : ℕ)
+    → ino < length v.inodes → HasAllMaps v
+    → length (uses_by ino blocks es b) ≡ uses_of v b ino → is_unused (inode_set ino x blocks es v) b ≡ is_unused v b
+is_unused-others v ino x blocks es b below all same =
+    ap (λ none. is_data_block v.geometry b && none)
+    (has_none-count (owners (inode_set ino x blocks es v) b) (owners v b)
+    (omega (arith, owners-set v ino x blocks es b below all)))
+
 -- free blocks are in no chain and in no file
 pub unused-unchained : (v : Volume) (blocks : List ℕ) → length v.inodes ≡ v.geometry.inodes
     → All (λ b. is_unused v b ≡ true) blocks → AreUnchained v.geometry v blocks
@@ -85,7 +110,14 @@ pub unused-uncovered : (v : Volume) (b ino : ℕ) → ino < length v.inodes → 
 unused-uncovered v b ino below free =
     false_from_ne_true (covers (extents v ino) b) (λ has.
     let none = has_none-length (owners v b) (and_parts (is_data_block v.geometry b) (has_none (owners v b)) free).1 in
-    omega (arith, none, in_map-covers (extents v ino) b has, length-uses_by ino (chain v ino) (extents v ino) b, uses-le-owners v b ino below))
+    omega (
+      arith,
+      none,
+      in_map-covers (extents v ino) b has,
+      length-uses_by ino (chain v ino)
+          (extents v ino) b,
+      uses-le-owners v b ino below,
+    ))
 
 -- a block that an extent in data blocks has is a data block
 pub covered-in_data : (g : Geometry) (limit : ℕ) (es : List Extent) (b : ℕ) → All (IsInData g limit) es
@@ -110,7 +142,12 @@ ones a (suc n) = omega (arith, sum_by-cons (λ (k : ℕ). 1) a (range_with_len (
 pub sum_by-bound : (f : ℕ → ℕ) (a n : ℕ) → ((k : ℕ) → a ≤ k → k < a + n → f k ≤ 1) → sum_by f (range_with_len a n) ≤ n
 sum_by-bound f a zero small = omega arith
 sum_by-bound f a (suc n) small =
-    omega (arith, sum_by-cons f a (range_with_len (a + 1) n), small a (omega arith) (omega arith), sum_by-bound f (a + 1) n (λ k low high. small k (omega arith) (omega arith)))
+    omega (
+      arith,
+      sum_by-cons f a (range_with_len (a + 1) n),
+      small a (omega arith) (omega arith),
+      sum_by-bound f (a + 1) n (λ k low high. small k (omega arith) (omega arith)),
+    )
 
 -- Of a chain of data blocks, counted block by block, there are as many as it has, of a map as many as its file has.
 pub chain-counted : (v : Volume) (blocks : List ℕ) → All (λ b. is_data_block v.geometry b ≡ true) blocks
@@ -119,7 +156,8 @@ chain-counted v blocks in_data =
     sum_by-swap (λ b k. one_if (block_at blocks k == b)) (data_range v) (range_with_len 0 (length blocks))
     ∙ sum_by-agree (λ k. count_by (λ b. block_at blocks k == b) (data_range v)) (λ k. 1) 0 (length blocks) (λ k low below.
     let at = in_data k 0 (omega arith) in
-    count_by-one (block_at blocks k) (first_data v.geometry) (data_blocks v.geometry) (grind (arith, nat_tests, at)) (grind (arith, nat_tests, at)))
+    count_by-one (block_at blocks k) (first_data v.geometry) (data_blocks v.geometry) (grind (arith, nat_tests, at))
+    (grind (arith, nat_tests, at)))
     ∙ ones 0 (length blocks)
 
 pub map-counted : (v : Volume) (limit : ℕ) (es : List Extent) → All (IsInData v.geometry limit) es
@@ -154,7 +192,8 @@ owners-counted v limit in_data =
     ∙ sum_by-agree (λ ino. sum_by (λ b. uses_of v b ino) (data_range v)) (blocks_of v) 0 (length v.inodes) (λ ino low below.
     ap (λ f. sum_by f (data_range v)) (fun_ext (λ b. length-uses_by ino (chain v ino) (extents v ino) b))
     ∙ sum_by-add (in_chain (chain v ino)) (in_map (extents v ino)) (data_range v)
-    ∙ (λ i. chain-counted v (chain v ino) (in_data.chains ino (omega arith)) i + map-counted v (limit ino) (extents v ino) (in_data.files ino (omega arith)) i))
+    ∙ (λ i. chain-counted v (chain v ino) (in_data.chains ino (omega arith)) i + map-counted v (limit ino)
+    (extents v ino) (in_data.files ino (omega arith)) i))
 
 free_or_used : (us : List Use) → length us ≤ 1 → one_if (has_none us) + length us ≡ 1
 free_or_used [] once = refl
@@ -167,7 +206,8 @@ pub unused-held : (v : Volume) (limit : ℕ → ℕ) → AreInData v limit
 unused-held v limit in_data once =
     ap (λ n. unused_blocks v + n) (sym (owners-counted v limit in_data))
     ∙ sym (sum_by-add (λ b. one_if (has_none (owners v b))) (λ b. length (owners v b)) (data_range v))
-    ∙ sum_by-agree (λ b. one_if (has_none (owners v b)) + length (owners v b)) (λ b. 1) (first_data v.geometry) (data_blocks v.geometry) (λ b low below.
+    ∙ sum_by-agree (λ b. one_if (has_none (owners v b)) + length (owners v b)) (λ b. 1) (first_data v.geometry)
+    (data_blocks v.geometry) (λ b low below.
     let in_range : is_data_block v.geometry b ≡ true = grind (arith, nat_tests, low, below) in
     free_or_used (owners v b) (once b in_range))
     ∙ ones (first_data v.geometry) (data_blocks v.geometry)
@@ -187,14 +227,22 @@ held-set v ino x blocks es below all =
     let same_map = extents-set_other ino x blocks es v j apart in
     λ i. length (same_chain i) + block_count (same_map i)
     in
-    let count : blocks_held w ≡ sum_by (blocks_of w) (range_with_len 0 (length v.inodes)) = ap (λ n. sum_by (blocks_of w) (range_with_len 0 n)) (length-set v.inodes ino x) in
-    omega (arith, count, sum_by-but_one (blocks_of w) (blocks_of v) 0 (length v.inodes) ino (omega arith) (omega arith) other, own)
+    let count : blocks_held w ≡ sum_by (blocks_of w) (range_with_len 0 (length v.inodes)) =
+    ap (λ n. sum_by (blocks_of w) (range_with_len 0 n)) (length-set v.inodes ino x)
+    in
+    omega (
+      arith,
+      count,
+      sum_by-but_one (blocks_of w) (blocks_of v) 0 (length v.inodes) ino (omega arith) (omega arith) other,
+      own,
+    )
 
 -- and how many are free then
 pub unused-set : (v : Volume) (ino : ℕ) (x : Inode) (blocks : List ℕ) (es : List Extent) (before after : ℕ → ℕ)
     → ino < length v.inodes → HasAllMaps v
     → AreInData v before → AreInData (inode_set ino x blocks es v) after
-    → ((b : ℕ) → is_data_block v.geometry b ≡ true → IsNamedOnce v b) → ((b : ℕ) → is_data_block v.geometry b ≡ true → IsNamedOnce (inode_set ino x blocks es v) b)
+    → ((b : ℕ) → is_data_block v.geometry b ≡ true → IsNamedOnce v b)
+    → ((b : ℕ) → is_data_block v.geometry b ≡ true → IsNamedOnce (inode_set ino x blocks es v) b)
     → unused_blocks (inode_set ino x blocks es v) + (length blocks + block_count es) ≡ unused_blocks v + blocks_of v ino
 unused-set v ino x blocks es before after below all in_data now once still =
     omega (

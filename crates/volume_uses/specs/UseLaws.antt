@@ -20,7 +20,8 @@ pub length-uses_by : (ino : ℕ) (blocks : List ℕ) (es : List Extent) (b : ℕ
 length-uses_by ino blocks es b =
     omega (
       arith,
-      length-append (map (λ k. InChain ino k) (places_in blocks b)) (map (λ e. Holds ino (e.file + (b - e.disk))) (filter (λ e. holds_disk e b) es)),
+      length-append (map (λ k. InChain ino k) (places_in blocks b))
+          (map (λ e. Holds ino (e.file + (b - e.disk))) (filter (λ e. holds_disk e b) es)),
       length-map (places_in blocks b) (λ k. InChain ino k),
       length-map (filter (λ e. holds_disk e b) es) (λ e. Holds ino (e.file + (b - e.disk))),
       length-filter (λ k. block_at blocks k == b) (range_with_len 0 (length blocks)),
@@ -32,7 +33,8 @@ pub in_chain-at : (blocks : List ℕ) (k b : ℕ) → k < length blocks → bloc
 in_chain-at blocks k b below is =
     let long = length-range_with_len 0 (length blocks) in
     let at : get_or (range_with_len 0 (length blocks)) k 0 ≡ k = get_or-range_with_len 0 (length blocks) k 0 below ∙ omega arith in
-    count_by-at (λ n. block_at blocks n == b) (range_with_len 0 (length blocks)) k 0 (omega arith) (eq-eqb (block_at blocks (get_or (range_with_len 0 (length blocks)) k 0)) b (ap (block_at blocks) at ∙ is))
+    count_by-at (λ n. block_at blocks n == b) (range_with_len 0 (length blocks)) k 0 (omega arith)
+    (eq-eqb (block_at blocks (get_or (range_with_len 0 (length blocks)) k 0)) b (ap (block_at blocks) at ∙ is))
 
 pub in_chain-two : (blocks : List ℕ) (j k b : ℕ) → j < k → k < length blocks → block_at blocks j ≡ b
     → block_at blocks k ≡ b → 2 ≤ in_chain blocks b
@@ -50,8 +52,12 @@ pub in_chain-some : (blocks : List ℕ) (b : ℕ) → 1 ≤ in_chain blocks b
 in_chain-some blocks b some =
     let found = count_by-some (λ n. block_at blocks n == b) (range_with_len 0 (length blocks)) 0 some in
     let below : found.0 < length blocks = omega (arith, found.1, length-range_with_len 0 (length blocks)) in
-    let at : get_or (range_with_len 0 (length blocks)) found.0 0 ≡ found.0 = get_or-range_with_len 0 (length blocks) found.0 0 below ∙ omega arith in
-    (found.0, below, ap (block_at blocks) (sym at) ∙ eqb-true (block_at blocks (get_or (range_with_len 0 (length blocks)) found.0 0)) b found.2)
+    let at : get_or (range_with_len 0 (length blocks)) found.0 0 ≡ found.0 = get_or-range_with_len 0 (length blocks) found.0 0 below ∙ omega arith in (
+      found.0,
+      below,
+      ap (block_at blocks) (sym at)
+          ∙ eqb-true (block_at blocks (get_or (range_with_len 0 (length blocks)) found.0 0)) b found.2,
+    )
 
 pub in_map-at : (es : List Extent) (k b : ℕ) → k < length es → holds_disk (extent_at es k) b ≡ true → 1 ≤ in_map es b
 in_map-at es k b below has = count_by-at (λ e. holds_disk e b) es k no_extent below has

@@ -5,13 +5,14 @@
 //! more what it uses now; so it is known which blocks stay named once, which come free and which are
 //! taken. A block that is named once is the block of one file block of one inode, and of no chain.
 //! Each data block is free or one that an inode has, so that free blocks are counted by what inodes
-//! have. The reserve has room for the chain of any inode, and for three blocks more.
+//! have. The reserve has room for the chain of any inode, and for three blocks more. Blocks of a
+//! staging file that no live entry tells of are read by no file.
 //!
 //! `specs/Laws.antt` has these laws, each as one statement; the functions here are where they are
 //! proved to hold. Stands on `disk_rules`, `extent_facts`, `chain_facts` and `volume_facts`.
 #![tactic(auto)]
 
-ghost use Rattle.volume_uses.specs.Laws.{CountsUses, StaysNamedOnce, TellsFreed, HasOneOwner, IsInNoChain, CountsFree, FreeIsUnchained, FitsReserve};
+ghost use Rattle.volume_uses.specs.Laws.{CountsUses, StaysNamedOnce, TellsFreed, HasOneOwner, IsInNoChain, CountsFree, FreeIsUnchained, FitsReserve, HasContentBesideStaged};
 
 /// What a change of one inode's chain and map makes of the uses of a block.
 pub fn changes_are_counted()
@@ -35,4 +36,9 @@ pub fn free_blocks_are_counted()
 /// The reserve has room for the chain of any inode, and for three blocks more.
 pub fn chains_fit_the_reserve()
     ensures { FitsReserve }
+{}
+
+/// The content is as before, whatever is in blocks of a staging file that no live entry tells of.
+pub fn staged_blocks_are_not_read()
+    ensures { HasContentBesideStaged }
 {}

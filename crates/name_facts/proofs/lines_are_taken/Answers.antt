@@ -1,10 +1,13 @@
 -- the laws of the definitions
 use Rattle.name_facts.specs.ForestLaws.{forest-taken}
-use Rattle.name_facts.specs.SetLaws.{find_name-set, names_of-taken, free_lines-taken, parent_of-taken}
+use Rattle.name_facts.specs.SetLaws.{find_name-set, child_named-taken, names_of-taken, free_lines-taken, parent_of-taken}
 use Rattle.name_facts.proofs.lines_are_taken.Goals as goal
 
 pub returns-clause-found : goal.returns-clause-found
 returns-clause-found c = find_name-set
+
+pub returns-clause-names : goal.returns-clause-names
+returns-clause-names c = child_named-taken
 
 pub returns-clause-count : goal.returns-clause-count
 returns-clause-count c = names_of-taken

@@ -37,6 +37,7 @@ before_cut s (c ∷ calls) n i v = by (shortens s c n i) (before_cut (after_call
   where
     rest : ℕ
     rest = value_before_cut (after_call s c) calls n i (last_of v (with_value (value_put s c n i) []))
+
     by : (b : Bool) → IsLastOrAny (is_shortened (after_call s c) calls n i) (last_of v (with_value (value_put s c n i) [])) (values_put (after_call s c) calls n i) rest
         → IsLastOrAny (b || is_shortened (after_call s c) calls n i) v (with_value (value_put s c n i) (values_put (after_call s c) calls n i)) (cond b v rest)
     by true further = inl refl
@@ -51,7 +52,7 @@ Overwritten-LastBeforeCut s later n i v x h =
     subst (λ y. IsLastOrAny (is_shortened s later n i) v (values_put s later n i) y) (sym h) (before_cut s later n i v)
 
 or_weaker : (a b : ByteRule) (s : State) (unfinished : List Begun) → Implies a b → Implies (OrUnfinished a s unfinished) (OrUnfinished b s unfinished)
-or_weaker a b s unfinished implies n i v x h = elim h [ | inl by_rule ↦ inl (implies n i v x by_rule) | inr by_others ↦ inr by_others ]
+or_weaker a b s unfinished implies n i v x h = elim h [ inl by_rule ↦ inl (implies n i v x by_rule) | inr by_others ↦ inr by_others ]
 
 -- what is left by a rule is left by a weaker one
 node_weaker : (a b : ByteRule) → Implies a b → (n : ℕ) (x y : Node) → NodeLeft a n x y → NodeLeft b n x y

@@ -3,3 +3,4 @@ pub mod DistinctLaws
 pub mod FitsLaws
 pub mod UnfinishedLaws
 pub mod EndingLaws
+pub mod Laws

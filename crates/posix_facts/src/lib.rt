@@ -8,3 +8,11 @@
 //!
 //! Stands on `block_counts`, `posix_types`, `posix_words` and `posix_spec`.
 #![tactic(auto)]
+
+ghost use Rattle.posix_facts.specs.Laws.{FitsAlways, IsDistinctAlways};
+
+/// What files hold leaves the reserve, and entries stay distinct, under every call of every instance.
+pub fn states_stay_sound()
+    ensures fits { FitsAlways }
+    ensures distinct { IsDistinctAlways }
+{}

@@ -3,3 +3,4 @@ pub mod Order
 pub mod Begins
 pub mod TreeLaws
 pub mod Rows
+pub mod Laws

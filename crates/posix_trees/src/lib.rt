@@ -7,3 +7,10 @@
 //!
 //! Stands on `posix_types`, `posix_words`, `posix_spec` and `posix_facts`.
 #![tactic(auto)]
+
+ghost use Rattle.posix_trees.specs.Laws.{BeginsAsItself};
+
+/// A state that begins with a tree has that tree.
+pub fn a_tree_begins_as_itself()
+    ensures { BeginsAsItself }
+{}

@@ -1,4 +1,0 @@
-pub mod Changes
-pub mod Spaces
-pub mod Stands
-pub mod View

@@ -6,3 +6,7 @@ use Rattle.disk_places.specs.Places.{Geometry}
 abbrev pub numbered : ℕ → ℕ → ℕ → ℕ → Geometry
 numbered blocks log inodes names =
     record { version = 1; blocks = blocks; log = log; inodes = inodes; names = names }
+
+-- the default image: 256 blocks, 64 log lines, 64 inode lines, 128 name lines
+abbrev pub default_numbers : Geometry
+default_numbers = numbered 256 64 64 128

@@ -3,7 +3,7 @@ ghost use Rattle.std.specs.Prelude.{◌≡◌, ◌<◌, ◌≤◌, ◌↔◌, Is
 ghost use Rattle.block_counts.specs.Counts.{reserve_for};
 ghost use Rattle.disk_places.specs.PlaceLaws.{AreApart};
 ghost use Rattle.disk_places.specs.Places.{Geometry, IsGeometry, blocks_of_lines, data_blocks, first_data, name_block, log_block, nodes, state_line, record_line, inode_line, name_line, log_line};
-ghost use Rattle.image_layout.specs.Numbers.{numbered};
+ghost use Rattle.image_layout.specs.Numbers.{default_numbers, numbered};
 
 use block_counts::reserve_for;
 use posix_types::Shape;
@@ -74,7 +74,7 @@ fn blocks_of_lines(lines: u32) -> u32
 impl Geometry {
     /// The geometry of the default image: 256 blocks, 64 log lines, 64 inode lines, 128 name lines.
     pub fn default_image() -> Geometry
-        ensures { result ≡ numbered 256 64 64 128 }
+        ensures { result ≡ default_numbers }
     {
         Geometry {
             version: VERSION,

@@ -30,7 +30,7 @@ scripted-more scripts past (first ∷ items) item h next =
     (h.0, scripted-more scripts (past ++ first ∷ []) items item h.1 (subst (λ before. IsNext scripts before item) (sym (append_assoc past (first ∷ []) items)) next))
 
 -- the call of a script by its number
-call_at : (names : List (List ℕ)) (k : ℕ) → k < length names → slice_get (map mkdir_of names) k ≡ Some (mkdir_of (slice_index_or names k []))
+pub call_at : (names : List (List ℕ)) (k : ℕ) → k < length names → slice_get (map mkdir_of names) k ≡ Some (mkdir_of (slice_index_or names k []))
 call_at names k lt =
     slice_get-get_or (map mkdir_of names) k (mkdir_of []) (rw length-map lt)
     ∙ ap Some (get_or-map mkdir_of names k [] (mkdir_of []) lt)

@@ -11,3 +11,4 @@ pub mod ReadBack
 pub mod Results
 pub mod SetLines
 pub mod Zeros
+mod Shapes

@@ -1,7 +1,7 @@
 -- A run as a whole: what was left on the device, and what it says of the history.
-use Rattle.std.proofs.Common.{◌≡◌, ◌⊎◌, ℕ, ◌+◌, ◌*◌, ◌<◌, ◌≤◌, false, List, [], ◌∷◌, ◌++◌, length, map, take, drop, refl, sym, ◌∙◌, ap, arith, inl, inr, Option, Some, None}
-use Rattle.std.specs.Prelude.{slice_index_or, nat_lt}
-use Rattle.std.proofs.Math.Seq.{drop-cons}
+use Rattle.std.proofs.Common.{◌≡◌, ◌⊎◌, ℕ, ◌+◌, ◌*◌, ◌<◌, ◌≤◌, false, List, [], ◌∷◌, ◌++◌, length, map, sym, ◌∙◌, ap, arith, inl, inr, Option, Some, None}
+use Rattle.std.specs.Prelude.{slice_get, nat_lt}
+use Rattle.std.proofs.lemmas.List.Elements.{All-nil}
 use Rattle.std.proofs.lemmas.Bool.{cases_Bool, true≢false, ltb-false}
 use Rattle.std.proofs.lemmas.List.{length-map}
 use Rattle.pm_words.specs.declared.Cell.{Cell}
@@ -15,14 +15,19 @@ use Rattle.pm_words.specs.Powers.{Supply, Steps, is_on, is_left}
 use Rattle.posix_types.specs.declared.item.Item.{Item}
 use Rattle.posix_types.specs.declared.tree.TreeEntry.{TreeEntry}
 use Rattle.posix_spec.specs.Run.{run, IsLegal, after_call}
-use Rattle.posix_spec.specs.Scripted.{Scripted, IsComplete}
+use Rattle.posix_spec.specs.Scripted.{items_of, Scripted, IsComplete}
 use Rattle.posix_spec.specs.Tree.{tree}
 use Rattle.split_top.specs.declared.calls.Called.{Called}
 use Rattle.split_top.specs.declared.calls.Disk.{Disk}
 use Rattle.split_top.specs.Calls.{IsCalled, next_name}
 use Rattle.split_top.specs.Made.{default_geometry, with_directories, made, ArePlain}
 use Rattle.split_top.specs.Rest.{IsAtRest, MayShow}
-use Rattle.split_top.specs.Runs.{first_state, made_count, mkdir_of, begun_of, scripts_of, state_of, IsWhole, IsRun}
+use Rattle.posix_types.specs.declared.call.Who.{Who}
+use Rattle.posix_spec.specs.Ending.{IsWhole}
+use Rattle.posix_spec.specs.Unfinished.{AreUnfinished, HaveTwoCallers, IsNextCall}
+use Rattle.posix_facts.specs.UnfinishedLaws.{AreUnfinished-none, AreUnfinished-begun}
+use Rattle.split_top.specs.Runs.{first_state, made_count, mkdir_of, begun_of, scripts_of, state_of, task_of, IsRun}
+use Rattle.split_top.proofs.Histories.{call_at}
 use Rattle.split_top.proofs.CallSteps.{state_of-more}
 use Rattle.split_top.proofs.OneMore.{may_show_also, plain_more}
 
@@ -55,14 +60,31 @@ all_calls names history count =
 pub run_whole : (names : List (List ℕ)) (stop : Option ℕ) (made : List (List ℕ)) (history : List Item) (left : List TreeEntry)
     → IsLegal first_state history → Scripted (scripts_of names) history → run first_state history ≡ state_of made
     → length history ≡ length names → left ≡ tree (state_of made) → ((steps : ℕ) → stop ≡ Some steps → made_count history ≤ steps) → IsRun names stop history [] left
+unfolding first_state
 run_whole names stop made history left legal scripted state count found kept =
     let is : left ≡ tree (run first_state history) = found ∙ ap tree (sym state) in
-    let whole : IsWhole names history left = record { complete = all_calls names history count; tree = is } in
-    record { legal = legal; scripted = scripted; next = inl refl; strict = is; whole = λ e. whole; stopped = λ n e. inl whole; kept = kept }
+    let whole : IsWhole (task_of names) history left = record { complete = all_calls names history count; tree = is } in
+    record {
+      ends = record {
+        legal = legal;
+        scripted = scripted;
+        open_calls = AreUnfinished-none (scripts_of names) history;
+        permitted = is;
+        whole = λ e. whole;
+        stopped = λ n e. inl whole;
+      };
+      kept = kept;
+    }
 
--- the call that follows a history
-following : (names : List (List ℕ)) (k : ℕ) → k < length names → begun_of (slice_index_or names k []) ∷ [] ≡ take 1 (map begun_of (drop k names))
-following names k lt = sym (ap (λ xs. take 1 (map begun_of xs)) (drop-cons names k [] lt))
+-- the call that follows a history of thread 0
+following : (names : List (List ℕ)) (history : List Item) → length history < length names → items_of history (Who.Thread 0) ≡ history → items_of history Who.Setup ≡ []
+    → AreUnfinished (scripts_of names) history (begun_of (next_name names history) ∷ [])
+following names history lt own set_up =
+    let next : IsNextCall (scripts_of names) history (begun_of (next_name names history)) = record {
+      call = ap (λ items. slice_get (map mkdir_of names) (length items)) own ∙ call_at names (length history) lt;
+      set_up = ap length set_up;
+    } in
+    AreUnfinished-begun (scripts_of names) history [] (begun_of (next_name names history)) (AreUnfinished-none (scripts_of names) history) next (All-nil (λ other. HaveTwoCallers other (begun_of (next_name names history))))
 
 -- a power that went had no more steps than were taken
 spent : (n steps : ℕ) (before after : Supply) → before ≡ record { given = Some n; taken = 0 } → Steps steps before after → is_on after ≡ false → n ≤ steps
@@ -81,24 +103,28 @@ never_off steps before after start took off =
 
 -- the power went
 pub run_lost : (names : List (List ℕ)) (stop : Option ℕ) (made : List (List ℕ)) (history : List Item) (left : List TreeEntry) (before after : Supply)
-    → IsLegal first_state history → Scripted (scripts_of names) history → run first_state history ≡ state_of made
+    → IsLegal first_state history → Scripted (scripts_of names) history → items_of history (Who.Thread 0) ≡ history → items_of history Who.Setup ≡ []
+    → run first_state history ≡ state_of made
     → length history < length names → before ≡ record { given = stop; taken = 0 } → Steps (80 * (length history + 1)) before after → is_on after ≡ false
     → (left ≡ tree (state_of made)) ⊎ (left ≡ tree (state_of (made ++ next_name names history ∷ [])))
     → ((steps : ℕ) → stop ≡ Some steps → made_count history ≤ steps)
     → IsRun names stop history (begun_of (next_name names history) ∷ []) left
-run_lost names stop made history left before after legal scripted state lt start took off found kept =
+unfolding first_state
+run_lost names stop made history left before after legal scripted own set_up state lt start took off found kept =
     record {
-      legal = legal;
-      scripted = scripted;
-      next = inr (following names (length history) lt);
-      strict = elim found [
-        | inl old ↦ inr (old ∙ ap tree (sym state))
-        | inr new ↦ inl (new ∙ ap tree (state_of-more made (next_name names history)) ∙ ap (λ s. tree (after_call s (begun_of (next_name names history)))) (sym state))
-      ];
-      whole = λ always. absurd (never_off (80 * (length history + 1)) before after (start ∙ ap (λ g. record { given = g; taken = 0 }) always) took off);
-      stopped = λ n some.
-          let most : n ≤ 80 * (length history + 1) = spent n (80 * (length history + 1)) before after (start ∙ ap (λ g. record { given = g; taken = 0 }) some) took off in
-          inr (omega arith);
+      ends = record {
+        legal = legal;
+        scripted = scripted;
+        open_calls = following names history lt own set_up;
+        permitted = elim found [
+          | inl old ↦ inr (old ∙ ap tree (sym state))
+          | inr new ↦ inl (new ∙ ap tree (state_of-more made (next_name names history)) ∙ ap (λ s. tree (after_call s (begun_of (next_name names history)))) (sym state))
+        ];
+        whole = λ always. absurd (never_off (80 * (length history + 1)) before after (start ∙ ap (λ g. record { given = g; taken = 0 }) always) took off);
+        stopped = λ n some.
+            let most : n ≤ 80 * (length history + 1) = spent n (80 * (length history + 1)) before after (start ∙ ap (λ g. record { given = g; taken = 0 }) some) took off in
+            inr (record { by_any = omega arith; by_names = λ quiet. omega arith });
+      };
       kept = kept;
     }
 

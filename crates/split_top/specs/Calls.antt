@@ -6,7 +6,7 @@ use Rattle.posix_types.specs.declared.item.Item.{Item}
 use Rattle.posix_spec.specs.State.{State}
 use Rattle.posix_spec.specs.Step.{step}
 use Rattle.posix_spec.specs.Run.{run, IsLegal, IsAnswered}
-use Rattle.posix_spec.specs.Scripted.{Scripted}
+use Rattle.posix_spec.specs.Scripted.{items_of, Scripted}
 use Rattle.split_top.specs.declared.calls.Disk.{Disk}
 use Rattle.split_top.specs.declared.calls.Called.{Called}
 use Rattle.split_top.specs.Made.{default_geometry, ArePlain}
@@ -47,6 +47,8 @@ next_name names history = slice_index_or names (length history) []
 pub record IsCalled (names : List (List ℕ)) (before after : Supply) (disk : Disk) (called : Called) : Type 0 where
   pub legal : IsLegal first_state called.history.items
   pub scripted : Scripted (scripts_of names) called.history.items
+  pub own : items_of called.history.items (Who.Thread 0) ≡ called.history.items
+  pub set_up : items_of called.history.items Who.Setup ≡ []
   pub state : run first_state called.history.items ≡ state_of disk.made.items
   pub plain : ArePlain 0 disk.made.items
   pub few : length disk.made.items ≤ length called.history.items

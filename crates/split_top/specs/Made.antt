@@ -3,6 +3,7 @@ use Rattle.std.specs.Prelude.{◌≡◌, ℕ, ◌+◌, ◌<◌, List, [], ◌∷
 use Rattle.std.specs.List.{filter_map, range_with_len}
 use Rattle.pm_words.specs.Words.{Words, with_line, line_bytes}
 use Rattle.disk_places.specs.Places.{Geometry, name_line}
+use Rattle.image_layout.specs.Numbers.{default_numbers}
 use Rattle.disk_lines.specs.declared.Inode.{Inode}
 use Rattle.disk_lines.specs.declared.Kind.TheVariants.{Directory}
 use Rattle.disk_lines.specs.Lines.{NameRow, NameSlot, FreeName, Named, BadName, is_name, encode_name, decode_name}
@@ -10,7 +11,7 @@ use Rattle.disk_lines.specs.Fresh.{empty_inode, with_inode, fresh}
 
 -- the default image: 256 blocks, 64 log lines, 64 inodes, 128 names
 abbrev pub default_geometry : Geometry
-default_geometry = record { version = 1; blocks = 256; log = 64; inodes = 64; names = 128 }
+default_geometry = default_numbers
 
 -- the inode and the name line of the k-th directory
 abbrev pub directory_inode : Inode

@@ -2,41 +2,19 @@
 ghost use Rattle.std.specs.Prelude.{◌≡◌, ◌∷◌, [], IfOk, OnOk};
 ghost use Rattle.posix_spec.specs.Step.{step};
 ghost use Rattle.posix_spec.specs.Tree.{tree};
-ghost use Rattle.split_top.specs.Runs.{fresh_tree, first_state, mkdir_of, state_of};
+ghost use Rattle.split_top.specs.Runs.{first_state, mkdir_of, state_of};
 
-use posix_spec::State;
-use posix_types::{Call, Mode, Name, Path, Shape, Tree, TreeEntry, TreeNode, Who};
+use posix_spec::{State, default_shape, root_alone};
+use posix_types::{Call, Mode, Name, Path, Tree, Who};
 use std::alloc::{AllocError, Global};
-
-/// The shape of the default image.
-const DEFAULT_SHAPE: Shape = Shape {
-    data_blocks: 247,
-    nodes: 60,
-    names: 128,
-};
-
-/// The tree of the fresh image.
-fn fresh_tree(alloc: Global) -> Result<Tree, AllocError>
-    ensures { IfOk result (λ found. found ≡ fresh_tree) }
-{
-    let path = Path {
-        names: Vec::new(alloc),
-    };
-    let mut entries = Vec::new(alloc);
-    entries.push(TreeEntry {
-        path,
-        node: TreeNode::Directory,
-    })?;
-    Ok(Tree { entries })
-}
 
 /// The state of the fresh image.
 #[tactic(auto, unfolding(crate::specs::Runs::first_state))]
 pub(crate) fn first_state(alloc: Global) -> Result<State, AllocError>
     ensures { IfOk result (λ s. s ≡ first_state) }
 {
-    let tree = fresh_tree(alloc)?;
-    State::open(alloc, &tree, DEFAULT_SHAPE, Mode::Strict)
+    let tree = root_alone(alloc)?;
+    State::open(alloc, &tree, default_shape(), Mode::Strict)
 }
 
 /// The call that a line with this name is.

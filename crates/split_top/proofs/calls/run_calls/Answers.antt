@@ -43,6 +43,8 @@ returns-then-not-on c =
     record {
       legal = inv.history.legal;
       scripted = inv.history.scripted;
+      own = inv.history.own;
+      set_up = inv.history.set_up;
       state = inv.run ∙ inv.state;
       plain = inv.plain;
       few = rw count inv.few;

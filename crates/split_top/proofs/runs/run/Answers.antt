@@ -22,7 +22,7 @@ returns c =
       | inl lost ↦
           let l = h.lost lost in (
             begun_of (next_name names history) ∷ [],
-            run_lost names c.args.stop made history left c.power_for-power.result c.run_calls.new.power h.legal h.scripted h.state l.0 c.power_for-power.ensures h.steps l.1
+            run_lost names c.args.stop made history left c.power_for-power.result c.run_calls.new.power h.legal h.scripted h.own h.set_up h.state l.0 c.power_for-power.ensures h.steps l.1
                 (found made (made ++ next_name names history ∷ []) h.plain (next_plain names made history c.requires h.plain h.few l.0) l.2) kept,
           )
       | inr whole ↦

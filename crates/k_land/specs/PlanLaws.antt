@@ -1,5 +1,5 @@
 -- Laws of plans: no line turns nothing, and one line more turns its own part of the volume.
-use Rattle.std.specs.Prelude.{◌≡◌, ℕ, ◌+◌, ◌*◌, ◌^◌, ◌<◌, List, [], length, true, false, Option, Some, refl, slice_index_or}
+use Rattle.std.specs.Prelude.{◌≡◌, ℕ, ◌+◌, ◌*◌, ◌^◌, ◌<◌, ◌==◌, if◌then◌else◌, List, [], ◌∷◌, length, Bool, true, false, Option, Some, refl, slice_index_or}
 use Rattle.std.proofs.Common.{arith, sym, subst, inl, inr}
 use Rattle.std.proofs.Math.Path.{fun_ext}
 use Rattle.std.proofs.lemmas.Bool.{both_ways, cases_eq, cases_lt}
@@ -20,7 +20,7 @@ use Rattle.volume_facts.specs.Changes.{chain-set_same, chain-set_other}
 use Rattle.volume_facts.specs.LineWords.{data_word-not_journaled}
 use Rattle.volume_facts.specs.SetLaws.{reads-stands, reads-inode, reads-row}
 use Rattle.volume_facts.specs.StateLaws.{reads-state}
-use Rattle.k_journal.specs.Batch.{target, content, with_batch, AllLines}
+use Rattle.k_journal.specs.Batch.{target, content, with_batch, with_line_set, AllLines}
 use Rattle.k_journal.specs.Patches.{patched-none, patched-miss}
 use Rattle.k_journal.specs.declared.batches.Entry.{Entry}
 use Rattle.k_land.specs.Plans.{NewChain, new_at, HasNew, HasAllNew, IsChainFrom, Turns, IsMapFrom}
@@ -34,6 +34,15 @@ SetsOneMore b line bytes c = (f : Words) (i : ℕ) → with_batch c f i ≡ with
 one_more : (b : List Entry) (line : ℕ) (bytes : List ℕ) (c : List Entry) (f : Words) → SetsOneMore b line bytes c
     → with_line line bytes (with_batch b f) ≡ with_batch c f
 one_more b line bytes c f sets = fun_ext (λ i. sym (sets f i))
+
+-- a batch in which a line was set has a line
+pub length-with_line_set : (b : List Entry) (line : ℕ) (bytes : List ℕ) → 0 < length (with_line_set b line bytes)
+length-with_line_set [] line bytes = omega arith
+length-with_line_set (e ∷ es) line bytes = by (e.line == line)
+  where
+    by : (same : Bool) → 0 < length (if same then record { line = line; bytes = bytes } ∷ es else e ∷ with_line_set es line bytes)
+    by true = omega arith
+    by false = omega arith
 
 -- no line
 pub turns-none : (g : Geometry) (news : List NewChain) (v : Volume) → Turns g news v v []

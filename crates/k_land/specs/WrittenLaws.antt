@@ -28,7 +28,7 @@ use Rattle.volume_facts.specs.LineWords.{data_word}
 use Rattle.volume_facts.specs.Reading.{AreUnchained}
 use Rattle.volume_facts.specs.SetLaws.{reads-written}
 use Rattle.k_journal.specs.Batch.{IsNew}
-use Rattle.k_journal.specs.Commits.{MayCommit, IsBeforeOrAfter, IsAfter}
+use Rattle.k_journal.specs.Commits.{MayCommit, IsBeforeOrAfter, IsAfter, TakesAStep}
 use Rattle.k_journal.specs.declared.batches.Entry.{Entry}
 use Rattle.k_rules.specs.Stands.{Stands, IsOldOrNew}
 use Rattle.map_chain.specs.Writes.{SameOutside, IsWritten}
@@ -286,6 +286,10 @@ module _ (g : Geometry) (news : List NewChain) (v : Volume) (d m : List Cell) (p
   stands-landed w b e on may turns size idle keeps follows =
       stands-committed g news v w b m e (stands-beside on) (has-all on)
       (λ k below j i within at. first.keeps on i ((may.each k below).single j i within at)) turns size idle keeps follows
+
+-- a step of a later part is one of the whole
+pub took-later : (n : ℕ) (p q r : Supply) → Steps n p q → TakesAStep q r → TakesAStep p r
+took-later n p q r steps took given of = omega (arith, steps.later, took given (steps.given ∙ of))
 
 -- What stays of images and of cells, whatever the device stands at.
 pub same_elsewhere : (g : Geometry) (news : List NewChain) (b : List Entry) (d m e : List Cell) (p q : Supply)

@@ -1,7 +1,7 @@
 //! Landing a plan without new maps: one commit.
-ghost use Rattle.std.specs.Prelude.{◌≡◌, ◌+◌, ◌*◌, ℕ, [], length, true, false};
+ghost use Rattle.std.specs.Prelude.{◌≡◌, ◌+◌, ◌*◌, ◌<◌, ℕ, [], length, true, false};
 ghost use Rattle.disk_rules.specs.Volume.{Volume};
-ghost use Rattle.k_journal.specs.Commits.{MayCommit};
+ghost use Rattle.k_journal.specs.Commits.{MayCommit, TakesAStep};
 ghost use Rattle.k_land.specs.Landings.{IsElsewhere, SameElsewhere};
 ghost use Rattle.k_land.specs.Plans.{Turns};
 ghost use Rattle.k_rules.specs.Stands.{Stands, IsOldOrNew};
@@ -23,6 +23,8 @@ pub fn land(batch: &mut Batch, pm: &mut Pm, geometry: &Geometry, power: &mut Pow
     ensures size { length pm.new ≡ length pm.old }
     ensures lent { SameLent pm.old pm.new }
     ensures steps { Steps (32 * length batch.old + 16) power.old power.new }
+    ensures took { result ≡ Commit.Done → 0 < length batch.old
+        → TakesAStep power.old power.new }
     ensures on { result ≡ Commit.Done → is_on power.new ≡ true }
     ensures lost { result ≡ Commit.PowerLost → is_on power.new ≡ false }
     ensures off { is_on power.old ≡ false → (pm.new ≡ pm.old) × (power.new ≡ power.old) }

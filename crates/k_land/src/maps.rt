@@ -1,8 +1,8 @@
 //! New maps: their writes into free blocks, and landing a plan that switches to them.
-ghost use Rattle.std.specs.Prelude.{◌≡◌, ◌+◌, ◌*◌, ℕ, [], length, All, true, false};
+ghost use Rattle.std.specs.Prelude.{◌≡◌, ◌+◌, ◌*◌, ◌<◌, ℕ, [], length, All, true, false};
 ghost use Rattle.disk_places.specs.Places.{is_data_block};
 ghost use Rattle.disk_rules.specs.Volume.{Volume};
-ghost use Rattle.k_journal.specs.Commits.{MayCommit};
+ghost use Rattle.k_journal.specs.Commits.{MayCommit, TakesAStep};
 ghost use Rattle.k_land.specs.Landings.{IsElsewhere, SameElsewhere};
 ghost use Rattle.k_land.specs.Maps.{MayWriteAll, Writes, WritesFirst, write_steps};
 ghost use Rattle.k_land.specs.Plans.{Turns, blocks_of};
@@ -76,6 +76,8 @@ pub fn land_maps(
     ensures lent { SameLent pm.old pm.new }
     ensures steps { Steps (write_steps maps.now + (32 * length batch.old + 16))
         power.old power.new }
+    ensures took { result ≡ Commit.Done → 0 < length batch.old
+        → TakesAStep power.old power.new }
     ensures on { result ≡ Commit.Done → is_on power.new ≡ true }
     ensures lost { result ≡ Commit.PowerLost → is_on power.new ≡ false }
     ensures off { is_on power.old ≡ false → (pm.new ≡ pm.old) × (power.new ≡ power.old) }

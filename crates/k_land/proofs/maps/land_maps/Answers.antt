@@ -1,7 +1,7 @@
 -- the write of the maps, and then a commit
 use Rattle.std.proofs.Common.{◌≡◌, true}
 use Rattle.pm_words.specs.Powers.{is_on}
-use Rattle.k_land.specs.WrittenLaws.{outside-each, may-commit-written, each_image-landed, stands-landed, same_elsewhere, settles_elsewhere}
+use Rattle.k_land.specs.WrittenLaws.{outside-each, may-commit-written, each_image-landed, stands-landed, same_elsewhere, settles_elsewhere, took-later}
 use Rattle.k_land.proofs.maps.land_maps.Goals as goal
 
 pub commit-requires : goal.commit-requires
@@ -33,3 +33,7 @@ returns-clause-done c done v w stands free turns =
     stands-landed c.args.geometry.now c.args.maps.now v c.args.pm.now c.write_all.new.pm c.args.power.now c.write_all.new.power stands free c.write_all.ensures
     w c.args.batch.now c.commit.new.pm on (c.requires.write (c.write_all.ensures.steps.on_before on)) turns
     c.commit.ensures.size (c.commit.ensures.idle done) (c.commit.ensures.keeps done) (c.commit.ensures.durable done)
+
+pub returns-clause-took : goal.returns-clause-took
+returns-clause-took c done some =
+    took-later _ c.args.power.now c.write_all.new.power c.commit.new.power c.write_all.ensures.steps (c.commit.ensures.took done some)

@@ -1,8 +1,8 @@
 -- the line of the log base
-use Rattle.std.proofs.Common.{◌≡◌, ◌^◌, ◌<◌, true, arith, sym, subst}
+use Rattle.std.proofs.Common.{length, ◌≡◌, ◌^◌, ◌<◌, true, arith, sym, subst}
 use Rattle.disk_places.specs.PlaceLaws.{journaled-state}
 use Rattle.disk_places.specs.Places.{state_line, is_journaled_line}
-use Rattle.k_land.specs.PlanLaws.{SetsOneMore, turns-base}
+use Rattle.k_land.specs.PlanLaws.{SetsOneMore, length-with_line_set, turns-base}
 use Rattle.k_land.proofs.plans.put_base.Goals as goal
 
 pub returns-clause-turns : goal.returns-clause-turns
@@ -17,3 +17,6 @@ returns-clause-turns c news v w turns =
     (c.put_line.ensures.lines (is_journaled_line g)
     (subst (λ line. is_journaled_line g line ≡ true) (sym c.state_line.ensures) (journaled-state g)) turns.lines)
     turns
+
+pub returns-clause-some : goal.returns-clause-some
+returns-clause-some c = subst (λ b. 0 < length b) (sym c.put_line.ensures.entries) (length-with_line_set c.args.batch.now _ _)

@@ -1,8 +1,8 @@
 -- one more name line
-use Rattle.std.proofs.Common.{◌≡◌, true, Some, sym, subst}
+use Rattle.std.proofs.Common.{length, ◌<◌, ◌≡◌, true, Some, sym, subst}
 use Rattle.disk_places.specs.PlaceLaws.{journaled-name}
 use Rattle.disk_places.specs.Places.{is_journaled_line}
-use Rattle.k_land.specs.PlanLaws.{SetsOneMore, turns-row}
+use Rattle.k_land.specs.PlanLaws.{SetsOneMore, length-with_line_set, turns-row}
 use Rattle.k_land.proofs.plans.put_name.Goals as goal
 
 pub returns-clause-turns : goal.returns-clause-turns
@@ -18,3 +18,6 @@ returns-clause-turns c news v w turns =
     (c.put_line.ensures.lines (is_journaled_line g)
     (subst (λ line. is_journaled_line g line ≡ true) (sym c.name_line.ensures) (journaled-name g c.args.line c.requires.line)) turns.lines)
     turns
+
+pub returns-clause-some : goal.returns-clause-some
+returns-clause-some c = subst (λ b. 0 < length b) (sym c.put_line.ensures.entries) (length-with_line_set c.args.batch.now _ _)

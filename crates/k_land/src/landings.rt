@@ -35,7 +35,8 @@ pub fn land(batch: &mut Batch, pm: &mut Pm, geometry: &Geometry, power: &mut Pow
         → Turns geometry.now [] v w batch.old
         → Follows (IsOldOrNew geometry.now [] v w) pm.old pm.new }
     ensures elsewhere { Follows (SameElsewhere batch.old []) pm.old pm.new }
-    ensures others { (i : ℕ) → IsElsewhere batch.old [] i → Settles (cell pm.old i) (cell pm.new i) }
+    ensures others { (i : ℕ) → IsElsewhere batch.old [] i
+        → Settles (cell pm.old i) (cell pm.new i) }
 
     // Done: the device stands at the new volume.
     ensures done { result ≡ Commit.Done → (v w : Volume) → Stands geometry.now v pm.old

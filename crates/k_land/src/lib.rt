@@ -6,9 +6,9 @@
 //! the old one into (`Turns`); `Batch::clear` gives a plan up.
 //!
 //! `land` and `land_maps` carry a plan out, all or nothing for every power, and take no memory. The
-//! layer above may rely on this: done, the device stands at the new volume; wherever the power goes,
-//! each image reads as the old volume or as the new one, and else is an image before, but for the
-//! journal, the plan's lines and the new blocks.
+//! layer above may rely on this: done, the device stands at the new volume; wherever the power
+//! goes, each image reads as the old volume or as the new one, and else is an image before, but for
+//! the journal, the plan's lines and the new blocks.
 //!
 //! It stands on `k_journal` (the transaction), `map_chain` (maps in blocks), the codecs of lines
 //! `k_inodes`, `k_names` and `line_fields`, `volume_facts`, and `k_rules` (`Stands`, `IsOldOrNew`).

@@ -24,7 +24,8 @@ pub fn put_inode(batch: &mut Batch, geometry: &Geometry, ino: u32, inode: &Inode
     requires fields { is_inode inode.now ≡ true }
     ensures some { 0 < length batch.new }
     ensures count { length batch.new ≤ length batch.old + 1 }
-    ensures entries { batch.new ≡ with_line_set batch.old (inode_line ino) (encode_inode inode.now) }
+    ensures entries { batch.new
+        ≡ with_line_set batch.old (inode_line ino) (encode_inode inode.now) }
     ensures turns { (news : List NewChain) (v w : Volume) (blocks : List ℕ) (es : List Extent)
         → IsMapFrom news w ino inode.now blocks es → Turns geometry.now news v w batch.old
         → Turns geometry.now news v (inode_set ino inode.now blocks es w) batch.new }

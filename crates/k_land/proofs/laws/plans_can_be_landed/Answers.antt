@@ -1,0 +1,13 @@
+-- what a commit asks for, and the blocks of one map
+use Rattle.k_land.specs.LandingLaws.{may-commit}
+use Rattle.k_land.specs.WrittenLaws.{unchained-all, blocks_of-one}
+use Rattle.k_land.proofs.laws.plans_can_be_landed.Goals as goal
+
+pub returns-clause-ready : goal.returns-clause-ready
+returns-clause-ready c = may-commit
+
+pub returns-clause-blocks : goal.returns-clause-blocks
+returns-clause-blocks c = blocks_of-one
+
+pub returns-clause-unchained : goal.returns-clause-unchained
+returns-clause-unchained c = unchained-all

@@ -1,0 +1,29 @@
+-- Laws of plans that the layer above begins and ends with.
+use Rattle.std.specs.Prelude.{◌≡◌, ◌<◌, ℕ, List, [], ◌∷◌, length}
+use Rattle.pm_words.specs.declared.Cell.{Cell}
+use Rattle.disk_places.specs.Places.{Geometry}
+use Rattle.disk_rules.specs.Volume.{Volume}
+use Rattle.volume_facts.specs.Reading.{AreUnchained}
+use Rattle.k_journal.specs.Commits.{MayCommit}
+use Rattle.k_journal.specs.declared.batches.Entry.{Entry}
+use Rattle.k_rules.specs.Stands.{Stands}
+use Rattle.k_land.specs.Plans.{NewChain, new_at, blocks_of, Turns}
+
+-- an empty batch turns nothing
+abbrev pub TurnsNothing : Type 0
+TurnsNothing = (g : Geometry) (news : List NewChain) (v : Volume) → Turns g news v v []
+
+-- a plan for the volume that the device stands at can be committed
+abbrev pub CanCommit : Type 0
+CanCommit =
+    (g : Geometry) (news : List NewChain) (v w : Volume) (b : List Entry) (d : List Cell) → Stands g v d → Turns g news v w b → MayCommit g b d
+
+-- where no chain has a block of one of the maps, none has one of all
+abbrev pub AreAllUnchained : Type 0
+AreAllUnchained =
+    (g : Geometry) (v : Volume) (news : List NewChain) → ((k : ℕ) → k < length news → AreUnchained g v (new_at news k).blocks)
+    → AreUnchained g v (blocks_of news)
+
+-- the blocks of one map are its own
+abbrev pub HasOwnBlocks : Type 0
+HasOwnBlocks = (c : NewChain) → blocks_of (c ∷ []) ≡ c.blocks

@@ -1,0 +1,7 @@
+pub mod LandingLaws
+pub mod Landings
+pub mod Laws
+pub mod Maps
+pub mod PlanLaws
+pub mod Plans
+pub mod WrittenLaws

@@ -1,0 +1,4 @@
+pub mod Changes
+pub mod KeptLaws
+pub mod Sane
+pub mod SaneLaws

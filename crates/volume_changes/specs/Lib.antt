@@ -1,4 +1,8 @@
 pub mod Changes
-pub mod KeptLaws
+pub mod LineLaws
+pub mod MapLaws
+pub mod NameLaws
+pub mod NodeLaws
+pub mod OverLaws
 pub mod Sane
 pub mod SaneLaws

@@ -1,3 +1,4 @@
+pub mod CallLaws
 pub mod Changes
 pub mod LineLaws
 pub mod MapLaws

@@ -4,3 +4,4 @@ pub mod Paths
 pub mod PathLaws
 pub mod RenameLaws
 pub mod RowLists
+pub mod TreeLaws

@@ -1,6 +1,9 @@
 pub mod CallLaws
 pub mod Changes
+pub mod FrameLaws
+pub mod Frames
 pub mod LineLaws
+pub mod LookupLaws
 pub mod MapLaws
 pub mod NameLaws
 pub mod NodeLaws

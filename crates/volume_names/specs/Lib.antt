@@ -2,6 +2,7 @@ pub mod EntryLaws
 pub mod HeightLaws
 pub mod Paths
 pub mod PathLaws
+pub mod RefusalLaws
 pub mod RenameLaws
 pub mod RowLists
 pub mod TreeLaws

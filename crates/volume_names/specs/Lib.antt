@@ -1,5 +1,6 @@
 pub mod EntryLaws
 pub mod HeightLaws
+pub mod LookLaws
 pub mod Paths
 pub mod PathLaws
 pub mod RefusalLaws

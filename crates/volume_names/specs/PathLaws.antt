@@ -48,10 +48,10 @@ child-there s p parent d some = by (node_at_path s p) refl
     by None is = let never : true ≡ false = sym (ap (λ x. not (is_some x)) is) ∙ some in cc
     by (Some child) is = (child, record { directory = d; is = sym (node_at-path s p parent d) ∙ is }, is)
 
-node_left : (n : ℕ) → (n == 0) ≡ false → n ≢ 0
+pub node_left : (n : ℕ) → (n == 0) ≡ false → n ≢ 0
 node_left n left none = both_ways (n == 0) left (eq-eqb n 0 none)
 
-line_left : (n : ℕ) → nat_lt n 1 ≡ false → n ≢ 0
+pub line_left : (n : ℕ) → nat_lt n 1 ≡ false → n ≢ 0
 line_left n left none = grind (arith, nat_tests)
 
 -- `mkdir` and `open` of a new file: the directory has no such name, and there is room.

@@ -5,5 +5,6 @@ pub mod Paths
 pub mod PathLaws
 pub mod RefusalLaws
 pub mod RenameLaws
+pub mod RenameRefusals
 pub mod RowLists
 pub mod TreeLaws

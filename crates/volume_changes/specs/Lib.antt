@@ -2,6 +2,7 @@ pub mod CallLaws
 pub mod Changes
 pub mod FrameLaws
 pub mod Frames
+pub mod Laws
 pub mod LineLaws
 pub mod LookupLaws
 pub mod MapLaws

@@ -105,6 +105,29 @@ pub record MayMove (v : Volume) (line : ℕ) (r s : NameRow) (high : ℕ) : Type
   pub outside : (m : ℕ) → up v.names m s.parent ≢ Some r.child
   pub deep : (k m : ℕ) (t : NameRow) → row v.names k ≡ Some t → up v.names m t.parent ≡ Some r.child → high + 1 + m < 16
 
+-- The hard lemma: from each inode one comes to the root still, by the old way where it does not lead through the child,
+-- and else up to the child and on from its new directory.
+pub way-moved : (v : Volume) (line : ℕ) (r s : NameRow) (high ino : ℕ) → AreSane v → row v.names line ≡ Some r → s.child ≡ r.child
+    → up v.names high s.parent ≡ Some 0 → ((m : ℕ) → up v.names m s.parent ≢ Some r.child)
+    → ((m : ℕ) → up v.names m ino ≡ Some r.child → high + 1 + m < 16)
+    → HasWayUp v.names ino → HasWayUp (row_set line (Some s) v).names ino
+way-moved v line r s high ino sane is same way outside deep own = elim (meets-or_not v.names r.child own.0 ino) [
+  | inl met ↦
+      let its_parent : parent_of moved r.child ≡ Some s.parent =
+      ap (parent_of moved) (sym same) ∙ parent_of-moved v.names line r s (row-below v.names line r is) is same (sane.forest.one_name r.child)
+      in
+      let low : high + 1 + met.0 < 16 = deep met.0 met.2.at in
+      let top : up moved high s.parent ≡ Some 0 = up-unmoved v.names moved r.child high s.parent above (λ m low. outside m) ∙ way in
+      (met.0 + suc high, omega (arith, low), up-moved v.names moved r.child s.parent met.0 high ino above its_parent met.2 ∙ top)
+  | inr never ↦ (own.0, own.1, up-unmoved v.names moved r.child own.0 ino above never ∙ own.2)
+]
+  where
+    moved : Rows
+    moved = slice_set v.names line (Some s)
+
+    above : SameAbove r.child v.names moved
+    above i other = parent_of-moved_other v.names line r s i is same (λ e. other (sym e))
+
 pub sane-moved : (v : Volume) (line : ℕ) (r s : NameRow) (high : ℕ) → AreSane v → MayMove v line r s high
     → AreSane (row_set line (Some s) v)
 sane-moved v line r s high sane may = record {
@@ -118,7 +141,7 @@ sane-moved v line r s high sane may = record {
   ];
   ways = λ k t is. elim (row-cases v.names line s k t below is) [
     | inl same ↦ subst (λ (x : NameRow). HasWayUp moved x.parent) same (high, may.short, top)
-    | inr other ↦ still k t other.1 (sane.ways k t other.1)
+    | inr other ↦ way-moved v line r s high t.parent sane may.is may.same may.way may.outside (λ m meets. may.deep k m t other.1 meets) (sane.ways k t other.1)
   ];
   forest = forest-moved v.names line r s below may.is may.same may.is_new may.outside sane.forest;
   root = names_of-moved v.names line r s 0 below may.is may.same ∙ sane.root;
@@ -140,17 +163,6 @@ sane-moved v line r s high sane may = record {
 
     top : up moved high s.parent ≡ Some 0
     top = up-unmoved v.names moved r.child high s.parent above (λ m low. may.outside m) ∙ may.way
-
-    its_parent : parent_of moved r.child ≡ Some s.parent
-    its_parent = ap (parent_of moved) (sym may.same) ∙ parent_of-moved v.names line r s below may.is may.same (sane.forest.one_name r.child)
-
-    still : (k : ℕ) (t : NameRow) → row v.names k ≡ Some t → HasWayUp v.names t.parent → HasWayUp moved t.parent
-    still k t is way = elim (meets-or_not v.names r.child way.0 t.parent) [
-      | inl met ↦
-          let deep = may.deep k met.0 t is met.2.at in
-          (met.0 + suc high, omega (arith, deep), up-moved v.names moved r.child s.parent met.0 high t.parent above its_parent met.2 ∙ top)
-      | inr never ↦ (way.0, way.1, up-unmoved v.names moved r.child way.0 t.parent above never ∙ way.2)
-    ]
 
 -- ---- nodes change
 

@@ -7,5 +7,42 @@
 //! of the call give what is asked for (`may-make` and so on); and all inodes, rows and maps but those
 //! that the change names are as before.
 //!
-//! Stands on `disk_rules`, `volume_uses`, `name_facts`, `k_rules` and `volume_names`.
+//! `specs/Laws.antt` has the chief laws, each as one statement; the functions here are where they are
+//! proved to hold. Stands on `disk_rules`, `volume_uses`, `name_facts`, `k_rules` and `volume_names`.
 #![tactic(auto)]
+
+ghost use Rattle.volume_changes.specs.Laws.{KeepsMade, KeepsUnnamed, KeepsRemoved, KeepsRenamed, KeepsWays, KeepsRenamedOverFile, KeepsRenamedOverDirectory, KeepsDropped, KeepsTree, KeepsSwitched, AllowsMade, AllowsRenamed, LeavesMade, LeavesRenamedOverDirectory, LeavesDropped, CountsLines, KeepsCount, MovesName};
+
+/// The changes of names keep the rules.
+pub fn names_change()
+    ensures made { KeepsMade }
+    ensures unnamed { KeepsUnnamed }
+    ensures removed { KeepsRemoved }
+    ensures renamed { KeepsRenamed }
+    ensures ways { KeepsWays }
+    ensures over_file { KeepsRenamedOverFile }
+    ensures over_directory { KeepsRenamedOverDirectory }
+{}
+
+/// So do those of nodes and maps.
+pub fn maps_change()
+    ensures dropped { KeepsDropped }
+    ensures tree { KeepsTree }
+    ensures switched { KeepsSwitched }
+{}
+
+/// A call that no row refuses makes a change that is allowed.
+pub fn calls_change()
+    ensures made { AllowsMade }
+    ensures renamed { AllowsRenamed }
+{}
+
+/// All else stays, and what is set is set.
+pub fn others_stay()
+    ensures made { LeavesMade }
+    ensures over_directory { LeavesRenamedOverDirectory }
+    ensures dropped { LeavesDropped }
+    ensures counts { CountsLines }
+    ensures keeps { KeepsCount }
+    ensures names { MovesName }
+{}

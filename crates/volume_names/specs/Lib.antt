@@ -1,8 +1,9 @@
 pub mod EntryLaws
 pub mod HeightLaws
+pub mod Laws
 pub mod LookLaws
-pub mod Paths
 pub mod PathLaws
+pub mod Paths
 pub mod RefusalLaws
 pub mod RenameLaws
 pub mod RenameRefusals

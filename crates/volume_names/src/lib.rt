@@ -7,5 +7,43 @@
 //! before it does; and where no row fits, the paths lead where the call needs them, and there are an
 //! inode line and a name line for it.
 //!
-//! Stands on `posix_words`, `disk_lines`, `disk_rules`, `name_facts` and `k_rules`.
+//! `specs/Laws.antt` has the chief laws, each as one statement; the functions here are where they are
+//! proved to hold. `specs/Paths.antt` has the words: where the paths of a call lead. Stands on
+//! `posix_words`, `disk_lines`, `name_facts` and `k_rules`.
 #![tactic(auto)]
+
+ghost use Rattle.volume_names.specs.Laws.{HasChildren, HasEntries, LeadsInRows, HasNodeAt, BoundsPaths, HasOnePath, BeginsWithPath, TellsMkdir, TellsUnlink, TellsRmdir, TellsRename, AllowsMkdir, AllowsRename, RefusesNodes, RefusesLines, RefusesBelow, RefusesDeep, LeavesSame};
+
+/// The entries of a space are the rows of the table.
+pub fn entries_are_rows()
+    ensures children { HasChildren }
+    ensures entries { HasEntries }
+    ensures walks { LeadsInRows }
+    ensures nodes { HasNodeAt }
+    ensures heights { BoundsPaths }
+{}
+
+/// Each inode of a tree has one path.
+pub fn trees_have_one_path()
+    ensures one { HasOnePath }
+    ensures begins { BeginsWithPath }
+{}
+
+/// What it says of the paths of a call that none of its rows fits.
+pub fn calls_are_allowed()
+    ensures mkdir { TellsMkdir }
+    ensures unlink { TellsUnlink }
+    ensures rmdir { TellsRmdir }
+    ensures rename { TellsRename }
+    ensures mkdir_back { AllowsMkdir }
+    ensures rename_back { AllowsRename }
+{}
+
+/// Which row refuses a call.
+pub fn calls_are_refused()
+    ensures nodes { RefusesNodes }
+    ensures lines { RefusesLines }
+    ensures below { RefusesBelow }
+    ensures deep { RefusesDeep }
+    ensures same { LeavesSame }
+{}

@@ -1,5 +1,6 @@
 pub mod CallLaws
 pub mod Changes
+pub mod CountLaws
 pub mod FrameLaws
 pub mod Frames
 pub mod Laws

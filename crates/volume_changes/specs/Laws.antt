@@ -7,7 +7,7 @@ use Rattle.disk_lines.specs.declared.Kind.{Kind}
 use Rattle.disk_lines.specs.declared.Kind.TheVariants.{Free, Directory, File}
 use Rattle.disk_lines.specs.Fresh.{empty_inode}
 use Rattle.disk_lines.specs.Lines.{NameRow}
-use Rattle.disk_lines.specs.Names.{row, child_named, free_line, has_entries, names_of, up}
+use Rattle.disk_lines.specs.Names.{row, child_named, find_name, free_line, has_entries, names_of, up}
 use Rattle.disk_lines.specs.Tables.{IsKeyed}
 use Rattle.disk_rules.specs.Kept.{AreKept}
 use Rattle.disk_rules.specs.Live.{is_directory}
@@ -18,9 +18,10 @@ use Rattle.disk_rules.specs.Volume.{Volume, inode, free_inode}
 use Rattle.k_rules.specs.Changes.{made, unnamed, removed, renamed, renamed_over_file, renamed_over_directory, dropped}
 use Rattle.k_rules.specs.Spaces.{volume_space}
 use Rattle.name_facts.specs.KeptLaws.{HasAllLines}
-use Rattle.posix_words.specs.Names.{directory_path, last_name}
+use Rattle.posix_words.specs.Names.{directory_path, last_name, has_entries as has_entries_in}
 use Rattle.volume_changes.specs.CallLaws.{IsKeptVolume, row_to}
 use Rattle.volume_changes.specs.Changes.{MayMake, MayRename, MayRenameOverFile, MayRenameOverDirectory}
+use Rattle.volume_changes.specs.FoundLaws.{IsLowestFree}
 use Rattle.volume_changes.specs.Frames.{LeavesOthers}
 use Rattle.volume_changes.specs.LookupLaws.{leads_to, leads_nowhere}
 use Rattle.volume_changes.specs.Sane.{AreSane, HasData, HasBlocksOnce, HasWayUp}
@@ -106,6 +107,30 @@ AllowsRenamed =
     (v : Volume) (p q : List (List ℕ)) (from child to line : ℕ) (r : NameRow) → IsKeptVolume v → MayGo (volume_space v) p q from child to
     → IsNewAt (volume_space v) q to → row v.names line ≡ Some r → r.child ≡ child
     → MayRename line r (row_to q to child) (length (directory_path q)) v
+
+-- so the calls keep the rules, by what their look-ups found
+abbrev pub KeepsMake : Type 0
+KeepsMake =
+    (v : Volume) (p : List (List ℕ)) (parent : ℕ) (kind : Kind) (ino line : ℕ) → IsKeptVolume v → IsNewAt (volume_space v) p parent
+    → (kind ≡ Directory) ⊎ (kind ≡ File) → IsLowestFree v.inodes ino → free_line v.names ≡ Some line
+    → AreKept (made kind ino line (row_to p parent ino) v)
+
+abbrev pub KeepsUnlink : Type 0
+KeepsUnlink =
+    (v : Volume) (p : List (List ℕ)) (parent line child : ℕ) → IsKeptVolume v
+    → find_name v.names parent (last_name p) ≡ Some (line, child) → (volume_space v).directory child ≡ false → AreKept (unnamed line v)
+
+abbrev pub KeepsRmdir : Type 0
+KeepsRmdir =
+    (v : Volume) (p : List (List ℕ)) (parent line child : ℕ) → IsKeptVolume v
+    → find_name v.names parent (last_name p) ≡ Some (line, child) → (volume_space v).directory child ≡ true
+    → has_entries_in (volume_space v).entries child ≡ false → AreKept (removed line child v)
+
+abbrev pub KeepsRename : Type 0
+KeepsRename =
+    (v : Volume) (p q : List (List ℕ)) (from child to line : ℕ) → IsKeptVolume v → MayGo (volume_space v) p q from child to
+    → find_name v.names from (last_name p) ≡ Some (line, child) → IsNewAt (volume_space v) q to
+    → AreKept (renamed line (row_to q to child) v)
 
 -- ---- what a change leaves, and what it sets
 

@@ -1,6 +1,7 @@
 pub mod CallLaws
 pub mod Changes
 pub mod CountLaws
+pub mod FoundLaws
 pub mod FrameLaws
 pub mod Frames
 pub mod Laws

@@ -11,7 +11,7 @@
 //! proved to hold. Stands on `disk_rules`, `volume_uses`, `name_facts`, `k_rules` and `volume_names`.
 #![tactic(auto)]
 
-ghost use Rattle.volume_changes.specs.Laws.{KeepsMade, KeepsUnnamed, KeepsRemoved, KeepsRenamed, KeepsWays, KeepsRenamedOverFile, KeepsRenamedOverDirectory, KeepsDropped, KeepsTree, KeepsSwitched, AllowsMade, AllowsRenamed, LeavesMade, LeavesRenamedOverDirectory, LeavesDropped, CountsLines, KeepsCount, MovesName};
+ghost use Rattle.volume_changes.specs.Laws.{KeepsMade, KeepsUnnamed, KeepsRemoved, KeepsRenamed, KeepsWays, KeepsRenamedOverFile, KeepsRenamedOverDirectory, KeepsDropped, KeepsTree, KeepsSwitched, AllowsMade, AllowsRenamed, KeepsMake, KeepsUnlink, KeepsRmdir, KeepsRename, LeavesMade, LeavesRenamedOverDirectory, LeavesDropped, CountsLines, KeepsCount, MovesName};
 
 /// The changes of names keep the rules.
 pub fn names_change()
@@ -31,10 +31,14 @@ pub fn maps_change()
     ensures switched { KeepsSwitched }
 {}
 
-/// A call that no row refuses makes a change that is allowed.
+/// A call that no row refuses makes a change that is allowed, and so keeps the rules.
 pub fn calls_change()
     ensures made { AllowsMade }
     ensures renamed { AllowsRenamed }
+    ensures make { KeepsMake }
+    ensures unlink { KeepsUnlink }
+    ensures rmdir { KeepsRmdir }
+    ensures rename { KeepsRename }
 {}
 
 /// All else stays, and what is set is set.

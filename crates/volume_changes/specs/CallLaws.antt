@@ -54,7 +54,8 @@ pub record IsDirectoryAt (v : Volume) (p : List (List ℕ)) (parent : ℕ) : Typ
   pub way : up v.names (length (directory_path p)) parent ≡ Some 0
   pub short : length (directory_path p) < 16
 
-pub directory-at : (v : Volume) (p : List (List ℕ)) (parent : ℕ) → IsKeptVolume v → HasDirectory (volume_space v) p parent → IsDirectoryAt v p parent
+pub directory-at : (v : Volume) (p : List (List ℕ)) (parent : ℕ) → IsKeptVolume v
+    → HasDirectory (volume_space v) p parent → IsDirectoryAt v p parent
 unfolding walk_to
 directory-at v p parent k d =
     let leads = walk_from-rows (is_directory_in v.inodes) v.names 0 (directory_path p) parent d.leads in
@@ -68,37 +69,49 @@ directory-at v p parent k d =
 -- ---- the line of a path
 
 -- the line that names the child, and the path of the child
-pub line-at : (v : Volume) (p : List (List ℕ)) (parent child : ℕ) → IsAt (volume_space v) p parent child → NamingLine v.names parent (last_name p) child
-line-at v p parent child at = NamingLine-child_named v.names parent (last_name p) child (sym (child_of-rows v.names parent (last_name p)) ∙ at.is)
+pub line-at : (v : Volume) (p : List (List ℕ)) (parent child : ℕ) → IsAt (volume_space v) p parent child
+    → NamingLine v.names parent (last_name p) child
+line-at v p parent child at =
+    NamingLine-child_named v.names parent (last_name p) child (sym (child_of-rows v.names parent (last_name p)) ∙ at.is)
 
-pub path-at : (v : Volume) (p : List (List ℕ)) (parent child : ℕ) → IsKeptVolume v → IsAt (volume_space v) p parent child → walk v.names 0 p ≡ Some child
+pub path-at : (v : Volume) (p : List (List ℕ)) (parent child : ℕ) → IsKeptVolume v
+    → IsAt (volume_space v) p parent child → walk v.names 0 p ≡ Some child
 path-at v p parent child k at =
-    let named : child_named v.names parent (last_name p) ≡ Some child = sym (child_of-rows v.names parent (last_name p)) ∙ at.is in
-    ap (walk v.names 0) (sym (split-last p at.directory.below)) ∙ walk-append v.names 0 (directory_path p) (last_name p ∷ [])
+    let named : child_named v.names parent (last_name p) ≡ Some child =
+    sym (child_of-rows v.names parent (last_name p)) ∙ at.is
+    in
+    ap (walk v.names 0) (sym (split-last p at.directory.below))
+    ∙ walk-append v.names 0 (directory_path p) (last_name p ∷ [])
     ∙ ap (option_and_then (λ c. walk v.names c (last_name p ∷ []))) (directory-at v p parent k at.directory).path
     ∙ walk-one v.names parent (last_name p) child named
 
 -- a child has one line: where a row has the child, it is that one
-pub row-at : (v : Volume) (p : List (List ℕ)) (parent child line : ℕ) (r : NameRow) → IsKeptVolume v → IsAt (volume_space v) p parent child
+pub row-at : (v : Volume) (p : List (List ℕ)) (parent child line : ℕ) (r : NameRow) → IsKeptVolume v
+    → IsAt (volume_space v) p parent child
     → row v.names line ≡ Some r → r.child ≡ child → (r.parent ≡ parent) × (r.name ≡ last_name p)
 row-at v p parent child line r k at is child_is =
     let named = line-at v p parent child at in
     let one : line ≡ named.line =
     names_of-one_line v.names child line named.line ((sane-kept v k.kept k.all).forest.one_name child)
-    (ap (is_child child) is ∙ eq-eqb r.child child child_is) (ap (is_child child) named.is ∙ eq-eqb named.at.child child named.child_is)
+    (ap (is_child child) is ∙ eq-eqb r.child child child_is)
+    (ap (is_child child) named.is ∙ eq-eqb named.at.child child named.child_is)
     in
     let same : r ≡ named.at = same_Some r named.at (sym is ∙ ap (row v.names) one ∙ named.is) in
     (ap (λ (x : NameRow). x.parent) same ∙ named.parent_is, ap (λ (x : NameRow). x.name) same ∙ named.name_is)
 
 -- a name that is not there is in no line
-new-name : (v : Volume) (p : List (List ℕ)) (parent : ℕ) → IsNewAt (volume_space v) p parent → (k : ℕ) → is_entry parent (last_name p) (row v.names k) ≡ false
-new-name v p parent new = child_named-none v.names parent (last_name p) (sym (child_of-rows v.names parent (last_name p)) ∙ new.is_new)
+new-name : (v : Volume) (p : List (List ℕ)) (parent : ℕ) → IsNewAt (volume_space v) p parent → (k : ℕ)
+    → is_entry parent (last_name p) (row v.names k) ≡ false
+new-name v p parent new =
+    child_named-none v.names parent (last_name p) (sym (child_of-rows v.names parent (last_name p)) ∙ new.is_new)
 
 -- ---- mkdir, open of a new file
 
 -- a node is made in a free inode and the lowest free line
-pub may-make : (v : Volume) (p : List (List ℕ)) (parent : ℕ) (kind : Kind) (ino line : ℕ) → IsKeptVolume v → IsNewAt (volume_space v) p parent
-    → (kind ≡ Directory) ⊎ (kind ≡ File) → ino < length v.inodes → (inode v ino).kind ≡ Free → free_line v.names ≡ Some line
+pub may-make : (v : Volume) (p : List (List ℕ)) (parent : ℕ) (kind : Kind) (ino line : ℕ) → IsKeptVolume v
+    → IsNewAt (volume_space v) p parent
+    → (kind ≡ Directory) ⊎ (kind ≡ File) → ino < length v.inodes → (inode v ino).kind ≡ Free
+    → free_line v.names ≡ Some line
     → MayMake kind ino line (record { parent = parent; child = ino; name = last_name p }) v
 may-make v p parent kind ino line k new is below free first =
     let d = directory-at v p parent k new.directory in
@@ -117,11 +130,14 @@ may-make v p parent kind ino line k new is below free first =
 
 -- ---- unlink, rmdir
 
-pub may-unname : (v : Volume) (line child : ℕ) (r : NameRow) → row v.names line ≡ Some r → r.child ≡ child → (volume_space v).directory child ≡ false
+pub may-unname : (v : Volume) (line child : ℕ) (r : NameRow) → row v.names line ≡ Some r → r.child ≡ child
+    → (volume_space v).directory child ≡ false
     → MayUnname line r v
-may-unname v line child r is child_is plain = record { is = is; no_directory = ap (λ i. is_directory (inode v i).kind) child_is ∙ plain }
+may-unname v line child r is child_is plain =
+    record { is = is; no_directory = ap (λ i. is_directory (inode v i).kind) child_is ∙ plain }
 
-pub may-remove : (v : Volume) (line child : ℕ) (r : NameRow) → row v.names line ≡ Some r → r.child ≡ child → (volume_space v).directory child ≡ true
+pub may-remove : (v : Volume) (line child : ℕ) (r : NameRow) → row v.names line ≡ Some r → r.child ≡ child
+    → (volume_space v).directory child ≡ true
     → has_entries_in (volume_space v).entries child ≡ false → MayRemove line child r v
 may-remove v line child r is child_is directory empty =
     record { is = is; child_is = child_is; directory = directory; empty = sym (has_entries-rows v.names child) ∙ empty }
@@ -133,7 +149,8 @@ abbrev pub row_to : List (List ℕ) → ℕ → ℕ → NameRow
 row_to q to child = record { parent = to; child = child; name = last_name q }
 
 -- The new directory is a place for the child.
-pub has-place : (v : Volume) (p q : List (List ℕ)) (from child to : ℕ) (r : NameRow) → IsKeptVolume v → MayGo (volume_space v) p q from child to
+pub has-place : (v : Volume) (p q : List (List ℕ)) (from child to : ℕ) (r : NameRow) → IsKeptVolume v
+    → MayGo (volume_space v) p q from child to
     → r.child ≡ child → HasPlace r (row_to q to child) (length (directory_path q)) v
 has-place v p q from child to r k may child_is = record {
   same = sym child_is;
@@ -151,33 +168,49 @@ has-place v p q from child to r k may child_is = record {
     d = directory-at v q to k may.directory
 
     -- below what is no directory there is nothing
-    plain-below : (m above : ℕ) → is_directory (inode v child).kind ≡ false → is_directory (inode v above).kind ≡ true → up v.names m above ≡ Some child → ⊥
+    plain-below : (m above : ℕ) → is_directory (inode v child).kind ≡ false → is_directory (inode v above).kind ≡ true
+        → up v.names m above ≡ Some child → ⊥
     plain-below m above plain directory meets =
-        let down : (names : List (List ℕ)) × (length names ≡ m) × (walk v.names child names ≡ Some above) = walk-up v.names m above child sane.forest.keyed meets in
+        let down : (names : List (List ℕ)) × (length names ≡ m) × (walk v.names child names ≡ Some above) =
+        walk-up v.names m above child sane.forest.keyed meets
+        in
         let same : child ≡ above = walk-empty v.names child down.0 above (plain-empty v child sane plain) down.2 in
         both_ways (is_directory (inode v child).kind) plain (ap (λ i. is_directory (inode v i).kind) same ∙ directory)
 
-    outside : (m : ℕ) → up v.names m to ≡ Some child → (is_directory (inode v child).kind ≡ true) ⊎ (is_directory (inode v child).kind ≡ false) → ⊥
+    outside : (m : ℕ) → up v.names m to ≡ Some child
+        → (is_directory (inode v child).kind ≡ true) ⊎ (is_directory (inode v child).kind ≡ false) → ⊥
     outside m meets (inl directory) =
-        let below = below-path v.names p (directory_path q) (last_name q) child to m sane.forest (path-at v p from child k may.old) d.path meets in
-        both_ways (is_below q p) (may.outside directory) (ap (λ l. is_below l p) (sym (split-last q may.directory.below)) ∙ below)
+        let below =
+        below-path v.names p (directory_path q) (last_name q) child to m sane.forest
+        (path-at v p from child k may.old) d.path meets
+        in
+        both_ways (is_below q p) (may.outside directory)
+        (ap (λ l. is_below l p) (sym (split-last q may.directory.below)) ∙ below)
     outside m meets (inr plain) = plain-below m to plain d.is meets
 
     deep : (line m : ℕ) (t : NameRow) → row v.names line ≡ Some t → up v.names m t.parent ≡ Some child
-        → (is_directory (inode v child).kind ≡ true) ⊎ (is_directory (inode v child).kind ≡ false) → length (directory_path q) + 1 + m < 16
+        → (is_directory (inode v child).kind ≡ true) ⊎ (is_directory (inode v child).kind ≡ false)
+        → length (directory_path q) + 1 + m < 16
     deep line m t is meets (inl directory) =
-        let down : (names : List (List ℕ)) × (length names ≡ m) × (walk v.names child names ≡ Some t.parent) = walk-up v.names m t.parent child sane.forest.keyed meets in
+        let down : (names : List (List ℕ)) × (length names ≡ m) × (walk v.names child names ≡ Some t.parent) =
+        walk-up v.names m t.parent child sane.forest.keyed meets
+        in
         let named = child_named-at v.names line t sane.forest.keyed (row-below v.names line t is) is in
         let longer : walk v.names child (down.0 ++ (t.name ∷ [])) ≡ Some t.child =
-        walk-append v.names child down.0 (t.name ∷ []) ∙ ap (option_and_then (λ c. walk v.names c (t.name ∷ []))) down.2 ∙ walk-one v.names t.parent t.name t.child named
+        walk-append v.names child down.0 (t.name ∷ []) ∙ ap (option_and_then (λ c. walk v.names c (t.name ∷ []))) down.2
+        ∙ walk-one v.names t.parent t.name t.child named
         in
         let most = may.deep directory in
-        let high = height-bound v.names longest_path child (down.0 ++ (t.name ∷ [])) t.child longer (omega (arith, most, length-directory q may.directory.below)) in
+        let high =
+        height-bound v.names longest_path child (down.0 ++ (t.name ∷ [])) t.child longer
+        (omega (arith, most, length-directory q may.directory.below))
+        in
         omega (arith, high, most, down.1, length-append down.0 (t.name ∷ []), length-directory q may.directory.below)
     deep line m t is meets (inr plain) = absurd (plain-below m t.parent plain (sane.parents line t is) meets)
 
 -- nothing stands at the new path
-pub may-rename : (v : Volume) (p q : List (List ℕ)) (from child to line : ℕ) (r : NameRow) → IsKeptVolume v → MayGo (volume_space v) p q from child to
+pub may-rename : (v : Volume) (p q : List (List ℕ)) (from child to line : ℕ) (r : NameRow) → IsKeptVolume v
+    → MayGo (volume_space v) p q from child to
     → IsNewAt (volume_space v) q to → row v.names line ≡ Some r → r.child ≡ child
     → MayRename line r (row_to q to child) (length (directory_path q)) v
 may-rename v p q from child to line r k may new is child_is = record {
@@ -187,7 +220,8 @@ may-rename v p q from child to line r k may new is child_is = record {
 }
 
 -- a node stands there, which the child may replace
-may-rename-over : (v : Volume) (p q : List (List ℕ)) (from child to line : ℕ) (r : NameRow) (ino target : ℕ) (t : NameRow) → IsKeptVolume v
+may-rename-over : (v : Volume) (p q : List (List ℕ)) (from child to line : ℕ) (r : NameRow) (ino target : ℕ) (t : NameRow)
+    → IsKeptVolume v
     → MayGo (volume_space v) p q from child to → IsAt (volume_space v) q to ino → CanReplace (volume_space v) child ino
     → row v.names line ≡ Some r → r.child ≡ child → row v.names target ≡ Some t → t.child ≡ ino
     → MayRenameOver line r (row_to q to child) (length (directory_path q)) target t v
@@ -202,18 +236,22 @@ may-rename-over v p q from child to line r ino target t k may at can is child_is
       place = has-place v p q from child to r k may child_is;
     }
 
-pub may-rename-over_file : (v : Volume) (p q : List (List ℕ)) (from child to line : ℕ) (r : NameRow) (ino target : ℕ) (t : NameRow) → IsKeptVolume v
+pub may-rename-over_file : (v : Volume) (p q : List (List ℕ)) (from child to line : ℕ) (r : NameRow) (ino target : ℕ) (t : NameRow)
+    → IsKeptVolume v
     → MayGo (volume_space v) p q from child to → IsAt (volume_space v) q to ino → CanReplace (volume_space v) child ino
-    → row v.names line ≡ Some r → r.child ≡ child → row v.names target ≡ Some t → t.child ≡ ino → (volume_space v).directory child ≡ false
+    → row v.names line ≡ Some r → r.child ≡ child → row v.names target ≡ Some t → t.child ≡ ino
+    → (volume_space v).directory child ≡ false
     → MayRenameOverFile line r (row_to q to child) (length (directory_path q)) target t v
 may-rename-over_file v p q from child to line r ino target t k may at can is child_is target_is ino_is plain = record {
   over = may-rename-over v p q from child to line r ino target t k may at can is child_is target_is ino_is;
   no_directory = ap (λ i. is_directory (inode v i).kind) ino_is ∙ can.same ∙ plain;
 }
 
-pub may-rename-over_directory : (v : Volume) (p q : List (List ℕ)) (from child to line : ℕ) (r : NameRow) (ino target : ℕ) (t : NameRow) → IsKeptVolume v
+pub may-rename-over_directory : (v : Volume) (p q : List (List ℕ)) (from child to line : ℕ) (r : NameRow) (ino target : ℕ) (t : NameRow)
+    → IsKeptVolume v
     → MayGo (volume_space v) p q from child to → IsAt (volume_space v) q to ino → CanReplace (volume_space v) child ino
-    → row v.names line ≡ Some r → r.child ≡ child → row v.names target ≡ Some t → t.child ≡ ino → (volume_space v).directory child ≡ true
+    → row v.names line ≡ Some r → r.child ≡ child → row v.names target ≡ Some t → t.child ≡ ino
+    → (volume_space v).directory child ≡ true
     → MayRenameOverDirectory line r (row_to q to child) (length (directory_path q)) target ino t v
 may-rename-over_directory v p q from child to line r ino target t k may at can is child_is target_is ino_is directory = record {
   over = may-rename-over v p q from child to line r ino target t k may at can is child_is target_is ino_is;

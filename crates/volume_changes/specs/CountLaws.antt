@@ -68,7 +68,8 @@ pub removed-lines_left : (line ino : ℕ) (r : NameRow) (v : Volume) → row v.n
 removed-lines_left line ino r v is = free_lines-freed v.names line r (row-below v.names line r is) is
 
 -- a rename needs no free line
-moved-count : (rows : Rows) (line : ℕ) (r s : NameRow) → row rows line ≡ Some r → count_by is_free_row (slice_set rows line (Some s)) ≡ count_by is_free_row rows
+moved-count : (rows : Rows) (line : ℕ) (r s : NameRow) → row rows line ≡ Some r
+    → count_by is_free_row (slice_set rows line (Some s)) ≡ count_by is_free_row rows
 moved-count rows line r s is =
     omega (arith, count_by-set is_free_row rows line (Some s) None (row-below rows line r is), ap (λ o. one_if (is_free_row o)) is)
 
@@ -77,39 +78,48 @@ pub renamed-lines_left : (line : ℕ) (r s : NameRow) (v : Volume) → row v.nam
 renamed-lines_left line r s v is = moved-count v.names line r s is
 
 -- and one over another name leaves one line more
-over-apart : (line : ℕ) (r s : NameRow) (high target : ℕ) (t : NameRow) (v : Volume) → MayRenameOver line r s high target t v → line ≢ target
+over-apart : (line : ℕ) (r s : NameRow) (high target : ℕ) (t : NameRow) (v : Volume)
+    → MayRenameOver line r s high target t v → line ≢ target
 over-apart line r s high target t v over e =
     let both : Some r ≡ Some t = sym over.is ∙ ap (row v.names) e ∙ over.target_is in
     let same : r ≡ t = cc in
     over.apart (ap (λ (x : NameRow). x.child) (sym same))
 
-pub renamed_over-lines_left : (line : ℕ) (r s : NameRow) (high target : ℕ) (t : NameRow) (v : Volume) → MayRenameOver line r s high target t v
+pub renamed_over-lines_left : (line : ℕ) (r s : NameRow) (high target : ℕ) (t : NameRow) (v : Volume)
+    → MayRenameOver line r s high target t v
     → (volume_space (renamed_over_file line s target v)).lines_left ≡ (volume_space v).lines_left + 1
 renamed_over-lines_left line r s high target t v over =
-    moved-count (slice_set v.names target None) line r s (row-set_other v.names target None line (over-apart line r s high target t v over) ∙ over.is)
+    moved-count (slice_set v.names target None) line r s
+    (row-set_other v.names target None line (over-apart line r s high target t v over) ∙ over.is)
     ∙ free_lines-freed v.names target t (row-below v.names target t over.target_is) over.target_is
 
 -- ---- blocks
 
 -- the changes of names leave each use of a block
-pub made-owners : (kind : Kind) (ino line : ℕ) (r : NameRow) (v : Volume) (b : ℕ) → owners (made kind ino line r v) b ≡ owners v b
-made-owners kind ino line r v b = owners-row (node_set ino (new_node kind (inode v ino)) v) line (Some r) b ∙ owners-node v ino (new_node kind (inode v ino)) b
+pub made-owners : (kind : Kind) (ino line : ℕ) (r : NameRow) (v : Volume) (b : ℕ)
+    → owners (made kind ino line r v) b ≡ owners v b
+made-owners kind ino line r v b =
+    owners-row (node_set ino (new_node kind (inode v ino)) v) line (Some r) b
+    ∙ owners-node v ino (new_node kind (inode v ino)) b
 
 pub unnamed-owners : (line : ℕ) (v : Volume) (b : ℕ) → owners (unnamed line v) b ≡ owners v b
 unnamed-owners line v b = owners-row v line None b
 
 pub removed-owners : (line ino : ℕ) (v : Volume) (b : ℕ) → owners (removed line ino v) b ≡ owners v b
-removed-owners line ino v b = owners-row (node_set ino (gone_node (inode v ino)) v) line None b ∙ owners-node v ino (gone_node (inode v ino)) b
+removed-owners line ino v b =
+    owners-row (node_set ino (gone_node (inode v ino)) v) line None b ∙ owners-node v ino (gone_node (inode v ino)) b
 
 pub renamed-owners : (line : ℕ) (s : NameRow) (v : Volume) (b : ℕ) → owners (renamed line s v) b ≡ owners v b
 renamed-owners line s v b = owners-row v line (Some s) b
 
-pub renamed_over_file-owners : (line : ℕ) (s : NameRow) (target : ℕ) (v : Volume) (b : ℕ) → owners (renamed_over_file line s target v) b ≡ owners v b
+pub renamed_over_file-owners : (line : ℕ) (s : NameRow) (target : ℕ) (v : Volume) (b : ℕ)
+    → owners (renamed_over_file line s target v) b ≡ owners v b
 renamed_over_file-owners line s target v b = owners-row (unnamed target v) line (Some s) b ∙ unnamed-owners target v b
 
 pub renamed_over_directory-owners : (line : ℕ) (s : NameRow) (target ino : ℕ) (v : Volume) (b : ℕ)
     → owners (renamed_over_directory line s target ino v) b ≡ owners v b
-renamed_over_directory-owners line s target ino v b = owners-row (removed target ino v) line (Some s) b ∙ removed-owners target ino v b
+renamed_over_directory-owners line s target ino v b =
+    owners-row (removed target ino v) line (Some s) b ∙ removed-owners target ino v b
 
 -- ---- the lines that are written
 

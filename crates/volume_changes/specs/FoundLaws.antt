@@ -31,7 +31,8 @@ pub record IsRowFound (rows : Rows) (parent : ℕ) (name : List ℕ) (line child
   pub name_is : at.name ≡ name
   pub child_is : at.child ≡ child
 
-pub row-found : (rows : Rows) (parent : ℕ) (name : List ℕ) (line child : ℕ) → find_name rows parent name ≡ Some (line, child)
+pub row-found : (rows : Rows) (parent : ℕ) (name : List ℕ) (line child : ℕ)
+    → find_name rows parent name ≡ Some (line, child)
     → IsRowFound rows parent name line child
 row-found rows parent name line child found =
     option_and_then_some (λ pair. Some (line_and_child pair)) (first_row_from (is_entry parent name) 0 rows) (line, child) found (λ pair look same.
@@ -63,7 +64,8 @@ free-kind Staging is = cc
 used-kind : (kind : Kind) → is_free kind ≡ false → kind ≢ Free
 used-kind kind used is = let never : true ≡ false = sym (ap is_free is) ∙ used in cc
 
-pub free-found : (inodes : List Inode) (ino : ℕ) → position (λ (x : Inode). is_free x.kind) inodes ≡ Some ino → IsLowestFree inodes ino
+pub free-found : (inodes : List Inode) (ino : ℕ) → position (λ (x : Inode). is_free x.kind) inodes ≡ Some ino
+    → IsLowestFree inodes ino
 free-found inodes ino found =
     let parts = position-Some (λ (x : Inode). is_free x.kind) inodes ino free_inode found in
     record {
@@ -74,14 +76,17 @@ free-found inodes ino found =
 
 -- ---- the calls
 
-pub make-keeps : (v : Volume) (p : List (List ℕ)) (parent : ℕ) (kind : Kind) (ino line : ℕ) → IsKeptVolume v → IsNewAt (volume_space v) p parent
+pub make-keeps : (v : Volume) (p : List (List ℕ)) (parent : ℕ) (kind : Kind) (ino line : ℕ) → IsKeptVolume v
+    → IsNewAt (volume_space v) p parent
     → (kind ≡ Directory) ⊎ (kind ≡ File) → IsLowestFree v.inodes ino → free_line v.names ≡ Some line
     → AreKept (made kind ino line (row_to p parent ino) v)
 make-keeps v p parent kind ino line k new is free first =
-    made-keeps kind ino line (row_to p parent ino) v k.kept k.all (may-make v p parent kind ino line k new is free.within free.free first)
+    made-keeps kind ino line (row_to p parent ino) v k.kept k.all
+    (may-make v p parent kind ino line k new is free.within free.free first)
 
 pub unlink-keeps : (v : Volume) (p : List (List ℕ)) (parent line child : ℕ) → IsKeptVolume v
-    → find_name v.names parent (last_name p) ≡ Some (line, child) → (volume_space v).directory child ≡ false → AreKept (unnamed line v)
+    → find_name v.names parent (last_name p) ≡ Some (line, child) → (volume_space v).directory child ≡ false
+    → AreKept (unnamed line v)
 unlink-keeps v p parent line child k found plain =
     let at = row-found v.names parent (last_name p) line child found in
     unnamed-keeps line at.at v k.kept k.all (may-unname v line child at.at at.is at.child_is plain)
@@ -93,7 +98,8 @@ rmdir-keeps v p parent line child k found directory empty =
     let at = row-found v.names parent (last_name p) line child found in
     removed-keeps line child at.at v k.kept k.all (may-remove v line child at.at at.is at.child_is directory empty)
 
-pub rename-keeps : (v : Volume) (p q : List (List ℕ)) (from child to line : ℕ) → IsKeptVolume v → MayGo (volume_space v) p q from child to
+pub rename-keeps : (v : Volume) (p q : List (List ℕ)) (from child to line : ℕ) → IsKeptVolume v
+    → MayGo (volume_space v) p q from child to
     → find_name v.names from (last_name p) ≡ Some (line, child) → IsNewAt (volume_space v) q to
     → AreKept (renamed line (row_to q to child) v)
 rename-keeps v p q from child to line k may found new =
@@ -103,7 +109,8 @@ rename-keeps v p q from child to line k may found new =
 
 pub rename-over_file-keeps : (v : Volume) (p q : List (List ℕ)) (from child to line ino target : ℕ) → IsKeptVolume v
     → MayGo (volume_space v) p q from child to → find_name v.names from (last_name p) ≡ Some (line, child)
-    → IsAt (volume_space v) q to ino → find_name v.names to (last_name q) ≡ Some (target, ino) → CanReplace (volume_space v) child ino
+    → IsAt (volume_space v) q to ino → find_name v.names to (last_name q) ≡ Some (target, ino)
+    → CanReplace (volume_space v) child ino
     → (volume_space v).directory child ≡ false → AreKept (renamed_over_file line (row_to q to child) target v)
 rename-over_file-keeps v p q from child to line ino target k may found there found_there can plain =
     let at = row-found v.names from (last_name p) line child found in
@@ -111,12 +118,15 @@ rename-over_file-keeps v p q from child to line ino target k may found there fou
     renamed_over_file-keeps line at.at (row_to q to child) (length (directory_path q)) target over.at v k.kept k.all
     (may-rename-over_file v p q from child to line at.at ino target over.at k may there can at.is at.child_is over.is over.child_is plain)
 
-pub rename-over_directory-keeps : (v : Volume) (p q : List (List ℕ)) (from child to line ino target : ℕ) → IsKeptVolume v
+pub rename-over_directory-keeps : (v : Volume) (p q : List (List ℕ)) (from child to line ino target : ℕ)
+    → IsKeptVolume v
     → MayGo (volume_space v) p q from child to → find_name v.names from (last_name p) ≡ Some (line, child)
-    → IsAt (volume_space v) q to ino → find_name v.names to (last_name q) ≡ Some (target, ino) → CanReplace (volume_space v) child ino
+    → IsAt (volume_space v) q to ino → find_name v.names to (last_name q) ≡ Some (target, ino)
+    → CanReplace (volume_space v) child ino
     → (volume_space v).directory child ≡ true → AreKept (renamed_over_directory line (row_to q to child) target ino v)
 rename-over_directory-keeps v p q from child to line ino target k may found there found_there can directory =
     let at = row-found v.names from (last_name p) line child found in
     let over = row-found v.names to (last_name q) target ino found_there in
-    renamed_over_directory-keeps line at.at (row_to q to child) (length (directory_path q)) target ino over.at v k.kept k.all
+    renamed_over_directory-keeps line at.at (row_to q to child)
+    (length (directory_path q)) target ino over.at v k.kept k.all
     (may-rename-over_directory v p q from child to line at.at ino target over.at k may there can at.is at.child_is over.is over.child_is directory)

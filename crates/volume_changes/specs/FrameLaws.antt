@@ -9,10 +9,12 @@ use Rattle.k_rules.specs.Changes.{new_node, gone_node, made, unnamed, removed, r
 use Rattle.volume_changes.specs.Frames.{LeavesOthers}
 use Rattle.volume_facts.specs.Changes.{inode-set_same, inode-set_other, chain-set_other, extents-set_other, row-set_other}
 
-other_node : (v : Volume) (ino : ℕ) (x : Inode) (i : ℕ) → i ≢ ino → slice_index_or (slice_set v.inodes ino x) i free_inode ≡ inode v i
+other_node : (v : Volume) (ino : ℕ) (x : Inode) (i : ℕ) → i ≢ ino
+    → slice_index_or (slice_set v.inodes ino x) i free_inode ≡ inode v i
 other_node v ino x i apart = inode-set_other ino x (chain v ino) (extents v ino) v i apart
 
-pub made-others : (kind : Kind) (ino line : ℕ) (r : NameRow) (v : Volume) → LeavesOthers (ino ∷ []) (line ∷ []) v (made kind ino line r v)
+pub made-others : (kind : Kind) (ino line : ℕ) (r : NameRow) (v : Volume)
+    → LeavesOthers (ino ∷ []) (line ∷ []) v (made kind ino line r v)
 made-others kind ino line r v = record {
   geometry = refl;
   base = refl;
@@ -87,9 +89,11 @@ dropped-others ino v = record {
 -- and what it sets is set
 pub made-inode : (kind : Kind) (ino line : ℕ) (r : NameRow) (v : Volume) → ino < length v.inodes
     → inode (made kind ino line r v) ino ≡ new_node kind (inode v ino)
-made-inode kind ino line r v below = inode-set_same ino (new_node kind (inode v ino)) (chain v ino) (extents v ino) v below
+made-inode kind ino line r v below =
+    inode-set_same ino (new_node kind (inode v ino)) (chain v ino) (extents v ino) v below
 
-pub removed-inode : (line ino : ℕ) (v : Volume) → ino < length v.inodes → inode (removed line ino v) ino ≡ gone_node (inode v ino)
+pub removed-inode : (line ino : ℕ) (v : Volume) → ino < length v.inodes
+    → inode (removed line ino v) ino ≡ gone_node (inode v ino)
 removed-inode line ino v below = inode-set_same ino (gone_node (inode v ino)) (chain v ino) (extents v ino) v below
 
 pub dropped-inode : (ino : ℕ) (v : Volume) → ino < length v.inodes → inode (dropped ino v) ino ≡ gone_node (inode v ino)

@@ -73,13 +73,15 @@ KeepsRenamedOverDirectory =
 -- a file without a name goes
 abbrev pub KeepsDropped : Type 0
 KeepsDropped =
-    (ino : ℕ) (v : Volume) → AreKept v → HasAllLines v → HasAllMaps v → ino < length v.inodes → (inode v ino).kind ≡ File
+    (ino : ℕ) (v : Volume) → AreKept v → HasAllLines v → HasAllMaps v → ino < length v.inodes
+    → (inode v ino).kind ≡ File
     → names_of v.names ino ≡ 0 → AreKept (dropped ino v)
 
 -- maps and sizes change, and names and kinds do not
 abbrev pub KeepsTree : Type 0
 KeepsTree =
-    (v : Volume) (base : ℕ) (inodes : List Inode) (chains : List (List ℕ)) (maps : List (List Extent)) → AreKept v → HasAllLines v
+    (v : Volume) (base : ℕ) (inodes : List Inode) (chains : List (List ℕ)) (maps : List (List Extent)) → AreKept v
+    → HasAllLines v
     → ((ino : ℕ) → (slice_index_or inodes ino free_inode).kind ≡ (inode v ino).kind)
     → HasData (record v { base = base; inodes = inodes; chains = chains; maps = maps })
     → HasBlocksOnce (record v { base = base; inodes = inodes; chains = chains; maps = maps })
@@ -98,27 +100,32 @@ KeepsSwitched =
 -- the inode is free, and the name line the lowest free one
 abbrev pub AllowsMade : Type 0
 AllowsMade =
-    (v : Volume) (p : List (List ℕ)) (parent : ℕ) (kind : Kind) (ino line : ℕ) → IsKeptVolume v → IsNewAt (volume_space v) p parent
-    → (kind ≡ Directory) ⊎ (kind ≡ File) → ino < length v.inodes → (inode v ino).kind ≡ Free → free_line v.names ≡ Some line
+    (v : Volume) (p : List (List ℕ)) (parent : ℕ) (kind : Kind) (ino line : ℕ) → IsKeptVolume v
+    → IsNewAt (volume_space v) p parent
+    → (kind ≡ Directory) ⊎ (kind ≡ File) → ino < length v.inodes → (inode v ino).kind ≡ Free
+    → free_line v.names ≡ Some line
     → MayMake kind ino line (record { parent = parent; child = ino; name = last_name p }) v
 
 abbrev pub AllowsRenamed : Type 0
 AllowsRenamed =
-    (v : Volume) (p q : List (List ℕ)) (from child to line : ℕ) (r : NameRow) → IsKeptVolume v → MayGo (volume_space v) p q from child to
+    (v : Volume) (p q : List (List ℕ)) (from child to line : ℕ) (r : NameRow) → IsKeptVolume v
+    → MayGo (volume_space v) p q from child to
     → IsNewAt (volume_space v) q to → row v.names line ≡ Some r → r.child ≡ child
     → MayRename line r (row_to q to child) (length (directory_path q)) v
 
 -- so the calls keep the rules, by what their look-ups found
 abbrev pub KeepsMake : Type 0
 KeepsMake =
-    (v : Volume) (p : List (List ℕ)) (parent : ℕ) (kind : Kind) (ino line : ℕ) → IsKeptVolume v → IsNewAt (volume_space v) p parent
+    (v : Volume) (p : List (List ℕ)) (parent : ℕ) (kind : Kind) (ino line : ℕ) → IsKeptVolume v
+    → IsNewAt (volume_space v) p parent
     → (kind ≡ Directory) ⊎ (kind ≡ File) → IsLowestFree v.inodes ino → free_line v.names ≡ Some line
     → AreKept (made kind ino line (row_to p parent ino) v)
 
 abbrev pub KeepsUnlink : Type 0
 KeepsUnlink =
     (v : Volume) (p : List (List ℕ)) (parent line child : ℕ) → IsKeptVolume v
-    → find_name v.names parent (last_name p) ≡ Some (line, child) → (volume_space v).directory child ≡ false → AreKept (unnamed line v)
+    → find_name v.names parent (last_name p) ≡ Some (line, child) → (volume_space v).directory child ≡ false
+    → AreKept (unnamed line v)
 
 abbrev pub KeepsRmdir : Type 0
 KeepsRmdir =
@@ -128,14 +135,16 @@ KeepsRmdir =
 
 abbrev pub KeepsRename : Type 0
 KeepsRename =
-    (v : Volume) (p q : List (List ℕ)) (from child to line : ℕ) → IsKeptVolume v → MayGo (volume_space v) p q from child to
+    (v : Volume) (p q : List (List ℕ)) (from child to line : ℕ) → IsKeptVolume v
+    → MayGo (volume_space v) p q from child to
     → find_name v.names from (last_name p) ≡ Some (line, child) → IsNewAt (volume_space v) q to
     → AreKept (renamed line (row_to q to child) v)
 
 -- ---- what a change leaves, and what it sets
 
 abbrev pub LeavesMade : Type 0
-LeavesMade = (kind : Kind) (ino line : ℕ) (r : NameRow) (v : Volume) → LeavesOthers (ino ∷ []) (line ∷ []) v (made kind ino line r v)
+LeavesMade =
+    (kind : Kind) (ino line : ℕ) (r : NameRow) (v : Volume) → LeavesOthers (ino ∷ []) (line ∷ []) v (made kind ino line r v)
 
 abbrev pub LeavesRenamedOverDirectory : Type 0
 LeavesRenamedOverDirectory =
@@ -152,10 +161,12 @@ CountsLines =
     → inode (made kind ino line r v) ino ≡ empty_inode kind (((inode v ino).generation + 1) % 2 ^ 32)
 
 abbrev pub KeepsCount : Type 0
-KeepsCount = (ino : ℕ) (v : Volume) → ino < length v.inodes → inode (dropped ino v) ino ≡ empty_inode Free (inode v ino).generation
+KeepsCount =
+    (ino : ℕ) (v : Volume) → ino < length v.inodes → inode (dropped ino v) ino ≡ empty_inode Free (inode v ino).generation
 
 -- the new name leads to the child, the old one nowhere, and each other one where it led
 abbrev pub MovesName : Type 0
 MovesName =
-    (v : Volume) (line : ℕ) (r s : NameRow) (high parent : ℕ) (name : List ℕ) → IsKeyed v.names → MayRename line r s high v
+    (v : Volume) (line : ℕ) (r s : NameRow) (high parent : ℕ) (name : List ℕ) → IsKeyed v.names
+    → MayRename line r s high v
     → child_named (renamed line s v).names parent name ≡ leads_to s (leads_nowhere r (child_named v.names)) parent name

@@ -18,7 +18,8 @@ leads_to r names parent name = cond (is_entry parent name (Some r)) (Some r.chil
 abbrev pub leads_nowhere : NameRow → (ℕ → List ℕ → Option ℕ) → ℕ → List ℕ → Option ℕ
 leads_nowhere r names parent name = cond (is_entry parent name (Some r)) None (names parent name)
 
-pub names-taken : (rows : Rows) (line : ℕ) (r : NameRow) (parent : ℕ) (name : List ℕ) → line < length rows → row rows line ≡ None
+pub names-taken : (rows : Rows) (line : ℕ) (r : NameRow) (parent : ℕ) (name : List ℕ) → line < length rows
+    → row rows line ≡ None
     → child_named rows r.parent r.name ≡ None
     → child_named (slice_set rows line (Some r)) parent name ≡ leads_to r (child_named rows) parent name
 names-taken rows line r parent name within free new = child_named-taken rows line r parent name within free (λ entry.
@@ -28,7 +29,8 @@ names-taken rows line r parent name within free new = child_named-taken rows lin
     subst (λ p. child_named rows p name ≡ None) (ap (λ (x : NameRow). x.parent) is ∙ parts.2)
     (subst (λ n. child_named rows r.parent n ≡ None) (ap (λ (x : NameRow). x.name) is ∙ parts.3) new))
 
-pub names-freed : (rows : Rows) (line : ℕ) (r : NameRow) (parent : ℕ) (name : List ℕ) → IsKeyed rows → row rows line ≡ Some r
+pub names-freed : (rows : Rows) (line : ℕ) (r : NameRow) (parent : ℕ) (name : List ℕ) → IsKeyed rows
+    → row rows line ≡ Some r
     → child_named (slice_set rows line None) parent name ≡ leads_nowhere r (child_named rows) parent name
 names-freed rows line r parent name keyed is = elim (cases_Bool (is_entry parent name (Some r))) [
   | inl own ↦
@@ -45,7 +47,8 @@ names-freed rows line r parent name keyed is = elim (cases_Bool (is_entry parent
 ]
 
 -- a line goes over to another row, whose name is new or its own
-pub names-moved : (rows : Rows) (line : ℕ) (r s : NameRow) (parent : ℕ) (name : List ℕ) → IsKeyed rows → row rows line ≡ Some r
+pub names-moved : (rows : Rows) (line : ℕ) (r s : NameRow) (parent : ℕ) (name : List ℕ) → IsKeyed rows
+    → row rows line ≡ Some r
     → ((k : ℕ) → is_entry s.parent s.name (row rows k) ≡ true → k ≡ line)
     → child_named (slice_set rows line (Some s)) parent name ≡ leads_to s (leads_nowhere r (child_named rows)) parent name
 names-moved rows line r s parent name keyed is new = elim (cases_Bool (is_entry parent name (Some s))) [
@@ -57,18 +60,24 @@ names-moved rows line r s parent name keyed is new = elim (cases_Bool (is_entry 
       subst (λ p. child_named (slice_set rows line (Some s)) p name ≡ Some s.child) (ap (λ (x : NameRow). x.parent) its ∙ parts.2)
       (subst (λ n. child_named (slice_set rows line (Some s)) s.parent n ≡ Some s.child) (ap (λ (x : NameRow). x.name) its ∙ parts.3) found)
       ∙ sym (cond-true (is_entry parent name (Some s)) (Some s.child) (leads_nowhere r (child_named rows) parent name) own)
-  | inr other ↦ elsewhere other (cases_Bool (is_entry parent name (Some r))) ∙ sym (cond-false (is_entry parent name (Some s)) (Some s.child) (leads_nowhere r (child_named rows) parent name) other)
+  | inr other ↦
+      elsewhere other (cases_Bool (is_entry parent name (Some r)))
+      ∙ sym (cond-false (is_entry parent name (Some s)) (Some s.child) (leads_nowhere r (child_named rows) parent name) other)
 ]
   where
-    none_has : is_entry parent name (Some s) ≡ false → is_entry parent name (Some r) ≡ true → (k : ℕ) → is_entry parent name (row (slice_set rows line (Some s)) k) ≡ false
+    none_has : is_entry parent name (Some s) ≡ false → is_entry parent name (Some r) ≡ true → (k : ℕ)
+        → is_entry parent name (row (slice_set rows line (Some s)) k) ≡ false
     none_has other own k = elim (cases_eq k line) [
-      | inl here ↦ ap (λ n. is_entry parent name (row (slice_set rows line (Some s)) n)) here ∙ ap (is_entry parent name) (row-set_same rows line (Some s) (row-below rows line r is)) ∙ other
+      | inl here ↦
+          ap (λ n. is_entry parent name (row (slice_set rows line (Some s)) n)) here
+          ∙ ap (is_entry parent name) (row-set_same rows line (Some s) (row-below rows line r is)) ∙ other
       | inr apart ↦
           ap (is_entry parent name) (row-set_other rows line (Some s) k apart)
           ∙ false_from_ne_true (is_entry parent name (row rows k)) (λ entry. apart (keyed.one_line parent name k line entry (ap (is_entry parent name) is ∙ own)))
     ]
 
-    elsewhere : is_entry parent name (Some s) ≡ false → (is_entry parent name (Some r) ≡ true) ⊎ (is_entry parent name (Some r) ≡ false)
+    elsewhere : is_entry parent name (Some s) ≡ false
+        → (is_entry parent name (Some r) ≡ true) ⊎ (is_entry parent name (Some r) ≡ false)
         → child_named (slice_set rows line (Some s)) parent name ≡ leads_nowhere r (child_named rows) parent name
     elsewhere other (inl own) =
         ap (λ o. option_and_then (λ (found : ℕ × ℕ). Some found.1) (option_and_then (λ found. Some (line_and_child found)) o))
@@ -79,11 +88,13 @@ names-moved rows line r s parent name keyed is new = elim (cases_Bool (is_entry 
         ∙ sym (cond-false (is_entry parent name (Some r)) None (child_named rows parent name) apart)
 
 -- the same where a line of that name was freed first
-pub names-moved_over : (rows : Rows) (line : ℕ) (r s : NameRow) (target : ℕ) (t : NameRow) (parent : ℕ) (name : List ℕ) → IsKeyed rows
+pub names-moved_over : (rows : Rows) (line : ℕ) (r s : NameRow) (target : ℕ) (t : NameRow) (parent : ℕ) (name : List ℕ)
+    → IsKeyed rows
     → row rows line ≡ Some r → row rows target ≡ Some t → line ≢ target → t.parent ≡ s.parent → t.name ≡ s.name
     → child_named (slice_set (slice_set rows target None) line (Some s)) parent name ≡ leads_to s (leads_nowhere r (child_named rows)) parent name
 names-moved_over rows line r s target t parent name keyed is target_is apart same_parent same_name =
-    names-moved freed line r s parent name (keyed-freed rows target keyed) (row-set_other rows target None line apart ∙ is) new
+    names-moved freed line r s parent name (keyed-freed rows target keyed)
+    (row-set_other rows target None line apart ∙ is) new
     ∙ beside (cases_Bool (is_entry parent name (Some s)))
   where
     freed : Rows
@@ -106,9 +117,11 @@ names-moved_over rows line r s target t parent name keyed is target_is apart sam
 
     beside : (is_entry parent name (Some s) ≡ true) ⊎ (is_entry parent name (Some s) ≡ false)
         → leads_to s (leads_nowhere r (child_named freed)) parent name ≡ leads_to s (leads_nowhere r (child_named rows)) parent name
-    beside (inl own) = cond-true (is_entry parent name (Some s)) _ _ own ∙ sym (cond-true (is_entry parent name (Some s)) _ _ own)
+    beside (inl own) =
+        cond-true (is_entry parent name (Some s)) _ _ own ∙ sym (cond-true (is_entry parent name (Some s)) _ _ own)
     beside (inr other) =
         let stays : child_named freed parent name ≡ child_named rows parent name =
-        child_named-freed_other rows target parent name (ap (is_entry parent name) target_is ∙ same_key parent name ∙ other)
+        child_named-freed_other rows target parent name
+        (ap (is_entry parent name) target_is ∙ same_key parent name ∙ other)
         in
         ap (λ o. cond (is_entry parent name (Some s)) (Some s.child) (cond (is_entry parent name (Some r)) None o)) stays

@@ -33,12 +33,15 @@ free-unnamed v ino sane free = names_of-none v.names ino (λ k. by k (row v.name
     by k (Some r) is = ne_eqb r.child ino (λ e. named-used v k r sane is (ap (λ i. (inode v i).kind) e ∙ free))
 
 -- and what is no directory has no entries
-pub plain-empty : (v : Volume) (ino : ℕ) → AreSane v → is_directory (inode v ino).kind ≡ false → has_entries v.names ino ≡ false
+pub plain-empty : (v : Volume) (ino : ℕ) → AreSane v → is_directory (inode v ino).kind ≡ false
+    → has_entries v.names ino ≡ false
 plain-empty v ino sane plain = has_entries-none v.names ino (λ k. by k (row v.names k) refl)
   where
     by : (k : ℕ) (o : Option NameRow) → row v.names k ≡ o → is_below_parent ino o ≡ false
     by k None is = refl
-    by k (Some r) is = ne_eqb r.parent ino (λ e. both_ways (is_directory (inode v ino).kind) plain (ap (λ i. is_directory (inode v i).kind) (sym e) ∙ sane.parents k r is))
+    by k (Some r) is =
+        ne_eqb r.parent ino
+        (λ e. both_ways (is_directory (inode v ino).kind) plain (ap (λ i. is_directory (inode v i).kind) (sym e) ∙ sane.parents k r is))
 
 -- a free inode is one from 5 on, and so is a file, and each directory but the root
 pub free-number : (kind : Kind) (ino : ℕ) → kind ≡ Free → IsKindAt ino kind → 5 ≤ ino
@@ -76,17 +79,21 @@ directory-blocks Staging is = cc
 -- ---- one inode is set
 
 -- what holds of the kinds of all inodes holds after one was set, where it holds of that one
-pub set-kinds : (v : Volume) (ino : ℕ) (x : Inode) → ino < length v.inodes → IsKindAt ino x.kind → HasKinds v → (i : ℕ) → i < v.geometry.inodes
+pub set-kinds : (v : Volume) (ino : ℕ) (x : Inode) → ino < length v.inodes → IsKindAt ino x.kind → HasKinds v → (i : ℕ)
+    → i < v.geometry.inodes
     → IsKindAt i (inode (node_set ino x v) i).kind
 set-kinds v ino x below own kinds i within = elim (cases_eq i ino) [
   | inl here ↦
       subst (λ n. IsKindAt n (inode (node_set ino x v) n).kind) (sym here)
       (subst (λ (y : Inode). IsKindAt ino y.kind) (sym (inode-set_same ino x (chain v ino) (extents v ino) v below)) own)
-  | inr apart ↦ subst (λ (y : Inode). IsKindAt i y.kind) (sym (inode-set_other ino x (chain v ino) (extents v ino) v i apart)) (kinds i within)
+  | inr apart ↦
+      subst (λ (y : Inode). IsKindAt i y.kind) (sym (inode-set_other ino x (chain v ino) (extents v ino) v i apart)) (kinds i within)
 ]
 
-pub set-data : (v : Volume) (ino : ℕ) (x : Inode) → ino < length v.inodes → file_blocks_of x.kind ≡ file_blocks_of (inode v ino).kind → HasData v
-    → (i : ℕ) → i < v.geometry.inodes → All (IsInData v.geometry (file_blocks_of (inode (node_set ino x v) i).kind)) (extents v i)
+pub set-data : (v : Volume) (ino : ℕ) (x : Inode) → ino < length v.inodes
+    → file_blocks_of x.kind ≡ file_blocks_of (inode v ino).kind → HasData v
+    → (i : ℕ) → i < v.geometry.inodes
+    → All (IsInData v.geometry (file_blocks_of (inode (node_set ino x v) i).kind)) (extents v i)
 set-data v ino x below same in_data i within = elim (cases_eq i ino) [
   | inl here ↦
       let now : file_blocks_of (inode (node_set ino x v) i).kind ≡ file_blocks_of (inode v i).kind =
@@ -101,10 +108,12 @@ set-data v ino x below same in_data i within = elim (cases_eq i ino) [
 ]
 
 -- the kind of an inode after one was set that it is not
-pub set-other : (v : Volume) (ino : ℕ) (x : Inode) (i : ℕ) → i ≢ ino → (slice_index_or (slice_set v.inodes ino x) i free_inode).kind ≡ (inode v i).kind
+pub set-other : (v : Volume) (ino : ℕ) (x : Inode) (i : ℕ) → i ≢ ino
+    → (slice_index_or (slice_set v.inodes ino x) i free_inode).kind ≡ (inode v i).kind
 set-other v ino x i apart = ap (λ (y : Inode). y.kind) (inode-set_other ino x (chain v ino) (extents v ino) v i apart)
 
-pub set-same : (v : Volume) (ino : ℕ) (x : Inode) → ino < length v.inodes → (slice_index_or (slice_set v.inodes ino x) ino free_inode).kind ≡ x.kind
+pub set-same : (v : Volume) (ino : ℕ) (x : Inode) → ino < length v.inodes
+    → (slice_index_or (slice_set v.inodes ino x) ino free_inode).kind ≡ x.kind
 set-same v ino x below = ap (λ (y : Inode). y.kind) (inode-set_same ino x (chain v ino) (extents v ino) v below)
 
 -- and where it keeps its kind each inode does
@@ -112,6 +121,7 @@ pub set-kind : (v : Volume) (ino : ℕ) (x : Inode) → ino < length v.inodes �
     → (slice_index_or (slice_set v.inodes ino x) i free_inode).kind ≡ (inode v i).kind
 set-kind v ino x below same i = elim (cases_eq i ino) [
   | inl here ↦
-      ap (λ n. (slice_index_or (slice_set v.inodes ino x) n free_inode).kind) here ∙ set-same v ino x below ∙ same ∙ ap (λ n. (inode v n).kind) (sym here)
+      ap (λ n. (slice_index_or (slice_set v.inodes ino x) n free_inode).kind) here ∙ set-same v ino x below ∙ same
+      ∙ ap (λ n. (inode v n).kind) (sym here)
   | inr apart ↦ set-other v ino x i apart
 ]

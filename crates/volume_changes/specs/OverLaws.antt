@@ -67,7 +67,8 @@ may-after line r s high target t v inodes chains maps sane over empty stays = re
     still : (n ino : ℕ) → ino ≢ t.child → up (slice_set v.names target None) n ino ≡ up v.names n ino
     still n ino apart = way-freed v target t n ino (record { is = over.target_is; empty = empty }) apart
 
-pub renamed_over_file-keeps : (line : ℕ) (r s : NameRow) (high target : ℕ) (t : NameRow) (v : Volume) → AreKept v → HasAllLines v
+pub renamed_over_file-keeps : (line : ℕ) (r s : NameRow) (high target : ℕ) (t : NameRow) (v : Volume) → AreKept v
+    → HasAllLines v
     → MayRenameOverFile line r s high target t v → AreKept (renamed_over_file line s target v)
 renamed_over_file-keeps line r s high target t v kept all may =
     let sane = sane-kept v kept all in
@@ -76,7 +77,8 @@ renamed_over_file-keeps line r s high target t v kept all may =
     (lines-row target None v all)
     (may-after line r s high target t v v.inodes v.chains v.maps sane may.over (plain-empty v t.child sane may.no_directory) refl)
 
-pub renamed_over_directory-keeps : (line : ℕ) (r s : NameRow) (high target ino : ℕ) (t : NameRow) (v : Volume) → AreKept v → HasAllLines v
+pub renamed_over_directory-keeps : (line : ℕ) (r s : NameRow) (high target ino : ℕ) (t : NameRow) (v : Volume)
+    → AreKept v → HasAllLines v
     → MayRenameOverDirectory line r s high target ino t v → AreKept (renamed_over_directory line s target ino v)
 renamed_over_directory-keeps line r s high target ino t v kept all may =
     let sane = sane-kept v kept all in

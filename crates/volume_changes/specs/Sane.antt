@@ -34,7 +34,8 @@ abbrev pub HasKinds : Volume → Type 0
 HasKinds v = (ino : ℕ) → ino < v.geometry.inodes → IsKindAt ino (inode v ino).kind
 
 abbrev pub HasData : Volume → Type 0
-HasData v = (ino : ℕ) → ino < v.geometry.inodes → All (IsInData v.geometry (file_blocks_of (inode v ino).kind)) (extents v ino)
+HasData v =
+    (ino : ℕ) → ino < v.geometry.inodes → All (IsInData v.geometry (file_blocks_of (inode v ino).kind)) (extents v ino)
 
 abbrev pub HasBlocksOnce : Volume → Type 0
 HasBlocksOnce v = (b : ℕ) → is_data_block v.geometry b ≡ true → IsNamedOnce v b

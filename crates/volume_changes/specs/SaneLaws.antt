@@ -23,7 +23,9 @@ row-cases : (rows : Rows) (line : ℕ) (s : NameRow) (k : ℕ) (t : NameRow) →
     → row (slice_set rows line (Some s)) k ≡ Some t → (s ≡ t) ⊎ ((k ≢ line) × (row rows k ≡ Some t))
 row-cases rows line s k t within is = elim (cases_eq k line) [
   | inl here ↦
-      let own : row (slice_set rows line (Some s)) k ≡ Some s = ap (row (slice_set rows line (Some s))) here ∙ row-set_same rows line (Some s) within in
+      let own : row (slice_set rows line (Some s)) k ≡ Some s =
+      ap (row (slice_set rows line (Some s))) here ∙ row-set_same rows line (Some s) within
+      in
       let both : Some s ≡ Some t = sym own ∙ is in
       inl cc
   | inr apart ↦ inr (apart, sym (row-set_other rows line (Some s) k apart) ∙ is)
@@ -45,7 +47,8 @@ pub record MayTake (v : Volume) (line : ℕ) (r : NameRow) : Type 0 where
   pub apart : r.parent ≢ r.child
   pub own : r.child ≢ 0
 
-pub sane-taken : (v : Volume) (line : ℕ) (r : NameRow) → AreSane v → MayTake v line r → AreSane (row_set line (Some r) v)
+pub sane-taken : (v : Volume) (line : ℕ) (r : NameRow) → AreSane v → MayTake v line r
+    → AreSane (row_set line (Some r) v)
 sane-taken v line r sane may = record {
   named = λ k t is. elim (row-cases v.names line r k t may.within is) [
     | inl same ↦ subst (IsNamed v) same may.named
@@ -56,7 +59,8 @@ sane-taken v line r sane may = record {
     | inr other ↦ sane.parents k t other.1
   ];
   ways = λ k t is. elim (row-cases v.names line r k t may.within is) [
-    | inl same ↦ subst (λ (x : NameRow). HasWayUp (slice_set v.names line (Some r)) x.parent) same (still r.parent may.apart may.way)
+    | inl same ↦
+        subst (λ (x : NameRow). HasWayUp (slice_set v.names line (Some r)) x.parent) same (still r.parent may.apart may.way)
     | inr other ↦ still t.parent (has_entries-parent v.names r.child k t may.empty other.1) (sane.ways k t other.1)
   ];
   forest = forest-taken v.names line r may.within may.free may.is_new may.unnamed may.empty may.apart sane.forest;
@@ -107,17 +111,21 @@ pub record MayMove (v : Volume) (line : ℕ) (r s : NameRow) (high : ℕ) : Type
 
 -- The hard lemma: from each inode one comes to the root still, by the old way where it does not lead through the child,
 -- and else up to the child and on from its new directory.
-pub way-moved : (v : Volume) (line : ℕ) (r s : NameRow) (high ino : ℕ) → AreSane v → row v.names line ≡ Some r → s.child ≡ r.child
+pub way-moved : (v : Volume) (line : ℕ) (r s : NameRow) (high ino : ℕ) → AreSane v → row v.names line ≡ Some r
+    → s.child ≡ r.child
     → up v.names high s.parent ≡ Some 0 → ((m : ℕ) → up v.names m s.parent ≢ Some r.child)
     → ((m : ℕ) → up v.names m ino ≡ Some r.child → high + 1 + m < 16)
     → HasWayUp v.names ino → HasWayUp (row_set line (Some s) v).names ino
 way-moved v line r s high ino sane is same way outside deep own = elim (meets-or_not v.names r.child own.0 ino) [
   | inl met ↦
       let its_parent : parent_of moved r.child ≡ Some s.parent =
-      ap (parent_of moved) (sym same) ∙ parent_of-moved v.names line r s (row-below v.names line r is) is same (sane.forest.one_name r.child)
+      ap (parent_of moved) (sym same)
+      ∙ parent_of-moved v.names line r s (row-below v.names line r is) is same (sane.forest.one_name r.child)
       in
       let low : high + 1 + met.0 < 16 = deep met.0 met.2.at in
-      let top : up moved high s.parent ≡ Some 0 = up-unmoved v.names moved r.child high s.parent above (λ m low. outside m) ∙ way in
+      let top : up moved high s.parent ≡ Some 0 =
+      up-unmoved v.names moved r.child high s.parent above (λ m low. outside m) ∙ way
+      in
       (met.0 + suc high, omega (arith, low), up-moved v.names moved r.child s.parent met.0 high ino above its_parent met.2 ∙ top)
   | inr never ↦ (own.0, own.1, up-unmoved v.names moved r.child own.0 ino above never ∙ own.2)
 ]
@@ -141,7 +149,9 @@ sane-moved v line r s high sane may = record {
   ];
   ways = λ k t is. elim (row-cases v.names line s k t below is) [
     | inl same ↦ subst (λ (x : NameRow). HasWayUp moved x.parent) same (high, may.short, top)
-    | inr other ↦ way-moved v line r s high t.parent sane may.is may.same may.way may.outside (λ m meets. may.deep k m t other.1 meets) (sane.ways k t other.1)
+    | inr other ↦
+        way-moved v line r s high t.parent sane may.is may.same may.way may.outside
+        (λ m meets. may.deep k m t other.1 meets) (sane.ways k t other.1)
   ];
   forest = forest-moved v.names line r s below may.is may.same may.is_new may.outside sane.forest;
   root = names_of-moved v.names line r s 0 below may.is may.same ∙ sane.root;

@@ -13,7 +13,8 @@ use Rattle.posix_words.specs.Names.{child_of, downward, is_named, walk_from, is_
 
 -- the child in a line that a search found
 abbrev child_found : Option (ℕ × Option NameRow) → Option ℕ
-child_found o = option_and_then (λ (found : ℕ × ℕ). Some found.1) (option_and_then (λ found. Some (line_and_child found)) o)
+child_found o =
+    option_and_then (λ (found : ℕ × ℕ). Some found.1) (option_and_then (λ found. Some (line_and_child found)) o)
 
 found_first : (b : Bool) (n : ℕ) (r : NameRow) (o : Option DirEntry) (later : Option (ℕ × Option NameRow))
     → option_map (λ (e : DirEntry). e.child) o ≡ child_found later
@@ -31,7 +32,8 @@ child_from (Some r ∷ rows) n parent name =
     (first_row_from (is_entry parent name) (n + 1) rows) (child_from rows (n + 1) parent name)
 
 -- The child of a name.
-pub child_of-rows : (rows : Rows) (parent : ℕ) (name : List ℕ) → child_of (entries_of rows) parent name ≡ child_named rows parent name
+pub child_of-rows : (rows : Rows) (parent : ℕ) (name : List ℕ)
+    → child_of (entries_of rows) parent name ≡ child_named rows parent name
 child_of-rows rows parent name = child_from rows 0 parent name
 
 -- whether a directory has entries
@@ -60,7 +62,8 @@ walk_from-rows directory rows at [] end leads =
     let same : at ≡ end = cc in
     record { path = ap (λ (i : ℕ). Some i) same; is_directory = λ is. subst (λ i. directory i ≡ true) same is }
 walk_from-rows directory rows at (name ∷ names) end leads =
-    down (child_of (entries_of rows) at name) (child_of-rows rows at name) leads (λ child. walk_from-rows directory rows child names end)
+    down (child_of (entries_of rows) at name) (child_of-rows rows at name) leads
+    (λ child. walk_from-rows directory rows child names end)
   where
     on : (b : Bool) (child : ℕ) → directory child ≡ b → child_named rows at name ≡ Some child
         → (if b then walk_from directory (entries_of rows) child names else Err Errno.ENOTDIR) ≡ Ok end

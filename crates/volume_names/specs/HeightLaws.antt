@@ -18,7 +18,8 @@ greatest-least f so_far [] = omega arith
 greatest-least f so_far (e ∷ entries) = omega (arith, greatest-least f (max so_far (f e.child + 1)) entries)
 
 -- it is at least what it gives the child of each row of a parent
-greatest-row : (f : ℕ → ℕ) (so_far parent : ℕ) (rows : Rows) (k : ℕ) (r : NameRow) → row rows k ≡ Some r → r.parent ≡ parent
+greatest-row : (f : ℕ → ℕ) (so_far parent : ℕ) (rows : Rows) (k : ℕ) (r : NameRow) → row rows k ≡ Some r
+    → r.parent ≡ parent
     → f r.child + 1 ≤ greatest f so_far (entries_in (entries_of rows) parent)
 greatest-row f so_far parent [] k r is below = cc
 greatest-row f so_far parent (None ∷ rows) zero r is below = cc
@@ -28,11 +29,14 @@ greatest-row f so_far parent (Some s ∷ rows) zero r is below =
     let own : (s.parent == parent) ≡ true = eq-eqb s.parent parent (ap (λ (x : NameRow). x.parent) same ∙ below) in
     let first = greatest-least f (max so_far (f s.child + 1)) (entries_in (entries_of rows) parent) in
     let child : s.child ≡ r.child = ap (λ (x : NameRow). x.child) same in
-    let least : f s.child + 1 ≤ greatest f (max so_far (f s.child + 1)) (entries_in (entries_of rows) parent) = omega (arith, first) in
+    let least : f s.child + 1 ≤ greatest f (max so_far (f s.child + 1)) (entries_in (entries_of rows) parent) =
+    omega (arith, first)
+    in
     let here : f s.child + 1 ≤ greatest f so_far (entries_in (entries_of (Some s ∷ rows)) parent) = rw own least in
     subst (λ c. f c + 1 ≤ greatest f so_far (entries_in (entries_of (Some s ∷ rows)) parent)) child here
 greatest-row f so_far parent (Some s ∷ rows) (suc k) r is below =
-    by (s.parent == parent) (greatest-row f so_far parent rows k r is below) (greatest-row f (max so_far (f s.child + 1)) parent rows k r is below)
+    by (s.parent == parent) (greatest-row f so_far parent rows k r is below)
+    (greatest-row f (max so_far (f s.child + 1)) parent rows k r is below)
   where
     by : (b : Bool) → f r.child + 1 ≤ greatest f so_far (entries_in (entries_of rows) parent)
         → f r.child + 1 ≤ greatest f (max so_far (f s.child + 1)) (entries_in (entries_of rows) parent)

@@ -16,7 +16,8 @@ use Rattle.volume_names.specs.Paths.{IsAt, IsNewAt, HasRoom, MayGo, MayLand}
 -- ---- the entries are the rows
 
 abbrev pub HasChildren : Type 0
-HasChildren = (rows : Rows) (parent : ℕ) (name : List ℕ) → child_of (entries_of rows) parent name ≡ child_named rows parent name
+HasChildren =
+    (rows : Rows) (parent : ℕ) (name : List ℕ) → child_of (entries_of rows) parent name ≡ child_named rows parent name
 
 abbrev pub HasEntries : Type 0
 HasEntries = (rows : Rows) (parent : ℕ) → has_entries (entries_of rows) parent ≡ has_rows rows parent
@@ -29,7 +30,8 @@ LeadsInRows =
 -- a path that leads to a node in the rows has it in the space
 abbrev pub HasNodeAt : Type 0
 HasNodeAt =
-    (s : Space) (rows : Rows) (p : List (List ℕ)) (node : ℕ) → s.entries ≡ entries_of rows → HaveDirectories s.directory rows
+    (s : Space) (rows : Rows) (p : List (List ℕ)) (node : ℕ) → s.entries ≡ entries_of rows
+    → HaveDirectories s.directory rows
     → walk rows 0 p ≡ Some node → node_at_path s p ≡ Some node
 
 -- no path down from a node is longer than its height
@@ -43,7 +45,8 @@ BoundsPaths =
 -- from one inode to another there is one path
 abbrev pub HasOnePath : Type 0
 HasOnePath =
-    (rows : Rows) (ino : ℕ) (xs ys : List (List ℕ)) (end : ℕ) → IsForest rows → walk rows ino xs ≡ Some end → walk rows ino ys ≡ Some end
+    (rows : Rows) (ino : ℕ) (xs ys : List (List ℕ)) (end : ℕ) → IsForest rows → walk rows ino xs ≡ Some end
+    → walk rows ino ys ≡ Some end
     → xs ≡ ys
 
 -- a path whose end lies below an inode begins with the path of that inode
@@ -55,7 +58,8 @@ BeginsWithPath =
 -- ---- where no row fits
 
 abbrev pub TellsMkdir : Type 0
-TellsMkdir = (s : Space) (p : List (List ℕ)) → first (mkdir_rows s p) ≡ None → (parent : ℕ) × IsNewAt s p parent × HasRoom s
+TellsMkdir =
+    (s : Space) (p : List (List ℕ)) → first (mkdir_rows s p) ≡ None → (parent : ℕ) × IsNewAt s p parent × HasRoom s
 
 abbrev pub TellsUnlink : Type 0
 TellsUnlink =
@@ -74,10 +78,12 @@ TellsRename =
 
 -- and the other way round
 abbrev pub AllowsMkdir : Type 0
-AllowsMkdir = (s : Space) (p : List (List ℕ)) (parent : ℕ) → IsNewAt s p parent → HasRoom s → first (mkdir_rows s p) ≡ None
+AllowsMkdir =
+    (s : Space) (p : List (List ℕ)) (parent : ℕ) → IsNewAt s p parent → HasRoom s → first (mkdir_rows s p) ≡ None
 
 abbrev pub AllowsRename : Type 0
-AllowsRename = (s : Space) (p q : List (List ℕ)) (from child to : ℕ) → MayGo s p q from child to → first (rename_rows s p q) ≡ None
+AllowsRename =
+    (s : Space) (p q : List (List ℕ)) (from child to : ℕ) → MayGo s p q from child to → first (rename_rows s p q) ≡ None
 
 -- ---- the row that fits
 
@@ -95,13 +101,15 @@ RefusesLines =
 -- a directory does not go below itself
 abbrev pub RefusesBelow : Type 0
 RefusesBelow =
-    (s : Space) (p q : List (List ℕ)) (from child : ℕ) → IsAt s p from child → s.directory child ≡ true → is_below q p ≡ true
+    (s : Space) (p q : List (List ℕ)) (from child : ℕ) → IsAt s p from child → s.directory child ≡ true
+    → is_below q p ≡ true
     → first (rename_kind_rows s p q) ≡ Some (answer (Reply.Error Errno.EINVAL))
 
 -- nothing below a directory gets more than 16 names
 abbrev pub RefusesDeep : Type 0
 RefusesDeep =
-    (s : Space) (p q : List (List ℕ)) (from child to : ℕ) → IsAt s p from child → s.directory child ≡ true → is_below q p ≡ false
+    (s : Space) (p q : List (List ℕ)) (from child to : ℕ) → IsAt s p from child → s.directory child ≡ true
+    → is_below q p ≡ false
     → MayLand s q to child → longest_path < length q + height s.entries longest_path child
     → first (rename_kind_rows s p q) ≡ Some (answer (Reply.Error Errno.ENAMETOOLONG))
 

@@ -43,7 +43,8 @@ root-exists s p none = by (is_root p) refl
     by true is = let never : true ≡ false = rw is at none in cc
 
 -- `stat`: something stands at the path. `list`: a directory.
-pub stat-may : (s : Space) (p : List (List ℕ)) → first (stat_rows s p) ≡ None → (child : ℕ) × (node_at_path s p ≡ Some child)
+pub stat-may : (s : Space) (p : List (List ℕ)) → first (stat_rows s p) ≡ None
+    → (child : ℕ) × (node_at_path s p ≡ Some child)
 unfolding stat_rows
 stat-may s p none =
     let rows : AllNone (stat_rows s p) = none_fits (stat_rows s p) none in
@@ -56,7 +57,8 @@ list-may s p none =
     let rows : AllNone (list_rows s p) = none_fits (list_rows s p) none in
     let there = node-there s p (not_false (exists_at s p) (no_row (not (exists_at s p)) _ rows.1.1.0)) in
     let no_file : not (s.directory there.0) ≡ false =
-    sym (ap (λ o. option_map_or (λ node. not (s.directory node)) o false) there.1) ∙ no_row (file_stands s p) _ rows.1.1.1.0
+    sym (ap (λ o. option_map_or (λ node. not (s.directory node)) o false) there.1)
+    ∙ no_row (file_stands s p) _ rows.1.1.1.0
     in
     (there.0, there.1, not_false (s.directory there.0) no_file)
 
@@ -66,7 +68,8 @@ pub record MayOpenNew (s : Space) (p : List (List ℕ)) (parent : ℕ) (f : Flag
   pub room : HasRoom s
   pub create : f.create ≡ true
 
-pub open-makes : (s : Space) (full busy : Bool) (p : List (List ℕ)) (f : Flags) → first (open_rows s full busy p f) ≡ None
+pub open-makes : (s : Space) (full busy : Bool) (p : List (List ℕ)) (f : Flags)
+    → first (open_rows s full busy p f) ≡ None
     → exists_at s p ≡ false → (parent : ℕ) × MayOpenNew s p parent f
 unfolding open_rows
 open-makes s full busy p f none nothing =
@@ -89,7 +92,8 @@ open-makes s full busy p f none nothing =
     made h = not_false f.create (rw nothing at h)
 
 -- `open` of a path where something stands: a file.
-pub open-opens : (s : Space) (full busy : Bool) (p : List (List ℕ)) (f : Flags) → first (open_rows s full busy p f) ≡ None
+pub open-opens : (s : Space) (full busy : Bool) (p : List (List ℕ)) (f : Flags)
+    → first (open_rows s full busy p f) ≡ None
     → exists_at s p ≡ true → (child : ℕ) × (node_at_path s p ≡ Some child) × (s.directory child ≡ false)
 unfolding open_rows
 open-opens s full busy p f none some =
@@ -103,15 +107,18 @@ abbrev pub HaveDirectories : (ℕ → Bool) → Rows → Type 0
 HaveDirectories directory rows = (k : ℕ) (r : NameRow) → row rows k ≡ Some r → directory r.parent ≡ true
 
 -- from where a path leads to a directory there is a directory
-begins-there : (directory : ℕ → Bool) (rows : Rows) (at : ℕ) (names : List (List ℕ)) (end : ℕ) → HaveDirectories directory rows
+begins-there : (directory : ℕ → Bool) (rows : Rows) (at : ℕ) (names : List (List ℕ)) (end : ℕ)
+    → HaveDirectories directory rows
     → walk rows at names ≡ Some end → directory end ≡ true → directory at ≡ true
 unfolding walk
-begins-there directory rows at [] end parents leads is = subst (λ i. directory i ≡ true) (sym (same_Some at end leads)) is
+begins-there directory rows at [] end parents leads is =
+    subst (λ i. directory i ≡ true) (sym (same_Some at end leads)) is
 begins-there directory rows at (name ∷ names) end parents leads is =
     let step = walk-step rows at name names end leads in
     subst (λ i. directory i ≡ true) step.first.parent_is (parents step.first.line step.first.at step.first.is)
 
-pub rows-walk_from : (directory : ℕ → Bool) (rows : Rows) (at : ℕ) (names : List (List ℕ)) (end : ℕ) → HaveDirectories directory rows
+pub rows-walk_from : (directory : ℕ → Bool) (rows : Rows) (at : ℕ) (names : List (List ℕ)) (end : ℕ)
+    → HaveDirectories directory rows
     → walk rows at names ≡ Some end → directory end ≡ true → walk_from directory (entries_of rows) at names ≡ Ok end
 unfolding walk
 rows-walk_from directory rows at [] end parents leads is = ap (λ (i : ℕ). Ok i) (same_Some at end leads)
@@ -123,18 +130,24 @@ rows-walk_from directory rows at (name ∷ names) end parents leads is =
     rw (found, there) rest)
 
 -- A path that leads to a node in the rows has it in the space.
-pub node_at-rows : (s : Space) (rows : Rows) (p : List (List ℕ)) (node : ℕ) → s.entries ≡ entries_of rows → HaveDirectories s.directory rows
+pub node_at-rows : (s : Space) (rows : Rows) (p : List (List ℕ)) (node : ℕ) → s.entries ≡ entries_of rows
+    → HaveDirectories s.directory rows
     → walk rows 0 p ≡ Some node → node_at_path s p ≡ Some node
 unfolding node_at_path walk walk_to
 node_at-rows s rows [] node entries parents leads = leads
 node_at-rows s rows (front ∷ rest) node entries parents leads =
     let below : is_root (front ∷ rest) ≡ false = ne_eqb (length (front ∷ rest)) 0 (λ e. absurd (omega (arith, e))) in
-    let whole : walk rows 0 (directory_path (front ∷ rest) ++ (last_name (front ∷ rest) ∷ [])) ≡ Some node = ap (walk rows 0) (split-last (front ∷ rest) below) ∙ leads in
-    option_and_then_some (λ c. walk rows c (last_name (front ∷ rest) ∷ [])) (walk rows 0 (directory_path (front ∷ rest))) node
+    let whole : walk rows 0 (directory_path (front ∷ rest) ++ (last_name (front ∷ rest) ∷ [])) ≡ Some node =
+    ap (walk rows 0) (split-last (front ∷ rest) below) ∙ leads
+    in
+    option_and_then_some (λ c. walk rows c (last_name (front ∷ rest) ∷ []))
+    (walk rows 0 (directory_path (front ∷ rest))) node
     (sym (walk-append rows 0 (directory_path (front ∷ rest)) (last_name (front ∷ rest) ∷ [])) ∙ whole) (λ parent to_parent onward.
     option_and_then_some (λ c. walk rows c []) (child_named rows parent (last_name (front ∷ rest))) node onward (λ child named ends.
     let step = walk-step rows parent (last_name (front ∷ rest)) [] node onward in
-    let is : s.directory parent ≡ true = subst (λ i. s.directory i ≡ true) step.first.parent_is (parents step.first.line step.first.at step.first.is) in
+    let is : s.directory parent ≡ true =
+    subst (λ i. s.directory i ≡ true) step.first.parent_is (parents step.first.line step.first.at step.first.is)
+    in
     let walked : walk_from s.directory s.entries 0 (directory_path (front ∷ rest)) ≡ Ok parent =
     subst (λ es. walk_from s.directory es 0 (directory_path (front ∷ rest)) ≡ Ok parent) (sym entries)
     (rows-walk_from s.directory rows 0 (directory_path (front ∷ rest)) parent parents to_parent is)
@@ -146,7 +159,8 @@ node_at-rows s rows (front ∷ rest) node entries parents leads =
     rw (below, walked) found))
 
 -- And the other way round.
-pub rows-node_at : (s : Space) (rows : Rows) (p : List (List ℕ)) (node : ℕ) → s.entries ≡ entries_of rows → node_at_path s p ≡ Some node
+pub rows-node_at : (s : Space) (rows : Rows) (p : List (List ℕ)) (node : ℕ) → s.entries ≡ entries_of rows
+    → node_at_path s p ≡ Some node
     → walk rows 0 p ≡ Some node
 unfolding node_at_path walk walk_to
 rows-node_at s rows [] node entries is = is
@@ -154,17 +168,20 @@ rows-node_at s rows (front ∷ rest) node entries is =
     let below : is_root (front ∷ rest) ≡ false = ne_eqb (length (front ∷ rest)) 0 (λ e. absurd (omega (arith, e))) in
     by below (walk_from s.directory s.entries 0 (directory_path (front ∷ rest))) refl
   where
-    by : is_root (front ∷ rest) ≡ false → (w : Result ℕ Errno) → walk_from s.directory s.entries 0 (directory_path (front ∷ rest)) ≡ w
+    by : is_root (front ∷ rest) ≡ false → (w : Result ℕ Errno)
+        → walk_from s.directory s.entries 0 (directory_path (front ∷ rest)) ≡ w
         → walk rows 0 (front ∷ rest) ≡ Some node
     by below (Err errno) walked = let never : None ≡ Some node = rw (below, walked) at is in cc
     by below (Ok parent) walked =
         let found : child_of s.entries parent (last_name (front ∷ rest)) ≡ Some node = rw (below, walked) at is in
         let named : child_named rows parent (last_name (front ∷ rest)) ≡ Some node =
-        sym (child_of-rows rows parent (last_name (front ∷ rest))) ∙ subst (λ es. child_of es parent (last_name (front ∷ rest)) ≡ Some node) entries found
+        sym (child_of-rows rows parent (last_name (front ∷ rest)))
+        ∙ subst (λ es. child_of es parent (last_name (front ∷ rest)) ≡ Some node) entries found
         in
         let leads = walk_from-rows s.directory rows 0 (directory_path (front ∷ rest)) parent
         (subst (λ es. walk_from s.directory es 0 (directory_path (front ∷ rest)) ≡ Ok parent) entries walked)
         in
-        ap (walk rows 0) (sym (split-last (front ∷ rest) below)) ∙ walk-append rows 0 (directory_path (front ∷ rest)) (last_name (front ∷ rest) ∷ [])
+        ap (walk rows 0) (sym (split-last (front ∷ rest) below))
+        ∙ walk-append rows 0 (directory_path (front ∷ rest)) (last_name (front ∷ rest) ∷ [])
         ∙ ap (option_and_then (λ c. walk rows c (last_name (front ∷ rest) ∷ []))) leads.path
         ∙ walk-one rows parent (last_name (front ∷ rest)) node named

@@ -26,14 +26,16 @@ walk-leads s p none = by (walk s p) refl
     by (Ok parent) is = (parent, is)
     by (Err errno) is = let never : Some (answer (Reply.Error errno)) ≡ None = rw is at none in cc
 
-pub directory-there : (s : Space) (p : List (List ℕ)) → is_root p ≡ false → too_long s.longest p ≡ false → walk_row s p ≡ None
+pub directory-there : (s : Space) (p : List (List ℕ)) → is_root p ≡ false → too_long s.longest p ≡ false
+    → walk_row s p ≡ None
     → (parent : ℕ) × HasDirectory s p parent
 directory-there s p below short none =
     let leads = walk-leads s p none in
     (leads.0, record { below = below; short = short; leads = leads.1 })
 
 -- the path leads to a node, or to none
-pub new-there : (s : Space) (p : List (List ℕ)) (parent : ℕ) → HasDirectory s p parent → exists_at s p ≡ false → IsNewAt s p parent
+pub new-there : (s : Space) (p : List (List ℕ)) (parent : ℕ) → HasDirectory s p parent → exists_at s p ≡ false
+    → IsNewAt s p parent
 new-there s p parent d none = record { directory = d; is_new = by (node_at_path s p) refl }
   where
     by : (o : Option ℕ) → node_at_path s p ≡ o → child_of s.entries parent (last_name p) ≡ None
@@ -55,7 +57,8 @@ pub line_left : (n : ℕ) → nat_lt n 1 ≡ false → n ≢ 0
 line_left n left none = grind (arith, nat_tests)
 
 -- `mkdir` and `open` of a new file: the directory has no such name, and there is room.
-pub mkdir-may : (s : Space) (p : List (List ℕ)) → first (mkdir_rows s p) ≡ None → (parent : ℕ) × IsNewAt s p parent × HasRoom s
+pub mkdir-may : (s : Space) (p : List (List ℕ)) → first (mkdir_rows s p) ≡ None
+    → (parent : ℕ) × IsNewAt s p parent × HasRoom s
 unfolding mkdir_rows
 mkdir-may s p none =
     let rows : AllNone (mkdir_rows s p) = none_fits (mkdir_rows s p) none in
@@ -84,7 +87,10 @@ rmdir-may s p none =
     let rows : AllNone (rmdir_rows s p) = none_fits (rmdir_rows s p) none in
     let d = directory-there s p (no_row (is_root p) _ rows.0) (no_row (too_long s.longest p) _ rows.1.0) rows.1.1.0 in
     let at = child-there s p d.0 d.1 (no_row (not (exists_at s p)) _ rows.1.1.1.0) in
-    let no_file : not (s.directory at.0) ≡ false = sym (ap (λ o. option_map_or (λ node. not (s.directory node)) o false) at.2) ∙ no_row (file_stands s p) _ rows.1.1.1.1.0 in
+    let no_file : not (s.directory at.0) ≡ false =
+    sym (ap (λ o. option_map_or (λ node. not (s.directory node)) o false) at.2)
+    ∙ no_row (file_stands s p) _ rows.1.1.1.1.0
+    in
     let empty = no_row (has_entries s.entries (number_at s p)) _ rows.1.1.1.1.1.0 in
     let number : number_at s p ≡ at.0 = ap (λ o. unwrap_or o 0) at.2 in
     (d.0, at.0, at.1, not_not (s.directory at.0) no_file, sym (ap (has_entries s.entries) number) ∙ empty)

@@ -37,7 +37,8 @@ nothing-at s p parent new = ap is_some (node_at-path s p parent new.directory �
 
 -- ---- mkdir
 
-pub mkdir-root : (s : Space) (p : List (List ℕ)) → is_root p ≡ true → first (mkdir_rows s p) ≡ Some (answer (Reply.Error Errno.EEXIST))
+pub mkdir-root : (s : Space) (p : List (List ℕ)) → is_root p ≡ true
+    → first (mkdir_rows s p) ≡ Some (answer (Reply.Error Errno.EEXIST))
 unfolding mkdir_rows
 mkdir-root s p root = rw root refl
 
@@ -46,7 +47,8 @@ pub mkdir-long : (s : Space) (p : List (List ℕ)) → is_root p ≡ false → t
 unfolding mkdir_rows
 mkdir-long s p below long = rw (below, long) refl
 
-pub mkdir-walk : (s : Space) (p : List (List ℕ)) (errno : Errno) → is_root p ≡ false → too_long s.longest p ≡ false → walk s p ≡ Err errno
+pub mkdir-walk : (s : Space) (p : List (List ℕ)) (errno : Errno) → is_root p ≡ false → too_long s.longest p ≡ false
+    → walk s p ≡ Err errno
     → first (mkdir_rows s p) ≡ Some (answer (Reply.Error errno))
 unfolding mkdir_rows
 mkdir-walk s p errno below short leads = rw (below, short, leads) refl
@@ -71,7 +73,8 @@ mkdir-nodes s p parent new none =
     let nothing = nothing-at s p parent new in
     rw (below, short, leads, nothing, none) refl
 
-pub mkdir-lines : (s : Space) (p : List (List ℕ)) (parent : ℕ) → IsNewAt s p parent → s.nodes_left ≢ 0 → s.lines_left ≡ 0
+pub mkdir-lines : (s : Space) (p : List (List ℕ)) (parent : ℕ) → IsNewAt s p parent → s.nodes_left ≢ 0
+    → s.lines_left ≡ 0
     → first (mkdir_rows s p) ≡ Some (no_space What.Names 1 0)
 unfolding mkdir_rows
 mkdir-lines s p parent new some none =
@@ -85,7 +88,8 @@ mkdir-lines s p parent new some none =
 line_there : (n : ℕ) → n ≢ 0 → nat_lt n 1 ≡ false
 line_there n some = grind (arith, nat_tests)
 
-pub mkdir-none : (s : Space) (p : List (List ℕ)) (parent : ℕ) → IsNewAt s p parent → HasRoom s → first (mkdir_rows s p) ≡ None
+pub mkdir-none : (s : Space) (p : List (List ℕ)) (parent : ℕ) → IsNewAt s p parent → HasRoom s
+    → first (mkdir_rows s p) ≡ None
 unfolding mkdir_rows
 mkdir-none s p parent new room =
     let below = new.directory.below in
@@ -98,7 +102,8 @@ mkdir-none s p parent new room =
 
 -- ---- unlink
 
-pub unlink-root : (s : Space) (p : List (List ℕ)) → is_root p ≡ true → first (unlink_rows s p) ≡ Some (answer (Reply.Error Errno.EPERM))
+pub unlink-root : (s : Space) (p : List (List ℕ)) → is_root p ≡ true
+    → first (unlink_rows s p) ≡ Some (answer (Reply.Error Errno.EPERM))
 unfolding unlink_rows
 unlink-root s p root = rw root refl
 
@@ -107,7 +112,8 @@ pub unlink-long : (s : Space) (p : List (List ℕ)) → is_root p ≡ false → 
 unfolding unlink_rows
 unlink-long s p below long = rw (below, long) refl
 
-pub unlink-walk : (s : Space) (p : List (List ℕ)) (errno : Errno) → is_root p ≡ false → too_long s.longest p ≡ false → walk s p ≡ Err errno
+pub unlink-walk : (s : Space) (p : List (List ℕ)) (errno : Errno) → is_root p ≡ false → too_long s.longest p ≡ false
+    → walk s p ≡ Err errno
     → first (unlink_rows s p) ≡ Some (answer (Reply.Error errno))
 unfolding unlink_rows
 unlink-walk s p errno below short leads = rw (below, short, leads) refl
@@ -122,7 +128,8 @@ unlink-missing s p parent new =
     let nothing = nothing-at s p parent new in
     rw (below, short, leads, nothing) refl
 
-pub unlink-directory : (s : Space) (p : List (List ℕ)) (parent child : ℕ) → IsAt s p parent child → s.directory child ≡ true
+pub unlink-directory : (s : Space) (p : List (List ℕ)) (parent child : ℕ) → IsAt s p parent child
+    → s.directory child ≡ true
     → first (unlink_rows s p) ≡ Some (answer (Reply.Error Errno.EPERM))
 unfolding unlink_rows
 unlink-directory s p parent child at directory =
@@ -148,7 +155,8 @@ unlink-none s p parent child at file =
 
 -- ---- rmdir
 
-pub rmdir-root : (s : Space) (p : List (List ℕ)) → is_root p ≡ true → first (rmdir_rows s p) ≡ Some (answer (Reply.Error Errno.EBUSY))
+pub rmdir-root : (s : Space) (p : List (List ℕ)) → is_root p ≡ true
+    → first (rmdir_rows s p) ≡ Some (answer (Reply.Error Errno.EBUSY))
 unfolding rmdir_rows
 rmdir-root s p root = rw root refl
 
@@ -157,7 +165,8 @@ pub rmdir-long : (s : Space) (p : List (List ℕ)) → is_root p ≡ false → t
 unfolding rmdir_rows
 rmdir-long s p below long = rw (below, long) refl
 
-pub rmdir-walk : (s : Space) (p : List (List ℕ)) (errno : Errno) → is_root p ≡ false → too_long s.longest p ≡ false → walk s p ≡ Err errno
+pub rmdir-walk : (s : Space) (p : List (List ℕ)) (errno : Errno) → is_root p ≡ false → too_long s.longest p ≡ false
+    → walk s p ≡ Err errno
     → first (rmdir_rows s p) ≡ Some (answer (Reply.Error errno))
 unfolding rmdir_rows
 rmdir-walk s p errno below short leads = rw (below, short, leads) refl

@@ -38,12 +38,15 @@ unfolding rename_kind_rows
 kinds-fit s p q child at none =
     let rows : AllNone (rename_kind_rows s p q) = none_fits (rename_kind_rows s p q) none in
     let directory : directory_stands s p ≡ s.directory child = ap (λ o. option_map_or s.directory o false) at in
-    let file : file_stands s p ≡ not (s.directory child) = ap (λ o. option_map_or (λ node. not (s.directory node)) o false) at in
+    let file : file_stands s p ≡ not (s.directory child) =
+    ap (λ o. option_map_or (λ node. not (s.directory node)) o false) at
+    in
     let number : number_at s p ≡ child = ap (λ o. unwrap_or o 0) at in
     record {
       outside = λ is. and_other (directory_stands s p) (is_below q p) (directory ∙ is) (no_row (directory_stands s p && is_below q p) _ rows.0);
       over_directory = λ is. and_other (directory_stands s p) (file_stands s q) (directory ∙ is) (no_row (directory_stands s p && file_stands s q) _ rows.1.0);
-      over_empty = λ is. and_other (directory_stands s p) (directory_stands s q && has_entries s.entries (number_at s q)) (directory ∙ is)
+      over_empty =
+          λ is. and_other (directory_stands s p) (directory_stands s q && has_entries s.entries (number_at s q)) (directory ∙ is)
           (no_row (directory_stands s p && (directory_stands s q && has_entries s.entries (number_at s q))) _ rows.1.1.0);
       deep = λ is.
           let low = not_lt longest_path (length q + height s.entries longest_path (number_at s p))
@@ -65,7 +68,9 @@ lands s p q child to d at other fit = by (node_at_path s q) refl
     number = ap (λ o. unwrap_or o 0) at
 
     kinds : (target : ℕ) → node_at_path s q ≡ Some target → (b : Bool) → s.directory child ≡ b → s.directory target ≡ b
-    kinds target is true own = not_true (s.directory target) (sym (ap (λ o. option_map_or (λ node. not (s.directory node)) o false) is) ∙ fit.over_directory own)
+    kinds target is true own =
+        not_true (s.directory target)
+        (sym (ap (λ o. option_map_or (λ node. not (s.directory node)) o false) is) ∙ fit.over_directory own)
     kinds target is false own = sym (ap (λ o. option_map_or s.directory o false) is) ∙ fit.over_file own
 
     by : (o : Option ℕ) → node_at_path s q ≡ o → MayLand s q to child
@@ -81,7 +86,9 @@ lands s p q child to d at other fit = by (node_at_path s q) refl
                 (and_from (exists_at s q) (number_at s p == number_at s q) there (eq-eqb (number_at s p) (number_at s q) (number ∙ sym e ∙ sym its_number)));
             same = kinds target is (s.directory child) refl;
             empty = λ own.
-                let stands : directory_stands s q ≡ true = ap (λ o. option_map_or s.directory o false) is ∙ kinds target is true own in
+                let stands : directory_stands s q ≡ true =
+                ap (λ o. option_map_or s.directory o false) is ∙ kinds target is true own
+                in
                 subst (λ n. has_entries s.entries n ≡ false) its_number
                 (and_other (directory_stands s q) (has_entries s.entries (number_at s q)) stands (fit.over_empty own));
           },

@@ -14,16 +14,19 @@ use Rattle.volume_names.specs.Paths.{HasDirectory, IsAt, IsNewAt, MayLand, MayGo
 use Rattle.volume_names.specs.PathLaws.{node_at-path}
 use Rattle.volume_names.specs.RefusalLaws.{stands-at, nothing-at}
 
-pub rename-root : (s : Space) (p q : List (List ℕ)) → (is_root p || is_root q) ≡ true → first (rename_rows s p q) ≡ Some (answer (Reply.Error Errno.EBUSY))
+pub rename-root : (s : Space) (p q : List (List ℕ)) → (is_root p || is_root q) ≡ true
+    → first (rename_rows s p q) ≡ Some (answer (Reply.Error Errno.EBUSY))
 unfolding rename_rows
 rename-root s p q root = rw root refl
 
-pub rename-long_old : (s : Space) (p q : List (List ℕ)) → is_root p ≡ false → is_root q ≡ false → too_long s.longest p ≡ true
+pub rename-long_old : (s : Space) (p q : List (List ℕ)) → is_root p ≡ false → is_root q ≡ false
+    → too_long s.longest p ≡ true
     → first (rename_rows s p q) ≡ Some (answer (Reply.Error Errno.ENAMETOOLONG))
 unfolding rename_rows
 rename-long_old s p q below_p below_q long = rw (below_p, below_q, long) refl
 
-pub rename-long_new : (s : Space) (p q : List (List ℕ)) → is_root p ≡ false → is_root q ≡ false → too_long s.longest p ≡ false → too_long s.longest q ≡ true
+pub rename-long_new : (s : Space) (p q : List (List ℕ)) → is_root p ≡ false → is_root q ≡ false
+    → too_long s.longest p ≡ false → too_long s.longest q ≡ true
     → first (rename_rows s p q) ≡ Some (answer (Reply.Error Errno.ENAMETOOLONG))
 unfolding rename_rows
 rename-long_new s p q below_p below_q short long = rw (below_p, below_q, short, long) refl
@@ -57,7 +60,8 @@ rename-missing s p q from short new =
     let nothing = nothing-at s p from new in
     rw (a, b, c, d, leads, nothing) refl
 
-pub rename-walk_new : (s : Space) (p q : List (List ℕ)) (from child : ℕ) (errno : Errno) → AreShort s p q → IsAt s p from child → walk s q ≡ Err errno
+pub rename-walk_new : (s : Space) (p q : List (List ℕ)) (from child : ℕ) (errno : Errno) → AreShort s p q
+    → IsAt s p from child → walk s q ≡ Err errno
     → first (rename_rows s p q) ≡ Some (answer (Reply.Error errno))
 unfolding rename_rows
 rename-walk_new s p q from child errno short at wrong =
@@ -82,7 +86,10 @@ rename-same s p q from child to old new =
     let leads_new = new.directory.leads in
     let exists = (stands-at s p from child old).exists in
     let there = (stands-at s q to child new).exists in
-    let same = eq-eqb (number_at s p) (number_at s q) ((stands-at s p from child old).number ∙ sym (stands-at s q to child new).number) in
+    let same =
+    eq-eqb (number_at s p) (number_at s q)
+    ((stands-at s p from child old).number ∙ sym (stands-at s q to child new).number)
+    in
     rw (a, b, c, d, leads, exists, leads_new, there, same) refl
 
 -- what stands at q is another node than the child, or nothing
@@ -91,7 +98,8 @@ IsElsewhere s q to child = IsNewAt s q to ⊎ ((target : ℕ) × IsAt s q to tar
 
 apart-at : (s : Space) (p q : List (List ℕ)) (from child to : ℕ) → IsAt s p from child → IsElsewhere s q to child
     → (exists_at s q && (number_at s p == number_at s q)) ≡ false
-apart-at s p q from child to old (inl new) = and_left (exists_at s q) (number_at s p == number_at s q) (nothing-at s q to new)
+apart-at s p q from child to old (inl new) =
+    and_left (exists_at s q) (number_at s p == number_at s q) (nothing-at s q to new)
 apart-at s p q from child to old (inr other) =
     and_right (exists_at s q) (number_at s p == number_at s q) (ne_eqb (number_at s p) (number_at s q) (λ e.
     other.2 (sym (stands-at s q to other.0 other.1).number ∙ sym e ∙ (stands-at s p from child old).number)))
@@ -101,7 +109,8 @@ or_none None = refl
 or_none (Some x) = refl
 
 -- then the kinds decide
-pub rename-kinds : (s : Space) (p q : List (List ℕ)) (from child to : ℕ) → IsAt s p from child → HasDirectory s q to → IsElsewhere s q to child
+pub rename-kinds : (s : Space) (p q : List (List ℕ)) (from child to : ℕ) → IsAt s p from child → HasDirectory s q to
+    → IsElsewhere s q to child
     → first (rename_rows s p q) ≡ first (rename_kind_rows s p q)
 unfolding rename_rows
 rename-kinds s p q from child to old new elsewhere =
@@ -116,7 +125,8 @@ rename-kinds s p q from child to old new elsewhere =
     rw (a, b, c, d, leads, exists, leads_new, other) (or_none (first (rename_kind_rows s p q)))
 
 -- a directory does not go below itself
-pub kinds-below : (s : Space) (p q : List (List ℕ)) (from child : ℕ) → IsAt s p from child → s.directory child ≡ true → is_below q p ≡ true
+pub kinds-below : (s : Space) (p q : List (List ℕ)) (from child : ℕ) → IsAt s p from child → s.directory child ≡ true
+    → is_below q p ≡ true
     → first (rename_kind_rows s p q) ≡ Some (answer (Reply.Error Errno.EINVAL))
 unfolding rename_kind_rows
 kinds-below s p q from child old directory below =
@@ -124,15 +134,18 @@ kinds-below s p q from child old directory below =
     rw (is, below) refl
 
 -- nor over a file, nor over a directory with entries
-pub kinds-over_file : (s : Space) (p q : List (List ℕ)) (from child to target : ℕ) → IsAt s p from child → s.directory child ≡ true → is_below q p ≡ false
-    → IsAt s q to target → s.directory target ≡ false → first (rename_kind_rows s p q) ≡ Some (answer (Reply.Error Errno.ENOTDIR))
+pub kinds-over_file : (s : Space) (p q : List (List ℕ)) (from child to target : ℕ) → IsAt s p from child
+    → s.directory child ≡ true → is_below q p ≡ false
+    → IsAt s q to target → s.directory target ≡ false
+    → first (rename_kind_rows s p q) ≡ Some (answer (Reply.Error Errno.ENOTDIR))
 unfolding rename_kind_rows
 kinds-over_file s p q from child to target old directory below new file =
     let is = (stands-at s p from child old).directory ∙ directory in
     let over = (stands-at s q to target new).file ∙ ap not file in
     rw (is, below, over) refl
 
-pub kinds-over_full : (s : Space) (p q : List (List ℕ)) (from child to target : ℕ) → IsAt s p from child → s.directory child ≡ true → is_below q p ≡ false
+pub kinds-over_full : (s : Space) (p q : List (List ℕ)) (from child to target : ℕ) → IsAt s p from child
+    → s.directory child ≡ true → is_below q p ≡ false
     → IsAt s q to target → s.directory target ≡ true → has_entries s.entries target ≡ true
     → first (rename_kind_rows s p q) ≡ Some (answer (Reply.Error Errno.ENOTEMPTY))
 unfolding rename_kind_rows
@@ -144,8 +157,10 @@ kinds-over_full s p q from child to target old directory below new its_kind full
     rw (is, below, over, stands, entries) refl
 
 -- a file does not go over a directory
-pub kinds-over_directory : (s : Space) (p q : List (List ℕ)) (from child to target : ℕ) → IsAt s p from child → s.directory child ≡ false
-    → IsAt s q to target → s.directory target ≡ true → first (rename_kind_rows s p q) ≡ Some (answer (Reply.Error Errno.EISDIR))
+pub kinds-over_directory : (s : Space) (p q : List (List ℕ)) (from child to target : ℕ) → IsAt s p from child
+    → s.directory child ≡ false
+    → IsAt s q to target → s.directory target ≡ true
+    → first (rename_kind_rows s p q) ≡ Some (answer (Reply.Error Errno.EISDIR))
 unfolding rename_kind_rows
 kinds-over_directory s p q from child to target old plain new directory =
     let is = (stands-at s p from child old).directory ∙ plain in
@@ -154,19 +169,26 @@ kinds-over_directory s p q from child to target old plain new directory =
     rw (is, file, stands) refl
 
 -- what the rows by kinds say of q, where the child may replace what stands there
-none-file : (s : Space) (q : List (List ℕ)) (to child : ℕ) → s.directory child ≡ true → MayLand s q to child → file_stands s q ≡ false
-none-file s q to child directory (inl new) = ap (λ o. option_map_or (λ node. not (s.directory node)) o false) (node_at-path s q to new.directory ∙ new.is_new)
-none-file s q to child directory (inr other) = (stands-at s q to other.0 other.1).file ∙ ap not (other.2.same ∙ directory)
+none-file : (s : Space) (q : List (List ℕ)) (to child : ℕ) → s.directory child ≡ true → MayLand s q to child
+    → file_stands s q ≡ false
+none-file s q to child directory (inl new) =
+    ap (λ o. option_map_or (λ node. not (s.directory node)) o false) (node_at-path s q to new.directory ∙ new.is_new)
+none-file s q to child directory (inr other) =
+    (stands-at s q to other.0 other.1).file ∙ ap not (other.2.same ∙ directory)
 
 none-full : (s : Space) (q : List (List ℕ)) (to child : ℕ) → s.directory child ≡ true → MayLand s q to child
     → (directory_stands s q && has_entries s.entries (number_at s q)) ≡ false
 none-full s q to child directory (inl new) =
-    and_left (directory_stands s q) (has_entries s.entries (number_at s q)) (ap (λ o. option_map_or s.directory o false) (node_at-path s q to new.directory ∙ new.is_new))
+    and_left (directory_stands s q) (has_entries s.entries (number_at s q))
+    (ap (λ o. option_map_or s.directory o false) (node_at-path s q to new.directory ∙ new.is_new))
 none-full s q to child directory (inr other) =
-    and_right (directory_stands s q) (has_entries s.entries (number_at s q)) (ap (has_entries s.entries) (stands-at s q to other.0 other.1).number ∙ other.2.empty directory)
+    and_right (directory_stands s q) (has_entries s.entries (number_at s q))
+    (ap (has_entries s.entries) (stands-at s q to other.0 other.1).number ∙ other.2.empty directory)
 
-none-directory : (s : Space) (q : List (List ℕ)) (to child : ℕ) → s.directory child ≡ false → MayLand s q to child → directory_stands s q ≡ false
-none-directory s q to child plain (inl new) = ap (λ o. option_map_or s.directory o false) (node_at-path s q to new.directory ∙ new.is_new)
+none-directory : (s : Space) (q : List (List ℕ)) (to child : ℕ) → s.directory child ≡ false → MayLand s q to child
+    → directory_stands s q ≡ false
+none-directory s q to child plain (inl new) =
+    ap (λ o. option_map_or s.directory o false) (node_at-path s q to new.directory ∙ new.is_new)
 none-directory s q to child plain (inr other) = (stands-at s q to other.0 other.1).directory ∙ (other.2.same ∙ plain)
 
 too_deep : (n m : ℕ) → n < m → nat_lt n m ≡ true
@@ -176,7 +198,8 @@ not_too_deep : (n m : ℕ) → m ≤ n → nat_lt n m ≡ false
 not_too_deep n m h = grind (arith, nat_tests)
 
 -- nothing below the directory gets more than 16 names
-pub kinds-deep : (s : Space) (p q : List (List ℕ)) (from child to : ℕ) → IsAt s p from child → s.directory child ≡ true → is_below q p ≡ false
+pub kinds-deep : (s : Space) (p q : List (List ℕ)) (from child to : ℕ) → IsAt s p from child → s.directory child ≡ true
+    → is_below q p ≡ false
     → MayLand s q to child → longest_path < length q + height s.entries longest_path child
     → first (rename_kind_rows s p q) ≡ Some (answer (Reply.Error Errno.ENAMETOOLONG))
 unfolding rename_kind_rows
@@ -190,7 +213,8 @@ kinds-deep s p q from child to old directory below lands deep =
     in
     rw (is, below, file, full, long) refl
 
-kinds-none : (s : Space) (p q : List (List ℕ)) (from child to : ℕ) → MayGo s p q from child to → (b : Bool) → s.directory child ≡ b
+kinds-none : (s : Space) (p q : List (List ℕ)) (from child to : ℕ) → MayGo s p q from child to → (b : Bool)
+    → s.directory child ≡ b
     → first (rename_kind_rows s p q) ≡ None
 unfolding rename_kind_rows
 kinds-none s p q from child to may true directory =
@@ -213,9 +237,11 @@ kinds-none s p q from child to may false plain =
     rw (is, file, over) refl
 
 -- where the child may go no row fits
-pub rename-none : (s : Space) (p q : List (List ℕ)) (from child to : ℕ) → MayGo s p q from child to → first (rename_rows s p q) ≡ None
+pub rename-none : (s : Space) (p q : List (List ℕ)) (from child to : ℕ) → MayGo s p q from child to
+    → first (rename_rows s p q) ≡ None
 rename-none s p q from child to may =
-    rename-kinds s p q from child to may.old may.directory (elsewhere may.lands) ∙ kinds-none s p q from child to may (s.directory child) refl
+    rename-kinds s p q from child to may.old may.directory (elsewhere may.lands)
+    ∙ kinds-none s p q from child to may (s.directory child) refl
   where
     elsewhere : MayLand s q to child → IsElsewhere s q to child
     elsewhere (inl new) = inl new

@@ -23,7 +23,8 @@ use Rattle.posix_words.specs.Names.{directory_path, is_below, is_root, last_name
 last_split : (p : List (List ℕ)) → 0 < length p → directory_path p ++ (last_name p ∷ []) ≡ p
 last_split p some =
     let count : length p ≡ length p - 1 + 1 = omega (arith, some) in
-    sym (take_more p (length p - 1) [] (omega (arith, some))) ∙ ap (λ n. take n p) (sym count) ∙ take_all (length p) p (omega arith)
+    sym (take_more p (length p - 1) [] (omega (arith, some))) ∙ ap (λ n. take n p) (sym count)
+    ∙ take_all (length p) p (omega arith)
 
 -- a path that is not that of the root has a name
 pub some-names : (p : List (List ℕ)) → is_root p ≡ false → 0 < length p
@@ -48,7 +49,8 @@ few-names longest p short =
 -- ---- trees
 
 -- going up from the end of a path as many steps as it has names one comes to its beginning
-pub up-of_walk : (rows : Rows) (ino : ℕ) (names : List (List ℕ)) (end : ℕ) → IsForest rows → walk rows ino names ≡ Some end
+pub up-of_walk : (rows : Rows) (ino : ℕ) (names : List (List ℕ)) (end : ℕ) → IsForest rows
+    → walk rows ino names ≡ Some end
     → up rows (length names) end ≡ Some ino
 unfolding up walk
 up-of_walk rows ino [] end forest leads = sym leads
@@ -58,20 +60,26 @@ up-of_walk rows ino (name ∷ names) end forest leads =
     let above : parent_of rows step.child ≡ Some ino =
     ap (parent_of rows) (sym line.child_is) ∙ parent_of-one_name rows line.line line.at (forest.one_name line.at.child) line.is ∙ ap (λ (i : ℕ). Some i) line.parent_is
     in
-    up-more rows (length names) end ∙ ap (option_and_then (parent_of rows)) (up-of_walk rows step.child names end forest step.rest) ∙ above
+    up-more rows (length names) end
+    ∙ ap (option_and_then (parent_of rows)) (up-of_walk rows step.child names end forest step.rest) ∙ above
 
 -- an inode is met once on the way up
-met-once : (rows : Rows) (m n ino above : ℕ) → IsForest rows → up rows m ino ≡ Some above → up rows n ino ≡ Some above → m < n → ⊥
+met-once : (rows : Rows) (m n ino above : ℕ) → IsForest rows → up rows m ino ≡ Some above → up rows n ino ≡ Some above
+    → m < n → ⊥
 met-once rows m n ino above forest first second before =
     let split : m + (n - m) ≡ n = omega (arith, before) in
     let round : up rows (n - m) above ≡ Some above =
-    sym (ap (option_and_then (up rows (n - m))) first) ∙ sym (up-add rows m (n - m) ino) ∙ ap (λ k. up rows k ino) split ∙ second
+    sym (ap (option_and_then (up rows (n - m))) first) ∙ sym (up-add rows m (n - m) ino) ∙ ap (λ k. up rows k ino) split
+    ∙ second
     in
-    let path : (names : List (List ℕ)) × (length names ≡ n - m) × (walk rows above names ≡ Some above) = walk-up rows (n - m) above above forest.keyed round in
+    let path : (names : List (List ℕ)) × (length names ≡ n - m) × (walk rows above names ≡ Some above) =
+    walk-up rows (n - m) above above forest.keyed round
+    in
     let none : path.0 ≡ [] = (forest-acyclic rows forest).no_return above path.0 path.2 in
     absurd (omega (arith, ap length none, path.1, before))
 
-pub one-depth : (rows : Rows) (m n ino above : ℕ) → IsForest rows → up rows m ino ≡ Some above → up rows n ino ≡ Some above → m ≡ n
+pub one-depth : (rows : Rows) (m n ino above : ℕ) → IsForest rows → up rows m ino ≡ Some above
+    → up rows n ino ≡ Some above → m ≡ n
 one-depth rows m n ino above forest first second = elim (cases_order m n) [
   | inl same ↦ same
   | inr order ↦ elim order [
@@ -81,7 +89,8 @@ one-depth rows m n ino above forest first second = elim (cases_order m n) [
 ]
 
 -- From one inode to another there is one path.
-pub one-path : (rows : Rows) (ino : ℕ) (xs ys : List (List ℕ)) (end : ℕ) → IsForest rows → walk rows ino xs ≡ Some end → walk rows ino ys ≡ Some end
+pub one-path : (rows : Rows) (ino : ℕ) (xs ys : List (List ℕ)) (end : ℕ) → IsForest rows → walk rows ino xs ≡ Some end
+    → walk rows ino ys ≡ Some end
     → xs ≡ ys
 unfolding walk
 one-path rows ino [] ys end forest first second =
@@ -93,10 +102,14 @@ one-path rows ino (x ∷ xs) [] end forest first second =
 one-path rows ino (x ∷ xs) (y ∷ ys) end forest first second =
     let s = walk-step rows ino x xs end first in
     let t = walk-step rows ino y ys end second in
-    let depth = one-depth rows (length (x ∷ xs)) (length (y ∷ ys)) end ino forest (up-of_walk rows ino (x ∷ xs) end forest first) (up-of_walk rows ino (y ∷ ys) end forest second) in
+    let depth =
+    one-depth rows (length (x ∷ xs)) (length (y ∷ ys)) end ino forest (up-of_walk rows ino (x ∷ xs) end forest first)
+    (up-of_walk rows ino (y ∷ ys) end forest second)
+    in
     let lengths : length xs ≡ length ys = omega (arith, depth) in
     let child : s.child ≡ t.child =
-    same_Some s.child t.child (sym (up-of_walk rows s.child xs end forest s.rest) ∙ ap (λ n. up rows n end) lengths ∙ up-of_walk rows t.child ys end forest t.rest)
+    same_Some s.child t.child
+    (sym (up-of_walk rows s.child xs end forest s.rest) ∙ ap (λ n. up rows n end) lengths ∙ up-of_walk rows t.child ys end forest t.rest)
     in
     let one : s.first.line ≡ t.first.line =
     names_of-one_line rows s.child s.first.line t.first.line (forest.one_name s.child)
@@ -114,11 +127,18 @@ pub is_below-append : (p rest : List (List ℕ)) → is_below (p ++ rest) p ≡ 
 is_below-append p rest = (starts_is bytes_eq-Decides (p ++ rest) p (is_below (p ++ rest) p) refl).1 rest refl
 
 -- So a path whose end lies below an inode begins with the path of that inode.
-pub below-path : (rows : Rows) (p q : List (List ℕ)) (name : List ℕ) (child end m : ℕ) → IsForest rows → walk rows 0 p ≡ Some child
+pub below-path : (rows : Rows) (p q : List (List ℕ)) (name : List ℕ) (child end m : ℕ) → IsForest rows
+    → walk rows 0 p ≡ Some child
     → walk rows 0 q ≡ Some end → up rows m end ≡ Some child → is_below (q ++ (name ∷ [])) p ≡ true
 below-path rows p q name child end m forest to_child to_end meets =
-    let down : (names : List (List ℕ)) × (length names ≡ m) × (walk rows child names ≡ Some end) = walk-up rows m end child forest.keyed meets in
-    let through : walk rows 0 (p ++ down.0) ≡ Some end = walk-append rows 0 p down.0 ∙ ap (option_and_then (λ c. walk rows c down.0)) to_child ∙ down.2 in
+    let down : (names : List (List ℕ)) × (length names ≡ m) × (walk rows child names ≡ Some end) =
+    walk-up rows m end child forest.keyed meets
+    in
+    let through : walk rows 0 (p ++ down.0) ≡ Some end =
+    walk-append rows 0 p down.0 ∙ ap (option_and_then (λ c. walk rows c down.0)) to_child ∙ down.2
+    in
     let same : q ≡ p ++ down.0 = one-path rows 0 q (p ++ down.0) end forest to_end through in
-    let all : q ++ (name ∷ []) ≡ p ++ (down.0 ++ (name ∷ [])) = ap (λ l. l ++ (name ∷ [])) same ∙ append_assoc p down.0 (name ∷ []) in
+    let all : q ++ (name ∷ []) ≡ p ++ (down.0 ++ (name ∷ [])) =
+    ap (λ l. l ++ (name ∷ [])) same ∙ append_assoc p down.0 (name ∷ [])
+    in
     ap (λ l. is_below l p) all ∙ is_below-append p (down.0 ++ (name ∷ []))

@@ -1,0 +1,15 @@
+pub mod CallLaws
+pub mod Changes
+pub mod CountLaws
+pub mod FoundLaws
+pub mod FrameLaws
+pub mod Frames
+pub mod Laws
+pub mod LineLaws
+pub mod LookupLaws
+pub mod MapLaws
+pub mod NameLaws
+pub mod NodeLaws
+pub mod OverLaws
+pub mod Sane
+pub mod SaneLaws

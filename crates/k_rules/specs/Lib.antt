@@ -1,0 +1,4 @@
+pub mod Changes
+pub mod Spaces
+pub mod Stands
+pub mod View

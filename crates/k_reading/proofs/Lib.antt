@@ -1,0 +1,4 @@
+pub mod ChainLists
+pub mod LineWords
+pub mod NameRows
+pub mod UsedBlocks

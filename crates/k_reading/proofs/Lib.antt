@@ -2,3 +2,4 @@ pub mod ChainLists
 pub mod LineWords
 pub mod NameRows
 pub mod UsedBlocks
+pub mod FreshTables

@@ -19,6 +19,7 @@ mod making;
 mod refusals;
 mod removing;
 mod renaming;
+mod trees;
 mod walks;
 
 pub use lookups::{free_inode, is_directory};
@@ -26,4 +27,8 @@ pub use making::{Place, place_to_make};
 pub use refusals::Refusal;
 pub use removing::{Entry, directory_to_remove, entry_to_unlink};
 pub use renaming::{Moving, entries_to_rename};
+pub use trees::{TreePlace, tree_places};
 pub use walks::{child, has_entries, node_at, parent_of, walk_down};
+
+#[cfg(test)]
+mod tests;

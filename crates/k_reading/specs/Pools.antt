@@ -4,6 +4,8 @@ use Rattle.std.specs.List.{list_any}
 use Rattle.extent_words.specs.declared.Extent.{Extent}
 use Rattle.extent_words.specs.Extents.{covers}
 use Rattle.disk_places.specs.Places.{Geometry, first_data, data_blocks, is_data_block}
+use Rattle.disk_rules.specs.Volume.{Volume}
+use Rattle.volume_uses.specs.Uses.{HasAllMaps}
 use Rattle.block_pool.specs.FreeSets.{FreeSet, is_free_at, is_among, LiesWithin}
 
 -- a chain or an extent of a map names the block
@@ -20,6 +22,13 @@ pub record IsPoolOf (g : Geometry) (chains : List (List ℕ)) (maps : List (List
   pub first : pool.first ≡ first_data g
   pub count : length pool.marks ≡ data_blocks g
   pub free : (b : ℕ) → is_free_at pool b ≡ (is_data_block g b && not (is_named chains maps b))
+
+-- a volume with this geometry, these chains and these maps, one for each of its inodes
+pub record IsOfTables (g : Geometry) (chains : List (List ℕ)) (maps : List (List Extent)) (v : Volume) : Type 0 where
+  pub geometry : v.geometry ≡ g
+  pub same_chains : v.chains ≡ chains
+  pub same_maps : v.maps ≡ maps
+  pub all : HasAllMaps v
 
 -- a block as an extent, and all extents of chains and maps
 abbrev pub one_block : ℕ → Extent

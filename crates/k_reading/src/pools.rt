@@ -1,6 +1,9 @@
 //! The data blocks that nothing names.
-ghost use Rattle.std.specs.Prelude.{◌≡◌, ◌++◌, IfOk, OnOk, flat_map, map};
-ghost use Rattle.k_reading.specs.Pools.{one_block, used_extents, AreInData, IsPoolOf};
+ghost use Rattle.std.specs.Prelude.{◌≡◌, ◌++◌, ℕ, IfOk, OnOk, flat_map, map};
+ghost use Rattle.block_pool.specs.FreeSets.{is_free_at};
+ghost use Rattle.disk_rules.specs.Volume.{Volume};
+ghost use Rattle.k_reading.specs.Pools.{one_block, used_extents, AreInData, IsOfTables, IsPoolOf};
+ghost use Rattle.volume_uses.specs.Uses.{is_unused};
 
 use crate::maps::Blocks;
 use block_pool::Pool;
@@ -56,9 +59,8 @@ fn used_extents(
     Ok(used)
 }
 
-/// The pool of the data blocks, of which those are free that no chain and no extent of a map names.
-/// Chains and maps lie in data blocks.
-pub fn free_blocks(
+// The pool of the data blocks, of which those are free that these chains and maps do not use.
+fn pool_without(
     alloc: Global,
     geometry: &Geometry,
     chains: &[Blocks],
@@ -69,5 +71,23 @@ pub fn free_blocks(
 {
     let used = used_extents(alloc, chains, maps)?;
     let pool = Pool::new(alloc, geometry.first_data(), geometry.data_blocks(), &used)?;
+    Ok(pool)
+}
+
+/// The pool of the data blocks, of which those are free that no chain and no extent of a map names.
+/// Chains and maps lie in data blocks. In a volume with these chains and maps the free blocks are those
+/// that have no owner.
+pub fn free_blocks(
+    alloc: Global,
+    geometry: &Geometry,
+    chains: &[Blocks],
+    maps: &[ExtentMap],
+) -> Result<Pool, AllocError>
+    requires in_data { AreInData geometry.now chains.now maps.now }
+    ensures pool { IfOk result (λ pool. IsPoolOf geometry.now chains.now maps.now pool) }
+    ensures volume { IfOk result (λ pool. (v : Volume) → IsOfTables geometry.now chains.now maps.now v
+        → (b : ℕ) → is_free_at pool b ≡ is_unused v b) }
+{
+    let pool = pool_without(alloc, geometry, chains, maps)?;
     Ok(pool)
 }

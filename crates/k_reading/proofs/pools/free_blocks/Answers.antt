@@ -1,14 +1,6 @@
-use Rattle.std.proofs.Common.{arith, ◌∙◌}
-use Rattle.k_reading.proofs.UsedBlocks.{used-lie-along, pool-unused}
+use Rattle.k_reading.proofs.UsedOwners.{pool-volume}
 use Rattle.k_reading.proofs.pools.free_blocks.Goals as goal
 
-pub new-requires-clause-within : goal.new-requires-clause-within
-new-requires-clause-within c =
-    used-lie-along c.args.geometry.now c.args.chains.now c.args.maps.now c.deref.result.now c.first_data.result c.data_blocks.result
-    c.requires.in_data (c.deref.ensures.value ∙ c.in_ok-used.ensures) c.first_data.ensures.number c.data_blocks.ensures.number
-
-pub returns : goal.returns
-returns c =
-    pool-unused c.args.geometry.now c.args.chains.now c.args.maps.now c.deref.result.now c.first_data.result c.data_blocks.result c.in_ok-pool.pool
-    (omega (arith, c.first_data.ensures.in_range.least_data)) (c.deref.ensures.value ∙ c.in_ok-used.ensures)
-    c.first_data.ensures.number c.data_blocks.ensures.number c.in_ok-pool.ensures
+pub returns-clause-volume : goal.returns-clause-volume
+returns-clause-volume c = λ v of b.
+    pool-volume c.args.geometry.now c.args.chains.now c.args.maps.now c.in_ok-pool.pool v c.in_ok-pool.ensures of b

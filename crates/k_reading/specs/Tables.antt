@@ -12,7 +12,8 @@ pub record IsFound (f : Words) (size : ℕ) (x : Inode) (blocks : List ℕ) (es 
   pub none : HasNoChain f size x.root x.extents → (blocks ≡ []) × (es ≡ [])
 
 -- so it is of the first n inodes
-pub record AreFound (f : Words) (size : ℕ) (inodes : List Inode) (n : ℕ) (chains : List (List ℕ)) (maps : List (List Extent)) : Type 0 where
+pub record AreFound (f : Words) (size : ℕ) (inodes : List Inode) (n : ℕ) (chains : List (List ℕ)) (maps : List (List Extent))
+    : Type 0 where
   pub chain_count : length chains ≡ n
   pub map_count : length maps ≡ n
   pub each : (ino : ℕ) → ino < n

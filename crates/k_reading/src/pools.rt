@@ -75,8 +75,8 @@ fn pool_without(
 }
 
 /// The pool of the data blocks, of which those are free that no chain and no extent of a map names.
-/// Chains and maps lie in data blocks. In a volume with these chains and maps the free blocks are those
-/// that have no owner.
+/// Chains and maps lie in data blocks. In a volume with these chains and maps the free blocks are
+/// those that have no owner.
 pub fn free_blocks(
     alloc: Global,
     geometry: &Geometry,
@@ -85,8 +85,8 @@ pub fn free_blocks(
 ) -> Result<Pool, AllocError>
     requires in_data { AreInData geometry.now chains.now maps.now }
     ensures pool { IfOk result (λ pool. IsPoolOf geometry.now chains.now maps.now pool) }
-    ensures volume { IfOk result (λ pool. (v : Volume) → IsOfTables geometry.now chains.now maps.now v
-        → (b : ℕ) → is_free_at pool b ≡ is_unused v b) }
+    ensures volume { IfOk result (λ pool. (v : Volume)
+        → IsOfTables geometry.now chains.now maps.now v → (b : ℕ) → is_free_at pool b ≡ is_unused v b) }
 {
     let pool = pool_without(alloc, geometry, chains, maps)?;
     Ok(pool)

@@ -44,7 +44,8 @@ new_rows space path = row (exists_at space path) Errno.EEXIST ∷ room_rows spac
 
 -- a node is a directory without entries
 abbrev pub removal_rows : Space → ℕ → List (Option Outcome)
-removal_rows space node = row (not (space.directory node)) Errno.ENOTDIR ∷ row (has_entries space.entries node) Errno.ENOTEMPTY ∷ []
+removal_rows space node =
+    row (not (space.directory node)) Errno.ENOTDIR ∷ row (has_entries space.entries node) Errno.ENOTEMPTY ∷ []
 
 -- what stands at a path, by its node
 abbrev pub is_directory_node : Space → Option ℕ → Bool
@@ -59,7 +60,12 @@ has_entries_node space node = has_entries space.entries (unwrap_or node 0)
 -- the paths of a rename lead to a node and to a directory
 abbrev pub ends_rows : Space → List (List ℕ) → List (List ℕ) → List (Option Outcome)
 ends_rows space p q =
-    too_long_row space p ∷ too_long_row space q ∷ walk_row space p ∷ row (not (exists_at space p)) Errno.ENOENT ∷ walk_row space q ∷ []
+    too_long_row space p
+    ∷ too_long_row space q
+    ∷ walk_row space p
+    ∷ row (not (exists_at space p)) Errno.ENOENT
+    ∷ walk_row space q
+    ∷ []
 
 -- a directory may go to a path where another node stands, or none; and a file
 abbrev pub directory_kind_rows : Space → List (List ℕ) → List (List ℕ) → ℕ → Option ℕ → List (Option Outcome)
@@ -76,4 +82,6 @@ file_kind_rows space target = row (is_directory_node space target) Errno.EISDIR 
 -- the node at one path is not the node at the other, and may go there
 abbrev pub moving_rows : Space → List (List ℕ) → List (List ℕ) → List (Option Outcome)
 moving_rows space p q =
-    idle_row (exists_at space q && (number_at space p == number_at space q)) Reply.Ok ∷ first (rename_kind_rows space p q) ∷ []
+    idle_row (exists_at space q && (number_at space p == number_at space q)) Reply.Ok
+    ∷ first (rename_kind_rows space p q)
+    ∷ []

@@ -31,17 +31,20 @@ pub record IsStanding (rows : Rows) (place : TreePlace) : Type 0 where
 -- the byte order of their texts.
 pub record IsTree (rows : Rows) (places : List TreePlace) : Type 0 where
   pub each : All (IsStanding rows) places
-  pub once : (path : List (List ℕ)) → count_by (is_at path) places ≡ (if nat_le (length path) longest_path && has_path rows path then 1 else 0)
+  pub once : (path : List (List ℕ))
+      → count_by (is_at path) places ≡ (if nat_le (length path) longest_path && has_path rows path then 1 else 0)
   pub sorted : IsSortedByKey (λ (place : TreePlace). place.text) (slice_cmp nat_cmp) places
 
 -- the same of the paths of n names, and of fewer than n, in any order
 pub record IsLevel (rows : Rows) (n : ℕ) (places : List TreePlace) : Type 0 where
   pub each : All (IsStanding rows) places
-  pub once : (path : List (List ℕ)) → count_by (is_at path) places ≡ (if (length path == n) && has_path rows path then 1 else 0)
+  pub once : (path : List (List ℕ))
+      → count_by (is_at path) places ≡ (if (length path == n) && has_path rows path then 1 else 0)
 
 pub record AreShort (rows : Rows) (n : ℕ) (places : List TreePlace) : Type 0 where
   pub each : All (IsStanding rows) places
-  pub once : (path : List (List ℕ)) → count_by (is_at path) places ≡ (if nat_lt (length path) n && has_path rows path then 1 else 0)
+  pub once : (path : List (List ℕ))
+      → count_by (is_at path) places ≡ (if nat_lt (length path) n && has_path rows path then 1 else 0)
 
 -- the place of a name below another
 abbrev pub child_in : Rows → ℕ → List ℕ → ℕ

@@ -1,0 +1,8 @@
+pub mod ChildNames
+pub mod Entries
+pub mod Heights
+pub mod PathLists
+pub mod Rooms
+pub mod RowFacts
+pub mod TreeLaws
+pub mod WalkStops

@@ -1,4 +1,3 @@
-pub mod Members
 pub mod Order
 pub mod Begins
 pub mod TreeLaws

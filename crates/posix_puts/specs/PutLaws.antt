@@ -1,6 +1,6 @@
 -- What an accepted write leaves.
-use Rattle.std.specs.Prelude.{◌≡◌, ℕ, List, length, Option, Some, None, refl}
-use Rattle.std.proofs.Common.{sym, ◌∙◌, ap, subst}
+use Rattle.std.specs.Prelude.{◌≡◌, ℕ, List, Option, Some, None, refl}
+use Rattle.std.proofs.Common.{subst}
 use Rattle.posix_types.specs.declared.call.Call.{Call}
 use Rattle.posix_types.specs.declared.call.Who.{Who}
 use Rattle.posix_types.specs.declared.handle.Handle.{Handle}
@@ -33,16 +33,16 @@ LeavesWhole-put s who (Call.Write h x) p is =
     let says = put_at-Some s who h (write_start s who h) x p is in
     let none = rows-from_Accepts s who h (write_start s who h) x says.0 in
     subst (λ (q : Put). LeavesWhole s (step s who (Call.Write h x)).state q.node (put_bytes s q)) says.1
-        (leaves_write s who h x (first (write_rows s who h (write_start s who h) x)) none)
+    (leaves_write s who h x (first (write_rows s who h (write_start s who h) x)) none)
 LeavesWhole-put s who (Call.Pwrite h start x) p is =
     let says = put_at-Some s who h start x p is in
     let none = rows-from_Accepts s who h start x says.0 in
     subst (λ (q : Put). LeavesWhole s (step s who (Call.Pwrite h start x)).state q.node (put_bytes s q)) says.1
-        (leaves_pwrite s who h start x (first (write_rows s who h start x)) none)
+    (leaves_pwrite s who h start x (first (write_rows s who h start x)) none)
 LeavesWhole-put s who call p is = cc
 
 -- and a call that puts whole bytes leaves those
 pub LeavesWhole-step : (s : State) (who : Who) (call : Call) (node : ℕ) (whole : List ℕ) → PutsWhole s who call node whole → LeavesWhole s (step s who call).state node whole
 LeavesWhole-step s who call node whole puts =
     subst (λ n. LeavesWhole s (step s who call).state n whole) puts.node_is
-        (subst (λ bytes. LeavesWhole s (step s who call).state puts.put.node bytes) puts.whole_is (LeavesWhole-put s who call puts.put puts.is))
+    (subst (λ bytes. LeavesWhole s (step s who call).state puts.put.node bytes) puts.whole_is (LeavesWhole-put s who call puts.put puts.is))

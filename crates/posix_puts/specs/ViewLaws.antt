@@ -1,7 +1,7 @@
 -- A write puts the same where what it looks at stayed.
 use Rattle.std.specs.Prelude.{◌≡◌, ◌≤◌, ℕ, ◌+◌, Bool, false, cond, List, length, Option, Some, refl}
 use Rattle.std.specs.Option.{option_map_or}
-use Rattle.std.proofs.Common.{sym, ◌∙◌, ap, subst}
+use Rattle.std.proofs.Common.{◌∙◌, ap, subst}
 use Rattle.posix_types.specs.declared.call.Call.{Call}
 use Rattle.posix_types.specs.declared.call.Mode.{Mode}
 use Rattle.posix_types.specs.declared.call.Who.{Who}
@@ -10,9 +10,8 @@ use Rattle.posix_words.specs.declared.open.Description.{Description}
 use Rattle.posix_words.specs.Bytes.{overwritten}
 use Rattle.posix_words.specs.Nodes.{bytes_of, node_at}
 use Rattle.posix_words.specs.Open.{may_write}
-use Rattle.posix_words.specs.Outcomes.{first}
 use Rattle.posix_words.specs.Room.{write_need}
-use Rattle.posix_spec.specs.FileRows.{appends, content, file_number, offset_of, write_rows, write_start}
+use Rattle.posix_spec.specs.FileRows.{appends, content, file_number, offset_of, write_start}
 use Rattle.posix_spec.specs.Put.{Put, put_at, put_by, put_unless}
 use Rattle.posix_spec.specs.State.{room, State}
 use Rattle.posix_facts.specs.RowLaws.{Accepts, put_at-Some, rows-from_Accepts}

@@ -1,0 +1,4 @@
+pub mod Jobs
+pub mod Promised
+pub mod Shown
+pub mod Stands

@@ -1,5 +1,5 @@
 -- What the World promises of a power loss.
-use Rattle.std.specs.Prelude.{◌≡◌, ◌⊎◌, ℕ, List, [], ◌∷◌, ◌++◌, map, Option}
+use Rattle.std.specs.Prelude.{◌≡◌, ◌⊎◌, ℕ, ◌<◌, List, [], ◌∷◌, ◌++◌, length, map, Option}
 use Rattle.pm_words.specs.Words.{Words}
 use Rattle.disk_lines.specs.declared.Draft.{Draft}
 use Rattle.disk_rules.specs.Content.{found}
@@ -17,9 +17,10 @@ use Rattle.posix_puts.specs.Puts.{PutsWhole}
 use Rattle.world_rules.specs.Jobs.{begun_of, Job, Valid}
 use Rattle.world_rules.specs.Shown.{AreFilled, IsTreeOfContent, landed_pairs, SameButLent, ShowsClaims}
 
--- a job acts: its call puts whole bytes into a file, and the next state has of them what is found
+-- a job acts: its call puts whole bytes into a file that is there, and the next state has of them what is found
 pub record Acts (s : State) (j : Job) (next : State) : Type 0 where
   pub node : ℕ
+  pub there : node < length s.nodes
   pub puts : PutsWhole s j.who j.call node j.whole
   pub part : IsPartOf (bytes_of (node_at s.nodes node)) j.whole j.found
   pub next_is : next ≡ with_bytes (after_call s (begun_of j)) node j.found

@@ -67,15 +67,14 @@ NodeStands v live f ino File Node.Directory = ⊥
 NodeStands v live f ino File (Node.File file) = FileStands v live f ino file.bytes
 
 -- Names. The root is node 0; inodes in use have nodes, no two the same; what a name leads to in the volume it leads to in
--- the state; names lead from inodes in use to inodes in use; and each entry of the state is a name of the volume.
+-- the state; and each entry of the state is a name of the volume. That names lead from inodes in use to inodes in use is
+-- a rule of a sane volume.
 pub record NamesStand (v : Volume) (numbers : List ℕ) (s : State) : Type 0 where
   pub root : number numbers 0 ≡ 0
   pub root_used : IsUsed v 0
   pub within : (ino : ℕ) → IsUsed v ino → number numbers ino < length s.nodes
   pub one : (i j : ℕ) → IsUsed v i → IsUsed v j → number numbers i ≡ number numbers j → i ≡ j
   pub names : (p : ℕ) (name : List ℕ) → IsUsed v p → option_map (number numbers) (child_named v.names p name) ≡ child_of s.entries (number numbers p) name
-  pub children : (p : ℕ) (name : List ℕ) (c : ℕ) → child_named v.names p name ≡ Some c → IsUsed v c
-  pub row_parents : (p : ℕ) (name : List ℕ) (c : ℕ) → child_named v.names p name ≡ Some c → IsUsed v p
   pub entry_parents : (n : ℕ) (name : List ℕ) (m : ℕ) → child_of s.entries n name ≡ Some m → (p : ℕ) × IsUsed v p × (number numbers p ≡ n)
   pub distinct : AreDistinct s.entries
 

@@ -1,1 +1,4 @@
 pub mod TreeRules
+pub mod Latest
+pub mod Contents
+pub mod Landed

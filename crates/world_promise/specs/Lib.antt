@@ -2,3 +2,4 @@ pub mod TreeRules
 pub mod Latest
 pub mod Contents
 pub mod Landed
+pub mod Beside

@@ -3,3 +3,5 @@ pub mod Latest
 pub mod Contents
 pub mod Landed
 pub mod Beside
+pub mod JobLaws
+pub mod Lent

@@ -1,8 +1,8 @@
 -- A volume that stands for a state has the content of that state; and the content depends on which entries are live, not
 -- on how they are listed.
-use Rattle.std.specs.Prelude.{◌≡◌, ◌⊎◌, ◌<◌, ℕ, ◌+◌, ◌/◌, ◌==◌, ◌&&◌, Bool, true, false, List, [], ◌∷◌, length, map, filter, Option, Some, None, option_and_then, option_map, slice_index, refl}
+use Rattle.std.specs.Prelude.{◌≡◌, ◌<◌, ℕ, ◌/◌, ◌==◌, ◌&&◌, Bool, List, [], ◌∷◌, length, map, filter, Option, Some, None, option_and_then, option_map, refl}
 use Rattle.std.specs.List.{range_with_len}
-use Rattle.std.proofs.Common.{arith, ap, ◌∙◌, sym, subst, inl, inr}
+use Rattle.std.proofs.Common.{arith, ap, ◌∙◌, sym, subst}
 use Rattle.std.proofs.lemmas.List.{ext_get_or}
 use Rattle.std.proofs.lemmas.List.FromFn.{get_or-map-range_with_len, length-map-range_with_len}
 use Rattle.std.proofs.lemmas.Option.{same_Some}
@@ -15,7 +15,6 @@ use Rattle.disk_lines.specs.Names.{child_named}
 use Rattle.disk_lines.specs.Names as lines
 use Rattle.disk_rules.specs.Content as shown
 use Rattle.disk_rules.specs.Content.{byte_in, bytes_of_file, disk_by, disk_of, entry_of_block, found, HasBytes, IsDirectory, node_by, size_by, size_of}
-use Rattle.disk_rules.specs.Live.{latest}
 use Rattle.disk_rules.specs.Volume.{inode, Volume}
 use Rattle.posix_types.specs.declared.tree.TreeEntry.{TreeEntry}
 use Rattle.posix_types.specs.declared.tree.TreeNode.{TreeNode}
@@ -24,15 +23,13 @@ use Rattle.posix_words.specs.Names.{child_of}
 use Rattle.posix_words.specs.Nodes.{node_at}
 use Rattle.posix_words.specs.Places.{tree_node}
 use Rattle.posix_spec.specs.State.{State}
-use Rattle.posix_spec.specs.Tree.{tree}
 use Rattle.list_facts.specs.Filters.{filter-both, filter-In, In-filter}
-use Rattle.list_facts.specs.Members.{In}
 use Rattle.posix_trees.specs.Paths.{stands_at, walk_down}
-use Rattle.posix_trees.specs.TreeOf.{IsTreeOf, IsTreeOf-same, IsTreeOf-tree}
+use Rattle.posix_trees.specs.TreeOf.{IsTreeOf}
 use Rattle.world_rules.specs.Shown.{IsTreeOfContent, shown_as}
-use Rattle.world_rules.specs.Stands.{Consecutive, entries_of, FileStands, is_used, IsUsed, NamesStand, NodesStand, NodeStands, number, Stands}
-use Rattle.world_promise.specs.Latest.{latest-same_members, OneOrderEach, OneOrderEach-Consecutive, OneOrderEach-filter, SameMembers}
-use Rattle.world_promise.specs.TreeRules.{child_used, IsTreeLike-names}
+use Rattle.world_rules.specs.Stands.{entries_of, FileStands, IsUsed, NodeStands, number, Stands}
+use Rattle.world_promise.specs.Latest.{latest-same_members, OneOrderEach, OneOrderEach-filter, SameMembers}
+use Rattle.world_promise.specs.TreeRules.{child_used}
 
 -- The content by the live entries.
 

@@ -1,14 +1,13 @@
 -- A job that lands, or does not: the world of the other jobs is valid.
-use Rattle.std.specs.Prelude.{◌≡◌, ◌≢◌, ◌⊎◌, ◌<◌, ◌≤◌, ℕ, ◌+◌, ◌/◌, ◌==◌, ◌&&◌, nat_lt, Bool, true, false, List, [], ◌∷◌, ◌++◌, length, map, filter, Option, Some, None, slice_index, sum_by, refl}
+use Rattle.std.specs.Prelude.{◌≡◌, ◌≢◌, ◌≤◌, ℕ, ◌+◌, ◌/◌, ◌==◌, ◌&&◌, nat_lt, true, List, [], ◌∷◌, ◌++◌, length, map, filter, sum_by, refl}
 use Rattle.std.proofs.Common.{arith, ap, ◌∙◌, sym, subst, inl, inr}
 use Rattle.std.proofs.lemmas.Bool.{and_parts}
 use Rattle.std.proofs.lemmas.List.{get_or-set_other, map-append}
 use Rattle.std.proofs.lemmas.List.Sums.{sum_by-cons}
 use Rattle.pm_words.specs.Words.{Words}
-use Rattle.extent_words.specs.Extents.{is_within}
 use Rattle.disk_lines.specs.declared.Draft.{Draft}
 use Rattle.disk_lines.specs.declared.Kind.TheVariants.{File}
-use Rattle.disk_rules.specs.Content.{byte_in, disk_of}
+use Rattle.disk_rules.specs.Content.{byte_in}
 use Rattle.disk_rules.specs.Live.{is_file, is_live, is_of_file}
 use Rattle.disk_rules.specs.Rules.{AreApart}
 use Rattle.disk_rules.specs.Volume.{inode, Volume}
@@ -18,13 +17,13 @@ use Rattle.posix_spec.specs.Run.{after_call, Begun}
 use Rattle.posix_spec.specs.State.{room, State}
 use Rattle.crash_spec.specs.Sync.{IsPartOf, with_bytes}
 use Rattle.list_facts.specs.Filters.{filter-more}
-use Rattle.list_facts.specs.Members.{In, pushed-In}
-use Rattle.posix_puts.specs.Puts.{LeavesWhole, PutsWhole, with_whole}
+use Rattle.list_facts.specs.Members.{pushed-In}
+use Rattle.posix_puts.specs.Puts.{LeavesWhole, with_whole}
 use Rattle.posix_puts.specs.ViewLaws.{need_of-kept, PutsWhole-kept}
-use Rattle.posix_puts.specs.Views.{AreAfforded, KeepsView, need_of}
+use Rattle.posix_puts.specs.Views.{KeepsView, need_of}
 use Rattle.world_rules.specs.Jobs.{ApartFrom, AreApartJobs, begun_of, HoldsWhole, Job, JobsStand, JobStands, live_claims, Valid}
 use Rattle.world_rules.specs.Promised.{Acts}
-use Rattle.world_rules.specs.Stands.{entries_of, is_used, IsUsed, number, Stands}
+use Rattle.world_rules.specs.Stands.{is_used, IsUsed, number, Stands}
 use Rattle.world_promise.specs.Beside.{Fits-after, KeepsView-other, LeavesWhole-bytes, room-after}
 use Rattle.world_promise.specs.Landed.{CanLand, disk-other, entries-other, kind_file, Stands-landed}
 

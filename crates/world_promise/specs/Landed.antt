@@ -1,18 +1,18 @@
 -- An entry that lands: the volume with one more live entry stands for the state with the bytes that its blocks hold.
-use Rattle.std.specs.Prelude.{◌≡◌, ◌≢◌, ◌⊎◌, ◌<◌, ◌≤◌, ℕ, ◌+◌, ◌-◌, ◌*◌, ◌/◌, ◌%◌, ◌==◌, ◌&&◌, Bool, true, false, List, [], ◌∷◌, ◌++◌, length, filter, Option, Some, None, IsSome, slice_index, slice_set, refl}
+use Rattle.std.specs.Prelude.{◌≡◌, ◌≢◌, ◌⊎◌, ◌<◌, ◌≤◌, ℕ, ◌+◌, ◌-◌, ◌*◌, ◌/◌, ◌%◌, ◌==◌, ◌&&◌, Bool, true, false, List, [], ◌∷◌, ◌++◌, length, filter, Option, Some, None, IsSome, slice_index, refl}
 use Rattle.std.proofs.Common.{arith, ap, ◌∙◌, sym, subst, inl, inr}
 use Rattle.std.proofs.lemmas.Bool.{and_from, and_left, and_right, cases_Bool, cases_eq, ne_eqb}
 use Rattle.std.proofs.lemmas.Bool.Decides.{Decides-eqb, nat_tests}
 use Rattle.std.proofs.lemmas.List.{get_or-set_other, get_or-set_same, length-set}
-use Rattle.pm_words.specs.Words.{byte_of, Words}
-use Rattle.extent_words.specs.Extents.{disk_at, is_within}
+use Rattle.pm_words.specs.Words.{Words}
+use Rattle.extent_words.specs.Extents.{is_within}
 use Rattle.disk_lines.specs.declared.Draft.{Draft}
 use Rattle.disk_lines.specs.declared.Kind.{Kind}
 use Rattle.disk_lines.specs.declared.Kind.TheVariants.{Free, Directory, File, Staging}
 use Rattle.disk_rules.specs.Content.{byte_in, disk_by, disk_of, size_by, size_of}
 use Rattle.disk_rules.specs.Live.{is_file, latest}
 use Rattle.disk_rules.specs.Rules.{AreApart, HasStagingBlocks}
-use Rattle.disk_rules.specs.Volume.{extents, inode, Volume}
+use Rattle.disk_rules.specs.Volume.{inode, Volume}
 use Rattle.posix_words.specs.declared.nodes.Node.{Node}
 use Rattle.posix_words.specs.Lookups.{AreDistinct}
 use Rattle.posix_words.specs.Names.{child_of}
@@ -22,7 +22,7 @@ use Rattle.list_facts.specs.Filters.{filter-In, filter-more, filter-same, In-fil
 use Rattle.list_facts.specs.Members.{In, pushed-In}
 use Rattle.posix_puts.specs.Puts.{LeavesWhole, with_whole}
 use Rattle.world_rules.specs.Jobs.{HoldsWhole, staged_block}
-use Rattle.world_rules.specs.Stands.{Consecutive, entries_of, FileStands, is_used, IsUsed, LogStands, NamesStand, NodesStand, NodeStands, number, Stands}
+use Rattle.world_rules.specs.Stands.{Consecutive, entries_of, FileStands, is_used, IsUsed, LogStands, NamesStand, NodeStands, number, Stands}
 use Rattle.world_promise.specs.Latest.{AreBelow, AreBelow-Consecutive, Consecutive-append, latest-append_last}
 
 -- Files that stay.

@@ -1,28 +1,26 @@
 -- Words of lent blocks change: no file that stands has such a block.
-use Rattle.std.specs.Prelude.{◌≡◌, ◌⊎◌, ◌<◌, ℕ, ◌+◌, ◌-◌, ◌/◌, ◌%◌, ◌==◌, ◌&&◌, Bool, true, false, List, [], ◌∷◌, length, filter, Option, Some, None, slice_index, refl}
+use Rattle.std.specs.Prelude.{◌≡◌, ◌<◌, ℕ, ◌+◌, ◌-◌, ◌/◌, ◌%◌, ◌==◌, ◌&&◌, Bool, true, false, List, [], ◌∷◌, length, filter, Option, Some, None, refl}
 use Rattle.std.proofs.Common.{arith, ap, ◌∙◌, sym, subst, inl, inr}
 use Rattle.std.proofs.lemmas.Bool.{and_parts, cases_lt}
 use Rattle.std.proofs.lemmas.List.{get_or_past}
 use Rattle.pm_words.specs.Words.{Words}
-use Rattle.disk_places.specs.Places.{is_data_block}
 use Rattle.extent_words.specs.Extents.{disk_at, is_within}
 use Rattle.extent_facts.specs.Covers.{covers-disk_at}
 use Rattle.disk_lines.specs.declared.Draft.{Draft}
 use Rattle.disk_lines.specs.declared.Kind.{Kind}
-use Rattle.disk_lines.specs.declared.Kind.TheVariants.{Free, Directory, File, Staging}
-use Rattle.disk_rules.specs.Content.{byte_in, disk_by, disk_of, entry_of_block, size_of}
+use Rattle.disk_lines.specs.declared.Kind.TheVariants.{Free, Staging}
+use Rattle.disk_rules.specs.Content.{byte_in, disk_by, disk_of, entry_of_block}
 use Rattle.disk_rules.specs.Rules.{AreApart, file_blocks_of, IsNamedOnce}
 use Rattle.disk_rules.specs.Volume.{extents, free_inode, inode, Volume}
 use Rattle.volume_uses.specs.OwnerLaws.{IsOnePlace, one_owner}
 use Rattle.volume_uses.specs.PoolLaws.{covered-in_data}
-use Rattle.posix_words.specs.declared.nodes.Node.{Node}
 use Rattle.posix_words.specs.Nodes.{node_at}
 use Rattle.posix_spec.specs.State.{State}
 use Rattle.list_facts.specs.Filters.{filter-In}
 use Rattle.list_facts.specs.Members.{In}
-use Rattle.world_rules.specs.Jobs.{ApartFrom, IsStagedIn, Job, JobsStand, JobStands, live_claims, staged_block, Valid}
+use Rattle.world_rules.specs.Jobs.{IsStagedIn, Job, JobsStand, live_claims, Valid}
 use Rattle.world_rules.specs.Shown.{IsLent, SameButLent}
-use Rattle.world_rules.specs.Stands.{is_used, IsSane, IsUsed, LogStands, NodeStands, number, Stands}
+use Rattle.world_rules.specs.Stands.{is_used, IsSane, IsUsed, LogStands, number, Stands}
 use Rattle.world_promise.specs.JobLaws.{live_used}
 use Rattle.world_promise.specs.Landed.{NodeStands-same, SameFile, within_bounds}
 use Rattle.world_promise.specs.Latest.{latest-In}

@@ -5,3 +5,6 @@ pub mod Landed
 pub mod Beside
 pub mod JobLaws
 pub mod Lent
+pub mod Ends
+pub mod Laws
+pub mod Promise

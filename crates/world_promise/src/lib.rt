@@ -8,3 +8,20 @@
 //!
 //! Stands on `world_rules`, and on the facts of volumes, of names and of calls.
 #![tactic(auto)]
+
+ghost use Rattle.world_promise.specs.Laws.{HasTree, KeepsStrictPromise, KeepsSyncPromise};
+
+/// In strict mode the tree of each image that shows a valid world is permitted.
+pub fn strict_mode_keeps_its_promise()
+    ensures { KeepsStrictPromise }
+{}
+
+/// In sync mode the tree of each image that shows a valid world is permitted.
+pub fn sync_mode_keeps_its_promise()
+    ensures { KeepsSyncPromise }
+{}
+
+/// The content of an image that shows a valid world has a tree.
+pub fn an_image_has_a_tree()
+    ensures { HasTree }
+{}

@@ -9,7 +9,7 @@ use Rattle.disk_rules.specs.Content.{found}
 use Rattle.disk_rules.specs.Live.{entry_in, is_live, live_entries, valid_entries}
 use Rattle.disk_rules.specs.Volume.{Volume}
 use Rattle.posix_types.specs.declared.tree.TreeEntry.{TreeEntry}
-use Rattle.posix_spec.specs.Run.{after_call}
+use Rattle.posix_spec.specs.Run.{after_call, Begun}
 use Rattle.posix_spec.specs.State.{State}
 use Rattle.posix_spec.specs.Tree.{tree}
 use Rattle.crash_spec.specs.Strict.{StrictFrom}
@@ -129,3 +129,16 @@ Sync-LeftBy s (j ∷ jobs) left (inl (next, acts, rest)) =
       },
       Sync-LeftBy next jobs left rest,
     ))
+
+-- A call that lost its power before it acted is the last of the unfinished ones.
+
+pub StrictFrom-lost : (s : State) (unfinished : List Begun) (c : Begun) (left : List TreeEntry) → StrictFrom s unfinished left → StrictFrom s (unfinished ++ c ∷ []) left
+StrictFrom-lost s [] c left is = inr is
+StrictFrom-lost s (d ∷ unfinished) c left (inl acted_it) = inl (StrictFrom-lost (after_call s d) unfinished c left acted_it)
+StrictFrom-lost s (d ∷ unfinished) c left (inr dropped) = inr (StrictFrom-lost s unfinished c left dropped)
+
+pub SyncFrom-lost : (s : State) (unfinished : List Begun) (c : Begun) (left : List TreeEntry) → SyncFrom s unfinished left → SyncFrom s (unfinished ++ c ∷ []) left
+SyncFrom-lost s [] c left is = inr (inr is)
+SyncFrom-lost s (d ∷ unfinished) c left (inl acted_it) = inl (SyncFrom-lost (after_call s d) unfinished c left acted_it)
+SyncFrom-lost s (d ∷ unfinished) c left (inr (inl part)) = inr (inl (part.0, part.1, SyncFrom-lost part.0 unfinished c left part.2))
+SyncFrom-lost s (d ∷ unfinished) c left (inr (inr dropped)) = inr (inr (SyncFrom-lost s unfinished c left dropped))

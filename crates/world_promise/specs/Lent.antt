@@ -4,6 +4,7 @@ use Rattle.std.proofs.Common.{arith, ap, ◌∙◌, sym, subst, inl, inr}
 use Rattle.std.proofs.lemmas.Bool.{and_parts, cases_lt}
 use Rattle.std.proofs.lemmas.List.{get_or_past}
 use Rattle.pm_words.specs.Words.{Words}
+use Rattle.disk_places.specs.Places.{is_data_block}
 use Rattle.extent_words.specs.Extents.{disk_at, is_within}
 use Rattle.extent_facts.specs.Covers.{covers-disk_at}
 use Rattle.disk_lines.specs.declared.Draft.{Draft}
@@ -36,11 +37,14 @@ staging_below v ino kind = elim (cases_lt ino (length v.inodes)) [
       cc
 ]
 
--- a block of a map is named once
-pub once_named : (v : Volume) → IsSane v → (ino block b : ℕ) → ino < length v.inodes → disk_at (extents v ino) block ≡ Some b → IsNamedOnce v b
-once_named v sane ino block b below is =
+-- a block of a map is a data block, and named once
+pub in_data : (v : Volume) → IsSane v → (ino block b : ℕ) → ino < length v.inodes → disk_at (extents v ino) block ≡ Some b → is_data_block v.geometry b ≡ true
+in_data v sane ino block b below is =
     let within : ino < v.geometry.inodes = subst (λ n. ino < n) sane.inode_count below in
-    sane.kept.once b (covered-in_data v.geometry (file_blocks_of (inode v ino).kind) (extents v ino) b (sane.kept.in_data ino within) (covers-disk_at (extents v ino) block b is))
+    covered-in_data v.geometry (file_blocks_of (inode v ino).kind) (extents v ino) b (sane.kept.in_data ino within) (covers-disk_at (extents v ino) block b is)
+
+pub once_named : (v : Volume) → IsSane v → (ino block b : ℕ) → ino < length v.inodes → disk_at (extents v ino) block ≡ Some b → IsNamedOnce v b
+once_named v sane ino block b below is = sane.kept.once b (in_data v sane ino block b below is)
 
 -- The entry that has a file block: live, and the block is within it.
 record Covers (v : Volume) (live : List Draft) (block : ℕ) (d : Draft) : Type 0 where
@@ -81,7 +85,15 @@ unused_staged v live d sane log staging apart ino block b used is (k, below, at)
         | inr behind ↦ omega (arith, one.place, behind, below, bounds.0, bounds.1)
       ]
 
--- So no block of a file is lent.
+-- Blocks of files are data blocks.
+pub disk_of-in_data : (v : Volume) (live : List Draft) → IsSane v → LogStands v live → (ino block b : ℕ) → IsUsed v ino → disk_of v live ino block ≡ Some b → is_data_block v.geometry b ≡ true
+disk_of-in_data v live sane log ino block b used is = by (entry_of_block live ino block) refl is where
+  by : (o : Option Draft) → entry_of_block live ino block ≡ o → disk_by v o ino block ≡ Some b → is_data_block v.geometry b ≡ true
+  by None entry leads = in_data v sane ino block b (used_below v ino used) leads
+  by (Some e) entry leads =
+      in_data v sane e.staging (e.staging_block + (block - e.file_block)) b (staging_below v e.staging (log.staging e (covering v live ino block e entry).is)) leads
+
+-- And no block of a file is lent.
 pub not_lent : (v : Volume) (live : List Draft) (f : Words) (numbers : List ℕ) (s : State) (jobs : List Job) → IsSane v → LogStands v live → JobsStand v live f numbers s jobs
     → (ino block b : ℕ) → IsUsed v ino → disk_of v live ino block ≡ Some b → IsLent v jobs b → ⊥
 not_lent v live f numbers s [] sane log out ino block b used is lent = lent
@@ -99,7 +111,7 @@ keeps_bytes : (v : Volume) (live : List Draft) (f g : Words) (numbers : List ℕ
 keeps_bytes v live f g numbers s jobs sane log out same = record { each = λ ino block i used. by ino block i used (disk_of v live ino block) refl } where
   by : (ino block i : ℕ) → IsUsed v ino → (o : Option ℕ) → disk_of v live ino block ≡ o → byte_in g o i ≡ byte_in f o i
   by ino block i used None is = refl
-  by ino block i used (Some b) is = same b (i % 4096) (below_block i) (λ lent. not_lent v live f numbers s jobs sane log out ino block b used is lent)
+  by ino block i used (Some b) is = same b (i % 4096) (disk_of-in_data v live sane log ino block b used is) (below_block i) (λ lent. not_lent v live f numbers s jobs sane log out ino block b used is lent)
 
 Stands-bytes : (v : Volume) (live : List Draft) (f g : Words) (numbers : List ℕ) (s : State) → KeepsBytes v live f g → Stands v live f numbers s → Stands v live g numbers s
 Stands-bytes v live f g numbers s keeps stands = record {

@@ -1,6 +1,7 @@
 -- What an image shows of the log and of jobs, and the tree of a content.
-use Rattle.std.specs.Prelude.{◌≡◌, ◌⊎◌, ◌↔◌, ℕ, ◌+◌, ◌*◌, ◌<◌, List, [], ◌∷◌, Option, Some, None}
+use Rattle.std.specs.Prelude.{◌≡◌, ◌⊎◌, ◌↔◌, ℕ, ◌+◌, ◌*◌, ◌<◌, true, List, [], ◌∷◌, Option, Some, None}
 use Rattle.pm_words.specs.Words.{byte_of, Words}
+use Rattle.disk_places.specs.Places.{is_data_block}
 use Rattle.disk_lines.specs.declared.Draft.{Draft}
 use Rattle.disk_rules.specs.Content as shown
 use Rattle.disk_rules.specs.Content.{HasBytes, IsDirectory}
@@ -32,13 +33,14 @@ AreFilled v f (j ∷ jobs) [] = Unit {0}
 AreFilled v f (j ∷ jobs) (None ∷ landed) = AreFilled v f jobs landed
 AreFilled v f (j ∷ jobs) (Some slot ∷ landed) = HoldsWhole v f j.draft j.found × AreFilled v f jobs landed
 
--- the block is one of a job's, which is lent; the words are the same but in such blocks
+-- the block is one of a job's, which is lent; the words of data blocks are the same but in such blocks
 abbrev pub IsLent : Volume → List Job → ℕ → Type 0
 IsLent v [] b = ⊥
 IsLent v (j ∷ jobs) b = IsStagedIn v j.draft b ⊎ IsLent v jobs b
 
 abbrev pub SameButLent : Volume → List Job → Words → Words → Type 0
-SameButLent v jobs f g = (b i : ℕ) → i < 4096 → ¬ IsLent v jobs b → byte_of g (4096 * b + i) ≡ byte_of f (4096 * b + i)
+SameButLent v jobs f g =
+    (b i : ℕ) → is_data_block v.geometry b ≡ true → i < 4096 → ¬ IsLent v jobs b → byte_of g (4096 * b + i) ≡ byte_of f (4096 * b + i)
 
 -- a node of a tree as one of an image
 abbrev pub shown_as : TreeNode → shown.Node

@@ -9,7 +9,7 @@
 //! Stands on `world_rules`, and on the facts of volumes, of names and of calls.
 #![tactic(auto)]
 
-ghost use Rattle.world_promise.specs.Laws.{HasTree, KeepsStrictPromise, KeepsSyncPromise};
+ghost use Rattle.world_promise.specs.Laws.{HasTree, KeepsStrictPromise, KeepsSyncPromise, MayBeLost, MayBeLostInSync};
 
 /// In strict mode the tree of each image that shows a valid world is permitted.
 pub fn strict_mode_keeps_its_promise()
@@ -24,4 +24,10 @@ pub fn sync_mode_keeps_its_promise()
 /// The content of an image that shows a valid world has a tree.
 pub fn an_image_has_a_tree()
     ensures { HasTree }
+{}
+
+/// A call that lost its power before it acted may stand last among the unfinished ones.
+pub fn a_lost_call_may_stand_last()
+    ensures strict { MayBeLost }
+    ensures sync { MayBeLostInSync }
 {}

@@ -2,7 +2,7 @@
 use Rattle.std.specs.Prelude.{◌≡◌, ◌⊎◌, ℕ, ◌<◌, List, [], ◌∷◌, ◌++◌, length, Option}
 use Rattle.pm_words.specs.Words.{Words}
 use Rattle.disk_lines.specs.declared.Draft.{Draft}
-use Rattle.disk_rules.specs.Content.{found}
+use Rattle.disk_rules.specs.Content.{found, Node}
 use Rattle.disk_rules.specs.Live.{live_entries}
 use Rattle.disk_rules.specs.Volume.{Volume}
 use Rattle.posix_types.specs.declared.tree.TreeEntry.{TreeEntry}
@@ -13,7 +13,7 @@ use Rattle.posix_spec.specs.Tree.{tree}
 use Rattle.crash_spec.specs.Sync.{IsPartOf, with_bytes}
 use Rattle.posix_puts.specs.Puts.{PutsWhole}
 use Rattle.world_rules.specs.Jobs.{begun_of, Job}
-use Rattle.world_rules.specs.Shown.{AreFilled, IsTreeOfContent, landed_pairs, SameButLent, ShowsClaims}
+use Rattle.world_rules.specs.Shown.{AreFilled, landed_pairs, SameButLent, ShowsClaims}
 
 -- a job acts: its call puts whole bytes into a file that is there, and the next state has of them what is found
 pub record Acts (s : State) (j : Job) (next : State) : Type 0 where
@@ -34,9 +34,12 @@ AreWhole [] = Unit {0}
 AreWhole (j ∷ jobs) = (j.found ≡ j.whole) × AreWhole jobs
 
 -- An image that shows a valid world: its words are the world's but in lent blocks, its claims are in the log, and whole
--- those of its jobs that are in the log too; and the tree is that of its content.
-pub record IsShown (v : Volume) (claims : List (ℕ × Draft)) (jobs : List Job) (kept image : Words) (landed : List (Option ℕ)) (left : List TreeEntry) : Type 0 where
+-- those of its jobs that are in the log too.
+pub record IsShown (v : Volume) (claims : List (ℕ × Draft)) (jobs : List Job) (kept image : Words) (landed : List (Option ℕ)) : Type 0 where
   pub same : SameButLent v jobs kept image
   pub filled : AreFilled v image jobs landed
   pub log : ShowsClaims v (claims ++ landed_pairs jobs landed) image
-  pub tree : IsTreeOfContent (found v (live_entries v image) image) left
+
+-- the content of an image with this volume
+abbrev pub content_shown : Volume → Words → List (List ℕ) → Option Node
+content_shown v image = found v (live_entries v image) image

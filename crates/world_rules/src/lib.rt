@@ -10,3 +10,10 @@
 //!
 //! Definitions alone. Stands on `disk_rules`, `posix_puts`, `posix_trees` and `crash_spec`.
 #![tactic(auto)]
+
+ghost use Rattle.world_rules.specs.Laws.{HasValidWorld};
+
+/// A world with a live claim and a write in flight is valid.
+pub fn a_world_is_valid()
+    ensures { HasValidWorld }
+{}

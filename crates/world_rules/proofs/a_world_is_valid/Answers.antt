@@ -1,0 +1,5 @@
+use Rattle.world_rules.specs.Example.{ClaimsStand-a, Valid-a}
+use Rattle.world_rules.proofs.a_world_is_valid.Goals as goal
+
+pub returns : goal.returns
+returns c = (Valid-a, ClaimsStand-a)

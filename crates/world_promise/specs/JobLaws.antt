@@ -67,9 +67,9 @@ Acts-job v live f numbers s j stands job = record {
   next_is = refl;
 }
 
-leaves : (v : Volume) (live : List Draft) (f : Words) (numbers : List ℕ) (s : State) (j : Job) → Stands v live f numbers s → JobStands v live f numbers s j
+pub LeavesWhole-acted : (v : Volume) (live : List Draft) (f : Words) (numbers : List ℕ) (s : State) (j : Job) → Stands v live f numbers s → JobStands v live f numbers s j
     → LeavesWhole s (acted numbers s j) (number numbers j.draft.ino) j.found
-leaves v live f numbers s j stands job =
+LeavesWhole-acted v live f numbers s j stands job =
     LeavesWhole-bytes s (begun_of j) (number numbers j.draft.ino) j.whole j.found job.puts (stands.names.within j.draft.ino (live_used v j.draft job.alive))
 
 -- Another job.
@@ -101,7 +101,7 @@ JobStands-beside v live f numbers s i j stands first second apart fits = record 
 } where
   same : node_at (acted numbers s i).nodes (number numbers j.draft.ino) ≡ node_at s.nodes (number numbers j.draft.ino)
   same =
-      ap (λ nodes. node_at nodes (number numbers j.draft.ino)) (leaves v live f numbers s i stands first).nodes
+      ap (λ nodes. node_at nodes (number numbers j.draft.ino)) (LeavesWhole-acted v live f numbers s i stands first).nodes
       ∙ get_or-set_other s.nodes (number numbers i.draft.ino) (number numbers j.draft.ino) (with_whole s (number numbers i.draft.ino) i.found) Node.Gone
       (apart_nodes v live f numbers s i j stands first second apart.files)
 
@@ -137,7 +137,7 @@ Valid-landed v claims j jobs f numbers s slot valid holds =
     let job = valid.out.0 in
     let next = acted numbers s j in
     let node : ℕ = number numbers j.draft.ino in
-    let left = leaves v live f numbers s j valid.stands job in
+    let left = LeavesWhole-acted v live f numbers s j valid.stands job in
     let more = live_claims-more v claims slot j.draft job.alive in
     let all : need_of s j.who j.call + needs s jobs ≤ room s = omega (arith, valid.room, needs-cons s j jobs) in
     let fits : needs s jobs ≤ room next = room-after s next (begun_of j) node j.whole j.found (needs s jobs) job.puts left job.part.size all in

@@ -20,8 +20,10 @@ use Rattle.posix_words.specs.declared.nodes.Node.{Node}
 use Rattle.posix_words.specs.Nodes.{bytes_of, node_at}
 use Rattle.posix_words.specs.Room.{held}
 use Rattle.posix_spec.specs.State.{Fits, State}
-use Rattle.world_rules.specs.Stands.{FileStands, is_used, IsUsed, NodeStands, number, Stands}
+use Rattle.world_rules.specs.Stands.{Consecutive, entries_of, FileStands, is_used, IsUsed, NodeStands, number, Stands}
+use Rattle.world_promise.specs.Contents.{size-same}
 use Rattle.world_promise.specs.Landed.{kind_file}
+use Rattle.world_promise.specs.Latest.{OneOrderEach-Consecutive, SameMembers}
 
 -- what a node holds
 abbrev weight : Node → ℕ
@@ -88,3 +90,13 @@ pub held-rule : (v : Volume) (live : List Draft) (f : Words) (numbers : List ℕ
     → held_after_recovery v live + reserve v.geometry ≤ data_blocks v.geometry
 held-rule v live f numbers s stands fits shape =
     subst (λ n. held_after_recovery v live + reserve_for n ≤ n) shape (omega (arith, fits, held-Stands v live f numbers s stands))
+
+-- Live entries listed in another order give the same.
+pub held-same_members : (v : Volume) (xs ys : List Draft) → SameMembers xs ys → ((ino : ℕ) → Consecutive (inode v ino).applied (entries_of ino ys)) → held_after_recovery v ys + reserve v.geometry ≤ data_blocks v.geometry
+    → held_after_recovery v xs + reserve v.geometry ≤ data_blocks v.geometry
+held-same_members v xs ys same go_on fits =
+    subst (λ n. n + reserve v.geometry ≤ data_blocks v.geometry) (sym again) fits where
+      again : held_after_recovery v xs ≡ held_after_recovery v ys
+      again =
+          λ t. sum_by (λ ino. cond (is_named_file v ino) (held_by (size-same v xs ys ino same (OneOrderEach-Consecutive (inode v ino).applied (entries_of ino ys) (go_on ino)) t)) 0)
+          (range_with_len 0 (length v.inodes))

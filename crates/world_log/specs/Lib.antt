@@ -1,2 +1,4 @@
 pub mod Rules
 pub mod Held
+pub mod LogRules
+pub mod Laws

@@ -7,3 +7,10 @@
 //!
 //! Stands on `world_promise`.
 #![tactic(auto)]
+
+ghost use Rattle.world_log.specs.Laws.{KeepsLogRules};
+
+/// An image that shows a valid world keeps the rules of its log, whichever jobs landed.
+pub fn an_image_keeps_the_rules_of_its_log()
+    ensures { KeepsLogRules }
+{}

@@ -43,7 +43,7 @@ SameMembers-filter p xs ys same = record {
 abbrev covers_block : ℕ → ℕ → Draft → Bool
 covers_block ino block d = (d.ino == ino) && is_within d.file_block d.count block
 
-size-same : (v : Volume) (xs ys : List Draft) (ino : ℕ) → SameMembers xs ys → OneOrderEach (entries_of ino ys) → size_of v xs ino ≡ size_of v ys ino
+pub size-same : (v : Volume) (xs ys : List Draft) (ino : ℕ) → SameMembers xs ys → OneOrderEach (entries_of ino ys) → size_of v xs ino ≡ size_of v ys ino
 size-same v xs ys ino same one =
     ap (λ o. size_by o (inode v ino).size) (latest-same_members (entries_of ino xs) (entries_of ino ys) (SameMembers-filter (λ (d : Draft). d.ino == ino) xs ys same) one)
 
@@ -52,7 +52,7 @@ one_order-block ys ino block one =
     subst OneOrderEach (sym (filter-both (λ (d : Draft). d.ino == ino) (λ (d : Draft). is_within d.file_block d.count block) ys))
     (OneOrderEach-filter (λ (d : Draft). is_within d.file_block d.count block) (entries_of ino ys) one)
 
-disk-same : (v : Volume) (xs ys : List Draft) (ino block : ℕ) → SameMembers xs ys → OneOrderEach (entries_of ino ys) → disk_of v xs ino block ≡ disk_of v ys ino block
+pub disk-same : (v : Volume) (xs ys : List Draft) (ino block : ℕ) → SameMembers xs ys → OneOrderEach (entries_of ino ys) → disk_of v xs ino block ≡ disk_of v ys ino block
 disk-same v xs ys ino block same one =
     ap (λ o. disk_by v o ino block)
     (latest-same_members (filter (covers_block ino block) xs) (filter (covers_block ino block) ys) (SameMembers-filter (covers_block ino block) xs ys same) (one_order-block ys ino block one))

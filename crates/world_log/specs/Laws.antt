@@ -1,13 +1,17 @@
--- What the World promises of the log of an image, as one statement.
-use Rattle.std.specs.Prelude.{◌≡◌, ℕ, List, Option}
+-- What the World promises of the log of an image, each promise as one statement.
+use Rattle.std.specs.Prelude.{◌≡◌, ◌≤◌, ℕ, ◌+◌, ◌^◌, List, ◌++◌, Option}
+use Rattle.pm_words.specs.declared.Cell.{Cell}
 use Rattle.pm_words.specs.Words.{Words}
 use Rattle.disk_places.specs.Places.{data_blocks}
 use Rattle.disk_lines.specs.declared.Draft.{Draft}
+use Rattle.disk_rules.specs.Honest.{IsHonest}
 use Rattle.disk_rules.specs.Volume.{Volume}
 use Rattle.posix_spec.specs.State.{State}
 use Rattle.world_rules.specs.Claims.{ClaimsStand}
 use Rattle.world_rules.specs.Jobs.{Job, Valid}
 use Rattle.world_rules.specs.Promised.{IsShown}
+use Rattle.world_rules.specs.Shown.{AreFilled, landed_pairs, ShowsClaims}
+use Rattle.world_log.specs.Lines.{AreLinesOut, HasLogWords}
 use Rattle.world_log.specs.Rules.{AreLogRulesKept}
 
 -- An image that shows a valid world keeps the rules of its log, whichever jobs landed.
@@ -16,3 +20,10 @@ KeepsLogRules =
     (v : Volume) (claims : List (ℕ × Draft)) (jobs : List Job) (kept image : Words) (numbers : List ℕ) (s : State) (landed : List (Option ℕ))
     → Valid v claims jobs kept numbers s → ClaimsStand v claims → s.shape.data_blocks ≡ data_blocks v.geometry → IsShown v claims jobs kept image landed
     → AreLogRulesKept v image
+
+-- An honest image of log lines that are put back shows the claims, and whole those of the filled jobs that it shows.
+abbrev pub ShowsPictures : Type 0
+ShowsPictures =
+    (v : Volume) (cells : ℕ → Cell) (first image : Words) (claims : List (ℕ × Draft)) (jobs : List Job) (slots : List (Option ℕ))
+    → v.base + v.geometry.log ≤ 2 ^ 64 → AreLinesOut v cells first claims jobs slots → HasLogWords v cells image → IsHonest v.geometry cells image → AreFilled v image jobs slots
+    → (landed : List (Option ℕ)) × AreFilled v image jobs landed × ShowsClaims v (claims ++ landed_pairs jobs landed) image

@@ -19,6 +19,7 @@ use Rattle.disk_rules.specs.Volume.{Volume}
 use Rattle.list_facts.specs.Members.{In}
 use Rattle.world_rules.specs.Jobs.{Job}
 use Rattle.world_rules.specs.Shown.{AreFilled, landed_pairs, ShowsClaims}
+use Rattle.world_log.specs.Laws.{ShowsPictures}
 use Rattle.world_log.specs.Lines.{AreJobLines, AreLinesOut, HasLogWords, HoldsWords, IsJobLine, IsPutOver, IsTaken, Spells}
 
 -- Tests of the words of a line.
@@ -133,3 +134,138 @@ landed_by v image [] slots = []
 landed_by v image (j ∷ jobs) [] = []
 landed_by v image (j ∷ jobs) (None ∷ slots) = None ∷ landed_by v image jobs slots
 landed_by v image (j ∷ jobs) (Some slot ∷ slots) = kept_slot slot (entry_in v image slot) ∷ landed_by v image jobs slots
+
+-- What is said of each slot of the log.
+record IsRead (v : Volume) (cells : ℕ → Cell) (first image : Words) : Type 0 where
+  has : HasLogWords v cells image
+  honest : IsHonest v.geometry cells image
+  small : (slot : ℕ) → slot < v.geometry.log → v.base + slot < 2 ^ 64
+  fresh : (slot : ℕ) → slot < v.geometry.log → entry_in v first slot ≡ None
+
+read_line : (v : Volume) (cells : ℕ → Cell) (first image : Words) (slot : ℕ) (d : Draft) → IsRead v cells first image → IsJobLine v cells first slot d → (entry_in v image slot ≡ Some d) ⊎ (entry_in v image slot ≡ None)
+read_line v cells first image slot d read line = job_line v cells first image slot d (read.small slot line.below) read.has read.honest (read.fresh slot line.below) line
+
+-- a line that shows some entry shows that of its job
+own_entry : (v : Volume) (cells : ℕ → Cell) (first image : Words) (slot : ℕ) (d e : Draft) → IsRead v cells first image → IsJobLine v cells first slot d → entry_in v image slot ≡ Some e → d ≡ e
+own_entry v cells first image slot d e read line is = elim (read_line v cells first image slot d read line) [
+  | inl own ↦ same_Some d e (sym own ∙ is)
+  | inr none ↦ let never : None ≡ Some e = sym none ∙ is in cc
+]
+
+pairs_show : (v : Volume) (cells : ℕ → Cell) (first image : Words) (jobs : List Job) (slots : List (Option ℕ)) → IsRead v cells first image → AreJobLines v cells first jobs slots → (n : ℕ) (d : Draft)
+    → In (n, d) (landed_pairs jobs (landed_by v image jobs slots)) → (n < v.geometry.log) × (entry_in v image n ≡ Some d)
+pairs_show v cells first image [] slots read lines n d is = absurd is
+pairs_show v cells first image (j ∷ jobs) [] read lines n d is = absurd is
+pairs_show v cells first image (j ∷ jobs) (None ∷ slots) read lines n d is = pairs_show v cells first image jobs slots read lines n d is
+pairs_show v cells first image (j ∷ jobs) (Some slot ∷ slots) read lines n d is =
+    by (entry_in v image slot) refl is (pairs_show v cells first image jobs slots read lines.1 n d) where
+      by : (o : Option Draft) → entry_in v image slot ≡ o → In (n, d) (landed_pairs (j ∷ jobs) (kept_slot slot o ∷ landed_by v image jobs slots))
+          → (In (n, d) (landed_pairs jobs (landed_by v image jobs slots)) → (n < v.geometry.log) × (entry_in v image n ≡ Some d)) → (n < v.geometry.log) × (entry_in v image n ≡ Some d)
+      by None shown there rest = rest there
+      by (Some e) shown (inl same) rest =
+          let number : slot ≡ n = ap (λ (c : ℕ × Draft). c.0) same in
+          let entry : j.draft ≡ d = ap (λ (c : ℕ × Draft). c.1) same in
+          let own : j.draft ≡ e = own_entry v cells first image slot j.draft e read lines.0 shown in
+          (subst (λ m. m < v.geometry.log) number lines.0.below, ap (entry_in v image) (sym number) ∙ (shown ∙ ap Some (sym own ∙ entry)))
+      by (Some e) shown (inr behind) rest = rest behind
+
+pairs_have : (v : Volume) (cells : ℕ → Cell) (first image : Words) (jobs : List Job) (slots : List (Option ℕ)) → IsRead v cells first image → AreJobLines v cells first jobs slots → (n : ℕ) (d : Draft)
+    → IsTaken jobs slots n → entry_in v image n ≡ Some d → In (n, d) (landed_pairs jobs (landed_by v image jobs slots))
+pairs_have v cells first image [] slots read lines n d taken is = absurd taken
+pairs_have v cells first image (j ∷ jobs) [] read lines n d taken is = absurd taken
+pairs_have v cells first image (j ∷ jobs) (None ∷ slots) read lines n d taken is = pairs_have v cells first image jobs slots read lines n d taken is
+pairs_have v cells first image (j ∷ jobs) (Some slot ∷ slots) read lines n d taken is =
+    by (entry_in v image slot) refl taken (λ behind. pairs_have v cells first image jobs slots read lines.1 n d behind is) where
+      by : (o : Option Draft) → entry_in v image slot ≡ o → (slot ≡ n) ⊎ IsTaken jobs slots n → (IsTaken jobs slots n → In (n, d) (landed_pairs jobs (landed_by v image jobs slots)))
+          → In (n, d) (landed_pairs (j ∷ jobs) (kept_slot slot o ∷ landed_by v image jobs slots))
+      by None shown (inl same) rest = let never : None ≡ Some d = sym shown ∙ (ap (entry_in v image) same ∙ is) in cc
+      by None shown (inr behind) rest = rest behind
+      by (Some e) shown (inl same) rest =
+          let own : j.draft ≡ d = own_entry v cells first image slot j.draft d read lines.0 (ap (entry_in v image) same ∙ is) in
+          inl (λ i. (same i, own i))
+      by (Some e) shown (inr behind) rest = inr (rest behind)
+
+landed_filled : (v : Volume) (image : Words) (jobs : List Job) (slots : List (Option ℕ)) → AreFilled v image jobs slots → AreFilled v image jobs (landed_by v image jobs slots)
+landed_filled v image [] slots filled = tt
+landed_filled v image (j ∷ jobs) [] filled = tt
+landed_filled v image (j ∷ jobs) (None ∷ slots) filled = landed_filled v image jobs slots filled
+landed_filled v image (j ∷ jobs) (Some slot ∷ slots) filled = by (entry_in v image slot) (landed_filled v image jobs slots filled.1) where
+  by : (o : Option Draft) → AreFilled v image jobs (landed_by v image jobs slots) → AreFilled v image (j ∷ jobs) (kept_slot slot o ∷ landed_by v image jobs slots)
+  by None rest = rest
+  by (Some e) rest = (filled.0, rest)
+
+-- Which slots are claimed.
+
+claimed_or_not : (claims : List (ℕ × Draft)) (n : ℕ) → ((d : Draft) × In (n, d) claims) ⊎ ((d : Draft) → ¬ In (n, d) claims)
+claimed_or_not [] n = inr (λ d is. is)
+claimed_or_not (c ∷ claims) n = elim (cases_eq c.0 n) [
+  | inl same ↦ inl (c.1, inl (λ i. (same i, c.1)))
+  | inr other ↦ elim (claimed_or_not claims n) [
+    | inl behind ↦ inl (behind.0, inr behind.1)
+    | inr none ↦ inr (not_first c claims n other none)
+  ]
+] where
+  not_first : (first : ℕ × Draft) (rest : List (ℕ × Draft)) (m : ℕ) → first.0 ≢ m → ((d : Draft) → ¬ In (m, d) rest) → (d : Draft) → ¬ In (m, d) (first ∷ rest)
+  not_first first rest m other none d (inl same) = other (ap (λ (x : ℕ × Draft). x.0) same)
+  not_first first rest m other none d (inr behind) = none d behind
+
+taken_or_not : (jobs : List Job) (slots : List (Option ℕ)) (n : ℕ) → IsTaken jobs slots n ⊎ (¬ IsTaken jobs slots n)
+taken_or_not [] slots n = inr (λ is. is)
+taken_or_not (j ∷ jobs) [] n = inr (λ is. is)
+taken_or_not (j ∷ jobs) (None ∷ slots) n = taken_or_not jobs slots n
+taken_or_not (j ∷ jobs) (Some slot ∷ slots) n = elim (cases_eq slot n) [
+  | inl same ↦ inl (inl same)
+  | inr other ↦ elim (taken_or_not jobs slots n) [ inl behind ↦ inl (inr behind) | inr none ↦ inr (neither jobs slots slot n other none) ]
+] where
+  neither : (rest : List Job) (others : List (Option ℕ)) (slot m : ℕ) → slot ≢ m → ¬ IsTaken rest others m → (slot ≡ m) ⊎ IsTaken rest others m → ⊥
+  neither rest others slot m other none (inl same) = other same
+  neither rest others slot m other none (inr behind) = none behind
+
+In-left : (xs ys : List (ℕ × Draft)) (x : ℕ × Draft) → In x xs → In x (xs ++ ys)
+In-left [] ys x is = absurd is
+In-left (z ∷ zs) ys x (inl same) = inl same
+In-left (z ∷ zs) ys x (inr behind) = inr (In-left zs ys x behind)
+
+In-right : (xs ys : List (ℕ × Draft)) (x : ℕ × Draft) → In x ys → In x (xs ++ ys)
+In-right [] ys x is = is
+In-right (z ∷ zs) ys x is = inr (In-right zs ys x is)
+
+In-either : (xs ys : List (ℕ × Draft)) (x : ℕ × Draft) → In x (xs ++ ys) → In x xs ⊎ In x ys
+In-either [] ys x is = inr is
+In-either (z ∷ zs) ys x (inl same) = inl (inl same)
+In-either (z ∷ zs) ys x (inr behind) = elim (In-either zs ys x behind) [ inl left ↦ inl (inr left) | inr right ↦ inr right ]
+
+-- THE PICTURE: an honest image of these lines shows the claims and the filled jobs whose lines show an entry.
+pub shows_pictures : ShowsPictures
+shows_pictures v cells first image claims jobs slots small lines has honest filled = (landed_by v image jobs slots, landed_filled v image jobs slots filled, shows) where
+  read : IsRead v cells first image
+  read = record { has = has; honest = honest; small = λ slot below. omega (arith, small, below); fresh = lines.fresh }
+
+  claim_shown : (slot : ℕ) (d : Draft) → In (slot, d) claims → (slot < v.geometry.log) × (entry_in v image slot ≡ Some d)
+  claim_shown slot d is =
+      let line = lines.claimed slot d is in
+      (line.below, reads v image slot d line.entry line.spells (held_words v cells image line.entry slot line.below has line.holds))
+
+  on : (slot : ℕ) (d : Draft) → In (slot, d) (claims ++ landed_pairs jobs (landed_by v image jobs slots)) → (slot < v.geometry.log) × (entry_in v image slot ≡ Some d)
+  on slot d is = elim (In-either claims (landed_pairs jobs (landed_by v image jobs slots)) (slot, d) is) [
+    | inl claimed ↦ claim_shown slot d claimed
+    | inr job ↦ pairs_show v cells first image jobs slots read lines.out slot d job
+  ]
+
+  back : (slot : ℕ) (d : Draft) → slot < v.geometry.log → entry_in v image slot ≡ Some d → In (slot, d) (claims ++ landed_pairs jobs (landed_by v image jobs slots))
+  back slot d below is = elim (claimed_or_not claims slot) [
+    | inl claimed ↦
+        let same : claimed.0 ≡ d = same_Some claimed.0 d (sym (claim_shown slot claimed.0 claimed.1).1 ∙ is) in
+        In-left claims (landed_pairs jobs (landed_by v image jobs slots)) (slot, d) (subst (λ e. In (slot, e) claims) same claimed.1)
+    | inr unclaimed ↦ elim (taken_or_not jobs slots slot) [
+      | inl taken ↦ In-right claims (landed_pairs jobs (landed_by v image jobs slots)) (slot, d) (pairs_have v cells first image jobs slots read lines.out slot d taken is)
+      | inr free ↦
+          let none : entry_in v image slot ≡ None =
+          ap (λ bytes. decode_entry bytes (v.base + slot)) (held_words v cells image first slot below has (lines.others slot below unclaimed free)) ∙ lines.fresh slot below in
+          let never : None ≡ Some d = sym none ∙ is in
+          cc
+    ]
+  ]
+
+  shows : ShowsClaims v (claims ++ landed_pairs jobs (landed_by v image jobs slots)) image
+  shows slot d = (on slot d, λ there. back slot d there.0 there.1)

@@ -1,5 +1,6 @@
 -- A worked world: a directory with one file of three bytes, which a live entry has in a staging block; and a write of one
--- byte in flight, which has staged the file's block anew. Its parts stand in `ExampleParts`, itself in `ExampleWorld`.
+-- byte in flight, which has staged the file's block anew. Its parts stand in `ExampleParts` and `ExampleJob`; the answer
+-- of the function that says that it is valid puts them together.
 use Rattle.std.specs.Prelude.{◌≡◌, ℕ, zero, suc, ◌==◌, true, false, cond, IsSome, List, [], ◌∷◌, Some}
 use Rattle.std.proofs.Common.{arith, inl, inr}
 use Rattle.pm_words.specs.Words.{Words}

@@ -1,4 +1,5 @@
--- The worked world's volume stands, and so does its write in flight.
+-- The worked world's write in flight, and its claim. What stands here has nothing above it but the answer that puts the
+-- world together.
 use Rattle.std.specs.Prelude.{◌≡◌, ◌≢◌, ◌⊎◌, ◌<◌, ◌≤◌, ℕ, zero, suc, ◌/◌, true, false, [], ◌∷◌, slice_index, refl}
 use Rattle.std.proofs.Common.{arith, ap, ◌∙◌, sym, subst, inl, inr}
 use Rattle.extent_words.specs.Extents.{is_within}
@@ -8,17 +9,14 @@ use Rattle.disk_rules.specs.Live.{is_live, is_of_file}
 use Rattle.disk_rules.specs.Rules.{AreApart}
 use Rattle.disk_rules.specs.Volume.{inode}
 use Rattle.list_facts.specs.Members.{In}
+use Rattle.posix_puts.specs.Puts.{PutsWhole}
 use Rattle.world_rules.specs.Claims.{ClaimsStand}
 use Rattle.world_rules.specs.Jobs.{JobStands, live_claims}
-use Rattle.world_rules.specs.Stands.{Stands}
 use Rattle.world_rules.specs.Example.{claims_a, entry_a, job_a, numbers_a, one_entry, staged_at, state_a, volume_a, words_a}
-use Rattle.world_rules.specs.ExampleParts.{log_stands, names_stand, nodes_stand, puts, sane}
 
-pub Stands-a : Stands volume_a (live_claims volume_a claims_a) words_a numbers_a state_a
-Stands-a = record { sane = sane; names = names_stand; nodes = nodes_stand; log = log_stands }
-
-pub JobStands-a : JobStands volume_a (live_claims volume_a claims_a) words_a numbers_a state_a job_a
-JobStands-a = record {
+-- The write in flight stands, where it puts what it is to put.
+pub JobStands-a : PutsWhole state_a job_a.who job_a.call 1 (1 ∷ 9 ∷ 3 ∷ []) → JobStands volume_a (live_claims volume_a claims_a) words_a numbers_a state_a job_a
+JobStands-a puts = record {
   alive = refl;
   order = refl;
   size = refl;

@@ -3,7 +3,6 @@ pub mod Example
 pub mod ExampleEntry
 pub mod ExampleJob
 pub mod ExampleParts
-pub mod ExampleWorld
 pub mod Jobs
 pub mod Laws
 pub mod Promised

@@ -1,7 +1,7 @@
 -- What the files of a volume that stands hold is at most what those of the state hold.
-use Rattle.std.specs.Prelude.{◌≡◌, ◌≢◌, ◌≤◌, ◌<◌, ℕ, zero, suc, ◌+◌, ◌&&◌, nat_lt, Bool, true, false, cond, List, [], ◌∷◌, length, slice_set, sum_by, refl}
+use Rattle.std.specs.Prelude.{◌≡◌, ◌≢◌, ◌≤◌, ℕ, zero, suc, ◌+◌, nat_lt, Bool, true, false, cond, List, [], ◌∷◌, length, slice_set, sum_by, refl}
 use Rattle.std.specs.List.{range_with_len}
-use Rattle.std.proofs.Common.{arith, ap, ◌∙◌, sym, subst, inl, inr}
+use Rattle.std.proofs.Common.{arith, ap, sym, subst}
 use Rattle.std.proofs.lemmas.Bool.{and_parts}
 use Rattle.std.proofs.lemmas.List.{get_or-set_other}
 use Rattle.std.proofs.lemmas.List.Sums.{sum_by-cons}
@@ -9,7 +9,6 @@ use Rattle.block_counts.specs.Counts.{held_by, reserve_for}
 use Rattle.pm_words.specs.Words.{Words}
 use Rattle.disk_places.specs.Places.{data_blocks, reserve}
 use Rattle.disk_lines.specs.declared.Draft.{Draft}
-use Rattle.disk_lines.specs.declared.Kind.{Kind}
 use Rattle.disk_lines.specs.declared.Kind.TheVariants.{File}
 use Rattle.disk_lines.specs.Names.{names_of}
 use Rattle.disk_rules.specs.Content.{size_of}
@@ -20,7 +19,7 @@ use Rattle.posix_words.specs.declared.nodes.Node.{Node}
 use Rattle.posix_words.specs.Nodes.{bytes_of, node_at}
 use Rattle.posix_words.specs.Room.{held}
 use Rattle.posix_spec.specs.State.{Fits, State}
-use Rattle.world_rules.specs.Stands.{Consecutive, entries_of, FileStands, is_used, IsUsed, NodeStands, number, Stands}
+use Rattle.world_rules.specs.Stands.{Consecutive, entries_of, is_used, IsUsed, NodeStands, number, Stands}
 use Rattle.world_promise.specs.Contents.{size-same}
 use Rattle.world_promise.specs.Landed.{kind_file}
 use Rattle.world_promise.specs.Latest.{OneOrderEach-Consecutive, SameMembers}
@@ -55,8 +54,8 @@ held_together test holds num from (suc count) nodes have = by (test from) refl (
   by true is rest =
       let more = rest (slice_set nodes (num from) Node.Gone) (record {
         each = λ i after passes.
-        subst (λ n. holds i ≤ weight n)
-        (sym (get_or-set_other nodes (num from) (num i) Node.Gone Node.Gone (λ same. apart i after (have.one i from passes is same)))) (have.each i (omega (arith, after)) passes);
+            subst (λ n. holds i ≤ weight n)
+            (sym (get_or-set_other nodes (num from) (num i) Node.Gone Node.Gone (λ same. apart i after (have.one i from passes is same)))) (have.each i (omega (arith, after)) passes);
         one = have.one;
       }) in
       omega (arith, sum_by-cons (λ i. cond (test i) (holds i) 0) from (range_with_len (from + 1) count), ap (λ (c : Bool). cond c (holds from) 0) is, more, held_gone nodes (num from), have.each from (omega arith) is)

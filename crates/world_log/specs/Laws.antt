@@ -1,10 +1,11 @@
 -- What the World promises of the log of an image, each promise as one statement.
-use Rattle.std.specs.Prelude.{◌≡◌, ◌≤◌, ℕ, ◌+◌, ◌^◌, List, ◌++◌, Option}
+use Rattle.std.specs.Prelude.{◌≡◌, ◌≤◌, ◌<◌, ℕ, ◌+◌, ◌^◌, List, ◌++◌, Option}
 use Rattle.pm_words.specs.declared.Cell.{Cell}
 use Rattle.pm_words.specs.Words.{Words}
 use Rattle.disk_places.specs.Places.{data_blocks}
 use Rattle.disk_lines.specs.declared.Draft.{Draft}
 use Rattle.disk_rules.specs.Honest.{IsHonest}
+use Rattle.disk_rules.specs.Rules.{IsOfNoLater}
 use Rattle.disk_rules.specs.Volume.{Volume}
 use Rattle.posix_spec.specs.State.{State}
 use Rattle.world_rules.specs.Claims.{ClaimsStand}
@@ -27,3 +28,10 @@ ShowsPictures =
     (v : Volume) (cells : ℕ → Cell) (first image : Words) (claims : List (ℕ × Draft)) (jobs : List Job) (slots : List (Option ℕ))
     → v.base + v.geometry.log ≤ 2 ^ 64 → AreLinesOut v cells first claims jobs slots → HasLogWords v cells image → IsHonest v.geometry cells image → AreFilled v image jobs slots
     → (landed : List (Option ℕ)) × AreFilled v image jobs landed × ShowsClaims v (claims ++ landed_pairs jobs landed) image
+
+-- And none of its lines is an entry of a lap to come.
+abbrev pub KeepsLaps : Type 0
+KeepsLaps =
+    (v : Volume) (cells : ℕ → Cell) (first image : Words) (claims : List (ℕ × Draft)) (jobs : List Job) (slots : List (Option ℕ))
+    → v.base + v.geometry.log ≤ 2 ^ 64 → AreLinesOut v cells first claims jobs slots → HasLogWords v cells image → IsHonest v.geometry cells image
+    → (slot : ℕ) → slot < v.geometry.log → IsOfNoLater v image slot

@@ -6,9 +6,8 @@ use Rattle.pm_words.specs.Cells.{has_two, IsCandidate, is_lent, newest, oldest}
 use Rattle.pm_words.specs.Words.{line_bytes, Words}
 use Rattle.disk_places.specs.Places.{log_line}
 use Rattle.disk_lines.specs.declared.Draft.{Draft}
-use Rattle.disk_lines.specs.Entries.{encode_entry, is_draft}
+use Rattle.disk_lines.specs.Entries.{encode_entry, held_seq, is_draft, is_self_valid}
 use Rattle.disk_lines.specs.EntryLaws.{FitsDraft}
-use Rattle.disk_rules.specs.Live.{entry_in}
 use Rattle.disk_rules.specs.Volume.{Volume}
 use Rattle.list_facts.specs.Members.{In}
 use Rattle.world_rules.specs.Jobs.{Job}
@@ -58,12 +57,12 @@ IsTaken (j ∷ jobs) (None ∷ slots) n = IsTaken jobs slots n
 IsTaken (j ∷ jobs) (Some slot ∷ slots) n = (slot ≡ n) ⊎ IsTaken jobs slots n
 
 -- The log lines: those of claims hold them, those of filled jobs hold or may hold their entries, and all others have the
--- words that they had when the lap began, which were no entries of this lap.
+-- words that they had when the lap began. Then a line that was an entry was one of an earlier lap.
 pub record AreLinesOut (v : Volume) (cells : ℕ → Cell) (first : Words) (claims : List (ℕ × Draft)) (jobs : List Job) (slots : List (Option ℕ)) : Type 0 where
   pub claimed : (slot : ℕ) (d : Draft) → In (slot, d) claims → IsClaimedLine v cells slot d
   pub out : AreJobLines v cells first jobs slots
   pub others : (slot : ℕ) → slot < v.geometry.log → ((d : Draft) → ¬ In (slot, d) claims) → ¬ IsTaken jobs slots slot → HoldsWords cells first (log_line v.geometry slot)
-  pub fresh : (slot : ℕ) → slot < v.geometry.log → entry_in v first slot ≡ None
+  pub old : (slot : ℕ) → slot < v.geometry.log → is_self_valid (line_bytes first (log_line v.geometry slot)) ≡ true → held_seq (line_bytes first (log_line v.geometry slot)) < v.base
 
 -- each word of a log line is a candidate of its cell
 abbrev pub HasLogWords : Volume → (ℕ → Cell) → Words → Type 0

@@ -1,14 +1,13 @@
 -- An image that shows a valid world keeps the rules of its log, whichever jobs landed.
-use Rattle.std.specs.Prelude.{◌≡◌, ◌≢◌, ◌⊎◌, ◌≤◌, ◌<◌, ℕ, ◌+◌, ◌==◌, ◌&&◌, nat_lt, All, true, List, [], ◌∷◌, ◌++◌, length, filter, map, Option, Some, None, slice_index_or, refl}
+use Rattle.std.specs.Prelude.{◌≡◌, ◌≢◌, ◌⊎◌, ◌≤◌, ◌<◌, ℕ, ◌+◌, ◌==◌, ◌&&◌, nat_lt, All, true, List, [], ◌∷◌, ◌++◌, length, map, Option, Some, None, slice_index_or}
 use Rattle.std.proofs.Common.{arith, ap, ◌∙◌, sym, subst, inl, inr, append_assoc, append-nil}
 use Rattle.std.proofs.lemmas.Bool.{and_parts}
-use Rattle.std.proofs.lemmas.Bool.Decides.{Decides-eqb, nat_tests}
+use Rattle.std.proofs.lemmas.Bool.Decides.{Decides-eqb}
 use Rattle.std.proofs.lemmas.Option.{slice_get-get_or}
 use Rattle.pm_words.specs.Words.{Words}
 use Rattle.disk_places.specs.Places.{data_blocks, reserve}
 use Rattle.disk_lines.specs.declared.Draft.{Draft}
-use Rattle.disk_rules.specs.Content.{size_by, size_of}
-use Rattle.disk_rules.specs.Live.{entry_in, is_file, is_live, is_of_file, latest, live_entries}
+use Rattle.disk_rules.specs.Live.{entry_in, is_live, is_of_file, live_entries}
 use Rattle.disk_rules.specs.Room.{held_after_recovery}
 use Rattle.disk_rules.specs.Rules.{AreApart, HasStagingBlocks}
 use Rattle.disk_rules.specs.Volume.{inode, Volume}
@@ -19,11 +18,11 @@ use Rattle.list_facts.specs.Members.{In, In-slice_get, pushed-In}
 use Rattle.world_rules.specs.Claims.{ClaimsStand}
 use Rattle.world_rules.specs.Jobs.{Job, live_claims, Valid}
 use Rattle.world_rules.specs.Shown.{AreFilled, landed_pairs, ShowsClaims}
-use Rattle.world_rules.specs.Stands.{Consecutive, entries_of, LogStands}
+use Rattle.world_rules.specs.Stands.{entries_of, LogStands}
 use Rattle.world_promise.specs.Ends.{SameMembers-shown}
 use Rattle.world_promise.specs.JobLaws.{acted, LeavesWhole-acted, Valid-dropped, Valid-landed}
 use Rattle.world_promise.specs.Lent.{Valid-words}
-use Rattle.world_promise.specs.Latest.{Consecutive-between, OneOrderEach-Consecutive, SameMembers}
+use Rattle.world_promise.specs.Latest.{Consecutive-between, SameMembers}
 use Rattle.world_log.specs.Held.{held-rule, held-same_members}
 use Rattle.world_log.specs.Laws.{KeepsLogRules}
 use Rattle.world_log.specs.Rules.{AreLogRulesKept}

@@ -1,5 +1,5 @@
 -- An honest image of log lines that are put back shows the claims, and some of the filled jobs.
-use Rattle.std.specs.Prelude.{◌≡◌, ◌≢◌, ◌⊎◌, ◌≤◌, ◌<◌, ℕ, zero, suc, ◌+◌, ◌*◌, ◌/◌, ◌%◌, ◌^◌, ◌==◌, ◌&&◌, Bool, true, false, is_some, List, [], ◌∷◌, ◌++◌, Option, Some, None, refl}
+use Rattle.std.specs.Prelude.{◌≡◌, ◌≢◌, ◌⊎◌, ◌<◌, ℕ, zero, suc, ◌+◌, ◌*◌, ◌/◌, ◌%◌, ◌^◌, ◌==◌, ◌&&◌, Bool, true, false, is_some, List, [], ◌∷◌, ◌++◌, Option, Some, None, refl}
 use Rattle.std.proofs.Common.{arith, ap, ◌∙◌, sym, subst, inl, inr}
 use Rattle.std.proofs.lemmas.Bool.{and_from, and_parts, both_ways, cases_eq}
 use Rattle.std.proofs.lemmas.Bool.Decides.{Decides-eqb}
@@ -11,15 +11,16 @@ use Rattle.pm_words.specs.Cells.{has_two, IsCandidate, is_lent, newest, oldest}
 use Rattle.pm_words.specs.Words.{line_bytes, Words}
 use Rattle.disk_places.specs.Places.{log_line}
 use Rattle.disk_lines.specs.declared.Draft.{Draft}
-use Rattle.disk_lines.specs.Entries.{decode_entry, encode_entry, held_seq, is_self_valid}
-use Rattle.disk_lines.specs.EntryLaws.{decode_entry-encode_entry, held_seq-decode_entry}
-use Rattle.disk_rules.specs.Honest.{EachHasTwo, HasNewer, HasOlder, IsHonest, IsTorn}
+use Rattle.disk_lines.specs.Entries.{decode_entry, encode_entry, held_seq, is_draft, is_self_valid}
+use Rattle.disk_lines.specs.EntryLaws.{decode_entry-encode_entry, FitsDraft, held_seq-decode_entry, held_seq-encode_entry}
+use Rattle.disk_rules.specs.Honest.{IsHonest, IsTorn}
 use Rattle.disk_rules.specs.Live.{entry_in}
+use Rattle.disk_rules.specs.Rules.{IsOfNoLater}
 use Rattle.disk_rules.specs.Volume.{Volume}
 use Rattle.list_facts.specs.Members.{In}
 use Rattle.world_rules.specs.Jobs.{Job}
 use Rattle.world_rules.specs.Shown.{AreFilled, landed_pairs, ShowsClaims}
-use Rattle.world_log.specs.Laws.{ShowsPictures}
+use Rattle.world_log.specs.Laws.{KeepsLaps, ShowsPictures}
 use Rattle.world_log.specs.Lines.{AreJobLines, AreLinesOut, HasLogWords, HoldsWords, IsJobLine, IsPutOver, IsTaken, Spells}
 
 -- Tests of the words of a line.
@@ -82,15 +83,22 @@ not_valid v image slot small never = by (entry_in v image slot) refl where
       let valid : is_self_valid bytes ≡ true = ap (λ n. is_some (decode_entry bytes n)) seq ∙ ap (λ (o : Option Draft). is_some o) is in
       absurd (both_ways (is_self_valid bytes) never valid)
 
--- a line that has an entry put over what was there shows the entry, or none
-put_over : (v : Volume) (cells : ℕ → Cell) (first image entry : Words) (slot : ℕ) (d : Draft) → slot < v.geometry.log → v.base + slot < 2 ^ 64 → HasLogWords v cells image → IsHonest v.geometry cells image
-    → Spells v slot d entry → entry_in v first slot ≡ None → IsPutOver cells first entry (log_line v.geometry slot) → (entry_in v image slot ≡ Some d) ⊎ (entry_in v image slot ≡ None)
-put_over v cells first image entry slot d below small has honest spells fresh over =
+-- What a line shows: an entry, what was there first, or no entry for the number that it holds.
+data LineReads (v : Volume) (first image : Words) (slot : ℕ) (d : Draft) : Type 0 where
+  IsEntry : line_bytes image (log_line v.geometry slot) ≡ encode_entry d (v.base + slot) → LineReads v first image slot d
+  IsAsFirst : line_bytes image (log_line v.geometry slot) ≡ line_bytes first (log_line v.geometry slot) → LineReads v first image slot d
+  IsNothing : is_self_valid (line_bytes image (log_line v.geometry slot)) ≡ false → LineReads v first image slot d
+
+-- a line that has an entry put over what was there shows one of these
+put_over : (v : Volume) (cells : ℕ → Cell) (first image entry : Words) (slot : ℕ) (d : Draft) → slot < v.geometry.log → HasLogWords v cells image → IsHonest v.geometry cells image
+    → Spells v slot d entry → IsPutOver cells first entry (log_line v.geometry slot) → LineReads v first image slot d
+put_over v cells first image entry slot d below has honest spells over =
     elim (all_or_some (λ j. image (8 * line + j) == oldest (cells (8 * line + j))) 8) [
-      | inl older ↦ inr (ap (λ bytes. decode_entry bytes (v.base + slot)) (bytes_same image first line (λ j j_below. (Decides-eqb (image (8 * line + j)) (oldest (cells (8 * line + j)))).0 (older j j_below) ∙ over.older j j_below)) ∙ fresh)
+      | inl older ↦
+          IsAsFirst (bytes_same image first line (λ j j_below. (Decides-eqb (image (8 * line + j)) (oldest (cells (8 * line + j)))).0 (older j j_below) ∙ over.older j j_below))
       | inr other ↦ elim (all_or_some (λ j. has_two (cells (8 * line + j)) && (image (8 * line + j) == newest (cells (8 * line + j)))) 8) [
-        | inl newer ↦ inl (reads v image slot d entry spells (bytes_same image entry line (whole newer)))
-        | inr mixed ↦ inr (not_valid v image slot small (honest slot below (torn other mixed)))
+        | inl newer ↦ IsEntry (bytes_same image entry line (whole newer) ∙ spells.spelled)
+        | inr mixed ↦ IsNothing (honest slot below (torn other mixed))
       ]
     ] where
       line : ℕ
@@ -115,12 +123,42 @@ put_over v cells first image entry slot d below small has honest spells fresh ov
                 (and_from (has_two (cells (8 * line + k))) (image (8 * line + k) == newest (cells (8 * line + k))) (each k mixed.1) ((Decides-eqb (image (8 * line + k)) (newest (cells (8 * line + k)))).1 (newer k mixed.1)));
           }
 
-job_line : (v : Volume) (cells : ℕ → Cell) (first image : Words) (slot : ℕ) (d : Draft) → v.base + slot < 2 ^ 64 → HasLogWords v cells image → IsHonest v.geometry cells image
-    → entry_in v first slot ≡ None → IsJobLine v cells first slot d → (entry_in v image slot ≡ Some d) ⊎ (entry_in v image slot ≡ None)
-job_line v cells first image slot d small has honest fresh line = elim line.holds [
-  | inl whole ↦ inl (reads v image slot d line.entry line.spells (held_words v cells image line.entry slot line.below has whole))
-  | inr over ↦ put_over v cells first image line.entry slot d line.below small has honest line.spells fresh over
+job_line : (v : Volume) (cells : ℕ → Cell) (first image : Words) (slot : ℕ) (d : Draft) → HasLogWords v cells image → IsHonest v.geometry cells image → IsJobLine v cells first slot d → LineReads v first image slot d
+job_line v cells first image slot d has honest line = elim line.holds [
+  | inl whole ↦ IsEntry (held_words v cells image line.entry slot line.below has whole ∙ line.spells.spelled)
+  | inr over ↦ put_over v cells first image line.entry slot d line.below has honest line.spells over
 ]
+
+-- What was there first is no entry of the slot, and of no later lap.
+
+abbrev IsOld : Volume → Words → ℕ → Type 0
+IsOld v first slot = is_self_valid (line_bytes first (log_line v.geometry slot)) ≡ true → held_seq (line_bytes first (log_line v.geometry slot)) < v.base
+
+old_none : (v : Volume) (first : Words) (slot : ℕ) → v.base + slot < 2 ^ 64 → IsOld v first slot → entry_in v first slot ≡ None
+old_none v first slot small old = by (entry_in v first slot) refl where
+  bytes : List ℕ
+  bytes = line_bytes first (log_line v.geometry slot)
+
+  by : (o : Option Draft) → entry_in v first slot ≡ o → o ≡ None
+  by None is = refl
+  by (Some d) is =
+      let seq : held_seq bytes ≡ v.base + slot = held_seq-decode_entry bytes (v.base + slot) d small is in
+      let valid : is_self_valid bytes ≡ true = ap (λ n. is_some (decode_entry bytes n)) seq ∙ ap (λ (o : Option Draft). is_some o) is in
+      absurd (omega (arith, seq, old valid))
+
+-- so such a line shows its entry or none
+line_entry : (v : Volume) (first image : Words) (slot : ℕ) (d : Draft) → v.base + slot < 2 ^ 64 → IsOld v first slot → is_draft d ≡ true → FitsDraft d → LineReads v first image slot d
+    → (entry_in v image slot ≡ Some d) ⊎ (entry_in v image slot ≡ None)
+line_entry v first image slot d small old draft fits (IsEntry is) = inl (ap (λ bytes. decode_entry bytes (v.base + slot)) is ∙ decode_entry-encode_entry d (v.base + slot) fits draft)
+line_entry v first image slot d small old draft fits (IsAsFirst is) = inr (ap (λ bytes. decode_entry bytes (v.base + slot)) is ∙ old_none v first slot small old)
+line_entry v first image slot d small old draft fits (IsNothing is) = inr (not_valid v image slot small is)
+
+-- and is of no later lap
+line_later : (v : Volume) (first image : Words) (slot : ℕ) (d : Draft) → slot < v.geometry.log → v.base + slot < 2 ^ 64 → IsOld v first slot → LineReads v first image slot d → IsOfNoLater v image slot
+line_later v first image slot d below small old (IsEntry is) valid =
+    omega (arith, ap held_seq is, held_seq-encode_entry d (v.base + slot) small, below)
+line_later v first image slot d below small old (IsAsFirst is) valid = omega (arith, ap held_seq is, old (sym (ap is_self_valid is) ∙ valid), below)
+line_later v first image slot d below small old (IsNothing is) valid = absurd (both_ways (is_self_valid (line_bytes image (log_line v.geometry slot))) is valid)
 
 -- The jobs that landed.
 
@@ -140,10 +178,11 @@ record IsRead (v : Volume) (cells : ℕ → Cell) (first image : Words) : Type 0
   has : HasLogWords v cells image
   honest : IsHonest v.geometry cells image
   small : (slot : ℕ) → slot < v.geometry.log → v.base + slot < 2 ^ 64
-  fresh : (slot : ℕ) → slot < v.geometry.log → entry_in v first slot ≡ None
+  old : (slot : ℕ) → slot < v.geometry.log → IsOld v first slot
 
 read_line : (v : Volume) (cells : ℕ → Cell) (first image : Words) (slot : ℕ) (d : Draft) → IsRead v cells first image → IsJobLine v cells first slot d → (entry_in v image slot ≡ Some d) ⊎ (entry_in v image slot ≡ None)
-read_line v cells first image slot d read line = job_line v cells first image slot d (read.small slot line.below) read.has read.honest (read.fresh slot line.below) line
+read_line v cells first image slot d read line =
+    line_entry v first image slot d (read.small slot line.below) (read.old slot line.below) line.spells.draft line.spells.fits (job_line v cells first image slot d read.has read.honest line)
 
 -- a line that shows some entry shows that of its job
 own_entry : (v : Volume) (cells : ℕ → Cell) (first image : Words) (slot : ℕ) (d e : Draft) → IsRead v cells first image → IsJobLine v cells first slot d → entry_in v image slot ≡ Some e → d ≡ e
@@ -239,7 +278,7 @@ In-either (z ∷ zs) ys x (inr behind) = elim (In-either zs ys x behind) [ inl l
 pub shows_pictures : ShowsPictures
 shows_pictures v cells first image claims jobs slots small lines has honest filled = (landed_by v image jobs slots, landed_filled v image jobs slots filled, shows) where
   read : IsRead v cells first image
-  read = record { has = has; honest = honest; small = λ slot below. omega (arith, small, below); fresh = lines.fresh }
+  read = record { has = has; honest = honest; small = λ slot below. omega (arith, small, below); old = lines.old }
 
   claim_shown : (slot : ℕ) (d : Draft) → In (slot, d) claims → (slot < v.geometry.log) × (entry_in v image slot ≡ Some d)
   claim_shown slot d is =
@@ -261,7 +300,7 @@ shows_pictures v cells first image claims jobs slots small lines has honest fill
       | inl taken ↦ In-right claims (landed_pairs jobs (landed_by v image jobs slots)) (slot, d) (pairs_have v cells first image jobs slots read lines.out slot d taken is)
       | inr free ↦
           let none : entry_in v image slot ≡ None =
-          ap (λ bytes. decode_entry bytes (v.base + slot)) (held_words v cells image first slot below has (lines.others slot below unclaimed free)) ∙ lines.fresh slot below in
+          ap (λ bytes. decode_entry bytes (v.base + slot)) (held_words v cells image first slot below has (lines.others slot below unclaimed free)) ∙ old_none v first slot (read.small slot below) (lines.old slot below) in
           let never : None ≡ Some d = sym none ∙ is in
           cc
     ]
@@ -269,3 +308,31 @@ shows_pictures v cells first image claims jobs slots small lines has honest fill
 
   shows : ShowsClaims v (claims ++ landed_pairs jobs (landed_by v image jobs slots)) image
   shows slot d = (on slot d, λ there. back slot d there.0 there.1)
+
+-- THE LINES: no line of such an image is an entry of a later lap.
+
+taken_line : (v : Volume) (cells : ℕ → Cell) (first : Words) (jobs : List Job) (slots : List (Option ℕ)) (n : ℕ) → AreJobLines v cells first jobs slots → IsTaken jobs slots n → (d : Draft) × IsJobLine v cells first n d
+taken_line v cells first [] slots n lines taken = absurd taken
+taken_line v cells first (j ∷ jobs) [] n lines taken = absurd taken
+taken_line v cells first (j ∷ jobs) (None ∷ slots) n lines taken = taken_line v cells first jobs slots n lines taken
+taken_line v cells first (j ∷ jobs) (Some slot ∷ slots) n lines (inl same) = (j.draft, subst (λ m. IsJobLine v cells first m j.draft) same lines.0)
+taken_line v cells first (j ∷ jobs) (Some slot ∷ slots) n lines (inr behind) = taken_line v cells first jobs slots n lines.1 behind
+
+line_of : (v : Volume) (cells : ℕ → Cell) (first image : Words) (claims : List (ℕ × Draft)) (jobs : List Job) (slots : List (Option ℕ)) (slot : ℕ) → slot < v.geometry.log
+    → AreLinesOut v cells first claims jobs slots → HasLogWords v cells image → IsHonest v.geometry cells image → (d : Draft) × LineReads v first image slot d
+line_of v cells first image claims jobs slots slot below lines has honest = elim (claimed_or_not claims slot) [
+  | inl claimed ↦
+      let line = lines.claimed slot claimed.0 claimed.1 in
+      (claimed.0, IsEntry (held_words v cells image line.entry slot below has line.holds ∙ line.spells.spelled))
+  | inr unclaimed ↦ elim (taken_or_not jobs slots slot) [
+    | inl taken ↦ let its = taken_line v cells first jobs slots slot lines.out taken in (its.0, job_line v cells first image slot its.0 has honest its.1)
+    | inr free ↦ (no_draft, IsAsFirst (held_words v cells image first slot below has (lines.others slot below unclaimed free)))
+  ]
+] where
+  no_draft : Draft
+  no_draft = record { count = 0; order = 0; ino = 0; generation = 0; file_block = 0; staging = 0; staging_block = 0; staging_generation = 0; size = 0 }
+
+pub keeps_laps : KeepsLaps
+keeps_laps v cells first image claims jobs slots small lines has honest slot below =
+    let its = line_of v cells first image claims jobs slots slot below lines has honest in
+    line_later v first image slot its.0 below (omega (arith, small, below)) (lines.old slot below) its.1

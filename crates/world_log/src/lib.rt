@@ -8,14 +8,16 @@
 //! Stands on `world_promise`.
 #![tactic(auto)]
 
-ghost use Rattle.world_log.specs.Laws.{KeepsLogRules, ShowsPictures};
+ghost use Rattle.world_log.specs.Laws.{KeepsLaps, KeepsLogRules, ShowsPictures};
 
 /// An image that shows a valid world keeps the rules of its log, whichever jobs landed.
 pub fn an_image_keeps_the_rules_of_its_log()
     ensures { KeepsLogRules }
 {}
 
-/// An honest image of log lines that are put back shows the claims and some of the filled jobs.
+/// An honest image of log lines that are put back shows the claims and some of the filled jobs, and no
+/// entry of a later lap.
 pub fn an_image_shows_claims_and_jobs()
-    ensures { ShowsPictures }
+    ensures pictures { ShowsPictures }
+    ensures laps { KeepsLaps }
 {}

@@ -5,7 +5,6 @@ use Rattle.pm_words.specs.Words.{Words}
 use Rattle.disk_lines.specs.declared.Draft.{Draft}
 use Rattle.disk_rules.specs.Content as shown
 use Rattle.disk_rules.specs.Content.{found}
-use Rattle.disk_rules.specs.Live.{live_entries}
 use Rattle.disk_rules.specs.Volume.{Volume}
 use Rattle.posix_types.specs.declared.tree.TreeEntry.{TreeEntry}
 use Rattle.posix_spec.specs.Run.{run}

@@ -28,7 +28,7 @@ pub record IsTreeLike (entries : List DirEntry) : Type 0 where
 
 -- Lists without repeats.
 
-abbrev AreDifferent : {X : Type 0} → List X → Type 0
+abbrev pub AreDifferent : {X : Type 0} → List X → Type 0
 AreDifferent [] = Unit {0}
 AreDifferent (x ∷ xs) = (In x xs → ⊥) × AreDifferent xs
 
@@ -45,7 +45,7 @@ length-removed (z ∷ zs) zero x is = omega arith
 length-removed (z ∷ zs) (suc n) x is = omega (arith, length-removed zs n x is)
 
 -- so many different members has a list at most
-few : {X : Type 0} (xs ys : List X) → AreDifferent xs → ((x : X) → In x xs → In x ys) → length xs ≤ length ys
+pub few : {X : Type 0} (xs ys : List X) → AreDifferent xs → ((x : X) → In x xs → In x ys) → length xs ≤ length ys
 few [] ys different among = omega arith
 few (x ∷ xs) ys different among =
     let place = slice_get-In ys x (among x (inl refl)) in

@@ -5,7 +5,7 @@ use Rattle.pm_words.specs.Words.{Words}
 use Rattle.disk_places.specs.Places.{data_blocks}
 use Rattle.disk_lines.specs.declared.Draft.{Draft}
 use Rattle.disk_rules.specs.Honest.{IsHonest}
-use Rattle.disk_rules.specs.Rules.{IsOfNoLater}
+use Rattle.disk_rules.specs.Rules.{CanRecover, IsOfNoLater}
 use Rattle.disk_rules.specs.Volume.{Volume}
 use Rattle.posix_spec.specs.State.{State}
 use Rattle.world_rules.specs.Claims.{ClaimsStand}
@@ -13,7 +13,7 @@ use Rattle.world_rules.specs.Jobs.{Job, Valid}
 use Rattle.world_rules.specs.Promised.{IsShown}
 use Rattle.world_rules.specs.Shown.{AreFilled, landed_pairs, ShowsClaims}
 use Rattle.world_log.specs.Lines.{AreLinesOut, HasLogWords}
-use Rattle.world_log.specs.Rules.{AreLogRulesKept}
+use Rattle.world_log.specs.Rules.{AreLogRulesKept, HasFreeBlocks}
 
 -- An image that shows a valid world keeps the rules of its log, whichever jobs landed.
 abbrev pub KeepsLogRules : Type 0
@@ -35,3 +35,11 @@ KeepsLaps =
     (v : Volume) (cells : ℕ → Cell) (first image : Words) (claims : List (ℕ × Draft)) (jobs : List Job) (slots : List (Option ℕ))
     → v.base + v.geometry.log ≤ 2 ^ 64 → AreLinesOut v cells first claims jobs slots → HasLogWords v cells image → IsHonest v.geometry cells image
     → (slot : ℕ) → slot < v.geometry.log → IsOfNoLater v image slot
+
+-- An image that shows a valid world in which the free blocks are enough to publish each live claim and each job by itself
+-- can be recovered, whichever jobs landed.
+abbrev pub MayRecover : Type 0
+MayRecover =
+    (v : Volume) (claims : List (ℕ × Draft)) (jobs : List Job) (kept image : Words) (numbers : List ℕ) (s : State) (landed : List (Option ℕ))
+    → Valid v claims jobs kept numbers s → ClaimsStand v claims → s.shape.data_blocks ≡ data_blocks v.geometry → HasFreeBlocks v claims jobs → IsShown v claims jobs kept image landed
+    → CanRecover v image

@@ -4,3 +4,4 @@ pub mod LogRules
 pub mod Laws
 pub mod Lines
 pub mod Pictures
+pub mod Free

@@ -33,7 +33,7 @@ All-In P xs each i d below = each (slice_index_or xs i d) (In-slice_get xs i (sl
 
 -- What an entry that is live is, and is not yet.
 
-live_parts : (v : Volume) (d : Draft) → is_live v d ≡ true → (is_of_file v d ≡ true) × (nat_lt (inode v d.ino).applied d.order ≡ true)
+pub live_parts : (v : Volume) (d : Draft) → is_live v d ≡ true → (is_of_file v d ≡ true) × (nat_lt (inode v d.ino).applied d.order ≡ true)
 live_parts v d alive =
     let first = and_parts (is_of_file v d && nat_lt (inode v d.ino).applied d.order) ((inode v d.staging).generation == d.staging_generation) alive in
     and_parts (is_of_file v d) (nat_lt (inode v d.ino).applied d.order) first.0

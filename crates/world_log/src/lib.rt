@@ -8,11 +8,13 @@
 //! Stands on `world_promise`.
 #![tactic(auto)]
 
-ghost use Rattle.world_log.specs.Laws.{KeepsLaps, KeepsLogRules, ShowsPictures};
+ghost use Rattle.world_log.specs.Laws.{KeepsLaps, KeepsLogRules, MayRecover, ShowsPictures};
 
-/// An image that shows a valid world keeps the rules of its log, whichever jobs landed.
+/// An image that shows a valid world keeps the rules of its log, whichever jobs landed, and with free
+/// blocks enough it can be recovered.
 pub fn an_image_keeps_the_rules_of_its_log()
-    ensures { KeepsLogRules }
+    ensures rules { KeepsLogRules }
+    ensures recovery { MayRecover }
 {}
 
 /// An honest image of log lines that are put back shows the claims and some of the filled jobs, and no

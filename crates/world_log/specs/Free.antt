@@ -16,7 +16,7 @@ use Rattle.world_promise.specs.Ends.{SameMembers-shown}
 use Rattle.world_promise.specs.JobLaws.{acted, live_claims-more, Valid-dropped, Valid-landed}
 use Rattle.world_promise.specs.Lent.{Valid-words}
 use Rattle.world_log.specs.Laws.{MayRecover}
-use Rattle.world_log.specs.LogRules.{ClaimsStand-landed, keeps_log_rules, live_parts}
+use Rattle.world_log.specs.LogRules.{ClaimsStand-landed, live_parts, log_promise}
 use Rattle.posix_trees.specs.Entries.{AreDifferent, few}
 
 -- entries that pass a test, found by rising numbers, are different where those of two numbers are
@@ -73,8 +73,7 @@ count_landed v (j ∷ jobs) (Some slot ∷ landed) claims f numbers s most valid
 -- RECOVERY: an image that shows a valid world with free blocks enough can be recovered.
 pub may_recover : MayRecover
 may_recover v claims jobs kept image numbers s landed valid stand shape free is =
-    let kept_rules = keeps_log_rules v claims jobs kept image numbers s landed valid stand shape is in
-    let count =
-    count_landed v jobs landed claims image numbers s (length (live_claims v claims) + length jobs) (Valid-words v claims jobs kept image numbers s is.same valid) stand is.filled is.log (omega arith)
-    in
-    record { staged = kept_rules.staged; apart = kept_rules.apart; orders = kept_rules.orders; held = kept_rules.held; unused = omega (arith, count, free) }
+    let there = Valid-words v claims jobs kept image numbers s is.same valid in
+    let rules = log_promise v jobs landed claims image numbers s there stand is.filled is.log shape in
+    let count = count_landed v jobs landed claims image numbers s (length (live_claims v claims) + length jobs) there stand is.filled is.log (omega arith) in
+    record { staged = rules.staged; apart = rules.apart; orders = rules.orders; held = rules.held; unused = omega (arith, count, free) }

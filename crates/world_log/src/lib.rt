@@ -3,7 +3,7 @@
 //! Lemmas over `world_rules` and `world_promise`. The layer above may rely on this: whichever jobs landed,
 //! the live entries have their staging blocks and share none, no two entries of one file have one order,
 //! and what the files then hold leaves the reserve; and lines that are put back, each whole or in the
-//! permitted mixtures of words, show the claims and some of the jobs.
+//! permitted mixtures of words, show the claims and some of the jobs. `Laws` has each as one statement.
 //!
 //! Stands on `world_promise`.
 #![tactic(auto)]

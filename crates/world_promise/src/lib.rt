@@ -4,7 +4,9 @@
 //! after a history, the tree of each image that shows it, with any of its jobs landed, is one that strict
 //! mode, or sync mode, permits; and there is such a tree. `Latest` has the laws of the entry of greatest
 //! order, `TreeRules` and `Contents` that a volume that stands for a state has the content of that state,
-//! `Landed` that an entry may land, `Words` that words of lent blocks may change.
+//! `Landed` that an entry may land, `Beside` what a write leaves of others, `JobLaws` that a job lands or is
+//! dropped, `Lent` that words of lent blocks may change, `Ends` puts them together, and `Laws` has the
+//! promises, each as one statement.
 //!
 //! Stands on `world_rules`, and on the facts of volumes, of names and of calls.
 #![tactic(auto)]

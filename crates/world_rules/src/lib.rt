@@ -4,11 +4,11 @@
 //! Between two events the World has a volume, the claims of the lap (pairs of a slot and an entry), the
 //! jobs (logged writes that have begun and not returned) and a state of the calls, the run of the history.
 //! `Stands` joins volume and state by numbers, the node of each inode; `JobStands` says what a job will
-//! leave; `Valid` puts both together. `ShowsClaims` and `AreFilled` say what an image shows of claims and
-//! jobs, and `KeepsStrictPromise` what a power loss may then leave. Nothing here speaks of cells or of
-//! memory: the World's code meets these words in its invariant.
+//! leave; `Valid` puts both together. `ClaimsStand` says what holds of all claims of the lap, `IsShown` what
+//! an image shows of claims and jobs, and `LeftBy` what a power loss may then leave. Nothing here speaks of
+//! cells or of memory: the World's code meets these words in its invariant.
 //!
-//! Definitions alone. Stands on `disk_rules`, `posix_puts`, `posix_trees` and `crash_spec`.
+//! Definitions, and a worked world that is valid. Stands on `disk_rules`, `posix_puts`, `posix_trees` and `crash_spec`.
 #![tactic(auto)]
 
 ghost use Rattle.world_rules.specs.Laws.{HasValidWorld};

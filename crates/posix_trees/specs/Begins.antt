@@ -20,7 +20,7 @@ use Rattle.posix_words.specs.Places.{node_of, printed}
 use Rattle.posix_spec.specs.State.{made, space, State}
 use Rattle.posix_spec.specs.Tree.{bare, planted, start}
 use Rattle.posix_facts.specs.DistinctLaws.{own_entry}
-use Rattle.posix_trees.specs.Members.{find-In, find-none, In, In-insert, insert-In, length-inserted, slice_get-front, slice_get-In, slice_get-last, slice_get-push}
+use Rattle.list_facts.specs.Members.{find-In, find-none, In, In-insert, insert-In, length-inserted, slice_get-front, slice_get-In, slice_get-last, slice_get-push}
 use Rattle.posix_trees.specs.Order.{Rising-push, rising_place, RisingBy}
 
 -- Trees.

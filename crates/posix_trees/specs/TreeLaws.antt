@@ -17,10 +17,10 @@ use Rattle.posix_words.specs.Nodes.{node_at}
 use Rattle.posix_words.specs.Places.{entry_place, node_of, path_to, place_of, places, printed, tree_entry, tree_node, with_place}
 use Rattle.posix_spec.specs.Tree.{start, tree}
 use Rattle.posix_trees.specs.Begins.{AreBegun, AreBegun-start, HaveOwnChildren, IsTree, never_below, node_at-begun, one_element, path_below, path_first, shorter_above}
-use Rattle.posix_trees.specs.Members.{find-In, find-none, In, In-insert, In-slice_get, insert-In}
+use Rattle.list_facts.specs.Members.{find-In, find-none, In, In-insert, In-slice_get, insert-In}
 use Rattle.posix_trees.specs.Order.{insert-position, Rising-put_in, Rising-same, rising_place, RisingBy}
 
-abbrev text_of : Place → List ℕ
+abbrev pub text_of : Place → List ℕ
 text_of place = place.text
 
 -- Paths of entries.
@@ -76,10 +76,10 @@ Rising-with_place places p rising new =
     subst (RisingBy text_of) (sym (insert-position (λ (other : Place). bytes_before p.text other.text) p places)) (Rising-put_in text_of p places rising new)
 
 -- the places of some entries, put in among others
-abbrev put_all : (DirEntry → Place) → List Place → List DirEntry → List Place
+abbrev pub put_all : (DirEntry → Place) → List Place → List DirEntry → List Place
 put_all place so_far es = fold (λ acc e. with_place acc (place e)) so_far es
 
-put_all-In : (place : DirEntry → Place) (so_far : List Place) (es : List DirEntry) (z : Place) → In z (put_all place so_far es) → In z so_far ⊎ ((e : DirEntry) × In e es × (place e ≡ z))
+pub put_all-In : (place : DirEntry → Place) (so_far : List Place) (es : List DirEntry) (z : Place) → In z (put_all place so_far es) → In z so_far ⊎ ((e : DirEntry) × In e es × (place e ≡ z))
 put_all-In place so_far [] z is = inl is
 put_all-In place so_far (e ∷ es) z is =
     elim (put_all-In place (with_place so_far (place e)) es z is) [
@@ -87,7 +87,7 @@ put_all-In place so_far (e ∷ es) z is =
       | inr behind ↦ inr (behind.0, inr behind.1, behind.2)
     ]
 
-In-put_all : (place : DirEntry → Place) (so_far : List Place) (es : List DirEntry) (z : Place) → In z so_far ⊎ ((e : DirEntry) × In e es × (place e ≡ z)) → In z (put_all place so_far es)
+pub In-put_all : (place : DirEntry → Place) (so_far : List Place) (es : List DirEntry) (z : Place) → In z so_far ⊎ ((e : DirEntry) × In e es × (place e ≡ z)) → In z (put_all place so_far es)
 In-put_all place so_far [] z (inl old) = old
 In-put_all place so_far [] z (inr entry) = absurd entry.1
 In-put_all place so_far (e ∷ es) z (inl old) = In-put_all place (with_place so_far (place e)) es z (inl (In-with_place so_far (place e) z (inr old)))
@@ -97,11 +97,11 @@ In-put_all place so_far (e ∷ es) z (inr entry) = In-put_all place (with_place 
   by (inr behind) = inr (entry.0, behind, entry.2)
 
 -- the places of two entries of a list have two texts
-abbrev HaveOwnTexts : (DirEntry → Place) → List DirEntry → Type 0
+abbrev pub HaveOwnTexts : (DirEntry → Place) → List DirEntry → Type 0
 HaveOwnTexts place [] = Unit {0}
 HaveOwnTexts place (e ∷ es) = ((other : DirEntry) → In other es → (place e).text ≢ (place other).text) × HaveOwnTexts place es
 
-Rising-put_all : (place : DirEntry → Place) (so_far : List Place) (es : List DirEntry) → RisingBy text_of so_far
+pub Rising-put_all : (place : DirEntry → Place) (so_far : List Place) (es : List DirEntry) → RisingBy text_of so_far
     → ((e : DirEntry) → In e es → (z : Place) → In z so_far → z.text ≢ (place e).text) → HaveOwnTexts place es → RisingBy text_of (put_all place so_far es)
 Rising-put_all place so_far [] rising apart own = rising
 Rising-put_all place so_far (e ∷ es) rising apart own =

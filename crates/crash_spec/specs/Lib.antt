@@ -1,0 +1,11 @@
+pub mod PosixLaws
+pub mod Laws
+pub mod Orders
+pub mod Schedules
+pub mod Busy
+pub mod Machine
+pub mod Permitted
+pub mod Posix
+pub mod Strict
+pub mod Sync
+pub mod Values

@@ -1,0 +1,15 @@
+-- Which trees a power loss may leave, by the mode of the file system.
+use Rattle.std.specs.Prelude.{List}
+use Rattle.posix_types.specs.declared.call.Mode.{Mode}
+use Rattle.posix_types.specs.declared.item.Item.{Item}
+use Rattle.posix_types.specs.declared.tree.TreeEntry.{TreeEntry}
+use Rattle.posix_spec.specs.Run.{Begun}
+use Rattle.posix_spec.specs.State.{State}
+use Rattle.crash_spec.specs.Strict.{Strict}
+use Rattle.crash_spec.specs.Sync.{Sync}
+use Rattle.crash_spec.specs.Posix.{Posix}
+
+abbrev pub Permitted : Mode → State → List Item → List Begun → List TreeEntry → Type 0
+Permitted Mode.Strict s history unfinished left = Strict s history unfinished left
+Permitted Mode.Sync s history unfinished left = Sync s history unfinished left
+Permitted Mode.Posix s history unfinished left = Posix s history unfinished left

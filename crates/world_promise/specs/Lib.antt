@@ -1,0 +1,10 @@
+pub mod TreeRules
+pub mod Latest
+pub mod Contents
+pub mod Landed
+pub mod Beside
+pub mod JobLaws
+pub mod Lent
+pub mod Ends
+pub mod Laws
+pub mod Promise

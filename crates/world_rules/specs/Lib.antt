@@ -1,0 +1,10 @@
+pub mod Claims
+pub mod Example
+pub mod ExampleEntry
+pub mod ExampleJob
+pub mod ExampleParts
+pub mod Jobs
+pub mod Laws
+pub mod Promised
+pub mod Shown
+pub mod Stands

@@ -113,10 +113,10 @@ bound-with_binding handles new who h b other thread bound =
 abbrev pub described : Tables → ℕ → Option Description
 described t key = option_flatten (slice_get t.descriptions key)
 
-pub record Opens (t : Tables) (who : Who) (h : Handle) (d : Description) : Type 0 where
+-- A handle stands for a description with this number: by a binding, and the descriptor of the binding.
+pub record Opens (t : Tables) (who : Who) (h : Handle) (key : ℕ) (d : Description) : Type 0 where
   pub binding : Binding
   pub bound : binding_of t.handles who h ≡ Some binding
-  pub key : ℕ
   pub key_is : description_number t.descriptors binding.descriptor ≡ Some key
   pub stands : described t key ≡ Some d
 
@@ -124,68 +124,59 @@ parts : {A B : Type 0} (f : A → Option B) (o : Option A) (y : B) → option_an
 parts f None y is = cc
 parts f (Some x) y is = (x, refl, is)
 
-pub Opens-opened : (t : Tables) (who : Who) (h : Handle) (d : Description) → opened t who h ≡ Some d → Opens t who h d
+pub Opens-opened : (t : Tables) (who : Who) (h : Handle) (d : Description) → opened t who h ≡ Some d → (key : ℕ) × Opens t who h key d
 unfolding opened key_of
 Opens-opened t who h d is =
     let key = parts (λ (k : ℕ). described t k) (key_of t who h) d is in
     let binding = parts (λ (b : Binding). description_number t.descriptors b.descriptor) (binding_of t.handles who h) key.0 key.1 in
-    record { binding = binding.0; bound = binding.1; key = key.0; key_is = binding.2; stands = key.2 }
+    (key.0, record { binding = binding.0; bound = binding.1; key_is = binding.2; stands = key.2 })
 
-pub key_of-Opens : (t : Tables) (who : Who) (h : Handle) (d : Description) (o : Opens t who h d) → key_of t who h ≡ Some o.key
+pub key_of-Opens : (t : Tables) (who : Who) (h : Handle) (key : ℕ) (d : Description) → Opens t who h key d → key_of t who h ≡ Some key
 unfolding key_of
-key_of-Opens t who h d o = ap (λ x. option_and_then (λ (b : Binding). description_number t.descriptors b.descriptor) x) o.bound ∙ o.key_is
+key_of-Opens t who h key d o = ap (λ x. option_and_then (λ (b : Binding). description_number t.descriptors b.descriptor) x) o.bound ∙ o.key_is
 
-pub opened-Opens : (t : Tables) (who : Who) (h : Handle) (d : Description) → Opens t who h d → opened t who h ≡ Some d
+pub opened-Opens : (t : Tables) (who : Who) (h : Handle) (key : ℕ) (d : Description) → Opens t who h key d → opened t who h ≡ Some d
 unfolding opened
-opened-Opens t who h d o = ap (λ x. option_and_then (λ (k : ℕ). described t k) x) (key_of-Opens t who h d o) ∙ o.stands
+opened-Opens t who h key d o = ap (λ x. option_and_then (λ (k : ℕ). described t k) x) (key_of-Opens t who h key d o) ∙ o.stands
 
 -- ---- another caller gets a descriptor
 
 -- Another caller gets a descriptor for a description.
-pub opened-with_descriptor : (t : Tables) (who who2 : Who) (h h2 : Handle) (key : ℕ) (d : Description) → is_full t ≡ false → same_who who2 who ≡ false → same_who who2 Who.Setup ≡ false
-    → opened t who h ≡ Some d → opened (with_descriptor t who2 h2 key) who h ≡ Some d
+pub Opens-with_descriptor : (t : Tables) (who who2 : Who) (h h2 : Handle) (new key : ℕ) (d : Description) → is_full t ≡ false → same_who who2 who ≡ false → same_who who2 Who.Setup ≡ false
+    → Opens t who h key d → Opens (with_descriptor t who2 h2 new) who h key d
 unfolding with_descriptor
-opened-with_descriptor t who who2 h h2 key d room other thread is =
-    let o = Opens-opened t who h d is in
+Opens-with_descriptor t who who2 h h2 new key d room other thread o =
     let n : ℕ = next_descriptor t in
     let free = free_place t.descriptors (free_descriptor t) refl room in
-    let apart : o.binding.descriptor ≢ n = λ e. (let never : Some o.key ≡ None = sym o.key_is ∙ ap (λ k. description_number t.descriptors k) e ∙ free in cc) in
-    opened-Opens (with_descriptor t who2 h2 key) who h d (record {
+    let apart : o.binding.descriptor ≢ n = λ e. (let never : Some key ≡ None = sym o.key_is ∙ ap (λ k. description_number t.descriptors k) e ∙ free in cc) in
+    record {
       binding = o.binding;
       bound = bound-with_binding t.handles (record { who = who2; handle = h2; descriptor = n }) who h o.binding other thread o.bound;
-      key = o.key;
-      key_is = ap (λ (x : Option (Option ℕ)). option_flatten x) (slice_get-set_other t.descriptors n o.binding.descriptor (Some key) apart) ∙ o.key_is;
+      key_is = ap (λ (x : Option (Option ℕ)). option_flatten x) (slice_get-set_other t.descriptors n o.binding.descriptor (Some new) apart) ∙ o.key_is;
       stands = o.stands;
-    })
+    }
 
 flat : {X : Type 0} (o : Option (Option X)) (x : X) → option_flatten o ≡ Some x → o ≡ Some (Some x)
 flat None x is = cc
 flat (Some None) x is = cc
 flat (Some (Some y)) x is = ap Some is
 
-described-front : (slots more : List (Option Description)) (key : ℕ) (d : Description) → option_flatten (slice_get slots key) ≡ Some d → option_flatten (slice_get (slots ++ more) key) ≡ Some d
-described-front slots more key d is = ap (λ (x : Option (Option Description)). option_flatten x) (slice_get-front slots more key (Some d) (flat (slice_get slots key) d is))
+pub slot_of : (t : Tables) (key : ℕ) (d : Description) → described t key ≡ Some d → slice_get t.descriptions key ≡ Some (Some d)
+slot_of t key d is = flat (slice_get t.descriptions key) d is
 
 -- Another caller opens a file.
-pub opened-with_opened : (t : Tables) (who who2 : Who) (h h2 : Handle) (new d : Description) → is_full t ≡ false → same_who who2 who ≡ false → same_who who2 Who.Setup ≡ false
-    → opened t who h ≡ Some d → opened (with_opened t who2 h2 new) who h ≡ Some d
+pub Opens-with_opened : (t : Tables) (who who2 : Who) (h h2 : Handle) (new d : Description) (key : ℕ) → is_full t ≡ false → same_who who2 who ≡ false → same_who who2 Who.Setup ≡ false
+    → Opens t who h key d → Opens (with_opened t who2 h2 new) who h key d
 unfolding with_opened
-opened-with_opened t who who2 h h2 new d room other thread is =
-    let o = Opens-opened t who h d is in
+Opens-with_opened t who who2 h h2 new d key room other thread o =
     let more : Tables = record t { descriptions = t.descriptions ++ Some new ∷ [] } in
-    let still : opened more who h ≡ Some d = opened-Opens more who h d (record {
-      binding = o.binding;
-      bound = o.bound;
-      key = o.key;
-      key_is = o.key_is;
-      stands = described-front t.descriptions (Some new ∷ []) o.key d o.stands;
-    }) in
-    opened-with_descriptor more who who2 h h2 (length t.descriptions) d room other thread still
+    let front = ap (λ (x : Option (Option Description)). option_flatten x) (slice_get-front t.descriptions (Some new ∷ []) key (Some d) (slot_of t key d o.stands)) in
+    Opens-with_descriptor more who who2 h h2 (length t.descriptions) key d room other thread (record { binding = o.binding; bound = o.bound; key_is = o.key_is; stands = front })
 
 -- ---- a description of another file moves or goes
 
 -- two descriptions of different files have different numbers
-keys_apart : (t : Tables) (k k2 : ℕ) (d e : Description) → described t k ≡ Some d → described t k2 ≡ Some e → d.node ≢ e.node → k ≢ k2
+pub keys_apart : (t : Tables) (k k2 : ℕ) (d e : Description) → described t k ≡ Some d → described t k2 ≡ Some e → d.node ≢ e.node → k ≢ k2
 keys_apart t k k2 d e is is2 other same =
     let both : Some d ≡ Some e = sym is ∙ ap (described t) same ∙ is2 in
     let one : d ≡ e = cc in
@@ -194,34 +185,32 @@ keys_apart t k k2 d e is is2 other same =
 stands_other : (slots : List (Option Description)) (k k2 : ℕ) (d : Description) (slot : Option Description) → k ≢ k2 → option_flatten (slice_get slots k) ≡ Some d → option_flatten (slice_get (slice_set slots k2 slot) k) ≡ Some d
 stands_other slots k k2 d slot other is = ap (λ (x : Option (Option Description)). option_flatten x) (slice_get-set_other slots k2 k slot other) ∙ is
 
-offset_set : (t : Tables) (key offset : ℕ) (e : Description) → option_flatten (slice_get t.descriptions key) ≡ Some e
-    → with_offset t key offset ≡ record t { descriptions = slice_set t.descriptions key (Some (record e { offset = offset })) }
+-- what another offset of a description is
+pub with_offset-is : (t : Tables) (key offset : ℕ) (e : Description) → described t key ≡ Some e → with_offset t key offset ≡ record t { descriptions = slice_set t.descriptions key (Some (record e { offset = offset })) }
 unfolding with_offset
-offset_set t key offset e is = rw is refl
+with_offset-is t key offset e is = rw is refl
+
+pub Opens-set : (t : Tables) (who : Who) (h : Handle) (key k2 : ℕ) (d : Description) (slot : Option Description) → key ≢ k2 → Opens t who h key d
+    → Opens (record t { descriptions = slice_set t.descriptions k2 slot }) who h key d
+Opens-set t who h key k2 d slot other o = record { binding = o.binding; bound = o.bound; key_is = o.key_is; stands = stands_other t.descriptions key k2 d slot other o.stands }
 
 -- Another offset of one description leaves those of other files.
-pub opened-with_offset-other : (t : Tables) (who who2 : Who) (h h2 : Handle) (offset : ℕ) (d e : Description) → opened t who2 h2 ≡ Some e → opened t who h ≡ Some d → d.node ≢ e.node
-    → opened (with_offset t (unwrap_or (key_of t who2 h2) 0) offset) who h ≡ Some d
-opened-with_offset-other t who who2 h h2 offset d e moves is other =
-    let o = Opens-opened t who h d is in
-    let o2 = Opens-opened t who2 h2 e moves in
-    let at : unwrap_or (key_of t who2 h2) 0 ≡ o2.key = ap (λ x. unwrap_or x 0) (key_of-Opens t who2 h2 e o2) in
-    let new : Tables = record t { descriptions = slice_set t.descriptions o2.key (Some (record e { offset = offset })) } in
-    let same : with_offset t (unwrap_or (key_of t who2 h2) 0) offset ≡ new = ap (λ k. with_offset t k offset) at ∙ offset_set t o2.key offset e o2.stands in
-    ap (λ x. opened x who h) same
-    ∙ opened-Opens new who h d (record {
-      binding = o.binding;
-      bound = o.bound;
-      key = o.key;
-      key_is = o.key_is;
-      stands = stands_other t.descriptions o.key o2.key d _ (keys_apart t o.key o2.key d e o.stands o2.stands other) o.stands;
-    })
+pub Opens-with_offset : (t : Tables) (who who2 : Who) (h h2 : Handle) (offset : ℕ) (key : ℕ) (d e : Description) → opened t who2 h2 ≡ Some e → d.node ≢ e.node
+    → Opens t who h key d → Opens (with_offset t (unwrap_or (key_of t who2 h2) 0) offset) who h key d
+Opens-with_offset t who who2 h h2 offset key d e moves other o =
+    let found = Opens-opened t who2 h2 e moves in
+    let o2 = found.1 in
+    let k2 : ℕ = found.0 in
+    let at : unwrap_or (key_of t who2 h2) 0 ≡ k2 = ap (λ x. unwrap_or x 0) (key_of-Opens t who2 h2 k2 e o2) in
+    let same : with_offset t (unwrap_or (key_of t who2 h2) 0) offset ≡ record t { descriptions = slice_set t.descriptions k2 (Some (record e { offset = offset })) } =
+      ap (λ k. with_offset t k offset) at ∙ with_offset-is t k2 offset e o2.stands in
+    subst (λ x. Opens x who h key d) (sym same) (Opens-set t who h key k2 d (Some (record e { offset = offset })) (keys_apart t key k2 d e o.stands o2.stands other) o)
 
-Opens-without_unused : (t : Tables) (key : ℕ) (who : Who) (h : Handle) (d : Description) (o : Opens t who h d) → o.key ≢ key → Opens (without_unused t key) who h d
-Opens-without_unused t key who h d o other = by (list_any (has_key key) t.descriptors) where
-  by : (b : Bool) → Opens (cond b t (record t { descriptions = slice_set t.descriptions key None })) who h d
+Opens-without_unused : (t : Tables) (k2 : ℕ) (who : Who) (h : Handle) (key : ℕ) (d : Description) → Opens t who h key d → key ≢ k2 → Opens (without_unused t k2) who h key d
+Opens-without_unused t k2 who h key d o other = by (list_any (has_key k2) t.descriptors) where
+  by : (b : Bool) → Opens (cond b t (record t { descriptions = slice_set t.descriptions k2 None })) who h key d
   by true = o
-  by false = record { binding = o.binding; bound = o.bound; key = o.key; key_is = o.key_is; stands = stands_other t.descriptions o.key key d None other o.stands }
+  by false = Opens-set t who h key k2 d None other o
 
 -- two look-ups with different bindings: the one found is not what the other takes away
 fails_other : (handles : List Binding) (who who2 : Who) (h h2 : Handle) (b b2 : Binding) → same_who who2 who ≡ false → same_who who2 Who.Setup ≡ false → same_who Who.Setup who ≡ false
@@ -254,34 +243,33 @@ fails_other handles who who2 h h2 b b2 other thread own bound bound2 apart =
         let same : b ≡ b2 = cc in
         absurd (apart (ap (λ (x : Binding). x.descriptor) same))
 
-closed_is : (t : Tables) (who : Who) (h : Handle) (b : Binding) → binding_of t.handles who h ≡ Some b → closed t who h ≡ without_binding t b
+pub closed-is : (t : Tables) (who : Who) (h : Handle) (b : Binding) → binding_of t.handles who h ≡ Some b → closed t who h ≡ without_binding t b
 unfolding closed
-closed_is t who h b bound = rw bound refl
+closed-is t who h b bound = rw bound refl
 
 -- Another caller closes a handle of another file.
-pub opened-closed : (t : Tables) (who who2 : Who) (h h2 : Handle) (d e : Description) → same_who who2 who ≡ false → same_who who2 Who.Setup ≡ false → same_who Who.Setup who ≡ false
-    → opened t who2 h2 ≡ Some e → opened t who h ≡ Some d → d.node ≢ e.node → opened (closed t who2 h2) who h ≡ Some d
+pub Opens-closed : (t : Tables) (who who2 : Who) (h h2 : Handle) (key : ℕ) (d e : Description) → same_who who2 who ≡ false → same_who who2 Who.Setup ≡ false → same_who Who.Setup who ≡ false
+    → opened t who2 h2 ≡ Some e → d.node ≢ e.node → Opens t who h key d → Opens (closed t who2 h2) who h key d
 unfolding without_binding
-opened-closed t who who2 h h2 d e other thread own closes is apart =
-    let o = Opens-opened t who h d is in
-    let o2 = Opens-opened t who2 h2 e closes in
-    let keys = keys_apart t o.key o2.key d e o.stands o2.stands apart in
+Opens-closed t who who2 h h2 key d e other thread own closes apart o =
+    let found = Opens-opened t who2 h2 e closes in
+    let k2 : ℕ = found.0 in
+    let o2 = found.1 in
+    let keys = keys_apart t key k2 d e o.stands o2.stands apart in
     let slots : o.binding.descriptor ≢ o2.binding.descriptor =
-    λ same. (let both : Some o.key ≡ Some o2.key = sym o.key_is ∙ ap (λ k. description_number t.descriptors k) same ∙ o2.key_is in let one : o.key ≡ o2.key = cc in keys one) in
+      λ same. (let both : Some key ≡ Some k2 = sym o.key_is ∙ ap (λ k. description_number t.descriptors k) same ∙ o2.key_is in let one : key ≡ k2 = cc in keys one) in
     let p : Binding → Bool = is_binding o2.binding.who o2.binding.handle in
     let left : Tables = record t {
       descriptors = slice_set t.descriptors o2.binding.descriptor None;
       handles = without_place t.handles (position p t.handles);
     } in
     let fails = fails_other t.handles who who2 h h2 o.binding o2.binding other thread own o.bound o2.bound slots in
-    let middle : Opens left who h d = record {
+    let middle : Opens left who h key d = record {
       binding = o.binding;
       bound = ap (λ xs. binding_of xs who h) (without_place-position p t.handles) ∙ bound-without_first p t.handles who h o.binding o.bound fails;
-      key = o.key;
       key_is = ap (λ (x : Option (Option ℕ)). option_flatten x) (slice_get-set_other t.descriptors o2.binding.descriptor o.binding.descriptor None slots) ∙ o.key_is;
       stands = o.stands;
     } in
-    let number : o2.key ≡ unwrap_or (description_number t.descriptors o2.binding.descriptor) 0 = sym (ap (λ x. unwrap_or x 0) o2.key_is) in
-    let unused = Opens-without_unused left (unwrap_or (description_number t.descriptors o2.binding.descriptor) 0) who h d middle (subst (λ k. o.key ≢ k) number keys) in
-    ap (λ x. opened x who h) (closed_is t who2 h2 o2.binding o2.bound)
-    ∙ opened-Opens (without_binding t o2.binding) who h d unused
+    let number : k2 ≡ unwrap_or (description_number t.descriptors o2.binding.descriptor) 0 = sym (ap (λ x. unwrap_or x 0) o2.key_is) in
+    let unused = Opens-without_unused left (unwrap_or (description_number t.descriptors o2.binding.descriptor) 0) who h key d middle (subst (λ k. key ≢ k) number keys) in
+    subst (λ x. Opens x who h key d) (sym (closed-is t who2 h2 o2.binding o2.bound)) unused

@@ -79,11 +79,11 @@ not_not false is = cc
 pub KeepsFile-none : (s : State) (node : ℕ) → KeepsFile s s node
 KeepsFile-none s node = record { tables = refl; mode = refl; file = refl }
 
-kept-made : (s : State) (p : List (List ℕ)) (x : Node) (node : ℕ) → node < length s.nodes → KeepsFile s (made s p x) node
+pub kept-made : (s : State) (p : List (List ℕ)) (x : Node) (node : ℕ) → node < length s.nodes → KeepsFile s (made s p x) node
 unfolding made
 kept-made s p x node within = record { tables = refl; mode = refl; file = get_or_append_left s.nodes (x ∷ []) Node.Gone node within }
 
-kept-with_node : (s m : State) (n node : ℕ) (x : Node) → KeepsFile s m node → node ≢ n → KeepsFile s (with_node m n x) node
+pub kept-with_node : (s m : State) (n node : ℕ) (x : Node) → KeepsFile s m node → node ≢ n → KeepsFile s (with_node m n x) node
 kept-with_node s m n node x keeps other = record { tables = keeps.tables; mode = keeps.mode; file = get_or-set_other m.nodes n node x Node.Gone other ∙ keeps.file }
 
 or_true : (a b : Bool) → b ≡ true → (a || b) ≡ true
@@ -95,7 +95,7 @@ pub swept-open : (m : State) (n : ℕ) → is_open m.tables n ≡ true → swept
 unfolding swept
 swept-open m n is = ap (λ b. cond b m (with_node m n Node.Gone)) (or_true (is_named m.entries n) (is_open m.tables n) is)
 
-kept-swept : (s m : State) (n node : ℕ) → KeepsFile s m node → is_open s.tables node ≡ true → KeepsFile s (swept alone m n) node
+pub kept-swept : (s m : State) (n node : ℕ) → KeepsFile s m node → is_open s.tables node ≡ true → KeepsFile s (swept alone m n) node
 unfolding swept
 kept-swept s m n node keeps held = elim (cases_eq n node) [
   | inl same ↦

@@ -1,3 +1,4 @@
 pub mod Lists
 pub mod Handles
 pub mod Bystanders
+pub mod Frames

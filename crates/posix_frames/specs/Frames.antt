@@ -72,17 +72,17 @@ LeavesAlone-idle s out c who node idle is other waits =
 
 -- ---- handles of another file
 
-other_file : (s : State) (who : Who) (h : Handle) (node : ℕ) (e : Description) → handle_node s who h ≢ Some node → opened s.tables who h ≡ Some e → node ≢ e.node
+pub other_file : (s : State) (who : Who) (h : Handle) (node : ℕ) (e : Description) → handle_node s who h ≢ Some node → opened s.tables who h ≡ Some e → node ≢ e.node
 other_file s who h node e alone_it is same = alone_it (ap (λ (o : Option Description). option_map (λ d. d.node) o) is ∙ ap Some (sym same))
 
-file_number-is : (s : State) (who : Who) (h : Handle) (e : Description) → opened s.tables who h ≡ Some e → file_number s.tables who h ≡ e.node
+pub file_number-is : (s : State) (who : Who) (h : Handle) (e : Description) → opened s.tables who h ≡ Some e → file_number s.tables who h ≡ e.node
 file_number-is s who h e is = ap (λ (o : Option Description). option_map_or (λ d. d.node) o 0) is
 
-known : {X : Type 0} (o : Option X) → is_none o ≡ false → (x : X) × (o ≡ Some x)
+pub known : {X : Type 0} (o : Option X) → is_none o ≡ false → (x : X) × (o ≡ Some x)
 known None is = cc
 known (Some x) is = (x, refl)
 
-granted : (f : Description → Bool) (o : Option Description) → option_map_or f o false ≡ true → (d : Description) × (o ≡ Some d)
+pub granted : (f : Description → Bool) (o : Option Description) → option_map_or f o false ≡ true → (d : Description) × (o ≡ Some d)
 granted f None is = cc
 granted f (Some d) is = (d, refl)
 
@@ -116,7 +116,7 @@ seen_offset s m who who2 node h2 offset e tables file mode is other = record {
 
 -- ---- calls with a handle of another file
 
-other_number : (s : State) (who : Who) (h : Handle) (node : ℕ) (e : Description) → opened s.tables who h ≡ Some e → node ≢ e.node → node ≢ file_number s.tables who h
+pub other_number : (s : State) (who : Who) (h : Handle) (node : ℕ) (e : Description) → opened s.tables who h ≡ Some e → node ≢ e.node → node ≢ file_number s.tables who h
 other_number s who h node e is other same = other (same ∙ file_number-is s who h e is)
 
 seen_close : (s : State) (who who2 : Who) (h2 : Handle) (node : ℕ) (e : Description) → AreThreads who who2 → opened s.tables who2 h2 ≡ Some e → node ≢ e.node → KeepsSeen s (close_done alone s who2 h2).state who node

@@ -4,3 +4,4 @@ pub mod Bystanders
 pub mod Frames
 pub mod Flights
 pub mod Rooms
+pub mod Needs

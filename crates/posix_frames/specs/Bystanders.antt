@@ -59,11 +59,11 @@ directory_apart s n node file is directory same =
     let never : true ≡ false = sym directory ∙ ap (is_directory s.nodes) (sym same) ∙ no in
     cc
 
-stands : (f : ℕ → Bool) (o : Option ℕ) → option_map_or f o false ≡ true → f (unwrap_or o 0) ≡ true
+pub stands : (f : ℕ → Bool) (o : Option ℕ) → option_map_or f o false ≡ true → f (unwrap_or o 0) ≡ true
 stands f None is = cc
 stands f (Some n) is = is
 
-no_file : (f : ℕ → Bool) (o : Option ℕ) → is_some o ≡ true → option_map_or (λ n. not (f n)) o false ≡ false → f (unwrap_or o 0) ≡ true
+pub no_file : (f : ℕ → Bool) (o : Option ℕ) → is_some o ≡ true → option_map_or (λ n. not (f n)) o false ≡ false → f (unwrap_or o 0) ≡ true
 no_file f None is none = cc
 no_file f (Some n) is none = yes (f n) none where
   yes : (b : Bool) → not b ≡ false → b ≡ true

@@ -5,3 +5,5 @@ pub mod Frames
 pub mod Flights
 pub mod Rooms
 pub mod Needs
+pub mod Acted
+pub mod Commutes

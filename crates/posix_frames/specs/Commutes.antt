@@ -36,12 +36,15 @@ use Rattle.posix_frames.specs.Bystanders.{directory_apart, is_open-Opens, no_fil
 use Rattle.posix_frames.specs.Frames.{AreThreads, file_number-is, granted, IsOpened-from, known, LeavesAlone, other_file, other_number, path_apart}
 use Rattle.posix_frames.specs.Handles.{key_of-Opens, keys_apart, Opens, Opens-closed, Opens-opened}
 
--- how many blocks a call takes, if it is accepted
+-- how many blocks a call takes, if it is accepted; of an unknown handle, none
 abbrev pub takes : State → Begun → ℕ
-takes s (who, Call.Write h x) = need_of s who (Call.Write h x)
-takes s (who, Call.Pwrite h start x) = need_of s who (Call.Pwrite h start x)
-takes s (who, Call.Truncate h n) = growth (length (content s who h)) n
+takes s (who, Call.Write h x) = cond (is_none (opened s.tables who h)) 0 (need_of s who (Call.Write h x))
+takes s (who, Call.Pwrite h start x) = cond (is_none (opened s.tables who h)) 0 (need_of s who (Call.Pwrite h start x))
+takes s (who, Call.Truncate h n) = cond (is_none (opened s.tables who h)) 0 (growth (length (content s who h)) n)
 takes s c = 0
+
+pub known_takes : (s : State) (who : Who) (h : Handle) (e : Description) (n left : ℕ) → opened s.tables who h ≡ Some e → cond (is_none (opened s.tables who h)) 0 n ≤ left → n ≤ left
+known_takes s who h e n left is fits = subst (λ (o : Option Description). cond (is_none o) 0 n ≤ left) is fits
 
 -- what a call gave, in a state in which a write in flight has acted besides
 abbrev pub besides : Change → Stepped → Stepped
@@ -330,7 +333,7 @@ written-acted s c h2 from start x who2 o begins =
     (λ i. with_node (acted s c) (number i) (Node.File (record { bytes = overwritten (bytes i) (begins i) x; published = published_of (node i) })))
     ∙ node-acted s c (file_number s.tables who2 h2) _ (other_number s who2 h2 c.node o.of o.is o.apart)
 
-written_tables : (s : State) (who : Who) (h : Handle) (start : ℕ) (x : List ℕ) → (written alone s who h start x).tables ≡ s.tables
+pub written_tables : (s : State) (who : Who) (h : Handle) (start : ℕ) (x : List ℕ) → (written alone s who h start x).tables ≡ s.tables
 unfolding written with_file
 written_tables s who h start x = refl
 
@@ -345,7 +348,7 @@ commutes_write s who h c h2 x who2 t aside before after = elim (option_either (o
       let o = other_of s who h c who2 h2 some.0 t aside some.1 in
       let begins = write_start-same s (acted s c) who2 h2 o.view in
       let start : ℕ = write_start s who2 h2 in
-      besides-stepped s c _ _ _ _ (write_rows-same s c h2 (write_start (acted s c) who2 h2) start x who2 o.view begins before after) (λ none.
+      besides-stepped s c _ _ _ _ (write_rows-same s c h2 (write_start (acted s c) who2 h2) start x who2 o.view begins (known_takes s who2 h2 some.0 _ (room s) some.1 before) (known_takes s who2 h2 some.0 _ (room (acted s c)) some.1 after)) (λ none.
       (λ i. done (moved_offset (written-acted s c h2 (write_start (acted s c) who2 h2) start x who2 o begins i) who2 h2 (begins i + length x)) (Reply.Count (length x)))
       ∙ ap (λ m. done m (Reply.Count (length x))) (offset-acted s (written alone s who2 h2 start x) c who2 h2 (start + length x) o (written_tables s who2 h2 start x)))
 ]
@@ -358,7 +361,7 @@ commutes_pwrite s who h c h2 start x who2 t aside before after = elim (option_ei
       both_refused s c _ _ _ _ (answer (Reply.Error Errno.EBADF)) (write_unknown s h2 start x who2 none) (write_unknown (acted s c) h2 start x who2 (unknown-acted s who who2 h h2 c t none))
   | inr some ↦
       let o = other_of s who h c who2 h2 some.0 t aside some.1 in
-      besides-stepped s c _ _ _ _ (write_rows-same s c h2 start start x who2 o.view refl before after) (λ none. ap (λ m. done m (Reply.Count (length x))) (written-acted s c h2 start start x who2 o refl))
+      besides-stepped s c _ _ _ _ (write_rows-same s c h2 start start x who2 o.view refl (known_takes s who2 h2 some.0 _ (room s) some.1 before) (known_takes s who2 h2 some.0 _ (room (acted s c)) some.1 after)) (λ none. ap (λ m. done m (Reply.Count (length x))) (written-acted s c h2 start start x who2 o refl))
 ]
 
 truncate_unknown : (s : State) (h2 : Handle) (n : ℕ) (who2 : Who) → opened s.tables who2 h2 ≡ None → first (truncate_rows s who2 h2 n) ≡ Some (answer (Reply.Error Errno.EBADF))
@@ -396,7 +399,7 @@ commutes_truncate s who h c h2 n who2 t aside before after = elim (option_either
       both_refused s c _ _ _ _ (answer (Reply.Error Errno.EBADF)) (truncate_unknown s h2 n who2 none) (truncate_unknown (acted s c) h2 n who2 (unknown-acted s who who2 h h2 c t none))
   | inr some ↦
       let o = other_of s who h c who2 h2 some.0 t aside some.1 in
-      besides-stepped s c _ _ _ _ (truncate_rows-same s c h2 n who2 o.view before after) (λ none. truncate_last s c h2 n who2 o)
+      besides-stepped s c _ _ _ _ (truncate_rows-same s c h2 n who2 o.view (known_takes s who2 h2 some.0 _ (room s) some.1 before) (known_takes s who2 h2 some.0 _ (room (acted s c)) some.1 after)) (λ none. truncate_last s c h2 n who2 o)
 ]
 
 -- ---- all calls

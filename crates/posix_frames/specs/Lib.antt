@@ -7,3 +7,4 @@ pub mod Rooms
 pub mod Needs
 pub mod Acted
 pub mod Commutes
+pub mod Pairs

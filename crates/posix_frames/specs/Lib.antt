@@ -8,3 +8,5 @@ pub mod Needs
 pub mod Acted
 pub mod Commutes
 pub mod Pairs
+pub mod Orders
+pub mod Counted

@@ -1,0 +1,141 @@
+-- Lists of writes in flight: over histories, and with a call of others among them.
+use Rattle.std.specs.Prelude.{◌≡◌, ◌≢◌, ◌⊎◌, ◌≤◌, ℕ, ◌+◌, Bool, true, false, cond, List, [], ◌∷◌, ◌++◌, map, Option, Some, None, refl}
+use Rattle.std.proofs.Common.{arith, ap, ◌∙◌, sym, subst, inl, inr}
+use Rattle.list_facts.specs.Members.{In}
+use Rattle.posix_types.specs.declared.call.Call.{Call}
+use Rattle.posix_types.specs.declared.call.Who.{Who}
+use Rattle.posix_types.specs.declared.item.Item.{Item}
+use Rattle.posix_types.specs.declared.tree.TreeEntry.{TreeEntry}
+use Rattle.posix_words.specs.Open.{same_who}
+use Rattle.posix_spec.specs.Put.{put_by}
+use Rattle.posix_spec.specs.Run.{after_call, begun, Begun, run}
+use Rattle.posix_spec.specs.State.{room, State}
+use Rattle.posix_spec.specs.Strict.{StrictFrom}
+use Rattle.posix_puts.specs.Puts.{PutsWhole}
+use Rattle.posix_puts.specs.Views.{AreAfforded, need_of}
+use Rattle.crash_spec.specs.Busy.{is_busy, Out, waits_for}
+use Rattle.posix_frames.specs.Acted.{Change}
+use Rattle.posix_frames.specs.Commutes.{takes}
+use Rattle.posix_frames.specs.Flights.{InFlight, LeavesAlone-put}
+use Rattle.posix_frames.specs.Frames.{AreThreads, LeavesAlone, LeavesAlone-idle}
+use Rattle.posix_frames.specs.Handles.{same_who-sym}
+use Rattle.posix_frames.specs.Needs.{AreAfforded-step, AreInFlight, begun_of, FitsBeside-put, Flight, IsApart, LetsAllBe, LetsAllBe-flight, needs, needs-cons, needs-step}
+use Rattle.posix_frames.specs.Pairs.{Acts-now, Commute, Commute-call, takes-acted, waits_for-acted}
+use Rattle.posix_frames.specs.Rooms.{FitsBeside, room-step}
+
+-- ---- over a history
+
+-- the calls of a history let the files of the writes in flight alone, and fit beside their needs, each at its place
+abbrev pub LetsThrough : State → List Flight → List Item → Type 0
+LetsThrough s flights [] = Unit {0}
+LetsThrough s flights (item ∷ items) = LetsAllBe s (begun item) flights × FitsBeside s (begun item) (needs s flights) × LetsThrough (after_call s (begun item)) flights items
+
+-- Whatever calls are let through, each write in flight has at the end the effect that it had when it began, and together
+-- they find room.
+pub AreInFlight-run : (s : State) (flights : List Flight) (items : List Item) → AreInFlight s flights → AreAfforded s (map begun_of flights) → LetsThrough s flights items
+    → AreInFlight (run s items) flights × AreAfforded (run s items) (map begun_of flights)
+AreInFlight-run s flights [] flying afforded lets = (flying, afforded)
+AreInFlight-run s flights (item ∷ items) flying afforded lets =
+    let after = AreAfforded-step s (begun item) flights flying lets.0 afforded lets.1 in
+    AreInFlight-run (after_call s (begun item)) flights items after.0 after.1 lets.2
+
+-- the writes that are out, as the busy rule sees them
+abbrev pub outs : List Flight → List Out
+outs flights = map (λ (f : Flight). (f.begun.0, f.node)) flights
+
+abbrev pub AreAllThreads : Begun → List Flight → Type 0
+AreAllThreads d [] = Unit {0}
+AreAllThreads d (f ∷ flights) = AreThreads f.begun.0 d.0 × AreAllThreads d flights
+
+lets_each : (s : State) (d : Begun) (all flights : List Flight) → ((f : Flight) → In f flights → In (f.begun.0, f.node) (outs all)) → is_busy s (outs all) d ≡ false → AreAllThreads d flights → LetsAllBe s d flights
+lets_each s d all [] within idle threads = tt
+lets_each s d all (f ∷ flights) within idle threads = (
+  record {
+    threads = threads.0;
+    aside = LeavesAlone-idle s (outs all) d f.begun.0 f.node idle (within f (inl refl)) (same_who-sym f.begun.0 d.0 ∙ threads.0.other);
+  },
+  lets_each s d all flights (λ g i. within g (inr i)) idle threads.1,
+)
+
+in_outs : (flights : List Flight) (f : Flight) → In f flights → In (f.begun.0, f.node) (outs flights)
+in_outs [] f is = absurd is
+in_outs (g ∷ flights) f (inl same) = inl (ap (λ (x : Flight). (let o : Out = (x.begun.0, x.node) in o)) same)
+in_outs (g ∷ flights) f (inr i) = inr (in_outs flights f i)
+
+-- A call of another thread that the busy rule lets through lets the files of all writes that are out alone.
+pub LetsAllBe-idle : (s : State) (d : Begun) (flights : List Flight) → is_busy s (outs flights) d ≡ false → AreAllThreads d flights → LetsAllBe s d flights
+LetsAllBe-idle s d flights idle threads = lets_each s d flights flights (in_outs flights) idle threads
+
+-- ---- two writes
+
+takes_at_most : (b : Bool) (n : ℕ) → cond b 0 n ≤ n
+takes_at_most true n = omega arith
+takes_at_most false n = omega arith
+
+takes-put : (s : State) (who : Who) (call : Call) (node : ℕ) (whole : List ℕ) → PutsWhole s who call node whole → takes s (who, call) ≤ need_of s who call
+unfolding put_by
+takes-put s who (Call.Write h x) node whole puts = takes_at_most _ _
+takes-put s who (Call.Pwrite h start x) node whole puts = takes_at_most _ _
+takes-put s who call node whole puts = let never = puts.is in cc
+
+-- Two writes of two files that find room together commute.
+pub Commute-two : (s : State) (c d : Begun) (node node2 : ℕ) (whole whole2 : List ℕ) → InFlight s c node whole → InFlight s d node2 whole2 → AreThreads c.0 d.0 → node2 ≢ node
+    → need_of s c.0 c.1 + need_of s d.0 d.1 ≤ room s → Commute s c d
+Commute-two s c (who, call) node node2 whole whole2 flight flight2 threads apart fits =
+    let most = takes-put s who call node2 whole2 flight2.puts in
+    Commute-call s c (who, call) node whole flight threads (LeavesAlone-put s (who, call) node2 node whole2 flight2 apart) (omega (arith, most, fits))
+
+-- ---- the call that stands last
+
+-- each is of another file and another thread than those behind it
+abbrev pub AreTwoEach : List Flight → Type 0
+AreTwoEach [] = Unit {0}
+AreTwoEach (f ∷ flights) = IsApart f flights × AreTwoEach flights
+
+lets-same : (s new : State) (d : Begun) (flights : List Flight) → waits_for new d ≡ waits_for s d → LetsAllBe s d flights → LetsAllBe new d flights
+lets-same s new d [] same lets = tt
+lets-same s new d (f ∷ flights) same lets = (record { threads = lets.0.threads; aside = subst (λ o. o ≢ Some f.node) (sym same) lets.0.aside }, lets-same s new d flights same lets.1)
+
+-- what a call takes and waits for stays when a write in flight acted
+record Stays (s : State) (f : Flight) (d : Begun) : Type 0 where
+  taken : takes (after_call s f.begun) d ≡ takes s d
+  waits : waits_for (after_call s f.begun) d ≡ waits_for s d
+
+stays : (s : State) (f : Flight) (d : Begun) → InFlight s f.begun f.node f.whole → LeavesAlone s d f.node → Stays s f d
+stays s f d flight aside =
+    let acts = Acts-now s f.begun f.node f.whole flight in
+    let change : Change = acts.change in
+    let other = subst (λ n. LeavesAlone s d n) (sym acts.now.node_is) aside in
+    record {
+      taken = ap (λ x. takes x d) acts.now.is ∙ takes-acted s f.begun.0 acts.handle change d acts.now.touches other;
+      waits = ap (λ x. waits_for x d) acts.now.is ∙ waits_for-acted s f.begun.0 acts.handle change d acts.now.touches other;
+    }
+
+-- A CALL OF OTHERS STANDS LAST: what power loss leaves where the call acted before the writes that were in flight, it may
+-- leave where the call is the last of the unfinished ones.
+pub StrictFrom-last : (s : State) (d : Begun) (flights : List Flight) (left : List TreeEntry) → AreInFlight s flights → AreTwoEach flights → LetsAllBe s d flights → takes s d + needs s flights ≤ room s
+    → StrictFrom (after_call s d) (map begun_of flights) left → StrictFrom s (map begun_of flights ++ d ∷ []) left
+StrictFrom-last s d [] left flying two lets fits strict = inl strict
+StrictFrom-last s d (f ∷ flights) left flying two lets fits (inr idle) =
+    let sum = needs-cons s f flights in
+    inr (StrictFrom-last s d flights left flying.1 two.1 lets.1 (omega (arith, sum, fits)) idle)
+StrictFrom-last s d (f ∷ flights) left flying two lets fits (inl acts) =
+    let sum = needs-cons s f flights in
+    let new : State = after_call s f.begun in
+    let commute = Commute-call s f.begun d f.node f.whole flying.0 lets.0.threads lets.0.aside (omega (arith, sum, fits)) in
+    let others = LetsAllBe-flight s f flights flying.0 two.0 in
+    let beside = FitsBeside-put s f.begun.0 f.begun.1 f.node f.whole (needs s flights) flying.0.puts (omega (arith, sum, fits)) in
+    let after = AreAfforded-step s f.begun flights flying.1 others (omega (arith, sum, fits)) beside in
+    let same = stays s f d flying.0 lets.0.aside in
+    let taken = same.taken in
+    let needed = needs-step s f.begun flights flying.1 others in
+    let both = FitsBeside-put s f.begun.0 f.begun.1 f.node f.whole (takes s d + needs s flights) flying.0.puts (omega (arith, sum, fits)) in
+    let left_over = room-step s f.begun (takes s d + needs s flights) (omega (arith, sum, fits)) both in
+    inl (StrictFrom-last new d flights left after.0 two.1 (lets-same s new d flights same.waits lets.1) (omega (arith, taken, needed, left_over))
+    (subst (λ x. StrictFrom x (map begun_of flights) left) (sym commute.states) acts))
+
+-- and a call that changed nothing stands last too
+pub StrictFrom-idle : (s : State) (d : Begun) (unfinished : List Begun) (left : List TreeEntry) → StrictFrom s unfinished left → StrictFrom s (unfinished ++ d ∷ []) left
+StrictFrom-idle s d [] left strict = inr strict
+StrictFrom-idle s d (c ∷ unfinished) left (inl acts) = inl (StrictFrom-idle (after_call s c) d unfinished left acts)
+StrictFrom-idle s d (c ∷ unfinished) left (inr idle) = inr (StrictFrom-idle s d unfinished left idle)

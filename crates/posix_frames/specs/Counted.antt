@@ -1,5 +1,5 @@
 -- The state with the writes in flight counted: what is held and left, as the World compares it.
-use Rattle.std.specs.Prelude.{◌≡◌, ◌<◌, ◌≤◌, ◌↔◌, ℕ, zero, suc, ◌+◌, ◌-◌, max, Bool, true, false, cond, nat_lt, List, [], ◌∷◌, length, map, sum_by, Option, Some, None, slice_set, refl}
+use Rattle.std.specs.Prelude.{◌≡◌, ◌<◌, ◌≤◌, ◌↔◌, ℕ, zero, suc, ◌+◌, ◌-◌, max, Bool, true, false, cond, not, ◌==◌, ◌≢◌, nat_lt, List, [], ◌∷◌, length, map, sum_by, Option, Some, None, slice_set, refl}
 use Rattle.std.proofs.Common.{arith, ap, ◌∙◌, sym, subst}
 use Rattle.std.proofs.lemmas.Bool.Decides.{nat_tests}
 use Rattle.std.proofs.lemmas.List.Sums.{sum_by-cons}
@@ -15,15 +15,16 @@ use Rattle.posix_words.specs.declared.nodes.File.{File}
 use Rattle.posix_words.specs.declared.nodes.Node.{Node}
 use Rattle.posix_words.specs.Bytes.{overwritten}
 use Rattle.posix_words.specs.Nodes.{bytes_of, node_at}
+use Rattle.posix_words.specs.Open.{may_write}
 use Rattle.posix_words.specs.Outcomes.{answer, first, no_space}
-use Rattle.posix_words.specs.Room.{growth, held, staged_below}
+use Rattle.posix_words.specs.Room.{growth, held, staged_below, write_need}
 use Rattle.posix_spec.specs.FileRows.{content, file_number, no_blocks, write_rows, write_start}
 use Rattle.posix_spec.specs.Put.{Put, put_at, put_by}
 use Rattle.posix_spec.specs.Run.{after_call, after_calls, Begun}
 use Rattle.posix_spec.specs.State.{alone, room, State}
 use Rattle.posix_spec.specs.Step.{pwrite_done, step, stepped, write_done}
 use Rattle.posix_facts.specs.FitsLaws.{held_by-le, length-overwritten}
-use Rattle.posix_facts.specs.RowLaws.{put_at-Some, rows-from_Accepts}
+use Rattle.posix_facts.specs.RowLaws.{NoRow, put_at-Some, rows-from_Accepts}
 use Rattle.posix_puts.specs.PutLaws.{LeavesWhole-step}
 use Rattle.posix_puts.specs.Puts.{LeavesWhole, put_bytes, PutsWhole, with_whole}
 use Rattle.posix_puts.specs.ViewLaws.{content-same, write_start-same}
@@ -59,7 +60,7 @@ staged s flights = sum_by (λ (c : Begun). staged_by s c) (map begun_of flights)
 abbrev weight : Node → ℕ
 weight node = held_by (length (bytes_of node))
 
-held-exact : (nodes : List Node) (n : ℕ) (node : Node) (file : File) → node_at nodes n ≡ Node.File file → held (slice_set nodes n node) + weight (node_at nodes n) ≡ held nodes + weight node
+pub held-exact : (nodes : List Node) (n : ℕ) (node : Node) (file : File) → node_at nodes n ≡ Node.File file → held (slice_set nodes n node) + weight (node_at nodes n) ≡ held nodes + weight node
 held-exact [] n node file is = cc
 held-exact (x ∷ xs) zero node file is = omega (arith, sum_by-cons weight x xs, sum_by-cons weight node xs)
 held-exact (x ∷ xs) (suc n) node file is = omega (arith, sum_by-cons weight x xs, sum_by-cons weight x (slice_set xs n node), held-exact xs n node file is)
@@ -172,3 +173,20 @@ above-no_blocks s need o is = by (nat_lt (room s) need) (tested (room s) need) i
   by : (b : Bool) → (b ≡ true → room s < need) → cond b (Some (no_space What.Blocks need (room s))) None ≡ Some o → room s < need
   by true above it = above refl
   by false above it = cc
+
+true_not : (b : Bool) → b ≡ true → not b ≡ false
+true_not b is = rw is refl
+
+below_not : (m n : ℕ) → n ≤ m → nat_lt m n ≡ false
+below_not m n le = grind (arith, nat_tests)
+
+zero_not : (n : ℕ) → n ≢ 0 → (n == 0) ≡ false
+zero_not n is = grind (arith, nat_tests)
+
+-- a write that would be accepted with just its need left, and needs more than the room
+pub write-above : (s : State) (who : Who) (h : Handle) (start : ℕ) (x : List ℕ) (need : ℕ) → need ≡ write_need s.mode (length (content s who h)) start (start + length x)
+    → NoRow (may_write s.tables who h) (length (content s who h)) s.mode start (length x) need → room s < need → first (write_rows s who h start x) ≡ Some (no_space What.Blocks need (room s))
+unfolding write_rows
+write-above s who h start x need is accepts above =
+    let blocks = no_blocks-above s need above in
+    rw (true_not _ accepts.may_write, below_not _ _ accepts.short, zero_not _ accepts.some, below_not _ _ accepts.end, ← is, blocks) refl

@@ -10,3 +10,4 @@ pub mod Commutes
 pub mod Pairs
 pub mod Orders
 pub mod Counted
+pub mod Leaves

@@ -8,8 +8,9 @@ use Rattle.posix_types.specs.declared.item.Item.{Item}
 use Rattle.posix_types.specs.declared.tree.TreeEntry.{TreeEntry}
 use Rattle.posix_words.specs.Open.{same_who}
 use Rattle.posix_spec.specs.Put.{put_by}
-use Rattle.posix_spec.specs.Run.{after_call, begun, Begun, run}
+use Rattle.posix_spec.specs.Run.{after_call, after_calls, begun, Begun, run}
 use Rattle.posix_spec.specs.State.{room, State}
+use Rattle.posix_spec.specs.Step.{step}
 use Rattle.posix_spec.specs.Strict.{StrictFrom}
 use Rattle.posix_puts.specs.Puts.{PutsWhole}
 use Rattle.posix_puts.specs.Views.{AreAfforded, need_of}
@@ -111,6 +112,31 @@ stays s f d flight aside =
       waits = ap (λ x. waits_for x d) acts.now.is ∙ waits_for-acted s f.begun.0 acts.handle change d acts.now.touches other;
     }
 
+-- what is left for the others once one of the writes acted
+record OthersLeft (s : State) (d : Begun) (f : Flight) (flights : List Flight) : Type 0 where
+  fits_one : takes s d + need_of s f.begun.0 f.begun.1 ≤ room s
+  flying : AreInFlight (after_call s f.begun) flights
+  lets : LetsAllBe (after_call s f.begun) d flights
+  fits : takes (after_call s f.begun) d + needs (after_call s f.begun) flights ≤ room (after_call s f.begun)
+
+others_left : (s : State) (d : Begun) (f : Flight) (flights : List Flight) → AreInFlight s (f ∷ flights) → AreTwoEach (f ∷ flights) → LetsAllBe s d (f ∷ flights) → takes s d + needs s (f ∷ flights) ≤ room s → OthersLeft s d f flights
+others_left s d f flights flying two lets fits =
+    let sum = needs-cons s f flights in
+    let others = LetsAllBe-flight s f flights flying.0 two.0 in
+    let beside = FitsBeside-put s f.begun.0 f.begun.1 f.node f.whole (needs s flights) flying.0.puts (omega (arith, sum, fits)) in
+    let after = AreAfforded-step s f.begun flights flying.1 others (omega (arith, sum, fits)) beside in
+    let same = stays s f d flying.0 lets.0.aside in
+    let taken = same.taken in
+    let needed = needs-step s f.begun flights flying.1 others in
+    let both = FitsBeside-put s f.begun.0 f.begun.1 f.node f.whole (takes s d + needs s flights) flying.0.puts (omega (arith, sum, fits)) in
+    let left_over = room-step s f.begun (takes s d + needs s flights) (omega (arith, sum, fits)) both in
+    record {
+      fits_one = omega (arith, sum, fits);
+      flying = after.0;
+      lets = lets-same s (after_call s f.begun) d flights same.waits lets.1;
+      fits = omega (arith, taken, needed, left_over);
+    }
+
 -- A CALL OF OTHERS STANDS LAST: what power loss leaves where the call acted before the writes that were in flight, it may
 -- leave where the call is the last of the unfinished ones.
 pub StrictFrom-last : (s : State) (d : Begun) (flights : List Flight) (left : List TreeEntry) → AreInFlight s flights → AreTwoEach flights → LetsAllBe s d flights → takes s d + needs s flights ≤ room s
@@ -120,19 +146,25 @@ StrictFrom-last s d (f ∷ flights) left flying two lets fits (inr idle) =
     let sum = needs-cons s f flights in
     inr (StrictFrom-last s d flights left flying.1 two.1 lets.1 (omega (arith, sum, fits)) idle)
 StrictFrom-last s d (f ∷ flights) left flying two lets fits (inl acts) =
-    let sum = needs-cons s f flights in
-    let new : State = after_call s f.begun in
-    let commute = Commute-call s f.begun d f.node f.whole flying.0 lets.0.threads lets.0.aside (omega (arith, sum, fits)) in
-    let others = LetsAllBe-flight s f flights flying.0 two.0 in
-    let beside = FitsBeside-put s f.begun.0 f.begun.1 f.node f.whole (needs s flights) flying.0.puts (omega (arith, sum, fits)) in
-    let after = AreAfforded-step s f.begun flights flying.1 others (omega (arith, sum, fits)) beside in
-    let same = stays s f d flying.0 lets.0.aside in
-    let taken = same.taken in
-    let needed = needs-step s f.begun flights flying.1 others in
-    let both = FitsBeside-put s f.begun.0 f.begun.1 f.node f.whole (takes s d + needs s flights) flying.0.puts (omega (arith, sum, fits)) in
-    let left_over = room-step s f.begun (takes s d + needs s flights) (omega (arith, sum, fits)) both in
-    inl (StrictFrom-last new d flights left after.0 two.1 (lets-same s new d flights same.waits lets.1) (omega (arith, taken, needed, left_over))
-    (subst (λ x. StrictFrom x (map begun_of flights) left) (sym commute.states) acts))
+    let after = others_left s d f flights flying two lets fits in
+    let commute = Commute-call s f.begun d f.node f.whole flying.0 lets.0.threads lets.0.aside after.fits_one in
+    inl (StrictFrom-last (after_call s f.begun) d flights left after.flying two.1 after.lets after.fits (subst (λ x. StrictFrom x (map begun_of flights) left) (sym commute.states) acts))
+
+-- A CALL GIVES WHAT IT GIVES once the writes in flight have finished: the same outcome, and the same state in either order.
+pub record CommuteAll (s : State) (d : Begun) (flights : List Flight) : Type 0 where
+  pub states : after_call (after_calls s (map begun_of flights)) d ≡ after_calls (after_call s d) (map begun_of flights)
+  pub outcome : (step (after_calls s (map begun_of flights)) d.0 d.1).outcome ≡ (step s d.0 d.1).outcome
+
+pub CommuteAll-call : (s : State) (d : Begun) (flights : List Flight) → AreInFlight s flights → AreTwoEach flights → LetsAllBe s d flights → takes s d + needs s flights ≤ room s → CommuteAll s d flights
+CommuteAll-call s d [] flying two lets fits = record { states = refl; outcome = refl }
+CommuteAll-call s d (f ∷ flights) flying two lets fits =
+    let after = others_left s d f flights flying two lets fits in
+    let commute = Commute-call s f.begun d f.node f.whole flying.0 lets.0.threads lets.0.aside after.fits_one in
+    let rest = CommuteAll-call (after_call s f.begun) d flights after.flying two.1 after.lets after.fits in
+    record {
+      states = rest.states ∙ ap (λ x. after_calls x (map begun_of flights)) commute.states;
+      outcome = rest.outcome ∙ commute.outcome;
+    }
 
 -- and a call that changed nothing stands last too
 pub StrictFrom-idle : (s : State) (d : Begun) (unfinished : List Begun) (left : List TreeEntry) → StrictFrom s unfinished left → StrictFrom s (unfinished ++ d ∷ []) left

@@ -11,3 +11,4 @@ pub mod Pairs
 pub mod Orders
 pub mod Counted
 pub mod Leaves
+pub mod Laws

@@ -1,9 +1,9 @@
 -- A state in which a write in flight has acted: another description of its file with the same number, and another file. What
 -- other callers look at stays.
-use Rattle.std.specs.Prelude.{◌≡◌, ◌≢◌, ◌⊎◌, ◌<◌, ◌≤◌, ℕ, zero, suc, ◌+◌, ◌-◌, Bool, true, false, cond, ◌||◌, ◌==◌, List, [], ◌∷◌, ◌++◌, length, count_by, sum_by, Option, Some, None, option_and_then, option_map, position, slice_get, slice_set, unwrap_or, refl}
+use Rattle.std.specs.Prelude.{◌≡◌, ◌≢◌, ◌⊎◌, ℕ, zero, suc, ◌+◌, ◌-◌, Bool, true, false, cond, ◌||◌, ◌==◌, List, [], ◌∷◌, count_by, sum_by, Option, Some, None, option_and_then, option_map, position, slice_get, slice_set, unwrap_or, refl}
 use Rattle.std.specs.List.{list_any}
 use Rattle.std.specs.Option.{option_flatten}
-use Rattle.std.proofs.Common.{ap, ◌∙◌, sym, subst, inl, inr, arith}
+use Rattle.std.proofs.Common.{ap, ◌∙◌, sym, subst, inl, inr}
 use Rattle.std.proofs.lemmas.Bool.{cases_eq}
 use Rattle.std.proofs.lemmas.List.{get_or-set_other, get_or-set_same, set-append_left, set_comm}
 use Rattle.std.proofs.lemmas.List.Sums.{sum_by-cons}
@@ -16,16 +16,16 @@ use Rattle.posix_words.specs.declared.nodes.File.{File}
 use Rattle.posix_words.specs.declared.nodes.Node.{Node}
 use Rattle.posix_words.specs.declared.open.Binding.{Binding}
 use Rattle.posix_words.specs.declared.open.Description.{Description}
-use Rattle.posix_words.specs.Names.{exists_at, is_named, last_name, lines_taken, longest_name, number_at, parent_at, Space, with_entry, without_entry, without_place}
-use Rattle.posix_words.specs.Nodes.{is_directory, is_live, node_at, published_node}
-use Rattle.posix_words.specs.Open.{binding_of, closed, describes, description_number, has_key, is_binding, is_open, key_of, next_descriptor, opened, Tables, with_binding, with_descriptor, with_offset, with_opened, without_binding, without_unused}
+use Rattle.posix_words.specs.Names.{exists_at, is_named, last_name, lines_taken, longest_name, number_at, parent_at, with_entry, without_entry, without_place}
+use Rattle.posix_words.specs.Nodes.{is_directory, is_live, node_at}
+use Rattle.posix_words.specs.Open.{closed, describes, description_number, has_key, is_binding, is_open, key_of, next_descriptor, opened, Tables, with_binding, with_descriptor, with_offset, with_opened, without_binding, without_unused}
 use Rattle.posix_spec.specs.FileRows.{file_number}
-use Rattle.posix_spec.specs.State.{alone, made, space, State, swept, unnamed, with_node, with_published}
-use Rattle.posix_spec.specs.Step.{empty_file, moved_offset, opening, opening_number, renamed}
+use Rattle.posix_spec.specs.State.{alone, made, space, State, swept, unnamed, with_node}
+use Rattle.posix_spec.specs.Step.{empty_file, opening, opening_number, renamed}
 use Rattle.posix_puts.specs.Views.{SameView}
-use Rattle.posix_frames.specs.Bystanders.{file_within, is_open-Opens, swept-open}
+use Rattle.posix_frames.specs.Bystanders.{file_within, swept-open}
 use Rattle.posix_frames.specs.Frames.{file_number-is, KeepsSeen}
-use Rattle.posix_frames.specs.Handles.{closed-is, described, key_of-Opens, keys_apart, Opens, Opens-opened, opened-Opens, Opens-set, slot_of, with_offset-is}
+use Rattle.posix_frames.specs.Handles.{closed-is, described, keys_apart, Opens, Opens-opened, opened-Opens, Opens-set, slot_of, with_offset-is}
 use Rattle.posix_frames.specs.Lists.{slice_get-set_other}
 
 -- What a write in flight changes: the description with a number, and a file.
@@ -93,7 +93,7 @@ pub space-acted : (s : State) (who : Who) (h : Handle) (c : Change) → Touches 
 space-acted s who h c t =
     let directory = directory-acted s who h c t in
     let live : count_by is_live (acted s c).nodes ≡ count_by is_live s.nodes =
-      sum_by-set (λ x. cond (is_live x) 1 0) s.nodes c.node (Node.File t.before) (Node.File c.file) (node_slot s.nodes c.node t.before t.is) refl in
+    sum_by-set (λ x. cond (is_live x) 1 0) s.nodes c.node (Node.File t.before) (Node.File c.file) (node_slot s.nodes c.node t.before t.is) refl in
     λ i. record {
       directory = λ n. directory n i;
       entries = s.entries;
@@ -195,7 +195,7 @@ renamed-acted s who h c p q t =
     let names = space-acted s who h c t in
     λ i. record (acted s c) {
       entries = with_entry (without_entry (without_entry s.entries (parent_at (names i) p) (last_name p)) (parent_at (names i) q) (last_name q))
-        (record { parent = parent_at (names i) q; name = last_name q; child = number_at (names i) p });
+          (record { parent = parent_at (names i) q; name = last_name q; child = number_at (names i) p });
     }
 
 pub opening-acted : (s : State) (who : Who) (h : Handle) (c : Change) (p : List (List ℕ)) (truncate : Bool) → Touches s who h c

@@ -1,5 +1,5 @@
 -- What calls that change names keep of a file that someone has open.
-use Rattle.std.specs.Prelude.{◌≡◌, ◌≢◌, ◌<◌, ℕ, zero, suc, Bool, true, false, cond, not, ◌||◌, ◌==◌, List, [], ◌∷◌, ◌++◌, length, Option, Some, None, is_some, unwrap_or, slice_get, slice_set, refl}
+use Rattle.std.specs.Prelude.{◌≡◌, ◌≢◌, ◌<◌, ℕ, zero, suc, Bool, true, false, cond, not, ◌||◌, List, [], ◌∷◌, length, Option, Some, None, is_some, unwrap_or, slice_get, refl}
 use Rattle.std.specs.List.{list_any}
 use Rattle.std.specs.Option.{option_map_or}
 use Rattle.std.proofs.Common.{ap, ◌∙◌, sym, subst, inl, inr, arith, lit<}
@@ -12,14 +12,14 @@ use Rattle.posix_types.specs.declared.handle.Handle.{Handle}
 use Rattle.posix_words.specs.declared.nodes.File.{File}
 use Rattle.posix_words.specs.declared.nodes.Node.{Node}
 use Rattle.posix_words.specs.declared.open.Description.{Description}
-use Rattle.posix_words.specs.NameRows.{mkdir_rows, rename_rows, rmdir_rows, unlink_rows}
+use Rattle.posix_words.specs.NameRows.{rmdir_rows}
 use Rattle.posix_words.specs.Names.{directory_stands, file_stands, is_named, node_at_path, number_at}
 use Rattle.posix_words.specs.Nodes.{is_directory, node_at}
-use Rattle.posix_words.specs.Open.{describes, is_open, opened, Tables}
+use Rattle.posix_words.specs.Open.{describes, is_open, Tables}
 use Rattle.posix_spec.specs.State.{alone, made, space, State, swept, unnamed, with_node}
 use Rattle.posix_spec.specs.Step.{mkdir_done, rename_done, renamed, rmdir_done, step, unlink_done}
 use Rattle.posix_facts.specs.RowLaws.{no_row, none_fits, stepped-keeps}
-use Rattle.posix_frames.specs.Handles.{Opens, Opens-opened, slot_of}
+use Rattle.posix_frames.specs.Handles.{Opens, slot_of}
 
 -- The file of a node, and that someone has it open.
 pub record IsHeld (s : State) (node : ℕ) : Type 0 where

@@ -1,6 +1,6 @@
 -- A write in flight commutes with every call that leaves its file alone and finds room before and after it.
 use Rattle.std.specs.Prelude.{◌≡◌, ◌≢◌, ◌≤◌, ℕ, ◌+◌, Bool, true, false, cond, not, ◌==◌, nat_le, nat_lt, List, [], ◌∷◌, length, Option, Some, None, is_none, is_some, unwrap_or, ℤ, refl}
-use Rattle.std.specs.Option.{option_map_or, option_or}
+use Rattle.std.specs.Option.{option_map_or}
 use Rattle.std.proofs.Common.{ap, ◌∙◌, sym, subst, inl, inr, arith, lit<}
 use Rattle.std.proofs.lemmas.Bool.Decides.{nat_tests}
 use Rattle.std.proofs.lemmas.List.{get_or-set_other}
@@ -12,19 +12,17 @@ use Rattle.posix_types.specs.declared.handle.Whence.{Whence}
 use Rattle.posix_types.specs.declared.item.Outcome.{Outcome}
 use Rattle.posix_types.specs.declared.reply.Errno.{Errno}
 use Rattle.posix_types.specs.declared.reply.Reply.{Reply}
-use Rattle.posix_types.specs.declared.reply.What.{What}
-use Rattle.posix_words.specs.declared.nodes.File.{File}
 use Rattle.posix_words.specs.declared.nodes.Node.{Node}
 use Rattle.posix_words.specs.declared.open.Description.{Description}
 use Rattle.posix_words.specs.Bytes.{bytes_from, longest_file, longest_write, moved_place, overwritten, resized}
 use Rattle.posix_words.specs.NameRows.{list_rows, mkdir_rows, open_rows, rename_rows, rmdir_rows, stat_rows, unlink_rows}
-use Rattle.posix_words.specs.Names.{directory_stands, exists_at, file_stands, names_in, node_at_path, number_at, too_long}
+use Rattle.posix_words.specs.Names.{directory_stands, exists_at, file_stands, names_in, node_at_path, number_at}
 use Rattle.posix_words.specs.Nodes.{is_directory, node_at, published_node, published_of}
-use Rattle.posix_words.specs.Open.{closed, is_full, key_of, may_read, may_write, next_descriptor, opened, with_descriptor, with_offset, with_opened}
+use Rattle.posix_words.specs.Open.{closed, is_full, key_of, next_descriptor, opened, with_descriptor, with_offset, with_opened}
 use Rattle.posix_words.specs.Outcomes.{answer, first, idle_row, row, unless}
 use Rattle.posix_words.specs.Room.{growth, write_need}
-use Rattle.posix_spec.specs.FileRows.{close_rows, content, dup_rows, file_number, fsync_rows, no_blocks, offset_of, read_rows, seek_base, seek_rows, seek_target, truncate_rows, unknown_row, write_rows, write_start}
-use Rattle.posix_spec.specs.Run.{after_call, Begun}
+use Rattle.posix_spec.specs.FileRows.{close_rows, content, dup_rows, file_number, fsync_rows, no_blocks, offset_of, read_rows, seek_base, seek_rows, seek_target, truncate_rows, write_rows, write_start}
+use Rattle.posix_spec.specs.Run.{Begun}
 use Rattle.posix_spec.specs.State.{alone, room, space, State, swept, unnamed, with_file, with_node, with_published}
 use Rattle.posix_spec.specs.Step.{close_done, done, dup_done, fsync_done, is_busy as is_elsewhere, list_done, mkdir_done, moved_offset, open_done, opening_number, pread_done, pwrite_done, read_done, rename_done, renamed, rmdir_done, seek_done, stat_done, stat_of, step, stepped, Stepped, truncate_done, unlink_done, write_done, written}
 use Rattle.posix_facts.specs.RowLaws.{no_row, none_fits, row-none}
@@ -33,7 +31,7 @@ use Rattle.posix_puts.specs.Views.{need_of, SameView}
 use Rattle.crash_spec.specs.Busy.{handle_node, path_node, waits_for}
 use Rattle.posix_frames.specs.Acted.{acted, Change, closed-acted, handle-acted, IsSwept, key_of-acted, made-acted, node-acted, opening-acted, opening_number-acted, option_either, renamed-acted, space-acted, swept-acted, Touches, unknown-acted, unnamed-acted, view-acted, with_descriptor-acted, with_offset-acted, with_opened-acted, with_slot}
 use Rattle.posix_frames.specs.Bystanders.{directory_apart, is_open-Opens, no_file, not_not, stands}
-use Rattle.posix_frames.specs.Frames.{AreThreads, file_number-is, granted, IsOpened-from, known, LeavesAlone, other_file, other_number, path_apart}
+use Rattle.posix_frames.specs.Frames.{AreThreads, granted, IsOpened-from, known, LeavesAlone, other_file, other_number, path_apart}
 use Rattle.posix_frames.specs.Handles.{key_of-Opens, keys_apart, Opens, Opens-closed, Opens-opened}
 
 -- how many blocks a call takes, if it is accepted; of an unknown handle, none
@@ -106,7 +104,7 @@ commutes_rename s who h c p q who2 t =
     let names = space-acted s who h c t in
     besides-stepped s c _ _ _ _ (ap (λ sp. first (rename_rows sp p q)) names) (λ none.
     (λ i. (let m : State = renamed-acted s who h c p q t i in
-      done (cond (directory_stands (names i) q) (with_node m (number_at (names i) q) Node.Gone) (cond (file_stands (names i) q) (swept alone m (number_at (names i) q)) m)) Reply.Ok))
+    done (cond (directory_stands (names i) q) (with_node m (number_at (names i) q) Node.Gone) (cond (file_stands (names i) q) (swept alone m (number_at (names i) q)) m)) Reply.Ok))
     ∙ ap (λ x. done x Reply.Ok) (by (directory_stands (space s) q) (file_stands (space s) q) (stands (is_directory s.nodes) (node_at_path (space s) q))))
   where
     by : (b d : Bool) → (b ≡ true → is_directory s.nodes (number_at (space s) q) ≡ true)
@@ -314,14 +312,14 @@ unfolding write_rows
 write_rows-same s c h2 from start x who2 view begins before after =
     let long = ap length (content-same s (acted s c) who2 h2 view) in
     let blocks : no_blocks (acted s c) (write_need s.mode (length (content (acted s c) who2 h2)) from (from + length x)) ≡ no_blocks s (write_need s.mode (length (content s who2 h2)) start (start + length x)) =
-      (λ i. no_blocks (acted s c) (write_need s.mode (long i) (begins i) (begins i + length x))) ∙ no_blocks-none (acted s c) _ after ∙ sym (no_blocks-none s _ before) in
+    (λ i. no_blocks (acted s c) (write_need s.mode (long i) (begins i) (begins i + length x))) ∙ no_blocks-none (acted s c) _ after ∙ sym (no_blocks-none s _ before) in
     λ i. first (
-      row (not (option_map_or (λ d. d.flags.write) (view.handle i) false)) Errno.EBADF
-      ∷ row (nat_lt longest_write (length x)) Errno.EINVAL
-      ∷ idle_row (length x == 0) (Reply.Count 0)
-      ∷ row (nat_lt longest_file (begins i + length x)) Errno.EFBIG
-      ∷ blocks i
-      ∷ []
+    row (not (option_map_or (λ d. d.flags.write) (view.handle i) false)) Errno.EBADF
+    ∷ row (nat_lt longest_write (length x)) Errno.EINVAL
+    ∷ idle_row (length x == 0) (Reply.Count 0)
+    ∷ row (nat_lt longest_file (begins i + length x)) Errno.EFBIG
+    ∷ blocks i
+    ∷ []
     )
 
 written-acted : (s : State) (c : Change) (h2 : Handle) (from start : ℕ) (x : List ℕ) (who2 : Who) → IsOther s c who2 h2 → from ≡ start → written alone (acted s c) who2 h2 from x ≡ acted (written alone s who2 h2 start x) c
@@ -374,12 +372,12 @@ unfolding truncate_rows
 truncate_rows-same s c h2 n who2 view before after =
     let long = ap length (content-same s (acted s c) who2 h2 view) in
     let blocks : no_blocks (acted s c) (growth (length (content (acted s c) who2 h2)) n) ≡ no_blocks s (growth (length (content s who2 h2)) n) =
-      ap (λ k. no_blocks (acted s c) (growth k n)) long ∙ no_blocks-none (acted s c) _ after ∙ sym (no_blocks-none s _ before) in
+    ap (λ k. no_blocks (acted s c) (growth k n)) long ∙ no_blocks-none (acted s c) _ after ∙ sym (no_blocks-none s _ before) in
     λ i. first (
-      row (not (option_map_or (λ d. d.flags.write) (view.handle i) false)) Errno.EBADF
-      ∷ row (nat_lt longest_file n) Errno.EFBIG
-      ∷ unless (nat_le n (long i)) (blocks i)
-      ∷ []
+    row (not (option_map_or (λ d. d.flags.write) (view.handle i) false)) Errno.EBADF
+    ∷ row (nat_lt longest_file n) Errno.EFBIG
+    ∷ unless (nat_le n (long i)) (blocks i)
+    ∷ []
     )
 
 truncate_last : (s : State) (c : Change) (h2 : Handle) (n : ℕ) (who2 : Who) → IsOther s c who2 h2 → truncate_done (acted s c) who2 h2 n ≡ besides c (truncate_done s who2 h2 n)
@@ -388,8 +386,8 @@ truncate_last s c h2 n who2 o =
     let number = file_number-same s (acted s c) who2 h2 o.view in
     let bytes = content-same s (acted s c) who2 h2 o.view in
     ap (λ x. done x Reply.Ok) (
-      (λ i. with_node (acted s c) (number i) (Node.File (record { bytes = resized (bytes i) n; published = n })))
-      ∙ node-acted s c (file_number s.tables who2 h2) _ (other_number s who2 h2 c.node o.of o.is o.apart)
+    (λ i. with_node (acted s c) (number i) (Node.File (record { bytes = resized (bytes i) n; published = n })))
+    ∙ node-acted s c (file_number s.tables who2 h2) _ (other_number s who2 h2 c.node o.of o.is o.apart)
     )
 
 commutes_truncate : (s : State) (who : Who) (h : Handle) (c : Change) (h2 : Handle) (n : ℕ) (who2 : Who) → Touches s who h c → handle_node s who2 h2 ≢ Some c.node

@@ -1,11 +1,10 @@
 -- The state with the writes in flight counted: what is held and left, as the World compares it.
-use Rattle.std.specs.Prelude.{◌≡◌, ◌<◌, ◌≤◌, ◌↔◌, ℕ, zero, suc, ◌+◌, ◌-◌, max, Bool, true, false, cond, not, ◌==◌, ◌≢◌, nat_lt, List, [], ◌∷◌, length, map, sum_by, Option, Some, None, slice_set, refl}
+use Rattle.std.specs.Prelude.{◌≡◌, ◌<◌, ◌≤◌, ℕ, zero, suc, ◌+◌, ◌-◌, max, Bool, true, false, cond, not, ◌==◌, ◌≢◌, nat_lt, List, [], ◌∷◌, length, map, sum_by, Some, None, slice_set, refl}
 use Rattle.std.proofs.Common.{arith, ap, ◌∙◌, sym, subst}
 use Rattle.std.proofs.lemmas.Bool.Decides.{nat_tests}
 use Rattle.std.proofs.lemmas.List.Sums.{sum_by-cons}
 use Rattle.block_counts.specs.Counts.{held_by}
 use Rattle.posix_types.specs.declared.call.Call.{Call}
-use Rattle.posix_types.specs.declared.call.Mode.{Mode}
 use Rattle.posix_types.specs.declared.call.Who.{Who}
 use Rattle.posix_types.specs.declared.handle.Handle.{Handle}
 use Rattle.posix_types.specs.declared.item.Outcome.{Outcome}
@@ -84,7 +83,7 @@ held_write s new who h node whole file start x p is same whole_is there leaves =
     let says = put_at-Some s who h start x p is in
     let number : file_number s.tables who h ≡ node = ap (λ (q : Put). q.node) says.1 ∙ same in
     let bytes : whole ≡ overwritten (bytes_of (node_at s.nodes node)) start x =
-      sym whole_is ∙ sym (ap (put_bytes s) says.1) ∙ ap (λ n. overwritten (bytes_of (node_at s.nodes n)) start x) number in
+    sym whole_is ∙ sym (ap (put_bytes s) says.1) ∙ ap (λ n. overwritten (bytes_of (node_at s.nodes n)) start x) number in
     let grown = held_grown s new node whole file start x there leaves bytes in
     subst (λ n. held new.nodes ≡ held s.nodes + growth (length (bytes_of (node_at s.nodes n))) (max (length (bytes_of (node_at s.nodes n))) (start + length x))) (sym number) grown
 

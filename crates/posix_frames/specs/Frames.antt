@@ -1,5 +1,5 @@
 -- The frame: what a logged write in flight sees stays under every call that the busy rule lets through.
-use Rattle.std.specs.Prelude.{◌≡◌, ◌≢◌, ◌≤◌, ℕ, ◌+◌, Bool, true, false, cond, not, ◌&&◌, ◌||◌, ◌==◌, List, [], ◌∷◌, length, Option, Some, None, is_none, is_some, option_map, unwrap_or, slice_set, refl}
+use Rattle.std.specs.Prelude.{◌≡◌, ◌≢◌, ℕ, Bool, true, false, cond, not, ◌&&◌, ◌||◌, ◌==◌, List, [], ◌∷◌, Option, Some, None, is_none, is_some, option_map, unwrap_or, refl}
 use Rattle.std.specs.List.{list_any}
 use Rattle.std.specs.Option.{option_map_or}
 use Rattle.std.proofs.Common.{ap, ◌∙◌, sym, subst, inl, inr, lit<}
@@ -17,19 +17,15 @@ use Rattle.posix_words.specs.NameRows.{open_rows}
 use Rattle.posix_words.specs.Names.{exists_at, is_named, node_at_path, number_at, too_long}
 use Rattle.posix_words.specs.Nodes.{node_at}
 use Rattle.posix_words.specs.Outcomes.{first}
-use Rattle.posix_words.specs.Open.{is_full, is_open, key_of, may_read, may_write, opened, same_who, Tables, with_offset}
-use Rattle.posix_spec.specs.FileRows.{close_rows, dup_rows, file_number, fsync_rows, offset_of, read_rows, seek_rows, truncate_rows, write_rows, write_start}
-use Rattle.posix_spec.specs.Put.{Put, put_at, put_by}
-use Rattle.posix_spec.specs.Run.{after_call, Begun}
-use Rattle.posix_spec.specs.State.{alone, made, room, space, State, swept, with_file, with_node, with_published}
-use Rattle.posix_spec.specs.Step.{close_done, dup_done, empty_file, fsync_done, is_busy as is_elsewhere, list_done, moved_offset, open_done, opening, opening_number, pread_done, pwrite_done, read_done, seek_done, stat_done, step, truncate_done, write_done, written}
-use Rattle.posix_facts.specs.RowLaws.{Accepts, Accepts-from_rows, no_row, none_fits, put_at-Some, stepped-keeps}
-use Rattle.posix_puts.specs.Puts.{PutsWhole}
-use Rattle.posix_puts.specs.ViewLaws.{need_of-kept, PutsWhole-kept}
-use Rattle.posix_puts.specs.Views.{KeepsView, need_of, SameView}
+use Rattle.posix_words.specs.Open.{is_full, is_open, key_of, opened, same_who, Tables, with_offset}
+use Rattle.posix_spec.specs.FileRows.{close_rows, dup_rows, file_number, fsync_rows, read_rows, seek_rows, truncate_rows, write_start}
+use Rattle.posix_spec.specs.Run.{Begun}
+use Rattle.posix_spec.specs.State.{alone, made, space, State, swept, with_file, with_node, with_published}
+use Rattle.posix_spec.specs.Step.{close_done, dup_done, empty_file, fsync_done, is_busy as is_elsewhere, list_done, moved_offset, open_done, opening, pread_done, pwrite_done, read_done, seek_done, stat_done, step, truncate_done, write_done, written}
+use Rattle.posix_facts.specs.RowLaws.{Accepts-from_rows, no_row, none_fits, stepped-keeps}
 use Rattle.crash_spec.specs.Busy.{handle_node, is_busy, keeps_busy, Out, path_node, waits_for}
-use Rattle.posix_frames.specs.Bystanders.{file_within, IsHeld, is_open-Opens, KeepsFile, KeepsFile-mkdir, KeepsFile-none, KeepsFile-rename, KeepsFile-rmdir, KeepsFile-unlink, kept-made, kept-with_node, not_not}
-use Rattle.posix_frames.specs.Handles.{key_of-Opens, Opens, Opens-closed, Opens-opened, opened-Opens, Opens-with_descriptor, Opens-with_offset, Opens-with_opened}
+use Rattle.posix_frames.specs.Bystanders.{file_within, IsHeld, KeepsFile, KeepsFile-mkdir, KeepsFile-none, KeepsFile-rename, KeepsFile-rmdir, KeepsFile-unlink, kept-made, kept-with_node, not_not}
+use Rattle.posix_frames.specs.Handles.{Opens, Opens-closed, Opens-with_descriptor, Opens-with_offset, Opens-with_opened}
 
 -- what a write of a caller to a file sees stays: what its handles of the file stand for, the file, the mode
 pub record KeepsSeen (s new : State) (who : Who) (node : ℕ) : Type 0 where
@@ -108,8 +104,8 @@ seen_offset : (s m : State) (who who2 : Who) (node : ℕ) (h2 : Handle) (offset 
     → opened s.tables who2 h2 ≡ Some e → node ≢ e.node → KeepsSeen s (moved_offset m who2 h2 offset) who node
 seen_offset s m who who2 node h2 offset e tables file mode is other = record {
   handles = λ h key d o same.
-    subst (λ (t : Tables). Opens (with_offset t (unwrap_or (key_of t who2 h2) 0) offset) who h key d) (sym tables)
-    (Opens-with_offset s.tables who who2 h h2 offset key d e is (λ one. other (sym same ∙ one)) o);
+      subst (λ (t : Tables). Opens (with_offset t (unwrap_or (key_of t who2 h2) 0) offset) who h key d) (sym tables)
+      (Opens-with_offset s.tables who who2 h h2 offset key d e is (λ one. other (sym same ∙ one)) o);
   file = file;
   mode = mode;
 }

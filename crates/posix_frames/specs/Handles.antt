@@ -203,7 +203,7 @@ Opens-with_offset t who who2 h h2 offset key d e moves other o =
     let k2 : ℕ = found.0 in
     let at : unwrap_or (key_of t who2 h2) 0 ≡ k2 = ap (λ x. unwrap_or x 0) (key_of-Opens t who2 h2 k2 e o2) in
     let same : with_offset t (unwrap_or (key_of t who2 h2) 0) offset ≡ record t { descriptions = slice_set t.descriptions k2 (Some (record e { offset = offset })) } =
-      ap (λ k. with_offset t k offset) at ∙ with_offset-is t k2 offset e o2.stands in
+    ap (λ k. with_offset t k offset) at ∙ with_offset-is t k2 offset e o2.stands in
     subst (λ x. Opens x who h key d) (sym same) (Opens-set t who h key k2 d (Some (record e { offset = offset })) (keys_apart t key k2 d e o.stands o2.stands other) o)
 
 Opens-without_unused : (t : Tables) (k2 : ℕ) (who : Who) (h : Handle) (key : ℕ) (d : Description) → Opens t who h key d → key ≢ k2 → Opens (without_unused t k2) who h key d
@@ -257,7 +257,7 @@ Opens-closed t who who2 h h2 key d e other thread own closes apart o =
     let o2 = found.1 in
     let keys = keys_apart t key k2 d e o.stands o2.stands apart in
     let slots : o.binding.descriptor ≢ o2.binding.descriptor =
-      λ same. (let both : Some key ≡ Some k2 = sym o.key_is ∙ ap (λ k. description_number t.descriptors k) same ∙ o2.key_is in let one : key ≡ k2 = cc in keys one) in
+    λ same. (let both : Some key ≡ Some k2 = sym o.key_is ∙ ap (λ k. description_number t.descriptors k) same ∙ o2.key_is in let one : key ≡ k2 = cc in keys one) in
     let p : Binding → Bool = is_binding o2.binding.who o2.binding.handle in
     let left : Tables = record t {
       descriptors = slice_set t.descriptors o2.binding.descriptor None;

@@ -1,5 +1,5 @@
 -- What a write keeps of others also where only a part of its bytes is found: a state that has other bytes in its file, as many.
-use Rattle.std.specs.Prelude.{◌≡◌, ◌≢◌, ◌≤◌, ℕ, ◌+◌, ◌-◌, get_or, List, length, slice_set, refl}
+use Rattle.std.specs.Prelude.{◌≡◌, ◌≢◌, ◌≤◌, ℕ, ◌+◌, ◌-◌, get_or, List, length}
 use Rattle.std.proofs.Common.{arith, ap, ◌∙◌, sym, subst}
 use Rattle.std.proofs.lemmas.List.{get_or-set_other}
 use Rattle.block_counts.specs.Counts.{held_by, reserve_for}
@@ -7,7 +7,6 @@ use Rattle.posix_types.specs.declared.call.Call.{Call}
 use Rattle.posix_types.specs.declared.call.Who.{Who}
 use Rattle.posix_types.specs.declared.handle.Handle.{Handle}
 use Rattle.posix_types.specs.declared.reply.Shape.{Shape}
-use Rattle.posix_words.specs.declared.nodes.File.{File}
 use Rattle.posix_words.specs.declared.nodes.Node.{Node}
 use Rattle.posix_words.specs.declared.open.Description.{Description}
 use Rattle.posix_words.specs.Open.{Tables}
@@ -17,8 +16,8 @@ use Rattle.posix_spec.specs.State.{Fits, room, State}
 use Rattle.posix_puts.specs.PutLaws.{LeavesWhole-step}
 use Rattle.posix_puts.specs.Puts.{LeavesWhole, PutsWhole, with_whole}
 use Rattle.posix_puts.specs.Views.{KeepsView, need_of}
-use Rattle.posix_frames.specs.Acted.{acted, Change}
-use Rattle.posix_frames.specs.Counted.{held-exact, held-put, staged_by}
+use Rattle.posix_frames.specs.Acted.{Change}
+use Rattle.posix_frames.specs.Counted.{held-exact, held-put}
 use Rattle.posix_frames.specs.Flights.{InFlight, KeepsView-seen}
 use Rattle.posix_frames.specs.Frames.{KeepsSeen}
 use Rattle.posix_frames.specs.Handles.{keys_apart, Opens, Opens-set}

@@ -11,4 +11,5 @@ pub mod Pairs
 pub mod Orders
 pub mod Counted
 pub mod Leaves
+pub mod Rows
 pub mod Laws

@@ -1,12 +1,11 @@
 -- Lists of writes in flight: over histories, and with a call of others among them.
-use Rattle.std.specs.Prelude.{◌≡◌, ◌≢◌, ◌⊎◌, ◌≤◌, ℕ, ◌+◌, Bool, true, false, cond, List, [], ◌∷◌, ◌++◌, map, Option, Some, None, refl}
+use Rattle.std.specs.Prelude.{◌≡◌, ◌≢◌, ◌≤◌, ℕ, ◌+◌, Bool, true, false, cond, List, [], ◌∷◌, ◌++◌, map, Some, refl}
 use Rattle.std.proofs.Common.{arith, ap, ◌∙◌, sym, subst, inl, inr}
 use Rattle.list_facts.specs.Members.{In}
 use Rattle.posix_types.specs.declared.call.Call.{Call}
 use Rattle.posix_types.specs.declared.call.Who.{Who}
 use Rattle.posix_types.specs.declared.item.Item.{Item}
 use Rattle.posix_types.specs.declared.tree.TreeEntry.{TreeEntry}
-use Rattle.posix_words.specs.Open.{same_who}
 use Rattle.posix_spec.specs.Put.{put_by}
 use Rattle.posix_spec.specs.Run.{after_call, after_calls, begun, Begun, run}
 use Rattle.posix_spec.specs.State.{room, State}

@@ -1,35 +1,34 @@
 -- What a write in flight makes of a state, now and after a call of others, and that the two commute.
-use Rattle.std.specs.Prelude.{◌≡◌, ◌≢◌, ◌≤◌, ℕ, zero, suc, ◌+◌, Bool, true, false, cond, List, [], ◌∷◌, length, Option, Some, None, is_none, slice_get, slice_set, unwrap_or, option_map, refl}
+use Rattle.std.specs.Prelude.{◌≡◌, ◌≢◌, ◌≤◌, ℕ, zero, suc, ◌+◌, cond, List, [], ◌∷◌, length, Option, Some, None, is_none, slice_get, slice_set, unwrap_or, option_map, refl}
 use Rattle.std.proofs.Common.{ap, ◌∙◌, sym, subst, inl, inr, arith, lit<}
 use Rattle.posix_types.specs.declared.call.Call.{Call}
 use Rattle.posix_types.specs.declared.call.Who.{Who}
 use Rattle.posix_types.specs.declared.handle.Handle.{Handle}
-use Rattle.posix_types.specs.declared.item.Outcome.{Outcome}
 use Rattle.posix_words.specs.declared.nodes.File.{File}
 use Rattle.posix_words.specs.declared.nodes.Node.{Node}
 use Rattle.posix_words.specs.declared.open.Description.{Description}
 use Rattle.posix_words.specs.Nodes.{node_at, published_of}
 use Rattle.posix_words.specs.Names.{node_at_path, too_long}
-use Rattle.posix_words.specs.Open.{key_of, opened, Tables, with_offset}
+use Rattle.posix_words.specs.Open.{key_of, opened, with_offset}
 use Rattle.posix_words.specs.Outcomes.{first}
 use Rattle.posix_words.specs.Room.{growth}
-use Rattle.posix_spec.specs.FileRows.{content, truncate_rows, write_rows, write_start}
+use Rattle.posix_spec.specs.FileRows.{truncate_rows, write_rows, write_start}
 use Rattle.posix_spec.specs.Put.{put_by}
 use Rattle.posix_spec.specs.Run.{after_call, Begun}
-use Rattle.posix_spec.specs.State.{alone, room, space, State, with_file}
+use Rattle.posix_spec.specs.State.{alone, room, State, with_file}
 use Rattle.posix_spec.specs.Step.{pwrite_done, step, stepped, Stepped, write_done, written}
 use Rattle.posix_facts.specs.RowLaws.{Accepts-from_rows, no_row, none_fits, put_at-Some, rows-from_Accepts}
 use Rattle.posix_puts.specs.PutLaws.{LeavesWhole-step}
 use Rattle.posix_puts.specs.Puts.{LeavesWhole, PutsWhole}
 use Rattle.posix_puts.specs.ViewLaws.{content-same, need_of-kept, write_start-same}
-use Rattle.posix_puts.specs.Views.{KeepsView, need_of, SameView}
+use Rattle.posix_puts.specs.Views.{need_of, SameView}
 use Rattle.crash_spec.specs.Busy.{path_node, waits_for}
 use Rattle.posix_frames.specs.Acted.{acted, Change, handle-acted, option_either, space-acted, Touches, unknown-acted, view-acted, with_slot}
 use Rattle.posix_frames.specs.Bystanders.{not_not}
-use Rattle.posix_frames.specs.Commutes.{besides, step-acted, takes, written_tables}
-use Rattle.posix_frames.specs.Flights.{InFlight, InFlight-step, IsPutBy, KeepsSeen-call, KeepsView-call, KeepsView-seen, put_at-IsPutBy}
+use Rattle.posix_frames.specs.Commutes.{step-acted, takes}
+use Rattle.posix_frames.specs.Flights.{InFlight, InFlight-step, IsPutBy, KeepsSeen-call, KeepsView-seen, put_at-IsPutBy}
 use Rattle.posix_frames.specs.Frames.{AreThreads, granted, KeepsSeen, KeepsSeen-none, LeavesAlone, other_file}
-use Rattle.posix_frames.specs.Handles.{described, key_of-Opens, Opens, opened-Opens, slot_of, with_offset-is}
+use Rattle.posix_frames.specs.Handles.{key_of-Opens, slot_of, with_offset-is}
 use Rattle.posix_frames.specs.Needs.{FitsBeside-put}
 use Rattle.posix_frames.specs.Rooms.{FitsBeside, room-step}
 
@@ -105,9 +104,9 @@ Acts-twice s new who (Call.Write h x) node whole file puts is keeps again =
       change = change_to s node whole by.key to;
       now = acts_by s who (Call.Write h x) node whole h by to file by.node_is is (LeavesWhole-step s who (Call.Write h x) node whole puts) (write_tables s who h x node whole by (write_start s who h + length x) refl none);
       later =
-        subst (λ c. Acts new (who, Call.Write h x) node h c) (published_same s new who node whole by.key to keeps)
-        (acts_by new who (Call.Write h x) node whole h by_again to file by.node_is (keeps.file ∙ is) (LeavesWhole-step new who (Call.Write h x) node whole again)
-        (write_tables new who h x node whole by_again (write_start s who h + length x) offset none_again));
+          subst (λ c. Acts new (who, Call.Write h x) node h c) (published_same s new who node whole by.key to keeps)
+          (acts_by new who (Call.Write h x) node whole h by_again to file by.node_is (keeps.file ∙ is) (LeavesWhole-step new who (Call.Write h x) node whole again)
+          (write_tables new who h x node whole by_again (write_start s who h + length x) offset none_again));
     }
 Acts-twice s new who (Call.Pwrite h start x) node whole file puts is keeps again =
     let by = put_at-IsPutBy s who h start x puts.put node puts.is puts.node_is in
@@ -119,8 +118,8 @@ Acts-twice s new who (Call.Pwrite h start x) node whole file puts is keeps again
       change = change_to s node whole by.key by.by;
       now = acts_by s who (Call.Pwrite h start x) node whole h by by.by file by.node_is is (LeavesWhole-step s who (Call.Pwrite h start x) node whole puts) (pwrite_tables s who h start x node whole by none);
       later =
-        subst (λ c. Acts new (who, Call.Pwrite h start x) node h c) (published_same s new who node whole by.key by.by keeps)
-        (acts_by new who (Call.Pwrite h start x) node whole h by_again by.by file by.node_is (keeps.file ∙ is) (LeavesWhole-step new who (Call.Pwrite h start x) node whole again) (pwrite_tables new who h start x node whole by_again none_again));
+          subst (λ c. Acts new (who, Call.Pwrite h start x) node h c) (published_same s new who node whole by.key by.by keeps)
+          (acts_by new who (Call.Pwrite h start x) node whole h by_again by.by file by.node_is (keeps.file ∙ is) (LeavesWhole-step new who (Call.Pwrite h start x) node whole again) (pwrite_tables new who h start x node whole by_again none_again));
     }
 Acts-twice s new who call node whole file puts is keeps again = let never = puts.is in cc
 

@@ -1,7 +1,6 @@
 -- The room that a call leaves.
-use Rattle.std.specs.Prelude.{◌≡◌, ◌≤◌, ℕ, zero, suc, ◌+◌, ◌-◌, max, Bool, true, false, cond, ◌||◌, nat_le, nat_lt, List, [], ◌∷◌, ◌++◌, length, None, slice_set, refl}
-use Rattle.std.proofs.Common.{arith, ap, ◌∙◌, sym, subst, lit<}
-use Rattle.std.proofs.lemmas.Bool.Decides.{nat_tests}
+use Rattle.std.specs.Prelude.{◌≡◌, ◌≤◌, ℕ, zero, suc, ◌+◌, ◌-◌, max, Bool, true, false, cond, ◌||◌, List, [], ◌∷◌, length, None, slice_set, refl}
+use Rattle.std.proofs.Common.{arith, ap, sym, subst}
 use Rattle.std.proofs.lemmas.List.Sums.{sum_by-cons, sum_by_push}
 use Rattle.block_counts.specs.Counts.{held_by, reserve_for}
 use Rattle.posix_types.specs.declared.call.Call.{Call}
@@ -10,7 +9,6 @@ use Rattle.posix_types.specs.declared.handle.Flags.{Flags}
 use Rattle.posix_types.specs.declared.handle.Handle.{Handle}
 use Rattle.posix_types.specs.declared.reply.Shape.{Shape}
 use Rattle.posix_words.specs.declared.nodes.Node.{Node}
-use Rattle.posix_words.specs.Bytes.{overwritten, resized}
 use Rattle.posix_words.specs.Names.{directory_stands, exists_at, file_stands, is_named, number_at}
 use Rattle.posix_words.specs.Nodes.{bytes_of, node_at, published_node}
 use Rattle.posix_words.specs.Open.{closed, is_open}
@@ -19,9 +17,9 @@ use Rattle.posix_words.specs.Room.{growth, held}
 use Rattle.posix_spec.specs.FileRows.{content, file_number, truncate_rows, write_rows, write_start}
 use Rattle.posix_spec.specs.Run.{after_call, Begun}
 use Rattle.posix_spec.specs.State.{alone, made, room, space, State, swept, unnamed, with_file, with_node, with_published}
-use Rattle.posix_spec.specs.Step.{close_done, dup_done, empty_file, fsync_done, list_done, mkdir_done, open_done, opening, pread_done, pwrite_done, read_done, rename_done, renamed, rmdir_done, seek_done, stat_done, step, truncate_done, unlink_done, write_done, written}
-use Rattle.posix_facts.specs.FitsLaws.{held_by-le, length-overwritten, length-resized}
-use Rattle.posix_facts.specs.RowLaws.{Accepts-from_rows, stepped-keeps}
+use Rattle.posix_spec.specs.Step.{close_done, dup_done, empty_file, fsync_done, list_done, mkdir_done, open_done, opening, pread_done, pwrite_done, read_done, rename_done, renamed, rmdir_done, seek_done, stat_done, truncate_done, unlink_done, write_done, written}
+use Rattle.posix_facts.specs.FitsLaws.{length-overwritten, length-resized}
+use Rattle.posix_facts.specs.RowLaws.{stepped-keeps}
 use Rattle.posix_puts.specs.Views.{need_of}
 
 -- If the call is accepted, what it takes fits beside so many blocks.

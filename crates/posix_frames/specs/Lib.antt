@@ -5,11 +5,5 @@ pub mod Frames
 pub mod Flights
 pub mod Rooms
 pub mod Needs
-pub mod Acted
-pub mod Commutes
-pub mod Pairs
-pub mod Orders
-pub mod Counted
-pub mod Leaves
-pub mod Rows
+pub mod Histories
 pub mod Laws

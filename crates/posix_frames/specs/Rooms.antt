@@ -30,7 +30,7 @@ FitsBeside s (who, Call.Truncate h n) k = first (truncate_rows s who h n) ≡ No
 FitsBeside s c k = Unit {0}
 
 -- what a node holds
-abbrev weight : Node → ℕ
+abbrev pub weight : Node → ℕ
 weight node = held_by (length (bytes_of node))
 
 -- The files hold at most so many blocks more, in the same shape.

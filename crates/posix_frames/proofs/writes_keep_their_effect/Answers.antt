@@ -1,6 +1,6 @@
 use Rattle.posix_frames.specs.Flights.{InFlight-step}
-use Rattle.posix_frames.specs.Orders.{AreInFlight-run}
-use Rattle.posix_frames.specs.Orders.{LetsAllBe-idle}
+use Rattle.posix_frames.specs.Histories.{AreInFlight-run}
+use Rattle.posix_frames.specs.Histories.{LetsAllBe-idle}
 use Rattle.posix_frames.proofs.writes_keep_their_effect.Goals as goal
 
 pub returns-clause-idle : goal.returns-clause-idle

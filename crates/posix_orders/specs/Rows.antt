@@ -20,7 +20,7 @@ use Rattle.posix_words.specs.NameRows.{open_rows}
 use Rattle.posix_words.specs.Names.{node_at_path, walk, with_entry}
 use Rattle.posix_puts.specs.Views.{AreAfforded}
 use Rattle.posix_frames.specs.Needs.{AreInFlight, begun_of, Flight, LetsAllBe}
-use Rattle.posix_frames.specs.Orders.{AreTwoEach, StrictFrom-last}
+use Rattle.posix_orders.specs.Orders.{AreTwoEach, StrictFrom-last}
 
 -- a file each, opened by two threads in strict mode
 abbrev handle : Handle

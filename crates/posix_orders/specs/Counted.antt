@@ -30,7 +30,9 @@ use Rattle.posix_puts.specs.ViewLaws.{content-same, write_start-same}
 use Rattle.posix_puts.specs.Views.{AreAfforded, KeepsView, need_of}
 use Rattle.posix_frames.specs.Flights.{InFlight, KeepsView-call}
 use Rattle.posix_frames.specs.Needs.{AreAfforded-step, AreInFlight, begun_of, FitsBeside-put, Flight, LetsAllBe, LetsAllBe-flight, needs, needs-cons, needs-step}
-use Rattle.posix_frames.specs.Orders.{AreTwoEach}
+use Rattle.posix_orders.specs.Commutes.{below_not}
+use Rattle.posix_frames.specs.Rooms.{weight}
+use Rattle.posix_orders.specs.Orders.{AreTwoEach}
 
 -- ---- the reply
 
@@ -55,9 +57,6 @@ staged_by s c = 0
 
 abbrev pub staged : State → List Flight → ℕ
 staged s flights = sum_by (λ (c : Begun). staged_by s c) (map begun_of flights)
-
-abbrev weight : Node → ℕ
-weight node = held_by (length (bytes_of node))
 
 pub held-exact : (nodes : List Node) (n : ℕ) (node : Node) (file : File) → node_at nodes n ≡ Node.File file → held (slice_set nodes n node) + weight (node_at nodes n) ≡ held nodes + weight node
 held-exact [] n node file is = cc
@@ -175,9 +174,6 @@ above-no_blocks s need o is = by (nat_lt (room s) need) (tested (room s) need) i
 
 true_not : (b : Bool) → b ≡ true → not b ≡ false
 true_not b is = rw is refl
-
-below_not : (m n : ℕ) → n ≤ m → nat_lt m n ≡ false
-below_not m n le = grind (arith, nat_tests)
 
 zero_not : (n : ℕ) → n ≢ 0 → (n == 0) ≡ false
 zero_not n is = grind (arith, nat_tests)

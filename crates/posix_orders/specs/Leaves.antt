@@ -16,12 +16,12 @@ use Rattle.posix_spec.specs.State.{Fits, room, State}
 use Rattle.posix_puts.specs.PutLaws.{LeavesWhole-step}
 use Rattle.posix_puts.specs.Puts.{LeavesWhole, PutsWhole, with_whole}
 use Rattle.posix_puts.specs.Views.{KeepsView, need_of}
-use Rattle.posix_frames.specs.Acted.{Change}
-use Rattle.posix_frames.specs.Counted.{held-exact, held-put}
+use Rattle.posix_orders.specs.Acted.{Change}
+use Rattle.posix_orders.specs.Counted.{held-exact, held-put}
 use Rattle.posix_frames.specs.Flights.{InFlight, KeepsView-seen}
 use Rattle.posix_frames.specs.Frames.{KeepsSeen}
 use Rattle.posix_frames.specs.Handles.{keys_apart, Opens, Opens-set}
-use Rattle.posix_frames.specs.Pairs.{Acts-now}
+use Rattle.posix_orders.specs.Pairs.{Acts-now}
 
 -- the handles of other files stand for what they stood for
 abbrev pub KeepsOthers : Tables → Tables → ℕ → Type 0

@@ -1,7 +1,7 @@
-use Rattle.posix_frames.specs.Orders.{Commute-two}
-use Rattle.posix_frames.specs.Orders.{CommuteAll-call}
-use Rattle.posix_frames.specs.Orders.{StrictFrom-last}
-use Rattle.posix_frames.proofs.writes_commute.Goals as goal
+use Rattle.posix_orders.specs.Orders.{Commute-two}
+use Rattle.posix_orders.specs.Orders.{CommuteAll-call}
+use Rattle.posix_orders.specs.Orders.{StrictFrom-last}
+use Rattle.posix_orders.proofs.writes_commute.Goals as goal
 
 pub returns-clause-writes : goal.returns-clause-writes
 returns-clause-writes c = Commute-two

@@ -1,9 +1,9 @@
-use Rattle.posix_frames.specs.Counted.{counted-needs}
-use Rattle.posix_frames.specs.Counted.{fits_beside-all}
-use Rattle.posix_frames.specs.Counted.{never_fits}
-use Rattle.posix_frames.specs.Counted.{outcome-put}
-use Rattle.posix_frames.specs.Counted.{write-above}
-use Rattle.posix_frames.proofs.writes_are_counted.Goals as goal
+use Rattle.posix_orders.specs.Counted.{counted-needs}
+use Rattle.posix_orders.specs.Counted.{fits_beside-all}
+use Rattle.posix_orders.specs.Counted.{never_fits}
+use Rattle.posix_orders.specs.Counted.{outcome-put}
+use Rattle.posix_orders.specs.Counted.{write-above}
+use Rattle.posix_orders.proofs.writes_are_counted.Goals as goal
 
 pub returns-clause-counted : goal.returns-clause-counted
 returns-clause-counted c = counted-needs

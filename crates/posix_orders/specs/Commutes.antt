@@ -29,7 +29,7 @@ use Rattle.posix_facts.specs.RowLaws.{no_row, none_fits, row-none}
 use Rattle.posix_puts.specs.ViewLaws.{content-same, file_number-same, node-same, write_start-same}
 use Rattle.posix_puts.specs.Views.{need_of, SameView}
 use Rattle.crash_spec.specs.Busy.{handle_node, path_node, waits_for}
-use Rattle.posix_frames.specs.Acted.{acted, Change, closed-acted, handle-acted, IsSwept, key_of-acted, made-acted, node-acted, opening-acted, opening_number-acted, option_either, renamed-acted, space-acted, swept-acted, Touches, unknown-acted, unnamed-acted, view-acted, with_descriptor-acted, with_offset-acted, with_opened-acted, with_slot}
+use Rattle.posix_orders.specs.Acted.{acted, Change, closed-acted, handle-acted, IsSwept, key_of-acted, made-acted, node-acted, opening-acted, opening_number-acted, option_either, renamed-acted, space-acted, swept-acted, Touches, unknown-acted, unnamed-acted, view-acted, with_descriptor-acted, with_offset-acted, with_opened-acted, with_slot}
 use Rattle.posix_frames.specs.Bystanders.{directory_apart, is_open-Opens, no_file, not_not, stands}
 use Rattle.posix_frames.specs.Frames.{AreThreads, granted, IsOpened-from, known, LeavesAlone, other_file, other_number, path_apart}
 use Rattle.posix_frames.specs.Handles.{key_of-Opens, keys_apart, Opens, Opens-closed, Opens-opened}
@@ -294,7 +294,7 @@ commutes_fsync s who h c h2 who2 t aside =
 
 -- ---- calls that take room
 
-below_not : (m n : ℕ) → n ≤ m → nat_lt m n ≡ false
+pub below_not : (m n : ℕ) → n ≤ m → nat_lt m n ≡ false
 below_not m n le = grind (arith, nat_tests)
 
 no_blocks-none : (s : State) (need : ℕ) → need ≤ room s → no_blocks s need ≡ None

@@ -23,9 +23,9 @@ use Rattle.posix_puts.specs.Puts.{LeavesWhole, PutsWhole}
 use Rattle.posix_puts.specs.ViewLaws.{content-same, need_of-kept, write_start-same}
 use Rattle.posix_puts.specs.Views.{need_of, SameView}
 use Rattle.crash_spec.specs.Busy.{path_node, waits_for}
-use Rattle.posix_frames.specs.Acted.{acted, Change, handle-acted, option_either, space-acted, Touches, unknown-acted, view-acted, with_slot}
+use Rattle.posix_orders.specs.Acted.{acted, Change, handle-acted, option_either, space-acted, Touches, unknown-acted, view-acted, with_slot}
 use Rattle.posix_frames.specs.Bystanders.{not_not}
-use Rattle.posix_frames.specs.Commutes.{step-acted, takes}
+use Rattle.posix_orders.specs.Commutes.{step-acted, takes}
 use Rattle.posix_frames.specs.Flights.{InFlight, InFlight-step, IsPutBy, KeepsSeen-call, KeepsView-seen, put_at-IsPutBy}
 use Rattle.posix_frames.specs.Frames.{AreThreads, granted, KeepsSeen, KeepsSeen-none, LeavesAlone, other_file}
 use Rattle.posix_frames.specs.Handles.{key_of-Opens, slot_of, with_offset-is}

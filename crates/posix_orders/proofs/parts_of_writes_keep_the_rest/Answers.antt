@@ -1,7 +1,7 @@
-use Rattle.posix_frames.specs.Leaves.{Fits-leaves}
-use Rattle.posix_frames.specs.Leaves.{KeepsView-leaves}
-use Rattle.posix_frames.specs.Leaves.{room-leaves}
-use Rattle.posix_frames.proofs.parts_of_writes_keep_the_rest.Goals as goal
+use Rattle.posix_orders.specs.Leaves.{Fits-leaves}
+use Rattle.posix_orders.specs.Leaves.{KeepsView-leaves}
+use Rattle.posix_orders.specs.Leaves.{room-leaves}
+use Rattle.posix_orders.proofs.parts_of_writes_keep_the_rest.Goals as goal
 
 pub returns-clause-others : goal.returns-clause-others
 returns-clause-others c = KeepsView-leaves

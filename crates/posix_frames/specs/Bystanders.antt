@@ -33,7 +33,8 @@ pub record KeepsFile (s new : State) (node : ℕ) : Type 0 where
   pub mode : new.mode ≡ s.mode
   pub file : node_at new.nodes node ≡ node_at s.nodes node
 
-any_at : {X : Type 0} (p : X → Bool) (xs : List X) (n : ℕ) (x : X) → slice_get xs n ≡ Some x → p x ≡ true → list_any p xs ≡ true
+any_at : {X : Type 0} (p : X → Bool) (xs : List X) (n : ℕ) (x : X) → slice_get xs n ≡ Some x → p x ≡ true
+    → list_any p xs ≡ true
 any_at p [] n x is passes = cc
 any_at p (y ∷ ys) zero x is passes = let same : y ≡ x = cc in ap (λ b. b || list_any p ys) (ap p same ∙ passes)
 any_at p (y ∷ ys) (suc n) x is passes = by (p y) (any_at p ys n x is passes) where
@@ -42,18 +43,21 @@ any_at p (y ∷ ys) (suc n) x is passes = by (p y) (any_at p ys n x is passes) w
   by false rest = rest
 
 -- a file that a handle stands for is open
-pub is_open-Opens : (t : Tables) (who : Who) (h : Handle) (key node : ℕ) (d : Description) → Opens t who h key d → d.node ≡ node → is_open t node ≡ true
+pub is_open-Opens : (t : Tables) (who : Who) (h : Handle) (key node : ℕ) (d : Description) → Opens t who h key d
+    → d.node ≡ node → is_open t node ≡ true
 is_open-Opens t who h key node d o same =
     any_at (describes node) t.descriptions key (Some d) (slot_of t key d o.stands) ((Decides-eqb d.node node).1 same)
 
 -- a file that is there has a number below the count
-pub file_within : (nodes : List Node) (node : ℕ) (file : File) → node_at nodes node ≡ Node.File file → node < length nodes
+pub file_within : (nodes : List Node) (node : ℕ) (file : File) → node_at nodes node ≡ Node.File file
+    → node < length nodes
 file_within [] node file is = cc
 file_within (x ∷ xs) zero file is = omega arith
 file_within (x ∷ xs) (suc n) file is = omega (arith, file_within xs n file is)
 
 -- a file is no directory
-pub directory_apart : (s : State) (n node : ℕ) (file : File) → node_at s.nodes node ≡ Node.File file → is_directory s.nodes n ≡ true → node ≢ n
+pub directory_apart : (s : State) (n node : ℕ) (file : File) → node_at s.nodes node ≡ Node.File file
+    → is_directory s.nodes n ≡ true → node ≢ n
 directory_apart s n node file is directory same =
     let no : is_directory s.nodes node ≡ false = rw is refl in
     let never : true ≡ false = sym directory ∙ ap (is_directory s.nodes) (sym same) ∙ no in
@@ -63,7 +67,8 @@ pub stands : (f : ℕ → Bool) (o : Option ℕ) → option_map_or f o false ≡
 stands f None is = cc
 stands f (Some n) is = is
 
-pub no_file : (f : ℕ → Bool) (o : Option ℕ) → is_some o ≡ true → option_map_or (λ n. not (f n)) o false ≡ false → f (unwrap_or o 0) ≡ true
+pub no_file : (f : ℕ → Bool) (o : Option ℕ) → is_some o ≡ true → option_map_or (λ n. not (f n)) o false ≡ false
+    → f (unwrap_or o 0) ≡ true
 no_file f None is none = cc
 no_file f (Some n) is none = yes (f n) none where
   yes : (b : Bool) → not b ≡ false → b ≡ true
@@ -79,11 +84,13 @@ not_not false is = cc
 pub KeepsFile-none : (s : State) (node : ℕ) → KeepsFile s s node
 KeepsFile-none s node = record { tables = refl; mode = refl; file = refl }
 
-pub kept-made : (s : State) (p : List (List ℕ)) (x : Node) (node : ℕ) → node < length s.nodes → KeepsFile s (made s p x) node
+pub kept-made : (s : State) (p : List (List ℕ)) (x : Node) (node : ℕ) → node < length s.nodes
+    → KeepsFile s (made s p x) node
 unfolding made
 kept-made s p x node within = record { tables = refl; mode = refl; file = get_or_append_left s.nodes (x ∷ []) Node.Gone node within }
 
-pub kept-with_node : (s m : State) (n node : ℕ) (x : Node) → KeepsFile s m node → node ≢ n → KeepsFile s (with_node m n x) node
+pub kept-with_node : (s m : State) (n node : ℕ) (x : Node) → KeepsFile s m node → node ≢ n
+    → KeepsFile s (with_node m n x) node
 kept-with_node s m n node x keeps other = record { tables = keeps.tables; mode = keeps.mode; file = get_or-set_other m.nodes n node x Node.Gone other ∙ keeps.file }
 
 or_true : (a b : Bool) → b ≡ true → (a || b) ≡ true
@@ -95,7 +102,8 @@ pub swept-open : (m : State) (n : ℕ) → is_open m.tables n ≡ true → swept
 unfolding swept
 swept-open m n is = ap (λ b. cond b m (with_node m n Node.Gone)) (or_true (is_named m.entries n) (is_open m.tables n) is)
 
-pub kept-swept : (s m : State) (n node : ℕ) → KeepsFile s m node → is_open s.tables node ≡ true → KeepsFile s (swept alone m n) node
+pub kept-swept : (s m : State) (n node : ℕ) → KeepsFile s m node → is_open s.tables node ≡ true
+    → KeepsFile s (swept alone m n) node
 unfolding swept
 kept-swept s m n node keeps held = elim (cases_eq n node) [
   | inl same ↦
@@ -109,11 +117,13 @@ kept-swept s m n node keeps held = elim (cases_eq n node) [
 
 -- ---- calls
 
-pub KeepsFile-mkdir : (s : State) (who : Who) (p : List (List ℕ)) (node : ℕ) → IsHeld s node → KeepsFile s (step s who (Call.Mkdir p)).state node
+pub KeepsFile-mkdir : (s : State) (who : Who) (p : List (List ℕ)) (node : ℕ) → IsHeld s node
+    → KeepsFile s (step s who (Call.Mkdir p)).state node
 unfolding mkdir_done
 KeepsFile-mkdir s who p node held = stepped-keeps (λ new. KeepsFile s new node) s _ _ (KeepsFile-none s node) (λ none. kept-made s p Node.Directory node (file_within s.nodes node held.file held.is))
 
-pub KeepsFile-rmdir : (s : State) (who : Who) (p : List (List ℕ)) (node : ℕ) → IsHeld s node → KeepsFile s (step s who (Call.Rmdir p)).state node
+pub KeepsFile-rmdir : (s : State) (who : Who) (p : List (List ℕ)) (node : ℕ) → IsHeld s node
+    → KeepsFile s (step s who (Call.Rmdir p)).state node
 unfolding rmdir_done rmdir_rows unnamed
 KeepsFile-rmdir s who p node held = stepped-keeps (λ new. KeepsFile s new node) s _ _ (KeepsFile-none s node) (λ none.
     let each = none_fits (rmdir_rows (space s) p) none in
@@ -121,12 +131,14 @@ KeepsFile-rmdir s who p node held = stepped-keeps (λ new. KeepsFile s new node)
     let directory = no_file (is_directory s.nodes) (node_at_path (space s) p) there (no_row _ _ (each 4 None (lit< tt))) in
     kept-with_node s (unnamed s p) (number_at (space s) p) node Node.Gone (record { tables = refl; mode = refl; file = refl }) (directory_apart s (number_at (space s) p) node held.file held.is directory))
 
-pub KeepsFile-unlink : (s : State) (who : Who) (p : List (List ℕ)) (node : ℕ) → IsHeld s node → KeepsFile s (step s who (Call.Unlink p)).state node
+pub KeepsFile-unlink : (s : State) (who : Who) (p : List (List ℕ)) (node : ℕ) → IsHeld s node
+    → KeepsFile s (step s who (Call.Unlink p)).state node
 unfolding unlink_done unnamed
 KeepsFile-unlink s who p node held = stepped-keeps (λ new. KeepsFile s new node) s _ _ (KeepsFile-none s node) (λ none.
     kept-swept s (unnamed s p) (number_at (space s) p) node (record { tables = refl; mode = refl; file = refl }) held.held_open)
 
-pub KeepsFile-rename : (s : State) (who : Who) (p q : List (List ℕ)) (node : ℕ) → IsHeld s node → KeepsFile s (step s who (Call.Rename p q)).state node
+pub KeepsFile-rename : (s : State) (who : Who) (p q : List (List ℕ)) (node : ℕ) → IsHeld s node
+    → KeepsFile s (step s who (Call.Rename p q)).state node
 unfolding rename_done renamed
 KeepsFile-rename s who p q node held =
     stepped-keeps (λ new. KeepsFile s new node) s _ _ (KeepsFile-none s node) (λ none. by (directory_stands (space s) q) (file_stands (space s) q) (stands (is_directory s.nodes) (node_at_path (space s) q)))

@@ -29,7 +29,8 @@ use Rattle.posix_frames.specs.Handles.{Opens, Opens-closed, Opens-with_descripto
 
 -- what a write of a caller to a file sees stays: what its handles of the file stand for, the file, the mode
 pub record KeepsSeen (s new : State) (who : Who) (node : ℕ) : Type 0 where
-  pub handles : (h : Handle) (key : ℕ) (d : Description) → Opens s.tables who h key d → d.node ≡ node → Opens new.tables who h key d
+  pub handles : (h : Handle) (key : ℕ) (d : Description) → Opens s.tables who h key d → d.node ≡ node
+      → Opens new.tables who h key d
   pub file : node_at new.nodes node ≡ node_at s.nodes node
   pub mode : new.mode ≡ s.mode
 
@@ -58,7 +59,8 @@ not_and true b first second = cc
 not_and false b first second = second
 
 -- A call that does not wait while another caller's logged call is out leaves that call's file alone.
-pub LeavesAlone-idle : (s : State) (out : List Out) (c : Begun) (who : Who) (node : ℕ) → is_busy s out c ≡ false → In (who, node) out → same_who who c.0 ≡ false → LeavesAlone s c node
+pub LeavesAlone-idle : (s : State) (out : List Out) (c : Begun) (who : Who) (node : ℕ) → is_busy s out c ≡ false
+    → In (who, node) out → same_who who c.0 ≡ false → LeavesAlone s c node
 unfolding is_busy
 LeavesAlone-idle s out c who node idle is other waits =
     let keeps : keeps_busy c.0 node (who, node) ≡ true = not_and (same_who who c.0) (node == node) other ((Decides-eqb node node).1 refl) in
@@ -68,17 +70,20 @@ LeavesAlone-idle s out c who node idle is other waits =
 
 -- ---- handles of another file
 
-pub other_file : (s : State) (who : Who) (h : Handle) (node : ℕ) (e : Description) → handle_node s who h ≢ Some node → opened s.tables who h ≡ Some e → node ≢ e.node
+pub other_file : (s : State) (who : Who) (h : Handle) (node : ℕ) (e : Description) → handle_node s who h ≢ Some node
+    → opened s.tables who h ≡ Some e → node ≢ e.node
 other_file s who h node e alone_it is same = alone_it (ap (λ (o : Option Description). option_map (λ d. d.node) o) is ∙ ap Some (sym same))
 
-pub file_number-is : (s : State) (who : Who) (h : Handle) (e : Description) → opened s.tables who h ≡ Some e → file_number s.tables who h ≡ e.node
+pub file_number-is : (s : State) (who : Who) (h : Handle) (e : Description) → opened s.tables who h ≡ Some e
+    → file_number s.tables who h ≡ e.node
 file_number-is s who h e is = ap (λ (o : Option Description). option_map_or (λ d. d.node) o 0) is
 
 pub known : {X : Type 0} (o : Option X) → is_none o ≡ false → (x : X) × (o ≡ Some x)
 known None is = cc
 known (Some x) is = (x, refl)
 
-pub granted : (f : Description → Bool) (o : Option Description) → option_map_or f o false ≡ true → (d : Description) × (o ≡ Some d)
+pub granted : (f : Description → Bool) (o : Option Description) → option_map_or f o false ≡ true
+    → (d : Description) × (o ≡ Some d)
 granted f None is = cc
 granted f (Some d) is = (d, refl)
 
@@ -90,17 +95,20 @@ KeepsSeen-none s who node = record { handles = λ h key d o same. o; file = refl
 seen_file : (s new : State) (who : Who) (node : ℕ) → KeepsFile s new node → KeepsSeen s new who node
 seen_file s new who node keeps = record { handles = λ h key d o same. subst (λ t. Opens t who h key d) (sym keeps.tables) o; file = keeps.file; mode = keeps.mode }
 
-seen_node : (s m : State) (who : Who) (n node : ℕ) (x : Node) → KeepsSeen s m who node → node ≢ n → KeepsSeen s (with_node m n x) who node
+seen_node : (s m : State) (who : Who) (n node : ℕ) (x : Node) → KeepsSeen s m who node → node ≢ n
+    → KeepsSeen s (with_node m n x) who node
 seen_node s m who n node x keeps other = record { handles = keeps.handles; file = get_or-set_other m.nodes n node x Node.Gone other ∙ keeps.file; mode = keeps.mode }
 
-seen_swept : (s m : State) (who : Who) (n node : ℕ) → KeepsSeen s m who node → node ≢ n → KeepsSeen s (swept alone m n) who node
+seen_swept : (s m : State) (who : Who) (n node : ℕ) → KeepsSeen s m who node → node ≢ n
+    → KeepsSeen s (swept alone m n) who node
 unfolding swept
 seen_swept s m who n node keeps other = by (is_named m.entries n || is_open m.tables n) where
   by : (b : Bool) → KeepsSeen s (cond b m (with_node m n Node.Gone)) who node
   by true = keeps
   by false = seen_node s m who n node Node.Gone keeps other
 
-seen_offset : (s m : State) (who who2 : Who) (node : ℕ) (h2 : Handle) (offset : ℕ) (e : Description) → m.tables ≡ s.tables → node_at m.nodes node ≡ node_at s.nodes node → m.mode ≡ s.mode
+seen_offset : (s m : State) (who who2 : Who) (node : ℕ) (h2 : Handle) (offset : ℕ) (e : Description)
+    → m.tables ≡ s.tables → node_at m.nodes node ≡ node_at s.nodes node → m.mode ≡ s.mode
     → opened s.tables who2 h2 ≡ Some e → node ≢ e.node → KeepsSeen s (moved_offset m who2 h2 offset) who node
 seen_offset s m who who2 node h2 offset e tables file mode is other = record {
   handles = λ h key d o same.
@@ -112,10 +120,12 @@ seen_offset s m who who2 node h2 offset e tables file mode is other = record {
 
 -- ---- calls with a handle of another file
 
-pub other_number : (s : State) (who : Who) (h : Handle) (node : ℕ) (e : Description) → opened s.tables who h ≡ Some e → node ≢ e.node → node ≢ file_number s.tables who h
+pub other_number : (s : State) (who : Who) (h : Handle) (node : ℕ) (e : Description) → opened s.tables who h ≡ Some e
+    → node ≢ e.node → node ≢ file_number s.tables who h
 other_number s who h node e is other same = other (same ∙ file_number-is s who h e is)
 
-seen_close : (s : State) (who who2 : Who) (h2 : Handle) (node : ℕ) (e : Description) → AreThreads who who2 → opened s.tables who2 h2 ≡ Some e → node ≢ e.node → KeepsSeen s (close_done alone s who2 h2).state who node
+seen_close : (s : State) (who who2 : Who) (h2 : Handle) (node : ℕ) (e : Description) → AreThreads who who2
+    → opened s.tables who2 h2 ≡ Some e → node ≢ e.node → KeepsSeen s (close_done alone s who2 h2).state who node
 unfolding close_done with_published
 seen_close s who who2 h2 node e threads is other =
     let apart = other_number s who2 h2 node e is other in
@@ -125,7 +135,8 @@ seen_close s who who2 h2 node e threads is other =
       mode = refl;
     }) apart
 
-seen_dup : (s : State) (who who2 : Who) (h2 g : Handle) (node : ℕ) → AreThreads who who2 → is_full s.tables ≡ false → KeepsSeen s (dup_done s who2 h2 g).state who node
+seen_dup : (s : State) (who who2 : Who) (h2 g : Handle) (node : ℕ) → AreThreads who who2 → is_full s.tables ≡ false
+    → KeepsSeen s (dup_done s who2 h2 g).state who node
 unfolding dup_done
 seen_dup s who who2 h2 g node threads room_there = record {
   handles = λ h key d o same. Opens-with_descriptor s.tables who who2 h g (unwrap_or (key_of s.tables who2 h2) 0) key d room_there threads.other threads.thread o;
@@ -133,36 +144,43 @@ seen_dup s who who2 h2 g node threads room_there = record {
   mode = refl;
 }
 
-seen_written : (s : State) (who who2 : Who) (h2 : Handle) (start : ℕ) (x : List ℕ) (node : ℕ) → node ≢ file_number s.tables who2 h2 → KeepsFile s (written alone s who2 h2 start x) node
+seen_written : (s : State) (who who2 : Who) (h2 : Handle) (start : ℕ) (x : List ℕ) (node : ℕ)
+    → node ≢ file_number s.tables who2 h2 → KeepsFile s (written alone s who2 h2 start x) node
 unfolding written with_file
 seen_written s who who2 h2 start x node apart = record { tables = refl; mode = refl; file = get_or-set_other s.nodes (file_number s.tables who2 h2) node _ Node.Gone apart }
 
-seen_write : (s : State) (who who2 : Who) (h2 : Handle) (x : List ℕ) (node : ℕ) (e : Description) → opened s.tables who2 h2 ≡ Some e → node ≢ e.node → KeepsSeen s (write_done alone s who2 h2 x).state who node
+seen_write : (s : State) (who who2 : Who) (h2 : Handle) (x : List ℕ) (node : ℕ) (e : Description)
+    → opened s.tables who2 h2 ≡ Some e → node ≢ e.node → KeepsSeen s (write_done alone s who2 h2 x).state who node
 unfolding write_done
 seen_write s who who2 h2 x node e is other =
     let keeps = seen_written s who who2 h2 (write_start s who2 h2) x node (other_number s who2 h2 node e is other) in
     seen_offset s (written alone s who2 h2 (write_start s who2 h2) x) who who2 node h2 _ e keeps.tables keeps.file keeps.mode is other
 
-seen_pwrite : (s : State) (who who2 : Who) (h2 : Handle) (start : ℕ) (x : List ℕ) (node : ℕ) (e : Description) → opened s.tables who2 h2 ≡ Some e → node ≢ e.node
+seen_pwrite : (s : State) (who who2 : Who) (h2 : Handle) (start : ℕ) (x : List ℕ) (node : ℕ) (e : Description)
+    → opened s.tables who2 h2 ≡ Some e → node ≢ e.node
     → KeepsSeen s (pwrite_done alone s who2 h2 start x).state who node
 unfolding pwrite_done
 seen_pwrite s who who2 h2 start x node e is other = seen_file s _ who node (seen_written s who who2 h2 start x node (other_number s who2 h2 node e is other))
 
-seen_truncate : (s : State) (who who2 : Who) (h2 : Handle) (n node : ℕ) (e : Description) → opened s.tables who2 h2 ≡ Some e → node ≢ e.node → KeepsSeen s (truncate_done s who2 h2 n).state who node
+seen_truncate : (s : State) (who who2 : Who) (h2 : Handle) (n node : ℕ) (e : Description)
+    → opened s.tables who2 h2 ≡ Some e → node ≢ e.node → KeepsSeen s (truncate_done s who2 h2 n).state who node
 unfolding truncate_done with_file
 seen_truncate s who who2 h2 n node e is other = seen_node s s who (file_number s.tables who2 h2) node _ (KeepsSeen-none s who node) (other_number s who2 h2 node e is other)
 
-seen_fsync : (s : State) (who who2 : Who) (h2 : Handle) (node : ℕ) (e : Description) → opened s.tables who2 h2 ≡ Some e → node ≢ e.node → KeepsSeen s (fsync_done s who2 h2).state who node
+seen_fsync : (s : State) (who who2 : Who) (h2 : Handle) (node : ℕ) (e : Description)
+    → opened s.tables who2 h2 ≡ Some e → node ≢ e.node → KeepsSeen s (fsync_done s who2 h2).state who node
 unfolding fsync_done with_published
 seen_fsync s who who2 h2 node e is other = seen_node s s who (file_number s.tables who2 h2) node _ (KeepsSeen-none s who node) (other_number s who2 h2 node e is other)
 
-seen_read : (s : State) (who who2 : Who) (h2 : Handle) (n node : ℕ) (e : Description) → opened s.tables who2 h2 ≡ Some e → node ≢ e.node → KeepsSeen s (read_done s who2 h2 n).state who node
+seen_read : (s : State) (who who2 : Who) (h2 : Handle) (n node : ℕ) (e : Description)
+    → opened s.tables who2 h2 ≡ Some e → node ≢ e.node → KeepsSeen s (read_done s who2 h2 n).state who node
 unfolding read_done
 seen_read s who who2 h2 n node e is other = seen_offset s s who who2 node h2 _ e refl refl refl is other
 
 -- ---- opens
 
-pub path_apart : (s : State) (p : List (List ℕ)) (node : ℕ) → too_long (space s).longest p ≡ false → exists_at (space s) p ≡ true → path_node s p ≢ Some node → node ≢ number_at (space s) p
+pub path_apart : (s : State) (p : List (List ℕ)) (node : ℕ) → too_long (space s).longest p ≡ false
+    → exists_at (space s) p ≡ true → path_node s p ≢ Some node → node ≢ number_at (space s) p
 path_apart s p node short there alone_it same = alone_it (ap (λ b. cond b None (node_at_path (space s) p)) short ∙ number (node_at_path (space s) p) there same) where
   number : (o : Option ℕ) → is_some o ≡ true → node ≡ unwrap_or o 0 → o ≡ Some node
   number None is one = cc
@@ -173,22 +191,27 @@ pub record IsOpened (s : State) (p : List (List ℕ)) : Type 0 where
   pub short : too_long (space s).longest p ≡ false
   pub free : is_full s.tables ≡ false
 
-pub IsOpened-from : (s : State) (p : List (List ℕ)) (f : Flags) → first (open_rows (space s) (is_full s.tables) (is_elsewhere alone s p) p f) ≡ None → IsOpened s p
+pub IsOpened-from : (s : State) (p : List (List ℕ)) (f : Flags)
+    → first (open_rows (space s) (is_full s.tables) (is_elsewhere alone s p) p f) ≡ None → IsOpened s p
 unfolding open_rows
 IsOpened-from s p f none =
     let each = none_fits (open_rows (space s) (is_full s.tables) (is_elsewhere alone s p) p f) none in
     record { short = no_row _ _ (each 0 None (lit< tt)); free = no_row _ _ (each 6 None (lit< tt)) }
 
-seen_opening : (s : State) (who : Who) (p : List (List ℕ)) (truncate : Bool) (node : ℕ) (file : File) → node_at s.nodes node ≡ Node.File file
-    → (truncate ≡ true → exists_at (space s) p ≡ true → node ≢ number_at (space s) p) → KeepsFile s (opening s p truncate) node
+seen_opening : (s : State) (who : Who) (p : List (List ℕ)) (truncate : Bool) (node : ℕ) (file : File)
+    → node_at s.nodes node ≡ Node.File file
+    → (truncate ≡ true → exists_at (space s) p ≡ true → node ≢ number_at (space s) p)
+    → KeepsFile s (opening s p truncate) node
 unfolding opening
 seen_opening s who p truncate node file is other = by (exists_at (space s) p) truncate other where
-  by : (b c : Bool) → (c ≡ true → b ≡ true → node ≢ number_at (space s) p) → KeepsFile s (cond b (cond c (with_node s (number_at (space s) p) empty_file) s) (made s p empty_file)) node
+  by : (b c : Bool) → (c ≡ true → b ≡ true → node ≢ number_at (space s) p)
+      → KeepsFile s (cond b (cond c (with_node s (number_at (space s) p) empty_file) s) (made s p empty_file)) node
   by true true apart = kept-with_node s s (number_at (space s) p) node empty_file (KeepsFile-none s node) (apart refl refl)
   by true false apart = KeepsFile-none s node
   by false c apart = kept-made s p empty_file node (file_within s.nodes node file is)
 
-seen_open : (s : State) (who who2 : Who) (h2 : Handle) (p : List (List ℕ)) (f : Flags) (node : ℕ) → AreThreads who who2 → IsHeld s node → IsOpened s p
+seen_open : (s : State) (who who2 : Who) (h2 : Handle) (p : List (List ℕ)) (f : Flags) (node : ℕ)
+    → AreThreads who who2 → IsHeld s node → IsOpened s p
     → (f.truncate ≡ true → path_node s p ≢ Some node) → KeepsSeen s (open_done s who2 h2 p f).state who node
 unfolding open_done
 seen_open s who who2 h2 p f node threads held accepted apart =
@@ -202,7 +225,8 @@ seen_open s who who2 h2 p f node threads held accepted apart =
 -- ---- THE FRAME
 
 -- Any call of another thread that leaves the file alone keeps what a write of the file sees.
-pub KeepsSeen-step : (s : State) (who who2 : Who) (call : Call) (node : ℕ) → AreThreads who who2 → IsHeld s node → LeavesAlone s (who2, call) node → KeepsSeen s (step s who2 call).state who node
+pub KeepsSeen-step : (s : State) (who who2 : Who) (call : Call) (node : ℕ) → AreThreads who who2 → IsHeld s node
+    → LeavesAlone s (who2, call) node → KeepsSeen s (step s who2 call).state who node
 unfolding waits_for pread_done seek_done stat_done list_done dup_rows seek_rows truncate_rows
 KeepsSeen-step s who who2 (Call.Mkdir p) node threads held aside = seen_file s _ who node (KeepsFile-mkdir s who2 p node held)
 KeepsSeen-step s who who2 (Call.Rmdir p) node threads held aside = seen_file s _ who node (KeepsFile-rmdir s who2 p node held)

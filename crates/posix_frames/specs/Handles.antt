@@ -44,7 +44,8 @@ same_handle-is a b is =
 not_of : (a b : Bool) → a ≡ false → (a && b) ≡ false
 not_of a b is = ap (λ c. c && b) is
 
-other_binding : (who who2 : Who) (h h2 : Handle) (b : Binding) → same_who who who2 ≡ false → is_binding who h b ≡ true → is_binding who2 h2 b ≡ false
+other_binding : (who who2 : Who) (h h2 : Handle) (b : Binding) → same_who who who2 ≡ false → is_binding who h b ≡ true
+    → is_binding who2 h2 b ≡ false
 other_binding who who2 h h2 b other is =
     let own = same_who-is b.who who (both_true (same_who b.who who) (same_handle b.handle h) is).0 in
     not_of (same_who b.who who2) (same_handle b.handle h2) (ap (λ w. same_who w who2) own ∙ other)
@@ -61,23 +62,30 @@ pub record IsShared (handles : List Binding) (who : Who) (h : Handle) (b : Bindi
   pub found : find (is_binding Who.Setup h) handles ≡ Some b
   pub is : is_binding Who.Setup h b ≡ true
 
-pub bound_by : (handles : List Binding) (who : Who) (h : Handle) (b : Binding) → binding_of handles who h ≡ Some b → IsOwn handles who h b ⊎ IsShared handles who h b
+pub bound_by : (handles : List Binding) (who : Who) (h : Handle) (b : Binding) → binding_of handles who h ≡ Some b
+    → IsOwn handles who h b ⊎ IsShared handles who h b
 unfolding binding_of
 bound_by handles who h b bound = by (find (is_binding who h) handles) refl bound where
-  by : (o : Option Binding) → find (is_binding who h) handles ≡ o → option_or o (find (is_binding Who.Setup h) handles) ≡ Some b → IsOwn handles who h b ⊎ IsShared handles who h b
+  by : (o : Option Binding) → find (is_binding who h) handles ≡ o
+      → option_or o (find (is_binding Who.Setup h) handles) ≡ Some b
+      → IsOwn handles who h b ⊎ IsShared handles who h b
   by None none found = inr (record { none = none; found = found; is = (find-In (is_binding Who.Setup h) handles b found).1 })
   by (Some x) it found = let own = it ∙ found in inl (record { found = own; is = (find-In (is_binding who h) handles b own).1 })
 
-own_bound : (handles : List Binding) (who : Who) (h : Handle) (b : Binding) → find (is_binding who h) handles ≡ Some b → binding_of handles who h ≡ Some b
+own_bound : (handles : List Binding) (who : Who) (h : Handle) (b : Binding) → find (is_binding who h) handles ≡ Some b
+    → binding_of handles who h ≡ Some b
 unfolding binding_of
 own_bound handles who h b found = ap (λ o. option_or o (find (is_binding Who.Setup h) handles)) found
 
-shared_bound : (handles : List Binding) (who : Who) (h : Handle) (b : Binding) → find (is_binding who h) handles ≡ None → find (is_binding Who.Setup h) handles ≡ Some b → binding_of handles who h ≡ Some b
+shared_bound : (handles : List Binding) (who : Who) (h : Handle) (b : Binding)
+    → find (is_binding who h) handles ≡ None → find (is_binding Who.Setup h) handles ≡ Some b
+    → binding_of handles who h ≡ Some b
 unfolding binding_of
 shared_bound handles who h b none found = ap (λ o. option_or o (find (is_binding Who.Setup h) handles)) none ∙ found
 
 -- a binding stays bound without the first that passes a test that it fails
-bound-without_first : (p : Binding → Bool) (handles : List Binding) (who : Who) (h : Handle) (b : Binding) → binding_of handles who h ≡ Some b → p b ≡ false → binding_of (without_first p handles) who h ≡ Some b
+bound-without_first : (p : Binding → Bool) (handles : List Binding) (who : Who) (h : Handle) (b : Binding)
+    → binding_of handles who h ≡ Some b → p b ≡ false → binding_of (without_first p handles) who h ≡ Some b
 bound-without_first p handles who h b bound other = elim (bound_by handles who h b bound) [
   | inl own ↦ own_bound (without_first p handles) who h b (find-without_first p (is_binding who h) handles b own.found other)
   | inr shared ↦
@@ -86,7 +94,8 @@ bound-without_first p handles who h b bound other = elim (bound_by handles who h
 ]
 
 -- and with one more of another caller
-bound-pushed : (handles : List Binding) (new : Binding) (who : Who) (h : Handle) → same_who new.who who ≡ false → same_who new.who Who.Setup ≡ false
+bound-pushed : (handles : List Binding) (new : Binding) (who : Who) (h : Handle) → same_who new.who who ≡ false
+    → same_who new.who Who.Setup ≡ false
     → binding_of (handles ++ new ∷ []) who h ≡ binding_of handles who h
 unfolding binding_of
 bound-pushed handles new who h other thread =
@@ -94,7 +103,8 @@ bound-pushed handles new who h other thread =
     let shared = find-pushed (is_binding Who.Setup h) handles new (not_of (same_who new.who Who.Setup) (same_handle new.handle h) thread) in
     λ i. option_or (own i) (shared i)
 
-bound-with_binding : (handles : List Binding) (new : Binding) (who : Who) (h : Handle) (b : Binding) → same_who new.who who ≡ false → same_who new.who Who.Setup ≡ false
+bound-with_binding : (handles : List Binding) (new : Binding) (who : Who) (h : Handle) (b : Binding)
+    → same_who new.who who ≡ false → same_who new.who Who.Setup ≡ false
     → binding_of handles who h ≡ Some b → binding_of (with_binding handles new) who h ≡ Some b
 unfolding with_binding
 bound-with_binding handles new who h b other thread bound =
@@ -120,29 +130,34 @@ pub record Opens (t : Tables) (who : Who) (h : Handle) (key : ℕ) (d : Descript
   pub key_is : description_number t.descriptors binding.descriptor ≡ Some key
   pub stands : described t key ≡ Some d
 
-parts : {A B : Type 0} (f : A → Option B) (o : Option A) (y : B) → option_and_then f o ≡ Some y → (x : A) × (o ≡ Some x) × (f x ≡ Some y)
+parts : {A B : Type 0} (f : A → Option B) (o : Option A) (y : B) → option_and_then f o ≡ Some y
+    → (x : A) × (o ≡ Some x) × (f x ≡ Some y)
 parts f None y is = cc
 parts f (Some x) y is = (x, refl, is)
 
-pub Opens-opened : (t : Tables) (who : Who) (h : Handle) (d : Description) → opened t who h ≡ Some d → (key : ℕ) × Opens t who h key d
+pub Opens-opened : (t : Tables) (who : Who) (h : Handle) (d : Description) → opened t who h ≡ Some d
+    → (key : ℕ) × Opens t who h key d
 unfolding opened key_of
 Opens-opened t who h d is =
     let key = parts (λ (k : ℕ). described t k) (key_of t who h) d is in
     let binding = parts (λ (b : Binding). description_number t.descriptors b.descriptor) (binding_of t.handles who h) key.0 key.1 in
     (key.0, record { binding = binding.0; bound = binding.1; key_is = binding.2; stands = key.2 })
 
-pub key_of-Opens : (t : Tables) (who : Who) (h : Handle) (key : ℕ) (d : Description) → Opens t who h key d → key_of t who h ≡ Some key
+pub key_of-Opens : (t : Tables) (who : Who) (h : Handle) (key : ℕ) (d : Description) → Opens t who h key d
+    → key_of t who h ≡ Some key
 unfolding key_of
 key_of-Opens t who h key d o = ap (λ x. option_and_then (λ (b : Binding). description_number t.descriptors b.descriptor) x) o.bound ∙ o.key_is
 
-pub opened-Opens : (t : Tables) (who : Who) (h : Handle) (key : ℕ) (d : Description) → Opens t who h key d → opened t who h ≡ Some d
+pub opened-Opens : (t : Tables) (who : Who) (h : Handle) (key : ℕ) (d : Description) → Opens t who h key d
+    → opened t who h ≡ Some d
 unfolding opened
 opened-Opens t who h key d o = ap (λ x. option_and_then (λ (k : ℕ). described t k) x) (key_of-Opens t who h key d o) ∙ o.stands
 
 -- ---- another caller gets a descriptor
 
 -- Another caller gets a descriptor for a description.
-pub Opens-with_descriptor : (t : Tables) (who who2 : Who) (h h2 : Handle) (new key : ℕ) (d : Description) → is_full t ≡ false → same_who who2 who ≡ false → same_who who2 Who.Setup ≡ false
+pub Opens-with_descriptor : (t : Tables) (who who2 : Who) (h h2 : Handle) (new key : ℕ) (d : Description)
+    → is_full t ≡ false → same_who who2 who ≡ false → same_who who2 Who.Setup ≡ false
     → Opens t who h key d → Opens (with_descriptor t who2 h2 new) who h key d
 unfolding with_descriptor
 Opens-with_descriptor t who who2 h h2 new key d room other thread o =
@@ -161,11 +176,13 @@ flat None x is = cc
 flat (Some None) x is = cc
 flat (Some (Some y)) x is = ap Some is
 
-pub slot_of : (t : Tables) (key : ℕ) (d : Description) → described t key ≡ Some d → slice_get t.descriptions key ≡ Some (Some d)
+pub slot_of : (t : Tables) (key : ℕ) (d : Description) → described t key ≡ Some d
+    → slice_get t.descriptions key ≡ Some (Some d)
 slot_of t key d is = flat (slice_get t.descriptions key) d is
 
 -- Another caller opens a file.
-pub Opens-with_opened : (t : Tables) (who who2 : Who) (h h2 : Handle) (new d : Description) (key : ℕ) → is_full t ≡ false → same_who who2 who ≡ false → same_who who2 Who.Setup ≡ false
+pub Opens-with_opened : (t : Tables) (who who2 : Who) (h h2 : Handle) (new d : Description) (key : ℕ)
+    → is_full t ≡ false → same_who who2 who ≡ false → same_who who2 Who.Setup ≡ false
     → Opens t who h key d → Opens (with_opened t who2 h2 new) who h key d
 unfolding with_opened
 Opens-with_opened t who who2 h h2 new d key room other thread o =
@@ -176,13 +193,15 @@ Opens-with_opened t who who2 h h2 new d key room other thread o =
 -- ---- a description of another file moves or goes
 
 -- two descriptions of different files have different numbers
-pub keys_apart : (t : Tables) (k k2 : ℕ) (d e : Description) → described t k ≡ Some d → described t k2 ≡ Some e → d.node ≢ e.node → k ≢ k2
+pub keys_apart : (t : Tables) (k k2 : ℕ) (d e : Description) → described t k ≡ Some d → described t k2 ≡ Some e
+    → d.node ≢ e.node → k ≢ k2
 keys_apart t k k2 d e is is2 other same =
     let both : Some d ≡ Some e = sym is ∙ ap (described t) same ∙ is2 in
     let one : d ≡ e = cc in
     other (ap (λ (x : Description). x.node) one)
 
-stands_other : (slots : List (Option Description)) (k k2 : ℕ) (d : Description) (slot : Option Description) → k ≢ k2 → option_flatten (slice_get slots k) ≡ Some d → option_flatten (slice_get (slice_set slots k2 slot) k) ≡ Some d
+stands_other : (slots : List (Option Description)) (k k2 : ℕ) (d : Description) (slot : Option Description) → k ≢ k2
+    → option_flatten (slice_get slots k) ≡ Some d → option_flatten (slice_get (slice_set slots k2 slot) k) ≡ Some d
 stands_other slots k k2 d slot other is = ap (λ (x : Option (Option Description)). option_flatten x) (slice_get-set_other slots k2 k slot other) ∙ is
 
 -- what another offset of a description is
@@ -190,12 +209,14 @@ pub with_offset-is : (t : Tables) (key offset : ℕ) (e : Description) → descr
 unfolding with_offset
 with_offset-is t key offset e is = rw is refl
 
-pub Opens-set : (t : Tables) (who : Who) (h : Handle) (key k2 : ℕ) (d : Description) (slot : Option Description) → key ≢ k2 → Opens t who h key d
+pub Opens-set : (t : Tables) (who : Who) (h : Handle) (key k2 : ℕ) (d : Description) (slot : Option Description)
+    → key ≢ k2 → Opens t who h key d
     → Opens (record t { descriptions = slice_set t.descriptions k2 slot }) who h key d
 Opens-set t who h key k2 d slot other o = record { binding = o.binding; bound = o.bound; key_is = o.key_is; stands = stands_other t.descriptions key k2 d slot other o.stands }
 
 -- Another offset of one description leaves those of other files.
-pub Opens-with_offset : (t : Tables) (who who2 : Who) (h h2 : Handle) (offset : ℕ) (key : ℕ) (d e : Description) → opened t who2 h2 ≡ Some e → d.node ≢ e.node
+pub Opens-with_offset : (t : Tables) (who who2 : Who) (h h2 : Handle) (offset : ℕ) (key : ℕ) (d e : Description)
+    → opened t who2 h2 ≡ Some e → d.node ≢ e.node
     → Opens t who h key d → Opens (with_offset t (unwrap_or (key_of t who2 h2) 0) offset) who h key d
 Opens-with_offset t who who2 h h2 offset key d e moves other o =
     let found = Opens-opened t who2 h2 e moves in
@@ -206,15 +227,18 @@ Opens-with_offset t who who2 h h2 offset key d e moves other o =
     ap (λ k. with_offset t k offset) at ∙ with_offset-is t k2 offset e o2.stands in
     subst (λ x. Opens x who h key d) (sym same) (Opens-set t who h key k2 d (Some (record e { offset = offset })) (keys_apart t key k2 d e o.stands o2.stands other) o)
 
-Opens-without_unused : (t : Tables) (k2 : ℕ) (who : Who) (h : Handle) (key : ℕ) (d : Description) → Opens t who h key d → key ≢ k2 → Opens (without_unused t k2) who h key d
+Opens-without_unused : (t : Tables) (k2 : ℕ) (who : Who) (h : Handle) (key : ℕ) (d : Description)
+    → Opens t who h key d → key ≢ k2 → Opens (without_unused t k2) who h key d
 Opens-without_unused t k2 who h key d o other = by (list_any (has_key k2) t.descriptors) where
   by : (b : Bool) → Opens (cond b t (record t { descriptions = slice_set t.descriptions k2 None })) who h key d
   by true = o
   by false = Opens-set t who h key k2 d None other o
 
 -- two look-ups with different bindings: the one found is not what the other takes away
-fails_other : (handles : List Binding) (who who2 : Who) (h h2 : Handle) (b b2 : Binding) → same_who who2 who ≡ false → same_who who2 Who.Setup ≡ false → same_who Who.Setup who ≡ false
-    → binding_of handles who h ≡ Some b → binding_of handles who2 h2 ≡ Some b2 → b.descriptor ≢ b2.descriptor → is_binding b2.who b2.handle b ≡ false
+fails_other : (handles : List Binding) (who who2 : Who) (h h2 : Handle) (b b2 : Binding) → same_who who2 who ≡ false
+    → same_who who2 Who.Setup ≡ false → same_who Who.Setup who ≡ false
+    → binding_of handles who h ≡ Some b → binding_of handles who2 h2 ≡ Some b2 → b.descriptor ≢ b2.descriptor
+    → is_binding b2.who b2.handle b ≡ false
 fails_other handles who who2 h h2 b b2 other thread own bound bound2 apart =
     elim (bound_by handles who h b bound) [
       | inl mine ↦
@@ -232,7 +256,8 @@ fails_other handles who who2 h h2 b b2 other thread own bound bound2 apart =
     owner : (w : Who) (g : Handle) → is_binding w g b2 ≡ true → b2.who ≡ w
     owner w g is = same_who-is b2.who w (both_true (same_who b2.who w) (same_handle b2.handle g) is).0
 
-    by_handle : (c : Bool) → is_binding b2.who b2.handle b ≡ c → IsShared handles who h b → IsShared handles who2 h2 b2 → c ≡ false
+    by_handle : (c : Bool) → is_binding b2.who b2.handle b ≡ c → IsShared handles who h b
+        → IsShared handles who2 h2 b2 → c ≡ false
     by_handle false is ours theirs = refl
     by_handle true is ours theirs =
         let first = same_handle-is b.handle b2.handle (both_true (same_who b.who b2.who) (same_handle b.handle b2.handle) is).1 in
@@ -243,12 +268,14 @@ fails_other handles who who2 h h2 b b2 other thread own bound bound2 apart =
         let same : b ≡ b2 = cc in
         absurd (apart (ap (λ (x : Binding). x.descriptor) same))
 
-pub closed-is : (t : Tables) (who : Who) (h : Handle) (b : Binding) → binding_of t.handles who h ≡ Some b → closed t who h ≡ without_binding t b
+pub closed-is : (t : Tables) (who : Who) (h : Handle) (b : Binding) → binding_of t.handles who h ≡ Some b
+    → closed t who h ≡ without_binding t b
 unfolding closed
 closed-is t who h b bound = rw bound refl
 
 -- Another caller closes a handle of another file.
-pub Opens-closed : (t : Tables) (who who2 : Who) (h h2 : Handle) (key : ℕ) (d e : Description) → same_who who2 who ≡ false → same_who who2 Who.Setup ≡ false → same_who Who.Setup who ≡ false
+pub Opens-closed : (t : Tables) (who who2 : Who) (h h2 : Handle) (key : ℕ) (d e : Description)
+    → same_who who2 who ≡ false → same_who who2 Who.Setup ≡ false → same_who Who.Setup who ≡ false
     → opened t who2 h2 ≡ Some e → d.node ≢ e.node → Opens t who h key d → Opens (closed t who2 h2) who h key d
 unfolding without_binding
 Opens-closed t who who2 h h2 key d e other thread own closes apart o =

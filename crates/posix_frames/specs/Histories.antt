@@ -1,24 +1,16 @@
 -- Writes in flight over histories, and the busy rule for all of them.
-use Rattle.std.specs.Prelude.{◌≡◌, ◌≢◌, ◌≤◌, ℕ, ◌+◌, Bool, true, false, cond, List, [], ◌∷◌, ◌++◌, map, Some, refl}
-use Rattle.std.proofs.Common.{arith, ap, ◌∙◌, sym, subst, inl, inr}
+use Rattle.std.specs.Prelude.{◌≡◌, false, List, [], ◌∷◌, map, refl}
+use Rattle.std.proofs.Common.{ap, ◌∙◌, inl, inr}
 use Rattle.list_facts.specs.Members.{In}
-use Rattle.posix_types.specs.declared.call.Call.{Call}
-use Rattle.posix_types.specs.declared.call.Who.{Who}
 use Rattle.posix_types.specs.declared.item.Item.{Item}
-use Rattle.posix_types.specs.declared.tree.TreeEntry.{TreeEntry}
-use Rattle.posix_spec.specs.Put.{put_by}
-use Rattle.posix_spec.specs.Run.{after_call, after_calls, begun, Begun, run}
-use Rattle.posix_spec.specs.State.{room, State}
-use Rattle.posix_spec.specs.Step.{step}
-use Rattle.posix_spec.specs.Strict.{StrictFrom}
-use Rattle.posix_puts.specs.Puts.{PutsWhole}
-use Rattle.posix_puts.specs.Views.{AreAfforded, need_of}
-use Rattle.crash_spec.specs.Busy.{is_busy, Out, waits_for}
-use Rattle.posix_frames.specs.Flights.{InFlight, LeavesAlone-put}
-use Rattle.posix_frames.specs.Frames.{AreThreads, LeavesAlone, LeavesAlone-idle}
+use Rattle.posix_spec.specs.Run.{after_call, begun, Begun, run}
+use Rattle.posix_spec.specs.State.{State}
+use Rattle.posix_puts.specs.Views.{AreAfforded}
+use Rattle.crash_spec.specs.Busy.{is_busy, Out}
+use Rattle.posix_frames.specs.Frames.{AreThreads, LeavesAlone-idle}
 use Rattle.posix_frames.specs.Handles.{same_who-sym}
-use Rattle.posix_frames.specs.Needs.{AreAfforded-step, AreInFlight, begun_of, FitsBeside-put, Flight, IsApart, LetsAllBe, LetsAllBe-flight, needs, needs-cons, needs-step}
-use Rattle.posix_frames.specs.Rooms.{FitsBeside, room-step}
+use Rattle.posix_frames.specs.Needs.{AreAfforded-step, AreInFlight, begun_of, Flight, LetsAllBe, needs}
+use Rattle.posix_frames.specs.Rooms.{FitsBeside}
 
 -- the calls of a history let the files of the writes in flight alone, and fit beside their needs, each at its place
 abbrev pub LetsThrough : State → List Flight → List Item → Type 0
@@ -27,7 +19,8 @@ LetsThrough s flights (item ∷ items) = LetsAllBe s (begun item) flights × Fit
 
 -- Whatever calls are let through, each write in flight has at the end the effect that it had when it began, and together
 -- they find room.
-pub AreInFlight-run : (s : State) (flights : List Flight) (items : List Item) → AreInFlight s flights → AreAfforded s (map begun_of flights) → LetsThrough s flights items
+pub AreInFlight-run : (s : State) (flights : List Flight) (items : List Item) → AreInFlight s flights
+    → AreAfforded s (map begun_of flights) → LetsThrough s flights items
     → AreInFlight (run s items) flights × AreAfforded (run s items) (map begun_of flights)
 AreInFlight-run s flights [] flying afforded lets = (flying, afforded)
 AreInFlight-run s flights (item ∷ items) flying afforded lets =
@@ -42,7 +35,9 @@ abbrev pub AreAllThreads : Begun → List Flight → Type 0
 AreAllThreads d [] = Unit {0}
 AreAllThreads d (f ∷ flights) = AreThreads f.begun.0 d.0 × AreAllThreads d flights
 
-lets_each : (s : State) (d : Begun) (all flights : List Flight) → ((f : Flight) → In f flights → In (f.begun.0, f.node) (outs all)) → is_busy s (outs all) d ≡ false → AreAllThreads d flights → LetsAllBe s d flights
+lets_each : (s : State) (d : Begun) (all flights : List Flight)
+    → ((f : Flight) → In f flights → In (f.begun.0, f.node) (outs all)) → is_busy s (outs all) d ≡ false
+    → AreAllThreads d flights → LetsAllBe s d flights
 lets_each s d all [] within idle threads = tt
 lets_each s d all (f ∷ flights) within idle threads = (
   record {
@@ -58,5 +53,6 @@ in_outs (g ∷ flights) f (inl same) = inl (ap (λ (x : Flight). (let o : Out = 
 in_outs (g ∷ flights) f (inr i) = inr (in_outs flights f i)
 
 -- A call of another thread that the busy rule lets through lets the files of all writes that are out alone.
-pub LetsAllBe-idle : (s : State) (d : Begun) (flights : List Flight) → is_busy s (outs flights) d ≡ false → AreAllThreads d flights → LetsAllBe s d flights
+pub LetsAllBe-idle : (s : State) (d : Begun) (flights : List Flight) → is_busy s (outs flights) d ≡ false
+    → AreAllThreads d flights → LetsAllBe s d flights
 LetsAllBe-idle s d flights idle threads = lets_each s d flights flights (in_outs flights) idle threads

@@ -1,23 +1,9 @@
 -- The chief laws of writes in flight under the calls of others, each as one statement.
-use Rattle.std.specs.Prelude.{◌≡◌, ◌≢◌, ◌<◌, ◌≤◌, ℕ, ◌+◌, false, List, ◌∷◌, [], ◌++◌, length, map, Some}
-use Rattle.posix_types.specs.declared.call.Call.{Call}
-use Rattle.posix_types.specs.declared.call.Who.{Who}
-use Rattle.posix_types.specs.declared.handle.Handle.{Handle}
+use Rattle.std.specs.Prelude.{◌≡◌, ◌≤◌, ℕ, false, List, ◌∷◌, ◌++◌, map}
 use Rattle.posix_types.specs.declared.item.Item.{Item}
-use Rattle.posix_types.specs.declared.reply.Reply.{Reply}
-use Rattle.posix_types.specs.declared.reply.What.{What}
-use Rattle.posix_types.specs.declared.tree.TreeEntry.{TreeEntry}
-use Rattle.posix_words.specs.Open.{may_write}
-use Rattle.posix_words.specs.Outcomes.{answer, first, no_space}
-use Rattle.posix_words.specs.Room.{held, write_need}
-use Rattle.posix_spec.specs.FileRows.{content, write_rows}
 use Rattle.posix_spec.specs.Run.{after_call, Begun, run}
-use Rattle.posix_spec.specs.State.{Fits, room, State}
-use Rattle.posix_spec.specs.Step.{step}
-use Rattle.posix_spec.specs.Strict.{StrictFrom}
-use Rattle.posix_facts.specs.RowLaws.{NoRow}
-use Rattle.posix_puts.specs.Puts.{LeavesWhole, PutsWhole}
-use Rattle.posix_puts.specs.Views.{AreAfforded, KeepsView, need_of}
+use Rattle.posix_spec.specs.State.{room, State}
+use Rattle.posix_puts.specs.Views.{AreAfforded, need_of}
 use Rattle.crash_spec.specs.Busy.{is_busy}
 use Rattle.posix_frames.specs.Flights.{InFlight}
 use Rattle.posix_frames.specs.Frames.{AreThreads, LeavesAlone}
@@ -40,7 +26,8 @@ KeepsWrite =
 -- and so do the calls of a history, and all writes in flight together find room at its end
 abbrev pub KeepsEffects : Type 0
 KeepsEffects =
-    (s : State) (flights : List Flight) (items : List Item) → AreInFlight s flights → AreAfforded s (map begun_of flights) → LetsThrough s flights items
+    (s : State) (flights : List Flight) (items : List Item) → AreInFlight s flights
+    → AreAfforded s (map begun_of flights) → LetsThrough s flights items
     → AreInFlight (run s items) flights × AreAfforded (run s items) (map begun_of flights)
 
 -- a call that fits beside so many blocks leaves them
@@ -50,12 +37,14 @@ LeavesRoom = (s : State) (c : Begun) (k : ℕ) → k ≤ room s → FitsBeside s
 -- the needs of all writes in flight stay within the room under a call of others, and when one of them finishes
 abbrev pub StaysAfforded : Type 0
 StaysAfforded =
-    (s : State) (d : Begun) (flights : List Flight) → AreInFlight s flights → LetsAllBe s d flights → AreAfforded s (map begun_of flights)
+    (s : State) (d : Begun) (flights : List Flight) → AreInFlight s flights → LetsAllBe s d flights
+    → AreAfforded s (map begun_of flights)
     → FitsBeside s d (needs s flights)
     → AreInFlight (after_call s d) flights × AreAfforded (after_call s d) (map begun_of flights)
 
 abbrev pub StaysAffordedAtEnds : Type 0
 StaysAffordedAtEnds =
-    (s : State) (before : List Flight) (f : Flight) (behind : List Flight) → AreInFlight s (before ++ f ∷ behind) → IsApart f (before ++ behind)
+    (s : State) (before : List Flight) (f : Flight) (behind : List Flight) → AreInFlight s (before ++ f ∷ behind)
+    → IsApart f (before ++ behind)
     → AreAfforded s (map begun_of (before ++ f ∷ behind))
     → AreInFlight (after_call s f.begun) (before ++ behind) × AreAfforded (after_call s f.begun) (map begun_of (before ++ behind))

@@ -39,11 +39,13 @@ abbrev pub LetsAllBe : State → Begun → List Flight → Type 0
 LetsAllBe s d [] = Unit {0}
 LetsAllBe s d (f ∷ flights) = LetsBe s d f × LetsAllBe s d flights
 
-pub needs-cons : (s : State) (f : Flight) (flights : List Flight) → needs s (f ∷ flights) ≡ need_of s f.begun.0 f.begun.1 + needs s flights
+pub needs-cons : (s : State) (f : Flight) (flights : List Flight)
+    → needs s (f ∷ flights) ≡ need_of s f.begun.0 f.begun.1 + needs s flights
 needs-cons s f flights = sum_by-cons (λ (c : Begun). need_of s c.0 c.1) f.begun (map begun_of flights)
 
 -- Together they need afterwards what they needed.
-pub needs-step : (s : State) (d : Begun) (flights : List Flight) → AreInFlight s flights → LetsAllBe s d flights → needs (after_call s d) flights ≡ needs s flights
+pub needs-step : (s : State) (d : Begun) (flights : List Flight) → AreInFlight s flights → LetsAllBe s d flights
+    → needs (after_call s d) flights ≡ needs s flights
 needs-step s d [] flying lets = refl
 needs-step s d (f ∷ flights) flying lets =
     let one = need_of-step s f.begun d f.node f.whole lets.0.threads flying.0 lets.0.aside in
@@ -51,7 +53,8 @@ needs-step s d (f ∷ flights) flying lets =
     needs-cons (after_call s d) f flights ∙ (λ i. one i + rest i) ∙ sym (needs-cons s f flights)
 
 -- Where their needs find room, each is in flight as before.
-pub AreInFlight-step : (s : State) (d : Begun) (flights : List Flight) → AreInFlight s flights → LetsAllBe s d flights → needs s flights ≤ room (after_call s d) → AreInFlight (after_call s d) flights
+pub AreInFlight-step : (s : State) (d : Begun) (flights : List Flight) → AreInFlight s flights → LetsAllBe s d flights
+    → needs s flights ≤ room (after_call s d) → AreInFlight (after_call s d) flights
 AreInFlight-step s d [] flying lets fits = tt
 AreInFlight-step s d (f ∷ flights) flying lets fits =
     let parts = needs-cons s f flights in (
@@ -60,7 +63,8 @@ AreInFlight-step s d (f ∷ flights) flying lets fits =
     )
 
 -- THE NEEDS STAY WITHIN THE ROOM: under a call of others that leaves the files alone and fits beside the needs.
-pub AreAfforded-step : (s : State) (d : Begun) (flights : List Flight) → AreInFlight s flights → LetsAllBe s d flights → AreAfforded s (map begun_of flights) → FitsBeside s d (needs s flights)
+pub AreAfforded-step : (s : State) (d : Begun) (flights : List Flight) → AreInFlight s flights → LetsAllBe s d flights
+    → AreAfforded s (map begun_of flights) → FitsBeside s d (needs s flights)
     → AreInFlight (after_call s d) flights × AreAfforded (after_call s d) (map begun_of flights)
 AreAfforded-step s d flights flying lets afforded beside =
     let fits = room-step s d (needs s flights) afforded beside in
@@ -68,7 +72,8 @@ AreAfforded-step s d flights flying lets afforded beside =
 
 -- ---- one of them finishes
 
-pub FitsBeside-put : (s : State) (who : Who) (call : Call) (node : ℕ) (whole : List ℕ) (k : ℕ) → PutsWhole s who call node whole → need_of s who call + k ≤ room s → FitsBeside s (who, call) k
+pub FitsBeside-put : (s : State) (who : Who) (call : Call) (node : ℕ) (whole : List ℕ) (k : ℕ)
+    → PutsWhole s who call node whole → need_of s who call + k ≤ room s → FitsBeside s (who, call) k
 unfolding put_by
 FitsBeside-put s who (Call.Write h x) node whole k puts fits = λ none. fits
 FitsBeside-put s who (Call.Pwrite h start x) node whole k puts fits = λ none. fits
@@ -83,7 +88,8 @@ abbrev pub IsApart : Flight → List Flight → Type 0
 IsApart f [] = Unit {0}
 IsApart f (g ∷ flights) = AreTwo f g × IsApart f flights
 
-pub LetsAllBe-flight : (s : State) (f : Flight) (flights : List Flight) → InFlight s f.begun f.node f.whole → IsApart f flights → LetsAllBe s f.begun flights
+pub LetsAllBe-flight : (s : State) (f : Flight) (flights : List Flight) → InFlight s f.begun f.node f.whole
+    → IsApart f flights → LetsAllBe s f.begun flights
 LetsAllBe-flight s f [] flight apart = tt
 LetsAllBe-flight s f (g ∷ flights) flight apart = (
   record { threads = apart.0.threads; aside = LeavesAlone-put s f.begun f.node g.node f.whole flight apart.0.files },
@@ -91,7 +97,8 @@ LetsAllBe-flight s f (g ∷ flights) flight apart = (
 )
 
 -- any of them may be taken out of the list
-pub needs-between : (s : State) (before : List Flight) (f : Flight) (behind : List Flight) → needs s (before ++ f ∷ behind) ≡ need_of s f.begun.0 f.begun.1 + needs s (before ++ behind)
+pub needs-between : (s : State) (before : List Flight) (f : Flight) (behind : List Flight)
+    → needs s (before ++ f ∷ behind) ≡ need_of s f.begun.0 f.begun.1 + needs s (before ++ behind)
 needs-between s [] f behind = needs-cons s f behind
 needs-between s (g ∷ before) f behind =
     let whole = needs-cons s g (before ++ f ∷ behind) in
@@ -99,14 +106,16 @@ needs-between s (g ∷ before) f behind =
     let inner = needs-between s before f behind in
     omega (arith, whole, rest, inner)
 
-pub AreInFlight-between : (s : State) (before : List Flight) (f : Flight) (behind : List Flight) → AreInFlight s (before ++ f ∷ behind) → InFlight s f.begun f.node f.whole × AreInFlight s (before ++ behind)
+pub AreInFlight-between : (s : State) (before : List Flight) (f : Flight) (behind : List Flight)
+    → AreInFlight s (before ++ f ∷ behind) → InFlight s f.begun f.node f.whole × AreInFlight s (before ++ behind)
 AreInFlight-between s [] f behind flying = flying
 AreInFlight-between s (g ∷ before) f behind flying =
     let inner = AreInFlight-between s before f behind flying.1 in
     (inner.0, (flying.0, inner.1))
 
 -- When one finishes, the others are in flight as before, and find room.
-pub AreAfforded-finished : (s : State) (before : List Flight) (f : Flight) (behind : List Flight) → AreInFlight s (before ++ f ∷ behind) → IsApart f (before ++ behind)
+pub AreAfforded-finished : (s : State) (before : List Flight) (f : Flight) (behind : List Flight)
+    → AreInFlight s (before ++ f ∷ behind) → IsApart f (before ++ behind)
     → AreAfforded s (map begun_of (before ++ f ∷ behind))
     → AreInFlight (after_call s f.begun) (before ++ behind) × AreAfforded (after_call s f.begun) (map begun_of (before ++ behind))
 AreAfforded-finished s before f behind flying apart afforded =

@@ -45,7 +45,8 @@ room-Grows s new most k grows fits =
     let le = grows.held_is in
     rw same (omega (arith, le, fits))
 
-held-set : (nodes : List Node) (n : ℕ) (node : Node) (most : ℕ) → weight node ≤ weight (node_at nodes n) + most → held (slice_set nodes n node) ≤ held nodes + most
+held-set : (nodes : List Node) (n : ℕ) (node : Node) (most : ℕ) → weight node ≤ weight (node_at nodes n) + most
+    → held (slice_set nodes n node) ≤ held nodes + most
 held-set [] n node most le = omega arith
 held-set (x ∷ xs) zero node most le = omega (arith, sum_by-cons weight x xs, sum_by-cons weight node xs, le)
 held-set (x ∷ xs) (suc n) node most le = omega (arith, sum_by-cons weight x xs, sum_by-cons weight x (slice_set xs n node), held-set xs n node most le)
@@ -53,7 +54,8 @@ held-set (x ∷ xs) (suc n) node most le = omega (arith, sum_by-cons weight x xs
 grows_none : (s : State) → Grows s s 0
 grows_none s = record { held_is = omega arith; shape = refl }
 
-grows_node : (s m : State) (n : ℕ) (node : Node) (more : ℕ) → m.nodes ≡ s.nodes → m.shape ≡ s.shape → weight node ≤ weight (node_at s.nodes n) + more → Grows s (with_node m n node) more
+grows_node : (s m : State) (n : ℕ) (node : Node) (more : ℕ) → m.nodes ≡ s.nodes → m.shape ≡ s.shape
+    → weight node ≤ weight (node_at s.nodes n) + more → Grows s (with_node m n node) more
 grows_node s m n node more nodes shape le = record {
   held_is = subst (λ ns. held (slice_set ns n node) ≤ held s.nodes + more) (sym nodes) (held-set s.nodes n node more le);
   shape = shape;
@@ -91,7 +93,8 @@ grown from to = omega arith
 
 -- ---- calls
 
-grows_write : (s : State) (who : Who) (h : Handle) (start : ℕ) (x : List ℕ) → Grows s (written alone s who h start x) (growth (length (content s who h)) (max (length (content s who h)) (start + length x)))
+grows_write : (s : State) (who : Who) (h : Handle) (start : ℕ) (x : List ℕ)
+    → Grows s (written alone s who h start x) (growth (length (content s who h)) (max (length (content s who h)) (start + length x)))
 unfolding written with_file
 grows_write s who h start x =
     let old : List ℕ = content s who h in
@@ -99,7 +102,8 @@ grows_write s who h start x =
     grows_node s s (file_number s.tables who h) _ (growth (length old) long) refl refl
     (subst (λ n. held_by n ≤ held_by (length old) + growth (length old) long) (sym (length-overwritten old start x)) (grown (length old) long))
 
-grows_truncate : (s : State) (who : Who) (h : Handle) (n : ℕ) → Grows s (truncate_done s who h n).state (growth (length (content s who h)) n)
+grows_truncate : (s : State) (who : Who) (h : Handle) (n : ℕ)
+    → Grows s (truncate_done s who h n).state (growth (length (content s who h)) n)
 unfolding truncate_done with_file
 grows_truncate s who h n =
     let old : List ℕ = content s who h in
@@ -124,7 +128,8 @@ grows_rename s p q = by (directory_stands (space s) q) (file_stands (space s) q)
   still : Grows s (renamed s p q) 0
   still = record { held_is = omega arith; shape = refl }
 
-  by : (b c : Bool) → Grows s (cond b (with_node (renamed s p q) (number_at (space s) q) Node.Gone) (cond c (swept alone (renamed s p q) (number_at (space s) q)) (renamed s p q))) 0
+  by : (b c : Bool)
+      → Grows s (cond b (with_node (renamed s p q) (number_at (space s) q) Node.Gone) (cond c (swept alone (renamed s p q) (number_at (space s) q)) (renamed s p q))) 0
   by true c = grows_gone s (renamed s p q) (number_at (space s) q) 0 still
   by false true = grows_swept s (renamed s p q) (number_at (space s) q) 0 still
   by false false = still
@@ -132,12 +137,14 @@ grows_rename s p q = by (directory_stands (space s) q) (file_stands (space s) q)
 grows_opening : (s : State) (p : List (List ℕ)) (truncate : Bool) → Grows s (opening s p truncate) 0
 unfolding opening
 grows_opening s p truncate = by (exists_at (space s) p) truncate where
-  by : (b c : Bool) → Grows s (cond b (cond c (with_node s (number_at (space s) p) empty_file) s) (made s p empty_file)) 0
+  by : (b c : Bool)
+      → Grows s (cond b (cond c (with_node s (number_at (space s) p) empty_file) s) (made s p empty_file)) 0
   by true true = grows_node s s (number_at (space s) p) empty_file 0 refl refl (omega arith)
   by true false = grows_none s
   by false c = grows_made s p empty_file refl
 
-grows_open : (s : State) (who : Who) (h : Handle) (p : List (List ℕ)) (f : Flags) → Grows s (open_done s who h p f).state 0
+grows_open : (s : State) (who : Who) (h : Handle) (p : List (List ℕ)) (f : Flags)
+    → Grows s (open_done s who h p f).state 0
 unfolding open_done
 grows_open s who h p f = let same = grows_opening s p f.truncate in record { held_is = same.held_is; shape = same.shape }
 

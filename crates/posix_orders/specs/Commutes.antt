@@ -41,27 +41,32 @@ takes s (who, Call.Pwrite h start x) = cond (is_none (opened s.tables who h)) 0 
 takes s (who, Call.Truncate h n) = cond (is_none (opened s.tables who h)) 0 (growth (length (content s who h)) n)
 takes s c = 0
 
-pub known_takes : (s : State) (who : Who) (h : Handle) (e : Description) (n left : ℕ) → opened s.tables who h ≡ Some e → cond (is_none (opened s.tables who h)) 0 n ≤ left → n ≤ left
+pub known_takes : (s : State) (who : Who) (h : Handle) (e : Description) (n left : ℕ) → opened s.tables who h ≡ Some e
+    → cond (is_none (opened s.tables who h)) 0 n ≤ left → n ≤ left
 known_takes s who h e n left is fits = subst (λ (o : Option Description). cond (is_none o) 0 n ≤ left) is fits
 
 -- what a call gave, in a state in which a write in flight has acted besides
 abbrev pub besides : Change → Stepped → Stepped
 besides c given = record { state = acted given.state c; outcome = given.outcome }
 
-besides-stepped : (s : State) (c : Change) (o new : Option Outcome) (last after : Stepped) → new ≡ o → (o ≡ None → after ≡ besides c last) → stepped (acted s c) new after ≡ besides c (stepped s o last)
+besides-stepped : (s : State) (c : Change) (o new : Option Outcome) (last after : Stepped) → new ≡ o
+    → (o ≡ None → after ≡ besides c last) → stepped (acted s c) new after ≡ besides c (stepped s o last)
 besides-stepped s c o new last after rows same = ap (λ x. stepped (acted s c) x after) rows ∙ by o same where
-  by : (x : Option Outcome) → (x ≡ None → after ≡ besides c last) → stepped (acted s c) x after ≡ besides c (stepped s x last)
+  by : (x : Option Outcome) → (x ≡ None → after ≡ besides c last)
+      → stepped (acted s c) x after ≡ besides c (stepped s x last)
   by None gives = gives refl
   by (Some outcome) gives = refl
 
 -- ---- calls of names
 
-commutes_mkdir : (s : State) (who : Who) (h : Handle) (c : Change) (p : List (List ℕ)) (who2 : Who) → Touches s who h c → step (acted s c) who2 (Call.Mkdir p) ≡ besides c (step s who2 (Call.Mkdir p))
+commutes_mkdir : (s : State) (who : Who) (h : Handle) (c : Change) (p : List (List ℕ)) (who2 : Who)
+    → Touches s who h c → step (acted s c) who2 (Call.Mkdir p) ≡ besides c (step s who2 (Call.Mkdir p))
 unfolding mkdir_done
 commutes_mkdir s who h c p who2 t =
     besides-stepped s c _ _ _ _ (ap (λ sp. first (mkdir_rows sp p)) (space-acted s who h c t)) (λ none. ap (λ x. done x Reply.Ok) (made-acted s who h c p Node.Directory t))
 
-commutes_rmdir : (s : State) (who : Who) (h : Handle) (c : Change) (p : List (List ℕ)) (who2 : Who) → Touches s who h c → step (acted s c) who2 (Call.Rmdir p) ≡ besides c (step s who2 (Call.Rmdir p))
+commutes_rmdir : (s : State) (who : Who) (h : Handle) (c : Change) (p : List (List ℕ)) (who2 : Who)
+    → Touches s who h c → step (acted s c) who2 (Call.Rmdir p) ≡ besides c (step s who2 (Call.Rmdir p))
 unfolding rmdir_done rmdir_rows
 commutes_rmdir s who h c p who2 t =
     let names = space-acted s who h c t in
@@ -90,7 +95,8 @@ renamed_nodes : (s : State) (p q : List (List ℕ)) → (renamed s p q).nodes �
 unfolding renamed
 renamed_nodes s p q = refl
 
-commutes_unlink : (s : State) (who : Who) (h : Handle) (c : Change) (p : List (List ℕ)) (who2 : Who) → Touches s who h c → step (acted s c) who2 (Call.Unlink p) ≡ besides c (step s who2 (Call.Unlink p))
+commutes_unlink : (s : State) (who : Who) (h : Handle) (c : Change) (p : List (List ℕ)) (who2 : Who)
+    → Touches s who h c → step (acted s c) who2 (Call.Unlink p) ≡ besides c (step s who2 (Call.Unlink p))
 unfolding unlink_done
 commutes_unlink s who h c p who2 t =
     let names = space-acted s who h c t in
@@ -98,7 +104,8 @@ commutes_unlink s who h c p who2 t =
     (λ i. done (swept alone (unnamed-acted s who h c p t i) (number_at (names i) p)) Reply.Ok)
     ∙ ap (λ x. done x Reply.Ok) (swept-acted (unnamed s p) c (number_at (space s) p) (held_swept s (unnamed s p) who h c t (unnamed_tables s p))))
 
-commutes_rename : (s : State) (who : Who) (h : Handle) (c : Change) (p q : List (List ℕ)) (who2 : Who) → Touches s who h c → step (acted s c) who2 (Call.Rename p q) ≡ besides c (step s who2 (Call.Rename p q))
+commutes_rename : (s : State) (who : Who) (h : Handle) (c : Change) (p q : List (List ℕ)) (who2 : Who)
+    → Touches s who h c → step (acted s c) who2 (Call.Rename p q) ≡ besides c (step s who2 (Call.Rename p q))
 unfolding rename_done
 commutes_rename s who h c p q who2 t =
     let names = space-acted s who h c t in
@@ -114,7 +121,8 @@ commutes_rename s who h c p q who2 t =
     by false true directory = swept-acted (renamed s p q) c (number_at (space s) q) (held_swept s (renamed s p q) who h c t (renamed_tables s p q))
     by false false directory = refl
 
-commutes_stat : (s : State) (who : Who) (h : Handle) (c : Change) (p : List (List ℕ)) (who2 : Who) → Touches s who h c → path_node s p ≢ Some c.node → step (acted s c) who2 (Call.Stat p) ≡ besides c (step s who2 (Call.Stat p))
+commutes_stat : (s : State) (who : Who) (h : Handle) (c : Change) (p : List (List ℕ)) (who2 : Who) → Touches s who h c
+    → path_node s p ≢ Some c.node → step (acted s c) who2 (Call.Stat p) ≡ besides c (step s who2 (Call.Stat p))
 unfolding stat_done stat_rows
 commutes_stat s who h c p who2 t aside =
     let names = space-acted s who h c t in
@@ -127,7 +135,8 @@ commutes_stat s who h c p who2 t aside =
     ap (λ sp. done (acted s c) (Reply.Stat (stat_of (node_at (acted s c).nodes (number_at sp p))))) names
     ∙ ap (λ x. done (acted s c) (Reply.Stat (stat_of x))) node)
 
-commutes_list : (s : State) (who : Who) (h : Handle) (c : Change) (p : List (List ℕ)) (who2 : Who) → Touches s who h c → step (acted s c) who2 (Call.List p) ≡ besides c (step s who2 (Call.List p))
+commutes_list : (s : State) (who : Who) (h : Handle) (c : Change) (p : List (List ℕ)) (who2 : Who) → Touches s who h c
+    → step (acted s c) who2 (Call.List p) ≡ besides c (step s who2 (Call.List p))
 unfolding list_done
 commutes_list s who h c p who2 t =
     let names = space-acted s who h c t in
@@ -135,7 +144,8 @@ commutes_list s who h c p who2 t =
 
 -- ---- calls that change what is open
 
-commutes_open : (s : State) (who : Who) (h : Handle) (c : Change) (h2 : Handle) (p : List (List ℕ)) (f : Flags) (who2 : Who) → Touches s who h c → (f.truncate ≡ true → path_node s p ≢ Some c.node)
+commutes_open : (s : State) (who : Who) (h : Handle) (c : Change) (h2 : Handle) (p : List (List ℕ)) (f : Flags) (who2 : Who)
+    → Touches s who h c → (f.truncate ≡ true → path_node s p ≢ Some c.node)
     → step (acted s c) who2 (Call.Open h2 p f) ≡ besides c (step s who2 (Call.Open h2 p f))
 unfolding open_done
 commutes_open s who h c h2 p f who2 t aside =
@@ -158,7 +168,8 @@ record IsOther (s : State) (c : Change) (who2 : Who) (h2 : Handle) : Type 0 wher
   opens : Opens s.tables who2 h2 key of
   keys : c.key ≢ key
 
-other_of : (s : State) (who : Who) (h : Handle) (c : Change) (who2 : Who) (h2 : Handle) (e : Description) → Touches s who h c → handle_node s who2 h2 ≢ Some c.node → opened s.tables who2 h2 ≡ Some e → IsOther s c who2 h2
+other_of : (s : State) (who : Who) (h : Handle) (c : Change) (who2 : Who) (h2 : Handle) (e : Description)
+    → Touches s who h c → handle_node s who2 h2 ≢ Some c.node → opened s.tables who2 h2 ≡ Some e → IsOther s c who2 h2
 other_of s who h c who2 h2 e t aside is =
     let apart = other_file s who2 h2 c.node e aside is in
     let found = Opens-opened s.tables who2 h2 e is in
@@ -172,7 +183,8 @@ other_of s who h c who2 h2 e t aside is =
       keys = keys_apart s.tables c.key found.0 t.by e t.opens.stands found.1.stands (λ same. apart (sym t.by_node ∙ same));
     }
 
-published-acted : (s : State) (c : Change) (who2 : Who) (h2 : Handle) → IsOther s c who2 h2 → with_published (acted s c) (file_number (acted s c).tables who2 h2) ≡ acted (with_published s (file_number s.tables who2 h2)) c
+published-acted : (s : State) (c : Change) (who2 : Who) (h2 : Handle) → IsOther s c who2 h2
+    → with_published (acted s c) (file_number (acted s c).tables who2 h2) ≡ acted (with_published s (file_number s.tables who2 h2)) c
 unfolding with_published
 published-acted s c who2 h2 o =
     let number = file_number-same s (acted s c) who2 h2 o.view in
@@ -180,7 +192,8 @@ published-acted s c who2 h2 o =
     (λ i. with_node (acted s c) (number i) (published_node (node i)))
     ∙ node-acted s c (file_number s.tables who2 h2) (published_node (node_at s.nodes (file_number s.tables who2 h2))) (other_number s who2 h2 c.node o.of o.is o.apart)
 
-commutes_close : (s : State) (who : Who) (h : Handle) (c : Change) (h2 : Handle) (who2 : Who) → Touches s who h c → AreThreads who who2 → handle_node s who2 h2 ≢ Some c.node
+commutes_close : (s : State) (who : Who) (h : Handle) (c : Change) (h2 : Handle) (who2 : Who) → Touches s who h c
+    → AreThreads who who2 → handle_node s who2 h2 ≢ Some c.node
     → step (acted s c) who2 (Call.Close h2) ≡ besides c (step s who2 (Call.Close h2))
 unfolding close_done
 commutes_close s who h c h2 who2 t threads aside =
@@ -202,7 +215,8 @@ commutes_close s who h c h2 who2 t threads aside =
     (λ i. done (swept alone (record (published-acted s c who2 h2 o i) { tables = tables i }) (number i)) Reply.Ok)
     ∙ ap (λ x. done x Reply.Ok) (swept-acted m c file swept_there))
 
-commutes_dup : (s : State) (who : Who) (h : Handle) (c : Change) (h2 g : Handle) (who2 : Who) → Touches s who h c → handle_node s who2 h2 ≢ Some c.node
+commutes_dup : (s : State) (who : Who) (h : Handle) (c : Change) (h2 g : Handle) (who2 : Who) → Touches s who h c
+    → handle_node s who2 h2 ≢ Some c.node
     → step (acted s c) who2 (Call.Dup h2 g) ≡ besides c (step s who2 (Call.Dup h2 g))
 unfolding dup_done dup_rows
 commutes_dup s who h c h2 g who2 t aside =
@@ -213,7 +227,8 @@ commutes_dup s who h c h2 g who2 t aside =
 
 -- ---- calls that read, and seeks
 
-offset-acted : (s m : State) (c : Change) (who2 : Who) (h2 : Handle) (offset : ℕ) → IsOther s c who2 h2 → m.tables ≡ s.tables → moved_offset (acted m c) who2 h2 offset ≡ acted (moved_offset m who2 h2 offset) c
+offset-acted : (s m : State) (c : Change) (who2 : Who) (h2 : Handle) (offset : ℕ) → IsOther s c who2 h2
+    → m.tables ≡ s.tables → moved_offset (acted m c) who2 h2 offset ≡ acted (moved_offset m who2 h2 offset) c
 offset-acted s m c who2 h2 offset o same =
     let opens : Opens m.tables who2 h2 o.key o.of = subst (λ x. Opens x who2 h2 o.key o.of) (sym same) o.opens in
     let key : unwrap_or (key_of m.tables who2 h2) 0 ≡ o.key = ap (λ x. unwrap_or x 0) (key_of-Opens m.tables who2 h2 o.key o.of opens) in
@@ -221,18 +236,23 @@ offset-acted s m c who2 h2 offset o same =
     let tables = ap (λ k. with_offset (with_slot m.tables c) k offset) first_key ∙ with_offset-acted m.tables c o.key offset o.of opens.stands (λ one. o.keys (sym one)) ∙ ap (λ k. with_slot (with_offset m.tables k offset) c) (sym key) in
     λ i. record (acted m c) { tables = tables i }
 
-offset_of-same : (s new : State) (who : Who) (h : Handle) → SameView s new who h → offset_of new.tables who h ≡ offset_of s.tables who h
+offset_of-same : (s new : State) (who : Who) (h : Handle) → SameView s new who h
+    → offset_of new.tables who h ≡ offset_of s.tables who h
 offset_of-same s new who h view = ap (λ (o : Option Description). option_map_or (λ d. d.offset) o 0) view.handle
 
-read_rows-acted : (s : State) (who : Who) (h : Handle) (c : Change) (who2 : Who) (h2 : Handle) → Touches s who h c → handle_node s who2 h2 ≢ Some c.node → first (read_rows (acted s c).tables who2 h2) ≡ first (read_rows s.tables who2 h2)
+read_rows-acted : (s : State) (who : Who) (h : Handle) (c : Change) (who2 : Who) (h2 : Handle) → Touches s who h c
+    → handle_node s who2 h2 ≢ Some c.node
+    → first (read_rows (acted s c).tables who2 h2) ≡ first (read_rows s.tables who2 h2)
 read_rows-acted s who h c who2 h2 t aside = ap (λ (o : Option Description). first (row (not (option_map_or (λ d. d.flags.read) o false)) Errno.EBADF ∷ [])) (handle-acted s who who2 h h2 c t aside)
 
-read_other : (s : State) (who : Who) (h : Handle) (c : Change) (who2 : Who) (h2 : Handle) → Touches s who h c → handle_node s who2 h2 ≢ Some c.node → first (read_rows s.tables who2 h2) ≡ None → IsOther s c who2 h2
+read_other : (s : State) (who : Who) (h : Handle) (c : Change) (who2 : Who) (h2 : Handle) → Touches s who h c
+    → handle_node s who2 h2 ≢ Some c.node → first (read_rows s.tables who2 h2) ≡ None → IsOther s c who2 h2
 read_other s who h c who2 h2 t aside none =
     let is = granted (λ d. d.flags.read) (opened s.tables who2 h2) (not_not _ (no_row _ _ ((none_fits (read_rows s.tables who2 h2) none) 0 None (lit< tt)))) in
     other_of s who h c who2 h2 is.0 t aside is.1
 
-commutes_read : (s : State) (who : Who) (h : Handle) (c : Change) (h2 : Handle) (n : ℕ) (who2 : Who) → Touches s who h c → handle_node s who2 h2 ≢ Some c.node
+commutes_read : (s : State) (who : Who) (h : Handle) (c : Change) (h2 : Handle) (n : ℕ) (who2 : Who)
+    → Touches s who h c → handle_node s who2 h2 ≢ Some c.node
     → step (acted s c) who2 (Call.Read h2 n) ≡ besides c (step s who2 (Call.Read h2 n))
 unfolding read_done
 commutes_read s who h c h2 n who2 t aside =
@@ -243,7 +263,8 @@ commutes_read s who h c h2 n who2 t aside =
     (λ i. (let got : List ℕ = bytes_from (bytes i) (offset i) n in done (moved_offset (acted s c) who2 h2 (offset i + length got)) (Reply.Bytes got)))
     ∙ (let got : List ℕ = bytes_from (content s who2 h2) (offset_of s.tables who2 h2) n in ap (λ x. done x (Reply.Bytes got)) (offset-acted s s c who2 h2 (offset_of s.tables who2 h2 + length got) o refl)))
 
-commutes_pread : (s : State) (who : Who) (h : Handle) (c : Change) (h2 : Handle) (place n : ℕ) (who2 : Who) → Touches s who h c → handle_node s who2 h2 ≢ Some c.node
+commutes_pread : (s : State) (who : Who) (h : Handle) (c : Change) (h2 : Handle) (place n : ℕ) (who2 : Who)
+    → Touches s who h c → handle_node s who2 h2 ≢ Some c.node
     → step (acted s c) who2 (Call.Pread h2 place n) ≡ besides c (step s who2 (Call.Pread h2 place n))
 unfolding pread_done
 commutes_pread s who h c h2 place n who2 t aside =
@@ -251,26 +272,31 @@ commutes_pread s who h c h2 place n who2 t aside =
     let o = read_other s who h c who2 h2 t aside none in
     ap (λ bytes. done (acted s c) (Reply.Bytes (bytes_from bytes place n))) (content-same s (acted s c) who2 h2 o.view))
 
-seek_base-same : (s new : State) (who : Who) (h : Handle) (w : Whence) → SameView s new who h → seek_base new who h w ≡ seek_base s who h w
+seek_base-same : (s new : State) (who : Who) (h : Handle) (w : Whence) → SameView s new who h
+    → seek_base new who h w ≡ seek_base s who h w
 seek_base-same s new who h Whence.Set view = refl
 seek_base-same s new who h Whence.Cur view = offset_of-same s new who h view
 seek_base-same s new who h Whence.End view = ap length (content-same s new who h view)
 
-seek_last : (s : State) (c : Change) (h2 : Handle) (w : Whence) (by : ℤ) (who2 : Who) → IsOther s c who2 h2 → seek_done (acted s c) who2 h2 w by ≡ besides c (seek_done s who2 h2 w by)
+seek_last : (s : State) (c : Change) (h2 : Handle) (w : Whence) (by : ℤ) (who2 : Who) → IsOther s c who2 h2
+    → seek_done (acted s c) who2 h2 w by ≡ besides c (seek_done s who2 h2 w by)
 unfolding seek_done
 seek_last s c h2 w by who2 o =
     ap (λ n. (let place : ℕ = unwrap_or (moved_place n by) 0 in done (moved_offset (acted s c) who2 h2 place) (Reply.Offset place))) (seek_base-same s (acted s c) who2 h2 w o.view)
     ∙ (let place : ℕ = unwrap_or (seek_target s who2 h2 w by) 0 in ap (λ x. done x (Reply.Offset place)) (offset-acted s s c who2 h2 place o refl))
 
 -- a call whose handle is unknown is refused before and after
-both_refused : (s : State) (c : Change) (o new : Option Outcome) (last after : Stepped) (out : Outcome) → o ≡ Some out → new ≡ Some out → stepped (acted s c) new after ≡ besides c (stepped s o last)
+both_refused : (s : State) (c : Change) (o new : Option Outcome) (last after : Stepped) (out : Outcome) → o ≡ Some out
+    → new ≡ Some out → stepped (acted s c) new after ≡ besides c (stepped s o last)
 both_refused s c o new last after out is is_new = ap (λ x. stepped (acted s c) x after) is_new ∙ sym (ap (λ x. besides c (stepped s x last)) is)
 
-seek_unknown : (s : State) (h2 : Handle) (w : Whence) (by : ℤ) (who2 : Who) → opened s.tables who2 h2 ≡ None → first (seek_rows s who2 h2 w by) ≡ Some (answer (Reply.Error Errno.EBADF))
+seek_unknown : (s : State) (h2 : Handle) (w : Whence) (by : ℤ) (who2 : Who) → opened s.tables who2 h2 ≡ None
+    → first (seek_rows s who2 h2 w by) ≡ Some (answer (Reply.Error Errno.EBADF))
 unfolding seek_rows
 seek_unknown s h2 w by who2 none = rw none refl
 
-commutes_seek : (s : State) (who : Who) (h : Handle) (c : Change) (h2 : Handle) (w : Whence) (by : ℤ) (who2 : Who) → Touches s who h c → handle_node s who2 h2 ≢ Some c.node
+commutes_seek : (s : State) (who : Who) (h : Handle) (c : Change) (h2 : Handle) (w : Whence) (by : ℤ) (who2 : Who)
+    → Touches s who h c → handle_node s who2 h2 ≢ Some c.node
     → step (acted s c) who2 (Call.Seek h2 w by) ≡ besides c (step s who2 (Call.Seek h2 w by))
 unfolding seek_rows
 commutes_seek s who h c h2 w by who2 t aside = elim (option_either (opened s.tables who2 h2)) [
@@ -283,7 +309,8 @@ commutes_seek s who h c h2 w by who2 t aside = elim (option_either (opened s.tab
       (λ i. first (row (is_none (view.handle i)) Errno.EBADF ∷ row (is_none (moved_place (base i) by)) Errno.EINVAL ∷ [])) (λ none. seek_last s c h2 w by who2 o)
 ]
 
-commutes_fsync : (s : State) (who : Who) (h : Handle) (c : Change) (h2 : Handle) (who2 : Who) → Touches s who h c → handle_node s who2 h2 ≢ Some c.node
+commutes_fsync : (s : State) (who : Who) (h : Handle) (c : Change) (h2 : Handle) (who2 : Who) → Touches s who h c
+    → handle_node s who2 h2 ≢ Some c.node
     → step (acted s c) who2 (Call.Fsync h2) ≡ besides c (step s who2 (Call.Fsync h2))
 unfolding fsync_done
 commutes_fsync s who h c h2 who2 t aside =
@@ -300,13 +327,16 @@ below_not m n le = grind (arith, nat_tests)
 no_blocks-none : (s : State) (need : ℕ) → need ≤ room s → no_blocks s need ≡ None
 no_blocks-none s need fits = row-none _ _ (below_not (room s) need fits)
 
-write_unknown : (s : State) (h2 : Handle) (start : ℕ) (x : List ℕ) (who2 : Who) → opened s.tables who2 h2 ≡ None → first (write_rows s who2 h2 start x) ≡ Some (answer (Reply.Error Errno.EBADF))
+write_unknown : (s : State) (h2 : Handle) (start : ℕ) (x : List ℕ) (who2 : Who) → opened s.tables who2 h2 ≡ None
+    → first (write_rows s who2 h2 start x) ≡ Some (answer (Reply.Error Errno.EBADF))
 unfolding write_rows
 write_unknown s h2 start x who2 none = rw none refl
 
 -- a write at another file has the same rows, where it finds room
-write_rows-same : (s : State) (c : Change) (h2 : Handle) (from start : ℕ) (x : List ℕ) (who2 : Who) → SameView s (acted s c) who2 h2 → from ≡ start
-    → write_need s.mode (length (content s who2 h2)) start (start + length x) ≤ room s → write_need s.mode (length (content s who2 h2)) start (start + length x) ≤ room (acted s c)
+write_rows-same : (s : State) (c : Change) (h2 : Handle) (from start : ℕ) (x : List ℕ) (who2 : Who)
+    → SameView s (acted s c) who2 h2 → from ≡ start
+    → write_need s.mode (length (content s who2 h2)) start (start + length x) ≤ room s
+    → write_need s.mode (length (content s who2 h2)) start (start + length x) ≤ room (acted s c)
     → first (write_rows (acted s c) who2 h2 from x) ≡ first (write_rows s who2 h2 start x)
 unfolding write_rows
 write_rows-same s c h2 from start x who2 view begins before after =
@@ -322,7 +352,9 @@ write_rows-same s c h2 from start x who2 view begins before after =
     ∷ []
     )
 
-written-acted : (s : State) (c : Change) (h2 : Handle) (from start : ℕ) (x : List ℕ) (who2 : Who) → IsOther s c who2 h2 → from ≡ start → written alone (acted s c) who2 h2 from x ≡ acted (written alone s who2 h2 start x) c
+written-acted : (s : State) (c : Change) (h2 : Handle) (from start : ℕ) (x : List ℕ) (who2 : Who)
+    → IsOther s c who2 h2 → from ≡ start
+    → written alone (acted s c) who2 h2 from x ≡ acted (written alone s who2 h2 start x) c
 unfolding written with_file
 written-acted s c h2 from start x who2 o begins =
     let number = file_number-same s (acted s c) who2 h2 o.view in
@@ -331,12 +363,15 @@ written-acted s c h2 from start x who2 o begins =
     (λ i. with_node (acted s c) (number i) (Node.File (record { bytes = overwritten (bytes i) (begins i) x; published = published_of (node i) })))
     ∙ node-acted s c (file_number s.tables who2 h2) _ (other_number s who2 h2 c.node o.of o.is o.apart)
 
-pub written_tables : (s : State) (who : Who) (h : Handle) (start : ℕ) (x : List ℕ) → (written alone s who h start x).tables ≡ s.tables
+pub written_tables : (s : State) (who : Who) (h : Handle) (start : ℕ) (x : List ℕ)
+    → (written alone s who h start x).tables ≡ s.tables
 unfolding written with_file
 written_tables s who h start x = refl
 
-commutes_write : (s : State) (who : Who) (h : Handle) (c : Change) (h2 : Handle) (x : List ℕ) (who2 : Who) → Touches s who h c → handle_node s who2 h2 ≢ Some c.node
-    → takes s (who2, Call.Write h2 x) ≤ room s → takes s (who2, Call.Write h2 x) ≤ room (acted s c) → step (acted s c) who2 (Call.Write h2 x) ≡ besides c (step s who2 (Call.Write h2 x))
+commutes_write : (s : State) (who : Who) (h : Handle) (c : Change) (h2 : Handle) (x : List ℕ) (who2 : Who)
+    → Touches s who h c → handle_node s who2 h2 ≢ Some c.node
+    → takes s (who2, Call.Write h2 x) ≤ room s → takes s (who2, Call.Write h2 x) ≤ room (acted s c)
+    → step (acted s c) who2 (Call.Write h2 x) ≡ besides c (step s who2 (Call.Write h2 x))
 unfolding write_done
 commutes_write s who h c h2 x who2 t aside before after = elim (option_either (opened s.tables who2 h2)) [
   | inl none ↦
@@ -351,8 +386,10 @@ commutes_write s who h c h2 x who2 t aside before after = elim (option_either (o
       ∙ ap (λ m. done m (Reply.Count (length x))) (offset-acted s (written alone s who2 h2 start x) c who2 h2 (start + length x) o (written_tables s who2 h2 start x)))
 ]
 
-commutes_pwrite : (s : State) (who : Who) (h : Handle) (c : Change) (h2 : Handle) (start : ℕ) (x : List ℕ) (who2 : Who) → Touches s who h c → handle_node s who2 h2 ≢ Some c.node
-    → takes s (who2, Call.Pwrite h2 start x) ≤ room s → takes s (who2, Call.Pwrite h2 start x) ≤ room (acted s c) → step (acted s c) who2 (Call.Pwrite h2 start x) ≡ besides c (step s who2 (Call.Pwrite h2 start x))
+commutes_pwrite : (s : State) (who : Who) (h : Handle) (c : Change) (h2 : Handle) (start : ℕ) (x : List ℕ) (who2 : Who)
+    → Touches s who h c → handle_node s who2 h2 ≢ Some c.node
+    → takes s (who2, Call.Pwrite h2 start x) ≤ room s → takes s (who2, Call.Pwrite h2 start x) ≤ room (acted s c)
+    → step (acted s c) who2 (Call.Pwrite h2 start x) ≡ besides c (step s who2 (Call.Pwrite h2 start x))
 unfolding pwrite_done
 commutes_pwrite s who h c h2 start x who2 t aside before after = elim (option_either (opened s.tables who2 h2)) [
   | inl none ↦
@@ -362,11 +399,13 @@ commutes_pwrite s who h c h2 start x who2 t aside before after = elim (option_ei
       besides-stepped s c _ _ _ _ (write_rows-same s c h2 start start x who2 o.view refl (known_takes s who2 h2 some.0 _ (room s) some.1 before) (known_takes s who2 h2 some.0 _ (room (acted s c)) some.1 after)) (λ none. ap (λ m. done m (Reply.Count (length x))) (written-acted s c h2 start start x who2 o refl))
 ]
 
-truncate_unknown : (s : State) (h2 : Handle) (n : ℕ) (who2 : Who) → opened s.tables who2 h2 ≡ None → first (truncate_rows s who2 h2 n) ≡ Some (answer (Reply.Error Errno.EBADF))
+truncate_unknown : (s : State) (h2 : Handle) (n : ℕ) (who2 : Who) → opened s.tables who2 h2 ≡ None
+    → first (truncate_rows s who2 h2 n) ≡ Some (answer (Reply.Error Errno.EBADF))
 unfolding truncate_rows
 truncate_unknown s h2 n who2 none = rw none refl
 
-truncate_rows-same : (s : State) (c : Change) (h2 : Handle) (n : ℕ) (who2 : Who) → SameView s (acted s c) who2 h2 → growth (length (content s who2 h2)) n ≤ room s → growth (length (content s who2 h2)) n ≤ room (acted s c)
+truncate_rows-same : (s : State) (c : Change) (h2 : Handle) (n : ℕ) (who2 : Who) → SameView s (acted s c) who2 h2
+    → growth (length (content s who2 h2)) n ≤ room s → growth (length (content s who2 h2)) n ≤ room (acted s c)
     → first (truncate_rows (acted s c) who2 h2 n) ≡ first (truncate_rows s who2 h2 n)
 unfolding truncate_rows
 truncate_rows-same s c h2 n who2 view before after =
@@ -380,7 +419,8 @@ truncate_rows-same s c h2 n who2 view before after =
     ∷ []
     )
 
-truncate_last : (s : State) (c : Change) (h2 : Handle) (n : ℕ) (who2 : Who) → IsOther s c who2 h2 → truncate_done (acted s c) who2 h2 n ≡ besides c (truncate_done s who2 h2 n)
+truncate_last : (s : State) (c : Change) (h2 : Handle) (n : ℕ) (who2 : Who) → IsOther s c who2 h2
+    → truncate_done (acted s c) who2 h2 n ≡ besides c (truncate_done s who2 h2 n)
 unfolding truncate_done with_file
 truncate_last s c h2 n who2 o =
     let number = file_number-same s (acted s c) who2 h2 o.view in
@@ -390,8 +430,10 @@ truncate_last s c h2 n who2 o =
     ∙ node-acted s c (file_number s.tables who2 h2) _ (other_number s who2 h2 c.node o.of o.is o.apart)
     )
 
-commutes_truncate : (s : State) (who : Who) (h : Handle) (c : Change) (h2 : Handle) (n : ℕ) (who2 : Who) → Touches s who h c → handle_node s who2 h2 ≢ Some c.node
-    → takes s (who2, Call.Truncate h2 n) ≤ room s → takes s (who2, Call.Truncate h2 n) ≤ room (acted s c) → step (acted s c) who2 (Call.Truncate h2 n) ≡ besides c (step s who2 (Call.Truncate h2 n))
+commutes_truncate : (s : State) (who : Who) (h : Handle) (c : Change) (h2 : Handle) (n : ℕ) (who2 : Who)
+    → Touches s who h c → handle_node s who2 h2 ≢ Some c.node
+    → takes s (who2, Call.Truncate h2 n) ≤ room s → takes s (who2, Call.Truncate h2 n) ≤ room (acted s c)
+    → step (acted s c) who2 (Call.Truncate h2 n) ≡ besides c (step s who2 (Call.Truncate h2 n))
 commutes_truncate s who h c h2 n who2 t aside before after = elim (option_either (opened s.tables who2 h2)) [
   | inl none ↦
       both_refused s c _ _ _ _ (answer (Reply.Error Errno.EBADF)) (truncate_unknown s h2 n who2 none) (truncate_unknown (acted s c) h2 n who2 (unknown-acted s who who2 h h2 c t none))
@@ -403,8 +445,10 @@ commutes_truncate s who h c h2 n who2 t aside before after = elim (option_either
 -- ---- all calls
 
 -- THE CALL AND THE CHANGE COMMUTE: state and outcome.
-pub step-acted : (s : State) (who : Who) (h : Handle) (c : Change) (who2 : Who) (call : Call) → Touches s who h c → AreThreads who who2 → LeavesAlone s (who2, call) c.node
-    → takes s (who2, call) ≤ room s → takes s (who2, call) ≤ room (acted s c) → step (acted s c) who2 call ≡ besides c (step s who2 call)
+pub step-acted : (s : State) (who : Who) (h : Handle) (c : Change) (who2 : Who) (call : Call) → Touches s who h c
+    → AreThreads who who2 → LeavesAlone s (who2, call) c.node
+    → takes s (who2, call) ≤ room s → takes s (who2, call) ≤ room (acted s c)
+    → step (acted s c) who2 call ≡ besides c (step s who2 call)
 unfolding waits_for
 step-acted s who h c who2 (Call.Mkdir p) t threads aside before after = commutes_mkdir s who h c p who2 t
 step-acted s who h c who2 (Call.Rmdir p) t threads aside before after = commutes_rmdir s who h c p who2 t

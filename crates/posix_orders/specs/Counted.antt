@@ -37,7 +37,8 @@ use Rattle.posix_orders.specs.Orders.{AreTwoEach}
 -- ---- the reply
 
 -- A WRITE IN FLIGHT ANSWERS, when it ends, how many bytes it puts, and says nothing of the room.
-pub outcome-put : (s : State) (who : Who) (call : Call) (node : ℕ) (whole : List ℕ) (puts : PutsWhole s who call node whole) → (step s who call).outcome ≡ answer (Reply.Count (length puts.put.bytes))
+pub outcome-put : (s : State) (who : Who) (call : Call) (node : ℕ) (whole : List ℕ) (puts : PutsWhole s who call node whole)
+    → (step s who call).outcome ≡ answer (Reply.Count (length puts.put.bytes))
 unfolding put_by write_done pwrite_done
 outcome-put s who (Call.Write h x) node whole puts =
     let says = put_at-Some s who h (write_start s who h) x puts.put puts.is in
@@ -58,13 +59,15 @@ staged_by s c = 0
 abbrev pub staged : State → List Flight → ℕ
 staged s flights = sum_by (λ (c : Begun). staged_by s c) (map begun_of flights)
 
-pub held-exact : (nodes : List Node) (n : ℕ) (node : Node) (file : File) → node_at nodes n ≡ Node.File file → held (slice_set nodes n node) + weight (node_at nodes n) ≡ held nodes + weight node
+pub held-exact : (nodes : List Node) (n : ℕ) (node : Node) (file : File) → node_at nodes n ≡ Node.File file
+    → held (slice_set nodes n node) + weight (node_at nodes n) ≡ held nodes + weight node
 held-exact [] n node file is = cc
 held-exact (x ∷ xs) zero node file is = omega (arith, sum_by-cons weight x xs, sum_by-cons weight node xs)
 held-exact (x ∷ xs) (suc n) node file is = omega (arith, sum_by-cons weight x xs, sum_by-cons weight x (slice_set xs n node), held-exact xs n node file is)
 
 -- a write that acted: what the files hold rose by the growth of its file
-held_grown : (s new : State) (node : ℕ) (whole : List ℕ) (file : File) (start : ℕ) (x : List ℕ) → node_at s.nodes node ≡ Node.File file → LeavesWhole s new node whole
+held_grown : (s new : State) (node : ℕ) (whole : List ℕ) (file : File) (start : ℕ) (x : List ℕ)
+    → node_at s.nodes node ≡ Node.File file → LeavesWhole s new node whole
     → whole ≡ overwritten (bytes_of (node_at s.nodes node)) start x
     → held new.nodes ≡ held s.nodes + growth (length (bytes_of (node_at s.nodes node))) (max (length (bytes_of (node_at s.nodes node))) (start + length x))
 held_grown s new node whole file start x is leaves whole_is =
@@ -76,8 +79,10 @@ held_grown s new node whole file start x is leaves whole_is =
     let more = held_by-le (length old) long (omega arith) in
     omega (arith, after, exact, size, more)
 
-held_write : (s new : State) (who : Who) (h : Handle) (node : ℕ) (whole : List ℕ) (file : File) (start : ℕ) (x : List ℕ) (p : Put) → put_at s who h start x ≡ Some p → p.node ≡ node → put_bytes s p ≡ whole
-    → node_at s.nodes node ≡ Node.File file → LeavesWhole s new node whole → held new.nodes ≡ held s.nodes + growth (length (content s who h)) (max (length (content s who h)) (start + length x))
+held_write : (s new : State) (who : Who) (h : Handle) (node : ℕ) (whole : List ℕ) (file : File) (start : ℕ) (x : List ℕ) (p : Put)
+    → put_at s who h start x ≡ Some p → p.node ≡ node → put_bytes s p ≡ whole
+    → node_at s.nodes node ≡ Node.File file → LeavesWhole s new node whole
+    → held new.nodes ≡ held s.nodes + growth (length (content s who h)) (max (length (content s who h)) (start + length x))
 held_write s new who h node whole file start x p is same whole_is there leaves =
     let says = put_at-Some s who h start x p is in
     let number : file_number s.tables who h ≡ node = ap (λ (q : Put). q.node) says.1 ∙ same in
@@ -86,7 +91,8 @@ held_write s new who h node whole file start x p is same whole_is there leaves =
     let grown = held_grown s new node whole file start x there leaves bytes in
     subst (λ n. held new.nodes ≡ held s.nodes + growth (length (bytes_of (node_at s.nodes n))) (max (length (bytes_of (node_at s.nodes n))) (start + length x))) (sym number) grown
 
-pub held-put : (s : State) (who : Who) (call : Call) (node : ℕ) (whole : List ℕ) → InFlight s (who, call) node whole → held (after_call s (who, call)).nodes + staged_by s (who, call) ≡ held s.nodes + need_of s who call
+pub held-put : (s : State) (who : Who) (call : Call) (node : ℕ) (whole : List ℕ) → InFlight s (who, call) node whole
+    → held (after_call s (who, call)).nodes + staged_by s (who, call) ≡ held s.nodes + need_of s who call
 unfolding put_by
 held-put s who (Call.Write h x) node whole flight =
     let puts = flight.puts in
@@ -99,7 +105,8 @@ held-put s who (Call.Pwrite h start x) node whole flight =
 held-put s who call node whole flight = let puts = flight.puts in let never = puts.is in cc
 
 -- what it stages anew stays with what it sees
-staged_by-kept : (s new : State) (who : Who) (call : Call) → KeepsView s new who call → staged_by new (who, call) ≡ staged_by s (who, call)
+staged_by-kept : (s new : State) (who : Who) (call : Call) → KeepsView s new who call
+    → staged_by new (who, call) ≡ staged_by s (who, call)
 staged_by-kept s new who (Call.Write h x) view =
     let bytes = content-same s new who h view in
     let start = write_start-same s new who h view in
@@ -111,10 +118,12 @@ staged_by-kept s new who (Call.Pwrite h start x) view =
     λ i. staged_below (mode i) (length (bytes i)) start (start + length x)
 staged_by-kept s new who call view = refl
 
-staged-cons : (s : State) (f : Flight) (flights : List Flight) → staged s (f ∷ flights) ≡ staged_by s f.begun + staged s flights
+staged-cons : (s : State) (f : Flight) (flights : List Flight)
+    → staged s (f ∷ flights) ≡ staged_by s f.begun + staged s flights
 staged-cons s f flights = sum_by-cons (λ (c : Begun). staged_by s c) f.begun (map begun_of flights)
 
-staged-step : (s : State) (d : Begun) (flights : List Flight) → AreInFlight s flights → LetsAllBe s d flights → staged (after_call s d) flights ≡ staged s flights
+staged-step : (s : State) (d : Begun) (flights : List Flight) → AreInFlight s flights → LetsAllBe s d flights
+    → staged (after_call s d) flights ≡ staged s flights
 staged-step s d [] flying lets = refl
 staged-step s d (f ∷ flights) flying lets =
     let one = staged_by-kept s (after_call s d) f.begun.0 f.begun.1 (KeepsView-call s f.begun d f.node f.whole lets.0.threads flying.0 lets.0.aside) in
@@ -126,7 +135,8 @@ abbrev pub counted : State → List Flight → ℕ
 counted s flights = held (after_calls s (map begun_of flights)).nodes + staged s flights
 
 -- WHAT IS COUNTED is what the files hold and what the writes need.
-pub counted-needs : (s : State) (flights : List Flight) → AreInFlight s flights → AreTwoEach flights → AreAfforded s (map begun_of flights) → counted s flights ≡ held s.nodes + needs s flights
+pub counted-needs : (s : State) (flights : List Flight) → AreInFlight s flights → AreTwoEach flights
+    → AreAfforded s (map begun_of flights) → counted s flights ≡ held s.nodes + needs s flights
 counted-needs s [] flying two afforded = refl
 counted-needs s (f ∷ flights) flying two afforded =
     let sum = needs-cons s f flights in
@@ -150,7 +160,8 @@ room_beside s flights = room s - needs s flights
 pub fits_beside-fits : (s : State) (flights : List Flight) (need : ℕ) → need ≤ room_beside s flights → need ≤ room s
 fits_beside-fits s flights need fits = omega (arith, fits)
 
-pub fits_beside-all : (s : State) (flights : List Flight) (need : ℕ) → AreAfforded s (map begun_of flights) → need ≤ room_beside s flights → need + needs s flights ≤ room s
+pub fits_beside-all : (s : State) (flights : List Flight) (need : ℕ) → AreAfforded s (map begun_of flights)
+    → need ≤ room_beside s flights → need + needs s flights ≤ room s
 fits_beside-all s flights need afforded fits = omega (arith, afforded, fits)
 
 -- A need above the room of the state never fits beside them.
@@ -158,7 +169,8 @@ pub never_fits : (s : State) (flights : List Flight) (need : ℕ) → room s < n
 never_fits s flights need above fits = omega (arith, above, fits)
 
 -- ENOSPC is answered exactly by the room of the state.
-pub no_blocks-above : (s : State) (need : ℕ) → room s < need → no_blocks s need ≡ Some (no_space What.Blocks need (room s))
+pub no_blocks-above : (s : State) (need : ℕ) → room s < need
+    → no_blocks s need ≡ Some (no_space What.Blocks need (room s))
 no_blocks-above s need above = rw (below (room s) need above) refl where
   below : (m n : ℕ) → m < n → nat_lt m n ≡ true
   below m n le = grind (arith, nat_tests)
@@ -168,7 +180,8 @@ above-no_blocks s need o is = by (nat_lt (room s) need) (tested (room s) need) i
   tested : (m n : ℕ) → nat_lt m n ≡ true → m < n
   tested m n yes_it = grind (arith, nat_tests)
 
-  by : (b : Bool) → (b ≡ true → room s < need) → cond b (Some (no_space What.Blocks need (room s))) None ≡ Some o → room s < need
+  by : (b : Bool) → (b ≡ true → room s < need) → cond b (Some (no_space What.Blocks need (room s))) None ≡ Some o
+      → room s < need
   by true above it = above refl
   by false above it = cc
 
@@ -179,8 +192,10 @@ zero_not : (n : ℕ) → n ≢ 0 → (n == 0) ≡ false
 zero_not n is = grind (arith, nat_tests)
 
 -- a write that would be accepted with just its need left, and needs more than the room
-pub write-above : (s : State) (who : Who) (h : Handle) (start : ℕ) (x : List ℕ) (need : ℕ) → need ≡ write_need s.mode (length (content s who h)) start (start + length x)
-    → NoRow (may_write s.tables who h) (length (content s who h)) s.mode start (length x) need → room s < need → first (write_rows s who h start x) ≡ Some (no_space What.Blocks need (room s))
+pub write-above : (s : State) (who : Who) (h : Handle) (start : ℕ) (x : List ℕ) (need : ℕ)
+    → need ≡ write_need s.mode (length (content s who h)) start (start + length x)
+    → NoRow (may_write s.tables who h) (length (content s who h)) s.mode start (length x) need → room s < need
+    → first (write_rows s who h start x) ≡ Some (no_space What.Blocks need (room s))
 unfolding write_rows
 write-above s who h start x need is accepts above =
     let blocks = no_blocks-above s need above in

@@ -28,7 +28,8 @@ abbrev pub KeepsOthers : Tables → Tables → ℕ → Type 0
 KeepsOthers t new node = (who : Who) (h : Handle) (key : ℕ) (d : Description) → Opens t who h key d → d.node ≢ node → Opens new who h key d
 
 -- a write keeps them
-pub KeepsOthers-step : (s : State) (c : Begun) (node : ℕ) (whole : List ℕ) → InFlight s c node whole → KeepsOthers s.tables (after_call s c).tables node
+pub KeepsOthers-step : (s : State) (c : Begun) (node : ℕ) (whole : List ℕ) → InFlight s c node whole
+    → KeepsOthers s.tables (after_call s c).tables node
 KeepsOthers-step s c node whole flight who h key d o other =
     let acts = Acts-now s c node whole flight in
     let change : Change = acts.change in
@@ -37,19 +38,22 @@ KeepsOthers-step s c node whole flight who h key d o other =
     subst (λ (x : State). Opens x.tables who h key d) (sym acts.now.is) (Opens-set s.tables who h key change.key d _ apart o)
 
 -- and so what writes of other files see stays, whatever bytes are found in this one
-pub KeepsSeen-leaves : (s new : State) (node : ℕ) (found : List ℕ) (who : Who) (other : ℕ) → LeavesWhole s new node found → KeepsOthers s.tables new.tables node → other ≢ node → KeepsSeen s new who other
+pub KeepsSeen-leaves : (s new : State) (node : ℕ) (found : List ℕ) (who : Who) (other : ℕ)
+    → LeavesWhole s new node found → KeepsOthers s.tables new.tables node → other ≢ node → KeepsSeen s new who other
 KeepsSeen-leaves s new node found who other leaves keeps apart = record {
   handles = λ h key d o same. keeps who h key d o (λ one. apart (sym same ∙ one));
   file = ap (λ ns. get_or ns other Node.Gone) leaves.nodes ∙ get_or-set_other s.nodes node other (with_whole s node found) Node.Gone apart;
   mode = leaves.mode;
 }
 
-pub KeepsView-leaves : (s new : State) (node : ℕ) (found : List ℕ) (who2 : Who) (call2 : Call) (node2 : ℕ) (whole2 : List ℕ) → LeavesWhole s new node found → KeepsOthers s.tables new.tables node
+pub KeepsView-leaves : (s new : State) (node : ℕ) (found : List ℕ) (who2 : Who) (call2 : Call) (node2 : ℕ) (whole2 : List ℕ)
+    → LeavesWhole s new node found → KeepsOthers s.tables new.tables node
     → PutsWhole s who2 call2 node2 whole2 → node2 ≢ node → KeepsView s new who2 call2
 KeepsView-leaves s new node found who2 call2 node2 whole2 leaves keeps puts apart = KeepsView-seen s new who2 call2 node2 whole2 puts (KeepsSeen-leaves s new node found who2 node2 leaves keeps apart)
 
 -- what the files hold goes by the length of what is found alone
-held_leaves : (s new : State) (c : Begun) (node : ℕ) (whole found : List ℕ) → InFlight s c node whole → LeavesWhole s new node found → length found ≡ length whole → held new.nodes ≡ held (after_call s c).nodes
+held_leaves : (s new : State) (c : Begun) (node : ℕ) (whole found : List ℕ) → InFlight s c node whole
+    → LeavesWhole s new node found → length found ≡ length whole → held new.nodes ≡ held (after_call s c).nodes
 held_leaves s new (who, call) node whole found flight leaves long =
     let whole_left = LeavesWhole-step s who call node whole flight.puts in
     let first_one = ap held leaves.nodes in
@@ -60,7 +64,8 @@ held_leaves s new (who, call) node whole found flight leaves long =
     omega (arith, first_one, second, a, b, size)
 
 -- The room after a write, all its bytes found or not: what was left besides its need is left.
-pub room-leaves : (s new : State) (c : Begun) (node : ℕ) (whole found : List ℕ) (k : ℕ) → InFlight s c node whole → LeavesWhole s new node found → length found ≡ length whole → need_of s c.0 c.1 + k ≤ room s → k ≤ room new
+pub room-leaves : (s new : State) (c : Begun) (node : ℕ) (whole found : List ℕ) (k : ℕ) → InFlight s c node whole
+    → LeavesWhole s new node found → length found ≡ length whole → need_of s c.0 c.1 + k ≤ room s → k ≤ room new
 room-leaves s new (who, call) node whole found k flight leaves long fits =
     let same = held_leaves s new (who, call) node whole found flight leaves long in
     let own = held-put s who call node whole flight in
@@ -68,7 +73,8 @@ room-leaves s new (who, call) node whole found k flight leaves long fits =
     rw shape (omega (arith, same, own, fits))
 
 -- and the reserve is left
-pub Fits-leaves : (s new : State) (c : Begun) (node : ℕ) (whole found : List ℕ) → InFlight s c node whole → LeavesWhole s new node found → length found ≡ length whole → need_of s c.0 c.1 ≤ room s → Fits s → Fits new
+pub Fits-leaves : (s new : State) (c : Begun) (node : ℕ) (whole found : List ℕ) → InFlight s c node whole
+    → LeavesWhole s new node found → length found ≡ length whole → need_of s c.0 c.1 ≤ room s → Fits s → Fits new
 Fits-leaves s new (who, call) node whole found flight leaves long within fits =
     let same = held_leaves s new (who, call) node whole found flight leaves long in
     let own = held-put s who call node whole flight in

@@ -49,8 +49,10 @@ same_slot (y ∷ ys) (suc n) x is = ap (λ zs. y ∷ zs) (same_slot ys n x is)
 abbrev change_to : State → ℕ → List ℕ → ℕ → Description → Change
 change_to s node whole key to = record { key = key; to = to; node = node; file = record { bytes = whole; published = published_of (node_at s.nodes node) } }
 
-acts_by : (s : State) (who : Who) (call : Call) (node : ℕ) (whole : List ℕ) (h : Handle) (puts : IsPutBy s who h node) (to : Description) (file : File) → to.node ≡ node → node_at s.nodes node ≡ Node.File file
-    → LeavesWhole s (step s who call).state node whole → (step s who call).state.tables ≡ with_slot s.tables (change_to s node whole puts.key to)
+acts_by : (s : State) (who : Who) (call : Call) (node : ℕ) (whole : List ℕ) (h : Handle) (puts : IsPutBy s who h node) (to : Description) (file : File)
+    → to.node ≡ node → node_at s.nodes node ≡ Node.File file
+    → LeavesWhole s (step s who call).state node whole
+    → (step s who call).state.tables ≡ with_slot s.tables (change_to s node whole puts.key to)
     → Acts s (who, call) node h (change_to s node whole puts.key to)
 acts_by s who call node whole h puts to file same is leaves tables = record {
   touches = record { by = puts.by; opens = puts.opens; by_node = puts.node_is; to_node = same; before = file; is = is };
@@ -58,7 +60,8 @@ acts_by s who call node whole h puts to file same is leaves tables = record {
   node_is = refl;
 }
 
-write_tables : (s : State) (who : Who) (h : Handle) (x : List ℕ) (node : ℕ) (whole : List ℕ) (puts : IsPutBy s who h node) (offset : ℕ) → offset ≡ write_start s who h + length x
+write_tables : (s : State) (who : Who) (h : Handle) (x : List ℕ) (node : ℕ) (whole : List ℕ) (puts : IsPutBy s who h node) (offset : ℕ)
+    → offset ≡ write_start s who h + length x
     → first (write_rows s who h (write_start s who h) x) ≡ None
     → (step s who (Call.Write h x)).state.tables ≡ with_slot s.tables (change_to s node whole puts.key (record puts.by { offset = offset }))
 unfolding write_done written with_file
@@ -68,7 +71,8 @@ write_tables s who h x node whole puts offset same none =
     ∙ (λ i. with_offset s.tables (key i) (sym same i))
     ∙ with_offset-is s.tables puts.key offset puts.by puts.opens.stands
 
-pwrite_tables : (s : State) (who : Who) (h : Handle) (start : ℕ) (x : List ℕ) (node : ℕ) (whole : List ℕ) (puts : IsPutBy s who h node) → first (write_rows s who h start x) ≡ None
+pwrite_tables : (s : State) (who : Who) (h : Handle) (start : ℕ) (x : List ℕ) (node : ℕ) (whole : List ℕ) (puts : IsPutBy s who h node)
+    → first (write_rows s who h start x) ≡ None
     → (step s who (Call.Pwrite h start x)).state.tables ≡ with_slot s.tables (change_to s node whole puts.key puts.by)
 unfolding pwrite_done written with_file
 pwrite_tables s who h start x node whole puts none =
@@ -85,10 +89,12 @@ pub record ActsTwice (s new : State) (c : Begun) (node : ℕ) : Type 0 where
 abbrev kept_put : (s new : State) (who : Who) (h : Handle) (node : ℕ) → IsPutBy s who h node → KeepsSeen s new who node → IsPutBy new who h node
 kept_put s new who h node puts keeps = record { key = puts.key; by = puts.by; opens = keeps.handles h puts.key puts.by puts.opens puts.node_is; node_is = puts.node_is }
 
-published_same : (s new : State) (who : Who) (node : ℕ) (whole : List ℕ) (key : ℕ) (to : Description) → KeepsSeen s new who node → change_to new node whole key to ≡ change_to s node whole key to
+published_same : (s new : State) (who : Who) (node : ℕ) (whole : List ℕ) (key : ℕ) (to : Description)
+    → KeepsSeen s new who node → change_to new node whole key to ≡ change_to s node whole key to
 published_same s new who node whole key to keeps = ap (λ (x : Node). (let c : Change = record { key = key; to = to; node = node; file = record { bytes = whole; published = published_of x } } in c)) keeps.file
 
-pub Acts-twice : (s new : State) (who : Who) (call : Call) (node : ℕ) (whole : List ℕ) (file : File) → PutsWhole s who call node whole → node_at s.nodes node ≡ Node.File file → KeepsSeen s new who node
+pub Acts-twice : (s new : State) (who : Who) (call : Call) (node : ℕ) (whole : List ℕ) (file : File)
+    → PutsWhole s who call node whole → node_at s.nodes node ≡ Node.File file → KeepsSeen s new who node
     → PutsWhole new who call node whole → ActsTwice s new (who, call) node
 unfolding put_by
 Acts-twice s new who (Call.Write h x) node whole file puts is keeps again =
@@ -124,7 +130,8 @@ Acts-twice s new who (Call.Pwrite h start x) node whole file puts is keeps again
 Acts-twice s new who call node whole file puts is keeps again = let never = puts.is in cc
 
 -- a write in flight finds its room
-pub need_of-fits : (s : State) (who : Who) (call : Call) (node : ℕ) (whole : List ℕ) → PutsWhole s who call node whole → need_of s who call ≤ room s
+pub need_of-fits : (s : State) (who : Who) (call : Call) (node : ℕ) (whole : List ℕ) → PutsWhole s who call node whole
+    → need_of s who call ≤ room s
 unfolding put_by
 need_of-fits s who (Call.Write h x) node whole puts = (put_at-Some s who h (write_start s who h) x puts.put puts.is).0.room
 need_of-fits s who (Call.Pwrite h start x) node whole puts = (put_at-Some s who h start x puts.put puts.is).0.room
@@ -135,7 +142,8 @@ Acts-now s (who, call) node whole flight = Acts-twice s s who call node whole fl
 
 -- ---- what a call of others takes
 
-is_known : (s : State) (who : Who) (h : Handle) (e : Description) (n k left : ℕ) → opened s.tables who h ≡ Some e → cond (is_none (opened s.tables who h)) 0 n + k ≤ left → n + k ≤ left
+is_known : (s : State) (who : Who) (h : Handle) (e : Description) (n k left : ℕ) → opened s.tables who h ≡ Some e
+    → cond (is_none (opened s.tables who h)) 0 n + k ≤ left → n + k ≤ left
 is_known s who h e n k left is fits = subst (λ (o : Option Description). cond (is_none o) 0 n + k ≤ left) is fits
 
 pub FitsBeside-takes : (s : State) (d : Begun) (k : ℕ) → takes s d + k ≤ room s → FitsBeside s d k
@@ -164,8 +172,10 @@ FitsBeside-takes s (who, Call.Stat p) k fits = tt
 FitsBeside-takes s (who, Call.List p) k fits = tt
 
 -- a call takes the same, and waits for the same file, after a write of another file acted
-same_taken : (s : State) (who : Who) (h : Handle) (c : Change) (who2 : Who) (h2 : Handle) (n m : ℕ) → Touches s who h c → option_map (λ (d : Description). d.node) (opened s.tables who2 h2) ≢ Some c.node
-    → (SameView s (acted s c) who2 h2 → m ≡ n) → cond (is_none (opened (acted s c).tables who2 h2)) 0 m ≡ cond (is_none (opened s.tables who2 h2)) 0 n
+same_taken : (s : State) (who : Who) (h : Handle) (c : Change) (who2 : Who) (h2 : Handle) (n m : ℕ)
+    → Touches s who h c → option_map (λ (d : Description). d.node) (opened s.tables who2 h2) ≢ Some c.node
+    → (SameView s (acted s c) who2 h2 → m ≡ n)
+    → cond (is_none (opened (acted s c).tables who2 h2)) 0 m ≡ cond (is_none (opened s.tables who2 h2)) 0 n
 same_taken s who h c who2 h2 n m t aside same = elim (option_either (opened s.tables who2 h2)) [
   | inl none ↦
       ap (λ (o : Option Description). cond (is_none o) 0 m) (unknown-acted s who who2 h h2 c t none) ∙ sym (ap (λ (o : Option Description). cond (is_none o) 0 n) none)
@@ -174,7 +184,8 @@ same_taken s who h c who2 h2 n m t aside same = elim (option_either (opened s.ta
       (λ i. cond (is_none (view.handle i)) 0 (same view i))
 ]
 
-pub takes-acted : (s : State) (who : Who) (h : Handle) (c : Change) (d : Begun) → Touches s who h c → LeavesAlone s d c.node → takes (acted s c) d ≡ takes s d
+pub takes-acted : (s : State) (who : Who) (h : Handle) (c : Change) (d : Begun) → Touches s who h c
+    → LeavesAlone s d c.node → takes (acted s c) d ≡ takes s d
 unfolding waits_for
 takes-acted s who h c (who2, Call.Write h2 x) t aside = same_taken s who h c who2 h2 _ _ t aside (λ view. need_of-kept s (acted s c) who2 (Call.Write h2 x) view)
 takes-acted s who h c (who2, Call.Pwrite h2 start x) t aside = same_taken s who h c who2 h2 _ _ t aside (λ view. need_of-kept s (acted s c) who2 (Call.Pwrite h2 start x) view)
@@ -193,14 +204,17 @@ takes-acted s who h c (who2, Call.Fsync h2) t aside = refl
 takes-acted s who h c (who2, Call.Stat p) t aside = refl
 takes-acted s who h c (who2, Call.List p) t aside = refl
 
-same_node : (s : State) (who : Who) (h : Handle) (c : Change) (who2 : Who) (h2 : Handle) → Touches s who h c → option_map (λ (d : Description). d.node) (opened s.tables who2 h2) ≢ Some c.node
+same_node : (s : State) (who : Who) (h : Handle) (c : Change) (who2 : Who) (h2 : Handle) → Touches s who h c
+    → option_map (λ (d : Description). d.node) (opened s.tables who2 h2) ≢ Some c.node
     → option_map (λ (d : Description). d.node) (opened (acted s c).tables who2 h2) ≡ option_map (λ (d : Description). d.node) (opened s.tables who2 h2)
 same_node s who h c who2 h2 t aside = ap (λ o. option_map (λ (d : Description). d.node) o) (handle-acted s who who2 h h2 c t aside)
 
-same_path : (s : State) (who : Who) (h : Handle) (c : Change) (p : List (List ℕ)) → Touches s who h c → path_node (acted s c) p ≡ path_node s p
+same_path : (s : State) (who : Who) (h : Handle) (c : Change) (p : List (List ℕ)) → Touches s who h c
+    → path_node (acted s c) p ≡ path_node s p
 same_path s who h c p t = ap (λ sp. cond (too_long sp.longest p) None (node_at_path sp p)) (space-acted s who h c t)
 
-pub waits_for-acted : (s : State) (who : Who) (h : Handle) (c : Change) (d : Begun) → Touches s who h c → LeavesAlone s d c.node → waits_for (acted s c) d ≡ waits_for s d
+pub waits_for-acted : (s : State) (who : Who) (h : Handle) (c : Change) (d : Begun) → Touches s who h c
+    → LeavesAlone s d c.node → waits_for (acted s c) d ≡ waits_for s d
 unfolding waits_for
 waits_for-acted s who h c (who2, Call.Mkdir p) t aside = refl
 waits_for-acted s who h c (who2, Call.Rmdir p) t aside = refl
@@ -226,7 +240,8 @@ pub record Commute (s : State) (c d : Begun) : Type 0 where
   pub states : after_call (after_call s c) d ≡ after_call (after_call s d) c
   pub outcome : (step (after_call s c) d.0 d.1).outcome ≡ (step s d.0 d.1).outcome
 
-pub Commute-call : (s : State) (c d : Begun) (node : ℕ) (whole : List ℕ) → InFlight s c node whole → AreThreads c.0 d.0 → LeavesAlone s d node → takes s d + need_of s c.0 c.1 ≤ room s → Commute s c d
+pub Commute-call : (s : State) (c d : Begun) (node : ℕ) (whole : List ℕ) → InFlight s c node whole
+    → AreThreads c.0 d.0 → LeavesAlone s d node → takes s d + need_of s c.0 c.1 ≤ room s → Commute s c d
 Commute-call s (who, call) (who2, call2) node whole flight threads aside fits =
     let new : State = after_call s (who2, call2) in
     let beside = FitsBeside-takes s (who2, call2) (need_of s who call) fits in

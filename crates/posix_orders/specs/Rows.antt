@@ -66,6 +66,7 @@ third-LetsAllBe = (
   (record { threads = record { other = refl; thread = refl; own = refl }; aside = λ waits. cc }, tt),
 )
 
-pub third-stands_last : (left : List TreeEntry) → StrictFrom (after_call opened_both third) (map begun_of (writes 0 ∷ writes 1 ∷ [])) left
+pub third-stands_last : (left : List TreeEntry)
+    → StrictFrom (after_call opened_both third) (map begun_of (writes 0 ∷ writes 1 ∷ [])) left
     → StrictFrom opened_both (map begun_of (writes 0 ∷ writes 1 ∷ []) ++ third ∷ []) left
 third-stands_last left strict = StrictFrom-last opened_both third (writes 0 ∷ writes 1 ∷ []) left both-InFlight both-AreTwoEach third-LetsAllBe (omega (arith, both-AreAfforded)) strict

@@ -1,0 +1,13 @@
+use Rattle.posix_frames.specs.Flights.{InFlight-step}
+use Rattle.posix_frames.specs.Histories.{AreInFlight-run}
+use Rattle.posix_frames.specs.Histories.{LetsAllBe-idle}
+use Rattle.posix_frames.proofs.writes_keep_their_effect.Goals as goal
+
+pub returns-clause-idle : goal.returns-clause-idle
+returns-clause-idle c = LetsAllBe-idle
+
+pub returns-clause-write : goal.returns-clause-write
+returns-clause-write c = InFlight-step
+
+pub returns-clause-history : goal.returns-clause-history
+returns-clause-history c = AreInFlight-run

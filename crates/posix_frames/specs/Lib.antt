@@ -1,0 +1,9 @@
+pub mod Lists
+pub mod Handles
+pub mod Bystanders
+pub mod Frames
+pub mod Flights
+pub mod Rooms
+pub mod Needs
+pub mod Histories
+pub mod Laws

@@ -1,0 +1,8 @@
+pub mod Acted
+pub mod Commutes
+pub mod Pairs
+pub mod Orders
+pub mod Counted
+pub mod Leaves
+pub mod Rows
+pub mod Laws

@@ -1,3 +1,5 @@
+pub mod RelationLaws
+pub mod Synced
 pub mod PosixLaws
 pub mod Laws
 pub mod Orders

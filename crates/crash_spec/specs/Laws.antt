@@ -1,13 +1,21 @@
 -- The chief laws of what may be left, each as one statement.
-use Rattle.std.specs.Prelude.{◌≡◌, ℕ, true, List, [], ◌∷◌, ◌++◌, length}
+use Rattle.std.specs.Prelude.{◌≡◌, ℕ, ◌≤◌, true, false, List, [], ◌∷◌, ◌++◌, length, map}
+use Rattle.posix_types.specs.declared.call.Call.{Call}
 use Rattle.posix_types.specs.declared.call.Mode.{Mode}
+use Rattle.posix_types.specs.declared.call.Who.{Who}
 use Rattle.posix_types.specs.declared.item.Item.{Item}
 use Rattle.posix_types.specs.declared.tree.TreeEntry.{TreeEntry}
 use Rattle.posix_spec.specs.Run.{after_call, Begun, IsAnswered, IsLegal, run}
 use Rattle.posix_spec.specs.State.{State}
 use Rattle.posix_spec.specs.Tree.{tree}
+use Rattle.crash_spec.specs.Busy.{is_busy}
+use Rattle.crash_spec.specs.Machine.{Begins, Checkpoint, Goes, Machine, outs, Setting, state_of}
+use Rattle.crash_spec.specs.MachineLaws.{Follows}
+use Rattle.crash_spec.specs.OneThread.{on_one_thread}
+use Rattle.crash_spec.specs.Orders.{Order}
 use Rattle.crash_spec.specs.Permitted.{Permitted}
 use Rattle.crash_spec.specs.Posix.{Posix, StrongPosix, syncs}
+use Rattle.crash_spec.specs.Schedules.{Course, Reaches, Scheduled}
 use Rattle.crash_spec.specs.Strict.{Strict}
 use Rattle.crash_spec.specs.Sync.{IsPartOf, Sync}
 use Rattle.crash_spec.specs.Synced.{AllPublished}
@@ -55,3 +63,26 @@ SyncedIsOneTree =
 -- a legal history stays legal with one more item that is answered
 abbrev pub StaysLegal : Type 0
 StaysLegal = (s : State) (history : List Item) (item : Item) → IsLegal s history → IsAnswered (run s history) item → IsLegal s (history ++ item ∷ [])
+
+-- every schedule leaves a legal history that follows the scripts, and unfinished calls that are the next of their callers,
+-- one each
+abbrev pub SchedulesFollow : Type 0
+SchedulesFollow = (g : Setting) (order : Order) (events : ℕ) (history : List Item) (unfinished : List Begun) → Scheduled g order events history unfinished → Follows g history unfinished
+
+-- a schedule of one thread that runs to its end gives the calls of its script, in their order
+abbrev pub OneThreadInOrder : Type 0
+OneThreadInOrder =
+    (start : State) (calls : List Call) (lines : ℕ) (order : Order) (events : ℕ) (history : List Item) (unfinished : List Begun)
+    → Scheduled (on_one_thread start calls lines) order events history unfinished → length history ≡ length calls → map (λ (item : Item). item.call) history ≡ calls
+
+-- a lap never has more claims than the log has lines
+abbrev pub ClaimsFit : Type 0
+ClaimsFit = (g : Setting) (order : Order) (events : ℕ) (c : Course) → Reaches g order events c → c.machine.claims ≤ g.lines
+
+-- a call that waits for another's does not begin
+abbrev pub BusyCallsWait : Type 0
+BusyCallsWait = (g : Setting) (m : Machine) (who : Who) (call : Call) → Begins g m who call → is_busy (state_of g m) (outs m) (who, call) ≡ false
+
+-- a Checkpoint comes where the round is over and no call is out
+abbrev pub CheckpointsFindNoJob : Type 0
+CheckpointsFindNoJob = (g : Setting) (m next : Machine) → Goes g m Checkpoint next → (m.over ≡ true) × (m.jobs ≡ [])

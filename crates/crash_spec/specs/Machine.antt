@@ -1,13 +1,12 @@
 -- The machine over events. A call that is logged takes six: Begin, Fill, Claim, Store, Persist, Finish; every other call
 -- is one, Begin. The machine has the history, the logged calls that are out with their stages, the claims of the lap, and
 -- whether the round is over. It knows nothing of the medium.
-use Rattle.std.specs.Prelude.{◌≡◌, ◌⊎◌, ℕ, ◌+◌, ◌<◌, ◌≤◌, Bool, true, false, not, ◌&&◌, List, [], ◌∷◌, ◌++◌, length, map, find, position, Option, Some, None, is_some, is_none, ◌==◌, slice_get, if◌then◌else◌}
+use Rattle.std.specs.Prelude.{◌≡◌, ◌⊎◌, ℕ, ◌+◌, ◌<◌, ◌≤◌, Bool, true, false, not, ◌&&◌, List, [], ◌∷◌, ◌++◌, length, map, filter, find, Option, Some, None, is_some, is_none, ◌==◌, if◌then◌else◌}
 use Rattle.std.specs.Option.{option_map_or}
 use Rattle.posix_types.specs.declared.call.Call.{Call}
 use Rattle.posix_types.specs.declared.call.Who.{Who}
 use Rattle.posix_types.specs.declared.item.Item.{Item}
 use Rattle.posix_types.specs.Scripts.{Scripts}
-use Rattle.posix_words.specs.Names.{without_place}
 use Rattle.posix_words.specs.Open.{same_who}
 use Rattle.posix_spec.specs.FileRows.{content, truncate_rows}
 use Rattle.posix_words.specs.Outcomes.{first}
@@ -70,8 +69,11 @@ abbrev pub outs : Machine → List Out
 outs m = map (λ job. (job.who, job.node)) m.jobs
 
 -- the calls that had begun and not returned, in the order of their beginning
+abbrev pub begun_of : Job → Begun
+begun_of job = (job.who, job.call)
+
 abbrev pub unfinished_of : Machine → List Begun
-unfinished_of m = map (λ job. (job.who, job.call)) m.jobs
+unfinished_of m = map begun_of m.jobs
 
 -- a caller's call may come: a thread's does once all calls of the set-up have returned
 abbrev pub is_set_up : Setting → Machine → Who → Bool
@@ -117,7 +119,7 @@ abbrev pub with_stage : Machine → Who → Stage → Machine
 with_stage m who stage = record m { jobs = map (moved_on who stage) m.jobs }
 
 abbrev pub without_job : Machine → Who → Machine
-without_job m who = record m { jobs = without_place m.jobs (position (is_of who) m.jobs) }
+without_job m who = record m { jobs = filter (λ job. not (is_of who job)) m.jobs }
 
 -- the caller has a job at this stage
 pub record IsAt (m : Machine) (who : Who) (stage : Stage) (job : Job) : Type 0 where

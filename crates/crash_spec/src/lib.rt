@@ -10,7 +10,7 @@
 //! `posix_spec`, and its facts.
 #![tactic(auto)]
 
-ghost use Rattle.crash_spec.specs.Laws.{HistoryIsPermitted, NoneIsPart, OneMoreIsStrict, OneMoreIsSync, StaysLegal, StrictIsOneTree, StrictIsSync, StrongIsPosix, SyncedIsOneTree, SyncIsOneTree, WholeIsPart};
+ghost use Rattle.crash_spec.specs.Laws.{BusyCallsWait, CheckpointsFindNoJob, ClaimsFit, HistoryIsPermitted, NoneIsPart, OneMoreIsStrict, OneMoreIsSync, OneThreadInOrder, SchedulesFollow, StaysLegal, StrictIsOneTree, StrictIsSync, StrongIsPosix, SyncedIsOneTree, SyncIsOneTree, WholeIsPart};
 
 /// The tree of the history is permitted in each mode, and in strict and sync mode the tree after the
 /// one unfinished call. A legal history stays legal with one more item that is answered.
@@ -34,4 +34,15 @@ pub fn modes_imply_modes()
     ensures whole { WholeIsPart }
     ensures none { NoneIsPart }
     ensures posix { StrongIsPosix }
+{}
+
+/// Every schedule follows the scripts, and one of a single thread that runs to its end has the calls
+/// of its script in their order. A call that has to wait does not begin, a lap has no more claims than
+/// the log has lines, and a Checkpoint finds no call out.
+pub fn schedules_follow_the_scripts()
+    ensures follows { SchedulesFollow }
+    ensures one_thread { OneThreadInOrder }
+    ensures claims { ClaimsFit }
+    ensures busy { BusyCallsWait }
+    ensures checkpoint { CheckpointsFindNoJob }
 {}

@@ -1,0 +1,2 @@
+pub mod FreeCounts
+pub mod TableLists

@@ -1,0 +1,22 @@
+-- Which blocks are free to take.
+use Rattle.std.specs.Prelude.{◌≡◌, ℕ, Bool, true, not, ◌&&◌, length, count_by}
+use Rattle.std.specs.List.{range_with_len}
+use Rattle.block_pool.specs.FreeSets.{FreeSet, is_among, is_free_at}
+use Rattle.disk_places.specs.Places.{data_blocks, first_data}
+use Rattle.volume_uses.specs.Uses.{is_unused}
+use Rattle.k_plans.specs.View.{TablesView}
+
+-- a data block that nothing in the volume names, and that does not wait
+abbrev pub is_free_block : TablesView → ℕ → Bool
+is_free_block t b = is_unused t.volume b && not (is_among t.waiting b)
+
+-- The pool has the data blocks, and just these of them are free. Blocks that wait are unused.
+pub record IsPoolOf (t : TablesView) (pool : FreeSet) : Type 0 where
+  pub first : pool.first ≡ first_data t.volume.geometry
+  pub count : length pool.marks ≡ data_blocks t.volume.geometry
+  pub free : (b : ℕ) → is_free_at pool b ≡ is_free_block t b
+  pub waiting : (b : ℕ) → is_among t.waiting b ≡ true → is_unused t.volume b ≡ true
+
+-- how many blocks are free
+abbrev pub free_blocks : TablesView → ℕ
+free_blocks t = count_by (is_free_block t) (range_with_len (first_data t.volume.geometry) (data_blocks t.volume.geometry))

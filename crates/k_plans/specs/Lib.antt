@@ -1,0 +1,5 @@
+pub mod Free
+pub mod Laws
+pub mod View
+pub mod Whole
+pub mod WholeLaws

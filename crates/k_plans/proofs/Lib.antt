@@ -1,2 +1,7 @@
 pub mod FreeCounts
+pub mod Idles
+pub mod Places
+pub mod Removals
+pub mod Names
 pub mod TableLists
+pub mod Wholes

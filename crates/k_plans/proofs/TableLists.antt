@@ -1,5 +1,5 @@
 -- Chains and maps of a whole volume, list by list, and the pool of its free blocks.
-use Rattle.std.proofs.Common.{◌≡◌, ◌≤◌, ◌+◌, ℕ, true, [], arith}
+use Rattle.std.proofs.Common.{◌≡◌, ℕ, true, [], arith}
 use Rattle.std.proofs.lemmas.List.Elements.{All-from_get_or}
 use Rattle.std.specs.Prelude.{All}
 use Rattle.block_pool.specs.FreeSets.{LiesWithin}

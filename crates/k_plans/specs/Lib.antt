@@ -1,5 +1,9 @@
 pub mod Free
 pub mod Laws
+pub mod Making
+pub mod Plans
+pub mod Removing
+pub mod Spelling
 pub mod View
 pub mod Whole
 pub mod WholeLaws

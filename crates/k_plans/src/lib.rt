@@ -5,6 +5,10 @@
 //! and puts the lines that it sets into a `Batch`; nothing here touches the device.
 #![tactic(auto)]
 
+mod faults;
+mod making;
+mod removing;
 mod tables;
 
-pub use tables::Tables;
+pub use faults::PlanFault;
+pub use tables::{Tables, tables_begin_with_what_is_read};

@@ -21,30 +21,28 @@ use std::marker::Model;
 /// see the volume and the blocks that wait.
 #[derive(Debug, Drop)]
 pub struct Tables {
-    geometry: Geometry,
-    base: u64,
-    inodes: Vec<Inode>,
-    names: NameTable,
-    chains: Vec<Blocks>,
-    maps: Vec<ExtentMap>,
-    pool: Pool,
-    waiting: Vec<u32>,
+    pub(crate) geometry: Geometry,
+    pub(crate) base: u64,
+    pub(crate) inodes: Vec<Inode>,
+    pub(crate) names: NameTable,
+    pub(crate) chains: Vec<Blocks>,
+    pub(crate) maps: Vec<ExtentMap>,
+    pub(crate) pool: Pool,
+    pub(crate) waiting: Vec<u32>,
 }
 
 impl Model for Tables {
     ghost use Rattle.k_plans.specs.View.{TablesView, tables_view};
-    ghost use Rattle.k_plans.specs.Free.{IsPoolOf};
-    ghost use Rattle.k_plans.specs.Whole.{IsWhole};
+    ghost use Rattle.k_plans.specs.Free.{AreTables};
 
     ghost Value = { TablesView };
 
     ghost view = { λ t.
         tables_view t.geometry t.base t.inodes.items t.names t.chains.items t.maps.items t.waiting.items };
 
-    ghost invariant = { λ t. IsWhole
-        (tables_view t.geometry t.base t.inodes.items t.names t.chains.items t.maps.items t.waiting.items).volume
-        × IsPoolOf
-        (tables_view t.geometry t.base t.inodes.items t.names t.chains.items t.maps.items t.waiting.items) t.pool };
+    ghost invariant = { λ t. AreTables
+        (tables_view t.geometry t.base t.inodes.items t.names t.chains.items t.maps.items t.waiting.items)
+        t.pool };
 }
 
 // The inode, where one is in use there.

@@ -1,0 +1,4 @@
+mod ChangeLaws
+mod LandLaws
+mod LookLaws
+mod OpenLaws

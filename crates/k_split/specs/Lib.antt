@@ -1,0 +1,6 @@
+pub mod Answers
+pub mod Faults
+pub mod Landed
+pub mod Looks
+pub mod Names
+pub mod Order

@@ -1,0 +1,26 @@
+//! The landing of a plan on the tables, and a commit of all that gathers.
+ghost use Rattle.std.specs.Prelude.{◌≡◌, []};
+ghost use Rattle.disk_rules.specs.Volume.{Volume};
+ghost use Rattle.pm_words.specs.Powers.{Steps};
+ghost use Rattle.k_split.specs.Landed.{IsPlanned, IsLanded};
+
+use k_journal::{Batch, Commit};
+use k_land::land;
+use k_plans::Tables;
+use pm_lines::{Pm, Power};
+
+// Lands what is planned on the tables.
+pub(crate) fn land_plan(
+    batch: &mut Batch,
+    pm: &mut Pm,
+    tables: &Tables,
+    power: &mut Power,
+) -> Commit
+    requires { (v : Volume) × IsPlanned v tables.now.volume batch.old pm.old }
+    ensures steps { Steps 256 power.old power.new }
+    ensures landed { (v : Volume) → IsPlanned v tables.now.volume batch.old pm.old
+        → IsLanded v tables.now.volume batch.old pm.old pm.new power.old power.new result }
+    ensures no_lines { result ≡ Commit.Done → batch.new ≡ [] }
+{
+    land(batch, pm, tables.geometry(), power)
+}

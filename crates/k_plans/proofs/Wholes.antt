@@ -39,6 +39,12 @@ tables-same t w pool are whole geometry same = record {
   };
 }
 
+-- the same of tables that are known by an equation
+pub after-tables : (t u : TablesView) (w : Volume) (pool : FreeSet) → u ≡ with_volume w t → AreTables t pool → IsWhole w
+    → w.geometry ≡ t.volume.geometry → ((b : ℕ) → owners w b ≡ owners t.volume b) → AreTables u pool
+after-tables t u w pool is are whole geometry same =
+    subst (λ n. AreTables n pool) (sym is) (tables-same t w pool are whole geometry same)
+
 -- lines that turn the volume are a plan
 pub plan-from : (t old new : TablesView) (w : Volume) (b : List Entry) → t ≡ old → new ≡ with_volume w t
     → Turns t.volume.geometry [] t.volume w b → 0 < length b → length b ≤ 4 → IsWhole w → IsPlan old new b

@@ -3,6 +3,7 @@ pub mod Laws
 pub mod Making
 pub mod Plans
 pub mod Removing
+pub mod Renaming
 pub mod Spelling
 pub mod View
 pub mod Whole

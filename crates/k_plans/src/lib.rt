@@ -8,6 +8,7 @@
 mod faults;
 mod making;
 mod removing;
+mod renaming;
 mod tables;
 
 pub use faults::PlanFault;

@@ -1,4 +1,6 @@
+pub mod Drops
 pub mod FreeCounts
+pub mod Gifts
 pub mod Idles
 pub mod Places
 pub mod Removals

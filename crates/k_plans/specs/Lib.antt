@@ -1,4 +1,5 @@
 pub mod Free
+pub mod Giving
 pub mod Laws
 pub mod Making
 pub mod Plans

@@ -5,7 +5,9 @@
 //! and puts the lines that it sets into a `Batch`; nothing here touches the device.
 #![tactic(auto)]
 
+mod dropping;
 mod faults;
+mod giving;
 mod making;
 mod removing;
 mod renaming;

@@ -1,9 +1,11 @@
 -- What stands at a path by the rows of `stat`; and whether an inode has a name: it is not the root, and the root is above
 -- it.
-use Rattle.std.proofs.Common.{◌≡◌, ◌≢◌, ℕ, zero, suc, ◌<◌, Bool, true, false, List, Option, Some, None, Ok, Err, refl, sym, ◌∙◌, ap, subst, arith, inl, inr}
+use Rattle.std.proofs.Common.{◌≡◌, ◌≢◌, ℕ, zero, suc, ◌<◌, Bool, true, false, List, [], ◌∷◌, Option, Some, None, Ok, Err, refl, sym, ◌∙◌, ap, subst, arith, inl, inr}
+use Rattle.std.specs.Prelude.{not}
+use Rattle.std.specs.Option.{option_map_or}
 use Rattle.std.proofs.lemmas.Bool.{cases_lt}
 use Rattle.std.proofs.lemmas.Option.{same_Some}
-use Rattle.disk_lines.specs.Names.{IsBelow, is_child, names_of, row, Rows, up}
+use Rattle.disk_lines.specs.Names.{IsBelow, is_child, names_of, row as row_at, Rows, up}
 use Rattle.disk_lines.specs.TableLaws.{is_child-parts}
 use Rattle.disk_rules.specs.Volume.{Volume}
 use Rattle.volume_facts.specs.Lists.{count_by-some}
@@ -14,14 +16,15 @@ use Rattle.volume_changes.specs.CallLaws.{IsKeptVolume}
 use Rattle.pm_words.specs.declared.Cell.{Cell}
 use Rattle.disk_lines.specs.declared.Inode.{Inode}
 use Rattle.k_plans.specs.View.{TablesView}
-use Rattle.k_rules.specs.Spaces.{space_of, volume_space}
+use Rattle.k_rules.specs.Spaces.{is_directory_in, space_of, volume_space}
 use Rattle.k_rules.specs.View.{View}
+use Rattle.posix_types.specs.declared.item.Outcome.{Outcome}
 use Rattle.posix_types.specs.declared.reply.Errno.{Errno}
 use Rattle.posix_types.specs.declared.reply.Reply.{Reply}
-use Rattle.posix_words.specs.NameRows.{stat_rows}
-use Rattle.posix_words.specs.Names.{node_at_path, Space, too_long, walk}
-use Rattle.posix_words.specs.Outcomes.{answer, first}
-use Rattle.k_split.specs.Looks.{IsFound}
+use Rattle.posix_words.specs.NameRows.{list_rows, stat_rows, too_long_row, walk_row}
+use Rattle.posix_words.specs.Names.{exists_at, file_stands, node_at_path, Space, too_long, walk}
+use Rattle.posix_words.specs.Outcomes.{answer, first, row}
+use Rattle.k_split.specs.Looks.{IsDirectoryFound, IsFound}
 use Rattle.k_split.specs.Order.{view_of}
 
 none-some : (o : Option ℕ) (n : ℕ) → o ≡ None → o ≡ Some n → ⊥
@@ -30,7 +33,7 @@ none-some o n none some = cc
 pub named-below : (v : Volume) (ino : ℕ) → IsKeptVolume v → 0 < names_of v.names ino → (ino ≢ 0) × IsBelow v.names ino 0
 named-below v ino k some =
     let found = count_by-some (is_child ino) v.names None some in
-    let child = is_child-parts ino (row v.names found.0) found.2 in
+    let child = is_child-parts ino (row_at v.names found.0) found.2 in
     let steps = (kept-placed v found.0 child.0 k.kept k.all child.1).steps in
     let above = parent_of-one_name v.names found.0 child.0 (kept-one_name v k.kept k.all child.0.child) child.1 in (
       λ root. omega (arith, some, k.kept.directories.root, ap (names_of v.names) root),
@@ -91,3 +94,47 @@ module _ (k : View) (t : TablesView) (d : List Cell) (batched lost : Bool) (inod
   found-some parent ino short leads some =
       let at = subst (λ s. node_at_path s path ≡ Some ino) space some in
       (some-stat (volume_space k.volume) path parent ino short (subst (λ s. walk s path ≡ Ok parent) space leads) at, at)
+
+-- ---- by the rows of `list`
+
+-- one row more than those of `stat`
+more-row : (a b c d : Option Outcome) (x : Outcome) → first (a ∷ b ∷ c ∷ []) ≡ Some x → first (a ∷ b ∷ c ∷ d ∷ []) ≡ Some x
+more-row (Some a) b c d x is = is
+more-row None (Some b) c d x is = is
+more-row None None (Some c) d x is = is
+more-row None None None d x is = cc
+
+last-row : (a b c d : Option Outcome) → first (a ∷ b ∷ c ∷ []) ≡ None → first (a ∷ b ∷ c ∷ d ∷ []) ≡ d
+last-row (Some a) b c d is = cc
+last-row None (Some b) c d is = cc
+last-row None None (Some c) d is = cc
+last-row None None None None is = refl
+last-row None None None (Some d) is = refl
+
+refused-list : (s : Space) (p : List (List ℕ)) (x : Outcome) → first (stat_rows s p) ≡ Some x → first (list_rows s p) ≡ Some x
+unfolding stat_rows list_rows
+refused-list s p x is =
+    more-row (too_long_row s p) (walk_row s p) (row (not (exists_at s p)) Errno.ENOENT) (row (file_stands s p) Errno.ENOTDIR) x is
+
+file-row : (s : Space) (p : List (List ℕ)) (ino : ℕ) (b : Bool) → node_at_path s p ≡ Some ino → s.directory ino ≡ b
+    → row (file_stands s p) Errno.ENOTDIR ≡ row (not b) Errno.ENOTDIR
+file-row s p ino b at is = ap (λ o. row (option_map_or (λ n. not (s.directory n)) o false) Errno.ENOTDIR) at ∙ ap (λ x. row (not x) Errno.ENOTDIR) is
+
+found-list : (s : Space) (p : List (List ℕ)) (ino : ℕ) (b : Bool) → first (stat_rows s p) ≡ None → node_at_path s p ≡ Some ino → s.directory ino ≡ b
+    → first (list_rows s p) ≡ row (not b) Errno.ENOTDIR
+unfolding stat_rows list_rows
+found-list s p ino b is at directory =
+    last-row (too_long_row s p) (walk_row s p) (row (not (exists_at s p)) Errno.ENOENT) (row (file_stands s p) Errno.ENOTDIR) is
+    ∙ file-row s p ino b at directory
+
+-- what was found, and whether it is a directory
+pub listed-lost : (v : Volume) (path : List (List ℕ)) (errno : Errno) → IsFound v path (Err errno) → IsDirectoryFound v path (Err errno)
+listed-lost v path errno found = refused-list (volume_space v) path (answer (Reply.Error errno)) found
+
+pub listed-directory : (v : Volume) (path : List (List ℕ)) (ino : ℕ) → IsFound v path (Ok ino) → is_directory_in v.inodes ino ≡ true
+    → IsDirectoryFound v path (Ok ino)
+listed-directory v path ino found is = (found-list (volume_space v) path ino true found.0 found.1 is, found.1)
+
+pub listed-file : (v : Volume) (path : List (List ℕ)) (ino : ℕ) → IsFound v path (Ok ino) → is_directory_in v.inodes ino ≡ false
+    → IsDirectoryFound v path (Err Errno.ENOTDIR)
+listed-file v path ino found is = found-list (volume_space v) path ino false found.0 found.1 is

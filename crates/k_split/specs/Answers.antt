@@ -9,6 +9,7 @@ use Rattle.disk_places.specs.Journal.{is_journal_word}
 use Rattle.disk_places.specs.Places.{is_journaled_line}
 use Rattle.disk_rules.specs.Volume.{Volume}
 use Rattle.k_journal.specs.Commits.{TakesAStep}
+use Rattle.k_journal.specs.declared.outcomes.Commit.{Commit}
 use Rattle.k_plans.specs.Whole.{IsWhole}
 use Rattle.k_rules.specs.Stands.{IsOldOrNew}
 use Rattle.k_rules.specs.View.{View}
@@ -57,14 +58,24 @@ IsAnswer {T} refused Makes old new (Err KFault.NoMemory) = new ≡ old
 IsAnswer {T} refused Makes old new (Err KFault.PowerLost) =
     IsOff old new ⊎ ((refused ≡ None) × ((t : T) × (w : Volume) × Makes t w × IsCut w old new))
 
--- What a change takes of the power: a step at least where it is done and has something to do; all that is left exactly
--- where it answers PowerLost; nothing where it is refused.
+-- What a change takes of the power: a step at least where it is done; all that is left exactly where it answers PowerLost;
+-- nothing where it is refused or has nothing to do.
 abbrev pub IsSpared : Supply → Supply → Type 0
 IsSpared old new = (new ≡ old) × (is_on new ≡ true)
 
 abbrev pub IsPaid : {T : Type 0} → Option Outcome → Supply → Supply → Result T KFault → Type 0
-IsPaid refused old new (Ok t) = (is_on new ≡ true) × (refused ≡ None → TakesAStep old new)
+IsPaid refused old new (Ok t) =
+    (is_on new ≡ true) × (refused ≡ None → TakesAStep old new) × (refused ≡ Some (answer Reply.Ok) → new ≡ old)
 IsPaid refused old new (Err (KFault.Refused errno)) = IsSpared old new
 IsPaid refused old new (Err (KFault.Room room)) = IsSpared old new
 IsPaid refused old new (Err KFault.NoMemory) = IsSpared old new
 IsPaid refused old new (Err KFault.PowerLost) = is_on new ≡ false
+
+-- a commit of all that gathers
+abbrev pub IsCommitAnswer : View → View → Commit → Type 0
+IsCommitAnswer old new Commit.Done = (new.volume ≡ old.volume) × IsDone old new
+IsCommitAnswer old new Commit.PowerLost = IsOff old new ⊎ IsCut old.volume old new
+
+abbrev pub IsCommitPaid : Supply → Commit → Type 0
+IsCommitPaid new Commit.Done = is_on new ≡ true
+IsCommitPaid new Commit.PowerLost = is_on new ≡ false

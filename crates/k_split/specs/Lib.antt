@@ -1,4 +1,5 @@
 pub mod Answers
+pub mod Contents
 pub mod Faults
 pub mod Landed
 pub mod Looks

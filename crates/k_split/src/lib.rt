@@ -15,13 +15,17 @@
 #![tactic(auto)]
 
 mod changes;
+mod dropping;
 mod faults;
+mod laws;
 mod looks;
 mod making;
 mod opening;
 mod removing;
+mod renaming;
 mod state;
 
 pub use faults::KFault;
+pub use laws::images_have_the_old_or_the_new_content;
 pub use opening::mkfs;
 pub use state::KSplit;

@@ -27,8 +27,8 @@ returns-in-Done-clause-paid c =
     let on : is_on c.args.power.now ≡ true = sym c.on.ensures ∙ c.if-not-on.false in
     let is : k.lost ≡ false = awake k.tables k.pm k.batched k.lost c.args.self.now c.args.power.now c.self.view_is c.requires.awake on in
     let plan = c.in-Ok.ensures.answer.2 in
-    paid-done c.in-Ok.ino (unlink_row c.args.path.now c.args.self.now) k.tables c.unlink.new.self c.unlink.new.batch k.pm c.land_plan.new.pm c.args.power.now
-    c.land_plan.new.power plan
+    paid-done c.in-Ok.ino (unlink_row c.args.path.now) k.tables c.unlink.new.self c.unlink.new.batch k.pm c.land_plan.new.pm k.batched k.lost c.args.self.now
+    c.args.power.now c.land_plan.new.power c.self.view_is c.in-Ok.ensures.answer.0 plan
     (c.in-Done.ensures.landed k.tables.volume (planned k.tables c.unlink.new.self k.pm k.batched k.lost k.batch c.unlink.new.batch is c.self.invariant plan))
 
 pub returns-in-Done-clause-answer : goal.returns-in-Done-clause-answer

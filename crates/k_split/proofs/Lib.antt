@@ -1,0 +1,5 @@
+mod ChangeLaws
+mod ContentLaws
+mod LandLaws
+mod LookLaws
+mod OpenLaws

@@ -3,7 +3,7 @@ ghost use Rattle.std.specs.Prelude.{◌≡◌, ◌<◌, ◌↔◌, [], length, i
 ghost use Rattle.k_rules.specs.Spaces.{is_free};
 ghost use Rattle.disk_rules.specs.Volume.{extents};
 ghost use Rattle.k_plans.specs.Free.{free_blocks};
-ghost use Rattle.k_plans.specs.Laws.{FreeAreUnused, IsWholeWhereRead};
+ghost use Rattle.k_plans.specs.Laws.{FreeAreUnused, IsBehindStaging, IsWholeWhereRead};
 ghost use Rattle.k_plans.specs.View.{node_at, tables_view};
 ghost use Rattle.k_plans.specs.Whole.{IsWhole};
 
@@ -150,4 +150,9 @@ impl Tables {
 pub fn tables_begin_with_what_is_read()
     ensures whole { IsWholeWhereRead }
     ensures free { FreeAreUnused }
+{}
+
+/// A new node takes none of the inodes 0 to 4, which are never free.
+pub fn nodes_are_made_behind_the_staging_files()
+    ensures { IsBehindStaging }
 {}

@@ -124,6 +124,13 @@ impl Tables {
         used_inode(self.inodes[place])
     }
 
+    /// The maps, inode by inode.
+    pub fn maps(&self) -> &[ExtentMap]
+        ensures { result.now ≡ self.now.volume.maps }
+    {
+        &self.maps
+    }
+
     /// The map of the inode of this number; None exactly past the last line.
     pub fn map(&self, ino: u32) -> Option<&ExtentMap>
         ensures some { IsSome result ↔ (ino < length self.now.volume.inodes) }

@@ -53,7 +53,7 @@ begins v f t shape mode m geometry same is fits = record {
       room = omega arith;
     };
     claims_stand = record { orders = λ a b d e first. absurd first; settled = λ a d first. absurd first };
-    aged = record { small = omega arith; staging = λ d is_in. absurd is_in; taken = λ d is_in. absurd is_in };
+    aged = record { small = omega arith; staging = λ d is_in. absurd is_in; own = λ d is_in. absurd is_in; taken = λ d is_in. absurd is_in };
     shape = has_shape;
     geometry = geometry;
   };

@@ -13,11 +13,12 @@ use Rattle.k_rules.specs.Changes.{made}
 use Rattle.list_facts.specs.Members.{In}
 use Rattle.volume_changes.specs.FrameLaws.{made-inode, made-others}
 
--- Since the lap began so many nodes were made. Each claim of the lap is in a staging file, and of a generation that its line
--- had then or since: it was taken at most so many times after.
+-- Since the lap began so many nodes were made. Each claim of the lap is in a staging file, of an inode that may be a file's, and
+-- of a generation that its line had then or since: it was taken at most so many times after.
 pub record AreAged (v : Volume) (claims : List (ℕ × Draft)) (count : ℕ) : Type 0 where
   pub small : count < 2 ^ 31
   pub staging : (d : Draft) → In d (map (λ (c : ℕ × Draft). c.1) claims) → (inode v d.staging).kind ≡ Staging
+  pub own : (d : Draft) → In d (map (λ (c : ℕ × Draft). c.1) claims) → 5 ≤ d.ino
   pub taken : (d : Draft) → In d (map (λ (c : ℕ × Draft). c.1) claims)
       → (d.generation < 2 ^ 32) × ((m : ℕ) × (m ≤ count) × ((d.generation + m) % 2 ^ 32 ≡ (inode v d.ino).generation))
 
@@ -51,6 +52,7 @@ pub AreAged-same : (v w : Volume) (claims : List (ℕ × Draft)) (count : ℕ) �
 AreAged-same v w claims count same staging aged = record {
   small = aged.small;
   staging = λ d is. staging d.staging (aged.staging d is);
+  own = aged.own;
   taken = λ d is. (let its = aged.taken d is in (its.0, (its.1.0, its.1.1, its.1.2 ∙ sym (same d.ino))));
 }
 
@@ -59,6 +61,7 @@ pub AreAged-made : (kind : Kind) (ino line : ℕ) (r : NameRow) (v : Volume) (cl
 AreAged-made kind ino line r v claims count aged small below free = record {
   small = small;
   staging = λ d is. stays d (aged.staging d is);
+  own = aged.own;
   taken = λ d is. taken d is (cases_eq d.ino ino);
 } where
   stays : (d : Draft) → (inode v d.staging).kind ≡ Staging → (inode (made kind ino line r v) d.staging).kind ≡ Staging

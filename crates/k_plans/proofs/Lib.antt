@@ -1,5 +1,6 @@
 pub mod Drops
 pub mod FreeCounts
+pub mod FreshTables
 pub mod Gifts
 pub mod Idles
 pub mod Places

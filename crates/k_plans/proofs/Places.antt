@@ -1,6 +1,6 @@
 -- A node that is made in a place: the volume stays whole, and its lines are a plan for it.
-use Rattle.std.proofs.Common.{◌≡◌, ◌≢◌, ◌<◌, ◌≤◌, ◌⊎◌, ℕ, Bool, true, false, not, List, [], length, refl, sym, ◌∙◌, ap, inl, inr, arith, subst}
-use Rattle.std.proofs.lemmas.Bool.{and_from, ne_eqb, both_ways}
+use Rattle.std.proofs.Common.{◌≡◌, ◌<◌, ◌≤◌, ◌⊎◌, ℕ, Bool, true, false, not, List, [], length, refl, sym, ◌∙◌, ap, inl, inr, arith, subst}
+use Rattle.std.proofs.lemmas.Bool.{and_from, ne_eqb}
 use Rattle.std.specs.Prelude.{◌==◌, Some, slice_set}
 use Rattle.block_pool.specs.FreeSets.{FreeSet}
 use Rattle.disk_lines.specs.declared.Inode.{Inode}
@@ -8,8 +8,8 @@ use Rattle.disk_lines.specs.declared.Kind.{Kind}
 use Rattle.disk_lines.specs.declared.Kind.TheVariants.{Directory, File}
 use Rattle.disk_lines.specs.Lines.{NameRow, is_name, is_name_row}
 use Rattle.disk_lines.specs.Names.{Rows, is_entry, row}
-use Rattle.disk_rules.specs.Live.{is_directory}
 use Rattle.disk_rules.specs.Reading.{node_set, row_set}
+use Rattle.disk_rules.specs.Rules.{IsKindAt}
 use Rattle.disk_rules.specs.Volume.{Volume, inode}
 use Rattle.k_journal.specs.declared.batches.Entry.{Entry}
 use Rattle.k_land.specs.Plans.{Turns}
@@ -17,7 +17,7 @@ use Rattle.k_rules.specs.Changes.{new_node}
 use Rattle.k_tables.specs.Found.{IsPlace}
 use Rattle.k_tables.specs.declared.making.Place.{Place}
 use Rattle.posix_words.specs.Names.{last_name}
-use Rattle.volume_changes.specs.CallLaws.{may-make, root-directory, row_to}
+use Rattle.volume_changes.specs.CallLaws.{may-make, row_to}
 use Rattle.volume_changes.specs.Changes.{MayMake}
 use Rattle.volume_changes.specs.CountLaws.{made-owners, new_node-fits}
 use Rattle.volume_changes.specs.FoundLaws.{IsLowestFree, free-found, make-keeps}
@@ -50,24 +50,23 @@ pub place-new : (v : Volume) (path : List (List ℕ)) (place : Place) → IsWhol
     → (k : ℕ) → is_entry place.parent (last_name path) (row v.names k) ≡ false
 place-new v path place whole is = (place-may v path place whole is).is_new
 
--- the inode is not that of the root, and has no map
+-- the inode has no map, and is behind those of the staging files
 pub place-bare : (v : Volume) (path : List (List ℕ)) (place : Place) → IsWhole v → IsPlace v.inodes v.names path place
     → IsBare (inode v place.ino)
 place-bare v path place whole is = free-bare v place.ino whole (place-free v path place is).free
 
-place-some : (v : Volume) (path : List (List ℕ)) (place : Place) → IsWhole v → IsPlace v.inodes v.names path place
-    → place.ino ≢ 0
-place-some v path place whole is zero =
-    let root = root-directory v whole.kept in
-    let free : is_directory (inode v 0).kind ≡ false = ap (λ i. is_directory (inode v i).kind) (sym zero) ∙ ap is_directory (place-free v path place is).free in
-    both_ways (is_directory (inode v 0).kind) free root
+pub place-behind : (v : Volume) (path : List (List ℕ)) (place : Place) → IsWhole v → IsPlace v.inodes v.names path place
+    → 5 ≤ place.ino
+place-behind v path place whole is =
+    subst (IsKindAt place.ino) (place-free v path place is).free
+    (whole.kept.kept.kinds place.ino (omega (arith, is.room.ino_within, whole.kept.all.inode_count)))
 
 -- the name may stand in a line
 pub place-row : (v : Volume) (path : List (List ℕ)) (place : Place) → IsWhole v → AreSpelled path
     → IsPlace v.inodes v.names path place → is_name_row (row_to path place.parent place.ino) ≡ true
 place-row v path place whole spelled is =
     and_from (not (place.ino == 0)) (is_name (last_name path))
-    (ap not (ne_eqb place.ino 0 (place-some v path place whole is)))
+    (ap not (ne_eqb place.ino 0 (λ zero. omega (arith, place-behind v path place whole is))))
     (last-fits path spelled is.is_new.directory.below is.is_new.directory.short)
 
 -- and the volume stays whole

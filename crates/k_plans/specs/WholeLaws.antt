@@ -1,4 +1,4 @@
--- A volume that is read is whole, and what is whole stays so where a line changes.
+-- A volume that is read from words, and keeps the rules, is whole.
 use Rattle.std.specs.Prelude.{◌≡◌, ℕ, List, [], All, true}
 use Rattle.std.proofs.Common.{arith, ap, sym, subst, inl, inr}
 use Rattle.std.proofs.lemmas.Bool.{cases_lt}

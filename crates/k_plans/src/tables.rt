@@ -3,7 +3,7 @@ ghost use Rattle.std.specs.Prelude.{◌≡◌, ◌<◌, ◌↔◌, [], length, i
 ghost use Rattle.k_rules.specs.Spaces.{is_free};
 ghost use Rattle.disk_rules.specs.Volume.{extents};
 ghost use Rattle.k_plans.specs.Free.{free_blocks};
-ghost use Rattle.k_plans.specs.Laws.{FreeAreUnused, IsWholeWhereRead};
+ghost use Rattle.k_plans.specs.Laws.{FreeAreUnused, IsBehindStaging, IsWholeWhereRead};
 ghost use Rattle.k_plans.specs.View.{node_at, tables_view};
 ghost use Rattle.k_plans.specs.Whole.{IsWhole};
 
@@ -124,6 +124,13 @@ impl Tables {
         used_inode(self.inodes[place])
     }
 
+    /// The maps, inode by inode.
+    pub fn maps(&self) -> &[ExtentMap]
+        ensures { result.now ≡ self.now.volume.maps }
+    {
+        &self.maps
+    }
+
     /// The map of the inode of this number; None exactly past the last line.
     pub fn map(&self, ino: u32) -> Option<&ExtentMap>
         ensures some { IsSome result ↔ (ino < length self.now.volume.inodes) }
@@ -150,4 +157,9 @@ impl Tables {
 pub fn tables_begin_with_what_is_read()
     ensures whole { IsWholeWhereRead }
     ensures free { FreeAreUnused }
+{}
+
+/// A new node takes none of the inodes 0 to 4, which are never free.
+pub fn nodes_are_made_behind_the_staging_files()
+    ensures { IsBehindStaging }
 {}

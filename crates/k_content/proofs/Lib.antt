@@ -1,4 +1,4 @@
 mod Contents
 mod FileBytes
 mod Listing
-mod Reading
+pub mod Reading

@@ -2,26 +2,30 @@
 use Rattle.std.proofs.Common.{◌≡◌, ℕ, ◌+◌, ◌*◌, ◌/◌, true, false, List, [], Some, sym, ◌∙◌, ap, subst, arith, inl, inr}
 use Rattle.std.proofs.lemmas.Bool.{cases_lt}
 use Rattle.std.proofs.lemmas.List.{get_or_past}
+use Rattle.pm_words.specs.declared.Cell.{Cell}
+use Rattle.pm_words.specs.Cells.{cell, newest}
+use Rattle.pm_words.specs.Images.{words_of}
 use Rattle.pm_words.specs.Words.{Words}
 use Rattle.disk_places.specs.Journal.{is_journal_word, journaled}
 use Rattle.disk_places.specs.PlaceLaws.{behind_log-words, log_line-not_journaled}
 use Rattle.disk_places.specs.Places.{commit_word, Geometry, is_data_block, is_journaled_line}
 use Rattle.extent_words.specs.Extents.{covers}
 use Rattle.disk_lines.specs.declared.Draft.{Draft}
-use Rattle.disk_rules.specs.Content.{disk_of}
+use Rattle.disk_rules.specs.Content.{content, disk_of, found}
 use Rattle.disk_rules.specs.Kept.{AreKept}
 use Rattle.disk_rules.specs.Live.{live_entries}
 use Rattle.disk_rules.specs.Reading.{Reads}
 use Rattle.disk_rules.specs.Rules.{file_blocks_of}
 use Rattle.disk_rules.specs.Volume.{Volume, extents, inode}
 use Rattle.volume_facts.specs.Footprint.{SameData, SameLog}
-use Rattle.volume_facts.specs.FootprintLaws.{content-own, content-read, disk_of-covered}
+use Rattle.volume_facts.specs.FootprintLaws.{content-own, content-read, disk_of-covered, found-same}
 use Rattle.volume_facts.specs.ImageLaws.{journaled-idle, journaled-other}
 use Rattle.volume_facts.specs.LineWords.{data_word, data_word-not_journaled}
 use Rattle.volume_uses.specs.PoolLaws.{covered-in_data}
 use Rattle.k_land.specs.LandingLaws.{idle-image}
-use Rattle.k_rules.specs.Stands.{IsOldOrNew}
+use Rattle.k_rules.specs.Stands.{IsOldOrNew, Stands}
 use Rattle.k_split.specs.Contents.{HasOldOrNew, HaveOldOrNew}
+use Rattle.k_split.proofs.LandLaws.{candidate}
 
 -- a block that a file reads is a data block
 read-in_data : (g : Geometry) (f : Words) (v : Volume) (live : List Draft) (ino block b : ℕ) → Reads g f v → AreKept v
@@ -79,3 +83,26 @@ have-old-or-new g v w old new stands v_kept w_kept follows image is =
       from.1,
       old-or-new g v w from.0 image (idle-image old from.0 stands.idle from.1.is_image) from.2 (stands.reads from.0 from.1.is_image) v_kept w_kept,
     )
+
+-- ---- the content of the device itself
+
+-- What the volume makes of the words of the device is its content, where no entry of the log is live.
+module _ (g : Geometry) (v : Volume) (d : List Cell) (stands : Stands g v d) (kept : AreKept v) where
+  pub reads-words : Reads g (journaled (words_of d)) v
+  reads-words = stands.reads (words_of d) (λ i. candidate (cell d i))
+
+  no_commit : words_of d commit_word ≡ 0
+  no_commit = ap newest stands.idle
+
+  same-as-read : SameData v [] (words_of d) (journaled (words_of d))
+  same-as-read = record {
+    words = λ ino block b j file within at word.
+        let in_data = read-in_data g (journaled (words_of d)) v [] ino block b reads-words kept at in
+        journaled-idle (words_of d) (512 * b + j) no_commit (behind_log-words g (512 * b + j) (data_word g b j in_data word));
+  }
+
+  pub content-words : live_entries v (journaled (words_of d)) ≡ [] → content g (words_of d) ≡ found v [] (words_of d)
+  content-words none =
+      content-own g v (journaled (words_of d)) reads-words
+      ∙ ap (λ live. found v live (journaled (words_of d))) none
+      ∙ found-same v [] (words_of d) (journaled (words_of d)) same-as-read

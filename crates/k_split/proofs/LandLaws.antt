@@ -20,7 +20,7 @@ use Rattle.k_split.specs.Answers.{Changes}
 use Rattle.k_split.specs.Landed.{IsLanded, IsPlanned}
 
 -- a device has an image
-candidate : (c : Cell) → IsCandidate c (newest c)
+pub candidate : (c : Cell) → IsCandidate c (newest c)
 candidate (Single a) = refl
 candidate (Two a b) = inr refl
 candidate (Marked a b) = inr refl

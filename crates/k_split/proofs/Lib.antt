@@ -3,3 +3,4 @@ mod ContentLaws
 mod LandLaws
 mod LookLaws
 mod OpenLaws
+mod TreeLaws

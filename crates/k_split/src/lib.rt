@@ -24,6 +24,7 @@ mod opening;
 mod removing;
 mod renaming;
 mod state;
+mod trees;
 
 pub use faults::KFault;
 pub use laws::images_have_the_old_or_the_new_content;

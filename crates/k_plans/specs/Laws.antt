@@ -22,4 +22,5 @@ FreeAreUnused = (t : TablesView) → t.waiting ≡ [] → free_blocks t ≡ unus
 
 -- the lowest free inode is none of the root's and the staging files', which are never free
 abbrev pub IsBehindStaging : Type 0
-IsBehindStaging = (v : Volume) (path : List (List ℕ)) (place : Place) → IsWhole v → IsPlace v.inodes v.names path place → 5 ≤ place.ino
+IsBehindStaging =
+    (v : Volume) (path : List (List ℕ)) (place : Place) → IsWhole v → IsPlace v.inodes v.names path place → 5 ≤ place.ino

@@ -37,12 +37,11 @@ impl Model for Tables {
 
     ghost Value = { TablesView };
 
-    ghost view = { λ t.
-        tables_view t.geometry t.base t.inodes.items t.names t.chains.items t.maps.items t.waiting.items };
+    ghost view = { λ t. tables_view t.geometry t.base t.inodes.items t.names
+        t.chains.items t.maps.items t.waiting.items };
 
-    ghost invariant = { λ t. AreTables
-        (tables_view t.geometry t.base t.inodes.items t.names t.chains.items t.maps.items t.waiting.items)
-        t.pool };
+    ghost invariant = { λ t. AreTables (tables_view t.geometry t.base t.inodes.items t.names
+        t.chains.items t.maps.items t.waiting.items) t.pool };
 }
 
 // The inode, where one is in use there.

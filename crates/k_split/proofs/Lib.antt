@@ -1,5 +1,6 @@
 mod ChangeLaws
 mod ContentLaws
+mod FreshDevices
 mod LandLaws
 mod LookLaws
 mod OpenLaws

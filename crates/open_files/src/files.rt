@@ -177,6 +177,8 @@ impl OpenFiles {
         ensures description { opened self.now.tables who handle ≡ option_map description_in result }
         ensures key { IfSome result (λ o. description_number self.now.tables.descriptors o.key
             ≡ key_of self.now.tables who handle) }
+        ensures in_use { IfSome result (λ o.
+            IsSome (description_number self.now.tables.descriptors o.key)) }
     {
         match found::find(&self.kept, &self.descriptors, &self.bindings, who, handle) {
             Some(found) => Some(Opened {

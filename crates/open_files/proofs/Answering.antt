@@ -1,26 +1,25 @@
 -- What is kept answers as the tables do.
-use Rattle.std.specs.Prelude.{◌≡◌, ◌≢◌, ◌⊎◌, ℕ, ◌+◌, ◌<◌, ◌≤◌, ◌==◌, Bool, true, false, List, [], ◌∷◌, ◌++◌, length, map, position, is_none, is_some, Any, Option, Some, None, IsSome, get_or, slice_get, slice_set, unwrap_or, refl}
+use Rattle.std.specs.Prelude.{◌≡◌, ℕ, ◌<◌, ◌==◌, Bool, true, false, List, length, position, is_none, is_some, Option, Some, None, get_or, refl}
 use Rattle.std.specs.List.{list_any}
 use Rattle.std.specs.Option.{option_and_then, option_flatten, option_map, option_map_or}
-use Rattle.std.proofs.Common.{ap, ◌∙◌, sym, subst, inl, inr, arith}
-use Rattle.std.proofs.lemmas.Bool.{cases_lt}
+use Rattle.std.proofs.Common.{ap, ◌∙◌, sym, arith}
 use Rattle.std.proofs.lemmas.List.{get_or_default}
 use Rattle.std.proofs.lemmas.List.Folds.{Any-from_list_any, list_any_at}
 use Rattle.posix_types.specs.declared.call.Who.{Who}
 use Rattle.posix_types.specs.declared.handle.Handle.{Handle}
 use Rattle.posix_words.specs.declared.open.Binding.{Binding}
 use Rattle.posix_words.specs.declared.open.Description.{Description}
-use Rattle.posix_words.specs.Open.{binding_of, describes, description_number, free_descriptor, is_full, is_open, key_of, next_descriptor, opened, Tables}
+use Rattle.posix_words.specs.Open.{binding_of, describes, description_number, free_descriptor, is_open, key_of, opened, Tables}
 use Rattle.open_files.specs.declared.found.Found.{Found}
 use Rattle.open_files.specs.declared.kept.Kept.{Kept}
 use Rattle.open_files.specs.declared.kept.Reference.{Reference}
 use Rattle.open_files.specs.Found.{IsFound, NotFound, refers_to_ino}
-use Rattle.open_files.specs.Kept.{description_of, number_of, numbered, tables_of, tabulated}
-use Rattle.open_files.specs.Order.{AreInOrder, description_at, IsBound}
+use Rattle.open_files.specs.Kept.{description_of, number_of, numbered, tables_of}
+use Rattle.open_files.specs.Order.{description_at}
 use Rattle.open_files.specs.State.{AreKept}
-use Rattle.open_files.proofs.Numbers.{KeptAt, numbered_cases, numbered-kept}
-use Rattle.open_files.proofs.OrderLaws.{bound_in_use, none_of}
-use Rattle.open_files.proofs.Places.{flat-get_or, flat-within, free-references, get-tabulated, length-references, length-tabulated, number_at, past-tabulated, some_of}
+use Rattle.open_files.proofs.Numbers.{numbered-kept}
+use Rattle.open_files.proofs.OrderLaws.{bound_in_use}
+use Rattle.open_files.proofs.Places.{flat-get_or, flat-within, free-references, get-tabulated, length-references, length-tabulated, number_at, some_of}
 
 -- the reference behind a number
 reference_of : (o : Option Reference) (n : ℕ) → option_map number_of o ≡ Some n → (r : Reference) × (o ≡ Some r) × (r.number ≡ n)

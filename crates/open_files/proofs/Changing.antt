@@ -1,7 +1,7 @@
 -- What is kept changes as the tables do.
-use Rattle.std.specs.Prelude.{◌≡◌, ◌≢◌, ◌⊎◌, ℕ, ◌+◌, ◌<◌, ◌≤◌, ◌==◌, Bool, true, false, cond, List, [], ◌∷◌, ◌++◌, length, map, position, is_none, is_some, Option, Some, None, IsSome, get_or, slice_get, slice_set, unwrap_or, refl}
+use Rattle.std.specs.Prelude.{◌≡◌, ◌≢◌, ℕ, ◌+◌, ◌<◌, Bool, true, false, cond, List, length, map, position, is_none, Option, Some, None, IsSome, get_or, slice_set, unwrap_or, refl}
 use Rattle.std.specs.List.{list_any}
-use Rattle.std.specs.Option.{option_and_then, option_flatten, option_map, option_map_or}
+use Rattle.std.specs.Option.{option_map}
 use Rattle.std.proofs.Common.{ap, ◌∙◌, sym, subst, inl, inr, arith}
 use Rattle.std.proofs.lemmas.Bool.{cases_eq}
 use Rattle.std.proofs.lemmas.Bool.Decides.{Decides-eqb}
@@ -10,9 +10,8 @@ use Rattle.std.proofs.lemmas.List.Folds.{list_any_at}
 use Rattle.posix_types.specs.declared.call.Who.{Who}
 use Rattle.posix_types.specs.declared.handle.Handle.{Handle}
 use Rattle.posix_words.specs.declared.open.Binding.{Binding}
-use Rattle.posix_words.specs.declared.open.Description.{Description}
 use Rattle.posix_words.specs.Names.{without_place}
-use Rattle.posix_words.specs.Open.{binding_of, closed, description_number, free_descriptor, has_key, is_binding, is_full, next_descriptor, Tables, with_binding, with_descriptor, with_offset, with_opened, without_binding, without_unused}
+use Rattle.posix_words.specs.Open.{binding_of, closed, description_number, has_key, is_binding, is_full, next_descriptor, Tables, with_binding, with_descriptor, with_offset, with_opened, without_binding, without_unused}
 use Rattle.posix_frames.specs.Handles.{closed-is, with_offset-is}
 use Rattle.slab.specs.Slab.{get, Slab, Updates}
 use Rattle.open_files.specs.declared.found.Found.{Found}

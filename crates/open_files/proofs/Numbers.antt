@@ -1,11 +1,10 @@
 -- Descriptions by their numbers: what is kept in the slab, after one slot has changed.
-use Rattle.std.specs.Prelude.{◌≡◌, ◌≢◌, ◌⊎◌, ℕ, zero, suc, ◌+◌, ◌<◌, ◌≤◌, ◌==◌, Bool, true, false, List, [], ◌∷◌, ◌++◌, length, find, Option, Some, None, IsSome, get_or, slice_get, slice_set, refl}
+use Rattle.std.specs.Prelude.{◌≡◌, ◌≢◌, ◌⊎◌, ℕ, zero, suc, ◌+◌, ◌<◌, ◌≤◌, true, false, List, [], ◌∷◌, ◌++◌, find, Option, Some, None, get_or, slice_get, slice_set, refl}
 use Rattle.std.specs.Option.{option_flatten, option_map}
-use Rattle.std.proofs.Common.{ap, ◌∙◌, sym, subst, inl, inr, arith}
+use Rattle.std.proofs.Common.{ap, ◌∙◌, sym, inl, inr, arith}
 use Rattle.std.proofs.lemmas.Bool.{cases_eq}
 use Rattle.std.proofs.lemmas.Bool.Decides.{Decides-eqb}
 use Rattle.list_facts.specs.Members.{find-In, find-none, In-slice_get, slice_get-In}
-use Rattle.posix_words.specs.declared.open.Description.{Description}
 use Rattle.slab.specs.Slab.{get, Slab, Updates}
 use Rattle.open_files.specs.declared.kept.Kept.{Kept}
 use Rattle.open_files.specs.Kept.{description_of, has_number, numbered, tabulated}

@@ -1,26 +1,26 @@
 -- Tables stay in order: after an open, a dup, a moved offset and a close.
-use Rattle.std.specs.Prelude.{◌≡◌, ◌≢◌, ◌⊎◌, ℕ, zero, suc, ◌+◌, ◌<◌, ◌==◌, ◌&&◌, ◌||◌, nat_eq, Bool, true, false, cond, List, [], ◌∷◌, ◌++◌, length, find, position, is_none, is_some, All, AllPairs, Option, Some, None, IsSome, get_or, slice_get, slice_set, unwrap_or, replicate, refl}
-use Rattle.std.specs.List.{list_any, position_or_len}
-use Rattle.std.specs.Option.{option_flatten, option_or}
+use Rattle.std.specs.Prelude.{◌≡◌, ◌≢◌, ℕ, zero, suc, ◌<◌, ◌==◌, ◌&&◌, ◌||◌, nat_eq, Bool, true, false, cond, List, [], ◌∷◌, ◌++◌, length, find, position, is_none, is_some, All, AllPairs, Option, Some, None, IsSome, get_or, slice_get, slice_set, unwrap_or, replicate, refl}
+use Rattle.std.specs.List.{list_any}
+use Rattle.std.specs.Option.{option_flatten}
 use Rattle.std.specs.Cmp.Lexicographic.{bytes_decides, pointwise}
 use Rattle.std.proofs.Common.{ap, ◌∙◌, sym, subst, inl, inr, arith}
 use Rattle.std.proofs.lemmas.Bool.{cases_eq, cases_lt}
 use Rattle.std.proofs.lemmas.Bool.Decides.{Decides-eqb, eqb_tells}
 use Rattle.std.proofs.lemmas.List.{length-replicate, length-set}
 use Rattle.std.proofs.lemmas.List.Elements.{All-from_get_or, All-push, All-weaker}
-use Rattle.std.proofs.lemmas.List.Folds.{find_at, list_any_at}
+use Rattle.std.proofs.lemmas.List.Folds.{list_any_at}
 use Rattle.std.proofs.lemmas.List.Quantifiers.{all_pairs_push}
-use Rattle.std.proofs.lemmas.Option.{get_or_from_slice_get, slice_get_within}
+use Rattle.std.proofs.lemmas.Option.{get_or_from_slice_get}
 use Rattle.list_facts.specs.Members.{slice_get-front, slice_get-last}
 use Rattle.posix_types.specs.declared.call.Who.{Who}
 use Rattle.posix_types.specs.declared.handle.Handle.{Handle}
 use Rattle.posix_words.specs.declared.open.Binding.{Binding}
 use Rattle.posix_words.specs.declared.open.Description.{Description}
 use Rattle.posix_words.specs.Names.{without_place}
-use Rattle.posix_words.specs.Open.{binding_of, closed, description_number, free_descriptor, has_key, is_binding, is_full, key_of, next_descriptor, nothing_open, opened, same_handle, same_who, Tables, with_binding, with_descriptor, with_offset, with_opened, without_binding, without_unused}
+use Rattle.posix_words.specs.Open.{binding_of, closed, description_number, has_key, is_binding, is_full, next_descriptor, nothing_open, same_handle, same_who, Tables, with_binding, with_descriptor, with_offset, with_opened, without_binding, without_unused}
 use Rattle.posix_frames.specs.Handles.{bound_by, closed-is, same_who-is, with_offset-is}
 use Rattle.open_files.specs.Order.{AreApart, AreInOrder, description_at, IsBound}
-use Rattle.open_files.proofs.Places.{All-rest_places, AllPairs-rest_places, first_place, FirstPlace, flat-get_or, flat-set_other, flat-set_same, flat-within, is_some-of, NoPlace, rest_place, some_of}
+use Rattle.open_files.proofs.Places.{All-rest_places, AllPairs-rest_places, first_place, flat-get_or, flat-set_other, flat-set_same, flat-within, is_some-of, rest_place, some_of}
 
 -- ---- bindings are told apart by their callers and handles
 

@@ -1,7 +1,7 @@
 -- Room for one more, and answers by tests.
-use Rattle.std.specs.Prelude.{◌≡◌, ℕ, ◌+◌, ◌<◌, ◌≤◌, ◌-◌, ◌^◌, ◌&&◌, Bool, true, false, not, Result, Ok, Err, IsOk, is_none, Option, Some, None, refl}
-use Rattle.std.specs.Result.{is_err, is_ok}
-use Rattle.std.proofs.Common.{ap, ◌∙◌, sym, arith}
+use Rattle.std.specs.Prelude.{◌≡◌, ℕ, ◌<◌, ◌-◌, ◌^◌, ◌&&◌, Bool, true, false, not, Result, Ok, Err, IsOk, refl}
+use Rattle.std.specs.Result.{is_err}
+use Rattle.std.proofs.Common.{ap, ◌∙◌, sym}
 use Rattle.std.proofs.lemmas.Bool.Decides.{Decides-ltb}
 use Rattle.open_files.specs.State.{room_for_one}
 

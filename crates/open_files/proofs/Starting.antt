@@ -1,10 +1,10 @@
 -- Where nothing is open.
-use Rattle.std.specs.Prelude.{◌≡◌, ℕ, zero, suc, List, [], ◌∷◌, map, replicate, Option, Some, None, get_or, refl}
+use Rattle.std.specs.Prelude.{◌≡◌, ℕ, zero, suc, [], ◌∷◌, map, replicate, Some, None, get_or, refl}
 use Rattle.std.specs.Option.{option_map}
-use Rattle.std.proofs.Common.{ap, sym, subst, ◌∙◌}
+use Rattle.std.proofs.Common.{ap, sym, subst}
 use Rattle.posix_words.specs.Open.{nothing_open}
 use Rattle.open_files.specs.declared.kept.Reference.{Reference}
-use Rattle.open_files.specs.Kept.{number_of, numbered, tables_of, tabulated}
+use Rattle.open_files.specs.Kept.{number_of, tables_of, tabulated}
 use Rattle.open_files.specs.Order.{AreInOrder}
 use Rattle.open_files.specs.State.{AreKept}
 use Rattle.open_files.proofs.OrderLaws.{order-nothing_open}

@@ -1,13 +1,11 @@
 -- The laws of tables that are in order.
-use Rattle.std.specs.Prelude.{◌≡◌, ◌≢◌, ◌⊎◌, ◌↔◌, ℕ, ◌<◌, List, length, is_some, Option, Some, None, IsSome, get_or, slice_get, refl}
+use Rattle.std.specs.Prelude.{◌≡◌, ◌↔◌, ℕ, ◌<◌, Option, Some, None, IsSome, get_or, slice_get, refl}
 use Rattle.std.specs.Option.{option_and_then}
-use Rattle.std.proofs.Common.{ap, ◌∙◌, sym, subst, inl, inr, arith}
-use Rattle.std.proofs.lemmas.Bool.{cases_eq, cases_lt}
+use Rattle.std.proofs.Common.{sym, subst, inl, inr, arith}
+use Rattle.std.proofs.lemmas.Bool.{cases_lt}
 use Rattle.std.proofs.lemmas.Option.{get_or_from_slice_get, slice_get_within}
-use Rattle.posix_types.specs.declared.call.Who.{Who}
-use Rattle.posix_types.specs.declared.handle.Handle.{Handle}
 use Rattle.posix_words.specs.declared.open.Binding.{Binding}
-use Rattle.posix_words.specs.Open.{binding_of, description_number, key_of, opened, Tables}
+use Rattle.posix_words.specs.Open.{binding_of, description_number, key_of, opened}
 use Rattle.open_files.specs.Laws.{BindingsAreApart, KnownHandlesAreOpen}
 use Rattle.open_files.specs.Order.{AreApart, AreInOrder, description_at}
 use Rattle.open_files.proofs.OrderLaws.{bound_in_use}

@@ -1,5 +1,5 @@
 -- Tables in order: what is bound is open, what is open has a descriptor, and nothing is bound twice.
-use Rattle.std.specs.Prelude.{◌≡◌, ◌≢◌, ℕ, List, length, All, AllPairs, Option, Some, None, IsSome, slice_get}
+use Rattle.std.specs.Prelude.{◌≡◌, ◌≢◌, ℕ, length, All, AllPairs, Option, Some, IsSome, slice_get}
 use Rattle.std.specs.Option.{option_flatten}
 use Rattle.posix_words.specs.declared.open.Description.{Description}
 use Rattle.posix_words.specs.declared.open.Binding.{Binding}

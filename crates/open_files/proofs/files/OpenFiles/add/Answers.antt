@@ -1,4 +1,4 @@
-use Rattle.std.proofs.Common.{◌≡◌, ◌<◌, ℕ, Some, true, ap, ◌∙◌, sym, refl, arith}
+use Rattle.std.proofs.Common.{◌≡◌, Some, ap, ◌∙◌, sym, refl, arith}
 use Rattle.std.specs.Prelude.{is_none, position}
 use Rattle.std.specs.Vec.{vec_capacity, vec_len}
 use Rattle.slab.specs.Slab.{slab_len}

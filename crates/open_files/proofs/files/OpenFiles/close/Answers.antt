@@ -1,4 +1,4 @@
-use Rattle.std.proofs.Common.{◌≡◌, ℕ, Some, None, false, true, ap, ◌∙◌, sym}
+use Rattle.std.proofs.Common.{ap, sym}
 use Rattle.std.specs.Option.{option_map}
 use Rattle.posix_words.specs.declared.open.Description.{Description}
 use Rattle.open_files.specs.Found.{IsFound, NotFound}

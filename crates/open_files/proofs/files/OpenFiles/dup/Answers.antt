@@ -1,11 +1,10 @@
-use Rattle.std.proofs.Common.{◌≡◌, ◌+◌, ◌≤◌, ℕ, Some, None, false, true, Option, ap, ◌∙◌, sym, refl, arith}
+use Rattle.std.proofs.Common.{◌≡◌, ℕ, Some, None, Option, ap, ◌∙◌, sym, refl, arith}
 use Rattle.std.specs.Prelude.{is_none, position, unwrap_or}
 use Rattle.std.specs.Vec.{vec_capacity, vec_len}
 use Rattle.slab.specs.Slab.{slab_len}
-use Rattle.posix_words.specs.Open.{free_descriptor, with_descriptor}
+use Rattle.posix_words.specs.Open.{with_descriptor}
 use Rattle.open_files.specs.Found.{IsFound, NotFound}
-use Rattle.open_files.specs.Kept.{description_of, tables_of}
-use Rattle.open_files.specs.State.{OpenState}
+use Rattle.open_files.specs.Kept.{tables_of}
 use Rattle.open_files.proofs.Answering.{free_is, key-found, opened-found, opened-not_found}
 use Rattle.open_files.proofs.Changing.{kept-doubled, tables-doubled}
 use Rattle.open_files.proofs.Places.{is_some-of}

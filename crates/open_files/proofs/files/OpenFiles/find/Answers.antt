@@ -1,4 +1,4 @@
-use Rattle.std.proofs.Common.{◌≡◌, ◌∙◌, sym}
+use Rattle.std.proofs.Common.{◌∙◌, sym}
 use Rattle.open_files.specs.Found.{IsFound, NotFound}
 use Rattle.open_files.proofs.Answering.{key-found, opened-found, opened-not_found}
 use Rattle.open_files.proofs.Places.{is_some-of}

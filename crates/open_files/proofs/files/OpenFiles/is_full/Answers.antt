@@ -1,4 +1,4 @@
-use Rattle.std.proofs.Common.{◌≡◌, ℕ, Bool, Option, ap, ◌∙◌, sym}
+use Rattle.std.proofs.Common.{◌≡◌, ℕ, Option, ap, sym}
 use Rattle.std.specs.Prelude.{is_none, is_some}
 use Rattle.open_files.proofs.Answering.{free_is}
 use Rattle.open_files.proofs.Rooms.{turned}

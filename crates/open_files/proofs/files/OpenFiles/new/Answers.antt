@@ -1,4 +1,3 @@
-use Rattle.std.proofs.Common.{◌≡◌, ℕ, None, [], replicate, sym, ◌∙◌, subst}
 use Rattle.open_files.proofs.Starting.{kept-nothing, tables-nothing}
 use Rattle.open_files.proofs.files.OpenFiles.new.Goals as goal
 

@@ -1,7 +1,6 @@
-use Rattle.std.proofs.Common.{◌≡◌, ℕ, Some, None, false, true, Option, ap, ◌∙◌, sym, refl}
+use Rattle.std.proofs.Common.{◌≡◌, ℕ, Some, None, Option, ap, ◌∙◌, sym, refl}
 use Rattle.std.specs.Prelude.{is_none, position}
-use Rattle.std.specs.Result.{is_err}
-use Rattle.posix_words.specs.Open.{free_descriptor, is_full, Tables}
+use Rattle.posix_words.specs.Open.{free_descriptor, Tables}
 use Rattle.open_files.specs.State.{OpenState}
 use Rattle.open_files.proofs.Answering.{free_is}
 use Rattle.open_files.proofs.Rooms.{not_true, ok_not_err}

@@ -1,7 +1,7 @@
-use Rattle.std.proofs.Common.{◌≡◌, true, ◌∙◌, ap, arith}
+use Rattle.std.proofs.Common.{◌∙◌, ap, arith}
 use Rattle.std.specs.Vec.{vec_capacity, vec_len}
 use Rattle.slab.specs.Slab.{slab_len}
-use Rattle.open_files.specs.State.{OpenState, room_for_one}
+use Rattle.open_files.specs.State.{OpenState}
 use Rattle.open_files.proofs.Rooms.{parts-room, room-parts}
 use Rattle.open_files.proofs.files.OpenFiles.reserve.Goals as goal
 

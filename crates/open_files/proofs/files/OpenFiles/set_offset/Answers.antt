@@ -2,9 +2,8 @@ use Rattle.std.proofs.Common.{◌≡◌, ℕ, Some, ap, ◌∙◌, sym}
 use Rattle.std.specs.Prelude.{get_or, unwrap_or, None, Option}
 use Rattle.std.specs.Option.{option_map}
 use Rattle.slab.specs.Slab.{get}
-use Rattle.posix_words.specs.Open.{description_number, with_offset}
+use Rattle.posix_words.specs.Open.{with_offset}
 use Rattle.open_files.specs.Kept.{number_of, tables_of}
-use Rattle.open_files.specs.State.{OpenState}
 use Rattle.open_files.proofs.Answering.{same_kept}
 use Rattle.open_files.proofs.Changing.{kept-moved, tables-moved}
 use Rattle.open_files.proofs.Places.{number_at}

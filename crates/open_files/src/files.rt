@@ -124,6 +124,7 @@ impl OpenFiles {
             (record { node = ino; offset = 0; flags = flags })) }
         ensures cause { IfErr result (λ fault. IsOpenFault self.old fault) }
         ensures err { OnErr result (self.new.tables ≡ self.old.tables) }
+        ensures room { OnErr result (self.old.has_room ≡ true → self.new.has_room ≡ true) }
     {
         let Some(descriptor) = first_free(&self.descriptors) else {
             return Err(OpenFault::Full {
@@ -147,6 +148,7 @@ impl OpenFiles {
             (unwrap_or (key_of self.old.tables who old) 0)) }
         ensures cause { IfErr result (λ fault. IsDupFault self.old who old fault) }
         ensures err { OnErr result (self.new.tables ≡ self.old.tables) }
+        ensures room { OnErr result (self.old.has_room ≡ true → self.new.has_room ≡ true) }
     {
         let Some(found) = found::find(&self.kept, &self.descriptors, &self.bindings, who, old)
         else {
@@ -235,6 +237,7 @@ impl OpenFiles {
         ensures ino { result
             ≡ option_map (λ (d : Description). d.node) (opened self.old.tables who handle) }
         ensures tables { self.new.tables ≡ closed self.old.tables who handle }
+        ensures room { self.old.has_room ≡ true → self.new.has_room ≡ true }
     {
         let Some(found) = found::find(&self.kept, &self.descriptors, &self.bindings, who, handle)
         else {

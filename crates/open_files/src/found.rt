@@ -1,5 +1,5 @@
 //! Look-ups in what is kept.
-ghost use Rattle.std.specs.Prelude.{◌≡◌, ◌≢◌, ◌+◌, ◌<◌, None, Some, true, false, ℕ, IfSome, IfNone, get_or, length, MatchOption};
+ghost use Rattle.std.specs.Prelude.{◌≡◌, ◌≢◌, ◌+◌, ◌<◌, ◌≤◌, None, Some, true, false, ℕ, IfSome, IfNone, get_or, length, MatchOption};
 ghost use Rattle.std.specs.List.{list_any};
 ghost use Rattle.slab.specs.Slab.{get, slab_len, Updates};
 ghost use Rattle.open_files.specs.Found.{refers_to_ino, IsFound, NotFound};
@@ -92,6 +92,8 @@ pub fn drop_unused(kept: &mut Slab<Kept>, descriptors: &[Option<Reference>], ref
         → kept.new ≡ kept.old }
     ensures unused { list_any (refers_to reference.number) descriptors.now ≡ false
         → Updates kept.old kept.new reference.key None }
+    ensures len { slab_len kept.new ≤ slab_len kept.old }
+    ensures capacity { kept.new.capacity ≡ kept.old.capacity }
 {
     if is_used(descriptors, reference.number) {
         return;

@@ -57,8 +57,10 @@ pub fn binding_of(handles: &[Binding], who: Who, handle: Handle) -> Option<Bindi
 
 /// Takes a binding away.
 pub fn drop_binding(handles: &mut Vec<Binding>, who: Who, handle: Handle)
-    ensures { handles.new.items
+    ensures items { handles.new.items
         ≡ without_place handles.old.items (position (is_binding who handle) handles.old.items) }
+    ensures len { vec_len handles.new ≤ vec_len handles.old }
+    ensures capacity { vec_capacity handles.new ≡ vec_capacity handles.old }
 {
     if let Some(place) = place_of(handles, who, handle) {
         handles.remove(place);

@@ -1,5 +1,5 @@
 -- What the images of a running world show: the parts that stand whatever is in the log lines, and the log.
-use Rattle.std.specs.Prelude.{◌≡◌, ◌<◌, ℕ, ◌*◌, List, [], ◌++◌, Option}
+use Rattle.std.specs.Prelude.{◌≡◌, ◌<◌, ℕ, ◌*◌, List, [], ◌++◌, Option, None}
 use Rattle.pm_words.specs.declared.Cell.{Cell}
 use Rattle.pm_words.specs.Images.{Follows, IsImage}
 use Rattle.pm_words.specs.Words.{Words}
@@ -7,6 +7,7 @@ use Rattle.disk_places.specs.Journal.{journaled}
 use Rattle.disk_places.specs.Places.{data_blocks, Geometry}
 use Rattle.disk_lines.specs.declared.Draft.{Draft}
 use Rattle.disk_rules.specs.Checked.{HasHead}
+use Rattle.disk_rules.specs.Live.{entry_in}
 use Rattle.disk_rules.specs.Reading.{Reads}
 use Rattle.disk_rules.specs.Rules.{geometry_of, IsOfNoLater}
 use Rattle.disk_rules.specs.Volume.{Volume}
@@ -53,6 +54,10 @@ pub record ShowsWorld (v : Volume) (claims : List (ℕ × Draft)) (jobs : List J
 -- The log lines are at home: each image shows the claims.
 abbrev pub HasLogHome : Volume → List Cell → List (ℕ × Draft) → Type 0
 HasLogHome v d claims = (image : Words) → IsImage d image → ShowsLog v claims (journaled image)
+
+-- no line of the log is an entry of this lap
+abbrev pub HasNoEntry : Volume → Words → Type 0
+HasNoEntry v f = (slot : ℕ) → slot < v.geometry.log → entry_in v f slot ≡ None
 
 -- THE WORLD RUNS, with its log lines at home and no write in flight.
 pub record IsRunning (v : Volume) (d : List Cell) (claims : List (ℕ × Draft)) (numbers : List ℕ) (s : State) (count : ℕ) : Type 0 where

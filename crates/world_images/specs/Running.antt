@@ -1,6 +1,6 @@
 -- A running world, its promise, and what a change of its volume makes of it, done or cut off.
 use Rattle.std.specs.Prelude.{◌≡◌, ◌≢◌, ◌⊎◌, ℕ, true, List, [], ◌∷◌, refl}
-use Rattle.std.proofs.Common.{append-nil, sym, subst, inl, inr}
+use Rattle.std.proofs.Common.{ap, append-nil, ◌∙◌, sym, subst, inl, inr}
 use Rattle.pm_words.specs.declared.Cell.{Cell}
 use Rattle.pm_words.specs.Images.{ComesFrom, IsImage}
 use Rattle.pm_words.specs.Words.{Words}
@@ -24,7 +24,7 @@ use Rattle.world_rules.specs.Shown.{SameButLent}
 use Rattle.world_images.specs.Changed.{headed_changed, IsWorld-words, same_data, SameLog-changed, ShowsLog-same, sound_headed}
 use Rattle.world_images.specs.Images.{HasRoom, IsChange, IsHeaded, IsRunning, ShowsLog, ShowsWorld}
 use Rattle.world_images.specs.Kept.{kept_one}
-use Rattle.world_images.specs.Laws.{ChangesDevice, IsTreeOf, KeepsLogHome, KeepsPromiseInChange, KeepsPromiseOfCall, RunsOn, RunsPromised, Takes}
+use Rattle.world_images.specs.Laws.{ChangesDevice, IsTreeOf, KeepsLogHome, KeepsPromiseInChange, KeepsPromiseOfCall, RunsOn, RunsPromised, StaysRunning, Takes}
 use Rattle.world_images.specs.Promised.{IsKept}
 
 -- each image of a running world shows it
@@ -77,6 +77,18 @@ pub runs_on : RunsOn
 runs_on v w d e claims numbers after s new count later running change stands room takes = record {
   device = changes_device v w d e claims [] numbers after s new count later running.device change stands room takes;
   log = keeps_log_home v w d e claims running.device.headed change running.log;
+}
+
+-- a call that leaves the device as it is
+pub stays_running : StaysRunning
+stays_running v d claims numbers after s new count later running shape takes = record {
+  device = record {
+    stands = running.device.stands;
+    headed = running.device.headed;
+    world = λ image is. takes (journaled image) (running.device.world image is);
+    room = record { free = running.device.room.free; blocks = ap (λ x. x.data_blocks) shape ∙ running.device.room.blocks };
+  };
+  log = running.log;
 }
 
 -- ---- a change that is cut off

@@ -9,7 +9,7 @@
 //! Stands on `world_promise`, `world_log`, `world_names` and `image_facts`.
 #![tactic(auto)]
 
-ghost use Rattle.world_images.specs.Laws.{ChangesDevice, KeepsLogHome, KeepsPromiseInChange, KeepsPromiseOfCall, KeepsStrictImage, KeepsSyncImage, MayBeLostLast, RunsOn, RunsPromised};
+ghost use Rattle.world_images.specs.Laws.{BeginsRunning, ChangesDevice, HasSetting, HasTreeOfClose, HasTreeOfRename, HasTreeOfUnlink, KeepsLogHome, KeepsPromiseInChange, KeepsPromiseOfCall, KeepsRoomDropped, KeepsRoomMade, KeepsRoomRemoved, KeepsRoomRenamed, KeepsRoomRenamedOverDirectory, KeepsRoomRenamedOverFile, KeepsRoomUnnamed, KeepsSettings, KeepsStrictImage, KeepsSyncImage, MayBeLostLast, RunsOn, RunsPromised, StaysRunning};
 
 /// A device on which the World runs keeps the promise, and so does each image that shows the World with
 /// writes in flight.
@@ -25,10 +25,36 @@ pub fn a_change_is_done()
     ensures device { ChangesDevice }
     ensures log { KeepsLogHome }
     ensures running { RunsOn }
+    ensures idle { StaysRunning }
 {}
 
 /// A change of the volume that is cut off keeps the promise.
 pub fn a_change_is_cut_off()
     ensures trees { KeepsPromiseInChange }
     ensures call { KeepsPromiseOfCall }
+{}
+
+/// The trees between two changes of one call are that of the call's end, or that before it.
+pub fn a_node_without_a_name_is_in_no_tree()
+    ensures unlink { HasTreeOfUnlink }
+    ensures rename { HasTreeOfRename }
+    ensures close { HasTreeOfClose }
+{}
+
+/// Changes of names and nodes leave free blocks enough, and no call changes shape or mode.
+pub fn the_room_is_kept()
+    ensures made { KeepsRoomMade }
+    ensures unnamed { KeepsRoomUnnamed }
+    ensures renamed { KeepsRoomRenamed }
+    ensures over_file { KeepsRoomRenamedOverFile }
+    ensures removed { KeepsRoomRemoved }
+    ensures over_directory { KeepsRoomRenamedOverDirectory }
+    ensures dropped { KeepsRoomDropped }
+    ensures settings { KeepsSettings }
+{}
+
+/// The World runs on a mounted device.
+pub fn a_mounted_device_runs()
+    ensures setting { HasSetting }
+    ensures running { BeginsRunning }
 {}

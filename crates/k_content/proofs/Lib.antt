@@ -1,0 +1,4 @@
+mod Contents
+mod FileBytes
+mod Listing
+pub mod Reading

@@ -1,0 +1,11 @@
+pub mod Drops
+pub mod FreeCounts
+pub mod FreshTables
+pub mod Gifts
+pub mod Idles
+pub mod Places
+pub mod Removals
+pub mod Renames
+pub mod Names
+pub mod TableLists
+pub mod Wholes

@@ -1,0 +1,125 @@
+-- A name that goes: the volume stays whole, and its lines are a plan for it.
+use Rattle.std.proofs.Common.{◌≡◌, ◌<◌, ◌≤◌, ℕ, List, [], length, refl, sym, ◌∙◌, ap, inl, arith, subst}
+use Rattle.std.specs.Prelude.{None, slice_set}
+use Rattle.block_pool.specs.FreeSets.{FreeSet}
+use Rattle.disk_lines.specs.declared.Inode.{Inode}
+use Rattle.disk_lines.specs.Names.{Rows}
+use Rattle.disk_rules.specs.Reading.{node_set, row_set}
+use Rattle.disk_rules.specs.Volume.{Volume, inode}
+use Rattle.k_journal.specs.declared.batches.Entry.{Entry as Line}
+use Rattle.k_land.specs.Plans.{Turns}
+use Rattle.k_rules.specs.Changes.{gone_node, removed, unnamed}
+use Rattle.k_tables.specs.Found.{IsDirectoryAt, IsFileAt}
+use Rattle.k_tables.specs.declared.removing.Entry.{Entry}
+use Rattle.name_facts.specs.KeptLaws.{node-below}
+use Rattle.volume_changes.specs.CountLaws.{gone_node-fits, removed-owners, unnamed-owners}
+use Rattle.volume_changes.specs.FoundLaws.{rmdir-keeps, unlink-keeps}
+use Rattle.volume_changes.specs.LineLaws.{lines-node, lines-row, maps-node, maps-row}
+use Rattle.k_plans.specs.Free.{AreTables}
+use Rattle.k_plans.specs.Plans.{IsPlan}
+use Rattle.k_plans.specs.View.{TablesView, with_volume}
+use Rattle.k_plans.specs.Whole.{IsWhole}
+use Rattle.k_plans.proofs.Wholes.{IsBare, directory-bare, inodes-set, plan-from, tables-same}
+
+-- ---- the name of a file
+
+unnamed-whole : (path : List (List ℕ)) (entry : Entry) (v : Volume) → IsWhole v → IsFileAt v.inodes v.names path entry
+    → IsWhole (unnamed entry.line v)
+unnamed-whole path entry v whole is = record {
+  kept = record {
+    kept = unlink-keeps v path entry.parent entry.line entry.child whole.kept is.is_entry.line is.is_file;
+    all = lines-row entry.line None v whole.kept.all;
+    geometry = whole.kept.geometry;
+  };
+  maps = maps-row entry.line None v whole.maps;
+  inodes = whole.inodes;
+  chains = whole.chains;
+}
+
+-- the names are those without the name
+pub record Unnames (path : List (List ℕ)) (entry : Entry) (t : TablesView) (names : Rows) : Type 0 where
+  pub is_file : IsFileAt t.volume.inodes t.volume.names path entry
+  pub names_is : names ≡ slice_set t.volume.names entry.line None
+
+abbrev pub named_by : Rows → TablesView → TablesView
+named_by names t = with_volume (record t.volume { names = names }) t
+
+unnames-is : (path : List (List ℕ)) (entry : Entry) (t : TablesView) (names : Rows) → Unnames path entry t names
+    → named_by names t ≡ with_volume (unnamed entry.line t.volume) t
+unnames-is path entry t names u = ap (λ (rows : Rows). named_by rows t) u.names_is
+
+pub unnames-tables : (path : List (List ℕ)) (entry : Entry) (t : TablesView) (names : Rows) (pool : FreeSet) → AreTables t pool
+    → Unnames path entry t names → AreTables (named_by names t) pool
+unnames-tables path entry t names pool are u =
+    subst (λ n. AreTables n pool) (sym (unnames-is path entry t names u))
+    (tables-same t (unnamed entry.line t.volume) pool are (unnamed-whole path entry t.volume are.whole u.is_file) refl
+    (unnamed-owners entry.line t.volume))
+
+pub unnames-plan : (path : List (List ℕ)) (entry : Entry) (t old : TablesView) (names : Rows) (b : List Line) → t ≡ old
+    → IsWhole t.volume → Unnames path entry t names
+    → Turns t.volume.geometry [] t.volume (row_set entry.line None t.volume) b → 0 < length b → length b ≤ 1
+    → IsPlan old (named_by names t) b
+unnames-plan path entry t old names b same whole u turns some most =
+    plan-from t old (named_by names t) (unnamed entry.line t.volume) b same (unnames-is path entry t names u) turns some (omega arith)
+    (unnamed-whole path entry t.volume whole u.is_file)
+
+-- ---- a directory with its name
+
+-- its inode is one of the table, and has no map
+pub removed-below : (path : List (List ℕ)) (entry : Entry) (v : Volume) → IsDirectoryAt v.inodes v.names path entry
+    → entry.child < length v.inodes
+removed-below path entry v is = node-below v entry.child (inl is.is_directory)
+
+pub removed-bare : (path : List (List ℕ)) (entry : Entry) (v : Volume) → IsWhole v → IsDirectoryAt v.inodes v.names path entry
+    → IsBare (inode v entry.child)
+removed-bare path entry v whole is = directory-bare v entry.child whole is.is_directory
+
+removed-whole : (path : List (List ℕ)) (entry : Entry) (v : Volume) → IsWhole v → IsDirectoryAt v.inodes v.names path entry
+    → IsWhole (removed entry.line entry.child v)
+removed-whole path entry v whole is = record {
+  kept = record {
+    kept = rmdir-keeps v path entry.parent entry.line entry.child whole.kept is.is_entry.line is.is_directory is.is_empty;
+    all = lines-row entry.line None (node_set entry.child gone v) (lines-node entry.child gone v whole.kept.all);
+    geometry = whole.kept.geometry;
+  };
+  maps = maps-row entry.line None (node_set entry.child gone v) (maps-node entry.child gone v whole.maps);
+  inodes = inodes-set v entry.child gone (removed-below path entry v is) (gone_node-fits (inode v entry.child)) whole.inodes;
+  chains = whole.chains;
+}
+  where
+    gone : Inode
+    gone = gone_node (inode v entry.child)
+
+-- the inode and the names are those without the directory
+pub record Removes (path : List (List ℕ)) (entry : Entry) (t : TablesView) (gone : Inode) (names : Rows) : Type 0 where
+  pub is_directory : IsDirectoryAt t.volume.inodes t.volume.names path entry
+  pub gone_is : gone ≡ gone_node (inode t.volume entry.child)
+  pub names_is : names ≡ slice_set t.volume.names entry.line None
+
+abbrev pub without_node : ℕ → Inode → Rows → TablesView → TablesView
+without_node ino gone names t = with_volume (record (node_set ino gone t.volume) { names = names }) t
+
+removes-is : (path : List (List ℕ)) (entry : Entry) (t : TablesView) (gone : Inode) (names : Rows) → Removes path entry t gone names
+    → without_node entry.child gone names t ≡ with_volume (removed entry.line entry.child t.volume) t
+removes-is path entry t gone names r = λ i. without_node entry.child (r.gone_is i) (r.names_is i) t
+
+pub removes-tables : (path : List (List ℕ)) (entry : Entry) (t : TablesView) (gone : Inode) (names : Rows) (pool : FreeSet) → AreTables t pool
+    → Removes path entry t gone names → AreTables (without_node entry.child gone names t) pool
+removes-tables path entry t gone names pool are r =
+    subst (λ n. AreTables n pool) (sym (removes-is path entry t gone names r))
+    (tables-same t (removed entry.line entry.child t.volume) pool are (removed-whole path entry t.volume are.whole r.is_directory) refl
+    (removed-owners entry.line entry.child t.volume))
+
+pub removes-plan : (path : List (List ℕ)) (entry : Entry) (t old : TablesView) (gone : Inode) (names : Rows) (b : List Line) → t ≡ old
+    → IsWhole t.volume → Removes path entry t gone names
+    → (gone.root ≡ (inode t.volume entry.child).root → gone.extents ≡ (inode t.volume entry.child).extents
+    → Turns t.volume.geometry [] t.volume (row_set entry.line None (node_set entry.child gone t.volume)) b)
+    → 0 < length b → length b ≤ 2 → IsPlan old (without_node entry.child gone names t) b
+removes-plan path entry t old gone names b same whole r turns some most =
+    let v = t.volume in
+    let none = removed-bare path entry v whole r.is_directory in
+    plan-from t old (without_node entry.child gone names t) (removed entry.line entry.child v) b same
+    (removes-is path entry t gone names r)
+    (subst (λ (x : Inode). Turns v.geometry [] v (row_set entry.line None (node_set entry.child x v)) b) r.gone_is
+    (turns (ap (λ (x : Inode). x.root) r.gone_is ∙ sym none.root) (ap (λ (x : Inode). x.extents) r.gone_is ∙ sym none.extents)))
+    some (omega arith) (removed-whole path entry v whole r.is_directory)

@@ -1,0 +1,86 @@
+-- What tables keep, through a change of lines.
+use Rattle.std.proofs.Common.{◌≡◌, ◌<◌, ◌⊎◌, ℕ, true, false, List, [], length, refl, sym, ◌∙◌, ap, inl, inr, arith, subst, ◌≤◌}
+use Rattle.std.proofs.lemmas.Bool.{cases_eq}
+use Rattle.std.proofs.lemmas.Bool.Decides.{nat_tests}
+use Rattle.std.specs.Prelude.{◌==◌, ◌&&◌, not}
+use Rattle.block_pool.specs.FreeSets.{FreeSet, is_among}
+use Rattle.disk_lines.specs.declared.Inode.{Inode}
+use Rattle.disk_lines.specs.declared.Kind.{Kind}
+use Rattle.disk_lines.specs.declared.Kind.TheVariants.{Free, Directory, File, Staging}
+use Rattle.disk_lines.specs.Lines.{is_inode, is_inode_of_kind}
+use Rattle.disk_places.specs.Places.{is_data_block, first_data, data_blocks}
+use Rattle.disk_rules.specs.Live.{is_directory}
+use Rattle.disk_rules.specs.Reading.{node_set}
+use Rattle.disk_rules.specs.Room.{has_none}
+use Rattle.disk_rules.specs.Uses.{owners}
+use Rattle.disk_rules.specs.Volume.{Volume, inode}
+use Rattle.k_journal.specs.declared.batches.Entry.{Entry}
+use Rattle.k_land.specs.Plans.{Turns}
+use Rattle.volume_facts.specs.Changes.{inode-set_same, inode-set_other}
+use Rattle.volume_uses.specs.Uses.{is_unused}
+use Rattle.k_plans.specs.Free.{AreTables}
+use Rattle.k_plans.specs.Plans.{IsPlan}
+use Rattle.k_plans.specs.View.{TablesView, with_volume}
+use Rattle.k_plans.specs.Whole.{IsWhole}
+
+-- a volume that uses the same blocks has the same pool
+unused-same : (v w : Volume) (b : ℕ) → w.geometry ≡ v.geometry → owners w b ≡ owners v b → is_unused w b ≡ is_unused v b
+unused-same v w b geometry same = λ i. is_data_block (geometry i) b && has_none (same i)
+
+pub tables-same : (t : TablesView) (w : Volume) (pool : FreeSet) → AreTables t pool → IsWhole w
+    → w.geometry ≡ t.volume.geometry → ((b : ℕ) → owners w b ≡ owners t.volume b) → AreTables (with_volume w t) pool
+tables-same t w pool are whole geometry same = record {
+  whole = whole;
+  pool_is = record {
+    first = are.pool_is.first ∙ ap first_data (sym geometry);
+    count = are.pool_is.count ∙ ap data_blocks (sym geometry);
+    free = λ b. are.pool_is.free b ∙ ap (λ u. u && not (is_among t.waiting b)) (sym (unused-same t.volume w b geometry (same b)));
+    waiting = λ b waits. unused-same t.volume w b geometry (same b) ∙ are.pool_is.waiting b waits;
+  };
+}
+
+-- the same of tables that are known by an equation
+pub after-tables : (t u : TablesView) (w : Volume) (pool : FreeSet) → u ≡ with_volume w t → AreTables t pool → IsWhole w
+    → w.geometry ≡ t.volume.geometry → ((b : ℕ) → owners w b ≡ owners t.volume b) → AreTables u pool
+after-tables t u w pool is are whole geometry same =
+    subst (λ n. AreTables n pool) (sym is) (tables-same t w pool are whole geometry same)
+
+-- lines that turn the volume are a plan
+pub plan-from : (t old new : TablesView) (w : Volume) (b : List Entry) → t ≡ old → new ≡ with_volume w t
+    → Turns t.volume.geometry [] t.volume w b → 0 < length b → length b ≤ 4 → IsWhole w → IsPlan old new b
+plan-from t old new w b same is turns some most whole =
+    subst (λ o. IsPlan o new b) same
+    (subst (λ n. IsPlan t n b) (sym is) (record { turns = turns; some = some; most = most; waiting = refl; whole = whole }))
+
+-- ---- inodes
+
+-- one inode more that may stand in a line
+pub inodes-set : (v : Volume) (ino : ℕ) (x : Inode) → ino < length v.inodes → is_inode x ≡ true
+    → ((i : ℕ) → is_inode (inode v i) ≡ true) → (i : ℕ) → is_inode (inode (node_set ino x v) i) ≡ true
+inodes-set v ino x below fits all i = elim (cases_eq i ino) [
+  | inl same ↦ ap (λ k. is_inode (inode (node_set ino x v) k)) same ∙ ap is_inode (inode-set_same ino x [] [] v below) ∙ fits
+  | inr other ↦ ap is_inode (inode-set_other ino x [] [] v i other) ∙ all i
+]
+
+-- an inode without a map
+pub record IsBare (x : Inode) : Type 0 where
+  pub root : x.root ≡ 0
+  pub extents : x.extents ≡ 0
+
+bare : (x : Inode) → ((x.size == 0) && (x.applied == 0) && (x.root == 0) && (x.extents == 0)) ≡ true → IsBare x
+bare x fits = record { root = grind (arith, nat_tests, fits); extents = grind (arith, nat_tests, fits) }
+
+-- free inodes and directories have none
+bare-kind : (kind : Kind) (x : Inode) → is_inode_of_kind kind x ≡ true → (kind ≡ Free) ⊎ (is_directory kind ≡ true) → IsBare x
+bare-kind Free x fits is = bare x fits
+bare-kind Directory x fits is = bare x fits
+bare-kind File x fits (inl is) = absurd (cc)
+bare-kind File x fits (inr is) = let never : false ≡ true = is in absurd (cc)
+bare-kind Staging x fits (inl is) = absurd (cc)
+bare-kind Staging x fits (inr is) = let never : false ≡ true = is in absurd (cc)
+
+pub free-bare : (v : Volume) (ino : ℕ) → IsWhole v → (inode v ino).kind ≡ Free → IsBare (inode v ino)
+free-bare v ino whole free = bare-kind (inode v ino).kind (inode v ino) (whole.inodes ino) (inl free)
+
+pub directory-bare : (v : Volume) (ino : ℕ) → IsWhole v → is_directory (inode v ino).kind ≡ true → IsBare (inode v ino)
+directory-bare v ino whole directory = bare-kind (inode v ino).kind (inode v ino) (whole.inodes ino) (inr directory)

@@ -1,0 +1,5 @@
+use Rattle.name_facts.specs.KeptLaws.{kept-acyclic}
+use Rattle.k_plans.proofs.tables.Tables.rename.Goals as goal
+
+pub entries_to_rename-requires : goal.entries_to_rename-requires
+entries_to_rename-requires c = kept-acyclic _ c.self.invariant.whole.kept.kept c.self.invariant.whole.kept.all

@@ -1,0 +1,11 @@
+pub mod Free
+pub mod Giving
+pub mod Laws
+pub mod Making
+pub mod Plans
+pub mod Removing
+pub mod Renaming
+pub mod Spelling
+pub mod View
+pub mod Whole
+pub mod WholeLaws

@@ -1,0 +1,36 @@
+-- A node that is made with its name.
+use Rattle.std.specs.Prelude.{◌≡◌, ℕ, Bool, List, None, Result, Ok, Err, if◌then◌else◌}
+use Rattle.disk_lines.specs.declared.Kind.{Kind}
+use Rattle.disk_lines.specs.declared.Kind.TheVariants.{Directory, File}
+use Rattle.disk_rules.specs.Volume.{Volume}
+use Rattle.k_journal.specs.declared.batches.Entry.{Entry}
+use Rattle.k_rules.specs.Changes.{made}
+use Rattle.k_rules.specs.Spaces.{volume_space}
+use Rattle.k_tables.specs.Found.{IsPlace}
+use Rattle.k_tables.specs.declared.making.Place.{Place}
+use Rattle.posix_words.specs.NameRows.{mkdir_rows}
+use Rattle.posix_words.specs.Outcomes.{first}
+use Rattle.volume_changes.specs.CallLaws.{row_to}
+use Rattle.k_plans.specs.Plans.{IsPlan, IsNotMade}
+use Rattle.k_plans.specs.View.{TablesView}
+use Rattle.k_plans.specs.declared.faults.PlanFault.{PlanFault}
+
+abbrev pub kind_of : Bool → Kind
+kind_of directory = if directory then Directory else File
+
+-- the volume with a node in that place, under the last name of the path
+abbrev pub made_at : Bool → List (List ℕ) → Place → Volume → Volume
+made_at directory path place v = made (kind_of directory) place.ino place.line (row_to path place.parent place.ino) v
+
+-- The node of this inode is made in the place that was found: the lowest free inode, the lowest free name line.
+pub record IsMade (directory : Bool) (path : List (List ℕ)) (v w : Volume) (ino : ℕ) : Type 0 where
+  pub place : Place
+  pub is_place : IsPlace v.inodes v.names path place
+  pub ino_is : ino ≡ place.ino
+  pub is_made : w ≡ made_at directory path place v
+
+-- what `make` answers and leaves
+abbrev pub IsMakePlan : Bool → List (List ℕ) → TablesView → TablesView → List Entry → Result ℕ PlanFault → Type 0
+IsMakePlan directory path old new b (Ok ino) =
+    (first (mkdir_rows (volume_space old.volume) path) ≡ None) × IsMade directory path old.volume new.volume ino × IsPlan old new b
+IsMakePlan directory path old new b (Err fault) = IsNotMade fault (first (mkdir_rows (volume_space old.volume) path)) old new b

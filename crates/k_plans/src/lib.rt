@@ -1,0 +1,29 @@
+//! The tables of a volume in memory, and the changes of names and nodes planned on them.
+//!
+//! `Tables` has the inodes, the names, the chains and the maps of a volume, and the blocks that are
+//! free. Contracts see the volume, and the blocks that wait for a commit (`TablesView`); the volume
+//! keeps the rules (`IsWhole`), and just those data blocks are free that nothing names.
+//!
+//! `make`, `rmdir`, `unlink`, `rename` and `drop_node` look up, take all memory, change the tables
+//! and put the lines of the change into an empty `Batch`. The layer above may rely on this: the
+//! answer is one clause by cases; a refusal comes just where the rows of the call say, and leaves
+//! tables and batch; else the volume is changed by the definition of `k_rules`, and the batch turns
+//! the old volume into the new one (`IsPlan`), so that landing it is all that is left.
+//!
+//! Stands on `k_tables` (look-ups), `k_reading` (tables that were read), `k_land` (lines of plans),
+//! `block_pool`, `volume_changes` and `volume_uses`; its test also on `image_facts`.
+#![tactic(auto)]
+
+mod dropping;
+mod faults;
+mod giving;
+mod making;
+mod removing;
+mod renaming;
+mod tables;
+
+pub use faults::PlanFault;
+pub use tables::{Tables, nodes_are_made_behind_the_staging_files, tables_begin_with_what_is_read};
+
+#[cfg(test)]
+mod tests;

@@ -1,0 +1,34 @@
+-- A device with the fresh image can be opened, for the tests.
+use Rattle.std.proofs.Common.{◌≡◌, ℕ, ◌*◌, List, length, sym, ◌∙◌, ap, subst, arith}
+use Rattle.std.proofs.Math.Path.{fun_ext}
+use Rattle.pm_words.specs.declared.Cell.{Cell}
+use Rattle.pm_words.specs.declared.Cell.TheVariants.{Single}
+use Rattle.pm_words.specs.Cells.{cell, is_single, newest}
+use Rattle.pm_words.specs.Images.{words_of}
+use Rattle.pm_words.specs.Words.{word_at}
+use Rattle.disk_places.specs.Places.{commit_word, Geometry}
+use Rattle.disk_lines.specs.Fresh.{fresh}
+use Rattle.disk_rules.specs.Rules.{geometry_of, IsChecked}
+use Rattle.image_facts.specs.FreshLines.{fresh-commit}
+use Rattle.k_split.proofs.OpenLaws.{IsOpenable}
+
+pub fresh-openable : (g : Geometry) (bytes : List ℕ) (d : List Cell) → length bytes ≡ 4096 * g.blocks → word_at bytes ≡ fresh g
+    → IsChecked (4096 * g.blocks) (word_at bytes) → geometry_of (word_at bytes) ≡ g → 8 * length d ≡ length bytes
+    → ((i : ℕ) → cell d i ≡ Single (word_at bytes i)) → IsOpenable g d
+fresh-openable g bytes d size are checked numbers words cells =
+    let same : words_of d ≡ word_at bytes = fun_ext (λ i. ap newest (cells i)) in
+    record {
+      size = omega (arith, size, words);
+      single = λ i. ap is_single (cells i);
+      idle = cells commit_word ∙ ap Single (ap (λ f. f commit_word) are ∙ fresh-commit g);
+      numbers = ap geometry_of same ∙ numbers;
+      checked = subst (IsChecked (4096 * g.blocks)) (sym same) checked;
+    }
+
+-- so it is of bytes that were lent to be read
+pub fresh-given : (g : Geometry) (bytes given : List ℕ) (d : List Cell) → length bytes ≡ 4096 * g.blocks → word_at bytes ≡ fresh g
+    → IsChecked (4096 * g.blocks) (word_at bytes) → geometry_of (word_at bytes) ≡ g → given ≡ bytes → 8 * length d ≡ length given
+    → ((i : ℕ) → cell d i ≡ Single (word_at given i)) → IsOpenable g d
+fresh-given g bytes given d size are checked numbers same words cells =
+    fresh-openable g bytes d size are checked numbers (subst (λ b. 8 * length d ≡ length b) same words)
+    (λ i. cells i ∙ ap (λ b. Single (word_at b i)) same)

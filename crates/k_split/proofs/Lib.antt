@@ -1,0 +1,7 @@
+mod ChangeLaws
+mod ContentLaws
+mod FreshDevices
+mod LandLaws
+mod LookLaws
+mod OpenLaws
+mod TreeLaws

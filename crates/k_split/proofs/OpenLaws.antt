@@ -1,0 +1,181 @@
+-- What stands at the opening of a checked image whose journal is empty.
+use Rattle.std.proofs.Common.{◌≡◌, ℕ, ◌*◌, ◌/◌, Bool, false, List, [], length, Result, Ok, Err, Vec, Global, refl, sym, ◌∙◌, ap, subst}
+use Rattle.std.specs.Prelude.{IfOk}
+use Rattle.std.specs.declared.alloc.AllocError.{AllocError}
+use Rattle.pm_words.specs.declared.Cell.{Cell}
+use Rattle.pm_words.specs.declared.Cell.TheVariants.{Single}
+use Rattle.pm_words.specs.Cells.{AllSingle, cell, newest}
+use Rattle.pm_words.specs.ImageLaws.{image-single}
+use Rattle.pm_words.specs.Images.{words_of}
+use Rattle.pm_words.specs.Words.{word_at, Words}
+use Rattle.disk_places.specs.Journal.{journaled}
+use Rattle.disk_places.specs.PlaceLaws.{journaled-words}
+use Rattle.disk_places.specs.Places.{Geometry, IsGeometry, base_word, commit_word}
+use Rattle.extent_words.specs.declared.Extent.{Extent}
+use Rattle.disk_lines.specs.declared.Inode.{Inode}
+use Rattle.disk_lines.specs.Names.{Rows}
+use Rattle.disk_lines.specs.Tables.{IsKeyed}
+use Rattle.disk_rules.specs.Kept.{AreKept}
+use Rattle.disk_rules.specs.Reading.{Reads}
+use Rattle.disk_rules.specs.Rules.{geometry_of, IsChecked}
+use Rattle.disk_rules.specs.Volume.{Volume, volume}
+use Rattle.volume_facts.specs.ImageLaws.{journaled-idle}
+use Rattle.disk_places.specs.PlaceLaws.{behind_log-words}
+use Rattle.volume_facts.specs.LineWords.{data_word}
+use Rattle.volume_facts.specs.ReadingLaws.{reads-same, reads-volume}
+use Rattle.name_facts.specs.KeptLaws.{kept-keyed, reads-all_lines}
+use Rattle.image_facts.specs.CheckedLaws.{kept-checked, reads-checked}
+use Rattle.image_facts.specs.FreshLaws.{content-fresh, fresh-checked}
+use Rattle.image_facts.specs.FreshLines.{geometry_of-fresh}
+use Rattle.disk_lines.specs.Fresh.{fresh}
+use Rattle.disk_rules.specs.Content.{content}
+use Rattle.disk_rules.specs.FreshVolume.{root_alone}
+use Rattle.k_journal.specs.declared.batches.Entry.{Entry}
+use Rattle.k_rules.specs.Stands.{Stands}
+use Rattle.k_plans.specs.View.{tables_view, TablesView}
+use Rattle.k_plans.specs.Whole.{IsWhole}
+use Rattle.k_plans.specs.WholeLaws.{whole-read}
+use Rattle.k_split.specs.Order.{view_of, IsOpened, IsReady}
+
+-- words whose journal is empty read as they do through it
+pub reads-idle : (g : Geometry) (f : Words) (v : Volume) → f commit_word ≡ 0 → Reads g (journaled f) v → Reads g f v
+reads-idle g f v idle r =
+    reads-same g (journaled f) f v
+    (record {
+      lines = λ w line. sym (journaled-idle f w idle (journaled-words g (w / 8) w line refl));
+      chains = λ ino k j below within word.
+          sym (journaled-idle f _ idle (behind_log-words g _ (data_word g _ j (r.blocks ino below k 0 within) word)));
+    })
+    r
+
+-- a device that is a checked image of this geometry, with an empty journal
+pub record IsOpenable (g : Geometry) (d : List Cell) : Type 0 where
+  pub size : length d ≡ 512 * g.blocks
+  pub single : AllSingle d
+  pub idle : cell d commit_word ≡ Single 0
+  pub numbers : geometry_of (words_of d) ≡ g
+  pub checked : IsChecked (4096 * g.blocks) (words_of d)
+
+module _ (g : Geometry) (d : List Cell) (is : IsGeometry g) (open_is : IsOpenable g d) where
+  f : Words
+  f = words_of d
+
+  v : Volume
+  v = volume g (journaled f)
+
+  no_commit : f commit_word ≡ 0
+  unfolding f
+  no_commit = ap newest open_is.idle
+
+  through : Reads g (journaled f) v
+  unfolding f v
+  through = subst (λ h. Reads h (journaled (words_of d)) (volume h (journaled (words_of d)))) open_is.numbers (reads-checked (4096 * g.blocks) (words_of d) open_is.checked)
+
+  reads : Reads g f v
+  reads = reads-idle g f v no_commit through
+
+  kept : AreKept v
+  unfolding f v
+  kept = subst (λ h. AreKept (volume h (journaled (words_of d)))) open_is.numbers (kept-checked (4096 * g.blocks) (words_of d) open_is.checked)
+
+  -- so the volume of the words is the one through the journal
+  pub same_volume : volume g (words_of d) ≡ volume g (journaled (words_of d))
+  unfolding f v
+  same_volume = reads-volume g f v reads
+
+  pub keyed : IsKeyed (volume g (words_of d)).names
+  unfolding f v
+  keyed = subst (λ (w : Volume). IsKeyed w.names) (sym same_volume) (kept-keyed v kept (reads-all_lines g f v reads))
+
+  pub whole : IsWhole (volume g (words_of d))
+  unfolding f v
+  whole = subst IsWhole (sym same_volume) (whole-read g f v is reads kept)
+
+  pub reads-words : Reads g (words_of d) (volume g (words_of d))
+  unfolding f v
+  reads-words = subst (Reads g (words_of d)) (sym same_volume) reads
+
+  stands : Stands g v d
+  unfolding f v
+  stands = record {
+    size = open_is.size;
+    idle = open_is.idle;
+    single = λ i below. open_is.single i;
+    chains = λ ino k i below at. open_is.single i;
+    reads = λ image is_image. subst (λ h. Reads g (journaled h) v) (sym (image-single d image open_is.single is_image)) through;
+  }
+
+  pub ready : (t : TablesView) → t.volume ≡ volume g (words_of d) → t.waiting ≡ [] → IsReady (view_of t d false false) []
+  unfolding f v
+  ready t volume_is none_waits =
+      let same : t.volume ≡ v = volume_is ∙ same_volume in
+      let geometry_is : g ≡ t.volume.geometry = sym (ap (λ (w : Volume). w.geometry) same ∙ through.geometry) in
+      record {
+        order = record {
+          stands = subst (λ h. Stands h t.volume d) geometry_is (subst (λ w. Stands g w d) (sym same) stands);
+          whole = subst IsWhole (sym volume_is) whole;
+          settled = λ none. refl;
+          none_waits = λ none. none_waits;
+        };
+        unbatched = refl;
+        no_lines = refl;
+      }
+
+-- the tables that were read are those of the volume
+pub tables-read : (g : Geometry) (d : List Cell) (base : ℕ) (inodes : List Inode) (rows : Rows) (chains : List (List ℕ)) (maps : List (List Extent))
+    → IsGeometry g → IsOpenable g d → base ≡ words_of d base_word → inodes ≡ (volume g (words_of d)).inodes → rows ≡ (volume g (words_of d)).names
+    → ((h : Geometry) (w : Volume) → length d ≡ 512 * h.blocks → Reads h (words_of d) w → w.inodes ≡ inodes → (chains ≡ w.chains) × (maps ≡ w.maps))
+    → tables_view g base inodes rows chains maps [] ≡ record { volume = volume g (words_of d); waiting = [] }
+unfolding volume
+tables-read g d base inodes rows chains maps is open_is base_is inodes_are rows_are read =
+    let both = read g (volume g (words_of d)) open_is.size (reads-words g d is open_is) (sym inodes_are) in
+    λ i. record {
+      volume = record { geometry = g; base = base_is i; inodes = inodes_are i; names = rows_are i; chains = both.0 i; maps = both.1 i };
+      waiting = [];
+    }
+
+pub tables-whole : (g : Geometry) (d : List Cell) (t : TablesView) → IsGeometry g → IsOpenable g d
+    → t ≡ record { volume = volume g (words_of d); waiting = [] } → IsWhole t.volume
+tables-whole g d t is open_is same = subst (λ (u : TablesView). IsWhole u.volume) (sym same) (whole g d is open_is)
+
+opened : (g : Geometry) (d : List Cell) (t : TablesView) → IsGeometry g → IsOpenable g d
+    → t ≡ record { volume = volume g (words_of d); waiting = [] } → IsReady (view_of t d false false) [] × IsOpened d (volume g (journaled (words_of d))) false (view_of t d false false)
+opened g d t is open_is same =
+    let volume_is : t.volume ≡ volume g (words_of d) = ap (λ (u : TablesView). u.volume) same in
+    let are = ready g d is open_is t volume_is (ap (λ (u : TablesView). u.waiting) same) in
+    (are, record { order = are.order; volume_is = volume_is ∙ same_volume g d is open_is; cells_are = refl; batched_is = refl; on = refl })
+
+-- ---- the fresh image
+
+pub fresh-is : (g : Geometry) (f : Words) → IsGeometry g → f ≡ fresh g
+    → IsChecked (4096 * g.blocks) f × (geometry_of f ≡ g) × (content g f ≡ root_alone)
+fresh-is g f is same =
+    subst (λ h. IsChecked (4096 * g.blocks) h × (geometry_of h ≡ g) × (content g h ≡ root_alone)) (sym same)
+    (fresh-checked g is, geometry_of-fresh g is, content-fresh g is)
+
+-- so it is of bytes that are those of the fresh image, where there was memory for them
+pub if-fresh : (g : Geometry) (r : Result (Vec ℕ Global) AllocError) → IsGeometry g → IfOk r (λ bytes. word_at bytes.items ≡ fresh g)
+    → IfOk r (λ bytes. IsChecked (4096 * g.blocks) (word_at bytes.items)) × IfOk r (λ bytes. geometry_of (word_at bytes.items) ≡ g)
+    × IfOk r (λ bytes. content g (word_at bytes.items) ≡ root_alone)
+if-fresh g (Ok bytes) is same = fresh-is g (word_at bytes.items) is same
+if-fresh g (Err e) is same = (tt, tt, tt)
+
+pub openable : (g : Geometry) (d : List Cell) → length d ≡ 512 * g.blocks → AllSingle d → cell d commit_word ≡ Single 0 → geometry_of (words_of d) ≡ g
+    → IsChecked (4096 * g.blocks) (words_of d) → IsOpenable g d
+openable g d size single idle numbers checked = record { size = size; single = single; idle = idle; numbers = numbers; checked = checked }
+
+pub if-tables : (g : Geometry) (d : List Cell) (t : TablesView) (r : Result TablesView AllocError) → IfOk r (λ x. x ≡ t)
+    → t ≡ record { volume = volume g (words_of d); waiting = [] } → IfOk r (λ x. x ≡ record { volume = volume g (words_of d); waiting = [] })
+if-tables g d t (Ok x) is same = is ∙ same
+if-tables g d t (Err e) is same = tt
+
+pub opened-ready : (g : Geometry) (d : List Cell) (t : TablesView) (batched : Bool) (b : List Entry) → IsGeometry g → IsOpenable g d
+    → t ≡ record { volume = volume g (words_of d); waiting = [] } → batched ≡ false → b ≡ [] → IsReady (view_of t d batched false) b
+opened-ready g d t batched b is open_is same unbatched none =
+    subst (λ x. IsReady (view_of t d x false) b) (sym unbatched) (subst (IsReady (view_of t d false false)) (sym none) (opened g d t is open_is same).0)
+
+pub opened-as : (g : Geometry) (d : List Cell) (t : TablesView) (batched : Bool) → IsGeometry g → IsOpenable g d
+    → t ≡ record { volume = volume g (words_of d); waiting = [] } → batched ≡ false
+    → IsOpened d (volume g (journaled (words_of d))) batched (view_of t d batched false)
+opened-as g d t batched is open_is same unbatched =
+    subst (λ x. IsOpened d (volume g (journaled (words_of d))) x (view_of t d x false)) (sym unbatched) (opened g d t is open_is same).1

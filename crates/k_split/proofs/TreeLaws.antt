@@ -1,0 +1,69 @@
+-- The tables and the device of a K-Split have a tree, which is that of the content.
+use Rattle.std.proofs.Common.{◌≡◌, Bool, false, List, [], Result, Ok, Err, sym, subst}
+use Rattle.std.specs.Prelude.{IfOk}
+use Rattle.std.specs.declared.alloc.AllocError.{AllocError}
+use Rattle.pm_words.specs.declared.Cell.{Cell}
+use Rattle.pm_words.specs.Cells.{AllHome}
+use Rattle.pm_words.specs.Images.{words_of}
+use Rattle.disk_places.specs.Journal.{journaled}
+use Rattle.disk_rules.specs.Content.{content, found}
+use Rattle.disk_rules.specs.Live.{live_entries}
+use Rattle.disk_rules.specs.Volume.{Volume}
+use Rattle.posix_types.specs.declared.tree.TreeEntry.{TreeEntry}
+use Rattle.posix_trees.specs.TreeOf.{IsTreeOf}
+use Rattle.k_content.proofs.Reading.{have-trees}
+use Rattle.k_content.specs.Trees.{HasTables, HasTree, tree_content}
+use Rattle.extent_words.specs.declared.Extent.{Extent}
+use Rattle.disk_lines.specs.declared.Inode.{Inode}
+use Rattle.disk_lines.specs.Names.{Rows}
+use Rattle.k_journal.specs.declared.batches.Entry.{Entry}
+use Rattle.k_plans.specs.View.{TablesView}
+use Rattle.k_split.specs.Order.{IsInOrder, IsReady, view_of}
+use Rattle.k_rules.specs.Stands.{Stands}
+use Rattle.k_rules.specs.View.{View}
+use Rattle.k_split.proofs.ContentLaws.{content-words, reads-words}
+
+pub has-tree : (k : View) → k.batched ≡ false → IsInOrder k → AllHome k.cells → HasTree k.volume.inodes k.volume.names k.volume.maps k.cells
+has-tree k unbatched order home =
+    let same : k.committed ≡ k.volume = order.settled unbatched in
+    let stands = subst (λ (v : Volume). Stands v.geometry v k.cells) same order.stands in
+    have-trees k.volume.geometry (journaled (words_of k.cells)) k.volume k.cells order.whole.kept.geometry
+    (reads-words k.volume.geometry k.volume k.cells stands order.whole.kept.kept) order.whole.kept.kept stands.size home
+
+pub tree-content : (k : View) (r : Result (List TreeEntry) AllocError) → k.batched ≡ false → IsInOrder k
+    → live_entries k.volume (journaled (words_of k.cells)) ≡ []
+    → IfOk r (IsTreeOf (tree_content (found k.volume [] (words_of k.cells)))) → IfOk r (IsTreeOf (tree_content (content k.volume.geometry (words_of k.cells))))
+tree-content k (Err e) unbatched order none is = tt
+tree-content k (Ok tree) unbatched order none is =
+    let same : k.committed ≡ k.volume = order.settled unbatched in
+    let stands = subst (λ (v : Volume). Stands v.geometry v k.cells) same order.stands in
+    subst (λ c. IsTreeOf (tree_content c) tree) (sym (content-words k.volume.geometry k.volume k.cells stands order.whole.kept.kept none)) is
+
+-- ---- by the parts of a K-Split
+
+module _ (t : TablesView) (d : List Cell) (batched lost : Bool) (b : List Entry) (k : View) (same : view_of t d batched lost ≡ k) (on : k.lost ≡ false)
+    (ready : lost ≡ false → IsReady (view_of t d batched lost) b) (inodes : List Inode) (rows : Rows) (maps : List (List Extent))
+    (inodes_are : inodes ≡ t.volume.inodes) (rows_are : rows ≡ t.volume.names) (maps_are : maps ≡ t.volume.maps) where
+  are : IsReady (view_of t d batched lost) b
+  are = ready (subst (λ (x : View). x.lost ≡ false) (sym same) on)
+
+  pub parts-tree : AllHome k.cells → HasTree inodes rows maps d
+  parts-tree home =
+      let whole = has-tree (view_of t d batched lost) are.unbatched are.order (subst (λ (x : View). AllHome x.cells) (sym same) home) in
+      subst (λ i. HasTree i rows maps d) (sym inodes_are) (subst (λ r. HasTree t.volume.inodes r maps d) (sym rows_are)
+      (subst (λ m. HasTree t.volume.inodes t.volume.names m d) (sym maps_are) whole))
+
+  pub parts-listed : (r : Result (List TreeEntry) AllocError)
+      → IfOk r (λ tree. (v : Volume) → HasTables inodes rows maps v → IsTreeOf (tree_content (found v [] (words_of d))) tree)
+      → IfOk r (IsTreeOf (tree_content (found k.volume [] (words_of k.cells))))
+  parts-listed (Err e) is = tt
+  parts-listed (Ok tree) is =
+      subst (λ (x : View). IsTreeOf (tree_content (found x.volume [] (words_of x.cells))) tree) same
+      (is t.volume (record { same_inodes = sym inodes_are; same_names = sym rows_are; same_maps = sym maps_are }))
+
+  pub parts-content : (r : Result (List TreeEntry) AllocError) → live_entries k.volume (journaled (words_of k.cells)) ≡ []
+      → IfOk r (λ tree. (v : Volume) → HasTables inodes rows maps v → IsTreeOf (tree_content (found v [] (words_of d))) tree)
+      → IfOk r (IsTreeOf (tree_content (content k.volume.geometry (words_of k.cells))))
+  parts-content r none is =
+      let now : IsReady k b = subst (λ x. IsReady x b) same are in
+      tree-content k r now.unbatched now.order none (parts-listed r is)

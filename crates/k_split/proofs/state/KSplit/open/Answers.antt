@@ -1,0 +1,17 @@
+use Rattle.std.proofs.Common.{subst}
+use Rattle.disk_places.specs.Places.{IsGeometry}
+use Rattle.k_split.proofs.OpenLaws.{openable, opened-as, opened-ready}
+use Rattle.k_split.proofs.state.KSplit.open.Goals as goal
+
+pub invariant_of-result : goal.invariant_of-result
+invariant_of-result c on =
+    let r = c.requires in
+    opened-ready c.args.geometry c.args.pm c.in_ok-tables.tables c.args.batched c.in_ok-batch.batch
+    (subst IsGeometry c.geometry.view_is c.geometry.invariant)
+    (openable c.args.geometry c.args.pm r.size r.single r.idle r.numbers r.checked) c.in_ok-tables.ensures r.unbatched c.in_ok-batch.ensures
+
+pub returns : goal.returns
+returns c =
+    let r = c.requires in
+    opened-as c.args.geometry c.args.pm c.in_ok-tables.tables c.args.batched (subst IsGeometry c.geometry.view_is c.geometry.invariant)
+    (openable c.args.geometry c.args.pm r.size r.single r.idle r.numbers r.checked) c.in_ok-tables.ensures r.unbatched

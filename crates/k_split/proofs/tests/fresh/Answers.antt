@@ -1,0 +1,20 @@
+use Rattle.k_split.proofs.FreshDevices.{fresh-given}
+use Rattle.k_split.proofs.tests.fresh.Goals as goal
+
+pub open-requires-clause-idle : goal.open-requires-clause-idle
+open-requires-clause-idle c =
+    let made = c.in_ok-bytes.ensures in
+    (fresh-given c.args.geometry c.in_ok-bytes.bytes.items c.deref.result.now c.in_ok-pm.pm made.size made.words made.checked made.numbers
+    c.deref.ensures.value c.in_ok-pm.ensures.size c.in_ok-pm.ensures.words).idle
+
+pub open-requires-clause-numbers : goal.open-requires-clause-numbers
+open-requires-clause-numbers c =
+    let made = c.in_ok-bytes.ensures in
+    (fresh-given c.args.geometry c.in_ok-bytes.bytes.items c.deref.result.now c.in_ok-pm.pm made.size made.words made.checked made.numbers
+    c.deref.ensures.value c.in_ok-pm.ensures.size c.in_ok-pm.ensures.words).numbers
+
+pub open-requires-clause-checked : goal.open-requires-clause-checked
+open-requires-clause-checked c =
+    let made = c.in_ok-bytes.ensures in
+    (fresh-given c.args.geometry c.in_ok-bytes.bytes.items c.deref.result.now c.in_ok-pm.pm made.size made.words made.checked made.numbers
+    c.deref.ensures.value c.in_ok-pm.ensures.size c.in_ok-pm.ensures.words).checked

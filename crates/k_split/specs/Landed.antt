@@ -1,0 +1,35 @@
+-- A plan on the tables, and what its landing leaves.
+use Rattle.std.specs.Prelude.{◌≡◌, ◌<◌, ◌≤◌, true, false, List, [], length}
+use Rattle.pm_words.specs.declared.Cell.{Cell}
+use Rattle.pm_words.specs.Frames.{KeepsSingle}
+use Rattle.pm_words.specs.Powers.{is_on, Supply}
+use Rattle.disk_rules.specs.Volume.{Volume}
+use Rattle.k_journal.specs.Commits.{TakesAStep}
+use Rattle.k_journal.specs.declared.batches.Entry.{Entry}
+use Rattle.k_journal.specs.declared.outcomes.Commit.{Commit}
+use Rattle.k_land.specs.Plans.{Turns}
+use Rattle.k_rules.specs.Stands.{Stands}
+use Rattle.k_split.specs.Answers.{Changes}
+
+-- the batch turns the volume of the device into w, in four lines at most
+pub record IsPlanned (v w : Volume) (b : List Entry) (d : List Cell) : Type 0 where
+  pub stands : Stands v.geometry v d
+  pub turns : Turns v.geometry [] v w b
+  pub most : length b ≤ 4
+
+-- done: the device stands at w
+pub record IsLandedDone (v w : Volume) (b : List Entry) (old new : List Cell) (before after : Supply) : Type 0 where
+  pub changes : Changes v w old new
+  pub stands : Stands w.geometry w new
+  pub singles : KeepsSingle old new
+  pub on : is_on after ≡ true
+  pub took : 0 < length b → TakesAStep before after
+
+-- or the power went
+pub record IsLandedLost (v w : Volume) (old new : List Cell) (after : Supply) : Type 0 where
+  pub changes : Changes v w old new
+  pub off : is_on after ≡ false
+
+abbrev pub IsLanded : Volume → Volume → List Entry → List Cell → List Cell → Supply → Supply → Commit → Type 0
+IsLanded v w b old new before after Commit.Done = IsLandedDone v w b old new before after
+IsLanded v w b old new before after Commit.PowerLost = IsLandedLost v w old new after

@@ -1,0 +1,7 @@
+pub mod Answers
+pub mod Contents
+pub mod Faults
+pub mod Landed
+pub mod Looks
+pub mod Names
+pub mod Order

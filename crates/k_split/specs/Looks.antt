@@ -1,0 +1,37 @@
+-- What K-Split answers of a path.
+use Rattle.std.specs.Prelude.{◌≡◌, ℕ, List, Some, None, Result, Ok, Err, IsPermutation, IsSorted}
+use Rattle.std.specs.Cmp.Lexicographic.{slice_cmp}
+use Rattle.std.specs.Ordering.{nat_cmp}
+use Rattle.disk_lines.specs.Tables.{names_below}
+use Rattle.disk_rules.specs.Volume.{Volume}
+use Rattle.k_rules.specs.Spaces.{volume_space}
+use Rattle.posix_types.specs.declared.reply.Errno.{Errno}
+use Rattle.posix_types.specs.declared.reply.Reply.{Reply}
+use Rattle.posix_words.specs.NameRows.{list_rows, stat_rows}
+use Rattle.posix_words.specs.Names.{node_at_path}
+use Rattle.posix_words.specs.Outcomes.{answer, first}
+use Rattle.k_split.specs.declared.faults.KFault.{KFault}
+
+-- the inode at a path, or why nothing is there, by the rows of `stat`
+abbrev pub IsFound : Volume → List (List ℕ) → Result ℕ Errno → Type 0
+IsFound v path (Ok ino) = (first (stat_rows (volume_space v) path) ≡ None) × (node_at_path (volume_space v) path ≡ Some ino)
+IsFound v path (Err errno) = first (stat_rows (volume_space v) path) ≡ Some (answer (Reply.Error errno))
+
+-- the directory at a path, or why none is there, by the rows of `list`
+abbrev pub IsDirectoryFound : Volume → List (List ℕ) → Result ℕ Errno → Type 0
+IsDirectoryFound v path (Ok ino) = (first (list_rows (volume_space v) path) ≡ None) × (node_at_path (volume_space v) path ≡ Some ino)
+IsDirectoryFound v path (Err errno) = first (list_rows (volume_space v) path) ≡ Some (answer (Reply.Error errno))
+
+-- the names in the directory at a path, each once, in the order of their bytes
+pub record IsListed (v : Volume) (path : List (List ℕ)) (names : List (List ℕ)) : Type 0 where
+  pub ino : ℕ
+  pub found : IsDirectoryFound v path (Ok ino)
+  pub are : IsPermutation (names_below v.names ino) names
+  pub sorted : IsSorted (slice_cmp nat_cmp) names
+
+-- why nothing is listed: by a row, or for want of memory
+abbrev pub IsListFault : Volume → List (List ℕ) → KFault → Type 0
+IsListFault v path (KFault.Refused errno) = IsDirectoryFound v path (Err errno)
+IsListFault v path (KFault.Room room) = ⊥
+IsListFault v path KFault.PowerLost = ⊥
+IsListFault v path KFault.NoMemory = Unit {0}

@@ -1,0 +1,36 @@
+-- When K-Split is in order.
+use Rattle.std.specs.Prelude.{◌≡◌, Bool, false, List, []}
+use Rattle.pm_words.specs.declared.Cell.{Cell}
+use Rattle.disk_rules.specs.Volume.{Volume}
+use Rattle.k_journal.specs.declared.batches.Entry.{Entry}
+use Rattle.k_plans.specs.View.{TablesView}
+use Rattle.k_plans.specs.Whole.{IsWhole}
+use Rattle.k_rules.specs.Stands.{Stands}
+use Rattle.k_rules.specs.View.{View}
+
+-- what contracts see of tables and a device, while each change is committed at once
+abbrev pub view_of : TablesView → List Cell → Bool → Bool → View
+view_of tables cells batched lost =
+    record { volume = tables.volume; committed = tables.volume; waiting = tables.waiting; cells = cells; batched = batched; lost = lost }
+
+-- The device stands at the volume that was committed last. The volume keeps the rules, and is that one where no changes
+-- gather in a batch; then no block waits for a commit.
+pub record IsInOrder (k : View) : Type 0 where
+  pub stands : Stands k.committed.geometry k.committed k.cells
+  pub whole : IsWhole k.volume
+  pub settled : k.batched ≡ false → k.committed ≡ k.volume
+  pub none_waits : k.batched ≡ false → k.waiting ≡ []
+
+-- so it is between changes, which do not gather yet: no line is planned
+pub record IsReady (k : View) (b : List Entry) : Type 0 where
+  pub order : IsInOrder k
+  pub unbatched : k.batched ≡ false
+  pub no_lines : b ≡ []
+
+-- K-Split as it is opened on these cells, at this volume
+pub record IsOpened (cells : List Cell) (v : Volume) (batched : Bool) (k : View) : Type 0 where
+  pub order : IsInOrder k
+  pub volume_is : k.volume ≡ v
+  pub cells_are : k.cells ≡ cells
+  pub batched_is : k.batched ≡ batched
+  pub on : k.lost ≡ false

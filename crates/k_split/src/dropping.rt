@@ -1,0 +1,38 @@
+//! Dropping a file that has no name.
+ghost use Rattle.std.specs.Prelude.{◌≡◌, ◌≢◌, true, false, None, Err};
+ghost use Rattle.pm_words.specs.Powers.{is_on, Steps};
+ghost use Rattle.volume_changes.specs.Changes.{MayDrop};
+ghost use Rattle.k_split.specs.Answers.{IsPaid};
+ghost use Rattle.k_split.specs.Names.{IsDropAnswer};
+
+use crate::changes::land_plan;
+use crate::faults::KFault;
+use crate::state::KSplit;
+use k_journal::Commit;
+use pm_lines::Power;
+
+impl KSplit {
+    /// Drops a file that has no name, as one transaction: its inode is free and keeps its
+    /// generation, and its blocks are free. It takes no memory, and only the power stops it.
+    pub fn drop_node(&mut self, ino: u32, power: &mut Power) -> Result<(), KFault>
+        requires awake { self.old.lost ≡ true → is_on power.old ≡ false }
+        requires may { self.old.lost ≡ false → MayDrop ino self.old.volume }
+        ensures steps { Steps 256 power.old power.new }
+        ensures paid { IsPaid None power.old power.new result }
+        ensures answer { IsDropAnswer ino self.old self.new result }
+        ensures memory { result ≢ Err KFault.NoMemory }
+    {
+        if !power.on() {
+            self.lost = true;
+            return Err(KFault::PowerLost);
+        }
+        self.tables.drop_node(&mut self.batch, ino);
+        match land_plan(&mut self.batch, &mut self.pm, &self.tables, power) {
+            Commit::Done => Ok(()),
+            Commit::PowerLost => {
+                self.lost = true;
+                Err(KFault::PowerLost)
+            }
+        }
+    }
+}

@@ -1,0 +1,35 @@
+//! K-Split: the metadata of a file system on a persistent memory, each change one transaction.
+//!
+//! `KSplit` has the device, the tables of its volume and a batch of lines. A change computes a plan
+//! on the tables, taking all its memory, and one call lands it (`k_land`). Contracts see a `View`:
+//! the volume, the volume that was committed last, the cells, and whether the power went.
+//!
+//! The layer above may rely on this: while the power is on the device stands at the volume, which
+//! keeps the rules (`IsInOrder`). A change is refused exactly where the rows of the calls say, and
+//! then nothing changes; it is done, and the new volume is what its definition says; or the power
+//! went, and each image reads as the old volume or as the new one and else is an image before
+//! (`IsAnswer`). A K-Split that lost its power is lost: its tables mean nothing more, it answers
+//! `PowerLost`, and its device can be taken back.
+//!
+//! Stands on `k_plans` (the changes of names), `k_land`, `k_reading`, `k_tables` and `k_content`.
+#![tactic(auto)]
+
+mod changes;
+mod dropping;
+mod faults;
+mod laws;
+mod looks;
+mod making;
+mod opening;
+mod removing;
+mod renaming;
+mod state;
+mod trees;
+
+pub use faults::KFault;
+pub use laws::images_have_the_old_or_the_new_content;
+pub use opening::mkfs;
+pub use state::KSplit;
+
+#[cfg(test)]
+mod tests;

@@ -1,0 +1,90 @@
+//! What stands at a path, and whether an inode has a name.
+ghost use Rattle.std.specs.Prelude.{◌≡◌, ◌<◌, ◌↔◌, false, IsTrue, Ok, IfErr, IfOk};
+ghost use Rattle.disk_lines.specs.Names.{names_of};
+ghost use Rattle.k_rules.specs.Spaces.{space_of};
+ghost use Rattle.k_split.specs.Looks.{IsFound, IsDirectoryFound, IsListed, IsListFault};
+ghost use Rattle.posix_words.specs.Names.{node_at_path, walk};
+
+use crate::faults::KFault;
+use crate::state::KSplit;
+use disk_lines::Inode;
+use k_names::NameTable;
+use k_tables::{child, is_directory, parent_of};
+use posix_types::{Errno, Name, Path};
+use posix_words::entries::{is_root, is_too_long};
+use std::alloc::Global;
+
+// The longest name of a name line, in bytes.
+const LONGEST_NAME: usize = 48;
+
+// The inode at a path, below its directory.
+#[tactic(auto, unfolding(posix_words::specs::Names::node_at_path))]
+fn node_below(inodes: &[Inode], names: &NameTable, path: &Path, parent: u32) -> Option<u32>
+    requires { walk (space_of inodes.now names.now) path.now ≡ Ok parent }
+    ensures { result ≡ node_at_path (space_of inodes.now names.now) path.now }
+{
+    if is_root(path) {
+        return Some(0);
+    }
+    child(names, parent, &path.names[path.names.len() - 1])
+}
+
+impl KSplit {
+    /// The inode at a path: ENAMETOOLONG, ENOENT or ENOTDIR where none stands there.
+    pub fn find(&self, path: &Path) -> Result<u32, Errno>
+        ensures { IsFound self.now.volume path.now result }
+    {
+        let inodes = self.tables.inodes();
+        let names = self.tables.names();
+        if is_too_long(LONGEST_NAME, path) {
+            return Err(Errno::ENAMETOOLONG);
+        }
+        match parent_of(inodes, names, path) {
+            Err(errno) => Err(errno),
+            Ok(parent) => match node_below(inodes, names, path, parent) {
+                Some(ino) => Ok(ino),
+                None => Err(Errno::ENOENT),
+            },
+        }
+    }
+
+    // The directory at a path, or why none is there.
+    fn directory_at(&self, path: &Path) -> Result<u32, Errno>
+        ensures { IsDirectoryFound self.now.volume path.now result }
+    {
+        match self.find(path) {
+            Err(errno) => Err(errno),
+            Ok(ino) => {
+                if is_directory(self.tables.inodes(), ino) {
+                    Ok(ino)
+                } else {
+                    Err(Errno::ENOTDIR)
+                }
+            }
+        }
+    }
+
+    /// The names in the directory at a path, in the order of their bytes. It takes memory for them.
+    ///
+    /// `Refused` comes exactly where the rows of `list` say; no other fault but `NoMemory` does.
+    pub fn list(&self, alloc: Global, path: &Path) -> Result<Vec<Name>, KFault>
+        ensures names { IfOk result (λ names. IsListed self.now.volume path.now names.items) }
+        ensures refused { IfErr result (IsListFault self.now.volume path.now) }
+    {
+        match self.directory_at(path) {
+            Err(errno) => Err(KFault::Refused(errno)),
+            Ok(ino) => match self.tables.names().children(alloc, ino) {
+                Ok(names) => Ok(names),
+                Err(_) => Err(KFault::NoMemory),
+            },
+        }
+    }
+
+    /// Whether an inode has a name.
+    pub fn named(&self, ino: u32) -> bool
+        ensures { IsTrue result ↔ (0 < names_of self.now.volume.names ino) }
+    {
+        let _geometry = self.tables.geometry();
+        ino != 0 && self.tables.names().below(ino, 0)
+    }
+}

@@ -1,0 +1,48 @@
+//! Making a node.
+ghost use Rattle.std.specs.Prelude.{◌≡◌, true, false};
+ghost use Rattle.pm_words.specs.Powers.{is_on, Steps};
+ghost use Rattle.k_plans.specs.Spelling.{AreSpelled};
+ghost use Rattle.k_split.specs.Answers.{IsPaid};
+ghost use Rattle.k_split.specs.Names.{make_row, IsMakeAnswer};
+
+use crate::changes::land_plan;
+use crate::faults::{KFault, fault_of};
+use crate::state::KSplit;
+use k_journal::Commit;
+use pm_lines::Power;
+use posix_types::Path;
+use std::alloc::Global;
+
+impl KSplit {
+    /// Makes a directory or a file, with its name, as one transaction. It answers the inode: the
+    /// lowest free one from 5 on, whose generation rises by 1 modulo 2^32; the name takes the
+    /// lowest free name line. The path is spelled.
+    pub fn make(
+        &mut self,
+        alloc: Global,
+        path: &Path,
+        directory: bool,
+        power: &mut Power,
+    ) -> Result<u32, KFault>
+        requires spelled { AreSpelled path.now }
+        requires awake { self.old.lost ≡ true → is_on power.old ≡ false }
+        ensures steps { Steps 256 power.old power.new }
+        ensures paid { IsPaid (make_row path.now self.old) power.old power.new result }
+        ensures answer { IsMakeAnswer directory path.now self.old self.new result }
+    {
+        if !power.on() {
+            self.lost = true;
+            return Err(KFault::PowerLost);
+        }
+        match self.tables.make(alloc, &mut self.batch, path, directory) {
+            Err(fault) => Err(fault_of(fault)),
+            Ok(ino) => match land_plan(&mut self.batch, &mut self.pm, &self.tables, power) {
+                Commit::Done => Ok(ino),
+                Commit::PowerLost => {
+                    self.lost = true;
+                    Err(KFault::PowerLost)
+                }
+            },
+        }
+    }
+}

@@ -1,0 +1,84 @@
+//! A fresh image, and the K-Split of a device.
+ghost use Rattle.std.specs.Prelude.{◌≡◌, ◌*◌, [], false, length, IfOk};
+ghost use Rattle.disk_places.specs.Places.{commit_word, IsGeometry};
+ghost use Rattle.disk_places.specs.Journal.{journaled};
+ghost use Rattle.disk_lines.specs.Fresh.{fresh};
+ghost use Rattle.disk_rules.specs.Content.{content};
+ghost use Rattle.disk_rules.specs.FreshVolume.{root_alone};
+ghost use Rattle.disk_rules.specs.Rules.{geometry_of, IsChecked};
+ghost use Rattle.disk_rules.specs.Volume.{volume};
+ghost use Rattle.pm_words.specs.Cells.{cell, AllSingle};
+ghost use Rattle.pm_words.specs.Images.{words_of};
+ghost use Rattle.pm_words.specs.Words.{word_at};
+ghost use Rattle.pm_words.specs.declared.Cell.{Cell};
+ghost use Rattle.k_split.specs.Order.{IsOpened};
+
+use crate::state::KSplit;
+use image_layout::Geometry;
+use k_journal::Batch;
+use k_plans::Tables;
+use k_reading::{fresh_image, read_base, read_inodes, read_maps, read_names};
+use pm_lines::Pm;
+use std::alloc::{AllocError, Global};
+
+/// The bytes of the fresh image: a checked image with the root alone, four empty staging files and
+/// the log base 1. It takes `4096 * blocks` bytes of memory.
+pub fn mkfs(alloc: Global, geometry: &Geometry) -> Result<Vec<u8>, AllocError>
+    ensures size { IfOk result (λ bytes. length bytes.items ≡ 4096 * geometry.now.blocks) }
+    ensures words { IfOk result (λ bytes. word_at bytes.items ≡ fresh geometry.now) }
+    ensures checked { IfOk result (λ bytes.
+        IsChecked (4096 * geometry.now.blocks) (word_at bytes.items)) }
+    ensures numbers { IfOk result (λ bytes. geometry_of (word_at bytes.items) ≡ geometry.now) }
+    ensures root { IfOk result (λ bytes. content geometry.now (word_at bytes.items) ≡ root_alone) }
+{
+    fresh_image(alloc, geometry)
+}
+
+// The tables of a device.
+fn read_tables(alloc: Global, pm: &Pm, geometry: Geometry) -> Result<Tables, AllocError>
+    requires size { length pm.now ≡ 512 * geometry.blocks }
+    requires single { AllSingle pm.now }
+    requires idle { cell pm.now commit_word ≡ Cell.Single 0 }
+    requires numbers { geometry_of (words_of pm.now) ≡ geometry }
+    requires checked { IsChecked (4096 * geometry.blocks) (words_of pm.now) }
+    ensures { IfOk result (λ tables.
+        tables ≡ record { volume = volume geometry (words_of pm.now); waiting = [] }) }
+{
+    prove!(geometry.blocks >= 64);
+    let base = read_base(pm, &geometry);
+    let inodes = read_inodes(alloc, pm, &geometry)?;
+    let names = read_names(alloc, pm, &geometry)?;
+    let maps = read_maps(alloc, pm, &inodes)?;
+    Tables::of(alloc, geometry, base, inodes, names, maps)
+}
+
+impl KSplit {
+    /// The K-Split of a device, which is a checked image of this geometry: nothing is lent, every
+    /// word has one candidate, and the journal is empty. Changes do not gather yet: `batched` is
+    /// false.
+    pub fn open(
+        alloc: Global,
+        pm: Pm,
+        geometry: Geometry,
+        batched: bool,
+    ) -> Result<KSplit, AllocError>
+        requires size { length pm ≡ 512 * geometry.blocks }
+        requires single { AllSingle pm }
+        requires idle { cell pm commit_word ≡ Cell.Single 0 }
+        requires numbers { geometry_of (words_of pm) ≡ geometry }
+        requires checked { IsChecked (4096 * geometry.blocks) (words_of pm) }
+        requires unbatched { batched ≡ false }
+        ensures { IfOk result (IsOpened pm (volume geometry (journaled (words_of pm))) batched) }
+    {
+        prove!(geometry.blocks >= 64);
+        let batch = Batch::new(alloc)?;
+        let tables = read_tables(alloc, &pm, geometry)?;
+        Ok(KSplit {
+            pm,
+            tables,
+            batch,
+            batched,
+            lost: false,
+        })
+    }
+}

@@ -1,0 +1,64 @@
+//! Taking names away.
+ghost use Rattle.std.specs.Prelude.{◌≡◌, ◌≢◌, true, false, Err};
+ghost use Rattle.pm_words.specs.Powers.{is_on, Steps};
+ghost use Rattle.k_split.specs.Answers.{IsPaid};
+ghost use Rattle.k_split.specs.Names.{rmdir_row, unlink_row, IsRmdirAnswer, IsUnlinkAnswer};
+
+use crate::changes::land_plan;
+use crate::faults::{KFault, fault_of};
+use crate::state::KSplit;
+use k_journal::Commit;
+use pm_lines::Power;
+use posix_types::Path;
+
+impl KSplit {
+    /// Takes the name of a file away, as one transaction. It answers the file's inode, which stays
+    /// until it is dropped. It takes no memory.
+    pub fn unlink(&mut self, path: &Path, power: &mut Power) -> Result<u32, KFault>
+        requires awake { self.old.lost ≡ true → is_on power.old ≡ false }
+        ensures steps { Steps 256 power.old power.new }
+        ensures paid { IsPaid (unlink_row path.now self.old) power.old power.new result }
+        ensures answer { IsUnlinkAnswer path.now self.old self.new result }
+        ensures memory { result ≢ Err KFault.NoMemory }
+    {
+        if !power.on() {
+            self.lost = true;
+            return Err(KFault::PowerLost);
+        }
+        match self.tables.unlink(&mut self.batch, path) {
+            Err(fault) => Err(fault_of(fault)),
+            Ok(ino) => match land_plan(&mut self.batch, &mut self.pm, &self.tables, power) {
+                Commit::Done => Ok(ino),
+                Commit::PowerLost => {
+                    self.lost = true;
+                    Err(KFault::PowerLost)
+                }
+            },
+        }
+    }
+
+    /// Takes a directory without entries away, with its name, as one transaction. It takes no
+    /// memory.
+    pub fn rmdir(&mut self, path: &Path, power: &mut Power) -> Result<(), KFault>
+        requires awake { self.old.lost ≡ true → is_on power.old ≡ false }
+        ensures steps { Steps 256 power.old power.new }
+        ensures paid { IsPaid (rmdir_row path.now self.old) power.old power.new result }
+        ensures answer { IsRmdirAnswer path.now self.old self.new result }
+        ensures memory { result ≢ Err KFault.NoMemory }
+    {
+        if !power.on() {
+            self.lost = true;
+            return Err(KFault::PowerLost);
+        }
+        match self.tables.rmdir(&mut self.batch, path) {
+            Err(fault) => Err(fault_of(fault)),
+            Ok(()) => match land_plan(&mut self.batch, &mut self.pm, &self.tables, power) {
+                Commit::Done => Ok(()),
+                Commit::PowerLost => {
+                    self.lost = true;
+                    Err(KFault::PowerLost)
+                }
+            },
+        }
+    }
+}

@@ -1,0 +1,54 @@
+//! Giving a node another path.
+ghost use Rattle.std.specs.Prelude.{◌≡◌, true, false};
+ghost use Rattle.pm_words.specs.Powers.{is_on, Steps};
+ghost use Rattle.k_plans.specs.Spelling.{AreSpelled};
+ghost use Rattle.k_split.specs.Answers.{IsPaid};
+ghost use Rattle.k_split.specs.Names.{rename_row, IsRenameAnswer};
+
+use crate::changes::land_plan;
+use crate::faults::{KFault, fault_of};
+use crate::state::KSplit;
+use k_journal::Commit;
+use pm_lines::Power;
+use posix_types::Path;
+use std::alloc::Global;
+
+impl KSplit {
+    /// Gives the node at a path another path, as one transaction. A file that stood there loses its
+    /// name, and it answers that file; a directory without entries that stood there goes. Where
+    /// both paths are those of one node it does nothing, and takes no step. The new path is
+    /// spelled.
+    pub fn rename(
+        &mut self,
+        alloc: Global,
+        path: &Path,
+        to: &Path,
+        power: &mut Power,
+    ) -> Result<Option<u32>, KFault>
+        requires spelled { AreSpelled to.now }
+        requires awake { self.old.lost ≡ true → is_on power.old ≡ false }
+        ensures steps { Steps 256 power.old power.new }
+        ensures paid { IsPaid (rename_row path.now to.now self.old) power.old power.new result }
+        ensures answer { IsRenameAnswer path.now to.now self.old self.new result }
+    {
+        if !power.on() {
+            self.lost = true;
+            return Err(KFault::PowerLost);
+        }
+        match self.tables.rename(alloc, &mut self.batch, path, to) {
+            Err(fault) => Err(fault_of(fault)),
+            Ok(lost) => {
+                if self.batch.is_empty() {
+                    return Ok(lost);
+                }
+                match land_plan(&mut self.batch, &mut self.pm, &self.tables, power) {
+                    Commit::Done => Ok(lost),
+                    Commit::PowerLost => {
+                        self.lost = true;
+                        Err(KFault::PowerLost)
+                    }
+                }
+            }
+        }
+    }
+}

@@ -1,0 +1,18 @@
+use Rattle.world_exits.specs.Moves.{steps_rename}
+use Rattle.world_exits.specs.Steps.{steps_dropped, steps_mkdir, steps_rmdir, steps_unlinked}
+use Rattle.world_exits.proofs.changes_are_steps.Goals as goal
+
+pub returns-clause-mkdir : goal.returns-clause-mkdir
+returns-clause-mkdir c = steps_mkdir
+
+pub returns-clause-rmdir : goal.returns-clause-rmdir
+returns-clause-rmdir c = steps_rmdir
+
+pub returns-clause-unlinked : goal.returns-clause-unlinked
+returns-clause-unlinked c = steps_unlinked
+
+pub returns-clause-renamed : goal.returns-clause-renamed
+returns-clause-renamed c = steps_rename
+
+pub returns-clause-dropped : goal.returns-clause-dropped
+returns-clause-dropped c = steps_dropped

@@ -1,0 +1,130 @@
+-- The laws of the World's exits, each as one statement.
+use Rattle.std.specs.Prelude.{◌≡◌, ◌≢◌, ◌<◌, ◌+◌, ◌^◌, ℕ, true, false, length, Option, None, Some, List, [], ◌∷◌}
+use Rattle.pm_words.specs.declared.Cell.{Cell}
+use Rattle.disk_lines.specs.declared.Draft.{Draft}
+use Rattle.disk_rules.specs.Volume.{Volume}
+use Rattle.volume_changes.specs.Changes.{MayDrop}
+use Rattle.k_rules.specs.Changes.{dropped}
+use Rattle.k_rules.specs.Spaces.{volume_space}
+use Rattle.k_rules.specs.View.{View}
+use Rattle.k_plans.specs.Making.{IsMade}
+use Rattle.k_plans.specs.Removing.{IsRemoved, IsUnlinked}
+use Rattle.k_plans.specs.Renaming.{IsRenamed}
+use Rattle.k_plans.specs.Spelling.{AreSpelled}
+use Rattle.k_split.specs.Answers.{IsCut, IsDone, IsOff}
+use Rattle.posix_types.specs.declared.call.Call.{Call}
+use Rattle.posix_types.specs.declared.call.Mode.{Mode}
+use Rattle.posix_types.specs.declared.call.Who.{Who}
+use Rattle.posix_types.specs.declared.item.Item.{Item}
+use Rattle.posix_types.specs.declared.item.Outcome.{Outcome}
+use Rattle.posix_types.specs.declared.reply.Reply.{Reply}
+use Rattle.posix_words.specs.NameRows.{mkdir_rows, rename_rows, rmdir_rows, unlink_rows}
+use Rattle.posix_words.specs.Open.{is_open}
+use Rattle.posix_words.specs.Outcomes.{answer, first}
+use Rattle.posix_spec.specs.Run.{after_call, Begun, run}
+use Rattle.posix_spec.specs.State.{alone, State, swept, unnamed as unnamed_state}
+use Rattle.posix_spec.specs.Step.{step}
+use Rattle.posix_spec.specs.Tree.{tree}
+use Rattle.world_rules.specs.Stands.{number}
+use Rattle.world_names.specs.Makers.{renumbered}
+use Rattle.world_images.specs.Images.{IsRunning}
+use Rattle.world_images.specs.Laws.{IsTreeOf}
+use Rattle.world_images.specs.Promised.{KeepsPromise}
+use Rattle.world_exits.specs.Going.{IsGoing, IsNameCall, IsStep, moved_so_far, row_of_call}
+
+-- ---- a change of K-Split
+
+-- After a change that is done the World goes on.
+abbrev pub GoesOn : Type 0
+GoesOn =
+    (old new : View) (claims : List (ℕ × Draft)) (numbers after : List ℕ) (s next : State) (count later : ℕ) → IsGoing old claims numbers s count → IsDone old new
+    → IsStep old.volume new.volume claims numbers after s next count later → IsGoing new claims after next later
+
+-- Where a change of one call is cut off, in strict and in sync mode the device keeps the promise with that call unfinished.
+abbrev pub KeepsPromiseCut : Type 0
+KeepsPromiseCut =
+    (old new : View) (w : Volume) (claims : List (ℕ × Draft)) (numbers after : List ℕ) (s next : State) (count later : ℕ) (start : State) (history : List Item) (c : Begun) → start.mode ≢ Mode.Posix
+    → IsGoing old claims numbers s count → IsCut w old new → IsStep old.volume w claims numbers after s next count later
+    → IsTreeOf start history c (tree s) → IsTreeOf start history c (tree next) → KeepsPromise old.volume.geometry new.cells start history (c ∷ [])
+
+-- Where the power was off before the call began, it keeps the promise whatever is unfinished.
+abbrev pub KeepsPromiseOff : Type 0
+KeepsPromiseOff =
+    (old new : View) (claims : List (ℕ × Draft)) (numbers : List ℕ) (start : State) (history : List Item) (unfinished : List Begun) (count : ℕ) → IsGoing old claims numbers (run start history) count → IsOff old new
+    → KeepsPromise old.volume.geometry new.cells start history unfinished
+
+-- ---- the changes, each a step of the World
+
+-- `mkdir`
+abbrev pub StepsMkdir : Type 0
+StepsMkdir =
+    (v : Volume) (d : List Cell) (claims : List (ℕ × Draft)) (numbers : List ℕ) (s : State) (count : ℕ) (who : Who) (p : List (List ℕ)) (w : Volume) (ino : ℕ) → IsRunning v d claims numbers s count
+    → count + 1 < 2 ^ 31 → AreSpelled p → first (mkdir_rows (volume_space v) p) ≡ None → IsMade true p v w ino
+    → IsStep v w claims numbers (renumbered numbers ino (length s.nodes)) s (after_call s (who, Call.Mkdir p)) count (count + 1)
+
+-- `rmdir`
+abbrev pub StepsRmdir : Type 0
+StepsRmdir =
+    (v : Volume) (d : List Cell) (claims : List (ℕ × Draft)) (numbers : List ℕ) (s : State) (count : ℕ) (who : Who) (p : List (List ℕ)) (w : Volume) → IsRunning v d claims numbers s count
+    → first (rmdir_rows (volume_space v) p) ≡ None → IsRemoved p v w → IsStep v w claims numbers numbers s (after_call s (who, Call.Rmdir p)) count count
+
+-- `unlink`: first the name goes; then the file may be dropped; and the state of the call's end is that without the name, with
+-- the file swept
+abbrev pub StepsUnlinked : Type 0
+StepsUnlinked =
+    (v : Volume) (d : List Cell) (claims : List (ℕ × Draft)) (numbers : List ℕ) (s : State) (count : ℕ) (p : List (List ℕ)) (w : Volume) (ino : ℕ) → IsRunning v d claims numbers s count
+    → IsUnlinked p v w ino → IsStep v w claims numbers numbers s (unnamed_state s p) count count
+
+abbrev pub UnlinksFile : Type 0
+UnlinksFile =
+    (v : Volume) (d : List Cell) (claims : List (ℕ × Draft)) (numbers : List ℕ) (s : State) (count : ℕ) (p : List (List ℕ)) (w : Volume) (ino : ℕ) → IsRunning v d claims numbers s count
+    → IsUnlinked p v w ino → MayDrop ino w
+
+abbrev pub StateOfUnlink : Type 0
+StateOfUnlink =
+    (v : Volume) (d : List Cell) (claims : List (ℕ × Draft)) (numbers : List ℕ) (s : State) (count : ℕ) (who : Who) (p : List (List ℕ)) (w : Volume) (ino : ℕ) → IsRunning v d claims numbers s count
+    → first (unlink_rows (volume_space v) p) ≡ None → IsUnlinked p v w ino → after_call s (who, Call.Unlink p) ≡ swept alone (unnamed_state s p) (number numbers ino)
+
+-- a file without a name goes, which nobody has open
+abbrev pub StepsDropped : Type 0
+StepsDropped =
+    (v : Volume) (d : List Cell) (claims : List (ℕ × Draft)) (numbers : List ℕ) (s : State) (count c : ℕ) → IsRunning v d claims numbers s count
+    → MayDrop c v → is_open s.tables (number numbers c) ≡ false → IsStep v (dropped c v) claims numbers numbers s (swept alone s (number numbers c)) count count
+
+-- `rename`: what moves, moves, and a directory that stood there goes; a file that stood there loses its name
+abbrev pub StepsRename : Type 0
+StepsRename =
+    (v : Volume) (d : List Cell) (claims : List (ℕ × Draft)) (numbers : List ℕ) (s : State) (count : ℕ) (who : Who) (p q : List (List ℕ)) (w : Volume) (lost : Option ℕ) → IsRunning v d claims numbers s count
+    → first (rename_rows (volume_space v) p q) ≡ None → AreSpelled q → IsRenamed p q v w lost → IsStep v w claims numbers numbers s (moved_so_far lost s who p q) count count
+
+-- which may be dropped then; and the state of the call's end is that so far, with the file swept
+abbrev pub RenamesOverFile : Type 0
+RenamesOverFile =
+    (v : Volume) (d : List Cell) (claims : List (ℕ × Draft)) (numbers : List ℕ) (s : State) (count : ℕ) (who : Who) (p q : List (List ℕ)) (w : Volume) (ino : ℕ) → IsRunning v d claims numbers s count
+    → first (rename_rows (volume_space v) p q) ≡ None → IsRenamed p q v w (Some ino)
+    → MayDrop ino w × (after_call s (who, Call.Rename p q) ≡ swept alone (moved_so_far (Some ino) s who p q) (number numbers ino))
+
+-- ---- the trees between the two changes of a call are that of its end
+
+abbrev pub TreeOfUnlink : Type 0
+TreeOfUnlink =
+    (v : Volume) (d : List Cell) (claims : List (ℕ × Draft)) (numbers : List ℕ) (s : State) (count : ℕ) (who : Who) (p : List (List ℕ)) (w : Volume) (ino : ℕ) → IsRunning v d claims numbers s count
+    → first (unlink_rows (volume_space v) p) ≡ None → IsUnlinked p v w ino → tree (unnamed_state s p) ≡ tree (after_call s (who, Call.Unlink p))
+
+abbrev pub TreeOfRename : Type 0
+TreeOfRename =
+    (v : Volume) (d : List Cell) (claims : List (ℕ × Draft)) (numbers : List ℕ) (s : State) (count : ℕ) (who : Who) (p q : List (List ℕ)) (w : Volume) (lost : Option ℕ) → IsRunning v d claims numbers s count
+    → first (rename_rows (volume_space v) p q) ≡ None → IsRenamed p q v w lost → tree (moved_so_far lost s who p q) ≡ tree (after_call s (who, Call.Rename p q))
+
+-- ---- the replies
+
+-- A call that a row of the volume refuses answers what that row says, and changes nothing; one that none refuses is answered.
+abbrev pub RefusedByRow : Type 0
+RefusedByRow =
+    (v : Volume) (d : List Cell) (claims : List (ℕ × Draft)) (numbers : List ℕ) (s : State) (count : ℕ) (who : Who) (call : Call) (outcome : Outcome) → IsRunning v d claims numbers s count
+    → IsNameCall call → row_of_call (volume_space v) call ≡ Some outcome → step s who call ≡ record { state = s; outcome = outcome }
+
+abbrev pub DoneByRow : Type 0
+DoneByRow =
+    (v : Volume) (d : List Cell) (claims : List (ℕ × Draft)) (numbers : List ℕ) (s : State) (count : ℕ) (who : Who) (call : Call) → IsRunning v d claims numbers s count
+    → IsNameCall call → row_of_call (volume_space v) call ≡ None → (step s who call).outcome ≡ answer Reply.Ok

@@ -1,0 +1,7 @@
+pub mod Done
+pub mod Ends
+pub mod Going
+pub mod Laws
+pub mod Moves
+pub mod Spelled
+pub mod Steps

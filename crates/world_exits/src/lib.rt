@@ -1,0 +1,44 @@
+//! The World's exits: what each answer of K-Split makes of the World.
+//!
+//! Definitions and lemmas, no code. The layer above may rely on this: where the World goes on over K-Split
+//! (`IsGoing`), each change of names is a step of it (`IsStep`); a step that is done leaves a World that
+//! goes on (`GoesOn`), one that is cut off leaves a device that keeps the promise with the call unfinished
+//! (`KeepsPromiseCut`), and a call that K-Split refuses by a row is answered as that row says
+//! (`RefusedByRow`). `unlink`, and a `rename` over a file, take a second step, which drops the file. `Laws`
+//! has each law as one statement.
+//!
+//! Stands on `world_images` and `k_split`.
+#![tactic(auto)]
+
+ghost use Rattle.world_exits.specs.Laws.{DoneByRow, GoesOn, KeepsPromiseCut, KeepsPromiseOff, RefusedByRow, RenamesOverFile, StateOfUnlink, StepsDropped, StepsMkdir, StepsRename, StepsRmdir, StepsUnlinked, TreeOfRename, TreeOfUnlink, UnlinksFile};
+
+/// A change of K-Split that is done, that is cut off, and a call after the power went.
+pub fn a_step_ends()
+    ensures done { GoesOn }
+    ensures cut { KeepsPromiseCut }
+    ensures off { KeepsPromiseOff }
+{}
+
+/// Each change of names is a step of the World.
+pub fn changes_are_steps()
+    ensures mkdir { StepsMkdir }
+    ensures rmdir { StepsRmdir }
+    ensures unlinked { StepsUnlinked }
+    ensures renamed { StepsRename }
+    ensures dropped { StepsDropped }
+{}
+
+/// What a first step leaves for the second one: a file that may be dropped, and the tree of the call's end.
+pub fn a_second_step_ends_the_call()
+    ensures unlinked { UnlinksFile }
+    ensures unlink_state { StateOfUnlink }
+    ensures unlink_tree { TreeOfUnlink }
+    ensures renamed { RenamesOverFile }
+    ensures rename_tree { TreeOfRename }
+{}
+
+/// The replies of calls on names.
+pub fn replies_are_those_of_the_rows()
+    ensures refused { RefusedByRow }
+    ensures answered { DoneByRow }
+{}

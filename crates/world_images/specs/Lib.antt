@@ -1,0 +1,10 @@
+pub mod Changed
+pub mod Images
+pub mod Kept
+pub mod Laws
+pub mod Promised
+pub mod Rooms
+pub mod Running
+pub mod Settings
+pub mod Starts
+pub mod Unseen

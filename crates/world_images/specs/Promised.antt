@@ -1,0 +1,28 @@
+-- The promise of a device.
+use Rattle.std.specs.Prelude.{◌≡◌, ◌*◌, List}
+use Rattle.pm_words.specs.declared.Cell.{Cell}
+use Rattle.pm_words.specs.Cells.{cell}
+use Rattle.pm_words.specs.Images.{IsImage}
+use Rattle.pm_words.specs.Words.{Words}
+use Rattle.disk_places.specs.Places.{Geometry}
+use Rattle.disk_rules.specs.Content.{content}
+use Rattle.disk_rules.specs.Honest.{IsHonest}
+use Rattle.disk_rules.specs.Rules.{geometry_of, IsChecked}
+use Rattle.posix_types.specs.declared.item.Item.{Item}
+use Rattle.posix_types.specs.declared.tree.TreeEntry.{TreeEntry}
+use Rattle.posix_spec.specs.Run.{Begun}
+use Rattle.posix_spec.specs.State.{State}
+use Rattle.crash_spec.specs.Permitted.{Permitted}
+use Rattle.world_rules.specs.Shown.{IsTreeOfContent}
+
+-- The image is checked, with this geometry; its content has a tree; and each tree of it is permitted after the history, with
+-- these calls unfinished.
+pub record IsKept (g : Geometry) (start : State) (history : List Item) (unfinished : List Begun) (image : Words) : Type 0 where
+  pub checked : IsChecked (4096 * g.blocks) image
+  pub geometry : geometry_of image ≡ g
+  pub tree : (left : List TreeEntry) × IsTreeOfContent (content g image) left
+  pub permitted : (left : List TreeEntry) → IsTreeOfContent (content g image) left → Permitted start.mode start history unfinished left
+
+-- THE PROMISE: each honest image of the device is such a one.
+abbrev pub KeepsPromise : Geometry → List Cell → State → List Item → List Begun → Type 0
+KeepsPromise g d start history unfinished = (image : Words) → IsImage d image → IsHonest g (cell d) image → IsKept g start history unfinished image

@@ -18,7 +18,7 @@ use Rattle.posix_spec.specs.State.{space, State}
 use Rattle.posix_spec.specs.Tree.{start, tree}
 use Rattle.posix_trees.specs.Begins.{IsTree}
 use Rattle.world_rules.specs.Shown.{IsTreeOfContent}
-use Rattle.world_names.specs.Worlds.{IsWorld}
+use Rattle.world_steps.specs.Worlds.{IsWorld}
 use Rattle.world_beginning.specs.Begun.{numbers_of}
 use Rattle.world_beginning.specs.Mounted.{IsMounted}
 

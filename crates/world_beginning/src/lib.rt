@@ -8,7 +8,7 @@
 //! (`Begins`). `Mounted` has paths and content, `Trees` the tree, `Begun` the numbers and what stands,
 //! `Rooms` the room, `Laws` the laws, each as one statement.
 //!
-//! Stands on `world_names`, `world_spaces` and `posix_trees`.
+//! Stands on `world_steps`, `world_spaces` and `posix_trees`.
 #![tactic(auto)]
 
 ghost use Rattle.world_beginning.specs.Laws.{BeginsMounted, HasTreeMounted, MountsReads};

@@ -27,25 +27,25 @@ use Rattle.world_promise.specs.Landed.{NodeStands-same}
 use Rattle.world_promise.specs.Lent.{Valid-words}
 use Rattle.world_promise.specs.TreeRules.{all_lines, used_below}
 use Rattle.world_log.specs.LogRules.{ClaimsStand-landed}
-use Rattle.world_names.specs.Ages.{AreAged}
-use Rattle.world_names.specs.Worlds.{IsWorld}
-use Rattle.world_jobs.specs.Laws.{KeepsBegun, KeepsFilled, KeepsFinished, KeepsGivenUp, KeepsLap}
+use Rattle.world_steps.specs.Ages.{AreAged}
+use Rattle.world_steps.specs.Worlds.{IsWorld}
+use Rattle.world_jobs.specs.Laws.{KeepsBegun, KeepsFilled, KeepsFinished, KeepsGivenUp, KeepsLanded, KeepsLap}
 
 -- ---- any job may be taken to the front
 
 apart_turned : (i j : Job) → AreApartJobs i j → AreApartJobs j i
 apart_turned i j apart = record { files = λ same. apart.files (sym same); staging = λ same. (elim (apart.staging (sym same)) [ inl before ↦ inr before | inr behind ↦ inl behind ]) }
 
-record Parted (v : Volume) (live : List Draft) (f : Words) (numbers : List ℕ) (s : State) (j : Job) (rest : List Job) : Type 0 where
-  one : JobStands v live f numbers s j
-  apart : ApartFrom j rest
-  others : JobsStand v live f numbers s rest
+pub record Parted (v : Volume) (live : List Draft) (f : Words) (numbers : List ℕ) (s : State) (j : Job) (rest : List Job) : Type 0 where
+  pub one : JobStands v live f numbers s j
+  pub apart : ApartFrom j rest
+  pub others : JobsStand v live f numbers s rest
 
 apart_front : (i j : Job) (a b : List Job) → ApartFrom i (a ++ j ∷ b) → AreApartJobs i j × ApartFrom i (a ++ b)
 apart_front i j [] b apart = apart
 apart_front i j (k ∷ a) b apart = let rest = apart_front i j a b apart.1 in (rest.0, (apart.0, rest.1))
 
-front : (v : Volume) (live : List Draft) (f : Words) (numbers : List ℕ) (s : State) (a : List Job) (j : Job) (b : List Job) → JobsStand v live f numbers s (a ++ j ∷ b) → Parted v live f numbers s j (a ++ b)
+pub front : (v : Volume) (live : List Draft) (f : Words) (numbers : List ℕ) (s : State) (a : List Job) (j : Job) (b : List Job) → JobsStand v live f numbers s (a ++ j ∷ b) → Parted v live f numbers s j (a ++ b)
 front v live f numbers s [] j b out = record { one = out.0; apart = out.1; others = out.2 }
 front v live f numbers s (i ∷ a) j b out =
     let rest = front v live f numbers s a j b out.2 in
@@ -161,17 +161,12 @@ AreAged-more v claims slot d count aged alive staging small least = record {
   ];
 }
 
-pub finished : KeepsFinished
-finished v claims a j b f numbers s count slot world holds whole small =
+pub landed : KeepsLanded
+landed v claims a j b f numbers s count slot world holds small =
     let valid = Valid-front v claims a j b f numbers s world.valid in
     let job = valid.out.0 in
-    let same : acted numbers s j ≡ after_call s (begun_of j) =
-    ap (with_bytes (after_call s (begun_of j)) (number numbers j.draft.ino)) whole
-    ∙ with_bytes-whole s (begun_of j) (number numbers j.draft.ino) j.whole job.puts (valid.stands.names.within j.draft.ino (live_used v j.draft job.alive))
-    in
     let left = LeavesWhole-acted v (live_claims v claims) f numbers s j valid.stands job in
-    subst (λ x. IsWorld v (claims ++ (slot, j.draft) ∷ []) (a ++ b) f numbers x count) same
-    (record {
+    record {
       valid = Valid-landed v claims j (a ++ b) f numbers s slot valid holds;
       claims_stand = ClaimsStand-landed v claims slot j.draft world.claims_stand valid.stands.log job.alive job.order;
       aged = AreAged-more v claims slot j.draft count world.aged job.alive job.staging small (live_ino v j.draft valid.stands.sane job.alive);
@@ -181,7 +176,17 @@ finished v claims a j b f numbers s count slot world holds whole small =
         names = ap (λ x. x.names) left.shape ∙ world.shape.names;
       };
       geometry = world.geometry;
-    })
+    }
+
+pub finished : KeepsFinished
+finished v claims a j b f numbers s count slot world holds whole small =
+    let valid = Valid-front v claims a j b f numbers s world.valid in
+    let job = valid.out.0 in
+    let same : acted numbers s j ≡ after_call s (begun_of j) =
+    ap (with_bytes (after_call s (begun_of j)) (number numbers j.draft.ino)) whole
+    ∙ with_bytes-whole s (begun_of j) (number numbers j.draft.ino) j.whole job.puts (valid.stands.names.within j.draft.ino (live_used v j.draft job.alive))
+    in
+    subst (λ x. IsWorld v (claims ++ (slot, j.draft) ∷ []) (a ++ b) f numbers x count) same (landed v claims a j b f numbers s count slot world holds small)
 
 -- ---- a lap ends
 

@@ -1,8 +1,7 @@
--- The laws of jobs, of runs and of laps, each as one statement. `IsWorld v claims jobs f numbers s count`: the World is valid,
+-- The laws of jobs and laps, of resized files and of bytes in place, each as one statement. `IsWorld v claims jobs f numbers s count`: the World is valid,
 -- `count` nodes were made since the lap began, and `numbers` has the node of each inode.
-use Rattle.std.specs.Prelude.{◌≡◌, ◌≢◌, ◌<◌, ◌≤◌, ◌+◌, ◌^◌, ℕ, true, List, [], ◌∷◌, ◌++◌, None, Some, slice_set}
+use Rattle.std.specs.Prelude.{◌≡◌, ◌<◌, ◌≤◌, ◌+◌, ◌^◌, ℕ, true, List, [], ◌∷◌, ◌++◌, None, Some, slice_set}
 use Rattle.pm_words.specs.Words.{Words}
-use Rattle.extent_words.specs.declared.Extent.{Extent}
 use Rattle.disk_lines.specs.declared.Draft.{Draft}
 use Rattle.disk_rules.specs.Reading.{base_set}
 use Rattle.disk_rules.specs.Volume.{Volume}
@@ -27,12 +26,11 @@ use Rattle.posix_puts.specs.Views.{need_of}
 use Rattle.world_rules.specs.Jobs.{AreApartJobs, begun_of, HoldsWhole, Job, JobStands, live_claims}
 use Rattle.world_rules.specs.Shown.{SameButLent}
 use Rattle.world_rules.specs.Stands.{entries_of, number}
-use Rattle.world_promise.specs.JobLaws.{needs}
-use Rattle.world_names.specs.Steps.{AreBeside, flights_of, GoOn, LetsJobsBe}
-use Rattle.world_names.specs.Touched.{only}
-use Rattle.world_names.specs.Worlds.{IsWorld}
-use Rattle.world_jobs.specs.Places.{Restages, WritesInPlace}
-use Rattle.world_jobs.specs.Relinks.{IsFirst, Relinks}
+use Rattle.world_promise.specs.JobLaws.{acted, needs}
+use Rattle.world_steps.specs.Steps.{AreBeside, flights_of, GoOn, LetsJobsBe}
+use Rattle.world_steps.specs.Touched.{only}
+use Rattle.world_steps.specs.Worlds.{IsWorld}
+use Rattle.world_jobs.specs.Places.{WritesInPlace}
 use Rattle.world_jobs.specs.Resizes.{HasAlone, Resizes}
 
 -- ---- jobs
@@ -51,6 +49,15 @@ abbrev pub KeepsFilled : Type 0
 KeepsFilled =
     (v : Volume) (claims : List (ℕ × Draft)) (jobs : List Job) (f g : Words) (numbers : List ℕ) (s : State) (count : ℕ)
     → IsWorld v claims jobs f numbers s count → SameButLent v jobs f g → IsWorld v claims jobs g numbers s count
+
+-- any of the jobs lands: its blocks hold what is found of it, its entry is claimed in a slot, and the state has what is found
+abbrev pub KeepsLanded : Type 0
+KeepsLanded =
+    (v : Volume) (claims : List (ℕ × Draft)) (a : List Job) (j : Job) (b : List Job) (f : Words) (numbers : List ℕ)
+    (s : State) (count slot : ℕ)
+    → IsWorld v claims (a ++ j ∷ b) f numbers s count → HoldsWhole v f j.draft j.found
+    → j.draft.generation < 2 ^ 32
+    → IsWorld v (claims ++ (slot, j.draft) ∷ []) (a ++ b) f numbers (acted numbers s j) count
 
 -- any of the jobs finishes: its blocks hold its whole bytes, its entry is claimed in a slot, and its call has acted
 abbrev pub KeepsFinished : Type 0
@@ -101,25 +108,6 @@ KeepsCut =
     → Resizes v w ino → entries_of ino (live_claims v claims) ≡ [] → HasAlone w f ino []
     → IsWorld w claims jobs f numbers (after_call s (who, Call.Open h p flags)) count
 
--- ---- runs
-
--- the first live entry of a file is carried out: the state stays, and one entry less is live
-abbrev pub KeepsRelinked : Type 0
-KeepsRelinked =
-    (v w : Volume) (claims : List (ℕ × Draft)) (jobs : List Job) (f : Words) (numbers : List ℕ) (s : State) (count : ℕ)
-    (d : Draft) (displaced : List Extent) (rest : List Draft)
-    → IsWorld v claims jobs f numbers s count → Relinks v w d displaced → IsFirst v w (live_claims v claims) d rest
-    → AreBeside (only d.ino) jobs → IsWorld w claims jobs f numbers s count
-
--- a staging file in which nothing is live, nor any job, is given up, or gets new blocks
-abbrev pub KeepsRestaged : Type 0
-KeepsRestaged =
-    (v w : Volume) (claims : List (ℕ × Draft)) (jobs : List Job) (f : Words) (numbers : List ℕ) (s : State)
-    (count x : ℕ)
-    → IsWorld v claims jobs f numbers s count → Restages v w x
-    → ((d : Draft) → In d (live_claims v claims) → d.staging ≢ x)
-    → ((j : Job) → In j jobs → j.draft.staging ≢ x) → IsWorld w claims jobs f numbers s count
-
 -- ---- bytes in place
 
 -- bytes of a file that no job has are written where they lie, and the next state has them
@@ -131,3 +119,14 @@ KeepsInPlace =
     → AreBeside (only ino) jobs → GoOn s new numbers jobs → new.entries ≡ s.entries → new.shape ≡ s.shape
     → new.nodes ≡ slice_set s.nodes (number numbers ino) (Node.File (record { bytes = bytes; published = published }))
     → IsWorld v claims jobs g numbers new count
+
+-- A job finishes in sync mode: its entry is claimed, and then the bytes of its file below the old length are written in place,
+-- so that the file has its whole bytes; its call has acted.
+abbrev pub KeepsFinishedInPlace : Type 0
+KeepsFinishedInPlace =
+    (v : Volume) (claims : List (ℕ × Draft)) (a : List Job) (j : Job) (b : List Job) (f g : Words) (numbers : List ℕ)
+    (s : State) (count slot : ℕ)
+    → IsWorld v claims (a ++ j ∷ b) f numbers s count → HoldsWhole v f j.draft j.found
+    → j.draft.generation < 2 ^ 32
+    → WritesInPlace v (live_claims v (claims ++ (slot, j.draft) ∷ [])) f g j.draft.ino j.whole
+    → IsWorld v (claims ++ (slot, j.draft) ∷ []) (a ++ b) g numbers (after_call s (begun_of j)) count

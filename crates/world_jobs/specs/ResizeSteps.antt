@@ -31,10 +31,10 @@ use Rattle.world_rules.specs.Jobs.{Job, live_claims}
 use Rattle.world_rules.specs.Stands.{entries_of, FileStands, is_used, IsSane, IsUsed, NamesStand, NodeStands, number}
 use Rattle.world_promise.specs.Landed.{NamesStand-same}
 use Rattle.world_promise.specs.Latest.{latest-In}
-use Rattle.world_names.specs.Ages.{AreAged-same}
-use Rattle.world_names.specs.Steps.{AreBeside, GoOn, GoOn-call, LetsJobsBe, shown_node, Steps}
-use Rattle.world_names.specs.Touched.{beside, entries-touched, Leaves, only}
-use Rattle.world_names.specs.Worlds.{IsWorld, IsWorld-left}
+use Rattle.world_steps.specs.Ages.{AreAged-same}
+use Rattle.world_steps.specs.Steps.{AreBeside, GoOn, GoOn-call, LetsJobsBe, shown_node, Steps}
+use Rattle.world_steps.specs.Touched.{beside, entries-touched, Leaves, only}
+use Rattle.world_steps.specs.Worlds.{IsWorld, IsWorld-left}
 use Rattle.world_jobs.specs.Laws.{KeepsCut, KeepsTruncated}
 use Rattle.world_jobs.specs.Resizes.{HasAlone, Resizes}
 

@@ -30,13 +30,13 @@ use Rattle.posix_frames.specs.Needs.{AreInFlight}
 use Rattle.world_rules.specs.Jobs.{Job, live_claims}
 use Rattle.world_rules.specs.Stands.{is_used, IsSane, IsUsed, NamesStand, number}
 use Rattle.world_promise.specs.TreeRules.{all_lines, used_below}
-use Rattle.world_names.specs.Ages.{AreAged-same}
-use Rattle.world_names.specs.Makers.{Steps-gone, Steps-names}
-use Rattle.world_names.specs.Nameless.{IsNameless, nameless-count}
-use Rattle.world_names.specs.NameTables.{NamesStand-freed, NamesStand-gone}
-use Rattle.world_names.specs.Steps.{AreBeside, AreBeside-none, flights_of, GoOn, shown_node}
-use Rattle.world_names.specs.Touched.{Leaves, only, untouched}
-use Rattle.world_names.specs.Worlds.{IsWorld, IsWorld-left, spelled-set}
+use Rattle.world_steps.specs.Ages.{AreAged-same}
+use Rattle.world_steps.specs.Makers.{Steps-gone, Steps-names}
+use Rattle.world_steps.specs.Nameless.{IsNameless, nameless-count}
+use Rattle.world_steps.specs.NameTables.{NamesStand-freed, NamesStand-gone}
+use Rattle.world_steps.specs.Steps.{AreBeside, AreBeside-none, flights_of, GoOn, shown_node}
+use Rattle.world_steps.specs.Touched.{Leaves, only, untouched}
+use Rattle.world_steps.specs.Worlds.{IsWorld, IsWorld-left, spelled-set}
 
 -- ---- a change of names alone
 

@@ -1,13 +1,11 @@
 -- The laws of the changes of names and nodes, each as one statement. `IsWorld v claims jobs f numbers s count`: the World is
 -- valid, `count` nodes were made since the lap began, and `numbers` has the node of each inode.
-use Rattle.std.specs.Prelude.{◌≡◌, ◌⊎◌, ◌<◌, ◌+◌, ◌^◌, ℕ, true, false, List, length, map, None, Some}
+use Rattle.std.specs.Prelude.{◌≡◌, ◌⊎◌, ◌<◌, ◌+◌, ◌^◌, ℕ, true, false, List, length, None, Some}
 use Rattle.pm_words.specs.Words.{Words}
 use Rattle.disk_lines.specs.declared.Draft.{Draft}
-use Rattle.disk_lines.specs.declared.Kind.{Kind}
 use Rattle.disk_lines.specs.declared.Kind.TheVariants.{Directory, File}
-use Rattle.disk_lines.specs.Lines.{is_name, NameRow}
+use Rattle.disk_lines.specs.Lines.{is_name}
 use Rattle.disk_lines.specs.Names.{free_line}
-use Rattle.disk_rules.specs.Live.{is_of_file}
 use Rattle.disk_rules.specs.Volume.{inode, Volume}
 use Rattle.k_rules.specs.Changes.{dropped, made, removed, renamed, renamed_over_directory, renamed_over_file, unnamed}
 use Rattle.k_rules.specs.Spaces.{volume_space}
@@ -26,14 +24,12 @@ use Rattle.posix_spec.specs.FileRows.{close_rows, file_number}
 use Rattle.posix_spec.specs.Run.{after_call}
 use Rattle.posix_spec.specs.State.{alone, space, State, unnamed as unnamed_state}
 use Rattle.posix_spec.specs.Step.{is_busy, renamed as renamed_state}
-use Rattle.list_facts.specs.Members.{In}
 use Rattle.world_rules.specs.Jobs.{Job}
 use Rattle.world_rules.specs.Stands.{number}
-use Rattle.world_names.specs.Ages.{AreAged}
-use Rattle.world_names.specs.Makers.{renumbered}
-use Rattle.world_names.specs.Nameless.{IsNameless}
-use Rattle.world_names.specs.Steps.{LetsJobsBe}
-use Rattle.world_names.specs.Worlds.{IsFound, IsIdle, IsWorld}
+use Rattle.world_steps.specs.Makers.{renumbered}
+use Rattle.world_steps.specs.Nameless.{IsNameless}
+use Rattle.world_steps.specs.Steps.{LetsJobsBe}
+use Rattle.world_steps.specs.Worlds.{IsFound, IsIdle, IsWorld}
 
 -- `mkdir`
 abbrev pub KeepsMkdir : Type 0
@@ -188,10 +184,3 @@ KeepsCloseGone =
     → number numbers c ≡ file_number s.tables who h → IsNameless v.names c
     → is_open (closed s.tables who h) (file_number s.tables who h) ≡ false
     → IsWorld (dropped c v) claims jobs f numbers (after_call s (who, Call.Close h)) count
-
--- no claim of the lap is of the file that is made
-abbrev pub StaysDead : Type 0
-StaysDead =
-    (kind : Kind) (ino line : ℕ) (r : NameRow) (v : Volume) (claims : List (ℕ × Draft)) (count : ℕ) (d : Draft)
-    → AreAged v claims count → ino < length v.inodes → In d (map (λ (c : ℕ × Draft). c.1) claims) → d.ino ≡ ino
-    → is_of_file (made kind ino line r v) d ≡ false

@@ -37,12 +37,12 @@ use Rattle.world_promise.specs.JobLaws.{live_file}
 use Rattle.world_promise.specs.TreeRules.{all_lines}
 use Rattle.world_spaces.specs.Mirrors.{Mirrors, node_at_path-same}
 use Rattle.world_spaces.specs.Rows.{HaveSameRows-Mirrors}
-use Rattle.world_names.specs.Ages.{AreAged-made, dead-made}
-use Rattle.world_names.specs.Makers.{renumbered, renumbered-other, renumbered-own, Steps-made}
-use Rattle.world_names.specs.NameTables.{NamesStand-made}
-use Rattle.world_names.specs.Steps.{AreBeside, GoOn, GoOn-call, Steps}
-use Rattle.world_names.specs.Touched.{beside, entries-touched, Leaves, only}
-use Rattle.world_names.specs.Worlds.{IsWorld, IsWorld-left, parent_number, spelled-set, world_mirror, world_volume}
+use Rattle.world_steps.specs.Ages.{AreAged-made, dead-made}
+use Rattle.world_steps.specs.Makers.{renumbered, renumbered-other, renumbered-own, Steps-made}
+use Rattle.world_steps.specs.NameTables.{NamesStand-made}
+use Rattle.world_steps.specs.Steps.{AreBeside, GoOn, GoOn-call, Steps}
+use Rattle.world_steps.specs.Touched.{beside, entries-touched, Leaves, only}
+use Rattle.world_steps.specs.Worlds.{IsWorld, IsWorld-left, parent_number, spelled-set, world_mirror, world_volume}
 use Rattle.world_names.specs.Laws.{KeepsCreated, KeepsMkdir}
 
 -- what is made: a directory, or a file without bytes

@@ -26,10 +26,10 @@ use Rattle.world_rules.specs.Jobs.{Job}
 use Rattle.world_rules.specs.Stands.{is_used, IsUsed}
 use Rattle.world_promise.specs.Landed.{NamesStand-same}
 use Rattle.world_names.specs.GoneCalls.{IsWorld-dropped, IsWorld-rows}
-use Rattle.world_names.specs.Nameless.{is_named-nameless}
+use Rattle.world_steps.specs.Nameless.{is_named-nameless}
 use Rattle.world_names.specs.RemoveCalls.{swept-gone, swept-named, swept-open}
-use Rattle.world_names.specs.Steps.{flights_of, GoOn, GoOn-call, shown_node}
-use Rattle.world_names.specs.Worlds.{IsIdle, IsWorld}
+use Rattle.world_steps.specs.Steps.{flights_of, GoOn, GoOn-call, shown_node}
+use Rattle.world_steps.specs.Worlds.{IsIdle, IsWorld}
 use Rattle.world_names.specs.Laws.{KeepsCloseGone, KeepsClosed, KeepsOpened, KeepsIdle}
 
 -- entries, shape, and nodes but for published lengths are the same

@@ -35,10 +35,10 @@ use Rattle.world_promise.specs.TreeRules.{all_lines, used_below}
 use Rattle.world_spaces.specs.Rows.{HaveSameRows-Mirrors}
 use Rattle.world_names.specs.GoneCalls.{IsWorld-dropped, IsWorld-gone, IsWorld-unnamed}
 use Rattle.world_names.specs.MadeCalls.{beside-no_file}
-use Rattle.world_names.specs.Nameless.{count-nameless, is_named-nameless, IsNameless, nameless-freed}
-use Rattle.world_names.specs.NameTables.{NamesStand-freed, NamesStand-gone, row_used}
-use Rattle.world_names.specs.Steps.{GoOn, GoOn-call, GoOn-entries, shown_node}
-use Rattle.world_names.specs.Worlds.{IsFound, IsWorld, node_there, parent_number, spelled-set, world_mirror}
+use Rattle.world_steps.specs.Nameless.{count-nameless, is_named-nameless, IsNameless, nameless-freed}
+use Rattle.world_steps.specs.NameTables.{NamesStand-freed, NamesStand-gone, row_used}
+use Rattle.world_steps.specs.Steps.{GoOn, GoOn-call, GoOn-entries, shown_node}
+use Rattle.world_steps.specs.Worlds.{IsFound, IsWorld, node_there, parent_number, spelled-set, world_mirror}
 use Rattle.world_names.specs.Laws.{KeepsRmdir, KeepsUnlinkClosed, KeepsUnlinkMidway, KeepsUnlinkOpen}
 
 -- A file that is open stays when it is swept, and one that nobody has open and that has no name goes.

@@ -41,12 +41,12 @@ use Rattle.world_spaces.specs.Mirrors.{node_at_path-same}
 use Rattle.world_spaces.specs.Rows.{HaveSameRows-Mirrors}
 use Rattle.world_names.specs.GoneCalls.{IsSane-rows, IsWorld-dropped, IsWorld-gone, IsWorld-rows}
 use Rattle.world_names.specs.MadeCalls.{beside-no_file}
-use Rattle.world_names.specs.Nameless.{count-nameless, is_named-nameless, IsNameless, nameless-moved_over}
-use Rattle.world_names.specs.NameTables.{moved_entries, NamesStand-gone, NamesStand-moved, row_used}
+use Rattle.world_steps.specs.Nameless.{count-nameless, is_named-nameless, IsNameless, nameless-moved_over}
+use Rattle.world_steps.specs.NameTables.{moved_entries, NamesStand-gone, NamesStand-moved, row_used}
 use Rattle.world_names.specs.RemoveCalls.{one_number, row_of, swept-gone, swept-open}
 use Rattle.world_names.specs.RemoveCalls as removing
-use Rattle.world_names.specs.Steps.{GoOn, GoOn-call, GoOn-entries, shown_node}
-use Rattle.world_names.specs.Worlds.{IsFound, IsWorld, node_there, parent_number, spelled-set, world_mirror, world_volume}
+use Rattle.world_steps.specs.Steps.{GoOn, GoOn-call, GoOn-entries, shown_node}
+use Rattle.world_steps.specs.Worlds.{IsFound, IsWorld, node_there, parent_number, spelled-set, world_mirror, world_volume}
 use Rattle.world_names.specs.Laws.{KeepsRenameDirectory, KeepsRenameClosed, KeepsRenameMidway, KeepsRenameOpen, KeepsRenamed}
 
 spelled_row : (t : NameRow) → is_name t.name ≡ true → (r : NameRow) → Some t ≡ Some r → is_name r.name ≡ true

@@ -1,24 +1,21 @@
 //! Calls on names keep the World valid, whatever writes are in flight.
 //!
-//! Lemmas, and the small definitions that they speak of. `IsWorld` says what holds between two events:
-//! the world is valid, its claims stand, the state has the shape of the volume, and fewer than 2^31 nodes
-//! were made since the lap began. The layer above may rely on this: where K-Split makes of the volume what
-//! a call asks for, the new volume stands for the state after the call's step, and the World stays one
-//! (`KeepsMkdir` and so on, one law a call); where a call takes two changes of the volume, the World is one
-//! between them too; and an entry of a dead file never comes to life in a lap (`StaysDead`).
-//! `Touched` has what a change leaves of files, `Steps` and `Worlds` how one step keeps everything,
-//! `NameTables` the names, `Ages` the generations, and the files `..Calls` the calls.
+//! Lemmas alone. The layer above may rely on this: where K-Split makes of the volume what a call asks for,
+//! the new volume stands for the state after the call's step, and the World stays one (`KeepsMkdir` and so
+//! on, one law a call); and where a call takes two changes of the volume, the World is one between them
+//! too, for the state without the name. `MadeCalls` has the calls that make a node, `GoneCalls` what goes
+//! with a name, `RemoveCalls` the calls that remove, `RenameCalls` the renames, `OtherCalls` those that
+//! leave the volume, and the last `close`; `Laws` has the laws, each as one statement.
 //!
-//! Stands on `world_promise`, `world_spaces`, `volume_changes` and `posix_frames`.
+//! Stands on `world_steps`, `world_spaces` and `volume_changes`.
 #![tactic(auto)]
 
-ghost use Rattle.world_names.specs.Laws.{KeepsClosed, KeepsCloseGone, KeepsCreated, KeepsIdle, KeepsMkdir, KeepsOpened, KeepsRenameClosed, KeepsRenameDirectory, KeepsRenamed, KeepsRenameMidway, KeepsRenameOpen, KeepsRmdir, KeepsUnlinkClosed, KeepsUnlinkMidway, KeepsUnlinkOpen, StaysDead};
+ghost use Rattle.world_names.specs.Laws.{KeepsClosed, KeepsCloseGone, KeepsCreated, KeepsIdle, KeepsMkdir, KeepsOpened, KeepsRenameClosed, KeepsRenameDirectory, KeepsRenamed, KeepsRenameMidway, KeepsRenameOpen, KeepsRmdir, KeepsUnlinkClosed, KeepsUnlinkMidway, KeepsUnlinkOpen};
 
-/// A node is made, and no claim of the lap is of it.
+/// A node is made.
 pub fn nodes_are_made()
     ensures mkdir { KeepsMkdir }
     ensures created { KeepsCreated }
-    ensures dead { StaysDead }
 {}
 
 /// A name goes, and a node without a name that nobody has open.

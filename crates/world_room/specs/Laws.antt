@@ -12,7 +12,7 @@ use Rattle.k_rules.specs.Changes.{dropped}
 use Rattle.world_rules.specs.Jobs.{Job, live_claims}
 use Rattle.world_rules.specs.Stands.{IsSane}
 use Rattle.world_log.specs.Rules.{HasFreeBlocks}
-use Rattle.world_jobs.specs.Relinks.{Relinks}
+use Rattle.world_runs.specs.Relinks.{Relinks}
 
 -- ---- the transitions keep it
 

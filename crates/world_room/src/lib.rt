@@ -8,7 +8,7 @@
 //! preallocation leaves what one run more wants (`LeavesForTheNext`). `Laws` has the facts, each as one
 //! statement.
 //!
-//! Stands on `world_log`, `world_jobs` and `volume_uses`.
+//! Stands on `world_log`, `world_runs` and `volume_uses`.
 #![tactic(auto)]
 
 ghost use Rattle.world_room.specs.Laws.{FindsEach, FindsItsBlocks, FreesAsMany, FreesDropped, LeavesForTheNext, LivesNoMore, StaysFree, StaysFreeBegun, StaysFreeFinished, StaysFreeGivenUp, StaysFreeRelinked, TakesOneAtMost};

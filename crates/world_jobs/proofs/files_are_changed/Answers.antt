@@ -1,3 +1,4 @@
+use Rattle.world_jobs.specs.FinishSteps.{finished_in_place}
 use Rattle.world_jobs.specs.PlaceSteps.{in_place}
 use Rattle.world_jobs.specs.ResizeSteps.{cut, truncated}
 use Rattle.world_jobs.proofs.files_are_changed.Goals as goal
@@ -10,3 +11,6 @@ returns-clause-cut c = cut
 
 pub returns-clause-in_place : goal.returns-clause-in_place
 returns-clause-in_place c = in_place
+
+pub returns-clause-finished : goal.returns-clause-finished
+returns-clause-finished c = finished_in_place

@@ -1,4 +1,3 @@
-use Rattle.world_names.specs.Ages.{dead-made}
 use Rattle.world_names.specs.MadeCalls.{IsWorld-created, IsWorld-mkdir}
 use Rattle.world_names.proofs.nodes_are_made.Goals as goal
 
@@ -7,6 +6,3 @@ returns-clause-mkdir c = IsWorld-mkdir
 
 pub returns-clause-created : goal.returns-clause-created
 returns-clause-created c = IsWorld-created
-
-pub returns-clause-dead : goal.returns-clause-dead
-returns-clause-dead c = dead-made

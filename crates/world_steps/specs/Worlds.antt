@@ -24,8 +24,8 @@ use Rattle.world_promise.specs.TreeRules.{all_lines}
 use Rattle.world_spaces.specs.Counts.{HasShape}
 use Rattle.world_spaces.specs.Mirrors.{Mirrors, node_at_path-same, walk-Ok}
 use Rattle.world_spaces.specs.Spaces.{Mirrors-Stands}
-use Rattle.world_names.specs.Ages.{AreAged}
-use Rattle.world_names.specs.Steps.{AreBeside, ClaimsStand-left, GoOn, Steps, Valid-left}
+use Rattle.world_steps.specs.Ages.{AreAged}
+use Rattle.world_steps.specs.Steps.{AreBeside, ClaimsStand-left, GoOn, Steps, Valid-left}
 
 -- THE WORLD: `count` nodes were made since the lap began.
 pub record IsWorld (v : Volume) (claims : List (ℕ × Draft)) (jobs : List Job) (f : Words) (numbers : List ℕ) (s : State) (count : ℕ) : Type 0 where

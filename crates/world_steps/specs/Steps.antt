@@ -36,7 +36,7 @@ use Rattle.world_rules.specs.Jobs.{begun_of, Job, JobsStand, JobStands, live_cla
 use Rattle.world_rules.specs.Stands.{is_used, IsSane, IsUsed, NamesStand, NodeStands, number, Stands}
 use Rattle.world_promise.specs.JobLaws.{live_file, live_used}
 use Rattle.world_promise.specs.Landed.{NodeStands-same}
-use Rattle.world_names.specs.Touched.{beside, beside-In, disk_of-left, entries-beside, is_beside, Leaves, LogStands-left, SameFile-left, staged-left, staging-left, untouched}
+use Rattle.world_steps.specs.Touched.{beside, beside-In, disk_of-left, entries-beside, is_beside, Leaves, LogStands-left, SameFile-left, staged-left, staging-left, untouched}
 
 -- a node as it is shown: its published length does not matter
 abbrev pub shown_node : Node → Node

@@ -15,8 +15,8 @@ use Rattle.posix_spec.specs.State.{State}
 use Rattle.list_facts.specs.Members.{In}
 use Rattle.world_rules.specs.Jobs.{live_claims}
 use Rattle.world_rules.specs.Stands.{is_used, IsSane, IsUsed, NamesStand, NodesStand, NodeStands, number}
-use Rattle.world_names.specs.Steps.{shown_node, Steps}
-use Rattle.world_names.specs.Touched.{beside, Leaves, only, untouched}
+use Rattle.world_steps.specs.Steps.{shown_node, Steps}
+use Rattle.world_steps.specs.Touched.{beside, Leaves, only, untouched}
 
 -- the numbers with another one for an inode
 abbrev pub renumbered : List ℕ → ℕ → ℕ → List ℕ

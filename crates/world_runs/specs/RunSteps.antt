@@ -23,11 +23,11 @@ use Rattle.world_rules.specs.Stands.{Consecutive, entries_of, is_used, IsUsed, L
 use Rattle.world_promise.specs.JobLaws.{live_file}
 use Rattle.world_promise.specs.Landed.{NodeStands-same, SameFile}
 use Rattle.world_promise.specs.Latest.{Consecutive-between, latest-In, latest-most, latest-none, OneOrderEach-Consecutive}
-use Rattle.world_names.specs.Ages.{AreAged-same}
-use Rattle.world_names.specs.Steps.{AreBeside}
-use Rattle.world_names.specs.Touched.{only}
-use Rattle.world_jobs.specs.Laws.{KeepsRelinked}
-use Rattle.world_jobs.specs.Relinks.{IsFirst, Relinks}
+use Rattle.world_steps.specs.Ages.{AreAged-same}
+use Rattle.world_steps.specs.Steps.{AreBeside}
+use Rattle.world_steps.specs.Touched.{only}
+use Rattle.world_runs.specs.Laws.{KeepsRelinked}
+use Rattle.world_runs.specs.Relinks.{IsFirst, Relinks}
 
 -- an entry is left: it is of another file, or a later one
 abbrev is_left : Draft → Draft → Bool

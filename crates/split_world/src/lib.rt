@@ -9,6 +9,7 @@
 #![tactic(auto)]
 
 mod outcomes;
+mod removing;
 mod world;
 
 pub use outcomes::{NoMemory, Progress, Unfinished};

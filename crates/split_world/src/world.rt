@@ -20,14 +20,14 @@ use std::marker::Model;
 /// A file system with the history of its calls since it was mounted. Contracts see a `WorldView`.
 #[derive(Debug, Drop)]
 pub struct World {
-    k: KSplit,
-    geometry: Geometry,
-    tree: Tree,
-    shape: Shape,
-    mode: Mode,
-    history: Vec<Item>,
-    unfinished: Option<Unfinished>,
-    made: u32,
+    pub(crate) k: KSplit,
+    pub(crate) geometry: Geometry,
+    pub(crate) tree: Tree,
+    pub(crate) shape: Shape,
+    pub(crate) mode: Mode,
+    pub(crate) history: Vec<Item>,
+    pub(crate) unfinished: Option<Unfinished>,
+    pub(crate) made: u32,
 }
 
 impl Model for World {
@@ -92,7 +92,7 @@ impl World {
 }
 
 // Adds an item for which there is room.
-fn add(history: &mut Vec<Item>, item: Item)
+pub(crate) fn add(history: &mut Vec<Item>, item: Item)
     requires { vec_len history.old < vec_capacity history.old }
     ensures { history.new.items ≡ history.old.items ++ item ∷ [] }
 {

@@ -120,6 +120,12 @@ KeepsPromiseOfCall =
     → IsRunning v d claims numbers s count → IsChange v w d e → HasRoom w claims [] new → Takes v w claims [] numbers after s new count later
     → IsTreeOf start history c (tree s) → IsTreeOf start history c (tree new) → KeepsPromise v.geometry e start history (c ∷ [])
 
+-- And between two changes of one call.
+abbrev pub KeepsPromiseBetween : Type 0
+KeepsPromiseBetween =
+    (v : Volume) (d : List Cell) (claims : List (ℕ × Draft)) (numbers : List ℕ) (s : State) (count : ℕ) (start : State) (history : List Item) (c : Begun) → start.mode ≢ Mode.Posix
+    → IsRunning v d claims numbers s count → IsTreeOf start history c (tree s) → KeepsPromise v.geometry d start history (c ∷ [])
+
 -- ---- the room
 
 -- Room is kept where a node is made in the place of a free one, which no claim of the lap is of;

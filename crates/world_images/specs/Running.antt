@@ -24,7 +24,7 @@ use Rattle.world_rules.specs.Shown.{SameButLent}
 use Rattle.world_images.specs.Changed.{headed_changed, IsWorld-words, same_data, SameLog-changed, ShowsLog-same, sound_headed}
 use Rattle.world_images.specs.Images.{HasRoom, IsChange, IsHeaded, IsRunning, ShowsLog, ShowsWorld}
 use Rattle.world_images.specs.Kept.{kept_one}
-use Rattle.world_images.specs.Laws.{ChangesDevice, IsTreeOf, KeepsLogHome, KeepsPromiseInChange, KeepsPromiseOfCall, RunsOn, RunsPromised, StaysRunning, Takes}
+use Rattle.world_images.specs.Laws.{ChangesDevice, IsTreeOf, KeepsLogHome, KeepsPromiseBetween, KeepsPromiseInChange, KeepsPromiseOfCall, RunsOn, RunsPromised, StaysRunning, Takes}
 use Rattle.world_images.specs.Promised.{IsKept}
 
 -- each image of a running world shows it
@@ -150,3 +150,7 @@ pub promise_of_call : KeepsPromiseOfCall
 promise_of_call v w d e claims numbers after s new count later start history c mode running change room takes before behind =
     promise_in_change v w d e claims numbers after s new count later start history (c ∷ []) running change room takes
     (permitted_one start.mode start history c (tree s) mode before) (permitted_one start.mode start history c (tree new) mode behind)
+
+pub promise_between : KeepsPromiseBetween
+promise_between v d claims numbers s count start history c mode running tree_is image is honest =
+    kept_one v claims numbers s count image start history (c ∷ []) (shows_running v d claims numbers s count image running is) (permitted_one start.mode start history c (tree s) mode tree_is)

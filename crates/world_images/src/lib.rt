@@ -9,7 +9,7 @@
 //! Stands on `world_promise`, `world_log`, `world_names` and `image_facts`.
 #![tactic(auto)]
 
-ghost use Rattle.world_images.specs.Laws.{BeginsRunning, ChangesDevice, HasSetting, HasTreeOfClose, HasTreeOfRename, HasTreeOfUnlink, KeepsLogHome, KeepsPromiseInChange, KeepsPromiseOfCall, KeepsRoomDropped, KeepsRoomMade, KeepsRoomRemoved, KeepsRoomRenamed, KeepsRoomRenamedOverDirectory, KeepsRoomRenamedOverFile, KeepsRoomUnnamed, KeepsSettings, KeepsStrictImage, KeepsSyncImage, MayBeLostLast, RunsOn, RunsPromised, StaysRunning};
+ghost use Rattle.world_images.specs.Laws.{BeginsRunning, ChangesDevice, HasSetting, HasTreeOfClose, HasTreeOfRename, HasTreeOfUnlink, KeepsLogHome, KeepsPromiseBetween, KeepsPromiseInChange, KeepsPromiseOfCall, KeepsRoomDropped, KeepsRoomMade, KeepsRoomRemoved, KeepsRoomRenamed, KeepsRoomRenamedOverDirectory, KeepsRoomRenamedOverFile, KeepsRoomUnnamed, KeepsSettings, KeepsStrictImage, KeepsSyncImage, MayBeLostLast, RunsOn, RunsPromised, StaysRunning};
 
 /// A device on which the World runs keeps the promise, and so does each image that shows the World with
 /// writes in flight.
@@ -28,10 +28,11 @@ pub fn a_change_is_done()
     ensures idle { StaysRunning }
 {}
 
-/// A change of the volume that is cut off keeps the promise.
+/// A change of the volume that is cut off keeps the promise, and so does the device between two changes.
 pub fn a_change_is_cut_off()
     ensures trees { KeepsPromiseInChange }
     ensures call { KeepsPromiseOfCall }
+    ensures between { KeepsPromiseBetween }
 {}
 
 /// The trees between two changes of one call are that of the call's end, or that before it.

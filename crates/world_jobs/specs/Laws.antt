@@ -1,0 +1,133 @@
+-- The laws of jobs, of runs and of laps, each as one statement. `IsWorld v claims jobs f numbers s count`: the World is valid,
+-- `count` nodes were made since the lap began, and `numbers` has the node of each inode.
+use Rattle.std.specs.Prelude.{◌≡◌, ◌≢◌, ◌<◌, ◌≤◌, ◌+◌, ◌^◌, ℕ, true, List, [], ◌∷◌, ◌++◌, None, Some, slice_set}
+use Rattle.pm_words.specs.Words.{Words}
+use Rattle.extent_words.specs.declared.Extent.{Extent}
+use Rattle.disk_lines.specs.declared.Draft.{Draft}
+use Rattle.disk_rules.specs.Reading.{base_set}
+use Rattle.disk_rules.specs.Volume.{Volume}
+use Rattle.posix_types.specs.declared.call.Call.{Call}
+use Rattle.posix_types.specs.declared.call.Who.{Who}
+use Rattle.posix_types.specs.declared.handle.Flags.{Flags}
+use Rattle.posix_types.specs.declared.handle.Handle.{Handle}
+use Rattle.posix_words.specs.declared.nodes.Node.{Node}
+use Rattle.posix_words.specs.Bytes.{resized}
+use Rattle.posix_words.specs.NameRows.{open_rows}
+use Rattle.posix_words.specs.Open.{is_full}
+use Rattle.posix_words.specs.Outcomes.{first}
+use Rattle.posix_spec.specs.FileRows.{content, truncate_rows}
+use Rattle.posix_spec.specs.Run.{after_call}
+use Rattle.posix_spec.specs.State.{alone, room, space, State}
+use Rattle.posix_spec.specs.Step.{is_busy}
+use Rattle.crash_spec.specs.Busy.{waits_for}
+use Rattle.posix_frames.specs.Needs.{needs as needs_of}
+use Rattle.posix_frames.specs.Rooms.{FitsBeside}
+use Rattle.list_facts.specs.Members.{In}
+use Rattle.posix_puts.specs.Views.{need_of}
+use Rattle.world_rules.specs.Jobs.{AreApartJobs, begun_of, HoldsWhole, Job, JobStands, live_claims}
+use Rattle.world_rules.specs.Shown.{SameButLent}
+use Rattle.world_rules.specs.Stands.{entries_of, number}
+use Rattle.world_promise.specs.JobLaws.{needs}
+use Rattle.world_names.specs.Steps.{AreBeside, flights_of, GoOn, LetsJobsBe}
+use Rattle.world_names.specs.Touched.{only}
+use Rattle.world_names.specs.Worlds.{IsWorld}
+use Rattle.world_jobs.specs.Places.{Restages, WritesInPlace}
+use Rattle.world_jobs.specs.Relinks.{IsFirst, Relinks}
+use Rattle.world_jobs.specs.Resizes.{HasAlone, Resizes}
+
+-- ---- jobs
+
+-- a job begins, last of those in flight: it stands, apart from the others, and its need finds room beside theirs
+abbrev pub KeepsBegun : Type 0
+KeepsBegun =
+    (v : Volume) (claims : List (ℕ × Draft)) (jobs : List Job) (j : Job) (f : Words) (numbers : List ℕ) (s : State)
+    (count : ℕ)
+    → IsWorld v claims jobs f numbers s count → JobStands v (live_claims v claims) f numbers s j
+    → ((i : Job) → In i jobs → AreApartJobs i j) → needs s jobs + need_of s j.who j.call ≤ room s
+    → IsWorld v claims (jobs ++ j ∷ []) f numbers s count
+
+-- jobs are filled: words of blocks that are lent to them change
+abbrev pub KeepsFilled : Type 0
+KeepsFilled =
+    (v : Volume) (claims : List (ℕ × Draft)) (jobs : List Job) (f g : Words) (numbers : List ℕ) (s : State) (count : ℕ)
+    → IsWorld v claims jobs f numbers s count → SameButLent v jobs f g → IsWorld v claims jobs g numbers s count
+
+-- any of the jobs finishes: its blocks hold its whole bytes, its entry is claimed in a slot, and its call has acted
+abbrev pub KeepsFinished : Type 0
+KeepsFinished =
+    (v : Volume) (claims : List (ℕ × Draft)) (a : List Job) (j : Job) (b : List Job) (f : Words) (numbers : List ℕ)
+    (s : State) (count slot : ℕ)
+    → IsWorld v claims (a ++ j ∷ b) f numbers s count → HoldsWhole v f j.draft j.found → j.found ≡ j.whole
+    → j.draft.generation < 2 ^ 32
+    → IsWorld v (claims ++ (slot, j.draft) ∷ []) (a ++ b) f numbers (after_call s (begun_of j)) count
+
+-- any of the jobs is given up
+abbrev pub KeepsGivenUp : Type 0
+KeepsGivenUp =
+    (v : Volume) (claims : List (ℕ × Draft)) (a : List Job) (j : Job) (b : List Job) (f : Words) (numbers : List ℕ)
+    (s : State) (count : ℕ)
+    → IsWorld v claims (a ++ j ∷ b) f numbers s count → IsWorld v claims (a ++ b) f numbers s count
+
+-- ---- laps
+
+-- a new lap begins where nothing is live and no job is in flight: there are no claims, and no node was made
+abbrev pub KeepsLap : Type 0
+KeepsLap =
+    (v : Volume) (claims : List (ℕ × Draft)) (f : Words) (numbers : List ℕ) (s : State) (count base : ℕ)
+    → IsWorld v claims [] f numbers s count → live_claims v claims ≡ []
+    → IsWorld (base_set base v) [] [] f numbers s 0
+
+-- ---- files that are resized, once their runs are published
+
+-- `truncate`: nothing of the file is live, and the volume has the file with its new bytes
+abbrev pub KeepsTruncated : Type 0
+KeepsTruncated =
+    (v w : Volume) (claims : List (ℕ × Draft)) (jobs : List Job) (f : Words) (numbers : List ℕ) (s : State) (count : ℕ)
+    (who : Who) (h : Handle) (n ino : ℕ)
+    → IsWorld v claims jobs f numbers s count → LetsJobsBe s (who, Call.Truncate h n) numbers jobs
+    → FitsBeside s (who, Call.Truncate h n) (needs_of s (flights_of numbers jobs))
+    → first (truncate_rows s who h n) ≡ None → waits_for s (who, Call.Truncate h n) ≡ Some (number numbers ino)
+    → Resizes v w ino → entries_of ino (live_claims v claims) ≡ [] → HasAlone w f ino (resized (content s who h) n)
+    → IsWorld w claims jobs f numbers (after_call s (who, Call.Truncate h n)) count
+
+-- an `open` that cuts the file
+abbrev pub KeepsCut : Type 0
+KeepsCut =
+    (v w : Volume) (claims : List (ℕ × Draft)) (jobs : List Job) (f : Words) (numbers : List ℕ) (s : State) (count : ℕ)
+    (who : Who) (h : Handle) (p : List (List ℕ)) (flags : Flags) (ino : ℕ)
+    → IsWorld v claims jobs f numbers s count → LetsJobsBe s (who, Call.Open h p flags) numbers jobs
+    → first (open_rows (space s) (is_full s.tables) (is_busy alone s p) p flags) ≡ None → flags.truncate ≡ true
+    → waits_for s (who, Call.Open h p flags) ≡ Some (number numbers ino)
+    → Resizes v w ino → entries_of ino (live_claims v claims) ≡ [] → HasAlone w f ino []
+    → IsWorld w claims jobs f numbers (after_call s (who, Call.Open h p flags)) count
+
+-- ---- runs
+
+-- the first live entry of a file is carried out: the state stays, and one entry less is live
+abbrev pub KeepsRelinked : Type 0
+KeepsRelinked =
+    (v w : Volume) (claims : List (ℕ × Draft)) (jobs : List Job) (f : Words) (numbers : List ℕ) (s : State) (count : ℕ)
+    (d : Draft) (displaced : List Extent) (rest : List Draft)
+    → IsWorld v claims jobs f numbers s count → Relinks v w d displaced → IsFirst v w (live_claims v claims) d rest
+    → AreBeside (only d.ino) jobs → IsWorld w claims jobs f numbers s count
+
+-- a staging file in which nothing is live, nor any job, is given up, or gets new blocks
+abbrev pub KeepsRestaged : Type 0
+KeepsRestaged =
+    (v w : Volume) (claims : List (ℕ × Draft)) (jobs : List Job) (f : Words) (numbers : List ℕ) (s : State)
+    (count x : ℕ)
+    → IsWorld v claims jobs f numbers s count → Restages v w x
+    → ((d : Draft) → In d (live_claims v claims) → d.staging ≢ x)
+    → ((j : Job) → In j jobs → j.draft.staging ≢ x) → IsWorld w claims jobs f numbers s count
+
+-- ---- bytes in place
+
+-- bytes of a file that no job has are written where they lie, and the next state has them
+abbrev pub KeepsInPlace : Type 0
+KeepsInPlace =
+    (v : Volume) (claims : List (ℕ × Draft)) (jobs : List Job) (f g : Words) (numbers : List ℕ) (s new : State)
+    (count ino : ℕ) (bytes : List ℕ) (published : ℕ)
+    → IsWorld v claims jobs f numbers s count → WritesInPlace v (live_claims v claims) f g ino bytes
+    → AreBeside (only ino) jobs → GoOn s new numbers jobs → new.entries ≡ s.entries → new.shape ≡ s.shape
+    → new.nodes ≡ slice_set s.nodes (number numbers ino) (Node.File (record { bytes = bytes; published = published }))
+    → IsWorld v claims jobs g numbers new count

@@ -1,0 +1,27 @@
+-- Bytes in place, and staging files that change: what is asked of the change.
+use Rattle.std.specs.Prelude.{◌≡◌, ◌≢◌, ◌<◌, ◌+◌, ◌*◌, ◌/◌, ℕ, true, List, length, Some, slice_index}
+use Rattle.pm_words.specs.Words.{byte_of, Words}
+use Rattle.disk_places.specs.Places.{is_data_block}
+use Rattle.disk_lines.specs.declared.Draft.{Draft}
+use Rattle.disk_lines.specs.declared.Kind.TheVariants.{File, Staging}
+use Rattle.disk_rules.specs.Content.{byte_in, disk_of, size_of}
+use Rattle.disk_rules.specs.Volume.{extents, inode, Volume}
+use Rattle.world_rules.specs.Stands.{IsSane}
+
+-- Words change in blocks of one file alone, which then has these bytes, as many as before.
+pub record WritesInPlace (v : Volume) (live : List Draft) (f g : Words) (ino : ℕ) (bytes : List ℕ) : Type 0 where
+  pub file : (inode v ino).kind ≡ File
+  pub size : size_of v live ino ≡ length bytes
+  pub each : (i : ℕ) → i < length bytes → byte_in g (disk_of v live ino (i / 4096)) i ≡ slice_index bytes i
+  pub others : (b i : ℕ) → is_data_block v.geometry b ≡ true → i < 4096 → ((block : ℕ) → disk_of v live ino block ≢ Some b)
+      → byte_of g (4096 * b + i) ≡ byte_of f (4096 * b + i)
+
+-- One staging file has another line and another map, and the volume is sane.
+pub record Restages (v w : Volume) (x : ℕ) : Type 0 where
+  pub sane : IsSane w
+  pub names : w.names ≡ v.names
+  pub geometry : w.geometry ≡ v.geometry
+  pub staging : (inode v x).kind ≡ Staging
+  pub kind : (inode w x).kind ≡ Staging
+  pub others : (ino : ℕ) → ino ≢ x → inode w ino ≡ inode v ino
+  pub maps : (ino : ℕ) → ino ≢ x → extents w ino ≡ extents v ino

@@ -1,0 +1,25 @@
+-- A file of which nothing is live has another map and another size: what is asked of the change.
+use Rattle.std.specs.Prelude.{◌≡◌, ◌≢◌, ◌<◌, ◌/◌, ℕ, List, length, slice_index}
+use Rattle.pm_words.specs.Words.{Words}
+use Rattle.extent_words.specs.Extents.{disk_at}
+use Rattle.disk_lines.specs.declared.Kind.TheVariants.{File}
+use Rattle.disk_rules.specs.Content.{byte_in}
+use Rattle.disk_rules.specs.Volume.{extents, inode, Volume}
+use Rattle.world_rules.specs.Stands.{IsSane}
+
+-- All but the size and the map of one file stays, and the volume is sane.
+pub record Resizes (v w : Volume) (ino : ℕ) : Type 0 where
+  pub sane : IsSane w
+  pub names : w.names ≡ v.names
+  pub geometry : w.geometry ≡ v.geometry
+  pub file : (inode v ino).kind ≡ File
+  pub kind : (inode w ino).kind ≡ (inode v ino).kind
+  pub generation : (inode w ino).generation ≡ (inode v ino).generation
+  pub applied : (inode w ino).applied ≡ (inode v ino).applied
+  pub others : (i : ℕ) → i ≢ ino → inode w i ≡ inode v i
+  pub maps : (i : ℕ) → i ≢ ino → extents w i ≡ extents v i
+
+-- The file has these bytes by its own map and size.
+pub record HasAlone (w : Volume) (f : Words) (ino : ℕ) (bytes : List ℕ) : Type 0 where
+  pub size : (inode w ino).size ≡ length bytes
+  pub each : (i : ℕ) → i < length bytes → byte_in f (disk_at (extents w ino) (i / 4096)) i ≡ slice_index bytes i

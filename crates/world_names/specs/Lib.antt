@@ -1,0 +1,13 @@
+pub mod Touched
+pub mod Steps
+pub mod NameTables
+pub mod Ages
+pub mod Makers
+pub mod Nameless
+pub mod Worlds
+pub mod Laws
+pub mod MadeCalls
+pub mod GoneCalls
+pub mod RemoveCalls
+pub mod RenameCalls
+pub mod OtherCalls

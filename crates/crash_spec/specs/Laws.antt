@@ -1,34 +1,88 @@
--- Laws of the crash relations.
-use Rattle.std.specs.Prelude.{◌≡◌, ◌⊎◌, ℕ, ◌<◌, true, false, List, [], ◌∷◌, ◌++◌, length, map, take, slice_index, refl}
-use Rattle.std.proofs.Common.{inl, inr, sym, ap, subst}
+-- The chief laws of what may be left, each as one statement.
+use Rattle.std.specs.Prelude.{◌≡◌, ℕ, ◌≤◌, true, false, List, [], ◌∷◌, ◌++◌, length, map}
+use Rattle.posix_types.specs.declared.call.Call.{Call}
 use Rattle.posix_types.specs.declared.call.Mode.{Mode}
+use Rattle.posix_types.specs.declared.call.Who.{Who}
 use Rattle.posix_types.specs.declared.item.Item.{Item}
 use Rattle.posix_types.specs.declared.tree.TreeEntry.{TreeEntry}
-use Rattle.posix_spec.specs.Run.{after_call, Begun, run}
+use Rattle.posix_spec.specs.Run.{after_call, Begun, IsAnswered, IsLegal, run}
 use Rattle.posix_spec.specs.State.{State}
 use Rattle.posix_spec.specs.Tree.{tree}
+use Rattle.crash_spec.specs.Busy.{is_busy}
+use Rattle.crash_spec.specs.Machine.{Begins, Checkpoint, Goes, Machine, outs, Setting, state_of}
+use Rattle.crash_spec.specs.MachineLaws.{Follows}
+use Rattle.crash_spec.specs.OneThread.{on_one_thread}
+use Rattle.crash_spec.specs.Orders.{Order}
 use Rattle.crash_spec.specs.Permitted.{Permitted}
-use Rattle.crash_spec.specs.Posix.{Posix}
-use Rattle.crash_spec.specs.Strict.{Strict, StrictFrom, Strict-none, Strict-one}
-use Rattle.crash_spec.specs.Sync.{Sync, SyncFrom}
+use Rattle.crash_spec.specs.Posix.{Posix, StrongPosix, syncs}
+use Rattle.crash_spec.specs.Schedules.{Course, Reaches, Scheduled}
+use Rattle.crash_spec.specs.Strict.{Strict}
+use Rattle.crash_spec.specs.Sync.{IsPartOf, Sync}
+use Rattle.crash_spec.specs.Synced.{AllPublished}
+
+-- the tree of the history is permitted in each mode, whatever is unfinished
+abbrev pub HistoryIsPermitted : Type 0
+HistoryIsPermitted = (mode : Mode) (s : State) (history : List Item) (unfinished : List Begun) → Permitted mode s history unfinished (tree (run s history))
+
+-- in strict and in sync mode, the tree after the one unfinished call, too
+abbrev pub OneMoreIsStrict : Type 0
+OneMoreIsStrict = (s : State) (history : List Item) (c : Begun) → Strict s history (c ∷ []) (tree (after_call (run s history) c))
+
+abbrev pub OneMoreIsSync : Type 0
+OneMoreIsSync = (s : State) (history : List Item) (c : Begun) → Sync s history (c ∷ []) (tree (after_call (run s history) c))
+
+-- where no call is unfinished, strict and sync mode leave one tree
+abbrev pub StrictIsOneTree : Type 0
+StrictIsOneTree = (s : State) (history : List Item) (left : List TreeEntry) → Strict s history [] left → left ≡ tree (run s history)
+
+abbrev pub SyncIsOneTree : Type 0
+SyncIsOneTree = (s : State) (history : List Item) (left : List TreeEntry) → Sync s history [] left → left ≡ tree (run s history)
 
 -- what strict mode permits, sync mode permits
-SyncFrom-StrictFrom : (s : State) (unfinished : List Begun) (left : List TreeEntry) → StrictFrom s unfinished left → SyncFrom s unfinished left
-SyncFrom-StrictFrom s [] left h = h
-SyncFrom-StrictFrom s (c ∷ unfinished) left h = elim h [
-  | inl acts ↦ inl (SyncFrom-StrictFrom (after_call s c) unfinished left acts)
-  | inr does_not ↦ inr (inr (SyncFrom-StrictFrom s unfinished left does_not))
-]
+abbrev pub StrictIsSync : Type 0
+StrictIsSync = (s : State) (history : List Item) (unfinished : List Begun) (left : List TreeEntry) → Strict s history unfinished left → Sync s history unfinished left
 
-pub Sync-Strict : (s : State) (history : List Item) (unfinished : List Begun) (left : List TreeEntry) → Strict s history unfinished left → Sync s history unfinished left
-Sync-Strict s history unfinished left h = SyncFrom-StrictFrom (run s history) unfinished left h
+-- a write that is done in part may be there whole; one that does not lengthen the file may not be there at all
+abbrev pub WholeIsPart : Type 0
+WholeIsPart = (old whole : List ℕ) → IsPartOf old whole whole
 
--- the tree of the history is permitted in each mode
-pub Permitted-none : (mode : Mode) (s : State) (history : List Item) (unfinished : List Begun) → Permitted mode s history unfinished (tree (run s history))
-Permitted-none Mode.Strict s history unfinished = Strict-none s history unfinished
-Permitted-none Mode.Sync s history unfinished = Sync-Strict s history unfinished (tree (run s history)) (Strict-none s history unfinished)
-Permitted-none Mode.Posix s history unfinished = inr (inr refl)
+abbrev pub NoneIsPart : Type 0
+NoneIsPart = (old whole : List ℕ) → length whole ≡ length old → IsPartOf old whole old
 
--- in strict and sync mode the tree after the one unfinished call, too
-pub Sync-one : (s : State) (history : List Item) (c : Begun) → Sync s history (c ∷ []) (tree (after_call (run s history) c))
-Sync-one s history c = Sync-Strict s history (c ∷ []) (tree (after_call (run s history) c)) (Strict-one s history c)
+-- by the stronger rule for bytes no more is permitted
+abbrev pub StrongIsPosix : Type 0
+StrongIsPosix = (s : State) (history : List Item) (unfinished : List Begun) (left : List TreeEntry) → StrongPosix s history unfinished left → Posix s history unfinished left
+
+-- in POSIX mode, a history that ends with an `fsync`, after which every file is published whole, leaves one tree where no
+-- call is unfinished
+abbrev pub SyncedIsOneTree : Type 0
+SyncedIsOneTree =
+    (s : State) (front : List Item) (item : Item) (left : List TreeEntry) → syncs item ≡ true → AllPublished (run s (front ++ item ∷ []))
+    → Posix s (front ++ item ∷ []) [] left → left ≡ tree (run s (front ++ item ∷ []))
+
+-- a legal history stays legal with one more item that is answered
+abbrev pub StaysLegal : Type 0
+StaysLegal = (s : State) (history : List Item) (item : Item) → IsLegal s history → IsAnswered (run s history) item → IsLegal s (history ++ item ∷ [])
+
+-- every schedule leaves a legal history that follows the scripts, and unfinished calls that are the next of their callers,
+-- one each
+abbrev pub SchedulesFollow : Type 0
+SchedulesFollow = (g : Setting) (order : Order) (events : ℕ) (history : List Item) (unfinished : List Begun) → Scheduled g order events history unfinished → Follows g history unfinished
+
+-- a schedule of one thread that runs to its end gives the calls of its script, in their order
+abbrev pub OneThreadInOrder : Type 0
+OneThreadInOrder =
+    (start : State) (calls : List Call) (lines : ℕ) (order : Order) (events : ℕ) (history : List Item) (unfinished : List Begun)
+    → Scheduled (on_one_thread start calls lines) order events history unfinished → length history ≡ length calls → map (λ (item : Item). item.call) history ≡ calls
+
+-- a lap never has more claims than the log has lines
+abbrev pub ClaimsFit : Type 0
+ClaimsFit = (g : Setting) (order : Order) (events : ℕ) (c : Course) → Reaches g order events c → c.machine.claims ≤ g.lines
+
+-- a call that waits for another's does not begin
+abbrev pub BusyCallsWait : Type 0
+BusyCallsWait = (g : Setting) (m : Machine) (who : Who) (call : Call) → Begins g m who call → is_busy (state_of g m) (outs m) (who, call) ≡ false
+
+-- a Checkpoint comes where the round is over and no call is out
+abbrev pub CheckpointsFindNoJob : Type 0
+CheckpointsFindNoJob = (g : Setting) (m next : Machine) → Goes g m Checkpoint next → (m.over ≡ true) × (m.jobs ≡ [])

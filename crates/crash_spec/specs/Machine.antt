@@ -1,7 +1,7 @@
 -- The machine over events. A call that is logged takes six: Begin, Fill, Claim, Store, Persist, Finish; every other call
 -- is one, Begin. The machine has the history, the logged calls that are out with their stages, the claims of the lap, and
 -- whether the round is over. It knows nothing of the medium.
-use Rattle.std.specs.Prelude.{◌≡◌, ◌⊎◌, ℕ, ◌+◌, ◌<◌, ◌≤◌, Bool, true, false, not, ◌&&◌, List, [], ◌∷◌, ◌++◌, length, map, filter, find, Option, Some, None, is_some, is_none, ◌==◌, slice_get, if◌then◌else◌}
+use Rattle.std.specs.Prelude.{◌≡◌, ◌⊎◌, ℕ, ◌+◌, ◌<◌, ◌≤◌, Bool, true, false, not, ◌&&◌, List, [], ◌∷◌, ◌++◌, length, map, filter, find, Option, Some, None, is_some, is_none, ◌==◌, if◌then◌else◌}
 use Rattle.std.specs.Option.{option_map_or}
 use Rattle.posix_types.specs.declared.call.Call.{Call}
 use Rattle.posix_types.specs.declared.call.Who.{Who}
@@ -12,7 +12,7 @@ use Rattle.posix_spec.specs.FileRows.{content, truncate_rows}
 use Rattle.posix_words.specs.Outcomes.{first}
 use Rattle.posix_spec.specs.Put.{put_by}
 use Rattle.posix_spec.specs.Run.{Begun, run}
-use Rattle.posix_spec.specs.Scripted.{call_count, items_of, script_of}
+use Rattle.posix_spec.specs.Scripted.{call_count, items_of, next_call}
 use Rattle.posix_spec.specs.State.{State}
 use Rattle.posix_spec.specs.Step.{step}
 use Rattle.crash_spec.specs.Busy.{is_busy, is_logged, Out, waits_for}
@@ -54,12 +54,9 @@ at_rest = record { history = []; jobs = []; claims = 0; over = false; begun = fa
 abbrev pub state_of : Setting → Machine → State
 state_of g m = run g.start m.history
 
--- the number of a caller's next call, and that call
-abbrev pub next_index : Machine → Who → ℕ
-next_index m who = length (items_of m.history who)
-
-abbrev pub next_call : Setting → Machine → Who → Option Call
-next_call g m who = slice_get (script_of g.scripts who) (next_index m who)
+-- a caller's next call
+abbrev pub next_of : Setting → Machine → Who → Option Call
+next_of g m who = next_call g.scripts m.history who
 
 -- the job of a caller
 abbrev pub is_of : Who → Job → Bool
@@ -72,13 +69,16 @@ abbrev pub outs : Machine → List Out
 outs m = map (λ job. (job.who, job.node)) m.jobs
 
 -- the calls that had begun and not returned, in the order of their beginning
-abbrev pub unfinished_of : Machine → List Begun
-unfinished_of m = map (λ job. (job.who, job.call)) m.jobs
+abbrev pub begun_of : Job → Begun
+begun_of job = (job.who, job.call)
 
--- the set-up is done, as far as its caller is concerned
+abbrev pub unfinished_of : Machine → List Begun
+unfinished_of m = map begun_of m.jobs
+
+-- a caller's call may come: a thread's does once all calls of the set-up have returned
 abbrev pub is_set_up : Setting → Machine → Who → Bool
 is_set_up g m Who.Setup = true
-is_set_up g m (Who.Thread n) = is_none (next_call g m Who.Setup)
+is_set_up g m (Who.Thread n) = length (items_of m.history Who.Setup) == length g.scripts.setup
 
 -- A caller's next call may begin: it has no job, the set-up is done, the round is not over, and nothing keeps the call
 -- waiting.
@@ -87,11 +87,11 @@ is_idle g m who call = not (is_busy (state_of g m) (outs m) (who, call))
 
 unfoldable pub may_begin : Setting → Machine → Who → Bool
 may_begin g m who =
-    is_none (job_of m who) && is_set_up g m who && not m.over && option_map_or (is_idle g m who) (next_call g m who) false
+    is_none (job_of m who) && is_set_up g m who && not m.over && option_map_or (is_idle g m who) (next_of g m who) false
 
 pub record Begins (g : Setting) (m : Machine) (who : Who) (call : Call) : Type 0 where
   pub may : may_begin g m who ≡ true
-  pub next : next_call g m who ≡ Some call
+  pub next : next_of g m who ≡ Some call
 
 -- all calls of all scripts have returned
 abbrev pub have_ended : Setting → Machine → Bool
@@ -103,7 +103,7 @@ have_ended g m = length m.history == call_count g.scripts
 abbrev pub item_for : Setting → Machine → Who → Call → Item
 item_for g m who call =
     let outcome = (step (state_of g m) who call).outcome in
-    record { who = who; index = next_index m who; call = call; reply = outcome.reply; room = outcome.room }
+    record { who = who; index = length (items_of m.history who); call = call; reply = outcome.reply; room = outcome.room }
 
 abbrev pub returned : Setting → Machine → Who → Call → Machine
 returned g m who call = record m { history = m.history ++ item_for g m who call ∷ []; begun = true }

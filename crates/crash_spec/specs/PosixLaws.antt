@@ -1,14 +1,13 @@
 -- The stronger rule for bytes implies the rule, and so the stronger relation the relation.
-use Rattle.std.specs.Prelude.{◌≡◌, ◌⊎◌, ℕ, ◌<◌, Bool, true, false, ◌||◌, cond, Option, Some, None, List, [], ◌∷◌, ◌++◌, length, map, slice_index, refl}
-use Rattle.std.proofs.Common.{inl, inr, sym, ◌∙◌, ap, subst}
-use Rattle.std.proofs.lemmas.Bool.{cases_Bool}
+use Rattle.std.specs.Prelude.{◌≡◌, ℕ, Bool, true, false, ◌||◌, cond, Option, Some, None, List, [], ◌∷◌, map, refl}
+use Rattle.std.proofs.Common.{inl, inr, sym, ◌∙◌, subst}
 use Rattle.posix_types.specs.declared.item.Item.{Item}
 use Rattle.posix_types.specs.declared.tree.TreeEntry.{TreeEntry}
 use Rattle.posix_words.specs.declared.nodes.Node.{Node}
 use Rattle.posix_words.specs.Nodes.{node_at}
 use Rattle.posix_spec.specs.Run.{after_call, after_calls, Begun, begun, run}
 use Rattle.posix_spec.specs.State.{State}
-use Rattle.crash_spec.specs.Posix.{acting, ByteRule, IsLastOrAny, IsLeft, KeepsAll, KeepsFront, LastBeforeCut, NodeLeft, others, OrUnfinished, Overwritten, Posix, PosixBy, StrongPosix, TreeLeft}
+use Rattle.crash_spec.specs.Posix.{acting, ByteRule, IsLastOrAny, IsLeft, LastBeforeCut, NodeLeft, others, OrUnfinished, Overwritten, Posix, StrongPosix, TreeLeft}
 use Rattle.crash_spec.specs.Values.{is_shortened, IsOneOf, last_of, shortens, value_before_cut, value_put, values_put, with_value}
 
 -- the last of a value and others is one of them

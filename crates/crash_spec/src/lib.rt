@@ -1,2 +1,48 @@
-//! What a power loss may leave: the crash relations of the three modes, schedules, and a judge.
+//! What a power loss may leave, as definitions to be read aloud.
+//!
+//! Which trees each mode permits for a history and the calls that were unfinished (`Strict`, `Sync`,
+//! `Posix`; together `Permitted`), by the values that writes put at each byte (`Values`). Which calls
+//! are logged, and which wait for one that is (`Busy`). The machine over events that knows nothing of
+//! the medium (`Machine`), the orders in which threads are picked (`Orders`), and which histories and
+//! unfinished calls they lead to (`Schedules`).
+//!
+//! The laws of these are clauses of the functions here (`Laws`). Stands on the meaning of the calls,
+//! `posix_spec`, and its facts.
 #![tactic(auto)]
+
+ghost use Rattle.crash_spec.specs.Laws.{BusyCallsWait, CheckpointsFindNoJob, ClaimsFit, HistoryIsPermitted, NoneIsPart, OneMoreIsStrict, OneMoreIsSync, OneThreadInOrder, SchedulesFollow, StaysLegal, StrictIsOneTree, StrictIsSync, StrongIsPosix, SyncedIsOneTree, SyncIsOneTree, WholeIsPart};
+
+/// The tree of the history is permitted in each mode, and in strict and sync mode the tree after the
+/// one unfinished call. A legal history stays legal with one more item that is answered.
+pub fn what_returned_is_permitted()
+    ensures history { HistoryIsPermitted }
+    ensures strict { OneMoreIsStrict }
+    ensures sync { OneMoreIsSync }
+    ensures legal { StaysLegal }
+{}
+
+/// Where no call is unfinished, one tree is left; in POSIX mode where all is published.
+pub fn one_tree_is_left()
+    ensures strict { StrictIsOneTree }
+    ensures sync { SyncIsOneTree }
+    ensures posix { SyncedIsOneTree }
+{}
+
+/// What one rule permits, a weaker one permits.
+pub fn modes_imply_modes()
+    ensures sync { StrictIsSync }
+    ensures whole { WholeIsPart }
+    ensures none { NoneIsPart }
+    ensures posix { StrongIsPosix }
+{}
+
+/// Every schedule follows the scripts, and one of a single thread that runs to its end has the calls
+/// of its script in their order. A call that has to wait does not begin, a lap has no more claims than
+/// the log has lines, and a Checkpoint finds no call out.
+pub fn schedules_follow_the_scripts()
+    ensures follows { SchedulesFollow }
+    ensures one_thread { OneThreadInOrder }
+    ensures claims { ClaimsFit }
+    ensures busy { BusyCallsWait }
+    ensures checkpoint { CheckpointsFindNoJob }
+{}

@@ -13,7 +13,7 @@ use Rattle.posix_spec.specs.FileRows.{content, write_rows}
 use Rattle.posix_spec.specs.Run.{after_call, Begun}
 use Rattle.posix_spec.specs.State.{Fits, room, State}
 use Rattle.posix_spec.specs.Step.{step}
-use Rattle.posix_spec.specs.Strict.{StrictFrom}
+use Rattle.crash_spec.specs.Strict.{StrictFrom}
 use Rattle.posix_facts.specs.RowLaws.{NoRow}
 use Rattle.posix_puts.specs.Puts.{LeavesWhole, PutsWhole}
 use Rattle.posix_puts.specs.Views.{AreAfforded, KeepsView, need_of}

@@ -8,7 +8,7 @@ use Rattle.posix_spec.specs.Put.{put_by}
 use Rattle.posix_spec.specs.Run.{after_call, after_calls, Begun}
 use Rattle.posix_spec.specs.State.{room, State}
 use Rattle.posix_spec.specs.Step.{step}
-use Rattle.posix_spec.specs.Strict.{StrictFrom}
+use Rattle.crash_spec.specs.Strict.{StrictFrom}
 use Rattle.posix_puts.specs.Puts.{PutsWhole}
 use Rattle.posix_puts.specs.Views.{need_of}
 use Rattle.crash_spec.specs.Busy.{waits_for}

@@ -14,7 +14,7 @@ use Rattle.posix_spec.specs.State.{made, State}
 use Rattle.posix_spec.specs.Step.{open_done, opening}
 use Rattle.crash_spec.specs.Busy.{waits_for}
 use Rattle.posix_types.specs.declared.tree.TreeEntry.{TreeEntry}
-use Rattle.posix_spec.specs.Strict.{StrictFrom}
+use Rattle.crash_spec.specs.Strict.{StrictFrom}
 use Rattle.posix_spec.specs.Tree.{bare, default_shape}
 use Rattle.posix_words.specs.NameRows.{open_rows}
 use Rattle.posix_words.specs.Names.{node_at_path, walk, with_entry}

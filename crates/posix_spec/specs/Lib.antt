@@ -4,7 +4,6 @@ pub mod Step
 pub mod Tree
 pub mod Run
 pub mod Put
-pub mod Strict
 pub mod Scripted
 pub mod Afforded
 pub mod Unfinished

@@ -50,7 +50,7 @@ impl State {
         }
     }
 
-    fn file_number(&self, who: Who, handle: Handle) -> usize
+    pub(crate) fn file_number(&self, who: Who, handle: Handle) -> usize
         ensures { result ≡ file_number self.now.tables who handle }
     {
         match self.tables.opened(who, handle) {
@@ -91,7 +91,7 @@ impl State {
     }
 
     /// Where a write begins: at the end of the file, or at the offset.
-    fn write_start(&self, who: Who, handle: Handle) -> u64
+    pub(crate) fn write_start(&self, who: Who, handle: Handle) -> u64
         ensures { result ≡ write_start self.now who handle }
     {
         if self.appends(who, handle) {
@@ -236,7 +236,13 @@ impl State {
     }
 
     #[tactic(auto, unfolding(crate::specs::FileRows::write_rows))]
-    fn write_rows(&self, who: Who, handle: Handle, start: u64, bytes: &[u8]) -> Option<Outcome>
+    pub(crate) fn write_rows(
+        &self,
+        who: Who,
+        handle: Handle,
+        start: u64,
+        bytes: &[u8],
+    ) -> Option<Outcome>
         ensures value { result ≡ first (write_rows self.now who handle start bytes.now) }
         ensures fits { IfNone result (start + length bytes.now ≤ 16777216) }
     {

@@ -5,11 +5,12 @@
 //! first that fits answers and changes nothing, and else what the call does. `step_of` is the step of
 //! one of several instances, and `step` that of the only one. Runs and legal histories (`Run`), the
 //! tree of a state and the state of a tree (`Tree`), what a write puts (`Put`), histories that follow
-//! scripts (`Scripted`), unfinished calls (`Unfinished`), the strict crash relation (`Strict`), the
-//! bounds on steps (`Afforded`) and how a run ends (`Ending`) stand on it.
+//! scripts (`Scripted`), unfinished calls (`Unfinished`), the bounds on steps (`Afforded`) and how a
+//! run ends, under any rule for what a power loss leaves (`Ending`), stand on it.
 //!
 //! The layer above may rely on this: `State::open` is `start`, `State::apply` is `step` or is refused
-//! memory and leaves the state as it was, and `State::tree` is `tree`. It is slow and plain.
+//! memory and leaves the state as it was, `State::tree` is `tree`, and `State::put_by` is `put_by`. It
+//! is slow and plain.
 //! Stands on `block_counts`, `posix_words` and `posix_types`, whose types it hands on.
 #![tactic(auto)]
 
@@ -17,6 +18,7 @@ mod apply;
 mod file_calls;
 mod fresh;
 mod name_calls;
+mod puts;
 mod state;
 
 pub use fresh::{default_shape, root_alone};
@@ -24,4 +26,5 @@ pub use posix_types::{
     Call, CallList, Data, Errno, Flags, Handle, Item, Mode, Name, NameList, Outcome, Path, Reply,
     Room, Scripts, Shape, Stat, Tree, TreeEntry, TreeNode, What, Whence, Who,
 };
+pub use puts::Put;
 pub use state::State;

@@ -11,7 +11,7 @@ use Rattle.posix_spec.specs.State.{State}
 use Rattle.posix_spec.specs.Run.{Begun, after_calls}
 use Rattle.posix_spec.specs.Tree.{default_shape, root_alone, start}
 use Rattle.posix_spec.specs.Ending.{IsRunOf, Task}
-use Rattle.posix_spec.specs.Strict.{Strict}
+use Rattle.crash_spec.specs.Strict.{Strict}
 
 -- the state that the fresh default image begins as
 unfoldable pub first_state : State

@@ -1,0 +1,7 @@
+pub mod WantedLaws
+pub mod EffectLaws
+pub mod NearestLaws
+pub mod FrontLaws
+pub mod ByteLaws
+pub mod Likes
+pub mod PartLaws

@@ -1,0 +1,13 @@
+-- What the judge decides.
+use Rattle.std.specs.Prelude.{List}
+use Rattle.posix_types.specs.declared.call.Mode.{Mode}
+use Rattle.posix_types.specs.declared.item.Item.{Item}
+use Rattle.posix_types.specs.declared.reply.Shape.{Shape}
+use Rattle.posix_types.specs.declared.tree.TreeEntry.{TreeEntry}
+use Rattle.posix_spec.specs.Run.{Begun}
+use Rattle.posix_spec.specs.Tree.{start}
+use Rattle.crash_spec.specs.Permitted.{Permitted}
+
+-- the mode permits this tree of a file system that began with a tree
+abbrev pub IsPermitted : Mode → Shape → List TreeEntry → List Item → List Begun → List TreeEntry → Type 0
+IsPermitted mode shape tree history unfinished left = Permitted mode (start tree shape mode) history unfinished left

@@ -29,7 +29,7 @@ use Rattle.k_plans.specs.Spelling.{AreSpelled}
 use Rattle.k_plans.specs.View.{TablesView, with_volume}
 use Rattle.k_plans.specs.Whole.{IsWhole}
 use Rattle.k_plans.proofs.Names.{last-fits}
-use Rattle.k_plans.proofs.Wholes.{IsBare, free-bare, inodes-set, plan-from, tables-same}
+use Rattle.k_plans.proofs.Wholes.{IsBare, free-bare, inodes-set, plan-from, tables-same, with_lines}
 
 kind-made : (directory : Bool) → (kind_of directory ≡ Directory) ⊎ (kind_of directory ≡ File)
 kind-made true = inl refl
@@ -99,21 +99,17 @@ pub record MakesAt (directory : Bool) (path : List (List ℕ)) (place : Place) (
   pub row_is : r ≡ row_to path place.parent place.ino
   pub names_is : names ≡ slice_set t.volume.names place.line (Some r)
 
--- the tables with these
-abbrev pub tables_with : Place → Inode → Rows → TablesView → TablesView
-tables_with place node names t = with_volume (record (node_set place.ino node t.volume) { names = names }) t
-
 pub makes-made : (directory : Bool) (path : List (List ℕ)) (place : Place) (t : TablesView) (node : Inode) (r : NameRow) (names : Rows)
     → MakesAt directory path place t node r names
-    → tables_with place node names t ≡ with_volume (made_at directory path place t.volume) t
+    → with_lines place.ino node names t ≡ with_volume (made_at directory path place t.volume) t
 makes-made directory path place t node r names makes =
     let names_are : names ≡ slice_set t.volume.names place.line (Some (row_to path place.parent place.ino)) =
     makes.names_is ∙ ap (λ (x : NameRow). slice_set t.volume.names place.line (Some x)) makes.row_is
     in
-    λ i. tables_with place (makes.node_is i) (names_are i) t
+    λ i. with_lines place.ino (makes.node_is i) (names_are i) t
 
 pub makes-tables : (directory : Bool) (path : List (List ℕ)) (place : Place) (t : TablesView) (node : Inode) (r : NameRow) (names : Rows)
-    (pool : FreeSet) → AreTables t pool → MakesAt directory path place t node r names → AreTables (tables_with place node names t) pool
+    (pool : FreeSet) → AreTables t pool → MakesAt directory path place t node r names → AreTables (with_lines place.ino node names t) pool
 makes-tables directory path place t node r names pool are makes =
     subst (λ u. AreTables u pool) (sym (makes-made directory path place t node r names makes))
     (tables-same t (made_at directory path place t.volume) pool are (made-whole directory path place t.volume are.whole makes.is_place) refl
@@ -123,13 +119,13 @@ pub makes-plan : (directory : Bool) (path : List (List ℕ)) (place : Place) (t 
     (b : List Entry) → t ≡ old → IsWhole t.volume → MakesAt directory path place t node r names
     → (node.root ≡ (inode t.volume place.ino).root → node.extents ≡ (inode t.volume place.ino).extents
     → Turns t.volume.geometry [] t.volume (row_set place.line (Some r) (node_set place.ino node t.volume)) b)
-    → 0 < length b → length b ≤ 2 → IsPlan old (tables_with place node names t) b
+    → 0 < length b → length b ≤ 2 → IsPlan old (with_lines place.ino node names t) b
 makes-plan directory path place t old node r names b same whole makes turns some most =
     let v = t.volume in
     let free = place-bare v path place whole makes.is_place in
     let root : node.root ≡ (inode v place.ino).root = ap (λ (x : Inode). x.root) makes.node_is ∙ sym free.root in
     let extents : node.extents ≡ (inode v place.ino).extents = ap (λ (x : Inode). x.extents) makes.node_is ∙ sym free.extents in
-    plan-from t old (tables_with place node names t) (made_at directory path place v) b same
+    plan-from t old (with_lines place.ino node names t) (made_at directory path place v) b same
     (makes-made directory path place t node r names makes)
     (subst (λ w. Turns v.geometry [] v w b) (λ i. row_set place.line (Some (makes.row_is i)) (node_set place.ino (makes.node_is i) v)) (turns root extents))
     some (omega arith) (made-whole directory path place v whole makes.is_place)

@@ -19,7 +19,7 @@ use Rattle.k_plans.specs.Free.{AreTables}
 use Rattle.k_plans.specs.Plans.{IsPlan}
 use Rattle.k_plans.specs.View.{TablesView, with_volume}
 use Rattle.k_plans.specs.Whole.{IsWhole}
-use Rattle.k_plans.proofs.Wholes.{IsBare, directory-bare, inodes-set, plan-from, tables-same}
+use Rattle.k_plans.proofs.Wholes.{IsBare, directory-bare, inodes-set, plan-from, tables-same, with_lines, with_names}
 
 -- ---- the name of a file
 
@@ -41,15 +41,12 @@ pub record Unnames (path : List (List ℕ)) (entry : Entry) (t : TablesView) (na
   pub is_file : IsFileAt t.volume.inodes t.volume.names path entry
   pub names_is : names ≡ slice_set t.volume.names entry.line None
 
-abbrev pub named_by : Rows → TablesView → TablesView
-named_by names t = with_volume (record t.volume { names = names }) t
-
 unnames-is : (path : List (List ℕ)) (entry : Entry) (t : TablesView) (names : Rows) → Unnames path entry t names
-    → named_by names t ≡ with_volume (unnamed entry.line t.volume) t
-unnames-is path entry t names u = ap (λ (rows : Rows). named_by rows t) u.names_is
+    → with_names names t ≡ with_volume (unnamed entry.line t.volume) t
+unnames-is path entry t names u = ap (λ (rows : Rows). with_names rows t) u.names_is
 
 pub unnames-tables : (path : List (List ℕ)) (entry : Entry) (t : TablesView) (names : Rows) (pool : FreeSet) → AreTables t pool
-    → Unnames path entry t names → AreTables (named_by names t) pool
+    → Unnames path entry t names → AreTables (with_names names t) pool
 unnames-tables path entry t names pool are u =
     subst (λ n. AreTables n pool) (sym (unnames-is path entry t names u))
     (tables-same t (unnamed entry.line t.volume) pool are (unnamed-whole path entry t.volume are.whole u.is_file) refl
@@ -58,9 +55,9 @@ unnames-tables path entry t names pool are u =
 pub unnames-plan : (path : List (List ℕ)) (entry : Entry) (t old : TablesView) (names : Rows) (b : List Line) → t ≡ old
     → IsWhole t.volume → Unnames path entry t names
     → Turns t.volume.geometry [] t.volume (row_set entry.line None t.volume) b → 0 < length b → length b ≤ 1
-    → IsPlan old (named_by names t) b
+    → IsPlan old (with_names names t) b
 unnames-plan path entry t old names b same whole u turns some most =
-    plan-from t old (named_by names t) (unnamed entry.line t.volume) b same (unnames-is path entry t names u) turns some (omega arith)
+    plan-from t old (with_names names t) (unnamed entry.line t.volume) b same (unnames-is path entry t names u) turns some (omega arith)
     (unnamed-whole path entry t.volume whole u.is_file)
 
 -- ---- a directory with its name
@@ -96,15 +93,12 @@ pub record Removes (path : List (List ℕ)) (entry : Entry) (t : TablesView) (go
   pub gone_is : gone ≡ gone_node (inode t.volume entry.child)
   pub names_is : names ≡ slice_set t.volume.names entry.line None
 
-abbrev pub without_node : ℕ → Inode → Rows → TablesView → TablesView
-without_node ino gone names t = with_volume (record (node_set ino gone t.volume) { names = names }) t
-
 removes-is : (path : List (List ℕ)) (entry : Entry) (t : TablesView) (gone : Inode) (names : Rows) → Removes path entry t gone names
-    → without_node entry.child gone names t ≡ with_volume (removed entry.line entry.child t.volume) t
-removes-is path entry t gone names r = λ i. without_node entry.child (r.gone_is i) (r.names_is i) t
+    → with_lines entry.child gone names t ≡ with_volume (removed entry.line entry.child t.volume) t
+removes-is path entry t gone names r = λ i. with_lines entry.child (r.gone_is i) (r.names_is i) t
 
 pub removes-tables : (path : List (List ℕ)) (entry : Entry) (t : TablesView) (gone : Inode) (names : Rows) (pool : FreeSet) → AreTables t pool
-    → Removes path entry t gone names → AreTables (without_node entry.child gone names t) pool
+    → Removes path entry t gone names → AreTables (with_lines entry.child gone names t) pool
 removes-tables path entry t gone names pool are r =
     subst (λ n. AreTables n pool) (sym (removes-is path entry t gone names r))
     (tables-same t (removed entry.line entry.child t.volume) pool are (removed-whole path entry t.volume are.whole r.is_directory) refl
@@ -114,11 +108,11 @@ pub removes-plan : (path : List (List ℕ)) (entry : Entry) (t old : TablesView)
     → IsWhole t.volume → Removes path entry t gone names
     → (gone.root ≡ (inode t.volume entry.child).root → gone.extents ≡ (inode t.volume entry.child).extents
     → Turns t.volume.geometry [] t.volume (row_set entry.line None (node_set entry.child gone t.volume)) b)
-    → 0 < length b → length b ≤ 2 → IsPlan old (without_node entry.child gone names t) b
+    → 0 < length b → length b ≤ 2 → IsPlan old (with_lines entry.child gone names t) b
 removes-plan path entry t old gone names b same whole r turns some most =
     let v = t.volume in
     let none = removed-bare path entry v whole r.is_directory in
-    plan-from t old (without_node entry.child gone names t) (removed entry.line entry.child v) b same
+    plan-from t old (with_lines entry.child gone names t) (removed entry.line entry.child v) b same
     (removes-is path entry t gone names r)
     (subst (λ (x : Inode). Turns v.geometry [] v (row_set entry.line None (node_set entry.child x v)) b) r.gone_is
     (turns (ap (λ (x : Inode). x.root) r.gone_is ∙ sym none.root) (ap (λ (x : Inode). x.extents) r.gone_is ∙ sym none.extents)))

@@ -8,6 +8,7 @@ use Rattle.disk_lines.specs.declared.Inode.{Inode}
 use Rattle.disk_lines.specs.declared.Kind.{Kind}
 use Rattle.disk_lines.specs.declared.Kind.TheVariants.{Free, Directory, File, Staging}
 use Rattle.disk_lines.specs.Lines.{is_inode, is_inode_of_kind}
+use Rattle.disk_lines.specs.Names.{Rows}
 use Rattle.disk_places.specs.Places.{is_data_block, first_data, data_blocks}
 use Rattle.disk_rules.specs.Live.{is_directory}
 use Rattle.disk_rules.specs.Reading.{node_set}
@@ -22,6 +23,13 @@ use Rattle.k_plans.specs.Free.{AreTables}
 use Rattle.k_plans.specs.Plans.{IsPlan}
 use Rattle.k_plans.specs.View.{TablesView, with_volume}
 use Rattle.k_plans.specs.Whole.{IsWhole}
+
+-- the tables with other names, and with another inode besides
+abbrev pub with_names : Rows → TablesView → TablesView
+with_names names t = with_volume (record t.volume { names = names }) t
+
+abbrev pub with_lines : ℕ → Inode → Rows → TablesView → TablesView
+with_lines ino node names t = with_volume (record (node_set ino node t.volume) { names = names }) t
 
 -- a volume that uses the same blocks has the same pool
 unused-same : (v w : Volume) (b : ℕ) → w.geometry ≡ v.geometry → owners w b ≡ owners v b → is_unused w b ≡ is_unused v b

@@ -25,4 +25,5 @@ pub record MayGiveMap (es : List Extent) (pool : FreeSet) : Type 0 where
   pub fits : pool.first + length pool.marks < 2 ^ 32
   pub within : (k : ℕ) → k < length es → LiesWithin pool.first (length pool.marks) (extent_at es k)
   pub used : (k b : ℕ) → k < length es → holds_disk (extent_at es k) b ≡ true → is_free_at pool b ≡ false
-  pub apart : (j k b : ℕ) → j < k → k < length es → holds_disk (extent_at es j) b ≡ true → holds_disk (extent_at es k) b ≡ false
+  pub apart : (j k b : ℕ) → j < k → k < length es → holds_disk (extent_at es j) b ≡ true
+      → holds_disk (extent_at es k) b ≡ false

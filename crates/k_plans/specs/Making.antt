@@ -32,5 +32,7 @@ pub record IsMade (directory : Bool) (path : List (List ℕ)) (v w : Volume) (in
 -- what `make` answers and leaves
 abbrev pub IsMakePlan : Bool → List (List ℕ) → TablesView → TablesView → List Entry → Result ℕ PlanFault → Type 0
 IsMakePlan directory path old new b (Ok ino) =
-    (first (mkdir_rows (volume_space old.volume) path) ≡ None) × IsMade directory path old.volume new.volume ino × IsPlan old new b
-IsMakePlan directory path old new b (Err fault) = IsNotMade fault (first (mkdir_rows (volume_space old.volume) path)) old new b
+    (first (mkdir_rows (volume_space old.volume) path) ≡ None) × IsMade directory path old.volume new.volume ino
+    × IsPlan old new b
+IsMakePlan directory path old new b (Err fault) =
+    IsNotMade fault (first (mkdir_rows (volume_space old.volume) path)) old new b

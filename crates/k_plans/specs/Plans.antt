@@ -1,5 +1,5 @@
 -- What a change of the tables leaves: a plan of lines for the change, or nothing.
-use Rattle.std.specs.Prelude.{◌≡◌, ◌<◌, ◌≤◌, List, [], length, Option, Some}
+use Rattle.std.specs.Prelude.{◌≡◌, ◌<◌, ◌≤◌, List, [], length, Option, None, Some}
 use Rattle.k_journal.specs.declared.batches.Entry.{Entry}
 use Rattle.k_land.specs.Plans.{Turns}
 use Rattle.posix_types.specs.declared.item.Outcome.{Outcome}
@@ -19,11 +19,12 @@ pub record IsPlan (old new : TablesView) (b : List Entry) : Type 0 where
   pub waiting : new.waiting ≡ old.waiting
   pub whole : IsWhole new.volume
 
--- the fault is the outcome that the rows of a call give; want of memory may come at any call
+-- The fault is the outcome that the rows of a call give. Memory is asked for where no row fits, so that a refusal comes
+-- exactly where the rows say.
 abbrev pub IsFaultOf : PlanFault → Option Outcome → Type 0
 IsFaultOf (PlanFault.Refused errno) o = o ≡ Some (answer (Reply.Error errno))
 IsFaultOf (PlanFault.Room room) o = o ≡ Some (record { reply = Reply.Error Errno.ENOSPC; room = Some room })
-IsFaultOf PlanFault.NoMemory o = Unit {0}
+IsFaultOf PlanFault.NoMemory o = o ≡ None
 
 -- A change that is not made: the tables are as before, and nothing is planned.
 pub record IsNotMade (fault : PlanFault) (o : Option Outcome) (old new : TablesView) (b : List Entry) : Type 0 where

@@ -28,7 +28,8 @@ pub record IsRemoved (path : List (List ℕ)) (v w : Volume) : Type 0 where
 -- what `unlink` answers and leaves
 abbrev pub IsUnlinkPlan : List (List ℕ) → TablesView → TablesView → List Line → Result ℕ PlanFault → Type 0
 IsUnlinkPlan path old new b (Ok ino) =
-    (first (unlink_rows (volume_space old.volume) path) ≡ None) × IsUnlinked path old.volume new.volume ino × IsPlan old new b
+    (first (unlink_rows (volume_space old.volume) path) ≡ None) × IsUnlinked path old.volume new.volume ino
+    × IsPlan old new b
 IsUnlinkPlan path old new b (Err fault) = IsNotMade fault (first (unlink_rows (volume_space old.volume) path)) old new b
 
 -- what `rmdir` answers and leaves

@@ -22,7 +22,8 @@ use Rattle.k_plans.specs.declared.faults.PlanFault.{PlanFault}
 abbrev pub renamed_over : ℕ → NameRow → Option Entry → Volume → Volume
 renamed_over line r None v = renamed line r v
 renamed_over line r (Some target) v =
-    if is_directory_in v.inodes target.child then renamed_over_directory line r target.line target.child v else renamed_over_file line r target.line v
+    if is_directory_in v.inodes target.child then renamed_over_directory line r target.line target.child v
+    else renamed_over_file line r target.line v
 
 -- the volume in which the node has the path q
 abbrev pub renamed_to : List (List ℕ) → Moving → Volume → Volume
@@ -48,10 +49,12 @@ pub record IsIdle (o : Option Outcome) (old new : TablesView) (b : List Line) (l
   pub none_lost : lost ≡ None
 
 -- what `rename` answers and leaves
-abbrev pub IsRenamePlan : List (List ℕ) → List (List ℕ) → TablesView → TablesView → List Line → Result (Option ℕ) PlanFault → Type 0
+abbrev pub IsRenamePlan : List (List ℕ) → List (List ℕ) → TablesView → TablesView → List Line
+    → Result (Option ℕ) PlanFault → Type 0
 IsRenamePlan p q old new b (Ok lost) =
     IsIdle (first (rename_rows (volume_space old.volume) p q)) old new b lost
-    ⊎ ((first (rename_rows (volume_space old.volume) p q) ≡ None) × IsRenamed p q old.volume new.volume lost × IsPlan old new b)
+    ⊎ ((first (rename_rows (volume_space old.volume) p q) ≡ None) × IsRenamed p q old.volume new.volume lost
+    × IsPlan old new b)
 IsRenamePlan p q old new b (Err fault) = IsNotMade fault (first (rename_rows (volume_space old.volume) p q)) old new b
 
 -- what a rename that is refused answers, by the outcome of its rows

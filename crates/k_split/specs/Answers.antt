@@ -48,13 +48,14 @@ abbrev pub IsOff : View → View → Type 0
 IsOff old new = new ≡ record old { lost = true }
 
 -- What a change answers and leaves, by the first of its rows that fits: done exactly where none fits, where Makes says what it
--- answers of the new volume; refused by a row, or for want of memory, with all as it was; or cut off by the power.
+-- answers of the new volume; refused by a row with all as it was, and so where no row fits for want of memory; or cut off by
+-- the power.
 abbrev pub IsAnswer : {T : Type 0} → Option Outcome → (T → Volume → Type 0) → View → View → Result T KFault → Type 0
 IsAnswer {T} refused Makes old new (Ok t) = (refused ≡ None) × Makes t new.volume × IsDone old new
 IsAnswer {T} refused Makes old new (Err (KFault.Refused errno)) = (refused ≡ Some (answer (Reply.Error errno))) × (new ≡ old)
 IsAnswer {T} refused Makes old new (Err (KFault.Room room)) =
     (refused ≡ Some (record { reply = Reply.Error Errno.ENOSPC; room = Some room })) × (new ≡ old)
-IsAnswer {T} refused Makes old new (Err KFault.NoMemory) = new ≡ old
+IsAnswer {T} refused Makes old new (Err KFault.NoMemory) = (refused ≡ None) × (new ≡ old)
 IsAnswer {T} refused Makes old new (Err KFault.PowerLost) =
     IsOff old new ⊎ ((refused ≡ None) × ((t : T) × (w : Volume) × Makes t w × IsCut w old new))
 

@@ -1,6 +1,5 @@
 use Rattle.std.proofs.Common.{◌≡◌, ◌∙◌, ◌<◌, ℕ, List, [], length, ap, arith, false, true, refl, subst, sym}
 use Rattle.std.proofs.lemmas.List.{get_or_default}
-use Rattle.std.specs.Prelude.{slice_set}
 use Rattle.block_pool.specs.FreeSets.{is_among}
 use Rattle.disk_lines.specs.declared.Inode.{Inode}
 use Rattle.disk_rules.specs.Reading.{inode_set}
@@ -13,7 +12,8 @@ use Rattle.k_land.specs.Plans.{Turns}
 use Rattle.k_land.specs.Plans.IsMapFrom.{NoMap}
 use Rattle.k_land.specs.PlanLaws.{turns-none}
 use Rattle.k_plans.specs.Giving.{AreGiven, MayGiveChain, MayGiveMap, is_held}
-use Rattle.k_plans.specs.View.{TablesView, tables_view, with_volume}
+use Rattle.k_plans.specs.contracts.tables.Tables.{the_view}
+use Rattle.k_plans.specs.View.{TablesView, with_volume}
 use Rattle.k_rules.specs.Changes.{dropped, gone_node}
 use Rattle.volume_changes.specs.Changes.{MayDrop}
 use Rattle.k_plans.proofs.Drops.{chain-may, dropped-after, dropped-whole, map-apart, map-may}
@@ -23,9 +23,7 @@ use Rattle.k_plans.proofs.tables.Tables.drop_node.Goals as goal
 -- ---- the blocks that are given
 
 abbrev at_first : goal.After-extents → TablesView
-at_first c =
-    tables_view c.self.inside.geometry c.self.inside.base c.self.inside.inodes.items c.self.inside.names c.self.inside.chains.items c.self.inside.maps.items
-    c.self.inside.waiting.items
+at_first c = the_view c.self.inside
 
 may_first : (c : goal.After-extents) → MayDrop c.args.ino (at_first c).volume
 may_first c = subst (λ (t : TablesView). MayDrop c.args.ino t.volume) (sym c.self.view_is) c.requires.may
@@ -64,9 +62,7 @@ give_inode-requires-clause-apart c =
 -- ---- the tables afterwards
 
 abbrev before : goal.After-drop-index_mut-2 → TablesView
-before c =
-    tables_view c.self.inside.geometry c.self.inside.base c.self.inside.inodes.items c.self.inside.names c.self.inside.chains.items c.self.inside.maps.items
-    c.self.inside.waiting.items
+before c = the_view c.self.inside
 
 may : (c : goal.After-drop-index_mut-2) → MayDrop c.args.ino (before c).volume
 may c = subst (λ (t : TablesView). MayDrop c.args.ino t.volume) (sym c.self.view_is) c.requires.may
@@ -77,12 +73,10 @@ gone_is c =
     (c.index.ensures ∙ get_or_default c.self.inside.inodes.items c.args.ino c.index.result.now free_inode (may c).below)
 
 is_after : (c : goal.After-drop-index_mut-2)
-    → tables_view c.self.inside.geometry c.self.inside.base (slice_set c.self.inside.inodes.items c.args.ino c.gone_node-gone.result) c.self.inside.names
-    (slice_set c.self.inside.chains.items c.args.ino c.new.result.items) (slice_set c.self.inside.maps.items c.args.ino c.new-2.result) c.self.inside.waiting.items
+    → with_volume (inode_set c.args.ino c.gone_node-gone.result c.new.result.items c.new-2.result (before c).volume) (before c)
     ≡ with_volume (dropped c.args.ino (before c).volume) (before c)
 is_after c = λ i.
-    tables_view c.self.inside.geometry c.self.inside.base (slice_set c.self.inside.inodes.items c.args.ino (gone_is c i)) c.self.inside.names
-    (slice_set c.self.inside.chains.items c.args.ino (c.new.ensures.items i)) (slice_set c.self.inside.maps.items c.args.ino (c.new-2.ensures i)) c.self.inside.waiting.items
+    with_volume (inode_set c.args.ino (gone_is c i) (c.new.ensures.items i) (c.new-2.ensures i) (before c).volume) (before c)
 
 given : (c : goal.After-drop-index_mut-2)
     → AreGiven (is_held (chain (before c).volume c.args.ino) (extents (before c).volume c.args.ino)) c.self.inside.pool c.give_inode.new.pool

@@ -5,7 +5,8 @@ use Rattle.disk_lines.specs.Lines.{NameRow, is_name_row}
 use Rattle.disk_lines.specs.Names.{is_entry, row}
 use Rattle.disk_rules.specs.Volume.{free_inode}
 use Rattle.k_plans.specs.Making.{kind_of}
-use Rattle.k_plans.specs.View.{TablesView, tables_view}
+use Rattle.k_plans.specs.contracts.tables.Tables.{the_view}
+use Rattle.k_plans.specs.View.{TablesView}
 use Rattle.k_rules.specs.Changes.{new_node}
 use Rattle.k_tables.specs.Found.{IsPlace}
 use Rattle.k_plans.proofs.Places.{MakesAt, makes-plan, makes-tables, place-new, place-row}
@@ -13,9 +14,7 @@ use Rattle.k_plans.proofs.tables.Tables.make_at.Goals as goal
 
 -- the tables before
 abbrev before : goal.After-set → TablesView
-before c =
-    tables_view c.self.inside.geometry c.self.inside.base c.self.inside.inodes.items c.self.inside.names c.self.inside.chains.items c.self.inside.maps.items
-    c.self.inside.waiting.items
+before c = the_view c.self.inside
 
 makes : (c : goal.After-set)
     → MakesAt c.args.directory c.args.path.now c.args.place (before c) c.new_node-inode.result c.args.name c.set.new.self

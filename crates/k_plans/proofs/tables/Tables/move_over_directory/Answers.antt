@@ -6,20 +6,19 @@ use Rattle.disk_lines.specs.Names.{Rows}
 use Rattle.disk_rules.specs.Reading.{node_set, row_set}
 use Rattle.disk_rules.specs.Volume.{Volume, free_inode, inode}
 use Rattle.k_land.specs.Plans.{Turns}
-use Rattle.k_plans.specs.View.{TablesView, tables_view, with_volume}
+use Rattle.k_plans.specs.contracts.tables.Tables.{the_view}
+use Rattle.k_plans.specs.View.{TablesView, with_volume}
 use Rattle.k_rules.specs.Changes.{gone_node, renamed_over_directory}
 use Rattle.k_rules.specs.Spaces.{is_directory_in}
 use Rattle.volume_changes.specs.CountLaws.{renamed_over_directory-owners}
 use Rattle.k_plans.specs.Whole.{IsWhole}
 use Rattle.k_plans.proofs.Renames.{Moves, moves-row, over-alone, over-bare, over-below, over_directory-whole}
-use Rattle.k_plans.proofs.Wholes.{after-tables, plan-from}
+use Rattle.k_plans.proofs.Wholes.{after-tables, plan-from, with_lines}
 use Rattle.k_plans.proofs.tables.Tables.move_over_directory.Goals as goal
 
 -- the tables before
 abbrev before : goal.After-set → TablesView
-before c =
-    tables_view c.self.inside.geometry c.self.inside.base c.self.inside.inodes.items c.self.inside.names c.self.inside.chains.items c.self.inside.maps.items
-    c.self.inside.waiting.items
+before c = the_view c.self.inside
 
 moves : (c : goal.After-set) → Moves c.args.path.now c.args.to.now c.args.moving c.args.name (before c).volume
 moves c =
@@ -39,14 +38,12 @@ gone_is c =
     (over-below (before c).volume c.args.target.child (directory c)))
 
 is_after : (c : goal.After-set)
-    → tables_view c.self.inside.geometry c.self.inside.base (slice_set c.self.inside.inodes.items c.args.target.child c.gone_node-gone.result) c.set.new.self
-    c.self.inside.chains.items c.self.inside.maps.items c.self.inside.waiting.items ≡ with_volume (after c) (before c)
+    → with_lines c.args.target.child c.gone_node-gone.result c.set.new.self (before c) ≡ with_volume (after c) (before c)
 is_after c =
     let names : c.set.new.self ≡ slice_set (slice_set c.self.inside.names c.args.target.line None) c.args.moving.entry.line (Some c.args.name) =
     c.set.ensures ∙ ap (λ (rows : Rows). slice_set rows c.args.moving.entry.line (Some c.args.name)) c.clear.ensures
     in
-    λ i. tables_view c.self.inside.geometry c.self.inside.base (slice_set c.self.inside.inodes.items c.args.target.child (gone_is c i)) (names i)
-    c.self.inside.chains.items c.self.inside.maps.items c.self.inside.waiting.items
+    λ i. with_lines c.args.target.child (gone_is c i) (names i) (before c)
 
 whole_after : (c : goal.After-set) → IsWhole (after c)
 whole_after c =
@@ -75,7 +72,10 @@ returns-clause-plan c =
     let v = (before c).volume in
     let none = over-bare v c.args.target.child c.self.invariant.whole (directory c) in
     plan-from (before c) c.args.self.now _ (after c) c.put_over_directory.new.batch c.self.view_is (is_after c)
-    (subst (λ (x : Inode). Turns c.self.inside.geometry [] v (row_set c.args.moving.entry.line (Some c.args.name) (row_set c.args.target.line None (node_set c.args.target.child x v))) c.put_over_directory.new.batch)
+    (subst (λ (x : Inode).
+    Turns c.self.inside.geometry [] v
+    (row_set c.args.moving.entry.line (Some c.args.name) (row_set c.args.target.line None (node_set c.args.target.child x v)))
+    c.put_over_directory.new.batch)
     (gone_is c)
     (c.put_over_directory.ensures.turns v (ap (λ (x : Inode). x.root) (gone_is c) ∙ sym none.root) (ap (λ (x : Inode). x.extents) (gone_is c) ∙ sym none.extents)))
     c.put_over_directory.ensures.some (omega (arith, c.put_over_directory.ensures.most)) (whole_after c)

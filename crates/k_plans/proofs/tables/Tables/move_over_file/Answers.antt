@@ -2,20 +2,19 @@ use Rattle.std.proofs.Common.{◌≡◌, ◌∙◌, ap, arith, false, refl, subs
 use Rattle.std.specs.Prelude.{Some, slice_set}
 use Rattle.disk_lines.specs.Names.{Rows}
 use Rattle.disk_rules.specs.Volume.{Volume}
-use Rattle.k_plans.specs.View.{TablesView, tables_view, with_volume}
+use Rattle.k_plans.specs.contracts.tables.Tables.{the_view}
+use Rattle.k_plans.specs.View.{TablesView, with_volume}
 use Rattle.k_rules.specs.Changes.{renamed_over_file}
 use Rattle.k_rules.specs.Spaces.{is_directory_in}
 use Rattle.volume_changes.specs.CountLaws.{renamed_over_file-owners}
 use Rattle.k_plans.specs.Whole.{IsWhole}
 use Rattle.k_plans.proofs.Renames.{Moves, moves-row, over-alone, over_file-whole}
-use Rattle.k_plans.proofs.Wholes.{after-tables, plan-from}
+use Rattle.k_plans.proofs.Wholes.{after-tables, plan-from, with_names}
 use Rattle.k_plans.proofs.tables.Tables.move_over_file.Goals as goal
 
 -- the tables before
 abbrev before : goal.After-set → TablesView
-before c =
-    tables_view c.self.inside.geometry c.self.inside.base c.self.inside.inodes.items c.self.inside.names c.self.inside.chains.items c.self.inside.maps.items
-    c.self.inside.waiting.items
+before c = the_view c.self.inside
 
 moves : (c : goal.After-set) → Moves c.args.path.now c.args.to.now c.args.moving c.args.name (before c).volume
 moves c =
@@ -25,11 +24,10 @@ moves c =
 abbrev after : goal.After-set → Volume
 after c = renamed_over_file c.args.moving.entry.line c.args.name c.args.target.line (before c).volume
 
-is_after : (c : goal.After-set)
-    → tables_view c.self.inside.geometry c.self.inside.base c.self.inside.inodes.items c.set.new.self c.self.inside.chains.items c.self.inside.maps.items
-    c.self.inside.waiting.items ≡ with_volume (after c) (before c)
-is_after c = ap (λ (rows : Rows). tables_view c.self.inside.geometry c.self.inside.base c.self.inside.inodes.items rows c.self.inside.chains.items c.self.inside.maps.items
-    c.self.inside.waiting.items) (c.set.ensures ∙ ap (λ (rows : Rows). slice_set rows c.args.moving.entry.line (Some c.args.name)) c.clear.ensures)
+is_after : (c : goal.After-set) → with_names c.set.new.self (before c) ≡ with_volume (after c) (before c)
+is_after c =
+    ap (λ (rows : Rows). with_names rows (before c))
+    (c.set.ensures ∙ ap (λ (rows : Rows). slice_set rows c.args.moving.entry.line (Some c.args.name)) c.clear.ensures)
 
 whole_after : (c : goal.After-set) → IsWhole (after c)
 whole_after c =

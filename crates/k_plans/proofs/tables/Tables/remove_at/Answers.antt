@@ -1,7 +1,8 @@
 use Rattle.std.proofs.Common.{◌∙◌, ap, subst, sym}
 use Rattle.std.proofs.lemmas.List.{get_or_default}
 use Rattle.disk_rules.specs.Volume.{free_inode}
-use Rattle.k_plans.specs.View.{TablesView, tables_view}
+use Rattle.k_plans.specs.contracts.tables.Tables.{the_view}
+use Rattle.k_plans.specs.View.{TablesView}
 use Rattle.k_rules.specs.Changes.{gone_node}
 use Rattle.k_tables.specs.Found.{IsDirectoryAt}
 use Rattle.k_plans.proofs.Removals.{Removes, removed-below, removes-plan, removes-tables}
@@ -9,9 +10,7 @@ use Rattle.k_plans.proofs.tables.Tables.remove_at.Goals as goal
 
 -- the tables before
 abbrev before : goal.After-clear → TablesView
-before c =
-    tables_view c.self.inside.geometry c.self.inside.base c.self.inside.inodes.items c.self.inside.names c.self.inside.chains.items c.self.inside.maps.items
-    c.self.inside.waiting.items
+before c = the_view c.self.inside
 
 removes : (c : goal.After-clear) → Removes c.args.path.now c.args.entry (before c) c.gone_node-gone.result c.clear.new.self
 removes c =

@@ -2,16 +2,15 @@ use Rattle.std.proofs.Common.{List, [], length, ap, arith, subst, sym}
 use Rattle.k_journal.specs.declared.batches.Entry.{Entry}
 use Rattle.k_land.specs.Plans.{Turns}
 use Rattle.k_land.specs.PlanLaws.{turns-none}
-use Rattle.k_plans.specs.View.{TablesView, tables_view}
+use Rattle.k_plans.specs.contracts.tables.Tables.{the_view}
+use Rattle.k_plans.specs.View.{TablesView}
 use Rattle.k_tables.specs.Found.{IsFileAt}
 use Rattle.k_plans.proofs.Removals.{Unnames, unnames-plan, unnames-tables}
 use Rattle.k_plans.proofs.tables.Tables.unlink_at.Goals as goal
 
 -- the tables before
 abbrev before : goal.After-clear → TablesView
-before c =
-    tables_view c.self.inside.geometry c.self.inside.base c.self.inside.inodes.items c.self.inside.names c.self.inside.chains.items c.self.inside.maps.items
-    c.self.inside.waiting.items
+before c = the_view c.self.inside
 
 unnames : (c : goal.After-clear) → Unnames c.args.path.now c.args.entry (before c) c.clear.new.self
 unnames c = record {

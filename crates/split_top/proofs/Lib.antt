@@ -1,14 +1,11 @@
-pub mod Batches
 pub mod CallSteps
-pub mod OneMore
-pub mod PlainNames
-pub mod Outcomes
+pub mod FreshDevices
 pub mod Histories
 pub mod Lines
 pub mod Numbers
-pub mod Ranges
-pub mod ReadBack
+pub mod OneCall
+pub mod Outcomes
+pub mod PlainNames
 pub mod Results
-pub mod SetLines
-pub mod Zeros
-mod Shapes
+pub mod Showing
+pub mod Standing

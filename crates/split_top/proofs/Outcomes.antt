@@ -4,13 +4,6 @@ use Rattle.std.specs.Prelude.{slice_get, nat_lt}
 use Rattle.std.proofs.lemmas.List.Elements.{All-nil}
 use Rattle.std.proofs.lemmas.Bool.{cases_Bool, true≢false, ltb-false}
 use Rattle.std.proofs.lemmas.List.{length-map}
-use Rattle.pm_words.specs.declared.Cell.{Cell}
-use Rattle.pm_words.specs.declared.Cell.TheVariants.{Single}
-use Rattle.pm_words.specs.Cells.{cell, AllSingle}
-use Rattle.pm_words.specs.CellLaws.{single-newest}
-use Rattle.pm_words.specs.Images.{words_of}
-use Rattle.disk_places.specs.Places.{commit_word}
-use Rattle.disk_lines.specs.Fresh.{fresh}
 use Rattle.pm_words.specs.Powers.{Supply, Steps, is_on, is_left}
 use Rattle.posix_types.specs.declared.item.Item.{Item}
 use Rattle.posix_types.specs.declared.tree.TreeEntry.{TreeEntry}
@@ -20,8 +13,8 @@ use Rattle.posix_spec.specs.Tree.{tree}
 use Rattle.split_top.specs.declared.calls.Called.{Called}
 use Rattle.split_top.specs.declared.calls.Disk.{Disk}
 use Rattle.split_top.specs.Calls.{IsCalled, next_name}
-use Rattle.split_top.specs.Made.{default_geometry, with_directories, made, ArePlain}
-use Rattle.split_top.specs.Rest.{IsAtRest, MayShow}
+use Rattle.split_top.specs.Made.{ArePlain}
+use Rattle.split_top.specs.Rest.{MayShow}
 use Rattle.posix_types.specs.declared.call.Who.{Who}
 use Rattle.posix_spec.specs.Ending.{IsWhole}
 use Rattle.posix_spec.specs.Unfinished.{AreUnfinished, HaveTwoCallers, IsNextCall}
@@ -29,25 +22,15 @@ use Rattle.posix_facts.specs.UnfinishedLaws.{AreUnfinished-none, AreUnfinished-b
 use Rattle.split_top.specs.Runs.{first_state, made_count, mkdir_of, begun_of, scripts_of, state_of, task_of, IsRun}
 use Rattle.split_top.proofs.Histories.{call_at}
 use Rattle.split_top.proofs.CallSteps.{state_of-more}
-use Rattle.split_top.proofs.OneMore.{may_show_also, plain_more}
-
--- a device with the fresh image is at rest, with no directory
-pub fresh_at_rest : (d : List Cell) → length d ≡ 512 * default_geometry.blocks → AllSingle d → words_of d ≡ fresh default_geometry → IsAtRest d []
-unfolding with_directories fresh
-fresh_at_rest d size single words =
-    record {
-      size = size;
-      single = single;
-      idle = single-newest (cell d commit_word) (single commit_word) ∙ ap (λ f. Single (f commit_word)) words;
-      words = λ w content. ap (λ f. f w) words;
-    }
+use Rattle.split_top.proofs.Showing.{may_show_also}
+use Rattle.split_top.proofs.Standing.{plain_more}
 
 -- what the device may show, whether the power went or not
 pub called_may_show : (names : List (List ℕ)) (before after : Supply) (disk : Disk) (called : Called) → IsCalled names before after disk called
-    → MayShow disk.pm disk.made.items (disk.made.items ++ next_name names called.history.items ∷ [])
+    → MayShow disk.k.cells disk.made.items (disk.made.items ++ next_name names called.history.items ∷ [])
 called_may_show names before after disk called h = elim (cases_Bool called.is_lost) [
   | inl lost ↦ (h.lost lost).2
-  | inr whole ↦ may_show_also disk.pm disk.made.items _ (h.whole whole).1
+  | inr whole ↦ may_show_also disk.k disk.made.items (h.whole whole).1 _
 ]
 
 -- the calls of a script are as many as its names
@@ -105,7 +88,7 @@ never_off steps before after start took off =
 pub run_lost : (names : List (List ℕ)) (stop : Option ℕ) (made : List (List ℕ)) (history : List Item) (left : List TreeEntry) (before after : Supply)
     → IsLegal first_state history → Scripted (scripts_of names) history → items_of history (Who.Thread 0) ≡ history → items_of history Who.Setup ≡ []
     → run first_state history ≡ state_of made
-    → length history < length names → before ≡ record { given = stop; taken = 0 } → Steps (80 * (length history + 1)) before after → is_on after ≡ false
+    → length history < length names → before ≡ record { given = stop; taken = 0 } → Steps (256 * (length history + 1)) before after → is_on after ≡ false
     → (left ≡ tree (state_of made)) ⊎ (left ≡ tree (state_of (made ++ next_name names history ∷ [])))
     → ((steps : ℕ) → stop ≡ Some steps → made_count history ≤ steps)
     → IsRun names stop history (begun_of (next_name names history) ∷ []) left
@@ -120,9 +103,9 @@ run_lost names stop made history left before after legal scripted own set_up sta
           | inl old ↦ inr (old ∙ ap tree (sym state))
           | inr new ↦ inl (new ∙ ap tree (state_of-more made (next_name names history)) ∙ ap (λ s. tree (after_call s (begun_of (next_name names history)))) (sym state))
         ];
-        whole = λ always. absurd (never_off (80 * (length history + 1)) before after (start ∙ ap (λ g. record { given = g; taken = 0 }) always) took off);
+        whole = λ always. absurd (never_off (256 * (length history + 1)) before after (start ∙ ap (λ g. record { given = g; taken = 0 }) always) took off);
         stopped = λ n some.
-            let most : n ≤ 80 * (length history + 1) = spent n (80 * (length history + 1)) before after (start ∙ ap (λ g. record { given = g; taken = 0 }) some) took off in
+            let most : n ≤ 256 * (length history + 1) = spent n (256 * (length history + 1)) before after (start ∙ ap (λ g. record { given = g; taken = 0 }) some) took off in
             inr (record { by_any = omega arith; by_names = λ quiet. omega arith });
       };
       kept = kept;

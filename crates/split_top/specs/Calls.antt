@@ -3,36 +3,27 @@ use Rattle.std.specs.Prelude.{◌≡◌, ℕ, ◌+◌, ◌*◌, ◌<◌, ◌≤�
 use Rattle.pm_words.specs.Powers.{Supply, Steps, is_on}
 use Rattle.posix_types.specs.declared.call.Who.{Who}
 use Rattle.posix_types.specs.declared.item.Item.{Item}
-use Rattle.posix_spec.specs.State.{State}
 use Rattle.posix_spec.specs.Step.{step}
 use Rattle.posix_spec.specs.Run.{run, IsLegal, IsAnswered}
 use Rattle.posix_spec.specs.Scripted.{items_of, Scripted}
 use Rattle.split_top.specs.declared.calls.Disk.{Disk}
 use Rattle.split_top.specs.declared.calls.Called.{Called}
-use Rattle.split_top.specs.Made.{default_geometry, ArePlain}
+use Rattle.split_top.specs.Made.{ArePlain}
 use Rattle.split_top.specs.Rest.{IsAtRest, MayShow}
 use Rattle.split_top.specs.Runs.{first_state, made_count, mkdir_of, state_of, scripts_of}
 
--- the device is at rest with the directories made, and no line is put
-pub record IsReady (disk : Disk) : Type 0 where
-  pub geometry : disk.geometry ≡ default_geometry
-  pub empty : disk.batch ≡ []
-  pub at_rest : IsAtRest disk.pm disk.made.items
+-- the device is at rest with the directories made
+abbrev pub IsReady : Disk → Type 0
+IsReady disk = IsAtRest disk.k disk.made.items
 
--- one more directory is made
-pub record Lands (old new : Disk) (name : List ℕ) : Type 0 where
-  pub ready : IsReady new
-  pub made : new.made.items ≡ old.made.items ++ name ∷ []
-
--- the directories made are as before, or one more
-pub record Returns (from : State) (place : ℕ) (name : List ℕ) (old new : Disk) (next : State) (item : Item) : Type 0 where
+-- A call returned: it is answered as the state says, and the directories made are as before, or one more.
+pub record Returns (place : ℕ) (name : List ℕ) (old new : Disk) (item : Item) : Type 0 where
   pub who : item.who ≡ Who.Thread 0
   pub index : item.index ≡ place
   pub call : item.call ≡ mkdir_of name
-  pub answered : IsAnswered from item
-  pub goes : next ≡ (step from item.who item.call).state
+  pub answered : IsAnswered (state_of old.made.items) item
+  pub goes : state_of new.made.items ≡ (step (state_of old.made.items) item.who item.call).state
   pub ready : IsReady new
-  pub state : next ≡ state_of new.made.items
   pub made : (new.made.items ≡ old.made.items) ⊎ (new.made.items ≡ old.made.items ++ name ∷ [])
 
 -- the items that made a directory are as many as the steps that were taken, or fewer
@@ -53,6 +44,6 @@ pub record IsCalled (names : List (List ℕ)) (before after : Supply) (disk : Di
   pub plain : ArePlain 0 disk.made.items
   pub few : length disk.made.items ≤ length called.history.items
   pub kept : (given : ℕ) → before.given ≡ Some given → made_count called.history.items ≤ given
-  pub steps : Steps (80 * (length called.history.items + 1)) before after
-  pub whole : called.is_lost ≡ false → (length called.history.items ≡ length names) × IsAtRest disk.pm disk.made.items
-  pub lost : called.is_lost ≡ true → (length called.history.items < length names) × (is_on after ≡ false) × MayShow disk.pm disk.made.items (disk.made.items ++ next_name names called.history.items ∷ [])
+  pub steps : Steps (256 * (length called.history.items + 1)) before after
+  pub whole : called.is_lost ≡ false → (length called.history.items ≡ length names) × IsReady disk
+  pub lost : called.is_lost ≡ true → (length called.history.items < length names) × (is_on after ≡ false) × MayShow disk.k.cells disk.made.items (disk.made.items ++ next_name names called.history.items ∷ [])

@@ -1,4 +1,3 @@
-pub mod Batches
 pub mod Calls
 pub mod Command
 pub mod Jobs

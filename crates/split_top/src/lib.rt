@@ -4,16 +4,14 @@
 //! history and of a tree (`report_text`) where the history is legal and follows the script, and the tree is one that
 //! strict mode permits for it (`specs/Runs.antt`). Every other status says when it comes and what it leaves.
 //!
-//! A `mkdir` is answered by the plain program of the calls' meaning (`posix_spec`), and where it succeeds, its two
-//! lines are made durable by one transaction (`k_journal`). The tree is that of the names that are read back from the
-//! device after its journal was recovered.
+//! A `mkdir` is a change of K-Split (`k_split`), one transaction, and what K-Split answers is what the calls' meaning
+//! (`posix_spec`) says: its volume stands for the state after the calls so far. The tree is that of the content that
+//! is read back from the device after its journal was recovered (`k_content`).
 #![tactic(auto)]
 
 mod calls;
 mod commands;
-mod directories;
 mod file_names;
-mod fresh;
 mod jobs;
 mod meaning;
 mod program;

@@ -1,22 +1,16 @@
 //! A run of a script: its calls on a fresh device, and what is read back of it.
-ghost use Rattle.std.specs.Prelude.{◌≡◌, ◌⊎◌, ◌*◌, [], ℕ, List, length, IfOk};
-ghost use Rattle.pm_words.specs.Cells.{AllHome};
-ghost use Rattle.pm_words.specs.Images.{IsImage};
-ghost use Rattle.pm_words.specs.Words.{Words};
-ghost use Rattle.disk_places.specs.Journal.{IsSound};
+ghost use Rattle.std.specs.Prelude.{◌≡◌, ◌⊎◌, [], ℕ, List, IfOk};
 ghost use Rattle.posix_spec.specs.Run.{Begun};
 ghost use Rattle.posix_spec.specs.Tree.{tree};
 ghost use Rattle.split_top.specs.Calls.{IsReady};
-ghost use Rattle.split_top.specs.Made.{default_geometry, ArePlain};
+ghost use Rattle.split_top.specs.Made.{ArePlain};
 ghost use Rattle.split_top.specs.Rest.{MayShow};
 ghost use Rattle.split_top.specs.Runs.{IsRun, state_of};
 
 use crate::calls::{Disk, run_calls};
-use crate::fresh::fresh_device;
-use crate::meaning::tree_of;
 use crate::remounts::remount;
 use image_layout::Geometry;
-use k_journal::Batch;
+use k_split::{KSplit, mkfs};
 use pm_lines::{Choice, Pm, Power};
 use posix_types::{Item, Name, Tree};
 use std::alloc::{AllocError, Global};
@@ -38,32 +32,28 @@ fn power_for(stop: Option<u64>) -> Power
     }
 }
 
-/// A fresh device at rest, with no directory made.
+/// The K-Split of a fresh device, with no directory made.
 fn fresh_disk(alloc: Global) -> Result<Disk, AllocError>
     ensures ready { IfOk result IsReady }
     ensures none { IfOk result (λ disk. disk.made.items ≡ []) }
 {
     let geometry = Geometry::default_image();
-    let pm = fresh_device(alloc, &geometry)?;
-    let batch = Batch::new(alloc)?;
+    let bytes = mkfs(alloc, &geometry)?;
+    let pm = Pm::from_image(alloc, &bytes)?;
+    let k = KSplit::open(alloc, pm, geometry, false)?;
     Ok(Disk {
-        pm,
-        batch,
-        geometry,
+        k,
         made: Vec::new(alloc),
     })
 }
 
 /// The tree that is found on a device after its power went, or after all calls.
 fn left_on(alloc: Global, pm: &Pm, choice: Choice) -> Result<Tree, AllocError>
-    requires size { length pm.now ≡ 512 * default_geometry.blocks }
-    requires home { AllHome pm.now }
-    requires sound { (image : Words) → IsImage pm.now image → IsSound default_geometry image }
-    ensures { IfOk result (λ found. (old new : List (List ℕ)) → ArePlain 0 old → ArePlain 0 new → MayShow pm.now old new → (found ≡ tree (state_of old)) ⊎ (found ≡ tree (state_of new))) }
+    requires shown { (old : List (List ℕ)) × (new : List (List ℕ)) × MayShow pm.now old new }
+    ensures { IfOk result (λ left. (old new : List (List ℕ)) → MayShow pm.now old new → (left ≡ tree (state_of old)) ⊎ (left ≡ tree (state_of new))) }
 {
     let bytes = pm.choose(alloc, choice)?;
-    let names = remount(alloc, &bytes, &Geometry::default_image())?;
-    tree_of(alloc, &names)
+    remount(alloc, &bytes, &Geometry::default_image())
 }
 
 /// Runs the calls of a script on a fresh image, and reads back what is left.
@@ -79,7 +69,8 @@ pub(crate) fn run(
     let mut disk = fresh_disk(alloc)?;
     let mut power = power_for(stop);
     let called = run_calls(alloc, names, &mut disk, &mut power)?;
-    let tree = left_on(alloc, &disk.pm, choice)?;
+    let pm = disk.k.into_pm();
+    let tree = left_on(alloc, &pm, choice)?;
     Ok(Ran {
         history: called.history,
         tree,

@@ -13,7 +13,8 @@ use Rattle.split_top.specs.Calls.{Returns, MakesBySteps}
 use Rattle.split_top.specs.Made.{ArePlain}
 use Rattle.split_top.specs.Runs.{first_state, made_count, makes, mkdir_of}
 use Rattle.split_top.proofs.Histories.{history_more}
-use Rattle.split_top.proofs.OneMore.{may_show_also, plain_more}
+use Rattle.split_top.proofs.Showing.{may_show_also}
+use Rattle.split_top.proofs.Standing.{plain_more}
 use Rattle.split_top.proofs.calls.run_calls.Goals as goal
 
 steps_more : (m n : ℕ) (a b : Supply) → m ≤ n → Steps m a b → Steps n a b
@@ -45,13 +46,13 @@ returns-then-not-on c =
       scripted = inv.history.scripted;
       own = inv.history.own;
       set_up = inv.history.set_up;
-      state = inv.run ∙ inv.state;
+      state = inv.run;
       plain = inv.plain;
       few = rw count inv.few;
       kept = inv.kept;
-      steps = rw count (steps_more (80 * c.loop-index.index) (80 * (c.loop-index.index + 1)) _ _ (omega arith) inv.steps);
+      steps = rw count (steps_more (256 * c.loop-index.index) (256 * (c.loop-index.index + 1)) _ _ (omega arith) inv.steps);
       whole = λ e. absurd (true≢false e);
-      lost = λ e. (rw count c.loop-index-test.true, off, may_show_also c.loop-index.disk.pm c.loop-index.disk.made.items _ inv.ready.at_rest);
+      lost = λ e. (rw count c.loop-index-test.true, off, may_show_also c.loop-index.disk.k c.loop-index.disk.made.items inv.ready _);
     }
 
 pub loop-index-preserved : goal.loop-index-preserved
@@ -61,8 +62,8 @@ loop-index-preserved c =
     let k = c.loop-index.index in
     let item = c.in-Some.item in
     let name = c.index-names-index.result in
-    let back : Returns c.loop-index.state k name c.loop-index.disk c.call_one.new.disk c.call_one.new.state item × (is_on c.call_one.new.power ≡ true) =
-    subst (λ o. IfSome o (λ i. Returns c.loop-index.state k name c.loop-index.disk c.call_one.new.disk c.call_one.new.state i × (is_on c.call_one.new.power ≡ true))) c.in-Some.is c.in_ok-item.ensures.some in
+    let back : Returns k name c.loop-index.disk c.call_one.new.disk item × (is_on c.call_one.new.power ≡ true) =
+    subst (λ o. IfSome o (λ i. Returns k name c.loop-index.disk c.call_one.new.disk i × (is_on c.call_one.new.power ≡ true))) c.in-Some.is c.in_ok-item.ensures.some in
     let pushed : c.push.new.self.items ≡ c.loop-index.history.items ++ item ∷ [] = c.in_ok-push-in-Some.ensures.items in
     let named : name ≡ slice_index_or names k [] = c.index-names-index.is ∙ get_or_default names k name [] c.loop-index-test.true in
     let spelled : is_name name ≡ true = rw c.index-names-index.is (c.requires.plain.each k name c.loop-index-test.true) in
@@ -71,8 +72,8 @@ loop-index-preserved c =
     let answered : IsAnswered (run first_state c.loop-index.history.items) item = rw inv.run back.0.answered in
     let made : MakesBySteps c.loop-index.power c.call_one.new.power (item ∷ []) =
     subst (λ o. IfSome o (λ i. MakesBySteps c.loop-index.power c.call_one.new.power (i ∷ []))) c.in-Some.is c.in_ok-item.ensures.makes in
-    let steps : Steps (80 * (k + 1)) c.args.power.now c.call_one.new.power =
-    steps_more (80 * k + 80) (80 * (k + 1)) _ _ (omega arith) (Steps-then (80 * k) 80 _ _ _ inv.steps c.call_one.ensures.steps) in
+    let steps : Steps (256 * (k + 1)) c.args.power.now c.call_one.new.power =
+    steps_more (256 * k + 256) (256 * (k + 1)) _ _ (omega arith) (Steps-then (256 * k) 256 _ _ _ inv.steps c.call_one.ensures.steps) in
     let counted : MakesBySteps c.args.power.now c.call_one.new.power c.push.new.self.items = λ given some.
     let before = inv.makes given some in
     let now = made given (inv.steps.given ∙ some) in
@@ -82,7 +83,6 @@ loop-index-preserved c =
     record {
       history = rw pushed (history_more names c.loop-index.history.items item k inv.history c.loop-index-test.true back.0.who back.0.index (back.0.call ∙ ap mkdir_of named) answered);
       run = rw pushed (run-append first_state c.loop-index.history.items item ∙ ap (λ s. (step s item.who item.call).state) inv.run ∙ sym back.0.goes);
-      state = back.0.state;
       ready = back.0.ready;
       plain = after.0;
       makes = counted;

@@ -12,12 +12,11 @@ abbrev pub invariant-loop-index : goal.invariant-loop-index
 invariant-loop-index l =
     record {
       history : IsHistory l.names l.index l.history.items;
-      run : run first_state l.history.items ≡ l.state;
-      state : l.state ≡ state_of l.disk.made.items;
+      run : run first_state l.history.items ≡ state_of l.disk.made.items;
       ready : IsReady l.disk;
       plain : ArePlain 0 l.disk.made.items;
       makes : MakesBySteps l.fn.power l.power l.history.items;
       kept : (given : ℕ) → l.fn.power.given ≡ Some given → made_count l.history.items ≤ given;
       few : length l.disk.made.items ≤ l.index;
-      steps : Steps (80 * l.index) l.fn.power l.power;
+      steps : Steps (256 * l.index) l.fn.power l.power;
     }

@@ -8,9 +8,16 @@
 //! Stands on `k_split`, whose answers `world_exits` turns into steps of the World.
 #![tactic(auto)]
 
+ghost use Rattle.split_world.specs.Starts.{BeginsOver};
+
 mod outcomes;
 mod removing;
 mod world;
 
 pub use outcomes::{NoMemory, Progress, Unfinished};
 pub use world::World;
+
+/// The World begins over a K-Split that was opened on a mounted device.
+pub fn a_world_begins()
+    ensures { BeginsOver }
+{}

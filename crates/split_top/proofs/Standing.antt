@@ -23,7 +23,7 @@ use Rattle.k_plans.specs.Making.{IsMade, made_at}
 use Rattle.list_facts.specs.Members.{In}
 use Rattle.world_beginning.specs.Begun.{numbers_of}
 use Rattle.world_beginning.specs.Mounted.{IsMounted}
-use Rattle.world_names.specs.Makers.{renumbered}
+use Rattle.world_steps.specs.Makers.{renumbered}
 use Rattle.k_rules.specs.Spaces.{volume_space}
 use Rattle.volume_changes.specs.FoundLaws.{free-found}
 use Rattle.posix_types.specs.declared.call.Mode.{Mode}
@@ -43,7 +43,7 @@ use Rattle.world_promise.specs.TreeRules.{IsTreeLike-names}
 use Rattle.world_spaces.specs.Rows.{HaveSameRows-Mirrors}
 use Rattle.world_spaces.specs.Spaces.{Mirrors-Stands}
 use Rattle.world_names.specs.MadeCalls.{IsWorld-mkdir}
-use Rattle.world_names.specs.Worlds.{IsWorld}
+use Rattle.world_steps.specs.Worlds.{IsWorld}
 use Rattle.world_beginning.specs.Beginnings.{begins, mounts}
 use Rattle.world_rules.specs.Stands.{IsUsed, Stands}
 use Rattle.split_top.specs.Made.{ArePlain, default_geometry}

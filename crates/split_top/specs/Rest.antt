@@ -9,7 +9,7 @@ use Rattle.disk_rules.specs.Reading.{Reads}
 use Rattle.disk_rules.specs.Volume.{Volume}
 use Rattle.k_rules.specs.View.{View}
 use Rattle.k_split.specs.Order.{IsInOrder}
-use Rattle.world_names.specs.Worlds.{IsWorld}
+use Rattle.world_steps.specs.Worlds.{IsWorld}
 use Rattle.split_top.specs.Made.{default_geometry}
 use Rattle.split_top.specs.Runs.{state_of}
 

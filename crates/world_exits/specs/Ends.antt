@@ -35,9 +35,9 @@ use Rattle.world_rules.specs.Stands.{IsUsed, number}
 use Rattle.world_promise.specs.TreeRules.{used_below}
 use Rattle.world_spaces.specs.Mirrors.{Mirrors}
 use Rattle.world_spaces.specs.Rows.{HaveSameRows, HaveSameRows-Mirrors}
-use Rattle.world_names.specs.Nameless.{IsNameless, nameless-count, nameless-moved_over}
+use Rattle.world_steps.specs.Nameless.{IsNameless, nameless-count, nameless-moved_over}
 use Rattle.world_names.specs.RemoveCalls.{one_number, row_of}
-use Rattle.world_names.specs.Worlds.{IsFound, IsWorld, node_there, world_mirror, world_volume}
+use Rattle.world_steps.specs.Worlds.{IsFound, IsWorld, node_there, world_mirror, world_volume}
 use Rattle.world_images.specs.Images.{IsRunning}
 use Rattle.world_images.specs.Unseen.{tree-swept}
 use Rattle.world_exits.specs.Going.{moved_so_far}

@@ -26,7 +26,7 @@ use Rattle.posix_spec.specs.State.{alone, State, swept, unnamed as unnamed_state
 use Rattle.posix_spec.specs.Step.{step}
 use Rattle.posix_spec.specs.Tree.{tree}
 use Rattle.world_rules.specs.Stands.{number}
-use Rattle.world_names.specs.Makers.{renumbered}
+use Rattle.world_steps.specs.Makers.{renumbered}
 use Rattle.world_images.specs.Images.{IsRunning}
 use Rattle.world_images.specs.Laws.{IsTreeOf}
 use Rattle.world_images.specs.Promised.{KeepsPromise}

@@ -23,7 +23,7 @@ use Rattle.posix_spec.specs.Run.{after_call}
 use Rattle.posix_spec.specs.Step.{renamed as renamed_state}
 use Rattle.world_promise.specs.TreeRules.{used_below}
 use Rattle.world_names.specs.RenameCalls.{IsWorld-rename_directory, IsWorld-rename_midway, IsWorld-renamed}
-use Rattle.world_names.specs.Worlds.{IsFound, IsWorld}
+use Rattle.world_steps.specs.Worlds.{IsFound, IsWorld}
 use Rattle.world_images.specs.Rooms.{room_renamed, room_renamed_over_directory, room_renamed_over_file}
 use Rattle.world_images.specs.Settings.{keeps_setting}
 use Rattle.world_exits.specs.Going.{IsStep, moved_so_far}

@@ -38,12 +38,12 @@ use Rattle.world_spaces.specs.Mirrors.{Mirrors}
 use Rattle.world_spaces.specs.Rows.{HaveSameRows-Mirrors}
 use Rattle.world_names.specs.GoneCalls.{IsWorld-dropped}
 use Rattle.world_names.specs.MadeCalls.{IsWorld-mkdir}
-use Rattle.world_names.specs.Makers.{renumbered}
-use Rattle.world_names.specs.Nameless.{count-nameless, is_named-nameless, IsNameless, nameless-count, nameless-freed}
-use Rattle.world_names.specs.NameTables.{row_used}
+use Rattle.world_steps.specs.Makers.{renumbered}
+use Rattle.world_steps.specs.Nameless.{count-nameless, is_named-nameless, IsNameless, nameless-count, nameless-freed}
+use Rattle.world_steps.specs.NameTables.{row_used}
 use Rattle.world_names.specs.RemoveCalls.{IsWorld-rmdir, IsWorld-unlink_midway, one_number, row_of, swept-gone}
-use Rattle.world_names.specs.Steps.{shown_node}
-use Rattle.world_names.specs.Worlds.{IsFound, IsWorld, node_there, world_mirror}
+use Rattle.world_steps.specs.Steps.{shown_node}
+use Rattle.world_steps.specs.Worlds.{IsFound, IsWorld, node_there, world_mirror}
 use Rattle.world_images.specs.Images.{IsRunning}
 use Rattle.world_images.specs.Rooms.{room_dropped, room_made, room_removed, room_unnamed}
 use Rattle.world_images.specs.Settings.{keeps_setting}

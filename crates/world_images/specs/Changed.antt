@@ -26,7 +26,7 @@ use Rattle.posix_spec.specs.State.{State}
 use Rattle.world_rules.specs.Jobs.{Job}
 use Rattle.world_rules.specs.Shown.{SameButLent}
 use Rattle.world_promise.specs.Lent.{Valid-words}
-use Rattle.world_names.specs.Worlds.{IsWorld}
+use Rattle.world_steps.specs.Worlds.{IsWorld}
 use Rattle.world_images.specs.Images.{IsHeaded, ShowsLog}
 
 -- ---- words

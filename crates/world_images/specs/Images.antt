@@ -16,7 +16,7 @@ use Rattle.posix_spec.specs.State.{State}
 use Rattle.world_rules.specs.Jobs.{Job}
 use Rattle.world_rules.specs.Shown.{AreFilled, landed_pairs, ShowsClaims}
 use Rattle.world_log.specs.Rules.{HasFreeBlocks}
-use Rattle.world_names.specs.Worlds.{IsWorld}
+use Rattle.world_steps.specs.Worlds.{IsWorld}
 
 -- The head of the image is right, and says this geometry. No log line is in it.
 pub record IsHeaded (g : Geometry) (image : Words) : Type 0 where

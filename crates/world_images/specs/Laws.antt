@@ -40,8 +40,8 @@ use Rattle.world_rules.specs.Promised.{AreWhole}
 use Rattle.world_rules.specs.Shown.{IsTreeOfContent}
 use Rattle.world_beginning.specs.Begun.{numbers_of}
 use Rattle.world_beginning.specs.Laws.{IsShapeOf}
-use Rattle.world_names.specs.Ages.{AreAged}
-use Rattle.world_names.specs.Worlds.{IsWorld}
+use Rattle.world_steps.specs.Ages.{AreAged}
+use Rattle.world_steps.specs.Worlds.{IsWorld}
 use Rattle.world_images.specs.Images.{HasLogHome, HasNoEntry, HasRoom, IsChange, IsHeaded, IsRunning, ShowsWorld, StandsFor}
 use Rattle.world_images.specs.Promised.{IsKept, KeepsPromise}
 use Rattle.world_images.specs.Settings.{KeepsSetting}

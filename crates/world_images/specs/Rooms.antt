@@ -21,7 +21,7 @@ use Rattle.k_rules.specs.Changes.{dropped, gone_node, made, new_node, removed, u
 use Rattle.list_facts.specs.Members.{In}
 use Rattle.posix_spec.specs.State.{State}
 use Rattle.world_rules.specs.Jobs.{Job, live_claims}
-use Rattle.world_names.specs.Ages.{AreAged, dead-made}
+use Rattle.world_steps.specs.Ages.{AreAged, dead-made}
 use Rattle.world_images.specs.Images.{HasRoom}
 use Rattle.world_images.specs.Laws.{KeepsRoomDropped, KeepsRoomMade, KeepsRoomRemoved, KeepsRoomRenamed, KeepsRoomRenamedOverDirectory, KeepsRoomRenamedOverFile, KeepsRoomUnnamed}
 

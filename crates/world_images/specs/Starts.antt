@@ -27,7 +27,7 @@ use Rattle.world_rules.specs.Shown.{IsTreeOfContent}
 use Rattle.world_beginning.specs.Beginnings.{begins, mounts}
 use Rattle.world_beginning.specs.Begun.{numbers_of}
 use Rattle.world_beginning.specs.Laws.{Begins}
-use Rattle.world_names.specs.Worlds.{IsWorld}
+use Rattle.world_steps.specs.Worlds.{IsWorld}
 use Rattle.world_images.specs.Images.{HasNoEntry, IsHeaded, IsRunning, ShowsLog}
 use Rattle.world_images.specs.Laws.{BeginsRunning, HasSetting}
 use Rattle.world_images.specs.Settings.{KeepsSetting}

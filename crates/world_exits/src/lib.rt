@@ -1,7 +1,8 @@
 //! The World's exits: what each answer of K-Split makes of the World.
 //!
-//! Definitions and lemmas, no code. The layer above may rely on this: where the World goes on over K-Split
-//! (`IsGoing`), each change of names is a step of it (`IsStep`); a step that is done leaves a World that
+//! Definitions and lemmas, no code. They hold while the log lines are at home and no write is in flight. The
+//! layer above may rely on this: where the World goes on over K-Split (`IsGoing`), the changes of `mkdir`,
+//! `rmdir`, `unlink` and `rename` are steps of it (`IsStep`); a step that is done leaves a World that
 //! goes on (`GoesOn`), one that is cut off leaves a device that keeps the promise with the call unfinished
 //! (`KeepsPromiseCut`), and a call that K-Split refuses by a row is answered as that row says
 //! (`RefusedByRow`). `unlink`, and a `rename` over a file, take a second step, which drops the file. `Laws`
@@ -19,7 +20,7 @@ pub fn a_step_ends()
     ensures off { KeepsPromiseOff }
 {}
 
-/// Each change of names is a step of the World.
+/// The changes of `mkdir`, `rmdir`, `unlink` and `rename` are steps of the World.
 pub fn changes_are_steps()
     ensures mkdir { StepsMkdir }
     ensures rmdir { StepsRmdir }

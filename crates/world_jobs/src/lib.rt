@@ -1,5 +1,5 @@
-//! Every step of a logged write keeps the World valid, and so do the end of a lap, resized files and bytes
-//! that are written in place.
+//! The steps of a logged write keep the World valid, and so do the end of a lap, resized files of which nothing
+//! is live, and bytes that are written in place.
 //!
 //! Lemmas, and the small definitions that they speak of. The layer above may rely on this, with any other
 //! jobs in flight: a job begins, is filled, lands with its claim, finishes with its call's effect (in sync

@@ -25,7 +25,7 @@ use Rattle.volume_changes.specs.LineLaws.{lines-node, lines-row, maps-node, maps
 use Rattle.k_plans.specs.Free.{AreTables}
 use Rattle.k_plans.specs.Making.{kind_of, made_at}
 use Rattle.k_plans.specs.Plans.{IsPlan}
-use Rattle.k_plans.specs.Spelling.{AreSpelled}
+use Rattle.path_spelling.specs.Spelling.{AreSpelled}
 use Rattle.k_plans.specs.View.{TablesView, with_volume}
 use Rattle.k_plans.specs.Whole.{IsWhole}
 use Rattle.k_plans.proofs.Names.{last-fits}

@@ -27,7 +27,7 @@ use Rattle.volume_changes.specs.FoundLaws.{rename-keeps, rename-over_directory-k
 use Rattle.volume_changes.specs.LineLaws.{lines-node, lines-row, maps-node, maps-row}
 use Rattle.volume_names.specs.Paths.{CanReplace, IsAt, IsNewAt, MayGo}
 use Rattle.volume_names.specs.RenameLaws.{rename-may}
-use Rattle.k_plans.specs.Spelling.{AreSpelled}
+use Rattle.path_spelling.specs.Spelling.{AreSpelled}
 use Rattle.k_plans.specs.Whole.{IsWhole}
 use Rattle.k_plans.proofs.Names.{last-fits}
 use Rattle.k_plans.proofs.Wholes.{IsBare, directory-bare, inodes-set}

@@ -1,5 +1,5 @@
 -- Laws of tables for the layer above.
-use Rattle.std.specs.Prelude.{◌≡◌, ◌≤◌, ℕ, List, [], true, false, replicate, codes}
+use Rattle.std.specs.Prelude.{◌≡◌, ◌≤◌, ℕ, List, []}
 use Rattle.pm_words.specs.Words.{Words}
 use Rattle.disk_places.specs.Places.{Geometry, IsGeometry}
 use Rattle.disk_rules.specs.Kept.{AreKept}
@@ -9,7 +9,6 @@ use Rattle.disk_rules.specs.Volume.{Volume}
 use Rattle.k_tables.specs.Found.{IsPlace}
 use Rattle.k_tables.specs.declared.making.Place.{Place}
 use Rattle.k_plans.specs.Free.{free_blocks}
-use Rattle.k_plans.specs.Spelling.{is_spelled}
 use Rattle.k_plans.specs.View.{TablesView}
 use Rattle.k_plans.specs.Whole.{IsWhole}
 
@@ -25,10 +24,3 @@ FreeAreUnused = (t : TablesView) → t.waiting ≡ [] → free_blocks t ≡ unus
 abbrev pub IsBehindStaging : Type 0
 IsBehindStaging =
     (v : Volume) (path : List (List ℕ)) (place : Place) → IsWhole v → IsPlace v.inodes v.names path place → 5 ≤ place.ino
-
--- a name of a path may have 49 bytes, and a dot in it; it has some byte, no slash and no blank, and is not one or two dots
-abbrev pub SpellsNames : Type 0
-SpellsNames =
-    (is_spelled (codes "a.b") ≡ true) × (is_spelled (codes "...") ≡ true) × (is_spelled (replicate 49 97) ≡ true)
-    × (is_spelled [] ≡ false) × (is_spelled (codes ".") ≡ false) × (is_spelled (codes "..") ≡ false)
-    × (is_spelled (codes "a/b") ≡ false) × (is_spelled (codes "a b") ≡ false)

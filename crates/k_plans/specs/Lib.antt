@@ -5,7 +5,6 @@ pub mod Making
 pub mod Plans
 pub mod Removing
 pub mod Renaming
-pub mod Spelling
 pub mod View
 pub mod Whole
 pub mod WholeLaws

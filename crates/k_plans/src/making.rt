@@ -6,7 +6,7 @@ ghost use Rattle.disk_rules.specs.Volume.{Volume, inode as inode_of};
 ghost use Rattle.k_land.specs.Plans.{Turns};
 ghost use Rattle.k_plans.specs.Making.{IsMakePlan, kind_of, made_at};
 ghost use Rattle.k_plans.specs.Plans.{IsPlan};
-ghost use Rattle.k_plans.specs.Spelling.{AreSpelled};
+ghost use Rattle.path_spelling.specs.Spelling.{AreSpelled};
 ghost use Rattle.k_plans.specs.View.{with_volume};
 ghost use Rattle.k_rules.specs.Changes.{new_node};
 ghost use Rattle.k_tables.specs.Found.{IsPlace};

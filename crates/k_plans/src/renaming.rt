@@ -6,7 +6,7 @@ ghost use Rattle.disk_rules.specs.Volume.{Volume, inode as inode_of};
 ghost use Rattle.k_land.specs.Plans.{Turns};
 ghost use Rattle.k_plans.specs.Plans.{IsPlan};
 ghost use Rattle.k_plans.specs.Renaming.{IsRenamePlan, IsUnmoved, file_over, renamed_to};
-ghost use Rattle.k_plans.specs.Spelling.{AreSpelled};
+ghost use Rattle.path_spelling.specs.Spelling.{AreSpelled};
 ghost use Rattle.k_plans.specs.View.{with_volume};
 ghost use Rattle.k_rules.specs.Changes.{renamed, renamed_over_directory, renamed_over_file};
 ghost use Rattle.k_rules.specs.Spaces.{is_directory_in, volume_space};

@@ -3,7 +3,7 @@ ghost use Rattle.std.specs.Prelude.{◌≡◌, ◌<◌, ◌↔◌, [], length, i
 ghost use Rattle.k_rules.specs.Spaces.{is_free};
 ghost use Rattle.disk_rules.specs.Volume.{extents};
 ghost use Rattle.k_plans.specs.Free.{free_blocks};
-ghost use Rattle.k_plans.specs.Laws.{FreeAreUnused, IsBehindStaging, IsWholeWhereRead, SpellsNames};
+ghost use Rattle.k_plans.specs.Laws.{FreeAreUnused, IsBehindStaging, IsWholeWhereRead};
 ghost use Rattle.k_plans.specs.View.{node_at, tables_view};
 ghost use Rattle.k_plans.specs.Whole.{IsWhole};
 
@@ -161,9 +161,4 @@ pub fn tables_begin_with_what_is_read()
 /// A new node takes none of the inodes 0 to 4, which are never free.
 pub fn nodes_are_made_behind_the_staging_files()
     ensures { IsBehindStaging }
-{}
-
-/// How the names of a path are spelled, in rows.
-pub fn names_are_spelled()
-    ensures { SpellsNames }
 {}

@@ -4,7 +4,7 @@ ghost use Rattle.pm_words.specs.Cells.{AllSingle};
 ghost use Rattle.pm_words.specs.Images.{words_of};
 ghost use Rattle.disk_places.specs.Places.{IsGeometry};
 ghost use Rattle.disk_lines.specs.Fresh.{fresh};
-ghost use Rattle.k_plans.specs.Spelling.{AreSpelled, is_spelled};
+ghost use Rattle.path_spelling.specs.Spelling.{AreSpelled, is_spelled};
 
 use super::*;
 use image_layout::Geometry;

@@ -1,7 +1,7 @@
 //! That each call which takes memory does its work with ample memory, on a fresh device.
 ghost use Rattle.std.specs.Prelude.{◌≡◌, true, false, IfOk, OnOk};
 ghost use Rattle.pm_words.specs.Cells.{AllHome};
-ghost use Rattle.k_plans.specs.Spelling.{is_spelled, AreSpelled};
+ghost use Rattle.path_spelling.specs.Spelling.{is_spelled, AreSpelled};
 
 use super::*;
 use image_layout::Geometry;

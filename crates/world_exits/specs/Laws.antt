@@ -10,7 +10,7 @@ use Rattle.k_rules.specs.View.{View}
 use Rattle.k_plans.specs.Making.{IsMade}
 use Rattle.k_plans.specs.Removing.{IsRemoved, IsUnlinked}
 use Rattle.k_plans.specs.Renaming.{IsRenamed}
-use Rattle.k_plans.specs.Spelling.{AreSpelled}
+use Rattle.path_spelling.specs.Spelling.{AreSpelled}
 use Rattle.k_split.specs.Answers.{IsCut, IsDone, IsOff}
 use Rattle.posix_types.specs.declared.call.Call.{Call}
 use Rattle.posix_types.specs.declared.call.Mode.{Mode}

@@ -3,14 +3,14 @@ ghost use Rattle.std.specs.Prelude.{◌≡◌, ◌<◌, ◌≤◌, ◌^◌, leng
 ghost use Rattle.std.specs.List.{list_all};
 ghost use Rattle.std.specs.Char.{is_ascii_digit};
 ghost use Rattle.std.specs.String.{string_bytes};
-ghost use Rattle.split_top.specs.Command.{command_of, with_options, with_choice, number_of, choice_of, is_number};
-ghost use Rattle.split_top.specs.Seen.{seen};
+ghost use Rattle.command_words.specs.Command.{command_of, with_options, with_choice, number_of, choice_of, is_number};
+ghost use Rattle.command_words.specs.Seen.{seen};
 
 use pm_lines::Choice;
 
 /// A command that was read: the place of the script's name among the words, and the options.
 #[derive(Drop)]
-pub(crate) struct Command<'a> {
+pub struct Command<'a> {
     pub script: &'a String,
     pub stop: Option<u64>,
     pub choice: Choice,
@@ -94,7 +94,7 @@ fn with_options<'a>(script: &'a String, words: &[String]) -> Option<Command<'a>>
 
 /// The command that the words are, if they are one.
 #[tactic(auto, unfolding(crate::specs::Command::command_of))]
-pub(crate) fn read_command(words: &[String]) -> Option<Command<'_>>
+pub fn read_command(words: &[String]) -> Option<Command<'_>>
     ensures { option_map (λ c. seen c) result ≡ command_of (map string_bytes words.now) }
 {
     if words.len() < 4

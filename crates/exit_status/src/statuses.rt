@@ -1,6 +1,6 @@
 //! How the program ends.
 ghost use Rattle.std.specs.Prelude.{◌≡◌, IfOk};
-ghost use Rattle.split_top.specs.Statuses as meaning;
+ghost use Rattle.exit_status.specs.Statuses as meaning;
 
 use crate::file_names::FileName;
 use std::alloc::{AllocError, Global};

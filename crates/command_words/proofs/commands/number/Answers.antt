@@ -1,9 +1,9 @@
 use Rattle.std.proofs.Common.{◌≡◌, true, sym, ◌∙◌, ap, Ok, refl}
 use Rattle.std.specs.Result.{result_ok}
 use Rattle.std.specs.Str.Parse.{digits_value}
-use Rattle.split_top.specs.Command.{is_number}
-use Rattle.split_top.proofs.Numbers.{parsed_number}
-use Rattle.split_top.proofs.commands.number.Goals as goal
+use Rattle.command_words.specs.Command.{is_number}
+use Rattle.command_words.proofs.Numbers.{parsed_number}
+use Rattle.command_words.proofs.commands.number.Goals as goal
 
 pub returns-then-is_number : goal.returns-then-is_number
 returns-then-is_number c =

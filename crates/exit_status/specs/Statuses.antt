@@ -1,6 +1,6 @@
 -- The number that the program ends with, and its text on standard error.
 use Rattle.std.specs.Prelude.{ℕ, List, [], ◌++◌, codes, decimal}
-use Rattle.split_top.specs.declared.statuses.Status.{Status}
+use Rattle.exit_status.specs.declared.statuses.Status.{Status}
 
 abbrev pub exit_number : Status → ℕ
 exit_number Status.Done = 0

@@ -2,6 +2,9 @@ pub mod RelationLaws
 pub mod Synced
 pub mod PosixLaws
 pub mod Laws
+pub mod ScheduleLaws
+pub mod ScheduleRows
+pub mod BusyRows
 pub mod MachineLaws
 pub mod OneThread
 pub mod Orders

@@ -67,7 +67,7 @@ set_up_holds : (g : Setting) (m : Machine) (who : Who) → is_set_up g m who ≡
 set_up_holds g m Who.Setup is = tt
 set_up_holds g m (Who.Thread n) is = grind (arith, nat_tests)
 
-next_holds : (g : Setting) (m : Machine) (who : Who) (call : Call) → Begins g m who call → IsNextCall g.scripts m.history (who, call)
+pub next_holds : (g : Setting) (m : Machine) (who : Who) (call : Call) → Begins g m who call → IsNextCall g.scripts m.history (who, call)
 next_holds g m who call begins = record { call = begins.next; set_up = set_up_holds g m who (MayBegin-Begins g m who call begins).set_up }
 
 -- ---- callers
@@ -217,7 +217,7 @@ sound_logged g m job sound next apart = record {
 }
 
 -- the job of a caller is its next call
-job_next : (g : Setting) (m : Machine) (who : Who) (job : Job) → IsSound g m → job_of m who ≡ Some job → IsNextCall g.scripts m.history (who, job.call)
+pub job_next : (g : Setting) (m : Machine) (who : Who) (job : Job) → IsSound g m → job_of m who ≡ Some job → IsNextCall g.scripts m.history (who, job.call)
 job_next g m who job sound is =
     let found = find-In (is_of who) m.jobs job is in
     let own : job.who ≡ who = same_who-is job.who who found.1 in

@@ -1,0 +1,5 @@
+pub mod Turns
+pub mod OneWay
+pub mod Walks
+pub mod ScheduleRows
+pub mod BusyRows

@@ -3,3 +3,4 @@ pub mod OneWay
 pub mod Walks
 pub mod ScheduleRows
 pub mod BusyRows
+pub mod ByteRows

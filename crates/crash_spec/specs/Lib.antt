@@ -5,6 +5,7 @@ pub mod Laws
 pub mod ScheduleLaws
 pub mod ScheduleRows
 pub mod BusyRows
+pub mod ByteRows
 pub mod MachineLaws
 pub mod OneThread
 pub mod Orders

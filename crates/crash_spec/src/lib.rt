@@ -8,10 +8,11 @@
 //!
 //! The laws of these are clauses of the functions here (`Laws`, and for schedules `ScheduleLaws`: they
 //! have no choice but where space is wanting), and so are rows worked by hand (`ScheduleRows`,
-//! `BusyRows`). Stands on the meaning of the calls, `posix_spec`, and its facts.
+//! `BusyRows`, `ByteRows`). Stands on the meaning of the calls, `posix_spec`, and its facts.
 #![tactic(auto)]
 
 ghost use Rattle.crash_spec.specs.BusyRows.{WhatIsLogged, WhoWaits};
+ghost use Rattle.crash_spec.specs.ByteRows.{ByteRows};
 ghost use Rattle.crash_spec.specs.Laws.{BusyCallsWait, CheckpointsFindNoJob, ClaimsFit, HistoryIsPermitted, NoneIsPart, OneMoreIsStrict, OneMoreIsSync, OneThreadInOrder, SchedulesFollow, StaysLegal, StrictIsOneTree, StrictIsSync, StrongIsPosix, SyncedIsOneTree, SyncIsOneTree, WholeIsPart};
 ghost use Rattle.crash_spec.specs.ScheduleLaws.{NoChoiceWithoutWrites, OneCourse, OneEventFollows};
 ghost use Rattle.crash_spec.specs.ScheduleRows.{WorkedSchedules};
@@ -69,4 +70,10 @@ pub fn schedules_of_worked_rows()
 pub fn calls_wait_for_a_busy_file()
     ensures waits { WhoWaits }
     ensures logged { WhatIsLogged }
+{}
+
+/// In POSIX mode a file that is cut and written again may have one new byte beside an old one by the
+/// rule for bytes, and not by the stronger one.
+pub fn rules_for_bytes_differ()
+    ensures { ByteRows }
 {}

@@ -1,5 +1,5 @@
 -- The worked rows of the two rules for bytes.
-use Rattle.std.specs.Prelude.{◌≡◌, ◌⊎◌, ℕ, zero, suc, ◌<◌, Bool, true, false, List, [], ◌∷◌, ◌++◌, length, map, take, drop, slice_index, refl}
+use Rattle.std.specs.Prelude.{◌≡◌, ℕ, zero, suc, ◌<◌, Bool, true, false, List, [], ◌∷◌, ◌++◌, length, map, take, drop, slice_index, refl}
 use Rattle.std.specs.List.{list_any}
 use Rattle.std.proofs.Common.{arith, lit<, ap, ◌∙◌, sym, subst, inl, inr}
 use Rattle.posix_types.specs.declared.call.Call.{Call}
@@ -22,9 +22,9 @@ use Rattle.posix_spec.specs.State.{made, State, with_file, with_published}
 use Rattle.posix_spec.specs.Step.{fsync_done, open_done, opening, pwrite_done, truncate_done, write_done, written}
 use Rattle.posix_spec.specs.Tree.{tree}
 use Rattle.crash_spec.specs.ByteRows.{ByteRows, cut_and_written, file_of, fresh, later, one_later, synced}
-use Rattle.crash_spec.specs.Posix.{acting, ByteRule, FileLeft, IsLeft, KeepsAll, KeepsFront, LastBeforeCut, LaterRule, NodeLeft, OrUnfinished, others, Overwritten, Posix, StrongPosix, syncs, TreeLeft}
+use Rattle.crash_spec.specs.Posix.{acting, ByteRule, FileLeft, IsLeft, KeepsFront, LastBeforeCut, LaterRule, NodeLeft, OrUnfinished, others, Overwritten, StrongPosix, syncs, TreeLeft}
 use Rattle.crash_spec.specs.ScheduleRows.{handle, item}
-use Rattle.crash_spec.specs.Values.{is_shortened, IsOneOf, value_before_cut, values_put}
+use Rattle.crash_spec.specs.Values.{is_shortened, value_before_cut, values_put}
 
 -- ---- a tree that the state after the `fsync` leaves
 

@@ -4,3 +4,7 @@ pub mod Walks
 pub mod ScheduleRows
 pub mod BusyRows
 pub mod ByteRows
+pub mod MachineLaws
+pub mod OneThread
+pub mod Synced
+pub mod PosixLaws

@@ -1,5 +1,5 @@
 -- A schedule has one way to go on: who is picked, what one event leads to, and so, without want of space, what all do.
-use Rattle.std.specs.Prelude.{◌≡◌, ◌⊎◌, ℕ, ◌+◌, ◌%◌, ◌<◌, ◌≤◌, Bool, true, false, List, [], length, All, Contains, Option, Some, None, is_some, slice_get, refl}
+use Rattle.std.specs.Prelude.{◌≡◌, ◌⊎◌, ℕ, ◌+◌, ◌-◌, ◌<◌, ◌≤◌, Bool, true, false, not, List, length, All, Contains, Option, Some, None, slice_get, refl}
 use Rattle.std.proofs.Common.{arith, ap, ◌∙◌, sym, subst, inl, inr}
 use Rattle.std.proofs.lemmas.Option.{get_or_from_slice_get, slice_get_within}
 use Rattle.posix_types.specs.declared.call.Call.{Call}
@@ -10,10 +10,10 @@ use Rattle.posix_spec.specs.Put.{put_by}
 use Rattle.posix_spec.specs.Scripted.{items_of, script_of}
 use Rattle.posix_spec.specs.State.{State}
 use Rattle.posix_spec.specs.Unfinished.{IsNextCall}
-use Rattle.crash_spec.specs.Machine.{Begins, Checkpoint, Event, Goes, have_ended, LacksSpace, Machine, MayLackSpace, Setting, state_of, Checks as Checkpoints}
-use Rattle.crash_spec.specs.MachineLaws.{Checkpoint-idle, IsSound, IsSound-Reaches}
-use Rattle.crash_spec.specs.Orders.{ArePassedOver, BehindList, ByDraw, ByList, draw, InTurn, IsInTurn, IsLowest, Listed, Order, Picker, Picks, Round, Seeded}
-use Rattle.crash_spec.specs.ScheduleLaws.{may_write, NeverLacksSpace, NobodyWrites}
+use Rattle.crash_spec.specs.Machine.{Checkpoint, Event, Goes, LacksSpace, Machine, MayLackSpace, Setting, state_of, Checks as Checkpoints}
+use Rattle.crash_spec.proofs.MachineLaws.{Checkpoint-idle, IsSound, IsSound-Reaches, MayBegin-Begins}
+use Rattle.crash_spec.specs.Orders.{ArePassedOver, BehindList, ByDraw, ByList, InTurn, IsInTurn, IsLowest, Order, Picker, Picks}
+use Rattle.crash_spec.specs.ScheduleLaws.{may_write, NeverLacksSpace, NobodyWrites, wants}
 use Rattle.crash_spec.specs.Schedules.{Advances, caller_of, Checks, Course, Further, LacksSpaceInTurn, Reaches, runnable, Runs, SetUp, SetUpLacksSpace, Starts}
 use Rattle.crash_spec.proofs.Turns.{after, after-Goes, next-Goes, rests-Goes}
 
@@ -145,6 +145,39 @@ one_way g order n m c d (Further before more b next reached advances) (Further b
 pub one_course : (g : Setting) (order : Order) (events : ℕ) (c d : Course) (one : Reaches g order events c) (other : Reaches g order events d)
     → NeverLacksSpace g order events c one → NeverLacksSpace g order events d other → c ≡ d
 one_course g order events c d one other plain plain' = one_way g order events events c d one other plain plain' refl
+
+-- ---- how often space is wanting
+
+-- fewer times than there were events where one may come
+record AreFew (m : Machine) (count events : ℕ) : Type 0 where
+  few : count ≤ events
+  fewer : m.begun ≡ true → m.over ≡ false → count < events
+
+lacks_few : (g : Setting) (m next : Machine) (who : Who) (count events : ℕ) → LacksSpace g m who next → AreFew m count events → AreFew next (count + 1) (events + 0)
+lacks_few g m next who count events lacks are = record {
+  few = let less = are.fewer lacks.begun (not_over m.over (MayBegin-Begins g m who lacks.call lacks.may).round) in omega (arith, less);
+  fewer = λ begun over. (let never : true ≡ false = sym (ap (λ (x : Machine). x.over) lacks.next_is) ∙ over in cc);
+} where
+  not_over : (b : Bool) → not b ≡ true → b ≡ false
+  not_over true is = cc
+  not_over false is = refl
+
+event_few : (m next : Machine) (count events : ℕ) → AreFew m count events → AreFew next (count + 0) (events + 1)
+event_few m next count events are = let few = are.few in record { few = omega (arith, few); fewer = λ begun over. omega (arith, few) }
+
+advances_few : (g : Setting) (order : Order) (c d : Course) (count events more : ℕ) → Advances g order c more d → AreFew c.machine count events → AreFew d.machine (count + (1 - more)) (events + more)
+advances_few g order c d count events more (SetUp e m own goes) are = event_few c.machine m count events are
+advances_few g order c d count events more (SetUpLacksSpace m lacks) are = lacks_few g c.machine m Who.Setup count events lacks are
+advances_few g order c d count events more (Runs n e m p picks own goes) are = event_few c.machine m count events are
+advances_few g order c d count events more (LacksSpaceInTurn n m p picks lacks) are = lacks_few g c.machine m (Who.Thread n) count events lacks are
+advances_few g order c d count events more (Checks m left goes) are = event_few c.machine m count events are
+
+wants_few : (g : Setting) (order : Order) (events : ℕ) (c : Course) (reached : Reaches g order events c) → AreFew c.machine (wants g order events c reached) events
+wants_few g order events c Starts = record { few = omega arith; fewer = λ begun over. cc }
+wants_few g order events c (Further before more b next reached advances) = advances_few g order b c (wants g order before b reached) before more advances (wants_few g order before b reached)
+
+pub wants_are_few : (g : Setting) (order : Order) (events : ℕ) (c : Course) (reached : Reaches g order events c) → wants g order events c reached ≤ events
+wants_are_few g order events c reached = (wants_few g order events c reached).few
 
 -- ---- where nobody writes
 

@@ -1,6 +1,5 @@
 -- The worked schedules, by computation.
-use Rattle.std.specs.Prelude.{◌≡◌, ℕ, zero, suc, ◌<◌, List, [], ◌∷◌, ◌++◌, replicate, length, All, false, refl}
-use Rattle.std.proofs.Common.{arith}
+use Rattle.std.specs.Prelude.{◌≡◌, ℕ, zero, suc, List, [], ◌∷◌, ◌++◌, replicate, All, false, refl}
 use Rattle.std.proofs.lemmas.List.Elements.{All-cons, All-nil}
 use Rattle.posix_types.specs.declared.call.Call.{Call}
 use Rattle.posix_types.specs.declared.call.Who.{Who}
@@ -13,8 +12,8 @@ use Rattle.posix_spec.specs.State.{made, swept, unnamed, with_file}
 use Rattle.posix_spec.specs.Step.{list_done, open_done, opening, rename_done, renamed, stat_done, write_done, written}
 use Rattle.crash_spec.specs.Busy.{is_busy, waits_for}
 use Rattle.crash_spec.specs.Machine.{may_begin}
-use Rattle.crash_spec.specs.Orders.{draw, Listed, Order, Round, Seeded}
-use Rattle.crash_spec.specs.ScheduleLaws.{IsTheOnlySchedule, may_write, NobodyWrites}
+use Rattle.crash_spec.specs.Orders.{draw}
+use Rattle.crash_spec.specs.ScheduleLaws.{may_write, NobodyWrites}
 use Rattle.crash_spec.specs.ScheduleRows.{on_default, three_list, WorkedSchedules}
 use Rattle.crash_spec.proofs.Walks.{Behind, Check, Drawn, InRound, OfSetUp, Skipping, the_only_schedule, the_schedule, Turn}
 

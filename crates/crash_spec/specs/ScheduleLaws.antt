@@ -1,5 +1,5 @@
 -- The laws that leave a schedule no choice but one: where a Begin finds the round over for want of space.
-use Rattle.std.specs.Prelude.{◌≡◌, ℕ, Bool, true, false, List, All}
+use Rattle.std.specs.Prelude.{◌≡◌, ℕ, ◌+◌, ◌-◌, ◌≤◌, Bool, true, false, List, All}
 use Rattle.posix_types.specs.declared.call.Call.{Call}
 use Rattle.posix_types.specs.declared.call.Who.{Who}
 use Rattle.posix_types.specs.declared.item.Item.{Item}
@@ -18,6 +18,15 @@ OneEventFollows =
 abbrev pub NeverLacksSpace : (g : Setting) (order : Order) (events : ℕ) (c : Course) → Reaches g order events c → Type 0
 NeverLacksSpace g order events c Starts = Unit {0}
 NeverLacksSpace g order events c (Further before more d next reached advances) = (more ≡ 1) × NeverLacksSpace g order before d reached
+
+-- how many did
+abbrev pub wants : (g : Setting) (order : Order) (events : ℕ) (c : Course) → Reaches g order events c → ℕ
+wants g order events c Starts = 0
+wants g order events c (Further before more d next reached advances) = wants g order before d reached + (1 - more)
+
+-- they are no more than the events: one comes only where a call has begun since the start or the last Checkpoint
+abbrev pub WantsAreFew : Type 0
+WantsAreFew = (g : Setting) (order : Order) (events : ℕ) (c : Course) (reached : Reaches g order events c) → wants g order events c reached ≤ events
 
 -- without want of space, as many events lead to one course
 abbrev pub OneCourse : Type 0

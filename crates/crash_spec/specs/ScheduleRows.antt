@@ -1,6 +1,6 @@
 -- Worked schedules, each with all that it leaves: by a list with numbers that are passed over and behind its end, by a seed,
 -- and round; with calls that wait, calls that are cut off, and a log that is found full.
-use Rattle.std.specs.Prelude.{ℕ, List, [], ◌∷◌, ◌++◌, None, true, false, codes, map}
+use Rattle.std.specs.Prelude.{ℕ, List, [], ◌∷◌, None, true, false}
 use Rattle.posix_types.specs.declared.call.Call.{Call}
 use Rattle.posix_types.specs.declared.call.Mode.{Mode}
 use Rattle.posix_types.specs.declared.call.Who.{Who}

@@ -14,7 +14,7 @@
 ghost use Rattle.crash_spec.specs.BusyRows.{WhatIsLogged, WhoWaits};
 ghost use Rattle.crash_spec.specs.ByteRows.{ByteRows};
 ghost use Rattle.crash_spec.specs.Laws.{BusyCallsWait, CheckpointsFindNoJob, ClaimsFit, HistoryIsPermitted, NoneIsPart, OneMoreIsStrict, OneMoreIsSync, OneThreadInOrder, SchedulesFollow, StaysLegal, StrictIsOneTree, StrictIsSync, StrongIsPosix, SyncedIsOneTree, SyncIsOneTree, WholeIsPart};
-ghost use Rattle.crash_spec.specs.ScheduleLaws.{NoChoiceWithoutWrites, OneCourse, OneEventFollows};
+ghost use Rattle.crash_spec.specs.ScheduleLaws.{NoChoiceWithoutWrites, OneCourse, OneEventFollows, WantsAreFew};
 ghost use Rattle.crash_spec.specs.ScheduleRows.{WorkedSchedules};
 
 /// The tree of the history is permitted in each mode, and in strict and sync mode the tree after the
@@ -54,11 +54,13 @@ pub fn schedules_follow_the_scripts()
 
 /// A schedule has no choice but where a Begin finds the round over for want of space: from a course
 /// that is reached one event leads on to one course, and without want of space as many events lead to
-/// one course. Where no script has a `write`, a `pwrite` or a `truncate` there is no choice.
+/// one course. Where no script has a `write`, a `pwrite` or a `truncate` there is no choice. Space is
+/// wanting no more often than there are events, so rounds end.
 pub fn schedules_have_one_way()
     ensures event { OneEventFollows }
     ensures course { OneCourse }
     ensures quiet { NoChoiceWithoutWrites }
+    ensures wants { WantsAreFew }
 {}
 
 /// Schedules worked by hand, each with all that it leaves.

@@ -18,6 +18,7 @@ use Rattle.posix_spec.specs.Scripted.{IsSetUp, Scripted, Scripted-append}
 use Rattle.posix_spec.specs.Unfinished.{AreUnfinished, HaveTwoCallers, IsNextCall}
 use Rattle.posix_facts.specs.UnfinishedLaws.{AreUnfinished-begun, AreUnfinished-finished, AreUnfinished-none, IsNext-item}
 use Rattle.crash_spec.specs.Busy.{is_busy}
+use Rattle.crash_spec.specs.Laws.{Follows}
 use Rattle.crash_spec.specs.Machine.{at_rest, Began, Checkpoint, Begins, Claimed, Event, Filled, FindsFull, Fills, Finishes, Goes, is_idle, begun_of, is_of, is_set_up, item_for, Job, job_of, LacksSpace, Logs, Machine, may_begin, moved_on, outs, Persisted, Persists, Returns, returned, Setting, Stage, state_of, Stored, Stores, unfinished_of, with_job, with_stage, without_job, Checks, Claims}
 use Rattle.crash_spec.specs.Orders.{Order}
 use Rattle.crash_spec.specs.Schedules.{Advances, Course, Further, LacksSpaceInTurn, Reaches, Runs, Scheduled, SetUp, SetUpLacksSpace, Starts, Checks as ChecksInTurn}
@@ -67,7 +68,7 @@ set_up_holds : (g : Setting) (m : Machine) (who : Who) → is_set_up g m who ≡
 set_up_holds g m Who.Setup is = tt
 set_up_holds g m (Who.Thread n) is = grind (arith, nat_tests)
 
-next_holds : (g : Setting) (m : Machine) (who : Who) (call : Call) → Begins g m who call → IsNextCall g.scripts m.history (who, call)
+pub next_holds : (g : Setting) (m : Machine) (who : Who) (call : Call) → Begins g m who call → IsNextCall g.scripts m.history (who, call)
 next_holds g m who call begins = record { call = begins.next; set_up = set_up_holds g m who (MayBegin-Begins g m who call begins).set_up }
 
 -- ---- callers
@@ -217,7 +218,7 @@ sound_logged g m job sound next apart = record {
 }
 
 -- the job of a caller is its next call
-job_next : (g : Setting) (m : Machine) (who : Who) (job : Job) → IsSound g m → job_of m who ≡ Some job → IsNextCall g.scripts m.history (who, job.call)
+pub job_next : (g : Setting) (m : Machine) (who : Who) (job : Job) → IsSound g m → job_of m who ≡ Some job → IsNextCall g.scripts m.history (who, job.call)
 job_next g m who job sound is =
     let found = find-In (is_of who) m.jobs job is in
     let own : job.who ≡ who = same_who-is job.who who found.1 in
@@ -267,12 +268,6 @@ IsSound-Reaches g order events c Starts = IsSound-start g
 IsSound-Reaches g order events c (Further before more d next reached advances) = IsSound-Advances g order d next more (IsSound-Reaches g order before d reached) advances
 
 -- ---- what a schedule leaves
-
--- the history is legal and follows the scripts, and the unfinished calls are the next of their callers, one each
-pub record Follows (g : Setting) (history : List Item) (unfinished : List Begun) : Type 0 where
-  pub scripted : Scripted g.scripts history
-  pub legal : IsLegal g.start history
-  pub open_calls : AreUnfinished g.scripts history unfinished
 
 pub Follows-Scheduled : (g : Setting) (order : Order) (events : ℕ) (history : List Item) (unfinished : List Begun) → Scheduled g order events history unfinished → Follows g history unfinished
 Follows-Scheduled g order events history unfinished is =

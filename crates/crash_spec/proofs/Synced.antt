@@ -16,18 +16,9 @@ use Rattle.posix_words.specs.Places.{places, tree_entry, tree_node}
 use Rattle.posix_spec.specs.Run.{after_calls, Begun, begun, run}
 use Rattle.posix_spec.specs.State.{State}
 use Rattle.posix_spec.specs.Tree.{tree}
+use Rattle.crash_spec.specs.Laws.{AllPublished, IsPublished}
 use Rattle.crash_spec.specs.Posix.{acting, ByteRule, FileLeft, NodeLeft, others, OrUnfinished, Overwritten, Posix, syncs, TreeLeft}
 use Rattle.crash_spec.specs.Values.{is_shortened, values_put}
-
--- a file is published whole
-abbrev pub IsPublished : Node → Type 0
-IsPublished Node.Gone = Unit {0}
-IsPublished Node.Directory = Unit {0}
-IsPublished (Node.File file) = length file.bytes ≤ file.published
-
--- each file of a state is
-abbrev pub AllPublished : State → Type 0
-AllPublished s = (n : ℕ) → IsPublished (node_at s.nodes n)
 
 -- a rule by which each byte is as it was
 abbrev pub KeepsBytes : ByteRule → Type 0

@@ -7,22 +7,14 @@ use Rattle.std.proofs.lemmas.Option.{get_or_from_slice_get, slice_get_within}
 use Rattle.posix_types.specs.declared.call.Call.{Call}
 use Rattle.posix_types.specs.declared.call.Who.{Who}
 use Rattle.posix_types.specs.declared.item.Item.{Item}
-use Rattle.posix_types.specs.Scripts.{Scripts}
 use Rattle.posix_words.specs.Open.{same_who}
 use Rattle.posix_spec.specs.Run.{Begun}
 use Rattle.posix_spec.specs.Scripted.{items_of, next_call, ScriptedAfter}
 use Rattle.posix_spec.specs.State.{State}
-use Rattle.crash_spec.specs.Machine.{Setting}
-use Rattle.crash_spec.specs.MachineLaws.{Follows-Scheduled}
+use Rattle.crash_spec.specs.Laws.{on_one_thread, one_script}
+use Rattle.crash_spec.proofs.MachineLaws.{Follows-Scheduled}
 use Rattle.crash_spec.specs.Orders.{Order}
 use Rattle.crash_spec.specs.Schedules.{Scheduled}
-
--- one thread, without a set-up
-abbrev pub one_script : List Call → Scripts
-one_script calls = record { setup = []; threads = calls ∷ [] }
-
-abbrev pub on_one_thread : State → List Call → ℕ → Setting
-on_one_thread start calls lines = record { start = start; scripts = one_script calls; lines = lines }
 
 -- all items are the thread's own
 AreOwn : List Item → Type 0

@@ -1,0 +1,106 @@
+-- Nameless files go one after the other.
+use Rattle.std.specs.Prelude.{◌≡◌, ◌≢◌, ◌⊎◌, ◌<◌, ◌≤◌, ◌+◌, ℕ, [], length, refl}
+use Rattle.std.proofs.Common.{◌∙◌, sym, ap, subst, arith, inl, inr}
+use Rattle.std.proofs.lemmas.Bool.{cases_eq, cases_lt}
+use Rattle.std.proofs.lemmas.List.{get_or_past}
+use Rattle.disk_lines.specs.declared.Kind.{Kind}
+use Rattle.disk_lines.specs.declared.Kind.TheVariants.{File, Free}
+use Rattle.disk_lines.specs.Names.{names_of}
+use Rattle.disk_rules.specs.Rules.{IsKindAt}
+use Rattle.disk_rules.specs.Volume.{free_inode, inode, Volume}
+use Rattle.k_rules.specs.Changes.{dropped, gone_node}
+use Rattle.k_rules.specs.View.{View}
+use Rattle.volume_facts.specs.Changes.{extents-set_other, inode-set_other, inode-set_same}
+use Rattle.k_mount.specs.Sheds.{AllNamed, IsAtRest, IsKeptAt, IsNameless, IsShedAt, SameOutside, Sheds}
+
+-- What the loop keeps: all below this inode have a name.
+pub record HasShed (old new : View) (ino : ℕ) : Type 0 where
+  pub rest : IsAtRest new
+  pub sheds : Sheds old.volume new.volume
+  pub others : SameOutside old.volume.geometry old.cells new.cells
+  pub named : (i : ℕ) → i < ino → ¬ IsNameless new.volume i
+
+-- where nothing went
+same_volume : (v : Volume) → Sheds v v
+same_volume v = record { geometry = refl; base = refl; names = refl; each = λ ino. inl (record { line = refl; map = refl }) }
+
+low_file : (ino : ℕ) (kind : Kind) → IsKindAt ino kind → kind ≡ File → 5 ≤ ino
+low_file ino kind at is = subst (IsKindAt ino) is at
+
+pub begun : (k : View) → IsAtRest k → HasShed k k 5
+begun k rest = record {
+  rest = rest;
+  sheds = same_volume k.volume;
+  others = λ i out line. refl;
+  named = λ i below nameless.
+      let kept = rest.order.whole.kept in
+      absurd (omega (arith, below, low_file i (inode k.volume i).kind (kept.kept.kinds i (omega (arith, below, kept.geometry.least_inodes))) nameless.file));
+}
+
+-- an inode that has a name is passed over
+pub passed : (old new : View) (ino : ℕ) → HasShed old new ino → ¬ IsNameless new.volume ino → HasShed old new (ino + 1)
+passed old new ino has named = record {
+  rest = has.rest;
+  sheds = has.sheds;
+  others = has.others;
+  named = λ i below. elim (cases_eq i ino) [ inl same ↦ subst (λ n. ¬ IsNameless new.volume n) (sym same) named | inr other ↦ has.named i (omega (arith, below, other)) ];
+}
+
+used_below : (v : Volume) (ino : ℕ) → (inode v ino).kind ≡ File → ino < length v.inodes
+used_below v ino file = elim (cases_lt ino (length v.inodes)) [
+  | inl below ↦ below
+  | inr past ↦ let never : File ≡ Free = sym file ∙ ap (λ x. x.kind) (get_or_past v.inodes ino free_inode past) in cc
+]
+
+-- one goes
+sheds_more : (v w : Volume) (c : ℕ) → Sheds v w → IsNameless w c → Sheds v (dropped c w)
+sheds_more v w c sheds nameless = record {
+  geometry = sheds.geometry;
+  base = sheds.base;
+  names = sheds.names;
+  each = λ ino. elim (cases_eq ino c) [
+    | inl same ↦ subst (λ n. IsKeptAt v (dropped c w) n ⊎ IsShedAt v (dropped c w) n) (sym same) (inr (own (sheds.each c)))
+    | inr other ↦ elim (sheds.each ino) [
+      | inl kept ↦
+          inl (record {
+            line = inode-set_other c (gone_node (inode w c)) [] [] w ino other ∙ kept.line;
+            map = extents-set_other c (gone_node (inode w c)) [] [] w ino other ∙ kept.map;
+          })
+      | inr shed ↦ inr (record { was = shed.was; free = ap (λ x. x.kind) (inode-set_other c (gone_node (inode w c)) [] [] w ino other) ∙ shed.free })
+    ]
+  ];
+} where
+  free : (inode (dropped c w) c).kind ≡ Free
+  free = ap (λ x. x.kind) (inode-set_same c (gone_node (inode w c)) [] [] w (used_below w c nameless.file))
+
+  own : IsKeptAt v w c ⊎ IsShedAt v w c → IsShedAt v (dropped c w) c
+  own (inl kept) = record {
+    was = record { file = ap (λ x. x.kind) (sym kept.line) ∙ nameless.file; nameless = ap (λ rows. names_of rows c) (sym sheds.names) ∙ nameless.nameless };
+    free = free;
+  }
+  own (inr shed) = record { was = shed.was; free = free }
+
+still_named : (w : Volume) (c i : ℕ) → i ≢ c → ¬ IsNameless w i → ¬ IsNameless (dropped c w) i
+still_named w c i other named nameless =
+    named (record { file = sym (ap (λ x. x.kind) (inode-set_other c (gone_node (inode w c)) [] [] w i other)) ∙ nameless.file; nameless = nameless.nameless })
+
+pub went : (old k new : View) (ino : ℕ) → HasShed old k ino → IsNameless k.volume ino → IsAtRest new → new.volume ≡ dropped ino k.volume → SameOutside k.volume.geometry k.cells new.cells → HasShed old new (ino + 1)
+went old k new ino has nameless rest volume_is others = record {
+  rest = rest;
+  sheds = subst (Sheds old.volume) (sym volume_is) (sheds_more old.volume k.volume ino has.sheds nameless);
+  others = λ i out line. subst (λ g. SameOutside g k.cells new.cells) has.sheds.geometry others i out line ∙ has.others i out line;
+  named = λ i below. subst (λ w. ¬ IsNameless w i) (sym volume_is) (elim (cases_eq i ino) [
+    | inl same ↦ subst (λ n. ¬ IsNameless (dropped ino k.volume) n) (sym same) gone
+    | inr other ↦ still_named k.volume ino i other (has.named i (omega (arith, below, other)))
+  ]);
+} where
+  gone : ¬ IsNameless (dropped ino k.volume) ino
+  gone is = let never : File ≡ Free = sym is.file ∙ ap (λ x. x.kind) (inode-set_same ino (gone_node (inode k.volume ino)) [] [] k.volume (used_below k.volume ino nameless.file)) in cc
+
+-- at the end each file has a name
+pub ended : (old new : View) (n : ℕ) → HasShed old new n → new.volume.geometry.inodes ≤ n → AllNamed new.volume
+ended old new n has all ino file = elim (cases_lt 0 (names_of new.volume.names ino)) [
+  | inl some ↦ some
+  | inr none ↦
+      absurd (has.named ino (omega (arith, used_below new.volume ino file, has.rest.order.whole.kept.all.inode_count, all)) (record { file = file; nameless = omega (arith, none) }))
+]

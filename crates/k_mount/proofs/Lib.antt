@@ -1,0 +1,4 @@
+pub mod Dropping
+pub mod Opened
+pub mod Recovered
+pub mod Same

@@ -1,0 +1,90 @@
+-- The tree of a device that was opened again is that of the image's content.
+use Rattle.std.proofs.Common.{◌≡◌, ℕ, ◌+◌, ◌*◌, ◌<◌, true, false, List, [], Some, Result, Ok, Err, IfOk, option_map, refl, sym, ◌∙◌, ap, subst, arith, inl, inr}
+use Rattle.std.proofs.lemmas.Bool.{cases_lt}
+use Rattle.std.proofs.lemmas.List.{get_or_past}
+use Rattle.pm_words.specs.Cells.{newest}
+use Rattle.pm_words.specs.Images.{words_of}
+use Rattle.pm_words.specs.Words.{Words}
+use Rattle.disk_places.specs.Journal.{journaled}
+use Rattle.disk_places.specs.PlaceLaws.{behind_log-words}
+use Rattle.disk_places.specs.Places.{Geometry, is_data_block}
+use Rattle.extent_words.specs.Extents.{covers}
+use Rattle.disk_lines.specs.declared.Kind.{Kind}
+use Rattle.disk_lines.specs.declared.Kind.TheVariants.{Directory, File, Free, Staging}
+use Rattle.disk_rules.specs.Content.{content, disk_of, found}
+use Rattle.disk_rules.specs.Kept.{AreKept}
+use Rattle.disk_rules.specs.Live.{is_directory, live_entries}
+use Rattle.disk_rules.specs.Reading.{Reads}
+use Rattle.disk_rules.specs.Rules.{file_blocks_of, geometry_of, IsChecked}
+use Rattle.disk_rules.specs.Volume.{extents, inode, Volume, volume}
+use Rattle.volume_facts.specs.Footprint.{SameData}
+use Rattle.volume_facts.specs.FootprintLaws.{disk_of-covered, found-same}
+use Rattle.volume_facts.specs.LineWords.{data_word, data_word-not_journaled}
+use Rattle.volume_uses.specs.PoolLaws.{covered-in_data}
+use Rattle.image_facts.specs.CheckedLaws.{reads-checked}
+use Rattle.volume_changes.specs.CallLaws.{root-directory}
+use Rattle.k_content.specs.Trees.{tree_content, tree_node}
+use Rattle.k_rules.specs.View.{View}
+use Rattle.posix_types.specs.declared.tree.TreeEntry.{TreeEntry}
+use Rattle.posix_trees.specs.TreeOf.{IsTreeOf, IsTreeOf-agree}
+use Rattle.world_rules.specs.Shown.{IsTreeOfContent}
+use Rattle.k_mount.specs.Laws.{IsRecovered}
+use Rattle.k_mount.specs.Sheds.{IsAtRest, SameOutside, Sheds}
+use Rattle.k_mount.proofs.Same.{shows_the_same, trees_are_of_content}
+
+-- what follows from a fact on the value that a call returned
+pub follows : {T E : Type 0} (r : Result T E) (P Q : T → Type 0) → ((x : T) → P x → Q x) → IfOk r P → IfOk r Q
+follows (Ok x) P Q imply h = imply x h
+follows (Err e) P Q imply h = h
+
+a_directory : (kind : Kind) → is_directory kind ≡ true → kind ≡ Directory
+a_directory Free is = cc
+a_directory Directory is = refl
+a_directory File is = cc
+a_directory Staging is = cc
+
+-- a block that a file reads is a data block
+read_in_data : (g : Geometry) (f : Words) (v : Volume) (ino block b : ℕ) → Reads g f v → AreKept v → disk_of v [] ino block ≡ Some b → is_data_block g b ≡ true
+read_in_data g f v ino block b r kept is =
+    let has = disk_of-covered v [] ino block b is in
+    let inodes_are : v.geometry.inodes ≡ g.inodes = ap (λ (x : Geometry). x.inodes) r.geometry in
+    elim (cases_lt has.0 g.inodes) [
+      | inl below ↦
+          subst (λ h. is_data_block h b ≡ true) r.geometry
+          (covered-in_data v.geometry (file_blocks_of (inode v has.0).kind) (extents v has.0) b (kept.in_data has.0 (omega (arith, inodes_are))) has.1)
+      | inr past ↦
+          let none : covers (extents v has.0) b ≡ false = ap (λ es. covers es b) (get_or_past v.maps has.0 [] (omega (arith, r.map_count))) in
+          let never : false ≡ true = sym none ∙ has.1 in
+          absurd (cc)
+    ]
+
+module _ (g : Geometry) (image : Words) (k k2 : View) (numbers : geometry_of image ≡ g) (checked : IsChecked (4096 * g.blocks) image)
+    (is : IsRecovered image k.cells) (volume_is : k.volume ≡ volume g (journaled image)) (rest : IsAtRest k)
+    (sheds : Sheds k.volume k2.volume) (others : SameOutside k.volume.geometry k.cells k2.cells) where
+  reads : Reads g (journaled image) k.volume
+  reads = subst (Reads g (journaled image)) (sym volume_is) (subst (λ h. Reads h (journaled image) (volume h (journaled image))) numbers (reads-checked (4096 * g.blocks) image checked))
+
+  -- the words of data blocks are those of the image
+  same_word : (b j : ℕ) → is_data_block g b ≡ true → j < 512 → words_of k2.cells (512 * b + j) ≡ journaled image (512 * b + j)
+  same_word b j in_data below =
+      let out = behind_log-words g (512 * b + j) (data_word g b j in_data below) in
+      let line = data_word-not_journaled g b j in_data below in
+      ap newest (subst (λ h. SameOutside h k.cells k2.cells) reads.geometry others (512 * b + j) out line) ∙ ap newest (is.words (512 * b + j) out)
+
+  same_data : SameData k.volume [] (journaled image) (words_of k2.cells)
+  same_data = record {
+    words = λ ino block b j file short at below. same_word b j (read_in_data g (journaled image) k.volume ino block b reads rest.order.whole.kept.kept at) below;
+  }
+
+  shown : (path : List (List ℕ)) → found k2.volume [] (words_of k2.cells) path ≡ found k.volume [] (journaled image) path
+  shown path =
+      shows_the_same k.volume k2.volume (words_of k2.cells) path sheds (a_directory (inode k.volume 0).kind (root-directory k.volume rest.order.whole.kept))
+      ∙ ap (λ c. c path) (found-same k.volume [] (journaled image) (words_of k2.cells) same_data)
+
+  pub tree_of_image : (left : List TreeEntry) → live_entries (volume g (journaled image)) (journaled image) ≡ [] → IsTreeOf (tree_content (found k2.volume [] (words_of k2.cells))) left → IsTreeOfContent (content g image) left
+  tree_of_image left dead listed = trees_are_of_content (content g image) left (IsTreeOf-agree (tree_content (found k2.volume [] (words_of k2.cells))) (tree_content (content g image)) left agree listed) where
+    agree : (path : List (List ℕ)) → tree_content (content g image) path ≡ tree_content (found k2.volume [] (words_of k2.cells)) path
+    agree path =
+        ap (option_map tree_node)
+        (ap (λ live. found (volume g (journaled image)) live (journaled image) path) dead
+        ∙ (ap (λ v. found v [] (journaled image) path) (sym volume_is) ∙ sym (shown path)))

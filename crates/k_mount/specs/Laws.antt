@@ -1,0 +1,41 @@
+-- The laws of remounting, each as one statement.
+use Rattle.std.specs.Prelude.{◌≡◌, ◌*◌, ℕ, false, List, [], Option}
+use Rattle.pm_words.specs.declared.Cell.{Cell}
+use Rattle.pm_words.specs.declared.Cell.TheVariants.{Single}
+use Rattle.pm_words.specs.Cells.{cell}
+use Rattle.pm_words.specs.Images.{words_of}
+use Rattle.pm_words.specs.Words.{Words}
+use Rattle.disk_places.specs.Journal.{is_journal_word, journaled}
+use Rattle.disk_places.specs.Places.{commit_word, Geometry}
+use Rattle.disk_lines.specs.declared.Kind.TheVariants.{Directory}
+use Rattle.disk_rules.specs.Content.{found, Node}
+use Rattle.disk_rules.specs.Rules.{geometry_of, IsChecked}
+use Rattle.disk_rules.specs.Volume.{inode, Volume}
+use Rattle.k_content.specs.Trees.{tree_content}
+use Rattle.posix_types.specs.declared.tree.TreeEntry.{TreeEntry}
+use Rattle.posix_trees.specs.TreeOf.{IsTreeOf}
+use Rattle.world_rules.specs.Shown.{IsTreeOfContent}
+use Rattle.k_mount.specs.Sheds.{Sheds}
+
+-- Nameless files are in no tree: without them the same stands at each path.
+abbrev pub ShowsTheSame : Type 0
+ShowsTheSame = (v w : Volume) (f : Words) (path : List (List ℕ)) → Sheds v w → (inode v 0).kind ≡ Directory → found w [] f path ≡ found v [] f path
+
+-- A device is recovered: its words are those that the journal of an image shows, and its journal is empty.
+pub record IsRecovered (image : Words) (d : List Cell) : Type 0 where
+  pub words : (i : ℕ) → is_journal_word i ≡ false → cell d i ≡ Single (journaled image i)
+  pub idle : cell d commit_word ≡ Single 0
+
+-- Where the image is checked, so is the device, with the same geometry, and the same seen through its journal.
+pub record IsCheckedToo (g : Geometry) (image : Words) (d : List Cell) : Type 0 where
+  pub geometry : geometry_of (words_of d) ≡ g
+  pub seen : journaled (words_of d) ≡ journaled image
+  pub checked : IsChecked (4096 * g.blocks) (words_of d)
+
+abbrev pub RecoversChecked : Type 0
+RecoversChecked =
+    (g : Geometry) (image : Words) (d : List Cell) → geometry_of image ≡ g → IsChecked (4096 * g.blocks) image → IsRecovered image d → IsCheckedToo g image d
+
+-- The tree of a content is one as the World speaks of it.
+abbrev pub TreesAreOfContent : Type 0
+TreesAreOfContent = (content : List (List ℕ) → Option Node) (left : List TreeEntry) → IsTreeOf (tree_content content) left → IsTreeOfContent content left

@@ -15,11 +15,11 @@ use Rattle.posix_spec.specs.Step.{step}
 use Rattle.posix_spec.specs.Tree.{start, tree}
 use Rattle.crash_spec.specs.Permitted.{Permitted}
 use Rattle.crash_spec.specs.Posix.{acting, ByteRule, IsLeft, KeepsFront, NodeLeft, others, OrUnfinished, Overwritten, Posix, syncs, TreeLeft}
-use Rattle.crash_judge.specs.declared.effects.Effect.{Effect}
-use Rattle.crash_judge.specs.Effects.{AreEffects, EffectRule}
+use Rattle.judge_bytes.specs.declared.effects.Effect.{Effect}
+use Rattle.judge_bytes.specs.Effects.{AreEffects, EffectRule}
 use Rattle.crash_judge.specs.Judged.{IsPermitted}
 use Rattle.crash_judge.specs.Fronts.{ActsOrNot, KeptFrom, KeptHere}
-use Rattle.crash_judge.proofs.EffectLaws.{effect_rule, rule_effect}
+use Rattle.judge_bytes.proofs.EffectLaws.{effect_rule, rule_effect}
 
 -- ---- rules that allow the same leave the same
 

@@ -1,6 +1,3 @@
-pub mod WantedLaws
-pub mod EffectLaws
-pub mod NearestLaws
 pub mod FrontLaws
 pub mod ByteLaws
 pub mod Likes

@@ -30,7 +30,7 @@ use Rattle.posix_spec.specs.Run.{after_call, Begun}
 use Rattle.posix_spec.specs.State.{alone, made, room, space, State, swept, unnamed, with_file, with_node, with_published}
 use Rattle.posix_spec.specs.Step.{close_done, dup_done, empty_file, fsync_done, list_done, mkdir_done, moved_offset, open_done, opening, opening_number, pread_done, pwrite_done, read_done, rename_done, renamed, rmdir_done, seek_done, stat_done, step, stepped, Stepped, truncate_done, unlink_done, write_done, written}
 use Rattle.crash_judge.proofs.ByteLaws.{index-overwritten, index-resized, length-bytes_from, length-overwritten, length-resized, written_at}
-use Rattle.crash_judge.proofs.NearestLaws.{split}
+use Rattle.judge_bytes.proofs.NearestLaws.{split}
 
 -- what two states may have at byte i of node n, and that they may have the same
 abbrev pub ByteWise : Type 1

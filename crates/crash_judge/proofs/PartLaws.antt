@@ -23,10 +23,10 @@ use Rattle.posix_puts.specs.Puts.{put_bytes}
 use Rattle.crash_spec.specs.Strict.{Strict, StrictFrom}
 use Rattle.crash_spec.specs.Sync.{ActsInPart, file_bytes, IsPartOf, Sync, SyncFrom, with_bytes}
 use Rattle.crash_judge.specs.Parts.{all_toward, LeadTo, PartsThen, pick, picked, put_toward, SomeLead, toward}
-use Rattle.crash_judge.specs.Wanted.{numbers_of, wanted}
+use Rattle.judge_bytes.specs.Wanted.{numbers_of, wanted}
 use Rattle.crash_judge.proofs.Likes.{AllGo-same, bytes_go, BytesGo, ByteWise, Like, Like-call, Like-file, MayBeSame, NodesGo, published_same, put_by-like}
-use Rattle.crash_judge.proofs.NearestLaws.{split}
-use Rattle.crash_judge.proofs.WantedLaws.{Each, Each-map, IsWanted, same_map, wanted-tree}
+use Rattle.judge_bytes.proofs.NearestLaws.{split}
+use Rattle.judge_bytes.proofs.WantedLaws.{Each, Each-map, IsWanted, same_map, wanted-tree}
 
 -- ---- what is picked is a part
 

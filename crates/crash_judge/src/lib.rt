@@ -4,27 +4,24 @@
 //! unfinished calls and every tree. It is a tool for tests: plain, and quick enough for a history of a
 //! hundred calls over files of some thousand bytes. It never tries the states byte by byte: it makes one
 //! state that is nearest to the tree, in which each byte is as the tree wants it, if it may be, and the
-//! tree may be left exactly where it is that of this state (`nearest` for POSIX mode, `parts` for sync
-//! mode, where the states that differ in bytes alone go together under every call).
+//! tree may be left exactly where it is that of this state (`is_left` of `judge_bytes` for POSIX mode,
+//! `parts` for sync mode, where the states that differ in bytes alone go together under every call).
 //!
-//! Stands on `crash_spec`, whose relations it decides, and on the plain program of `posix_spec`.
+//! Stands on `crash_spec`, whose relations it decides, on `judge_bytes`, and on the plain program of
+//! `posix_spec`.
 #![tactic(auto)]
 
-mod effects;
-mod nearest;
 mod parts;
 mod posix;
-mod runs;
 mod strict;
-mod wanted;
 
 ghost use Rattle.std.specs.Prelude.{◌↔◌, IfOk, IsTrue};
 ghost use Rattle.crash_judge.specs.Judged.{IsPermitted};
 
 use crate::parts::is_sync;
 use crate::posix::is_posix;
-use crate::runs::run;
 use crate::strict::is_strict;
+use judge_bytes::run;
 use posix_spec::{Call, Item, Mode, Shape, State, Tree, Who};
 use std::alloc::{AllocError, Global};
 
@@ -40,7 +37,7 @@ pub fn judge(
     unfinished: &[(Who, Call)],
     after: &Tree,
 ) -> Result<bool, AllocError>
-    ensures { IfOk result (λ is. IsTrue is ↔
+    ensures exact { IfOk result (λ is. IsTrue is ↔
         IsPermitted mode shape start.now history.now unfinished.now after.now) }
 {
     let first = State::open(alloc, start, shape, mode)?;

@@ -3,11 +3,9 @@ ghost use Rattle.std.specs.Prelude.{◌≡◌, ◌↔◌, [], IfOk, IsTrue, leng
 ghost use Rattle.posix_spec.specs.Run.{after_calls};
 ghost use Rattle.crash_spec.specs.Sync.{Sync};
 ghost use Rattle.crash_judge.specs.Parts.{all_toward, LeadTo, pick, picked, SomeLead, toward};
-ghost use Rattle.crash_judge.specs.Wanted.{wanted};
+ghost use Rattle.judge_bytes.specs.Wanted.{wanted};
 
-use crate::effects::with_call;
-use crate::runs::{after, after_all, has_tree, run};
-use crate::wanted::{byte_at, numbers_of, wanted};
+use judge_bytes::{after, after_all, byte_at, has_tree, numbers_of, run, wanted, with_call};
 use posix_spec::{Call, Data, Item, State, Tree, TreeEntry, Who};
 use posix_words::nodes::bytes_at;
 use std::alloc::{AllocError, Global};

@@ -4,12 +4,10 @@ ghost use Rattle.std.specs.Prelude.{◌≡◌, ◌↔◌, [], IfOk, IsTrue, map}
 ghost use Rattle.std.specs.List.{list_any};
 ghost use Rattle.posix_spec.specs.Run.{begun, run};
 ghost use Rattle.crash_spec.specs.Posix.{Posix, syncs};
-ghost use Rattle.crash_judge.specs.Effects.{AreEffects};
+ghost use Rattle.judge_bytes.specs.Effects.{AreEffects};
 ghost use Rattle.crash_judge.specs.Fronts.{ActsOrNot, KeptFrom, KeptHere};
 
-use crate::effects::{Effect, calls_of, effects_of, with_call};
-use crate::nearest::is_left;
-use crate::runs::{after, has_tree, run};
+use judge_bytes::{Effect, after, calls_of, effects_of, has_tree, is_left, run, with_call};
 use posix_spec::{Call, Item, Reply, State, Tree, Who};
 use std::alloc::{AllocError, Global};
 

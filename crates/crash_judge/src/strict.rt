@@ -2,7 +2,7 @@
 ghost use Rattle.std.specs.Prelude.{◌↔◌, IfOk, IsTrue};
 ghost use Rattle.crash_spec.specs.Strict.{StrictFrom};
 
-use crate::runs::{after, has_tree};
+use judge_bytes::{after, has_tree};
 use posix_spec::{Call, State, Tree, Who};
 use std::alloc::AllocError;
 

@@ -8,5 +8,7 @@ use Rattle.crash_judge.proofs.judge.Goals as goal
 pub returns-in-Posix : goal.returns-in-Posix
 returns-in-Posix c =
     let mode : c.args.mode ≡ Mode.Posix = first_of (search rules, cc) in
-    IfOk-weaker c.is_posix.result _ _
-    (λ b is. judged c.args.mode c.args.shape c.args.start.now c.in_ok-first.first c.args.history.now c.args.unfinished.now c.args.after.now b mode c.in_ok-first.ensures is) c.is_posix.ensures
+    record {
+      exact = IfOk-weaker c.is_posix.result _ _
+          (λ b is. judged c.args.mode c.args.shape c.args.start.now c.in_ok-first.first c.args.history.now c.args.unfinished.now c.args.after.now b mode c.in_ok-first.ensures is) c.is_posix.ensures;
+    }

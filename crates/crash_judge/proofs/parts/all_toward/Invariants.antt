@@ -1,6 +1,6 @@
 use Rattle.std.proofs.Common.{◌≡◌, drop}
 use Rattle.crash_judge.specs.Parts.{all_toward}
-use Rattle.crash_judge.specs.Wanted.{wanted}
+use Rattle.judge_bytes.specs.Wanted.{wanted}
 use Rattle.crash_judge.proofs.parts.all_toward.Given as goal
 
 abbrev pub invariant-loop-c : goal.invariant-loop-c

@@ -4,7 +4,7 @@ use Rattle.std.proofs.lemmas.Result.{IfOk-weaker}
 use Rattle.posix_types.specs.declared.tree.TreeEntry.{TreeEntry}
 use Rattle.posix_spec.specs.State.{State}
 use Rattle.crash_judge.specs.Parts.{all_toward}
-use Rattle.crash_judge.specs.Wanted.{numbers_of, wanted}
+use Rattle.judge_bytes.specs.Wanted.{numbers_of, wanted}
 use Rattle.crash_judge.proofs.PartLaws.{lead_decided}
 use Rattle.crash_judge.proofs.parts.lead_to.Goals as goal
 

@@ -1,8 +1,8 @@
 use Rattle.std.specs.Prelude.{◌≡◌, length, List}
 use Rattle.std.proofs.Common.{arith, rules, subst, sym}
 use Rattle.std.proofs.lemmas.Result.{IfOk-weaker}
-use Rattle.crash_judge.specs.declared.effects.Effect.{Effect}
-use Rattle.crash_judge.specs.Effects.{AreEffects}
+use Rattle.judge_bytes.specs.declared.effects.Effect.{Effect}
+use Rattle.judge_bytes.specs.Effects.{AreEffects}
 use Rattle.crash_judge.proofs.FrontLaws.{empty, whole_none}
 use Rattle.crash_judge.proofs.posix.+is_kept_whole.Goals as goal
 

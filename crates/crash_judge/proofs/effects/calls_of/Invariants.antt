@@ -1,6 +1,0 @@
-use Rattle.std.proofs.Common.{◌≡◌, map, take}
-use Rattle.posix_spec.specs.Run.{begun}
-use Rattle.crash_judge.proofs.effects.calls_of.Given as goal
-
-abbrev pub invariant-loop-item : goal.invariant-loop-item
-invariant-loop-item l = l.calls.items ≡ map begun (take l.item-index l.items)

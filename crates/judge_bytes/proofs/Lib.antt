@@ -1,0 +1,3 @@
+pub mod WantedLaws
+pub mod EffectLaws
+pub mod NearestLaws

@@ -1,0 +1,45 @@
+//! The state after calls, and whether it has a tree.
+ghost use Rattle.std.specs.Prelude.{◌≡◌, ◌↔◌, IfOk, IsTrue};
+ghost use Rattle.posix_spec.specs.Run.{after_call, after_calls, run};
+ghost use Rattle.posix_spec.specs.Tree.{tree};
+
+use posix_spec::{Call, Item, State, Tree, Who};
+use std::alloc::AllocError;
+
+/// The state after the calls of a history.
+pub fn run(mut state: State, history: &[Item]) -> Result<State, AllocError>
+    ensures { IfOk result (λ s. s ≡ run state history.now) }
+{
+    for item in history {
+        state.apply(item.who, &item.call)?;
+    }
+    Ok(state)
+}
+
+/// The state after a call; the given one stays.
+pub fn after(state: &State, c: &(Who, Call)) -> Result<State, AllocError>
+    ensures { IfOk result (λ s. s ≡ after_call state.now c.now) }
+{
+    let mut next = state.clone()?;
+    next.apply(c.0, &c.1)?;
+    Ok(next)
+}
+
+/// Whether a state has this tree.
+pub fn has_tree(state: &State, left: &Tree) -> Result<bool, AllocError>
+    ensures { IfOk result (λ is. IsTrue is ↔ (left.now ≡ tree state.now)) }
+{
+    let found = state.tree()?;
+    Ok(*left == found)
+}
+
+/// The state after calls, one after the other.
+pub fn after_all(state: &State, calls: &[(Who, Call)]) -> Result<State, AllocError>
+    ensures { IfOk result (λ s. s ≡ after_calls state.now calls.now) }
+{
+    let mut at = state.clone()?;
+    for c in calls {
+        at.apply(c.0, &c.1)?;
+    }
+    Ok(at)
+}

@@ -1,0 +1,10 @@
+//! The grammar of scripts: from the bytes of a script to the calls of its set-up and its threads.
+//!
+//! `read_script` gives the scripts of a text, or the first line that breaks the grammar or a limit,
+//! counted from 1, and 0 for a text of too many bytes: exactly as `specs/Scripts.antt` says. A line
+//! is words between blanks (`Lines.antt`), its first word names a call (`Calls.antt`), and the others
+//! spell its parts (`Words.antt`). `known_words` is the table of the words that the program runs by
+//! now; a line with another one is a bad line.
+//!
+//! Stands on `posix_types` and on the spelling of flags in `report_text`.
+#![tactic(auto)]

@@ -10,6 +10,8 @@ use Rattle.disk_places.specs.Fields.{is_same}
 use Rattle.posix_types.specs.declared.call.Call.{Call}
 use Rattle.posix_types.specs.Scripts.{Scripts}
 use Rattle.script_text.specs.Calls.{call_in, is_known}
+use Rattle.script_text.specs.declared.kinds.Kind.{Kind}
+use Rattle.script_text.specs.declared.kinds.Kind.TheVariants.{Calls, Passed, SetUp, Thread, Unread}
 use Rattle.script_text.specs.Lines.{is_text, Line, lines_of, text_of, words_of}
 
 -- the limits
@@ -21,14 +23,6 @@ most_threads = 8
 
 abbrev pub most_calls : ℕ
 most_calls = 4096
-
--- what a line is
-pub data Kind : Type 0 where
-  Passed : Kind
-  SetUp : Kind
-  Thread : Kind
-  Calls : Call → Kind
-  Unread : Kind
 
 -- a word that begins with `#`
 abbrev pub is_comment : List ℕ → Bool
@@ -47,8 +41,12 @@ words_kind (word ∷ words) =
     else if (length words == 0) && is_same word (codes "thread") then Thread
     else call_kind (call_in (word ∷ words))
 
-unfoldable pub kind_of : Line → Kind
-kind_of line = if is_text (text_of line) then words_kind (words_of (text_of line)) else Unread
+-- what a text is
+unfoldable pub text_kind : List ℕ → Kind
+text_kind text = if is_text text then words_kind (words_of text) else Unread
+
+abbrev pub kind_of : Line → Kind
+kind_of line = text_kind (text_of line)
 
 abbrev pub is_passed : Kind → Bool
 is_passed Passed = true

@@ -3,8 +3,8 @@ use Rattle.std.specs.Prelude.{ℕ, zero, suc, ◌+◌, ◌*◌, ◌-◌, ◌/◌
 use Rattle.std.specs.Char.{is_ascii_digit}
 use Rattle.std.specs.List.{list_all, list_any}
 use Rattle.std.specs.Str.Parse.{digits_value}
-use Rattle.disk_lines.specs.Lines.{is_dots, is_name_byte}
 use Rattle.disk_places.specs.Fields.{is_same}
+use Rattle.path_spelling.specs.Spelling.{is_spelled}
 use Rattle.posix_types.specs.declared.handle.Flags.{Flags}
 use Rattle.posix_types.specs.declared.handle.Handle.{Handle}
 use Rattle.posix_types.specs.declared.handle.Whence.{Whence}
@@ -29,11 +29,6 @@ signed_in [] = None
 signed_in (b ∷ word) = if b == 45 then option_map less (number_in word) else option_map (λ n. pos n) (number_in (b ∷ word))
 
 -- ---- paths
--- a name: one or more bytes 33 to 126 but the slash, and neither `.` nor `..`. Its length is not limited here: a name
--- that is too long is a matter of the calls.
-abbrev pub is_path_name : List ℕ → Bool
-is_path_name name = list_all is_name_byte name && nat_le 1 (length name) && not (is_dots name)
-
 -- the parts of a text, which slashes part
 abbrev pub with_part : ℕ → List (List ℕ) → List (List ℕ)
 with_part b [] = (b ∷ []) ∷ []
@@ -44,7 +39,7 @@ parts_of [] = [] ∷ []
 parts_of (b ∷ text) = if b == 47 then [] ∷ parts_of text else with_part b (parts_of text)
 
 abbrev pub names_in : List (List ℕ) → Option (List (List ℕ))
-names_in names = if list_all is_path_name names then Some names else None
+names_in names = if list_all is_spelled names then Some names else None
 
 -- a path: the slash alone, or names that each have a slash before them
 unfoldable pub path_in : List ℕ → Option (List (List ℕ))

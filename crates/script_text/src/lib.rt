@@ -6,5 +6,16 @@
 //! spell its parts (`Words.antt`). `known_words` is the table of the words that the program runs by
 //! now; a line with another one is a bad line.
 //!
-//! Stands on `posix_types` and on the spelling of flags in `report_text`.
+//! Stands on `posix_types`, `path_spelling` and, for the spelling of flags, `report_text`.
 #![tactic(auto)]
+
+mod calls;
+mod cuts;
+mod data;
+mod handles;
+mod kinds;
+mod lines;
+mod numbers;
+mod paths;
+
+pub use numbers::read_number;

@@ -1,6 +1,6 @@
 -- The value of decimal digits, digit by digit.
 use Rattle.std.proofs.Common.{◌≡◌, ℕ, ◌+◌, ◌-◌, ◌*◌, ◌<◌, ◌≤◌, ◌^◌, true, List, [], ◌∷◌, length, get_or, take, drop, ◌≢◌, refl, arith, sym, ◌∙◌, ap, ◌&&◌, not}
-use Rattle.std.specs.Prelude.{◌==◌, ◌||◌, nat_le, slice_index, option_map, None, Some, pos, ℤ}
+use Rattle.std.specs.Prelude.{◌==◌, ◌||◌, nat_le, slice_index, option_map, None, Some, pos}
 use Rattle.std.specs.List.{list_all}
 use Rattle.std.specs.Char.{digit_value, is_ascii_digit}
 use Rattle.std.specs.Str.{all_ascii_digits}

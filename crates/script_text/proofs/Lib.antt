@@ -1,7 +1,11 @@
 pub mod Blanks
+pub mod Counts
 pub mod Digits
 pub mod Ends
+pub mod FirstBad
+pub mod LinesRead
 pub mod Lists
 pub mod Pairs
 pub mod Parts
 pub mod Spelling
+pub mod Steps

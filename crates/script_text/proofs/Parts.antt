@@ -1,5 +1,5 @@
 -- Texts that are cut at the first byte of some value.
-use Rattle.std.proofs.Common.{◌≡◌, ◌≢◌, ℕ, zero, suc, ◌+◌, ◌<◌, ◌≤◌, List, [], ◌∷◌, length, get_or, take, drop, refl, ◌∙◌, ap, arith, inl, inr, add-one, Bool, true, false, ◌++◌, Some, None, sym, append_assoc}
+use Rattle.std.proofs.Common.{◌≡◌, ◌≢◌, ℕ, zero, suc, ◌+◌, ◌<◌, ◌≤◌, List, [], ◌∷◌, length, get_or, take, drop, refl, ◌∙◌, ap, arith, inl, inr, add-one, true, false, ◌++◌, Some, None, sym, append_assoc}
 use Rattle.std.proofs.lemmas.Bool.{and_from, and_left, and_right, cases_lt, cond-false, cond-true, eq-eqb, ne_eqb}
 use Rattle.std.proofs.lemmas.List.{take_all}
 use Rattle.std.proofs.lemmas.List.Folds.{list_all-append}
@@ -31,8 +31,8 @@ first_part (b ∷ text) (suc n) within none slash =
 pub one_more_part : (text : List ℕ) (n : ℕ) → n ≤ length text → ((k : ℕ) → k < n → get_or text k 0 ≢ 47) → (n < length text → get_or text n 0 ≡ 47) → (more : List (List ℕ)) × (parts_of text ≡ take n text ∷ more)
 one_more_part text n within none stops =
     elim (cases_lt n (length text)) [
-    | inl lt ↦ (parts_of (drop (n + 1) text), first_part text n lt none (stops lt))
-    | inr ge ↦ ([], one_part text (λ k lt. none k (omega arith)) ∙ ap (λ (part : List ℕ). part ∷ []) (sym (take_all n text ge)))
+      | inl lt ↦ (parts_of (drop (n + 1) text), first_part text n lt none (stops lt))
+      | inr ge ↦ ([], one_part text (λ k lt. none k (omega arith)) ∙ ap (λ (part : List ℕ). part ∷ []) (sym (take_all n text ge)))
     ]
 
 -- ---- the names of a path, part by part: these are read, and the rest is cut at its first slash

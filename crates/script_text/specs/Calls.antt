@@ -1,11 +1,8 @@
 -- The calls that lines are.
-use Rattle.std.specs.Prelude.{ℕ, List, [], ◌∷◌, codes, Bool, ◌&&◌, Option, Some, None, option_map, ℤ, if◌then◌else◌}
+use Rattle.std.specs.Prelude.{ℕ, List, [], ◌∷◌, codes, Bool, Option, Some, None, option_map, if◌then◌else◌}
 use Rattle.std.specs.List.{list_any}
 use Rattle.disk_places.specs.Fields.{is_same}
 use Rattle.posix_types.specs.declared.call.Call.{Call}
-use Rattle.posix_types.specs.declared.handle.Flags.{Flags}
-use Rattle.posix_types.specs.declared.handle.Handle.{Handle}
-use Rattle.posix_types.specs.declared.handle.Whence.{Whence}
 use Rattle.script_text.specs.Words.{data_in, flags_in, handle_in, number_in, path_in, signed_in, whence_in}
 
 -- THE TABLE of the words that the program runs by now, headings included. A line with another first word is a bad line.

@@ -3,9 +3,8 @@
 -- A script is lines. A line without words, or whose first word begins with `#`, is passed over. `setup` may come once,
 -- before every other heading and every call: the calls behind it are the set-up. `thread` begins the script of the next
 -- thread. Calls before any heading are the script of thread 0.
-use Rattle.std.specs.Prelude.{ℕ, ◌+◌, List, [], ◌∷◌, length, map, filter, take, count_by, codes, slice_index_or, Bool, true, false, not, ◌&&◌, ◌||◌, ◌==◌, nat_le, nat_lt, position, Option, Some, None, option_map, if◌then◌else◌}
+use Rattle.std.specs.Prelude.{ℕ, ◌+◌, List, [], ◌∷◌, length, map, take, count_by, codes, slice_index_or, Bool, true, false, not, ◌&&◌, ◌==◌, nat_le, nat_lt, position, Option, Some, None, option_map, if◌then◌else◌}
 use Rattle.std.specs.List.{list_any, range_with_len}
-use Rattle.std.specs.Option.{option_map_or}
 use Rattle.disk_places.specs.Fields.{is_same}
 use Rattle.posix_types.specs.declared.call.Call.{Call}
 use Rattle.posix_types.specs.Scripts.{Scripts}

@@ -105,12 +105,7 @@ fn read_truncate(a: &[u8], b: &[u8]) -> Option<Call>
 }
 
 /// A call with two words behind the first.
-fn two_word_call(
-    alloc: Global,
-    call: &[u8],
-    a: &[u8],
-    b: &[u8],
-) -> Result<Option<Call>, AllocError>
+fn two_word_call(alloc: Global, call: &[u8], a: &[u8], b: &[u8]) -> Result<Option<Call>, AllocError>
     ensures { IfOk result (λ found. found ≡ two_word_call call.now a.now b.now) }
 {
     if call == b"rename".as_slice() {

@@ -12,10 +12,15 @@
 mod calls;
 mod cuts;
 mod data;
+mod faults;
 mod handles;
 mod kinds;
 mod lines;
 mod numbers;
 mod paths;
+mod reading;
+mod scripts;
 
+pub use faults::ScriptFault;
 pub use numbers::read_number;
+pub use scripts::read_script;

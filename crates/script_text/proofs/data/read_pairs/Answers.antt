@@ -1,7 +1,6 @@
-use Rattle.std.proofs.Common.{drop, ap, sym, ◌∙◌, arith, ◌++◌, ◌∷◌, [], ℕ, List, get_or}
+use Rattle.std.proofs.Common.{drop, ap, sym, ◌∙◌, ◌++◌, ◌∷◌, [], ℕ, List}
 use Rattle.std.specs.List.{list_all}
-use Rattle.script_text.specs.Words.{hex_bytes, hex_value, is_hex_digit}
-use Rattle.script_text.proofs.Lists.{passes_at}
+use Rattle.script_text.specs.Words.{hex_bytes, is_hex_digit}
 use Rattle.script_text.proofs.Pairs.{all_behind, pair_more, pairs_end}
 use Rattle.script_text.proofs.data.read_pairs.Goals as goal
 

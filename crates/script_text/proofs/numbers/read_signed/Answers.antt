@@ -1,4 +1,4 @@
-use Rattle.std.proofs.Common.{◌≡◌, ◌<◌, ◌^◌, ◌∙◌, ap, arith, length, sym, w64, pos, to_z, of_z, Some, rules, SFits}
+use Rattle.std.proofs.Common.{◌<◌, ◌^◌, ◌∙◌, ap, arith, length, sym, w64, Some, rules, SFits}
 use Rattle.std.proofs.lemmas.Int.{to_z-of_z, to_z_pos}
 use Rattle.std.proofs.lemmas.Bool.{eqb-true}
 use Rattle.script_text.proofs.Digits.{signed_in-empty, signed_minus_none, signed_minus_some, signed_plain_none, signed_plain_some}

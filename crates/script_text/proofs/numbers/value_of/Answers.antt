@@ -1,8 +1,6 @@
-use Rattle.std.proofs.Common.{◌≡◌, ◌+◌, ◌-◌, ◌*◌, ◌<◌, ◌≤◌, ◌^◌, ◌∙◌, ap, arith, get_or, length, take}
-use Rattle.std.specs.Char.{is_ascii_digit}
+use Rattle.std.proofs.Common.{◌<◌, ◌^◌, arith, take}
 use Rattle.std.specs.Str.Parse.{digits_value}
-use Rattle.script_text.proofs.Digits.{digit_bounds, value_more, value_small, value_so_far}
-use Rattle.script_text.proofs.Lists.{passes_at}
+use Rattle.script_text.proofs.Digits.{value_more, value_so_far}
 use Rattle.script_text.proofs.numbers.value_of.Goals as goal
 
 pub overflow_mul-value : goal.overflow_mul-value

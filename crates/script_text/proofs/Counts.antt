@@ -82,3 +82,15 @@ calls_in-call before call = count_by-push is_call before (Calls call)
 
 pub calls_in-other : (before : List Kind) (kind : Kind) → is_call kind ≡ false → calls_in (before ++ kind ∷ []) ≡ calls_in before
 calls_in-other before kind h = count_by-push is_call before kind ∙ rw h (add-zero (calls_in before))
+
+-- where no line came before, no thread has begun
+nothing_counted : (before : List Kind) → is_some_line before ≡ false → count_by is_thread before ≡ 0
+nothing_counted [] h = refl
+nothing_counted (Passed ∷ before) h = nothing_counted before h
+nothing_counted (SetUp ∷ before) h = cc
+nothing_counted (Thread ∷ before) h = cc
+nothing_counted (Calls call ∷ before) h = cc
+nothing_counted (Unread ∷ before) h = cc
+
+pub no_threads : (before : List Kind) → is_some_line before ≡ false → threads_in before ≡ 0
+no_threads before h = let count = nothing_counted before h in rw (nothing_begins before h, count) refl

@@ -3,9 +3,11 @@ pub mod Counts
 pub mod Digits
 pub mod Ends
 pub mod FirstBad
+pub mod Limits
 pub mod LinesRead
 pub mod Lists
 pub mod Pairs
 pub mod Parts
+pub mod SpelledCalls
 pub mod Spelling
 pub mod Steps

@@ -1,6 +1,8 @@
 pub mod Calls
 pub mod Faults
+pub mod Laws
 pub mod Lines
 pub mod Reached
 pub mod Scripts
+pub mod Spelled
 pub mod Words

@@ -15,6 +15,7 @@ mod data;
 mod faults;
 mod handles;
 mod kinds;
+mod laws;
 mod lines;
 mod numbers;
 mod paths;
@@ -22,5 +23,6 @@ mod reading;
 mod scripts;
 
 pub use faults::ScriptFault;
+pub use laws::{paths_are_spelled, scripts_are_spelled, scripts_are_within_limits};
 pub use numbers::read_number;
 pub use scripts::read_script;

@@ -3,6 +3,7 @@ pub mod Faults
 pub mod Laws
 pub mod Lines
 pub mod Reached
+pub mod Rows
 pub mod Scripts
 pub mod Spelled
 pub mod Words

@@ -20,9 +20,14 @@ mod lines;
 mod numbers;
 mod paths;
 mod reading;
+mod rows;
 mod scripts;
 
 pub use faults::ScriptFault;
 pub use laws::{paths_are_spelled, scripts_are_spelled, scripts_are_within_limits};
 pub use numbers::read_number;
+pub use rows::{
+    calls_in_rows, data_in_rows, flags_in_rows, handles_in_rows, headings_in_rows, limits_in_rows,
+    lines_in_rows, numbers_in_rows, paths_in_rows,
+};
 pub use scripts::read_script;

@@ -25,7 +25,7 @@ digit_bounds b h = let parts = and_parts (nat_le 48 b) (nat_le b 57) h in (leb-t
 digit_value-digit : (b : ℕ) → 48 ≤ b → b ≤ 57 → digit_value b ≡ b - 48
 digit_value-digit b low high = rw (le-ltb b 48 low, lt-ltb b 58 (omega arith)) refl
 
-own : IsNumeralModel (λ word. all_ascii_digits word ≡ true) (digits_value 10)
+pub own : IsNumeralModel (λ word. all_ascii_digits word ≡ true) (digits_value 10)
 own = numerals_by_value _ tells_all_ascii_digits
 
 pub value_small : (word : List ℕ) → list_all is_ascii_digit word ≡ true → length word ≤ 18 → digits_value 10 word < 10 ^ 18

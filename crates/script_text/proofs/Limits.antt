@@ -1,5 +1,5 @@
 -- A script without a bad line is within the limits.
-use Rattle.std.proofs.Common.{◌≡◌, ℕ, zero, suc, ◌+◌, ◌<◌, ◌≤◌, List, [], ◌∷◌, ◌++◌, length, get_or, take, refl, ◌∙◌, ap, arith, Bool, true, false, cond, sym, Some, None, inl, inr, Option, zero-add}
+use Rattle.std.proofs.Common.{◌≡◌, ℕ, zero, suc, ◌+◌, ◌<◌, ◌≤◌, List, [], ◌∷◌, ◌++◌, length, get_or, take, refl, arith, Bool, true, false, cond, Some, None, inl, inr, Option}
 use Rattle.std.specs.Prelude.{count_by, nat_lt, sum_by}
 use Rattle.std.proofs.lemmas.Bool.{cases_Bool, leb-false}
 use Rattle.std.proofs.Math.Seq.{take-suc}
@@ -8,8 +8,8 @@ use Rattle.std.proofs.lemmas.List.Sums.{sum_by-cons}
 use Rattle.posix_types.specs.declared.call.Call.{Call}
 use Rattle.script_text.specs.declared.kinds.Kind.{Kind}
 use Rattle.script_text.specs.declared.kinds.Kind.TheVariants.{Calls, Passed, SetUp, Thread, Unread}
-use Rattle.script_text.specs.Laws.{call_count, IsWithinLimits}
-use Rattle.script_text.specs.Scripts.{all_threads, bad_line, begins_with_call, breaks, breaks_at, calls_before, calls_in, first_bad, is_call, is_thread, kinds_of, longest_script, most_calls, most_threads, scripts_in, scripts_of, set_up_of, threads_in, threads_of}
+use Rattle.script_text.specs.Laws.{IsWithinLimits}
+use Rattle.script_text.specs.Scripts.{all_threads, bad_line, begins_with_call, breaks, breaks_at, calls_before, calls_in, first_bad, is_call, is_thread, kinds_of, longest_script, scripts_in, scripts_of, set_up_of, threads_in, threads_of}
 use Rattle.script_text.proofs.Counts.{calls_in-call, calls_in-other, is_some_line, no_threads, threads_in-call, threads_in-first_call, threads_in-other}
 use Rattle.script_text.proofs.FirstBad.{none_bad}
 

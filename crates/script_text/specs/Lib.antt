@@ -7,3 +7,4 @@ pub mod Rows
 pub mod Scripts
 pub mod Spelled
 pub mod Words
+pub mod Written

@@ -2,7 +2,7 @@
 use Rattle.std.specs.Prelude.{◌≡◌, [], ◌∷◌, ◌++◌, codes, replicate, true, false, Some, None, pos, negsuc, is_some}
 use Rattle.posix_types.specs.declared.call.Call.{Call}
 use Rattle.posix_types.specs.declared.handle.Whence.{Whence}
-use Rattle.script_text.specs.declared.kinds.Kind.TheVariants.{Calls, Passed, SetUp, Thread, Unread}
+use Rattle.script_text.specs.declared.kinds.Kind.TheVariants.{Calls, Passed, SetUp, Thread}
 use Rattle.script_text.specs.Calls.{call_in}
 use Rattle.script_text.specs.Lines.{words_of}
 use Rattle.script_text.specs.Scripts.{bad_line, breaks, first_bad, scripts_in, scripts_of}

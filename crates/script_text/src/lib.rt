@@ -22,9 +22,13 @@ mod paths;
 mod reading;
 mod rows;
 mod scripts;
+#[cfg(test)]
+mod tests;
 
 pub use faults::ScriptFault;
-pub use laws::{paths_are_spelled, scripts_are_spelled, scripts_are_within_limits};
+pub use laws::{
+    calls_are_read_back, paths_are_spelled, scripts_are_spelled, scripts_are_within_limits,
+};
 pub use numbers::read_number;
 pub use rows::{
     calls_in_rows, data_in_rows, flags_in_rows, handles_in_rows, headings_in_rows, limits_in_rows,

@@ -1,0 +1,10 @@
+pub mod Calls
+pub mod Faults
+pub mod Laws
+pub mod Lines
+pub mod Reached
+pub mod Rows
+pub mod Scripts
+pub mod Spelled
+pub mod Words
+pub mod Written

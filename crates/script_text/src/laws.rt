@@ -1,0 +1,23 @@
+//! Laws of scripts, for the layer that runs them.
+ghost use Rattle.script_text.specs.Laws.{PathsAreSpelled, ScriptsAreSpelled, ScriptsAreWithinLimits};
+ghost use Rattle.script_text.specs.Written.{CallsAreReadBack};
+
+/// The names of a path that a word spells are spelled.
+pub fn paths_are_spelled()
+    ensures { PathsAreSpelled }
+{}
+
+/// All paths of the calls of a script are spelled.
+pub fn scripts_are_spelled()
+    ensures { ScriptsAreSpelled }
+{}
+
+/// A script without a bad line has at most 8 threads and 4,096 calls, those of the set-up counted.
+pub fn scripts_are_within_limits()
+    ensures { ScriptsAreWithinLimits }
+{}
+
+/// What a call is printed as is read as that call, where its parts are such as a script can have.
+pub fn calls_are_read_back()
+    ensures { CallsAreReadBack }
+{}

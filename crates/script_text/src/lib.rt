@@ -1,0 +1,37 @@
+//! The grammar of scripts: from the bytes of a script to the calls of its set-up and its threads.
+//!
+//! `read_script` gives the scripts of a text, or the first line that breaks the grammar or a limit,
+//! counted from 1, and 0 for a text of too many bytes: exactly as `specs/Scripts.antt` says. A line
+//! is words between blanks (`Lines.antt`), its first word names a call (`Calls.antt`), and the others
+//! spell its parts (`Words.antt`). `known_words` is the table of the words that the program runs by
+//! now; a line with another one is a bad line.
+//!
+//! Stands on `posix_types`, `path_spelling` and, for the spelling of flags, `report_text`.
+#![tactic(auto)]
+
+mod calls;
+mod cuts;
+mod data;
+mod faults;
+mod handles;
+mod kinds;
+mod laws;
+mod lines;
+mod numbers;
+mod paths;
+mod reading;
+mod rows;
+mod scripts;
+#[cfg(test)]
+mod tests;
+
+pub use faults::ScriptFault;
+pub use laws::{
+    calls_are_read_back, paths_are_spelled, scripts_are_spelled, scripts_are_within_limits,
+};
+pub use numbers::read_number;
+pub use rows::{
+    calls_in_rows, data_in_rows, flags_in_rows, handles_in_rows, headings_in_rows, limits_in_rows,
+    lines_in_rows, numbers_in_rows, paths_in_rows,
+};
+pub use scripts::read_script;

@@ -1,12 +1,11 @@
 //! The words of the command line.
-ghost use Rattle.std.specs.Prelude.{◌≡◌, ◌<◌, ◌≤◌, ◌^◌, length, slice_index, List, ℕ, Option, map, option_map, IfOk};
-ghost use Rattle.std.specs.List.{list_all};
-ghost use Rattle.std.specs.Char.{is_ascii_digit};
+ghost use Rattle.std.specs.Prelude.{◌≡◌, map, option_map};
 ghost use Rattle.std.specs.String.{string_bytes};
-ghost use Rattle.command_words.specs.Command.{command_of, with_options, with_choice, number_of, choice_of, is_number};
+ghost use Rattle.command_words.specs.Command.{command_of, with_options, with_choice, choice_of};
 ghost use Rattle.command_words.specs.Seen.{seen};
 
 use pm_lines::Choice;
+use script_text::read_number;
 
 /// A command that was read: the place of the script's name among the words, and the options.
 #[derive(Drop)]
@@ -14,34 +13,6 @@ pub struct Command<'a> {
     pub script: &'a String,
     pub stop: Option<u64>,
     pub choice: Choice,
-}
-
-/// Whether all bytes are decimal digits.
-fn are_digits(word: &[u8]) -> bool
-    ensures { result ≡ list_all is_ascii_digit word.now }
-{
-    word.iter().all(|byte| byte.is_ascii_digit())
-}
-
-/// Whether a word is a number: 1 to 18 digits, of which the first is 0 only where it is the only one.
-fn is_number(word: &[u8]) -> bool
-    ensures { result ≡ is_number word.now }
-{
-    if !are_digits(word) || word.is_empty() || word.len() > 18 {
-        return false;
-    }
-    word.len() == 1 || word[0] != b'0'
-}
-
-/// The number that a word is, if it is one.
-fn number(word: &str) -> Option<u64>
-    ensures { result ≡ number_of word.now }
-{
-    if is_number(word.as_bytes()) {
-        word.parse::<u64>().ok()
-    } else {
-        None
-    }
 }
 
 /// Which candidates a power loss leaves, by its word.
@@ -88,7 +59,7 @@ fn with_options<'a>(script: &'a String, words: &[String]) -> Option<Command<'a>>
     if words.len() < 2 || words[0].as_str() != "stop" {
         return with_choice(script, None, words);
     }
-    let steps = number(words[1].as_str())?;
+    let steps = read_number(words[1].as_bytes())?;
     with_choice(script, Some(steps), &words[2..])
 }
 

@@ -5,7 +5,7 @@
 //! and which candidates of words that are not durable it leaves (`choose C`). The layer above may rely on nothing
 //! else: words that are no command are none of any part.
 //!
-//! Stands on `pm_lines`, whose choices the words name, and on `disk_places`.
+//! Stands on `pm_lines`, whose choices the words name, and on `script_text`, whose numbers they spell.
 #![tactic(auto)]
 
 mod commands;

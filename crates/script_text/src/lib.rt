@@ -6,7 +6,11 @@
 //! spell its parts (`Words.antt`). `known_words` is the table of the words that the program runs by
 //! now; a line with another one is a bad line.
 //!
-//! Stands on `posix_types`, `path_spelling` and, for the spelling of flags, `report_text`.
+//! The layer above may rely on this: all paths of a script's calls are spelled, there are at most 8
+//! threads and 4,096 calls, and what a call is printed as is read as that call (`laws`).
+//!
+//! Stands on `posix_types`, on `path_spelling` and `disk_lines` for the bytes of names, on
+//! `disk_places` for equal bytes, and on `report_text` for the texts of flags and calls.
 #![tactic(auto)]
 
 mod calls;

@@ -31,7 +31,8 @@ mod tests;
 
 pub use faults::ScriptFault;
 pub use laws::{
-    calls_are_read_back, paths_are_spelled, scripts_are_spelled, scripts_are_within_limits,
+    calls_are_read_back, lines_are_cut, paths_are_spelled, scripts_are_spelled,
+    scripts_are_within_limits,
 };
 pub use numbers::read_number;
 pub use rows::{

@@ -7,6 +7,7 @@ pub mod Ends
 pub mod FirstBad
 pub mod FlagsBack
 pub mod Limits
+pub mod LinesCut
 pub mod LinesRead
 pub mod Lists
 pub mod Pairs

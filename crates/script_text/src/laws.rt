@@ -1,5 +1,5 @@
 //! Laws of scripts, for the layer that runs them.
-ghost use Rattle.script_text.specs.Laws.{PathsAreSpelled, ScriptsAreSpelled, ScriptsAreWithinLimits};
+ghost use Rattle.script_text.specs.Laws.{LinesAreCut, PathsAreSpelled, ScriptsAreSpelled, ScriptsAreWithinLimits};
 ghost use Rattle.script_text.specs.Written.{CallsAreReadBack};
 
 /// The names of a path that a word spells are spelled.
@@ -20,4 +20,9 @@ pub fn scripts_are_within_limits()
 /// What a call is printed as is read as that call, where its parts are such as a script can have.
 pub fn calls_are_read_back()
     ensures { CallsAreReadBack }
+{}
+
+/// The lines of a script, joined by their ends, are its bytes; they are cut at each byte 10.
+pub fn lines_are_cut()
+    ensures { LinesAreCut }
 {}

@@ -6,7 +6,11 @@
 //! spell its parts (`Words.antt`). `known_words` is the table of the words that the program runs by
 //! now; a line with another one is a bad line.
 //!
-//! Stands on `posix_types`, `path_spelling` and, for the spelling of flags, `report_text`.
+//! The layer above may rely on this: all paths of a script's calls are spelled, there are at most 8
+//! threads and 4,096 calls, and what a call is printed as is read as that call (`laws`).
+//!
+//! Stands on `posix_types`, on `path_spelling` and `disk_lines` for the bytes of names, on
+//! `disk_places` for equal bytes, and on `report_text` for the texts of flags and calls.
 #![tactic(auto)]
 
 mod calls;
@@ -27,7 +31,8 @@ mod tests;
 
 pub use faults::ScriptFault;
 pub use laws::{
-    calls_are_read_back, paths_are_spelled, scripts_are_spelled, scripts_are_within_limits,
+    calls_are_read_back, lines_are_cut, paths_are_spelled, scripts_are_spelled,
+    scripts_are_within_limits,
 };
 pub use numbers::read_number;
 pub use rows::{

@@ -5,3 +5,4 @@ pub mod Landed
 pub mod Looks
 pub mod Names
 pub mod Order
+pub mod Parents

@@ -21,6 +21,7 @@ mod laws;
 mod looks;
 mod making;
 mod opening;
+mod parents;
 mod removing;
 mod renaming;
 mod state;

@@ -1,0 +1,8 @@
+mod Empty
+mod Running
+mod NameCalls
+mod Halves
+mod Paths
+mod OpenCalls
+mod OpenEnds
+mod CloseCalls

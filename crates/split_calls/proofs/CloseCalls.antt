@@ -1,17 +1,16 @@
 -- `close`: the handle goes, and with its last descriptor a file that has no name.
-use Rattle.std.specs.Prelude.{◌≡◌, ◌≢◌, ◌⊎◌, ◌≤◌, ◌<◌, ◌+◌, ◌^◌, ℕ, zero, suc, Bool, true, false, List, [], ◌∷◌, length, Option, Some, None, is_none, option_map, slice_set, Result, Ok, Err, refl}
+use Rattle.std.specs.Prelude.{◌≡◌, ◌≢◌, ◌⊎◌, ◌<◌, ◌+◌, ℕ, zero, suc, true, false, List, [], ◌∷◌, Option, Some, None, is_none, option_map, slice_set, Ok, refl}
 use Rattle.std.specs.Option.{option_map_or}
 use Rattle.std.proofs.Common.{arith, ap, ◌∙◌, sym, subst, inl, inr}
 use Rattle.pm_words.specs.Images.{words_of}
 use Rattle.pm_words.specs.Powers.{is_on, Supply}
-use Rattle.pm_words.specs.Words.{Words}
 use Rattle.disk_places.specs.Journal.{journaled}
 use Rattle.disk_places.specs.Places.{Geometry}
 use Rattle.disk_lines.specs.declared.Kind.TheVariants.{File}
 use Rattle.disk_lines.specs.Names.{is_child, names_of, row as row_at}
 use Rattle.disk_lines.specs.TableLaws.{is_child-parts}
 use Rattle.disk_rules.specs.Live.{is_directory}
-use Rattle.disk_rules.specs.Volume.{inode, Volume}
+use Rattle.disk_rules.specs.Volume.{inode}
 use Rattle.volume_facts.specs.Lists.{count_by-some}
 use Rattle.volume_changes.specs.Changes.{MayDrop}
 use Rattle.k_rules.specs.View.{View}
@@ -33,7 +32,7 @@ use Rattle.posix_frames.specs.Bystanders.{is_open-Opens}
 use Rattle.posix_frames.specs.Handles.{Opens-opened}
 use Rattle.posix_spec.specs.FileRows.{close_rows, file_number}
 use Rattle.posix_spec.specs.Run.{after_call}
-use Rattle.posix_spec.specs.State.{alone, State, swept, with_node, with_published}
+use Rattle.posix_spec.specs.State.{alone, State, swept, with_published}
 use Rattle.posix_spec.specs.Step.{close_done, step, stepped}
 use Rattle.posix_spec.specs.Tree.{tree}
 use Rattle.world_rules.specs.Stands.{is_used, IsUsed, number}
@@ -45,7 +44,7 @@ use Rattle.world_names.specs.RemoveCalls.{swept-gone}
 use Rattle.world_steps.specs.Nameless.{count-nameless, is_named-nameless, named-row}
 use Rattle.world_steps.specs.Worlds.{IsWorld}
 use Rattle.world_exits.specs.Ends.{not_root_number}
-use Rattle.split_calls.specs.Answers.{Answers, ComesHalfWay, IsEnded, IsHalfWay, IsReplyOf, IsSpent}
+use Rattle.split_calls.specs.Answers.{ComesHalfWay, IsEnded, IsReplyOf, IsSpent}
 use Rattle.split_calls.specs.Runs.{RunsAs}
 use Rattle.split_calls.specs.declared.outcomes.Told.{Told}
 use Rattle.split_calls.proofs.Empty.{empty_call, swept_entries, swept_tables}

@@ -1,12 +1,9 @@
 -- No call that is built writes: no file gets bytes. And what calls do to entries and tables.
 use Rattle.std.specs.Prelude.{◌≡◌, ◌||◌, ◌++◌, ℕ, zero, suc, Bool, true, false, cond, List, [], ◌∷◌, slice_set, refl, if◌then◌else◌}
-use Rattle.std.proofs.Common.{ap, ◌∙◌, sym, subst}
 use Rattle.posix_types.specs.declared.call.Call.{Call}
 use Rattle.posix_types.specs.declared.call.Who.{Who}
-use Rattle.posix_types.specs.declared.handle.Flags.{Flags}
-use Rattle.posix_types.specs.declared.handle.Handle.{Handle}
 use Rattle.posix_words.specs.declared.nodes.Node.{Node}
-use Rattle.posix_words.specs.NameRows.{list_rows, mkdir_rows, open_rows, rename_rows, rmdir_rows, stat_rows, unlink_rows}
+use Rattle.posix_words.specs.NameRows.{mkdir_rows, open_rows, rename_rows, rmdir_rows, stat_rows, unlink_rows}
 use Rattle.posix_words.specs.Names.{directory_stands, exists_at, file_stands, is_named, number_at}
 use Rattle.posix_words.specs.Nodes.{bytes_of, node_at, published_node}
 use Rattle.posix_words.specs.Open.{closed, is_full, is_open}

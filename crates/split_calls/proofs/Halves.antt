@@ -1,13 +1,10 @@
 -- Calls of two changes: a file loses its name, or its last descriptor; then it goes, where it has neither.
-use Rattle.std.specs.Prelude.{◌≡◌, ◌≢◌, ◌⊎◌, ◌≤◌, ◌<◌, ◌+◌, ◌^◌, ℕ, Bool, true, false, List, [], ◌∷◌, length, Option, Some, None, Result, Ok, Err, refl}
+use Rattle.std.specs.Prelude.{◌≡◌, ◌≢◌, ◌⊎◌, ◌+◌, ℕ, true, false, List, [], ◌∷◌, Option, Some, None, Result, Ok, Err, refl}
 use Rattle.std.proofs.Common.{arith, ap, ◌∙◌, sym, subst, inl, inr}
-use Rattle.pm_words.specs.Images.{words_of}
 use Rattle.pm_words.specs.Powers.{is_on, Steps, Supply}
-use Rattle.disk_places.specs.Journal.{journaled}
 use Rattle.disk_places.specs.Places.{Geometry}
 use Rattle.disk_lines.specs.declared.Kind.TheVariants.{File}
 use Rattle.disk_rules.specs.Volume.{inode, Volume}
-use Rattle.volume_changes.specs.Changes.{MayDrop}
 use Rattle.volume_changes.specs.FrameLaws.{dropped-others}
 use Rattle.k_journal.specs.Commits.{TakesAStep}
 use Rattle.k_plans.specs.Removing.{IsUnlinked}
@@ -15,9 +12,9 @@ use Rattle.k_plans.specs.Renaming.{IsRenamed}
 use Rattle.k_rules.specs.Changes.{dropped}
 use Rattle.k_rules.specs.View.{View}
 use Rattle.k_split.specs.declared.faults.KFault.{KFault}
-use Rattle.k_split.specs.Answers.{IsAnswer, IsCut, IsDone, IsOff, IsPaid}
-use Rattle.k_split.specs.Names.{IsDropAnswer, IsIdle, IsRenameAnswer, IsUnlinkAnswer, rename_row, unlink_row}
-use Rattle.open_numbers.specs.Numbered.{IsTold, numbered_as}
+use Rattle.k_split.specs.Answers.{IsAnswer, IsPaid}
+use Rattle.k_split.specs.Names.{IsDropAnswer, IsRenameAnswer, IsUnlinkAnswer, rename_row, unlink_row}
+use Rattle.open_numbers.specs.Numbered.{IsTold}
 use Rattle.open_numbers.proofs.Lookups.{same_open}
 use Rattle.path_spelling.specs.Spelling.{AreSpelled}
 use Rattle.posix_types.specs.declared.call.Call.{Call}
@@ -30,10 +27,9 @@ use Rattle.posix_types.specs.declared.reply.Reply.{Reply}
 use Rattle.posix_words.specs.Open.{is_open, Tables}
 use Rattle.posix_words.specs.Outcomes.{answer}
 use Rattle.posix_spec.specs.Run.{after_call, run}
-use Rattle.posix_spec.specs.State.{alone, State, swept, unnamed as unnamed_state}
-use Rattle.posix_spec.specs.Step.{renamed as renamed_state, step}
+use Rattle.posix_spec.specs.State.{State, unnamed as unnamed_state}
 use Rattle.posix_spec.specs.Tree.{tree}
-use Rattle.world_rules.specs.Stands.{is_used, IsUsed, number}
+use Rattle.world_rules.specs.Stands.{is_used, number}
 use Rattle.world_images.specs.Promised.{KeepsPromise}
 use Rattle.world_images.specs.Running.{promise_between}
 use Rattle.world_names.specs.RemoveCalls.{swept-open}
@@ -42,12 +38,12 @@ use Rattle.world_exits.specs.Ends.{renames_over_file, tree_of_rename, tree_of_un
 use Rattle.world_exits.specs.Going.{IsStep, moved_so_far}
 use Rattle.world_exits.specs.Moves.{steps_rename}
 use Rattle.world_exits.specs.Steps.{state_unlink, steps_dropped, steps_unlinked, unlinks_file, valid_now}
-use Rattle.split_calls.specs.Answers.{Answers, ComesHalfWay, IsEnded, IsHalfWay, IsReplyOf, IsSpent, Loses, told_of}
+use Rattle.split_calls.specs.Answers.{ComesHalfWay, IsEnded, IsHalfWay, IsReplyOf, IsSpent, told_of}
 use Rattle.split_calls.specs.Runs.{HasNoBytes, RunsAs}
 use Rattle.split_calls.specs.declared.outcomes.Told.{Told}
 use Rattle.split_calls.proofs.Empty.{empty_swept, swept_tables}
 use Rattle.split_calls.proofs.NameCalls.{files_renamed, reply_ok, took}
-use Rattle.split_calls.proofs.Running.{CutsInto, fault_ended, loses_cut, row_refuses, runs_on}
+use Rattle.split_calls.proofs.Running.{fault_ended, loses_cut, row_refuses, runs_on}
 
 -- the file is open in the state exactly where it is in the open files
 pub open_there : (g : Geometry) (k : View) (t : Tables) (n : ℕ) (s : State) (runs : RunsAs g k t n s) (ino : ℕ) → (inode k.volume ino).kind ≡ File

@@ -1,5 +1,5 @@
 -- `mkdir` and `rmdir`, and the first changes of `unlink` and `rename`.
-use Rattle.std.specs.Prelude.{◌≡◌, ◌≢◌, ◌⊎◌, ◌≤◌, ◌<◌, ◌+◌, ◌^◌, ℕ, Bool, true, false, List, [], ◌∷◌, length, Option, Some, None, Result, Ok, Err, refl, if◌then◌else◌}
+use Rattle.std.specs.Prelude.{◌≡◌, ◌≢◌, ◌<◌, ◌+◌, ◌^◌, ℕ, Bool, true, false, List, [], length, Option, Some, None, Result, Ok, Err, refl, if◌then◌else◌}
 use Rattle.std.proofs.Common.{arith, ap, ◌∙◌, sym, subst, inl, inr}
 use Rattle.pm_words.specs.Powers.{is_on, Supply}
 use Rattle.disk_places.specs.Places.{Geometry}
@@ -21,7 +21,7 @@ use Rattle.k_rules.specs.View.{View}
 use Rattle.k_tables.specs.declared.removing.Entry.{Entry}
 use Rattle.path_spelling.specs.Spelling.{AreSpelled}
 use Rattle.k_split.specs.declared.faults.KFault.{KFault}
-use Rattle.k_split.specs.Answers.{IsAnswer, IsCut, IsDone, IsPaid}
+use Rattle.k_split.specs.Answers.{IsAnswer, IsPaid}
 use Rattle.k_split.specs.Names.{IsIdle, IsMakeAnswer, IsRenameAnswer, IsRmdirAnswer, make_row, rename_row, rmdir_row}
 use Rattle.open_numbers.specs.Numbered.{numbered_as}
 use Rattle.open_numbers.proofs.Lookups.{same_where_open}
@@ -40,8 +40,7 @@ use Rattle.world_exits.specs.Ends.{done_by_row}
 use Rattle.world_exits.specs.Going.{IsNameCall, row_of_call}
 use Rattle.world_exits.specs.Moves.{steps_rename}
 use Rattle.world_exits.specs.Steps.{steps_mkdir, steps_rmdir}
-use Rattle.split_calls.specs.Answers.{Answers, IsEnded, IsSpent, Loses, told_of}
-use Rattle.split_calls.specs.Built.{IsBuilt}
+use Rattle.split_calls.specs.Answers.{Answers, IsEnded, told_of}
 use Rattle.split_calls.specs.Runs.{RunsAs}
 use Rattle.split_calls.specs.declared.outcomes.Told.{Told}
 use Rattle.split_calls.proofs.Empty.{empty_call, tables_mkdir, tables_rename, tables_rmdir}

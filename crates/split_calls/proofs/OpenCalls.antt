@@ -1,5 +1,5 @@
 -- `open`, `dup` and `stat`.
-use Rattle.std.specs.Prelude.{◌≡◌, ◌≢◌, ◌⊎◌, ◌≤◌, ◌<◌, ◌+◌, ◌^◌, ◌&&◌, not, ℕ, zero, suc, Bool, true, false, cond, List, [], ◌∷◌, length, Option, Some, None, IsSome, is_none, is_some, option_map, unwrap_or, slice_set, Result, Ok, Err, refl, if◌then◌else◌}
+use Rattle.std.specs.Prelude.{◌≡◌, ◌⊎◌, ◌<◌, ◌+◌, ◌^◌, ℕ, zero, suc, Bool, true, false, List, [], ◌∷◌, length, Option, Some, None, IsSome, is_none, is_some, option_map, unwrap_or, slice_set, Result, Ok, Err, refl, if◌then◌else◌}
 use Rattle.std.proofs.Common.{arith, ap, ◌∙◌, sym, subst, inl, inr}
 use Rattle.std.proofs.lemmas.List.{length-set}
 use Rattle.pm_words.specs.Images.{words_of}
@@ -8,21 +8,18 @@ use Rattle.pm_words.specs.Words.{Words}
 use Rattle.disk_places.specs.Journal.{journaled}
 use Rattle.disk_places.specs.Places.{Geometry}
 use Rattle.disk_lines.specs.declared.Draft.{Draft}
-use Rattle.disk_lines.specs.declared.Inode.{Inode}
 use Rattle.disk_lines.specs.declared.Kind.{Kind}
 use Rattle.disk_lines.specs.declared.Kind.TheVariants.{Directory, File, Free, Staging}
-use Rattle.disk_rules.specs.Live.{is_directory}
 use Rattle.disk_rules.specs.Volume.{inode, Volume}
 use Rattle.volume_changes.specs.CallLaws.{row_to}
 use Rattle.volume_changes.specs.FoundLaws.{free-found}
 use Rattle.volume_changes.specs.FrameLaws.{made-inode}
 use Rattle.k_plans.specs.Making.{IsMade}
-use Rattle.k_rules.specs.Changes.{made}
-use Rattle.k_rules.specs.Spaces.{is_directory_in, volume_space}
+use Rattle.k_rules.specs.Spaces.{volume_space}
 use Rattle.k_rules.specs.View.{View}
 use Rattle.path_spelling.specs.Spelling.{AreSpelled}
 use Rattle.k_split.specs.declared.faults.KFault.{KFault}
-use Rattle.k_split.specs.Answers.{IsAnswer, IsCut, IsDone, IsPaid}
+use Rattle.k_split.specs.Answers.{IsPaid}
 use Rattle.k_split.specs.Looks.{IsFound}
 use Rattle.k_split.specs.Names.{IsMakeAnswer, make_row}
 use Rattle.open_numbers.specs.Numbered.{described_as, numbered_as}
@@ -38,12 +35,11 @@ use Rattle.posix_types.specs.declared.reply.Reply.{Reply}
 use Rattle.posix_types.specs.declared.reply.Stat.{Stat}
 use Rattle.posix_words.specs.declared.nodes.Node.{Node}
 use Rattle.posix_words.specs.declared.open.Description.{Description}
-use Rattle.posix_words.specs.NameRows.{open_rows, stat_rows}
+use Rattle.posix_words.specs.NameRows.{open_rows}
 use Rattle.posix_words.specs.Names.{exists_at, node_at_path, number_at}
 use Rattle.posix_words.specs.Nodes.{bytes_of, node_at}
 use Rattle.posix_words.specs.Open.{free_descriptor, is_full, is_open, key_of, next_descriptor, opened, Tables, with_descriptor, with_opened}
 use Rattle.posix_words.specs.Outcomes.{answer, first, row}
-use Rattle.posix_facts.specs.RowLaws.{stepped-keeps}
 use Rattle.posix_spec.specs.FileRows.{dup_rows}
 use Rattle.posix_spec.specs.Run.{after_call}
 use Rattle.posix_spec.specs.State.{alone, made as made_state, space, State, with_node}
@@ -52,20 +48,20 @@ use Rattle.world_rules.specs.Stands.{is_used, IsUsed, NodeStands, number}
 use Rattle.world_rules.specs.Jobs.{live_claims}
 use Rattle.world_images.specs.Settings.{keeps_setting}
 use Rattle.world_names.specs.OtherCalls.{IsWorld-idle, IsWorld-same, SameShown}
-use Rattle.world_spaces.specs.Mirrors.{exists-same, Mirrors, node_at_path-same, number_at-same}
+use Rattle.world_spaces.specs.Mirrors.{exists-same, Mirrors, number_at-same}
 use Rattle.world_spaces.specs.Rows.{HaveSameRows, HaveSameRows-Mirrors}
 use Rattle.world_steps.specs.Makers.{renumbered, renumbered-own}
 use Rattle.world_steps.specs.Steps.{GoOn-call, shown_node}
 use Rattle.world_steps.specs.Worlds.{IsWorld, world_mirror}
 use Rattle.world_exits.specs.Going.{IsStep}
-use Rattle.world_exits.specs.Steps.{plain_file, steps_opened, valid_now}
-use Rattle.split_calls.specs.Answers.{Answers, IsEnded, IsMissing, IsSpent, Loses, stat_by, told_of, told_of_open}
+use Rattle.world_exits.specs.Steps.{steps_opened, valid_now}
+use Rattle.split_calls.specs.Answers.{Answers, IsEnded, IsMissing, stat_by, told_of}
 use Rattle.split_calls.specs.Runs.{RunsAs}
 use Rattle.split_calls.specs.declared.outcomes.Told.{Told}
 use Rattle.split_calls.proofs.Empty.{empty_call}
 use Rattle.split_calls.proofs.NameCalls.{files_made, tables_renumbered, took}
-use Rattle.split_calls.proofs.Paths.{found_rows, open_made_rows, open_missing_rows, open_there_rows, used_at}
-use Rattle.split_calls.proofs.Running.{fault_ended, loses_cut, nothing_ended, runs_on, runs_still}
+use Rattle.split_calls.proofs.Paths.{open_made_rows, used_at}
+use Rattle.split_calls.proofs.Running.{fault_ended, loses_cut, runs_on, runs_still}
 
 -- ---- what runs says of the volume and the state
 

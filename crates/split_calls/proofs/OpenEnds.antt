@@ -1,6 +1,6 @@
 -- How `open`, `dup`, `close` and `stat` end, each answer.
-use Rattle.std.specs.Prelude.{◌≡◌, ◌≢◌, ◌⊎◌, ◌<◌, ◌&&◌, not, ℕ, Bool, true, false, List, [], ◌∷◌, Option, Some, None, IsSome, is_none, Result, Ok, Err, refl, if◌then◌else◌}
-use Rattle.std.proofs.Common.{ap, ◌∙◌, sym, subst, inl, inr}
+use Rattle.std.specs.Prelude.{◌≡◌, ◌&&◌, not, ℕ, Bool, true, false, List, [], ◌∷◌, Some, None, is_none, Ok, Err, refl, if◌then◌else◌}
+use Rattle.std.proofs.Common.{ap, ◌∙◌, sym, subst}
 use Rattle.pm_words.specs.Powers.{is_on, Supply}
 use Rattle.disk_lines.specs.declared.Inode.{Inode}
 use Rattle.disk_lines.specs.declared.Kind.{Kind}
@@ -18,16 +18,15 @@ use Rattle.posix_types.specs.declared.call.Call.{Call}
 use Rattle.posix_types.specs.declared.call.Who.{Who}
 use Rattle.posix_types.specs.declared.handle.Flags.{Flags}
 use Rattle.posix_types.specs.declared.handle.Handle.{Handle}
-use Rattle.posix_types.specs.declared.item.Outcome.{Outcome}
 use Rattle.posix_types.specs.declared.reply.Errno.{Errno}
 use Rattle.posix_types.specs.declared.reply.Reply.{Reply}
 use Rattle.posix_types.specs.declared.reply.Stat.{Stat}
 use Rattle.posix_words.specs.NameRows.{no_line, no_node, open_rows}
-use Rattle.posix_words.specs.Open.{free_descriptor, is_full, opened, Tables, with_opened}
+use Rattle.posix_words.specs.Open.{free_descriptor, is_full, Tables, with_opened}
 use Rattle.posix_words.specs.Outcomes.{answer, first, row}
 use Rattle.world_exits.specs.Steps.{plain_file}
 use Rattle.split_calls.specs.Answers.{IsEnded, IsMissing, stat_by, told_of_open}
-use Rattle.split_calls.specs.Runs.{RunsAs, RunsInSome}
+use Rattle.split_calls.specs.Runs.{RunsInSome}
 use Rattle.split_calls.specs.declared.outcomes.Told.{Told}
 use Rattle.split_calls.proofs.OpenCalls.{dup_refused, known_dup, open_refused, opened_ended, opening_of, stat_found, stat_refused, unknown_dup, used_there}
 use Rattle.split_calls.proofs.Paths.{found_rows, missing, open_lost_rows, open_missing_rows, open_there_rows, parent_rows}

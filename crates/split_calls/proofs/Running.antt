@@ -1,5 +1,5 @@
 -- One change of K-Split in a call: done, refused, or cut off.
-use Rattle.std.specs.Prelude.{◌≡◌, ◌≢◌, ◌⊎◌, ◌≤◌, ◌<◌, ◌+◌, ◌^◌, ℕ, true, false, List, [], ◌∷◌, Option, Some, None, Result, Ok, Err, refl}
+use Rattle.std.specs.Prelude.{◌≡◌, ◌⊎◌, ◌≤◌, ◌<◌, ◌+◌, ◌^◌, ℕ, true, List, [], ◌∷◌, Option, Some, None, Result, Err, refl}
 use Rattle.std.proofs.Common.{arith, ap, ◌∙◌, sym, subst, inl, inr}
 use Rattle.pm_words.specs.Powers.{is_on, Supply}
 use Rattle.pm_words.specs.Words.{Words}
@@ -12,9 +12,7 @@ use Rattle.k_split.specs.declared.faults.KFault.{KFault}
 use Rattle.k_split.specs.Answers.{IsAnswer, IsCut, IsDone, IsOff, IsPaid}
 use Rattle.open_numbers.specs.Numbered.{numbered_as}
 use Rattle.posix_types.specs.declared.call.Call.{Call}
-use Rattle.posix_types.specs.declared.call.Mode.{Mode}
 use Rattle.posix_types.specs.declared.call.Who.{Who}
-use Rattle.posix_types.specs.declared.item.Item.{Item}
 use Rattle.posix_types.specs.declared.item.Outcome.{Outcome}
 use Rattle.posix_types.specs.declared.reply.Errno.{Errno}
 use Rattle.posix_types.specs.declared.reply.Reply.{Reply}
@@ -30,7 +28,7 @@ use Rattle.world_images.specs.Running.{promise_now, stays_running}
 use Rattle.world_steps.specs.Worlds.{IsWorld}
 use Rattle.world_exits.specs.Done.{goes_on, keeps_cut, keeps_off}
 use Rattle.world_exits.specs.Ends.{refused_by_row}
-use Rattle.world_exits.specs.Going.{IsGoing, IsNameCall, IsStep, row_of_call}
+use Rattle.world_exits.specs.Going.{IsNameCall, IsStep, row_of_call}
 use Rattle.split_calls.specs.Answers.{Answers, IsEnded, IsSpent, Loses, told_of}
 use Rattle.split_calls.specs.Runs.{HasNoBytes, RunsAs}
 

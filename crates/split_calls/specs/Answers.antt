@@ -1,5 +1,5 @@
 -- What a call over K-Split and the open files answers and leaves.
-use Rattle.std.specs.Prelude.{◌≡◌, ◌≢◌, ◌⊎◌, ◌<◌, ◌+◌, ◌^◌, ℕ, true, false, List, [], ◌∷◌, Option, Some, None, Result, Ok, Err}
+use Rattle.std.specs.Prelude.{◌≡◌, ◌≢◌, ◌⊎◌, ◌<◌, ◌+◌, ◌^◌, ℕ, true, false, List, [], ◌∷◌, Some, None, Result, Ok, Err}
 use Rattle.pm_words.specs.Powers.{is_on, Supply}
 use Rattle.disk_places.specs.Places.{Geometry}
 use Rattle.disk_lines.specs.declared.Kind.{Kind}
@@ -81,14 +81,14 @@ IsReplyOf who call k t o = (g : Geometry) (n : ℕ) (s : State) → RunsAs g k t
 abbrev pub told_of : KFault → Result Told NoMemory
 told_of (KFault.Refused errno) = Ok (Told.Answered (answer (Reply.Error errno)))
 told_of (KFault.Room room) = Ok (Told.Answered (record { reply = Reply.Error Errno.ENOSPC; room = Some room }))
-told_of KFault.NoMemory = Err (record { })
+told_of KFault.NoMemory = Err (record {})
 told_of KFault.PowerLost = Ok Told.PowerLost
 
 -- what a fault of the open files makes of a call
 abbrev pub told_of_open : OpenFault → Result Told NoMemory
 told_of_open (OpenFault.Full count) = Ok (Told.Answered (answer (Reply.Error Errno.EMFILE)))
 told_of_open OpenFault.NotOpen = Ok (Told.Answered (answer (Reply.Error Errno.EBADF)))
-told_of_open OpenFault.NoMemory = Err (record { })
+told_of_open OpenFault.NoMemory = Err (record {})
 
 -- what `stat` says of an inode of this kind and size
 abbrev pub stat_by : Kind → ℕ → Stat

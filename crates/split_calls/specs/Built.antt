@@ -1,5 +1,4 @@
 -- Which calls run by now, and how their paths are spelled.
-use Rattle.std.specs.Prelude.{ℕ, List}
 use Rattle.path_spelling.specs.Spelling.{AreSpelled}
 use Rattle.posix_types.specs.declared.call.Call.{Call}
 

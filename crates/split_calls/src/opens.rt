@@ -143,12 +143,7 @@ pub fn open(
 }
 
 /// Gives an open file another descriptor, bound to another handle. It takes no step.
-pub fn dup(
-    files: &mut OpenFiles,
-    who: Who,
-    handle: Handle,
-    to: Handle,
-) -> Result<Told, NoMemory>
+pub fn dup(files: &mut OpenFiles, who: Who, handle: Handle, to: Handle) -> Result<Told, NoMemory>
     ensures { (k : View) (power : Supply) → is_on power ≡ true
         → IsEnded who (Call.Dup handle to) k files.old.tables k files.new.tables power power
         result }

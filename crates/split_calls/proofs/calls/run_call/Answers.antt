@@ -1,4 +1,4 @@
-use Rattle.std.proofs.Common.{◌≡◌, sym, subst}
+use Rattle.std.proofs.Common.{sym, subst}
 use Rattle.std.specs.Prelude.{Ok}
 use Rattle.split_calls.specs.Answers.{IsEnded}
 use Rattle.split_calls.proofs.calls.run_call.Goals as goal

@@ -1,5 +1,5 @@
-use Rattle.std.proofs.Common.{◌≡◌, sym, subst, inr}
-use Rattle.std.specs.Prelude.{Ok, Some, None, Option, Result, ℕ}
+use Rattle.std.proofs.Common.{sym, subst, inr}
+use Rattle.std.specs.Prelude.{Ok, Some, Option, Result, ℕ}
 use Rattle.posix_types.specs.declared.call.Call.{Call}
 use Rattle.posix_types.specs.declared.call.Who.{Who}
 use Rattle.k_split.specs.declared.faults.KFault.{KFault}

@@ -1,12 +1,11 @@
 use Rattle.std.proofs.Common.{◌≡◌, ◌<◌, ℕ, Bool, sym, subst, ap, ◌∙◌, refl, inl, inr, arith}
-use Rattle.std.specs.Prelude.{Ok, None, true, false, option_map, IsTrue, ◌↔◌}
+use Rattle.std.specs.Prelude.{Ok, true, false, option_map, IsTrue, ◌↔◌}
 use Rattle.posix_types.specs.declared.call.Call.{Call}
 use Rattle.posix_types.specs.declared.reply.Errno.{Errno}
 use Rattle.posix_types.specs.declared.reply.Reply.{Reply}
 use Rattle.posix_words.specs.Outcomes.{answer}
 use Rattle.open_files.specs.Found.{description_in}
 use Rattle.split_calls.specs.Answers.{IsEnded}
-use Rattle.split_calls.specs.declared.outcomes.Told.{Told}
 use Rattle.split_calls.proofs.CloseCalls.{close_half, close_refused, close_replies, close_spent, close_stays, handle_open, may_drop}
 use Rattle.split_calls.proofs.Halves.{drop_fault, goes_lost, goes_too}
 use Rattle.split_calls.proofs.Running.{nothing_ended}

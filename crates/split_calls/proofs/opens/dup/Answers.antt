@@ -1,4 +1,4 @@
-use Rattle.std.proofs.Common.{◌≡◌, sym, subst, ap, ◌∙◌, refl}
+use Rattle.std.proofs.Common.{sym, subst, refl}
 use Rattle.std.specs.Prelude.{Ok}
 use Rattle.posix_types.specs.declared.call.Call.{Call}
 use Rattle.split_calls.specs.Answers.{IsEnded}

@@ -1,7 +1,7 @@
-use Rattle.std.proofs.Common.{◌≡◌, sym, subst, ap, ◌∙◌, refl}
-use Rattle.std.specs.Prelude.{Ok, true, false, Some}
+use Rattle.std.proofs.Common.{◌≡◌, sym, subst, ap, ◌∙◌}
+use Rattle.std.specs.Prelude.{Ok, Some}
 use Rattle.posix_types.specs.declared.call.Call.{Call}
-use Rattle.posix_words.specs.Open.{free_descriptor, is_full, Tables, with_opened}
+use Rattle.posix_words.specs.Open.{free_descriptor, with_opened}
 use Rattle.split_calls.specs.Answers.{IsEnded, told_of}
 use Rattle.split_calls.proofs.OpenCalls.{created_ended, created_fault, opening_of}
 use Rattle.split_calls.proofs.OpenEnds.{clear_flag, open_missing_full, open_missing_stays, set_flag}

@@ -5,20 +5,22 @@ use Rattle.posix_types.specs.declared.call.Mode.{Mode}
 use Rattle.posix_types.specs.declared.call.Who.{Who}
 use Rattle.posix_types.specs.declared.item.Item.{Item}
 use Rattle.posix_types.specs.declared.tree.TreeEntry.{TreeEntry}
+use Rattle.posix_types.specs.Scripts.{Scripts}
+use Rattle.posix_words.specs.declared.nodes.Node.{Node}
+use Rattle.posix_words.specs.Nodes.{node_at}
 use Rattle.posix_spec.specs.Run.{after_call, Begun, IsAnswered, IsLegal, run}
+use Rattle.posix_spec.specs.Scripted.{Scripted}
 use Rattle.posix_spec.specs.State.{State}
 use Rattle.posix_spec.specs.Tree.{tree}
+use Rattle.posix_spec.specs.Unfinished.{AreUnfinished}
 use Rattle.crash_spec.specs.Busy.{is_busy}
 use Rattle.crash_spec.specs.Machine.{Begins, Checkpoint, Goes, Machine, outs, Setting, state_of}
-use Rattle.crash_spec.specs.MachineLaws.{Follows}
-use Rattle.crash_spec.specs.OneThread.{on_one_thread}
 use Rattle.crash_spec.specs.Orders.{Order}
 use Rattle.crash_spec.specs.Permitted.{Permitted}
 use Rattle.crash_spec.specs.Posix.{Posix, StrongPosix, syncs}
 use Rattle.crash_spec.specs.Schedules.{Course, Reaches, Scheduled}
 use Rattle.crash_spec.specs.Strict.{Strict}
 use Rattle.crash_spec.specs.Sync.{IsPartOf, Sync}
-use Rattle.crash_spec.specs.Synced.{AllPublished}
 
 -- the tree of the history is permitted in each mode, whatever is unfinished
 abbrev pub HistoryIsPermitted : Type 0
@@ -53,6 +55,16 @@ NoneIsPart = (old whole : List ℕ) → length whole ≡ length old → IsPartOf
 abbrev pub StrongIsPosix : Type 0
 StrongIsPosix = (s : State) (history : List Item) (unfinished : List Begun) (left : List TreeEntry) → StrongPosix s history unfinished left → Posix s history unfinished left
 
+-- a file is published whole
+abbrev pub IsPublished : Node → Type 0
+IsPublished Node.Gone = Unit {0}
+IsPublished Node.Directory = Unit {0}
+IsPublished (Node.File file) = length file.bytes ≤ file.published
+
+-- each file of a state is
+abbrev pub AllPublished : State → Type 0
+AllPublished s = (n : ℕ) → IsPublished (node_at s.nodes n)
+
 -- in POSIX mode, a history that ends with an `fsync`, after which every file is published whole, leaves one tree where no
 -- call is unfinished
 abbrev pub SyncedIsOneTree : Type 0
@@ -64,10 +76,23 @@ SyncedIsOneTree =
 abbrev pub StaysLegal : Type 0
 StaysLegal = (s : State) (history : List Item) (item : Item) → IsLegal s history → IsAnswered (run s history) item → IsLegal s (history ++ item ∷ [])
 
+-- the history is legal and follows the scripts, and the unfinished calls are the next of their callers, one each
+pub record Follows (g : Setting) (history : List Item) (unfinished : List Begun) : Type 0 where
+  pub scripted : Scripted g.scripts history
+  pub legal : IsLegal g.start history
+  pub open_calls : AreUnfinished g.scripts history unfinished
+
 -- every schedule leaves a legal history that follows the scripts, and unfinished calls that are the next of their callers,
 -- one each
 abbrev pub SchedulesFollow : Type 0
 SchedulesFollow = (g : Setting) (order : Order) (events : ℕ) (history : List Item) (unfinished : List Begun) → Scheduled g order events history unfinished → Follows g history unfinished
+
+-- one thread, without a set-up
+abbrev pub one_script : List Call → Scripts
+one_script calls = record { setup = []; threads = calls ∷ [] }
+
+abbrev pub on_one_thread : State → List Call → ℕ → Setting
+on_one_thread start calls lines = record { start = start; scripts = one_script calls; lines = lines }
 
 -- a schedule of one thread that runs to its end gives the calls of its script, in their order
 abbrev pub OneThreadInOrder : Type 0

@@ -1,9 +1,9 @@
 pub mod RelationLaws
-pub mod Synced
-pub mod PosixLaws
 pub mod Laws
-pub mod MachineLaws
-pub mod OneThread
+pub mod ScheduleLaws
+pub mod ScheduleRows
+pub mod BusyRows
+pub mod ByteRows
 pub mod Orders
 pub mod Schedules
 pub mod Busy

@@ -11,7 +11,7 @@ use Rattle.disk_lines.specs.Entries.{is_draft}
 use Rattle.disk_lines.specs.EntryLaws.{FitsDraft}
 use Rattle.disk_lines.specs.Fresh.{empty_inode, fresh}
 use Rattle.disk_lines.specs.Lines.{encode_inode, decode_inode}
-use Rattle.disk_rules.specs.Broken.{HoldAll, Breaks}
+use Rattle.disk_rules.specs.Broken.{HoldAll, Breaks, FailsFirst}
 use Rattle.disk_rules.specs.Reading.{AreBytes}
 use Rattle.disk_rules.specs.Rules.{IsKindAt}
 use Rattle.image_facts.specs.KeptRules.{kept_rules}
@@ -19,7 +19,7 @@ use Rattle.image_damage.specs.Damage.{with_word, small, wide}
 use Rattle.image_damage.specs.EntryRows.{an_entry, twice_one_order, without_its_block}
 use Rattle.image_damage.specs.HeadDamage.{without_s, targets_line_5}
 use Rattle.image_damage.specs.LogDamage.{with_entry}
-use Rattle.image_damage.specs.MapDamage.{rooted_image}
+use Rattle.image_damage.specs.MapDamage.{extent_of, once, rooted_image, sharing}
 use Rattle.image_damage.specs.TreeImages.{tree_image, tree_volume}
 use Rattle.image_damage.specs.TreeRows.{named, ladder, steps_down}
 
@@ -116,6 +116,14 @@ IsSeventeenDeep = Breaks 262144 (tree_image wide (steps_down 17) (ladder 17)) 9 
 -- A root that leads to a block of zeros.
 abbrev pub HasNoChain : Type 0
 HasNoChain = (g : Geometry) → IsGeometry g → Breaks (4096 * g.blocks) (rooted_image g) 7 5
+
+-- A block that is named twice: by two files, and by the chain and an extent of one. (Of volumes, not of images: rule 8 asks
+-- nothing else.)
+abbrev pub HasBlockOfTwoFiles : Type 0
+HasBlockOfTwoFiles = FailsFirst (once (sharing ((8 ∷ []) ∷ (9 ∷ []) ∷ []) ((extent_of 10 3 ∷ []) ∷ (extent_of 12 2 ∷ []) ∷ []))) 12
+
+abbrev pub HasChainAmongItsBlocks : Type 0
+HasChainAmongItsBlocks = FailsFirst (once (sharing ((10 ∷ []) ∷ [] ∷ []) ((extent_of 10 1 ∷ []) ∷ [] ∷ []))) 10
 
 -- Entries: two of one order; one without its staging block; one of a later lap, at any slot, as number 5 in slot 0 of
 -- four.

@@ -1,7 +1,7 @@
 //! Damaged images, each with the rule of a checked image that it breaks first, and the place.
 //!
 //! Lemmas alone: a fresh image, or a small one with some files and directories, with one thing wrong, and
-//! the proof that this rule is the first that fails, at this place. They show that the definitions say
+//! the proof that this rule is the first that fails, at this place; for the rule on shared blocks, a volume. They show that the definitions say
 //! what is meant, and the tests of a check may take their expected answers from here. Most hold of every
 //! geometry in range.
 //!
@@ -9,7 +9,7 @@
 //! Stands on `image_facts` and what it stands on.
 #![tactic(auto)]
 
-ghost use Rattle.image_damage.specs.Laws.{IsOneByteShort, IsEmpty, HasNoMagic, IsOfVersion9, IsOneBlockMore, HasUnnamedWord, HasHiddenWord, HasRecordOfLine5, Has129Records, HasBase0, HasBasePast, HasWrongInode, HasFileAt1, HasStagingAt5, HasKind4, HasNoChild, HasParentPast, HasFreeChild, HasFileAsParent, HasOneNameTwice, HasRing, HasNamelessDirectory, HasTwoNames, HasTwoNamesOfAFile, MayBeSixteenDeep, IsSeventeenDeep, HasNoChain, HasOneOrderTwice, HasNoStagingBlock, HasLaterLap, HasNumber5};
+ghost use Rattle.image_damage.specs.Laws.{IsOneByteShort, IsEmpty, HasNoMagic, IsOfVersion9, IsOneBlockMore, HasUnnamedWord, HasHiddenWord, HasRecordOfLine5, Has129Records, HasBase0, HasBasePast, HasWrongInode, HasFileAt1, HasStagingAt5, HasKind4, HasNoChild, HasParentPast, HasFreeChild, HasFileAsParent, HasOneNameTwice, HasRing, HasNamelessDirectory, HasTwoNames, HasTwoNamesOfAFile, MayBeSixteenDeep, IsSeventeenDeep, HasNoChain, HasBlockOfTwoFiles, HasChainAmongItsBlocks, HasOneOrderTwice, HasNoStagingBlock, HasLaterLap, HasNumber5};
 
 /// Images of a wrong length.
 pub fn wrong_lengths()
@@ -60,6 +60,12 @@ pub fn wrong_names()
 pub fn deep_trees()
     ensures sixteen { MayBeSixteenDeep }
     ensures seventeen { IsSeventeenDeep }
+{}
+
+/// Volumes in which a block is named twice.
+pub fn wrong_owners()
+    ensures two_files { HasBlockOfTwoFiles }
+    ensures chain { HasChainAmongItsBlocks }
 {}
 
 /// Images with wrong entries in the log.

@@ -1,9 +1,9 @@
 -- Laws of plans that the layer above begins and ends with.
-use Rattle.std.specs.Prelude.{◌≡◌, ◌<◌, ℕ, List, [], ◌∷◌, length}
+use Rattle.std.specs.Prelude.{◌≡◌, ◌<◌, ℕ, List, [], ◌∷◌, length, All, true}
 use Rattle.pm_words.specs.declared.Cell.{Cell}
 use Rattle.disk_places.specs.Places.{Geometry}
 use Rattle.disk_rules.specs.Volume.{Volume}
-use Rattle.volume_facts.specs.Reading.{AreUnchained}
+use Rattle.volume_uses.specs.Uses.{is_unused}
 use Rattle.k_journal.specs.Commits.{MayCommit}
 use Rattle.k_journal.specs.declared.batches.Entry.{Entry}
 use Rattle.k_rules.specs.Stands.{Stands}
@@ -18,11 +18,11 @@ abbrev pub CanCommit : Type 0
 CanCommit =
     (g : Geometry) (news : List NewChain) (v w : Volume) (b : List Entry) (d : List Cell) → Stands g v d → Turns g news v w b → MayCommit g b d
 
--- where no chain has a block of one of the maps, none has one of all
-abbrev pub AreAllUnchained : Type 0
-AreAllUnchained =
-    (g : Geometry) (v : Volume) (news : List NewChain) → ((k : ℕ) → k < length news → AreUnchained g v (new_at news k).blocks)
-    → AreUnchained g v (blocks_of news)
+-- where no inode has a block of one of the maps, none has one of all
+abbrev pub AreAllUnused : Type 0
+AreAllUnused =
+    (v : Volume) (news : List NewChain) → ((k : ℕ) → k < length news → All (λ b. is_unused v b ≡ true) (new_at news k).blocks)
+    → All (λ b. is_unused v b ≡ true) (blocks_of news)
 
 -- the blocks of one map are its own
 abbrev pub HasOwnBlocks : Type 0

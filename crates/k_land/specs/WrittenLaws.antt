@@ -10,8 +10,8 @@ use Rattle.pm_words.specs.declared.Cell.TheVariants.{Single, Two, Marked, Lent}
 use Rattle.pm_words.specs.CellLaws.{settled-single}
 use Rattle.pm_words.specs.Cells.{cell, is_single, newest, fenced, Settles}
 use Rattle.pm_words.specs.Frames.{KeepsSingle}
-use Rattle.pm_words.specs.ImageLaws.{Follows-then}
-use Rattle.pm_words.specs.Images.{ComesFrom, Follows, Follows-same, Follows-weaken, Then}
+use Rattle.pm_words.specs.ImageLaws.{Follows-then, IsImage-words_of}
+use Rattle.pm_words.specs.Images.{ComesFrom, Follows, Follows-same, Follows-weaken, Then, words_of}
 use Rattle.pm_words.specs.PowerLaws.{Steps-none, Steps-then}
 use Rattle.pm_words.specs.Powers.{Supply, Steps, is_on}
 use Rattle.pm_words.specs.Words.{Words}
@@ -21,12 +21,14 @@ use Rattle.disk_places.specs.Places.{Geometry, commit_word, is_data_block}
 use Rattle.disk_rules.specs.Chains.{first_or_zero}
 use Rattle.disk_rules.specs.Placed.{block_at, IsOutside}
 use Rattle.disk_rules.specs.Reading.{Reads}
-use Rattle.disk_rules.specs.Volume.{Volume, chain}
+use Rattle.disk_rules.specs.Volume.{Volume}
 use Rattle.chain_facts.specs.ChainLaws.{IsChain-same}
 use Rattle.volume_facts.specs.ImageLaws.{journaled-idle, journaled-same, journal-outside}
 use Rattle.volume_facts.specs.LineWords.{data_word}
 use Rattle.volume_facts.specs.Reading.{AreUnchained}
 use Rattle.volume_facts.specs.SetLaws.{reads-written}
+use Rattle.volume_uses.specs.PoolLaws.{unused-unchained}
+use Rattle.volume_uses.specs.Uses.{is_unused}
 use Rattle.k_journal.specs.Batch.{IsNew}
 use Rattle.k_journal.specs.Commits.{MayCommit, IsBeforeOrAfter, IsAfter, TakesAStep}
 use Rattle.k_journal.specs.declared.batches.Entry.{Entry}
@@ -108,17 +110,21 @@ each-block P (c ∷ news) each i below = elim (cases_lt i (length c.blocks)) [
       (omega (arith, length-append c.blocks (blocks_of news))))
 ]
 
--- where no chain has a block of one of the maps, none has one of all
-pub unchained-all : (g : Geometry) (v : Volume) (news : List NewChain)
-    → ((k : ℕ) → k < length news → AreUnchained g v (new_at news k).blocks) → AreUnchained g v (blocks_of news)
-unchained-all g v news each = record {
-  in_data = λ i d below.
-      subst (λ b. is_data_block g b ≡ true) (get_or_default (blocks_of news) i 0 d below)
-      (each-block (λ b. is_data_block g b ≡ true) news (λ k j within inside. (each k within).in_data j 0 inside) i below);
-  apart = λ ino k j below within inside.
-      each-block (λ b. b ≢ block_at (chain v ino) k) news
-      (λ n i has here. (each n has).apart ino k i below within here) j inside;
-}
+-- where no inode has a block of one of the maps, none has one of all
+pub unused-all : (v : Volume) (news : List NewChain)
+    → ((k : ℕ) → k < length news → All (λ b. is_unused v b ≡ true) (new_at news k).blocks)
+    → All (λ b. is_unused v b ≡ true) (blocks_of news)
+unused-all v news each i d below =
+    subst (λ b. is_unused v b ≡ true) (get_or_default (blocks_of news) i 0 d below)
+    (each-block (λ b. is_unused v b ≡ true) news (λ k j within inside. each k within j 0 inside) i below)
+
+-- blocks that no inode has are in no chain
+pub unused-apart : (g : Geometry) (v : Volume) (d : List Cell) (blocks : List ℕ) → Stands g v d
+    → All (λ b. is_unused v b ≡ true) blocks → AreUnchained g v blocks
+unused-apart g v d blocks stands unused =
+    let r : Reads g (journaled (words_of d)) v = stands.reads (words_of d) (IsImage-words_of d) in
+    subst (λ h. AreUnchained h v blocks) r.geometry
+    (unused-unchained v blocks (r.inode_count ∙ sym (ap (λ (h : Geometry). h.inodes) r.geometry)) unused)
 
 -- ---- the maps are written one after the other
 

@@ -17,7 +17,8 @@ use pm_lines::{Pm, Power};
 /// Lands a plan that needs no new map, by one commit. It takes no memory. Without power at the call
 /// it does nothing.
 ///
-/// `Done` empties the batch; `PowerLost` keeps it.
+/// `Done` empties the batch; `PowerLost` keeps it. It takes at most 32 steps a line and 16; a step
+/// is a store, a flush or a fence.
 pub fn land(batch: &mut Batch, pm: &mut Pm, geometry: &Geometry, power: &mut Power) -> Commit
     requires ready { is_on power.old ≡ true → MayCommit geometry.now batch.old pm.old }
     ensures size { length pm.new ≡ length pm.old }

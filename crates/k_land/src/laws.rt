@@ -1,15 +1,15 @@
 //! Laws of plans.
-ghost use Rattle.k_land.specs.Laws.{TurnsNothing, CanCommit, AreAllUnchained, HasOwnBlocks};
+ghost use Rattle.k_land.specs.Laws.{TurnsNothing, CanCommit, AreAllUnused, HasOwnBlocks};
 
 /// A plan begins with an empty batch, which turns nothing.
-pub fn plans_are_laid_line_by_line()
+pub fn an_empty_plan_turns_nothing()
     ensures none { TurnsNothing }
 {}
 
 /// Where the device stands at the volume that a plan turns, the plan can be landed; and where no
-/// chain has a block of its new maps, it may be landed with them.
+/// inode has a block of one of its new maps, none has one of all.
 pub fn plans_can_be_landed()
     ensures ready { CanCommit }
-    ensures unchained { AreAllUnchained }
+    ensures unused { AreAllUnused }
     ensures blocks { HasOwnBlocks }
 {}

@@ -8,10 +8,10 @@
 //! `land` and `land_maps` carry a plan out, all or nothing for every power, and take no memory. The
 //! layer above may rely on this: done, the device stands at the new volume; wherever the power
 //! goes, each image reads as the old volume or as the new one, and else is an image before, but for
-//! the journal, the plan's lines and the new blocks.
+//! the journal, the plan's lines and the new blocks, which no inode of the old volume may have.
 //!
 //! It stands on `k_journal` (the transaction), `map_chain` (maps in blocks), the codecs of lines
-//! `k_inodes`, `k_names` and `line_fields`, `volume_facts`, and `k_rules` (`Stands`, `IsOldOrNew`).
+//! `k_inodes`, `k_names` and `line_fields`, `volume_facts`, `volume_uses`, and `k_rules` (`Stands`, `IsOldOrNew`).
 #![tactic(auto)]
 
 mod landings;
@@ -20,6 +20,6 @@ mod maps;
 mod plans;
 
 pub use landings::land;
-pub use laws::{plans_are_laid_line_by_line, plans_can_be_landed};
+pub use laws::{an_empty_plan_turns_nothing, plans_can_be_landed};
 pub use maps::{NewMap, land_maps};
 pub use plans::{clear_name, put_base, put_inode, put_name};

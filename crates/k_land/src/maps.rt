@@ -12,7 +12,7 @@ ghost use Rattle.pm_words.specs.Cells.{cell, Settles};
 ghost use Rattle.pm_words.specs.Frames.{SameLent, KeepsSingle};
 ghost use Rattle.pm_words.specs.Images.{Follows};
 ghost use Rattle.pm_words.specs.Powers.{is_on, Steps};
-ghost use Rattle.volume_facts.specs.Reading.{AreUnchained};
+ghost use Rattle.volume_uses.specs.Uses.{is_unused};
 
 use extent_map::ExtentMap;
 use image_layout::Geometry;
@@ -59,9 +59,12 @@ fn write_all(maps: &[NewMap], pm: &mut Pm, power: &mut Power)
 /// Writes new maps into free blocks, one after the other, and then lands a plan that switches to
 /// them, by one commit. It takes no memory. Without power at the call it does nothing.
 ///
-/// The blocks are data blocks that no chain has, and no two of the maps have one in common.
+/// The blocks are data blocks, and no two of the maps have one in common. What is said of the
+/// volumes asks that no inode of the old one has one of the blocks, in its chain or in its map: so
+/// no byte of a file is written.
 ///
-/// `Done` empties the batch; `PowerLost` keeps it.
+/// `Done` empties the batch; `PowerLost` keeps it. It takes at most 577 steps a block of a chain
+/// and 1 a map, and then 32 a line and 16; a step is a store, a flush or a fence.
 pub fn land_maps(
     maps: &[NewMap],
     batch: &mut Batch,
@@ -85,7 +88,7 @@ pub fn land_maps(
     // Wherever the power goes, each image reads as the old volume or as the new one, and is one of
     // those before, but for words of the journal, of the plan's lines and of the new blocks.
     ensures each_image { (v w : Volume) → Stands geometry.now v pm.old
-        → AreUnchained geometry.now v (blocks_of maps.now)
+        → All (λ b. is_unused v b ≡ true) (blocks_of maps.now)
         → Turns geometry.now maps.now v w batch.old
         → Follows (IsOldOrNew geometry.now (blocks_of maps.now) v w) pm.old pm.new }
     ensures elsewhere { Follows (SameElsewhere batch.old (blocks_of maps.now)) pm.old pm.new }
@@ -94,7 +97,7 @@ pub fn land_maps(
 
     // Done: the device stands at the new volume.
     ensures done { result ≡ Commit.Done → (v w : Volume) → Stands geometry.now v pm.old
-        → AreUnchained geometry.now v (blocks_of maps.now)
+        → All (λ b. is_unused v b ≡ true) (blocks_of maps.now)
         → Turns geometry.now maps.now v w batch.old → Stands geometry.now w pm.new }
     ensures keeps { result ≡ Commit.Done → KeepsSingle pm.old pm.new }
     ensures empty { result ≡ Commit.Done → batch.new ≡ [] }

@@ -1,5 +1,5 @@
 //! One line of a plan: an inode, a name, or the log base.
-ghost use Rattle.std.specs.Prelude.{◌≡◌, ◌+◌, ◌<◌, ◌≤◌, ℕ, List, length, true, Some, None};
+ghost use Rattle.std.specs.Prelude.{◌≡◌, ◌+◌, ◌^◌, ◌<◌, ◌≤◌, ℕ, List, length, true, Some, None};
 ghost use Rattle.disk_lines.specs.Fresh.{state_bytes};
 ghost use Rattle.disk_lines.specs.Lines.{encode_inode, encode_name, is_inode, is_name_row};
 ghost use Rattle.disk_places.specs.Fields.{zeros};
@@ -17,7 +17,8 @@ use k_names::{NameLine, encode_name};
 use line_fields::put_u64;
 
 /// Plans an inode, with the map that it has, with none, or with a new one (`turns`); with the map
-/// that it has, no other part of the volume changes (`node`). There is room for one more line.
+/// that it has, no other part of the volume changes (`node`). `ino` is from 0 to the number of
+/// inode lines less 1. There is room for one more line: a batch has at most 128.
 pub fn put_inode(batch: &mut Batch, geometry: &Geometry, ino: u32, inode: &Inode)
     requires room { length batch.old < 128 }
     requires ino { ino < geometry.now.inodes }
@@ -37,7 +38,8 @@ pub fn put_inode(batch: &mut Batch, geometry: &Geometry, ino: u32, inode: &Inode
     batch.put_line(geometry.inode_line(ino), bytes);
 }
 
-/// Plans a name line. There is room for one more line.
+/// Plans a name line: `line` is from 0 to the number of name lines less 1. There is room for one
+/// more line: a batch has at most 128.
 pub fn put_name(batch: &mut Batch, geometry: &Geometry, line: u32, name: &NameLine)
     requires room { length batch.old < 128 }
     requires line { line < geometry.now.names }
@@ -53,7 +55,8 @@ pub fn put_name(batch: &mut Batch, geometry: &Geometry, line: u32, name: &NameLi
     batch.put_line(geometry.name_line(line), bytes);
 }
 
-/// Plans a name line without a name. There is room for one more line.
+/// Plans a name line without a name: `line` is from 0 to the number of name lines less 1. There is
+/// room for one more line: a batch has at most 128.
 pub fn clear_name(batch: &mut Batch, geometry: &Geometry, line: u32)
     requires room { length batch.old < 128 }
     requires line { line < geometry.now.names }
@@ -76,9 +79,13 @@ fn state_bytes(base: u64) -> [u8; 64]
     bytes
 }
 
-/// Plans the log base: entries of a lower order count no more. There is room for one more line.
+/// Plans the log base, from 1 to 2^63: the sequence number of the log's slot 0 from now on, so that
+/// entries of earlier laps are valid no more. There is room for one more line: a batch has at most
+/// 128.
 pub fn put_base(batch: &mut Batch, geometry: &Geometry, base: u64)
     requires room { length batch.old < 128 }
+    requires least { 1 ≤ base }
+    requires most { base ≤ 2 ^ 63 }
     ensures some { 0 < length batch.new }
     ensures count { length batch.new ≤ length batch.old + 1 }
     ensures entries { batch.new ≡ with_line_set batch.old state_line (state_bytes base) }

@@ -6,6 +6,7 @@ pub mod Idles
 pub mod Places
 pub mod Removals
 pub mod Renames
+pub mod NamedNodes
 pub mod Names
 pub mod TableLists
 pub mod Wholes

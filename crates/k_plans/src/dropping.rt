@@ -32,8 +32,9 @@ fn give_inode(pool: &mut Pool, blocks: &[u32], extents: &[Extent])
 
 impl Tables {
     /// Gives up a file that has no name, and plans its inode, which is free then and keeps its
-    /// generation. Its blocks are free at once: nothing is batched, so that the plan is landed
-    /// before they are taken. It takes no memory. The batch is empty.
+    /// generation. The plan has to be landed before another one is begun: the blocks of the file
+    /// are free at once and do not wait for a commit, so changes may not gather in a batch. It
+    /// takes no memory. The batch is empty.
     pub fn drop_node(&mut self, batch: &mut Batch, ino: u32)
         requires empty { batch.old ≡ [] }
         requires may { MayDrop ino self.old.volume }

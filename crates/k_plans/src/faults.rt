@@ -5,15 +5,19 @@ ghost use Rattle.k_tables.specs.Refusals.{outcome_of};
 
 use k_tables::Refusal;
 use posix_types::{Errno, Room};
+use thiserror::Error;
 
 /// Why a change is not planned. The tables and the batch are as before.
-#[derive(Clone, Copy, Debug, PartialEq, Eq)]
+#[derive(Clone, Copy, Debug, PartialEq, Eq, Error)]
 pub enum PlanFault {
-    /// The call answers this error.
+    /// The call answers this error, by the first of its rows that fits.
+    #[error("the call is refused: {0:?}")]
     Refused(Errno),
-    /// ENOSPC: inode lines or name lines are used up.
+    /// ENOSPC, by the first of its rows that fits: inode lines or name lines are used up.
+    #[error("there is no room: {0:?}")]
     Room(Room),
-    /// There is no memory for the change.
+    /// There is no memory for the change, which no row refuses.
+    #[error("out of memory")]
     NoMemory,
 }
 

@@ -1,5 +1,6 @@
 //! The tables: how they are made of what was read, and what they are asked for.
-ghost use Rattle.std.specs.Prelude.{◌≡◌, ◌<◌, ◌↔◌, [], length, if◌then◌else◌, None, Some, IfOk, IfSome, IsSome};
+ghost use Rattle.std.specs.Prelude.{◌≡◌, ◌<◌, ◌↔◌, [], length, if◌then◌else◌, None, Some, IfOk, IfSome, IsSome, IsTrue};
+ghost use Rattle.disk_lines.specs.Names.{names_of};
 ghost use Rattle.k_rules.specs.Spaces.{is_free};
 ghost use Rattle.disk_rules.specs.Volume.{extents};
 ghost use Rattle.k_plans.specs.Free.{free_blocks};
@@ -121,6 +122,13 @@ impl Tables {
             return None;
         }
         used_inode(self.inodes[place])
+    }
+
+    /// Whether an inode has a name. The root has none.
+    pub fn named(&self, ino: u32) -> bool
+        ensures { IsTrue result ↔ (0 < names_of self.now.volume.names ino) }
+    {
+        ino != 0 && self.names.below(ino, 0)
     }
 
     /// The maps, inode by inode.

@@ -22,7 +22,8 @@ pub record Stands (g : Geometry) (v : Volume) (d : List Cell) : Type 0 where
   pub reads : (image : Words) → IsImage d image → Reads g (journaled image) v
 
 -- An image after a change, or after a part of it, beside the image before: it reads as the old volume or as the new one,
--- and is the same outside the journal, the journaled lines and the blocks that the change writes, which were free.
+-- and is the same outside the journal, the journaled lines and the blocks that the change writes. That no inode of the old
+-- volume has one of those blocks is not said here: a change that writes blocks asks for it.
 pub record IsOldOrNew (g : Geometry) (blocks : List ℕ) (v w : Volume) (before image : Words) : Type 0 where
   pub reads : Reads g (journaled image) v ⊎ Reads g (journaled image) w
   pub others : (i : ℕ) → is_journal_word i ≡ false → is_journaled_line g (i / 8) ≡ false → IsOutside blocks i → image i ≡ before i

@@ -1,11 +1,11 @@
 -- What contracts see of K-Split.
-use Rattle.std.specs.Prelude.{◌≡◌, Bool, List, ℕ}
+use Rattle.std.specs.Prelude.{Bool, List, ℕ}
 use Rattle.pm_words.specs.declared.Cell.{Cell}
 use Rattle.disk_rules.specs.Volume.{Volume}
 
 -- The volume as the calls see it, the changes of the open batch included; the volume that was committed last, which is the
 -- one of the device; the blocks that were freed since, which wait for a commit; the cells of the device; whether changes
--- gather in a batch; and whether the power went in a change, after which nothing is known but of images.
+-- gather in a batch, which none do yet; and whether the power went in a change, after which nothing is known but of images.
 pub record View : Type 0 where
   pub volume : Volume
   pub committed : Volume

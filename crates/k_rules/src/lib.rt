@@ -9,6 +9,10 @@
 //! The rows by which a change is refused are those of the calls, over the space of the volume
 //! (`space_of`).
 //!
-//! Definitions alone. Stands on `pm_words`, `disk_places`, `disk_lines`, `disk_rules`, `posix_types`
+//! Definitions, with a small volume as their example. Stands on `pm_words`, `disk_places`, `disk_lines`, `disk_rules`, `posix_types`
 //! and `posix_words`.
 #![tactic(auto)]
+
+mod laws;
+
+pub use laws::a_small_volume_is_changed;

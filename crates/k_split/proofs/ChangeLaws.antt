@@ -1,8 +1,8 @@
 -- What a change leaves that was planned and landed, or neither.
-use Rattle.std.proofs.Common.{◌≡◌, ℕ, Bool, true, false, List, [], length, Option, Some, None, Ok, Err, refl, sym, ◌∙◌, ap, subst, arith, inl, inr}
-use Rattle.std.specs.Prelude.{◌==◌}
+use Rattle.std.proofs.Common.{◌≡◌, ℕ, Bool, true, false, List, [], length, Option, Some, None, Result, Ok, Err, refl, sym, ◌∙◌, ap, subst, arith, inl, inr}
+use Rattle.std.specs.Prelude.{◌==◌, ◌+◌, ◌*◌, OnOk, OnErr}
 use Rattle.pm_words.specs.declared.Cell.{Cell}
-use Rattle.pm_words.specs.Powers.{is_on, Supply}
+use Rattle.pm_words.specs.Powers.{is_on, Steps, Supply}
 use Rattle.disk_rules.specs.Volume.{Volume}
 use Rattle.k_journal.specs.declared.batches.Entry.{Entry}
 use Rattle.k_journal.specs.declared.outcomes.Commit.{Commit}
@@ -19,7 +19,7 @@ use Rattle.posix_types.specs.declared.reply.Reply.{Reply}
 use Rattle.posix_words.specs.Outcomes.{answer, first}
 use Rattle.k_split.specs.declared.faults.KFault.{KFault}
 use Rattle.k_split.specs.Answers.{IsAnswer, IsCommitAnswer, IsPaid}
-use Rattle.k_split.specs.Landed.{IsLandedDone, IsLandedLost, IsPlanned}
+use Rattle.k_split.specs.Landed.{IsLanded, IsLandedDone, IsLandedLost, IsPlanned}
 use Rattle.k_split.specs.Order.{IsReady, view_of}
 
 -- a K-Split that is handed power is not lost
@@ -39,9 +39,9 @@ module _ (t u : TablesView) (d : List Cell) (batched lost : Bool) (c b : List En
   pub planned : IsPlanned t.volume u.volume b d
   planned = record { stands = (ready is).order.stands; turns = plan.turns; most = plan.most }
 
-  pub ready-done : (e : List Cell) (p q : Supply) (a : List Entry) → IsLandedDone t.volume u.volume b d e p q → a ≡ []
-      → IsReady (view_of u e batched lost) a
-  ready-done e p q a landed none = record {
+  pub ready-done : (e : List Cell) (p q : Supply) (now : Bool) (a : List Entry) → IsLandedDone t.volume u.volume b d e p q → a ≡ []
+      → IsReady (view_of u e batched now) a
+  ready-done e p q now a landed none = record {
     order = record {
       stands = landed.stands;
       whole = plan.whole;
@@ -53,29 +53,75 @@ module _ (t u : TablesView) (d : List Cell) (batched lost : Bool) (c b : List En
   }
 
   pub answer-done : {T : Type 0} (made : T) (row : View → Option Outcome) (Makes : View → T → Volume → Type 0) (k : View) (e : List Cell) (p q : Supply)
-      → view_of t d batched lost ≡ k → row (view_of t d batched lost) ≡ None → Makes (view_of t d batched lost) made u.volume
-      → IsLandedDone t.volume u.volume b d e p q → IsAnswer (row k) (Makes k) k (view_of u e batched lost) (Ok made)
-  answer-done made row Makes k e p q same allowed makes landed =
-      subst (λ x. IsAnswer (row x) (Makes x) x (view_of u e batched lost) (Ok made)) same (
+      (now : Bool) → now ≡ lost → view_of t d batched lost ≡ k → row (view_of t d batched lost) ≡ None → Makes (view_of t d batched lost) made u.volume
+      → IsLandedDone t.volume u.volume b d e p q → IsAnswer (row k) (Makes k) k (view_of u e batched now) (Ok made)
+  answer-done made row Makes k e p q now stays same allowed makes landed =
+      subst (λ x. IsAnswer (row x) (Makes x) x (view_of u e batched now) (Ok made)) same (
         allowed,
         makes,
         record {
-          kept_on = is;
+          kept_on = stays ∙ is;
           batched = refl;
-          order = (ready-done e p q [] landed refl).order;
+          order = (ready-done e p q now [] landed refl).order;
           changes = landed.changes;
           singles = landed.singles;
         },
       )
 
   pub answer-lost : {T : Type 0} (made : T) (row : View → Option Outcome) (Makes : View → T → Volume → Type 0) (k : View) (e : List Cell) (q : Supply)
-      → view_of t d batched lost ≡ k → row (view_of t d batched lost) ≡ None → Makes (view_of t d batched lost) made u.volume
-      → IsLandedLost t.volume u.volume d e q → IsAnswer (row k) (Makes k) k (view_of u e batched true) (Err KFault.PowerLost)
-  answer-lost made row Makes k e q same allowed makes landed =
-      subst (λ x. IsAnswer (row x) (Makes x) x (view_of u e batched true) (Err KFault.PowerLost)) same (inr (
+      (now : Bool) → now ≡ true → view_of t d batched lost ≡ k → row (view_of t d batched lost) ≡ None → Makes (view_of t d batched lost) made u.volume
+      → IsLandedLost t.volume u.volume d e q → IsAnswer (row k) (Makes k) k (view_of u e batched now) (Err KFault.PowerLost)
+  answer-lost made row Makes k e q now goes same allowed makes landed =
+      subst (λ x. IsAnswer (row x) (Makes x) x (view_of u e batched now) (Err KFault.PowerLost)) same (inr (
         allowed,
-        (made, u.volume, makes, record { lost = refl; batched = refl; whole = plan.whole; changes = landed.changes }),
+        (made, u.volume, makes, record { lost = goes; batched = refl; whole = plan.whole; changes = landed.changes }),
       ))
+
+  -- landed or cut off
+  pub ready-landed : (e : List Cell) (p q : Supply) (now : Bool) (a : List Entry) (r : Result (Unit {0}) KFault) → IsLanded t.volume u.volume b d e p q r
+      → OnOk r (a ≡ []) → OnErr r (now ≡ true) → now ≡ false → IsReady (view_of u e batched now) a
+  ready-landed e p q now a (Ok done) landed none goes off = ready-done e p q now a landed none
+  ready-landed e p q now a (Err fault) landed none goes off = let never : true ≡ false = sym goes ∙ off in absurd (cc)
+
+  pub answer-cut : {T : Type 0} (made : T) (row : View → Option Outcome) (Makes : View → T → Volume → Type 0) (k : View) (e : List Cell) (p q : Supply)
+      (now : Bool) (fault : KFault) → now ≡ true → view_of t d batched lost ≡ k → row (view_of t d batched lost) ≡ None
+      → Makes (view_of t d batched lost) made u.volume → IsLanded t.volume u.volume b d e p q (Err fault)
+      → IsAnswer (row k) (Makes k) k (view_of u e batched now) (Err fault)
+  answer-cut made row Makes k e p q now KFault.PowerLost goes same allowed makes landed = answer-lost made row Makes k e q now goes same allowed makes landed
+  answer-cut made row Makes k e p q now (KFault.Refused errno) goes same allowed makes landed = absurd landed
+  answer-cut made row Makes k e p q now (KFault.Room room) goes same allowed makes landed = absurd landed
+  answer-cut made row Makes k e p q now KFault.NoMemory goes same allowed makes landed = absurd landed
+
+  -- of a change that answers nothing
+  pub answer-landed : (row : View → Option Outcome) (Makes : View → Unit {0} → Volume → Type 0) (k : View) (e : List Cell) (p q : Supply)
+      (now : Bool) (r : Result (Unit {0}) KFault) → OnOk r (now ≡ lost) → OnErr r (now ≡ true) → view_of t d batched lost ≡ k
+      → row (view_of t d batched lost) ≡ None → Makes (view_of t d batched lost) tt u.volume → IsLanded t.volume u.volume b d e p q r
+      → IsAnswer (row k) (Makes k) k (view_of u e batched now) r
+  answer-landed row Makes k e p q now (Ok done) stays goes same allowed makes landed = answer-done done row Makes k e p q now stays same allowed makes landed
+  answer-landed row Makes k e p q now (Err fault) stays goes same allowed makes landed =
+      answer-cut (let done : Unit {0} = tt in done) row Makes k e p q now fault goes same allowed makes landed
+
+pub paid-cut : (T : Type 0) (o : Option Outcome) (v w : Volume) (b : List Entry) (d e : List Cell) (p q : Supply) (fault : KFault)
+    → IsLanded v w b d e p q (Err fault) → IsPaid {T = T} o p q (Err fault)
+paid-cut T o v w b d e p q KFault.PowerLost landed = landed.off
+paid-cut T o v w b d e p q (KFault.Refused errno) landed = absurd landed
+paid-cut T o v w b d e p q (KFault.Room room) landed = absurd landed
+paid-cut T o v w b d e p q KFault.NoMemory landed = absurd landed
+
+-- a landing takes no memory
+pub memory-cut : (v w : Volume) (b : List Entry) (d e : List Cell) (p q : Supply) (fault : KFault) → IsLanded v w b d e p q (Err fault)
+    → fault ≡ KFault.NoMemory → ⊥
+memory-cut v w b d e p q fault landed is = subst (λ x. IsLanded v w b d e p q (Err x)) is landed
+
+pub memory-landed : (v w : Volume) (b : List Entry) (d e : List Cell) (p q : Supply) (r : Result (Unit {0}) KFault) → IsLanded v w b d e p q r
+    → r ≡ Err KFault.NoMemory → ⊥
+memory-landed v w b d e p q r landed is = subst (IsLanded v w b d e p q) is landed
+
+pub done-memory : (r : Result ℕ KFault) (made : ℕ) → r ≡ Ok made → r ≡ Err KFault.NoMemory → ⊥
+done-memory r made is none = cc
+
+pub fault-memory : (r : Result ℕ KFault) (fault : KFault) → r ≡ Err fault → r ≡ Err KFault.NoMemory → fault ≡ KFault.NoMemory
+fault-memory r fault is none = cc
 
 not_idle : (o : Option Outcome) (x : Outcome) → o ≡ None → o ≡ Some x → ⊥
 not_idle o x none some = cc
@@ -88,6 +134,12 @@ paid-done made row t u b d e batched lost k p q same allowed plan landed = (
   λ none. landed.took plan.some,
   λ idle. absurd (not_idle (row k) (answer Reply.Ok) (sym (ap row same) ∙ allowed) idle),
 )
+
+pub paid-landed : (row : View → Option Outcome) (t u : TablesView) (b : List Entry) (d e : List Cell) (batched lost : Bool)
+    (k : View) (p q : Supply) (r : Result (Unit {0}) KFault) → view_of t d batched lost ≡ k → row (view_of t d batched lost) ≡ None → IsPlan t u b
+    → IsLanded t.volume u.volume b d e p q r → IsPaid (row k) p q r
+paid-landed row t u b d e batched lost k p q (Ok done) same allowed plan landed = paid-done done row t u b d e batched lost k p q same allowed plan landed
+paid-landed row t u b d e batched lost k p q (Err fault) same allowed plan landed = paid-cut (Unit {0}) (row k) t.volume u.volume b d e p q fault landed
 
 -- ---- a rename that has something to do
 
@@ -110,9 +162,9 @@ module _ (t : TablesView) (d : List Cell) (batched lost : Bool) (c : List Entry)
     most = omega (arith, ap (λ (l : List Entry). length l) (ready is).no_lines);
   }
 
-  pub ready-committed : (e : List Cell) (p q : Supply) (a : List Entry) → IsLandedDone t.volume t.volume c d e p q → a ≡ []
-      → IsReady (view_of t e batched lost) a
-  ready-committed e p q a landed none = record {
+  pub ready-committed : (e : List Cell) (p q : Supply) (now : Bool) (a : List Entry) → IsLandedDone t.volume t.volume c d e p q → a ≡ []
+      → IsReady (view_of t e batched now) a
+  ready-committed e p q now a landed none = record {
     order = record {
       stands = landed.stands;
       whole = (ready is).order.whole;
@@ -123,22 +175,39 @@ module _ (t : TablesView) (d : List Cell) (batched lost : Bool) (c : List Entry)
     no_lines = none;
   }
 
-  pub answer-committed : (k : View) (e : List Cell) (p q : Supply) → view_of t d batched lost ≡ k → IsLandedDone t.volume t.volume c d e p q
-      → IsCommitAnswer k (view_of t e batched lost) Commit.Done
-  answer-committed k e p q same landed =
-      subst (λ x. IsCommitAnswer x (view_of t e batched lost) Commit.Done) same (
+  pub answer-committed : (k : View) (e : List Cell) (p q : Supply) (now : Bool) → now ≡ lost → view_of t d batched lost ≡ k
+      → IsLandedDone t.volume t.volume c d e p q → IsCommitAnswer k (view_of t e batched now) Commit.Done
+  answer-committed k e p q now stays same landed =
+      subst (λ x. IsCommitAnswer x (view_of t e batched now) Commit.Done) same (
         refl,
         record {
-          kept_on = is;
+          kept_on = stays ∙ is;
           batched = refl;
-          order = (ready-committed e p q [] landed refl).order;
+          order = (ready-committed e p q now [] landed refl).order;
           changes = landed.changes;
           singles = landed.singles;
         },
       )
 
-  pub answer-uncommitted : (k : View) (e : List Cell) (q : Supply) → view_of t d batched lost ≡ k → IsLandedLost t.volume t.volume d e q
-      → IsCommitAnswer k (view_of t e batched true) Commit.PowerLost
-  answer-uncommitted k e q same landed =
-      subst (λ x. IsCommitAnswer x (view_of t e batched true) Commit.PowerLost) same
-      (inr (record { lost = refl; batched = refl; whole = (ready is).order.whole; changes = landed.changes }))
+  pub ready-recommitted : (e : List Cell) (p q : Supply) (now : Bool) (a : List Entry) (r : Result (Unit {0}) KFault) → IsLanded t.volume t.volume c d e p q r
+      → OnOk r (a ≡ []) → OnErr r (now ≡ true) → now ≡ false → IsReady (view_of t e batched now) a
+  ready-recommitted e p q now a (Ok done) landed none goes off = ready-committed e p q now a landed none
+  ready-recommitted e p q now a (Err fault) landed none goes off = let never : true ≡ false = sym goes ∙ off in absurd (cc)
+
+  -- no line is planned, so that it takes no steps for lines
+  pub few-steps-none : (p q : Supply) → Steps (32 * length c + 16) p q → Steps 16 p q
+  few-steps-none p q steps = subst (λ (b : List Entry). Steps (32 * length b + 16) p q) (ready is).no_lines steps
+
+  pub answer-uncommitted : (k : View) (e : List Cell) (q : Supply) (now : Bool) → now ≡ true → view_of t d batched lost ≡ k
+      → IsLandedLost t.volume t.volume d e q → IsCommitAnswer k (view_of t e batched now) Commit.PowerLost
+  answer-uncommitted k e q now goes same landed =
+      subst (λ x. IsCommitAnswer x (view_of t e batched now) Commit.PowerLost) same
+      (inr (record { lost = goes; batched = refl; whole = (ready is).order.whole; changes = landed.changes }))
+
+-- a landing that is cut off
+pub lost-landed : (v w : Volume) (b : List Entry) (d e : List Cell) (p q : Supply) (fault : KFault) → IsLanded v w b d e p q (Err fault)
+    → IsLandedLost v w d e q
+lost-landed v w b d e p q KFault.PowerLost landed = landed
+lost-landed v w b d e p q (KFault.Refused errno) landed = absurd landed
+lost-landed v w b d e p q (KFault.Room room) landed = absurd landed
+lost-landed v w b d e p q KFault.NoMemory landed = absurd landed

@@ -1,18 +1,9 @@
--- What stands at a path by the rows of `stat`; and whether an inode has a name: it is not the root, and the root is above
--- it.
-use Rattle.std.proofs.Common.{◌≡◌, ◌≢◌, ℕ, zero, suc, ◌<◌, Bool, true, false, List, [], ◌∷◌, Option, Some, None, Ok, Err, refl, sym, ◌∙◌, ap, subst, arith, inl, inr}
+-- What stands at a path, by the rows of a walk, of `stat` and of `list`.
+use Rattle.std.proofs.Common.{◌≡◌, ℕ, Bool, true, false, List, [], ◌∷◌, Option, Some, None, Result, Ok, Err, refl, sym, ◌∙◌, ap, subst}
 use Rattle.std.specs.Prelude.{not}
 use Rattle.std.specs.Option.{option_map_or}
-use Rattle.std.proofs.lemmas.Bool.{cases_lt}
-use Rattle.std.proofs.lemmas.Option.{same_Some}
-use Rattle.disk_lines.specs.Names.{IsBelow, is_child, names_of, row as row_at, Rows, up}
-use Rattle.disk_lines.specs.TableLaws.{is_child-parts}
+use Rattle.disk_lines.specs.Names.{Rows}
 use Rattle.disk_rules.specs.Volume.{Volume}
-use Rattle.volume_facts.specs.Lists.{count_by-some}
-use Rattle.name_facts.specs.ForestLaws.{up-parent, up-top}
-use Rattle.name_facts.specs.KeptLaws.{kept-one_name, kept-placed}
-use Rattle.name_facts.specs.SetLaws.{parent_of-none, parent_of-one_name}
-use Rattle.volume_changes.specs.CallLaws.{IsKeptVolume}
 use Rattle.pm_words.specs.declared.Cell.{Cell}
 use Rattle.disk_lines.specs.declared.Inode.{Inode}
 use Rattle.k_plans.specs.View.{TablesView}
@@ -24,51 +15,55 @@ use Rattle.posix_types.specs.declared.reply.Reply.{Reply}
 use Rattle.posix_words.specs.NameRows.{list_rows, stat_rows, too_long_row, walk_row}
 use Rattle.posix_words.specs.Names.{exists_at, file_stands, node_at_path, Space, too_long, walk}
 use Rattle.posix_words.specs.Outcomes.{answer, first, row}
-use Rattle.k_split.specs.Looks.{IsDirectoryFound, IsFound}
+use Rattle.k_split.specs.Looks.{IsDirectoryFound, IsFound, IsLed, led_rows}
 use Rattle.k_split.specs.Order.{view_of}
 
-none-some : (o : Option ℕ) (n : ℕ) → o ≡ None → o ≡ Some n → ⊥
-none-some o n none some = cc
+-- ---- by the rows of a walk, and by those of `stat`
 
-pub named-below : (v : Volume) (ino : ℕ) → IsKeptVolume v → 0 < names_of v.names ino → (ino ≢ 0) × IsBelow v.names ino 0
-named-below v ino k some =
-    let found = count_by-some (is_child ino) v.names None some in
-    let child = is_child-parts ino (row_at v.names found.0) found.2 in
-    let steps = (kept-placed v found.0 child.0 k.kept k.all child.1).steps in
-    let above = parent_of-one_name v.names found.0 child.0 (kept-one_name v k.kept k.all child.0.child) child.1 in (
-      λ root. omega (arith, some, k.kept.directories.root, ap (names_of v.names) root),
-      (suc steps.0, ap (up v.names (suc steps.0)) (sym child.2) ∙ up-parent v.names steps.0 child.0.child child.0.parent above ∙ steps.2),
-    )
+long-led : (s : Space) (p : List (List ℕ)) → too_long s.longest p ≡ true → first (led_rows s p) ≡ Some (answer (Reply.Error Errno.ENAMETOOLONG))
+long-led s p long = rw long refl
 
-pub below-named : (v : Volume) (ino : ℕ) → ino ≢ 0 → IsBelow v.names ino 0 → 0 < names_of v.names ino
-unfolding up
-below-named v ino other (zero, at) = absurd (other (same_Some ino 0 at))
-below-named v ino other (suc n, at) = elim (cases_lt 0 (names_of v.names ino)) [
-  | inl some ↦ some
-  | inr none ↦
-      absurd (none-some (up v.names (suc n) ino) 0 (up-top v.names n ino (parent_of-none v.names ino (omega (arith, none)))) at)
-]
+lost-led : (s : Space) (p : List (List ℕ)) (errno : Errno) → too_long s.longest p ≡ false → walk s p ≡ Err errno
+    → first (led_rows s p) ≡ Some (answer (Reply.Error errno))
+lost-led s p errno short leads = rw (short, leads) refl
 
--- ---- by the rows of `stat`
+some-led : (s : Space) (p : List (List ℕ)) (parent : ℕ) → too_long s.longest p ≡ false → walk s p ≡ Ok parent → first (led_rows s p) ≡ None
+some-led s p parent short leads = rw (short, leads) refl
 
-long-stat : (s : Space) (p : List (List ℕ)) → too_long s.longest p ≡ true → first (stat_rows s p) ≡ Some (answer (Reply.Error Errno.ENAMETOOLONG))
+by-walk : (v : Volume) (path : List (List ℕ)) (r : Result ℕ Errno) → too_long 48 path ≡ false → walk (volume_space v) path ≡ r → IsLed v path r
+by-walk v path (Ok parent) short leads = (some-led (volume_space v) path parent short leads, leads)
+by-walk v path (Err errno) short leads = lost-led (volume_space v) path errno short leads
+
+-- one row more than those of a walk
+third-row : (a b c : Option Outcome) (x : Outcome) → first (a ∷ b ∷ []) ≡ Some x → first (a ∷ b ∷ c ∷ []) ≡ Some x
+third-row (Some a) b c x is = is
+third-row None (Some b) c x is = is
+third-row None None c x is = cc
+
+third-first : (a b c : Option Outcome) → first (a ∷ b ∷ []) ≡ None → first (a ∷ b ∷ c ∷ []) ≡ c
+third-first (Some a) b c is = cc
+third-first None (Some b) c is = cc
+third-first None None None is = refl
+third-first None None (Some c) is = refl
+
+pub found-lost : (v : Volume) (path : List (List ℕ)) (errno : Errno) → IsLed v path (Err errno) → IsFound v path (Err errno)
 unfolding stat_rows
-long-stat s p long = rw long refl
+found-lost v path errno led =
+    let s = volume_space v in
+    third-row (too_long_row s path) (walk_row s path) (row (not (exists_at s path)) Errno.ENOENT) (answer (Reply.Error errno)) led
 
-lost-stat : (s : Space) (p : List (List ℕ)) (errno : Errno) → too_long s.longest p ≡ false → walk s p ≡ Err errno
-    → first (stat_rows s p) ≡ Some (answer (Reply.Error errno))
+stat-led : (v : Volume) (path : List (List ℕ)) (parent : ℕ) → IsLed v path (Ok parent)
+    → first (stat_rows (volume_space v) path) ≡ row (not (exists_at (volume_space v) path)) Errno.ENOENT
 unfolding stat_rows
-lost-stat s p errno short leads = rw (short, leads) refl
+stat-led v path parent led =
+    let s = volume_space v in
+    third-first (too_long_row s path) (walk_row s path) (row (not (exists_at s path)) Errno.ENOENT) led.0
 
-none-stat : (s : Space) (p : List (List ℕ)) (parent : ℕ) → too_long s.longest p ≡ false → walk s p ≡ Ok parent → node_at_path s p ≡ None
-    → first (stat_rows s p) ≡ Some (answer (Reply.Error Errno.ENOENT))
-unfolding stat_rows
-none-stat s p parent short leads none = rw (short, leads, none) refl
+none-row : (s : Space) (p : List (List ℕ)) → node_at_path s p ≡ None → row (not (exists_at s p)) Errno.ENOENT ≡ Some (answer (Reply.Error Errno.ENOENT))
+none-row s p none = rw none refl
 
-some-stat : (s : Space) (p : List (List ℕ)) (parent ino : ℕ) → too_long s.longest p ≡ false → walk s p ≡ Ok parent → node_at_path s p ≡ Some ino
-    → first (stat_rows s p) ≡ None
-unfolding stat_rows
-some-stat s p parent ino short leads some = rw (short, leads, some) refl
+some-row : (s : Space) (p : List (List ℕ)) (ino : ℕ) → node_at_path s p ≡ Some ino → row (not (exists_at s p)) Errno.ENOENT ≡ None
+some-row s p ino some = rw some refl
 
 -- tables that are those of a view
 module _ (k : View) (t : TablesView) (d : List Cell) (batched lost : Bool) (inodes : List Inode) (rows : Rows) (path : List (List ℕ))
@@ -76,24 +71,23 @@ module _ (k : View) (t : TablesView) (d : List Cell) (batched lost : Bool) (inod
   space : space_of inodes rows ≡ volume_space k.volume
   space = (λ i. space_of (inodes_are i) (rows_are i)) ∙ ap (λ (x : View). volume_space x.volume) same
 
-  pub found-long : too_long 48 path ≡ true → IsFound k.volume path (Err Errno.ENAMETOOLONG)
-  found-long long = long-stat (volume_space k.volume) path long
+  pub led-walk : (r : Result ℕ Errno) → too_long 48 path ≡ false → r ≡ walk (space_of inodes rows) path → IsLed k.volume path r
+  led-walk r short leads = by-walk k.volume path r short (sym (leads ∙ ap (λ s. walk s path) space))
 
-  pub found-lost : (errno : Errno) → too_long 48 path ≡ false → walk (space_of inodes rows) path ≡ Err errno → IsFound k.volume path (Err errno)
-  found-lost errno short leads =
-      lost-stat (volume_space k.volume) path errno short (subst (λ s. walk s path ≡ Err errno) space leads)
+  pub leads-in : (parent : ℕ) → IsLed k.volume path (Ok parent) → walk (space_of inodes rows) path ≡ Ok parent
+  leads-in parent led = subst (λ s. walk s path ≡ Ok parent) (sym space) led.1
 
-  pub found-none : (parent : ℕ) → too_long 48 path ≡ false → walk (space_of inodes rows) path ≡ Ok parent
-      → node_at_path (space_of inodes rows) path ≡ None → IsFound k.volume path (Err Errno.ENOENT)
-  found-none parent short leads none =
-      none-stat (volume_space k.volume) path parent short (subst (λ s. walk s path ≡ Ok parent) space leads)
-      (subst (λ s. node_at_path s path ≡ None) space none)
+  pub found-none : (parent : ℕ) → IsLed k.volume path (Ok parent) → node_at_path (space_of inodes rows) path ≡ None → IsFound k.volume path (Err Errno.ENOENT)
+  found-none parent led none =
+      stat-led k.volume path parent led ∙ none-row (volume_space k.volume) path (subst (λ s. node_at_path s path ≡ None) space none)
 
-  pub found-some : (parent ino : ℕ) → too_long 48 path ≡ false → walk (space_of inodes rows) path ≡ Ok parent
-      → node_at_path (space_of inodes rows) path ≡ Some ino → IsFound k.volume path (Ok ino)
-  found-some parent ino short leads some =
+  pub found-some : (parent ino : ℕ) → IsLed k.volume path (Ok parent) → node_at_path (space_of inodes rows) path ≡ Some ino → IsFound k.volume path (Ok ino)
+  found-some parent ino led some =
       let at = subst (λ s. node_at_path s path ≡ Some ino) space some in
-      (some-stat (volume_space k.volume) path parent ino short (subst (λ s. walk s path ≡ Ok parent) space leads) at, at)
+      (stat-led k.volume path parent led ∙ some-row (volume_space k.volume) path ino at, at)
+
+pub led-long : (v : Volume) (path : List (List ℕ)) → too_long 48 path ≡ true → IsLed v path (Err Errno.ENAMETOOLONG)
+led-long v path long = long-led (volume_space v) path long
 
 -- ---- by the rows of `list`
 

@@ -28,7 +28,7 @@ pub record Changes (v w : Volume) (old new : List Cell) : Type 0 where
   pub each_image : Follows (IsOldOrNew v.geometry [] v w) old new
   pub others : (i : ℕ) → is_journal_word i ≡ false → is_journaled_line v.geometry (i / 8) ≡ false → Settles (cell old i) (cell new i)
 
--- A change is done: all is in order at the new volume.
+-- A change is done: all is in order at the new volume, which is the committed one, since no changes gather in a batch yet.
 pub record IsDone (old new : View) : Type 0 where
   pub kept_on : new.lost ≡ false
   pub batched : new.batched ≡ old.batched
@@ -72,7 +72,7 @@ IsPaid refused old new (Err (KFault.Room room)) = IsSpared old new
 IsPaid refused old new (Err KFault.NoMemory) = IsSpared old new
 IsPaid refused old new (Err KFault.PowerLost) = is_on new ≡ false
 
--- a commit of all that gathers
+-- a commit of all that gathers, which is nothing yet
 abbrev pub IsCommitAnswer : View → View → Commit → Type 0
 IsCommitAnswer old new Commit.Done = (new.volume ≡ old.volume) × IsDone old new
 IsCommitAnswer old new Commit.PowerLost = IsOff old new ⊎ IsCut old.volume old new

@@ -1,14 +1,17 @@
 -- The content of the images of a change.
-use Rattle.std.specs.Prelude.{◌≡◌, ◌⊎◌, List, []}
+use Rattle.std.specs.Prelude.{◌≡◌, ◌⊎◌, ◌<◌, ℕ, List, [], length, All, true, false}
 use Rattle.pm_words.specs.declared.Cell.{Cell}
 use Rattle.pm_words.specs.Images.{Follows}
 use Rattle.pm_words.specs.Words.{Words}
 use Rattle.disk_places.specs.Journal.{journaled}
 use Rattle.disk_places.specs.Places.{Geometry}
+use Rattle.extent_words.specs.Extents.{covers}
 use Rattle.disk_rules.specs.Content.{content, found}
 use Rattle.disk_rules.specs.Kept.{AreKept}
 use Rattle.disk_rules.specs.Live.{live_entries}
-use Rattle.disk_rules.specs.Volume.{Volume}
+use Rattle.disk_rules.specs.Placed.{block_at}
+use Rattle.disk_rules.specs.Volume.{extents, Volume}
+use Rattle.volume_uses.specs.Uses.{is_unused}
 use Rattle.k_rules.specs.Stands.{IsOldOrNew, Stands}
 
 -- The content of the image is that of the image before, or what w makes of the words before.
@@ -16,8 +19,18 @@ abbrev pub HasOldOrNew : Geometry → Volume → Words → Words → Type 0
 HasOldOrNew g w before image =
     (content g image ≡ content g before) ⊎ (content g image ≡ found w (live_entries w (journaled before)) (journaled before))
 
--- So it is of each image of a device that stood at v, after a change to w or a part of it.
+-- The blocks that a change writes are its own: no inode of v has one of them, and no map of w. They are for chains of w.
+pub record AreOwnBlocks (v w : Volume) (blocks : List ℕ) : Type 0 where
+  pub unused : All (λ b. is_unused v b ≡ true) blocks
+  pub unmapped : (ino k : ℕ) → k < length blocks → covers (extents w ino) (block_at blocks k) ≡ false
+
+-- So it is of each image of a device that stood at v, after a change to w or a part of it, whatever blocks of its own the
+-- change wrote.
 abbrev pub HaveOldOrNew : Type 0
 HaveOldOrNew =
-    (g : Geometry) (v w : Volume) (old new : List Cell) → Stands g v old → AreKept v → AreKept w → Follows (IsOldOrNew g [] v w) old new
-    → Follows (HasOldOrNew g w) old new
+    (g : Geometry) (blocks : List ℕ) (v w : Volume) (old new : List Cell) → Stands g v old → AreKept v → AreKept w → AreOwnBlocks v w blocks
+    → Follows (IsOldOrNew g blocks v w) old new → Follows (HasOldOrNew g w) old new
+
+-- A change that writes no blocks has none of its own.
+abbrev pub HasNoBlocks : Type 0
+HasNoBlocks = (v w : Volume) → AreOwnBlocks v w []

@@ -1,14 +1,14 @@
 -- A plan on the tables, and what its landing leaves.
-use Rattle.std.specs.Prelude.{◌≡◌, ◌<◌, ◌≤◌, true, false, List, [], length}
+use Rattle.std.specs.Prelude.{◌≡◌, ◌<◌, ◌≤◌, true, false, List, [], length, Result, Ok, Err}
 use Rattle.pm_words.specs.declared.Cell.{Cell}
 use Rattle.pm_words.specs.Frames.{KeepsSingle}
 use Rattle.pm_words.specs.Powers.{is_on, Supply}
 use Rattle.disk_rules.specs.Volume.{Volume}
 use Rattle.k_journal.specs.Commits.{TakesAStep}
 use Rattle.k_journal.specs.declared.batches.Entry.{Entry}
-use Rattle.k_journal.specs.declared.outcomes.Commit.{Commit}
 use Rattle.k_land.specs.Plans.{Turns}
 use Rattle.k_rules.specs.Stands.{Stands}
+use Rattle.k_split.specs.declared.faults.KFault.{KFault}
 use Rattle.k_split.specs.Answers.{Changes}
 
 -- the batch turns the volume of the device into w, in four lines at most
@@ -30,6 +30,9 @@ pub record IsLandedLost (v w : Volume) (old new : List Cell) (after : Supply) : 
   pub changes : Changes v w old new
   pub off : is_on after ≡ false
 
-abbrev pub IsLanded : Volume → Volume → List Entry → List Cell → List Cell → Supply → Supply → Commit → Type 0
-IsLanded v w b old new before after Commit.Done = IsLandedDone v w b old new before after
-IsLanded v w b old new before after Commit.PowerLost = IsLandedLost v w old new after
+abbrev pub IsLanded : Volume → Volume → List Entry → List Cell → List Cell → Supply → Supply → Result (Unit {0}) KFault → Type 0
+IsLanded v w b old new before after (Ok done) = IsLandedDone v w b old new before after
+IsLanded v w b old new before after (Err KFault.PowerLost) = IsLandedLost v w old new after
+IsLanded v w b old new before after (Err (KFault.Refused errno)) = ⊥
+IsLanded v w b old new before after (Err (KFault.Room room)) = ⊥
+IsLanded v w b old new before after (Err KFault.NoMemory) = ⊥

@@ -5,4 +5,3 @@ pub mod Landed
 pub mod Looks
 pub mod Names
 pub mod Order
-pub mod Parents

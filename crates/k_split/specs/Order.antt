@@ -13,8 +13,9 @@ abbrev pub view_of : TablesView → List Cell → Bool → Bool → View
 view_of tables cells batched lost =
     record { volume = tables.volume; committed = tables.volume; waiting = tables.waiting; cells = cells; batched = batched; lost = lost }
 
--- The device stands at the volume that was committed last. The volume keeps the rules, and is that one where no changes
--- gather in a batch; then no block waits for a commit.
+-- Where no changes gather in a batch, and none do yet (`batched` is false wherever K-Split is opened): the device stands at
+-- the volume, which was committed last and keeps the rules, and no block waits for a commit. Of a batch that gathers it says
+-- too little: nothing ties its volume to the committed one.
 pub record IsInOrder (k : View) : Type 0 where
   pub stands : Stands k.committed.geometry k.committed k.cells
   pub whole : IsWhole k.volume

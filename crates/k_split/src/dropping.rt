@@ -8,12 +8,19 @@ ghost use Rattle.k_split.specs.Names.{IsDropAnswer};
 use crate::changes::land_plan;
 use crate::faults::KFault;
 use crate::state::KSplit;
-use k_journal::Commit;
 use pm_lines::Power;
 
 impl KSplit {
     /// Drops a file that has no name, as one transaction: its inode is free and keeps its
     /// generation, and its blocks are free. It takes no memory, and only the power stops it.
+    ///
+    /// # Errors
+    ///
+    /// `PowerLost` alone, as [`KFault`] says.
+    ///
+    /// # Steps
+    ///
+    /// At most 256, as [`KFault`] says.
     pub fn drop_node(&mut self, ino: u32, power: &mut Power) -> Result<(), KFault>
         requires awake { self.old.lost ≡ true → is_on power.old ≡ false }
         requires may { self.old.lost ≡ false → MayDrop ino self.old.volume }
@@ -27,12 +34,12 @@ impl KSplit {
             return Err(KFault::PowerLost);
         }
         self.tables.drop_node(&mut self.batch, ino);
-        match land_plan(&mut self.batch, &mut self.pm, &self.tables, power) {
-            Commit::Done => Ok(()),
-            Commit::PowerLost => {
-                self.lost = true;
-                Err(KFault::PowerLost)
-            }
-        }
+        land_plan(
+            &mut self.batch,
+            &mut self.pm,
+            &self.tables,
+            &mut self.lost,
+            power,
+        )
     }
 }

@@ -6,7 +6,25 @@ use k_plans::PlanFault;
 use posix_types::{Errno, Room};
 use thiserror::Error;
 
-/// Why a change is not made. `Refused`, `Room` and `NoMemory` leave all as it was.
+/// Why a change is not made.
+///
+/// # Errors
+///
+/// What each change of [`KSplit`](crate::KSplit) answers, beside its value:
+///
+/// - `Refused` exactly where the first row of the call that fits is this error: nothing is changed,
+///   and no step is taken.
+/// - `Room` exactly where the first row that fits says that inode lines or name lines are used up:
+///   nothing is changed, and no step is taken.
+/// - `NoMemory` only where no row fits: nothing is changed, and no step is taken.
+/// - `PowerLost` exactly where the power is off at the return: nothing is changed if it was off at
+///   the call; else the change was cut off, and each image has the old volume or the new one. The
+///   `KSplit` is lost.
+///
+/// # Steps
+///
+/// A change takes at most 256 steps of its power, and at least one where it is done; a step is a
+/// store, a flush or a fence of the device. A `KSplit` that is lost is handed no power that is on.
 #[derive(Clone, Copy, Debug, PartialEq, Eq, Error)]
 pub enum KFault {
     /// The call answers this error.

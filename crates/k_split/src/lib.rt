@@ -21,7 +21,6 @@ mod laws;
 mod looks;
 mod making;
 mod opening;
-mod parents;
 mod removing;
 mod renaming;
 mod state;

@@ -2,7 +2,7 @@
 ghost use Rattle.std.specs.Prelude.{◌≡◌, ◌<◌, ◌↔◌, false, IsTrue, Ok, IfErr, IfOk};
 ghost use Rattle.disk_lines.specs.Names.{names_of};
 ghost use Rattle.k_rules.specs.Spaces.{space_of};
-ghost use Rattle.k_split.specs.Looks.{IsFound, IsDirectoryFound, IsListed, IsListFault};
+ghost use Rattle.k_split.specs.Looks.{IsFound, IsDirectoryFound, IsLed, IsListed, IsListFault};
 ghost use Rattle.posix_words.specs.Names.{node_at_path, walk};
 
 use crate::faults::KFault;
@@ -30,21 +30,39 @@ fn node_below(inodes: &[Inode], names: &NameTable, path: &Path, parent: u32) -> 
 }
 
 impl KSplit {
-    /// The inode at a path: ENAMETOOLONG, ENOENT or ENOTDIR where none stands there.
-    pub fn find(&self, path: &Path) -> Result<u32, Errno>
-        ensures { IsFound self.now.volume path.now result }
+    /// The directory in which the last name of a path stands, whether or not that name is there; of
+    /// the root, the root itself. A call that takes a path and has rows of its own goes by it: these
+    /// two rows come before all that look at what stands at the path.
+    ///
+    /// # Errors
+    ///
+    /// ENAMETOOLONG exactly where a name or the path is too long; else ENOENT or ENOTDIR exactly
+    /// where a name before the last one is missing or a file, whichever comes first.
+    pub fn directory_of(&self, path: &Path) -> Result<u32, Errno>
+        ensures { IsLed self.now.volume path.now result }
     {
-        let inodes = self.tables.inodes();
-        let names = self.tables.names();
         if is_too_long(LONGEST_NAME, path) {
             return Err(Errno::ENAMETOOLONG);
         }
-        match parent_of(inodes, names, path) {
+        parent_of(self.tables.inodes(), self.tables.names(), path)
+    }
+
+    /// The inode at a path.
+    ///
+    /// # Errors
+    ///
+    /// ENAMETOOLONG, ENOENT or ENOTDIR exactly where the rows of `stat` say.
+    pub fn find(&self, path: &Path) -> Result<u32, Errno>
+        ensures { IsFound self.now.volume path.now result }
+    {
+        match self.directory_of(path) {
             Err(errno) => Err(errno),
-            Ok(parent) => match node_below(inodes, names, path, parent) {
-                Some(ino) => Ok(ino),
-                None => Err(Errno::ENOENT),
-            },
+            Ok(parent) => {
+                match node_below(self.tables.inodes(), self.tables.names(), path, parent) {
+                    Some(ino) => Ok(ino),
+                    None => Err(Errno::ENOENT),
+                }
+            }
         }
     }
 
@@ -66,7 +84,10 @@ impl KSplit {
 
     /// The names in the directory at a path, in the order of their bytes. It takes memory for them.
     ///
-    /// `Refused` comes exactly where the rows of `list` say; no other fault but `NoMemory` does.
+    /// # Errors
+    ///
+    /// `Refused` exactly where the rows of `list` say, with ENAMETOOLONG, ENOENT or ENOTDIR;
+    /// `NoMemory` only where no row fits; never `Room` or `PowerLost`.
     pub fn list(&self, alloc: Global, path: &Path) -> Result<Vec<Name>, KFault>
         ensures names { IfOk result (λ names. IsListed self.now.volume path.now names.items) }
         ensures refused { IfErr result (IsListFault self.now.volume path.now) }
@@ -80,11 +101,10 @@ impl KSplit {
         }
     }
 
-    /// Whether an inode has a name.
+    /// Whether an inode has a name. The root has none.
     pub fn named(&self, ino: u32) -> bool
         ensures { IsTrue result ↔ (0 < names_of self.now.volume.names ino) }
     {
-        let _geometry = self.tables.geometry();
-        ino != 0 && self.tables.names().below(ino, 0)
+        self.tables.named(ino)
     }
 }

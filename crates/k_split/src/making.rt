@@ -8,7 +8,6 @@ ghost use Rattle.k_split.specs.Names.{make_row, IsMakeAnswer};
 use crate::changes::land_plan;
 use crate::faults::{KFault, fault_of};
 use crate::state::KSplit;
-use k_journal::Commit;
 use pm_lines::Power;
 use posix_types::Path;
 use std::alloc::Global;
@@ -17,6 +16,15 @@ impl KSplit {
     /// Makes a directory or a file, with its name, as one transaction. It answers the inode: the
     /// lowest free one from 5 on, whose generation rises by 1 modulo 2^32; the name takes the
     /// lowest free name line. The path is spelled.
+    ///
+    /// # Errors
+    ///
+    /// As [`KFault`] says, by the rows of `mkdir`, for a file too: so a path that exists is refused
+    /// with EEXIST.
+    ///
+    /// # Steps
+    ///
+    /// At most 256, as [`KFault`] says.
     pub fn make(
         &mut self,
         alloc: Global,
@@ -36,13 +44,18 @@ impl KSplit {
         }
         match self.tables.make(alloc, &mut self.batch, path, directory) {
             Err(fault) => Err(fault_of(fault)),
-            Ok(ino) => match land_plan(&mut self.batch, &mut self.pm, &self.tables, power) {
-                Commit::Done => Ok(ino),
-                Commit::PowerLost => {
-                    self.lost = true;
-                    Err(KFault::PowerLost)
+            Ok(ino) => {
+                match land_plan(
+                    &mut self.batch,
+                    &mut self.pm,
+                    &self.tables,
+                    &mut self.lost,
+                    power,
+                ) {
+                    Ok(()) => Ok(ino),
+                    Err(fault) => Err(fault),
                 }
-            },
+            }
         }
     }
 }

@@ -53,9 +53,10 @@ fn read_tables(alloc: Global, pm: &Pm, geometry: Geometry) -> Result<Tables, All
 }
 
 impl KSplit {
-    /// The K-Split of a device, which is a checked image of this geometry: nothing is lent, every
-    /// word has one candidate, and the journal is empty. Changes do not gather yet: `batched` is
-    /// false.
+    /// The K-Split of a device. `batched` must be false: changes do not gather yet.
+    ///
+    /// The device is a checked image of this geometry: nothing is lent, every word has one
+    /// candidate, and the journal is empty. Want of memory is the only error.
     pub fn open(
         alloc: Global,
         pm: Pm,

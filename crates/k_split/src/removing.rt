@@ -7,13 +7,20 @@ ghost use Rattle.k_split.specs.Names.{rmdir_row, unlink_row, IsRmdirAnswer, IsUn
 use crate::changes::land_plan;
 use crate::faults::{KFault, fault_of};
 use crate::state::KSplit;
-use k_journal::Commit;
 use pm_lines::Power;
 use posix_types::Path;
 
 impl KSplit {
     /// Takes the name of a file away, as one transaction. It answers the file's inode, which stays
     /// until it is dropped. It takes no memory.
+    ///
+    /// # Errors
+    ///
+    /// As [`KFault`] says, by the rows of `unlink`; never `Room` or `NoMemory`.
+    ///
+    /// # Steps
+    ///
+    /// At most 256, as [`KFault`] says.
     pub fn unlink(&mut self, path: &Path, power: &mut Power) -> Result<u32, KFault>
         requires awake { self.old.lost ≡ true → is_on power.old ≡ false }
         ensures steps { Steps 256 power.old power.new }
@@ -27,18 +34,31 @@ impl KSplit {
         }
         match self.tables.unlink(&mut self.batch, path) {
             Err(fault) => Err(fault_of(fault)),
-            Ok(ino) => match land_plan(&mut self.batch, &mut self.pm, &self.tables, power) {
-                Commit::Done => Ok(ino),
-                Commit::PowerLost => {
-                    self.lost = true;
-                    Err(KFault::PowerLost)
+            Ok(ino) => {
+                match land_plan(
+                    &mut self.batch,
+                    &mut self.pm,
+                    &self.tables,
+                    &mut self.lost,
+                    power,
+                ) {
+                    Ok(()) => Ok(ino),
+                    Err(fault) => Err(fault),
                 }
-            },
+            }
         }
     }
 
     /// Takes a directory without entries away, with its name, as one transaction. It takes no
     /// memory.
+    ///
+    /// # Errors
+    ///
+    /// As [`KFault`] says, by the rows of `rmdir`; never `Room` or `NoMemory`.
+    ///
+    /// # Steps
+    ///
+    /// At most 256, as [`KFault`] says.
     pub fn rmdir(&mut self, path: &Path, power: &mut Power) -> Result<(), KFault>
         requires awake { self.old.lost ≡ true → is_on power.old ≡ false }
         ensures steps { Steps 256 power.old power.new }
@@ -52,13 +72,13 @@ impl KSplit {
         }
         match self.tables.rmdir(&mut self.batch, path) {
             Err(fault) => Err(fault_of(fault)),
-            Ok(()) => match land_plan(&mut self.batch, &mut self.pm, &self.tables, power) {
-                Commit::Done => Ok(()),
-                Commit::PowerLost => {
-                    self.lost = true;
-                    Err(KFault::PowerLost)
-                }
-            },
+            Ok(()) => land_plan(
+                &mut self.batch,
+                &mut self.pm,
+                &self.tables,
+                &mut self.lost,
+                power,
+            ),
         }
     }
 }

@@ -8,7 +8,6 @@ ghost use Rattle.k_split.specs.Names.{rename_row, IsRenameAnswer};
 use crate::changes::land_plan;
 use crate::faults::{KFault, fault_of};
 use crate::state::KSplit;
-use k_journal::Commit;
 use pm_lines::Power;
 use posix_types::Path;
 use std::alloc::Global;
@@ -18,6 +17,14 @@ impl KSplit {
     /// name, and it answers that file; a directory without entries that stood there goes. Where
     /// both paths are those of one node it does nothing, and takes no step. The new path is
     /// spelled.
+    ///
+    /// # Errors
+    ///
+    /// As [`KFault`] says, by the rows of `rename`; never `Room`.
+    ///
+    /// # Steps
+    ///
+    /// At most 256, as [`KFault`] says, and none where both paths are those of one node.
     pub fn rename(
         &mut self,
         alloc: Global,
@@ -41,12 +48,15 @@ impl KSplit {
                 if self.batch.is_empty() {
                     return Ok(lost);
                 }
-                match land_plan(&mut self.batch, &mut self.pm, &self.tables, power) {
-                    Commit::Done => Ok(lost),
-                    Commit::PowerLost => {
-                        self.lost = true;
-                        Err(KFault::PowerLost)
-                    }
+                match land_plan(
+                    &mut self.batch,
+                    &mut self.pm,
+                    &self.tables,
+                    &mut self.lost,
+                    power,
+                ) {
+                    Ok(()) => Ok(lost),
+                    Err(fault) => Err(fault),
                 }
             }
         }

@@ -14,7 +14,8 @@ pub record IsNextCall (scripts : Scripts) (history : List Item) (c : Begun) : Ty
 abbrev pub HaveTwoCallers : Begun → Begun → Type 0
 HaveTwoCallers c d = same_who c.0 d.0 ≡ false
 
--- The unfinished calls of a history, in the order in which they began: at most one of each caller, each the next of its script.
+-- The unfinished calls of a history, in any order: at most one of each caller, each the next of its script. `Scheduled` gives
+-- that of their beginning.
 pub record AreUnfinished (scripts : Scripts) (history : List Item) (unfinished : List Begun) : Type 0 where
   pub next : All (IsNextCall scripts history) unfinished
   pub one_each : AllPairs HaveTwoCallers unfinished

@@ -1,5 +1,5 @@
 //! The calls that take a path: the rows of each, and what its last row does.
-ghost use Rattle.std.specs.Prelude.{◌≡◌, ◌+◌, ◌&&◌, ◌==◌, false, IfNone, IfOk, OnErr, if◌then◌else◌, length, nat_lt};
+ghost use Rattle.std.specs.Prelude.{◌≡◌, ◌+◌, ◌&&◌, ◌==◌, false, IfNone, IfOk, OnErr, OnOk, if◌then◌else◌, length, nat_lt};
 ghost use Rattle.posix_words.specs.Open.{is_full};
 ghost use Rattle.posix_words.specs.Nodes.{node_at};
 ghost use Rattle.posix_words.specs.Names.{directory_stands, exists_at, has_entries, height, number_at};
@@ -52,9 +52,7 @@ impl State {
         if let Some(outcome) = self.mkdir_rows(path) {
             return Ok(outcome);
         }
-        let mut next = self.clone()?;
-        next.make(path, Node::Directory)?;
-        *self = next;
+        self.make(path, Node::Directory)?;
         Ok(answer(Reply::Ok))
     }
 
@@ -212,27 +210,30 @@ impl State {
         self.rename_kind_rows(from, to)
     }
 
-    /// Takes the entries of both paths out, and lets the target lead to the source's node. After want
-    /// of memory the state may be changed in part.
+    /// Takes the entries of both paths out, and lets the target lead to the source's node. It works on
+    /// a copy of the names, so that nothing is changed where memory wants.
     #[tactic(auto, unfolding(crate::specs::Step::renamed, crate::specs::State::unnamed))]
     fn move_name(&mut self, from: &Path, to: &Path) -> Result<(), AllocError>
-        ensures { IfOk result (λ _. self.new ≡ renamed self.old from.now to.now) }
+        ensures ok { OnOk result (self.new ≡ renamed self.old from.now to.now) }
+        ensures err { OnErr result (self.new ≡ self.old) }
     {
         let parent = self.parent_at(to);
         let child = self.number_at(from);
         let name = Name {
             bytes: Vec::from_slice(*self.nodes.allocator(), last_name(to))?,
         };
-        self.unname(from);
-        remove_entry(&mut self.entries, parent, last_name(to));
+        let mut entries = self.entries.clone()?;
+        remove_entry(&mut entries, self.parent_at(from), last_name(from));
+        remove_entry(&mut entries, parent, last_name(to));
         insert_entry(
-            &mut self.entries,
+            &mut entries,
             DirEntry {
                 parent,
                 name,
                 child,
             },
         )?;
+        self.entries = entries;
         Ok(())
     }
 
@@ -262,10 +263,8 @@ impl State {
         let number = self.number_at(to);
         let directory = self.directory_stands(to);
         let file = self.file_stands(to);
-        let mut next = self.clone()?;
-        next.move_name(from, to)?;
-        next.leave(number, directory, file);
-        *self = next;
+        self.move_name(from, to)?;
+        self.leave(number, directory, file);
         Ok(answer(Reply::Ok))
     }
 
@@ -313,11 +312,11 @@ impl State {
         }
     }
 
-    /// Makes the file at a path where it is missing, and cuts it where `truncate` says so. After want
-    /// of memory the state may be changed in part.
+    /// Makes the file at a path where it is missing, and cuts it where `truncate` says so.
     #[tactic(auto, unfolding(crate::specs::Step::opening))]
     fn open_file(&mut self, path: &Path, truncate: bool) -> Result<(), AllocError>
-        ensures { IfOk result (λ _. self.new ≡ opening self.old path.now truncate) }
+        ensures ok { OnOk result (self.new ≡ opening self.old path.now truncate) }
+        ensures err { OnErr result (self.new ≡ self.old) }
     {
         let number = self.number_at(path);
         let file = Node::File(File {
@@ -365,10 +364,8 @@ impl State {
                 flags,
             },
         )?;
-        let mut next = self.clone()?;
-        next.open_file(path, flags.truncate)?;
-        next.tables = tables;
-        *self = next;
+        self.open_file(path, flags.truncate)?;
+        self.tables = tables;
         Ok(answer(Reply::Fd(descriptor)))
     }
 

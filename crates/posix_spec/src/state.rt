@@ -1,5 +1,5 @@
 //! The state of a file system that the calls see.
-ghost use Rattle.std.specs.Prelude.{◌≡◌, ◌==◌, IfOk};
+ghost use Rattle.std.specs.Prelude.{◌≡◌, ◌==◌, OnErr, OnOk};
 ghost use Rattle.posix_words.specs.Names.{directory_stands, exists_at, file_stands, longest_name, node_at_path, number_at, parent_at, too_long, walk};
 ghost use Rattle.posix_spec.specs.State.{alone, made, room, space, swept, unnamed, with_file, with_node, with_published};
 ghost use Rattle.posix_words.specs.NameRows.{no_line, no_node};
@@ -172,25 +172,27 @@ impl State {
         room(self.shape.data_blocks, &self.nodes)
     }
 
-    /// Makes a node at a path. After want of memory the state may be changed in part.
+    /// Makes a node at a path.
     #[tactic(auto, unfolding(crate::specs::State::made))]
     pub(crate) fn make(&mut self, path: &Path, node: Node) -> Result<(), AllocError>
-        ensures { IfOk result (λ _. self.new ≡ made self.old path.now node) }
+        ensures ok { OnOk result (self.new ≡ made self.old path.now node) }
+        ensures err { OnErr result (self.new ≡ self.old) }
     {
         let parent = self.parent_at(path);
         let child = self.nodes.len();
         let name = Name {
             bytes: Vec::from_slice(*self.nodes.allocator(), last_name(path))?,
         };
-        insert_entry(
-            &mut self.entries,
-            DirEntry {
-                parent,
-                name,
-                child,
-            },
-        )?;
         self.nodes.push(node)?;
+        let entry = DirEntry {
+            parent,
+            name,
+            child,
+        };
+        if let Err(refused) = insert_entry(&mut self.entries, entry) {
+            self.nodes.truncate(child);
+            return Err(refused);
+        }
         Ok(())
     }
 

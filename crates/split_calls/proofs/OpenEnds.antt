@@ -10,8 +10,7 @@ use Rattle.disk_rules.specs.Volume.{inode, Volume}
 use Rattle.k_plans.specs.View.{node_at as inode_at}
 use Rattle.k_rules.specs.Spaces.{is_directory_in, is_free, volume_space}
 use Rattle.k_rules.specs.View.{View}
-use Rattle.k_split.specs.Looks.{IsFound}
-use Rattle.k_split.specs.Parents.{IsParentFound}
+use Rattle.k_split.specs.Looks.{IsFound, IsLed}
 use Rattle.open_files.specs.State.{IsDupFault, IsOpenFault, OpenState}
 use Rattle.open_files.specs.declared.faults.OpenFault.{OpenFault}
 use Rattle.posix_types.specs.declared.call.Call.{Call}
@@ -74,7 +73,7 @@ line_free_directory v ino is = free_directory (inode v ino).kind (no_some (is_fr
 -- ---- open: what is found, and what is missing
 
 -- a path to a directory that leads nowhere
-pub missing_at : (v : Volume) (p : List (List ℕ)) (errno : Errno) (parent : ℕ) → IsFound v p (Err errno) → IsParentFound v p (Ok parent) → IsMissing v p
+pub missing_at : (v : Volume) (p : List (List ℕ)) (errno : Errno) (parent : ℕ) → IsFound v p (Err errno) → IsLed v p (Ok parent) → IsMissing v p
 missing_at v p errno parent found there = let rows_are = parent_rows v p parent there in record { short = rows_are.0; walked = rows_are.1; none = missing v p errno parent found there }
 
 pub plain_found : (k : View) (t : Tables) (p : List (List ℕ)) (ino : ℕ) → RunsInSome k t → IsFound k.volume p (Ok ino) → is_directory_in k.volume.inodes ino ≡ false → (inode k.volume ino).kind ≡ File
@@ -87,7 +86,7 @@ module _ (who : Who) (h : Handle) (p : List (List ℕ)) (f : Flags) (k : View) (
       → IsEnded who (Call.Open h p f) k t k t power power (Ok (Told.Answered (answer (Reply.Error errno))))
   open_by_row errno row_is = nothing_ended who (Call.Open h p f) k k t (answer (Reply.Error errno)) power power refl on (open_refused who h p f k t (answer (Reply.Error errno)) row_is)
 
-  pub open_lost : (errno : Errno) → IsParentFound k.volume p (Err errno) → IsEnded who (Call.Open h p f) k t k t power power (Ok (Told.Answered (answer (Reply.Error errno))))
+  pub open_lost : (errno : Errno) → IsLed k.volume p (Err errno) → IsEnded who (Call.Open h p f) k t k t power power (Ok (Told.Answered (answer (Reply.Error errno))))
   open_lost errno lost = open_by_row errno (open_lost_rows k.volume (is_full t) p f errno lost)
 
   there_rows : (ino : ℕ) → IsFound k.volume p (Ok ino)

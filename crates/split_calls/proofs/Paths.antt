@@ -4,8 +4,7 @@ use Rattle.std.specs.Option.{option_map_or}
 use Rattle.std.proofs.Common.{ap, ◌∙◌, sym, subst}
 use Rattle.disk_rules.specs.Volume.{Volume}
 use Rattle.k_rules.specs.Spaces.{volume_space}
-use Rattle.k_split.specs.Looks.{IsFound}
-use Rattle.k_split.specs.Parents.{IsParentFound}
+use Rattle.k_split.specs.Looks.{IsFound, IsLed}
 use Rattle.posix_types.specs.declared.handle.Flags.{Flags}
 use Rattle.posix_types.specs.declared.item.Outcome.{Outcome}
 use Rattle.posix_types.specs.declared.reply.Errno.{Errno}
@@ -30,11 +29,14 @@ two_of_many (Some x) b rows o is = is
 two_of_many None (Some x) rows o is = is
 two_of_many None None rows o is = cc
 
-short_row : (s : Space) (p : List (List ℕ)) → too_long s.longest p ≡ false → too_long_row s p ≡ None
-short_row s p short = ap (λ b. row b Errno.ENAMETOOLONG) short
+both_none : (a b : Option Outcome) → first (a ∷ b ∷ []) ≡ None → (a ≡ None) × (b ≡ None)
+both_none None None is = (refl, refl)
+both_none (Some o) b is = cc
+both_none None (Some o) is = cc
 
-walked_row : (s : Space) (p : List (List ℕ)) (parent : ℕ) → walk s p ≡ Ok parent → walk_row s p ≡ None
-walked_row s p parent leads = rw leads refl
+-- a directory that was found is refused by neither row
+pub parent_rows : (v : Volume) (p : List (List ℕ)) (parent : ℕ) → IsLed v p (Ok parent) → (too_long_row (volume_space v) p ≡ None) × (walk_row (volume_space v) p ≡ None)
+parent_rows v p parent there = both_none (too_long_row (volume_space v) p) (walk_row (volume_space v) p) there.0
 
 none_of : (o : Option ℕ) → is_some o ≡ false → o ≡ None
 none_of None is = refl
@@ -43,11 +45,11 @@ none_of (Some n) is = cc
 -- ---- what stands at a path
 
 -- a path with a directory leads nowhere where `stat` refuses it
-pub missing : (v : Volume) (p : List (List ℕ)) (errno : Errno) (parent : ℕ) → IsFound v p (Err errno) → IsParentFound v p (Ok parent) → node_at_path (volume_space v) p ≡ None
+pub missing : (v : Volume) (p : List (List ℕ)) (errno : Errno) (parent : ℕ) → IsFound v p (Err errno) → IsLed v p (Ok parent) → node_at_path (volume_space v) p ≡ None
 unfolding stat_rows
 missing v p errno parent found there =
     by (exists_at (volume_space v) p) refl
-    (sym (skip_two (too_long_row (volume_space v) p) (walk_row (volume_space v) p) (row (not (exists_at (volume_space v) p)) Errno.ENOENT) (short_row (volume_space v) p there.0) (walked_row (volume_space v) p parent there.1)) ∙ found) where
+    (sym (skip_two (too_long_row (volume_space v) p) (walk_row (volume_space v) p) (row (not (exists_at (volume_space v) p)) Errno.ENOENT) (parent_rows v p parent there).0 (parent_rows v p parent there).1) ∙ found) where
       by : (b : Bool) → exists_at (volume_space v) p ≡ b → first (row (not (exists_at (volume_space v) p)) Errno.ENOENT ∷ []) ≡ Some (answer (Reply.Error errno)) → node_at_path (volume_space v) p ≡ None
       by true is row_is = let never : None ≡ Some (answer (Reply.Error errno)) = ap (λ b. first (row (not b) Errno.ENOENT ∷ [])) (sym is) ∙ row_is in cc
       by false is row_is = none_of (node_at_path (volume_space v) p) is
@@ -112,11 +114,8 @@ open_made_rows s p f short walked at create =
     ∙ sym (λ i. first (row (no_root s p at i) Errno.EEXIST ∷ short i ∷ walked i ∷ row (is_some (at i)) Errno.EEXIST ∷ no_node s ∷ no_line s p ∷ []))
 
 -- of a path that leads to no directory
-pub open_lost_rows : (v : Volume) (full : Bool) (p : List (List ℕ)) (f : Flags) (errno : Errno) → IsParentFound v p (Err errno) → first (open_rows (volume_space v) full false p f) ≡ Some (answer (Reply.Error errno))
+pub open_lost_rows : (v : Volume) (full : Bool) (p : List (List ℕ)) (f : Flags) (errno : Errno) → IsLed v p (Err errno) → first (open_rows (volume_space v) full false p f) ≡ Some (answer (Reply.Error errno))
 unfolding open_rows
 open_lost_rows v full p f errno lost = two_of_many (too_long_row (volume_space v) p) (walk_row (volume_space v) p)
     (row (exists_at (volume_space v) p && (f.create && f.exclusive)) Errno.EEXIST ∷ row (directory_stands (volume_space v) p) Errno.EISDIR ∷ row false Errno.EBUSY ∷ row (not (exists_at (volume_space v) p) && not f.create) Errno.ENOENT
     ∷ row full Errno.EMFILE ∷ unless (exists_at (volume_space v) p) (no_node (volume_space v)) ∷ unless (exists_at (volume_space v) p) (no_line (volume_space v) p) ∷ []) (answer (Reply.Error errno)) lost
-
-pub parent_rows : (v : Volume) (p : List (List ℕ)) (parent : ℕ) → IsParentFound v p (Ok parent) → (too_long_row (volume_space v) p ≡ None) × (walk_row (volume_space v) p ≡ None)
-parent_rows v p parent there = (short_row (volume_space v) p there.0, walked_row (volume_space v) p parent there.1)

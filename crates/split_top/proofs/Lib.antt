@@ -2,7 +2,6 @@ pub mod CallSteps
 pub mod FreshDevices
 pub mod Histories
 pub mod Lines
-pub mod Numbers
 pub mod OneCall
 pub mod Outcomes
 pub mod PlainNames

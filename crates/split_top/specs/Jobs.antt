@@ -1,7 +1,7 @@
 -- Which statuses the parts of a job may end with.
 use Rattle.std.specs.Prelude.{◌≡◌, ⊤, ℕ, List, Some}
 use Rattle.split_top.specs.Script.{bad_line}
-use Rattle.split_top.specs.declared.statuses.Status.{Status}
+use Rattle.exit_status.specs.declared.statuses.Status.{Status}
 
 -- a file was not read
 abbrev pub IsUnread : Status → Type 0

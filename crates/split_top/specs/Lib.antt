@@ -1,11 +1,8 @@
 pub mod Calls
-pub mod Command
 pub mod Jobs
 pub mod Made
 pub mod Reading
 pub mod Rest
 pub mod Runs
 pub mod Script
-pub mod Seen
-pub mod Statuses
 pub mod Top

@@ -5,10 +5,10 @@ use Rattle.posix_types.specs.declared.item.Item.{Item}
 use Rattle.posix_types.specs.declared.tree.TreeEntry.{TreeEntry}
 use Rattle.posix_spec.specs.Run.{Begun}
 use Rattle.report_text.specs.Texts.{history_text, tree_text}
-use Rattle.split_top.specs.Command.{Command, command_of}
+use Rattle.command_words.specs.Command.{Command, command_of}
 use Rattle.split_top.specs.Runs.{IsRun}
 use Rattle.split_top.specs.Script.{bad_line, names_of}
-use Rattle.split_top.specs.declared.statuses.Status.{Status}
+use Rattle.exit_status.specs.declared.statuses.Status.{Status}
 
 -- What a run of a script with these names puts: the text of a history, and then that of the tree that was left.
 pub record IsText (names : List (List ℕ)) (stop : Option ℕ) (output : List ℕ) : Type 0 where

@@ -10,18 +10,13 @@
 #![tactic(auto)]
 
 mod calls;
-mod commands;
-mod file_names;
 mod jobs;
 mod meaning;
 mod program;
 mod remounts;
 mod runs;
 mod scripts;
-mod statuses;
 #[cfg(test)]
 mod tests;
 
-pub use file_names::FileName;
 pub use program::top;
-pub use statuses::{Status, exit_number, status_text};

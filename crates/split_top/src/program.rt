@@ -2,12 +2,12 @@
 ghost use Rattle.std.specs.Prelude.{◌≡◌, ◌⊎◌, ◌↔◌, List, ℕ, Option, None, map};
 ghost use Rattle.std.specs.String.{string_bytes};
 ghost use Rattle.outside.specs.Outside.{Rose};
-ghost use Rattle.split_top.specs.Command.{command_of};
+ghost use Rattle.command_words.specs.Command.{command_of};
 ghost use Rattle.split_top.specs.Top.{IsBadScript, IsCutShort, IsDone, IsGiven, IsMissing, IsRefusal, IsVerdict};
 
-use crate::commands::read_command;
+use command_words::read_command;
 use crate::jobs::{put_output, read_file, run_script};
-use crate::statuses::Status;
+use exit_status::Status;
 use outside::{Files, Sink};
 use std::alloc::Global;
 

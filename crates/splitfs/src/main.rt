@@ -2,10 +2,11 @@
 #![tactic(auto)]
 
 ghost use Rattle.std.specs.Prelude.{◌≡◌};
-ghost use Rattle.split_top.specs.Statuses as meaning;
+ghost use Rattle.exit_status.specs.Statuses as meaning;
 
+use exit_status::{Status, exit_number, status_text};
 use outside::{DiskFiles, OutSink};
-use split_top::{Status, exit_number, status_text, top};
+use split_top::top;
 use std::io::Write;
 use std::process::ExitCode;
 use std::{env, io};

@@ -28,7 +28,7 @@ use Rattle.world_images.specs.Images.{ShowsWorld}
 use Rattle.world_images.specs.Promised.{IsKept}
 
 -- the image as the promise of the World sees it
-shown : (v : Volume) (claims : List (ℕ × Draft)) (jobs : List Job) (numbers : List ℕ) (s : State) (count : ℕ) (image : Words) → (is : ShowsWorld v claims jobs numbers s count image)
+pub shown : (v : Volume) (claims : List (ℕ × Draft)) (jobs : List Job) (numbers : List ℕ) (s : State) (count : ℕ) (image : Words) → (is : ShowsWorld v claims jobs numbers s count image)
     → IsShown v claims jobs (journaled image) (journaled image) is.landed
 shown v claims jobs numbers s count image is = record { same = λ b i in_data below lent. refl; filled = is.filled; log = is.log.shows }
 
@@ -51,7 +51,7 @@ content_is : (v : Volume) (claims : List (ℕ × Draft)) (jobs : List Job) (numb
 content_is v claims jobs numbers s count image is = content-own v.geometry v (journaled image) is.reads
 
 -- So it is kept, where its trees are permitted.
-kept_by : (v : Volume) (claims : List (ℕ × Draft)) (jobs : List Job) (numbers : List ℕ) (s : State) (count : ℕ) (image : Words) (start : State) (history : List Item) (unfinished : List Begun)
+pub kept_by : (v : Volume) (claims : List (ℕ × Draft)) (jobs : List Job) (numbers : List ℕ) (s : State) (count : ℕ) (image : Words) (start : State) (history : List Item) (unfinished : List Begun)
     → ShowsWorld v claims jobs numbers s count image
     → ((left : List TreeEntry) → IsTreeOfContent (content_shown v (journaled image)) left → Permitted start.mode start history unfinished left) → IsKept v.geometry start history unfinished image
 kept_by v claims jobs numbers s count image start history unfinished is permitted = record {

@@ -91,7 +91,7 @@ beside_apart j [] apart = tt
 beside_apart j (k ∷ jobs) apart = (ne_eqb k.draft.ino j.draft.ino (λ same. apart.0.files (sym same)), beside_apart j jobs apart.1)
 
 pub finished_in_place : KeepsFinishedInPlace
-finished_in_place v claims a j b f g numbers s count slot world holds small writes =
+finished_in_place v claims a j b f g numbers s count slot world holds writes =
     let live = live_claims v claims in
     let n : ℕ = number numbers j.draft.ino in
     let valid = Valid-front v claims a j b f numbers s world.valid in
@@ -105,7 +105,7 @@ finished_in_place v claims a j b f g numbers s count slot world holds small writ
     let fits : needs s (a ++ b) ≤ room after = room-after s after (begun_of j) n j.whole j.whole (needs s (a ++ b)) job.puts last refl all in
     subst (λ x. IsWorld v (claims ++ (slot, j.draft) ∷ []) (a ++ b) g numbers x count) same
     (in_place v (claims ++ (slot, j.draft) ∷ []) (a ++ b) f g numbers (acted numbers s j) after count j.draft.ino j.whole (published_of (node_at s.nodes n))
-    (landed v claims a j b f numbers s count slot world holds small) writes (beside_apart j (a ++ b) valid.out.1)
+    (landed v claims a j b f numbers s count slot world holds) writes (beside_apart j (a ++ b) valid.out.1)
     (record {
       flying_on = flying_with v live f numbers s j j.whole (a ++ b) valid.stands job valid.out.1 valid.out.2 fits;
       files = files_with v live f numbers s j j.found j.whole (a ++ b) valid.stands job valid.out.1 valid.out.2;

@@ -162,14 +162,14 @@ AreAged-more v claims slot d count aged alive staging small least = record {
 }
 
 pub landed : KeepsLanded
-landed v claims a j b f numbers s count slot world holds small =
+landed v claims a j b f numbers s count slot world holds =
     let valid = Valid-front v claims a j b f numbers s world.valid in
     let job = valid.out.0 in
     let left = LeavesWhole-acted v (live_claims v claims) f numbers s j valid.stands job in
     record {
       valid = Valid-landed v claims j (a ++ b) f numbers s slot valid holds;
       claims_stand = ClaimsStand-landed v claims slot j.draft world.claims_stand valid.stands.log job.alive job.order;
-      aged = AreAged-more v claims slot j.draft count world.aged job.alive job.staging small (live_ino v j.draft valid.stands.sane job.alive);
+      aged = AreAged-more v claims slot j.draft count world.aged job.alive job.staging job.fields.generation (live_ino v j.draft valid.stands.sane job.alive);
       shape = record {
         root = subst (λ x. 1 ≤ x.nodes) (sym left.shape) world.shape.root;
         nodes = ap (λ x. x.nodes + 4) left.shape ∙ world.shape.nodes;
@@ -179,14 +179,14 @@ landed v claims a j b f numbers s count slot world holds small =
     }
 
 pub finished : KeepsFinished
-finished v claims a j b f numbers s count slot world holds whole small =
+finished v claims a j b f numbers s count slot world holds whole =
     let valid = Valid-front v claims a j b f numbers s world.valid in
     let job = valid.out.0 in
     let same : acted numbers s j ≡ after_call s (begun_of j) =
     ap (with_bytes (after_call s (begun_of j)) (number numbers j.draft.ino)) whole
     ∙ with_bytes-whole s (begun_of j) (number numbers j.draft.ino) j.whole job.puts (valid.stands.names.within j.draft.ino (live_used v j.draft job.alive))
     in
-    subst (λ x. IsWorld v (claims ++ (slot, j.draft) ∷ []) (a ++ b) f numbers x count) same (landed v claims a j b f numbers s count slot world holds small)
+    subst (λ x. IsWorld v (claims ++ (slot, j.draft) ∷ []) (a ++ b) f numbers x count) same (landed v claims a j b f numbers s count slot world holds)
 
 -- ---- a lap ends
 

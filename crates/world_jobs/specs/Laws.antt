@@ -56,7 +56,6 @@ KeepsLanded =
     (v : Volume) (claims : List (ℕ × Draft)) (a : List Job) (j : Job) (b : List Job) (f : Words) (numbers : List ℕ)
     (s : State) (count slot : ℕ)
     → IsWorld v claims (a ++ j ∷ b) f numbers s count → HoldsWhole v f j.draft j.found
-    → j.draft.generation < 2 ^ 32
     → IsWorld v (claims ++ (slot, j.draft) ∷ []) (a ++ b) f numbers (acted numbers s j) count
 
 -- any of the jobs finishes: its blocks hold its whole bytes, its entry is claimed in a slot, and its call has acted
@@ -65,7 +64,6 @@ KeepsFinished =
     (v : Volume) (claims : List (ℕ × Draft)) (a : List Job) (j : Job) (b : List Job) (f : Words) (numbers : List ℕ)
     (s : State) (count slot : ℕ)
     → IsWorld v claims (a ++ j ∷ b) f numbers s count → HoldsWhole v f j.draft j.found → j.found ≡ j.whole
-    → j.draft.generation < 2 ^ 32
     → IsWorld v (claims ++ (slot, j.draft) ∷ []) (a ++ b) f numbers (after_call s (begun_of j)) count
 
 -- any of the jobs is given up
@@ -127,6 +125,5 @@ KeepsFinishedInPlace =
     (v : Volume) (claims : List (ℕ × Draft)) (a : List Job) (j : Job) (b : List Job) (f g : Words) (numbers : List ℕ)
     (s : State) (count slot : ℕ)
     → IsWorld v claims (a ++ j ∷ b) f numbers s count → HoldsWhole v f j.draft j.found
-    → j.draft.generation < 2 ^ 32
     → WritesInPlace v (live_claims v (claims ++ (slot, j.draft) ∷ [])) f g j.draft.ino j.whole
     → IsWorld v (claims ++ (slot, j.draft) ∷ []) (a ++ b) g numbers (after_call s (begun_of j)) count

@@ -104,6 +104,8 @@ jobs_in_place v live f g numbers s new ino bytes sane log writes (j ∷ jobs) of
     let job = out.0 in
     let other : j.draft.ino ≢ ino = λ same. (let never : true ≡ false = sym (eq-eqb j.draft.ino ino same) ∙ off.0 in cc) in (
       record {
+        draft = job.draft;
+        fields = job.fields;
         alive = job.alive;
         order = job.order;
         size = job.size;

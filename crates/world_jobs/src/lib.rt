@@ -5,8 +5,9 @@
 //! jobs in flight: a job begins, is filled, lands with its claim, finishes with its call's effect (in sync
 //! mode by bytes in place), or is given up; a lap ends; a file of which nothing is live is resized
 //! (`Resizes`, `HasAlone`), as `truncate` and a cutting `open` ask; and bytes of a file that no job has are
-//! written in place (`WritesInPlace`). `Laws` has the laws, each as one statement; the files `..Steps` their
-//! proofs.
+//! written in place (`WritesInPlace`) where blocks are mapped; that holes of a file with live entries are
+//! filled first, as sync and POSIX mode do, has no law here yet. `Laws` has the laws, each as one
+//! statement; the files `..Steps` their proofs.
 //!
 //! Stands on `world_steps`, `world_log` and `world_promise`.
 #![tactic(auto)]

@@ -89,6 +89,8 @@ view v live f numbers s i j stands first second other =
 JobStands-beside : (v : Volume) (live : List Draft) (f : Words) (numbers : List ℕ) (s : State) (i j : Job) → Stands v live f numbers s → JobStands v live f numbers s i → JobStands v live f numbers s j
     → AreApartJobs i j → need_of s j.who j.call ≤ room (acted numbers s i) → JobStands v (live ++ i.draft ∷ []) f numbers (acted numbers s i) j
 JobStands-beside v live f numbers s i j stands first second apart fits = record {
+  draft = second.draft;
+  fields = second.fields;
   alive = second.alive;
   order = second.order ∙ ap (λ (es : List Draft). (inode v j.draft.ino).applied + length es + 1) (sym (entries-other live i.draft j.draft.ino apart.files));
   size = second.size;

@@ -130,6 +130,8 @@ JobsStand-bytes : (v : Volume) (live : List Draft) (f g : Words) (numbers : List
 JobsStand-bytes v live f g numbers s [] keeps out = tt
 JobsStand-bytes v live f g numbers s (j ∷ jobs) keeps out = (
   record {
+    draft = out.0.draft;
+    fields = out.0.fields;
     alive = out.0.alive;
     order = out.0.order;
     size = out.0.size;

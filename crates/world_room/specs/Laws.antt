@@ -100,9 +100,9 @@ FreesDropped =
 -- ---- the staging
 
 -- Preallocation. With `owed` runs out, so many blocks `free` and a run of `count`: the spare ones are those above
--- `owed + reserve - 1`, and the larger of the run and of half the spare, but at most 64, and one chain block are taken. Then
--- `owed + reserve - 2` are free still: what one run more wants.
+-- `owed + reserve - 1`, and the larger of the run and of half the spare, but at most 64, and one chain block are taken. So many
+-- are free, and then `owed + reserve - 2` still: what one run more wants.
 abbrev pub LeavesForTheNext : Type 0
 LeavesForTheNext =
     (owed kept free count : ℕ) → 1 ≤ kept → count + owed + kept ≤ free + 1
-    → owed + kept ≤ free - min 64 (max count ((free - (owed + kept - 1)) / 2)) - 1 + 2
+    → owed + kept + min 64 (max count ((free - (owed + kept - 1)) / 2)) + 1 ≤ free + 2

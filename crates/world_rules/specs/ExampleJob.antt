@@ -17,6 +17,8 @@ use Rattle.world_rules.specs.Example.{claims_a, entry_a, job_a, numbers_a, one_e
 -- The write in flight stands, where it puts what it is to put.
 pub JobStands-a : PutsWhole state_a job_a.who job_a.call 1 (1 ∷ 9 ∷ 3 ∷ []) → JobStands volume_a (live_claims volume_a claims_a) words_a numbers_a state_a job_a
 JobStands-a puts = record {
+  draft = refl;
+  fields = record { ino = omega arith; generation = omega arith; staging_generation = omega arith };
   alive = refl;
   order = refl;
   size = refl;

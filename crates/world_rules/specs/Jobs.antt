@@ -4,6 +4,8 @@ use Rattle.pm_words.specs.Words.{byte_of, Words}
 use Rattle.extent_words.specs.Extents.{disk_at, is_within}
 use Rattle.disk_lines.specs.declared.Draft.{Draft}
 use Rattle.disk_lines.specs.declared.Kind.TheVariants.{Staging}
+use Rattle.disk_lines.specs.Entries.{is_draft}
+use Rattle.disk_lines.specs.EntryLaws.{FitsDraft}
 use Rattle.disk_rules.specs.Content.{byte_in, disk_of}
 use Rattle.disk_rules.specs.Live.{is_live}
 use Rattle.disk_rules.specs.Rules.{AreApart, HasStagingBlocks}
@@ -48,10 +50,12 @@ HoldsWhole v f d whole =
 abbrev pub live_claims : Volume → List (ℕ × Draft) → List Draft
 live_claims v claims = filter (is_live v) (map (λ (c : ℕ × Draft). c.1) claims)
 
--- A job stands: its entry would be the next live one of its file, with the size of what is found; outside the entry's
+-- A job stands: its entry is one that a log line can hold; it would be the next live one of its file, with the size of what is found; outside the entry's
 -- blocks the file has what is found already; its blocks are in a staging file, apart from those of live entries; and its
 -- call puts its whole bytes, of which what is found is a part.
 pub record JobStands (v : Volume) (live : List Draft) (f : Words) (numbers : List ℕ) (s : State) (j : Job) : Type 0 where
+  pub draft : is_draft j.draft ≡ true
+  pub fields : FitsDraft j.draft
   pub alive : is_live v j.draft ≡ true
   pub order : j.draft.order ≡ (inode v j.draft.ino).applied + length (entries_of j.draft.ino live) + 1
   pub size : j.draft.size ≡ length j.found

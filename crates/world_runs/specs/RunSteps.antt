@@ -311,6 +311,8 @@ relinked_jobs v w live f numbers s d displaced rest run (j ∷ jobs) off out =
     let used : IsUsed v j.draft.ino = ap is_used (live_file v j.draft job.alive) in
     let staged = staged_left v w live d displaced rest run j.draft job.staging (turned d j.draft (job.apart d run.there)) in (
       record {
+        draft = job.draft;
+        fields = job.fields;
         alive = (λ i. of_file_same v w d displaced run.change j.draft i && nat_lt (applied i) j.draft.order && ((run.change.same j.draft.staging).generation i == j.draft.staging_generation)) ∙ job.alive;
         order = job.order ∙ (λ i. sym applied i + length (sym (entries_left_other live d j.draft.ino other) i) + 1);
         size = job.size;

@@ -148,6 +148,8 @@ restaged v w claims jobs f numbers s count x world change none_live none_out = r
       let line = change.others j.draft.ino (not_used j.draft.ino used) in
       let there = off j (inl refl) in (
         record {
+          draft = job.draft;
+          fields = job.fields;
           alive = (λ i. is_file (line i).kind && ((line i).generation == j.draft.generation) && nat_lt (line i).applied j.draft.order && ((change.others j.draft.staging there i).generation == j.draft.staging_generation)) ∙ job.alive;
           order = job.order ∙ (λ i. (sym line i).applied + length (entries_of j.draft.ino live) + 1);
           size = job.size;

@@ -234,6 +234,8 @@ job_left touched v w claims f numbers after s new j steps stands job out flight 
     let same = steps.leaves.inodes j.draft.ino out in
     let num = steps.same_number j.draft.ino (live_used v j.draft job.alive) out in
     record {
+      draft = job.draft;
+      fields = job.fields;
       alive = live_same v w j.draft same (steps.leaves.inodes j.draft.staging (steps.leaves.staging j.draft.staging job.staging)) ∙ job.alive;
       order = job.order ∙ (λ i. (sym same i).applied + length (sym (entries-beside touched live j.draft.ino out) i) + 1);
       size = job.size;

@@ -1,4 +1,4 @@
-use Rattle.crash_spec.specs.PosixLaws.{Posix-StrongPosix}
+use Rattle.crash_spec.proofs.PosixLaws.{Posix-StrongPosix}
 use Rattle.crash_spec.specs.RelationLaws.{IsPartOf-none, IsPartOf-whole, Sync-Strict}
 use Rattle.crash_spec.proofs.modes_imply_modes.Goals as goal
 

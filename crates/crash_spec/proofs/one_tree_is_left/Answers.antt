@@ -1,5 +1,5 @@
 use Rattle.crash_spec.specs.RelationLaws.{Strict-idle, Sync-idle}
-use Rattle.crash_spec.specs.Synced.{Posix-synced}
+use Rattle.crash_spec.proofs.Synced.{Posix-synced}
 use Rattle.crash_spec.proofs.one_tree_is_left.Goals as goal
 
 pub returns-clause-strict : goal.returns-clause-strict

@@ -1,5 +1,5 @@
-use Rattle.crash_spec.specs.MachineLaws.{Begins-idle, Checkpoint-idle, claims_fit, Follows-Scheduled}
-use Rattle.crash_spec.specs.OneThread.{OneThread-Scheduled}
+use Rattle.crash_spec.proofs.MachineLaws.{Begins-idle, Checkpoint-idle, claims_fit, Follows-Scheduled}
+use Rattle.crash_spec.proofs.OneThread.{OneThread-Scheduled}
 use Rattle.crash_spec.proofs.schedules_follow_the_scripts.Goals as goal
 
 pub returns-clause-follows : goal.returns-clause-follows

@@ -1,6 +1,6 @@
 -- what a commit asks for, and the blocks of one map
 use Rattle.k_land.specs.LandingLaws.{may-commit}
-use Rattle.k_land.specs.WrittenLaws.{unchained-all, blocks_of-one}
+use Rattle.k_land.specs.WrittenLaws.{unused-all, blocks_of-one}
 use Rattle.k_land.proofs.laws.plans_can_be_landed.Goals as goal
 
 pub returns-clause-ready : goal.returns-clause-ready
@@ -9,5 +9,5 @@ returns-clause-ready c = may-commit
 pub returns-clause-blocks : goal.returns-clause-blocks
 returns-clause-blocks c = blocks_of-one
 
-pub returns-clause-unchained : goal.returns-clause-unchained
-returns-clause-unchained c = unchained-all
+pub returns-clause-unused : goal.returns-clause-unused
+returns-clause-unused c = unused-all

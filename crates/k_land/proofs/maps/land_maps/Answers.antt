@@ -1,7 +1,7 @@
 -- the write of the maps, and then a commit
 use Rattle.std.proofs.Common.{◌≡◌, true}
 use Rattle.pm_words.specs.Powers.{is_on}
-use Rattle.k_land.specs.WrittenLaws.{outside-each, may-commit-written, each_image-landed, stands-landed, same_elsewhere, settles_elsewhere, took-later}
+use Rattle.k_land.specs.WrittenLaws.{outside-each, may-commit-written, each_image-landed, stands-landed, same_elsewhere, settles_elsewhere, took-later, unused-apart}
 use Rattle.k_land.proofs.maps.land_maps.Goals as goal
 
 pub commit-requires : goal.commit-requires
@@ -13,8 +13,9 @@ commit-requires c = record {
 }
 
 pub returns-clause-each_image : goal.returns-clause-each_image
-returns-clause-each_image c v w stands free turns =
-    each_image-landed c.args.geometry.now c.args.maps.now v c.args.pm.now c.write_all.new.pm c.args.power.now c.write_all.new.power stands free c.write_all.ensures
+returns-clause-each_image c v w stands unused turns =
+    each_image-landed c.args.geometry.now c.args.maps.now v c.args.pm.now c.write_all.new.pm c.args.power.now c.write_all.new.power stands
+    (unused-apart c.args.geometry.now v c.args.pm.now _ stands unused) c.write_all.ensures
     w c.args.batch.now c.commit.new.pm turns (λ off. (c.commit.ensures.off off).0) c.commit.ensures.each_image
 
 pub returns-clause-elsewhere : goal.returns-clause-elsewhere
@@ -28,9 +29,10 @@ returns-clause-others c =
     c.write_all.ensures c.commit.ensures.others
 
 pub returns-clause-done : goal.returns-clause-done
-returns-clause-done c done v w stands free turns =
+returns-clause-done c done v w stands unused turns =
     let on : is_on c.write_all.new.power ≡ true = c.commit.ensures.steps.on_before (c.commit.ensures.done done) in
-    stands-landed c.args.geometry.now c.args.maps.now v c.args.pm.now c.write_all.new.pm c.args.power.now c.write_all.new.power stands free c.write_all.ensures
+    stands-landed c.args.geometry.now c.args.maps.now v c.args.pm.now c.write_all.new.pm c.args.power.now c.write_all.new.power stands
+    (unused-apart c.args.geometry.now v c.args.pm.now _ stands unused) c.write_all.ensures
     w c.args.batch.now c.commit.new.pm on (c.requires.write (c.write_all.ensures.steps.on_before on)) turns
     c.commit.ensures.size (c.commit.ensures.idle done) (c.commit.ensures.keeps done) (c.commit.ensures.durable done)
 

@@ -1,60 +1,63 @@
-use Rattle.std.proofs.Common.{◌≡◌, true, false, sym, ◌∙◌}
+use Rattle.std.proofs.Common.{◌≡◌, ℕ, true, false, sym, ◌∙◌, subst}
 use Rattle.pm_words.specs.Powers.{is_on}
 use Rattle.k_plans.specs.Making.{IsMade}
-use Rattle.k_split.specs.Names.{make_row}
-use Rattle.k_split.proofs.ChangeLaws.{answer-done, answer-lost, awake, paid-done, planned, ready-done}
+use Rattle.k_split.specs.Names.{IsMakeAnswer, make_row}
+use Rattle.k_split.proofs.ChangeLaws.{answer-cut, answer-done, awake, paid-cut, paid-done, planned, ready-landed}
+use Rattle.k_split.specs.Answers.{IsPaid}
+use Rattle.k_split.specs.Order.{view_of}
 use Rattle.k_split.proofs.state.KSplit.make.Goals as goal
+use Rattle.k_split.proofs.state.KSplit.make.Goals.{in-Ok-land_plan, in-Err-land_plan}
 
 pub land_plan-requires : goal.land_plan-requires
 land_plan-requires c =
     let k = c.self.inside in
     let on : is_on c.args.power.now ≡ true = sym c.on.ensures ∙ c.if-not-on.false in
     let is : k.lost ≡ false = awake k.tables k.pm k.batched k.lost c.args.self.now c.args.power.now c.self.view_is c.requires.awake on in
-    (k.tables.volume, planned k.tables c.make.new.self k.pm k.batched k.lost k.batch c.make.new.batch is c.self.invariant c.in-Ok.ensures.2)
-
-pub invariant_of-self-in-Done : goal.invariant_of-self-in-Done
-invariant_of-self-in-Done c is =
-    let k = c.self.inside in
     let plan = c.in-Ok.ensures.2 in
-    ready-done k.tables c.make.new.self k.pm k.batched k.lost k.batch c.make.new.batch is c.self.invariant plan c.land_plan.new.pm c.args.power.now
-    c.land_plan.new.power c.land_plan.new.batch
-    (c.in-Done.ensures.landed k.tables.volume (planned k.tables c.make.new.self k.pm k.batched k.lost k.batch c.make.new.batch is c.self.invariant plan))
-    (c.land_plan.ensures.no_lines c.in-Done.is)
+    (k.tables.volume, planned k.tables c.make.new.self k.pm k.batched k.lost k.batch c.make.new.batch is c.self.invariant plan)
 
-pub returns-in-Done-clause-paid : goal.returns-in-Done-clause-paid
-returns-in-Done-clause-paid c =
+pub invariant_of-self-in-Ok : goal.invariant_of-self-in-Ok
+invariant_of-self-in-Ok c off =
     let k = c.self.inside in
     let on : is_on c.args.power.now ≡ true = sym c.on.ensures ∙ c.if-not-on.false in
     let is : k.lost ≡ false = awake k.tables k.pm k.batched k.lost c.args.self.now c.args.power.now c.self.view_is c.requires.awake on in
     let plan = c.in-Ok.ensures.2 in
-    paid-done c.in-Ok.ino (make_row c.args.path.now) k.tables c.make.new.self c.make.new.batch k.pm c.land_plan.new.pm k.batched k.lost c.args.self.now
-    c.args.power.now c.land_plan.new.power c.self.view_is c.in-Ok.ensures.0 plan
-    (c.in-Done.ensures.landed k.tables.volume (planned k.tables c.make.new.self k.pm k.batched k.lost k.batch c.make.new.batch is c.self.invariant plan))
+    ready-landed k.tables c.make.new.self k.pm k.batched k.lost k.batch c.make.new.batch is c.self.invariant plan c.land_plan.new.pm c.args.power.now c.land_plan.new.power c.land_plan.new.lost c.land_plan.new.batch c.land_plan.result
+    (c.land_plan.ensures.landed k.tables.volume (planned k.tables c.make.new.self k.pm k.batched k.lost k.batch c.make.new.batch is c.self.invariant plan)) c.land_plan.ensures.no_lines c.land_plan.ensures.noted off
 
-pub returns-in-Done-clause-answer : goal.returns-in-Done-clause-answer
-returns-in-Done-clause-answer c =
+pub returns-after-land_plan-clause-paid : goal.returns-after-land_plan-clause-paid
+returns-after-land_plan-clause-paid c =
     let k = c.self.inside in
     let on : is_on c.args.power.now ≡ true = sym c.on.ensures ∙ c.if-not-on.false in
     let is : k.lost ≡ false = awake k.tables k.pm k.batched k.lost c.args.self.now c.args.power.now c.self.view_is c.requires.awake on in
     let plan = c.in-Ok.ensures.2 in
-    answer-done k.tables c.make.new.self k.pm k.batched k.lost k.batch c.make.new.batch is c.self.invariant plan c.in-Ok.ino (make_row c.args.path.now)
-    (λ x ino w. IsMade c.args.directory c.args.path.now x.volume w ino) c.args.self.now c.land_plan.new.pm c.args.power.now c.land_plan.new.power c.self.view_is c.in-Ok.ensures.0 c.in-Ok.ensures.1
-    (c.in-Done.ensures.landed k.tables.volume (planned k.tables c.make.new.self k.pm k.batched k.lost k.batch c.make.new.batch is c.self.invariant plan))
+    elim c.match-land_plan.branch [
+      | in-Ok-land_plan w ↦
+          subst (IsPaid ((make_row c.args.path.now) c.args.self.now) c.args.power.now c.land_plan.new.power) (sym w.result-is)
+          (paid-done c.in-Ok.ino (make_row c.args.path.now) k.tables c.make.new.self c.make.new.batch k.pm c.land_plan.new.pm k.batched k.lost c.args.self.now c.args.power.now
+          c.land_plan.new.power c.self.view_is c.in-Ok.ensures.0 plan (w.in-Ok-land_plan.ensures.landed k.tables.volume (planned k.tables c.make.new.self k.pm k.batched k.lost k.batch c.make.new.batch is c.self.invariant plan)))
+      | in-Err-land_plan w ↦
+          subst (IsPaid ((make_row c.args.path.now) c.args.self.now) c.args.power.now c.land_plan.new.power) (sym w.result-is)
+          (paid-cut ℕ ((make_row c.args.path.now) c.args.self.now) k.tables.volume c.make.new.self.volume c.make.new.batch k.pm c.land_plan.new.pm c.args.power.now
+          c.land_plan.new.power w.in-Err-land_plan.fault (w.in-Err-land_plan.ensures.landed k.tables.volume (planned k.tables c.make.new.self k.pm k.batched k.lost k.batch c.make.new.batch is c.self.invariant plan)))
+    ]
 
-pub returns-in-PowerLost-clause-paid : goal.returns-in-PowerLost-clause-paid
-returns-in-PowerLost-clause-paid c =
-    let k = c.self.inside in
-    let on : is_on c.args.power.now ≡ true = sym c.on.ensures ∙ c.if-not-on.false in
-    let is : k.lost ≡ false = awake k.tables k.pm k.batched k.lost c.args.self.now c.args.power.now c.self.view_is c.requires.awake on in
-    (c.in-PowerLost.ensures.landed k.tables.volume
-    (planned k.tables c.make.new.self k.pm k.batched k.lost k.batch c.make.new.batch is c.self.invariant c.in-Ok.ensures.2)).off
-
-pub returns-in-PowerLost-clause-answer : goal.returns-in-PowerLost-clause-answer
-returns-in-PowerLost-clause-answer c =
+pub returns-after-land_plan-clause-answer : goal.returns-after-land_plan-clause-answer
+returns-after-land_plan-clause-answer c =
     let k = c.self.inside in
     let on : is_on c.args.power.now ≡ true = sym c.on.ensures ∙ c.if-not-on.false in
     let is : k.lost ≡ false = awake k.tables k.pm k.batched k.lost c.args.self.now c.args.power.now c.self.view_is c.requires.awake on in
     let plan = c.in-Ok.ensures.2 in
-    answer-lost k.tables c.make.new.self k.pm k.batched k.lost k.batch c.make.new.batch is c.self.invariant plan c.in-Ok.ino (make_row c.args.path.now)
-    (λ x ino w. IsMade c.args.directory c.args.path.now x.volume w ino) c.args.self.now c.land_plan.new.pm c.land_plan.new.power c.self.view_is c.in-Ok.ensures.0 c.in-Ok.ensures.1
-    (c.in-PowerLost.ensures.landed k.tables.volume (planned k.tables c.make.new.self k.pm k.batched k.lost k.batch c.make.new.batch is c.self.invariant plan))
+    elim c.match-land_plan.branch [
+      | in-Ok-land_plan w ↦
+          subst (IsMakeAnswer c.args.directory c.args.path.now c.args.self.now (view_of c.make.new.self c.land_plan.new.pm k.batched c.land_plan.new.lost)) (sym w.result-is)
+          (answer-done k.tables c.make.new.self k.pm k.batched k.lost k.batch c.make.new.batch is c.self.invariant plan c.in-Ok.ino (make_row c.args.path.now)
+          (λ x ino w. IsMade c.args.directory c.args.path.now x.volume w ino) c.args.self.now c.land_plan.new.pm c.args.power.now c.land_plan.new.power c.land_plan.new.lost w.in-Ok-land_plan.ensures.same
+          c.self.view_is c.in-Ok.ensures.0 c.in-Ok.ensures.1 (w.in-Ok-land_plan.ensures.landed k.tables.volume (planned k.tables c.make.new.self k.pm k.batched k.lost k.batch c.make.new.batch is c.self.invariant plan)))
+      | in-Err-land_plan w ↦
+          subst (IsMakeAnswer c.args.directory c.args.path.now c.args.self.now (view_of c.make.new.self c.land_plan.new.pm k.batched c.land_plan.new.lost)) (sym w.result-is)
+          (answer-cut k.tables c.make.new.self k.pm k.batched k.lost k.batch c.make.new.batch is c.self.invariant plan c.in-Ok.ino (make_row c.args.path.now)
+          (λ x ino w. IsMade c.args.directory c.args.path.now x.volume w ino) c.args.self.now c.land_plan.new.pm c.args.power.now c.land_plan.new.power c.land_plan.new.lost w.in-Err-land_plan.fault
+          w.in-Err-land_plan.ensures.noted c.self.view_is c.in-Ok.ensures.0 c.in-Ok.ensures.1
+          (w.in-Err-land_plan.ensures.landed k.tables.volume (planned k.tables c.make.new.self k.pm k.batched k.lost k.batch c.make.new.batch is c.self.invariant plan)))
+    ]

@@ -2,7 +2,7 @@ use Rattle.std.proofs.Common.{◌≡◌, true, false, sym, ◌∙◌}
 use Rattle.pm_words.specs.Powers.{is_on}
 use Rattle.k_plans.specs.Removing.{IsRemoved}
 use Rattle.k_split.specs.Names.{rmdir_row}
-use Rattle.k_split.proofs.ChangeLaws.{answer-done, answer-lost, awake, paid-done, planned, ready-done}
+use Rattle.k_split.proofs.ChangeLaws.{answer-landed, awake, memory-landed, paid-landed, planned, ready-landed}
 use Rattle.k_split.proofs.state.KSplit.rmdir.Goals as goal
 
 pub land_plan-requires : goal.land_plan-requires
@@ -10,51 +10,41 @@ land_plan-requires c =
     let k = c.self.inside in
     let on : is_on c.args.power.now ≡ true = sym c.on.ensures ∙ c.if-not-on.false in
     let is : k.lost ≡ false = awake k.tables k.pm k.batched k.lost c.args.self.now c.args.power.now c.self.view_is c.requires.awake on in
-    (k.tables.volume, planned k.tables c.rmdir.new.self k.pm k.batched k.lost k.batch c.rmdir.new.batch is c.self.invariant c.in-Ok.ensures.answer.2)
-
-pub invariant_of-self-in-Done : goal.invariant_of-self-in-Done
-invariant_of-self-in-Done c is =
-    let k = c.self.inside in
     let plan = c.in-Ok.ensures.answer.2 in
-    ready-done k.tables c.rmdir.new.self k.pm k.batched k.lost k.batch c.rmdir.new.batch is c.self.invariant plan c.land_plan.new.pm c.args.power.now
-    c.land_plan.new.power c.land_plan.new.batch
-    (c.in-Done.ensures.landed k.tables.volume (planned k.tables c.rmdir.new.self k.pm k.batched k.lost k.batch c.rmdir.new.batch is c.self.invariant plan))
-    (c.land_plan.ensures.no_lines c.in-Done.is)
+    (k.tables.volume, planned k.tables c.rmdir.new.self k.pm k.batched k.lost k.batch c.rmdir.new.batch is c.self.invariant plan)
 
-pub returns-in-Done-clause-paid : goal.returns-in-Done-clause-paid
-returns-in-Done-clause-paid c =
+pub invariant_of-self-in-Ok : goal.invariant_of-self-in-Ok
+invariant_of-self-in-Ok c off =
     let k = c.self.inside in
     let on : is_on c.args.power.now ≡ true = sym c.on.ensures ∙ c.if-not-on.false in
     let is : k.lost ≡ false = awake k.tables k.pm k.batched k.lost c.args.self.now c.args.power.now c.self.view_is c.requires.awake on in
     let plan = c.in-Ok.ensures.answer.2 in
-    paid-done (let done : Unit {0} = tt in done) (rmdir_row c.args.path.now) k.tables c.rmdir.new.self c.rmdir.new.batch k.pm c.land_plan.new.pm k.batched k.lost c.args.self.now
-    c.args.power.now c.land_plan.new.power c.self.view_is c.in-Ok.ensures.answer.0 plan
-    (c.in-Done.ensures.landed k.tables.volume (planned k.tables c.rmdir.new.self k.pm k.batched k.lost k.batch c.rmdir.new.batch is c.self.invariant plan))
+    ready-landed k.tables c.rmdir.new.self k.pm k.batched k.lost k.batch c.rmdir.new.batch is c.self.invariant plan c.land_plan.new.pm c.args.power.now c.land_plan.new.power c.land_plan.new.lost c.land_plan.new.batch c.land_plan.result
+    (c.land_plan.ensures.landed k.tables.volume (planned k.tables c.rmdir.new.self k.pm k.batched k.lost k.batch c.rmdir.new.batch is c.self.invariant plan)) c.land_plan.ensures.no_lines c.land_plan.ensures.noted off
 
-pub returns-in-Done-clause-answer : goal.returns-in-Done-clause-answer
-returns-in-Done-clause-answer c =
+pub returns-in-Ok-clause-paid : goal.returns-in-Ok-clause-paid
+returns-in-Ok-clause-paid c =
     let k = c.self.inside in
     let on : is_on c.args.power.now ≡ true = sym c.on.ensures ∙ c.if-not-on.false in
     let is : k.lost ≡ false = awake k.tables k.pm k.batched k.lost c.args.self.now c.args.power.now c.self.view_is c.requires.awake on in
     let plan = c.in-Ok.ensures.answer.2 in
-    answer-done k.tables c.rmdir.new.self k.pm k.batched k.lost k.batch c.rmdir.new.batch is c.self.invariant plan (let done : Unit {0} = tt in done) (rmdir_row c.args.path.now)
-    (λ x done w. IsRemoved c.args.path.now x.volume w) c.args.self.now c.land_plan.new.pm c.args.power.now c.land_plan.new.power c.self.view_is c.in-Ok.ensures.answer.0 c.in-Ok.ensures.answer.1
-    (c.in-Done.ensures.landed k.tables.volume (planned k.tables c.rmdir.new.self k.pm k.batched k.lost k.batch c.rmdir.new.batch is c.self.invariant plan))
+    paid-landed (rmdir_row c.args.path.now) k.tables c.rmdir.new.self c.rmdir.new.batch k.pm c.land_plan.new.pm k.batched k.lost c.args.self.now c.args.power.now c.land_plan.new.power c.land_plan.result
+    c.self.view_is c.in-Ok.ensures.answer.0 plan (c.land_plan.ensures.landed k.tables.volume (planned k.tables c.rmdir.new.self k.pm k.batched k.lost k.batch c.rmdir.new.batch is c.self.invariant plan))
 
-pub returns-in-PowerLost-clause-paid : goal.returns-in-PowerLost-clause-paid
-returns-in-PowerLost-clause-paid c =
-    let k = c.self.inside in
-    let on : is_on c.args.power.now ≡ true = sym c.on.ensures ∙ c.if-not-on.false in
-    let is : k.lost ≡ false = awake k.tables k.pm k.batched k.lost c.args.self.now c.args.power.now c.self.view_is c.requires.awake on in
-    (c.in-PowerLost.ensures.landed k.tables.volume
-    (planned k.tables c.rmdir.new.self k.pm k.batched k.lost k.batch c.rmdir.new.batch is c.self.invariant c.in-Ok.ensures.answer.2)).off
-
-pub returns-in-PowerLost-clause-answer : goal.returns-in-PowerLost-clause-answer
-returns-in-PowerLost-clause-answer c =
+pub returns-in-Ok-clause-answer : goal.returns-in-Ok-clause-answer
+returns-in-Ok-clause-answer c =
     let k = c.self.inside in
     let on : is_on c.args.power.now ≡ true = sym c.on.ensures ∙ c.if-not-on.false in
     let is : k.lost ≡ false = awake k.tables k.pm k.batched k.lost c.args.self.now c.args.power.now c.self.view_is c.requires.awake on in
     let plan = c.in-Ok.ensures.answer.2 in
-    answer-lost k.tables c.rmdir.new.self k.pm k.batched k.lost k.batch c.rmdir.new.batch is c.self.invariant plan (let done : Unit {0} = tt in done) (rmdir_row c.args.path.now)
-    (λ x done w. IsRemoved c.args.path.now x.volume w) c.args.self.now c.land_plan.new.pm c.land_plan.new.power c.self.view_is c.in-Ok.ensures.answer.0 c.in-Ok.ensures.answer.1
-    (c.in-PowerLost.ensures.landed k.tables.volume (planned k.tables c.rmdir.new.self k.pm k.batched k.lost k.batch c.rmdir.new.batch is c.self.invariant plan))
+    answer-landed k.tables c.rmdir.new.self k.pm k.batched k.lost k.batch c.rmdir.new.batch is c.self.invariant plan (rmdir_row c.args.path.now) (λ x done w. IsRemoved c.args.path.now x.volume w) c.args.self.now c.land_plan.new.pm c.args.power.now c.land_plan.new.power c.land_plan.new.lost c.land_plan.result
+    c.land_plan.ensures.same c.land_plan.ensures.noted c.self.view_is c.in-Ok.ensures.answer.0 c.in-Ok.ensures.answer.1 (c.land_plan.ensures.landed k.tables.volume (planned k.tables c.rmdir.new.self k.pm k.batched k.lost k.batch c.rmdir.new.batch is c.self.invariant plan))
+
+pub returns-in-Ok-clause-memory : goal.returns-in-Ok-clause-memory
+returns-in-Ok-clause-memory c =
+    let k = c.self.inside in
+    let on : is_on c.args.power.now ≡ true = sym c.on.ensures ∙ c.if-not-on.false in
+    let is : k.lost ≡ false = awake k.tables k.pm k.batched k.lost c.args.self.now c.args.power.now c.self.view_is c.requires.awake on in
+    let plan = c.in-Ok.ensures.answer.2 in
+    memory-landed k.tables.volume c.rmdir.new.self.volume c.rmdir.new.batch k.pm c.land_plan.new.pm c.args.power.now c.land_plan.new.power c.land_plan.result
+    (c.land_plan.ensures.landed k.tables.volume (planned k.tables c.rmdir.new.self k.pm k.batched k.lost k.batch c.rmdir.new.batch is c.self.invariant plan))

@@ -1,0 +1,10 @@
+pub mod Turns
+pub mod OneWay
+pub mod Walks
+pub mod ScheduleRows
+pub mod BusyRows
+pub mod ByteRows
+pub mod MachineLaws
+pub mod OneThread
+pub mod Synced
+pub mod PosixLaws

@@ -1,0 +1,73 @@
+//! How the program ends.
+ghost use Rattle.std.specs.Prelude.{◌≡◌, IfOk};
+ghost use Rattle.exit_status.specs.Statuses as meaning;
+
+use crate::file_names::FileName;
+use std::alloc::{AllocError, Global};
+
+/// How a call of the program ended.
+#[derive(Debug, Drop, PartialEq, Eq)]
+pub enum Status {
+    /// The job was done, and its output put.
+    Done,
+    /// The words are no command.
+    Usage,
+    /// The file of this name, which the command reads, is not there.
+    NoSuchFile(FileName),
+    /// The script is not in the grammar. The line is the first that breaks it, from 1.
+    BadScript { line: u32 },
+    /// Reading a file failed.
+    ReadFault,
+    /// Putting the output failed. A front of it may have been put.
+    WriteFault,
+    /// No memory was left. A front of the output may have been put.
+    NoMemory,
+}
+
+/// The number that the program ends with: 0 where the job was done, else 2, 3, 5, 6, 7 or 8.
+pub fn exit_number(status: &Status) -> u8
+    ensures { result ≡ meaning.exit_number status.now }
+{
+    match status {
+        Status::Done => 0,
+        Status::Usage => 2,
+        Status::NoSuchFile(_) => 3,
+        Status::BadScript { .. } => 5,
+        Status::ReadFault => 6,
+        Status::WriteFault => 7,
+        Status::NoMemory => 8,
+    }
+}
+
+/// The line for a file that is not there.
+fn missing_text(alloc: Global, name: &[u8]) -> Result<Vec<u8>, AllocError>
+    ensures { IfOk result (λ text. text.items ≡ meaning.status_text (Status.NoSuchFile name.now)) }
+{
+    let mut text = Vec::from_slice(alloc, b"splitfs: no such file ")?;
+    text.extend_from_slice(name)?;
+    text.push(b'\n')?;
+    Ok(text)
+}
+
+/// The line for a script that is not in the grammar.
+fn bad_script_text(alloc: Global, line: u32) -> Result<Vec<u8>, AllocError>
+    ensures { IfOk result (λ text. text.items ≡ meaning.status_text (Status.BadScript line)) }
+{
+    let text = format!(in alloc; "splitfs: bad script: line {line}\n")?;
+    Ok(text.into_bytes())
+}
+
+/// The line on standard error; empty where the job was done.
+pub fn status_text(alloc: Global, status: &Status) -> Result<Vec<u8>, AllocError>
+    ensures { IfOk result (λ text. text.items ≡ meaning.status_text status.now) }
+{
+    match status {
+        Status::Done => Ok(Vec::new(alloc)),
+        Status::Usage => Vec::from_slice(alloc, b"splitfs: usage\n"),
+        Status::NoSuchFile(name) => missing_text(alloc, &name.bytes),
+        Status::BadScript { line } => bad_script_text(alloc, *line),
+        Status::ReadFault => Vec::from_slice(alloc, b"splitfs: read failed\n"),
+        Status::WriteFault => Vec::from_slice(alloc, b"splitfs: write failed\n"),
+        Status::NoMemory => Vec::from_slice(alloc, b"splitfs: no memory\n"),
+    }
+}

@@ -1,7 +1,0 @@
--- What clauses see of the values of the program.
-use Rattle.std.specs.String.{string_bytes}
-use Rattle.split_top.specs.declared.commands.Command.{Command}
-use Rattle.split_top.specs.Command as meaning
-
-abbrev pub seen : Command → meaning.Command
-seen c = record { script = string_bytes c.script.now; stop = c.stop; choice = c.choice }

@@ -33,7 +33,8 @@ use Rattle.world_exits.specs.Done.{goes_on, keeps_cut, keeps_off}
 use Rattle.world_exits.specs.Ends.{refused_by_row}
 use Rattle.world_exits.specs.Going.{IsNameCall, IsStep, row_of_call}
 use Rattle.split_calls.specs.Answers.{Answers, IsEnded, IsSpent, Loses, told_of}
-use Rattle.split_calls.specs.Runs.{HasNoBytes, IsQuiet, RunsAs}
+use Rattle.split_calls.specs.Runs.{HasNoBytes, HasNoLog, IsQuiet, RunsAs}
+use Rattle.split_calls.proofs.NoLog.{cut_no_log, runs_no_log}
 
 -- with one node more that may have been made
 pub runs_later : (g : Geometry) (k : View) (t : Tables) (n : ℕ) (s : State) → RunsAs g k t n s → RunsAs g k t (n + 1) s
@@ -102,7 +103,7 @@ pub loses_off : (who : Who) (call : Call) (k k2 : View) (t : Tables) → IsOff k
 loses_off who call k k2 t off g n start history small mode runs = (
   subst (λ x. KeepsPromise x k2.cells start history ((who, call) ∷ [])) runs.geometry
       (keeps_off k k2 [] runs.numbers start history ((who, call) ∷ []) runs.count runs.going off),
-  subst (IsQuiet g) (sym (ap (λ (x : View). x.cells) off)) runs.quiet,
+  subst (HasNoLog g) (sym (ap (λ (x : View). x.cells) off)) (runs_no_log g k t n (run start history) runs),
 )
 
 -- and where no change comes
@@ -110,7 +111,7 @@ pub loses_now : (who : Who) (call : Call) (k : View) (t : Tables) → Loses who 
 loses_now who call k t g n start history small mode runs = (
   subst (λ x. KeepsPromise x k.cells start history ((who, call) ∷ [])) runs.geometry
       (promise_now k.volume k.cells [] runs.numbers start history ((who, call) ∷ []) runs.count runs.going.running),
-  runs.quiet,
+  runs_no_log g k t n (run start history) runs,
 )
 
 -- In it: a step from this state to another one, whose tree is that of the call's end.
@@ -127,7 +128,7 @@ loses_cut who call k k2 t w cut into g n start history small mode runs =
     let is = into g n (run start history) small runs in (
       subst (λ x. KeepsPromise x k2.cells start history ((who, call) ∷ [])) runs.geometry
           (keeps_cut k k2 w [] runs.numbers is.after (run start history) is.next runs.count is.later start history (who, call) mode runs.going cut is.is_step (inl refl) (inr is.tree_is)),
-      quiet_changes k.committed w k.cells k2.cells g cut.changes (ap (λ (v : Volume). v.geometry) (runs.going.order.settled runs.going.unbatched) ∙ runs.geometry) runs.quiet,
+      cut_no_log g k k2 t n (run start history) w runs (quiet_changes k.committed w k.cells k2.cells g cut.changes (ap (λ (v : Volume). v.geometry) (runs.going.order.settled runs.going.unbatched) ∙ runs.geometry) runs.quiet) cut is.is_step.geometry is.is_step.base,
     )
 
 -- ---- a fault of K-Split

@@ -22,7 +22,8 @@ use Rattle.world_images.specs.Promised.{KeepsPromise}
 use Rattle.world_images.specs.Running.{promise_now}
 use Rattle.split_calls.specs.Answers.{IsEnded}
 use Rattle.split_calls.specs.Built.{IsBuilt, IsSpelledCall}
-use Rattle.split_calls.specs.Runs.{IsQuiet, RunsAs, RunsInSome}
+use Rattle.split_calls.specs.Runs.{HasNoLog, RunsAs, RunsInSome}
+use Rattle.split_calls.proofs.NoLog.{runs_no_log}
 use Rattle.split_calls.specs.declared.outcomes.Told.{Told}
 use Rattle.split_world.specs.Views.{IsDone, IsWorldOver, item_with, WorldView}
 use Rattle.split_world.proofs.Counts.{history_within}
@@ -67,7 +68,7 @@ module _ (k : View) (t : Tables) (g : Geometry) (start : State) (scripts : Scrip
     promise = λ off. (
       subst (λ d. KeepsPromise g d start history begun) (sym same)
           (subst (λ x. KeepsPromise x k.cells start history begun) runs.geometry (promise_now k.volume k.cells [] runs.numbers start history begun runs.count runs.going.running)),
-      subst (IsQuiet g) (sym same) runs.quiet,
+      subst (HasNoLog g) (sym same) (runs_no_log g k t (length history) (run start history) runs),
     );
   }
 
@@ -144,7 +145,7 @@ promise_now_of k t g start scripts history unfinished lost w pm world view same 
     subst (λ (x : WorldView). KeepsPromise x.geometry pm x.start x.history unfinished) view
     (subst (λ d. KeepsPromise g d start history unfinished) (sym same) ((given_up k t g start scripts history unfinished lost world).promise refl).0)
 
-pub quiet_now_of : (k : View) (t : Tables) (g : Geometry) (start : State) (scripts : Scripts) (history : List Item) (unfinished : List Begun) (lost : Bool) (w : WorldView) (pm : List Cell)
-    → IsWorldOver k t g start scripts history unfinished lost → view_of g start scripts history unfinished k.cells lost ≡ w → pm ≡ k.cells → IsQuiet w.geometry pm
-quiet_now_of k t g start scripts history unfinished lost w pm world view same =
-    subst (λ (x : WorldView). IsQuiet x.geometry pm) view (subst (IsQuiet g) (sym same) ((given_up k t g start scripts history unfinished lost world).promise refl).1)
+pub no_log_of : (k : View) (t : Tables) (g : Geometry) (start : State) (scripts : Scripts) (history : List Item) (unfinished : List Begun) (lost : Bool) (w : WorldView) (pm : List Cell)
+    → IsWorldOver k t g start scripts history unfinished lost → view_of g start scripts history unfinished k.cells lost ≡ w → pm ≡ k.cells → HasNoLog w.geometry pm
+no_log_of k t g start scripts history unfinished lost w pm world view same =
+    subst (λ (x : WorldView). HasNoLog x.geometry pm) view (subst (HasNoLog g) (sym same) ((given_up k t g start scripts history unfinished lost world).promise refl).1)

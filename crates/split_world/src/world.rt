@@ -5,7 +5,7 @@ ghost use Rattle.pm_words.specs.Powers.{is_on, Steps};
 ghost use Rattle.posix_spec.specs.Scripted.{next_call, IsSetUp};
 ghost use Rattle.posix_spec.specs.Tree.{start};
 ghost use Rattle.world_images.specs.Promised.{KeepsPromise};
-ghost use Rattle.split_calls.specs.Runs.{IsQuiet};
+ghost use Rattle.split_calls.specs.Runs.{HasNoLog};
 ghost use Rattle.split_world.specs.Views.{ready_by, unfinished_of, IsBegun, IsEndedBy, IsWorldOver};
 
 use crate::next::{call_at, calls_made, script_length};
@@ -37,7 +37,7 @@ pub struct World {
 
 impl Model for World {
     ghost use Rattle.posix_spec.specs.Tree.{start};
-    ghost use Rattle.split_calls.specs.Runs.{IsQuiet};
+    ghost use Rattle.split_calls.specs.Runs.{HasNoLog};
 ghost use Rattle.split_world.specs.Views.{unfinished_of, IsWorldOver, WorldView};
 
     ghost Value = { WorldView };
@@ -161,7 +161,7 @@ impl World {
     pub fn crash(self) -> Crashed
         ensures promise { KeepsPromise self.geometry result.pm self.start self.history
             (unfinished_of result.unfinished) }
-        ensures quiet { IsQuiet self.geometry result.pm }
+        ensures no_log { HasNoLog self.geometry result.pm }
         ensures cells { result.pm ≡ self.cells }
         ensures history { result.history.items ≡ self.history }
         ensures unfinished { unfinished_of result.unfinished ≡ self.unfinished }

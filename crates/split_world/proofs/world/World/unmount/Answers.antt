@@ -10,7 +10,7 @@ returns-then-lost c = (
   c.crash-crashed.ensures.history,
   c.crash-crashed.ensures.unfinished,
   subst (KeepsPromise c.args.self.geometry c.crash-crashed.result.pm c.args.self.start c.args.self.history) c.crash-crashed.ensures.unfinished c.crash-crashed.ensures.promise,
-  c.crash-crashed.ensures.quiet,
+  c.crash-crashed.ensures.no_log,
 )
 
 pub returns-then-not-on : goal.returns-then-not-on
@@ -20,5 +20,5 @@ returns-then-not-on c = (
   c.crash-crashed.ensures.history,
   c.crash-crashed.ensures.unfinished,
   subst (KeepsPromise c.args.self.geometry c.crash-crashed.result.pm c.args.self.start c.args.self.history) c.crash-crashed.ensures.unfinished c.crash-crashed.ensures.promise,
-  c.crash-crashed.ensures.quiet,
+  c.crash-crashed.ensures.no_log,
 )

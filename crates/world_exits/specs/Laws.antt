@@ -15,15 +15,17 @@ use Rattle.k_split.specs.Answers.{IsCut, IsDone, IsOff}
 use Rattle.posix_types.specs.declared.call.Call.{Call}
 use Rattle.posix_types.specs.declared.call.Mode.{Mode}
 use Rattle.posix_types.specs.declared.call.Who.{Who}
+use Rattle.posix_types.specs.declared.handle.Flags.{Flags}
+use Rattle.posix_types.specs.declared.handle.Handle.{Handle}
 use Rattle.posix_types.specs.declared.item.Item.{Item}
 use Rattle.posix_types.specs.declared.item.Outcome.{Outcome}
 use Rattle.posix_types.specs.declared.reply.Reply.{Reply}
-use Rattle.posix_words.specs.NameRows.{mkdir_rows, rename_rows, rmdir_rows, unlink_rows}
-use Rattle.posix_words.specs.Open.{is_open}
+use Rattle.posix_words.specs.NameRows.{mkdir_rows, open_rows, rename_rows, rmdir_rows, unlink_rows}
+use Rattle.posix_words.specs.Open.{is_full, is_open}
 use Rattle.posix_words.specs.Outcomes.{answer, first}
 use Rattle.posix_spec.specs.Run.{after_call, Begun, run}
 use Rattle.posix_spec.specs.State.{alone, State, swept, unnamed as unnamed_state}
-use Rattle.posix_spec.specs.Step.{step}
+use Rattle.posix_spec.specs.Step.{is_busy, step}
 use Rattle.posix_spec.specs.Tree.{tree}
 use Rattle.world_rules.specs.Stands.{number}
 use Rattle.world_steps.specs.Makers.{renumbered}
@@ -61,6 +63,13 @@ StepsMkdir =
     (v : Volume) (d : List Cell) (claims : List (ℕ × Draft)) (numbers : List ℕ) (s : State) (count : ℕ) (who : Who) (p : List (List ℕ)) (w : Volume) (ino : ℕ) → IsRunning v d claims numbers s count
     → count + 1 < 2 ^ 31 → AreSpelled p → first (mkdir_rows (volume_space v) p) ≡ None → IsMade true p v w ino
     → IsStep v w claims numbers (renumbered numbers ino (length s.nodes)) s (after_call s (who, Call.Mkdir p)) count (count + 1)
+
+-- an `open` that makes the file: in one step, with its description
+abbrev pub StepsOpened : Type 0
+StepsOpened =
+    (v : Volume) (d : List Cell) (claims : List (ℕ × Draft)) (numbers : List ℕ) (s : State) (count : ℕ) (who : Who) (h : Handle) (p : List (List ℕ)) (flags : Flags) (w : Volume) (ino : ℕ) → IsRunning v d claims numbers s count
+    → count + 1 < 2 ^ 31 → AreSpelled p → first (open_rows (volume_space v) (is_full s.tables) (is_busy alone s p) p flags) ≡ None → IsMade false p v w ino
+    → IsStep v w claims numbers (renumbered numbers ino (length s.nodes)) s (after_call s (who, Call.Open h p flags)) count (count + 1)
 
 -- `rmdir`
 abbrev pub StepsRmdir : Type 0

@@ -37,7 +37,7 @@ use Rattle.world_promise.specs.TreeRules.{used_below}
 use Rattle.world_spaces.specs.Mirrors.{Mirrors}
 use Rattle.world_spaces.specs.Rows.{HaveSameRows-Mirrors}
 use Rattle.world_names.specs.GoneCalls.{IsWorld-dropped}
-use Rattle.world_names.specs.MadeCalls.{IsWorld-mkdir}
+use Rattle.world_names.specs.MadeCalls.{IsWorld-created, IsWorld-mkdir}
 use Rattle.world_steps.specs.Makers.{renumbered}
 use Rattle.world_steps.specs.Nameless.{count-nameless, is_named-nameless, IsNameless, nameless-count, nameless-freed}
 use Rattle.world_steps.specs.NameTables.{row_used}
@@ -48,7 +48,7 @@ use Rattle.world_images.specs.Images.{IsRunning}
 use Rattle.world_images.specs.Rooms.{room_dropped, room_made, room_removed, room_unnamed}
 use Rattle.world_images.specs.Settings.{keeps_setting}
 use Rattle.world_exits.specs.Going.{IsStep}
-use Rattle.world_exits.specs.Laws.{StateOfUnlink, StepsDropped, StepsMkdir, StepsRmdir, StepsUnlinked, UnlinksFile}
+use Rattle.world_exits.specs.Laws.{StateOfUnlink, StepsDropped, StepsMkdir, StepsOpened, StepsRmdir, StepsUnlinked, UnlinksFile}
 use Rattle.world_exits.specs.Spelled.{last_fits}
 
 -- a running world is valid at some words
@@ -80,6 +80,25 @@ steps_mkdir v d claims numbers s count who p w ino running small spelled none is
             (valid_now v d claims numbers s count running).aged free.within free.free (keeps_setting s (who, Call.Mkdir p)).shape;
         takes = λ f world.
             IsWorld-mkdir v claims [] f numbers s count who p is.place.parent is.place.ino is.place.line world small tt none is.is_place.is_new free is.is_place.room.line
+            (last_fits p spelled is.is_place.is_new.directory.below is.is_place.is_new.directory.short);
+      }
+
+-- OPEN that makes the file
+pub steps_opened : StepsOpened
+steps_opened v d claims numbers s count who h p flags w ino running small spelled none is =
+    subst (λ i. IsStep v w claims numbers (renumbered numbers i (length s.nodes)) s (after_call s (who, Call.Open h p flags)) count (count + 1)) (sym is.ino_is)
+    (subst (λ x. IsStep v x claims numbers (renumbered numbers is.place.ino (length s.nodes)) s (after_call s (who, Call.Open h p flags)) count (count + 1)) (sym is.is_made) step) where
+      free : IsLowestFree v.inodes is.place.ino
+      free = free-found v.inodes is.place.ino is.is_place.room.ino
+
+      step : IsStep v (made File is.place.ino is.place.line (row_to p is.place.parent is.place.ino) v) claims numbers (renumbered numbers is.place.ino (length s.nodes)) s (after_call s (who, Call.Open h p flags)) count (count + 1)
+      step = record {
+        geometry = refl;
+        base = refl;
+        room = room_made File is.place.ino is.place.line (row_to p is.place.parent is.place.ino) v claims [] s (after_call s (who, Call.Open h p flags)) count running.device.room
+            (valid_now v d claims numbers s count running).aged free.within free.free (keeps_setting s (who, Call.Open h p flags)).shape;
+        takes = λ f world.
+            IsWorld-created v claims [] f numbers s count who h p flags is.place.parent is.place.ino is.place.line world small tt none is.is_place.is_new free is.is_place.room.line
             (last_fits p spelled is.is_place.is_new.directory.below is.is_place.is_new.directory.short);
       }
 

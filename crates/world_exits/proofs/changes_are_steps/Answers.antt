@@ -1,9 +1,12 @@
 use Rattle.world_exits.specs.Moves.{steps_rename}
-use Rattle.world_exits.specs.Steps.{steps_dropped, steps_mkdir, steps_rmdir, steps_unlinked}
+use Rattle.world_exits.specs.Steps.{steps_dropped, steps_mkdir, steps_opened, steps_rmdir, steps_unlinked}
 use Rattle.world_exits.proofs.changes_are_steps.Goals as goal
 
 pub returns-clause-mkdir : goal.returns-clause-mkdir
 returns-clause-mkdir c = steps_mkdir
+
+pub returns-clause-opened : goal.returns-clause-opened
+returns-clause-opened c = steps_opened
 
 pub returns-clause-rmdir : goal.returns-clause-rmdir
 returns-clause-rmdir c = steps_rmdir

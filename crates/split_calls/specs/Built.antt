@@ -1,0 +1,22 @@
+-- Which calls run by now, and how their paths are spelled.
+use Rattle.path_spelling.specs.Spelling.{AreSpelled}
+use Rattle.posix_types.specs.declared.call.Call.{Call}
+
+-- THE CALLS THAT ARE BUILT. Here alone it grows.
+abbrev pub IsBuilt : Call → Type 0
+IsBuilt (Call.Mkdir p) = Unit {0}
+IsBuilt (Call.Rmdir p) = Unit {0}
+IsBuilt (Call.Unlink p) = Unit {0}
+IsBuilt (Call.Rename p q) = Unit {0}
+IsBuilt (Call.Open h p f) = Unit {0}
+IsBuilt (Call.Close h) = Unit {0}
+IsBuilt (Call.Dup h g) = Unit {0}
+IsBuilt (Call.Stat p) = Unit {0}
+IsBuilt call = ⊥
+
+-- a path under which a call may give a node a name is spelled
+abbrev pub IsSpelledCall : Call → Type 0
+IsSpelledCall (Call.Mkdir p) = AreSpelled p
+IsSpelledCall (Call.Rename p q) = AreSpelled q
+IsSpelledCall (Call.Open h p f) = AreSpelled p
+IsSpelledCall call = Unit {0}

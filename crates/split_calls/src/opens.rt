@@ -1,0 +1,187 @@
+//! The calls on descriptors.
+ghost use Rattle.std.specs.Prelude.{◌≡◌, ◌&&◌, true, false, Ok};
+ghost use Rattle.path_spelling.specs.Spelling.{AreSpelled};
+ghost use Rattle.pm_words.specs.Powers.{is_on, Steps, Supply};
+ghost use Rattle.k_rules.specs.Spaces.{is_directory_in};
+ghost use Rattle.k_rules.specs.View.{View};
+ghost use Rattle.k_split.specs.Looks.{IsFound};
+ghost use Rattle.posix_types.specs.declared.call.Call.{Call};
+ghost use Rattle.split_calls.specs.Answers.{told_of_open, IsEnded, IsMissing};
+ghost use Rattle.split_calls.specs.Runs.{RunsInSome};
+
+use crate::outcomes::{NoMemory, Told, after_fault, answered};
+use disk_lines::Kind;
+use k_split::KSplit;
+use open_files::{OpenFault, OpenFiles};
+use pm_lines::Power;
+use posix_types::{Errno, Flags, Handle, Path, Reply, Who};
+use std::alloc::Global;
+
+// What a fault of the open files makes of a call.
+fn after_open_fault(fault: OpenFault) -> Result<Told, NoMemory>
+    ensures { result ≡ told_of_open fault }
+{
+    match fault {
+        OpenFault::Full { count: _ } => Ok(answered(Reply::Error(Errno::EMFILE))),
+        OpenFault::NotOpen => Ok(answered(Reply::Error(Errno::EBADF))),
+        OpenFault::NoMemory => Err(NoMemory {}),
+    }
+}
+
+fn is_directory(k: &KSplit, ino: u32) -> bool
+    ensures { result ≡ is_directory_in k.now.volume.inodes ino }
+{
+    match k.node(ino) {
+        Some(inode) => match inode.kind {
+            Kind::Directory => true,
+            Kind::Free => false,
+            Kind::File => false,
+            Kind::Staging => false,
+        },
+        None => false,
+    }
+}
+
+// Whether a file that exists is refused.
+fn is_exclusive(flags: Flags) -> bool
+    ensures { result ≡ (flags.create && flags.exclusive) }
+{
+    flags.create && flags.exclusive
+}
+
+// Opens what stands at a path.
+fn open_found(
+    k: &KSplit,
+    files: &mut OpenFiles,
+    who: Who,
+    handle: Handle,
+    path: &Path,
+    ino: u32,
+    flags: Flags,
+) -> Result<Told, NoMemory>
+    requires found { IsFound k.now.volume path.now (Ok ino) }
+    requires runs { RunsInSome k.now files.old.tables }
+    ensures { (power : Supply) → is_on power ≡ true
+        → IsEnded who (Call.Open handle path.now flags) k.now files.old.tables k.now
+        files.new.tables power power result }
+{
+    let _path = path;
+    if is_exclusive(flags) {
+        return Ok(answered(Reply::Error(Errno::EEXIST)));
+    }
+    if is_directory(k, ino) {
+        return Ok(answered(Reply::Error(Errno::EISDIR)));
+    }
+    match files.open(who, handle, ino, flags) {
+        Ok(descriptor) => Ok(answered(Reply::Fd(descriptor))),
+        Err(fault) => after_open_fault(fault),
+    }
+}
+
+// Makes the missing file, where the flags say so, and opens it. It takes memory for the tables
+// before anything else.
+fn open_missing(
+    alloc: Global,
+    k: &mut KSplit,
+    files: &mut OpenFiles,
+    who: Who,
+    handle: Handle,
+    path: &Path,
+    flags: Flags,
+    power: &mut Power,
+) -> Result<Told, NoMemory>
+    requires spelled { AreSpelled path.now }
+    requires on { k.old.lost ≡ false }
+    requires missing { IsMissing k.old.volume path.now }
+    requires power { is_on power.old ≡ true }
+    ensures steps { Steps 256 power.old power.new }
+    ensures ended { IsEnded who (Call.Open handle path.now flags) k.old files.old.tables k.new
+        files.new.tables power.old power.new result }
+{
+    if !flags.create {
+        return Ok(answered(Reply::Error(Errno::ENOENT)));
+    }
+    if files.is_full() {
+        return Ok(answered(Reply::Error(Errno::EMFILE)));
+    }
+    files.reserve()?;
+    match k.make(alloc, path, false, power) {
+        Ok(ino) => match files.open(who, handle, ino, flags) {
+            Ok(descriptor) => Ok(answered(Reply::Fd(descriptor))),
+            Err(_) => unreachable!(),
+        },
+        Err(fault) => after_fault(fault),
+    }
+}
+
+/// Opens a file at a path. It is made where it is missing and the flags say so; a file that is there
+/// has no bytes, so that there is nothing to cut. The path is spelled.
+pub fn open(
+    alloc: Global,
+    k: &mut KSplit,
+    files: &mut OpenFiles,
+    who: Who,
+    handle: Handle,
+    path: &Path,
+    flags: Flags,
+    power: &mut Power,
+) -> Result<Told, NoMemory>
+    requires spelled { AreSpelled path.now }
+    requires runs { RunsInSome k.old files.old.tables }
+    requires power { is_on power.old ≡ true }
+    ensures steps { Steps 256 power.old power.new }
+    ensures ended { IsEnded who (Call.Open handle path.now flags) k.old files.old.tables k.new
+        files.new.tables power.old power.new result }
+{
+    match k.find(path) {
+        Ok(ino) => open_found(k, files, who, handle, path, ino, flags),
+        Err(_) => match k.directory_of(path) {
+            Err(errno) => Ok(answered(Reply::Error(errno))),
+            Ok(_) => open_missing(alloc, k, files, who, handle, path, flags, power),
+        },
+    }
+}
+
+/// Gives an open file another descriptor, bound to another handle. It takes no step.
+pub fn dup(files: &mut OpenFiles, who: Who, handle: Handle, to: Handle) -> Result<Told, NoMemory>
+    ensures { (k : View) (power : Supply) → is_on power ≡ true
+        → IsEnded who (Call.Dup handle to) k files.old.tables k files.new.tables power power
+        result }
+{
+    match files.dup(who, handle, to) {
+        Ok(descriptor) => Ok(answered(Reply::Fd(descriptor))),
+        Err(fault) => after_open_fault(fault),
+    }
+}
+
+/// Closes a handle, and drops a file that has no name with its last descriptor. It takes no memory.
+pub fn close(
+    k: &mut KSplit,
+    files: &mut OpenFiles,
+    who: Who,
+    handle: Handle,
+    power: &mut Power,
+) -> Told
+    requires runs { RunsInSome k.old files.old.tables }
+    requires power { is_on power.old ≡ true }
+    ensures steps { Steps 256 power.old power.new }
+    ensures ended { IsEnded who (Call.Close handle) k.old files.old.tables k.new
+        files.new.tables power.old power.new (Ok result) }
+{
+    match files.find(who, handle) {
+        None => answered(Reply::Error(Errno::EBADF)),
+        Some(opened) => {
+            files.close(who, handle);
+            if k.named(opened.ino) {
+                return answered(Reply::Ok);
+            }
+            if files.is_open(opened.ino) {
+                return answered(Reply::Ok);
+            }
+            match k.drop_node(opened.ino, power) {
+                Ok(()) => answered(Reply::Ok),
+                Err(_) => Told::PowerLost,
+            }
+        }
+    }
+}

@@ -1,0 +1,4 @@
+mod Begins
+mod Counts
+mod Fresh
+mod Starting

@@ -1,0 +1,25 @@
+//! The World: a file system with its scripts and the history of their calls since it was mounted.
+//!
+//! The layer above may rely on this: the history is legal and follows the scripts; while the power is on
+//! K-Split and the open files run in the state of the history (`IsWorldOver`), and each call that begins
+//! answers what `step` answers; once the power went, each image of the device has a tree, and only trees
+//! that the mode permits for the history and the unfinished call (`KeepsPromise`). So far its calls are
+//! those on names and descriptors, in strict mode, one at a time, and no file has bytes.
+//!
+//! Stands on `split_calls`, which runs one call over K-Split and the open files.
+#![tactic(auto)]
+
+ghost use Rattle.split_world.specs.Starts.{FreshIsMounted};
+
+mod beginning;
+mod next;
+mod outcomes;
+mod world;
+
+pub use outcomes::{Begun, Crashed, Ended, Ready, Unfinished};
+pub use world::World;
+
+/// A device of the fresh image is one that a World may begin over.
+pub fn a_fresh_device_is_mounted()
+    ensures { FreshIsMounted }
+{}

@@ -1,0 +1,41 @@
+-- POSIX mode on a device, between two calls.
+use Rattle.std.specs.Prelude.{◌≡◌, ◌≤◌, ◌<◌, ◌+◌, ℕ, List, [], length}
+use Rattle.pm_words.specs.declared.Cell.{Cell}
+use Rattle.pm_words.specs.Images.{IsImage}
+use Rattle.pm_words.specs.Words.{Words}
+use Rattle.disk_places.specs.Journal.{journaled}
+use Rattle.disk_places.specs.Places.{data_blocks, IsGeometry, reserve}
+use Rattle.disk_rules.specs.Room.{unused_blocks}
+use Rattle.disk_rules.specs.Rules.{IsOfNoLater}
+use Rattle.k_rules.specs.Stands.{Stands}
+use Rattle.posix_types.specs.declared.call.Mode.{Mode}
+use Rattle.posix_types.specs.declared.item.Item.{Item}
+use Rattle.posix_spec.specs.State.{Fits, State}
+use Rattle.crash_spec.specs.Posix.{LaterRule}
+use Rattle.world_log.specs.Rules.{HasFreeBlocks}
+use Rattle.world_spaces.specs.Counts.{HasShape}
+use Rattle.world_images.specs.Images.{HasNoEntry, IsHeaded}
+use Rattle.world_posix.specs.Sides.{PosixWorld, Sides}
+
+-- One image: its head is right, its log has no entry of this lap nor of one to come, and the world in POSIX mode stands with its
+-- words. What the files of the medium hold leaves the reserve, and its state has the shape of the volume.
+pub record ShowsPosixWorld (rule : LaterRule) (w : Sides) (start : State) (kept later : List Item) (image : Words) : Type 0 where
+  pub headed : IsHeaded w.committed.geometry image
+  pub world : PosixWorld rule w (journaled image) start kept later
+  pub no_entry : HasNoEntry w.committed (journaled image)
+  pub no_later : (slot : ℕ) → slot < w.committed.geometry.log → IsOfNoLater w.committed (journaled image) slot
+  pub fits : Fits world.medium.state
+  pub shape : HasShape w.committed world.medium.state
+  pub blocks : world.medium.state.shape.data_blocks ≡ data_blocks w.committed.geometry
+
+-- THE DEVICE RUNS IN POSIX MODE: it stands at the committed volume, whatever the batch is, which is in memory; and each image of it
+-- shows the world. Once the batch is committed, its free blocks are enough to publish each staged run by itself.
+pub record PosixRuns (rule : LaterRule) (w : Sides) (d : List Cell) (start : State) (kept later : List Item) : Type 0 where
+  pub mode : start.mode ≡ Mode.Posix
+  pub stands : Stands w.committed.geometry w.committed d
+  pub geometry : IsGeometry w.committed.geometry
+  pub batch_geometry : w.batch.geometry ≡ w.committed.geometry
+  pub batch_base : w.batch.base ≡ w.committed.base
+  pub free : HasFreeBlocks w.committed [] []
+  pub room : length w.staged + reserve w.batch.geometry ≤ unused_blocks w.batch + 3
+  pub images : (image : Words) → IsImage d image → ShowsPosixWorld rule w start kept later image

@@ -1,0 +1,94 @@
+-- The laws of POSIX mode that follow from the three standings, each as one statement; and that there are worlds of this kind.
+use Rattle.std.specs.Prelude.{◌≡◌, ℕ, List, [], ◌∷◌, ◌++◌}
+use Rattle.pm_words.specs.declared.Cell.{Cell}
+use Rattle.pm_words.specs.Words.{Words}
+use Rattle.disk_rules.specs.Content.{found}
+use Rattle.disk_rules.specs.Live.{live_entries}
+use Rattle.disk_rules.specs.Uses.{IsUnused}
+use Rattle.disk_rules.specs.Volume.{Volume}
+use Rattle.posix_types.specs.declared.item.Item.{Item}
+use Rattle.posix_types.specs.declared.tree.TreeEntry.{TreeEntry}
+use Rattle.posix_spec.specs.Run.{Begun}
+use Rattle.posix_spec.specs.State.{State}
+use Rattle.crash_spec.specs.Posix.{LastBeforeCut, Overwritten, Posix, StrongPosix}
+use Rattle.world_rules.specs.Shown.{IsTreeOfContent}
+use Rattle.world_rules.specs.Stands.{IsSane, Stands}
+use Rattle.world_images.specs.Promised.{KeepsPromise}
+use Rattle.world_posix.specs.Device.{PosixRuns}
+use Rattle.world_posix.specs.Example.{batch_b, batch_c, committed_c, committed_d, kept_d, later_a, later_c, later_d, lost_call, lost_words, only_5, open_file, start_a, start_c, start_d, words_p, world_a, world_b, world_c, world_d}
+use Rattle.world_posix.specs.Sides.{AreSettledOrFresh, IsFresh, LosesInPlace, PosixWorld, Sides, sized, UsesNoFreed}
+
+-- ---- what stands
+
+-- Sizes are no part of what makes a volume sane.
+abbrev pub KeepsSane : Type 0
+KeepsSane = (lengths : List ℕ) (v : Volume) → IsSane v → IsSane (sized lengths v)
+
+-- What is staged is settled or fresh too.
+abbrev pub StagesNoFreed : Type 0
+StagesNoFreed = (w : Sides) (f : Words) (s : State) → UsesNoFreed w → Stands (sized w.lengths w.batch) w.staged f w.numbers s → AreSettledOrFresh w w.staged
+
+-- ---- the promise
+
+-- Between two calls, where no entry of the log is live, the tree of the medium is one that the relation permits;
+abbrev pub PermitsTreeOfMedium : Type 0
+PermitsTreeOfMedium =
+    (w : Sides) (f : Words) (start : State) (kept later : List Item) (unfinished : List Begun) (left : List TreeEntry)
+    → PosixWorld Overwritten w f start kept later → live_entries w.committed f ≡ []
+    → IsTreeOfContent (found w.committed (live_entries w.committed f) f) left → Posix start (kept ++ later) unfinished left
+
+-- with the stronger rule for bytes, one that the stronger relation permits.
+abbrev pub PermitsTreeStrongly : Type 0
+PermitsTreeStrongly =
+    (w : Sides) (f : Words) (start : State) (kept later : List Item) (unfinished : List Begun) (left : List TreeEntry)
+    → PosixWorld LastBeforeCut w f start kept later → live_entries w.committed f ≡ []
+    → IsTreeOfContent (found w.committed (live_entries w.committed f) f) left → StrongPosix start (kept ++ later) unfinished left
+
+-- THE PROMISE: each honest image of a device that runs in POSIX mode is checked, has this geometry and a tree, and each tree of it
+-- is permitted.
+abbrev pub PosixRunsPromised : Type 0
+PosixRunsPromised =
+    (w : Sides) (d : List Cell) (start : State) (kept later : List Item) (unfinished : List Begun)
+    → PosixRuns Overwritten w d start kept later → KeepsPromise w.committed.geometry d start (kept ++ later) unfinished
+
+-- ---- the commit
+
+-- A commit: the batch is the medium, and all of the history is kept;
+abbrev pub KeepsCommitted : Type 0
+KeepsCommitted =
+    (w : Sides) (f : Words) (start : State) (kept later : List Item) → PosixWorld Overwritten w f start kept later
+    → PosixWorld Overwritten (record w { committed = w.batch; committed_numbers = w.numbers }) f start (kept ++ later) []
+
+-- by the stronger rule too.
+abbrev pub KeepsStrongCommitted : Type 0
+KeepsStrongCommitted =
+    (w : Sides) (f : Words) (start : State) (kept later : List Item) → PosixWorld LastBeforeCut w f start kept later
+    → PosixWorld LastBeforeCut (record w { committed = w.batch; committed_numbers = w.numbers }) f start (kept ++ later) []
+
+-- ---- worked worlds
+
+-- A byte was written in place, over a published one, and two more are staged.
+abbrev pub HasWorldWithRun : Type 0
+HasWorldWithRun = PosixWorld Overwritten world_a words_p start_a [] later_a
+
+-- In a Checkpoint, before its commit and after it: no run is staged, and the file is longer than its published length.
+abbrev pub HasWorldInCheckpoint : Type 0
+HasWorldInCheckpoint = PosixWorld Overwritten world_b words_p start_a [] later_a
+
+abbrev pub HasWorldAfterCheckpoint : Type 0
+HasWorldAfterCheckpoint = PosixWorld Overwritten (record world_b { committed = batch_b }) words_p start_a later_a []
+
+-- An inode is used again, by a directory. The chain block of the file that it was waits: nothing names it, and it is not fresh.
+abbrev pub HasWorldUsedAgain : Type 0
+HasWorldUsedAgain = PosixWorld Overwritten world_c words_p start_c [] later_c
+
+abbrev pub HasWaitingBlock : Type 0
+HasWaitingBlock = IsUnused batch_c 13 × (IsFresh committed_c 13 → ⊥)
+
+-- Behind a front that is kept the file was cut and written again: the medium has the bytes that were cut off, by the stronger rule.
+abbrev pub HasWorldCut : Type 0
+HasWorldCut = PosixWorld LastBeforeCut world_d words_p start_d kept_d later_d
+
+-- A write of two bytes in place lost its power after the first.
+abbrev pub HasLostWrite : Type 0
+HasLostWrite = LosesInPlace committed_d [] (only_5 1) words_p lost_words (open_file (9 ∷ 2 ∷ 3 ∷ []) 3) lost_call 5 1 3

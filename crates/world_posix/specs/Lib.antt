@@ -1,0 +1,9 @@
+pub mod Sides
+pub mod Device
+pub mod Example
+pub mod Laws
+pub mod Sized
+pub mod Steps
+pub mod Promises
+pub mod ExampleParts
+pub mod ExampleRows

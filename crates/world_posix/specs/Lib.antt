@@ -5,5 +5,6 @@ pub mod Laws
 pub mod Sized
 pub mod Steps
 pub mod Promises
+pub mod Beginning
 pub mod ExampleParts
 pub mod ExampleRows

@@ -6,5 +6,3 @@ pub mod Sized
 pub mod Steps
 pub mod Promises
 pub mod Beginning
-pub mod ExampleParts
-pub mod ExampleRows

@@ -101,7 +101,9 @@ fresh_staging v sane ino block b staging at = record {
       let one : IsOnePlace i ino x block = one_owner v b i ino x block once (used_below v i used) low own at in
       let never : true ≡ false = sym used ∙ (ap (λ n. is_used (inode v n).kind) one.inode ∙ ap is_used staging) in
       cc);
-  chains = λ j k below. no_chain_has v b ino j k once low (chain_below v sane j k below) (covers-disk_at (extents v ino) block b at) below;
+  chains = λ j k below. (
+      let short : k < length (chain v j) = omega (arith, below) in
+      no_chain_has v b ino j k once low (chain_below v sane j k short) (covers-disk_at (extents v ino) block b at) short);
 } where
   low : ino < length v.inodes
   low = staging_below v ino staging

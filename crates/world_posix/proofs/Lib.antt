@@ -1,0 +1,2 @@
+pub mod ExampleParts
+pub mod ExampleRows

@@ -1,15 +1,18 @@
 -- POSIX mode on a device, between two calls.
-use Rattle.std.specs.Prelude.{◌≡◌, ◌≤◌, ◌<◌, ◌+◌, ℕ, List, [], length}
+use Rattle.std.specs.Prelude.{◌≡◌, ◌≤◌, ◌<◌, ◌+◌, ℕ, List, [], length, map}
 use Rattle.pm_words.specs.declared.Cell.{Cell}
 use Rattle.pm_words.specs.Images.{IsImage}
 use Rattle.pm_words.specs.Words.{Words}
 use Rattle.disk_places.specs.Journal.{journaled}
 use Rattle.disk_places.specs.Places.{data_blocks, IsGeometry, reserve}
+use Rattle.disk_lines.specs.declared.Inode.{Inode}
 use Rattle.disk_rules.specs.Room.{unused_blocks}
 use Rattle.disk_rules.specs.Rules.{IsOfNoLater}
+use Rattle.disk_rules.specs.Volume.{Volume}
 use Rattle.k_rules.specs.Stands.{Stands}
 use Rattle.posix_types.specs.declared.call.Mode.{Mode}
 use Rattle.posix_types.specs.declared.item.Item.{Item}
+use Rattle.posix_words.specs.Nodes.{bytes_of, node_at, published_of}
 use Rattle.posix_spec.specs.State.{Fits, State}
 use Rattle.crash_spec.specs.Posix.{LaterRule}
 use Rattle.world_log.specs.Rules.{HasFreeBlocks}
@@ -39,3 +42,13 @@ pub record PosixRuns (rule : LaterRule) (w : Sides) (d : List Cell) (start : Sta
   pub free : HasFreeBlocks w.committed [] []
   pub room : length w.staged + reserve w.batch.geometry ≤ unused_blocks w.batch + 3
   pub images : (image : Words) → IsImage d image → ShowsPosixWorld rule w start kept later image
+
+-- ---- nothing gathered
+
+-- The volume was committed, and nothing has changed since: lengths are those of the inode lines.
+abbrev pub at_rest : Volume → List ℕ → Sides
+at_rest v numbers = record { committed = v; committed_numbers = numbers; batch = v; numbers = numbers; staged = []; lengths = map (λ (x : Inode). x.size) v.inodes }
+
+-- each file has all of its length published
+abbrev pub IsAllPublished : State → Type 0
+IsAllPublished s = (n : ℕ) → published_of (node_at s.nodes n) ≡ length (bytes_of (node_at s.nodes n))

@@ -164,5 +164,8 @@ world_d = record { committed = committed_d; committed_numbers = only_5 1; batch 
 abbrev pub lost_call : Begun
 lost_call = (Who.Thread 0, Call.Pwrite handle_p 1 (7 ∷ 8 ∷ []))
 
+abbrev pub lost_word : ℕ
+lost_word = 198409
+
 abbrev pub lost_words : Words
-lost_words = words_with 198409
+lost_words = words_with lost_word

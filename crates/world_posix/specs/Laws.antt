@@ -1,11 +1,13 @@
 -- The laws of POSIX mode that follow from the three standings, each as one statement; and that there are worlds of this kind.
 use Rattle.std.specs.Prelude.{◌≡◌, ℕ, List, [], ◌∷◌, ◌++◌}
 use Rattle.pm_words.specs.declared.Cell.{Cell}
+use Rattle.pm_words.specs.Images.{IsImage}
 use Rattle.pm_words.specs.Words.{Words}
-use Rattle.disk_rules.specs.Content.{found}
+use Rattle.disk_rules.specs.Content.{content, found}
 use Rattle.disk_rules.specs.Live.{live_entries}
 use Rattle.disk_rules.specs.Uses.{IsUnused}
 use Rattle.disk_rules.specs.Volume.{Volume}
+use Rattle.posix_types.specs.declared.call.Mode.{Mode}
 use Rattle.posix_types.specs.declared.item.Item.{Item}
 use Rattle.posix_types.specs.declared.tree.TreeEntry.{TreeEntry}
 use Rattle.posix_spec.specs.Run.{Begun}
@@ -13,8 +15,9 @@ use Rattle.posix_spec.specs.State.{State}
 use Rattle.crash_spec.specs.Posix.{LastBeforeCut, Overwritten, Posix, StrongPosix}
 use Rattle.world_rules.specs.Shown.{IsTreeOfContent}
 use Rattle.world_rules.specs.Stands.{IsSane, Stands}
+use Rattle.world_images.specs.Images.{IsRunning}
 use Rattle.world_images.specs.Promised.{KeepsPromise}
-use Rattle.world_posix.specs.Device.{PosixRuns}
+use Rattle.world_posix.specs.Device.{at_rest, IsAllPublished, PosixRuns}
 use Rattle.world_posix.specs.Example.{batch_b, batch_c, committed_c, committed_d, kept_d, later_a, later_c, later_d, lost_call, lost_words, only_5, open_file, start_a, start_c, start_d, words_p, world_a, world_b, world_c, world_d}
 use Rattle.world_posix.specs.Sides.{AreSettledOrFresh, IsFresh, LosesInPlace, PosixWorld, Sides, sized, UsesNoFreed}
 
@@ -50,6 +53,22 @@ abbrev pub PosixRunsPromised : Type 0
 PosixRunsPromised =
     (w : Sides) (d : List Cell) (start : State) (kept later : List Item) (unfinished : List Begun)
     → PosixRuns Overwritten w d start kept later → KeepsPromise w.committed.geometry d start (kept ++ later) unfinished
+
+-- With the stronger rule for bytes, each tree of each image is one that the stronger relation permits.
+abbrev pub PosixRunsStrongly : Type 0
+PosixRunsStrongly =
+    (w : Sides) (d : List Cell) (start : State) (kept later : List Item) (unfinished : List Begun) (image : Words) (left : List TreeEntry)
+    → PosixRuns LastBeforeCut w d start kept later → IsImage d image → IsTreeOfContent (content w.committed.geometry image) left
+    → StrongPosix start (kept ++ later) unfinished left
+
+-- ---- the beginning
+
+-- A device on which the World runs with no claim, all lengths being published, runs in POSIX mode, by either rule: as after a
+-- mount.
+abbrev pub BeginsInPosixMode : Type 0
+BeginsInPosixMode =
+    (v : Volume) (d : List Cell) (numbers : List ℕ) (s : State) (count : ℕ) → IsRunning v d [] numbers s count → s.mode ≡ Mode.Posix → IsAllPublished s
+    → PosixRuns Overwritten (at_rest v numbers) d s [] [] × PosixRuns LastBeforeCut (at_rest v numbers) d s [] []
 
 -- ---- the commit
 

@@ -5,5 +5,4 @@ pub mod Laws
 pub mod Sized
 pub mod Steps
 pub mod Promises
-pub mod ExampleParts
-pub mod ExampleRows
+pub mod Beginning

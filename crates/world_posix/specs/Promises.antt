@@ -5,16 +5,18 @@ use Rattle.pm_words.specs.Words.{Words}
 use Rattle.disk_places.specs.Journal.{journaled}
 use Rattle.disk_places.specs.Places.{IsGeometry}
 use Rattle.disk_rules.specs.Reading.{Reads}
+use Rattle.volume_facts.specs.FootprintLaws.{content-own}
 use Rattle.posix_types.specs.declared.item.Item.{Item}
 use Rattle.posix_spec.specs.State.{State}
 use Rattle.crash_spec.specs.Permitted.{Permitted}
-use Rattle.crash_spec.specs.Posix.{LaterRule, Overwritten}
+use Rattle.crash_spec.specs.Posix.{LastBeforeCut, LaterRule, Overwritten}
+use Rattle.world_rules.specs.Shown.{IsTreeOfContent}
 use Rattle.world_log.specs.Rules.{HasFreeBlocks}
 use Rattle.world_steps.specs.Worlds.{IsWorld}
 use Rattle.world_images.specs.Images.{ShowsLog, ShowsWorld}
 use Rattle.world_images.specs.Kept.{kept_by, one_tree}
 use Rattle.world_posix.specs.Device.{ShowsPosixWorld}
-use Rattle.world_posix.specs.Laws.{PosixRunsPromised}
+use Rattle.world_posix.specs.Laws.{PosixRunsPromised, PosixRunsStrongly}
 use Rattle.world_posix.specs.Sides.{Sides}
 use Rattle.world_posix.specs.Steps.{permitted_left}
 
@@ -56,3 +58,12 @@ posix_runs_promised w d start kept later unfinished runs image is honest =
     (λ left tree_is. subst (λ m. Permitted m start (kept ++ later) unfinished left) (sym runs.mode)
     (permitted_left Overwritten w (journaled image) start kept later unfinished left shows.world
     (one_tree w.committed [] w.committed_numbers shows.world.medium.state 0 image left shown tree_is)))
+
+pub posix_runs_strongly : PosixRunsStrongly
+posix_runs_strongly w d start kept later unfinished image left runs is tree_is =
+    let shows = runs.images image is in
+    let reads = runs.stands.reads image is in
+    let shown = medium_shown LastBeforeCut w start kept later image runs.geometry runs.free reads shows in
+    permitted_left LastBeforeCut w (journaled image) start kept later unfinished left shows.world
+    (one_tree w.committed [] w.committed_numbers shows.world.medium.state 0 image left shown
+    (subst (λ c. IsTreeOfContent c left) (content-own w.committed.geometry w.committed (journaled image) reads) tree_is))

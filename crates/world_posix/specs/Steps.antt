@@ -101,7 +101,9 @@ fresh_staging v sane ino block b staging at = record {
       let one : IsOnePlace i ino x block = one_owner v b i ino x block once (used_below v i used) low own at in
       let never : true ≡ false = sym used ∙ (ap (λ n. is_used (inode v n).kind) one.inode ∙ ap is_used staging) in
       cc);
-  chains = λ j k below. no_chain_has v b ino j k once low (chain_below v sane j k below) (covers-disk_at (extents v ino) block b at) below;
+  chains = λ j k below. (
+      let short : k < length (chain v j) = omega (arith, below) in
+      no_chain_has v b ino j k once low (chain_below v sane j k short) (covers-disk_at (extents v ino) block b at) short);
 } where
   low : ino < length v.inodes
   low = staging_below v ino staging
@@ -122,26 +124,26 @@ staged_fresh w f s blocks stands ino block b used is = by (entry_of_block w.stag
 -- ---- the commit
 
 -- what a rule says where no later call is
-abbrev Starts : LaterRule → Type 0
+abbrev pub Starts : LaterRule → Type 0
 Starts rule = (s : State) (n i v x : ℕ) → x ≡ v → rule s [] n i v x
 
-starts_overwritten : Starts Overwritten
+pub starts_overwritten : Starts Overwritten
 unfolding is_shortened values_put
 starts_overwritten s n i v x is = is
 
-starts_before_cut : Starts LastBeforeCut
+pub starts_before_cut : Starts LastBeforeCut
 unfolding value_before_cut
 starts_before_cut s n i v x is = is
 
 -- once it is committed, each block of the batch is settled, or in a map that is the same, or of a staging file
-no_freed : (w : Sides) → IsSane w.batch → UsesNoFreed (record w { committed = w.batch; committed_numbers = w.numbers })
+pub no_freed : (w : Sides) → IsSane w.batch → UsesNoFreed (record w { committed = w.batch; committed_numbers = w.numbers })
 no_freed w sane = record {
   mapped = λ ino block b used is. inl (record { used = used; same = is; node = refl });
   staging = λ ino block b staging at. fresh_staging w.batch sane ino block b staging at;
   chains = λ ino k below. inl (refl, refl);
 }
 
-none_cut : (w : Sides) (start : State) (kept : List Item) → KeepsCutBytes (record w { committed = w.batch; committed_numbers = w.numbers }) start kept []
+pub none_cut : (w : Sides) (start : State) (kept : List Item) → KeepsCutBytes (record w { committed = w.batch; committed_numbers = w.numbers }) start kept []
 unfolding is_shortened
 none_cut w start kept = record {
   settled = λ ino i b used below at settled. refl;

@@ -13,10 +13,10 @@
 //! Stands on `world_images`, `world_promise` and the POSIX relation of `crash_spec`.
 #![tactic(auto)]
 
-ghost use Rattle.world_posix.specs.Laws.{HasLostWrite, HasWaitingBlock, HasWorldAfterCheckpoint};
+ghost use Rattle.world_posix.specs.Laws.{BeginsInPosixMode, HasLostWrite, HasWaitingBlock, HasWorldAfterCheckpoint};
 ghost use Rattle.world_posix.specs.Laws.{HasWorldCut, HasWorldInCheckpoint, HasWorldUsedAgain, HasWorldWithRun};
 ghost use Rattle.world_posix.specs.Laws.{KeepsCommitted, KeepsSane, KeepsStrongCommitted, PermitsTreeOfMedium};
-ghost use Rattle.world_posix.specs.Laws.{PermitsTreeStrongly, PosixRunsPromised, StagesNoFreed};
+ghost use Rattle.world_posix.specs.Laws.{PermitsTreeStrongly, PosixRunsPromised, PosixRunsStrongly, StagesNoFreed};
 
 /// Sizes are no part of what makes a volume sane.
 pub fn sizes_are_no_rule()
@@ -34,9 +34,15 @@ pub fn the_tree_of_the_medium_is_permitted()
     ensures strongly { PermitsTreeStrongly }
 {}
 
-/// A device that runs in POSIX mode keeps the promise.
+/// A device that runs in POSIX mode keeps the promise. By the stronger rule each tree is one of the stronger relation.
 pub fn posix_mode_keeps_its_promise()
-    ensures { PosixRunsPromised }
+    ensures promised { PosixRunsPromised }
+    ensures strongly { PosixRunsStrongly }
+{}
+
+/// A device on which the World runs, with no claim and all lengths published, runs in POSIX mode.
+pub fn posix_mode_begins()
+    ensures { BeginsInPosixMode }
 {}
 
 /// A commit leaves such a world, of which all is kept, by each of the two rules.

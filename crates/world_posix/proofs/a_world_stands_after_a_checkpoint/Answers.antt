@@ -1,4 +1,4 @@
-use Rattle.world_posix.specs.ExampleRows.{row_b, row_b_after}
+use Rattle.world_posix.proofs.ExampleRows.{row_b, row_b_after}
 use Rattle.world_posix.proofs.a_world_stands_after_a_checkpoint.Goals as goal
 
 pub returns : goal.returns

@@ -1,4 +1,4 @@
-use Rattle.world_posix.specs.ExampleRows.{row_d}
+use Rattle.world_posix.proofs.ExampleRows.{row_d}
 use Rattle.world_posix.proofs.a_world_with_a_cut_stands.Goals as goal
 
 pub returns : goal.returns

@@ -1,4 +1,4 @@
-use Rattle.world_posix.specs.ExampleRows.{row_a}
+use Rattle.world_posix.proofs.ExampleRows.{row_a}
 use Rattle.world_posix.proofs.a_world_with_a_staged_run_stands.Goals as goal
 
 pub returns : goal.returns

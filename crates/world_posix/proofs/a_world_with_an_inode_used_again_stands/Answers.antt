@@ -1,4 +1,4 @@
-use Rattle.world_posix.specs.ExampleRows.{row_c, waiting_c}
+use Rattle.world_posix.proofs.ExampleRows.{row_c, waiting_c}
 use Rattle.world_posix.proofs.a_world_with_an_inode_used_again_stands.Goals as goal
 
 pub returns : goal.returns

@@ -1,4 +1,4 @@
-use Rattle.world_posix.specs.ExampleRows.{row_lost}
+use Rattle.world_posix.proofs.ExampleRows.{row_lost}
 use Rattle.world_posix.proofs.a_write_is_lost_in_place.Goals as goal
 
 pub returns : goal.returns

@@ -27,8 +27,8 @@ use Rattle.posix_spec.specs.Step.{fsync_done, mkdir_done, pwrite_done, truncate_
 use Rattle.crash_spec.specs.Posix.{IsLeft, LastBeforeCut, NodeLeft, Overwritten}
 use Rattle.crash_spec.specs.Values.{is_shortened, value_before_cut, value_put, values_put}
 use Rattle.world_rules.specs.Stands.{IsUsed, LogStands, number, Stands}
-use Rattle.world_posix.specs.Example.{batch_b, batch_c, batch_d, committed_c, committed_d, extent, kept_d, later_a, later_c, later_d, lost_call, lost_words, no_tables, only_5, open_file, file_with, run_at, start_a, start_c, start_d, state_with, tables_p, volume_a, volume_with, words_p, world_a, world_b, world_c, world_d}
-use Rattle.world_posix.specs.ExampleParts.{apart, apart_behind, chains_with, file_stands, files_with, fresh_with, has_bytes, log_none, log_one, mapped_with, names_once, names_with, nodes_with, sane_with, size_with, staging_with}
+use Rattle.world_posix.specs.Example.{batch_b, batch_c, batch_d, committed_c, committed_d, extent, kept_d, later_a, later_c, later_d, lost_call, lost_word, lost_words, no_tables, only_5, open_file, file_with, run_at, start_a, start_c, start_d, state_with, tables_p, volume_a, volume_with, words_p, world_a, world_b, world_c, world_d}
+use Rattle.world_posix.proofs.ExampleParts.{apart, apart_behind, chains_with, file_stands, files_with, fresh_with, has_bytes, log_none, log_one, mapped_with, names_once, names_with, nodes_with, sane_with, size_with, staging_with}
 use Rattle.world_posix.specs.Laws.{HasLostWrite, HasWaitingBlock, HasWorldAfterCheckpoint, HasWorldCut, HasWorldInCheckpoint, HasWorldUsedAgain, HasWorldWithRun}
 use Rattle.world_posix.specs.Sides.{IsFresh, IsPublished, IsSameMap, IsSettled, MediumStands, Same, Sides, StillPublished, UsesNoFreed}
 use Rattle.world_posix.specs.Steps.{committed}
@@ -405,7 +405,7 @@ only_10 block b is = ten b (covers-disk_at (extent 0 10 1) block b is) where
 
 -- the words differ in the first word of block 10 alone
 other_word : (x : ℕ) → 5120 < x → lost_words x ≡ words_p x
-other_word x behind = by 198409 197129 (cond (x == 5632) 1801 (cond (x == 6144) 9 0)) (x == 5120) (off x behind) where
+other_word x behind = by lost_word 197129 (cond (x == 5632) 1801 (cond (x == 6144) 9 0)) (x == 5120) (off x behind) where
   off : (y : ℕ) → 5120 < y → (y == 5120) ≡ false
   off y after = grind (arith, nat_tests, after)
 

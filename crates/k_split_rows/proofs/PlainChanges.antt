@@ -1,11 +1,10 @@
 -- A change of names leaves a volume of names alone, and so a device whose images can be opened again.
-use Rattle.std.specs.Prelude.{◌≡◌, ◌≢◌, ℕ, ◌*◌, ◌<◌, Bool, List, [], length, true, false, Option, None, Some, Result, Ok, Err, slice_set, slice_index_or, if◌then◌else◌, refl}
-use Rattle.std.proofs.Common.{arith, ap, sym, subst, ◌∙◌, inl, inr}
-use Rattle.std.proofs.lemmas.Bool.{cases_Bool, cases_eq, cases_lt}
+use Rattle.std.specs.Prelude.{◌≡◌, ℕ, ◌*◌, Bool, List, [], length, true, false, Option, None, Some, Result, Ok, Err, slice_set, slice_index_or, if◌then◌else◌, refl}
+use Rattle.std.proofs.Common.{ap, sym, subst, ◌∙◌, inl, inr}
+use Rattle.std.proofs.lemmas.Bool.{cases_eq, cases_lt}
 use Rattle.std.proofs.lemmas.List.{get_or-set_other, get_or-set_same, get_or_past, set_past}
 use Rattle.std.proofs.lemmas.Option.{same_Some}
-use Rattle.pm_words.specs.declared.Cell.{Cell}
-use Rattle.pm_words.specs.Cells.{AllHome, cell, is_lent}
+use Rattle.pm_words.specs.Cells.{AllHome}
 use Rattle.pm_words.specs.ImageLaws.{IsImage-words_of}
 use Rattle.pm_words.specs.Images.{Follows, IsImage, words_of}
 use Rattle.pm_words.specs.Powers.{is_on, Supply}
@@ -17,7 +16,7 @@ use Rattle.disk_lines.specs.declared.Kind.TheVariants.{File}
 use Rattle.disk_lines.specs.Names.{names_of}
 use Rattle.disk_lines.specs.Lines.{NameRow}
 use Rattle.disk_rules.specs.Reading.{node_set, Reads}
-use Rattle.disk_rules.specs.Volume.{chain, extents, free_inode, inode, Volume}
+use Rattle.disk_rules.specs.Volume.{free_inode, inode, Volume}
 use Rattle.k_plans.specs.Making.{IsMade, kind_of}
 use Rattle.k_plans.specs.Removing.{IsRemoved, IsUnlinked}
 use Rattle.k_plans.specs.Renaming.{IsRenamed, renamed_over}

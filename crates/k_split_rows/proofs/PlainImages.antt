@@ -1,29 +1,27 @@
 -- An image after a change of names, or after a part of it, is checked: its head is right, and its log is blank still.
-use Rattle.std.specs.Prelude.{◌≡◌, ◌≢◌, ◌⊎◌, ℕ, ◌+◌, ◌*◌, ◌/◌, ◌^◌, ◌<◌, ◌≤◌, List, [], length, zero, suc, cond, false, true, None, Some, filter, sum_by, count_by, refl}
-use Rattle.std.specs.List.{filter_map, range_with_len}
+use Rattle.std.specs.Prelude.{◌≡◌, ◌≢◌, ◌⊎◌, ℕ, ◌+◌, ◌*◌, ◌/◌, ◌^◌, ◌<◌, ◌≤◌, [], length, zero, suc, cond, false, true, None, filter, sum_by, count_by, refl}
+use Rattle.std.specs.List.{range_with_len}
 use Rattle.std.proofs.Common.{arith, ap, sym, subst, ◌∙◌, inl, inr}
 use Rattle.std.proofs.lemmas.Bool.{cond_both}
-use Rattle.std.proofs.lemmas.Bool.Decides.{nat_tests}
 use Rattle.std.proofs.lemmas.List.Sums.{sum_by-cons}
 use Rattle.block_counts.specs.Counts.{held_by}
 use Rattle.pm_words.specs.Bytes.{line_bytes-same}
 use Rattle.pm_words.specs.Words.{line_bytes, Words}
 use Rattle.disk_places.specs.Journal.{is_journal_word, IsSound, journaled}
 use Rattle.disk_places.specs.PlaceLaws.{behind_log-words, log_line-not_journaled}
-use Rattle.disk_places.specs.Places.{base_word, commit_word, data_blocks, first_data, Geometry, IsGeometry, is_journaled_line, log_line, reserve, state_line}
+use Rattle.disk_places.specs.Places.{base_word, commit_word, data_blocks, first_data, Geometry, IsGeometry, is_journaled_line, log_line, state_line}
 use Rattle.disk_places.specs.Superblock.{geometry_at, has_magic, has_numbers, has_version}
-use Rattle.disk_lines.specs.declared.Draft.{Draft}
 use Rattle.disk_lines.specs.Entries.{decode_entry, held_seq, is_self_valid}
-use Rattle.disk_rules.specs.Checked.{HasHead, IsCheckedAs, IsLogKept}
+use Rattle.disk_rules.specs.Checked.{HasHead, IsLogKept}
 use Rattle.disk_rules.specs.Content.{size_of}
 use Rattle.disk_rules.specs.Kept.{AreKept}
 use Rattle.disk_rules.specs.Live.{entry_in, is_live, live_entries}
 use Rattle.disk_rules.specs.Placed.{IsOutside}
 use Rattle.disk_rules.specs.Reading.{Reads}
 use Rattle.disk_rules.specs.Room.{has_none, held_after_recovery, is_named_file, unused_blocks}
-use Rattle.disk_rules.specs.Rules.{geometry_of, HasTarget, IsOfNoLater}
+use Rattle.disk_rules.specs.Rules.{geometry_of, HasTarget}
 use Rattle.disk_rules.specs.Uses.{owners}
-use Rattle.disk_rules.specs.Volume.{inode, Volume}
+use Rattle.disk_rules.specs.Volume.{Volume}
 use Rattle.volume_facts.specs.Footprint.{SameLog}
 use Rattle.volume_facts.specs.FootprintLaws.{entry_in-same}
 use Rattle.volume_facts.specs.ImageLaws.{journaled-other}

@@ -1,17 +1,15 @@
 -- The fresh image, and a device that was recovered, are plain ones when they are opened.
-use Rattle.std.specs.Prelude.{◌≡◌, ℕ, ◌+◌, ◌*◌, ◌≤◌, List, [], length, false, true, None, Result, Ok, Err, IfOk, refl}
+use Rattle.std.specs.Prelude.{◌≡◌, ℕ, ◌+◌, ◌*◌, List, false, Result, Ok, Err, IfOk, refl}
 use Rattle.std.specs.declared.alloc.AllocError.{AllocError}
 use Rattle.std.proofs.Common.{arith, ap, sym, subst, ◌∙◌}
 use Rattle.std.proofs.Math.Path.{fun_ext}
-use Rattle.std.proofs.lemmas.Bool.{both_ways}
 use Rattle.pm_words.specs.declared.Cell.{Cell}
 use Rattle.pm_words.specs.declared.Cell.TheVariants.{Single}
 use Rattle.pm_words.specs.CellLaws.{single-home}
-use Rattle.pm_words.specs.Cells.{AllHome, AllSingle, cell, is_single, newest}
-use Rattle.pm_words.specs.ImageLaws.{image-single, IsImage-words_of}
+use Rattle.pm_words.specs.Cells.{AllHome, AllSingle, cell, newest}
+use Rattle.pm_words.specs.ImageLaws.{image-single}
 use Rattle.pm_words.specs.Images.{IsImage, words_of}
-use Rattle.pm_words.specs.Words.{word_at, line_bytes, Words}
-use Rattle.disk_places.specs.Fields.{zeros}
+use Rattle.pm_words.specs.Words.{word_at, Words}
 use Rattle.disk_places.specs.Journal.{IsSound, journaled}
 use Rattle.disk_places.specs.Places.{commit_word, Geometry, IsGeometry, log_line}
 use Rattle.disk_lines.specs.declared.Inode.{Inode}
@@ -19,10 +17,9 @@ use Rattle.disk_lines.specs.Entries.{decode_entry}
 use Rattle.disk_lines.specs.Fresh.{fresh}
 use Rattle.disk_rules.specs.Checked.{IsCheckedAs}
 use Rattle.disk_rules.specs.FreshVolume.{fresh_inode, fresh_volume}
-use Rattle.disk_rules.specs.Live.{entry_in}
 use Rattle.disk_rules.specs.Reading.{Reads}
 use Rattle.disk_rules.specs.Rules.{geometry_of, IsChecked}
-use Rattle.disk_rules.specs.Volume.{inode, volume, Volume}
+use Rattle.disk_rules.specs.Volume.{volume, Volume}
 use Rattle.volume_facts.specs.ReadingLaws.{reads-volume}
 use Rattle.image_facts.specs.CheckedLaws.{checked-parts}
 use Rattle.image_facts.specs.FreshLaws.{chain-fresh, extents-fresh, fresh_cases, fresh-checked_as, fresh-log, inode-fresh, unset-log, zeros-no_entry}
@@ -31,7 +28,7 @@ use Rattle.image_facts.specs.ViewLaws.{checked_as-same_view, sound-head}
 use Rattle.k_journal.specs.Recoveries.{KeepsView}
 use Rattle.k_rules.specs.View.{View}
 use Rattle.k_split.specs.Order.{IsOpened}
-use Rattle.k_split_rows.specs.Plain.{HasBlankLog, HasNoData, IsPlain, IsPlainAs}
+use Rattle.k_split_rows.specs.Plain.{HasBlankLog, IsPlain, IsPlainAs}
 
 -- ---- a plain image of single words is a device that can be opened
 

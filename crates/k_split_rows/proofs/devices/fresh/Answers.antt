@@ -1,4 +1,4 @@
-use Rattle.std.proofs.Common.{◌≡◌, ◌*◌, sym, subst, ap, ◌∙◌}
+use Rattle.std.proofs.Common.{◌*◌, sym, subst, ap, ◌∙◌}
 use Rattle.disk_rules.specs.Rules.{geometry_of, IsChecked}
 use Rattle.pm_words.specs.Cells.{is_single}
 use Rattle.k_split_rows.proofs.PlainStarts.{fresh-opened, idle-fresh, if-plain, words-given}

@@ -1,4 +1,4 @@
-use Rattle.std.proofs.Common.{◌≡◌, ◌*◌, refl, sym, subst, ap, ◌∙◌, arith}
+use Rattle.std.proofs.Common.{refl, sym, subst, ap, arith}
 use Rattle.pm_words.specs.Cells.{is_single}
 use Rattle.pm_words.specs.ImageLaws.{IsImage-words_of}
 use Rattle.pm_words.specs.Images.{words_of}

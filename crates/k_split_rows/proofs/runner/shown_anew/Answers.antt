@@ -1,4 +1,4 @@
-use Rattle.std.proofs.Common.{length, sym, subst, ap, ◌∙◌, arith}
+use Rattle.std.proofs.Common.{length, sym, subst, ap, arith}
 use Rattle.disk_rules.specs.Volume.{Volume}
 use Rattle.pm_words.specs.Words.{word_at}
 use Rattle.k_split_rows.specs.Plain.{IsPlainAs}

@@ -1,0 +1,4 @@
+pub mod PlainChanges
+pub mod PlainImages
+pub mod PlainStarts
+pub mod Words

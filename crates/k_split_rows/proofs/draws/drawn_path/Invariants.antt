@@ -1,0 +1,5 @@
+use Rattle.path_spelling.specs.Spelling.{AreSpelled}
+use Rattle.k_split_rows.proofs.draws.drawn_path.Given as goal
+
+abbrev pub invariant-loop : goal.invariant-loop
+invariant-loop l = AreSpelled l.names.items

@@ -1,0 +1,16 @@
+//! The order of a state's entries.
+//!
+//! Definitions and lemmas, no code. The entries of a state stand by their directories' numbers, and then
+//! by the bytes of their names, no two of one directory and one name (`AreOrdered`). The layer above may
+//! rely on this: each call keeps them so; so the names of a directory, as `list` tells them, are in byte
+//! order.
+//!
+//! Stands on `posix_facts` (entries stay distinct) and `posix_trees` (rising texts).
+#![tactic(auto)]
+
+ghost use Rattle.entry_orders.specs.Laws.{KeepsOrder};
+
+/// Each call leaves the entries in order.
+pub fn entries_stay_in_order()
+    ensures { KeepsOrder }
+{}

@@ -1,5 +1,5 @@
 -- The entries of a state stand in one order, whatever calls are made: by their directories' numbers, and then by the bytes of their names.
-use Rattle.std.specs.Prelude.{◌≡◌, ◌≢◌, ◌||◌, ◌&&◌, ◌==◌, ℕ, nat_lt, Bool, true, false, cond, List, [], ◌∷◌, find, Option, Some, None, is_some, option_map, refl}
+use Rattle.std.specs.Prelude.{◌≡◌, ◌≢◌, ◌||◌, ◌&&◌, ◌==◌, ℕ, nat_lt, Bool, true, false, cond, List, [], ◌∷◌, find, Option, Some, None, option_map, refl}
 use Rattle.std.specs.Cmp.Lexicographic.{slice_cmp}
 use Rattle.std.specs.Ordering.{is_lt, nat_cmp, ordering_then}
 use Rattle.std.specs.declared.cmp.Ordering.{Ordering}
@@ -36,14 +36,14 @@ abbrev pub AreOrdered : List DirEntry → Type 0
 AreOrdered entries = AreDistinct entries × RisingBy entry_text entries
 
 -- an entry comes before another where its text does
-same_test : (a b : DirEntry) → comes_before a b ≡ bytes_before (entry_text a) (entry_text b)
+pub same_test : (a b : DirEntry) → comes_before a b ≡ bytes_before (entry_text a) (entry_text b)
 same_test a b = by (nat_lt a.parent b.parent) (a.parent == b.parent) (slice_cmp nat_cmp a.name b.name) where
   by : (less same : Bool) (r : Ordering) → (less || (same && is_lt r)) ≡ is_lt (ordering_then (cond less Less (cond same Equal Greater)) r)
   by true same r = refl
   by false true r = refl
   by false false r = refl
 
-no_entry : (o : Option DirEntry) → option_map (λ (e : DirEntry). e.child) o ≡ None → o ≡ None
+pub no_entry : (o : Option DirEntry) → option_map (λ (e : DirEntry). e.child) o ≡ None → o ≡ None
 no_entry None is = refl
 no_entry (Some e) is = cc
 
@@ -90,7 +90,7 @@ made_ordered : (s : State) (p : List (List ℕ)) (node : Node) → AreOrdered s.
 unfolding made
 made_ordered s p node ordered walked missing = AreOrdered-with_entry s.entries _ ordered (nothing_there (space s) p walked missing)
 
-unnamed_ordered : (s : State) (p : List (List ℕ)) → AreOrdered s.entries → AreOrdered (unnamed s p).entries
+pub unnamed_ordered : (s : State) (p : List (List ℕ)) → AreOrdered s.entries → AreOrdered (unnamed s p).entries
 unfolding unnamed
 unnamed_ordered s p ordered = AreOrdered-without_entry s.entries (parent_at (space s) p) (last_name p) ordered
 
@@ -115,7 +115,7 @@ unlink_ordered : (i : Instance) (s : State) (p : List (List ℕ)) → AreOrdered
 unfolding unlink_done
 unlink_ordered i s p ordered = swept_ordered i (unnamed s p) _ (unnamed_ordered s p ordered)
 
-renamed_ordered : (s : State) (p q : List (List ℕ)) → AreOrdered s.entries → AreOrdered (renamed s p q).entries
+pub renamed_ordered : (s : State) (p q : List (List ℕ)) → AreOrdered s.entries → AreOrdered (renamed s p q).entries
 unfolding renamed
 renamed_ordered s p q ordered =
     let left = unnamed_ordered s p ordered in

@@ -8,9 +8,15 @@
 //! Stands on `posix_facts` (entries stay distinct) and `posix_trees` (rising texts).
 #![tactic(auto)]
 
-ghost use Rattle.entry_orders.specs.Laws.{KeepsOrder};
+ghost use Rattle.entry_orders.specs.Laws.{KeepsOrder, ListsSorted, StartsInOrder};
 
-/// Each call leaves the entries in order.
+/// A tree's entries begin in order, and each call leaves them so.
 pub fn entries_stay_in_order()
-    ensures { KeepsOrder }
+    ensures start { StartsInOrder }
+    ensures call { KeepsOrder }
+{}
+
+/// Sorted names are those that `list` tells.
+pub fn names_are_told_sorted()
+    ensures { ListsSorted }
 {}

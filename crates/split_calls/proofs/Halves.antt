@@ -39,11 +39,12 @@ use Rattle.world_exits.specs.Going.{IsStep, moved_so_far}
 use Rattle.world_exits.specs.Moves.{steps_rename}
 use Rattle.world_exits.specs.Steps.{state_unlink, steps_dropped, steps_unlinked, unlinks_file, valid_now}
 use Rattle.split_calls.specs.Answers.{ComesHalfWay, IsEnded, IsHalfWay, IsReplyOf, IsSpent, told_of}
-use Rattle.split_calls.specs.Runs.{HasNoBytes, RunsAs}
+use Rattle.split_calls.specs.Runs.{HasNoBytes, HasNoLog, RunsAs}
+use Rattle.split_calls.proofs.NoLog.{cut_no_log, runs_no_log}
 use Rattle.split_calls.specs.declared.outcomes.Told.{Told}
 use Rattle.split_calls.proofs.Empty.{empty_swept, swept_tables}
 use Rattle.split_calls.proofs.NameCalls.{files_renamed, reply_ok, took}
-use Rattle.split_calls.proofs.Running.{fault_ended, loses_cut, row_refuses, runs_on}
+use Rattle.split_calls.proofs.Running.{fault_ended, loses_cut, quiet_changes, row_refuses, runs_on}
 
 -- the file is open in the state exactly where it is in the open files
 pub open_there : (g : Geometry) (k : View) (t : Tables) (n : ℕ) (s : State) (runs : RunsAs g k t n s) (ino : ℕ) → (inode k.volume ino).kind ≡ File
@@ -84,15 +85,22 @@ half_dropped g k k2 t n end ino half shut drop =
 
 -- the power went in between, or in the second change
 half_lost : (g : Geometry) (k k2 : View) (t : Tables) (n : ℕ) (start : State) (history : List Item) (who : Who) (call : Call) (ino : ℕ) → start.mode ≢ Mode.Posix
-    → IsHalfWay g k t n (after_call (run start history) (who, call)) ino → is_open t ino ≡ false → IsDropAnswer ino k k2 (Err KFault.PowerLost) → KeepsPromise g k2.cells start history ((who, call) ∷ [])
-half_lost g k k2 t n start history who call ino mode half shut drop = subst (λ x. KeepsPromise x k2.cells start history ((who, call) ∷ [])) half.runs.geometry (by drop) where
-  by : IsDropAnswer ino k k2 (Err KFault.PowerLost) → KeepsPromise k.volume.geometry k2.cells start history ((who, call) ∷ [])
-  by (inl off) =
-      subst (λ d. KeepsPromise k.volume.geometry d start history ((who, call) ∷ [])) (sym (ap (λ (x : View). x.cells) off))
-      (promise_between k.volume k.cells [] half.runs.numbers half.middle half.runs.count start history (who, call) mode half.runs.going.running (inr half.tree_is))
-  by (inr cut) =
-      keeps_cut k k2 cut.1.1 [] half.runs.numbers half.runs.numbers half.middle (after_call (run start history) (who, call)) half.runs.count half.runs.count start history (who, call) mode half.runs.going cut.1.3
-      (drop_step g k t n (after_call (run start history) (who, call)) ino cut.1.1 half shut cut.1.2) (inr half.tree_is) (inr refl)
+    → IsHalfWay g k t n (after_call (run start history) (who, call)) ino → is_open t ino ≡ false → IsDropAnswer ino k k2 (Err KFault.PowerLost)
+    → KeepsPromise g k2.cells start history ((who, call) ∷ []) × HasNoLog g k2.cells
+half_lost g k k2 t n start history who call ino mode half shut drop =
+    let both = by drop in (subst (λ x. KeepsPromise x k2.cells start history ((who, call) ∷ [])) half.runs.geometry both.0, both.1) where
+      by : IsDropAnswer ino k k2 (Err KFault.PowerLost) → KeepsPromise k.volume.geometry k2.cells start history ((who, call) ∷ []) × HasNoLog g k2.cells
+      by (inl off) = (
+        subst (λ d. KeepsPromise k.volume.geometry d start history ((who, call) ∷ [])) (sym (ap (λ (x : View). x.cells) off))
+            (promise_between k.volume k.cells [] half.runs.numbers half.middle half.runs.count start history (who, call) mode half.runs.going.running (inr half.tree_is)),
+        subst (HasNoLog g) (sym (ap (λ (x : View). x.cells) off)) (runs_no_log g k t n half.middle half.runs),
+      )
+      by (inr cut) = (
+        keeps_cut k k2 cut.1.1 [] half.runs.numbers half.runs.numbers half.middle (after_call (run start history) (who, call)) half.runs.count half.runs.count start history (who, call) mode half.runs.going cut.1.3
+            (drop_step g k t n (after_call (run start history) (who, call)) ino cut.1.1 half shut cut.1.2) (inr half.tree_is) (inr refl),
+        (let step_is = drop_step g k t n (after_call (run start history) (who, call)) ino cut.1.1 half shut cut.1.2 in
+        cut_no_log g k k2 t n half.middle cut.1.1 half.runs (quiet_changes k.committed cut.1.1 k.cells k2.cells g cut.1.3.changes (ap (λ (v : Volume). v.geometry) (half.runs.going.order.settled half.runs.going.unbatched) ∙ half.runs.geometry) half.runs.quiet) cut.1.3 step_is.geometry step_is.base),
+      )
 
 -- ---- the ends of a call that came half way, in whatever state it began
 

@@ -6,3 +6,5 @@ mod Paths
 mod OpenCalls
 mod OpenEnds
 mod CloseCalls
+mod Honest
+pub mod NoLog

@@ -1,15 +1,18 @@
 -- One change of K-Split in a call: done, refused, or cut off.
-use Rattle.std.specs.Prelude.{◌≡◌, ◌⊎◌, ◌≤◌, ◌<◌, ◌+◌, ◌^◌, ℕ, true, List, [], ◌∷◌, Option, Some, None, Result, Err, refl}
+use Rattle.std.specs.Prelude.{◌≡◌, ◌⊎◌, ◌≤◌, ◌<◌, ◌+◌, ◌^◌, ◌/◌, ℕ, false, true, List, [], ◌∷◌, Option, Some, None, Result, Err, refl}
 use Rattle.std.proofs.Common.{arith, ap, ◌∙◌, sym, subst, inl, inr}
+use Rattle.pm_words.specs.declared.Cell.{Cell}
+use Rattle.pm_words.specs.Cells.{cell, is_single}
+use Rattle.pm_words.specs.CellLaws.{settled-single}
 use Rattle.pm_words.specs.Powers.{is_on, Supply}
 use Rattle.pm_words.specs.Words.{Words}
-use Rattle.disk_places.specs.Places.{Geometry}
+use Rattle.disk_places.specs.Places.{Geometry, is_journaled_line}
 use Rattle.disk_lines.specs.declared.Kind.TheVariants.{File}
 use Rattle.disk_rules.specs.Volume.{inode, Volume}
 use Rattle.k_rules.specs.Spaces.{volume_space}
 use Rattle.k_rules.specs.View.{View}
 use Rattle.k_split.specs.declared.faults.KFault.{KFault}
-use Rattle.k_split.specs.Answers.{IsAnswer, IsCut, IsDone, IsOff, IsPaid}
+use Rattle.k_split.specs.Answers.{Changes, IsAnswer, IsCut, IsDone, IsOff, IsPaid}
 use Rattle.open_numbers.specs.Numbered.{numbered_as}
 use Rattle.posix_types.specs.declared.call.Call.{Call}
 use Rattle.posix_types.specs.declared.call.Who.{Who}
@@ -30,7 +33,8 @@ use Rattle.world_exits.specs.Done.{goes_on, keeps_cut, keeps_off}
 use Rattle.world_exits.specs.Ends.{refused_by_row}
 use Rattle.world_exits.specs.Going.{IsNameCall, IsStep, row_of_call}
 use Rattle.split_calls.specs.Answers.{Answers, IsEnded, IsSpent, Loses, told_of}
-use Rattle.split_calls.specs.Runs.{HasNoBytes, RunsAs}
+use Rattle.split_calls.specs.Runs.{HasNoBytes, HasNoLog, IsQuiet, RunsAs}
+use Rattle.split_calls.proofs.NoLog.{cut_no_log, runs_no_log}
 
 -- with one node more that may have been made
 pub runs_later : (g : Geometry) (k : View) (t : Tables) (n : ℕ) (s : State) → RunsAs g k t n s → RunsAs g k t (n + 1) s
@@ -43,7 +47,13 @@ runs_later g k t n s runs = record {
   tables = runs.tables;
   files = runs.files;
   empty = runs.empty;
+  quiet = runs.quiet;
 }
+
+-- words that settle stay single
+pub quiet_changes : (v w : Volume) (old new : List Cell) (g : Geometry) → Changes v w old new → v.geometry ≡ g → IsQuiet g old → IsQuiet g new
+quiet_changes v w old new g changes same quiet i journal line =
+    ap is_single (settled-single (cell old i) (cell new i) (changes.others i journal (subst (λ x. is_journaled_line x (i / 8) ≡ false) (sym same) line)) (quiet i journal line))
 
 -- ---- done
 
@@ -59,6 +69,7 @@ runs_on g k k2 t t2 n s next runs after later m done step_is few tables files em
   tables = tables;
   files = files;
   empty = empty;
+  quiet = quiet_changes k.committed k2.volume k.cells k2.cells g done.changes (ap (λ (v : Volume). v.geometry) (runs.going.order.settled runs.going.unbatched) ∙ runs.geometry) runs.quiet;
 }
 
 -- ---- refused
@@ -89,15 +100,19 @@ row_refuses who call k t o named row g n s runs = refused_by_row k.volume k.cell
 
 -- before the change
 pub loses_off : (who : Who) (call : Call) (k k2 : View) (t : Tables) → IsOff k k2 → Loses who call k t k2
-loses_off who call k k2 t off g n start history small mode runs =
-    subst (λ x. KeepsPromise x k2.cells start history ((who, call) ∷ [])) runs.geometry
-    (keeps_off k k2 [] runs.numbers start history ((who, call) ∷ []) runs.count runs.going off)
+loses_off who call k k2 t off g n start history small mode runs = (
+  subst (λ x. KeepsPromise x k2.cells start history ((who, call) ∷ [])) runs.geometry
+      (keeps_off k k2 [] runs.numbers start history ((who, call) ∷ []) runs.count runs.going off),
+  subst (HasNoLog g) (sym (ap (λ (x : View). x.cells) off)) (runs_no_log g k t n (run start history) runs),
+)
 
 -- and where no change comes
 pub loses_now : (who : Who) (call : Call) (k : View) (t : Tables) → Loses who call k t k
-loses_now who call k t g n start history small mode runs =
-    subst (λ x. KeepsPromise x k.cells start history ((who, call) ∷ [])) runs.geometry
-    (promise_now k.volume k.cells [] runs.numbers start history ((who, call) ∷ []) runs.count runs.going.running)
+loses_now who call k t g n start history small mode runs = (
+  subst (λ x. KeepsPromise x k.cells start history ((who, call) ∷ [])) runs.geometry
+      (promise_now k.volume k.cells [] runs.numbers start history ((who, call) ∷ []) runs.count runs.going.running),
+  runs_no_log g k t n (run start history) runs,
+)
 
 -- In it: a step from this state to another one, whose tree is that of the call's end.
 pub record CutsInto (v w : Volume) (numbers : List ℕ) (s end : State) (count : ℕ) : Type 0 where
@@ -110,9 +125,11 @@ pub record CutsInto (v w : Volume) (numbers : List ℕ) (s end : State) (count :
 pub loses_cut : (who : Who) (call : Call) (k k2 : View) (t : Tables) (w : Volume) → IsCut w k k2
     → ((g : Geometry) (n : ℕ) (s : State) → n + 1 < 2 ^ 31 → (runs : RunsAs g k t n s) → CutsInto k.volume w runs.numbers s (after_call s (who, call)) runs.count) → Loses who call k t k2
 loses_cut who call k k2 t w cut into g n start history small mode runs =
-    let is = into g n (run start history) small runs in
-    subst (λ x. KeepsPromise x k2.cells start history ((who, call) ∷ [])) runs.geometry
-    (keeps_cut k k2 w [] runs.numbers is.after (run start history) is.next runs.count is.later start history (who, call) mode runs.going cut is.is_step (inl refl) (inr is.tree_is))
+    let is = into g n (run start history) small runs in (
+      subst (λ x. KeepsPromise x k2.cells start history ((who, call) ∷ [])) runs.geometry
+          (keeps_cut k k2 w [] runs.numbers is.after (run start history) is.next runs.count is.later start history (who, call) mode runs.going cut is.is_step (inl refl) (inr is.tree_is)),
+      cut_no_log g k k2 t n (run start history) w runs (quiet_changes k.committed w k.cells k2.cells g cut.changes (ap (λ (v : Volume). v.geometry) (runs.going.order.settled runs.going.unbatched) ∙ runs.geometry) runs.quiet) cut is.is_step.geometry is.is_step.base,
+    )
 
 -- ---- a fault of K-Split
 
@@ -151,4 +168,5 @@ runs_still g k t t2 n s next runs shape takes tables files empty = record {
   tables = tables;
   files = files;
   empty = empty;
+  quiet = runs.quiet;
 }

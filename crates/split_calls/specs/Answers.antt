@@ -31,7 +31,7 @@ use Rattle.world_rules.specs.Stands.{number}
 use Rattle.world_images.specs.Promised.{KeepsPromise}
 use Rattle.split_calls.specs.declared.outcomes.NoMemory.{NoMemory}
 use Rattle.split_calls.specs.declared.outcomes.Told.{Told}
-use Rattle.split_calls.specs.Runs.{RunsAs}
+use Rattle.split_calls.specs.Runs.{HasNoLog, RunsAs}
 
 -- The call is done, in whatever state they ran: they run in its next state, and the outcome is that of the step.
 abbrev pub Answers : Who → Call → View → Tables → View → Tables → Outcome → Type 0
@@ -40,11 +40,11 @@ Answers who call k t k2 t2 outcome =
     → RunsAs g k2 t2 (n + 1) (after_call s (who, call)) × ((step s who call).outcome ≡ outcome)
 
 -- The power went: in strict and in sync mode the device keeps the promise for whatever history led there, with the call
--- unfinished.
+-- unfinished, and no log is left.
 abbrev pub Loses : Who → Call → View → Tables → View → Type 0
 Loses who call k t k2 =
     (g : Geometry) (n : ℕ) (start : State) (history : List Item) → n + 1 < 2 ^ 31 → start.mode ≢ Mode.Posix
-    → RunsAs g k t n (run start history) → KeepsPromise g k2.cells start history ((who, call) ∷ [])
+    → RunsAs g k t n (run start history) → KeepsPromise g k2.cells start history ((who, call) ∷ []) × HasNoLog g k2.cells
 
 -- It made, removed or moved no name, or took a step.
 abbrev pub IsSpent : Who → Call → View → Tables → Supply → Supply → Type 0

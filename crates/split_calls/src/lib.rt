@@ -9,6 +9,8 @@
 //! whose inodes `open_numbers` sets beside the numbers of nodes.
 #![tactic(auto)]
 
+ghost use Rattle.split_calls.specs.Runs.{QuietIsHonest};
+
 mod calls;
 mod looks;
 mod names;
@@ -20,3 +22,8 @@ pub use looks::stat;
 pub use names::{mkdir, rename, rmdir, unlink};
 pub use opens::{close, dup, open};
 pub use outcomes::{NoMemory, Told};
+
+/// Each image of a device on which only the journal and the journaled lines are in motion is honest.
+pub fn a_quiet_device_is_honest()
+    ensures { QuietIsHonest }
+{}

@@ -22,7 +22,8 @@ use Rattle.world_images.specs.Promised.{KeepsPromise}
 use Rattle.world_images.specs.Running.{promise_now}
 use Rattle.split_calls.specs.Answers.{IsEnded}
 use Rattle.split_calls.specs.Built.{IsBuilt, IsSpelledCall}
-use Rattle.split_calls.specs.Runs.{RunsAs, RunsInSome}
+use Rattle.split_calls.specs.Runs.{HasNoLog, RunsAs, RunsInSome}
+use Rattle.split_calls.proofs.NoLog.{runs_no_log}
 use Rattle.split_calls.specs.declared.outcomes.Told.{Told}
 use Rattle.split_world.specs.Views.{IsDone, IsWorldOver, item_with, WorldView}
 use Rattle.split_world.proofs.Counts.{history_within}
@@ -64,9 +65,11 @@ module _ (k : View) (t : Tables) (g : Geometry) (start : State) (scripts : Scrip
     legal = world.legal;
     scripted = world.scripted;
     going = λ still. (let never : true ≡ false = still in cc);
-    promise = λ off.
-        subst (λ d. KeepsPromise g d start history begun) (sym same)
-        (subst (λ x. KeepsPromise x k.cells start history begun) runs.geometry (promise_now k.volume k.cells [] runs.numbers start history begun runs.count runs.going.running));
+    promise = λ off. (
+      subst (λ d. KeepsPromise g d start history begun) (sym same)
+          (subst (λ x. KeepsPromise x k.cells start history begun) runs.geometry (promise_now k.volume k.cells [] runs.numbers start history begun runs.count runs.going.running)),
+      subst (HasNoLog g) (sym same) (runs_no_log g k t (length history) (run start history) runs),
+    );
   }
 
   -- It went in a call.
@@ -140,4 +143,9 @@ pub promise_now_of : (k : View) (t : Tables) (g : Geometry) (start : State) (scr
     → IsWorldOver k t g start scripts history unfinished lost → view_of g start scripts history unfinished k.cells lost ≡ w → pm ≡ k.cells → KeepsPromise w.geometry pm w.start w.history unfinished
 promise_now_of k t g start scripts history unfinished lost w pm world view same =
     subst (λ (x : WorldView). KeepsPromise x.geometry pm x.start x.history unfinished) view
-    (subst (λ d. KeepsPromise g d start history unfinished) (sym same) ((given_up k t g start scripts history unfinished lost world).promise refl))
+    (subst (λ d. KeepsPromise g d start history unfinished) (sym same) ((given_up k t g start scripts history unfinished lost world).promise refl).0)
+
+pub no_log_of : (k : View) (t : Tables) (g : Geometry) (start : State) (scripts : Scripts) (history : List Item) (unfinished : List Begun) (lost : Bool) (w : WorldView) (pm : List Cell)
+    → IsWorldOver k t g start scripts history unfinished lost → view_of g start scripts history unfinished k.cells lost ≡ w → pm ≡ k.cells → HasNoLog w.geometry pm
+no_log_of k t g start scripts history unfinished lost w pm world view same =
+    subst (λ (x : WorldView). HasNoLog x.geometry pm) view (subst (HasNoLog g) (sym same) ((given_up k t g start scripts history unfinished lost world).promise refl).1)

@@ -40,26 +40,13 @@ use Rattle.world_beginning.specs.Laws.{IsShapeOf}
 use Rattle.world_images.specs.Images.{HasNoEntry}
 use Rattle.world_images.specs.Starts.{begins_running, has_setting}
 use Rattle.split_calls.specs.Runs.{HasNoBytes, RunsAs}
+use Rattle.split_calls.proofs.NoLog.{none_live}
 use Rattle.split_world.specs.Views.{IsWorldOver}
 use Rattle.std.specs.Prelude.{filter_map}
 use Rattle.list_facts.specs.Filters.{filter-In, filter_map-In, range-In}
 use Rattle.posix_words.specs.Open.{is_open}
 use Rattle.std.proofs.Common.{inr}
 use Rattle.split_world.specs.Starts.{AreInLimits, IsMountedOver}
-
--- no entry is live
-no_members : (ds : List Draft) → ((d : Draft) → In d ds → ⊥) → ds ≡ []
-no_members [] none = refl
-no_members (d ∷ ds) none = absurd (none d (inl refl))
-
-none_live : (v : Volume) (f : Words) → HasNoEntry v f → live_entries v f ≡ []
-none_live v f none =
-    no_members (live_entries v f) (λ d is.
-    let valid = filter-In (is_live v) (filter_map (entry_in v f) (range_with_len 0 v.geometry.log)) d is in
-    let from = filter_map-In (entry_in v f) (range_with_len 0 v.geometry.log) d valid.0 in
-    let place = range-In 0 v.geometry.log from.0 from.1 in
-    let never : None ≡ Some d = sym (none from.0 (omega (arith, place.1))) ∙ from.2 in
-    cc)
 
 pub nothing_live : (k : View) → IsMountedOver k → live_entries k.volume (journaled (words_of k.cells)) ≡ []
 nothing_live k mounted = none_live k.volume (journaled (words_of k.cells)) mounted.no_entry
@@ -154,6 +141,7 @@ world_begins k t shape scripts on unbatched order mounted limits shape_is tree_i
     geometry = refl;
     tables = fold_tables (bare shape Mode.Strict) t ∙ sym (nothing_is_open (number (numbers_of k.volume t)));
     files = λ ino there. none_open ino there;
+    quiet = λ i journal line. mounted.single i;
     empty = fold_empty (bare shape Mode.Strict) t (entry_empty (content k.volume.geometry (words_of k.cells)) t tree_is mounted.no_bytes) (bare_empty shape Mode.Strict);
   } where
     none_open : (ino : ℕ) → is_open nothing_open ino ≡ true → (inode k.volume ino).kind ≡ File

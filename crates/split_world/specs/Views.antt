@@ -18,7 +18,7 @@ use Rattle.posix_spec.specs.State.{State}
 use Rattle.posix_spec.specs.Step.{step}
 use Rattle.world_images.specs.Promised.{KeepsPromise}
 use Rattle.split_calls.specs.Built.{IsBuilt, IsSpelledCall}
-use Rattle.split_calls.specs.Runs.{RunsAs}
+use Rattle.split_calls.specs.Runs.{HasNoLog, RunsAs}
 use Rattle.split_calls.specs.declared.outcomes.NoMemory.{NoMemory}
 use Rattle.split_world.specs.declared.outcomes.Ended.{Ended}
 use Rattle.split_world.specs.declared.outcomes.Ready.{Ready}
@@ -45,7 +45,7 @@ abbrev pub AreBuilt : Scripts → Type 0
 AreBuilt scripts = (who : Who) (i : ℕ) (call : Call) → slice_get (script_of scripts who) i ≡ Some call → IsBuilt call × IsSpelledCall call
 
 -- THE WORLD. The history is legal and follows the scripts. While the power is on, K-Split and the open files run in the state
--- of the history, and no call is unfinished; once it went, the device keeps the promise.
+-- of the history, and no call is unfinished; once it went, the device keeps the promise, and no log is left.
 pub record IsWorldOver (k : View) (t : Tables) (g : Geometry) (start : State) (scripts : Scripts) (history : List Item) (unfinished : List Begun) (lost : Bool) : Type 0 where
   pub mode : start.mode ≡ Mode.Strict
   pub few : call_count scripts ≤ 4096
@@ -54,7 +54,7 @@ pub record IsWorldOver (k : View) (t : Tables) (g : Geometry) (start : State) (s
   pub legal : IsLegal start history
   pub scripted : Scripted scripts history
   pub going : lost ≡ false → RunsAs g k t (length history) (run start history) × (unfinished ≡ [])
-  pub promise : lost ≡ true → KeepsPromise g k.cells start history unfinished
+  pub promise : lost ≡ true → KeepsPromise g k.cells start history unfinished × HasNoLog g k.cells
 
 -- the next call, as it begins
 abbrev pub begun_of : Who → Option Call → List Begun
@@ -98,7 +98,7 @@ ready_by (Some call) = Ready.Yes
 
 -- How a run ends, which was not lost: whole, with the power on. Else what the power loss leaves, which keeps the promise.
 abbrev pub IsEndedBy : WorldView → Supply → Ended → Type 0
-IsEndedBy w power (Ended.Whole pm history) = (w.lost ≡ false) × (is_on power ≡ true) × (pm ≡ w.cells) × (history.items ≡ w.history)
+IsEndedBy w power (Ended.Whole pm history) = (w.lost ≡ false) × (is_on power ≡ true) × (pm ≡ w.cells) × (history.items ≡ w.history) × HasNoLog w.geometry pm
 IsEndedBy w power (Ended.Lost crashed) =
     ((w.lost ≡ true) ⊎ (is_on power ≡ false)) × (crashed.pm ≡ w.cells) × (crashed.history.items ≡ w.history) × (unfinished_of crashed.unfinished ≡ w.unfinished)
-    × KeepsPromise w.geometry crashed.pm w.start w.history w.unfinished
+    × KeepsPromise w.geometry crashed.pm w.start w.history w.unfinished × HasNoLog w.geometry crashed.pm

@@ -5,6 +5,7 @@ ghost use Rattle.pm_words.specs.Powers.{is_on, Steps};
 ghost use Rattle.posix_spec.specs.Scripted.{next_call, IsSetUp};
 ghost use Rattle.posix_spec.specs.Tree.{start};
 ghost use Rattle.world_images.specs.Promised.{KeepsPromise};
+ghost use Rattle.split_calls.specs.Runs.{HasNoLog};
 ghost use Rattle.split_world.specs.Views.{ready_by, unfinished_of, IsBegun, IsEndedBy, IsWorldOver};
 
 use crate::next::{call_at, calls_made, script_length};
@@ -36,7 +37,8 @@ pub struct World {
 
 impl Model for World {
     ghost use Rattle.posix_spec.specs.Tree.{start};
-    ghost use Rattle.split_world.specs.Views.{unfinished_of, IsWorldOver, WorldView};
+    ghost use Rattle.split_calls.specs.Runs.{HasNoLog};
+ghost use Rattle.split_world.specs.Views.{unfinished_of, IsWorldOver, WorldView};
 
     ghost Value = { WorldView };
 
@@ -159,6 +161,7 @@ impl World {
     pub fn crash(self) -> Crashed
         ensures promise { KeepsPromise self.geometry result.pm self.start self.history
             (unfinished_of result.unfinished) }
+        ensures no_log { HasNoLog self.geometry result.pm }
         ensures cells { result.pm ≡ self.cells }
         ensures history { result.history.items ≡ self.history }
         ensures unfinished { unfinished_of result.unfinished ≡ self.unfinished }
@@ -174,15 +177,17 @@ impl World {
     pub fn unmount(self, power: &Power) -> Ended
         ensures { IsEndedBy self power.now result }
     {
-        if self.lost {
-            return Ended::Lost(self.crash());
+        let lost = self.lost;
+        let crashed = self.crash();
+        if lost {
+            return Ended::Lost(crashed);
         }
         if !power.on() {
-            return Ended::Lost(self.crash());
+            return Ended::Lost(crashed);
         }
         Ended::Whole {
-            pm: self.k.into_pm(),
-            history: self.history,
+            pm: crashed.pm,
+            history: crashed.history,
         }
     }
 }

@@ -25,7 +25,7 @@ use Rattle.split_calls.specs.Built.{IsBuilt, IsSpelledCall}
 use Rattle.split_calls.specs.Runs.{HasNoLog, RunsAs, RunsInSome}
 use Rattle.split_calls.proofs.NoLog.{runs_no_log}
 use Rattle.split_calls.specs.declared.outcomes.Told.{Told}
-use Rattle.split_world.specs.Views.{IsDone, IsWorldOver, item_with, WorldView}
+use Rattle.split_world.specs.Views.{IsDone, IsLeft, IsWorldOver, item_with, WorldView}
 use Rattle.split_world.proofs.Counts.{history_within}
 
 abbrev pub view_of : Geometry → State → Scripts → List Item → List Begun → List Cell → Bool → WorldView
@@ -138,14 +138,19 @@ given_up k t g start scripts history unfinished lost world = by lost refl where
   by true is = subst (IsWorldOver k t g start scripts history unfinished) is world
   by false is = world_off k t g start scripts history unfinished lost world is k t unfinished refl
 
--- What a power loss leaves keeps the promise.
-pub promise_now_of : (k : View) (t : Tables) (g : Geometry) (start : State) (scripts : Scripts) (history : List Item) (unfinished : List Begun) (lost : Bool) (w : WorldView) (pm : List Cell)
-    → IsWorldOver k t g start scripts history unfinished lost → view_of g start scripts history unfinished k.cells lost ≡ w → pm ≡ k.cells → KeepsPromise w.geometry pm w.start w.history unfinished
-promise_now_of k t g start scripts history unfinished lost w pm world view same =
-    subst (λ (x : WorldView). KeepsPromise x.geometry pm x.start x.history unfinished) view
-    (subst (λ d. KeepsPromise g d start history unfinished) (sym same) ((given_up k t g start scripts history unfinished lost world).promise refl).0)
-
-pub no_log_of : (k : View) (t : Tables) (g : Geometry) (start : State) (scripts : Scripts) (history : List Item) (unfinished : List Begun) (lost : Bool) (w : WorldView) (pm : List Cell)
-    → IsWorldOver k t g start scripts history unfinished lost → view_of g start scripts history unfinished k.cells lost ≡ w → pm ≡ k.cells → HasNoLog w.geometry pm
-no_log_of k t g start scripts history unfinished lost w pm world view same =
-    subst (λ (x : WorldView). HasNoLog x.geometry pm) view (subst (HasNoLog g) (sym same) ((given_up k t g start scripts history unfinished lost world).promise refl).1)
+-- WHAT IS LEFT, lost or not.
+pub left_of : (k : View) (t : Tables) (g : Geometry) (start : State) (scripts : Scripts) (history : List Item) (unfinished : List Begun) (lost : Bool) (w : WorldView) (pm : List Cell)
+    → IsWorldOver k t g start scripts history unfinished lost → view_of g start scripts history unfinished k.cells lost ≡ w → pm ≡ k.cells → IsLeft w pm history unfinished
+left_of k t g start scripts history unfinished lost w pm world view same =
+    let gone = (given_up k t g start scripts history unfinished lost world).promise refl in
+    subst (λ x. IsLeft x pm history unfinished) view (record {
+      history_is = refl;
+      unfinished_is = refl;
+      cells_are = same;
+      legal = world.legal;
+      scripted = world.scripted;
+      within = history_within scripts history world.scripted;
+      strict = world.mode;
+      promise = subst (λ d. KeepsPromise g d start history unfinished) (sym same) gone.0;
+      no_log = subst (HasNoLog g) (sym same) gone.1;
+    })

@@ -96,9 +96,21 @@ abbrev pub ready_by : Option Call → Ready
 ready_by None = Ready.ScriptEnd
 ready_by (Some call) = Ready.Yes
 
--- How a run ends, which was not lost: whole, with the power on. Else what the power loss leaves, which keeps the promise.
+-- WHAT IS LEFT OF A RUN: its calls, of which the history is legal and follows the scripts in strict mode; and the device, which
+-- keeps the promise for the history and the unfinished call, and has no log.
+pub record IsLeft (w : WorldView) (pm : List Cell) (history : List Item) (unfinished : List Begun) : Type 0 where
+  pub history_is : history ≡ w.history
+  pub unfinished_is : unfinished ≡ w.unfinished
+  pub cells_are : pm ≡ w.cells
+  pub legal : IsLegal w.start history
+  pub scripted : Scripted w.scripts history
+  pub within : length history ≤ call_count w.scripts
+  pub strict : w.start.mode ≡ Mode.Strict
+  pub promise : KeepsPromise w.geometry pm w.start history unfinished
+  pub no_log : HasNoLog w.geometry pm
+
+-- How a run ends: whole, with the power on, where it was not lost; and what is left then.
 abbrev pub IsEndedBy : WorldView → Supply → Ended → Type 0
-IsEndedBy w power (Ended.Whole pm history) = (w.lost ≡ false) × (is_on power ≡ true) × (pm ≡ w.cells) × (history.items ≡ w.history) × HasNoLog w.geometry pm
+IsEndedBy w power (Ended.Whole pm history) = (w.lost ≡ false) × (is_on power ≡ true) × IsLeft w pm history.items []
 IsEndedBy w power (Ended.Lost crashed) =
-    ((w.lost ≡ true) ⊎ (is_on power ≡ false)) × (crashed.pm ≡ w.cells) × (crashed.history.items ≡ w.history) × (unfinished_of crashed.unfinished ≡ w.unfinished)
-    × KeepsPromise w.geometry crashed.pm w.start w.history w.unfinished × HasNoLog w.geometry crashed.pm
+    ((w.lost ≡ true) ⊎ (is_on power ≡ false)) × IsLeft w crashed.pm crashed.history.items (unfinished_of crashed.unfinished)

@@ -4,9 +4,7 @@ ghost use Rattle.std.specs.Vec.{vec_capacity};
 ghost use Rattle.pm_words.specs.Powers.{is_on, Steps};
 ghost use Rattle.posix_spec.specs.Scripted.{next_call, IsSetUp};
 ghost use Rattle.posix_spec.specs.Tree.{start};
-ghost use Rattle.world_images.specs.Promised.{KeepsPromise};
-ghost use Rattle.split_calls.specs.Runs.{HasNoLog};
-ghost use Rattle.split_world.specs.Views.{ready_by, unfinished_of, IsBegun, IsEndedBy, IsWorldOver};
+ghost use Rattle.split_world.specs.Views.{ready_by, unfinished_of, IsBegun, IsEndedBy, IsLeft, IsWorldOver};
 
 use crate::next::{call_at, calls_made, script_length};
 use crate::outcomes::{Begun, Crashed, Ended, Ready, Unfinished};
@@ -37,8 +35,7 @@ pub struct World {
 
 impl Model for World {
     ghost use Rattle.posix_spec.specs.Tree.{start};
-    ghost use Rattle.split_calls.specs.Runs.{HasNoLog};
-ghost use Rattle.split_world.specs.Views.{unfinished_of, IsWorldOver, WorldView};
+    ghost use Rattle.split_world.specs.Views.{unfinished_of, IsWorldOver, WorldView};
 
     ghost Value = { WorldView };
 
@@ -159,12 +156,7 @@ impl World {
 
     /// What a power loss now leaves.
     pub fn crash(self) -> Crashed
-        ensures promise { KeepsPromise self.geometry result.pm self.start self.history
-            (unfinished_of result.unfinished) }
-        ensures no_log { HasNoLog self.geometry result.pm }
-        ensures cells { result.pm ≡ self.cells }
-        ensures history { result.history.items ≡ self.history }
-        ensures unfinished { unfinished_of result.unfinished ≡ self.unfinished }
+        ensures { IsLeft self result.pm result.history.items (unfinished_of result.unfinished) }
     {
         Crashed {
             pm: self.k.into_pm(),

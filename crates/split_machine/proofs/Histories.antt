@@ -1,12 +1,11 @@
 -- A history with one more call, and what it took.
-use Rattle.std.specs.Prelude.{◌≡◌, ◌⊎◌, ◌<◌, ◌≤◌, ◌+◌, ◌-◌, ◌*◌, ℕ, Bool, true, false, cond, nat_lt, List, [], ◌∷◌, ◌++◌, length, filter, All, Option, None, Some, slice_get, refl}
-use Rattle.std.proofs.Common.{arith, ap, ◌∙◌, sym, subst, append_assoc, length-append, inl, inr}
+use Rattle.std.specs.Prelude.{◌≡◌, ◌⊎◌, ◌<◌, ◌≤◌, ◌+◌, ◌-◌, ◌*◌, ℕ, true, false, cond, nat_lt, List, [], ◌∷◌, ◌++◌, length, None, Some, refl}
+use Rattle.std.proofs.Common.{arith, ap, ◌∙◌, sym, subst, length-append, inl, inr}
 use Rattle.std.proofs.lemmas.List.{append-nil}
 use Rattle.std.proofs.lemmas.List.Elements.{filter-append}
 use Rattle.std.proofs.lemmas.Option.{slice_get_within}
 use Rattle.pm_words.specs.PowerLaws.{Steps-then}
 use Rattle.pm_words.specs.Powers.{is_left, is_on, Steps, Supply}
-use Rattle.posix_types.specs.declared.call.Call.{Call}
 use Rattle.posix_types.specs.declared.call.Who.{Who}
 use Rattle.posix_types.specs.declared.item.Item.{Item}
 use Rattle.posix_types.specs.Scripts.{Scripts}

@@ -1,5 +1,5 @@
 -- The laws of changes of names, each as one statement.
-use Rattle.std.specs.Prelude.{◌≡◌, ◌≢◌, ℕ, List, [], ◌∷◌}
+use Rattle.std.specs.Prelude.{◌≡◌, List, ◌∷◌}
 use Rattle.posix_types.specs.declared.item.Item.{Item}
 use Rattle.posix_spec.specs.State.{State}
 use Rattle.split_machine.specs.Changes.{after_item, ChangesAtMost}

@@ -1,5 +1,5 @@
 -- What running the calls of one caller leaves.
-use Rattle.std.specs.Prelude.{◌≡◌, ◌≤◌, ◌+◌, ◌*◌, ℕ, Bool, false, true, length, None, Some}
+use Rattle.std.specs.Prelude.{◌≡◌, ◌≤◌, ◌+◌, ◌*◌, ℕ, Bool, false, true, [], length, None, Some}
 use Rattle.pm_words.specs.Powers.{is_on, Steps, Supply}
 use Rattle.posix_types.specs.declared.call.Who.{Who}
 use Rattle.posix_words.specs.Open.{same_who}
@@ -28,3 +28,17 @@ IsScriptRun who old new before after true =
 IsScriptRun who old new before after false =
     IsLater who old new × (new.lost ≡ true) × (new.unfinished ≡ next_begun new who) × IsSetUp new.scripts new.history who × (is_on after ≡ false)
     × ((first : Supply) → IsPaid first before old 0 → IsPaid first after new 1)
+
+-- All calls of the set-up and of the one thread returned; or the power went, and the next call of a caller is unfinished.
+pub record IsSame (old new : WorldView) : Type 0 where
+  pub geometry : new.geometry ≡ old.geometry
+  pub start : new.start ≡ old.start
+  pub scripts : new.scripts ≡ old.scripts
+
+abbrev pub HasRun : WorldView → WorldView → Supply → Supply → Bool → Type 0
+HasRun old new before after true =
+    IsSame old new × (new.lost ≡ false) × (new.unfinished ≡ []) × (next_call new.scripts new.history Who.Setup ≡ None)
+    × (next_call new.scripts new.history (Who.Thread 0) ≡ None) × (is_on after ≡ true) × IsPaid before after new 0
+HasRun old new before after false =
+    IsSame old new × (new.lost ≡ true) × ((who : Who) × IsSetUp new.scripts new.history who × (new.unfinished ≡ next_begun new who)) × (is_on after ≡ false)
+    × IsPaid before after new 1

@@ -1,7 +1,7 @@
 //! A run of the scripts.
-ghost use Rattle.std.specs.Prelude.{◌≡◌, false, IfOk, OnErr};
+ghost use Rattle.std.specs.Prelude.{◌≡◌, Bool, false, IfOk};
 ghost use Rattle.posix_spec.specs.Scripted.{IsSetUp};
-ghost use Rattle.split_machine.specs.Paid.{IsScriptRun};
+ghost use Rattle.split_machine.specs.Paid.{HasRun, IsScriptRun};
 ghost use Rattle.split_machine.specs.Runs.{IsFirst, IsRunEnded};
 
 use pm_lines::Power;
@@ -30,15 +30,25 @@ fn run_script(
     }
 }
 
+// Begins the calls of the set-up, and then those of the one thread.
+fn run_scripts(alloc: Global, world: World, power: &mut Power) -> Result<World, NoMemory>
+    requires { IsFirst world }
+    ensures { IfOk result (λ ran. (all : Bool) × HasRun world ran power.old power.new all) }
+{
+    let mut world = world;
+    if !run_script(&mut world, alloc, Who::Setup, power)? {
+        return Ok(world);
+    }
+    run_script(&mut world, alloc, Who::Thread(0), power)?;
+    Ok(world)
+}
+
 /// Runs the scripts of a World that was just mounted: the set-up, and then the one thread. Want of
 /// memory drops the World; no file of the operating system is touched.
 pub fn run(alloc: Global, world: World, power: &mut Power) -> Result<Ended, NoMemory>
     requires { IsFirst world }
     ensures { IfOk result (IsRunEnded world power.old power.new) }
 {
-    let mut world = world;
-    if run_script(&mut world, alloc, Who::Setup, power)? {
-        run_script(&mut world, alloc, Who::Thread(0), power)?;
-    }
+    let world = run_scripts(alloc, world, power)?;
     Ok(world.unmount(power))
 }

@@ -1,4 +1,4 @@
-use Rattle.std.specs.Prelude.{ℕ, ◌-◌, length}
+use Rattle.std.specs.Prelude.{◌-◌, length}
 use Rattle.posix_spec.specs.Scripted.{items_of, script_of}
 use Rattle.split_machine.proofs.Histories.{Runs}
 use Rattle.split_machine.proofs.runs.run_script.Given as goal

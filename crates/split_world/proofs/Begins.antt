@@ -26,7 +26,7 @@ use Rattle.split_calls.specs.Runs.{HasNoLog, RunsAs, RunsInSome}
 use Rattle.split_calls.proofs.NoLog.{runs_no_log}
 use Rattle.split_calls.specs.declared.outcomes.Told.{Told}
 use Rattle.split_world.specs.Views.{IsDone, IsLeft, IsWorldOver, item_with, WorldView}
-use Rattle.split_world.proofs.Counts.{history_within}
+use Rattle.split_world.specs.Counts.{history_within}
 
 abbrev pub view_of : Geometry → State → Scripts → List Item → List Begun → List Cell → Bool → WorldView
 view_of g start scripts history unfinished cells lost =

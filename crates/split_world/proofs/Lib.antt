@@ -1,4 +1,3 @@
 mod Begins
-mod Counts
 mod Fresh
 mod Starting

@@ -1,2 +1,3 @@
+pub mod Counts
 pub mod Starts
 pub mod Views

@@ -99,7 +99,7 @@ half_lost g k k2 t n start history who call ino mode half shut drop =
         keeps_cut k k2 cut.1.1 [] half.runs.numbers half.runs.numbers half.middle (after_call (run start history) (who, call)) half.runs.count half.runs.count start history (who, call) mode half.runs.going cut.1.3
             (drop_step g k t n (after_call (run start history) (who, call)) ino cut.1.1 half shut cut.1.2) (inr half.tree_is) (inr refl),
         (let step_is = drop_step g k t n (after_call (run start history) (who, call)) ino cut.1.1 half shut cut.1.2 in
-        cut_no_log g k k2 t n half.middle cut.1.1 half.runs (quiet_changes k.committed cut.1.1 k.cells k2.cells g cut.1.3.changes (ap (λ (v : Volume). v.geometry) (half.runs.going.order.settled half.runs.going.unbatched) ∙ half.runs.geometry) half.runs.quiet) cut.1.3 step_is.geometry step_is.base),
+            cut_no_log g k k2 t n half.middle cut.1.1 half.runs (quiet_changes k.committed cut.1.1 k.cells k2.cells g cut.1.3.changes (ap (λ (v : Volume). v.geometry) (half.runs.going.order.settled half.runs.going.unbatched) ∙ half.runs.geometry) half.runs.quiet) cut.1.3 step_is.geometry step_is.base),
       )
 
 -- ---- the ends of a call that came half way, in whatever state it began

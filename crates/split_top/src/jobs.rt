@@ -6,10 +6,9 @@ ghost use Rattle.split_top.specs.Made.{ArePlain};
 ghost use Rattle.split_top.specs.Script.{bad_line, names_of};
 ghost use Rattle.split_top.specs.Top.{IsOutput, IsText};
 
-use exit_status::FileName;
 use crate::runs::run;
 use crate::scripts::{Script, read_script};
-use exit_status::Status;
+use exit_status::{FileName, Status};
 use outside::{FileFault, Files, Sink, SinkFault};
 use pm_lines::Choice;
 use posix_types::Name;

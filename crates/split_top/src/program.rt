@@ -5,8 +5,8 @@ ghost use Rattle.outside.specs.Outside.{Rose};
 ghost use Rattle.command_words.specs.Command.{command_of};
 ghost use Rattle.split_top.specs.Top.{IsBadScript, IsCutShort, IsDone, IsGiven, IsMissing, IsRefusal, IsVerdict};
 
-use command_words::read_command;
 use crate::jobs::{put_output, read_file, run_script};
+use command_words::read_command;
 use exit_status::Status;
 use outside::{Files, Sink};
 use std::alloc::Global;

@@ -1,6 +1,7 @@
 //! The program's job over files and a sink in memory: what it prints, what a power loss at each step leaves, and each
 //! refusal once.
-use crate::{FileName, Status, exit_number, status_text, top};
+use crate::top;
+use exit_status::{FileName, Status, exit_number, status_text};
 use outside::{MemFiles, MemSink};
 use std::alloc::Global;
 use std::process::Abort;

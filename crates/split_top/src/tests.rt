@@ -123,7 +123,7 @@ fn mkdir_at_each_stop(rt: HostRuntime) -> Result<(), Fail> {
 }
 
 // Step 24 of a run stores the commit word of its first mkdir, word 8 of the image: whether it is found decides. No
-// clause says that the run uses the choice and the stop that the words name.
+// clause says that the run uses the choice that the words name.
 #[test]
 fn stop_24_by_choice(rt: HostRuntime) -> Result<(), Fail> {
     let script = b"mkdir /a\nmkdir /b\nmkdir /a\n";

@@ -32,7 +32,7 @@ pub record IsShedAt (v w : Volume) (ino : ℕ) : Type 0 where
   pub was : IsNameless v ino
   pub free : (inode w ino).kind ≡ Free
 
--- SOME NAMELESS FILES ARE GONE, and nothing else differs.
+-- SOME NAMELESS FILES ARE GONE; names, and line and map of every other inode, are as they were.
 pub record Sheds (v w : Volume) : Type 0 where
   pub geometry : w.geometry ≡ v.geometry
   pub base : w.base ≡ v.base

@@ -16,6 +16,7 @@ use Rattle.posix_spec.specs.Run.{Begun, IsLegal}
 use Rattle.posix_spec.specs.Scripted.{call_count, IsComplete, IsSetUp, items_of, next_call, script_of, Scripted}
 use Rattle.posix_spec.specs.Unfinished.{AreUnfinished, HaveTwoCallers}
 use Rattle.world_images.specs.Promised.{KeepsPromise}
+use Rattle.split_calls.specs.Runs.{HasNoLog}
 use Rattle.split_world.specs.Counts.{made_within}
 use Rattle.split_world.specs.Views.{begun_of, IsEndedBy, IsLeft, unfinished_of, WorldView}
 use Rattle.split_world.specs.declared.outcomes.Ended.{Ended}
@@ -124,6 +125,7 @@ ran w v before after pm history unfinished more same left paid few open_calls = 
   scripted = subst (λ s. Scripted s history) same.scripts left.scripted;
   open_calls = subst (λ s. AreUnfinished s history unfinished) same.scripts (subst (λ h. AreUnfinished v.scripts h unfinished) (sym left.history_is) open_calls);
   promise = subst (λ g. KeepsPromise g pm w.start history unfinished) same.geometry (subst (λ s. KeepsPromise v.geometry pm s history unfinished) same.start left.promise);
+  no_log = subst (λ g. HasNoLog g pm) same.geometry left.no_log;
   steps = steps_weaker (512 * (length v.history + more)) (512 * (length history + 1)) before after (omega (arith, few, ap length left.history_is)) paid.steps;
   kept = λ given some. (
       let kept = paid.kept given some in

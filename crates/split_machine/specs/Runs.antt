@@ -7,6 +7,7 @@ use Rattle.posix_spec.specs.Run.{Begun, IsLegal}
 use Rattle.posix_spec.specs.Scripted.{IsComplete, Scripted}
 use Rattle.posix_spec.specs.Unfinished.{AreUnfinished}
 use Rattle.world_images.specs.Promised.{KeepsPromise}
+use Rattle.split_calls.specs.Runs.{HasNoLog}
 use Rattle.split_world.specs.Views.{unfinished_of, WorldView}
 use Rattle.split_world.specs.declared.outcomes.Ended.{Ended}
 use Rattle.split_machine.specs.Changes.{ChangesAtMost}
@@ -19,13 +20,14 @@ pub record IsFirst (w : WorldView) : Type 0 where
   pub one : length w.scripts.threads ≤ 1
 
 -- What a run left: its history is legal and follows the scripts, the unfinished calls are next calls, and the device keeps the
--- promise. It took at most 512 steps for each call that returned and for one more; and where the power was for a number of
+-- promise, with no log in any image. It took at most 512 steps for each call that returned and for one more; and where the power was for a number of
 -- steps, at most so many calls changed the names.
 pub record IsRan (w : WorldView) (before after : Supply) (pm : List Cell) (history : List Item) (unfinished : List Begun) : Type 0 where
   pub legal : IsLegal w.start history
   pub scripted : Scripted w.scripts history
   pub open_calls : AreUnfinished w.scripts history unfinished
   pub promise : KeepsPromise w.geometry pm w.start history unfinished
+  pub no_log : HasNoLog w.geometry pm
   pub steps : Steps (512 * (length history + 1)) before after
   pub kept : (given : ℕ) → before.given ≡ Some given → ChangesAtMost w.start history given
 

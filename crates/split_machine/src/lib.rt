@@ -2,7 +2,7 @@
 //!
 //! `run` begins the calls of the set-up and then those of the one thread, until all have returned or the power
 //! went. The layer above may rely on this (`IsRunEnded`): the history is legal and follows the scripts; with
-//! all calls the power is on; else the power is off, and the unfinished call is the next one; the device keeps
+//! all calls the power is on; else the power is off, and what is unfinished is the next call of a caller, or none; the device keeps
 //! the promise; at most 512 steps are taken for each call that returned and for one more, and where the power
 //! was for N steps at most N calls changed the names. Several threads, and orders of their events, come with
 //! logged calls.

@@ -41,7 +41,7 @@ KeepsPromiseAtBegin =
     (c : Begun) → start.mode ≢ Mode.Posix → AreFound start jobs → StandsFor v d claims jobs numbers (run start history) count → IsPutBack v d back first claims jobs slots image
     → IsKept v.geometry start history (map begun_of jobs ++ c ∷ []) image
 
--- The jobs are of two callers each; the call lets them be, and finds room beside them.
+-- Each job is of another caller and another file than the others; the call lets them be, and finds room beside them.
 pub record GoesBeside (s : State) (c : Begun) (numbers : List ℕ) (jobs : List Job) : Type 0 where
   pub two : AreTwoEach (flights_of numbers jobs)
   pub lets : LetsJobsBe s c numbers jobs

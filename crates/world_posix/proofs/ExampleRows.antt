@@ -154,7 +154,7 @@ row_a = record {
   blocks = no_freed_a;
   cuts = record {
     settled = λ ino i b used below at settled. size_with File 1 1 [] (extent 0 10 2) (extent 0 12 1) (λ n k. is_shortened start_a (map begun later_a) (number (only_5 1) n) k ≡ false) not_cut_a ino i below;
-    staged = λ ino i used node past below long. absurd (omega (arith, past, below));
+    staged = λ ino i b used node past below long at settled. absurd (omega (arith, past, below));
   };
 }
 
@@ -197,7 +197,7 @@ row_b = record {
   cuts = record {
     settled = λ ino i b used below at settled.
         size_with File 1 1 (14 ∷ []) (extent 1 11 1) (extent 0 10 1) (λ n k. is_shortened start_a (map begun later_a) (number (only_5 1) n) k ≡ false) not_cut_a ino i below;
-    staged = λ ino i used node past below long.
+    staged = λ ino i b used node past below long at settled.
         absurd (size_with File 1 1 [] (extent 0 10 2) (extent 0 12 1) (λ n k. size_of batch_b [] n ≤ k → ⊥) (λ k low most. omega (arith, low, most)) ino i below past);
   };
 }
@@ -287,7 +287,7 @@ row_c = record {
   cuts = record {
     settled = λ ino i b used below at settled.
         size_with Directory 2 0 [] (extent 0 10 2) [] (λ n k. is_shortened start_c (map begun later_c) (number (only_5 2) n) k ≡ false) (λ k low. absurd (omega (arith, low))) ino i below;
-    staged = λ ino i used node past below long.
+    staged = λ ino i b used node past below long at settled.
         absurd (size_with File 1 1 (13 ∷ []) (extent 0 10 2) (extent 0 12 1) (λ n k. number (only_5 1) n ≡ number (only_5 2) n → ⊥) (λ k low same. omega (arith, same)) ino i below node);
   };
 }
@@ -391,7 +391,7 @@ row_d = record {
   cuts = record {
     settled = λ ino i b used below at settled.
         size_with File 1 1 (13 ∷ []) (extent 1 11 1) (extent 0 10 1) (λ n k. is_shortened (open_file (9 ∷ 2 ∷ 3 ∷ []) 3) (map begun later_d) (number (only_5 1) n) k ≡ false) not_cut_d ino i below;
-    staged = λ ino i used node past below long.
+    staged = λ ino i b used node past below long at settled.
         size_with File 1 3 (13 ∷ []) (extent 1 11 1) (extent 0 10 1) (λ n k. size_of batch_d [] n ≤ k → k < slice_index (only_5 2) n → IsSome (entry_of_block (run_at 1 2 ∷ []) n (k / 4096))) staged_d ino i below past long;
   };
 }

@@ -122,12 +122,14 @@ pub record BatchStands (w : Sides) (f : Words) (s : State) : Type 0 where
 
 -- Bytes that were cut off since the commit. A published byte of a settled block was not: so a write in place changes no byte of the
 -- medium that was cut off. A byte past the published length that the committed file has too, which was cut off, is in a staged
--- run: so it is not written in place. (The stronger rule for bytes rests on both.)
+-- run where its block is settled: so it is not written in place. (A block that a run was put into, or a hole, is none that the
+-- medium shows.) The stronger rule for bytes rests on both.
 pub record KeepsCutBytes (w : Sides) (start : State) (kept later : List Item) : Type 0 where
   pub settled : (ino i b : ℕ) → IsUsed w.batch ino → i < size_of w.batch [] ino → disk_of w.batch [] ino (i / 4096) ≡ Some b → IsSettled w ino (i / 4096) b
       → is_shortened (run start kept) (map begun later) (number w.numbers ino) i ≡ false
-  pub staged : (ino i : ℕ) → IsUsed w.batch ino → number w.committed_numbers ino ≡ number w.numbers ino → size_of w.batch [] ino ≤ i
-      → i < size_of w.committed [] ino → i < slice_index w.lengths ino → IsSome (entry_of_block w.staged ino (i / 4096))
+  pub staged : (ino i b : ℕ) → IsUsed w.batch ino → number w.committed_numbers ino ≡ number w.numbers ino → size_of w.batch [] ino ≤ i
+      → i < size_of w.committed [] ino → i < slice_index w.lengths ino → disk_of w.batch [] ino (i / 4096) ≡ Some b → IsSettled w ino (i / 4096) b
+      → IsSome (entry_of_block w.staged ino (i / 4096))
 
 -- THE WORLD IN POSIX MODE: the medium, the batch, and what the calls see.
 pub record PosixWorld (rule : LaterRule) (w : Sides) (f : Words) (start : State) (kept later : List Item) : Type 0 where

@@ -147,7 +147,7 @@ pub none_cut : (w : Sides) (start : State) (kept : List Item) → KeepsCutBytes 
 unfolding is_shortened
 none_cut w start kept = record {
   settled = λ ino i b used below at settled. refl;
-  staged = λ ino i used node past below long. absurd (omega (arith, past, below));
+  staged = λ ino i b used node past below long at settled. absurd (omega (arith, past, below));
 }
 
 commit : (rule : LaterRule) → Starts rule → (w : Sides) (f : Words) (start : State) (kept later : List Item) → PosixWorld rule w f start kept later

@@ -1,18 +1,15 @@
 -- The World begins over a K-Split of a mounted device.
 use Rattle.std.specs.Prelude.{◌≡◌, ◌++◌, ℕ, zero, suc, Bool, true, false, cond, fold, List, [], ◌∷◌, Option, Some, None, option_map, refl}
 use Rattle.std.proofs.Common.{arith, ap, ◌∙◌, sym, subst, inl}
-use Rattle.std.specs.List.{range_with_len}
 use Rattle.pm_words.specs.Cells.{AllHome, cell}
 use Rattle.pm_words.specs.CellLaws.{single-home}
 use Rattle.pm_words.specs.Images.{words_of}
-use Rattle.pm_words.specs.Words.{Words}
 use Rattle.disk_places.specs.Journal.{journaled}
 use Rattle.disk_places.specs.Places.{data_blocks, Geometry, IsGeometry, nodes}
-use Rattle.disk_lines.specs.declared.Draft.{Draft}
 use Rattle.disk_lines.specs.declared.Kind.TheVariants.{File}
 use Rattle.disk_rules.specs.Content.{content, HasBytes, IsDirectory, Node}
-use Rattle.disk_rules.specs.Live.{entry_in, is_live, live_entries}
-use Rattle.disk_rules.specs.Volume.{inode, Volume}
+use Rattle.disk_rules.specs.Live.{live_entries}
+use Rattle.disk_rules.specs.Volume.{inode}
 use Rattle.entry_orders.specs.Starts.{start-rising}
 use Rattle.list_facts.specs.Members.{In}
 use Rattle.k_content.specs.Trees.{tree_content, tree_node}
@@ -40,13 +37,11 @@ use Rattle.world_rules.specs.Stands.{number}
 use Rattle.world_beginning.specs.Begun.{numbers_of}
 use Rattle.world_beginning.specs.Laws.{IsShapeOf}
 use Rattle.world_exits.specs.Steps.{valid_now}
-use Rattle.world_images.specs.Images.{HasNoEntry, IsRunning}
+use Rattle.world_images.specs.Images.{IsRunning}
 use Rattle.world_images.specs.Starts.{begins_running, has_setting}
 use Rattle.split_calls.specs.Runs.{HasNoBytes, RunsAs}
 use Rattle.split_calls.proofs.NoLog.{none_live}
 use Rattle.split_world.specs.Views.{IsWorldOver}
-use Rattle.std.specs.Prelude.{filter_map}
-use Rattle.list_facts.specs.Filters.{filter-In, filter_map-In, range-In}
 use Rattle.posix_words.specs.Open.{is_open}
 use Rattle.std.proofs.Common.{inr}
 use Rattle.split_world.specs.Starts.{AreInLimits, IsMountedOver}

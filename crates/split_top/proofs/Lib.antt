@@ -1,10 +1,1 @@
-pub mod CallSteps
-pub mod FreshDevices
-pub mod Histories
-pub mod Lines
-pub mod OneCall
-pub mod Outcomes
-pub mod PlainNames
-pub mod Results
-pub mod Showing
-pub mod Standing
+

@@ -1,1 +1,6 @@
-
+pub mod Beginnings
+pub mod Endings
+pub mod FreshDevices
+pub mod Remounts
+pub mod Results
+pub mod Runnable

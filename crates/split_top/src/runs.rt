@@ -1,5 +1,5 @@
 //! A run of scripts: their calls in a World on a fresh device, and what is read back of it.
-ghost use Rattle.std.specs.Prelude.{List, IfOk};
+ghost use Rattle.std.specs.Prelude.{◌≡◌, List, IfOk};
 ghost use Rattle.crash_spec.specs.Permitted.{Permitted};
 ghost use Rattle.posix_spec.specs.Run.{Begun};
 ghost use Rattle.posix_spec.specs.State as spec;

@@ -11,6 +11,7 @@ use Rattle.disk_lines.specs.Names.{is_child, names_of, row as row_at}
 use Rattle.disk_lines.specs.TableLaws.{is_child-parts}
 use Rattle.disk_rules.specs.Live.{is_directory}
 use Rattle.disk_rules.specs.Volume.{inode}
+use Rattle.entry_orders.specs.Orders.{AreOrdered-step_of}
 use Rattle.volume_facts.specs.Lists.{count_by-some}
 use Rattle.volume_changes.specs.Changes.{MayDrop}
 use Rattle.k_rules.specs.View.{View}
@@ -115,7 +116,7 @@ module _ (who : Who) (h : Handle) (k : View) (t t2 : Tables) (d : Description) (
       runs_still g k t t2 n s (middle s) runs refl
       (λ f world.
       IsWorld-same k.volume [] [] f runs.numbers s (middle s) runs.count world (record { flying_on = tt; files = tt; fits = world.valid.fits; room = omega arith })
-      (record { entries = refl; count = refl; nodes = λ m. refl; shape = refl })) (tables_closed g n s runs) (files_closed g n s runs) runs.empty
+      (record { entries = refl; count = refl; nodes = λ m. refl; shape = refl })) (tables_closed g n s runs) (files_closed g n s runs) runs.ordered runs.empty
 
   open_after : (g : Geometry) (n : ℕ) (s : State) → (runs : RunsAs g k t n s) → is_open (closed s.tables who h) (file_number s.tables who h) ≡ is_open t2 d.node
   unfolding middle runs_middle runs_still
@@ -156,7 +157,7 @@ module _ (who : Who) (h : Handle) (k : View) (t t2 : Tables) (d : Description) (
         (λ f world.
         IsWorld-closed k.volume [] [] f runs.numbers s runs.count who h world tt
         (close_row s.tables who h (option_map (described_as (number runs.numbers)) (Some d)) (handle_there g k t n s runs who h (Some d) known)) (kept g n s runs stays))
-        (close_tables g n s runs ∙ tables_closed g n s runs) (files_closed g n s runs) (empty_call s who (Call.Close h) tt runs.empty)
+        (close_tables g n s runs ∙ tables_closed g n s runs) (files_closed g n s runs) (AreOrdered-step_of alone s who (Call.Close h) runs.ordered) (empty_call s who (Call.Close h) tt runs.empty)
 
   -- IT GOES, where it has no name and nobody has it open.
   pub close_half : names_of k.volume.names d.node ≡ 0 → is_open t2 d.node ≡ false → ComesHalfWay who (Call.Close h) k t k t2 d.node

@@ -3,7 +3,7 @@ use Rattle.std.specs.Prelude.{◌≡◌, ◌||◌, ◌++◌, ℕ, zero, suc, Boo
 use Rattle.posix_types.specs.declared.call.Call.{Call}
 use Rattle.posix_types.specs.declared.call.Who.{Who}
 use Rattle.posix_words.specs.declared.nodes.Node.{Node}
-use Rattle.posix_words.specs.NameRows.{mkdir_rows, open_rows, rename_rows, rmdir_rows, stat_rows, unlink_rows}
+use Rattle.posix_words.specs.NameRows.{list_rows, mkdir_rows, open_rows, rename_rows, rmdir_rows, stat_rows, unlink_rows}
 use Rattle.posix_words.specs.Names.{directory_stands, exists_at, file_stands, is_named, number_at}
 use Rattle.posix_words.specs.Nodes.{bytes_of, node_at, published_node}
 use Rattle.posix_words.specs.Open.{closed, is_full, is_open}
@@ -11,7 +11,7 @@ use Rattle.posix_words.specs.Outcomes.{first}
 use Rattle.posix_spec.specs.FileRows.{close_rows, dup_rows, file_number}
 use Rattle.posix_spec.specs.Run.{after_call}
 use Rattle.posix_spec.specs.State.{alone, made, space, State, swept, unnamed, with_node, with_published}
-use Rattle.posix_spec.specs.Step.{close_done, dup_done, empty_file, is_busy, mkdir_done, open_done, opening, rename_done, renamed, rmdir_done, stat_done, unlink_done}
+use Rattle.posix_spec.specs.Step.{close_done, dup_done, empty_file, is_busy, list_done, mkdir_done, open_done, opening, rename_done, renamed, rmdir_done, stat_done, unlink_done}
 use Rattle.posix_facts.specs.RowLaws.{stepped-keeps}
 use Rattle.split_calls.specs.Built.{IsBuilt}
 use Rattle.split_calls.specs.Runs.{HasNoBytes}
@@ -73,7 +73,7 @@ unfolding with_published
 empty_shut s n all = empty_node s n (published_node (node_at s.nodes n)) (empty_published (node_at s.nodes n) (all n)) all
 
 pub empty_call : (s : State) (who : Who) (call : Call) → IsBuilt call → HasNoBytes s → HasNoBytes (after_call s (who, call))
-unfolding mkdir_done rmdir_done unlink_done open_done close_done dup_done stat_done unnamed
+unfolding mkdir_done rmdir_done unlink_done open_done close_done dup_done stat_done list_done unnamed
 empty_call s who (Call.Mkdir p) built all = stepped-keeps HasNoBytes s (first (mkdir_rows (space s) p)) (mkdir_done s p) all (λ none. empty_made s p Node.Directory refl all)
 empty_call s who (Call.Rmdir p) built all =
     stepped-keeps HasNoBytes s (first (rmdir_rows (space s) p)) (rmdir_done s p) all (λ none. empty_node (unnamed s p) (number_at (space s) p) Node.Gone refl all)
@@ -95,7 +95,7 @@ empty_call s who (Call.Pwrite h o x) built all = absurd built
 empty_call s who (Call.Seek h w by) built all = absurd built
 empty_call s who (Call.Truncate h n) built all = absurd built
 empty_call s who (Call.Fsync h) built all = absurd built
-empty_call s who (Call.List p) built all = absurd built
+empty_call s who (Call.List p) built all = stepped-keeps HasNoBytes s (first (list_rows (space s) p)) (list_done s p) all (λ none. all)
 
 -- ---- tables and entries
 

@@ -1,6 +1,6 @@
 -- Each image of a quiet device is honest.
-use Rattle.std.specs.Prelude.{◌≡◌, ◌≤◌, ◌+◌, ◌*◌, ◌/◌, ℕ, true, false}
-use Rattle.std.proofs.Common.{arith, sym, ◌∙◌}
+use Rattle.std.specs.Prelude.{◌≡◌, ◌+◌, ◌*◌, ◌/◌, true}
+use Rattle.std.proofs.Common.{arith}
 use Rattle.pm_words.specs.declared.Cell.{Cell}
 use Rattle.pm_words.specs.declared.Cell.TheVariants.{Lent, Marked, Single, Two}
 use Rattle.pm_words.specs.Cells.{cell, has_two, is_single}

@@ -6,5 +6,6 @@ mod Paths
 mod OpenCalls
 mod OpenEnds
 mod CloseCalls
+mod Lists
 mod Honest
 pub mod NoLog

@@ -11,6 +11,7 @@ use Rattle.disk_lines.specs.declared.Draft.{Draft}
 use Rattle.disk_lines.specs.declared.Kind.{Kind}
 use Rattle.disk_lines.specs.declared.Kind.TheVariants.{Directory, File, Free, Staging}
 use Rattle.disk_rules.specs.Volume.{inode, Volume}
+use Rattle.entry_orders.specs.Orders.{AreOrdered-step_of}
 use Rattle.volume_changes.specs.CallLaws.{row_to}
 use Rattle.volume_changes.specs.FoundLaws.{free-found}
 use Rattle.volume_changes.specs.FrameLaws.{made-inode}
@@ -165,7 +166,7 @@ dup_ended who h to k t t2 fd old new known free t2_is on = (answers, on, λ g n 
       in (
         runs_still g k t t2 n s (after_call s (who, Call.Dup h to)) runs (keeps_setting s (who, Call.Dup h to)).shape
             (λ f world. IsWorld-idle k.volume [] [] f runs.numbers s runs.count who (Call.Dup h to) world tt tt) tables
-            (λ i there. runs.files i (sym (open_once_duped t who to (unwrap_or (key_of t who h) 0) i) ∙ (ap (λ x. is_open x i) (sym t2_is) ∙ there))) (empty_call s who (Call.Dup h to) tt runs.empty),
+            (λ i there. runs.files i (sym (open_once_duped t who to (unwrap_or (key_of t who h) 0) i) ∙ (ap (λ x. is_open x i) (sym t2_is) ∙ there))) (AreOrdered-step_of alone s who (Call.Dup h to) runs.ordered) (empty_call s who (Call.Dup h to) tt runs.empty),
         ap (λ x. x.outcome) is ∙ ap (λ m. answer (Reply.Fd m)) (next_there g k t n s runs fd free),
       )
 
@@ -258,7 +259,7 @@ module _ (who : Who) (h : Handle) (p : List (List ℕ)) (f : Flags) (k : View) (
           runs_still g k t t2 n s (after_call s (who, Call.Open h p f)) runs (keeps_setting s (who, Call.Open h p f)).shape
               (λ w world. IsWorld-same k.volume [] [] w runs.numbers s (after_call s (who, Call.Open h p f)) runs.count world
               (GoOn-call k.volume [] [] w runs.numbers s (who, Call.Open h p f) world.valid tt tt) (opened_shown none g n s runs)) tables
-              (files_opened k t t2 who h ino f t2_is runs.files file) (empty_call s who (Call.Open h p f) tt runs.empty),
+              (files_opened k t t2 who h ino f t2_is runs.files file) (AreOrdered-step_of alone s who (Call.Open h p f) runs.ordered) (empty_call s who (Call.Open h p f) tt runs.empty),
           ap (λ x. x.outcome) is ∙ ap (λ i. answer (Reply.Fd i)) (next_there g k t n s runs fd free),
         )
 
@@ -294,7 +295,7 @@ module _ (who : Who) (h : Handle) (p : List (List ℕ)) (f : Flags) (k : View) (
         ∙ tables_opened (number after) t t2 s.tables who h ino (opening_number s p) f (runs.tables ∙ tables_renumbered runs.numbers t ino (length s.nodes) files.0) (renumbered-own runs.numbers ino (length s.nodes) ∙ sym m) t2_is
         in (
           runs_on g k k2 t t2 n s (after_call s (who, Call.Open h p f)) runs after (runs.count + 1) (n + 1) is.0.2 (created_step k2.volume ino is.0.0 is.0.1 g n s small runs) (omega (arith, runs.few)) tables
-              (files_opened k2 t t2 who h ino f t2_is files.1 (new_kind k2.volume ino is.0.1)) (empty_call s who (Call.Open h p f) tt runs.empty),
+              (files_opened k2 t t2 who h ino f t2_is files.1 (new_kind k2.volume ino is.0.1)) (AreOrdered-step_of alone s who (Call.Open h p f) runs.ordered) (empty_call s who (Call.Open h p f) tt runs.empty),
           ap (λ x. x.outcome) step_is ∙ ap (λ i. answer (Reply.Fd i)) (next_there g k t n s runs fd free),
         )
 

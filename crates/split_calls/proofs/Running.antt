@@ -9,6 +9,7 @@ use Rattle.pm_words.specs.Words.{Words}
 use Rattle.disk_places.specs.Places.{Geometry, is_journaled_line}
 use Rattle.disk_lines.specs.declared.Kind.TheVariants.{File}
 use Rattle.disk_rules.specs.Volume.{inode, Volume}
+use Rattle.entry_orders.specs.Orders.{AreOrdered}
 use Rattle.k_rules.specs.Spaces.{volume_space}
 use Rattle.k_rules.specs.View.{View}
 use Rattle.k_split.specs.declared.faults.KFault.{KFault}
@@ -46,6 +47,7 @@ runs_later g k t n s runs = record {
   geometry = runs.geometry;
   tables = runs.tables;
   files = runs.files;
+  ordered = runs.ordered;
   empty = runs.empty;
   quiet = runs.quiet;
 }
@@ -59,8 +61,8 @@ quiet_changes v w old new g changes same quiet i journal line =
 
 unfoldable pub runs_on : (g : Geometry) (k k2 : View) (t t2 : Tables) (n : ℕ) (s next : State) (runs : RunsAs g k t n s) (after : List ℕ) (later m : ℕ) → IsDone k k2
     → IsStep k.volume k2.volume [] runs.numbers after s next runs.count later → later ≤ m → next.tables ≡ numbered_as (number after) t2
-    → ((ino : ℕ) → is_open t2 ino ≡ true → (inode k2.volume ino).kind ≡ File) → HasNoBytes next → RunsAs g k2 t2 m next
-runs_on g k k2 t t2 n s next runs after later m done step_is few tables files empty = record {
+    → ((ino : ℕ) → is_open t2 ino ≡ true → (inode k2.volume ino).kind ≡ File) → AreOrdered next.entries → HasNoBytes next → RunsAs g k2 t2 m next
+runs_on g k k2 t t2 n s next runs after later m done step_is few tables files ordered empty = record {
   count = later;
   few = few;
   numbers = after;
@@ -68,6 +70,7 @@ runs_on g k k2 t t2 n s next runs after later m done step_is few tables files em
   geometry = step_is.geometry ∙ runs.geometry;
   tables = tables;
   files = files;
+  ordered = ordered;
   empty = empty;
   quiet = quiet_changes k.committed k2.volume k.cells k2.cells g done.changes (ap (λ (v : Volume). v.geometry) (runs.going.order.settled runs.going.unbatched) ∙ runs.geometry) runs.quiet;
 }
@@ -153,8 +156,8 @@ fault_ended {T} row Makes who call k k2 t old new KFault.PowerLost stays loses i
 -- where the call changes tables and published lengths alone
 unfoldable pub runs_still : (g : Geometry) (k : View) (t t2 : Tables) (n : ℕ) (s next : State) (runs : RunsAs g k t n s) → next.shape ≡ s.shape
     → ((f : Words) → IsWorld k.volume [] [] f runs.numbers s runs.count → IsWorld k.volume [] [] f runs.numbers next runs.count)
-    → next.tables ≡ numbered_as (number runs.numbers) t2 → ((ino : ℕ) → is_open t2 ino ≡ true → (inode k.volume ino).kind ≡ File) → HasNoBytes next → RunsAs g k t2 (n + 1) next
-runs_still g k t t2 n s next runs shape takes tables files empty = record {
+    → next.tables ≡ numbered_as (number runs.numbers) t2 → ((ino : ℕ) → is_open t2 ino ≡ true → (inode k.volume ino).kind ≡ File) → AreOrdered next.entries → HasNoBytes next → RunsAs g k t2 (n + 1) next
+runs_still g k t t2 n s next runs shape takes tables files ordered empty = record {
   count = runs.count;
   few = omega (arith, runs.few);
   numbers = runs.numbers;
@@ -167,6 +170,7 @@ runs_still g k t t2 n s next runs shape takes tables files empty = record {
   geometry = runs.geometry;
   tables = tables;
   files = files;
+  ordered = ordered;
   empty = empty;
   quiet = runs.quiet;
 }

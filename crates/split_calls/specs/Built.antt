@@ -12,6 +12,7 @@ IsBuilt (Call.Open h p f) = Unit {0}
 IsBuilt (Call.Close h) = Unit {0}
 IsBuilt (Call.Dup h g) = Unit {0}
 IsBuilt (Call.Stat p) = Unit {0}
+IsBuilt (Call.List p) = Unit {0}
 IsBuilt call = ⊥
 
 -- a path under which a call may give a node a name is spelled

@@ -10,6 +10,7 @@ use Rattle.disk_lines.specs.declared.Kind.TheVariants.{File}
 use Rattle.disk_rules.specs.Honest.{IsHonest}
 use Rattle.disk_rules.specs.Live.{live_entries}
 use Rattle.disk_rules.specs.Volume.{inode, volume}
+use Rattle.entry_orders.specs.Orders.{AreOrdered}
 use Rattle.k_rules.specs.View.{View}
 use Rattle.open_numbers.specs.Numbered.{numbered_as}
 use Rattle.posix_words.specs.Nodes.{bytes_of, node_at}
@@ -37,8 +38,8 @@ pub record HasNoLog (g : Geometry) (d : List Cell) : Type 0 where
 
 -- K-SPLIT AND THE OPEN FILES RUN IN THE STATE, by some numbers of its nodes: K-Split goes on in the state, with nothing in its
 -- log; the tables of the state are those of the open files, with the numbers of their inodes; and what is open is a file. At
--- most n nodes were made since the lap began. No file has bytes, and no data block or log line is lent or has a word of two
--- candidates, as long as no call writes.
+-- most n nodes were made since the lap began. The entries of the state stand in order. No file has bytes, and no data block or
+-- log line is lent or has a word of two candidates, as long as no call writes.
 pub record RunsAs (g : Geometry) (k : View) (t : Tables) (n : ℕ) (s : State) : Type 0 where
   pub count : ℕ
   pub few : count ≤ n
@@ -47,6 +48,7 @@ pub record RunsAs (g : Geometry) (k : View) (t : Tables) (n : ℕ) (s : State) :
   pub geometry : k.volume.geometry ≡ g
   pub tables : s.tables ≡ numbered_as (number numbers) t
   pub files : (ino : ℕ) → is_open t ino ≡ true → (inode k.volume ino).kind ≡ File
+  pub ordered : AreOrdered s.entries
   pub empty : HasNoBytes s
   pub quiet : IsQuiet g k.cells
 

@@ -5,7 +5,7 @@ ghost use Rattle.split_calls.specs.Answers.{IsEnded};
 ghost use Rattle.split_calls.specs.Built.{IsBuilt, IsSpelledCall};
 ghost use Rattle.split_calls.specs.Runs.{RunsInSome};
 
-use crate::looks::stat;
+use crate::looks::{list, stat};
 use crate::names::{mkdir, rename, rmdir, unlink};
 use crate::opens::{close, dup, open};
 use crate::outcomes::{NoMemory, Told};
@@ -43,13 +43,13 @@ pub fn run_call(
         Call::Close(handle) => Ok(close(k, files, who, *handle, power)),
         Call::Dup(handle, to) => dup(files, who, *handle, *to),
         Call::Stat(path) => Ok(stat(k, path)),
+        Call::List(path) => list(alloc, k, path),
         Call::Read(..)
         | Call::Pread(..)
         | Call::Write(..)
         | Call::Pwrite(..)
         | Call::Seek(..)
         | Call::Truncate(..)
-        | Call::Fsync(_)
-        | Call::List(_) => unreachable!(),
+        | Call::Fsync(_) => unreachable!(),
     }
 }

@@ -5,8 +5,9 @@
 //! device keeps the promise of strict and of sync mode with the call unfinished; or memory wanted, and
 //! all is as before (`IsEnded`). One call runs at a time, and none of them writes bytes yet.
 //!
-//! Stands on `k_split`, whose answers `world_exits` turns into steps of the World, and on `open_files`,
-//! whose inodes `open_numbers` sets beside the numbers of nodes.
+//! Stands on `k_split`, whose answers `world_exits` turns into steps of the World; on `open_files`, whose
+//! inodes `open_numbers` sets beside the numbers of nodes; and on `entry_orders`, by which the sorted names
+//! of a directory are those that the state lists.
 #![tactic(auto)]
 
 ghost use Rattle.split_calls.specs.Runs.{QuietIsHonest};
@@ -18,7 +19,7 @@ mod opens;
 mod outcomes;
 
 pub use calls::run_call;
-pub use looks::stat;
+pub use looks::{list, stat};
 pub use names::{mkdir, rename, rmdir, unlink};
 pub use opens::{close, dup, open};
 pub use outcomes::{NoMemory, Told};

@@ -1,18 +1,16 @@
 -- The World begins over a K-Split of a mounted device.
 use Rattle.std.specs.Prelude.{◌≡◌, ◌++◌, ℕ, zero, suc, Bool, true, false, cond, fold, List, [], ◌∷◌, Option, Some, None, option_map, refl}
 use Rattle.std.proofs.Common.{arith, ap, ◌∙◌, sym, subst, inl}
-use Rattle.std.specs.List.{range_with_len}
 use Rattle.pm_words.specs.Cells.{AllHome, cell}
 use Rattle.pm_words.specs.CellLaws.{single-home}
 use Rattle.pm_words.specs.Images.{words_of}
-use Rattle.pm_words.specs.Words.{Words}
 use Rattle.disk_places.specs.Journal.{journaled}
 use Rattle.disk_places.specs.Places.{data_blocks, Geometry, IsGeometry, nodes}
-use Rattle.disk_lines.specs.declared.Draft.{Draft}
 use Rattle.disk_lines.specs.declared.Kind.TheVariants.{File}
 use Rattle.disk_rules.specs.Content.{content, HasBytes, IsDirectory, Node}
-use Rattle.disk_rules.specs.Live.{entry_in, is_live, live_entries}
-use Rattle.disk_rules.specs.Volume.{inode, Volume}
+use Rattle.disk_rules.specs.Live.{live_entries}
+use Rattle.disk_rules.specs.Volume.{inode}
+use Rattle.entry_orders.specs.Starts.{start-rising}
 use Rattle.list_facts.specs.Members.{In}
 use Rattle.k_content.specs.Trees.{tree_content, tree_node}
 use Rattle.k_rules.specs.Stands.{Stands}
@@ -26,6 +24,7 @@ use Rattle.posix_types.specs.declared.tree.TreeNode.{TreeNode}
 use Rattle.posix_types.specs.Scripts.{Scripts}
 use Rattle.posix_types.specs.declared.item.Item.{Item}
 use Rattle.posix_words.specs.declared.nodes.Node as model
+use Rattle.posix_words.specs.Lookups.{AreDistinct}
 use Rattle.posix_words.specs.Names.{is_root}
 use Rattle.posix_words.specs.Nodes.{bytes_of, node_at}
 use Rattle.posix_words.specs.Open.{nothing_open, Tables}
@@ -37,13 +36,12 @@ use Rattle.world_rules.specs.Shown.{IsTreeOfContent, shown_as}
 use Rattle.world_rules.specs.Stands.{number}
 use Rattle.world_beginning.specs.Begun.{numbers_of}
 use Rattle.world_beginning.specs.Laws.{IsShapeOf}
-use Rattle.world_images.specs.Images.{HasNoEntry}
+use Rattle.world_exits.specs.Steps.{valid_now}
+use Rattle.world_images.specs.Images.{IsRunning}
 use Rattle.world_images.specs.Starts.{begins_running, has_setting}
 use Rattle.split_calls.specs.Runs.{HasNoBytes, RunsAs}
 use Rattle.split_calls.proofs.NoLog.{none_live}
 use Rattle.split_world.specs.Views.{IsWorldOver}
-use Rattle.std.specs.Prelude.{filter_map}
-use Rattle.list_facts.specs.Filters.{filter-In, filter_map-In, range-In}
 use Rattle.posix_words.specs.Open.{is_open}
 use Rattle.std.proofs.Common.{inr}
 use Rattle.split_world.specs.Starts.{AreInLimits, IsMountedOver}
@@ -136,16 +134,24 @@ world_begins k t shape scripts on unbatched order mounted limits shape_is tree_i
       order = order;
       unbatched = unbatched;
       on = on;
-      running = (begins_running k.volume k.cells t shape Mode.Strict (subst (λ v. Stands v.geometry v k.cells) (order.settled unbatched) order.stands) mounted.single mounted.checked mounted.geometry order.whole.kept.geometry mounted.named mounted.no_entry shape_is tree_is).0;
+      running = running;
     };
     geometry = refl;
     tables = fold_tables (bare shape Mode.Strict) t ∙ sym (nothing_is_open (number (numbers_of k.volume t)));
     files = λ ino there. none_open ino there;
+    ordered = (distinct, start-rising t shape Mode.Strict distinct);
     quiet = λ i journal line. mounted.single i;
     empty = fold_empty (bare shape Mode.Strict) t (entry_empty (content k.volume.geometry (words_of k.cells)) t tree_is mounted.no_bytes) (bare_empty shape Mode.Strict);
   } where
     none_open : (ino : ℕ) → is_open nothing_open ino ≡ true → (inode k.volume ino).kind ≡ File
     none_open ino there = cc
+
+    running : IsRunning k.volume k.cells [] (numbers_of k.volume t) (start t shape Mode.Strict) 0
+    running =
+        (begins_running k.volume k.cells t shape Mode.Strict (subst (λ v. Stands v.geometry v k.cells) (order.settled unbatched) order.stands) mounted.single mounted.checked mounted.geometry order.whole.kept.geometry mounted.named mounted.no_entry shape_is tree_is).0
+
+    distinct : AreDistinct (start t shape Mode.Strict).entries
+    distinct = (valid_now k.volume k.cells [] (numbers_of k.volume t) (start t shape Mode.Strict) 0 running).valid.stands.names.distinct
 
 -- so with what the parts are
 pub world_over : (k : View) (t : List TreeEntry) (shape : Shape) (scripts : Scripts) (mode : Mode) (files : Tables) (g : Geometry) (items : List Item) → files ≡ nothing_open → g ≡ k.volume.geometry → items ≡ [] → mode ≡ Mode.Strict

@@ -4,7 +4,7 @@
 //! K-Split and the open files run in the state of the history (`IsWorldOver`), and each call that begins
 //! answers what `step` answers; once the power went, each image of the device has a tree, and only trees
 //! that the mode permits for the history and the unfinished call (`KeepsPromise`). So far its calls are
-//! those on names and descriptors, in strict mode, one at a time, and no file has bytes.
+//! those on names, directories and descriptors, in strict mode, one at a time, and no file has bytes.
 //!
 //! Stands on `split_calls`, which runs one call over K-Split and the open files.
 #![tactic(auto)]

@@ -23,3 +23,6 @@ returns-in-Dup-clause-ended c = subst (λ x. IsEnded c.args.who x c.args.k.now c
 
 pub returns-in-Stat-clause-ended : goal.returns-in-Stat-clause-ended
 returns-in-Stat-clause-ended c = subst (λ x. IsEnded c.args.who x c.args.k.now c.args.files.now.tables c.args.k.now c.args.files.now.tables c.args.power.now c.args.power.now (Ok c.stat.result)) (sym c.in-Stat.is) (c.stat.ensures c.args.who c.args.files.now.tables c.args.power.now c.requires.power)
+
+pub returns-in-List-clause-ended : goal.returns-in-List-clause-ended
+returns-in-List-clause-ended c = subst (λ x. IsEnded c.args.who x c.args.k.now c.args.files.now.tables c.args.k.now c.args.files.now.tables c.args.power.now c.args.power.now c.list.result) (sym c.in-List.is) (c.list.ensures c.args.who c.args.files.now.tables c.args.power.now c.requires.power)

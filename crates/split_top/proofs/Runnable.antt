@@ -70,9 +70,9 @@ all_built f (Some x) (Some y) (Some z) h = record { is = h x y z }
 
 -- a word of the table is none of the others
 unknown : (word other : List ℕ) → is_same word other ≡ true → not (is_known word) ≡ false → not (is_known other) ≡ true → ⊥
-unknown word other same known no =
+unknown word other same known absent =
     let is : word ≡ other = (bytes_eq-Decides word other).0 same in
-    true≢false (sym no ∙ subst (λ w. not (is_known w) ≡ false) is known)
+    true≢false (sym absent ∙ subst (λ w. not (is_known w) ≡ false) is known)
 
 -- A call that is read of a known word is built, where those of `list` are.
 module _ (lists : (path : List (List ℕ)) → IsBuilt (Call.List path)) where

@@ -220,9 +220,10 @@ module _ (lists : (path : List (List ℕ)) → IsBuilt (Call.List path)) where
         limits = record {
           few = limits.calls;
           threads = limits.threads;
-          built = λ who i call is.
-              (at IsBuilt (script_of (scripts_of bytes) who) i call (calls-built (kinds_of bytes) runs who) is,
-              spelled call (at text.IsSpelledCall (script_of (scripts_of bytes) who) i call (calls-spelled (scripts_of bytes) (spelled_all bytes) who) is));
+          built = λ who i call is. (
+            at IsBuilt (script_of (scripts_of bytes) who) i call (calls-built (kinds_of bytes) runs who) is,
+            spelled call (at text.IsSpelledCall (script_of (scripts_of bytes) who) i call (calls-spelled (scripts_of bytes) (spelled_all bytes) who) is),
+          );
         };
         one = few_threads (kinds_of bytes) runs;
       }

@@ -190,7 +190,8 @@ fn ends_at_each_stop<R: Abort>(
 #[test]
 fn rename_below_itself_and_away(rt: HostRuntime) -> Result<(), Fail> {
     let script = b"mkdir /a\nmkdir /a/b\nrename /a /a/b/c\nrename /a/b /x\nrmdir /a\nlist /\n";
-    let whole = b"0.0 mkdir /a = ok\n0.1 mkdir /a/b = ok\n0.2 rename /a /a/b/c = EINVAL\n0.3 rename /a/b /x = ok\n0.4 rmdir /a = ok\n0.5 list / = names x\n/ dir\n/x dir\n";
+    let whole =
+        b"0.0 mkdir /a = ok\n0.1 mkdir /a/b = ok\n0.2 rename /a /a/b/c = EINVAL\n0.3 rename /a/b /x = ok\n0.4 rmdir /a = ok\n0.5 list / = names x\n/ dir\n/x dir\n";
     prints(&rt, rt.alloc(), script, &[], whole)?;
     let trees = [
         b"/ dir\n".as_slice(),
@@ -214,7 +215,8 @@ fn file_opened_unlinked_and_closed(rt: HostRuntime) -> Result<(), Fail> {
 #[test]
 fn safe_save_at_each_stop(rt: HostRuntime) -> Result<(), Fail> {
     let script = b"open o /f wc\nclose o\nopen n /f2 wc\nclose n\nrename /f2 /f\n";
-    let whole = b"0.0 open o /f wc = fd 0\n0.1 close o = ok\n0.2 open n /f2 wc = fd 0\n0.3 close n = ok\n0.4 rename /f2 /f = ok\n/ dir\n/f file 0\n";
+    let whole =
+        b"0.0 open o /f wc = fd 0\n0.1 close o = ok\n0.2 open n /f2 wc = fd 0\n0.3 close n = ok\n0.4 rename /f2 /f = ok\n/ dir\n/f file 0\n";
     let trees = [
         b"/ dir\n".as_slice(),
         b"/f wc = fd 0\n/ dir\n/f file 0\n",
@@ -236,7 +238,9 @@ fn sixty_directories(rt: HostRuntime) -> Result<(), Fail> {
         let number = 10 + k;
         script.extend_from_slice(format!(in alloc; "mkdir /n{number}\n")?.as_bytes())?;
         let reply = if k < 59 { "ok" } else { "ENOSPC nodes 1 0" };
-        output.extend_from_slice(format!(in alloc; "0.{k} mkdir /n{number} = {reply}\n")?.as_bytes())?;
+        output.extend_from_slice(format!(in alloc;
+            "0.{k} mkdir /n{number} = {reply}\n"
+        )?.as_bytes())?;
         if k < 59 {
             tree.extend_from_slice(format!(in alloc; "/n{number} dir\n")?.as_bytes())?;
         }
@@ -255,10 +259,14 @@ fn descriptor_limits(rt: HostRuntime) -> Result<(), Fail> {
     for k in 1..64 {
         let index = k + 1;
         script.extend_from_slice(format!(in alloc; "open h{k} /f r\n")?.as_bytes())?;
-        output.extend_from_slice(format!(in alloc; "0.{index} open h{k} /f r = fd {k}\n")?.as_bytes())?;
+        output.extend_from_slice(format!(in alloc;
+            "0.{index} open h{k} /f r = fd {k}\n"
+        )?.as_bytes())?;
     }
     script.extend_from_slice(b"open last /f r\ndup a last\n")?;
-    output.extend_from_slice(b"0.65 open last /f r = EMFILE\n0.66 dup a last = EMFILE\n/ dir\n/f file 0\n")?;
+    output.extend_from_slice(
+        b"0.65 open last /f r = EMFILE\n0.66 dup a last = EMFILE\n/ dir\n/f file 0\n",
+    )?;
     prints(&rt, alloc, &script, &[], &output)
 }
 

@@ -29,7 +29,7 @@ module _ (g : Geometry) (d : List Cell) (start : State) (history : List Item) (u
   pub left-size : length given ≡ 4096 * g.blocks
   left-size =
       let long : length bytes ≡ 8 * length d = image.size in
-      let wide : length d ≡ 131072 = left.size in
+      let wide : length d ≡ 131072 = left.no_log.size in
       let all : length bytes ≡ 1048576 = omega arith in
       ap length same ∙ all ∙ ap (λ (h : Geometry). 4096 * h.blocks) (sym numbers)
 

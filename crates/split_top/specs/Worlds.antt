@@ -1,7 +1,6 @@
 -- The World that a run begins with, and the device that it leaves.
-use Rattle.std.specs.Prelude.{◌≡◌, ◌≤◌, ◌*◌, ℕ, List, length}
+use Rattle.std.specs.Prelude.{◌≡◌, ◌≤◌, List, length}
 use Rattle.pm_words.specs.declared.Cell.{Cell}
-use Rattle.pm_words.specs.Cells.{AllHome}
 use Rattle.disk_places.specs.Places.{Geometry}
 use Rattle.image_layout.specs.Numbers.{default_numbers}
 use Rattle.posix_types.specs.declared.item.Item.{Item}
@@ -28,10 +27,8 @@ pub record IsFreshWorld (scripts : Scripts) (w : WorldView) : Type 0 where
   pub start : w.start ≡ beginning (task_of scripts)
   pub scripts_are : w.scripts ≡ scripts
 
--- WHAT A RUN LEAVES: a device of the default size, on which nothing is lent, that has no log and keeps the promise for the
--- history and the unfinished calls.
+-- WHAT A RUN LEAVES: a device of the default image that has no log and keeps the promise for the history and the unfinished
+-- calls.
 pub record IsLeftAs (d : List Cell) (start : State) (history : List Item) (unfinished : List Begun) : Type 0 where
-  pub size : length d ≡ 512 * default_numbers.blocks
-  pub home : AllHome d
   pub no_log : HasNoLog default_numbers d
   pub promise : KeepsPromise default_numbers d start history unfinished

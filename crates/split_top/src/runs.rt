@@ -52,8 +52,9 @@ fn left_on(alloc: Global, pm: &Pm, choice: Choice) -> Result<Tree, AllocError>
     requires left { (start : spec.State) × (history : List items.Item) × (unfinished : List Begun) × IsLeftAs pm.now start history unfinished }
     ensures { IfOk result (λ left. (start : spec.State) (history : List items.Item) (unfinished : List Begun) → IsLeftAs pm.now start history unfinished → Permitted start.mode start history unfinished left) }
 {
+    let geometry = Geometry::default_image();
     let bytes = pm.choose(alloc, choice)?;
-    let remounted = remount(alloc, &bytes, Geometry::default_image())?;
+    let remounted = remount(alloc, &bytes, geometry)?;
     Ok(remounted.tree)
 }
 

@@ -1,5 +1,5 @@
-//! The program's job over files and a sink in memory: what it prints, what a power loss at each step leaves, and each
-//! refusal once.
+//! The program's job over files and a sink in memory: what it prints, what a power loss leaves by the choice, and each
+//! refusal once. Whole scripts at every stop are run by the program `split_rows`.
 use crate::top;
 use exit_status::{FileName, Status, exit_number, status_text};
 use outside::{MemFiles, MemSink};
@@ -74,52 +74,12 @@ fn empty_script(rt: HostRuntime) -> Result<(), Fail> {
     prints(&rt, rt.alloc(), b"", &[], b"/ dir\n")
 }
 
+// A file outlives its last name while it is open.
 #[test]
-fn mkdir_twice(rt: HostRuntime) -> Result<(), Fail> {
-    let output = b"0.0 mkdir /a = ok\n0.1 mkdir /a = EEXIST\n/ dir\n/a dir\n";
-    prints(&rt, rt.alloc(), b"mkdir /a\nmkdir /a\n", &[], output)
-}
-
-/// Whether an output is one of those that may be printed.
-fn is_one_of(output: &[u8], permitted: &[&[u8]]) -> bool {
-    permitted.iter().any(|one| *one == output)
-}
-
-/// Runs the script with `stop N` for every N from 0 to the first that prints `whole`, and requires that every output
-/// is one of the permitted ones. Gives that N.
-fn sweep<R: Abort>(
-    rt: &R,
-    alloc: Global,
-    script: &[u8],
-    choice: &str,
-    permitted: &[&[u8]],
-    whole: &[u8],
-) -> Result<u64, Fail> {
-    for steps in 0..2000 {
-        let number = format!(in alloc; "{steps}")?;
-        let told = step(rt, alloc, script, &["stop", &number, "choose", choice])?;
-        assert_eq!(rt; told.status, Status::Done);
-        if told.output.as_slice() == whole {
-            return Ok(steps);
-        }
-        assert_eq!(rt;
-            is_one_of(&told.output, permitted),
-            true,
-            "stop {steps} choose {choice}"
-        );
-    }
-    Ok(2000)
-}
-
-#[test]
-fn mkdir_at_each_stop(rt: HostRuntime) -> Result<(), Fail> {
-    let permitted = [b"/ dir\n".as_slice(), b"/ dir\n/a dir\n"];
-    let whole = b"0.0 mkdir /a = ok\n/ dir\n/a dir\n";
-    for choice in ["oldest", "newest"] {
-        let steps = sweep(&rt, rt.alloc(), b"mkdir /a\n", choice, &permitted, whole)?;
-        assert_eq!(rt; steps > 0 && steps <= 80, true, "{choice}: {steps}");
-    }
-    Ok(())
+fn each_call_once(rt: HostRuntime) -> Result<(), Fail> {
+    let script = b"mkdir /d\nopen a /d/f rwc\ndup a b\nclose a\nrename /d/f /d/g\nstat /d/g\nunlink /d/g\nlist /d\nclose b\nrmdir /d\nmkdir /e\n";
+    let output = b"0.0 mkdir /d = ok\n0.1 open a /d/f rwc = fd 0\n0.2 dup a b = fd 1\n0.3 close a = ok\n0.4 rename /d/f /d/g = ok\n0.5 stat /d/g = file 0\n0.6 unlink /d/g = ok\n0.7 list /d = names\n0.8 close b = ok\n0.9 rmdir /d = ok\n0.10 mkdir /e = ok\n/ dir\n/e dir\n";
+    prints(&rt, rt.alloc(), script, &[], output)
 }
 
 // Step 24 of a run stores the commit word of its first mkdir, word 8 of the image: whether it is found decides. No
@@ -158,116 +118,6 @@ fn one_mkdir_takes_48_steps(rt: HostRuntime) -> Result<(), Fail> {
         prints(&rt, rt.alloc(), b"mkdir /a\n", &["stop", steps], output)?;
     }
     Ok(())
-}
-
-/// Runs the script with `stop N` for every N until it prints `whole`, and requires that each output before ends with one
-/// of the trees.
-fn ends_at_each_stop<R: Abort>(
-    rt: &R,
-    alloc: Global,
-    script: &[u8],
-    trees: &[&[u8]],
-    whole: &[u8],
-) -> Result<(), Fail> {
-    for choice in ["oldest", "newest", "even", "odd"] {
-        for steps in 0..2000 {
-            let number = format!(in alloc; "{steps}")?;
-            let told = step(rt, alloc, script, &["stop", &number, "choose", choice])?;
-            assert_eq!(rt; told.status, Status::Done);
-            if told.output.as_slice() == whole {
-                break;
-            }
-            assert_eq!(rt;
-                trees.iter().any(|tree| told.output.ends_with(tree)),
-                true,
-                "stop {steps} choose {choice}"
-            );
-        }
-    }
-    Ok(())
-}
-
-#[test]
-fn rename_below_itself_and_away(rt: HostRuntime) -> Result<(), Fail> {
-    let script = b"mkdir /a\nmkdir /a/b\nrename /a /a/b/c\nrename /a/b /x\nrmdir /a\nlist /\n";
-    let whole =
-        b"0.0 mkdir /a = ok\n0.1 mkdir /a/b = ok\n0.2 rename /a /a/b/c = EINVAL\n0.3 rename /a/b /x = ok\n0.4 rmdir /a = ok\n0.5 list / = names x\n/ dir\n/x dir\n";
-    prints(&rt, rt.alloc(), script, &[], whole)?;
-    let trees = [
-        b"/ dir\n".as_slice(),
-        b"/ dir\n/a dir\n",
-        b"/ dir\n/a dir\n/a/b dir\n",
-        b"/ dir\n/a dir\n/x dir\n",
-        b"/ dir\n/x dir\n",
-    ];
-    ends_at_each_stop(&rt, rt.alloc(), script, &trees, whole)
-}
-
-#[test]
-fn file_opened_unlinked_and_closed(rt: HostRuntime) -> Result<(), Fail> {
-    let script = b"open a /f rwc\nunlink /f\nclose a\n";
-    let whole = b"0.0 open a /f rwc = fd 0\n0.1 unlink /f = ok\n0.2 close a = ok\n/ dir\n";
-    let trees = [b"/ dir\n".as_slice(), b"/ dir\n/f file 0\n"];
-    ends_at_each_stop(&rt, rt.alloc(), script, &trees, whole)
-}
-
-// A text editor's save: once the old file is there, each tree has it or the new one under its name.
-#[test]
-fn safe_save_at_each_stop(rt: HostRuntime) -> Result<(), Fail> {
-    let script = b"open o /f wc\nclose o\nopen n /f2 wc\nclose n\nrename /f2 /f\n";
-    let whole =
-        b"0.0 open o /f wc = fd 0\n0.1 close o = ok\n0.2 open n /f2 wc = fd 0\n0.3 close n = ok\n0.4 rename /f2 /f = ok\n/ dir\n/f file 0\n";
-    let trees = [
-        b"/ dir\n".as_slice(),
-        b"/f wc = fd 0\n/ dir\n/f file 0\n",
-        b"/ dir\n/f file 0\n",
-        b"/ dir\n/f file 0\n/f2 file 0\n",
-    ];
-    ends_at_each_stop(&rt, rt.alloc(), script, &trees, whole)
-}
-
-// Names of directories whose order is that of their numbers.
-#[test]
-fn sixty_directories(rt: HostRuntime) -> Result<(), Fail> {
-    let alloc = rt.alloc();
-    let mut script = Vec::new(alloc);
-    let mut output = Vec::new(alloc);
-    let mut tree = Vec::new(alloc);
-    tree.extend_from_slice(b"/ dir\n")?;
-    for k in 0..60 {
-        let number = 10 + k;
-        script.extend_from_slice(format!(in alloc; "mkdir /n{number}\n")?.as_bytes())?;
-        let reply = if k < 59 { "ok" } else { "ENOSPC nodes 1 0" };
-        output.extend_from_slice(format!(in alloc;
-            "0.{k} mkdir /n{number} = {reply}\n"
-        )?.as_bytes())?;
-        if k < 59 {
-            tree.extend_from_slice(format!(in alloc; "/n{number} dir\n")?.as_bytes())?;
-        }
-    }
-    output.extend_from_slice(&tree)?;
-    prints(&rt, alloc, &script, &[], &output)
-}
-
-#[test]
-fn descriptor_limits(rt: HostRuntime) -> Result<(), Fail> {
-    let alloc = rt.alloc();
-    let mut script = Vec::new(alloc);
-    let mut output = Vec::new(alloc);
-    script.extend_from_slice(b"open a /f rwc\nclose b\n")?;
-    output.extend_from_slice(b"0.0 open a /f rwc = fd 0\n0.1 close b = EBADF\n")?;
-    for k in 1..64 {
-        let index = k + 1;
-        script.extend_from_slice(format!(in alloc; "open h{k} /f r\n")?.as_bytes())?;
-        output.extend_from_slice(format!(in alloc;
-            "0.{index} open h{k} /f r = fd {k}\n"
-        )?.as_bytes())?;
-    }
-    script.extend_from_slice(b"open last /f r\ndup a last\n")?;
-    output.extend_from_slice(
-        b"0.65 open last /f r = EMFILE\n0.66 dup a last = EMFILE\n/ dir\n/f file 0\n",
-    )?;
-    prints(&rt, alloc, &script, &[], &output)
 }
 
 // One refusal of each kind, with what is left.

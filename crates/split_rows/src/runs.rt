@@ -75,7 +75,11 @@ pub(crate) fn standing_of(row: &Row, output: &[u8]) -> Standing {
     let (returned, tree) = history(row, output);
     let is_whole = returned == row.lines.len();
     if is_tree(row, returned, tree) {
-        return if is_whole { Standing::Whole } else { Standing::Before };
+        return if is_whole {
+            Standing::Whole
+        } else {
+            Standing::Before
+        };
     }
     if !is_whole && is_tree(row, returned.saturating_add(1), tree) {
         return Standing::After;

@@ -1,14 +1,12 @@
 -- The World of a fresh device begins as the run of the scripts does.
-use Rattle.std.proofs.Common.{◌≡◌, ◌≤◌, ◌+◌, ◌*◌, ℕ, List, [], ◌∷◌, false, Some, None, refl, sym, ◌∙◌, ap, subst, arith, lit≤, inl, inr, length}
-use Rattle.std.proofs.lemmas.Option.{same_Some}
+use Rattle.std.proofs.Common.{◌≡◌, ◌≤◌, ℕ, List, [], ◌∷◌, false, Some, refl, sym, ◌∙◌, ap, subst, arith, lit≤, inl, inr, length}
 use Rattle.pm_words.specs.declared.Cell.{Cell}
 use Rattle.pm_words.specs.Cells.{AllSingle}
 use Rattle.pm_words.specs.Images.{words_of}
 use Rattle.disk_places.specs.Journal.{journaled}
 use Rattle.disk_places.specs.Places.{Geometry, IsGeometry}
 use Rattle.disk_lines.specs.Fresh.{fresh}
-use Rattle.disk_rules.specs.Content as shown
-use Rattle.disk_rules.specs.Content.{content, HasBytes, IsDirectory}
+use Rattle.disk_rules.specs.Content.{content}
 use Rattle.disk_rules.specs.FreshVolume as disk
 use Rattle.disk_rules.specs.Volume.{Volume, volume}
 use Rattle.image_facts.specs.FreshLaws.{content-fresh}
@@ -28,7 +26,6 @@ use Rattle.world_rules.specs.Shown.{IsTreeOfContent, shown_as}
 use Rattle.world_beginning.specs.Laws.{IsShapeOf}
 use Rattle.split_world.specs.Starts.{BeginsOver, FreshIsMounted, IsMountedOver}
 use Rattle.split_world.specs.Views.{WorldView}
-use Rattle.split_top.specs.Runs.{task_of}
 use Rattle.split_top.specs.Worlds.{AreRunnable, IsFreshWorld}
 
 pub default-is : IsGeometry default_numbers

@@ -6,7 +6,6 @@ use Rattle.pm_words.specs.declared.Cell.{Cell}
 use Rattle.pm_words.specs.Powers.{is_left, is_on, Steps, Supply}
 use Rattle.crash_spec.specs.Permitted.{Permitted}
 use Rattle.crash_spec.specs.Strict.{Strict}
-use Rattle.posix_types.specs.declared.call.Mode.{Mode}
 use Rattle.posix_types.specs.declared.item.Item.{Item}
 use Rattle.posix_types.specs.declared.tree.TreeEntry.{TreeEntry}
 use Rattle.posix_types.specs.Scripts.{Scripts}

@@ -18,9 +18,8 @@ use Rattle.script_text.specs.Laws.{ScriptsAreSpelled, ScriptsAreWithinLimits}
 use Rattle.script_text.specs.Lines.{is_text, Line, lines_of, text_of, words_of}
 use Rattle.script_text.specs.Scripts.{all_threads, bad_line, begins_with_call, call_kind, calls_before, is_comment, kind_of, kinds_of, scripts_in, scripts_of, set_up_of, text_kind, threads_of, words_kind}
 use Rattle.script_text.specs.Spelled as text
-use Rattle.script_text.specs.Words.{data_in, flags_in, handle_in, number_in, path_in, signed_in, whence_in}
+use Rattle.script_text.specs.Words.{flags_in, handle_in, path_in}
 use Rattle.split_calls.specs.Built.{IsBuilt, IsSpelledCall}
-use Rattle.split_world.specs.Views.{AreBuilt}
 use Rattle.split_top.specs.Worlds.{AreRunnable}
 
 -- ---- lists

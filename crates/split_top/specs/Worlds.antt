@@ -1,7 +1,6 @@
 -- The World that a run begins with, and the device that it leaves.
 use Rattle.std.specs.Prelude.{◌≡◌, ◌≤◌, List, length}
 use Rattle.pm_words.specs.declared.Cell.{Cell}
-use Rattle.disk_places.specs.Places.{Geometry}
 use Rattle.image_layout.specs.Numbers.{default_numbers}
 use Rattle.posix_types.specs.declared.item.Item.{Item}
 use Rattle.posix_types.specs.Scripts.{Scripts}

@@ -77,8 +77,10 @@ fn empty_script(rt: HostRuntime) -> Result<(), Fail> {
 // A file outlives its last name while it is open.
 #[test]
 fn each_call_once(rt: HostRuntime) -> Result<(), Fail> {
-    let script = b"mkdir /d\nopen a /d/f rwc\ndup a b\nclose a\nrename /d/f /d/g\nstat /d/g\nunlink /d/g\nlist /d\nclose b\nrmdir /d\nmkdir /e\n";
-    let output = b"0.0 mkdir /d = ok\n0.1 open a /d/f rwc = fd 0\n0.2 dup a b = fd 1\n0.3 close a = ok\n0.4 rename /d/f /d/g = ok\n0.5 stat /d/g = file 0\n0.6 unlink /d/g = ok\n0.7 list /d = names\n0.8 close b = ok\n0.9 rmdir /d = ok\n0.10 mkdir /e = ok\n/ dir\n/e dir\n";
+    let script =
+        b"mkdir /d\nopen a /d/f rwc\ndup a b\nclose a\nrename /d/f /d/g\nstat /d/g\nunlink /d/g\nlist /d\nclose b\nrmdir /d\nmkdir /e\n";
+    let output =
+        b"0.0 mkdir /d = ok\n0.1 open a /d/f rwc = fd 0\n0.2 dup a b = fd 1\n0.3 close a = ok\n0.4 rename /d/f /d/g = ok\n0.5 stat /d/g = file 0\n0.6 unlink /d/g = ok\n0.7 list /d = names\n0.8 close b = ok\n0.9 rmdir /d = ok\n0.10 mkdir /e = ok\n/ dir\n/e dir\n";
     prints(&rt, rt.alloc(), script, &[], output)
 }
 

@@ -1,10 +1,7 @@
-pub mod CallSteps
+pub mod Beginnings
+pub mod Endings
 pub mod FreshDevices
-pub mod Histories
-pub mod Lines
-pub mod OneCall
-pub mod Outcomes
-pub mod PlainNames
+pub mod Left
+pub mod Remounts
 pub mod Results
-pub mod Showing
-pub mod Standing
+pub mod Runnable

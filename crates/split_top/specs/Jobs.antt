@@ -1,6 +1,6 @@
 -- Which statuses the parts of a job may end with.
 use Rattle.std.specs.Prelude.{◌≡◌, ⊤, ℕ, List, Some}
-use Rattle.split_top.specs.Script.{bad_line}
+use Rattle.script_text.specs.Scripts.{bad_line}
 use Rattle.exit_status.specs.declared.statuses.Status.{Status}
 
 -- a file was not read

@@ -3,25 +3,26 @@ use Rattle.std.specs.Prelude.{◌≡◌, ⊤, ℕ, List, ◌++◌, Option, Some,
 use Rattle.outside.specs.Outside.{FileList, AreOfFile, IsAbsent, Takes, TakesFront, bytes_named}
 use Rattle.posix_types.specs.declared.item.Item.{Item}
 use Rattle.posix_types.specs.declared.tree.TreeEntry.{TreeEntry}
+use Rattle.posix_types.specs.Scripts.{Scripts}
 use Rattle.posix_spec.specs.Run.{Begun}
 use Rattle.report_text.specs.Texts.{history_text, tree_text}
+use Rattle.script_text.specs.Scripts.{bad_line, scripts_of}
 use Rattle.command_words.specs.Command.{Command, command_of}
 use Rattle.split_top.specs.Runs.{IsRun}
-use Rattle.split_top.specs.Script.{bad_line, names_of}
 use Rattle.exit_status.specs.declared.statuses.Status.{Status}
 
--- What a run of a script with these names puts: the text of a history, and then that of the tree that was left.
-pub record IsText (names : List (List ℕ)) (stop : Option ℕ) (output : List ℕ) : Type 0 where
+-- What a run of scripts puts: the text of a history, and then that of the tree that was left.
+pub record IsText (scripts : Scripts) (stop : Option ℕ) (output : List ℕ) : Type 0 where
   pub history : List Item
   pub unfinished : List Begun
   pub left : List TreeEntry
-  pub is_run : IsRun names stop history unfinished left
+  pub is_run : IsRun scripts stop history unfinished left
   pub is_text : output ≡ history_text history ++ tree_text left
 
 -- The bytes are a script, and this is put by a run of it.
 pub record IsOutput (stop : Option ℕ) (bytes output : List ℕ) : Type 0 where
   pub is_script : bad_line bytes ≡ None
-  pub is_text : IsText (names_of bytes) stop output
+  pub is_text : IsText (scripts_of bytes) stop output
 
 -- The words are a command, and its script's bytes, as far as the files are told, have this output.
 pub record IsJob (words : List (List ℕ)) (files : Option FileList) (output : List ℕ) : Type 0 where

@@ -2,18 +2,18 @@
 ghost use Rattle.std.specs.Prelude.{◌≡◌, ◌≢◌, ◌++◌, List, ℕ, Option, Err, IfOk, IfErr};
 ghost use Rattle.outside.specs.Outside.{AreOfFile, IsAbsent, Rose, Takes, TakesFront};
 ghost use Rattle.split_top.specs.Jobs.{IsUnread, IsUnrun, IsPutOrNot};
-ghost use Rattle.split_top.specs.Made.{ArePlain};
-ghost use Rattle.split_top.specs.Script.{bad_line, names_of};
+ghost use Rattle.split_top.specs.Worlds.{AreRunnable};
 ghost use Rattle.split_top.specs.Top.{IsOutput, IsText};
 
 use crate::runs::run;
-use crate::scripts::{Script, read_script};
 use exit_status::{FileName, Status};
 use outside::{FileFault, Files, Sink, SinkFault};
 use pm_lines::Choice;
-use posix_types::Name;
+use posix_types::Scripts;
 use report_text::{history_text, tree_text};
-use std::alloc::{AllocError, Global};
+use script_text::{ScriptFault, read_script, scripts_are_spelled, scripts_are_within_limits};
+use split_calls::NoMemory;
+use std::alloc::Global;
 
 /// The status for a file that is not there.
 fn missing(alloc: Global, name: &str) -> Status
@@ -47,17 +47,17 @@ pub(crate) fn read_file<F: Files>(
     }
 }
 
-/// Runs a script, and gives the text of its history and of the tree that was left.
+/// Runs scripts, and gives the text of their history and of the tree that was left.
 fn output_of(
     alloc: Global,
-    names: &[Name],
+    scripts: Scripts,
     stop: Option<u64>,
     choice: Choice,
-) -> Result<Vec<u8>, AllocError>
-    requires { ArePlain 0 names.now }
-    ensures { IfOk result (λ output. IsText names.now stop output.items) }
+) -> Result<Vec<u8>, NoMemory>
+    requires { AreRunnable scripts }
+    ensures { IfOk result (λ output. IsText scripts stop output.items) }
 {
-    let ran = run(alloc, names, stop, choice)?;
+    let ran = run(alloc, scripts, stop, choice)?;
     let mut output = history_text(alloc, &ran.history)?;
     let tree = tree_text(alloc, &ran.tree)?;
     output.extend_from_slice(&tree)?;
@@ -74,13 +74,15 @@ pub(crate) fn run_script(
     ensures output { IfOk result (λ output. IsOutput stop bytes.now output.items) }
     ensures kind { IfErr result (λ status. IsUnrun bytes.now status) }
 {
+    scripts_are_spelled();
+    scripts_are_within_limits();
     match read_script(alloc, bytes) {
-        Ok(Script::Names(names)) => match output_of(alloc, &names, stop, choice) {
+        Ok(scripts) => match output_of(alloc, scripts, stop, choice) {
             Ok(output) => Ok(output),
             Err(_) => Err(Status::NoMemory),
         },
-        Ok(Script::Bad { line }) => Err(Status::BadScript { line }),
-        Err(_) => Err(Status::NoMemory),
+        Err(ScriptFault::Bad { line }) => Err(Status::BadScript { line }),
+        Err(ScriptFault::NoMemory) => Err(Status::NoMemory),
     }
 }
 

@@ -4,18 +4,14 @@
 //! history and of a tree (`report_text`) where the history is legal and follows the script, and the tree is one that
 //! strict mode permits for it (`specs/Runs.antt`). Every other status says when it comes and what it leaves.
 //!
-//! A `mkdir` is a change of K-Split (`k_split`), one transaction, and what K-Split answers is what the calls' meaning
-//! (`posix_spec`) says: its volume stands for the state after the calls so far. The tree is that of the content that
-//! is read back from the device after its journal was recovered (`k_content`).
+//! A script is read by `script_text`, and run by `split_machine` in a World (`split_world`) over K-Split on a fresh
+//! image, with power for as many steps as `stop` says. What is printed comes from the device that is left: it is opened
+//! again by `k_mount`, and the tree is that of its content, which the World's promise permits.
 #![tactic(auto)]
 
-mod calls;
 mod jobs;
-mod meaning;
 mod program;
-mod remounts;
 mod runs;
-mod scripts;
 #[cfg(test)]
 mod tests;
 

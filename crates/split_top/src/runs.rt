@@ -1,18 +1,20 @@
-//! A run of a script: its calls on a fresh device, and what is read back of it.
-ghost use Rattle.std.specs.Prelude.{◌≡◌, ◌⊎◌, [], ℕ, List, IfOk};
+//! A run of scripts: their calls in a World on a fresh device, and what is read back of it.
+ghost use Rattle.std.specs.Prelude.{◌≡◌, List, IfOk};
+ghost use Rattle.crash_spec.specs.Permitted.{Permitted};
 ghost use Rattle.posix_spec.specs.Run.{Begun};
-ghost use Rattle.posix_spec.specs.Tree.{tree};
-ghost use Rattle.split_top.specs.Calls.{IsReady};
-ghost use Rattle.split_top.specs.Made.{ArePlain};
-ghost use Rattle.split_top.specs.Rest.{MayShow};
-ghost use Rattle.split_top.specs.Runs.{IsRun, state_of};
+ghost use Rattle.posix_spec.specs.State as spec;
+ghost use Rattle.posix_types.specs.declared.item.Item as items;
+ghost use Rattle.split_top.specs.Runs.{IsRun};
+ghost use Rattle.split_top.specs.Worlds.{AreRunnable, IsFreshWorld, IsLeftAs};
 
-use crate::calls::{Disk, run_calls};
-use crate::remounts::remount;
 use image_layout::Geometry;
+use k_mount::remount;
 use k_split::{KSplit, mkfs};
 use pm_lines::{Choice, Pm, Power};
-use posix_types::{Item, Name, Tree};
+use posix_types::{Item, Mode, Scripts, Tree};
+use split_calls::NoMemory;
+use split_machine::run as run_world;
+use split_world::{Ended, World, a_fresh_device_is_mounted};
 use std::alloc::{AllocError, Global};
 
 /// What a run leaves: the calls that returned, and the tree that is found afterwards.
@@ -32,47 +34,53 @@ fn power_for(stop: Option<u64>) -> Power
     }
 }
 
-/// The K-Split of a fresh device, with no directory made.
-fn fresh_disk(alloc: Global) -> Result<Disk, AllocError>
-    ensures ready { IfOk result IsReady }
-    ensures none { IfOk result (λ disk. disk.made.items ≡ []) }
+/// The World of scripts on a fresh device.
+fn fresh_world(alloc: Global, scripts: Scripts) -> Result<World, NoMemory>
+    requires { AreRunnable scripts }
+    ensures { IfOk result (IsFreshWorld scripts) }
 {
+    a_fresh_device_is_mounted();
     let geometry = Geometry::default_image();
     let bytes = mkfs(alloc, &geometry)?;
     let pm = Pm::from_image(alloc, &bytes)?;
     let k = KSplit::open(alloc, pm, geometry, false)?;
-    Ok(Disk {
-        k,
-        made: Vec::new(alloc),
-    })
+    World::over(alloc, k, Mode::Strict, scripts)
 }
 
-/// The tree that is found on a device after its power went, or after all calls.
+/// The tree that is found on the device that a run left.
 fn left_on(alloc: Global, pm: &Pm, choice: Choice) -> Result<Tree, AllocError>
-    requires shown { (old : List (List ℕ)) × (new : List (List ℕ)) × MayShow pm.now old new }
-    ensures { IfOk result (λ left. (old new : List (List ℕ)) → MayShow pm.now old new → (left ≡ tree (state_of old)) ⊎ (left ≡ tree (state_of new))) }
+    requires left { (start : spec.State) × (history : List items.Item) × (unfinished : List Begun) × IsLeftAs pm.now start history unfinished }
+    ensures { IfOk result (λ left. (start : spec.State) (history : List items.Item) (unfinished : List Begun) → IsLeftAs pm.now start history unfinished → Permitted start.mode start history unfinished left) }
 {
+    let geometry = Geometry::default_image();
     let bytes = pm.choose(alloc, choice)?;
-    remount(alloc, &bytes, &Geometry::default_image())
+    let remounted = remount(alloc, &bytes, geometry)?;
+    Ok(remounted.tree)
 }
 
-/// Runs the calls of a script on a fresh image, and reads back what is left.
+/// Runs scripts on a fresh image, and reads back what is left.
 pub(crate) fn run(
     alloc: Global,
-    names: &[Name],
+    scripts: Scripts,
     stop: Option<u64>,
     choice: Choice,
-) -> Result<Ran, AllocError>
-    requires { ArePlain 0 names.now }
-    ensures { IfOk result (λ ran. (unfinished : List Begun) × IsRun names.now stop ran.history.items unfinished ran.tree) }
+) -> Result<Ran, NoMemory>
+    requires { AreRunnable scripts }
+    ensures { IfOk result (λ ran. (unfinished : List Begun) × IsRun scripts stop ran.history.items unfinished ran.tree) }
 {
-    let mut disk = fresh_disk(alloc)?;
+    let world = fresh_world(alloc, scripts)?;
     let mut power = power_for(stop);
-    let called = run_calls(alloc, names, &mut disk, &mut power)?;
-    let pm = disk.k.into_pm();
-    let tree = left_on(alloc, &pm, choice)?;
-    Ok(Ran {
-        history: called.history,
-        tree,
-    })
+    match run_world(alloc, world, &mut power)? {
+        Ended::Whole { pm, history } => {
+            let tree = left_on(alloc, &pm, choice)?;
+            Ok(Ran { history, tree })
+        }
+        Ended::Lost(crashed) => {
+            let tree = left_on(alloc, &crashed.pm, choice)?;
+            Ok(Ran {
+                history: crashed.history,
+                tree,
+            })
+        }
+    }
 }

@@ -1,5 +1,5 @@
-//! The program's job over files and a sink in memory: what it prints, what a power loss at each step leaves, and each
-//! refusal once.
+//! The program's job over files and a sink in memory: what it prints, what a power loss leaves by the choice, and each
+//! refusal once. Whole scripts at every stop are run by the program `split_rows`.
 use crate::top;
 use exit_status::{FileName, Status, exit_number, status_text};
 use outside::{MemFiles, MemSink};
@@ -74,52 +74,14 @@ fn empty_script(rt: HostRuntime) -> Result<(), Fail> {
     prints(&rt, rt.alloc(), b"", &[], b"/ dir\n")
 }
 
+// A file outlives its last name while it is open.
 #[test]
-fn mkdir_twice(rt: HostRuntime) -> Result<(), Fail> {
-    let output = b"0.0 mkdir /a = ok\n0.1 mkdir /a = EEXIST\n/ dir\n/a dir\n";
-    prints(&rt, rt.alloc(), b"mkdir /a\nmkdir /a\n", &[], output)
-}
-
-/// Whether an output is one of those that may be printed.
-fn is_one_of(output: &[u8], permitted: &[&[u8]]) -> bool {
-    permitted.iter().any(|one| *one == output)
-}
-
-/// Runs the script with `stop N` for every N from 0 to the first that prints `whole`, and requires that every output
-/// is one of the permitted ones. Gives that N.
-fn sweep<R: Abort>(
-    rt: &R,
-    alloc: Global,
-    script: &[u8],
-    choice: &str,
-    permitted: &[&[u8]],
-    whole: &[u8],
-) -> Result<u64, Fail> {
-    for steps in 0..2000 {
-        let number = format!(in alloc; "{steps}")?;
-        let told = step(rt, alloc, script, &["stop", &number, "choose", choice])?;
-        assert_eq!(rt; told.status, Status::Done);
-        if told.output.as_slice() == whole {
-            return Ok(steps);
-        }
-        assert_eq!(rt;
-            is_one_of(&told.output, permitted),
-            true,
-            "stop {steps} choose {choice}"
-        );
-    }
-    Ok(2000)
-}
-
-#[test]
-fn mkdir_at_each_stop(rt: HostRuntime) -> Result<(), Fail> {
-    let permitted = [b"/ dir\n".as_slice(), b"/ dir\n/a dir\n"];
-    let whole = b"0.0 mkdir /a = ok\n/ dir\n/a dir\n";
-    for choice in ["oldest", "newest"] {
-        let steps = sweep(&rt, rt.alloc(), b"mkdir /a\n", choice, &permitted, whole)?;
-        assert_eq!(rt; steps > 0 && steps <= 80, true, "{choice}: {steps}");
-    }
-    Ok(())
+fn each_call_once(rt: HostRuntime) -> Result<(), Fail> {
+    let script =
+        b"mkdir /d\nopen a /d/f rwc\ndup a b\nclose a\nrename /d/f /d/g\nstat /d/g\nunlink /d/g\nlist /d\nclose b\nrmdir /d\nmkdir /e\n";
+    let output =
+        b"0.0 mkdir /d = ok\n0.1 open a /d/f rwc = fd 0\n0.2 dup a b = fd 1\n0.3 close a = ok\n0.4 rename /d/f /d/g = ok\n0.5 stat /d/g = file 0\n0.6 unlink /d/g = ok\n0.7 list /d = names\n0.8 close b = ok\n0.9 rmdir /d = ok\n0.10 mkdir /e = ok\n/ dir\n/e dir\n";
+    prints(&rt, rt.alloc(), script, &[], output)
 }
 
 // Step 24 of a run stores the commit word of its first mkdir, word 8 of the image: whether it is found decides. No

@@ -1,14 +1,7 @@
-use Rattle.split_top.proofs.Results.{follows}
-use Rattle.split_top.proofs.Showing.{one-left, one-shown}
+use Rattle.split_top.proofs.Remounts.{left-permitted}
 use Rattle.split_top.proofs.runs.left_on.Goals as goal
 
-pub remount-requires-clause-shown : goal.remount-requires-clause-shown
-remount-requires-clause-shown c =
-    one-shown c.args.pm.now c.requires.shown.0 c.requires.shown.1 c.in_ok-bytes.bytes.items c.deref.result.now c.requires.shown.2
-    c.in_ok-bytes.ensures.image.words c.deref.ensures.value
-
 pub returns : goal.returns
-returns c =
-    follows c.remount.result _ _
-    (λ left found. one-left c.args.pm.now c.in_ok-bytes.bytes.items c.deref.result.now left c.in_ok-bytes.ensures.image.words c.deref.ensures.value found)
-    c.remount.ensures
+returns c start history unfinished left =
+    left-permitted c.default_image-geometry.result c.args.pm.now start history unfinished c.in_ok-bytes.bytes.items c.deref.result.now c.default_image-geometry.ensures left
+    c.in_ok-bytes.ensures.image c.deref.ensures.value c.in_ok-remounted.remounted.k c.in_ok-remounted.remounted.tree c.in_ok-remounted.ensures

@@ -1,0 +1,4 @@
+pub mod Heads
+pub mod LineFacts
+pub mod Tables
+pub mod Views

@@ -1,0 +1,9 @@
+//! Checking an image, rule by rule.
+#![tactic(auto)]
+
+mod faults;
+mod head;
+mod lines;
+mod view;
+
+pub use faults::{BadImage, CheckFault};

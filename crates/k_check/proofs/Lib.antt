@@ -1,3 +1,4 @@
+pub mod ChainFacts
 pub mod Heads
 pub mod LineFacts
 pub mod Tables

@@ -3,6 +3,7 @@ use Rattle.std.proofs.Common.{◌≡◌, ℕ, ◌+◌, ◌<◌, Option, Some, No
 use Rattle.std.proofs.lemmas.Option.{same_Some}
 use Rattle.std.proofs.lemmas.List.FromFn.{length-map-range_with_len}
 use Rattle.std.proofs.Common.{List, length}
+use Rattle.std.specs.Prelude.{slice_index_or}
 use Rattle.pm_words.specs.Words.{Words}
 use Rattle.disk_places.specs.Journal.{is_journal_word}
 use Rattle.disk_places.specs.PlaceLaws.{journaled-inode, journaled-name, journaled-words}
@@ -53,3 +54,14 @@ count-of g j inodes is =
 pub row-read : (g : Geometry) (j : Words) (k : ℕ) (s : NameSlot) (r : Option NameRow) → k < g.names → s ≡ name_at g j k → r ≡ row_of s
     → r ≡ row (volume g j).names k
 row-read g j k s r below slot is = is ∙ ap row_of slot ∙ sym (volume-row g j k below)
+
+-- the inode of a table that is the volume's
+pub inode-of : (g : Geometry) (j : Words) (inodes : List Inode) (ino : ℕ) (x : Inode) → inodes ≡ (volume g j).inodes → slice_index_or inodes ino free_inode ≡ x
+    → inode (volume g j) ino ≡ x
+inode-of g j inodes ino x same is = ap (λ (l : List Inode). slice_index_or l ino free_inode) (sym same) ∙ is
+
+pub index-below : (g : Geometry) (j : Words) (inodes : List Inode) (ino : ℕ) → inodes ≡ (volume g j).inodes → ino < length inodes → ino < g.inodes
+index-below g j inodes ino same below = omega (arith, below, count-inodes g j, ap (λ (l : List Inode). length l) same)
+
+pub index-count : (g : Geometry) (j : Words) (inodes : List Inode) → inodes ≡ (volume g j).inodes → length inodes ≡ g.inodes
+index-count g j inodes same = ap (λ (l : List Inode). length l) same ∙ count-inodes g j

@@ -1,5 +1,6 @@
 pub mod ChainFacts
 pub mod Heads
 pub mod LineFacts
+pub mod MarkFacts
 pub mod Tables
 pub mod Views

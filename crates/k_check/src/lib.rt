@@ -1,6 +1,7 @@
 //! Checking an image, rule by rule.
 #![tactic(auto)]
 
+mod blocks;
 mod chains;
 mod faults;
 mod head;

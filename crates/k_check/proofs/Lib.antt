@@ -2,5 +2,6 @@ pub mod ChainFacts
 pub mod Heads
 pub mod LineFacts
 pub mod MarkFacts
+pub mod NameFacts
 pub mod Tables
 pub mod Views

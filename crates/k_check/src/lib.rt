@@ -6,6 +6,7 @@ mod chains;
 mod faults;
 mod head;
 mod lines;
+mod names;
 mod view;
 
 pub use faults::{BadImage, CheckFault};

@@ -1,7 +1,0 @@
-pub mod ChainFacts
-pub mod Heads
-pub mod LineFacts
-pub mod MarkFacts
-pub mod NameFacts
-pub mod Tables
-pub mod Views

@@ -1,5 +1,0 @@
-pub mod Above
-pub mod Answers
-pub mod Heads
-pub mod LineRules
-pub mod Marks

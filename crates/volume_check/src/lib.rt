@@ -1,0 +1,13 @@
+//! Checking an image, rule by rule.
+#![tactic(auto)]
+
+mod blocks;
+mod chains;
+mod faults;
+mod head;
+mod lines;
+mod names;
+mod view;
+mod volumes;
+
+pub use faults::{BadImage, CheckFault};

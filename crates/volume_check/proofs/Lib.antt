@@ -1,8 +1,9 @@
 pub mod ChainFacts
+pub mod Fronts
 pub mod Heads
 pub mod LineFacts
 pub mod MarkFacts
 pub mod NameFacts
-pub mod Tables
+pub mod ReadFacts
 pub mod UseFacts
 pub mod Views

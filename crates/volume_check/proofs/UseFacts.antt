@@ -23,7 +23,7 @@ use Rattle.volume_uses.specs.UseLaws.{length-uses_by}
 use Rattle.volume_uses.specs.Uses.{HasAllMaps, in_chain, in_map, uses_of}
 use Rattle.volume_check.specs.Above.{rows_rule}
 use Rattle.volume_check.specs.Marks.{AreMarks, AreFew, IsFirstTwice, chain_uses, map_uses, uses_in}
-use Rattle.volume_check.specs.Tables.{blocks_rule, tree_rules, AreUseMarks, AreNameMarks}
+use Rattle.volume_check.specs.Readings.{blocks_rule, tree_rules, AreUseMarks, AreNameMarks}
 use Rattle.volume_check.proofs.Heads.{holds-one, fails-one}
 use Rattle.volume_check.proofs.MarkFacts.{marks-agree}
 

@@ -3,4 +3,4 @@ pub mod Answers
 pub mod Heads
 pub mod LineRules
 pub mod Marks
-pub mod Tables
+pub mod Readings

@@ -7,7 +7,9 @@ mod faults;
 mod head;
 mod lines;
 mod names;
+mod reading;
 mod view;
 mod volumes;
 
 pub use faults::{BadImage, CheckFault};
+pub use reading::{Tables, read_volume};

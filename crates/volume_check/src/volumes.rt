@@ -5,7 +5,7 @@ ghost use Rattle.disk_rules.specs.Volume.{Volume};
 ghost use Rattle.k_reading.specs.Pools.{AreInData, IsOfTables};
 ghost use Rattle.volume_check.specs.Above.{HaveChildrenBelow};
 ghost use Rattle.volume_check.specs.Answers.{IsFirstOf};
-ghost use Rattle.volume_check.specs.Tables.{blocks_rule, tree_rules, AreUseMarks, AreNameMarks};
+ghost use Rattle.volume_check.specs.Readings.{blocks_rule, tree_rules, AreUseMarks, AreNameMarks};
 
 use crate::blocks::{count_uses, first_twice};
 use crate::faults::BadImage;

@@ -6,7 +6,7 @@ use Rattle.disk_rules.specs.Volume.{volume}
 use Rattle.pm_words.specs.Images.{words_of}
 use Rattle.volume_facts.specs.ReadingLaws.{volume-geometry}
 use Rattle.volume_check.proofs.LineFacts.{count-chains, count-maps, inode-of, index-below, index-count}
-use Rattle.volume_check.proofs.Tables.{front-more, front-all, front-holds, front-fails}
+use Rattle.volume_check.proofs.Fronts.{front-more, front-all, front-holds, front-fails}
 use Rattle.volume_check.proofs.chains.read_chains.Goals as goal
 
 pub returns-in-None-clause-bad : goal.returns-in-None-clause-bad

@@ -4,7 +4,7 @@ use Rattle.disk_places.specs.Journal.{journaled}
 use Rattle.disk_rules.specs.Rules.{HasChain}
 use Rattle.disk_rules.specs.Volume.{volume}
 use Rattle.pm_words.specs.Images.{words_of}
-use Rattle.volume_check.proofs.Tables.{IsFront}
+use Rattle.volume_check.proofs.Fronts.{IsFront}
 use Rattle.volume_check.proofs.chains.read_chains.Given as goal
 
 -- the chains and the maps of the inodes so far

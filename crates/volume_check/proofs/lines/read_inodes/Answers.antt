@@ -5,7 +5,7 @@ use Rattle.disk_rules.specs.Rules.{HasInode}
 use Rattle.disk_rules.specs.Volume.{volume, free_inode}
 use Rattle.pm_words.specs.Images.{words_of}
 use Rattle.volume_check.proofs.LineFacts.{count-inodes, inode-read}
-use Rattle.volume_check.proofs.Tables.{front-more, front-all}
+use Rattle.volume_check.proofs.Fronts.{front-more, front-all}
 use Rattle.volume_check.proofs.lines.read_inodes.Goals as goal
 
 pub loop-ino-preserved : goal.loop-ino-preserved

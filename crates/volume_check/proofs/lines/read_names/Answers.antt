@@ -6,7 +6,7 @@ use Rattle.disk_rules.specs.Rules.{IsNameSlot}
 use Rattle.disk_rules.specs.Volume.{volume, name_at}
 use Rattle.pm_words.specs.Images.{words_of}
 use Rattle.volume_check.proofs.LineFacts.{count-names, count-of, row-read}
-use Rattle.volume_check.proofs.Tables.{front-more, front-all, front-holds, front-fails}
+use Rattle.volume_check.proofs.Fronts.{front-more, front-all, front-holds, front-fails}
 use Rattle.volume_check.proofs.lines.read_names.Goals as goal
 
 pub returns-in-None-clause-bad : goal.returns-in-None-clause-bad

@@ -3,7 +3,7 @@ use Rattle.disk_places.specs.Journal.{journaled}
 use Rattle.disk_rules.specs.Rules.{IsNameSlot}
 use Rattle.disk_rules.specs.Volume.{volume, name_at}
 use Rattle.pm_words.specs.Images.{words_of}
-use Rattle.volume_check.proofs.Tables.{IsFront}
+use Rattle.volume_check.proofs.Fronts.{IsFront}
 use Rattle.volume_check.proofs.lines.read_names.Given as goal
 
 -- the names of the lines so far

@@ -2,7 +2,7 @@ use Rattle.std.proofs.Common.{◌≡◌, ◌∙◌, ◌+◌, ap, subst, sym, ari
 use Rattle.disk_places.specs.Places.{Geometry, first_data}
 use Rattle.disk_rules.specs.Broken.{FailsFirst}
 use Rattle.volume_check.specs.Marks.{AreFew, IsFirstTwice}
-use Rattle.volume_check.specs.Tables.{blocks_rule}
+use Rattle.volume_check.specs.Readings.{blocks_rule}
 use Rattle.volume_check.proofs.UseFacts.{marks-owners, blocks-once, blocks-twice}
 use Rattle.volume_check.proofs.volumes.check_blocks.Goals as goal
 

@@ -5,7 +5,7 @@ use Rattle.disk_rules.specs.Broken.{Holds, BreaksFirst}
 use Rattle.disk_rules.specs.Rules.{AreDirectoriesNamed}
 use Rattle.volume_check.specs.Above.{rows_rule}
 use Rattle.volume_check.specs.Marks.{AreMarks, AreFew, IsFirstTwice}
-use Rattle.volume_check.specs.Tables.{tree_rules, AreNameMarks}
+use Rattle.volume_check.specs.Readings.{tree_rules, AreNameMarks}
 use Rattle.volume_check.proofs.UseFacts.{breaks-name, tree-held, marks-names}
 use Rattle.volume_check.proofs.volumes.check_tree.Goals as goal
 

@@ -1,8 +1,8 @@
 -- The tables of a volume, as they are read and checked.
-use Rattle.std.specs.Prelude.{◌≡◌, ℕ, ◌+◌, List, [], ◌∷◌, length}
+use Rattle.std.specs.Prelude.{◌≡◌, ℕ, ◌+◌, List, [], ◌∷◌, ◌++◌, length}
 use Rattle.pm_words.specs.Words.{Words}
 use Rattle.disk_places.specs.Journal.{journaled}
-use Rattle.disk_places.specs.Places.{Geometry, base_word, first_data, data_blocks}
+use Rattle.disk_places.specs.Places.{Geometry, first_data, data_blocks}
 use Rattle.extent_words.specs.declared.Extent.{Extent}
 use Rattle.disk_lines.specs.declared.Inode.{Inode}
 use Rattle.disk_lines.specs.Names.{Rows, row, names_of}
@@ -11,6 +11,7 @@ use Rattle.disk_rules.specs.Rules.{geometry_of, IsRowPlaced, AreDirectoriesNamed
 use Rattle.disk_rules.specs.Uses.{owners}
 use Rattle.disk_rules.specs.Volume.{Volume, volume}
 use Rattle.k_reading.specs.Pools.{AreInData}
+use Rattle.volume_check.specs.declared.reading.Tables.{Tables}
 use Rattle.volume_check.specs.Above.{HaveChildrenBelow}
 use Rattle.volume_check.specs.Marks.{AreMarks}
 
@@ -48,3 +49,18 @@ pub record AreUseMarks (v : Volume) (marks : List ℕ) : Type 0 where
 pub record AreNameMarks (v : Volume) (marks : List ℕ) : Type 0 where
   pub count : length marks ≡ length v.inodes
   pub names : AreMarks marks (names_of v.names)
+
+-- all rules before those of the log, for words with this geometry, and for the words of an image
+abbrev pub body_rules : Geometry → Words → List Rule
+body_rules g j = line_rules (volume g j) j ++ volume_rules (volume g j)
+
+abbrev pub front_rules : ℕ → Words → List Rule
+front_rules bytes f = head_rules bytes f ++ line_rules (volume (geometry_of f) (journaled f)) (journaled f) ++ volume_rules (volume (geometry_of f) (journaled f))
+
+-- what was read is the volume, with the marks of its blocks and of its names
+pub record AreTables (v : Volume) (t : Tables) : Type 0 where
+  pub geometry : v.geometry ≡ t.geometry
+  pub base : v.base ≡ t.base
+  pub tables : AreOf v t.inodes.items t.names.items t.maps.chains.items t.maps.maps.items
+  pub used : AreUseMarks v t.uses.items
+  pub named : AreNameMarks v t.named.items

@@ -13,3 +13,4 @@ mod volumes;
 
 pub use faults::{BadImage, CheckFault};
 pub use reading::{Tables, read_volume};
+pub use view::view_line;

@@ -60,8 +60,8 @@ fn source_of(pm: &Pm, line: u64) -> u64
     source
 }
 
-// The bytes of a line of the view, one with no word of the journal.
-pub(crate) fn view_line(pm: &Pm, line: u64) -> [u8; 64]
+/// The bytes of a line of the device as its journal makes it, one with no word of the journal.
+pub fn view_line(pm: &Pm, line: u64) -> [u8; 64]
     requires device { 2560 ≤ length pm.now }
     requires single { AllSingle pm.now }
     requires in_device { line < length pm.now / 8 }

@@ -1,12 +1,12 @@
 // The entries of the log, slot by slot, and those that recovery still has to carry out.
-ghost use Rattle.std.specs.Prelude.{◌≡◌, ◌*◌, ◌+◌, ◌<◌, ◌≤◌, ◌^◌, ℕ, length, slice_index_or, filter, IfOk};
+ghost use Rattle.std.specs.Prelude.{◌≡◌, ◌*◌, ◌+◌, ◌<◌, ◌≤◌, ◌^◌, ◌++◌, ℕ, length, slice_index_or, filter, IfOk, OnOk};
 ghost use Rattle.std.specs.List.{filter_map};
 ghost use Rattle.disk_lines.specs.Entries.{decode_entry};
 ghost use Rattle.disk_places.specs.Journal.{journaled};
 ghost use Rattle.disk_places.specs.Places.{log_line};
 ghost use Rattle.disk_rules.specs.Live.{is_file, is_of_file, is_live};
 ghost use Rattle.disk_rules.specs.Volume.{Volume, free_inode};
-ghost use Rattle.k_check.specs.Slots.{slots_at};
+ghost use Rattle.k_check.specs.Slots.{slots_at, passing};
 ghost use Rattle.pm_words.specs.Cells.{AllSingle};
 ghost use Rattle.pm_words.specs.Images.{words_of};
 ghost use Rattle.pm_words.specs.Words.{line_bytes};
@@ -59,6 +59,23 @@ pub(crate) fn is_live(inodes: &[Inode], draft: &Draft) -> bool
         && inode_of(inodes, draft.staging).generation == draft.staging_generation
 }
 
+// Puts the entry of a slot behind the others, if it is live.
+fn push_live(
+    live: &mut Vec<Draft>,
+    inodes: &[Inode],
+    slot: Option<Draft>,
+) -> Result<(), AllocError>
+    ensures { OnOk result ((v : Volume) → v.inodes ≡ inodes.now
+        → live.new.items ≡ live.old.items ++ passing (is_live v) slot) }
+{
+    if let Some(draft) = slot {
+        if is_live(inodes, &draft) {
+            live.push(draft)?;
+        }
+    }
+    Ok(())
+}
+
 // The bytes of a line of the log, as the journal makes it.
 pub(crate) fn log_bytes(pm: &Pm, geometry: &Geometry, slot: u32) -> [u8; 64]
     requires size { length pm.now ≡ 512 * geometry.now.blocks }
@@ -101,11 +118,7 @@ pub(crate) fn live_entries(
 {
     let mut live = Vec::new(alloc);
     for slot in slots {
-        if let Some(draft) = slot
-            && is_live(inodes, draft)
-        {
-            live.push(*draft)?;
-        }
+        push_live(&mut live, inodes, *slot)?;
     }
     Ok(live)
 }

@@ -1,10 +1,10 @@
 // What the files hold once recovery has carried out the live entries.
-ghost use Rattle.std.specs.Prelude.{◌≡◌, ◌+◌, ◌==◌, ◌<◌, ℕ, length, slice_index_or, filter, true};
-ghost use Rattle.disk_lines.specs.Names.{names_of};
-ghost use Rattle.disk_rules.specs.Content.{size_by, size_of};
+ghost use Rattle.std.specs.Prelude.{◌≡◌, ◌+◌, ◌==◌, ◌<◌, ◌≤◌, ◌^◌, ℕ, length, filter, cond};
+ghost use Rattle.block_counts.specs.Counts.{held_by};
+ghost use Rattle.disk_rules.specs.Content.{size_of};
 ghost use Rattle.disk_rules.specs.Live.{latest};
-ghost use Rattle.disk_rules.specs.Room.{held_after_recovery};
-ghost use Rattle.disk_rules.specs.Volume.{Volume, inode};
+ghost use Rattle.disk_rules.specs.Room.{is_named_file, held_after_recovery};
+ghost use Rattle.disk_rules.specs.Volume.{Volume};
 ghost use Rattle.volume_check.specs.Readings.{AreNameMarks};
 
 use block_counts::held_by;
@@ -31,13 +31,28 @@ fn latest_of(live: &[Draft], ino: u32) -> Option<Draft>
 }
 
 // The length of a file, in bytes, once recovery has carried out the live entries.
-fn size_of(inodes: &[Inode], live: &[Draft], ino: usize) -> u64
+fn size_of(inodes: &[Inode], live: &[Draft], ino: u32) -> u64
     requires { ino < length inodes.now }
     ensures { (v : Volume) → v.inodes ≡ inodes.now → result ≡ size_of v live.now ino }
 {
-    match latest_of(live, ino as u32) {
+    match latest_of(live, ino) {
         Some(draft) => draft.size,
-        None => inodes[ino].size,
+        None => inodes[ino as usize].size,
+    }
+}
+
+// What an inode holds then, in blocks, if it is a file with a name.
+fn held_by_file(inodes: &[Inode], marks: &[u8], live: &[Draft], ino: u32) -> u64
+    requires ino { ino < length inodes.now }
+    requires count { length marks.now ≡ length inodes.now }
+    ensures held { (v : Volume) → v.inodes ≡ inodes.now → AreNameMarks v marks.now
+        → result ≡ cond (is_named_file v ino) (held_by (size_of v live.now ino)) 0 }
+    ensures bounded { result ≤ 2 ^ 53 }
+{
+    if matches!(inodes[ino as usize].kind, Kind::File) && marks[ino as usize] > 0 {
+        held_by(size_of(inodes, live, ino))
+    } else {
+        0
     }
 }
 
@@ -50,9 +65,7 @@ pub(crate) fn held_after(inodes: &[Inode], marks: &[u8], live: &[Draft]) -> u64
 {
     let mut held = 0;
     for ino in 0..inodes.len() {
-        if matches!(inodes[ino].kind, Kind::File) && marks[ino] > 0 {
-            held += held_by(size_of(inodes, live, ino));
-        }
+        held += held_by_file(inodes, marks, live, ino as u32);
     }
     held
 }

@@ -2,11 +2,11 @@
 ghost use Rattle.std.specs.Prelude.{◌≡◌, ◌↔◌, ◌*◌, ◌+◌, ◌<◌, ◌≤◌, ◌^◌, ℕ, [], length, slice_index_or, true, All, None, IsTrue, MatchOption};
 ghost use Rattle.disk_lines.specs.Entries.{is_draft};
 ghost use Rattle.disk_places.specs.Journal.{journaled};
-ghost use Rattle.disk_rules.specs.Broken.{Holds, FailsFirst, below};
-ghost use Rattle.disk_rules.specs.Rules.{HasStagingBlocks, IsOfNoLater};
+ghost use Rattle.disk_rules.specs.Broken.{Holds, FailsFirst};
+ghost use Rattle.disk_rules.specs.Rules.{HasStagingBlocks};
 ghost use Rattle.disk_rules.specs.Volume.{Volume};
 ghost use Rattle.extent_words.specs.Extents.{disk_at};
-ghost use Rattle.k_check.specs.Slots.{IsGoodPair, IsGoodWithLater, AreGoodSlots};
+ghost use Rattle.k_check.specs.Slots.{IsGoodPair, IsGoodSlot, IsGoodWithLater, AreGoodSlots, IsDraftOrNone, AreDrafts, IsNoLaterAt, later_rule};
 ghost use Rattle.pm_words.specs.Cells.{AllSingle};
 ghost use Rattle.pm_words.specs.Images.{words_of};
 
@@ -75,4 +75,78 @@ fn is_good_pair(inodes: &[Inode], draft: &Draft, other: &Draft) -> bool
         return !is_of_file(inodes, draft) || !is_of_file(inodes, other);
     }
     true
+}
+
+// Whether the entry in a slot, where there is one, is a good pair with the other.
+fn is_good_slot(inodes: &[Inode], draft: &Draft, slot: &Option<Draft>) -> bool
+    requires first { is_draft draft.now ≡ true }
+    requires second { IsDraftOrNone slot.now }
+    ensures { (v : Volume) → v.inodes ≡ inodes.now
+        → (IsTrue result ↔ IsGoodSlot v draft.now slot.now) }
+{
+    match slot {
+        Some(other) => is_good_pair(inodes, draft, other),
+        None => true,
+    }
+}
+
+// Whether the entry in a slot, where there is one, and each in a later slot are a good pair.
+fn is_good_with_later(inodes: &[Inode], slots: &[Option<Draft>], place: usize) -> bool
+    requires place { place < length slots.now }
+    requires drafts { AreDrafts slots.now }
+    ensures { (v : Volume) → v.inodes ≡ inodes.now → (IsTrue result
+        ↔ IsGoodWithLater v slots.now place (slice_index_or slots.now place None)) }
+{
+    let Some(draft) = &slots[place] else {
+        return true;
+    };
+    for later in place + 1..slots.len() {
+        if !is_good_slot(inodes, draft, &slots[later]) {
+            return false;
+        }
+    }
+    true
+}
+
+// Whether each two entries in slots are a good pair.
+pub(crate) fn are_good_slots(inodes: &[Inode], slots: &[Option<Draft>]) -> bool
+    requires { AreDrafts slots.now }
+    ensures { (v : Volume) → v.inodes ≡ inodes.now → (IsTrue result ↔ AreGoodSlots v slots.now) }
+{
+    for place in 0..slots.len() {
+        if !is_good_with_later(inodes, slots, place) {
+            return false;
+        }
+    }
+    true
+}
+
+// Rule 13 at one slot.
+fn is_no_later(pm: &Pm, geometry: &Geometry, base: u64, slot: u32) -> bool
+    requires size { length pm.now ≡ 512 * geometry.now.blocks }
+    requires single { AllSingle pm.now }
+    requires base { base ≤ 2 ^ 63 }
+    requires in_image { slot < geometry.now.log }
+    ensures { IsTrue result ↔ IsNoLaterAt geometry.now base (journaled (words_of pm.now)) slot }
+{
+    let line = log_bytes(pm, geometry, slot);
+    let seq = u64_at(&line, 8);
+    seq < base + u64::from(geometry.log) || decode(&line, seq).is_none()
+}
+
+/// Rule 13: the first slot that breaks it.
+pub(crate) fn later_entry(pm: &Pm, geometry: &Geometry, base: u64) -> Option<u32>
+    requires size { length pm.now ≡ 512 * geometry.now.blocks }
+    requires single { AllSingle pm.now }
+    requires base { base ≤ 2 ^ 63 }
+    ensures { (v : Volume) → v.geometry ≡ geometry.now → v.base ≡ base
+        → MatchOption result (Holds (later_rule v (journaled (words_of pm.now))))
+        (FailsFirst (later_rule v (journaled (words_of pm.now)))) }
+{
+    for slot in 0..geometry.log {
+        if !is_no_later(pm, geometry, base, slot) {
+            return Some(slot);
+        }
+    }
+    None
 }

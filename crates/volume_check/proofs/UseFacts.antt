@@ -1,7 +1,8 @@
 -- The marks of a volume's blocks and names, and the rules that they decide.
-use Rattle.std.proofs.Common.{◌≡◌, ℕ, ◌+◌, ◌-◌, ◌<◌, ◌≤◌, List, [], ◌∷◌, length, map, get_or, Bool, true, false, refl, sym, ◌∙◌, ap, subst, arith, inl, inr}
+use Rattle.std.proofs.Common.{◌≡◌, ℕ, zero, suc, ◌+◌, ◌-◌, ◌<◌, ◌≤◌, List, [], ◌∷◌, length, map, get_or, Bool, true, false, refl, sym, ◌∙◌, ap, subst, arith, inl, inr}
 use Rattle.std.specs.Prelude.{◌==◌, min, sum_by}
 use Rattle.std.specs.List.{count_by, range_with_len}
+use Rattle.std.proofs.lemmas.Bool.{eq-eqb, ne_eqb}
 use Rattle.std.proofs.lemmas.List.{ext_get_or}
 use Rattle.std.proofs.lemmas.List.FromFn.{length-map-range_with_len, get_or-map-range_with_len}
 use Rattle.std.proofs.lemmas.List.Sums.{sum_by-cons}
@@ -14,7 +15,8 @@ use Rattle.disk_lines.specs.Names.{Rows, row, names_of}
 use Rattle.disk_rules.specs.Broken.{Rule, below, Holds, HoldAll, FailsFirst, BreaksFirst}
 use Rattle.disk_rules.specs.Placed.{block_at}
 use Rattle.disk_rules.specs.Rules.{IsRowPlaced, IsNamedOnce, HasOneName, AreDirectoriesNamed}
-use Rattle.disk_rules.specs.Uses.{owners}
+use Rattle.disk_rules.specs.Room.{has_none, unused_blocks}
+use Rattle.disk_rules.specs.Uses.{Use, owners}
 use Rattle.disk_rules.specs.Volume.{Volume, chain, extents}
 use Rattle.k_reading.specs.Pools.{IsOfTables}
 use Rattle.volume_facts.specs.Lists.{sum_by-agree, sum_by-add}
@@ -33,6 +35,19 @@ items-by_place d xs =
     ext_get_or d (map (λ k. get_or xs k d) (range_with_len 0 (length xs))) xs (length-map-range_with_len (λ k. get_or xs k d) 0 (length xs))
     (λ i below. get_or-map-range_with_len (λ k. get_or xs k d) 0 (length xs) i i d
     (omega (arith, below, length-map-range_with_len (λ k. get_or xs k d) 0 (length xs))) (omega arith))
+
+-- a sum over numbers in a row, with one number more
+sum-more : (f : ℕ → ℕ) (a n : ℕ) → sum_by f (range_with_len a (n + 1)) ≡ sum_by f (range_with_len a n) + f (a + n)
+sum-more f a zero = ap (λ n. 0 + f n) {x = a} {y = a + 0} (omega arith)
+sum-more f a (suc n) =
+    omega (
+      arith,
+      ap (λ m. sum_by f (range_with_len a m)) {x = suc n + 1} {y = suc (n + 1)} (omega arith),
+      sum_by-cons f a (range_with_len (a + 1) (n + 1)),
+      sum-more f (a + 1) n,
+      sum_by-cons f a (range_with_len (a + 1) n),
+      ap f {x = a + 1 + n} {y = a + suc n} (omega arith),
+    )
 
 sum-of_map : {X Y : Type 0} (f : Y → ℕ) (g : X → Y) (xs : List X) → sum_by f (map g xs) ≡ sum_by (λ x. f (g x)) xs
 sum-of_map f g [] = refl
@@ -73,6 +88,33 @@ marks-names v inodes names marks same_inodes same_names count are = record {
   count = count ∙ ap (λ (l : List Inode). length l) (sym same_inodes);
   names = subst (λ (rows : Rows). AreMarks marks (names_of rows)) (sym same_names) are;
 }
+
+-- the places that no use is counted for are the blocks that nothing names
+sum-shift : (f : ℕ → ℕ) (a n : ℕ) → sum_by (λ k. f (a + k)) (range_with_len 0 n) ≡ sum_by f (range_with_len a n)
+sum-shift f a zero = refl
+sum-shift f a (suc n) =
+    omega (
+      arith,
+      sum-more (λ k. f (a + k)) 0 n,
+      sum-more f a n,
+      ap (λ m. sum_by (λ k. f (a + k)) (range_with_len 0 m)) {x = suc n} {y = n + 1} (omega arith),
+      ap (λ m. sum_by f (range_with_len a m)) {x = suc n} {y = n + 1} (omega arith),
+      ap (λ k. f (a + k)) {x = 0 + n} {y = n} (omega arith),
+      sum-shift f a n,
+    )
+
+free-mark : (us : List Use) (n : ℕ) → n ≡ min 2 (length us) → one_if (n == 0) ≡ one_if (has_none us)
+free-mark [] n is = ap one_if (eq-eqb n 0 (omega arith))
+free-mark (u ∷ us) n is = ap one_if (ne_eqb n 0 (λ e. omega arith))
+
+pub marks-unused : (v : Volume) (marks : List ℕ) → AreUseMarks v marks → count_by (λ n. n == 0) marks ≡ unused_blocks v
+marks-unused v marks are =
+    let first = first_data v.geometry in
+    sym (sum-by_place (λ n. one_if (n == 0)) 0 marks (length marks) refl)
+    ∙ sum_by-agree (λ k. one_if (get_or marks k 0 == 0)) (λ k. one_if (has_none (owners v (first + k)))) 0 (length marks)
+    (λ k low below. free-mark (owners v (first + k)) (get_or marks k 0) (are.uses.each k (omega arith)))
+    ∙ sum-shift (λ b. one_if (has_none (owners v b))) first (length marks)
+    ∙ ap (λ n. sum_by (λ b. one_if (has_none (owners v b))) (range_with_len first n)) are.count
 
 -- rule 8
 pub blocks-once : (v : Volume) (marks : List ℕ) → AreUseMarks v marks → AreFew marks (length marks) → Holds (blocks_rule v)

@@ -61,6 +61,7 @@ front_rules bytes f = head_rules bytes f ++ line_rules (volume (geometry_of f) (
 pub record AreTables (v : Volume) (t : Tables) : Type 0 where
   pub geometry : v.geometry ≡ t.geometry
   pub base : v.base ≡ t.base
+  pub inode_count : length t.inodes.items ≡ t.geometry.inodes
   pub tables : AreOf v t.inodes.items t.names.items t.maps.chains.items t.maps.maps.items
   pub used : AreUseMarks v t.uses.items
   pub named : AreNameMarks v t.named.items

@@ -5,8 +5,11 @@ ghost use Rattle.extent_facts.specs.Counts.{one_if};
 ghost use Rattle.extent_words.specs.Extents.{holds_disk, is_within};
 ghost use Rattle.block_pool.specs.FreeSets.{LiesWithin};
 ghost use Rattle.disk_places.specs.Places.{first_data, data_blocks};
+ghost use Rattle.disk_rules.specs.Room.{unused_blocks};
+ghost use Rattle.disk_rules.specs.Volume.{Volume};
 ghost use Rattle.volume_check.specs.Marks.{AreMarks, LiesAt, AreFew, IsFirstTwice, chain_uses, map_uses, uses_in};
 ghost use Rattle.k_reading.specs.Pools.{AreInData};
+ghost use Rattle.volume_check.specs.Readings.{AreUseMarks};
 
 use extent_map::{Extent, ExtentMap};
 use image_layout::Geometry;
@@ -122,8 +125,8 @@ pub(crate) fn first_twice(marks: &[u8]) -> Option<u32>
     None
 }
 
-/// How many places have no use.
-pub(crate) fn count_unused(marks: &[u8]) -> u32
+// How many places have no use.
+fn count_free(marks: &[u8]) -> u32
     requires { length marks.now < 2 ^ 32 }
     ensures { result ≡ count_by (λ n. n == 0) marks.now }
 {
@@ -134,4 +137,12 @@ pub(crate) fn count_unused(marks: &[u8]) -> u32
         }
     }
     count
+}
+
+/// How many data blocks nothing names, where the marks are those of the uses of a volume's blocks.
+pub fn count_unused(marks: &[u8]) -> u32
+    requires { length marks.now < 2 ^ 32 }
+    ensures { (v : Volume) → AreUseMarks v marks.now → result ≡ unused_blocks v }
+{
+    count_free(marks)
 }

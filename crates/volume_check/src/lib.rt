@@ -11,6 +11,7 @@ mod reading;
 mod view;
 mod volumes;
 
+pub use blocks::count_unused;
 pub use faults::{BadImage, CheckFault};
 pub use reading::{Tables, read_volume};
 pub use view::view_line;

@@ -2,6 +2,7 @@
 ghost use Rattle.std.specs.Prelude.{◌≡◌, ◌*◌, ◌%◌, ◌^◌, ◌<◌, length, IfOk, IfErr, OnOk};
 ghost use Rattle.disk_places.specs.Journal.{journaled, IsSound};
 ghost use Rattle.disk_rules.specs.Broken.{HoldAll, line_rules};
+ghost use Rattle.disk_rules.specs.Checked.{HasHead};
 ghost use Rattle.disk_rules.specs.Rules.{geometry_of};
 ghost use Rattle.disk_rules.specs.Volume.{volume};
 ghost use Rattle.pm_words.specs.Cells.{AllSingle};
@@ -157,6 +158,8 @@ pub fn read_volume(alloc: Global, pm: &Pm) -> Result<Result<Tables, BadImage>, A
     requires fits { 8 * length pm.now < 2 ^ 64 }
     ensures tables { IfOk result (λ read. IfOk read
         (AreTables (volume (geometry_of (words_of pm.now)) (journaled (words_of pm.now))))) }
+    ensures head { IfOk result (λ read. OnOk read
+        (HasHead (8 * length pm.now) (words_of pm.now))) }
     ensures ok { IfOk result (λ read. OnOk read
         (HoldAll (front_rules (8 * length pm.now) (words_of pm.now)))) }
     ensures bad { IfOk result (λ read. IfErr read

@@ -97,6 +97,7 @@ returns-clause-tables c =
     record {
       geometry = volume-geometry g j;
       base = volume-base g j ∙ sym c.view_word-base.ensures;
+      inode_count = good.inode_count;
       tables = of;
       used = used (volume g j) tables;
       named = named (volume g j) same_inodes same_names;

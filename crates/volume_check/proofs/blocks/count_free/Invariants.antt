@@ -1,7 +1,7 @@
 use Rattle.std.proofs.Common.{◌≡◌, take}
 use Rattle.std.specs.Prelude.{◌==◌}
 use Rattle.std.specs.List.{count_by}
-use Rattle.volume_check.proofs.blocks.count_unused.Given as goal
+use Rattle.volume_check.proofs.blocks.count_free.Given as goal
 
 -- the places so far
 abbrev pub invariant-loop-mark : goal.invariant-loop-mark

@@ -60,8 +60,9 @@ fn held_by_file(inodes: &[Inode], marks: &[u8], live: &[Draft], ino: u32) -> u64
 pub(crate) fn held_after(inodes: &[Inode], marks: &[u8], live: &[Draft]) -> u64
     requires few { length inodes.now ≤ 1024 }
     requires count { length marks.now ≡ length inodes.now }
-    ensures { (v : Volume) → v.inodes ≡ inodes.now → AreNameMarks v marks.now
+    ensures held { (v : Volume) → v.inodes ≡ inodes.now → AreNameMarks v marks.now
         → result ≡ held_after_recovery v live.now }
+    ensures bounded { result ≤ 2 ^ 63 }
 {
     let mut held = 0;
     for ino in 0..inodes.len() {

@@ -33,7 +33,11 @@ pub(crate) fn inode_of(inodes: &[Inode], ino: u32) -> Inode
     ensures { result ≡ slice_index_or inodes.now ino free_inode }
 {
     let ino = ino as usize;
-    if ino < inodes.len() { inodes[ino] } else { FREE }
+    if ino < inodes.len() {
+        inodes[ino]
+    } else {
+        FREE
+    }
 }
 
 fn is_file(kind: Kind) -> bool
@@ -60,11 +64,7 @@ pub(crate) fn is_live(inodes: &[Inode], draft: &Draft) -> bool
 }
 
 // Puts the entry of a slot behind the others, if it is live.
-fn push_live(
-    live: &mut Vec<Draft>,
-    inodes: &[Inode],
-    slot: Option<Draft>,
-) -> Result<(), AllocError>
+fn push_live(live: &mut Vec<Draft>, inodes: &[Inode], slot: Option<Draft>) -> Result<(), AllocError>
     ensures { OnOk result ((v : Volume) → v.inodes ≡ inodes.now
         → live.new.items ≡ live.old.items ++ passing (is_live v) slot) }
 {

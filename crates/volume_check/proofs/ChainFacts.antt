@@ -1,5 +1,5 @@
 -- Chains in data blocks: the journal does not change them, so that the device has the chains of the view.
-use Rattle.std.proofs.Common.{◌≡◌, ℕ, ◌+◌, ◌*◌, ◌/◌, ◌<◌, ◌≤◌, ◌^◌, true, List, length, All, refl, sym, ◌∙◌, ap, arith, subst}
+use Rattle.std.proofs.Common.{◌≡◌, ℕ, ◌+◌, ◌*◌, ◌<◌, ◌^◌, true, List, All, sym, ◌∙◌, ap, subst}
 use Rattle.pm_words.specs.Words.{Words}
 use Rattle.disk_places.specs.Journal.{journaled, IsSound}
 use Rattle.disk_places.specs.Places.{Geometry, is_data_block}

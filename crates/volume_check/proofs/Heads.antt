@@ -1,11 +1,11 @@
 -- Rules with one place, and the head's rules as they are tried.
-use Rattle.std.proofs.Common.{◌≡◌, ℕ, ◌+◌, ◌*◌, ◌<◌, ◌≤◌, ◌/◌, ◌%◌, ◌⊎◌, true, false, List, [], ◌∷◌, ◌++◌, refl, sym, ap, ◌∙◌, arith, inl, inr}
+use Rattle.std.proofs.Common.{◌≡◌, ℕ, ◌*◌, ◌<◌, ◌≤◌, ◌/◌, ◌%◌, ◌⊎◌, true, false, List, ◌++◌, refl, sym, ap, ◌∙◌, arith, inl, inr}
 use Rattle.std.proofs.lemmas.Bool.{both_ways}
 use Rattle.pm_words.specs.Words.{Words, line_bytes}
 use Rattle.disk_places.specs.Journal.{committed, record_target}
 use Rattle.disk_places.specs.Places.{Geometry, is_journaled_line}
 use Rattle.disk_places.specs.Superblock.{has_magic, has_version, has_numbers}
-use Rattle.disk_rules.specs.Broken.{Rule, at_one, below, Holds, HoldAll, FailsFirst, BreaksFirst, head_rules}
+use Rattle.disk_rules.specs.Broken.{at_one, below, Holds, HoldAll, FailsFirst, BreaksFirst, head_rules}
 use Rattle.disk_rules.specs.Checked.{HasHead}
 use Rattle.disk_rules.specs.Rules.{geometry_of, IsWholeBlocks, HasMagic, HasVersion, HasNumbers, HasTarget, HasState}
 use Rattle.image_facts.specs.BrokenLaws.{BreaksFirst-before}
@@ -81,10 +81,16 @@ breaks-block_0 bytes f number place whole breaks = inr (holds-one 1 bytes (IsWho
 pub breaks-journal : (bytes : ℕ) (f : Words) (number place : ℕ) → IsWholeBlocks bytes → HasMagic f → HasVersion f → HasNumbers bytes f
     → BreaksFirst (journal_rules (geometry_of f) f) number place → BreaksFirst (head_rules bytes f) number place
 breaks-journal bytes f number place whole magic version numbers breaks =
-    inr (holds-one 1 bytes (IsWholeBlocks bytes) whole,
-      inr (holds-one 2 0 (HasMagic f) magic,
-        inr (holds-one 3 0 (HasVersion f) version,
-          inr (holds-one 4 0 (HasNumbers bytes f) numbers, breaks))))
+    inr (
+      holds-one 1 bytes (IsWholeBlocks bytes) whole,
+      inr (
+        holds-one 2 0 (HasMagic f) magic,
+        inr (
+          holds-one 3 0 (HasVersion f) version,
+          inr (holds-one 4 0 (HasNumbers bytes f) numbers, breaks),
+        ),
+      ),
+    )
 
 -- a line that was read
 pub super-kept : (bytes : List ℕ) → (has_magic bytes ≡ true) × (has_version bytes ≡ true) × (has_numbers bytes ≡ true) → IsSuperKept bytes

@@ -1,19 +1,17 @@
 -- What stands in the lines of the view.
-use Rattle.std.proofs.Common.{◌≡◌, ℕ, ◌+◌, ◌<◌, Option, Some, None, unwrap_or, refl, sym, ◌∙◌, ap, arith, subst}
+use Rattle.std.proofs.Common.{◌≡◌, ℕ, ◌<◌, Option, Some, None, unwrap_or, sym, ◌∙◌, ap, arith, subst}
 use Rattle.std.proofs.lemmas.Option.{same_Some}
 use Rattle.std.proofs.lemmas.List.FromFn.{length-map-range_with_len}
 use Rattle.std.proofs.Common.{List, length}
 use Rattle.std.specs.Prelude.{slice_index_or}
 use Rattle.pm_words.specs.Words.{Words}
-use Rattle.disk_places.specs.Journal.{is_journal_word}
-use Rattle.disk_places.specs.PlaceLaws.{journaled-inode, journaled-name, journaled-words}
-use Rattle.disk_places.specs.Places.{Geometry, inode_line, name_line}
+use Rattle.disk_places.specs.Places.{Geometry}
 use Rattle.disk_lines.specs.declared.Inode.{Inode}
 use Rattle.disk_lines.specs.Lines.{NameRow, NameSlot}
 use Rattle.disk_lines.specs.Names.{row}
 use Rattle.disk_rules.specs.Chains.{chain_of, map_of}
 use Rattle.disk_rules.specs.Rules.{IsKindAt, HasInode}
-use Rattle.disk_rules.specs.Volume.{Volume, volume, inode_at, name_at, row_of, free_inode, inode_or_free, inode}
+use Rattle.disk_rules.specs.Volume.{volume, inode_at, name_at, row_of, free_inode, inode_or_free, inode}
 use Rattle.image_facts.specs.CheckedLaws.{volume-inode, volume-row}
 use Rattle.volume_facts.specs.ReadingLaws.{volume-geometry}
 

@@ -1,10 +1,7 @@
 -- Marks that are counted up, one use after the other.
-use Rattle.std.proofs.Common.{◌≡◌, ℕ, ◌+◌, ◌-◌, ◌<◌, ◌≤◌, List, [], length, get_or, true, Bool, refl, sym, ◌∙◌, ap, arith, replicate}
-use Rattle.std.specs.Prelude.{◌==◌, min, sum_by}
-use Rattle.std.specs.List.{count_by, range_with_len}
-use Rattle.std.proofs.lemmas.List.{ext_get_or, get_or-replicate, length-replicate}
-use Rattle.std.proofs.lemmas.List.FromFn.{length-map-range_with_len, get_or-map-range_with_len}
-use Rattle.extent_facts.specs.Counts.{one_if}
+use Rattle.std.proofs.Common.{◌≡◌, ℕ, ◌<◌, List, length, get_or, ◌∙◌, ap, arith, replicate}
+use Rattle.std.specs.Prelude.{min}
+use Rattle.std.proofs.lemmas.List.{get_or-replicate, length-replicate}
 use Rattle.volume_check.specs.Marks.{AreMarks}
 
 -- the same uses, told otherwise

@@ -1,17 +1,17 @@
 -- The directory above an inode, found from the last line to the first; and the way up from it.
-use Rattle.std.proofs.Common.{◌≡◌, ◌≢◌, ℕ, zero, suc, ◌+◌, ◌-◌, ◌<◌, ◌≤◌, List, [], ◌∷◌, length, drop, get_or, Bool, true, false, cond, Option, Some, None, refl, sym, ◌∙◌, ap, subst, arith, inl, inr}
+use Rattle.std.proofs.Common.{◌≡◌, ◌≢◌, ℕ, suc, ◌+◌, ◌<◌, List, [], ◌∷◌, length, drop, get_or, Bool, true, false, cond, Option, Some, None, refl, sym, ◌∙◌, ap, subst, arith, inl, inr}
 use Rattle.std.specs.Prelude.{◌==◌, ◌||◌, slice_index_or, option_and_then}
 use Rattle.std.proofs.Math.ListN.{set}
 use Rattle.std.proofs.Math.Seq.{drop-cons}
 use Rattle.std.proofs.lemmas.Bool.{cases_eq, cases_lt, eq-eqb, ne_eqb, both_ways}
 use Rattle.std.proofs.lemmas.List.{get_or_default, get_or_past, get_or-set_same, get_or-set_other}
 use Rattle.disk_lines.specs.Lines.{NameRow}
-use Rattle.disk_lines.specs.Names.{Rows, row, is_entry, is_child, parent_of_row, first_row_from, parent_of, up, holds_above, ends_at_root}
+use Rattle.disk_lines.specs.Names.{Rows, row, is_entry, is_child, parent_of_row, first_row_from, parent_of, holds_above, ends_at_root}
 use Rattle.disk_lines.specs.TableLaws.{is_entry-own, is_entry-parts}
 use Rattle.disk_rules.specs.Live.{is_directory}
 use Rattle.disk_rules.specs.Rules.{IsPlaced}
 use Rattle.disk_rules.specs.Volume.{Volume, inode}
-use Rattle.image_facts.specs.ClimbLaws.{ReachesRoot, ends-reaches, reaches-ends, ends_at_root-root}
+use Rattle.image_facts.specs.ClimbLaws.{ends-reaches, reaches-ends, ends_at_root-root}
 use Rattle.volume_check.specs.Above.{HasChildBelow, HaveChildrenBelow, IsAbove, IsOnly}
 
 -- the parent in the row that a look-up finds

@@ -1,25 +1,23 @@
 -- The rules of the lines and of the volume, in their order, and what they give for tables.
-use Rattle.std.proofs.Common.{◌≡◌, ℕ, ◌+◌, ◌*◌, ◌<◌, ◌≤◌, ◌⊎◌, List, [], ◌∷◌, ◌++◌, length, get_or, All, true, false, Option, Some, None, refl, sym, ◌∙◌, ap, subst, arith, inl, inr}
+use Rattle.std.proofs.Common.{◌≡◌, ℕ, ◌<◌, ◌⊎◌, List, [], ◌∷◌, ◌++◌, length, All, true, None, refl, sym, ◌∙◌, ap, subst, arith, inl, inr}
 use Rattle.std.specs.Prelude.{slice_index_or, Result, Ok, Err, IfOk, IfErr, OnOk}
 use Rattle.std.proofs.lemmas.Bool.{cases_lt, both_ways}
-use Rattle.std.proofs.lemmas.Bool.Decides.{nat_tests}
 use Rattle.std.proofs.lemmas.List.{get_or_default, get_or_past}
 use Rattle.pm_words.specs.Words.{Words}
-use Rattle.disk_places.specs.Journal.{journaled, IsSound}
+use Rattle.disk_places.specs.Journal.{journaled}
 use Rattle.disk_places.specs.Places.{Geometry, IsGeometry, base_word, first_data, data_blocks, is_data_block}
 use Rattle.block_pool.specs.FreeSets.{LiesWithin}
 use Rattle.extent_words.specs.declared.Extent.{Extent}
 use Rattle.disk_lines.specs.declared.Inode.{Inode}
-use Rattle.disk_lines.specs.Lines.{NameRow, NameSlot, FreeName, Named, BadName}
+use Rattle.disk_lines.specs.Lines.{NameSlot, FreeName, Named, BadName}
 use Rattle.disk_lines.specs.Names.{Rows, row}
 use Rattle.disk_rules.specs.Broken.{Rule, Holds, HoldAll, FailsFirst, BreaksFirst, line_rules, volume_rules, head_rules}
 use Rattle.disk_rules.specs.Checked.{HasHead}
 use Rattle.disk_rules.specs.Live.{is_file, is_directory}
-use Rattle.disk_rules.specs.Rules.{geometry_of, file_blocks_of, IsInData, IsNamed, IsNameSlot, HasInode, HasChain}
+use Rattle.disk_rules.specs.Rules.{geometry_of, file_blocks_of, IsInData, IsNameSlot}
 use Rattle.disk_rules.specs.Volume.{Volume, volume, name_at, row_of, inode, chain, extents, free_inode}
 use Rattle.image_facts.specs.BrokenLaws.{HoldAll-append, BreaksFirst-behind, BreaksFirst-before}
 use Rattle.image_facts.specs.CheckedLaws.{volume-row, HoldAll-head}
-use Rattle.image_facts.specs.ViewLaws.{sound-head}
 use Rattle.k_reading.specs.Pools.{IsOfTables}
 use Rattle.volume_facts.specs.ReadingLaws.{volume-geometry}
 use Rattle.volume_check.specs.Above.{HasChildBelow}

@@ -1,5 +1,5 @@
 -- The marks of a volume's blocks and names, and the rules that they decide.
-use Rattle.std.proofs.Common.{◌≡◌, ℕ, zero, suc, ◌+◌, ◌-◌, ◌<◌, ◌≤◌, List, [], ◌∷◌, length, map, get_or, Bool, true, false, refl, sym, ◌∙◌, ap, subst, arith, inl, inr}
+use Rattle.std.proofs.Common.{◌≡◌, ℕ, zero, suc, ◌+◌, ◌-◌, ◌<◌, List, [], ◌∷◌, length, map, get_or, refl, sym, ◌∙◌, ap, subst, arith, inl, inr}
 use Rattle.std.specs.Prelude.{◌==◌, min, sum_by}
 use Rattle.std.specs.List.{count_by, range_with_len}
 use Rattle.std.proofs.lemmas.Bool.{eq-eqb, ne_eqb}
@@ -9,12 +9,10 @@ use Rattle.std.proofs.lemmas.List.Sums.{sum_by-cons}
 use Rattle.disk_places.specs.Places.{Geometry, first_data, data_blocks}
 use Rattle.extent_facts.specs.Counts.{one_if}
 use Rattle.extent_words.specs.declared.Extent.{Extent}
-use Rattle.extent_words.specs.Extents.{holds_disk}
 use Rattle.disk_lines.specs.declared.Inode.{Inode}
 use Rattle.disk_lines.specs.Names.{Rows, row, names_of}
-use Rattle.disk_rules.specs.Broken.{Rule, below, Holds, HoldAll, FailsFirst, BreaksFirst}
-use Rattle.disk_rules.specs.Placed.{block_at}
-use Rattle.disk_rules.specs.Rules.{IsRowPlaced, IsNamedOnce, HasOneName, AreDirectoriesNamed}
+use Rattle.disk_rules.specs.Broken.{below, Holds, HoldAll, FailsFirst, BreaksFirst}
+use Rattle.disk_rules.specs.Rules.{IsRowPlaced, HasOneName, AreDirectoriesNamed}
 use Rattle.disk_rules.specs.Room.{has_none, unused_blocks}
 use Rattle.disk_rules.specs.Uses.{Use, owners}
 use Rattle.disk_rules.specs.Volume.{Volume, chain, extents}
@@ -24,7 +22,7 @@ use Rattle.volume_uses.specs.OwnerLaws.{length-owners}
 use Rattle.volume_uses.specs.UseLaws.{length-uses_by}
 use Rattle.volume_uses.specs.Uses.{HasAllMaps, in_chain, in_map, uses_of}
 use Rattle.volume_check.specs.Above.{rows_rule}
-use Rattle.volume_check.specs.Marks.{AreMarks, AreFew, IsFirstTwice, chain_uses, map_uses, uses_in}
+use Rattle.volume_check.specs.Marks.{AreMarks, AreFew, IsFirstTwice, uses_in}
 use Rattle.volume_check.specs.Readings.{blocks_rule, tree_rules, AreUseMarks, AreNameMarks}
 use Rattle.volume_check.proofs.Heads.{holds-one, fails-one}
 use Rattle.volume_check.proofs.MarkFacts.{marks-agree}
@@ -173,8 +171,13 @@ breaks-directories v count rows none = inr (rows-held v count rows, inl (refl, f
 pub breaks-name : (v : Volume) (marks : List ℕ) (place : ℕ) → v.geometry.names ≡ length v.names → Holds (rows_rule v) → AreDirectoriesNamed v
     → v.geometry.inodes ≡ length v.inodes → AreNameMarks v marks → IsFirstTwice marks place → BreaksFirst (tree_rules v) 10 place
 breaks-name v marks place count rows named inodes are twice =
-    inr (rows-held v count rows, inr (holds-one 9 v.geometry.names (AreDirectoriesNamed v) named,
-      inl (refl, names-twice v marks 10 v.geometry.inodes place are (inodes ∙ sym are.count) twice)))
+    inr (
+      rows-held v count rows,
+      inr (
+        holds-one 9 v.geometry.names (AreDirectoriesNamed v) named,
+        inl (refl, names-twice v marks 10 v.geometry.inodes place are (inodes ∙ sym are.count) twice),
+      ),
+    )
 
 pub tree-held : (v : Volume) (marks : List ℕ) → v.geometry.names ≡ length v.names → Holds (rows_rule v) → AreDirectoriesNamed v
     → v.geometry.inodes ≡ length v.inodes → AreNameMarks v marks → AreFew marks (length marks) → HoldAll (tree_rules v)

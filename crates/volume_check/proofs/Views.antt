@@ -1,5 +1,5 @@
 -- Lines of the journaled view, read from the device.
-use Rattle.std.proofs.Common.{◌≡◌, ℕ, ◌+◌, ◌*◌, ◌/◌, ◌%◌, ◌<◌, ◌≤◌, true, false, refl, sym, ◌∙◌, ap, arith, lit<, add-zero}
+use Rattle.std.proofs.Common.{◌≡◌, ℕ, ◌+◌, ◌*◌, ◌/◌, ◌%◌, ◌<◌, false, sym, ◌∙◌, ap, arith, lit<, add-zero}
 use Rattle.std.proofs.lemmas.Bool.{cond-false}
 use Rattle.pm_words.specs.Words.{Words, line_bytes}
 use Rattle.disk_places.specs.Journal.{is_journal_word, journaled, patched, committed, record_target, record_word}

@@ -4,7 +4,7 @@ use Rattle.pm_words.specs.Words.{Words}
 use Rattle.disk_places.specs.Places.{Geometry}
 use Rattle.disk_places.specs.Superblock.{has_magic, has_version, has_numbers}
 use Rattle.disk_rules.specs.Broken.{Rule, at_one, below}
-use Rattle.disk_rules.specs.Rules.{geometry_of, IsWholeBlocks, HasMagic, HasVersion, HasNumbers, HasTarget, HasState}
+use Rattle.disk_rules.specs.Rules.{HasMagic, HasVersion, HasNumbers, HasTarget, HasState}
 
 -- rules 2 to 4 and rule 11
 abbrev pub block_0_rules : ℕ → Words → List Rule

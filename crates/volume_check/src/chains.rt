@@ -85,7 +85,9 @@ fn good_chain(
         return Ok(None);
     };
     let limit = file_blocks_of(node.kind);
-    if are_data_blocks(geometry, &chain.blocks) && are_in_data(geometry, limit, chain.map.extents()) {
+    if are_data_blocks(geometry, &chain.blocks)
+        && are_in_data(geometry, limit, chain.map.extents())
+    {
         Ok(Some(chain))
     } else {
         Ok(None)

@@ -136,7 +136,10 @@ fn check_block_0(pm: &Pm) -> Result<Geometry, BadImage>
     ensures bad { IfErr result (IsFirstOf (block_0_rules (8 * length pm.now) (words_of pm.now))) }
 {
     let geometry = read_head(pm)?;
-    if pm.words() != 512 * u64::from(geometry.blocks) || !is_state_zero(pm) || !are_others_zero(pm) {
+    if pm.words() != 512 * u64::from(geometry.blocks)
+        || !is_state_zero(pm)
+        || !are_others_zero(pm)
+    {
         return Err(BadImage { rule: 4, place: 0 });
     }
     Ok(geometry)

@@ -12,4 +12,4 @@ use Rattle.k_check.proofs.room.held_after.Given as goal
 abbrev pub invariant-loop-ino : goal.invariant-loop-ino
 invariant-loop-ino l =
     (l.held ≤ l.ino * 2 ^ 53) × ((v : Volume) → v.inodes ≡ l.inodes → AreNameMarks v l.marks
-      → l.held ≡ sum_by (λ ino. cond (is_named_file v ino) (held_by (size_of v l.live ino)) 0) (range_with_len 0 l.ino))
+    → l.held ≡ sum_by (λ ino. cond (is_named_file v ino) (held_by (size_of v l.live ino)) 0) (range_with_len 0 l.ino))

@@ -1,8 +1,5 @@
 use Rattle.std.proofs.Common.{ℕ, ◌+◌, take}
-use Rattle.std.specs.Prelude.{◌==◌, sum_by}
-use Rattle.std.specs.List.{count_by}
-use Rattle.extent_words.specs.Extents.{holds_disk, is_within}
-use Rattle.volume_check.specs.Marks.{AreMarks, chain_uses, map_uses}
+use Rattle.volume_check.specs.Marks.{AreMarks, chain_uses}
 use Rattle.volume_check.proofs.blocks.mark_chains.Given as goal
 
 -- what is counted so far

@@ -1,4 +1,4 @@
-use Rattle.std.proofs.Common.{◌≡◌, ◌<◌, ◌∙◌, ap, arith, sym, rules, refl, []}
+use Rattle.std.proofs.Common.{arith, sym, refl, []}
 use Rattle.chain_facts.specs.RuleLaws.{volume-of_words}
 use Rattle.disk_places.specs.Journal.{journaled}
 use Rattle.disk_rules.specs.Rules.{HasChain}

@@ -1,5 +1,4 @@
 use Rattle.std.proofs.Common.{[]}
-use Rattle.std.specs.Prelude.{ℕ}
 use Rattle.disk_places.specs.Journal.{journaled}
 use Rattle.disk_rules.specs.Rules.{HasChain}
 use Rattle.disk_rules.specs.Volume.{volume}

@@ -1,6 +1,6 @@
 use Rattle.std.proofs.Common.{◌*◌, length}
 use Rattle.pm_words.specs.Images.{words_of}
-use Rattle.volume_check.proofs.Heads.{head-kept, breaks-length, breaks-block_0, breaks-journal}
+use Rattle.volume_check.proofs.Heads.{head-kept}
 use Rattle.volume_check.proofs.head.check_head.Goals as goal
 
 pub returns-clause-ok : goal.returns-clause-ok

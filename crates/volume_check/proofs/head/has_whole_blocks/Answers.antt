@@ -1,5 +1,5 @@
 use Rattle.std.proofs.Common.{refl}
-use Rattle.volume_check.proofs.Heads.{few-blocks, whole-blocks}
+use Rattle.volume_check.proofs.Heads.{whole-blocks}
 use Rattle.volume_check.proofs.head.has_whole_blocks.Goals as goal
 
 pub returns : goal.returns

@@ -1,4 +1,4 @@
-use Rattle.std.proofs.Common.{◌≡◌, ◌+◌, ◌<◌, ℕ}
+use Rattle.std.proofs.Common.{◌≡◌, ◌<◌, ℕ}
 use Rattle.disk_places.specs.Journal.{journaled}
 use Rattle.disk_places.specs.Places.{base_word}
 use Rattle.pm_words.specs.Images.{words_of}

@@ -1,6 +1,5 @@
-use Rattle.std.proofs.Common.{◌*◌, length, sym, subst, refl, rules}
+use Rattle.std.proofs.Common.{◌*◌, length, subst, refl, rules}
 use Rattle.pm_words.specs.Images.{words_of}
-use Rattle.pm_words.specs.Words.{line_bytes}
 use Rattle.volume_check.specs.Heads.{IsSuperKept}
 use Rattle.volume_check.proofs.Heads.{super-kept, super-numbers}
 use Rattle.volume_check.proofs.head.read_head.Goals as goal

@@ -1,5 +1,4 @@
-use Rattle.std.proofs.Common.{◌≡◌, ◌<◌, ◌∙◌, ap, arith, sym, subst, None, ℕ, length}
-use Rattle.disk_lines.specs.Lines.{NameSlot}
+use Rattle.std.proofs.Common.{◌<◌, ap, arith, sym, subst, None}
 use Rattle.disk_places.specs.Journal.{journaled}
 use Rattle.disk_places.specs.Places.{Geometry}
 use Rattle.disk_rules.specs.Rules.{IsNameSlot}

@@ -1,4 +1,4 @@
-use Rattle.std.proofs.Common.{◌≡◌, ◌+◌, ◌-◌, ◌≤◌, ◌<◌, arith, subst, drop, sym, ap, ◌∙◌, length}
+use Rattle.std.proofs.Common.{◌≡◌, ◌+◌, ◌-◌, ◌<◌, arith, subst, drop, ap, ◌∙◌, length}
 use Rattle.std.proofs.lemmas.List.{length-set}
 use Rattle.disk_lines.specs.Lines.{NameRow}
 use Rattle.volume_check.specs.Above.{IsAbove}

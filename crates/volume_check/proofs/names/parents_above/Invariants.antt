@@ -1,7 +1,6 @@
-use Rattle.std.proofs.Common.{◌≡◌, ◌≤◌, ℕ, length, drop}
+use Rattle.std.proofs.Common.{◌≡◌, ◌≤◌, length, drop}
 use Rattle.volume_check.specs.Above.{IsAbove}
 use Rattle.volume_check.proofs.names.parents_above.Given as goal
-
 
 -- what the lines behind give
 abbrev pub invariant-loop-line : goal.invariant-loop-line

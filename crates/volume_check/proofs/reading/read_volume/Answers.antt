@@ -1,11 +1,5 @@
-use Rattle.std.proofs.Common.{◌*◌, length, subst}
-use Rattle.std.specs.Prelude.{Result, OnOk, IfErr}
-use Rattle.disk_places.specs.Journal.{journaled}
-use Rattle.disk_places.specs.Places.{Geometry}
-use Rattle.disk_rules.specs.Broken.{HoldAll}
+use Rattle.std.proofs.Common.{◌*◌, length}
 use Rattle.pm_words.specs.Images.{words_of}
-use Rattle.volume_check.specs.Answers.{IsFirstOf}
-use Rattle.volume_check.specs.Readings.{body_rules, front_rules}
 use Rattle.volume_check.proofs.ReadFacts.{if_ok, if_err, on_ok, breaks-body, front-holds}
 use Rattle.volume_check.proofs.reading.read_volume.Goals as goal
 

@@ -1,4 +1,4 @@
-use Rattle.std.proofs.Common.{◌≡◌, ◌+◌, ◌<◌, ◌/◌, length, arith, sym, ◌∙◌, subst}
+use Rattle.std.proofs.Common.{◌≡◌, ◌+◌, arith, sym, ◌∙◌, subst}
 use Rattle.pm_words.specs.Images.{words_of}
 use Rattle.disk_places.specs.Places.{record_line}
 use Rattle.volume_check.proofs.Views.{StandsAt, stands-none, stands-last, stands-skip, view-word}
@@ -14,12 +14,16 @@ loop-record-preserved c =
     let n = c.loop-record.record in
     elim c.if-target_of-line.branch [
       | then-target_of-line w ↦
-          let place : record_line n + 1 ≡ c.if-target_of-line.source = omega arith in
-          (omega arith, subst (StandsAt f (n + 1) c.args.line) place
-          (stands-last f n c.args.line (sym c.target_of.ensures ∙ w.if-target_of-line.true)))
-      | else-target_of-line w ↦
-          (omega arith, subst (StandsAt f (n + 1) c.args.line) (sym w.source-is)
-          (stands-skip f n c.args.line c.loop-record.source (λ e. w.if-target_of-line.false (c.target_of.ensures ∙ e)) c.loop-record.invariant.1))
+          let place : record_line n + 1 ≡ c.if-target_of-line.source = omega arith in (
+            omega arith,
+            subst (StandsAt f (n + 1) c.args.line) place
+                (stands-last f n c.args.line (sym c.target_of.ensures ∙ w.if-target_of-line.true)),
+          )
+      | else-target_of-line w ↦ (
+        omega arith,
+        subst (StandsAt f (n + 1) c.args.line) (sym w.source-is)
+            (stands-skip f n c.args.line c.loop-record.source (λ e. w.if-target_of-line.false (c.target_of.ensures ∙ e)) c.loop-record.invariant.1),
+      )
     ]
 
 pub returns-clause-words : goal.returns-clause-words

@@ -1,10 +1,10 @@
-use Rattle.std.proofs.Common.{◌≡◌, ◌∙◌, ap, subst, sym, arith, List, length}
-use Rattle.disk_lines.specs.Names.{Rows, names_of}
+use Rattle.std.proofs.Common.{◌∙◌, ap, subst, sym, List, length}
+use Rattle.disk_lines.specs.Names.{Rows}
 use Rattle.disk_lines.specs.declared.Inode.{Inode}
 use Rattle.disk_rules.specs.Broken.{Holds, BreaksFirst}
 use Rattle.disk_rules.specs.Rules.{AreDirectoriesNamed}
 use Rattle.volume_check.specs.Above.{rows_rule}
-use Rattle.volume_check.specs.Marks.{AreMarks, AreFew, IsFirstTwice}
+use Rattle.volume_check.specs.Marks.{AreFew, IsFirstTwice}
 use Rattle.volume_check.specs.Readings.{tree_rules, AreNameMarks}
 use Rattle.volume_check.proofs.UseFacts.{breaks-name, tree-held, marks-names}
 use Rattle.volume_check.proofs.volumes.check_tree.Goals as goal

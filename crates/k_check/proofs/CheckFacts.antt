@@ -1,0 +1,56 @@
+-- The rules of the log behind all others.
+use Rattle.std.proofs.Common.{◌≡◌, ℕ, ◌+◌, ◌*◌, ◌≤◌, ◌^◌, List, [], ◌∷◌, ◌++◌, refl, sym, ◌∙◌, ap, subst, arith, inl, inr}
+use Rattle.pm_words.specs.Words.{Words}
+use Rattle.disk_places.specs.Journal.{journaled}
+use Rattle.disk_places.specs.Places.{Geometry, base_word}
+use Rattle.disk_rules.specs.Broken.{Rule, at_one, Holds, HoldAll, FailsFirst, BreaksFirst, Breaks, log_rules}
+use Rattle.disk_rules.specs.Checked.{HasHead}
+use Rattle.disk_rules.specs.Rules.{geometry_of, CanRecover, IsChecked}
+use Rattle.disk_rules.specs.Volume.{Volume, volume}
+use Rattle.image_facts.specs.BrokenLaws.{HoldAll-append, BreaksFirst-behind, BreaksFirst-before}
+use Rattle.image_facts.specs.CheckedLaws.{checked-HoldAll}
+use Rattle.volume_facts.specs.ReadingLaws.{volume-geometry}
+use Rattle.volume_check.specs.Readings.{AreTables, front_rules}
+use Rattle.volume_check.specs.declared.reading.Tables.{Tables}
+use Rattle.k_check.specs.Slots.{later_rule}
+
+-- the volume of an image
+abbrev pub volume_of : Words → Volume
+volume_of f = volume (geometry_of f) (journaled f)
+
+pub geometry-read : (f : Words) (t : Tables) → AreTables (volume_of f) t → t.geometry ≡ geometry_of f
+geometry-read f t are = sym are.geometry ∙ volume-geometry (geometry_of f) (journaled f)
+
+pub size-read : (n : ℕ) (f : Words) (t : Tables) → AreTables (volume_of f) t → HasHead (8 * n) f → n ≡ 512 * t.geometry.blocks
+size-read n f t are head =
+    omega (arith, head.numbers.whole, ap (λ (g : Geometry). g.blocks) (geometry-read f t are))
+
+base-of : (g : Geometry) (j : Words) → (volume g j).base ≡ j base_word
+unfolding volume
+base-of g j = refl
+
+pub base-read : (bytes : ℕ) (f : Words) (t : Tables) → AreTables (volume_of f) t → HasHead bytes f → t.base ≤ 2 ^ 63
+base-read bytes f t are head =
+    subst (λ b. b ≤ 2 ^ 63) (sym (base-of (geometry_of f) (journaled f)) ∙ are.base) head.state.most_base
+
+-- the first broken rule
+pub breaks-front : (bytes : ℕ) (f : Words) (number place : ℕ) → BreaksFirst (front_rules bytes f) number place → Breaks bytes f number place
+breaks-front bytes f number place = BreaksFirst-before (front_rules bytes f) (log_rules (volume_of f) (journaled f)) number place
+
+pub breaks-recovery : (bytes : ℕ) (f : Words) → HoldAll (front_rules bytes f) → (CanRecover (volume_of f) (journaled f) → ⊥) → Breaks bytes f 12 0
+breaks-recovery bytes f front none =
+    BreaksFirst-behind (front_rules bytes f) (log_rules (volume_of f) (journaled f)) 12 0 front (inl (refl, fails))
+  where
+    fails : FailsFirst (at_one 12 0 (CanRecover (volume_of f) (journaled f))) 0
+    fails = record { from = omega arith; within = omega arith; before = λ p low early. absurd (omega arith); fails = none }
+
+pub breaks-later : (bytes : ℕ) (f : Words) (place : ℕ) → HoldAll (front_rules bytes f) → CanRecover (volume_of f) (journaled f)
+    → FailsFirst (later_rule (volume_of f) (journaled f)) place → Breaks bytes f 13 place
+breaks-later bytes f place front can fails =
+    BreaksFirst-behind (front_rules bytes f) (log_rules (volume_of f) (journaled f)) 13 place front (inr (λ p low below. can, inl (refl, fails)))
+
+-- no rule is broken
+pub all-kept : (bytes : ℕ) (f : Words) → HoldAll (front_rules bytes f) → CanRecover (volume_of f) (journaled f)
+    → Holds (later_rule (volume_of f) (journaled f)) → IsChecked bytes f
+all-kept bytes f front can later =
+    (checked-HoldAll bytes f).1 (HoldAll-append (front_rules bytes f) (log_rules (volume_of f) (journaled f)) front (λ p low below. can, (later, tt)))

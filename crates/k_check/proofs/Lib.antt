@@ -1,0 +1,3 @@
+pub mod CheckFacts
+pub mod RecoverFacts
+pub mod SlotFacts

@@ -1,0 +1,18 @@
+use Rattle.std.proofs.Common.{ℕ, ap, sym, ◌∙◌, ◌∷◌, [], ◌++◌, ◌+◌, arith}
+use Rattle.std.proofs.lemmas.List.FromFn.{map-range_with_len_more}
+use Rattle.std.specs.Prelude.{Option}
+use Rattle.disk_lines.specs.declared.Draft.{Draft}
+use Rattle.disk_lines.specs.Entries.{decode_entry}
+use Rattle.disk_places.specs.Journal.{journaled}
+use Rattle.disk_places.specs.Places.{log_line}
+use Rattle.pm_words.specs.Images.{words_of}
+use Rattle.pm_words.specs.Words.{line_bytes}
+use Rattle.k_check.proofs.entries.read_slots.Goals as goal
+
+pub loop-slot-preserved : goal.loop-slot-preserved
+loop-slot-preserved c =
+    let j = journaled (words_of c.args.pm.now) in
+    let read : ℕ → Option Draft = λ s. decode_entry (line_bytes j (log_line c.args.geometry.now s)) (c.args.base + s) in
+    c.in_ok-push.ensures.items
+    ∙ (λ i. c.loop-slot.invariant i ++ (c.decode.ensures ∙ (λ k. decode_entry (c.log_bytes.ensures k) (c.args.base + c.from.ensures k))) i ∷ [])
+    ∙ sym (map-range_with_len_more read 0 c.loop-slot.slot c.loop-slot.slot (omega arith))

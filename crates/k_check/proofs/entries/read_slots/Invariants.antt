@@ -1,0 +1,13 @@
+use Rattle.std.proofs.Common.{◌≡◌, ◌+◌, map}
+use Rattle.std.specs.List.{range_with_len}
+use Rattle.disk_lines.specs.Entries.{decode_entry}
+use Rattle.disk_places.specs.Journal.{journaled}
+use Rattle.disk_places.specs.Places.{log_line}
+use Rattle.pm_words.specs.Images.{words_of}
+use Rattle.pm_words.specs.Words.{line_bytes}
+use Rattle.k_check.proofs.entries.read_slots.Given as goal
+
+-- the slots so far
+abbrev pub invariant-loop-slot : goal.invariant-loop-slot
+invariant-loop-slot l =
+    l.slots.items ≡ map (λ s. decode_entry (line_bytes (journaled (words_of l.pm)) (log_line l.geometry s)) (l.base + s)) (range_with_len 0 l.slot)

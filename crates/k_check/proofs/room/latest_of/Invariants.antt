@@ -1,0 +1,12 @@
+use Rattle.std.proofs.Common.{◌≡◌, ◌≤◌, length, drop}
+use Rattle.std.specs.Prelude.{◌==◌, filter}
+use Rattle.disk_lines.specs.declared.Draft.{Draft}
+use Rattle.disk_rules.specs.Live.{latest}
+use Rattle.k_check.proofs.room.latest_of.Given as goal
+
+-- the latest of those behind
+abbrev pub invariant-loop-place : goal.invariant-loop-place
+invariant-loop-place l = (l.place ≤ length l.live) × (l.found ≡ latest (filter (λ (d : Draft). d.ino == l.ino) (drop l.place l.live)))
+
+abbrev pub decreases-loop-place : goal.decreases-loop-place
+decreases-loop-place l = l.place

@@ -1,0 +1,10 @@
+-- The parts of rule 12 that speak of room.
+use Rattle.std.specs.Prelude.{ℕ, ◌+◌, ◌≤◌, List, length}
+use Rattle.disk_places.specs.Places.{data_blocks, reserve}
+use Rattle.disk_lines.specs.declared.Draft.{Draft}
+use Rattle.disk_rules.specs.Room.{held_after_recovery, unused_blocks}
+use Rattle.disk_rules.specs.Volume.{Volume}
+
+pub record HasRoom (v : Volume) (live : List Draft) : Type 0 where
+  pub held : held_after_recovery v live + reserve v.geometry ≤ data_blocks v.geometry
+  pub unused : length live + reserve v.geometry ≤ unused_blocks v + 3

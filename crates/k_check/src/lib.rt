@@ -1,0 +1,24 @@
+//! Checking an image: all rules of a checked image, in their printed order.
+//!
+//! `check` answers the geometry exactly where the image of a device keeps all thirteen rules, and
+//! else the first rule that it breaks, in the order 1 2 3 4 11 5 6 7 8 9 10 12 13, with the lowest
+//! place. A pending journal is read through; nothing is written. Want of memory is the only other
+//! answer.
+//!
+//! The layer above may rely on this: an image that was checked may be recovered and mounted
+//! (`IsChecked`), and of one that was refused the answer names what it breaks first (`Breaks`).
+//!
+//! Stands on `volume_check` (the rules of the head, the lines and the volume), `oplog_entry` (the
+//! entries of the log) and the facts of images (`image_facts`).
+#![tactic(auto)]
+
+mod checking;
+mod entries;
+mod room;
+mod rules;
+
+pub use checking::check;
+pub use volume_check::{BadImage, CheckFault};
+
+#[cfg(test)]
+mod tests;

@@ -1,0 +1,9 @@
+pub mod ChainFacts
+pub mod Fronts
+pub mod Heads
+pub mod LineFacts
+pub mod MarkFacts
+pub mod NameFacts
+pub mod ReadFacts
+pub mod UseFacts
+pub mod Views

@@ -1,0 +1,9 @@
+use Rattle.std.proofs.Common.{ℕ, ◌+◌, ◌-◌}
+use Rattle.extent_facts.specs.Counts.{one_if}
+use Rattle.extent_words.specs.Extents.{is_within}
+use Rattle.volume_check.specs.Marks.{AreMarks}
+use Rattle.volume_check.proofs.blocks.mark_run.Given as goal
+
+-- the run so far
+abbrev pub invariant-loop-place : goal.invariant-loop-place
+invariant-loop-place l = (x : ℕ → ℕ) → AreMarks l.initial.marks x → AreMarks l.marks (λ i. x i + one_if (is_within l.from (l.place - l.from) i))

@@ -1,0 +1,14 @@
+use Rattle.std.proofs.Common.{[]}
+use Rattle.disk_places.specs.Journal.{journaled}
+use Rattle.disk_rules.specs.Rules.{HasChain}
+use Rattle.disk_rules.specs.Volume.{volume}
+use Rattle.pm_words.specs.Images.{words_of}
+use Rattle.volume_check.proofs.Fronts.{IsFront}
+use Rattle.volume_check.proofs.chains.read_chains.Given as goal
+
+-- the chains and the maps of the inodes so far
+abbrev pub invariant-loop-ino : goal.invariant-loop-ino
+invariant-loop-ino l =
+    let j = journaled (words_of l.pm) in
+    let v = volume l.geometry j in
+    IsFront [] (HasChain v j) l.chains.items v.chains l.ino × IsFront [] (HasChain v j) l.maps.items v.maps l.ino

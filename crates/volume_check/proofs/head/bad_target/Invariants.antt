@@ -1,0 +1,8 @@
+use Rattle.std.proofs.Common.{◌<◌, ℕ}
+use Rattle.disk_rules.specs.Rules.{HasTarget}
+use Rattle.pm_words.specs.Images.{words_of}
+use Rattle.volume_check.proofs.head.bad_target.Given as goal
+
+-- the records so far have journaled targets
+abbrev pub invariant-loop-record : goal.invariant-loop-record
+invariant-loop-record l = (r : ℕ) → r < l.record → HasTarget l.geometry (words_of l.pm) r

@@ -1,0 +1,11 @@
+use Rattle.disk_places.specs.Journal.{journaled}
+use Rattle.disk_rules.specs.Rules.{HasInode}
+use Rattle.disk_rules.specs.Volume.{volume, free_inode}
+use Rattle.pm_words.specs.Images.{words_of}
+use Rattle.volume_check.proofs.Fronts.{IsFront}
+use Rattle.volume_check.proofs.lines.read_inodes.Given as goal
+
+-- the inodes of the lines so far
+abbrev pub invariant-loop-ino : goal.invariant-loop-ino
+invariant-loop-ino l =
+    IsFront free_inode (HasInode (journaled (words_of l.pm))) l.inodes.items (volume l.geometry (journaled (words_of l.pm))).inodes l.ino

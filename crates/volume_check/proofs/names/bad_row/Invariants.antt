@@ -1,0 +1,9 @@
+use Rattle.std.proofs.Common.{◌≡◌, ◌<◌, ℕ}
+use Rattle.disk_lines.specs.Names.{row}
+use Rattle.disk_rules.specs.Rules.{IsRowPlaced}
+use Rattle.disk_rules.specs.Volume.{Volume}
+use Rattle.volume_check.proofs.names.bad_row.Given as goal
+
+-- the rows so far keep the rule
+abbrev pub invariant-loop-line : goal.invariant-loop-line
+invariant-loop-line l = (v : Volume) → v.inodes ≡ l.inodes → v.names ≡ l.names → (k : ℕ) → k < l.line → IsRowPlaced v k (row v.names k)

@@ -1,0 +1,11 @@
+use Rattle.std.proofs.Common.{◌∙◌}
+use Rattle.pm_words.specs.Images.{words_of}
+use Rattle.disk_places.specs.Journal.{journaled}
+use Rattle.volume_check.proofs.Views.{line_bytes-moved}
+use Rattle.volume_check.proofs.view.view_line.Goals as goal
+
+pub returns : goal.returns
+returns c =
+    c.read_line.ensures.bytes
+    ∙ line_bytes-moved (words_of c.args.pm.now) (journaled (words_of c.args.pm.now)) c.args.line c.source_of.result
+    (λ i at. c.source_of.ensures.words i at (c.requires.apart i at))

@@ -45,4 +45,6 @@ returns c =
     let seat : SeatView = fresh_seat c.args.shared.now.table_id in
     let fresh : c.in_ok-seat_at-2.field-0 ≡ seat = c.in_ok-seat_at-2.ensures ∙ ap fresh_seat inv.table in
     let all : suc (k - 1) ≡ c.args.seats = omega arith in
-    c.in_ok-push-2.ensures.items ∙ ((λ i. inv.dealt i ++ fresh i ∷ []) ∙ (replicate_push (k - 1) seat ∙ ap (λ (n : ℕ). replicate n seat) all))
+    let last : c.loop-seat.dealt.items ++ c.in_ok-seat_at-2.field-0 ∷ [] ≡ replicate (k - 1) seat ++ seat ∷ [] = (λ i. inv.dealt i ++ fresh i ∷ []) in
+    let whole : replicate (k - 1) seat ++ seat ∷ [] ≡ replicate c.args.seats seat = replicate_push (k - 1) seat ∙ ap (λ (n : ℕ). replicate n seat) all in
+    c.in_ok-push-2.ensures.items ∙ (last ∙ whole)

@@ -125,6 +125,7 @@ impl OpLog {
     /// waits for nobody. A seat that found the log full gives that answer again, and changes nothing.
     pub fn append(&self, seat: &mut LogSeat, power: &mut Power, draft: &Draft) -> Appended
         requires log { IsSeatOf self.now seat.old }
+        ensures log { seat.new.log ≡ seat.old.log }
         ensures answer { Answers (capacity self.now) draft.now seat.old power.old seat.new power.new result }
         ensures again { (full : Full) → seat.old.full ≡ Some full → (result ≡ Appended.Full full) × (seat.new ≡ seat.old) }
         ensures steps { Steps 10 power.old power.new }

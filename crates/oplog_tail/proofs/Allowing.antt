@@ -15,14 +15,15 @@ use Rattle.oplog_tail.specs.declared.views.Slot.{Slot}
 use Rattle.oplog_tail.specs.declared.views.Slot.TheVariants.{Filled, Fresh}
 use Rattle.oplog_tail.specs.declared.views.Start.{Start}
 use Rattle.oplog_tail.specs.EntryLines.{Holds}
-use Rattle.oplog_tail.specs.Views.{claims_of, fulls_of, joined, newcomer, parts_of, settled, with_full, with_held, written_of}
+use Rattle.oplog_tail.specs.Views.{claims_of, fulls_of, joined, newcomer, parts_of, settled, with_full, with_held, written_of, number_of}
 use Rattle.oplog_tail.specs.Rule.{Kept, line_at, Rule}
 use Rattle.oplog_tail.specs.Steps.{claimed, mark_of, marked}
 use Rattle.oplog_tail.proofs.Claiming.{below_tail, claims_full, claims_line}
-use Rattle.oplog_tail.proofs.Counts.{with_of_claim, written_of-le, written_one}
+use Rattle.oplog_tail.proofs.Counts.{written_of-le, written_one}
 use Rattle.oplog_tail.proofs.Marking.{marks_line}
 use Rattle.oplog_tail.proofs.Seating.{deals, gathers}
-use Rattle.oplog_tail.proofs.Sums.{sum_at, sum_le}
+use Rattle.view_sums.specs.Sums.{sum_at, sum_le}
+use Rattle.view_sums.specs.Numbers.{with_of_member}
 
 -- the tail is at most the number of lines and seats, so it does not wrap
 pub tail_most : (seats base : ℕ) (start : List Part) (tail marks : ℕ) (homes : List (maybe.Option Slot)) (views : List Knows) → Rule seats base start tail marks homes views → tail ≤ length start + seats
@@ -63,7 +64,7 @@ claims_allowed key slots id m idle unfilled whole s kept count at small =
       words = ap (λ (k : ℕ). k ∷ kept.marks ∷ []) more
 
       above : (c : Claim) → Rattle.std.specs.Prelude.Contains v.claims c → c.number < n
-      above c has = below_tail key.seats key.base start n kept.marks s.homes s.views id v c.number rule at (omega (arith, with_of_claim v.claims c has))
+      above c has = below_tail key.seats key.base start n kept.marks s.homes s.views id v c.number rule at (omega (arith, with_of_member number_of v.claims c has))
 
       room : claims_of v ≤ n
       room = omega (arith, sum_at claims_of s.views id v at, rule.claims)

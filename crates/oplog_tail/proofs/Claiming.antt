@@ -11,10 +11,11 @@ use Rattle.oplog_tail.specs.declared.views.Claim.{Claim}
 use Rattle.oplog_tail.specs.declared.views.Knows.{Knows}
 use Rattle.oplog_tail.specs.declared.views.Opened.{Opened}
 use Rattle.oplog_tail.specs.declared.views.Slot.{Slot}
-use Rattle.oplog_tail.specs.Views.{claims_of, claims_with, fulls_of, held_with, parts_of, times_in, with_full, with_held, written_of}
+use Rattle.oplog_tail.specs.Views.{claims_of, claims_with, fulls_of, held_with, parts_of, times_in, with_full, with_held, written_of, number_of}
 use Rattle.oplog_tail.specs.Rule.{IsHeld, IsKept, IsView, line_at, Rule}
-use Rattle.oplog_tail.proofs.Counts.{below_of_once, claims_of-full, claims_of-held, once_more, once_past, one_if, one_if-same, times_in-full, times_in-held, with_of_claim}
-use Rattle.oplog_tail.proofs.Sums.{sum_at, sum_set}
+use Rattle.oplog_tail.proofs.Counts.{claims_of-full, claims_of-held, times_in-full, times_in-held}
+use Rattle.view_sums.specs.Sums.{sum_at, sum_set}
+use Rattle.view_sums.specs.Numbers.{one_if, one_if-same, once_more, below_of_once, once_past, with_of_member}
 
 -- A view stays one where the slots of its own numbers stay.
 module _ (base : ℕ) (start : List Part) (homes homes' : List (maybe.Option Slot)) (n : ℕ) (same : (k : ℕ) → k ≢ n → get_elem? homes' k ≡ get_elem? homes k) where
@@ -33,7 +34,7 @@ module _ (base : ℕ) (start : List Part) (homes homes' : List (maybe.Option Slo
     spent = is.spent;
     past = is.past;
     held = same_held u.held (omega (arith, free)) is.held;
-    claims = λ c has. same_kept c (λ e. absurd (omega (arith, with_of_claim u.claims c has, free, ap (λ (k : ℕ). claims_with k u.claims) e))) (is.claims c has);
+    claims = λ c has. same_kept c (λ e. absurd (omega (arith, with_of_member number_of u.claims c has, free, ap (λ (k : ℕ). claims_with k u.claims) e))) (is.claims c has);
   }
 
 -- a number that a view has lies below the tail

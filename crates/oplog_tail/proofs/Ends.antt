@@ -12,12 +12,13 @@ use Rattle.oplog_tail.specs.declared.views.Slot.{Slot}
 use Rattle.oplog_tail.specs.declared.views.Slot.TheVariants.{Filled, Fresh}
 use Rattle.oplog_tail.specs.declared.views.Start.{Start}
 use Rattle.oplog_tail.specs.EntryLines.{Holds, IsSingle}
-use Rattle.oplog_tail.specs.Views.{claims_with, held_with, once_below, parts_of, times, times_in}
+use Rattle.oplog_tail.specs.Views.{claims_with, held_with, parts_of, times, times_in, number_of}
 use Rattle.oplog_tail.specs.Rule.{IsView, Kept, line_at, Rule}
 use Rattle.oplog_tail.proofs.Allowing.{tail_most}
-use Rattle.oplog_tail.proofs.Counts.{claim_of_with, number_of_times, once_of_below, times_in-le}
+use Rattle.oplog_tail.proofs.Counts.{times_in-le}
 use Rattle.oplog_tail.proofs.Slots.{within_of_at}
-use Rattle.oplog_tail.proofs.Sums.{sum_one, sum_two}
+use Rattle.view_sums.specs.Sums.{sum_one, sum_two}
+use Rattle.view_sums.specs.Numbers.{once_below, once_of_below, member_of_with}
 
 -- The seat's numbers are all that were claimed. The slot of a claim has its line with its entry, and the other slots have the
 -- lines that were there at first.
@@ -71,10 +72,10 @@ ends key words xs id v final some_seat all idle = record {
   others : (n : ℕ) → n < length start → ((c : Claim) → Contains v.claims c → c.number ≢ n) → get_elem? xs n ≡ some (Fresh (line_at start n))
   others n within none = final.4 n (Fresh (line_at start n)) (rule.fresh n past within) where
     unclaimed : 1 ≤ claims_with n v.claims → ⊥
-    unclaimed counted = let c = claim_of_with v.claims n counted in none c.0 c.1 c.2
+    unclaimed counted = let c = member_of_with number_of v.claims n counted in none c.0 c.1 c.2
 
     unfound : 1 ≤ times n v.full → ⊥
-    unfound counted = absurd (omega (arith, own.past n (number_of_times v.full n counted), within))
+    unfound counted = let found = member_of_with (λ (k : ℕ). k) v.full n counted in absurd (omega (arith, own.past found.0 found.1, found.2, within))
 
     claimed : n < kept.tail → ⊥
     claimed below =

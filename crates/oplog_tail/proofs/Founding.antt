@@ -13,8 +13,8 @@ use Rattle.oplog_tail.specs.declared.views.Start.{Start}
 use Rattle.oplog_tail.specs.EntryLines.{IsSingle}
 use Rattle.oplog_tail.specs.Views.{newcomer}
 use Rattle.oplog_tail.specs.Rule.{first_view, IsView, Kept, line_at}
-use Rattle.oplog_tail.proofs.Counts.{once_past}
 use Rattle.oplog_tail.proofs.Seating.{is_newcomer}
+use Rattle.view_sums.specs.Numbers.{once_past}
 
 pub opens_kept : (key : Start) (xs : List Slot) → xs ≡ map Fresh key.lines.value.items → key.seats ≤ 9 → length key.lines.value.items ≤ 4096
     → ((n : ℕ) → n < length key.lines.value.items → IsSingle (line_at key.lines.value.items n).cells) → Kept key (opening (0 ∷ 0 ∷ []) xs (first_view key))

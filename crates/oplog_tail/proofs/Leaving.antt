@@ -20,21 +20,21 @@ use Rattle.oplog_tail.specs.declared.views.Slot.{Slot}
 use Rattle.oplog_tail.specs.declared.views.Slot.TheVariants.{Filled, Fresh, Out}
 use Rattle.oplog_tail.specs.declared.views.Start.{Start}
 use Rattle.oplog_tail.specs.EntryLines.{Holds, IsSingle}
-use Rattle.oplog_tail.specs.Views.{claims_with, held_with, times}
+use Rattle.oplog_tail.specs.Views.{claims_with, held_with, times, number_of}
 use Rattle.oplog_tail.specs.Rule.{line_at}
 use Rattle.oplog_tail.specs.Seats.{pairs_of, SeatView}
 use Rattle.oplog_tail.specs.Logs.{LogView}
 use Rattle.oplog_tail.specs.Closing.{AllWritten, AreNumbered, cells_of, claims_of_all, first_words, full_number, HasLine, LeavesLines, line_in, seat_with}
-use Rattle.oplog_tail.proofs.Counts.{claim_of_with, claims_with-append, times-append, with_of_claim}
 use Rattle.oplog_tail.proofs.Ends.{IsEnd}
 use Rattle.oplog_tail.proofs.Gathering.{full_numbers}
 use Rattle.oplog_tail.proofs.Slots.{get_of_at}
+use Rattle.view_sums.specs.Numbers.{with_of_member, member_of_with, count_with-append}
 
 -- a number is that of a claim or of none
 claimed_or_not : (claims : List Claim) (n : ℕ) → ((c : Claim) × Contains claims c × (c.number ≡ n)) ⊎ ((c : Claim) → Contains claims c → c.number ≢ n)
 claimed_or_not claims n = ⊎_elim
-    (λ (lone : claims_with n claims < 1). inr (λ c has e. absurd (omega (arith, lone, with_of_claim claims c has, ap (λ (k : ℕ). claims_with k claims) e))))
-    (λ (counted : 1 ≤ claims_with n claims). inl (claim_of_with claims n counted))
+    (λ (lone : claims_with n claims < 1). inr (λ c has e. absurd (omega (arith, lone, with_of_member number_of claims c has, ap (λ (k : ℕ). claims_with k claims) e))))
+    (λ (counted : 1 ≤ claims_with n claims). inl (member_of_with number_of claims n counted))
     (cases_lt (claims_with n claims) 1)
 
 -- each slot has a line
@@ -91,7 +91,7 @@ leaves log key v xs claims base lines are end =
 counted_by_seats : (x : ℕ) (seats : List SeatView) → claims_with x (claims_of_all seats) + times x (full_numbers seats) ≡ sum_by (seat_with x) seats
 counted_by_seats x [] = refl
 counted_by_seats x (s ∷ seats) =
-    omega (arith, sum_by-cons (seat_with x) s seats, claims_with-append x s.claims (claims_of_all seats), times-append x (full_number s.full) (full_numbers seats), counted_by_seats x seats)
+    omega (arith, sum_by-cons (seat_with x) s seats, count_with-append number_of x s.claims (claims_of_all seats), count_with-append (λ (n : ℕ). n) x (full_number s.full) (full_numbers seats), counted_by_seats x seats)
 
 -- THE NUMBERS
 pub numbered : (log : LogView) (key : Start) (v : Knows) (xs : List Slot) (seats : List SeatView) → log.lines ≡ key.lines.value.items → log.seats ≡ key.seats → v.claims ≡ claims_of_all seats → v.full ≡ full_numbers seats

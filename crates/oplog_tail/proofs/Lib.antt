@@ -1,4 +1,3 @@
-mod Sums
 mod Counts
 mod Claiming
 mod Marking

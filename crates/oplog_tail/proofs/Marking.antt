@@ -14,11 +14,12 @@ use Rattle.oplog_tail.specs.declared.views.Mark.{Mark}
 use Rattle.oplog_tail.specs.declared.views.Slot.{Slot}
 use Rattle.oplog_tail.specs.declared.views.Slot.TheVariants.{Filled}
 use Rattle.oplog_tail.specs.EntryLines.{Holds}
-use Rattle.oplog_tail.specs.Views.{claim, claims_of, claims_with, fulls_of, held_with, parts_of, settled, times_in, written_of}
+use Rattle.oplog_tail.specs.Views.{claim, claims_of, claims_with, fulls_of, held_with, parts_of, settled, times_in, written_of, number_of}
 use Rattle.oplog_tail.specs.Rule.{IsHeld, IsKept, IsView, line_at, Rule}
 use Rattle.oplog_tail.proofs.Claiming.{below_tail, same_kept, same_view}
-use Rattle.oplog_tail.proofs.Counts.{claims_of-settled, once-le, one_if-same, times_in-settled, with_of_claim, written_of-settled, written_one}
-use Rattle.oplog_tail.proofs.Sums.{sum_at, sum_set, sum_two}
+use Rattle.oplog_tail.proofs.Counts.{claims_of-settled, times_in-settled, written_of-settled, written_one}
+use Rattle.view_sums.specs.Sums.{sum_at, sum_set, sum_two}
+use Rattle.view_sums.specs.Numbers.{one_if-same, once-le, with_of_member}
 
 pub marks_line : (seats base : ℕ) (start : List Part) (tail marks : ℕ) (homes : List (maybe.Option Slot)) (views : List Knows) (id : ℕ) (v : Knows) (n : ℕ) (before line : Part) (d : Draft) (mark : Mark)
     → Rule seats base start tail marks homes views → get_elem? views id ≡ some v → v.held ≡ Some (record { number = n; line = before })
@@ -60,7 +61,7 @@ marks_line seats base start tail marks homes views id v n before line d mark rul
 
   apart : (c : Claim) → Contains v.claims c → c.number ≢ n
   apart c has e =
-      absurd (omega (arith, counted, with_of_claim v.claims c has, ap (λ (k : ℕ). claims_with k v.claims) e, sum_at (times_in n) views id v at, rule.once n, once-le n tail))
+      absurd (omega (arith, counted, with_of_member number_of v.claims c has, ap (λ (k : ℕ). claims_with k v.claims) e, sum_at (times_in n) views id v at, rule.once n, once-le n tail))
 
   same : (k : ℕ) → k ≢ n → get_elem? homes' k ≡ get_elem? homes k
   same k other = set_else homes n k (some (Filled line d)) other

@@ -13,7 +13,7 @@ use Rattle.oplog_tail.specs.declared.views.Slot.{Slot}
 use Rattle.oplog_tail.specs.Views.{claims_of, fulls_of, joined, newcomer, parts_of, times_in, written_of}
 use Rattle.oplog_tail.specs.Rule.{IsKept, IsView, Rule}
 use Rattle.oplog_tail.proofs.Counts.{claims_of-joined, times_in-joined, written_of-joined}
-use Rattle.oplog_tail.proofs.Sums.{sum_set, sum_split}
+use Rattle.view_sums.specs.Sums.{sum_set, sum_split}
 
 -- a seat that claimed nothing
 pub is_newcomer : (base : ℕ) (start : List Part) (homes : List (maybe.Option Slot)) (parts : ℕ) → IsView base start homes (newcomer parts)

@@ -10,10 +10,11 @@ use Rattle.oplog_tail.specs.declared.views.Mark.TheVariants.{Written}
 use Rattle.oplog_tail.specs.declared.views.Slot.{Slot}
 use Rattle.oplog_tail.specs.declared.views.Slot.TheVariants.{Filled, Fresh, Out}
 use Rattle.oplog_tail.specs.EntryLines.{Holds}
-use Rattle.oplog_tail.specs.Views.{claims_with, once_below, times}
+use Rattle.oplog_tail.specs.Views.{claims_with, times}
 use Rattle.oplog_tail.specs.Rule.{line_at}
 use Rattle.oplog_tail.specs.Seats.{SeatView}
 use Rattle.oplog_tail.specs.Logs.{capacity, LogView}
+use Rattle.view_sums.specs.Numbers.{once_below}
 
 -- the claims of all seats
 abbrev pub claims_of_all : List SeatView → List Claim

@@ -14,7 +14,8 @@ use Rattle.oplog_tail.specs.declared.views.Slot.{Slot}
 use Rattle.oplog_tail.specs.declared.views.Slot.TheVariants.{Filled, Fresh}
 use Rattle.oplog_tail.specs.declared.views.Start.{Start}
 use Rattle.oplog_tail.specs.EntryLines.{Holds, IsSingle}
-use Rattle.oplog_tail.specs.Views.{claims_of, fulls_of, newcomer, once_below, parts_of, times_in, written_of}
+use Rattle.oplog_tail.specs.Views.{claims_of, fulls_of, newcomer, parts_of, times_in, written_of}
+use Rattle.view_sums.specs.Numbers.{once_below}
 
 -- line n of those that the log was opened with
 abbrev pub line_at : List Part → ℕ → Part

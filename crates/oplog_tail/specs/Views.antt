@@ -1,5 +1,6 @@
 -- What seats know of the log, counted.
-use Rattle.std.specs.Prelude.{ℕ, ◌+◌, ◌==◌, nat_lt, Bool, true, false, if◌then◌else◌, List, [], ◌∷◌, ◌++◌, length, count_by, Option, Some, None}
+use Rattle.std.specs.Prelude.{ℕ, ◌+◌, ◌==◌, Bool, true, false, if◌then◌else◌, List, [], ◌∷◌, ◌++◌, length, count_by, Option, Some, None}
+use Rattle.view_sums.specs.Numbers.{count_with}
 use Rattle.pm_words.specs.Parts.{Part}
 use Rattle.disk_lines.specs.declared.Draft.{Draft}
 use Rattle.oplog_tail.specs.declared.views.Claim.{Claim}
@@ -12,16 +13,15 @@ abbrev pub is_written : Mark → Bool
 is_written Written = true
 is_written Lost = false
 
--- 1 for each number below n, and 0 for the others
-abbrev pub once_below : ℕ → ℕ → ℕ
-once_below x n = if nat_lt x n then 1 else 0
+abbrev pub number_of : Claim → ℕ
+number_of c = c.number
 
 -- how often the number x stands in a list, in claims, and in a claim that is under way
 abbrev pub times : ℕ → List ℕ → ℕ
-times x numbers = count_by (λ n. n == x) numbers
+times x numbers = count_with (λ n. n) x numbers
 
 abbrev pub claims_with : ℕ → List Claim → ℕ
-claims_with x claims = count_by (λ c. c.number == x) claims
+claims_with x claims = count_with number_of x claims
 
 abbrev pub held_with : ℕ → Option Opened → ℕ
 held_with x None = 0

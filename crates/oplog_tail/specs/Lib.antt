@@ -1,0 +1,8 @@
+pub mod EntryLines
+pub mod Views
+pub mod Rule
+pub mod Steps
+pub mod Seats
+pub mod Logs
+pub mod Answers
+pub mod Closing

@@ -1,0 +1,68 @@
+//! What seats know of a log, what its slots hold, and what a log is opened with. Of `Claim`, `Opened` and `Knows`
+//! no value is made: they are for the proofs alone.
+use disk_lines::Draft;
+use pm_lines::Line;
+use std::collections::LinkedList;
+use std::snapshot::Snapshot;
+
+/// What became of the line of a claim.
+#[derive(Clone, Copy, Debug, PartialEq, Eq)]
+pub enum Mark {
+    /// It holds its entry, which is durable.
+    Written,
+    /// The power was lost before the append came to its end.
+    Lost,
+}
+
+/// What an append found where the log was full.
+#[derive(Clone, Copy, Debug, PartialEq, Eq)]
+pub struct Full {
+    /// The number that it claimed, at least the capacity.
+    pub claimed: u64,
+    /// How many lines the log has.
+    pub capacity: u64,
+}
+
+/// A number that a seat claimed, below the number of lines, with its entry.
+pub struct Claim {
+    pub number: u64,
+    pub entry: Draft,
+    pub mark: Mark,
+}
+
+/// What a slot of the log holds.
+#[derive(Drop)]
+pub enum Slot {
+    /// The line that the log was opened with.
+    Fresh(Line),
+    /// Nothing, while a seat writes the line.
+    Out,
+    /// The line that a seat put back, with its entry.
+    Filled(Line, Draft),
+}
+
+/// A claim that is under way, with its line as it was at first.
+pub struct Opened {
+    pub number: u64,
+    pub line: Line,
+}
+
+/// What a seat knows.
+pub struct Knows {
+    /// Its parts of the log: one for each seat that it stands for.
+    pub parts: u64,
+    /// Its claims, in the order in which it made them.
+    pub claims: LinkedList<Claim>,
+    /// The claim that is under way.
+    pub held: Option<Opened>,
+    /// The numbers that it claimed past the last line.
+    pub full: LinkedList<u64>,
+}
+
+/// What a log is opened with.
+#[derive(Drop)]
+pub struct Start {
+    pub seats: u32,
+    pub base: u64,
+    pub lines: Snapshot<Vec<Line>>,
+}

@@ -32,8 +32,9 @@ fn fresh_image_is_checked(rt: HostRuntime) -> Result<(), Fail> {
     let geometry = Geometry::default_image();
     let bytes = fresh_image(alloc, &geometry)?;
     assert_eq!(rt; check_bytes(alloc, &bytes), Ok(geometry));
+    let block = [0u8; 4096];
     assert_eq!(rt;
-        check_bytes(alloc, &bytes[..4096]),
+        check_bytes(alloc, &block),
         Err(CheckFault::Bad(BadImage {
             rule: 1,
             place: 4096

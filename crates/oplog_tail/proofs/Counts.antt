@@ -1,15 +1,15 @@
 -- Numbers that are counted in claims and in views.
-use Rattle.std.proofs.Common.{◌≡◌, ◌≢◌, ℕ, suc, ◌+◌, ◌<◌, ◌≤◌, Bool, true, false, cond, eqb, List, [], ◌∷◌, ◌++◌, refl, ap, arith, length-append}
-use Rattle.std.specs.Prelude.{Contains, Option, Some, None}
-use Rattle.std.proofs.lemmas.Bool.Decides.{nat_tests, Decides-eqb}
-use Rattle.std.proofs.lemmas.List.Sums.{count_by-le-length, get_or-le-sum_by, sum_by-cons, sum_by-append}
+use Rattle.std.proofs.Common.{◌≡◌, ℕ, ◌+◌, ◌≤◌, cond, eqb, [], ◌∷◌, ap, arith, length-append}
+use Rattle.std.specs.Prelude.{Option, Some, None}
+use Rattle.std.proofs.lemmas.Bool.Decides.{nat_tests}
+use Rattle.std.proofs.lemmas.List.Sums.{count_by-le-length, sum_by-cons, sum_by-append}
 use Rattle.pm_words.specs.Parts.{Part}
 use Rattle.disk_lines.specs.declared.Draft.{Draft}
 use Rattle.oplog_tail.specs.declared.views.Claim.{Claim}
 use Rattle.oplog_tail.specs.declared.views.Knows.{Knows}
 use Rattle.oplog_tail.specs.declared.views.Mark.{Mark}
 use Rattle.oplog_tail.specs.declared.views.Opened.{Opened}
-use Rattle.oplog_tail.specs.Views.{claim, claims_of, claims_with, held_count, held_with, is_written, joined, settled, times, times_in, with_full, with_held, written_of, number_of}
+use Rattle.oplog_tail.specs.Views.{claim, claims_of, held_count, held_with, is_written, joined, settled, times_in, with_full, with_held, written_of, number_of}
 use Rattle.view_sums.specs.Numbers.{one_if, count_with-append, count_with-one}
 
 -- one number more

@@ -1,0 +1,8 @@
+use Rattle.std.proofs.Common.{◌≡◌}
+use Rattle.ruled_turn.proofs.entering.wait.Given as goal
+
+-- the seat is as it came
+abbrev pub invariant-loop : goal.invariant-loop
+invariant-loop g l =
+    (goal.iterator-loop g).can_next l.iterator' × (goal.iterator-loop g).is_finite l.iterator' × (l.seat.me ≡ l.initial.seat.me)
+    × (l.seat.table_id ≡ l.initial.seat.table_id)

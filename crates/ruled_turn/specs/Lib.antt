@@ -1,0 +1,4 @@
+pub mod Standings
+pub mod Rule
+pub mod Steps
+pub mod Passes

@@ -92,5 +92,5 @@ pub record IsMoved (free : ℕ → Bool) (m : Move) (v w : Volume) (displaced : 
   pub size : length blocks ≡ chains_for (length linked)
   pub taken : AreLowest free (chains_for (length linked) + chains_for (length left)) (blocks ++ rest)
   pub is_moved :
-      w ≡ switched m.staging (inode v m.staging) rest left
-      (switched m.ino (with_length m.size m.applied (inode v m.ino)) blocks linked v)
+      w ≡ switched m.ino (with_length m.size m.applied (inode v m.ino)) blocks linked
+      (switched m.staging (inode v m.staging) rest left v)

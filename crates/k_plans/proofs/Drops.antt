@@ -84,14 +84,14 @@ not_unused v ino b below used =
     (has_none-some (owners v b)
     (omega (arith, used, uses-le-owners v b ino below, length-uses_by ino (chain v ino) (extents v ino) b)))
 
-not_free : (t : TablesView) (pool : FreeSet) (ino b : ℕ) → AreTables t pool → ino < length t.volume.inodes
+pub not_free : (t : TablesView) (pool : FreeSet) (ino b : ℕ) → AreTables t pool → ino < length t.volume.inodes
     → 1 ≤ in_chain (chain t.volume ino) b + in_map (extents t.volume ino) b → is_free_at pool b ≡ false
 not_free t pool ino b are below used =
     are.pool_is.free b ∙ ap (λ u. u && not (is_among t.waiting b)) (not_unused t.volume ino b below used)
 
 -- ---- they may be given
 
-in-pool : (t : TablesView) (pool : FreeSet) (b : ℕ) → AreTables t pool → is_data_block t.volume.geometry b ≡ true
+pub in-pool : (t : TablesView) (pool : FreeSet) (b : ℕ) → AreTables t pool → is_data_block t.volume.geometry b ≡ true
     → has_block pool b ≡ true
 in-pool t pool b are in_data =
     let least = are.whole.kept.geometry.least_data in

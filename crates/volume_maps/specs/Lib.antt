@@ -1,0 +1,4 @@
+pub mod Bounds
+pub mod Hits
+pub mod Laws
+pub mod Switches

@@ -1,7 +1,7 @@
 //! Maps that change: blocks are set aside, inodes go over to maps, and what waits comes free.
 ghost use Rattle.std.specs.Prelude.{◌≡◌, ◌<◌, ◌≤◌, ◌+◌, ℕ, List, [], length, OnErr, IfNone, IfOk, IfSome};
 ghost use Rattle.disk_rules.specs.Chains.{first_or_zero};
-ghost use Rattle.disk_rules.specs.Volume.{Volume, chain};
+ghost use Rattle.disk_rules.specs.Volume.{Volume, chain, extents};
 ghost use Rattle.extent_words.specs.Extents.{IsCanonical};
 ghost use Rattle.k_land.specs.Plans.{IsMapFrom, NewChain, Turns};
 ghost use Rattle.k_plans.specs.Free.{free_blocks};
@@ -17,7 +17,7 @@ use extent_map::ExtentMap;
 use k_journal::Batch;
 use k_land::put_inode;
 use k_reading::Blocks;
-use std::alloc::AllocError;
+use std::alloc::{AllocError, Global};
 
 // The first block of a chain, 0 where there is none.
 fn root_of(blocks: &[u32]) -> u32
@@ -48,6 +48,16 @@ impl Tables {
         ensures { result.now ≡ chain self.now.volume ino }
     {
         &self.chains[ino as usize].blocks
+    }
+
+    /// The map of an inode once more, to be changed. The volume keeps the rules.
+    pub fn map_copied(&self, alloc: Global, ino: u32) -> Result<ExtentMap, AllocError>
+        requires { ino < length self.now.volume.inodes }
+        ensures copy { IfOk result (λ map. map ≡ extents self.now.volume ino) }
+        ensures canonical { IsCanonical (extents self.now.volume ino) }
+        ensures whole { IsWhole self.now.volume }
+    {
+        self.maps[ino as usize].copied(alloc)
     }
 
     /// Sets aside the `count` lowest free blocks and answers them in rising order: they wait then.

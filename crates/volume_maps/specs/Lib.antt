@@ -2,3 +2,4 @@ pub mod Bounds
 pub mod Hits
 pub mod Laws
 pub mod Switches
+pub mod TakenLaws

@@ -121,13 +121,17 @@ module _ (t u : TablesView) (n ino : ℕ) (x : Inode) (blocks : List ℕ) (es fr
 -- a plan with one new map
 pub plan-one : (t : TablesView) (w : Volume) (b : List Entry) (c : NewChain) → IsCanonical c.extents
     → AreLowest (is_free_block t) (chains_for (length c.extents)) c.blocks → Turns t.volume.geometry (c ∷ []) t.volume w b
-    → 0 < length b → length b ≤ 4 → IsWhole w → IsMapPlan (c ∷ []) t.volume w b
-plan-one t w b c canonical lowest turns some most whole = record {
+    → w.geometry ≡ t.volume.geometry → 0 < length b → length b ≤ 4 → IsWhole w → IsMapPlan (c ∷ []) t.volume w b
+plan-one t w b c canonical lowest turns geometry some most whole = record {
   turns = turns;
+  geometry = geometry;
   some = some;
   most = most;
   unused = subst (All (λ k. is_unused t.volume k ≡ true)) (sym (blocks_of-one c)) (λ k d below. free-unused t (get_or c.blocks k d) (lowest.were_free k d below));
-  distinct = subst AreDistinct (sym (blocks_of-one c)) (rising-distinct c.blocks lowest.rising);
+  distinct = λ k below.
+      let zero_is : k ≡ 0 = omega arith in
+      subst (λ i. AreDistinct (new_at (c ∷ []) i).blocks) (sym zero_is) (rising-distinct c.blocks lowest.rising);
+  apart = λ j k before below. absurd (omega arith);
   counts = λ k below.
       let zero_is : k ≡ 0 = omega arith in
       subst (λ i. length (new_at (c ∷ []) i).blocks ≡ chains_for (length (new_at (c ∷ []) i).extents)) (sym zero_is) lowest.count;

@@ -6,7 +6,7 @@ use Rattle.disk_rules.specs.Volume.{Volume}
 use Rattle.extent_words.specs.declared.Extent.{Extent}
 use Rattle.disk_lines.specs.declared.Inode.{Inode}
 use Rattle.k_journal.specs.declared.batches.Entry.{Entry}
-use Rattle.k_land.specs.Maps.{write_steps}
+use Rattle.k_land.specs.Maps.{AreApart, write_steps}
 use Rattle.k_land.specs.Plans.{NewChain, Turns, blocks_of, new_at}
 use Rattle.map_rules.specs.Taken.{AreLowest, switched}
 use Rattle.volume_uses.specs.Uses.{in_chain, is_unused}
@@ -35,10 +35,12 @@ switched_tables ino x blocks es waiting t = record { volume = switched ino x blo
 -- w, which is whole again. The new maps may be written one after the other, within the steps of a change.
 pub record IsMapPlan (news : List NewChain) (v w : Volume) (b : List Entry) : Type 0 where
   pub turns : Turns v.geometry news v w b
+  pub geometry : w.geometry ≡ v.geometry
   pub some : 0 < length b
   pub most : length b ≤ 4
   pub unused : All (λ t. is_unused v t ≡ true) (blocks_of news)
-  pub distinct : AreDistinct (blocks_of news)
+  pub distinct : (k : ℕ) → k < length news → AreDistinct (new_at news k).blocks
+  pub apart : (j k : ℕ) → j < k → k < length news → AreApart (new_at news j).blocks (new_at news k).blocks
   pub counts : (k : ℕ) → k < length news → length (new_at news k).blocks ≡ chains_for (length (new_at news k).extents)
   pub steps : write_steps news ≤ 32000
   pub whole : IsWhole w

@@ -77,6 +77,7 @@ returns-clause-gone c =
       plan = plan-one t c.switch.new.self.volume c.switch.new.batch new (subst IsCanonical (sym written_is) c.in_ok-written.ensures.canonical)
           (subst (λ (es : List Extent). AreLowest (is_free_block t) (chains_for (length es)) c.in-Some.blocks.items) (sym written_is) lowest)
           (subst (λ (y : Volume). Turns y.geometry (new ∷ []) t.volume c.switch.new.self.volume c.switch.new.batch) vol turns)
+          (ap (λ (x : TablesView). x.volume.geometry) c.switch.ensures.switched ∙ ap (λ (y : Volume). y.geometry) vol)
           c.switch.ensures.some
           (omega (arith, c.switch.ensures.count, ap (λ (b : List Entry). length b) c.requires.empty))
           c.switch.ensures.whole;

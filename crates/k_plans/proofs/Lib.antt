@@ -8,5 +8,6 @@ pub mod Removals
 pub mod Renames
 pub mod NamedNodes
 pub mod Names
+pub mod Switches
 pub mod TableLists
 pub mod Wholes

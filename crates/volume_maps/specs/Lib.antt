@@ -1,0 +1,5 @@
+pub mod Bounds
+pub mod Hits
+pub mod Laws
+pub mod Switches
+pub mod TakenLaws

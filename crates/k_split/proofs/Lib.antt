@@ -1,3 +1,4 @@
+pub mod ByteLaws
 mod ChangeLaws
 mod ContentLaws
 mod FreshDevices

@@ -14,6 +14,7 @@
 //! Stands on `k_plans` (the changes of names), `k_land`, `k_reading`, `k_tables` and `k_content`.
 #![tactic(auto)]
 
+mod bytes;
 mod changes;
 mod dropping;
 mod faults;

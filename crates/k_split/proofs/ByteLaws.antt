@@ -45,7 +45,7 @@ file_below v ino file = elim (cases_lt ino (length v.inodes)) [
   | inr past ↦ let never : File ≡ Free = sym file ∙ ap (λ x. x.kind) (get_or_past v.inodes ino free_inode past) in cc
 ]
 
-one_of : (g : Geometry) (b : ℕ) → is_data_block g b ≡ true → All (λ c. is_data_block g c ≡ true) (b ∷ [])
+pub one_of : (g : Geometry) (b : ℕ) → is_data_block g b ≡ true → All (λ c. is_data_block g c ≡ true) (b ∷ [])
 one_of g b is zero c short = is
 one_of g b is (suc i) c short = absurd (omega (arith, short))
 

@@ -3,6 +3,7 @@ mod ChangeLaws
 mod ContentLaws
 mod FreshDevices
 mod LandLaws
+pub mod LoanLaws
 mod LookLaws
 mod OpenLaws
 mod TreeLaws

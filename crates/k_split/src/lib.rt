@@ -19,6 +19,7 @@ mod changes;
 mod dropping;
 mod faults;
 mod laws;
+mod lending;
 mod looks;
 mod making;
 mod opening;

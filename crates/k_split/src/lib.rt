@@ -14,10 +14,12 @@
 //! Stands on `k_plans` (the changes of names), `k_land`, `k_reading`, `k_tables` and `k_content`.
 #![tactic(auto)]
 
+mod bytes;
 mod changes;
 mod dropping;
 mod faults;
 mod laws;
+mod lending;
 mod looks;
 mod making;
 mod opening;

@@ -1,5 +1,6 @@
 -- Bytes of a file that are written over in place: the device stands at the same volume.
-use Rattle.std.proofs.Common.{◌≡◌, ◌≢◌, ◌⊎◌, ℕ, zero, suc, ◌+◌, ◌*◌, ◌/◌, ◌<◌, ◌≤◌, Bool, true, false, All, List, [], ◌∷◌, length, Some, refl, sym, ◌∙◌, ap, subst, arith, inl, inr}
+use Rattle.std.proofs.Common.{◌≡◌, ◌≢◌, ◌⊎◌, ℕ, zero, suc, ◌+◌, ◌-◌, ◌*◌, ◌/◌, ◌<◌, ◌≤◌, Bool, true, false, All, List, [], ◌∷◌, length, Option, Some, None, refl, sym, ◌∙◌, ap, subst, arith, inl, inr}
+use Rattle.std.specs.Prelude.{IsSome}
 use Rattle.std.proofs.lemmas.Bool.{both_ways, cases_lt}
 use Rattle.std.proofs.lemmas.Bool.Decides.{nat_tests}
 use Rattle.std.proofs.lemmas.List.{get_or_past}
@@ -12,8 +13,10 @@ use Rattle.pm_words.specs.Images.{Follows, IsImage}
 use Rattle.pm_words.specs.Words.{Words}
 use Rattle.disk_places.specs.Journal.{is_journal_word, IsSound, journaled}
 use Rattle.disk_places.specs.Places.{commit_word, Geometry, is_data_block, is_journaled_line}
-use Rattle.extent_words.specs.Extents.{covers, disk_at}
+use Rattle.extent_words.specs.declared.Extent.{Extent}
+use Rattle.extent_words.specs.Extents.{covers, disk_at, IsCanonical}
 use Rattle.extent_facts.specs.Covers.{covers-disk_at}
+use Rattle.extent_facts.specs.Facts.{disk_at-past}
 use Rattle.disk_lines.specs.declared.Kind.{Kind}
 use Rattle.disk_lines.specs.declared.Kind.TheVariants.{File, Free}
 use Rattle.disk_rules.specs.Placed.{block_at, IsOutside}
@@ -107,7 +110,7 @@ module _ (v : Volume) (d e : List Cell) (ino first : ℕ) (bytes : List ℕ) (wh
   same_seen before image is w beside =
       journaled-same before image w (λ i journal. is.words i (journal_beside v d ino first (length bytes) whole stands may i journal)) (is.words w beside)
 
-  over : (before image : Words) → IsImage d before → IsOverwritten (extents v ino) first bytes before image → IsWrittenOver v ino first bytes before image
+  over : (before image : Words) → IsImage d before → IsOverwritten (extents v ino) first bytes before image → IsWrittenOver v v ino first bytes before image
   over before image from is = record {
     reads = reads-same v.geometry (journaled before) (journaled image) v
         (record {
@@ -125,7 +128,7 @@ module _ (v : Volume) (d e : List Cell) (ino first : ℕ) (bytes : List ℕ) (wh
         ∙ subst (λ c. IsCandidate c (before commit_word)) stands.idle (from commit_word)
 
   pub overwrites : length e ≡ length d → SameLent d e → Follows (IsOverwritten (extents v ino) first bytes) d e
-      → ((i : ℕ) → IsBesideBlocks (extents v ino) first (length bytes) i → Settles (cell d i) (cell e i)) → Overwrites v ino first bytes d e
+      → ((i : ℕ) → IsBesideBlocks (extents v ino) first (length bytes) i → Settles (cell d i) (cell e i)) → Overwrites v v ino first bytes d e
   overwrites size lent follows others = record {
     size = size;
     lent = lent;
@@ -133,7 +136,7 @@ module _ (v : Volume) (d e : List Cell) (ino first : ℕ) (bytes : List ℕ) (wh
     others = others;
   }
 
-  pub still_stands : Overwrites v ino first bytes d e → KeepsSingle d e → Stands v.geometry v e
+  pub still_stands : Overwrites v v ino first bytes d e → KeepsSingle d e → Stands v.geometry v e
   still_stands changes singles = record {
     size = changes.size ∙ stands.size;
     idle =
@@ -147,7 +150,7 @@ module _ (v : Volume) (d e : List Cell) (ino first : ℕ) (bytes : List ℕ) (wh
 
 -- K-Split is ready again
 pub ready-over : (t : TablesView) (d e : List Cell) (batched lost now : Bool) (b : List Entry) (ino first : ℕ) (bytes : List ℕ) → IsReady (view_of t d batched lost) b
-    → MayWriteBytes t.volume ino first (length bytes) → Overwrites t.volume ino first bytes d e → KeepsSingle d e → IsReady (view_of t e batched now) b
+    → MayWriteBytes t.volume ino first (length bytes) → Overwrites t.volume t.volume ino first bytes d e → KeepsSingle d e → IsReady (view_of t e batched now) b
 ready-over t d e batched lost now b ino first bytes ready may over singles = record {
   order = record {
     stands = still_stands t.volume d e ino first bytes ready.order.whole ready.order.stands may over singles;
@@ -167,13 +170,57 @@ asked t d batched lost k ino first count same may = subst (λ (x : View). x.lost
 
 -- the answers
 pub overwrite-done : (t : TablesView) (d e : List Cell) (batched lost : Bool) (b : List Entry) (k : View) (ino first : ℕ) (bytes : List ℕ) → lost ≡ false → view_of t d batched lost ≡ k
-    → IsReady (view_of t d batched lost) b → MayWriteBytes t.volume ino first (length bytes) → Overwrites t.volume ino first bytes d e
+    → IsReady (view_of t d batched lost) b → MayWriteBytes t.volume ino first (length bytes) → Overwrites t.volume t.volume ino first bytes d e
     → Follows (IsOverwrittenWhole (extents t.volume ino) first bytes) d e → KeepsSingle d e → IsOverwriteDone ino first bytes k (view_of t e batched lost)
 overwrite-done t d e batched lost b k ino first bytes is same ready may over whole singles =
     subst (λ x. IsOverwriteDone ino first bytes x (view_of t e batched lost)) same
     (record { kept_on = is; same = refl; order = (ready-over t d e batched lost lost b ino first bytes ready may over singles).order; over = over; whole = whole; singles = singles })
 
 pub overwrite-cut : (t : TablesView) (d e : List Cell) (batched lost : Bool) (k : View) (ino first : ℕ) (bytes : List ℕ) → view_of t d batched lost ≡ k
-    → Overwrites t.volume ino first bytes d e → IsOverwriteCut ino first bytes k (view_of t e batched true)
+    → Overwrites t.volume t.volume ino first bytes d e → IsOverwriteCut ino first bytes k (view_of t e batched true)
 overwrite-cut t d e batched lost k ino first bytes same over =
     subst (λ x. IsOverwriteCut ino first bytes x (view_of t e batched true)) same (record { same = refl; over = over })
+
+-- A range whose blocks are there lies below the longest length.
+pub short_range : (es : List Extent) (first count : ℕ) → IsCanonical es → 0 < count → ((p : ℕ) → first ≤ p → p < first + count → IsSome (disk_at es (p / 4096))) → first + count ≤ 16777216
+short_range es first count canonical some mapped = elim (cases_lt ((first + count - 1) / 4096) 4096) [
+  | inl below ↦ omega (arith, below, some)
+  | inr past ↦ absurd (by (disk_at es ((first + count - 1) / 4096)) (disk_at-past es ((first + count - 1) / 4096) canonical past) (mapped (first + count - 1) (omega (arith, some)) (omega (arith, some))))
+] where
+  by : (o : Option ℕ) → o ≡ None → IsSome o → ⊥
+  by None none there = cc
+  by (Some b) none there = cc
+
+-- An empty write leaves all as it was.
+pub overwrite-none : (t : TablesView) (d : List Cell) (batched lost : Bool) (b : List Entry) (k : View) (ino first : ℕ) (bytes : List ℕ) → lost ≡ false → view_of t d batched lost ≡ k
+    → IsReady (view_of t d batched lost) b → length bytes ≡ 0 → IsOverwriteDone ino first bytes k k
+overwrite-none t d batched lost b k ino first bytes is same ready empty =
+    subst (λ x. IsOverwriteDone ino first bytes x x) same
+    (record {
+      kept_on = is;
+      same = refl;
+      order = ready.order;
+      over = record { size = refl; lent = λ i. refl; each_image = over_none; others = λ i beside. inl refl };
+      whole = λ image from. (
+        image,
+        record { is_image = from; lent = λ i out. refl },
+        record { each = λ p c stands. absurd (none p c stands); others = λ k beside. refl; words = λ i beside. refl },
+      );
+      singles = λ i single. single;
+    })
+  where
+    none : (p c : ℕ) → StandsIn (extents t.volume ino) first (length bytes) p c → ⊥
+    none p c stands = (let from = stands.from in let below = stands.below in omega (arith, empty, from, below))
+
+    over_none : Follows (IsWrittenOver t.volume t.volume ino first bytes) d d
+    over_none image from = (
+      image,
+      record { is_image = from; lent = λ i out. refl },
+      record {
+        reads = ready.order.stands.reads image from;
+        sound = record { count = subst (λ n. n ≤ 128) (sym idle) (omega arith); targets = λ r short. absurd (omega (arith, short, idle)) };
+        bytes_are = record { each = λ p c stands. inl refl; others = λ k beside. refl; words = λ i beside. refl };
+      },
+    ) where
+      idle : image commit_word ≡ 0
+      idle = subst (λ c. IsCandidate c (image commit_word)) ready.order.stands.idle (from commit_word)

@@ -21,33 +21,33 @@ pub record MayWriteBytes (v : Volume) (ino first count : ℕ) : Type 0 where
   pub file : (inode v ino).kind ≡ File
   pub mapped : (p : ℕ) → first ≤ p → p < first + count → IsSome (disk_at (extents v ino) (p / 4096))
 
--- An image after bytes of a file were written over, or some of them, beside the image before: it reads as the same volume, each
--- byte of the range is the old one or the new one, and all else is as before.
-pub record IsWrittenOver (v : Volume) (ino first : ℕ) (bytes : List ℕ) (before image : Words) : Type 0 where
-  pub reads : Reads v.geometry (journaled image) v
-  pub sound : IsSound v.geometry image
+-- An image after bytes of a file of the volume v were written over, or some of them, beside the image before: it reads as the
+-- volume u that was committed last, each byte of the range is the old one or the new one, and all else is as before.
+pub record IsWrittenOver (u v : Volume) (ino first : ℕ) (bytes : List ℕ) (before image : Words) : Type 0 where
+  pub reads : Reads u.geometry (journaled image) u
+  pub sound : IsSound u.geometry image
   pub bytes_are : IsOverwritten (extents v ino) first bytes before image
 
 -- What it makes of the device, done or cut off.
-pub record Overwrites (v : Volume) (ino first : ℕ) (bytes : List ℕ) (old new : List Cell) : Type 0 where
+pub record Overwrites (u v : Volume) (ino first : ℕ) (bytes : List ℕ) (old new : List Cell) : Type 0 where
   pub size : length new ≡ length old
   pub lent : SameLent old new
-  pub each_image : Follows (IsWrittenOver v ino first bytes) old new
+  pub each_image : Follows (IsWrittenOver u v ino first bytes) old new
   pub others : (i : ℕ) → IsBesideBlocks (extents v ino) first (length bytes) i → Settles (cell old i) (cell new i)
 
--- Done: the volume is as it was, and each byte of the range is the new one in each image.
+-- Done: both volumes are as they were, and each byte of the range is the new one in each image.
 pub record IsOverwriteDone (ino first : ℕ) (bytes : List ℕ) (old new : View) : Type 0 where
   pub kept_on : new.lost ≡ false
   pub same : new ≡ record old { cells = new.cells }
   pub order : IsInOrder new
-  pub over : Overwrites old.volume ino first bytes old.cells new.cells
+  pub over : Overwrites old.committed old.volume ino first bytes old.cells new.cells
   pub whole : Follows (IsOverwrittenWhole (extents old.volume ino) first bytes) old.cells new.cells
   pub singles : KeepsSingle old.cells new.cells
 
 -- The power went on the way.
 pub record IsOverwriteCut (ino first : ℕ) (bytes : List ℕ) (old new : View) : Type 0 where
   pub same : new ≡ record old { cells = new.cells; lost = true }
-  pub over : Overwrites old.volume ino first bytes old.cells new.cells
+  pub over : Overwrites old.committed old.volume ino first bytes old.cells new.cells
 
 -- Only the power stops it.
 abbrev pub IsOverwriteAnswer : ℕ → ℕ → List ℕ → View → View → Result (Unit {0}) KFault → Type 0

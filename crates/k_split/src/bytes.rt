@@ -40,7 +40,7 @@ fn front_of(bytes: &[u8], count: usize) -> &[u8]
 impl KSplit {
     /// Writes bytes of a live file over in place, from byte `offset` of it on, and makes them durable.
     /// Each block of the range has a disk block. It takes no memory, and only the power stops it: then
-    /// each byte of the range is the old one or the new one.
+    /// each byte of the range is the old one or the new one. An empty write does nothing.
     ///
     /// # Errors
     ///
@@ -57,7 +57,6 @@ impl KSplit {
         power: &mut Power,
     ) -> Result<(), KFault>
         requires awake { self.old.lost ≡ true → is_on power.old ≡ false }
-        requires short { offset + length bytes.now ≤ 2 ^ 24 }
         requires may { self.old.lost ≡ false
             → MayWriteBytes self.old.volume ino offset (length bytes.now) }
         ensures steps { Steps (576 * blocks_reached offset (length bytes.now) + 1) power.old power.new }
@@ -68,8 +67,14 @@ impl KSplit {
             self.lost = true;
             return Err(KFault::PowerLost);
         }
+        if bytes.len() == 0 {
+            return Ok(());
+        }
         match self.tables.map(ino) {
-            Some(map) => write_bytes(&mut self.pm, power, map, offset, bytes),
+            Some(map) => {
+                let _extents = map.extents();
+                write_bytes(&mut self.pm, power, map, offset, bytes);
+            }
             None => unreachable!(),
         }
         if power.on() {

@@ -18,14 +18,27 @@ fn check_bytes(alloc: Global, bytes: &[u8]) -> Result<Geometry, CheckFault>
     check(alloc, &pm)
 }
 
-// Checks the fresh default image with one word set.
-fn check_with(alloc: Global, word: usize, value: u64) -> Result<Geometry, CheckFault> {
-    let mut bytes = fresh_image(alloc, &Geometry::default_image())?;
-    let at = 8 * (word % 100_000);
-    if at + 8 <= bytes.len() {
-        bytes[at..at + 8].copy_from_slice(&value.to_le_bytes());
+// The fresh image of 64 blocks, 4 log lines, 16 inodes and 16 names.
+fn small_image(alloc: Global) -> Result<Vec<u8>, AllocError>
+    ensures { IfOk result (λ bytes. length bytes.items % 4096 ≡ 0) }
+{
+    match Geometry::checked(64, 4, 16, 16) {
+        Some(geometry) => fresh_image(alloc, &geometry),
+        None => Ok(Vec::new(alloc)),
+    }
+}
+
+// Checks it with these bytes at a place.
+fn check_with(alloc: Global, at: usize, content: &[u8]) -> Result<Geometry, CheckFault> {
+    let mut bytes = small_image(alloc)?;
+    if at <= bytes.len() && content.len() <= bytes.len() - at {
+        bytes[at..at + content.len()].copy_from_slice(content);
     }
     check_bytes(alloc, &bytes)
+}
+
+fn bad(rule: u32, place: u64) -> Result<Geometry, CheckFault> {
+    Err(CheckFault::Bad(BadImage { rule, place }))
 }
 
 #[test]
@@ -35,17 +48,8 @@ fn fresh_image_is_checked(rt: HostRuntime) -> Result<(), Fail> {
     let bytes = fresh_image(alloc, &geometry)?;
     assert_eq!(rt; check_bytes(alloc, &bytes), Ok(geometry));
     let block = [0u8; 4096];
-    assert_eq!(rt;
-        check_bytes(alloc, &block),
-        Err(CheckFault::Bad(BadImage {
-            rule: 1,
-            place: 4096
-        }))
-    );
-    assert_eq!(rt;
-        check_bytes(alloc, &[]),
-        Err(CheckFault::Bad(BadImage { rule: 1, place: 0 }))
-    );
+    assert_eq!(rt; check_bytes(alloc, &block), bad(1, 4096));
+    assert_eq!(rt; check_bytes(alloc, &[]), bad(1, 0));
     Ok(())
 }
 
@@ -54,19 +58,28 @@ fn fresh_image_is_checked(rt: HostRuntime) -> Result<(), Fail> {
 #[test]
 fn each_damaged_field(rt: HostRuntime) -> Result<(), Fail> {
     let alloc = rt.alloc();
-    let damaged = [
-        (0, 7, 2, 0),
-        (1, 9 + (256 << 32), 3, 0),
-        (100, 1, 4, 0),
-        (8, 129, 11, 128),
-        (16, 0, 11, 128),
-        (2568, 2, 5, 1),
-        (3072, 1, 6, 0),
-    ];
-    for (word, value, rule, place) in damaged {
-        let bad = BadImage { rule, place };
-        assert_eq!(rt; check_with(alloc, word, value), Err(CheckFault::Bad(bad)));
-    }
+    assert_eq!(rt; check_with(alloc, 0, &[0]), bad(2, 0));
+    assert_eq!(rt; check_with(alloc, 8, &[9]), bad(3, 0));
+    assert_eq!(rt; check_with(alloc, 800, &[1]), bad(4, 0));
+    assert_eq!(rt; check_with(alloc, 64, &[129]), bad(11, 128));
+    assert_eq!(rt; check_with(alloc, 128, &[0]), bad(11, 128));
+    assert_eq!(rt; check_with(alloc, 64 * 321, &[2]), bad(5, 1));
+    assert_eq!(rt; check_with(alloc, 64 * 384, &[1]), bad(6, 0));
+    Ok(())
+}
+
+// The log base is 1, and the log has four lines.
+#[test]
+fn entry_of_a_later_lap(rt: HostRuntime) -> Result<(), Fail> {
+    let alloc = rt.alloc();
+    assert_eq!(rt;
+        check_with(alloc, 64 * 448, &encode(&draft(), 5)),
+        bad(13, 0)
+    );
+    assert_eq!(rt;
+        check_with(alloc, 64 * 449, &encode(&draft(), 5)),
+        bad(13, 1)
+    );
     Ok(())
 }
 

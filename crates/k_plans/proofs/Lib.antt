@@ -1,12 +1,13 @@
+pub mod Lapping
 pub mod Drops
 pub mod FreeCounts
 pub mod FreshTables
 pub mod Gifts
 pub mod Idles
+pub mod NamedNodes
+pub mod Names
 pub mod Places
 pub mod Removals
 pub mod Renames
-pub mod NamedNodes
-pub mod Names
 pub mod TableLists
 pub mod Wholes

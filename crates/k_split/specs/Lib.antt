@@ -3,6 +3,7 @@ pub mod Bytes
 pub mod Contents
 pub mod Faults
 pub mod Landed
+pub mod Laps
 pub mod Loans
 pub mod Looks
 pub mod Names

@@ -18,6 +18,7 @@ mod bytes;
 mod changes;
 mod dropping;
 mod faults;
+mod laps;
 mod laws;
 mod lending;
 mod looks;

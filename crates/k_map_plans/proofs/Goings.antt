@@ -3,6 +3,7 @@ use Rattle.std.proofs.Common.{◌≡◌, ◌⊎◌, ◌<◌, ◌≤◌, ◌+◌,
 use Rattle.std.specs.Prelude.{All, ◌&&◌, ◌==◌}
 use Rattle.std.proofs.lemmas.Bool.{both_ways, cases_lt, eq-eqb, ne_eqb}
 use Rattle.std.proofs.lemmas.Bool.Decides.{nat_tests}
+use Rattle.std.proofs.lemmas.List.{length-set}
 use Rattle.block_counts.specs.Counts.{chains_for}
 use Rattle.block_pool.specs.FreeSets.{is_among}
 use Rattle.disk_lines.specs.declared.Inode.{Inode}
@@ -22,7 +23,8 @@ use Rattle.k_plans.specs.Free.{is_free_block}
 use Rattle.k_plans.specs.Switching.{IsMapPlan, IsSetAside, WaitOnce}
 use Rattle.k_plans.specs.View.{TablesView}
 use Rattle.k_plans.specs.Whole.{IsWhole}
-use Rattle.map_rules.specs.Taken.{AreLowest, with_map}
+use Rattle.map_rules.specs.Taken.{AreLowest, switched, with_map}
+use Rattle.volume_facts.specs.Changes.{chain-set_same}
 use Rattle.volume_maps.specs.Hits.{in_chain-append}
 use Rattle.volume_maps.specs.Switches.{MaySwitch, counted-among, unused-data}
 use Rattle.volume_maps.specs.TakenLaws.{All-at, rising-distinct, rising-once}
@@ -117,6 +119,16 @@ module _ (t u : TablesView) (n ino : ℕ) (x : Inode) (blocks : List ℕ) (es fr
         once = both-once t u n blocks aside may.once;
         same = λ b. omega (arith, waits b, in_chain-append t.waiting blocks b, may.same b);
       })
+
+-- the chain that it has then
+pub switched-chain_is : (v : Volume) (ino : ℕ) (x : Inode) (blocks : List ℕ) (es : List Extent) (w : Volume)
+    → w ≡ switched ino x blocks es v → IsWhole w → ino < length v.inodes → chain (switched ino x blocks es v) ino ≡ blocks
+switched-chain_is v ino x blocks es w is whole below =
+    let count : length (switched ino x blocks es v).chains ≡ length (switched ino x blocks es v).inodes =
+    (subst IsWhole is whole).maps.chain_count
+    in
+    chain-set_same ino (with_map blocks es x) blocks es v
+    (omega (arith, below, count, length-set v.chains ino blocks, length-set v.inodes ino (with_map blocks es x)))
 
 -- a plan with one new map
 pub plan-one : (t : TablesView) (w : Volume) (b : List Entry) (c : NewChain) → IsCanonical c.extents

@@ -3,5 +3,7 @@ mod ContentLaws
 mod FreshDevices
 mod LandLaws
 mod LookLaws
+mod MapAnswers
+mod MapLands
 mod OpenLaws
 mod TreeLaws

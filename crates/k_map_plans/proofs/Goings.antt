@@ -1,7 +1,7 @@
 -- An inode goes over to a map in a chain of blocks that were set aside.
 use Rattle.std.proofs.Common.{◌≡◌, ◌⊎◌, ◌<◌, ◌≤◌, ◌+◌, ℕ, Bool, true, false, not, get_or, List, [], ◌∷◌, ◌++◌, length, refl, sym, ◌∙◌, ap, inl, inr, arith, subst}
-use Rattle.std.specs.Prelude.{All, ◌&&◌, ◌==◌}
-use Rattle.std.proofs.lemmas.Bool.{both_ways, cases_lt, eq-eqb, ne_eqb}
+use Rattle.std.specs.Prelude.{All, ◌&&◌, ◌||◌, ◌==◌}
+use Rattle.std.proofs.lemmas.Bool.{both_ways, cases_Bool, cases_lt, eq-eqb, ne_eqb}
 use Rattle.std.proofs.lemmas.Bool.Decides.{nat_tests}
 use Rattle.std.proofs.lemmas.List.{length-set}
 use Rattle.block_counts.specs.Counts.{chains_for}
@@ -32,6 +32,18 @@ use Rattle.volume_uses.specs.Uses.{in_chain, in_map, is_unused}
 use Rattle.k_map_plans.specs.Going.{MayGoOver}
 
 -- ---- blocks that are set aside
+
+pub among-append : (xs ys : List ℕ) (b : ℕ) → is_among (xs ++ ys) b ≡ (is_among xs b || is_among ys b)
+among-append [] ys b = refl
+among-append (x ∷ xs) ys b = elim (cases_Bool (x == b)) [
+  | inl here ↦ rw here refl
+  | inr away ↦ rw away (among-append xs ys b)
+]
+
+pub not_or : (u x y : Bool) → (u && not x && not y) ≡ (u && not (x || y))
+not_or true true y = refl
+not_or true false y = refl
+not_or false x y = refl
 
 free-unused : (t : TablesView) (b : ℕ) → is_free_block t b ≡ true → is_unused t.volume b ≡ true
 free-unused t b free = first (is_unused t.volume b) (not (is_among t.waiting b)) free

@@ -13,5 +13,7 @@
 mod going;
 mod lists;
 mod sizing;
+mod staging;
 
 pub use sizing::plan_size;
+pub use staging::{plan_give_up, plan_preallocate};

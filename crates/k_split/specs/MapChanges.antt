@@ -1,7 +1,7 @@
 -- What a change of maps answers and leaves.
-use Rattle.std.specs.Prelude.{◌≡◌, ◌⊎◌, ◌<◌, ◌&&◌, ◌/◌, not, ℕ, Bool, true, false, List, length, Result, Ok, Err}
+use Rattle.std.specs.Prelude.{◌≡◌, ◌⊎◌, ◌<◌, ◌&&◌, ◌/◌, not, ℕ, Bool, true, false, List, [], length, Result, Ok, Err}
 use Rattle.pm_words.specs.declared.Cell.{Cell}
-use Rattle.pm_words.specs.Cells.{cell, Settles}
+use Rattle.pm_words.specs.Cells.{cell, is_single, Settles}
 use Rattle.pm_words.specs.Frames.{SameLent, KeepsSingle}
 use Rattle.pm_words.specs.Images.{Follows}
 use Rattle.pm_words.specs.Powers.{is_on, Supply}
@@ -9,7 +9,8 @@ use Rattle.block_pool.specs.FreeSets.{is_among}
 use Rattle.disk_places.specs.Journal.{is_journal_word}
 use Rattle.disk_places.specs.Places.{is_journaled_line}
 use Rattle.disk_rules.specs.Placed.{AreSingle, IsOutside}
-use Rattle.disk_rules.specs.Volume.{Volume, chain}
+use Rattle.disk_rules.specs.Volume.{Volume, chain, extents}
+use Rattle.extent_words.specs.Extents.{covers}
 use Rattle.k_journal.specs.Commits.{TakesAStep}
 use Rattle.k_journal.specs.declared.batches.Entry.{Entry}
 use Rattle.k_land.specs.Plans.{NewChain, blocks_of, new_at}
@@ -18,7 +19,7 @@ use Rattle.k_plans.specs.Switching.{IsMapPlan}
 use Rattle.k_plans.specs.Whole.{IsWhole}
 use Rattle.k_rules.specs.Stands.{IsOldOrNew, Stands}
 use Rattle.k_rules.specs.View.{View}
-use Rattle.map_rules.specs.Changes.{IsSized}
+use Rattle.map_rules.specs.Changes.{given_up, IsPreallocated, IsSized}
 use Rattle.volume_uses.specs.Uses.{is_unused}
 use Rattle.k_split.specs.declared.faults.KFault.{KFault}
 use Rattle.k_split.specs.Answers.{IsOff}
@@ -73,6 +74,26 @@ pub record IsSizedWith (ino size : ℕ) (old : View) (w : Volume) (blocks : List
 
 abbrev pub IsSizeAnswer : ℕ → ℕ → View → View → Result (Unit {0}) KFault → Type 0
 IsSizeAnswer ino size old new result = IsMapAnswer (IsSizedWith ino size old) old new result
+
+-- a staging file gives up its blocks: no block is written
+pub record IsGivenUpWith (staging : ℕ) (old : View) (w : Volume) (blocks : List ℕ) : Type 0 where
+  pub given : w ≡ given_up staging old.volume
+  pub written : blocks ≡ []
+
+abbrev pub IsGiveUpAnswer : ℕ → View → View → Result (Unit {0}) KFault → Type 0
+IsGiveUpAnswer staging old new result = IsMapAnswer (IsGivenUpWith staging old) old new result
+
+-- a staging file gets blocks: those of its new chain are written
+pub record IsPreallocatedWith (staging count : ℕ) (old : View) (w : Volume) (blocks : List ℕ) : Type 0 where
+  pub preallocated : IsPreallocated (is_free_in old) staging count old.volume w
+  pub written : blocks ≡ chain w staging
+
+abbrev pub IsPreallocateAnswer : ℕ → ℕ → View → View → Result (Unit {0}) KFault → Type 0
+IsPreallocateAnswer staging count old new result = IsMapAnswer (IsPreallocatedWith staging count old) old new result
+
+-- each word of the blocks of a staging file has one candidate, so that none is lent
+abbrev pub IsStagedSingle : ℕ → Volume → List Cell → Type 0
+IsStagedSingle staging v d = (i : ℕ) → covers (extents v staging) (i / 512) ≡ true → is_single (cell d i) ≡ true
 
 -- ---- a plan with new maps, and what its landing leaves
 

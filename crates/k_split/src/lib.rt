@@ -24,6 +24,7 @@ mod mapping;
 mod opening;
 mod removing;
 mod renaming;
+mod staging;
 mod state;
 mod trees;
 

@@ -45,7 +45,7 @@ not_or true true y = refl
 not_or true false y = refl
 not_or false x y = refl
 
-free-unused : (t : TablesView) (b : ℕ) → is_free_block t b ≡ true → is_unused t.volume b ≡ true
+pub free-unused : (t : TablesView) (b : ℕ) → is_free_block t b ≡ true → is_unused t.volume b ≡ true
 free-unused t b free = first (is_unused t.volume b) (not (is_among t.waiting b)) free
   where
     first : (y z : Bool) → (y && z) ≡ true → y ≡ true
@@ -82,6 +82,11 @@ module _ (t u : TablesView) (n : ℕ) (taken : List ℕ) (aside : IsSetAside n t
   pub aside-volume : u.volume ≡ t.volume
   aside-volume = ap (λ (x : TablesView). x.volume) aside.after
 
+-- where nothing waited
+pub once-after : (t u : TablesView) (n : ℕ) (taken : List ℕ) → t.waiting ≡ [] → IsSetAside n taken t u → WaitOnce u
+once-after t u n taken idle aside =
+    aside-once t u n taken aside (λ b. let none : in_chain t.waiting b ≡ 0 = ap (λ ws. in_chain ws b) idle in omega (arith, none))
+
 -- ---- the line of an inode with a map
 
 -- a chain of so many blocks, none of them block 0
@@ -113,7 +118,7 @@ fields-fit x blocks es holder fields size above = by x.kind holder fields
 
 -- ---- it goes over
 
-data-above : (v : Volume) (b : ℕ) → is_data_block v.geometry b ≡ true → 1 ≤ b
+pub data-above : (v : Volume) (b : ℕ) → is_data_block v.geometry b ≡ true → 1 ≤ b
 data-above v b in_data = grind (arith, nat_tests, in_data)
 
 module _ (t u : TablesView) (n ino : ℕ) (x : Inode) (blocks : List ℕ) (es freed : List Extent) (waiting : List ℕ)

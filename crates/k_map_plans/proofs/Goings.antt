@@ -1,8 +1,9 @@
 -- An inode goes over to a map in a chain of blocks that were set aside.
 use Rattle.std.proofs.Common.{◌≡◌, ◌⊎◌, ◌<◌, ◌≤◌, ◌+◌, ℕ, Bool, true, false, not, get_or, List, [], ◌∷◌, ◌++◌, length, refl, sym, ◌∙◌, ap, inl, inr, arith, subst}
-use Rattle.std.specs.Prelude.{All, ◌&&◌, ◌==◌}
-use Rattle.std.proofs.lemmas.Bool.{both_ways, cases_lt, eq-eqb, ne_eqb}
+use Rattle.std.specs.Prelude.{All, ◌&&◌, ◌||◌, ◌==◌}
+use Rattle.std.proofs.lemmas.Bool.{both_ways, cases_Bool, cases_lt, eq-eqb, ne_eqb}
 use Rattle.std.proofs.lemmas.Bool.Decides.{nat_tests}
+use Rattle.std.proofs.lemmas.List.{length-set}
 use Rattle.block_counts.specs.Counts.{chains_for}
 use Rattle.block_pool.specs.FreeSets.{is_among}
 use Rattle.disk_lines.specs.declared.Inode.{Inode}
@@ -22,7 +23,8 @@ use Rattle.k_plans.specs.Free.{is_free_block}
 use Rattle.k_plans.specs.Switching.{IsMapPlan, IsSetAside, WaitOnce}
 use Rattle.k_plans.specs.View.{TablesView}
 use Rattle.k_plans.specs.Whole.{IsWhole}
-use Rattle.map_rules.specs.Taken.{AreLowest, with_map}
+use Rattle.map_rules.specs.Taken.{AreLowest, switched, with_map}
+use Rattle.volume_facts.specs.Changes.{chain-set_same}
 use Rattle.volume_maps.specs.Hits.{in_chain-append}
 use Rattle.volume_maps.specs.Switches.{MaySwitch, counted-among, unused-data}
 use Rattle.volume_maps.specs.TakenLaws.{All-at, rising-distinct, rising-once}
@@ -31,7 +33,19 @@ use Rattle.k_map_plans.specs.Going.{MayGoOver}
 
 -- ---- blocks that are set aside
 
-free-unused : (t : TablesView) (b : ℕ) → is_free_block t b ≡ true → is_unused t.volume b ≡ true
+pub among-append : (xs ys : List ℕ) (b : ℕ) → is_among (xs ++ ys) b ≡ (is_among xs b || is_among ys b)
+among-append [] ys b = refl
+among-append (x ∷ xs) ys b = elim (cases_Bool (x == b)) [
+  | inl here ↦ rw here refl
+  | inr away ↦ rw away (among-append xs ys b)
+]
+
+pub not_or : (u x y : Bool) → (u && not x && not y) ≡ (u && not (x || y))
+not_or true true y = refl
+not_or true false y = refl
+not_or false x y = refl
+
+pub free-unused : (t : TablesView) (b : ℕ) → is_free_block t b ≡ true → is_unused t.volume b ≡ true
 free-unused t b free = first (is_unused t.volume b) (not (is_among t.waiting b)) free
   where
     first : (y z : Bool) → (y && z) ≡ true → y ≡ true
@@ -68,6 +82,11 @@ module _ (t u : TablesView) (n : ℕ) (taken : List ℕ) (aside : IsSetAside n t
   pub aside-volume : u.volume ≡ t.volume
   aside-volume = ap (λ (x : TablesView). x.volume) aside.after
 
+-- where nothing waited
+pub once-after : (t u : TablesView) (n : ℕ) (taken : List ℕ) → t.waiting ≡ [] → IsSetAside n taken t u → WaitOnce u
+once-after t u n taken idle aside =
+    aside-once t u n taken aside (λ b. let none : in_chain t.waiting b ≡ 0 = ap (λ ws. in_chain ws b) idle in omega (arith, none))
+
 -- ---- the line of an inode with a map
 
 -- a chain of so many blocks, none of them block 0
@@ -99,7 +118,7 @@ fields-fit x blocks es holder fields size above = by x.kind holder fields
 
 -- ---- it goes over
 
-data-above : (v : Volume) (b : ℕ) → is_data_block v.geometry b ≡ true → 1 ≤ b
+pub data-above : (v : Volume) (b : ℕ) → is_data_block v.geometry b ≡ true → 1 ≤ b
 data-above v b in_data = grind (arith, nat_tests, in_data)
 
 module _ (t u : TablesView) (n ino : ℕ) (x : Inode) (blocks : List ℕ) (es freed : List Extent) (waiting : List ℕ)
@@ -117,6 +136,16 @@ module _ (t u : TablesView) (n ino : ℕ) (x : Inode) (blocks : List ℕ) (es fr
         once = both-once t u n blocks aside may.once;
         same = λ b. omega (arith, waits b, in_chain-append t.waiting blocks b, may.same b);
       })
+
+-- the chain that it has then
+pub switched-chain_is : (v : Volume) (ino : ℕ) (x : Inode) (blocks : List ℕ) (es : List Extent) (w : Volume)
+    → w ≡ switched ino x blocks es v → IsWhole w → ino < length v.inodes → chain (switched ino x blocks es v) ino ≡ blocks
+switched-chain_is v ino x blocks es w is whole below =
+    let count : length (switched ino x blocks es v).chains ≡ length (switched ino x blocks es v).inodes =
+    (subst IsWhole is whole).maps.chain_count
+    in
+    chain-set_same ino (with_map blocks es x) blocks es v
+    (omega (arith, below, count, length-set v.chains ino blocks, length-set v.inodes ino (with_map blocks es x)))
 
 -- a plan with one new map
 pub plan-one : (t : TablesView) (w : Volume) (b : List Entry) (c : NewChain) → IsCanonical c.extents

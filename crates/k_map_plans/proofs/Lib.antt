@@ -1,2 +1,4 @@
 mod Goings
+mod Moves
 mod Sizes
+mod Stagings

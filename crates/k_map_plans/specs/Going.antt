@@ -6,7 +6,7 @@ use Rattle.disk_lines.specs.declared.Inode.{Inode}
 use Rattle.disk_lines.specs.declared.Kind.TheVariants.{File, Staging}
 use Rattle.disk_lines.specs.Lines.{is_inode}
 use Rattle.disk_rules.specs.Rules.{file_blocks_of}
-use Rattle.disk_rules.specs.Volume.{extents, inode}
+use Rattle.disk_rules.specs.Volume.{chain, extents, inode}
 use Rattle.k_journal.specs.declared.batches.Entry.{Entry}
 use Rattle.k_land.specs.Plans.{NewChain}
 use Rattle.k_plans.specs.Free.{free_blocks, is_free_block}
@@ -32,4 +32,5 @@ pub record HasGoneOver (ino : ℕ) (x : Inode) (es : List Extent) (old new : Tab
   pub extents_are : c.extents ≡ es
   pub lowest : AreLowest (is_free_block old) (chains_for (length es)) c.blocks
   pub after : new.volume ≡ switched ino x c.blocks es old.volume
+  pub chain_is : c.blocks ≡ chain new.volume ino
   pub plan : IsMapPlan (c ∷ []) old.volume new.volume b

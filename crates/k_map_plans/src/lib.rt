@@ -12,6 +12,10 @@
 
 mod going;
 mod lists;
+mod moving;
 mod sizing;
+mod staging;
 
+pub use moving::plan_move;
 pub use sizing::plan_size;
+pub use staging::{plan_give_up, plan_preallocate};

@@ -2,6 +2,7 @@
 ghost use Rattle.std.specs.Prelude.{◌≡◌, ◌≤◌, ◌+◌, ◌∷◌, [], IfOk, OnErr, OnOk};
 ghost use Rattle.disk_lines.specs.Lines.{most_bytes};
 ghost use Rattle.disk_places.specs.Places.{reserve};
+ghost use Rattle.disk_rules.specs.Volume.{chain};
 ghost use Rattle.k_map_plans.specs.Plans.{IsLiveFile, IsSizePlan};
 ghost use Rattle.k_plans.specs.Free.{free_blocks, is_free_block};
 ghost use Rattle.k_plans.specs.Switching.{IsMapPlan, WaitOnce};
@@ -34,6 +35,7 @@ fn cut_map(
         (IsSized (is_free_block tables.old) ino size tables.old.volume tables.new.volume) }
     ensures plan { IfOk result (λ c.
         IsMapPlan (c ∷ []) tables.old.volume tables.new.volume batch.new) }
+    ensures chain { IfOk result (λ c. c.blocks ≡ chain tables.new.volume ino) }
     ensures err { OnErr result (tables.new.volume ≡ tables.old.volume) }
     ensures no_lines { OnErr result (batch.new ≡ []) }
 {

@@ -65,11 +65,12 @@ impl Tables {
     pub fn set_aside(&mut self, count: u32) -> Result<Option<Vec<u32>>, AllocError>
         ensures taken { IfOk result (λ answer.
             IfSome answer (λ taken. IsSetAside count taken.items self.old self.new)) }
-        ensures enough { IfOk result (λ answer. IfSome answer (λ _.
-            count ≤ free_blocks self.old)) }
+        ensures left { IfOk result (λ answer. IfSome answer (λ _.
+            free_blocks self.new + count ≡ free_blocks self.old)) }
         ensures few { IfOk result (λ answer. IfNone answer (free_blocks self.old < count)) }
         ensures none { IfOk result (λ answer. IfNone answer (self.new ≡ self.old)) }
         ensures err { OnErr result (self.new ≡ self.old) }
+        ensures whole { IsWhole self.old.volume }
     {
         self.waiting.reserve(count as usize)?;
         let Some(taken) = self.pool.take(count)? else {

@@ -37,7 +37,7 @@ awake t d batched lost k p same asleep on =
     not_lost lost (is_on p) (subst (λ (x : View). x.lost ≡ true → is_on p ≡ false) (sym same) asleep) on
 
 -- data blocks that no staging file has stay single
-unstaged-kept : (v w : Volume) (d e : List Cell) → w.geometry ≡ v.geometry → KeepsStaged v w → KeepsSingle d e
+pub unstaged-kept : (v w : Volume) (d e : List Cell) → w.geometry ≡ v.geometry → KeepsStaged v w → KeepsSingle d e
     → IsUnstagedSingle v d → IsUnstagedSingle w e
 unstaged-kept v w d e geometry staged singles single i in_data free =
     singles i

@@ -5,5 +5,7 @@ mod FreshDevices
 mod LandLaws
 pub mod LoanLaws
 mod LookLaws
+mod MapAnswers
+mod MapLands
 mod OpenLaws
 mod TreeLaws

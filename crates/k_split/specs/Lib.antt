@@ -6,5 +6,6 @@ pub mod Landed
 pub mod Laps
 pub mod Loans
 pub mod Looks
+pub mod MapChanges
 pub mod Names
 pub mod Order

@@ -3,3 +3,4 @@ pub mod Hits
 pub mod Laws
 pub mod Switches
 pub mod TakenLaws
+pub mod Shorts

@@ -1,7 +1,7 @@
 use Rattle.std.proofs.Common.{◌≡◌, ◌∙◌, ◌+◌, ◌∷◌, [], ℕ, List, length, ap, arith, subst, sym}
 use Rattle.block_counts.specs.Counts.{chains_for}
 use Rattle.disk_rules.specs.Chains.{first_or_zero}
-use Rattle.disk_rules.specs.Volume.{Volume}
+use Rattle.disk_rules.specs.Volume.{Volume, chain}
 use Rattle.extent_words.specs.Extents.{IsCanonical}
 use Rattle.extent_words.specs.declared.Extent.{Extent}
 use Rattle.k_land.specs.PlanLaws.{turns-none}
@@ -14,7 +14,7 @@ use Rattle.k_plans.specs.View.{TablesView}
 use Rattle.map_rules.specs.Taken.{AreLowest, switched}
 use Rattle.volume_maps.specs.Switches.{MaySwitch}
 use Rattle.volume_uses.specs.Uses.{in_chain, in_map}
-use Rattle.k_map_plans.proofs.Goings.{aside-once, aside-volume, may-switch, plan-one}
+use Rattle.k_map_plans.proofs.Goings.{aside-once, aside-volume, may-switch, plan-one, switched-chain_is}
 use Rattle.k_map_plans.proofs.going.go_over.Goals as goal
 
 pub returns-in_err-blocks-clause-once : goal.returns-in_err-blocks-clause-once
@@ -69,11 +69,16 @@ returns-clause-gone c =
     c.switch.ensures.turns (new ∷ []) t.volume
     (NewMap 0 (omega arith) (ap first_or_zero chain_is) (ap (λ (es : List Extent). length es) (own_is ∙ sym written_is)) chain_is (own_is ∙ sym written_is)) none
     in
+    let after : c.switch.new.self.volume ≡ switched c.args.ino c.args.inode.now c.in-Some.blocks.items c.args.map.now t.volume =
+    ap (λ (x : TablesView). x.volume) c.switch.ensures.switched
+    ∙ (λ i. switched c.args.ino c.args.inode.now (chain_is i) (own_is i) (vol i))
+    in
     record {
       extents_are = written_is;
       lowest = lowest;
-      after = ap (λ (x : TablesView). x.volume) c.switch.ensures.switched
-          ∙ (λ i. switched c.args.ino c.args.inode.now (chain_is i) (own_is i) (vol i));
+      after = after;
+      chain_is = sym (ap (λ (y : Volume). chain y c.args.ino) after
+          ∙ switched-chain_is t.volume c.args.ino c.args.inode.now c.in-Some.blocks.items c.args.map.now c.switch.new.self.volume after c.switch.ensures.whole c.requires.may.below);
       plan = plan-one t c.switch.new.self.volume c.switch.new.batch new (subst IsCanonical (sym written_is) c.in_ok-written.ensures.canonical)
           (subst (λ (es : List Extent). AreLowest (is_free_block t) (chains_for (length es)) c.in-Some.blocks.items) (sym written_is) lowest)
           (subst (λ (y : Volume). Turns y.geometry (new ∷ []) t.volume c.switch.new.self.volume c.switch.new.batch) vol turns)

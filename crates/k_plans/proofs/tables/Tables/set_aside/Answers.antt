@@ -36,11 +36,12 @@ invariant_of-self-2 c =
     subst (λ ws. AreTables (with_waiting ws (the_view c.self.inside)) c.take.new.self) (sym (waiting_is c))
     (set_aside-tables (the_view c.self.inside) c.args.count c.in-Some.taken.items c.self.inside.pool c.take.new.self c.self.invariant (taken_is c))
 
-pub returns-clause-enough : goal.returns-clause-enough
-returns-clause-enough c =
+pub returns-clause-left : goal.returns-clause-left
+returns-clause-left c =
     omega (
       arith,
       (taken_is c).left,
       pool-counted (the_view c.self.inside) c.self.inside.pool c.self.invariant.pool_is,
+      pool-counted (with_waiting c.extend_from_slice-noted.new.self.items (the_view c.self.inside)) c.take.new.self (invariant_of-self-2 c).pool_is,
       ap free_blocks c.self.view_is,
     )

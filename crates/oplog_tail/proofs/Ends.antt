@@ -27,6 +27,7 @@ pub record IsEnd (key : Start) (v : Knows) (xs : List Slot) : Type 0 where
   pub once : (x : ℕ) → times_in x v ≡ once_below x tail
   pub few : tail ≤ length key.lines.value.items + key.seats
   pub size : length xs ≡ length key.lines.value.items
+  pub past : (n : ℕ) → Contains v.full n → length key.lines.value.items ≤ n
   pub single : (n : ℕ) → n < length key.lines.value.items → IsSingle (line_at key.lines.value.items n).cells
   pub claimed : (c : Claim) → Contains v.claims c → (c.number < length key.lines.value.items) × ((line : Part) × (get_elem? xs c.number ≡ some (Filled line c.entry))
       × (line.place ≡ (line_at key.lines.value.items c.number).place) × Holds c.mark c.entry (key.base + c.number) (line_at key.lines.value.items c.number).cells line.cells)
@@ -38,6 +39,7 @@ ends key words xs id v final some_seat all idle = record {
   once = once;
   few = tail_most key.seats key.base start kept.tail kept.marks s.homes s.views rule;
   size = sym final.3 ∙ rule.size;
+  past = own.past;
   single = rule.single;
   claimed = λ c has. let is = own.claims c has in
       (omega (arith, within_of_at s.homes c.number (some (Filled is.line c.entry)) is.home, rule.size), (is.line, final.4 c.number (Filled is.line c.entry) is.home, is.place, is.holds));

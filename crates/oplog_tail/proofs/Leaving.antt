@@ -1,10 +1,12 @@
 -- The lines of a log that was closed, by the claims of its seats.
 use Rattle.std.proofs.Common.{◌≡◌, ◌≢◌, ◌⊎◌, ℕ, zero, suc, ◌+◌, ◌<◌, ◌≤◌, List, [], ◌∷◌, All, length, map, sym, refl, ap, ◌∙◌, subst, inl, inr, ⊎_elim, arith}
-use Rattle.std.specs.Prelude.{Contains, sum_by, None}
+use Rattle.std.specs.Prelude.{Contains, min, sum_by, None, Option, Some}
 use Rattle.std.proofs.lemmas.Bool.{cases_lt}
+use Rattle.std.proofs.lemmas.Bool.Decides.{nat_tests}
 use Rattle.std.proofs.lemmas.List.{length-map}
 use Rattle.std.proofs.Math.ListN.{get_or-map}
-use Rattle.std.proofs.lemmas.List.Sums.{sum_by-cons}
+use Rattle.std.proofs.lemmas.List.Elements.{Contains-append_left, Contains-append_right}
+use Rattle.std.proofs.lemmas.List.Sums.{get_or-le-sum_by, sum_by-cons}
 use mathlib.Core.Option.{some}
 use lib.ListN.{get_elem?}
 use Rattle.pm_words.specs.declared.Cell.{Cell}
@@ -14,6 +16,7 @@ use Rattle.pm_words.specs.Parts.{Part}
 use Rattle.disk_lines.specs.declared.Draft.{Draft}
 use Rattle.disk_rules.specs.LogRule.{cells_of_line, HoldsClaims, HoldsEntry, IsAsAtFirst}
 use Rattle.oplog_tail.specs.declared.views.Claim.{Claim}
+use Rattle.oplog_tail.specs.declared.views.Full.{Full}
 use Rattle.oplog_tail.specs.declared.views.Knows.{Knows}
 use Rattle.oplog_tail.specs.declared.views.Mark.{Mark}
 use Rattle.oplog_tail.specs.declared.views.Slot.{Slot}
@@ -23,12 +26,23 @@ use Rattle.oplog_tail.specs.EntryLines.{Holds, IsSingle}
 use Rattle.oplog_tail.specs.Views.{claims_with, held_with, times, number_of}
 use Rattle.oplog_tail.specs.Rule.{line_at}
 use Rattle.oplog_tail.specs.Seats.{pairs_of, SeatView}
-use Rattle.oplog_tail.specs.Logs.{LogView}
-use Rattle.oplog_tail.specs.Closing.{AllWritten, AreNumbered, cells_of, claims_of_all, first_words, full_number, HasLine, LeavesLines, line_in, seat_with}
+use Rattle.oplog_tail.specs.Logs.{capacity, LogView}
+use Rattle.oplog_tail.specs.Closing.{AllWritten, AreNumbered, cells_of, claims_of_all, first_words, full_number, HasLine, LeavesLines, line_in, seat_with, AreFirst, claim_with}
 use Rattle.oplog_tail.proofs.Ends.{IsEnd}
 use Rattle.oplog_tail.proofs.Gathering.{full_numbers}
 use Rattle.oplog_tail.proofs.Slots.{get_of_at}
-use Rattle.view_sums.specs.Numbers.{with_of_member, member_of_with, count_with-append}
+use Rattle.view_sums.specs.Numbers.{with_of_member, member_of_with, count_with-append, count_with, once_below, once_past, below_of_once}
+
+-- what no element has is not counted
+none_counted : {A : Type 0} (f : A → ℕ) (x : ℕ) (l : List A) → ((a : A) → Contains l a → f a ≢ x) → count_with f x l ≡ 0
+none_counted f x l none = ⊎_elim
+    (λ (lone : count_with f x l < 1). omega (arith, lone))
+    (λ (counted : 1 ≤ count_with f x l). let its = member_of_with f l x counted in absurd (none its.0 its.1 its.2))
+    (cases_lt (count_with f x l) 1)
+
+Contains-only : (m n : ℕ) → Contains (m ∷ []) n → m ≡ n
+Contains-only m n (zero, below, is) = is
+Contains-only m n (suc k, below, is) = absurd (omega arith)
 
 -- a number is that of a claim or of none
 claimed_or_not : (claims : List Claim) (n : ℕ) → ((c : Claim) × Contains claims c × (c.number ≡ n)) ⊎ ((c : Claim) → Contains claims c → c.number ≢ n)
@@ -93,6 +107,21 @@ counted_by_seats x [] = refl
 counted_by_seats x (s ∷ seats) =
     omega (arith, sum_by-cons (seat_with x) s seats, count_with-append number_of x s.claims (claims_of_all seats), count_with-append (λ (n : ℕ). n) x (full_number s.full) (full_numbers seats), counted_by_seats x seats)
 
+-- a claim of one of the seats, and the number of a seat's answer
+claim_of_seat : (seats : List SeatView) (s : SeatView) (c : Claim) → Contains seats s → Contains s.claims c → Contains (claims_of_all seats) c
+claim_of_seat [] s c is has = let below = is.1 in absurd (omega arith)
+claim_of_seat (r ∷ seats) s c (zero, below, same) has = Contains-append_left r.claims (claims_of_all seats) c (subst (λ (q : SeatView). Contains q.claims c) (sym same) has)
+claim_of_seat (r ∷ seats) s c (suc k, below, same) has =
+    Contains-append_right r.claims (claims_of_all seats) c (claim_of_seat seats s c (k, omega (arith, below), same) has)
+
+number_of_seat : (seats : List SeatView) (s : SeatView) (full : Full) → Contains seats s → s.full ≡ Some full → Contains (full_numbers seats) full.claimed
+number_of_seat [] s full is has = let below = is.1 in absurd (omega arith)
+number_of_seat (r ∷ seats) s full (zero, below, same) has =
+    Contains-append_left (full_number r.full) (full_numbers seats) full.claimed
+    (subst (λ (o : Option Full). Contains (full_number o) full.claimed) (sym (ap (λ (q : SeatView). q.full) same ∙ has)) (0, omega arith, refl))
+number_of_seat (r ∷ seats) s full (suc k, below, same) has =
+    Contains-append_right (full_number r.full) (full_numbers seats) full.claimed (number_of_seat seats s full (k, omega (arith, below), same) has)
+
 -- THE NUMBERS
 pub numbered : (log : LogView) (key : Start) (v : Knows) (xs : List Slot) (seats : List SeatView) → log.lines ≡ key.lines.value.items → log.seats ≡ key.seats → v.claims ≡ claims_of_all seats → v.full ≡ full_numbers seats
     → v.held ≡ None → IsEnd key v xs → AreNumbered log seats
@@ -100,8 +129,66 @@ numbered log key v xs seats lines count claims full idle end = record {
   tail = end.tail;
   once = λ x.
       omega (arith, end.once x, ap (held_with x) idle, counted_by_seats x seats, ap (λ (cs : List Claim). claims_with x cs) claims, ap (λ (ns : List ℕ). times x ns) full);
-  few = omega (arith, end.few, count, ap (λ (l : List Part). length l) lines);
-}
+  few = omega (arith, end.few, count, long);
+  below = λ s c is has.
+      let its = end.claimed c (subst (λ (cs : List Claim). Contains cs c) (sym claims) (claim_of_seat seats s c is has)) in
+      let within = its.0 in
+      omega (arith, within, long);
+  past = λ s f is has. omega (arith, end.past f.claimed (subst (λ (ns : List ℕ). Contains ns f.claimed) (sym full) (number_of_seat seats s f is has)), long);
+} where
+  long : length log.lines ≡ length key.lines.value.items
+  long = ap (λ (l : List Part). length l) lines
+
+-- THE CLAIMS
+
+-- a sum of nothing, and of two
+sum_nothing : (f : SeatView → ℕ) (seats : List SeatView) → ((s : SeatView) → Contains seats s → f s ≡ 0) → sum_by f seats ≡ 0
+sum_nothing f [] none = refl
+sum_nothing f (s ∷ seats) none =
+    omega (arith, sum_by-cons f s seats, none s (0, omega arith, refl), sum_nothing f seats (λ r has. none r (suc has.0, omega (arith, has.1), has.2)))
+
+abbrev full_with : ℕ → SeatView → ℕ
+full_with x s = times x (full_number s.full)
+
+sum_both : (x : ℕ) (seats : List SeatView) → sum_by (seat_with x) seats ≡ sum_by (claim_with x) seats + sum_by (full_with x) seats
+sum_both x [] = refl
+sum_both x (s ∷ seats) = omega (arith, sum_by-cons (seat_with x) s seats, sum_by-cons (claim_with x) s seats, sum_by-cons (full_with x) s seats, sum_both x seats)
+
+-- a number that is no seat's answer, and one that is no seat's claim
+no_answer : (x : ℕ) (o : Option Full) → ((full : Full) → o ≡ Some full → full.claimed ≢ x) → times x (full_number o) ≡ 0
+no_answer x None none = refl
+no_answer x (Some full) none = none_counted (λ (n : ℕ). n) x (full.claimed ∷ []) (λ n has. λ e. none full refl (Contains-only full.claimed n has ∙ e))
+
+no_claim : (x : ℕ) (claims : List Claim) → ((c : Claim) → Contains claims c → c.number ≢ x) → claims_with x claims ≡ 0
+no_claim x claims none = none_counted number_of x claims none
+
+pub first_numbers : (log : LogView) (seats : List SeatView) → AreNumbered log seats → AreFirst log seats
+first_numbers log seats are = record { upto = min are.tail (capacity log); within = min-le; once = once; full = full } where
+  min-le : min are.tail (capacity log) ≤ capacity log
+  min-le = omega arith
+
+  once : (x : ℕ) → sum_by (claim_with x) seats ≡ once_below x (min are.tail (capacity log))
+  once x = ⊎_elim
+      (λ (below : x < capacity log).
+      let none : sum_by (full_with x) seats ≡ 0 = sum_nothing (full_with x) seats (unanswered below) in
+      omega (arith, are.once x, sum_both x seats, none, same_below x below))
+      (λ (past : capacity log ≤ x).
+      sum_nothing (claim_with x) seats (λ s is. no_claim x s.claims (λ c has e. absurd (omega (arith, are.below s c is has, past, e)))) ∙ sym (once_past x (min are.tail (capacity log)) (omega (arith, past))))
+      (cases_lt x (capacity log)) where
+        unanswered : x < capacity log → (s : SeatView) → Contains seats s → full_with x s ≡ 0
+        unanswered below s is = no_answer x s.full (λ f has e. absurd (omega (arith, are.past s f is has, below, e)))
+
+        same_below : (y : ℕ) → y < capacity log → once_below y are.tail ≡ once_below y (min are.tail (capacity log))
+        same_below y below = grind (arith, nat_tests)
+
+  full : (s : SeatView) (f : Full) → Contains seats s → s.full ≡ Some f → min are.tail (capacity log) ≡ capacity log
+  full s f is has =
+      let counted : 1 ≤ times f.claimed (full_number s.full) = subst (λ (o : Option Full). 1 ≤ times f.claimed (full_number o)) (sym has) (with_of_member (λ (n : ℕ). n) (f.claimed ∷ []) f.claimed (0, omega arith, refl)) in
+      let within : seat_with f.claimed s ≤ sum_by (seat_with f.claimed) seats = term_of_member (seat_with f.claimed) seats s is in
+      let below : f.claimed < are.tail = below_of_once f.claimed are.tail (omega (arith, counted, within, are.once f.claimed)) in
+      omega (arith, below, are.past s f is has) where
+        term_of_member : (g : SeatView → ℕ) (all : List SeatView) (r : SeatView) → Contains all r → g r ≤ sum_by g all
+        term_of_member g all r member = omega (arith, get_or-le-sum_by g all member.0 r member.1, ap g member.2)
 
 -- a pair of a claim
 pair_of : (claims : List Claim) (n : ℕ) (d : Draft) → Contains (pairs_of claims) (n, d) → (c : Claim) × Contains claims c × (c.number ≡ n) × (c.entry ≡ d)

@@ -40,12 +40,25 @@ full_number (Some full) = full.claimed ∷ []
 abbrev pub seat_with : ℕ → SeatView → ℕ
 seat_with x s = claims_with x s.claims + times x (full_number s.full)
 
--- Each number below the tail was claimed by one seat, once, and no other number was; the numbers past the last line are no more
--- than the seats.
+-- Each number below the tail was claimed by one seat, once, and no other number was: as a claim where there is a line for it,
+-- and else as the answer of a seat that found the log full. Those past the last line are no more than the seats.
 pub record AreNumbered (log : LogView) (seats : List SeatView) : Type 0 where
   pub tail : ℕ
   pub once : (x : ℕ) → sum_by (seat_with x) seats ≡ once_below x tail
   pub few : tail ≤ capacity log + log.seats
+  pub below : (s : SeatView) (c : Claim) → Contains seats s → Contains s.claims c → c.number < capacity log
+  pub past : (s : SeatView) (full : Full) → Contains seats s → s.full ≡ Some full → capacity log ≤ full.claimed
+
+-- how often a seat claimed the number x below the number of lines
+abbrev pub claim_with : ℕ → SeatView → ℕ
+claim_with x s = claims_with x s.claims
+
+-- The claims of all seats have the numbers below `upto`, each once, and that is the number of lines where a seat found the log full.
+pub record AreFirst (log : LogView) (seats : List SeatView) : Type 0 where
+  pub upto : ℕ
+  pub within : upto ≤ capacity log
+  pub once : (x : ℕ) → sum_by (claim_with x) seats ≡ once_below x upto
+  pub full : (s : SeatView) (full : Full) → Contains seats s → s.full ≡ Some full → upto ≡ capacity log
 
 -- There are as many lines as the log was opened with, each in its place. That of a claim holds what the claim's mark says, and
 -- the others are as they were.

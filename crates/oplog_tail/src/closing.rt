@@ -1,11 +1,11 @@
 //! How a log is closed: its seats come together again, and its lines come out of the slots.
-ghost use Rattle.std.specs.Prelude.{◌≡◌, ◌≤◌, ◌<◌, ℕ, [], All, length, map, vec_capacity};
+ghost use Rattle.std.specs.Prelude.{◌≡◌, ◌≤◌, ◌<◌, ℕ, List, [], All, length, map, vec_capacity};
 ghost use Rattle.std.specs.List.{flat_map};
 ghost use Rattle.std.specs.Mem.Slots.{slots_items, slots_len, IsFull};
 ghost use Rattle.disk_rules.specs.LogRule.{HoldsClaims};
-ghost use Rattle.oplog_tail.specs.Closing.{AllWritten, AreNumbered, cells_of, claims_of_all, first_words, full_number, HasLine, LeavesLines, line_in};
-ghost use Rattle.oplog_tail.specs.Logs.{IsSeatOf};
-ghost use Rattle.oplog_tail.specs.Seats.{pairs_of};
+ghost use Rattle.oplog_tail.specs.Closing.{AllWritten, AreFirst, AreNumbered, cells_of, claims_of_all, first_words, full_number, HasLine, LeavesLines, line_in};
+ghost use Rattle.oplog_tail.specs.Logs.{IsSeatOf, LogView};
+ghost use Rattle.oplog_tail.specs.Seats.{pairs_of, SeatView};
 
 use crate::logs::OpLog;
 use crate::seats::LogSeat;
@@ -104,3 +104,9 @@ impl OpLog {
         take_lines(table.close_with(whole), room)
     }
 }
+
+/// Of a log that was closed: two claims have different numbers, and the claims' numbers are those below some number, which is
+/// the number of lines where a seat found the log full.
+pub fn claims_have_the_first_numbers()
+    ensures { (log : LogView) (seats : List SeatView) → AreNumbered log seats → AreFirst log seats }
+{}

@@ -24,6 +24,7 @@ mod views;
 mod writing;
 
 pub use appends::{Appended, Receipt};
+pub use closing::claims_have_the_first_numbers;
 pub use disk_lines::Draft;
 pub use logs::OpLog;
 pub use seats::LogSeat;

@@ -45,11 +45,14 @@ pub fn lines_of(alloc: Global, count: u64) -> Result<Vec<Line>, AllocError>
     first_lines(alloc, pm, count)
 }
 
-/// A draft of its own for each thread and each of its appends.
+/// A draft of its own for each thread and each of its appends, of order 1 or more.
 pub fn draft(thread: u64, append: u64) -> Draft {
     Draft {
         count: 1,
-        order: thread.wrapping_mul(1_000).wrapping_add(append),
+        order: thread
+            .wrapping_mul(1_000)
+            .wrapping_add(append)
+            .wrapping_add(1),
         ino: 5,
         generation: 1,
         file_block: 7,

@@ -1,9 +1,9 @@
+pub mod Bases
 pub mod Drops
 pub mod FreeCounts
 pub mod FreshTables
 pub mod Gifts
 pub mod Idles
-pub mod Lapping
 pub mod NamedNodes
 pub mod Names
 pub mod Places

@@ -17,7 +17,7 @@
 mod dropping;
 mod faults;
 mod giving;
-mod laps;
+mod log_base;
 mod making;
 mod removing;
 mod renaming;

@@ -1,4 +1,4 @@
--- The next lap: another log base, and all else as it was.
+-- Another log base, and all else as it was.
 use Rattle.std.proofs.Common.{◌≡◌, ◌+◌, ◌<◌, ◌≤◌, ℕ, List, [], arith, length, refl, ap, subst, sym}
 use Rattle.block_pool.specs.FreeSets.{FreeSet}
 use Rattle.disk_rules.specs.Reading.{base_set}
@@ -9,7 +9,6 @@ use Rattle.k_journal.specs.declared.batches.Entry.{Entry}
 use Rattle.k_land.specs.PlanLaws.{turns-none}
 use Rattle.k_land.specs.Plans.{NewChain, Turns}
 use Rattle.k_plans.specs.Free.{AreTables}
-use Rattle.k_plans.specs.Laps.{next_lap}
 use Rattle.k_plans.specs.Plans.{IsPlan}
 use Rattle.k_plans.specs.View.{TablesView, with_volume}
 use Rattle.k_plans.specs.Whole.{IsWhole}
@@ -27,17 +26,14 @@ base-whole base v whole = record {
   chains = whole.chains;
 }
 
-module _ (t : TablesView) (base : ℕ) (is : base ≡ t.volume.base + t.volume.geometry.log) where
-  pub lap-tables : (pool : FreeSet) → AreTables t pool → AreTables (with_volume (base_set base t.volume) t) pool
-  lap-tables pool are = tables-same t (base_set base t.volume) pool are (base-whole base t.volume are.whole) refl (λ b. owners-base t.volume base b)
+module _ (t : TablesView) (base : ℕ) where
+  pub base-tables : (pool : FreeSet) → AreTables t pool → AreTables (with_volume (base_set base t.volume) t) pool
+  base-tables pool are = tables-same t (base_set base t.volume) pool are (base-whole base t.volume are.whole) refl (λ b. owners-base t.volume base b)
 
-  lap-is : with_volume (base_set base t.volume) t ≡ with_volume (next_lap t.volume) t
-  lap-is = ap (λ n. with_volume (base_set n t.volume) t) is
-
-  pub lap-plan : (old : TablesView) (a b : List Entry) → t ≡ old → IsWhole t.volume → a ≡ [] → 0 < length b → length b ≤ length a + 1
+  pub base-plan : (old : TablesView) (a b : List Entry) → t ≡ old → IsWhole t.volume → a ≡ [] → 0 < length b → length b ≤ length a + 1
       → ((news : List NewChain) (v w : Volume) → Turns t.volume.geometry news v w a → Turns t.volume.geometry news v (base_set base w) b)
       → IsPlan old (with_volume (base_set base t.volume) t) b
-  lap-plan old a b same whole empty some count turns =
+  base-plan old a b same whole empty some count turns =
       plan-from t old (with_volume (base_set base t.volume) t) (base_set base t.volume) b same refl
       (turns [] t.volume t.volume (subst (Turns t.volume.geometry [] t.volume t.volume) (sym empty) (turns-none t.volume.geometry [] t.volume)))
       some (omega (arith, count, ap length empty)) (λ ino least most. refl) (base-whole base t.volume whole)

@@ -6,4 +6,5 @@ mod LookLaws
 mod MapAnswers
 mod MapLands
 mod OpenLaws
+mod Relinks
 mod TreeLaws

@@ -2,27 +2,34 @@
 use Rattle.std.specs.Prelude.{◌≡◌, ◌≢◌, ◌⊎◌, ◌<◌, ◌≤◌, ◌+◌, ℕ, [], length, refl}
 use Rattle.std.proofs.Common.{◌∙◌, sym, ap, subst, arith, inl, inr}
 use Rattle.std.proofs.lemmas.Bool.{cases_eq, cases_lt}
-use Rattle.std.proofs.lemmas.List.{get_or_past}
+use Rattle.std.proofs.lemmas.List.{get_or_past, length-set}
+use Rattle.disk_places.specs.Places.{data_blocks}
+use Rattle.disk_lines.specs.declared.Inode.{Inode}
 use Rattle.disk_lines.specs.declared.Kind.{Kind}
 use Rattle.disk_lines.specs.declared.Kind.TheVariants.{File, Free}
 use Rattle.disk_lines.specs.Names.{names_of}
-use Rattle.disk_rules.specs.Rules.{IsKindAt}
-use Rattle.disk_rules.specs.Volume.{free_inode, inode, Volume}
+use Rattle.disk_rules.specs.Room.{unused_blocks}
+use Rattle.disk_rules.specs.Rules.{file_blocks_of, IsKindAt}
+use Rattle.disk_rules.specs.Volume.{chain, extents, free_inode, inode, Volume}
+use Rattle.k_plans.specs.Whole.{IsWhole}
 use Rattle.k_rules.specs.Changes.{dropped, gone_node}
 use Rattle.k_rules.specs.View.{View}
-use Rattle.volume_facts.specs.Changes.{extents-set_other, inode-set_other, inode-set_same}
+use Rattle.volume_facts.specs.Changes.{chain-set_other, chain-set_same, extents-set_other, extents-set_same, inode-set_other, inode-set_same}
+use Rattle.volume_uses.specs.PoolLaws.{held-set, unused-held}
+use Rattle.volume_uses.specs.Uses.{blocks_held, HasAllMaps}
 use Rattle.k_mount.specs.Sheds.{AllNamed, IsAtRest, IsKeptAt, IsNameless, IsShedAt, SameOutside, Sheds}
 
 -- What the loop keeps: all below this inode have a name.
 pub record HasShed (old new : View) (ino : ℕ) : Type 0 where
   pub rest : IsAtRest new
   pub sheds : Sheds old.volume new.volume
+  pub free : unused_blocks old.volume ≤ unused_blocks new.volume
   pub others : SameOutside old.volume.geometry old.cells new.cells
   pub named : (i : ℕ) → i < ino → ¬ IsNameless new.volume i
 
 -- where nothing went
 same_volume : (v : Volume) → Sheds v v
-same_volume v = record { geometry = refl; base = refl; names = refl; each = λ ino. inl (record { line = refl; map = refl }) }
+same_volume v = record { geometry = refl; base = refl; names = refl; inode_count = refl; chain_count = refl; map_count = refl; each = λ ino. inl (record { line = refl; chain_is = refl; map = refl }) }
 
 low_file : (ino : ℕ) (kind : Kind) → IsKindAt ino kind → kind ≡ File → 5 ≤ ino
 low_file ino kind at is = subst (IsKindAt ino) is at
@@ -31,6 +38,7 @@ pub begun : (k : View) → IsAtRest k → HasShed k k 5
 begun k rest = record {
   rest = rest;
   sheds = same_volume k.volume;
+  free = omega arith;
   others = λ i out line. refl;
   named = λ i below nameless.
       let kept = rest.order.whole.kept in
@@ -42,6 +50,7 @@ pub passed : (old new : View) (ino : ℕ) → HasShed old new ino → ¬ IsNamel
 passed old new ino has named = record {
   rest = has.rest;
   sheds = has.sheds;
+  free = has.free;
   others = has.others;
   named = λ i below. elim (cases_eq i ino) [ inl same ↦ subst (λ n. ¬ IsNameless new.volume n) (sym same) named | inr other ↦ has.named i (omega (arith, below, other)) ];
 }
@@ -53,32 +62,60 @@ used_below v ino file = elim (cases_lt ino (length v.inodes)) [
 ]
 
 -- one goes
-sheds_more : (v w : Volume) (c : ℕ) → Sheds v w → IsNameless w c → Sheds v (dropped c w)
-sheds_more v w c sheds nameless = record {
+sheds_more : (v w : Volume) (c : ℕ) → Sheds v w → HasAllMaps w → IsNameless w c → Sheds v (dropped c w)
+sheds_more v w c sheds all nameless = record {
   geometry = sheds.geometry;
   base = sheds.base;
   names = sheds.names;
+  inode_count = length-set w.inodes c x ∙ sheds.inode_count;
+  chain_count = length-set w.chains c [] ∙ sheds.chain_count;
+  map_count = length-set w.maps c [] ∙ sheds.map_count;
   each = λ ino. elim (cases_eq ino c) [
     | inl same ↦ subst (λ n. IsKeptAt v (dropped c w) n ⊎ IsShedAt v (dropped c w) n) (sym same) (inr (own (sheds.each c)))
-    | inr other ↦ elim (sheds.each ino) [
-      | inl kept ↦
-          inl (record {
-            line = inode-set_other c (gone_node (inode w c)) [] [] w ino other ∙ kept.line;
-            map = extents-set_other c (gone_node (inode w c)) [] [] w ino other ∙ kept.map;
-          })
-      | inr shed ↦ inr (record { was = shed.was; free = ap (λ x. x.kind) (inode-set_other c (gone_node (inode w c)) [] [] w ino other) ∙ shed.free })
-    ]
+    | inr other ↦
+        let line = inode-set_other c x [] [] w ino other in
+        let chain_is = chain-set_other c x [] [] w ino other in
+        let map = extents-set_other c x [] [] w ino other in
+        elim (sheds.each ino) [
+          | inl kept ↦ inl (record { line = line ∙ kept.line; chain_is = chain_is ∙ kept.chain_is; map = map ∙ kept.map })
+          | inr shed ↦ inr (record { was = shed.was; line = line ∙ shed.line; chain_is = chain_is ∙ shed.chain_is; map = map ∙ shed.map })
+        ]
   ];
 } where
-  free : (inode (dropped c w) c).kind ≡ Free
-  free = ap (λ x. x.kind) (inode-set_same c (gone_node (inode w c)) [] [] w (used_below w c nameless.file))
+  x : Inode
+  x = gone_node (inode w c)
+
+  below : c < length w.inodes
+  below = used_below w c nameless.file
+
+  now_free : inode (dropped c w) c ≡ gone_node (inode w c)
+  now_free = inode-set_same c x [] [] w below
+
+  no_chain : chain (dropped c w) c ≡ []
+  no_chain = chain-set_same c x [] [] w (omega (arith, below, all.chain_count))
+
+  no_map : extents (dropped c w) c ≡ []
+  no_map = extents-set_same c x [] [] w (omega (arith, below, all.map_count))
 
   own : IsKeptAt v w c ⊎ IsShedAt v w c → IsShedAt v (dropped c w) c
   own (inl kept) = record {
-    was = record { file = ap (λ x. x.kind) (sym kept.line) ∙ nameless.file; nameless = ap (λ rows. names_of rows c) (sym sheds.names) ∙ nameless.nameless };
-    free = free;
+    was = record { file = ap (λ y. y.kind) (sym kept.line) ∙ nameless.file; nameless = ap (λ rows. names_of rows c) (sym sheds.names) ∙ nameless.nameless };
+    line = now_free ∙ ap gone_node kept.line;
+    chain_is = no_chain;
+    map = no_map;
   }
-  own (inr shed) = record { was = shed.was; free = free }
+  own (inr shed) = record { was = shed.was; line = now_free ∙ ap gone_node shed.line; chain_is = no_chain; map = no_map }
+
+-- and its blocks are free
+counted : (v : Volume) → IsWhole v → unused_blocks v + blocks_held v ≡ data_blocks v.geometry
+counted v whole =
+    unused-held v (λ ino. file_blocks_of (inode v ino).kind)
+    (record { chains = λ ino below. whole.chains ino; files = λ ino below. whole.kept.kept.in_data ino (omega (arith, below, whole.kept.all.inode_count)) })
+    (λ b is. whole.kept.kept.once b is)
+
+frees_more : (w : Volume) (c : ℕ) → IsWhole w → IsWhole (dropped c w) → c < length w.inodes → unused_blocks w ≤ unused_blocks (dropped c w)
+frees_more w c whole after below =
+    omega (arith, counted w whole, counted (dropped c w) after, held-set w c (gone_node (inode w c)) [] [] below whole.maps)
 
 still_named : (w : Volume) (c i : ℕ) → i ≢ c → ¬ IsNameless w i → ¬ IsNameless (dropped c w) i
 still_named w c i other named nameless =
@@ -87,7 +124,13 @@ still_named w c i other named nameless =
 pub went : (old k new : View) (ino : ℕ) → HasShed old k ino → IsNameless k.volume ino → IsAtRest new → new.volume ≡ dropped ino k.volume → SameOutside k.volume.geometry k.cells new.cells → HasShed old new (ino + 1)
 went old k new ino has nameless rest volume_is others = record {
   rest = rest;
-  sheds = subst (Sheds old.volume) (sym volume_is) (sheds_more old.volume k.volume ino has.sheds nameless);
+  sheds = subst (Sheds old.volume) (sym volume_is) (sheds_more old.volume k.volume ino has.sheds has.rest.order.whole.maps nameless);
+  free = omega (
+    arith,
+    has.free,
+    ap unused_blocks volume_is,
+    frees_more k.volume ino has.rest.order.whole (subst IsWhole volume_is rest.order.whole) (used_below k.volume ino nameless.file),
+  );
   others = λ i out line. subst (λ g. SameOutside g k.cells new.cells) has.sheds.geometry others i out line ∙ has.others i out line;
   named = λ i below. subst (λ w. ¬ IsNameless w i) (sym volume_is) (elim (cases_eq i ino) [
     | inl same ↦ subst (λ n. ¬ IsNameless (dropped ino k.volume) n) (sym same) gone

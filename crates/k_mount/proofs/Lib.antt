@@ -1,3 +1,4 @@
+pub mod Checked
 pub mod Dropping
 pub mod Opened
 pub mod Recovered

@@ -1,35 +1,44 @@
 -- The tree of a device that was opened again is that of the image's content.
-use Rattle.std.proofs.Common.{◌≡◌, ℕ, ◌+◌, ◌*◌, ◌<◌, true, false, List, [], Some, Result, Ok, Err, IfOk, option_map, refl, sym, ◌∙◌, ap, subst, arith, inl, inr}
+use Rattle.std.proofs.Common.{◌≡◌, ℕ, ◌+◌, ◌*◌, ◌/◌, ◌<◌, ◌≤◌, true, false, List, [], Some, Result, Ok, Err, IfOk, option_map, refl, sym, ◌∙◌, ap, subst, arith, inl, inr}
 use Rattle.std.proofs.lemmas.Bool.{cases_lt}
 use Rattle.std.proofs.lemmas.List.{get_or_past}
-use Rattle.pm_words.specs.Cells.{newest}
+use Rattle.pm_words.specs.declared.Cell.TheVariants.{Single}
+use Rattle.pm_words.specs.Cells.{cell, newest}
+use Rattle.pm_words.specs.ImageLaws.{IsImage-words_of}
 use Rattle.pm_words.specs.Images.{words_of}
 use Rattle.pm_words.specs.Words.{Words}
-use Rattle.disk_places.specs.Journal.{journaled}
+use Rattle.disk_places.specs.Journal.{is_journal_word, journaled}
 use Rattle.disk_places.specs.PlaceLaws.{behind_log-words}
-use Rattle.disk_places.specs.Places.{Geometry, is_data_block}
+use Rattle.disk_places.specs.Places.{Geometry, is_data_block, is_journaled_line}
 use Rattle.extent_words.specs.Extents.{covers}
 use Rattle.disk_lines.specs.declared.Kind.{Kind}
 use Rattle.disk_lines.specs.declared.Kind.TheVariants.{Directory, File, Free, Staging}
+use Rattle.disk_rules.specs.Checked.{IsCheckedAs}
 use Rattle.disk_rules.specs.Content.{content, disk_of, found}
 use Rattle.disk_rules.specs.Kept.{AreKept}
 use Rattle.disk_rules.specs.Live.{is_directory, live_entries}
 use Rattle.disk_rules.specs.Reading.{Reads}
+use Rattle.disk_rules.specs.Room.{unused_blocks}
 use Rattle.disk_rules.specs.Rules.{file_blocks_of, geometry_of, IsChecked}
 use Rattle.disk_rules.specs.Volume.{extents, inode, Volume, volume}
 use Rattle.volume_facts.specs.Footprint.{SameData}
 use Rattle.volume_facts.specs.FootprintLaws.{disk_of-covered, found-same}
 use Rattle.volume_facts.specs.LineWords.{data_word, data_word-not_journaled}
 use Rattle.volume_uses.specs.PoolLaws.{covered-in_data}
-use Rattle.image_facts.specs.CheckedLaws.{reads-checked}
+use Rattle.volume_facts.specs.ImageLaws.{journaled-other}
+use Rattle.image_facts.specs.CheckedLaws.{head-checked, parts-checked, reads-checked}
 use Rattle.volume_changes.specs.CallLaws.{root-directory}
 use Rattle.k_content.specs.Trees.{tree_content, tree_node}
+use Rattle.k_rules.specs.Stands.{Stands}
 use Rattle.k_rules.specs.View.{View}
 use Rattle.posix_types.specs.declared.tree.TreeEntry.{TreeEntry}
 use Rattle.posix_trees.specs.TreeOf.{IsTreeOf, IsTreeOf-agree}
 use Rattle.world_rules.specs.Shown.{IsTreeOfContent}
-use Rattle.k_mount.specs.Laws.{IsRecovered}
+use Rattle.world_images.specs.Changed.{sound_headed}
+use Rattle.k_mount.specs.Laws.{IsCheckedToo, IsRecovered}
 use Rattle.k_mount.specs.Sheds.{IsAtRest, SameOutside, Sheds}
+use Rattle.k_mount.proofs.Checked.{checked_now, numbers_now}
+use Rattle.k_mount.proofs.Recovered.{recovers_checked}
 use Rattle.k_mount.proofs.Same.{shows_the_same, trees_are_of_content}
 
 -- what follows from a fact on the value that a call returned
@@ -61,6 +70,9 @@ read_in_data g f v ino block b r kept is =
 module _ (g : Geometry) (image : Words) (k k2 : View) (numbers : geometry_of image ≡ g) (checked : IsChecked (4096 * g.blocks) image)
     (is : IsRecovered image k.cells) (volume_is : k.volume ≡ volume g (journaled image)) (rest : IsAtRest k)
     (sheds : Sheds k.volume k2.volume) (others : SameOutside k.volume.geometry k.cells k2.cells) where
+  too : IsCheckedToo g image k.cells
+  too = recovers_checked g image k.cells numbers checked is
+
   reads : Reads g (journaled image) k.volume
   reads = subst (Reads g (journaled image)) (sym volume_is) (subst (λ h. Reads h (journaled image) (volume h (journaled image))) numbers (reads-checked (4096 * g.blocks) image checked))
 
@@ -88,3 +100,45 @@ module _ (g : Geometry) (image : Words) (k k2 : View) (numbers : geometry_of ima
         ap (option_map tree_node)
         (ap (λ live. found (volume g (journaled image)) live (journaled image) path) dead
         ∙ (ap (λ v. found v [] (journaled image) path) (sym volume_is) ∙ sym (shown path)))
+
+  -- ---- the device is checked again
+
+  same : (i : ℕ) → is_journal_word i ≡ false → is_journaled_line g (i / 8) ≡ false → cell k2.cells i ≡ cell k.cells i
+  same = subst (λ h. SameOutside h k.cells k2.cells) reads.geometry others
+
+  pub words_of_image : (i : ℕ) → is_journal_word i ≡ false → is_journaled_line g (i / 8) ≡ false → cell k2.cells i ≡ Single (image i)
+  words_of_image i out line =
+      same i out line
+      ∙ (is.words i out
+      ∙ ap Single (journaled-other g image i (sound_headed g image (record { head = head-checked (4096 * g.blocks) image checked; geometry = numbers })) out line))
+
+  module _ (after : IsAtRest k2) (free : unused_blocks k.volume ≤ unused_blocks k2.volume)
+      (dead : live_entries (volume g (journaled image)) (journaled image) ≡ []) where
+    was : IsCheckedAs (4096 * g.blocks) (words_of k.cells) k.volume
+    was =
+        subst (IsCheckedAs (4096 * g.blocks) (words_of k.cells)) ((λ i. volume (too.geometry i) (too.seen i)) ∙ sym volume_is)
+        (parts-checked (4096 * g.blocks) (words_of k.cells) too.checked)
+
+    still_dead : live_entries k.volume (journaled (words_of k.cells)) ≡ []
+    still_dead = (λ i. live_entries (volume_is i) (too.seen i)) ∙ dead
+
+    committed_is : k2.committed ≡ k2.volume
+    committed_is = after.order.settled after.unbatched
+
+    stands : Stands g k2.volume k2.cells
+    stands =
+        subst (λ h. Stands h k2.volume k2.cells) (sheds.geometry ∙ reads.geometry)
+        (subst (λ v. Stands v.geometry v k2.cells) committed_is after.order.stands)
+
+    now_reads : Reads g (journaled (words_of k2.cells)) k2.volume
+    now_reads = stands.reads (words_of k2.cells) (IsImage-words_of k2.cells)
+
+    pub numbers_again : geometry_of (words_of k2.cells) ≡ g
+    numbers_again =
+        numbers_now g (words_of k.cells) k.volume k2.volume k2.cells too.geometry was sheds free still_dead now_reads after.order.whole.kept.kept (ap newest stands.idle)
+        (λ i out line. ap newest (same i out line))
+
+    pub checked_again : IsCheckedAs (4096 * g.blocks) (words_of k2.cells) k2.volume
+    checked_again =
+        checked_now g (words_of k.cells) k.volume k2.volume k2.cells too.geometry was sheds free still_dead now_reads after.order.whole.kept.kept (ap newest stands.idle)
+        (λ i out line. ap newest (same i out line))

@@ -1,14 +1,19 @@
 -- Volumes of which some nameless files are gone, and what a remount leaves.
-use Rattle.std.specs.Prelude.{◌≡◌, ◌⊎◌, ◌≤◌, ◌/◌, ℕ, false, List}
+use Rattle.std.specs.Prelude.{◌≡◌, ◌⊎◌, ◌≤◌, ◌/◌, ◌*◌, ℕ, false, List, [], length}
 use Rattle.pm_words.specs.declared.Cell.{Cell}
+use Rattle.pm_words.specs.declared.Cell.TheVariants.{Single}
 use Rattle.pm_words.specs.Cells.{AllSingle, cell}
+use Rattle.pm_words.specs.Images.{words_of}
 use Rattle.pm_words.specs.Words.{Words}
 use Rattle.disk_places.specs.Journal.{is_journal_word, journaled}
 use Rattle.disk_places.specs.Places.{Geometry, is_journaled_line}
-use Rattle.disk_lines.specs.declared.Kind.TheVariants.{File, Free}
+use Rattle.disk_lines.specs.declared.Kind.TheVariants.{File}
 use Rattle.disk_lines.specs.Names.{names_of}
+use Rattle.disk_rules.specs.Checked.{IsCheckedAs}
 use Rattle.disk_rules.specs.Content.{content}
-use Rattle.disk_rules.specs.Volume.{extents, inode, Volume, volume}
+use Rattle.disk_rules.specs.Rules.{geometry_of}
+use Rattle.disk_rules.specs.Volume.{chain, extents, inode, Volume, volume}
+use Rattle.k_rules.specs.Changes.{gone_node}
 use Rattle.k_rules.specs.View.{View}
 use Rattle.k_split.specs.Order.{IsInOrder}
 use Rattle.posix_types.specs.declared.tree.TreeEntry.{TreeEntry}
@@ -23,20 +28,26 @@ pub record IsNameless (v : Volume) (ino : ℕ) : Type 0 where
 abbrev pub AllNamed : Volume → Type 0
 AllNamed v = (ino : ℕ) → (inode v ino).kind ≡ File → 1 ≤ names_of v.names ino
 
--- the inode is as it was; or it was a file without a name, and is free
+-- the inode is as it was; or it was a file without a name, and is free: its line keeps the generation, and it has no block
 pub record IsKeptAt (v w : Volume) (ino : ℕ) : Type 0 where
   pub line : inode w ino ≡ inode v ino
+  pub chain_is : chain w ino ≡ chain v ino
   pub map : extents w ino ≡ extents v ino
 
 pub record IsShedAt (v w : Volume) (ino : ℕ) : Type 0 where
   pub was : IsNameless v ino
-  pub free : (inode w ino).kind ≡ Free
+  pub line : inode w ino ≡ gone_node (inode v ino)
+  pub chain_is : chain w ino ≡ []
+  pub map : extents w ino ≡ []
 
--- SOME NAMELESS FILES ARE GONE; names, and line and map of every other inode, are as they were.
+-- SOME NAMELESS FILES ARE GONE, and nothing else differs.
 pub record Sheds (v w : Volume) : Type 0 where
   pub geometry : w.geometry ≡ v.geometry
   pub base : w.base ≡ v.base
   pub names : w.names ≡ v.names
+  pub inode_count : length w.inodes ≡ length v.inodes
+  pub chain_count : length w.chains ≡ length v.chains
+  pub map_count : length w.maps ≡ length v.maps
   pub each : (ino : ℕ) → IsKeptAt v w ino ⊎ IsShedAt v w ino
 
 -- K-Split at rest: in order, the power on, each change committed at once, and all words single.
@@ -51,9 +62,13 @@ abbrev pub SameOutside : Geometry → List Cell → List Cell → Type 0
 SameOutside g old new = (i : ℕ) → is_journal_word i ≡ false → is_journaled_line g (i / 8) ≡ false → cell new i ≡ cell old i
 
 -- WHAT A REMOUNT LEAVES of an image: K-Split is at rest, each file has a name, nothing but nameless files is gone, and the
--- tree is that of the image's content.
+-- tree is that of the image's content. The device is a checked image again, with no word of a data block or of the log
+-- changed.
 pub record IsRemounted (g : Geometry) (image : Words) (k : View) (tree : List TreeEntry) : Type 0 where
   pub rest : IsAtRest k
   pub named : AllNamed k.volume
   pub sheds : Sheds (volume g (journaled image)) k.volume
   pub tree_is : IsTreeOfContent (content g image) tree
+  pub numbers : geometry_of (words_of k.cells) ≡ g
+  pub checked : IsCheckedAs (4096 * g.blocks) (words_of k.cells) k.volume
+  pub words : (i : ℕ) → is_journal_word i ≡ false → is_journaled_line g (i / 8) ≡ false → cell k.cells i ≡ Single (image i)

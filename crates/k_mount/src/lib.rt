@@ -2,8 +2,8 @@
 //!
 //! `remount` recovers the journal of a checked image, opens K-Split on it, and lets files go that no name leads
 //! to. The layer above may rely on this (`IsRemounted`): the tree is that of the image's content; K-Split is in
-//! order with all words single; each file has a name, and nothing else is gone (`Sheds`). It reads no log: the
-//! image has no live entry. The power that it makes for it lasts.
+//! order with all words single; each file has a name, and nothing else is gone (`Sheds`); the device is a checked
+//! image again. It reads no log: the image has no live entry. The power that it makes for it lasts.
 //!
 //! Stands on `k_split`, and on the laws of images of `world_images`.
 #![tactic(auto)]

@@ -1,6 +1,7 @@
 //! Files without a name go.
-ghost use Rattle.std.specs.Prelude.{◌≡◌, ◌↔◌, IsTrue};
+ghost use Rattle.std.specs.Prelude.{◌≡◌, ◌↔◌, ◌≤◌, IsTrue};
 ghost use Rattle.disk_lines.specs.Names.{names_of};
+ghost use Rattle.disk_rules.specs.Room.{unused_blocks};
 ghost use Rattle.disk_rules.specs.Volume.{inode};
 ghost use Rattle.k_rules.specs.Changes.{dropped};
 ghost use Rattle.volume_changes.specs.Changes.{MayDrop};
@@ -38,12 +39,14 @@ fn drop_one(k: &mut KSplit, ino: u32)
     }
 }
 
-/// Lets all files go to which no name leads, each by a change of its own, with power for all of them.
+/// Lets all files go to which no name leads, each by a change of its own, with power for all of them. Their blocks
+/// are free then.
 pub fn drop_nameless(k: &mut KSplit)
     requires { IsAtRest k.old }
     ensures rest { IsAtRest k.new }
     ensures named { AllNamed k.new.volume }
     ensures sheds { Sheds k.old.volume k.new.volume }
+    ensures free { unused_blocks k.old.volume ≤ unused_blocks k.new.volume }
     ensures others { SameOutside k.old.volume.geometry k.old.cells k.new.cells }
 {
     let end = k.geometry().inodes;

@@ -1,5 +1,6 @@
 pub mod Free
 pub mod Giving
+pub mod Laps
 pub mod Laws
 pub mod Making
 pub mod Plans

@@ -17,6 +17,7 @@
 mod dropping;
 mod faults;
 mod giving;
+mod laps;
 mod making;
 mod removing;
 mod renaming;

@@ -1,7 +1,9 @@
+pub mod ByteLaws
 mod ChangeLaws
 mod ContentLaws
 mod FreshDevices
 mod LandLaws
+pub mod LoanLaws
 mod LookLaws
 mod MapAnswers
 mod MapLands

@@ -14,10 +14,13 @@
 //! Stands on `k_plans` (changes of names), `k_map_plans` (of maps), `k_land`, `k_reading` and `k_content`.
 #![tactic(auto)]
 
+mod bytes;
 mod changes;
 mod dropping;
 mod faults;
+mod laps;
 mod laws;
+mod lending;
 mod looks;
 mod making;
 mod mapping;

@@ -1,5 +1,5 @@
 -- No entry of the log is live, on a device on which calls run and within a change of it.
-use Rattle.std.specs.Prelude.{◌≡◌, ◌⊎◌, ℕ, List, [], ◌∷◌, Option, Some, None, filter_map, refl}
+use Rattle.std.specs.Prelude.{◌≡◌, ◌⊎◌, ℕ, List, [], ◌∷◌, Option, Some, None, filter_map, refl, ◌*◌, length}
 use Rattle.std.specs.List.{range_with_len}
 use Rattle.std.proofs.Common.{arith, ap, ◌∙◌, sym, subst, inl, inr}
 use Rattle.pm_words.specs.declared.Cell.{Cell}
@@ -70,6 +70,8 @@ cut_dead v w d e numbers s count running follows geometry base image is = by fro
 -- WHERE CALLS RUN no log is left,
 pub runs_no_log : (g : Geometry) (k : View) (t : Tables) (n : ℕ) (s : State) → RunsAs g k t n s → HasNoLog g k.cells
 runs_no_log g k t n s runs = record {
+  size = subst (λ (x : Geometry). length k.cells ≡ 512 * x.blocks) runs.geometry runs.going.running.device.stands.size;
+  home = runs.home;
   honest = λ image is. quiet_is_honest g k.cells image runs.quiet;
   dead = λ image is.
       subst (λ x. live_entries (volume x (journaled image)) (journaled image) ≡ []) runs.geometry (runs_dead k.volume k.cells runs.numbers s runs.count runs.going.running image is);
@@ -78,6 +80,8 @@ runs_no_log g k t n s runs = record {
 -- nor where a change is cut off.
 pub cut_no_log : (g : Geometry) (k k2 : View) (t : Tables) (n : ℕ) (s : State) (w : Volume) → RunsAs g k t n s → IsQuiet g k2.cells → IsCut w k k2 → w.geometry ≡ k.volume.geometry → w.base ≡ k.volume.base → HasNoLog g k2.cells
 cut_no_log g k k2 t n s w runs quiet cut geometry base = record {
+  size = cut.changes.size ∙ subst (λ (x : Geometry). length k.cells ≡ 512 * x.blocks) runs.geometry runs.going.running.device.stands.size;
+  home = λ i. cut.changes.lent i ∙ runs.home i;
   honest = λ image is. quiet_is_honest g k2.cells image quiet;
   dead = λ image is.
       subst (λ x. live_entries (volume x (journaled image)) (journaled image) ≡ []) runs.geometry

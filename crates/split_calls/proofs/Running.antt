@@ -50,6 +50,7 @@ runs_later g k t n s runs = record {
   ordered = runs.ordered;
   empty = runs.empty;
   quiet = runs.quiet;
+  home = runs.home;
 }
 
 -- words that settle stay single
@@ -73,6 +74,7 @@ runs_on g k k2 t t2 n s next runs after later m done step_is few tables files or
   ordered = ordered;
   empty = empty;
   quiet = quiet_changes k.committed k2.volume k.cells k2.cells g done.changes (ap (λ (v : Volume). v.geometry) (runs.going.order.settled runs.going.unbatched) ∙ runs.geometry) runs.quiet;
+  home = λ i. done.changes.lent i ∙ runs.home i;
 }
 
 -- ---- refused
@@ -173,4 +175,5 @@ runs_still g k t t2 n s next runs shape takes tables files ordered empty = recor
   ordered = ordered;
   empty = empty;
   quiet = runs.quiet;
+  home = runs.home;
 }

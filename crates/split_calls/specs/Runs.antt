@@ -1,7 +1,7 @@
 -- When K-Split and the open files run in a state of the calls.
-use Rattle.std.specs.Prelude.{◌≡◌, ◌≤◌, ◌<◌, ◌+◌, ◌^◌, ◌/◌, ℕ, false, true, List, []}
+use Rattle.std.specs.Prelude.{◌≡◌, ◌≤◌, ◌<◌, ◌+◌, ◌^◌, ◌/◌, ℕ, false, true, List, [], ◌*◌, length}
 use Rattle.pm_words.specs.declared.Cell.{Cell}
-use Rattle.pm_words.specs.Cells.{cell, is_single}
+use Rattle.pm_words.specs.Cells.{AllHome, cell, is_single}
 use Rattle.pm_words.specs.Images.{IsImage}
 use Rattle.pm_words.specs.Words.{Words}
 use Rattle.disk_places.specs.Journal.{is_journal_word, journaled}
@@ -31,8 +31,11 @@ IsQuiet g d = (i : ℕ) → is_journal_word i ≡ false → is_journaled_line g 
 abbrev pub QuietIsHonest : Type 0
 QuietIsHonest = (g : Geometry) (d : List Cell) (image : Words) → IsQuiet g d → IsHonest g (cell d) image
 
--- NO LOG IS LEFT on the device: each image is honest, and no entry of its log is live.
+-- NO LOG IS LEFT on the device, which has the size of the geometry and on which nothing is lent: each image is honest, and no
+-- entry of its log is live.
 pub record HasNoLog (g : Geometry) (d : List Cell) : Type 0 where
+  pub size : length d ≡ 512 * g.blocks
+  pub home : AllHome d
   pub honest : (image : Words) → IsImage d image → IsHonest g (cell d) image
   pub dead : (image : Words) → IsImage d image → live_entries (volume g (journaled image)) (journaled image) ≡ []
 
@@ -51,6 +54,7 @@ pub record RunsAs (g : Geometry) (k : View) (t : Tables) (n : ℕ) (s : State) :
   pub ordered : AreOrdered s.entries
   pub empty : HasNoBytes s
   pub quiet : IsQuiet g k.cells
+  pub home : AllHome k.cells
 
 -- so they run in some state, and one node more may be made in this lap
 pub record RunsInSome (k : View) (t : Tables) : Type 0 where

@@ -141,6 +141,7 @@ world_begins k t shape scripts on unbatched order mounted limits shape_is tree_i
     files = λ ino there. none_open ino there;
     ordered = (distinct, start-rising t shape Mode.Strict distinct);
     quiet = λ i journal line. mounted.single i;
+    home = λ i. single-home (cell k.cells i) (mounted.single i);
     empty = fold_empty (bare shape Mode.Strict) t (entry_empty (content k.volume.geometry (words_of k.cells)) t tree_is mounted.no_bytes) (bare_empty shape Mode.Strict);
   } where
     none_open : (ino : ℕ) → is_open nothing_open ino ≡ true → (inode k.volume ino).kind ≡ File

@@ -27,9 +27,9 @@ use Rattle.posix_spec.specs.Step.{fsync_done, mkdir_done, pwrite_done, truncate_
 use Rattle.crash_spec.specs.Posix.{IsLeft, LastBeforeCut, NodeLeft, Overwritten}
 use Rattle.crash_spec.specs.Values.{is_shortened, value_before_cut, value_put, values_put}
 use Rattle.world_rules.specs.Stands.{IsUsed, LogStands, number, Stands}
-use Rattle.world_posix.specs.Example.{batch_b, batch_c, batch_d, committed_c, committed_d, extent, kept_d, later_a, later_c, later_d, lost_call, lost_word, lost_words, no_tables, only_5, open_file, file_with, run_at, start_a, start_c, start_d, state_with, tables_p, volume_a, volume_with, words_p, world_a, world_b, world_c, world_d}
+use Rattle.world_posix.specs.Example.{batch_b, batch_c, batch_d, batch_e, committed_c, committed_d, extent, kept_d, later_a, later_c, later_d, lost_call, lost_word, lost_words, no_tables, only_5, open_file, file_with, run_at, start_a, start_c, start_d, state_with, tables_p, volume_a, volume_with, words_p, world_a, world_b, world_c, world_d, world_e}
 use Rattle.world_posix.proofs.ExampleParts.{apart, apart_behind, chains_with, file_stands, files_with, fresh_with, has_bytes, log_none, log_one, mapped_with, names_once, names_with, nodes_with, sane_with, size_with, staging_with}
-use Rattle.world_posix.specs.Laws.{HasLostWrite, HasWaitingBlock, HasWorldAfterCheckpoint, HasWorldCut, HasWorldInCheckpoint, HasWorldUsedAgain, HasWorldWithRun}
+use Rattle.world_posix.specs.Laws.{HasLostWrite, HasWaitingBlock, HasWorldAfterCheckpoint, HasWorldCut, HasWorldCutInCheckpoint, HasWorldInCheckpoint, HasWorldUsedAgain, HasWorldWithRun}
 use Rattle.world_posix.specs.Sides.{IsFresh, IsPublished, IsSameMap, IsSettled, MediumStands, Same, Sides, StillPublished, UsesNoFreed}
 use Rattle.world_posix.specs.Steps.{committed}
 
@@ -393,6 +393,68 @@ row_d = record {
         size_with File 1 1 (13 ∷ []) (extent 1 11 1) (extent 0 10 1) (λ n k. is_shortened (open_file (9 ∷ 2 ∷ 3 ∷ []) 3) (map begun later_d) (number (only_5 1) n) k ≡ false) not_cut_d ino i below;
     staged = λ ino i b used node past below long at settled.
         size_with File 1 3 (13 ∷ []) (extent 1 11 1) (extent 0 10 1) (λ n k. size_of batch_d [] n ≤ k → k < slice_index (only_5 2) n → IsSome (entry_of_block (run_at 1 2 ∷ []) n (k / 4096))) staged_d ino i below past long;
+  };
+}
+
+-- ---- (e) a Checkpoint behind a cut
+
+not_13_in : (place first count : ℕ) → first + count ≤ 13 → (b : ℕ) → covers (extent place first count) b ≡ true → (j : ℕ) → j < 1 → block_at (13 ∷ []) j ≢ b
+not_13_in place first count low b is zero below same = grind (arith, nat_tests, low, is, same)
+not_13_in place first count low b is (suc j) below same = absurd (omega (arith, below))
+
+cut_stands_e : Stands batch_e [] words_p (only_5 1) (open_file (9 ∷ []) 1)
+unfolding owners
+cut_stands_e =
+    stands_file 1 (14 ∷ []) [] (extent 0 11 1) [] (9 ∷ []) 1 tables_p (none_in 64) (one_in 4096 0 11 1 (omega arith) (omega arith) (omega arith)) refl refl refl
+    (log_none batch_e)
+
+live_e : Stands (volume_with File 1 2 (14 ∷ []) [] (extent 0 11 1)) [] words_p (only_5 1) (open_file (9 ∷ 7 ∷ []) 1)
+unfolding owners
+live_e =
+    stands_file 2 (14 ∷ []) [] (extent 0 11 1) [] (9 ∷ 7 ∷ []) 1 tables_p (none_in 64) (one_in 4096 0 11 1 (omega arith) (omega arith) (omega arith)) refl refl refl
+    (log_none (volume_with File 1 2 (14 ∷ []) [] (extent 0 11 1)))
+
+no_freed_e : UsesNoFreed world_e
+no_freed_e = record {
+  mapped = mapped_with File 1 1 (14 ∷ []) [] (extent 0 11 1) (λ ino block b. IsSettled world_e ino block b ⊎ IsFresh committed_d b)
+      (λ block b is.
+      let within = covers-disk_at (extent 0 11 1) block b is in
+      inr (fresh_with File 1 3 (13 ∷ []) (extent 1 11 1) (extent 0 10 1) b (apart_behind 0 0 11 10 1 1 b (omega arith) within) (not_13_in 0 11 1 (omega arith) b within)));
+  staging = staging_with File 1 1 (14 ∷ []) [] (extent 0 11 1) (IsFresh committed_d) refl (λ b is. cc);
+  chains = chains_with File 1 1 (14 ∷ []) [] (extent 0 11 1) (λ ino k. IsSameMap world_e ino ⊎ IsFresh committed_d (block_at (chain batch_e ino) k)) chained;
+} where
+  chained : (j : ℕ) → j < 1 → IsSameMap world_e 5 ⊎ IsFresh committed_d (block_at (14 ∷ []) j)
+  chained zero below = inr (fresh_with File 1 3 (13 ∷ []) (extent 1 11 1) (extent 0 10 1) 14 refl not_14)
+    where
+      not_14 : (j : ℕ) → j < 1 → block_at (13 ∷ []) j ≢ 14
+      not_14 zero low same = absurd (omega (arith, same))
+      not_14 (suc j) low same = absurd (omega (arith, low))
+  chained (suc j) below = absurd (omega (arith, below))
+
+-- byte 1 is in another block than on the medium
+not_settled_e : (b i : ℕ) → i < 3 → 1 ≤ i → i < 2 → disk_of batch_e [] 5 (i / 4096) ≡ Some b → disk_of committed_d [] 5 (i / 4096) ≡ Some b → ⊥
+not_settled_e b zero below past long at same = absurd (omega (arith, past))
+not_settled_e b (suc zero) below past long at same = absurd (omega (arith, same_Some 11 b at, same_Some 10 b same))
+not_settled_e b (suc (suc i)) below past long at same = absurd (omega (arith, long))
+
+pub row_e : HasWorldCutInCheckpoint
+unfolding write_rows truncate_rows opened key_of binding_of pwrite_done written with_file fsync_done with_published truncate_done
+row_e = record {
+  medium = record { state = open_file (9 ∷ 2 ∷ 3 ∷ []) 3; left = left_d; stands = own_d; fsyncs = refl; published = published_d };
+  cut = record { state = open_file (9 ∷ []) 1; left = cut_d; stands = cut_stands_e };
+  live = live_e;
+  lengths = record {
+    count = refl;
+    each = files_with File 1 1 (14 ∷ []) [] (extent 0 11 1) (λ ino. slice_index (only_5 2) ino ≡ length (bytes_of (node_at (run start_d (kept_d ++ later_d)).nodes (number (only_5 1) ino)))) (λ file. refl);
+  };
+  blocks = no_freed_e;
+  cuts = record {
+    settled = λ ino i b used below at settled.
+        size_with File 1 1 (14 ∷ []) [] (extent 0 11 1) (λ n k. is_shortened (open_file (9 ∷ 2 ∷ 3 ∷ []) 3) (map begun later_d) (number (only_5 1) n) k ≡ false) not_cut_d ino i below;
+    staged = λ ino i b used node past below long at settled.
+        absurd (size_with File 1 3 (13 ∷ []) (extent 1 11 1) (extent 0 10 1)
+        (λ n k. size_of batch_e [] n ≤ k → k < slice_index (only_5 2) n → disk_of batch_e [] n (k / 4096) ≡ Some b → disk_of committed_d [] n (k / 4096) ≡ Some b → ⊥)
+        (not_settled_e b) ino i below past long at settled.same);
   };
 }
 

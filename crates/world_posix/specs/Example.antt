@@ -160,6 +160,13 @@ batch_d = volume_with File 1 1 (13 ∷ []) (extent 1 11 1) (extent 0 10 1)
 abbrev pub world_d : Sides
 world_d = record { committed = committed_d; committed_numbers = only_5 1; batch = batch_d; numbers = only_5 1; staged = run_at 1 2 ∷ []; lengths = only_5 2 }
 
+-- ---- (e) The same, in a Checkpoint: block 11 is the file's in the batch, whose new map has its chain in block 14. No run is staged.
+abbrev pub batch_e : Volume
+batch_e = volume_with File 1 1 (14 ∷ []) [] (extent 0 11 1)
+
+abbrev pub world_e : Sides
+world_e = record { committed = committed_d; committed_numbers = only_5 1; batch = batch_e; numbers = only_5 1; staged = []; lengths = only_5 2 }
+
 -- ---- A write of the bytes 7 and 8 at place 1, in place, lost its power: the first is there, the second is not.
 abbrev pub lost_call : Begun
 lost_call = (Who.Thread 0, Call.Pwrite handle_p 1 (7 ∷ 8 ∷ []))

@@ -18,7 +18,7 @@ use Rattle.world_rules.specs.Stands.{IsSane, Stands}
 use Rattle.world_images.specs.Images.{IsRunning}
 use Rattle.world_images.specs.Promised.{KeepsPromise}
 use Rattle.world_posix.specs.Device.{at_rest, IsAllPublished, PosixRuns}
-use Rattle.world_posix.specs.Example.{batch_b, batch_c, committed_c, committed_d, kept_d, later_a, later_c, later_d, lost_call, lost_words, only_5, open_file, start_a, start_c, start_d, words_p, world_a, world_b, world_c, world_d}
+use Rattle.world_posix.specs.Example.{batch_b, batch_c, committed_c, committed_d, kept_d, later_a, later_c, later_d, lost_call, lost_words, only_5, open_file, start_a, start_c, start_d, words_p, world_a, world_b, world_c, world_d, world_e}
 use Rattle.world_posix.specs.Sides.{AreSettledOrFresh, IsFresh, LosesInPlace, PosixWorld, Sides, sized, UsesNoFreed}
 
 -- ---- what stands
@@ -107,6 +107,10 @@ HasWaitingBlock = IsUnused batch_c 13 × (IsFresh committed_c 13 → ⊥)
 -- Behind a front that is kept the file was cut and written again: the medium has the bytes that were cut off, by the stronger rule.
 abbrev pub HasWorldCut : Type 0
 HasWorldCut = PosixWorld LastBeforeCut world_d words_p start_d kept_d later_d
+
+-- So it is in a Checkpoint: a byte that was cut off and put again is in no run, and its block is not settled.
+abbrev pub HasWorldCutInCheckpoint : Type 0
+HasWorldCutInCheckpoint = PosixWorld LastBeforeCut world_e words_p start_d kept_d later_d
 
 -- A write of two bytes in place lost its power after the first.
 abbrev pub HasLostWrite : Type 0

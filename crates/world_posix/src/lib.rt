@@ -14,7 +14,7 @@
 #![tactic(auto)]
 
 ghost use Rattle.world_posix.specs.Laws.{BeginsInPosixMode, HasLostWrite, HasWaitingBlock, HasWorldAfterCheckpoint};
-ghost use Rattle.world_posix.specs.Laws.{HasWorldCut, HasWorldInCheckpoint, HasWorldUsedAgain, HasWorldWithRun};
+ghost use Rattle.world_posix.specs.Laws.{HasWorldCut, HasWorldCutInCheckpoint, HasWorldInCheckpoint, HasWorldUsedAgain, HasWorldWithRun};
 ghost use Rattle.world_posix.specs.Laws.{KeepsCommitted, KeepsSane, KeepsStrongCommitted, PermitsTreeOfMedium};
 ghost use Rattle.world_posix.specs.Laws.{PermitsTreeStrongly, PosixRunsPromised, PosixRunsStrongly, StagesNoFreed};
 
@@ -68,9 +68,10 @@ pub fn a_world_with_an_inode_used_again_stands()
     ensures waits { HasWaitingBlock }
 {}
 
-/// A world in which a file was cut behind a front that is kept stands, by the stronger rule.
+/// A world in which a file was cut behind a front that is kept stands, by the stronger rule; in a Checkpoint too.
 pub fn a_world_with_a_cut_stands()
-    ensures { HasWorldCut }
+    ensures between { HasWorldCut }
+    ensures relinked { HasWorldCutInCheckpoint }
 {}
 
 /// A write in place that lost its power half-way.

@@ -1,5 +1,5 @@
-use Rattle.world_posix.proofs.ExampleRows.{row_d}
+use Rattle.world_posix.proofs.ExampleRows.{row_d, row_e}
 use Rattle.world_posix.proofs.a_world_with_a_cut_stands.Goals as goal
 
 pub returns : goal.returns
-returns c = row_d
+returns c = record { between = row_d; relinked = row_e }

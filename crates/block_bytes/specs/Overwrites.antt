@@ -1,0 +1,93 @@
+-- Bytes of a file that are written over in place, in the blocks of its map.
+use Rattle.std.specs.Prelude.{◌≡◌, ◌≢◌, ◌⊎◌, ◌≤◌, ◌<◌, ℕ, ◌+◌, ◌-◌, ◌*◌, ◌/◌, ◌%◌, true, IsSome, List, length, max, min, take, drop, Some, slice_index}
+use Rattle.pm_words.specs.declared.Cell.{Cell}
+use Rattle.pm_words.specs.Cells.{cell, is_single}
+use Rattle.pm_words.specs.Words.{byte_of, Words}
+use Rattle.extent_words.specs.declared.Extent.{Extent}
+use Rattle.extent_words.specs.Extents.{disk_at}
+use Rattle.disk_rules.specs.Placed.{AreDistinct, AreInDevice, AreSingle, block_at, IsOutside}
+use Rattle.block_bytes.specs.Puts.{with_bytes}
+
+-- ---- the range
+
+-- Byte p of the range of `count` bytes from `first` on stands in disk block b.
+pub record StandsIn (es : List Extent) (first count p b : ℕ) : Type 0 where
+  pub from : first ≤ p
+  pub below : p < first + count
+  pub at : disk_at es (p / 4096) ≡ Some b
+
+-- byte k of the device is none of the range
+abbrev pub IsBeside : List Extent → ℕ → ℕ → ℕ → Type 0
+IsBeside es first count k = (p b : ℕ) → StandsIn es first count p b → k ≢ 4096 * b + p % 4096
+
+-- word i of the device is in no block of the range
+abbrev pub IsBesideBlocks : List Extent → ℕ → ℕ → ℕ → Type 0
+IsBesideBlocks es first count i = (p b : ℕ) → StandsIn es first count p b → i / 512 ≢ b
+
+-- The range may be written over: each block of it has a disk block of the device, no two have the same, and each word of
+-- these has one candidate.
+pub record MayOverwrite (es : List Extent) (first count : ℕ) (d : List Cell) : Type 0 where
+  pub mapped : (p : ℕ) → first ≤ p → p < first + count → IsSome (disk_at es (p / 4096))
+  pub in_device : (p b : ℕ) → StandsIn es first count p b → 512 * b + 512 ≤ length d
+  pub apart : (p q b : ℕ) → StandsIn es first count p b → StandsIn es first count q b → p / 4096 ≡ q / 4096
+  pub single : (p b i : ℕ) → StandsIn es first count p b → i / 512 ≡ b → is_single (cell d i) ≡ true
+
+-- ---- what is left
+
+-- An image after a write, or a part of it, beside the image before: each byte of the range is the old one or the new one, and
+-- all else is as before.
+pub record IsOverwritten (es : List Extent) (first : ℕ) (bytes : List ℕ) (before image : Words) : Type 0 where
+  pub each : (p b : ℕ) → StandsIn es first (length bytes) p b
+      → (byte_of image (4096 * b + p % 4096) ≡ byte_of before (4096 * b + p % 4096)) ⊎ (byte_of image (4096 * b + p % 4096) ≡ slice_index bytes (p - first))
+  pub others : (k : ℕ) → IsBeside es first (length bytes) k → byte_of image k ≡ byte_of before k
+  pub words : (i : ℕ) → IsBesideBlocks es first (length bytes) i → image i ≡ before i
+
+-- and after the whole write
+pub record IsOverwrittenWhole (es : List Extent) (first : ℕ) (bytes : List ℕ) (before image : Words) : Type 0 where
+  pub each : (p b : ℕ) → StandsIn es first (length bytes) p b → byte_of image (4096 * b + p % 4096) ≡ slice_index bytes (p - first)
+  pub others : (k : ℕ) → IsBeside es first (length bytes) k → byte_of image k ≡ byte_of before k
+  pub words : (i : ℕ) → IsBesideBlocks es first (length bytes) i → image i ≡ before i
+
+-- how many blocks the range reaches
+abbrev pub blocks_reached : ℕ → ℕ → ℕ
+blocks_reached first count = (first + count + 4095) / 4096 - first / 4096
+
+-- ---- one block of the range
+
+-- Block m of the file has the range's bytes from `piece_from` up to `piece_to`, counted from the start of the file.
+abbrev pub piece_from : ℕ → ℕ → ℕ
+piece_from first m = max first (4096 * m)
+
+abbrev pub piece_to : ℕ → ℕ → ℕ → ℕ
+piece_to first count m = min (first + count) (4096 * m + 4096)
+
+abbrev pub piece : ℕ → List ℕ → ℕ → List ℕ
+piece first bytes m = take (piece_to first (length bytes) m - piece_from first m) (drop (piece_from first m - first) bytes)
+
+-- word i, which is one of its disk block, with them
+abbrev pub word_with : ℕ → List ℕ → ℕ → Words → ℕ → ℕ
+word_with first bytes m f i = with_bytes (4096 * (i / 512) + (piece_from first m - 4096 * m)) (piece first bytes m) f i
+
+-- the block is one of the range
+abbrev pub IsReached : ℕ → ℕ → ℕ → Type 0
+IsReached first count m = (4096 * m < first + count) × (first < 4096 * m + 4096)
+
+-- ---- blocks of zeros
+
+abbrev pub AreZero : List ℕ → Words → Type 0
+AreZero blocks f = (i k : ℕ) → k < length blocks → i / 512 ≡ block_at blocks k → f i ≡ 0
+
+-- The blocks may be zeroed: no block comes twice, all are in the device, and each word of them has one candidate.
+pub record MayZero (blocks : List ℕ) (d : List Cell) : Type 0 where
+  pub distinct : AreDistinct blocks
+  pub in_device : AreInDevice (length d) blocks
+  pub single : AreSingle blocks d
+
+-- two images that differ at most in words of the blocks
+abbrev pub SameBeside : List ℕ → Words → Words → Type 0
+SameBeside blocks before image = (i : ℕ) → IsOutside blocks i → image i ≡ before i
+
+-- an image after the blocks were zeroed, beside the image before
+pub record IsZeroed (blocks : List ℕ) (before image : Words) : Type 0 where
+  pub zero : AreZero blocks image
+  pub others : SameBeside blocks before image

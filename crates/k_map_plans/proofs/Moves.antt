@@ -1,5 +1,5 @@
 -- Blocks that move: the two inodes go over to their maps one after the other, and what that asks for.
-use Rattle.std.proofs.Common.{◌≡◌, ◌≢◌, ◌⊎◌, ◌<◌, ◌≤◌, ◌+◌, ◌-◌, ◌*◌, ◌^◌, ℕ, Bool, true, false, not, get_or, List, [], ◌∷◌, ◌++◌, length, Result, Ok, Err, Some, None, Option, IsSome, refl, sym, ◌∙◌, ap, inl, inr, arith, subst}
+use Rattle.std.proofs.Common.{◌≡◌, ◌≢◌, ◌<◌, ◌≤◌, ◌+◌, ◌-◌, ℕ, true, false, not, get_or, List, [], ◌∷◌, ◌++◌, length, Some, None, Option, IsSome, refl, sym, ◌∙◌, ap, inl, inr, arith, subst}
 use Rattle.std.specs.Prelude.{All}
 use Rattle.std.proofs.lemmas.Bool.{both_ways, cases_lt}
 use Rattle.std.proofs.lemmas.Grind.{get_or_default_zero}
@@ -284,6 +284,10 @@ plan-two t w b file staging n taken file_map staging_map lowest parts file_size 
 mapped-at : (o : Option ℕ) → IsSome o → (n : ℕ) × (o ≡ Some n)
 mapped-at (Some n) is = (n, refl)
 mapped-at None is = absurd (both_ways false refl is)
+
+pub no_hole : (o : Option ℕ) → IsSome o → o ≡ None → ⊥
+no_hole (Some n) is none = absurd (cc)
+no_hole None is none = both_ways false refl is
 
 -- the blocks that a move asks for end by file block 64
 pub source-fits : (v : Volume) (m : Move) → IsWhole v → MayMove m v → m.staging_block + m.count ≤ 4096

@@ -38,9 +38,8 @@ pub(crate) fn go_over(
     let mut waiting = Vec::from_slice(alloc, tables.chain(ino))?;
     push_extents(&mut waiting, freed)?;
     let count = chains_for(map.extents().len() as u64) as u32;
-    // There is room: the other way is not taken.
     let Some(blocks) = tables.set_aside(count)? else {
-        return Err(AllocError);
+        unreachable!()
     };
     let chain = Vec::from_slice(alloc, &blocks)?;
     tables.switch(batch, ino, inode, own, chain, waiting);

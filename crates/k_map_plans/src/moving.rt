@@ -22,17 +22,12 @@ use extent_map::ExtentMap;
 use k_journal::Batch;
 use k_land::NewMap;
 use k_plans::Tables;
-use k_relink::{Relinked, relink};
+use k_relink::{RelinkFault, Relinked, relink};
 use map_rules::Move;
 use std::alloc::{AllocError, Global};
 
 // The disk blocks of `count` file blocks of a map from `from` on, each of which has one.
-fn blocks_at(
-    alloc: Global,
-    map: &ExtentMap,
-    from: u32,
-    count: u32,
-) -> Result<Vec<u32>, AllocError>
+fn blocks_at(alloc: Global, map: &ExtentMap, from: u32, count: u32) -> Result<Vec<u32>, AllocError>
     requires fits { from + count ≤ 4096 }
     requires there { IsMapped map.now from count }
     ensures size { IfOk result (λ blocks. length blocks.items ≡ count) }
@@ -66,9 +61,9 @@ fn switch_both(
     ensures moved { tables.new.volume ≡ moved_volume asked.now left rest.items linked blocks.items tables.old.volume }
     ensures turns { (news : List NewChain) (v : Volume)
         → IsMapFrom news tables.old.volume asked.now.staging
-            (with_map rest.items left (inode tables.old.volume asked.now.staging)) rest.items left
+        (with_map rest.items left (inode tables.old.volume asked.now.staging)) rest.items left
         → IsMapFrom news (switched asked.now.staging (inode tables.old.volume asked.now.staging) rest.items left tables.old.volume) asked.now.ino
-            (with_map blocks.items linked (with_length asked.now.size asked.now.applied (inode tables.old.volume asked.now.ino))) blocks.items linked
+        (with_map blocks.items linked (with_length asked.now.size asked.now.applied (inode tables.old.volume asked.now.ino))) blocks.items linked
         → Turns tables.old.volume.geometry news v tables.old.volume []
         → Turns tables.old.volume.geometry news v tables.new.volume batch.new }
     ensures some { 0 < length batch.new }
@@ -131,9 +126,8 @@ fn place_both(
     push_extents(&mut freed, &displaced)?;
     let count = chains_for(dst.extents().len() as u64) as u32;
     let rest_count = chains_for(src.extents().len() as u64) as u32;
-    // There is room: the other way is not taken.
     let Some(taken) = tables.set_aside(count + rest_count)? else {
-        return Err(AllocError);
+        unreachable!()
     };
     let (first, last) = taken.split_at(count as usize);
     gone.extend_from_slice(first)?;
@@ -152,10 +146,13 @@ fn place_both(
         file_chain,
         freed,
     );
-    Ok((NewMap { blocks, map: dst }, NewMap {
-        blocks: rest,
-        map: src,
-    }))
+    Ok((
+        NewMap { blocks, map: dst },
+        NewMap {
+            blocks: rest,
+            map: src,
+        },
+    ))
 }
 
 // Moves the blocks on the tables. What the file had in their place waits then. After an error
@@ -184,7 +181,6 @@ fn move_blocks(
     let src = tables.map_copied(alloc, asked.staging)?;
     let dst = tables.map_copied(alloc, asked.ino)?;
     let moved = blocks_at(alloc, &src, asked.staging_block, asked.count)?;
-    // The blocks are there, so that want of memory is the only fault.
     match relink(
         alloc,
         &src,
@@ -194,7 +190,8 @@ fn move_blocks(
         asked.count,
     ) {
         Ok(linked) => place_both(alloc, tables, batch, asked, &moved, linked),
-        Err(_) => Err(AllocError),
+        Err(RelinkFault::NoMemory) => Err(AllocError),
+        Err(RelinkFault::Hole { .. }) => unreachable!(),
     }
 }
 

@@ -81,9 +81,8 @@ fn fill_staging(
     ensures err { OnErr result (tables.new.volume ≡ tables.old.volume) }
     ensures no_lines { OnErr result (batch.new ≡ []) }
 {
-    // There is room: the other way is not taken.
     let Some(fresh) = tables.set_aside(count)? else {
-        return Err(AllocError);
+        unreachable!()
     };
     let map = map_in_order(alloc, &fresh)?;
     let line = aged(&tables.inodes()[staging as usize]);

@@ -4,8 +4,10 @@ mod ContentLaws
 mod FreshDevices
 mod LandLaws
 pub mod LoanLaws
+mod LogLaws
 mod LookLaws
 mod MapAnswers
 mod MapLands
 mod OpenLaws
+mod Relinks
 mod TreeLaws

@@ -1,5 +1,5 @@
 -- What a change of maps answers and leaves.
-use Rattle.std.specs.Prelude.{◌≡◌, ◌⊎◌, ◌<◌, ◌&&◌, ◌/◌, not, ℕ, Bool, true, false, List, [], length, Result, Ok, Err}
+use Rattle.std.specs.Prelude.{◌≡◌, ◌⊎◌, ◌<◌, ◌&&◌, ◌/◌, not, ℕ, Bool, true, false, List, [], ◌++◌, length, Some, Result, Ok, Err}
 use Rattle.pm_words.specs.declared.Cell.{Cell}
 use Rattle.pm_words.specs.Cells.{cell, is_single, Settles}
 use Rattle.pm_words.specs.Frames.{SameLent, KeepsSingle}
@@ -10,7 +10,8 @@ use Rattle.disk_places.specs.Journal.{is_journal_word}
 use Rattle.disk_places.specs.Places.{is_journaled_line}
 use Rattle.disk_rules.specs.Placed.{AreSingle, IsOutside}
 use Rattle.disk_rules.specs.Volume.{Volume, chain, extents}
-use Rattle.extent_words.specs.Extents.{covers}
+use Rattle.extent_words.specs.Extents.{covers, disk_at, is_within}
+use Rattle.extent_words.specs.declared.Extent.{Extent}
 use Rattle.k_journal.specs.Commits.{TakesAStep}
 use Rattle.k_journal.specs.declared.batches.Entry.{Entry}
 use Rattle.k_land.specs.Plans.{NewChain, blocks_of, new_at}
@@ -19,7 +20,8 @@ use Rattle.k_plans.specs.Switching.{IsMapPlan}
 use Rattle.k_plans.specs.Whole.{IsWhole}
 use Rattle.k_rules.specs.Stands.{IsOldOrNew, Stands}
 use Rattle.k_rules.specs.View.{View}
-use Rattle.map_rules.specs.Changes.{given_up, IsPreallocated, IsSized}
+use Rattle.map_rules.specs.Changes.{given_up, IsMoved, IsPreallocated, IsSized}
+use Rattle.map_rules.specs.declared.moves.Move.{Move}
 use Rattle.volume_uses.specs.Uses.{is_unused}
 use Rattle.k_split.specs.declared.faults.KFault.{KFault}
 use Rattle.k_split.specs.Answers.{IsOff}
@@ -94,6 +96,20 @@ IsPreallocateAnswer staging count old new result = IsMapAnswer (IsPreallocatedWi
 -- each word of the blocks of a staging file has one candidate, so that none is lent
 abbrev pub IsStagedSingle : ℕ → Volume → List Cell → Type 0
 IsStagedSingle staging v d = (i : ℕ) → covers (extents v staging) (i / 512) ≡ true → is_single (cell d i) ≡ true
+
+-- blocks go from a staging file to a file: the blocks of their new chains are written
+pub record IsMovedWith (m : Move) (old : View) (w : Volume) (blocks : List ℕ) : Type 0 where
+  pub displaced : List Extent
+  pub moved : IsMoved (is_free_in old) m old.volume w displaced
+  pub written : blocks ≡ chain w m.ino ++ chain w m.staging
+
+abbrev pub IsRelinkAnswer : Move → View → View → Result (Unit {0}) KFault → Type 0
+IsRelinkAnswer m old new result = IsMapAnswer (IsMovedWith m old) old new result
+
+-- each word of the blocks that move has one candidate, so that none is lent
+abbrev pub IsMovedSingle : Move → Volume → List Cell → Type 0
+IsMovedSingle m v d =
+    (b i : ℕ) → is_within m.staging_block m.count b ≡ true → disk_at (extents v m.staging) b ≡ Some (i / 512) → is_single (cell d i) ≡ true
 
 -- ---- a plan with new maps, and what its landing leaves
 

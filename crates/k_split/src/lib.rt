@@ -25,6 +25,7 @@ mod looks;
 mod making;
 mod mapping;
 mod opening;
+mod relinking;
 mod removing;
 mod renaming;
 mod staging;

@@ -1,21 +1,20 @@
-use Rattle.std.proofs.Common.{◌≡◌, ◌∙◌, ◌+◌, ◌++◌, ◌∷◌, [], ◌<◌, ◌≤◌, ℕ, List, length, refl, ap, arith, subst, sym}
+use Rattle.std.proofs.Common.{◌≡◌, ◌∙◌, ◌+◌, ◌++◌, ◌∷◌, [], ◌<◌, ℕ, List, length, refl, ap, arith, subst, sym}
 use Rattle.block_counts.specs.Counts.{chains_for}
 use Rattle.disk_rules.specs.Chains.{first_or_zero}
 use Rattle.disk_rules.specs.Volume.{Volume, chain, extents}
-use Rattle.extent_words.specs.Extents.{IsCanonical}
 use Rattle.extent_words.specs.Moves.{Moves}
 use Rattle.extent_words.specs.declared.Extent.{Extent}
 use Rattle.k_land.specs.PlanLaws.{turns-none}
 use Rattle.k_land.specs.Plans.{NewChain, Turns}
 use Rattle.k_land.specs.Plans.IsMapFrom.{NewMap}
 use Rattle.k_map_plans.specs.Moving.{moved_volume}
-use Rattle.k_plans.specs.Free.{is_free_block}
+use Rattle.k_plans.specs.Free.{free_blocks, is_free_block}
 use Rattle.k_plans.specs.Switching.{IsSetAside}
 use Rattle.map_rules.specs.Taken.{AreLowest}
 use Rattle.volume_maps.specs.Hits.{in_chain-append}
 use Rattle.volume_uses.specs.Uses.{in_chain, in_map}
 use Rattle.k_map_plans.proofs.Goings.{aside-volume, once-after}
-use Rattle.k_map_plans.proofs.Moves.{both-may, plan-two}
+use Rattle.k_map_plans.proofs.Moves.{both-may, move-room, plan-two}
 use Rattle.k_map_plans.proofs.moving.place_both.Goals as goal
 
 pub returns-in_err-extend_from_slice-3-clause-once : goal.returns-in_err-extend_from_slice-3-clause-once
@@ -37,6 +36,23 @@ returns-in_err-rest-clause-once c =
 pub returns-in_err-staging_chain-clause-once : goal.returns-in_err-staging_chain-clause-once
 returns-in_err-staging_chain-clause-once c =
     once-after c.args.tables.now c.set_aside.new.self _ _ c.requires.idle (rw c.in-Some.is at c.in_ok-taken.ensures.taken)
+
+pub unreachable-requires : goal.unreachable-requires
+unreachable-requires c =
+    let t = c.args.tables.now in
+    let few : free_blocks t < c.chains_for-count.result + c.chains_for-rest_count.result = rw c.in_default.is at c.in_ok-taken.ensures.few in
+    let room = move-room t.volume c.args.asked.now c.args.linked.src c.args.linked.dst c.args.linked.freed.items c.args.moved.now c.requires.whole c.requires.may
+    c.requires.source c.requires.target c.requires.moves c.requires.at c.requires.size (free_blocks t) c.requires.room
+    in
+    absurd (omega (
+      arith,
+      few,
+      room,
+      c.chains_for-count.ensures.count,
+      c.chains_for-rest_count.ensures.count,
+      ap (λ (es : List Extent). chains_for (length es)) c.extents.ensures.all,
+      ap (λ (es : List Extent). chains_for (length es)) c.extents-2.ensures.all,
+    ))
 
 pub switch_both-requires-clause-may : goal.switch_both-requires-clause-may
 switch_both-requires-clause-may c =
@@ -151,7 +167,7 @@ returns-clause-moved c =
           (subst (λ k. AreLowest (is_free_block t) k c.in-Some.taken.items) (λ i. n_is i + r_is i) aside.lowest);
       is_moved = c.switch_both.ensures.moved
           ∙ ap (moved_volume m c.in_ok-left.left c.in_ok-staging_chain.staging_chain.items c.in_ok-map.map c.in_ok-file_chain.file_chain.items)
-              (aside-volume t u (n + r) c.in-Some.taken.items aside);
+          (aside-volume t u (n + r) c.in-Some.taken.items aside);
     }
 
 pub returns-clause-plan : goal.returns-clause-plan

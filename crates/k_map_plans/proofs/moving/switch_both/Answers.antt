@@ -1,7 +1,7 @@
-use Rattle.std.proofs.Common.{◌≡◌, [], List, ap, subst, sym}
+use Rattle.std.proofs.Common.{List, ap, subst, sym}
 use Rattle.std.specs.Prelude.{slice_index_or}
 use Rattle.disk_lines.specs.declared.Inode.{Inode}
-use Rattle.disk_rules.specs.Volume.{Volume, free_inode}
+use Rattle.disk_rules.specs.Volume.{free_inode}
 use Rattle.k_journal.specs.declared.batches.Entry.{Entry}
 use Rattle.k_land.specs.Plans.{Turns}
 use Rattle.k_plans.specs.View.{TablesView}

@@ -4,7 +4,6 @@ pub mod FreeCounts
 pub mod FreshTables
 pub mod Gifts
 pub mod Idles
-pub mod Lapping
 pub mod NamedNodes
 pub mod Names
 pub mod Places

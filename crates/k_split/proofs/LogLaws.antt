@@ -5,14 +5,16 @@ use Rattle.std.proofs.lemmas.Bool.Decides.{nat_tests}
 use Rattle.pm_words.specs.declared.Cell.{Cell}
 use Rattle.pm_words.specs.declared.Cell.TheVariants.{Single}
 use Rattle.pm_words.specs.CellLaws.{settled-single}
-use Rattle.pm_words.specs.Cells.{cell, is_single, newest}
+use Rattle.pm_words.specs.Cells.{cell, is_single, newest, Settles}
 use Rattle.pm_words.specs.Words.{Words}
 use Rattle.disk_places.specs.Journal.{is_journal_word, journaled}
 use Rattle.disk_places.specs.PlaceLaws.{behind_log-not_journaled, behind_log-words}
 use Rattle.disk_places.specs.Places.{commit_word, Geometry, is_data_block, is_journaled_line, log_line}
 use Rattle.disk_rules.specs.Placed.{block_at}
 use Rattle.disk_rules.specs.Volume.{chain, Volume}
-use Rattle.block_bytes.specs.Overwrites.{SameBesideLines}
+use Rattle.block_bytes.specs.Overwrites.{AreLinesZeroed, IsInLines, SameBesideLines}
+use Rattle.pm_words.specs.Frames.{KeepsSingle, SameLent}
+use Rattle.pm_words.specs.Images.{Follows}
 use Rattle.volume_facts.specs.ImageLaws.{journaled-same}
 use Rattle.volume_facts.specs.ReadingLaws.{reads-same}
 use Rattle.k_journal.specs.declared.batches.Entry.{Entry}
@@ -45,15 +47,27 @@ module _ (v : Volume) where
     chains = λ n k i within at. clear.singles i (stands.chains n k i within at);
     reads = λ image is.
         let f = clear.loses.each_image image is in
-        let read = stands.reads f.0 f.1 in
+        let read = stands.reads f.0 f.1.is_image in
         reads-same v.geometry (journaled f.0) (journaled image) v
         (record {
           lines = λ w line. seen f.0 image f.2 w (line_beside w line);
           chains = λ n k j short within word.
-              seen f.0 image f.2 (512 * block_at (chain v n) k + j) (data_beside (block_at (chain v n) k) j (read.blocks n short k within) word);
+              seen f.0 image f.2 (512 * block_at (chain v n) k + j) (data_beside (block_at (chain v n) k) j (read.blocks n short k 0 within) word);
         })
         read;
   }
+
+-- The lines that are zeroed are those of the log.
+abbrev Zeroed : ℕ → ℕ → List Cell → List Cell → Type 0
+Zeroed first count d e =
+    Follows (SameBesideLines first count) d e × ((i : ℕ) → ¬ IsInLines first count i → Settles (cell d i) (cell e i))
+    × Follows (AreLinesZeroed first count) d e
+
+pub cleared : (v : Volume) (d e : List Cell) (first count : ℕ) → first ≡ log_line v.geometry 0 → count ≡ v.geometry.log → length e ≡ length d → SameLent d e
+    → Zeroed first count d e → KeepsSingle d e → ClearsLog v d e
+cleared v d e first count from many size lent zeroed singles =
+    let z : Zeroed (log_line v.geometry 0) v.geometry.log d e = subst (λ m. Zeroed (log_line v.geometry 0) m d e) many (subst (λ n. Zeroed n count d e) from zeroed) in
+    record { loses = record { size = size; lent = lent; each_image = z.0; others = z.1 }; zero = z.2; singles = singles }
 
 -- K-Split is ready again.
 pub ready_cleared : (t : TablesView) (d e : List Cell) (batched lost now : Bool) (b : List Entry) → IsReady (view_of t d batched lost) b

@@ -56,5 +56,6 @@ abbrev pub IsRestartAnswer : View → View → Commit → Type 0
 IsRestartAnswer old new Commit.Done =
     (middle : List Cell) × ClearsLog old.volume old.cells middle × IsBaseAnswer 1 (record old { cells = middle }) new Commit.Done
 IsRestartAnswer old new Commit.PowerLost =
-    ((new ≡ record old { cells = new.cells; lost = true }) × LosesLog old.volume old.cells new.cells)
+    IsOff old new
+    ⊎ ((new ≡ record old { cells = new.cells; lost = true }) × LosesLog old.volume old.cells new.cells)
     ⊎ ((middle : List Cell) × ClearsLog old.volume old.cells middle × IsCut (base_set 1 old.volume) (record old { cells = middle }) new)

@@ -14,7 +14,7 @@
 //! It stands on `file_overlay`, `map_collection`, `extent_map` and the modes of `posix_types`.
 #![tactic(auto)]
 
-ghost use Rattle.data_route.specs.Laws.{CoversOnce, WritesOldBytesInPlace};
+ghost use Rattle.data_route.specs.Laws.{CoversOnce, StagesFewBlocks, WritesOldBytesInPlace};
 
 mod reads;
 #[cfg(test)]
@@ -32,4 +32,9 @@ pub fn each_byte_is_covered_once()
 /// Only bytes of the write that are below the old length are written in place.
 pub fn old_bytes_are_in_place()
     ensures { WritesOldBytesInPlace }
+{}
+
+/// A write of 1 to 131,072 bytes stages 1 to 33 blocks, which lie in the file.
+pub fn few_blocks_are_staged()
+    ensures { StagesFewBlocks }
 {}

@@ -8,8 +8,9 @@
 //! the map, else it is zero.
 //!
 //! The layer above may rely on this: each byte of a write is either staged or in place
-//! (`CoversOnce`), and only bytes of the write that are below the old length are in place. Files have
-//! at most 16,777,216 bytes. Neither call touches a device.
+//! (`CoversOnce`), only bytes of the write that are below the old length are in place, and a write of
+//! up to 131,072 bytes stages 1 to 33 blocks (`StagesFewBlocks`). Files have at most 16,777,216 bytes.
+//! Neither call touches a device.
 //!
 //! It stands on `file_overlay`, `map_collection`, `extent_map` and the modes of `posix_types`.
 #![tactic(auto)]

@@ -6,13 +6,15 @@
 //! the block in it that the last run laid there gives file block b.
 //!
 //! The layer above may rely on this: `find` is `staged_at`; a run that is laid hides the blocks of
-//! older runs that it covers, and no other (`LaidHides`); `lay` takes no memory after `reserve`.
+//! older runs that it covers, and no other (`LaidHides`); where orders rise, the run that is found is
+//! the one of greatest order that has the block (`LastIsGreatest`); `lay` takes no memory after
+//! `reserve`.
 //!
 //! File blocks, staging blocks and their ends are below 2^32. It stands on `extent_words` (which
 //! blocks a run has).
 #![tactic(auto)]
 
-ghost use Rattle.file_overlay.specs.Laws.{LaidHides};
+ghost use Rattle.file_overlay.specs.Laws.{LaidHides, LastIsGreatest, NoneHasBlock};
 
 mod overlay;
 mod runs;
@@ -25,4 +27,14 @@ pub use runs::Run;
 /// A run that is laid has its blocks, and each other block is found as before.
 pub fn a_laid_run_hides_its_blocks()
     ensures { LaidHides }
+{}
+
+/// Where the orders rise, the last run laid over a block is the one of greatest order that has it.
+pub fn the_last_run_has_the_greatest_order()
+    ensures { LastIsGreatest }
+{}
+
+/// Where no last run is found, no run has the block.
+pub fn no_run_has_a_block_that_is_not_found()
+    ensures { NoneHasBlock }
 {}

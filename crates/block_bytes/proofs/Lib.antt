@@ -1,6 +1,7 @@
 pub mod Before
 pub mod Bytes
 pub mod Cells
+pub mod LinesZeroed
 pub mod Overwriting
 pub mod Reached
 pub mod Zeros

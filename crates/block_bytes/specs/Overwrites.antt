@@ -91,3 +91,24 @@ SameBeside blocks before image = (i : ℕ) → IsOutside blocks i → image i �
 pub record IsZeroed (blocks : List ℕ) (before image : Words) : Type 0 where
   pub zero : AreZero blocks image
   pub others : SameBeside blocks before image
+
+-- ---- lines of zeros
+
+-- word i is in one of `count` lines from `first` on
+pub record IsInLines (first count i : ℕ) : Type 0 where
+  pub from : first ≤ i / 8
+  pub below : i / 8 < first + count
+
+-- The lines may be zeroed: they are in the device, and each word of them has one candidate.
+pub record MayZeroLines (first count : ℕ) (d : List Cell) : Type 0 where
+  pub in_device : 8 * (first + count) ≤ length d
+  pub single : (i : ℕ) → IsInLines first count i → is_single (cell d i) ≡ true
+
+-- two images that differ at most in words of the lines
+abbrev pub SameBesideLines : ℕ → ℕ → Words → Words → Type 0
+SameBesideLines first count before image = (i : ℕ) → ¬ IsInLines first count i → image i ≡ before i
+
+-- an image after the lines were zeroed, beside the image before
+pub record AreLinesZeroed (first count : ℕ) (before image : Words) : Type 0 where
+  pub zero : (i : ℕ) → IsInLines first count i → image i ≡ 0
+  pub others : SameBesideLines first count before image

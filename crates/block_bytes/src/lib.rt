@@ -4,7 +4,7 @@
 //! the range, flushes each line that it touched once, and fences once. The layer above may rely on this:
 //! wherever the power goes, each image is one of those before, but for bytes of the range, each of which is
 //! the old one or the new one (`IsOverwritten`); with power left at the end each of them is the new one, and
-//! durable. `zero_blocks` puts zeros likewise. `read_block` reads what was stored last.
+//! durable. `zero_blocks` and `zero_lines` put zeros likewise. `read_block` reads what was stored last.
 //!
 //! No call takes memory. Stands on `pm_lines` (the device) and `extent_map` (the map).
 #![tactic(auto)]
@@ -12,11 +12,13 @@
 ghost use Rattle.block_bytes.specs.Puts.{PutsBytes};
 
 mod blocks;
+mod lines;
 mod pieces;
 mod ranges;
 mod words;
 
 pub use blocks::{read_block, zero_blocks};
+pub use lines::zero_lines;
 pub use ranges::write_bytes;
 
 /// Each byte that is put is there afterwards, and each other byte is as it was.

@@ -10,7 +10,8 @@ use Rattle.disk_lines.specs.declared.Inode.{Inode}
 use Rattle.disk_places.specs.Places.{is_data_block}
 use Rattle.disk_rules.specs.Placed.{block_at, extent_at, no_extent}
 use Rattle.disk_rules.specs.Room.{has_none}
-use Rattle.disk_rules.specs.Rules.{IsInData, file_blocks_of}
+use Rattle.disk_lines.specs.declared.Kind.TheVariants.{File}
+use Rattle.disk_rules.specs.Rules.{IsInData, IsKindAt, file_blocks_of}
 use Rattle.disk_rules.specs.Uses.{owners}
 use Rattle.disk_rules.specs.Volume.{Volume, chain, extents, inode}
 use Rattle.extent_words.specs.declared.Extent.{Extent}
@@ -20,13 +21,14 @@ use Rattle.volume_changes.specs.Changes.{MayDrop}
 use Rattle.volume_changes.specs.CountLaws.{gone_node-fits}
 use Rattle.volume_changes.specs.LineLaws.{lines-inode, maps-inode}
 use Rattle.volume_changes.specs.MapLaws.{dropped-keeps}
-use Rattle.volume_facts.specs.Changes.{chain-set_other, chain-set_same}
+use Rattle.volume_facts.specs.Changes.{chain-set_other, chain-set_same, extents-set_other}
 use Rattle.volume_uses.specs.OwnerLaws.{one_use, uses-le-owners}
 use Rattle.volume_uses.specs.PoolLaws.{covered-in_data, has_none-some, is_unused-given, is_unused-others}
 use Rattle.volume_uses.specs.UseLaws.{covers-in_map, in_chain-at, in_chain-some, in_chain-two, in_map-at, in_map-covers, in_map-two, length-uses_by}
 use Rattle.volume_uses.specs.Uses.{in_chain, in_map, is_unused}
 use Rattle.k_plans.specs.Free.{AreTables, is_free_block}
 use Rattle.k_plans.specs.Giving.{AreGiven, MayGiveChain, MayGiveMap, is_held}
+use Rattle.k_plans.specs.Plans.{KeepsStaged}
 use Rattle.k_plans.specs.View.{TablesView, with_volume}
 use Rattle.k_plans.specs.Whole.{IsWhole}
 use Rattle.k_plans.proofs.Wholes.{inodes-set}
@@ -82,14 +84,14 @@ not_unused v ino b below used =
     (has_none-some (owners v b)
     (omega (arith, used, uses-le-owners v b ino below, length-uses_by ino (chain v ino) (extents v ino) b)))
 
-not_free : (t : TablesView) (pool : FreeSet) (ino b : ℕ) → AreTables t pool → ino < length t.volume.inodes
+pub not_free : (t : TablesView) (pool : FreeSet) (ino b : ℕ) → AreTables t pool → ino < length t.volume.inodes
     → 1 ≤ in_chain (chain t.volume ino) b + in_map (extents t.volume ino) b → is_free_at pool b ≡ false
 not_free t pool ino b are below used =
     are.pool_is.free b ∙ ap (λ u. u && not (is_among t.waiting b)) (not_unused t.volume ino b below used)
 
 -- ---- they may be given
 
-in-pool : (t : TablesView) (pool : FreeSet) (b : ℕ) → AreTables t pool → is_data_block t.volume.geometry b ≡ true
+pub in-pool : (t : TablesView) (pool : FreeSet) (b : ℕ) → AreTables t pool → is_data_block t.volume.geometry b ≡ true
     → has_block pool b ≡ true
 in-pool t pool b are in_data =
     let least = are.whole.kept.geometry.least_data in
@@ -169,6 +171,13 @@ dropped-whole v ino whole may = record {
 
     own : chain (dropped ino v) ino ≡ []
     own = chain-set_same ino gone [] [] v (omega (arith, may.below, whole.maps.chain_count))
+
+-- a file is no staging file
+pub dropped-staged : (v : Volume) (ino : ℕ) → IsWhole v → MayDrop ino v → KeepsStaged v (dropped ino v)
+dropped-staged v ino whole may i least most =
+    let kept = whole.kept.kept.kinds ino (omega (arith, may.below, whole.kept.all.inode_count)) in
+    let file : IsKindAt ino File = subst (IsKindAt ino) may.file kept in
+    extents-set_other ino (gone_node (inode v ino)) [] [] v i (λ same. omega (arith, file, same))
 
 pub dropped-tables : (t : TablesView) (ino : ℕ) (pool after : FreeSet) → AreTables t pool → MayDrop ino t.volume
     → AreGiven (is_held (chain t.volume ino) (extents t.volume ino)) pool after

@@ -1,12 +1,14 @@
+pub mod Bases
 pub mod Drops
 pub mod FreeCounts
 pub mod FreshTables
 pub mod Gifts
 pub mod Idles
+pub mod NamedNodes
+pub mod Names
 pub mod Places
 pub mod Removals
 pub mod Renames
-pub mod NamedNodes
-pub mod Names
+pub mod Switches
 pub mod TableLists
 pub mod Wholes

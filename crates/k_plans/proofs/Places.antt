@@ -128,4 +128,4 @@ makes-plan directory path place t old node r names b same whole makes turns some
     plan-from t old (with_lines place.ino node names t) (made_at directory path place v) b same
     (makes-made directory path place t node r names makes)
     (subst (λ w. Turns v.geometry [] v w b) (λ i. row_set place.line (Some (makes.row_is i)) (node_set place.ino (makes.node_is i) v)) (turns root extents))
-    some (omega arith) (made-whole directory path place v whole makes.is_place)
+    some (omega arith) (λ ino least few. refl) (made-whole directory path place v whole makes.is_place)

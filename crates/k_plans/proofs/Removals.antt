@@ -58,7 +58,7 @@ pub unnames-plan : (path : List (List ℕ)) (entry : Entry) (t old : TablesView)
     → IsPlan old (with_names names t) b
 unnames-plan path entry t old names b same whole u turns some most =
     plan-from t old (with_names names t) (unnamed entry.line t.volume) b same (unnames-is path entry t names u) turns some (omega arith)
-    (unnamed-whole path entry t.volume whole u.is_file)
+    (λ ino least most. refl) (unnamed-whole path entry t.volume whole u.is_file)
 
 -- ---- a directory with its name
 
@@ -116,4 +116,4 @@ removes-plan path entry t old gone names b same whole r turns some most =
     (removes-is path entry t gone names r)
     (subst (λ (x : Inode). Turns v.geometry [] v (row_set entry.line None (node_set entry.child x v)) b) r.gone_is
     (turns (ap (λ (x : Inode). x.root) r.gone_is ∙ sym none.root) (ap (λ (x : Inode). x.extents) r.gone_is ∙ sym none.extents)))
-    some (omega arith) (removed-whole path entry v whole r.is_directory)
+    some (omega arith) (λ ino least few. refl) (removed-whole path entry v whole r.is_directory)

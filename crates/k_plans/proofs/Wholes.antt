@@ -20,7 +20,7 @@ use Rattle.k_land.specs.Plans.{Turns}
 use Rattle.volume_facts.specs.Changes.{inode-set_same, inode-set_other}
 use Rattle.volume_uses.specs.Uses.{is_unused}
 use Rattle.k_plans.specs.Free.{AreTables}
-use Rattle.k_plans.specs.Plans.{IsPlan}
+use Rattle.k_plans.specs.Plans.{IsPlan, KeepsStaged}
 use Rattle.k_plans.specs.View.{TablesView, with_volume}
 use Rattle.k_plans.specs.Whole.{IsWhole}
 
@@ -55,10 +55,11 @@ after-tables t u w pool is are whole geometry same =
 
 -- lines that turn the volume are a plan
 pub plan-from : (t old new : TablesView) (w : Volume) (b : List Entry) → t ≡ old → new ≡ with_volume w t
-    → Turns t.volume.geometry [] t.volume w b → 0 < length b → length b ≤ 4 → IsWhole w → IsPlan old new b
-plan-from t old new w b same is turns some most whole =
+    → Turns t.volume.geometry [] t.volume w b → 0 < length b → length b ≤ 4 → KeepsStaged t.volume w → IsWhole w → IsPlan old new b
+plan-from t old new w b same is turns some most staged whole =
     subst (λ o. IsPlan o new b) same
-    (subst (λ n. IsPlan t n b) (sym is) (record { turns = turns; some = some; most = most; waiting = refl; whole = whole }))
+    (subst (λ n. IsPlan t n b) (sym is)
+    (record { turns = turns; some = some; most = most; waiting = refl; staged = staged; whole = whole }))
 
 -- ---- inodes
 

@@ -5,6 +5,7 @@ pub mod Making
 pub mod Plans
 pub mod Removing
 pub mod Renaming
+pub mod Switching
 pub mod View
 pub mod Whole
 pub mod WholeLaws

@@ -8,18 +8,20 @@
 //! and put the lines of the change into an empty `Batch`. The layer above may rely on this: the
 //! answer is one clause by cases; a refusal comes just where the rows of the call say, and leaves
 //! tables and batch; else the volume is changed by the definition of `k_rules`, and the batch turns
-//! the old volume into the new one (`IsPlan`), so that landing it is all that is left.
+//! the old volume into the new one (`IsPlan`), so that landing it is all that is left. Changes of
+//! maps are planned above, of three steps: `set_aside`, `switch` and `release`.
 //!
-//! Stands on `k_tables` (look-ups), `k_reading` (tables that were read), `k_land` (lines of plans),
-//! `block_pool`, `volume_changes` and `volume_uses`; its test also on `image_facts`.
+//! Stands on `k_tables`, `k_reading`, `k_land`, `block_pool`, `volume_changes` and `volume_maps`.
 #![tactic(auto)]
 
 mod dropping;
 mod faults;
 mod giving;
+mod log_base;
 mod making;
 mod removing;
 mod renaming;
+mod switching;
 mod tables;
 
 pub use faults::PlanFault;

@@ -1,8 +1,11 @@
 -- What a change leaves that was planned and landed, or neither.
 use Rattle.std.proofs.Common.{◌≡◌, ℕ, Bool, true, false, List, [], length, Option, Some, None, Result, Ok, Err, refl, sym, ◌∙◌, ap, subst, arith, inl, inr}
-use Rattle.std.specs.Prelude.{◌==◌, ◌+◌, ◌*◌, OnOk, OnErr}
+use Rattle.std.specs.Prelude.{◌==◌, ◌+◌, ◌*◌, ◌/◌, OnOk, OnErr}
 use Rattle.pm_words.specs.declared.Cell.{Cell}
+use Rattle.pm_words.specs.Frames.{KeepsSingle}
 use Rattle.pm_words.specs.Powers.{is_on, Steps, Supply}
+use Rattle.disk_places.specs.Places.{is_data_block}
+use Rattle.extent_words.specs.Extents.{covers}
 use Rattle.disk_rules.specs.Volume.{Volume}
 use Rattle.k_journal.specs.declared.batches.Entry.{Entry}
 use Rattle.k_journal.specs.declared.outcomes.Commit.{Commit}
@@ -11,7 +14,7 @@ use Rattle.k_land.specs.Plans.{Turns}
 use Rattle.k_plans.specs.Renaming.{IsRenamed, IsRenamePlan}
 use Rattle.k_rules.specs.Spaces.{volume_space}
 use Rattle.posix_words.specs.NameRows.{rename_rows}
-use Rattle.k_plans.specs.Plans.{IsPlan}
+use Rattle.k_plans.specs.Plans.{IsPlan, KeepsStaged}
 use Rattle.k_plans.specs.View.{TablesView}
 use Rattle.k_rules.specs.View.{View}
 use Rattle.posix_types.specs.declared.item.Outcome.{Outcome}
@@ -20,7 +23,8 @@ use Rattle.posix_words.specs.Outcomes.{answer, first}
 use Rattle.k_split.specs.declared.faults.KFault.{KFault}
 use Rattle.k_split.specs.Answers.{IsAnswer, IsCommitAnswer, IsPaid}
 use Rattle.k_split.specs.Landed.{IsLanded, IsLandedDone, IsLandedLost, IsPlanned}
-use Rattle.k_split.specs.Order.{IsReady, view_of}
+use Rattle.k_split.specs.Order.{IsReady, IsUnstagedSingle, view_of}
+use Rattle.k_split.proofs.LandLaws.{same_geometry}
 
 -- a K-Split that is handed power is not lost
 not_lost : (lost on : Bool) → (lost ≡ true → on ≡ false) → on ≡ true → lost ≡ false
@@ -31,6 +35,14 @@ pub awake : (t : TablesView) (d : List Cell) (batched lost : Bool) (k : View) (p
     → (k.lost ≡ true → is_on p ≡ false) → is_on p ≡ true → lost ≡ false
 awake t d batched lost k p same asleep on =
     not_lost lost (is_on p) (subst (λ (x : View). x.lost ≡ true → is_on p ≡ false) (sym same) asleep) on
+
+-- data blocks that no staging file has stay single
+pub unstaged-kept : (v w : Volume) (d e : List Cell) → w.geometry ≡ v.geometry → KeepsStaged v w → KeepsSingle d e
+    → IsUnstagedSingle v d → IsUnstagedSingle w e
+unstaged-kept v w d e geometry staged singles single i in_data free =
+    singles i
+    (single i (subst (λ g. is_data_block g (i / 512) ≡ true) geometry in_data) (λ ino least most.
+    ap (λ es. covers es (i / 512)) (sym (staged ino least most)) ∙ free ino least most))
 
 -- ---- a plan, from the tables t to the tables u
 
@@ -47,6 +59,7 @@ module _ (t u : TablesView) (d : List Cell) (batched lost : Bool) (c b : List En
       whole = plan.whole;
       settled = λ off. refl;
       none_waits = λ off. plan.waiting ∙ (ready is).order.none_waits off;
+      unstaged = unstaged-kept t.volume u.volume d e (same_geometry t.volume u.volume b d planned) plan.staged landed.singles (ready is).order.unstaged;
     };
     unbatched = (ready is).unbatched;
     no_lines = none;
@@ -170,6 +183,7 @@ module _ (t : TablesView) (d : List Cell) (batched lost : Bool) (c : List Entry)
       whole = (ready is).order.whole;
       settled = λ off. refl;
       none_waits = (ready is).order.none_waits;
+      unstaged = λ i in_data free. landed.singles i ((ready is).order.unstaged i in_data free);
     };
     unbatched = (ready is).unbatched;
     no_lines = none;

@@ -19,7 +19,7 @@ use Rattle.k_split.specs.Answers.{Changes}
 use Rattle.k_split.specs.Landed.{IsLandedDone, IsLandedLost, IsPlanned}
 
 -- the volume of a plan has the numbers of the old one
-same_geometry : (v w : Volume) (b : List Entry) (d : List Cell) → IsPlanned v w b d → w.geometry ≡ v.geometry
+pub same_geometry : (v w : Volume) (b : List Entry) (d : List Cell) → IsPlanned v w b d → w.geometry ≡ v.geometry
 same_geometry v w b d planned =
     (planned.turns.reads (journaled (words_of d)) (λ k below. absurd (omega arith)) (planned.stands.reads (words_of d) (IsImage-words_of d))).geometry
 

@@ -116,6 +116,7 @@ module _ (g : Geometry) (d : List Cell) (is : IsGeometry g) (open_is : IsOpenabl
           whole = subst IsWhole (sym volume_is) whole;
           settled = λ none. refl;
           none_waits = λ none. none_waits;
+          unstaged = λ i in_data free. open_is.single i;
         };
         unbatched = refl;
         no_lines = refl;

@@ -1,7 +1,11 @@
 pub mod Answers
+pub mod Bytes
 pub mod Contents
 pub mod Faults
 pub mod Landed
+pub mod Laps
+pub mod Loans
 pub mod Looks
+pub mod MapChanges
 pub mod Names
 pub mod Order

@@ -23,8 +23,9 @@ use thiserror::Error;
 ///
 /// # Steps
 ///
-/// A change takes at most 256 steps of its power, and at least one where it is done; a step is a
-/// store, a flush or a fence of the device. A `KSplit` that is lost is handed no power that is on.
+/// A change of names takes at most 256 steps of its power, one of maps at most 2^15, and each at
+/// least one where it is done; a step is a store, a flush or a fence of the device. A `KSplit` that
+/// is lost is handed no power that is on.
 #[derive(Clone, Copy, Debug, PartialEq, Eq, Error)]
 pub enum KFault {
     /// The call answers this error.

@@ -11,18 +11,24 @@
 //! (`IsAnswer`). A K-Split that lost its power is lost: its tables mean nothing more, it answers
 //! `PowerLost`, and its device can be taken back.
 //!
-//! Stands on `k_plans` (the changes of names), `k_land`, `k_reading`, `k_tables` and `k_content`.
+//! Stands on `k_plans` (changes of names), `k_map_plans` (of maps), `k_land`, `k_reading` and `k_content`.
 #![tactic(auto)]
 
+mod bytes;
 mod changes;
 mod dropping;
 mod faults;
+mod laps;
 mod laws;
+mod lending;
 mod looks;
 mod making;
+mod mapping;
 mod opening;
+mod relinking;
 mod removing;
 mod renaming;
+mod staging;
 mod state;
 mod trees;
 

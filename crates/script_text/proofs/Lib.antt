@@ -6,6 +6,7 @@ pub mod Digits
 pub mod Ends
 pub mod FirstBad
 pub mod FlagsBack
+pub mod Known
 pub mod Limits
 pub mod LinesCut
 pub mod LinesRead

@@ -1,8 +1,9 @@
 -- What holds of every script.
-use Rattle.std.specs.Prelude.{◌≡◌, ℕ, ◌+◌, ◌≤◌, ◌==◌, List, [], ◌∷◌, ◌++◌, length, flat_map, sum_by, Bool, true, not, ◌&&◌, ◌||◌, if◌then◌else◌, Some, None}
+use Rattle.std.specs.Prelude.{◌≡◌, ℕ, ◌≤◌, ◌==◌, List, [], ◌∷◌, ◌++◌, length, flat_map, Bool, true, not, ◌&&◌, ◌||◌, if◌then◌else◌, Some, None}
 use Rattle.std.specs.List.{list_all}
 use Rattle.path_spelling.specs.Spelling.{AreSpelled}
 use Rattle.posix_types.specs.Scripts.{Scripts}
+use Rattle.posix_spec.specs.Scripted.{call_count}
 use Rattle.script_text.specs.Lines.{Line, lines_of}
 use Rattle.script_text.specs.Scripts.{bad_line, most_calls, most_threads, scripts_of}
 use Rattle.script_text.specs.Spelled.{AreSpelledCalls}
@@ -15,10 +16,6 @@ PathsAreSpelled = (word : List ℕ) (path : List (List ℕ)) → path_in word �
 -- and those of all paths of a script's calls
 abbrev pub ScriptsAreSpelled : Type 0
 ScriptsAreSpelled = (bytes : List ℕ) → AreSpelledCalls (scripts_of bytes)
-
--- the calls of the set-up and of all threads
-abbrev pub call_count : Scripts → ℕ
-call_count scripts = length scripts.setup + sum_by length scripts.threads
 
 -- there are at most 8 threads and 4,096 calls, where no line is bad
 pub record IsWithinLimits (scripts : Scripts) : Type 0 where

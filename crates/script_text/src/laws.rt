@@ -1,4 +1,5 @@
 //! Laws of scripts, for the layer that runs them.
+ghost use Rattle.script_text.specs.Known.{KnownCallsAlone, OneThreadAlone};
 ghost use Rattle.script_text.specs.Laws.{LinesAreCut, PathsAreSpelled, ScriptsAreSpelled, ScriptsAreWithinLimits};
 ghost use Rattle.script_text.specs.Written.{CallsAreReadBack};
 
@@ -25,4 +26,11 @@ pub fn calls_are_read_back()
 /// The lines of a script, joined by their ends, are its bytes; they are cut at each byte 10.
 pub fn lines_are_cut()
     ensures { LinesAreCut }
+{}
+
+/// The calls of a script are those of the table of known words. Where it has neither heading, there is no
+/// set-up, and one thread at most.
+pub fn scripts_have_known_words()
+    ensures calls { KnownCallsAlone }
+    ensures headings { OneThreadAlone }
 {}

@@ -7,7 +7,8 @@
 //! now; a line with another one is a bad line.
 //!
 //! The layer above may rely on this: all paths of a script's calls are spelled, there are at most 8
-//! threads and 4,096 calls, and what a call is printed as is read as that call (`laws`).
+//! threads and 4,096 calls, each call has a known word, and the words of what a call is printed as are
+//! read as that call (`laws`).
 //!
 //! Stands on `posix_types`, on `path_spelling` and `disk_lines` for the bytes of names, on
 //! `disk_places` for equal bytes, and on `report_text` for the texts of flags and calls.
@@ -32,7 +33,7 @@ mod tests;
 pub use faults::ScriptFault;
 pub use laws::{
     calls_are_read_back, lines_are_cut, paths_are_spelled, scripts_are_spelled,
-    scripts_are_within_limits,
+    scripts_are_within_limits, scripts_have_known_words,
 };
 pub use numbers::read_number;
 pub use rows::{

@@ -16,8 +16,8 @@ IsBuilt (Call.List p) = Unit {0}
 IsBuilt call = ⊥
 
 -- a path under which a call may give a node a name is spelled
-abbrev pub IsSpelledCall : Call → Type 0
-IsSpelledCall (Call.Mkdir p) = AreSpelled p
-IsSpelledCall (Call.Rename p q) = AreSpelled q
-IsSpelledCall (Call.Open h p f) = AreSpelled p
-IsSpelledCall call = Unit {0}
+abbrev pub NamesAreSpelled : Call → Type 0
+NamesAreSpelled (Call.Mkdir p) = AreSpelled p
+NamesAreSpelled (Call.Rename p q) = AreSpelled q
+NamesAreSpelled (Call.Open h p f) = AreSpelled p
+NamesAreSpelled call = Unit {0}

@@ -2,7 +2,7 @@
 ghost use Rattle.std.specs.Prelude.{◌≡◌, true};
 ghost use Rattle.pm_words.specs.Powers.{is_on, Steps};
 ghost use Rattle.split_calls.specs.Answers.{IsEnded};
-ghost use Rattle.split_calls.specs.Built.{IsBuilt, IsSpelledCall};
+ghost use Rattle.split_calls.specs.Built.{IsBuilt, NamesAreSpelled};
 ghost use Rattle.split_calls.specs.Runs.{RunsInSome};
 
 use crate::looks::{list, stat};
@@ -25,7 +25,7 @@ pub fn run_call(
     power: &mut Power,
 ) -> Result<Told, NoMemory>
     requires built { IsBuilt call.now }
-    requires spelled { IsSpelledCall call.now }
+    requires spelled { NamesAreSpelled call.now }
     requires runs { RunsInSome k.old files.old.tables }
     requires power { is_on power.old ≡ true }
     ensures steps { Steps 512 power.old power.new }

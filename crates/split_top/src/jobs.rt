@@ -11,7 +11,8 @@ use outside::{FileFault, Files, Sink, SinkFault};
 use pm_lines::Choice;
 use posix_types::Scripts;
 use report_text::{history_text, tree_text};
-use script_text::{ScriptFault, read_script, scripts_are_spelled, scripts_are_within_limits};
+use script_text::{ScriptFault, read_script};
+use script_text::{scripts_are_spelled, scripts_are_within_limits, scripts_have_known_words};
 use split_calls::NoMemory;
 use std::alloc::Global;
 
@@ -76,6 +77,7 @@ pub(crate) fn run_script(
 {
     scripts_are_spelled();
     scripts_are_within_limits();
+    scripts_have_known_words();
     match read_script(alloc, bytes) {
         Ok(scripts) => match output_of(alloc, scripts, stop, choice) {
             Ok(output) => Ok(output),

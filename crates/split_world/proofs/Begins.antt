@@ -21,7 +21,7 @@ use Rattle.posix_spec.specs.Step.{step}
 use Rattle.world_images.specs.Promised.{KeepsPromise}
 use Rattle.world_images.specs.Running.{promise_now}
 use Rattle.split_calls.specs.Answers.{IsEnded}
-use Rattle.split_calls.specs.Built.{IsBuilt, IsSpelledCall}
+use Rattle.split_calls.specs.Built.{IsBuilt, NamesAreSpelled}
 use Rattle.split_calls.specs.Runs.{HasNoLog, RunsAs, RunsInSome}
 use Rattle.split_calls.proofs.NoLog.{runs_no_log}
 use Rattle.split_calls.specs.declared.outcomes.Told.{Told}
@@ -49,7 +49,7 @@ module _ (k : View) (t : Tables) (g : Geometry) (start : State) (scripts : Scrip
   pub some_runs : RunsInSome k t
   some_runs = record { geometry_is = g; made = length history; state = run start history; few = few; runs = runs }
 
-  pub is_built : (who : Who) (call : Call) → next_call scripts history who ≡ Some call → IsBuilt call × IsSpelledCall call
+  pub is_built : (who : Who) (call : Call) → next_call scripts history who ≡ Some call → IsBuilt call × NamesAreSpelled call
   is_built who call next = world.built who (length (items_of history who)) call next
 
   other : start.mode ≢ Mode.Posix

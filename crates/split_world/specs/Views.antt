@@ -17,7 +17,7 @@ use Rattle.posix_spec.specs.Scripted.{call_count, items_of, next_call, script_of
 use Rattle.posix_spec.specs.State.{State}
 use Rattle.posix_spec.specs.Step.{step}
 use Rattle.world_images.specs.Promised.{KeepsPromise}
-use Rattle.split_calls.specs.Built.{IsBuilt, IsSpelledCall}
+use Rattle.split_calls.specs.Built.{IsBuilt, NamesAreSpelled}
 use Rattle.split_calls.specs.Runs.{HasNoLog, RunsAs}
 use Rattle.split_calls.specs.declared.outcomes.NoMemory.{NoMemory}
 use Rattle.split_world.specs.declared.outcomes.Ended.{Ended}
@@ -42,7 +42,7 @@ unfinished_of (Some u) = (u.who, u.call) ∷ []
 
 -- each call of the scripts is built, and its paths are spelled
 abbrev pub AreBuilt : Scripts → Type 0
-AreBuilt scripts = (who : Who) (i : ℕ) (call : Call) → slice_get (script_of scripts who) i ≡ Some call → IsBuilt call × IsSpelledCall call
+AreBuilt scripts = (who : Who) (i : ℕ) (call : Call) → slice_get (script_of scripts who) i ≡ Some call → IsBuilt call × NamesAreSpelled call
 
 -- THE WORLD. The history is legal and follows the scripts. While the power is on, K-Split and the open files run in the state
 -- of the history, and no call is unfinished; once it went, the device keeps the promise, and no log is left.

@@ -16,7 +16,7 @@ use Rattle.k_plans.specs.contracts.tables.Tables.{the_view}
 use Rattle.k_plans.specs.View.{TablesView, with_volume}
 use Rattle.k_rules.specs.Changes.{dropped, gone_node}
 use Rattle.volume_changes.specs.Changes.{MayDrop}
-use Rattle.k_plans.proofs.Drops.{chain-may, dropped-after, dropped-whole, map-apart, map-may}
+use Rattle.k_plans.proofs.Drops.{chain-may, dropped-after, dropped-staged, dropped-whole, map-apart, map-may}
 use Rattle.k_plans.proofs.Wholes.{plan-from}
 use Rattle.k_plans.proofs.tables.Tables.drop_node.Goals as goal
 
@@ -107,4 +107,5 @@ returns-clause-plan c =
     (NoMap (ap (λ (x : Inode). x.root) (gone_is c)) (ap (λ (x : Inode). x.extents) (gone_is c)) refl refl)
     (subst (Turns c.self.inside.geometry [] v v) (sym c.requires.empty) (turns-none c.self.inside.geometry [] v))))
     c.put_inode.ensures.some (omega (arith, c.put_inode.ensures.count, ap (λ (b : List Entry). length b) c.requires.empty))
+    (dropped-staged v c.args.ino c.self.invariant.whole (may c))
     (dropped-whole v c.args.ino c.self.invariant.whole (may c))

@@ -53,4 +53,5 @@ returns-clause-plan c =
     (c.put_name.ensures.turns [] (before c).volume (before c).volume
     (subst (Turns c.self.inside.geometry [] (before c).volume (before c).volume) (sym c.requires.empty) (turns-none c.self.inside.geometry [] (before c).volume)))
     c.put_name.ensures.some (omega (arith, c.put_name.ensures.count, ap (λ (b : List Entry). length b) c.requires.empty))
+    (λ ino least few. refl)
     (moves-whole c.args.path.now c.args.to.now c.args.moving c.args.name (before c).volume c.self.invariant.whole (moves c) c.requires.target)

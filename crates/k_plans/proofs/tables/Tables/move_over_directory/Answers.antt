@@ -78,4 +78,5 @@ returns-clause-plan c =
     c.put_over_directory.new.batch)
     (gone_is c)
     (c.put_over_directory.ensures.turns v (ap (λ (x : Inode). x.root) (gone_is c) ∙ sym none.root) (ap (λ (x : Inode). x.extents) (gone_is c) ∙ sym none.extents)))
-    c.put_over_directory.ensures.some (omega (arith, c.put_over_directory.ensures.most)) (whole_after c)
+    c.put_over_directory.ensures.some (omega (arith, c.put_over_directory.ensures.most))
+    (λ ino least few. refl) (whole_after c)

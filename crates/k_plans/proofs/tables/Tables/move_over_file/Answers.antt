@@ -54,4 +54,5 @@ invariant_of-self c =
 pub returns-clause-plan : goal.returns-clause-plan
 returns-clause-plan c =
     plan-from (before c) c.args.self.now _ (after c) c.put_over_file.new.batch c.self.view_is (is_after c)
-    (c.put_over_file.ensures.turns (before c).volume) c.put_over_file.ensures.some (omega (arith, c.put_over_file.ensures.most)) (whole_after c)
+    (c.put_over_file.ensures.turns (before c).volume) c.put_over_file.ensures.some (omega (arith, c.put_over_file.ensures.most))
+    (λ ino least few. refl) (whole_after c)

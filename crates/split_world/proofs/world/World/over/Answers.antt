@@ -1,9 +1,14 @@
 use Rattle.std.proofs.Common.{false, []}
+use Rattle.pm_words.specs.CellLaws.{single-home}
+use Rattle.pm_words.specs.Cells.{cell}
 use Rattle.pm_words.specs.Images.{words_of}
 use Rattle.disk_rules.specs.Content.{content}
 use Rattle.posix_spec.specs.Tree.{start}
 use Rattle.split_world.proofs.Starting.{nothing_live, shape_of, shown_tree, world_over}
 use Rattle.split_world.proofs.world.World.over.Goals as goal
+
+pub tree-requires-clause-home : goal.tree-requires-clause-home
+tree-requires-clause-home c i = single-home (cell c.args.k.cells i) (c.requires.mounted.single i)
 
 pub invariant_of-result : goal.invariant_of-result
 invariant_of-result c =

@@ -1,0 +1,4 @@
+mod Goings
+mod Moves
+mod Sizes
+mod Stagings

@@ -1,0 +1,144 @@
+-- The blocks of a staging file: what its new map asks for.
+use Rattle.std.proofs.Common.{◌≡◌, ◌≤◌, ◌+◌, ℕ, true, not, List, [], ◌∷◌, length, Result, Ok, Err, refl, sym, ◌∙◌, ap, inr, arith, subst}
+use Rattle.std.specs.Prelude.{All, IfOk, OnOk, ◌&&◌, ◌==◌}
+use Rattle.std.specs.declared.alloc.AllocError.{AllocError}
+use Rattle.std.proofs.lemmas.Bool.Decides.{nat_tests}
+use Rattle.std.proofs.lemmas.List.Elements.{All-nil}
+use Rattle.disk_lines.specs.declared.Inode.{Inode}
+use Rattle.disk_lines.specs.declared.Kind.{Kind}
+use Rattle.disk_lines.specs.declared.Kind.TheVariants.{Staging}
+use Rattle.disk_lines.specs.Lines.{has_map_or_none, is_inode, is_inode_of_kind}
+use Rattle.disk_rules.specs.Rules.{file_blocks_of}
+use Rattle.disk_rules.specs.Volume.{Volume, extents, inode}
+use Rattle.extent_words.specs.declared.Extent.{Extent}
+use Rattle.k_journal.specs.declared.batches.Entry.{Entry}
+use Rattle.k_land.specs.Plans.{NewChain}
+use Rattle.k_plans.specs.View.{TablesView}
+use Rattle.k_plans.specs.Whole.{IsWhole}
+use Rattle.block_counts.specs.Counts.{chains_for}
+use Rattle.block_pool.specs.FreeSets.{is_among}
+use Rattle.disk_places.specs.Places.{reserve}
+use Rattle.k_plans.specs.Free.{free_blocks, is_free_block}
+use Rattle.k_plans.specs.Switching.{IsMapPlan, IsSetAside, WaitOnce}
+use Rattle.map_rules.specs.Changes.{aged, HasInOrder, IsPreallocated}
+use Rattle.map_rules.specs.Taken.{switched, with_map}
+use Rattle.std.specs.List.{list_any}
+use Rattle.volume_maps.specs.Bounds.{map-bound}
+use Rattle.volume_maps.specs.Hits.{in_chain-append, in_map-in_order}
+use Rattle.volume_maps.specs.Shorts.{in_order-below}
+use Rattle.volume_maps.specs.Switches.{unused-data}
+use Rattle.volume_maps.specs.TakenLaws.{AreLowest-append, rising-once}
+use Rattle.volume_uses.specs.Uses.{in_chain, in_map, is_unused}
+use Rattle.k_map_plans.specs.Going.{HasGoneOver, MayGoOver}
+use Rattle.k_map_plans.specs.Plans.{IsStagingFile}
+use Rattle.k_map_plans.proofs.Goings.{aside-once, aside-unused, aside-volume, among-append, not_or}
+use Rattle.k_map_plans.proofs.Sizes.{none-waits}
+
+-- ---- the line of a staging file
+
+record IsBareStaging (x : Inode) : Type 0 where
+  size : x.size ≡ 0
+  applied : x.applied ≡ 0
+
+bare : (x : Inode) → x.kind ≡ Staging → is_inode x ≡ true → IsBareStaging x
+bare x staging fits = parts (subst (λ (k : Kind). is_inode_of_kind k x ≡ true) staging fits)
+  where
+    parts : ((x.size == 0) && (x.applied == 0) && has_map_or_none x) ≡ true → IsBareStaging x
+    parts fits = record { size = grind (arith, nat_tests); applied = grind (arith, nat_tests) }
+
+pub staging-fields : (x y : Inode) → x.kind ≡ Staging → is_inode x ≡ true → y.kind ≡ Staging → y.size ≡ x.size → y.applied ≡ x.applied
+    → is_inode (with_map [] [] y) ≡ true
+staging-fields x y staging fits kind size applied = subst (λ (k : Kind). is_inode_of_kind k (with_map [] [] y) ≡ true) (sym kind) fit
+  where
+    is : IsBareStaging x
+    is = bare x staging fits
+
+    fit : ((y.size == 0) && (y.applied == 0) && true) ≡ true
+    fit = let none : y.size ≡ 0 = size ∙ is.size in let no : y.applied ≡ 0 = applied ∙ is.applied in grind (arith, nat_tests)
+
+-- ---- it gives its blocks up
+
+pub give_up-may : (t : TablesView) (staging : ℕ) → IsWhole t.volume → t.waiting ≡ [] → IsStagingFile staging t.volume
+    → MayGoOver t staging (inode t.volume staging) [] (extents t.volume staging)
+give_up-may t staging whole idle is = record {
+  below = is.below;
+  kind = refl;
+  holder = inr is.kind;
+  fields = staging-fields (inode t.volume staging) (inode t.volume staging) is.kind (whole.inodes staging) is.kind refl refl;
+  short = All-nil (λ (e : Extent). e.file + e.count ≤ file_blocks_of (inode t.volume staging).kind);
+  once = λ b. omega (arith, none-waits t.waiting idle b);
+  same = λ b. let none : in_map [] b ≡ 0 = refl in omega (arith, none, none-waits t.waiting idle b);
+  room = omega arith;
+}
+
+no_blocks : (xs : List ℕ) → length xs ≡ 0 → xs ≡ []
+no_blocks [] none = refl
+no_blocks (x ∷ xs) none = absurd (omega arith)
+
+pub given-ok : (staging : ℕ) (x : Inode) (t u : TablesView) (b : List Entry) (r : Result NewChain AllocError)
+    → IfOk r (HasGoneOver staging x [] t u b) → OnOk r (u.volume ≡ switched staging x [] [] t.volume)
+given-ok staging x t u b (Ok c) gone = gone.after ∙ ap (λ bs. switched staging x bs [] t.volume) (no_blocks c.blocks gone.lowest.count)
+given-ok staging x t u b (Err e) gone = tt
+
+-- ---- it gets blocks
+
+module _ (t u : TablesView) (count staging : ℕ) (fresh : List ℕ) (es : List Extent) (aside : IsSetAside count fresh t u)
+    (whole : IsWhole t.volume) (idle : t.waiting ≡ []) (is : IsStagingFile staging t.volume) (few : count ≤ 64) (order : HasInOrder fresh es) where
+  fresh-map : (b : ℕ) → in_map es b ≡ in_chain fresh b
+  fresh-map b = in_map-in_order fresh es b order (omega (arith, aside.lowest.count))
+
+  chain-room : chains_for (length es) + 3 ≤ reserve t.volume.geometry
+  chain-room =
+      map-bound t.volume es order.canonical (λ b. omega (arith, fresh-map b, rising-once fresh b aside.lowest.rising)) (λ b has.
+      unused-data t.volume b (aside-unused t u count fresh aside b (omega (arith, has, fresh-map b))))
+
+  pub preallocate-may : extents t.volume staging ≡ [] → count + reserve t.volume.geometry ≤ free_blocks t + 1
+      → free_blocks u + count ≡ free_blocks t → MayGoOver u staging (aged (inode u.volume staging)) es []
+  preallocate-may bare room left =
+      subst (λ (y : TablesView). MayGoOver y staging (aged (inode y.volume staging)) es []) (sym aside.after) (record {
+        below = is.below;
+        kind = refl;
+        holder = inr is.kind;
+        fields = staging-fields (inode t.volume staging) (aged (inode t.volume staging)) is.kind (whole.inodes staging) is.kind refl refl;
+        short = subst (λ (k : Kind). All (λ (e : Extent). e.file + e.count ≤ file_blocks_of k) es) (sym is.kind) (λ k d within.
+            omega (arith, in_order-below fresh es order k d within, aside.lowest.count, few));
+        once = subst WaitOnce aside.after (aside-once t u count fresh aside (λ b. omega (arith, none-waits t.waiting idle b)));
+        same = λ b.
+            let none : in_map [] b ≡ 0 = refl in
+            omega (
+              arith,
+              none,
+              fresh-map b,
+              in_chain-append t.waiting fresh b,
+              none-waits t.waiting idle b,
+              ap (λ fs. in_map fs b) bare,
+            );
+        room = omega (arith, chain-room, room, left, ap free_blocks aside.after);
+      })
+
+  -- what is left free
+  left-free : (b : ℕ) → is_free_block u b ≡ (is_free_block t b && not (list_any (λ k. k == b) fresh))
+  left-free b =
+      ap (λ (y : TablesView). is_free_block y b) aside.after
+      ∙ ap (λ a. is_unused t.volume b && not a) (among-append t.waiting fresh b)
+      ∙ sym (not_or (is_unused t.volume b) (is_among t.waiting b) (is_among fresh b))
+
+  pub filled-ok : (w : TablesView) (b : List Entry) (r : Result NewChain AllocError)
+      → IfOk r (HasGoneOver staging (aged (inode u.volume staging)) es u w b)
+      → OnOk r (IsPreallocated (is_free_block t) staging count t.volume w.volume)
+  filled-ok w b (Ok c) gone = record {
+    fresh = fresh;
+    es = es;
+    blocks = c.blocks;
+    size = aside.lowest.count;
+    map = order;
+    taken = AreLowest-append (is_free_block t) (is_free_block u) count (chains_for (length es)) fresh c.blocks aside.lowest gone.lowest left-free;
+    is_preallocated = gone.after
+        ∙ (λ i. switched staging (aged (inode (aside-volume t u count fresh aside i) staging)) c.blocks es (aside-volume t u count fresh aside i));
+  }
+  filled-ok w b (Err e) gone = tt
+
+  pub planned-ok : (x : Inode) (w : TablesView) (b : List Entry) (r : Result NewChain AllocError) → IfOk r (HasGoneOver staging x es u w b)
+      → IfOk r (λ c. IsMapPlan (c ∷ []) t.volume w.volume b)
+  planned-ok x w b (Ok c) gone = subst (λ (v : Volume). IsMapPlan (c ∷ []) v w.volume b) (aside-volume t u count fresh aside) gone.plan
+  planned-ok x w b (Err e) gone = tt

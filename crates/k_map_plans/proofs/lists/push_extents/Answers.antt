@@ -1,0 +1,26 @@
+use Rattle.std.proofs.Common.{ap, arith}
+use Rattle.std.proofs.lemmas.List.{take_all}
+use Rattle.std.proofs.lemmas.List.Sums.{sum_by_more}
+use Rattle.disk_rules.specs.Placed.{no_extent}
+use Rattle.extent_facts.specs.Counts.{one_if}
+use Rattle.extent_words.specs.declared.Extent.{Extent}
+use Rattle.extent_words.specs.Extents.{holds_disk}
+use Rattle.volume_uses.specs.Uses.{in_map}
+use Rattle.k_map_plans.proofs.lists.push_extents.Goals as goal
+
+pub loop-extent-preserved : goal.loop-extent-preserved
+loop-extent-preserved c b =
+    omega (
+      arith,
+      c.in_ok-push_run.ensures b,
+      c.loop-extent.invariant b,
+      sum_by_more (λ (e : Extent). one_if (holds_disk e b)) c.args.extents.now c.loop-extent.extent-index no_extent c.loop-extent-test.true,
+    )
+
+pub returns : goal.returns
+returns c b =
+    omega (
+      arith,
+      c.loop-extent.invariant b,
+      ap (λ es. in_map es b) (take_all c.loop-extent.extent-index c.args.extents.now c.loop-extent-test.false),
+    )

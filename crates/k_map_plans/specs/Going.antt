@@ -1,0 +1,36 @@
+-- One inode of the tables goes over to another map.
+use Rattle.std.specs.Prelude.{◌≡◌, ◌⊎◌, ◌<◌, ◌≤◌, ℕ, ◌+◌, All, true, List, [], ◌∷◌, length}
+use Rattle.block_counts.specs.Counts.{chains_for}
+use Rattle.extent_words.specs.declared.Extent.{Extent}
+use Rattle.disk_lines.specs.declared.Inode.{Inode}
+use Rattle.disk_lines.specs.declared.Kind.TheVariants.{File, Staging}
+use Rattle.disk_lines.specs.Lines.{is_inode}
+use Rattle.disk_rules.specs.Rules.{file_blocks_of}
+use Rattle.disk_rules.specs.Volume.{chain, extents, inode}
+use Rattle.k_journal.specs.declared.batches.Entry.{Entry}
+use Rattle.k_land.specs.Plans.{NewChain}
+use Rattle.k_plans.specs.Free.{free_blocks, is_free_block}
+use Rattle.k_plans.specs.Switching.{IsMapPlan, WaitOnce}
+use Rattle.k_plans.specs.View.{TablesView}
+use Rattle.map_rules.specs.Taken.{AreLowest, switched, with_map}
+use Rattle.volume_uses.specs.Uses.{in_chain, in_map}
+
+-- The inode keeps its kind, a file's or a staging file's, and may have this line with any map. What it has then and what is
+-- freed of its map is what it had, with the blocks that wait. There is room for the new chain.
+pub record MayGoOver (t : TablesView) (ino : ℕ) (x : Inode) (es freed : List Extent) : Type 0 where
+  pub below : ino < length t.volume.inodes
+  pub kind : x.kind ≡ (inode t.volume ino).kind
+  pub holder : (x.kind ≡ File) ⊎ (x.kind ≡ Staging)
+  pub fields : is_inode (with_map [] [] x) ≡ true
+  pub short : All (λ (e : Extent). e.file + e.count ≤ file_blocks_of x.kind) es
+  pub once : WaitOnce t
+  pub same : (b : ℕ) → in_map freed b + in_map es b ≡ in_chain t.waiting b + in_map (extents t.volume ino) b
+  pub room : chains_for (length es) ≤ free_blocks t
+
+-- It has the map, in a chain of the lowest free blocks, and is planned.
+pub record HasGoneOver (ino : ℕ) (x : Inode) (es : List Extent) (old new : TablesView) (b : List Entry) (c : NewChain) : Type 0 where
+  pub extents_are : c.extents ≡ es
+  pub lowest : AreLowest (is_free_block old) (chains_for (length es)) c.blocks
+  pub after : new.volume ≡ switched ino x c.blocks es old.volume
+  pub chain_is : c.blocks ≡ chain new.volume ino
+  pub plan : IsMapPlan (c ∷ []) old.volume new.volume b

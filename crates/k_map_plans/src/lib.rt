@@ -1,0 +1,21 @@
+//! The changes of maps, planned on the tables.
+//!
+//! A plan sets free blocks aside, lets an inode go over to its new map, and puts its line into an
+//! empty `Batch`. It changes no map before it has all memory; blocks that nothing has any longer are
+//! free at its end, so that it has to be landed before another change is planned. The layer above may
+//! rely on this: the answer is one clause by cases, over the definitions of `map_rules` (`IsSized`),
+//! and comes with the map that is to be written before the lines are landed (`IsMapPlan`); for want of
+//! memory tables and batch are as before.
+//!
+//! Stands on `k_plans` (the tables), `map_rules`, `volume_maps`, `extent_map` and `k_land`.
+#![tactic(auto)]
+
+mod going;
+mod lists;
+mod moving;
+mod sizing;
+mod staging;
+
+pub use moving::plan_move;
+pub use sizing::plan_size;
+pub use staging::{plan_give_up, plan_preallocate};

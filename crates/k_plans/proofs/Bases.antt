@@ -1,0 +1,39 @@
+-- Another log base, and all else as it was.
+use Rattle.std.proofs.Common.{◌≡◌, ◌+◌, ◌<◌, ◌≤◌, ℕ, List, [], arith, length, refl, ap, subst, sym}
+use Rattle.block_pool.specs.FreeSets.{FreeSet}
+use Rattle.disk_rules.specs.Reading.{base_set}
+use Rattle.disk_rules.specs.Volume.{Volume}
+use Rattle.volume_changes.specs.MapLaws.{base-keeps}
+use Rattle.volume_uses.specs.OwnerLaws.{owners-base}
+use Rattle.k_journal.specs.declared.batches.Entry.{Entry}
+use Rattle.k_land.specs.PlanLaws.{turns-none}
+use Rattle.k_land.specs.Plans.{NewChain, Turns}
+use Rattle.k_plans.specs.Free.{AreTables}
+use Rattle.k_plans.specs.Plans.{IsPlan}
+use Rattle.k_plans.specs.View.{TablesView, with_volume}
+use Rattle.k_plans.specs.Whole.{IsWhole}
+use Rattle.k_plans.proofs.Wholes.{plan-from, tables-same}
+
+base-whole : (base : ℕ) (v : Volume) → IsWhole v → IsWhole (base_set base v)
+base-whole base v whole = record {
+  kept = record {
+    kept = base-keeps base v whole.kept.kept whole.kept.all;
+    all = record { inode_count = whole.kept.all.inode_count; name_count = whole.kept.all.name_count };
+    geometry = whole.kept.geometry;
+  };
+  maps = record { chain_count = whole.maps.chain_count; map_count = whole.maps.map_count };
+  inodes = whole.inodes;
+  chains = whole.chains;
+}
+
+module _ (t : TablesView) (base : ℕ) where
+  pub base-tables : (pool : FreeSet) → AreTables t pool → AreTables (with_volume (base_set base t.volume) t) pool
+  base-tables pool are = tables-same t (base_set base t.volume) pool are (base-whole base t.volume are.whole) refl (λ b. owners-base t.volume base b)
+
+  pub base-plan : (old : TablesView) (a b : List Entry) → t ≡ old → IsWhole t.volume → a ≡ [] → 0 < length b → length b ≤ length a + 1
+      → ((news : List NewChain) (v w : Volume) → Turns t.volume.geometry news v w a → Turns t.volume.geometry news v (base_set base w) b)
+      → IsPlan old (with_volume (base_set base t.volume) t) b
+  base-plan old a b same whole empty some count turns =
+      plan-from t old (with_volume (base_set base t.volume) t) (base_set base t.volume) b same refl
+      (turns [] t.volume t.volume (subst (Turns t.volume.geometry [] t.volume t.volume) (sym empty) (turns-none t.volume.geometry [] t.volume)))
+      some (omega (arith, count, ap length empty)) (λ ino least most. refl) (base-whole base t.volume whole)

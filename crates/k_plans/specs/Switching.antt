@@ -1,0 +1,46 @@
+-- An inode of the tables that goes over to another map: blocks that are set aside for it, and what is planned.
+use Rattle.std.specs.Prelude.{◌≡◌, ◌<◌, ◌≤◌, ℕ, All, true, List, ◌++◌, length}
+use Rattle.block_counts.specs.Counts.{chains_for}
+use Rattle.disk_rules.specs.Placed.{AreDistinct}
+use Rattle.disk_rules.specs.Volume.{Volume}
+use Rattle.extent_words.specs.declared.Extent.{Extent}
+use Rattle.disk_lines.specs.declared.Inode.{Inode}
+use Rattle.k_journal.specs.declared.batches.Entry.{Entry}
+use Rattle.k_land.specs.Maps.{AreApart, write_steps}
+use Rattle.k_land.specs.Plans.{NewChain, Turns, blocks_of, new_at}
+use Rattle.map_rules.specs.Taken.{AreLowest, switched}
+use Rattle.volume_uses.specs.Uses.{in_chain, is_unused}
+use Rattle.k_plans.specs.Free.{is_free_block}
+use Rattle.k_plans.specs.View.{TablesView}
+use Rattle.k_plans.specs.Whole.{IsWhole}
+
+-- the tables with other blocks that wait
+abbrev pub with_waiting : List ℕ → TablesView → TablesView
+with_waiting waiting t = record t { waiting = waiting }
+
+-- The blocks are the n lowest free ones; they wait now, with those that did.
+pub record IsSetAside (n : ℕ) (taken : List ℕ) (old new : TablesView) : Type 0 where
+  pub lowest : AreLowest (is_free_block old) n taken
+  pub after : new ≡ with_waiting (old.waiting ++ taken) old
+
+-- each block waits once
+abbrev pub WaitOnce : TablesView → Type 0
+WaitOnce t = (b : ℕ) → in_chain t.waiting b ≤ 1
+
+-- the tables with an inode that went over to a map, and other blocks that wait
+abbrev pub switched_tables : ℕ → Inode → List ℕ → List Extent → List ℕ → TablesView → TablesView
+switched_tables ino x blocks es waiting t = record { volume = switched ino x blocks es t.volume; waiting = waiting }
+
+-- The batch is a plan for a change of maps from v to w: with the new maps in free blocks its lines, one to four, turn v into
+-- w, which is whole again. The new maps may be written one after the other, within the steps of a change.
+pub record IsMapPlan (news : List NewChain) (v w : Volume) (b : List Entry) : Type 0 where
+  pub turns : Turns v.geometry news v w b
+  pub geometry : w.geometry ≡ v.geometry
+  pub some : 0 < length b
+  pub most : length b ≤ 4
+  pub unused : All (λ t. is_unused v t ≡ true) (blocks_of news)
+  pub distinct : (k : ℕ) → k < length news → AreDistinct (new_at news k).blocks
+  pub apart : (j k : ℕ) → j < k → k < length news → AreApart (new_at news j).blocks (new_at news k).blocks
+  pub counts : (k : ℕ) → k < length news → length (new_at news k).blocks ≡ chains_for (length (new_at news k).extents)
+  pub steps : write_steps news ≤ 32000
+  pub whole : IsWhole w

@@ -1,0 +1,153 @@
+-- What a change of maps leaves that was planned and landed.
+use Rattle.std.proofs.Common.{◌≡◌, ◌≢◌, ◌⊎◌, ℕ, ◌/◌, Bool, true, false, List, [], Some, None, Result, Ok, Err, refl, sym, ◌∙◌, ap, subst, arith, inl, inr}
+use Rattle.std.specs.Prelude.{OnErr, OnOk}
+use Rattle.pm_words.specs.declared.Cell.{Cell}
+use Rattle.std.proofs.lemmas.Bool.{cases_Bool, cases_eq}
+use Rattle.pm_words.specs.Cells.{cell, is_single}
+use Rattle.pm_words.specs.Frames.{KeepsSingle}
+use Rattle.pm_words.specs.Powers.{Supply}
+use Rattle.disk_lines.specs.declared.Inode.{Inode}
+use Rattle.disk_lines.specs.declared.Kind.TheVariants.{File}
+use Rattle.disk_places.specs.Places.{is_data_block}
+use Rattle.disk_rules.specs.Rules.{IsKindAt}
+use Rattle.extent_words.specs.Extents.{covers}
+use Rattle.extent_words.specs.declared.Extent.{Extent}
+use Rattle.k_map_plans.specs.Plans.{IsLiveFile, IsStagingFile}
+use Rattle.map_rules.specs.Changes.{given_up}
+use Rattle.map_rules.specs.Taken.{switched, with_map}
+use Rattle.volume_facts.specs.Changes.{chain-set_same, extents-set_other}
+use Rattle.disk_rules.specs.Volume.{Volume, chain, extents, inode}
+use Rattle.k_journal.specs.declared.batches.Entry.{Entry}
+use Rattle.k_land.specs.Plans.{NewChain, blocks_of}
+use Rattle.k_land.specs.WrittenLaws.{block-among}
+use Rattle.k_plans.specs.Plans.{KeepsStaged}
+use Rattle.k_plans.specs.Switching.{IsMapPlan}
+use Rattle.k_plans.specs.View.{TablesView}
+use Rattle.k_plans.specs.Whole.{IsWhole}
+use Rattle.k_rules.specs.View.{View}
+use Rattle.posix_types.specs.declared.reply.Reply.{Reply}
+use Rattle.posix_words.specs.Outcomes.{answer}
+use Rattle.volume_maps.specs.Switches.{unused-data}
+use Rattle.volume_uses.specs.PoolLaws.{unused-uncovered}
+use Rattle.volume_uses.specs.Uses.{is_unused}
+use Rattle.k_split.specs.declared.faults.KFault.{KFault}
+use Rattle.k_split.specs.Answers.{IsPaid}
+use Rattle.k_split.specs.MapChanges.{IsMapAnswer, IsMapLanded, IsMapLandedDone, IsMapPlanned, IsStagedSingle}
+use Rattle.k_split.specs.Order.{IsReady, IsUnstaged, IsUnstagedSingle, view_of}
+
+-- a file is no staging file, so that the maps of those stay where a file's map changes
+pub file-staged : (v w : Volume) (ino : ℕ) (x : Inode) (blocks : List ℕ) (es : List Extent) → IsWhole v → IsLiveFile ino v
+    → w ≡ switched ino x blocks es v → KeepsStaged v w
+file-staged v w ino x blocks es whole file is i least most =
+    let kept = whole.kept.kept.kinds ino (omega (arith, file.below, whole.kept.all.inode_count)) in
+    let behind : IsKindAt ino File = subst (IsKindAt ino) file.file kept in
+    ap (λ y. extents y i) is ∙ extents-set_other ino (with_map blocks es x) blocks es v i (λ same. omega (arith, behind, same))
+
+-- Data blocks that no staging file has stay single, where those that a staging file had are single.
+pub unstaged-from : (v w : Volume) (d e : List Cell) → w.geometry ≡ v.geometry → KeepsSingle d e → IsUnstagedSingle v d
+    → ((i : ℕ) → IsUnstaged w (i / 512) → IsUnstaged v (i / 512) ⊎ (is_single (cell d i) ≡ true)) → IsUnstagedSingle w e
+unstaged-from v w d e geometry singles single from i in_data free = elim (from i free) [
+  | inl before ↦ singles i (single i (subst (λ g. is_data_block g (i / 512) ≡ true) geometry in_data) before)
+  | inr is ↦ singles i is
+]
+
+-- where one staging file changes
+module _ (v w : Volume) (staging : ℕ) (x : Inode) (blocks : List ℕ) (es : List Extent) (is : w ≡ switched staging x blocks es v) where
+  others-staged : (ino : ℕ) → ino ≢ staging → extents w ino ≡ extents v ino
+  others-staged ino apart = ap (λ y. extents y ino) is ∙ extents-set_other staging (with_map blocks es x) blocks es v ino apart
+
+  -- one that had nothing
+  pub filled-unstaged : extents v staging ≡ [] → (b : ℕ) → IsUnstaged w b → IsUnstaged v b
+  filled-unstaged bare b free ino least most = elim (cases_eq ino staging) [
+    | inl same ↦ ap (λ fs. covers fs b) (ap (extents v) same ∙ bare)
+    | inr apart ↦ ap (λ fs. covers fs b) (sym (others-staged ino apart)) ∙ free ino least most
+  ]
+
+  -- one whose blocks are single
+  pub single-unstaged : (d : List Cell) → IsStagedSingle staging v d → (i : ℕ) → IsUnstaged w (i / 512)
+      → IsUnstaged v (i / 512) ⊎ (is_single (cell d i) ≡ true)
+  single-unstaged d home i free = elim (cases_Bool (covers (extents v staging) (i / 512))) [
+    | inl has ↦ inr (home i has)
+    | inr none ↦ inl (λ ino least most. elim (cases_eq ino staging) [
+      | inl same ↦ ap (λ n. covers (extents v n) (i / 512)) same ∙ none
+      | inr apart ↦ ap (λ fs. covers fs (i / 512)) (sym (others-staged ino apart)) ∙ free ino least most
+    ])
+  ]
+
+-- a staging file that gave up its blocks has no chain
+pub given-chain : (v w : Volume) (staging : ℕ) → IsWhole v → IsStagingFile staging v → w ≡ given_up staging v → chain w staging ≡ []
+given-chain v w staging whole is given =
+    ap (λ y. chain y staging) given
+    ∙ chain-set_same staging (with_map [] [] (inode v staging)) [] [] v (omega (arith, is.below, whole.maps.chain_count))
+
+module _ (t u : TablesView) (d : List Cell) (batched lost : Bool) (c b : List Entry) (news : List NewChain) (is : lost ≡ false)
+    (ready : lost ≡ false → IsReady (view_of t d batched lost) c) (plan : IsMapPlan news t.volume u.volume b) where
+  -- a block that nothing names is in no staging file
+  unused-unstaged : (k : ℕ) → is_unused t.volume k ≡ true → IsUnstaged t.volume k
+  unused-unstaged k unused ino least most =
+      let whole = (ready is).order.whole in
+      unused-uncovered t.volume k ino (omega (arith, most, whole.kept.all.inode_count, whole.kept.geometry.least_inodes)) unused
+
+  pub map-planned : IsMapPlanned news t.volume u.volume b d
+  map-planned = record {
+    stands = (ready is).order.stands;
+    plan = plan;
+    single = λ k below j i within at.
+        let among = block-among news k j below within in
+        let unused : is_unused t.volume (i / 512) ≡ true =
+        subst (λ n. is_unused t.volume n ≡ true) (among.is ∙ sym at) (plan.unused among.place 0 among.within)
+        in
+        (ready is).order.unstaged i (unused-data t.volume (i / 512) unused) (unused-unstaged (i / 512) unused);
+  }
+
+  module _ (waits : u.waiting ≡ t.waiting) (keeps : (e : List Cell) → KeepsSingle d e → IsUnstagedSingle u.volume e) where
+    map-done : (e : List Cell) (p q : Supply) (now : Bool) (a : List Entry) → IsMapLandedDone news t.volume u.volume d e p q → a ≡ []
+        → IsReady (view_of u e batched now) a
+    map-done e p q now a landed none = record {
+      order = record {
+        stands = landed.stands;
+        whole = plan.whole;
+        settled = λ off. refl;
+        none_waits = λ off. waits ∙ (ready is).order.none_waits off;
+        unstaged = keeps e landed.singles;
+      };
+      unbatched = (ready is).unbatched;
+      no_lines = none;
+    }
+
+    pub map-ready : (e : List Cell) (p q : Supply) (now : Bool) (a : List Entry) (r : Result (Unit {0}) KFault)
+        → IsMapLanded news t.volume u.volume d e p q r → OnOk r (a ≡ []) → OnErr r (now ≡ true) → now ≡ false
+        → IsReady (view_of u e batched now) a
+    map-ready e p q now a (Ok done) landed none goes off = map-done e p q now a landed none
+    map-ready e p q now a (Err fault) landed none goes off = let never : true ≡ false = sym goes ∙ off in absurd (cc)
+
+    pub map-answer : (Makes : View → Volume → List ℕ → Type 0) (k : View) (e : List Cell) (p q : Supply) (now : Bool)
+        (r : Result (Unit {0}) KFault) → OnOk r (now ≡ lost) → OnErr r (now ≡ true) → view_of t d batched lost ≡ k
+        → Makes (view_of t d batched lost) u.volume (blocks_of news) → IsMapLanded news t.volume u.volume d e p q r
+        → IsMapAnswer (Makes k) k (view_of u e batched now) r
+    map-answer Makes k e p q now (Ok done) stays goes same makes landed =
+        subst (λ x. IsMapAnswer (Makes x) x (view_of u e batched now) (Ok done)) same (
+          blocks_of news,
+          makes,
+          record {
+            kept_on = stays ∙ is;
+            batched = refl;
+            order = (map-done e p q now [] landed refl).order;
+            changes = landed.changes;
+            singles = landed.singles;
+          },
+        )
+    map-answer Makes k e p q now (Err KFault.PowerLost) stays goes same makes landed =
+        subst (λ x. IsMapAnswer (Makes x) x (view_of u e batched now) (Err KFault.PowerLost)) same
+        (inr (u.volume, blocks_of news, makes, record { lost = goes; batched = refl; whole = plan.whole; changes = landed.changes }))
+    map-answer Makes k e p q now (Err (KFault.Refused errno)) stays goes same makes landed = absurd landed
+    map-answer Makes k e p q now (Err (KFault.Room room)) stays goes same makes landed = absurd landed
+    map-answer Makes k e p q now (Err KFault.NoMemory) stays goes same makes landed = absurd landed
+
+pub map-paid : (news : List NewChain) (v w : Volume) (d e : List Cell) (p q : Supply) (r : Result (Unit {0}) KFault)
+    → IsMapLanded news v w d e p q r → IsPaid None p q r
+map-paid news v w d e p q (Ok done) landed = (landed.on, λ none. landed.took, λ idle. let never : None ≡ Some (answer Reply.Ok) = idle in absurd (cc))
+map-paid news v w d e p q (Err KFault.PowerLost) landed = landed.off
+map-paid news v w d e p q (Err (KFault.Refused errno)) landed = absurd landed
+map-paid news v w d e p q (Err (KFault.Room room)) landed = absurd landed
+map-paid news v w d e p q (Err KFault.NoMemory) landed = absurd landed

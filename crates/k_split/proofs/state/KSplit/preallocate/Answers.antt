@@ -1,0 +1,103 @@
+use Rattle.std.proofs.Common.{◌≡◌, [], ◌/◌, true, false, List, sym, ◌∙◌, ap, inl, subst}
+use Rattle.pm_words.specs.declared.Cell.{Cell}
+use Rattle.pm_words.specs.Frames.{KeepsSingle}
+use Rattle.pm_words.specs.Powers.{is_on}
+use Rattle.k_land.specs.Plans.{NewChain, blocks_of}
+use Rattle.k_land.specs.WrittenLaws.{blocks_of-one}
+use Rattle.k_plans.specs.Switching.{IsMapPlan}
+use Rattle.k_rules.specs.View.{View}
+use Rattle.disk_rules.specs.Volume.{extents, inode}
+use Rattle.map_rules.specs.Changes.{aged}
+use Rattle.k_split.proofs.ChangeLaws.{awake}
+use Rattle.k_split.proofs.MapAnswers.{map-answer, map-paid, map-planned, map-ready, filled-unstaged, unstaged-from}
+use Rattle.k_split.specs.MapChanges.{IsMapPlanned, IsPreallocatedWith}
+use Rattle.k_split.specs.Order.{IsUnstagedSingle}
+use Rattle.k_split.proofs.state.KSplit.preallocate.Goals as goal
+
+pub land_maps_plan-requires : goal.land_maps_plan-requires
+land_maps_plan-requires c =
+    let k = c.self.inside in
+    let u = c.plan_preallocate.new.tables in
+    let on : is_on c.args.power.now ≡ true = sym c.on.ensures ∙ c.if-not-on.false in
+    let is : k.lost ≡ false = awake k.tables k.pm k.batched k.lost c.args.self.now c.args.power.now c.self.view_is c.requires.awake on in
+    let planned = c.in-Ok.ensures in
+    let plan : IsMapPlan c.from_ref.result.now k.tables.volume u.volume c.plan_preallocate.new.batch =
+    subst (λ (ns : List NewChain). IsMapPlan ns k.tables.volume u.volume c.plan_preallocate.new.batch) (sym c.from_ref.ensures.value) planned.1.plan
+    in
+    let ready : IsMapPlanned c.from_ref.result.now k.tables.volume u.volume c.plan_preallocate.new.batch k.pm =
+    map-planned k.tables u k.pm k.batched k.lost k.batch c.plan_preallocate.new.batch c.from_ref.result.now is c.self.invariant plan
+    in
+    (k.tables.volume, ready)
+
+pub invariant_of-self-2 : goal.invariant_of-self-2
+invariant_of-self-2 c off =
+    let k = c.self.inside in
+    let u = c.plan_preallocate.new.tables in
+    let on : is_on c.args.power.now ≡ true = sym c.on.ensures ∙ c.if-not-on.false in
+    let is : k.lost ≡ false = awake k.tables k.pm k.batched k.lost c.args.self.now c.args.power.now c.self.view_is c.requires.awake on in
+    let planned = c.in-Ok.ensures in
+    let plan : IsMapPlan c.from_ref.result.now k.tables.volume u.volume c.plan_preallocate.new.batch =
+    subst (λ (ns : List NewChain). IsMapPlan ns k.tables.volume u.volume c.plan_preallocate.new.batch) (sym c.from_ref.ensures.value) planned.1.plan
+    in
+    let ready : IsMapPlanned c.from_ref.result.now k.tables.volume u.volume c.plan_preallocate.new.batch k.pm =
+    map-planned k.tables u k.pm k.batched k.lost k.batch c.plan_preallocate.new.batch c.from_ref.result.now is c.self.invariant plan
+    in
+    let bare : extents k.tables.volume c.args.staging ≡ [] =
+    subst (λ (x : View). x.lost ≡ false → extents x.volume c.args.staging ≡ []) (sym c.self.view_is) c.requires.bare is
+    in
+    let order = (c.self.invariant is).order in
+    let keeps : (e : List Cell) → KeepsSingle k.pm e → IsUnstagedSingle u.volume e =
+    λ e singles.
+    unstaged-from k.tables.volume u.volume k.pm e plan.geometry singles order.unstaged (λ i free.
+    inl (filled-unstaged k.tables.volume u.volume c.args.staging (aged (inode k.tables.volume c.args.staging)) planned.0.blocks planned.0.es
+    planned.0.is_preallocated bare (i / 512) free))
+    in
+    let landed = c.land_maps_plan.ensures.landed k.tables.volume ready in
+    map-ready k.tables u k.pm k.batched k.lost k.batch c.plan_preallocate.new.batch c.from_ref.result.now is c.self.invariant plan planned.1.waiting keeps
+    c.land_maps_plan.new.pm c.args.power.now c.land_maps_plan.new.power c.land_maps_plan.new.lost c.land_maps_plan.new.batch c.land_maps_plan.result landed
+    c.land_maps_plan.ensures.no_lines c.land_maps_plan.ensures.noted off
+
+pub returns-clause-paid : goal.returns-clause-paid
+returns-clause-paid c =
+    let k = c.self.inside in
+    let u = c.plan_preallocate.new.tables in
+    let on : is_on c.args.power.now ≡ true = sym c.on.ensures ∙ c.if-not-on.false in
+    let is : k.lost ≡ false = awake k.tables k.pm k.batched k.lost c.args.self.now c.args.power.now c.self.view_is c.requires.awake on in
+    let planned = c.in-Ok.ensures in
+    let plan : IsMapPlan c.from_ref.result.now k.tables.volume u.volume c.plan_preallocate.new.batch =
+    subst (λ (ns : List NewChain). IsMapPlan ns k.tables.volume u.volume c.plan_preallocate.new.batch) (sym c.from_ref.ensures.value) planned.1.plan
+    in
+    let ready : IsMapPlanned c.from_ref.result.now k.tables.volume u.volume c.plan_preallocate.new.batch k.pm =
+    map-planned k.tables u k.pm k.batched k.lost k.batch c.plan_preallocate.new.batch c.from_ref.result.now is c.self.invariant plan
+    in
+    let landed = c.land_maps_plan.ensures.landed k.tables.volume ready in
+    map-paid c.from_ref.result.now k.tables.volume u.volume k.pm c.land_maps_plan.new.pm c.args.power.now c.land_maps_plan.new.power c.land_maps_plan.result landed
+
+pub returns-clause-answer : goal.returns-clause-answer
+returns-clause-answer c =
+    let k = c.self.inside in
+    let u = c.plan_preallocate.new.tables in
+    let on : is_on c.args.power.now ≡ true = sym c.on.ensures ∙ c.if-not-on.false in
+    let is : k.lost ≡ false = awake k.tables k.pm k.batched k.lost c.args.self.now c.args.power.now c.self.view_is c.requires.awake on in
+    let planned = c.in-Ok.ensures in
+    let plan : IsMapPlan c.from_ref.result.now k.tables.volume u.volume c.plan_preallocate.new.batch =
+    subst (λ (ns : List NewChain). IsMapPlan ns k.tables.volume u.volume c.plan_preallocate.new.batch) (sym c.from_ref.ensures.value) planned.1.plan
+    in
+    let ready : IsMapPlanned c.from_ref.result.now k.tables.volume u.volume c.plan_preallocate.new.batch k.pm =
+    map-planned k.tables u k.pm k.batched k.lost k.batch c.plan_preallocate.new.batch c.from_ref.result.now is c.self.invariant plan
+    in
+    let bare : extents k.tables.volume c.args.staging ≡ [] =
+    subst (λ (x : View). x.lost ≡ false → extents x.volume c.args.staging ≡ []) (sym c.self.view_is) c.requires.bare is
+    in
+    let order = (c.self.invariant is).order in
+    let keeps : (e : List Cell) → KeepsSingle k.pm e → IsUnstagedSingle u.volume e =
+    λ e singles.
+    unstaged-from k.tables.volume u.volume k.pm e plan.geometry singles order.unstaged (λ i free.
+    inl (filled-unstaged k.tables.volume u.volume c.args.staging (aged (inode k.tables.volume c.args.staging)) planned.0.blocks planned.0.es
+    planned.0.is_preallocated bare (i / 512) free))
+    in
+    let landed = c.land_maps_plan.ensures.landed k.tables.volume ready in
+    map-answer k.tables u k.pm k.batched k.lost k.batch c.plan_preallocate.new.batch c.from_ref.result.now is c.self.invariant plan planned.1.waiting keeps
+    (λ x w blocks. IsPreallocatedWith c.args.staging c.args.count x w blocks) c.args.self.now c.land_maps_plan.new.pm c.args.power.now c.land_maps_plan.new.power
+    c.land_maps_plan.new.lost c.land_maps_plan.result c.land_maps_plan.ensures.same c.land_maps_plan.ensures.noted c.self.view_is
+    (record { preallocated = planned.0; written = ap blocks_of c.from_ref.ensures.value ∙ blocks_of-one c.in-Ok.map ∙ planned.1.chain_is }) landed

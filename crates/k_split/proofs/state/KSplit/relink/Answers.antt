@@ -1,0 +1,116 @@
+use Rattle.std.proofs.Common.{◌≡◌, ◌∷◌, ◌∙◌, ◌++◌, [], true, false, List, sym, arith, subst}
+use Rattle.pm_words.specs.declared.Cell.{Cell}
+use Rattle.pm_words.specs.Frames.{KeepsSingle}
+use Rattle.pm_words.specs.ImageLaws.{IsImage-words_of}
+use Rattle.pm_words.specs.Images.{words_of}
+use Rattle.pm_words.specs.Powers.{is_on}
+use Rattle.disk_rules.specs.Volume.{extents}
+use Rattle.extent_words.specs.Extents.{IsCanonical}
+use Rattle.k_map_plans.specs.Plans.{MayMove}
+use Rattle.k_plans.specs.Free.{is_free_block}
+use Rattle.k_plans.specs.Switching.{IsMapPlan}
+use Rattle.k_rules.specs.View.{View}
+use Rattle.k_split.proofs.ChangeLaws.{awake}
+use Rattle.k_split.proofs.MapAnswers.{map-answer, map-paid, map-planned, map-ready, unstaged-from}
+use Rattle.k_split.proofs.Relinks.{blocks_of-two, moved-unstaged}
+use Rattle.k_split.specs.MapChanges.{IsMapPlanned, IsMovedSingle, IsMovedWith}
+use Rattle.k_split.specs.Order.{IsUnstagedSingle}
+use Rattle.k_split.proofs.state.KSplit.relink.Goals as goal
+
+pub land_maps_plan-requires : goal.land_maps_plan-requires
+land_maps_plan-requires c =
+    let k = c.self.inside in
+    let u = c.plan_move.new.tables in
+    let m = c.args.asked.now in
+    let on : is_on c.args.power.now ≡ true = sym c.on.ensures ∙ c.if-not-on.false in
+    let is : k.lost ≡ false = awake k.tables k.pm k.batched k.lost c.args.self.now c.args.power.now c.self.view_is c.requires.awake on in
+    let planned = c.in-Ok.ensures in
+    let plan : IsMapPlan (c.in-Ok.maps.0 ∷ c.in-Ok.maps.1 ∷ []) k.tables.volume u.volume c.plan_move.new.batch = planned.1.plan in
+    let ready : IsMapPlanned (c.in-Ok.maps.0 ∷ c.in-Ok.maps.1 ∷ []) k.tables.volume u.volume c.plan_move.new.batch k.pm =
+    map-planned k.tables u k.pm k.batched k.lost k.batch c.plan_move.new.batch (c.in-Ok.maps.0 ∷ c.in-Ok.maps.1 ∷ []) is c.self.invariant plan
+    in
+    (k.tables.volume, ready)
+
+pub invariant_of-self-2 : goal.invariant_of-self-2
+invariant_of-self-2 c off =
+    let k = c.self.inside in
+    let u = c.plan_move.new.tables in
+    let m = c.args.asked.now in
+    let on : is_on c.args.power.now ≡ true = sym c.on.ensures ∙ c.if-not-on.false in
+    let is : k.lost ≡ false = awake k.tables k.pm k.batched k.lost c.args.self.now c.args.power.now c.self.view_is c.requires.awake on in
+    let planned = c.in-Ok.ensures in
+    let plan : IsMapPlan (c.in-Ok.maps.0 ∷ c.in-Ok.maps.1 ∷ []) k.tables.volume u.volume c.plan_move.new.batch = planned.1.plan in
+    let ready : IsMapPlanned (c.in-Ok.maps.0 ∷ c.in-Ok.maps.1 ∷ []) k.tables.volume u.volume c.plan_move.new.batch k.pm =
+    map-planned k.tables u k.pm k.batched k.lost k.batch c.plan_move.new.batch (c.in-Ok.maps.0 ∷ c.in-Ok.maps.1 ∷ []) is c.self.invariant plan
+    in
+    let order = (c.self.invariant is).order in
+    let may : MayMove m k.tables.volume =
+    subst (λ (x : View). x.lost ≡ false → MayMove m x.volume) (sym c.self.view_is) c.requires.may is
+    in
+    let home : IsMovedSingle m k.tables.volume k.pm =
+    subst (λ (x : View). x.lost ≡ false → IsMovedSingle m x.volume x.cells) (sym c.self.view_is) c.requires.home is
+    in
+    let canonical : IsCanonical (extents k.tables.volume m.staging) =
+    ((order.stands.reads (words_of k.pm) (IsImage-words_of k.pm)).chains m.staging (omega (arith, may.staging.below, order.whole.kept.all.inode_count))).map.canonical
+    in
+    let keeps : (e : List Cell) → KeepsSingle k.pm e → IsUnstagedSingle u.volume e =
+    λ e singles.
+    unstaged-from k.tables.volume u.volume k.pm e plan.geometry singles order.unstaged
+    (moved-unstaged (is_free_block k.tables) m k.tables.volume u.volume planned.0.0 order.whole may planned.0.1 canonical k.pm home)
+    in
+    let landed = c.land_maps_plan.ensures.landed k.tables.volume ready in
+    map-ready k.tables u k.pm k.batched k.lost k.batch c.plan_move.new.batch (c.in-Ok.maps.0 ∷ c.in-Ok.maps.1 ∷ []) is c.self.invariant plan planned.1.waiting keeps
+    c.land_maps_plan.new.pm c.args.power.now c.land_maps_plan.new.power c.land_maps_plan.new.lost c.land_maps_plan.new.batch c.land_maps_plan.result landed
+    c.land_maps_plan.ensures.no_lines c.land_maps_plan.ensures.noted off
+
+pub returns-clause-paid : goal.returns-clause-paid
+returns-clause-paid c =
+    let k = c.self.inside in
+    let u = c.plan_move.new.tables in
+    let m = c.args.asked.now in
+    let on : is_on c.args.power.now ≡ true = sym c.on.ensures ∙ c.if-not-on.false in
+    let is : k.lost ≡ false = awake k.tables k.pm k.batched k.lost c.args.self.now c.args.power.now c.self.view_is c.requires.awake on in
+    let planned = c.in-Ok.ensures in
+    let plan : IsMapPlan (c.in-Ok.maps.0 ∷ c.in-Ok.maps.1 ∷ []) k.tables.volume u.volume c.plan_move.new.batch = planned.1.plan in
+    let ready : IsMapPlanned (c.in-Ok.maps.0 ∷ c.in-Ok.maps.1 ∷ []) k.tables.volume u.volume c.plan_move.new.batch k.pm =
+    map-planned k.tables u k.pm k.batched k.lost k.batch c.plan_move.new.batch (c.in-Ok.maps.0 ∷ c.in-Ok.maps.1 ∷ []) is c.self.invariant plan
+    in
+    let landed = c.land_maps_plan.ensures.landed k.tables.volume ready in
+    map-paid (c.in-Ok.maps.0 ∷ c.in-Ok.maps.1 ∷ []) k.tables.volume u.volume k.pm c.land_maps_plan.new.pm c.args.power.now c.land_maps_plan.new.power c.land_maps_plan.result landed
+
+pub returns-clause-answer : goal.returns-clause-answer
+returns-clause-answer c =
+    let k = c.self.inside in
+    let u = c.plan_move.new.tables in
+    let m = c.args.asked.now in
+    let on : is_on c.args.power.now ≡ true = sym c.on.ensures ∙ c.if-not-on.false in
+    let is : k.lost ≡ false = awake k.tables k.pm k.batched k.lost c.args.self.now c.args.power.now c.self.view_is c.requires.awake on in
+    let planned = c.in-Ok.ensures in
+    let plan : IsMapPlan (c.in-Ok.maps.0 ∷ c.in-Ok.maps.1 ∷ []) k.tables.volume u.volume c.plan_move.new.batch = planned.1.plan in
+    let ready : IsMapPlanned (c.in-Ok.maps.0 ∷ c.in-Ok.maps.1 ∷ []) k.tables.volume u.volume c.plan_move.new.batch k.pm =
+    map-planned k.tables u k.pm k.batched k.lost k.batch c.plan_move.new.batch (c.in-Ok.maps.0 ∷ c.in-Ok.maps.1 ∷ []) is c.self.invariant plan
+    in
+    let order = (c.self.invariant is).order in
+    let may : MayMove m k.tables.volume =
+    subst (λ (x : View). x.lost ≡ false → MayMove m x.volume) (sym c.self.view_is) c.requires.may is
+    in
+    let home : IsMovedSingle m k.tables.volume k.pm =
+    subst (λ (x : View). x.lost ≡ false → IsMovedSingle m x.volume x.cells) (sym c.self.view_is) c.requires.home is
+    in
+    let canonical : IsCanonical (extents k.tables.volume m.staging) =
+    ((order.stands.reads (words_of k.pm) (IsImage-words_of k.pm)).chains m.staging (omega (arith, may.staging.below, order.whole.kept.all.inode_count))).map.canonical
+    in
+    let keeps : (e : List Cell) → KeepsSingle k.pm e → IsUnstagedSingle u.volume e =
+    λ e singles.
+    unstaged-from k.tables.volume u.volume k.pm e plan.geometry singles order.unstaged
+    (moved-unstaged (is_free_block k.tables) m k.tables.volume u.volume planned.0.0 order.whole may planned.0.1 canonical k.pm home)
+    in
+    let landed = c.land_maps_plan.ensures.landed k.tables.volume ready in
+    map-answer k.tables u k.pm k.batched k.lost k.batch c.plan_move.new.batch (c.in-Ok.maps.0 ∷ c.in-Ok.maps.1 ∷ []) is c.self.invariant plan planned.1.waiting keeps
+    (λ x w blocks. IsMovedWith m x w blocks) c.args.self.now c.land_maps_plan.new.pm c.args.power.now c.land_maps_plan.new.power
+    c.land_maps_plan.new.lost c.land_maps_plan.result c.land_maps_plan.ensures.same c.land_maps_plan.ensures.noted c.self.view_is
+    (record {
+      displaced = planned.0.0;
+      moved = planned.0.1;
+      written = blocks_of-two c.in-Ok.maps.0 c.in-Ok.maps.1 ∙ (λ i. planned.1.file_chain i ++ planned.1.staging_chain i);
+    }) landed

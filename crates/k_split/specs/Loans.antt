@@ -1,0 +1,13 @@
+-- What lending a block of a staging file asks for.
+use Rattle.std.specs.Prelude.{◌≡◌, ◌≤◌, ◌/◌, ℕ, true, List, Some}
+use Rattle.pm_words.specs.declared.Cell.{Cell}
+use Rattle.pm_words.specs.Cells.{cell, is_single}
+use Rattle.extent_words.specs.Extents.{disk_at}
+use Rattle.disk_rules.specs.Volume.{extents, Volume}
+
+-- The staging file, inode 1 to 4, has this disk block at its block, and each word of it has one candidate: so none is lent.
+pub record MayLend (v : Volume) (d : List Cell) (staging block b : ℕ) : Type 0 where
+  pub least : 1 ≤ staging
+  pub most : staging ≤ 4
+  pub at : disk_at (extents v staging) block ≡ Some b
+  pub single : (i : ℕ) → i / 512 ≡ b → is_single (cell d i) ≡ true

@@ -1,0 +1,4 @@
+pub mod Changes
+pub mod Example
+pub mod Taken
+pub mod Zeros

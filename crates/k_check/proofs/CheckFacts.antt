@@ -1,9 +1,9 @@
 -- The rules of the log behind all others.
-use Rattle.std.proofs.Common.{◌≡◌, ℕ, ◌+◌, ◌*◌, ◌≤◌, ◌^◌, List, [], ◌∷◌, ◌++◌, refl, sym, ◌∙◌, ap, subst, arith, inl, inr}
+use Rattle.std.proofs.Common.{◌≡◌, ℕ, ◌*◌, ◌≤◌, ◌^◌, refl, sym, ◌∙◌, ap, subst, arith, inl, inr}
 use Rattle.pm_words.specs.Words.{Words}
 use Rattle.disk_places.specs.Journal.{journaled}
 use Rattle.disk_places.specs.Places.{Geometry, base_word}
-use Rattle.disk_rules.specs.Broken.{Rule, at_one, Holds, HoldAll, FailsFirst, BreaksFirst, Breaks, log_rules}
+use Rattle.disk_rules.specs.Broken.{at_one, Holds, HoldAll, FailsFirst, BreaksFirst, Breaks, log_rules}
 use Rattle.disk_rules.specs.Checked.{HasHead}
 use Rattle.disk_rules.specs.Rules.{geometry_of, CanRecover, IsChecked}
 use Rattle.disk_rules.specs.Volume.{Volume, volume}

@@ -1,3 +1,4 @@
 pub mod CheckFacts
+pub mod CrashFacts
 pub mod RecoverFacts
 pub mod SlotFacts

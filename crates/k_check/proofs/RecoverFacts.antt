@@ -1,21 +1,21 @@
 -- Rule 12 by its tests.
-use Rattle.std.proofs.Common.{◌≡◌, ◌≢◌, ℕ, zero, suc, ◌+◌, ◌<◌, ◌≤◌, List, [], ◌∷◌, length, map, get_or, All, Bool, true, false, cond, Option, Some, None, refl, sym, ◌∙◌, ap, subst, arith, inl, inr}
+use Rattle.std.proofs.Common.{◌≡◌, ℕ, zero, suc, ◌+◌, ◌<◌, List, [], ◌∷◌, length, map, get_or, All, Bool, true, Option, Some, None, refl, sym, ◌∙◌, ap, subst, arith, inl, inr}
 use Rattle.std.specs.Prelude.{slice_index_or, filter}
 use Rattle.std.specs.List.{filter_map, cons_option, range_with_len}
 use Rattle.std.proofs.lemmas.List.Elements.{All-filter}
 use Rattle.std.proofs.lemmas.Bool.{cases_lt}
-use Rattle.std.proofs.lemmas.List.{get_or_default, get_or_past}
+use Rattle.std.proofs.lemmas.List.{get_or_past}
 use Rattle.std.proofs.lemmas.List.FromFn.{length-map-range_with_len, get_or-map-range_with_len}
 use Rattle.pm_words.specs.Words.{Words, line_bytes}
 use Rattle.disk_places.specs.Places.{Geometry, log_line}
 use Rattle.disk_lines.specs.declared.Draft.{Draft}
 use Rattle.disk_lines.specs.Entries.{decode_entry, is_draft}
 use Rattle.disk_lines.specs.EntryLaws.{IsEntryLine-decode_entry}
-use Rattle.disk_rules.specs.Live.{entry_in, is_of_file, is_live, valid_entries, live_entries}
-use Rattle.disk_rules.specs.Rules.{HasStagingBlocks, AreApart, CanRecover}
+use Rattle.disk_rules.specs.Live.{entry_in, is_live, live_entries}
+use Rattle.disk_rules.specs.Rules.{HasStagingBlocks, CanRecover}
 use Rattle.disk_rules.specs.Volume.{Volume}
 use Rattle.k_check.specs.Rooms.{HasRoom}
-use Rattle.k_check.specs.Slots.{slots_at, IsGoodPair, IsGoodSlot, IsGoodWithLater, AreGoodSlots, IsDraftOrNone, AreDrafts}
+use Rattle.k_check.specs.Slots.{slots_at, AreGoodSlots, IsDraftOrNone, AreDrafts}
 use Rattle.k_check.proofs.SlotFacts.{items_of}
 
 -- the entry in a slot

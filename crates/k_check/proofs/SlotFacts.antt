@@ -1,10 +1,9 @@
 -- Slots one by one, and lists of what stands in them.
-use Rattle.std.proofs.Common.{◌≡◌, ℕ, ◌+◌, ◌<◌, ◌≤◌, List, [], ◌∷◌, ◌++◌, length, take, drop, map, get_or, Bool, true, false, cond, Option, Some, None, refl, sym, ◌∙◌, ap, subst, append-nil, suc, zero, arith, inl, inr}
-use Rattle.std.specs.Prelude.{filter, sum_by, slice_index_or}
-use Rattle.std.specs.List.{filter_map, range_with_len}
+use Rattle.std.proofs.Common.{◌≡◌, ℕ, ◌+◌, ◌<◌, List, [], ◌∷◌, ◌++◌, length, take, get_or, Bool, Option, Some, None, refl, sym, ◌∙◌, ap, subst, suc, arith, inl, inr}
+use Rattle.std.specs.Prelude.{filter, slice_index_or}
+use Rattle.std.specs.List.{filter_map}
 use Rattle.std.proofs.Math.Seq.{take-suc}
 use Rattle.std.proofs.lemmas.List.Elements.{filter-append, filter_map-append}
-use Rattle.std.proofs.lemmas.List.Sums.{sum_by-cons}
 use Rattle.std.proofs.lemmas.Bool.{cases_lt}
 use Rattle.std.proofs.lemmas.List.{get_or_default, get_or_past}
 use Rattle.std.proofs.lemmas.Option.{same_Some}
@@ -35,19 +34,6 @@ pub passing-read : (p : Draft → Bool) (slots : List (Option Draft)) (k : ℕ) 
     → items ≡ filter p (items_of (take k slots)) → new ≡ items ++ passing p (get_or slots k o) → new ≡ filter p (items_of (take (k + 1) slots))
 passing-read p slots k o items new within before pushed =
     pushed ∙ (λ i. before i ++ passing p (get_or_default slots k o None within i)) ∙ sym (passing-more p slots k within)
-
--- a sum over numbers in a row, with one number more
-pub sum-more : (f : ℕ → ℕ) (a n : ℕ) → sum_by f (range_with_len a (n + 1)) ≡ sum_by f (range_with_len a n) + f (a + n)
-sum-more f a zero = ap (λ n. 0 + f n) {x = a} {y = a + 0} (omega arith)
-sum-more f a (suc n) =
-    omega (
-      arith,
-      ap (λ m. sum_by f (range_with_len a m)) {x = suc n + 1} {y = suc (n + 1)} (omega arith),
-      sum_by-cons f a (range_with_len (a + 1) (n + 1)),
-      sum-more f (a + 1) n,
-      sum_by-cons f a (range_with_len (a + 1) n),
-      ap f {x = a + 1 + n} {y = a + suc n} (omega arith),
-    )
 
 -- A pair in slots.
 pub slot-none : (v : Volume) (d : Draft) → IsGoodSlot v d None

@@ -1,5 +1,5 @@
 -- The parts of rule 12 that speak of room.
-use Rattle.std.specs.Prelude.{ℕ, ◌+◌, ◌≤◌, List, length}
+use Rattle.std.specs.Prelude.{◌+◌, ◌≤◌, List, length}
 use Rattle.disk_places.specs.Places.{data_blocks, reserve}
 use Rattle.disk_lines.specs.declared.Draft.{Draft}
 use Rattle.disk_rules.specs.Room.{held_after_recovery, unused_blocks}

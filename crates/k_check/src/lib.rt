@@ -5,19 +5,25 @@
 //! place. A pending journal is read through; nothing is written. Want of memory is the only other
 //! answer.
 //!
+//! `crash_image` gives the image that a power loss leaves of a device, by a choice, in which no
+//! torn line of the log passes its check by chance.
+//!
 //! The layer above may rely on this: an image that was checked may be recovered and mounted
-//! (`IsChecked`), and of one that was refused the answer names what it breaks first (`Breaks`).
+//! (`IsChecked`), of one that was refused the answer names what it breaks first (`Breaks`), and a
+//! crash image is an image of its device, and honest (`IsHonest`).
 //!
 //! Stands on `volume_check` (the rules of the head, the lines and the volume), `oplog_entry` (the
 //! entries of the log) and the facts of images (`image_facts`).
 #![tactic(auto)]
 
 mod checking;
+mod crashes;
 mod entries;
 mod room;
 mod rules;
 
 pub use checking::check;
+pub use crashes::crash_image;
 pub use volume_check::{BadImage, CheckFault};
 
 #[cfg(test)]

@@ -1,10 +1,12 @@
 //! That the fresh image is checked with ample memory, and some damaged ones.
-ghost use Rattle.std.specs.Prelude.{◌≡◌, ◌+◌, ◌*◌, ◌%◌, ◌<◌, ◌≤◌, length, IfOk};
+ghost use Rattle.std.specs.Prelude.{◌≡◌, ◌*◌, ◌%◌, length, IfOk};
+ghost use Rattle.pm_words.specs.Cells.{AllHome};
 
 use super::*;
 use image_layout::Geometry;
 use k_reading::fresh_image;
-use pm_lines::Pm;
+use oplog_entry::{Draft, encode};
+use pm_lines::{Choice, Pm, Power};
 use std::alloc::{AllocError, Global};
 use std::test::Fail;
 
@@ -65,5 +67,62 @@ fn each_damaged_field(rt: HostRuntime) -> Result<(), Fail> {
         let bad = BadImage { rule, place };
         assert_eq!(rt; check_with(alloc, word, value), Err(CheckFault::Bad(bad)));
     }
+    Ok(())
+}
+
+// An entry of one block.
+fn draft() -> Draft {
+    Draft {
+        count: 1,
+        order: 5,
+        ino: 5,
+        generation: 0,
+        file_block: 0,
+        staging: 1,
+        staging_block: 0,
+        staging_generation: 0,
+        size: 4096,
+    }
+}
+
+// The fresh default image with a line of the log that is the entry but for its word 1, which is 9.
+fn log_image(alloc: Global, geometry: &Geometry) -> Result<Vec<u8>, AllocError>
+    ensures { IfOk result (λ bytes. length bytes.items ≡ 4096 * geometry.now.blocks) }
+{
+    let mut bytes = fresh_image(alloc, geometry)?;
+    let at = 64 * geometry.log_line(0) as usize;
+    bytes[at..at + 64].copy_from_slice(&encode(&draft(), 1));
+    bytes[at + 8..at + 16].copy_from_slice(&9u64.to_le_bytes());
+    Ok(bytes)
+}
+
+// Its device, with two words of the line stored, of which the odd one makes the line the entry.
+fn torn_device(alloc: Global, geometry: &Geometry) -> Result<Pm, AllocError>
+    ensures home { IfOk result (λ pm. AllHome pm) }
+    ensures size { IfOk result (λ pm. length pm ≡ 512 * geometry.now.blocks) }
+{
+    prove!(geometry.blocks >= 64);
+    let bytes = log_image(alloc, geometry)?;
+    let mut pm = Pm::from_image(alloc, &bytes)?;
+    let mut power = Power::always();
+    let word = 8 * geometry.log_line(0);
+    pm.store_word(&mut power, word + 1, 1);
+    pm.store_word(&mut power, word + 2, 6);
+    Ok(pm)
+}
+
+// The choice makes the torn line an entry, and the crash image has the line from before the stores.
+#[test]
+fn torn_entry_is_not_in_the_crash_image(rt: HostRuntime) -> Result<(), Fail> {
+    let alloc = rt.alloc();
+    let geometry = Geometry::default_image();
+    let pm = torn_device(alloc, &geometry)?;
+    let at = 64 * geometry.log_line(0) as usize;
+    let chosen = pm.choose(alloc, Choice::Odd)?;
+    let entry = encode(&draft(), 1);
+    assert_eq!(rt; &chosen[at..at + 64] == entry.as_slice(), true);
+    let crashed = crash_image(alloc, &pm, &geometry, Choice::Odd)?;
+    let before = log_image(alloc, &geometry)?;
+    assert_eq!(rt; crashed == before, true);
     Ok(())
 }

@@ -35,7 +35,7 @@ items-by_place d xs =
     (omega (arith, below, length-map-range_with_len (λ k. get_or xs k d) 0 (length xs))) (omega arith))
 
 -- a sum over numbers in a row, with one number more
-sum-more : (f : ℕ → ℕ) (a n : ℕ) → sum_by f (range_with_len a (n + 1)) ≡ sum_by f (range_with_len a n) + f (a + n)
+pub sum-more : (f : ℕ → ℕ) (a n : ℕ) → sum_by f (range_with_len a (n + 1)) ≡ sum_by f (range_with_len a n) + f (a + n)
 sum-more f a zero = ap (λ n. 0 + f n) {x = a} {y = a + 0} (omega arith)
 sum-more f a (suc n) =
     omega (

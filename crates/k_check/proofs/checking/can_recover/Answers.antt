@@ -1,4 +1,4 @@
-use Rattle.std.proofs.Common.{◌≡◌, ap, sym, ◌∙◌, subst, refl, List, All}
+use Rattle.std.proofs.Common.{sym, ◌∙◌, subst, List, All}
 use Rattle.std.specs.Prelude.{Option}
 use Rattle.std.proofs.lemmas.Bool.{both_ways}
 use Rattle.disk_lines.specs.declared.Draft.{Draft}

@@ -1,4 +1,4 @@
-use Rattle.std.proofs.Common.{ℕ, ap, sym, ◌∙◌, ◌∷◌, [], ◌++◌, ◌+◌, arith}
+use Rattle.std.proofs.Common.{ℕ, sym, ◌∙◌, ◌∷◌, [], ◌++◌, ◌+◌, arith}
 use Rattle.std.proofs.lemmas.List.FromFn.{map-range_with_len_more}
 use Rattle.std.specs.Prelude.{Option}
 use Rattle.disk_lines.specs.declared.Draft.{Draft}

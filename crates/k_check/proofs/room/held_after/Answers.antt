@@ -4,7 +4,7 @@ use Rattle.std.specs.List.{range_with_len}
 use Rattle.block_counts.specs.Counts.{held_by}
 use Rattle.disk_rules.specs.Content.{size_of}
 use Rattle.disk_rules.specs.Room.{is_named_file}
-use Rattle.k_check.proofs.SlotFacts.{sum-more}
+use Rattle.volume_check.proofs.UseFacts.{sum-more}
 use Rattle.k_check.proofs.room.held_after.Goals as goal
 
 pub loop-ino-preserved : goal.loop-ino-preserved

@@ -1,4 +1,4 @@
-use Rattle.std.proofs.Common.{ℕ, arith, subst, get_or, length, ◌<◌}
+use Rattle.std.proofs.Common.{arith, subst, get_or, length, ◌<◌}
 use Rattle.std.proofs.lemmas.Bool.{both_ways}
 use Rattle.std.proofs.lemmas.List.{get_or_default}
 use borrow.Author.Count.{below_more}

@@ -160,7 +160,7 @@ fn images_at_refusals(rt: HostRuntime) -> Result<(), Fail> {
     let words = ["mkfs", "S", "64", "4", "16", "16"];
     let told = call(&rt, rt.alloc(), &words, b"kept", &[0], &[])?;
     assert_eq!(rt; told.status, Status::WriteFault);
-    assert_eq!(rt; told.script.as_slice(), b"kept");
+    assert_eq!(rt; told.script.as_slice(), b"kept".as_slice());
     assert_eq!(rt; told.output.is_empty(), true);
     let told = call(&rt, rt.alloc(), &words, b"kept", &[], &[0])?;
     assert_eq!(rt; told.status, Status::WriteFault);

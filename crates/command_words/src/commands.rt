@@ -1,79 +1,117 @@
 //! The words of the command line.
-ghost use Rattle.std.specs.Prelude.{◌≡◌, map, option_map};
+ghost use Rattle.std.specs.Prelude.{◌≡◌, IfSome, true, map, option_and_then, option_map};
 ghost use Rattle.std.specs.String.{string_bytes};
-ghost use Rattle.command_words.specs.Command.{command_of, with_options, with_choice, choice_of};
-ghost use Rattle.command_words.specs.Seen.{seen};
+ghost use Rattle.command_words.specs.Command.{command_of, if_built, image_of, is_built, mkfs_of, step_of, tree_of};
+ghost use Rattle.command_words.specs.Seen.{seen, seen_image};
 
+use crate::geometries::read_geometry;
+use crate::options::{Candidates, read_options};
+use image_layout::Geometry;
 use pm_lines::Choice;
-use script_text::read_number;
 
-/// A command that was read: the place of the script's name among the words, and the options.
+/// An image.
 #[derive(Drop)]
-pub struct Command<'a> {
-    pub script: &'a String,
-    pub stop: Option<u64>,
-    pub choice: Choice,
+pub enum Image<'a> {
+    /// The fresh default image.
+    Fresh,
+    /// That of the file with this name.
+    Stored(&'a String),
 }
 
-/// Which candidates a power loss leaves, by its word.
-fn choice(word: &str) -> Option<Choice>
-    ensures { result ≡ choice_of word.now }
+/// A command that was read: the places of its names among the words, and its numbers and options.
+#[derive(Drop)]
+pub enum Command<'a> {
+    /// Make an image of this geometry in the file with this name.
+    Mkfs {
+        name: &'a String,
+        geometry: Geometry,
+    },
+    /// Print the tree of an image.
+    Tree(Image<'a>),
+    /// Run a script on the fresh image, with power for so many steps or always.
+    Step {
+        script: &'a String,
+        stop: Option<u64>,
+        choice: Choice,
+    },
+}
+
+/// The image that a word says.
+fn read_image(word: &String) -> Image<'_>
+    ensures { seen_image result ≡ image_of (string_bytes word.now) }
 {
-    match word {
-        "oldest" => Some(Choice::Oldest),
-        "newest" => Some(Choice::Newest),
-        "even" => Some(Choice::Even),
-        "odd" => Some(Choice::Odd),
-        _ => None,
+    if word.as_str() == "-" {
+        Image::Fresh
+    } else {
+        Image::Stored(word)
     }
 }
 
-/// The option `choose C`, or no more words.
-#[tactic(auto, unfolding(crate::specs::Command::with_choice))]
-fn with_choice<'a>(script: &'a String, stop: Option<u64>, words: &[String]) -> Option<Command<'a>>
-    ensures { option_map (λ c. seen c) result ≡ with_choice (string_bytes script.now) stop (map string_bytes words.now) }
+/// The words `mkfs IMAGE BLOCKS LOG INODES NAMES`.
+#[tactic(auto, unfolding(crate::specs::Command::mkfs_of))]
+fn read_mkfs(words: &[String]) -> Option<Command<'_>>
+    ensures command { option_map (λ c. seen c) result ≡ mkfs_of (map string_bytes words.now) }
+    ensures built { IfSome result (λ c. is_built (seen c) ≡ true) }
 {
-    if words.is_empty() {
-        return Some(Command {
-            script,
-            stop,
-            choice: Choice::Oldest,
-        });
-    }
-    if words.len() != 2 || words[0].as_str() != "choose" {
+    if words.len() != 6 || words[0].as_str() != "mkfs" {
         return None;
     }
-    let choice = choice(words[1].as_str())?;
-    Some(Command {
-        script,
-        stop,
-        choice,
-    })
+    let Image::Stored(name) = read_image(&words[1]) else {
+        return None;
+    };
+    let geometry = read_geometry(
+        words[2].as_str(),
+        words[3].as_str(),
+        words[4].as_str(),
+        words[5].as_str(),
+    )?;
+    Some(Command::Mkfs { name, geometry })
 }
 
-/// The option `stop N`, if it is there, and then the other.
-#[tactic(auto, unfolding(crate::specs::Command::with_options))]
-fn with_options<'a>(script: &'a String, words: &[String]) -> Option<Command<'a>>
-    ensures { option_map (λ c. seen c) result ≡ with_options (string_bytes script.now) (map string_bytes words.now) }
+/// The words `tree IMAGE`.
+#[tactic(auto, unfolding(crate::specs::Command::tree_of))]
+fn read_tree(words: &[String]) -> Option<Command<'_>>
+    ensures command { option_map (λ c. seen c) result ≡ tree_of (map string_bytes words.now) }
+    ensures built { IfSome result (λ c. is_built (seen c) ≡ true) }
 {
-    if words.len() < 2 || words[0].as_str() != "stop" {
-        return with_choice(script, None, words);
+    if words.len() != 2 || words[0].as_str() != "tree" {
+        return None;
     }
-    let steps = read_number(words[1].as_bytes())?;
-    with_choice(script, Some(steps), &words[2..])
+    Some(Command::Tree(read_image(&words[1])))
+}
+
+/// The words `step IMAGE SCRIPT strict` and options, where they are built.
+#[tactic(auto, unfolding(crate::specs::Command::step_of))]
+fn read_step(words: &[String]) -> Option<Command<'_>>
+    ensures { option_map (λ c. seen c) result ≡ option_and_then if_built (step_of (map string_bytes words.now)) }
+{
+    if words.len() < 4 || words[0].as_str() != "step" || words[3].as_str() != "strict" {
+        return None;
+    }
+    let options = read_options(&words[4..])?;
+    if words[1].as_str() != "-" || options.keep.is_some() {
+        return None;
+    }
+    match options.candidates {
+        Candidates::Chosen(choice) => Some(Command::Step {
+            script: &words[2],
+            stop: options.stop,
+            choice,
+        }),
+        Candidates::Drawn(_) => None,
+    }
 }
 
 /// The command that the words are, if they are one.
-#[tactic(auto, unfolding(crate::specs::Command::command_of))]
+#[tactic(auto, unfolding(crate::specs::Command::command_of, crate::specs::Command::spelled_by))]
 pub fn read_command(words: &[String]) -> Option<Command<'_>>
     ensures { option_map (λ c. seen c) result ≡ command_of (map string_bytes words.now) }
 {
-    if words.len() < 4
-        || words[0].as_str() != "step"
-        || words[1].as_str() != "-"
-        || words[3].as_str() != "strict"
-    {
-        return None;
+    if let Some(command) = read_mkfs(words) {
+        return Some(command);
     }
-    with_options(&words[2], &words[4..])
+    if let Some(command) = read_tree(words) {
+        return Some(command);
+    }
+    read_step(words)
 }

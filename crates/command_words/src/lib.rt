@@ -1,13 +1,16 @@
 //! The words of the command line, read as a command.
 //!
 //! `read_command` answers the command that the words are, exactly where they are one (`command_of`, a definition over
-//! lists of bytes that reads like a usage line): which script, after how many device steps the power goes (`stop N`),
-//! and which candidates of words that are not durable it leaves (`choose C`). The layer above may rely on nothing
-//! else: words that are no command are none of any part.
+//! lists of bytes that reads like usage lines): `mkfs` with the name and the numbers of an image, `tree` with an image,
+//! or `step` with a script and its options. What is spelled and not built (`is_built`) is no command. The layer above
+//! may rely on nothing else: words that are no command are none of any part.
 //!
-//! Stands on `pm_lines`, whose choices the words name, and on `script_text`, whose numbers they spell.
+//! Stands on `pm_lines`, whose choices the words name, on `image_layout`, whose geometry the numbers of `mkfs` are, and
+//! on `script_text`, whose numbers the words spell.
 #![tactic(auto)]
 
 mod commands;
+mod geometries;
+mod options;
 
-pub use commands::{Command, read_command};
+pub use commands::{Command, Image, read_command};

@@ -1,7 +1,12 @@
+pub mod Answered
 pub mod Beginnings
 pub mod Endings
 pub mod FreshDevices
 pub mod Left
+pub mod Live
+pub mod Opened
 pub mod Remounts
 pub mod Results
 pub mod Runnable
+pub mod Shown
+pub mod Told

@@ -1,7 +1,11 @@
--- Which statuses the parts of a job may end with.
-use Rattle.std.specs.Prelude.{◌≡◌, ⊤, ℕ, List, Some}
+-- What the parts of a job answer.
+use Rattle.std.specs.Prelude.{◌≡◌, ◌≢◌, ◌⊎◌, ⊤, ℕ, List, Option, Some}
+use Rattle.outside.specs.Outside.{FileList}
 use Rattle.script_text.specs.Scripts.{bad_line}
+use Rattle.command_words.specs.Command.{Command}
 use Rattle.exit_status.specs.declared.statuses.Status.{Status}
+use Rattle.split_top.specs.Images.{IsRefused}
+use Rattle.split_top.specs.Top.{BreaksGrammar, BreaksRule, Completes, IsCutShort, IsDone, IsMissing, IsRefusal, Leaves, Replaces}
 
 -- a file was not read
 abbrev pub IsUnread : Status → Type 0
@@ -16,9 +20,30 @@ IsUnrun bytes (Status.BadScript line) = bad_line bytes ≡ Some line
 IsUnrun bytes Status.NoMemory = ⊤
 IsUnrun bytes status = ⊥
 
+-- an image was not opened
+abbrev pub IsUnopened : List ℕ → Status → Type 0
+IsUnopened bytes (Status.BadImage rule place) = IsRefused bytes rule place
+IsUnopened bytes Status.NoMemory = ⊤
+IsUnopened bytes status = ⊥
+
 -- an output was put, or not
 abbrev pub IsPutOrNot : Status → Type 0
 IsPutOrNot Status.Done = ⊤
 IsPutOrNot Status.WriteFault = ⊤
 IsPutOrNot Status.NoMemory = ⊤
 IsPutOrNot status = ⊥
+
+-- WHAT THE ANSWER TO A COMMAND SAYS: of the files before and after, of what the sink has before and after, and of three
+-- counts: whether that of missing files rose, that of failures of the files, and that of failures of the sink.
+pub record IsAnswer (c : Command) (files left : Option FileList) (old new : Option (List ℕ)) (Missed Failed Refused : Type 0) (status : Status) : Type 0 where
+  pub usage : status ≢ Status.Usage
+  pub no_such_file : (name : List ℕ) → status ≡ Status.NoSuchFile name → IsMissing c files name × Missed
+  pub bad_image : (rule place : ℕ) → status ≡ Status.BadImage rule place → BreaksRule c files rule place
+  pub bad_script : (line : ℕ) → status ≡ Status.BadScript line → BreaksGrammar c files line
+  pub read_fault : status ≡ Status.ReadFault → Failed
+  pub write_fault : status ≡ Status.WriteFault → Refused ⊎ (Replaces c × Failed)
+  pub done : status ≡ Status.Done → IsDone c files left old new
+  pub kept : (left ≡ files) ⊎ (Replaces c × Leaves c files left)
+  pub front : (status ≡ Status.WriteFault) ⊎ (status ≡ Status.NoMemory) → ((left ≡ files) × (new ≡ old)) ⊎ IsCutShort c files left old new
+  pub nothing : IsRefusal status → (left ≡ files) × (new ≡ old)
+  pub complete : ¬ Failed → ¬ Refused → Completes c files status

@@ -1,4 +1,4 @@
-//! The parts of a job: its script is read and run, and its output is put.
+//! The parts of a job: a file is read, a script is run, and an output is put.
 ghost use Rattle.std.specs.Prelude.{◌≡◌, ◌≢◌, ◌++◌, List, ℕ, Option, Err, IfOk, IfErr};
 ghost use Rattle.outside.specs.Outside.{AreOfFile, IsAbsent, Rose, Takes, TakesFront};
 ghost use Rattle.split_top.specs.Jobs.{IsUnread, IsUnrun, IsPutOrNot};

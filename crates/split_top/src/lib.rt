@@ -10,8 +10,12 @@
 #![tactic(auto)]
 
 mod jobs;
+mod making;
+mod opening;
 mod program;
 mod runs;
+mod showing;
+mod stepping;
 #[cfg(test)]
 mod tests;
 

@@ -1,25 +1,33 @@
 //! The top call.
-ghost use Rattle.std.specs.Prelude.{◌≡◌, ◌⊎◌, ◌↔◌, List, ℕ, Option, None, map};
+ghost use Rattle.std.specs.Prelude.{◌≡◌, ◌⊎◌, ◌↔◌, List, ℕ, Option, None, Some, map};
 ghost use Rattle.std.specs.String.{string_bytes};
 ghost use Rattle.outside.specs.Outside.{Rose};
+ghost use Rattle.command_words.specs.Command as commands;
 ghost use Rattle.command_words.specs.Command.{command_of};
-ghost use Rattle.split_top.specs.Top.{IsBadScript, IsCutShort, IsDone, IsGiven, IsMissing, IsRefusal, IsVerdict};
+ghost use Rattle.split_top.specs.Top.{BreaksGrammar, BreaksRule, Completes, IsCutShort, IsDone, IsMissing, IsRefusal, Leaves, Replaces, Says};
 
-use crate::jobs::{put_output, read_file, run_script};
-use command_words::read_command;
+use crate::making::make_image;
+use crate::showing::{show_fresh, show_stored};
+use crate::stepping::run_step;
+use command_words::{Command, Image, read_command};
 use exit_status::Status;
 use outside::{Files, Sink};
 use std::alloc::Global;
 
-/// Does the job that the words of the command line say: `step - S strict`, then the options `stop N` and `choose C`.
+/// Does the job that the words of the command line say.
 ///
-/// The script S is read from the files, checked and run on the fresh default image in strict mode; then the history
-/// of its calls and the tree that is left are put at once. With `stop N` the power goes after N device steps (N of
-/// at most 18 decimal digits), a word that is not durable is what `choose C` says (`oldest`, `newest`, `even`,
-/// `odd`), and the image that is left is mounted again.
+/// - `mkfs IMAGE BLOCKS LOG INODES NAMES`: the file IMAGE is replaced by the fresh image with these numbers, and then
+///   the line `D data blocks` is put.
+/// - `tree IMAGE`: the image is read, checked and mounted, and its tree is put. `-` is the fresh default image. An image
+///   in whose log an entry is live is refused as rule 12 at 0, since no log is recovered yet.
+/// - `step - S strict`, then the options `stop N` and `choose C`: the script S is read from the files, checked and run
+///   on the fresh default image in strict mode; then the history of its calls and the tree that is left are put at
+///   once. With `stop N` the power goes after N device steps, a word that is not durable is what `choose C` says
+///   (`oldest`, `newest`, `even`, `odd`), and the image that is left is mounted again.
 ///
-/// Every file is as before. Nothing is put unless the job is done, but where the sink refuses: then it has a front of
-/// the output.
+/// A number has at most 18 decimal digits. No file but that of `mkfs` is changed, and that one only once its image and
+/// the line are made. Nothing is put unless the job is done, but where the sink refuses: then it has a front of the
+/// output.
 pub fn top<R, F: Files, K: Sink>(
     _rt: &R,
     alloc: Global,
@@ -28,31 +36,35 @@ pub fn top<R, F: Files, K: Sink>(
     out: &mut K,
 ) -> Status
     ensures usage { (result ≡ Status.Usage) ↔ (command_of (map string_bytes words.now) ≡ None) }
-    ensures no_such_file { (name : List ℕ) → result ≡ Status.NoSuchFile name → IsMissing (map string_bytes words.now) (F.told files.old) name × Rose (F.misses files.old) (F.misses files.new) }
-    ensures bad_script { (line : ℕ) → result ≡ Status.BadScript line → IsBadScript (map string_bytes words.now) (F.told files.old) line }
+    ensures no_such_file { (name : List ℕ) → result ≡ Status.NoSuchFile name → Says (map string_bytes words.now) (λ c. IsMissing c (F.told files.old) name) × Rose (F.misses files.old) (F.misses files.new) }
+    ensures bad_image { (rule place : ℕ) → result ≡ Status.BadImage rule place → Says (map string_bytes words.now) (λ c. BreaksRule c (F.told files.old) rule place) }
+    ensures bad_script { (line : ℕ) → result ≡ Status.BadScript line → Says (map string_bytes words.now) (λ c. BreaksGrammar c (F.told files.old) line) }
     ensures read_fault { result ≡ Status.ReadFault → Rose (F.faults files.old) (F.faults files.new) }
-    ensures write_fault { result ≡ Status.WriteFault → Rose (K.faults out.old) (K.faults out.new) }
+    ensures write_fault { result ≡ Status.WriteFault → Rose (K.faults out.old) (K.faults out.new) ⊎ Says (map string_bytes words.now) (λ c. Replaces c × Rose (F.faults files.old) (F.faults files.new)) }
 
-    // The promise: a history and a tree that are permitted, and nothing else is printed.
-    ensures done { result ≡ Status.Done → IsDone (map string_bytes words.now) (F.told files.old) (K.told out.old) (K.told out.new) }
+    // The promise: a fresh image; the tree of an image; a history and a tree that are permitted; and nothing else is
+    // printed or replaced.
+    ensures done { result ≡ Status.Done → Says (map string_bytes words.now) (λ c. IsDone c (F.told files.old) (F.told files.new) (K.told out.old) (K.told out.new)) }
 
     // What is left where the job is not done.
-    ensures files { F.told files.new ≡ F.told files.old }
-    ensures front { (result ≡ Status.WriteFault) ⊎ (result ≡ Status.NoMemory) → (K.told out.new ≡ K.told out.old) ⊎ IsCutShort (map string_bytes words.now) (F.told files.old) (K.told out.old) (K.told out.new) }
-    ensures nothing { IsRefusal result → K.told out.new ≡ K.told out.old }
+    ensures files { (F.told files.new ≡ F.told files.old) ⊎ Says (map string_bytes words.now) (λ c. Replaces c × Leaves c (F.told files.old) (F.told files.new)) }
+    ensures front { (result ≡ Status.WriteFault) ⊎ (result ≡ Status.NoMemory) → ((F.told files.new ≡ F.told files.old) × (K.told out.new ≡ K.told out.old)) ⊎ Says (map string_bytes words.now) (λ c. IsCutShort c (F.told files.old) (F.told files.new) (K.told out.old) (K.told out.new)) }
+    ensures nothing { IsRefusal result → (F.told files.new ≡ F.told files.old) × (K.told out.new ≡ K.told out.old) }
 
-    // A script that is there is run, unless the grammar, a failure or want of memory forbids it.
-    ensures complete { (bytes : List ℕ) → IsGiven (map string_bytes words.now) (F.told files.old) bytes → (Rose (F.faults files.old) (F.faults files.new) → ⊥) → (Rose (K.faults out.old) (K.faults out.new) → ⊥) → IsVerdict bytes result }
+    // A command whose files are there is done, unless the rules, the grammar, a failure or want of memory forbids it.
+    ensures complete { (c : commands.Command) → command_of (map string_bytes words.now) ≡ Some c → ¬ Rose (F.faults files.old) (F.faults files.new) → ¬ Rose (K.faults out.old) (K.faults out.new) → Completes c (F.told files.old) result }
 {
     let Some(command) = read_command(words) else {
         return Status::Usage;
     };
-    let bytes = match read_file(alloc, files, command.script.as_str()) {
-        Ok(bytes) => bytes,
-        Err(status) => return status,
-    };
-    match run_script(alloc, &bytes, command.stop, command.choice) {
-        Ok(output) => put_output(out, &output),
-        Err(status) => status,
+    match &command {
+        Command::Mkfs { name, geometry } => make_image(alloc, name.as_str(), geometry, files, out),
+        Command::Tree(Image::Fresh) => show_fresh(alloc, out),
+        Command::Tree(Image::Stored(name)) => show_stored(alloc, name.as_str(), files, out),
+        Command::Step {
+            script,
+            stop,
+            choice,
+        } => run_step(alloc, script.as_str(), *stop, *choice, files, out),
     }
 }

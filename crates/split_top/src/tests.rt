@@ -153,6 +153,28 @@ fn statuses_of_refusals(rt: HostRuntime) -> Result<(), Fail> {
     Ok(())
 }
 
+// What refusals of files and sink leave of an image that is made or shown. Whole sessions are run by the program
+// `image_rows`.
+#[test]
+fn images_at_refusals(rt: HostRuntime) -> Result<(), Fail> {
+    let words = ["mkfs", "S", "64", "4", "16", "16"];
+    let told = call(&rt, rt.alloc(), &words, b"kept", &[0], &[])?;
+    assert_eq!(rt; told.status, Status::WriteFault);
+    assert_eq!(rt; told.script.as_slice(), b"kept".as_slice());
+    assert_eq!(rt; told.output.is_empty(), true);
+    let told = call(&rt, rt.alloc(), &words, b"kept", &[], &[0])?;
+    assert_eq!(rt; told.status, Status::WriteFault);
+    assert_eq!(rt; told.script.len(), 262_144);
+    let told = call(&rt, rt.alloc(), &["tree", "S"], b"kept", &[0], &[])?;
+    assert_eq!(rt; told.status, Status::ReadFault);
+    let told = call(&rt, rt.alloc(), &["tree", "S"], b"kept", &[1], &[])?;
+    assert_eq!(rt; told.status, Status::BadImage { rule: 1, place: 4 });
+    assert_eq!(rt; told.output.is_empty(), true);
+    let told = call(&rt, rt.alloc(), &["tree", "-"], b"kept", &[0], &[0])?;
+    assert_eq!(rt; told.status, Status::WriteFault);
+    Ok(())
+}
+
 #[test]
 fn the_output_is_put_at_once(rt: HostRuntime) -> Result<(), Fail> {
     let told = call(
@@ -177,6 +199,11 @@ fn texts_and_numbers_of_statuses(rt: HostRuntime) -> Result<(), Fail> {
             Status::NoSuchFile(FileName { bytes }),
             3,
             b"splitfs: no such file S\n",
+        ),
+        (
+            Status::BadImage { rule: 10, place: 5 },
+            4,
+            b"splitfs: bad image: rule 10 at 5\n",
         ),
         (
             Status::BadScript { line: 3 },

@@ -1,0 +1,17 @@
+use Rattle.std.proofs.Common.{inr, sym, ◌∙◌, subst}
+use Rattle.command_words.specs.Command as commands
+use Rattle.split_top.proofs.Answered.{put-answer}
+use Rattle.split_top.proofs.making.make_image.Goals as goal
+use Rattle.split_top.specs.Images.{IsFreshImage, IsMade}
+
+pub returns-in-Ok-replace : goal.returns-in-Ok-replace
+returns-in-Ok-replace g c =
+    let made : IsMade c.args.name.now c.args.geometry.now (g.F.Files.told c.args.files.now) (g.F.Files.told c.replace.new.self) =
+    record {
+      bytes = c.deref.result.now;
+      is_fresh = subst (IsFreshImage c.args.geometry.now) (sym c.deref.ensures.value) c.in-Ok.ensures;
+      is_replaced = c.in-Ok-replace.ensures.replaced;
+    } in
+    put-answer (commands.Mkfs c.args.name.now c.args.geometry.now) _ _ _ _ _ _ _ c.deref-in-Ok-replace.result.now
+    (c.deref-in-Ok-replace.ensures.value ∙ c.in-Ok-blocks_text.ensures) made (inr (tt, made)) tt tt
+    c.put_output.result c.put_output.ensures.kind c.put_output.ensures.done c.put_output.ensures.front c.put_output.ensures.failed

@@ -1,0 +1,68 @@
+-- What the bytes of an image are to the commands: the fresh image; one that can be opened; or one that is refused, by which rule.
+use Rattle.std.specs.Prelude.{◌≡◌, ◌⊎◌, ◌*◌, ℕ, List, [], ◌++◌, length, Option, codes, decimal}
+use Rattle.pm_words.specs.Words.{word_at, Words}
+use Rattle.disk_places.specs.Journal.{journaled}
+use Rattle.disk_places.specs.Places.{data_blocks, Geometry}
+use Rattle.disk_lines.specs.Fresh.{fresh}
+use Rattle.disk_rules.specs.Broken.{Breaks}
+use Rattle.disk_rules.specs.Content.{content}
+use Rattle.disk_rules.specs.FreshVolume.{root_alone}
+use Rattle.disk_rules.specs.Live.{live_entries}
+use Rattle.disk_rules.specs.Rules.{geometry_of, IsChecked}
+use Rattle.disk_rules.specs.Volume.{volume}
+use Rattle.posix_types.specs.declared.tree.TreeEntry.{TreeEntry}
+use Rattle.world_rules.specs.Shown.{IsTreeOfContent}
+use Rattle.image_layout.specs.Numbers.{default_numbers}
+use Rattle.report_text.specs.Texts.{tree_text}
+use Rattle.outside.specs.Outside.{AreOfFile, FileList, IsReplaced}
+use Rattle.command_words.specs.Command.{Fresh, Image, Stored}
+
+-- THE FRESH IMAGE with these numbers: a checked image whose content is the root alone.
+pub record IsFreshImage (g : Geometry) (bytes : List ℕ) : Type 0 where
+  pub size : length bytes ≡ 4096 * g.blocks
+  pub words : word_at bytes ≡ fresh g
+  pub checked : IsChecked (length bytes) (word_at bytes)
+  pub numbers : geometry_of (word_at bytes) ≡ g
+  pub root : content g (word_at bytes) ≡ root_alone
+
+-- the bytes of the image that is named: those of its file, as far as the files are told, or of the fresh default image
+abbrev pub AreOfImage : Option FileList → Image → List ℕ → Type 0
+AreOfImage files Fresh bytes = IsFreshImage default_numbers bytes
+AreOfImage files (Stored name) bytes = AreOfFile files name bytes
+
+-- recovery has nothing to carry out of the log
+abbrev pub HasNoLive : Words → Type 0
+HasNoLive f = live_entries (volume (geometry_of f) (journaled f)) (journaled f) ≡ []
+
+-- AN IMAGE THAT CAN BE OPENED is a checked one in whose log nothing is live.
+pub record CanOpen (bytes : List ℕ) : Type 0 where
+  pub checked : IsChecked (length bytes) (word_at bytes)
+  pub dead : HasNoLive (word_at bytes)
+
+-- A checked image in whose log an entry is live is refused as if it broke rule 12, as long as no log is recovered.
+pub record HasLive (bytes : List ℕ) (rule place : ℕ) : Type 0 where
+  pub checked : IsChecked (length bytes) (word_at bytes)
+  pub live : ¬ HasNoLive (word_at bytes)
+  pub rule_is : rule ≡ 12
+  pub place_is : place ≡ 0
+
+-- AN IMAGE IS REFUSED by the first rule that it breaks, with its lowest place; only where it breaks none, for a live entry.
+abbrev pub IsRefused : List ℕ → ℕ → ℕ → Type 0
+IsRefused bytes rule place = Breaks (length bytes) (word_at bytes) rule place ⊎ HasLive bytes rule place
+
+-- The text of the tree of an image: the image can be opened, and the tree is that of its content.
+pub record IsTreeText (bytes output : List ℕ) : Type 0 where
+  pub can_open : CanOpen bytes
+  pub left : List TreeEntry
+  pub is_tree : IsTreeOfContent (content (geometry_of (word_at bytes)) (word_at bytes)) left
+  pub is_text : output ≡ tree_text left
+
+-- The file of this name was replaced by the fresh image with these numbers, and every other file is as before.
+pub record IsMade (name : List ℕ) (g : Geometry) (old new : Option FileList) : Type 0 where
+  pub bytes : List ℕ
+  pub is_fresh : IsFreshImage g bytes
+  pub is_replaced : IsReplaced old new name bytes
+
+-- the line that says how much room there is
+abbrev pub blocks_text : Geometry → List ℕ
+blocks_text g = decimal (data_blocks g) ++ codes " data blocks\n"

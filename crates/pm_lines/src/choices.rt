@@ -1,6 +1,4 @@
 //! Which candidate of each word a power loss leaves.
-ghost use Rattle.std.specs.Prelude.{◌≡◌};
-ghost use Rattle.pm_lines.specs.Choices.{takes_newest};
 
 /// Which candidate of each word a power loss leaves.
 #[derive(Clone, Copy, Debug, PartialEq, Eq)]
@@ -13,18 +11,7 @@ pub enum Choice {
     Even,
     /// The newest candidate of each odd-numbered word, the oldest of each even one.
     Odd,
-}
-
-impl Choice {
-    // Whether it takes the newest candidate of the word.
-    pub(crate) fn takes_newest(self, word: usize) -> bool
-        ensures { result ≡ takes_newest self word }
-    {
-        match self {
-            Choice::Oldest => false,
-            Choice::Newest => true,
-            Choice::Even => word % 2 == 0,
-            Choice::Odd => word % 2 == 1,
-        }
-    }
+    /// One draw of SplitMix64 from this seed for each word with two candidates, in rising order: the
+    /// newest where the draw is odd, else the oldest.
+    Seed(u64),
 }

@@ -118,3 +118,26 @@ fn many_fences_of_a_large_device(rt: HostRuntime) -> Result<(), Fail> {
     assert!(rt; !power.on());
     Ok(())
 }
+
+// The first bytes of words 3, 5 and 6 in the image of seed 0.
+fn seeded_words(alloc: Global, pm: &Pm) -> Result<[u8; 3], AllocError>
+    requires home { AllHome pm.now }
+    requires size { 1024 ≤ length pm.now }
+{
+    let bytes = pm.choose(alloc, Choice::Seed(0))?;
+    Ok([bytes[24], bytes[40], bytes[48]])
+}
+
+// The first draws of SplitMix64 from 0 are e220a8397b1dcdaf, 6e789e6aa1b965f4 and 06c45d188009454f:
+// odd, even and odd.
+#[test]
+fn seed_draws_for_words_with_two_candidates(rt: HostRuntime) -> Result<(), Fail> {
+    let alloc = rt.alloc();
+    let mut pm = device(alloc, 2)?;
+    let mut power = Power::always();
+    pm.store_word(&mut power, 3, 1);
+    pm.store_word(&mut power, 5, 1);
+    pm.store_word(&mut power, 6, 1);
+    assert_eq!(rt; seeded_words(alloc, &pm)?, [1, 0, 1]);
+    Ok(())
+}

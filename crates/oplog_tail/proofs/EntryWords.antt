@@ -1,8 +1,6 @@
 -- A line into which an entry is written, word by word, flushed and fenced, at a power that may be lost at any step.
-use Rattle.std.proofs.Common.{◌≡◌, ◌≢◌, ℕ, zero, suc, ◌+◌, ◌-◌, ◌%◌, ◌<◌, ◌≤◌, Bool, true, false, cond, List, [], ◌∷◌, ◌++◌, length, get_or, sym, refl, ap, ◌∙◌, subst, inl, inr, ⊎_elim, arith, ◌⊎◌}
-use Rattle.std.specs.Int.{bytes_low_first, to_le_bytes, w16, w32, w64}
-use Rattle.std.proofs.lemmas.Bool.{cases_eq, cases_lt}
-use Rattle.std.proofs.lemmas.List.{get_or_append_left, get_or-append_right}
+use Rattle.std.proofs.Common.{◌≡◌, ◌≢◌, ℕ, ◌+◌, ◌%◌, ◌<◌, ◌≤◌, Bool, true, false, cond, List, sym, refl, ap, ◌∙◌, subst, inl, inr, ⊎_elim, arith, ◌⊎◌}
+use Rattle.std.proofs.lemmas.Bool.{cases_eq}
 use Rattle.pm_words.specs.declared.Cell.{Cell}
 use Rattle.pm_words.specs.declared.Cell.TheVariants.{Single, Two}
 use Rattle.pm_words.specs.Bytes.{line_bytes-words}
@@ -11,10 +9,10 @@ use Rattle.pm_words.specs.CellLaws.{single-newest}
 use Rattle.pm_words.specs.Words.{Words}
 use Rattle.pm_lines.specs.Effects.{Fences, FlushesLine, StoresWord}
 use Rattle.disk_lines.specs.declared.Draft.{Draft}
-use Rattle.disk_lines.specs.Entries.{encode_entry, entry_body, fnv_1a}
-use Rattle.disk_places.specs.Fields.{zeros}
+use Rattle.disk_lines.specs.Entries.{encode_entry}
 use Rattle.disk_rules.specs.LogRule.{HoldsEntry, words_of_line}
 use Rattle.oplog_tail.specs.declared.views.Mark.TheVariants.{Lost, Written}
+use Rattle.oplog_tail.specs.EntryBytes.{encode_entry-small, length-encode_entry}
 use Rattle.oplog_tail.specs.EntryLines.{entry_words, Holds, IsPutOver, IsSingle}
 
 -- The words below n were stored, or as many of them as the power lasted for; the others are as they were.
@@ -55,77 +53,11 @@ stores_more first entry n on later v old new single within before value storing 
       (λ (other : j ≢ n). store.others j other ∙ storing.all (before is) j (omega (arith, below, other)))
       (cases_eq j n)
 
--- the bytes of an entry
-small_low : (i k n j : ℕ) → get_or (bytes_low_first i k n) j 0 < 256
-small_low i zero n j = omega arith
-small_low zero (suc k) n zero = omega arith
-small_low (suc i) (suc k) n zero = omega arith
-small_low i (suc k) n (suc j) = small_low (suc i) k n j
-
-small_zeros : (n j : ℕ) → get_or (zeros n) j 0 < 256
-small_zeros zero j = omega arith
-small_zeros (suc n) zero = omega arith
-small_zeros (suc n) (suc j) = small_zeros n j
-
-small_append : (xs ys : List ℕ) → ((j : ℕ) → get_or xs j 0 < 256) → ((j : ℕ) → get_or ys j 0 < 256) → (j : ℕ) → get_or (xs ++ ys) j 0 < 256
-small_append xs ys small more j = ⊎_elim
-    (λ (below : j < length xs). subst (λ (b : ℕ). b < 256) (sym (get_or_append_left xs ys 0 j below)) (small j))
-    (λ (past : length xs ≤ j). subst (λ (b : ℕ). b < 256) (sym (get_or-append_right xs ys (length xs) j 0 refl past)) (more (j - length xs)))
-    (cases_lt j (length xs))
-
-small_two : (j : ℕ) → get_or (1 ∷ 1 ∷ []) j 0 < 256
-small_two zero = omega arith
-small_two (suc zero) = omega arith
-small_two (suc (suc j)) = omega arith
-
-small_body : (d : Draft) (seq j : ℕ) → get_or (entry_body d seq) j 0 < 256
-unfolding entry_body
-small_body d seq =
-    let a : List ℕ = (1 ∷ 1 ∷ []) ++ to_le_bytes w16 d.count in
-    let b : List ℕ = a ++ to_le_bytes w64 seq in
-    let c : List ℕ = b ++ to_le_bytes w64 d.order in
-    let e : List ℕ = c ++ to_le_bytes w32 d.ino in
-    let f : List ℕ = e ++ to_le_bytes w32 d.generation in
-    let g : List ℕ = f ++ to_le_bytes w32 d.file_block in
-    let h : List ℕ = g ++ to_le_bytes w32 d.staging in
-    let k : List ℕ = h ++ to_le_bytes w32 d.staging_block in
-    let l : List ℕ = k ++ to_le_bytes w32 d.staging_generation in
-    let m : List ℕ = l ++ to_le_bytes w64 d.size in
-    small_append m (zeros 8)
-    (small_append l (to_le_bytes w64 d.size)
-    (small_append k (to_le_bytes w32 d.staging_generation)
-    (small_append h (to_le_bytes w32 d.staging_block)
-    (small_append g (to_le_bytes w32 d.staging)
-    (small_append f (to_le_bytes w32 d.file_block)
-    (small_append e (to_le_bytes w32 d.generation)
-    (small_append c (to_le_bytes w32 d.ino)
-    (small_append b (to_le_bytes w64 d.order)
-    (small_append a (to_le_bytes w64 seq)
-    (small_append (1 ∷ 1 ∷ []) (to_le_bytes w16 d.count) small_two (small_low 0 2 d.count))
-    (small_low 0 8 seq))
-    (small_low 0 8 d.order))
-    (small_low 0 4 d.ino))
-    (small_low 0 4 d.generation))
-    (small_low 0 4 d.file_block))
-    (small_low 0 4 d.staging))
-    (small_low 0 4 d.staging_block))
-    (small_low 0 4 d.staging_generation))
-    (small_low 0 8 d.size))
-    (small_zeros 8)
-
-small_entry : (d : Draft) (seq j : ℕ) → get_or (encode_entry d seq) j 0 < 256
-unfolding encode_entry
-small_entry d seq = small_append (to_le_bytes w32 (fnv_1a (entry_body d seq))) (entry_body d seq) (small_low 0 4 (fnv_1a (entry_body d seq))) (small_body d seq)
-
-long_entry : (d : Draft) (seq : ℕ) → length (encode_entry d seq) ≡ 64
-unfolding encode_entry entry_body
-long_entry d seq = refl
-
 -- a line whose words are those of an entry, each alone, holds it
 holds_words : (d : Draft) (seq : ℕ) (cells : List Cell) → ((j : ℕ) → j < 8 → cell cells j ≡ Single (entry_words d seq j)) → HoldsEntry cells d seq
 holds_words d seq cells words = record {
   single = λ j below. ap is_single (words j below);
-  spelled = line_bytes-words (words_of_line cells) 0 (encode_entry d seq) (long_entry d seq) (small_entry d seq)
+  spelled = line_bytes-words (words_of_line cells) 0 (encode_entry d seq) (length-encode_entry d seq) (encode_entry-small d seq)
       (λ i at. let below : i < 8 = omega (arith, at) in let same : i ≡ i % 8 = omega (arith, below) in ap newest (words i below) ∙ ap (entry_words d seq) same);
 }
 

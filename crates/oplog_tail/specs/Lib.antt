@@ -1,3 +1,4 @@
+pub mod EntryBytes
 pub mod EntryLines
 pub mod Views
 pub mod Rule

@@ -1,0 +1,55 @@
+-- A log that is opened over the log lines of a device, and its lines put back.
+use Rattle.std.specs.Prelude.{◌≡◌, ◌⊎◌, ◌<◌, ℕ, ◌+◌, ◌*◌, true, Contains, length, List, [], ◌∷◌, Option, Some, None}
+use Rattle.pm_words.specs.declared.Cell.{Cell}
+use Rattle.pm_words.specs.declared.Cell.TheVariants.{Single}
+use Rattle.pm_words.specs.Cells.{cell, unmarked}
+use Rattle.pm_words.specs.Parts.{Part}
+use Rattle.pm_words.specs.Words.{line_bytes, Words}
+use Rattle.disk_places.specs.Places.{log_line}
+use Rattle.disk_lines.specs.declared.Draft.{Draft}
+use Rattle.disk_lines.specs.Entries.{held_seq, is_draft, is_self_valid}
+use Rattle.disk_lines.specs.EntryLaws.{FitsDraft}
+use Rattle.disk_rules.specs.Volume.{Volume}
+use Rattle.list_facts.specs.Members.{In}
+use Rattle.oplog_tail.specs.declared.views.Claim.{Claim}
+use Rattle.oplog_tail.specs.declared.views.Mark.TheVariants.{Written}
+use Rattle.oplog_tail.specs.Logs.{LogView}
+use Rattle.oplog_tail.specs.Rule.{line_at}
+use Rattle.world_rules.specs.Jobs.{Job}
+use Rattle.world_log.specs.Lines.{IsTaken}
+
+-- The log was opened with the volume's base and log lines, each with these words alone, and none of them was an entry of
+-- this lap or a later one.
+pub record IsLapOf (v : Volume) (log : LogView) (first : Words) : Type 0 where
+  pub base : log.base ≡ v.base
+  pub size : length log.lines ≡ v.geometry.log
+  pub words : (n j : ℕ) → n < v.geometry.log → j < 8 → cell (line_at log.lines n).cells j ≡ Single (first (8 * log_line v.geometry n + j))
+  pub old : (n : ℕ) → n < v.geometry.log → is_self_valid (line_bytes first (log_line v.geometry n)) ≡ true → held_seq (line_bytes first (log_line v.geometry n)) < v.base
+
+-- the lines stand in the log again, without their marks
+abbrev pub StandAgain : Volume → List Part → (ℕ → Cell) → Type 0
+StandAgain v lines cells = (n j : ℕ) → n < v.geometry.log → j < 8 → cells (8 * log_line v.geometry n + j) ≡ unmarked (cell (line_at lines n).cells j)
+
+-- each entry is one that a mount can read
+abbrev pub AreDrafts : List Claim → Type 0
+AreDrafts all = (c : Claim) → Contains all c → (is_draft c.entry ≡ true) × FitsDraft c.entry
+
+-- a seat claimed the number for the draft
+pub record IsClaimed (all : List Claim) (slot : ℕ) (d : Draft) : Type 0 where
+  pub claim : Claim
+  pub in_log : Contains all claim
+  pub number : claim.number ≡ slot
+  pub entry : claim.entry ≡ d
+
+-- each job that has a slot claimed it
+abbrev pub HaveClaimed : List Claim → List Job → List (Option ℕ) → Type 0
+HaveClaimed all [] slots = Unit {0}
+HaveClaimed all (j ∷ jobs) [] = Unit {0}
+HaveClaimed all (j ∷ jobs) (None ∷ slots) = HaveClaimed all jobs slots
+HaveClaimed all (j ∷ jobs) (Some slot ∷ slots) = IsClaimed all slot j.draft × HaveClaimed all jobs slots
+
+-- The claims that the World knows were written, and those that it doesn't are of jobs.
+pub record AreOfLap (all : List Claim) (claims : List (ℕ × Draft)) (jobs : List Job) (slots : List (Option ℕ)) : Type 0 where
+  pub written : (slot : ℕ) (d : Draft) → In (slot, d) claims → (is : IsClaimed all slot d) × (is.claim.mark ≡ Written)
+  pub known : (c : Claim) → Contains all c → In (c.number, c.entry) claims ⊎ IsTaken jobs slots c.number
+  pub claimed : HaveClaimed all jobs slots

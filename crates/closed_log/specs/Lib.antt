@@ -1,0 +1,3 @@
+-- What a closed log leaves, in the words of the World.
+pub mod Laps
+pub mod Laws

@@ -11,8 +11,10 @@ use outside::{FileFault, Files, Sink, SinkFault};
 use pm_lines::Choice;
 use posix_types::Scripts;
 use report_text::{history_text, tree_text};
-use script_text::{ScriptFault, read_script};
-use script_text::{scripts_are_spelled, scripts_are_within_limits, scripts_have_known_words};
+use script_text::{
+    ScriptFault, read_script, scripts_are_spelled, scripts_are_within_limits,
+    scripts_have_known_words,
+};
 use split_calls::NoMemory;
 use std::alloc::Global;
 

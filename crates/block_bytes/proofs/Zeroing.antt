@@ -63,7 +63,7 @@ module _ (blocks : List ℕ) (old new : List Cell) (single : AreSingle blocks ol
         let same = zeroing image is in (
           same.0,
           same.1,
-          record { zero = λ i k below at. subst (λ c. IsCandidate c (image i)) (done k i below at) (is i); others = same.2 },
+          record { zero = λ k i below at. subst (λ c. IsCandidate c (image i)) (done k i below at) (is i); others = same.2 },
         )
 
     pub kept : KeepsSingle old new

@@ -5,7 +5,8 @@ use Rattle.pm_words.specs.Cells.{cell, is_single}
 use Rattle.pm_words.specs.Words.{byte_of, Words}
 use Rattle.extent_words.specs.declared.Extent.{Extent}
 use Rattle.extent_words.specs.Extents.{disk_at}
-use Rattle.disk_rules.specs.Placed.{AreDistinct, AreInDevice, AreSingle, block_at, IsOutside}
+use Rattle.disk_rules.specs.Placed.{AreDistinct, AreInDevice, AreSingle, IsOutside}
+use Rattle.map_rules.specs.Zeros.{AreZeros}
 use Rattle.block_bytes.specs.Puts.{with_bytes}
 
 -- ---- the range
@@ -74,9 +75,6 @@ IsReached first count m = (4096 * m < first + count) × (first < 4096 * m + 4096
 
 -- ---- blocks of zeros
 
-abbrev pub AreZero : List ℕ → Words → Type 0
-AreZero blocks f = (i k : ℕ) → k < length blocks → i / 512 ≡ block_at blocks k → f i ≡ 0
-
 -- The blocks may be zeroed: no block comes twice, all are in the device, and each word of them has one candidate.
 pub record MayZero (blocks : List ℕ) (d : List Cell) : Type 0 where
   pub distinct : AreDistinct blocks
@@ -89,7 +87,7 @@ SameBeside blocks before image = (i : ℕ) → IsOutside blocks i → image i �
 
 -- an image after the blocks were zeroed, beside the image before
 pub record IsZeroed (blocks : List ℕ) (before image : Words) : Type 0 where
-  pub zero : AreZero blocks image
+  pub zero : AreZeros blocks image
   pub others : SameBeside blocks before image
 
 -- ---- lines of zeros

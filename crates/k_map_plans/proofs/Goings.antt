@@ -1,6 +1,7 @@
 -- An inode goes over to a map in a chain of blocks that were set aside.
 use Rattle.std.proofs.Common.{◌≡◌, ◌⊎◌, ◌<◌, ◌≤◌, ◌+◌, ℕ, Bool, true, false, not, get_or, List, [], ◌∷◌, ◌++◌, length, refl, sym, ◌∙◌, ap, inl, inr, arith, subst}
 use Rattle.std.specs.Prelude.{All, ◌&&◌, ◌||◌, ◌==◌}
+use Rattle.std.specs.List.{list_any}
 use Rattle.std.proofs.lemmas.Bool.{both_ways, cases_Bool, cases_lt, eq-eqb, ne_eqb}
 use Rattle.std.proofs.lemmas.Bool.Decides.{nat_tests}
 use Rattle.std.proofs.lemmas.List.{length-set}
@@ -78,6 +79,13 @@ module _ (t u : TablesView) (n : ℕ) (taken : List ℕ) (aside : IsSetAside n t
 
   pub aside-once : WaitOnce t → WaitOnce u
   aside-once once b = subst (λ (x : TablesView). in_chain x.waiting b ≤ 1) (sym aside.after) (both-once once b)
+
+  -- what is left free
+  pub left-free : (b : ℕ) → is_free_block u b ≡ (is_free_block t b && not (list_any (λ k. k == b) taken))
+  left-free b =
+      ap (λ (y : TablesView). is_free_block y b) aside.after
+      ∙ ap (λ a. is_unused t.volume b && not a) (among-append t.waiting taken b)
+      ∙ sym (not_or (is_unused t.volume b) (is_among t.waiting b) (is_among taken b))
 
   pub aside-volume : u.volume ≡ t.volume
   aside-volume = ap (λ (x : TablesView). x.volume) aside.after

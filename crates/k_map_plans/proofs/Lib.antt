@@ -1,3 +1,4 @@
+mod Fillings
 mod Goings
 mod Moves
 mod Sizes

@@ -31,7 +31,7 @@ use Rattle.volume_maps.specs.TakenLaws.{AreLowest-append, rising-once}
 use Rattle.volume_uses.specs.Uses.{in_chain, in_map, is_unused}
 use Rattle.k_map_plans.specs.Going.{HasGoneOver, MayGoOver}
 use Rattle.k_map_plans.specs.Plans.{IsStagingFile}
-use Rattle.k_map_plans.proofs.Goings.{aside-once, aside-unused, aside-volume, among-append, not_or}
+use Rattle.k_map_plans.proofs.Goings.{aside-once, aside-unused, aside-volume, left-free}
 use Rattle.k_map_plans.proofs.Sizes.{none-waits}
 
 -- ---- the line of a staging file
@@ -116,13 +116,6 @@ module _ (t u : TablesView) (count staging : ℕ) (fresh : List ℕ) (es : List 
         room = omega (arith, chain-room, room, left, ap free_blocks aside.after);
       })
 
-  -- what is left free
-  left-free : (b : ℕ) → is_free_block u b ≡ (is_free_block t b && not (list_any (λ k. k == b) fresh))
-  left-free b =
-      ap (λ (y : TablesView). is_free_block y b) aside.after
-      ∙ ap (λ a. is_unused t.volume b && not a) (among-append t.waiting fresh b)
-      ∙ sym (not_or (is_unused t.volume b) (is_among t.waiting b) (is_among fresh b))
-
   pub filled-ok : (w : TablesView) (b : List Entry) (r : Result NewChain AllocError)
       → IfOk r (HasGoneOver staging (aged (inode u.volume staging)) es u w b)
       → OnOk r (IsPreallocated (is_free_block t) staging count t.volume w.volume)
@@ -132,7 +125,8 @@ module _ (t u : TablesView) (count staging : ℕ) (fresh : List ℕ) (es : List 
     blocks = c.blocks;
     size = aside.lowest.count;
     map = order;
-    taken = AreLowest-append (is_free_block t) (is_free_block u) count (chains_for (length es)) fresh c.blocks aside.lowest gone.lowest left-free;
+    taken = AreLowest-append (is_free_block t) (is_free_block u) count (chains_for (length es)) fresh c.blocks aside.lowest gone.lowest
+        (left-free t u count fresh aside);
     is_preallocated = gone.after
         ∙ (λ i. switched staging (aged (inode (aside-volume t u count fresh aside i) staging)) c.blocks es (aside-volume t u count fresh aside i));
   }

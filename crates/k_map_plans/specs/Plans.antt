@@ -1,18 +1,25 @@
 -- What the plans of changes of maps answer and leave.
-use Rattle.std.specs.Prelude.{◌≡◌, ◌≤◌, ◌<◌, ◌+◌, ◌^◌, ℕ, List, [], ◌∷◌, length, Result, Ok, Err}
+use Rattle.std.specs.Prelude.{◌≡◌, ◌≤◌, ◌<◌, ◌+◌, ◌-◌, ◌^◌, ◌==◌, nat_lt, ℕ, Bool, true, false, List, [], ◌∷◌, length, Option, None, Some, Result, Ok, Err}
 use Rattle.std.specs.declared.alloc.AllocError.{AllocError}
 use Rattle.disk_lines.specs.declared.Kind.TheVariants.{File, Staging}
+use Rattle.disk_places.specs.Places.{reserve}
 use Rattle.disk_rules.specs.Volume.{Volume, chain, extents, inode}
 use Rattle.extent_words.specs.declared.Extent.{Extent}
 use Rattle.k_journal.specs.declared.batches.Entry.{Entry}
 use Rattle.k_land.specs.Plans.{NewChain}
-use Rattle.k_plans.specs.Free.{is_free_block}
+use Rattle.k_plans.specs.Free.{free_blocks, is_free_block}
 use Rattle.k_plans.specs.Switching.{IsMapPlan}
 use Rattle.k_plans.specs.View.{TablesView}
-use Rattle.map_rules.specs.Changes.{given_up, IsMoved, IsPreallocated, IsSized}
+use Rattle.map_rules.specs.Changes.{given_up, holes, IsFilled, IsMoved, IsPreallocated, IsSized}
 use Rattle.map_rules.specs.declared.moves.Move.{Move}
 use Rattle.extent_words.specs.Moves.{IsMapped}
 use Rattle.disk_lines.specs.Lines.{most_bytes}
+use Rattle.posix_types.specs.declared.item.Outcome.{Outcome}
+use Rattle.posix_types.specs.declared.reply.Errno.{Errno}
+use Rattle.posix_types.specs.declared.reply.Reply.{Reply}
+use Rattle.posix_types.specs.declared.reply.Room.{Room}
+use Rattle.posix_types.specs.declared.reply.What.{What}
+use Rattle.posix_words.specs.Outcomes.{answer, first, idle_row, space_row}
 
 -- a file in use
 pub record IsLiveFile (ino : ℕ) (v : Volume) : Type 0 where
@@ -39,6 +46,34 @@ pub record IsPlannedOne (ino : ℕ) (old new : TablesView) (b : List Entry) (c :
 abbrev pub IsSizePlan : ℕ → ℕ → TablesView → TablesView → List Entry → Result NewChain AllocError → Type 0
 IsSizePlan ino size old new b (Ok c) = IsSized (is_free_block old) ino size old.volume new.volume × IsPlannedOne ino old new b c
 IsSizePlan ino size old new b (Err e) = IsNotPlanned old new b
+
+-- What stands against filling so many holes: nothing is to be done where there is none, and ENOSPC where fewer blocks are free
+-- than they and the reserve less 2.
+abbrev pub holes_row : ℕ → ℕ → ℕ → Option Outcome
+holes_row missing kept free =
+    first
+    (idle_row (missing == 0) Reply.Ok
+    ∷ space_row (nat_lt free (missing + kept - 2)) What.Blocks (missing + kept - 2) free
+    ∷ [])
+
+abbrev pub fill_row : ℕ → ℕ → ℕ → TablesView → Option Outcome
+fill_row ino from count t = holes_row (length (holes (extents t.volume ino) from count)) (reserve t.volume.geometry) (free_blocks t)
+
+-- whether there is a hole, or the room that lacks
+abbrev pub row_of : Result Bool Room → Option Outcome
+row_of (Ok true) = None
+row_of (Ok false) = Some (answer Reply.Ok)
+row_of (Err room) = Some (record { reply = Reply.Error Errno.ENOSPC; room = Some room })
+
+-- The range of the file has a hole, and there is room for its holes and for the new chain.
+pub record MayFill (ino from count : ℕ) (t : TablesView) : Type 0 where
+  pub some : 0 < length (holes (extents t.volume ino) from count)
+  pub room : length (holes (extents t.volume ino) from count) + reserve t.volume.geometry ≤ free_blocks t + 2
+
+-- holes of a file get blocks: these are `fresh`, and the new map is c
+pub record IsFillPlan (ino first count : ℕ) (old new : TablesView) (b : List Entry) (fresh : List ℕ) (c : NewChain) : Type 0 where
+  pub filled : IsFilled (is_free_block old) ino first count old.volume new.volume fresh
+  pub one : IsPlannedOne ino old new b c
 
 -- a staging file gives up its blocks
 abbrev pub IsGiveUpPlan : ℕ → TablesView → TablesView → List Entry → Result NewChain AllocError → Type 0

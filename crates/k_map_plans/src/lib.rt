@@ -10,12 +10,14 @@
 //! Stands on `k_plans` (the tables), `map_rules`, `volume_maps`, `extent_map` and `k_land`.
 #![tactic(auto)]
 
+mod filling;
 mod going;
 mod lists;
 mod moving;
 mod sizing;
 mod staging;
 
+pub use filling::{may_fill, plan_fill};
 pub use moving::plan_move;
 pub use sizing::plan_size;
 pub use staging::{plan_give_up, plan_preallocate};

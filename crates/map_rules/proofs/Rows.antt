@@ -184,7 +184,7 @@ moves = record {
 pub rows : AreChangesOfExample
 rows = record {
   sized = record { es = run 0 12 1 ∷ []; blocks = 13 ∷ []; cut = cut; taken = lowest-1; is_sized = refl };
-  filled = record { es = run 0 12 3 ∷ []; blocks = 15 ∷ []; fills = fills; taken = lowest-2; is_filled = refl };
+  filled = record { es = run 0 12 3 ∷ []; blocks = 15 ∷ []; some = omega arith; fills = fills; taken = lowest-2; is_filled = refl };
   preallocated = record {
     fresh = 13 ∷ 15 ∷ 16 ∷ [];
     es = run 0 13 1 ∷ run 1 15 2 ∷ [];

@@ -38,11 +38,12 @@ pub record Fills (first count : ℕ) (fresh : List ℕ) (old new : List Extent) 
   pub filled : (k : ℕ) → k < length fresh → disk_at new (slice_index (holes old first count) k) ≡ Some (block_at fresh k)
   pub others : (b : ℕ) → list_any (λ hole. hole == b) (holes old first count) ≡ false → disk_at new b ≡ disk_at old b
 
--- Holes of a range of the file have the lowest free blocks, in rising order, and its chain the next ones. Line and map are
--- as before else.
+-- The range has a hole. Its holes have the lowest free blocks, in rising order, and the chain of the file the next ones. Line
+-- and map are as before else.
 pub record IsFilled (free : ℕ → Bool) (ino first count : ℕ) (v w : Volume) (fresh : List ℕ) : Type 0 where
   pub es : List Extent
   pub blocks : List ℕ
+  pub some : 0 < length fresh
   pub fills : Fills first count fresh (extents v ino) es
   pub taken : AreLowest free (length fresh + chains_for (length es)) (fresh ++ blocks)
   pub is_filled : w ≡ switched ino (inode v ino) blocks es v

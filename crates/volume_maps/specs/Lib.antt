@@ -1,6 +1,8 @@
 pub mod Bounds
 pub mod Hits
+pub mod Holes
 pub mod Laws
+pub mod Lengths
 pub mod Switches
 pub mod TakenLaws
 pub mod Shorts

@@ -1,0 +1,101 @@
+-- Holes of a file that get blocks: what its new map asks for.
+use Rattle.std.proofs.Common.{◌≡◌, ◌<◌, ◌≤◌, ◌+◌, ◌^◌, ℕ, true, List, [], ◌++◌, length, refl, sym, ◌∙◌, ap, inl, inr, arith, subst}
+use Rattle.std.specs.Prelude.{◌&&◌, nat_le}
+use Rattle.std.proofs.lemmas.Bool.{cases_lt}
+use Rattle.std.proofs.lemmas.Bool.Decides.{nat_tests}
+use Rattle.block_counts.specs.Counts.{chains_for}
+use Rattle.disk_lines.specs.declared.Inode.{Inode}
+use Rattle.disk_lines.specs.declared.Kind.{Kind}
+use Rattle.disk_lines.specs.declared.Kind.TheVariants.{File}
+use Rattle.disk_lines.specs.Lines.{has_map_or_none, is_inode, is_inode_of_kind, most_bytes}
+use Rattle.disk_places.specs.Places.{is_data_block, reserve}
+use Rattle.disk_rules.specs.Volume.{chain, extents, inode}
+use Rattle.extent_words.specs.declared.Extent.{Extent}
+use Rattle.k_journal.specs.declared.batches.Entry.{Entry}
+use Rattle.k_land.specs.Plans.{NewChain}
+use Rattle.k_plans.specs.Free.{free_blocks, is_free_block}
+use Rattle.k_plans.specs.Switching.{IsSetAside, WaitOnce}
+use Rattle.k_plans.specs.View.{TablesView}
+use Rattle.k_plans.specs.Whole.{IsWhole}
+use Rattle.map_rules.specs.Changes.{Fills, IsFilled}
+use Rattle.map_rules.specs.Taken.{AreLowest, switched, with_map}
+use Rattle.volume_maps.specs.Bounds.{map-bound, own-data, own-once}
+use Rattle.volume_maps.specs.Hits.{in_chain-append}
+use Rattle.volume_maps.specs.Switches.{unused-data, unused-owners}
+use Rattle.volume_maps.specs.TakenLaws.{AreLowest-append, rising-once}
+use Rattle.volume_uses.specs.OwnerLaws.{uses-le-owners}
+use Rattle.volume_uses.specs.UseLaws.{length-uses_by}
+use Rattle.volume_uses.specs.Uses.{in_chain, in_map}
+use Rattle.k_map_plans.specs.Going.{HasGoneOver, MayGoOver}
+use Rattle.k_map_plans.specs.Plans.{IsLiveFile}
+use Rattle.k_map_plans.proofs.Goings.{aside-once, aside-unused, aside-volume, left-free}
+use Rattle.k_map_plans.proofs.Sizes.{file-short, none-waits}
+
+-- the line of a file, without its map
+file-bare : (x : Inode) → x.kind ≡ File → is_inode x ≡ true → is_inode (with_map [] [] x) ≡ true
+file-bare x file fits =
+    subst (λ (k : Kind). is_inode_of_kind k (with_map [] [] x) ≡ true) (sym file)
+    (parts (subst (λ (k : Kind). is_inode_of_kind k x ≡ true) file fits))
+  where
+    parts : (nat_le x.size most_bytes && nat_le x.applied (2 ^ 63) && has_map_or_none x) ≡ true
+        → (nat_le x.size most_bytes && nat_le x.applied (2 ^ 63) && true) ≡ true
+    parts fits = grind (arith, nat_tests)
+
+module _ (t u : TablesView) (n ino first count : ℕ) (fresh : List ℕ) (es : List Extent) (aside : IsSetAside n fresh t u)
+    (whole : IsWhole t.volume) (file : IsLiveFile ino t.volume) (fills : Fills first count fresh (extents t.volume ino) es)
+    (blocks : (b : ℕ) → in_map es b ≡ in_map (extents t.volume ino) b + in_chain fresh b) where
+  -- a block that is set aside is none of the map
+  aside-apart : (b : ℕ) → 1 ≤ in_chain fresh b → in_map (extents t.volume ino) b ≡ 0
+  aside-apart b has =
+      omega (
+        arith,
+        unused-owners t.volume b (aside-unused t u n fresh aside b has),
+        uses-le-owners t.volume b ino file.below,
+        length-uses_by ino (chain t.volume ino) (extents t.volume ino) b,
+      )
+
+  filled-once : (b : ℕ) → in_map es b ≤ 1
+  filled-once b = elim (cases_lt 0 (in_chain fresh b)) [
+    | inl has ↦ omega (arith, blocks b, aside-apart b (omega arith), rising-once fresh b aside.lowest.rising)
+    | inr none ↦ omega (arith, blocks b, own-once t.volume ino b whole.kept.kept whole.kept.all file.below)
+  ]
+
+  filled-data : (b : ℕ) → 1 ≤ in_map es b → is_data_block t.volume.geometry b ≡ true
+  filled-data b has = elim (cases_lt 0 (in_chain fresh b)) [
+    | inl new ↦ unused-data t.volume b (aside-unused t u n fresh aside b (omega arith))
+    | inr old ↦ own-data t.volume ino b whole.kept.kept whole.kept.all file.below (omega (arith, blocks b))
+  ]
+
+  chain-room : chains_for (length es) + 3 ≤ reserve t.volume.geometry
+  chain-room = map-bound t.volume es fills.canonical filled-once filled-data
+
+  pub fill-may : t.waiting ≡ [] → n + reserve t.volume.geometry ≤ free_blocks t + 2 → free_blocks u + n ≡ free_blocks t
+      → MayGoOver u ino (inode u.volume ino) es []
+  fill-may idle room left =
+      subst (λ (y : TablesView). MayGoOver y ino (inode y.volume ino) es []) (sym aside.after) (record {
+        below = file.below;
+        kind = refl;
+        holder = inl file.file;
+        fields = file-bare (inode t.volume ino) file.file (whole.inodes ino);
+        short = file-short (inode t.volume ino) es file.file fills.canonical;
+        once = subst WaitOnce aside.after (aside-once t u n fresh aside (λ b. omega (arith, none-waits t.waiting idle b)));
+        same = λ b.
+            let none : in_map [] b ≡ 0 = refl in
+            omega (arith, none, blocks b, in_chain-append t.waiting fresh b, none-waits t.waiting idle b);
+        room = omega (arith, chain-room, room, left, ap free_blocks aside.after);
+      })
+
+pub filled-is : (t u : TablesView) (n ino first count : ℕ) (fresh : List ℕ) (es : List Extent) → IsSetAside n fresh t u
+    → (w : TablesView) (b : List Entry) (c : NewChain) → Fills first count fresh (extents t.volume ino) es
+    → HasGoneOver ino (inode u.volume ino) es u w b c → 0 < n → IsFilled (is_free_block t) ino first count t.volume w.volume fresh
+filled-is t u n ino first count fresh es aside w b c fills gone some = record {
+  es = es;
+  blocks = c.blocks;
+  some = omega (arith, some, aside.lowest.count);
+  fills = fills;
+  taken = subst (λ m. AreLowest (is_free_block t) (m + chains_for (length es)) (fresh ++ c.blocks)) (sym aside.lowest.count)
+      (AreLowest-append (is_free_block t) (is_free_block u) n (chains_for (length es)) fresh c.blocks aside.lowest gone.lowest
+      (left-free t u n fresh aside));
+  is_filled = gone.after
+      ∙ (λ i. switched ino (inode (aside-volume t u n fresh aside i) ino) c.blocks es (aside-volume t u n fresh aside i));
+}

@@ -1,6 +1,8 @@
 pub mod ByteLaws
 mod ChangeLaws
 mod ContentLaws
+mod FillLands
+mod Fills
 mod FreshDevices
 mod LandLaws
 pub mod LoanLaws

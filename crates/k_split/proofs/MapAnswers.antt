@@ -18,7 +18,7 @@ use Rattle.map_rules.specs.Taken.{switched, with_map}
 use Rattle.volume_facts.specs.Changes.{chain-set_same, extents-set_other}
 use Rattle.disk_rules.specs.Volume.{Volume, chain, extents, inode}
 use Rattle.k_journal.specs.declared.batches.Entry.{Entry}
-use Rattle.k_land.specs.Plans.{NewChain, blocks_of}
+use Rattle.k_land.specs.Plans.{NewChain}
 use Rattle.k_land.specs.WrittenLaws.{block-among}
 use Rattle.k_plans.specs.Plans.{KeepsStaged}
 use Rattle.k_plans.specs.Switching.{IsMapPlan}
@@ -83,7 +83,7 @@ given-chain v w staging whole is given =
 module _ (t u : TablesView) (d : List Cell) (batched lost : Bool) (c b : List Entry) (news : List NewChain) (is : lost ≡ false)
     (ready : lost ≡ false → IsReady (view_of t d batched lost) c) (plan : IsMapPlan news t.volume u.volume b) where
   -- a block that nothing names is in no staging file
-  unused-unstaged : (k : ℕ) → is_unused t.volume k ≡ true → IsUnstaged t.volume k
+  pub unused-unstaged : (k : ℕ) → is_unused t.volume k ≡ true → IsUnstaged t.volume k
   unused-unstaged k unused ino least most =
       let whole = (ready is).order.whole in
       unused-uncovered t.volume k ino (omega (arith, most, whole.kept.all.inode_count, whole.kept.geometry.least_inodes)) unused
@@ -100,8 +100,8 @@ module _ (t u : TablesView) (d : List Cell) (batched lost : Bool) (c b : List En
         (ready is).order.unstaged i (unused-data t.volume (i / 512) unused) (unused-unstaged (i / 512) unused);
   }
 
-  module _ (waits : u.waiting ≡ t.waiting) (keeps : (e : List Cell) → KeepsSingle d e → IsUnstagedSingle u.volume e) where
-    map-done : (e : List Cell) (p q : Supply) (now : Bool) (a : List Entry) → IsMapLandedDone news t.volume u.volume d e p q → a ≡ []
+  module _ (waits : u.waiting ≡ t.waiting) (keeps : (e : List Cell) → KeepsSingle d e → IsUnstagedSingle u.volume e) (blocks : List ℕ) where
+    map-done : (e : List Cell) (p q : Supply) (now : Bool) (a : List Entry) → IsMapLandedDone blocks t.volume u.volume d e p q → a ≡ []
         → IsReady (view_of u e batched now) a
     map-done e p q now a landed none = record {
       order = record {
@@ -116,18 +116,18 @@ module _ (t u : TablesView) (d : List Cell) (batched lost : Bool) (c b : List En
     }
 
     pub map-ready : (e : List Cell) (p q : Supply) (now : Bool) (a : List Entry) (r : Result (Unit {0}) KFault)
-        → IsMapLanded news t.volume u.volume d e p q r → OnOk r (a ≡ []) → OnErr r (now ≡ true) → now ≡ false
+        → IsMapLanded blocks t.volume u.volume d e p q r → OnOk r (a ≡ []) → OnErr r (now ≡ true) → now ≡ false
         → IsReady (view_of u e batched now) a
     map-ready e p q now a (Ok done) landed none goes off = map-done e p q now a landed none
     map-ready e p q now a (Err fault) landed none goes off = let never : true ≡ false = sym goes ∙ off in absurd (cc)
 
     pub map-answer : (Makes : View → Volume → List ℕ → Type 0) (k : View) (e : List Cell) (p q : Supply) (now : Bool)
         (r : Result (Unit {0}) KFault) → OnOk r (now ≡ lost) → OnErr r (now ≡ true) → view_of t d batched lost ≡ k
-        → Makes (view_of t d batched lost) u.volume (blocks_of news) → IsMapLanded news t.volume u.volume d e p q r
+        → Makes (view_of t d batched lost) u.volume blocks → IsMapLanded blocks t.volume u.volume d e p q r
         → IsMapAnswer (Makes k) k (view_of u e batched now) r
     map-answer Makes k e p q now (Ok done) stays goes same makes landed =
         subst (λ x. IsMapAnswer (Makes x) x (view_of u e batched now) (Ok done)) same (
-          blocks_of news,
+          blocks,
           makes,
           record {
             kept_on = stays ∙ is;
@@ -139,15 +139,15 @@ module _ (t u : TablesView) (d : List Cell) (batched lost : Bool) (c b : List En
         )
     map-answer Makes k e p q now (Err KFault.PowerLost) stays goes same makes landed =
         subst (λ x. IsMapAnswer (Makes x) x (view_of u e batched now) (Err KFault.PowerLost)) same
-        (inr (u.volume, blocks_of news, makes, record { lost = goes; batched = refl; whole = plan.whole; changes = landed.changes }))
+        (inr (u.volume, blocks, makes, record { lost = goes; batched = refl; whole = plan.whole; changes = landed.changes }))
     map-answer Makes k e p q now (Err (KFault.Refused errno)) stays goes same makes landed = absurd landed
     map-answer Makes k e p q now (Err (KFault.Room room)) stays goes same makes landed = absurd landed
     map-answer Makes k e p q now (Err KFault.NoMemory) stays goes same makes landed = absurd landed
 
-pub map-paid : (news : List NewChain) (v w : Volume) (d e : List Cell) (p q : Supply) (r : Result (Unit {0}) KFault)
-    → IsMapLanded news v w d e p q r → IsPaid None p q r
-map-paid news v w d e p q (Ok done) landed = (landed.on, λ none. landed.took, λ idle. let never : None ≡ Some (answer Reply.Ok) = idle in absurd (cc))
-map-paid news v w d e p q (Err KFault.PowerLost) landed = landed.off
-map-paid news v w d e p q (Err (KFault.Refused errno)) landed = absurd landed
-map-paid news v w d e p q (Err (KFault.Room room)) landed = absurd landed
-map-paid news v w d e p q (Err KFault.NoMemory) landed = absurd landed
+pub map-paid : (blocks : List ℕ) (v w : Volume) (d e : List Cell) (p q : Supply) (r : Result (Unit {0}) KFault)
+    → IsMapLanded blocks v w d e p q r → IsPaid None p q r
+map-paid blocks v w d e p q (Ok done) landed = (landed.on, λ none. landed.took, λ idle. let never : None ≡ Some (answer Reply.Ok) = idle in absurd (cc))
+map-paid blocks v w d e p q (Err KFault.PowerLost) landed = landed.off
+map-paid blocks v w d e p q (Err (KFault.Refused errno)) landed = absurd landed
+map-paid blocks v w d e p q (Err (KFault.Room room)) landed = absurd landed
+map-paid blocks v w d e p q (Err KFault.NoMemory) landed = absurd landed

@@ -77,7 +77,7 @@ module _ (g : Geometry) (news : List NewChain) (v w : Volume) (b : List Entry) (
       → ((i : ℕ) → IsElsewhere b (blocks_of news) i → Settles (cell d i) (cell e i))
       → ((x y : Volume) → Stands g x d → All (λ k. is_unused x k ≡ true) (blocks_of news) → Turns g news x y b → Stands g y e)
       → KeepsSingle d e → is_on q ≡ true → (0 < length b → TakesAStep p q)
-      → IsMapLandedDone news v w d e p q
+      → IsMapLandedDone (blocks_of news) v w d e p q
   map-landed e p q size lent each_image others done singles on took = record {
     changes = changed e size lent each_image others;
     stands = subst (λ h. Stands h w e) numbers (done v w stands planned.plan.unused turns);
@@ -88,5 +88,5 @@ module _ (g : Geometry) (news : List NewChain) (v w : Volume) (b : List Entry) (
 
   pub map-lost : (e : List Cell) (q : Supply) → length e ≡ length d → SameLent d e
       → ((x y : Volume) → Stands g x d → All (λ k. is_unused x k ≡ true) (blocks_of news) → Turns g news x y b → Follows (IsOldOrNew g (blocks_of news) x y) d e)
-      → ((i : ℕ) → IsElsewhere b (blocks_of news) i → Settles (cell d i) (cell e i)) → is_on q ≡ false → IsMapLandedLost news v w d e q
+      → ((i : ℕ) → IsElsewhere b (blocks_of news) i → Settles (cell d i) (cell e i)) → is_on q ≡ false → IsMapLandedLost (blocks_of news) v w d e q
   map-lost e q size lent each_image others off = record { changes = changed e size lent each_image others; off = off }

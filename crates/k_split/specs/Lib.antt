@@ -2,6 +2,7 @@ pub mod Answers
 pub mod Bytes
 pub mod Contents
 pub mod Faults
+pub mod Filling
 pub mod Landed
 pub mod Laps
 pub mod Loans

@@ -14,7 +14,7 @@ use Rattle.extent_words.specs.Extents.{covers, disk_at, is_within}
 use Rattle.extent_words.specs.declared.Extent.{Extent}
 use Rattle.k_journal.specs.Commits.{TakesAStep}
 use Rattle.k_journal.specs.declared.batches.Entry.{Entry}
-use Rattle.k_land.specs.Plans.{NewChain, blocks_of, new_at}
+use Rattle.k_land.specs.Plans.{NewChain, new_at}
 use Rattle.k_plans.specs.Free.{free_blocks}
 use Rattle.k_plans.specs.Switching.{IsMapPlan}
 use Rattle.k_plans.specs.Whole.{IsWhole}
@@ -119,20 +119,22 @@ pub record IsMapPlanned (news : List NewChain) (v w : Volume) (b : List Entry) (
   pub plan : IsMapPlan news v w b
   pub single : (k : ℕ) → k < length news → AreSingle (new_at news k).blocks d
 
-pub record IsMapLandedDone (news : List NewChain) (v w : Volume) (old new : List Cell) (before after : Supply) : Type 0 where
-  pub changes : ChangesMaps (blocks_of news) v w old new
+-- done, with these blocks written: the device stands at w
+pub record IsMapLandedDone (blocks : List ℕ) (v w : Volume) (old new : List Cell) (before after : Supply) : Type 0 where
+  pub changes : ChangesMaps blocks v w old new
   pub stands : Stands w.geometry w new
   pub singles : KeepsSingle old new
   pub on : is_on after ≡ true
   pub took : TakesAStep before after
 
-pub record IsMapLandedLost (news : List NewChain) (v w : Volume) (old new : List Cell) (after : Supply) : Type 0 where
-  pub changes : ChangesMaps (blocks_of news) v w old new
+-- or the power went
+pub record IsMapLandedLost (blocks : List ℕ) (v w : Volume) (old new : List Cell) (after : Supply) : Type 0 where
+  pub changes : ChangesMaps blocks v w old new
   pub off : is_on after ≡ false
 
-abbrev pub IsMapLanded : List NewChain → Volume → Volume → List Cell → List Cell → Supply → Supply → Result (Unit {0}) KFault → Type 0
-IsMapLanded news v w old new before after (Ok done) = IsMapLandedDone news v w old new before after
-IsMapLanded news v w old new before after (Err KFault.PowerLost) = IsMapLandedLost news v w old new after
-IsMapLanded news v w old new before after (Err (KFault.Refused errno)) = ⊥
-IsMapLanded news v w old new before after (Err (KFault.Room room)) = ⊥
-IsMapLanded news v w old new before after (Err KFault.NoMemory) = ⊥
+abbrev pub IsMapLanded : List ℕ → Volume → Volume → List Cell → List Cell → Supply → Supply → Result (Unit {0}) KFault → Type 0
+IsMapLanded blocks v w old new before after (Ok done) = IsMapLandedDone blocks v w old new before after
+IsMapLanded blocks v w old new before after (Err KFault.PowerLost) = IsMapLandedLost blocks v w old new after
+IsMapLanded blocks v w old new before after (Err (KFault.Refused errno)) = ⊥
+IsMapLanded blocks v w old new before after (Err (KFault.Room room)) = ⊥
+IsMapLanded blocks v w old new before after (Err KFault.NoMemory) = ⊥

@@ -18,6 +18,7 @@ mod bytes;
 mod changes;
 mod dropping;
 mod faults;
+mod filling;
 mod laps;
 mod laws;
 mod lending;

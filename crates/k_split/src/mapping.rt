@@ -3,6 +3,7 @@ ghost use Rattle.std.specs.Prelude.{◌≡◌, ◌<◌, ◌≤◌, ◌+◌, ◌^
 ghost use Rattle.disk_lines.specs.Lines.{most_bytes};
 ghost use Rattle.disk_places.specs.Places.{reserve};
 ghost use Rattle.disk_rules.specs.Volume.{Volume, extents};
+ghost use Rattle.k_land.specs.Plans.{blocks_of};
 ghost use Rattle.k_map_plans.specs.Plans.{IsLiveFile};
 ghost use Rattle.pm_words.specs.Powers.{is_on, Steps};
 ghost use Rattle.k_split.specs.Answers.{IsPaid};
@@ -32,7 +33,8 @@ pub(crate) fn land_maps_plan(
     requires { (v : Volume) × IsMapPlanned maps.now v tables.now.volume batch.old pm.old }
     ensures steps { Steps (2 ^ 15) power.old power.new }
     ensures landed { (v : Volume) → IsMapPlanned maps.now v tables.now.volume batch.old pm.old
-        → IsMapLanded maps.now v tables.now.volume pm.old pm.new power.old power.new result }
+        → IsMapLanded (blocks_of maps.now) v tables.now.volume pm.old pm.new
+        power.old power.new result }
     ensures no_lines { OnOk result (batch.new ≡ []) }
     ensures same { OnOk result (lost.new ≡ lost.old) }
     ensures noted { OnErr result (lost.new ≡ true) }

@@ -54,6 +54,7 @@ invariant_of-self-2 c off =
     in
     let landed = c.land_maps_plan.ensures.landed k.tables.volume ready in
     map-ready k.tables u k.pm k.batched k.lost k.batch c.plan_preallocate.new.batch c.from_ref.result.now is c.self.invariant plan planned.1.waiting keeps
+    (blocks_of c.from_ref.result.now)
     c.land_maps_plan.new.pm c.args.power.now c.land_maps_plan.new.power c.land_maps_plan.new.lost c.land_maps_plan.new.batch c.land_maps_plan.result landed
     c.land_maps_plan.ensures.no_lines c.land_maps_plan.ensures.noted off
 
@@ -71,7 +72,7 @@ returns-clause-paid c =
     map-planned k.tables u k.pm k.batched k.lost k.batch c.plan_preallocate.new.batch c.from_ref.result.now is c.self.invariant plan
     in
     let landed = c.land_maps_plan.ensures.landed k.tables.volume ready in
-    map-paid c.from_ref.result.now k.tables.volume u.volume k.pm c.land_maps_plan.new.pm c.args.power.now c.land_maps_plan.new.power c.land_maps_plan.result landed
+    map-paid (blocks_of c.from_ref.result.now) k.tables.volume u.volume k.pm c.land_maps_plan.new.pm c.args.power.now c.land_maps_plan.new.power c.land_maps_plan.result landed
 
 pub returns-clause-answer : goal.returns-clause-answer
 returns-clause-answer c =
@@ -98,6 +99,7 @@ returns-clause-answer c =
     in
     let landed = c.land_maps_plan.ensures.landed k.tables.volume ready in
     map-answer k.tables u k.pm k.batched k.lost k.batch c.plan_preallocate.new.batch c.from_ref.result.now is c.self.invariant plan planned.1.waiting keeps
+    (blocks_of c.from_ref.result.now)
     (λ x w blocks. IsPreallocatedWith c.args.staging c.args.count x w blocks) c.args.self.now c.land_maps_plan.new.pm c.args.power.now c.land_maps_plan.new.power
     c.land_maps_plan.new.lost c.land_maps_plan.result c.land_maps_plan.ensures.same c.land_maps_plan.ensures.noted c.self.view_is
     (record { preallocated = planned.0; written = ap blocks_of c.from_ref.ensures.value ∙ blocks_of-one c.in-Ok.map ∙ planned.1.chain_is }) landed

@@ -8,6 +8,7 @@ use Rattle.disk_rules.specs.Volume.{extents}
 use Rattle.extent_words.specs.Extents.{IsCanonical}
 use Rattle.k_map_plans.specs.Plans.{MayMove}
 use Rattle.k_plans.specs.Free.{is_free_block}
+use Rattle.k_land.specs.Plans.{blocks_of}
 use Rattle.k_plans.specs.Switching.{IsMapPlan}
 use Rattle.k_rules.specs.View.{View}
 use Rattle.k_split.proofs.ChangeLaws.{awake}
@@ -60,6 +61,7 @@ invariant_of-self-2 c off =
     in
     let landed = c.land_maps_plan.ensures.landed k.tables.volume ready in
     map-ready k.tables u k.pm k.batched k.lost k.batch c.plan_move.new.batch (c.in-Ok.maps.0 ∷ c.in-Ok.maps.1 ∷ []) is c.self.invariant plan planned.1.waiting keeps
+    (blocks_of (c.in-Ok.maps.0 ∷ c.in-Ok.maps.1 ∷ []))
     c.land_maps_plan.new.pm c.args.power.now c.land_maps_plan.new.power c.land_maps_plan.new.lost c.land_maps_plan.new.batch c.land_maps_plan.result landed
     c.land_maps_plan.ensures.no_lines c.land_maps_plan.ensures.noted off
 
@@ -76,7 +78,7 @@ returns-clause-paid c =
     map-planned k.tables u k.pm k.batched k.lost k.batch c.plan_move.new.batch (c.in-Ok.maps.0 ∷ c.in-Ok.maps.1 ∷ []) is c.self.invariant plan
     in
     let landed = c.land_maps_plan.ensures.landed k.tables.volume ready in
-    map-paid (c.in-Ok.maps.0 ∷ c.in-Ok.maps.1 ∷ []) k.tables.volume u.volume k.pm c.land_maps_plan.new.pm c.args.power.now c.land_maps_plan.new.power c.land_maps_plan.result landed
+    map-paid (blocks_of (c.in-Ok.maps.0 ∷ c.in-Ok.maps.1 ∷ [])) k.tables.volume u.volume k.pm c.land_maps_plan.new.pm c.args.power.now c.land_maps_plan.new.power c.land_maps_plan.result landed
 
 pub returns-clause-answer : goal.returns-clause-answer
 returns-clause-answer c =
@@ -107,6 +109,7 @@ returns-clause-answer c =
     in
     let landed = c.land_maps_plan.ensures.landed k.tables.volume ready in
     map-answer k.tables u k.pm k.batched k.lost k.batch c.plan_move.new.batch (c.in-Ok.maps.0 ∷ c.in-Ok.maps.1 ∷ []) is c.self.invariant plan planned.1.waiting keeps
+    (blocks_of (c.in-Ok.maps.0 ∷ c.in-Ok.maps.1 ∷ []))
     (λ x w blocks. IsMovedWith m x w blocks) c.args.self.now c.land_maps_plan.new.pm c.args.power.now c.land_maps_plan.new.power
     c.land_maps_plan.new.lost c.land_maps_plan.result c.land_maps_plan.ensures.same c.land_maps_plan.ensures.noted c.self.view_is
     (record {

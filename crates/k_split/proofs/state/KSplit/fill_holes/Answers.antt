@@ -1,0 +1,96 @@
+use Rattle.std.proofs.Common.{◌≡◌, ◌∷◌, ◌∙◌, [], ℕ, None, Ok, Some, true, false, List, ap, subst, sym}
+use Rattle.pm_words.specs.Powers.{is_on}
+use Rattle.k_map_plans.specs.Plans.{IsFillPlan, IsLiveFile, row_of}
+use Rattle.k_rules.specs.View.{View}
+use Rattle.k_split.proofs.ChangeLaws.{awake}
+use Rattle.k_split.proofs.Fills.{fill-answer, fill-paid, fill-planned, fill-ready}
+use Rattle.k_split.specs.Filling.{fill_row, IsFillLanded, IsFillPlanned}
+use Rattle.k_split.proofs.state.KSplit.fill_holes.Goals as goal
+
+pub land_filled-requires : goal.land_filled-requires
+land_filled-requires c =
+    let k = c.self.inside in
+    let u = c.plan_fill.new.tables in
+    let on : is_on c.args.power.now ≡ true = sym c.on.ensures ∙ c.if-not-on.false in
+    let is : k.lost ≡ false = awake k.tables k.pm k.batched k.lost c.args.self.now c.args.power.now c.self.view_is c.requires.awake on in
+    let file : IsLiveFile c.args.ino k.tables.volume =
+    subst (λ (x : View). x.lost ≡ false → IsLiveFile c.args.ino x.volume) (sym c.self.view_is) c.requires.file is
+    in (
+      k.tables.volume,
+      subst (λ (fs : List ℕ). IsFillPlanned fs (c.in-Ok.planned.1 ∷ []) k.tables.volume u.volume c.plan_fill.new.batch k.pm) (sym c.deref.ensures.value)
+          (fill-planned k.tables u k.pm k.batched k.lost k.batch c.plan_fill.new.batch c.in-Ok.planned.1 c.in-Ok.planned.0.items c.args.ino c.args.first c.args.count
+          is c.self.invariant file c.in-Ok.ensures.planned),
+    )
+
+pub invariant_of-self-2 : goal.invariant_of-self-2
+invariant_of-self-2 c off =
+    let k = c.self.inside in
+    let u = c.plan_fill.new.tables in
+    let on : is_on c.args.power.now ≡ true = sym c.on.ensures ∙ c.if-not-on.false in
+    let is : k.lost ≡ false = awake k.tables k.pm k.batched k.lost c.args.self.now c.args.power.now c.self.view_is c.requires.awake on in
+    let file : IsLiveFile c.args.ino k.tables.volume =
+    subst (λ (x : View). x.lost ≡ false → IsLiveFile c.args.ino x.volume) (sym c.self.view_is) c.requires.file is
+    in
+    let ready : IsFillPlanned c.deref.result.now (c.in-Ok.planned.1 ∷ []) k.tables.volume u.volume c.plan_fill.new.batch k.pm =
+    subst (λ (fs : List ℕ). IsFillPlanned fs (c.in-Ok.planned.1 ∷ []) k.tables.volume u.volume c.plan_fill.new.batch k.pm) (sym c.deref.ensures.value)
+    (fill-planned k.tables u k.pm k.batched k.lost k.batch c.plan_fill.new.batch c.in-Ok.planned.1 c.in-Ok.planned.0.items c.args.ino c.args.first c.args.count
+    is c.self.invariant file c.in-Ok.ensures.planned)
+    in
+    let landed : IsFillLanded c.in-Ok.planned.0.items (c.in-Ok.planned.1 ∷ []) k.tables.volume u.volume k.pm c.land_filled.new.pm c.args.power.now c.land_filled.new.power c.land_filled.result =
+    subst (λ (fs : List ℕ). IsFillLanded fs (c.in-Ok.planned.1 ∷ []) k.tables.volume u.volume k.pm c.land_filled.new.pm c.args.power.now c.land_filled.new.power c.land_filled.result)
+    c.deref.ensures.value (c.land_filled.ensures.landed k.tables.volume ready)
+    in
+    fill-ready k.tables u k.pm k.batched k.lost k.batch c.plan_fill.new.batch c.in-Ok.planned.1 c.in-Ok.planned.0.items c.args.ino c.args.first c.args.count
+    is c.self.invariant file c.in-Ok.ensures.planned c.land_filled.new.pm c.args.power.now c.land_filled.new.power c.land_filled.new.lost c.land_filled.new.batch
+    c.land_filled.result landed c.land_filled.ensures.no_lines c.land_filled.ensures.noted off
+
+pub returns-clause-paid : goal.returns-clause-paid
+returns-clause-paid c =
+    let k = c.self.inside in
+    let u = c.plan_fill.new.tables in
+    let on : is_on c.args.power.now ≡ true = sym c.on.ensures ∙ c.if-not-on.false in
+    let is : k.lost ≡ false = awake k.tables k.pm k.batched k.lost c.args.self.now c.args.power.now c.self.view_is c.requires.awake on in
+    let file : IsLiveFile c.args.ino k.tables.volume =
+    subst (λ (x : View). x.lost ≡ false → IsLiveFile c.args.ino x.volume) (sym c.self.view_is) c.requires.file is
+    in
+    let ready : IsFillPlanned c.deref.result.now (c.in-Ok.planned.1 ∷ []) k.tables.volume u.volume c.plan_fill.new.batch k.pm =
+    subst (λ (fs : List ℕ). IsFillPlanned fs (c.in-Ok.planned.1 ∷ []) k.tables.volume u.volume c.plan_fill.new.batch k.pm) (sym c.deref.ensures.value)
+    (fill-planned k.tables u k.pm k.batched k.lost k.batch c.plan_fill.new.batch c.in-Ok.planned.1 c.in-Ok.planned.0.items c.args.ino c.args.first c.args.count
+    is c.self.invariant file c.in-Ok.ensures.planned)
+    in
+    let landed : IsFillLanded c.in-Ok.planned.0.items (c.in-Ok.planned.1 ∷ []) k.tables.volume u.volume k.pm c.land_filled.new.pm c.args.power.now c.land_filled.new.power c.land_filled.result =
+    subst (λ (fs : List ℕ). IsFillLanded fs (c.in-Ok.planned.1 ∷ []) k.tables.volume u.volume k.pm c.land_filled.new.pm c.args.power.now c.land_filled.new.power c.land_filled.result)
+    c.deref.ensures.value (c.land_filled.ensures.landed k.tables.volume ready)
+    in
+    let row : fill_row c.args.ino c.args.first c.args.count c.args.self.now ≡ None =
+    subst (λ (x : View). fill_row c.args.ino c.args.first c.args.count x ≡ None) c.self.view_is
+    (sym c.may_fill.ensures.row ∙ ap row_of (c.in-Ok-true.is ∙ ap (λ b. Ok b) c.in-Ok-true.field-0-test))
+    in
+    fill-paid c.in-Ok.planned.0.items c.in-Ok.planned.1 k.tables u k.pm c.land_filled.new.pm c.args.power.now c.land_filled.new.power c.land_filled.result
+    (fill_row c.args.ino c.args.first c.args.count c.args.self.now) row landed
+
+pub returns-clause-answer : goal.returns-clause-answer
+returns-clause-answer c =
+    let k = c.self.inside in
+    let u = c.plan_fill.new.tables in
+    let on : is_on c.args.power.now ≡ true = sym c.on.ensures ∙ c.if-not-on.false in
+    let is : k.lost ≡ false = awake k.tables k.pm k.batched k.lost c.args.self.now c.args.power.now c.self.view_is c.requires.awake on in
+    let file : IsLiveFile c.args.ino k.tables.volume =
+    subst (λ (x : View). x.lost ≡ false → IsLiveFile c.args.ino x.volume) (sym c.self.view_is) c.requires.file is
+    in
+    let ready : IsFillPlanned c.deref.result.now (c.in-Ok.planned.1 ∷ []) k.tables.volume u.volume c.plan_fill.new.batch k.pm =
+    subst (λ (fs : List ℕ). IsFillPlanned fs (c.in-Ok.planned.1 ∷ []) k.tables.volume u.volume c.plan_fill.new.batch k.pm) (sym c.deref.ensures.value)
+    (fill-planned k.tables u k.pm k.batched k.lost k.batch c.plan_fill.new.batch c.in-Ok.planned.1 c.in-Ok.planned.0.items c.args.ino c.args.first c.args.count
+    is c.self.invariant file c.in-Ok.ensures.planned)
+    in
+    let landed : IsFillLanded c.in-Ok.planned.0.items (c.in-Ok.planned.1 ∷ []) k.tables.volume u.volume k.pm c.land_filled.new.pm c.args.power.now c.land_filled.new.power c.land_filled.result =
+    subst (λ (fs : List ℕ). IsFillLanded fs (c.in-Ok.planned.1 ∷ []) k.tables.volume u.volume k.pm c.land_filled.new.pm c.args.power.now c.land_filled.new.power c.land_filled.result)
+    c.deref.ensures.value (c.land_filled.ensures.landed k.tables.volume ready)
+    in
+    let row : fill_row c.args.ino c.args.first c.args.count c.args.self.now ≡ None =
+    subst (λ (x : View). fill_row c.args.ino c.args.first c.args.count x ≡ None) c.self.view_is
+    (sym c.may_fill.ensures.row ∙ ap row_of (c.in-Ok-true.is ∙ ap (λ b. Ok b) c.in-Ok-true.field-0-test))
+    in
+    fill-answer k.tables u k.pm k.batched k.lost k.batch c.plan_fill.new.batch c.in-Ok.planned.1 c.in-Ok.planned.0.items c.args.ino c.args.first c.args.count
+    is c.self.invariant file c.in-Ok.ensures.planned c.args.self.now c.land_filled.new.pm c.args.power.now c.land_filled.new.power c.land_filled.new.lost
+    c.land_filled.result c.land_filled.ensures.same c.land_filled.ensures.noted c.self.view_is row landed

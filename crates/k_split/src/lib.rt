@@ -37,6 +37,3 @@ pub use faults::KFault;
 pub use laws::images_have_the_old_or_the_new_content;
 pub use opening::mkfs;
 pub use state::KSplit;
-
-#[cfg(test)]
-mod tests;

@@ -52,10 +52,7 @@ pub one_of : (g : Geometry) (b : ℕ) → is_data_block g b ≡ true → All (λ
 one_of g b is zero c short = is
 one_of g b is (suc i) c short = absurd (omega (arith, short))
 
-module _ (v : Volume) (d : List Cell) (ino first count : ℕ) (whole : IsWhole v) (stands : Stands v.geometry v d) (may : MayWriteBytes v ino first count) where
-  below : ino < length v.inodes
-  below = file_below v ino may.file
-
+module _ (v : Volume) (d : List Cell) (ino first count : ℕ) (whole : IsWhole v) (stands : Stands v.geometry v d) (below : ino < length v.inodes) where
   has_block : (p b : ℕ) → StandsIn (extents v ino) first count p b → covers (extents v ino) b ≡ true
   has_block p b is = covers-disk_at (extents v ino) (p / 4096) b is.at
 
@@ -68,9 +65,9 @@ module _ (v : Volume) (d : List Cell) (ino first count : ℕ) (whole : IsWhole v
   once : (p b : ℕ) → StandsIn (extents v ino) first count p b → IsNamedOnce v b
   once p b is = whole.kept.kept.once b (in_data p b is)
 
-  -- no staging file has a block of the file
-  is_unstaged : (p b : ℕ) → StandsIn (extents v ino) first count p b → IsUnstaged v b
-  is_unstaged p b is staging least most = by (covers (extents v staging) b) refl where
+  -- no staging file has a block of a file
+  is_unstaged : (inode v ino).kind ≡ File → (p b : ℕ) → StandsIn (extents v ino) first count p b → IsUnstaged v b
+  is_unstaged file p b is staging least most = by (covers (extents v staging) b) refl where
     short : staging < length v.inodes
     short = omega (arith, most, whole.kept.geometry.least_inodes, whole.kept.all.inode_count)
 
@@ -81,18 +78,26 @@ module _ (v : Volume) (d : List Cell) (ino first count : ℕ) (whole : IsWhole v
     by false none = none
     by true has =
         let same = one_user v b ino staging (once p b is) below short (used ino (has_block p b is)) (used staging has) in
-        absurd (omega (arith, same, most, low_file ino (inode v ino).kind (whole.kept.kept.kinds ino (omega (arith, below, whole.kept.all.inode_count))) may.file))
+        absurd (omega (arith, same, most, low_file ino (inode v ino).kind (whole.kept.kept.kinds ino (omega (arith, below, whole.kept.all.inode_count))) file))
 
-  pub may_overwrite : IsUnstagedSingle v d → MayOverwrite (extents v ino) first count d
-  may_overwrite unstaged = record {
-    mapped = may.mapped;
+  -- The range may be written over, where words of its blocks have one candidate.
+  pub may_overwrite : ((p : ℕ) → first ≤ p → p < first + count → IsSome (disk_at (extents v ino) (p / 4096)))
+      → ((p b i : ℕ) → StandsIn (extents v ino) first count p b → i / 512 ≡ b → is_single (cell d i) ≡ true)
+      → MayOverwrite (extents v ino) first count d
+  may_overwrite mapped single = record {
+    mapped = mapped;
     in_device = λ p b is. let size = stands.size in within b (in_data p b is) size;
     apart = λ p q b is at. (one_owner v b ino ino (p / 4096) (q / 4096) (once p b is) below below is.at at.at).place;
-    single = λ p b i is at.
-        unstaged i (subst (λ n. is_data_block v.geometry n ≡ true) (sym at) (in_data p b is)) (subst (IsUnstaged v) (sym at) (is_unstaged p b is));
+    single = single;
   } where
     within : (b : ℕ) → is_data_block v.geometry b ≡ true → length d ≡ 512 * v.geometry.blocks → 512 * b + 512 ≤ length d
     within b is size = grind (arith, nat_tests, is, size)
+
+  -- so it is of a file
+  pub file_single : (inode v ino).kind ≡ File → IsUnstagedSingle v d
+      → (p b i : ℕ) → StandsIn (extents v ino) first count p b → i / 512 ≡ b → is_single (cell d i) ≡ true
+  file_single file unstaged p b i is at =
+      unstaged i (subst (λ n. is_data_block v.geometry n ≡ true) (sym at) (in_data p b is)) (subst (IsUnstaged v) (sym at) (is_unstaged file p b is))
 
   -- words of the journal, of journaled lines and of chains are in no block of the file
   pub journal_beside : (w : ℕ) → is_journal_word w ≡ true → IsBesideBlocks (extents v ino) first count w
@@ -105,18 +110,18 @@ module _ (v : Volume) (d : List Cell) (ino first count : ℕ) (whole : IsWhole v
   chain_beside n k j short within word p b is at =
       no_chain_has v b ino n k (once p b is) below (omega (arith, short, whole.kept.all.inode_count)) (has_block p b is) within (omega (arith, at, word))
 
-module _ (v : Volume) (d e : List Cell) (ino first : ℕ) (bytes : List ℕ) (whole : IsWhole v) (stands : Stands v.geometry v d) (may : MayWriteBytes v ino first (length bytes)) where
+module _ (v : Volume) (d e : List Cell) (ino first : ℕ) (bytes : List ℕ) (whole : IsWhole v) (stands : Stands v.geometry v d) (below : ino < length v.inodes) where
   same_seen : (before image : Words) → IsOverwritten (extents v ino) first bytes before image → (w : ℕ) → IsBesideBlocks (extents v ino) first (length bytes) w → journaled image w ≡ journaled before w
   same_seen before image is w beside =
-      journaled-same before image w (λ i journal. is.words i (journal_beside v d ino first (length bytes) whole stands may i journal)) (is.words w beside)
+      journaled-same before image w (λ i journal. is.words i (journal_beside v d ino first (length bytes) whole stands below i journal)) (is.words w beside)
 
   over : (before image : Words) → IsImage d before → IsOverwritten (extents v ino) first bytes before image → IsWrittenOver v v ino first bytes before image
   over before image from is = record {
     reads = reads-same v.geometry (journaled before) (journaled image) v
         (record {
-          lines = λ w line. same_seen before image is w (line_beside v d ino first (length bytes) whole stands may w line);
+          lines = λ w line. same_seen before image is w (line_beside v d ino first (length bytes) whole stands below w line);
           chains = λ n k j short within word.
-              same_seen before image is (512 * block_at (chain v n) k + j) (chain_beside v d ino first (length bytes) whole stands may n k j short within word);
+              same_seen before image is (512 * block_at (chain v n) k + j) (chain_beside v d ino first (length bytes) whole stands below n k j short within word);
         })
         (stands.reads before from);
     sound = record { count = subst (λ n. n ≤ 128) (sym none) (omega arith); targets = λ r short. absurd (omega (arith, short, none)) };
@@ -124,7 +129,7 @@ module _ (v : Volume) (d e : List Cell) (ino first : ℕ) (bytes : List ℕ) (wh
   } where
     none : image commit_word ≡ 0
     none =
-        is.words commit_word (journal_beside v d ino first (length bytes) whole stands may commit_word refl)
+        is.words commit_word (journal_beside v d ino first (length bytes) whole stands below commit_word refl)
         ∙ subst (λ c. IsCandidate c (before commit_word)) stands.idle (from commit_word)
 
   pub overwrites : length e ≡ length d → SameLent d e → Follows (IsOverwritten (extents v ino) first bytes) d e
@@ -141,7 +146,7 @@ module _ (v : Volume) (d e : List Cell) (ino first : ℕ) (bytes : List ℕ) (wh
     size = changes.size ∙ stands.size;
     idle =
         settled-single (cell d commit_word) (cell e commit_word)
-        (changes.others commit_word (journal_beside v d ino first (length bytes) whole stands may commit_word refl)) (ap is_single stands.idle)
+        (changes.others commit_word (journal_beside v d ino first (length bytes) whole stands below commit_word refl)) (ap is_single stands.idle)
         ∙ ap (λ c. Single (newest c)) stands.idle;
     single = λ i low. singles i (stands.single i low);
     chains = λ n k i within at. singles i (stands.chains n k i within at);
@@ -150,10 +155,10 @@ module _ (v : Volume) (d e : List Cell) (ino first : ℕ) (bytes : List ℕ) (wh
 
 -- K-Split is ready again
 pub ready-over : (t : TablesView) (d e : List Cell) (batched lost now : Bool) (b : List Entry) (ino first : ℕ) (bytes : List ℕ) → IsReady (view_of t d batched lost) b
-    → MayWriteBytes t.volume ino first (length bytes) → Overwrites t.volume t.volume ino first bytes d e → KeepsSingle d e → IsReady (view_of t e batched now) b
-ready-over t d e batched lost now b ino first bytes ready may over singles = record {
+    → ino < length t.volume.inodes → Overwrites t.volume t.volume ino first bytes d e → KeepsSingle d e → IsReady (view_of t e batched now) b
+ready-over t d e batched lost now b ino first bytes ready below over singles = record {
   order = record {
-    stands = still_stands t.volume d e ino first bytes ready.order.whole ready.order.stands may over singles;
+    stands = still_stands t.volume d e ino first bytes ready.order.whole ready.order.stands below over singles;
     whole = ready.order.whole;
     settled = ready.order.settled;
     none_waits = ready.order.none_waits;
@@ -170,11 +175,11 @@ asked t d batched lost k ino first count same may = subst (λ (x : View). x.lost
 
 -- the answers
 pub overwrite-done : (t : TablesView) (d e : List Cell) (batched lost : Bool) (b : List Entry) (k : View) (ino first : ℕ) (bytes : List ℕ) → lost ≡ false → view_of t d batched lost ≡ k
-    → IsReady (view_of t d batched lost) b → MayWriteBytes t.volume ino first (length bytes) → Overwrites t.volume t.volume ino first bytes d e
+    → IsReady (view_of t d batched lost) b → ino < length t.volume.inodes → Overwrites t.volume t.volume ino first bytes d e
     → Follows (IsOverwrittenWhole (extents t.volume ino) first bytes) d e → KeepsSingle d e → IsOverwriteDone ino first bytes k (view_of t e batched lost)
-overwrite-done t d e batched lost b k ino first bytes is same ready may over whole singles =
+overwrite-done t d e batched lost b k ino first bytes is same ready below over whole singles =
     subst (λ x. IsOverwriteDone ino first bytes x (view_of t e batched lost)) same
-    (record { kept_on = is; same = refl; order = (ready-over t d e batched lost lost b ino first bytes ready may over singles).order; over = over; whole = whole; singles = singles })
+    (record { kept_on = is; same = refl; order = (ready-over t d e batched lost lost b ino first bytes ready below over singles).order; over = over; whole = whole; singles = singles })
 
 pub overwrite-cut : (t : TablesView) (d e : List Cell) (batched lost : Bool) (k : View) (ino first : ℕ) (bytes : List ℕ) → view_of t d batched lost ≡ k
     → Overwrites t.volume t.volume ino first bytes d e → IsOverwriteCut ino first bytes k (view_of t e batched true)

@@ -12,4 +12,5 @@ mod MapAnswers
 mod MapLands
 mod OpenLaws
 mod Relinks
+mod StagedBytes
 mod TreeLaws

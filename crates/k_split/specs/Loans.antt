@@ -1,4 +1,4 @@
--- What lending a block of a staging file asks for.
+-- What is asked of a block of a staging file that is lent, or written in place.
 use Rattle.std.specs.Prelude.{◌≡◌, ◌≤◌, ◌/◌, ℕ, true, List, Some}
 use Rattle.pm_words.specs.declared.Cell.{Cell}
 use Rattle.pm_words.specs.Cells.{cell, is_single}

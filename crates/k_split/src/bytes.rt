@@ -1,12 +1,13 @@
 //! Bytes of a file, written over in place.
-ghost use Rattle.std.specs.Prelude.{◌≡◌, ◌+◌, ◌*◌, ◌/◌, ◌%◌, ◌^◌, ◌<◌, ◌≤◌, true, false, length, replicate, take, IsSome};
-ghost use Rattle.block_bytes.specs.Overwrites.{blocks_reached};
+ghost use Rattle.std.specs.Prelude.{◌≡◌, ◌+◌, ◌*◌, ◌/◌, ◌%◌, ◌^◌, ◌<◌, ◌≤◌, ℕ, true, false, length, replicate, take, IsSome};
+ghost use Rattle.block_bytes.specs.Overwrites.{blocks_reached, MayOverwrite};
 ghost use Rattle.pm_words.specs.Powers.{is_on, Steps};
 ghost use Rattle.extent_words.specs.Extents.{disk_at};
 ghost use Rattle.disk_lines.specs.declared.Kind.TheVariants.{File};
-ghost use Rattle.disk_rules.specs.Volume.{inode};
+ghost use Rattle.disk_rules.specs.Volume.{extents, inode};
 ghost use Rattle.k_split.specs.Bytes.{IsOverwriteAnswer, IsOverwritePaid, MayWriteBytes};
 ghost use Rattle.k_split.specs.Bytes.{tail_zeros, zeros_behind};
+ghost use Rattle.k_split.specs.Loans.{MayLend};
 
 use crate::faults::KFault;
 use crate::state::KSplit;
@@ -38,6 +39,33 @@ fn front_of(bytes: &[u8], count: usize) -> &[u8]
 }
 
 impl KSplit {
+    // Writes bytes over in the blocks that the map of an inode names, and makes them durable.
+    pub(crate) fn overwrite(
+        &mut self,
+        ino: u32,
+        first: u64,
+        bytes: &[u8],
+        power: &mut Power,
+    ) -> Result<(), KFault>
+        requires on { self.old.lost ≡ false }
+        requires short { first + length bytes.now ≤ 2 ^ 24 }
+        requires below { ino < length self.old.volume.inodes }
+        requires may { MayOverwrite (extents self.old.volume ino) first (length bytes.now) self.old.cells }
+        ensures steps { Steps (576 * blocks_reached first (length bytes.now) + 1) power.old power.new }
+        ensures paid { IsOverwritePaid power.new result }
+        ensures answer { IsOverwriteAnswer ino first bytes.now self.old self.new result }
+    {
+        match self.tables.map(ino) {
+            Some(map) => write_bytes(&mut self.pm, power, map, first, bytes),
+            None => unreachable!(),
+        }
+        if power.on() {
+            return Ok(());
+        }
+        self.lost = true;
+        Err(KFault::PowerLost)
+    }
+
     /// Writes bytes of a live file over in place, from byte `offset` of it on, and makes them durable.
     /// Each block of the range has a disk block. It takes no memory, and only the power stops it: then
     /// each byte of the range is the old one or the new one. An empty write does nothing.
@@ -70,18 +98,7 @@ impl KSplit {
         if bytes.len() == 0 {
             return Ok(());
         }
-        match self.tables.map(ino) {
-            Some(map) => {
-                let _extents = map.extents();
-                write_bytes(&mut self.pm, power, map, offset, bytes);
-            }
-            None => unreachable!(),
-        }
-        if power.on() {
-            return Ok(());
-        }
-        self.lost = true;
-        Err(KFault::PowerLost)
+        self.overwrite(ino, offset, bytes, power)
     }
 
     /// Sets the bytes of a live file from byte `from` to the end of its block to zero, where the block
@@ -115,5 +132,42 @@ impl KSplit {
         let zeros = [0; 4096];
         let some = front_of(&zeros, count);
         self.write_in_place(ino, from, some, power)
+    }
+
+    /// Writes bytes into block `block` of a staging file over in place, from byte `offset` of the block
+    /// on, and makes them durable. The file, inode 1 to 4, has the block, which is not lent: each of its
+    /// words has one candidate. It takes no memory, and only the power stops it: then each byte of the
+    /// range is the old one or the new one.
+    ///
+    /// # Errors
+    ///
+    /// `PowerLost` alone, exactly where the power is off at the return.
+    ///
+    /// # Steps
+    ///
+    /// At most 577.
+    pub fn write_staged(
+        &mut self,
+        staging: u32,
+        block: u32,
+        offset: u32,
+        bytes: &[u8],
+        power: &mut Power,
+    ) -> Result<(), KFault>
+        requires awake { self.old.lost ≡ true → is_on power.old ≡ false }
+        requires short { offset + length bytes.now ≤ 4096 }
+        requires may { self.old.lost ≡ false
+            → (b : ℕ) × MayLend self.old.volume self.old.cells staging block b }
+        ensures steps { Steps 577 power.old power.new }
+        ensures paid { IsOverwritePaid power.new result }
+        ensures answer { IsOverwriteAnswer staging (4096 * block + offset) bytes.now
+            self.old self.new result }
+    {
+        if !power.on() {
+            self.lost = true;
+            return Err(KFault::PowerLost);
+        }
+        let first = 4096 * u64::from(block) + u64::from(offset);
+        self.overwrite(staging, first, bytes, power)
     }
 }

@@ -1,0 +1,58 @@
+use Rattle.std.proofs.Common.{◌≡◌, ◌+◌, ◌/◌, ◌<◌, ◌∙◌, ℕ, false, true, List, length, ap, inr, subst, sym}
+use Rattle.extent_words.specs.declared.Extent.{Extent}
+use Rattle.block_bytes.specs.Overwrites.{IsBesideBlocks, IsOverwritten, IsOverwrittenWhole, MayOverwrite}
+use Rattle.disk_rules.specs.Volume.{extents}
+use Rattle.pm_words.specs.Cells.{cell, Settles}
+use Rattle.pm_words.specs.Images.{Follows}
+use Rattle.k_rules.specs.View.{View}
+use Rattle.k_split.proofs.ByteLaws.{overwrite-cut, overwrite-done, overwrites, ready-over}
+use Rattle.k_split.proofs.state.KSplit.overwrite.Goals as goal
+
+pub write_bytes-requires-clause-ready : goal.write_bytes-requires-clause-ready
+write_bytes-requires-clause-ready c on =
+    let k = c.self.inside in
+    subst (λ (es : List Extent). MayOverwrite es c.args.first (length c.args.bytes.now) k.pm) (sym c.in-Some.ensures.map)
+    (subst (λ (x : View). MayOverwrite (extents x.volume c.args.ino) c.args.first (length c.args.bytes.now) x.cells) (sym c.self.view_is) c.requires.may)
+
+pub invariant_of-self : goal.invariant_of-self
+invariant_of-self c off =
+    let k = c.self.inside in
+    let bytes = c.args.bytes.now in
+    let e = c.write_bytes.new.pm in
+    let ready = c.self.invariant off in
+    let below = subst (λ (x : View). c.args.ino < length x.volume.inodes) (sym c.self.view_is) c.requires.below in
+    let on = sym c.on.ensures ∙ c.if-on.true in
+    ready-over k.tables k.pm e k.batched k.lost k.lost k.batch c.args.ino c.args.first bytes ready below
+    (overwrites k.tables.volume k.pm e c.args.ino c.args.first bytes ready.order.whole ready.order.stands below c.write_bytes.ensures.size c.write_bytes.ensures.lent
+    (subst (λ (es : List Extent). Follows (IsOverwritten es c.args.first bytes) k.pm e) c.in-Some.ensures.map c.write_bytes.ensures.each_image)
+    (subst (λ (es : List Extent). (i : ℕ) → IsBesideBlocks es c.args.first (length bytes) i → Settles (cell k.pm i) (cell e i)) c.in-Some.ensures.map c.write_bytes.ensures.others))
+    (c.write_bytes.ensures.keeps on)
+
+pub returns-then-on-clause-answer : goal.returns-then-on-clause-answer
+returns-then-on-clause-answer c =
+    let k = c.self.inside in
+    let bytes = c.args.bytes.now in
+    let e = c.write_bytes.new.pm in
+    let is : k.lost ≡ false = ap (λ (x : View). x.lost) c.self.view_is ∙ c.requires.on in
+    let ready = c.self.invariant is in
+    let below = subst (λ (x : View). c.args.ino < length x.volume.inodes) (sym c.self.view_is) c.requires.below in
+    let on = sym c.on.ensures ∙ c.if-on.true in
+    overwrite-done k.tables k.pm e k.batched k.lost k.batch c.args.self.now c.args.ino c.args.first bytes is c.self.view_is ready below
+    (overwrites k.tables.volume k.pm e c.args.ino c.args.first bytes ready.order.whole ready.order.stands below c.write_bytes.ensures.size c.write_bytes.ensures.lent
+    (subst (λ (es : List Extent). Follows (IsOverwritten es c.args.first bytes) k.pm e) c.in-Some.ensures.map c.write_bytes.ensures.each_image)
+    (subst (λ (es : List Extent). (i : ℕ) → IsBesideBlocks es c.args.first (length bytes) i → Settles (cell k.pm i) (cell e i)) c.in-Some.ensures.map c.write_bytes.ensures.others))
+    (subst (λ (es : List Extent). Follows (IsOverwrittenWhole es c.args.first bytes) k.pm e) c.in-Some.ensures.map (c.write_bytes.ensures.durable on))
+    (c.write_bytes.ensures.keeps on)
+
+pub returns-clause-answer : goal.returns-clause-answer
+returns-clause-answer c =
+    let k = c.self.inside in
+    let bytes = c.args.bytes.now in
+    let e = c.write_bytes.new.pm in
+    let is : k.lost ≡ false = ap (λ (x : View). x.lost) c.self.view_is ∙ c.requires.on in
+    let ready = c.self.invariant is in
+    let below = subst (λ (x : View). c.args.ino < length x.volume.inodes) (sym c.self.view_is) c.requires.below in
+    inr (overwrite-cut k.tables k.pm e k.batched k.lost c.args.self.now c.args.ino c.args.first bytes c.self.view_is
+    (overwrites k.tables.volume k.pm e c.args.ino c.args.first bytes ready.order.whole ready.order.stands below c.write_bytes.ensures.size c.write_bytes.ensures.lent
+    (subst (λ (es : List Extent). Follows (IsOverwritten es c.args.first bytes) k.pm e) c.in-Some.ensures.map c.write_bytes.ensures.each_image)
+    (subst (λ (es : List Extent). (i : ℕ) → IsBesideBlocks es c.args.first (length bytes) i → Settles (cell k.pm i) (cell e i)) c.in-Some.ensures.map c.write_bytes.ensures.others)))

@@ -25,6 +25,3 @@ mod rules;
 pub use checking::check;
 pub use crashes::crash_image;
 pub use volume_check::{BadImage, CheckFault};
-
-#[cfg(test)]
-mod tests;

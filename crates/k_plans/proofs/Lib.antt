@@ -1,7 +1,6 @@
 pub mod Bases
 pub mod Drops
 pub mod FreeCounts
-pub mod FreshTables
 pub mod Gifts
 pub mod Idles
 pub mod NamedNodes

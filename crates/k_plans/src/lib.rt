@@ -26,6 +26,3 @@ mod tables;
 
 pub use faults::PlanFault;
 pub use tables::{Tables, nodes_are_made_behind_the_staging_files, tables_begin_with_what_is_read};
-
-#[cfg(test)]
-mod tests;

@@ -27,6 +27,3 @@ pub use blocks::count_unused;
 pub use faults::{BadImage, CheckFault};
 pub use reading::{Tables, read_volume};
 pub use view::view_line;
-
-#[cfg(test)]
-mod tests;

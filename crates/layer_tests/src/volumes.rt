@@ -1,12 +1,12 @@
 //! That the fresh image is read with ample memory.
 ghost use Rattle.std.specs.Prelude.{◌≡◌, ◌%◌, length};
 
-use super::*;
 use image_layout::Geometry;
 use k_reading::fresh_image;
 use pm_lines::Pm;
 use std::alloc::{AllocError, Global};
 use std::test::Fail;
+use volume_check::{BadImage, Tables, read_volume};
 
 // Reads the device of some bytes.
 fn read_bytes(alloc: Global, bytes: &[u8]) -> Result<Result<Tables, BadImage>, AllocError>

@@ -1,3 +1,3 @@
 pub mod Ends
 pub mod Histories
-mod Afford
+pub mod Afford

@@ -1,4 +1,4 @@
 mod Begins
 mod Fresh
 mod Starting
-mod Remounted
+pub mod Remounted

@@ -75,7 +75,7 @@ module _ (v w : Volume) (j h : Words) (sheds : Sheds v w) (log : SameLog v.geome
   entry_same slot below =
       (λ i. entry_in (record w { geometry = sheds.geometry i; base = sheds.base i }) h slot) ∙ entry_in-same v j h log slot (omega (arith, below, logs))
 
-  none_live : live_entries w h ≡ []
+  pub none_live : live_entries w h ≡ []
   none_live =
       (λ i. filter (is_live w) (valid_entries (record w { geometry = sheds.geometry i; base = sheds.base i }) h))
       ∙ none_passes (is_live v) (is_live w) (valid_entries v h) (live_before v w sheds) (live_entries-same v j h log ∙ dead)
@@ -153,3 +153,6 @@ module _ (g : Geometry) (f : Words) (v w : Volume) (d : List Cell) (numbers : ge
     kept = kept;
     log = log_kept v w (journaled f) (journaled (words_of d)) sheds same_log free dead checked.log;
   }
+
+  pub dead_now : live_entries w (journaled (words_of d)) ≡ []
+  dead_now = none_live v w (journaled f) (journaled (words_of d)) sheds same_log free dead checked.log

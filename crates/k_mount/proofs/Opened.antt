@@ -37,7 +37,7 @@ use Rattle.world_rules.specs.Shown.{IsTreeOfContent}
 use Rattle.world_images.specs.Changed.{sound_headed}
 use Rattle.k_mount.specs.Laws.{IsCheckedToo, IsRecovered}
 use Rattle.k_mount.specs.Sheds.{IsAtRest, SameOutside, Sheds}
-use Rattle.k_mount.proofs.Checked.{checked_now, numbers_now}
+use Rattle.k_mount.proofs.Checked.{checked_now, dead_now, numbers_now}
 use Rattle.k_mount.proofs.Recovered.{recovers_checked}
 use Rattle.k_mount.proofs.Same.{shows_the_same, trees_are_of_content}
 
@@ -77,29 +77,38 @@ module _ (g : Geometry) (image : Words) (k k2 : View) (numbers : geometry_of ima
   reads = subst (Reads g (journaled image)) (sym volume_is) (subst (λ h. Reads h (journaled image) (volume h (journaled image))) numbers (reads-checked (4096 * g.blocks) image checked))
 
   -- the words of data blocks are those of the image
-  same_word : (b j : ℕ) → is_data_block g b ≡ true → j < 512 → words_of k2.cells (512 * b + j) ≡ journaled image (512 * b + j)
+  pub same_word : (b j : ℕ) → is_data_block g b ≡ true → j < 512 → words_of k2.cells (512 * b + j) ≡ journaled image (512 * b + j)
   same_word b j in_data below =
       let out = behind_log-words g (512 * b + j) (data_word g b j in_data below) in
       let line = data_word-not_journaled g b j in_data below in
       ap newest (subst (λ h. SameOutside h k.cells k2.cells) reads.geometry others (512 * b + j) out line) ∙ ap newest (is.words (512 * b + j) out)
 
-  same_data : SameData k.volume [] (journaled image) (words_of k2.cells)
-  same_data = record {
-    words = λ ino block b j file short at below. same_word b j (read_in_data g (journaled image) k.volume ino block b reads rest.order.whole.kept.kept at) below;
-  }
+  -- what is found in words with the data of the image
+  module _ (f : Words) (data_is : (b j : ℕ) → is_data_block g b ≡ true → j < 512 → f (512 * b + j) ≡ words_of k2.cells (512 * b + j)) where
+    same_data : SameData k.volume [] (journaled image) f
+    same_data = record {
+      words = λ ino block b j file short at below. (
+          let within = read_in_data g (journaled image) k.volume ino block b reads rest.order.whole.kept.kept at in
+          data_is b j within below ∙ same_word b j within below);
+    }
+
+    pub shown_in : (path : List (List ℕ)) → found k2.volume [] f path ≡ found k.volume [] (journaled image) path
+    shown_in path =
+        shows_the_same k.volume k2.volume f path sheds (a_directory (inode k.volume 0).kind (root-directory k.volume rest.order.whole.kept))
+        ∙ ap (λ c. c path) (found-same k.volume [] (journaled image) f same_data)
 
   shown : (path : List (List ℕ)) → found k2.volume [] (words_of k2.cells) path ≡ found k.volume [] (journaled image) path
-  shown path =
-      shows_the_same k.volume k2.volume (words_of k2.cells) path sheds (a_directory (inode k.volume 0).kind (root-directory k.volume rest.order.whole.kept))
-      ∙ ap (λ c. c path) (found-same k.volume [] (journaled image) (words_of k2.cells) same_data)
+  shown path = shown_in (words_of k2.cells) (λ b j within below. refl) path
+
+  -- the content of the image, where no entry is live
+  pub content_of_image : live_entries (volume g (journaled image)) (journaled image) ≡ [] → (path : List (List ℕ)) → content g image path ≡ found k.volume [] (journaled image) path
+  content_of_image dead path =
+      ap (λ live. found (volume g (journaled image)) live (journaled image) path) dead ∙ ap (λ v. found v [] (journaled image) path) (sym volume_is)
 
   pub tree_of_image : (left : List TreeEntry) → live_entries (volume g (journaled image)) (journaled image) ≡ [] → IsTreeOf (tree_content (found k2.volume [] (words_of k2.cells))) left → IsTreeOfContent (content g image) left
   tree_of_image left dead listed = trees_are_of_content (content g image) left (IsTreeOf-agree (tree_content (found k2.volume [] (words_of k2.cells))) (tree_content (content g image)) left agree listed) where
     agree : (path : List (List ℕ)) → tree_content (content g image) path ≡ tree_content (found k2.volume [] (words_of k2.cells)) path
-    agree path =
-        ap (option_map tree_node)
-        (ap (λ live. found (volume g (journaled image)) live (journaled image) path) dead
-        ∙ (ap (λ v. found v [] (journaled image) path) (sym volume_is) ∙ sym (shown path)))
+    agree path = ap (option_map tree_node) (content_of_image dead path ∙ sym (shown path))
 
   -- ---- the device is checked again
 
@@ -141,4 +150,9 @@ module _ (g : Geometry) (image : Words) (k k2 : View) (numbers : geometry_of ima
     pub checked_again : IsCheckedAs (4096 * g.blocks) (words_of k2.cells) k2.volume
     checked_again =
         checked_now g (words_of k.cells) k.volume k2.volume k2.cells too.geometry was sheds free still_dead now_reads after.order.whole.kept.kept (ap newest stands.idle)
+        (λ i out line. ap newest (same i out line))
+
+    pub dead_again : live_entries k2.volume (journaled (words_of k2.cells)) ≡ []
+    dead_again =
+        dead_now g (words_of k.cells) k.volume k2.volume k2.cells too.geometry was sheds free still_dead now_reads after.order.whole.kept.kept (ap newest stands.idle)
         (λ i out line. ap newest (same i out line))

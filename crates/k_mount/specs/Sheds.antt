@@ -11,13 +11,17 @@ use Rattle.disk_lines.specs.declared.Kind.TheVariants.{File}
 use Rattle.disk_lines.specs.Names.{names_of}
 use Rattle.disk_rules.specs.Checked.{IsCheckedAs}
 use Rattle.disk_rules.specs.Content.{content}
+use Rattle.disk_rules.specs.Reading.{base_set}
 use Rattle.disk_rules.specs.Rules.{geometry_of}
 use Rattle.disk_rules.specs.Volume.{chain, extents, inode, Volume, volume}
 use Rattle.k_rules.specs.Changes.{gone_node}
 use Rattle.k_rules.specs.View.{View}
+use Rattle.k_split.specs.Laps.{IsLogWord}
 use Rattle.k_split.specs.Order.{IsInOrder}
 use Rattle.posix_types.specs.declared.tree.TreeEntry.{TreeEntry}
 use Rattle.world_rules.specs.Shown.{IsTreeOfContent}
+use Rattle.world_images.specs.Images.{HasNoEntry}
+use Rattle.k_mount.specs.NextLaps.{IsNextLap}
 
 -- a file to which no name leads
 pub record IsNameless (v : Volume) (ino : ℕ) : Type 0 where
@@ -62,13 +66,17 @@ abbrev pub SameOutside : Geometry → List Cell → List Cell → Type 0
 SameOutside g old new = (i : ℕ) → is_journal_word i ≡ false → is_journaled_line g (i / 8) ≡ false → cell new i ≡ cell old i
 
 -- WHAT A REMOUNT LEAVES of an image: K-Split is at rest, each file has a name, nothing but nameless files is gone, and the
--- tree is that of the image's content. The device is a checked image again, with no word of a data block or of the log
--- changed.
+-- tree is that of the image's content. The next lap of the log began, and no line of it is an entry. The device is a checked
+-- image again, with the content of the one before, and no word of a data block changed.
 pub record IsRemounted (g : Geometry) (image : Words) (k : View) (tree : List TreeEntry) : Type 0 where
   pub rest : IsAtRest k
   pub named : AllNamed k.volume
-  pub sheds : Sheds (volume g (journaled image)) k.volume
+  pub sheds : Sheds (base_set k.volume.base (volume g (journaled image))) k.volume
+  pub lap : IsNextLap (volume g (journaled image)) image k
+  pub no_entry : HasNoEntry k.volume (journaled (words_of k.cells))
   pub tree_is : IsTreeOfContent (content g image) tree
+  pub shows : (path : List (List ℕ)) → content g (words_of k.cells) path ≡ content g image path
   pub numbers : geometry_of (words_of k.cells) ≡ g
   pub checked : IsCheckedAs (4096 * g.blocks) (words_of k.cells) k.volume
-  pub words : (i : ℕ) → is_journal_word i ≡ false → is_journaled_line g (i / 8) ≡ false → cell k.cells i ≡ Single (image i)
+  pub words : (i : ℕ) → is_journal_word i ≡ false → is_journaled_line g (i / 8) ≡ false → ¬ IsLogWord (volume g (journaled image)) i
+      → cell k.cells i ≡ Single (image i)

@@ -10,6 +10,7 @@ ghost use Rattle.disk_rules.specs.Volume.{volume};
 ghost use Rattle.k_mount.specs.Laws.{IsRecovered};
 ghost use Rattle.k_mount.specs.Sheds.{IsAtRest, IsRemounted};
 
+use crate::laps::next_lap;
 use crate::nameless::drop_nameless;
 use image_layout::Geometry;
 use k_journal::Recovered;
@@ -56,7 +57,8 @@ fn opened(alloc: Global, bytes: &[u8], geometry: Geometry) -> Result<KSplit, All
     KSplit::open(alloc, pm, geometry, false)
 }
 
-/// Opens an image that a power loss left: its journal is recovered, and files go to which no name leads.
+/// Opens an image that a power loss left: its journal is recovered, files go to which no name leads, and the
+/// log's next lap begins.
 ///
 /// The bytes are those of a checked image with this geometry, of whose log no entry is live.
 ///
@@ -73,5 +75,6 @@ pub fn remount(alloc: Global, bytes: &[u8], geometry: Geometry) -> Result<Remoun
     let mut k = opened(alloc, bytes, geometry)?;
     drop_nameless(&mut k);
     let tree = k.tree(alloc)?;
+    next_lap(&mut k);
     Ok(Remounted { k, tree })
 }

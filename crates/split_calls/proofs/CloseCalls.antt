@@ -48,7 +48,7 @@ use Rattle.world_exits.specs.Ends.{not_root_number}
 use Rattle.split_calls.specs.Answers.{ComesHalfWay, IsEnded, IsReplyOf, IsSpent}
 use Rattle.split_calls.specs.Runs.{RunsAs}
 use Rattle.split_calls.specs.declared.outcomes.Told.{Told}
-use Rattle.split_calls.proofs.Empty.{empty_call, swept_entries, swept_tables}
+use Rattle.split_calls.proofs.CallTables.{swept_entries, swept_tables}
 use Rattle.split_calls.proofs.Halves.{open_there}
 use Rattle.split_calls.proofs.OpenCalls.{valid}
 use Rattle.split_calls.proofs.Running.{runs_still}
@@ -116,7 +116,7 @@ module _ (who : Who) (h : Handle) (k : View) (t t2 : Tables) (d : Description) (
       runs_still g k t t2 n s (middle s) runs refl
       (λ f world.
       IsWorld-same k.volume [] [] f runs.numbers s (middle s) runs.count world (record { flying_on = tt; files = tt; fits = world.valid.fits; room = omega arith })
-      (record { entries = refl; count = refl; nodes = λ m. refl; shape = refl })) (tables_closed g n s runs) (files_closed g n s runs) runs.ordered runs.empty
+      (record { entries = refl; count = refl; nodes = λ m. refl; shape = refl })) (tables_closed g n s runs) (files_closed g n s runs) runs.ordered
 
   open_after : (g : Geometry) (n : ℕ) (s : State) → (runs : RunsAs g k t n s) → is_open (closed s.tables who h) (file_number s.tables who h) ≡ is_open t2 d.node
   unfolding middle runs_middle runs_still
@@ -157,7 +157,7 @@ module _ (who : Who) (h : Handle) (k : View) (t t2 : Tables) (d : Description) (
         (λ f world.
         IsWorld-closed k.volume [] [] f runs.numbers s runs.count who h world tt
         (close_row s.tables who h (option_map (described_as (number runs.numbers)) (Some d)) (handle_there g k t n s runs who h (Some d) known)) (kept g n s runs stays))
-        (close_tables g n s runs ∙ tables_closed g n s runs) (files_closed g n s runs) (AreOrdered-step_of alone s who (Call.Close h) runs.ordered) (empty_call s who (Call.Close h) tt runs.empty)
+        (close_tables g n s runs ∙ tables_closed g n s runs) (files_closed g n s runs) (AreOrdered-step_of alone s who (Call.Close h) runs.ordered)
 
   -- IT GOES, where it has no name and nobody has it open.
   pub close_half : names_of k.volume.names d.node ≡ 0 → is_open t2 d.node ≡ false → ComesHalfWay who (Call.Close h) k t k t2 d.node

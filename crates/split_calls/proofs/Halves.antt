@@ -40,10 +40,10 @@ use Rattle.world_exits.specs.Going.{IsStep, moved_so_far}
 use Rattle.world_exits.specs.Moves.{steps_rename}
 use Rattle.world_exits.specs.Steps.{state_unlink, steps_dropped, steps_unlinked, unlinks_file, valid_now}
 use Rattle.split_calls.specs.Answers.{ComesHalfWay, IsEnded, IsHalfWay, IsReplyOf, IsSpent, told_of}
-use Rattle.split_calls.specs.Runs.{HasNoBytes, HasNoLog, RunsAs}
+use Rattle.split_calls.specs.Runs.{HasNoLog, RunsAs}
 use Rattle.split_calls.proofs.NoLog.{cut_no_log, runs_no_log}
 use Rattle.split_calls.specs.declared.outcomes.Told.{Told}
-use Rattle.split_calls.proofs.Empty.{empty_swept, swept_entries, swept_tables}
+use Rattle.split_calls.proofs.CallTables.{swept_entries, swept_tables}
 use Rattle.split_calls.proofs.NameCalls.{files_renamed, reply_ok, took}
 use Rattle.split_calls.proofs.Running.{fault_ended, loses_cut, quiet_changes, row_refuses, runs_on}
 
@@ -77,7 +77,6 @@ half_dropped g k k2 t n end ino half shut drop =
     runs_on g k k2 t t n half.middle end half.runs half.runs.numbers half.runs.count n drop.2 (drop_step g k t n end ino k2.volume half shut drop.1) half.runs.few
     (ap (λ (x : State). x.tables) half.ends ∙ swept_tables half.middle (number half.runs.numbers ino) ∙ half.runs.tables) files
     (subst (λ (x : State). AreOrdered x.entries) (sym half.ends) (subst AreOrdered (sym (swept_entries half.middle (number half.runs.numbers ino))) half.runs.ordered))
-    (subst HasNoBytes (sym half.ends) (empty_swept half.middle (number half.runs.numbers ino) half.runs.empty))
   where
     apart : (i : ℕ) → is_open t i ≡ true → i ≢ ino
     apart i there same = let never : true ≡ false = sym there ∙ (ap (is_open t) same ∙ shut) in cc
@@ -156,7 +155,7 @@ module _ (who : Who) (p : List (List ℕ)) (k : View) (t : Tables) where
   unfolding unnamed_state runs_on
   unlink_half k1 ino is g n s small runs = record {
     middle = unnamed_state s p;
-    runs = runs_on g k k1 t t n s (unnamed_state s p) runs runs.numbers runs.count (n + 1) is.2 (unlink_step k1.volume ino is.1 g n s runs) (omega (arith, runs.few)) runs.tables (files_unlinked k1.volume ino is.1 runs.files) (unnamed_ordered s p runs.ordered) runs.empty;
+    runs = runs_on g k k1 t t n s (unnamed_state s p) runs runs.numbers runs.count (n + 1) is.2 (unlink_step k1.volume ino is.1 g n s runs) (omega (arith, runs.few)) runs.tables (files_unlinked k1.volume ino is.1 runs.files) (unnamed_ordered s p runs.ordered);
     may = unlinks_file k.volume k.cells [] runs.numbers s runs.count p k1.volume ino runs.going.running is.1;
     ends = state_unlink k.volume k.cells [] runs.numbers s runs.count who p k1.volume ino runs.going.running is.0 is.1;
     tree_is = unlink_tree k1.volume ino is.0 is.1 g n s runs;
@@ -198,7 +197,7 @@ module _ (who : Who) (p q : List (List ℕ)) (k : View) (t : Tables) (spelled : 
         middle = moved_so_far (Some ino) s who p q;
         runs = runs_on g k k1 t t n s (moved_so_far (Some ino) s who p q) runs runs.numbers runs.count (n + 1) is.2
             (steps_rename k.volume k.cells [] runs.numbers s runs.count who p q k1.volume (Some ino) runs.going.running is.0 spelled is.1) (omega (arith, runs.few)) runs.tables
-            (files_renamed p q k.volume k1.volume (Some ino) t is.1 runs.files) (renamed_ordered s p q runs.ordered) runs.empty;
+            (files_renamed p q k.volume k1.volume (Some ino) t is.1 runs.files) (renamed_ordered s p q runs.ordered);
         may = over.0;
         ends = over.1;
         tree_is = tree_of_rename k.volume k.cells [] runs.numbers s runs.count who p q k1.volume (Some ino) runs.going.running is.0 is.1;

@@ -1,9 +1,10 @@
-mod Empty
+mod CallTables
 mod Running
 mod NameCalls
 mod Halves
 mod Paths
 mod OpenCalls
+mod CutCalls
 mod OpenEnds
 mod CloseCalls
 mod Lists

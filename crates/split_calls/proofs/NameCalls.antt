@@ -44,7 +44,7 @@ use Rattle.world_exits.specs.Steps.{steps_mkdir, steps_rmdir}
 use Rattle.split_calls.specs.Answers.{Answers, IsEnded, told_of}
 use Rattle.split_calls.specs.Runs.{RunsAs}
 use Rattle.split_calls.specs.declared.outcomes.Told.{Told}
-use Rattle.split_calls.proofs.Empty.{empty_call, tables_mkdir, tables_rename, tables_rmdir}
+use Rattle.split_calls.proofs.CallTables.{tables_mkdir, tables_rename, tables_rmdir}
 use Rattle.split_calls.proofs.Running.{CutsInto, fault_ended, loses_cut, nothing_ended, row_refuses, runs_on}
 
 -- ---- which files stay
@@ -130,7 +130,7 @@ module _ (who : Who) (p : List (List ℕ)) (k k2 : View) (t : Tables) (old new :
         let files = files_made true p k.volume k2.volume ino t is.0.1 runs.files in (
           runs_on g k k2 t t n s (after_call s (who, Call.Mkdir p)) runs (renumbered runs.numbers ino (length s.nodes)) (runs.count + 1) (n + 1) is.0.2
               (steps_mkdir k.volume k.cells [] runs.numbers s runs.count who p k2.volume ino runs.going.running (omega (arith, small, runs.few)) spelled is.0.0 is.0.1) (omega (arith, runs.few))
-              (tables_mkdir s who p ∙ runs.tables ∙ tables_renumbered runs.numbers t ino (length s.nodes) files.0) files.1 (AreOrdered-step_of alone s who (Call.Mkdir p) runs.ordered) (empty_call s who (Call.Mkdir p) tt runs.empty),
+              (tables_mkdir s who p ∙ runs.tables ∙ tables_renumbered runs.numbers t ino (length s.nodes) files.0) files.1 (AreOrdered-step_of alone s who (Call.Mkdir p) runs.ordered),
           reply_ok who (Call.Mkdir p) k t g n s tt is.0.0 runs,
         )
 
@@ -160,7 +160,7 @@ module _ (who : Who) (p : List (List ℕ)) (k k2 : View) (t : Tables) (old new :
     answers g n s small runs = (
       runs_on g k k2 t t n s (after_call s (who, Call.Rmdir p)) runs runs.numbers runs.count (n + 1) is.0.2
           (steps_rmdir k.volume k.cells [] runs.numbers s runs.count who p k2.volume runs.going.running is.0.0 is.0.1) (omega (arith, runs.few)) (tables_rmdir s who p ∙ runs.tables)
-          (files_removed p k.volume k2.volume t is.0.1 runs.files) (AreOrdered-step_of alone s who (Call.Rmdir p) runs.ordered) (empty_call s who (Call.Rmdir p) tt runs.empty),
+          (files_removed p k.volume k2.volume t is.0.1 runs.files) (AreOrdered-step_of alone s who (Call.Rmdir p) runs.ordered),
       reply_ok who (Call.Rmdir p) k t g n s tt is.0.0 runs,
     )
 
@@ -184,7 +184,7 @@ module _ (who : Who) (p q : List (List ℕ)) (k k2 : View) (t : Tables) (old new
     answers g n s small runs = (
       runs_on g k k2 t t n s (after_call s (who, Call.Rename p q)) runs runs.numbers runs.count (n + 1) is.0.2
           (steps_rename k.volume k.cells [] runs.numbers s runs.count who p q k2.volume None runs.going.running is.0.0 spelled is.0.1) (omega (arith, runs.few)) (tables_rename s who p q ∙ runs.tables)
-          (files_renamed p q k.volume k2.volume None t is.0.1 runs.files) (AreOrdered-step_of alone s who (Call.Rename p q) runs.ordered) (empty_call s who (Call.Rename p q) tt runs.empty),
+          (files_renamed p q k.volume k2.volume None t is.0.1 runs.files) (AreOrdered-step_of alone s who (Call.Rename p q) runs.ordered),
       reply_ok who (Call.Rename p q) k t g n s tt is.0.0 runs,
     )
 

@@ -59,7 +59,6 @@ use Rattle.world_exits.specs.Steps.{steps_opened, valid_now}
 use Rattle.split_calls.specs.Answers.{Answers, IsEnded, IsMissing, stat_by, told_of}
 use Rattle.split_calls.specs.Runs.{RunsAs}
 use Rattle.split_calls.specs.declared.outcomes.Told.{Told}
-use Rattle.split_calls.proofs.Empty.{empty_call}
 use Rattle.split_calls.proofs.NameCalls.{files_made, tables_renumbered, took}
 use Rattle.split_calls.proofs.Paths.{open_made_rows, used_at}
 use Rattle.split_calls.proofs.Running.{fault_ended, loses_cut, runs_on, runs_still}
@@ -166,14 +165,14 @@ dup_ended who h to k t t2 fd old new known free t2_is on = (answers, on, λ g n 
       in (
         runs_still g k t t2 n s (after_call s (who, Call.Dup h to)) runs (keeps_setting s (who, Call.Dup h to)).shape
             (λ f world. IsWorld-idle k.volume [] [] f runs.numbers s runs.count who (Call.Dup h to) world tt tt) tables
-            (λ i there. runs.files i (sym (open_once_duped t who to (unwrap_or (key_of t who h) 0) i) ∙ (ap (λ x. is_open x i) (sym t2_is) ∙ there))) (AreOrdered-step_of alone s who (Call.Dup h to) runs.ordered) (empty_call s who (Call.Dup h to) tt runs.empty),
+            (λ i there. runs.files i (sym (open_once_duped t who to (unwrap_or (key_of t who h) 0) i) ∙ (ap (λ x. is_open x i) (sym t2_is) ∙ there))) (AreOrdered-step_of alone s who (Call.Dup h to) runs.ordered),
         ap (λ x. x.outcome) is ∙ ap (λ m. answer (Reply.Fd m)) (next_there g k t n s runs fd free),
       )
 
 -- ---- open
 
 -- its rows
-open_row : (g : Geometry) (k : View) (t : Tables) (n : ℕ) (s : State) (p : List (List ℕ)) (f : Flags) → RunsAs g k t n s
+pub open_row : (g : Geometry) (k : View) (t : Tables) (n : ℕ) (s : State) (p : List (List ℕ)) (f : Flags) → RunsAs g k t n s
     → first (open_rows (space s) (is_full s.tables) (is_busy alone s p) p f) ≡ first (open_rows (volume_space k.volume) (is_full t) false p f)
 open_row g k t n s p f runs = ap (λ full. first (open_rows (space s) full false p f)) (full_there g k t n s runs) ∙ ap first (sym ((rows g k t n s runs).open_ (is_full t) false p f))
 
@@ -181,7 +180,7 @@ pub open_refused : (who : Who) (h : Handle) (p : List (List ℕ)) (f : Flags) (k
     → (g : Geometry) (n : ℕ) (s : State) → RunsAs g k t n s → step s who (Call.Open h p f) ≡ record { state = s; outcome = o }
 open_refused who h p f k t o is g n s runs = ap (λ x. stepped s x (open_done s who h p f)) (open_row g k t n s p f runs ∙ is)
 
-open_step : (who : Who) (h : Handle) (p : List (List ℕ)) (f : Flags) (k : View) (t : Tables) → first (open_rows (volume_space k.volume) (is_full t) false p f) ≡ None
+pub open_step : (who : Who) (h : Handle) (p : List (List ℕ)) (f : Flags) (k : View) (t : Tables) → first (open_rows (volume_space k.volume) (is_full t) false p f) ≡ None
     → (g : Geometry) (n : ℕ) (s : State) → RunsAs g k t n s → step s who (Call.Open h p f) ≡ open_done s who h p f
 open_step who h p f k t none g n s runs = ap (λ x. stepped s x (open_done s who h p f)) (open_row g k t n s p f runs ∙ none)
 
@@ -190,19 +189,19 @@ abbrev pub opening_of : ℕ → Flags → Description
 opening_of ino f = record { node = ino; offset = 0; flags = f }
 
 -- what is open then are files
-files_opened : (k : View) (t t2 : Tables) (who : Who) (h : Handle) (ino : ℕ) (f : Flags) → t2 ≡ with_opened t who h (opening_of ino f) → ((i : ℕ) → is_open t i ≡ true → (inode k.volume i).kind ≡ File)
+pub files_opened : (k : View) (t t2 : Tables) (who : Who) (h : Handle) (ino : ℕ) (f : Flags) → t2 ≡ with_opened t who h (opening_of ino f) → ((i : ℕ) → is_open t i ≡ true → (inode k.volume i).kind ≡ File)
     → (inode k.volume ino).kind ≡ File → (i : ℕ) → is_open t2 i ≡ true → (inode k.volume i).kind ≡ File
 files_opened k t t2 who h ino f t2_is files file i there = by (open_once_opened t who h (opening_of ino f) i (ap (λ x. is_open x i) (sym t2_is) ∙ there)) where
   by : (is_open t i ≡ true) ⊎ (i ≡ ino) → (inode k.volume i).kind ≡ File
   by (inl was) = files i was
   by (inr own) = ap (λ m. (inode k.volume m).kind) own ∙ file
 
-tables_opened : (f : ℕ → ℕ) (t t2 : Tables) (x : Tables) (who : Who) (h : Handle) (ino m : ℕ) (flags : Flags) → x ≡ numbered_as f t → f ino ≡ m → t2 ≡ with_opened t who h (opening_of ino flags)
+pub tables_opened : (f : ℕ → ℕ) (t t2 : Tables) (x : Tables) (who : Who) (h : Handle) (ino m : ℕ) (flags : Flags) → x ≡ numbered_as f t → f ino ≡ m → t2 ≡ with_opened t who h (opening_of ino flags)
     → with_opened x who h (opening_of m flags) ≡ numbered_as f t2
 tables_opened f t t2 x who h ino m flags x_is number_is t2_is =
     (λ i. with_opened (x_is i) who h (opening_of (sym number_is i) flags)) ∙ sym (opens_alike f t who h (opening_of ino flags)) ∙ ap (numbered_as f) (sym t2_is)
 
--- A FILE THAT IS THERE is opened. It has no bytes: a cut changes nothing.
+-- A FILE THAT IS THERE is opened. It is not cut; or it has no bytes, and a cut changes nothing.
 shown_set : (xs : List Node) (n m : ℕ) (x : Node) → shown_node x ≡ shown_node (node_at xs n) → shown_node (node_at (slice_set xs n x) m) ≡ shown_node (node_at xs m)
 shown_set [] n m x same = refl
 shown_set (y ∷ ys) zero zero x same = same
@@ -210,32 +209,35 @@ shown_set (y ∷ ys) zero (suc m) x same = refl
 shown_set (y ∷ ys) (suc n) zero x same = refl
 shown_set (y ∷ ys) (suc n) (suc m) x same = shown_set ys n m x same
 
-shown_empty : (v : Volume) (live : List Draft) (f : Words) (ino : ℕ) (kind : Kind) (node : Node) → kind ≡ File → NodeStands v live f ino kind node → bytes_of node ≡ [] → shown_node empty_file ≡ shown_node node
-shown_empty v live f ino Free node file is none = absurd is
-shown_empty v live f ino Staging node file is none = absurd is
-shown_empty v live f ino Directory node file is none = cc
-shown_empty v live f ino File Node.Gone file is none = absurd is
-shown_empty v live f ino File Node.Directory file is none = absurd is
-shown_empty v live f ino File (Node.File x) file is none = ap (λ b. Node.File (record { bytes = b; published = 0 })) (sym none)
+no_bytes : (bytes : List ℕ) → 0 ≡ length bytes → [] ≡ bytes
+no_bytes [] is = refl
+no_bytes (b ∷ bytes) is = absurd (omega (arith, is))
+
+shown_empty : (v : Volume) (f : Words) (ino : ℕ) (kind : Kind) (node : Node) → kind ≡ File → NodeStands v [] f ino kind node → (inode v ino).size ≡ 0 → shown_node empty_file ≡ shown_node node
+shown_empty v f ino Free node file is none = absurd is
+shown_empty v f ino Staging node file is none = absurd is
+shown_empty v f ino Directory node file is none = cc
+shown_empty v f ino File Node.Gone file is none = absurd is
+shown_empty v f ino File Node.Directory file is none = absurd is
+shown_empty v f ino File (Node.File x) file is none = ap (λ b. Node.File (record { bytes = b; published = 0 })) (no_bytes x.bytes (sym none ∙ is.size))
 
 opening_there : (s : State) (p : List (List ℕ)) (c : Bool) → exists_at (space s) p ≡ true → opening s p c ≡ (if c then with_node s (number_at (space s) p) empty_file else s)
 unfolding opening
 opening_there s p c there = ap (λ b. if b then (if c then with_node s (number_at (space s) p) empty_file else s) else made_state s p empty_file) there
 
-cut_same : (s : State) (m : ℕ) (c : Bool) → shown_node empty_file ≡ shown_node (node_at s.nodes m) → SameShown s (if c then with_node s m empty_file else s)
-cut_same s m true same = record { entries = refl; count = length-set s.nodes m empty_file; nodes = λ n. shown_set s.nodes m n empty_file same; shape = refl }
+cut_same : (s : State) (m : ℕ) (c : Bool) → (c ≡ true → shown_node empty_file ≡ shown_node (node_at s.nodes m)) → SameShown s (if c then with_node s m empty_file else s)
+cut_same s m true same = record { entries = refl; count = length-set s.nodes m empty_file; nodes = λ n. shown_set s.nodes m n empty_file (same refl); shape = refl }
 cut_same s m false same = record { entries = refl; count = refl; nodes = λ n. refl; shape = refl }
 
-module _ (who : Who) (h : Handle) (p : List (List ℕ)) (f : Flags) (k : View) (t : Tables) (ino : ℕ) (found : IsFound k.volume p (Ok ino)) (file : (inode k.volume ino).kind ≡ File) where
+module _ (who : Who) (h : Handle) (p : List (List ℕ)) (f : Flags) (k : View) (t : Tables) (ino : ℕ) (found : IsFound k.volume p (Ok ino)) (file : (inode k.volume ino).kind ≡ File) (stays : f.truncate ≡ true → (inode k.volume ino).size ≡ 0) where
   same_shown : (g : Geometry) (n : ℕ) (s : State) → RunsAs g k t n s → SameShown s (opening s p f.truncate)
   same_shown g n s runs =
       let there : exists_at (space s) p ≡ true = exists_there g k t n s runs p ∙ ap is_some found.1 in
       let m = number_there g k t n s runs p ino found.1 in
       subst (SameShown s) (sym (opening_there s p f.truncate there))
-      (cut_same s (number_at (space s) p) f.truncate
-      (subst (λ i. shown_node empty_file ≡ shown_node (node_at s.nodes i)) (sym m)
-      (shown_empty k.volume (live_claims k.volume []) (journaled (words_of k.cells)) ino (inode k.volume ino).kind (node_at s.nodes (number runs.numbers ino)) file (node_stands g k t n s runs ino (ap is_used file))
-      (runs.empty (number runs.numbers ino)))))
+      (cut_same s (number_at (space s) p) f.truncate (λ cuts.
+      subst (λ i. shown_node empty_file ≡ shown_node (node_at s.nodes i)) (sym m)
+      (shown_empty k.volume (journaled (words_of k.cells)) ino (inode k.volume ino).kind (node_at s.nodes (number runs.numbers ino)) file (node_stands g k t n s runs ino (ap is_used file)) (stays cuts))))
 
   opened_shown : first (open_rows (volume_space k.volume) (is_full t) false p f) ≡ None → (g : Geometry) (n : ℕ) (s : State) → RunsAs g k t n s → SameShown s (after_call s (who, Call.Open h p f))
   unfolding open_done
@@ -259,7 +261,7 @@ module _ (who : Who) (h : Handle) (p : List (List ℕ)) (f : Flags) (k : View) (
           runs_still g k t t2 n s (after_call s (who, Call.Open h p f)) runs (keeps_setting s (who, Call.Open h p f)).shape
               (λ w world. IsWorld-same k.volume [] [] w runs.numbers s (after_call s (who, Call.Open h p f)) runs.count world
               (GoOn-call k.volume [] [] w runs.numbers s (who, Call.Open h p f) world.valid tt tt) (opened_shown none g n s runs)) tables
-              (files_opened k t t2 who h ino f t2_is runs.files file) (AreOrdered-step_of alone s who (Call.Open h p f) runs.ordered) (empty_call s who (Call.Open h p f) tt runs.empty),
+              (files_opened k t t2 who h ino f t2_is runs.files file) (AreOrdered-step_of alone s who (Call.Open h p f) runs.ordered),
           ap (λ x. x.outcome) is ∙ ap (λ i. answer (Reply.Fd i)) (next_there g k t n s runs fd free),
         )
 
@@ -295,7 +297,7 @@ module _ (who : Who) (h : Handle) (p : List (List ℕ)) (f : Flags) (k : View) (
         ∙ tables_opened (number after) t t2 s.tables who h ino (opening_number s p) f (runs.tables ∙ tables_renumbered runs.numbers t ino (length s.nodes) files.0) (renumbered-own runs.numbers ino (length s.nodes) ∙ sym m) t2_is
         in (
           runs_on g k k2 t t2 n s (after_call s (who, Call.Open h p f)) runs after (runs.count + 1) (n + 1) is.0.2 (created_step k2.volume ino is.0.0 is.0.1 g n s small runs) (omega (arith, runs.few)) tables
-              (files_opened k2 t t2 who h ino f t2_is files.1 (new_kind k2.volume ino is.0.1)) (AreOrdered-step_of alone s who (Call.Open h p f) runs.ordered) (empty_call s who (Call.Open h p f) tt runs.empty),
+              (files_opened k2 t t2 who h ino f t2_is files.1 (new_kind k2.volume ino is.0.1)) (AreOrdered-step_of alone s who (Call.Open h p f) runs.ordered),
           ap (λ x. x.outcome) step_is ∙ ap (λ i. answer (Reply.Fd i)) (next_there g k t n s runs fd free),
         )
 

@@ -1,6 +1,7 @@
 -- How `open`, `dup`, `close` and `stat` end, each answer.
-use Rattle.std.specs.Prelude.{◌≡◌, ◌&&◌, not, ℕ, Bool, true, false, List, [], ◌∷◌, Some, None, is_none, Ok, Err, refl, if◌then◌else◌}
-use Rattle.std.proofs.Common.{ap, ◌∙◌, sym, subst}
+use Rattle.std.specs.Prelude.{◌≡◌, ◌&&◌, not, nat_lt, ℕ, Bool, true, false, List, [], ◌∷◌, Some, None, is_none, Ok, Err, refl, if◌then◌else◌}
+use Rattle.std.proofs.Common.{arith, ap, ◌∙◌, sym, subst}
+use Rattle.std.proofs.lemmas.Bool.{ltb-false}
 use Rattle.pm_words.specs.Powers.{is_on, Supply}
 use Rattle.disk_lines.specs.declared.Inode.{Inode}
 use Rattle.disk_lines.specs.declared.Kind.{Kind}
@@ -110,11 +111,16 @@ module _ (who : Who) (h : Handle) (p : List (List ℕ)) (f : Flags) (k : View) (
   free_unfull : (fd : ℕ) → free_descriptor t ≡ Some fd → is_full t ≡ false
   free_unfull fd free = ap is_none free
 
-  pub open_found_done : (ino fd : ℕ) (t2 : Tables) → RunsInSome k t → IsFound k.volume p (Ok ino) → (f.create && f.exclusive) ≡ false → is_directory_in k.volume.inodes ino ≡ false → free_descriptor t ≡ Some fd
-      → t2 ≡ with_opened t who h (opening_of ino f) → IsEnded who (Call.Open h p f) k t k t2 power power (Ok (Told.Answered (answer (Reply.Fd fd))))
-  open_found_done ino fd t2 some found shared plain free t2_is =
-      opened_ended who h p f k t ino found (plain_found k t p ino some found plain) t2 fd power power
-      (there_rows ino found ∙ (λ i. first (row (shared i) Errno.EEXIST ∷ row (plain i) Errno.EISDIR ∷ row (free_unfull fd free i) Errno.EMFILE ∷ []))) free t2_is on
+  -- no row does
+  pub open_found_none : (ino : ℕ) → IsFound k.volume p (Ok ino) → (f.create && f.exclusive) ≡ false → (inode k.volume ino).kind ≡ File → is_full t ≡ false
+      → first (open_rows (volume_space k.volume) (is_full t) false p f) ≡ None
+  open_found_none ino found shared file unfull =
+      there_rows ino found ∙ (λ i. first (row (shared i) Errno.EEXIST ∷ row (is_directory (file i)) Errno.EISDIR ∷ row (unfull i) Errno.EMFILE ∷ []))
+
+  pub open_found_done : (ino fd : ℕ) (t2 : Tables) → IsFound k.volume p (Ok ino) → (f.create && f.exclusive) ≡ false → (inode k.volume ino).kind ≡ File → (f.truncate ≡ true → (inode k.volume ino).size ≡ 0)
+      → free_descriptor t ≡ Some fd → t2 ≡ with_opened t who h (opening_of ino f) → IsEnded who (Call.Open h p f) k t k t2 power power (Ok (Told.Answered (answer (Reply.Fd fd))))
+  open_found_done ino fd t2 found shared file stays free t2_is =
+      opened_ended who h p f k t ino found file stays t2 fd power power (open_found_none ino found shared file (free_unfull fd free)) free t2_is on
 
   -- the open files refuse it
   pub open_found_fault : (ino : ℕ) (t2 : Tables) (files : OpenState) (fault : OpenFault) → files.tables ≡ t → t2 ≡ t → IsFound k.volume p (Ok ino) → (f.create && f.exclusive) ≡ false → is_directory_in k.volume.inodes ino ≡ false
@@ -168,3 +174,12 @@ set_flag false is = cc
 pub clear_flag : (b : Bool) → not b ≡ true → b ≡ false
 clear_flag true is = cc
 clear_flag false is = refl
+
+-- a file that is cut, and one that is not
+pub cuts_of : (truncate : Bool) (size : ℕ) → (truncate && nat_lt 0 size) ≡ true → truncate ≡ true
+cuts_of true size is = refl
+cuts_of false size is = cc
+
+pub no_cut : (truncate : Bool) (size : ℕ) → truncate ≡ true → (truncate && nat_lt 0 size) ≡ false → size ≡ 0
+no_cut true size cuts is = let least = ltb-false 0 size is in omega (arith, least)
+no_cut false size cuts is = cc

@@ -34,7 +34,7 @@ use Rattle.world_exits.specs.Done.{goes_on, keeps_cut, keeps_off}
 use Rattle.world_exits.specs.Ends.{refused_by_row}
 use Rattle.world_exits.specs.Going.{IsNameCall, IsStep, row_of_call}
 use Rattle.split_calls.specs.Answers.{Answers, IsEnded, IsSpent, Loses, told_of}
-use Rattle.split_calls.specs.Runs.{HasNoBytes, HasNoLog, IsQuiet, RunsAs}
+use Rattle.split_calls.specs.Runs.{HasNoLog, IsQuiet, RunsAs}
 use Rattle.split_calls.proofs.NoLog.{cut_no_log, runs_no_log}
 
 -- with one node more that may have been made
@@ -48,7 +48,6 @@ runs_later g k t n s runs = record {
   tables = runs.tables;
   files = runs.files;
   ordered = runs.ordered;
-  empty = runs.empty;
   quiet = runs.quiet;
   home = runs.home;
 }
@@ -62,8 +61,8 @@ quiet_changes v w old new g changes same quiet i journal line =
 
 unfoldable pub runs_on : (g : Geometry) (k k2 : View) (t t2 : Tables) (n : ℕ) (s next : State) (runs : RunsAs g k t n s) (after : List ℕ) (later m : ℕ) → IsDone k k2
     → IsStep k.volume k2.volume [] runs.numbers after s next runs.count later → later ≤ m → next.tables ≡ numbered_as (number after) t2
-    → ((ino : ℕ) → is_open t2 ino ≡ true → (inode k2.volume ino).kind ≡ File) → AreOrdered next.entries → HasNoBytes next → RunsAs g k2 t2 m next
-runs_on g k k2 t t2 n s next runs after later m done step_is few tables files ordered empty = record {
+    → ((ino : ℕ) → is_open t2 ino ≡ true → (inode k2.volume ino).kind ≡ File) → AreOrdered next.entries → RunsAs g k2 t2 m next
+runs_on g k k2 t t2 n s next runs after later m done step_is few tables files ordered = record {
   count = later;
   few = few;
   numbers = after;
@@ -72,7 +71,6 @@ runs_on g k k2 t t2 n s next runs after later m done step_is few tables files or
   tables = tables;
   files = files;
   ordered = ordered;
-  empty = empty;
   quiet = quiet_changes k.committed k2.volume k.cells k2.cells g done.changes (ap (λ (v : Volume). v.geometry) (runs.going.order.settled runs.going.unbatched) ∙ runs.geometry) runs.quiet;
   home = λ i. done.changes.lent i ∙ runs.home i;
 }
@@ -158,8 +156,8 @@ fault_ended {T} row Makes who call k k2 t old new KFault.PowerLost stays loses i
 -- where the call changes tables and published lengths alone
 unfoldable pub runs_still : (g : Geometry) (k : View) (t t2 : Tables) (n : ℕ) (s next : State) (runs : RunsAs g k t n s) → next.shape ≡ s.shape
     → ((f : Words) → IsWorld k.volume [] [] f runs.numbers s runs.count → IsWorld k.volume [] [] f runs.numbers next runs.count)
-    → next.tables ≡ numbered_as (number runs.numbers) t2 → ((ino : ℕ) → is_open t2 ino ≡ true → (inode k.volume ino).kind ≡ File) → AreOrdered next.entries → HasNoBytes next → RunsAs g k t2 (n + 1) next
-runs_still g k t t2 n s next runs shape takes tables files ordered empty = record {
+    → next.tables ≡ numbered_as (number runs.numbers) t2 → ((ino : ℕ) → is_open t2 ino ≡ true → (inode k.volume ino).kind ≡ File) → AreOrdered next.entries → RunsAs g k t2 (n + 1) next
+runs_still g k t t2 n s next runs shape takes tables files ordered = record {
   count = runs.count;
   few = omega (arith, runs.few);
   numbers = runs.numbers;
@@ -173,7 +171,6 @@ runs_still g k t t2 n s next runs shape takes tables files ordered empty = recor
   tables = tables;
   files = files;
   ordered = ordered;
-  empty = empty;
   quiet = runs.quiet;
   home = runs.home;
 }

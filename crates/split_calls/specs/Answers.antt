@@ -1,5 +1,5 @@
 -- What a call over K-Split and the open files answers and leaves.
-use Rattle.std.specs.Prelude.{◌≡◌, ◌≢◌, ◌⊎◌, ◌<◌, ◌+◌, ◌^◌, ℕ, true, false, List, [], ◌∷◌, Some, None, Result, Ok, Err}
+use Rattle.std.specs.Prelude.{◌≡◌, ◌≢◌, ◌⊎◌, ◌<◌, ◌+◌, ◌^◌, ℕ, true, false, List, [], ◌∷◌, Some, None, Result, Ok, Err, if◌then◌else◌}
 use Rattle.pm_words.specs.Powers.{is_on, Supply}
 use Rattle.disk_places.specs.Places.{Geometry}
 use Rattle.disk_lines.specs.declared.Kind.{Kind}
@@ -22,6 +22,7 @@ use Rattle.posix_words.specs.NameRows.{too_long_row, walk_row}
 use Rattle.posix_words.specs.Names.{node_at_path}
 use Rattle.posix_words.specs.Open.{Tables}
 use Rattle.posix_words.specs.Outcomes.{answer}
+use Rattle.posix_spec.specs.Afforded.{moves_data}
 use Rattle.posix_spec.specs.Run.{after_call, run}
 use Rattle.posix_spec.specs.State.{alone, State, swept}
 use Rattle.posix_spec.specs.Step.{step}
@@ -102,3 +103,7 @@ pub record IsMissing (v : Volume) (path : List (List ℕ)) : Type 0 where
   pub short : too_long_row (volume_space v) path ≡ None
   pub walked : walk_row (volume_space v) path ≡ None
   pub none : node_at_path (volume_space v) path ≡ None
+
+-- The most steps that a call takes: 512, and 2^15 where it may move data, as an `open` that cuts.
+abbrev pub most_steps : Call → ℕ
+most_steps call = if moves_data call then 2 ^ 15 else 512

@@ -13,15 +13,10 @@ use Rattle.disk_rules.specs.Volume.{inode, volume}
 use Rattle.entry_orders.specs.Orders.{AreOrdered}
 use Rattle.k_rules.specs.View.{View}
 use Rattle.open_numbers.specs.Numbered.{numbered_as}
-use Rattle.posix_words.specs.Nodes.{bytes_of, node_at}
 use Rattle.posix_words.specs.Open.{is_open, Tables}
 use Rattle.posix_spec.specs.State.{State}
 use Rattle.world_rules.specs.Stands.{number}
 use Rattle.world_exits.specs.Going.{IsGoing}
-
--- no file of the state has bytes
-abbrev pub HasNoBytes : State → Type 0
-HasNoBytes s = (n : ℕ) → bytes_of (node_at s.nodes n) ≡ []
 
 -- No word outside the journal and the journaled lines is lent or has two candidates: all images of the device have one log.
 abbrev pub IsQuiet : Geometry → List Cell → Type 0
@@ -41,8 +36,8 @@ pub record HasNoLog (g : Geometry) (d : List Cell) : Type 0 where
 
 -- K-SPLIT AND THE OPEN FILES RUN IN THE STATE, by some numbers of its nodes: K-Split goes on in the state, with nothing in its
 -- log; the tables of the state are those of the open files, with the numbers of their inodes; and what is open is a file. At
--- most n nodes were made since the lap began. The entries of the state stand in order. No file has bytes, and no data block or
--- log line is lent or has a word of two candidates, as long as no call writes.
+-- most n nodes were made since the lap began. The entries of the state stand in order. No data block or log line is lent or has
+-- a word of two candidates, as long as no call writes.
 pub record RunsAs (g : Geometry) (k : View) (t : Tables) (n : ℕ) (s : State) : Type 0 where
   pub count : ℕ
   pub few : count ≤ n
@@ -52,7 +47,6 @@ pub record RunsAs (g : Geometry) (k : View) (t : Tables) (n : ℕ) (s : State) :
   pub tables : s.tables ≡ numbered_as (number numbers) t
   pub files : (ino : ℕ) → is_open t ino ≡ true → (inode k.volume ino).kind ≡ File
   pub ordered : AreOrdered s.entries
-  pub empty : HasNoBytes s
   pub quiet : IsQuiet g k.cells
   pub home : AllHome k.cells
 

@@ -1,7 +1,7 @@
 //! Any call that is built.
 ghost use Rattle.std.specs.Prelude.{◌≡◌, true};
 ghost use Rattle.pm_words.specs.Powers.{is_on, Steps};
-ghost use Rattle.split_calls.specs.Answers.{IsEnded};
+ghost use Rattle.split_calls.specs.Answers.{most_steps, IsEnded};
 ghost use Rattle.split_calls.specs.Built.{IsBuilt, NamesAreSpelled};
 ghost use Rattle.split_calls.specs.Runs.{RunsInSome};
 
@@ -15,7 +15,8 @@ use pm_lines::Power;
 use posix_types::{Call, Who};
 use std::alloc::Global;
 
-/// Runs a call: it takes all memory before its first step, and 512 steps at most.
+/// Runs a call: it takes all memory before its first step, and 512 steps at most; 2^15 where it may cut a
+/// file.
 pub fn run_call(
     alloc: Global,
     k: &mut KSplit,
@@ -28,7 +29,7 @@ pub fn run_call(
     requires spelled { NamesAreSpelled call.now }
     requires runs { RunsInSome k.old files.old.tables }
     requires power { is_on power.old ≡ true }
-    ensures steps { Steps 512 power.old power.new }
+    ensures steps { Steps (most_steps call.now) power.old power.new }
     ensures ended { IsEnded who call.now k.old files.old.tables k.new files.new.tables power.old
         power.new result }
 {

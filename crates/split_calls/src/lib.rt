@@ -3,7 +3,8 @@
 //! The layer above may rely on this: where K-Split and the open files run in a state (`RunsAs`), a call
 //! is done, its outcome is that of the step, and they run in its next state; or the power went, and the
 //! device keeps the promise of strict and of sync mode with the call unfinished; or memory wanted, and
-//! all is as before (`IsEnded`). One call runs at a time, and none of them writes bytes yet.
+//! all is as before (`IsEnded`). Files may have bytes: an `open` with `t` cuts them. One call runs at a time,
+//! and none of them writes bytes yet.
 //!
 //! Stands on `k_split`, whose answers `world_exits` turns into steps of the World; on `open_files`, whose
 //! inodes `open_numbers` sets beside the numbers of nodes; and on `entry_orders`, by which the sorted names

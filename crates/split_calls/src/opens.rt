@@ -1,12 +1,14 @@
 //! The calls on descriptors.
-ghost use Rattle.std.specs.Prelude.{◌≡◌, ◌&&◌, true, false, Ok};
+ghost use Rattle.std.specs.Prelude.{◌≡◌, ◌&&◌, ◌^◌, nat_lt, true, false, Ok};
 ghost use Rattle.path_spelling.specs.Spelling.{AreSpelled};
 ghost use Rattle.pm_words.specs.Powers.{is_on, Steps, Supply};
+ghost use Rattle.disk_lines.specs.declared.Kind.TheVariants.{File};
+ghost use Rattle.disk_rules.specs.Volume.{inode};
 ghost use Rattle.k_rules.specs.Spaces.{is_directory_in};
 ghost use Rattle.k_rules.specs.View.{View};
 ghost use Rattle.k_split.specs.Looks.{IsFound};
 ghost use Rattle.posix_types.specs.declared.call.Call.{Call};
-ghost use Rattle.split_calls.specs.Answers.{told_of_open, IsEnded, IsMissing};
+ghost use Rattle.split_calls.specs.Answers.{most_steps, told_of_open, IsEnded, IsMissing};
 ghost use Rattle.split_calls.specs.Runs.{RunsInSome};
 
 use crate::outcomes::{NoMemory, Told, after_fault, answered};
@@ -49,8 +51,19 @@ fn is_exclusive(flags: Flags) -> bool
     flags.create && flags.exclusive
 }
 
-// Opens what stands at a path.
-fn open_found(
+// Whether an `open` cuts a file that has bytes.
+fn is_cut(k: &KSplit, ino: u32, flags: Flags) -> bool
+    requires { (inode k.now.volume ino).kind ≡ File }
+    ensures { result ≡ (flags.truncate && nat_lt 0 (inode k.now.volume ino).size) }
+{
+    match k.node(ino) {
+        Some(inode) => flags.truncate && 0 < inode.size,
+        None => unreachable!(),
+    }
+}
+
+// Opens a file that is there and is not cut, or has nothing to cut.
+fn open_there(
     k: &KSplit,
     files: &mut OpenFiles,
     who: Who,
@@ -60,22 +73,88 @@ fn open_found(
     flags: Flags,
 ) -> Result<Told, NoMemory>
     requires found { IsFound k.now.volume path.now (Ok ino) }
-    requires runs { RunsInSome k.now files.old.tables }
+    requires file { (inode k.now.volume ino).kind ≡ File }
+    requires shared { (flags.create && flags.exclusive) ≡ false }
+    requires stays { flags.truncate ≡ true → (inode k.now.volume ino).size ≡ 0 }
     ensures { (power : Supply) → is_on power ≡ true
         → IsEnded who (Call.Open handle path.now flags) k.now files.old.tables k.now
         files.new.tables power power result }
 {
+    let _k = k;
     let _path = path;
+    match files.open(who, handle, ino, flags) {
+        Ok(descriptor) => Ok(answered(Reply::Fd(descriptor))),
+        Err(fault) => after_open_fault(fault),
+    }
+}
+
+// Cuts a file to nothing and opens it. It takes all memory before the first step.
+fn open_cut(
+    alloc: Global,
+    k: &mut KSplit,
+    files: &mut OpenFiles,
+    who: Who,
+    handle: Handle,
+    path: &Path,
+    ino: u32,
+    flags: Flags,
+    power: &mut Power,
+) -> Result<Told, NoMemory>
+    requires found { IsFound k.old.volume path.now (Ok ino) }
+    requires runs { RunsInSome k.old files.old.tables }
+    requires file { (inode k.old.volume ino).kind ≡ File }
+    requires shared { (flags.create && flags.exclusive) ≡ false }
+    requires cuts { flags.truncate ≡ true }
+    requires power { is_on power.old ≡ true }
+    ensures steps { Steps (2 ^ 15) power.old power.new }
+    ensures ended { IsEnded who (Call.Open handle path.now flags) k.old files.old.tables k.new
+        files.new.tables power.old power.new result }
+{
+    let _path = path;
+    if files.is_full() {
+        return Ok(answered(Reply::Error(Errno::EMFILE)));
+    }
+    let Ok(()) = files.reserve() else {
+        return Err(NoMemory {});
+    };
+    match k.set_size(alloc, ino, 0, power) {
+        Ok(()) => match files.open(who, handle, ino, flags) {
+            Ok(descriptor) => Ok(answered(Reply::Fd(descriptor))),
+            Err(_) => unreachable!(),
+        },
+        Err(fault) => after_fault(fault),
+    }
+}
+
+// Opens what stands at a path.
+fn open_found(
+    alloc: Global,
+    k: &mut KSplit,
+    files: &mut OpenFiles,
+    who: Who,
+    handle: Handle,
+    path: &Path,
+    ino: u32,
+    flags: Flags,
+    power: &mut Power,
+) -> Result<Told, NoMemory>
+    requires found { IsFound k.old.volume path.now (Ok ino) }
+    requires runs { RunsInSome k.old files.old.tables }
+    requires power { is_on power.old ≡ true }
+    ensures steps { Steps (most_steps (Call.Open handle path.now flags)) power.old power.new }
+    ensures ended { IsEnded who (Call.Open handle path.now flags) k.old files.old.tables k.new
+        files.new.tables power.old power.new result }
+{
     if is_exclusive(flags) {
         return Ok(answered(Reply::Error(Errno::EEXIST)));
     }
     if is_directory(k, ino) {
         return Ok(answered(Reply::Error(Errno::EISDIR)));
     }
-    match files.open(who, handle, ino, flags) {
-        Ok(descriptor) => Ok(answered(Reply::Fd(descriptor))),
-        Err(fault) => after_open_fault(fault),
+    if is_cut(k, ino, flags) {
+        return open_cut(alloc, k, files, who, handle, path, ino, flags, power);
     }
+    open_there(k, files, who, handle, path, ino, flags)
 }
 
 // Makes the missing file, where the flags say so, and opens it. It takes memory for the tables
@@ -115,7 +194,7 @@ fn open_missing(
 }
 
 /// Opens a file at a path. It is made where it is missing and the flags say so; a file that is there
-/// has no bytes, so that there is nothing to cut. The path is spelled.
+/// and has bytes is cut to nothing where they say so. The path is spelled.
 pub fn open(
     alloc: Global,
     k: &mut KSplit,
@@ -129,12 +208,12 @@ pub fn open(
     requires spelled { AreSpelled path.now }
     requires runs { RunsInSome k.old files.old.tables }
     requires power { is_on power.old ≡ true }
-    ensures steps { Steps 256 power.old power.new }
+    ensures steps { Steps (most_steps (Call.Open handle path.now flags)) power.old power.new }
     ensures ended { IsEnded who (Call.Open handle path.now flags) k.old files.old.tables k.new
         files.new.tables power.old power.new result }
 {
     match k.find(path) {
-        Ok(ino) => open_found(k, files, who, handle, path, ino, flags),
+        Ok(ino) => open_found(alloc, k, files, who, handle, path, ino, flags, power),
         Err(_) => match k.directory_of(path) {
             Err(errno) => Ok(answered(Reply::Error(errno))),
             Ok(_) => open_missing(alloc, k, files, who, handle, path, flags, power),

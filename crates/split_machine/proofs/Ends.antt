@@ -1,5 +1,5 @@
 -- How a run ends.
-use Rattle.std.specs.Prelude.{◌≡◌, ◌≤◌, ◌+◌, ◌*◌, ℕ, zero, suc, Bool, true, false, cond, List, [], ◌∷◌, length, sum_by, Option, None, Some, slice_get, slice_index_or, ◌==◌, refl}
+use Rattle.std.specs.Prelude.{◌≡◌, ◌≤◌, ◌+◌, ℕ, zero, suc, Bool, true, false, cond, List, [], ◌∷◌, length, sum_by, Option, None, Some, slice_get, slice_index_or, ◌==◌, refl}
 use Rattle.std.proofs.Common.{arith, ap, ◌∙◌, sym, subst, inl, inr}
 use Rattle.std.proofs.lemmas.List.Elements.{All-nil}
 use Rattle.std.proofs.lemmas.List.Sums.{sum_by-cons}
@@ -20,9 +20,11 @@ use Rattle.split_calls.specs.Runs.{HasNoLog}
 use Rattle.split_world.specs.Counts.{made_within}
 use Rattle.split_world.specs.Views.{begun_of, IsEndedBy, IsLeft, unfinished_of, WorldView}
 use Rattle.split_world.specs.declared.outcomes.Ended.{Ended}
+use Rattle.split_world.specs.declared.outcomes.Unfinished.{Unfinished}
 use Rattle.split_machine.specs.Changes.{ChangesAtMost}
 use Rattle.split_machine.specs.Paid.{HasRun, IsPaid, IsSame, IsScriptRun}
 use Rattle.split_machine.specs.Runs.{IsFirst, IsRan, IsRunEnded}
+use Rattle.split_machine.specs.Steps.{steps_of_begun, steps_of_items}
 use Rattle.split_machine.proofs.Histories.{weaker}
 
 -- ---- counts
@@ -81,9 +83,9 @@ next_open scripts history who set_up = by (next_call scripts history who) refl w
       AreUnfinished-begun scripts history [] (who, call) (AreUnfinished-none scripts history) (record { call = is; set_up = set_up }) (All-nil (λ other. HaveTwoCallers other (who, call)))
 
 -- nothing is taken yet
-pub nothing_paid : (w : WorldView) (before : Supply) → w.history ≡ [] → IsPaid before before w 0
+pub nothing_paid : (w : WorldView) (before : Supply) → w.history ≡ [] → IsPaid before before w []
 nothing_paid w before none = record {
-  steps = subst (λ n. Steps n before before) (sym (ap (λ h. 512 * (length h + 0)) none)) (Steps-none before);
+  steps = subst (λ n. Steps n before before) (sym (ap (λ h. steps_of_items h + steps_of_begun []) none)) (Steps-none before);
   kept = λ given some. (0, omega arith, omega arith, subst (λ h. ChangesAtMost w.start h 0) (sym none) tt);
 }
 
@@ -118,28 +120,31 @@ set_up_lost w v before after first set_up = (
 
 -- ---- the end
 
-ran : (w v : WorldView) (before after : Supply) (pm : List Cell) (history : List Item) (unfinished : List Begun) (more : ℕ) → IsSame w v → IsLeft v pm history unfinished → IsPaid before after v more → more ≤ 1
+ran : (w v : WorldView) (before after : Supply) (pm : List Cell) (history : List Item) (unfinished : List Begun) → IsSame w v → IsLeft v pm history unfinished → IsPaid before after v unfinished → length unfinished ≤ 1
     → AreUnfinished v.scripts v.history unfinished → IsRan w before after pm history unfinished
-ran w v before after pm history unfinished more same left paid few open_calls = record {
+ran w v before after pm history unfinished same left paid few open_calls = record {
   legal = subst (λ s. IsLegal s history) same.start left.legal;
   scripted = subst (λ s. Scripted s history) same.scripts left.scripted;
   open_calls = subst (λ s. AreUnfinished s history unfinished) same.scripts (subst (λ h. AreUnfinished v.scripts h unfinished) (sym left.history_is) open_calls);
   promise = subst (λ g. KeepsPromise g pm w.start history unfinished) same.geometry (subst (λ s. KeepsPromise v.geometry pm s history unfinished) same.start left.promise);
   no_log = subst (λ g. HasNoLog g pm) same.geometry left.no_log;
-  steps = steps_weaker (512 * (length v.history + more)) (512 * (length history + 1)) before after (omega (arith, few, ap length left.history_is)) paid.steps;
+  one = few;
+  steps = subst (λ h. Steps (steps_of_items h + steps_of_begun unfinished) before after) (sym left.history_is) paid.steps;
   kept = λ given some. (
       let kept = paid.kept given some in
       weaker w.start history kept.0 given (subst (λ s. ChangesAtMost s history kept.0) same.start (subst (λ h. ChangesAtMost v.start h kept.0) (sym left.history_is) kept.3)) kept.2);
-} where
-  steps_weaker : (a b : ℕ) (p q : Supply) → a ≤ b → Steps a p q → Steps b p q
-  steps_weaker a b p q least steps = record { given = steps.given; on_before = steps.on_before; later = steps.later; bound = omega (arith, least, steps.bound) }
+}
+
+one_at_most : (o : Option Unfinished) → length (unfinished_of o) ≤ 1
+one_at_most None = omega arith
+one_at_most (Some u) = omega arith
 
 never : {X : Type 0} (b : Bool) → b ≡ true → b ≡ false → X
 never b yes_it no_it = let both : true ≡ false = sym yes_it ∙ no_it in cc
 
 pub ended : (w v : WorldView) (before after : Supply) (all : Bool) (e : Ended) → IsFirst w → HasRun w v before after all → IsEndedBy v after e → IsRunEnded w before after e
 ended w v before after true (Ended.Whole pm history) first has is = (
-  ran w v before after pm history.items [] 0 has.0 is.2 has.6 (omega arith) (AreUnfinished-none v.scripts v.history),
+  ran w v before after pm history.items [] has.0 is.2 has.6 (omega arith) (AreUnfinished-none v.scripts v.history),
   subst (λ s. IsComplete s history.items) has.0.scripts
       (subst (λ h. IsComplete v.scripts h) (sym is.2.history_is)
       (all_calls v.scripts v.history (subst (λ s. length s.threads ≤ 1) (sym has.0.scripts) first.one) (subst (λ h. length h ≤ call_count v.scripts) is.2.history_is is.2.within) has.3 has.4)),
@@ -151,7 +156,7 @@ ended w v before after true (Ended.Lost crashed) first has is = elim is.0 [
   | inr off ↦ never (is_on after) has.5 off
 ]
 ended w v before after false (Ended.Lost crashed) first has is = (
-  ran w v before after crashed.pm crashed.history.items (unfinished_of crashed.unfinished) 1 has.0 is.1 has.4 (omega arith)
+  ran w v before after crashed.pm crashed.history.items (unfinished_of crashed.unfinished) has.0 is.1 (subst (IsPaid before after v) (sym is.1.unfinished_is) has.4) (one_at_most crashed.unfinished)
       (subst (λ cs. AreUnfinished v.scripts v.history cs) (sym (is.1.unfinished_is ∙ has.2.2)) (next_open v.scripts v.history has.2.0 has.2.1)),
   has.3,
 )

@@ -1,23 +1,27 @@
 -- A history with one more call, and what it took.
-use Rattle.std.specs.Prelude.{◌≡◌, ◌⊎◌, ◌<◌, ◌≤◌, ◌+◌, ◌-◌, ◌*◌, ℕ, true, false, cond, nat_lt, List, [], ◌∷◌, ◌++◌, length, None, Some, refl}
+use Rattle.std.specs.Prelude.{◌≡◌, ◌⊎◌, ◌<◌, ◌≤◌, ◌+◌, ◌-◌, ◌*◌, ℕ, true, false, cond, nat_lt, List, [], ◌∷◌, ◌++◌, length, Option, None, Some, refl}
 use Rattle.std.proofs.Common.{arith, ap, ◌∙◌, sym, subst, length-append, inl, inr}
 use Rattle.std.proofs.lemmas.List.{append-nil}
 use Rattle.std.proofs.lemmas.List.Elements.{filter-append}
+use Rattle.std.proofs.lemmas.List.Sums.{sum_by-append, sum_by-cons}
 use Rattle.std.proofs.lemmas.Option.{slice_get_within}
 use Rattle.pm_words.specs.PowerLaws.{Steps-then}
 use Rattle.pm_words.specs.Powers.{is_left, is_on, Steps, Supply}
+use Rattle.posix_types.specs.declared.call.Call.{Call}
 use Rattle.posix_types.specs.declared.call.Who.{Who}
 use Rattle.posix_types.specs.declared.item.Item.{Item}
 use Rattle.posix_types.specs.Scripts.{Scripts}
 use Rattle.posix_words.specs.Open.{same_who}
 use Rattle.k_journal.specs.Commits.{TakesAStep}
-use Rattle.posix_spec.specs.Run.{after_call, run}
+use Rattle.posix_spec.specs.Run.{after_call, Begun, run}
 use Rattle.posix_spec.specs.Scripted.{IsSetUp, items_of, next_call, script_of}
 use Rattle.posix_spec.specs.State.{State}
-use Rattle.split_world.specs.Views.{IsDone, item_of, next_begun, WorldView}
+use Rattle.split_calls.specs.Answers.{most_steps}
+use Rattle.split_world.specs.Views.{begun_of, IsDone, item_of, next_begun, steps_of_next, WorldView}
 use Rattle.split_machine.specs.Changes.{after_item, ChangesAtMost}
 use Rattle.split_machine.specs.Laws.{NoneChanges}
 use Rattle.split_machine.specs.Paid.{IsLater, IsPaid, IsScriptRun}
+use Rattle.split_machine.specs.Steps.{steps_of_begun, steps_of_items}
 
 -- ---- changes of names
 
@@ -74,7 +78,7 @@ pub record Runs (who : Who) (old w : WorldView) (before now : Supply) : Type 0 w
   pub on : w.lost ≡ false
   pub unfinished : w.unfinished ≡ old.unfinished
   pub set_up : IsSetUp w.scripts w.history who
-  pub paid : (first : Supply) → IsPaid first before old 0 → IsPaid first now w 0
+  pub paid : (first : Supply) → IsPaid first before old [] → IsPaid first now w []
 
 pub begun : (who : Who) (w : WorldView) (before : Supply) → w.lost ≡ false → IsSetUp w.scripts w.history who → Runs who w w before before
 begun who w before on set_up = record {
@@ -122,7 +126,18 @@ module _ (who : Who) (w v : WorldView) (now after : Supply) (is : IsDone who w v
   most : (n : ℕ) → ChangesAtMost w.start (w.history ++ item ∷ []) n → ChangesAtMost v.start v.history n
   most n few = subst (λ s. ChangesAtMost s v.history n) (sym start_is) (subst (λ h. ChangesAtMost w.start h n) (sym history_is) few)
 
-  kept_on : (first : Supply) (given : ℕ) → first.given ≡ Some given → IsPaid first now w 0 → Steps 512 now after
+  -- the steps of one call more
+  steps_are : steps_of_items v.history + steps_of_begun [] ≡ steps_of_items w.history + steps_of_begun [] + most_steps is.call
+  unfolding item
+  steps_are =
+      omega (
+        arith,
+        ap steps_of_items history_is,
+        sum_by-append (λ (i : Item). most_steps i.call) w.history (item ∷ []),
+        sum_by-cons (λ (i : Item). most_steps i.call) item [],
+      )
+
+  kept_on : (first : Supply) (given : ℕ) → first.given ≡ Some given → IsPaid first now w [] → Steps (most_steps is.call) now after
       → (n : ℕ) × (n + first.taken ≤ after.taken) × (n ≤ given) × ChangesAtMost v.start v.history n
   kept_on first given some paid steps = by is.spent where
     old : (n : ℕ) × (n + first.taken ≤ now.taken) × (n ≤ given) × ChangesAtMost w.start w.history n
@@ -137,14 +152,14 @@ module _ (who : Who) (w v : WorldView) (now after : Supply) (is : IsDone who w v
         let below = on_below given after (steps.given ∙ given_now) is.on in
         (old.0 + 1, omega (arith, old.1, more), omega (arith, old.1, more, below), most (old.0 + 1) (one_change w.start w.history item old.0 old.3))
 
-  paid_on : (first : Supply) → IsPaid first now w 0 → Steps 512 now after → IsPaid first after v 0
+  paid_on : (first : Supply) → IsPaid first now w [] → Steps (most_steps is.call) now after → IsPaid first after v []
   paid_on first paid steps = record {
-    steps = subst (λ n. Steps n first after) (omega (arith, count_is)) (Steps-then (512 * (length w.history + 0)) 512 first now after paid.steps steps);
+    steps = subst (λ n. Steps n first after) (sym steps_are) (Steps-then (steps_of_items w.history + steps_of_begun []) (most_steps is.call) first now after paid.steps steps);
     kept = λ given some. kept_on first given some paid steps;
   }
 
   -- A CALL IS DONE, and the loop goes on.
-  pub goes_on : (old : WorldView) (before : Supply) → Steps 512 now after → Runs who old w before now → Runs who old v before after
+  pub goes_on : (old : WorldView) (before : Supply) → Steps (steps_of_next (next_call w.scripts w.history who)) now after → Runs who old w before now → Runs who old v before after
   goes_on old before steps runs = record {
     later = record {
       geometry = ap (λ (x : WorldView). x.geometry) is.done ∙ runs.later.geometry;
@@ -155,7 +170,7 @@ module _ (who : Who) (w v : WorldView) (now after : Supply) (is : IsDone who w v
     on = ap (λ (x : WorldView). x.lost) is.done ∙ runs.on;
     unfinished = ap (λ (x : WorldView). x.unfinished) is.done ∙ runs.unfinished;
     set_up = subst (λ s. IsSetUp s v.history who) (sym scripts_are) (subst (λ h. IsSetUp w.scripts h who) (sym history_is) (set_up_more w.scripts w.history item who own runs.set_up));
-    paid = λ first is_paid. paid_on first (runs.paid first is_paid) steps;
+    paid = λ first is_paid. paid_on first (runs.paid first is_paid) (subst (λ o. Steps (steps_of_next o) now after) is.next steps);
   }
 
 -- ALL CALLS RETURNED.
@@ -165,8 +180,13 @@ all_done who old w v before now after runs none same spared on =
     subst (λ x. IsScriptRun who old x before after true) (sym same)
     (subst (λ p. IsScriptRun who old w before p true) (sym spared) (runs.later, runs.on, runs.unfinished, none, ap is_on (sym spared) ∙ on, runs.paid))
 
+-- the steps of the next call, unfinished
+steps_of_begun_of : (who : Who) (o : Option Call) → steps_of_begun (begun_of who o) ≡ steps_of_next o
+steps_of_begun_of who None = refl
+steps_of_begun_of who (Some call) = sum_by-cons (λ (c : Begun). most_steps c.1) (who, call) [] ∙ omega arith
+
 -- THE POWER WENT.
-pub cut_off : (who : Who) (old w v : WorldView) (before now after : Supply) → Runs who old w before now → v ≡ record w { unfinished = next_begun w who; cells = v.cells; lost = true } → Steps 512 now after → is_on after ≡ false
+pub cut_off : (who : Who) (old w v : WorldView) (before now after : Supply) → Runs who old w before now → v ≡ record w { unfinished = next_begun w who; cells = v.cells; lost = true } → Steps (steps_of_next (next_call w.scripts w.history who)) now after → is_on after ≡ false
     → IsScriptRun who old v before after false
 cut_off who old w v before now after runs lost steps off =
     let scripts = ap (λ (x : WorldView). x.scripts) lost in
@@ -185,7 +205,10 @@ cut_off who old w v before now after runs lost steps off =
       λ first is_paid. (
           let paid = runs.paid first is_paid in
           record {
-            steps = subst (λ n. Steps n first after) (omega (arith, ap length history)) (Steps-then (512 * (length w.history + 0)) 512 first now after paid.steps steps);
+            steps =
+                subst (λ n. Steps n first after)
+                (omega (arith, ap steps_of_items history, ap steps_of_begun (ap (λ (x : WorldView). x.unfinished) lost), steps_of_begun_of who (next_call w.scripts w.history who)))
+                (Steps-then (steps_of_items w.history + steps_of_begun []) (steps_of_next (next_call w.scripts w.history who)) first now after paid.steps steps);
             kept = λ given some. (
                 let kept = paid.kept given some in
                 (kept.0, omega (arith, kept.1, steps.later), kept.2, subst (λ s. ChangesAtMost s v.history kept.0) (sym start) (subst (λ h. ChangesAtMost w.start h kept.0) (sym history) kept.3)));

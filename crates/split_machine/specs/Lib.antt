@@ -2,3 +2,4 @@ pub mod Changes
 pub mod Laws
 pub mod Paid
 pub mod Runs
+pub mod Steps

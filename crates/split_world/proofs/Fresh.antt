@@ -1,5 +1,5 @@
 -- A fresh device is mounted.
-use Rattle.std.specs.Prelude.{◌≡◌, ◌+◌, ◌*◌, ℕ, true, false, List, [], ◌∷◌, Some, None}
+use Rattle.std.specs.Prelude.{◌≡◌, ◌+◌, ◌*◌, ℕ, true, false, None}
 use Rattle.std.proofs.Common.{arith, ap, ◌∙◌, sym, subst}
 use Rattle.pm_words.specs.Images.{words_of}
 use Rattle.disk_places.specs.Journal.{journaled}
@@ -8,22 +8,17 @@ use Rattle.disk_lines.specs.declared.Inode.{Inode}
 use Rattle.disk_lines.specs.Entries.{decode_entry}
 use Rattle.disk_lines.specs.Fresh.{fresh}
 use Rattle.disk_rules.specs.Checked.{IsCheckedAs}
-use Rattle.disk_rules.specs.Content.{content, HasBytes}
-use Rattle.disk_rules.specs.FreshVolume.{fresh_volume, root_alone}
+use Rattle.disk_rules.specs.FreshVolume.{fresh_volume}
 use Rattle.disk_rules.specs.Live.{entry_in, is_file}
 use Rattle.disk_rules.specs.Rules.{geometry_of}
 use Rattle.disk_rules.specs.Volume.{inode, volume, Volume}
 use Rattle.volume_facts.specs.ReadingLaws.{reads-volume}
-use Rattle.image_facts.specs.FreshLaws.{content-fresh, fresh-checked_as, fresh-reads, inode-fresh, no_file, unset-log, zeros-no_entry}
+use Rattle.image_facts.specs.FreshLaws.{fresh-checked_as, fresh-reads, inode-fresh, no_file, unset-log, zeros-no_entry}
 use Rattle.image_facts.specs.FreshLines.{fresh-zeros, geometry_of-fresh, journaled-fresh}
 use Rattle.split_world.specs.Starts.{FreshIsMounted}
 
 no_entry : (g : Geometry) (s : ℕ) → IsGeometry g → entry_in (fresh_volume g) (fresh g) s ≡ None
 no_entry g s ok = ap (λ bytes. decode_entry bytes (1 + s)) (fresh-zeros g (log_line g s) (unset-log g s ok)) ∙ zeros-no_entry (1 + s)
-
-no_bytes : (path : List (List ℕ)) (bytes : List ℕ) → root_alone path ≡ Some (HasBytes bytes) → bytes ≡ []
-no_bytes [] bytes is = cc
-no_bytes (name ∷ names) bytes is = cc
 
 pub fresh_is_mounted : FreshIsMounted
 fresh_is_mounted g k ok single words volume_is = record {
@@ -36,9 +31,6 @@ fresh_is_mounted g k ok single words volume_is = record {
       cc);
   no_entry = λ slot below.
       ap (λ v. entry_in v (journaled (words_of k.cells)) slot) same ∙ ap (λ f. entry_in (fresh_volume g) (journaled f) slot) words ∙ ap (λ f. entry_in (fresh_volume g) f slot) (journaled-fresh g) ∙ no_entry g slot ok;
-  no_bytes = λ path bytes is.
-      no_bytes path bytes
-      (sym (ap (λ (v : Volume). content v.geometry (words_of k.cells) path) same ∙ ap (λ f. content g f path) words ∙ ap (λ c. c path) (content-fresh g ok)) ∙ is);
 } where
   same : k.volume ≡ fresh_volume g
   same = volume_is ∙ ap (λ f. volume g (journaled f)) words ∙ ap (volume g) (journaled-fresh g) ∙ reads-volume g (fresh g) (fresh_volume g) (fresh-reads g ok)

@@ -1,3 +1,4 @@
 mod Begins
 mod Fresh
 mod Starting
+mod Remounted

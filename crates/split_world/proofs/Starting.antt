@@ -39,7 +39,7 @@ use Rattle.world_beginning.specs.Laws.{IsShapeOf}
 use Rattle.world_exits.specs.Steps.{valid_now}
 use Rattle.world_images.specs.Images.{IsRunning}
 use Rattle.world_images.specs.Starts.{begins_running, has_setting}
-use Rattle.split_calls.specs.Runs.{HasNoBytes, RunsAs}
+use Rattle.split_calls.specs.Runs.{RunsAs}
 use Rattle.split_calls.proofs.NoLog.{none_live}
 use Rattle.split_world.specs.Views.{IsWorldOver}
 use Rattle.posix_words.specs.Open.{is_open}
@@ -73,7 +73,7 @@ shown_tree c t is = record {
   all = λ path node there. is.all path node (ap (option_map tree_node) there ∙ ap (λ n. Some n) (node_back node));
 }
 
--- the state that a tree begins as has nothing open, and no bytes where the tree has none
+-- the state that a tree begins as has nothing open
 planted_tables : (s : State) (e : TreeEntry) → (planted s e).tables ≡ s.tables
 unfolding made
 planted_tables s e = by (is_root e.path) where
@@ -84,33 +84,6 @@ planted_tables s e = by (is_root e.path) where
 fold_tables : (s : State) (es : List TreeEntry) → (fold planted s es).tables ≡ s.tables
 fold_tables s [] = refl
 fold_tables s (e ∷ es) = fold_tables (planted s e) es ∙ planted_tables s e
-
-empty_more : (xs : List model.Node) (x : model.Node) → bytes_of x ≡ [] → ((n : ℕ) → bytes_of (node_at xs n) ≡ []) → (m : ℕ) → bytes_of (node_at (xs ++ x ∷ []) m) ≡ []
-empty_more [] x none all zero = none
-empty_more [] x none all (suc m) = refl
-empty_more (y ∷ ys) x none all zero = all zero
-empty_more (y ∷ ys) x none all (suc m) = empty_more ys x none (λ k. all (suc k)) m
-
-planted_empty : (s : State) (e : TreeEntry) → bytes_of (node_of e.node) ≡ [] → HasNoBytes s → HasNoBytes (planted s e)
-unfolding made
-planted_empty s e none all = by (is_root e.path) where
-  by : (b : Bool) → HasNoBytes (cond b s (made s e.path (node_of e.node)))
-  by true = all
-  by false = empty_more s.nodes (node_of e.node) none all
-
-fold_empty : (s : State) (es : List TreeEntry) → ((e : TreeEntry) → In e es → bytes_of (node_of e.node) ≡ []) → HasNoBytes s → HasNoBytes (fold planted s es)
-fold_empty s [] none all = all
-fold_empty s (e ∷ es) none all = fold_empty (planted s e) es (λ x is. none x (inr is)) (planted_empty s e (none e (inl refl)) all)
-
-bare_empty : (shape : Shape) (mode : Mode) → HasNoBytes (bare shape mode)
-bare_empty shape mode zero = refl
-bare_empty shape mode (suc n) = refl
-
-entry_empty : (c : List (List ℕ) → Option Node) (t : List TreeEntry) → IsTreeOfContent c t → ((path : List (List ℕ)) (bytes : List ℕ) → c path ≡ Some (HasBytes bytes) → bytes ≡ []) → (e : TreeEntry) → In e t → bytes_of (node_of e.node) ≡ []
-entry_empty c t is none e there = by e.node (is.each e there) where
-  by : (node : TreeNode) → c e.path ≡ Some (shown_as node) → bytes_of (node_of node) ≡ []
-  by TreeNode.Directory stands = refl
-  by (TreeNode.File bytes) stands = none e.path bytes stands
 
 -- THE WORLD BEGINS.
 pub world_begins : (k : View) (t : List TreeEntry) (shape : Shape) (scripts : Scripts) → k.lost ≡ false → k.batched ≡ false → IsInOrder k → IsMountedOver k → AreInLimits scripts → IsShapeOf k.volume.geometry shape
@@ -142,7 +115,6 @@ world_begins k t shape scripts on unbatched order mounted limits shape_is tree_i
     ordered = (distinct, start-rising t shape Mode.Strict distinct);
     quiet = λ i journal line. mounted.single i;
     home = λ i. single-home (cell k.cells i) (mounted.single i);
-    empty = fold_empty (bare shape Mode.Strict) t (entry_empty (content k.volume.geometry (words_of k.cells)) t tree_is mounted.no_bytes) (bare_empty shape Mode.Strict);
   } where
     none_open : (ino : ℕ) → is_open nothing_open ino ≡ true → (inode k.volume ino).kind ≡ File
     none_open ino there = cc

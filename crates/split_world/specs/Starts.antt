@@ -2,15 +2,17 @@
 use Rattle.std.specs.Prelude.{◌≡◌, ◌≤◌, ◌*◌, ℕ, false, List, [], length, Some}
 use Rattle.pm_words.specs.Cells.{AllSingle}
 use Rattle.pm_words.specs.Images.{words_of}
+use Rattle.pm_words.specs.Words.{Words}
 use Rattle.disk_places.specs.Journal.{journaled}
 use Rattle.disk_lines.specs.declared.Kind.TheVariants.{File}
 use Rattle.disk_lines.specs.Fresh.{fresh}
 use Rattle.disk_lines.specs.Names.{names_of}
 use Rattle.disk_places.specs.Places.{Geometry, IsGeometry}
 use Rattle.disk_rules.specs.Checked.{IsCheckedAs}
-use Rattle.disk_rules.specs.Content.{content, HasBytes}
+use Rattle.disk_rules.specs.Content.{content}
 use Rattle.disk_rules.specs.Rules.{geometry_of}
 use Rattle.disk_rules.specs.Volume.{inode, volume}
+use Rattle.k_mount.specs.Sheds.{IsRemounted}
 use Rattle.k_rules.specs.View.{View}
 use Rattle.posix_types.specs.declared.call.Mode.{Mode}
 use Rattle.posix_types.specs.declared.reply.Shape.{Shape}
@@ -23,15 +25,14 @@ use Rattle.world_beginning.specs.Laws.{IsShapeOf}
 use Rattle.world_images.specs.Images.{HasNoEntry}
 use Rattle.split_world.specs.Views.{AreBuilt, WorldView}
 
--- A device is mounted: nothing of it is lent or out, its image is checked, each file has a name and no bytes, and no line of
--- the log is an entry.
+-- A device is mounted: nothing of it is lent or out, its image is checked, each file has a name, and no line of the log is an
+-- entry. Files may have bytes.
 pub record IsMountedOver (k : View) : Type 0 where
   pub single : AllSingle k.cells
   pub checked : IsCheckedAs (4096 * k.volume.geometry.blocks) (words_of k.cells) k.volume
   pub geometry : geometry_of (words_of k.cells) ≡ k.volume.geometry
   pub named : (ino : ℕ) → (inode k.volume ino).kind ≡ File → 1 ≤ names_of k.volume.names ino
   pub no_entry : HasNoEntry k.volume (journaled (words_of k.cells))
-  pub no_bytes : (path : List (List ℕ)) (bytes : List ℕ) → content k.volume.geometry (words_of k.cells) path ≡ Some (HasBytes bytes) → bytes ≡ []
 
 -- The scripts have calls that are built, 4,096 of them at most, and at most 8 threads.
 pub record AreInLimits (scripts : Scripts) : Type 0 where
@@ -52,3 +53,13 @@ abbrev pub FreshIsMounted : Type 0
 FreshIsMounted =
     (g : Geometry) (k : View) → IsGeometry g → AllSingle k.cells → words_of k.cells ≡ fresh g → k.volume ≡ volume g (journaled (words_of k.cells))
     → IsMountedOver k
+
+-- So is one that was opened again;
+abbrev pub RemountedIsMounted : Type 0
+RemountedIsMounted = (g : Geometry) (image : Words) (k : View) (tree : List TreeEntry) → IsRemounted g image k tree → IsMountedOver k
+
+-- and a tree of it, as that which a World begins with, is one of the content of the image that was opened.
+abbrev pub RemountedShowsImage : Type 0
+RemountedShowsImage =
+    (g : Geometry) (image : Words) (k : View) (tree begun : List TreeEntry) → IsRemounted g image k tree
+    → IsTreeOfContent (content k.volume.geometry (words_of k.cells)) begun → IsTreeOfContent (content g image) begun

@@ -17,6 +17,7 @@ use Rattle.posix_spec.specs.Scripted.{call_count, items_of, next_call, script_of
 use Rattle.posix_spec.specs.State.{State}
 use Rattle.posix_spec.specs.Step.{step}
 use Rattle.world_images.specs.Promised.{KeepsPromise}
+use Rattle.split_calls.specs.Answers.{most_steps}
 use Rattle.split_calls.specs.Built.{IsBuilt, NamesAreSpelled}
 use Rattle.split_calls.specs.Runs.{HasNoLog, RunsAs}
 use Rattle.split_calls.specs.declared.outcomes.NoMemory.{NoMemory}
@@ -63,6 +64,11 @@ begun_of who (Some call) = (who, call) ∷ []
 
 abbrev pub next_begun : WorldView → Who → List Begun
 next_begun w who = begun_of who (next_call w.scripts w.history who)
+
+-- the most steps of the next call, if there is one
+abbrev pub steps_of_next : Option Call → ℕ
+steps_of_next None = 0
+steps_of_next (Some call) = most_steps call
 
 -- the item that a call gives at the end of a history
 abbrev pub item_with : Who → ℕ → Call → Outcome → Item

@@ -11,9 +11,9 @@ use split_calls::NoMemory;
 use std::alloc::Global;
 
 impl World {
-    /// The World of a K-Split that was opened on a mounted device, on which no file has bytes: the
-    /// tree of the device is the start of the history. The mode is strict; the scripts have calls
-    /// that are built, at most 4,096 of them, and at most 8 threads. It takes memory for the tree.
+    /// The World of a K-Split that was opened on a mounted device: the tree of the device is the start
+    /// of the history. The mode is strict; the scripts have calls that are built, at most 4,096 of
+    /// them, and at most 8 threads. It takes memory for the tree.
     pub fn over(alloc: Global, k: KSplit, mode: Mode, scripts: Scripts) -> Result<World, NoMemory>
         requires on { k.lost ≡ false }
         requires unbatched { k.batched ≡ false }

@@ -4,12 +4,14 @@
 //! K-Split and the open files run in the state of the history (`IsWorldOver`), and each call that begins
 //! answers what `step` answers; once the power went, each image of the device has a tree, and only trees
 //! that the mode permits for the history and the unfinished call (`KeepsPromise`). So far its calls are
-//! those on names, directories and descriptors, in strict mode, one at a time, and no file has bytes.
+//! those on names, directories and descriptors, in strict mode, one at a time. Files may have bytes: none
+//! is written, and an `open` with `t` cuts a file.
 //!
-//! Stands on `split_calls`, which runs one call over K-Split and the open files.
+//! Stands on `split_calls`, which runs one call over K-Split and the open files. It begins over a device that
+//! `k_mount` opened again (`RemountedIsMounted`), or over a fresh one.
 #![tactic(auto)]
 
-ghost use Rattle.split_world.specs.Starts.{FreshIsMounted};
+ghost use Rattle.split_world.specs.Starts.{FreshIsMounted, RemountedIsMounted, RemountedShowsImage};
 
 mod beginning;
 mod next;
@@ -22,4 +24,11 @@ pub use world::World;
 /// A device of the fresh image is one that a World may begin over.
 pub fn a_fresh_device_is_mounted()
     ensures { FreshIsMounted }
+{}
+
+/// A device that was opened again is one that a World may begin over; and a tree of it is one of the image's
+/// content.
+pub fn a_remounted_device_is_mounted()
+    ensures mounted { RemountedIsMounted }
+    ensures shows { RemountedShowsImage }
 {}

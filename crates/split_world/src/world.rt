@@ -4,7 +4,7 @@ ghost use Rattle.std.specs.Vec.{vec_capacity};
 ghost use Rattle.pm_words.specs.Powers.{is_on, Steps};
 ghost use Rattle.posix_spec.specs.Scripted.{next_call, IsSetUp};
 ghost use Rattle.posix_spec.specs.Tree.{start};
-ghost use Rattle.split_world.specs.Views.{ready_by, unfinished_of, IsBegun, IsEndedBy, IsLeft, IsWorldOver};
+ghost use Rattle.split_world.specs.Views.{ready_by, steps_of_next, unfinished_of, IsBegun, IsEndedBy, IsLeft, IsWorldOver};
 
 use crate::next::{call_at, calls_made, script_length};
 use crate::outcomes::{Begun, Crashed, Ended, Ready, Unfinished};
@@ -98,10 +98,12 @@ impl World {
     }
 
     /// Begins the next call of a caller, and runs it to its end where the power lasts. It takes all
-    /// memory before anything else. The set-up is done before a thread begins.
+    /// memory before anything else, and 512 steps at most; 2^15 where the call may cut a file. The
+    /// set-up is done before a thread begins.
     pub fn begin(&mut self, alloc: Global, who: Who, power: &mut Power) -> Result<Begun, NoMemory>
         requires set_up { IsSetUp self.old.scripts self.old.history who }
-        ensures steps { Steps 512 power.old power.new }
+        ensures steps { Steps (steps_of_next (next_call self.old.scripts self.old.history who))
+            power.old power.new }
         ensures begun { IsBegun who self.old self.new power.old power.new result }
     {
         if self.lost {

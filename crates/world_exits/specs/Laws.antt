@@ -1,8 +1,12 @@
 -- The laws of the World's exits, each as one statement.
-use Rattle.std.specs.Prelude.{◌≡◌, ◌≢◌, ◌<◌, ◌+◌, ◌^◌, ℕ, true, false, length, Option, None, Some, List, [], ◌∷◌}
+use Rattle.std.specs.Prelude.{◌≡◌, ◌≢◌, ◌<◌, ◌+◌, ◌^◌, ℕ, true, false, length, Option, None, Some, List, [], ◌∷◌, Result}
 use Rattle.pm_words.specs.declared.Cell.{Cell}
 use Rattle.disk_lines.specs.declared.Draft.{Draft}
-use Rattle.disk_rules.specs.Volume.{Volume}
+use Rattle.disk_lines.specs.declared.Kind.TheVariants.{File}
+use Rattle.disk_rules.specs.Volume.{inode, Volume}
+use Rattle.map_rules.specs.Changes.{with_size}
+use Rattle.map_rules.specs.Taken.{switched}
+use Rattle.volume_uses.specs.Uses.{HasAllMaps}
 use Rattle.volume_changes.specs.Changes.{MayDrop}
 use Rattle.k_rules.specs.Changes.{dropped}
 use Rattle.k_rules.specs.Spaces.{volume_space}
@@ -11,7 +15,10 @@ use Rattle.k_plans.specs.Making.{IsMade}
 use Rattle.k_plans.specs.Removing.{IsRemoved, IsUnlinked}
 use Rattle.k_plans.specs.Renaming.{IsRenamed}
 use Rattle.path_spelling.specs.Spelling.{AreSpelled}
-use Rattle.k_split.specs.Answers.{IsCut, IsDone, IsOff}
+use Rattle.k_plans.specs.Whole.{IsWhole}
+use Rattle.k_split.specs.declared.faults.KFault.{KFault}
+use Rattle.k_split.specs.Answers.{IsAnswer, IsCut, IsDone, IsOff}
+use Rattle.k_split.specs.MapChanges.{IsSizeAnswer}
 use Rattle.posix_types.specs.declared.call.Call.{Call}
 use Rattle.posix_types.specs.declared.call.Mode.{Mode}
 use Rattle.posix_types.specs.declared.call.Who.{Who}
@@ -21,13 +28,15 @@ use Rattle.posix_types.specs.declared.item.Item.{Item}
 use Rattle.posix_types.specs.declared.item.Outcome.{Outcome}
 use Rattle.posix_types.specs.declared.reply.Reply.{Reply}
 use Rattle.posix_words.specs.NameRows.{mkdir_rows, open_rows, rename_rows, rmdir_rows, unlink_rows}
+use Rattle.posix_words.specs.Names.{node_at_path}
 use Rattle.posix_words.specs.Open.{is_full, is_open}
 use Rattle.posix_words.specs.Outcomes.{answer, first}
 use Rattle.posix_spec.specs.Run.{after_call, Begun, run}
 use Rattle.posix_spec.specs.State.{alone, State, swept, unnamed as unnamed_state}
 use Rattle.posix_spec.specs.Step.{is_busy, step}
 use Rattle.posix_spec.specs.Tree.{tree}
-use Rattle.world_rules.specs.Stands.{number}
+use Rattle.world_rules.specs.Jobs.{live_claims}
+use Rattle.world_rules.specs.Stands.{entries_of, number}
 use Rattle.world_steps.specs.Makers.{renumbered}
 use Rattle.world_images.specs.Images.{IsRunning}
 use Rattle.world_images.specs.Laws.{IsTreeOf}
@@ -70,6 +79,24 @@ StepsOpened =
     (v : Volume) (d : List Cell) (claims : List (ℕ × Draft)) (numbers : List ℕ) (s : State) (count : ℕ) (who : Who) (h : Handle) (p : List (List ℕ)) (flags : Flags) (w : Volume) (ino : ℕ) → IsRunning v d claims numbers s count
     → count + 1 < 2 ^ 31 → AreSpelled p → first (open_rows (volume_space v) (is_full s.tables) (is_busy alone s p) p flags) ≡ None → IsMade false p v w ino
     → IsStep v w claims numbers (renumbered numbers ino (length s.nodes)) s (after_call s (who, Call.Open h p flags)) count (count + 1)
+
+-- The volume with a file that is cut to nothing: it has no bytes, no chain and no map.
+abbrev pub cut_to_nothing : ℕ → Volume → Volume
+cut_to_nothing ino v = switched ino (with_size 0 (inode v ino)) [] [] v
+
+-- K-Split gives a file the size 0 by a change like those of names: it writes no block.
+abbrev pub CutsAsAnswer : Type 0
+CutsAsAnswer =
+    (ino : ℕ) (old new : View) (result : Result (Unit {0}) KFault) → HasAllMaps old.volume → ino < length old.volume.inodes → IsSizeAnswer ino 0 old new result
+    → IsAnswer None (λ (done : Unit {0}) w. w ≡ cut_to_nothing ino old.volume) old new result
+
+-- an `open` that cuts the file that stands at the path, of which nothing is live
+abbrev pub StepsCut : Type 0
+StepsCut =
+    (v : Volume) (d : List Cell) (claims : List (ℕ × Draft)) (numbers : List ℕ) (s : State) (count : ℕ) (who : Who) (h : Handle) (p : List (List ℕ)) (flags : Flags) (ino : ℕ) (w : Volume) → IsRunning v d claims numbers s count
+    → first (open_rows (volume_space v) (is_full s.tables) (is_busy alone s p) p flags) ≡ None → flags.truncate ≡ true → node_at_path (volume_space v) p ≡ Some ino → (inode v ino).kind ≡ File
+    → entries_of ino (live_claims v claims) ≡ [] → ino < length v.inodes → IsWhole v → IsWhole w → w ≡ cut_to_nothing ino v
+    → IsStep v w claims numbers numbers s (after_call s (who, Call.Open h p flags)) count count
 
 -- `rmdir`
 abbrev pub StepsRmdir : Type 0

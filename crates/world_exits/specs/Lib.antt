@@ -1,3 +1,4 @@
+pub mod Cuts
 pub mod Done
 pub mod Ends
 pub mod Going

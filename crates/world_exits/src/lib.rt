@@ -2,7 +2,7 @@
 //!
 //! Definitions and lemmas, no code. They hold while the log lines are at home and no write is in flight. The
 //! layer above may rely on this: where the World goes on over K-Split (`IsGoing`), the changes of `mkdir`,
-//! `rmdir`, `unlink`, `rename` and of an `open` that makes its file are steps of it (`IsStep`); a step
+//! `rmdir`, `unlink`, `rename` and of an `open` that makes its file or cuts it are steps of it (`IsStep`); a step
 //! that is done leaves a World that goes on (`GoesOn`), one that is cut off leaves a device that keeps the promise with the call unfinished
 //! (`KeepsPromiseCut`), and a call that K-Split refuses by a row is answered as that row says
 //! (`RefusedByRow`). `unlink`, and a `rename` over a file, take a second step, which drops the file. `Laws`
@@ -11,7 +11,7 @@
 //! Stands on `world_images` and `k_split`.
 #![tactic(auto)]
 
-ghost use Rattle.world_exits.specs.Laws.{DoneByRow, GoesOn, KeepsPromiseCut, KeepsPromiseOff, RefusedByRow, RenamesOverFile, StateOfUnlink, StepsDropped, StepsMkdir, StepsOpened, StepsRename, StepsRmdir, StepsUnlinked, TreeOfRename, TreeOfUnlink, UnlinksFile};
+ghost use Rattle.world_exits.specs.Laws.{CutsAsAnswer, DoneByRow, GoesOn, KeepsPromiseCut, KeepsPromiseOff, RefusedByRow, RenamesOverFile, StateOfUnlink, StepsCut, StepsDropped, StepsMkdir, StepsOpened, StepsRename, StepsRmdir, StepsUnlinked, TreeOfRename, TreeOfUnlink, UnlinksFile};
 
 /// A change of K-Split that is done, that is cut off, and a call after the power went.
 pub fn a_step_ends()
@@ -20,11 +20,13 @@ pub fn a_step_ends()
     ensures off { KeepsPromiseOff }
 {}
 
-/// The changes of `mkdir`, `rmdir`, `unlink`, `rename`, and of an `open` that makes its file, are
-/// steps of the World.
+/// The changes of `mkdir`, `rmdir`, `unlink`, `rename`, and of an `open` that makes its file or cuts it,
+/// are steps of the World.
 pub fn changes_are_steps()
     ensures mkdir { StepsMkdir }
     ensures opened { StepsOpened }
+    ensures cut { StepsCut }
+    ensures as_answer { CutsAsAnswer }
     ensures rmdir { StepsRmdir }
     ensures unlinked { StepsUnlinked }
     ensures renamed { StepsRename }

@@ -1,3 +1,4 @@
+use Rattle.world_exits.specs.Cuts.{cuts_as_answer, steps_cut}
 use Rattle.world_exits.specs.Moves.{steps_rename}
 use Rattle.world_exits.specs.Steps.{steps_dropped, steps_mkdir, steps_opened, steps_rmdir, steps_unlinked}
 use Rattle.world_exits.proofs.changes_are_steps.Goals as goal
@@ -19,3 +20,9 @@ returns-clause-renamed c = steps_rename
 
 pub returns-clause-dropped : goal.returns-clause-dropped
 returns-clause-dropped c = steps_dropped
+
+pub returns-clause-cut : goal.returns-clause-cut
+returns-clause-cut c = steps_cut
+
+pub returns-clause-as_answer : goal.returns-clause-as_answer
+returns-clause-as_answer c = cuts_as_answer

@@ -11,9 +11,6 @@ open_missing-requires-clause-on c = c.requires.runs.runs.going.on
 pub open_missing-requires-clause-missing : goal.open_missing-requires-clause-missing
 open_missing-requires-clause-missing c = missing_at c.args.k.now.volume c.args.path.now c.in-Err.field-0 c.in-Ok-directory_of.field-0 c.in-Err.ensures c.in-Ok-directory_of.ensures
 
-pub returns-in-Ok-clause-ended : goal.returns-in-Ok-clause-ended
-returns-in-Ok-clause-ended c = c.open_found.ensures c.args.power.now c.requires.power
-
 pub returns-in-Err-directory_of-clause-ended : goal.returns-in-Err-directory_of-clause-ended
 returns-in-Err-directory_of-clause-ended c =
     subst (λ x. IsEnded c.args.who (Call.Open c.args.handle c.args.path.now c.args.flags) c.args.k.now c.args.files.now.tables c.args.k.now c.args.files.now.tables c.args.power.now c.args.power.now (Ok x)) (sym c.answered.ensures)

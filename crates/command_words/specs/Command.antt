@@ -4,7 +4,7 @@
 --   step IMAGE SCRIPT strict [stop N] [choose C] [keep NAME]
 -- IMAGE is the name of a file, or `-` for the fresh default image, which `mkfs` does not make. C is `oldest`, `newest`,
 -- `even`, `odd` or a number.
-use Rattle.std.specs.Prelude.{ℕ, List, [], length, codes, Bool, true, false, ◌&&◌, ◌==◌, nat_le, slice_index_or, drop, if◌then◌else◌, Option, Some, None, option_and_then, option_map}
+use Rattle.std.specs.Prelude.{ℕ, List, [], length, codes, ◌&&◌, ◌==◌, nat_le, slice_index_or, drop, if◌then◌else◌, Option, Some, None, option_and_then, option_map}
 use Rattle.disk_places.specs.Fields.{is_same}
 use Rattle.disk_places.specs.Places.{Geometry, is_in_range}
 use Rattle.image_layout.specs.Numbers.{numbered}
@@ -16,16 +16,11 @@ pub data Image : Type 0 where
   Fresh : Image
   Stored : List ℕ → Image
 
--- which candidates a power loss leaves: as a choice says, or as draws from a seed fall
-pub data Candidates : Type 0 where
-  Chosen : Choice → Candidates
-  Drawn : ℕ → Candidates
-
 -- The options of a run: the steps after which the power goes, which candidates it leaves, and the name under which the
 -- image that is left is kept.
 pub record Options : Type 0 where
   pub stop : Option ℕ
-  pub candidates : Candidates
+  pub choice : Choice
   pub keep : Option (List ℕ)
 
 -- a run of a script: the image, the script's name, and the options
@@ -39,25 +34,6 @@ pub data Command : Type 0 where
   Tree : Image → Command
   Step : Run → Command
 
--- WHAT IS BUILT of the usage lines: all of `mkfs` and `tree`, and `step` on the fresh image, with a choice by its name,
--- and keeping nothing.
-abbrev pub is_fresh : Image → Bool
-is_fresh Fresh = true
-is_fresh (Stored name) = false
-
-abbrev pub is_chosen : Candidates → Bool
-is_chosen (Chosen choice) = true
-is_chosen (Drawn seed) = false
-
-abbrev pub keeps_nothing : Option (List ℕ) → Bool
-keeps_nothing None = true
-keeps_nothing (Some name) = false
-
-abbrev pub is_built : Command → Bool
-is_built (Mkfs image geometry) = true
-is_built (Tree image) = true
-is_built (Step run) = is_fresh run.image && is_chosen run.options.candidates && keeps_nothing run.options.keep
-
 -- word k of the command line, and whether it is this one
 abbrev pub word_at : List (List ℕ) → ℕ → List ℕ
 word_at words k = slice_index_or words k []
@@ -65,26 +41,27 @@ word_at words k = slice_index_or words k []
 abbrev pub image_of : List ℕ → Image
 image_of word = if is_same word (codes "-") then Fresh else Stored word
 
-abbrev pub candidates_of : List ℕ → Option Candidates
-candidates_of word =
-    if is_same word (codes "oldest") then Some (Chosen Choice.Oldest)
-    else if is_same word (codes "newest") then Some (Chosen Choice.Newest)
-    else if is_same word (codes "even") then Some (Chosen Choice.Even)
-    else if is_same word (codes "odd") then Some (Chosen Choice.Odd)
-    else option_map (λ seed. Drawn seed) (number_in word)
+-- a choice by its name, or a number for the seed of its draws
+abbrev pub choice_of : List ℕ → Option Choice
+choice_of word =
+    if is_same word (codes "oldest") then Some Choice.Oldest
+    else if is_same word (codes "newest") then Some Choice.Newest
+    else if is_same word (codes "even") then Some Choice.Even
+    else if is_same word (codes "odd") then Some Choice.Odd
+    else option_map (λ seed. Choice.Seed seed) (number_in word)
 
 -- the option `keep NAME`, or nothing more
-unfoldable pub with_keep : Option ℕ → Candidates → List (List ℕ) → Option Options
-with_keep stop candidates words =
-    if length words == 0 then Some (record { stop = stop; candidates = candidates; keep = None })
-    else if (length words == 2) && is_same (word_at words 0) (codes "keep") then Some (record { stop = stop; candidates = candidates; keep = Some (word_at words 1) })
+unfoldable pub with_keep : Option ℕ → Choice → List (List ℕ) → Option Options
+with_keep stop choice words =
+    if length words == 0 then Some (record { stop = stop; choice = choice; keep = None })
+    else if (length words == 2) && is_same (word_at words 0) (codes "keep") then Some (record { stop = stop; choice = choice; keep = Some (word_at words 1) })
     else None
 
 -- the option `choose C`, if it is there, and then the other
 unfoldable pub with_choice : Option ℕ → List (List ℕ) → Option Options
 with_choice stop words =
-    if nat_le 2 (length words) && is_same (word_at words 0) (codes "choose") then option_and_then (λ candidates. with_keep stop candidates (drop 2 words)) (candidates_of (word_at words 1))
-    else with_keep stop (Chosen Choice.Oldest) words
+    if nat_le 2 (length words) && is_same (word_at words 0) (codes "choose") then option_and_then (λ choice. with_keep stop choice (drop 2 words)) (choice_of (word_at words 1))
+    else with_keep stop Choice.Oldest words
 
 -- the option `stop N`, if it is there, and then the others
 unfoldable pub options_of : List (List ℕ) → Option Options
@@ -122,17 +99,11 @@ mkfs_of words =
     then option_and_then (λ name. option_map (λ geometry. Mkfs name geometry) (geometry_spelled (word_at words 2) (word_at words 3) (word_at words 4) (word_at words 5))) (stored_name (image_of (word_at words 1)))
     else None
 
--- the command that the words spell, if they spell one
+-- one command, or another where that is none
 abbrev pub or_else : Option Command → Option Command → Option Command
 or_else None other = other
 or_else (Some command) other = Some command
 
-unfoldable pub spelled_by : List (List ℕ) → Option Command
-spelled_by words = or_else (mkfs_of words) (or_else (tree_of words) (step_of words))
-
--- THE COMMAND THAT THE WORDS ARE: what they spell, where it is built
-abbrev pub if_built : Command → Option Command
-if_built command = if is_built command then Some command else None
-
+-- THE COMMAND THAT THE WORDS ARE
 unfoldable pub command_of : List (List ℕ) → Option Command
-command_of words = option_and_then if_built (spelled_by words)
+command_of words = or_else (mkfs_of words) (or_else (tree_of words) (step_of words))

@@ -1,9 +1,8 @@
 -- What clauses see of the values of the program.
-use Rattle.std.specs.Prelude.{None, option_map}
+use Rattle.std.specs.Prelude.{option_map}
 use Rattle.std.specs.String.{string_bytes}
 use Rattle.command_words.specs.declared.commands.Command.{Command}
 use Rattle.command_words.specs.declared.commands.Image.{Image}
-use Rattle.command_words.specs.declared.options.Candidates.{Candidates}
 use Rattle.command_words.specs.declared.options.Options.{Options}
 use Rattle.command_words.specs.Command as meaning
 
@@ -11,21 +10,16 @@ abbrev pub seen_image : Image → meaning.Image
 seen_image Image.Fresh = meaning.Fresh
 seen_image (Image.Stored name) = meaning.Stored (string_bytes name.now)
 
-abbrev pub seen_candidates : Candidates → meaning.Candidates
-seen_candidates (Candidates.Chosen choice) = meaning.Chosen choice
-seen_candidates (Candidates.Drawn seed) = meaning.Drawn seed
-
 abbrev pub seen_options : Options → meaning.Options
 seen_options options =
     record {
       stop = options.stop;
-      candidates = seen_candidates options.candidates;
+      choice = options.choice;
       keep = option_map (λ name. string_bytes name.now) options.keep;
     }
 
--- a run on the fresh image that keeps nothing is a run as all
 abbrev pub seen : Command → meaning.Command
 seen (Command.Mkfs name geometry) = meaning.Mkfs (string_bytes name.now) geometry
 seen (Command.Tree image) = meaning.Tree (seen_image image)
-seen (Command.Step script stop choice) =
-    meaning.Step (record { image = meaning.Fresh; script = string_bytes script.now; options = record { stop = stop; candidates = meaning.Chosen choice; keep = None } })
+seen (Command.Step image script options) =
+    meaning.Step (record { image = seen_image image; script = string_bytes script.now; options = seen_options options })

@@ -1,13 +1,12 @@
 //! The words of the command line.
-ghost use Rattle.std.specs.Prelude.{◌≡◌, IfSome, true, map, option_and_then, option_map};
+ghost use Rattle.std.specs.Prelude.{◌≡◌, map, option_map};
 ghost use Rattle.std.specs.String.{string_bytes};
-ghost use Rattle.command_words.specs.Command.{command_of, if_built, image_of, is_built, mkfs_of, step_of, tree_of};
+ghost use Rattle.command_words.specs.Command.{command_of, image_of, mkfs_of, step_of, tree_of};
 ghost use Rattle.command_words.specs.Seen.{seen, seen_image};
 
 use crate::geometries::read_geometry;
-use crate::options::{Candidates, read_options};
+use crate::options::{Options, read_options};
 use image_layout::Geometry;
-use pm_lines::Choice;
 
 /// An image.
 #[derive(Drop)]
@@ -28,11 +27,11 @@ pub enum Command<'a> {
     },
     /// Print the tree of an image.
     Tree(Image<'a>),
-    /// Run a script on the fresh image, with power for so many steps or always.
+    /// Run a script on an image.
     Step {
+        image: Image<'a>,
         script: &'a String,
-        stop: Option<u64>,
-        choice: Choice,
+        options: Options<'a>,
     },
 }
 
@@ -50,8 +49,7 @@ fn read_image(word: &String) -> Image<'_>
 /// The words `mkfs IMAGE BLOCKS LOG INODES NAMES`.
 #[tactic(auto, unfolding(crate::specs::Command::mkfs_of))]
 fn read_mkfs(words: &[String]) -> Option<Command<'_>>
-    ensures command { option_map (λ c. seen c) result ≡ mkfs_of (map string_bytes words.now) }
-    ensures built { IfSome result (λ c. is_built (seen c) ≡ true) }
+    ensures { option_map (λ c. seen c) result ≡ mkfs_of (map string_bytes words.now) }
 {
     if words.len() != 6 || words[0].as_str() != "mkfs" {
         return None;
@@ -71,8 +69,7 @@ fn read_mkfs(words: &[String]) -> Option<Command<'_>>
 /// The words `tree IMAGE`.
 #[tactic(auto, unfolding(crate::specs::Command::tree_of))]
 fn read_tree(words: &[String]) -> Option<Command<'_>>
-    ensures command { option_map (λ c. seen c) result ≡ tree_of (map string_bytes words.now) }
-    ensures built { IfSome result (λ c. is_built (seen c) ≡ true) }
+    ensures { option_map (λ c. seen c) result ≡ tree_of (map string_bytes words.now) }
 {
     if words.len() != 2 || words[0].as_str() != "tree" {
         return None;
@@ -80,30 +77,24 @@ fn read_tree(words: &[String]) -> Option<Command<'_>>
     Some(Command::Tree(read_image(&words[1])))
 }
 
-/// The words `step IMAGE SCRIPT strict` and options, where they are built.
+/// The words `step IMAGE SCRIPT strict` and options.
 #[tactic(auto, unfolding(crate::specs::Command::step_of))]
 fn read_step(words: &[String]) -> Option<Command<'_>>
-    ensures { option_map (λ c. seen c) result ≡ option_and_then if_built (step_of (map string_bytes words.now)) }
+    ensures { option_map (λ c. seen c) result ≡ step_of (map string_bytes words.now) }
 {
     if words.len() < 4 || words[0].as_str() != "step" || words[3].as_str() != "strict" {
         return None;
     }
     let options = read_options(&words[4..])?;
-    if words[1].as_str() != "-" || options.keep.is_some() {
-        return None;
-    }
-    match options.candidates {
-        Candidates::Chosen(choice) => Some(Command::Step {
-            script: &words[2],
-            stop: options.stop,
-            choice,
-        }),
-        Candidates::Drawn(_) => None,
-    }
+    Some(Command::Step {
+        image: read_image(&words[1]),
+        script: &words[2],
+        options,
+    })
 }
 
 /// The command that the words are, if they are one.
-#[tactic(auto, unfolding(crate::specs::Command::command_of, crate::specs::Command::spelled_by))]
+#[tactic(auto, unfolding(crate::specs::Command::command_of))]
 pub fn read_command(words: &[String]) -> Option<Command<'_>>
     ensures { option_map (λ c. seen c) result ≡ command_of (map string_bytes words.now) }
 {

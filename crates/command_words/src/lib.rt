@@ -2,8 +2,8 @@
 //!
 //! `read_command` answers the command that the words are, exactly where they are one (`command_of`, a definition over
 //! lists of bytes that reads like usage lines): `mkfs` with the name and the numbers of an image, `tree` with an image,
-//! or `step` with a script and its options. What is spelled and not built (`is_built`) is no command. The layer above
-//! may rely on nothing else: words that are no command are none of any part.
+//! or `step` with an image, a script and its options. The layer above may rely on nothing else: words that are no
+//! command are none of any part.
 //!
 //! Stands on `pm_lines`, whose choices the words name, on `image_layout`, whose geometry the numbers of `mkfs` are, and
 //! on `script_text`, whose numbers the words spell.
@@ -14,3 +14,4 @@ mod geometries;
 mod options;
 
 pub use commands::{Command, Image, read_command};
+pub use options::Options;

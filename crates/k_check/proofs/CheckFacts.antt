@@ -8,7 +8,7 @@ use Rattle.disk_rules.specs.Checked.{HasHead}
 use Rattle.disk_rules.specs.Rules.{geometry_of, CanRecover, IsChecked}
 use Rattle.disk_rules.specs.Volume.{Volume, volume}
 use Rattle.image_facts.specs.BrokenLaws.{HoldAll-append, BreaksFirst-behind, BreaksFirst-before}
-use Rattle.image_facts.specs.CheckedLaws.{checked-HoldAll}
+use Rattle.image_facts.specs.CheckedLaws.{checked-HoldAll, checked-unbroken}
 use Rattle.volume_facts.specs.ReadingLaws.{volume-geometry}
 use Rattle.volume_check.specs.Readings.{AreTables, front_rules}
 use Rattle.volume_check.specs.declared.reading.Tables.{Tables}
@@ -48,6 +48,10 @@ pub breaks-later : (bytes : ℕ) (f : Words) (place : ℕ) → HoldAll (front_ru
     → FailsFirst (later_rule (volume_of f) (journaled f)) place → Breaks bytes f 13 place
 breaks-later bytes f place front can fails =
     BreaksFirst-behind (front_rules bytes f) (log_rules (volume_of f) (journaled f)) 13 place front (inr (λ p low below. can, inl (refl, fails)))
+
+-- an image that was checked is read whole
+pub read-whole : (bytes : ℕ) (f : Words) (number place : ℕ) → IsChecked bytes f → BreaksFirst (front_rules bytes f) number place → ⊥
+read-whole bytes f number place checked breaks = checked-unbroken bytes f number place checked (breaks-front bytes f number place breaks)
 
 -- no rule is broken
 pub all-kept : (bytes : ℕ) (f : Words) → HoldAll (front_rules bytes f) → CanRecover (volume_of f) (journaled f)

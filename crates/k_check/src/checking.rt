@@ -7,7 +7,7 @@ ghost use Rattle.disk_rules.specs.Rules.{geometry_of, CanRecover, IsChecked};
 ghost use Rattle.disk_rules.specs.Volume.{Volume};
 ghost use Rattle.k_check.specs.Rooms.{HasRoom};
 ghost use Rattle.k_check.specs.Slots.{slots_at, AreDrafts};
-ghost use Rattle.pm_words.specs.Cells.{AllSingle};
+ghost use Rattle.pm_words.specs.Cells.{AllHome};
 ghost use Rattle.pm_words.specs.Images.{words_of};
 ghost use Rattle.pm_words.specs.Words.{Words};
 ghost use Rattle.volume_check.specs.Answers.{IfBad};
@@ -61,10 +61,12 @@ fn can_recover(tables: &Tables, slots: &[Option<Draft>], live: &[Draft]) -> bool
 /// A pending journal is read through: lines count as its committed records have them. Nothing is
 /// written. Want of memory is the only other answer.
 ///
-/// The device has whole blocks of 512 words, and each word has one candidate. The work goes by the
-/// lines of the image and the blocks that its chains and maps name.
+/// The device has whole blocks of 512 words, fewer bytes than an address can say, and nothing of it
+/// is lent; of a word with two candidates the newer counts. The work goes by the lines of the image
+/// and the blocks that its chains and maps name; by pairs of name lines, and of slots of the log; and
+/// by the live entries for each named file.
 pub fn check(alloc: Global, pm: &Pm) -> Result<Geometry, CheckFault>
-    requires single { AllSingle pm.now }
+    requires home { AllHome pm.now }
     requires whole { length pm.now % 512 ≡ 0 }
     requires fits { 8 * length pm.now < 2 ^ 64 }
     ensures ok { OnOk result (IsChecked (8 * length pm.now) (words_of pm.now)) }

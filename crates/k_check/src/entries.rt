@@ -7,7 +7,7 @@ ghost use Rattle.disk_places.specs.Places.{log_line};
 ghost use Rattle.disk_rules.specs.Live.{is_file, is_of_file, is_live};
 ghost use Rattle.disk_rules.specs.Volume.{Volume, free_inode};
 ghost use Rattle.k_check.specs.Slots.{slots_at, passing};
-ghost use Rattle.pm_words.specs.Cells.{AllSingle};
+ghost use Rattle.pm_words.specs.Cells.{AllHome};
 ghost use Rattle.pm_words.specs.Images.{words_of};
 ghost use Rattle.pm_words.specs.Words.{line_bytes};
 
@@ -79,7 +79,7 @@ fn push_live(live: &mut Vec<Draft>, inodes: &[Inode], slot: Option<Draft>) -> Re
 // The bytes of a line of the log, as the journal makes it.
 pub(crate) fn log_bytes(pm: &Pm, geometry: &Geometry, slot: u32) -> [u8; 64]
     requires size { length pm.now ≡ 512 * geometry.now.blocks }
-    requires single { AllSingle pm.now }
+    requires home { AllHome pm.now }
     requires in_image { slot < geometry.now.log }
     ensures { result ≡ line_bytes (journaled (words_of pm.now)) (log_line geometry.now slot) }
 {
@@ -95,7 +95,7 @@ pub(crate) fn read_slots(
     base: u64,
 ) -> Result<Vec<Option<Draft>>, AllocError>
     requires size { length pm.now ≡ 512 * geometry.now.blocks }
-    requires single { AllSingle pm.now }
+    requires home { AllHome pm.now }
     requires base { base ≤ 2 ^ 63 }
     ensures { IfOk result (λ slots.
         slots.items ≡ slots_at geometry.now base (journaled (words_of pm.now))) }

@@ -5,6 +5,8 @@
 //! place. A pending journal is read through; nothing is written. Want of memory is the only other
 //! answer.
 //!
+//! `has_live` says of a checked image whether recovery has an entry of its log to carry out.
+//!
 //! `crash_image` gives the image that a power loss leaves of a device, by a choice, in which no
 //! torn line of the log passes its check by chance.
 //!
@@ -19,9 +21,11 @@
 mod checking;
 mod crashes;
 mod entries;
+mod recovery;
 mod room;
 mod rules;
 
 pub use checking::check;
 pub use crashes::crash_image;
+pub use recovery::has_live;
 pub use volume_check::{BadImage, CheckFault};

@@ -7,7 +7,7 @@ ghost use Rattle.disk_rules.specs.Rules.{HasStagingBlocks};
 ghost use Rattle.disk_rules.specs.Volume.{Volume};
 ghost use Rattle.extent_words.specs.Extents.{disk_at};
 ghost use Rattle.k_check.specs.Slots.{IsGoodPair, IsGoodSlot, IsGoodWithLater, AreGoodSlots, IsDraftOrNone, AreDrafts, IsNoLaterAt, later_rule};
-ghost use Rattle.pm_words.specs.Cells.{AllSingle};
+ghost use Rattle.pm_words.specs.Cells.{AllHome};
 ghost use Rattle.pm_words.specs.Images.{words_of};
 
 use crate::entries::{is_live, is_of_file, log_bytes};
@@ -124,7 +124,7 @@ pub(crate) fn are_good_slots(inodes: &[Inode], slots: &[Option<Draft>]) -> bool
 // Rule 13 at one slot.
 fn is_no_later(pm: &Pm, geometry: &Geometry, base: u64, slot: u32) -> bool
     requires size { length pm.now ≡ 512 * geometry.now.blocks }
-    requires single { AllSingle pm.now }
+    requires home { AllHome pm.now }
     requires base { base ≤ 2 ^ 63 }
     requires in_image { slot < geometry.now.log }
     ensures { IsTrue result ↔ IsNoLaterAt geometry.now base (journaled (words_of pm.now)) slot }
@@ -137,7 +137,7 @@ fn is_no_later(pm: &Pm, geometry: &Geometry, base: u64, slot: u32) -> bool
 /// Rule 13: the first slot that breaks it.
 pub(crate) fn later_entry(pm: &Pm, geometry: &Geometry, base: u64) -> Option<u32>
     requires size { length pm.now ≡ 512 * geometry.now.blocks }
-    requires single { AllSingle pm.now }
+    requires home { AllHome pm.now }
     requires base { base ≤ 2 ^ 63 }
     ensures { (v : Volume) → v.geometry ≡ geometry.now → v.base ≡ base
         → MatchOption result (Holds (later_rule v (journaled (words_of pm.now))))

@@ -1,25 +1,31 @@
--- What the answer to a command says, where its output was put or not.
-use Rattle.std.proofs.Common.{◌≡◌, ◌≢◌, ◌⊎◌, ℕ, List, Option, Some, refl, subst, inl, inr}
-use Rattle.outside.specs.Outside.{AreOfFile, bytes_named, FileList, Takes, TakesFront}
+-- What the answer to a command says: where its output was put or not, where a file was not read, and where a file was not replaced.
+use Rattle.std.proofs.Common.{◌≡◌, ◌≢◌, ◌⊎◌, ◌≤◌, ℕ, List, Option, Some, None, refl, subst, inl, inr, arith}
+use Rattle.outside.specs.Outside.{AreOfFile, bytes_named, FileList, IsAbsent, Rose, Takes, TakesFront}
 use Rattle.command_words.specs.Command.{Command}
 use Rattle.exit_status.specs.declared.statuses.Status.{Status}
-use Rattle.split_top.specs.Jobs.{IsAnswer, IsPutOrNot}
-use Rattle.split_top.specs.Top.{Completes, IsCutShort, IsGiven, Leaves, Puts, Replaces}
+use Rattle.split_top.specs.Jobs.{IsAnswer, IsPutOrNot, IsUnread}
+use Rattle.split_top.specs.Top.{Completes, Does, IsCutShort, IsGiven, IsMissing, IsReplacedBy, Replaces}
 
-module _ (c : Command) (files left : Option FileList) (old new : Option (List ℕ)) (Missed Failed Refused : Type 0) (output : List ℕ) (puts : Puts c files output) (leaves : Leaves c files left) (kept : (left ≡ files) ⊎ (Replaces c × Leaves c files left)) (done_is : Completes c files Status.Done) (memory_is : Completes c files Status.NoMemory) where
+-- a count that rose after it had risen or stood
+pub rose-later : (a b c : ℕ) → a ≤ b → Rose b c → Rose a c
+rose-later a b c before (inl more) = inl (omega arith)
+rose-later a b c before (inr last) = inr last
+
+-- ---- the output was put, or not
+module _ (c : Command) (files left : Option FileList) (old new : Option (List ℕ)) (Missed Failed Refused : Type 0) (output : List ℕ) (does : Does c files left output) (kept : (left ≡ files) ⊎ IsReplacedBy c files left) (done_is : Completes c files Status.Done) (memory_is : Completes c files Status.NoMemory) where
   cut_short : TakesFront old new output → IsCutShort c files left old new
-  cut_short front = record { output = output; is_output = puts; is_left = leaves; is_front = front }
+  cut_short front = record { output = output; does = does; is_front = front }
 
   pub put-answer : (status : Status) → IsPutOrNot status → (status ≡ Status.Done → Takes old new output) → (status ≢ Status.Done → TakesFront old new output) → (status ≡ Status.WriteFault → Refused) → IsAnswer c files left old new Missed Failed Refused status
   put-answer Status.Done kind taken front failed =
       record {
         usage = λ e. cc;
-        no_such_file = λ name e. absurd (let f : ⊥ = cc in f);
-        bad_image = λ rule place e. absurd (let f : ⊥ = cc in f);
-        bad_script = λ line e. absurd (let f : ⊥ = cc in f);
+        no_such_file = λ n e. absurd (let f : ⊥ = cc in f);
+        bad_image = λ r p e. absurd (let f : ⊥ = cc in f);
+        bad_script = λ l e. absurd (let f : ⊥ = cc in f);
         read_fault = λ e. absurd (let f : ⊥ = cc in f);
         write_fault = λ e. absurd (let f : ⊥ = cc in f);
-        done = λ e. record { output = output; is_output = puts; is_left = leaves; is_taken = taken refl };
+        done = λ e. record { output = output; does = does; is_taken = taken refl };
         kept = kept;
         front = λ e. elim e [ inl x ↦ absurd (let f : ⊥ = cc in f) | inr x ↦ absurd (let f : ⊥ = cc in f) ];
         nothing = λ r. absurd r;
@@ -28,9 +34,9 @@ module _ (c : Command) (files left : Option FileList) (old new : Option (List �
   put-answer Status.WriteFault kind taken front failed =
       record {
         usage = λ e. cc;
-        no_such_file = λ name e. absurd (let f : ⊥ = cc in f);
-        bad_image = λ rule place e. absurd (let f : ⊥ = cc in f);
-        bad_script = λ line e. absurd (let f : ⊥ = cc in f);
+        no_such_file = λ n e. absurd (let f : ⊥ = cc in f);
+        bad_image = λ r p e. absurd (let f : ⊥ = cc in f);
+        bad_script = λ l e. absurd (let f : ⊥ = cc in f);
         read_fault = λ e. absurd (let f : ⊥ = cc in f);
         write_fault = λ e. inl (failed refl);
         done = λ e. absurd (let f : ⊥ = cc in f);
@@ -42,9 +48,9 @@ module _ (c : Command) (files left : Option FileList) (old new : Option (List �
   put-answer Status.NoMemory kind taken front failed =
       record {
         usage = λ e. cc;
-        no_such_file = λ name e. absurd (let f : ⊥ = cc in f);
-        bad_image = λ rule place e. absurd (let f : ⊥ = cc in f);
-        bad_script = λ line e. absurd (let f : ⊥ = cc in f);
+        no_such_file = λ n e. absurd (let f : ⊥ = cc in f);
+        bad_image = λ r p e. absurd (let f : ⊥ = cc in f);
+        bad_script = λ l e. absurd (let f : ⊥ = cc in f);
         read_fault = λ e. absurd (let f : ⊥ = cc in f);
         write_fault = λ e. absurd (let f : ⊥ = cc in f);
         done = λ e. absurd (let f : ⊥ = cc in f);
@@ -59,8 +65,116 @@ module _ (c : Command) (files left : Option FileList) (old new : Option (List �
   put-answer (Status.BadScript line) kind taken front failed = absurd kind
   put-answer Status.ReadFault kind taken front failed = absurd kind
 
+-- ---- nothing was put, and the files are as before
+module _ (c : Command) (files left : Option FileList) (old : Option (List ℕ)) (Missed Failed Refused : Type 0) (kept : left ≡ files) where
+  -- a file was not read
+  pub unread-answer : (status : Status) → IsUnread status → ((name : List ℕ) → status ≡ Status.NoSuchFile name → IsMissing c files name × Missed) → (status ≡ Status.ReadFault → Failed) → (¬ Failed → Completes c files status) → IsAnswer c files left old old Missed Failed Refused status
+  unread-answer (Status.NoSuchFile name) kind missing failed complete =
+      record {
+        usage = λ e. cc;
+        no_such_file = missing;
+        bad_image = λ r p e. absurd (let f : ⊥ = cc in f);
+        bad_script = λ l e. absurd (let f : ⊥ = cc in f);
+        read_fault = λ e. absurd (let f : ⊥ = cc in f);
+        write_fault = λ e. absurd (let f : ⊥ = cc in f);
+        done = λ e. absurd (let f : ⊥ = cc in f);
+        kept = inl kept;
+        front = λ e. elim e [ inl x ↦ absurd (let f : ⊥ = cc in f) | inr x ↦ absurd (let f : ⊥ = cc in f) ];
+        nothing = λ r. (kept, refl);
+        complete = λ a b. complete a;
+      }
+  unread-answer Status.ReadFault kind missing failed complete =
+      record {
+        usage = λ e. cc;
+        no_such_file = λ n e. absurd (let f : ⊥ = cc in f);
+        bad_image = λ r p e. absurd (let f : ⊥ = cc in f);
+        bad_script = λ l e. absurd (let f : ⊥ = cc in f);
+        read_fault = failed;
+        write_fault = λ e. absurd (let f : ⊥ = cc in f);
+        done = λ e. absurd (let f : ⊥ = cc in f);
+        kept = inl kept;
+        front = λ e. elim e [ inl x ↦ absurd (let f : ⊥ = cc in f) | inr x ↦ absurd (let f : ⊥ = cc in f) ];
+        nothing = λ r. (kept, refl);
+        complete = λ a b. complete a;
+      }
+  unread-answer Status.NoMemory kind missing failed complete =
+      record {
+        usage = λ e. cc;
+        no_such_file = λ n e. absurd (let f : ⊥ = cc in f);
+        bad_image = λ r p e. absurd (let f : ⊥ = cc in f);
+        bad_script = λ l e. absurd (let f : ⊥ = cc in f);
+        read_fault = λ e. absurd (let f : ⊥ = cc in f);
+        write_fault = λ e. absurd (let f : ⊥ = cc in f);
+        done = λ e. absurd (let f : ⊥ = cc in f);
+        kept = inl kept;
+        front = λ e. inl (kept, refl);
+        nothing = λ r. absurd r;
+        complete = λ a b. complete a;
+      }
+  unread-answer Status.Done kind missing failed complete = absurd kind
+  unread-answer Status.Usage kind missing failed complete = absurd kind
+  unread-answer (Status.BadImage rule place) kind missing failed complete = absurd kind
+  unread-answer (Status.BadScript line) kind missing failed complete = absurd kind
+  unread-answer Status.WriteFault kind missing failed complete = absurd kind
+
+  -- memory ran out
+  pub starved-answer : Completes c files Status.NoMemory → IsAnswer c files left old old Missed Failed Refused Status.NoMemory
+  starved-answer memory_is =
+      record {
+        usage = λ e. cc;
+        no_such_file = λ n e. absurd (let f : ⊥ = cc in f);
+        bad_image = λ r p e. absurd (let f : ⊥ = cc in f);
+        bad_script = λ l e. absurd (let f : ⊥ = cc in f);
+        read_fault = λ e. absurd (let f : ⊥ = cc in f);
+        write_fault = λ e. absurd (let f : ⊥ = cc in f);
+        done = λ e. absurd (let f : ⊥ = cc in f);
+        kept = inl kept;
+        front = λ e. inl (kept, refl);
+        nothing = λ r. absurd r;
+        complete = λ a b. memory_is;
+      }
+
+  -- a file was not replaced
+  pub unwritten-answer : Replaces c → Failed → IsAnswer c files left old old Missed Failed Refused Status.WriteFault
+  unwritten-answer replaces failed =
+      record {
+        usage = λ e. cc;
+        no_such_file = λ n e. absurd (let f : ⊥ = cc in f);
+        bad_image = λ r p e. absurd (let f : ⊥ = cc in f);
+        bad_script = λ l e. absurd (let f : ⊥ = cc in f);
+        read_fault = λ e. absurd (let f : ⊥ = cc in f);
+        write_fault = λ e. inr (replaces, failed);
+        done = λ e. absurd (let f : ⊥ = cc in f);
+        kept = inl kept;
+        front = λ e. inl (kept, refl);
+        nothing = λ r. absurd r;
+        complete = λ a b. absurd (a failed);
+      }
+
+-- what is said by smaller counts is said by greater ones
+pub answer-later : (c : Command) (files left : Option FileList) (old new : Option (List ℕ)) (Missed Failed Refused Missed' Failed' : Type 0) (status : Status) → (Missed → Missed') → (Failed → Failed') → IsAnswer c files left old new Missed Failed Refused status → IsAnswer c files left old new Missed' Failed' Refused status
+answer-later c files left old new Missed Failed Refused Missed' Failed' status more_missed more_failed a = record {
+  usage = a.usage;
+  no_such_file = λ n e. ((a.no_such_file n e).0, more_missed (a.no_such_file n e).1);
+  bad_image = a.bad_image;
+  bad_script = a.bad_script;
+  read_fault = λ e. more_failed (a.read_fault e);
+  write_fault = λ e. elim (a.write_fault e) [ inl x ↦ inl x | inr x ↦ inr (x.0, more_failed x.1) ];
+  done = a.done;
+  kept = a.kept;
+  front = a.front;
+  nothing = a.nothing;
+  complete = λ none no. a.complete (λ f. none (more_failed f)) no;
+}
+
 -- the bytes that were read of a file are those that are there
 pub same-bytes : (files : Option FileList) (name read bytes : List ℕ) → AreOfFile files name read → IsGiven files name bytes → read ≡ bytes
 same-bytes files name read bytes are given =
     let r : bytes_named given.list name ≡ Some read = subst (λ f. AreOfFile f name read) given.is_told are in
     cc (r, given.is_there)
+
+-- a file that is not there is not given
+pub absent-given : (files : Option FileList) (name bytes : List ℕ) → IsAbsent files name → IsGiven files name bytes → ⊥
+absent-given files name bytes absent given =
+    let none : bytes_named given.list name ≡ None = subst (λ f. IsAbsent f name) given.is_told absent in
+    let f : ⊥ = cc (none, given.is_there) in f

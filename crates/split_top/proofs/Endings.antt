@@ -6,7 +6,11 @@ use Rattle.pm_words.specs.declared.Cell.{Cell}
 use Rattle.pm_words.specs.Powers.{is_left, is_on, Steps, Supply}
 use Rattle.crash_spec.specs.Permitted.{Permitted}
 use Rattle.crash_spec.specs.Strict.{Strict}
+use Rattle.disk_places.specs.Places.{Geometry}
+use Rattle.pm_lines.specs.declared.choices.Choice.{Choice}
+use Rattle.posix_types.specs.declared.call.Mode.{Mode}
 use Rattle.posix_types.specs.declared.item.Item.{Item}
+use Rattle.posix_types.specs.declared.reply.Shape.{Shape}
 use Rattle.posix_types.specs.declared.tree.TreeEntry.{TreeEntry}
 use Rattle.posix_types.specs.Scripts.{Scripts}
 use Rattle.posix_spec.specs.Ending.{beginning, IsWhole}
@@ -16,9 +20,13 @@ use Rattle.posix_spec.specs.State.{State}
 use Rattle.posix_spec.specs.Unfinished.{AreUnfinished}
 use Rattle.split_machine.specs.Changes.{ChangesAtMost}
 use Rattle.split_machine.specs.Runs.{IsRan}
+use Rattle.split_machine.specs.Steps.{steps_of_begun, steps_of_items}
+use Rattle.split_machine.specs.Laws.{AffordsItsSteps}
 use Rattle.split_world.specs.Views.{WorldView}
-use Rattle.split_top.specs.Runs.{IsRun, task_of}
-use Rattle.split_top.specs.Worlds.{IsFreshWorld}
+use Rattle.world_images.specs.Starts.{has_setting}
+use Rattle.split_top.specs.Found.{IsFound}
+use Rattle.split_top.specs.Runs.{IsRun, task_on}
+use Rattle.split_top.specs.Worlds.{IsWorldOn}
 
 -- a power that went had no more steps than were taken
 spent : (n steps : ℕ) (before after : Supply) → before ≡ record { given = Some n; taken = 0 } → Steps steps before after → is_on after ≡ false → n ≤ steps
@@ -35,49 +43,53 @@ never_off steps before after start took off =
     let given : after.given ≡ None = took.given ∙ ap (λ p. p.given) start in
     true≢false (ap (λ g. is_left g after.taken) (sym given) ∙ off)
 
-module _ (scripts : Scripts) (stop : Option ℕ) (w : WorldView) (before after : Supply) (pm : List Cell) (history : List Item) (unfinished : List Begun) (left : List TreeEntry) (fresh : IsFreshWorld scripts w) (power : before ≡ record { given = stop; taken = 0 }) (ran : IsRan w before after pm history unfinished) (found : Permitted w.start.mode w.start history unfinished left) where
-  begun : State
-  begun = beginning (task_of scripts)
-
-  legal : IsLegal (beginning (task_of scripts)) history
-  legal = subst (λ s. IsLegal s history) fresh.start ran.legal
+module _ (g : Geometry) (image : List TreeEntry) (shape : Shape) (scripts : Scripts) (stop : Option ℕ) (choice : Choice) (w : WorldView) (before after : Supply) (pm : List Cell) (history : List Item) (unfinished : List Begun) (left : List TreeEntry) (on : IsWorldOn g image shape scripts w) (power : before ≡ record { given = stop; taken = 0 }) (ran : IsRan w before after pm history unfinished) (permits : Permitted w.start.mode w.start history unfinished left) (finds : IsFound g choice w.start history unfinished left) (affords : AffordsItsSteps) where
+  legal : IsLegal (beginning (task_on image shape scripts)) history
+  legal = subst (λ s. IsLegal s history) on.start ran.legal
 
   scripted : Scripted scripts history
-  scripted = subst (λ s. Scripted s history) fresh.scripts_are ran.scripted
+  scripted = subst (λ s. Scripted s history) on.scripts_are ran.scripted
 
   open_calls : AreUnfinished scripts history unfinished
-  open_calls = subst (λ s. AreUnfinished s history unfinished) fresh.scripts_are ran.open_calls
+  open_calls = subst (λ s. AreUnfinished s history unfinished) on.scripts_are ran.open_calls
 
-  permitted : Strict (beginning (task_of scripts)) history unfinished left
-  permitted = subst (λ (s : State). Permitted s.mode s history unfinished left) fresh.start found
+  permitted : Strict (beginning (task_on image shape scripts)) history unfinished left
+  permitted =
+      subst (λ (m : Mode). Permitted m (beginning (task_on image shape scripts)) history unfinished left) (has_setting image shape Mode.Strict).1
+      (subst (λ (s : State). Permitted s.mode s history unfinished left) on.start permits)
 
-  kept : (steps : ℕ) → stop ≡ Some steps → ChangesAtMost (beginning (task_of scripts)) history steps
-  kept steps some = subst (λ s. ChangesAtMost s history steps) fresh.start (ran.kept steps (ap (λ (p : Supply). p.given) power ∙ some))
+  kept : (steps : ℕ) → stop ≡ Some steps → ChangesAtMost (beginning (task_on image shape scripts)) history steps
+  kept steps some = subst (λ s. ChangesAtMost s history steps) on.start (ran.kept steps (ap (λ (p : Supply). p.given) power ∙ some))
+
+  found : IsFound g choice (beginning (task_on image shape scripts)) history unfinished left
+  found = subst (λ s. IsFound g choice s history unfinished left) on.start finds
 
   -- all calls returned
-  pub ran_whole : IsComplete w.scripts history → unfinished ≡ [] → IsRun scripts stop history unfinished left
+  pub ran_whole : IsComplete w.scripts history → unfinished ≡ [] → IsRun g (task_on image shape scripts) stop choice history unfinished left
   ran_whole complete none =
-      let whole : IsWhole (task_of scripts) history left = record {
-        complete = subst (λ s. IsComplete s history) fresh.scripts_are complete;
-        tree = subst (λ calls. Strict (beginning (task_of scripts)) history calls left) none permitted;
+      let whole : IsWhole (task_on image shape scripts) history left = record {
+        complete = subst (λ s. IsComplete s history) on.scripts_are complete;
+        tree = subst (λ calls. Strict (beginning (task_on image shape scripts)) history calls left) none permitted;
       } in
       record {
         ends = record { legal = legal; scripted = scripted; open_calls = open_calls; permitted = permitted; whole = λ e. whole; stopped = λ n e. inl whole };
         kept = kept;
+        found = found;
       }
 
   -- the power went
-  pub ran_lost : is_on after ≡ false → IsRun scripts stop history unfinished left
+  pub ran_lost : is_on after ≡ false → IsRun g (task_on image shape scripts) stop choice history unfinished left
   ran_lost off = record {
     ends = record {
       legal = legal;
       scripted = scripted;
       open_calls = open_calls;
       permitted = permitted;
-      whole = λ always. absurd (never_off (512 * (length history + 1)) before after (power ∙ ap (λ g. record { given = g; taken = 0 }) always) ran.steps off);
+      whole = λ always. absurd (never_off (steps_of_items history + steps_of_begun unfinished) before after (power ∙ ap (λ given. record { given = given; taken = 0 }) always) ran.steps off);
       stopped = λ n some.
-          (let most : n ≤ 512 * (length history + 1) = spent n (512 * (length history + 1)) before after (power ∙ ap (λ g. record { given = g; taken = 0 }) some) ran.steps off in
-          inr (record { by_any = omega arith; by_names = λ quiet. most }));
+          inr (affords n history unfinished scripts Mode.Strict open_calls ran.one
+          (spent n (steps_of_items history + steps_of_begun unfinished) before after (power ∙ ap (λ given. record { given = given; taken = 0 }) some) ran.steps off));
     };
     kept = kept;
+    found = found;
   }

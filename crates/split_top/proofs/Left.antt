@@ -2,18 +2,22 @@
 use Rattle.std.proofs.Common.{List, subst}
 use Rattle.pm_words.specs.declared.Cell.{Cell}
 use Rattle.pm_words.specs.Powers.{Supply}
+use Rattle.disk_places.specs.Places.{Geometry}
 use Rattle.posix_types.specs.declared.item.Item.{Item}
+use Rattle.posix_types.specs.declared.reply.Shape.{Shape}
+use Rattle.posix_types.specs.declared.tree.TreeEntry.{TreeEntry}
 use Rattle.posix_types.specs.Scripts.{Scripts}
 use Rattle.posix_spec.specs.Run.{Begun}
 use Rattle.world_images.specs.Promised.{KeepsPromise}
 use Rattle.split_calls.specs.Runs.{HasNoLog}
 use Rattle.split_machine.specs.Runs.{IsRan}
 use Rattle.split_world.specs.Views.{WorldView}
-use Rattle.split_top.specs.Worlds.{IsFreshWorld, IsLeftAs}
+use Rattle.split_top.specs.Found.{IsLeftAs}
+use Rattle.split_top.specs.Worlds.{IsWorldOn}
 
-pub left_as : (scripts : Scripts) (w : WorldView) (before after : Supply) (pm : List Cell) (history : List Item) (unfinished : List Begun) → IsFreshWorld scripts w → IsRan w before after pm history unfinished
-    → IsLeftAs pm w.start history unfinished
-left_as scripts w before after pm history unfinished fresh ran = record {
-  no_log = subst (λ g. HasNoLog g pm) fresh.geometry ran.no_log;
-  promise = subst (λ g. KeepsPromise g pm w.start history unfinished) fresh.geometry ran.promise;
+pub left_as : (g : Geometry) (tree : List TreeEntry) (shape : Shape) (scripts : Scripts) (w : WorldView) (before after : Supply) (pm : List Cell) (history : List Item) (unfinished : List Begun)
+    → IsWorldOn g tree shape scripts w → IsRan w before after pm history unfinished → IsLeftAs g pm w.start history unfinished
+left_as g tree shape scripts w before after pm history unfinished on ran = record {
+  no_log = subst (λ h. HasNoLog h pm) on.geometry ran.no_log;
+  promise = subst (λ h. KeepsPromise h pm w.start history unfinished) on.geometry ran.promise;
 }

@@ -1,12 +1,14 @@
 pub mod Answered
 pub mod Beginnings
 pub mod Endings
-pub mod FreshDevices
+pub mod FreshDead
+pub mod Kept
 pub mod Left
-pub mod Live
+pub mod Lengths
 pub mod Opened
 pub mod Remounts
 pub mod Results
 pub mod Runnable
 pub mod Shown
+pub mod Stepped
 pub mod Told

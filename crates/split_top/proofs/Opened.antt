@@ -1,12 +1,11 @@
 -- An image by its device, and what is asked of one that is mounted.
-use Rattle.std.proofs.Common.{◌≡◌, ◌≤◌, ◌*◌, ◌^◌, ℕ, List, [], length, false, true, refl, sym, ◌∙◌, ap, subst, arith, inl, inr}
+use Rattle.std.proofs.Common.{◌≡◌, ◌*◌, ℕ, List, [], length, false, true, refl, sym, ◌∙◌, ap, subst, inl, inr}
 use Rattle.pm_words.specs.declared.Cell.{Cell}
 use Rattle.pm_words.specs.Images.{words_of}
 use Rattle.pm_words.specs.Words.{word_at, Words}
 use Rattle.disk_places.specs.Journal.{journaled}
-use Rattle.disk_places.specs.Places.{base_word, Geometry}
+use Rattle.disk_places.specs.Places.{Geometry}
 use Rattle.disk_rules.specs.Broken.{Breaks}
-use Rattle.disk_rules.specs.Checked.{HasHead}
 use Rattle.disk_rules.specs.Content.{content}
 use Rattle.disk_rules.specs.Live.{live_entries}
 use Rattle.disk_rules.specs.Rules.{geometry_of, IsChecked}
@@ -14,30 +13,12 @@ use Rattle.disk_rules.specs.Volume.{Volume, volume}
 use Rattle.posix_types.specs.declared.tree.TreeEntry.{TreeEntry}
 use Rattle.world_rules.specs.Shown.{IsTreeOfContent}
 use Rattle.report_text.specs.Texts.{tree_text}
-use Rattle.volume_check.specs.Readings.{AreTables}
-use Rattle.volume_check.specs.declared.reading.Tables.{Tables}
 use Rattle.split_top.specs.Images.{CanOpen, HasNoLive, IsRefused, IsTreeText}
-use Rattle.split_top.proofs.Live.{none-where}
+use Rattle.split_top.proofs.Lengths.{none-where}
 
--- the volume of an image, and what is read of it
+-- the volume of an image
 abbrev pub volume_of : Words → Volume
 volume_of f = volume (geometry_of f) (journaled f)
-
-geometry-is : (g : Geometry) (j : Words) → (volume g j).geometry ≡ g
-unfolding volume
-geometry-is g j = refl
-
-base-is : (g : Geometry) (j : Words) → (volume g j).base ≡ j base_word
-unfolding volume
-base-is g j = refl
-
-pub size-read : (n : ℕ) (f : Words) (t : Tables) → AreTables (volume_of f) t → HasHead (8 * n) f → n ≡ 512 * t.geometry.blocks
-size-read n f t are head =
-    let same : t.geometry ≡ geometry_of f = sym are.geometry ∙ geometry-is (geometry_of f) (journaled f) in
-    omega (arith, head.numbers.whole, ap (λ (g : Geometry). g.blocks) same)
-
-pub base-read : (bytes : ℕ) (f : Words) (t : Tables) → AreTables (volume_of f) t → HasHead bytes f → t.base ≤ 2 ^ 63
-base-read bytes f t are head = subst (λ b. b ≤ 2 ^ 63) (sym (base-is (geometry_of f) (journaled f)) ∙ are.base) head.state.most_base
 
 -- the bytes of an image, and the device that has its words
 module _ (bytes : List ℕ) (d : List Cell) (size : 8 * length d ≡ length bytes) (words : words_of d ≡ word_at bytes) where
@@ -77,8 +58,7 @@ module _ (bytes : List ℕ) (g : Geometry) (can : CanOpen bytes) (numbers : geom
 
   pub open-text : (left : List TreeEntry) (output : List ℕ) → IsTreeOfContent (content g (word_at bytes)) left → output ≡ tree_text left → IsTreeText bytes output
   open-text left output tree text = record {
-    can_open = can;
-    left = left;
-    is_tree = subst (λ h. IsTreeOfContent (content h (word_at bytes)) left) (sym numbers) tree;
+    tree = left;
+    shows = record { can_open = can; is_tree = subst (λ h. IsTreeOfContent (content h (word_at bytes)) left) (sym numbers) tree };
     is_text = text;
   }

@@ -12,6 +12,8 @@ use Rattle.disk_rules.specs.Rules.{geometry_of, IsChecked}
 use Rattle.disk_rules.specs.Volume.{volume}
 use Rattle.posix_types.specs.declared.tree.TreeEntry.{TreeEntry}
 use Rattle.world_rules.specs.Shown.{IsTreeOfContent}
+use Rattle.k_mount.specs.Sheds.{AllNamed}
+use Rattle.world_images.specs.Images.{HasNoEntry}
 use Rattle.image_layout.specs.Numbers.{default_numbers}
 use Rattle.report_text.specs.Texts.{tree_text}
 use Rattle.outside.specs.Outside.{AreOfFile, FileList, IsReplaced}
@@ -50,12 +52,22 @@ pub record HasLive (bytes : List ℕ) (rule place : ℕ) : Type 0 where
 abbrev pub IsRefused : List ℕ → ℕ → ℕ → Type 0
 IsRefused bytes rule place = Breaks (length bytes) (word_at bytes) rule place ⊎ HasLive bytes rule place
 
--- The text of the tree of an image: the image can be opened, and the tree is that of its content.
-pub record IsTreeText (bytes output : List ℕ) : Type 0 where
+-- THE TREE OF AN IMAGE: the image can be opened, and the tree is that of its content.
+pub record ShowsTree (bytes : List ℕ) (tree : List TreeEntry) : Type 0 where
   pub can_open : CanOpen bytes
-  pub left : List TreeEntry
-  pub is_tree : IsTreeOfContent (content (geometry_of (word_at bytes)) (word_at bytes)) left
-  pub is_text : output ≡ tree_text left
+  pub is_tree : IsTreeOfContent (content (geometry_of (word_at bytes)) (word_at bytes)) tree
+
+-- AN IMAGE AS A MOUNT LEAVES IT: it shows this tree, each file has a name, and no slot of its log has an entry.
+pub record IsMounted (bytes : List ℕ) (tree : List TreeEntry) : Type 0 where
+  pub shows : ShowsTree bytes tree
+  pub named : AllNamed (volume (geometry_of (word_at bytes)) (journaled (word_at bytes)))
+  pub no_entry : HasNoEntry (volume (geometry_of (word_at bytes)) (journaled (word_at bytes))) (journaled (word_at bytes))
+
+-- the text of the tree of an image
+pub record IsTreeText (bytes output : List ℕ) : Type 0 where
+  pub tree : List TreeEntry
+  pub shows : ShowsTree bytes tree
+  pub is_text : output ≡ tree_text tree
 
 -- The file of this name was replaced by the fresh image with these numbers, and every other file is as before.
 pub record IsMade (name : List ℕ) (g : Geometry) (old new : Option FileList) : Type 0 where

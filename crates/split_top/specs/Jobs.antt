@@ -5,7 +5,7 @@ use Rattle.script_text.specs.Scripts.{bad_line}
 use Rattle.command_words.specs.Command.{Command}
 use Rattle.exit_status.specs.declared.statuses.Status.{Status}
 use Rattle.split_top.specs.Images.{IsRefused}
-use Rattle.split_top.specs.Top.{BreaksGrammar, BreaksRule, Completes, IsCutShort, IsDone, IsMissing, IsRefusal, Leaves, Replaces}
+use Rattle.split_top.specs.Top.{BreaksGrammar, BreaksRule, Completes, IsCutShort, IsDone, IsMissing, IsRefusal, IsReplacedBy, Replaces}
 
 -- a file was not read
 abbrev pub IsUnread : Status → Type 0
@@ -26,6 +26,12 @@ IsUnopened bytes (Status.BadImage rule place) = IsRefused bytes rule place
 IsUnopened bytes Status.NoMemory = ⊤
 IsUnopened bytes status = ⊥
 
+-- an image was not kept
+abbrev pub IsUnkept : Status → Type 0
+IsUnkept Status.WriteFault = ⊤
+IsUnkept Status.NoMemory = ⊤
+IsUnkept status = ⊥
+
 -- an output was put, or not
 abbrev pub IsPutOrNot : Status → Type 0
 IsPutOrNot Status.Done = ⊤
@@ -43,7 +49,7 @@ pub record IsAnswer (c : Command) (files left : Option FileList) (old new : Opti
   pub read_fault : status ≡ Status.ReadFault → Failed
   pub write_fault : status ≡ Status.WriteFault → Refused ⊎ (Replaces c × Failed)
   pub done : status ≡ Status.Done → IsDone c files left old new
-  pub kept : (left ≡ files) ⊎ (Replaces c × Leaves c files left)
+  pub kept : (left ≡ files) ⊎ IsReplacedBy c files left
   pub front : (status ≡ Status.WriteFault) ⊎ (status ≡ Status.NoMemory) → ((left ≡ files) × (new ≡ old)) ⊎ IsCutShort c files left old new
   pub nothing : IsRefusal status → (left ≡ files) × (new ≡ old)
   pub complete : ¬ Failed → ¬ Refused → Completes c files status

@@ -1,6 +1,6 @@
+pub mod Found
 pub mod Images
 pub mod Jobs
-pub mod Live
 pub mod Runs
 pub mod Top
 pub mod Worlds

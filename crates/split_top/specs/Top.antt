@@ -1,15 +1,22 @@
 -- What the statuses of the top call say.
-use Rattle.std.specs.Prelude.{◌≡◌, ⊤, ℕ, List, ◌++◌, Option, Some, None}
-use Rattle.outside.specs.Outside.{FileList, AreOfFile, IsAbsent, Takes, TakesFront, bytes_named}
+use Rattle.std.specs.Prelude.{◌≡◌, ◌⊎◌, ⊤, ℕ, List, ◌++◌, Option, Some, None, IsSome}
+use Rattle.outside.specs.Outside.{FileList, AreOfFile, IsAbsent, IsReplaced, Takes, TakesFront, bytes_named}
+use Rattle.pm_words.specs.Words.{word_at}
+use Rattle.disk_rules.specs.Rules.{geometry_of}
+use Rattle.disk_places.specs.Places.{Geometry}
+use Rattle.pm_lines.specs.declared.choices.Choice.{Choice}
 use Rattle.posix_types.specs.declared.item.Item.{Item}
+use Rattle.posix_types.specs.declared.reply.Shape.{Shape}
 use Rattle.posix_types.specs.declared.tree.TreeEntry.{TreeEntry}
 use Rattle.posix_types.specs.Scripts.{Scripts}
+use Rattle.posix_spec.specs.Ending.{Task}
 use Rattle.posix_spec.specs.Run.{Begun}
+use Rattle.world_beginning.specs.Laws.{IsShapeOf}
 use Rattle.report_text.specs.Texts.{history_text, tree_text}
 use Rattle.script_text.specs.Scripts.{bad_line, scripts_of}
 use Rattle.command_words.specs.Command.{Command, Mkfs, Tree, Step, Image, Fresh, Stored, Run, command_of}
-use Rattle.split_top.specs.Images.{AreOfImage, blocks_text, CanOpen, IsMade, IsRefused, IsTreeText}
-use Rattle.split_top.specs.Runs.{IsRun}
+use Rattle.split_top.specs.Images.{AreOfImage, blocks_text, CanOpen, IsMade, IsMounted, IsRefused, IsTreeText, ShowsTree}
+use Rattle.split_top.specs.Runs.{IsRun, task_on}
 use Rattle.exit_status.specs.declared.statuses.Status.{Status}
 
 -- THE WORDS ARE A COMMAND of which this holds.
@@ -18,71 +25,100 @@ pub record Says (words : List (List ℕ)) (Holds : Command → Type 0) : Type 0 
   pub is_command : command_of words ≡ Some command
   pub holds : Holds command
 
--- ---- what is put
--- What a run of scripts puts: the text of a history, and then that of the tree that was left.
-pub record IsText (scripts : Scripts) (stop : Option ℕ) (output : List ℕ) : Type 0 where
+-- ---- what is done
+-- What a run puts and leaves: the text of a history, and then that of the tree that was left; and an image with these numbers
+-- and this tree, as a mount leaves it.
+pub record IsOutcome (g : Geometry) (task : Task) (stop : Option ℕ) (choice : Choice) (output kept : List ℕ) : Type 0 where
   pub history : List Item
   pub unfinished : List Begun
   pub left : List TreeEntry
-  pub is_run : IsRun scripts stop history unfinished left
+  pub is_run : IsRun g task stop choice history unfinished left
   pub is_text : output ≡ history_text history ++ tree_text left
+  pub is_kept : IsMounted kept left
+  pub numbers : geometry_of (word_at kept) ≡ g
 
--- The bytes are a script, and this is put by a run of it.
-pub record IsOutput (stop : Option ℕ) (bytes output : List ℕ) : Type 0 where
-  pub is_script : bad_line bytes ≡ None
-  pub is_text : IsText (scripts_of bytes) stop output
+-- A RUN ON AN IMAGE with these numbers: the image shows a tree, and a run of the scripts that begins with this tree puts this and
+-- leaves this image.
+pub record IsRunOn (image : List ℕ) (g : Geometry) (scripts : Scripts) (stop : Option ℕ) (choice : Choice) (output kept : List ℕ) : Type 0 where
+  pub tree : List TreeEntry
+  pub shows : ShowsTree image tree
+  pub shape : Shape
+  pub is_shape : IsShapeOf g shape
+  pub outcome : IsOutcome g (task_on tree shape scripts) stop choice output kept
 
--- `step`: the bytes of the script, as far as the files are told, have this output.
-pub record IsStepOutput (files : Option FileList) (run : Run) (output : List ℕ) : Type 0 where
+-- the bytes are a script, and it is run
+pub record IsScriptRunOn (image : List ℕ) (g : Geometry) (script : List ℕ) (stop : Option ℕ) (choice : Choice) (output kept : List ℕ) : Type 0 where
+  pub is_script : bad_line script ≡ None
+  pub is_run : IsRunOn image g (scripts_of script) stop choice output kept
+
+-- so the image and the script that the words name are run
+pub record IsStepped (files : Option FileList) (run : Run) (output kept : List ℕ) : Type 0 where
+  pub image : List ℕ
+  pub is_image : AreOfImage files run.image image
+  pub script : List ℕ
+  pub is_read : AreOfFile files run.script script
+  pub is_run : IsScriptRunOn image (geometry_of (word_at image)) script run.options.stop run.options.choice output kept
+
+-- the image that is left is the file of this name, and every other file is as before; or nothing is kept
+abbrev pub Keeps : Option (List ℕ) → List ℕ → Option FileList → Option FileList → Type 0
+Keeps None kept old new = new ≡ old
+Keeps (Some name) kept old new = IsReplaced old new name kept
+
+-- `step`: a run of the script on the image, which is kept where a name says so
+pub record IsStepDone (run : Run) (old new : Option FileList) (output : List ℕ) : Type 0 where
+  pub kept : List ℕ
+  pub stepped : IsStepped old run output kept
+  pub is_left : Keeps run.options.keep kept old new
+
+-- `tree`: the bytes of the image have this tree, and no file changes
+pub record IsTreeDone (image : Image) (old new : Option FileList) (output : List ℕ) : Type 0 where
   pub bytes : List ℕ
-  pub is_read : AreOfFile files run.script bytes
-  pub is_output : IsOutput run.options.stop bytes output
-
--- `tree`: the bytes of the image have this tree.
-pub record IsTreeOutput (files : Option FileList) (image : Image) (output : List ℕ) : Type 0 where
-  pub bytes : List ℕ
-  pub is_read : AreOfImage files image bytes
+  pub is_read : AreOfImage old image bytes
   pub is_tree : IsTreeText bytes output
+  pub is_left : new ≡ old
 
--- what a command puts
-abbrev pub Puts : Command → Option FileList → List ℕ → Type 0
-Puts (Mkfs name geometry) files output = output ≡ blocks_text geometry
-Puts (Tree image) files output = IsTreeOutput files image output
-Puts (Step run) files output = IsStepOutput files run output
+-- `mkfs`: the fresh image is the file of this name, and the line says its room
+pub record IsMkfsDone (name : List ℕ) (g : Geometry) (old new : Option FileList) (output : List ℕ) : Type 0 where
+  pub made : IsMade name g old new
+  pub is_line : output ≡ blocks_text g
 
--- ---- what is left of the files
--- `mkfs` alone replaces a file
+-- WHAT A COMMAND DOES: what it leaves of the files, and what it puts
+abbrev pub Does : Command → Option FileList → Option FileList → List ℕ → Type 0
+Does (Mkfs name geometry) old new output = IsMkfsDone name geometry old new output
+Does (Tree image) old new output = IsTreeDone image old new output
+Does (Step run) old new output = IsStepDone run old new output
+
+-- `mkfs` replaces a file, and `step` where it keeps the image
 abbrev pub Replaces : Command → Type 0
 Replaces (Mkfs name geometry) = ⊤
 Replaces (Tree image) = ⊥
-Replaces (Step run) = ⊥
+Replaces (Step run) = IsSome run.options.keep
 
-abbrev pub Leaves : Command → Option FileList → Option FileList → Type 0
-Leaves (Mkfs name geometry) old new = IsMade name geometry old new
-Leaves (Tree image) old new = new ≡ old
-Leaves (Step run) old new = new ≡ old
+-- a command that replaces a file left the files as it does where it is done
+pub record IsReplacedBy (c : Command) (files left : Option FileList) : Type 0 where
+  pub replaces : Replaces c
+  pub output : List ℕ
+  pub does : Does c files left output
 
 -- ---- the job was done, or was cut short
 -- the files are as the job leaves them, and the sink took all of its output
 pub record IsDone (c : Command) (files left : Option FileList) (old new : Option (List ℕ)) : Type 0 where
   pub output : List ℕ
-  pub is_output : Puts c files output
-  pub is_left : Leaves c files left
+  pub does : Does c files left output
   pub is_taken : Takes old new output
 
 -- the files are as the job leaves them, and the sink took a front of its output
 pub record IsCutShort (c : Command) (files left : Option FileList) (old new : Option (List ℕ)) : Type 0 where
   pub output : List ℕ
-  pub is_output : Puts c files output
-  pub is_left : Leaves c files left
+  pub does : Does c files left output
   pub is_front : TakesFront old new output
 
 -- ---- why it was refused
--- which file a command reads
+-- which files a command reads
 abbrev pub Reads : Command → List ℕ → Type 0
 Reads (Mkfs stored geometry) name = ⊥
 Reads (Tree image) name = image ≡ Stored name
-Reads (Step run) name = name ≡ run.script
+Reads (Step run) name = (run.image ≡ Stored name) ⊎ (name ≡ run.script)
 
 -- the file that it reads has this name, and is not there, as far as the files are told
 pub record IsMissing (c : Command) (files : Option FileList) (name : List ℕ) : Type 0 where
@@ -98,10 +134,13 @@ pub record IsBadImage (image : Image) (files : Option FileList) (rule place : �
 abbrev pub BreaksRule : Command → Option FileList → ℕ → ℕ → Type 0
 BreaksRule (Mkfs name geometry) files rule place = ⊥
 BreaksRule (Tree image) files rule place = IsBadImage image files rule place
-BreaksRule (Step run) files rule place = ⊥
+BreaksRule (Step run) files rule place = IsBadImage run.image files rule place
 
--- this line of the script is the first that breaks the grammar
+-- the image can be opened, and this line of the script is the first that breaks the grammar
 pub record IsBadScript (run : Run) (files : Option FileList) (line : ℕ) : Type 0 where
+  pub image : List ℕ
+  pub is_image : AreOfImage files run.image image
+  pub can_open : CanOpen image
   pub bytes : List ℕ
   pub is_read : AreOfFile files run.script bytes
   pub is_bad : bad_line bytes ≡ Some line
@@ -132,12 +171,13 @@ abbrev pub IsGivenImage : Option FileList → Image → List ℕ → Type 0
 IsGivenImage files Fresh bytes = AreOfImage files Fresh bytes
 IsGivenImage files (Stored name) bytes = IsGiven files name bytes
 
--- for a script that is there what the grammar says, or that memory ran out
-abbrev pub IsVerdict : List ℕ → Status → Type 0
-IsVerdict bytes Status.Done = bad_line bytes ≡ None
-IsVerdict bytes (Status.BadScript line) = bad_line bytes ≡ Some line
-IsVerdict bytes Status.NoMemory = ⊤
-IsVerdict bytes status = ⊥
+-- for an image and a script that are there what the rules and the grammar say, or that memory ran out
+abbrev pub IsStepVerdict : List ℕ → List ℕ → Status → Type 0
+IsStepVerdict image script Status.Done = CanOpen image × (bad_line script ≡ None)
+IsStepVerdict image script (Status.BadImage rule place) = IsRefused image rule place
+IsStepVerdict image script (Status.BadScript line) = CanOpen image × (bad_line script ≡ Some line)
+IsStepVerdict image script Status.NoMemory = ⊤
+IsStepVerdict image script status = ⊥
 
 -- for an image that is there what the rules say, or that memory ran out
 abbrev pub IsImageVerdict : List ℕ → Status → Type 0
@@ -152,7 +192,12 @@ IsDoneOrNot Status.Done = ⊤
 IsDoneOrNot Status.NoMemory = ⊤
 IsDoneOrNot status = ⊥
 
+-- an image that is refused is refused without its script
+pub record CompletesStep (run : Run) (files : Option FileList) (status : Status) : Type 0 where
+  pub refused : (image : List ℕ) → IsGivenImage files run.image image → ¬ CanOpen image → IsImageVerdict image status
+  pub ran : (image script : List ℕ) → IsGivenImage files run.image image → IsGiven files run.script script → IsStepVerdict image script status
+
 abbrev pub Completes : Command → Option FileList → Status → Type 0
 Completes (Mkfs name geometry) files status = IsDoneOrNot status
 Completes (Tree image) files status = (bytes : List ℕ) → IsGivenImage files image bytes → IsImageVerdict bytes status
-Completes (Step run) files status = (bytes : List ℕ) → IsGiven files run.script bytes → IsVerdict bytes status
+Completes (Step run) files status = CompletesStep run files status

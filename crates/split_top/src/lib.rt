@@ -9,10 +9,12 @@
 //! again by `k_mount`, and the tree is that of its content, which the World's promise permits.
 #![tactic(auto)]
 
+mod images;
 mod jobs;
 mod making;
 mod opening;
 mod program;
+mod running;
 mod runs;
 mod showing;
 mod stepping;

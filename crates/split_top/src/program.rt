@@ -4,15 +4,37 @@ ghost use Rattle.std.specs.String.{string_bytes};
 ghost use Rattle.outside.specs.Outside.{Rose};
 ghost use Rattle.command_words.specs.Command as commands;
 ghost use Rattle.command_words.specs.Command.{command_of};
-ghost use Rattle.split_top.specs.Top.{BreaksGrammar, BreaksRule, Completes, IsCutShort, IsDone, IsMissing, IsRefusal, Leaves, Replaces, Says};
+ghost use Rattle.command_words.specs.Seen.{seen};
+ghost use Rattle.split_top.specs.Jobs.{IsAnswer};
+ghost use Rattle.split_top.specs.Top.{BreaksGrammar, BreaksRule, Completes, IsCutShort, IsDone, IsMissing, IsRefusal, IsReplacedBy, Replaces, Says};
 
 use crate::making::make_image;
-use crate::showing::{show_fresh, show_stored};
+use crate::showing::show;
 use crate::stepping::run_step;
-use command_words::{Command, Image, read_command};
+use command_words::{Command, read_command};
 use exit_status::Status;
 use outside::{Files, Sink};
 use std::alloc::Global;
+
+/// Does what a command says.
+fn do_command<F: Files, K: Sink>(
+    alloc: Global,
+    command: &Command<'_>,
+    files: &mut F,
+    out: &mut K,
+) -> Status
+    ensures { IsAnswer (seen command.now) (F.told files.old) (F.told files.new) (K.told out.old) (K.told out.new) (Rose (F.misses files.old) (F.misses files.new)) (Rose (F.faults files.old) (F.faults files.new)) (Rose (K.faults out.old) (K.faults out.new)) result }
+{
+    match command {
+        Command::Mkfs { name, geometry } => make_image(alloc, name.as_str(), geometry, files, out),
+        Command::Tree(image) => show(alloc, image, files, out),
+        Command::Step {
+            image,
+            script,
+            options,
+        } => run_step(alloc, image, script.as_str(), options, files, out),
+    }
+}
 
 /// Does the job that the words of the command line say.
 ///
@@ -20,14 +42,15 @@ use std::alloc::Global;
 ///   the line `D data blocks` is put.
 /// - `tree IMAGE`: the image is read, checked and mounted, and its tree is put. `-` is the fresh default image. An image
 ///   in whose log an entry is live is refused as rule 12 at 0, since no log is recovered yet.
-/// - `step - S strict`, then the options `stop N` and `choose C`: the script S is read from the files, checked and run
-///   on the fresh default image in strict mode; then the history of its calls and the tree that is left are put at
-///   once. With `stop N` the power goes after N device steps, a word that is not durable is what `choose C` says
-///   (`oldest`, `newest`, `even`, `odd`), and the image that is left is mounted again.
+/// - `step IMAGE S strict`, then the options `stop N`, `choose C` and `keep NAME`: the image is read, checked and mounted
+///   (`-` is the fresh default one); the script S is read, checked and run on it in strict mode; the file NAME is
+///   replaced by the image that is left; then the history of the calls and the tree that is left are put at once. With
+///   `stop N` the power goes after N device steps; a word that is not durable is what `choose C` says (`oldest`,
+///   `newest`, `even`, `odd`, or a number for draws from it as a seed); and the image that is left is mounted again.
 ///
-/// A number has at most 18 decimal digits. No file but that of `mkfs` is changed, and that one only once its image and
-/// the line are made. Nothing is put unless the job is done, but where the sink refuses: then it has a front of the
-/// output.
+/// A number has at most 18 decimal digits. No file but that of `mkfs` or `keep` is changed, and that one only once all
+/// that is to be told is made. Nothing is put unless the job is done, but where the sink refuses: then it has a front of
+/// the output.
 pub fn top<R, F: Files, K: Sink>(
     _rt: &R,
     alloc: Global,
@@ -47,7 +70,7 @@ pub fn top<R, F: Files, K: Sink>(
     ensures done { result ≡ Status.Done → Says (map string_bytes words.now) (λ c. IsDone c (F.told files.old) (F.told files.new) (K.told out.old) (K.told out.new)) }
 
     // What is left where the job is not done.
-    ensures files { (F.told files.new ≡ F.told files.old) ⊎ Says (map string_bytes words.now) (λ c. Replaces c × Leaves c (F.told files.old) (F.told files.new)) }
+    ensures files { (F.told files.new ≡ F.told files.old) ⊎ Says (map string_bytes words.now) (λ c. IsReplacedBy c (F.told files.old) (F.told files.new)) }
     ensures front { (result ≡ Status.WriteFault) ⊎ (result ≡ Status.NoMemory) → ((F.told files.new ≡ F.told files.old) × (K.told out.new ≡ K.told out.old)) ⊎ Says (map string_bytes words.now) (λ c. IsCutShort c (F.told files.old) (F.told files.new) (K.told out.old) (K.told out.new)) }
     ensures nothing { IsRefusal result → (F.told files.new ≡ F.told files.old) × (K.told out.new ≡ K.told out.old) }
 
@@ -57,14 +80,5 @@ pub fn top<R, F: Files, K: Sink>(
     let Some(command) = read_command(words) else {
         return Status::Usage;
     };
-    match &command {
-        Command::Mkfs { name, geometry } => make_image(alloc, name.as_str(), geometry, files, out),
-        Command::Tree(Image::Fresh) => show_fresh(alloc, out),
-        Command::Tree(Image::Stored(name)) => show_stored(alloc, name.as_str(), files, out),
-        Command::Step {
-            script,
-            stop,
-            choice,
-        } => run_step(alloc, script.as_str(), *stop, *choice, files, out),
-    }
+    do_command(alloc, &command, files, out)
 }

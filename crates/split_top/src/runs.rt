@@ -1,27 +1,42 @@
-//! A run of scripts: their calls in a World on a fresh device, and what is read back of it.
+//! A run of scripts: their calls in a World on an image, and what is read back of it.
 ghost use Rattle.std.specs.Prelude.{◌≡◌, List, IfOk};
+ghost use Rattle.pm_words.specs.Words.{word_at};
+ghost use Rattle.disk_rules.specs.Rules.{geometry_of};
 ghost use Rattle.crash_spec.specs.Permitted.{Permitted};
 ghost use Rattle.posix_spec.specs.Run.{Begun};
-ghost use Rattle.posix_spec.specs.State as spec;
+ghost use Rattle.posix_spec.specs.State.{State};
+ghost use Rattle.posix_types.specs.Scripts as spec;
 ghost use Rattle.posix_types.specs.declared.item.Item as items;
-ghost use Rattle.split_top.specs.Runs.{IsRun};
-ghost use Rattle.split_top.specs.Worlds.{AreRunnable, IsFreshWorld, IsLeftAs};
+ghost use Rattle.posix_types.specs.declared.reply.Shape.{Shape};
+ghost use Rattle.posix_types.specs.declared.tree.TreeEntry as trees;
+ghost use Rattle.split_top.specs.Found.{IsFound, IsLeftAs};
+ghost use Rattle.split_top.specs.Images.{CanOpen, IsMounted};
+ghost use Rattle.split_top.specs.Runs.{IsRun, task_on};
+ghost use Rattle.split_top.specs.Worlds.{AreRunnable, BeginsOn, IsRanOn, IsWorldOn};
 
 use image_layout::Geometry;
+use k_check::crash_image;
 use k_mount::remount;
-use k_split::{KSplit, mkfs};
 use pm_lines::{Choice, Pm, Power};
 use posix_types::{Item, Mode, Scripts, Tree};
 use split_calls::NoMemory;
-use split_machine::run as run_world;
-use split_world::{Ended, World, a_fresh_device_is_mounted};
+use split_machine::{run as run_scripts, steps_are_afforded};
+use split_world::{Ended, World, a_remounted_device_is_mounted};
 use std::alloc::{AllocError, Global};
 
-/// What a run leaves: the calls that returned, and the tree that is found afterwards.
+/// What a run leaves: the calls that returned, the tree that is found afterwards, and the image that shows it.
 #[derive(Drop)]
 pub(crate) struct Ran {
     pub history: Vec<Item>,
     pub tree: Tree,
+    pub image: Vec<u8>,
+}
+
+/// What is found on a device: the tree, and the image that is mounted with it.
+#[derive(Drop)]
+struct Left {
+    tree: Tree,
+    image: Vec<u8>,
 }
 
 /// The power of a run: for so many steps, or always.
@@ -34,53 +49,92 @@ fn power_for(stop: Option<u64>) -> Power
     }
 }
 
-/// The World of scripts on a fresh device.
-fn fresh_world(alloc: Global, scripts: Scripts) -> Result<World, NoMemory>
-    requires { AreRunnable scripts }
-    ensures { IfOk result (IsFreshWorld scripts) }
+/// The World of scripts on an image that can be opened.
+fn world_on(
+    alloc: Global,
+    image: &[u8],
+    geometry: Geometry,
+    scripts: Scripts,
+) -> Result<World, NoMemory>
+    requires can_open { CanOpen image.now }
+    requires numbers { geometry_of (word_at image.now) ≡ geometry }
+    requires runnable { AreRunnable scripts }
+    ensures { IfOk result (BeginsOn image.now geometry scripts) }
 {
-    a_fresh_device_is_mounted();
-    let geometry = Geometry::default_image();
-    let bytes = mkfs(alloc, &geometry)?;
-    let pm = Pm::from_image(alloc, &bytes)?;
-    let k = KSplit::open(alloc, pm, geometry, false)?;
-    World::over(alloc, k, Mode::Strict, scripts)
+    a_remounted_device_is_mounted();
+    let remounted = remount(alloc, image, geometry)?;
+    World::over(alloc, remounted.k, Mode::Strict, scripts)
 }
 
-/// The tree that is found on the device that a run left.
-fn left_on(alloc: Global, pm: &Pm, choice: Choice) -> Result<Tree, AllocError>
-    requires left { (start : spec.State) × (history : List items.Item) × (unfinished : List Begun) × IsLeftAs pm.now start history unfinished }
-    ensures { IfOk result (λ left. (start : spec.State) (history : List items.Item) (unfinished : List Begun) → IsLeftAs pm.now start history unfinished → Permitted start.mode start history unfinished left) }
+/// What is found on the device that a run left: the image by the choice is mounted again.
+fn left_on(alloc: Global, pm: &Pm, geometry: Geometry, choice: Choice) -> Result<Left, AllocError>
+    requires { (start : State) × (history : List items.Item) × (unfinished : List Begun) × IsLeftAs geometry pm.now start history unfinished }
+    ensures found { IfOk result (λ left. (start : State) (history : List items.Item) (unfinished : List Begun) → IsLeftAs geometry pm.now start history unfinished → IsFound geometry choice start history unfinished left.tree) }
+    ensures permitted { IfOk result (λ left. (start : State) (history : List items.Item) (unfinished : List Begun) → IsLeftAs geometry pm.now start history unfinished → Permitted start.mode start history unfinished left.tree) }
+    ensures mounted { IfOk result (λ left. IsMounted left.image.items left.tree) }
+    ensures numbers { IfOk result (λ left. geometry_of (word_at left.image.items) ≡ geometry) }
 {
-    let geometry = Geometry::default_image();
-    let bytes = pm.choose(alloc, choice)?;
+    let bytes = crash_image(alloc, pm, &geometry, choice)?;
     let remounted = remount(alloc, &bytes, geometry)?;
-    Ok(remounted.tree)
+    let device = remounted.k.into_pm();
+    let image = device.choose(alloc, Choice::Newest)?;
+    Ok(Left {
+        tree: remounted.tree,
+        image,
+    })
 }
 
-/// Runs scripts on a fresh image, and reads back what is left.
+/// Runs a World in which nothing has begun, on a device with these numbers, and reads back what is left.
+fn run_world(
+    alloc: Global,
+    world: World,
+    geometry: Geometry,
+    stop: Option<u64>,
+    choice: Choice,
+) -> Result<Ran, NoMemory>
+    requires { (tree : List trees.TreeEntry) × (shape : Shape) × (scripts : spec.Scripts) × IsWorldOn geometry tree shape scripts world }
+    ensures ran { IfOk result (λ ran. (tree : List trees.TreeEntry) (shape : Shape) (scripts : spec.Scripts) → IsWorldOn geometry tree shape scripts world → (unfinished : List Begun) × IsRun geometry (task_on tree shape scripts) stop choice ran.history.items unfinished ran.tree) }
+    ensures mounted { IfOk result (λ ran. IsMounted ran.image.items ran.tree) }
+    ensures numbers { IfOk result (λ ran. geometry_of (word_at ran.image.items) ≡ geometry) }
+{
+    steps_are_afforded();
+    let mut power = power_for(stop);
+    match run_scripts(alloc, world, &mut power)? {
+        Ended::Whole { pm, history } => {
+            let left = left_on(alloc, &pm, geometry, choice)?;
+            Ok(Ran {
+                history,
+                tree: left.tree,
+                image: left.image,
+            })
+        }
+        Ended::Lost(crashed) => {
+            let left = left_on(alloc, &crashed.pm, geometry, choice)?;
+            Ok(Ran {
+                history: crashed.history,
+                tree: left.tree,
+                image: left.image,
+            })
+        }
+    }
+}
+
+/// Runs scripts on an image that can be opened, and reads back what is left.
 pub(crate) fn run(
     alloc: Global,
+    image: &[u8],
+    geometry: Geometry,
     scripts: Scripts,
     stop: Option<u64>,
     choice: Choice,
 ) -> Result<Ran, NoMemory>
-    requires { AreRunnable scripts }
-    ensures { IfOk result (λ ran. (unfinished : List Begun) × IsRun scripts stop ran.history.items unfinished ran.tree) }
+    requires can_open { CanOpen image.now }
+    requires numbers { geometry_of (word_at image.now) ≡ geometry }
+    requires runnable { AreRunnable scripts }
+    ensures ran { IfOk result (λ ran. IsRanOn image.now geometry scripts stop choice ran.history.items ran.tree) }
+    ensures mounted { IfOk result (λ ran. IsMounted ran.image.items ran.tree) }
+    ensures numbers { IfOk result (λ ran. geometry_of (word_at ran.image.items) ≡ geometry) }
 {
-    let world = fresh_world(alloc, scripts)?;
-    let mut power = power_for(stop);
-    match run_world(alloc, world, &mut power)? {
-        Ended::Whole { pm, history } => {
-            let tree = left_on(alloc, &pm, choice)?;
-            Ok(Ran { history, tree })
-        }
-        Ended::Lost(crashed) => {
-            let tree = left_on(alloc, &crashed.pm, choice)?;
-            Ok(Ran {
-                history: crashed.history,
-                tree,
-            })
-        }
-    }
+    let world = world_on(alloc, image, geometry, scripts)?;
+    run_world(alloc, world, geometry, stop, choice)
 }

@@ -1,15 +1,17 @@
 //! The command `tree`: an image is checked and mounted, and the tree that it has is put.
-ghost use Rattle.std.specs.Prelude.{◌≡◌, ◌*◌, IfErr, IfOk, Option, length};
+ghost use Rattle.std.specs.Prelude.{◌≡◌, IfErr, IfOk};
 ghost use Rattle.pm_words.specs.Words.{word_at};
 ghost use Rattle.disk_rules.specs.Rules.{geometry_of};
-ghost use Rattle.outside.specs.Outside.{FileList, Rose};
+ghost use Rattle.outside.specs.Outside.{Rose};
 ghost use Rattle.command_words.specs.Command as commands;
+ghost use Rattle.command_words.specs.Seen.{seen_image};
 ghost use Rattle.split_top.specs.Images.{CanOpen, IsTreeText};
 ghost use Rattle.split_top.specs.Jobs.{IsAnswer, IsUnopened};
 
-use crate::jobs::{put_output, read_file};
-use crate::making::fresh_bytes;
+use crate::images::read_image;
+use crate::jobs::put_output;
 use crate::opening::geometry_to_open;
+use command_words::Image;
 use exit_status::Status;
 use image_layout::Geometry;
 use k_mount::remount;
@@ -39,29 +41,16 @@ fn tree_of(alloc: Global, bytes: &[u8]) -> Result<Vec<u8>, Status>
     }
 }
 
-/// Puts the tree of the fresh default image.
-pub(crate) fn show_fresh<K: Sink>(alloc: Global, out: &mut K) -> Status
-    ensures { (told : Option FileList) → IsAnswer (commands.Tree commands.Fresh) told told (K.told out.old) (K.told out.new) ⊥ ⊥ (Rose (K.faults out.old) (K.faults out.new)) result }
-{
-    let Ok(bytes) = fresh_bytes(alloc, &Geometry::default_image()) else {
-        return Status::NoMemory;
-    };
-    match tree_of(alloc, &bytes) {
-        Ok(output) => put_output(out, &output),
-        Err(status) => status,
-    }
-}
-
-/// Reads the image of this name, and puts its tree.
-pub(crate) fn show_stored<F: Files, K: Sink>(
+/// Reads the image, and puts its tree.
+pub(crate) fn show<F: Files, K: Sink>(
     alloc: Global,
-    name: &str,
+    image: &Image<'_>,
     files: &mut F,
     out: &mut K,
 ) -> Status
-    ensures { IsAnswer (commands.Tree (commands.Stored name.now)) (F.told files.old) (F.told files.new) (K.told out.old) (K.told out.new) (Rose (F.misses files.old) (F.misses files.new)) (Rose (F.faults files.old) (F.faults files.new)) (Rose (K.faults out.old) (K.faults out.new)) result }
+    ensures { IsAnswer (commands.Tree (seen_image image.now)) (F.told files.old) (F.told files.new) (K.told out.old) (K.told out.new) (Rose (F.misses files.old) (F.misses files.new)) (Rose (F.faults files.old) (F.faults files.new)) (Rose (K.faults out.old) (K.faults out.new)) result }
 {
-    let bytes = match read_file(alloc, files, name) {
+    let bytes = match read_image(alloc, image, files) {
         Ok(bytes) => bytes,
         Err(status) => return status,
     };

@@ -1,32 +1,106 @@
-//! The command `step`: a script is read and run, and its history and the tree that is left are put.
-ghost use Rattle.std.specs.Prelude.{None};
+//! The command `step`: a script is read and run on an image; the image that is left is kept where a name says so, and the
+//! history and the tree that is left are put.
+ghost use Rattle.std.specs.Prelude.{◌≡◌, Err, IfErr, IsSome, OnErr, OnOk};
+ghost use Rattle.pm_words.specs.Words.{word_at};
+ghost use Rattle.disk_rules.specs.Rules.{geometry_of};
 ghost use Rattle.outside.specs.Outside.{Rose};
 ghost use Rattle.command_words.specs.Command as commands;
-ghost use Rattle.split_top.specs.Jobs.{IsAnswer};
+ghost use Rattle.command_words.specs.Seen.{seen_image, seen_options};
+ghost use Rattle.split_top.specs.Images.{AreOfImage, CanOpen};
+ghost use Rattle.split_top.specs.Jobs.{IsAnswer, IsUnkept};
+ghost use Rattle.split_top.specs.Top.{CompletesStep, IsStepped, Keeps};
 
-use crate::jobs::{put_output, read_file, run_script};
+use crate::images::read_image;
+use crate::jobs::{put_output, read_file};
+use crate::opening::geometry_to_open;
+use crate::running::{Outcome, run_script};
+use command_words::{Image, Options};
 use exit_status::Status;
-use outside::{Files, Sink};
-use pm_lines::Choice;
+use image_layout::Geometry;
+use outside::{FileFault, Files, Sink};
 use std::alloc::Global;
 
-/// Reads the script of this name, runs it on the fresh image, and puts the output.
-pub(crate) fn run_step<F: Files, K: Sink>(
-    alloc: Global,
-    name: &str,
-    stop: Option<u64>,
-    choice: Choice,
+/// Replaces the file that a name says, where one does, by the image that a run left.
+fn keep_image<F: Files>(
+    options: &Options<'_>,
+    outcome: &Outcome,
+    files: &mut F,
+) -> Result<(), Status>
+    ensures kept { OnOk result (Keeps (seen_options options.now).keep outcome.now.image.items (F.told files.old) (F.told files.new)) }
+    ensures refused { OnErr result (F.told files.new ≡ F.told files.old) }
+    ensures kind { IfErr result IsUnkept }
+    ensures failed { result ≡ Err Status.WriteFault → IsSome (seen_options options.now).keep × Rose (F.faults files.old) (F.faults files.new) }
+{
+    let Some(name) = options.keep else {
+        return Ok(());
+    };
+    match files.replace(name.as_str(), &outcome.image) {
+        Ok(()) => Ok(()),
+        Err(FileFault::NoMemory) => Err(Status::NoMemory),
+        Err(FileFault::Missing | FileFault::Failed) => Err(Status::WriteFault),
+    }
+}
+
+/// Keeps the image that a run left where a name says so, and then puts the output.
+fn finish<F: Files, K: Sink>(
+    options: &Options<'_>,
+    outcome: &Outcome,
     files: &mut F,
     out: &mut K,
 ) -> Status
-    ensures { IsAnswer (commands.Step (record { image = commands.Fresh; script = name.now; options = record { stop = stop; candidates = commands.Chosen choice; keep = None } })) (F.told files.old) (F.told files.new) (K.told out.old) (K.told out.new) (Rose (F.misses files.old) (F.misses files.new)) (Rose (F.faults files.old) (F.faults files.new)) (Rose (K.faults out.old) (K.faults out.new)) result }
+    ensures { (run : commands.Run) → run.options ≡ seen_options options.now
+        → IsStepped (F.told files.old) run outcome.now.output.items outcome.now.image.items
+        → CompletesStep run (F.told files.old) Status.Done
+        → IsAnswer (commands.Step run) (F.told files.old) (F.told files.new) (K.told out.old) (K.told out.new) (Rose (F.misses files.old) (F.misses files.new)) (Rose (F.faults files.old) (F.faults files.new)) (Rose (K.faults out.old) (K.faults out.new)) result }
 {
-    let bytes = match read_file(alloc, files, name) {
+    match keep_image(options, outcome, files) {
+        Ok(()) => put_output(out, &outcome.output),
+        Err(status) => status,
+    }
+}
+
+/// Reads the script of this name, runs it on the image, keeps the image that is left, and puts the output.
+fn run_on<F: Files, K: Sink>(
+    alloc: Global,
+    image: &[u8],
+    geometry: Geometry,
+    script: &str,
+    options: &Options<'_>,
+    files: &mut F,
+    out: &mut K,
+) -> Status
+    requires can_open { CanOpen image.now }
+    requires numbers { geometry_of (word_at image.now) ≡ geometry }
+    ensures { (named : commands.Image) → AreOfImage (F.told files.old) named image.now
+        → IsAnswer (commands.Step (record { image = named; script = script.now; options = seen_options options.now })) (F.told files.old) (F.told files.new) (K.told out.old) (K.told out.new) (Rose (F.misses files.old) (F.misses files.new)) (Rose (F.faults files.old) (F.faults files.new)) (Rose (K.faults out.old) (K.faults out.new)) result }
+{
+    let bytes = match read_file(alloc, files, script) {
         Ok(bytes) => bytes,
         Err(status) => return status,
     };
-    match run_script(alloc, &bytes, stop, choice) {
-        Ok(output) => put_output(out, &output),
+    match run_script(alloc, image, geometry, &bytes, options.stop, options.choice) {
+        Ok(outcome) => finish(options, &outcome, files, out),
+        Err(status) => status,
+    }
+}
+
+/// Reads the image and the script, runs the script, keeps the image that is left, and puts the output.
+pub(crate) fn run_step<F: Files, K: Sink>(
+    alloc: Global,
+    image: &Image<'_>,
+    script: &str,
+    options: &Options<'_>,
+    files: &mut F,
+    out: &mut K,
+) -> Status
+    ensures { IsAnswer (commands.Step (record { image = seen_image image.now; script = script.now; options = seen_options options.now })) (F.told files.old) (F.told files.new) (K.told out.old) (K.told out.new) (Rose (F.misses files.old) (F.misses files.new)) (Rose (F.faults files.old) (F.faults files.new)) (Rose (K.faults out.old) (K.faults out.new)) result }
+{
+    let bytes = match read_image(alloc, image, files) {
+        Ok(bytes) => bytes,
+        Err(status) => return status,
+    };
+    match geometry_to_open(alloc, &bytes) {
+        Ok(geometry) => run_on(alloc, &bytes, geometry, script, options, files, out),
         Err(status) => status,
     }
 }

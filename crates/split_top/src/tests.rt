@@ -84,8 +84,9 @@ fn each_call_once(rt: HostRuntime) -> Result<(), Fail> {
     prints(&rt, rt.alloc(), script, &[], output)
 }
 
-// Step 24 of a run stores the commit word of its first mkdir, word 8 of the image: whether it is found decides. No
-// clause says that the run uses the choice that the words name.
+// Step 24 of a run stores the commit word of its first mkdir, word 8 of the image, the one word with two candidates then:
+// whether it is found decides. The first draw of SplitMix64 from 0 is odd, 0xe220a8397b1dcdaf; from 2 it is even. No clause
+// says that the choice is taken on the device of the run.
 #[test]
 fn stop_24_by_choice(rt: HostRuntime) -> Result<(), Fail> {
     let script = b"mkdir /a\nmkdir /b\nmkdir /a\n";
@@ -96,6 +97,8 @@ fn stop_24_by_choice(rt: HostRuntime) -> Result<(), Fail> {
         ("newest", new),
         ("even", new),
         ("odd", old),
+        ("0", new),
+        ("2", old),
     ] {
         prints(
             &rt,
@@ -172,6 +175,21 @@ fn images_at_refusals(rt: HostRuntime) -> Result<(), Fail> {
     assert_eq!(rt; told.output.is_empty(), true);
     let told = call(&rt, rt.alloc(), &["tree", "-"], b"kept", &[0], &[0])?;
     assert_eq!(rt; told.status, Status::WriteFault);
+    Ok(())
+}
+
+// The script's own file is replaced by the image that is left: call 0 reads it, call 1 replaces it.
+#[test]
+fn a_kept_image_at_refusals(rt: HostRuntime) -> Result<(), Fail> {
+    let words = ["step", "-", "S", "strict", "keep", "S"];
+    let script = b"mkdir /a\n";
+    let told = call(&rt, rt.alloc(), &words, script, &[1], &[])?;
+    assert_eq!(rt; told.status, Status::WriteFault);
+    assert_eq!(rt; told.script.as_slice(), script.as_slice());
+    assert_eq!(rt; told.output.is_empty(), true);
+    let told = call(&rt, rt.alloc(), &words, script, &[], &[0])?;
+    assert_eq!(rt; told.status, Status::WriteFault);
+    assert_eq!(rt; told.script.len(), 1_048_576);
     Ok(())
 }
 

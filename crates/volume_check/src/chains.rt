@@ -7,7 +7,7 @@ ghost use Rattle.disk_rules.specs.Broken.{Holds, FailsFirst};
 ghost use Rattle.disk_rules.specs.Rules.{file_blocks_of, IsInData, HasChain};
 ghost use Rattle.disk_rules.specs.Volume.{Volume, volume, inode, chain, extents};
 ghost use Rattle.volume_check.specs.LineRules.{chains_rule};
-ghost use Rattle.pm_words.specs.Cells.{AllSingle};
+ghost use Rattle.pm_words.specs.Cells.{AllHome};
 ghost use Rattle.pm_words.specs.Images.{words_of};
 
 use extent_map::Extent;
@@ -71,7 +71,7 @@ fn good_chain(
     node: &Inode,
 ) -> Result<Option<Chain>, AllocError>
     requires size { length pm.now ≡ 512 * geometry.now.blocks }
-    requires single { AllSingle pm.now }
+    requires home { AllHome pm.now }
     requires sound { IsSound geometry.now (words_of pm.now) }
     ensures good { IfOk result (λ found. IfSome found (λ good. (v : Volume) (ino : ℕ)
         → v.geometry ≡ geometry.now → IsOfWords v (journaled (words_of pm.now)) ino
@@ -102,7 +102,7 @@ pub(crate) fn read_chains(
     inodes: &[Inode],
 ) -> Result<Result<Maps, usize>, AllocError>
     requires size { length pm.now ≡ 512 * geometry.now.blocks }
-    requires single { AllSingle pm.now }
+    requires home { AllHome pm.now }
     requires sound { IsSound geometry.now (words_of pm.now) }
     requires inodes { inodes.now ≡ (volume geometry.now (journaled (words_of pm.now))).inodes }
     ensures chains { IfOk result (λ read. IfOk read (λ found.

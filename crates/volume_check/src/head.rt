@@ -7,7 +7,7 @@ ghost use Rattle.disk_rules.specs.Checked.{HasHead};
 ghost use Rattle.disk_rules.specs.Rules.{geometry_of, IsWholeBlocks, HasMagic, HasVersion, HasNumbers, HasTarget, HasState};
 ghost use Rattle.volume_check.specs.Answers.{IsFirstOf};
 ghost use Rattle.volume_check.specs.Heads.{IsSuperKept, block_0_rules, journal_rules};
-ghost use Rattle.pm_words.specs.Cells.{AllSingle};
+ghost use Rattle.pm_words.specs.Cells.{AllHome};
 ghost use Rattle.pm_words.specs.Images.{words_of};
 ghost use Rattle.pm_words.specs.Words.{line_bytes};
 
@@ -40,7 +40,7 @@ fn has_whole_blocks(words: u64) -> bool
 // Rules 2, 3 and the first part of 4: the geometry of the superblock.
 fn read_head(pm: &Pm) -> Result<Geometry, BadImage>
     requires device { 32768 ≤ length pm.now }
-    requires single { AllSingle pm.now }
+    requires home { AllHome pm.now }
     ensures geometry { IfOk result (λ g. g ≡ geometry_of (words_of pm.now)) }
     ensures ok { OnOk result (IsSuperKept (line_bytes (words_of pm.now) 0)) }
     ensures bad { IfErr result (IsFirstOf (block_0_rules (8 * length pm.now) (words_of pm.now))) }
@@ -56,7 +56,7 @@ fn read_head(pm: &Pm) -> Result<Geometry, BadImage>
 // Whether the words behind the log base are zero, as the journal makes them.
 fn is_state_zero(pm: &Pm) -> bool
     requires device { 32768 ≤ length pm.now }
-    requires single { AllSingle pm.now }
+    requires home { AllHome pm.now }
     requires whole { length pm.now % 512 ≡ 0 }
     ensures { IsTrue result ↔ ((w : ℕ) → base_word < w → w < base_word + 8
         → journaled (words_of pm.now) w ≡ 0) }
@@ -72,7 +72,7 @@ fn is_state_zero(pm: &Pm) -> bool
 // Whether the other words of block 0 are zero.
 fn are_others_zero(pm: &Pm) -> bool
     requires device { 32768 ≤ length pm.now }
-    requires single { AllSingle pm.now }
+    requires home { AllHome pm.now }
     ensures { IsTrue result ↔ ((w : ℕ) → 8 ≤ w → w < 512 → w ≢ commit_word → w / 8 ≢ state_line
         → words_of pm.now w ≡ 0) }
 {
@@ -101,7 +101,7 @@ fn is_journaled(geometry: &Geometry, line: u64) -> bool
 // Rule 11, record by record: the first that is committed and has no journaled target.
 fn bad_target(pm: &Pm, geometry: &Geometry) -> Option<u32>
     requires device { 32768 ≤ length pm.now }
-    requires single { AllSingle pm.now }
+    requires home { AllHome pm.now }
     ensures { MatchOption result (Holds (below 11 128 (HasTarget geometry.now (words_of pm.now))))
         (FailsFirst (below 11 128 (HasTarget geometry.now (words_of pm.now)))) }
 {
@@ -116,7 +116,7 @@ fn bad_target(pm: &Pm, geometry: &Geometry) -> Option<u32>
 // Rule 11, at 128: whether at most 128 records are committed, and the log base is in its range.
 fn has_state(pm: &Pm) -> bool
     requires device { 32768 ≤ length pm.now }
-    requires single { AllSingle pm.now }
+    requires home { AllHome pm.now }
     requires whole { length pm.now % 512 ≡ 0 }
     ensures { IsTrue result ↔ HasState (words_of pm.now) }
 {
@@ -127,7 +127,7 @@ fn has_state(pm: &Pm) -> bool
 // Rules 2, 3 and 4: the geometry of a device with a superblock and a block 0 of it.
 fn check_block_0(pm: &Pm) -> Result<Geometry, BadImage>
     requires device { 32768 ≤ length pm.now }
-    requires single { AllSingle pm.now }
+    requires home { AllHome pm.now }
     requires whole { length pm.now % 512 ≡ 0 }
     ensures geometry { IfOk result (λ g. g ≡ geometry_of (words_of pm.now)) }
     ensures magic { OnOk result (HasMagic (words_of pm.now)) }
@@ -148,7 +148,7 @@ fn check_block_0(pm: &Pm) -> Result<Geometry, BadImage>
 // Rule 11: the journal.
 fn check_journal(pm: &Pm, geometry: &Geometry) -> Result<(), BadImage>
     requires device { 32768 ≤ length pm.now }
-    requires single { AllSingle pm.now }
+    requires home { AllHome pm.now }
     requires whole { length pm.now % 512 ≡ 0 }
     ensures ok { OnOk result (HoldAll (journal_rules geometry.now (words_of pm.now))) }
     ensures bad { IfErr result (IsFirstOf (journal_rules geometry.now (words_of pm.now))) }
@@ -171,7 +171,7 @@ fn check_journal(pm: &Pm, geometry: &Geometry) -> Result<(), BadImage>
 /// Rules 1 to 4 and 11, in their order: the geometry of the device, or the first of these rules
 /// that its image breaks.
 pub(crate) fn check_head(pm: &Pm) -> Result<Geometry, BadImage>
-    requires single { AllSingle pm.now }
+    requires home { AllHome pm.now }
     requires whole { length pm.now % 512 ≡ 0 }
     requires fits { 8 * length pm.now < 2 ^ 64 }
     ensures geometry { IfOk result (λ g. g ≡ geometry_of (words_of pm.now)) }

@@ -7,7 +7,8 @@
 //!
 //! The layer above may rely on this: the answer is exact (`AreTables`, `HoldAll`, `BreaksFirst`),
 //! and what was read need not be read again. The work goes by the lines and by the blocks that are
-//! named: each data block and each inode has one mark, and no block is searched for.
+//! named: each data block and each inode has one mark, and no block is searched for. Names alone are
+//! compared two by two.
 //!
 //! Stands on `pm_lines` (the device), `image_layout`, `k_inodes`, `k_names`, `map_chain`,
 //! `k_reading` and `k_journal`, and on the facts of images (`image_facts`, `volume_uses`).

@@ -6,7 +6,7 @@ ghost use Rattle.disk_rules.specs.Rules.{IsKindAt, IsNameSlot, HasInode};
 ghost use Rattle.disk_rules.specs.Volume.{Volume, volume, inode_at, name_at, row_of};
 ghost use Rattle.volume_check.specs.LineRules.{IsNode, inodes_rule, names_rule};
 ghost use Rattle.k_names.specs.Decoding.{slot_of};
-ghost use Rattle.pm_words.specs.Cells.{AllSingle};
+ghost use Rattle.pm_words.specs.Cells.{AllHome};
 ghost use Rattle.pm_words.specs.Images.{words_of};
 
 use crate::view::view_line;
@@ -30,7 +30,7 @@ fn is_kind_at(ino: u32, kind: Kind) -> bool
 // What stands in an inode line of the view.
 fn inode_at(pm: &Pm, geometry: &Geometry, ino: u32) -> Option<Inode>
     requires size { length pm.now ≡ 512 * geometry.now.blocks }
-    requires single { AllSingle pm.now }
+    requires home { AllHome pm.now }
     requires in_image { ino < geometry.now.inodes }
     ensures { result ≡ inode_at (journaled (words_of pm.now)) ino }
 {
@@ -41,7 +41,7 @@ fn inode_at(pm: &Pm, geometry: &Geometry, ino: u32) -> Option<Inode>
 // Rule 5 at one inode: the inode of the line, where there is one and its kind may stand there.
 fn good_inode(pm: &Pm, geometry: &Geometry, ino: u32) -> Option<Inode>
     requires size { length pm.now ≡ 512 * geometry.now.blocks }
-    requires single { AllSingle pm.now }
+    requires home { AllHome pm.now }
     requires in_image { ino < geometry.now.inodes }
     ensures good { IfSome result (λ inode. (inode_at (journaled (words_of pm.now)) ino ≡ Some inode)
         × HasInode (journaled (words_of pm.now)) ino) }
@@ -62,7 +62,7 @@ pub(crate) fn read_inodes(
     geometry: &Geometry,
 ) -> Result<Result<Vec<Inode>, u32>, AllocError>
     requires size { length pm.now ≡ 512 * geometry.now.blocks }
-    requires single { AllSingle pm.now }
+    requires home { AllHome pm.now }
     ensures inodes { IfOk result (λ read. IfOk read (λ inodes.
         inodes.items ≡ (volume geometry.now (journaled (words_of pm.now))).inodes)) }
     ensures ok { IfOk result (λ read. OnOk read
@@ -93,7 +93,7 @@ fn is_node(inodes: &[Inode], ino: u32) -> bool
 // What stands in a name line of the view.
 fn slot_at(alloc: Global, pm: &Pm, geometry: &Geometry, line: u32) -> Result<Decoded, AllocError>
     requires size { length pm.now ≡ 512 * geometry.now.blocks }
-    requires single { AllSingle pm.now }
+    requires home { AllHome pm.now }
     requires in_image { line < geometry.now.names }
     ensures { IfOk result (λ d.
         slot_of d ≡ name_at geometry.now (journaled (words_of pm.now)) line) }
@@ -131,7 +131,7 @@ pub(crate) fn read_names(
     inodes: &[Inode],
 ) -> Result<Result<Vec<Option<NameLine>>, u32>, AllocError>
     requires size { length pm.now ≡ 512 * geometry.now.blocks }
-    requires single { AllSingle pm.now }
+    requires home { AllHome pm.now }
     requires inodes { inodes.now ≡ (volume geometry.now (journaled (words_of pm.now))).inodes }
     ensures names { IfOk result (λ read. IfOk read (λ names.
         names.items ≡ (volume geometry.now (journaled (words_of pm.now))).names)) }

@@ -5,7 +5,7 @@ ghost use Rattle.disk_rules.specs.Broken.{HoldAll, line_rules};
 ghost use Rattle.disk_rules.specs.Checked.{HasHead};
 ghost use Rattle.disk_rules.specs.Rules.{geometry_of};
 ghost use Rattle.disk_rules.specs.Volume.{volume};
-ghost use Rattle.pm_words.specs.Cells.{AllSingle};
+ghost use Rattle.pm_words.specs.Cells.{AllHome};
 ghost use Rattle.pm_words.specs.Images.{words_of};
 ghost use Rattle.volume_check.specs.Answers.{IsFirstOf};
 ghost use Rattle.volume_check.specs.Readings.{AreOf, AreTables, body_rules, front_rules};
@@ -60,7 +60,7 @@ fn read_lines(
     geometry: &Geometry,
 ) -> Result<Result<Lines, BadImage>, AllocError>
     requires size { length pm.now ≡ 512 * geometry.now.blocks }
-    requires single { AllSingle pm.now }
+    requires home { AllHome pm.now }
     requires sound { IsSound geometry.now (words_of pm.now) }
     ensures lines { IfOk result (λ read. IfOk read (λ lines.
         AreOf (volume geometry.now (journaled (words_of pm.now))) lines.inodes.items
@@ -108,7 +108,7 @@ fn read_tables(
     geometry: Geometry,
 ) -> Result<Result<Tables, BadImage>, AllocError>
     requires size { length pm.now ≡ 512 * geometry.blocks }
-    requires single { AllSingle pm.now }
+    requires home { AllHome pm.now }
     requires sound { IsSound geometry (words_of pm.now) }
     ensures tables { IfOk result (λ read. IfOk read
         (AreTables (volume geometry (journaled (words_of pm.now))))) }
@@ -151,9 +151,10 @@ fn read_tables(
 /// these rules that the image breaks, with its lowest place. A pending journal is read through;
 /// nothing is written. Want of memory is the only error.
 ///
-/// The device has whole blocks of 512 words, and each word has one candidate.
+/// The device has whole blocks of 512 words, and nothing of it is lent; of a word with two candidates
+/// the newer counts.
 pub fn read_volume(alloc: Global, pm: &Pm) -> Result<Result<Tables, BadImage>, AllocError>
-    requires single { AllSingle pm.now }
+    requires home { AllHome pm.now }
     requires whole { length pm.now % 512 ≡ 0 }
     requires fits { 8 * length pm.now < 2 ^ 64 }
     ensures tables { IfOk result (λ read. IfOk read

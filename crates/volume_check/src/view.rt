@@ -2,7 +2,7 @@
 ghost use Rattle.std.specs.Prelude.{◌≡◌, ◌+◌, ◌*◌, ◌/◌, ◌%◌, ◌<◌, ◌≤◌, ℕ, false, length};
 ghost use Rattle.disk_places.specs.Journal.{is_journal_word, journaled, committed, record_target};
 ghost use Rattle.disk_places.specs.Places.{record_line};
-ghost use Rattle.pm_words.specs.Cells.{AllSingle};
+ghost use Rattle.pm_words.specs.Cells.{AllHome};
 ghost use Rattle.pm_words.specs.Images.{words_of};
 ghost use Rattle.pm_words.specs.Words.{line_bytes};
 
@@ -22,7 +22,7 @@ fn record_line(index: u32) -> u64
 // How many records are committed; a commit word above 128 commits none.
 pub(crate) fn committed(pm: &Pm) -> u32
     requires device { 2560 ≤ length pm.now }
-    requires single { AllSingle pm.now }
+    requires home { AllHome pm.now }
     ensures number { result ≡ committed (words_of pm.now) }
     ensures few { result ≤ 128 }
 {
@@ -34,7 +34,7 @@ pub(crate) fn committed(pm: &Pm) -> u32
 pub(crate) fn target_of(pm: &Pm, index: u32) -> u64
     requires index { index < 128 }
     requires device { 2560 ≤ length pm.now }
-    requires single { AllSingle pm.now }
+    requires home { AllHome pm.now }
     ensures { result ≡ record_target (words_of pm.now) index }
 {
     pm.read_word(8 * record_line(index))
@@ -44,7 +44,7 @@ pub(crate) fn target_of(pm: &Pm, index: u32) -> u64
 // committed record that is for it, else the line itself.
 fn source_of(pm: &Pm, line: u64) -> u64
     requires device { 2560 ≤ length pm.now }
-    requires single { AllSingle pm.now }
+    requires home { AllHome pm.now }
     requires in_device { line < length pm.now / 8 }
     ensures in_device { result < length pm.now / 8 }
     ensures words { (i : ℕ) → i / 8 ≡ line → is_journal_word i ≡ false
@@ -63,7 +63,7 @@ fn source_of(pm: &Pm, line: u64) -> u64
 /// The bytes of a line of the device as its journal makes it, one with no word of the journal.
 pub fn view_line(pm: &Pm, line: u64) -> [u8; 64]
     requires device { 2560 ≤ length pm.now }
-    requires single { AllSingle pm.now }
+    requires home { AllHome pm.now }
     requires in_device { line < length pm.now / 8 }
     requires apart { (i : ℕ) → i / 8 ≡ line → is_journal_word i ≡ false }
     ensures { result ≡ line_bytes (journaled (words_of pm.now)) line }
@@ -74,7 +74,7 @@ pub fn view_line(pm: &Pm, line: u64) -> [u8; 64]
 // A word of the view, one that is no word of the journal.
 pub(crate) fn view_word(pm: &Pm, word: u64) -> u64
     requires device { 2560 ≤ length pm.now }
-    requires single { AllSingle pm.now }
+    requires home { AllHome pm.now }
     requires in_device { word < length pm.now }
     requires whole { length pm.now % 8 ≡ 0 }
     requires apart { is_journal_word word ≡ false }

@@ -1,5 +1,5 @@
 use Rattle.std.proofs.Common.{refl}
-use Rattle.split_top.proofs.Live.{whole-blocks}
+use Rattle.split_top.proofs.Lengths.{whole-blocks}
 use Rattle.split_top.proofs.opening.is_whole.Goals as goal
 
 pub returns : goal.returns

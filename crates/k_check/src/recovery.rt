@@ -1,0 +1,33 @@
+//! Whether recovery has anything to carry out of the log of a checked image.
+ghost use Rattle.std.specs.Prelude.{◌≡◌, ◌≢◌, ◌↔◌, ◌*◌, ◌%◌, ◌<◌, ◌^◌, [], length, IsTrue, IfOk};
+ghost use Rattle.disk_places.specs.Journal.{journaled};
+ghost use Rattle.disk_rules.specs.Live.{live_entries};
+ghost use Rattle.disk_rules.specs.Rules.{geometry_of, IsChecked};
+ghost use Rattle.disk_rules.specs.Volume.{volume};
+ghost use Rattle.pm_words.specs.Cells.{AllHome};
+ghost use Rattle.pm_words.specs.Images.{words_of};
+
+use crate::entries::{live_entries, read_slots};
+use pm_lines::Pm;
+use std::alloc::{AllocError, Global};
+use volume_check::read_volume;
+
+/// Whether the log of a checked image has a live entry, which recovery would have to carry out. A
+/// pending journal is read through; nothing is written. Want of memory is the only error.
+pub fn has_live(alloc: Global, pm: &Pm) -> Result<bool, AllocError>
+    requires home { AllHome pm.now }
+    requires whole { length pm.now % 512 ≡ 0 }
+    requires fits { 8 * length pm.now < 2 ^ 64 }
+    requires checked { IsChecked (8 * length pm.now) (words_of pm.now) }
+    ensures { IfOk result (λ live. let f = words_of pm.now in
+        IsTrue live ↔ (live_entries (volume (geometry_of f) (journaled f)) (journaled f) ≢ [])) }
+{
+    match read_volume(alloc, pm)? {
+        Ok(tables) => {
+            let slots = read_slots(alloc, pm, &tables.geometry, tables.base)?;
+            let live = live_entries(alloc, &tables.inodes, &slots)?;
+            Ok(!live.is_empty())
+        }
+        Err(_) => unreachable!(),
+    }
+}

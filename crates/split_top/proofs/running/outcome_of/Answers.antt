@@ -1,0 +1,23 @@
+use Rattle.std.proofs.Common.{◌++◌, ◌∙◌, ap}
+use Rattle.report_text.specs.Texts.{history_text}
+use Rattle.split_top.proofs.running.outcome_of.Goals as goal
+
+pub returns : goal.returns
+returns c =
+    let ran = c.in_ok-ran.ensures.ran in
+    record {
+      tree = ran.tree;
+      shows = ran.shows;
+      shape = ran.shape;
+      is_shape = ran.is_shape;
+      outcome = record {
+        history = c.in_ok-ran.ran.history.items;
+        unfinished = ran.unfinished;
+        left = c.in_ok-ran.ran.tree;
+        is_run = ran.is_run;
+        is_text = c.in_ok-extend_from_slice.ensures.items
+            ∙ (λ i. (c.in_ok-output.ensures ∙ ap history_text c.deref.ensures.value) i ++ (c.deref-2.ensures.value ∙ c.in_ok-tree.ensures) i);
+        is_kept = c.in_ok-ran.ensures.mounted;
+        numbers = c.in_ok-ran.ensures.numbers;
+      };
+    }

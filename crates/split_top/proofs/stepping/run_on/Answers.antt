@@ -1,0 +1,46 @@
+use Rattle.std.proofs.Common.{◌≡◌, ℕ, List, Err, sym, ◌∙◌, ap, subst, inr, refl}
+use Rattle.pm_words.specs.Words.{word_at}
+use Rattle.command_words.specs.Command as commands
+use Rattle.command_words.specs.Seen.{seen_options}
+use Rattle.exit_status.specs.declared.statuses.Status.{Status}
+use Rattle.outside.specs.Outside.{AreOfFile, IsAbsent, Rose}
+use Rattle.split_top.proofs.Answered.{answer-later, rose-later, unread-answer}
+use Rattle.split_top.proofs.Stepped.{ran-step, unread-script, unrun-answer}
+use Rattle.split_top.specs.Images.{AreOfImage}
+use Rattle.split_top.specs.Jobs.{IsAnswer}
+use Rattle.split_top.specs.Top.{CompletesStep, IsScriptRunOn, IsStepped}
+use Rattle.split_top.proofs.stepping.run_on.Goals as goal
+
+pub returns-in-Err : goal.returns-in-Err
+returns-in-Err g c named are =
+    let told = g.F.Files.told c.args.files.now in
+    let run : commands.Run = record { image = named; script = c.args.script.now; options = seen_options c.args.options.now } in
+    let missing = λ (name : List ℕ) (e : c.in-Err.status ≡ Status.NoSuchFile name). c.read_file.ensures.missing name (c.in-Err.is ∙ ap (λ (s : Status). Err s) e) in
+    let failed = λ (e : c.in-Err.status ≡ Status.ReadFault). c.read_file.ensures.failed (c.in-Err.is ∙ ap (λ (s : Status). Err s) e) in
+    unread-answer (commands.Step run) told _ _ _ _ _ c.read_file.ensures.told c.in-Err.status c.in-Err.ensures.kind
+    (λ name e. (record { is_read = inr (missing name e).0; is_absent = subst (IsAbsent told) (sym (missing name e).0) (missing name e).1 }, (missing name e).2))
+    failed
+    (λ none. unread-script run told c.args.image.now are c.requires.can_open _ c.in-Err.status c.in-Err.ensures.kind (λ name e. (missing name e).1) failed none)
+
+pub returns-in-Ok-run_script : goal.returns-in-Ok-run_script
+returns-in-Ok-run_script g c named are =
+    let told = g.F.Files.told in
+    let run : commands.Run = record { image = named; script = c.args.script.now; options = seen_options c.args.options.now } in
+    let script : AreOfFile (told c.args.files.now) c.args.script.now c.deref.result.now = subst (AreOfFile (told c.args.files.now) c.args.script.now) (sym c.deref.ensures.value) c.in-Ok.ensures.bytes in
+    let o = c.in-Ok-run_script.outcome in
+    let ran = c.in-Ok-run_script.ensures.outcome in
+    let on = subst (λ h. IsScriptRunOn c.args.image.now h c.deref.result.now run.options.stop run.options.choice o.output.items o.image.items) (sym c.requires.numbers) ran in
+    let stepped : IsStepped (told c.args.files.now) run o.output.items o.image.items = record { image = c.args.image.now; is_image = are; script = c.deref.result.now; is_read = script; is_run = on } in
+    let done_is = ran-step run (told c.args.files.now) c.args.image.now are c.requires.can_open c.deref.result.now script on.is_script in
+    let later = c.finish.ensures run refl
+    (subst (λ f. IsStepped f run o.output.items o.image.items) (sym c.read_file.ensures.told) stepped)
+    (subst (λ f. CompletesStep run f Status.Done) (sym c.read_file.ensures.told) done_is) in
+    answer-later (commands.Step run) (told c.args.files.now) _ _ _ _ _ _ _ _ c.finish.result (rose-later _ _ _ c.read_file.ensures.misses) (rose-later _ _ _ c.read_file.ensures.faults)
+    (subst (λ f. IsAnswer (commands.Step run) f (told c.finish.new.files) (g.K.Sink.told c.args.out.now) (g.K.Sink.told c.finish.new.out) (Rose (g.F.Files.misses c.read_file.new.files) (g.F.Files.misses c.finish.new.files)) (Rose (g.F.Files.faults c.read_file.new.files) (g.F.Files.faults c.finish.new.files)) (Rose (g.K.Sink.faults c.args.out.now) (g.K.Sink.faults c.finish.new.out)) c.finish.result) c.read_file.ensures.told later)
+
+pub returns : goal.returns
+returns g c named are =
+    let told = g.F.Files.told c.args.files.now in
+    let run : commands.Run = record { image = named; script = c.args.script.now; options = seen_options c.args.options.now } in
+    let script : AreOfFile told c.args.script.now c.deref.result.now = subst (AreOfFile told c.args.script.now) (sym c.deref.ensures.value) c.in-Ok.ensures.bytes in
+    unrun-answer run told c.args.image.now are c.requires.can_open _ _ _ _ _ c.deref.result.now script c.read_file.ensures.told c.in-Err-run_script.status c.in-Err-run_script.ensures.kind

@@ -1,0 +1,37 @@
+-- The device that a run leaves, and what is found on it.
+use Rattle.std.specs.Prelude.{List}
+use Rattle.pm_words.specs.declared.Cell.{Cell}
+use Rattle.pm_words.specs.Cells.{cell}
+use Rattle.pm_words.specs.Images.{IsImage}
+use Rattle.pm_words.specs.Words.{Words}
+use Rattle.disk_places.specs.Places.{Geometry}
+use Rattle.disk_rules.specs.Content.{content}
+use Rattle.disk_rules.specs.Honest.{IsHonest}
+use Rattle.k_check.specs.Crashes.{IsCrashImage}
+use Rattle.pm_lines.specs.declared.choices.Choice.{Choice}
+use Rattle.posix_types.specs.declared.item.Item.{Item}
+use Rattle.posix_types.specs.declared.tree.TreeEntry.{TreeEntry}
+use Rattle.posix_spec.specs.Run.{Begun}
+use Rattle.posix_spec.specs.State.{State}
+use Rattle.world_images.specs.Promised.{KeepsPromise}
+use Rattle.world_rules.specs.Shown.{IsTreeOfContent}
+use Rattle.split_calls.specs.Runs.{HasNoLog}
+
+-- WHAT A RUN LEAVES: a device of this geometry that has no log and keeps the promise for the history and the unfinished calls.
+pub record IsLeftAs (g : Geometry) (d : List Cell) (start : State) (history : List Item) (unfinished : List Begun) : Type 0 where
+  pub no_log : HasNoLog g d
+  pub promise : KeepsPromise g d start history unfinished
+
+-- The image is one of the device, and honest: that which a power loss leaves by the choice.
+pub record IsChosenImage (g : Geometry) (choice : Choice) (d : List Cell) (image : Words) : Type 0 where
+  pub is_image : IsImage d image
+  pub is_honest : IsHonest g (cell d) image
+  pub is_crash : IsCrashImage g choice d g.log image
+
+-- WHAT IS FOUND of a run: of a device that it left the image by the choice, and the tree of that image's content.
+pub record IsFound (g : Geometry) (choice : Choice) (start : State) (history : List Item) (unfinished : List Begun) (left : List TreeEntry) : Type 0 where
+  pub device : List Cell
+  pub is_left : IsLeftAs g device start history unfinished
+  pub image : Words
+  pub is_chosen : IsChosenImage g choice device image
+  pub is_tree : IsTreeOfContent (content g image) left

@@ -8,4 +8,6 @@
 #[cfg(test)]
 mod checking;
 #[cfg(test)]
+mod programs;
+#[cfg(test)]
 mod volumes;

@@ -18,7 +18,5 @@ mod running;
 mod runs;
 mod showing;
 mod stepping;
-#[cfg(test)]
-mod tests;
 
 pub use program::top;

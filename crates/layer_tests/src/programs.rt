@@ -1,8 +1,8 @@
 //! The program's job over files and a sink in memory: what it prints, what a power loss leaves by the choice, and each
 //! refusal once. Whole scripts at every stop are run by the program `split_rows`.
-use crate::top;
 use exit_status::{FileName, Status, exit_number, status_text};
 use outside::{MemFiles, MemSink};
+use split_top::top;
 use std::alloc::Global;
 use std::process::Abort;
 use std::test::Fail;

@@ -15,7 +15,5 @@
 mod bits;
 mod blocks;
 mod pool;
-#[cfg(test)]
-mod tests;
 
 pub use pool::Pool;

@@ -18,8 +18,6 @@
 ghost use Rattle.data_route.specs.Laws.{CoversOnce, StagesFewBlocks, WritesOldBytesInPlace};
 
 mod reads;
-#[cfg(test)]
-mod tests;
 mod writes;
 
 pub use reads::{Piece, Source, plan_read};

@@ -19,8 +19,6 @@ ghost use Rattle.extent_facts.specs.Spelling.{HasOneSpelling};
 mod extents;
 mod map;
 mod pieces;
-#[cfg(test)]
-mod tests;
 
 pub use extent_words::{Extent, FILE_BLOCKS};
 pub use map::ExtentMap;

@@ -18,8 +18,6 @@ ghost use Rattle.file_overlay.specs.Laws.{LaidHides, LastIsGreatest, NoneHasBloc
 
 mod overlay;
 mod runs;
-#[cfg(test)]
-mod tests;
 
 pub use overlay::Overlay;
 pub use runs::Run;

@@ -17,6 +17,3 @@ mod superblock;
 
 pub use geometry::{Geometry, regions_are_apart};
 pub use superblock::{SuperFault, read_superblock, superblock_is_read_back};
-
-#[cfg(test)]
-mod tests;

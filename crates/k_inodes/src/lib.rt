@@ -121,6 +121,3 @@ pub fn inode_lines_are_exact()
     ensures spelled { (bytes : List ℕ) (x : Inode) → decode_inode bytes ≡ Some x
         → IsInodeLine bytes x }
 {}
-
-#[cfg(test)]
-mod tests;

@@ -25,6 +25,3 @@ pub mod journal;
 
 pub use batches::{Batch, BatchFull, Entry};
 pub use outcomes::{Commit, Recovered};
-
-#[cfg(test)]
-mod tests;

@@ -21,6 +21,3 @@ mod walks;
 
 pub use line::{Decoded, NameLine, decode_name, encode_name, name_lines_are_exact};
 pub use table::NameTable;
-
-#[cfg(test)]
-mod tests;

@@ -23,6 +23,3 @@ pub use fresh::fresh_image;
 pub use lines::{read_base, read_inodes, read_names};
 pub use maps::{Blocks, Maps, read_maps};
 pub use pools::free_blocks;
-
-#[cfg(test)]
-mod tests;

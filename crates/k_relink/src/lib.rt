@@ -11,7 +11,5 @@
 #![tactic(auto)]
 
 mod linking;
-#[cfg(test)]
-mod tests;
 
 pub use linking::{RelinkFault, Relinked, relink};

@@ -29,6 +29,3 @@ pub use removing::{Entry, directory_to_remove, entry_to_unlink};
 pub use renaming::{Moving, entries_to_rename};
 pub use trees::{TreePlace, tree_places};
 pub use walks::{child, has_entries, node_at, parent_of, walk_down};
-
-#[cfg(test)]
-mod tests;

@@ -1,13 +1,51 @@
 //! Tests of single layers, each over its public calls.
 //!
-//! A crate that has tests of its own is proved a second time with them, so those of large crates stand
-//! here, above all crates. What they show is what no clause says, and each call that may answer want
-//! of memory once, with its answer. Whole layers are tested by the programs beside this crate.
+//! A crate that has tests of its own is proved a second time with them, so they stand here, above all
+//! crates. What they show is what no clause says: lines and texts as another program made them, the
+//! limits of scripts at the limit and one past it, that many fences of a large device cost little; and
+//! each call that may answer want of memory once, with its answer. Whole layers are tested by the
+//! programs beside this crate.
 #![tactic(auto)]
 
 #[cfg(test)]
+mod batches;
+#[cfg(test)]
+mod chains;
+#[cfg(test)]
 mod checking;
 #[cfg(test)]
-mod programs;
+mod descriptors;
+#[cfg(test)]
+mod device;
+#[cfg(test)]
+mod entries;
+#[cfg(test)]
+mod inode_lines;
+#[cfg(test)]
+mod layouts;
+#[cfg(test)]
+mod look_ups;
+#[cfg(test)]
+mod maps;
+#[cfg(test)]
+mod moves;
+#[cfg(test)]
+mod name_lines;
+#[cfg(test)]
+mod overlays;
+#[cfg(test)]
+mod pools;
+#[cfg(test)]
+mod reading;
+#[cfg(test)]
+mod routes;
+#[cfg(test)]
+mod scripts;
+#[cfg(test)]
+mod statuses;
+#[cfg(test)]
+mod texts;
+#[cfg(test)]
+mod tree_order;
 #[cfg(test)]
 mod volumes;

@@ -18,8 +18,6 @@
 ghost use Rattle.disk_rules.specs.Standing.{ReadsBack, HasOneChain};
 
 mod reading;
-#[cfg(test)]
-mod tests;
 mod words;
 mod writing;
 

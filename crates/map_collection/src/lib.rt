@@ -14,8 +14,6 @@
 ghost use Rattle.map_collection.specs.Laws.{ForgottenAgrees};
 
 mod collection;
-#[cfg(test)]
-mod tests;
 
 pub use collection::Collection;
 

@@ -21,8 +21,6 @@ mod kept;
 mod laws;
 mod lists;
 mod opened;
-#[cfg(test)]
-mod tests;
 
 pub use faults::OpenFault;
 pub use files::OpenFiles;

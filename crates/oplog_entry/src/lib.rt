@@ -21,6 +21,3 @@ mod scanning;
 pub use disk_lines::Draft;
 pub use entry::{decode, encode, entries_are_exact};
 pub use scanning::scan;
-
-#[cfg(test)]
-mod tests;

@@ -27,6 +27,3 @@ pub use devices::Pm;
 pub use lines::Line;
 pub use loans::Loan;
 pub use powers::Power;
-
-#[cfg(test)]
-mod tests;

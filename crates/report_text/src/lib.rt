@@ -15,7 +15,5 @@ mod calls;
 mod data;
 mod lines;
 mod replies;
-#[cfg(test)]
-mod tests;
 
 pub use lines::{history_text, tree_text};

@@ -27,8 +27,6 @@ mod paths;
 mod reading;
 mod rows;
 mod scripts;
-#[cfg(test)]
-mod tests;
 
 pub use faults::ScriptFault;
 pub use laws::{

@@ -1,4 +1,5 @@
 //! Reads the rows of a table.
+use outside::FileFault;
 use std::alloc::{AllocError, Global};
 use thiserror::Error;
 
@@ -7,7 +8,9 @@ use thiserror::Error;
 pub(crate) enum RowError {
     #[error(transparent)]
     NoMemory(#[from(alloc)] AllocError),
-    #[error("a row is misspelled")]
+    #[error("a file is not there")]
+    File(#[from] FileFault),
+    #[error("a line is misspelled")]
     Misspelled,
     #[error("a script was not run")]
     NotRun,

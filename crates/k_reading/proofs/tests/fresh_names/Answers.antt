@@ -1,6 +1,0 @@
-use Rattle.pm_words.specs.Images.{words_of}
-use Rattle.k_reading.proofs.FreshTables.{keyed-fresh}
-use Rattle.k_reading.proofs.tests.fresh_names.Goals as goal
-
-pub read_names-requires-clause-keyed : goal.read_names-requires-clause-keyed
-read_names-requires-clause-keyed c = keyed-fresh c.args.geometry.now (words_of c.args.pm.now) c.requires.geometry c.requires.fresh

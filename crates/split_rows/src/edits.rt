@@ -1,0 +1,86 @@
+//! Edits of files in memory, by the lines of a table.
+use crate::rows::RowError;
+use outside::{Files, MemFiles};
+use std::alloc::Global;
+
+fn number(word: &str) -> Result<usize, RowError> {
+    word.parse::<usize>().ok().ok_or(RowError::Misspelled)
+}
+
+// A file gets the bytes of another.
+pub(crate) fn copy(
+    alloc: Global,
+    files: &mut MemFiles,
+    from: &str,
+    to: &str,
+) -> Result<(), RowError> {
+    let bytes = files.read(alloc, from)?;
+    files.replace(to, &bytes)?;
+    Ok(())
+}
+
+// A file has so many bytes at most.
+fn cut(alloc: Global, files: &mut MemFiles, name: &str, length: &str) -> Result<(), RowError> {
+    let length = number(length)?;
+    let bytes = files.read(alloc, name)?;
+    let kept = bytes.get(..length).unwrap_or(&bytes);
+    files.replace(name, kept)?;
+    Ok(())
+}
+
+// `PLACE BYTE BYTE ..`: a file has these bytes from that place on, as far as it has such places.
+pub(crate) fn set(
+    alloc: Global,
+    files: &mut MemFiles,
+    name: &str,
+    words: &str,
+) -> Result<(), RowError> {
+    let (place, values) = words.split_once(" ").ok_or(RowError::Misspelled)?;
+    let mut place = number(place)?;
+    let mut bytes = files.read(alloc, name)?;
+    for value in values.split(' ') {
+        let value = value.parse::<u8>().ok().ok_or(RowError::Misspelled)?;
+        if place < bytes.len() {
+            bytes[place] = value;
+        }
+        place = place.saturating_add(1);
+    }
+    files.replace(name, &bytes)?;
+    Ok(())
+}
+
+// `file NAME LINES`: the file has these lines, parted by `; `, or nothing where there is none.
+fn file(alloc: Global, files: &mut MemFiles, words: &str) -> Result<(), RowError> {
+    match words.split_once(" ") {
+        None => files.replace(words, b"")?,
+        Some((name, line)) => {
+            let mut bytes = Vec::new(alloc);
+            for part in line.split("; ") {
+                bytes.extend_from_slice(part.as_bytes())?;
+                bytes.push(b'\n')?;
+            }
+            files.replace(name, &bytes)?;
+        }
+    }
+    Ok(())
+}
+
+// `copy FROM TO`, `cut NAME LENGTH`, `set NAME PLACE BYTE ..`, `file NAME LINE`: whether the line is an edit; it is carried out
+// then.
+pub(crate) fn was_edit(alloc: Global, files: &mut MemFiles, line: &str) -> Result<bool, RowError> {
+    let Some((edit, words)) = line.split_once(" ") else {
+        return Ok(false);
+    };
+    if edit == "file" {
+        file(alloc, files, words)?;
+        return Ok(true);
+    }
+    let (name, words) = words.split_once(" ").unwrap_or((words, ""));
+    match edit {
+        "copy" => copy(alloc, files, name, words)?,
+        "cut" => cut(alloc, files, name, words)?,
+        "set" => set(alloc, files, name, words)?,
+        _ => return Ok(false),
+    }
+    Ok(true)
+}

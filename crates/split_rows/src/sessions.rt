@@ -1,0 +1,51 @@
+//! Sessions: commands over the same files, one after another.
+//!
+//! Each command is printed behind `$`, and below it what it put and the text of its status; of damaged images how many
+//! there were.
+use crate::commands::{told, told_of_failing};
+use crate::damages::{Damages, damages_told, was_damage};
+use crate::edits::was_edit;
+use crate::rows::RowError;
+use outside::MemFiles;
+use std::alloc::Global;
+use std::io::Write;
+
+// Carries out a line of a table, and gives what is to be printed of it.
+fn line_told<R>(
+    rt: &R,
+    alloc: Global,
+    files: &mut MemFiles,
+    line: &str,
+    damages: &mut Damages,
+) -> Result<Vec<u8>, RowError> {
+    if line.is_empty()
+        || line.starts_with('#')
+        || was_edit(alloc, files, line)?
+        || was_damage(rt, alloc, files, line, damages)?
+    {
+        return Ok(Vec::new(alloc));
+    }
+    if let Some(given) = line.strip_prefix("failing ") {
+        return told_of_failing(rt, alloc, files, line, given);
+    }
+    Ok(told(rt, alloc, files, line)?)
+}
+
+// Prints what each command of a table answered.
+pub(crate) fn run_session(rt: &HostRuntime, alloc: Global, table: &str) -> anyhow::Result<()> {
+    let mut files = MemFiles::new(alloc, Vec::new(alloc), Vec::new(alloc));
+    let mut damages = Damages {
+        tried: 0,
+        others: 0,
+        first_other: None,
+    };
+    for line in table.lines() {
+        let text = line_told(rt, alloc, &mut files, line, &mut damages)?;
+        rt.stdout().write_all(&text)?;
+    }
+    if damages.tried > 0 {
+        let text = damages_told(alloc, &damages)?;
+        rt.stdout().write_all(text.as_bytes())?;
+    }
+    Ok(())
+}

@@ -12,26 +12,30 @@ use thiserror::Error;
 ///
 /// What each change of [`KSplit`](crate::KSplit) answers, beside its value:
 ///
-/// - `Refused` exactly where the first row of the call that fits is this error: nothing is changed,
-///   and no step is taken.
-/// - `Room` exactly where the first row that fits says that inode lines or name lines are used up:
-///   nothing is changed, and no step is taken.
-/// - `NoMemory` only where no row fits: nothing is changed, and no step is taken.
+/// - `Refused` exactly where the first row of a change of names that fits is this error: nothing is
+///   changed, and no step is taken. No change of maps or of bytes answers it.
+/// - `Room` of a change of names exactly where the first row that fits says that inode lines or name
+///   lines are used up, and of `fill_holes` exactly where there is a hole and fewer blocks are free
+///   than the holes and the reserve less 2: nothing is changed, and no step is taken. No other
+///   change answers it.
+/// - `NoMemory` only where no row fits: nothing is changed, and no step is taken. `write_in_place`,
+///   `clean_tail` and `write_staged` take no memory and never answer it.
 /// - `PowerLost` exactly where the power is off at the return: nothing is changed if it was off at
-///   the call; else the change was cut off, and each image has the old volume or the new one. The
-///   `KSplit` is lost.
+///   the call; else the change was cut off, and each image has the old volume or the new one, and of
+///   bytes that are written in place each is the old one or the new one. The `KSplit` is lost.
 ///
 /// # Steps
 ///
-/// A change of names takes at most 256 steps of its power, one of maps at most 2^15, and each at
-/// least one where it is done; a step is a store, a flush or a fence of the device. A `KSplit` that
-/// is lost is handed no power that is on.
+/// A change of names takes at most 256 steps of its power, one of maps at most 2^15, with 1,024 a
+/// hole more where holes are filled, and each at least one where it is done; bytes in place take at
+/// most 576 a block that they reach, and one more. A step is a store, a flush or a fence of the
+/// device. A `KSplit` that is lost is handed no power that is on.
 #[derive(Clone, Copy, Debug, PartialEq, Eq, Error)]
 pub enum KFault {
     /// The call answers this error.
     #[error("the call is refused: {0:?}")]
     Refused(Errno),
-    /// ENOSPC: inode lines or name lines are used up.
+    /// ENOSPC: inode lines, name lines or data blocks are used up.
     #[error("there is no room: {0:?}")]
     Room(Room),
     /// The power went. Each image has the volume before the change or the one after it.

@@ -1,0 +1,12 @@
+-- Bytes as the words of whole blocks.
+use Rattle.std.specs.Prelude.{◌≡◌, ◌<◌, ◌*◌, ◌/◌, ◌%◌, ◌^◌, ℕ, List, length, slice_index}
+use Rattle.posix_words.specs.Bytes.{overwritten, resized}
+
+-- The words spell the bytes, eight of them each, the first one lowest.
+pub record SpellBytes (words bytes : List ℕ) : Type 0 where
+  pub count : 8 * length words ≡ length bytes
+  pub each : (i : ℕ) → i < length bytes → slice_index words (i / 8) / 256 ^ (i % 8) % 256 ≡ slice_index bytes i
+
+-- What so many blocks hold of a file: its old bytes there, with others over them from a place on, and zeros behind.
+abbrev pub staged_bytes : List ℕ → ℕ → List ℕ → ℕ → List ℕ
+staged_bytes old at new count = resized (overwritten old at new) (4096 * count)

@@ -1,0 +1,4 @@
+pub mod RelinkLaws
+pub mod ImageLaws
+pub mod WorldLaws
+pub mod StagingLaws

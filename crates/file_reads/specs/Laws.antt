@@ -1,0 +1,9 @@
+-- The bytes of a file that has nothing staged.
+use Rattle.std.specs.Prelude.{◌≡◌, ℕ, []}
+use Rattle.extent_words.specs.Extents.{disk_at}
+use Rattle.disk_rules.specs.Volume.{extents, Volume}
+use Rattle.file_reads.specs.Reads.{block_in}
+
+-- Where nothing is staged, the map alone says which block a file block has.
+abbrev pub MapAlone : Type 0
+MapAlone = (v : Volume) (ino block : ℕ) → block_in v [] ino block ≡ disk_at (extents v ino) block

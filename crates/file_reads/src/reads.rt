@@ -1,0 +1,95 @@
+//! A read, piece by piece.
+ghost use Rattle.std.specs.Prelude.{◌≡◌, ◌+◌, ◌<◌, ◌≤◌, ◌++◌, ℕ, length, replicate, slice_index, slice_range, IfOk, OnOk};
+ghost use Rattle.std.specs.Option.{ForSome};
+ghost use Rattle.disk_rules.specs.Content.{byte_in};
+ghost use Rattle.disk_rules.specs.Volume.{extents};
+ghost use Rattle.pm_words.specs.Images.{words_of};
+ghost use Rattle.data_route.specs.Reads.{read_len, FitsBlock};
+ghost use Rattle.map_collection.specs.Kept.{Agrees, KeepsOthers};
+ghost use Rattle.file_reads.specs.Reads.{block_of, bytes_in, bytes_of_piece, FileCanBeRead, IsReadable, SourceCanBeRead};
+
+use data_route::{Piece, Source, plan_read};
+use file_overlay::Overlay;
+use k_split::KSplit;
+use map_collection::Collection;
+use std::alloc::{AllocError, Global};
+
+// The disk block of what has a file block.
+fn block_of(k: &KSplit, source: Source) -> Option<u32>
+    requires { SourceCanBeRead k.now.volume k.now.cells source }
+    ensures { result ≡ block_of k.now.volume source }
+{
+    match source {
+        Source::Disk(block) => Some(block),
+        Source::Staged(staging, block) => match k.map(staging) {
+            Some(map) => map.lookup(block),
+            None => unreachable!(),
+        },
+        Source::Zero => None,
+    }
+}
+
+// The bytes of a disk block, zeros of a hole.
+fn whole_block(k: &KSplit, block: Option<u32>) -> [u8; 4096]
+    requires { ForSome block (IsReadable k.now.cells) }
+    ensures count { length result ≡ 4096 }
+    ensures bytes { (i : ℕ) → i < 4096
+        → slice_index result i ≡ byte_in (words_of k.now.cells) block i }
+{
+    match block {
+        Some(block) => {
+            let mut bytes = [0; 4096];
+            k.read_block(block, &mut bytes);
+            bytes
+        }
+        None => [0; 4096],
+    }
+}
+
+// Puts the bytes of a piece behind those before it.
+fn push_piece(bytes: &mut Vec<u8>, k: &KSplit, piece: Piece) -> Result<(), AllocError>
+    requires fits { FitsBlock piece }
+    requires readable { SourceCanBeRead k.now.volume k.now.cells piece.source }
+    ensures { OnOk result (bytes.new.items ≡ bytes.old.items
+        ++ bytes_of_piece k.now.volume (words_of k.now.cells) piece) }
+{
+    let block = whole_block(k, block_of(k, piece.source));
+    let from = piece.at as usize;
+    let to = from + piece.len as usize;
+    bytes.extend_from_slice(&block[from..to])?;
+    Ok(())
+}
+
+/// The bytes of a file from `offset` on, `len` of them or those up to its end, where the file has
+/// `size` bytes, at most 16,777,216, and `overlay` has its staged runs. What is kept of the inode
+/// agrees with its map, afterwards too. Nothing but want of memory stops it.
+pub fn read_bytes(
+    alloc: Global,
+    k: &KSplit,
+    ino: u32,
+    size: u64,
+    offset: u64,
+    len: u64,
+    overlay: &Overlay,
+    collection: &mut Collection,
+) -> Result<Vec<u8>, AllocError>
+    requires there { ino < length k.now.volume.inodes }
+    requires small { size ≤ 16777216 }
+    requires readable { FileCanBeRead k.now.volume k.now.cells overlay.now.runs ino }
+    requires agrees { Agrees collection.old ino (extents k.now.volume ino) }
+    ensures bytes { IfOk result (λ bytes. bytes.items
+        ≡ bytes_in k.now.volume (words_of k.now.cells) overlay.now.runs ino offset
+        (read_len size offset len)) }
+    ensures agrees { Agrees collection.new ino (extents k.now.volume ino) }
+    ensures others { KeepsOthers ino collection.old collection.new }
+{
+    let Some(map) = k.map(ino) else {
+        unreachable!();
+    };
+    let pieces = plan_read(alloc, ino, size, offset, len, overlay, collection, map)?;
+    let mut bytes = Vec::new(alloc);
+    for piece in &pieces {
+        push_piece(&mut bytes, k, *piece)?;
+    }
+    Ok(bytes)
+}

@@ -1,24 +1,22 @@
 -- The content of the images while runs that the log holds are relinked.
-use Rattle.std.proofs.Common.{◌≡◌, ◌≢◌, ◌⊎◌, ◌≤◌, ◌<◌, ◌+◌, ◌-◌, ◌==◌, ◌&&◌, ℕ, zero, suc, Bool, true, false, List, [], ◌∷◌, length, Option, Some, None, Result, Ok, Err, refl, sym, ◌∙◌, ap, subst, inl, inr, arith, get_or}
-use Rattle.std.specs.Prelude.{All, AllPairs, filter, find, reverse}
+use Rattle.std.proofs.Common.{◌≡◌, ◌≢◌, ◌⊎◌, ◌≤◌, ◌<◌, ◌==◌, ◌&&◌, ℕ, zero, suc, true, false, List, [], ◌∷◌, length, Option, Some, None, Result, Ok, Err, refl, sym, ◌∙◌, ap, subst, inl, inr, arith, get_or}
+use Rattle.std.specs.Prelude.{All, AllPairs, filter}
 use Rattle.std.specs.Option.{option_map}
 use Rattle.std.proofs.lemmas.Bool.{and_parts, both_ways, eq-eqb}
 use Rattle.std.proofs.lemmas.Bool.Decides.{Decides-eqb}
-use Rattle.pm_words.specs.Cells.{cell, is_lent}
-use Rattle.pm_words.specs.Frames.{SameLent}
 use Rattle.pm_words.specs.ImageLaws.{Follows-then}
 use Rattle.pm_words.specs.Images.{Follows, Follows-same, Follows-weaken, Then}
 use Rattle.pm_words.specs.Words.{Words}
 use Rattle.disk_lines.specs.declared.Draft.{Draft}
 use Rattle.disk_lines.specs.declared.Inode.{Inode}
 use Rattle.disk_places.specs.Journal.{journaled}
-use Rattle.disk_rules.specs.Content.{content, disk_by, disk_of, entry_of_block, size_by, size_of}
+use Rattle.disk_rules.specs.Content.{content, disk_by, entry_of_block, size_by, size_of}
 use Rattle.disk_rules.specs.Live.{latest, live_entries}
-use Rattle.disk_rules.specs.Volume.{extents, inode, Volume}
-use Rattle.extent_words.specs.Extents.{disk_at, is_within}
+use Rattle.disk_rules.specs.Volume.{inode, Volume}
+use Rattle.extent_words.specs.Extents.{is_within}
 use Rattle.file_overlay.specs.declared.runs.Run.{Run}
 use Rattle.file_overlay.specs.Laws.{IsEarlier, LastIsGreatest, NoneHasBlock}
-use Rattle.file_overlay.specs.Runs.{has_block, last_run, place_in, staged_at}
+use Rattle.file_overlay.specs.Runs.{has_block, last_run, place_in}
 use Rattle.k_map_plans.specs.Plans.{MayMove}
 use Rattle.k_plans.specs.Whole.{IsWhole}
 use Rattle.std.specs.declared.alloc.AllocError.{AllocError}
@@ -37,7 +35,7 @@ use Rattle.volume_facts.specs.Footprint.{SameLog}
 use Rattle.world_promise.specs.Latest.{latest-In, latest-most, latest-none}
 use Rattle.world_relinks.proofs.RelinkLaws.{geometry-same, line-file}
 use Rattle.world_relinks.proofs.WorldLaws.{keeps-content}
-use Rattle.live_facts.specs.Logs.{AreSound, CarriesOut, IsNext}
+use Rattle.live_facts.specs.Logs.{CarriesOut, IsNext}
 use Rattle.world_relinks.specs.Images.{IsCarried}
 use Rattle.fsync_relink.specs.Logged.{HasSameContent, IsLogged, run_of, ShowsLogged}
 use Rattle.fsync_relink.specs.Publishes.{AreRelinked, IsCarriedOut, IsPublishDone, IsPublishStopped, IsRelinkedUpTo, IsResized, MayPublish, move_of, published_at, size_before}

@@ -1,10 +1,9 @@
 -- Runs one after the other: what the ones behind find once a run is relinked.
-use Rattle.std.proofs.Common.{◌≡◌, ◌≢◌, ◌≤◌, ◌<◌, ◌+◌, ◌-◌, ◌*◌, ◌/◌, ◌^◌, ◌==◌, ◌&&◌, not, ℕ, zero, suc, Bool, true, false, List, [], ◌∷◌, length, Option, Some, None, Ok, Err, refl, sym, ◌∙◌, ap, subst, inl, inr, arith, get_or}
-use Rattle.std.specs.Prelude.{All, AllPairs, IsSome, nat_le, if◌then◌else◌}
-use Rattle.std.proofs.lemmas.Bool.{and_parts, both_ways, cases_Bool, cases_eq, eq-eqb}
+use Rattle.std.proofs.Common.{◌≡◌, ◌≢◌, ◌≤◌, ◌<◌, ◌+◌, ◌&&◌, ℕ, suc, true, false, List, [], ◌∷◌, Some, None, Ok, refl, sym, ◌∙◌, ap, subst, inl, inr, arith, get_or}
+use Rattle.std.specs.Prelude.{IsSome, if◌then◌else◌}
+use Rattle.std.proofs.lemmas.Bool.{both_ways, cases_Bool, cases_eq, eq-eqb}
 use Rattle.std.proofs.lemmas.Bool.Decides.{nat_tests}
 use Rattle.std.proofs.lemmas.Option.{same_Some}
-use Rattle.pm_words.specs.Cells.{cell, is_single}
 use Rattle.disk_lines.specs.Lines.{is_inode, is_inode_of_kind, most_bytes}
 use Rattle.disk_lines.specs.declared.Inode.{Inode}
 use Rattle.disk_lines.specs.declared.Kind.{Kind}
@@ -12,15 +11,13 @@ use Rattle.disk_lines.specs.declared.Kind.TheVariants.{File, Staging}
 use Rattle.disk_places.specs.Places.{reserve}
 use Rattle.disk_rules.specs.Volume.{extents, inode, Volume}
 use Rattle.extent_words.specs.Extents.{disk_at, is_within}
-use Rattle.extent_words.specs.Moves.{IsMapped}
 use Rattle.file_overlay.specs.declared.runs.Run.{Run}
-use Rattle.file_overlay.specs.Laws.{IsEarlier}
 use Rattle.k_map_plans.specs.Plans.{IsLiveFile, IsStagingFile, MayMove}
 use Rattle.k_plans.specs.View.{node_at}
 use Rattle.k_plans.specs.Whole.{IsWhole}
 use Rattle.k_rules.specs.Spaces.{is_free}
 use Rattle.k_rules.specs.View.{View}
-use Rattle.k_split.specs.MapChanges.{free_blocks_in, is_free_in, IsMovedSingle, IsRelinkAnswer}
+use Rattle.k_split.specs.MapChanges.{is_free_in, IsMovedSingle, IsRelinkAnswer}
 use Rattle.k_split.specs.Order.{IsInOrder}
 use Rattle.map_rules.specs.declared.moves.Move.{Move}
 use Rattle.k_plans.proofs.FreeCounts.{unwaiting-counted}

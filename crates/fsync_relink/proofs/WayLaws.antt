@@ -1,12 +1,10 @@
 -- Runs are relinked one after the other, and what is left of them.
-use Rattle.std.proofs.Common.{◌≡◌, ◌≤◌, ◌<◌, ◌+◌, ◌-◌, ◌*◌, ◌^◌, ℕ, zero, suc, true, false, List, [], ◌∷◌, length, take, drop, get_or, take_all, length-drop, None, Result, Ok, Err, refl, sym, ◌∙◌, ap, subst, inl, inr, arith, add-one, drop-cons}
+use Rattle.std.proofs.Common.{◌≡◌, ◌≤◌, ◌<◌, ◌+◌, ◌-◌, ◌*◌, ◌^◌, ℕ, false, List, [], ◌∷◌, length, take, drop, get_or, take_all, length-drop, None, Ok, Err, refl, sym, ◌∙◌, ap, subst, inl, inr, arith, add-one, drop-cons}
 use Rattle.std.proofs.lemmas.List.{drop_all}
 use Rattle.pm_words.specs.PowerLaws.{Steps-none, Steps-then}
-use Rattle.pm_words.specs.Powers.{is_on, Steps, Supply}
-use Rattle.std.specs.declared.alloc.AllocError.{AllocError}
+use Rattle.pm_words.specs.Powers.{Steps, Supply}
 use Rattle.disk_rules.specs.Volume.{inode}
 use Rattle.file_overlay.specs.declared.runs.Run.{Run}
-use Rattle.k_journal.specs.declared.outcomes.Commit.{Commit}
 use Rattle.k_rules.specs.View.{View}
 use Rattle.k_split.specs.Answers.{IsPaid}
 use Rattle.disk_places.specs.Places.{reserve}

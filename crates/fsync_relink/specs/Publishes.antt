@@ -1,11 +1,9 @@
 -- What `publish` asks for, and what it answers and leaves.
-use Rattle.std.specs.Prelude.{◌≡◌, ◌≢◌, ◌⊎◌, ◌≤◌, ◌<◌, ◌+◌, ◌*◌, ◌^◌, ◌/◌, ◌==◌, ◌&&◌, ℕ, Bool, true, false, List, [], ◌∷◌, length, All, AllPairs, Option, Some, None, if◌then◌else◌, Result, Ok, Err, alloc_error}
+use Rattle.std.specs.Prelude.{◌≡◌, ◌≢◌, ◌⊎◌, ◌≤◌, ◌<◌, ◌+◌, ◌^◌, ◌/◌, ◌==◌, ◌&&◌, ℕ, Bool, true, false, List, [], ◌∷◌, length, All, AllPairs, Option, Some, None, if◌then◌else◌, Result, Ok, Err, alloc_error}
 use Rattle.std.specs.List.{list_any}
 use Rattle.std.specs.declared.alloc.AllocError.{AllocError}
-use Rattle.pm_words.specs.declared.Cell.{Cell}
 use Rattle.pm_words.specs.Cells.{cell, is_single}
 use Rattle.pm_words.specs.Powers.{is_on, Supply}
-use Rattle.disk_lines.specs.declared.Inode.{Inode}
 use Rattle.disk_lines.specs.Lines.{most_bytes}
 use Rattle.disk_places.specs.Places.{reserve}
 use Rattle.disk_rules.specs.Volume.{extents, inode, Volume}

@@ -1,4 +1,4 @@
-use Rattle.std.proofs.Common.{◌≡◌, ◌+◌, ◌*◌, [], length, refl, sym, ◌∙◌, ap, arith}
+use Rattle.std.proofs.Common.{◌+◌, ◌*◌, length, arith}
 use Rattle.fsync_relink.proofs.LoggedLaws.{carried-images}
 use Rattle.fsync_relink.proofs.PublishedLaws.{each-carried, none-there, resized-carried, some-there}
 use Rattle.fsync_relink.proofs.WayLaws.{steps-within}

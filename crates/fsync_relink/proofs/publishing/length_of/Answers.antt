@@ -1,4 +1,4 @@
-use Rattle.std.proofs.Common.{◌≡◌, Some, None, sym, ◌∙◌, ap}
+use Rattle.std.proofs.Common.{sym, ◌∙◌}
 use Rattle.fsync_relink.proofs.NextLaws.{node-file, node-there}
 use Rattle.fsync_relink.proofs.publishing.length_of.Goals as goal
 

@@ -1,9 +1,8 @@
-use Rattle.std.proofs.Common.{◌≡◌, ◌+◌, ◌*◌, false, true, length, refl, sym, ◌∙◌, ap, subst, inl, inr}
-use Rattle.disk_rules.specs.Volume.{inode}
+use Rattle.std.proofs.Common.{◌+◌, ◌*◌, length, refl, sym, ◌∙◌, subst, inl}
 use Rattle.pm_words.specs.Images.{Follows, Follows-same}
-use Rattle.pm_words.specs.Powers.{is_on, Steps}
+use Rattle.pm_words.specs.Powers.{Steps}
 use Rattle.fsync_relink.specs.Logged.{HasSameContent}
-use Rattle.fsync_relink.specs.Publishes.{IsCarriedOut, MayPublish}
+use Rattle.fsync_relink.specs.Publishes.{MayPublish}
 use Rattle.fsync_relink.proofs.PublishedLaws.{done-answer, failed-answer, lost-answer}
 use Rattle.fsync_relink.proofs.WayLaws.{steps-here}
 use Rattle.fsync_relink.proofs.publishing.publish.Goals as goal

@@ -1,6 +1,5 @@
-use Rattle.std.proofs.Common.{◌≡◌, Err, Ok, refl, sym, ◌∙◌, ap, subst, inl, inr}
+use Rattle.std.proofs.Common.{refl, sym, ◌∙◌, subst, inl, inr}
 use Rattle.std.proofs.lemmas.Bool.{both_ways}
-use Rattle.disk_rules.specs.Volume.{inode}
 use Rattle.fsync_relink.specs.Publishes.{IsPublishPaid, IsResizedOnce}
 use Rattle.fsync_relink.proofs.WayLaws.{resize-stops, resize-stops-paid, steps-here}
 use Rattle.fsync_relink.proofs.publishing.resize.Goals as goal

@@ -1,0 +1,4 @@
+pub mod NextLaws
+pub mod WayLaws
+pub mod PublishedLaws
+pub mod LoggedLaws

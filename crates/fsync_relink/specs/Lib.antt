@@ -1,0 +1,2 @@
+pub mod Publishes
+pub mod Logged

@@ -1,10 +1,9 @@
 //! Tests of single layers, each over its public calls.
 //!
 //! A crate that has tests of its own is proved a second time with them, so they stand here, above all
-//! crates. What they show is what no clause says: lines and texts as another program made them, the
-//! limits of scripts at the limit and one past it, that many fences of a large device cost little; and
-//! each call that may answer want of memory once, with its answer. Whole layers are tested by the
-//! programs beside this crate.
+//! crates. What they show is what no clause says: lines as another program made them, that many fences of
+//! a large device cost little; and each call that may answer want of memory once, with its answer. Tests
+//! of scripts and texts stand in `text_tests`; whole layers are tested by the programs beside this crate.
 #![tactic(auto)]
 
 #[cfg(test)]
@@ -13,8 +12,6 @@ mod batches;
 mod chains;
 #[cfg(test)]
 mod checking;
-#[cfg(test)]
-mod descriptors;
 #[cfg(test)]
 mod device;
 #[cfg(test)]
@@ -39,12 +36,6 @@ mod pools;
 mod reading;
 #[cfg(test)]
 mod routes;
-#[cfg(test)]
-mod scripts;
-#[cfg(test)]
-mod statuses;
-#[cfg(test)]
-mod texts;
 #[cfg(test)]
 mod tree_order;
 #[cfg(test)]

@@ -1,0 +1,3 @@
+mod Members
+pub mod Flights
+pub mod Readable

@@ -1,0 +1,49 @@
+-- The World in flight, in strict mode: the device with writes out, and what is kept of files beside their inodes.
+use Rattle.std.specs.Prelude.{◌≡◌, ◌⊎◌, ◌<◌, ◌/◌, ◌==◌, ℕ, true, List, [], ◌∷◌, ◌++◌, if◌then◌else◌}
+use Rattle.pm_words.specs.declared.Cell.{Cell}
+use Rattle.pm_words.specs.Cells.{AllHome, cell, is_lent}
+use Rattle.pm_words.specs.Parts.{Part}
+use Rattle.disk_places.specs.Places.{log_line}
+use Rattle.disk_lines.specs.declared.Draft.{Draft}
+use Rattle.disk_lines.specs.declared.Kind.TheVariants.{File}
+use Rattle.disk_rules.specs.Volume.{inode, Volume}
+use Rattle.file_overlay.specs.declared.runs.Run.{Run}
+use Rattle.list_facts.specs.Members.{In}
+use Rattle.posix_spec.specs.State.{State}
+use Rattle.world_images.specs.Images.{StandsFor}
+use Rattle.world_rules.specs.Jobs.{IsStagedIn, Job, live_claims}
+use Rattle.world_rules.specs.Promised.{AreWhole}
+use Rattle.write_jobs.specs.Jobs.{loan_at}
+use Rattle.job_facts.specs.Blocks.{AreOut}
+use Rattle.overlay_facts.specs.Overlays.{IsOverlayOf, run_of}
+
+-- what is kept of a file: its staged runs, in the order in which they were laid, and its size by them
+pub record FileState : Type 0 where
+  pub runs : List Run
+  pub size : ℕ
+
+-- with the run of an entry more
+abbrev pub with_entry : (ℕ → FileState) → Draft → ℕ → FileState
+with_entry files d ino = if ino == d.ino then record { runs = (files ino).runs ++ run_of d ∷ []; size = d.size } else files ino
+
+-- what is kept of each file is what the log says of it
+abbrev pub AreOverlays : Volume → List Draft → (ℕ → FileState) → Type 0
+AreOverlays v live files = (ino : ℕ) → (inode v ino).kind ≡ File → IsOverlayOf v live ino (files ino).runs (files ino).size
+
+-- A word that is lent is one of a log line, or of a block of a job.
+abbrev pub IsOut : Volume → List Job → ℕ → Type 0
+IsOut v jobs i = ((slot : ℕ) × (slot < v.geometry.log) × (i / 8 ≡ log_line v.geometry slot)) ⊎ ((j : Job) × In j jobs × IsStagedIn v j.draft (i / 512))
+
+-- THE WORLD FLIES: the device stands for the state with these jobs in flight, whatever is in its log lines; all bytes of each
+-- job are found once it lands; the blocks of the jobs are out, and else nothing but log lines; and what is kept of each file
+-- is what the log says of it.
+pub record IsFlying (v : Volume) (d : List Cell) (claims : List (ℕ × Draft)) (jobs : List Job) (files : ℕ → FileState) (numbers : List ℕ) (s : State) (count : ℕ) : Type 0 where
+  pub device : StandsFor v d claims jobs numbers s count
+  pub whole : AreWhole jobs
+  pub out : (j : Job) → In j jobs → AreOut v j.draft d
+  pub home : (i : ℕ) → is_lent (cell d i) ≡ true → IsOut v jobs i
+  pub overlays : AreOverlays v (live_claims v claims) files
+
+-- no word of the loans is itself lent
+abbrev pub AreHomeLoans : List Part → Type 0
+AreHomeLoans loans = (k : ℕ) → AllHome (loan_at loans k).cells

@@ -1,7 +1,7 @@
 -- Bytes of a file that are written over in place: the device stands at the same volume.
-use Rattle.std.proofs.Common.{◌≡◌, ◌≢◌, ◌⊎◌, ℕ, zero, suc, ◌+◌, ◌-◌, ◌*◌, ◌/◌, ◌<◌, ◌≤◌, Bool, true, false, All, List, [], ◌∷◌, length, Option, Some, None, refl, sym, ◌∙◌, ap, subst, arith, inl, inr}
+use Rattle.std.proofs.Common.{◌≡◌, ℕ, zero, suc, ◌+◌, ◌-◌, ◌*◌, ◌/◌, ◌<◌, ◌≤◌, Bool, true, false, All, List, [], ◌∷◌, length, Option, Some, None, refl, sym, ◌∙◌, ap, subst, arith, inl, inr}
 use Rattle.std.specs.Prelude.{IsSome}
-use Rattle.std.proofs.lemmas.Bool.{both_ways, cases_lt}
+use Rattle.std.proofs.lemmas.Bool.{cases_lt}
 use Rattle.std.proofs.lemmas.Bool.Decides.{nat_tests}
 use Rattle.std.proofs.lemmas.List.{get_or_past}
 use Rattle.pm_words.specs.declared.Cell.{Cell}
@@ -11,7 +11,7 @@ use Rattle.pm_words.specs.Cells.{cell, is_single, IsCandidate, newest, Settles}
 use Rattle.pm_words.specs.Frames.{KeepsSingle, SameLent}
 use Rattle.pm_words.specs.Images.{Follows, IsImage}
 use Rattle.pm_words.specs.Words.{Words}
-use Rattle.disk_places.specs.Journal.{is_journal_word, IsSound, journaled}
+use Rattle.disk_places.specs.Journal.{is_journal_word, journaled}
 use Rattle.disk_places.specs.Places.{commit_word, Geometry, is_data_block, is_journaled_line}
 use Rattle.extent_words.specs.declared.Extent.{Extent}
 use Rattle.extent_words.specs.Extents.{covers, disk_at, IsCanonical}
@@ -19,8 +19,7 @@ use Rattle.extent_facts.specs.Covers.{covers-disk_at}
 use Rattle.extent_facts.specs.Facts.{disk_at-past}
 use Rattle.disk_lines.specs.declared.Kind.{Kind}
 use Rattle.disk_lines.specs.declared.Kind.TheVariants.{File, Free}
-use Rattle.disk_rules.specs.Placed.{block_at, IsOutside}
-use Rattle.disk_rules.specs.Reading.{Reads}
+use Rattle.disk_rules.specs.Placed.{block_at}
 use Rattle.disk_rules.specs.Rules.{file_blocks_of, IsKindAt, IsNamedOnce}
 use Rattle.disk_rules.specs.Volume.{chain, extents, free_inode, inode, Volume}
 use Rattle.volume_facts.specs.ImageLaws.{journal-outside, journaled-same}

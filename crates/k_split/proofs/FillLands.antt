@@ -1,6 +1,6 @@
 -- Blocks that are zeroed before a plan is landed that gives them to a file.
-use Rattle.std.proofs.Common.{◌≡◌, ◌≢◌, ℕ, ◌+◌, ◌*◌, ◌/◌, ◌<◌, Bool, true, false, List, [], ◌∷◌, ◌++◌, length, get_or, Result, Ok, Err, refl, sym, ◌∙◌, ap, subst, arith, inl, inr, length-append}
-use Rattle.std.specs.Prelude.{All, OnErr, OnOk}
+use Rattle.std.proofs.Common.{◌≡◌, ℕ, ◌+◌, ◌*◌, ◌/◌, ◌<◌, true, false, List, ◌++◌, length, get_or, Result, Ok, Err, refl, sym, ◌∙◌, arith, inl, inr, length-append}
+use Rattle.std.specs.Prelude.{All}
 use Rattle.std.proofs.lemmas.Bool.{cases_Bool}
 use Rattle.std.proofs.lemmas.Bool.Decides.{nat_tests}
 use Rattle.std.proofs.lemmas.List.{get_or_append_left, get_or-append-add}
@@ -13,11 +13,11 @@ use Rattle.pm_words.specs.Powers.{is_on, Steps, Supply}
 use Rattle.pm_words.specs.Words.{Words}
 use Rattle.disk_places.specs.Journal.{is_journal_word, journaled}
 use Rattle.disk_places.specs.Places.{commit_word, Geometry, is_data_block, is_journaled_line}
-use Rattle.disk_rules.specs.Placed.{AreInDevice, block_at, IsOutside}
+use Rattle.disk_rules.specs.Placed.{block_at, IsOutside}
 use Rattle.disk_rules.specs.Reading.{Reads}
 use Rattle.disk_rules.specs.Volume.{Volume}
 use Rattle.block_bytes.specs.Overwrites.{IsZeroed, MayZero, SameBeside}
-use Rattle.map_rules.specs.Zeros.{AreZeros, ReadZeros}
+use Rattle.map_rules.specs.Zeros.{ReadZeros}
 use Rattle.volume_facts.specs.ImageLaws.{journal-outside}
 use Rattle.volume_facts.specs.Reading.{AreUnchained}
 use Rattle.volume_facts.specs.ReadingLaws.{reads-one}

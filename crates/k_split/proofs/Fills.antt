@@ -1,5 +1,5 @@
 -- Holes of a file that are filled: the plan that is landed, and what is answered.
-use Rattle.std.proofs.Common.{◌≡◌, ◌≢◌, ◌⊎◌, ℕ, ◌+◌, ◌/◌, ◌<◌, Bool, true, false, List, [], ◌∷◌, ◌++◌, length, get_or, Option, None, Some, Result, Ok, Err, refl, sym, ◌∙◌, ap, subst, arith, inl, inr, length-append}
+use Rattle.std.proofs.Common.{◌≡◌, ◌≢◌, ℕ, ◌+◌, ◌/◌, ◌<◌, Bool, true, false, List, [], ◌∷◌, ◌++◌, length, get_or, Option, None, Some, Result, Ok, Err, refl, sym, ◌∙◌, ap, subst, arith, inl, inr, length-append}
 use Rattle.std.specs.Prelude.{All, ◌&&◌, is_none, OnErr, OnOk, slice_index}
 use Rattle.std.specs.List.{range_with_len}
 use Rattle.std.proofs.lemmas.Bool.{both_ways}
@@ -8,10 +8,8 @@ use Rattle.std.proofs.lemmas.List.Elements.{filter_passes}
 use Rattle.pm_words.specs.declared.Cell.{Cell}
 use Rattle.pm_words.specs.Frames.{KeepsSingle}
 use Rattle.pm_words.specs.Powers.{Supply}
-use Rattle.block_pool.specs.FreeSets.{is_among}
 use Rattle.extent_words.specs.Extents.{disk_at}
-use Rattle.disk_places.specs.Places.{is_data_block}
-use Rattle.disk_rules.specs.Placed.{AreDistinct, AreSingle, block_at}
+use Rattle.disk_rules.specs.Placed.{AreDistinct, block_at}
 use Rattle.disk_rules.specs.Volume.{chain, extents, inode}
 use Rattle.volume_facts.specs.Changes.{chain-set_same, extents-set_same}
 use Rattle.map_rules.specs.Taken.{AreLowest, with_map}

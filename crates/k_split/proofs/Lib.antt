@@ -7,10 +7,12 @@ mod FreshDevices
 mod LandLaws
 pub mod LoanLaws
 mod LogLaws
+mod LogOut
 mod LookLaws
 mod MapAnswers
 mod MapLands
 mod OpenLaws
 mod Relinks
+mod ResetLaws
 mod StagedBytes
 mod TreeLaws

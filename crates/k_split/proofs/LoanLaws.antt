@@ -1,5 +1,5 @@
 -- A block of a staging file that is lent, and one that comes back: K-Split stays ready.
-use Rattle.std.proofs.Common.{◌≡◌, ◌≢◌, ℕ, zero, suc, ◌+◌, ◌*◌, ◌/◌, ◌<◌, ◌≤◌, Bool, true, false, List, [], ◌∷◌, length, Some, Result, Ok, Err, IfOk, refl, sym, ◌∙◌, ap, subst, arith, inl, inr}
+use Rattle.std.proofs.Common.{◌≡◌, ◌≢◌, ℕ, zero, suc, ◌*◌, ◌/◌, ◌<◌, Bool, true, List, [], ◌∷◌, length, Some, Result, Ok, Err, IfOk, refl, sym, ◌∙◌, ap, subst, arith, inl, inr}
 use Rattle.std.specs.Prelude.{OnErr}
 use Rattle.std.proofs.lemmas.Bool.{both_ways, cases_lt}
 use Rattle.std.proofs.lemmas.Bool.Decides.{nat_tests}
@@ -27,10 +27,10 @@ use Rattle.k_plans.specs.View.{TablesView}
 use Rattle.k_plans.specs.Whole.{IsWhole}
 use Rattle.k_rules.specs.Stands.{Stands}
 use Rattle.k_split.specs.Loans.{MayLend}
-use Rattle.k_split.specs.Order.{IsReady, IsUnstaged, IsUnstagedSingle, view_of}
+use Rattle.k_split.specs.Order.{IsReady, IsUnstagedSingle, view_of}
 use Rattle.k_split.proofs.ByteLaws.{one_of}
 
-is_lent-Lent : (c : Cell) → is_lent c ≡ true → c ≡ Lent
+pub is_lent-Lent : (c : Cell) → is_lent c ≡ true → c ≡ Lent
 is_lent-Lent (Single x) is = cc
 is_lent-Lent (Two x y) is = cc
 is_lent-Lent (Marked x y) is = cc

@@ -1,5 +1,5 @@
 -- A log whose lines become zero: the device stands at the same volume.
-use Rattle.std.proofs.Common.{◌≡◌, ℕ, ◌+◌, ◌*◌, ◌/◌, ◌<◌, ◌≤◌, Bool, true, false, List, length, refl, sym, ◌∙◌, ap, subst, arith}
+use Rattle.std.proofs.Common.{◌≡◌, ℕ, ◌+◌, ◌*◌, ◌/◌, ◌<◌, Bool, true, List, length, refl, ◌∙◌, ap, subst, arith}
 use Rattle.std.proofs.lemmas.Bool.{both_ways}
 use Rattle.std.proofs.lemmas.Bool.Decides.{nat_tests}
 use Rattle.pm_words.specs.declared.Cell.{Cell}
@@ -9,7 +9,7 @@ use Rattle.pm_words.specs.Cells.{cell, is_single, newest, Settles}
 use Rattle.pm_words.specs.Words.{Words}
 use Rattle.disk_places.specs.Journal.{is_journal_word, journaled}
 use Rattle.disk_places.specs.PlaceLaws.{behind_log-not_journaled, behind_log-words}
-use Rattle.disk_places.specs.Places.{commit_word, Geometry, is_data_block, is_journaled_line, log_line}
+use Rattle.disk_places.specs.Places.{commit_word, is_data_block, is_journaled_line, log_line}
 use Rattle.disk_rules.specs.Placed.{block_at}
 use Rattle.disk_rules.specs.Volume.{chain, Volume}
 use Rattle.block_bytes.specs.Overwrites.{AreLinesZeroed, IsInLines, SameBesideLines}
@@ -25,16 +25,16 @@ use Rattle.k_split.specs.Order.{IsReady, view_of}
 
 module _ (v : Volume) where
   -- words of the log are none of the journal, of a journaled line, of a data block
-  journal_beside : (i : ℕ) → is_journal_word i ≡ true → ¬ IsLogWord v i
+  pub journal_beside : (i : ℕ) → is_journal_word i ≡ true → ¬ IsLogWord v i
   journal_beside i is at = both_ways (is_journal_word i) (behind_log-words v.geometry i (omega (arith, at.from))) is
 
-  line_beside : (i : ℕ) → is_journaled_line v.geometry (i / 8) ≡ true → ¬ IsLogWord v i
+  pub line_beside : (i : ℕ) → is_journaled_line v.geometry (i / 8) ≡ true → ¬ IsLogWord v i
   line_beside i is at = both_ways (is_journaled_line v.geometry (i / 8)) (behind_log-not_journaled v.geometry (i / 8) at.from) is
 
-  data_beside : (b j : ℕ) → is_data_block v.geometry b ≡ true → j < 512 → ¬ IsLogWord v (512 * b + j)
+  pub data_beside : (b j : ℕ) → is_data_block v.geometry b ≡ true → j < 512 → ¬ IsLogWord v (512 * b + j)
   data_beside b j is short at = grind (arith, nat_tests, is, short, at.below)
 
-  seen : (before image : Words) → SameBesideLines (log_line v.geometry 0) v.geometry.log before image → (i : ℕ) → ¬ IsLogWord v i → journaled image i ≡ journaled before i
+  pub seen : (before image : Words) → SameBesideLines (log_line v.geometry 0) v.geometry.log before image → (i : ℕ) → ¬ IsLogWord v i → journaled image i ≡ journaled before i
   seen before image same i beside = journaled-same before image i (λ w journal. same w (journal_beside w journal)) (same i beside)
 
   pub stands_cleared : (d e : List Cell) → Stands v.geometry v d → ClearsLog v d e → Stands v.geometry v e

@@ -1,5 +1,5 @@
 -- Bytes of a block of a staging file that is not lent, written over in place.
-use Rattle.std.proofs.Common.{◌≡◌, ℕ, ◌+◌, ◌*◌, ◌/◌, ◌<◌, ◌≤◌, true, List, length, Option, None, Some, refl, sym, ◌∙◌, ap, subst, arith, inl, inr}
+use Rattle.std.proofs.Common.{◌≡◌, ℕ, ◌+◌, ◌*◌, ◌/◌, ◌<◌, ◌≤◌, List, length, Option, None, Some, refl, sym, ◌∙◌, ap, subst, arith, inl, inr}
 use Rattle.std.specs.Prelude.{IsSome}
 use Rattle.std.proofs.lemmas.Bool.{cases_lt}
 use Rattle.std.proofs.lemmas.Option.{same_Some}
@@ -9,7 +9,7 @@ use Rattle.pm_words.specs.Images.{words_of}
 use Rattle.extent_words.specs.Extents.{disk_at, IsCanonical}
 use Rattle.extent_facts.specs.Facts.{disk_at-past}
 use Rattle.disk_rules.specs.Volume.{extents, Volume}
-use Rattle.block_bytes.specs.Overwrites.{MayOverwrite, StandsIn}
+use Rattle.block_bytes.specs.Overwrites.{MayOverwrite}
 use Rattle.k_plans.specs.Whole.{IsWhole}
 use Rattle.k_rules.specs.Stands.{Stands}
 use Rattle.k_split.specs.Loans.{MayLend}

@@ -1,5 +1,5 @@
 -- What the filling of holes of a file answers and leaves.
-use Rattle.std.specs.Prelude.{◌≡◌, ◌≢◌, ◌⊎◌, ℕ, true, All, List, [], ◌++◌, length, Option, None, Some, Result, Ok, Err}
+use Rattle.std.specs.Prelude.{◌≡◌, ◌≢◌, ◌⊎◌, ℕ, true, All, List, ◌++◌, length, Option, None, Some, Result, Ok, Err}
 use Rattle.pm_words.specs.declared.Cell.{Cell}
 use Rattle.pm_words.specs.Powers.{Supply}
 use Rattle.disk_rules.specs.Placed.{AreDistinct, AreSingle}
@@ -19,7 +19,7 @@ use Rattle.posix_words.specs.Outcomes.{answer}
 use Rattle.volume_uses.specs.Uses.{is_unused}
 use Rattle.k_split.specs.declared.faults.KFault.{KFault}
 use Rattle.k_split.specs.Answers.{IsOff}
-use Rattle.k_split.specs.MapChanges.{free_blocks_in, is_free_in, IsMapAnswer, IsMapCut, IsMapDone, IsMapLanded, IsMapPlanned}
+use Rattle.k_split.specs.MapChanges.{free_blocks_in, is_free_in, IsMapAnswer, IsMapCut, IsMapLanded, IsMapPlanned}
 
 -- how many holes the range of the file has
 abbrev pub hole_count : ℕ → ℕ → ℕ → View → ℕ

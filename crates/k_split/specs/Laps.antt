@@ -1,5 +1,5 @@
 -- A new lap of the log, and a log that begins anew.
-use Rattle.std.specs.Prelude.{◌≡◌, ◌⊎◌, ◌+◌, ◌≤◌, ◌<◌, ◌^◌, ℕ, ◌/◌, true, false, length, List, None, Result}
+use Rattle.std.specs.Prelude.{◌≡◌, ◌⊎◌, ◌+◌, ◌≤◌, ◌^◌, ℕ, true, length, List, None, Result}
 use Rattle.pm_words.specs.declared.Cell.{Cell}
 use Rattle.pm_words.specs.Cells.{cell, is_single, Settles}
 use Rattle.pm_words.specs.Frames.{KeepsSingle, SameLent}

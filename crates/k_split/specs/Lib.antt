@@ -6,7 +6,9 @@ pub mod Filling
 pub mod Landed
 pub mod Laps
 pub mod Loans
+pub mod LogLines
 pub mod Looks
 pub mod MapChanges
 pub mod Names
 pub mod Order
+pub mod Resets

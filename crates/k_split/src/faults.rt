@@ -27,9 +27,9 @@ use thiserror::Error;
 /// # Steps
 ///
 /// A change of names takes at most 256 steps of its power, one of maps at most 2^15, with 1,024 a
-/// hole more where holes are filled, and each at least one where it is done; bytes in place take at
-/// most 576 a block that they reach, and one more. A step is a store, a flush or a fence of the
-/// device. A `KSplit` that is lost is handed no power that is on.
+/// hole more where holes are filled, and each at least one where it has something to do and is done;
+/// bytes in place take at most 576 a block that they reach, and one more. A step is a store, a flush
+/// or a fence of the device. A `KSplit` that is lost is handed no power that is on.
 #[derive(Clone, Copy, Debug, PartialEq, Eq, Error)]
 pub enum KFault {
     /// The call answers this error.

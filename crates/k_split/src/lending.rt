@@ -50,6 +50,7 @@ impl KSplit {
     pub fn settle(&mut self, loan: Loan)
         requires out { (i : ℕ) → i / 512 ≡ loan.place → is_lent (cell self.old.cells i) ≡ true }
         ensures back { ComesBack 512 loan.place loan.cells self.old.cells self.new.cells }
+        ensures home { BlockIsHome loan.place self.new.cells }
         ensures same { self.new ≡ record self.old { cells = self.new.cells } }
         ensures size { length self.new.cells ≡ length self.old.cells }
     {

@@ -11,7 +11,8 @@
 //! (`IsAnswer`). A K-Split that lost its power is lost: its tables mean nothing more, it answers
 //! `PowerLost`, and its device can be taken back.
 //!
-//! Stands on `k_plans` (changes of names), `k_map_plans` (of maps), `k_land`, `k_reading` and `k_content`.
+//! Stands on `k_plans` (changes of names), `k_map_plans` (of maps), `k_log_plans` (of what is applied),
+//! `lines_out`, `k_land`, `k_reading` and `k_content`.
 #![tactic(auto)]
 
 mod bytes;
@@ -22,6 +23,7 @@ mod filling;
 mod laps;
 mod laws;
 mod lending;
+mod logs;
 mod looks;
 mod making;
 mod mapping;
@@ -29,6 +31,7 @@ mod opening;
 mod relinking;
 mod removing;
 mod renaming;
+mod resets;
 mod staging;
 mod state;
 mod trees;

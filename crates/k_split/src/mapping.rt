@@ -69,6 +69,10 @@ impl KSplit {
     /// the new end is dropped, also where the size stays. Its map is written anew, into the lowest
     /// free blocks, of which `reserve - 3` are there; the blocks that it has no longer are free.
     ///
+    /// A file counts by its size against the blocks of the image, holes too: a checked image has room
+    /// for all files with no hole. No test is made here, so the layer above asks for no size that
+    /// has no room; an image with such a file is refused at the next mount.
+    ///
     /// # Errors
     ///
     /// `PowerLost` and `NoMemory` alone, as [`KFault`] says.

@@ -1,5 +1,5 @@
 -- What a staging keeps agrees with K-Split, and goes on to.
-use Rattle.std.proofs.Common.{◌≡◌, ◌≢◌, ◌≤◌, ◌<◌, ◌+◌, ◌-◌, ◌/◌, ◌==◌, ◌&&◌, ◌||◌, not, ℕ, Bool, true, false, List, [], ◌∷◌, ◌++◌, length, Some, Ok, refl, length-append, sym, ◌∙◌, ap, subst, inl, inr, arith, get_or}
+use Rattle.std.proofs.Common.{◌≡◌, ◌≢◌, ◌≤◌, ◌<◌, ◌+◌, ◌-◌, ◌/◌, ◌==◌, ◌||◌, not, ℕ, Bool, true, false, [], ◌∷◌, length, Some, Ok, refl, length-append, sym, ◌∙◌, ap, subst, inl, inr, arith, get_or}
 use Rattle.std.specs.Prelude.{nat_lt, remove}
 use Rattle.std.specs.List.{Any, list_any}
 use Rattle.std.proofs.lemmas.Bool.{and_parts, both_ways, cases_Bool, cases_eq, cases_lt, false_from_ne_true}
@@ -7,12 +7,12 @@ use Rattle.std.proofs.lemmas.Bool.Decides.{nat_tests}
 use Rattle.std.proofs.lemmas.List.{get_or_append_left}
 use Rattle.std.proofs.lemmas.List.Edits.{get_or-remove_above, get_or-remove_below, length-remove}
 use Rattle.std.proofs.lemmas.List.Folds.{Any-from_list_any, list_any-append, list_any_at}
-use Rattle.pm_words.specs.Cells.{cell, is_lent, is_single}
+use Rattle.pm_words.specs.Cells.{cell, is_single}
 use Rattle.pm_words.specs.CellLaws.{single-home}
 use Rattle.block_pool.specs.FreeSets.{is_among}
 use Rattle.disk_places.specs.Places.{is_data_block}
 use Rattle.disk_rules.specs.Placed.{block_at}
-use Rattle.disk_rules.specs.Volume.{Volume, extents, inode}
+use Rattle.disk_rules.specs.Volume.{extents, inode}
 use Rattle.extent_words.specs.Extents.{covers, disk_at, is_within}
 use Rattle.k_rules.specs.View.{View}
 use Rattle.k_split.specs.MapChanges.{is_free_in, IsMapDone, IsPreallocateAnswer, IsPreallocatedWith}
@@ -24,7 +24,7 @@ use Rattle.volume_maps.specs.Switches.{unused-data}
 use Rattle.volume_uses.specs.PoolLaws.{unused-uncovered}
 use Rattle.volume_uses.specs.Uses.{is_unused}
 use Rattle.staging_files.specs.declared.runs.StageRun.{StageRun}
-use Rattle.staging_files.specs.Keeps.{Agrees, AreFreeSingle, given_to, has_block, is_kept_free, IsAtHome, IsKeptEmpty, IsRunSingle, IsSingleAt, IsStaged, IsStaging, IsThere, Staged}
+use Rattle.staging_files.specs.Keeps.{Agrees, AreFreeSingle, given_to, has_block, is_kept_free, IsAtHome, IsRunSingle, IsSingleAt, IsStaged, IsStaging, IsThere, Staged}
 use Rattle.staging_files.specs.Reserves.{IsFreeRun, with_given, with_out}
 use Rattle.staging_files.proofs.StagedLaws.{free-from, free-given, free-none, given_to-other, given_to-same, has-parts}
 

@@ -3,8 +3,7 @@ use Rattle.std.proofs.Common.{◌≡◌, ◌≢◌, ◌≤◌, ◌<◌, ◌-◌,
 use Rattle.std.proofs.lemmas.Bool.{both_ways, cases_eq}
 use Rattle.std.proofs.lemmas.List.{get_or-replicate}
 use Rattle.std.specs.Prelude.{remove, slice_get, Contains}
-use Rattle.pm_words.specs.Cells.{cell, is_single}
-use Rattle.pm_words.specs.Powers.{is_on, Steps, Supply}
+use Rattle.pm_words.specs.Powers.{Steps, Supply}
 use Rattle.disk_lines.specs.declared.Kind.TheVariants.{Directory, File, Free, Staging}
 use Rattle.disk_lines.specs.declared.Kind.{Kind}
 use Rattle.disk_rules.specs.Rules.{IsKindAt}
@@ -22,7 +21,7 @@ use Rattle.map_rules.specs.Taken.{with_map}
 use Rattle.volume_facts.specs.Changes.{extents-set_other, extents-set_same}
 use Rattle.staging_files.specs.GivesUp.{AgreesAfterAll, AllStagedSingle, AreGivenUp, bared, IsGiveUpAllPaid, IsGivenUpEach, nothing_staged, stopped_by}
 use Rattle.staging_files.specs.declared.runs.StageRun.{StageRun}
-use Rattle.staging_files.specs.Keeps.{Agrees, given_to, is_kept_free, IsAtHome, IsStaged, IsStaging, Staged}
+use Rattle.staging_files.specs.Keeps.{Agrees, given_to, IsStaged, IsStaging, Staged}
 use Rattle.staging_files.proofs.StagedLaws.{free-given}
 
 -- inodes 1 to 4 are the staging files

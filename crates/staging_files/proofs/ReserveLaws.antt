@@ -1,7 +1,7 @@
 -- What `reserve` answers, from what its two ways leave.
-use Rattle.std.proofs.Common.{◌≡◌, ◌≤◌, ◌<◌, ◌+◌, ◌-◌, ℕ, true, false, List, [], ◌∷◌, ◌++◌, length, None, Result, Ok, Err, refl, sym, ◌∙◌, ap, subst, inl, inr, arith}
+use Rattle.std.proofs.Common.{◌≡◌, ◌≤◌, ◌<◌, ◌+◌, ℕ, false, length, None, Result, Ok, Err, refl, sym, ◌∙◌, ap, subst, inr, arith}
 use Rattle.std.specs.Prelude.{IfOk}
-use Rattle.pm_words.specs.Powers.{is_on, Steps, Supply}
+use Rattle.pm_words.specs.Powers.{Steps, Supply}
 use Rattle.disk_places.specs.Places.{reserve}
 use Rattle.k_rules.specs.View.{View}
 use Rattle.k_split.specs.Answers.{IsPaid}
@@ -10,8 +10,8 @@ use Rattle.k_split.specs.Order.{IsInOrder}
 use Rattle.k_split.specs.declared.faults.KFault.{KFault}
 use Rattle.staging_files.specs.declared.runs.StageFault.{StageFault}
 use Rattle.staging_files.specs.declared.runs.StageRun.{StageRun}
-use Rattle.staging_files.specs.Keeps.{Agrees, AreFreeSingle, IsRunSingle, IsStaged, IsStaging, IsThere, Staged}
-use Rattle.staging_files.specs.Reserves.{AgreesAfter, AreSame, fault_of, IsCutOff, IsGiveAnswer, IsGiven, IsReserveAnswer, IsReservePaid, IsSecondWay, need, run_at, share, wanted, with_given, with_out}
+use Rattle.staging_files.specs.Keeps.{Agrees, AreFreeSingle, IsRunSingle, IsStaged, IsThere, Staged}
+use Rattle.staging_files.specs.Reserves.{AgreesAfter, fault_of, IsGiveAnswer, IsGiven, IsReserveAnswer, IsReservePaid, IsSecondWay, need, run_at, share, wanted, with_given, with_out}
 use Rattle.staging_files.proofs.AgreeLaws.{agrees-given, run-single-given, single-given, there-given}
 use Rattle.staging_files.proofs.RoomLaws.{free-most, share-fits, share-leaves}
 

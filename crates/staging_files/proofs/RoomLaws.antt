@@ -1,12 +1,11 @@
 -- How many blocks are free, and how many stay so once a staging file got blocks.
-use Rattle.std.proofs.Common.{◌≡◌, ◌≤◌, ◌<◌, ◌+◌, ◌-◌, ◌/◌, ◌&&◌, not, ℕ, Bool, true, false, List, [], ◌++◌, ◌⊎◌, length, Some, None, Ok, refl, sym, ◌∙◌, ap, subst, inl, inr, arith, length-append}
-use Rattle.std.specs.Prelude.{nat_lt, count_by, is_some, max, min}
+use Rattle.std.proofs.Common.{◌≡◌, ◌≤◌, ◌<◌, ◌+◌, ◌&&◌, not, ℕ, Bool, true, false, List, [], ◌⊎◌, length, Ok, refl, sym, ◌∙◌, ap, subst, inl, inr, arith, length-append}
+use Rattle.std.specs.Prelude.{nat_lt, count_by, is_some}
 use Rattle.std.specs.List.{range_with_len}
-use Rattle.std.proofs.lemmas.Bool.{and_from, and_parts, cases_lt}
+use Rattle.std.proofs.lemmas.Bool.{cases_lt}
 use Rattle.std.proofs.lemmas.Bool.Decides.{nat_tests}
 use Rattle.std.proofs.lemmas.List.FromFn.{length-range_with_len}
 use Rattle.std.proofs.lemmas.List.Sums.{count_by-le-length}
-use Rattle.block_counts.specs.Counts.{chains_for}
 use Rattle.block_pool.specs.FreeSets.{is_among}
 use Rattle.disk_places.specs.Places.{data_blocks, first_data, is_data_block, reserve}
 use Rattle.disk_lines.specs.declared.Inode.{Inode}
@@ -14,10 +13,10 @@ use Rattle.disk_rules.specs.Reading.{inode_set}
 use Rattle.disk_rules.specs.Room.{has_none, unused_blocks}
 use Rattle.disk_rules.specs.Rules.{file_blocks_of}
 use Rattle.disk_rules.specs.Uses.{owners}
-use Rattle.disk_rules.specs.Volume.{Volume, extents, inode}
+use Rattle.disk_rules.specs.Volume.{Volume, inode}
 use Rattle.extent_facts.specs.Counts.{block_count-mapped, count_below-agree, count_below-range, is_mapped}
 use Rattle.extent_words.specs.declared.Extent.{Extent}
-use Rattle.extent_words.specs.Extents.{block_count, disk_at, is_within}
+use Rattle.extent_words.specs.Extents.{block_count, is_within}
 use Rattle.k_plans.specs.Whole.{IsWhole}
 use Rattle.k_rules.specs.View.{View}
 use Rattle.k_split.specs.MapChanges.{free_blocks_in, IsMapDone, IsPreallocateAnswer, IsPreallocatedWith}
@@ -27,7 +26,7 @@ use Rattle.map_rules.specs.Taken.{with_map}
 use Rattle.volume_facts.specs.Lists.{count_by-agree}
 use Rattle.volume_maps.specs.Shorts.{in_order-below, length-below}
 use Rattle.volume_uses.specs.PoolLaws.{AreInData, unused-set}
-use Rattle.volume_uses.specs.Uses.{blocks_of, is_unused}
+use Rattle.volume_uses.specs.Uses.{is_unused}
 use Rattle.staging_files.specs.Keeps.{IsStaging, Staged}
 use Rattle.staging_files.specs.Reserves.{need, share, wanted}
 

@@ -1,5 +1,5 @@
 -- Runs that are given back, and staging files that give up all their blocks.
-use Rattle.std.specs.Prelude.{◌≡◌, ◌≤◌, ◌<◌, ℕ, suc, zero, true, false, List, [], replicate, remove, slice_get, Some, Result, Ok, Err, alloc_error}
+use Rattle.std.specs.Prelude.{◌≡◌, ◌<◌, ℕ, suc, zero, true, false, [], replicate, remove, slice_get, Some, Result, Ok, Err, alloc_error}
 use Rattle.std.specs.declared.alloc.AllocError.{AllocError}
 use Rattle.pm_words.specs.Powers.{is_on, Supply}
 use Rattle.disk_rules.specs.Volume.{Volume}

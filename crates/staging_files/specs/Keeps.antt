@@ -1,7 +1,6 @@
 -- What a staging keeps, and when it agrees with K-Split.
-use Rattle.std.specs.Prelude.{◌≡◌, ◌≢◌, ◌≤◌, ◌<◌, ◌+◌, ◌-◌, ◌/◌, ◌==◌, ◌&&◌, not, nat_lt, ℕ, Bool, true, false, List, [], ◌∷◌, ◌++◌, length, slice_index, All, AllPairs, Some}
+use Rattle.std.specs.Prelude.{◌≡◌, ◌≤◌, ◌+◌, ◌-◌, ◌/◌, ◌==◌, ◌&&◌, not, nat_lt, ℕ, Bool, true, false, List, [], length, slice_index, All, AllPairs, Some}
 use Rattle.std.specs.List.{list_any}
-use Rattle.pm_words.specs.declared.Cell.{Cell}
 use Rattle.pm_words.specs.Cells.{cell, is_lent, is_single}
 use Rattle.extent_words.specs.Extents.{disk_at, is_within}
 use Rattle.disk_rules.specs.Volume.{extents}

@@ -1,5 +1,5 @@
 -- What `reserve` answers: a run by the first of two ways, or why there is none.
-use Rattle.std.specs.Prelude.{◌≡◌, ◌≢◌, ◌⊎◌, ◌≤◌, ◌<◌, ◌+◌, ◌-◌, ◌*◌, ◌/◌, ◌==◌, ℕ, Bool, true, false, List, [], ◌∷◌, ◌++◌, length, slice_set, min, max, if◌then◌else◌, Result, Ok, Err}
+use Rattle.std.specs.Prelude.{◌≡◌, ◌⊎◌, ◌≤◌, ◌<◌, ◌+◌, ◌-◌, ◌/◌, ◌==◌, ℕ, Bool, true, false, [], ◌∷◌, ◌++◌, length, slice_set, min, max, if◌then◌else◌, Result, Ok, Err}
 use Rattle.std.specs.List.{list_any}
 use Rattle.pm_words.specs.Powers.{is_on, Supply}
 use Rattle.disk_places.specs.Places.{reserve}
@@ -10,7 +10,7 @@ use Rattle.k_split.specs.MapChanges.{free_blocks_in, IsPreallocateAnswer}
 use Rattle.k_split.specs.declared.faults.KFault.{KFault}
 use Rattle.staging_files.specs.declared.runs.StageRun.{StageRun}
 use Rattle.staging_files.specs.declared.runs.StageFault.{StageFault}
-use Rattle.staging_files.specs.Keeps.{Agrees, given_to, is_kept_free, IsKeptEmpty, IsStaging, Staged}
+use Rattle.staging_files.specs.Keeps.{Agrees, is_kept_free, IsKeptEmpty, IsStaging, Staged}
 
 -- How many blocks have to be free beside those of a new run, for the runs that are out: one for each, and the reserve less 2.
 abbrev pub wanted : Staged → View → ℕ

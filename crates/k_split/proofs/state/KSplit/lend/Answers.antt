@@ -1,4 +1,4 @@
-use Rattle.std.proofs.Common.{◌≡◌, ◌<◌, ◌/◌, ℕ, IfOk, length, subst, sym}
+use Rattle.std.proofs.Common.{◌<◌, ◌/◌, ℕ, IfOk, length, subst, sym}
 use Rattle.std.proofs.Common.{ap, ◌∙◌}
 use Rattle.pm_words.specs.Parts.{GoesOut}
 use Rattle.k_rules.specs.View.{View}

@@ -1,4 +1,4 @@
-use Rattle.std.proofs.Common.{◌≡◌, ◌+◌, ◌/◌, ◌<◌, ◌∙◌, ℕ, false, true, List, length, ap, inr, subst, sym}
+use Rattle.std.proofs.Common.{◌≡◌, ◌<◌, ◌∙◌, ℕ, false, List, length, ap, inr, subst, sym}
 use Rattle.extent_words.specs.declared.Extent.{Extent}
 use Rattle.block_bytes.specs.Overwrites.{IsBesideBlocks, IsOverwritten, IsOverwrittenWhole, MayOverwrite}
 use Rattle.disk_rules.specs.Volume.{extents}

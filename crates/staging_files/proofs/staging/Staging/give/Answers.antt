@@ -1,4 +1,4 @@
-use Rattle.std.proofs.Common.{◌≡◌, ◌<◌, ◌-◌, ◌∷◌, ◌++◌, [], Err, length, ap, sym, subst, ◌∙◌, refl}
+use Rattle.std.proofs.Common.{◌<◌, ◌-◌, ◌∷◌, ◌++◌, [], Err, length, ap, sym, subst, ◌∙◌, refl}
 use Rattle.std.specs.Prelude.{slice_set}
 use Rattle.std.proofs.lemmas.Bool.{both_ways}
 use Rattle.staging_files.specs.Keeps.{IsKeptEmpty, IsStaged, Staged}

@@ -1,5 +1,5 @@
-use Rattle.std.proofs.Common.{◌≡◌, ◌<◌, Some, length, ap, sym, subst, ◌∙◌, refl, inl, inr, arith}
-use Rattle.std.specs.Prelude.{remove, slice_get}
+use Rattle.std.proofs.Common.{◌≡◌, ◌<◌, Some, sym, subst}
+use Rattle.std.specs.Prelude.{slice_get}
 use Rattle.staging_files.specs.Keeps.{Agrees, AreFreeSingle, IsStaged}
 use Rattle.staging_files.proofs.AgreeLaws.{agrees-back, single-back}
 use Rattle.staging_files.proofs.GiveUpLaws.{at-place, back-view, not-there, place-within}

@@ -1,9 +1,8 @@
-use Rattle.std.proofs.Common.{◌≡◌, ◌≤◌, ◌+◌, true, false, ap, sym, subst, ◌∙◌, refl, inl, inr}
+use Rattle.std.proofs.Common.{◌≡◌, ◌≤◌, ◌+◌, false, sym, subst, ◌∙◌, refl, inl}
 use Rattle.disk_places.specs.Places.{reserve}
-use Rattle.pm_words.specs.Powers.{is_on}
 use Rattle.k_split.specs.MapChanges.{free_blocks_in}
 use Rattle.staging_files.specs.Keeps.{Agrees, AreFreeSingle, IsStaging}
-use Rattle.staging_files.specs.Reserves.{AgreesAfter, IsFirstWay, IsFreeRun, IsGiveAnswer, IsReserveAnswer, IsSecondWay, run_at, share}
+use Rattle.staging_files.specs.Reserves.{IsFirstWay, IsFreeRun, IsGiveAnswer, IsSecondWay, run_at, share}
 use Rattle.staging_files.proofs.AgreeLaws.{agrees-taken, run-single-taken, single-taken, there-taken}
 use Rattle.staging_files.proofs.GiveUpLaws.{staging-file}
 use Rattle.staging_files.proofs.ReserveLaws.{few-out, given-agrees, given-answer, given-leaves, given-single, given-there, no-steps, second-room}

@@ -1,4 +1,4 @@
-use Rattle.std.proofs.Common.{◌≡◌, ◌<◌, ◌∷◌, ◌++◌, [], length, ap, sym, subst, ◌∙◌}
+use Rattle.std.proofs.Common.{◌<◌, length, ap, sym, subst, ◌∙◌}
 use Rattle.staging_files.specs.Keeps.{IsStaged}
 use Rattle.staging_files.specs.Reserves.{IsFreeRun, with_out}
 use Rattle.staging_files.proofs.StagedLaws.{staged-taken}

@@ -1,0 +1,85 @@
+-- A reset of what a file has applied: its line has its own map, and images keep their content.
+use Rattle.std.proofs.Common.{◌≡◌, ◌∙◌, ◌<◌, ◌+◌, ◌/◌, ℕ, zero, suc, true, not, List, [], length, Option, Ok, Err, Result, if◌then◌else◌, refl, sym, ap, arith, inl, inr, subst}
+use Rattle.std.specs.Prelude.{◌==◌, ◌&&◌, nat_le, ◌^◌}
+use Rattle.std.proofs.lemmas.Bool.Decides.{nat_tests}
+use Rattle.pm_words.specs.declared.Cell.{Cell}
+use Rattle.pm_words.specs.ImageLaws.{IsImage-words_of}
+use Rattle.pm_words.specs.Images.{Follows, Follows-same, IsImage, words_of}
+use Rattle.pm_words.specs.Powers.{Supply}
+use Rattle.pm_words.specs.Words.{Words}
+use Rattle.disk_places.specs.Journal.{journaled}
+use Rattle.disk_lines.specs.declared.Inode.{Inode}
+use Rattle.disk_lines.specs.declared.Kind.{Kind}
+use Rattle.disk_lines.specs.declared.Kind.TheVariants.{File}
+use Rattle.disk_lines.specs.Lines.{has_map_or_none, is_inode, is_inode_of_kind, most_bytes}
+use Rattle.disk_rules.specs.Chains.{blocks_from, first_or_zero}
+use Rattle.disk_rules.specs.Content.{Node, content, found}
+use Rattle.disk_rules.specs.Live.{live_entries}
+use Rattle.disk_rules.specs.Volume.{Volume, inode}
+use Rattle.volume_facts.specs.FootprintLaws.{content-own}
+use Rattle.k_journal.specs.declared.batches.Entry.{Entry}
+use Rattle.k_log_plans.specs.ResetLaws.{reset-content}
+use Rattle.k_log_plans.specs.Resets.{HasNoValid, HasOwnMap, reset}
+use Rattle.k_map_plans.specs.Plans.{IsLiveFile}
+use Rattle.k_plans.specs.Whole.{IsWhole}
+use Rattle.k_rules.specs.Stands.{IsOldOrNew, Stands}
+use Rattle.k_split.specs.declared.faults.KFault.{KFault}
+use Rattle.k_split.specs.Contents.{HasOldOrNew}
+use Rattle.k_split.specs.Landed.{IsLanded}
+use Rattle.k_split.specs.Resets.{KeepsUnloggedContent}
+use Rattle.k_split.proofs.ContentLaws.{have-old-or-new, none-own}
+
+-- ---- the line of a file, and its chain
+
+from-root : (f : Words) (root n : ℕ) → (n ≡ 0 → root ≡ 0) → first_or_zero (blocks_from f root n) ≡ root
+unfolding blocks_from
+from-root f root zero none = sym (none refl)
+from-root f root (suc n) none = refl
+
+none-root : (root count : ℕ) → (if root == 0 then count == 0 else not (count == 0)) ≡ true → count ≡ 0 → root ≡ 0
+none-root root count fits none = grind (arith, nat_tests)
+
+file-root : (x : Inode) → x.kind ≡ File → is_inode x ≡ true → x.extents ≡ 0 → x.root ≡ 0
+file-root x file fits none = parts (subst (λ (k : Kind). is_inode_of_kind k x ≡ true) file fits)
+  where
+    parts : (nat_le x.size most_bytes && nat_le x.applied (2 ^ 63) && has_map_or_none x) ≡ true → x.root ≡ 0
+    parts all = none-root x.root x.extents (grind (arith, nat_tests)) none
+
+pub own-map : (v : Volume) (d : List Cell) (ino : ℕ) → Stands v.geometry v d → IsWhole v → IsLiveFile ino v → HasOwnMap v ino
+own-map v d ino stands whole file =
+    let is = (stands.reads (words_of d) (IsImage-words_of d)).chains ino (omega (arith, file.below, whole.kept.all.inode_count)) in
+    record {
+      root = ap first_or_zero is.linked
+          ∙ from-root (journaled (words_of d)) (inode v ino).root (((inode v ino).extents + 254) / 255) (λ none.
+          file-root (inode v ino) file.file (whole.inodes ino) (omega (arith, none)));
+      count = is.map.counted;
+    }
+
+-- ---- the content of the images
+
+pub landed-images : (v w : Volume) (b : List Entry) (d e : List Cell) (p q : Supply) (r : Result (Unit {0}) KFault) → IsLanded v w b d e p q r
+    → Follows (IsOldOrNew v.geometry [] v w) d e
+landed-images v w b d e p q (Ok done) landed = landed.changes.each_image
+landed-images v w b d e p q (Err KFault.PowerLost) landed = landed.changes.each_image
+landed-images v w b d e p q (Err (KFault.Refused errno)) landed = absurd landed
+landed-images v w b d e p q (Err (KFault.Room room)) landed = absurd landed
+landed-images v w b d e p q (Err KFault.NoMemory) landed = absurd landed
+
+pub reset-images : (ino : ℕ) (v w : Volume) (d e : List Cell) → Stands v.geometry v d → IsWhole v → IsWhole w → w ≡ reset ino v → ino < length v.inodes
+    → Follows (IsOldOrNew v.geometry [] v w) d e → Follows (KeepsUnloggedContent v) d e
+reset-images ino v w d e stands whole after is below each image candidate =
+    let from = have-old-or-new v.geometry [] v w d e stands whole.kept.kept after.kept.kept (none-own v w) each image candidate in
+    (from.0, from.1, λ none path. by from.0 from.1.is_image none path from.2)
+  where
+    by : (before : Words) → IsImage d before → HasNoValid v (journaled before) → (path : List (List ℕ)) → HasOldOrNew v.geometry w before image
+        → content v.geometry image path ≡ content v.geometry before path
+    by before was none path (inl same) = ap (λ (c : List (List ℕ) → Option Node). c path) same
+    by before was none path (inr now) =
+        ap (λ (c : List (List ℕ) → Option Node). c path) now
+        ∙ ap (λ (x : Volume). found x (live_entries x (journaled before)) (journaled before) path) is
+        ∙ reset-content ino v (journaled before) path below none
+        ∙ ap (λ (c : List (List ℕ) → Option Node). c path) (sym (content-own v.geometry v (journaled before) (stands.reads before was)))
+
+-- where nothing changes
+pub same-images : (v : Volume) (d : List Cell) → Follows (KeepsUnloggedContent v) d d
+same-images v d = Follows-same (KeepsUnloggedContent v) d (λ f none path. refl)

@@ -1,0 +1,43 @@
+use Rattle.std.proofs.Common.{◌≡◌, length, ◌∙◌, ap, subst}
+use Rattle.disk_places.specs.Places.{Geometry, log_line}
+use Rattle.lines_out.specs.Lines.{LinesGoOut}
+use Rattle.k_rules.specs.View.{View}
+use Rattle.k_split.specs.LogLines.{AreLogLines}
+use Rattle.k_split.proofs.LogOut.{comes_out, ready_beside, same_out}
+use Rattle.k_split.proofs.state.KSplit.take_log.Goals as goal
+
+pub invariant_of-self : goal.invariant_of-self
+invariant_of-self c off =
+    let k = c.self.inside in
+    let v = k.tables.volume in
+    let e = c.take_lines.new.pm in
+    let first : c.log_line-first.result ≡ log_line v.geometry 0 = c.log_line-first.ensures ∙ ap (λ (g : Geometry). log_line g 0) c.geometry-geometry.ensures.numbers in
+    let count : length c.take_lines.result.items ≡ v.geometry.log =
+    c.take_lines.ensures.count ∙ c.from.ensures ∙ ap (λ (g : Geometry). g.log) (c.geometry.view_is ∙ c.geometry-geometry.ensures.numbers)
+    in
+    let out : LinesGoOut (log_line v.geometry 0) k.pm e c.take_lines.result.items =
+    subst (λ n. LinesGoOut n k.pm e c.take_lines.result.items) first c.take_lines.ensures.out
+    in
+    ready_beside k.tables k.pm e k.batched k.lost k.lost k.batch (c.self.invariant off) c.take_lines.ensures.size
+    (same_out v k.pm e c.take_lines.result.items count out) (comes_out v k.pm e c.take_lines.result.items count out)
+
+pub returns-clause-lines : goal.returns-clause-lines
+returns-clause-lines c =
+    let v = c.self.inside.tables.volume in
+    let first : c.log_line-first.result ≡ log_line v.geometry 0 = c.log_line-first.ensures ∙ ap (λ (g : Geometry). log_line g 0) c.geometry-geometry.ensures.numbers in
+    let count : length c.take_lines.result.items ≡ v.geometry.log =
+    c.take_lines.ensures.count ∙ c.from.ensures ∙ ap (λ (g : Geometry). g.log) (c.geometry.view_is ∙ c.geometry-geometry.ensures.numbers)
+    in
+    let out : LinesGoOut (log_line v.geometry 0) c.self.inside.pm c.take_lines.new.pm c.take_lines.result.items =
+    subst (λ n. LinesGoOut n c.self.inside.pm c.take_lines.new.pm c.take_lines.result.items) first c.take_lines.ensures.out
+    in
+    subst (λ (x : View). AreLogLines x.volume c.take_lines.result.items) c.self.view_is (record { count = count; places = out.places })
+
+pub returns-clause-out : goal.returns-clause-out
+returns-clause-out c =
+    let v = c.self.inside.tables.volume in
+    let first : c.log_line-first.result ≡ log_line v.geometry 0 = c.log_line-first.ensures ∙ ap (λ (g : Geometry). log_line g 0) c.geometry-geometry.ensures.numbers in
+    let out : LinesGoOut (log_line v.geometry 0) c.self.inside.pm c.take_lines.new.pm c.take_lines.result.items =
+    subst (λ n. LinesGoOut n c.self.inside.pm c.take_lines.new.pm c.take_lines.result.items) first c.take_lines.ensures.out
+    in
+    subst (λ (x : View). LinesGoOut (log_line x.volume.geometry 0) x.cells c.take_lines.new.pm c.take_lines.result.items) c.self.view_is out

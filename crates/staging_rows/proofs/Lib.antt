@@ -1,0 +1,2 @@
+pub mod CalmLaws
+pub mod FreshDevices

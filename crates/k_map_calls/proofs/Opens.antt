@@ -1,0 +1,18 @@
+-- A device that is opened.
+use Rattle.std.proofs.Common.{false, List, subst, sym}
+use Rattle.pm_words.specs.declared.Cell.{Cell}
+use Rattle.pm_words.specs.CellLaws.{single-home}
+use Rattle.pm_words.specs.Cells.{AllHome, AllSingle, cell}
+use Rattle.disk_rules.specs.Volume.{Volume}
+use Rattle.k_rules.specs.View.{View}
+use Rattle.k_split.specs.Order.{IsOpened}
+use Rattle.k_map_calls.specs.Calls.{IsFresh}
+
+pub opened-fresh : (d : List Cell) (v : Volume) (k : View) → AllSingle d → IsOpened d v false k → IsFresh k
+opened-fresh d v k single opened = record {
+  on = opened.on;
+  unbatched = opened.batched_is;
+  order = opened.order;
+  single = subst AllSingle (sym opened.cells_are) single;
+  home = subst AllHome (sym opened.cells_are) (λ i. single-home (cell d i) (single i));
+}

@@ -1,0 +1,144 @@
+//! Runs sequences, each on a device of its own, which is checked and opened anew after each call.
+ghost use Rattle.std.specs.Prelude.{IfOk, OnOk};
+ghost use Rattle.k_map_calls.specs.Calls.{IsFresh};
+
+use crate::lending::lend_and_store;
+use crate::reading::{call, number, word};
+use crate::shown::{bytes_text, reply_text};
+use crate::stops::{stop_bytes, stop_maps};
+use k_map_calls::{MapCall, Reply, RunError, begun, left, made, map_text, opened, reopened};
+use k_split::KSplit;
+use std::alloc::Global;
+
+// Fills every second block of a file from block 0 on, each by a call.
+fn spread(alloc: Global, k: &mut KSplit, ino: u32, count: u32) -> Result<Reply, RunError>
+    requires { IsFresh k.old }
+    ensures { OnOk result (IsFresh k.new) }
+{
+    for place in 0..count.min(2048) {
+        let asked = MapCall::Fill {
+            ino,
+            first: 2 * place,
+            count: 1,
+        };
+        let reply = made(alloc, k, &asked)?;
+        if reply != Reply::Done {
+            return Ok(reply);
+        }
+    }
+    Ok(Reply::Done)
+}
+
+// Makes the calls that a row asks for.
+fn changed(alloc: Global, k: &mut KSplit, row: &str) -> Result<Reply, RunError>
+    requires { IsFresh k.old }
+    ensures { OnOk result (IsFresh k.new) }
+{
+    if word(row, 0) == "spread" {
+        spread(alloc, k, number(row, 1)?, number(row, 2)?)
+    } else {
+        let asked = call(row)?;
+        made(alloc, k, &asked)
+    }
+}
+
+// What a row asks to be shown; None where it asks for a change.
+fn shown(alloc: Global, k: &KSplit, row: &str) -> Result<Option<String>, RunError>
+    requires { IsFresh k.now }
+{
+    let text = match word(row, 0) {
+        "map" => map_text(alloc, k, number(row, 1)?)?,
+        "bytes" => bytes_text(alloc, k, number(row, 1)?, number(row, 2)?, number(row, 3)?)?,
+        "free" => {
+            let free = k.free_blocks();
+            format!(in alloc; "{free}")?
+        }
+        _ => return Ok(None),
+    };
+    Ok(Some(text))
+}
+
+// What comes of a row that goes by images of the device; None where it is another row.
+fn on_images(alloc: Global, image: &[u8], row: &str) -> Result<String, RunError> {
+    let (first, rest) = row.split_once(' ').unwrap_or((row, ""));
+    match first {
+        "cut" => stop_maps(alloc, image, rest),
+        "torn" => stop_bytes(alloc, image, rest),
+        _ => Err(RunError::Misspelled),
+    }
+}
+
+fn is_on_images(row: &str) -> bool {
+    row.starts_with("cut ") || row.starts_with("torn ")
+}
+
+// The reply of a row that makes a change, and the device then.
+fn follow(alloc: Global, mut k: KSplit, row: &str) -> Result<(KSplit, String), RunError>
+    requires { IsFresh k }
+    ensures { IfOk result (λ after. IsFresh after.0) }
+{
+    if is_on_images(row) {
+        let image = left(alloc, k)?;
+        let text = on_images(alloc, &image, row)?;
+        return Ok((opened(alloc, &image)?, text));
+    }
+    if word(row, 0) == "lend" {
+        let (image, reply) = lend_and_store(alloc, k, row)?;
+        let text = reply_text(alloc, reply)?;
+        return Ok((opened(alloc, &image)?, text));
+    }
+    let reply = changed(alloc, &mut k, row)?;
+    let text = reply_text(alloc, reply)?;
+    Ok((reopened(alloc, k)?, text))
+}
+
+// The reply of a row, and the device then.
+fn came(alloc: Global, k: KSplit, row: &str) -> Result<(KSplit, String), RunError>
+    requires { IsFresh k }
+    ensures { IfOk result (λ after. IsFresh after.0) }
+{
+    match shown(alloc, &k, row)? {
+        Some(text) => Ok((k, text)),
+        None => follow(alloc, k, row),
+    }
+}
+
+// The reply that came where a line says another one.
+fn unlike(alloc: Global, line: &str, wanted: &str, text: &str) -> Result<Option<String>, RunError> {
+    if text == wanted {
+        return Ok(None);
+    }
+    Ok(Some(format!(in alloc; "{line}, and not {text}")?))
+}
+
+// Whether a line is a row: no remark, not empty, and not the numbers of the image.
+fn is_row(line: &str) -> bool {
+    !line.starts_with('#') && !line.is_empty() && !line.starts_with("image ")
+}
+
+// How many blocks the device has that a sequence begins on.
+fn blocks_of(sequence: &str) -> Result<u32, RunError> {
+    for line in sequence.lines() {
+        if line.starts_with("image ") {
+            return number(line, 1);
+        }
+    }
+    Ok(128)
+}
+
+// The first line of a sequence that is answered otherwise, with the reply that came.
+pub(crate) fn first_difference(alloc: Global, sequence: &str) -> Result<Option<String>, RunError> {
+    let mut k = begun(alloc, blocks_of(sequence)?)?;
+    for line in sequence.lines() {
+        if is_row(line) {
+            let (row, wanted) = line.split_once(" = ").unwrap_or((line, ""));
+            let (after, text) = came(alloc, k, row)?;
+            k = after;
+            let difference = unlike(alloc, line, wanted, &text)?;
+            if difference.is_some() {
+                return Ok(difference);
+            }
+        }
+    }
+    Ok(None)
+}

@@ -1,9 +1,10 @@
 -- Nameless files go one after the other.
-use Rattle.std.specs.Prelude.{◌≡◌, ◌≢◌, ◌⊎◌, ◌<◌, ◌≤◌, ◌+◌, ℕ, [], length, refl}
+use Rattle.std.specs.Prelude.{◌≡◌, ◌≢◌, ◌⊎◌, ◌<◌, ◌≤◌, ◌+◌, ◌*◌, ℕ, [], length, refl}
 use Rattle.std.proofs.Common.{◌∙◌, sym, ap, subst, arith, inl, inr}
 use Rattle.std.proofs.lemmas.Bool.{cases_eq, cases_lt}
 use Rattle.std.proofs.lemmas.List.{get_or_past, length-set}
-use Rattle.disk_places.specs.Places.{data_blocks}
+use Rattle.pm_words.specs.Powers.{Steps, Supply}
+use Rattle.disk_places.specs.Places.{data_blocks, Geometry}
 use Rattle.disk_lines.specs.declared.Inode.{Inode}
 use Rattle.disk_lines.specs.declared.Kind.{Kind}
 use Rattle.disk_lines.specs.declared.Kind.TheVariants.{File, Free}
@@ -17,7 +18,7 @@ use Rattle.k_rules.specs.View.{View}
 use Rattle.volume_facts.specs.Changes.{chain-set_other, chain-set_same, extents-set_other, extents-set_same, inode-set_other, inode-set_same}
 use Rattle.volume_uses.specs.PoolLaws.{held-set, unused-held}
 use Rattle.volume_uses.specs.Uses.{blocks_held, HasAllMaps}
-use Rattle.k_mount.specs.Sheds.{AllNamed, IsAtRest, IsKeptAt, IsNameless, IsShedAt, SameOutside, Sheds}
+use Rattle.k_mount.specs.Sheds.{AllNamed, IsAtRest, IsKeptAt, IsNameless, IsShedAt, IsShedOne, LosesNameless, SameOutside, Sheds}
 
 -- What the loop keeps: all below this inode have a name.
 pub record HasShed (old new : View) (ino : ℕ) : Type 0 where
@@ -147,3 +148,40 @@ ended old new n has all ino file = elim (cases_lt 0 (names_of new.volume.names i
   | inr none ↦
       absurd (has.named ino (omega (arith, used_below new.volume ino file, has.rest.order.whole.kept.all.inode_count, all)) (record { file = file; nameless = omega (arith, none) }))
 ]
+
+-- ---- one inode after the other, with the power that is left
+
+pub next_shed : (old k new : View) (ino : ℕ) → HasShed old k ino → IsShedOne ino k new → HasShed old new (ino + 1)
+next_shed old k new ino has (inl kept) = subst (λ z. HasShed old z (ino + 1)) (sym kept.1) (passed old k ino has kept.0)
+next_shed old k new ino has (inr gone) = went old k new ino has gone.0 gone.1 gone.2 gone.3
+
+pub first_steps : (n : ℕ) (a : Supply) → Steps (256 * n) a a
+first_steps n a = record { given = refl; on_before = λ on. on; later = omega arith; bound = omega arith }
+
+pub more_steps : (n ino : ℕ) (a b c : Supply) → ino < n → Steps (256 * ino) a b → Steps 256 b c → Steps (256 * n) a c
+more_steps n ino a b c below first second = record {
+  given = second.given ∙ first.given;
+  on_before = λ on. first.on_before (second.on_before on);
+  later = omega (arith, first.later, second.later);
+  bound = omega (arith, first.bound, second.bound, below);
+}
+
+pub all_steps : (old k : View) (ino : ℕ) (a b : Supply) → HasShed old k ino → (5 ≤ old.volume.geometry.inodes → ino ≤ old.volume.geometry.inodes)
+    → IsAtRest old → Steps (256 * ino) a b → Steps (256 * old.volume.geometry.inodes) a b
+all_steps old k ino a b has most rest first = record {
+  given = first.given;
+  on_before = first.on_before;
+  later = first.later;
+  bound =
+      let least : 5 ≤ old.volume.geometry.inodes = omega (arith, rest.order.whole.kept.geometry.least_inodes) in
+      omega (arith, first.bound, most least);
+}
+
+pub all_gone : (old k : View) (ino : ℕ) → HasShed old k ino → old.volume.geometry.inodes ≤ ino → LosesNameless old k
+all_gone old k ino has all = record {
+  rest = has.rest;
+  named = ended old k ino has (omega (arith, all, ap (λ (g : Geometry). g.inodes) has.sheds.geometry));
+  sheds = has.sheds;
+  free = has.free;
+  others = has.others;
+}

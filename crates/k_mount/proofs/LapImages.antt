@@ -80,7 +80,7 @@ no_members : (ds : List Draft) → ((d : Draft) → In d ds → ⊥) → ds ≡ 
 no_members [] none = refl
 no_members (d ∷ ds) none = absurd (none d (inl refl))
 
-none_live : (v : Volume) (f : Words) → HasNoEntry v f → live_entries v f ≡ []
+pub none_live : (v : Volume) (f : Words) → HasNoEntry v f → live_entries v f ≡ []
 none_live v f none =
     no_members (live_entries v f) (λ d is.
     let valid = filter-In (is_live v) (filter_map (entry_in v f) (range_with_len 0 v.geometry.log)) d is in

@@ -6,3 +6,4 @@ pub mod Opened
 pub mod Recovered
 pub mod Remounting
 pub mod Same
+pub mod Settling

@@ -1,4 +1,4 @@
--- What a remount leaves, once the next lap began.
+-- What is left of a device, once the next lap began.
 use Rattle.std.specs.Prelude.{◌≡◌, ◌⊎◌, ◌<◌, ◌≤◌, ◌+◌, ◌^◌, ◌*◌, ◌/◌, ℕ, true, false, List, [], refl}
 use Rattle.std.proofs.Common.{◌∙◌, sym, ap, subst, arith, inl, inr}
 use Rattle.pm_words.specs.declared.Cell.TheVariants.{Single}
@@ -17,10 +17,8 @@ use Rattle.disk_rules.specs.Volume.{Volume, volume}
 use Rattle.block_bytes.specs.Overwrites.{IsInLines}
 use Rattle.k_rules.specs.View.{View}
 use Rattle.k_split.specs.Laps.{IsLogWord, next_base}
-use Rattle.posix_types.specs.declared.tree.TreeEntry.{TreeEntry}
-use Rattle.world_rules.specs.Shown.{IsTreeOfContent}
 use Rattle.k_mount.specs.NextLaps.{BeginsLap, IsNextLap}
-use Rattle.k_mount.specs.Sheds.{AllNamed, IsAtRest, IsKeptAt, IsRemounted, IsShedAt, Sheds}
+use Rattle.k_mount.specs.Sheds.{AllNamed, IsAtRest, IsKeptAt, IsSettled, IsShedAt, Sheds}
 use Rattle.k_mount.proofs.LapImages.{checked_lap, content_lap, data_now, no_entry_now, numbers_lap, others_now, volume_now}
 
 -- the same went, whatever the base
@@ -73,12 +71,11 @@ next_lap_of v image k2 k3 sheds begins same = record {
   zero_by (inl low) many i at = absurd (omega (arith, low.0, many, sheds.base))
   zero_by (inr high) many i at = high.1.zero i (own i at)
 
-module _ (g : Geometry) (image : Words) (k2 k3 : View) (tree : List TreeEntry) (was : IsAtRest k2) (rest : IsAtRest k3) (begins : BeginsLap k2 k3)
+module _ (g : Geometry) (image : Words) (k2 k3 : View) (was : IsAtRest k2) (rest : IsAtRest k3) (begins : BeginsLap k2 k3)
     (numbers : geometry_of (words_of k2.cells) ≡ g) (checked : IsCheckedAs (4096 * g.blocks) (words_of k2.cells) k2.volume)
     (dead : live_entries k2.volume (journaled (words_of k2.cells)) ≡ []) (named : AllNamed k2.volume) (sheds : Sheds (volume g (journaled image)) k2.volume)
     (words : (i : ℕ) → is_journal_word i ≡ false → is_journaled_line g (i / 8) ≡ false → cell k2.cells i ≡ Single (image i))
-    (shown : (f : Words) → ((b j : ℕ) → is_data_block g b ≡ true → j < 512 → f (512 * b + j) ≡ words_of k2.cells (512 * b + j)) → (path : List (List ℕ)) → found k2.volume [] f path ≡ content g image path)
-    (tree_is : IsTreeOfContent (content g image) tree) where
+    (shown : (f : Words) → ((b j : ℕ) → is_data_block g b ≡ true → j < 512 → f (512 * b + j) ≡ words_of k2.cells (512 * b + j)) → (path : List (List ℕ)) → found k2.volume [] f path ≡ content g image path) where
   now : (base : ℕ) × (k3.volume ≡ base_set base k2.volume)
   now = volume_now g k2 k3 numbers checked dead was rest begins
 
@@ -91,14 +88,13 @@ module _ (g : Geometry) (image : Words) (k2 k3 : View) (tree : List TreeEntry) (
       words i (behind_log-words k2.volume.geometry i (omega (arith, own.from)))
       (subst (λ (x : Geometry). is_journaled_line x (i / 8) ≡ false) geometry_is (behind_log-not_journaled k2.volume.geometry (i / 8) own.from))
 
-  pub remounted : IsRemounted g image k3 tree
-  remounted = record {
+  pub settled_now : IsSettled g image k3
+  settled_now = record {
     rest = rest;
     named = subst AllNamed (sym now.1) named;
     sheds = sheds_now (volume g (journaled image)) k2.volume k3.volume now.0 now.1 sheds;
     lap = next_lap_of (volume g (journaled image)) image k2 k3 sheds begins log_out;
     no_entry = no_entry_now g k2 k3 numbers checked dead was rest begins;
-    tree_is = tree_is;
     shows = λ path.
         content_lap g k2 k3 numbers checked dead was rest begins path ∙ shown (journaled (words_of k3.cells)) (data_now g k2 k3 numbers checked dead was rest begins) path;
     numbers = numbers_lap g k2 k3 numbers checked dead was rest begins;

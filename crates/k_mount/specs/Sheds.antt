@@ -11,10 +11,13 @@ use Rattle.disk_lines.specs.declared.Kind.TheVariants.{File}
 use Rattle.disk_lines.specs.Names.{names_of}
 use Rattle.disk_rules.specs.Checked.{IsCheckedAs}
 use Rattle.disk_rules.specs.Content.{content}
+use Rattle.disk_rules.specs.Live.{live_entries}
 use Rattle.disk_rules.specs.Reading.{base_set}
-use Rattle.disk_rules.specs.Rules.{geometry_of}
+use Rattle.disk_rules.specs.Room.{unused_blocks}
+use Rattle.disk_rules.specs.Rules.{geometry_of, IsChecked}
 use Rattle.disk_rules.specs.Volume.{chain, extents, inode, Volume, volume}
-use Rattle.k_rules.specs.Changes.{gone_node}
+use Rattle.k_journal.specs.declared.outcomes.Commit.{Commit}
+use Rattle.k_rules.specs.Changes.{dropped, gone_node}
 use Rattle.k_rules.specs.View.{View}
 use Rattle.k_split.specs.Laps.{IsLogWord}
 use Rattle.k_split.specs.Order.{IsInOrder}
@@ -61,9 +64,51 @@ pub record IsAtRest (k : View) : Type 0 where
   pub on : k.lost ≡ false
   pub single : AllSingle k.cells
 
+-- WHAT IT ASKS FOR THAT A DEVICE IS SETTLED: K-Split is at rest on a checked image with the numbers of its volume, and no entry of
+-- its log is live.
+pub record MaySettle (k : View) : Type 0 where
+  pub rest : IsAtRest k
+  pub numbers : geometry_of (words_of k.cells) ≡ k.volume.geometry
+  pub checked : IsChecked (4096 * k.volume.geometry.blocks) (words_of k.cells)
+  pub dead : live_entries k.volume (journaled (words_of k.cells)) ≡ []
+
 -- outside the journal and the lines that it may hold each cell is as it was
 abbrev pub SameOutside : Geometry → List Cell → List Cell → Type 0
 SameOutside g old new = (i : ℕ) → is_journal_word i ≡ false → is_journaled_line g (i / 8) ≡ false → cell new i ≡ cell old i
+
+-- one inode: it was no nameless file, and nothing was done; or it was one, and is gone
+abbrev pub IsShedOne : ℕ → View → View → Type 0
+IsShedOne ino old new =
+    ((¬ IsNameless old.volume ino) × (new ≡ old))
+    ⊎ (IsNameless old.volume ino × IsAtRest new × (new.volume ≡ dropped ino old.volume) × SameOutside old.volume.geometry old.cells new.cells)
+
+-- ALL NAMELESS FILES ARE GONE, and their blocks are free.
+pub record LosesNameless (old new : View) : Type 0 where
+  pub rest : IsAtRest new
+  pub named : AllNamed new.volume
+  pub sheds : Sheds old.volume new.volume
+  pub free : unused_blocks old.volume ≤ unused_blocks new.volume
+  pub others : SameOutside old.volume.geometry old.cells new.cells
+
+-- where it is done
+abbrev pub OnCommit : Commit → Type 0 → Type 0
+OnCommit Commit.Done P = P
+OnCommit Commit.PowerLost P = Unit {0}
+
+-- WHAT IS LEFT OF A DEVICE, beside an image that it showed: K-Split is at rest, each file has a name, and nothing but nameless files
+-- is gone. The next lap of the log began, and no line of it is an entry. The device is a checked image, with the content of the one
+-- before, and no word of a data block changed.
+pub record IsSettled (g : Geometry) (image : Words) (k : View) : Type 0 where
+  pub rest : IsAtRest k
+  pub named : AllNamed k.volume
+  pub sheds : Sheds (base_set k.volume.base (volume g (journaled image))) k.volume
+  pub lap : IsNextLap (volume g (journaled image)) image k
+  pub no_entry : HasNoEntry k.volume (journaled (words_of k.cells))
+  pub shows : (path : List (List ℕ)) → content g (words_of k.cells) path ≡ content g image path
+  pub numbers : geometry_of (words_of k.cells) ≡ g
+  pub checked : IsCheckedAs (4096 * g.blocks) (words_of k.cells) k.volume
+  pub words : (i : ℕ) → is_journal_word i ≡ false → is_journaled_line g (i / 8) ≡ false → ¬ IsLogWord (volume g (journaled image)) i
+      → cell k.cells i ≡ Single (image i)
 
 -- WHAT A REMOUNT LEAVES of an image: K-Split is at rest, each file has a name, nothing but nameless files is gone, and the
 -- tree is that of the image's content. The next lap of the log began, and no line of it is an entry. The device is a checked

@@ -3,7 +3,6 @@ ghost use Rattle.std.specs.Prelude.{◌≡◌, ◌+◌, ◌*◌, ◌^◌, ◌≤
 ghost use Rattle.pm_words.specs.Powers.{Steps};
 ghost use Rattle.k_split.specs.Answers.{IsCommitPaid};
 ghost use Rattle.k_split.specs.Laps.{IsBaseAnswer, IsRestartAnswer, next_base};
-ghost use Rattle.k_mount.specs.NextLaps.{BeginsLap};
 ghost use Rattle.k_mount.specs.Sheds.{IsAtRest};
 
 use k_journal::Commit;
@@ -31,16 +30,4 @@ pub fn begin_lap(k: &mut KSplit, power: &mut Power) -> Commit
     } else {
         k.new_lap(power)
     }
-}
-
-// The same with power for all of it.
-pub(crate) fn next_lap(k: &mut KSplit)
-    requires { IsAtRest k.old }
-    ensures rest { IsAtRest k.new }
-    ensures lap { BeginsLap k.old k.new }
-{
-    let mut power = Power::always();
-    let Commit::Done = begin_lap(k, &mut power) else {
-        unreachable!()
-    };
 }

@@ -17,7 +17,7 @@ mod remounts;
 
 pub use laps::begin_lap;
 pub use nameless::drop_nameless;
-pub use remounts::{Remounted, remount};
+pub use remounts::{Remounted, open_image, remount, settle};
 
 /// A recovered device is checked where the image was; nameless files are in no tree; and a tree of a content is
 /// one as the World speaks of it.

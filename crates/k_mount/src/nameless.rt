@@ -1,14 +1,12 @@
 //! Files without a name go.
-ghost use Rattle.std.specs.Prelude.{◌≡◌, ◌↔◌, ◌≤◌, IsTrue};
-ghost use Rattle.disk_lines.specs.Names.{names_of};
-ghost use Rattle.disk_rules.specs.Room.{unused_blocks};
-ghost use Rattle.disk_rules.specs.Volume.{inode};
-ghost use Rattle.k_rules.specs.Changes.{dropped};
-ghost use Rattle.volume_changes.specs.Changes.{MayDrop};
-ghost use Rattle.k_mount.specs.Sheds.{AllNamed, IsAtRest, IsNameless, SameOutside, Sheds};
+ghost use Rattle.std.specs.Prelude.{◌≡◌, ◌↔◌, ◌*◌, true, IsTrue};
+ghost use Rattle.pm_words.specs.Powers.{is_on, Steps};
+ghost use Rattle.k_split.specs.Answers.{IsCommitPaid};
+ghost use Rattle.k_mount.specs.Sheds.{IsAtRest, IsNameless, IsShedOne, LosesNameless, OnCommit};
 
 use k_inodes::Kind;
-use k_split::KSplit;
+use k_journal::Commit;
+use k_split::{KFault, KSplit};
 use pm_lines::Power;
 
 // The inodes below are those of the root and of the staging files.
@@ -24,35 +22,41 @@ fn is_nameless(k: &KSplit, ino: u32) -> bool
     }
 }
 
-// Lets a file without a name go.
-fn drop_one(k: &mut KSplit, ino: u32)
+// Lets an inode go where it is a file without a name.
+fn drop_if_nameless(k: &mut KSplit, ino: u32, power: &mut Power) -> Commit
+    requires on { is_on power.old ≡ true }
     requires rest { IsAtRest k.old }
-    requires nameless { IsNameless k.old.volume ino }
-    ensures rest { IsAtRest k.new }
-    ensures volume { k.new.volume ≡ dropped ino k.old.volume }
-    ensures others { SameOutside k.old.volume.geometry k.old.cells k.new.cells }
+    ensures steps { Steps 256 power.old power.new }
+    ensures paid { IsCommitPaid power.new result }
+    ensures done { OnCommit result (IsShedOne ino k.old k.new) }
 {
-    let mut power = Power::always();
-    match k.drop_node(ino, &mut power) {
-        Ok(()) => {}
+    if !is_nameless(k, ino) {
+        return Commit::Done;
+    }
+    match k.drop_node(ino, power) {
+        Ok(()) => Commit::Done,
+        Err(KFault::PowerLost) => Commit::PowerLost,
         Err(_) => unreachable!(),
     }
 }
 
-/// Lets all files go to which no name leads, each by a change of its own, with power for all of them. Their blocks
-/// are free then.
-pub fn drop_nameless(k: &mut KSplit)
+/// Lets all files go to which no name leads, each by a change of its own. Their blocks are free then. It takes no
+/// memory, and at most 256 steps an inode. `PowerLost` comes exactly where the power is off at the return.
+pub fn drop_nameless(k: &mut KSplit, power: &mut Power) -> Commit
     requires { IsAtRest k.old }
-    ensures rest { IsAtRest k.new }
-    ensures named { AllNamed k.new.volume }
-    ensures sheds { Sheds k.old.volume k.new.volume }
-    ensures free { unused_blocks k.old.volume ≤ unused_blocks k.new.volume }
-    ensures others { SameOutside k.old.volume.geometry k.old.cells k.new.cells }
+    ensures steps { Steps (256 * k.old.volume.geometry.inodes) power.old power.new }
+    ensures paid { IsCommitPaid power.new result }
+    ensures done { OnCommit result (LosesNameless k.old k.new) }
 {
+    if !power.on() {
+        return Commit::PowerLost;
+    }
     let end = k.geometry().inodes;
     for ino in FIRST_FILE..end {
-        if is_nameless(k, ino) {
-            drop_one(k, ino);
+        match drop_if_nameless(k, ino, power) {
+            Commit::Done => {}
+            Commit::PowerLost => return Commit::PowerLost,
         }
     }
+    Commit::Done
 }

@@ -1,14 +1,38 @@
-use Rattle.std.proofs.Common.{◌≡◌, ◌+◌, ◌∙◌, sym, subst, true, false}
-use Rattle.k_mount.proofs.Dropping.{HasShed, passed, went}
+use Rattle.std.proofs.Common.{◌≡◌, ◌≤◌, ◌+◌, ◌<◌, ◌∙◌, ap, sym, true, false, arith}
+use Rattle.disk_places.specs.Places.{Geometry}
+use Rattle.pm_words.specs.Powers.{Steps}
+use Rattle.k_mount.proofs.Dropping.{all_gone, all_steps, begun, first_steps, more_steps, next_shed}
 use Rattle.k_mount.proofs.nameless.drop_nameless.Goals as goal
-use Rattle.k_mount.proofs.nameless.drop_nameless.Goals.{then-is_nameless, else-is_nameless}
+
+pub returns-then-not-on-clause-steps : goal.returns-then-not-on-clause-steps
+returns-then-not-on-clause-steps c = first_steps c.args.k.now.volume.geometry.inodes c.args.power.now
+
+pub loop-ino-init : goal.loop-ino-init
+loop-ino-init c = (begun c.args.k.now c.requires, first_steps 5 c.args.power.now, sym c.on.ensures ∙ c.if-not-on.false)
 
 pub loop-ino-preserved : goal.loop-ino-preserved
-loop-ino-preserved c = elim c.if-is_nameless.branch [
-  | then-is_nameless w ↦
-      subst (λ k. HasShed c.args.k.now k (c.loop-ino.ino + 1)) (sym w.k-is)
-      (went c.args.k.now c.loop-ino.k w.drop_one.new.k c.loop-ino.ino c.loop-ino.invariant (c.is_nameless.ensures.0 w.if-is_nameless.true) w.drop_one.ensures.rest w.drop_one.ensures.volume w.drop_one.ensures.others)
-  | else-is_nameless w ↦
-      subst (λ k. HasShed c.args.k.now k (c.loop-ino.ino + 1)) (sym w.k-is)
-      (passed c.args.k.now c.loop-ino.k c.loop-ino.ino c.loop-ino.invariant (λ is. (let never : true ≡ false = sym (c.is_nameless.ensures.1 is) ∙ w.if-is_nameless.false in cc)))
-]
+loop-ino-preserved c = (
+  next_shed c.args.k.now c.loop-ino.k c.drop_if_nameless.new.k c.loop-ino.ino c.loop-ino.invariant.0 c.in-Done.ensures.done,
+  more_steps (c.loop-ino.ino + 1) c.loop-ino.ino c.args.power.now c.loop-ino.power c.drop_if_nameless.new.power (omega arith) c.loop-ino.invariant.1
+      c.drop_if_nameless.ensures.steps,
+  c.in-Done.ensures.paid,
+)
+
+pub returns-in-PowerLost-clause-steps : goal.returns-in-PowerLost-clause-steps
+returns-in-PowerLost-clause-steps c =
+    more_steps c.args.k.now.volume.geometry.inodes c.loop-ino.ino c.args.power.now c.loop-ino.power c.drop_if_nameless.new.power
+    (omega (arith, ap (λ (g : Geometry). g.inodes) (c.behind-k.view_is ∙ c.geometry.ensures)))
+    c.loop-ino.invariant.1 c.drop_if_nameless.ensures.steps
+
+pub returns-clause-steps : goal.returns-clause-steps
+returns-clause-steps c =
+    all_steps c.args.k.now c.loop-ino.k c.loop-ino.ino c.args.power.now c.loop-ino.power c.loop-ino.invariant.0
+    (λ least.
+    let same : c.behind-k.inside.inodes ≡ c.args.k.now.volume.geometry.inodes = ap (λ (g : Geometry). g.inodes) (c.behind-k.view_is ∙ c.geometry.ensures) in
+    let most = c.loop-ino.auto.ino-end (omega (arith, least, same)) in
+    omega (arith, most, same))
+    c.requires c.loop-ino.invariant.1
+
+pub returns-clause-done : goal.returns-clause-done
+returns-clause-done c = all_gone c.args.k.now c.loop-ino.k c.loop-ino.ino c.loop-ino.invariant.0
+    (omega (arith, ap (λ (g : Geometry). g.inodes) (c.behind-k.view_is ∙ c.geometry.ensures)))

@@ -6,7 +6,7 @@ use Rattle.disk_rules.specs.Volume.{volume}
 use Rattle.k_rules.specs.View.{View}
 use Rattle.k_mount.proofs.Opened.{follows}
 use Rattle.k_mount.proofs.Recovered.{recovers_checked}
-use Rattle.k_mount.proofs.remounts.opened.Goals as goal
+use Rattle.k_mount.proofs.remounts.open_image.Goals as goal
 
 pub open-requires-clause-numbers : goal.open-requires-clause-numbers
 open-requires-clause-numbers c = (recovers_checked c.args.geometry (word_at c.args.bytes.now) c.in_ok-pm.pm c.requires.numbers c.requires.checked c.in_ok-pm.ensures.words).geometry

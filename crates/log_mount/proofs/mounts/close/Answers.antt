@@ -1,0 +1,16 @@
+use Rattle.log_mount.proofs.Mounting.{closed-done, may-reset}
+use Rattle.log_mount.proofs.Spending.{spent-steps, spent-then}
+use Rattle.log_mount.proofs.mounts.close.Goals as goal
+
+pub reset-requires : goal.reset-requires
+reset-requires c = may-reset c.args.k.now c.settle.new.k c.in-Done.ensures.done
+
+pub returns-in-PowerLost-clause-spent : goal.returns-in-PowerLost-clause-spent
+returns-in-PowerLost-clause-spent c = spent-steps _ c.args.power.now c.settle.new.power c.settle.ensures.steps
+
+pub returns-in-Done-clause-spent : goal.returns-in-Done-clause-spent
+returns-in-Done-clause-spent c =
+    spent-then c.args.power.now c.settle.new.power c.reset.new.power (spent-steps _ c.args.power.now c.settle.new.power c.settle.ensures.steps) c.reset.ensures.spent
+
+pub returns-in-Done-clause-done : goal.returns-in-Done-clause-done
+returns-in-Done-clause-done c = closed-done c.args.k.now c.settle.new.k c.reset.new.k c.reset.result c.in-Done.ensures.done c.reset.ensures.done

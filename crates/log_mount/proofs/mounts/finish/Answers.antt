@@ -1,0 +1,17 @@
+use Rattle.log_mount.proofs.Mounting.{finish-done, may-settle}
+use Rattle.log_mount.proofs.Spending.{spent-then}
+use Rattle.log_mount.specs.Sweeps.{AreSwept}
+use Rattle.log_mount.proofs.mounts.finish.Goals as goal
+
+pub close-requires : goal.close-requires
+close-requires c =
+    let swept : AreSwept c.args.k.now c.sweep.new.k = rw c.in-Done.is at c.in_ok-commit.ensures.done in
+    may-settle c.args.k.now c.sweep.new.k swept
+
+pub returns-in-Done-clause-done : goal.returns-in-Done-clause-done
+returns-in-Done-clause-done c =
+    let swept : AreSwept c.args.k.now c.sweep.new.k = rw c.in-Done.is at c.in_ok-commit.ensures.done in
+    finish-done c.args.k.now c.sweep.new.k c.close.new.k c.close.result c.requires swept c.close.ensures.done
+
+pub returns-in-Done-clause-spent : goal.returns-in-Done-clause-spent
+returns-in-Done-clause-spent c = spent-then c.args.power.now c.sweep.new.power c.close.new.power c.sweep.ensures.spent c.close.ensures.spent

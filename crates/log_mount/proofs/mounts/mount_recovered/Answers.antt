@@ -1,0 +1,21 @@
+use Rattle.std.proofs.Common.{false, subst, true, ◌≡◌}
+use Rattle.disk_places.specs.Journal.{journaled}
+use Rattle.disk_rules.specs.Volume.{volume}
+use Rattle.k_split.specs.Order.{IsOpened}
+use Rattle.pm_words.specs.Images.{words_of}
+use Rattle.pm_words.specs.Powers.{is_on}
+use Rattle.log_mount.proofs.Mounting.{may-replay, mounted-open}
+use Rattle.log_mount.specs.Mounts.{IsMounted}
+use Rattle.log_mount.proofs.mounts.mount_recovered.Goals as goal
+
+pub recover_log-requires : goal.recover_log-requires
+recover_log-requires c =
+    let opened = subst (λ b. IsOpened c.args.pm (volume c.args.geometry (journaled (words_of c.args.pm))) b c.in_ok-k.k) c.requires.unbatched c.in_ok-k.ensures in
+    may-replay c.args.geometry c.args.pm c.in_ok-k.k c.requires.single c.requires.numbers c.requires.checked opened c.args.entries.now c.requires.entries
+
+pub returns-in-Done-clause-answer : goal.returns-in-Done-clause-answer
+returns-in-Done-clause-answer c =
+    let opened = subst (λ b. IsOpened c.args.pm (volume c.args.geometry (journaled (words_of c.args.pm))) b c.in_ok-k.k) c.requires.unbatched c.in_ok-k.ensures in
+    let done : IsMounted c.in_ok-k.k.volume.geometry (words_of c.in_ok-k.k.cells) c.recover_log.new.k = rw c.in-Done.is at c.in_ok-commit.ensures.done in
+    let on : is_on c.recover_log.new.power ≡ true = rw c.in-Done.is at c.in_ok-commit.ensures.paid in
+    (mounted-open c.args.geometry c.args.pm c.in_ok-k.k c.requires.single c.requires.numbers c.requires.checked opened c.recover_log.new.k done, on)

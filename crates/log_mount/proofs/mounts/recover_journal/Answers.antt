@@ -1,0 +1,14 @@
+use Rattle.pm_words.specs.Images.{words_of}
+use Rattle.log_mount.proofs.Mounting.{sound-journal}
+use Rattle.log_mount.proofs.Spending.{spent-steps}
+use Rattle.log_mount.proofs.mounts.recover_journal.Goals as goal
+
+pub unreachable-requires : goal.unreachable-requires
+unreachable-requires c =
+    rw c.in-Bad.is at (c.recover.ensures.sound (sound-journal c.args.geometry.now (words_of c.args.pm.now) c.requires.numbers c.requires.checked))
+
+pub returns-in-Done-clause-spent : goal.returns-in-Done-clause-spent
+returns-in-Done-clause-spent c = spent-steps 1283 c.args.power.now c.recover.new.power c.recover.ensures.steps
+
+pub returns-in-PowerLost-clause-spent : goal.returns-in-PowerLost-clause-spent
+returns-in-PowerLost-clause-spent c = spent-steps 1283 c.args.power.now c.recover.new.power c.recover.ensures.steps

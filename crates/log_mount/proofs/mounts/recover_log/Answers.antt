@@ -1,0 +1,24 @@
+use Rattle.log_mount.proofs.Mounting.{recover-done, replayed-quiet}
+use Rattle.log_replay.specs.Replays.{IsReplayed}
+use Rattle.log_mount.proofs.Spending.{spent-steps, spent-then}
+use Rattle.log_mount.proofs.mounts.recover_log.Goals as goal
+
+pub finish-requires : goal.finish-requires
+finish-requires c =
+    let done : IsReplayed c.args.k.now c.replay.new.k = rw c.in-Done.is at c.in_ok-commit.ensures.answer in
+    replayed-quiet c.args.k.now c.replay.new.k done
+
+pub returns-in-Done-clause-done : goal.returns-in-Done-clause-done
+returns-in-Done-clause-done c =
+    let done : IsReplayed c.args.k.now c.replay.new.k = rw c.in-Done.is at c.in_ok-commit.ensures.answer in
+    recover-done c.args.entries.now c.args.k.now c.replay.new.k c.finish.new.k c.finish.result c.requires done c.replay.ensures.images c.finish.ensures.done
+
+pub returns-in_err-commit-clause-spent : goal.returns-in_err-commit-clause-spent
+returns-in_err-commit-clause-spent c = spent-steps _ c.args.power.now c.replay.new.power c.replay.ensures.steps
+
+pub returns-in-PowerLost-clause-spent : goal.returns-in-PowerLost-clause-spent
+returns-in-PowerLost-clause-spent c = spent-steps _ c.args.power.now c.replay.new.power c.replay.ensures.steps
+
+pub returns-in-Done-clause-spent : goal.returns-in-Done-clause-spent
+returns-in-Done-clause-spent c =
+    spent-then c.args.power.now c.replay.new.power c.finish.new.power (spent-steps _ c.args.power.now c.replay.new.power c.replay.ensures.steps) c.finish.ensures.spent

@@ -1,0 +1,4 @@
+pub mod Quiet
+pub mod Sweeps
+pub mod Resets
+pub mod Mounts

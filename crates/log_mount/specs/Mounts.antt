@@ -1,0 +1,57 @@
+-- What a mount answers and leaves of an image whose log may have live entries.
+use Rattle.std.specs.Prelude.{◌≡◌, ◌≤◌, ◌<◌, ◌*◌, ◌^◌, ℕ, true, false, List, length, Result, Ok, Err}
+use Rattle.pm_words.specs.declared.Cell.{Cell}
+use Rattle.pm_words.specs.Images.{words_of}
+use Rattle.pm_words.specs.Powers.{is_on, Supply}
+use Rattle.pm_words.specs.Words.{Words}
+use Rattle.disk_places.specs.Journal.{journaled}
+use Rattle.disk_places.specs.Places.{Geometry}
+use Rattle.disk_rules.specs.Broken.{Breaks}
+use Rattle.disk_rules.specs.Checked.{IsCheckedAs}
+use Rattle.disk_rules.specs.Content.{content}
+use Rattle.disk_rules.specs.Rules.{geometry_of, IsChecked}
+use Rattle.disk_rules.specs.Volume.{Volume, volume}
+use Rattle.k_mount.specs.Sheds.{AllNamed, IsAtRest}
+use Rattle.k_rules.specs.View.{View}
+use Rattle.k_split.specs.Laps.{next_base}
+use Rattle.world_images.specs.Images.{HasNoEntry}
+use Rattle.log_mount.specs.declared.faults.MountFault.{MountFault}
+use Rattle.log_mount.specs.Resets.{IsLow}
+use Rattle.log_mount.specs.Sweeps.{AreBare, EndsInTime}
+
+-- the log's base of the next lap: it rises by the number of log lines, or, above 2^62, the log begins anew
+pub record HasNextBase (v w : Volume) : Type 0 where
+  pub risen : v.base ≤ 2 ^ 62 → w.base ≡ next_base v
+  pub anew : 2 ^ 62 < v.base → w.base ≡ 1
+
+-- WHAT A MOUNT LEAVES of an image: K-Split is at rest on a checked image with the same numbers and the same content. The names are
+-- the same, each file has one and ends in time, and nothing is staged. The log began its next lap, no line of it is an entry, and no
+-- file has applied a high order.
+pub record IsMounted (g : Geometry) (image : Words) (k : View) : Type 0 where
+  pub rest : IsAtRest k
+  pub numbers : geometry_of (words_of k.cells) ≡ g
+  pub checked : IsCheckedAs (4096 * g.blocks) (words_of k.cells) k.volume
+  pub shows : (path : List (List ℕ)) → content g (words_of k.cells) path ≡ content g image path
+  pub names : k.volume.names ≡ (volume g (journaled image)).names
+  pub named : AllNamed k.volume
+  pub short : (ino : ℕ) → EndsInTime k.volume ino
+  pub bare : AreBare k.volume
+  pub low : (ino : ℕ) → IsLow k.volume ino
+  pub base : HasNextBase (volume g (journaled image)) k.volume
+  pub no_entry : HasNoEntry k.volume (journaled (words_of k.cells))
+
+-- What `mount` answers of a device, where it is one of a checked image.
+abbrev pub IsOpenAnswer : Geometry → Words → Supply → Result View MountFault → Type 0
+IsOpenAnswer g image after (Ok k) = IsMounted g image k × (is_on after ≡ true)
+IsOpenAnswer g image after (Err (MountFault.Bad bad)) = ⊥
+IsOpenAnswer g image after (Err (MountFault.PowerLost pm)) = is_on after ≡ false
+IsOpenAnswer g image after (Err MountFault.NoMemory) = Unit {0}
+
+-- WHAT `mount` ANSWERS of a device: mounted, with power left; or the power was lost; then the image is checked. Or the first rule
+-- that the image breaks, and nothing was done.
+abbrev pub IsMountAnswer : List Cell → Supply → Supply → Result View MountFault → Type 0
+IsMountAnswer pm before after (Ok k) =
+    IsChecked (8 * length pm) (words_of pm) × IsMounted (geometry_of (words_of pm)) (words_of pm) k × (is_on after ≡ true)
+IsMountAnswer pm before after (Err (MountFault.Bad bad)) = Breaks (8 * length pm) (words_of pm) bad.rule bad.place × (after ≡ before)
+IsMountAnswer pm before after (Err (MountFault.PowerLost left)) = IsChecked (8 * length pm) (words_of pm) × (is_on after ≡ false)
+IsMountAnswer pm before after (Err MountFault.NoMemory) = Unit {0}

@@ -1,0 +1,40 @@
+-- What files have applied counts anew where it is high.
+use Rattle.std.specs.Prelude.{◌≡◌, ◌⊎◌, ◌≤◌, ◌<◌, ◌^◌, ℕ, Ok}
+use Rattle.pm_words.specs.Images.{words_of}
+use Rattle.disk_rules.specs.Volume.{extents, inode, Volume}
+use Rattle.k_map_plans.specs.Plans.{IsLiveFile}
+use Rattle.k_mount.specs.Sheds.{IsSettled}
+use Rattle.k_rules.specs.View.{View}
+use Rattle.k_split.specs.Resets.{IsResetAnswer}
+use Rattle.world_images.specs.Images.{HasNoEntry}
+use Rattle.log_replay.specs.Replays.{seen}
+use Rattle.log_mount.specs.Quiet.{IsQuiet, ShowsAsBefore}
+
+-- WHAT IS ASKED FOR: no line of the log is an entry.
+pub record MayReset (k : View) : Type 0 where
+  pub quiet : IsQuiet k
+  pub no_entry : HasNoEntry k.volume (seen k)
+
+-- the last entry that the inode has applied is of no high order
+abbrev pub IsLow : Volume → ℕ → Type 0
+IsLow v ino = (inode v ino).applied ≤ 2 ^ 62
+
+-- NO FILE HAS APPLIED A HIGH ORDER: inodes have the kinds, sizes and maps that they had, and no line of the log is an entry.
+pub record AreReset (old new : View) : Type 0 where
+  pub shows : ShowsAsBefore old new
+  pub no_entry : HasNoEntry new.volume (seen new)
+  pub kind : (ino : ℕ) → (inode new.volume ino).kind ≡ (inode old.volume ino).kind
+  pub size : (ino : ℕ) → (inode new.volume ino).size ≡ (inode old.volume ino).size
+  pub map : (ino : ℕ) → extents new.volume ino ≡ extents old.volume ino
+  pub low : (ino : ℕ) → IsLow new.volume ino
+
+-- one inode: it was low, and nothing was done; or it has applied nothing then
+abbrev pub IsResetOne : ℕ → View → View → Type 0
+IsResetOne ino old new =
+    (IsLow old.volume ino × (new ≡ old)) ⊎ (IsLiveFile ino old.volume × IsResetAnswer ino old new (Ok tt))
+
+-- WHAT CLOSES A MOUNT: the device is settled, and then no file has applied a high order.
+pub record IsClosed (old new : View) : Type 0 where
+  pub middle : View
+  pub settled : IsSettled old.volume.geometry (words_of old.cells) middle
+  pub reset : AreReset middle new

@@ -24,6 +24,10 @@ pub(crate) fn is_known(word: &[u8]) -> bool
         || word == b"open".as_slice()
         || word == b"close".as_slice()
         || word == b"dup".as_slice()
+        || word == b"read".as_slice()
+        || word == b"pread".as_slice()
+        || word == b"seek".as_slice()
+        || word == b"fsync".as_slice()
         || word == b"stat".as_slice()
         || word == b"list".as_slice()
 }

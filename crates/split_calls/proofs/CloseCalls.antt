@@ -56,7 +56,7 @@ use Rattle.split_calls.proofs.Running.{runs_still}
 -- ---- the handle
 
 -- what the state says of it
-handle_there : (g : Geometry) (k : View) (t : Tables) (n : ℕ) (s : State) (runs : RunsAs g k t n s) (who : Who) (h : Handle) (o : Option Description) → opened t who h ≡ o
+pub handle_there : (g : Geometry) (k : View) (t : Tables) (n : ℕ) (s : State) (runs : RunsAs g k t n s) (who : Who) (h : Handle) (o : Option Description) → opened t who h ≡ o
     → opened s.tables who h ≡ option_map (described_as (number runs.numbers)) o
 handle_there g k t n s runs who h o is = ap (λ x. opened x who h) runs.tables ∙ same_opened (number runs.numbers) t who h ∙ ap (option_map (described_as (number runs.numbers))) is
 

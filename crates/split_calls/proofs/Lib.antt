@@ -7,6 +7,8 @@ mod OpenCalls
 mod CutCalls
 mod OpenEnds
 mod CloseCalls
+mod ReadCalls
+mod SeekCalls
 mod Lists
 mod Honest
 pub mod NoLog

@@ -1,3 +1,4 @@
 pub mod Runs
 pub mod Answers
 pub mod Built
+pub mod Reading

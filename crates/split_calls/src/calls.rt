@@ -9,6 +9,7 @@ use crate::looks::{list, stat};
 use crate::names::{mkdir, rename, rmdir, unlink};
 use crate::opens::{close, dup, open};
 use crate::outcomes::{NoMemory, Told};
+use crate::reads::{fsync, pread, read, seek};
 use k_split::KSplit;
 use open_files::OpenFiles;
 use pm_lines::Power;
@@ -45,12 +46,15 @@ pub fn run_call(
         Call::Dup(handle, to) => dup(files, who, *handle, *to),
         Call::Stat(path) => Ok(stat(k, path)),
         Call::List(path) => list(alloc, k, path),
-        Call::Read(..)
-        | Call::Pread(..)
-        | Call::Write(..)
-        | Call::Pwrite(..)
-        | Call::Seek(..)
-        | Call::Truncate(..)
-        | Call::Fsync(_) => unreachable!(),
+        Call::Read(handle, count) => read(alloc, k, files, who, *handle, *count),
+        Call::Pread(handle, offset, count) => {
+            pread(alloc, k, files, who, *handle, *offset, *count)
+        }
+        Call::Seek(handle, whence, by) => {
+            let by = *by;
+            Ok(seek(k, files, who, *handle, *whence, by))
+        }
+        Call::Fsync(handle) => Ok(fsync(files, who, *handle)),
+        Call::Write(..) | Call::Pwrite(..) | Call::Truncate(..) => unreachable!(),
     }
 }

@@ -18,12 +18,14 @@ mod looks;
 mod names;
 mod opens;
 mod outcomes;
+mod reads;
 
 pub use calls::run_call;
 pub use looks::{list, stat};
 pub use names::{mkdir, rename, rmdir, unlink};
 pub use opens::{close, dup, open};
 pub use outcomes::{NoMemory, Told};
+pub use reads::{fsync, pread, read, seek};
 
 /// Each image of a device on which only the journal and the journaled lines are in motion is honest.
 pub fn a_quiet_device_is_honest()

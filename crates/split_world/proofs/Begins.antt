@@ -46,6 +46,10 @@ module _ (k : View) (t : Tables) (g : Geometry) (start : State) (scripts : Scrip
   place_small who =
       omega (arith, length-filter (λ (i : Item). same_who i.who who) history, count_by-le-length (λ (i : Item). same_who i.who who) history, small)
 
+  pub place_room : (who : Who) → length (items_of history who) + 1 < 2 ^ 32
+  place_room who =
+      omega (arith, length-filter (λ (i : Item). same_who i.who who) history, count_by-le-length (λ (i : Item). same_who i.who who) history, few)
+
   pub some_runs : RunsInSome k t
   some_runs = record { geometry_is = g; made = length history; state = run start history; few = few; runs = runs }
 

@@ -1,4 +1,4 @@
 mod Begins
-mod Fresh
 mod Starting
 pub mod Remounted
+mod Counting

@@ -1,25 +1,44 @@
--- A device that was opened again is mounted, and shows the content of the image.
-use Rattle.std.specs.Prelude.{◌≡◌, ◌*◌}
-use Rattle.std.proofs.Common.{◌∙◌, sym, subst}
+-- A device that was mounted is one over which a World may begin, and shows the content of the image.
+use Rattle.std.specs.Prelude.{◌≡◌, ◌*◌, [], false}
+use Rattle.std.proofs.Common.{◌∙◌, sym, subst, ap}
 use Rattle.std.proofs.Math.Path.{fun_ext}
 use Rattle.pm_words.specs.Images.{words_of}
+use Rattle.pm_words.specs.Words.{Words}
 use Rattle.disk_places.specs.Places.{Geometry}
 use Rattle.disk_rules.specs.Checked.{IsCheckedAs}
 use Rattle.disk_rules.specs.Content.{content}
+use Rattle.k_rules.specs.View.{View}
+use Rattle.log_mount.specs.Mounts.{IsMounted}
+use Rattle.posix_types.specs.declared.call.Mode.{Mode}
+use Rattle.posix_types.specs.Scripts.{Scripts}
+use Rattle.posix_spec.specs.Tree.{start}
+use Rattle.world_beginning.specs.Laws.{IsShapeOf}
 use Rattle.world_rules.specs.Shown.{IsTreeOfContent}
-use Rattle.split_world.specs.Starts.{RemountedIsMounted, RemountedShowsImage}
+use Rattle.split_world.specs.Starts.{BeginsMounted, BeginsOver, IsMountedOver}
+use Rattle.split_world.specs.Views.{WorldView}
 
-pub remounted_is_mounted : RemountedIsMounted
-remounted_is_mounted g image k tree is = record {
-  single = is.rest.single;
-  checked = subst (λ (x : Geometry). IsCheckedAs (4096 * x.blocks) (words_of k.cells) k.volume) (sym same) is.checked;
-  geometry = is.numbers ∙ sym same;
-  named = is.named;
-  no_entry = is.no_entry;
-} where
+module _ (g : Geometry) (image : Words) (k : View) (is : IsMounted g image k) where
   same : k.volume.geometry ≡ g
   same = is.checked.reads.geometry ∙ is.numbers
 
-pub remounted_shows_image : RemountedShowsImage
-remounted_shows_image g image k tree begun is shown =
-    subst (λ c. IsTreeOfContent c begun) (fun_ext is.shows) (subst (λ (x : Geometry). IsTreeOfContent (content x (words_of k.cells)) begun) (is.checked.reads.geometry ∙ is.numbers) shown)
+  pub is_mounted_over : IsMountedOver k
+  is_mounted_over = record {
+    single = is.rest.single;
+    checked = subst (λ (x : Geometry). IsCheckedAs (4096 * x.blocks) (words_of k.cells) k.volume) (sym same) is.checked;
+    geometry = is.numbers ∙ sym same;
+    named = is.named;
+    no_entry = is.no_entry;
+  }
+
+  content_is : content k.volume.geometry (words_of k.cells) ≡ content g image
+  content_is = ap (λ h. content h (words_of k.cells)) same ∙ fun_ext is.shows
+
+  pub begins_mounted : (mode : Mode) (scripts : Scripts) (w : WorldView) → BeginsOver k mode scripts w → BeginsMounted g image mode scripts w
+  begins_mounted mode scripts w begins = record {
+    tree = begins.tree;
+    shape = begins.shape;
+    cells = k.cells;
+    tree_is = subst (λ c. IsTreeOfContent c begins.tree) content_is begins.tree_is;
+    shape_is = subst (λ h. IsShapeOf h begins.shape) same begins.shape_is;
+    world_is = begins.world_is ∙ (λ i. record { geometry = same i; start = start begins.tree begins.shape mode; scripts = scripts; history = []; unfinished = []; cells = k.cells; lost = false });
+  }

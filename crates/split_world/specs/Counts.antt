@@ -28,6 +28,11 @@ counted_more past item who =
       one true = refl
       one false = refl
 
+-- one item more
+pub items_more : (past : List Item) (item : Item) (who : Who) → length (items_of (past ++ item ∷ []) who) ≡ length (items_of past who) + cond (same_who item.who who) 1 0
+unfolding counted
+items_more past item who = counted_more past item who
+
 pub made_within : (scripts : Scripts) (past items : List Item) (who : Who) → length (items_of past who) ≤ length (script_of scripts who) → ScriptedAfter scripts past items → length (items_of (past ++ items) who) ≤ length (script_of scripts who)
 unfolding counted
 made_within scripts past [] who small after = subst (λ xs. counted xs who ≤ length (script_of scripts who)) (sym (append-nil past)) small

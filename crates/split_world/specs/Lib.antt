@@ -1,3 +1,4 @@
+pub mod Counters
 pub mod Counts
 pub mod Starts
 pub mod Views

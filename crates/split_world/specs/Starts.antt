@@ -1,18 +1,18 @@
--- The World begins over a K-Split that was opened on a mounted device.
-use Rattle.std.specs.Prelude.{◌≡◌, ◌≤◌, ◌*◌, ℕ, false, List, [], length, Some}
+-- How a World begins on a device that is mounted.
+use Rattle.std.specs.Prelude.{◌≡◌, ◌≤◌, ◌*◌, ℕ, true, false, List, [], length, Result, Ok, Err}
+use Rattle.pm_words.specs.declared.Cell.{Cell}
 use Rattle.pm_words.specs.Cells.{AllSingle}
 use Rattle.pm_words.specs.Images.{words_of}
+use Rattle.pm_words.specs.Powers.{is_on, Supply}
 use Rattle.pm_words.specs.Words.{Words}
 use Rattle.disk_places.specs.Journal.{journaled}
 use Rattle.disk_lines.specs.declared.Kind.TheVariants.{File}
-use Rattle.disk_lines.specs.Fresh.{fresh}
 use Rattle.disk_lines.specs.Names.{names_of}
-use Rattle.disk_places.specs.Places.{Geometry, IsGeometry}
+use Rattle.disk_places.specs.Places.{Geometry}
 use Rattle.disk_rules.specs.Checked.{IsCheckedAs}
 use Rattle.disk_rules.specs.Content.{content}
-use Rattle.disk_rules.specs.Rules.{geometry_of}
-use Rattle.disk_rules.specs.Volume.{inode, volume}
-use Rattle.k_mount.specs.Sheds.{IsRemounted}
+use Rattle.disk_rules.specs.Rules.{geometry_of, IsChecked}
+use Rattle.disk_rules.specs.Volume.{inode}
 use Rattle.k_rules.specs.View.{View}
 use Rattle.posix_types.specs.declared.call.Mode.{Mode}
 use Rattle.posix_types.specs.declared.reply.Shape.{Shape}
@@ -23,6 +23,8 @@ use Rattle.posix_spec.specs.Tree.{start}
 use Rattle.world_rules.specs.Shown.{IsTreeOfContent}
 use Rattle.world_beginning.specs.Laws.{IsShapeOf}
 use Rattle.world_images.specs.Images.{HasNoEntry}
+use Rattle.log_mount.specs.declared.faults.MountFault.{MountFault}
+use Rattle.log_mount.specs.Mounts.{IsMountAnswer}
 use Rattle.split_world.specs.Views.{AreBuilt, WorldView}
 
 -- A device is mounted: nothing of it is lent or out, its image is checked, each file has a name, and no line of the log is an
@@ -48,18 +50,17 @@ pub record BeginsOver (k : View) (mode : Mode) (scripts : Scripts) (w : WorldVie
   pub shape_is : IsShapeOf k.volume.geometry shape
   pub world_is : w ≡ record { geometry = k.volume.geometry; start = start tree shape mode; scripts = scripts; history = []; unfinished = []; cells = k.cells; lost = false }
 
--- A fresh device is mounted.
-abbrev pub FreshIsMounted : Type 0
-FreshIsMounted =
-    (g : Geometry) (k : View) → IsGeometry g → AllSingle k.cells → words_of k.cells ≡ fresh g → k.volume ≡ volume g (journaled (words_of k.cells))
-    → IsMountedOver k
+-- THE WORLD BEGINS ON AN IMAGE that was mounted: its start is the state of the tree of the image, and nothing is done.
+pub record BeginsMounted (g : Geometry) (image : Words) (mode : Mode) (scripts : Scripts) (w : WorldView) : Type 0 where
+  pub tree : List TreeEntry
+  pub shape : Shape
+  pub cells : List Cell
+  pub tree_is : IsTreeOfContent (content g image) tree
+  pub shape_is : IsShapeOf g shape
+  pub world_is : w ≡ record { geometry = g; start = start tree shape mode; scripts = scripts; history = []; unfinished = []; cells = cells; lost = false }
 
--- So is one that was opened again;
-abbrev pub RemountedIsMounted : Type 0
-RemountedIsMounted = (g : Geometry) (image : Words) (k : View) (tree : List TreeEntry) → IsRemounted g image k tree → IsMountedOver k
-
--- and a tree of it, as that which a World begins with, is one of the content of the image that was opened.
-abbrev pub RemountedShowsImage : Type 0
-RemountedShowsImage =
-    (g : Geometry) (image : Words) (k : View) (tree begun : List TreeEntry) → IsRemounted g image k tree
-    → IsTreeOfContent (content k.volume.geometry (words_of k.cells)) begun → IsTreeOfContent (content g image) begun
+-- WHAT `mount` ANSWERS of a device: the World begins on its image, which is checked, and power is left; or why it is not mounted.
+abbrev pub IsWorldAnswer : List Cell → Mode → Scripts → Supply → Supply → Result WorldView MountFault → Type 0
+IsWorldAnswer pm mode scripts before after (Ok w) =
+    IsChecked (8 * length pm) (words_of pm) × BeginsMounted (geometry_of (words_of pm)) (words_of pm) mode scripts w × (is_on after ≡ true)
+IsWorldAnswer pm mode scripts before after (Err fault) = IsMountAnswer pm before after (Err fault)

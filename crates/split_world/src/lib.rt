@@ -7,11 +7,9 @@
 //! those on names, directories and descriptors, in strict mode, one at a time. Files may have bytes: none
 //! is written, and an `open` with `t` cuts a file.
 //!
-//! Stands on `split_calls`, which runs one call over K-Split and the open files. It begins over a device that
-//! `k_mount` opened again (`RemountedIsMounted`), or over a fresh one.
+//! Stands on `split_calls`, which runs one call over K-Split and the open files. It begins on a device that
+//! `log_mount` mounts, whatever entries of its log are live (`IsWorldAnswer`).
 #![tactic(auto)]
-
-ghost use Rattle.split_world.specs.Starts.{FreshIsMounted, RemountedIsMounted, RemountedShowsImage};
 
 mod beginning;
 mod next;
@@ -20,15 +18,3 @@ mod world;
 
 pub use outcomes::{Begun, Crashed, Ended, Ready, Unfinished};
 pub use world::World;
-
-/// A device of the fresh image is one that a World may begin over.
-pub fn a_fresh_device_is_mounted()
-    ensures { FreshIsMounted }
-{}
-
-/// A device that was opened again is one that a World may begin over; and a tree of it is one of the image's
-/// content.
-pub fn a_remounted_device_is_mounted()
-    ensures mounted { RemountedIsMounted }
-    ensures shows { RemountedShowsImage }
-{}

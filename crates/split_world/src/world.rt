@@ -6,7 +6,7 @@ ghost use Rattle.posix_spec.specs.Scripted.{next_call, IsSetUp};
 ghost use Rattle.posix_spec.specs.Tree.{start};
 ghost use Rattle.split_world.specs.Views.{ready_by, steps_of_next, unfinished_of, IsBegun, IsEndedBy, IsLeft, IsWorldOver};
 
-use crate::next::{call_at, calls_made, script_length};
+use crate::next::{Counters, call_at, calls_made, count_call, script_length};
 use crate::outcomes::{Begun, Crashed, Ended, Ready, Unfinished};
 use image_layout::Geometry;
 use k_split::KSplit;
@@ -29,12 +29,14 @@ pub struct World {
     pub(crate) mode: Mode,
     pub(crate) scripts: Scripts,
     pub(crate) history: Vec<Item>,
+    pub(crate) counters: Counters,
     pub(crate) unfinished: Option<Unfinished>,
     pub(crate) lost: bool,
 }
 
 impl Model for World {
     ghost use Rattle.posix_spec.specs.Tree.{start};
+    ghost use Rattle.split_world.specs.Counters.{AreCounts};
     ghost use Rattle.split_world.specs.Views.{unfinished_of, IsWorldOver, WorldView};
 
     ghost Value = { WorldView };
@@ -51,7 +53,7 @@ impl Model for World {
 
     ghost invariant = { λ w. IsWorldOver w.k w.files.tables w.geometry
         (start w.tree w.shape w.mode) w.scripts w.history.items (unfinished_of w.unfinished)
-        w.lost };
+        w.lost × AreCounts w.counters.setup w.counters.threads w.history.items };
 }
 
 // Adds an item for which there is room.
@@ -76,7 +78,7 @@ impl World {
     pub fn ready(&self, who: Who) -> Ready
         ensures { result ≡ ready_by (next_call self.now.scripts self.now.history who) }
     {
-        if calls_made(&self.history, who) < script_length(&self.scripts, who) {
+        if calls_made(&self.counters, who) < script_length(&self.scripts, who) {
             Ready::Yes
         } else {
             Ready::ScriptEnd
@@ -87,7 +89,7 @@ impl World {
     pub fn setup_done(&self) -> bool
         ensures { IsTrue result ↔ IsSetUp self.now.scripts self.now.history (Who.Thread 0) }
     {
-        calls_made(&self.history, Who::Setup) == script_length(&self.scripts, Who::Setup)
+        calls_made(&self.counters, Who::Setup) == script_length(&self.scripts, Who::Setup)
     }
 
     /// How many threads the scripts have, 8 at most.
@@ -109,7 +111,7 @@ impl World {
         if self.lost {
             return Ok(Begun::PowerLost);
         }
-        let place = calls_made(&self.history, who);
+        let place = calls_made(&self.counters, who);
         match call_at(&self.scripts, who, place)? {
             None => {
                 if power.on() {
@@ -137,6 +139,7 @@ impl World {
                                 room: outcome.room,
                             },
                         );
+                        count_call(&mut self.counters, who);
                         Ok(Begun::Done)
                     }
                     Told::PowerLost => {

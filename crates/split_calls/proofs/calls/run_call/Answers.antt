@@ -1,5 +1,7 @@
-use Rattle.std.proofs.Common.{sym, subst}
-use Rattle.std.specs.Prelude.{Ok}
+use Rattle.std.proofs.Common.{rules, sym, subst, w64}
+use Rattle.std.proofs.Math.Facts.{to_z-of_z}
+use Rattle.posix_types.specs.declared.call.Call.{Call}
+use Rattle.std.specs.Prelude.{FitsSigned, Ok}
 use Rattle.split_calls.specs.Answers.{IsEnded}
 use Rattle.split_calls.proofs.calls.run_call.Goals as goal
 
@@ -26,3 +28,17 @@ returns-in-Stat-clause-ended c = subst (λ x. IsEnded c.args.who x c.args.k.now 
 
 pub returns-in-List-clause-ended : goal.returns-in-List-clause-ended
 returns-in-List-clause-ended c = subst (λ x. IsEnded c.args.who x c.args.k.now c.args.files.now.tables c.args.k.now c.args.files.now.tables c.args.power.now c.args.power.now c.list.result) (sym c.in-List.is) (c.list.ensures c.args.who c.args.files.now.tables c.args.power.now c.requires.power)
+
+pub returns-in-Read-clause-ended : goal.returns-in-Read-clause-ended
+returns-in-Read-clause-ended c = subst (λ x. IsEnded c.args.who x c.args.k.now c.args.files.now.tables c.args.k.now c.read.new.files.tables c.args.power.now c.args.power.now c.read.result) (sym c.in-Read.is) (c.read.ensures c.args.power.now c.requires.power)
+
+pub returns-in-Pread-clause-ended : goal.returns-in-Pread-clause-ended
+returns-in-Pread-clause-ended c = subst (λ x. IsEnded c.args.who x c.args.k.now c.args.files.now.tables c.args.k.now c.args.files.now.tables c.args.power.now c.args.power.now c.pread.result) (sym c.in-Pread.is) (c.pread.ensures c.args.power.now c.requires.power)
+
+pub returns-in-Seek-clause-ended : goal.returns-in-Seek-clause-ended
+returns-in-Seek-clause-ended c =
+    let fits : FitsSigned w64 c.in-Seek.by = search rules in
+    subst (λ x. IsEnded c.args.who x c.args.k.now c.args.files.now.tables c.args.k.now c.seek.new.files.tables c.args.power.now c.args.power.now (Ok c.seek.result)) (sym c.in-Seek.is) (subst (λ z. IsEnded c.args.who (Call.Seek c.in-Seek.handle c.in-Seek.whence z) c.args.k.now c.args.files.now.tables c.args.k.now c.seek.new.files.tables c.args.power.now c.args.power.now (Ok c.seek.result)) (to_z-of_z {w = w64} fits) (c.seek.ensures c.args.power.now c.requires.power))
+
+pub returns-in-Fsync-clause-ended : goal.returns-in-Fsync-clause-ended
+returns-in-Fsync-clause-ended c = subst (λ x. IsEnded c.args.who x c.args.k.now c.args.files.now.tables c.args.k.now c.args.files.now.tables c.args.power.now c.args.power.now (Ok c.fsync.result)) (sym c.in-Fsync.is) (c.fsync.ensures c.args.k.now c.args.power.now c.requires.power)

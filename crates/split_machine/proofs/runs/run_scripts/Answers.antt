@@ -8,7 +8,7 @@ use Rattle.split_machine.proofs.runs.run_scripts.Goals as goal
 
 pub run_script-requires-2-clause-set_up : goal.run_script-requires-2-clause-set_up
 run_script-requires-2-clause-set_up c =
-    set_up_done c.run_script.new.world.scripts c.run_script.new.world.history (subst (λ (v : WorldView). Scripted v.scripts v.history) c.world.view_is c.world.invariant.scripted)
+    set_up_done c.run_script.new.world.scripts c.run_script.new.world.history (subst (λ (v : WorldView). Scripted v.scripts v.history) c.world.view_is c.world.invariant.0.scripted)
     (subst (IsScriptRun Who.Setup c.args.world c.run_script.new.world c.args.power.now c.run_script.new.power) c.if-not-branch.false c.in_ok-run_script.ensures).3
 
 pub returns-then-not-branch : goal.returns-then-not-branch

@@ -1,4 +1,5 @@
 //! Edits of files in memory, by the lines of a table.
+use crate::entries::put_entry;
 use crate::rows::RowError;
 use outside::{Files, MemFiles};
 use std::alloc::Global;
@@ -49,6 +50,39 @@ pub(crate) fn set(
     Ok(())
 }
 
+// `PLACE COUNT BYTE`: a file has so many of this byte from that place on, as far as it has such places.
+fn fill(alloc: Global, files: &mut MemFiles, name: &str, words: &str) -> Result<(), RowError> {
+    let (place, rest) = words.split_once(" ").ok_or(RowError::Misspelled)?;
+    let (count, value) = rest.split_once(" ").ok_or(RowError::Misspelled)?;
+    let place = number(place)?;
+    let end = place.saturating_add(number(count)?);
+    let value = value.parse::<u8>().ok().ok_or(RowError::Misspelled)?;
+    let mut bytes = files.read(alloc, name)?;
+    for at in place..end {
+        if at < bytes.len() {
+            bytes[at] = value;
+        }
+    }
+    files.replace(name, &bytes)?;
+    Ok(())
+}
+
+// `PLACE NUMBER ..`: the line at that place is an entry with these ten numbers, and its check.
+fn entry(alloc: Global, files: &mut MemFiles, name: &str, words: &str) -> Result<(), RowError> {
+    let (place, words) = words.split_once(" ").ok_or(RowError::Misspelled)?;
+    let place = number(place)?;
+    let mut numbers = [0_u64; 10];
+    let mut places = numbers.iter_mut();
+    for word in words.split(' ') {
+        let number = places.next().ok_or(RowError::Misspelled)?;
+        *number = word.parse::<u64>().ok().ok_or(RowError::Misspelled)?;
+    }
+    let mut bytes = files.read(alloc, name)?;
+    put_entry(&mut bytes, place, &numbers);
+    files.replace(name, &bytes)?;
+    Ok(())
+}
+
 // `file NAME LINES`: the file has these lines, parted by `; `, or nothing where there is none.
 fn file(alloc: Global, files: &mut MemFiles, words: &str) -> Result<(), RowError> {
     match words.split_once(" ") {
@@ -65,8 +99,8 @@ fn file(alloc: Global, files: &mut MemFiles, words: &str) -> Result<(), RowError
     Ok(())
 }
 
-// `copy FROM TO`, `cut NAME LENGTH`, `set NAME PLACE BYTE ..`, `file NAME LINE`: whether the line is an edit; it is carried out
-// then.
+// `copy FROM TO`, `cut NAME LENGTH`, `set NAME PLACE BYTE ..`, `fill NAME PLACE COUNT BYTE`, `entry NAME PLACE NUMBER ..`,
+// `file NAME LINE`: whether the line is an edit; it is carried out then.
 pub(crate) fn was_edit(alloc: Global, files: &mut MemFiles, line: &str) -> Result<bool, RowError> {
     let Some((edit, words)) = line.split_once(" ") else {
         return Ok(false);
@@ -80,6 +114,8 @@ pub(crate) fn was_edit(alloc: Global, files: &mut MemFiles, line: &str) -> Resul
         "copy" => copy(alloc, files, name, words)?,
         "cut" => cut(alloc, files, name, words)?,
         "set" => set(alloc, files, name, words)?,
+        "fill" => fill(alloc, files, name, words)?,
+        "entry" => entry(alloc, files, name, words)?,
         _ => return Ok(false),
     }
     Ok(true)

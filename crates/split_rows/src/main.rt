@@ -7,8 +7,9 @@
 //! its replies and its last tree, and, `at every stop` with each choice, a front of the replies and the tree of that front
 //! or of the call that follows, whole.
 //!
-//! Any other table is a session over the same files (`sessions.rt`): commands, edits of files (`edits.rt`), and damaged
-//! images with the rule that refuses each or its tree (`damages.rt`). What has to be printed is worked out by hand from
+//! Any other table is a session over the same files (`sessions.rt`): commands, edits of files (`edits.rt`), damaged images
+//! with the rule that refuses each or its tree (`damages.rt`), and images that are drawn from a seed with live entries in
+//! their logs (`forging.rt`). What has to be printed is worked out by hand from
 //! the format, rule by rule.
 //!
 //! Nothing here is claimed by a contract. Stands on `split_top`.
@@ -17,6 +18,8 @@
 mod commands;
 mod damages;
 mod edits;
+mod entries;
+mod forging;
 mod rows;
 mod runs;
 mod scripts;

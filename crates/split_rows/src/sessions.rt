@@ -5,10 +5,35 @@
 use crate::commands::{told, told_of_failing};
 use crate::damages::{Damages, damages_told, was_damage};
 use crate::edits::was_edit;
+use crate::forging::forged_told;
 use crate::rows::RowError;
-use outside::MemFiles;
+use outside::{Files, MemFiles};
 use std::alloc::Global;
 use std::io::Write;
+
+// `bytes NAME PLACE COUNT`: so many bytes of a file from that place on, as far as it has them.
+fn bytes_told(
+    alloc: Global,
+    files: &mut MemFiles,
+    line: &str,
+    words: &str,
+) -> Result<Vec<u8>, RowError> {
+    let (name, rest) = words.split_once(" ").ok_or(RowError::Misspelled)?;
+    let (place, count) = rest.split_once(" ").ok_or(RowError::Misspelled)?;
+    let place = place.parse::<usize>().ok().ok_or(RowError::Misspelled)?;
+    let count = count.parse::<usize>().ok().ok_or(RowError::Misspelled)?;
+    let bytes = files.read(alloc, name)?;
+    let mut text = Vec::from_slice(alloc, b"$ ")?;
+    text.extend_from_slice(line.as_bytes())?;
+    text.push(b'\n')?;
+    for byte in bytes.iter().skip(place).take(count) {
+        let byte = format!(in alloc; "{byte} ")?;
+        text.extend_from_slice(byte.as_bytes())?;
+    }
+    text.pop();
+    text.push(b'\n')?;
+    Ok(text)
+}
 
 // Carries out a line of a table, and gives what is to be printed of it.
 fn line_told<R>(
@@ -24,6 +49,12 @@ fn line_told<R>(
         || was_damage(rt, alloc, files, line, damages)?
     {
         return Ok(Vec::new(alloc));
+    }
+    if let Some(words) = line.strip_prefix("forged ") {
+        return forged_told(rt, alloc, files, words);
+    }
+    if let Some(words) = line.strip_prefix("bytes ") {
+        return bytes_told(alloc, files, line, words);
     }
     if let Some(given) = line.strip_prefix("failing ") {
         return told_of_failing(rt, alloc, files, line, given);

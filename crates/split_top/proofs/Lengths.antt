@@ -1,5 +1,5 @@
--- An image of another length, and a list with no member.
-use Rattle.std.proofs.Common.{◌≡◌, ◌≢◌, ◌⊎◌, ◌≤◌, ◌<◌, ◌/◌, ◌%◌, ℕ, true, false, List, [], ◌∷◌, refl, arith, inl, inr}
+-- An image of another length.
+use Rattle.std.proofs.Common.{◌≡◌, ◌≢◌, ◌⊎◌, ◌≤◌, ◌<◌, ◌/◌, ◌%◌, ℕ, refl, arith, inl, inr}
 use Rattle.pm_words.specs.Words.{Words}
 use Rattle.disk_rules.specs.Broken.{at_one, Breaks, FailsFirst}
 use Rattle.disk_rules.specs.Rules.{IsWholeBlocks}
@@ -17,8 +17,3 @@ pub breaks-length : (bytes : ℕ) (f : Words) → (IsWholeBlocks bytes → ⊥) 
 breaks-length bytes f none = inl (refl, fails) where
   fails : FailsFirst (at_one 1 bytes (IsWholeBlocks bytes)) bytes
   fails = record { from = omega arith; within = omega arith; before = λ p from early. absurd (omega arith); fails = none }
-
--- a list of which it is false that it has no member has none where nothing says that it has
-pub none-where : {A : Type 0} (xs : List A) → (xs ≢ [] → false ≡ true) → xs ≡ []
-none-where [] some = refl
-none-where (x ∷ xs) some = absurd (let f : ⊥ = cc (some (λ e. cc)) in f)

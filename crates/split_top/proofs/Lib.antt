@@ -1,10 +1,9 @@
 pub mod Answered
 pub mod Beginnings
 pub mod Endings
-pub mod FreshDead
-pub mod Kept
 pub mod Left
 pub mod Lengths
+pub mod Mounted
 pub mod Opened
 pub mod Remounts
 pub mod Results

@@ -4,15 +4,12 @@ use Rattle.pm_words.specs.declared.Cell.{Cell}
 use Rattle.pm_words.specs.Cells.{cell}
 use Rattle.pm_words.specs.Images.{IsImage, IsImageOf}
 use Rattle.pm_words.specs.Words.{word_at}
-use Rattle.disk_places.specs.Journal.{journaled}
 use Rattle.disk_places.specs.Places.{Geometry}
+use Rattle.disk_rules.specs.Content.{content}
 use Rattle.disk_rules.specs.Honest.{IsHonest}
-use Rattle.disk_rules.specs.Live.{live_entries}
 use Rattle.disk_rules.specs.Rules.{geometry_of, IsChecked}
-use Rattle.disk_rules.specs.Volume.{volume}
 use Rattle.k_check.specs.Crashes.{IsCrashImage}
 use Rattle.k_rules.specs.View.{View}
-use Rattle.k_mount.specs.Sheds.{IsRemounted}
 use Rattle.crash_spec.specs.Permitted.{Permitted}
 use Rattle.pm_lines.specs.declared.choices.Choice.{Choice}
 use Rattle.posix_types.specs.declared.item.Item.{Item}
@@ -20,7 +17,9 @@ use Rattle.posix_types.specs.declared.tree.TreeEntry.{TreeEntry}
 use Rattle.posix_spec.specs.Run.{Begun}
 use Rattle.posix_spec.specs.State.{State}
 use Rattle.world_images.specs.Promised.{IsKept}
-use Rattle.split_top.specs.Found.{IsChosenImage, IsFound, IsLeftAs}
+use Rattle.world_rules.specs.Shown.{IsTreeOfContent}
+use Rattle.split_top.specs.Found.{IsChosenImage, IsFound, IsFoundOn, IsLeftAs}
+use Rattle.split_top.specs.Images.{CanOpen}
 
 -- the bytes that were chosen have an image of the device, honest, by the choice
 pub record IsTaken (g : Geometry) (choice : Choice) (d : List Cell) (bytes : List ℕ) : Type 0 where
@@ -35,24 +34,23 @@ module _ (g : Geometry) (choice : Choice) (d : List Cell) (start : State) (histo
   kept : IsKept g start history unfinished (word_at given)
   kept = left.promise (word_at given) chosen.is_image chosen.is_honest
 
-  pub left-size : length given ≡ 4096 * g.blocks
-  left-size =
-      let long : length bytes ≡ 8 * length d = taken.image.size in
-      let wide : length d ≡ 512 * g.blocks = left.no_log.size in
-      let all : length bytes ≡ 4096 * g.blocks = omega arith in
-      ap length same ∙ all
-
   pub left-numbers : geometry_of (word_at given) ≡ g
   left-numbers = kept.geometry
 
-  pub left-checked : IsChecked (4096 * g.blocks) (word_at given)
-  left-checked = kept.checked
+  pub left-opens : CanOpen given
+  left-opens = subst (λ n. IsChecked n (word_at given)) (sym long) kept.checked where
+    long : length given ≡ 4096 * g.blocks
+    long =
+        let bytes_long : length bytes ≡ 8 * length d = taken.image.size in
+        let wide : length d ≡ 512 * g.blocks = left.no_log.size in
+        let all : length bytes ≡ 4096 * g.blocks = omega arith in
+        ap length same ∙ all
 
-  pub left-dead : live_entries (volume g (journaled (word_at given))) (journaled (word_at given)) ≡ []
-  left-dead = left.no_log.dead (word_at given) chosen.is_image
+  shown : (k : View) (tree : List TreeEntry) → IsFoundOn (word_at given) k tree → IsTreeOfContent (content g (word_at given)) tree
+  shown k tree found = subst (λ h. IsTreeOfContent (content h (word_at given)) tree) left-numbers found.is_tree
 
-  pub left-permitted : (k : View) (tree : List TreeEntry) → IsRemounted g (word_at given) k tree → Permitted start.mode start history unfinished tree
-  left-permitted k tree found = kept.permitted tree found.tree_is
+  pub left-permitted : (k : View) (tree : List TreeEntry) → IsFoundOn (word_at given) k tree → Permitted start.mode start history unfinished tree
+  left-permitted k tree found = kept.permitted tree (shown k tree found)
 
-  pub left-found : (k : View) (tree : List TreeEntry) → IsRemounted g (word_at given) k tree → IsFound g choice start history unfinished tree
-  left-found k tree found = record { device = d; is_left = left; image = word_at given; is_chosen = chosen; is_tree = found.tree_is }
+  pub left-found : (k : View) (tree : List TreeEntry) → IsFoundOn (word_at given) k tree → IsFound g choice start history unfinished tree
+  left-found k tree found = record { device = d; is_left = left; image = word_at given; is_chosen = chosen; is_tree = shown k tree found }

@@ -36,13 +36,13 @@ built (Call.Rename p q) known = tt
 built (Call.Open k p f) known = tt
 built (Call.Close k) known = tt
 built (Call.Dup k g) known = tt
-built (Call.Read k n) known = cc
-built (Call.Pread k o n) known = cc
+built (Call.Read k n) known = tt
+built (Call.Pread k o n) known = tt
 built (Call.Write k x) known = cc
 built (Call.Pwrite k o x) known = cc
-built (Call.Seek k w b) known = cc
+built (Call.Seek k w b) known = tt
 built (Call.Truncate k n) known = cc
-built (Call.Fsync k) known = cc
+built (Call.Fsync k) known = tt
 built (Call.Stat p) known = tt
 built (Call.List p) known = tt
 

@@ -7,10 +7,9 @@ use Rattle.image_layout.specs.Numbers.{default_numbers}
 use Rattle.outside.specs.Outside.{FileList, IsAbsent}
 use Rattle.command_words.specs.Command.{Command, Fresh, Image, Stored, Tree}
 use Rattle.exit_status.specs.declared.statuses.Status.{Status}
-use Rattle.split_top.specs.Images.{AreOfImage, CanOpen, HasNoLive, IsFreshImage, IsRefused}
+use Rattle.split_top.specs.Images.{AreOfImage, CanOpen, IsFreshImage, IsRefused}
 use Rattle.split_top.specs.Jobs.{IsAnswer, IsUnopened, IsUnread}
 use Rattle.split_top.specs.Top.{BreaksRule, Completes, IsBadImage, IsGiven, IsGivenImage, IsImageVerdict}
-use Rattle.split_top.proofs.FreshDead.{fresh-dead}
 use Rattle.split_top.proofs.Answered.{absent-given, same-bytes, starved-answer}
 
 -- two lists of bytes of one fresh image are one image
@@ -22,12 +21,10 @@ module _ (read bytes : List ℕ) (one : IsFreshImage default_numbers read) (othe
   same-length = one.size ∙ sym other.size
 
   fresh-opens : CanOpen read → CanOpen bytes
-  fresh-opens can = record { checked = other.checked; dead = subst HasNoLive same-words can.dead }
+  fresh-opens can = other.checked
 
   fresh-refused : (rule place : ℕ) → IsRefused read rule place → IsRefused bytes rule place
-  fresh-refused rule place (inl breaks) = inl (subst (λ f. Breaks (length bytes) f rule place) same-words (subst (λ n. Breaks n (word_at read) rule place) same-length breaks))
-  fresh-refused rule place (inr live) =
-      inr (record { checked = other.checked; live = subst (λ f. ¬ HasNoLive f) same-words live.live; rule_is = live.rule_is; place_is = live.place_is })
+  fresh-refused rule place breaks = subst (λ f. Breaks (length bytes) f rule place) same-words (subst (λ n. Breaks n (word_at read) rule place) same-length breaks)
 
 -- what is read of an image is what is given
 pub given-opens : (files : Option FileList) (image : Image) (read bytes : List ℕ) → AreOfImage files image read → IsGivenImage files image bytes → CanOpen read → CanOpen bytes
@@ -40,8 +37,7 @@ given-refused files (Stored name) read bytes are given rule place refused = subs
 
 -- the fresh image is refused by nothing
 pub fresh-opened : (bytes : List ℕ) → IsFreshImage default_numbers bytes → (rule place : ℕ) → IsRefused bytes rule place → ⊥
-fresh-opened bytes is rule place (inl breaks) = checked-unbroken (length bytes) (word_at bytes) rule place is.checked breaks
-fresh-opened bytes is rule place (inr live) = live.live (fresh-dead bytes is)
+fresh-opened bytes is rule place breaks = checked-unbroken (length bytes) (word_at bytes) rule place is.checked breaks
 
 -- an image that is not there is not given
 pub absent-image : (files : Option FileList) (image : Image) (name bytes : List ℕ) → image ≡ Stored name → IsAbsent files name → IsGivenImage files image bytes → ⊥

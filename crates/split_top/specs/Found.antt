@@ -7,7 +7,10 @@ use Rattle.pm_words.specs.Words.{Words}
 use Rattle.disk_places.specs.Places.{Geometry}
 use Rattle.disk_rules.specs.Content.{content}
 use Rattle.disk_rules.specs.Honest.{IsHonest}
+use Rattle.disk_rules.specs.Rules.{geometry_of}
 use Rattle.k_check.specs.Crashes.{IsCrashImage}
+use Rattle.k_rules.specs.View.{View}
+use Rattle.log_mount.specs.Mounts.{IsMounted}
 use Rattle.pm_lines.specs.declared.choices.Choice.{Choice}
 use Rattle.posix_types.specs.declared.item.Item.{Item}
 use Rattle.posix_types.specs.declared.tree.TreeEntry.{TreeEntry}
@@ -35,3 +38,8 @@ pub record IsFound (g : Geometry) (choice : Choice) (start : State) (history : L
   pub image : Words
   pub is_chosen : IsChosenImage g choice device image
   pub is_tree : IsTreeOfContent (content g image) left
+
+-- WHAT IS FOUND on an image: K-Split as `mount` leaves it, and the tree of the image's content.
+pub record IsFoundOn (image : Words) (k : View) (tree : List TreeEntry) : Type 0 where
+  pub mounted : IsMounted (geometry_of image) image k
+  pub is_tree : IsTreeOfContent (content (geometry_of image) image) tree

@@ -1,5 +1,5 @@
 -- What the bytes of an image are to the commands: the fresh image; one that can be opened; or one that is refused, by which rule.
-use Rattle.std.specs.Prelude.{◌≡◌, ◌⊎◌, ◌*◌, ℕ, List, [], ◌++◌, length, Option, codes, decimal}
+use Rattle.std.specs.Prelude.{◌≡◌, ◌≤◌, ◌+◌, ◌*◌, ◌^◌, ℕ, List, ◌++◌, length, Option, codes, decimal}
 use Rattle.pm_words.specs.Words.{word_at, Words}
 use Rattle.disk_places.specs.Journal.{journaled}
 use Rattle.disk_places.specs.Places.{data_blocks, Geometry}
@@ -7,12 +7,13 @@ use Rattle.disk_lines.specs.Fresh.{fresh}
 use Rattle.disk_rules.specs.Broken.{Breaks}
 use Rattle.disk_rules.specs.Content.{content}
 use Rattle.disk_rules.specs.FreshVolume.{root_alone}
-use Rattle.disk_rules.specs.Live.{live_entries}
 use Rattle.disk_rules.specs.Rules.{geometry_of, IsChecked}
-use Rattle.disk_rules.specs.Volume.{volume}
+use Rattle.disk_rules.specs.Volume.{Volume, volume}
 use Rattle.posix_types.specs.declared.tree.TreeEntry.{TreeEntry}
 use Rattle.world_rules.specs.Shown.{IsTreeOfContent}
 use Rattle.k_mount.specs.Sheds.{AllNamed}
+use Rattle.log_mount.specs.Resets.{IsLow}
+use Rattle.log_mount.specs.Sweeps.{AreBare, EndsInTime}
 use Rattle.world_images.specs.Images.{HasNoEntry}
 use Rattle.image_layout.specs.Numbers.{default_numbers}
 use Rattle.report_text.specs.Texts.{tree_text}
@@ -32,36 +33,33 @@ abbrev pub AreOfImage : Option FileList → Image → List ℕ → Type 0
 AreOfImage files Fresh bytes = IsFreshImage default_numbers bytes
 AreOfImage files (Stored name) bytes = AreOfFile files name bytes
 
--- recovery has nothing to carry out of the log
-abbrev pub HasNoLive : Words → Type 0
-HasNoLive f = live_entries (volume (geometry_of f) (journaled f)) (journaled f) ≡ []
+-- AN IMAGE THAT CAN BE OPENED is a checked one, whatever entries of its log are live.
+abbrev pub CanOpen : List ℕ → Type 0
+CanOpen bytes = IsChecked (length bytes) (word_at bytes)
 
--- AN IMAGE THAT CAN BE OPENED is a checked one in whose log nothing is live.
-pub record CanOpen (bytes : List ℕ) : Type 0 where
-  pub checked : IsChecked (length bytes) (word_at bytes)
-  pub dead : HasNoLive (word_at bytes)
-
--- A checked image in whose log an entry is live is refused as if it broke rule 12, as long as no log is recovered.
-pub record HasLive (bytes : List ℕ) (rule place : ℕ) : Type 0 where
-  pub checked : IsChecked (length bytes) (word_at bytes)
-  pub live : ¬ HasNoLive (word_at bytes)
-  pub rule_is : rule ≡ 12
-  pub place_is : place ≡ 0
-
--- AN IMAGE IS REFUSED by the first rule that it breaks, with its lowest place; only where it breaks none, for a live entry.
+-- AN IMAGE IS REFUSED by the first rule that it breaks, with its lowest place.
 abbrev pub IsRefused : List ℕ → ℕ → ℕ → Type 0
-IsRefused bytes rule place = Breaks (length bytes) (word_at bytes) rule place ⊎ HasLive bytes rule place
+IsRefused bytes rule place = Breaks (length bytes) (word_at bytes) rule place
 
 -- THE TREE OF AN IMAGE: the image can be opened, and the tree is that of its content.
 pub record ShowsTree (bytes : List ℕ) (tree : List TreeEntry) : Type 0 where
   pub can_open : CanOpen bytes
   pub is_tree : IsTreeOfContent (content (geometry_of (word_at bytes)) (word_at bytes)) tree
 
--- AN IMAGE AS A MOUNT LEAVES IT: it shows this tree, each file has a name, and no slot of its log has an entry.
+-- what the device of an image shows through its journal
+abbrev pub volume_of : Words → Volume
+volume_of f = volume (geometry_of f) (journaled f)
+
+-- AN IMAGE AS A MOUNT LEAVES IT: it shows this tree, each file has a name and no block past its end, nothing is staged, no slot of its
+-- log has an entry, the log's base is at most 2^62 and one lap, and no file has applied an order above 2^62.
 pub record IsMounted (bytes : List ℕ) (tree : List TreeEntry) : Type 0 where
   pub shows : ShowsTree bytes tree
-  pub named : AllNamed (volume (geometry_of (word_at bytes)) (journaled (word_at bytes)))
-  pub no_entry : HasNoEntry (volume (geometry_of (word_at bytes)) (journaled (word_at bytes))) (journaled (word_at bytes))
+  pub named : AllNamed (volume_of (word_at bytes))
+  pub short : (ino : ℕ) → EndsInTime (volume_of (word_at bytes)) ino
+  pub bare : AreBare (volume_of (word_at bytes))
+  pub base : (volume_of (word_at bytes)).base ≤ 2 ^ 62 + (geometry_of (word_at bytes)).log
+  pub low : (ino : ℕ) → IsLow (volume_of (word_at bytes)) ino
+  pub no_entry : HasNoEntry (volume_of (word_at bytes)) (journaled (word_at bytes))
 
 -- the text of the tree of an image
 pub record IsTreeText (bytes output : List ℕ) : Type 0 where

@@ -1,6 +1,6 @@
-//! Whether an image can be opened: its length, the rules of a checked image, and the entries of its log.
+//! Whether an image can be opened: its length, and the rules of a checked image.
 ghost use Rattle.std.specs.Prelude.{◌≡◌, ◌↔◌, ◌*◌, IsTrue, IfErr, IfOk, OnOk, length};
-ghost use Rattle.pm_words.specs.Cells.{AllHome};
+ghost use Rattle.pm_words.specs.Cells.{AllSingle};
 ghost use Rattle.pm_words.specs.Images.{words_of};
 ghost use Rattle.pm_words.specs.Words.{word_at};
 ghost use Rattle.disk_rules.specs.Rules.{geometry_of, IsWholeBlocks};
@@ -9,7 +9,7 @@ ghost use Rattle.split_top.specs.Jobs.{IsUnopened};
 
 use exit_status::Status;
 use image_layout::Geometry;
-use k_check::{CheckFault, check, has_live};
+use k_check::{CheckFault, check};
 use pm_lines::Pm;
 use std::alloc::{AllocError, Global};
 
@@ -28,10 +28,10 @@ fn is_whole(bytes: usize) -> bool
 }
 
 /// The device of an image.
-fn device(alloc: Global, bytes: &[u8]) -> Result<Pm, AllocError>
+pub(crate) fn device(alloc: Global, bytes: &[u8]) -> Result<Pm, AllocError>
     requires { IsWholeBlocks (length bytes.now) }
     ensures size { IfOk result (λ pm. 8 * length pm ≡ length bytes.now) }
-    ensures home { IfOk result (λ pm. AllHome pm) }
+    ensures single { IfOk result (λ pm. AllSingle pm) }
     ensures words { IfOk result (λ pm. words_of pm ≡ word_at bytes.now) }
 {
     Pm::from_image(alloc, bytes)
@@ -52,19 +52,12 @@ pub(crate) fn geometry_to_open(alloc: Global, bytes: &[u8]) -> Result<Geometry, 
     let Ok(pm) = device(alloc, bytes) else {
         return Err(Status::NoMemory);
     };
-    let geometry = match check(alloc, &pm) {
-        Ok(geometry) => geometry,
-        Err(CheckFault::Bad(bad)) => {
-            return Err(Status::BadImage {
-                rule: bad.rule,
-                place: bad.place,
-            });
-        }
-        Err(CheckFault::NoMemory) => return Err(Status::NoMemory),
-    };
-    match has_live(alloc, &pm) {
-        Ok(false) => Ok(geometry),
-        Ok(true) => Err(Status::BadImage { rule: 12, place: 0 }),
-        Err(_) => Err(Status::NoMemory),
+    match check(alloc, &pm) {
+        Ok(geometry) => Ok(geometry),
+        Err(CheckFault::Bad(bad)) => Err(Status::BadImage {
+            rule: bad.rule,
+            place: bad.place,
+        }),
+        Err(CheckFault::NoMemory) => Err(Status::NoMemory),
     }
 }

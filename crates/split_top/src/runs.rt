@@ -14,14 +14,16 @@ ghost use Rattle.split_top.specs.Images.{CanOpen, IsMounted};
 ghost use Rattle.split_top.specs.Runs.{IsRun, task_on};
 ghost use Rattle.split_top.specs.Worlds.{AreRunnable, BeginsOn, IsRanOn, IsWorldOn};
 
+use crate::mounting::mount_image;
+use crate::opening::device;
 use image_layout::Geometry;
 use k_check::crash_image;
-use k_mount::remount;
+use log_mount::MountFault;
 use pm_lines::{Choice, Pm, Power};
 use posix_types::{Item, Mode, Scripts, Tree};
 use split_calls::NoMemory;
 use split_machine::{run as run_scripts, steps_are_afforded};
-use split_world::{Ended, World, a_remounted_device_is_mounted};
+use split_world::{Ended, World};
 use std::alloc::{AllocError, Global};
 
 /// What a run leaves: the calls that returned, the tree that is found afterwards, and the image that shows it.
@@ -61,9 +63,14 @@ fn world_on(
     requires runnable { AreRunnable scripts }
     ensures { IfOk result (BeginsOn image.now geometry scripts) }
 {
-    a_remounted_device_is_mounted();
-    let remounted = remount(alloc, image, geometry)?;
-    World::over(alloc, remounted.k, Mode::Strict, scripts)
+    let pm = device(alloc, image)?;
+    let mut power = Power::always();
+    match World::mount(alloc, pm, Mode::Strict, scripts, &mut power) {
+        Ok(world) => Ok(world),
+        Err(MountFault::NoMemory) => Err(NoMemory {}),
+        Err(MountFault::Bad(_)) => unreachable!(),
+        Err(MountFault::PowerLost(_)) => unreachable!(),
+    }
 }
 
 /// What is found on the device that a run left: the image by the choice is mounted again.
@@ -75,11 +82,11 @@ fn left_on(alloc: Global, pm: &Pm, geometry: Geometry, choice: Choice) -> Result
     ensures numbers { IfOk result (λ left. geometry_of (word_at left.image.items) ≡ geometry) }
 {
     let bytes = crash_image(alloc, pm, &geometry, choice)?;
-    let remounted = remount(alloc, &bytes, geometry)?;
-    let device = remounted.k.into_pm();
+    let mounted = mount_image(alloc, &bytes)?;
+    let device = mounted.k.into_pm();
     let image = device.choose(alloc, Choice::Newest)?;
     Ok(Left {
-        tree: remounted.tree,
+        tree: mounted.tree,
         image,
     })
 }

@@ -1,7 +1,5 @@
 //! The command `tree`: an image is checked and mounted, and the tree that it has is put.
-ghost use Rattle.std.specs.Prelude.{◌≡◌, IfErr, IfOk};
-ghost use Rattle.pm_words.specs.Words.{word_at};
-ghost use Rattle.disk_rules.specs.Rules.{geometry_of};
+ghost use Rattle.std.specs.Prelude.{IfErr, IfOk};
 ghost use Rattle.outside.specs.Outside.{Rose};
 ghost use Rattle.command_words.specs.Command as commands;
 ghost use Rattle.command_words.specs.Seen.{seen_image};
@@ -10,23 +8,21 @@ ghost use Rattle.split_top.specs.Jobs.{IsAnswer, IsUnopened};
 
 use crate::images::read_image;
 use crate::jobs::put_output;
+use crate::mounting::mount_image;
 use crate::opening::geometry_to_open;
 use command_words::Image;
 use exit_status::Status;
-use image_layout::Geometry;
-use k_mount::remount;
 use outside::{Files, Sink};
 use report_text::tree_text;
 use std::alloc::{AllocError, Global};
 
 /// The text of the tree of an image that can be opened.
-fn text_of(alloc: Global, bytes: &[u8], geometry: Geometry) -> Result<Vec<u8>, AllocError>
-    requires can_open { CanOpen bytes.now }
-    requires numbers { geometry_of (word_at bytes.now) ≡ geometry }
+fn text_of(alloc: Global, bytes: &[u8]) -> Result<Vec<u8>, AllocError>
+    requires { CanOpen bytes.now }
     ensures { IfOk result (λ output. IsTreeText bytes.now output.items) }
 {
-    let remounted = remount(alloc, bytes, geometry)?;
-    tree_text(alloc, &remounted.tree)
+    let mounted = mount_image(alloc, bytes)?;
+    tree_text(alloc, &mounted.tree)
 }
 
 /// The text of the tree of an image, or why there is none.
@@ -34,8 +30,8 @@ fn tree_of(alloc: Global, bytes: &[u8]) -> Result<Vec<u8>, Status>
     ensures output { IfOk result (λ output. IsTreeText bytes.now output.items) }
     ensures kind { IfErr result (IsUnopened bytes.now) }
 {
-    let geometry = geometry_to_open(alloc, bytes)?;
-    match text_of(alloc, bytes, geometry) {
+    let _geometry = geometry_to_open(alloc, bytes)?;
+    match text_of(alloc, bytes) {
         Ok(output) => Ok(output),
         Err(_) => Err(Status::NoMemory),
     }

@@ -1,7 +1,6 @@
-use Rattle.std.proofs.Common.{◌≡◌, ◌*◌, length, false, true}
+use Rattle.std.proofs.Common.{◌≡◌, ◌*◌, length}
 use Rattle.pm_words.specs.Images.{words_of}
 use Rattle.disk_rules.specs.Broken.{Breaks}
-use Rattle.split_top.specs.Images.{HasNoLive}
 use Rattle.split_top.proofs.Opened.{can-open, refused}
 use Rattle.split_top.proofs.opening.geometry_to_open.Goals as goal
 
@@ -9,11 +8,9 @@ pub returns-in-Err-Bad-clause-kind : goal.returns-in-Err-Bad-clause-kind
 returns-in-Err-Bad-clause-kind c =
     let d = c.in-Ok.pm in
     let breaks : Breaks (8 * length d) (words_of d) c.in-Err-Bad.bad.rule c.in-Err-Bad.bad.place = rw c.in-Err-Bad.field-0-is at c.in-Err-Bad.ensures.bad in
-    rw c.in-Err-Bad.field-0-is (refused c.args.bytes.now d c.in-Ok.ensures.size c.in-Ok.ensures.words c.in-Err-Bad.bad.rule c.in-Err-Bad.bad.place breaks)
+    refused c.args.bytes.now d c.in-Ok.ensures.size c.in-Ok.ensures.words c.in-Err-Bad.bad.rule c.in-Err-Bad.bad.place breaks
 
-pub returns-in-Ok-false-clause-can_open : goal.returns-in-Ok-false-clause-can_open
-returns-in-Ok-false-clause-can_open c =
+pub returns-in-Ok-check-clause-can_open : goal.returns-in-Ok-check-clause-can_open
+returns-in-Ok-check-clause-can_open c =
     let d = c.in-Ok.pm in
-    let live : ¬ HasNoLive (words_of d) → false ≡ true =
-    λ some. let is : c.in-Ok-false.field-0 ≡ true = c.in-Ok-false.ensures.1 some in cc (is, c.in-Ok-false.field-0-test) in
-    can-open c.args.bytes.now d c.in-Ok.ensures.size c.in-Ok.ensures.words c.in-Ok-check.ensures.ok live
+    can-open c.args.bytes.now d c.in-Ok.ensures.size c.in-Ok.ensures.words c.in-Ok-check.ensures.ok

@@ -1,32 +1,28 @@
+use Rattle.std.proofs.Common.{Err, subst}
 use Rattle.pm_words.specs.Words.{word_at}
+use Rattle.disk_rules.specs.Rules.{geometry_of}
+use Rattle.posix_types.specs.declared.call.Mode.{Mode}
+use Rattle.split_world.specs.Starts.{BeginsMounted}
+use Rattle.log_mount.specs.Mounts.{IsMountAnswer}
 use Rattle.split_top.proofs.Beginnings.{begins-on}
-use Rattle.split_top.proofs.Opened.{open-checked, open-dead, open-size}
-use Rattle.split_top.proofs.Results.{follows}
+use Rattle.split_top.proofs.Opened.{still-on, unbroken}
 use Rattle.split_top.proofs.runs.world_on.Goals as goal
 
-pub remount-requires-clause-size : goal.remount-requires-clause-size
-remount-requires-clause-size c = open-size c.args.image.now c.args.geometry c.requires.can_open c.requires.numbers
+pub mount-requires-clause-limits : goal.mount-requires-clause-limits
+mount-requires-clause-limits c = c.requires.runnable.limits
 
-pub remount-requires-clause-checked : goal.remount-requires-clause-checked
-remount-requires-clause-checked c = open-checked c.args.image.now c.args.geometry c.requires.can_open c.requires.numbers
+pub returns-in-Ok : goal.returns-in-Ok
+returns-in-Ok c =
+    let image = word_at c.args.image.now in
+    let begins : BeginsMounted (geometry_of image) image Mode.Strict c.args.scripts c.in-Ok.world = subst (λ f. BeginsMounted (geometry_of f) f Mode.Strict c.args.scripts c.in-Ok.world) c.in_ok-pm.ensures.words c.in-Ok.ensures.answer.1 in
+    begins-on c.args.image.now c.args.geometry c.requires.can_open c.requires.numbers c.args.scripts c.in-Ok.world c.requires.runnable begins
 
-pub remount-requires-clause-dead : goal.remount-requires-clause-dead
-remount-requires-clause-dead c = open-dead c.args.image.now c.args.geometry c.requires.can_open c.requires.numbers
+pub unreachable-requires : goal.unreachable-requires
+unreachable-requires c =
+    let answer = subst (λ fault. IsMountAnswer c.in_ok-pm.pm c.always-power.result c.mount.new.power (Err fault)) c.in-Err-Bad.field-0-is c.in-Err-Bad.ensures.answer in
+    unbroken c.args.image.now c.in_ok-pm.pm c.in_ok-pm.ensures.size c.in_ok-pm.ensures.words c.requires.can_open c.in-Err-Bad.field-0-0.rule c.in-Err-Bad.field-0-0.place answer.0
 
-pub over-requires-clause-on : goal.over-requires-clause-on
-over-requires-clause-on c = c.in_ok-remounted.ensures.rest.on
-
-pub over-requires-clause-unbatched : goal.over-requires-clause-unbatched
-over-requires-clause-unbatched c = c.in_ok-remounted.ensures.rest.unbatched
-
-pub over-requires-clause-mounted : goal.over-requires-clause-mounted
-over-requires-clause-mounted c = c.a_remounted_device_is_mounted.ensures.mounted c.args.geometry (word_at c.args.image.now) c.in_ok-remounted.remounted.k c.in_ok-remounted.remounted.tree c.in_ok-remounted.ensures
-
-pub over-requires-clause-limits : goal.over-requires-clause-limits
-over-requires-clause-limits c = c.requires.runnable.limits
-
-pub returns : goal.returns
-returns c =
-    follows c.over.result _ _
-    (λ w begins. begins-on c.args.image.now c.args.geometry c.requires.can_open c.requires.numbers c.in_ok-remounted.remounted.k c.in_ok-remounted.remounted.tree c.in_ok-remounted.ensures c.args.scripts w c.requires.runnable begins)
-    c.over.ensures
+pub unreachable-requires-in-Err-PowerLost : goal.unreachable-requires-in-Err-PowerLost
+unreachable-requires-in-Err-PowerLost c =
+    let answer = subst (λ fault. IsMountAnswer c.in_ok-pm.pm c.always-power.result c.mount.new.power (Err fault)) c.in-Err-PowerLost.field-0-is c.in-Err-PowerLost.ensures.answer in
+    still-on c.always-power.result c.mount.new.power c.always-power.ensures c.in-Err-PowerLost.ensures.spent.given answer.1

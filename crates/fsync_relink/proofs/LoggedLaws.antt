@@ -146,7 +146,7 @@ module _ (ino size : ℕ) (run : Run) (runs : List Run) (k l : View) (w : Volume
   sized-then : (inode w ino).size ≡ size_before runs size (inode k.volume ino).size
   sized-then = ap (λ (x : Inode). x.size) (line-file (is_free_in k) m k.volume w moved.displaced order.whole moves moved.moved)
 
-  relinked-images : Follows (IsCarried m k.volume w) k.cells l.cells
+  pub relinked-images : Follows (IsCarried (move_of ino (size_before runs size (inode k.volume ino).size) run) k.volume w) k.cells l.cells
   relinked-images = keeps-content m k l w blocks order unbatched moves whole moved changes
 
   -- of a first run that the log holds: carried out, and the content is the same
@@ -161,6 +161,19 @@ module _ (ino size : ℕ) (run : Run) (runs : List Run) (k l : View) (w : Volume
         left-logged ino size run runs k.volume w live may.rising logged sized-then (journaled before) d.0 refl d.1 d.2 d.3 out (out.files.size ino may.file.file),
         is.same d.0 same logged.sound next,
       )
+
+  -- its entry, what the log holds then, and the content
+  pub carried-entry : (before image : Words) → IsCarried (move_of ino (size_before runs size (inode k.volume ino).size) run) k.volume w before image
+      → IsLogged ino size (run ∷ runs) k.volume (live_entries k.volume (journaled before))
+      → (d : Draft) × ((d.ino ≡ ino) × CarriesOut k.volume w (journaled before) d) × IsLogged ino size runs w (live_entries w (journaled before))
+      × (content k.volume.geometry image ≡ content k.volume.geometry before)
+  carried-entry before image is logged =
+      let live = live_entries k.volume (journaled before) in
+      let d = first-entry ino size run runs k.volume w live may.rising logged sized-then in
+      let next = first-next ino size run runs k.volume w live may.rising logged sized-then d.0 d.1 d.2 d.3 in
+      let same = carries ino (size_before runs size (inode k.volume ino).size) run d.0 d.2 d.3 in
+      let first = carried-first before image is logged in
+      (d.0, (d.2, is.carried d.0 same logged.sound next), first.0, first.1)
 
   -- a relink that is done or cut off, of the first run
   pub first-images : Follows (HasSameContent ino size (run ∷ runs) k.volume) k.cells l.cells
@@ -214,7 +227,7 @@ stopped-images fault ino size (run ∷ runs) k l order unbatched may (inr (m, ga
 -- ---- the length alone
 
 -- where the log holds no run of the file, its length is the size
-no-runs : (ino size : ℕ) (v : Volume) (live : List Draft) → IsLogged ino size [] v live → (inode v ino).size ≡ size
+pub no-runs : (ino size : ℕ) (v : Volume) (live : List Draft) → IsLogged ino size [] v live → (inode v ino).size ≡ size
 no-runs ino size v live logged = by (latest (filter (λ (e : Draft). e.ino == ino) live)) refl where
   by : (o : Option Draft) → latest (filter (λ (e : Draft). e.ino == ino) live) ≡ o → (inode v ino).size ≡ size
   by None is = sym (ap (λ o. size_by o (inode v ino).size) is) ∙ logged.size_is
@@ -245,7 +258,7 @@ published-images ino size [] k l order unbatched may (inl same) = same-images in
 published-images ino size [] k l order unbatched may (inr resized) = resized-images ino size k l (Ok tt) resized
 published-images ino size (run ∷ runs) k l order unbatched may done = done-images ino size (run ∷ runs) k l order unbatched may done.1
 
-halted-images : (fault : KFault) (ino size : ℕ) (runs : List Run) (k l : View) → IsInOrder k → k.batched ≡ false → MayPublish ino size runs k → IsPublishStopped fault ino size runs k l
+pub halted-images : (fault : KFault) (ino size : ℕ) (runs : List Run) (k l : View) → IsInOrder k → k.batched ≡ false → MayPublish ino size runs k → IsPublishStopped fault ino size runs k l
     → Follows (HasSameContent ino size runs k.volume) k.cells l.cells
 halted-images fault ino size [] k l order unbatched may stopped = resized-images ino size k l (Err fault) stopped
 halted-images fault ino size (run ∷ runs) k l order unbatched may stopped = stopped-images fault ino size (run ∷ runs) k l order unbatched may stopped

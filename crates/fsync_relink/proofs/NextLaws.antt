@@ -107,7 +107,7 @@ module _ (ino size : ℕ) (run : Run) (runs : List Run) (k l : View) (order : Is
     kind = kind-same (is_free_in k) m k.volume l.volume gave.1.displaced order.whole moves gave.1.moved x ∙ is.kind;
   }
 
-  run-stays : (other : Run) → ShareNone run other → IsStagedRun k other → IsStagedRun l other
+  pub run-stays : (other : Run) → ShareNone run other → IsStagedRun k other → IsStagedRun l other
   run-stays other apart_runs was = record {
     staging = staging-stays other.staging was.staging;
     some = was.some;

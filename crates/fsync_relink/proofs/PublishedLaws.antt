@@ -51,7 +51,7 @@ module _ (ino size : ℕ) (run : Run) (runs : List Run) (k m : View) (order : Is
   moves = may-move ino size run runs k order may
 
   -- a staged block that the run has is in no staging file then
-  staged-goes : (x b : ℕ) → has_staged x b run ≡ true → disk_at (extents m.volume x) b ≡ None
+  pub staged-goes : (x b : ℕ) → has_staged x b run ≡ true → disk_at (extents m.volume x) b ≡ None
   staged-goes x b has =
       let both = and_parts (run.staging == x) (is_within run.staging_block run.count b) has in
       ap (λ y. disk_at (extents m.volume y) b) (sym (eqb-true run.staging x both.0))

@@ -1,2 +1,3 @@
 pub mod Publishes
 pub mod Logged
+pub mod Others

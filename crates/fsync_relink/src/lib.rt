@@ -16,5 +16,5 @@
 mod laws;
 mod publishing;
 
-pub use laws::overlays_show_what_the_log_holds;
-pub use publishing::publish;
+pub use laws::{a_publishing_leaves_others, overlays_show_what_the_log_holds};
+pub use publishing::{publish, publish_runs};

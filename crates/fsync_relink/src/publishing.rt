@@ -120,8 +120,16 @@ fn relink_each(
     Ok(Commit::Done)
 }
 
-// The runs are relinked; with none the file gets the length.
-fn carry_out(
+/// Publishes these runs of a file, as [`publish`] does those of an overlay. The power is on.
+///
+/// # Errors
+///
+/// Want of memory. Some first runs may be published then.
+///
+/// # Steps
+///
+/// At most 2^15 for each run, and 2^15.
+pub fn publish_runs(
     alloc: Global,
     k: &mut KSplit,
     runs: &[Run],
@@ -183,7 +191,7 @@ pub fn publish(
     if k.is_lost() || !power.on() {
         return Ok(Commit::PowerLost);
     }
-    let commit = match carry_out(alloc, k, overlay.runs(), ino, size, power) {
+    let commit = match publish_runs(alloc, k, overlay.runs(), ino, size, power) {
         Ok(commit) => commit,
         Err(error) => return Err(error),
     };

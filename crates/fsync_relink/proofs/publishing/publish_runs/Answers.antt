@@ -2,7 +2,7 @@ use Rattle.std.proofs.Common.{◌+◌, ◌*◌, length, arith}
 use Rattle.fsync_relink.proofs.LoggedLaws.{carried-images}
 use Rattle.fsync_relink.proofs.PublishedLaws.{each-carried, none-there, resized-carried, some-there}
 use Rattle.fsync_relink.proofs.WayLaws.{steps-within}
-use Rattle.fsync_relink.proofs.publishing.carry_out.Goals as goal
+use Rattle.fsync_relink.proofs.publishing.publish_runs.Goals as goal
 
 pub returns-then-is_empty-clause-steps : goal.returns-then-is_empty-clause-steps
 returns-then-is_empty-clause-steps c = steps-within 32768 (32768 * (length c.args.runs.now + 1)) c.args.power.now c.resize.new.power (omega arith) c.resize.ensures.steps

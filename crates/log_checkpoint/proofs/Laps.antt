@@ -1,0 +1,50 @@
+-- The next lap begins with nothing staged: what it asks for, and what is answered.
+use Rattle.std.proofs.Common.{◌≡◌, ◌≤◌, ◌+◌, ◌/◌, ◌^◌, ℕ, zero, suc, Result, Ok, Err, sym, ◌∙◌, subst, inr}
+use Rattle.std.specs.declared.alloc.AllocError.{AllocError}
+use Rattle.disk_rules.specs.Volume.{extents}
+use Rattle.extent_facts.specs.Covers.{covers-disk_at, disk_at-covers}
+use Rattle.file_table.specs.Files.{Files}
+use Rattle.fsync_relink.specs.Others.{GoesOn, KeepsRest}
+use Rattle.k_journal.specs.declared.outcomes.Commit.{Commit}
+use Rattle.k_map_plans.specs.Plans.{IsStagingFile}
+use Rattle.k_rules.specs.View.{View}
+use Rattle.k_split.specs.Laps.{HasNextLap, next_base}
+use Rattle.staging_files.proofs.GiveUpLaws.{staging-file}
+use Rattle.staging_files.specs.GivesUp.{AllStagedSingle, AreGivenUp}
+use Rattle.staging_files.specs.Keeps.{Staged}
+use Rattle.world_relinks.proofs.RelinkLaws.{has-chain}
+use Rattle.log_checkpoint.specs.Gathers.{AreAllDone, IsGatherAnswer, IsLapAnswer}
+
+-- ---- what it asks for, once all files are published
+
+-- words of staged blocks still have one candidate
+pub still-single : (k l : View) → KeepsRest k l → GoesOn k → AllStagedSingle k → AllStagedSingle l
+still-single k l rest on single x is i has =
+    let there : IsStagingFile x k.volume = staging-file k.volume x on.order.whole is in
+    let then : IsStagingFile x l.volume = staging-file l.volume x rest.goes_on.order.whole is in
+    let at = disk_at-covers (extents l.volume x) (i / 512) (has-chain l x rest.goes_on.order rest.goes_on.unbatched then.below).canonical has in
+    rest.singles i (single x is i (covers-disk_at (extents k.volume x) at.0 (i / 512) (rest.staged x at.0 (i / 512) there at.1)))
+
+pub base-same : (k l : View) → KeepsRest k l → next_base l.volume ≡ next_base k.volume
+base-same k l rest = λ i. rest.base i + (rest.numbers i).log
+
+pub still-next : (k l : View) → KeepsRest k l → HasNextLap k → HasNextLap l
+still-next k l rest next = subst (λ n. n ≤ 2 ^ 63) (sym (base-same k l rest)) next
+
+-- ---- once the staging files gave up their blocks
+
+pub given-on : (n : ℕ) (k l : View) → GoesOn k → AreGivenUp n k l → GoesOn l
+given-on zero k l on same = subst GoesOn (sym same) on
+given-on (suc n) k l on (middle, before, last) = record {
+  order = last.2.order;
+  unbatched = last.2.batched ∙ (given-on n k middle on before).unbatched;
+  on = last.2.kept_on;
+}
+
+-- ---- what is answered
+
+-- all files were published, and then it went on to this
+pub gathered : (t u : Files) (k published l : View) (s : Staged) (r : Result Commit AllocError) → AreAllDone t k u published → IsLapAnswer published s l r → IsGatherAnswer t k s u l r
+gathered t u k published l s (Ok Commit.Done) done lap = (published, done, lap)
+gathered t u k published l s (Ok Commit.PowerLost) done lap = inr (published, done, lap)
+gathered t u k published l s (Err e) done lap = inr (published, done, lap)

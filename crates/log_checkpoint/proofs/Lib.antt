@@ -1,0 +1,5 @@
+pub mod Sums
+pub mod Lines
+pub mod Laps
+pub mod Content
+pub mod EndContent

@@ -1,0 +1,26 @@
+-- A log that holds the runs of all files, and the content of the images of a gathering.
+use Rattle.std.specs.Prelude.{◌≡◌, ◌<◌, ℕ}
+use Rattle.pm_words.specs.Words.{Words}
+use Rattle.disk_lines.specs.declared.Draft.{Draft}
+use Rattle.disk_places.specs.Journal.{journaled}
+use Rattle.disk_rules.specs.Content.{content}
+use Rattle.disk_rules.specs.Live.{live_entries}
+use Rattle.disk_rules.specs.Rules.{IsOfNoLater}
+use Rattle.disk_rules.specs.Volume.{Volume}
+use Rattle.file_table.specs.Files.{Files, runs_in, size_in}
+use Rattle.fsync_relink.specs.Logged.{IsLogged}
+use Rattle.k_map_plans.specs.Plans.{IsLiveFile}
+use Rattle.list_facts.specs.Members.{In}
+
+-- THE LOG HOLDS THE RUNS OF ALL FILES: of each file just its runs are live, and it has the size of the table; no entry of
+-- anything else is live; and no line is a valid entry of a lap to come.
+pub record AreLogged (t : Files) (v : Volume) (f : Words) : Type 0 where
+  pub each : (ino : ℕ) → IsLiveFile ino v → IsLogged ino (size_in t ino) (runs_in t ino) v (live_entries v f)
+  pub files : (d : Draft) → In d (live_entries v f) → IsLiveFile d.ino v
+  pub no_later : (slot : ℕ) → slot < v.geometry.log → IsOfNoLater v f slot
+
+-- An image of a gathering, or of a part of it, beside the image before: where the log of that one holds the runs, the content
+-- is the same.
+abbrev pub KeepsLoggedContent : Files → Volume → Words → Words → Type 0
+KeepsLoggedContent t v before image =
+    AreLogged t v (journaled before) → content v.geometry image ≡ content v.geometry before

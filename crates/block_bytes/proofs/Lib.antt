@@ -4,5 +4,6 @@ pub mod Cells
 pub mod LinesZeroed
 pub mod Overwriting
 pub mod Reached
+pub mod ZeroCells
 pub mod Zeros
 pub mod Zeroing

@@ -1,12 +1,9 @@
 -- Zeros that are put into a block.
-use Rattle.std.specs.Prelude.{◌≡◌, ◌<◌, ℕ, ◌+◌, ◌-◌, ◌*◌, ◌/◌, true, List, [], ◌∷◌, length, slice_index, if◌then◌else◌, replicate}
+use Rattle.std.specs.Prelude.{◌≡◌, ◌<◌, ℕ, ◌+◌, ◌-◌, ◌*◌, ◌/◌, true, List, [], ◌∷◌, length, slice_index, if◌then◌else◌}
 use Rattle.std.specs.Int.{from_le_bytes, to_le_bytes, w64}
-use Rattle.std.proofs.Common.{arith, ap, ◌∙◌, inl, inr}
-use Rattle.std.proofs.lemmas.Bool.{cases_lt}
-use Rattle.std.proofs.lemmas.List.{get_or-replicate, get_or_past, length-replicate}
+use Rattle.std.proofs.Common.{arith, ap, ◌∙◌}
 use Rattle.std.proofs.lemmas.Bool.Decides.{nat_tests}
-use Rattle.pm_words.specs.Bytes.{word_at-past, word_at-same}
-use Rattle.pm_words.specs.Words.{word_at, Words}
+use Rattle.pm_words.specs.Words.{Words}
 use Rattle.block_bytes.specs.Puts.{is_in, is_reached, put_byte, put_word, with_bytes}
 
 module _ (zeros : List ℕ) (size : length zeros ≡ 4096) (all : (n : ℕ) → n < 4096 → slice_index zeros n ≡ 0) (block i : ℕ) (at : i / 512 ≡ block) where
@@ -28,13 +25,3 @@ module _ (zeros : List ℕ) (size : length zeros ≡ 4096) (all : (n : ℕ) → 
       ∙ (λ n. from_le_bytes w64
       (zero_byte (f i) 0 (omega arith) n ∷ zero_byte (f i) 1 (omega arith) n ∷ zero_byte (f i) 2 (omega arith) n ∷ zero_byte (f i) 3 (omega arith) n
       ∷ zero_byte (f i) 4 (omega arith) n ∷ zero_byte (f i) 5 (omega arith) n ∷ zero_byte (f i) 6 (omega arith) n ∷ zero_byte (f i) 7 (omega arith) n ∷ []))
-
--- a word of zeros
-zero_at : (n k : ℕ) → slice_index (replicate n 0) k ≡ 0
-zero_at n k = elim (cases_lt k n) [
-  | inl below ↦ get_or-replicate {A = ℕ} n k 0 0 below
-  | inr past ↦ get_or_past (replicate n 0) k 0 (omega (arith, past, length-replicate {A = ℕ} n 0))
-]
-
-pub zeros_word : (n i : ℕ) → word_at (replicate n 0) i ≡ 0
-zeros_word n i = word_at-same (replicate n 0) [] i 0 (λ k below. zero_at n (8 * i + k)) ∙ word_at-past [] 0 (omega arith)

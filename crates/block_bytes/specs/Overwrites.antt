@@ -1,7 +1,8 @@
 -- Bytes of a file that are written over in place, in the blocks of its map.
 use Rattle.std.specs.Prelude.{◌≡◌, ◌≢◌, ◌⊎◌, ◌≤◌, ◌<◌, ℕ, ◌+◌, ◌-◌, ◌*◌, ◌/◌, ◌%◌, true, IsSome, List, length, max, min, take, drop, Some, slice_index}
 use Rattle.pm_words.specs.declared.Cell.{Cell}
-use Rattle.pm_words.specs.Cells.{cell, is_single}
+use Rattle.pm_words.specs.declared.Cell.TheVariants.{Single}
+use Rattle.pm_words.specs.Cells.{cell, has_two, is_single, newest, oldest}
 use Rattle.pm_words.specs.Words.{byte_of, Words}
 use Rattle.extent_words.specs.declared.Extent.{Extent}
 use Rattle.extent_words.specs.Extents.{disk_at}
@@ -110,3 +111,18 @@ SameBesideLines first count before image = (i : ℕ) → ¬ IsInLines first coun
 pub record AreLinesZeroed (first count : ℕ) (before image : Words) : Type 0 where
   pub zero : (i : ℕ) → IsInLines first count i → image i ≡ 0
   pub others : SameBesideLines first count before image
+
+-- the word has two candidates: the one that it had, and then 0
+pub record HasZeroToo (old new : Cell) : Type 0 where
+  pub two : has_two new ≡ true
+  pub older : oldest new ≡ oldest old
+  pub newer : newest new ≡ 0
+
+-- a word on its way to zero: it is as it was, or 0 stands behind it
+abbrev pub GoesToZero : Cell → Cell → Type 0
+GoesToZero old new = (new ≡ old) ⊎ HasZeroToo old new
+
+-- How far lines have come that are set to zero: each of their words is on its way; or all have come, and are durable.
+abbrev pub AreGoingToZero : ℕ → ℕ → List Cell → List Cell → Type 0
+AreGoingToZero first count old new =
+    ((i : ℕ) → IsInLines first count i → GoesToZero (cell old i) (cell new i)) ⊎ ((i : ℕ) → IsInLines first count i → cell new i ≡ Single 0)

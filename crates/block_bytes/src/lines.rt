@@ -1,13 +1,33 @@
 //! Lines set to zero.
-ghost use Rattle.std.specs.Prelude.{◌≡◌, ◌+◌, ◌*◌, ◌^◌, ◌≤◌, ◌<◌, ℕ, true, false, length};
+ghost use Rattle.std.specs.Prelude.{◌≡◌, ◌≢◌, ◌+◌, ◌*◌, ◌/◌, ◌^◌, ◌≤◌, ◌<◌, ℕ, true, false, length};
 ghost use Rattle.pm_words.specs.declared.Cell.TheVariants.{Single};
 ghost use Rattle.pm_words.specs.Cells.{cell, fenced, Settles};
-ghost use Rattle.pm_words.specs.Frames.{KeepsSingle, SameLent};
+ghost use Rattle.pm_words.specs.Frames.{KeepsSingle, LineIsSingle, SameLent};
 ghost use Rattle.pm_words.specs.Images.{Follows};
 ghost use Rattle.pm_words.specs.Powers.{is_on, Steps};
-ghost use Rattle.block_bytes.specs.Overwrites.{AreLinesZeroed, IsInLines, MayZeroLines, SameBesideLines};
+ghost use Rattle.block_bytes.specs.Overwrites.{AreGoingToZero, AreLinesZeroed, GoesToZero, IsInLines, MayZeroLines, SameBesideLines};
 
 use pm_lines::{Pm, Power};
+
+// Stores zeros into the words of a line, and flushes it. The next fence makes them durable.
+fn store_line(pm: &mut Pm, power: &mut Power, line: u64)
+    requires in_device { line < length pm.old / 8 }
+    requires single { LineIsSingle line pm.old }
+    ensures size { length pm.new ≡ length pm.old }
+    ensures lent { SameLent pm.old pm.new }
+    ensures steps { Steps 9 power.old power.new }
+    ensures others { (i : ℕ) → i / 8 ≢ line → cell pm.new i ≡ cell pm.old i }
+    ensures going { (i : ℕ) → i / 8 ≡ line → GoesToZero (cell pm.old i) (cell pm.new i) }
+    ensures done { is_on power.new ≡ true → (i : ℕ) → i / 8 ≡ line
+        → fenced (cell pm.new i) ≡ Single 0 }
+{
+    // It bounds the words' numbers.
+    let _ = pm.words();
+    for k in 0..8 {
+        pm.store_word(power, 8 * line + k, 0);
+    }
+    pm.flush(power, line);
+}
 
 // Stores and flushes zeros into the lines.
 fn store_lines(pm: &mut Pm, power: &mut Power, first: u64, count: u64)
@@ -17,11 +37,12 @@ fn store_lines(pm: &mut Pm, power: &mut Power, first: u64, count: u64)
     ensures lent { SameLent pm.old pm.new }
     ensures steps { Steps (9 * count) power.old power.new }
     ensures others { (i : ℕ) → ¬ IsInLines first count i → cell pm.new i ≡ cell pm.old i }
+    ensures going { (i : ℕ) → IsInLines first count i → GoesToZero (cell pm.old i) (cell pm.new i) }
     ensures done { is_on power.new ≡ true → (i : ℕ) → IsInLines first count i
         → fenced (cell pm.new i) ≡ Single 0 }
 {
     for line in first..first + count {
-        pm.write_line(power, line, &[0; 64]);
+        store_line(pm, power, line);
     }
 }
 
@@ -41,6 +62,9 @@ pub fn zero_lines(pm: &mut Pm, power: &mut Power, first: u64, count: u64)
     // Wherever the power goes, each image is one of those before, but for words of the lines.
     ensures each_image { Follows (SameBesideLines first count) pm.old pm.new }
     ensures others { (i : ℕ) → ¬ IsInLines first count i → Settles (cell pm.old i) (cell pm.new i) }
+
+    // And each of those is on its way to zero, or all are zero, and durable.
+    ensures words { AreGoingToZero first count pm.old pm.new }
 
     // With power left each of their words is zero, and durable.
     ensures durable { is_on power.new ≡ true → Follows (AreLinesZeroed first count) pm.old pm.new }

@@ -5,8 +5,7 @@
 //! place. A pending journal is read through; nothing is written. Want of memory is the only other
 //! answer.
 //!
-//! `live_log` gives the entries of the log of a checked image that recovery has to carry out, and
-//! `has_live` says whether there is one.
+//! `live_log` gives the entries of the log of a checked image that recovery has to carry out.
 //!
 //! `crash_image` gives the image that a power loss leaves of a device, by a choice, in which no
 //! torn line of the log passes its check by chance.
@@ -28,5 +27,5 @@ mod rules;
 
 pub use checking::check;
 pub use crashes::crash_image;
-pub use recovery::{has_live, live_log};
+pub use recovery::live_log;
 pub use volume_check::{BadImage, CheckFault};

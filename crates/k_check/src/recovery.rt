@@ -1,5 +1,5 @@
 //! What recovery has to carry out of the log of a checked image.
-ghost use Rattle.std.specs.Prelude.{◌≡◌, ◌≢◌, ◌↔◌, ◌*◌, ◌%◌, ◌<◌, ◌^◌, [], length, IsTrue, IfOk};
+ghost use Rattle.std.specs.Prelude.{◌≡◌, ◌*◌, ◌%◌, ◌<◌, ◌^◌, length, IfOk};
 ghost use Rattle.disk_places.specs.Journal.{journaled};
 ghost use Rattle.disk_rules.specs.Live.{live_entries};
 ghost use Rattle.disk_rules.specs.Rules.{geometry_of, IsChecked};
@@ -31,18 +31,4 @@ pub fn live_log(alloc: Global, pm: &Pm) -> Result<Vec<Draft>, AllocError>
         }
         Err(_) => unreachable!(),
     }
-}
-
-/// Whether the log of a checked image has a live entry, which recovery would have to carry out. A
-/// pending journal is read through; nothing is written. Want of memory is the only error.
-pub fn has_live(alloc: Global, pm: &Pm) -> Result<bool, AllocError>
-    requires home { AllHome pm.now }
-    requires whole { length pm.now % 512 ≡ 0 }
-    requires fits { 8 * length pm.now < 2 ^ 64 }
-    requires checked { IsChecked (8 * length pm.now) (words_of pm.now) }
-    ensures { IfOk result (λ live. let f = words_of pm.now in
-        IsTrue live ↔ (live_entries (volume (geometry_of f) (journaled f)) (journaled f) ≢ [])) }
-{
-    let live = live_log(alloc, pm)?;
-    Ok(!live.is_empty())
 }

@@ -56,14 +56,14 @@ passed old new ino has named = record {
   named = λ i below. elim (cases_eq i ino) [ inl same ↦ subst (λ n. ¬ IsNameless new.volume n) (sym same) named | inr other ↦ has.named i (omega (arith, below, other)) ];
 }
 
-used_below : (v : Volume) (ino : ℕ) → (inode v ino).kind ≡ File → ino < length v.inodes
+pub used_below : (v : Volume) (ino : ℕ) → (inode v ino).kind ≡ File → ino < length v.inodes
 used_below v ino file = elim (cases_lt ino (length v.inodes)) [
   | inl below ↦ below
   | inr past ↦ let never : File ≡ Free = sym file ∙ ap (λ x. x.kind) (get_or_past v.inodes ino free_inode past) in cc
 ]
 
 -- one goes
-sheds_more : (v w : Volume) (c : ℕ) → Sheds v w → HasAllMaps w → IsNameless w c → Sheds v (dropped c w)
+pub sheds_more : (v w : Volume) (c : ℕ) → Sheds v w → HasAllMaps w → IsNameless w c → Sheds v (dropped c w)
 sheds_more v w c sheds all nameless = record {
   geometry = sheds.geometry;
   base = sheds.base;
@@ -114,7 +114,7 @@ counted v whole =
     (record { chains = λ ino below. whole.chains ino; files = λ ino below. whole.kept.kept.in_data ino (omega (arith, below, whole.kept.all.inode_count)) })
     (λ b is. whole.kept.kept.once b is)
 
-frees_more : (w : Volume) (c : ℕ) → IsWhole w → IsWhole (dropped c w) → c < length w.inodes → unused_blocks w ≤ unused_blocks (dropped c w)
+pub frees_more : (w : Volume) (c : ℕ) → IsWhole w → IsWhole (dropped c w) → c < length w.inodes → unused_blocks w ≤ unused_blocks (dropped c w)
 frees_more w c whole after below =
     omega (arith, counted w whole, counted (dropped c w) after, held-set w c (gone_node (inode w c)) [] [] below whole.maps)
 

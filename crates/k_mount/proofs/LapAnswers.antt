@@ -1,5 +1,5 @@
 -- The next lap of the log begins: what K-Split answers, with power for all of it.
-use Rattle.std.specs.Prelude.{◌≡◌, ◌⊎◌, ◌≤◌, ◌<◌, ◌^◌, ◌/◌, ℕ, true, false, List, refl}
+use Rattle.std.specs.Prelude.{◌≡◌, ◌≤◌, ◌<◌, ◌^◌, ◌/◌, ℕ, true, false, List}
 use Rattle.std.proofs.Common.{◌∙◌, sym, ap, subst, arith, inl, inr}
 use Rattle.std.proofs.lemmas.Bool.{cases_lt}
 use Rattle.pm_words.specs.declared.Cell.{Cell}
@@ -10,8 +10,7 @@ use Rattle.pm_words.specs.ImageLaws.{IsImage-words_of}
 use Rattle.pm_words.specs.Images.{words_of}
 use Rattle.disk_places.specs.Journal.{is_journal_word}
 use Rattle.disk_places.specs.PlaceLaws.{behind_log-not_journaled, behind_log-words}
-use Rattle.disk_places.specs.Places.{Geometry, is_journaled_line}
-use Rattle.disk_rules.specs.Reading.{base_set}
+use Rattle.disk_places.specs.Places.{is_journaled_line}
 use Rattle.disk_rules.specs.Volume.{Volume}
 use Rattle.k_journal.specs.declared.outcomes.Commit.{Commit}
 use Rattle.k_rules.specs.View.{View}

@@ -1,4 +1,5 @@
 pub mod Checked
+pub mod Devices
 pub mod Dropping
 pub mod LapAnswers
 pub mod LapImages
@@ -6,4 +7,8 @@ pub mod Opened
 pub mod Recovered
 pub mod Remounting
 pub mod Same
-pub mod Settling
+pub mod OwnImage
+pub mod DropImages
+pub mod Shown
+pub mod RestartImages
+pub mod SettleImages

@@ -1,5 +1,5 @@
--- The tree of a device that was opened again is that of the image's content.
-use Rattle.std.proofs.Common.{◌≡◌, ℕ, ◌+◌, ◌*◌, ◌/◌, ◌<◌, ◌≤◌, true, false, List, [], Some, Result, Ok, Err, IfOk, option_map, refl, sym, ◌∙◌, ap, subst, arith, inl, inr}
+-- A device that was recovered from an image, and of which nameless files are gone: it is checked, and shows the content of the image.
+use Rattle.std.proofs.Common.{◌≡◌, ℕ, ◌+◌, ◌*◌, ◌/◌, ◌<◌, ◌≤◌, true, false, List, [], Some, refl, sym, ◌∙◌, ap, subst, arith, inl, inr}
 use Rattle.std.proofs.lemmas.Bool.{cases_lt}
 use Rattle.std.proofs.lemmas.List.{get_or_past}
 use Rattle.pm_words.specs.declared.Cell.TheVariants.{Single}
@@ -28,23 +28,14 @@ use Rattle.volume_uses.specs.PoolLaws.{covered-in_data}
 use Rattle.volume_facts.specs.ImageLaws.{journaled-other}
 use Rattle.image_facts.specs.CheckedLaws.{head-checked, parts-checked, reads-checked}
 use Rattle.volume_changes.specs.CallLaws.{root-directory}
-use Rattle.k_content.specs.Trees.{tree_content, tree_node}
 use Rattle.k_rules.specs.Stands.{Stands}
 use Rattle.k_rules.specs.View.{View}
-use Rattle.posix_types.specs.declared.tree.TreeEntry.{TreeEntry}
-use Rattle.posix_trees.specs.TreeOf.{IsTreeOf, IsTreeOf-agree}
-use Rattle.world_rules.specs.Shown.{IsTreeOfContent}
 use Rattle.world_images.specs.Changed.{sound_headed}
 use Rattle.k_mount.specs.Laws.{IsCheckedToo, IsRecovered}
 use Rattle.k_mount.specs.Sheds.{IsAtRest, SameOutside, Sheds}
 use Rattle.k_mount.proofs.Checked.{checked_now, dead_now, numbers_now}
 use Rattle.k_mount.proofs.Recovered.{recovers_checked}
-use Rattle.k_mount.proofs.Same.{shows_the_same, trees_are_of_content}
-
--- what follows from a fact on the value that a call returned
-pub follows : {T E : Type 0} (r : Result T E) (P Q : T → Type 0) → ((x : T) → P x → Q x) → IfOk r P → IfOk r Q
-follows (Ok x) P Q imply h = imply x h
-follows (Err e) P Q imply h = h
+use Rattle.k_mount.proofs.Same.{shows_the_same}
 
 a_directory : (kind : Kind) → is_directory kind ≡ true → kind ≡ Directory
 a_directory Free is = cc
@@ -97,18 +88,10 @@ module _ (g : Geometry) (image : Words) (k k2 : View) (numbers : geometry_of ima
         shows_the_same k.volume k2.volume f path sheds (a_directory (inode k.volume 0).kind (root-directory k.volume rest.order.whole.kept))
         ∙ ap (λ c. c path) (found-same k.volume [] (journaled image) f same_data)
 
-  shown : (path : List (List ℕ)) → found k2.volume [] (words_of k2.cells) path ≡ found k.volume [] (journaled image) path
-  shown path = shown_in (words_of k2.cells) (λ b j within below. refl) path
-
   -- the content of the image, where no entry is live
   pub content_of_image : live_entries (volume g (journaled image)) (journaled image) ≡ [] → (path : List (List ℕ)) → content g image path ≡ found k.volume [] (journaled image) path
   content_of_image dead path =
       ap (λ live. found (volume g (journaled image)) live (journaled image) path) dead ∙ ap (λ v. found v [] (journaled image) path) (sym volume_is)
-
-  pub tree_of_image : (left : List TreeEntry) → live_entries (volume g (journaled image)) (journaled image) ≡ [] → IsTreeOf (tree_content (found k2.volume [] (words_of k2.cells))) left → IsTreeOfContent (content g image) left
-  tree_of_image left dead listed = trees_are_of_content (content g image) left (IsTreeOf-agree (tree_content (found k2.volume [] (words_of k2.cells))) (tree_content (content g image)) left agree listed) where
-    agree : (path : List (List ℕ)) → tree_content (content g image) path ≡ tree_content (found k2.volume [] (words_of k2.cells)) path
-    agree path = ap (option_map tree_node) (content_of_image dead path ∙ sym (shown path))
 
   -- ---- the device is checked again
 

@@ -12,7 +12,7 @@ use Rattle.disk_rules.specs.Checked.{IsCheckedAs}
 use Rattle.disk_rules.specs.Content.{content, found}
 use Rattle.disk_rules.specs.Live.{live_entries}
 use Rattle.disk_rules.specs.Reading.{base_set}
-use Rattle.disk_rules.specs.Rules.{geometry_of, IsChecked}
+use Rattle.disk_rules.specs.Rules.{geometry_of}
 use Rattle.disk_rules.specs.Volume.{Volume, volume}
 use Rattle.block_bytes.specs.Overwrites.{IsInLines}
 use Rattle.k_rules.specs.View.{View}

@@ -1,9 +1,10 @@
--- Volumes of which some nameless files are gone, and what a remount leaves.
+-- Volumes of which some nameless files are gone, and what is left of a device that is settled.
 use Rattle.std.specs.Prelude.{◌≡◌, ◌⊎◌, ◌≤◌, ◌/◌, ◌*◌, ℕ, false, List, [], length}
 use Rattle.pm_words.specs.declared.Cell.{Cell}
 use Rattle.pm_words.specs.declared.Cell.TheVariants.{Single}
 use Rattle.pm_words.specs.Cells.{AllSingle, cell}
-use Rattle.pm_words.specs.Images.{words_of}
+use Rattle.pm_words.specs.Frames.{SameLent}
+use Rattle.pm_words.specs.Images.{IsImage, words_of}
 use Rattle.pm_words.specs.Words.{Words}
 use Rattle.disk_places.specs.Journal.{is_journal_word, journaled}
 use Rattle.disk_places.specs.Places.{Geometry, is_journaled_line}
@@ -11,6 +12,7 @@ use Rattle.disk_lines.specs.declared.Kind.TheVariants.{File}
 use Rattle.disk_lines.specs.Names.{names_of}
 use Rattle.disk_rules.specs.Checked.{IsCheckedAs}
 use Rattle.disk_rules.specs.Content.{content}
+use Rattle.disk_rules.specs.Honest.{IsHonest}
 use Rattle.disk_rules.specs.Live.{live_entries}
 use Rattle.disk_rules.specs.Reading.{base_set}
 use Rattle.disk_rules.specs.Room.{unused_blocks}
@@ -19,10 +21,9 @@ use Rattle.disk_rules.specs.Volume.{chain, extents, inode, Volume, volume}
 use Rattle.k_journal.specs.declared.outcomes.Commit.{Commit}
 use Rattle.k_rules.specs.Changes.{dropped, gone_node}
 use Rattle.k_rules.specs.View.{View}
+use Rattle.k_split.specs.Answers.{IsCut, IsOff}
 use Rattle.k_split.specs.Laps.{IsLogWord}
 use Rattle.k_split.specs.Order.{IsInOrder}
-use Rattle.posix_types.specs.declared.tree.TreeEntry.{TreeEntry}
-use Rattle.world_rules.specs.Shown.{IsTreeOfContent}
 use Rattle.world_images.specs.Images.{HasNoEntry}
 use Rattle.k_mount.specs.NextLaps.{IsNextLap}
 
@@ -82,6 +83,10 @@ IsShedOne ino old new =
     ((¬ IsNameless old.volume ino) × (new ≡ old))
     ⊎ (IsNameless old.volume ino × IsAtRest new × (new.volume ≡ dropped ino old.volume) × SameOutside old.volume.geometry old.cells new.cells)
 
+-- the power went while one was dropped, or before
+abbrev pub IsShedCut : ℕ → View → View → Type 0
+IsShedCut ino old new = IsNameless old.volume ino × (IsOff old new ⊎ IsCut (dropped ino old.volume) old new)
+
 -- ALL NAMELESS FILES ARE GONE, and their blocks are free.
 pub record LosesNameless (old new : View) : Type 0 where
   pub rest : IsAtRest new
@@ -95,6 +100,26 @@ abbrev pub OnCommit : Commit → Type 0 → Type 0
 OnCommit Commit.Done P = P
 OnCommit Commit.PowerLost P = Unit {0}
 
+-- where the power went
+abbrev pub OnLost : Commit → Type 0 → Type 0
+OnLost Commit.Done P = Unit {0}
+OnLost Commit.PowerLost P = P
+
+-- The device has as many words as before, and the same of them are lent.
+pub record IsSameDevice (old new : List Cell) : Type 0 where
+  pub size : length new ≡ length old
+  pub lent : SameLent old new
+
+-- An image beside one before: it is a checked image with the same numbers and the same content.
+pub record StillShows (g : Geometry) (before image : Words) : Type 0 where
+  pub numbers : geometry_of image ≡ g
+  pub checked : IsChecked (4096 * g.blocks) image
+  pub same : (path : List (List ℕ)) → content g image path ≡ content g before path
+
+-- each honest image of a device still shows what the image before did
+abbrev pub StaysShown : Geometry → Words → List Cell → Type 0
+StaysShown g before d = (image : Words) → IsImage d image → IsHonest g (cell d) image → StillShows g before image
+
 -- WHAT IS LEFT OF A DEVICE, beside an image that it showed: K-Split is at rest, each file has a name, and nothing but nameless files
 -- is gone. The next lap of the log began, and no line of it is an entry. The device is a checked image, with the content of the one
 -- before, and no word of a data block changed.
@@ -104,22 +129,6 @@ pub record IsSettled (g : Geometry) (image : Words) (k : View) : Type 0 where
   pub sheds : Sheds (base_set k.volume.base (volume g (journaled image))) k.volume
   pub lap : IsNextLap (volume g (journaled image)) image k
   pub no_entry : HasNoEntry k.volume (journaled (words_of k.cells))
-  pub shows : (path : List (List ℕ)) → content g (words_of k.cells) path ≡ content g image path
-  pub numbers : geometry_of (words_of k.cells) ≡ g
-  pub checked : IsCheckedAs (4096 * g.blocks) (words_of k.cells) k.volume
-  pub words : (i : ℕ) → is_journal_word i ≡ false → is_journaled_line g (i / 8) ≡ false → ¬ IsLogWord (volume g (journaled image)) i
-      → cell k.cells i ≡ Single (image i)
-
--- WHAT A REMOUNT LEAVES of an image: K-Split is at rest, each file has a name, nothing but nameless files is gone, and the
--- tree is that of the image's content. The next lap of the log began, and no line of it is an entry. The device is a checked
--- image again, with the content of the one before, and no word of a data block changed.
-pub record IsRemounted (g : Geometry) (image : Words) (k : View) (tree : List TreeEntry) : Type 0 where
-  pub rest : IsAtRest k
-  pub named : AllNamed k.volume
-  pub sheds : Sheds (base_set k.volume.base (volume g (journaled image))) k.volume
-  pub lap : IsNextLap (volume g (journaled image)) image k
-  pub no_entry : HasNoEntry k.volume (journaled (words_of k.cells))
-  pub tree_is : IsTreeOfContent (content g image) tree
   pub shows : (path : List (List ℕ)) → content g (words_of k.cells) path ≡ content g image path
   pub numbers : geometry_of (words_of k.cells) ≡ g
   pub checked : IsCheckedAs (4096 * g.blocks) (words_of k.cells) k.volume

@@ -1,10 +1,10 @@
-//! An image that a power loss left, opened again: the first form of mounting.
+//! What ends a mount: nameless files go, and the log's next lap begins.
 //!
-//! `remount` recovers the journal of a checked image, opens K-Split on it, lets files go that no name leads to,
-//! and begins the log's next lap. The layer above may rely on this (`IsRemounted`): the tree is that of the
-//! image's content; K-Split is in order with all words single; each file has a name, and nothing else is gone
-//! (`Sheds`); no line of the log is an entry; the device is a checked image again, with the same content. It
-//! reads no log: the image has no live entry. The power that it makes for it lasts.
+//! `settle` is for a device of whose log no entry is live. The layer above may rely on this (`IsSettled`): K-Split
+//! is in order with all words single; each file has a name, and nothing else is gone (`Sheds`); no line of the log
+//! is an entry; the device is a checked image, with the content that it had. Wherever the power goes, each honest
+//! image is checked and has that content (`StaysShown`). Its two parts, `drop_nameless` and `begin_lap`, stand
+//! alone too. All go with the power that they are given.
 //!
 //! Stands on `k_split`, and on the laws of images of `world_images`.
 #![tactic(auto)]
@@ -13,11 +13,11 @@ ghost use Rattle.k_mount.specs.Laws.{RecoversChecked, ShowsTheSame, TreesAreOfCo
 
 mod laps;
 mod nameless;
-mod remounts;
+mod settling;
 
 pub use laps::begin_lap;
 pub use nameless::drop_nameless;
-pub use remounts::{Remounted, open_image, remount, settle};
+pub use settling::settle;
 
 /// A recovered device is checked where the image was; nameless files are in no tree; and a tree of a content is
 /// one as the World speaks of it.

@@ -1,8 +1,9 @@
 //! Files without a name go.
 ghost use Rattle.std.specs.Prelude.{◌≡◌, ◌↔◌, ◌*◌, true, IsTrue};
+ghost use Rattle.pm_words.specs.Images.{Follows};
 ghost use Rattle.pm_words.specs.Powers.{is_on, Steps};
 ghost use Rattle.k_split.specs.Answers.{IsCommitPaid};
-ghost use Rattle.k_mount.specs.Sheds.{IsAtRest, IsNameless, IsShedOne, LosesNameless, OnCommit};
+ghost use Rattle.k_mount.specs.Sheds.{IsAtRest, IsNameless, IsSameDevice, IsShedCut, IsShedOne, LosesNameless, MaySettle, OnCommit, OnLost, StillShows};
 
 use k_inodes::Kind;
 use k_journal::Commit;
@@ -29,6 +30,8 @@ fn drop_if_nameless(k: &mut KSplit, ino: u32, power: &mut Power) -> Commit
     ensures steps { Steps 256 power.old power.new }
     ensures paid { IsCommitPaid power.new result }
     ensures done { OnCommit result (IsShedOne ino k.old k.new) }
+    ensures lost { OnLost result (IsShedCut ino k.old k.new) }
+    ensures device { IsSameDevice k.old.cells k.new.cells }
 {
     if !is_nameless(k, ino) {
         return Commit::Done;
@@ -41,12 +44,15 @@ fn drop_if_nameless(k: &mut KSplit, ino: u32, power: &mut Power) -> Commit
 }
 
 /// Lets all files go to which no name leads, each by a change of its own. Their blocks are free then. It takes no
-/// memory, and at most 256 steps an inode. `PowerLost` comes exactly where the power is off at the return.
+/// memory, and at most 256 steps an inode. `PowerLost` comes exactly where the power is off at the return. Done
+/// or not, each image has the content of the image before.
 pub fn drop_nameless(k: &mut KSplit, power: &mut Power) -> Commit
-    requires { IsAtRest k.old }
+    requires { MaySettle k.old }
     ensures steps { Steps (256 * k.old.volume.geometry.inodes) power.old power.new }
     ensures paid { IsCommitPaid power.new result }
     ensures done { OnCommit result (LosesNameless k.old k.new) }
+    ensures images { Follows (StillShows k.old.volume.geometry) k.old.cells k.new.cells }
+    ensures device { IsSameDevice k.old.cells k.new.cells }
 {
     if !power.on() {
         return Commit::PowerLost;

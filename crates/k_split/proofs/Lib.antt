@@ -6,7 +6,7 @@ mod Fills
 mod FreshDevices
 mod LandLaws
 pub mod LoanLaws
-mod LogLaws
+pub mod LogLaws
 mod LogOut
 mod LookLaws
 mod MapAnswers

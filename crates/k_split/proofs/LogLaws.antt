@@ -12,7 +12,7 @@ use Rattle.disk_places.specs.PlaceLaws.{behind_log-not_journaled, behind_log-wor
 use Rattle.disk_places.specs.Places.{commit_word, is_data_block, is_journaled_line, log_line}
 use Rattle.disk_rules.specs.Placed.{block_at}
 use Rattle.disk_rules.specs.Volume.{chain, Volume}
-use Rattle.block_bytes.specs.Overwrites.{AreLinesZeroed, IsInLines, SameBesideLines}
+use Rattle.block_bytes.specs.Overwrites.{AreGoingToZero, AreLinesZeroed, IsInLines, SameBesideLines}
 use Rattle.pm_words.specs.Frames.{KeepsSingle, SameLent}
 use Rattle.pm_words.specs.Images.{Follows}
 use Rattle.volume_facts.specs.ImageLaws.{journaled-same}
@@ -61,13 +61,13 @@ module _ (v : Volume) where
 abbrev Zeroed : ℕ → ℕ → List Cell → List Cell → Type 0
 Zeroed first count d e =
     Follows (SameBesideLines first count) d e × ((i : ℕ) → ¬ IsInLines first count i → Settles (cell d i) (cell e i))
-    × Follows (AreLinesZeroed first count) d e
+    × Follows (AreLinesZeroed first count) d e × AreGoingToZero first count d e
 
 pub cleared : (v : Volume) (d e : List Cell) (first count : ℕ) → first ≡ log_line v.geometry 0 → count ≡ v.geometry.log → length e ≡ length d → SameLent d e
     → Zeroed first count d e → KeepsSingle d e → ClearsLog v d e
 cleared v d e first count from many size lent zeroed singles =
     let z : Zeroed (log_line v.geometry 0) v.geometry.log d e = subst (λ m. Zeroed (log_line v.geometry 0) m d e) many (subst (λ n. Zeroed n count d e) from zeroed) in
-    record { loses = record { size = size; lent = lent; each_image = z.0; others = z.1 }; zero = z.2; singles = singles }
+    record { loses = record { size = size; lent = lent; each_image = z.0; others = z.1; words = z.3 }; zero = z.2; singles = singles }
 
 -- K-Split is ready again.
 pub ready_cleared : (t : TablesView) (d e : List Cell) (batched lost now : Bool) (b : List Entry) → IsReady (view_of t d batched lost) b

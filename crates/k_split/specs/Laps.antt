@@ -4,7 +4,7 @@ use Rattle.pm_words.specs.declared.Cell.{Cell}
 use Rattle.pm_words.specs.Cells.{cell, is_single, Settles}
 use Rattle.pm_words.specs.Frames.{KeepsSingle, SameLent}
 use Rattle.pm_words.specs.Images.{Follows}
-use Rattle.block_bytes.specs.Overwrites.{AreLinesZeroed, IsInLines, SameBesideLines}
+use Rattle.block_bytes.specs.Overwrites.{AreGoingToZero, AreLinesZeroed, IsInLines, SameBesideLines}
 use Rattle.disk_places.specs.Places.{log_line}
 use Rattle.disk_rules.specs.Reading.{base_set}
 use Rattle.disk_rules.specs.Volume.{Volume}
@@ -37,12 +37,14 @@ IsLogWord v i = IsInLines (log_line v.geometry 0) v.geometry.log i
 abbrev pub HasSingleLog : View → Type 0
 HasSingleLog k = (i : ℕ) → IsLogWord k.volume i → is_single (cell k.cells i) ≡ true
 
--- Log lines were set to zero, or some of their words: each image is one of those before, but for words of the log.
+-- Log lines were set to zero, or some of their words: each image is one of those before, but for words of the log, each of which is
+-- on its way to zero; or all are zero, and durable.
 pub record LosesLog (v : Volume) (old new : List Cell) : Type 0 where
   pub size : length new ≡ length old
   pub lent : SameLent old new
   pub each_image : Follows (SameBesideLines (log_line v.geometry 0) v.geometry.log) old new
   pub others : (i : ℕ) → ¬ IsLogWord v i → Settles (cell old i) (cell new i)
+  pub words : AreGoingToZero (log_line v.geometry 0) v.geometry.log old new
 
 -- all of them, and that is durable
 pub record ClearsLog (v : Volume) (old new : List Cell) : Type 0 where

@@ -1,5 +1,5 @@
 -- Staging files give up their blocks once no entry is live: the image stays checked, and has the same content.
-use Rattle.std.proofs.Common.{◌≡◌, ◌≢◌, ◌≤◌, ◌<◌, ◌+◌, ◌⊎◌, ℕ, zero, suc, true, false, List, [], Result, Ok, Err, refl, sym, ◌∙◌, ap, subst, arith, inl, inr}
+use Rattle.std.proofs.Common.{◌≡◌, ◌≢◌, ◌≤◌, ◌<◌, ◌⊎◌, ℕ, zero, suc, true, List, [], Result, Ok, Err, refl, sym, ◌∙◌, ap, subst, arith, inl, inr}
 use Rattle.std.specs.Prelude.{All}
 use Rattle.std.specs.declared.alloc.AllocError.{AllocError}
 use Rattle.std.proofs.lemmas.Bool.{cases_eq}
@@ -16,8 +16,10 @@ use Rattle.disk_rules.specs.Rules.{file_blocks_of}
 use Rattle.disk_rules.specs.Volume.{extents, inode, Volume}
 use Rattle.extent_words.specs.Extents.{disk_at}
 use Rattle.k_journal.specs.declared.outcomes.Commit.{Commit}
-use Rattle.k_map_plans.specs.Plans.{IsStagingFile}
-use Rattle.k_plans.specs.Whole.{IsWhole}
+use Rattle.log_replay.specs.Plans.{IsStagingFile}
+use Rattle.k_mount.proofs.Devices.{device-mapped, device-none, device-then}
+use Rattle.k_mount.specs.Sheds.{IsSameDevice}
+use Rattle.k_mount.specs.Whole.{IsWhole}
 use Rattle.k_rules.specs.View.{View}
 use Rattle.k_split.specs.declared.faults.KFault.{KFault}
 use Rattle.k_split.specs.MapChanges.{is_free_in, IsGiveUpAnswer, IsGivenUpWith}
@@ -146,3 +148,18 @@ unstaged-images s t k k2 (Ok Commit.PowerLost) quiet answer =
 unstaged-images s t k k2 (Err e) quiet answer =
     let some = answer.1 in
     images-own k k2 quiet.rest.single (way-each some.done k k2 (omega (arith, some.few)) quiet some.gave).shows
+
+-- ---- the device
+
+device-given : (n : ℕ) (k k2 : View) → AreGivenUp n k k2 → IsSameDevice k.cells k2.cells
+device-given zero k k2 gave = subst (λ (z : View). IsSameDevice k.cells z.cells) (sym gave) (device-none k.cells)
+device-given (suc n) k k2 (middle, before, last) =
+    device-then k.cells middle.cells k2.cells (device-given n k middle before) (device-mapped (IsGivenUpWith (suc n) middle) middle k2 (Ok tt) last)
+
+pub unstaged-device : (s t : Staged) (k k2 : View) (r : Result Commit AllocError) → IsGiveUpAllAnswer s k t k2 r → IsSameDevice k.cells k2.cells
+unstaged-device s t k k2 (Ok Commit.Done) answer = device-given 4 k k2 answer.2
+unstaged-device s t k k2 (Ok Commit.PowerLost) answer =
+    let cut = answer.1 in
+    device-then k.cells cut.middle.cells k2.cells (device-given cut.done k cut.middle cut.gave)
+    (device-mapped (IsGivenUpWith (suc cut.done) cut.middle) cut.middle k2 (Err KFault.PowerLost) cut.cut)
+unstaged-device s t k k2 (Err e) answer = device-given answer.1.done k k2 answer.1.gave

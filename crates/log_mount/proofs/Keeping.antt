@@ -1,5 +1,5 @@
 -- A change of K-Split that keeps each file's line, and the blocks before its end: the image stays checked, and has the same content.
-use Rattle.std.proofs.Common.{◌≡◌, ◌≢◌, ◌≤◌, ◌<◌, ◌+◌, ◌*◌, ◌/◌, ℕ, Bool, true, false, List, [], length, Some, refl, sym, ◌∙◌, ap, subst, arith, get_or, inl, inr}
+use Rattle.std.proofs.Common.{◌≡◌, ◌≤◌, ◌<◌, ◌+◌, ◌*◌, ◌/◌, ℕ, true, false, List, [], length, Some, refl, sym, ◌∙◌, ap, subst, arith, get_or, inl, inr}
 use Rattle.std.specs.Prelude.{All}
 use Rattle.std.specs.List.{range_with_len}
 use Rattle.std.proofs.lemmas.Bool.{both_ways, cases_lt}
@@ -12,15 +12,14 @@ use Rattle.pm_words.specs.ImageLaws.{Follows-from_words, image-single, IsImage-w
 use Rattle.pm_words.specs.Images.{Follows, IsImage, words_of}
 use Rattle.pm_words.specs.Words.{line_bytes, Words}
 use Rattle.disk_lines.specs.declared.Draft.{Draft}
-use Rattle.disk_lines.specs.declared.Kind.TheVariants.{File}
 use Rattle.disk_lines.specs.Entries.{held_seq, is_self_valid}
 use Rattle.disk_places.specs.Journal.{is_journal_word, journaled}
 use Rattle.disk_places.specs.PlaceLaws.{behind_log-words}
 use Rattle.disk_places.specs.Places.{commit_word, data_blocks, Geometry, is_data_block, is_journaled_line, log_line, reserve}
 use Rattle.disk_rules.specs.Checked.{IsCheckedAs, IsLogKept}
-use Rattle.disk_rules.specs.Content.{content, found, size_of}
+use Rattle.disk_rules.specs.Content.{content, found}
 use Rattle.disk_rules.specs.Kept.{AreKept}
-use Rattle.disk_rules.specs.Live.{entry_in, is_file, is_live, is_of_file, live_entries, valid_entries}
+use Rattle.disk_rules.specs.Live.{entry_in, is_file, is_live, live_entries, valid_entries}
 use Rattle.disk_rules.specs.Placed.{block_at, IsOutside}
 use Rattle.disk_rules.specs.Reading.{Reads}
 use Rattle.disk_rules.specs.Room.{held_after_recovery, unused_blocks}
@@ -31,26 +30,23 @@ use Rattle.extent_words.specs.Extents.{covers, disk_at}
 use Rattle.image_facts.specs.CheckedLaws.{checked-parts}
 use Rattle.k_land.specs.LandingLaws.{idle-image}
 use Rattle.k_mount.specs.Sheds.{IsAtRest}
-use Rattle.k_plans.specs.Whole.{IsWhole}
+use Rattle.k_mount.specs.Whole.{IsWhole}
 use Rattle.k_rules.specs.Stands.{IsOldOrNew, Stands}
 use Rattle.k_rules.specs.View.{View}
 use Rattle.k_split.specs.Answers.{IsOff}
 use Rattle.k_split.specs.MapChanges.{ChangesMaps, is_free_in, IsMapDone}
 use Rattle.list_facts.specs.Filters.{In-filter, In-filter_map, In-range}
 use Rattle.list_facts.specs.Members.{In}
-use Rattle.log_replay.specs.Replays.{live_in, seen, ShowsTheSame}
-use Rattle.replay_facts.proofs.Heads.{headed-next}
-use Rattle.replay_facts.proofs.Kept.{log-same}
+use Rattle.log_replay.proofs.Passed.{free-data, free-uncovered, headed-beside, kept-beside, log-beside}
+use Rattle.log_replay.specs.Landed.{kind_file}
+use Rattle.log_replay.specs.Replays.{seen, ShowsTheSame}
 use Rattle.volume_facts.specs.Footprint.{SameData, SameLog}
 use Rattle.volume_facts.specs.FootprintLaws.{content-own, content-read, live_entries-same}
 use Rattle.volume_facts.specs.ImageLaws.{journaled-idle, journaled-other}
 use Rattle.volume_facts.specs.LineWords.{data_word, data_word-not_journaled}
 use Rattle.volume_facts.specs.SetLaws.{block-outside}
 use Rattle.volume_uses.specs.PoolLaws.{covered-in_data}
-use Rattle.world_images.specs.Images.{IsHeaded}
-use Rattle.world_promise.specs.Landed.{kind_file}
-use Rattle.world_relinks.proofs.ImageLaws.{same-log}
-use Rattle.world_relinks.proofs.WorldLaws.{free-in_data, free-unmapped}
+use Rattle.k_mount.specs.Images.{IsHeaded}
 use Rattle.log_mount.proofs.Lines.{found-kept, held-kept, KeepsBytes, KeepsLines, of_file-kept}
 use Rattle.log_mount.specs.Quiet.{IsQuiet, ShowsAsBefore}
 
@@ -105,7 +101,7 @@ module _ (g : Geometry) (blocks : List ℕ) (v w : Volume) (before image : Words
           mapped-word ino b j (covers-disk_at (extents v ino) block b was) word
 
     log : SameLog g (journaled before) (journaled image)
-    log = same-log g blocks v w before image idle old in_data is
+    log = log-beside g blocks v w before image idle old in_data is
 
     own : content g before ≡ found v [] (journaled before)
     own = content-own g v (journaled before) old ∙ ap (λ live. found v live (journaled before)) none
@@ -145,10 +141,10 @@ module _ (k : View) (w : Volume) (blocks : List ℕ) (quiet : IsQuiet k) (whole 
   old = stands.reads (words_of k.cells) (IsImage-words_of k.cells)
 
   in_data : All (λ b. is_data_block g b ≡ true) blocks
-  in_data b d below = free-in_data k (get_or blocks b d) (free b d below)
+  in_data b d below = free-data k (get_or blocks b d) (free b d below)
 
   unmapped : (ino n : ℕ) → n < length blocks → covers (extents k.volume ino) (block_at blocks n) ≡ false
-  unmapped ino n below = free-unmapped k (block_at blocks n) ino quiet.rest.order.whole.maps.map_count (free n 0 below)
+  unmapped ino n below = free-uncovered k (block_at blocks n) ino quiet.rest.order.whole.maps.map_count (free n 0 below)
 
   -- ---- the rules of the log
 
@@ -194,10 +190,10 @@ module _ (k : View) (w : Volume) (blocks : List ℕ) (quiet : IsQuiet k) (whole 
   module _ (image : Words) (changed : IsOldOrNew g blocks k.volume w (words_of k.cells) image) where
     headed : IsHeaded g image
     headed =
-        headed-next g blocks k.volume w (words_of k.cells) image in_data (record { head = quiet.checked.head; geometry = quiet.numbers }) changed lines.base quiet.checked.reads.base
+        headed-beside g blocks k.volume w (words_of k.cells) image in_data (record { head = quiet.checked.head; geometry = quiet.numbers }) changed lines.base quiet.checked.reads.base
 
     log_here : SameLog g (seen k) (journaled image)
-    log_here = same-log g blocks k.volume w (words_of k.cells) image idle old in_data changed
+    log_here = log-beside g blocks k.volume w (words_of k.cells) image idle old in_data changed
 
     log_new : SameLog w.geometry (seen k) (journaled image)
     log_new = subst (λ h. SameLog h (seen k) (journaled image)) (sym lines.geometry) log_here
@@ -211,7 +207,7 @@ module _ (k : View) (w : Volume) (blocks : List ℕ) (quiet : IsQuiet k) (whole 
       head = headed.head;
       reads = subst (λ h. Reads h (journaled image) k.volume) (sym headed.geometry) reads;
       kept = quiet.rest.order.whole.kept.kept;
-      log = log-same k.volume (seen k) (journaled image) log_here quiet.checked.log;
+      log = kept-beside k.volume (seen k) (journaled image) log_here quiet.checked.log;
     }
 
     as_new : Reads g (journaled image) w → IsCheckedAs (4096 * g.blocks) image w
@@ -219,7 +215,7 @@ module _ (k : View) (w : Volume) (blocks : List ℕ) (quiet : IsQuiet k) (whole 
       head = headed.head;
       reads = subst (λ h. Reads h (journaled image) w) (sym headed.geometry) reads;
       kept = whole.kept.kept;
-      log = log-same w (seen k) (journaled image) log_new log-kept;
+      log = kept-beside w (seen k) (journaled image) log_new log-kept;
     }
 
     is-checked : IsChecked (4096 * g.blocks) image

@@ -4,4 +4,5 @@ pub mod Keeping
 pub mod Giving
 pub mod Trims
 pub mod Resets
+pub mod Showing
 pub mod Mounting

@@ -1,6 +1,6 @@
 -- Volumes in which each inode keeps its line but for its map: the same entries are live, and with the same blocks before the ends
 -- of files the same is found at each path.
-use Rattle.std.proofs.Common.{◌≡◌, ◌≢◌, ◌<◌, ◌≤◌, ◌+◌, ◌*◌, ◌/◌, ◌&&◌, ◌==◌, ℕ, Bool, true, false, cond, List, [], length, refl, sym, ◌∙◌, ap, subst, arith, inl, inr}
+use Rattle.std.proofs.Common.{◌≡◌, ◌<◌, ◌≤◌, ◌*◌, ◌/◌, ◌&&◌, ◌==◌, ℕ, Bool, true, false, cond, List, [], length, refl, sym, ◌∙◌, ap, subst, arith, inl, inr}
 use Rattle.std.specs.Prelude.{filter, if◌then◌else◌, map, nat_lt, None, Option, option_and_then, Some, sum_by}
 use Rattle.std.specs.List.{range_with_len}
 use Rattle.std.proofs.Math.Path.{fun_ext}
@@ -21,10 +21,10 @@ use Rattle.disk_rules.specs.Rules.{file_blocks_of, IsKindAt}
 use Rattle.disk_rules.specs.Volume.{extents, free_inode, inode, Volume}
 use Rattle.extent_words.specs.declared.Extent.{Extent}
 use Rattle.extent_words.specs.Extents.{disk_at}
-use Rattle.k_plans.specs.View.{node_at}
-use Rattle.k_plans.specs.Whole.{IsWhole}
+use Rattle.k_mount.specs.View.{node_at}
+use Rattle.k_mount.specs.Whole.{IsWhole}
 use Rattle.k_rules.specs.Spaces.{is_free}
-use Rattle.live_facts.proofs.FoundLaws.{valid-same}
+use Rattle.log_replay.proofs.Passed.{valid-beside}
 use Rattle.volume_facts.specs.Changes.{inode-set_other, inode-set_same}
 use Rattle.volume_facts.specs.Lists.{map-agree}
 use Rattle.volume_uses.specs.PoolLaws.{AreInData}
@@ -100,7 +100,7 @@ module _ (v w : Volume) (lines : KeepsLines v w) where
   pub live-kept : (f : Words) → ((ino : ℕ) → (inode w ino).applied ≡ (inode v ino).applied) → live_entries w f ≡ live_entries v f
   live-kept f applied =
       λ i. filter (λ (d : Draft). (is_file (lines.kind d.ino i) && (lines.generation d.ino i == d.generation)) && nat_lt (applied d.ino i) d.order
-      && (lines.generation d.staging i == d.staging_generation)) (valid-same v w f lines.geometry lines.base i)
+      && (lines.generation d.staging i == d.staging_generation)) (valid-beside v w f lines.geometry lines.base i)
 
   -- ---- what files hold
 

@@ -1,11 +1,11 @@
 -- A device is opened, the live entries of its log are carried out, it is swept, and it is settled.
-use Rattle.std.proofs.Common.{◌≡◌, ◌≤◌, ◌<◌, ◌+◌, ◌*◌, ◌^◌, ◌⊎◌, ◌/◌, ◌%◌, ℕ, true, false, List, [], length, Result, Ok, Err, refl, sym, ◌∙◌, ap, subst, arith, inl, inr}
+use Rattle.std.proofs.Common.{◌≡◌, ◌≤◌, ◌<◌, ◌+◌, ◌*◌, ◌^◌, ◌⊎◌, ℕ, false, List, [], length, Result, Ok, Err, refl, sym, ◌∙◌, ap, subst, arith, inl, inr}
 use Rattle.std.specs.declared.alloc.AllocError.{AllocError}
 use Rattle.pm_words.specs.declared.Cell.{Cell}
 use Rattle.pm_words.specs.Cells.{AllSingle}
 use Rattle.pm_words.specs.ImageLaws.{image-single, IsImage-words_of}
 use Rattle.pm_words.specs.Images.{Follows, words_of}
-use Rattle.pm_words.specs.Powers.{is_on, Supply}
+use Rattle.pm_words.specs.Powers.{Supply}
 use Rattle.pm_words.specs.Words.{Words}
 use Rattle.disk_lines.specs.declared.Draft.{Draft}
 use Rattle.disk_lines.specs.declared.Kind.TheVariants.{File, Free}
@@ -17,7 +17,7 @@ use Rattle.disk_rules.specs.Content.{content, content_of}
 use Rattle.disk_rules.specs.Live.{live_entries}
 use Rattle.disk_rules.specs.Reading.{base_set, Reads}
 use Rattle.disk_rules.specs.Rules.{geometry_of, IsChecked}
-use Rattle.disk_rules.specs.Volume.{extents, inode, Volume, volume}
+use Rattle.disk_rules.specs.Volume.{extents, Volume, volume}
 use Rattle.extent_words.specs.Extents.{disk_at}
 use Rattle.block_counts.specs.Counts.{blocks_for}
 use Rattle.image_facts.specs.CheckedLaws.{checked-parts, head-checked, parts-checked}
@@ -25,20 +25,21 @@ use Rattle.k_journal.specs.declared.outcomes.Commit.{Commit}
 use Rattle.k_mount.proofs.LapImages.{none_live}
 use Rattle.k_mount.proofs.Recovered.{recovers_checked}
 use Rattle.k_mount.specs.Laws.{IsCheckedToo, IsRecovered}
-use Rattle.k_mount.specs.Sheds.{AllNamed, IsAtRest, IsKeptAt, IsSettled, IsShedAt, MaySettle, Sheds}
+use Rattle.k_mount.specs.Sheds.{AllNamed, IsAtRest, IsKeptAt, IsSameDevice, IsSettled, IsShedAt, MaySettle, Sheds, StaysShown}
 use Rattle.k_rules.specs.View.{View}
 use Rattle.k_split.specs.Laps.{next_base}
 use Rattle.k_split.specs.Order.{IsOpened}
-use Rattle.log_replay.specs.Replays.{IsReplayAnswer, IsReplayed, IsReplayPaid, live_in, MayReplay, seen, ShowsTheSame}
-use Rattle.replay_facts.specs.Orders.{AreInOrder}
+use Rattle.log_replay.specs.Replays.{IsReplayed, MayReplay, seen, ShowsTheSame}
+use Rattle.log_replay.specs.Orders.{AreInOrder}
 use Rattle.staging_files.specs.Keeps.{IsStaging}
 use Rattle.volume_facts.specs.ReadingLaws.{reads-volume}
-use Rattle.world_images.specs.Changed.{sound_headed}
+use Rattle.k_mount.specs.Changed.{sound_headed}
 use Rattle.log_mount.proofs.Keeping.{shows-then}
 use Rattle.log_mount.specs.declared.faults.MountFault.{MountFault}
-use Rattle.log_mount.specs.Mounts.{HasNextBase, IsMountAnswer, IsMounted, IsOpenAnswer}
+use Rattle.log_mount.proofs.Showing.{left-opened, left-recovered}
+use Rattle.log_mount.specs.Mounts.{IsLeft, IsMountAnswer, IsMounted, IsOpenAnswer}
 use Rattle.log_mount.specs.Resets.{AreReset, IsClosed, MayReset}
-use Rattle.log_mount.specs.Quiet.{IsQuiet, IsSweepPaid, OnDone, ShowsAsBefore}
+use Rattle.log_mount.specs.Quiet.{IsQuiet, OnDone}
 use Rattle.log_mount.specs.Sweeps.{AreSwept, AreTrimmed, AreUnstaged, EndsInTime}
 
 geometry-of : (g : Geometry) (f : Words) → (volume g f).geometry ≡ g
@@ -273,6 +274,10 @@ module _ (g : Geometry) (pm : List Cell) (k : View) (single : AllSingle pm) (num
   pub mounted-open : (k3 : View) → IsMounted k.volume.geometry (words_of k.cells) k3 → IsMounted g (words_of pm) k3
   mounted-open k3 is = subst (λ f. IsMounted g f k3) words-open (subst (λ h. IsMounted h (words_of k.cells) k3) geometry-open is)
 
+  pub left-open : (left : List Cell) → length pm ≡ 512 * g.blocks → IsSameDevice k.cells left → StaysShown k.volume.geometry (words_of k.cells) left
+      → IsLeft g (words_of pm) left
+  left-open left size device shown = left-opened g pm left k single size opened.cells_are geometry-open device shown
+
 -- ---- the journal is recovered before
 
 module _ (g : Geometry) (image : Words) (d : List Cell) (numbers : geometry_of image ≡ g) (checked : IsChecked (4096 * g.blocks) image) (is : IsRecovered image d) where
@@ -290,7 +295,7 @@ module _ (g : Geometry) (image : Words) (d : List Cell) (numbers : geometry_of i
   pub answer-recovered : (p : Supply) (r : Result View MountFault) → IsOpenAnswer g (words_of d) p r → IsOpenAnswer g image p r
   answer-recovered p (Ok k3) answer = (mounted-recovered k3 answer.0, answer.1)
   answer-recovered p (Err (MountFault.Bad bad)) answer = answer
-  answer-recovered p (Err (MountFault.PowerLost pm)) answer = answer
+  answer-recovered p (Err (MountFault.PowerLost left)) answer = (answer.0, left-recovered g image d left too.seen answer.1)
   answer-recovered p (Err MountFault.NoMemory) answer = answer
 
 -- ---- a device of a checked image
@@ -315,5 +320,5 @@ module _ (pm : List Cell) (g : Geometry) (is : g ≡ geometry_of (words_of pm)) 
   pub mount-answer : (before after : Supply) (r : Result View MountFault) → IsOpenAnswer g (words_of pm) after r → IsMountAnswer pm before after r
   mount-answer before after (Ok k) answer = (checked, subst (λ h. IsMounted h (words_of pm) k) is answer.0, answer.1)
   mount-answer before after (Err (MountFault.Bad bad)) answer = absurd answer
-  mount-answer before after (Err (MountFault.PowerLost left)) answer = (checked, answer)
+  mount-answer before after (Err (MountFault.PowerLost left)) answer = (checked, answer.0, subst (λ h. IsLeft h (words_of pm) left) is answer.1)
   mount-answer before after (Err MountFault.NoMemory) answer = tt

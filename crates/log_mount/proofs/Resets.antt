@@ -1,6 +1,6 @@
 -- A file has applied nothing any more, once no line of the log is an entry: the image shows what it did.
-use Rattle.std.proofs.Common.{◌≡◌, ◌≢◌, ◌≤◌, ◌<◌, ◌+◌, ◌*◌, ◌^◌, ◌⊎◌, ◌&&◌, ◌==◌, ℕ, Bool, true, false, List, [], length, None, Some, Result, Ok, Err, refl, sym, ◌∙◌, ap, subst, arith, inl, inr}
-use Rattle.std.specs.Prelude.{All, nat_le}
+use Rattle.std.proofs.Common.{◌≡◌, ◌≢◌, ◌≤◌, ◌<◌, ◌+◌, ◌^◌, ◌⊎◌, ◌&&◌, ◌==◌, ℕ, Bool, true, List, [], length, Result, Ok, Err, refl, sym, ◌∙◌, ap, subst, arith, inl, inr}
+use Rattle.std.specs.Prelude.{All}
 use Rattle.std.proofs.lemmas.Bool.{and_parts, cases_eq, cases_lt}
 use Rattle.std.proofs.lemmas.Bool.Decides.{nat_tests}
 use Rattle.std.proofs.lemmas.List.{get_or_past}
@@ -14,25 +14,24 @@ use Rattle.disk_lines.specs.declared.Kind.TheVariants.{Directory, File, Free, St
 use Rattle.disk_lines.specs.Lines.{has_map_or_none, is_inode, is_inode_of_kind}
 use Rattle.disk_places.specs.Places.{Geometry}
 use Rattle.disk_rules.specs.Live.{live_entries}
-use Rattle.disk_rules.specs.Reading.{inode_set, node_set}
+use Rattle.disk_rules.specs.Reading.{inode_set}
 use Rattle.disk_rules.specs.Room.{unused_blocks}
 use Rattle.disk_rules.specs.Rules.{file_blocks_of}
 use Rattle.disk_rules.specs.Volume.{chain, extents, free_inode, inode, Volume}
 use Rattle.extent_words.specs.Extents.{disk_at}
 use Rattle.k_log_plans.specs.Resets.{reset, unapplied}
-use Rattle.k_map_plans.specs.Plans.{IsLiveFile}
+use Rattle.log_replay.specs.Plans.{IsLiveFile}
 use Rattle.k_mount.proofs.LapImages.{none_live}
-use Rattle.k_plans.specs.Whole.{IsWhole}
+use Rattle.k_mount.specs.Whole.{IsWhole}
 use Rattle.k_rules.specs.View.{View}
 use Rattle.k_split.specs.Answers.{Changes, IsDone}
 use Rattle.k_split.specs.declared.faults.KFault.{KFault}
 use Rattle.k_split.specs.MapChanges.{ChangesMaps, is_free_in, IsMapDone}
 use Rattle.k_split.specs.Resets.{IsResetAnswer}
 use Rattle.volume_facts.specs.Changes.{inode_set-same, inode-set_other, inode-set_same}
-use Rattle.volume_facts.specs.Footprint.{SameLog}
 use Rattle.volume_facts.specs.FootprintLaws.{entry_in-same}
 use Rattle.volume_uses.specs.PoolLaws.{unused-set}
-use Rattle.world_images.specs.Images.{HasNoEntry}
+use Rattle.k_mount.specs.Images.{HasNoEntry}
 use Rattle.log_replay.specs.Replays.{seen, ShowsTheSame}
 use Rattle.log_mount.proofs.Keeping.{images-next, images-off, images-own, images-then, log-next, shows-first, shows-next}
 use Rattle.log_mount.proofs.Lines.{in-data, KeepsBytes, KeepsLines, lines-set, low-file, used-below}

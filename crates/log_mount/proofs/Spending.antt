@@ -1,5 +1,5 @@
 -- What is taken of the power by one step after the other.
-use Rattle.std.proofs.Common.{◌≡◌, ◌≤◌, ℕ, refl, ◌∙◌, arith}
+use Rattle.std.proofs.Common.{ℕ, refl, ◌∙◌, arith}
 use Rattle.pm_words.specs.Powers.{Steps, Supply}
 use Rattle.log_mount.specs.Quiet.{IsSpent}
 

@@ -1,9 +1,9 @@
 -- A file gets its own length again: what its map has past the end goes, and the image shows what it did.
-use Rattle.std.proofs.Common.{◌≡◌, ◌≢◌, ◌≤◌, ◌<◌, ◌+◌, ◌*◌, ◌/◌, ◌⊎◌, ℕ, zero, suc, Bool, true, false, List, [], length, Some, None, Option, Result, Ok, Err, refl, sym, ◌∙◌, ap, subst, arith, inl, inr}
+use Rattle.std.proofs.Common.{◌≡◌, ◌≢◌, ◌≤◌, ◌<◌, ◌+◌, ℕ, zero, suc, true, false, List, [], length, None, Result, Ok, Err, refl, sym, ◌∙◌, ap, subst, arith, inl, inr}
 use Rattle.std.specs.Prelude.{All, is_some, nat_lt}
-use Rattle.std.proofs.lemmas.Bool.{cases_Bool, cases_eq, cases_lt}
+use Rattle.std.proofs.lemmas.Bool.{cases_eq, cases_lt}
 use Rattle.std.proofs.lemmas.Bool.Decides.{nat_tests}
-use Rattle.block_counts.specs.Counts.{blocks_for, chains_for}
+use Rattle.block_counts.specs.Counts.{blocks_for}
 use Rattle.pm_words.specs.declared.Cell.{Cell}
 use Rattle.pm_words.specs.Cells.{AllSingle}
 use Rattle.pm_words.specs.Images.{Follows}
@@ -20,8 +20,8 @@ use Rattle.extent_facts.specs.Counts.{block_count-mapped, is_mapped, one_if}
 use Rattle.extent_words.specs.declared.Extent.{Extent}
 use Rattle.extent_words.specs.Extents.{block_count, disk_at, IsCanonical}
 use Rattle.extent_words.specs.Maps.{IsPart}
-use Rattle.k_map_plans.specs.Plans.{IsLiveFile}
-use Rattle.k_plans.specs.Whole.{IsWhole}
+use Rattle.log_replay.specs.Plans.{IsLiveFile}
+use Rattle.k_mount.specs.Whole.{IsWhole}
 use Rattle.k_rules.specs.View.{View}
 use Rattle.k_split.specs.declared.faults.KFault.{KFault}
 use Rattle.k_split.specs.MapChanges.{ChangesMaps, free_blocks_in, is_free_in, IsSizeAnswer, IsSizedWith}
@@ -34,7 +34,7 @@ use Rattle.volume_facts.specs.Changes.{chain-set_same, extents-set_other, extent
 use Rattle.volume_maps.specs.Bounds.{count_below-most}
 use Rattle.volume_maps.specs.Lengths.{begins, disk_before, length-begins, starts}
 use Rattle.volume_uses.specs.PoolLaws.{unused-set}
-use Rattle.world_relinks.proofs.RelinkLaws.{has-chain}
+use Rattle.log_replay.proofs.Passed.{chain-counted, map-canonical}
 use Rattle.log_replay.specs.Replays.{seen, ShowsTheSame}
 use Rattle.log_mount.proofs.Keeping.{images-next, images-off, images-own, images-then, shows-first, shows-next}
 use Rattle.log_mount.proofs.Lines.{applied-set, in-data, KeepsBytes, KeepsLines, lines-set, live-kept, low-file, used-below}
@@ -123,7 +123,7 @@ module _ (ino : ℕ) (k : View) (w : Volume) (blocks : List ℕ) (quiet : IsQuie
     | inr other ↦ ap (λ es. disk_at es block) (map-other i other)
   ] where
     canonical : IsCanonical (extents k.volume ino)
-    canonical = (has-chain k ino quiet.rest.order quiet.rest.unbatched live.below).canonical
+    canonical = map-canonical k ino quiet.rest.order quiet.rest.unbatched live.below
 
   none : live_entries w (seen k) ≡ []
   none = live-kept k.volume w lines (seen k) applied ∙ quiet.none
@@ -140,16 +140,16 @@ module _ (ino : ℕ) (k : View) (w : Volume) (blocks : List ℕ) (quiet : IsQuie
       live.below whole.maps (in-data k.volume whole) (in-data x whole_x) whole.kept.kept.once whole_x.kept.kept.once
       in
       let same : unused_blocks w ≡ unused_blocks x = ap unused_blocks given in
-      let had = has-chain k ino quiet.rest.order quiet.rest.unbatched live.below in
-      let fewer = fewer-blocks (blocks_for size) (extents k.volume ino) sized.es had.canonical sized.cut in
-      let extents_few = fewer-extents (blocks_for size) (extents k.volume ino) sized.es had.canonical sized.cut in
-      let chains : length sized.blocks ≤ length (chain k.volume ino) = omega (arith, sized.taken.count, had.counted, extents_few) in
+      let canonical : IsCanonical (extents k.volume ino) = map-canonical k ino quiet.rest.order quiet.rest.unbatched live.below in
+      let fewer = fewer-blocks (blocks_for size) (extents k.volume ino) sized.es canonical sized.cut in
+      let extents_few = fewer-extents (blocks_for size) (extents k.volume ino) sized.es canonical sized.cut in
+      let chains : length sized.blocks ≤ length (chain k.volume ino) = omega (arith, sized.taken.count, chain-counted k ino quiet.rest.order quiet.rest.unbatched live.below, extents_few) in
       omega (arith, set, same, fewer, chains)
 
   trimmed-own : EndsInTime w ino
   trimmed-own file block past =
       ap (λ es. disk_at es block) map-own
-      ∙ front-none (blocks_for size) (extents k.volume ino) sized.es (has-chain k ino quiet.rest.order quiet.rest.unbatched live.below).canonical sized.cut block
+      ∙ front-none (blocks_for size) (extents k.volume ino) sized.es (map-canonical k ino quiet.rest.order quiet.rest.unbatched live.below) sized.cut block
       (subst (λ n. blocks_for n ≤ block) (lines.size ino) past)
 
   trimmed-other : (i : ℕ) → i ≢ ino → EndsInTime k.volume i → EndsInTime w i

@@ -1,6 +1,7 @@
 -- What a mount answers and leaves of an image whose log may have live entries.
 use Rattle.std.specs.Prelude.{◌≡◌, ◌≤◌, ◌<◌, ◌*◌, ◌^◌, ℕ, true, false, List, length, Result, Ok, Err}
 use Rattle.pm_words.specs.declared.Cell.{Cell}
+use Rattle.pm_words.specs.Cells.{AllHome}
 use Rattle.pm_words.specs.Images.{words_of}
 use Rattle.pm_words.specs.Powers.{is_on, Supply}
 use Rattle.pm_words.specs.Words.{Words}
@@ -11,10 +12,10 @@ use Rattle.disk_rules.specs.Checked.{IsCheckedAs}
 use Rattle.disk_rules.specs.Content.{content}
 use Rattle.disk_rules.specs.Rules.{geometry_of, IsChecked}
 use Rattle.disk_rules.specs.Volume.{Volume, volume}
-use Rattle.k_mount.specs.Sheds.{AllNamed, IsAtRest}
+use Rattle.k_mount.specs.Sheds.{AllNamed, IsAtRest, StaysShown}
 use Rattle.k_rules.specs.View.{View}
 use Rattle.k_split.specs.Laps.{next_base}
-use Rattle.world_images.specs.Images.{HasNoEntry}
+use Rattle.k_mount.specs.Images.{HasNoEntry}
 use Rattle.log_mount.specs.declared.faults.MountFault.{MountFault}
 use Rattle.log_mount.specs.Resets.{IsLow}
 use Rattle.log_mount.specs.Sweeps.{AreBare, EndsInTime}
@@ -40,18 +41,26 @@ pub record IsMounted (g : Geometry) (image : Words) (k : View) : Type 0 where
   pub base : HasNextBase (volume g (journaled image)) k.volume
   pub no_entry : HasNoEntry k.volume (journaled (words_of k.cells))
 
+-- WHAT THE POWER LEAVES OF A DEVICE where it goes: it has the blocks of the image, none of its words is lent, and each of its honest
+-- images is checked and has the content of the image.
+pub record IsLeft (g : Geometry) (image : Words) (left : List Cell) : Type 0 where
+  pub size : length left ≡ 512 * g.blocks
+  pub home : AllHome left
+  pub shown : StaysShown g image left
+
 -- What `mount` answers of a device, where it is one of a checked image.
 abbrev pub IsOpenAnswer : Geometry → Words → Supply → Result View MountFault → Type 0
 IsOpenAnswer g image after (Ok k) = IsMounted g image k × (is_on after ≡ true)
 IsOpenAnswer g image after (Err (MountFault.Bad bad)) = ⊥
-IsOpenAnswer g image after (Err (MountFault.PowerLost pm)) = is_on after ≡ false
+IsOpenAnswer g image after (Err (MountFault.PowerLost left)) = (is_on after ≡ false) × IsLeft g image left
 IsOpenAnswer g image after (Err MountFault.NoMemory) = Unit {0}
 
--- WHAT `mount` ANSWERS of a device: mounted, with power left; or the power was lost; then the image is checked. Or the first rule
--- that the image breaks, and nothing was done.
+-- WHAT `mount` ANSWERS of a device: mounted, with power left; or the power was lost; then the image is checked, and this is left. Or
+-- the first rule that the image breaks, and nothing was done.
 abbrev pub IsMountAnswer : List Cell → Supply → Supply → Result View MountFault → Type 0
 IsMountAnswer pm before after (Ok k) =
     IsChecked (8 * length pm) (words_of pm) × IsMounted (geometry_of (words_of pm)) (words_of pm) k × (is_on after ≡ true)
 IsMountAnswer pm before after (Err (MountFault.Bad bad)) = Breaks (8 * length pm) (words_of pm) bad.rule bad.place × (after ≡ before)
-IsMountAnswer pm before after (Err (MountFault.PowerLost left)) = IsChecked (8 * length pm) (words_of pm) × (is_on after ≡ false)
+IsMountAnswer pm before after (Err (MountFault.PowerLost left)) =
+    IsChecked (8 * length pm) (words_of pm) × (is_on after ≡ false) × IsLeft (geometry_of (words_of pm)) (words_of pm) left
 IsMountAnswer pm before after (Err MountFault.NoMemory) = Unit {0}

@@ -1,5 +1,5 @@
 -- K-Split once no entry of the log is live, and what stays while it is put in order.
-use Rattle.std.specs.Prelude.{◌≡◌, ◌≤◌, ◌*◌, ℕ, true, false, [], Result, Ok, Err}
+use Rattle.std.specs.Prelude.{◌≡◌, ◌≤◌, ◌*◌, true, false, [], Result, Ok, Err}
 use Rattle.std.specs.declared.alloc.AllocError.{AllocError}
 use Rattle.pm_words.specs.Images.{words_of}
 use Rattle.pm_words.specs.Powers.{is_on, Supply}

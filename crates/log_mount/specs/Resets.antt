@@ -1,12 +1,12 @@
 -- What files have applied counts anew where it is high.
-use Rattle.std.specs.Prelude.{◌≡◌, ◌⊎◌, ◌≤◌, ◌<◌, ◌^◌, ℕ, Ok}
+use Rattle.std.specs.Prelude.{◌≡◌, ◌⊎◌, ◌≤◌, ◌^◌, ℕ, Ok}
 use Rattle.pm_words.specs.Images.{words_of}
 use Rattle.disk_rules.specs.Volume.{extents, inode, Volume}
-use Rattle.k_map_plans.specs.Plans.{IsLiveFile}
+use Rattle.log_replay.specs.Plans.{IsLiveFile}
 use Rattle.k_mount.specs.Sheds.{IsSettled}
 use Rattle.k_rules.specs.View.{View}
 use Rattle.k_split.specs.Resets.{IsResetAnswer}
-use Rattle.world_images.specs.Images.{HasNoEntry}
+use Rattle.k_mount.specs.Images.{HasNoEntry}
 use Rattle.log_replay.specs.Replays.{seen}
 use Rattle.log_mount.specs.Quiet.{IsQuiet, ShowsAsBefore}
 

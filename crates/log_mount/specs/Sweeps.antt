@@ -1,10 +1,10 @@
 -- What a mount takes away: staged blocks, and what maps have past the ends of files.
-use Rattle.std.specs.Prelude.{◌≡◌, ◌⊎◌, ◌≤◌, ◌<◌, ℕ, [], None, Ok}
+use Rattle.std.specs.Prelude.{◌≡◌, ◌⊎◌, ◌≤◌, ℕ, [], None, Ok}
 use Rattle.block_counts.specs.Counts.{blocks_for}
 use Rattle.disk_lines.specs.declared.Kind.TheVariants.{File}
 use Rattle.disk_rules.specs.Volume.{extents, inode, Volume}
 use Rattle.extent_words.specs.Extents.{disk_at}
-use Rattle.k_map_plans.specs.Plans.{IsLiveFile}
+use Rattle.log_replay.specs.Plans.{IsLiveFile}
 use Rattle.k_rules.specs.View.{View}
 use Rattle.k_split.specs.MapChanges.{IsSizeAnswer}
 use Rattle.staging_files.specs.Keeps.{IsStaging}

@@ -18,6 +18,3 @@ mod unstaging;
 
 pub use faults::MountFault;
 pub use mounts::mount;
-pub use resetting::reset;
-pub use trimming::trim;
-pub use unstaging::unstage;

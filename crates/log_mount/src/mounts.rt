@@ -1,5 +1,5 @@
 //! A device is mounted, whatever entries of its log are live.
-ghost use Rattle.std.specs.Prelude.{◌≡◌, ◌*◌, ◌%◌, ◌<◌, ◌^◌, false, length, IfOk};
+ghost use Rattle.std.specs.Prelude.{◌≡◌, ◌*◌, ◌%◌, ◌<◌, ◌≤◌, ◌^◌, false, length, IfOk};
 ghost use Rattle.pm_words.specs.Cells.{cell, AllSingle};
 ghost use Rattle.pm_words.specs.declared.Cell.{Cell};
 ghost use Rattle.pm_words.specs.Images.{Follows, words_of};
@@ -9,14 +9,14 @@ ghost use Rattle.disk_rules.specs.Live.{live_entries};
 ghost use Rattle.disk_rules.specs.Rules.{geometry_of, IsChecked};
 ghost use Rattle.disk_rules.specs.Volume.{volume};
 ghost use Rattle.k_mount.specs.Laws.{IsRecovered};
-ghost use Rattle.k_mount.specs.Sheds.{MaySettle, OnCommit};
+ghost use Rattle.k_mount.specs.Sheds.{IsSameDevice, MaySettle, OnCommit, OnLost, StaysShown};
 ghost use Rattle.k_split.specs.Answers.{IsCommitPaid};
-ghost use Rattle.log_mount.specs.Mounts.{IsMountAnswer, IsMounted, IsOpenAnswer};
+ghost use Rattle.log_mount.specs.Mounts.{IsLeft, IsMountAnswer, IsMounted, IsOpenAnswer};
 ghost use Rattle.log_mount.specs.Quiet.{IsQuiet, IsSpent, IsSweepPaid, OnDone};
 ghost use Rattle.log_mount.specs.Resets.{IsClosed};
 ghost use Rattle.log_mount.specs.Sweeps.{AreSwept};
 ghost use Rattle.log_replay.specs.Replays.{MayReplay, ShowsTheSame};
-ghost use Rattle.replay_facts.specs.Orders.{AreInOrder};
+ghost use Rattle.log_replay.specs.Orders.{AreInOrder};
 
 use crate::faults::MountFault;
 use crate::resetting::reset;
@@ -41,6 +41,7 @@ fn sweep(alloc: Global, k: &mut KSplit, power: &mut Power) -> Result<Commit, All
     ensures paid { IsSweepPaid power.new result }
     ensures done { OnDone result (AreSwept k.old k.new) }
     ensures images { Follows (ShowsTheSame k.old.volume.geometry) k.old.cells k.new.cells }
+    ensures device { IsSameDevice k.old.cells k.new.cells }
 {
     let commit = unstage(alloc, k, power)?;
     match commit {
@@ -55,6 +56,8 @@ fn close(alloc: Global, k: &mut KSplit, power: &mut Power) -> Result<Commit, All
     ensures spent { IsSpent power.old power.new }
     ensures paid { IsSweepPaid power.new result }
     ensures done { OnDone result (IsClosed k.old k.new) }
+    ensures images { StaysShown k.old.volume.geometry (words_of k.old.cells) k.new.cells }
+    ensures device { IsSameDevice k.old.cells k.new.cells }
 {
     match settle(k, power) {
         Commit::PowerLost => Ok(Commit::PowerLost),
@@ -69,6 +72,8 @@ fn finish(alloc: Global, k: &mut KSplit, power: &mut Power) -> Result<Commit, Al
     ensures paid { IsSweepPaid power.new result }
     ensures done { OnDone result
         (IsMounted k.old.volume.geometry (words_of k.old.cells) k.new) }
+    ensures images { StaysShown k.old.volume.geometry (words_of k.old.cells) k.new.cells }
+    ensures device { IsSameDevice k.old.cells k.new.cells }
 {
     let commit = sweep(alloc, k, power)?;
     match commit {
@@ -89,6 +94,8 @@ fn recover_log(
     ensures paid { IsSweepPaid power.new result }
     ensures done { OnDone result
         (IsMounted k.old.volume.geometry (words_of k.old.cells) k.new) }
+    ensures images { StaysShown k.old.volume.geometry (words_of k.old.cells) k.new.cells }
+    ensures device { IsSameDevice k.old.cells k.new.cells }
 {
     let commit = replay(alloc, k, entries, power)?;
     match commit {
@@ -120,6 +127,7 @@ fn recover_journal(pm: &mut Pm, geometry: &Geometry, power: &mut Power) -> Commi
     ensures size { length pm.new ≡ length pm.old }
     ensures single { OnCommit result (AllSingle pm.new) }
     ensures words { OnCommit result (IsRecovered (words_of pm.old) pm.new) }
+    ensures lost { OnLost result (IsLeft geometry.now (words_of pm.old) pm.new) }
 {
     match recover(pm, geometry, power) {
         Recovered::Done => Commit::Done,
@@ -191,8 +199,8 @@ fn mount_checked(
 /// # Errors
 ///
 /// `Bad` exactly where the image breaks a rule, with the first rule and the lowest place: nothing was done.
-/// Else `PowerLost` exactly where the power is off at the return, with the device. Want of memory is the only
-/// other one.
+/// Else `PowerLost` exactly where the power is off at the return, with the device: nothing of it is lent, and
+/// each honest image of it is checked and has the content of the first. Want of memory is the only other one.
 pub fn mount(alloc: Global, pm: Pm, batched: bool, power: &mut Power) -> Result<KSplit, MountFault>
     requires single { AllSingle pm }
     requires whole { length pm % 512 ≡ 0 }

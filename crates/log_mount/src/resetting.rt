@@ -4,6 +4,7 @@ ghost use Rattle.disk_rules.specs.Volume.{inode};
 ghost use Rattle.pm_words.specs.Powers.{is_on};
 ghost use Rattle.log_replay.specs.Replays.{ShowsTheSame};
 ghost use Rattle.pm_words.specs.Images.{Follows};
+ghost use Rattle.k_mount.specs.Sheds.{IsSameDevice};
 ghost use Rattle.log_mount.specs.Quiet.{IsQuiet, IsSpent, IsSweepPaid, OnDone};
 ghost use Rattle.log_mount.specs.Resets.{AreReset, IsResetOne, MayReset};
 
@@ -42,6 +43,7 @@ fn reset_one(
     ensures paid { IsSweepPaid power.new result }
     ensures done { OnDone result (IsResetOne ino k.old k.new) }
     ensures images { Follows (ShowsTheSame k.old.volume.geometry) k.old.cells k.new.cells }
+    ensures device { IsSameDevice k.old.cells k.new.cells }
 {
     if !is_high(k, ino) {
         return Ok(Commit::Done);
@@ -61,12 +63,13 @@ fn reset_one(
 /// # Errors
 ///
 /// Want of memory alone.
-pub fn reset(alloc: Global, k: &mut KSplit, power: &mut Power) -> Result<Commit, AllocError>
+pub(crate) fn reset(alloc: Global, k: &mut KSplit, power: &mut Power) -> Result<Commit, AllocError>
     requires { MayReset k.old }
     ensures spent { IsSpent power.old power.new }
     ensures paid { IsSweepPaid power.new result }
     ensures done { OnDone result (AreReset k.old k.new) }
     ensures images { Follows (ShowsTheSame k.old.volume.geometry) k.old.cells k.new.cells }
+    ensures device { IsSameDevice k.old.cells k.new.cells }
 {
     if !power.on() {
         return Ok(Commit::PowerLost);

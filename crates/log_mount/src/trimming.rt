@@ -1,11 +1,12 @@
 //! Maps lose what they have past the ends of files.
 ghost use Rattle.std.specs.Prelude.{◌≡◌, true, IfNone, IfSome, Ok};
 ghost use Rattle.disk_rules.specs.Volume.{inode};
-ghost use Rattle.k_map_plans.specs.Plans.{IsLiveFile};
+ghost use Rattle.log_replay.specs.Plans.{IsLiveFile};
 ghost use Rattle.k_split.specs.MapChanges.{IsSizeAnswer};
 ghost use Rattle.pm_words.specs.Powers.{is_on};
 ghost use Rattle.log_replay.specs.Replays.{ShowsTheSame};
 ghost use Rattle.pm_words.specs.Images.{Follows};
+ghost use Rattle.k_mount.specs.Sheds.{IsSameDevice};
 ghost use Rattle.log_mount.specs.Quiet.{IsQuiet, IsSpent, IsSweepPaid, OnDone};
 ghost use Rattle.log_mount.specs.Sweeps.{AreTrimmed, EndsInTime, IsTrimmedOne};
 
@@ -53,6 +54,7 @@ fn cut_file(
     ensures paid { IsSweepPaid power.new result }
     ensures done { OnDone result (IsSizeAnswer ino size k.old k.new (Ok tt)) }
     ensures images { Follows (ShowsTheSame k.old.volume.geometry) k.old.cells k.new.cells }
+    ensures device { IsSameDevice k.old.cells k.new.cells }
 {
     match k.set_size(alloc, ino, size, power) {
         Ok(()) => Ok(Commit::Done),
@@ -75,6 +77,7 @@ fn trim_one(
     ensures paid { IsSweepPaid power.new result }
     ensures done { OnDone result (IsTrimmedOne ino k.old k.new) }
     ensures images { Follows (ShowsTheSame k.old.volume.geometry) k.old.cells k.new.cells }
+    ensures device { IsSameDevice k.old.cells k.new.cells }
 {
     match length_passed(k, ino) {
         None => Ok(Commit::Done),
@@ -88,12 +91,13 @@ fn trim_one(
 /// # Errors
 ///
 /// Want of memory alone.
-pub fn trim(alloc: Global, k: &mut KSplit, power: &mut Power) -> Result<Commit, AllocError>
+pub(crate) fn trim(alloc: Global, k: &mut KSplit, power: &mut Power) -> Result<Commit, AllocError>
     requires { IsQuiet k.old }
     ensures spent { IsSpent power.old power.new }
     ensures paid { IsSweepPaid power.new result }
     ensures done { OnDone result (AreTrimmed k.old k.new) }
     ensures images { Follows (ShowsTheSame k.old.volume.geometry) k.old.cells k.new.cells }
+    ensures device { IsSameDevice k.old.cells k.new.cells }
 {
     if !power.on() {
         return Ok(Commit::PowerLost);

@@ -1,6 +1,7 @@
 //! Staging files give up their blocks.
 ghost use Rattle.log_replay.specs.Replays.{ShowsTheSame};
 ghost use Rattle.pm_words.specs.Images.{Follows};
+ghost use Rattle.k_mount.specs.Sheds.{IsSameDevice};
 ghost use Rattle.log_mount.specs.Quiet.{IsQuiet, IsSpent, IsSweepPaid, OnDone};
 ghost use Rattle.log_mount.specs.Sweeps.{AreUnstaged};
 
@@ -16,12 +17,17 @@ use std::alloc::{AllocError, Global};
 /// # Errors
 ///
 /// Want of memory alone.
-pub fn unstage(alloc: Global, k: &mut KSplit, power: &mut Power) -> Result<Commit, AllocError>
+pub(crate) fn unstage(
+    alloc: Global,
+    k: &mut KSplit,
+    power: &mut Power,
+) -> Result<Commit, AllocError>
     requires { IsQuiet k.old }
     ensures spent { IsSpent power.old power.new }
     ensures paid { IsSweepPaid power.new result }
     ensures done { OnDone result (AreUnstaged k.old k.new) }
     ensures images { Follows (ShowsTheSame k.old.volume.geometry) k.old.cells k.new.cells }
+    ensures device { IsSameDevice k.old.cells k.new.cells }
 {
     Staging::new(alloc).give_up_all(alloc, k, power)
 }

@@ -1,18 +1,16 @@
 -- The live entries are carried out one after the other: what is left, and what each image shows.
-use Rattle.std.proofs.Common.{◌≡◌, ◌≢◌, ◌≤◌, ◌<◌, ◌+◌, ◌*◌, ◌^◌, ◌⊎◌, ◌↔◌, ◌-◌, ◌==◌, ℕ, zero, suc, true, false, List, [], ◌∷◌, length, None, Result, Ok, Err, refl, sym, ◌∙◌, ap, subst, arith, inl, inr, get_or, drop, drop-cons, add-one}
+use Rattle.std.proofs.Common.{◌≡◌, ◌≢◌, ◌≤◌, ◌<◌, ◌+◌, ◌*◌, ◌^◌, ◌⊎◌, ◌↔◌, ◌-◌, ◌==◌, ℕ, true, List, [], ◌∷◌, length, None, Ok, Err, refl, sym, ◌∙◌, ap, subst, arith, inl, inr, get_or, drop, drop-cons, add-one}
 use Rattle.std.specs.Prelude.{All, IsSome}
-use Rattle.std.specs.declared.alloc.AllocError.{AllocError}
-use Rattle.std.proofs.lemmas.Bool.{and_parts, both_ways, cases_lt}
+use Rattle.std.proofs.lemmas.Bool.{and_parts, cases_lt}
 use Rattle.std.proofs.lemmas.Bool.Decides.{nat_tests}
 use Rattle.std.proofs.lemmas.List.{drop_all, get_or_past}
 use Rattle.std.proofs.lemmas.List.Elements.{All-append}
-use Rattle.std.proofs.lemmas.List.Sorted.{length_permutation}
 use Rattle.pm_words.specs.declared.Cell.{Cell}
 use Rattle.pm_words.specs.CellLaws.{single-home}
 use Rattle.pm_words.specs.Cells.{AllHome, AllSingle, cell}
 use Rattle.pm_words.specs.ImageLaws.{Follows-from_words, image-single, IsImage-words_of}
 use Rattle.pm_words.specs.Images.{Follows, IsImage, words_of}
-use Rattle.pm_words.specs.Powers.{is_on, Steps, Supply}
+use Rattle.pm_words.specs.Powers.{Steps, Supply}
 use Rattle.pm_words.specs.Words.{line_bytes, Words}
 use Rattle.disk_lines.specs.declared.Draft.{Draft}
 use Rattle.disk_lines.specs.declared.Kind.{Kind}
@@ -26,30 +24,28 @@ use Rattle.disk_rules.specs.Checked.{IsCheckedAs}
 use Rattle.disk_rules.specs.Content.{content, disk_of, size_of}
 use Rattle.disk_rules.specs.Live.{entry_in, is_file, is_live, live_entries, valid_entries}
 use Rattle.disk_rules.specs.Reading.{Reads}
-use Rattle.disk_rules.specs.Rules.{geometry_of, HasStagingBlocks, IsChecked}
+use Rattle.disk_rules.specs.Rules.{geometry_of, IsChecked}
 use Rattle.disk_rules.specs.Volume.{chain, extents, free_inode, inode, Volume}
 use Rattle.std.specs.List.{range_with_len}
 use Rattle.extent_words.specs.Extents.{disk_at}
 use Rattle.extent_words.specs.Moves.{IsMapped}
 use Rattle.list_facts.specs.Filters.{filter-In, filter_map-In}
 use Rattle.list_facts.specs.Members.{In}
-use Rattle.k_journal.specs.declared.outcomes.Commit.{Commit}
 use Rattle.image_facts.specs.CheckedLaws.{checked-parts}
 use Rattle.k_map_plans.specs.Plans.{MayMove}
+use Rattle.k_mount.specs.Images.{IsHeaded}
 use Rattle.k_mount.specs.Sheds.{IsAtRest}
-use Rattle.k_plans.specs.Whole.{IsWhole}
+use Rattle.k_mount.specs.Whole.{IsWhole}
 use Rattle.k_rules.specs.Stands.{IsOldOrNew}
 use Rattle.k_rules.specs.View.{View}
-use Rattle.k_split.specs.Answers.{IsOff, IsPaid}
-use Rattle.k_split.specs.MapChanges.{ChangesMaps, free_blocks_in, is_free_in, IsMapCut, IsMovedSingle, IsMovedWith, IsRelinkAnswer}
+use Rattle.k_split.specs.Answers.{IsPaid}
+use Rattle.k_split.specs.MapChanges.{ChangesMaps, free_blocks_in, is_free_in, IsMovedSingle, IsMovedWith, IsRelinkAnswer}
 use Rattle.k_split.specs.declared.faults.KFault.{KFault}
 use Rattle.map_facts.specs.Moves.{move_for}
-use Rattle.staging_files.proofs.RoomLaws.{free-unused}
 use Rattle.volume_facts.specs.Footprint.{SameLog}
 use Rattle.volume_facts.specs.FootprintLaws.{live_entries-same}
 use Rattle.world_log.specs.LogRules.{live_parts}
 use Rattle.world_promise.specs.Landed.{kind_file}
-use Rattle.world_images.specs.Images.{IsHeaded}
 use Rattle.live_facts.proofs.CheckedLaws.{sound-checked}
 use Rattle.world_relinks.proofs.RelinkLaws.{count-same}
 use Rattle.world_relinks.proofs.WorldLaws.{gives-relinks, keeps-content, relink-takes_one}
@@ -57,7 +53,7 @@ use Rattle.world_relinks.specs.Laws.{IsRelinkOf}
 use Rattle.live_facts.specs.Logs.{AreSound, CarriesOut, HasSameFiles, IsNext}
 use Rattle.world_relinks.specs.Images.{IsCarried}
 use Rattle.world_runs.specs.Relinks.{SameLine}
-use Rattle.replay_facts.specs.Orders.{AreInOrder}
+use Rattle.log_replay.proofs.Passed.{free-unnamed}
 use Rattle.log_replay.specs.Replays.{IsReplayAnswer, IsReplayed, IsReplayPaid, live_in, MayReplay, seen, ShowsTheSame, stopped_by}
 use Rattle.replay_facts.proofs.Heads.{headed-next}
 use Rattle.replay_facts.proofs.Kept.{log-carried, log-same}
@@ -188,7 +184,7 @@ module _ (k0 : View) (d : Draft) (left : List Draft) (k : View) (way : IsOnTheWa
   pub room-there : reserve k.volume.geometry ≤ free_blocks_in k + 2
   room-there =
       let one = some-member (live_in k) d alive in
-      omega (arith, way.checked.log.recovers.unused, one, free-unused k (way.rest.order.none_waits way.rest.unbatched))
+      omega (arith, way.checked.log.recovers.unused, one, free-unnamed k (way.rest.order.none_waits way.rest.unbatched))
 
   -- ---- a relink, done or cut off
 

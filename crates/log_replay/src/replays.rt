@@ -3,6 +3,7 @@ ghost use Rattle.std.specs.Prelude.{◌≡◌, ◌*◌, ◌^◌, true, length};
 ghost use Rattle.map_facts.specs.Moves.{move_for};
 ghost use Rattle.pm_words.specs.Images.{Follows};
 ghost use Rattle.pm_words.specs.Powers.{is_on, Steps};
+ghost use Rattle.k_mount.specs.Sheds.{IsSameDevice};
 ghost use Rattle.log_replay.specs.Replays.{IsReplayAnswer, IsReplayPaid, MayReplay, ShowsTheSame, stopped_by};
 
 use disk_lines::Draft;
@@ -62,6 +63,7 @@ pub fn replay(
     ensures paid { IsReplayPaid power.new result }
     ensures answer { IsReplayAnswer k.old k.new result }
     ensures images { Follows (ShowsTheSame k.old.volume.geometry) k.old.cells k.new.cells }
+    ensures device { IsSameDevice k.old.cells k.new.cells }
 {
     if !power.on() {
         return Ok(Commit::PowerLost);

@@ -1,9 +1,10 @@
-use Rattle.std.proofs.Common.{◌≡◌, ◌∙◌, true, refl, sym}
+use Rattle.std.proofs.Common.{◌∙◌, inl, refl, sym}
 use Rattle.pm_words.specs.Cells.{cell}
 use Rattle.pm_words.specs.Images.{Follows-same}
 use Rattle.pm_words.specs.Powers.{is_on}
 use Rattle.block_bytes.specs.Overwrites.{SameBesideLines}
 use Rattle.block_bytes.proofs.Cells.{fence_done, settled}
+use Rattle.block_bytes.proofs.ZeroCells.{going_fence}
 use Rattle.block_bytes.proofs.LinesZeroed.{kept_lines, zeroed_lines, zeroing_lines}
 use Rattle.block_bytes.proofs.lines.zero_lines.Goals as goal
 
@@ -34,3 +35,11 @@ returns-clause-keeps c on =
     (λ i here.
     let before = c.fence.ensures.steps.on_before on in
     fence_done (is_on c.store_lines.new.power) 0 (cell c.store_lines.new.pm i) (cell c.fence.new.self i) before (c.fence.ensures.fence.words i) (c.store_lines.ensures.done before i here))
+
+pub returns-then-not-on-clause-words : goal.returns-then-not-on-clause-words
+returns-then-not-on-clause-words c = inl (λ i here. inl refl)
+
+pub returns-clause-words : goal.returns-clause-words
+returns-clause-words c =
+    going_fence (is_on c.store_lines.new.power) c.args.first c.args.count c.args.pm.now c.store_lines.new.pm c.fence.new.self c.store_lines.ensures.going c.store_lines.ensures.done
+    c.fence.ensures.fence.words

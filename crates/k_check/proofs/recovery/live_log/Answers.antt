@@ -1,7 +1,4 @@
-use Rattle.std.proofs.Common.{◌≡◌, ◌≢◌, ◌*◌, ◌↔◌, length, List, [], ◌∷◌, Bool, true, false, refl, sym, subst, ◌∙◌, ap, arith}
-use mathlib.Core.Bool.{not}
-use Rattle.std.proofs.lemmas.Bool.{eqb-true}
-use Rattle.std.specs.Prelude.{◌==◌, ◌<◌, IsTrue, ℕ}
+use Rattle.std.proofs.Common.{◌≡◌, ◌*◌, length, List, sym, ◌∙◌, ap}
 use Rattle.std.specs.Prelude.{filter, Option}
 use Rattle.disk_lines.specs.declared.Draft.{Draft}
 use Rattle.disk_places.specs.Journal.{journaled}

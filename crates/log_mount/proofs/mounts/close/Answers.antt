@@ -1,5 +1,7 @@
+use Rattle.k_mount.proofs.Devices.{device-then}
 use Rattle.log_mount.proofs.Mounting.{closed-done, may-reset}
 use Rattle.log_mount.proofs.Spending.{spent-steps, spent-then}
+use Rattle.log_mount.proofs.Showing.{images-closed}
 use Rattle.log_mount.proofs.mounts.close.Goals as goal
 
 pub reset-requires : goal.reset-requires
@@ -14,3 +16,9 @@ returns-in-Done-clause-spent c =
 
 pub returns-in-Done-clause-done : goal.returns-in-Done-clause-done
 returns-in-Done-clause-done c = closed-done c.args.k.now c.settle.new.k c.reset.new.k c.reset.result c.in-Done.ensures.done c.reset.ensures.done
+
+pub returns-in-Done-clause-images : goal.returns-in-Done-clause-images
+returns-in-Done-clause-images c = images-closed c.args.k.now c.settle.new.k c.reset.new.k c.in-Done.ensures.done c.reset.ensures.images
+
+pub returns-in-Done-clause-device : goal.returns-in-Done-clause-device
+returns-in-Done-clause-device c = device-then c.args.k.now.cells c.settle.new.k.cells c.reset.new.k.cells c.settle.ensures.device c.reset.ensures.device

@@ -1,6 +1,8 @@
+use Rattle.k_mount.proofs.Devices.{device-then}
 use Rattle.log_mount.proofs.Mounting.{finish-done, may-settle}
 use Rattle.log_mount.proofs.Spending.{spent-then}
 use Rattle.log_mount.specs.Sweeps.{AreSwept}
+use Rattle.log_mount.proofs.Showing.{shown-same, images-finished}
 use Rattle.log_mount.proofs.mounts.finish.Goals as goal
 
 pub close-requires : goal.close-requires
@@ -15,3 +17,17 @@ returns-in-Done-clause-done c =
 
 pub returns-in-Done-clause-spent : goal.returns-in-Done-clause-spent
 returns-in-Done-clause-spent c = spent-then c.args.power.now c.sweep.new.power c.close.new.power c.sweep.ensures.spent c.close.ensures.spent
+
+pub returns-in_err-commit-clause-images : goal.returns-in_err-commit-clause-images
+returns-in_err-commit-clause-images c = shown-same c.args.k.now.volume.geometry c.args.k.now.cells c.sweep.new.k.cells c.requires.rest.single c.sweep.ensures.images
+
+pub returns-in-PowerLost-clause-images : goal.returns-in-PowerLost-clause-images
+returns-in-PowerLost-clause-images c = shown-same c.args.k.now.volume.geometry c.args.k.now.cells c.sweep.new.k.cells c.requires.rest.single c.sweep.ensures.images
+
+pub returns-in-Done-clause-images : goal.returns-in-Done-clause-images
+returns-in-Done-clause-images c =
+    let swept : AreSwept c.args.k.now c.sweep.new.k = rw c.in-Done.is at c.in_ok-commit.ensures.done in
+    images-finished c.args.k.now c.sweep.new.k c.close.new.k swept c.close.ensures.images
+
+pub returns-in-Done-clause-device : goal.returns-in-Done-clause-device
+returns-in-Done-clause-device c = device-then c.args.k.now.cells c.sweep.new.k.cells c.close.new.k.cells c.sweep.ensures.device c.close.ensures.device

@@ -1,4 +1,3 @@
-use Rattle.std.proofs.Common.{◌∙◌}
 use Rattle.log_mount.proofs.Keeping.{home-single}
 use Rattle.log_mount.proofs.Mounting.{checked-blocks, mount-answer, size-checked}
 use Rattle.log_mount.proofs.Spending.{spent-none}

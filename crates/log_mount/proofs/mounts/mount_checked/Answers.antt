@@ -3,7 +3,7 @@ use Rattle.disk_places.specs.Journal.{journaled}
 use Rattle.disk_rules.specs.Live.{live_entries}
 use Rattle.disk_rules.specs.Volume.{volume}
 use Rattle.pm_words.specs.Images.{words_of}
-use Rattle.replay_facts.specs.Orders.{AreInOrder}
+use Rattle.log_replay.specs.Orders.{AreInOrder}
 use Rattle.log_mount.proofs.Mounting.{answer-recovered, order-recovered, too}
 use Rattle.log_mount.proofs.Spending.{spent-none, spent-then}
 use Rattle.log_mount.proofs.mounts.mount_checked.Goals as goal
@@ -41,3 +41,6 @@ pub returns-clause-answer : goal.returns-clause-answer
 returns-clause-answer c =
     answer-recovered c.args.geometry (words_of c.args.pm) c.recover_journal.new.pm c.requires.numbers c.requires.checked c.in-Done.ensures.words
     c.mount_recovered.new.power c.mount_recovered.result c.mount_recovered.ensures.answer
+
+pub returns-in-PowerLost-clause-answer : goal.returns-in-PowerLost-clause-answer
+returns-in-PowerLost-clause-answer c = (c.in-PowerLost.ensures.paid, c.in-PowerLost.ensures.lost)

@@ -1,6 +1,8 @@
+use Rattle.std.proofs.Common.{◌∙◌}
 use Rattle.pm_words.specs.Images.{words_of}
 use Rattle.log_mount.proofs.Mounting.{sound-journal}
 use Rattle.log_mount.proofs.Spending.{spent-steps}
+use Rattle.log_mount.proofs.Showing.{left-viewed}
 use Rattle.log_mount.proofs.mounts.recover_journal.Goals as goal
 
 pub unreachable-requires : goal.unreachable-requires
@@ -12,3 +14,10 @@ returns-in-Done-clause-spent c = spent-steps 1283 c.args.power.now c.recover.new
 
 pub returns-in-PowerLost-clause-spent : goal.returns-in-PowerLost-clause-spent
 returns-in-PowerLost-clause-spent c = spent-steps 1283 c.args.power.now c.recover.new.power c.recover.ensures.steps
+
+pub returns-in-PowerLost-clause-lost : goal.returns-in-PowerLost-clause-lost
+returns-in-PowerLost-clause-lost c = record {
+  size = c.recover.ensures.size ∙ c.requires.size;
+  home = c.recover.ensures.home;
+  shown = left-viewed c.args.geometry.now c.args.pm.now c.recover.new.pm c.requires.numbers c.requires.checked c.recover.ensures.each_image;
+}

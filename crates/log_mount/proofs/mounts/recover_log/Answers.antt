@@ -1,6 +1,8 @@
+use Rattle.k_mount.proofs.Devices.{device-then}
 use Rattle.log_mount.proofs.Mounting.{recover-done, replayed-quiet}
 use Rattle.log_replay.specs.Replays.{IsReplayed}
 use Rattle.log_mount.proofs.Spending.{spent-steps, spent-then}
+use Rattle.log_mount.proofs.Showing.{shown-same, images-recovered}
 use Rattle.log_mount.proofs.mounts.recover_log.Goals as goal
 
 pub finish-requires : goal.finish-requires
@@ -22,3 +24,17 @@ returns-in-PowerLost-clause-spent c = spent-steps _ c.args.power.now c.replay.ne
 pub returns-in-Done-clause-spent : goal.returns-in-Done-clause-spent
 returns-in-Done-clause-spent c =
     spent-then c.args.power.now c.replay.new.power c.finish.new.power (spent-steps _ c.args.power.now c.replay.new.power c.replay.ensures.steps) c.finish.ensures.spent
+
+pub returns-in_err-commit-clause-images : goal.returns-in_err-commit-clause-images
+returns-in_err-commit-clause-images c = shown-same c.args.k.now.volume.geometry c.args.k.now.cells c.replay.new.k.cells c.requires.rest.single c.replay.ensures.images
+
+pub returns-in-PowerLost-clause-images : goal.returns-in-PowerLost-clause-images
+returns-in-PowerLost-clause-images c = shown-same c.args.k.now.volume.geometry c.args.k.now.cells c.replay.new.k.cells c.requires.rest.single c.replay.ensures.images
+
+pub returns-in-Done-clause-images : goal.returns-in-Done-clause-images
+returns-in-Done-clause-images c =
+    let done : IsReplayed c.args.k.now c.replay.new.k = rw c.in-Done.is at c.in_ok-commit.ensures.answer in
+    images-recovered c.args.entries.now c.args.k.now c.replay.new.k c.finish.new.k c.requires done c.replay.ensures.images c.finish.ensures.images
+
+pub returns-in-Done-clause-device : goal.returns-in-Done-clause-device
+returns-in-Done-clause-device c = device-then c.args.k.now.cells c.replay.new.k.cells c.finish.new.k.cells c.replay.ensures.device c.finish.ensures.device

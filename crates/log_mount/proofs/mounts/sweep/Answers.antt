@@ -1,3 +1,4 @@
+use Rattle.k_mount.proofs.Devices.{device-then}
 use Rattle.log_mount.proofs.Mounting.{swept-done}
 use Rattle.log_mount.specs.Sweeps.{AreUnstaged}
 use Rattle.log_mount.proofs.Spending.{spent-then}
@@ -21,3 +22,6 @@ pub returns-in-Done-clause-images : goal.returns-in-Done-clause-images
 returns-in-Done-clause-images c =
     let first : AreUnstaged c.args.k.now c.unstage.new.k = rw c.in-Done.is at c.in_ok-commit.ensures.done in
     images-then c.args.k.now c.unstage.new.k c.trim.new.k.cells c.requires.rest.single first.shows c.trim.ensures.images
+
+pub returns-in-Done-clause-device : goal.returns-in-Done-clause-device
+returns-in-Done-clause-device c = device-then c.args.k.now.cells c.unstage.new.k.cells c.trim.new.k.cells c.unstage.ensures.device c.trim.ensures.device

@@ -1,6 +1,7 @@
 use Rattle.std.proofs.Common.{◌≡◌, ◌∙◌, ap, arith, sym, true}
 use Rattle.disk_places.specs.Places.{Geometry}
 use Rattle.pm_words.specs.Powers.{is_on}
+use Rattle.k_mount.proofs.Devices.{device-none, device-then}
 use Rattle.log_mount.proofs.Keeping.{images-own, shows-first}
 use Rattle.log_mount.proofs.Spending.{spent-none, spent-then}
 use Rattle.log_mount.proofs.Resets.{way-begins, way-ends, way-images, way-may, way-next}
@@ -11,7 +12,7 @@ pub returns-then-not-on-clause-spent : goal.returns-then-not-on-clause-spent
 returns-then-not-on-clause-spent c = spent-none c.args.power.now
 
 pub loop-ino-init : goal.loop-ino-init
-loop-ino-init c = (way-begins c.args.k.now c.requires, spent-none c.args.power.now, sym c.on.ensures ∙ c.if-not-on.false)
+loop-ino-init c = (way-begins c.args.k.now c.requires, spent-none c.args.power.now, sym c.on.ensures ∙ c.if-not-on.false, device-none c.args.k.now.cells)
 
 pub reset_one-requires-clause-may : goal.reset_one-requires-clause-may
 reset_one-requires-clause-may c = way-may c.args.k.now c.loop-ino.k c.loop-ino.ino c.loop-ino.invariant.0
@@ -23,6 +24,7 @@ loop-ino-preserved c =
       way-next c.args.k.now c.loop-ino.k c.reset_one.new.k c.loop-ino.ino c.loop-ino.invariant.0 one,
       spent-then c.args.power.now c.loop-ino.power c.reset_one.new.power c.loop-ino.invariant.1 c.reset_one.ensures.spent,
       on,
+      device-then c.args.k.now.cells c.loop-ino.k.cells c.reset_one.new.k.cells c.loop-ino.invariant.3 c.reset_one.ensures.device,
     )
 
 pub returns-in_err-commit-clause-spent : goal.returns-in_err-commit-clause-spent
@@ -51,3 +53,17 @@ returns-in-PowerLost-clause-images c =
 
 pub returns-clause-images : goal.returns-clause-images
 returns-clause-images c = images-own c.args.k.now c.loop-ino.k c.requires.quiet.rest.single c.loop-ino.invariant.0.shows
+
+pub returns-then-not-on-clause-device : goal.returns-then-not-on-clause-device
+returns-then-not-on-clause-device c = device-none c.args.k.now.cells
+
+pub returns-in_err-commit-clause-device : goal.returns-in_err-commit-clause-device
+returns-in_err-commit-clause-device c =
+    device-then c.args.k.now.cells c.loop-ino.k.cells c.reset_one.new.k.cells c.loop-ino.invariant.3 c.reset_one.ensures.device
+
+pub returns-in-PowerLost-clause-device : goal.returns-in-PowerLost-clause-device
+returns-in-PowerLost-clause-device c =
+    device-then c.args.k.now.cells c.loop-ino.k.cells c.reset_one.new.k.cells c.loop-ino.invariant.3 c.reset_one.ensures.device
+
+pub returns-clause-device : goal.returns-clause-device
+returns-clause-device c = c.loop-ino.invariant.3

@@ -1,7 +1,8 @@
-use Rattle.std.proofs.Common.{◌≡◌, ◌∙◌, false, inl, inr, refl, sym, true}
-use Rattle.log_mount.proofs.Resets.{high-file, not-high, reset-images}
+use Rattle.std.proofs.Common.{None, ◌≡◌, inr}
+use Rattle.k_log_plans.specs.Resets.{reset}
+use Rattle.k_mount.proofs.Devices.{device-answer, device-none}
+use Rattle.log_mount.proofs.Resets.{high-file, reset-images}
 use Rattle.log_mount.proofs.Keeping.{images-own, shows-first}
-use Rattle.log_mount.proofs.Spending.{spent-none, spent-steps}
 use Rattle.log_mount.proofs.resetting.reset_one.Goals as goal
 
 pub reset_applied-requires-clause-file : goal.reset_applied-requires-clause-file
@@ -32,3 +33,15 @@ pub returns-in-Err-NoMemory-clause-images : goal.returns-in-Err-NoMemory-clause-
 returns-in-Err-NoMemory-clause-images c =
     reset-images c.args.ino c.args.k.now c.reset_applied.new.self c.reset_applied.result c.requires.may
     (high-file c.args.k.now c.args.ino c.requires.may.quiet (c.is_high.ensures.0 c.if-not-is_high.false)) c.reset_applied.ensures.answer
+
+pub returns-then-not-is_high-clause-device : goal.returns-then-not-is_high-clause-device
+returns-then-not-is_high-clause-device c = device-none c.args.k.now.cells
+
+pub returns-in-Ok-clause-device : goal.returns-in-Ok-clause-device
+returns-in-Ok-clause-device c = device-answer None (λ done w. w ≡ reset c.args.ino c.args.k.now.volume) c.args.k.now c.reset_applied.new.self c.reset_applied.result c.reset_applied.ensures.answer
+
+pub returns-in-Err-PowerLost-clause-device : goal.returns-in-Err-PowerLost-clause-device
+returns-in-Err-PowerLost-clause-device c = device-answer None (λ done w. w ≡ reset c.args.ino c.args.k.now.volume) c.args.k.now c.reset_applied.new.self c.reset_applied.result c.reset_applied.ensures.answer
+
+pub returns-in-Err-NoMemory-clause-device : goal.returns-in-Err-NoMemory-clause-device
+returns-in-Err-NoMemory-clause-device c = device-answer None (λ done w. w ≡ reset c.args.ino c.args.k.now.volume) c.args.k.now c.reset_applied.new.self c.reset_applied.result c.reset_applied.ensures.answer

@@ -1,5 +1,7 @@
 use Rattle.std.proofs.Common.{subst, sym, ◌≤◌}
 use Rattle.disk_lines.specs.Lines.{most_bytes}
+use Rattle.k_split.specs.MapChanges.{IsSizedWith}
+use Rattle.k_mount.proofs.Devices.{device-mapped}
 use Rattle.log_mount.proofs.Trims.{room-there, size-fits, size-images}
 use Rattle.log_mount.proofs.trimming.cut_file.Goals as goal
 
@@ -20,3 +22,12 @@ returns-in-Err-PowerLost-clause-images c =
 pub returns-in-Err-NoMemory-clause-images : goal.returns-in-Err-NoMemory-clause-images
 returns-in-Err-NoMemory-clause-images c =
     size-images c.args.ino c.args.size c.args.k.now c.set_size.new.self c.set_size.result c.requires.quiet c.requires.file c.requires.own c.set_size.ensures.answer
+
+pub returns-in-Ok-clause-device : goal.returns-in-Ok-clause-device
+returns-in-Ok-clause-device c = device-mapped (IsSizedWith c.args.ino c.args.size c.args.k.now) c.args.k.now c.set_size.new.self c.set_size.result c.set_size.ensures.answer
+
+pub returns-in-Err-PowerLost-clause-device : goal.returns-in-Err-PowerLost-clause-device
+returns-in-Err-PowerLost-clause-device c = device-mapped (IsSizedWith c.args.ino c.args.size c.args.k.now) c.args.k.now c.set_size.new.self c.set_size.result c.set_size.ensures.answer
+
+pub returns-in-Err-NoMemory-clause-device : goal.returns-in-Err-NoMemory-clause-device
+returns-in-Err-NoMemory-clause-device c = device-mapped (IsSizedWith c.args.ino c.args.size c.args.k.now) c.args.k.now c.set_size.new.self c.set_size.result c.set_size.ensures.answer

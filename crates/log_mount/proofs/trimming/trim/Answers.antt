@@ -1,6 +1,7 @@
 use Rattle.std.proofs.Common.{◌≡◌, ◌∙◌, ap, arith, sym, true}
 use Rattle.disk_places.specs.Places.{Geometry}
 use Rattle.pm_words.specs.Powers.{is_on}
+use Rattle.k_mount.proofs.Devices.{device-none, device-then}
 use Rattle.log_mount.proofs.Keeping.{images-own, shows-first}
 use Rattle.log_mount.proofs.Spending.{spent-none, spent-then}
 use Rattle.log_mount.proofs.Trims.{way-begins, way-ends, way-images, way-next}
@@ -11,7 +12,7 @@ pub returns-then-not-on-clause-spent : goal.returns-then-not-on-clause-spent
 returns-then-not-on-clause-spent c = spent-none c.args.power.now
 
 pub loop-ino-init : goal.loop-ino-init
-loop-ino-init c = (way-begins c.args.k.now c.requires, spent-none c.args.power.now, sym c.on.ensures ∙ c.if-not-on.false)
+loop-ino-init c = (way-begins c.args.k.now c.requires, spent-none c.args.power.now, sym c.on.ensures ∙ c.if-not-on.false, device-none c.args.k.now.cells)
 
 pub loop-ino-preserved : goal.loop-ino-preserved
 loop-ino-preserved c =
@@ -20,6 +21,7 @@ loop-ino-preserved c =
       way-next c.args.k.now c.loop-ino.k c.trim_one.new.k c.loop-ino.ino c.loop-ino.invariant.0 one,
       spent-then c.args.power.now c.loop-ino.power c.trim_one.new.power c.loop-ino.invariant.1 c.trim_one.ensures.spent,
       on,
+      device-then c.args.k.now.cells c.loop-ino.k.cells c.trim_one.new.k.cells c.loop-ino.invariant.3 c.trim_one.ensures.device,
     )
 
 pub returns-in_err-commit-clause-spent : goal.returns-in_err-commit-clause-spent
@@ -48,3 +50,17 @@ returns-in-PowerLost-clause-images c =
 
 pub returns-clause-images : goal.returns-clause-images
 returns-clause-images c = images-own c.args.k.now c.loop-ino.k c.requires.rest.single c.loop-ino.invariant.0.shows
+
+pub returns-then-not-on-clause-device : goal.returns-then-not-on-clause-device
+returns-then-not-on-clause-device c = device-none c.args.k.now.cells
+
+pub returns-in_err-commit-clause-device : goal.returns-in_err-commit-clause-device
+returns-in_err-commit-clause-device c =
+    device-then c.args.k.now.cells c.loop-ino.k.cells c.trim_one.new.k.cells c.loop-ino.invariant.3 c.trim_one.ensures.device
+
+pub returns-in-PowerLost-clause-device : goal.returns-in-PowerLost-clause-device
+returns-in-PowerLost-clause-device c =
+    device-then c.args.k.now.cells c.loop-ino.k.cells c.trim_one.new.k.cells c.loop-ino.invariant.3 c.trim_one.ensures.device
+
+pub returns-clause-device : goal.returns-clause-device
+returns-clause-device c = c.loop-ino.invariant.3

@@ -1,5 +1,5 @@
 use Rattle.std.proofs.Common.{◌^◌}
-use Rattle.log_mount.proofs.Giving.{unstaged-done, unstaged-images, unstaged-paid}
+use Rattle.log_mount.proofs.Giving.{unstaged-device, unstaged-done, unstaged-images, unstaged-paid}
 use Rattle.log_mount.proofs.Spending.{spent-steps}
 use Rattle.log_mount.proofs.unstaging.unstage.Goals as goal
 
@@ -19,3 +19,6 @@ returns-clause-done c =
 pub returns-clause-images : goal.returns-clause-images
 returns-clause-images c =
     unstaged-images c.new.result c.give_up_all.new.self c.args.k.now c.give_up_all.new.k c.give_up_all.result c.requires c.give_up_all.ensures.answer
+
+pub returns-clause-device : goal.returns-clause-device
+returns-clause-device c = unstaged-device c.new.result c.give_up_all.new.self c.args.k.now c.give_up_all.new.k c.give_up_all.result c.give_up_all.ensures.answer

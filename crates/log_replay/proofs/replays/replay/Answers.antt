@@ -1,21 +1,18 @@
-use Rattle.std.proofs.Common.{◌≡◌, ◌*◌, ◌^◌, ◌+◌, ◌<◌, ◌≤◌, true, false, length, drop, get_or, List, [], ◌∷◌, Ok, Err, refl, sym, ◌∙◌, ap, subst, arith}
+use Rattle.std.proofs.Common.{◌+◌, ◌<◌, length, drop, ◌∷◌, Ok, Err, refl, sym, ◌∙◌, subst, arith}
 use Rattle.std.proofs.lemmas.Bool.{both_ways}
-use Rattle.disk_lines.specs.declared.Draft.{Draft}
-use Rattle.map_facts.specs.Moves.{move_for}
-use Rattle.pm_words.specs.Images.{Follows}
-use Rattle.pm_words.specs.Powers.{is_on, Steps}
-use Rattle.pm_words.specs.PowerLaws.{Steps-then, Steps-none}
+use Rattle.pm_words.specs.PowerLaws.{Steps-none}
 use Rattle.k_map_plans.specs.Plans.{MayMove}
-use Rattle.k_split.specs.MapChanges.{IsMovedSingle, IsRelinkAnswer}
-use Rattle.log_replay.specs.Replays.{IsReplayAnswer, IsReplayed, IsReplayPaid, MayReplay, ShowsTheSame, stopped_by}
-use Rattle.log_replay.proofs.Steps.{answer-stopped, as-many, blank, entry_at, IsOnTheWay, may-move, more-steps, moves-single, room-there, shown-so_far, way-at, way-begins, way-ends, way-goes_on, way-stops, way-stops-paid, way-whole}
+use Rattle.k_mount.proofs.Devices.{device-mapped, device-none, device-then}
+use Rattle.k_split.specs.MapChanges.{IsMovedWith, IsRelinkAnswer}
+use Rattle.log_replay.specs.Replays.{IsReplayAnswer, IsReplayPaid}
+use Rattle.log_replay.proofs.Steps.{answer-stopped, as-many, blank, entry_at, IsOnTheWay, may-move, more-steps, room-there, shown-so_far, way-at, way-begins, way-goes_on, way-stops, way-stops-paid, way-whole}
 use Rattle.log_replay.proofs.replays.replay.Goals as goal
 
 pub returns-then-not-on-clause-images : goal.returns-then-not-on-clause-images
 returns-then-not-on-clause-images c = shown-so_far c.args.k.now c.args.entries.now c.args.k.now c.requires.rest (way-begins c.args.k.now c.args.entries.now c.requires)
 
 pub loop-entry-init : goal.loop-entry-init
-loop-entry-init c = (way-begins c.args.k.now c.args.entries.now c.requires, Steps-none c.args.power.now, sym c.on.ensures ∙ c.if-not-on.false)
+loop-entry-init c = (way-begins c.args.k.now c.args.entries.now c.requires, Steps-none c.args.power.now, sym c.on.ensures ∙ c.if-not-on.false, device-none c.args.k.now.cells)
 
 pub relink-requires-clause-awake : goal.relink-requires-clause-awake
 relink-requires-clause-awake c lost = absurd (both_ways c.loop-entry.k.lost c.loop-entry.invariant.0.rest.on lost)
@@ -87,6 +84,7 @@ loop-entry-preserved c =
       way-goes_on c.args.k.now e (drop (i + 1) ds) c.loop-entry.k way c.relink.new.self gave,
       more-steps (i + 1) i c.args.power.now c.loop-entry.power c.relink.new.power (omega arith) c.loop-entry.invariant.1 c.relink.ensures.steps,
       c.in-Ok.ensures.paid.0,
+      device-then c.args.k.now.cells c.loop-entry.k.cells c.relink.new.self.cells c.loop-entry.invariant.3 (device-mapped (IsMovedWith c.move_for.result c.loop-entry.k) c.loop-entry.k c.relink.new.self c.relink.result c.relink.ensures.answer),
     )
 
 pub returns-clause-steps : goal.returns-clause-steps
@@ -97,3 +95,14 @@ returns-clause-answer c = way-whole c.args.k.now c.args.entries.now c.loop-entry
 
 pub returns-clause-images : goal.returns-clause-images
 returns-clause-images c = shown-so_far c.args.k.now (drop c.loop-entry.entry-index c.args.entries.now) c.loop-entry.k c.requires.rest c.loop-entry.invariant.0
+
+pub returns-then-not-on-clause-device : goal.returns-then-not-on-clause-device
+returns-then-not-on-clause-device c = device-none c.args.k.now.cells
+
+pub returns-in-Err-clause-device : goal.returns-in-Err-clause-device
+returns-in-Err-clause-device c =
+    device-then c.args.k.now.cells c.loop-entry.k.cells c.relink.new.self.cells c.loop-entry.invariant.3
+    (device-mapped (IsMovedWith c.move_for.result c.loop-entry.k) c.loop-entry.k c.relink.new.self c.relink.result c.relink.ensures.answer)
+
+pub returns-clause-device : goal.returns-clause-device
+returns-clause-device c = c.loop-entry.invariant.3

@@ -12,4 +12,4 @@ invariant_of-self-else-not-on c off =
     let first = c.log_line-first.ensures ∙ ap (λ (g : Geometry). log_line g 0) c.geometry-geometry.ensures.numbers in
     let count = c.from-count.ensures ∙ ap (λ (g : Geometry). g.log) (c.geometry.view_is ∙ c.geometry-geometry.ensures.numbers) in
     ready_cleared k.tables k.pm c.zero_lines.new.pm k.batched k.lost k.lost k.batch (c.self.invariant off)
-    (cleared k.tables.volume k.pm c.zero_lines.new.pm c.log_line-first.result c.from-count.result first count z.size z.lent (z.each_image, z.others, z.durable on) (z.keeps on))
+    (cleared k.tables.volume k.pm c.zero_lines.new.pm c.log_line-first.result c.from-count.result first count z.size z.lent (z.each_image, z.others, z.durable on, z.words) (z.keeps on))

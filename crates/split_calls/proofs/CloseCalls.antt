@@ -176,7 +176,7 @@ module _ (who : Who) (h : Handle) (k : View) (t t2 : Tables) (d : Description) (
     used = ap is_used (file_kind g n s runs)
 
     other : number runs.numbers d.node ≢ 0
-    other = not_root_number k.volume [] (journaled (words_of k.cells)) runs.numbers s runs.count d.node world used (ap is_directory (file_kind g n s runs))
+    other = not_root_number k.volume [] [] (journaled (words_of k.cells)) runs.numbers s runs.count d.node world used (ap is_directory (file_kind g n s runs))
 
     unnamed_there : is_named s.entries (number runs.numbers d.node) ≡ false
     unnamed_there = is_named-nameless k.volume runs.numbers s d.node world.valid.stands.sane world.valid.stands.names used (count-nameless k.volume.names d.node none)

@@ -46,7 +46,7 @@ use Rattle.split_calls.proofs.Running.{fault_ended, loses_cut, runs_on}
 pub has_reserve : (k : View) (t : Tables) → RunsInSome k t → reserve k.volume.geometry ≤ free_blocks_in k + 3
 has_reserve k t some =
     let going = some.runs.going in
-    omega (arith, going.running.device.room.free, unwaiting-counted (record { volume = k.volume; waiting = k.waiting }) (going.order.none_waits going.unbatched))
+    omega (arith, going.device.room.free, unwaiting-counted (record { volume = k.volume; waiting = k.waiting }) (going.order.none_waits going.unbatched))
 
 pub live_file : (k : View) (ino : ℕ) → (inode k.volume ino).kind ≡ File → IsLiveFile ino k.volume
 live_file k ino file = record { below = used_below k.volume ino (ap is_used file); file = file }
@@ -60,9 +60,9 @@ module _ (who : Who) (h : Handle) (p : List (List ℕ)) (f : Flags) (k : View) (
   maps = some.runs.going.order.whole.maps
 
   cut_step : (w : Volume) → IsWhole w → w ≡ cut_to_nothing ino k.volume → (g : Geometry) (n : ℕ) (s : State) → (runs : RunsAs g k t n s)
-      → IsStep k.volume w [] runs.numbers runs.numbers s (after_call s (who, Call.Open h p f)) runs.count runs.count
+      → IsStep (Some ino) k.volume w [] [] runs.numbers runs.numbers s (after_call s (who, Call.Open h p f)) runs.count runs.count
   cut_step w whole is g n s runs =
-      steps_cut k.volume k.cells [] runs.numbers s runs.count who h p f ino w runs.going.running
+      steps_cut k.volume k.cells [] [] runs.numbers s runs.count who h p f ino w runs.going.device tt
       (ap (λ full. first (open_rows (volume_space k.volume) full false p f)) (full_there g k t n s runs) ∙ none) cuts found.1 file refl below runs.going.order.whole whole is
 
   -- each inode is of the kind that it was
@@ -95,6 +95,7 @@ module _ (who : Who) (h : Handle) (p : List (List ℕ)) (f : Flags) (k : View) (
   cut_fault k2 old new fault is =
       fault_ended None (λ (done : Unit {0}) w. w ≡ cut_to_nothing ino k.volume) who (Call.Open h p f) k k2 t old new fault (λ o row_is g n s runs. (let never : None ≡ Some o = row_is in cc))
       (λ done w row_is made_is cut. loses_cut who (Call.Open h p f) k k2 t w cut (λ g n s small runs. record {
+        touched = Some ino;
         after = runs.numbers;
         next = after_call s (who, Call.Open h p f);
         later = runs.count;

@@ -34,9 +34,9 @@ use Rattle.world_rules.specs.Stands.{is_used, number}
 use Rattle.world_images.specs.Promised.{KeepsPromise}
 use Rattle.world_images.specs.Running.{promise_between}
 use Rattle.world_names.specs.RemoveCalls.{swept-open}
-use Rattle.world_exits.specs.Done.{keeps_cut}
+use Rattle.world_exits.specs.Done.{keeps_cut, runs_home}
 use Rattle.world_exits.specs.Ends.{renames_over_file, tree_of_rename, tree_of_unlink}
-use Rattle.world_exits.specs.Going.{IsStep, moved_so_far}
+use Rattle.world_exits.specs.Going.{gone_by, IsStep, moved_so_far}
 use Rattle.world_exits.specs.Moves.{steps_rename}
 use Rattle.world_exits.specs.Steps.{state_unlink, steps_dropped, steps_unlinked, unlinks_file, valid_now}
 use Rattle.split_calls.specs.Answers.{ComesHalfWay, IsEnded, IsHalfWay, IsReplyOf, IsSpent, told_of}
@@ -54,7 +54,7 @@ open_there g k t n s runs ino file =
     ap (λ x. is_open x (number runs.numbers ino)) runs.tables ∙ same_open (number runs.numbers) t ino told where
       told : IsTold (number runs.numbers) t ino
       told other there same =
-          (valid_now k.volume k.cells [] runs.numbers s runs.count runs.going.running).valid.stands.names.one other ino (ap is_used (runs.files other there)) (ap is_used file) same
+          (valid_now k.volume k.cells [] [] runs.numbers s runs.count runs.going.device).valid.stands.names.one other ino (ap is_used (runs.files other there)) (ap is_used file) same
 
 -- it is open still: the call has ended
 half_open : (g : Geometry) (k : View) (t : Tables) (n : ℕ) (end : State) (ino : ℕ) → IsHalfWay g k t n end ino → is_open t ino ≡ true → RunsAs g k t n end
@@ -64,11 +64,11 @@ half_open g k t n end ino half there =
 
 -- the step that drops it
 drop_step : (g : Geometry) (k : View) (t : Tables) (n : ℕ) (end : State) (ino : ℕ) (w : Volume) → (half : IsHalfWay g k t n end ino) → is_open t ino ≡ false → w ≡ dropped ino k.volume
-    → IsStep k.volume w [] half.runs.numbers half.runs.numbers half.middle end half.runs.count half.runs.count
+    → IsStep (Some ino) k.volume w [] [] half.runs.numbers half.runs.numbers half.middle end half.runs.count half.runs.count
 drop_step g k t n end ino w half shut w_is =
-    subst (λ x. IsStep k.volume x [] half.runs.numbers half.runs.numbers half.middle end half.runs.count half.runs.count) (sym w_is)
-    (subst (λ x. IsStep k.volume (dropped ino k.volume) [] half.runs.numbers half.runs.numbers half.middle x half.runs.count half.runs.count) (sym half.ends)
-    (steps_dropped k.volume k.cells [] half.runs.numbers half.middle half.runs.count ino half.runs.going.running half.may
+    subst (λ x. IsStep (Some ino) k.volume x [] [] half.runs.numbers half.runs.numbers half.middle end half.runs.count half.runs.count) (sym w_is)
+    (subst (λ x. IsStep (Some ino) k.volume (dropped ino k.volume) [] [] half.runs.numbers half.runs.numbers half.middle x half.runs.count half.runs.count) (sym half.ends)
+    (steps_dropped k.volume k.cells [] [] half.runs.numbers half.middle half.runs.count ino half.runs.going.device half.may
     (open_there g k t n half.middle half.runs ino half.may.file ∙ shut)))
 
 -- it is dropped
@@ -93,11 +93,11 @@ half_lost g k k2 t n start history who call ino mode half shut drop =
       by : IsDropAnswer ino k k2 (Err KFault.PowerLost) → KeepsPromise k.volume.geometry k2.cells start history ((who, call) ∷ []) × HasNoLog g k2.cells
       by (inl off) = (
         subst (λ d. KeepsPromise k.volume.geometry d start history ((who, call) ∷ [])) (sym (ap (λ (x : View). x.cells) off))
-            (promise_between k.volume k.cells [] half.runs.numbers half.middle half.runs.count start history (who, call) mode half.runs.going.running (inr half.tree_is)),
+            (promise_between k.volume k.cells [] half.runs.numbers half.middle half.runs.count start history (who, call) mode (runs_home k [] half.runs.numbers half.middle half.runs.count half.runs.going half.runs.log) (inr half.tree_is)),
         subst (HasNoLog g) (sym (ap (λ (x : View). x.cells) off)) (runs_no_log g k t n half.middle half.runs),
       )
       by (inr cut) = (
-        keeps_cut k k2 cut.1.1 [] half.runs.numbers half.runs.numbers half.middle (after_call (run start history) (who, call)) half.runs.count half.runs.count start history (who, call) mode half.runs.going cut.1.3
+        keeps_cut (Some ino) k k2 cut.1.1 [] half.runs.numbers half.runs.numbers half.middle (after_call (run start history) (who, call)) half.runs.count half.runs.count start history (who, call) mode half.runs.going half.runs.log cut.1.3
             (drop_step g k t n (after_call (run start history) (who, call)) ino cut.1.1 half shut cut.1.2) (inr half.tree_is) (inr refl),
         (let step_is = drop_step g k t n (after_call (run start history) (who, call)) ino cut.1.1 half shut cut.1.2 in
             cut_no_log g k k2 t n half.middle cut.1.1 half.runs (quiet_changes k.committed cut.1.1 k.cells k2.cells g cut.1.3.changes (ap (λ (v : Volume). v.geometry) (half.runs.going.order.settled half.runs.going.unbatched) ∙ half.runs.geometry) half.runs.quiet) cut.1.3 step_is.geometry step_is.base),
@@ -141,12 +141,12 @@ drop_fault k k2 ino old new KFault.NoMemory memory is = absurd (memory refl)
 
 module _ (who : Who) (p : List (List ℕ)) (k : View) (t : Tables) where
   unlink_step : (w : Volume) (ino : ℕ) → IsUnlinked p k.volume w ino → (g : Geometry) (n : ℕ) (s : State) → (runs : RunsAs g k t n s)
-      → IsStep k.volume w [] runs.numbers runs.numbers s (unnamed_state s p) runs.count runs.count
-  unlink_step w ino is g n s runs = steps_unlinked k.volume k.cells [] runs.numbers s runs.count p w ino runs.going.running is
+      → IsStep None k.volume w [] [] runs.numbers runs.numbers s (unnamed_state s p) runs.count runs.count
+  unlink_step w ino is g n s runs = steps_unlinked k.volume k.cells [] [] runs.numbers s runs.count p w ino runs.going.device is
 
   unlink_tree : (w : Volume) (ino : ℕ) → unlink_row p k ≡ None → IsUnlinked p k.volume w ino → (g : Geometry) (n : ℕ) (s : State) → (runs : RunsAs g k t n s)
       → tree (unnamed_state s p) ≡ tree (after_call s (who, Call.Unlink p))
-  unlink_tree w ino none is g n s runs = tree_of_unlink k.volume k.cells [] runs.numbers s runs.count who p w ino runs.going.running none is
+  unlink_tree w ino none is g n s runs = tree_of_unlink k.volume k.cells [] [] runs.numbers s runs.count who p w ino runs.going.device none is
 
   files_unlinked : (w : Volume) (ino : ℕ) → IsUnlinked p k.volume w ino → ((i : ℕ) → is_open t i ≡ true → (inode k.volume i).kind ≡ File) → (i : ℕ) → is_open t i ≡ true → (inode w i).kind ≡ File
   files_unlinked w ino is files i there = ap (λ x. (inode x i).kind) is.is_unlinked ∙ files i there
@@ -156,8 +156,8 @@ module _ (who : Who) (p : List (List ℕ)) (k : View) (t : Tables) where
   unlink_half k1 ino is g n s small runs = record {
     middle = unnamed_state s p;
     runs = runs_on g k k1 t t n s (unnamed_state s p) runs runs.numbers runs.count (n + 1) is.2 (unlink_step k1.volume ino is.1 g n s runs) (omega (arith, runs.few)) runs.tables (files_unlinked k1.volume ino is.1 runs.files) (unnamed_ordered s p runs.ordered);
-    may = unlinks_file k.volume k.cells [] runs.numbers s runs.count p k1.volume ino runs.going.running is.1;
-    ends = state_unlink k.volume k.cells [] runs.numbers s runs.count who p k1.volume ino runs.going.running is.0 is.1;
+    may = unlinks_file k.volume k.cells [] [] runs.numbers s runs.count p k1.volume ino runs.going.device is.1;
+    ends = state_unlink k.volume k.cells [] [] runs.numbers s runs.count who p k1.volume ino runs.going.device is.0 is.1;
     tree_is = unlink_tree k1.volume ino is.0 is.1 g n s runs;
   }
 
@@ -173,6 +173,7 @@ module _ (who : Who) (p : List (List ℕ)) (k : View) (t : Tables) where
   unlink_fault k2 old new fault is =
       fault_ended (unlink_row p k) (λ ino w. IsUnlinked p k.volume w ino) who (Call.Unlink p) k k2 t old new fault (λ o row. row_refuses who (Call.Unlink p) k t o tt row)
       (λ ino w none unlinked_is cut. loses_cut who (Call.Unlink p) k k2 t w cut (λ g n s small runs. record {
+        touched = None;
         after = runs.numbers;
         next = unnamed_state s p;
         later = runs.count;
@@ -192,15 +193,15 @@ module _ (who : Who) (p q : List (List ℕ)) (k : View) (t : Tables) (spelled : 
   pub rename_half : (k1 : View) (ino : ℕ) → IsAnswer (rename_row p q k) (λ l w. IsRenamed p q k.volume w l) k k1 (Ok (Some ino)) → ComesHalfWay who (Call.Rename p q) k t k1 t ino
   unfolding runs_on
   rename_half k1 ino is g n s small runs =
-      let over = renames_over_file k.volume k.cells [] runs.numbers s runs.count who p q k1.volume ino runs.going.running is.0 is.1 in
+      let over = renames_over_file k.volume k.cells [] [] runs.numbers s runs.count who p q k1.volume ino runs.going.device is.0 is.1 in
       record {
         middle = moved_so_far (Some ino) s who p q;
         runs = runs_on g k k1 t t n s (moved_so_far (Some ino) s who p q) runs runs.numbers runs.count (n + 1) is.2
-            (steps_rename k.volume k.cells [] runs.numbers s runs.count who p q k1.volume (Some ino) runs.going.running is.0 spelled is.1) (omega (arith, runs.few)) runs.tables
+            (steps_rename k.volume k.cells [] [] runs.numbers s runs.count who p q k1.volume (Some ino) runs.going.device tt is.0 spelled is.1) (omega (arith, runs.few)) runs.tables
             (files_renamed p q k.volume k1.volume (Some ino) t is.1 runs.files) (renamed_ordered s p q runs.ordered);
         may = over.0;
         ends = over.1;
-        tree_is = tree_of_rename k.volume k.cells [] runs.numbers s runs.count who p q k1.volume (Some ino) runs.going.running is.0 is.1;
+        tree_is = tree_of_rename k.volume k.cells [] [] runs.numbers s runs.count who p q k1.volume (Some ino) runs.going.device is.0 is.1;
       }
 
   pub rename_replies : (k1 : View) (ino : ℕ) → IsAnswer (rename_row p q k) (λ l w. IsRenamed p q k.volume w l) k k1 (Ok (Some ino)) → IsReplyOf who (Call.Rename p q) k t (answer Reply.Ok)
@@ -211,10 +212,11 @@ module _ (who : Who) (p q : List (List ℕ)) (k : View) (t : Tables) (spelled : 
   rename_fault k2 old new fault is =
       fault_ended (rename_row p q k) (λ l w. IsRenamed p q k.volume w l) who (Call.Rename p q) k k2 t old new fault (λ o row. row_refuses who (Call.Rename p q) k t o tt row)
       (λ l w none renamed_is cut. loses_cut who (Call.Rename p q) k k2 t w cut (λ g n s small runs. record {
+        touched = gone_by k.volume renamed_is.moving.target;
         after = runs.numbers;
         next = moved_so_far l s who p q;
         later = runs.count;
-        is_step = steps_rename k.volume k.cells [] runs.numbers s runs.count who p q w l runs.going.running none spelled renamed_is;
-        tree_is = tree_of_rename k.volume k.cells [] runs.numbers s runs.count who p q w l runs.going.running none renamed_is;
+        is_step = steps_rename k.volume k.cells [] [] runs.numbers s runs.count who p q w l runs.going.device tt none spelled renamed_is;
+        tree_is = tree_of_rename k.volume k.cells [] [] runs.numbers s runs.count who p q w l runs.going.device none renamed_is;
       }))
       is

@@ -102,7 +102,7 @@ files_renamed p q v w lost t is files i there = subst (λ x. (inode x i).kind �
 -- the reply
 pub reply_ok : (who : Who) (call : Call) (k : View) (t : Tables) (g : Geometry) (n : ℕ) (s : State) → IsNameCall call → row_of_call (volume_space k.volume) call ≡ None → RunsAs g k t n s
     → (step s who call).outcome ≡ answer Reply.Ok
-reply_ok who call k t g n s named row runs = done_by_row k.volume k.cells [] runs.numbers s runs.count who call runs.going.running named row
+reply_ok who call k t g n s named row runs = done_by_row k.volume k.cells [] [] runs.numbers s runs.count who call runs.going.device named row
 
 -- a step was taken
 pub took : {T : Type 0} (row : Option Outcome) (old new : Supply) (x : T) → row ≡ None → (let r : Result T KFault = Ok x in IsPaid row old new r) → (is_on new ≡ true) × TakesAStep old new
@@ -114,10 +114,11 @@ module _ (who : Who) (p : List (List ℕ)) (k k2 : View) (t : Tables) (old new :
   made_step : (w : Volume) (ino : ℕ) → make_row p k ≡ None → IsMade true p k.volume w ino → (g : Geometry) (n : ℕ) (s : State) → n + 1 < 2 ^ 31 → (runs : RunsAs g k t n s)
       → CutsInto k.volume w runs.numbers s (after_call s (who, Call.Mkdir p)) runs.count
   made_step w ino none is g n s small runs = record {
+    touched = Some ino;
     after = renumbered runs.numbers ino (length s.nodes);
     next = after_call s (who, Call.Mkdir p);
     later = runs.count + 1;
-    is_step = steps_mkdir k.volume k.cells [] runs.numbers s runs.count who p w ino runs.going.running (omega (arith, small, runs.few)) spelled none is;
+    is_step = steps_mkdir k.volume k.cells [] [] runs.numbers s runs.count who p w ino runs.going.device tt (omega (arith, small, runs.few)) spelled none is;
     tree_is = refl;
   }
 
@@ -129,7 +130,7 @@ module _ (who : Who) (p : List (List ℕ)) (k k2 : View) (t : Tables) (old new :
         let a_step = made_step k2.volume ino is.0.0 is.0.1 g n s small runs in
         let files = files_made true p k.volume k2.volume ino t is.0.1 runs.files in (
           runs_on g k k2 t t n s (after_call s (who, Call.Mkdir p)) runs (renumbered runs.numbers ino (length s.nodes)) (runs.count + 1) (n + 1) is.0.2
-              (steps_mkdir k.volume k.cells [] runs.numbers s runs.count who p k2.volume ino runs.going.running (omega (arith, small, runs.few)) spelled is.0.0 is.0.1) (omega (arith, runs.few))
+              (steps_mkdir k.volume k.cells [] [] runs.numbers s runs.count who p k2.volume ino runs.going.device tt (omega (arith, small, runs.few)) spelled is.0.0 is.0.1) (omega (arith, runs.few))
               (tables_mkdir s who p ∙ runs.tables ∙ tables_renumbered runs.numbers t ino (length s.nodes) files.0) files.1 (AreOrdered-step_of alone s who (Call.Mkdir p) runs.ordered),
           reply_ok who (Call.Mkdir p) k t g n s tt is.0.0 runs,
         )
@@ -146,10 +147,11 @@ module _ (who : Who) (p : List (List ℕ)) (k k2 : View) (t : Tables) (old new :
   removed_step : (w : Volume) → rmdir_row p k ≡ None → IsRemoved p k.volume w → (g : Geometry) (n : ℕ) (s : State) → n + 1 < 2 ^ 31 → (runs : RunsAs g k t n s)
       → CutsInto k.volume w runs.numbers s (after_call s (who, Call.Rmdir p)) runs.count
   removed_step w none is g n s small runs = record {
+    touched = Some is.entry.child;
     after = runs.numbers;
     next = after_call s (who, Call.Rmdir p);
     later = runs.count;
-    is_step = steps_rmdir k.volume k.cells [] runs.numbers s runs.count who p w runs.going.running none is;
+    is_step = steps_rmdir k.volume k.cells [] [] runs.numbers s runs.count who p w runs.going.device tt none is;
     tree_is = refl;
   }
 
@@ -159,7 +161,7 @@ module _ (who : Who) (p : List (List ℕ)) (k k2 : View) (t : Tables) (old new :
     answers : Answers who (Call.Rmdir p) k t k2 t (answer Reply.Ok)
     answers g n s small runs = (
       runs_on g k k2 t t n s (after_call s (who, Call.Rmdir p)) runs runs.numbers runs.count (n + 1) is.0.2
-          (steps_rmdir k.volume k.cells [] runs.numbers s runs.count who p k2.volume runs.going.running is.0.0 is.0.1) (omega (arith, runs.few)) (tables_rmdir s who p ∙ runs.tables)
+          (steps_rmdir k.volume k.cells [] [] runs.numbers s runs.count who p k2.volume runs.going.device tt is.0.0 is.0.1) (omega (arith, runs.few)) (tables_rmdir s who p ∙ runs.tables)
           (files_removed p k.volume k2.volume t is.0.1 runs.files) (AreOrdered-step_of alone s who (Call.Rmdir p) runs.ordered),
       reply_ok who (Call.Rmdir p) k t g n s tt is.0.0 runs,
     )
@@ -183,7 +185,7 @@ module _ (who : Who) (p q : List (List ℕ)) (k k2 : View) (t : Tables) (old new
     answers : Answers who (Call.Rename p q) k t k2 t (answer Reply.Ok)
     answers g n s small runs = (
       runs_on g k k2 t t n s (after_call s (who, Call.Rename p q)) runs runs.numbers runs.count (n + 1) is.0.2
-          (steps_rename k.volume k.cells [] runs.numbers s runs.count who p q k2.volume None runs.going.running is.0.0 spelled is.0.1) (omega (arith, runs.few)) (tables_rename s who p q ∙ runs.tables)
+          (steps_rename k.volume k.cells [] [] runs.numbers s runs.count who p q k2.volume None runs.going.device tt is.0.0 spelled is.0.1) (omega (arith, runs.few)) (tables_rename s who p q ∙ runs.tables)
           (files_renamed p q k.volume k2.volume None t is.0.1 runs.files) (AreOrdered-step_of alone s who (Call.Rename p q) runs.ordered),
       reply_ok who (Call.Rename p q) k t g n s tt is.0.0 runs,
     )

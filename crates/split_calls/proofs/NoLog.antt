@@ -21,6 +21,7 @@ use Rattle.posix_words.specs.Open.{Tables}
 use Rattle.posix_spec.specs.State.{State}
 use Rattle.world_images.specs.Changed.{SameLog-changed, ShowsLog-same, sound_headed}
 use Rattle.world_images.specs.Images.{HasNoEntry, IsRunning, ShowsLog}
+use Rattle.world_exits.specs.Done.{runs_home}
 use Rattle.split_calls.specs.Runs.{HasNoLog, IsQuiet, RunsAs}
 use Rattle.split_calls.proofs.Honest.{quiet_is_honest}
 
@@ -70,21 +71,21 @@ cut_dead v w d e numbers s count running follows geometry base image is = by fro
 -- WHERE CALLS RUN no log is left,
 pub runs_no_log : (g : Geometry) (k : View) (t : Tables) (n : ℕ) (s : State) → RunsAs g k t n s → HasNoLog g k.cells
 runs_no_log g k t n s runs = record {
-  size = subst (λ (x : Geometry). length k.cells ≡ 512 * x.blocks) runs.geometry runs.going.running.device.stands.size;
+  size = subst (λ (x : Geometry). length k.cells ≡ 512 * x.blocks) runs.geometry runs.going.device.stands.size;
   home = runs.home;
   honest = λ image is. quiet_is_honest g k.cells image runs.quiet;
   dead = λ image is.
-      subst (λ x. live_entries (volume x (journaled image)) (journaled image) ≡ []) runs.geometry (runs_dead k.volume k.cells runs.numbers s runs.count runs.going.running image is);
+      subst (λ x. live_entries (volume x (journaled image)) (journaled image) ≡ []) runs.geometry (runs_dead k.volume k.cells runs.numbers s runs.count (runs_home k [] runs.numbers s runs.count runs.going runs.log) image is);
 }
 
 -- nor where a change is cut off.
 pub cut_no_log : (g : Geometry) (k k2 : View) (t : Tables) (n : ℕ) (s : State) (w : Volume) → RunsAs g k t n s → IsQuiet g k2.cells → IsCut w k k2 → w.geometry ≡ k.volume.geometry → w.base ≡ k.volume.base → HasNoLog g k2.cells
 cut_no_log g k k2 t n s w runs quiet cut geometry base = record {
-  size = cut.changes.size ∙ subst (λ (x : Geometry). length k.cells ≡ 512 * x.blocks) runs.geometry runs.going.running.device.stands.size;
+  size = cut.changes.size ∙ subst (λ (x : Geometry). length k.cells ≡ 512 * x.blocks) runs.geometry runs.going.device.stands.size;
   home = λ i. cut.changes.lent i ∙ runs.home i;
   honest = λ image is. quiet_is_honest g k2.cells image quiet;
   dead = λ image is.
       subst (λ x. live_entries (volume x (journaled image)) (journaled image) ≡ []) runs.geometry
-      (cut_dead k.volume w k.cells k2.cells runs.numbers s runs.count runs.going.running
+      (cut_dead k.volume w k.cells k2.cells runs.numbers s runs.count (runs_home k [] runs.numbers s runs.count runs.going runs.log)
       (subst (λ (x : Volume). Follows (IsOldOrNew x.geometry [] x w) k.cells k2.cells) (runs.going.order.settled runs.going.unbatched) cut.changes.each_image) geometry base image is);
 }

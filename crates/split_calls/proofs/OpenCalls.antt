@@ -67,7 +67,7 @@ use Rattle.split_calls.proofs.Running.{fault_ended, loses_cut, runs_on, runs_sti
 
 module _ (g : Geometry) (k : View) (t : Tables) (n : ℕ) (s : State) (runs : RunsAs g k t n s) where
   pub valid : IsWorld k.volume [] [] (journaled (words_of k.cells)) runs.numbers s runs.count
-  valid = valid_now k.volume k.cells [] runs.numbers s runs.count runs.going.running
+  valid = valid_now k.volume k.cells [] [] runs.numbers s runs.count runs.going.device
 
   pub mirror : Mirrors (IsUsed k.volume) runs.numbers (volume_space k.volume) (space s)
   mirror = world_mirror k.volume [] [] (journaled (words_of k.cells)) runs.numbers s runs.count valid
@@ -271,9 +271,9 @@ module _ (who : Who) (h : Handle) (p : List (List ℕ)) (f : Flags) (k : View) (
   same_rows = ap (λ b. first (open_rows (volume_space k.volume) b false p f)) unfull ∙ open_made_rows (volume_space k.volume) p f missing_is.short missing_is.walked missing_is.none create
 
   created_step : (w : Volume) (ino : ℕ) → make_row p k ≡ None → IsMade false p k.volume w ino → (g : Geometry) (n : ℕ) (s : State) → n + 1 < 2 ^ 31 → (runs : RunsAs g k t n s)
-      → IsStep k.volume w [] runs.numbers (renumbered runs.numbers ino (length s.nodes)) s (after_call s (who, Call.Open h p f)) runs.count (runs.count + 1)
+      → IsStep (Some ino) k.volume w [] [] runs.numbers (renumbered runs.numbers ino (length s.nodes)) s (after_call s (who, Call.Open h p f)) runs.count (runs.count + 1)
   created_step w ino none is g n s small runs =
-      steps_opened k.volume k.cells [] runs.numbers s runs.count who h p f w ino runs.going.running (omega (arith, small, runs.few)) spelled (ap (λ full. first (open_rows (volume_space k.volume) full false p f)) (full_there g k t n s runs) ∙ same_rows ∙ none) is
+      steps_opened k.volume k.cells [] [] runs.numbers s runs.count who h p f w ino runs.going.device tt (omega (arith, small, runs.few)) spelled (ap (λ full. first (open_rows (volume_space k.volume) full false p f)) (full_there g k t n s runs) ∙ same_rows ∙ none) is
 
   new_kind : (w : Volume) (ino : ℕ) → IsMade false p k.volume w ino → (inode w ino).kind ≡ File
   new_kind w ino is =
@@ -306,6 +306,7 @@ module _ (who : Who) (h : Handle) (p : List (List ℕ)) (f : Flags) (k : View) (
   created_fault k2 old new fault is =
       fault_ended (make_row p k) (λ ino w. IsMade false p k.volume w ino) who (Call.Open h p f) k k2 t old new fault (λ o row_is. open_refused who h p f k t o (same_rows ∙ row_is))
       (λ ino w none made_is cut. loses_cut who (Call.Open h p f) k k2 t w cut (λ g n s small runs. record {
+        touched = Some ino;
         after = renumbered runs.numbers ino (length s.nodes);
         next = after_call s (who, Call.Open h p f);
         later = runs.count + 1;

@@ -123,7 +123,7 @@ module _ (g : Geometry) (k : View) (t : Tables) (n : ℕ) (s : State) (runs : Ru
   has_tree : HasTree k.volume.inodes k.volume.names k.volume.maps k.cells
   has_tree =
       have-trees k.volume.geometry (journaled (words_of k.cells)) k.volume k.cells (valid g k t n s runs).geometry
-      (runs.going.running.device.stands.reads (words_of k.cells) (λ i. newest-candidate (cell k.cells i))) (valid g k t n s runs).valid.stands.sane.kept runs.going.running.device.stands.size runs.home
+      (runs.going.device.stands.reads (words_of k.cells) (λ i. newest-candidate (cell k.cells i))) (valid g k t n s runs).valid.stands.sane.kept runs.going.device.stands.size runs.home
 
   plain : (ino : ℕ) → ino < length k.volume.inodes → IsPlain k.volume k.cells ino
   plain ino below block b i at within =
@@ -133,7 +133,7 @@ module _ (g : Geometry) (k : View) (t : Tables) (n : ℕ) (s : State) (runs : Ru
       in
       let word : (4096 * b + i) / 8 ≡ 512 * b + i / 8 = omega arith in
       ap (λ w. w / 256 ^ ((4096 * b + i) % 8) % 256)
-      (journaled-idle (words_of k.cells) ((4096 * b + i) / 8) (ap newest runs.going.running.device.stands.idle)
+      (journaled-idle (words_of k.cells) ((4096 * b + i) / 8) (ap newest runs.going.device.stands.idle)
       (behind_log-words k.volume.geometry ((4096 * b + i) / 8) (omega (arith, word, data_word k.volume.geometry b (i / 8) in_data (omega (arith, within))))))
 
   pub readable_file : (ino : ℕ) → (inode k.volume ino).kind ≡ File → IsReadableFile k ino

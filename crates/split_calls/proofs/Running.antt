@@ -30,7 +30,7 @@ use Rattle.world_rules.specs.Stands.{number}
 use Rattle.world_images.specs.Promised.{KeepsPromise}
 use Rattle.world_images.specs.Running.{promise_now, stays_running}
 use Rattle.world_steps.specs.Worlds.{IsWorld}
-use Rattle.world_exits.specs.Done.{goes_on, keeps_cut, keeps_off}
+use Rattle.world_exits.specs.Done.{goes_on, keeps_cut, keeps_log, keeps_off, runs_home}
 use Rattle.world_exits.specs.Ends.{refused_by_row}
 use Rattle.world_exits.specs.Going.{IsNameCall, IsStep, row_of_call}
 use Rattle.split_calls.specs.Answers.{Answers, IsEnded, IsSpent, Loses, told_of}
@@ -44,6 +44,7 @@ runs_later g k t n s runs = record {
   few = omega (arith, runs.few);
   numbers = runs.numbers;
   going = runs.going;
+  log = runs.log;
   geometry = runs.geometry;
   tables = runs.tables;
   files = runs.files;
@@ -59,14 +60,15 @@ quiet_changes v w old new g changes same quiet i journal line =
 
 -- ---- done
 
-unfoldable pub runs_on : (g : Geometry) (k k2 : View) (t t2 : Tables) (n : ℕ) (s next : State) (runs : RunsAs g k t n s) (after : List ℕ) (later m : ℕ) → IsDone k k2
-    → IsStep k.volume k2.volume [] runs.numbers after s next runs.count later → later ≤ m → next.tables ≡ numbered_as (number after) t2
+unfoldable pub runs_on : {touched : Option ℕ} (g : Geometry) (k k2 : View) (t t2 : Tables) (n : ℕ) (s next : State) (runs : RunsAs g k t n s) (after : List ℕ) (later m : ℕ) → IsDone k k2
+    → IsStep touched k.volume k2.volume [] [] runs.numbers after s next runs.count later → later ≤ m → next.tables ≡ numbered_as (number after) t2
     → ((ino : ℕ) → is_open t2 ino ≡ true → (inode k2.volume ino).kind ≡ File) → AreOrdered next.entries → RunsAs g k2 t2 m next
-runs_on g k k2 t t2 n s next runs after later m done step_is few tables files ordered = record {
+runs_on {touched} g k k2 t t2 n s next runs after later m done step_is few tables files ordered = record {
   count = later;
   few = few;
   numbers = after;
-  going = goes_on k k2 [] runs.numbers after s next runs.count later runs.going done step_is;
+  going = goes_on touched k k2 [] [] runs.numbers after s next runs.count later runs.going done step_is;
+  log = keeps_log touched k k2 [] [] runs.numbers after s next runs.count later runs.going done step_is runs.log;
   geometry = step_is.geometry ∙ runs.geometry;
   tables = tables;
   files = files;
@@ -97,7 +99,7 @@ nothing_ended who call k k2 t o old new same on stays =
 -- a call on names that a row of the volume refuses
 pub row_refuses : (who : Who) (call : Call) (k : View) (t : Tables) (o : Outcome) → IsNameCall call → row_of_call (volume_space k.volume) call ≡ Some o
     → (g : Geometry) (n : ℕ) (s : State) → RunsAs g k t n s → step s who call ≡ record { state = s; outcome = o }
-row_refuses who call k t o named row g n s runs = refused_by_row k.volume k.cells [] runs.numbers s runs.count who call o runs.going.running named row
+row_refuses who call k t o named row g n s runs = refused_by_row k.volume k.cells [] [] runs.numbers s runs.count who call o runs.going.device named row
 
 -- ---- the power went
 
@@ -105,7 +107,7 @@ row_refuses who call k t o named row g n s runs = refused_by_row k.volume k.cell
 pub loses_off : (who : Who) (call : Call) (k k2 : View) (t : Tables) → IsOff k k2 → Loses who call k t k2
 loses_off who call k k2 t off g n start history small mode runs = (
   subst (λ x. KeepsPromise x k2.cells start history ((who, call) ∷ [])) runs.geometry
-      (keeps_off k k2 [] runs.numbers start history ((who, call) ∷ []) runs.count runs.going off),
+      (keeps_off k k2 [] runs.numbers start history ((who, call) ∷ []) runs.count runs.going runs.log off),
   subst (HasNoLog g) (sym (ap (λ (x : View). x.cells) off)) (runs_no_log g k t n (run start history) runs),
 )
 
@@ -113,16 +115,17 @@ loses_off who call k k2 t off g n start history small mode runs = (
 pub loses_now : (who : Who) (call : Call) (k : View) (t : Tables) → Loses who call k t k
 loses_now who call k t g n start history small mode runs = (
   subst (λ x. KeepsPromise x k.cells start history ((who, call) ∷ [])) runs.geometry
-      (promise_now k.volume k.cells [] runs.numbers start history ((who, call) ∷ []) runs.count runs.going.running),
+      (promise_now k.volume k.cells [] runs.numbers start history ((who, call) ∷ []) runs.count (runs_home k [] runs.numbers (run start history) runs.count runs.going runs.log)),
   runs_no_log g k t n (run start history) runs,
 )
 
 -- In it: a step from this state to another one, whose tree is that of the call's end.
 pub record CutsInto (v w : Volume) (numbers : List ℕ) (s end : State) (count : ℕ) : Type 0 where
+  pub touched : Option ℕ
   pub after : List ℕ
   pub next : State
   pub later : ℕ
-  pub is_step : IsStep v w [] numbers after s next count later
+  pub is_step : IsStep touched v w [] [] numbers after s next count later
   pub tree_is : tree next ≡ tree end
 
 pub loses_cut : (who : Who) (call : Call) (k k2 : View) (t : Tables) (w : Volume) → IsCut w k k2
@@ -130,7 +133,7 @@ pub loses_cut : (who : Who) (call : Call) (k k2 : View) (t : Tables) (w : Volume
 loses_cut who call k k2 t w cut into g n start history small mode runs =
     let is = into g n (run start history) small runs in (
       subst (λ x. KeepsPromise x k2.cells start history ((who, call) ∷ [])) runs.geometry
-          (keeps_cut k k2 w [] runs.numbers is.after (run start history) is.next runs.count is.later start history (who, call) mode runs.going cut is.is_step (inl refl) (inr is.tree_is)),
+          (keeps_cut is.touched k k2 w [] runs.numbers is.after (run start history) is.next runs.count is.later start history (who, call) mode runs.going runs.log cut is.is_step (inl refl) (inr is.tree_is)),
       cut_no_log g k k2 t n (run start history) w runs (quiet_changes k.committed w k.cells k2.cells g cut.changes (ap (λ (v : Volume). v.geometry) (runs.going.order.settled runs.going.unbatched) ∙ runs.geometry) runs.quiet) cut is.is_step.geometry is.is_step.base,
     )
 
@@ -165,8 +168,9 @@ runs_still g k t t2 n s next runs shape takes tables files ordered = record {
     order = runs.going.order;
     unbatched = runs.going.unbatched;
     on = runs.going.on;
-    running = stays_running k.volume k.cells [] runs.numbers runs.numbers s next runs.count runs.count runs.going.running shape takes;
+    device = (stays_running k.volume k.cells [] runs.numbers runs.numbers s next runs.count runs.count (runs_home k [] runs.numbers s runs.count runs.going runs.log) shape takes).device;
   };
+  log = runs.log;
   geometry = runs.geometry;
   tables = tables;
   files = files;

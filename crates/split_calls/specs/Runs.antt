@@ -16,6 +16,7 @@ use Rattle.open_numbers.specs.Numbered.{numbered_as}
 use Rattle.posix_words.specs.Open.{is_open, Tables}
 use Rattle.posix_spec.specs.State.{State}
 use Rattle.world_rules.specs.Stands.{number}
+use Rattle.world_images.specs.Images.{HasLogHome}
 use Rattle.world_exits.specs.Going.{IsGoing}
 
 -- No word outside the journal and the journaled lines is lent or has two candidates: all images of the device have one log.
@@ -42,7 +43,8 @@ pub record RunsAs (g : Geometry) (k : View) (t : Tables) (n : ℕ) (s : State) :
   pub count : ℕ
   pub few : count ≤ n
   pub numbers : List ℕ
-  pub going : IsGoing k [] numbers s count
+  pub going : IsGoing k [] [] numbers s count
+  pub log : HasLogHome k.volume k.cells []
   pub geometry : k.volume.geometry ≡ g
   pub tables : s.tables ≡ numbered_as (number numbers) t
   pub files : (ino : ℕ) → is_open t ino ≡ true → (inode k.volume ino).kind ≡ File

@@ -1,5 +1,5 @@
 -- An `open` that cuts a file: K-Split gives it the size 0, which writes no block, and that is a step of the World.
-use Rattle.std.specs.Prelude.{◌≡◌, ◌≢◌, ◌⊎◌, ◌&&◌, ◌==◌, ◌<◌, ◌≤◌, ◌+◌, ◌/◌, ℕ, nat_lt, Bool, true, false, List, [], ◌∷◌, length, Option, Some, None, option_map, Result, Ok, Err, refl, if◌then◌else◌}
+use Rattle.std.specs.Prelude.{◌≡◌, ◌≢◌, ◌⊎◌, ◌&&◌, ◌==◌, ◌<◌, ◌≤◌, ◌+◌, ◌/◌, ℕ, nat_lt, Bool, true, false, List, [], ◌∷◌, length, map, Option, Some, None, option_map, Result, Ok, Err, refl, if◌then◌else◌}
 use Rattle.std.proofs.Common.{arith, ap, ◌∙◌, sym, subst, inl, inr}
 use Rattle.std.proofs.lemmas.Bool.{cases_eq}
 use Rattle.std.proofs.lemmas.Bool.Decides.{nat_tests}
@@ -12,7 +12,7 @@ use Rattle.extent_words.specs.Extents.{disk_at, IsCanonical}
 use Rattle.extent_facts.specs.Spelling.{first_here}
 use Rattle.disk_lines.specs.declared.Draft.{Draft}
 use Rattle.disk_lines.specs.declared.Inode.{Inode}
-use Rattle.disk_lines.specs.declared.Kind.TheVariants.{File}
+use Rattle.disk_lines.specs.declared.Kind.TheVariants.{File, Staging}
 use Rattle.disk_rules.specs.Live.{is_file, is_live}
 use Rattle.disk_rules.specs.Placed.{IsOutside}
 use Rattle.disk_rules.specs.Room.{unused_blocks}
@@ -41,14 +41,16 @@ use Rattle.posix_spec.specs.Run.{after_call}
 use Rattle.posix_spec.specs.State.{alone, space, State}
 use Rattle.posix_spec.specs.Step.{is_busy}
 use Rattle.crash_spec.specs.Busy.{waits_for}
-use Rattle.world_rules.specs.Jobs.{live_claims}
+use Rattle.list_facts.specs.Filters.{filter-agree}
+use Rattle.world_rules.specs.Jobs.{Job, live_claims}
 use Rattle.world_rules.specs.Stands.{entries_of, IsSane, IsUsed, number}
 use Rattle.world_spaces.specs.Mirrors.{Mirrors, node_at_path-same}
 use Rattle.world_spaces.specs.Rows.{HaveSameRows-Mirrors}
+use Rattle.world_steps.specs.Steps.{LetsJobsBe}
 use Rattle.world_steps.specs.Worlds.{IsWorld, world_mirror}
 use Rattle.world_jobs.specs.Resizes.{HasAlone, Resizes}
 use Rattle.world_jobs.specs.ResizeSteps.{cut}
-use Rattle.world_images.specs.Images.{HasRoom, IsRunning}
+use Rattle.world_images.specs.Images.{HasRoom, StandsFor}
 use Rattle.world_images.specs.Rooms.{room_kept}
 use Rattle.world_images.specs.Settings.{keeps_setting}
 use Rattle.world_exits.specs.Going.{IsStep}
@@ -207,12 +209,16 @@ module _ (v : Volume) (ino : ℕ) (below : ino < length v.inodes) (whole : IsWho
       let staging = same_generation d.staging (cases_eq d.staging ino) in
       λ i. (is_file (kind i) && (generation i == d.generation)) && nat_lt (applied i) d.order && (staging i == d.staging_generation)
 
+  -- the entries of the file are the same
+  same_entries : (claims : List (ℕ × Draft)) → entries_of ino (live_claims v claims) ≡ [] → entries_of ino (live_claims w claims) ≡ []
+  same_entries claims none = ap (entries_of ino) (filter-agree (is_live w) (is_live v) (map (λ (c : ℕ × Draft). c.1) claims) (λ e is. same_live e)) ∙ none
+
   -- the file of the call is this one
-  waits : (claims : List (ℕ × Draft)) (f : Words) (numbers : List ℕ) (s : State) (count : ℕ) (who : Who) (h : Handle) (p : List (List ℕ)) (flags : Flags) → IsWorld v claims [] f numbers s count → flags.truncate ≡ true
+  waits : (claims : List (ℕ × Draft)) (jobs : List Job) (f : Words) (numbers : List ℕ) (s : State) (count : ℕ) (who : Who) (h : Handle) (p : List (List ℕ)) (flags : Flags) → IsWorld v claims jobs f numbers s count → flags.truncate ≡ true
       → node_at_path (volume_space v) p ≡ Some ino → first (open_rows (space s) (is_full s.tables) (is_busy alone s p) p flags) ≡ None → waits_for s (who, Call.Open h p flags) ≡ Some (number numbers ino)
   unfolding waits_for
-  waits claims f numbers s count who h p flags world cuts there none =
-      let mirror = world_mirror v claims [] f numbers s count world in
+  waits claims jobs f numbers s count who h p flags world cuts there none =
+      let mirror = world_mirror v claims jobs f numbers s count world in
       let short = short_path (space s) (is_full s.tables) (is_busy alone s p) p flags none in
       let at : node_at_path (space s) p ≡ Some (number numbers ino) =
       sym (node_at_path-same (IsUsed v) numbers (volume_space v) (space s) mirror p) ∙ ap (option_map (number numbers)) there
@@ -220,21 +226,30 @@ module _ (v : Volume) (ino : ℕ) (below : ino < length v.inodes) (whole : IsWho
       ap (λ b. if b then (if too_long (space s).longest p then None else node_at_path (space s) p) else None) cuts
       ∙ (ap (λ b. if b then None else node_at_path (space s) p) short ∙ at)
 
-  step : (d : List Cell) (claims : List (ℕ × Draft)) (numbers : List ℕ) (s : State) (count : ℕ) (who : Who) (h : Handle) (p : List (List ℕ)) (flags : Flags) → IsRunning v d claims numbers s count
-      → first (open_rows (volume_space v) (is_full s.tables) (is_busy alone s p) p flags) ≡ None → flags.truncate ≡ true → node_at_path (volume_space v) p ≡ Some ino → (inode v ino).kind ≡ File
-      → entries_of ino (live_claims v claims) ≡ [] → IsStep v w claims numbers numbers s (after_call s (who, Call.Open h p flags)) count count
-  step d claims numbers s count who h p flags running none cuts there file published = record {
+  step : (d : List Cell) (claims : List (ℕ × Draft)) (jobs : List Job) (numbers : List ℕ) (s : State) (count : ℕ) (who : Who) (h : Handle) (p : List (List ℕ)) (flags : Flags) → StandsFor v d claims jobs numbers s count
+      → LetsJobsBe s (who, Call.Open h p flags) numbers jobs → first (open_rows (volume_space v) (is_full s.tables) (is_busy alone s p) p flags) ≡ None → flags.truncate ≡ true → node_at_path (volume_space v) p ≡ Some ino → (inode v ino).kind ≡ File
+      → entries_of ino (live_claims v claims) ≡ [] → IsStep (Some ino) v w claims jobs numbers numbers s (after_call s (who, Call.Open h p flags)) count count
+  step d claims jobs numbers s count who h p flags device lets none cuts there file published = record {
     geometry = refl;
     base = refl;
-    room = room_kept v w claims [] s (after_call s (who, Call.Open h p flags)) refl (keeps_setting s (who, Call.Open h p flags)).shape frees (λ e is live. sym (same_live e) ∙ live) running.device.room;
+    staging = λ i is_staging. extents-set_other ino line [] [] v i (λ one. (let never : Staging ≡ File = sym is_staging ∙ (ap (λ n. (inode v n).kind) one ∙ file) in cc));
+    leaves = record {
+      others = λ i out. inode-set_other ino line [] [] v i (λ same. out (ap Some (sym same)));
+      plain = λ t same staging. (let own_is : ino ≡ t = cc in let never : File ≡ Staging = sym file ∙ (ap (λ n. (inode v n).kind) own_is ∙ staging) in cc);
+      own = λ i same of_file. (let own_is : ino ≡ i = cc in subst (λ n. entries_of n (live_claims w claims) ≡ []) own_is (same_entries claims published));
+      fewer = λ e is live. sym (same_live e) ∙ live;
+      applied = λ i. (let same = same_applied i (cases_eq i ino) in omega (arith, same));
+      frees = frees;
+    };
+    room = room_kept v w claims jobs s (after_call s (who, Call.Open h p flags)) refl (keeps_setting s (who, Call.Open h p flags)).shape frees (λ e is live. sym (same_live e) ∙ live) device.room;
     takes = λ f world. (
-        let rows = HaveSameRows-Mirrors (IsUsed v) numbers (volume_space v) (space s) (world_mirror v claims [] f numbers s count world) in
+        let rows = HaveSameRows-Mirrors (IsUsed v) numbers (volume_space v) (space s) (world_mirror v claims jobs f numbers s count world) in
         let none_there = ap first (sym (rows.open_ (is_full s.tables) (is_busy alone s p) p flags)) ∙ none in
-        cut v w claims [] f numbers s count who h p flags ino world tt none_there cuts
-        (waits claims f numbers s count who h p flags world cuts there none_there) (resizes world.valid.stands.sane file) published (alone_there f));
+        cut v w claims jobs f numbers s count who h p flags ino world lets none_there cuts
+        (waits claims jobs f numbers s count who h p flags world cuts there none_there) (resizes world.valid.stands.sane file) published (alone_there f));
   }
 
 pub steps_cut : StepsCut
-steps_cut v d claims numbers s count who h p flags ino w running none cuts there file published below whole after is =
-    subst (λ x. IsStep v x claims numbers numbers s (after_call s (who, Call.Open h p flags)) count count) (sym is)
-    (step v ino below whole (subst IsWhole is after) d claims numbers s count who h p flags running none cuts there file published)
+steps_cut v d claims jobs numbers s count who h p flags ino w device lets none cuts there file published below whole after is =
+    subst (λ x. IsStep (Some ino) v x claims jobs numbers numbers s (after_call s (who, Call.Open h p flags)) count count) (sym is)
+    (step v ino below whole (subst IsWhole is after) d claims jobs numbers s count who h p flags device lets none cuts there file published)

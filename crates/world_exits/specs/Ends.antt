@@ -31,6 +31,7 @@ use Rattle.posix_spec.specs.Run.{after_call}
 use Rattle.posix_spec.specs.State.{alone, space, State, swept, unnamed as unnamed_state, with_node}
 use Rattle.posix_spec.specs.Step.{mkdir_done, rename_done, renamed as renamed_state, rmdir_done, Stepped, stepped, unlink_done}
 use Rattle.posix_spec.specs.Tree.{tree}
+use Rattle.world_rules.specs.Jobs.{Job}
 use Rattle.world_rules.specs.Stands.{IsUsed, number}
 use Rattle.world_promise.specs.TreeRules.{used_below}
 use Rattle.world_spaces.specs.Mirrors.{Mirrors}
@@ -38,7 +39,7 @@ use Rattle.world_spaces.specs.Rows.{HaveSameRows, HaveSameRows-Mirrors}
 use Rattle.world_steps.specs.Nameless.{IsNameless, nameless-count, nameless-moved_over}
 use Rattle.world_names.specs.RemoveCalls.{one_number, row_of}
 use Rattle.world_steps.specs.Worlds.{IsFound, IsWorld, node_there, world_mirror, world_volume}
-use Rattle.world_images.specs.Images.{IsRunning}
+use Rattle.world_images.specs.Images.{StandsFor}
 use Rattle.world_images.specs.Unseen.{tree-swept}
 use Rattle.world_exits.specs.Going.{moved_so_far}
 use Rattle.world_exits.specs.Laws.{DoneByRow, RefusedByRow, RenamesOverFile, TreeOfRename, TreeOfUnlink}
@@ -46,26 +47,26 @@ use Rattle.world_exits.specs.Moves.{can_replace, may_go, target_at}
 use Rattle.world_exits.specs.Steps.{found_at, found_used, plain_file, state_unlink, valid_now}
 
 -- a node that is no directory is not the root
-pub not_root_number : (v : Volume) (claims : List (ℕ × Draft)) (f : Words) (numbers : List ℕ) (s : State) (count c : ℕ) → IsWorld v claims [] f numbers s count → IsUsed v c → is_directory (inode v c).kind ≡ false → number numbers c ≢ 0
-not_root_number v claims f numbers s count c world used plain same =
+pub not_root_number : (v : Volume) (claims : List (ℕ × Draft)) (jobs : List Job) (f : Words) (numbers : List ℕ) (s : State) (count c : ℕ) → IsWorld v claims jobs f numbers s count → IsUsed v c → is_directory (inode v c).kind ≡ false → number numbers c ≢ 0
+not_root_number v claims jobs f numbers s count c world used plain same =
     let names = world.valid.stands.names in
     let root : c ≡ 0 = names.one c 0 used names.root_used (same ∙ sym names.root) in
-    let never : true ≡ false = sym (root-directory v (world_volume v claims [] f numbers s count world)) ∙ (ap (λ n. is_directory (inode v n).kind) (sym root) ∙ plain) in
+    let never : true ≡ false = sym (root-directory v (world_volume v claims jobs f numbers s count world)) ∙ (ap (λ n. is_directory (inode v n).kind) (sym root) ∙ plain) in
     cc
 
 -- ---- unlink
 
 pub tree_of_unlink : TreeOfUnlink
-tree_of_unlink v d claims numbers s count who p w ino running none is =
-    sym (ap tree (state_unlink v d claims numbers s count who p w ino running none is) ∙ tree-swept (unnamed_state s p) (number numbers ino) other) where
-      world : IsWorld v claims [] (journaled (words_of d)) numbers s count
-      world = valid_now v d claims numbers s count running
+tree_of_unlink v d claims jobs numbers s count who p w ino device none is =
+    sym (ap tree (state_unlink v d claims jobs numbers s count who p w ino device none is) ∙ tree-swept (unnamed_state s p) (number numbers ino) other) where
+      world : IsWorld v claims jobs (journaled (words_of d)) numbers s count
+      world = valid_now v d claims jobs numbers s count device
 
       used : IsUsed v is.entry.child
-      used = found_used v claims (journaled (words_of d)) numbers s count p is.entry.parent is.entry.line is.entry.child world (found_at v p is.entry is.is_file.is_entry)
+      used = found_used v claims jobs (journaled (words_of d)) numbers s count p is.entry.parent is.entry.line is.entry.child world (found_at v p is.entry is.is_file.is_entry)
 
       other : number numbers ino ≢ 0
-      other same = not_root_number v claims (journaled (words_of d)) numbers s count is.entry.child world used is.is_file.is_file (ap (number numbers) (sym is.ino_is) ∙ same)
+      other same = not_root_number v claims jobs (journaled (words_of d)) numbers s count is.entry.child world used is.is_file.is_file (ap (number numbers) (sym is.ino_is) ∙ same)
 
 -- ---- rename
 
@@ -103,7 +104,7 @@ is_over v p q w ino is = by is.moving.target refl is.lost_is is.is_renamed where
   by (Some t) there lost w_is = some t there (is_directory_in v.inodes t.child) refl lost w_is
 
 pub renames_over_file : RenamesOverFile
-renames_over_file v d claims numbers s count who p q w ino running none is = (
+renames_over_file v d claims jobs numbers s count who p q w ino device none is = (
   subst (λ n. MayDrop n w) (sym o.ino_is) (subst (MayDrop o.target.child) (sym o.w_is) may),
   subst (λ n. after_call s (who, Call.Rename p q) ≡ swept alone (moved_so_far (Some n) s who p q) (number numbers n)) (sym o.ino_is) ends,
 ) where
@@ -113,8 +114,8 @@ renames_over_file v d claims numbers s count who p q w ino running none is = (
   o : IsOver v p q w ino is.moving
   o = is_over v p q w ino is
 
-  world : IsWorld v claims [] (journaled (words_of d)) numbers s count
-  world = valid_now v d claims numbers s count running
+  world : IsWorld v claims jobs (journaled (words_of d)) numbers s count
+  world = valid_now v d claims jobs numbers s count device
 
   found : IsFound v p moving.entry.parent moving.entry.line moving.entry.child
   found = found_at v p moving.entry is.is_moving.is_entry
@@ -126,7 +127,7 @@ renames_over_file v d claims numbers s count who p q w ino running none is = (
   can = can_replace (volume_space v) p q moving.entry.parent moving.entry.child moving.parent o.target.child (may_go v p q moving none is.is_moving) at.at
 
   used : IsUsed v o.target.child
-  used = found_used v claims (journaled (words_of d)) numbers s count q moving.parent o.target.line o.target.child world at
+  used = found_used v claims jobs (journaled (words_of d)) numbers s count q moving.parent o.target.line o.target.child world at
 
   r : IsRowFound v.names moving.entry.parent (last_name p) moving.entry.line moving.entry.child
   r = row_of v p moving.entry.parent moving.entry.line moving.entry.child found
@@ -147,7 +148,7 @@ renames_over_file v d claims numbers s count who p q w ino running none is = (
   }
 
   mirror : Mirrors (IsUsed v) numbers (volume_space v) (space s)
-  mirror = world_mirror v claims [] (journaled (words_of d)) numbers s count world
+  mirror = world_mirror v claims jobs (journaled (words_of d)) numbers s count world
 
   none_there : first (rename_rows (space s) p q) ≡ None
   none_there = ap first (sym ((HaveSameRows-Mirrors (IsUsed v) numbers (volume_space v) (space s) mirror).rename p q)) ∙ none
@@ -159,55 +160,55 @@ renames_over_file v d claims numbers s count who p q w ino running none is = (
       ∙ ap (λ x. swept alone x (number numbers o.target.child)) (only_entries s p q))
 
 pub tree_of_rename : TreeOfRename
-tree_of_rename v d claims numbers s count who p q w None running none is = refl
-tree_of_rename v d claims numbers s count who p q w (Some ino) running none is =
-    sym (ap tree (renames_over_file v d claims numbers s count who p q w ino running none is).1 ∙ tree-swept (moved_so_far (Some ino) s who p q) (number numbers ino) other) where
+tree_of_rename v d claims jobs numbers s count who p q w None device none is = refl
+tree_of_rename v d claims jobs numbers s count who p q w (Some ino) device none is =
+    sym (ap tree (renames_over_file v d claims jobs numbers s count who p q w ino device none is).1 ∙ tree-swept (moved_so_far (Some ino) s who p q) (number numbers ino) other) where
       o : IsOver v p q w ino is.moving
       o = is_over v p q w ino is
 
-      world : IsWorld v claims [] (journaled (words_of d)) numbers s count
-      world = valid_now v d claims numbers s count running
+      world : IsWorld v claims jobs (journaled (words_of d)) numbers s count
+      world = valid_now v d claims jobs numbers s count device
 
       at : IsFound v q is.moving.parent o.target.line o.target.child
       at = target_at v q is.moving.parent o.target (subst (IsTargetAt v.inodes v.names q is.moving.parent) o.there is.is_moving.is_target)
 
       used : IsUsed v o.target.child
-      used = found_used v claims (journaled (words_of d)) numbers s count q is.moving.parent o.target.line o.target.child world at
+      used = found_used v claims jobs (journaled (words_of d)) numbers s count q is.moving.parent o.target.line o.target.child world at
 
       other : number numbers ino ≢ 0
-      other same = not_root_number v claims (journaled (words_of d)) numbers s count o.target.child world used o.plain (ap (number numbers) (sym o.ino_is) ∙ same)
+      other same = not_root_number v claims jobs (journaled (words_of d)) numbers s count o.target.child world used o.plain (ap (number numbers) (sym o.ino_is) ∙ same)
 
 -- ---- replies
 
-same_rows : (v : Volume) (d : List Cell) (claims : List (ℕ × Draft)) (numbers : List ℕ) (s : State) (count : ℕ) → IsRunning v d claims numbers s count → HaveSameRows (volume_space v) (space s)
-same_rows v d claims numbers s count running =
-    HaveSameRows-Mirrors (IsUsed v) numbers (volume_space v) (space s) (world_mirror v claims [] (journaled (words_of d)) numbers s count (valid_now v d claims numbers s count running))
+same_rows : (v : Volume) (d : List Cell) (claims : List (ℕ × Draft)) (jobs : List Job) (numbers : List ℕ) (s : State) (count : ℕ) → StandsFor v d claims jobs numbers s count → HaveSameRows (volume_space v) (space s)
+same_rows v d claims jobs numbers s count device =
+    HaveSameRows-Mirrors (IsUsed v) numbers (volume_space v) (space s) (world_mirror v claims jobs (journaled (words_of d)) numbers s count (valid_now v d claims jobs numbers s count device))
 
 refused : (s : State) (o : Option Outcome) (outcome : Outcome) (last : Stepped) → o ≡ Some outcome → stepped s o last ≡ record { state = s; outcome = outcome }
 refused s o outcome last is = ap (λ x. stepped s x last) is
 
 pub refused_by_row : RefusedByRow
-refused_by_row v d claims numbers s count who (Call.Mkdir p) outcome running named is =
-    refused s (first (mkdir_rows (space s) p)) outcome (mkdir_done s p) (ap first (sym ((same_rows v d claims numbers s count running).mkdir p)) ∙ is)
-refused_by_row v d claims numbers s count who (Call.Rmdir p) outcome running named is =
-    refused s (first (rmdir_rows (space s) p)) outcome (rmdir_done s p) (ap first (sym ((same_rows v d claims numbers s count running).rmdir p)) ∙ is)
-refused_by_row v d claims numbers s count who (Call.Unlink p) outcome running named is =
-    refused s (first (unlink_rows (space s) p)) outcome (unlink_done alone s p) (ap first (sym ((same_rows v d claims numbers s count running).unlink p)) ∙ is)
-refused_by_row v d claims numbers s count who (Call.Rename p q) outcome running named is =
-    refused s (first (rename_rows (space s) p q)) outcome (rename_done alone s p q) (ap first (sym ((same_rows v d claims numbers s count running).rename p q)) ∙ is)
-refused_by_row v d claims numbers s count who call outcome running named is = absurd named
+refused_by_row v d claims jobs numbers s count who (Call.Mkdir p) outcome device named is =
+    refused s (first (mkdir_rows (space s) p)) outcome (mkdir_done s p) (ap first (sym ((same_rows v d claims jobs numbers s count device).mkdir p)) ∙ is)
+refused_by_row v d claims jobs numbers s count who (Call.Rmdir p) outcome device named is =
+    refused s (first (rmdir_rows (space s) p)) outcome (rmdir_done s p) (ap first (sym ((same_rows v d claims jobs numbers s count device).rmdir p)) ∙ is)
+refused_by_row v d claims jobs numbers s count who (Call.Unlink p) outcome device named is =
+    refused s (first (unlink_rows (space s) p)) outcome (unlink_done alone s p) (ap first (sym ((same_rows v d claims jobs numbers s count device).unlink p)) ∙ is)
+refused_by_row v d claims jobs numbers s count who (Call.Rename p q) outcome device named is =
+    refused s (first (rename_rows (space s) p q)) outcome (rename_done alone s p q) (ap first (sym ((same_rows v d claims jobs numbers s count device).rename p q)) ∙ is)
+refused_by_row v d claims jobs numbers s count who call outcome device named is = absurd named
 
 acted : (s : State) (o : Option Outcome) (last : Stepped) → o ≡ None → last.outcome ≡ answer Reply.Ok → (stepped s o last).outcome ≡ answer Reply.Ok
 acted s o last is ok = ap (λ x. (stepped s x last).outcome) is ∙ ok
 
 pub done_by_row : DoneByRow
 unfolding mkdir_done rmdir_done unlink_done rename_done
-done_by_row v d claims numbers s count who (Call.Mkdir p) running named is =
-    acted s (first (mkdir_rows (space s) p)) (mkdir_done s p) (ap first (sym ((same_rows v d claims numbers s count running).mkdir p)) ∙ is) refl
-done_by_row v d claims numbers s count who (Call.Rmdir p) running named is =
-    acted s (first (rmdir_rows (space s) p)) (rmdir_done s p) (ap first (sym ((same_rows v d claims numbers s count running).rmdir p)) ∙ is) refl
-done_by_row v d claims numbers s count who (Call.Unlink p) running named is =
-    acted s (first (unlink_rows (space s) p)) (unlink_done alone s p) (ap first (sym ((same_rows v d claims numbers s count running).unlink p)) ∙ is) refl
-done_by_row v d claims numbers s count who (Call.Rename p q) running named is =
-    acted s (first (rename_rows (space s) p q)) (rename_done alone s p q) (ap first (sym ((same_rows v d claims numbers s count running).rename p q)) ∙ is) refl
-done_by_row v d claims numbers s count who call running named is = absurd named
+done_by_row v d claims jobs numbers s count who (Call.Mkdir p) device named is =
+    acted s (first (mkdir_rows (space s) p)) (mkdir_done s p) (ap first (sym ((same_rows v d claims jobs numbers s count device).mkdir p)) ∙ is) refl
+done_by_row v d claims jobs numbers s count who (Call.Rmdir p) device named is =
+    acted s (first (rmdir_rows (space s) p)) (rmdir_done s p) (ap first (sym ((same_rows v d claims jobs numbers s count device).rmdir p)) ∙ is) refl
+done_by_row v d claims jobs numbers s count who (Call.Unlink p) device named is =
+    acted s (first (unlink_rows (space s) p)) (unlink_done alone s p) (ap first (sym ((same_rows v d claims jobs numbers s count device).unlink p)) ∙ is) refl
+done_by_row v d claims jobs numbers s count who (Call.Rename p q) device named is =
+    acted s (first (rename_rows (space s) p q)) (rename_done alone s p q) (ap first (sym ((same_rows v d claims jobs numbers s count device).rename p q)) ∙ is) refl
+done_by_row v d claims jobs numbers s count who call device named is = absurd named

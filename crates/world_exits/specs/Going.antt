@@ -1,8 +1,13 @@
 -- The World over K-Split between two calls, and what one change of the volume makes of it.
-use Rattle.std.specs.Prelude.{◌≡◌, ℕ, false, List, [], Option, None, Some}
+use Rattle.std.specs.Prelude.{◌≡◌, ◌≢◌, ◌≤◌, ℕ, true, false, List, [], map, Option, None, Some, if◌then◌else◌}
 use Rattle.disk_lines.specs.declared.Draft.{Draft}
-use Rattle.disk_rules.specs.Volume.{Volume}
+use Rattle.disk_lines.specs.declared.Kind.TheVariants.{File, Staging}
+use Rattle.disk_rules.specs.Live.{is_live}
+use Rattle.disk_rules.specs.Room.{unused_blocks}
+use Rattle.disk_rules.specs.Volume.{extents, inode, Volume}
+use Rattle.k_rules.specs.Spaces.{is_directory_in}
 use Rattle.k_rules.specs.View.{View}
+use Rattle.k_tables.specs.declared.removing.Entry.{Entry}
 use Rattle.k_split.specs.Order.{IsInOrder}
 use Rattle.posix_types.specs.declared.call.Call.{Call}
 use Rattle.posix_types.specs.declared.call.Who.{Who}
@@ -13,22 +18,46 @@ use Rattle.posix_words.specs.Outcomes.{first}
 use Rattle.posix_spec.specs.Run.{after_call}
 use Rattle.posix_spec.specs.State.{State}
 use Rattle.posix_spec.specs.Step.{renamed as renamed_state}
-use Rattle.world_images.specs.Images.{HasRoom, IsRunning}
+use Rattle.list_facts.specs.Members.{In}
+use Rattle.world_rules.specs.Jobs.{Job, live_claims}
+use Rattle.world_rules.specs.Stands.{entries_of}
+use Rattle.world_images.specs.Images.{HasRoom, StandsFor}
 use Rattle.world_images.specs.Laws.{Takes}
 
--- THE WORLD GOES ON: K-Split is in order, each change is committed at once, the power is on, and the World runs on its device.
-pub record IsGoing (k : View) (claims : List (ℕ × Draft)) (numbers : List ℕ) (s : State) (count : ℕ) : Type 0 where
+-- THE WORLD GOES ON: K-Split is in order, each change is committed at once, the power is on, and its device stands for the
+-- state, with these claims in the log and these writes in flight, whatever is in the log lines.
+pub record IsGoing (k : View) (claims : List (ℕ × Draft)) (jobs : List Job) (numbers : List ℕ) (s : State) (count : ℕ) : Type 0 where
   pub order : IsInOrder k
   pub unbatched : k.batched ≡ false
   pub on : k.lost ≡ false
-  pub running : IsRunning k.volume k.cells claims numbers s count
+  pub device : StandsFor k.volume k.cells claims jobs numbers s count
 
--- One change takes the volume and the state on: the geometry and the lap stay, room is left, and a valid World becomes one.
-pub record IsStep (v w : Volume) (claims : List (ℕ × Draft)) (numbers after : List ℕ) (s next : State) (count later : ℕ) : Type 0 where
+-- What a change leaves, which makes, cuts or drops at most one file or directory: the lines of all other inodes, among them
+-- those of staging files; of the file
+-- that it made or cut no live entry; no claim comes to life; what a file has applied does not rise; and at least as many blocks
+-- are free.
+pub record LeavesFiles (touched : Option ℕ) (v w : Volume) (claims : List (ℕ × Draft)) : Type 0 where
+  pub others : (i : ℕ) → touched ≢ Some i → inode w i ≡ inode v i
+  pub plain : (t : ℕ) → touched ≡ Some t → (inode v t).kind ≢ Staging
+  pub own : (ino : ℕ) → touched ≡ Some ino → (inode w ino).kind ≡ File → entries_of ino (live_claims w claims) ≡ []
+  pub fewer : (d : Draft) → In d (map (λ (c : ℕ × Draft). c.1) claims) → is_live w d ≡ true → is_live v d ≡ true
+  pub applied : (i : ℕ) → (inode w i).applied ≤ (inode v i).applied
+  pub frees : unused_blocks v ≤ unused_blocks w
+
+-- One change takes the volume and the state on: the geometry and the lap stay, and the maps of staging files; other files are
+-- left; room is left, and a valid World becomes one.
+pub record IsStep (touched : Option ℕ) (v w : Volume) (claims : List (ℕ × Draft)) (jobs : List Job) (numbers after : List ℕ) (s next : State) (count later : ℕ) : Type 0 where
   pub geometry : w.geometry ≡ v.geometry
   pub base : w.base ≡ v.base
-  pub room : HasRoom w claims [] next
-  pub takes : Takes v w claims [] numbers after s next count later
+  pub staging : (ino : ℕ) → (inode v ino).kind ≡ Staging → extents w ino ≡ extents v ino
+  pub leaves : LeavesFiles touched v w claims
+  pub room : HasRoom w claims jobs next
+  pub takes : Takes v w claims jobs numbers after s next count later
+
+-- what a rename drops: the directory that stood at the new path, if one did
+abbrev pub gone_by : Volume → Option Entry → Option ℕ
+gone_by v None = None
+gone_by v (Some target) = if is_directory_in v.inodes target.child then Some target.child else None
 
 -- the state after the first change of a `rename`: the call's end, unless a file lost its name, which stays so far
 abbrev pub moved_so_far : Option ℕ → State → Who → List (List ℕ) → List (List ℕ) → State

@@ -2,7 +2,10 @@ pub mod Cuts
 pub mod Done
 pub mod Ends
 pub mod Going
+pub mod Gone
 pub mod Laws
+pub mod Lives
 pub mod Moves
 pub mod Spelled
 pub mod Steps
+pub mod Sweeps

@@ -4,11 +4,12 @@ use Rattle.std.proofs.Common.{ap, ◌∙◌, sym, subst, inl, inr}
 use Rattle.pm_words.specs.Images.{words_of}
 use Rattle.disk_places.specs.Journal.{journaled}
 use Rattle.disk_lines.specs.Lines.{is_name}
-use Rattle.disk_rules.specs.Volume.{Volume}
+use Rattle.disk_rules.specs.Reading.{node_set}
+use Rattle.disk_rules.specs.Volume.{inode, Volume}
 use Rattle.volume_names.specs.Paths.{CanReplace, IsAt, IsNewAt, MayGo}
 use Rattle.volume_names.specs.RenameLaws.{rename-may}
 use Rattle.volume_changes.specs.CallLaws.{row_to}
-use Rattle.k_rules.specs.Changes.{renamed_over_directory, renamed_over_file}
+use Rattle.k_rules.specs.Changes.{gone_node, removed, renamed_over_directory, renamed_over_file, unnamed}
 use Rattle.k_rules.specs.Spaces.{is_directory_in, volume_space}
 use Rattle.k_tables.specs.Found.{IsMoving, IsTargetAt}
 use Rattle.k_tables.specs.declared.removing.Entry.{Entry}
@@ -21,15 +22,17 @@ use Rattle.posix_words.specs.Names.{child_of, last_name, Space, walk}
 use Rattle.posix_words.specs.Outcomes.{first}
 use Rattle.posix_spec.specs.Run.{after_call}
 use Rattle.posix_spec.specs.Step.{renamed as renamed_state}
+use Rattle.world_rules.specs.Jobs.{Job}
 use Rattle.world_promise.specs.TreeRules.{used_below}
 use Rattle.world_names.specs.RenameCalls.{IsWorld-rename_directory, IsWorld-rename_midway, IsWorld-renamed}
 use Rattle.world_steps.specs.Worlds.{IsFound, IsWorld}
 use Rattle.world_images.specs.Rooms.{room_renamed, room_renamed_over_directory, room_renamed_over_file}
 use Rattle.world_images.specs.Settings.{keeps_setting}
-use Rattle.world_exits.specs.Going.{IsStep, moved_so_far}
+use Rattle.world_exits.specs.Going.{gone_by, IsStep, moved_so_far}
 use Rattle.world_exits.specs.Laws.{StepsRename}
 use Rattle.world_exits.specs.Spelled.{last_fits}
-use Rattle.world_exits.specs.Steps.{found_at, found_used, valid_now}
+use Rattle.world_exits.specs.Lives.{leaves_gone, leaves_row, leaves_same}
+use Rattle.world_exits.specs.Steps.{found_at, found_used, used_plain, valid_now}
 
 -- ---- what was found
 
@@ -65,7 +68,7 @@ target_at v q parent t is = subst (λ n. IsFound v q n t.line t.child) is.0 (fou
 -- ---- the step
 
 pub steps_rename : StepsRename
-steps_rename v d claims numbers s count who p q w lost running none spelled is = by is.moving.target refl is.lost_is is.is_renamed where
+steps_rename v d claims jobs numbers s count who p q w lost device lets none spelled is = by is.moving.target refl is.lost_is is.is_renamed where
   moving : Moving
   moving = is.moving
 
@@ -78,52 +81,59 @@ steps_rename v d claims numbers s count who p q w lost running none spelled is =
   spells : is_name (last_name q) ≡ true
   spells = last_fits q spelled is.is_moving.directory.below is.is_moving.directory.short
 
-  world : IsWorld v claims [] (journaled (words_of d)) numbers s count
-  world = valid_now v d claims numbers s count running
+  world : IsWorld v claims jobs (journaled (words_of d)) numbers s count
+  world = valid_now v d claims jobs numbers s count device
 
   over : (t : Entry) → moving.target ≡ Some t → (b : Bool) → is_directory_in v.inodes t.child ≡ b → lost ≡ (if b then None else Some t.child)
       → w ≡ (if b then renamed_over_directory moving.entry.line (row_to q moving.parent moving.entry.child) t.line t.child v else renamed_over_file moving.entry.line (row_to q moving.parent moving.entry.child) t.line v)
-      → IsStep v w claims numbers numbers s (moved_so_far lost s who p q) count count
+      → IsStep (if b then Some t.child else None) v w claims jobs numbers numbers s (moved_so_far lost s who p q) count count
   over t there true directory lost_is w_is =
       let at = target_at v q moving.parent t (subst (IsTargetAt v.inodes v.names q moving.parent) there is.is_moving.is_target) in
       let can = can_replace (volume_space v) p q moving.entry.parent moving.entry.child moving.parent t.child may at.at in
-      let used = found_used v claims (journaled (words_of d)) numbers s count q moving.parent t.line t.child world at in
-      subst (λ o. IsStep v w claims numbers numbers s (moved_so_far o s who p q) count count) (sym lost_is)
-      (subst (λ x. IsStep v x claims numbers numbers s (after_call s (who, Call.Rename p q)) count count) (sym w_is)
+      let used = found_used v claims jobs (journaled (words_of d)) numbers s count q moving.parent t.line t.child world at in
+      subst (λ o. IsStep (Some t.child) v w claims jobs numbers numbers s (moved_so_far o s who p q) count count) (sym lost_is)
+      (subst (λ x. IsStep (Some t.child) v x claims jobs numbers numbers s (after_call s (who, Call.Rename p q)) count count) (sym w_is)
       (record {
         geometry = refl;
         base = refl;
-        room = room_renamed_over_directory moving.entry.line (row_to q moving.parent moving.entry.child) t.line t.child v claims [] s (after_call s (who, Call.Rename p q)) running.device.room
+        staging = λ i is_staging. refl;
+        leaves = leaves_row (Some t.child) v (removed t.line t.child v) claims moving.entry.line (Some (row_to q moving.parent moving.entry.child))
+            (leaves_row (Some t.child) v (node_set t.child (gone_node (inode v t.child)) v) claims t.line None (leaves_gone v claims count t.child (used_below v t.child used) world.aged (used_plain v t.child used)));
+        room = room_renamed_over_directory moving.entry.line (row_to q moving.parent moving.entry.child) t.line t.child v claims jobs s (after_call s (who, Call.Rename p q)) device.room
             (used_below v t.child used) (keeps_setting s (who, Call.Rename p q)).shape;
         takes = λ f valid.
-            IsWorld-rename_directory v claims [] f numbers s count who p q moving.entry.parent moving.entry.line moving.entry.child moving.parent t.line t.child valid tt none found may at can (sym can.same ∙ directory) spells;
+            IsWorld-rename_directory v claims jobs f numbers s count who p q moving.entry.parent moving.entry.line moving.entry.child moving.parent t.line t.child valid lets none found may at can (sym can.same ∙ directory) spells;
       }))
   over t there false directory lost_is w_is =
       let at = target_at v q moving.parent t (subst (IsTargetAt v.inodes v.names q moving.parent) there is.is_moving.is_target) in
       let can = can_replace (volume_space v) p q moving.entry.parent moving.entry.child moving.parent t.child may at.at in
-      subst (λ o. IsStep v w claims numbers numbers s (moved_so_far o s who p q) count count) (sym lost_is)
-      (subst (λ x. IsStep v x claims numbers numbers s (record s { entries = (renamed_state s p q).entries }) count count) (sym w_is)
+      subst (λ o. IsStep None v w claims jobs numbers numbers s (moved_so_far o s who p q) count count) (sym lost_is)
+      (subst (λ x. IsStep None v x claims jobs numbers numbers s (record s { entries = (renamed_state s p q).entries }) count count) (sym w_is)
       (record {
         geometry = refl;
         base = refl;
-        room = room_renamed_over_file moving.entry.line (row_to q moving.parent moving.entry.child) t.line v claims [] s (record s { entries = (renamed_state s p q).entries }) running.device.room refl;
+        staging = λ i is_staging. refl;
+        leaves = leaves_row None v (unnamed t.line v) claims moving.entry.line (Some (row_to q moving.parent moving.entry.child)) (leaves_row None v v claims t.line None (leaves_same v claims));
+        room = room_renamed_over_file moving.entry.line (row_to q moving.parent moving.entry.child) t.line v claims jobs s (record s { entries = (renamed_state s p q).entries }) device.room refl;
         takes = λ f valid.
-            IsWorld-rename_midway v claims [] f numbers s count p q moving.entry.parent moving.entry.line moving.entry.child moving.parent t.line t.child valid found may at can (sym can.same ∙ directory) spells;
+            IsWorld-rename_midway v claims jobs f numbers s count p q moving.entry.parent moving.entry.line moving.entry.child moving.parent t.line t.child valid found may at can (sym can.same ∙ directory) spells;
       }))
 
   by : (o : Option Entry) → moving.target ≡ o → lost ≡ file_over v.inodes o → w ≡ renamed_over moving.entry.line (row_to q moving.parent moving.entry.child) o v
-      → IsStep v w claims numbers numbers s (moved_so_far lost s who p q) count count
+      → IsStep (gone_by v o) v w claims jobs numbers numbers s (moved_so_far lost s who p q) count count
   by None there lost_is w_is =
       let new : IsNewAt (volume_space v) q moving.parent =
       record { directory = is.is_moving.directory; is_new = subst (IsTargetAt v.inodes v.names q moving.parent) there is.is_moving.is_target }
       in
-      subst (λ o. IsStep v w claims numbers numbers s (moved_so_far o s who p q) count count) (sym lost_is)
-      (subst (λ x. IsStep v x claims numbers numbers s (after_call s (who, Call.Rename p q)) count count) (sym w_is)
+      subst (λ o. IsStep None v w claims jobs numbers numbers s (moved_so_far o s who p q) count count) (sym lost_is)
+      (subst (λ x. IsStep None v x claims jobs numbers numbers s (after_call s (who, Call.Rename p q)) count count) (sym w_is)
       (record {
         geometry = refl;
         base = refl;
-        room = room_renamed moving.entry.line (row_to q moving.parent moving.entry.child) v claims [] s (after_call s (who, Call.Rename p q)) running.device.room (keeps_setting s (who, Call.Rename p q)).shape;
+        staging = λ i is_staging. refl;
+        leaves = leaves_row None v v claims moving.entry.line (Some (row_to q moving.parent moving.entry.child)) (leaves_same v claims);
+        room = room_renamed moving.entry.line (row_to q moving.parent moving.entry.child) v claims jobs s (after_call s (who, Call.Rename p q)) device.room (keeps_setting s (who, Call.Rename p q)).shape;
         takes = λ f valid.
-            IsWorld-renamed v claims [] f numbers s count who p q moving.entry.parent moving.entry.line moving.entry.child moving.parent valid tt none found may new spells;
+            IsWorld-renamed v claims jobs f numbers s count who p q moving.entry.parent moving.entry.line moving.entry.child moving.parent valid lets none found may new spells;
       }))
   by (Some t) there lost_is w_is = over t there (is_directory_in v.inodes t.child) refl lost_is w_is

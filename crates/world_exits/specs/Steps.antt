@@ -1,24 +1,24 @@
 -- What each change of names makes of the volume and the state: a step of the World.
-use Rattle.std.specs.Prelude.{◌≡◌, ◌≤◌, ℕ, zero, suc, ◌+◌, false, true, List, [], ◌∷◌, length, slice_set, None, refl}
+use Rattle.std.specs.Prelude.{◌≡◌, ◌≢◌, ℕ, ◌+◌, false, true, List, length, slice_set, Some, None, refl}
 use Rattle.std.proofs.Common.{arith, ap, ◌∙◌, sym, subst}
 use Rattle.std.proofs.lemmas.List.{get_or-set_other, get_or-set_same, length-set}
-use Rattle.std.proofs.lemmas.List.Sums.{sum_by-cons}
 use Rattle.pm_words.specs.declared.Cell.{Cell}
 use Rattle.pm_words.specs.ImageLaws.{IsImage-words_of}
 use Rattle.pm_words.specs.Images.{words_of}
 use Rattle.pm_words.specs.Words.{Words}
-use Rattle.block_counts.specs.Counts.{held_by}
 use Rattle.disk_places.specs.Journal.{journaled}
 use Rattle.disk_lines.specs.declared.Draft.{Draft}
 use Rattle.disk_lines.specs.declared.Kind.{Kind}
 use Rattle.disk_lines.specs.declared.Kind.TheVariants.{Directory, File, Free, Staging}
 use Rattle.disk_rules.specs.Live.{is_directory}
+use Rattle.disk_rules.specs.Reading.{node_set}
 use Rattle.disk_rules.specs.Volume.{inode, Volume}
 use Rattle.volume_uses.specs.Uses.{HasAllMaps}
 use Rattle.volume_changes.specs.CallLaws.{row_to}
 use Rattle.volume_changes.specs.Changes.{MayDrop}
 use Rattle.volume_changes.specs.FoundLaws.{free-found, IsLowestFree, IsRowFound}
-use Rattle.k_rules.specs.Changes.{dropped, made, unnamed}
+use Rattle.volume_changes.specs.FrameLaws.{dropped-others}
+use Rattle.k_rules.specs.Changes.{dropped, gone_node, made, unnamed}
 use Rattle.k_rules.specs.Spaces.{volume_space}
 use Rattle.k_tables.specs.Found.{IsEntryAt}
 use Rattle.k_tables.specs.declared.removing.Entry.{Entry}
@@ -26,12 +26,11 @@ use Rattle.posix_types.specs.declared.call.Call.{Call}
 use Rattle.posix_words.specs.declared.nodes.Node.{Node}
 use Rattle.posix_words.specs.Names.{last_name, node_at_path, number_at}
 use Rattle.posix_words.specs.NameRows.{unlink_rows}
-use Rattle.posix_words.specs.Nodes.{bytes_of}
 use Rattle.posix_words.specs.Outcomes.{first}
-use Rattle.posix_words.specs.Room.{held}
 use Rattle.posix_spec.specs.Run.{after_call}
-use Rattle.posix_spec.specs.State.{alone, Fits, space, State, swept, unnamed as unnamed_state, with_node}
+use Rattle.posix_spec.specs.State.{alone, space, State, swept, unnamed as unnamed_state, with_node}
 use Rattle.posix_spec.specs.Step.{stepped, unlink_done}
+use Rattle.world_rules.specs.Jobs.{Job}
 use Rattle.world_rules.specs.Stands.{is_used, IsUsed, number}
 use Rattle.world_promise.specs.TreeRules.{used_below}
 use Rattle.world_spaces.specs.Mirrors.{Mirrors}
@@ -44,91 +43,109 @@ use Rattle.world_steps.specs.NameTables.{row_used}
 use Rattle.world_names.specs.RemoveCalls.{IsWorld-rmdir, IsWorld-unlink_midway, one_number, row_of, swept-gone}
 use Rattle.world_steps.specs.Steps.{shown_node}
 use Rattle.world_steps.specs.Worlds.{IsFound, IsWorld, node_there, world_mirror}
-use Rattle.world_images.specs.Images.{IsRunning}
+use Rattle.world_images.specs.Images.{StandsFor}
 use Rattle.world_images.specs.Rooms.{room_dropped, room_made, room_removed, room_unnamed}
 use Rattle.world_images.specs.Settings.{keeps_setting}
 use Rattle.world_exits.specs.Going.{IsStep}
+use Rattle.world_exits.specs.Gone.{GoOn-gone}
 use Rattle.world_exits.specs.Laws.{StateOfUnlink, StepsDropped, StepsMkdir, StepsOpened, StepsRmdir, StepsUnlinked, UnlinksFile}
+use Rattle.world_exits.specs.Lives.{leaves_dropped, leaves_gone, leaves_made, leaves_row, leaves_same}
 use Rattle.world_exits.specs.Spelled.{last_fits}
 
--- a running world is valid at some words
-pub valid_now : (v : Volume) (d : List Cell) (claims : List (ℕ × Draft)) (numbers : List ℕ) (s : State) (count : ℕ) → IsRunning v d claims numbers s count → IsWorld v claims [] (journaled (words_of d)) numbers s count
-valid_now v d claims numbers s count running = running.device.world (words_of d) (IsImage-words_of d)
+-- a World is valid at some words
+pub valid_now : (v : Volume) (d : List Cell) (claims : List (ℕ × Draft)) (jobs : List Job) (numbers : List ℕ) (s : State) (count : ℕ) → StandsFor v d claims jobs numbers s count → IsWorld v claims jobs (journaled (words_of d)) numbers s count
+valid_now v d claims jobs numbers s count device = device.world (words_of d) (IsImage-words_of d)
 
 -- the entry that was found
 pub found_at : (v : Volume) (p : List (List ℕ)) (entry : Entry) → IsEntryAt v.inodes v.names p entry → IsFound v p entry.parent entry.line entry.child
 found_at v p entry is = record { at = is.is_at; found = is.line }
 
-pub found_used : (v : Volume) (claims : List (ℕ × Draft)) (f : Words) (numbers : List ℕ) (s : State) (count : ℕ) (p : List (List ℕ)) (parent line child : ℕ) → IsWorld v claims [] f numbers s count → IsFound v p parent line child → IsUsed v child
-found_used v claims f numbers s count p parent line child world found =
+pub found_used : (v : Volume) (claims : List (ℕ × Draft)) (jobs : List Job) (f : Words) (numbers : List ℕ) (s : State) (count : ℕ) (p : List (List ℕ)) (parent line child : ℕ) → IsWorld v claims jobs f numbers s count → IsFound v p parent line child → IsUsed v child
+found_used v claims jobs f numbers s count p parent line child world found =
     let r = row_of v p parent line child found in
     subst (IsUsed v) r.child_is (row_used v line r.at world.valid.stands.sane r.is).1
 
+-- what is in use is no staging file
+pub used_plain : (v : Volume) (ino : ℕ) → IsUsed v ino → (inode v ino).kind ≢ Staging
+used_plain v ino used staging = let never : true ≡ false = sym used ∙ ap is_used staging in cc
+
 -- MKDIR
 pub steps_mkdir : StepsMkdir
-steps_mkdir v d claims numbers s count who p w ino running small spelled none is =
-    subst (λ i. IsStep v w claims numbers (renumbered numbers i (length s.nodes)) s (after_call s (who, Call.Mkdir p)) count (count + 1)) (sym is.ino_is)
-    (subst (λ x. IsStep v x claims numbers (renumbered numbers is.place.ino (length s.nodes)) s (after_call s (who, Call.Mkdir p)) count (count + 1)) (sym is.is_made) step) where
+steps_mkdir v d claims jobs numbers s count who p w ino device lets small spelled none is =
+    subst (λ i. IsStep (Some i) v w claims jobs numbers (renumbered numbers i (length s.nodes)) s (after_call s (who, Call.Mkdir p)) count (count + 1)) (sym is.ino_is)
+    (subst (λ x. IsStep (Some is.place.ino) v x claims jobs numbers (renumbered numbers is.place.ino (length s.nodes)) s (after_call s (who, Call.Mkdir p)) count (count + 1)) (sym is.is_made) step) where
       free : IsLowestFree v.inodes is.place.ino
       free = free-found v.inodes is.place.ino is.is_place.room.ino
 
-      step : IsStep v (made Directory is.place.ino is.place.line (row_to p is.place.parent is.place.ino) v) claims numbers (renumbered numbers is.place.ino (length s.nodes)) s (after_call s (who, Call.Mkdir p)) count (count + 1)
+      step : IsStep (Some is.place.ino) v (made Directory is.place.ino is.place.line (row_to p is.place.parent is.place.ino) v) claims jobs numbers (renumbered numbers is.place.ino (length s.nodes)) s (after_call s (who, Call.Mkdir p)) count (count + 1)
       step = record {
         geometry = refl;
         base = refl;
-        room = room_made Directory is.place.ino is.place.line (row_to p is.place.parent is.place.ino) v claims [] s (after_call s (who, Call.Mkdir p)) count running.device.room
-            (valid_now v d claims numbers s count running).aged free.within free.free (keeps_setting s (who, Call.Mkdir p)).shape;
+        staging = λ i is_staging. refl;
+        leaves = leaves_made Directory is.place.ino is.place.line (row_to p is.place.parent is.place.ino) v claims count free.within (valid_now v d claims jobs numbers s count device).aged free.free;
+        room = room_made Directory is.place.ino is.place.line (row_to p is.place.parent is.place.ino) v claims jobs s (after_call s (who, Call.Mkdir p)) count device.room
+            (valid_now v d claims jobs numbers s count device).aged free.within free.free (keeps_setting s (who, Call.Mkdir p)).shape;
         takes = λ f world.
-            IsWorld-mkdir v claims [] f numbers s count who p is.place.parent is.place.ino is.place.line world small tt none is.is_place.is_new free is.is_place.room.line
+            IsWorld-mkdir v claims jobs f numbers s count who p is.place.parent is.place.ino is.place.line world small lets none is.is_place.is_new free is.is_place.room.line
             (last_fits p spelled is.is_place.is_new.directory.below is.is_place.is_new.directory.short);
       }
 
 -- OPEN that makes the file
 pub steps_opened : StepsOpened
-steps_opened v d claims numbers s count who h p flags w ino running small spelled none is =
-    subst (λ i. IsStep v w claims numbers (renumbered numbers i (length s.nodes)) s (after_call s (who, Call.Open h p flags)) count (count + 1)) (sym is.ino_is)
-    (subst (λ x. IsStep v x claims numbers (renumbered numbers is.place.ino (length s.nodes)) s (after_call s (who, Call.Open h p flags)) count (count + 1)) (sym is.is_made) step) where
+steps_opened v d claims jobs numbers s count who h p flags w ino device lets small spelled none is =
+    subst (λ i. IsStep (Some i) v w claims jobs numbers (renumbered numbers i (length s.nodes)) s (after_call s (who, Call.Open h p flags)) count (count + 1)) (sym is.ino_is)
+    (subst (λ x. IsStep (Some is.place.ino) v x claims jobs numbers (renumbered numbers is.place.ino (length s.nodes)) s (after_call s (who, Call.Open h p flags)) count (count + 1)) (sym is.is_made) step) where
       free : IsLowestFree v.inodes is.place.ino
       free = free-found v.inodes is.place.ino is.is_place.room.ino
 
-      step : IsStep v (made File is.place.ino is.place.line (row_to p is.place.parent is.place.ino) v) claims numbers (renumbered numbers is.place.ino (length s.nodes)) s (after_call s (who, Call.Open h p flags)) count (count + 1)
+      step : IsStep (Some is.place.ino) v (made File is.place.ino is.place.line (row_to p is.place.parent is.place.ino) v) claims jobs numbers (renumbered numbers is.place.ino (length s.nodes)) s (after_call s (who, Call.Open h p flags)) count (count + 1)
       step = record {
         geometry = refl;
         base = refl;
-        room = room_made File is.place.ino is.place.line (row_to p is.place.parent is.place.ino) v claims [] s (after_call s (who, Call.Open h p flags)) count running.device.room
-            (valid_now v d claims numbers s count running).aged free.within free.free (keeps_setting s (who, Call.Open h p flags)).shape;
+        staging = λ i is_staging. refl;
+        leaves = leaves_made File is.place.ino is.place.line (row_to p is.place.parent is.place.ino) v claims count free.within (valid_now v d claims jobs numbers s count device).aged free.free;
+        room = room_made File is.place.ino is.place.line (row_to p is.place.parent is.place.ino) v claims jobs s (after_call s (who, Call.Open h p flags)) count device.room
+            (valid_now v d claims jobs numbers s count device).aged free.within free.free (keeps_setting s (who, Call.Open h p flags)).shape;
         takes = λ f world.
-            IsWorld-created v claims [] f numbers s count who h p flags is.place.parent is.place.ino is.place.line world small tt none is.is_place.is_new free is.is_place.room.line
+            IsWorld-created v claims jobs f numbers s count who h p flags is.place.parent is.place.ino is.place.line world small lets none is.is_place.is_new free is.is_place.room.line
             (last_fits p spelled is.is_place.is_new.directory.below is.is_place.is_new.directory.short);
       }
 
 -- RMDIR
 pub steps_rmdir : StepsRmdir
-steps_rmdir v d claims numbers s count who p w running none is =
-    subst (λ x. IsStep v x claims numbers numbers s (after_call s (who, Call.Rmdir p)) count count) (sym is.is_removed)
+steps_rmdir v d claims jobs numbers s count who p w device lets none is =
+    subst (λ x. IsStep (Some is.entry.child) v x claims jobs numbers numbers s (after_call s (who, Call.Rmdir p)) count count) (sym is.is_removed)
     (record {
       geometry = refl;
       base = refl;
-      room = room_removed is.entry.line is.entry.child v claims [] s (after_call s (who, Call.Rmdir p)) running.device.room
-          (used_below v is.entry.child (found_used v claims (journaled (words_of d)) numbers s count p is.entry.parent is.entry.line is.entry.child (valid_now v d claims numbers s count running) found))
+      staging = λ i is_staging. refl;
+      leaves = leaves_row (Some is.entry.child) v (node_set is.entry.child (gone_node (inode v is.entry.child)) v) claims is.entry.line None
+          (leaves_gone v claims count is.entry.child (used_below v is.entry.child used) (valid_now v d claims jobs numbers s count device).aged (used_plain v is.entry.child used));
+      room = room_removed is.entry.line is.entry.child v claims jobs s (after_call s (who, Call.Rmdir p)) device.room
+          (used_below v is.entry.child used)
           (keeps_setting s (who, Call.Rmdir p)).shape;
       takes = λ f world.
-          IsWorld-rmdir v claims [] f numbers s count who p is.entry.parent is.entry.line is.entry.child world tt found is.is_directory.is_directory is.is_directory.is_empty none;
+          IsWorld-rmdir v claims jobs f numbers s count who p is.entry.parent is.entry.line is.entry.child world lets found is.is_directory.is_directory is.is_directory.is_empty none;
     })
   where
     found : IsFound v p is.entry.parent is.entry.line is.entry.child
     found = found_at v p is.entry is.is_directory.is_entry
 
+    used : IsUsed v is.entry.child
+    used = found_used v claims jobs (journaled (words_of d)) numbers s count p is.entry.parent is.entry.line is.entry.child (valid_now v d claims jobs numbers s count device) found
+
 -- UNLINK: the name goes,
 pub steps_unlinked : StepsUnlinked
 unfolding unnamed_state
-steps_unlinked v d claims numbers s count p w ino running is =
-    subst (λ x. IsStep v x claims numbers numbers s (unnamed_state s p) count count) (sym is.is_unlinked)
+steps_unlinked v d claims jobs numbers s count p w ino device is =
+    subst (λ x. IsStep None v x claims jobs numbers numbers s (unnamed_state s p) count count) (sym is.is_unlinked)
     (record {
       geometry = refl;
       base = refl;
-      room = room_unnamed is.entry.line v claims [] s (unnamed_state s p) running.device.room refl;
-      takes = λ f world. IsWorld-unlink_midway v claims [] f numbers s count p is.entry.parent is.entry.line is.entry.child world (found_at v p is.entry is.is_file.is_entry) is.is_file.is_file;
+      staging = λ i is_staging. refl;
+      leaves = leaves_row None v v claims is.entry.line None (leaves_same v claims);
+      room = room_unnamed is.entry.line v claims jobs s (unnamed_state s p) device.room refl;
+      takes = λ f world. IsWorld-unlink_midway v claims jobs f numbers s count p is.entry.parent is.entry.line is.entry.child world (found_at v p is.entry is.is_file.is_entry) is.is_file.is_file;
     })
 
 pub plain_file : (kind : Kind) → is_used kind ≡ true → is_directory kind ≡ false → kind ≡ File
@@ -139,16 +156,16 @@ plain_file Staging used plain = cc
 
 -- the file may be dropped then,
 pub unlinks_file : UnlinksFile
-unlinks_file v d claims numbers s count p w ino running is =
+unlinks_file v d claims jobs numbers s count p w ino device is =
     subst (λ n. MayDrop n w) (sym is.ino_is) (subst (MayDrop is.entry.child) (sym is.is_unlinked) may) where
-      world : IsWorld v claims [] (journaled (words_of d)) numbers s count
-      world = valid_now v d claims numbers s count running
+      world : IsWorld v claims jobs (journaled (words_of d)) numbers s count
+      world = valid_now v d claims jobs numbers s count device
 
       found : IsFound v p is.entry.parent is.entry.line is.entry.child
       found = found_at v p is.entry is.is_file.is_entry
 
       used : IsUsed v is.entry.child
-      used = found_used v claims (journaled (words_of d)) numbers s count p is.entry.parent is.entry.line is.entry.child world found
+      used = found_used v claims jobs (journaled (words_of d)) numbers s count p is.entry.parent is.entry.line is.entry.child world found
 
       r : IsRowFound v.names is.entry.parent (last_name p) is.entry.line is.entry.child
       r = row_of v p is.entry.parent is.entry.line is.entry.child found
@@ -166,13 +183,13 @@ unlinks_file v d claims numbers s count p w ino running is =
 -- and the state of the call's end is that without the name, with the file swept
 pub state_unlink : StateOfUnlink
 unfolding unlink_done
-state_unlink v d claims numbers s count who p w ino running none is =
+state_unlink v d claims jobs numbers s count who p w ino device none is =
     ap (λ o. (stepped s o (unlink_done alone s p)).state) none_there ∙ ap (swept alone (unnamed_state s p)) at where
-      world : IsWorld v claims [] (journaled (words_of d)) numbers s count
-      world = valid_now v d claims numbers s count running
+      world : IsWorld v claims jobs (journaled (words_of d)) numbers s count
+      world = valid_now v d claims jobs numbers s count device
 
       mirror : Mirrors (IsUsed v) numbers (volume_space v) (space s)
-      mirror = world_mirror v claims [] (journaled (words_of d)) numbers s count world
+      mirror = world_mirror v claims jobs (journaled (words_of d)) numbers s count world
 
       none_there : first (unlink_rows (space s) p) ≡ None
       none_there = ap first (sym ((HaveSameRows-Mirrors (IsUsed v) numbers (volume_space v) (space s) mirror).unlink p)) ∙ none
@@ -182,33 +199,25 @@ state_unlink v d claims numbers s count who p w ino running none is =
 
 -- ---- a file without a name goes
 
--- what files hold does not grow
-weigh : Node → ℕ
-weigh node = held_by (length (bytes_of node))
-
-held_gone : (nodes : List Node) (n : ℕ) → held (slice_set nodes n Node.Gone) ≤ held nodes
-unfolding weigh
-held_gone [] n = omega arith
-held_gone (x ∷ xs) zero = omega (arith, sum_by-cons weigh x xs, sum_by-cons weigh Node.Gone xs)
-held_gone (x ∷ xs) (suc n) = omega (arith, sum_by-cons weigh x xs, sum_by-cons weigh x (slice_set xs n Node.Gone), held_gone xs n)
-
 -- DROPPED: nobody has it open
 pub steps_dropped : StepsDropped
-steps_dropped v d claims numbers s count c running may shut =
-    subst (λ x. IsStep v (dropped c v) claims numbers numbers s x count count) (sym same)
+steps_dropped v d claims jobs numbers s count c device may shut =
+    subst (λ x. IsStep (Some c) v (dropped c v) claims jobs numbers numbers s x count count) (sym same)
     (record {
       geometry = refl;
       base = refl;
-      room = room_dropped c v claims [] s gone running.device.room may.below all refl;
+      staging = λ i is_staging. (dropped-others c v).maps i ((λ one. (let never : Staging ≡ File = sym is_staging ∙ (ap (λ n. (inode v n).kind) one ∙ may.file) in cc)), tt);
+      leaves = leaves_dropped v claims count c may.below all world.aged (used_plain v c used);
+      room = room_dropped c v claims jobs s gone device.room may.below all refl;
       takes = λ f world.
-          IsWorld-dropped v claims [] f numbers s gone count c world may.file (count-nameless v.names c may.unnamed) shut
-          (record { flying_on = tt; files = tt; fits = fits world.valid.fits; room = omega arith })
+          IsWorld-dropped v claims jobs f numbers s gone count c world may.file (count-nameless v.names c may.unnamed) shut
+          (GoOn-gone v claims jobs f numbers s (number numbers c) world.valid shut)
           (λ n other. ap shown_node (get_or-set_other s.nodes (number numbers c) n Node.Gone Node.Gone other))
           (get_or-set_same s.nodes (number numbers c) Node.Gone Node.Gone (world.valid.stands.names.within c used)) refl (length-set s.nodes (number numbers c) Node.Gone) refl;
     })
   where
-    world : IsWorld v claims [] (journaled (words_of d)) numbers s count
-    world = valid_now v d claims numbers s count running
+    world : IsWorld v claims jobs (journaled (words_of d)) numbers s count
+    world = valid_now v d claims jobs numbers s count device
 
     gone : State
     gone = with_node s (number numbers c) Node.Gone
@@ -224,6 +233,3 @@ steps_dropped v d claims numbers s count c running may shut =
       chain_count = world.valid.stands.sane.chain_count ∙ sym world.valid.stands.sane.inode_count;
       map_count = world.valid.stands.sane.map_count ∙ sym world.valid.stands.sane.inode_count;
     }
-
-    fits : Fits s → Fits gone
-    fits is = omega (arith, is, held_gone s.nodes (number numbers c))

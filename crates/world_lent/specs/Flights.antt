@@ -39,7 +39,7 @@ use Rattle.world_images.specs.Kept.{kept_by, kept_more, kept_strict, kept_sync, 
 use Rattle.world_images.specs.Laws.{Takes}
 use Rattle.world_images.specs.Promised.{IsKept}
 use Rattle.world_lent.specs.Back.{IsPutBack}
-use Rattle.world_lent.specs.Laws.{AreFound, KeepsPromiseAtBegin, KeepsPromiseBeside, KeepsPromiseInFlight, LeadsAfter, LeadsBefore, LeadsTo, SameBlocks}
+use Rattle.world_lent.specs.Laws.{AreFound, KeepsPromiseAtBegin, KeepsPromiseBeside, KeepsPromiseBetween, KeepsPromiseInFlight, LeadsAfter, LeadsBefore, LeadsTo, SameBlocks}
 
 -- ---- the words of the log
 
@@ -234,3 +234,10 @@ promise_beside v w d e claims jobs numbers after s new start history count later
           subst (λ g. IsKept g start history (map begun_of jobs ++ c ∷ []) image) change.geometry
           (kept_leading w claims jobs after new later image start history c mode whole behind changed)
     ]
+
+-- between two changes
+pub promise_between : KeepsPromiseBetween
+promise_between v d claims jobs numbers s start history count back first slots image c mode whole device leads is =
+    let small = small_lap v d claims jobs numbers s count image device (image_of d back image is.image_is) in
+    kept_leading v claims jobs numbers s count image start history c mode whole leads
+    (shows_world v d claims jobs numbers s count back first slots image device small is)

@@ -75,3 +75,10 @@ KeepsPromiseBeside =
     → start.mode ≡ Mode.Strict → AreWhole jobs → StandsFor v d claims jobs numbers s count → LeadsTo start history c jobs s → LeadsTo start history c jobs new
     → IsChange v w d e → SameBlocks v w jobs → HasRoom w claims jobs new → Takes v w claims jobs numbers after s new count later → IsPutBack v e back first claims jobs slots image
     → IsKept v.geometry start history (map begun_of jobs ++ c ∷ []) image
+
+-- Between two changes of a call it is so too, where the trees that the jobs may leave are trees of the history's state.
+abbrev pub KeepsPromiseBetween : Type 0
+KeepsPromiseBetween =
+    (v : Volume) (d : List Cell) (claims : List (ℕ × Draft)) (jobs : List Job) (numbers : List ℕ) (s start : State) (history : List Item) (count : ℕ) (back : ℕ → Cell) (first : Words) (slots : List (Option ℕ)) (image : Words) (c : Begun)
+    → start.mode ≡ Mode.Strict → AreWhole jobs → StandsFor v d claims jobs numbers s count → LeadsTo start history c jobs s → IsPutBack v d back first claims jobs slots image
+    → IsKept v.geometry start history (map begun_of jobs ++ c ∷ []) image

@@ -1,4 +1,5 @@
 use Rattle.world_exits.specs.Ends.{renames_over_file, tree_of_rename, tree_of_unlink}
+use Rattle.world_exits.specs.Sweeps.{leads_swept}
 use Rattle.world_exits.specs.Steps.{state_unlink, unlinks_file}
 use Rattle.world_exits.proofs.a_second_step_ends_the_call.Goals as goal
 
@@ -16,3 +17,6 @@ returns-clause-renamed c = renames_over_file
 
 pub returns-clause-rename_tree : goal.returns-clause-rename_tree
 returns-clause-rename_tree c = tree_of_rename
+
+pub returns-clause-leads : goal.returns-clause-leads
+returns-clause-leads c = leads_swept

@@ -1,8 +1,11 @@
-use Rattle.world_exits.specs.Done.{goes_on, keeps_cut, keeps_off}
+use Rattle.world_exits.specs.Done.{goes_on, keeps_cut, keeps_log, keeps_off}
 use Rattle.world_exits.proofs.a_step_ends.Goals as goal
 
 pub returns-clause-done : goal.returns-clause-done
 returns-clause-done c = goes_on
+
+pub returns-clause-log : goal.returns-clause-log
+returns-clause-log c = keeps_log
 
 pub returns-clause-cut : goal.returns-clause-cut
 returns-clause-cut c = keeps_cut

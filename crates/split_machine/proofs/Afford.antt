@@ -17,7 +17,7 @@ use Rattle.posix_spec.specs.Afforded.{Afforded, AffordedByNames, callers, is_pos
 use Rattle.posix_spec.specs.Run.{Begun}
 use Rattle.posix_spec.specs.Scripted.{call_count, items_of, next_call, script_of}
 use Rattle.posix_spec.specs.Unfinished.{AreUnfinished}
-use Rattle.split_calls.specs.Answers.{most_steps}
+use Rattle.split_world.specs.Answers.{most_steps}
 use Rattle.split_machine.specs.Laws.{AffordsItsSteps}
 use Rattle.split_machine.specs.Steps.{steps_of_begun, steps_of_items}
 

@@ -16,7 +16,7 @@ use Rattle.k_journal.specs.Commits.{TakesAStep}
 use Rattle.posix_spec.specs.Run.{after_call, Begun, run}
 use Rattle.posix_spec.specs.Scripted.{IsSetUp, items_of, next_call, script_of}
 use Rattle.posix_spec.specs.State.{State}
-use Rattle.split_calls.specs.Answers.{most_steps}
+use Rattle.split_world.specs.Answers.{most_steps}
 use Rattle.split_world.specs.Views.{begun_of, IsDone, item_of, next_begun, steps_of_next, WorldView}
 use Rattle.split_machine.specs.Changes.{after_item, ChangesAtMost}
 use Rattle.split_machine.specs.Laws.{NoneChanges}

@@ -2,7 +2,7 @@
 use Rattle.std.specs.Prelude.{ℕ, List, sum_by}
 use Rattle.posix_types.specs.declared.item.Item.{Item}
 use Rattle.posix_spec.specs.Run.{Begun}
-use Rattle.split_calls.specs.Answers.{most_steps}
+use Rattle.split_world.specs.Answers.{most_steps}
 
 -- of calls that returned
 abbrev pub steps_of_items : List Item → ℕ

@@ -15,6 +15,9 @@ ghost use Rattle.split_machine.specs.Laws.{AffordsItsSteps, NoneChanges};
 mod runs;
 
 pub use runs::run;
+pub use split_world::{
+    Ended, KSplit, MountFault, NoMemory, World, a_remount_shows_the_same, mkfs, mount,
+};
 
 /// Where no call may change the names, none does.
 pub fn a_change_of_names_is_counted()

@@ -6,8 +6,7 @@ ghost use Rattle.split_machine.specs.Runs.{IsFirst, IsRunEnded};
 
 use pm_lines::Power;
 use posix_types::Who;
-use split_calls::NoMemory;
-use split_world::{Begun, Ended, World};
+use split_world::{Begun, Ended, NoMemory, World};
 use std::alloc::Global;
 
 // Begins the calls of one caller, until all have returned. Answers whether the power lasted.

@@ -6,8 +6,8 @@ use Rattle.disk_rules.specs.Rules.{geometry_of}
 use Rattle.posix_types.specs.declared.call.Mode.{Mode}
 use Rattle.posix_types.specs.Scripts.{Scripts}
 use Rattle.world_beginning.specs.Laws.{IsShapeOf}
-use Rattle.split_world.specs.Starts.{BeginsMounted}
-use Rattle.split_world.specs.Views.{WorldView}
+use Rattle.split_machine.specs.Starts.{BeginsMounted}
+use Rattle.split_machine.specs.Views.{WorldView}
 use Rattle.split_top.specs.Images.{CanOpen}
 use Rattle.split_top.specs.Worlds.{AreRunnable, BeginsOn}
 

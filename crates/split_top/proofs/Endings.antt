@@ -22,7 +22,7 @@ use Rattle.split_machine.specs.Changes.{ChangesAtMost}
 use Rattle.split_machine.specs.Runs.{IsRan}
 use Rattle.split_machine.specs.Steps.{steps_of_begun, steps_of_items}
 use Rattle.split_machine.specs.Laws.{AffordsItsSteps}
-use Rattle.split_world.specs.Views.{WorldView}
+use Rattle.split_machine.specs.Views.{WorldView}
 use Rattle.world_images.specs.Starts.{has_setting}
 use Rattle.split_top.specs.Found.{IsFound}
 use Rattle.split_top.specs.Runs.{IsRun, task_on}

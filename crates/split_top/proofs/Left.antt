@@ -9,9 +9,9 @@ use Rattle.posix_types.specs.declared.tree.TreeEntry.{TreeEntry}
 use Rattle.posix_types.specs.Scripts.{Scripts}
 use Rattle.posix_spec.specs.Run.{Begun}
 use Rattle.world_images.specs.Promised.{KeepsPromise}
-use Rattle.split_calls.specs.Runs.{HasNoLog}
+use Rattle.split_machine.specs.CallRuns.{HasNoLog}
 use Rattle.split_machine.specs.Runs.{IsRan}
-use Rattle.split_world.specs.Views.{WorldView}
+use Rattle.split_machine.specs.Views.{WorldView}
 use Rattle.split_top.specs.Found.{IsLeftAs}
 use Rattle.split_top.specs.Worlds.{IsWorldOn}
 

@@ -2,10 +2,11 @@
 use Rattle.std.proofs.Common.{◌≡◌, ◌≤◌, ◌<◌, ◌+◌, ◌*◌, ◌^◌, ◌⊎◌, ℕ, List, [], length, sym, ◌∙◌, ap, subst, arith, inl, inr}
 use Rattle.std.proofs.Math.Path.{fun_ext}
 use Rattle.std.proofs.lemmas.Bool.{cases_lt}
+use Rattle.pm_words.specs.Cells.{newest}
 use Rattle.pm_words.specs.Images.{words_of}
 use Rattle.pm_words.specs.Words.{word_at, Words}
 use Rattle.disk_places.specs.Journal.{journaled}
-use Rattle.disk_places.specs.Places.{Geometry}
+use Rattle.disk_places.specs.Places.{commit_word, Geometry}
 use Rattle.disk_rules.specs.Content.{content}
 use Rattle.disk_rules.specs.Live.{live_entries}
 use Rattle.disk_rules.specs.Rules.{geometry_of, IsChecked}
@@ -13,15 +14,15 @@ use Rattle.disk_rules.specs.Volume.{Volume, volume}
 use Rattle.image_facts.specs.CheckedLaws.{checked-parts}
 use Rattle.volume_facts.specs.ReadingLaws.{reads-volume}
 use Rattle.k_content.specs.Trees.{tree_content}
-use Rattle.k_mount.specs.Laws.{TreesAreOfContent}
-use Rattle.k_mount.specs.Sheds.{AllNamed}
+use Rattle.split_machine.specs.MountLaws.{TreesAreOfContent}
+use Rattle.split_machine.specs.Sheds.{AllNamed}
 use Rattle.k_rules.specs.View.{View}
-use Rattle.log_mount.specs.Mounts.{IsMounted}
-use Rattle.log_mount.specs.Resets.{IsLow}
-use Rattle.log_mount.specs.Sweeps.{AreBare, EndsInTime}
+use Rattle.split_machine.specs.Mounts.{IsMounted}
+use Rattle.split_machine.specs.Resets.{IsLow}
+use Rattle.split_machine.specs.Sweeps.{AreBare, EndsInTime}
 use Rattle.posix_trees.specs.TreeOf.{IsTreeOf}
 use Rattle.posix_types.specs.declared.tree.TreeEntry.{TreeEntry}
-use Rattle.split_calls.proofs.NoLog.{none_live}
+use Rattle.split_machine.specs.NoLog.{none_live}
 use Rattle.world_images.specs.Images.{HasNoEntry}
 use Rattle.world_rules.specs.Shown.{IsTreeOfContent}
 use Rattle.split_top.specs.Found.{IsFoundOn}
@@ -86,6 +87,7 @@ module _ (image : Words) (k : View) (tree : List TreeEntry) (bytes : List ℕ) (
       can_open = subst (IsChecked (length bytes)) (sym words) checked;
       is_tree = subst (λ w. IsTreeOfContent (content (geometry_of w) w) tree) (sym words) tree_of;
     };
+    idle = ap (λ w. w commit_word) words ∙ ap newest m.rest.order.stands.idle;
     named = subst (λ w. AllNamed (images.volume_of w)) (sym words) (subst AllNamed (sym same) m.named);
     short = subst (λ w. (ino : ℕ) → EndsInTime (images.volume_of w) ino) (sym words) (subst (λ v. (ino : ℕ) → EndsInTime v ino) (sym same) m.short);
     bare = subst (λ w. AreBare (images.volume_of w)) (sym words) (subst AreBare (sym same) m.bare);

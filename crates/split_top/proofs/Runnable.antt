@@ -12,7 +12,7 @@ use Rattle.script_text.specs.Known.{AreKnownCalls, IsKnownCall, KnownCallsAlone,
 use Rattle.script_text.specs.Laws.{ScriptsAreSpelled, ScriptsAreWithinLimits}
 use Rattle.script_text.specs.Scripts.{bad_line, scripts_of}
 use Rattle.script_text.specs.Spelled as text
-use Rattle.split_calls.specs.Built.{IsBuilt, NamesAreSpelled}
+use Rattle.split_machine.specs.Built.{IsBuilt, NamesAreSpelled}
 use Rattle.split_top.specs.Worlds.{AreRunnable}
 
 -- ---- lists

@@ -10,7 +10,7 @@ use Rattle.disk_rules.specs.Honest.{IsHonest}
 use Rattle.disk_rules.specs.Rules.{geometry_of}
 use Rattle.k_check.specs.Crashes.{IsCrashImage}
 use Rattle.k_rules.specs.View.{View}
-use Rattle.log_mount.specs.Mounts.{IsMounted}
+use Rattle.split_machine.specs.Mounts.{IsMounted}
 use Rattle.pm_lines.specs.declared.choices.Choice.{Choice}
 use Rattle.posix_types.specs.declared.item.Item.{Item}
 use Rattle.posix_types.specs.declared.tree.TreeEntry.{TreeEntry}
@@ -18,7 +18,7 @@ use Rattle.posix_spec.specs.Run.{Begun}
 use Rattle.posix_spec.specs.State.{State}
 use Rattle.world_images.specs.Promised.{KeepsPromise}
 use Rattle.world_rules.specs.Shown.{IsTreeOfContent}
-use Rattle.split_calls.specs.Runs.{HasNoLog}
+use Rattle.split_machine.specs.CallRuns.{HasNoLog}
 
 -- WHAT A RUN LEAVES: a device of this geometry that has no log and keeps the promise for the history and the unfinished calls.
 pub record IsLeftAs (g : Geometry) (d : List Cell) (start : State) (history : List Item) (unfinished : List Begun) : Type 0 where

@@ -2,7 +2,7 @@
 use Rattle.std.specs.Prelude.{◌≡◌, ◌≤◌, ◌+◌, ◌*◌, ◌^◌, ℕ, List, ◌++◌, length, Option, codes, decimal}
 use Rattle.pm_words.specs.Words.{word_at, Words}
 use Rattle.disk_places.specs.Journal.{journaled}
-use Rattle.disk_places.specs.Places.{data_blocks, Geometry}
+use Rattle.disk_places.specs.Places.{commit_word, data_blocks, Geometry}
 use Rattle.disk_lines.specs.Fresh.{fresh}
 use Rattle.disk_rules.specs.Broken.{Breaks}
 use Rattle.disk_rules.specs.Content.{content}
@@ -11,9 +11,9 @@ use Rattle.disk_rules.specs.Rules.{geometry_of, IsChecked}
 use Rattle.disk_rules.specs.Volume.{Volume, volume}
 use Rattle.posix_types.specs.declared.tree.TreeEntry.{TreeEntry}
 use Rattle.world_rules.specs.Shown.{IsTreeOfContent}
-use Rattle.k_mount.specs.Sheds.{AllNamed}
-use Rattle.log_mount.specs.Resets.{IsLow}
-use Rattle.log_mount.specs.Sweeps.{AreBare, EndsInTime}
+use Rattle.split_machine.specs.Sheds.{AllNamed}
+use Rattle.split_machine.specs.Resets.{IsLow}
+use Rattle.split_machine.specs.Sweeps.{AreBare, EndsInTime}
 use Rattle.world_images.specs.Images.{HasNoEntry}
 use Rattle.image_layout.specs.Numbers.{default_numbers}
 use Rattle.report_text.specs.Texts.{tree_text}
@@ -50,10 +50,11 @@ pub record ShowsTree (bytes : List ℕ) (tree : List TreeEntry) : Type 0 where
 abbrev pub volume_of : Words → Volume
 volume_of f = volume (geometry_of f) (journaled f)
 
--- AN IMAGE AS A MOUNT LEAVES IT: it shows this tree, each file has a name and no block past its end, nothing is staged, no slot of its
--- log has an entry, the log's base is at most 2^62 and one lap, and no file has applied an order above 2^62.
+-- AN IMAGE AS A MOUNT LEAVES IT: it shows this tree, its journal is empty, each file has a name and no block past its end, nothing is
+-- staged, no slot of its log has an entry, the log's base is at most 2^62 and one lap, and no file has applied an order above 2^62.
 pub record IsMounted (bytes : List ℕ) (tree : List TreeEntry) : Type 0 where
   pub shows : ShowsTree bytes tree
+  pub idle : word_at bytes commit_word ≡ 0
   pub named : AllNamed (volume_of (word_at bytes))
   pub short : (ino : ℕ) → EndsInTime (volume_of (word_at bytes)) ino
   pub bare : AreBare (volume_of (word_at bytes))

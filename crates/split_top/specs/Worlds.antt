@@ -8,8 +8,8 @@ use Rattle.posix_types.specs.declared.tree.TreeEntry.{TreeEntry}
 use Rattle.posix_types.specs.Scripts.{Scripts}
 use Rattle.posix_spec.specs.Ending.{beginning}
 use Rattle.posix_spec.specs.Run.{Begun}
-use Rattle.split_world.specs.Starts.{AreInLimits}
-use Rattle.split_world.specs.Views.{WorldView}
+use Rattle.split_machine.specs.Starts.{AreInLimits}
+use Rattle.split_machine.specs.Views.{WorldView}
 use Rattle.split_machine.specs.Runs.{IsFirst}
 use Rattle.world_beginning.specs.Laws.{IsShapeOf}
 use Rattle.split_top.specs.Images.{ShowsTree}

@@ -8,8 +8,8 @@ ghost use Rattle.split_top.specs.Jobs.{IsAnswer};
 use crate::jobs::put_output;
 use exit_status::Status;
 use image_layout::Geometry;
-use k_split::mkfs;
 use outside::{FileFault, Files, Sink};
+use split_machine::mkfs;
 use std::alloc::{AllocError, Global};
 
 /// The bytes of a fresh image.

@@ -5,11 +5,9 @@ ghost use Rattle.split_top.specs.Found.{IsFoundOn};
 ghost use Rattle.split_top.specs.Images.{CanOpen};
 
 use crate::opening::device;
-use k_mount::a_remount_shows_the_same;
-use k_split::KSplit;
-use log_mount::{MountFault, mount};
 use pm_lines::Power;
 use posix_types::Tree;
+use split_machine::{KSplit, MountFault, a_remount_shows_the_same, mount};
 use std::alloc::{AllocError, Global};
 
 /// K-Split on an image, and the tree that is found there.

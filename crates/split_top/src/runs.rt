@@ -18,12 +18,9 @@ use crate::mounting::mount_image;
 use crate::opening::device;
 use image_layout::Geometry;
 use k_check::crash_image;
-use log_mount::MountFault;
 use pm_lines::{Choice, Pm, Power};
 use posix_types::{Item, Mode, Scripts, Tree};
-use split_calls::NoMemory;
-use split_machine::{run as run_scripts, steps_are_afforded};
-use split_world::{Ended, World};
+use split_machine::{Ended, MountFault, NoMemory, World, run as run_scripts, steps_are_afforded};
 use std::alloc::{AllocError, Global};
 
 /// What a run leaves: the calls that returned, the tree that is found afterwards, and the image that shows it.

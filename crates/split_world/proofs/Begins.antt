@@ -20,6 +20,7 @@ use Rattle.posix_spec.specs.State.{State}
 use Rattle.posix_spec.specs.Step.{step}
 use Rattle.world_images.specs.Promised.{KeepsPromise}
 use Rattle.world_images.specs.Running.{promise_now}
+use Rattle.world_exits.specs.Done.{runs_home}
 use Rattle.split_calls.specs.Answers.{IsEnded}
 use Rattle.split_calls.specs.Built.{IsBuilt, NamesAreSpelled}
 use Rattle.split_calls.specs.Runs.{HasNoLog, RunsAs, RunsInSome}
@@ -71,7 +72,7 @@ module _ (k : View) (t : Tables) (g : Geometry) (start : State) (scripts : Scrip
     going = λ still. (let never : true ≡ false = still in cc);
     promise = λ off. (
       subst (λ d. KeepsPromise g d start history begun) (sym same)
-          (subst (λ x. KeepsPromise x k.cells start history begun) runs.geometry (promise_now k.volume k.cells [] runs.numbers start history begun runs.count runs.going.running)),
+          (subst (λ x. KeepsPromise x k.cells start history begun) runs.geometry (promise_now k.volume k.cells [] runs.numbers start history begun runs.count (runs_home k [] runs.numbers (run start history) runs.count runs.going runs.log))),
       subst (HasNoLog g) (sym same) (runs_no_log g k t (length history) (run start history) runs),
     );
   }

@@ -107,8 +107,9 @@ world_begins k t shape scripts on unbatched order mounted limits shape_is tree_i
       order = order;
       unbatched = unbatched;
       on = on;
-      running = running;
+      device = running.device;
     };
+    log = running.log;
     geometry = refl;
     tables = fold_tables (bare shape Mode.Strict) t ∙ sym (nothing_is_open (number (numbers_of k.volume t)));
     files = λ ino there. none_open ino there;
@@ -124,7 +125,7 @@ world_begins k t shape scripts on unbatched order mounted limits shape_is tree_i
         (begins_running k.volume k.cells t shape Mode.Strict (subst (λ v. Stands v.geometry v k.cells) (order.settled unbatched) order.stands) mounted.single mounted.checked mounted.geometry order.whole.kept.geometry mounted.named mounted.no_entry shape_is tree_is).0
 
     distinct : AreDistinct (start t shape Mode.Strict).entries
-    distinct = (valid_now k.volume k.cells [] (numbers_of k.volume t) (start t shape Mode.Strict) 0 running).valid.stands.names.distinct
+    distinct = (valid_now k.volume k.cells [] [] (numbers_of k.volume t) (start t shape Mode.Strict) 0 running.device).valid.stands.names.distinct
 
 -- so with what the parts are
 pub world_over : (k : View) (t : List TreeEntry) (shape : Shape) (scripts : Scripts) (mode : Mode) (files : Tables) (g : Geometry) (items : List Item) → files ≡ nothing_open → g ≡ k.volume.geometry → items ≡ [] → mode ≡ Mode.Strict

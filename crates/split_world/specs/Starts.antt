@@ -1,5 +1,5 @@
 -- How a World begins on a device that is mounted.
-use Rattle.std.specs.Prelude.{◌≡◌, ◌≤◌, ◌*◌, ℕ, true, false, List, [], length, Result, Ok, Err}
+use Rattle.std.specs.Prelude.{◌≡◌, ◌≤◌, ◌+◌, ◌*◌, ◌^◌, ℕ, true, false, List, [], length, Result, Ok, Err}
 use Rattle.pm_words.specs.declared.Cell.{Cell}
 use Rattle.pm_words.specs.Cells.{AllSingle}
 use Rattle.pm_words.specs.Images.{words_of}
@@ -25,15 +25,20 @@ use Rattle.world_beginning.specs.Laws.{IsShapeOf}
 use Rattle.world_images.specs.Images.{HasNoEntry}
 use Rattle.log_mount.specs.declared.faults.MountFault.{MountFault}
 use Rattle.log_mount.specs.Mounts.{IsMountAnswer}
+use Rattle.log_mount.specs.Resets.{IsLow}
+use Rattle.log_mount.specs.Sweeps.{AreBare}
 use Rattle.split_world.specs.Views.{AreBuilt, WorldView}
 
--- A device is mounted: nothing of it is lent or out, its image is checked, each file has a name, and no line of the log is an
--- entry. Files may have bytes.
+-- A device is mounted: nothing of it is lent or out, its image is checked, each file has a name, nothing is staged, no line of the
+-- log is an entry, and the log's base and what files have applied are low. Files may have bytes.
 pub record IsMountedOver (k : View) : Type 0 where
   pub single : AllSingle k.cells
   pub checked : IsCheckedAs (4096 * k.volume.geometry.blocks) (words_of k.cells) k.volume
   pub geometry : geometry_of (words_of k.cells) ≡ k.volume.geometry
   pub named : (ino : ℕ) → (inode k.volume ino).kind ≡ File → 1 ≤ names_of k.volume.names ino
+  pub bare : AreBare k.volume
+  pub base : k.volume.base ≤ 2 ^ 62 + k.volume.geometry.log
+  pub low : (ino : ℕ) → IsLow k.volume ino
   pub no_entry : HasNoEntry k.volume (journaled (words_of k.cells))
 
 -- The scripts have calls that are built, 4,096 of them at most, and at most 8 threads.
@@ -50,14 +55,16 @@ pub record BeginsOver (k : View) (mode : Mode) (scripts : Scripts) (w : WorldVie
   pub shape_is : IsShapeOf k.volume.geometry shape
   pub world_is : w ≡ record { geometry = k.volume.geometry; start = start tree shape mode; scripts = scripts; history = []; unfinished = []; cells = k.cells; lost = false }
 
--- THE WORLD BEGINS ON AN IMAGE that was mounted: its start is the state of the tree of the image, and nothing is done.
+-- THE WORLD BEGINS ON AN IMAGE that was mounted: its start is the state of the tree of the image, and nothing is done. Each word of
+-- its device has one candidate, and they have the content of the image.
 pub record BeginsMounted (g : Geometry) (image : Words) (mode : Mode) (scripts : Scripts) (w : WorldView) : Type 0 where
   pub tree : List TreeEntry
   pub shape : Shape
-  pub cells : List Cell
   pub tree_is : IsTreeOfContent (content g image) tree
   pub shape_is : IsShapeOf g shape
-  pub world_is : w ≡ record { geometry = g; start = start tree shape mode; scripts = scripts; history = []; unfinished = []; cells = cells; lost = false }
+  pub world_is : w ≡ record { geometry = g; start = start tree shape mode; scripts = scripts; history = []; unfinished = []; cells = w.cells; lost = false }
+  pub single : AllSingle w.cells
+  pub shows : (path : List (List ℕ)) → content g (words_of w.cells) path ≡ content g image path
 
 -- WHAT `mount` ANSWERS of a device: the World begins on its image, which is checked, and power is left; or why it is not mounted.
 abbrev pub IsWorldAnswer : List Cell → Mode → Scripts → Supply → Supply → Result WorldView MountFault → Type 0

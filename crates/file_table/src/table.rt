@@ -70,11 +70,12 @@ impl FileTable {
         &self.overlays[ino as usize]
     }
 
-    /// Gives a file another size. What is staged of it stays.
+    /// Gives a file another size. What is staged of it stays, and its room.
     pub fn resize(&mut self, ino: u32, size: u64)
         requires below { ino < length self.old.sizes }
         requires small { size ≤ most_bytes }
-        ensures { ChangesFile ino (runs_in self.old ino) size self.old self.new }
+        ensures file { ChangesFile ino (runs_in self.old ino) size self.old self.new }
+        ensures spare { spare_in self.new ino ≡ spare_in self.old ino }
     {
         let place = ino as usize;
         let held = self.held - held_by(self.sizes[place]);
@@ -108,11 +109,12 @@ impl FileTable {
         self.resize(ino, size);
     }
 
-    /// Takes all runs of a file away, which has this size then. It takes no memory.
+    /// Takes all runs of a file away, which has this size then. Its room stays. It takes no memory.
     pub fn clear(&mut self, ino: u32, size: u64)
         requires below { ino < length self.old.sizes }
         requires small { size ≤ most_bytes }
-        ensures { ChangesFile ino [] size self.old self.new }
+        ensures file { ChangesFile ino [] size self.old self.new }
+        ensures spare { spare_in self.old ino ≤ spare_in self.new ino }
     {
         self.overlays[ino as usize].clear();
         self.resize(ino, size);

@@ -58,4 +58,4 @@ pub returns-in-Done-clause-answer : goal.returns-in-Done-clause-answer
 returns-in-Done-clause-answer c =
     let is : IsCarriedOut c.args.ino c.size-size.result c.runs.result.now c.args.k.now c.publish_runs.new.k (Ok Commit.Done) = rw c.in-Done.is at c.in_ok-commit.ensures.answer in
     line-published c.args.ino c.size-size.result c.runs.result.now c.args.files.now c.args.k.now c.publish_runs.new.k (c.is_file.ensures.0 c.if-not-is_file.false)
-    (c.runs.ensures.all ∙ c.overlay.ensures) c.size-size.ensures.size c.clear.new.self is c.clear.ensures
+    (c.runs.ensures.all ∙ c.overlay.ensures) c.size-size.ensures.size c.clear.new.self is c.clear.ensures.file

@@ -1,0 +1,56 @@
+-- A job that begins in flight, as one statement.
+use Rattle.std.specs.Prelude.{◌≡◌, ◌≤◌, ◌+◌, ℕ, true, Contains, List, [], ◌∷◌, ◌++◌, length}
+use Rattle.pm_words.specs.declared.Cell.{Cell}
+use Rattle.pm_words.specs.Images.{IsImage}
+use Rattle.pm_words.specs.Words.{Words}
+use Rattle.disk_places.specs.Journal.{journaled}
+use Rattle.disk_places.specs.Places.{Geometry, reserve}
+use Rattle.disk_rules.specs.Room.{unused_blocks}
+use Rattle.file_table.specs.Files.{spare_in}
+use Rattle.job_facts.specs.Blocks.{GoOut}
+use Rattle.k_rules.specs.View.{View}
+use Rattle.k_split.specs.Order.{IsInOrder}
+use Rattle.list_facts.specs.Members.{In}
+use Rattle.posix_puts.specs.Views.{need_of}
+use Rattle.posix_words.specs.Open.{Tables}
+use Rattle.posix_spec.specs.State.{room, State}
+use Rattle.world_promise.specs.JobLaws.{needs}
+use Rattle.world_rules.specs.Jobs.{AreApartJobs, Job, JobStands, live_claims}
+use Rattle.world_standing.specs.Standing.{AreOfTwoThreads, HasItsBlocks, Kept, Pending, reserved_run, StandsAt}
+
+-- what the World keeps, with one more job out, the last one
+abbrev pub with_job : Kept → Pending → Kept
+with_job kept p = record kept { pending = kept.pending ++ p ∷ [] }
+
+-- what K-Split is, with other cells
+abbrev pub with_cells : View → List Cell → View
+with_cells k cells = record k { cells = cells }
+
+-- THE JOB MAY BEGIN: it is the pending one; it stands by each image, apart from the others, all its bytes are found, and it finds
+-- room; its caller is another one; its blocks are those of its entry, whose run is out; one run more is out than the live entries
+-- and the jobs have; the blocks that all runs that are out want are free; and there is room to lay its run.
+pub record MayBegin (k : View) (kept : Kept) (jobs : List Job) (numbers : List ℕ) (s : State) (p : Pending)
+    (j : Job) : Type 0 where
+  pub who_is : j.who ≡ p.who
+  pub call_is : j.call ≡ p.call
+  pub draft_is : j.draft ≡ p.draft
+  pub stands : (image : Words) → IsImage k.cells image
+      → JobStands k.volume (live_claims k.volume kept.claims) (journaled image) numbers s j
+  pub apart : (i : Job) → In i jobs → AreApartJobs i j
+  pub whole : j.found ≡ j.whole
+  pub fits : needs s jobs + need_of s j.who j.call ≤ room s
+  pub caller : (q : Pending) → In q kept.pending → AreOfTwoThreads q p
+  pub blocks : HasItsBlocks k.volume p
+  pub out : Contains kept.staging.out (reserved_run p.draft)
+  pub owed : length (live_claims k.volume kept.claims) + length jobs + 1 ≤ length kept.staging.out
+  pub free : length kept.staging.out + reserve k.volume.geometry ≤ unused_blocks k.volume + 3
+  pub spare : 3 ≤ spare_in kept.files p.draft.ino
+
+-- ITS BLOCKS GO OUT: they stand together with it.
+abbrev pub StandsBegun : Type 0
+StandsBegun =
+    (g : Geometry) (k : View) (cells : List Cell) (t : Tables) (kept : Kept) (n : ℕ) (s : State) (p : Pending) (j : Job)
+    → (stands : StandsAt g k t kept true n s) → MayBegin k kept stands.jobs stands.numbers s p j
+    → GoOut k.volume p.draft k.cells cells → IsInOrder (with_cells k cells)
+    → (now : StandsAt g (with_cells k cells) t (with_job kept p) true n s) × (now.jobs ≡ stands.jobs ++ j ∷ [])
+    × (now.numbers ≡ stands.numbers)

@@ -1,0 +1,3 @@
+mod Cleaned
+mod Reading
+mod Tails

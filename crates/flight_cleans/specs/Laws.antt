@@ -1,0 +1,46 @@
+-- The end of a file is cleaned, each law as one statement.
+use Rattle.std.specs.Prelude.{◌≡◌, ◌≢◌, ◌≤◌, ℕ, Bool, List, [], ◌∷◌, ◌++◌, map, Option}
+use Rattle.pm_words.specs.declared.Cell.{Cell}
+use Rattle.pm_words.specs.Words.{Words}
+use Rattle.disk_lines.specs.declared.Kind.TheVariants.{File}
+use Rattle.disk_places.specs.Places.{Geometry}
+use Rattle.disk_rules.specs.Volume.{inode}
+use Rattle.file_table.specs.Files.{size_in}
+use Rattle.k_rules.specs.View.{View}
+use Rattle.k_split.specs.Bytes.{IsOverwriteCut, IsOverwriteDone, tail_zeros}
+use Rattle.list_facts.specs.Members.{In}
+use Rattle.posix_types.specs.declared.call.Mode.{Mode}
+use Rattle.posix_types.specs.declared.item.Item.{Item}
+use Rattle.posix_words.specs.Open.{Tables}
+use Rattle.posix_spec.specs.Run.{Begun, run}
+use Rattle.posix_spec.specs.State.{State}
+use Rattle.world_rules.specs.Jobs.{begun_of, Job}
+use Rattle.world_images.specs.Promised.{IsKept}
+use Rattle.world_lent.specs.Back.{IsPutBack}
+use Rattle.world_standing.specs.Standing.{Kept, StandsAt}
+
+-- A FILE MAY BE CLEANED from a place on: the file ends there or before, by what is kept of it, and no job that is out is of it.
+pub record MayClean (k : View) (kept : Kept) (jobs : List Job) (ino from : ℕ) : Type 0 where
+  pub file : (inode k.volume ino).kind ≡ File
+  pub behind : size_in kept.files ino ≤ from
+  pub others : (j : Job) → In j jobs → j.draft.ino ≢ ino
+
+-- IT IS CLEANED from there to the end of its block: they stand together in the same state.
+abbrev pub StandsCleaned : Type 0
+StandsCleaned =
+    (g : Geometry) (k l : View) (t : Tables) (kept : Kept) (lines : Bool) (n : ℕ) (s : State) (ino from : ℕ)
+    → (stands : StandsAt g k t kept lines n s) → MayClean k kept stands.jobs ino from
+    → IsOverwriteDone ino from (tail_zeros k.volume ino from) k l
+    → (now : StandsAt g l t kept lines n s) × (now.jobs ≡ stands.jobs) × (now.numbers ≡ stands.numbers)
+
+-- THE POWER WENT in it: each image, once log lines and blocks of jobs are put back, is kept with the calls of the jobs
+-- unfinished, and this one as the last.
+abbrev pub KeepsCleaned : Type 0
+KeepsCleaned =
+    (g : Geometry) (k l : View) (t : Tables) (kept : Kept) (lines : Bool) (n : ℕ) (start : State) (history : List Item)
+    (c : Begun) (ino from : ℕ) → start.mode ≡ Mode.Strict
+    → (stands : StandsAt g k t kept lines n (run start history)) → MayClean k kept stands.jobs ino from
+    → IsOverwriteCut ino from (tail_zeros k.volume ino from) k l
+    → (back : ℕ → Cell) (slots : List (Option ℕ)) (image : Words)
+    → IsPutBack k.volume l.cells back kept.first kept.claims stands.jobs slots image
+    → IsKept g start history (map begun_of stands.jobs ++ c ∷ []) image

@@ -1,0 +1,2 @@
+mod Restaged
+mod Reserved

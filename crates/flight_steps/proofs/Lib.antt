@@ -1,0 +1,3 @@
+pub mod Cleared
+mod Entries
+pub mod Standing

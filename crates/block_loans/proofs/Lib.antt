@@ -1,2 +1,2 @@
 mod LendLaws
-mod SettleLaws
+pub mod SettleLaws

@@ -1,0 +1,9 @@
+mod Asked
+mod Consumed
+mod Ending
+mod Finishes
+mod GivesUp
+mod Laid
+mod Pending
+mod PowerOff
+mod Settled

@@ -1,0 +1,16 @@
+-- A line into which the words of an entry are stored, and then made durable.
+use Rattle.std.proofs.Common.{◌≡◌, ℕ, Bool, true, cond, List}
+use Rattle.pm_words.specs.declared.Cell.{Cell}
+use Rattle.pm_words.specs.Words.{Words}
+use Rattle.pm_lines.specs.Effects.{Fences, FlushesLine}
+use Rattle.oplog_tail.proofs.EntryWords.{finishes, IsStoring}
+use Rattle.oplog_tail.specs.declared.views.Mark.TheVariants.{Lost, Written}
+use Rattle.round_log.specs.Stores.{HasStored, Persists}
+
+pub stored_all : (first : List Cell) (words : Words) (on : Bool) (cells : List Cell) → IsStoring first words 8 on cells → HasStored first words on cells
+stored_all first words on cells is = record { rest = is.rest; some = is.some; all = is.all }
+
+pub persists : (seq : ℕ) (old flushed fenced : List Cell) (on later last : Bool) → (later ≡ true → on ≡ true) → (last ≡ true → later ≡ true) → FlushesLine on 0 old flushed → Fences later flushed fenced
+    → Persists (cond last Written Lost) seq on old fenced
+persists seq old flushed fenced on later last before sooner flush fence d first stored single lasted has =
+    finishes d seq first old flushed fenced on later last single before sooner (record { rest = has.rest; some = has.some; all = λ is. has.all (lasted is) }) flush fence

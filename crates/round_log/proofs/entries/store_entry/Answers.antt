@@ -1,0 +1,27 @@
+use Rattle.std.proofs.Common.{◌≡◌, ◌∙◌, arith, subst, sym, ℕ, List}
+use Rattle.pm_words.specs.Bytes.{word_at-bytes}
+use Rattle.pm_words.specs.Powers.{is_on}
+use Rattle.pm_words.specs.PowerLaws.{Steps-then}
+use Rattle.pm_words.specs.Words.{word_at}
+use Rattle.oplog_tail.specs.EntryLines.{entry_words}
+use Rattle.oplog_tail.proofs.EntryWords.{IsStoring, stores_more}
+use Rattle.round_log.proofs.Storing.{stored_all}
+use Rattle.round_log.proofs.entries.store_entry.Goals as goal
+
+pub loop-word-preserved : goal.loop-word-preserved
+loop-word-preserved c =
+    let inv = c.loop-word.invariant in
+    let word : c.u64_at.result ≡ word_at c.encode-bytes.result c.loop-word.word = c.u64_at.ensures ∙ sym (word_at-bytes c.encode-bytes.result c.loop-word.word) in
+    record {
+      stores = stores_more c.args.line.now.cells (word_at c.encode-bytes.result) c.loop-word.word (is_on c.loop-word.power) (is_on c.store_word.new.power) c.u64_at.result
+          c.loop-word.line.cells c.store_word.new.self.cells c.requires c.loop-word-test.true c.store_word.ensures.steps.on_before word inv.stores c.store_word.ensures.store;
+      place = c.store_word.ensures.place ∙ inv.place;
+      steps = Steps-then c.loop-word.word 1 c.args.power.now c.loop-word.power c.store_word.new.power inv.steps c.store_word.ensures.steps;
+    }
+
+pub returns-clause-stored : goal.returns-clause-stored
+returns-clause-stored c =
+    let eight : c.loop-word.word ≡ 8 = omega arith in
+    stored_all c.args.line.now.cells (entry_words c.args.draft.now c.args.seq) (is_on c.loop-word.power) c.loop-word.line.cells
+    (subst (λ (n : ℕ). IsStoring c.args.line.now.cells (entry_words c.args.draft.now c.args.seq) n (is_on c.loop-word.power) c.loop-word.line.cells) eight
+    (subst (λ (bytes : List ℕ). IsStoring c.args.line.now.cells (word_at bytes) c.loop-word.word (is_on c.loop-word.power) c.loop-word.line.cells) c.encode-bytes.ensures c.loop-word.invariant.stores))

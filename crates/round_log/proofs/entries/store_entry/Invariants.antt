@@ -1,0 +1,13 @@
+use Rattle.std.proofs.Common.{◌≡◌}
+use Rattle.pm_words.specs.Powers.{is_on, Steps}
+use Rattle.pm_words.specs.Words.{word_at}
+use Rattle.oplog_tail.proofs.EntryWords.{IsStoring}
+use Rattle.round_log.proofs.entries.store_entry.Given as goal
+
+-- the words before this one were stored, as long as the power lasted
+abbrev pub invariant-loop-word : goal.invariant-loop-word
+invariant-loop-word l = record {
+  stores : IsStoring l.initial.line.cells (word_at l.bytes) l.word (is_on l.power) l.line.cells;
+  place : l.line.place ≡ l.initial.line.place;
+  steps : Steps l.word l.initial.power l.power;
+}

@@ -13,7 +13,7 @@ use Rattle.pm_words.specs.PartLaws.{GoesOut-at}
 use Rattle.disk_lines.specs.declared.Draft.{Draft}
 use Rattle.disk_rules.specs.Volume.{Volume}
 use Rattle.k_split.specs.Loans.{MayLend}
-use Rattle.world_rules.specs.Jobs.{staged_block}
+use Rattle.job_facts.specs.world_rules.Jobs.{staged_block}
 use Rattle.write_jobs.specs.Jobs.{loan_at}
 use Rattle.job_facts.specs.Blocks.{GoOut}
 use Rattle.block_loans.specs.Loans.{AreApart, AreLoansOf, ComeBack, MayLendAll}

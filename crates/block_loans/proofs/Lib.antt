@@ -1,2 +1,3 @@
 mod LendLaws
 pub mod SettleLaws
+pub use Rattle.job_facts.proofs as job_facts_proofs

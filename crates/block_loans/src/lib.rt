@@ -21,3 +21,5 @@ pub use settling::settle_blocks;
 pub fn loans_are_put_back()
     ensures { PutsBack }
 {}
+
+pub use k_split;

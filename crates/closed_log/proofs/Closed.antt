@@ -22,7 +22,7 @@ use Rattle.oplog_tail.specs.EntryBytes.{encode_entry-small, length-encode_entry}
 use Rattle.oplog_tail.specs.EntryLines.{entry_words, Holds}
 use Rattle.oplog_tail.specs.Logs.{LogView}
 use Rattle.oplog_tail.specs.Rule.{line_at}
-use Rattle.world_rules.specs.Jobs.{Job}
+use Rattle.world_log.specs.world_rules.Jobs.{Job}
 use Rattle.world_log.specs.Lines.{AreJobLines, HoldsWords, IsClaimedLine, IsJobLine, IsTaken, Spells}
 use Rattle.closed_log.specs.Laps.{AreDrafts, HaveClaimed, IsClaimed, IsLapOf, StandAgain}
 use Rattle.closed_log.specs.Laws.{ClosedLinesAreOut, HeldClaimsAreOut}

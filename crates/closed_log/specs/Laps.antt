@@ -15,7 +15,7 @@ use Rattle.oplog_tail.specs.declared.views.Claim.{Claim}
 use Rattle.oplog_tail.specs.declared.views.Mark.TheVariants.{Written}
 use Rattle.oplog_tail.specs.Logs.{LogView}
 use Rattle.oplog_tail.specs.Rule.{line_at}
-use Rattle.world_rules.specs.Jobs.{Job}
+use Rattle.world_log.specs.world_rules.Jobs.{Job}
 use Rattle.world_log.specs.Lines.{IsTaken}
 
 -- The log was opened with the volume's base and log lines, each with these words alone, and none of them was an entry of

@@ -12,7 +12,7 @@ use Rattle.list_facts.specs.Members.{In}
 use Rattle.oplog_tail.specs.declared.views.Claim.{Claim}
 use Rattle.oplog_tail.specs.Closing.{cells_of, first_words, LeavesLines}
 use Rattle.oplog_tail.specs.Logs.{LogView}
-use Rattle.world_rules.specs.Jobs.{Job}
+use Rattle.world_log.specs.world_rules.Jobs.{Job}
 use Rattle.world_log.specs.Lines.{AreLinesOut}
 use Rattle.closed_log.specs.Laps.{AreDrafts, AreOfLap, IsLapOf, StandAgain}
 

@@ -22,3 +22,5 @@ pub use reads::read_bytes;
 pub fn an_empty_overlay_hides_nothing()
     ensures { MapAlone }
 {}
+
+pub use k_split;

@@ -20,23 +20,23 @@ use Rattle.disk_rules.specs.Volume.{extents, inode, Volume}
 use Rattle.extent_facts.specs.Covers.{covers-disk_at}
 use Rattle.extent_words.specs.Extents.{disk_at, is_within}
 use Rattle.file_table.specs.Files.{spare_in}
-use Rattle.flight_facts.specs.Flying.{IsFlying}
-use Rattle.flight_facts.proofs.Flights.{flies_begun}
-use Rattle.job_facts.specs.Blocks.{GoOut, IsBeside}
+use Rattle.world_standing.specs.flight_facts.Flying.{IsFlying}
+use Rattle.world_standing.proofs.flight_facts_proofs.Flights.{flies_begun}
+use Rattle.world_standing.specs.job_facts.Blocks.{GoOut, IsBeside}
 use Rattle.k_rules.specs.Stands.{Stands}
 use Rattle.k_rules.specs.View.{View}
-use Rattle.k_split.specs.Order.{IsInOrder}
+use Rattle.world_standing.specs.k_split.Order.{IsInOrder}
 use Rattle.list_facts.specs.Members.{In, pushed-In}
 use Rattle.posix_words.specs.Open.{Tables}
 use Rattle.posix_spec.specs.State.{State}
-use Rattle.staging_files.specs.Keeps.{Agrees, AreFreeSingle, has_block, is_kept_free, IsStaging}
-use Rattle.staging_files.proofs.GiveUpLaws.{staging-file}
-use Rattle.staging_files.proofs.StagedLaws.{free-none}
-use Rattle.volume_uses.specs.OwnerLaws.{IsOnePlace, one_owner}
-use Rattle.volume_uses.specs.PoolLaws.{covered-in_data}
-use Rattle.world_promise.specs.Lent.{once_named}
-use Rattle.world_rules.specs.Jobs.{Job, live_claims}
-use Rattle.world_steps.specs.Worlds.{IsWorld}
+use Rattle.world_standing.specs.staging_files.Keeps.{Agrees, AreFreeSingle, has_block, is_kept_free, IsStaging}
+use Rattle.world_standing.proofs.staging_files_proofs.GiveUpLaws.{staging-file}
+use Rattle.world_standing.proofs.staging_files_proofs.StagedLaws.{free-none}
+use Rattle.world_standing.specs.volume_uses.OwnerLaws.{IsOnePlace, one_owner}
+use Rattle.world_standing.specs.volume_uses.PoolLaws.{covered-in_data}
+use Rattle.world_standing.specs.world_promise.Lent.{once_named}
+use Rattle.world_standing.specs.world_rules.Jobs.{Job, live_claims}
+use Rattle.world_standing.specs.world_steps.Worlds.{IsWorld}
 use Rattle.world_standing.specs.Standing.{AreJobsOf, AreLinesLent, AreOfTwoThreads, file_state, HasItsBlocks, Kept, Pending, reserved_run, StandsAt}
 use Rattle.flight_begins.specs.Laws.{MayBegin, StandsBegun, with_cells, with_job}
 

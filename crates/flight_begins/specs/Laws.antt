@@ -7,15 +7,15 @@ use Rattle.disk_places.specs.Journal.{journaled}
 use Rattle.disk_places.specs.Places.{Geometry, reserve}
 use Rattle.disk_rules.specs.Room.{unused_blocks}
 use Rattle.file_table.specs.Files.{spare_in}
-use Rattle.job_facts.specs.Blocks.{GoOut}
+use Rattle.world_standing.specs.job_facts.Blocks.{GoOut}
 use Rattle.k_rules.specs.View.{View}
-use Rattle.k_split.specs.Order.{IsInOrder}
+use Rattle.world_standing.specs.k_split.Order.{IsInOrder}
 use Rattle.list_facts.specs.Members.{In}
 use Rattle.posix_puts.specs.Views.{need_of}
 use Rattle.posix_words.specs.Open.{Tables}
 use Rattle.posix_spec.specs.State.{room, State}
-use Rattle.world_promise.specs.JobLaws.{needs}
-use Rattle.world_rules.specs.Jobs.{AreApartJobs, Job, JobStands, live_claims}
+use Rattle.world_standing.specs.world_promise.JobLaws.{needs}
+use Rattle.world_standing.specs.world_rules.Jobs.{AreApartJobs, Job, JobStands, live_claims}
 use Rattle.world_standing.specs.Standing.{AreOfTwoThreads, HasItsBlocks, Kept, Pending, reserved_run, StandsAt}
 
 -- what the World keeps, with one more job out, the last one

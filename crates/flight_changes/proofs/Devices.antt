@@ -23,19 +23,19 @@ use Rattle.posix_types.specs.declared.call.Mode.{Mode}
 use Rattle.posix_spec.specs.Run.{Begun}
 use Rattle.posix_spec.specs.State.{State}
 use Rattle.crash_spec.specs.Permitted.{Permitted}
-use Rattle.world_rules.specs.Jobs.{begun_of, Job}
-use Rattle.world_rules.specs.Promised.{AreWhole}
-use Rattle.world_rules.specs.Shown.{AreFilled, landed_pairs}
-use Rattle.world_promise.specs.Lent.{in_data}
-use Rattle.world_promise.specs.Promise.{strict_promise}
-use Rattle.world_log.specs.Lines.{HasLogWords}
-use Rattle.world_log.specs.Pictures.{keeps_laps, shows_pictures}
-use Rattle.world_steps.specs.Worlds.{IsWorld}
-use Rattle.world_images.specs.Changed.{ShowsLog-same, sound_headed}
-use Rattle.world_images.specs.Images.{HasRoom, IsHeaded, ShowsWorld, StandsFor}
-use Rattle.world_images.specs.Kept.{kept_by, shown}
-use Rattle.world_images.specs.Laws.{Takes}
-use Rattle.world_images.specs.Promised.{IsKept}
+use Rattle.world_jobs.specs.world_rules.Jobs.{begun_of, Job}
+use Rattle.world_jobs.specs.world_rules.Promised.{AreWhole}
+use Rattle.world_jobs.specs.world_rules.Shown.{AreFilled, landed_pairs}
+use Rattle.world_jobs.specs.world_promise.Lent.{in_data}
+use Rattle.world_jobs.specs.world_promise.Promise.{strict_promise}
+use Rattle.world_jobs.specs.world_log.Lines.{HasLogWords}
+use Rattle.world_jobs.specs.world_log.Pictures.{keeps_laps, shows_pictures}
+use Rattle.world_jobs.specs.world_steps.Worlds.{IsWorld}
+use Rattle.world_lent.specs.world_images.Changed.{ShowsLog-same, sound_headed}
+use Rattle.world_lent.specs.world_images.Images.{HasRoom, IsHeaded, ShowsWorld, StandsFor}
+use Rattle.world_lent.specs.world_images.Kept.{kept_by, shown}
+use Rattle.world_lent.specs.world_images.Laws.{Takes}
+use Rattle.world_lent.specs.world_images.Promised.{IsKept}
 use Rattle.world_lent.specs.Back.{IsPutBack}
 use Rattle.world_lent.specs.Flights.{ShowsBack}
 use Rattle.world_lent.specs.Laws.{LeadsTo, SameBlocks}

@@ -15,9 +15,9 @@ use Rattle.disk_rules.specs.Volume.{Volume}
 use Rattle.volume_facts.specs.Footprint.{SameLog}
 use Rattle.volume_facts.specs.ImageLaws.{journaled-other}
 use Rattle.volume_facts.specs.LineWords.{data_word}
-use Rattle.image_facts.specs.ViewLaws.{head_word, sound-targets}
+use Rattle.world_lent.specs.image_facts.ViewLaws.{head_word, sound-targets}
 use Rattle.k_rules.specs.Stands.{IsOldOrNew}
-use Rattle.world_images.specs.Images.{IsHeaded}
+use Rattle.world_lent.specs.world_images.Images.{IsHeaded}
 
 -- ---- places
 

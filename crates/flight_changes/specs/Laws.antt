@@ -10,11 +10,11 @@ use Rattle.posix_types.specs.declared.call.Mode.{Mode}
 use Rattle.posix_types.specs.declared.item.Item.{Item}
 use Rattle.posix_spec.specs.Run.{Begun}
 use Rattle.posix_spec.specs.State.{State}
-use Rattle.world_rules.specs.Jobs.{begun_of, Job}
-use Rattle.world_rules.specs.Promised.{AreWhole}
-use Rattle.world_images.specs.Images.{HasLogHome, HasRoom, IsHeaded, StandsFor}
-use Rattle.world_images.specs.Laws.{Takes}
-use Rattle.world_images.specs.Promised.{IsKept}
+use Rattle.world_jobs.specs.world_rules.Jobs.{begun_of, Job}
+use Rattle.world_jobs.specs.world_rules.Promised.{AreWhole}
+use Rattle.world_lent.specs.world_images.Images.{HasLogHome, HasRoom, IsHeaded, StandsFor}
+use Rattle.world_lent.specs.world_images.Laws.{Takes}
+use Rattle.world_lent.specs.world_images.Promised.{IsKept}
 use Rattle.world_lent.specs.Back.{IsPutBack}
 use Rattle.world_lent.specs.Laws.{LeadsTo, SameBlocks}
 use Rattle.flight_changes.specs.Changes.{AreSpare, IsChangeWith}

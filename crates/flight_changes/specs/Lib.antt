@@ -1,2 +1,11 @@
 pub mod Changes
 pub mod Laws
+pub use Rattle.world_jobs.specs as world_jobs
+pub use Rattle.world_jobs.specs.volume_uses as volume_uses
+pub use Rattle.world_jobs.specs.world_log as world_log
+pub use Rattle.world_jobs.specs.world_promise as world_promise
+pub use Rattle.world_jobs.specs.world_rules as world_rules
+pub use Rattle.world_jobs.specs.world_steps as world_steps
+pub use Rattle.world_lent.specs as world_lent
+pub use Rattle.world_lent.specs.image_facts as image_facts
+pub use Rattle.world_lent.specs.world_images as world_images

@@ -10,23 +10,23 @@ use Rattle.disk_places.specs.Journal.{IsSound, journaled}
 use Rattle.disk_places.specs.Places.{Geometry, log_line}
 use Rattle.disk_rules.specs.Content.{size_of}
 use Rattle.disk_rules.specs.Volume.{extents, Volume}
-use Rattle.flight_facts.specs.Flying.{IsFlying}
+use Rattle.world_standing.specs.flight_facts.Flying.{IsFlying}
 use Rattle.k_rules.specs.Stands.{Stands}
 use Rattle.k_rules.specs.View.{View}
-use Rattle.k_split.specs.Bytes.{IsWrittenOver, Overwrites, tail_zeros}
-use Rattle.k_split.specs.Order.{IsInOrder}
+use Rattle.world_standing.specs.k_split.Bytes.{IsWrittenOver, Overwrites, tail_zeros}
+use Rattle.world_standing.specs.k_split.Order.{IsInOrder}
 use Rattle.posix_words.specs.Open.{Tables}
 use Rattle.posix_spec.specs.Run.{run}
 use Rattle.posix_spec.specs.State.{State}
-use Rattle.staging_files.specs.Keeps.{Agrees}
-use Rattle.world_promise.specs.TreeRules.{used_below}
-use Rattle.world_rules.specs.Jobs.{begun_of, live_claims}
-use Rattle.world_rules.specs.Stands.{is_used}
-use Rattle.world_steps.specs.Worlds.{IsWorld}
-use Rattle.world_images.specs.Changed.{ShowsLog-same, sound_headed}
-use Rattle.world_images.specs.Images.{HasLogHome, IsHeaded, ShowsWorld}
-use Rattle.world_images.specs.Promised.{IsKept}
-use Rattle.world_lent.specs.Flights.{leads_before, ShowsBack}
+use Rattle.world_standing.specs.staging_files.Keeps.{Agrees}
+use Rattle.flight_changes.specs.world_promise.TreeRules.{used_below}
+use Rattle.flight_changes.specs.world_rules.Jobs.{begun_of, live_claims}
+use Rattle.flight_changes.specs.world_rules.Stands.{is_used}
+use Rattle.flight_changes.specs.world_steps.Worlds.{IsWorld}
+use Rattle.flight_changes.specs.world_images.Changed.{ShowsLog-same, sound_headed}
+use Rattle.flight_changes.specs.world_images.Images.{HasLogHome, IsHeaded, ShowsWorld}
+use Rattle.flight_changes.specs.world_images.Promised.{IsKept}
+use Rattle.flight_changes.specs.world_lent.Flights.{leads_before, ShowsBack}
 use Rattle.world_standing.specs.Standing.{file_state, Kept, LinesStand, StandsAt}
 use Rattle.flight_changes.proofs.Devices.{image_of, kept_leading, shows_back, small_lap}
 use Rattle.flight_changes.proofs.Words.{headed_changed, same_log}

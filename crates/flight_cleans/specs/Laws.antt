@@ -7,16 +7,16 @@ use Rattle.disk_places.specs.Places.{Geometry}
 use Rattle.disk_rules.specs.Volume.{inode}
 use Rattle.file_table.specs.Files.{size_in}
 use Rattle.k_rules.specs.View.{View}
-use Rattle.k_split.specs.Bytes.{IsOverwriteCut, IsOverwriteDone, tail_zeros}
+use Rattle.world_standing.specs.k_split.Bytes.{IsOverwriteCut, IsOverwriteDone, tail_zeros}
 use Rattle.list_facts.specs.Members.{In}
 use Rattle.posix_types.specs.declared.call.Mode.{Mode}
 use Rattle.posix_types.specs.declared.item.Item.{Item}
 use Rattle.posix_words.specs.Open.{Tables}
 use Rattle.posix_spec.specs.Run.{Begun, run}
 use Rattle.posix_spec.specs.State.{State}
-use Rattle.world_rules.specs.Jobs.{begun_of, Job}
-use Rattle.world_images.specs.Promised.{IsKept}
-use Rattle.world_lent.specs.Back.{IsPutBack}
+use Rattle.flight_changes.specs.world_rules.Jobs.{begun_of, Job}
+use Rattle.flight_changes.specs.world_images.Promised.{IsKept}
+use Rattle.flight_changes.specs.world_lent.Back.{IsPutBack}
 use Rattle.world_standing.specs.Standing.{Kept, StandsAt}
 
 -- A FILE MAY BE CLEANED from a place on: the file ends there or before, by what is kept of it, and no job that is out is of it.

@@ -15,11 +15,11 @@ use Rattle.disk_lines.specs.declared.Kind.TheVariants.{File}
 use Rattle.disk_rules.specs.Volume.{inode, Volume}
 use Rattle.list_facts.specs.Members.{In, pushed-In}
 use Rattle.posix_spec.specs.State.{State}
-use Rattle.world_jobs.specs.JobSteps.{Valid-front}
-use Rattle.world_promise.specs.JobLaws.{live_claims-more}
-use Rattle.world_promise.specs.Latest.{AreBelow-Consecutive}
-use Rattle.world_rules.specs.Jobs.{IsStagedIn, Job, JobStands, live_claims, Valid}
-use Rattle.world_rules.specs.Stands.{Consecutive, entries_of}
+use Rattle.job_facts.specs.world_jobs.JobSteps.{Valid-front}
+use Rattle.job_facts.specs.world_promise.JobLaws.{live_claims-more}
+use Rattle.job_facts.specs.world_promise.Latest.{AreBelow-Consecutive}
+use Rattle.job_facts.specs.world_rules.Jobs.{IsStagedIn, Job, JobStands, live_claims, Valid}
+use Rattle.job_facts.specs.world_rules.Stands.{Consecutive, entries_of}
 use Rattle.write_jobs.specs.Jobs.{loan_at}
 use Rattle.job_facts.specs.Blocks.{AreOut, ArePutBack, IsBeside}
 use Rattle.job_facts.proofs.Begins.{begins_job}

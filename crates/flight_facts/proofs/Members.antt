@@ -11,12 +11,12 @@ use Rattle.disk_rules.specs.Rules.{AreApart}
 use Rattle.disk_rules.specs.Volume.{free_inode, inode, Volume}
 use Rattle.list_facts.specs.Members.{In}
 use Rattle.posix_spec.specs.State.{State}
-use Rattle.volume_uses.specs.OwnerLaws.{IsOnePlace, one_owner}
-use Rattle.world_promise.specs.Lent.{once_named}
-use Rattle.world_rules.specs.Jobs.{ApartFrom, AreApartJobs, IsStagedIn, Job, JobsStand, JobStands, staged_block}
-use Rattle.world_rules.specs.Promised.{AreWhole}
-use Rattle.world_rules.specs.Shown.{IsLent}
-use Rattle.world_rules.specs.Stands.{IsSane}
+use Rattle.job_facts.specs.volume_uses.OwnerLaws.{IsOnePlace, one_owner}
+use Rattle.job_facts.specs.world_promise.Lent.{once_named}
+use Rattle.job_facts.specs.world_rules.Jobs.{ApartFrom, AreApartJobs, IsStagedIn, Job, JobsStand, JobStands, staged_block}
+use Rattle.job_facts.specs.world_rules.Promised.{AreWhole}
+use Rattle.job_facts.specs.world_rules.Shown.{IsLent}
+use Rattle.job_facts.specs.world_rules.Stands.{IsSane}
 
 -- ---- members
 

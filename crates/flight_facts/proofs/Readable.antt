@@ -16,15 +16,15 @@ use Rattle.disk_rules.specs.Content.{disk_of, entry_of_block}
 use Rattle.disk_rules.specs.Volume.{extents, inode, Volume}
 use Rattle.extent_words.specs.Extents.{disk_at, is_within}
 use Rattle.file_overlay.specs.Runs.{place_in}
-use Rattle.file_reads.specs.Reads.{IsReadable, SourceCanBeRead}
+use Rattle.overlay_facts.specs.file_reads.Reads.{IsReadable, SourceCanBeRead}
 use Rattle.list_facts.specs.Filters.{filter-In}
 use Rattle.list_facts.specs.Members.{In}
 use Rattle.posix_spec.specs.State.{State}
-use Rattle.world_promise.specs.Latest.{latest-In}
-use Rattle.world_promise.specs.Lent.{disk_of-in_data, not_lent}
-use Rattle.world_rules.specs.Jobs.{IsStagedIn, Job, live_claims}
-use Rattle.world_rules.specs.Stands.{is_used}
-use Rattle.world_steps.specs.Worlds.{IsWorld}
+use Rattle.job_facts.specs.world_promise.Latest.{latest-In}
+use Rattle.job_facts.specs.world_promise.Lent.{disk_of-in_data, not_lent}
+use Rattle.job_facts.specs.world_rules.Jobs.{IsStagedIn, Job, live_claims}
+use Rattle.job_facts.specs.world_rules.Stands.{is_used}
+use Rattle.job_facts.specs.world_steps.Worlds.{IsWorld}
 use Rattle.overlay_facts.specs.Overlays.{run_of}
 use Rattle.overlay_facts.proofs.Overlays.{overlay_is_log, source_is_log}
 use Rattle.flight_facts.specs.Flying.{FileState, IsFlying}

@@ -10,9 +10,9 @@ use Rattle.disk_rules.specs.Volume.{inode, Volume}
 use Rattle.file_overlay.specs.declared.runs.Run.{Run}
 use Rattle.list_facts.specs.Members.{In}
 use Rattle.posix_spec.specs.State.{State}
-use Rattle.world_images.specs.Images.{StandsFor}
-use Rattle.world_rules.specs.Jobs.{IsStagedIn, Job, live_claims}
-use Rattle.world_rules.specs.Promised.{AreWhole}
+use Rattle.job_facts.specs.world_images.Images.{StandsFor}
+use Rattle.job_facts.specs.world_rules.Jobs.{IsStagedIn, Job, live_claims}
+use Rattle.job_facts.specs.world_rules.Promised.{AreWhole}
 use Rattle.write_jobs.specs.Jobs.{loan_at}
 use Rattle.job_facts.specs.Blocks.{AreOut}
 use Rattle.overlay_facts.specs.Overlays.{IsOverlayOf, run_of}

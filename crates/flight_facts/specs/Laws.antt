@@ -10,14 +10,14 @@ use Rattle.disk_lines.specs.declared.Draft.{Draft}
 use Rattle.disk_rules.specs.Room.{unused_blocks}
 use Rattle.disk_lines.specs.declared.Kind.TheVariants.{File}
 use Rattle.disk_rules.specs.Volume.{inode, Volume}
-use Rattle.file_reads.specs.Reads.{FileCanBeRead}
+use Rattle.overlay_facts.specs.file_reads.Reads.{FileCanBeRead}
 use Rattle.k_rules.specs.Stands.{Stands}
 use Rattle.list_facts.specs.Members.{In}
 use Rattle.posix_puts.specs.Views.{need_of}
 use Rattle.posix_spec.specs.Run.{after_call}
 use Rattle.posix_spec.specs.State.{room, State}
-use Rattle.world_promise.specs.JobLaws.{needs}
-use Rattle.world_rules.specs.Jobs.{AreApartJobs, begun_of, Job, JobStands, live_claims}
+use Rattle.job_facts.specs.world_promise.JobLaws.{needs}
+use Rattle.job_facts.specs.world_rules.Jobs.{AreApartJobs, begun_of, Job, JobStands, live_claims}
 use Rattle.write_jobs.specs.Jobs.{HoldWords}
 use Rattle.job_facts.specs.Blocks.{ArePutBack, GoOut, SpellWhole}
 use Rattle.flight_facts.specs.Flying.{AreHomeLoans, FileState, IsFlying, with_entry}

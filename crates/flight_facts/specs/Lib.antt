@@ -1,2 +1,8 @@
 pub mod Flying
 pub mod Laws
+pub use Rattle.job_facts.specs as job_facts
+pub use Rattle.job_facts.specs.posix_frames as posix_frames
+pub use Rattle.job_facts.specs.world_images as world_images
+pub use Rattle.job_facts.specs.world_steps as world_steps
+pub use Rattle.overlay_facts.specs as overlay_facts
+pub use Rattle.overlay_facts.specs.file_reads as file_reads

@@ -18,3 +18,5 @@ pub fn flights_come_and_go()
     ensures given_up { FliesGivenUp }
     ensures readable { FliesReadable }
 {}
+
+pub use overlay_facts::file_reads;

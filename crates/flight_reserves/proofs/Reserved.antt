@@ -17,35 +17,35 @@ use Rattle.disk_rules.specs.Live.{latest}
 use Rattle.disk_rules.specs.Room.{unused_blocks}
 use Rattle.disk_rules.specs.Volume.{inode, Volume}
 use Rattle.file_table.specs.Files.{runs_in, size_in}
-use Rattle.flight_facts.specs.Flying.{IsOut}
-use Rattle.held_sums.specs.Laws.{AreSizes}
-use Rattle.job_facts.specs.Blocks.{AreOut}
-use Rattle.k_plans.proofs.FreeCounts.{unwaiting-counted}
+use Rattle.world_standing.specs.flight_facts.Flying.{IsOut}
+use Rattle.world_standing.specs.held_sums.Laws.{AreSizes}
+use Rattle.world_standing.specs.job_facts.Blocks.{AreOut}
+use Rattle.world_relinks.proofs.k_plans_proofs.FreeCounts.{unwaiting-counted}
 use Rattle.k_rules.specs.Stands.{Stands}
 use Rattle.k_rules.specs.View.{View}
-use Rattle.k_split.specs.Answers.{IsOff}
-use Rattle.k_split.specs.MapChanges.{ChangesMaps, free_blocks_in, IsMapCut, IsMapDone, IsPreallocatedWith}
+use Rattle.world_relinks.specs.k_split.Answers.{IsOff}
+use Rattle.world_relinks.specs.k_split.MapChanges.{ChangesMaps, free_blocks_in, IsMapCut, IsMapDone, IsPreallocatedWith}
 use Rattle.list_facts.specs.Members.{In}
-use Rattle.overlay_facts.specs.Overlays.{IsOverlayOf, run_of}
+use Rattle.world_standing.specs.overlay_facts.Overlays.{IsOverlayOf, run_of}
 use Rattle.posix_types.specs.declared.call.Mode.{Mode}
 use Rattle.posix_types.specs.declared.item.Item.{Item}
 use Rattle.posix_words.specs.Open.{Tables}
 use Rattle.posix_spec.specs.Run.{Begun, run}
 use Rattle.posix_spec.specs.State.{State}
-use Rattle.staging_files.specs.declared.runs.StageRun.{StageRun}
-use Rattle.staging_files.specs.Keeps.{Agrees, AreApart, AreFreeSingle, IsKeptEmpty, IsRunSingle, IsStaged, IsStaging, IsThere, Staged}
-use Rattle.staging_files.specs.Reserves.{IsFreeRun, IsGiven, IsTaken, share, wanted, with_out}
-use Rattle.staging_files.proofs.AgreeLaws.{agrees-given, agrees-taken, run-single-given, run-single-taken, single-given, single-taken, there-given, there-taken}
-use Rattle.staging_files.proofs.ReserveLaws.{few-out, second-room}
-use Rattle.staging_files.proofs.RoomLaws.{share-fits, share-leaves}
-use Rattle.staging_files.proofs.StagedLaws.{apart-empty, apart-free, staged-given, staged-taken}
-use Rattle.world_rules.specs.Jobs.{begun_of, Job, live_claims, staged_block}
-use Rattle.world_rules.specs.Stands.{entries_of, IsSane}
-use Rattle.world_runs.specs.Restages.{Restages}
-use Rattle.world_images.specs.Images.{HasRoom, StandsFor}
-use Rattle.world_images.specs.Promised.{IsKept}
-use Rattle.world_lent.specs.Back.{IsPutBack}
-use Rattle.world_lent.specs.Flights.{leads_before, promise_at_begin}
+use Rattle.world_standing.specs.staging_files.declared.runs.StageRun.{StageRun}
+use Rattle.world_standing.specs.staging_files.Keeps.{Agrees, AreApart, AreFreeSingle, IsKeptEmpty, IsRunSingle, IsStaged, IsStaging, IsThere, Staged}
+use Rattle.world_standing.specs.staging_files.Reserves.{IsFreeRun, IsGiven, IsTaken, share, wanted, with_out}
+use Rattle.world_standing.proofs.staging_files_proofs.AgreeLaws.{agrees-given, agrees-taken, run-single-given, run-single-taken, single-given, single-taken, there-given, there-taken}
+use Rattle.world_standing.proofs.staging_files_proofs.ReserveLaws.{few-out, second-room}
+use Rattle.world_standing.proofs.staging_files_proofs.RoomLaws.{share-fits, share-leaves}
+use Rattle.world_standing.proofs.staging_files_proofs.StagedLaws.{apart-empty, apart-free, staged-given, staged-taken}
+use Rattle.flight_changes.specs.world_rules.Jobs.{begun_of, Job, live_claims, staged_block}
+use Rattle.flight_changes.specs.world_rules.Stands.{entries_of, IsSane}
+use Rattle.world_relinks.specs.world_runs.Restages.{Restages}
+use Rattle.flight_changes.specs.world_images.Images.{HasRoom, StandsFor}
+use Rattle.flight_changes.specs.world_images.Promised.{IsKept}
+use Rattle.flight_changes.specs.world_lent.Back.{IsPutBack}
+use Rattle.flight_changes.specs.world_lent.Flights.{leads_before, promise_at_begin}
 use Rattle.world_standing.specs.Standing.{AreJobsOf, HasItsBlocks, Kept, LinesStand, Pending, reserved_run, StandsAt}
 use Rattle.flight_changes.specs.Changes.{IsChangeWith}
 use Rattle.flight_changes.proofs.Devices.{changes_device_with, keeps_log_home_with, promise_with}

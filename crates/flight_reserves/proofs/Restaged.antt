@@ -23,31 +23,31 @@ use Rattle.extent_facts.specs.Covers.{covers-disk_at}
 use Rattle.extent_words.specs.declared.Extent.{Extent}
 use Rattle.extent_words.specs.Extents.{block_count, disk_at, is_within}
 use Rattle.volume_facts.specs.Changes.{chain-set_same, inode-set_same}
-use Rattle.volume_maps.specs.Switches.{unused-data}
-use Rattle.volume_maps.specs.Shorts.{in_order-below, length-below}
-use Rattle.volume_uses.specs.PoolLaws.{AreInData, unused-set, unused-uncovered}
+use Rattle.world_relinks.specs.volume_maps.Switches.{unused-data}
+use Rattle.world_relinks.specs.volume_maps.Shorts.{in_order-below, length-below}
+use Rattle.flight_changes.specs.volume_uses.PoolLaws.{AreInData, unused-set, unused-uncovered}
 use Rattle.list_facts.specs.Filters.{filter-agree}
 use Rattle.list_facts.specs.Members.{In}
 use Rattle.map_rules.specs.Changes.{aged, HasInOrder, in_order, IsPreallocated}
 use Rattle.map_rules.specs.Taken.{with_map}
-use Rattle.k_map_plans.specs.Plans.{IsStagingFile}
+use Rattle.world_relinks.specs.k_map_plans.Plans.{IsStagingFile}
 use Rattle.block_pool.specs.FreeSets.{is_among}
-use Rattle.volume_uses.specs.Uses.{is_unused}
-use Rattle.k_plans.specs.Whole.{IsWhole}
+use Rattle.flight_changes.specs.volume_uses.Uses.{is_unused}
+use Rattle.world_relinks.specs.k_plans.Whole.{IsWhole}
 use Rattle.k_rules.specs.View.{View}
-use Rattle.k_split.specs.MapChanges.{is_free_in, IsPreallocatedWith}
+use Rattle.world_relinks.specs.k_split.MapChanges.{is_free_in, IsPreallocatedWith}
 use Rattle.posix_words.specs.Open.{Tables}
 use Rattle.posix_spec.specs.State.{State}
-use Rattle.staging_files.specs.Keeps.{IsKeptEmpty, IsStaging}
-use Rattle.staging_files.proofs.GiveUpLaws.{staging-file}
-use Rattle.world_rules.specs.Jobs.{Job, JobsStand, JobStands, live_claims, staged_block}
-use Rattle.world_images.specs.Images.{HasRoom}
-use Rattle.world_images.specs.Laws.{Takes}
-use Rattle.world_lent.specs.Laws.{SameBlocks}
+use Rattle.world_standing.specs.staging_files.Keeps.{IsKeptEmpty, IsStaging}
+use Rattle.world_standing.proofs.staging_files_proofs.GiveUpLaws.{staging-file}
+use Rattle.flight_changes.specs.world_rules.Jobs.{Job, JobsStand, JobStands, live_claims, staged_block}
+use Rattle.flight_changes.specs.world_images.Images.{HasRoom}
+use Rattle.flight_changes.specs.world_images.Laws.{Takes}
+use Rattle.flight_changes.specs.world_lent.Laws.{SameBlocks}
 use Rattle.world_relinks.proofs.StagingLaws.{restages-filled}
-use Rattle.world_runs.specs.Restages.{Restages}
-use Rattle.world_runs.specs.StagingSteps.{restaged}
-use Rattle.world_steps.specs.Worlds.{IsWorld}
+use Rattle.world_relinks.specs.world_runs.Restages.{Restages}
+use Rattle.world_relinks.specs.world_runs.StagingSteps.{restaged}
+use Rattle.flight_changes.specs.world_steps.Worlds.{IsWorld}
 use Rattle.world_standing.specs.Standing.{Kept, StandsAt}
 use Rattle.flight_changes.specs.Changes.{AreSpare}
 

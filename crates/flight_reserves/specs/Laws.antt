@@ -10,13 +10,13 @@ use Rattle.posix_types.specs.declared.item.Item.{Item}
 use Rattle.posix_words.specs.Open.{Tables}
 use Rattle.posix_spec.specs.Run.{Begun, run}
 use Rattle.posix_spec.specs.State.{State}
-use Rattle.staging_files.specs.declared.runs.StageFault.{StageFault}
-use Rattle.staging_files.specs.declared.runs.StageRun.{StageRun}
-use Rattle.staging_files.specs.Keeps.{AreApart, IsRunSingle, IsThere, Staged}
-use Rattle.staging_files.specs.Reserves.{IsReserveAnswer}
-use Rattle.world_rules.specs.Jobs.{begun_of, live_claims}
-use Rattle.world_images.specs.Promised.{IsKept}
-use Rattle.world_lent.specs.Back.{IsPutBack}
+use Rattle.world_standing.specs.staging_files.declared.runs.StageFault.{StageFault}
+use Rattle.world_standing.specs.staging_files.declared.runs.StageRun.{StageRun}
+use Rattle.world_standing.specs.staging_files.Keeps.{AreApart, IsRunSingle, IsThere, Staged}
+use Rattle.world_standing.specs.staging_files.Reserves.{IsReserveAnswer}
+use Rattle.flight_changes.specs.world_rules.Jobs.{begun_of, live_claims}
+use Rattle.flight_changes.specs.world_images.Promised.{IsKept}
+use Rattle.flight_changes.specs.world_lent.Back.{IsPutBack}
 use Rattle.world_standing.specs.Standing.{Kept, StandsAt}
 
 -- what the World keeps, with this staging

@@ -8,8 +8,8 @@ use Rattle.disk_lines.specs.declared.Kind.TheVariants.{Staging}
 use Rattle.disk_rules.specs.Live.{is_file, is_live}
 use Rattle.disk_rules.specs.Volume.{inode, Volume}
 use Rattle.list_facts.specs.Members.{In}
-use Rattle.world_rules.specs.Jobs.{live_claims}
-use Rattle.world_rules.specs.Stands.{entries_of}
+use Rattle.world_exits.specs.world_rules.Jobs.{live_claims}
+use Rattle.world_exits.specs.world_rules.Stands.{entries_of}
 use Rattle.world_exits.specs.Going.{LeavesFiles}
 
 -- whether it is this one

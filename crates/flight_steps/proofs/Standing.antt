@@ -17,26 +17,26 @@ use Rattle.disk_rules.specs.Volume.{extents, inode, Volume}
 use Rattle.entry_orders.specs.Orders.{AreOrdered}
 use Rattle.extent_words.specs.Extents.{disk_at}
 use Rattle.file_table.specs.Files.{Files, runs_in, size_in, spare_in}
-use Rattle.flight_facts.specs.Flying.{AreOverlays, IsOut}
-use Rattle.held_sums.specs.Laws.{AreSizes}
+use Rattle.world_standing.specs.flight_facts.Flying.{AreOverlays, IsOut}
+use Rattle.world_standing.specs.held_sums.Laws.{AreSizes}
 use Rattle.k_rules.specs.View.{View}
-use Rattle.k_split.specs.Answers.{IsDone}
+use Rattle.world_exits.specs.k_split.Answers.{IsDone}
 use Rattle.list_facts.specs.Filters.{filter-In, In-filter}
 use Rattle.list_facts.specs.Members.{In}
 use Rattle.open_numbers.specs.Numbered.{numbered_as}
-use Rattle.overlay_facts.specs.Overlays.{IsOverlayOf, run_of}
+use Rattle.world_standing.specs.overlay_facts.Overlays.{IsOverlayOf, run_of}
 use Rattle.posix_words.specs.Open.{is_open, Tables}
 use Rattle.posix_spec.specs.State.{State}
-use Rattle.staging_files.specs.Keeps.{Agrees, IsStaging}
-use Rattle.staging_files.proofs.GiveUpLaws.{staging-file}
-use Rattle.job_facts.specs.Blocks.{AreOut}
-use Rattle.world_rules.specs.Jobs.{Job, JobsStand, JobStands, live_claims, staged_block}
-use Rattle.world_rules.specs.Stands.{entries_of, number}
-use Rattle.world_steps.specs.Worlds.{IsWorld}
+use Rattle.world_standing.specs.staging_files.Keeps.{Agrees, IsStaging}
+use Rattle.world_standing.proofs.staging_files_proofs.GiveUpLaws.{staging-file}
+use Rattle.world_standing.specs.job_facts.Blocks.{AreOut}
+use Rattle.world_exits.specs.world_rules.Jobs.{Job, JobsStand, JobStands, live_claims, staged_block}
+use Rattle.world_exits.specs.world_rules.Stands.{entries_of, number}
+use Rattle.world_exits.specs.world_steps.Worlds.{IsWorld}
 use Rattle.world_exits.specs.Done.{goes_on, keeps_log}
 use Rattle.world_exits.specs.Going.{IsGoing, IsStep}
 use Rattle.world_exits.specs.Lives.{no_entries}
-use Rattle.world_promise.specs.JobLaws.{live_file}
+use Rattle.world_exits.specs.world_promise.JobLaws.{live_file}
 use Rattle.world_standing.specs.Standing.{AreJobsOf, file_state, HasItsBlocks, Kept, LinesStand, Pending, StandsAt}
 use Rattle.flight_steps.specs.Laws.{AreLeft, size_now, StandsOn, StandsStill}
 use Rattle.flight_steps.proofs.Entries.{decide, fewer_live, same_entries}

@@ -8,12 +8,12 @@ use Rattle.disk_rules.specs.Volume.{inode, Volume}
 use Rattle.entry_orders.specs.Orders.{AreOrdered}
 use Rattle.file_table.specs.Files.{ChangesFile, Files, runs_in, size_in, spare_in}
 use Rattle.k_rules.specs.View.{View}
-use Rattle.k_split.specs.Answers.{IsDone}
+use Rattle.world_exits.specs.k_split.Answers.{IsDone}
 use Rattle.open_numbers.specs.Numbered.{numbered_as}
 use Rattle.posix_words.specs.Open.{is_open, Tables}
 use Rattle.posix_spec.specs.State.{State}
-use Rattle.world_rules.specs.Stands.{number}
-use Rattle.world_steps.specs.Worlds.{IsWorld}
+use Rattle.world_exits.specs.world_rules.Stands.{number}
+use Rattle.world_exits.specs.world_steps.Worlds.{IsWorld}
 use Rattle.world_exits.specs.Going.{IsStep}
 use Rattle.world_standing.specs.Standing.{Kept, StandsAt}
 

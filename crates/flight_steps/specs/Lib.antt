@@ -1,1 +1,21 @@
 pub mod Laws
+pub use Rattle.world_exits.specs as world_exits
+pub use Rattle.world_exits.specs.k_map_plans as k_map_plans
+pub use Rattle.world_exits.specs.k_plans as k_plans
+pub use Rattle.world_exits.specs.k_split as k_split
+pub use Rattle.world_exits.specs.k_tables as k_tables
+pub use Rattle.world_exits.specs.name_facts as name_facts
+pub use Rattle.world_exits.specs.posix_orders as posix_orders
+pub use Rattle.world_exits.specs.volume_changes as volume_changes
+pub use Rattle.world_exits.specs.volume_uses as volume_uses
+pub use Rattle.world_exits.specs.world_images as world_images
+pub use Rattle.world_exits.specs.world_lent as world_lent
+pub use Rattle.world_exits.specs.world_log as world_log
+pub use Rattle.world_exits.specs.world_names as world_names
+pub use Rattle.world_exits.specs.world_promise as world_promise
+pub use Rattle.world_exits.specs.world_rules as world_rules
+pub use Rattle.world_exits.specs.world_spaces as world_spaces
+pub use Rattle.world_exits.specs.world_steps as world_steps
+pub use Rattle.world_standing.specs as world_standing
+pub use Rattle.world_standing.specs.file_reads as file_reads
+pub use Rattle.world_standing.specs.overlay_facts as overlay_facts

@@ -18,3 +18,6 @@ pub fn a_step_leaves_the_world_standing()
     ensures still { StandsStill }
     ensures cleared { LeavesCleared }
 {}
+
+pub use world_exits::k_split;
+pub use world_standing::file_reads;

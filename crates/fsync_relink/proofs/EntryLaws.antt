@@ -13,9 +13,9 @@ use Rattle.disk_rules.specs.Volume.{inode, Volume}
 use Rattle.file_overlay.specs.declared.runs.Run.{Run}
 use Rattle.k_rules.specs.Stands.{IsOldOrNew}
 use Rattle.k_rules.specs.View.{View}
-use Rattle.k_split.specs.MapChanges.{IsRelinkAnswer}
+use Rattle.world_relinks.specs.k_split.MapChanges.{IsRelinkAnswer}
 use Rattle.list_facts.specs.Members.{In}
-use Rattle.live_facts.specs.Logs.{AreSound, CarriesOut, HasSameFiles}
+use Rattle.world_relinks.specs.live_facts.Logs.{AreSound, CarriesOut, HasSameFiles}
 use Rattle.map_rules.specs.declared.moves.Move.{Move}
 use Rattle.volume_facts.specs.Footprint.{SameLog}
 use Rattle.volume_facts.specs.FootprintLaws.{live_entries-same}

@@ -5,3 +5,5 @@ pub mod LoggedLaws
 pub mod SizedLaws
 pub mod OtherLaws
 pub mod EntryLaws
+pub use Rattle.world_relinks.proofs as world_relinks_proofs
+pub use Rattle.world_relinks.proofs.live_facts_proofs as live_facts_proofs

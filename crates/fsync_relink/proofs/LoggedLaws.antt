@@ -17,25 +17,25 @@ use Rattle.extent_words.specs.Extents.{is_within}
 use Rattle.file_overlay.specs.declared.runs.Run.{Run}
 use Rattle.file_overlay.specs.Laws.{IsEarlier, LastIsGreatest, NoneHasBlock}
 use Rattle.file_overlay.specs.Runs.{has_block, last_run, place_in}
-use Rattle.k_map_plans.specs.Plans.{MayMove}
-use Rattle.k_plans.specs.Whole.{IsWhole}
+use Rattle.world_relinks.specs.k_map_plans.Plans.{MayMove}
+use Rattle.world_relinks.specs.k_plans.Whole.{IsWhole}
 use Rattle.std.specs.declared.alloc.AllocError.{AllocError}
 use Rattle.k_journal.specs.declared.outcomes.Commit.{Commit}
 use Rattle.k_rules.specs.Stands.{IsOldOrNew}
 use Rattle.k_rules.specs.View.{View}
-use Rattle.k_split.specs.MapChanges.{ChangesMaps, is_free_in, IsMovedWith, IsRelinkAnswer}
-use Rattle.k_split.specs.Order.{IsInOrder}
-use Rattle.k_split.specs.declared.faults.KFault.{KFault}
+use Rattle.world_relinks.specs.k_split.MapChanges.{ChangesMaps, is_free_in, IsMovedWith, IsRelinkAnswer}
+use Rattle.world_relinks.specs.k_split.Order.{IsInOrder}
+use Rattle.world_relinks.specs.k_split.declared.faults.KFault.{KFault}
 use Rattle.list_facts.specs.Filters.{filter-In, In-filter}
 use Rattle.list_facts.specs.Members.{In}
-use Rattle.map_facts.specs.Moves.{move_for}
+use Rattle.world_relinks.specs.map_facts.Moves.{move_for}
 use Rattle.map_rules.specs.declared.moves.Move.{Move}
 use Rattle.volume_facts.specs.FootprintLaws.{live_entries-same}
 use Rattle.volume_facts.specs.Footprint.{SameLog}
-use Rattle.world_promise.specs.Latest.{latest-In, latest-most, latest-none}
+use Rattle.world_relinks.specs.world_promise.Latest.{latest-In, latest-most, latest-none}
 use Rattle.world_relinks.proofs.RelinkLaws.{geometry-same, line-file}
 use Rattle.world_relinks.proofs.WorldLaws.{keeps-content}
-use Rattle.live_facts.specs.Logs.{CarriesOut, IsNext}
+use Rattle.world_relinks.specs.live_facts.Logs.{CarriesOut, IsNext}
 use Rattle.world_relinks.specs.Images.{IsCarried}
 use Rattle.fsync_relink.specs.Logged.{HasSameContent, IsLogged, run_of, ShowsLogged}
 use Rattle.fsync_relink.specs.Publishes.{AreRelinked, IsCarriedOut, IsPublishDone, IsPublishStopped, IsRelinkedUpTo, IsResized, MayPublish, move_of, published_at, size_before}

@@ -8,10 +8,10 @@ use Rattle.disk_places.specs.Places.{reserve}
 use Rattle.disk_rules.specs.Volume.{extents, inode}
 use Rattle.extent_words.specs.Extents.{disk_at}
 use Rattle.file_overlay.specs.declared.runs.Run.{Run}
-use Rattle.k_map_plans.specs.Plans.{IsLiveFile, IsStagingFile, MayMove}
-use Rattle.k_plans.proofs.FreeCounts.{unwaiting-counted}
+use Rattle.world_relinks.specs.k_map_plans.Plans.{IsLiveFile, IsStagingFile, MayMove}
+use Rattle.world_relinks.proofs.k_plans_proofs.FreeCounts.{unwaiting-counted}
 use Rattle.k_rules.specs.View.{View}
-use Rattle.k_split.specs.MapChanges.{free_blocks_in, is_free_in, IsRelinkAnswer, IsSizeAnswer}
+use Rattle.world_relinks.specs.k_split.MapChanges.{free_blocks_in, is_free_in, IsRelinkAnswer, IsSizeAnswer}
 use Rattle.map_rules.specs.declared.moves.Move.{Move}
 use Rattle.fsync_relink.specs.Others.{AllApart, GoesOn, KeepsRest, LeavesOthers, LeavesRoom}
 use Rattle.fsync_relink.specs.Publishes.{AreRelinked, has_staged, IsStagedRun, MayPublish, move_of, ShareNone, size_before}

@@ -14,10 +14,10 @@ use Rattle.disk_rules.specs.Volume.{extents, inode, Volume}
 use Rattle.extent_words.specs.Extents.{disk_at, is_within}
 use Rattle.file_overlay.specs.declared.runs.Run.{Run}
 use Rattle.file_overlay.specs.Runs.{has_block, Overlaid, place_in, staged_at}
-use Rattle.k_map_plans.specs.Plans.{IsStagingFile, MayMove}
+use Rattle.world_relinks.specs.k_map_plans.Plans.{IsStagingFile, MayMove}
 use Rattle.k_rules.specs.View.{View}
-use Rattle.k_split.specs.MapChanges.{is_free_in, IsRelinkAnswer}
-use Rattle.k_split.specs.Order.{IsInOrder}
+use Rattle.world_relinks.specs.k_split.MapChanges.{is_free_in, IsRelinkAnswer}
+use Rattle.world_relinks.specs.k_split.Order.{IsInOrder}
 use Rattle.map_rules.specs.declared.moves.Move.{Move}
 use Rattle.fsync_relink.specs.Publishes.{ArePublished, AreRelinked, has_staged, IsCarriedOut, IsPublishAnswer, IsRelinkedEach, IsResizedOnce, IsStagedRun, last_order, MayPublish, move_of, published_at, ShareNone, size_before}
 use Rattle.fsync_relink.proofs.NextLaws.{applied-then, has-staged, may-move, next-may, size-then, staged-stays, staging-stays}

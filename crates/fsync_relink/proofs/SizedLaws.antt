@@ -15,17 +15,17 @@ use Rattle.extent_facts.specs.Counts.{block_count-mapped, is_mapped, one_if}
 use Rattle.extent_words.specs.declared.Extent.{Extent}
 use Rattle.extent_words.specs.Extents.{block_count, disk_at, IsCanonical}
 use Rattle.extent_words.specs.Maps.{IsPart}
-use Rattle.k_map_plans.specs.Plans.{IsLiveFile, IsStagingFile}
-use Rattle.k_plans.proofs.FreeCounts.{unwaiting-counted}
-use Rattle.k_plans.specs.Whole.{IsWhole}
+use Rattle.world_relinks.specs.k_map_plans.Plans.{IsLiveFile, IsStagingFile}
+use Rattle.world_relinks.proofs.k_plans_proofs.FreeCounts.{unwaiting-counted}
+use Rattle.world_relinks.specs.k_plans.Whole.{IsWhole}
 use Rattle.k_rules.specs.View.{View}
-use Rattle.k_split.specs.MapChanges.{free_blocks_in, is_free_in, IsSizeAnswer}
+use Rattle.world_relinks.specs.k_split.MapChanges.{free_blocks_in, is_free_in, IsSizeAnswer}
 use Rattle.map_rules.specs.Changes.{IsSized, with_size}
 use Rattle.map_rules.specs.Taken.{with_map}
 use Rattle.volume_facts.specs.Changes.{extents-set_other, inode-set_other, inode-set_same}
-use Rattle.volume_maps.specs.Bounds.{count_below-most}
-use Rattle.volume_maps.specs.Lengths.{begins, disk_before, length-begins, starts}
-use Rattle.volume_uses.specs.PoolLaws.{AreInData, unused-set}
+use Rattle.world_relinks.specs.volume_maps.Bounds.{count_below-most}
+use Rattle.world_relinks.specs.volume_maps.Lengths.{begins, disk_before, length-begins, starts}
+use Rattle.world_relinks.specs.volume_uses.PoolLaws.{AreInData, unused-set}
 use Rattle.fsync_relink.specs.Others.{GoesOn, KeepsRest}
 use Rattle.world_relinks.proofs.RelinkLaws.{has-chain}
 

@@ -6,13 +6,13 @@ use Rattle.pm_words.specs.Powers.{Steps, Supply}
 use Rattle.disk_rules.specs.Volume.{inode}
 use Rattle.file_overlay.specs.declared.runs.Run.{Run}
 use Rattle.k_rules.specs.View.{View}
-use Rattle.k_split.specs.Answers.{IsPaid}
+use Rattle.world_relinks.specs.k_split.Answers.{IsPaid}
 use Rattle.disk_places.specs.Places.{reserve}
-use Rattle.k_map_plans.specs.Plans.{MayMove}
-use Rattle.k_split.specs.MapChanges.{free_blocks_in, IsMovedSingle, IsRelinkAnswer, IsSizeAnswer}
+use Rattle.world_relinks.specs.k_map_plans.Plans.{MayMove}
+use Rattle.world_relinks.specs.k_split.MapChanges.{free_blocks_in, IsMovedSingle, IsRelinkAnswer, IsSizeAnswer}
 use Rattle.map_rules.specs.declared.moves.Move.{Move}
-use Rattle.k_split.specs.Order.{IsInOrder}
-use Rattle.k_split.specs.declared.faults.KFault.{KFault}
+use Rattle.world_relinks.specs.k_split.Order.{IsInOrder}
+use Rattle.world_relinks.specs.k_split.declared.faults.KFault.{KFault}
 use Rattle.fsync_relink.specs.Publishes.{AreRelinked, IsPublishPaid, IsRelinkedEach, IsRelinkedUpTo, IsResizedOnce, MayPublish, move_of, size_before, stopped_by}
 use Rattle.fsync_relink.proofs.NextLaws.{may-move, moved-single, next-may}
 

@@ -11,7 +11,7 @@ use Rattle.file_overlay.specs.Laws.{IsEarlier}
 use Rattle.file_overlay.specs.Runs.{staged_at}
 use Rattle.list_facts.specs.Members.{In}
 use Rattle.fsync_relink.specs.Publishes.{published_at}
-use Rattle.live_facts.specs.Logs.{AreSound}
+use Rattle.world_relinks.specs.live_facts.Logs.{AreSound}
 
 -- the run that a log entry is of
 abbrev pub run_of : Draft → Run

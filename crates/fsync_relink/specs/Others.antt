@@ -11,12 +11,12 @@ use Rattle.disk_rules.specs.Live.{live_entries}
 use Rattle.disk_rules.specs.Volume.{extents, inode, Volume}
 use Rattle.extent_words.specs.Extents.{disk_at}
 use Rattle.file_overlay.specs.declared.runs.Run.{Run}
-use Rattle.k_map_plans.specs.Plans.{IsStagingFile}
+use Rattle.world_relinks.specs.k_map_plans.Plans.{IsStagingFile}
 use Rattle.k_rules.specs.View.{View}
-use Rattle.k_split.specs.MapChanges.{free_blocks_in}
-use Rattle.k_split.specs.Order.{IsInOrder}
+use Rattle.world_relinks.specs.k_split.MapChanges.{free_blocks_in}
+use Rattle.world_relinks.specs.k_split.Order.{IsInOrder}
 use Rattle.list_facts.specs.Members.{In}
-use Rattle.live_facts.specs.Logs.{AreSound, HasSameFiles}
+use Rattle.world_relinks.specs.live_facts.Logs.{AreSound, HasSameFiles}
 use Rattle.volume_facts.specs.Footprint.{SameLog}
 use Rattle.fsync_relink.specs.Logged.{IsLogged}
 use Rattle.fsync_relink.specs.Publishes.{IsPublishDone, MayPublish, ShareNone}

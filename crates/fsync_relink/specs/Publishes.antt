@@ -13,10 +13,10 @@ use Rattle.file_overlay.specs.declared.runs.Run.{Run}
 use Rattle.file_overlay.specs.Laws.{IsEarlier}
 use Rattle.file_overlay.specs.Runs.{Overlaid, staged_at}
 use Rattle.k_journal.specs.declared.outcomes.Commit.{Commit}
-use Rattle.k_map_plans.specs.Plans.{IsLiveFile, IsStagingFile}
+use Rattle.world_relinks.specs.k_map_plans.Plans.{IsLiveFile, IsStagingFile}
 use Rattle.k_rules.specs.View.{View}
-use Rattle.k_split.specs.declared.faults.KFault.{KFault}
-use Rattle.k_split.specs.MapChanges.{free_blocks_in, IsRelinkAnswer, IsSizeAnswer}
+use Rattle.world_relinks.specs.k_split.declared.faults.KFault.{KFault}
+use Rattle.world_relinks.specs.k_split.MapChanges.{free_blocks_in, IsRelinkAnswer, IsSizeAnswer}
 use Rattle.map_rules.specs.declared.moves.Move.{Move}
 
 -- ---- what it asks for

@@ -3,9 +3,9 @@ ghost use Rattle.std.specs.Prelude.{◌≡◌, ◌≤◌, ◌+◌, ◌*◌, ◌^
 ghost use Rattle.disk_lines.specs.Lines.{most_bytes};
 ghost use Rattle.disk_places.specs.Places.{reserve};
 ghost use Rattle.disk_rules.specs.Volume.{inode};
-ghost use Rattle.k_map_plans.specs.Plans.{IsLiveFile};
-ghost use Rattle.k_split.specs.MapChanges.{free_blocks_in};
-ghost use Rattle.k_split.specs.Order.{IsInOrder};
+ghost use Rattle.world_relinks.specs.k_map_plans.Plans.{IsLiveFile};
+ghost use Rattle.world_relinks.specs.k_split.MapChanges.{free_blocks_in};
+ghost use Rattle.world_relinks.specs.k_split.Order.{IsInOrder};
 ghost use Rattle.pm_words.specs.Images.{Follows};
 ghost use Rattle.pm_words.specs.Powers.{is_on, Steps};
 ghost use Rattle.fsync_relink.specs.Logged.{HasSameContent};
@@ -13,10 +13,10 @@ ghost use Rattle.fsync_relink.specs.Publishes.{IsCarriedOut, IsPublishAnswer, Is
 
 use file_overlay::{Overlay, Run};
 use k_journal::Commit;
-use k_split::{KFault, KSplit};
 use map_rules::Move;
 use pm_lines::Power;
 use std::alloc::{AllocError, Global};
+use world_relinks::k_split::{KFault, KSplit};
 
 // What is answered where K-Split did not make a change.
 fn stopped_by(fault: KFault) -> Result<Commit, AllocError>

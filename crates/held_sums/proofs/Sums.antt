@@ -10,7 +10,7 @@ use Rattle.disk_rules.specs.Volume.{inode}
 use Rattle.posix_words.specs.declared.nodes.Node.{Node}
 use Rattle.posix_words.specs.Nodes.{bytes_of, node_at}
 use Rattle.posix_words.specs.Room.{held}
-use Rattle.world_rules.specs.Stands.{is_used, NodeStands, number}
+use Rattle.world_promise.specs.world_rules.Stands.{is_used, NodeStands, number}
 use Rattle.world_promise.specs.TreeRules.{used_below}
 use Rattle.held_sums.specs.Laws.{HeldIsTheSum}
 

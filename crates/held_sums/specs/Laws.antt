@@ -8,7 +8,7 @@ use Rattle.disk_rules.specs.Content.{size_of}
 use Rattle.disk_rules.specs.Volume.{inode, Volume}
 use Rattle.posix_words.specs.Room.{held}
 use Rattle.posix_spec.specs.State.{State}
-use Rattle.world_rules.specs.Stands.{Stands}
+use Rattle.world_promise.specs.world_rules.Stands.{Stands}
 
 -- THE SIZES of the inode lines: that of a file as its live entries give it, and 0 of all else.
 pub record AreSizes (v : Volume) (live : List Draft) (sizes : List ℕ) : Type 0 where

@@ -1,1 +1,4 @@
 pub mod Laws
+pub use Rattle.world_promise.specs as world_promise
+pub use Rattle.world_promise.specs.volume_uses as volume_uses
+pub use Rattle.world_promise.specs.world_rules as world_rules

@@ -22,10 +22,10 @@ use Rattle.volume_facts.specs.ImageLaws.{journaled-idle, journaled-same}
 use Rattle.volume_facts.specs.LineWords.{data_word}
 use Rattle.k_rules.specs.Stands.{Stands}
 use Rattle.world_images.specs.Images.{IsHeaded}
-use Rattle.world_jobs.specs.JobSteps.{begun, filled}
+use Rattle.world_room.specs.world_jobs.JobSteps.{begun, filled}
 use Rattle.world_room.specs.Free.{stays_free_begun}
-use Rattle.world_rules.specs.Jobs.{IsStagedIn, Job, staged_block}
-use Rattle.world_rules.specs.Shown.{IsLent, SameButLent}
+use Rattle.world_room.specs.world_rules.Jobs.{IsStagedIn, Job, staged_block}
+use Rattle.world_room.specs.world_rules.Shown.{IsLent, SameButLent}
 use Rattle.job_facts.specs.Blocks.{GoOut, IsBeside}
 use Rattle.job_facts.specs.Laws.{BeginsJob}
 use Rattle.job_facts.proofs.Blocks.{lent_any, staged_in_data}

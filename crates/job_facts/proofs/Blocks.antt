@@ -12,9 +12,9 @@ use Rattle.disk_lines.specs.declared.Draft.{Draft}
 use Rattle.disk_lines.specs.declared.Kind.TheVariants.{Staging}
 use Rattle.disk_rules.specs.Rules.{file_blocks_of}
 use Rattle.disk_rules.specs.Volume.{extents, free_inode, inode, Volume}
-use Rattle.volume_uses.specs.PoolLaws.{covered-in_data}
-use Rattle.world_rules.specs.Jobs.{staged_block}
-use Rattle.world_rules.specs.Stands.{IsSane}
+use Rattle.world_room.specs.volume_uses.PoolLaws.{covered-in_data}
+use Rattle.world_room.specs.world_rules.Jobs.{staged_block}
+use Rattle.world_room.specs.world_rules.Stands.{IsSane}
 
 pub lent_any : (c : Cell) (x : ℕ) → is_lent c ≡ true → IsCandidate c x
 lent_any Lent x lent = tt

@@ -23,10 +23,10 @@ use Rattle.posix_spec.specs.Run.{after_call}
 use Rattle.posix_spec.specs.State.{State}
 use Rattle.world_images.specs.Images.{StandsFor}
 use Rattle.world_images.specs.Settings.{keeps_setting}
-use Rattle.world_jobs.specs.JobSteps.{finished, given_up, Valid-front}
+use Rattle.world_room.specs.world_jobs.JobSteps.{finished, given_up, Valid-front}
 use Rattle.world_room.specs.Free.{stays_free_finished, stays_free_given_up}
-use Rattle.world_rules.specs.Jobs.{begun_of, HoldsWhole, Job, JobStands, live_claims}
-use Rattle.world_steps.specs.Worlds.{IsWorld}
+use Rattle.world_room.specs.world_rules.Jobs.{begun_of, HoldsWhole, Job, JobStands, live_claims}
+use Rattle.world_room.specs.world_steps.Worlds.{IsWorld}
 use Rattle.write_jobs.specs.Jobs.{HoldWords, loan_at}
 use Rattle.job_facts.specs.Blocks.{AreOut, ArePutBack, SpellWhole}
 use Rattle.job_facts.specs.Laws.{FinishesJob, GivesUpJob}

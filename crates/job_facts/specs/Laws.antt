@@ -16,8 +16,8 @@ use Rattle.posix_spec.specs.Run.{after_call}
 use Rattle.posix_spec.specs.State.{room, State}
 use Rattle.posix_puts.specs.Views.{need_of}
 use Rattle.world_images.specs.Images.{StandsFor}
-use Rattle.world_promise.specs.JobLaws.{needs}
-use Rattle.world_rules.specs.Jobs.{AreApartJobs, begun_of, Job, JobStands, live_claims}
+use Rattle.world_room.specs.world_promise.JobLaws.{needs}
+use Rattle.world_room.specs.world_rules.Jobs.{AreApartJobs, begun_of, Job, JobStands, live_claims}
 use Rattle.write_jobs.specs.Contents.{SpellBytes, staged_bytes}
 use Rattle.write_jobs.specs.Jobs.{HoldWords}
 use Rattle.job_facts.specs.Blocks.{AreOut, ArePutBack, GoOut, SpellWhole}

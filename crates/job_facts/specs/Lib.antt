@@ -1,2 +1,9 @@
 pub mod Blocks
 pub mod Laws
+pub use Rattle.world_images.specs as world_images
+pub use Rattle.world_room.specs.posix_frames as posix_frames
+pub use Rattle.world_room.specs.volume_uses as volume_uses
+pub use Rattle.world_room.specs.world_jobs as world_jobs
+pub use Rattle.world_room.specs.world_promise as world_promise
+pub use Rattle.world_room.specs.world_rules as world_rules
+pub use Rattle.world_room.specs.world_steps as world_steps

@@ -18,5 +18,6 @@ mod files;
 mod laws;
 mod trees;
 
+pub use k_tables;
 pub use laws::{trees_can_be_read, trees_tell_contents};
 pub use trees::content_tree;

@@ -10,16 +10,16 @@ use Rattle.disk_lines.specs.Lines.{has_map_or_none, is_inode, is_inode_of_kind, 
 use Rattle.disk_rules.specs.Volume.{Volume, chain, extents, inode}
 use Rattle.extent_words.specs.declared.Extent.{Extent}
 use Rattle.k_journal.specs.declared.batches.Entry.{Entry}
-use Rattle.k_land.specs.PlanLaws.{turns-none}
-use Rattle.k_land.specs.Plans.{Turns, IsMapFrom}
-use Rattle.k_land.specs.Plans.IsMapFrom.{SameMap}
+use Rattle.k_map_plans.specs.k_land.PlanLaws.{turns-none}
+use Rattle.k_map_plans.specs.k_land.Plans.{Turns, IsMapFrom}
+use Rattle.k_map_plans.specs.k_land.Plans.IsMapFrom.{SameMap}
 use Rattle.k_map_plans.specs.Plans.{IsLiveFile}
-use Rattle.k_plans.specs.Plans.{IsPlan}
-use Rattle.k_plans.specs.Switching.{switched_tables}
-use Rattle.k_plans.specs.View.{TablesView, with_volume}
-use Rattle.k_plans.specs.Whole.{IsWhole}
+use Rattle.k_map_plans.specs.k_plans.Plans.{IsPlan}
+use Rattle.k_map_plans.specs.k_plans.Switching.{switched_tables}
+use Rattle.k_map_plans.specs.k_plans.View.{TablesView, with_volume}
+use Rattle.k_map_plans.specs.k_plans.Whole.{IsWhole}
 use Rattle.map_rules.specs.Taken.{switched, with_map}
-use Rattle.volume_maps.specs.Switches.{MaySwitch}
+use Rattle.k_map_plans.specs.volume_maps.Switches.{MaySwitch}
 use Rattle.k_log_plans.specs.Resets.{HasOwnMap, reset, unapplied}
 
 -- the line of a file may have no entry applied

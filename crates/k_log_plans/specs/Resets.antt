@@ -10,8 +10,8 @@ use Rattle.disk_rules.specs.Reading.{node_set}
 use Rattle.disk_rules.specs.Volume.{Volume, chain, extents, inode}
 use Rattle.k_journal.specs.declared.batches.Entry.{Entry}
 use Rattle.k_map_plans.specs.Plans.{IsNotPlanned}
-use Rattle.k_plans.specs.Plans.{IsPlan}
-use Rattle.k_plans.specs.View.{TablesView, with_volume}
+use Rattle.k_map_plans.specs.k_plans.Plans.{IsPlan}
+use Rattle.k_map_plans.specs.k_plans.View.{TablesView, with_volume}
 
 -- a line of which no entry is applied
 abbrev pub unapplied : Inode → Inode

@@ -17,7 +17,7 @@ ghost use Rattle.k_map_plans.specs.Plans.{IsLiveFile};
 
 use disk_lines::Inode;
 use k_journal::Batch;
-use k_plans::Tables;
+use k_map_plans::k_plans::Tables;
 use std::alloc::{AllocError, Global};
 
 /// Plans that a file has applied no entry: its `applied` becomes 0, and nothing else changes. The
@@ -44,3 +44,6 @@ pub fn plan_reset(
     tables.switch(batch, ino, &line, map, blocks, Vec::new(alloc));
     Ok(())
 }
+
+pub use k_map_plans;
+pub use k_map_plans::{k_land, k_plans, k_reading};

@@ -3,7 +3,7 @@ ghost use Rattle.std.specs.Prelude.{◌≡◌, ◌+◌, ◌/◌, ◌^◌, ◌<�
 ghost use Rattle.disk_rules.specs.Volume.{extents, inode};
 ghost use Rattle.extent_words.specs.Extents.{disk_at};
 ghost use Rattle.extent_words.specs.Moves.{IsMapped};
-ghost use Rattle.k_map_plans.specs.Plans.{IsLiveFile, IsStagingFile, MayMove};
+ghost use Rattle.k_split.specs.k_map_plans.Plans.{IsLiveFile, IsStagingFile, MayMove};
 
 use disk_lines::Kind;
 use extent_map::ExtentMap;

@@ -4,8 +4,8 @@ ghost use Rattle.k_map_calls.specs.Calls.{IsFresh};
 
 use crate::model::{BLOCKS, Blocks, INODES, Model, ModelFile};
 use extent_map::ExtentMap;
+use k_map_calls::k_split::KSplit;
 use k_map_calls::{MapCall, Put, Reply, RunError, begun, block_bytes, made, reopened};
-use k_split::KSplit;
 use map_rules::Move;
 use rand_core::{Rng, SeedableRng};
 use rand_xoshiro::SplitMix64;

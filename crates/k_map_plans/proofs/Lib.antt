@@ -3,3 +3,4 @@ mod Goings
 mod Moves
 mod Sizes
 mod Stagings
+pub use Rattle.k_plans.proofs as k_plans_proofs

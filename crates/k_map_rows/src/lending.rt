@@ -5,8 +5,8 @@ ghost use Rattle.k_map_calls.specs.Calls.{IsFresh};
 ghost use Rattle.k_map_rows.specs.Lends.{IsOut};
 
 use crate::reading::number;
+use k_map_calls::k_split::KSplit;
 use k_map_calls::{Reply, RunError, has_block, left};
-use k_split::KSplit;
 use pm_lines::{Loan, Power};
 use std::alloc::Global;
 

@@ -25,14 +25,14 @@ use Rattle.disk_rules.specs.Volume.{chain, extents, free_inode, inode, Volume}
 use Rattle.volume_facts.specs.ImageLaws.{journal-outside, journaled-same}
 use Rattle.volume_facts.specs.ReadingLaws.{reads-same}
 use Rattle.volume_facts.specs.SetLaws.{journaled-outside}
-use Rattle.volume_uses.specs.OwnerLaws.{no_chain_has, one_owner, one_user}
-use Rattle.volume_uses.specs.PoolLaws.{covered-in_data}
-use Rattle.volume_uses.specs.UseLaws.{in_map-covers, length-uses_by}
-use Rattle.volume_uses.specs.Uses.{uses_of}
+use Rattle.k_log_plans.specs.volume_uses.OwnerLaws.{no_chain_has, one_owner, one_user}
+use Rattle.k_log_plans.specs.volume_uses.PoolLaws.{covered-in_data}
+use Rattle.k_log_plans.specs.volume_uses.UseLaws.{in_map-covers, length-uses_by}
+use Rattle.k_log_plans.specs.volume_uses.Uses.{uses_of}
 use Rattle.block_bytes.specs.Overwrites.{IsBesideBlocks, IsOverwritten, IsOverwrittenWhole, MayOverwrite, StandsIn}
 use Rattle.k_journal.specs.declared.batches.Entry.{Entry}
-use Rattle.k_plans.specs.View.{TablesView}
-use Rattle.k_plans.specs.Whole.{IsWhole}
+use Rattle.k_log_plans.specs.k_plans.View.{TablesView}
+use Rattle.k_log_plans.specs.k_plans.Whole.{IsWhole}
 use Rattle.k_rules.specs.Stands.{Stands}
 use Rattle.k_rules.specs.View.{View}
 use Rattle.k_split.specs.Bytes.{IsOverwriteCut, IsOverwriteDone, IsWrittenOver, MayWriteBytes, Overwrites}

@@ -9,13 +9,13 @@ use Rattle.extent_words.specs.Extents.{covers}
 use Rattle.disk_rules.specs.Volume.{Volume}
 use Rattle.k_journal.specs.declared.batches.Entry.{Entry}
 use Rattle.k_journal.specs.declared.outcomes.Commit.{Commit}
-use Rattle.k_land.specs.PlanLaws.{turns-none}
-use Rattle.k_land.specs.Plans.{Turns}
-use Rattle.k_plans.specs.Renaming.{IsRenamed, IsRenamePlan}
+use Rattle.k_log_plans.specs.k_land.PlanLaws.{turns-none}
+use Rattle.k_log_plans.specs.k_land.Plans.{Turns}
+use Rattle.k_log_plans.specs.k_plans.Renaming.{IsRenamed, IsRenamePlan}
 use Rattle.k_rules.specs.Spaces.{volume_space}
 use Rattle.posix_words.specs.NameRows.{rename_rows}
-use Rattle.k_plans.specs.Plans.{IsPlan, KeepsStaged}
-use Rattle.k_plans.specs.View.{TablesView}
+use Rattle.k_log_plans.specs.k_plans.Plans.{IsPlan, KeepsStaged}
+use Rattle.k_log_plans.specs.k_plans.View.{TablesView}
 use Rattle.k_rules.specs.View.{View}
 use Rattle.posix_types.specs.declared.item.Outcome.{Outcome}
 use Rattle.posix_types.specs.declared.reply.Reply.{Reply}

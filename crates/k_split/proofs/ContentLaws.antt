@@ -25,10 +25,10 @@ use Rattle.volume_facts.specs.FootprintLaws.{content-own, content-read, disk_of-
 use Rattle.volume_facts.specs.ImageLaws.{journaled-idle, journaled-other}
 use Rattle.volume_facts.specs.LineWords.{data_word, data_word-not_journaled}
 use Rattle.volume_facts.specs.SetLaws.{block-outside}
-use Rattle.volume_uses.specs.PoolLaws.{covered-in_data, unused-uncovered}
-use Rattle.volume_uses.specs.Uses.{is_unused}
-use Rattle.k_land.specs.LandingLaws.{idle-image}
-use Rattle.k_land.specs.WrittenLaws.{unused-apart}
+use Rattle.k_log_plans.specs.volume_uses.PoolLaws.{covered-in_data, unused-uncovered}
+use Rattle.k_log_plans.specs.volume_uses.Uses.{is_unused}
+use Rattle.k_log_plans.specs.k_land.LandingLaws.{idle-image}
+use Rattle.k_log_plans.specs.k_land.WrittenLaws.{unused-apart}
 use Rattle.k_rules.specs.Stands.{IsOldOrNew, Stands}
 use Rattle.k_split.specs.Contents.{AreOwnBlocks, HasNoBlocks, HasOldOrNew, HaveOldOrNew}
 

@@ -22,11 +22,11 @@ use Rattle.volume_facts.specs.ImageLaws.{journal-outside}
 use Rattle.volume_facts.specs.Reading.{AreUnchained}
 use Rattle.volume_facts.specs.ReadingLaws.{reads-one}
 use Rattle.volume_facts.specs.SetLaws.{journaled-outside}
-use Rattle.volume_maps.specs.Switches.{unused-data}
+use Rattle.k_log_plans.specs.volume_maps.Switches.{unused-data}
 use Rattle.k_journal.specs.declared.batches.Entry.{Entry}
-use Rattle.k_land.specs.LandingLaws.{idle-image, idle-sound}
-use Rattle.k_land.specs.Plans.{NewChain, blocks_of}
-use Rattle.k_land.specs.WrittenLaws.{reads-beside, settles-then, stands-written, took-later, unused-apart}
+use Rattle.k_log_plans.specs.k_land.LandingLaws.{idle-image, idle-sound}
+use Rattle.k_log_plans.specs.k_land.Plans.{NewChain, blocks_of}
+use Rattle.k_log_plans.specs.k_land.WrittenLaws.{reads-beside, settles-then, stands-written, took-later, unused-apart}
 use Rattle.k_rules.specs.Stands.{IsOldOrNew}
 use Rattle.k_split.specs.declared.faults.KFault.{KFault}
 use Rattle.k_split.specs.Filling.{IsFillLanded, IsFillPlanned}

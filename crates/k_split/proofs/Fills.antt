@@ -14,15 +14,15 @@ use Rattle.disk_rules.specs.Volume.{chain, extents, inode}
 use Rattle.volume_facts.specs.Changes.{chain-set_same, extents-set_same}
 use Rattle.map_rules.specs.Taken.{AreLowest, with_map}
 use Rattle.map_rules.specs.Changes.{holes}
-use Rattle.volume_maps.specs.Switches.{unused-data}
-use Rattle.volume_uses.specs.Uses.{is_unused}
+use Rattle.k_log_plans.specs.volume_maps.Switches.{unused-data}
+use Rattle.k_log_plans.specs.volume_uses.Uses.{is_unused}
 use Rattle.k_journal.specs.declared.batches.Entry.{Entry}
-use Rattle.k_land.specs.Maps.{AreApart}
-use Rattle.k_land.specs.Plans.{NewChain, blocks_of}
-use Rattle.k_land.specs.WrittenLaws.{blocks_of-one}
-use Rattle.k_map_plans.specs.Plans.{IsFillPlan, IsLiveFile}
-use Rattle.k_plans.specs.Free.{is_free_block}
-use Rattle.k_plans.specs.View.{TablesView}
+use Rattle.k_log_plans.specs.k_land.Maps.{AreApart}
+use Rattle.k_log_plans.specs.k_land.Plans.{NewChain, blocks_of}
+use Rattle.k_log_plans.specs.k_land.WrittenLaws.{blocks_of-one}
+use Rattle.k_log_plans.specs.k_map_plans.Plans.{IsFillPlan, IsLiveFile}
+use Rattle.k_log_plans.specs.k_plans.Free.{is_free_block}
+use Rattle.k_log_plans.specs.k_plans.View.{TablesView}
 use Rattle.k_rules.specs.View.{View}
 use Rattle.posix_types.specs.declared.item.Outcome.{Outcome}
 use Rattle.k_split.specs.declared.faults.KFault.{KFault}

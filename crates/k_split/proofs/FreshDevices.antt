@@ -9,7 +9,7 @@ use Rattle.pm_words.specs.Words.{word_at}
 use Rattle.disk_places.specs.Places.{commit_word, Geometry}
 use Rattle.disk_lines.specs.Fresh.{fresh}
 use Rattle.disk_rules.specs.Rules.{geometry_of, IsChecked}
-use Rattle.image_facts.specs.FreshLines.{fresh-commit}
+use Rattle.k_log_plans.specs.image_facts.FreshLines.{fresh-commit}
 use Rattle.k_split.proofs.OpenLaws.{IsOpenable}
 
 pub fresh-openable : (g : Geometry) (bytes : List ℕ) (d : List Cell) → length bytes ≡ 4096 * g.blocks → word_at bytes ≡ fresh g

@@ -11,9 +11,9 @@ use Rattle.disk_places.specs.Places.{Geometry}
 use Rattle.disk_rules.specs.Volume.{Volume}
 use Rattle.k_journal.specs.Commits.{MayCommit, TakesAStep}
 use Rattle.k_journal.specs.declared.batches.Entry.{Entry}
-use Rattle.k_land.specs.LandingLaws.{lines-new, may-commit}
-use Rattle.k_land.specs.Landings.{IsElsewhere}
-use Rattle.k_land.specs.Plans.{Turns}
+use Rattle.k_log_plans.specs.k_land.LandingLaws.{lines-new, may-commit}
+use Rattle.k_log_plans.specs.k_land.Landings.{IsElsewhere}
+use Rattle.k_log_plans.specs.k_land.Plans.{Turns}
 use Rattle.k_rules.specs.Stands.{IsOldOrNew, Stands}
 use Rattle.k_split.specs.Answers.{Changes}
 use Rattle.k_split.specs.Landed.{IsLandedDone, IsLandedLost, IsPlanned}

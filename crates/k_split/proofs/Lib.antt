@@ -16,3 +16,6 @@ mod Relinks
 mod ResetLaws
 mod StagedBytes
 mod TreeLaws
+pub use Rattle.k_content.proofs as k_content_proofs
+pub use Rattle.k_content.proofs.k_tables_proofs as k_tables_proofs
+pub use Rattle.k_log_plans.proofs.k_plans_proofs as k_plans_proofs

@@ -20,11 +20,11 @@ use Rattle.disk_rules.specs.Volume.{chain, extents, inode, Volume}
 use Rattle.volume_facts.specs.LineWords.{data_word}
 use Rattle.volume_facts.specs.LoanLaws.{all_read-lent, all_read-settled}
 use Rattle.volume_facts.specs.Reading.{AreUnchained}
-use Rattle.volume_uses.specs.OwnerLaws.{no_chain_has}
-use Rattle.volume_uses.specs.PoolLaws.{covered-in_data}
+use Rattle.k_log_plans.specs.volume_uses.OwnerLaws.{no_chain_has}
+use Rattle.k_log_plans.specs.volume_uses.PoolLaws.{covered-in_data}
 use Rattle.k_journal.specs.declared.batches.Entry.{Entry}
-use Rattle.k_plans.specs.View.{TablesView}
-use Rattle.k_plans.specs.Whole.{IsWhole}
+use Rattle.k_log_plans.specs.k_plans.View.{TablesView}
+use Rattle.k_log_plans.specs.k_plans.Whole.{IsWhole}
 use Rattle.k_rules.specs.Stands.{Stands}
 use Rattle.k_split.specs.Loans.{MayLend}
 use Rattle.k_split.specs.Order.{IsReady, IsUnstagedSingle, view_of}

@@ -18,7 +18,7 @@ use Rattle.pm_words.specs.Images.{Follows}
 use Rattle.volume_facts.specs.ImageLaws.{journaled-same}
 use Rattle.volume_facts.specs.ReadingLaws.{reads-same}
 use Rattle.k_journal.specs.declared.batches.Entry.{Entry}
-use Rattle.k_plans.specs.View.{TablesView}
+use Rattle.k_log_plans.specs.k_plans.View.{TablesView}
 use Rattle.k_rules.specs.Stands.{Stands}
 use Rattle.k_split.specs.Laps.{ClearsLog, IsLogWord}
 use Rattle.k_split.specs.Order.{IsReady, view_of}

@@ -17,8 +17,8 @@ use Rattle.block_bytes.specs.Overwrites.{IsInLines}
 use Rattle.lines_out.specs.Lines.{LinesComeBack, LinesGoOut}
 use Rattle.volume_facts.specs.ReadingLaws.{reads-same}
 use Rattle.k_journal.specs.declared.batches.Entry.{Entry}
-use Rattle.k_plans.specs.View.{TablesView}
-use Rattle.k_plans.specs.Whole.{IsWhole}
+use Rattle.k_log_plans.specs.k_plans.View.{TablesView}
+use Rattle.k_log_plans.specs.k_plans.Whole.{IsWhole}
 use Rattle.k_rules.specs.Stands.{Stands}
 use Rattle.k_split.specs.Laps.{IsLogWord}
 use Rattle.k_split.specs.Order.{IsReady, view_of}

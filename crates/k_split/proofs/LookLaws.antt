@@ -6,7 +6,7 @@ use Rattle.disk_lines.specs.Names.{Rows}
 use Rattle.disk_rules.specs.Volume.{Volume}
 use Rattle.pm_words.specs.declared.Cell.{Cell}
 use Rattle.disk_lines.specs.declared.Inode.{Inode}
-use Rattle.k_plans.specs.View.{TablesView}
+use Rattle.k_log_plans.specs.k_plans.View.{TablesView}
 use Rattle.k_rules.specs.Spaces.{is_directory_in, space_of, volume_space}
 use Rattle.k_rules.specs.View.{View}
 use Rattle.posix_types.specs.declared.item.Outcome.{Outcome}

@@ -12,24 +12,24 @@ use Rattle.disk_places.specs.Places.{is_data_block}
 use Rattle.disk_rules.specs.Rules.{IsKindAt}
 use Rattle.extent_words.specs.Extents.{covers}
 use Rattle.extent_words.specs.declared.Extent.{Extent}
-use Rattle.k_map_plans.specs.Plans.{IsLiveFile, IsStagingFile}
+use Rattle.k_log_plans.specs.k_map_plans.Plans.{IsLiveFile, IsStagingFile}
 use Rattle.map_rules.specs.Changes.{given_up}
 use Rattle.map_rules.specs.Taken.{switched, with_map}
 use Rattle.volume_facts.specs.Changes.{chain-set_same, extents-set_other}
 use Rattle.disk_rules.specs.Volume.{Volume, chain, extents, inode}
 use Rattle.k_journal.specs.declared.batches.Entry.{Entry}
-use Rattle.k_land.specs.Plans.{NewChain}
-use Rattle.k_land.specs.WrittenLaws.{block-among}
-use Rattle.k_plans.specs.Plans.{KeepsStaged}
-use Rattle.k_plans.specs.Switching.{IsMapPlan}
-use Rattle.k_plans.specs.View.{TablesView}
-use Rattle.k_plans.specs.Whole.{IsWhole}
+use Rattle.k_log_plans.specs.k_land.Plans.{NewChain}
+use Rattle.k_log_plans.specs.k_land.WrittenLaws.{block-among}
+use Rattle.k_log_plans.specs.k_plans.Plans.{KeepsStaged}
+use Rattle.k_log_plans.specs.k_plans.Switching.{IsMapPlan}
+use Rattle.k_log_plans.specs.k_plans.View.{TablesView}
+use Rattle.k_log_plans.specs.k_plans.Whole.{IsWhole}
 use Rattle.k_rules.specs.View.{View}
 use Rattle.posix_types.specs.declared.reply.Reply.{Reply}
 use Rattle.posix_words.specs.Outcomes.{answer}
-use Rattle.volume_maps.specs.Switches.{unused-data}
-use Rattle.volume_uses.specs.PoolLaws.{unused-uncovered}
-use Rattle.volume_uses.specs.Uses.{is_unused}
+use Rattle.k_log_plans.specs.volume_maps.Switches.{unused-data}
+use Rattle.k_log_plans.specs.volume_uses.PoolLaws.{unused-uncovered}
+use Rattle.k_log_plans.specs.volume_uses.Uses.{is_unused}
 use Rattle.k_split.specs.declared.faults.KFault.{KFault}
 use Rattle.k_split.specs.Answers.{IsPaid}
 use Rattle.k_split.specs.MapChanges.{IsMapAnswer, IsMapLanded, IsMapLandedDone, IsMapPlanned, IsStagedSingle}

@@ -12,14 +12,14 @@ use Rattle.disk_rules.specs.Placed.{AreInDevice, block_at}
 use Rattle.disk_rules.specs.Volume.{Volume}
 use Rattle.k_journal.specs.Commits.{TakesAStep}
 use Rattle.k_journal.specs.declared.batches.Entry.{Entry}
-use Rattle.k_land.specs.LandingLaws.{lines-new}
-use Rattle.k_land.specs.Landings.{IsElsewhere}
-use Rattle.k_land.specs.Maps.{MayWriteAll}
-use Rattle.k_land.specs.Plans.{NewChain, Turns, blocks_of, new_at}
-use Rattle.k_land.specs.WrittenLaws.{in_data-each}
+use Rattle.k_log_plans.specs.k_land.LandingLaws.{lines-new}
+use Rattle.k_log_plans.specs.k_land.Landings.{IsElsewhere}
+use Rattle.k_log_plans.specs.k_land.Maps.{MayWriteAll}
+use Rattle.k_log_plans.specs.k_land.Plans.{NewChain, Turns, blocks_of, new_at}
+use Rattle.k_log_plans.specs.k_land.WrittenLaws.{in_data-each}
 use Rattle.k_rules.specs.Stands.{IsOldOrNew, Stands}
-use Rattle.volume_maps.specs.Switches.{unused-data}
-use Rattle.volume_uses.specs.Uses.{is_unused}
+use Rattle.k_log_plans.specs.volume_maps.Switches.{unused-data}
+use Rattle.k_log_plans.specs.volume_uses.Uses.{is_unused}
 use Rattle.k_split.specs.MapChanges.{ChangesMaps, IsMapLandedDone, IsMapLandedLost, IsMapPlanned}
 
 module _ (g : Geometry) (news : List NewChain) (v w : Volume) (b : List Entry) (d : List Cell) (numbers : g ≡ w.geometry)

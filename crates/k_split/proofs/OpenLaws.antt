@@ -23,18 +23,18 @@ use Rattle.volume_facts.specs.ImageLaws.{journaled-idle}
 use Rattle.disk_places.specs.PlaceLaws.{behind_log-words}
 use Rattle.volume_facts.specs.LineWords.{data_word}
 use Rattle.volume_facts.specs.ReadingLaws.{reads-same, reads-volume}
-use Rattle.name_facts.specs.KeptLaws.{kept-keyed, reads-all_lines}
-use Rattle.image_facts.specs.CheckedLaws.{kept-checked, reads-checked}
-use Rattle.image_facts.specs.FreshLaws.{content-fresh, fresh-checked}
-use Rattle.image_facts.specs.FreshLines.{geometry_of-fresh}
+use Rattle.k_content.specs.name_facts.KeptLaws.{kept-keyed, reads-all_lines}
+use Rattle.k_log_plans.specs.image_facts.CheckedLaws.{kept-checked, reads-checked}
+use Rattle.k_log_plans.specs.image_facts.FreshLaws.{content-fresh, fresh-checked}
+use Rattle.k_log_plans.specs.image_facts.FreshLines.{geometry_of-fresh}
 use Rattle.disk_lines.specs.Fresh.{fresh}
 use Rattle.disk_rules.specs.Content.{content}
 use Rattle.disk_rules.specs.FreshVolume.{root_alone}
 use Rattle.k_journal.specs.declared.batches.Entry.{Entry}
 use Rattle.k_rules.specs.Stands.{Stands}
-use Rattle.k_plans.specs.View.{tables_view, TablesView}
-use Rattle.k_plans.specs.Whole.{IsWhole}
-use Rattle.k_plans.specs.WholeLaws.{whole-read}
+use Rattle.k_log_plans.specs.k_plans.View.{tables_view, TablesView}
+use Rattle.k_log_plans.specs.k_plans.Whole.{IsWhole}
+use Rattle.k_log_plans.specs.k_plans.WholeLaws.{whole-read}
 use Rattle.k_split.specs.Order.{view_of, IsOpened, IsReady}
 
 -- words whose journal is empty read as they do through it

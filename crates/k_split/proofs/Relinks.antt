@@ -10,9 +10,9 @@ use Rattle.disk_rules.specs.Volume.{Volume, extents, inode}
 use Rattle.extent_facts.specs.Covers.{covers-disk_at, disk_at-covers}
 use Rattle.extent_words.specs.declared.Extent.{Extent}
 use Rattle.extent_words.specs.Extents.{covers, disk_at, is_within, IsCanonical}
-use Rattle.k_land.specs.Plans.{NewChain, blocks_of}
-use Rattle.k_map_plans.specs.Plans.{MayMove}
-use Rattle.k_plans.specs.Whole.{IsWhole}
+use Rattle.k_log_plans.specs.k_land.Plans.{NewChain, blocks_of}
+use Rattle.k_log_plans.specs.k_map_plans.Plans.{MayMove}
+use Rattle.k_log_plans.specs.k_plans.Whole.{IsWhole}
 use Rattle.map_rules.specs.Changes.{IsMoved, with_length}
 use Rattle.map_rules.specs.Taken.{switched, with_map}
 use Rattle.map_rules.specs.declared.moves.Move.{Move}

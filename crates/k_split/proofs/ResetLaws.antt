@@ -20,8 +20,8 @@ use Rattle.volume_facts.specs.FootprintLaws.{content-own}
 use Rattle.k_journal.specs.declared.batches.Entry.{Entry}
 use Rattle.k_log_plans.specs.ResetLaws.{reset-content}
 use Rattle.k_log_plans.specs.Resets.{HasNoValid, HasOwnMap, reset}
-use Rattle.k_map_plans.specs.Plans.{IsLiveFile}
-use Rattle.k_plans.specs.Whole.{IsWhole}
+use Rattle.k_log_plans.specs.k_map_plans.Plans.{IsLiveFile}
+use Rattle.k_log_plans.specs.k_plans.Whole.{IsWhole}
 use Rattle.k_rules.specs.Stands.{IsOldOrNew, Stands}
 use Rattle.k_split.specs.declared.faults.KFault.{KFault}
 use Rattle.k_split.specs.Contents.{HasOldOrNew}

@@ -17,7 +17,7 @@ use Rattle.extent_words.specs.declared.Extent.{Extent}
 use Rattle.disk_lines.specs.declared.Inode.{Inode}
 use Rattle.disk_lines.specs.Names.{Rows}
 use Rattle.k_journal.specs.declared.batches.Entry.{Entry}
-use Rattle.k_plans.specs.View.{TablesView}
+use Rattle.k_log_plans.specs.k_plans.View.{TablesView}
 use Rattle.k_split.specs.Order.{IsInOrder, IsReady, view_of}
 use Rattle.k_rules.specs.Stands.{Stands}
 use Rattle.k_rules.specs.View.{View}

@@ -11,7 +11,7 @@ use Rattle.disk_rules.specs.Kept.{AreKept}
 use Rattle.disk_rules.specs.Live.{live_entries}
 use Rattle.disk_rules.specs.Placed.{block_at}
 use Rattle.disk_rules.specs.Volume.{extents, Volume}
-use Rattle.volume_uses.specs.Uses.{is_unused}
+use Rattle.k_log_plans.specs.volume_uses.Uses.{is_unused}
 use Rattle.k_rules.specs.Stands.{IsOldOrNew, Stands}
 
 -- The content of the image is that of the image before, or what w makes of the words before.

@@ -5,9 +5,9 @@ use Rattle.pm_words.specs.Powers.{Supply}
 use Rattle.disk_rules.specs.Placed.{AreDistinct, AreSingle}
 use Rattle.disk_rules.specs.Volume.{Volume, chain, extents}
 use Rattle.k_journal.specs.declared.batches.Entry.{Entry}
-use Rattle.k_land.specs.Maps.{AreApart}
-use Rattle.k_land.specs.Plans.{NewChain, blocks_of}
-use Rattle.k_map_plans.specs.Plans.{holes_row}
+use Rattle.k_log_plans.specs.k_land.Maps.{AreApart}
+use Rattle.k_log_plans.specs.k_land.Plans.{NewChain, blocks_of}
+use Rattle.k_log_plans.specs.k_map_plans.Plans.{holes_row}
 use Rattle.disk_places.specs.Places.{reserve}
 use Rattle.k_rules.specs.View.{View}
 use Rattle.map_rules.specs.Changes.{holes, IsFilled}
@@ -16,7 +16,7 @@ use Rattle.posix_types.specs.declared.item.Outcome.{Outcome}
 use Rattle.posix_types.specs.declared.reply.Errno.{Errno}
 use Rattle.posix_types.specs.declared.reply.Reply.{Reply}
 use Rattle.posix_words.specs.Outcomes.{answer}
-use Rattle.volume_uses.specs.Uses.{is_unused}
+use Rattle.k_log_plans.specs.volume_uses.Uses.{is_unused}
 use Rattle.k_split.specs.declared.faults.KFault.{KFault}
 use Rattle.k_split.specs.Answers.{IsOff}
 use Rattle.k_split.specs.MapChanges.{free_blocks_in, is_free_in, IsMapAnswer, IsMapCut, IsMapLanded, IsMapPlanned}

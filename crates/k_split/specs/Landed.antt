@@ -6,7 +6,7 @@ use Rattle.pm_words.specs.Powers.{is_on, Supply}
 use Rattle.disk_rules.specs.Volume.{Volume}
 use Rattle.k_journal.specs.Commits.{TakesAStep}
 use Rattle.k_journal.specs.declared.batches.Entry.{Entry}
-use Rattle.k_land.specs.Plans.{Turns}
+use Rattle.k_log_plans.specs.k_land.Plans.{Turns}
 use Rattle.k_rules.specs.Stands.{Stands}
 use Rattle.k_split.specs.declared.faults.KFault.{KFault}
 use Rattle.k_split.specs.Answers.{Changes}

@@ -14,15 +14,15 @@ use Rattle.extent_words.specs.Extents.{covers, disk_at, is_within}
 use Rattle.extent_words.specs.declared.Extent.{Extent}
 use Rattle.k_journal.specs.Commits.{TakesAStep}
 use Rattle.k_journal.specs.declared.batches.Entry.{Entry}
-use Rattle.k_land.specs.Plans.{NewChain, new_at}
-use Rattle.k_plans.specs.Free.{free_blocks}
-use Rattle.k_plans.specs.Switching.{IsMapPlan}
-use Rattle.k_plans.specs.Whole.{IsWhole}
+use Rattle.k_log_plans.specs.k_land.Plans.{NewChain, new_at}
+use Rattle.k_log_plans.specs.k_plans.Free.{free_blocks}
+use Rattle.k_log_plans.specs.k_plans.Switching.{IsMapPlan}
+use Rattle.k_log_plans.specs.k_plans.Whole.{IsWhole}
 use Rattle.k_rules.specs.Stands.{IsOldOrNew, Stands}
 use Rattle.k_rules.specs.View.{View}
 use Rattle.map_rules.specs.Changes.{given_up, IsMoved, IsPreallocated, IsSized}
 use Rattle.map_rules.specs.declared.moves.Move.{Move}
-use Rattle.volume_uses.specs.Uses.{is_unused}
+use Rattle.k_log_plans.specs.volume_uses.Uses.{is_unused}
 use Rattle.k_split.specs.declared.faults.KFault.{KFault}
 use Rattle.k_split.specs.Answers.{IsOff}
 use Rattle.k_split.specs.Order.{IsInOrder}

@@ -1,8 +1,8 @@
 -- The changes of names and nodes, each by its rows and by what it makes of the volume.
 use Rattle.std.specs.Prelude.{◌≡◌, ◌⊎◌, ℕ, Bool, List, Option, None, Some, Result, Ok, Err}
-use Rattle.k_plans.specs.Making.{IsMade}
-use Rattle.k_plans.specs.Removing.{IsRemoved, IsUnlinked}
-use Rattle.k_plans.specs.Renaming.{IsRenamed}
+use Rattle.k_log_plans.specs.k_plans.Making.{IsMade}
+use Rattle.k_log_plans.specs.k_plans.Removing.{IsRemoved, IsUnlinked}
+use Rattle.k_log_plans.specs.k_plans.Renaming.{IsRenamed}
 use Rattle.k_rules.specs.Changes.{dropped}
 use Rattle.k_rules.specs.Spaces.{volume_space}
 use Rattle.k_rules.specs.View.{View}

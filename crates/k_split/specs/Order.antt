@@ -6,8 +6,8 @@ use Rattle.disk_places.specs.Places.{is_data_block}
 use Rattle.extent_words.specs.Extents.{covers}
 use Rattle.disk_rules.specs.Volume.{Volume, extents}
 use Rattle.k_journal.specs.declared.batches.Entry.{Entry}
-use Rattle.k_plans.specs.View.{TablesView}
-use Rattle.k_plans.specs.Whole.{IsWhole}
+use Rattle.k_log_plans.specs.k_plans.View.{TablesView}
+use Rattle.k_log_plans.specs.k_plans.Whole.{IsWhole}
 use Rattle.k_rules.specs.Stands.{Stands}
 use Rattle.k_rules.specs.View.{View}
 

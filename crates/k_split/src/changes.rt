@@ -8,8 +8,8 @@ ghost use Rattle.k_split.specs.Landed.{IsPlanned, IsLanded};
 use crate::faults::KFault;
 use crate::state::KSplit;
 use k_journal::{Batch, Commit};
-use k_land::land;
-use k_plans::Tables;
+use k_log_plans::k_land::land;
+use k_log_plans::k_plans::Tables;
 use pm_lines::{Pm, Power};
 
 // Lands what is planned on the tables, and notes in `lost` that the power went.

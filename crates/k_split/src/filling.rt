@@ -1,7 +1,7 @@
 //! Holes of a file get blocks that read zeros.
 ghost use Rattle.std.specs.Prelude.{◌≡◌, ◌≤◌, ◌+◌, ◌*◌, ◌^◌, ◌∷◌, [], length, true, false, OnOk, OnErr};
 ghost use Rattle.disk_rules.specs.Volume.{Volume};
-ghost use Rattle.k_map_plans.specs.Plans.{IsLiveFile};
+ghost use Rattle.k_log_plans.specs.k_map_plans.Plans.{IsLiveFile};
 ghost use Rattle.pm_words.specs.Powers.{is_on, Steps};
 ghost use Rattle.k_split.specs.Answers.{IsPaid};
 ghost use Rattle.k_split.specs.Filling.{fill_row, hole_count, IsFillAnswer, IsFillLanded, IsFillPlanned};
@@ -11,9 +11,9 @@ use crate::mapping::land_maps_plan;
 use crate::state::KSplit;
 use block_bytes::zero_blocks;
 use k_journal::Batch;
-use k_land::NewMap;
-use k_map_plans::{may_fill, plan_fill};
-use k_plans::Tables;
+use k_log_plans::k_land::NewMap;
+use k_log_plans::k_map_plans::{may_fill, plan_fill};
+use k_log_plans::k_plans::Tables;
 use pm_lines::{Pm, Power};
 use std::alloc::Global;
 use std::slice;

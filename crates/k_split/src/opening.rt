@@ -16,8 +16,8 @@ ghost use Rattle.k_split.specs.Order.{IsOpened};
 use crate::state::KSplit;
 use image_layout::Geometry;
 use k_journal::Batch;
-use k_plans::Tables;
-use k_reading::{fresh_image, read_base, read_inodes, read_maps, read_names};
+use k_log_plans::k_plans::Tables;
+use k_log_plans::k_reading::{fresh_image, read_base, read_inodes, read_maps, read_names};
 use pm_lines::Pm;
 use std::alloc::{AllocError, Global};
 

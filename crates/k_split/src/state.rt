@@ -1,13 +1,13 @@
 //! The state of K-Split, and what it is asked for without a look at a path.
 ghost use Rattle.std.specs.Prelude.{◌≡◌, false, IsTrue, ◌↔◌, ◌<◌};
 ghost use Rattle.disk_lines.specs.Names.{names_of};
-ghost use Rattle.k_plans.specs.View.{node_at};
+ghost use Rattle.k_log_plans.specs.k_plans.View.{node_at};
 ghost use Rattle.k_split.specs.Order.{IsInOrder};
 
 use disk_lines::Inode;
 use image_layout::Geometry;
 use k_journal::Batch;
-use k_plans::Tables;
+use k_log_plans::k_plans::Tables;
 use pm_lines::Pm;
 use std::marker::Model;
 

@@ -17,18 +17,18 @@ use Rattle.disk_lines.specs.Names.{names_of}
 use Rattle.disk_lines.specs.Lines.{NameRow}
 use Rattle.disk_rules.specs.Reading.{node_set, Reads}
 use Rattle.disk_rules.specs.Volume.{free_inode, inode, Volume}
-use Rattle.k_plans.specs.Making.{IsMade, kind_of}
-use Rattle.k_plans.specs.Removing.{IsRemoved, IsUnlinked}
-use Rattle.k_plans.specs.Renaming.{IsRenamed, renamed_over}
-use Rattle.k_plans.specs.View.{node_at}
-use Rattle.k_plans.specs.Whole.{IsWhole}
+use Rattle.k_split.specs.k_plans.Making.{IsMade, kind_of}
+use Rattle.k_split.specs.k_plans.Removing.{IsRemoved, IsUnlinked}
+use Rattle.k_split.specs.k_plans.Renaming.{IsRenamed, renamed_over}
+use Rattle.k_split.specs.k_plans.View.{node_at}
+use Rattle.k_split.specs.k_plans.Whole.{IsWhole}
 use Rattle.k_rules.specs.Changes.{dropped, gone_node, new_node, renamed_over_directory, renamed_over_file}
 use Rattle.k_rules.specs.Spaces.{is_directory_in, is_free}
 use Rattle.k_rules.specs.Stands.{IsOldOrNew, Stands}
 use Rattle.k_rules.specs.View.{View}
-use Rattle.volume_changes.specs.CallLaws.{row_to}
-use Rattle.volume_changes.specs.Changes.{MayDrop}
-use Rattle.k_tables.specs.declared.removing.Entry.{Entry}
+use Rattle.k_split.specs.volume_changes.CallLaws.{row_to}
+use Rattle.k_split.specs.volume_changes.Changes.{MayDrop}
+use Rattle.k_split.specs.k_tables.declared.removing.Entry.{Entry}
 use Rattle.posix_types.specs.declared.item.Outcome.{Outcome}
 use Rattle.k_split.specs.declared.faults.KFault.{KFault}
 use Rattle.k_split.specs.Answers.{Changes, IsAnswer, IsCut, IsDone}

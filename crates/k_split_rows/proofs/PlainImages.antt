@@ -26,8 +26,8 @@ use Rattle.volume_facts.specs.Footprint.{SameLog}
 use Rattle.volume_facts.specs.FootprintLaws.{entry_in-same}
 use Rattle.volume_facts.specs.ImageLaws.{journaled-other}
 use Rattle.volume_facts.specs.Lists.{count_by-agree, filter_map-agree, sum_by-agree}
-use Rattle.image_facts.specs.FreshLaws.{filter_map-none, owners-none}
-use Rattle.image_facts.specs.ViewLaws.{head_word, sound-head, sound-targets}
+use Rattle.k_split.specs.image_facts.FreshLaws.{filter_map-none, owners-none}
+use Rattle.k_split.specs.image_facts.ViewLaws.{head_word, sound-head, sound-targets}
 use Rattle.k_rules.specs.Stands.{IsOldOrNew}
 use Rattle.k_split_rows.specs.Plain.{HasBlankLog, HasNoData, IsPlainAs}
 

@@ -21,10 +21,10 @@ use Rattle.disk_rules.specs.Reading.{Reads}
 use Rattle.disk_rules.specs.Rules.{geometry_of, IsChecked}
 use Rattle.disk_rules.specs.Volume.{volume, Volume}
 use Rattle.volume_facts.specs.ReadingLaws.{reads-volume}
-use Rattle.image_facts.specs.CheckedLaws.{checked-parts}
-use Rattle.image_facts.specs.FreshLaws.{chain-fresh, extents-fresh, fresh_cases, fresh-checked_as, fresh-log, inode-fresh, unset-log, zeros-no_entry}
-use Rattle.image_facts.specs.FreshLines.{fresh-commit, fresh-zeros, geometry_of-fresh, journaled-fresh}
-use Rattle.image_facts.specs.ViewLaws.{checked_as-same_view, sound-head}
+use Rattle.k_split.specs.image_facts.CheckedLaws.{checked-parts}
+use Rattle.k_split.specs.image_facts.FreshLaws.{chain-fresh, extents-fresh, fresh_cases, fresh-checked_as, fresh-log, inode-fresh, unset-log, zeros-no_entry}
+use Rattle.k_split.specs.image_facts.FreshLines.{fresh-commit, fresh-zeros, geometry_of-fresh, journaled-fresh}
+use Rattle.k_split.specs.image_facts.ViewLaws.{checked_as-same_view, sound-head}
 use Rattle.k_journal.specs.Recoveries.{KeepsView}
 use Rattle.k_rules.specs.View.{View}
 use Rattle.k_split.specs.Order.{IsOpened}

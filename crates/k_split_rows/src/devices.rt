@@ -3,7 +3,7 @@ ghost use Rattle.std.specs.Prelude.{◌≡◌, ◌*◌, true, length, IfOk, IsTr
 ghost use Rattle.disk_rules.specs.Volume.{Volume};
 ghost use Rattle.path_spelling.specs.Spelling.{AreSpelled};
 ghost use Rattle.pm_words.specs.Words.{word_at};
-ghost use Rattle.volume_changes.specs.Changes.{MayDrop};
+ghost use Rattle.k_split.specs.volume_changes.Changes.{MayDrop};
 ghost use Rattle.k_split_rows.specs.Plain.{IsLeft, IsPlain, IsPlainAs};
 ghost use Rattle.k_split_rows.specs.Rows.{IsSpelledCall};
 

@@ -20,8 +20,8 @@ use Rattle.disk_rules.specs.Rules.{AreApart}
 use Rattle.disk_rules.specs.Volume.{extents, inode, Volume}
 use Rattle.list_facts.specs.Filters.{filter-agree, filter-both, filter-In, In-filter}
 use Rattle.list_facts.specs.Members.{In}
-use Rattle.world_promise.specs.JobLaws.{live_file}
-use Rattle.world_promise.specs.Latest.{latest-In, latest-most, latest-none}
+use Rattle.world_runs.specs.world_promise.JobLaws.{live_file}
+use Rattle.world_runs.specs.world_promise.Latest.{latest-In, latest-most, latest-none}
 use Rattle.world_runs.specs.Relinks.{Relinks}
 use Rattle.live_facts.specs.Laws.{CarriesOutRelinked, HaveSameFound}
 use Rattle.live_facts.specs.Logs.{AreSound, HasSameFiles, IsNext}

@@ -12,7 +12,7 @@ use Rattle.disk_rules.specs.Volume.{inode, Volume}
 use Rattle.extent_words.specs.Extents.{disk_at, is_within}
 use Rattle.list_facts.specs.Filters.{filter-agree, filter-In, In-filter}
 use Rattle.list_facts.specs.Members.{In}
-use Rattle.world_promise.specs.Latest.{latest-In}
+use Rattle.world_runs.specs.world_promise.Latest.{latest-In}
 use Rattle.world_runs.specs.Restages.{Restages}
 use Rattle.live_facts.specs.Laws.{KeepsFilesRestaged}
 use Rattle.live_facts.specs.Logs.{HasSameFiles, IsDeadIn}

@@ -19,9 +19,9 @@ use Rattle.fsync_relink.proofs.OtherLaws.{leaves-others}
 use Rattle.fsync_relink.specs.Logged.{HasSameContent, IsLogged}
 use Rattle.fsync_relink.specs.Others.{GoesOn, HasPublishedLog, IsPublishedIn, KeepsRest}
 use Rattle.fsync_relink.specs.Publishes.{MayPublish}
-use Rattle.k_map_plans.specs.Plans.{IsLiveFile}
+use Rattle.staging_files.specs.k_map_plans.Plans.{IsLiveFile}
 use Rattle.k_rules.specs.View.{View}
-use Rattle.k_split.specs.declared.faults.KFault.{KFault}
+use Rattle.staging_files.specs.k_split.declared.faults.KFault.{KFault}
 use Rattle.list_facts.specs.Members.{In}
 use Rattle.volume_facts.specs.Footprint.{SameLog}
 use Rattle.volume_facts.specs.FootprintLaws.{live_entries-same}

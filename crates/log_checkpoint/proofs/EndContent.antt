@@ -22,28 +22,28 @@ use Rattle.disk_rules.specs.Volume.{Volume}
 use Rattle.file_table.specs.Files.{Files}
 use Rattle.fsync_relink.specs.Others.{GoesOn, KeepsRest}
 use Rattle.k_journal.specs.declared.outcomes.Commit.{Commit}
-use Rattle.k_map_plans.specs.Plans.{IsStagingFile}
-use Rattle.k_plans.specs.Whole.{IsWhole}
+use Rattle.staging_files.specs.k_map_plans.Plans.{IsStagingFile}
+use Rattle.staging_files.specs.k_plans.Whole.{IsWhole}
 use Rattle.k_rules.specs.Stands.{IsOldOrNew, Stands}
 use Rattle.k_rules.specs.View.{View}
-use Rattle.k_split.specs.Answers.{Changes}
-use Rattle.k_split.specs.Contents.{AreOwnBlocks, HasOldOrNew, HaveOldOrNew}
-use Rattle.k_split.specs.declared.faults.KFault.{KFault}
-use Rattle.k_split.specs.Laps.{HasNextLap, IsBaseAnswer, next_base}
-use Rattle.k_split.specs.Order.{IsInOrder}
-use Rattle.k_split.specs.MapChanges.{ChangesMaps, IsGiveUpAnswer, IsGivenUpWith}
+use Rattle.staging_files.specs.k_split.Answers.{Changes}
+use Rattle.staging_files.specs.k_split.Contents.{AreOwnBlocks, HasOldOrNew, HaveOldOrNew}
+use Rattle.staging_files.specs.k_split.declared.faults.KFault.{KFault}
+use Rattle.staging_files.specs.k_split.Laps.{HasNextLap, IsBaseAnswer, next_base}
+use Rattle.staging_files.specs.k_split.Order.{IsInOrder}
+use Rattle.staging_files.specs.k_split.MapChanges.{ChangesMaps, IsGiveUpAnswer, IsGivenUpWith}
 use Rattle.list_facts.specs.Filters.{filter-In, filter_map-In, range-In}
 use Rattle.list_facts.specs.Members.{In}
-use Rattle.live_facts.proofs.RestagedLaws.{keeps-files}
-use Rattle.live_facts.specs.Logs.{IsDeadIn}
+use Rattle.fsync_relink.proofs.live_facts_proofs.RestagedLaws.{keeps-files}
+use Rattle.fsync_relink.specs.live_facts.Logs.{IsDeadIn}
 use Rattle.staging_files.proofs.GiveUpLaws.{bared-volume, staging-file}
 use Rattle.staging_files.specs.GivesUp.{AreGivenUp}
 use Rattle.staging_files.specs.Keeps.{Staged}
 use Rattle.volume_facts.specs.Footprint.{SameLog}
 use Rattle.volume_facts.specs.FootprintLaws.{content-own, live_entries-same}
-use Rattle.world_relinks.proofs.StagingLaws.{keeps-content-given_up, restages-given_up, stays-dead}
-use Rattle.world_relinks.proofs.WorldLaws.{sane-in-order}
-use Rattle.world_relinks.specs.Images.{IsRestaged}
+use Rattle.fsync_relink.proofs.world_relinks_proofs.StagingLaws.{keeps-content-given_up, restages-given_up, stays-dead}
+use Rattle.fsync_relink.proofs.world_relinks_proofs.WorldLaws.{sane-in-order}
+use Rattle.fsync_relink.specs.world_relinks.Images.{IsRestaged}
 use Rattle.log_checkpoint.specs.Gathers.{AreAllDone, IsGatherAnswer, IsLapAnswer, MayGather}
 use Rattle.log_checkpoint.specs.Logged.{KeepsLoggedContent}
 use Rattle.log_checkpoint.proofs.Content.{all-logged, done-content, IsLoggedFrom, no-later-same, no-later-words, Shows, ShowsSame, up-to-content}

@@ -6,13 +6,13 @@ use Rattle.extent_facts.specs.Covers.{covers-disk_at, disk_at-covers}
 use Rattle.file_table.specs.Files.{Files}
 use Rattle.fsync_relink.specs.Others.{GoesOn, KeepsRest}
 use Rattle.k_journal.specs.declared.outcomes.Commit.{Commit}
-use Rattle.k_map_plans.specs.Plans.{IsStagingFile}
+use Rattle.staging_files.specs.k_map_plans.Plans.{IsStagingFile}
 use Rattle.k_rules.specs.View.{View}
-use Rattle.k_split.specs.Laps.{HasNextLap, next_base}
+use Rattle.staging_files.specs.k_split.Laps.{HasNextLap, next_base}
 use Rattle.staging_files.proofs.GiveUpLaws.{staging-file}
 use Rattle.staging_files.specs.GivesUp.{AllStagedSingle, AreGivenUp}
 use Rattle.staging_files.specs.Keeps.{Staged}
-use Rattle.world_relinks.proofs.RelinkLaws.{has-chain}
+use Rattle.fsync_relink.proofs.world_relinks_proofs.RelinkLaws.{has-chain}
 use Rattle.log_checkpoint.specs.Gathers.{AreAllDone, IsGatherAnswer, IsLapAnswer}
 
 -- ---- what it asks for, once all files are published

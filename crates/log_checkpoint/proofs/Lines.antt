@@ -14,9 +14,9 @@ use Rattle.fsync_relink.proofs.WayLaws.{steps-within}
 use Rattle.fsync_relink.specs.Others.{GoesOn, KeepsRest, LeavesRoom}
 use Rattle.fsync_relink.specs.Publishes.{IsCarriedOut, IsPublishDone, MayPublish}
 use Rattle.k_journal.specs.declared.outcomes.Commit.{Commit}
-use Rattle.k_map_plans.specs.Plans.{IsLiveFile}
+use Rattle.staging_files.specs.k_map_plans.Plans.{IsLiveFile}
 use Rattle.k_rules.specs.View.{View}
-use Rattle.k_split.specs.MapChanges.{free_blocks_in}
+use Rattle.staging_files.specs.k_split.MapChanges.{free_blocks_in}
 use Rattle.pm_words.specs.Powers.{Steps, Supply}
 use Rattle.log_checkpoint.specs.Gathers.{AreCleared, AreDone, file_at, IsLineDone, IsPublishedLine, MayGather}
 use Rattle.log_checkpoint.proofs.Sums.{runs_from, runs-step, runs-within}

@@ -10,11 +10,11 @@ use Rattle.file_table.specs.Files.{ChangesFile, Files, runs_in, size_in}
 use Rattle.fsync_relink.specs.Others.{AllApart, GoesOn, KeepsRest}
 use Rattle.fsync_relink.specs.Publishes.{IsPublishDone, IsPublishStopped, MayPublish}
 use Rattle.k_journal.specs.declared.outcomes.Commit.{Commit}
-use Rattle.k_map_plans.specs.Plans.{IsLiveFile}
+use Rattle.staging_files.specs.k_map_plans.Plans.{IsLiveFile}
 use Rattle.k_rules.specs.View.{View}
-use Rattle.k_split.specs.declared.faults.KFault.{KFault}
-use Rattle.k_split.specs.Laps.{IsBaseAnswer, next_base}
-use Rattle.k_split.specs.MapChanges.{free_blocks_in}
+use Rattle.staging_files.specs.k_split.declared.faults.KFault.{KFault}
+use Rattle.staging_files.specs.k_split.Laps.{IsBaseAnswer, next_base}
+use Rattle.staging_files.specs.k_split.MapChanges.{free_blocks_in}
 use Rattle.staging_files.specs.GivesUp.{AreCutOff, AreGivenUp, AreSomeGivenUp, nothing_staged}
 use Rattle.staging_files.specs.Keeps.{Staged}
 

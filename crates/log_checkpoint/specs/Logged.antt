@@ -9,7 +9,7 @@ use Rattle.disk_rules.specs.Rules.{IsOfNoLater}
 use Rattle.disk_rules.specs.Volume.{Volume}
 use Rattle.file_table.specs.Files.{Files, runs_in, size_in}
 use Rattle.fsync_relink.specs.Logged.{IsLogged}
-use Rattle.k_map_plans.specs.Plans.{IsLiveFile}
+use Rattle.staging_files.specs.k_map_plans.Plans.{IsLiveFile}
 use Rattle.list_facts.specs.Members.{In}
 
 -- THE LOG HOLDS THE RUNS OF ALL FILES: of each file just its runs are live, and it has the size of the table; no entry of

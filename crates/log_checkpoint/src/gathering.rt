@@ -2,7 +2,7 @@
 ghost use Rattle.std.specs.Prelude.{◌≡◌, ◌+◌, ◌*◌, ◌^◌, true, false};
 ghost use Rattle.fsync_relink.specs.Others.{GoesOn};
 ghost use Rattle.fsync_relink.specs.Publishes.{IsPublishPaid};
-ghost use Rattle.k_split.specs.Laps.{HasNextLap};
+ghost use Rattle.staging_files.specs.k_split.Laps.{HasNextLap};
 ghost use Rattle.pm_words.specs.Images.{Follows};
 ghost use Rattle.pm_words.specs.Powers.{is_on, Steps};
 ghost use Rattle.staging_files.specs.GivesUp.{AllStagedSingle};
@@ -12,9 +12,9 @@ ghost use Rattle.log_checkpoint.specs.Logged.{KeepsLoggedContent};
 use crate::publishing::publish_all;
 use file_table::FileTable;
 use k_journal::Commit;
-use k_split::{KSplit, images_have_the_old_or_the_new_content};
 use pm_lines::Power;
 use staging_files::Staging;
+use staging_files::k_split::{KSplit, images_have_the_old_or_the_new_content};
 use std::alloc::{AllocError, Global};
 
 // The staging files give up their blocks, and a new lap begins.

@@ -3,7 +3,7 @@ ghost use Rattle.std.specs.Prelude.{◌≡◌, ◌<◌, ◌+◌, ◌*◌, ◌^�
 ghost use Rattle.file_table.specs.Files.{runs_in, size_in};
 ghost use Rattle.fsync_relink.specs.Others.{GoesOn};
 ghost use Rattle.fsync_relink.specs.Publishes.{IsPublishPaid, MayPublish};
-ghost use Rattle.k_map_plans.specs.Plans.{IsLiveFile};
+ghost use Rattle.staging_files.specs.k_map_plans.Plans.{IsLiveFile};
 ghost use Rattle.pm_words.specs.Powers.{is_on, Steps};
 ghost use Rattle.log_checkpoint.specs.Gathers.{IsPublishAllAnswer, IsPublishedLine, MayGather, file_at, file_count, total_runs};
 
@@ -11,8 +11,8 @@ use disk_lines::Kind;
 use file_table::FileTable;
 use fsync_relink::publish_runs;
 use k_journal::Commit;
-use k_split::KSplit;
 use pm_lines::Power;
+use staging_files::k_split::KSplit;
 use std::alloc::{AllocError, Global};
 
 // Whether a file has this line.

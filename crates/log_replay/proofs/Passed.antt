@@ -17,15 +17,15 @@ use Rattle.disk_rules.specs.Volume.{chain, extents, Volume}
 use Rattle.extent_words.specs.Extents.{covers, IsCanonical}
 use Rattle.k_rules.specs.Stands.{IsOldOrNew}
 use Rattle.k_rules.specs.View.{View}
-use Rattle.k_split.specs.MapChanges.{free_blocks_in, is_free_in}
-use Rattle.k_split.specs.Order.{IsInOrder}
+use Rattle.k_mount.specs.k_split.MapChanges.{free_blocks_in, is_free_in}
+use Rattle.k_mount.specs.k_split.Order.{IsInOrder}
 use Rattle.k_mount.specs.Images.{IsHeaded}
-use Rattle.live_facts.proofs.FoundLaws.{valid-same}
+use Rattle.replay_facts.proofs.live_facts_proofs.FoundLaws.{valid-same}
 use Rattle.replay_facts.proofs.Heads.{headed-next}
 use Rattle.replay_facts.proofs.Kept.{log-same}
 use Rattle.volume_facts.specs.Footprint.{SameLog}
 use Rattle.volume_facts.specs.Lists.{count_by-agree}
-use Rattle.volume_uses.specs.Uses.{is_unused}
+use Rattle.replay_facts.specs.volume_uses.Uses.{is_unused}
 use Rattle.world_relinks.proofs.ImageLaws.{same-log}
 use Rattle.world_relinks.proofs.RelinkLaws.{has-chain}
 use Rattle.world_relinks.proofs.WorldLaws.{free-in_data, free-unmapped}

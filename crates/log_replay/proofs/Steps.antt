@@ -31,28 +31,28 @@ use Rattle.extent_words.specs.Extents.{disk_at}
 use Rattle.extent_words.specs.Moves.{IsMapped}
 use Rattle.list_facts.specs.Filters.{filter-In, filter_map-In}
 use Rattle.list_facts.specs.Members.{In}
-use Rattle.image_facts.specs.CheckedLaws.{checked-parts}
-use Rattle.k_map_plans.specs.Plans.{MayMove}
+use Rattle.replay_facts.specs.image_facts.CheckedLaws.{checked-parts}
+use Rattle.k_mount.specs.k_map_plans.Plans.{MayMove}
 use Rattle.k_mount.specs.Images.{IsHeaded}
 use Rattle.k_mount.specs.Sheds.{IsAtRest}
 use Rattle.k_mount.specs.Whole.{IsWhole}
 use Rattle.k_rules.specs.Stands.{IsOldOrNew}
 use Rattle.k_rules.specs.View.{View}
-use Rattle.k_split.specs.Answers.{IsPaid}
-use Rattle.k_split.specs.MapChanges.{ChangesMaps, free_blocks_in, is_free_in, IsMovedSingle, IsMovedWith, IsRelinkAnswer}
-use Rattle.k_split.specs.declared.faults.KFault.{KFault}
-use Rattle.map_facts.specs.Moves.{move_for}
+use Rattle.k_mount.specs.k_split.Answers.{IsPaid}
+use Rattle.k_mount.specs.k_split.MapChanges.{ChangesMaps, free_blocks_in, is_free_in, IsMovedSingle, IsMovedWith, IsRelinkAnswer}
+use Rattle.k_mount.specs.k_split.declared.faults.KFault.{KFault}
+use Rattle.world_relinks.specs.map_facts.Moves.{move_for}
 use Rattle.volume_facts.specs.Footprint.{SameLog}
 use Rattle.volume_facts.specs.FootprintLaws.{live_entries-same}
-use Rattle.world_log.specs.LogRules.{live_parts}
-use Rattle.world_promise.specs.Landed.{kind_file}
-use Rattle.live_facts.proofs.CheckedLaws.{sound-checked}
+use Rattle.replay_facts.specs.world_log.LogRules.{live_parts}
+use Rattle.replay_facts.specs.world_promise.Landed.{kind_file}
+use Rattle.replay_facts.proofs.live_facts_proofs.CheckedLaws.{sound-checked}
 use Rattle.world_relinks.proofs.RelinkLaws.{count-same}
 use Rattle.world_relinks.proofs.WorldLaws.{gives-relinks, keeps-content, relink-takes_one}
 use Rattle.world_relinks.specs.Laws.{IsRelinkOf}
-use Rattle.live_facts.specs.Logs.{AreSound, CarriesOut, HasSameFiles, IsNext}
+use Rattle.replay_facts.specs.live_facts.Logs.{AreSound, CarriesOut, HasSameFiles, IsNext}
 use Rattle.world_relinks.specs.Images.{IsCarried}
-use Rattle.world_runs.specs.Relinks.{SameLine}
+use Rattle.replay_facts.specs.world_runs.Relinks.{SameLine}
 use Rattle.log_replay.proofs.Passed.{free-unnamed}
 use Rattle.log_replay.specs.Replays.{IsReplayAnswer, IsReplayed, IsReplayPaid, live_in, MayReplay, seen, ShowsTheSame, stopped_by}
 use Rattle.replay_facts.proofs.Heads.{headed-next}

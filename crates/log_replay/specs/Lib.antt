@@ -1,4 +1,5 @@
 pub mod Replays
-pub use Rattle.k_map_plans.specs.Plans
+pub use Rattle.k_mount.specs.k_map_plans.Plans
 pub use Rattle.replay_facts.specs.Orders
-pub use Rattle.world_promise.specs.Landed
+pub use Rattle.replay_facts.specs.world_promise.Landed
+pub use Rattle.k_mount.specs as k_mount

@@ -15,10 +15,10 @@ use Rattle.disk_rules.specs.Volume.{inode}
 use Rattle.k_journal.specs.declared.outcomes.Commit.{Commit}
 use Rattle.k_mount.specs.Sheds.{IsAtRest}
 use Rattle.k_rules.specs.View.{View}
-use Rattle.k_split.specs.declared.faults.KFault.{KFault}
+use Rattle.k_mount.specs.k_split.declared.faults.KFault.{KFault}
 use Rattle.volume_facts.specs.Footprint.{SameLog}
-use Rattle.live_facts.specs.Logs.{HasSameFiles}
-use Rattle.world_runs.specs.Relinks.{SameLine}
+use Rattle.replay_facts.specs.live_facts.Logs.{HasSameFiles}
+use Rattle.replay_facts.specs.world_runs.Relinks.{SameLine}
 use Rattle.replay_facts.specs.Orders.{AreInOrder}
 
 -- what K-Split's device shows through its journal, and the entries of its log that are live

@@ -13,5 +13,6 @@
 mod ordering;
 mod replays;
 
+pub use k_mount;
 pub use ordering::in_order;
 pub use replays::replay;

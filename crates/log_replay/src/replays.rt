@@ -1,6 +1,6 @@
 //! The live entries are carried out.
 ghost use Rattle.std.specs.Prelude.{◌≡◌, ◌*◌, ◌^◌, true, length};
-ghost use Rattle.map_facts.specs.Moves.{move_for};
+ghost use Rattle.world_relinks.specs.map_facts.Moves.{move_for};
 ghost use Rattle.pm_words.specs.Images.{Follows};
 ghost use Rattle.pm_words.specs.Powers.{is_on, Steps};
 ghost use Rattle.k_mount.specs.Sheds.{IsSameDevice};
@@ -8,7 +8,7 @@ ghost use Rattle.log_replay.specs.Replays.{IsReplayAnswer, IsReplayPaid, MayRepl
 
 use disk_lines::Draft;
 use k_journal::Commit;
-use k_split::{KFault, KSplit};
+use k_mount::k_split::{KFault, KSplit};
 use map_rules::Move;
 use pm_lines::Power;
 use std::alloc::{AllocError, Global};

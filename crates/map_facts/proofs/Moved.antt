@@ -21,8 +21,8 @@ use Rattle.chain_facts.specs.ChainLaws.{length-blocks_from}
 use Rattle.volume_facts.specs.Changes.{chain-set_other, extents-set_other, extents-set_same, inode-set_other, inode-set_same}
 use Rattle.volume_maps.specs.Lengths.{chain-left, chain-linked}
 use Rattle.volume_maps.specs.Shorts.{AreBelow}
-use Rattle.world_rules.specs.Stands.{IsSane}
-use Rattle.world_runs.specs.Relinks.{Relinks, SameLine}
+use Rattle.world_room.specs.world_rules.Stands.{IsSane}
+use Rattle.world_room.specs.world_runs.Relinks.{Relinks, SameLine}
 use Rattle.world_room.specs.Laws.{GrowsLittle}
 use Rattle.map_facts.specs.Moves.{HasChains, move_for, NamesTwo}
 

@@ -10,9 +10,9 @@ use Rattle.disk_rules.specs.Content.{byte_in}
 use Rattle.disk_rules.specs.Kept.{AreKept}
 use Rattle.disk_rules.specs.Rules.{file_blocks_of, IsNamedOnce}
 use Rattle.disk_rules.specs.Volume.{extents, inode, Volume}
-use Rattle.name_facts.specs.KeptLaws.{HasAllLines}
-use Rattle.volume_uses.specs.OwnerLaws.{one_owner}
-use Rattle.volume_uses.specs.PoolLaws.{covered-in_data}
+use Rattle.world_room.specs.name_facts.KeptLaws.{HasAllLines}
+use Rattle.world_room.specs.volume_uses.OwnerLaws.{one_owner}
+use Rattle.world_room.specs.volume_uses.PoolLaws.{covered-in_data}
 use Rattle.map_facts.specs.Bytes.{HasOldOrNewBytes, own_byte}
 
 module _ (v : Volume) (ino first : ℕ) (bytes : List ℕ) (before image : Words) (kept : AreKept v) (lines : HasAllLines v)

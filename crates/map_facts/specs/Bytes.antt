@@ -6,7 +6,7 @@ use Rattle.extent_words.specs.Extents.{disk_at}
 use Rattle.disk_rules.specs.Content.{byte_in}
 use Rattle.disk_rules.specs.Kept.{AreKept}
 use Rattle.disk_rules.specs.Volume.{extents, Volume}
-use Rattle.name_facts.specs.KeptLaws.{HasAllLines}
+use Rattle.world_room.specs.name_facts.KeptLaws.{HasAllLines}
 
 -- byte p of an inode, where the words are these; 0 of a hole
 abbrev pub own_byte : Volume → Words → ℕ → ℕ → ℕ

@@ -11,8 +11,8 @@ use Rattle.disk_rules.specs.Reading.{Reads}
 use Rattle.disk_rules.specs.Volume.{chain, extents, inode, Volume}
 use Rattle.map_rules.specs.declared.moves.Move.{Move}
 use Rattle.map_rules.specs.Changes.{IsMoved}
-use Rattle.world_rules.specs.Stands.{IsSane}
-use Rattle.world_runs.specs.Relinks.{Relinks}
+use Rattle.world_room.specs.world_rules.Stands.{IsSane}
+use Rattle.world_room.specs.world_runs.Relinks.{Relinks}
 use Rattle.world_room.specs.Laws.{GrowsLittle}
 
 -- the move that carries out an entry, with the size that the file has then

@@ -19,7 +19,7 @@ use Rattle.file_reads.specs.Reads.{block_in, block_of, bytes_in}
 use Rattle.list_facts.specs.Filters.{filter-both, filter-In, filter-more, filter-same}
 use Rattle.posix_words.specs.Bytes.{bytes_from}
 use Rattle.world_promise.specs.Latest.{Consecutive-between, latest-append_last, latest-In}
-use Rattle.world_rules.specs.Stands.{Consecutive, entries_of, LogStands}
+use Rattle.world_promise.specs.world_rules.Stands.{Consecutive, entries_of, LogStands}
 use Rattle.overlay_facts.specs.Laws.{LaysBeside, LaysEntry, NothingIsLaid, OverlayIsLog, OverlayReadsFile}
 use Rattle.overlay_facts.specs.Overlays.{IsOverlayOf, run_of}
 

@@ -9,7 +9,7 @@ use Rattle.file_overlay.specs.declared.runs.Run.{Run}
 use Rattle.file_reads.specs.Reads.{block_in, bytes_in}
 use Rattle.posix_words.specs.Bytes.{bytes_from}
 use Rattle.world_promise.specs.Latest.{AreBelow}
-use Rattle.world_rules.specs.Stands.{entries_of, FileStands, LogStands}
+use Rattle.world_promise.specs.world_rules.Stands.{entries_of, FileStands, LogStands}
 use Rattle.overlay_facts.specs.Overlays.{IsOverlayOf, run_of}
 
 -- What lies over the map is what the log says: each block of the file is the same by both.

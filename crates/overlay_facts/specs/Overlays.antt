@@ -4,7 +4,7 @@ use Rattle.disk_lines.specs.declared.Draft.{Draft}
 use Rattle.disk_rules.specs.Content.{size_of}
 use Rattle.disk_rules.specs.Volume.{Volume}
 use Rattle.file_overlay.specs.declared.runs.Run.{Run}
-use Rattle.world_rules.specs.Stands.{entries_of}
+use Rattle.world_promise.specs.world_rules.Stands.{entries_of}
 
 -- the run of an entry
 abbrev pub run_of : Draft → Run

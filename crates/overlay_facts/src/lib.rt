@@ -18,3 +18,5 @@ pub fn the_overlay_is_the_log()
     ensures own { LaysEntry }
     ensures others { LaysBeside }
 {}
+
+pub use file_reads;

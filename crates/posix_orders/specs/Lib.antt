@@ -6,3 +6,4 @@ pub mod Counted
 pub mod Leaves
 pub mod Rows
 pub mod Laws
+pub use Rattle.posix_frames.specs as posix_frames

@@ -6,8 +6,8 @@ use Rattle.file_overlay.specs.declared.runs.Run.{Run}
 use Rattle.file_overlay.specs.Runs.{Overlaid}
 use Rattle.k_journal.specs.declared.outcomes.Commit.{Commit}
 use Rattle.k_rules.specs.View.{View}
-use Rattle.k_split.specs.declared.faults.KFault.{KFault}
-use Rattle.k_split.specs.MapChanges.{IsMovedWith, IsSizedWith}
+use Rattle.k_map_calls.specs.k_split.declared.faults.KFault.{KFault}
+use Rattle.k_map_calls.specs.k_split.MapChanges.{IsMovedWith, IsSizedWith}
 use Rattle.k_map_calls.specs.Calls.{IsFresh}
 use Rattle.k_map_calls.proofs.Lefts.{map-left}
 use Rattle.fsync_relink.specs.Publishes.{AreRelinked, IsPublishAnswer, IsPublishDone, IsPublishStopped, IsRelinkedUpTo, move_of, size_before}

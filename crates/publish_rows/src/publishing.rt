@@ -7,8 +7,8 @@ use crate::asking::may_publish;
 use file_overlay::{Overlay, Run};
 use fsync_relink::publish;
 use k_journal::Commit;
+use k_map_calls::k_split::KSplit;
 use k_map_calls::{RunError, opened};
-use k_split::KSplit;
 use pm_lines::{Pm, Power};
 use std::alloc::Global;
 

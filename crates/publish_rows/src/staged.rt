@@ -6,8 +6,8 @@ use crate::publishing::Three;
 use disk_lines::Draft;
 use file_overlay::Run;
 use image_layout::Geometry;
+use k_map_calls::k_split::KSplit;
 use k_map_calls::{MapCall, Put, Reply, RunError, begun, left, made};
-use k_split::KSplit;
 use oplog_entry::encode;
 use std::alloc::Global;
 

@@ -11,7 +11,7 @@ use Rattle.disk_rules.specs.Placed.{block_at, IsOutside}
 use Rattle.disk_rules.specs.Reading.{Reads}
 use Rattle.disk_rules.specs.Rules.{geometry_of, HasTarget}
 use Rattle.disk_rules.specs.Volume.{Volume}
-use Rattle.image_facts.specs.ViewLaws.{head_word, sound-targets}
+use Rattle.world_images.specs.image_facts.ViewLaws.{head_word, sound-targets}
 use Rattle.k_rules.specs.Stands.{IsOldOrNew}
 use Rattle.world_images.specs.Images.{IsHeaded}
 

@@ -14,7 +14,7 @@ use Rattle.pm_words.specs.Words.{Words}
 use Rattle.list_facts.specs.Filters.{filter-In, filter_map-In, range-In}
 use Rattle.list_facts.specs.Members.{In, In-slice_get, slice_get-In}
 use Rattle.posix_trees.specs.Entries.{AreDifferent}
-use Rattle.world_log.specs.LogRules.{live_parts}
+use Rattle.live_facts.specs.world_log.LogRules.{live_parts}
 use Rattle.replay_facts.specs.Orders.{AreInOrder, ComeFirst, HaveOwnOrders}
 
 -- ---- members

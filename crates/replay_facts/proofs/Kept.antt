@@ -22,9 +22,9 @@ use Rattle.list_facts.specs.Members.{In}
 use Rattle.posix_trees.specs.Entries.{few}
 use Rattle.volume_facts.specs.Footprint.{SameLog}
 use Rattle.volume_facts.specs.FootprintLaws.{entry_in-same, live_entries-same}
-use Rattle.world_promise.specs.Landed.{kind_file}
+use Rattle.live_facts.specs.world_promise.Landed.{kind_file}
 use Rattle.live_facts.specs.Logs.{CarriesOut, HasSameFiles}
-use Rattle.world_runs.specs.Relinks.{SameLine}
+use Rattle.live_facts.specs.world_runs.Relinks.{SameLine}
 use Rattle.replay_facts.specs.Orders.{HaveOwnOrders}
 use Rattle.replay_facts.proofs.InOrder.{all-from, live-different}
 

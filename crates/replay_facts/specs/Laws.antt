@@ -13,7 +13,7 @@ use Rattle.list_facts.specs.Members.{In}
 use Rattle.live_facts.specs.Logs.{CarriesOut, HasSameFiles}
 use Rattle.volume_facts.specs.Footprint.{SameLog}
 use Rattle.world_images.specs.Images.{IsHeaded}
-use Rattle.world_runs.specs.Relinks.{SameLine}
+use Rattle.live_facts.specs.world_runs.Relinks.{SameLine}
 use Rattle.replay_facts.specs.Orders.{AreInOrder, ComeFirst, HaveOwnOrders}
 
 -- The live entries in their order: each comes before the later ones of its file.

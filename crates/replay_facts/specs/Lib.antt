@@ -1,2 +1,8 @@
 pub mod Orders
 pub mod Laws
+pub use Rattle.live_facts.specs as live_facts
+pub use Rattle.live_facts.specs.volume_uses as volume_uses
+pub use Rattle.live_facts.specs.world_log as world_log
+pub use Rattle.live_facts.specs.world_promise as world_promise
+pub use Rattle.live_facts.specs.world_runs as world_runs
+pub use Rattle.world_images.specs.image_facts as image_facts

@@ -13,7 +13,7 @@ use Rattle.disk_rules.specs.Live.{is_directory}
 use Rattle.disk_rules.specs.Volume.{inode}
 use Rattle.entry_orders.specs.Orders.{AreOrdered-step_of}
 use Rattle.volume_facts.specs.Lists.{count_by-some}
-use Rattle.volume_changes.specs.Changes.{MayDrop}
+use Rattle.file_reads.specs.volume_changes.Changes.{MayDrop}
 use Rattle.k_rules.specs.View.{View}
 use Rattle.open_numbers.specs.Numbered.{described_as, numbered_as}
 use Rattle.open_numbers.proofs.Changes.{closes_alike, open_once_closed}
@@ -29,21 +29,21 @@ use Rattle.posix_words.specs.Names.{is_named}
 use Rattle.posix_words.specs.Nodes.{node_at, published_node}
 use Rattle.posix_words.specs.Open.{closed, is_open, opened, Tables}
 use Rattle.posix_words.specs.Outcomes.{answer, first, row}
-use Rattle.posix_frames.specs.Bystanders.{is_open-Opens}
-use Rattle.posix_frames.specs.Handles.{Opens-opened}
+use Rattle.open_files.specs.posix_frames.Bystanders.{is_open-Opens}
+use Rattle.open_files.specs.posix_frames.Handles.{Opens-opened}
 use Rattle.posix_spec.specs.FileRows.{close_rows, file_number}
 use Rattle.posix_spec.specs.Run.{after_call}
 use Rattle.posix_spec.specs.State.{alone, State, swept, with_published}
 use Rattle.posix_spec.specs.Step.{close_done, step, stepped}
 use Rattle.posix_spec.specs.Tree.{tree}
-use Rattle.world_rules.specs.Stands.{is_used, IsUsed, number}
-use Rattle.world_promise.specs.TreeRules.{used_below}
-use Rattle.world_images.specs.Settings.{keeps_setting}
-use Rattle.world_images.specs.Unseen.{tree-swept}
-use Rattle.world_names.specs.OtherCalls.{IsWorld-closed, IsWorld-same}
-use Rattle.world_names.specs.RemoveCalls.{swept-gone}
-use Rattle.world_steps.specs.Nameless.{count-nameless, is_named-nameless, named-row}
-use Rattle.world_steps.specs.Worlds.{IsWorld}
+use Rattle.world_exits.specs.world_rules.Stands.{is_used, IsUsed, number}
+use Rattle.world_exits.specs.world_promise.TreeRules.{used_below}
+use Rattle.world_exits.specs.world_images.Settings.{keeps_setting}
+use Rattle.world_exits.specs.world_images.Unseen.{tree-swept}
+use Rattle.world_exits.specs.world_names.OtherCalls.{IsWorld-closed, IsWorld-same}
+use Rattle.world_exits.specs.world_names.RemoveCalls.{swept-gone}
+use Rattle.world_exits.specs.world_steps.Nameless.{count-nameless, is_named-nameless, named-row}
+use Rattle.world_exits.specs.world_steps.Worlds.{IsWorld}
 use Rattle.world_exits.specs.Ends.{not_root_number}
 use Rattle.split_calls.specs.Answers.{ComesHalfWay, IsEnded, IsReplyOf, IsSpent}
 use Rattle.split_calls.specs.Runs.{RunsAs}

@@ -7,16 +7,16 @@ use Rattle.disk_lines.specs.declared.Kind.TheVariants.{File}
 use Rattle.disk_rules.specs.Room.{unused_blocks}
 use Rattle.disk_rules.specs.Volume.{inode, Volume}
 use Rattle.entry_orders.specs.Orders.{AreOrdered-step_of}
-use Rattle.volume_uses.specs.Uses.{HasAllMaps}
-use Rattle.k_map_plans.specs.Plans.{IsLiveFile}
-use Rattle.k_plans.proofs.FreeCounts.{unwaiting-counted}
-use Rattle.k_plans.specs.Whole.{IsWhole}
+use Rattle.file_reads.specs.volume_uses.Uses.{HasAllMaps}
+use Rattle.file_reads.specs.k_map_plans.Plans.{IsLiveFile}
+use Rattle.file_reads.proofs.k_plans_proofs.FreeCounts.{unwaiting-counted}
+use Rattle.file_reads.specs.k_plans.Whole.{IsWhole}
 use Rattle.k_rules.specs.Spaces.{volume_space}
 use Rattle.k_rules.specs.View.{View}
-use Rattle.k_split.specs.declared.faults.KFault.{KFault}
-use Rattle.k_split.specs.Answers.{IsDone, IsPaid}
-use Rattle.k_split.specs.Looks.{IsFound}
-use Rattle.k_split.specs.MapChanges.{free_blocks_in, IsSizeAnswer}
+use Rattle.file_reads.specs.k_split.declared.faults.KFault.{KFault}
+use Rattle.file_reads.specs.k_split.Answers.{IsDone, IsPaid}
+use Rattle.file_reads.specs.k_split.Looks.{IsFound}
+use Rattle.file_reads.specs.k_split.MapChanges.{free_blocks_in, IsSizeAnswer}
 use Rattle.open_numbers.specs.Numbered.{numbered_as}
 use Rattle.posix_types.specs.declared.call.Call.{Call}
 use Rattle.posix_types.specs.declared.call.Who.{Who}
@@ -30,8 +30,8 @@ use Rattle.posix_words.specs.Outcomes.{answer, first}
 use Rattle.posix_spec.specs.Run.{after_call}
 use Rattle.posix_spec.specs.State.{alone, space, State}
 use Rattle.posix_spec.specs.Step.{open_done, opening_number}
-use Rattle.world_rules.specs.Stands.{is_used, number}
-use Rattle.world_promise.specs.TreeRules.{used_below}
+use Rattle.world_exits.specs.world_rules.Stands.{is_used, number}
+use Rattle.world_exits.specs.world_promise.TreeRules.{used_below}
 use Rattle.world_exits.specs.Cuts.{cut_kind, cuts_as_answer, steps_cut}
 use Rattle.world_exits.specs.Going.{IsStep}
 use Rattle.world_exits.specs.Laws.{cut_to_nothing}

@@ -6,15 +6,15 @@ use Rattle.disk_places.specs.Places.{Geometry}
 use Rattle.disk_lines.specs.declared.Kind.TheVariants.{File}
 use Rattle.disk_rules.specs.Volume.{inode, Volume}
 use Rattle.entry_orders.specs.Orders.{AreOrdered, renamed_ordered, unnamed_ordered}
-use Rattle.volume_changes.specs.FrameLaws.{dropped-others}
+use Rattle.file_reads.specs.volume_changes.FrameLaws.{dropped-others}
 use Rattle.k_journal.specs.Commits.{TakesAStep}
-use Rattle.k_plans.specs.Removing.{IsUnlinked}
-use Rattle.k_plans.specs.Renaming.{IsRenamed}
+use Rattle.file_reads.specs.k_plans.Removing.{IsUnlinked}
+use Rattle.file_reads.specs.k_plans.Renaming.{IsRenamed}
 use Rattle.k_rules.specs.Changes.{dropped}
 use Rattle.k_rules.specs.View.{View}
-use Rattle.k_split.specs.declared.faults.KFault.{KFault}
-use Rattle.k_split.specs.Answers.{IsAnswer, IsPaid}
-use Rattle.k_split.specs.Names.{IsDropAnswer, IsRenameAnswer, IsUnlinkAnswer, rename_row, unlink_row}
+use Rattle.file_reads.specs.k_split.declared.faults.KFault.{KFault}
+use Rattle.file_reads.specs.k_split.Answers.{IsAnswer, IsPaid}
+use Rattle.file_reads.specs.k_split.Names.{IsDropAnswer, IsRenameAnswer, IsUnlinkAnswer, rename_row, unlink_row}
 use Rattle.open_numbers.specs.Numbered.{IsTold}
 use Rattle.open_numbers.proofs.Lookups.{same_open}
 use Rattle.path_spelling.specs.Spelling.{AreSpelled}
@@ -30,10 +30,10 @@ use Rattle.posix_words.specs.Outcomes.{answer}
 use Rattle.posix_spec.specs.Run.{after_call, run}
 use Rattle.posix_spec.specs.State.{State, unnamed as unnamed_state}
 use Rattle.posix_spec.specs.Tree.{tree}
-use Rattle.world_rules.specs.Stands.{is_used, number}
-use Rattle.world_images.specs.Promised.{KeepsPromise}
-use Rattle.world_images.specs.Running.{promise_between}
-use Rattle.world_names.specs.RemoveCalls.{swept-open}
+use Rattle.world_exits.specs.world_rules.Stands.{is_used, number}
+use Rattle.world_exits.specs.world_images.Promised.{KeepsPromise}
+use Rattle.world_exits.specs.world_images.Running.{promise_between}
+use Rattle.world_exits.specs.world_names.RemoveCalls.{swept-open}
 use Rattle.world_exits.specs.Done.{keeps_cut, runs_home}
 use Rattle.world_exits.specs.Ends.{renames_over_file, tree_of_rename, tree_of_unlink}
 use Rattle.world_exits.specs.Going.{gone_by, IsStep, moved_so_far}

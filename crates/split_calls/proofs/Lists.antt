@@ -13,11 +13,11 @@ use Rattle.disk_lines.specs.Tables.{names_below}
 use Rattle.entry_orders.specs.Listed.{AreOnce, names-sorted}
 use Rattle.k_rules.specs.Spaces.{volume_space}
 use Rattle.k_rules.specs.View.{View}
-use Rattle.k_split.specs.Looks.{IsListed, IsListFault}
-use Rattle.k_split.specs.declared.faults.KFault.{KFault}
-use Rattle.k_tables.proofs.ChildNames.{count-child}
+use Rattle.file_reads.specs.k_split.Looks.{IsListed, IsListFault}
+use Rattle.file_reads.specs.k_split.declared.faults.KFault.{KFault}
+use Rattle.file_reads.proofs.k_tables_proofs.ChildNames.{count-child}
 use Rattle.list_facts.specs.Members.{In}
-use Rattle.name_facts.specs.KeptLaws.{kept-keyed}
+use Rattle.file_reads.specs.name_facts.KeptLaws.{kept-keyed}
 use Rattle.posix_types.specs.declared.call.Call.{Call}
 use Rattle.posix_types.specs.declared.call.Who.{Who}
 use Rattle.posix_types.specs.declared.item.Outcome.{Outcome}
@@ -28,8 +28,8 @@ use Rattle.posix_words.specs.Open.{Tables}
 use Rattle.posix_words.specs.Outcomes.{answer, first}
 use Rattle.posix_spec.specs.State.{space, State}
 use Rattle.posix_spec.specs.Step.{list_done, step, stepped}
-use Rattle.world_promise.specs.TreeRules.{all_lines}
-use Rattle.world_rules.specs.Stands.{IsUsed, number}
+use Rattle.world_exits.specs.world_promise.TreeRules.{all_lines}
+use Rattle.world_exits.specs.world_rules.Stands.{IsUsed, number}
 use Rattle.split_calls.specs.Answers.{IsEnded, told_of}
 use Rattle.split_calls.specs.Runs.{RunsAs}
 use Rattle.split_calls.specs.declared.outcomes.Told.{Told}

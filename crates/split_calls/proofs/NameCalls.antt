@@ -9,21 +9,21 @@ use Rattle.disk_lines.specs.Lines.{NameRow}
 use Rattle.disk_rules.specs.Live.{is_directory}
 use Rattle.disk_rules.specs.Volume.{inode, Volume}
 use Rattle.entry_orders.specs.Orders.{AreOrdered-step_of}
-use Rattle.volume_changes.specs.CallLaws.{row_to}
-use Rattle.volume_changes.specs.FoundLaws.{free-found}
-use Rattle.volume_changes.specs.FrameLaws.{made-others, removed-others}
+use Rattle.file_reads.specs.volume_changes.CallLaws.{row_to}
+use Rattle.file_reads.specs.volume_changes.FoundLaws.{free-found}
+use Rattle.file_reads.specs.volume_changes.FrameLaws.{made-others, removed-others}
 use Rattle.k_journal.specs.Commits.{TakesAStep}
-use Rattle.k_plans.specs.Making.{IsMade, kind_of}
-use Rattle.k_plans.specs.Removing.{IsRemoved}
-use Rattle.k_plans.specs.Renaming.{IsRenamed, renamed_over}
+use Rattle.file_reads.specs.k_plans.Making.{IsMade, kind_of}
+use Rattle.file_reads.specs.k_plans.Removing.{IsRemoved}
+use Rattle.file_reads.specs.k_plans.Renaming.{IsRenamed, renamed_over}
 use Rattle.k_rules.specs.Changes.{made, renamed_over_directory, renamed_over_file}
 use Rattle.k_rules.specs.Spaces.{is_directory_in, volume_space}
 use Rattle.k_rules.specs.View.{View}
-use Rattle.k_tables.specs.declared.removing.Entry.{Entry}
+use Rattle.file_reads.specs.k_tables.declared.removing.Entry.{Entry}
 use Rattle.path_spelling.specs.Spelling.{AreSpelled}
-use Rattle.k_split.specs.declared.faults.KFault.{KFault}
-use Rattle.k_split.specs.Answers.{IsAnswer, IsPaid}
-use Rattle.k_split.specs.Names.{IsIdle, IsMakeAnswer, IsRenameAnswer, IsRmdirAnswer, make_row, rename_row, rmdir_row}
+use Rattle.file_reads.specs.k_split.declared.faults.KFault.{KFault}
+use Rattle.file_reads.specs.k_split.Answers.{IsAnswer, IsPaid}
+use Rattle.file_reads.specs.k_split.Names.{IsIdle, IsMakeAnswer, IsRenameAnswer, IsRmdirAnswer, make_row, rename_row, rmdir_row}
 use Rattle.open_numbers.specs.Numbered.{numbered_as}
 use Rattle.open_numbers.proofs.Lookups.{same_where_open}
 use Rattle.posix_types.specs.declared.call.Call.{Call}
@@ -35,8 +35,8 @@ use Rattle.posix_words.specs.Outcomes.{answer}
 use Rattle.posix_spec.specs.Run.{after_call}
 use Rattle.posix_spec.specs.State.{alone, State}
 use Rattle.posix_spec.specs.Step.{step}
-use Rattle.world_rules.specs.Stands.{number}
-use Rattle.world_steps.specs.Makers.{renumbered, renumbered-other}
+use Rattle.world_exits.specs.world_rules.Stands.{number}
+use Rattle.world_exits.specs.world_steps.Makers.{renumbered, renumbered-other}
 use Rattle.world_exits.specs.Ends.{done_by_row}
 use Rattle.world_exits.specs.Going.{IsNameCall, row_of_call}
 use Rattle.world_exits.specs.Moves.{steps_rename}

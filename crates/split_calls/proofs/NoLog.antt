@@ -16,11 +16,11 @@ use Rattle.list_facts.specs.Members.{In}
 use Rattle.volume_facts.specs.ReadingLaws.{reads-volume}
 use Rattle.k_rules.specs.Stands.{IsOldOrNew}
 use Rattle.k_rules.specs.View.{View}
-use Rattle.k_split.specs.Answers.{IsCut}
+use Rattle.file_reads.specs.k_split.Answers.{IsCut}
 use Rattle.posix_words.specs.Open.{Tables}
 use Rattle.posix_spec.specs.State.{State}
-use Rattle.world_images.specs.Changed.{SameLog-changed, ShowsLog-same, sound_headed}
-use Rattle.world_images.specs.Images.{HasNoEntry, IsRunning, ShowsLog}
+use Rattle.world_exits.specs.world_images.Changed.{SameLog-changed, ShowsLog-same, sound_headed}
+use Rattle.world_exits.specs.world_images.Images.{HasNoEntry, IsRunning, ShowsLog}
 use Rattle.world_exits.specs.Done.{runs_home}
 use Rattle.split_calls.specs.Runs.{HasNoLog, IsQuiet, RunsAs}
 use Rattle.split_calls.proofs.Honest.{quiet_is_honest}

@@ -12,17 +12,17 @@ use Rattle.disk_lines.specs.declared.Kind.{Kind}
 use Rattle.disk_lines.specs.declared.Kind.TheVariants.{Directory, File, Free, Staging}
 use Rattle.disk_rules.specs.Volume.{inode, Volume}
 use Rattle.entry_orders.specs.Orders.{AreOrdered-step_of}
-use Rattle.volume_changes.specs.CallLaws.{row_to}
-use Rattle.volume_changes.specs.FoundLaws.{free-found}
-use Rattle.volume_changes.specs.FrameLaws.{made-inode}
-use Rattle.k_plans.specs.Making.{IsMade}
+use Rattle.file_reads.specs.volume_changes.CallLaws.{row_to}
+use Rattle.file_reads.specs.volume_changes.FoundLaws.{free-found}
+use Rattle.file_reads.specs.volume_changes.FrameLaws.{made-inode}
+use Rattle.file_reads.specs.k_plans.Making.{IsMade}
 use Rattle.k_rules.specs.Spaces.{volume_space}
 use Rattle.k_rules.specs.View.{View}
 use Rattle.path_spelling.specs.Spelling.{AreSpelled}
-use Rattle.k_split.specs.declared.faults.KFault.{KFault}
-use Rattle.k_split.specs.Answers.{IsPaid}
-use Rattle.k_split.specs.Looks.{IsFound}
-use Rattle.k_split.specs.Names.{IsMakeAnswer, make_row}
+use Rattle.file_reads.specs.k_split.declared.faults.KFault.{KFault}
+use Rattle.file_reads.specs.k_split.Answers.{IsPaid}
+use Rattle.file_reads.specs.k_split.Looks.{IsFound}
+use Rattle.file_reads.specs.k_split.Names.{IsMakeAnswer, make_row}
 use Rattle.open_numbers.specs.Numbered.{described_as, numbered_as}
 use Rattle.open_numbers.proofs.Changes.{dups_alike, open_once_duped, open_once_opened, opens_alike}
 use Rattle.open_numbers.proofs.Lookups.{same_key, same_opened}
@@ -45,15 +45,15 @@ use Rattle.posix_spec.specs.FileRows.{dup_rows}
 use Rattle.posix_spec.specs.Run.{after_call}
 use Rattle.posix_spec.specs.State.{alone, made as made_state, space, State, with_node}
 use Rattle.posix_spec.specs.Step.{dup_done, empty_file, is_busy, open_done, opening, opening_number, stat_done, stat_of, step, stepped}
-use Rattle.world_rules.specs.Stands.{is_used, IsUsed, NodeStands, number}
-use Rattle.world_rules.specs.Jobs.{live_claims}
-use Rattle.world_images.specs.Settings.{keeps_setting}
-use Rattle.world_names.specs.OtherCalls.{IsWorld-idle, IsWorld-same, SameShown}
-use Rattle.world_spaces.specs.Mirrors.{exists-same, Mirrors, number_at-same}
-use Rattle.world_spaces.specs.Rows.{HaveSameRows, HaveSameRows-Mirrors}
-use Rattle.world_steps.specs.Makers.{renumbered, renumbered-own}
-use Rattle.world_steps.specs.Steps.{GoOn-call, shown_node}
-use Rattle.world_steps.specs.Worlds.{IsWorld, world_mirror}
+use Rattle.world_exits.specs.world_rules.Stands.{is_used, IsUsed, NodeStands, number}
+use Rattle.world_exits.specs.world_rules.Jobs.{live_claims}
+use Rattle.world_exits.specs.world_images.Settings.{keeps_setting}
+use Rattle.world_exits.specs.world_names.OtherCalls.{IsWorld-idle, IsWorld-same, SameShown}
+use Rattle.world_exits.specs.world_spaces.Mirrors.{exists-same, Mirrors, number_at-same}
+use Rattle.world_exits.specs.world_spaces.Rows.{HaveSameRows, HaveSameRows-Mirrors}
+use Rattle.world_exits.specs.world_steps.Makers.{renumbered, renumbered-own}
+use Rattle.world_exits.specs.world_steps.Steps.{GoOn-call, shown_node}
+use Rattle.world_exits.specs.world_steps.Worlds.{IsWorld, world_mirror}
 use Rattle.world_exits.specs.Going.{IsStep}
 use Rattle.world_exits.specs.Steps.{steps_opened, valid_now}
 use Rattle.split_calls.specs.Answers.{Answers, IsEnded, IsMissing, stat_by, told_of}

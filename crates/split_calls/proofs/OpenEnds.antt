@@ -8,10 +8,10 @@ use Rattle.disk_lines.specs.declared.Kind.{Kind}
 use Rattle.disk_lines.specs.declared.Kind.TheVariants.{Directory, File, Free, Staging}
 use Rattle.disk_rules.specs.Live.{is_directory}
 use Rattle.disk_rules.specs.Volume.{inode, Volume}
-use Rattle.k_plans.specs.View.{node_at as inode_at}
+use Rattle.file_reads.specs.k_plans.View.{node_at as inode_at}
 use Rattle.k_rules.specs.Spaces.{is_directory_in, is_free, volume_space}
 use Rattle.k_rules.specs.View.{View}
-use Rattle.k_split.specs.Looks.{IsFound, IsLed}
+use Rattle.file_reads.specs.k_split.Looks.{IsFound, IsLed}
 use Rattle.open_files.specs.State.{IsDupFault, IsOpenFault, OpenState}
 use Rattle.open_files.specs.declared.faults.OpenFault.{OpenFault}
 use Rattle.posix_types.specs.declared.call.Call.{Call}

@@ -4,7 +4,7 @@ use Rattle.std.specs.Option.{option_map_or}
 use Rattle.std.proofs.Common.{ap, ◌∙◌, sym, subst}
 use Rattle.disk_rules.specs.Volume.{Volume}
 use Rattle.k_rules.specs.Spaces.{volume_space}
-use Rattle.k_split.specs.Looks.{IsFound, IsLed}
+use Rattle.file_reads.specs.k_split.Looks.{IsFound, IsLed}
 use Rattle.posix_types.specs.declared.handle.Flags.{Flags}
 use Rattle.posix_types.specs.declared.item.Outcome.{Outcome}
 use Rattle.posix_types.specs.declared.reply.Errno.{Errno}
@@ -12,7 +12,7 @@ use Rattle.posix_types.specs.declared.reply.Reply.{Reply}
 use Rattle.posix_words.specs.NameRows.{mkdir_rows, no_line, no_node, open_rows, stat_rows, too_long_row, walk_row}
 use Rattle.posix_words.specs.Names.{child_of, directory_stands, exists_at, is_root, last_name, node_at_path, Space, walk}
 use Rattle.posix_words.specs.Outcomes.{answer, first, row, unless}
-use Rattle.world_spaces.specs.Mirrors.{Mirrors}
+use Rattle.world_exits.specs.world_spaces.Mirrors.{Mirrors}
 
 -- ---- lists of rows
 

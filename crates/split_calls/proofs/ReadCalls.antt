@@ -25,13 +25,13 @@ use Rattle.disk_rules.specs.Rules.{file_blocks_of}
 use Rattle.disk_rules.specs.Volume.{extents, inode, Volume}
 use Rattle.volume_facts.specs.ImageLaws.{journaled-idle}
 use Rattle.volume_facts.specs.LineWords.{data_word}
-use Rattle.volume_uses.specs.PoolLaws.{covered-in_data}
+use Rattle.file_reads.specs.volume_uses.PoolLaws.{covered-in_data}
 use Rattle.entry_orders.specs.Orders.{AreOrdered-step_of}
 use Rattle.data_route.specs.Reads.{read_len, source_by}
 use Rattle.file_reads.specs.Reads.{block_in, bytes_in, IsReadable, SourceCanBeRead}
 use Rattle.file_reads.proofs.Places.{map_alone}
-use Rattle.k_content.specs.Trees.{HasTree}
-use Rattle.k_content.proofs.Reading.{have-trees}
+use Rattle.file_reads.specs.k_content.Trees.{HasTree}
+use Rattle.file_reads.proofs.k_content_proofs.Reading.{have-trees}
 use Rattle.k_rules.specs.View.{View}
 use Rattle.open_numbers.specs.Numbered.{described_as, numbered_as}
 use Rattle.open_numbers.proofs.Changes.{moves_alike}
@@ -51,10 +51,10 @@ use Rattle.posix_spec.specs.FileRows.{content, file_number, offset_of, read_rows
 use Rattle.posix_spec.specs.Run.{after_call}
 use Rattle.posix_spec.specs.State.{alone, State}
 use Rattle.posix_spec.specs.Step.{pread_done, read_done, step, stepped}
-use Rattle.world_rules.specs.Stands.{FileStands, is_used, NodeStands, number}
-use Rattle.world_promise.specs.TreeRules.{used_below}
-use Rattle.world_images.specs.Settings.{keeps_setting}
-use Rattle.world_names.specs.OtherCalls.{IsWorld-idle}
+use Rattle.world_exits.specs.world_rules.Stands.{FileStands, is_used, NodeStands, number}
+use Rattle.world_exits.specs.world_promise.TreeRules.{used_below}
+use Rattle.world_exits.specs.world_images.Settings.{keeps_setting}
+use Rattle.world_exits.specs.world_names.OtherCalls.{IsWorld-idle}
 use Rattle.split_calls.specs.Answers.{Answers, IsEnded}
 use Rattle.split_calls.specs.Reading.{IsReadableFile}
 use Rattle.split_calls.specs.Runs.{RunsAs}

@@ -12,8 +12,8 @@ use Rattle.disk_rules.specs.Volume.{inode, Volume}
 use Rattle.entry_orders.specs.Orders.{AreOrdered}
 use Rattle.k_rules.specs.Spaces.{volume_space}
 use Rattle.k_rules.specs.View.{View}
-use Rattle.k_split.specs.declared.faults.KFault.{KFault}
-use Rattle.k_split.specs.Answers.{Changes, IsAnswer, IsCut, IsDone, IsOff, IsPaid}
+use Rattle.file_reads.specs.k_split.declared.faults.KFault.{KFault}
+use Rattle.file_reads.specs.k_split.Answers.{Changes, IsAnswer, IsCut, IsDone, IsOff, IsPaid}
 use Rattle.open_numbers.specs.Numbered.{numbered_as}
 use Rattle.posix_types.specs.declared.call.Call.{Call}
 use Rattle.posix_types.specs.declared.call.Who.{Who}
@@ -26,10 +26,10 @@ use Rattle.posix_spec.specs.Run.{after_call, run}
 use Rattle.posix_spec.specs.State.{State}
 use Rattle.posix_spec.specs.Step.{step}
 use Rattle.posix_spec.specs.Tree.{tree}
-use Rattle.world_rules.specs.Stands.{number}
-use Rattle.world_images.specs.Promised.{KeepsPromise}
-use Rattle.world_images.specs.Running.{promise_now, stays_running}
-use Rattle.world_steps.specs.Worlds.{IsWorld}
+use Rattle.world_exits.specs.world_rules.Stands.{number}
+use Rattle.world_exits.specs.world_images.Promised.{KeepsPromise}
+use Rattle.world_exits.specs.world_images.Running.{promise_now, stays_running}
+use Rattle.world_exits.specs.world_steps.Worlds.{IsWorld}
 use Rattle.world_exits.specs.Done.{goes_on, keeps_cut, keeps_log, keeps_off, runs_home}
 use Rattle.world_exits.specs.Ends.{refused_by_row}
 use Rattle.world_exits.specs.Going.{IsNameCall, IsStep, row_of_call}

@@ -21,9 +21,9 @@ use Rattle.posix_spec.specs.FileRows.{seek_base, seek_rows, seek_target}
 use Rattle.posix_spec.specs.Run.{after_call}
 use Rattle.posix_spec.specs.State.{alone, State, with_published}
 use Rattle.posix_spec.specs.Step.{fsync_done, seek_done, step, stepped}
-use Rattle.world_rules.specs.Stands.{number}
-use Rattle.world_images.specs.Settings.{keeps_setting}
-use Rattle.world_names.specs.OtherCalls.{IsWorld-idle}
+use Rattle.world_exits.specs.world_rules.Stands.{number}
+use Rattle.world_exits.specs.world_images.Settings.{keeps_setting}
+use Rattle.world_exits.specs.world_names.OtherCalls.{IsWorld-idle}
 use Rattle.split_calls.specs.Answers.{Answers, IsEnded}
 use Rattle.split_calls.specs.Reading.{base_by}
 use Rattle.split_calls.specs.Runs.{RunsAs}

@@ -8,7 +8,7 @@ use Rattle.disk_rules.specs.Volume.{Volume}
 use Rattle.k_journal.specs.Commits.{TakesAStep}
 use Rattle.k_rules.specs.Spaces.{volume_space}
 use Rattle.k_rules.specs.View.{View}
-use Rattle.k_split.specs.declared.faults.KFault.{KFault}
+use Rattle.file_reads.specs.k_split.declared.faults.KFault.{KFault}
 use Rattle.open_files.specs.declared.faults.OpenFault.{OpenFault}
 use Rattle.posix_types.specs.declared.call.Call.{Call}
 use Rattle.posix_types.specs.declared.call.Mode.{Mode}
@@ -27,9 +27,9 @@ use Rattle.posix_spec.specs.Run.{after_call, run}
 use Rattle.posix_spec.specs.State.{alone, State, swept}
 use Rattle.posix_spec.specs.Step.{step}
 use Rattle.posix_spec.specs.Tree.{tree}
-use Rattle.volume_changes.specs.Changes.{MayDrop}
-use Rattle.world_rules.specs.Stands.{number}
-use Rattle.world_images.specs.Promised.{KeepsPromise}
+use Rattle.file_reads.specs.volume_changes.Changes.{MayDrop}
+use Rattle.world_exits.specs.world_rules.Stands.{number}
+use Rattle.world_exits.specs.world_images.Promised.{KeepsPromise}
 use Rattle.split_calls.specs.declared.outcomes.NoMemory.{NoMemory}
 use Rattle.split_calls.specs.declared.outcomes.Told.{Told}
 use Rattle.split_calls.specs.Runs.{HasNoLog, RunsAs}

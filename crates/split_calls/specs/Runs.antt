@@ -15,8 +15,8 @@ use Rattle.k_rules.specs.View.{View}
 use Rattle.open_numbers.specs.Numbered.{numbered_as}
 use Rattle.posix_words.specs.Open.{is_open, Tables}
 use Rattle.posix_spec.specs.State.{State}
-use Rattle.world_rules.specs.Stands.{number}
-use Rattle.world_images.specs.Images.{HasLogHome}
+use Rattle.world_exits.specs.world_rules.Stands.{number}
+use Rattle.world_exits.specs.world_images.Images.{HasLogHome}
 use Rattle.world_exits.specs.Going.{IsGoing}
 
 -- No word outside the journal and the journaled lines is lent or has two candidates: all images of the device have one log.

@@ -10,7 +10,7 @@ use crate::names::{mkdir, rename, rmdir, unlink};
 use crate::opens::{close, dup, open};
 use crate::outcomes::{NoMemory, Told};
 use crate::reads::{fsync, pread, read, seek};
-use k_split::KSplit;
+use file_reads::k_split::KSplit;
 use open_files::OpenFiles;
 use pm_lines::Power;
 use posix_types::{Call, Who};

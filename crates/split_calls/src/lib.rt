@@ -31,3 +31,6 @@ pub use reads::{fsync, pread, read, seek};
 pub fn a_quiet_device_is_honest()
     ensures { QuietIsHonest }
 {}
+
+pub use file_reads::k_split;
+pub use open_files;

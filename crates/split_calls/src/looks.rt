@@ -8,7 +8,7 @@ ghost use Rattle.split_calls.specs.Answers.{IsEnded, stat_by};
 
 use crate::outcomes::{NoMemory, Told, after_fault, answered};
 use disk_lines::{Inode, Kind};
-use k_split::KSplit;
+use file_reads::k_split::KSplit;
 use posix_types::{NameList, Path, Reply, Stat};
 use std::alloc::Global;
 

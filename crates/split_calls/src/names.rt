@@ -7,12 +7,12 @@ ghost use Rattle.posix_types.specs.declared.call.Call.{Call};
 ghost use Rattle.posix_types.specs.declared.call.Who.{Who};
 ghost use Rattle.posix_words.specs.Open.{is_open, Tables};
 ghost use Rattle.posix_words.specs.Outcomes.{answer};
-ghost use Rattle.volume_changes.specs.Changes.{MayDrop};
+ghost use Rattle.file_reads.specs.volume_changes.Changes.{MayDrop};
 ghost use Rattle.split_calls.specs.Answers.{ComesHalfWay, IsEnded, IsReplyOf, IsSpent};
 ghost use Rattle.split_calls.specs.Runs.{RunsInSome};
 
 use crate::outcomes::{NoMemory, Told, after_fault, answered};
-use k_split::KSplit;
+use file_reads::k_split::KSplit;
 use open_files::OpenFiles;
 use pm_lines::Power;
 use posix_types::{Path, Reply};

@@ -6,14 +6,14 @@ ghost use Rattle.disk_lines.specs.declared.Kind.TheVariants.{File};
 ghost use Rattle.disk_rules.specs.Volume.{inode};
 ghost use Rattle.k_rules.specs.Spaces.{is_directory_in};
 ghost use Rattle.k_rules.specs.View.{View};
-ghost use Rattle.k_split.specs.Looks.{IsFound};
+ghost use Rattle.file_reads.specs.k_split.Looks.{IsFound};
 ghost use Rattle.posix_types.specs.declared.call.Call.{Call};
 ghost use Rattle.split_calls.specs.Answers.{most_steps, told_of_open, IsEnded, IsMissing};
 ghost use Rattle.split_calls.specs.Runs.{RunsInSome};
 
 use crate::outcomes::{NoMemory, Told, after_fault, answered};
 use disk_lines::Kind;
-use k_split::KSplit;
+use file_reads::k_split::KSplit;
 use open_files::{OpenFault, OpenFiles};
 use pm_lines::Power;
 use posix_types::{Errno, Flags, Handle, Path, Reply, Who};

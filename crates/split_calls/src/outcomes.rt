@@ -3,7 +3,7 @@ ghost use Rattle.std.specs.Prelude.{◌≡◌};
 ghost use Rattle.posix_words.specs.Outcomes.{answer};
 ghost use Rattle.split_calls.specs.Answers.{told_of};
 
-use k_split::KFault;
+use file_reads::k_split::KFault;
 use posix_types::{Errno, Outcome, Reply};
 use std::alloc::AllocError;
 

@@ -15,8 +15,8 @@ ghost use Rattle.split_calls.specs.Runs.{RunsInSome};
 
 use crate::outcomes::{NoMemory, Told, answered};
 use file_overlay::Overlay;
+use file_reads::k_split::KSplit;
 use file_reads::read_bytes;
-use k_split::KSplit;
 use map_collection::Collection;
 use open_files::{OpenFiles, Opened};
 use posix_types::{Data, Errno, Handle, Reply, Whence, Who};

@@ -15,7 +15,7 @@ use Rattle.posix_facts.specs.UnfinishedLaws.{AreUnfinished-begun, AreUnfinished-
 use Rattle.posix_spec.specs.Run.{Begun, IsLegal}
 use Rattle.posix_spec.specs.Scripted.{call_count, IsComplete, IsSetUp, items_of, next_call, script_of, Scripted}
 use Rattle.posix_spec.specs.Unfinished.{AreUnfinished, HaveTwoCallers}
-use Rattle.world_images.specs.Promised.{KeepsPromise}
+use Rattle.split_world.specs.world_images.Promised.{KeepsPromise}
 use Rattle.split_world.specs.Runs.{HasNoLog}
 use Rattle.split_world.specs.Counts.{made_within}
 use Rattle.split_world.specs.Views.{begun_of, IsEndedBy, IsLeft, unfinished_of, WorldView}

@@ -13,3 +13,9 @@ pub use Rattle.split_world.specs.Sheds
 pub use Rattle.split_world.specs.Built
 pub use Rattle.split_world.specs.Runs as CallRuns
 pub use Rattle.split_world.specs.NoLog
+pub use Rattle.split_world.specs.image_facts as image_facts
+pub use Rattle.split_world.specs.k_check as k_check
+pub use Rattle.split_world.specs.k_content as k_content
+pub use Rattle.split_world.specs.world_beginning as world_beginning
+pub use Rattle.split_world.specs.world_images as world_images
+pub use Rattle.split_world.specs.world_rules as world_rules

@@ -6,7 +6,7 @@ use Rattle.posix_types.specs.declared.item.Item.{Item}
 use Rattle.posix_spec.specs.Run.{Begun, IsLegal}
 use Rattle.posix_spec.specs.Scripted.{IsComplete, Scripted}
 use Rattle.posix_spec.specs.Unfinished.{AreUnfinished}
-use Rattle.world_images.specs.Promised.{KeepsPromise}
+use Rattle.split_world.specs.world_images.Promised.{KeepsPromise}
 use Rattle.split_world.specs.Runs.{HasNoLog}
 use Rattle.split_world.specs.Views.{unfinished_of, WorldView}
 use Rattle.split_world.specs.declared.outcomes.Ended.{Ended}

@@ -28,3 +28,5 @@ pub fn a_change_of_names_is_counted()
 pub fn steps_are_afforded()
     ensures { AffordsItsSteps }
 {}
+
+pub use split_world::k_check;

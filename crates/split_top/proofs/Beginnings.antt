@@ -5,7 +5,7 @@ use Rattle.disk_places.specs.Places.{Geometry}
 use Rattle.disk_rules.specs.Rules.{geometry_of}
 use Rattle.posix_types.specs.declared.call.Mode.{Mode}
 use Rattle.posix_types.specs.Scripts.{Scripts}
-use Rattle.world_beginning.specs.Laws.{IsShapeOf}
+use Rattle.split_machine.specs.world_beginning.Laws.{IsShapeOf}
 use Rattle.split_machine.specs.Starts.{BeginsMounted}
 use Rattle.split_machine.specs.Views.{WorldView}
 use Rattle.split_top.specs.Images.{CanOpen}

@@ -23,7 +23,7 @@ use Rattle.split_machine.specs.Runs.{IsRan}
 use Rattle.split_machine.specs.Steps.{steps_of_begun, steps_of_items}
 use Rattle.split_machine.specs.Laws.{AffordsItsSteps}
 use Rattle.split_machine.specs.Views.{WorldView}
-use Rattle.world_images.specs.Starts.{has_setting}
+use Rattle.split_machine.specs.world_images.Starts.{has_setting}
 use Rattle.split_top.specs.Found.{IsFound}
 use Rattle.split_top.specs.Runs.{IsRun, task_on}
 use Rattle.split_top.specs.Worlds.{IsWorldOn}

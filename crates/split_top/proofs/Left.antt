@@ -8,7 +8,7 @@ use Rattle.posix_types.specs.declared.reply.Shape.{Shape}
 use Rattle.posix_types.specs.declared.tree.TreeEntry.{TreeEntry}
 use Rattle.posix_types.specs.Scripts.{Scripts}
 use Rattle.posix_spec.specs.Run.{Begun}
-use Rattle.world_images.specs.Promised.{KeepsPromise}
+use Rattle.split_machine.specs.world_images.Promised.{KeepsPromise}
 use Rattle.split_machine.specs.CallRuns.{HasNoLog}
 use Rattle.split_machine.specs.Runs.{IsRan}
 use Rattle.split_machine.specs.Views.{WorldView}

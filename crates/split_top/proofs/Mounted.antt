@@ -11,9 +11,9 @@ use Rattle.disk_rules.specs.Content.{content}
 use Rattle.disk_rules.specs.Live.{live_entries}
 use Rattle.disk_rules.specs.Rules.{geometry_of, IsChecked}
 use Rattle.disk_rules.specs.Volume.{Volume, volume}
-use Rattle.image_facts.specs.CheckedLaws.{checked-parts}
+use Rattle.split_machine.specs.image_facts.CheckedLaws.{checked-parts}
 use Rattle.volume_facts.specs.ReadingLaws.{reads-volume}
-use Rattle.k_content.specs.Trees.{tree_content}
+use Rattle.split_machine.specs.k_content.Trees.{tree_content}
 use Rattle.split_machine.specs.MountLaws.{TreesAreOfContent}
 use Rattle.split_machine.specs.Sheds.{AllNamed}
 use Rattle.k_rules.specs.View.{View}
@@ -23,8 +23,8 @@ use Rattle.split_machine.specs.Sweeps.{AreBare, EndsInTime}
 use Rattle.posix_trees.specs.TreeOf.{IsTreeOf}
 use Rattle.posix_types.specs.declared.tree.TreeEntry.{TreeEntry}
 use Rattle.split_machine.specs.NoLog.{none_live}
-use Rattle.world_images.specs.Images.{HasNoEntry}
-use Rattle.world_rules.specs.Shown.{IsTreeOfContent}
+use Rattle.split_machine.specs.world_images.Images.{HasNoEntry}
+use Rattle.split_machine.specs.world_rules.Shown.{IsTreeOfContent}
 use Rattle.split_top.specs.Found.{IsFoundOn}
 use Rattle.split_top.specs.Images as images
 

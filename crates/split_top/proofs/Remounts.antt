@@ -8,7 +8,7 @@ use Rattle.disk_places.specs.Places.{Geometry}
 use Rattle.disk_rules.specs.Content.{content}
 use Rattle.disk_rules.specs.Honest.{IsHonest}
 use Rattle.disk_rules.specs.Rules.{geometry_of, IsChecked}
-use Rattle.k_check.specs.Crashes.{IsCrashImage}
+use Rattle.split_machine.specs.k_check.Crashes.{IsCrashImage}
 use Rattle.k_rules.specs.View.{View}
 use Rattle.crash_spec.specs.Permitted.{Permitted}
 use Rattle.pm_lines.specs.declared.choices.Choice.{Choice}
@@ -16,8 +16,8 @@ use Rattle.posix_types.specs.declared.item.Item.{Item}
 use Rattle.posix_types.specs.declared.tree.TreeEntry.{TreeEntry}
 use Rattle.posix_spec.specs.Run.{Begun}
 use Rattle.posix_spec.specs.State.{State}
-use Rattle.world_images.specs.Promised.{IsKept}
-use Rattle.world_rules.specs.Shown.{IsTreeOfContent}
+use Rattle.split_machine.specs.world_images.Promised.{IsKept}
+use Rattle.split_machine.specs.world_rules.Shown.{IsTreeOfContent}
 use Rattle.split_top.specs.Found.{IsChosenImage, IsFound, IsFoundOn, IsLeftAs}
 use Rattle.split_top.specs.Images.{CanOpen}
 

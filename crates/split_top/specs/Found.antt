@@ -8,7 +8,7 @@ use Rattle.disk_places.specs.Places.{Geometry}
 use Rattle.disk_rules.specs.Content.{content}
 use Rattle.disk_rules.specs.Honest.{IsHonest}
 use Rattle.disk_rules.specs.Rules.{geometry_of}
-use Rattle.k_check.specs.Crashes.{IsCrashImage}
+use Rattle.split_machine.specs.k_check.Crashes.{IsCrashImage}
 use Rattle.k_rules.specs.View.{View}
 use Rattle.split_machine.specs.Mounts.{IsMounted}
 use Rattle.pm_lines.specs.declared.choices.Choice.{Choice}
@@ -16,8 +16,8 @@ use Rattle.posix_types.specs.declared.item.Item.{Item}
 use Rattle.posix_types.specs.declared.tree.TreeEntry.{TreeEntry}
 use Rattle.posix_spec.specs.Run.{Begun}
 use Rattle.posix_spec.specs.State.{State}
-use Rattle.world_images.specs.Promised.{KeepsPromise}
-use Rattle.world_rules.specs.Shown.{IsTreeOfContent}
+use Rattle.split_machine.specs.world_images.Promised.{KeepsPromise}
+use Rattle.split_machine.specs.world_rules.Shown.{IsTreeOfContent}
 use Rattle.split_machine.specs.CallRuns.{HasNoLog}
 
 -- WHAT A RUN LEAVES: a device of this geometry that has no log and keeps the promise for the history and the unfinished calls.

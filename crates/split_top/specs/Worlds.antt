@@ -11,7 +11,7 @@ use Rattle.posix_spec.specs.Run.{Begun}
 use Rattle.split_machine.specs.Starts.{AreInLimits}
 use Rattle.split_machine.specs.Views.{WorldView}
 use Rattle.split_machine.specs.Runs.{IsFirst}
-use Rattle.world_beginning.specs.Laws.{IsShapeOf}
+use Rattle.split_machine.specs.world_beginning.Laws.{IsShapeOf}
 use Rattle.split_top.specs.Images.{ShowsTree}
 use Rattle.split_top.specs.Runs.{IsRun, task_on}
 

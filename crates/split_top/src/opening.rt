@@ -9,8 +9,8 @@ ghost use Rattle.split_top.specs.Jobs.{IsUnopened};
 
 use exit_status::Status;
 use image_layout::Geometry;
-use k_check::{CheckFault, check};
 use pm_lines::Pm;
+use split_machine::k_check::{CheckFault, check};
 use std::alloc::{AllocError, Global};
 
 /// Whether so many bytes are whole blocks, as many as an image may have.

@@ -17,9 +17,9 @@ ghost use Rattle.split_top.specs.Worlds.{AreRunnable, BeginsOn, IsRanOn, IsWorld
 use crate::mounting::mount_image;
 use crate::opening::device;
 use image_layout::Geometry;
-use k_check::crash_image;
 use pm_lines::{Choice, Pm, Power};
 use posix_types::{Item, Mode, Scripts, Tree};
+use split_machine::k_check::crash_image;
 use split_machine::{Ended, MountFault, NoMemory, World, run as run_scripts, steps_are_afforded};
 use std::alloc::{AllocError, Global};
 

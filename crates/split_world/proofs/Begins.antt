@@ -18,9 +18,9 @@ use Rattle.posix_spec.specs.Run.{after_call, Begun, IsLegal, IsLegal-append, run
 use Rattle.posix_spec.specs.Scripted.{IsSetUp, items_of, next_call, Scripted, Scripted-append}
 use Rattle.posix_spec.specs.State.{State}
 use Rattle.posix_spec.specs.Step.{step}
-use Rattle.world_images.specs.Promised.{KeepsPromise}
-use Rattle.world_images.specs.Running.{promise_now}
-use Rattle.world_exits.specs.Done.{runs_home}
+use Rattle.split_calls.specs.world_images.Promised.{KeepsPromise}
+use Rattle.split_calls.specs.world_images.Running.{promise_now}
+use Rattle.split_calls.specs.world_exits.Done.{runs_home}
 use Rattle.split_calls.specs.Answers.{IsEnded}
 use Rattle.split_calls.specs.Built.{IsBuilt, NamesAreSpelled}
 use Rattle.split_calls.specs.Runs.{HasNoLog, RunsAs, RunsInSome}

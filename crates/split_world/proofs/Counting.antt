@@ -9,7 +9,7 @@ use Rattle.posix_types.specs.declared.call.Who.{Who}
 use Rattle.posix_types.specs.declared.item.Item.{Item}
 use Rattle.posix_types.specs.Scripts.{Scripts}
 use Rattle.posix_words.specs.Open.{same_who}
-use Rattle.posix_frames.specs.Handles.{same_who-is}
+use Rattle.split_calls.specs.posix_frames.Handles.{same_who-is}
 use Rattle.posix_spec.specs.Scripted.{items_of, next_call, script_of}
 use Rattle.split_world.specs.Counters.{AreCounts, count_for, IsCounted}
 use Rattle.split_world.specs.Counts.{items_more}

@@ -16,8 +16,8 @@ use Rattle.log_mount.specs.Mounts.{IsMounted}
 use Rattle.posix_types.specs.declared.call.Mode.{Mode}
 use Rattle.posix_types.specs.Scripts.{Scripts}
 use Rattle.posix_spec.specs.Tree.{start}
-use Rattle.world_beginning.specs.Laws.{IsShapeOf}
-use Rattle.world_rules.specs.Shown.{IsTreeOfContent}
+use Rattle.split_calls.specs.world_beginning.Laws.{IsShapeOf}
+use Rattle.split_calls.specs.world_rules.Shown.{IsTreeOfContent}
 use Rattle.split_world.specs.Starts.{BeginsMounted, BeginsOver, IsMountedOver}
 use Rattle.split_world.specs.Views.{WorldView}
 

@@ -12,10 +12,10 @@ use Rattle.disk_rules.specs.Live.{live_entries}
 use Rattle.disk_rules.specs.Volume.{inode}
 use Rattle.entry_orders.specs.Starts.{start-rising}
 use Rattle.list_facts.specs.Members.{In}
-use Rattle.k_content.specs.Trees.{tree_content, tree_node}
+use Rattle.split_calls.specs.k_content.Trees.{tree_content, tree_node}
 use Rattle.k_rules.specs.Stands.{Stands}
 use Rattle.k_rules.specs.View.{View}
-use Rattle.k_split.specs.Order.{IsInOrder}
+use Rattle.split_calls.specs.k_split.Order.{IsInOrder}
 use Rattle.open_numbers.proofs.Changes.{nothing_is_open}
 use Rattle.posix_types.specs.declared.call.Mode.{Mode}
 use Rattle.posix_types.specs.declared.reply.Shape.{Shape}
@@ -32,13 +32,13 @@ use Rattle.posix_words.specs.Places.{node_of}
 use Rattle.posix_spec.specs.State.{made, State}
 use Rattle.posix_spec.specs.Tree.{bare, planted, start}
 use Rattle.posix_trees.specs.TreeOf.{IsTreeOf}
-use Rattle.world_rules.specs.Shown.{IsTreeOfContent, shown_as}
-use Rattle.world_rules.specs.Stands.{number}
-use Rattle.world_beginning.specs.Begun.{numbers_of}
-use Rattle.world_beginning.specs.Laws.{IsShapeOf}
-use Rattle.world_exits.specs.Steps.{valid_now}
-use Rattle.world_images.specs.Images.{IsRunning}
-use Rattle.world_images.specs.Starts.{begins_running, has_setting}
+use Rattle.split_calls.specs.world_rules.Shown.{IsTreeOfContent, shown_as}
+use Rattle.split_calls.specs.world_rules.Stands.{number}
+use Rattle.split_calls.specs.world_beginning.Begun.{numbers_of}
+use Rattle.split_calls.specs.world_beginning.Laws.{IsShapeOf}
+use Rattle.split_calls.specs.world_exits.Steps.{valid_now}
+use Rattle.split_calls.specs.world_images.Images.{IsRunning}
+use Rattle.split_calls.specs.world_images.Starts.{begins_running, has_setting}
 use Rattle.split_calls.specs.Runs.{RunsAs}
 use Rattle.split_calls.proofs.NoLog.{none_live}
 use Rattle.split_world.specs.Views.{IsWorldOver}

@@ -20,9 +20,9 @@ use Rattle.posix_types.specs.declared.tree.TreeEntry.{TreeEntry}
 use Rattle.posix_types.specs.Scripts.{Scripts}
 use Rattle.posix_spec.specs.Scripted.{call_count}
 use Rattle.posix_spec.specs.Tree.{start}
-use Rattle.world_rules.specs.Shown.{IsTreeOfContent}
-use Rattle.world_beginning.specs.Laws.{IsShapeOf}
-use Rattle.world_images.specs.Images.{HasNoEntry}
+use Rattle.split_calls.specs.world_rules.Shown.{IsTreeOfContent}
+use Rattle.split_calls.specs.world_beginning.Laws.{IsShapeOf}
+use Rattle.split_calls.specs.world_images.Images.{HasNoEntry}
 use Rattle.log_mount.specs.declared.faults.MountFault.{MountFault}
 use Rattle.log_mount.specs.Mounts.{IsMountAnswer}
 use Rattle.log_mount.specs.Resets.{IsLow}

@@ -16,7 +16,7 @@ use Rattle.posix_spec.specs.Run.{after_call, Begun, IsLegal, run}
 use Rattle.posix_spec.specs.Scripted.{call_count, items_of, next_call, script_of, Scripted}
 use Rattle.posix_spec.specs.State.{State}
 use Rattle.posix_spec.specs.Step.{step}
-use Rattle.world_images.specs.Promised.{KeepsPromise}
+use Rattle.split_calls.specs.world_images.Promised.{KeepsPromise}
 use Rattle.split_calls.specs.Answers.{most_steps}
 use Rattle.split_calls.specs.Built.{IsBuilt, NamesAreSpelled}
 use Rattle.split_calls.specs.Runs.{HasNoLog, RunsAs}

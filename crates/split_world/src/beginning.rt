@@ -7,12 +7,12 @@ ghost use Rattle.split_world.specs.Starts.{AreInLimits, BeginsOver, IsMountedOve
 
 use crate::next::no_calls;
 use crate::world::World;
-use k_split::KSplit;
 use log_mount::{MountFault, mount};
-use open_files::OpenFiles;
 use pm_lines::{Pm, Power};
 use posix_types::{Mode, Scripts};
 use split_calls::NoMemory;
+use split_calls::k_split::KSplit;
+use split_calls::open_files::OpenFiles;
 use std::alloc::Global;
 
 impl World {

@@ -16,9 +16,9 @@ mod next;
 mod outcomes;
 mod world;
 
-pub use k_mount::a_remount_shows_the_same;
-pub use k_split::{KSplit, mkfs};
-pub use log_mount::{MountFault, mount};
+pub use log_mount::k_mount::a_remount_shows_the_same;
+pub use log_mount::{MountFault, k_check, mount};
 pub use outcomes::{Begun, Crashed, Ended, Ready, Unfinished};
 pub use split_calls::NoMemory;
+pub use split_calls::k_split::{KSplit, mkfs};
 pub use world::World;

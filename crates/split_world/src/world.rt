@@ -9,10 +9,10 @@ ghost use Rattle.split_world.specs.Views.{ready_by, steps_of_next, unfinished_of
 use crate::next::{Counters, call_at, calls_made, count_call, script_length};
 use crate::outcomes::{Begun, Crashed, Ended, Ready, Unfinished};
 use image_layout::Geometry;
-use k_split::KSplit;
-use open_files::OpenFiles;
 use pm_lines::Power;
 use posix_types::{Item, Mode, Scripts, Shape, Tree, Who};
+use split_calls::k_split::KSplit;
+use split_calls::open_files::OpenFiles;
 use split_calls::{NoMemory, Told, run_call};
 use std::alloc::Global;
 use std::marker::Model;

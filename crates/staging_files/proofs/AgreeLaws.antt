@@ -20,9 +20,9 @@ use Rattle.k_split.specs.Order.{IsInOrder}
 use Rattle.map_rules.specs.Changes.{aged}
 use Rattle.map_rules.specs.Taken.{with_map}
 use Rattle.volume_facts.specs.Changes.{extents-set_other, extents-set_same}
-use Rattle.volume_maps.specs.Switches.{unused-data}
-use Rattle.volume_uses.specs.PoolLaws.{unused-uncovered}
-use Rattle.volume_uses.specs.Uses.{is_unused}
+use Rattle.k_split.specs.volume_maps.Switches.{unused-data}
+use Rattle.k_split.specs.volume_uses.PoolLaws.{unused-uncovered}
+use Rattle.k_split.specs.volume_uses.Uses.{is_unused}
 use Rattle.staging_files.specs.declared.runs.StageRun.{StageRun}
 use Rattle.staging_files.specs.Keeps.{Agrees, AreFreeSingle, given_to, has_block, is_kept_free, IsAtHome, IsRunSingle, IsSingleAt, IsStaged, IsStaging, IsThere, Staged}
 use Rattle.staging_files.specs.Reserves.{IsFreeRun, with_given, with_out}

@@ -9,8 +9,8 @@ use Rattle.disk_lines.specs.declared.Kind.{Kind}
 use Rattle.disk_rules.specs.Rules.{IsKindAt}
 use Rattle.disk_rules.specs.Volume.{Volume, extents, inode}
 use Rattle.extent_words.specs.Extents.{covers}
-use Rattle.k_map_plans.specs.Plans.{IsStagingFile}
-use Rattle.k_plans.specs.Whole.{IsWhole}
+use Rattle.k_split.specs.k_map_plans.Plans.{IsStagingFile}
+use Rattle.k_split.specs.k_plans.Whole.{IsWhole}
 use Rattle.k_rules.specs.View.{View}
 use Rattle.k_split.specs.MapChanges.{IsGiveUpAnswer}
 use Rattle.k_split.specs.Answers.{IsPaid}

@@ -17,16 +17,16 @@ use Rattle.disk_rules.specs.Volume.{Volume, inode}
 use Rattle.extent_facts.specs.Counts.{block_count-mapped, count_below-agree, count_below-range, is_mapped}
 use Rattle.extent_words.specs.declared.Extent.{Extent}
 use Rattle.extent_words.specs.Extents.{block_count, is_within}
-use Rattle.k_plans.specs.Whole.{IsWhole}
+use Rattle.k_split.specs.k_plans.Whole.{IsWhole}
 use Rattle.k_rules.specs.View.{View}
 use Rattle.k_split.specs.MapChanges.{free_blocks_in, IsMapDone, IsPreallocateAnswer, IsPreallocatedWith}
 use Rattle.k_split.specs.Order.{IsInOrder}
 use Rattle.map_rules.specs.Changes.{aged, HasInOrder, in_order}
 use Rattle.map_rules.specs.Taken.{with_map}
 use Rattle.volume_facts.specs.Lists.{count_by-agree}
-use Rattle.volume_maps.specs.Shorts.{in_order-below, length-below}
-use Rattle.volume_uses.specs.PoolLaws.{AreInData, unused-set}
-use Rattle.volume_uses.specs.Uses.{is_unused}
+use Rattle.k_split.specs.volume_maps.Shorts.{in_order-below, length-below}
+use Rattle.k_split.specs.volume_uses.PoolLaws.{AreInData, unused-set}
+use Rattle.k_split.specs.volume_uses.Uses.{is_unused}
 use Rattle.staging_files.specs.Keeps.{IsStaging, Staged}
 use Rattle.staging_files.specs.Reserves.{need, share, wanted}
 

@@ -20,5 +20,6 @@ mod reserving;
 mod runs;
 mod staging;
 
+pub use k_split;
 pub use runs::{StageFault, StageRun};
 pub use staging::Staging;

@@ -2,7 +2,7 @@
 ghost use Rattle.std.specs.Prelude.{◌≡◌, ◌≤◌, ◌<◌, ◌+◌, ◌^◌, [], true, false, length, IfSome, IfNone, IfOk, OnErr, OnOk, if◌then◌else◌};
 ghost use Rattle.disk_places.specs.Places.{reserve};
 ghost use Rattle.disk_rules.specs.Volume.{extents};
-ghost use Rattle.k_map_plans.specs.Plans.{IsStagingFile};
+ghost use Rattle.k_split.specs.k_map_plans.Plans.{IsStagingFile};
 ghost use Rattle.k_split.specs.MapChanges.{free_blocks_in};
 ghost use Rattle.k_split.specs.Order.{IsInOrder};
 ghost use Rattle.pm_words.specs.Powers.{is_on, Steps};

@@ -4,7 +4,7 @@ use Rattle.pm_words.specs.Cells.{AllSingle}
 use Rattle.std.specs.declared.alloc.AllocError.{AllocError}
 use Rattle.k_journal.specs.declared.outcomes.Commit.{Commit}
 use Rattle.k_rules.specs.View.{View}
-use Rattle.k_split.specs.MapChanges.{IsMapDone}
+use Rattle.staging_files.specs.k_split.MapChanges.{IsMapDone}
 use Rattle.staging_files.specs.declared.runs.StageFault.{StageFault}
 use Rattle.staging_files.specs.declared.runs.StageRun.{StageRun}
 use Rattle.staging_files.specs.GivesUp.{AgreesAfterAll, AreGivenUp, IsGiveUpAllAnswer}

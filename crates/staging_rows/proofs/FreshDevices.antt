@@ -9,7 +9,7 @@ use Rattle.pm_words.specs.Words.{word_at, Words}
 use Rattle.disk_places.specs.Places.{commit_word, Geometry}
 use Rattle.disk_lines.specs.Fresh.{fresh}
 use Rattle.disk_rules.specs.Rules.{geometry_of, IsChecked}
-use Rattle.image_facts.specs.FreshLines.{fresh-commit}
+use Rattle.staging_files.specs.image_facts.FreshLines.{fresh-commit}
 
 -- what opening it asks for
 pub record IsFreshDevice (g : Geometry) (d : List Cell) : Type 0 where

@@ -7,9 +7,9 @@ ghost use Rattle.staging_files.specs.Keeps.{Agrees};
 ghost use Rattle.staging_rows.specs.Calm.{IsCalm};
 
 use image_layout::Geometry;
-use k_split::{KSplit, mkfs};
 use pm_lines::Pm;
 use staging_files::Staging;
+use staging_files::k_split::{KSplit, mkfs};
 use std::alloc::{AllocError, Global};
 
 // The K-Split of a fresh device.

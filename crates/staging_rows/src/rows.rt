@@ -3,8 +3,8 @@ ghost use Rattle.std.specs.Prelude.{◌≤◌, OnOk};
 ghost use Rattle.staging_rows.specs.Calm.{IsCalm, IsCalmAfter, IsCalmDone};
 
 use k_journal::Commit;
-use k_split::KSplit;
 use pm_lines::Power;
+use staging_files::k_split::KSplit;
 use staging_files::{StageFault, StageRun, Staging};
 use std::alloc::{AllocError, Global};
 

@@ -5,7 +5,7 @@ use Rattle.std.proofs.lemmas.Bool.Decides.{nat_tests}
 use Rattle.disk_lines.specs.declared.Draft.{Draft}
 use Rattle.disk_lines.specs.Entries.{is_draft}
 use Rattle.list_facts.specs.Members.{In}
-use Rattle.world_rules.specs.Stands.{Consecutive}
+use Rattle.log_checkpoint.specs.world_rules.Stands.{Consecutive}
 
 -- the bounds of an entry
 pub record Bounds (d : Draft) : Type 0 where

@@ -13,20 +13,20 @@ use Rattle.disk_rules.specs.Volume.{inode}
 use Rattle.file_overlay.specs.declared.runs.Run.{Run}
 use Rattle.file_overlay.specs.Runs.{Overlaid}
 use Rattle.file_table.specs.Files.{nothing_laid, runs_in}
-use Rattle.fsync_relink.specs.Others.{AllApart}
-use Rattle.fsync_relink.specs.Publishes.{ShareNone}
-use Rattle.k_map_plans.specs.Plans.{IsLiveFile}
-use Rattle.k_plans.proofs.FreeCounts.{unwaiting-counted}
+use Rattle.log_checkpoint.specs.fsync_relink.Others.{AllApart}
+use Rattle.log_checkpoint.specs.fsync_relink.Publishes.{ShareNone}
+use Rattle.log_checkpoint.specs.k_map_plans.Plans.{IsLiveFile}
+use Rattle.log_checkpoint.proofs.k_plans_proofs.FreeCounts.{unwaiting-counted}
 use Rattle.k_rules.specs.View.{View}
 use Rattle.list_facts.specs.Filters.{filter-In}
 use Rattle.list_facts.specs.Members.{In}
 use Rattle.log_checkpoint.specs.Gathers.{MayGather, total_runs}
-use Rattle.overlay_facts.specs.Overlays.{run_of}
+use Rattle.world_standing.specs.overlay_facts.Overlays.{run_of}
 use Rattle.posix_words.specs.Open.{Tables}
 use Rattle.posix_spec.specs.State.{State}
-use Rattle.world_rules.specs.Jobs.{live_claims}
-use Rattle.world_promise.specs.TreeRules.{used_below}
-use Rattle.world_rules.specs.Stands.{entries_of, is_used}
+use Rattle.log_checkpoint.specs.world_rules.Jobs.{live_claims}
+use Rattle.log_checkpoint.specs.world_promise.TreeRules.{used_below}
+use Rattle.log_checkpoint.specs.world_rules.Stands.{entries_of, is_used}
 use Rattle.world_standing.specs.Standing.{Kept, StandsAt}
 use Rattle.standing_facts.specs.Laws.{StandsToGather}
 use Rattle.standing_facts.proofs.Entries.{each_mapped, mapped_length}

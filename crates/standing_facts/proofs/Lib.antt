@@ -1,3 +1,4 @@
 mod Entries
 mod Gathering
 mod Publishing
+pub use Rattle.log_checkpoint.proofs as log_checkpoint_proofs

@@ -16,23 +16,23 @@ use Rattle.extent_facts.specs.Covers.{covers-disk_at}
 use Rattle.extent_words.specs.Extents.{disk_at, is_within}
 use Rattle.file_overlay.specs.Laws.{IsEarlier}
 use Rattle.file_table.specs.Files.{runs_in, size_in}
-use Rattle.fsync_relink.specs.Publishes.{IsStagedRun, MayPublish, ShareNone}
-use Rattle.k_map_plans.specs.Plans.{IsLiveFile, IsStagingFile}
-use Rattle.k_plans.proofs.FreeCounts.{unwaiting-counted}
+use Rattle.log_checkpoint.specs.fsync_relink.Publishes.{IsStagedRun, MayPublish, ShareNone}
+use Rattle.log_checkpoint.specs.k_map_plans.Plans.{IsLiveFile, IsStagingFile}
+use Rattle.log_checkpoint.proofs.k_plans_proofs.FreeCounts.{unwaiting-counted}
 use Rattle.k_rules.specs.View.{View}
 use Rattle.list_facts.specs.Filters.{filter-In}
 use Rattle.list_facts.specs.Members.{In}
-use Rattle.overlay_facts.specs.Overlays.{run_of}
+use Rattle.world_standing.specs.overlay_facts.Overlays.{run_of}
 use Rattle.posix_words.specs.Open.{Tables}
 use Rattle.posix_spec.specs.State.{State}
-use Rattle.staging_files.proofs.GiveUpLaws.{staging-file}
+use Rattle.log_checkpoint.proofs.staging_files_proofs.GiveUpLaws.{staging-file}
 use Rattle.volume_facts.specs.LineWords.{data_word, data_word-not_journaled}
-use Rattle.volume_uses.specs.OwnerLaws.{IsOnePlace, one_owner}
-use Rattle.volume_uses.specs.PoolLaws.{covered-in_data}
-use Rattle.world_promise.specs.Lent.{once_named}
-use Rattle.world_rules.specs.Jobs.{IsStagedIn, Job, JobsStand, JobStands, live_claims}
-use Rattle.world_rules.specs.Stands.{Consecutive, entries_of}
-use Rattle.world_steps.specs.Worlds.{IsWorld}
+use Rattle.log_checkpoint.specs.volume_uses.OwnerLaws.{IsOnePlace, one_owner}
+use Rattle.log_checkpoint.specs.volume_uses.PoolLaws.{covered-in_data}
+use Rattle.log_checkpoint.specs.world_promise.Lent.{once_named}
+use Rattle.log_checkpoint.specs.world_rules.Jobs.{IsStagedIn, Job, JobsStand, JobStands, live_claims}
+use Rattle.log_checkpoint.specs.world_rules.Stands.{Consecutive, entries_of}
+use Rattle.log_checkpoint.specs.world_steps.Worlds.{IsWorld}
 use Rattle.world_standing.specs.Standing.{Kept, StandsAt}
 use Rattle.standing_facts.specs.Laws.{StandsToPublish}
 use Rattle.standing_facts.proofs.Entries.{bounds, each_mapped, mapped_length, order_at, order_of, at_In, pairs_mapped}

@@ -3,8 +3,8 @@ use Rattle.std.specs.Prelude.{◌≤◌, ◌^◌, ℕ, Bool, All}
 use Rattle.disk_lines.specs.Lines.{most_bytes}
 use Rattle.disk_places.specs.Places.{Geometry}
 use Rattle.file_table.specs.Files.{runs_in, size_in}
-use Rattle.fsync_relink.specs.Publishes.{MayPublish}
-use Rattle.k_map_plans.specs.Plans.{IsLiveFile}
+use Rattle.log_checkpoint.specs.fsync_relink.Publishes.{MayPublish}
+use Rattle.log_checkpoint.specs.k_map_plans.Plans.{IsLiveFile}
 use Rattle.k_rules.specs.View.{View}
 use Rattle.log_checkpoint.specs.Gathers.{MayGather}
 use Rattle.posix_words.specs.Open.{Tables}

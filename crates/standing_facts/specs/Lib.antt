@@ -1,1 +1,2 @@
 pub mod Laws
+pub use Rattle.log_checkpoint.specs as log_checkpoint

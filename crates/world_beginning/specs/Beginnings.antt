@@ -11,7 +11,7 @@ use Rattle.disk_lines.specs.Names.{row}
 use Rattle.disk_rules.specs.Reading.{slot_for}
 use Rattle.disk_rules.specs.Rules.{IsKindAt}
 use Rattle.disk_rules.specs.Volume.{inode}
-use Rattle.name_facts.specs.RowLaws.{row-below}
+use Rattle.world_steps.specs.name_facts.RowLaws.{row-below}
 use Rattle.posix_types.specs.declared.reply.Shape.{Shape}
 use Rattle.posix_types.specs.declared.tree.TreeEntry.{TreeEntry}
 use Rattle.posix_words.specs.Names.{is_root}
@@ -20,8 +20,8 @@ use Rattle.posix_spec.specs.State.{made, State}
 use Rattle.posix_spec.specs.Tree.{bare, planted, start}
 use Rattle.posix_trees.specs.Begins.{AreBegun-start, IsTree}
 use Rattle.posix_trees.specs.TreeLaws.{tree-start}
-use Rattle.world_rules.specs.Stands.{NodesStand, Stands}
-use Rattle.world_spaces.specs.Counts.{HasShape, lines_left-same, nodes_left-same}
+use Rattle.world_steps.specs.world_rules.Stands.{NodesStand, Stands}
+use Rattle.world_steps.specs.world_spaces.Counts.{HasShape, lines_left-same, nodes_left-same}
 use Rattle.world_beginning.specs.Begun.{NamesStand-begun, NodesStand-begun, numbers_of}
 use Rattle.world_beginning.specs.Laws.{BeginsMounted, HasTreeMounted, MountsReads}
 use Rattle.world_beginning.specs.Rooms.{Fits-mounted}

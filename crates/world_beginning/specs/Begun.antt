@@ -28,9 +28,9 @@ use Rattle.list_facts.specs.Members.{In, In-slice_get}
 use Rattle.posix_trees.specs.Begins.{AreBegun, HaveOwnChildren, node_at-begun, one_element}
 use Rattle.posix_trees.specs.Entries.{child_of-In, Leads-child_of}
 use Rattle.posix_trees.specs.Order.{rising_place}
-use Rattle.world_rules.specs.Shown.{IsTreeOfContent, shown_as}
-use Rattle.world_rules.specs.Stands.{is_used, IsUsed, NamesStand, NodesStand, NodeStands, number}
-use Rattle.world_promise.specs.TreeRules.{child_used, used_below}
+use Rattle.world_steps.specs.world_rules.Shown.{IsTreeOfContent, shown_as}
+use Rattle.world_steps.specs.world_rules.Stands.{is_used, IsUsed, NamesStand, NodesStand, NodeStands, number}
+use Rattle.world_steps.specs.world_promise.TreeRules.{child_used, used_below}
 use Rattle.world_beginning.specs.Mounted.{found_at, IsMounted, last_step, led_used, one_path, path_of_used, same_shown, shows}
 
 -- ---- the numbers

@@ -17,7 +17,7 @@ use Rattle.posix_types.specs.declared.tree.TreeEntry.{TreeEntry}
 use Rattle.posix_spec.specs.State.{space, State}
 use Rattle.posix_spec.specs.Tree.{start, tree}
 use Rattle.posix_trees.specs.Begins.{IsTree}
-use Rattle.world_rules.specs.Shown.{IsTreeOfContent}
+use Rattle.world_steps.specs.world_rules.Shown.{IsTreeOfContent}
 use Rattle.world_steps.specs.Worlds.{IsWorld}
 use Rattle.world_beginning.specs.Begun.{numbers_of}
 use Rattle.world_beginning.specs.Mounted.{IsMounted}

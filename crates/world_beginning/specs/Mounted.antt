@@ -15,19 +15,19 @@ use Rattle.disk_rules.specs.Content as shown
 use Rattle.disk_rules.specs.Content.{bytes_of_file, found, HasBytes, IsDirectory, node_by, node_of}
 use Rattle.disk_rules.specs.Live.{is_directory}
 use Rattle.disk_rules.specs.Volume.{inode, Volume}
-use Rattle.name_facts.specs.Forests.{IsForest}
-use Rattle.name_facts.specs.KeptLaws.{kept-forest, kept-keyed, kept-placed}
-use Rattle.name_facts.specs.RowLaws.{row-below}
+use Rattle.world_steps.specs.name_facts.Forests.{IsForest}
+use Rattle.world_steps.specs.name_facts.KeptLaws.{kept-forest, kept-keyed, kept-placed}
+use Rattle.world_steps.specs.name_facts.RowLaws.{row-below}
 use Rattle.volume_facts.specs.Lists.{count_by-some}
-use Rattle.volume_names.specs.TreeLaws.{one-path}
+use Rattle.world_steps.specs.volume_names.TreeLaws.{one-path}
 use Rattle.posix_types.specs.declared.tree.TreeNode.{TreeNode}
 use Rattle.posix_words.specs.Names.{bytes_before}
 use Rattle.posix_words.specs.Places.{printed}
 use Rattle.posix_trees.specs.Order.{not_before_itself}
 use Rattle.posix_trees.specs.Paths.{by_last, IsFilled}
-use Rattle.world_rules.specs.Shown.{shown_as}
-use Rattle.world_rules.specs.Stands.{is_used, IsSane, IsUsed}
-use Rattle.world_promise.specs.TreeRules.{all_lines, child_used}
+use Rattle.world_steps.specs.world_rules.Shown.{shown_as}
+use Rattle.world_steps.specs.world_rules.Stands.{is_used, IsSane, IsUsed}
+use Rattle.world_steps.specs.world_promise.TreeRules.{all_lines, child_used}
 
 -- What a mount leaves: a sane volume in which each file has a name.
 pub record IsMounted (v : Volume) : Type 0 where

@@ -19,9 +19,9 @@ use Rattle.posix_words.specs.declared.nodes.Node.{Node}
 use Rattle.posix_words.specs.Nodes.{bytes_of, node_at}
 use Rattle.posix_words.specs.Room.{held}
 use Rattle.posix_spec.specs.State.{Fits, State}
-use Rattle.world_rules.specs.Stands.{NodesStand, NodeStands, number}
-use Rattle.world_promise.specs.TreeRules.{used_below}
-use Rattle.world_spaces.specs.Sums.{sum-Reaches}
+use Rattle.world_steps.specs.world_rules.Stands.{NodesStand, NodeStands, number}
+use Rattle.world_steps.specs.world_promise.TreeRules.{used_below}
+use Rattle.world_steps.specs.world_spaces.Sums.{sum-Reaches}
 use Rattle.world_beginning.specs.Mounted.{IsMounted}
 
 abbrev weight : Node → ℕ

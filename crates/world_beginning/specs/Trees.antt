@@ -14,7 +14,7 @@ use Rattle.disk_lines.specs.TableLaws.{NamingLine-child_named}
 use Rattle.disk_rules.specs.Content.{bytes_of_file, found, IsDirectory, node_by}
 use Rattle.disk_rules.specs.Live.{is_directory}
 use Rattle.disk_rules.specs.Volume.{inode, Volume}
-use Rattle.name_facts.specs.KeptLaws.{kept-placed}
+use Rattle.world_steps.specs.name_facts.KeptLaws.{kept-placed}
 use Rattle.posix_types.specs.declared.tree.TreeEntry.{TreeEntry}
 use Rattle.posix_types.specs.declared.tree.TreeNode.{TreeNode}
 use Rattle.posix_words.specs.Names.{bytes_before}
@@ -23,9 +23,9 @@ use Rattle.list_facts.specs.Members.{In}
 use Rattle.posix_trees.specs.Begins.{Follow, IsTree, MayFollow}
 use Rattle.posix_trees.specs.Order.{before_trans, not_before_itself, RisingBy}
 use Rattle.posix_trees.specs.Paths.{by_last, IsFilled}
-use Rattle.world_rules.specs.Shown.{IsTreeOfContent, shown_as}
-use Rattle.world_rules.specs.Stands.{is_used}
-use Rattle.world_promise.specs.TreeRules.{all_lines, parent_used}
+use Rattle.world_steps.specs.world_rules.Shown.{IsTreeOfContent, shown_as}
+use Rattle.world_steps.specs.world_rules.Stands.{is_used}
+use Rattle.world_steps.specs.world_promise.TreeRules.{all_lines, parent_used}
 use Rattle.world_beginning.specs.Mounted.{directory_shown, filled_name, found_at, IsMounted, last_step, nothing_before_root, printed_more, same_shown, Shows, shows}
 
 abbrev text : TreeEntry → List ℕ

@@ -19,13 +19,13 @@ use Rattle.disk_rules.specs.Room.{unused_blocks}
 use Rattle.disk_rules.specs.Rules.{file_blocks_of}
 use Rattle.disk_rules.specs.Volume.{chain, extents, inode, Volume}
 use Rattle.volume_facts.specs.Changes.{chain-set_same, extents-set_other, inode-set_other, inode-set_same}
-use Rattle.volume_uses.specs.PoolLaws.{held-set, unused-held}
-use Rattle.volume_uses.specs.Uses.{blocks_held, HasAllMaps}
+use Rattle.world_names.specs.volume_uses.PoolLaws.{held-set, unused-held}
+use Rattle.world_names.specs.volume_uses.Uses.{blocks_held, HasAllMaps}
 use Rattle.map_rules.specs.Changes.{IsSized, with_size}
 use Rattle.map_rules.specs.Taken.{switched, with_map}
 use Rattle.k_rules.specs.Spaces.{volume_space}
 use Rattle.k_rules.specs.View.{View}
-use Rattle.k_plans.specs.Whole.{IsWhole}
+use Rattle.k_split.specs.k_plans.Whole.{IsWhole}
 use Rattle.k_split.specs.declared.faults.KFault.{KFault}
 use Rattle.k_split.specs.Answers.{IsAnswer, IsCut, IsDone, IsOff}
 use Rattle.k_split.specs.MapChanges.{IsMapCut, IsMapDone, IsSizeAnswer, IsSizedWith}
@@ -42,17 +42,17 @@ use Rattle.posix_spec.specs.State.{alone, space, State}
 use Rattle.posix_spec.specs.Step.{is_busy}
 use Rattle.crash_spec.specs.Busy.{waits_for}
 use Rattle.list_facts.specs.Filters.{filter-agree}
-use Rattle.world_rules.specs.Jobs.{Job, live_claims}
-use Rattle.world_rules.specs.Stands.{entries_of, IsSane, IsUsed, number}
-use Rattle.world_spaces.specs.Mirrors.{Mirrors, node_at_path-same}
-use Rattle.world_spaces.specs.Rows.{HaveSameRows-Mirrors}
-use Rattle.world_steps.specs.Steps.{LetsJobsBe}
-use Rattle.world_steps.specs.Worlds.{IsWorld, world_mirror}
+use Rattle.world_names.specs.world_rules.Jobs.{Job, live_claims}
+use Rattle.world_names.specs.world_rules.Stands.{entries_of, IsSane, IsUsed, number}
+use Rattle.world_names.specs.world_spaces.Mirrors.{Mirrors, node_at_path-same}
+use Rattle.world_names.specs.world_spaces.Rows.{HaveSameRows-Mirrors}
+use Rattle.world_names.specs.world_steps.Steps.{LetsJobsBe}
+use Rattle.world_names.specs.world_steps.Worlds.{IsWorld, world_mirror}
 use Rattle.world_jobs.specs.Resizes.{HasAlone, Resizes}
 use Rattle.world_jobs.specs.ResizeSteps.{cut}
-use Rattle.world_images.specs.Images.{HasRoom, StandsFor}
-use Rattle.world_images.specs.Rooms.{room_kept}
-use Rattle.world_images.specs.Settings.{keeps_setting}
+use Rattle.world_lent.specs.world_images.Images.{HasRoom, StandsFor}
+use Rattle.world_lent.specs.world_images.Rooms.{room_kept}
+use Rattle.world_lent.specs.world_images.Settings.{keeps_setting}
 use Rattle.world_exits.specs.Going.{IsStep}
 use Rattle.world_exits.specs.Laws.{CutsAsAnswer, cut_to_nothing, StepsCut}
 

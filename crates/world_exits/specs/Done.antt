@@ -17,10 +17,10 @@ use Rattle.posix_types.specs.declared.call.Mode.{Mode}
 use Rattle.posix_types.specs.declared.item.Item.{Item}
 use Rattle.posix_spec.specs.Run.{Begun, run}
 use Rattle.posix_spec.specs.State.{State}
-use Rattle.world_rules.specs.Jobs.{Job, JobsStand}
-use Rattle.world_images.specs.Images.{HasLogHome, IsChange, IsRunning, StandsFor}
-use Rattle.world_images.specs.Promised.{IsKept, KeepsPromise}
-use Rattle.world_images.specs.Running.{changes_device, keeps_log_home, promise_now, promise_of_call}
+use Rattle.world_names.specs.world_rules.Jobs.{Job, JobsStand}
+use Rattle.world_lent.specs.world_images.Images.{HasLogHome, IsChange, IsRunning, StandsFor}
+use Rattle.world_lent.specs.world_images.Promised.{IsKept, KeepsPromise}
+use Rattle.world_lent.specs.world_images.Running.{changes_device, keeps_log_home, promise_now, promise_of_call}
 use Rattle.world_lent.specs.Back.{IsPutBack}
 use Rattle.world_lent.specs.Flights.{promise_at_begin, promise_beside, promise_between}
 use Rattle.world_lent.specs.Laws.{SameBlocks}

@@ -10,16 +10,16 @@ use Rattle.disk_places.specs.Journal.{journaled}
 use Rattle.disk_lines.specs.declared.Draft.{Draft}
 use Rattle.disk_rules.specs.Live.{is_directory}
 use Rattle.disk_rules.specs.Volume.{inode, Volume}
-use Rattle.volume_names.specs.Paths.{CanReplace}
-use Rattle.volume_changes.specs.CallLaws.{root-directory, row_to}
-use Rattle.volume_changes.specs.Changes.{MayDrop}
-use Rattle.volume_changes.specs.FoundLaws.{IsRowFound}
+use Rattle.world_names.specs.volume_names.Paths.{CanReplace}
+use Rattle.world_names.specs.volume_changes.CallLaws.{root-directory, row_to}
+use Rattle.world_names.specs.volume_changes.Changes.{MayDrop}
+use Rattle.world_names.specs.volume_changes.FoundLaws.{IsRowFound}
 use Rattle.k_rules.specs.Changes.{renamed_over_directory, renamed_over_file}
 use Rattle.k_rules.specs.Spaces.{is_directory_in, volume_space}
-use Rattle.k_tables.specs.Found.{IsTargetAt}
-use Rattle.k_tables.specs.declared.removing.Entry.{Entry}
-use Rattle.k_tables.specs.declared.renaming.Moving.{Moving}
-use Rattle.k_plans.specs.Renaming.{file_over, IsRenamed, renamed_over}
+use Rattle.k_split.specs.k_tables.Found.{IsTargetAt}
+use Rattle.k_split.specs.k_tables.declared.removing.Entry.{Entry}
+use Rattle.k_split.specs.k_tables.declared.renaming.Moving.{Moving}
+use Rattle.k_split.specs.k_plans.Renaming.{file_over, IsRenamed, renamed_over}
 use Rattle.posix_types.specs.declared.call.Call.{Call}
 use Rattle.posix_types.specs.declared.item.Outcome.{Outcome}
 use Rattle.posix_types.specs.declared.reply.Reply.{Reply}
@@ -31,16 +31,16 @@ use Rattle.posix_spec.specs.Run.{after_call}
 use Rattle.posix_spec.specs.State.{alone, space, State, swept, unnamed as unnamed_state, with_node}
 use Rattle.posix_spec.specs.Step.{mkdir_done, rename_done, renamed as renamed_state, rmdir_done, Stepped, stepped, unlink_done}
 use Rattle.posix_spec.specs.Tree.{tree}
-use Rattle.world_rules.specs.Jobs.{Job}
-use Rattle.world_rules.specs.Stands.{IsUsed, number}
-use Rattle.world_promise.specs.TreeRules.{used_below}
-use Rattle.world_spaces.specs.Mirrors.{Mirrors}
-use Rattle.world_spaces.specs.Rows.{HaveSameRows, HaveSameRows-Mirrors}
-use Rattle.world_steps.specs.Nameless.{IsNameless, nameless-count, nameless-moved_over}
+use Rattle.world_names.specs.world_rules.Jobs.{Job}
+use Rattle.world_names.specs.world_rules.Stands.{IsUsed, number}
+use Rattle.world_names.specs.world_promise.TreeRules.{used_below}
+use Rattle.world_names.specs.world_spaces.Mirrors.{Mirrors}
+use Rattle.world_names.specs.world_spaces.Rows.{HaveSameRows, HaveSameRows-Mirrors}
+use Rattle.world_names.specs.world_steps.Nameless.{IsNameless, nameless-count, nameless-moved_over}
 use Rattle.world_names.specs.RemoveCalls.{one_number, row_of}
-use Rattle.world_steps.specs.Worlds.{IsFound, IsWorld, node_there, world_mirror, world_volume}
-use Rattle.world_images.specs.Images.{StandsFor}
-use Rattle.world_images.specs.Unseen.{tree-swept}
+use Rattle.world_names.specs.world_steps.Worlds.{IsFound, IsWorld, node_there, world_mirror, world_volume}
+use Rattle.world_lent.specs.world_images.Images.{StandsFor}
+use Rattle.world_lent.specs.world_images.Unseen.{tree-swept}
 use Rattle.world_exits.specs.Going.{moved_so_far}
 use Rattle.world_exits.specs.Laws.{DoneByRow, RefusedByRow, RenamesOverFile, TreeOfRename, TreeOfUnlink}
 use Rattle.world_exits.specs.Moves.{can_replace, may_go, target_at}

@@ -7,7 +7,7 @@ use Rattle.disk_rules.specs.Room.{unused_blocks}
 use Rattle.disk_rules.specs.Volume.{extents, inode, Volume}
 use Rattle.k_rules.specs.Spaces.{is_directory_in}
 use Rattle.k_rules.specs.View.{View}
-use Rattle.k_tables.specs.declared.removing.Entry.{Entry}
+use Rattle.k_split.specs.k_tables.declared.removing.Entry.{Entry}
 use Rattle.k_split.specs.Order.{IsInOrder}
 use Rattle.posix_types.specs.declared.call.Call.{Call}
 use Rattle.posix_types.specs.declared.call.Who.{Who}
@@ -19,10 +19,10 @@ use Rattle.posix_spec.specs.Run.{after_call}
 use Rattle.posix_spec.specs.State.{State}
 use Rattle.posix_spec.specs.Step.{renamed as renamed_state}
 use Rattle.list_facts.specs.Members.{In}
-use Rattle.world_rules.specs.Jobs.{Job, live_claims}
-use Rattle.world_rules.specs.Stands.{entries_of}
-use Rattle.world_images.specs.Images.{HasRoom, StandsFor}
-use Rattle.world_images.specs.Laws.{Takes}
+use Rattle.world_names.specs.world_rules.Jobs.{Job, live_claims}
+use Rattle.world_names.specs.world_rules.Stands.{entries_of}
+use Rattle.world_lent.specs.world_images.Images.{HasRoom, StandsFor}
+use Rattle.world_lent.specs.world_images.Laws.{Takes}
 
 -- THE WORLD GOES ON: K-Split is in order, each change is committed at once, the power is on, and its device stands for the
 -- state, with these claims in the log and these writes in flight, whatever is in the log lines.

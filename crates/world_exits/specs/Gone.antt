@@ -16,14 +16,14 @@ use Rattle.posix_puts.specs.ViewLaws.{need_of-kept, PutsWhole-kept}
 use Rattle.posix_puts.specs.Views.{AreAfforded, KeepsView}
 use Rattle.posix_spec.specs.Run.{Begun}
 use Rattle.posix_spec.specs.State.{room, State, with_node}
-use Rattle.posix_frames.specs.Bystanders.{IsHeld}
-use Rattle.posix_frames.specs.Flights.{InFlight, IsHeld-put, KeepsView-seen}
-use Rattle.posix_frames.specs.Frames.{KeepsSeen}
-use Rattle.posix_frames.specs.Needs.{AreInFlight, Flight, needs, needs-cons}
-use Rattle.posix_frames.specs.Needs as flying
-use Rattle.world_rules.specs.Jobs.{begun_of, Job, live_claims, Valid}
-use Rattle.world_rules.specs.Stands.{number}
-use Rattle.world_steps.specs.Steps.{AreInFlight-jobs, begun-flights, flights_of, GoOn, HaveSameFiles}
+use Rattle.world_names.specs.posix_frames.Bystanders.{IsHeld}
+use Rattle.world_names.specs.posix_frames.Flights.{InFlight, IsHeld-put, KeepsView-seen}
+use Rattle.world_names.specs.posix_frames.Frames.{KeepsSeen}
+use Rattle.world_names.specs.posix_frames.Needs.{AreInFlight, Flight, needs, needs-cons}
+use Rattle.world_names.specs.posix_frames.Needs as flying
+use Rattle.world_names.specs.world_rules.Jobs.{begun_of, Job, live_claims, Valid}
+use Rattle.world_names.specs.world_rules.Stands.{number}
+use Rattle.world_names.specs.world_steps.Steps.{AreInFlight-jobs, begun-flights, flights_of, GoOn, HaveSameFiles}
 
 -- what files hold does not grow
 weigh : Node → ℕ

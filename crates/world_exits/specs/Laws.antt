@@ -7,16 +7,16 @@ use Rattle.disk_lines.specs.declared.Kind.TheVariants.{File}
 use Rattle.disk_rules.specs.Volume.{inode, Volume}
 use Rattle.map_rules.specs.Changes.{with_size}
 use Rattle.map_rules.specs.Taken.{switched}
-use Rattle.volume_uses.specs.Uses.{HasAllMaps}
-use Rattle.volume_changes.specs.Changes.{MayDrop}
+use Rattle.world_names.specs.volume_uses.Uses.{HasAllMaps}
+use Rattle.world_names.specs.volume_changes.Changes.{MayDrop}
 use Rattle.k_rules.specs.Changes.{dropped}
 use Rattle.k_rules.specs.Spaces.{volume_space}
 use Rattle.k_rules.specs.View.{View}
-use Rattle.k_plans.specs.Making.{IsMade}
-use Rattle.k_plans.specs.Removing.{IsRemoved, IsUnlinked}
-use Rattle.k_plans.specs.Renaming.{IsRenamed}
+use Rattle.k_split.specs.k_plans.Making.{IsMade}
+use Rattle.k_split.specs.k_plans.Removing.{IsRemoved, IsUnlinked}
+use Rattle.k_split.specs.k_plans.Renaming.{IsRenamed}
 use Rattle.path_spelling.specs.Spelling.{AreSpelled}
-use Rattle.k_plans.specs.Whole.{IsWhole}
+use Rattle.k_split.specs.k_plans.Whole.{IsWhole}
 use Rattle.k_split.specs.declared.faults.KFault.{KFault}
 use Rattle.k_split.specs.Answers.{IsAnswer, IsCut, IsDone, IsOff}
 use Rattle.k_split.specs.MapChanges.{IsSizeAnswer}
@@ -36,16 +36,16 @@ use Rattle.posix_spec.specs.Run.{after_call, Begun, run}
 use Rattle.posix_spec.specs.State.{alone, State, swept, unnamed as unnamed_state}
 use Rattle.posix_spec.specs.Step.{is_busy, step}
 use Rattle.posix_spec.specs.Tree.{tree}
-use Rattle.world_rules.specs.Jobs.{begun_of, Job, live_claims}
-use Rattle.world_rules.specs.Promised.{AreWhole}
-use Rattle.world_rules.specs.Stands.{entries_of, number}
-use Rattle.world_steps.specs.Makers.{renumbered}
-use Rattle.posix_orders.specs.Orders.{AreTwoEach}
-use Rattle.world_steps.specs.Steps.{flights_of, LetsJobsBe}
-use Rattle.world_steps.specs.Worlds.{IsWorld}
-use Rattle.world_images.specs.Images.{HasLogHome, StandsFor}
-use Rattle.world_images.specs.Laws.{IsTreeOf}
-use Rattle.world_images.specs.Promised.{IsKept, KeepsPromise}
+use Rattle.world_names.specs.world_rules.Jobs.{begun_of, Job, live_claims}
+use Rattle.world_names.specs.world_rules.Promised.{AreWhole}
+use Rattle.world_names.specs.world_rules.Stands.{entries_of, number}
+use Rattle.world_names.specs.world_steps.Makers.{renumbered}
+use Rattle.world_lent.specs.posix_orders.Orders.{AreTwoEach}
+use Rattle.world_names.specs.world_steps.Steps.{flights_of, LetsJobsBe}
+use Rattle.world_names.specs.world_steps.Worlds.{IsWorld}
+use Rattle.world_lent.specs.world_images.Images.{HasLogHome, StandsFor}
+use Rattle.world_lent.specs.world_images.Laws.{IsTreeOf}
+use Rattle.world_lent.specs.world_images.Promised.{IsKept, KeepsPromise}
 use Rattle.world_lent.specs.Back.{IsPutBack}
 use Rattle.world_lent.specs.Laws.{LeadsTo}
 use Rattle.world_exits.specs.Going.{gone_by, IsGoing, IsNameCall, IsStep, moved_so_far, row_of_call}

@@ -19,14 +19,14 @@ use Rattle.disk_rules.specs.Uses.{owners, Use}
 use Rattle.disk_rules.specs.Volume.{free_inode, inode, Volume}
 use Rattle.volume_facts.specs.Changes.{inode-set_other, inode-set_same}
 use Rattle.volume_facts.specs.Lists.{one_if}
-use Rattle.volume_uses.specs.OwnerLaws.{owners-node, owners-row, owners-set}
-use Rattle.volume_uses.specs.Uses.{HasAllMaps}
+use Rattle.world_names.specs.volume_uses.OwnerLaws.{owners-node, owners-row, owners-set}
+use Rattle.world_names.specs.volume_uses.Uses.{HasAllMaps}
 use Rattle.k_rules.specs.Changes.{dropped, gone_node, made, new_node}
 use Rattle.list_facts.specs.Filters.{filter-In}
 use Rattle.list_facts.specs.Members.{In}
-use Rattle.world_rules.specs.Jobs.{live_claims}
-use Rattle.world_rules.specs.Stands.{entries_of}
-use Rattle.world_steps.specs.Ages.{AreAged, dead-made}
+use Rattle.world_names.specs.world_rules.Jobs.{live_claims}
+use Rattle.world_names.specs.world_rules.Stands.{entries_of}
+use Rattle.world_names.specs.world_steps.Ages.{AreAged, dead-made}
 use Rattle.world_exits.specs.Going.{LeavesFiles}
 
 -- ---- free blocks

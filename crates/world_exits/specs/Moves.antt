@@ -6,15 +6,15 @@ use Rattle.disk_places.specs.Journal.{journaled}
 use Rattle.disk_lines.specs.Lines.{is_name}
 use Rattle.disk_rules.specs.Reading.{node_set}
 use Rattle.disk_rules.specs.Volume.{inode, Volume}
-use Rattle.volume_names.specs.Paths.{CanReplace, IsAt, IsNewAt, MayGo}
-use Rattle.volume_names.specs.RenameLaws.{rename-may}
-use Rattle.volume_changes.specs.CallLaws.{row_to}
+use Rattle.world_names.specs.volume_names.Paths.{CanReplace, IsAt, IsNewAt, MayGo}
+use Rattle.world_names.specs.volume_names.RenameLaws.{rename-may}
+use Rattle.world_names.specs.volume_changes.CallLaws.{row_to}
 use Rattle.k_rules.specs.Changes.{gone_node, removed, renamed_over_directory, renamed_over_file, unnamed}
 use Rattle.k_rules.specs.Spaces.{is_directory_in, volume_space}
-use Rattle.k_tables.specs.Found.{IsMoving, IsTargetAt}
-use Rattle.k_tables.specs.declared.removing.Entry.{Entry}
-use Rattle.k_tables.specs.declared.renaming.Moving.{Moving}
-use Rattle.k_plans.specs.Renaming.{file_over, renamed_over}
+use Rattle.k_split.specs.k_tables.Found.{IsMoving, IsTargetAt}
+use Rattle.k_split.specs.k_tables.declared.removing.Entry.{Entry}
+use Rattle.k_split.specs.k_tables.declared.renaming.Moving.{Moving}
+use Rattle.k_split.specs.k_plans.Renaming.{file_over, renamed_over}
 use Rattle.posix_types.specs.declared.call.Call.{Call}
 use Rattle.posix_types.specs.declared.reply.Errno.{Errno}
 use Rattle.posix_words.specs.NameRows.{rename_rows}
@@ -22,12 +22,12 @@ use Rattle.posix_words.specs.Names.{child_of, last_name, Space, walk}
 use Rattle.posix_words.specs.Outcomes.{first}
 use Rattle.posix_spec.specs.Run.{after_call}
 use Rattle.posix_spec.specs.Step.{renamed as renamed_state}
-use Rattle.world_rules.specs.Jobs.{Job}
-use Rattle.world_promise.specs.TreeRules.{used_below}
+use Rattle.world_names.specs.world_rules.Jobs.{Job}
+use Rattle.world_names.specs.world_promise.TreeRules.{used_below}
 use Rattle.world_names.specs.RenameCalls.{IsWorld-rename_directory, IsWorld-rename_midway, IsWorld-renamed}
-use Rattle.world_steps.specs.Worlds.{IsFound, IsWorld}
-use Rattle.world_images.specs.Rooms.{room_renamed, room_renamed_over_directory, room_renamed_over_file}
-use Rattle.world_images.specs.Settings.{keeps_setting}
+use Rattle.world_names.specs.world_steps.Worlds.{IsFound, IsWorld}
+use Rattle.world_lent.specs.world_images.Rooms.{room_renamed, room_renamed_over_directory, room_renamed_over_file}
+use Rattle.world_lent.specs.world_images.Settings.{keeps_setting}
 use Rattle.world_exits.specs.Going.{gone_by, IsStep, moved_so_far}
 use Rattle.world_exits.specs.Laws.{StepsRename}
 use Rattle.world_exits.specs.Spelled.{last_fits}

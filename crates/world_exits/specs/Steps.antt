@@ -13,15 +13,15 @@ use Rattle.disk_lines.specs.declared.Kind.TheVariants.{Directory, File, Free, St
 use Rattle.disk_rules.specs.Live.{is_directory}
 use Rattle.disk_rules.specs.Reading.{node_set}
 use Rattle.disk_rules.specs.Volume.{inode, Volume}
-use Rattle.volume_uses.specs.Uses.{HasAllMaps}
-use Rattle.volume_changes.specs.CallLaws.{row_to}
-use Rattle.volume_changes.specs.Changes.{MayDrop}
-use Rattle.volume_changes.specs.FoundLaws.{free-found, IsLowestFree, IsRowFound}
-use Rattle.volume_changes.specs.FrameLaws.{dropped-others}
+use Rattle.world_names.specs.volume_uses.Uses.{HasAllMaps}
+use Rattle.world_names.specs.volume_changes.CallLaws.{row_to}
+use Rattle.world_names.specs.volume_changes.Changes.{MayDrop}
+use Rattle.world_names.specs.volume_changes.FoundLaws.{free-found, IsLowestFree, IsRowFound}
+use Rattle.world_names.specs.volume_changes.FrameLaws.{dropped-others}
 use Rattle.k_rules.specs.Changes.{dropped, gone_node, made, unnamed}
 use Rattle.k_rules.specs.Spaces.{volume_space}
-use Rattle.k_tables.specs.Found.{IsEntryAt}
-use Rattle.k_tables.specs.declared.removing.Entry.{Entry}
+use Rattle.k_split.specs.k_tables.Found.{IsEntryAt}
+use Rattle.k_split.specs.k_tables.declared.removing.Entry.{Entry}
 use Rattle.posix_types.specs.declared.call.Call.{Call}
 use Rattle.posix_words.specs.declared.nodes.Node.{Node}
 use Rattle.posix_words.specs.Names.{last_name, node_at_path, number_at}
@@ -30,22 +30,22 @@ use Rattle.posix_words.specs.Outcomes.{first}
 use Rattle.posix_spec.specs.Run.{after_call}
 use Rattle.posix_spec.specs.State.{alone, space, State, swept, unnamed as unnamed_state, with_node}
 use Rattle.posix_spec.specs.Step.{stepped, unlink_done}
-use Rattle.world_rules.specs.Jobs.{Job}
-use Rattle.world_rules.specs.Stands.{is_used, IsUsed, number}
-use Rattle.world_promise.specs.TreeRules.{used_below}
-use Rattle.world_spaces.specs.Mirrors.{Mirrors}
-use Rattle.world_spaces.specs.Rows.{HaveSameRows-Mirrors}
+use Rattle.world_names.specs.world_rules.Jobs.{Job}
+use Rattle.world_names.specs.world_rules.Stands.{is_used, IsUsed, number}
+use Rattle.world_names.specs.world_promise.TreeRules.{used_below}
+use Rattle.world_names.specs.world_spaces.Mirrors.{Mirrors}
+use Rattle.world_names.specs.world_spaces.Rows.{HaveSameRows-Mirrors}
 use Rattle.world_names.specs.GoneCalls.{IsWorld-dropped}
 use Rattle.world_names.specs.MadeCalls.{IsWorld-created, IsWorld-mkdir}
-use Rattle.world_steps.specs.Makers.{renumbered}
-use Rattle.world_steps.specs.Nameless.{count-nameless, is_named-nameless, IsNameless, nameless-count, nameless-freed}
-use Rattle.world_steps.specs.NameTables.{row_used}
+use Rattle.world_names.specs.world_steps.Makers.{renumbered}
+use Rattle.world_names.specs.world_steps.Nameless.{count-nameless, is_named-nameless, IsNameless, nameless-count, nameless-freed}
+use Rattle.world_names.specs.world_steps.NameTables.{row_used}
 use Rattle.world_names.specs.RemoveCalls.{IsWorld-rmdir, IsWorld-unlink_midway, one_number, row_of, swept-gone}
-use Rattle.world_steps.specs.Steps.{shown_node}
-use Rattle.world_steps.specs.Worlds.{IsFound, IsWorld, node_there, world_mirror}
-use Rattle.world_images.specs.Images.{StandsFor}
-use Rattle.world_images.specs.Rooms.{room_dropped, room_made, room_removed, room_unnamed}
-use Rattle.world_images.specs.Settings.{keeps_setting}
+use Rattle.world_names.specs.world_steps.Steps.{shown_node}
+use Rattle.world_names.specs.world_steps.Worlds.{IsFound, IsWorld, node_there, world_mirror}
+use Rattle.world_lent.specs.world_images.Images.{StandsFor}
+use Rattle.world_lent.specs.world_images.Rooms.{room_dropped, room_made, room_removed, room_unnamed}
+use Rattle.world_lent.specs.world_images.Settings.{keeps_setting}
 use Rattle.world_exits.specs.Going.{IsStep}
 use Rattle.world_exits.specs.Gone.{GoOn-gone}
 use Rattle.world_exits.specs.Laws.{StateOfUnlink, StepsDropped, StepsMkdir, StepsOpened, StepsRmdir, StepsUnlinked, UnlinksFile}

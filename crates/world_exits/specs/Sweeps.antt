@@ -15,19 +15,19 @@ use Rattle.posix_spec.specs.Run.{after_call, Begun}
 use Rattle.posix_spec.specs.State.{alone, room, State, swept, with_node}
 use Rattle.posix_spec.specs.Tree.{tree}
 use Rattle.crash_spec.specs.Strict.{StrictFrom}
-use Rattle.posix_frames.specs.Flights.{InFlight, IsHeld-put, LeavesAlone-put}
-use Rattle.posix_frames.specs.Handles.{slot_of}
-use Rattle.posix_frames.specs.Needs.{AreInFlight, AreInFlight-step, begun_of, FitsBeside-put, Flight, IsApart, LetsAllBe, needs, needs-cons, needs-step}
-use Rattle.posix_frames.specs.Rooms.{room-step}
-use Rattle.posix_orders.specs.Acted.{acted, Change, node-acted, Touches}
-use Rattle.posix_orders.specs.Orders.{AreTwoEach}
-use Rattle.posix_orders.specs.Pairs.{Acts-twice, ActsTwice}
+use Rattle.world_names.specs.posix_frames.Flights.{InFlight, IsHeld-put, LeavesAlone-put}
+use Rattle.world_names.specs.posix_frames.Handles.{slot_of}
+use Rattle.world_names.specs.posix_frames.Needs.{AreInFlight, AreInFlight-step, begun_of, FitsBeside-put, Flight, IsApart, LetsAllBe, needs, needs-cons, needs-step}
+use Rattle.world_names.specs.posix_frames.Rooms.{room-step}
+use Rattle.world_lent.specs.posix_orders.Acted.{acted, Change, node-acted, Touches}
+use Rattle.world_lent.specs.posix_orders.Orders.{AreTwoEach}
+use Rattle.world_lent.specs.posix_orders.Pairs.{Acts-twice, ActsTwice}
 use Rattle.posix_puts.specs.Views.{AreAfforded}
-use Rattle.world_rules.specs.Jobs.{Job, live_claims}
+use Rattle.world_names.specs.world_rules.Jobs.{Job, live_claims}
 use Rattle.world_names.specs.RemoveCalls.{swept-gone}
-use Rattle.world_steps.specs.Steps.{AreInFlight-jobs, begun-flights, flights_of}
-use Rattle.world_steps.specs.Worlds.{IsWorld}
-use Rattle.world_images.specs.Unseen.{tree-swept}
+use Rattle.world_names.specs.world_steps.Steps.{AreInFlight-jobs, begun-flights, flights_of}
+use Rattle.world_names.specs.world_steps.Worlds.{IsWorld}
+use Rattle.world_lent.specs.world_images.Unseen.{tree-swept}
 use Rattle.world_exits.specs.Gone.{flying_gone, seen_gone}
 use Rattle.world_exits.specs.Laws.{LeadsSwept}
 

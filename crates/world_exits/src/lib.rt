@@ -57,3 +57,5 @@ pub fn replies_are_those_of_the_rows()
     ensures refused { RefusedByRow }
     ensures answered { DoneByRow }
 {}
+
+pub use k_split;

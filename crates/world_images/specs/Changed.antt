@@ -23,10 +23,10 @@ use Rattle.volume_facts.specs.LineWords.{data_word}
 use Rattle.image_facts.specs.ViewLaws.{head_word, sound-head, sound-targets}
 use Rattle.k_rules.specs.Stands.{IsOldOrNew}
 use Rattle.posix_spec.specs.State.{State}
-use Rattle.world_rules.specs.Jobs.{Job}
-use Rattle.world_rules.specs.Shown.{SameButLent}
-use Rattle.world_promise.specs.Lent.{Valid-words}
-use Rattle.world_steps.specs.Worlds.{IsWorld}
+use Rattle.world_log.specs.world_rules.Jobs.{Job}
+use Rattle.world_log.specs.world_rules.Shown.{SameButLent}
+use Rattle.world_log.specs.world_promise.Lent.{Valid-words}
+use Rattle.world_beginning.specs.world_steps.Worlds.{IsWorld}
 use Rattle.world_images.specs.Images.{IsHeaded, ShowsLog}
 
 -- ---- words

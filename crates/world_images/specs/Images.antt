@@ -13,10 +13,10 @@ use Rattle.disk_rules.specs.Rules.{geometry_of, IsOfNoLater}
 use Rattle.disk_rules.specs.Volume.{Volume}
 use Rattle.k_rules.specs.Stands.{IsOldOrNew, Stands}
 use Rattle.posix_spec.specs.State.{State}
-use Rattle.world_rules.specs.Jobs.{Job}
-use Rattle.world_rules.specs.Shown.{AreFilled, landed_pairs, ShowsClaims}
+use Rattle.world_log.specs.world_rules.Jobs.{Job}
+use Rattle.world_log.specs.world_rules.Shown.{AreFilled, landed_pairs, ShowsClaims}
 use Rattle.world_log.specs.Rules.{HasFreeBlocks}
-use Rattle.world_steps.specs.Worlds.{IsWorld}
+use Rattle.world_beginning.specs.world_steps.Worlds.{IsWorld}
 
 -- The head of the image is right, and says this geometry. No log line is in it.
 pub record IsHeaded (g : Geometry) (image : Words) : Type 0 where

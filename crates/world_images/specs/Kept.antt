@@ -19,10 +19,10 @@ use Rattle.posix_spec.specs.Run.{Begun, run}
 use Rattle.posix_spec.specs.State.{State}
 use Rattle.posix_spec.specs.Tree.{tree}
 use Rattle.crash_spec.specs.Permitted.{Permitted}
-use Rattle.world_rules.specs.Jobs.{begun_of, Job}
-use Rattle.world_rules.specs.Promised.{AreWhole, content_shown, IsShown}
-use Rattle.world_rules.specs.Shown.{IsTreeOfContent}
-use Rattle.world_promise.specs.Promise.{has_tree, may_be_lost, may_be_lost_in_sync, strict_promise, sync_promise}
+use Rattle.world_log.specs.world_rules.Jobs.{begun_of, Job}
+use Rattle.world_log.specs.world_rules.Promised.{AreWhole, content_shown, IsShown}
+use Rattle.world_log.specs.world_rules.Shown.{IsTreeOfContent}
+use Rattle.world_log.specs.world_promise.Promise.{has_tree, may_be_lost, may_be_lost_in_sync, strict_promise, sync_promise}
 use Rattle.world_log.specs.Free.{may_recover}
 use Rattle.world_images.specs.Images.{ShowsWorld}
 use Rattle.world_images.specs.Promised.{IsKept}

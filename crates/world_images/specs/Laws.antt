@@ -15,7 +15,7 @@ use Rattle.disk_rules.specs.Checked.{IsCheckedAs}
 use Rattle.disk_rules.specs.Content.{content}
 use Rattle.disk_rules.specs.Rules.{geometry_of}
 use Rattle.disk_rules.specs.Volume.{inode, Volume}
-use Rattle.volume_uses.specs.Uses.{HasAllMaps}
+use Rattle.world_log.specs.volume_uses.Uses.{HasAllMaps}
 use Rattle.k_rules.specs.Changes.{dropped, made, removed, renamed, renamed_over_directory, renamed_over_file, unnamed}
 use Rattle.k_rules.specs.Stands.{Stands}
 use Rattle.posix_types.specs.declared.call.Call.{Call}
@@ -35,13 +35,13 @@ use Rattle.posix_spec.specs.State.{space, State, unnamed as unnamed_state}
 use Rattle.posix_spec.specs.Step.{renamed as renamed_state}
 use Rattle.posix_spec.specs.Tree.{start, tree}
 use Rattle.crash_spec.specs.Permitted.{Permitted}
-use Rattle.world_rules.specs.Jobs.{begun_of, Job}
-use Rattle.world_rules.specs.Promised.{AreWhole}
-use Rattle.world_rules.specs.Shown.{IsTreeOfContent}
+use Rattle.world_log.specs.world_rules.Jobs.{begun_of, Job}
+use Rattle.world_log.specs.world_rules.Promised.{AreWhole}
+use Rattle.world_log.specs.world_rules.Shown.{IsTreeOfContent}
 use Rattle.world_beginning.specs.Begun.{numbers_of}
 use Rattle.world_beginning.specs.Laws.{IsShapeOf}
-use Rattle.world_steps.specs.Ages.{AreAged}
-use Rattle.world_steps.specs.Worlds.{IsWorld}
+use Rattle.world_beginning.specs.world_steps.Ages.{AreAged}
+use Rattle.world_beginning.specs.world_steps.Worlds.{IsWorld}
 use Rattle.world_images.specs.Images.{HasLogHome, HasNoEntry, HasRoom, IsChange, IsHeaded, IsRunning, ShowsWorld, StandsFor}
 use Rattle.world_images.specs.Promised.{IsKept, KeepsPromise}
 use Rattle.world_images.specs.Settings.{KeepsSetting}

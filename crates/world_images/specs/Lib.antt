@@ -8,3 +8,12 @@ pub mod Running
 pub mod Settings
 pub mod Starts
 pub mod Unseen
+pub use Rattle.image_facts.specs as image_facts
+pub use Rattle.world_beginning.specs as world_beginning
+pub use Rattle.world_beginning.specs.volume_changes as volume_changes
+pub use Rattle.world_beginning.specs.world_spaces as world_spaces
+pub use Rattle.world_beginning.specs.world_steps as world_steps
+pub use Rattle.world_log.specs as world_log
+pub use Rattle.world_log.specs.volume_uses as volume_uses
+pub use Rattle.world_log.specs.world_promise as world_promise
+pub use Rattle.world_log.specs.world_rules as world_rules

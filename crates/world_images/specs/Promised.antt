@@ -13,7 +13,7 @@ use Rattle.posix_types.specs.declared.tree.TreeEntry.{TreeEntry}
 use Rattle.posix_spec.specs.Run.{Begun}
 use Rattle.posix_spec.specs.State.{State}
 use Rattle.crash_spec.specs.Permitted.{Permitted}
-use Rattle.world_rules.specs.Shown.{IsTreeOfContent}
+use Rattle.world_log.specs.world_rules.Shown.{IsTreeOfContent}
 
 -- The image is checked, with this geometry; its content has a tree; and each tree of it is permitted after the history, with
 -- these calls unfinished.

@@ -16,12 +16,12 @@ use Rattle.disk_rules.specs.Room.{has_none, unused_blocks}
 use Rattle.disk_rules.specs.Uses.{owners, Use}
 use Rattle.disk_rules.specs.Volume.{free_inode, inode, Volume}
 use Rattle.volume_facts.specs.Lists.{one_if}
-use Rattle.volume_uses.specs.OwnerLaws.{owners-node, owners-row, owners-set}
+use Rattle.world_log.specs.volume_uses.OwnerLaws.{owners-node, owners-row, owners-set}
 use Rattle.k_rules.specs.Changes.{dropped, gone_node, made, new_node, removed, unnamed}
 use Rattle.list_facts.specs.Members.{In}
 use Rattle.posix_spec.specs.State.{State}
-use Rattle.world_rules.specs.Jobs.{Job, live_claims}
-use Rattle.world_steps.specs.Ages.{AreAged, dead-made}
+use Rattle.world_log.specs.world_rules.Jobs.{Job, live_claims}
+use Rattle.world_beginning.specs.world_steps.Ages.{AreAged, dead-made}
 use Rattle.world_images.specs.Images.{HasRoom}
 use Rattle.world_images.specs.Laws.{KeepsRoomDropped, KeepsRoomMade, KeepsRoomRemoved, KeepsRoomRenamed, KeepsRoomRenamedOverDirectory, KeepsRoomRenamedOverFile, KeepsRoomUnnamed}
 

@@ -19,8 +19,8 @@ use Rattle.posix_spec.specs.Tree.{tree}
 use Rattle.crash_spec.specs.Permitted.{Permitted}
 use Rattle.crash_spec.specs.RelationLaws.{Permitted-none, Sync-one}
 use Rattle.crash_spec.specs.Strict.{Strict-one}
-use Rattle.world_rules.specs.Jobs.{Job}
-use Rattle.world_rules.specs.Shown.{SameButLent}
+use Rattle.world_log.specs.world_rules.Jobs.{Job}
+use Rattle.world_log.specs.world_rules.Shown.{SameButLent}
 use Rattle.world_images.specs.Changed.{headed_changed, IsWorld-words, same_data, SameLog-changed, ShowsLog-same, sound_headed}
 use Rattle.world_images.specs.Images.{HasRoom, IsChange, IsHeaded, IsRunning, ShowsLog, ShowsWorld}
 use Rattle.world_images.specs.Kept.{kept_one}

@@ -23,11 +23,11 @@ use Rattle.posix_spec.specs.State.{made, State}
 use Rattle.posix_spec.specs.Tree.{bare, planted, start}
 use Rattle.list_facts.specs.Filters.{filter-In, filter_map-In, range-In}
 use Rattle.list_facts.specs.Members.{In}
-use Rattle.world_rules.specs.Shown.{IsTreeOfContent}
+use Rattle.world_log.specs.world_rules.Shown.{IsTreeOfContent}
 use Rattle.world_beginning.specs.Beginnings.{begins, mounts}
 use Rattle.world_beginning.specs.Begun.{numbers_of}
 use Rattle.world_beginning.specs.Laws.{Begins}
-use Rattle.world_steps.specs.Worlds.{IsWorld}
+use Rattle.world_beginning.specs.world_steps.Worlds.{IsWorld}
 use Rattle.world_images.specs.Images.{HasNoEntry, IsHeaded, IsRunning, ShowsLog}
 use Rattle.world_images.specs.Laws.{BeginsRunning, HasSetting}
 use Rattle.world_images.specs.Settings.{KeepsSetting}

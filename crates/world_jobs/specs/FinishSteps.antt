@@ -14,12 +14,12 @@ use Rattle.posix_spec.specs.State.{room, State}
 use Rattle.posix_puts.specs.Puts.{LeavesWhole, with_whole}
 use Rattle.posix_puts.specs.ViewLaws.{need_of-kept, PutsWhole-kept}
 use Rattle.posix_puts.specs.Views.{KeepsView, need_of}
-use Rattle.posix_frames.specs.Needs.{AreInFlight}
+use Rattle.world_steps.specs.posix_frames.Needs.{AreInFlight}
 use Rattle.crash_spec.specs.Sync.{with_bytes}
-use Rattle.world_rules.specs.Jobs.{ApartFrom, begun_of, Job, JobsStand, JobStands, live_claims}
-use Rattle.world_rules.specs.Stands.{number, Stands}
-use Rattle.world_promise.specs.Beside.{Fits-after, KeepsView-other, LeavesWhole-bytes, room-after, with_bytes-whole}
-use Rattle.world_promise.specs.JobLaws.{acted, live_used, needs}
+use Rattle.world_log.specs.world_rules.Jobs.{ApartFrom, begun_of, Job, JobsStand, JobStands, live_claims}
+use Rattle.world_log.specs.world_rules.Stands.{number, Stands}
+use Rattle.world_log.specs.world_promise.Beside.{Fits-after, KeepsView-other, LeavesWhole-bytes, room-after, with_bytes-whole}
+use Rattle.world_log.specs.world_promise.JobLaws.{acted, live_used, needs}
 use Rattle.world_steps.specs.Steps.{AreBeside, flights_of, HaveSameFiles, InFlight-job}
 use Rattle.world_steps.specs.Touched.{only}
 use Rattle.world_steps.specs.Worlds.{IsWorld}

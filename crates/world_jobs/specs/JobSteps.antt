@@ -12,20 +12,20 @@ use Rattle.disk_rules.specs.Rules.{IsKindAt}
 use Rattle.disk_rules.specs.Live.{is_file, is_live, is_of_file}
 use Rattle.disk_rules.specs.Reading.{base_set}
 use Rattle.disk_rules.specs.Volume.{inode, Volume}
-use Rattle.volume_changes.specs.MapLaws.{base-keeps}
+use Rattle.world_steps.specs.volume_changes.MapLaws.{base-keeps}
 use Rattle.posix_words.specs.Nodes.{node_at}
 use Rattle.posix_spec.specs.Run.{after_call, Begun}
 use Rattle.posix_spec.specs.State.{room, State}
 use Rattle.list_facts.specs.Members.{In}
 use Rattle.posix_puts.specs.Views.{need_of}
 use Rattle.crash_spec.specs.Sync.{with_bytes}
-use Rattle.world_rules.specs.Jobs.{ApartFrom, AreApartJobs, begun_of, Job, JobsStand, JobStands, live_claims, Valid}
-use Rattle.world_rules.specs.Stands.{IsSane, number, Stands}
-use Rattle.world_promise.specs.Beside.{with_bytes-whole}
-use Rattle.world_promise.specs.JobLaws.{acted, LeavesWhole-acted, live_file, live_used, needs, Valid-dropped, Valid-landed}
-use Rattle.world_promise.specs.Landed.{NodeStands-same}
-use Rattle.world_promise.specs.Lent.{Valid-words}
-use Rattle.world_promise.specs.TreeRules.{all_lines, used_below}
+use Rattle.world_log.specs.world_rules.Jobs.{ApartFrom, AreApartJobs, begun_of, Job, JobsStand, JobStands, live_claims, Valid}
+use Rattle.world_log.specs.world_rules.Stands.{IsSane, number, Stands}
+use Rattle.world_log.specs.world_promise.Beside.{with_bytes-whole}
+use Rattle.world_log.specs.world_promise.JobLaws.{acted, LeavesWhole-acted, live_file, live_used, needs, Valid-dropped, Valid-landed}
+use Rattle.world_log.specs.world_promise.Landed.{NodeStands-same}
+use Rattle.world_log.specs.world_promise.Lent.{Valid-words}
+use Rattle.world_log.specs.world_promise.TreeRules.{all_lines, used_below}
 use Rattle.world_log.specs.LogRules.{ClaimsStand-landed}
 use Rattle.world_steps.specs.Ages.{AreAged}
 use Rattle.world_steps.specs.Worlds.{IsWorld}

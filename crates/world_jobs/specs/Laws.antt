@@ -19,14 +19,14 @@ use Rattle.posix_spec.specs.Run.{after_call}
 use Rattle.posix_spec.specs.State.{alone, room, space, State}
 use Rattle.posix_spec.specs.Step.{is_busy}
 use Rattle.crash_spec.specs.Busy.{waits_for}
-use Rattle.posix_frames.specs.Needs.{needs as needs_of}
-use Rattle.posix_frames.specs.Rooms.{FitsBeside}
+use Rattle.world_steps.specs.posix_frames.Needs.{needs as needs_of}
+use Rattle.world_steps.specs.posix_frames.Rooms.{FitsBeside}
 use Rattle.list_facts.specs.Members.{In}
 use Rattle.posix_puts.specs.Views.{need_of}
-use Rattle.world_rules.specs.Jobs.{AreApartJobs, begun_of, HoldsWhole, Job, JobStands, live_claims}
-use Rattle.world_rules.specs.Shown.{SameButLent}
-use Rattle.world_rules.specs.Stands.{entries_of, number}
-use Rattle.world_promise.specs.JobLaws.{acted, needs}
+use Rattle.world_log.specs.world_rules.Jobs.{AreApartJobs, begun_of, HoldsWhole, Job, JobStands, live_claims}
+use Rattle.world_log.specs.world_rules.Shown.{SameButLent}
+use Rattle.world_log.specs.world_rules.Stands.{entries_of, number}
+use Rattle.world_log.specs.world_promise.JobLaws.{acted, needs}
 use Rattle.world_steps.specs.Steps.{AreBeside, flights_of, GoOn, LetsJobsBe}
 use Rattle.world_steps.specs.Touched.{only}
 use Rattle.world_steps.specs.Worlds.{IsWorld}

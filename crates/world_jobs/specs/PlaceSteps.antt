@@ -11,21 +11,21 @@ use Rattle.disk_lines.specs.declared.Kind.{Kind}
 use Rattle.disk_lines.specs.declared.Kind.TheVariants.{Free, File, Staging}
 use Rattle.disk_rules.specs.Content.{byte_in, disk_by, disk_of, entry_of_block}
 use Rattle.disk_rules.specs.Volume.{extents, free_inode, inode, Volume}
-use Rattle.volume_uses.specs.OwnerLaws.{IsOnePlace, one_owner}
+use Rattle.world_log.specs.volume_uses.OwnerLaws.{IsOnePlace, one_owner}
 use Rattle.posix_words.specs.declared.nodes.Node.{Node}
 use Rattle.posix_words.specs.Nodes.{bytes_of, node_at}
 use Rattle.posix_spec.specs.State.{State}
 use Rattle.list_facts.specs.Filters.{filter-In}
 use Rattle.list_facts.specs.Members.{In}
 use Rattle.crash_spec.specs.Sync.{IsPartOf}
-use Rattle.posix_frames.specs.Needs.{AreInFlight}
-use Rattle.world_rules.specs.Jobs.{Job, JobsStand, live_claims}
-use Rattle.world_rules.specs.Stands.{is_used, IsSane, IsUsed, LogStands, NodeStands, number, Stands}
-use Rattle.world_promise.specs.JobLaws.{live_used}
-use Rattle.world_promise.specs.Landed.{NamesStand-same, NodeStands-same, within_bounds}
-use Rattle.world_promise.specs.Latest.{latest-In}
-use Rattle.world_promise.specs.Lent.{disk_of-in_data, once_named}
-use Rattle.world_promise.specs.TreeRules.{used_below}
+use Rattle.world_steps.specs.posix_frames.Needs.{AreInFlight}
+use Rattle.world_log.specs.world_rules.Jobs.{Job, JobsStand, live_claims}
+use Rattle.world_log.specs.world_rules.Stands.{is_used, IsSane, IsUsed, LogStands, NodeStands, number, Stands}
+use Rattle.world_log.specs.world_promise.JobLaws.{live_used}
+use Rattle.world_log.specs.world_promise.Landed.{NamesStand-same, NodeStands-same, within_bounds}
+use Rattle.world_log.specs.world_promise.Latest.{latest-In}
+use Rattle.world_log.specs.world_promise.Lent.{disk_of-in_data, once_named}
+use Rattle.world_log.specs.world_promise.TreeRules.{used_below}
 use Rattle.world_steps.specs.Steps.{AreBeside, flights_of, HaveSameFiles}
 use Rattle.world_steps.specs.Touched.{only}
 use Rattle.world_jobs.specs.Laws.{KeepsInPlace}

@@ -27,10 +27,10 @@ use Rattle.posix_spec.specs.Step.{empty_file, open_done, opening, stepped, trunc
 use Rattle.list_facts.specs.Filters.{filter-In, In-filter}
 use Rattle.list_facts.specs.Members.{In}
 use Rattle.crash_spec.specs.Busy.{waits_for}
-use Rattle.world_rules.specs.Jobs.{Job, live_claims}
-use Rattle.world_rules.specs.Stands.{entries_of, FileStands, is_used, IsSane, IsUsed, NamesStand, NodeStands, number}
-use Rattle.world_promise.specs.Landed.{NamesStand-same}
-use Rattle.world_promise.specs.Latest.{latest-In}
+use Rattle.world_log.specs.world_rules.Jobs.{Job, live_claims}
+use Rattle.world_log.specs.world_rules.Stands.{entries_of, FileStands, is_used, IsSane, IsUsed, NamesStand, NodeStands, number}
+use Rattle.world_log.specs.world_promise.Landed.{NamesStand-same}
+use Rattle.world_log.specs.world_promise.Latest.{latest-In}
 use Rattle.world_steps.specs.Ages.{AreAged-same}
 use Rattle.world_steps.specs.Steps.{AreBeside, GoOn, GoOn-call, LetsJobsBe, shown_node, Steps}
 use Rattle.world_steps.specs.Touched.{beside, entries-touched, Leaves, only}

@@ -5,7 +5,7 @@ use Rattle.extent_words.specs.Extents.{disk_at}
 use Rattle.disk_lines.specs.declared.Kind.TheVariants.{File}
 use Rattle.disk_rules.specs.Content.{byte_in}
 use Rattle.disk_rules.specs.Volume.{extents, inode, Volume}
-use Rattle.world_rules.specs.Stands.{IsSane}
+use Rattle.world_log.specs.world_rules.Stands.{IsSane}
 
 -- All but the size and the map of one file stays, and the volume is sane.
 pub record Resizes (v w : Volume) (ino : ℕ) : Type 0 where

@@ -8,9 +8,9 @@ use Rattle.disk_places.specs.Journal.{journaled}
 use Rattle.disk_lines.specs.declared.Draft.{Draft}
 use Rattle.disk_rules.specs.Honest.{IsHonestWith}
 use Rattle.disk_rules.specs.Volume.{Volume}
-use Rattle.world_rules.specs.Jobs.{Job}
-use Rattle.world_rules.specs.Shown.{AreFilled}
-use Rattle.world_log.specs.Lines.{AreLinesOut}
+use Rattle.world_images.specs.world_rules.Jobs.{Job}
+use Rattle.world_images.specs.world_rules.Shown.{AreFilled}
+use Rattle.world_images.specs.world_log.Lines.{AreLinesOut}
 
 -- The cells that are put back are `back`. The lines hold the claims, and the entries of filled jobs as far as they came, over
 -- the words that they had when the lap began (`first`); `slots` says of each job which line it claimed, if it is filled and

@@ -25,14 +25,14 @@ use Rattle.posix_spec.specs.State.{State}
 use Rattle.crash_spec.specs.Permitted.{Permitted}
 use Rattle.crash_spec.specs.Strict.{StrictFrom}
 use Rattle.posix_orders.specs.Orders.{StrictFrom-last}
-use Rattle.world_rules.specs.Jobs.{begun_of, Job, live_claims}
-use Rattle.world_rules.specs.Promised.{AreWhole}
-use Rattle.world_rules.specs.Shown.{AreFilled, landed_pairs, SameButLent}
-use Rattle.world_promise.specs.Ends.{StrictFrom-lost}
-use Rattle.world_promise.specs.Promise.{strict_promise}
-use Rattle.world_log.specs.Lines.{HasLogWords}
-use Rattle.world_log.specs.Pictures.{keeps_laps, shows_pictures}
-use Rattle.world_steps.specs.Steps.{AreInFlight-jobs, begun-flights, flights_of}
+use Rattle.world_images.specs.world_rules.Jobs.{begun_of, Job, live_claims}
+use Rattle.world_images.specs.world_rules.Promised.{AreWhole}
+use Rattle.world_images.specs.world_rules.Shown.{AreFilled, landed_pairs, SameButLent}
+use Rattle.world_images.specs.world_promise.Ends.{StrictFrom-lost}
+use Rattle.world_images.specs.world_promise.Promise.{strict_promise}
+use Rattle.world_images.specs.world_log.Lines.{HasLogWords}
+use Rattle.world_images.specs.world_log.Pictures.{keeps_laps, shows_pictures}
+use Rattle.world_images.specs.world_steps.Steps.{AreInFlight-jobs, begun-flights, flights_of}
 use Rattle.world_images.specs.Changed.{headed_changed, IsWorld-words, same_data, ShowsLog-same, sound_headed}
 use Rattle.world_images.specs.Images.{HasRoom, IsChange, IsHeaded, ShowsLog, ShowsWorld, StandsFor}
 use Rattle.world_images.specs.Kept.{kept_by, kept_more, kept_strict, kept_sync, shown}

@@ -10,13 +10,13 @@ use Rattle.posix_types.specs.declared.tree.TreeEntry.{TreeEntry}
 use Rattle.posix_spec.specs.Run.{after_call, Begun, run}
 use Rattle.posix_spec.specs.State.{room, State}
 use Rattle.crash_spec.specs.Strict.{StrictFrom}
-use Rattle.posix_frames.specs.Needs.{needs}
+use Rattle.posix_orders.specs.posix_frames.Needs.{needs}
 use Rattle.posix_orders.specs.Commutes.{takes}
 use Rattle.posix_orders.specs.Orders.{AreTwoEach}
-use Rattle.world_rules.specs.Jobs.{begun_of, Job, staged_block}
-use Rattle.world_rules.specs.Promised.{AreWhole}
-use Rattle.world_steps.specs.Steps.{flights_of, LetsJobsBe}
-use Rattle.world_steps.specs.Worlds.{IsWorld}
+use Rattle.world_images.specs.world_rules.Jobs.{begun_of, Job, staged_block}
+use Rattle.world_images.specs.world_rules.Promised.{AreWhole}
+use Rattle.world_images.specs.world_steps.Steps.{flights_of, LetsJobsBe}
+use Rattle.world_images.specs.world_steps.Worlds.{IsWorld}
 use Rattle.world_images.specs.Images.{HasRoom, IsChange, StandsFor}
 use Rattle.world_images.specs.Laws.{Takes}
 use Rattle.world_images.specs.Promised.{IsKept}

@@ -1,3 +1,12 @@
 pub mod Back
 pub mod Flights
 pub mod Laws
+pub use Rattle.posix_orders.specs as posix_orders
+pub use Rattle.world_images.specs as world_images
+pub use Rattle.world_images.specs.image_facts as image_facts
+pub use Rattle.world_images.specs.volume_uses as volume_uses
+pub use Rattle.world_images.specs.world_beginning as world_beginning
+pub use Rattle.world_images.specs.world_log as world_log
+pub use Rattle.world_images.specs.world_promise as world_promise
+pub use Rattle.world_images.specs.world_rules as world_rules
+pub use Rattle.world_images.specs.world_steps as world_steps

@@ -9,9 +9,9 @@ use Rattle.disk_rules.specs.Volume.{Volume}
 use Rattle.posix_spec.specs.State.{State}
 use Rattle.list_facts.specs.Filters.{filter-In, filter_map-In, range-In}
 use Rattle.list_facts.specs.Members.{In}
-use Rattle.world_rules.specs.Claims.{ClaimsStand}
-use Rattle.world_rules.specs.Jobs.{Job, live_claims, Valid}
-use Rattle.world_rules.specs.Shown.{AreFilled, landed_pairs, ShowsClaims}
+use Rattle.world_promise.specs.world_rules.Claims.{ClaimsStand}
+use Rattle.world_promise.specs.world_rules.Jobs.{Job, live_claims, Valid}
+use Rattle.world_promise.specs.world_rules.Shown.{AreFilled, landed_pairs, ShowsClaims}
 use Rattle.world_promise.specs.Ends.{SameMembers-shown}
 use Rattle.world_promise.specs.JobLaws.{acted, live_claims-more, Valid-dropped, Valid-landed}
 use Rattle.world_promise.specs.Lent.{Valid-words}

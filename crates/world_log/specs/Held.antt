@@ -19,7 +19,7 @@ use Rattle.posix_words.specs.declared.nodes.Node.{Node}
 use Rattle.posix_words.specs.Nodes.{bytes_of, node_at}
 use Rattle.posix_words.specs.Room.{held}
 use Rattle.posix_spec.specs.State.{Fits, State}
-use Rattle.world_rules.specs.Stands.{Consecutive, entries_of, is_used, IsUsed, NodeStands, number, Stands}
+use Rattle.world_promise.specs.world_rules.Stands.{Consecutive, entries_of, is_used, IsUsed, NodeStands, number, Stands}
 use Rattle.world_promise.specs.Contents.{size-same}
 use Rattle.world_promise.specs.Landed.{kind_file}
 use Rattle.world_promise.specs.Latest.{OneOrderEach-Consecutive, SameMembers}

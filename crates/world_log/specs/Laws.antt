@@ -8,10 +8,10 @@ use Rattle.disk_rules.specs.Honest.{IsHonest}
 use Rattle.disk_rules.specs.Rules.{CanRecover, IsOfNoLater}
 use Rattle.disk_rules.specs.Volume.{Volume}
 use Rattle.posix_spec.specs.State.{State}
-use Rattle.world_rules.specs.Claims.{ClaimsStand}
-use Rattle.world_rules.specs.Jobs.{Job, Valid}
-use Rattle.world_rules.specs.Promised.{IsShown}
-use Rattle.world_rules.specs.Shown.{AreFilled, landed_pairs, ShowsClaims}
+use Rattle.world_promise.specs.world_rules.Claims.{ClaimsStand}
+use Rattle.world_promise.specs.world_rules.Jobs.{Job, Valid}
+use Rattle.world_promise.specs.world_rules.Promised.{IsShown}
+use Rattle.world_promise.specs.world_rules.Shown.{AreFilled, landed_pairs, ShowsClaims}
 use Rattle.world_log.specs.Lines.{AreLinesOut, HasLogWords}
 use Rattle.world_log.specs.Rules.{AreLogRulesKept, HasFreeBlocks}
 

@@ -10,7 +10,7 @@ use Rattle.disk_lines.specs.Entries.{encode_entry, held_seq, is_draft, is_self_v
 use Rattle.disk_lines.specs.EntryLaws.{FitsDraft}
 use Rattle.disk_rules.specs.Volume.{Volume}
 use Rattle.list_facts.specs.Members.{In}
-use Rattle.world_rules.specs.Jobs.{Job}
+use Rattle.world_promise.specs.world_rules.Jobs.{Job}
 
 -- the line has these words, each alone
 abbrev pub HoldsWords : (ℕ → Cell) → Words → ℕ → Type 0

@@ -15,10 +15,10 @@ use Rattle.posix_types.specs.declared.reply.Shape.{Shape}
 use Rattle.posix_spec.specs.State.{State}
 use Rattle.list_facts.specs.Filters.{In-filter, In-map}
 use Rattle.list_facts.specs.Members.{In, In-slice_get, pushed-In}
-use Rattle.world_rules.specs.Claims.{ClaimsStand}
-use Rattle.world_rules.specs.Jobs.{Job, live_claims, Valid}
-use Rattle.world_rules.specs.Shown.{AreFilled, landed_pairs, ShowsClaims}
-use Rattle.world_rules.specs.Stands.{entries_of, LogStands}
+use Rattle.world_promise.specs.world_rules.Claims.{ClaimsStand}
+use Rattle.world_promise.specs.world_rules.Jobs.{Job, live_claims, Valid}
+use Rattle.world_promise.specs.world_rules.Shown.{AreFilled, landed_pairs, ShowsClaims}
+use Rattle.world_promise.specs.world_rules.Stands.{entries_of, LogStands}
 use Rattle.world_promise.specs.Ends.{SameMembers-shown}
 use Rattle.world_promise.specs.JobLaws.{acted, LeavesWhole-acted, Valid-dropped, Valid-landed}
 use Rattle.world_promise.specs.Lent.{Valid-words}

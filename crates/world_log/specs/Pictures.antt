@@ -18,8 +18,8 @@ use Rattle.disk_rules.specs.Live.{entry_in}
 use Rattle.disk_rules.specs.Rules.{IsOfNoLater}
 use Rattle.disk_rules.specs.Volume.{Volume}
 use Rattle.list_facts.specs.Members.{In}
-use Rattle.world_rules.specs.Jobs.{Job}
-use Rattle.world_rules.specs.Shown.{AreFilled, landed_pairs, ShowsClaims}
+use Rattle.world_promise.specs.world_rules.Jobs.{Job}
+use Rattle.world_promise.specs.world_rules.Shown.{AreFilled, landed_pairs, ShowsClaims}
 use Rattle.world_log.specs.Laws.{KeepsLaps, ShowsPictures}
 use Rattle.world_log.specs.Lines.{AreJobLines, AreLinesOut, HasLogWords, HoldsWords, IsJobLine, IsPutOver, IsTaken, Spells}
 

@@ -7,7 +7,7 @@ use Rattle.disk_rules.specs.Live.{entry_in, is_live, is_of_file, live_entries}
 use Rattle.disk_rules.specs.Room.{held_after_recovery, unused_blocks}
 use Rattle.disk_rules.specs.Rules.{AreApart, HasStagingBlocks}
 use Rattle.disk_rules.specs.Volume.{Volume}
-use Rattle.world_rules.specs.Jobs.{Job, live_claims}
+use Rattle.world_promise.specs.world_rules.Jobs.{Job, live_claims}
 
 -- Live entries have their staging blocks, and share none; no two entries of one file have one order; and what files hold
 -- once recovery has carried out the live entries leaves the reserve.

@@ -15,21 +15,21 @@ use Rattle.disk_rules.specs.Kept.{AreKept}
 use Rattle.disk_rules.specs.Rules.{IsKindAt}
 use Rattle.disk_rules.specs.Volume.{extents, inode, Volume}
 use Rattle.k_rules.specs.Changes.{dropped, gone_node, unnamed}
-use Rattle.name_facts.specs.KeptLaws.{kept-placed}
-use Rattle.volume_changes.specs.Changes.{MayUnname}
-use Rattle.volume_changes.specs.FrameLaws.{dropped-inode, dropped-others}
-use Rattle.volume_changes.specs.MapLaws.{dropped-keeps}
-use Rattle.volume_changes.specs.NameLaws.{unnamed-keeps}
+use Rattle.world_steps.specs.name_facts.KeptLaws.{kept-placed}
+use Rattle.world_steps.specs.volume_changes.Changes.{MayUnname}
+use Rattle.world_steps.specs.volume_changes.FrameLaws.{dropped-inode, dropped-others}
+use Rattle.world_steps.specs.volume_changes.MapLaws.{dropped-keeps}
+use Rattle.world_steps.specs.volume_changes.NameLaws.{unnamed-keeps}
 use Rattle.posix_words.specs.declared.nodes.Node.{Node}
 use Rattle.posix_words.specs.Names.{without_entry}
 use Rattle.posix_words.specs.Nodes.{node_at}
 use Rattle.posix_words.specs.Open.{is_open}
 use Rattle.posix_spec.specs.State.{State}
-use Rattle.posix_frames.specs.Flights.{IsHeld-put}
-use Rattle.posix_frames.specs.Needs.{AreInFlight}
-use Rattle.world_rules.specs.Jobs.{Job, live_claims}
-use Rattle.world_rules.specs.Stands.{is_used, IsSane, IsUsed, NamesStand, number}
-use Rattle.world_promise.specs.TreeRules.{all_lines, used_below}
+use Rattle.world_steps.specs.posix_frames.Flights.{IsHeld-put}
+use Rattle.world_steps.specs.posix_frames.Needs.{AreInFlight}
+use Rattle.world_steps.specs.world_rules.Jobs.{Job, live_claims}
+use Rattle.world_steps.specs.world_rules.Stands.{is_used, IsSane, IsUsed, NamesStand, number}
+use Rattle.world_steps.specs.world_promise.TreeRules.{all_lines, used_below}
 use Rattle.world_steps.specs.Ages.{AreAged-same}
 use Rattle.world_steps.specs.Makers.{Steps-gone, Steps-names}
 use Rattle.world_steps.specs.Nameless.{IsNameless, nameless-count}

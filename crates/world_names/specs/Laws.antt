@@ -9,9 +9,9 @@ use Rattle.disk_lines.specs.Names.{free_line}
 use Rattle.disk_rules.specs.Volume.{inode, Volume}
 use Rattle.k_rules.specs.Changes.{dropped, made, removed, renamed, renamed_over_directory, renamed_over_file, unnamed}
 use Rattle.k_rules.specs.Spaces.{volume_space}
-use Rattle.volume_changes.specs.CallLaws.{row_to}
-use Rattle.volume_changes.specs.FoundLaws.{IsLowestFree}
-use Rattle.volume_names.specs.Paths.{CanReplace, IsNewAt, MayGo}
+use Rattle.world_steps.specs.volume_changes.CallLaws.{row_to}
+use Rattle.world_steps.specs.volume_changes.FoundLaws.{IsLowestFree}
+use Rattle.world_steps.specs.volume_names.Paths.{CanReplace, IsNewAt, MayGo}
 use Rattle.posix_types.specs.declared.call.Call.{Call}
 use Rattle.posix_types.specs.declared.call.Who.{Who}
 use Rattle.posix_types.specs.declared.handle.Flags.{Flags}
@@ -24,8 +24,8 @@ use Rattle.posix_spec.specs.FileRows.{close_rows, file_number}
 use Rattle.posix_spec.specs.Run.{after_call}
 use Rattle.posix_spec.specs.State.{alone, space, State, unnamed as unnamed_state}
 use Rattle.posix_spec.specs.Step.{is_busy, renamed as renamed_state}
-use Rattle.world_rules.specs.Jobs.{Job}
-use Rattle.world_rules.specs.Stands.{number}
+use Rattle.world_steps.specs.world_rules.Jobs.{Job}
+use Rattle.world_steps.specs.world_rules.Stands.{number}
 use Rattle.world_steps.specs.Makers.{renumbered}
 use Rattle.world_steps.specs.Nameless.{IsNameless}
 use Rattle.world_steps.specs.Steps.{LetsJobsBe}

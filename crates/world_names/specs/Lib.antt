@@ -4,3 +4,12 @@ pub mod GoneCalls
 pub mod RemoveCalls
 pub mod RenameCalls
 pub mod OtherCalls
+pub use Rattle.world_steps.specs as world_steps
+pub use Rattle.world_steps.specs.name_facts as name_facts
+pub use Rattle.world_steps.specs.posix_frames as posix_frames
+pub use Rattle.world_steps.specs.volume_changes as volume_changes
+pub use Rattle.world_steps.specs.volume_names as volume_names
+pub use Rattle.world_steps.specs.volume_uses as volume_uses
+pub use Rattle.world_steps.specs.world_promise as world_promise
+pub use Rattle.world_steps.specs.world_rules as world_rules
+pub use Rattle.world_steps.specs.world_spaces as world_spaces

@@ -24,19 +24,19 @@ use Rattle.posix_words.specs.Outcomes.{first}
 use Rattle.posix_spec.specs.Run.{after_call}
 use Rattle.posix_spec.specs.State.{alone, made as made_state, space, State, with_node}
 use Rattle.posix_spec.specs.Step.{empty_file, is_busy, mkdir_done, open_done, opening, stepped}
-use Rattle.volume_changes.specs.CallLaws.{may-make, row_to}
-use Rattle.volume_changes.specs.Changes.{MayMake}
-use Rattle.volume_changes.specs.FoundLaws.{IsLowestFree}
-use Rattle.volume_changes.specs.FrameLaws.{made-inode, made-others}
-use Rattle.volume_changes.specs.NameLaws.{made-keeps}
-use Rattle.volume_names.specs.EntryLaws.{child_of-rows}
-use Rattle.volume_names.specs.Paths.{IsNewAt}
-use Rattle.world_rules.specs.Jobs.{Job, JobsStand, live_claims}
-use Rattle.world_rules.specs.Stands.{is_used, IsSane, IsUsed, NamesStand, NodeStands, number}
-use Rattle.world_promise.specs.JobLaws.{live_file}
-use Rattle.world_promise.specs.TreeRules.{all_lines}
-use Rattle.world_spaces.specs.Mirrors.{Mirrors, node_at_path-same}
-use Rattle.world_spaces.specs.Rows.{HaveSameRows-Mirrors}
+use Rattle.world_steps.specs.volume_changes.CallLaws.{may-make, row_to}
+use Rattle.world_steps.specs.volume_changes.Changes.{MayMake}
+use Rattle.world_steps.specs.volume_changes.FoundLaws.{IsLowestFree}
+use Rattle.world_steps.specs.volume_changes.FrameLaws.{made-inode, made-others}
+use Rattle.world_steps.specs.volume_changes.NameLaws.{made-keeps}
+use Rattle.world_steps.specs.volume_names.EntryLaws.{child_of-rows}
+use Rattle.world_steps.specs.volume_names.Paths.{IsNewAt}
+use Rattle.world_steps.specs.world_rules.Jobs.{Job, JobsStand, live_claims}
+use Rattle.world_steps.specs.world_rules.Stands.{is_used, IsSane, IsUsed, NamesStand, NodeStands, number}
+use Rattle.world_steps.specs.world_promise.JobLaws.{live_file}
+use Rattle.world_steps.specs.world_promise.TreeRules.{all_lines}
+use Rattle.world_steps.specs.world_spaces.Mirrors.{Mirrors, node_at_path-same}
+use Rattle.world_steps.specs.world_spaces.Rows.{HaveSameRows-Mirrors}
 use Rattle.world_steps.specs.Ages.{AreAged-made, dead-made}
 use Rattle.world_steps.specs.Makers.{renumbered, renumbered-other, renumbered-own, Steps-made}
 use Rattle.world_steps.specs.NameTables.{NamesStand-made}

@@ -19,12 +19,12 @@ use Rattle.posix_spec.specs.FileRows.{close_rows, file_number}
 use Rattle.posix_spec.specs.Run.{after_call}
 use Rattle.posix_spec.specs.State.{alone, made, space, State, swept, with_node, with_published}
 use Rattle.posix_spec.specs.Step.{close_done, empty_file, fsync_done, open_done, opening, pread_done, read_done, seek_done, dup_done, list_done, stat_done, stepped, Stepped}
-use Rattle.posix_frames.specs.Needs.{needs}
-use Rattle.posix_frames.specs.Rooms.{FitsBeside}
+use Rattle.world_steps.specs.posix_frames.Needs.{needs}
+use Rattle.world_steps.specs.posix_frames.Rooms.{FitsBeside}
 use Rattle.posix_facts.specs.RowLaws.{stepped-keeps}
-use Rattle.world_rules.specs.Jobs.{Job}
-use Rattle.world_rules.specs.Stands.{is_used, IsUsed}
-use Rattle.world_promise.specs.Landed.{NamesStand-same}
+use Rattle.world_steps.specs.world_rules.Jobs.{Job}
+use Rattle.world_steps.specs.world_rules.Stands.{is_used, IsUsed}
+use Rattle.world_steps.specs.world_promise.Landed.{NamesStand-same}
 use Rattle.world_names.specs.GoneCalls.{IsWorld-dropped, IsWorld-rows}
 use Rattle.world_steps.specs.Nameless.{is_named-nameless}
 use Rattle.world_names.specs.RemoveCalls.{swept-gone, swept-named, swept-open}

@@ -13,12 +13,12 @@ use Rattle.disk_rules.specs.Live.{is_directory}
 use Rattle.disk_rules.specs.Volume.{inode, Volume}
 use Rattle.k_rules.specs.Changes.{dropped, gone_node, removed, unnamed}
 use Rattle.k_rules.specs.Spaces.{volume_space}
-use Rattle.name_facts.specs.RowLaws.{has_entries-parent}
-use Rattle.name_facts.specs.SetLaws.{row-freed}
-use Rattle.volume_changes.specs.CallLaws.{may-remove, may-unname}
-use Rattle.volume_changes.specs.FoundLaws.{IsRowFound, row-found}
-use Rattle.volume_changes.specs.FrameLaws.{removed-inode, removed-others}
-use Rattle.volume_changes.specs.NameLaws.{removed-keeps}
+use Rattle.world_steps.specs.name_facts.RowLaws.{has_entries-parent}
+use Rattle.world_steps.specs.name_facts.SetLaws.{row-freed}
+use Rattle.world_steps.specs.volume_changes.CallLaws.{may-remove, may-unname}
+use Rattle.world_steps.specs.volume_changes.FoundLaws.{IsRowFound, row-found}
+use Rattle.world_steps.specs.volume_changes.FrameLaws.{removed-inode, removed-others}
+use Rattle.world_steps.specs.volume_changes.NameLaws.{removed-keeps}
 use Rattle.posix_types.specs.declared.call.Call.{Call}
 use Rattle.posix_types.specs.declared.call.Who.{Who}
 use Rattle.posix_words.specs.declared.nodes.Node.{Node}
@@ -29,10 +29,10 @@ use Rattle.posix_words.specs.Outcomes.{first}
 use Rattle.posix_spec.specs.Run.{after_call}
 use Rattle.posix_spec.specs.State.{alone, space, State, swept, unnamed as unnamed_state, with_node}
 use Rattle.posix_spec.specs.Step.{rmdir_done, stepped, unlink_done}
-use Rattle.world_rules.specs.Jobs.{Job, live_claims}
-use Rattle.world_rules.specs.Stands.{is_used, IsSane, IsUsed, number}
-use Rattle.world_promise.specs.TreeRules.{all_lines, used_below}
-use Rattle.world_spaces.specs.Rows.{HaveSameRows-Mirrors}
+use Rattle.world_steps.specs.world_rules.Jobs.{Job, live_claims}
+use Rattle.world_steps.specs.world_rules.Stands.{is_used, IsSane, IsUsed, number}
+use Rattle.world_steps.specs.world_promise.TreeRules.{all_lines, used_below}
+use Rattle.world_steps.specs.world_spaces.Rows.{HaveSameRows-Mirrors}
 use Rattle.world_names.specs.GoneCalls.{IsWorld-dropped, IsWorld-gone, IsWorld-unnamed}
 use Rattle.world_names.specs.MadeCalls.{beside-no_file}
 use Rattle.world_steps.specs.Nameless.{count-nameless, is_named-nameless, IsNameless, nameless-freed}

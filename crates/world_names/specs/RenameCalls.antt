@@ -16,15 +16,15 @@ use Rattle.disk_rules.specs.Live.{is_directory}
 use Rattle.disk_rules.specs.Volume.{free_inode, inode, Volume}
 use Rattle.k_rules.specs.Changes.{dropped, gone_node, renamed, renamed_over_directory, renamed_over_file}
 use Rattle.k_rules.specs.Spaces.{volume_space}
-use Rattle.name_facts.specs.KeptLaws.{kept-keyed}
-use Rattle.volume_changes.specs.CallLaws.{may-rename, may-rename-over_directory, may-rename-over_file, row_to}
-use Rattle.volume_changes.specs.Changes.{MayRenameOver}
-use Rattle.volume_changes.specs.FrameLaws.{renamed_over_directory-others}
-use Rattle.volume_changes.specs.LookupLaws.{leads_nowhere, leads_to, names-moved, names-moved_over}
-use Rattle.volume_changes.specs.NameLaws.{renamed-keeps}
-use Rattle.volume_changes.specs.OverLaws.{renamed_over_directory-keeps, renamed_over_file-keeps}
-use Rattle.volume_names.specs.EntryLaws.{child_of-rows}
-use Rattle.volume_names.specs.Paths.{CanReplace, MayGo}
+use Rattle.world_steps.specs.name_facts.KeptLaws.{kept-keyed}
+use Rattle.world_steps.specs.volume_changes.CallLaws.{may-rename, may-rename-over_directory, may-rename-over_file, row_to}
+use Rattle.world_steps.specs.volume_changes.Changes.{MayRenameOver}
+use Rattle.world_steps.specs.volume_changes.FrameLaws.{renamed_over_directory-others}
+use Rattle.world_steps.specs.volume_changes.LookupLaws.{leads_nowhere, leads_to, names-moved, names-moved_over}
+use Rattle.world_steps.specs.volume_changes.NameLaws.{renamed-keeps}
+use Rattle.world_steps.specs.volume_changes.OverLaws.{renamed_over_directory-keeps, renamed_over_file-keeps}
+use Rattle.world_steps.specs.volume_names.EntryLaws.{child_of-rows}
+use Rattle.world_steps.specs.volume_names.Paths.{CanReplace, MayGo}
 use Rattle.posix_types.specs.declared.call.Call.{Call}
 use Rattle.posix_types.specs.declared.call.Who.{Who}
 use Rattle.posix_words.specs.declared.nodes.Node.{Node}
@@ -34,11 +34,11 @@ use Rattle.posix_words.specs.Outcomes.{first}
 use Rattle.posix_spec.specs.Run.{after_call}
 use Rattle.posix_spec.specs.State.{alone, space, State, swept, unnamed as unnamed_state, with_node}
 use Rattle.posix_spec.specs.Step.{rename_done, renamed as renamed_state, stepped}
-use Rattle.world_rules.specs.Jobs.{Job, live_claims}
-use Rattle.world_rules.specs.Stands.{is_used, IsSane, IsUsed, number}
-use Rattle.world_promise.specs.TreeRules.{all_lines, used_below}
-use Rattle.world_spaces.specs.Mirrors.{node_at_path-same}
-use Rattle.world_spaces.specs.Rows.{HaveSameRows-Mirrors}
+use Rattle.world_steps.specs.world_rules.Jobs.{Job, live_claims}
+use Rattle.world_steps.specs.world_rules.Stands.{is_used, IsSane, IsUsed, number}
+use Rattle.world_steps.specs.world_promise.TreeRules.{all_lines, used_below}
+use Rattle.world_steps.specs.world_spaces.Mirrors.{node_at_path-same}
+use Rattle.world_steps.specs.world_spaces.Rows.{HaveSameRows-Mirrors}
 use Rattle.world_names.specs.GoneCalls.{IsSane-rows, IsWorld-dropped, IsWorld-gone, IsWorld-rows}
 use Rattle.world_names.specs.MadeCalls.{beside-no_file}
 use Rattle.world_steps.specs.Nameless.{count-nameless, is_named-nameless, IsNameless, nameless-moved_over}

@@ -30,7 +30,7 @@ use Rattle.posix_words.specs.Nodes.{node_at}
 use Rattle.posix_words.specs.Open.{Tables}
 use Rattle.list_facts.specs.Filters.{In-range}
 use Rattle.list_facts.specs.Members.{In}
-use Rattle.world_rules.specs.Stands.{Consecutive, FileStands, is_used, IsSane, IsUsed, LogStands, NamesStand, NodesStand, NodeStands, number}
+use Rattle.world_images.specs.world_rules.Stands.{Consecutive, FileStands, is_used, IsSane, IsUsed, LogStands, NamesStand, NodesStand, NodeStands, number}
 use Rattle.world_posix.specs.Example.{extent, only_5, state_with, volume_with}
 use Rattle.world_posix.specs.Sides.{IsFresh}
 

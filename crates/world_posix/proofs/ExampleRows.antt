@@ -26,7 +26,7 @@ use Rattle.posix_spec.specs.State.{made, State, swept, unnamed, with_file, with_
 use Rattle.posix_spec.specs.Step.{fsync_done, mkdir_done, pwrite_done, truncate_done, unlink_done, written}
 use Rattle.crash_spec.specs.Posix.{IsLeft, LastBeforeCut, NodeLeft, Overwritten}
 use Rattle.crash_spec.specs.Values.{is_shortened, value_before_cut, value_put, values_put}
-use Rattle.world_rules.specs.Stands.{IsUsed, LogStands, number, Stands}
+use Rattle.world_images.specs.world_rules.Stands.{IsUsed, LogStands, number, Stands}
 use Rattle.world_posix.specs.Example.{batch_b, batch_c, batch_d, batch_e, committed_c, committed_d, extent, kept_d, later_a, later_c, later_d, lost_call, lost_word, lost_words, no_tables, only_5, open_file, file_with, run_at, start_a, start_c, start_d, state_with, tables_p, volume_a, volume_with, words_p, world_a, world_b, world_c, world_d, world_e}
 use Rattle.world_posix.proofs.ExampleParts.{apart, apart_behind, chains_with, file_stands, files_with, fresh_with, has_bytes, log_none, log_one, mapped_with, names_once, names_with, nodes_with, sane_with, size_with, staging_with}
 use Rattle.world_posix.specs.Laws.{HasLostWrite, HasWaitingBlock, HasWorldAfterCheckpoint, HasWorldCut, HasWorldCutInCheckpoint, HasWorldInCheckpoint, HasWorldUsedAgain, HasWorldWithRun}

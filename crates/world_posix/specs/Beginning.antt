@@ -18,7 +18,7 @@ use Rattle.posix_words.specs.declared.nodes.Node.{Node}
 use Rattle.posix_words.specs.Nodes.{bytes_of, node_at, published_of}
 use Rattle.posix_spec.specs.State.{State}
 use Rattle.crash_spec.specs.Posix.{ByteRule, IsLeft, LastBeforeCut, LaterRule, NodeLeft, Overwritten}
-use Rattle.world_rules.specs.Stands.{is_used, NodeStands, number, Stands}
+use Rattle.world_images.specs.world_rules.Stands.{is_used, NodeStands, number, Stands}
 use Rattle.world_images.specs.Images.{HasNoEntry, IsRunning, ShowsLog}
 use Rattle.world_posix.specs.Device.{at_rest, IsAllPublished, PosixRuns, ShowsPosixWorld}
 use Rattle.world_posix.specs.Laws.{BeginsInPosixMode}

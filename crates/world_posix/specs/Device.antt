@@ -15,8 +15,8 @@ use Rattle.posix_types.specs.declared.item.Item.{Item}
 use Rattle.posix_words.specs.Nodes.{bytes_of, node_at, published_of}
 use Rattle.posix_spec.specs.State.{Fits, State}
 use Rattle.crash_spec.specs.Posix.{LaterRule}
-use Rattle.world_log.specs.Rules.{HasFreeBlocks}
-use Rattle.world_spaces.specs.Counts.{HasShape}
+use Rattle.world_images.specs.world_log.Rules.{HasFreeBlocks}
+use Rattle.world_images.specs.world_spaces.Counts.{HasShape}
 use Rattle.world_images.specs.Images.{HasNoEntry, IsHeaded}
 use Rattle.world_posix.specs.Sides.{PosixWorld, Sides}
 

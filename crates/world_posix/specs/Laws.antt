@@ -13,8 +13,8 @@ use Rattle.posix_types.specs.declared.tree.TreeEntry.{TreeEntry}
 use Rattle.posix_spec.specs.Run.{Begun}
 use Rattle.posix_spec.specs.State.{State}
 use Rattle.crash_spec.specs.Posix.{LastBeforeCut, Overwritten, Posix, StrongPosix}
-use Rattle.world_rules.specs.Shown.{IsTreeOfContent}
-use Rattle.world_rules.specs.Stands.{IsSane, Stands}
+use Rattle.world_images.specs.world_rules.Shown.{IsTreeOfContent}
+use Rattle.world_images.specs.world_rules.Stands.{IsSane, Stands}
 use Rattle.world_images.specs.Images.{IsRunning}
 use Rattle.world_images.specs.Promised.{KeepsPromise}
 use Rattle.world_posix.specs.Device.{at_rest, IsAllPublished, PosixRuns}

@@ -10,9 +10,9 @@ use Rattle.posix_types.specs.declared.item.Item.{Item}
 use Rattle.posix_spec.specs.State.{State}
 use Rattle.crash_spec.specs.Permitted.{Permitted}
 use Rattle.crash_spec.specs.Posix.{LastBeforeCut, LaterRule, Overwritten}
-use Rattle.world_rules.specs.Shown.{IsTreeOfContent}
-use Rattle.world_log.specs.Rules.{HasFreeBlocks}
-use Rattle.world_steps.specs.Worlds.{IsWorld}
+use Rattle.world_images.specs.world_rules.Shown.{IsTreeOfContent}
+use Rattle.world_images.specs.world_log.Rules.{HasFreeBlocks}
+use Rattle.world_images.specs.world_steps.Worlds.{IsWorld}
 use Rattle.world_images.specs.Images.{ShowsLog, ShowsWorld}
 use Rattle.world_images.specs.Kept.{kept_by, one_tree}
 use Rattle.world_posix.specs.Device.{ShowsPosixWorld}

@@ -26,7 +26,7 @@ use Rattle.posix_spec.specs.Run.{Begun, begun, run}
 use Rattle.posix_spec.specs.State.{State}
 use Rattle.crash_spec.specs.Posix.{ByteRule, IsLeft, LaterRule, syncs}
 use Rattle.crash_spec.specs.Values.{is_shortened, value_put}
-use Rattle.world_rules.specs.Stands.{IsUsed, number, Stands}
+use Rattle.world_images.specs.world_rules.Stands.{IsUsed, number, Stands}
 
 -- The volume that was committed last and that of the open batch, each with the nodes of its inodes; the runs that are staged and
 -- not yet published; and for each inode of the batch the length that its file has in memory. An inode that is used again since

@@ -12,7 +12,7 @@ use Rattle.disk_rules.specs.Content.{disk_by, entry_of_block, found}
 use Rattle.disk_rules.specs.Live.{live_entries}
 use Rattle.disk_rules.specs.Rules.{IsNamedOnce}
 use Rattle.disk_rules.specs.Volume.{chain, extents, free_inode, inode, Volume}
-use Rattle.volume_uses.specs.OwnerLaws.{IsOnePlace, no_chain_has, one_owner}
+use Rattle.world_images.specs.volume_uses.OwnerLaws.{IsOnePlace, no_chain_has, one_owner}
 use Rattle.posix_types.specs.declared.item.Item.{Item}
 use Rattle.posix_types.specs.declared.tree.TreeEntry.{TreeEntry}
 use Rattle.posix_words.specs.declared.nodes.Node.{Node}
@@ -25,12 +25,12 @@ use Rattle.posix_trees.specs.TreeOf.{IsTreeOf-same, IsTreeOf-tree}
 use Rattle.crash_spec.specs.Posix.{ByteRule, IsLeft, LaterRule, LastBeforeCut, NodeLeft, OrUnfinished, Overwritten, PosixBy}
 use Rattle.crash_spec.specs.Values.{is_shortened, value_before_cut, values_put}
 use Rattle.list_facts.specs.Filters.{filter-In}
-use Rattle.world_rules.specs.Shown.{IsTreeOfContent}
-use Rattle.world_rules.specs.Stands.{is_used, IsSane, Stands}
-use Rattle.world_promise.specs.Contents.{found-Stands, IsTreeOf-content}
-use Rattle.world_promise.specs.Latest.{latest-In}
-use Rattle.world_promise.specs.Lent.{once_named}
-use Rattle.world_promise.specs.TreeRules.{IsTreeLike-names, used_below}
+use Rattle.world_images.specs.world_rules.Shown.{IsTreeOfContent}
+use Rattle.world_images.specs.world_rules.Stands.{is_used, IsSane, Stands}
+use Rattle.world_images.specs.world_promise.Contents.{found-Stands, IsTreeOf-content}
+use Rattle.world_images.specs.world_promise.Latest.{latest-In}
+use Rattle.world_images.specs.world_promise.Lent.{once_named}
+use Rattle.world_images.specs.world_promise.TreeRules.{IsTreeLike-names, used_below}
 use Rattle.world_posix.specs.Laws.{KeepsCommitted, KeepsStrongCommitted, PermitsTreeOfMedium, PermitsTreeStrongly, StagesNoFreed}
 use Rattle.world_posix.specs.Sides.{IsFresh, IsLengthOf, IsSettled, KeepsCutBytes, PosixWorld, Same, Sides, sized, UsesNoFreed}
 use Rattle.world_posix.specs.Sized.{kind-sized}

@@ -18,7 +18,7 @@ use Rattle.disk_rules.specs.Placed.{block_at, IsOutside}
 use Rattle.disk_rules.specs.Reading.{Reads}
 use Rattle.disk_rules.specs.Rules.{file_blocks_of}
 use Rattle.disk_rules.specs.Volume.{extents, inode, Volume}
-use Rattle.k_land.specs.LandingLaws.{idle-image}
+use Rattle.k_split.specs.k_land.LandingLaws.{idle-image}
 use Rattle.k_rules.specs.Stands.{IsOldOrNew, Stands}
 use Rattle.k_split.specs.MapChanges.{ChangesMaps}
 use Rattle.volume_facts.specs.Footprint.{SameData, SameLog}
@@ -26,8 +26,8 @@ use Rattle.volume_facts.specs.FootprintLaws.{content-own, content-read, disk_of-
 use Rattle.volume_facts.specs.ImageLaws.{journaled-idle, journaled-other}
 use Rattle.volume_facts.specs.LineWords.{data_word, data_word-not_journaled}
 use Rattle.volume_facts.specs.SetLaws.{block-outside}
-use Rattle.volume_uses.specs.PoolLaws.{covered-in_data}
-use Rattle.world_promise.specs.Landed.{kind_file}
+use Rattle.live_facts.specs.volume_uses.PoolLaws.{covered-in_data}
+use Rattle.live_facts.specs.world_promise.Landed.{kind_file}
 use Rattle.live_facts.specs.Logs.{HasSameFiles}
 use Rattle.live_facts.proofs.FoundLaws.{same-found}
 

@@ -15,16 +15,16 @@ use Rattle.disk_rules.specs.Rules.{file_blocks_of}
 use Rattle.disk_rules.specs.Volume.{chain, extents, inode, Volume}
 use Rattle.extent_words.specs.declared.Extent.{Extent}
 use Rattle.extent_words.specs.Extents.{disk_at, IsCanonical, is_within}
-use Rattle.k_map_plans.specs.Plans.{MayMove}
-use Rattle.k_plans.specs.Whole.{IsWhole}
+use Rattle.k_split.specs.k_map_plans.Plans.{MayMove}
+use Rattle.k_split.specs.k_plans.Whole.{IsWhole}
 use Rattle.k_rules.specs.View.{View}
 use Rattle.k_split.specs.Order.{IsInOrder}
 use Rattle.map_rules.specs.Changes.{IsMoved, with_length}
 use Rattle.map_rules.specs.Taken.{switched, with_map}
 use Rattle.map_rules.specs.declared.moves.Move.{Move}
 use Rattle.volume_facts.specs.Changes.{chain-set_other, chain-set_same, extents-set_other, extents-set_same, inode-set_other, inode-set_same}
-use Rattle.volume_maps.specs.Shorts.{AreBelow, mapped-below}
-use Rattle.volume_maps.specs.Lengths.{chain-left as chain-shrinks, chain-linked as chain-grows}
+use Rattle.map_facts.specs.volume_maps.Shorts.{AreBelow, mapped-below}
+use Rattle.map_facts.specs.volume_maps.Lengths.{chain-left as chain-shrinks, chain-linked as chain-grows}
 
 -- ---- helpers
 

@@ -11,8 +11,8 @@ use Rattle.disk_places.specs.Journal.{journaled}
 use Rattle.disk_rules.specs.Live.{is_file, is_live, valid_entries}
 use Rattle.disk_rules.specs.Volume.{chain, extents, inode, Volume}
 use Rattle.extent_words.specs.declared.Extent.{Extent}
-use Rattle.k_map_plans.specs.Plans.{IsStagingFile}
-use Rattle.k_plans.specs.Whole.{IsWhole}
+use Rattle.k_split.specs.k_map_plans.Plans.{IsStagingFile}
+use Rattle.k_split.specs.k_plans.Whole.{IsWhole}
 use Rattle.k_rules.specs.View.{View}
 use Rattle.k_split.specs.MapChanges.{is_free_in, IsPreallocatedWith}
 use Rattle.k_split.specs.Order.{IsInOrder}
@@ -20,8 +20,8 @@ use Rattle.list_facts.specs.Filters.{filter-In, In-filter}
 use Rattle.map_rules.specs.Changes.{aged, given_up}
 use Rattle.map_rules.specs.Taken.{switched, with_map}
 use Rattle.volume_facts.specs.Changes.{chain-set_same, extents-set_other, inode-set_other, inode-set_same}
-use Rattle.world_rules.specs.Stands.{IsSane}
-use Rattle.world_runs.specs.Restages.{Restages}
+use Rattle.live_facts.specs.world_rules.Stands.{IsSane}
+use Rattle.live_facts.specs.world_runs.Restages.{Restages}
 use Rattle.world_relinks.specs.Laws.{GivesRestagesFilled, GivesRestagesGivenUp, KeepsContentFilled, KeepsContentGivenUp, StaysDeadGivenUp}
 use Rattle.world_relinks.specs.Images.{IsRestaged}
 use Rattle.live_facts.proofs.RestagedLaws.{same-files}

@@ -23,8 +23,8 @@ use Rattle.disk_rules.specs.Uses.{owners}
 use Rattle.disk_rules.specs.Volume.{chain, extents, inode, Volume}
 use Rattle.extent_words.specs.Extents.{covers}
 use Rattle.extent_words.specs.Moves.{Moves}
-use Rattle.k_map_plans.specs.Plans.{MayMove}
-use Rattle.k_plans.specs.Whole.{IsWhole}
+use Rattle.k_split.specs.k_map_plans.Plans.{MayMove}
+use Rattle.k_split.specs.k_plans.Whole.{IsWhole}
 use Rattle.k_rules.specs.Stands.{Stands}
 use Rattle.k_rules.specs.View.{View}
 use Rattle.k_split.specs.MapChanges.{ChangesMaps, is_free_in, IsMovedWith}
@@ -33,13 +33,13 @@ use Rattle.map_facts.specs.Moves.{move_for}
 use Rattle.map_rules.specs.Changes.{with_length}
 use Rattle.map_rules.specs.Taken.{with_map}
 use Rattle.map_rules.specs.declared.moves.Move.{Move}
-use Rattle.name_facts.specs.RowLaws.{row-below}
-use Rattle.volume_uses.specs.PoolLaws.{unused-uncovered}
-use Rattle.volume_uses.specs.Uses.{is_unused}
-use Rattle.world_room.specs.Free.{takes_one_at_most}
-use Rattle.world_room.specs.Laws.{GrowsLittle}
-use Rattle.world_rules.specs.Stands.{IsSane}
-use Rattle.world_runs.specs.Relinks.{Relinks}
+use Rattle.live_facts.specs.name_facts.RowLaws.{row-below}
+use Rattle.live_facts.specs.volume_uses.PoolLaws.{unused-uncovered}
+use Rattle.live_facts.specs.volume_uses.Uses.{is_unused}
+use Rattle.map_facts.specs.world_room.Free.{takes_one_at_most}
+use Rattle.map_facts.specs.world_room.Laws.{GrowsLittle}
+use Rattle.live_facts.specs.world_rules.Stands.{IsSane}
+use Rattle.live_facts.specs.world_runs.Relinks.{Relinks}
 use Rattle.world_relinks.specs.Laws.{GivesRelinks, IsRelinkOf, IsSaneInOrder, KeepsContent}
 use Rattle.live_facts.specs.Logs.{AreSound, CarriesOut, IsNext}
 use Rattle.world_relinks.specs.Images.{IsCarried}

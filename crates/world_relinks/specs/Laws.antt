@@ -4,18 +4,18 @@ use Rattle.pm_words.specs.Images.{Follows}
 use Rattle.pm_words.specs.Words.{Words}
 use Rattle.disk_lines.specs.declared.Draft.{Draft}
 use Rattle.disk_rules.specs.Volume.{inode, Volume}
-use Rattle.k_map_plans.specs.Plans.{IsStagingFile, MayMove}
-use Rattle.k_plans.specs.Whole.{IsWhole}
+use Rattle.k_split.specs.k_map_plans.Plans.{IsStagingFile, MayMove}
+use Rattle.k_split.specs.k_plans.Whole.{IsWhole}
 use Rattle.k_rules.specs.View.{View}
 use Rattle.k_split.specs.MapChanges.{ChangesMaps, IsGivenUpWith, IsMovedWith, IsPreallocatedWith}
 use Rattle.k_split.specs.Order.{IsInOrder}
 use Rattle.map_facts.specs.Moves.{move_for}
 use Rattle.map_rules.specs.Changes.{given_up}
 use Rattle.map_rules.specs.declared.moves.Move.{Move}
-use Rattle.world_rules.specs.Stands.{IsSane}
-use Rattle.world_runs.specs.Relinks.{Relinks}
-use Rattle.world_runs.specs.Restages.{Restages}
-use Rattle.world_room.specs.Laws.{GrowsLittle}
+use Rattle.live_facts.specs.world_rules.Stands.{IsSane}
+use Rattle.live_facts.specs.world_runs.Relinks.{Relinks}
+use Rattle.live_facts.specs.world_runs.Restages.{Restages}
+use Rattle.map_facts.specs.world_room.Laws.{GrowsLittle}
 use Rattle.live_facts.specs.Logs.{IsDeadIn}
 use Rattle.world_relinks.specs.Images.{IsCarried, IsRestaged}
 

@@ -12,6 +12,7 @@
 
 mod laws;
 
+pub use k_split;
 pub use laws::{
     relinks_are_those_of_the_world, relinks_keep_the_content, staging_files_change_as_in_the_world,
 };

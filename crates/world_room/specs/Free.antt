@@ -15,11 +15,11 @@ use Rattle.disk_rules.specs.Volume.{chain, inode, Volume}
 use Rattle.k_rules.specs.Changes.{dropped, gone_node}
 use Rattle.volume_facts.specs.Changes.{chain-set_other, chain-set_same}
 use Rattle.volume_facts.specs.Lists.{count_by-agree, sum_by-but_one}
-use Rattle.volume_uses.specs.PoolLaws.{AreInData, held-set, unused-held}
-use Rattle.volume_uses.specs.Uses.{blocks_held, blocks_of}
-use Rattle.world_rules.specs.Jobs.{live_claims}
-use Rattle.world_rules.specs.Stands.{IsSane}
-use Rattle.world_promise.specs.JobLaws.{live_claims-more}
+use Rattle.world_runs.specs.volume_uses.PoolLaws.{AreInData, held-set, unused-held}
+use Rattle.world_runs.specs.volume_uses.Uses.{blocks_held, blocks_of}
+use Rattle.world_runs.specs.world_rules.Jobs.{live_claims}
+use Rattle.world_runs.specs.world_rules.Stands.{IsSane}
+use Rattle.world_runs.specs.world_promise.JobLaws.{live_claims-more}
 use Rattle.world_room.specs.Laws.{FindsEach, FindsItsBlocks, FreesAsMany, FreesDropped, LeavesForTheNext, LivesNoMore, StaysFree, StaysFreeBegun, StaysFreeFinished, StaysFreeGivenUp, StaysFreeRelinked, TakesOneAtMost}
 
 pub stays_free : StaysFree

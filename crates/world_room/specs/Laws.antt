@@ -9,9 +9,9 @@ use Rattle.disk_rules.specs.Room.{unused_blocks}
 use Rattle.disk_rules.specs.Uses.{owners}
 use Rattle.disk_rules.specs.Volume.{chain, Volume}
 use Rattle.k_rules.specs.Changes.{dropped}
-use Rattle.world_rules.specs.Jobs.{Job, live_claims}
-use Rattle.world_rules.specs.Stands.{IsSane}
-use Rattle.world_log.specs.Rules.{HasFreeBlocks}
+use Rattle.world_runs.specs.world_rules.Jobs.{Job, live_claims}
+use Rattle.world_runs.specs.world_rules.Stands.{IsSane}
+use Rattle.world_runs.specs.world_log.Rules.{HasFreeBlocks}
 use Rattle.world_runs.specs.Relinks.{Relinks}
 
 -- ---- the transitions keep it

@@ -7,10 +7,10 @@ use Rattle.disk_lines.specs.declared.Draft.{Draft}
 use Rattle.disk_rules.specs.Volume.{Volume}
 use Rattle.posix_spec.specs.State.{State}
 use Rattle.list_facts.specs.Members.{In}
-use Rattle.world_rules.specs.Jobs.{Job, live_claims}
-use Rattle.world_steps.specs.Steps.{AreBeside}
-use Rattle.world_steps.specs.Touched.{only}
-use Rattle.world_steps.specs.Worlds.{IsWorld}
+use Rattle.world_jobs.specs.world_rules.Jobs.{Job, live_claims}
+use Rattle.world_jobs.specs.world_steps.Steps.{AreBeside}
+use Rattle.world_jobs.specs.world_steps.Touched.{only}
+use Rattle.world_jobs.specs.world_steps.Worlds.{IsWorld}
 use Rattle.world_runs.specs.Relinks.{IsFirst, Relinks}
 use Rattle.world_runs.specs.Restages.{Restages}
 

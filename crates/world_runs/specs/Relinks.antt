@@ -5,7 +5,7 @@ use Rattle.extent_words.specs.Moves.{Moves}
 use Rattle.disk_lines.specs.declared.Draft.{Draft}
 use Rattle.disk_lines.specs.declared.Inode.{Inode}
 use Rattle.disk_rules.specs.Volume.{extents, inode, Volume}
-use Rattle.world_rules.specs.Stands.{entries_of, IsSane}
+use Rattle.world_jobs.specs.world_rules.Stands.{entries_of, IsSane}
 
 -- what each inode keeps
 pub record SameLine (x y : Inode) : Type 0 where

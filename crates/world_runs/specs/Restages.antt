@@ -2,7 +2,7 @@
 use Rattle.std.specs.Prelude.{◌≡◌, ◌≢◌, ℕ}
 use Rattle.disk_lines.specs.declared.Kind.TheVariants.{Staging}
 use Rattle.disk_rules.specs.Volume.{extents, inode, Volume}
-use Rattle.world_rules.specs.Stands.{IsSane}
+use Rattle.world_jobs.specs.world_rules.Stands.{IsSane}
 
 -- One staging file has another line and another map, and the volume is sane.
 pub record Restages (v w : Volume) (x : ℕ) : Type 0 where

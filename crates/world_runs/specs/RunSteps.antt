@@ -18,14 +18,14 @@ use Rattle.posix_words.specs.Nodes.{node_at}
 use Rattle.posix_spec.specs.State.{State}
 use Rattle.list_facts.specs.Filters.{filter-agree, filter-both, filter-In, In-filter}
 use Rattle.list_facts.specs.Members.{In}
-use Rattle.world_rules.specs.Jobs.{Job, JobsStand, live_claims, staged_block}
-use Rattle.world_rules.specs.Stands.{Consecutive, entries_of, is_used, IsUsed, LogStands, NodeStands, number, Stands}
-use Rattle.world_promise.specs.JobLaws.{live_file}
-use Rattle.world_promise.specs.Landed.{NodeStands-same, SameFile}
-use Rattle.world_promise.specs.Latest.{Consecutive-between, latest-In, latest-most, latest-none, OneOrderEach-Consecutive}
-use Rattle.world_steps.specs.Ages.{AreAged-same}
-use Rattle.world_steps.specs.Steps.{AreBeside}
-use Rattle.world_steps.specs.Touched.{only}
+use Rattle.world_jobs.specs.world_rules.Jobs.{Job, JobsStand, live_claims, staged_block}
+use Rattle.world_jobs.specs.world_rules.Stands.{Consecutive, entries_of, is_used, IsUsed, LogStands, NodeStands, number, Stands}
+use Rattle.world_jobs.specs.world_promise.JobLaws.{live_file}
+use Rattle.world_jobs.specs.world_promise.Landed.{NodeStands-same, SameFile}
+use Rattle.world_jobs.specs.world_promise.Latest.{Consecutive-between, latest-In, latest-most, latest-none, OneOrderEach-Consecutive}
+use Rattle.world_jobs.specs.world_steps.Ages.{AreAged-same}
+use Rattle.world_jobs.specs.world_steps.Steps.{AreBeside}
+use Rattle.world_jobs.specs.world_steps.Touched.{only}
 use Rattle.world_runs.specs.Laws.{KeepsRelinked}
 use Rattle.world_runs.specs.Relinks.{IsFirst, Relinks}
 

@@ -16,10 +16,10 @@ use Rattle.disk_rules.specs.Volume.{inode, Volume}
 use Rattle.posix_words.specs.Nodes.{node_at}
 use Rattle.list_facts.specs.Filters.{filter-agree, filter-In, In-filter}
 use Rattle.list_facts.specs.Members.{In}
-use Rattle.world_rules.specs.Jobs.{Job, JobsStand, live_claims}
-use Rattle.world_rules.specs.Stands.{Consecutive, entries_of, is_used, IsUsed, NodeStands, number, Stands}
-use Rattle.world_promise.specs.JobLaws.{live_used}
-use Rattle.world_promise.specs.Landed.{NodeStands-same}
+use Rattle.world_jobs.specs.world_rules.Jobs.{Job, JobsStand, live_claims}
+use Rattle.world_jobs.specs.world_rules.Stands.{Consecutive, entries_of, is_used, IsUsed, NodeStands, number, Stands}
+use Rattle.world_jobs.specs.world_promise.JobLaws.{live_used}
+use Rattle.world_jobs.specs.world_promise.Landed.{NodeStands-same}
 use Rattle.world_jobs.specs.PlaceSteps.{covering, staging_below, used_staging}
 use Rattle.world_runs.specs.Laws.{KeepsRestaged}
 

@@ -14,8 +14,8 @@ use Rattle.disk_lines.specs.TableLaws.{child_named-at, is_entry-own, NamingLine-
 use Rattle.disk_rules.specs.Rules.{IsKindAt}
 use Rattle.disk_rules.specs.Volume.{free_inode, inode, Volume}
 use Rattle.k_rules.specs.Spaces.{is_free, volume_space}
-use Rattle.name_facts.specs.KeptLaws.{kept-keyed}
-use Rattle.name_facts.specs.RowLaws.{row-below}
+use Rattle.world_promise.specs.name_facts.KeptLaws.{kept-keyed}
+use Rattle.world_promise.specs.name_facts.RowLaws.{row-below}
 use Rattle.volume_facts.specs.Lists.{one_if}
 use Rattle.posix_words.specs.declared.nodes.DirEntry.{DirEntry}
 use Rattle.posix_words.specs.declared.nodes.Node.{Node}
@@ -25,7 +25,7 @@ use Rattle.posix_words.specs.Nodes.{is_live, node_at}
 use Rattle.posix_spec.specs.State.{space, State}
 use Rattle.list_facts.specs.Members.{In-slice_get, slice_get-In}
 use Rattle.posix_trees.specs.Entries.{child_of-In, Leads-child_of}
-use Rattle.world_rules.specs.Stands.{is_used, IsSane, IsUsed, NamesStand, NodesStand, NodeStands, number}
+use Rattle.world_promise.specs.world_rules.Stands.{is_used, IsSane, IsUsed, NamesStand, NodesStand, NodeStands, number}
 use Rattle.world_promise.specs.TreeRules.{all_lines, parent_used, used_below}
 use Rattle.world_spaces.specs.Sums.{sum-Reaches}
 

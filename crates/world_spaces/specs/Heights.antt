@@ -7,7 +7,7 @@ use Rattle.posix_words.specs.declared.nodes.DirEntry.{DirEntry}
 use Rattle.posix_words.specs.Names.{entries_in, has_entries, height}
 use Rattle.list_facts.specs.Filters.{filter-In, In-filter}
 use Rattle.list_facts.specs.Members.{In}
-use Rattle.world_rules.specs.Stands.{number}
+use Rattle.world_promise.specs.world_rules.Stands.{number}
 
 -- an entry of a node in the one list has one in the other
 pub record IsMatched (used : ℕ → Type 0) (numbers : List ℕ) (ys : List DirEntry) (p c : ℕ) : Type 0 where

@@ -6,7 +6,7 @@ use Rattle.disk_rules.specs.Volume.{Volume}
 use Rattle.k_rules.specs.Spaces.{volume_space}
 use Rattle.posix_words.specs.Names.{has_entries, height, longest_path, node_at_path, parent_at, walk}
 use Rattle.posix_spec.specs.State.{space, State}
-use Rattle.world_rules.specs.Stands.{IsUsed, number, Stands}
+use Rattle.world_promise.specs.world_rules.Stands.{IsUsed, number, Stands}
 use Rattle.world_spaces.specs.Counts.{HasShape}
 use Rattle.world_spaces.specs.Rows.{HaveSameRows}
 

@@ -5,3 +5,8 @@ pub mod Sums
 pub mod Counts
 pub mod Laws
 pub mod Spaces
+pub use Rattle.volume_names.specs as volume_names
+pub use Rattle.world_promise.specs as world_promise
+pub use Rattle.world_promise.specs.name_facts as name_facts
+pub use Rattle.world_promise.specs.volume_uses as volume_uses
+pub use Rattle.world_promise.specs.world_rules as world_rules

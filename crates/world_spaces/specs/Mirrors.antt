@@ -10,7 +10,7 @@ use Rattle.posix_types.specs.declared.reply.Reply.{Reply}
 use Rattle.posix_words.specs.NameRows.{walk_row}
 use Rattle.posix_words.specs.Names.{child_of, directory_path, directory_stands, downward, exists_at, file_stands, has_entries, height, is_root, last_name, longest_path, node_at_path, number_at, parent_at, Space, walk, walk_from}
 use Rattle.posix_words.specs.Outcomes.{answer}
-use Rattle.world_rules.specs.Stands.{number}
+use Rattle.world_promise.specs.world_rules.Stands.{number}
 
 -- The second space mirrors the first: each node in use has a number, no two the same, and directories, names, heights and
 -- what is left are the same by the numbers.

@@ -12,8 +12,8 @@ use Rattle.disk_lines.specs.TableLaws.{child_named-at, NamingLine-child_named}
 use Rattle.disk_rules.specs.Live.{is_directory}
 use Rattle.disk_rules.specs.Volume.{inode, Volume}
 use Rattle.k_rules.specs.Spaces.{entries_of, entry_of, volume_space}
-use Rattle.name_facts.specs.KeptLaws.{kept-keyed}
-use Rattle.name_facts.specs.RowLaws.{row-below}
+use Rattle.world_promise.specs.name_facts.KeptLaws.{kept-keyed}
+use Rattle.world_promise.specs.name_facts.RowLaws.{row-below}
 use Rattle.volume_names.specs.EntryLaws.{child_of-rows}
 use Rattle.posix_words.specs.declared.nodes.DirEntry.{DirEntry}
 use Rattle.posix_words.specs.declared.nodes.Node.{Node}
@@ -23,7 +23,7 @@ use Rattle.posix_spec.specs.State.{space, State}
 use Rattle.list_facts.specs.Filters.{filter_map-In, In-filter_map}
 use Rattle.list_facts.specs.Members.{In, slice_get-In}
 use Rattle.posix_trees.specs.Entries.{child_of-In, Leads-child_of}
-use Rattle.world_rules.specs.Stands.{IsSane, IsUsed, NamesStand, NodeStands, number, Stands}
+use Rattle.world_promise.specs.world_rules.Stands.{IsSane, IsUsed, NamesStand, NodeStands, number, Stands}
 use Rattle.world_promise.specs.TreeRules.{all_lines, child_used}
 use Rattle.world_spaces.specs.Counts.{HasShape, lines_left-same, nodes_left-same}
 use Rattle.world_spaces.specs.Heights.{has_entries-Match, height-Match, IsMatched, IsMatchedBack, Match}

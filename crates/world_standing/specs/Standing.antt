@@ -16,19 +16,19 @@ use Rattle.file_table.specs.Files.{Files, runs_in, size_in, spare_in}
 use Rattle.flight_facts.specs.Flying.{FileState, IsFlying}
 use Rattle.held_sums.specs.Laws.{AreSizes}
 use Rattle.k_rules.specs.View.{View}
-use Rattle.k_split.specs.Order.{IsInOrder}
+use Rattle.staging_files.specs.k_split.Order.{IsInOrder}
 use Rattle.list_facts.specs.Members.{In}
 use Rattle.open_numbers.specs.Numbered.{numbered_as}
 use Rattle.posix_types.specs.declared.call.Call.{Call}
 use Rattle.posix_types.specs.declared.call.Who.{Who}
 use Rattle.posix_words.specs.Open.{is_open, Tables}
-use Rattle.posix_frames.specs.Frames.{AreThreads}
+use Rattle.flight_facts.specs.posix_frames.Frames.{AreThreads}
 use Rattle.posix_spec.specs.State.{State}
 use Rattle.staging_files.specs.declared.runs.StageRun.{StageRun}
 use Rattle.staging_files.specs.Keeps.{Agrees, AreFreeSingle, IsStaged, Staged}
-use Rattle.world_images.specs.Images.{HasLogHome}
-use Rattle.world_rules.specs.Jobs.{Job, live_claims, staged_block}
-use Rattle.world_rules.specs.Stands.{entries_of, number}
+use Rattle.flight_facts.specs.world_images.Images.{HasLogHome}
+use Rattle.held_sums.specs.world_rules.Jobs.{Job, live_claims, staged_block}
+use Rattle.held_sums.specs.world_rules.Stands.{entries_of, number}
 
 -- A job that is out, as the World keeps it: its caller and call, its entry, and the disk blocks that it was lent, in the order of
 -- the entry's blocks.

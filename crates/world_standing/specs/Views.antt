@@ -12,7 +12,7 @@ use Rattle.posix_spec.specs.Run.{Begun, run}
 use Rattle.posix_spec.specs.State.{State}
 use Rattle.posix_words.specs.Open.{same_who}
 use Rattle.write_jobs.specs.Jobs.{blocks_of, FilledView, JobView}
-use Rattle.job_facts.specs.Blocks.{SpellWhole}
+use Rattle.flight_facts.specs.job_facts.Blocks.{SpellWhole}
 use Rattle.world_standing.specs.Standing.{Pending}
 
 -- What a round was ended by: a full lap, with the number that was claimed and how many lines there are; or want of space, with

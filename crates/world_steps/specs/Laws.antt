@@ -18,8 +18,8 @@ use Rattle.posix_spec.specs.State.{State}
 use Rattle.list_facts.specs.Members.{In}
 use Rattle.posix_frames.specs.Needs.{needs}
 use Rattle.posix_frames.specs.Rooms.{FitsBeside}
-use Rattle.world_rules.specs.Jobs.{Job, live_claims, Valid}
-use Rattle.world_rules.specs.Stands.{IsSane, IsUsed, NamesStand, number}
+use Rattle.world_spaces.specs.world_rules.Jobs.{Job, live_claims, Valid}
+use Rattle.world_spaces.specs.world_rules.Stands.{IsSane, IsUsed, NamesStand, number}
 use Rattle.world_steps.specs.Ages.{AreAged}
 use Rattle.world_steps.specs.NameTables.{moved_entries}
 use Rattle.world_steps.specs.Steps.{AreBeside, flights_of, GoOn, LetsJobsBe, Steps}

@@ -6,3 +6,11 @@ pub mod Makers
 pub mod Nameless
 pub mod Worlds
 pub mod Laws
+pub use Rattle.posix_frames.specs as posix_frames
+pub use Rattle.volume_changes.specs as volume_changes
+pub use Rattle.world_spaces.specs as world_spaces
+pub use Rattle.world_spaces.specs.name_facts as name_facts
+pub use Rattle.world_spaces.specs.volume_names as volume_names
+pub use Rattle.world_spaces.specs.volume_uses as volume_uses
+pub use Rattle.world_spaces.specs.world_promise as world_promise
+pub use Rattle.world_spaces.specs.world_rules as world_rules

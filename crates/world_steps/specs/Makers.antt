@@ -13,8 +13,8 @@ use Rattle.posix_words.specs.declared.nodes.Node.{Node}
 use Rattle.posix_words.specs.Nodes.{node_at}
 use Rattle.posix_spec.specs.State.{State}
 use Rattle.list_facts.specs.Members.{In}
-use Rattle.world_rules.specs.Jobs.{live_claims}
-use Rattle.world_rules.specs.Stands.{is_used, IsSane, IsUsed, NamesStand, NodesStand, NodeStands, number}
+use Rattle.world_spaces.specs.world_rules.Jobs.{live_claims}
+use Rattle.world_spaces.specs.world_rules.Stands.{is_used, IsSane, IsUsed, NamesStand, NodesStand, NodeStands, number}
 use Rattle.world_steps.specs.Steps.{shown_node, Steps}
 use Rattle.world_steps.specs.Touched.{beside, Leaves, only, untouched}
 

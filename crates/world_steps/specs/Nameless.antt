@@ -8,17 +8,17 @@ use Rattle.disk_lines.specs.Lines.{NameRow}
 use Rattle.disk_lines.specs.Names.{child_named, is_child, names_of, row, Rows}
 use Rattle.disk_lines.specs.TableLaws.{child_named-at, NamingLine-child_named}
 use Rattle.disk_rules.specs.Volume.{Volume}
-use Rattle.name_facts.specs.KeptLaws.{kept-keyed, kept-one_name}
-use Rattle.name_facts.specs.RowLaws.{names_of-none, names_of-one_line, names_of-zero, row-below}
-use Rattle.name_facts.specs.SetLaws.{row-freed}
+use Rattle.world_spaces.specs.name_facts.KeptLaws.{kept-keyed, kept-one_name}
+use Rattle.world_spaces.specs.name_facts.RowLaws.{names_of-none, names_of-one_line, names_of-zero, row-below}
+use Rattle.world_spaces.specs.name_facts.SetLaws.{row-freed}
 use Rattle.volume_facts.specs.Changes.{row-set_other, row-set_same}
 use Rattle.posix_words.specs.declared.nodes.DirEntry.{DirEntry}
 use Rattle.posix_words.specs.Names.{child_of, is_named}
 use Rattle.posix_spec.specs.State.{State}
 use Rattle.list_facts.specs.Members.{In}
 use Rattle.posix_trees.specs.Entries.{child_of-In, Leads-child_of}
-use Rattle.world_rules.specs.Stands.{IsSane, IsUsed, NamesStand, number}
-use Rattle.world_promise.specs.TreeRules.{all_lines, child_used, parent_used}
+use Rattle.world_spaces.specs.world_rules.Stands.{IsSane, IsUsed, NamesStand, number}
+use Rattle.world_spaces.specs.world_promise.TreeRules.{all_lines, child_used, parent_used}
 
 -- no row names the inode
 abbrev pub IsNameless : Rows → ℕ → Type 0

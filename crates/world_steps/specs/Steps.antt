@@ -31,11 +31,11 @@ use Rattle.posix_frames.specs.Flights.{InFlight, KeepsSeen-call}
 use Rattle.posix_frames.specs.Needs.{AreAfforded-step, AreInFlight, Flight, LetsAllBe, needs}
 use Rattle.posix_frames.specs.Needs as flying
 use Rattle.posix_frames.specs.Rooms.{FitsBeside}
-use Rattle.world_rules.specs.Claims.{ClaimsStand}
-use Rattle.world_rules.specs.Jobs.{begun_of, Job, JobsStand, JobStands, live_claims, Valid}
-use Rattle.world_rules.specs.Stands.{is_used, IsSane, IsUsed, NamesStand, NodeStands, number, Stands}
-use Rattle.world_promise.specs.JobLaws.{live_file, live_used}
-use Rattle.world_promise.specs.Landed.{NodeStands-same}
+use Rattle.world_spaces.specs.world_rules.Claims.{ClaimsStand}
+use Rattle.world_spaces.specs.world_rules.Jobs.{begun_of, Job, JobsStand, JobStands, live_claims, Valid}
+use Rattle.world_spaces.specs.world_rules.Stands.{is_used, IsSane, IsUsed, NamesStand, NodeStands, number, Stands}
+use Rattle.world_spaces.specs.world_promise.JobLaws.{live_file, live_used}
+use Rattle.world_spaces.specs.world_promise.Landed.{NodeStands-same}
 use Rattle.world_steps.specs.Touched.{beside, beside-In, disk_of-left, entries-beside, is_beside, Leaves, LogStands-left, SameFile-left, staged-left, staging-left, untouched}
 
 -- a node as it is shown: its published length does not matter

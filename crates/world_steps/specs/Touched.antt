@@ -13,10 +13,10 @@ use Rattle.disk_rules.specs.Rules.{HasStagingBlocks}
 use Rattle.disk_rules.specs.Volume.{extents, inode, Volume}
 use Rattle.list_facts.specs.Filters.{filter-agree, filter-both, filter-In}
 use Rattle.list_facts.specs.Members.{In}
-use Rattle.world_rules.specs.Stands.{Consecutive, entries_of, LogStands}
-use Rattle.world_rules.specs.Jobs.{staged_block}
-use Rattle.world_promise.specs.Landed.{SameFile}
-use Rattle.world_promise.specs.Latest.{latest-In}
+use Rattle.world_spaces.specs.world_rules.Stands.{Consecutive, entries_of, LogStands}
+use Rattle.world_spaces.specs.world_rules.Jobs.{staged_block}
+use Rattle.world_spaces.specs.world_promise.Landed.{SameFile}
+use Rattle.world_spaces.specs.world_promise.Latest.{latest-In}
 
 -- All inodes but those that the test touches are as before, with their maps; no staging file is touched.
 pub record Leaves (touched : ℕ → Bool) (v w : Volume) : Type 0 where

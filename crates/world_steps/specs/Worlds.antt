@@ -12,15 +12,15 @@ use Rattle.disk_rules.specs.Volume.{Volume}
 use Rattle.k_rules.specs.Spaces.{volume_space}
 use Rattle.volume_changes.specs.CallLaws.{IsKeptVolume}
 use Rattle.volume_facts.specs.Changes.{row-set_other, row-set_same}
-use Rattle.name_facts.specs.RowLaws.{row-below}
-use Rattle.volume_names.specs.Paths.{HasDirectory, IsAt}
+use Rattle.world_spaces.specs.name_facts.RowLaws.{row-below}
+use Rattle.world_spaces.specs.volume_names.Paths.{HasDirectory, IsAt}
 use Rattle.posix_types.specs.declared.call.Call.{Call}
 use Rattle.posix_words.specs.Names.{last_name, node_at_path, parent_at}
 use Rattle.posix_spec.specs.State.{space, State}
-use Rattle.world_rules.specs.Claims.{ClaimsStand}
-use Rattle.world_rules.specs.Jobs.{Job, live_claims, Valid}
-use Rattle.world_rules.specs.Stands.{IsSane, IsUsed, number}
-use Rattle.world_promise.specs.TreeRules.{all_lines}
+use Rattle.world_spaces.specs.world_rules.Claims.{ClaimsStand}
+use Rattle.world_spaces.specs.world_rules.Jobs.{Job, live_claims, Valid}
+use Rattle.world_spaces.specs.world_rules.Stands.{IsSane, IsUsed, number}
+use Rattle.world_spaces.specs.world_promise.TreeRules.{all_lines}
 use Rattle.world_spaces.specs.Counts.{HasShape}
 use Rattle.world_spaces.specs.Mirrors.{Mirrors, node_at_path-same, walk-Ok}
 use Rattle.world_spaces.specs.Spaces.{Mirrors-Stands}

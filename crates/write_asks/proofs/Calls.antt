@@ -8,8 +8,8 @@ use Rattle.open_numbers.specs.Numbered.{described_as, numbered_as}
 use Rattle.open_numbers.proofs.Changes.{moves_alike}
 use Rattle.open_numbers.proofs.Lookups.{same_key, same_opened}
 use Rattle.posix_facts.specs.RowLaws.{put_at-Some, rows-from_Accepts}
-use Rattle.posix_frames.specs.Bystanders.{is_open-Opens}
-use Rattle.posix_frames.specs.Handles.{Opens-opened}
+use Rattle.open_files.specs.posix_frames.Bystanders.{is_open-Opens}
+use Rattle.open_files.specs.posix_frames.Handles.{Opens-opened}
 use Rattle.posix_types.specs.declared.call.Call.{Call}
 use Rattle.posix_types.specs.declared.call.Mode.{Mode}
 use Rattle.posix_types.specs.declared.call.Who.{Who}
@@ -32,7 +32,7 @@ use Rattle.write_asks.specs.Asks.{room_in, row_in, start_at, start_in}
 use Rattle.write_asks.specs.Laws.{AreOfState, MayMove, MovesAsCall, NeedsAsCall, OpensNothing, RowsAsCall, start_of, StartsAsCall}
 
 -- what a handle stands for is open
-handle_open : (t : Tables) (who : Who) (h : Handle) (d : Description) → opened t who h ≡ Some d → is_open t d.node ≡ true
+pub handle_open : (t : Tables) (who : Who) (h : Handle) (d : Description) → opened t who h ≡ Some d → is_open t d.node ≡ true
 handle_open t who h d is = let o = Opens-opened t who h d is in is_open-Opens t who h o.0 d.node d o.1 refl
 
 -- ---- an offset that moves opens and closes nothing

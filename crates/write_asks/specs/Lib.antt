@@ -1,2 +1,3 @@
 pub mod Asks
 pub mod Laws
+pub use Rattle.open_files.specs.posix_frames as posix_frames

@@ -30,3 +30,5 @@ pub fn numbers_are_those_of_the_state()
     ensures may { MayMove }
     ensures opens { OpensNothing }
 {}
+
+pub use open_files;

@@ -6,8 +6,8 @@ use Rattle.disk_lines.specs.Entries.{is_draft}
 use Rattle.disk_lines.specs.Lines.{most_bytes}
 use Rattle.file_table.specs.Files.{ChangesFile, Files, runs_in, spare_in}
 use Rattle.k_rules.specs.View.{View}
-use Rattle.k_split.specs.Order.{IsInOrder}
-use Rattle.overlay_facts.specs.Overlays.{run_of}
+use Rattle.block_loans.specs.k_split.Order.{IsInOrder}
+use Rattle.world_standing.specs.overlay_facts.Overlays.{run_of}
 use Rattle.posix_types.specs.declared.call.Call.{Call}
 use Rattle.posix_types.specs.declared.call.Who.{Who}
 use Rattle.posix_words.specs.Open.{Tables}

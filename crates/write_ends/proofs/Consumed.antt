@@ -20,27 +20,27 @@ use Rattle.disk_rules.specs.Volume.{extents, inode, Volume}
 use Rattle.extent_facts.specs.Covers.{covers-disk_at}
 use Rattle.volume_facts.specs.ImageLaws.{journaled-other}
 use Rattle.volume_facts.specs.LineWords.{data_word}
-use Rattle.volume_uses.specs.OwnerLaws.{IsOnePlace, one_owner}
-use Rattle.volume_uses.specs.PoolLaws.{covered-in_data}
+use Rattle.world_lent.specs.volume_uses.OwnerLaws.{IsOnePlace, one_owner}
+use Rattle.world_lent.specs.volume_uses.PoolLaws.{covered-in_data}
 use Rattle.k_rules.specs.View.{View}
 use Rattle.list_facts.specs.Members.{In}
 use Rattle.posix_puts.specs.Puts.{PutsWhole}
 use Rattle.posix_spec.specs.Run.{run}
 use Rattle.posix_types.specs.declared.call.Call.{Call}
 use Rattle.posix_types.specs.declared.call.Who.{Who}
-use Rattle.world_images.specs.Promised.{IsKept}
-use Rattle.world_jobs.specs.JobSteps.{Valid-front}
+use Rattle.world_lent.specs.world_images.Promised.{IsKept}
+use Rattle.block_loans.specs.world_jobs.JobSteps.{Valid-front}
 use Rattle.world_lent.specs.Back.{IsPutBack}
-use Rattle.world_log.specs.Lines.{AreLinesOut}
-use Rattle.world_promise.specs.Lent.{once_named}
-use Rattle.world_rules.specs.Jobs.{AreApartJobs, HoldsWhole, IsStagedIn, Job, JobStands, live_claims, staged_block, Valid}
-use Rattle.world_rules.specs.Promised.{AreWhole}
-use Rattle.world_rules.specs.Stands.{IsSane}
-use Rattle.world_steps.specs.Worlds.{IsWorld}
+use Rattle.world_lent.specs.world_log.Lines.{AreLinesOut}
+use Rattle.world_lent.specs.world_promise.Lent.{once_named}
+use Rattle.world_lent.specs.world_rules.Jobs.{AreApartJobs, HoldsWhole, IsStagedIn, Job, JobStands, live_claims, staged_block, Valid}
+use Rattle.world_lent.specs.world_rules.Promised.{AreWhole}
+use Rattle.world_lent.specs.world_rules.Stands.{IsSane}
+use Rattle.world_lent.specs.world_steps.Worlds.{IsWorld}
 use Rattle.write_jobs.specs.Jobs.{FilledView, HoldWords, loan_at}
 use Rattle.block_loans.specs.Loans.{AreApart as LoansApart, ComeBack}
 use Rattle.block_loans.proofs.SettleLaws.{puts_back}
-use Rattle.job_facts.specs.Blocks.{AreOut, ArePutBack, SpellWhole}
+use Rattle.block_loans.specs.job_facts.Blocks.{AreOut, ArePutBack, SpellWhole}
 use Rattle.write_ends.specs.Lost.{HasLostJob, IsConsumed, IsLostAt, LeavesLost}
 use Rattle.write_ends.proofs.Ending.{loans_of_entry, once, places_of_entry, staging_below}
 use Rattle.write_ends.proofs.Pending.{apart_of, IsSplit, split_of, stands_of}

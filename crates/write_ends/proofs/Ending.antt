@@ -19,19 +19,19 @@ use Rattle.list_facts.specs.Members.{In}
 use Rattle.posix_types.specs.declared.call.Call.{Call}
 use Rattle.posix_types.specs.declared.call.Who.{Who}
 use Rattle.posix_puts.specs.Puts.{PutsWhole}
-use Rattle.volume_uses.specs.OwnerLaws.{IsOnePlace, one_owner}
-use Rattle.world_jobs.specs.JobSteps.{Valid-front}
-use Rattle.world_promise.specs.JobLaws.{live_file, live_used}
-use Rattle.world_promise.specs.Lent.{once_named}
-use Rattle.world_promise.specs.TreeRules.{used_below}
-use Rattle.world_rules.specs.Jobs.{Job, JobStands, live_claims, staged_block, Valid}
-use Rattle.world_rules.specs.Stands.{IsSane, number}
-use Rattle.world_steps.specs.Worlds.{IsWorld}
+use Rattle.world_lent.specs.volume_uses.OwnerLaws.{IsOnePlace, one_owner}
+use Rattle.block_loans.specs.world_jobs.JobSteps.{Valid-front}
+use Rattle.world_lent.specs.world_promise.JobLaws.{live_file, live_used}
+use Rattle.world_lent.specs.world_promise.Lent.{once_named}
+use Rattle.world_lent.specs.world_promise.TreeRules.{used_below}
+use Rattle.world_lent.specs.world_rules.Jobs.{Job, JobStands, live_claims, staged_block, Valid}
+use Rattle.world_lent.specs.world_rules.Stands.{IsSane, number}
+use Rattle.world_lent.specs.world_steps.Worlds.{IsWorld}
 use Rattle.write_jobs.specs.Jobs.{blocks_of, FilledView, loan_at}
 use Rattle.block_loans.specs.Loans.{AreApart, ComeBack}
 use Rattle.block_loans.proofs.SettleLaws.{puts_back}
-use Rattle.flight_facts.specs.Flying.{IsFlying}
-use Rattle.job_facts.specs.Blocks.{AreOut, ArePutBack, SpellWhole}
+use Rattle.world_standing.specs.flight_facts.Flying.{IsFlying}
+use Rattle.block_loans.specs.job_facts.Blocks.{AreOut, ArePutBack, SpellWhole}
 use Rattle.world_standing.specs.Standing.{file_state, HasItsBlocks, Pending}
 use Rattle.write_ends.specs.Ends.{HasJob}
 use Rattle.write_ends.proofs.Pending.{IsSplit, split_of}

@@ -18,10 +18,10 @@ use Rattle.disk_rules.specs.Volume.{inode, Volume}
 use Rattle.entry_orders.specs.Orders.{AreOrdered-step_of}
 use Rattle.file_table.specs.Files.{ChangesFile, Files, runs_in, size_in}
 use Rattle.k_rules.specs.View.{View}
-use Rattle.k_split.specs.Order.{IsInOrder}
+use Rattle.block_loans.specs.k_split.Order.{IsInOrder}
 use Rattle.list_facts.specs.Members.{In, pushed-In}
 use Rattle.open_numbers.specs.Numbered.{numbered_as}
-use Rattle.overlay_facts.specs.Overlays.{run_of}
+use Rattle.world_standing.specs.overlay_facts.Overlays.{run_of}
 use Rattle.posix_types.specs.declared.call.Call.{Call}
 use Rattle.posix_types.specs.declared.call.Who.{Who}
 use Rattle.posix_words.specs.declared.nodes.Node.{Node}
@@ -30,15 +30,15 @@ use Rattle.posix_words.specs.Open.{is_open, same_who, Tables}
 use Rattle.posix_puts.specs.Puts.{put_bytes, PutsWhole}
 use Rattle.posix_spec.specs.Run.{after_call, Begun}
 use Rattle.posix_spec.specs.State.{alone, State}
-use Rattle.world_promise.specs.JobLaws.{live_claims-more}
-use Rattle.world_promise.specs.TreeRules.{used_below}
-use Rattle.world_rules.specs.Jobs.{begun_of, live_claims}
-use Rattle.world_rules.specs.Stands.{entries_of, FileStands, is_used, NodeStands, number}
+use Rattle.world_lent.specs.world_promise.JobLaws.{live_claims-more}
+use Rattle.world_lent.specs.world_promise.TreeRules.{used_below}
+use Rattle.world_lent.specs.world_rules.Jobs.{begun_of, live_claims}
+use Rattle.world_lent.specs.world_rules.Stands.{entries_of, FileStands, is_used, NodeStands, number}
 use Rattle.write_jobs.specs.Jobs.{FilledView, HoldWords}
 use Rattle.block_loans.specs.Loans.{ComeBack}
-use Rattle.flight_facts.specs.Flying.{IsFlying, with_entry}
-use Rattle.flight_facts.proofs.Flights.{flies_finished}
-use Rattle.job_facts.specs.Blocks.{SpellWhole}
+use Rattle.world_standing.specs.flight_facts.Flying.{IsFlying, with_entry}
+use Rattle.world_standing.proofs.flight_facts_proofs.Flights.{flies_finished}
+use Rattle.block_loans.specs.job_facts.Blocks.{SpellWhole}
 use Rattle.world_standing.specs.Standing.{AreOfTwoThreads, file_state, IsQuietBeside, IsSpellable, Pending, reserved_run, StandsAt}
 use Rattle.world_standing.specs.Views.{SpellCall, without}
 use Rattle.write_asks.specs.Asks.{CanMoveBy, moved_by}

@@ -15,19 +15,19 @@ use Rattle.disk_rules.specs.Rules.{AreApart}
 use Rattle.disk_rules.specs.Volume.{extents}
 use Rattle.extent_words.specs.Extents.{disk_at, is_within}
 use Rattle.k_rules.specs.View.{View}
-use Rattle.k_split.specs.Order.{IsInOrder}
+use Rattle.block_loans.specs.k_split.Order.{IsInOrder}
 use Rattle.list_facts.specs.Members.{In}
 use Rattle.posix_words.specs.Open.{same_who}
-use Rattle.staging_files.specs.declared.runs.StageRun.{StageRun}
-use Rattle.staging_files.specs.GivesUp.{IsGivenBack}
-use Rattle.staging_files.specs.Keeps.{Agrees, AreFreeSingle, IsRunSingle, IsStaged, IsThere, Staged}
-use Rattle.world_rules.specs.Jobs.{Job, live_claims, staged_block}
-use Rattle.world_rules.specs.Promised.{AreWhole}
+use Rattle.world_standing.specs.staging_files.declared.runs.StageRun.{StageRun}
+use Rattle.world_standing.specs.staging_files.GivesUp.{IsGivenBack}
+use Rattle.world_standing.specs.staging_files.Keeps.{Agrees, AreFreeSingle, IsRunSingle, IsStaged, IsThere, Staged}
+use Rattle.world_lent.specs.world_rules.Jobs.{Job, live_claims, staged_block}
+use Rattle.world_lent.specs.world_rules.Promised.{AreWhole}
 use Rattle.write_jobs.specs.Jobs.{FilledView, HoldWords, loan_at}
 use Rattle.block_loans.specs.Loans.{ComeBack}
-use Rattle.flight_facts.specs.Flying.{IsFlying}
-use Rattle.flight_facts.proofs.Flights.{others_home, others_out}
-use Rattle.job_facts.proofs.Ends.{gives_up_job}
+use Rattle.world_standing.specs.flight_facts.Flying.{IsFlying}
+use Rattle.world_standing.proofs.flight_facts_proofs.Flights.{others_home, others_out}
+use Rattle.block_loans.proofs.job_facts_proofs.Ends.{gives_up_job}
 use Rattle.world_standing.specs.Standing.{AreOfTwoThreads, file_state, IsQuietBeside, Pending, reserved_run, StandsAt}
 use Rattle.world_standing.specs.Views.{without}
 use Rattle.write_ends.specs.Ends.{given_up, HasJob, LeavesGivenUp}

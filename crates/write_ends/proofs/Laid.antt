@@ -7,9 +7,9 @@ use Rattle.disk_lines.specs.declared.Draft.{Draft}
 use Rattle.disk_lines.specs.declared.Kind.TheVariants.{File}
 use Rattle.disk_rules.specs.Volume.{inode, Volume}
 use Rattle.file_table.specs.Files.{ChangesFile, Files, runs_in, size_in}
-use Rattle.held_sums.specs.Laws.{AreSizes}
-use Rattle.overlay_facts.specs.Overlays.{IsOverlayOf, run_of}
-use Rattle.flight_facts.specs.Flying.{AreOverlays, FileState, with_entry}
+use Rattle.world_standing.specs.held_sums.Laws.{AreSizes}
+use Rattle.world_standing.specs.overlay_facts.Overlays.{IsOverlayOf, run_of}
+use Rattle.world_standing.specs.flight_facts.Flying.{AreOverlays, FileState, with_entry}
 use Rattle.world_standing.specs.Standing.{file_state}
 
 module _ (d : Draft) (old new : Files) (changes : ChangesFile d.ino (runs_in old d.ino ++ run_of d ∷ []) d.size old new) (below : d.ino < length old.sizes) where

@@ -8,11 +8,11 @@ use Rattle.disk_places.specs.Journal.{journaled}
 use Rattle.list_facts.specs.Members.{In}
 use Rattle.posix_types.specs.declared.call.Mode.{Mode}
 use Rattle.posix_spec.specs.Run.{Begun, run}
-use Rattle.world_images.specs.Changed.{sound_headed}
-use Rattle.world_images.specs.Promised.{IsKept}
+use Rattle.world_lent.specs.world_images.Changed.{sound_headed}
+use Rattle.world_lent.specs.world_images.Promised.{IsKept}
 use Rattle.world_lent.specs.Flights.{promise_in_flight}
-use Rattle.world_rules.specs.Jobs.{begun_of, Job, JobStands, live_claims}
-use Rattle.world_rules.specs.Stands.{number}
+use Rattle.world_lent.specs.world_rules.Jobs.{begun_of, Job, JobStands, live_claims}
+use Rattle.world_lent.specs.world_rules.Stands.{number}
 use Rattle.world_standing.specs.Standing.{AreJobsOf, Pending}
 use Rattle.write_ends.specs.Lost.{begun_by, StandsLost}
 use Rattle.write_ends.proofs.Pending.{stands_of}

@@ -10,15 +10,15 @@ use Rattle.disk_rules.specs.Rules.{file_blocks_of}
 use Rattle.disk_rules.specs.Volume.{extents, inode}
 use Rattle.extent_facts.specs.Covers.{covers-disk_at}
 use Rattle.extent_words.specs.Extents.{disk_at}
-use Rattle.volume_uses.specs.PoolLaws.{covered-in_data}
+use Rattle.world_lent.specs.volume_uses.PoolLaws.{covered-in_data}
 use Rattle.k_rules.specs.View.{View}
 use Rattle.list_facts.specs.Members.{In}
-use Rattle.staging_files.specs.Keeps.{Agrees, AreFreeSingle, Staged}
-use Rattle.world_rules.specs.Jobs.{IsStagedIn, Job, staged_block}
+use Rattle.world_standing.specs.staging_files.Keeps.{Agrees, AreFreeSingle, Staged}
+use Rattle.world_lent.specs.world_rules.Jobs.{IsStagedIn, Job, staged_block}
 use Rattle.write_jobs.specs.Jobs.{FilledView, HoldWords, loan_at}
 use Rattle.block_loans.specs.Loans.{ComeBack}
-use Rattle.flight_facts.specs.Flying.{IsOut}
-use Rattle.flight_facts.proofs.Flights.{others_out}
+use Rattle.world_standing.specs.flight_facts.Flying.{IsOut}
+use Rattle.world_standing.proofs.flight_facts_proofs.Flights.{others_out}
 use Rattle.world_standing.specs.Standing.{AreLinesLent, file_state, IsQuietBeside, Kept}
 use Rattle.write_ends.specs.Ends.{HasJob}
 use Rattle.write_ends.proofs.Ending.{claims, flying, j, loans_count, loans_out, numbers, place_is, places, put_back, split, staging_below, stood, v, valid, world}

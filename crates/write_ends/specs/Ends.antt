@@ -8,7 +8,7 @@ use Rattle.posix_types.specs.declared.call.Call.{Call}
 use Rattle.posix_words.specs.Open.{Tables}
 use Rattle.posix_spec.specs.Run.{after_call, Begun}
 use Rattle.posix_spec.specs.State.{State}
-use Rattle.staging_files.specs.Keeps.{Staged}
+use Rattle.world_standing.specs.staging_files.Keeps.{Staged}
 use Rattle.write_jobs.specs.Jobs.{blocks_of, FilledView}
 use Rattle.world_standing.specs.Standing.{Kept, Pending, StandsAt}
 use Rattle.world_standing.specs.Views.{SpellCall, without}

@@ -16,13 +16,13 @@ use Rattle.posix_words.specs.Open.{Tables}
 use Rattle.posix_puts.specs.Puts.{PutsWhole}
 use Rattle.posix_spec.specs.Run.{Begun, run}
 use Rattle.posix_spec.specs.State.{State}
-use Rattle.world_images.specs.Promised.{IsKept}
+use Rattle.world_lent.specs.world_images.Promised.{IsKept}
 use Rattle.world_lent.specs.Back.{IsPutBack}
-use Rattle.world_rules.specs.Jobs.{HoldsWhole, IsStagedIn, Job}
-use Rattle.world_rules.specs.Promised.{AreWhole}
-use Rattle.world_steps.specs.Worlds.{IsWorld}
+use Rattle.world_lent.specs.world_rules.Jobs.{HoldsWhole, IsStagedIn, Job}
+use Rattle.world_lent.specs.world_rules.Promised.{AreWhole}
+use Rattle.world_lent.specs.world_steps.Worlds.{IsWorld}
 use Rattle.write_jobs.specs.Jobs.{FilledView}
-use Rattle.job_facts.specs.Blocks.{AreOut}
+use Rattle.block_loans.specs.job_facts.Blocks.{AreOut}
 use Rattle.world_standing.specs.Standing.{AreJobsOf, AreOfTwoThreads, HasItsBlocks, Kept, Pending, StandsAt}
 use Rattle.write_ends.specs.Ends.{IsOut}
 

@@ -1,17 +1,17 @@
 //! A logged write finishes.
 ghost use Rattle.std.specs.Prelude.{◌≡◌, ◌<◌, [], ◌∷◌, ◌++◌, length, vec_len, vec_capacity};
 ghost use Rattle.block_loans.specs.Loans.{ComeBack};
-ghost use Rattle.overlay_facts.specs.Overlays.{run_of};
+ghost use Rattle.world_standing.specs.overlay_facts.Overlays.{run_of};
 ghost use Rattle.write_ends.specs.Ends.{CanFinish, HasJob, HasWrite, LeavesFinished};
 
+use block_loans::k_split::KSplit;
 use block_loans::settle_blocks;
 use disk_lines::Draft;
 use file_overlay::Run;
 use file_table::FileTable;
-use k_split::KSplit;
-use open_files::OpenFiles;
 use posix_types::Call;
 use write_asks::move_by;
+use write_asks::open_files::OpenFiles;
 use write_jobs::FilledJob;
 
 // The run of an entry.

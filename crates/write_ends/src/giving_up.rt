@@ -4,10 +4,10 @@ ghost use Rattle.block_loans.specs.Loans.{ComeBack};
 ghost use Rattle.world_standing.specs.Standing.{reserved_run};
 ghost use Rattle.write_ends.specs.Ends.{CanGiveUp, HasJob, LeavesGivenUp};
 
+use block_loans::k_split::KSplit;
 use block_loans::settle_blocks;
 use disk_lines::Draft;
-use k_split::KSplit;
-use staging_files::{StageRun, Staging};
+use world_standing::staging_files::{StageRun, Staging};
 use write_jobs::FilledJob;
 
 // The staged run of an entry.

@@ -3,9 +3,9 @@ ghost use Rattle.std.specs.Prelude.{◌≡◌, [], ◌∷◌, ◌++◌, vec_len,
 ghost use Rattle.block_loans.specs.Loans.{ComeBack};
 ghost use Rattle.write_ends.specs.Lost.{HasLostJob, LeavesLost, StandsLost};
 
+use block_loans::k_split::KSplit;
 use block_loans::settle_blocks;
 use disk_lines::Draft;
-use k_split::KSplit;
 use write_jobs::FilledJob;
 
 /// A World that stands together, in strict mode, keeps its promise once the power is off.

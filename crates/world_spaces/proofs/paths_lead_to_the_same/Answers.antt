@@ -1,6 +1,6 @@
 use Rattle.k_rules.specs.Spaces.{volume_space}
 use Rattle.posix_spec.specs.State.{space}
-use Rattle.world_rules.specs.Stands.{IsUsed}
+use Rattle.world_promise.specs.world_rules.Stands.{IsUsed}
 use Rattle.world_spaces.specs.Mirrors.{node_at_path-same, walk-Ok}
 use Rattle.world_spaces.specs.Spaces.{Mirrors-Stands}
 use Rattle.world_spaces.proofs.paths_lead_to_the_same.Goals as goal

@@ -4,7 +4,7 @@ use Rattle.k_journal.specs.declared.outcomes.Commit.{Commit}
 use Rattle.log_checkpoint.proofs.EndContent.{gathered-content, goes-on, same-content}
 use Rattle.log_checkpoint.proofs.Laps.{gathered, still-single}
 use Rattle.log_checkpoint.specs.Gathers.{AreAllDone, AreDoneUpTo}
-use Rattle.k_split.specs.declared.faults.KFault.{KFault}
+use Rattle.staging_files.specs.k_split.declared.faults.KFault.{KFault}
 use Rattle.log_checkpoint.proofs.gathering.gather.Goals as goal
 
 pub returns-then-is_lost-clause-content : goal.returns-then-is_lost-clause-content

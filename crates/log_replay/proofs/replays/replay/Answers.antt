@@ -1,9 +1,9 @@
 use Rattle.std.proofs.Common.{◌+◌, ◌<◌, length, drop, ◌∷◌, Ok, Err, refl, sym, ◌∙◌, subst, arith}
 use Rattle.std.proofs.lemmas.Bool.{both_ways}
 use Rattle.pm_words.specs.PowerLaws.{Steps-none}
-use Rattle.k_map_plans.specs.Plans.{MayMove}
+use Rattle.k_mount.specs.k_map_plans.Plans.{MayMove}
 use Rattle.k_mount.proofs.Devices.{device-mapped, device-none, device-then}
-use Rattle.k_split.specs.MapChanges.{IsMovedWith, IsRelinkAnswer}
+use Rattle.k_mount.specs.k_split.MapChanges.{IsMovedWith, IsRelinkAnswer}
 use Rattle.log_replay.specs.Replays.{IsReplayAnswer, IsReplayPaid}
 use Rattle.log_replay.proofs.Steps.{answer-stopped, as-many, blank, entry_at, IsOnTheWay, may-move, more-steps, room-there, shown-so_far, way-at, way-begins, way-goes_on, way-stops, way-stops-paid, way-whole}
 use Rattle.log_replay.proofs.replays.replay.Goals as goal

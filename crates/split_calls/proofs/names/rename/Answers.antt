@@ -2,9 +2,9 @@ use Rattle.std.proofs.Common.{sym, subst, inr}
 use Rattle.std.specs.Prelude.{Ok, Some, Option, Result, ℕ}
 use Rattle.posix_types.specs.declared.call.Call.{Call}
 use Rattle.posix_types.specs.declared.call.Who.{Who}
-use Rattle.k_split.specs.declared.faults.KFault.{KFault}
-use Rattle.k_split.specs.Answers.{IsPaid}
-use Rattle.k_split.specs.Names.{IsRenameAnswer, rename_row}
+use Rattle.file_reads.specs.k_split.declared.faults.KFault.{KFault}
+use Rattle.file_reads.specs.k_split.Answers.{IsPaid}
+use Rattle.file_reads.specs.k_split.Names.{IsRenameAnswer, rename_row}
 use Rattle.split_calls.specs.Answers.{IsEnded}
 use Rattle.split_calls.proofs.NameCalls.{rename_done, took}
 use Rattle.split_calls.proofs.Halves.{over_file, rename_fault, rename_half, rename_replies}

@@ -6,7 +6,7 @@ use Rattle.disk_lines.specs.Lines.{most_bytes}
 use Rattle.file_overlay.specs.declared.runs.Run.{Run}
 use Rattle.file_table.specs.Files.{ChangesFile, runs_in}
 use Rattle.k_rules.specs.View.{View}
-use Rattle.overlay_facts.specs.Overlays.{run_of}
+use Rattle.world_standing.specs.overlay_facts.Overlays.{run_of}
 use Rattle.posix_types.specs.declared.call.Who.{Who}
 use Rattle.write_jobs.specs.Jobs.{loan_at}
 use Rattle.block_loans.specs.Loans.{AreApart, ComeBack}

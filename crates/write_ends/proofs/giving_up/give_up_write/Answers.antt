@@ -3,8 +3,8 @@ use Rattle.std.specs.Prelude.{Contains}
 use Rattle.pm_words.specs.Cells.{cell, is_lent}
 use Rattle.pm_words.specs.Parts.{Part}
 use Rattle.k_rules.specs.View.{View}
-use Rattle.staging_files.specs.declared.runs.StageRun.{StageRun}
-use Rattle.staging_files.specs.Keeps.{Staged}
+use Rattle.world_standing.specs.staging_files.declared.runs.StageRun.{StageRun}
+use Rattle.world_standing.specs.staging_files.Keeps.{Staged}
 use Rattle.write_jobs.specs.Jobs.{loan_at}
 use Rattle.block_loans.specs.Loans.{AreApart, ComeBack}
 use Rattle.world_standing.specs.Standing.{reserved_run}

@@ -2,12 +2,12 @@ use Rattle.std.proofs.Common.{◌≡◌, [], true, false, List, sym, ◌∙◌, 
 use Rattle.pm_words.specs.declared.Cell.{Cell}
 use Rattle.pm_words.specs.Frames.{KeepsSingle}
 use Rattle.pm_words.specs.Powers.{is_on}
-use Rattle.k_land.specs.Plans.{NewChain, blocks_of}
-use Rattle.k_land.specs.WrittenLaws.{blocks_of-one}
-use Rattle.k_plans.specs.Switching.{IsMapPlan}
+use Rattle.k_log_plans.specs.k_land.Plans.{NewChain, blocks_of}
+use Rattle.k_log_plans.specs.k_land.WrittenLaws.{blocks_of-one}
+use Rattle.k_log_plans.specs.k_plans.Switching.{IsMapPlan}
 use Rattle.k_rules.specs.View.{View}
 use Rattle.disk_rules.specs.Volume.{inode}
-use Rattle.k_map_plans.specs.Plans.{IsStagingFile}
+use Rattle.k_log_plans.specs.k_map_plans.Plans.{IsStagingFile}
 use Rattle.k_split.proofs.ChangeLaws.{awake}
 use Rattle.k_split.proofs.MapAnswers.{map-answer, map-paid, map-planned, map-ready, given-chain, single-unstaged, unstaged-from}
 use Rattle.k_split.specs.MapChanges.{IsMapPlanned, IsGivenUpWith, IsStagedSingle}

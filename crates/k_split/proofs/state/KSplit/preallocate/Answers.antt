@@ -2,9 +2,9 @@ use Rattle.std.proofs.Common.{◌≡◌, [], ◌/◌, true, false, List, sym, �
 use Rattle.pm_words.specs.declared.Cell.{Cell}
 use Rattle.pm_words.specs.Frames.{KeepsSingle}
 use Rattle.pm_words.specs.Powers.{is_on}
-use Rattle.k_land.specs.Plans.{NewChain, blocks_of}
-use Rattle.k_land.specs.WrittenLaws.{blocks_of-one}
-use Rattle.k_plans.specs.Switching.{IsMapPlan}
+use Rattle.k_log_plans.specs.k_land.Plans.{NewChain, blocks_of}
+use Rattle.k_log_plans.specs.k_land.WrittenLaws.{blocks_of-one}
+use Rattle.k_log_plans.specs.k_plans.Switching.{IsMapPlan}
 use Rattle.k_rules.specs.View.{View}
 use Rattle.disk_rules.specs.Volume.{extents, inode}
 use Rattle.map_rules.specs.Changes.{aged}

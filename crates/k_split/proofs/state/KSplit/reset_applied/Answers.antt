@@ -2,8 +2,8 @@ use Rattle.std.proofs.Common.{◌≡◌, true, false, Option, None, refl, sym, �
 use Rattle.pm_words.specs.Images.{Follows}
 use Rattle.pm_words.specs.Powers.{is_on}
 use Rattle.k_log_plans.specs.Resets.{reset}
-use Rattle.k_map_plans.specs.Plans.{IsLiveFile}
-use Rattle.k_plans.specs.View.{TablesView}
+use Rattle.k_log_plans.specs.k_map_plans.Plans.{IsLiveFile}
+use Rattle.k_log_plans.specs.k_plans.View.{TablesView}
 use Rattle.k_rules.specs.View.{View}
 use Rattle.posix_types.specs.declared.item.Outcome.{Outcome}
 use Rattle.k_split.specs.Resets.{KeepsUnloggedContent}

@@ -1,6 +1,6 @@
 use Rattle.std.proofs.Common.{◌≡◌, true, false, Option, None, refl, sym, ◌∙◌, ap}
 use Rattle.pm_words.specs.Powers.{is_on}
-use Rattle.k_plans.specs.View.{TablesView}
+use Rattle.k_log_plans.specs.k_plans.View.{TablesView}
 use Rattle.disk_rules.specs.Reading.{base_set}
 use Rattle.posix_types.specs.declared.item.Outcome.{Outcome}
 use Rattle.k_split.proofs.ChangeLaws.{answer-landed, awake, memory-landed, paid-landed, planned, ready-landed}

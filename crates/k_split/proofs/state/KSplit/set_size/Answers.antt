@@ -3,10 +3,10 @@ use Rattle.pm_words.specs.declared.Cell.{Cell}
 use Rattle.pm_words.specs.Frames.{KeepsSingle}
 use Rattle.pm_words.specs.Powers.{is_on}
 use Rattle.disk_rules.specs.Volume.{inode}
-use Rattle.k_land.specs.Plans.{NewChain, blocks_of}
-use Rattle.k_land.specs.WrittenLaws.{blocks_of-one}
-use Rattle.k_map_plans.specs.Plans.{IsLiveFile}
-use Rattle.k_plans.specs.Switching.{IsMapPlan}
+use Rattle.k_log_plans.specs.k_land.Plans.{NewChain, blocks_of}
+use Rattle.k_log_plans.specs.k_land.WrittenLaws.{blocks_of-one}
+use Rattle.k_log_plans.specs.k_map_plans.Plans.{IsLiveFile}
+use Rattle.k_log_plans.specs.k_plans.Switching.{IsMapPlan}
 use Rattle.k_rules.specs.View.{View}
 use Rattle.map_rules.specs.Changes.{with_size}
 use Rattle.k_split.proofs.ChangeLaws.{awake, unstaged-kept}

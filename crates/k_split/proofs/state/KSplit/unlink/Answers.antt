@@ -1,6 +1,6 @@
 use Rattle.std.proofs.Common.{◌≡◌, ℕ, true, false, sym, ◌∙◌, subst}
 use Rattle.pm_words.specs.Powers.{is_on}
-use Rattle.k_plans.specs.Removing.{IsUnlinked}
+use Rattle.k_log_plans.specs.k_plans.Removing.{IsUnlinked}
 use Rattle.k_split.specs.Names.{IsUnlinkAnswer, unlink_row}
 use Rattle.k_split.proofs.ChangeLaws.{answer-cut, answer-done, awake, done-memory, fault-memory, memory-cut, paid-cut, paid-done, planned, ready-landed}
 use Rattle.k_split.specs.Answers.{IsPaid}

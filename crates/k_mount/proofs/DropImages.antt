@@ -17,7 +17,7 @@ use Rattle.disk_rules.specs.Placed.{IsOutside}
 use Rattle.disk_rules.specs.Reading.{Reads}
 use Rattle.disk_rules.specs.Room.{unused_blocks}
 use Rattle.disk_rules.specs.Volume.{Volume, volume}
-use Rattle.image_facts.specs.CheckedLaws.{checked-parts, head-checked, parts-checked}
+use Rattle.world_images.specs.image_facts.CheckedLaws.{checked-parts, head-checked, parts-checked}
 use Rattle.k_rules.specs.Changes.{dropped}
 use Rattle.k_rules.specs.Stands.{IsOldOrNew}
 use Rattle.k_rules.specs.View.{View}

@@ -12,12 +12,12 @@ use Rattle.disk_lines.specs.Names.{names_of}
 use Rattle.disk_rules.specs.Room.{unused_blocks}
 use Rattle.disk_rules.specs.Rules.{file_blocks_of, IsKindAt}
 use Rattle.disk_rules.specs.Volume.{chain, extents, free_inode, inode, Volume}
-use Rattle.k_plans.specs.Whole.{IsWhole}
+use Rattle.k_split.specs.k_plans.Whole.{IsWhole}
 use Rattle.k_rules.specs.Changes.{dropped, gone_node}
 use Rattle.k_rules.specs.View.{View}
 use Rattle.volume_facts.specs.Changes.{chain-set_other, chain-set_same, extents-set_other, extents-set_same, inode-set_other, inode-set_same}
-use Rattle.volume_uses.specs.PoolLaws.{held-set, unused-held}
-use Rattle.volume_uses.specs.Uses.{blocks_held, HasAllMaps}
+use Rattle.world_images.specs.volume_uses.PoolLaws.{held-set, unused-held}
+use Rattle.world_images.specs.volume_uses.Uses.{blocks_held, HasAllMaps}
 use Rattle.k_mount.specs.Sheds.{AllNamed, IsAtRest, IsKeptAt, IsNameless, IsShedAt, IsShedOne, LosesNameless, SameOutside, Sheds}
 
 -- What the loop keeps: all below this inode have a name.

@@ -32,16 +32,16 @@ use Rattle.list_facts.specs.Members.{In}
 use Rattle.volume_facts.specs.ImageLaws.{journaled-idle, journaled-other}
 use Rattle.volume_facts.specs.LineWords.{data_word, data_word-not_journaled}
 use Rattle.volume_facts.specs.ReadingLaws.{reads-volume}
-use Rattle.volume_uses.specs.OwnerLaws.{owners-base}
-use Rattle.image_facts.specs.FreshLaws.{zeros-no_entry}
-use Rattle.image_facts.specs.ViewLaws.{head_word, sound-targets}
+use Rattle.world_images.specs.volume_uses.OwnerLaws.{owners-base}
+use Rattle.world_images.specs.image_facts.FreshLaws.{zeros-no_entry}
+use Rattle.world_images.specs.image_facts.ViewLaws.{head_word, sound-targets}
 use Rattle.k_rules.specs.Stands.{IsOldOrNew, Stands}
 use Rattle.k_rules.specs.View.{View}
 use Rattle.k_split.specs.Laps.{IsLogWord, next_base}
 use Rattle.world_images.specs.Changed.{sound_headed}
 use Rattle.world_images.specs.Images.{HasNoEntry}
 use Rattle.k_mount.specs.NextLaps.{BeginsLap}
-use Rattle.k_mount.specs.Sheds.{IsAtRest, MaySettle}
+use Rattle.k_mount.specs.Sheds.{HasOldLines, IsAtRest, MaySettle}
 
 -- ---- lines
 
@@ -104,6 +104,7 @@ based base v f path = refl
 pub record Slot (v : Volume) (base : ℕ) (j : Words) (slot : ℕ) : Type 0 where
   pub none : decode_entry (line_bytes j (log_line v.geometry slot)) (base + slot) ≡ None
   pub no_later : is_self_valid (line_bytes j (log_line v.geometry slot)) ≡ true → held_seq (line_bytes j (log_line v.geometry slot)) < base + v.geometry.log
+  pub old : is_self_valid (line_bytes j (log_line v.geometry slot)) ≡ true → held_seq (line_bytes j (log_line v.geometry slot)) < base
 
 -- words of the log
 pub log-beside : (v : Volume) (i : ℕ) → IsLogWord v i → is_journal_word i ≡ false
@@ -204,6 +205,14 @@ module _ (g : Geometry) (k : View) (numbers : geometry_of (words_of k.cells) ≡
   no_entry_based slot below =
       (λ i. decode_entry (line_bytes (journaled h) (log_line (same_volume i).geometry slot)) (base_now i + slot)) ∙ (slot_of slot below).none
 
+  old_based : HasOldLines w (journaled h)
+  old_based slot below valid =
+      let geometries = ap (λ (v : Volume). v.geometry) same_volume in
+      let lines : line_bytes (journaled h) (log_line w.geometry slot) ≡ line_bytes (journaled h) (log_line k.volume.geometry slot) =
+      ap (λ (x : Geometry). line_bytes (journaled h) (log_line x slot)) geometries
+      in
+      omega (arith, ap held_seq lines, (slot_of slot below).old (ap is_self_valid (sym lines) ∙ valid), base_now)
+
   dead_based : live_entries w (journaled h) ≡ []
   dead_based = none_live w (journaled h) no_entry_based
 
@@ -261,6 +270,7 @@ slot_risen : (v : Volume) (j h : Words) (slot : ℕ) → v.base ≤ 2 ^ 62 → v
 slot_risen v j h slot low small below no_later same = record {
   none = none_past (line_bytes h (log_line v.geometry slot)) (next_base v + slot) (omega (arith, low, small, below)) (λ valid. omega (arith, early valid));
   no_later = λ valid. omega (arith, early valid);
+  old = early;
 } where
   early : is_self_valid (line_bytes h (log_line v.geometry slot)) ≡ true → held_seq (line_bytes h (log_line v.geometry slot)) < v.base + v.geometry.log
   early valid = omega (arith, ap held_seq same, no_later (ap is_self_valid (sym same) ∙ valid))
@@ -270,6 +280,7 @@ pub slot_zero : (v : Volume) (base : ℕ) (h : Words) (slot : ℕ) → line_byte
 slot_zero v base h slot zero = record {
   none = none_of_zeros (line_bytes h (log_line v.geometry slot)) (base + slot) zero;
   no_later = λ valid. absurd (never_valid (line_bytes h (log_line v.geometry slot)) zero valid);
+  old = λ valid. absurd (never_valid (line_bytes h (log_line v.geometry slot)) zero valid);
 }
 
 -- ---- the device
@@ -354,6 +365,11 @@ module _ (g : Geometry) (k k2 : View) (numbers : geometry_of (words_of k.cells) 
   pub no_entry_now : HasNoEntry k2.volume (journaled h)
   no_entry_now =
       no_entry_based g k numbers checked dead was k2.volume (volume_by begins).0 (volume_by begins).1 rest.order.whole.kept.kept h sound_now reads_now (range_by begins).0 (range_by begins).1
+      others_words (slot_by begins)
+
+  pub old_now : HasOldLines k2.volume (journaled h)
+  old_now =
+      old_based g k numbers checked dead was k2.volume (volume_by begins).0 (volume_by begins).1 rest.order.whole.kept.kept h sound_now reads_now (range_by begins).0 (range_by begins).1
       others_words (slot_by begins)
 
   pub checked_lap : IsCheckedAs (4096 * g.blocks) h k2.volume

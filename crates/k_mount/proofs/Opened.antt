@@ -24,10 +24,10 @@ use Rattle.disk_rules.specs.Volume.{extents, inode, Volume, volume}
 use Rattle.volume_facts.specs.Footprint.{SameData}
 use Rattle.volume_facts.specs.FootprintLaws.{disk_of-covered, found-same}
 use Rattle.volume_facts.specs.LineWords.{data_word, data_word-not_journaled}
-use Rattle.volume_uses.specs.PoolLaws.{covered-in_data}
+use Rattle.world_images.specs.volume_uses.PoolLaws.{covered-in_data}
 use Rattle.volume_facts.specs.ImageLaws.{journaled-other}
-use Rattle.image_facts.specs.CheckedLaws.{head-checked, parts-checked, reads-checked}
-use Rattle.volume_changes.specs.CallLaws.{root-directory}
+use Rattle.world_images.specs.image_facts.CheckedLaws.{head-checked, parts-checked, reads-checked}
+use Rattle.world_images.specs.volume_changes.CallLaws.{root-directory}
 use Rattle.k_rules.specs.Stands.{Stands}
 use Rattle.k_rules.specs.View.{View}
 use Rattle.world_images.specs.Changed.{sound_headed}

@@ -13,7 +13,7 @@ use Rattle.disk_rules.specs.Reading.{Reads}
 use Rattle.disk_rules.specs.Rules.{geometry_of, IsChecked}
 use Rattle.disk_rules.specs.Volume.{Volume, volume}
 use Rattle.volume_facts.specs.ImageLaws.{journaled-idle, journaled-other}
-use Rattle.image_facts.specs.CheckedLaws.{checked-parts, parts-checked}
+use Rattle.world_images.specs.image_facts.CheckedLaws.{checked-parts, parts-checked}
 use Rattle.k_rules.specs.Stands.{IsOldOrNew}
 use Rattle.world_images.specs.Changed.{headed_changed, sound_headed}
 use Rattle.world_images.specs.Images.{IsHeaded}

@@ -19,7 +19,7 @@ use Rattle.k_rules.specs.View.{View}
 use Rattle.k_split.specs.Laps.{IsLogWord, next_base}
 use Rattle.k_mount.specs.NextLaps.{BeginsLap, IsNextLap}
 use Rattle.k_mount.specs.Sheds.{AllNamed, IsAtRest, IsKeptAt, IsSettled, IsShedAt, Sheds}
-use Rattle.k_mount.proofs.LapImages.{checked_lap, content_lap, data_now, no_entry_now, numbers_lap, others_now, volume_now}
+use Rattle.k_mount.proofs.LapImages.{checked_lap, content_lap, data_now, no_entry_now, numbers_lap, old_now, others_now, volume_now}
 
 -- the same went, whatever the base
 sheds_based : (base : ℕ) (v w : Volume) → Sheds v w → Sheds (base_set base v) (base_set base w)
@@ -95,6 +95,7 @@ module _ (g : Geometry) (image : Words) (k2 k3 : View) (was : IsAtRest k2) (rest
     sheds = sheds_now (volume g (journaled image)) k2.volume k3.volume now.0 now.1 sheds;
     lap = next_lap_of (volume g (journaled image)) image k2 k3 sheds begins log_out;
     no_entry = no_entry_now g k2 k3 numbers checked dead was rest begins;
+    old_lines = old_now g k2 k3 numbers checked dead was rest begins;
     shows = λ path.
         content_lap g k2 k3 numbers checked dead was rest begins path ∙ shown (journaled (words_of k3.cells)) (data_now g k2 k3 numbers checked dead was rest begins) path;
     numbers = numbers_lap g k2 k3 numbers checked dead was rest begins;

@@ -28,8 +28,8 @@ use Rattle.disk_rules.specs.Reading.{base_set, Reads}
 use Rattle.disk_rules.specs.Room.{held_after_recovery}
 use Rattle.disk_rules.specs.Rules.{HasStagingBlocks}
 use Rattle.disk_rules.specs.Volume.{chain, Volume, volume}
-use Rattle.image_facts.specs.CheckedLaws.{checked-parts, parts-checked}
-use Rattle.image_facts.specs.FreshLaws.{zeros-no_entry}
+use Rattle.world_images.specs.image_facts.CheckedLaws.{checked-parts, parts-checked}
+use Rattle.world_images.specs.image_facts.FreshLaws.{zeros-no_entry}
 use Rattle.k_journal.specs.declared.outcomes.Commit.{Commit}
 use Rattle.k_rules.specs.Stands.{IsOldOrNew, Stands}
 use Rattle.k_rules.specs.View.{View}

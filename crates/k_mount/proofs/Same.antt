@@ -10,10 +10,10 @@ use Rattle.disk_lines.specs.Names.{Rows, walk}
 use Rattle.disk_lines.specs.TableLaws.{walk-step}
 use Rattle.disk_rules.specs.Content.{byte_in, found, HasBytes, IsDirectory, Node, node_by, node_of}
 use Rattle.disk_rules.specs.Volume.{inode, Volume}
-use Rattle.k_content.specs.Trees.{tree_node}
+use Rattle.k_split.specs.k_content.Trees.{tree_node}
 use Rattle.posix_types.specs.declared.tree.TreeNode.{TreeNode}
-use Rattle.world_rules.specs.Shown.{shown_as}
-use Rattle.world_steps.specs.Nameless.{count-nameless, IsNameless}
+use Rattle.world_images.specs.world_rules.Shown.{shown_as}
+use Rattle.world_images.specs.world_steps.Nameless.{count-nameless, IsNameless}
 use Rattle.k_mount.specs.Laws.{ShowsTheSame, TreesAreOfContent}
 use Rattle.k_mount.specs.Sheds.{IsKeptAt, IsShedAt, Sheds}
 

@@ -16,7 +16,7 @@ use Rattle.disk_rules.specs.Placed.{IsOutside}
 use Rattle.disk_rules.specs.Reading.{base_set, Reads}
 use Rattle.disk_rules.specs.Rules.{geometry_of, IsChecked}
 use Rattle.disk_rules.specs.Volume.{Volume}
-use Rattle.image_facts.specs.CheckedLaws.{checked-parts}
+use Rattle.world_images.specs.image_facts.CheckedLaws.{checked-parts}
 use Rattle.k_journal.specs.declared.outcomes.Commit.{Commit}
 use Rattle.k_rules.specs.Stands.{IsOldOrNew}
 use Rattle.k_rules.specs.View.{View}

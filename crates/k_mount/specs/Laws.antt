@@ -11,10 +11,10 @@ use Rattle.disk_lines.specs.declared.Kind.TheVariants.{Directory}
 use Rattle.disk_rules.specs.Content.{found, Node}
 use Rattle.disk_rules.specs.Rules.{geometry_of, IsChecked}
 use Rattle.disk_rules.specs.Volume.{inode, Volume}
-use Rattle.k_content.specs.Trees.{tree_content}
+use Rattle.k_split.specs.k_content.Trees.{tree_content}
 use Rattle.posix_types.specs.declared.tree.TreeEntry.{TreeEntry}
 use Rattle.posix_trees.specs.TreeOf.{IsTreeOf}
-use Rattle.world_rules.specs.Shown.{IsTreeOfContent}
+use Rattle.world_images.specs.world_rules.Shown.{IsTreeOfContent}
 use Rattle.k_mount.specs.Sheds.{Sheds}
 
 -- Nameless files are in no tree: without them the same stands at each path.

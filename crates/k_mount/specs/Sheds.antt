@@ -1,13 +1,14 @@
 -- Volumes of which some nameless files are gone, and what is left of a device that is settled.
-use Rattle.std.specs.Prelude.{◌≡◌, ◌⊎◌, ◌≤◌, ◌/◌, ◌*◌, ℕ, false, List, [], length}
+use Rattle.std.specs.Prelude.{◌≡◌, ◌⊎◌, ◌<◌, ◌≤◌, ◌/◌, ◌*◌, ℕ, true, false, List, [], length}
 use Rattle.pm_words.specs.declared.Cell.{Cell}
 use Rattle.pm_words.specs.declared.Cell.TheVariants.{Single}
 use Rattle.pm_words.specs.Cells.{AllSingle, cell}
 use Rattle.pm_words.specs.Frames.{SameLent}
 use Rattle.pm_words.specs.Images.{IsImage, words_of}
-use Rattle.pm_words.specs.Words.{Words}
+use Rattle.pm_words.specs.Words.{line_bytes, Words}
 use Rattle.disk_places.specs.Journal.{is_journal_word, journaled}
-use Rattle.disk_places.specs.Places.{Geometry, is_journaled_line}
+use Rattle.disk_places.specs.Places.{Geometry, is_journaled_line, log_line}
+use Rattle.disk_lines.specs.Entries.{held_seq, is_self_valid}
 use Rattle.disk_lines.specs.declared.Kind.TheVariants.{File}
 use Rattle.disk_lines.specs.Names.{names_of}
 use Rattle.disk_rules.specs.Checked.{IsCheckedAs}
@@ -120,8 +121,14 @@ pub record StillShows (g : Geometry) (before image : Words) : Type 0 where
 abbrev pub StaysShown : Geometry → Words → List Cell → Type 0
 StaysShown g before d = (image : Words) → IsImage d image → IsHonest g (cell d) image → StillShows g before image
 
+-- each line of the log that is an entry is one of an earlier lap
+abbrev pub HasOldLines : Volume → Words → Type 0
+HasOldLines v words =
+    (slot : ℕ) → slot < v.geometry.log → is_self_valid (line_bytes words (log_line v.geometry slot)) ≡ true
+    → held_seq (line_bytes words (log_line v.geometry slot)) < v.base
+
 -- WHAT IS LEFT OF A DEVICE, beside an image that it showed: K-Split is at rest, each file has a name, and nothing but nameless files
--- is gone. The next lap of the log began, and no line of it is an entry. The device is a checked image, with the content of the one
+-- is gone. The next lap of the log began, and no line of it is an entry of it or a later one. The device is a checked image, with the content of the one
 -- before, and no word of a data block changed.
 pub record IsSettled (g : Geometry) (image : Words) (k : View) : Type 0 where
   pub rest : IsAtRest k
@@ -129,6 +136,7 @@ pub record IsSettled (g : Geometry) (image : Words) (k : View) : Type 0 where
   pub sheds : Sheds (base_set k.volume.base (volume g (journaled image))) k.volume
   pub lap : IsNextLap (volume g (journaled image)) image k
   pub no_entry : HasNoEntry k.volume (journaled (words_of k.cells))
+  pub old_lines : HasOldLines k.volume (journaled (words_of k.cells))
   pub shows : (path : List (List ℕ)) → content g (words_of k.cells) path ≡ content g image path
   pub numbers : geometry_of (words_of k.cells) ≡ g
   pub checked : IsCheckedAs (4096 * g.blocks) (words_of k.cells) k.volume

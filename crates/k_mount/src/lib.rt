@@ -26,3 +26,5 @@ pub fn a_remount_shows_the_same()
     ensures nameless { ShowsTheSame }
     ensures trees { TreesAreOfContent }
 {}
+
+pub use k_split;

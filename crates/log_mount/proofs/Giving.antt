@@ -17,19 +17,19 @@ use Rattle.disk_rules.specs.Volume.{extents, inode, Volume}
 use Rattle.extent_words.specs.Extents.{disk_at}
 use Rattle.k_journal.specs.declared.outcomes.Commit.{Commit}
 use Rattle.log_replay.specs.Plans.{IsStagingFile}
-use Rattle.k_mount.proofs.Devices.{device-mapped, device-none, device-then}
-use Rattle.k_mount.specs.Sheds.{IsSameDevice}
-use Rattle.k_mount.specs.Whole.{IsWhole}
+use Rattle.log_replay.proofs.k_mount_proofs.Devices.{device-mapped, device-none, device-then}
+use Rattle.log_replay.specs.k_mount.Sheds.{IsSameDevice}
+use Rattle.log_replay.specs.k_mount.Whole.{IsWhole}
 use Rattle.k_rules.specs.View.{View}
-use Rattle.k_split.specs.declared.faults.KFault.{KFault}
-use Rattle.k_split.specs.MapChanges.{is_free_in, IsGiveUpAnswer, IsGivenUpWith}
+use Rattle.staging_files.specs.k_split.declared.faults.KFault.{KFault}
+use Rattle.staging_files.specs.k_split.MapChanges.{is_free_in, IsGiveUpAnswer, IsGivenUpWith}
 use Rattle.map_rules.specs.Changes.{given_up}
 use Rattle.map_rules.specs.Taken.{with_map}
 use Rattle.staging_files.proofs.GiveUpLaws.{staging-file}
 use Rattle.volume_facts.specs.Changes.{extents-set_other, extents-set_same}
 use Rattle.staging_files.specs.GivesUp.{AreGivenUp, IsGiveUpAllAnswer, IsGiveUpAllPaid}
 use Rattle.staging_files.specs.Keeps.{IsStaging, Staged}
-use Rattle.volume_uses.specs.PoolLaws.{unused-set}
+use Rattle.staging_files.specs.volume_uses.PoolLaws.{unused-set}
 use Rattle.log_replay.specs.Replays.{seen, ShowsTheSame}
 use Rattle.log_mount.proofs.Keeping.{images-next, images-off, images-own, images-then, shows-first, shows-next}
 use Rattle.log_mount.proofs.Lines.{applied-set, in-data, KeepsBytes, KeepsLines, lines-set, live-kept}

@@ -27,14 +27,14 @@ use Rattle.disk_rules.specs.Rules.{file_blocks_of, HasStagingBlocks, IsChecked}
 use Rattle.disk_rules.specs.Volume.{extents, inode, Volume}
 use Rattle.extent_facts.specs.Covers.{covers-disk_at}
 use Rattle.extent_words.specs.Extents.{covers, disk_at}
-use Rattle.image_facts.specs.CheckedLaws.{checked-parts}
-use Rattle.k_land.specs.LandingLaws.{idle-image}
-use Rattle.k_mount.specs.Sheds.{IsAtRest}
-use Rattle.k_mount.specs.Whole.{IsWhole}
+use Rattle.staging_files.specs.image_facts.CheckedLaws.{checked-parts}
+use Rattle.staging_files.specs.k_land.LandingLaws.{idle-image}
+use Rattle.log_replay.specs.k_mount.Sheds.{IsAtRest}
+use Rattle.log_replay.specs.k_mount.Whole.{IsWhole}
 use Rattle.k_rules.specs.Stands.{IsOldOrNew, Stands}
 use Rattle.k_rules.specs.View.{View}
-use Rattle.k_split.specs.Answers.{IsOff}
-use Rattle.k_split.specs.MapChanges.{ChangesMaps, is_free_in, IsMapDone}
+use Rattle.staging_files.specs.k_split.Answers.{IsOff}
+use Rattle.staging_files.specs.k_split.MapChanges.{ChangesMaps, is_free_in, IsMapDone}
 use Rattle.list_facts.specs.Filters.{In-filter, In-filter_map, In-range}
 use Rattle.list_facts.specs.Members.{In}
 use Rattle.log_replay.proofs.Passed.{free-data, free-uncovered, headed-beside, kept-beside, log-beside}
@@ -45,8 +45,8 @@ use Rattle.volume_facts.specs.FootprintLaws.{content-own, content-read, live_ent
 use Rattle.volume_facts.specs.ImageLaws.{journaled-idle, journaled-other}
 use Rattle.volume_facts.specs.LineWords.{data_word, data_word-not_journaled}
 use Rattle.volume_facts.specs.SetLaws.{block-outside}
-use Rattle.volume_uses.specs.PoolLaws.{covered-in_data}
-use Rattle.k_mount.specs.Images.{IsHeaded}
+use Rattle.staging_files.specs.volume_uses.PoolLaws.{covered-in_data}
+use Rattle.log_replay.specs.k_mount.Images.{IsHeaded}
 use Rattle.log_mount.proofs.Lines.{found-kept, held-kept, KeepsBytes, KeepsLines, of_file-kept}
 use Rattle.log_mount.specs.Quiet.{IsQuiet, ShowsAsBefore}
 

@@ -21,13 +21,13 @@ use Rattle.disk_rules.specs.Rules.{file_blocks_of, IsKindAt}
 use Rattle.disk_rules.specs.Volume.{extents, free_inode, inode, Volume}
 use Rattle.extent_words.specs.declared.Extent.{Extent}
 use Rattle.extent_words.specs.Extents.{disk_at}
-use Rattle.k_mount.specs.View.{node_at}
-use Rattle.k_mount.specs.Whole.{IsWhole}
+use Rattle.log_replay.specs.k_mount.View.{node_at}
+use Rattle.log_replay.specs.k_mount.Whole.{IsWhole}
 use Rattle.k_rules.specs.Spaces.{is_free}
 use Rattle.log_replay.proofs.Passed.{valid-beside}
 use Rattle.volume_facts.specs.Changes.{inode-set_other, inode-set_same}
 use Rattle.volume_facts.specs.Lists.{map-agree}
-use Rattle.volume_uses.specs.PoolLaws.{AreInData}
+use Rattle.staging_files.specs.volume_uses.PoolLaws.{AreInData}
 
 -- Each inode keeps of its line the kind, the generation and the size; the names, the numbers and the log base are the same.
 pub record KeepsLines (v w : Volume) : Type 0 where

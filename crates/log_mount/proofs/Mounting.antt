@@ -20,20 +20,20 @@ use Rattle.disk_rules.specs.Rules.{geometry_of, IsChecked}
 use Rattle.disk_rules.specs.Volume.{extents, Volume, volume}
 use Rattle.extent_words.specs.Extents.{disk_at}
 use Rattle.block_counts.specs.Counts.{blocks_for}
-use Rattle.image_facts.specs.CheckedLaws.{checked-parts, head-checked, parts-checked}
+use Rattle.staging_files.specs.image_facts.CheckedLaws.{checked-parts, head-checked, parts-checked}
 use Rattle.k_journal.specs.declared.outcomes.Commit.{Commit}
-use Rattle.k_mount.proofs.LapImages.{none_live}
-use Rattle.k_mount.proofs.Recovered.{recovers_checked}
-use Rattle.k_mount.specs.Laws.{IsCheckedToo, IsRecovered}
-use Rattle.k_mount.specs.Sheds.{AllNamed, IsAtRest, IsKeptAt, IsSameDevice, IsSettled, IsShedAt, MaySettle, Sheds, StaysShown}
+use Rattle.log_replay.proofs.k_mount_proofs.LapImages.{none_live}
+use Rattle.log_replay.proofs.k_mount_proofs.Recovered.{recovers_checked}
+use Rattle.log_replay.specs.k_mount.Laws.{IsCheckedToo, IsRecovered}
+use Rattle.log_replay.specs.k_mount.Sheds.{AllNamed, IsAtRest, IsKeptAt, IsSameDevice, IsSettled, IsShedAt, MaySettle, Sheds, StaysShown}
 use Rattle.k_rules.specs.View.{View}
-use Rattle.k_split.specs.Laps.{next_base}
-use Rattle.k_split.specs.Order.{IsOpened}
+use Rattle.staging_files.specs.k_split.Laps.{next_base}
+use Rattle.staging_files.specs.k_split.Order.{IsOpened}
 use Rattle.log_replay.specs.Replays.{IsReplayed, MayReplay, seen, ShowsTheSame}
 use Rattle.log_replay.specs.Orders.{AreInOrder}
 use Rattle.staging_files.specs.Keeps.{IsStaging}
 use Rattle.volume_facts.specs.ReadingLaws.{reads-volume}
-use Rattle.k_mount.specs.Changed.{sound_headed}
+use Rattle.log_replay.specs.k_mount.Changed.{sound_headed}
 use Rattle.log_mount.proofs.Keeping.{shows-then}
 use Rattle.log_mount.specs.declared.faults.MountFault.{MountFault}
 use Rattle.log_mount.proofs.Showing.{left-opened, left-recovered}
@@ -72,6 +72,7 @@ mounted-image g image other k same names base is = record {
     anew = λ high. is.base.anew (subst (λ n. 2 ^ 62 < n) (sym base) high);
   };
   no_entry = is.no_entry;
+  old_lines = is.old_lines;
 } where
   logs : (volume g (journaled other)).geometry ≡ (volume g (journaled image)).geometry
   logs = geometry-of g (journaled other) ∙ sym (geometry-of g (journaled image))
@@ -128,6 +129,7 @@ may-reset k2 k3 is = record {
     none = none_live k3.volume (seen k3) is.no_entry;
   };
   no_entry = is.no_entry;
+  old_lines = is.old_lines;
 } where
   same : k3.volume.geometry ≡ k2.volume.geometry
   same = is.checked.reads.geometry ∙ is.numbers
@@ -199,6 +201,7 @@ module _ (k k2 k4 : View) (quiet : IsQuiet k) (swept_is : AreSwept k k2) (closed
     low = then.low;
     base = record { risen = λ few. then.shows.base ∙ is.lap.risen few; anew = λ many. then.shows.base ∙ is.lap.anew many };
     no_entry = then.no_entry;
+    old_lines = then.old_lines;
   }
 
   mounted-swept : IsMounted k.volume.geometry (words_of k.cells) k4

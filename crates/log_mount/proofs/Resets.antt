@@ -7,31 +7,36 @@ use Rattle.std.proofs.lemmas.List.{get_or_past}
 use Rattle.std.proofs.lemmas.List.Elements.{All-nil}
 use Rattle.pm_words.specs.declared.Cell.{Cell}
 use Rattle.pm_words.specs.Cells.{AllSingle}
+use Rattle.pm_words.specs.Bytes.{line_bytes-same}
 use Rattle.pm_words.specs.Images.{Follows}
+use Rattle.pm_words.specs.Words.{line_bytes}
 use Rattle.disk_lines.specs.declared.Inode.{Inode}
 use Rattle.disk_lines.specs.declared.Kind.{Kind}
 use Rattle.disk_lines.specs.declared.Kind.TheVariants.{Directory, File, Free, Staging}
+use Rattle.disk_lines.specs.Entries.{held_seq, is_self_valid}
 use Rattle.disk_lines.specs.Lines.{has_map_or_none, is_inode, is_inode_of_kind}
-use Rattle.disk_places.specs.Places.{Geometry}
+use Rattle.disk_places.specs.Places.{Geometry, log_line}
 use Rattle.disk_rules.specs.Live.{live_entries}
 use Rattle.disk_rules.specs.Reading.{inode_set}
 use Rattle.disk_rules.specs.Room.{unused_blocks}
 use Rattle.disk_rules.specs.Rules.{file_blocks_of}
 use Rattle.disk_rules.specs.Volume.{chain, extents, free_inode, inode, Volume}
 use Rattle.extent_words.specs.Extents.{disk_at}
-use Rattle.k_log_plans.specs.Resets.{reset, unapplied}
+use Rattle.staging_files.specs.k_log_plans.Resets.{reset, unapplied}
 use Rattle.log_replay.specs.Plans.{IsLiveFile}
-use Rattle.k_mount.proofs.LapImages.{none_live}
-use Rattle.k_mount.specs.Whole.{IsWhole}
+use Rattle.log_replay.proofs.k_mount_proofs.LapImages.{none_live}
+use Rattle.log_replay.specs.k_mount.Whole.{IsWhole}
 use Rattle.k_rules.specs.View.{View}
-use Rattle.k_split.specs.Answers.{Changes, IsDone}
-use Rattle.k_split.specs.declared.faults.KFault.{KFault}
-use Rattle.k_split.specs.MapChanges.{ChangesMaps, is_free_in, IsMapDone}
-use Rattle.k_split.specs.Resets.{IsResetAnswer}
+use Rattle.staging_files.specs.k_split.Answers.{Changes, IsDone}
+use Rattle.staging_files.specs.k_split.declared.faults.KFault.{KFault}
+use Rattle.staging_files.specs.k_split.MapChanges.{ChangesMaps, is_free_in, IsMapDone}
+use Rattle.staging_files.specs.k_split.Resets.{IsResetAnswer}
 use Rattle.volume_facts.specs.Changes.{inode_set-same, inode-set_other, inode-set_same}
+use Rattle.volume_facts.specs.Footprint.{SameLog}
 use Rattle.volume_facts.specs.FootprintLaws.{entry_in-same}
-use Rattle.volume_uses.specs.PoolLaws.{unused-set}
-use Rattle.k_mount.specs.Images.{HasNoEntry}
+use Rattle.staging_files.specs.volume_uses.PoolLaws.{unused-set}
+use Rattle.log_replay.specs.k_mount.Images.{HasNoEntry}
+use Rattle.log_replay.specs.k_mount.Sheds.{HasOldLines}
 use Rattle.log_replay.specs.Replays.{seen, ShowsTheSame}
 use Rattle.log_mount.proofs.Keeping.{images-next, images-off, images-own, images-then, log-next, shows-first, shows-next}
 use Rattle.log_mount.proofs.Lines.{in-data, KeepsBytes, KeepsLines, lines-set, low-file, used-below}
@@ -101,6 +106,9 @@ module _ (ino : ℕ) (k : View) (w : Volume) (may : MayReset k) (live : IsLiveFi
   none-there : HasNoEntry w (seen k)
   none-there = subst (λ v. HasNoEntry v (seen k)) (sym given) may.no_entry
 
+  old-there : HasOldLines w (seen k)
+  old-there = subst (λ v. HasOldLines v (seen k)) (sym given) may.old_lines
+
   none : live_entries w (seen k) ≡ []
   none = none_live w (seen k) none-there
 
@@ -148,6 +156,18 @@ no_entry-reset ino k0 k k2 was may live gave slot below =
     slot below
     ∙ none-there ino k k2.volume may live gave.1 gave.2.order.whole slot below
 
+old-reset : (ino : ℕ) (k0 k k2 : View) → ShowsAsBefore k0 k → (may : MayReset k) → IsLiveFile ino k.volume → IsResetAnswer ino k k2 (Ok tt) → HasOldLines k2.volume (seen k2)
+old-reset ino k0 k k2 was may live gave slot below valid =
+    omega (arith, ap held_seq line, old-there ino k k2.volume may live gave.1 gave.2.order.whole slot below (ap is_self_valid (sym line) ∙ valid))
+  where
+    same : SameLog k2.volume.geometry (seen k) (seen k2)
+    same =
+        log-next k0 k k2 [] was (map-done k k2 gave.2) (lines ino k k2.volume may live gave.1 gave.2.order.whole) (bytes ino k k2.volume may live gave.1 gave.2.order.whole)
+        (none ino k k2.volume may live gave.1 gave.2.order.whole) (free ino k k2.volume may live gave.1 gave.2.order.whole) (freed ino k k2.volume may live gave.1 gave.2.order.whole)
+
+    line : line_bytes (seen k2) (log_line k2.volume.geometry slot) ≡ line_bytes (seen k) (log_line k2.volume.geometry slot)
+    line = line_bytes-same (seen k2) (seen k) (log_line k2.volume.geometry slot) (λ i at. same.words slot i below at)
+
 -- what is answered of it
 pub reset-images : (ino : ℕ) (k k2 : View) (r : Result (Unit {0}) KFault) → MayReset k → IsLiveFile ino k.volume → IsResetAnswer ino k k2 r
     → Follows (ShowsTheSame k.volume.geometry) k.cells k2.cells
@@ -164,6 +184,7 @@ reset-images ino k k2 (Err KFault.PowerLost) may live (inr (none, (done, w, made
 pub record IsOnTheWay (k0 k : View) (ino : ℕ) : Type 0 where
   pub shows : ShowsAsBefore k0 k
   pub no_entry : HasNoEntry k.volume (seen k)
+  pub old_lines : HasOldLines k.volume (seen k)
   pub kind : (i : ℕ) → (inode k.volume i).kind ≡ (inode k0.volume i).kind
   pub size : (i : ℕ) → (inode k.volume i).size ≡ (inode k0.volume i).size
   pub map : (i : ℕ) → extents k.volume i ≡ extents k0.volume i
@@ -183,6 +204,7 @@ pub way-begins : (k : View) → MayReset k → IsOnTheWay k k 5
 way-begins k may = record {
   shows = shows-first k may.quiet;
   no_entry = may.no_entry;
+  old_lines = may.old_lines;
   kind = λ i. refl;
   size = λ i. refl;
   map = λ i. refl;
@@ -190,12 +212,13 @@ way-begins k may = record {
 }
 
 pub way-may : (k0 k : View) (ino : ℕ) → IsOnTheWay k0 k ino → MayReset k
-way-may k0 k ino way = record { quiet = way.shows.quiet; no_entry = way.no_entry }
+way-may k0 k ino way = record { quiet = way.shows.quiet; no_entry = way.no_entry; old_lines = way.old_lines }
 
 pub way-next : (k0 k k2 : View) (ino : ℕ) → IsOnTheWay k0 k ino → IsResetOne ino k k2 → IsOnTheWay k0 k2 (ino + 1)
 way-next k0 k k2 ino way (inl kept) = subst (λ z. IsOnTheWay k0 z (ino + 1)) (sym kept.1) (record {
   shows = way.shows;
   no_entry = way.no_entry;
+  old_lines = way.old_lines;
   kind = way.kind;
   size = way.size;
   map = way.map;
@@ -207,6 +230,7 @@ way-next k0 k k2 ino way (inl kept) = subst (λ z. IsOnTheWay k0 z (ino + 1)) (s
 way-next k0 k k2 ino way (inr cut) = record {
   shows = shows-reset ino k0 k k2 way.shows (way-may k0 k ino way) cut.0 cut.1;
   no_entry = no_entry-reset ino k0 k k2 way.shows (way-may k0 k ino way) cut.0 cut.1;
+  old_lines = old-reset ino k0 k k2 way.shows (way-may k0 k ino way) cut.0 cut.1;
   kind = λ i. lines-of.kind i ∙ way.kind i;
   size = λ i. lines-of.size i ∙ way.size i;
   map = λ i. map-same ino k k2.volume (way-may k0 k ino way) cut.0 cut.1.1 cut.1.2.order.whole i ∙ way.map i;
@@ -222,6 +246,7 @@ pub way-ends : (k0 k : View) (ino : ℕ) → IsOnTheWay k0 k ino → k0.volume.g
 way-ends k0 k ino way all = record {
   shows = way.shows;
   no_entry = way.no_entry;
+  old_lines = way.old_lines;
   kind = way.kind;
   size = way.size;
   map = way.map;

@@ -13,16 +13,16 @@ use Rattle.disk_rules.specs.Content.{content_of}
 use Rattle.disk_rules.specs.Reading.{Reads}
 use Rattle.disk_rules.specs.Rules.{geometry_of, IsChecked}
 use Rattle.disk_rules.specs.Volume.{Volume, volume}
-use Rattle.image_facts.specs.CheckedLaws.{checked-parts, parts-checked}
+use Rattle.staging_files.specs.image_facts.CheckedLaws.{checked-parts, parts-checked}
 use Rattle.k_journal.specs.Recoveries.{KeepsView}
-use Rattle.k_mount.proofs.Devices.{home-device}
-use Rattle.k_mount.proofs.Shown.{shown-then}
-use Rattle.k_mount.specs.Sheds.{IsSameDevice, IsSettled, StaysShown, StillShows}
+use Rattle.log_replay.proofs.k_mount_proofs.Devices.{home-device}
+use Rattle.log_replay.proofs.k_mount_proofs.Shown.{shown-then}
+use Rattle.log_replay.specs.k_mount.Sheds.{IsSameDevice, IsSettled, StaysShown, StillShows}
 use Rattle.k_rules.specs.Stands.{IsOldOrNew}
 use Rattle.k_rules.specs.View.{View}
 use Rattle.log_replay.specs.Replays.{IsReplayed, MayReplay, ShowsTheSame}
-use Rattle.k_mount.specs.Changed.{headed_changed, sound_headed}
-use Rattle.k_mount.specs.Images.{IsHeaded}
+use Rattle.log_replay.specs.k_mount.Changed.{headed_changed, sound_headed}
+use Rattle.log_replay.specs.k_mount.Images.{IsHeaded}
 use Rattle.log_mount.specs.Mounts.{IsLeft}
 use Rattle.log_mount.specs.Sweeps.{AreSwept}
 

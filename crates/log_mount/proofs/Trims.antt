@@ -21,19 +21,19 @@ use Rattle.extent_words.specs.declared.Extent.{Extent}
 use Rattle.extent_words.specs.Extents.{block_count, disk_at, IsCanonical}
 use Rattle.extent_words.specs.Maps.{IsPart}
 use Rattle.log_replay.specs.Plans.{IsLiveFile}
-use Rattle.k_mount.specs.Whole.{IsWhole}
+use Rattle.log_replay.specs.k_mount.Whole.{IsWhole}
 use Rattle.k_rules.specs.View.{View}
-use Rattle.k_split.specs.declared.faults.KFault.{KFault}
-use Rattle.k_split.specs.MapChanges.{ChangesMaps, free_blocks_in, is_free_in, IsSizeAnswer, IsSizedWith}
+use Rattle.staging_files.specs.k_split.declared.faults.KFault.{KFault}
+use Rattle.staging_files.specs.k_split.MapChanges.{ChangesMaps, free_blocks_in, is_free_in, IsSizeAnswer, IsSizedWith}
 use Rattle.map_rules.specs.Changes.{IsSized, with_size}
 use Rattle.map_rules.specs.Taken.{switched, with_map}
 use Rattle.staging_files.proofs.GiveUpLaws.{staging-file}
 use Rattle.staging_files.proofs.RoomLaws.{free-unused}
 use Rattle.staging_files.specs.Keeps.{IsStaging}
 use Rattle.volume_facts.specs.Changes.{chain-set_same, extents-set_other, extents-set_same}
-use Rattle.volume_maps.specs.Bounds.{count_below-most}
-use Rattle.volume_maps.specs.Lengths.{begins, disk_before, length-begins, starts}
-use Rattle.volume_uses.specs.PoolLaws.{unused-set}
+use Rattle.staging_files.specs.volume_maps.Bounds.{count_below-most}
+use Rattle.staging_files.specs.volume_maps.Lengths.{begins, disk_before, length-begins, starts}
+use Rattle.staging_files.specs.volume_uses.PoolLaws.{unused-set}
 use Rattle.log_replay.proofs.Passed.{chain-counted, map-canonical}
 use Rattle.log_replay.specs.Replays.{seen, ShowsTheSame}
 use Rattle.log_mount.proofs.Keeping.{images-next, images-off, images-own, images-then, shows-first, shows-next}

@@ -12,10 +12,10 @@ use Rattle.disk_rules.specs.Checked.{IsCheckedAs}
 use Rattle.disk_rules.specs.Content.{content}
 use Rattle.disk_rules.specs.Rules.{geometry_of, IsChecked}
 use Rattle.disk_rules.specs.Volume.{Volume, volume}
-use Rattle.k_mount.specs.Sheds.{AllNamed, IsAtRest, StaysShown}
+use Rattle.log_replay.specs.k_mount.Sheds.{AllNamed, HasOldLines, IsAtRest, StaysShown}
 use Rattle.k_rules.specs.View.{View}
-use Rattle.k_split.specs.Laps.{next_base}
-use Rattle.k_mount.specs.Images.{HasNoEntry}
+use Rattle.staging_files.specs.k_split.Laps.{next_base}
+use Rattle.log_replay.specs.k_mount.Images.{HasNoEntry}
 use Rattle.log_mount.specs.declared.faults.MountFault.{MountFault}
 use Rattle.log_mount.specs.Resets.{IsLow}
 use Rattle.log_mount.specs.Sweeps.{AreBare, EndsInTime}
@@ -26,7 +26,7 @@ pub record HasNextBase (v w : Volume) : Type 0 where
   pub anew : 2 ^ 62 < v.base → w.base ≡ 1
 
 -- WHAT A MOUNT LEAVES of an image: K-Split is at rest on a checked image with the same numbers and the same content. The names are
--- the same, each file has one and ends in time, and nothing is staged. The log began its next lap, no line of it is an entry, and no
+-- the same, each file has one and ends in time, and nothing is staged. The log began its next lap, no line of it is an entry of that lap or a later one, and no
 -- file has applied a high order.
 pub record IsMounted (g : Geometry) (image : Words) (k : View) : Type 0 where
   pub rest : IsAtRest k
@@ -40,6 +40,7 @@ pub record IsMounted (g : Geometry) (image : Words) (k : View) : Type 0 where
   pub low : (ino : ℕ) → IsLow k.volume ino
   pub base : HasNextBase (volume g (journaled image)) k.volume
   pub no_entry : HasNoEntry k.volume (journaled (words_of k.cells))
+  pub old_lines : HasOldLines k.volume (journaled (words_of k.cells))
 
 -- WHAT THE POWER LEAVES OF A DEVICE where it goes: it has the blocks of the image, none of its words is lent, and each of its honest
 -- images is checked and has the content of the image.

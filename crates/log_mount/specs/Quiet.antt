@@ -7,7 +7,7 @@ use Rattle.disk_rules.specs.Checked.{IsCheckedAs}
 use Rattle.disk_rules.specs.Content.{content}
 use Rattle.disk_rules.specs.Rules.{geometry_of}
 use Rattle.k_journal.specs.declared.outcomes.Commit.{Commit}
-use Rattle.k_mount.specs.Sheds.{IsAtRest}
+use Rattle.log_replay.specs.k_mount.Sheds.{IsAtRest}
 use Rattle.k_rules.specs.View.{View}
 use Rattle.log_replay.specs.Replays.{live_in, seen}
 use Rattle.volume_facts.specs.Footprint.{SameLog}

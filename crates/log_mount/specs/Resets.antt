@@ -3,17 +3,18 @@ use Rattle.std.specs.Prelude.{◌≡◌, ◌⊎◌, ◌≤◌, ◌^◌, ℕ, Ok}
 use Rattle.pm_words.specs.Images.{words_of}
 use Rattle.disk_rules.specs.Volume.{extents, inode, Volume}
 use Rattle.log_replay.specs.Plans.{IsLiveFile}
-use Rattle.k_mount.specs.Sheds.{IsSettled}
+use Rattle.log_replay.specs.k_mount.Sheds.{HasOldLines, IsSettled}
 use Rattle.k_rules.specs.View.{View}
-use Rattle.k_split.specs.Resets.{IsResetAnswer}
-use Rattle.k_mount.specs.Images.{HasNoEntry}
+use Rattle.staging_files.specs.k_split.Resets.{IsResetAnswer}
+use Rattle.log_replay.specs.k_mount.Images.{HasNoEntry}
 use Rattle.log_replay.specs.Replays.{seen}
 use Rattle.log_mount.specs.Quiet.{IsQuiet, ShowsAsBefore}
 
--- WHAT IS ASKED FOR: no line of the log is an entry.
+-- WHAT IS ASKED FOR: no line of the log is an entry of this lap, or of a later one.
 pub record MayReset (k : View) : Type 0 where
   pub quiet : IsQuiet k
   pub no_entry : HasNoEntry k.volume (seen k)
+  pub old_lines : HasOldLines k.volume (seen k)
 
 -- the last entry that the inode has applied is of no high order
 abbrev pub IsLow : Volume → ℕ → Type 0
@@ -23,6 +24,7 @@ IsLow v ino = (inode v ino).applied ≤ 2 ^ 62
 pub record AreReset (old new : View) : Type 0 where
   pub shows : ShowsAsBefore old new
   pub no_entry : HasNoEntry new.volume (seen new)
+  pub old_lines : HasOldLines new.volume (seen new)
   pub kind : (ino : ℕ) → (inode new.volume ino).kind ≡ (inode old.volume ino).kind
   pub size : (ino : ℕ) → (inode new.volume ino).size ≡ (inode old.volume ino).size
   pub map : (ino : ℕ) → extents new.volume ino ≡ extents old.volume ino

@@ -6,7 +6,7 @@ use Rattle.disk_rules.specs.Volume.{extents, inode, Volume}
 use Rattle.extent_words.specs.Extents.{disk_at}
 use Rattle.log_replay.specs.Plans.{IsLiveFile}
 use Rattle.k_rules.specs.View.{View}
-use Rattle.k_split.specs.MapChanges.{IsSizeAnswer}
+use Rattle.staging_files.specs.k_split.MapChanges.{IsSizeAnswer}
 use Rattle.staging_files.specs.Keeps.{IsStaging}
 use Rattle.log_mount.specs.Quiet.{ShowsAsBefore}
 

@@ -17,4 +17,6 @@ mod trimming;
 mod unstaging;
 
 pub use faults::MountFault;
+pub use k_check;
+pub use log_replay::k_mount;
 pub use mounts::mount;

@@ -4,13 +4,13 @@ ghost use Rattle.disk_rules.specs.Volume.{inode};
 ghost use Rattle.pm_words.specs.Powers.{is_on};
 ghost use Rattle.log_replay.specs.Replays.{ShowsTheSame};
 ghost use Rattle.pm_words.specs.Images.{Follows};
-ghost use Rattle.k_mount.specs.Sheds.{IsSameDevice};
+ghost use Rattle.log_replay.specs.k_mount.Sheds.{IsSameDevice};
 ghost use Rattle.log_mount.specs.Quiet.{IsQuiet, IsSpent, IsSweepPaid, OnDone};
 ghost use Rattle.log_mount.specs.Resets.{AreReset, IsResetOne, MayReset};
 
 use k_journal::Commit;
-use k_split::{KFault, KSplit};
 use pm_lines::Power;
+use staging_files::k_split::{KFault, KSplit};
 use std::alloc::{AllocError, Global};
 
 // The inodes below are those of the root and of the staging files.

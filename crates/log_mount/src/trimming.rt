@@ -2,19 +2,19 @@
 ghost use Rattle.std.specs.Prelude.{◌≡◌, true, IfNone, IfSome, Ok};
 ghost use Rattle.disk_rules.specs.Volume.{inode};
 ghost use Rattle.log_replay.specs.Plans.{IsLiveFile};
-ghost use Rattle.k_split.specs.MapChanges.{IsSizeAnswer};
+ghost use Rattle.staging_files.specs.k_split.MapChanges.{IsSizeAnswer};
 ghost use Rattle.pm_words.specs.Powers.{is_on};
 ghost use Rattle.log_replay.specs.Replays.{ShowsTheSame};
 ghost use Rattle.pm_words.specs.Images.{Follows};
-ghost use Rattle.k_mount.specs.Sheds.{IsSameDevice};
+ghost use Rattle.log_replay.specs.k_mount.Sheds.{IsSameDevice};
 ghost use Rattle.log_mount.specs.Quiet.{IsQuiet, IsSpent, IsSweepPaid, OnDone};
 ghost use Rattle.log_mount.specs.Sweeps.{AreTrimmed, EndsInTime, IsTrimmedOne};
 
 use block_counts::blocks_for;
 use disk_lines::Kind;
 use k_journal::Commit;
-use k_split::{KFault, KSplit};
 use pm_lines::Power;
+use staging_files::k_split::{KFault, KSplit};
 use std::alloc::{AllocError, Global};
 
 // The inodes below are those of the root and of the staging files.

@@ -1,14 +1,14 @@
 //! Staging files give up their blocks.
 ghost use Rattle.log_replay.specs.Replays.{ShowsTheSame};
 ghost use Rattle.pm_words.specs.Images.{Follows};
-ghost use Rattle.k_mount.specs.Sheds.{IsSameDevice};
+ghost use Rattle.log_replay.specs.k_mount.Sheds.{IsSameDevice};
 ghost use Rattle.log_mount.specs.Quiet.{IsQuiet, IsSpent, IsSweepPaid, OnDone};
 ghost use Rattle.log_mount.specs.Sweeps.{AreUnstaged};
 
 use k_journal::Commit;
-use k_split::KSplit;
 use pm_lines::Power;
 use staging_files::Staging;
+use staging_files::k_split::KSplit;
 use std::alloc::{AllocError, Global};
 
 /// All staging files give up their blocks; no entry of the log is live. `PowerLost` comes exactly where the power

@@ -1,4 +1,4 @@
-use Rattle.k_mount.proofs.Devices.{device-then}
+use Rattle.log_replay.proofs.k_mount_proofs.Devices.{device-then}
 use Rattle.log_mount.proofs.Mounting.{closed-done, may-reset}
 use Rattle.log_mount.proofs.Spending.{spent-steps, spent-then}
 use Rattle.log_mount.proofs.Showing.{images-closed}

@@ -1,4 +1,4 @@
-use Rattle.k_mount.proofs.Devices.{device-then}
+use Rattle.log_replay.proofs.k_mount_proofs.Devices.{device-then}
 use Rattle.log_mount.proofs.Mounting.{finish-done, may-settle}
 use Rattle.log_mount.proofs.Spending.{spent-then}
 use Rattle.log_mount.specs.Sweeps.{AreSwept}

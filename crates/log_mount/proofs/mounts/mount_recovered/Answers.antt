@@ -1,7 +1,7 @@
 use Rattle.std.proofs.Common.{false, subst, sym, true, ◌≡◌}
 use Rattle.disk_places.specs.Journal.{journaled}
 use Rattle.disk_rules.specs.Volume.{volume}
-use Rattle.k_split.specs.Order.{IsOpened}
+use Rattle.staging_files.specs.k_split.Order.{IsOpened}
 use Rattle.pm_words.specs.Images.{words_of}
 use Rattle.pm_words.specs.Powers.{is_on}
 use Rattle.log_mount.proofs.Mounting.{left-open, may-replay, mounted-open}

@@ -1,4 +1,4 @@
-use Rattle.k_mount.proofs.Devices.{device-then}
+use Rattle.log_replay.proofs.k_mount_proofs.Devices.{device-then}
 use Rattle.log_mount.proofs.Mounting.{recover-done, replayed-quiet}
 use Rattle.log_replay.specs.Replays.{IsReplayed}
 use Rattle.log_mount.proofs.Spending.{spent-steps, spent-then}

@@ -1,4 +1,4 @@
-use Rattle.k_mount.proofs.Devices.{device-then}
+use Rattle.log_replay.proofs.k_mount_proofs.Devices.{device-then}
 use Rattle.log_mount.proofs.Mounting.{swept-done}
 use Rattle.log_mount.specs.Sweeps.{AreUnstaged}
 use Rattle.log_mount.proofs.Spending.{spent-then}

@@ -1,7 +1,7 @@
 use Rattle.std.proofs.Common.{◌≡◌, ◌∙◌, ap, arith, sym, true}
 use Rattle.disk_places.specs.Places.{Geometry}
 use Rattle.pm_words.specs.Powers.{is_on}
-use Rattle.k_mount.proofs.Devices.{device-none, device-then}
+use Rattle.log_replay.proofs.k_mount_proofs.Devices.{device-none, device-then}
 use Rattle.log_mount.proofs.Keeping.{images-own, shows-first}
 use Rattle.log_mount.proofs.Spending.{spent-none, spent-then}
 use Rattle.log_mount.proofs.Resets.{way-begins, way-ends, way-images, way-may, way-next}

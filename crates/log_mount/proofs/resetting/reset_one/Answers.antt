@@ -1,6 +1,6 @@
 use Rattle.std.proofs.Common.{None, ◌≡◌, inr}
-use Rattle.k_log_plans.specs.Resets.{reset}
-use Rattle.k_mount.proofs.Devices.{device-answer, device-none}
+use Rattle.staging_files.specs.k_log_plans.Resets.{reset}
+use Rattle.log_replay.proofs.k_mount_proofs.Devices.{device-answer, device-none}
 use Rattle.log_mount.proofs.Resets.{high-file, reset-images}
 use Rattle.log_mount.proofs.Keeping.{images-own, shows-first}
 use Rattle.log_mount.proofs.resetting.reset_one.Goals as goal

@@ -1,7 +1,7 @@
 use Rattle.std.proofs.Common.{subst, sym, ◌≤◌}
 use Rattle.disk_lines.specs.Lines.{most_bytes}
-use Rattle.k_split.specs.MapChanges.{IsSizedWith}
-use Rattle.k_mount.proofs.Devices.{device-mapped}
+use Rattle.staging_files.specs.k_split.MapChanges.{IsSizedWith}
+use Rattle.log_replay.proofs.k_mount_proofs.Devices.{device-mapped}
 use Rattle.log_mount.proofs.Trims.{room-there, size-fits, size-images}
 use Rattle.log_mount.proofs.trimming.cut_file.Goals as goal
 

@@ -1,6 +1,6 @@
 use Rattle.std.proofs.Common.{◌≡◌, true}
 use Rattle.pm_words.specs.Powers.{is_on}
-use Rattle.k_mount.specs.Sheds.{IsSameDevice}
+use Rattle.log_replay.specs.k_mount.Sheds.{IsSameDevice}
 use Rattle.log_mount.proofs.Trims.{IsOnTheWay}
 use Rattle.log_mount.specs.Quiet.{IsSpent}
 use Rattle.log_mount.proofs.trimming.trim.Given as goal

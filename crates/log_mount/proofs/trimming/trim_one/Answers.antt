@@ -1,4 +1,4 @@
-use Rattle.k_mount.proofs.Devices.{device-none}
+use Rattle.log_replay.proofs.k_mount_proofs.Devices.{device-none}
 use Rattle.log_mount.proofs.Keeping.{images-own, shows-first}
 use Rattle.log_mount.proofs.trimming.trim_one.Goals as goal
 

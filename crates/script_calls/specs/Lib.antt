@@ -1,0 +1,4 @@
+pub mod Counters
+pub mod Costs
+pub mod Counts
+pub mod Histories

@@ -1,0 +1,3 @@
+mod SeekCalls
+mod Sizes
+pub mod ReadCalls

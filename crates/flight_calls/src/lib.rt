@@ -1,0 +1,16 @@
+//! Each file call that puts no bytes, over K-Split, the open files and what is kept of files.
+//!
+//! The layer above may rely on this: `run_call` runs any of them beside writes of other callers in
+//! flight, as `flight_names` says of those on names and descriptors; a read gives the bytes of the
+//! state, by what is staged and by the map. No write is out of the file of the call, and nothing is
+//! staged of a file that it cuts.
+//!
+//! Stands on `flight_names`, on `file_reads`, and on `overlay_facts` and `flight_facts`, by which a
+//! read over what is staged gives the bytes that the state has.
+#![tactic(auto)]
+
+mod calls;
+mod reads;
+
+pub use calls::run_call;
+pub use reads::{fsync, pread, read, seek};

@@ -1,0 +1,28 @@
+//! The file calls on names and descriptors, over K-Split, the open files and what is kept of files.
+//!
+//! The layer above may rely on this: where they stand together in a state, with writes of other
+//! callers in flight (`RunsAs`), a call of whose file no write is out is done, its outcome is that
+//! of the step, and they stand together in its next state, with the same writes in flight; or the
+//! power went, and each image, once log lines and blocks of jobs are put back, is kept with the
+//! calls of the jobs unfinished, and this one, and the same words are lent; or memory wanted, and
+//! all is as before (`IsEnded`). Where the power is on, nothing comes to lie past the end of a file
+//! (`KeepsEnds`).
+//! An `open` that cuts a file asks that nothing is staged of it: the layer above publishes it
+//! first.
+//!
+//! Stands on `k_split`, whose answers `world_exits` turns into steps of the World; on `open_files`,
+//! whose inodes `open_numbers` sets beside the numbers of nodes; and on `flight_steps`, by which a
+//! step leaves the World standing.
+#![tactic(auto)]
+
+mod looks;
+mod names;
+mod opens;
+mod outcomes;
+
+pub use flight_steps::{file_reads, k_split};
+pub use looks::{list, stat};
+pub use names::{mkdir, rename, rmdir, unlink};
+pub use open_files;
+pub use opens::{close, dup, open};
+pub use outcomes::{NoMemory, Told, after_fault, answered};

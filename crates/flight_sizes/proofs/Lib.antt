@@ -1,0 +1,5 @@
+pub mod Sizing
+pub mod Device
+pub mod Sized
+pub mod Cut
+pub mod Zeros

@@ -1,0 +1,55 @@
+-- A gathering of all that is staged, in a World with its log lines at home and no write in flight: each law as one
+-- statement.
+use Rattle.std.specs.Prelude.{◌≡◌, ◌≤◌, ◌^◌, ℕ, false, All, List, [], Ok}
+use Rattle.pm_words.specs.Images.{IsImage}
+use Rattle.pm_words.specs.Words.{Words}
+use Rattle.disk_lines.specs.Lines.{most_bytes}
+use Rattle.disk_places.specs.Places.{Geometry}
+use Rattle.file_table.specs.Files.{Files}
+use Rattle.k_journal.specs.declared.outcomes.Commit.{Commit}
+use Rattle.k_rules.specs.View.{View}
+use Rattle.flight_relinks.specs.k_split.Laps.{HasNextLap}
+use Rattle.standing_facts.specs.log_checkpoint.Gathers.{IsGatherAnswer}
+use Rattle.posix_types.specs.declared.call.Mode.{Mode}
+use Rattle.posix_types.specs.declared.item.Item.{Item}
+use Rattle.posix_words.specs.Open.{Tables}
+use Rattle.posix_spec.specs.Run.{run}
+use Rattle.posix_spec.specs.State.{State}
+use Rattle.flight_relinks.specs.staging_files.Keeps.{Staged}
+use Rattle.flight_relinks.specs.world_images.Promised.{KeepsPromise}
+use Rattle.flight_relinks.specs.world_standing.Standing.{Kept, StandsAt}
+use Rattle.flight_laps.specs.Laws.{HasOldLines, lapped}
+
+-- what the World keeps, with this table
+abbrev pub with_table : Kept → Files → Kept
+with_table kept files = record kept { files = files }
+
+-- no size that is kept is more than a file may have
+abbrev pub AreSmall : Kept → Type 0
+AreSmall kept = All (λ size. size ≤ most_bytes) kept.files.sizes
+
+-- K-Split stands behind a gathering, in the same state and with the same nodes; and by each image no line of the log
+-- is an entry of this lap.
+pub record HasGathered (g : Geometry) (k l : View) (t : Tables) (kept : Kept) (files : Files) (n : ℕ) (s : State)
+    (stands : StandsAt g k t kept false n s) : Type 0 where
+  pub now : StandsAt g l t (lapped (with_table kept files)) false n s
+  pub numbers_are : now.numbers ≡ stands.numbers
+  pub old : (image : Words) → IsImage l.cells image → HasOldLines l.volume image
+
+-- ALL FILES ARE PUBLISHED, THE STAGING FILES GAVE UP THEIR BLOCKS, AND THE NEXT LAP BEGAN: they stand together in the
+-- same state, and nothing is kept of a file but its size.
+abbrev pub StandsGathered : Type 0
+StandsGathered =
+    (g : Geometry) (k l : View) (t : Tables) (kept : Kept) (staging : Staged) (files : Files) (n : ℕ) (s : State)
+    → (stands : StandsAt g k t kept false n s) → n ≤ 2 ^ 62
+    → AreSmall kept → HasNextLap k → IsGatherAnswer kept.files k staging files l (Ok Commit.Done)
+    → HasGathered g k l t kept files n s stands
+
+-- THE POWER WENT in it, or before: each image is kept.
+abbrev pub KeepsGathered : Type 0
+KeepsGathered =
+    (g : Geometry) (k l : View) (t : Tables) (kept : Kept) (staging : Staged) (files : Files) (n : ℕ) (start : State)
+    (history : List Item) → start.mode ≡ Mode.Strict
+    → StandsAt g k t kept false n (run start history) → n ≤ 2 ^ 62 → AreSmall kept → HasNextLap k
+    → IsGatherAnswer kept.files k staging files l (Ok Commit.PowerLost)
+    → KeepsPromise g l.cells start history []

@@ -1,0 +1,59 @@
+-- The next lap of the log, in a World with its log lines at home and no write in flight: each law as one statement.
+use Rattle.std.specs.Prelude.{◌≡◌, ◌<◌, ℕ, true, false, List, [], Ok}
+use Rattle.pm_words.specs.Images.{IsImage}
+use Rattle.pm_words.specs.Words.{line_bytes, Words}
+use Rattle.disk_lines.specs.Entries.{held_seq, is_self_valid}
+use Rattle.disk_places.specs.Places.{Geometry, log_line}
+use Rattle.disk_rules.specs.Volume.{Volume}
+use Rattle.file_table.specs.Files.{runs_in}
+use Rattle.k_journal.specs.declared.outcomes.Commit.{Commit}
+use Rattle.k_rules.specs.View.{View}
+use Rattle.log_checkpoint.specs.k_split.Laps.{HasNextLap}
+use Rattle.log_checkpoint.specs.Gathers.{IsLapAnswer, IsLapBegun}
+use Rattle.posix_types.specs.declared.item.Item.{Item}
+use Rattle.posix_words.specs.Open.{Tables}
+use Rattle.posix_spec.specs.Run.{Begun, run}
+use Rattle.posix_spec.specs.State.{State}
+use Rattle.log_checkpoint.specs.staging_files.GivesUp.{nothing_staged}
+use Rattle.log_checkpoint.specs.staging_files.Keeps.{Staged}
+use Rattle.world_standing.specs.world_images.Promised.{KeepsPromise}
+use Rattle.world_standing.specs.Standing.{Kept, StandsAt}
+
+-- what the World keeps once a lap began: nothing is staged, there is no claim, and no job is out
+abbrev pub lapped : Kept → Kept
+lapped kept = record kept { staging = nothing_staged; claims = []; pending = [] }
+
+-- no run is kept of any file
+abbrev pub HasNoRuns : Kept → Type 0
+HasNoRuns kept = (ino : ℕ) → runs_in kept.files ino ≡ []
+
+-- by these words, each line of the log that is an entry is one of an earlier lap
+abbrev pub HasOldLines : Volume → Words → Type 0
+HasOldLines v words =
+    (slot : ℕ) → slot < v.geometry.log → is_self_valid (line_bytes words (log_line v.geometry slot)) ≡ true
+    → held_seq (line_bytes words (log_line v.geometry slot)) < v.base
+
+-- K-Split stands at the beginning of a lap, in the same state and with the same nodes; and by each image no line of
+-- the log is an entry of this lap.
+pub record HasLapped (g : Geometry) (k l : View) (t : Tables) (kept : Kept) (n : ℕ) (s : State)
+    (stands : StandsAt g k t kept false n s) : Type 0 where
+  pub now : StandsAt g l t (lapped kept) false n s
+  pub numbers_are : now.numbers ≡ stands.numbers
+  pub old : (image : Words) → IsImage l.cells image → HasOldLines l.volume image
+
+-- THE STAGING FILES GAVE UP THEIR BLOCKS AND THE NEXT LAP BEGAN, once no run is kept of any file: they stand together
+-- in the same state.
+abbrev pub StandsLapped : Type 0
+StandsLapped =
+    (g : Geometry) (k l : View) (t : Tables) (kept : Kept) (staging : Staged) (n : ℕ) (s : State)
+    → (stands : StandsAt g k t kept false n s)
+    → HasNoRuns kept → HasNextLap k → IsLapBegun k staging l → HasLapped g k l t kept n s stands
+
+-- THE POWER WENT on the way: each image is kept, whatever is unfinished.
+abbrev pub KeepsLapped : Type 0
+KeepsLapped =
+    (g : Geometry) (k l : View) (t : Tables) (kept : Kept) (staging : Staged) (n : ℕ) (start : State)
+    (history : List Item) (unfinished : List Begun)
+    → StandsAt g k t kept false n (run start history) → HasNoRuns kept → HasNextLap k
+    → IsLapAnswer k staging l (Ok Commit.PowerLost)
+    → KeepsPromise g l.cells start history unfinished

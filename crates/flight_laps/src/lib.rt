@@ -1,0 +1,19 @@
+//! The next lap of the log, as a step of the World.
+//!
+//! Laws alone, no code. The layer above may rely on this: where log lines are at home, no job is
+//! out and no run is kept of any file, K-Split and the World stand together in the same state once
+//! the staging files gave up their blocks and the log base rose (`StandsLapped`). Where the power
+//! goes on the way, each image is kept (`KeepsLapped`).
+//!
+//! Stands on `world_standing` (what it is that they stand together) and on what `log_checkpoint`
+//! answers.
+#![tactic(auto)]
+
+ghost use Rattle.flight_laps.specs.Laws.{KeepsLapped, StandsLapped};
+
+/// The next lap begins with nothing staged: they stand together in it, and where the power goes on
+/// the way, each image is kept.
+pub fn the_next_lap_begins()
+    ensures done { StandsLapped }
+    ensures cut { KeepsLapped }
+{}

@@ -1,0 +1,56 @@
+-- What the publishing of a file answers and leaves of a World with writes in flight.
+use Rattle.std.specs.Prelude.{◌≡◌, ℕ, Bool, List, [], map, Option, Result, Ok, Err}
+use Rattle.std.specs.declared.alloc.AllocError.{AllocError}
+use Rattle.pm_words.specs.declared.Cell.{Cell}
+use Rattle.pm_words.specs.Words.{Words}
+use Rattle.disk_places.specs.Places.{Geometry}
+use Rattle.file_table.specs.Files.{ChangesFile, Files, runs_in, size_in}
+use Rattle.flight_relinks.specs.fsync_relink.Publishes.{IsPublishDone, IsPublishStopped}
+use Rattle.k_journal.specs.declared.outcomes.Commit.{Commit}
+use Rattle.k_rules.specs.View.{View}
+use Rattle.flight_relinks.specs.k_split.declared.faults.KFault.{KFault}
+use Rattle.posix_types.specs.declared.call.Mode.{Mode}
+use Rattle.posix_types.specs.declared.item.Item.{Item}
+use Rattle.posix_words.specs.Open.{Tables}
+use Rattle.posix_spec.specs.Run.{run}
+use Rattle.posix_spec.specs.State.{State}
+use Rattle.flight_relinks.specs.world_images.Promised.{IsKept}
+use Rattle.flight_relinks.specs.world_lent.Back.{IsPutBack}
+use Rattle.flight_relinks.specs.world_rules.Jobs.{begun_of}
+use Rattle.flight_relinks.specs.world_steps.Steps.{AreBeside}
+use Rattle.flight_relinks.specs.world_steps.Touched.{only}
+use Rattle.flight_relinks.specs.world_standing.Standing.{Kept, StandsAt}
+use Rattle.flight_relinks.specs.Laws.{StandsThen}
+
+-- what the World keeps, with these files
+abbrev pub with_files : Kept → Files → Kept
+with_files x files = record x { files = files }
+
+-- THE FILE IS PUBLISHED: in whatever state they stood together, while no job of the file was out, they stand together
+-- behind it in the same state.
+abbrev pub PublishesFile : ℕ → View → Files → View → Files → Type 0
+PublishesFile ino k f l u =
+    (g : Geometry) (t : Tables) (x : Kept) (lines : Bool) (n : ℕ) (s : State)
+    → (stands : StandsAt g k t (with_files x f) lines n s) → AreBeside (only ino) stands.jobs
+    → StandsThen g k l t (with_files x f) (with_files x u) lines n s stands
+
+-- THE POWER WENT in it, or before, in strict mode: each image, once log lines and blocks of jobs are put back, is kept
+-- with the calls of the jobs unfinished.
+abbrev pub LosesFile : ℕ → View → Files → View → Type 0
+LosesFile ino k f l =
+    (g : Geometry) (t : Tables) (x : Kept) (lines : Bool) (n : ℕ) (start : State) (history : List Item)
+    → start.mode ≡ Mode.Strict
+    → (stands : StandsAt g k t (with_files x f) lines n (run start history)) → AreBeside (only ino) stands.jobs
+    → (back : ℕ → Cell) (slots : List (Option ℕ)) (image : Words)
+    → IsPutBack k.volume l.cells back x.first x.claims stands.jobs slots image
+    → IsKept g start history (map begun_of stands.jobs) image
+
+-- WHAT `publish_file` ANSWERS AND LEAVES, from the table f and k to u and l. Done: nothing is kept of the file but its
+-- size. Else the table is as it was: the power went, or memory ran out on the way.
+abbrev pub IsFilePublished : ℕ → Files → View → Files → View → Result Commit AllocError → Type 0
+IsFilePublished ino f k u l (Ok Commit.Done) =
+    IsPublishDone ino (size_in f ino) (runs_in f ino) k l × ChangesFile ino [] (size_in f ino) f u
+    × PublishesFile ino k f l u
+IsFilePublished ino f k u l (Ok Commit.PowerLost) =
+    (u ≡ f) × IsPublishStopped KFault.PowerLost ino (size_in f ino) (runs_in f ino) k l × LosesFile ino k f l
+IsFilePublished ino f k u l (Err e) = u ≡ f

@@ -1,0 +1,106 @@
+-- What a relink leaves of a World with writes in flight, each law as one statement.
+use Rattle.std.specs.Prelude.{◌≡◌, ℕ, Bool, false, List, [], ◌∷◌, map, Option, Ok}
+use Rattle.pm_words.specs.declared.Cell.{Cell}
+use Rattle.pm_words.specs.Words.{Words}
+use Rattle.disk_places.specs.Places.{Geometry}
+use Rattle.disk_rules.specs.Volume.{inode, Volume}
+use Rattle.file_overlay.specs.declared.runs.Run.{Run}
+use Rattle.file_table.specs.Files.{ChangesFile, Files, runs_in, size_in}
+use Rattle.fsync_relink.specs.Publishes.{IsPublishDone, IsPublishStopped, MayPublish, move_of, size_before}
+use Rattle.k_rules.specs.View.{View}
+use Rattle.fsync_relink.specs.k_split.declared.faults.KFault.{KFault}
+use Rattle.fsync_relink.specs.k_split.MapChanges.{IsMapCut, IsMovedWith, IsRelinkAnswer}
+use Rattle.map_rules.specs.declared.moves.Move.{Move}
+use Rattle.posix_types.specs.declared.call.Mode.{Mode}
+use Rattle.posix_types.specs.declared.item.Item.{Item}
+use Rattle.posix_words.specs.Open.{Tables}
+use Rattle.posix_spec.specs.Run.{run}
+use Rattle.posix_spec.specs.State.{State}
+use Rattle.flight_changes.specs.world_images.Promised.{IsKept, KeepsPromise}
+use Rattle.flight_changes.specs.world_lent.Back.{IsPutBack}
+use Rattle.flight_changes.specs.world_rules.Jobs.{begun_of}
+use Rattle.flight_changes.specs.world_steps.Steps.{AreBeside}
+use Rattle.flight_changes.specs.world_steps.Touched.{only}
+use Rattle.world_standing.specs.Standing.{Kept, StandsAt}
+
+-- the relink of a file's first run, behind which these are left
+abbrev pub first_move : Kept → View → ℕ → Run → List Run → Move
+first_move kept k ino r rest = move_of ino (size_before rest (size_in kept.files ino) (inode k.volume ino).size) r
+
+-- K-Split stands behind a change that leaves the state, the jobs and their nodes.
+pub record StandsThen (g : Geometry) (k l : View) (t : Tables) (kept then : Kept) (lines : Bool) (n : ℕ) (s : State)
+    (stands : StandsAt g k t kept lines n s) : Type 0 where
+  pub now : StandsAt g l t then lines n s
+  pub jobs_are : now.jobs ≡ stands.jobs
+  pub numbers_are : now.numbers ≡ stands.numbers
+
+-- THE FIRST RUN OF A FILE IS RELINKED, while no job of the file is out: they stand together in the same state, and
+-- one run less is kept of the file.
+abbrev pub StandsRelinked : Type 0
+StandsRelinked =
+    (g : Geometry) (k l : View) (t : Tables) (kept : Kept) (files : Files) (lines : Bool) (n : ℕ) (s : State)
+    (ino : ℕ) (r : Run) (rest : List Run) → (stands : StandsAt g k t kept lines n s)
+    → runs_in kept.files ino ≡ r ∷ rest → MayPublish ino (size_in kept.files ino) (r ∷ rest) k
+    → AreBeside (only ino) stands.jobs
+    → ChangesFile ino rest (size_in kept.files ino) kept.files files
+    → IsRelinkAnswer (first_move kept k ino r rest) k l (Ok tt)
+    → StandsThen g k l t kept (record kept { files = files }) lines n s stands
+
+-- THE POWER WENT in it, or before: each image, once log lines and blocks of jobs are put back, is kept with the calls
+-- of the jobs unfinished;
+abbrev pub KeepsRelinked : Type 0
+KeepsRelinked =
+    (g : Geometry) (k l : View) (t : Tables) (kept : Kept) (lines : Bool) (n : ℕ) (start : State)
+    (history : List Item) (ino : ℕ) (r : Run) (rest : List Run) → start.mode ≡ Mode.Strict
+    → (stands : StandsAt g k t kept lines n (run start history)) → runs_in kept.files ino ≡ r ∷ rest
+    → MayPublish ino (size_in kept.files ino) (r ∷ rest) k → AreBeside (only ino) stands.jobs
+    → (w : Volume) (blocks : List ℕ) → IsMovedWith (first_move kept k ino r rest) k w blocks → IsMapCut blocks w k l
+    → (back : ℕ → Cell) (slots : List (Option ℕ)) (image : Words)
+    → IsPutBack k.volume l.cells back kept.first kept.claims stands.jobs slots image
+    → IsKept g start history (map begun_of stands.jobs) image
+
+-- and with log lines at home each image is.
+abbrev pub KeepsRelinkedHome : Type 0
+KeepsRelinkedHome =
+    (g : Geometry) (k l : View) (t : Tables) (kept : Kept) (n : ℕ) (start : State) (history : List Item) (ino : ℕ)
+    (r : Run) (rest : List Run) → start.mode ≡ Mode.Strict
+    → StandsAt g k t kept false n (run start history) → runs_in kept.files ino ≡ r ∷ rest
+    → MayPublish ino (size_in kept.files ino) (r ∷ rest) k
+    → (w : Volume) (blocks : List ℕ) → IsMovedWith (first_move kept k ino r rest) k w blocks → IsMapCut blocks w k l
+    → KeepsPromise g l.cells start history []
+
+-- ---- a publishing
+
+-- ALL RUNS OF A FILE ARE RELINKED, while no job of the file is out: they stand together in the same state, and
+-- nothing is kept of the file but its size.
+abbrev pub StandsPublished : Type 0
+StandsPublished =
+    (g : Geometry) (k l : View) (t : Tables) (kept : Kept) (files : Files) (lines : Bool) (n : ℕ) (s : State)
+    (ino : ℕ) → (stands : StandsAt g k t kept lines n s)
+    → MayPublish ino (size_in kept.files ino) (runs_in kept.files ino) k → AreBeside (only ino) stands.jobs
+    → ChangesFile ino [] (size_in kept.files ino) kept.files files
+    → IsPublishDone ino (size_in kept.files ino) (runs_in kept.files ino) k l
+    → StandsThen g k l t kept (record kept { files = files }) lines n s stands
+
+-- THE POWER WENT in it, or before: each image, once log lines and blocks of jobs are put back, is kept with the calls
+-- of the jobs unfinished;
+abbrev pub KeepsPublished : Type 0
+KeepsPublished =
+    (g : Geometry) (k l : View) (t : Tables) (kept : Kept) (lines : Bool) (n : ℕ) (start : State)
+    (history : List Item) (ino : ℕ) → start.mode ≡ Mode.Strict
+    → (stands : StandsAt g k t kept lines n (run start history)) → MayPublish ino (size_in kept.files ino)
+    (runs_in kept.files ino) k → AreBeside (only ino) stands.jobs
+    → IsPublishStopped KFault.PowerLost ino (size_in kept.files ino) (runs_in kept.files ino) k l
+    → (back : ℕ → Cell) (slots : List (Option ℕ)) (image : Words)
+    → IsPutBack k.volume l.cells back kept.first kept.claims stands.jobs slots image
+    → IsKept g start history (map begun_of stands.jobs) image
+
+-- and with log lines at home each image is.
+abbrev pub KeepsPublishedHome : Type 0
+KeepsPublishedHome =
+    (g : Geometry) (k l : View) (t : Tables) (kept : Kept) (n : ℕ) (start : State) (history : List Item) (ino : ℕ)
+    → start.mode ≡ Mode.Strict
+    → StandsAt g k t kept false n (run start history) → MayPublish ino (size_in kept.files ino)
+    (runs_in kept.files ino) k
+    → IsPublishStopped KFault.PowerLost ino (size_in kept.files ino) (runs_in kept.files ino) k l
+    → KeepsPromise g l.cells start history []

@@ -1,0 +1,5 @@
+pub mod Reading
+pub mod Places
+pub mod Refilled
+pub mod Zeroed
+pub mod ZeroReads

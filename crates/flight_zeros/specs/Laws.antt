@@ -1,0 +1,75 @@
+-- Blocks behind the end of a file are zeroed while writes are in flight, each law as one statement.
+use Rattle.std.specs.Prelude.{◌≡◌, ◌≤◌, ◌<◌, ◌/◌, ◌%◌, ℕ, Bool, List, [], ◌∷◌, ◌++◌, length, map, Option, Result, Ok}
+use Rattle.pm_words.specs.declared.Cell.{Cell}
+use Rattle.pm_words.specs.Words.{Words}
+use Rattle.disk_lines.specs.declared.Kind.TheVariants.{File}
+use Rattle.disk_places.specs.Places.{Geometry}
+use Rattle.disk_rules.specs.Volume.{extents, inode}
+use Rattle.extent_words.specs.Extents.{disk_at}
+use Rattle.file_reads.specs.Reads.{block_in}
+use Rattle.file_table.specs.Files.{runs_in}
+use Rattle.k_rules.specs.View.{View}
+use Rattle.k_split.specs.Bytes.{IsOverwriteCut, IsOverwriteDone, tail_zeros}
+use Rattle.k_split.specs.Loans.{MayLend}
+use Rattle.posix_types.specs.declared.call.Mode.{Mode}
+use Rattle.posix_types.specs.declared.item.Item.{Item}
+use Rattle.posix_words.specs.Open.{Tables}
+use Rattle.posix_spec.specs.Run.{Begun, run}
+use Rattle.posix_spec.specs.State.{State}
+use Rattle.staging_files.specs.declared.runs.StageFault.{StageFault}
+use Rattle.staging_files.specs.declared.runs.StageRun.{StageRun}
+use Rattle.staging_files.specs.Keeps.{Staged}
+use Rattle.staging_files.specs.Reserves.{IsReserveAnswer}
+use Rattle.world_rules.specs.Jobs.{begun_of}
+use Rattle.world_images.specs.Promised.{IsKept}
+use Rattle.world_lent.specs.Back.{IsPutBack}
+use Rattle.world_standing.specs.Standing.{Kept, StandsAt}
+use Rattle.flight_zeros.specs.Zeros.{block_end, MayZero, ReadZero, staged_place}
+
+-- ---- a staged block
+
+-- A staged block can be written in place.
+abbrev pub StandsToZero : Type 0
+StandsToZero =
+    (g : Geometry) (k : View) (t : Tables) (kept : Kept) (lines : Bool) (n : ℕ) (s : State) (ino from staging block : ℕ)
+    → (stands : StandsAt g k t kept lines n s) → MayZero k kept stands.jobs ino from staging block
+    → (b : ℕ) × MayLend k.volume k.cells staging block b
+
+-- IT IS ZEROED from there to its end: they stand together in the same state.
+abbrev pub StandsZeroed : Type 0
+StandsZeroed =
+    (g : Geometry) (k l : View) (t : Tables) (kept : Kept) (lines : Bool) (n : ℕ) (s : State) (ino from staging block : ℕ)
+    → (stands : StandsAt g k t kept lines n s) → MayZero k kept stands.jobs ino from staging block
+    → IsOverwriteDone staging (staged_place block from) (tail_zeros k.volume staging (staged_place block from)) k l
+    → (now : StandsAt g l t kept lines n s) × (now.jobs ≡ stands.jobs) × (now.numbers ≡ stands.numbers)
+
+-- THE POWER WENT in it: each image, once log lines and blocks of jobs are put back, is kept with the calls of the jobs
+-- unfinished, and this one as the last.
+abbrev pub KeepsZeroed : Type 0
+KeepsZeroed =
+    (g : Geometry) (k l : View) (t : Tables) (kept : Kept) (lines : Bool) (n : ℕ) (start : State) (history : List Item)
+    (c : Begun) (ino from staging block : ℕ) → start.mode ≡ Mode.Strict
+    → (stands : StandsAt g k t kept lines n (run start history)) → MayZero k kept stands.jobs ino from staging block
+    → IsOverwriteCut staging (staged_place block from) (tail_zeros k.volume staging (staged_place block from)) k l
+    → (back : ℕ → Cell) (slots : List (Option ℕ)) (image : Words)
+    → IsPutBack k.volume l.cells back kept.first kept.claims stands.jobs slots image
+    → IsKept g start history (map begun_of stands.jobs ++ c ∷ []) image
+
+-- ---- what reads zero
+
+-- The block that was zeroed does, of the file itself or of a staging file, and so does a hole;
+abbrev pub ZeroedReadZero : Type 0
+ZeroedReadZero =
+    (g : Geometry) (k l : View) (t : Tables) (kept : Kept) (lines : Bool) (n : ℕ) (s : State) (ino a from x p : ℕ)
+    → StandsAt g k t kept lines n s → (inode k.volume ino).kind ≡ File → x < length k.volume.inodes
+    → disk_at (extents k.volume x) (p / 4096) ≡ block_in k.volume (runs_in kept.files ino) ino (from / 4096)
+    → p % 4096 ≡ from % 4096 → IsOverwriteDone x p (tail_zeros k.volume x p) k l
+    → ReadZero k kept.files ino a from → ReadZero l kept.files ino a (block_end from)
+
+-- and what reads zero does so where a run is reserved.
+abbrev pub ReservedReadZero : Type 0
+ReservedReadZero =
+    (g : Geometry) (k l : View) (t : Tables) (kept : Kept) (staging : Staged) (lines : Bool) (n : ℕ) (s : State)
+    (count : ℕ) (taken : StageRun) (ino a b : ℕ) → StandsAt g k t kept lines n s → (inode k.volume ino).kind ≡ File
+    → 1 ≤ count → count ≤ 33 → (let r : Result StageRun StageFault = Ok taken in IsReserveAnswer count kept.staging k staging l r)
+    → ReadZero k kept.files ino a b → ReadZero l kept.files ino a b

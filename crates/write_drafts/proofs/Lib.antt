@@ -1,0 +1,5 @@
+pub mod Numbers
+pub mod Orders
+pub use Rattle.world_standing.proofs.flight_facts_proofs as flight_facts_proofs
+pub use Rattle.world_standing.proofs.job_facts_proofs as job_facts_proofs
+pub use Rattle.world_standing.proofs.overlay_facts_proofs as overlay_facts_proofs

@@ -1,0 +1,93 @@
+-- The power goes while a block is zeroed, or before.
+use Rattle.std.specs.Prelude.{◌≡◌, ◌≢◌, ◌⊎◌, ◌≤◌, ◌/◌, ℕ, Bool, List, [], ◌∷◌, ◌++◌, map, Option, Some}
+use Rattle.std.proofs.Common.{sym, subst, inl, inr}
+use Rattle.pm_words.specs.declared.Cell.{Cell}
+use Rattle.pm_words.specs.Words.{Words}
+use Rattle.disk_places.specs.Journal.{IsSound}
+use Rattle.disk_places.specs.Places.{Geometry}
+use Rattle.file_overlay.specs.Runs.{staged_at}
+use Rattle.file_table.specs.Files.{Files, runs_in, size_in}
+use Rattle.flight_cleans.specs.Laws.{KeepsCleaned}
+use Rattle.flight_zeros.specs.Laws.{KeepsZeroed}
+use Rattle.flight_zeros.specs.Zeros.{staged_place}
+use Rattle.k_rules.specs.View.{View}
+use Rattle.k_split.specs.Bytes.{IsOverwriteCut, tail_zeros}
+use Rattle.list_facts.specs.Members.{In}
+use Rattle.lost_devices.specs.Left.{IsLeftOf}
+use Rattle.lost_devices.proofs.Cuts.{left_at, left_overwritten, left_same}
+use Rattle.posix_types.specs.declared.call.Mode.{Mode}
+use Rattle.posix_types.specs.declared.item.Item.{Item}
+use Rattle.posix_words.specs.Open.{Tables}
+use Rattle.posix_spec.specs.Run.{Begun, run}
+use Rattle.posix_spec.specs.State.{State}
+use Rattle.world_images.specs.Changed.{sound_headed}
+use Rattle.world_images.specs.Promised.{IsKept}
+use Rattle.world_lent.specs.Back.{IsPutBack}
+use Rattle.world_lent.specs.Flights.{promise_at_begin}
+use Rattle.world_rules.specs.Jobs.{begun_of, Job}
+use Rattle.world_standing.specs.Standing.{Kept, StandsAt}
+use Rattle.write_gaps.specs.Gaps.{LosesGap, with_files}
+
+not_posix : (m : Mode) → m ≡ Mode.Strict → m ≢ Mode.Posix
+not_posix m strict posix = cc
+
+-- nothing was changed
+pub kept_off : (g : Geometry) (k l : View) (t : Tables) (kept : Kept) (lines : Bool) (n : ℕ) (start : State) (history : List Item) (c : Begun) → start.mode ≡ Mode.Strict
+    → (stands : StandsAt g k t kept lines n (run start history)) → l.cells ≡ k.cells → (back : ℕ → Cell) (slots : List (Option ℕ)) (image : Words)
+    → IsPutBack k.volume l.cells back kept.first kept.claims stands.jobs slots image → IsKept g start history (map begun_of stands.jobs ++ c ∷ []) image
+kept_off g k l t kept lines n start history c strict stands same back slots image put =
+    subst (λ y. IsKept y start history (map begun_of stands.jobs ++ c ∷ []) image) stands.geometry
+    (promise_at_begin k.volume k.cells kept.claims stands.jobs stands.numbers start history stands.count back kept.first slots image c (not_posix start.mode strict) (λ mode. stands.flying.whole) stands.flying.device
+    (subst (λ d. IsPutBack k.volume d back kept.first kept.claims stands.jobs slots image) same put))
+
+pub left_off : (g : Geometry) (k l : View) (t : Tables) (kept : Kept) (lines : Bool) (n : ℕ) (s : State) → StandsAt g k t kept lines n s → l.cells ≡ k.cells → IsLeftOf g k.cells l.cells
+left_off g k l t kept lines n s stands same =
+    subst (IsLeftOf g k.cells) (sym same)
+    (left_same g k.cells (λ image is. subst (λ y. IsSound y image) stands.geometry (sound_headed k.volume.geometry image (stands.flying.device.headed image is))))
+
+pub left_bytes : (g : Geometry) (k l : View) (t : Tables) (kept : Kept) (lines : Bool) (n : ℕ) (s : State) (x p : ℕ) (bytes : List ℕ) → StandsAt g k t kept lines n s → IsOverwriteCut x p bytes k l → IsLeftOf g k.cells l.cells
+left_bytes g k l t kept lines n s x p bytes stands cut =
+    subst (λ y. IsLeftOf y k.cells l.cells) stands.geometry (left_at k.volume k.committed k.cells l.cells (stands.order.settled stands.unbatched) (left_overwritten x p bytes k l cut))
+
+module _ (k l : View) (files : Files) (ino from : ℕ) (behind : size_in files ino ≤ from) where
+  -- nothing was changed
+  pub loses_off : l.cells ≡ k.cells → LosesGap ino files k l
+  loses_off same = record {
+    left = λ has. left_off has.g k l has.t (with_files has.kept files) has.lines has.n has.s has.stands same;
+    kept = λ has start history c is strict.
+        subst
+        (λ y. (stands : StandsAt has.g k has.t (with_files has.kept files) has.lines has.n y) → (back : ℕ → Cell) (slots : List (Option ℕ)) (image : Words)
+        → IsPutBack k.volume l.cells back has.kept.first has.kept.claims stands.jobs slots image → IsKept has.g start history (map begun_of stands.jobs ++ c ∷ []) image)
+        (sym is) (λ stands. kept_off has.g k l has.t (with_files has.kept files) has.lines has.n start history c strict stands same) has.stands;
+  }
+
+  -- a block of its map
+  pub loses_mapped : KeepsCleaned → (l.cells ≡ k.cells) ⊎ IsOverwriteCut ino from (tail_zeros k.volume ino from) k l → LosesGap ino files k l
+  loses_mapped keeps (inl same) = loses_off same
+  loses_mapped keeps (inr cut) = record {
+    left = λ has. left_bytes has.g k l has.t (with_files has.kept files) has.lines has.n has.s ino from (tail_zeros k.volume ino from) has.stands cut;
+    kept = λ has start history c is strict.
+        subst
+        (λ y. (stands : StandsAt has.g k has.t (with_files has.kept files) has.lines has.n y) → ((j : Job) → In j stands.jobs → j.draft.ino ≢ ino) → (back : ℕ → Cell) (slots : List (Option ℕ)) (image : Words)
+        → IsPutBack k.volume l.cells back has.kept.first has.kept.claims stands.jobs slots image → IsKept has.g start history (map begun_of stands.jobs ++ c ∷ []) image)
+        (sym is)
+        (λ stands others. keeps has.g k l has.t (with_files has.kept files) has.lines has.n start history c ino from strict stands (record { file = has.file; behind = behind; others = others }) cut)
+        has.stands has.others;
+  }
+
+  -- a staged block
+  pub loses_staged : (staging block : ℕ) → KeepsZeroed → staged_at (runs_in files ino) (from / 4096) ≡ Some (staging, block)
+      → (l.cells ≡ k.cells) ⊎ IsOverwriteCut staging (staged_place block from) (tail_zeros k.volume staging (staged_place block from)) k l → LosesGap ino files k l
+  loses_staged staging block keeps at (inl same) = loses_off same
+  loses_staged staging block keeps at (inr cut) = record {
+    left = λ has. left_bytes has.g k l has.t (with_files has.kept files) has.lines has.n has.s staging (staged_place block from) (tail_zeros k.volume staging (staged_place block from)) has.stands cut;
+    kept = λ has start history c is strict.
+        subst
+        (λ y. (stands : StandsAt has.g k has.t (with_files has.kept files) has.lines has.n y) → ((j : Job) → In j stands.jobs → j.draft.ino ≢ ino) → (back : ℕ → Cell) (slots : List (Option ℕ)) (image : Words)
+        → IsPutBack k.volume l.cells back has.kept.first has.kept.claims stands.jobs slots image → IsKept has.g start history (map begun_of stands.jobs ++ c ∷ []) image)
+        (sym is)
+        (λ stands others.
+        keeps has.g k l has.t (with_files has.kept files) has.lines has.n start history c ino from staging block strict stands
+        (record { file = has.file; behind = behind; others = others; at = at }) cut)
+        has.stands has.others;
+  }

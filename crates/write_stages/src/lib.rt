@@ -1,0 +1,14 @@
+//! A logged write that has its staging blocks becomes a job.
+//!
+//! `stage_write` reads what the blocks hold of the file, puts the new bytes over it, makes the entry and lends
+//! the blocks. The layer above may rely on this: where K-Split, the open files, the staging, what is kept of
+//! files and the jobs that are out stand together and the write can be staged in its run (`Ready`), they
+//! stand together with the job as the last one, in the same state, and the job has the entry, the blocks and
+//! the words of the call (`IsStaged`, `IsJobOf`). Where memory wants, nothing changed.
+//!
+//! Stands on `write_drafts`, `write_words`, `block_loans` and the laws of `flight_begins`.
+#![tactic(auto)]
+
+mod staging;
+
+pub use staging::{StagedWrite, stage_write};

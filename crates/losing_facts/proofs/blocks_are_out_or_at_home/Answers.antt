@@ -1,0 +1,14 @@
+use Rattle.losing_facts.proofs.Homes.{come_home_more, come_home_none, has_blocks_out, leaves_blocks}
+use Rattle.losing_facts.proofs.blocks_are_out_or_at_home.Goals as goal
+
+pub returns-clause-out : goal.returns-clause-out
+returns-clause-out c = has_blocks_out
+
+pub returns-clause-left : goal.returns-clause-left
+returns-clause-left c = leaves_blocks
+
+pub returns-clause-none : goal.returns-clause-none
+returns-clause-none c = come_home_none
+
+pub returns-clause-more : goal.returns-clause-more
+returns-clause-more c = come_home_more

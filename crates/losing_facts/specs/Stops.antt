@@ -1,0 +1,35 @@
+-- What the publishing of files leaves of a device of which words are lent: where the power went, and where it is done.
+use Rattle.std.specs.Prelude.{◌≡◌, ℕ, Bool, List, length, Ok}
+use Rattle.pm_words.specs.declared.Cell.{Cell}
+use Rattle.pm_words.specs.Frames.{SameLent}
+use Rattle.disk_places.specs.Places.{Geometry}
+use Rattle.file_overlay.specs.declared.runs.Run.{Run}
+use Rattle.file_table.specs.Files.{Files}
+use Rattle.fsync_relink.specs.Publishes.{IsPublishDone, IsPublishStopped}
+use Rattle.k_journal.specs.declared.outcomes.Commit.{Commit}
+use Rattle.k_rules.specs.View.{View}
+use Rattle.k_split.specs.declared.faults.KFault.{KFault}
+use Rattle.log_checkpoint.specs.Gathers.{IsGatherAnswer}
+use Rattle.lost_devices.specs.Left.{IsLeftOf}
+use Rattle.posix_words.specs.Open.{Tables}
+use Rattle.posix_spec.specs.State.{State}
+use Rattle.staging_files.specs.Keeps.{Staged}
+use Rattle.world_standing.specs.Standing.{Kept, StandsAt}
+
+-- the same words are lent, of as many
+pub record KeepsOut (d e : List Cell) : Type 0 where
+  pub size : length e ≡ length d
+  pub lent : SameLent d e
+
+-- THE PUBLISHING OF A FILE STOPPED at a power loss, or was done.
+abbrev pub LeavesStopped : Type 0
+LeavesStopped =
+    (g : Geometry) (k l : View) (t : Tables) (kept : Kept) (lines : Bool) (n : ℕ) (s : State) (ino size : ℕ) (runs : List Run)
+    → StandsAt g k t kept lines n s → IsPublishStopped KFault.PowerLost ino size runs k l → IsLeftOf g k.cells l.cells
+
+abbrev pub KeepsPublishedOut : Type 0
+KeepsPublishedOut = (k l : View) (ino size : ℕ) (runs : List Run) → IsPublishDone ino size runs k l → KeepsOut k.cells l.cells
+
+-- A GATHERING, done or cut off.
+abbrev pub KeepsGatheredOut : Type 0
+KeepsGatheredOut = (k l : View) (files table : Files) (staging : Staged) (answer : Commit) → IsGatherAnswer files k staging table l (Ok answer) → KeepsOut k.cells l.cells

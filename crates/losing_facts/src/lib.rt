@@ -1,0 +1,66 @@
+//! A World whose power went while log lines and blocks of jobs are out.
+//!
+//! What is lent is outside the device, so that the promise speaks of each image with lines and blocks put back
+//! (`IsLostWith`). The layer above may rely on this: a World that stood together is so once the power went in a
+//! call or was found off; it stays so while jobs finish or are given up, whose blocks come home; and when all
+//! that is out is handed in, in whatever order, and put back, nothing is lent any more, and the device keeps the
+//! promise for the calls that returned and those that did not (`KeepsCrashed`). With log lines at home it does so
+//! at any moment (`KeepsHome`).
+//!
+//! Lemmas alone. Stands on `write_ends`, `world_lent` and `lost_devices`.
+#![tactic(auto)]
+
+ghost use Rattle.losing_facts.specs.Laws.{
+  ComeHomeMore,
+  ComeHomeNone,
+  ComesHomeAlone,
+  FinishesLost,
+  GivesUpLost,
+  HasBlocksOut,
+  IsFoundAtCall,
+  IsFoundLost,
+  IsLostAlike,
+  KeepsCrashed,
+  KeepsHome,
+  LinesHoldOut,
+  LeavesBlocks,
+  LosesCall,
+};
+ghost use Rattle.losing_facts.specs.Stops.{KeepsGatheredOut, KeepsPublishedOut, LeavesStopped};
+
+/// The power goes in a call, or is found off.
+pub fn the_power_goes()
+    ensures call { LosesCall }
+    ensures found { IsFoundLost }
+    ensures at_call { IsFoundAtCall }
+    ensures alike { IsLostAlike }
+{}
+
+/// The blocks of jobs that are out, and loans of them that come home.
+pub fn blocks_are_out_or_at_home()
+    ensures out { HasBlocksOut }
+    ensures left { LeavesBlocks }
+    ensures none { ComeHomeNone }
+    ensures more { ComeHomeMore }
+{}
+
+/// Jobs end after the loss.
+pub fn jobs_end_after_a_loss()
+    ensures finished { FinishesLost }
+    ensures given_up { GivesUpLost }
+    ensures alone { ComesHomeAlone }
+{}
+
+/// All that was out is put back.
+pub fn a_crash_keeps_the_promise()
+    ensures crashed { KeepsCrashed }
+    ensures home { KeepsHome }
+    ensures lines { LinesHoldOut }
+{}
+
+/// Files are published, or stopped being so.
+pub fn publishing_leaves_what_is_out()
+    ensures stopped { LeavesStopped }
+    ensures published { KeepsPublishedOut }
+    ensures gathered { KeepsGatheredOut }
+{}

@@ -1,0 +1,4 @@
+pub mod Jobs
+pub mod Counts
+pub mod Claims
+pub mod Waiting

@@ -1,0 +1,8 @@
+//! What a World that stands together says of its jobs, its claims and its counts.
+//!
+//! Lemmas alone, over what `world_standing` keeps: a call that no job keeps waiting lets all jobs be, and leaves them
+//! the words of their calls (`Jobs`); what the claims of a file are once it is published (`Claims`); how many jobs and
+//! how many runs there are (`Counts`). The layer above, which keeps a World, cites them where a call ends.
+//!
+//! Stands on `world_standing` and `script_calls`.
+#![tactic(auto)]

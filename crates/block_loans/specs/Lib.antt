@@ -2,3 +2,9 @@ pub mod Loans
 pub use Rattle.job_facts.specs as job_facts
 pub use Rattle.job_facts.specs.world_jobs as world_jobs
 pub use Rattle.k_split.specs as k_split
+pub use Rattle.job_facts.specs.posix_frames as posix_frames
+pub use Rattle.job_facts.specs.world_promise as world_promise
+pub use Rattle.job_facts.specs.world_rules as world_rules
+pub use Rattle.job_facts.specs.world_steps as world_steps
+pub use Rattle.k_split.specs.k_map_plans as k_map_plans
+pub use Rattle.k_split.specs.volume_uses as volume_uses

@@ -21,12 +21,12 @@ use Rattle.k_plans.specs.Renaming.{renamed_over}
 use Rattle.k_plans.proofs.Wholes.{free-bare}
 use Rattle.k_rules.specs.Changes.{dropped, gone_node, new_node, renamed_over_directory, renamed_over_file}
 use Rattle.k_rules.specs.Spaces.{is_directory_in}
-use Rattle.k_tables.specs.declared.removing.Entry.{Entry}
+use Rattle.k_plans.specs.k_tables.declared.removing.Entry.{Entry}
 use Rattle.list_facts.specs.Members.{In}
 use Rattle.map_rules.specs.Changes.{with_size}
 use Rattle.map_rules.specs.Taken.{with_map}
-use Rattle.volume_changes.specs.CallLaws.{row_to}
-use Rattle.volume_changes.specs.FoundLaws.{free-found}
+use Rattle.k_plans.specs.volume_changes.CallLaws.{row_to}
+use Rattle.k_plans.specs.volume_changes.FoundLaws.{free-found}
 use Rattle.volume_facts.specs.Changes.{extents-set_other, extents-set_same, inode-set_other, inode-set_same}
 use Rattle.file_ends.specs.Ends.{FilesEnd}
 use Rattle.file_ends.specs.Laws.{EndDropped, EndMade, EndRemoved, EndRenamed, EndSized, EndUnlinked, FreeHasNoMap}

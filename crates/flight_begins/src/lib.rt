@@ -14,3 +14,5 @@ ghost use Rattle.flight_begins.specs.Laws.{StandsBegun};
 pub fn a_job_begins_in_flight()
     ensures { StandsBegun }
 {}
+
+pub use world_standing::staging_files;

@@ -13,4 +13,5 @@ mod calls;
 mod reads;
 
 pub use calls::run_call;
+pub use flight_names;
 pub use reads::{fsync, pread, read, seek};

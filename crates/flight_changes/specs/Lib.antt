@@ -9,3 +9,4 @@ pub use Rattle.world_jobs.specs.world_steps as world_steps
 pub use Rattle.world_lent.specs as world_lent
 pub use Rattle.world_lent.specs.image_facts as image_facts
 pub use Rattle.world_lent.specs.world_images as world_images
+pub use Rattle.world_jobs.specs.posix_frames as posix_frames

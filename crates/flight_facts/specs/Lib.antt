@@ -6,3 +6,5 @@ pub use Rattle.job_facts.specs.world_images as world_images
 pub use Rattle.job_facts.specs.world_steps as world_steps
 pub use Rattle.overlay_facts.specs as overlay_facts
 pub use Rattle.overlay_facts.specs.file_reads as file_reads
+pub use Rattle.job_facts.specs.world_beginning as world_beginning
+pub use Rattle.job_facts.specs.world_spaces as world_spaces

@@ -17,3 +17,5 @@ pub fn the_next_lap_begins()
     ensures done { StandsLapped }
     ensures cut { KeepsLapped }
 {}
+
+pub use log_checkpoint;

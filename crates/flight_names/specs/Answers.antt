@@ -87,9 +87,9 @@ IsEnded who call k t f k2 t2 f2 old new (Ok (Told.Answered outcome)) =
 IsEnded who call k t f k2 t2 f2 old new (Ok Told.PowerLost) = Loses who call k t f k2 × LeavesDevice who call k t f k2 × (is_on new ≡ false)
 IsEnded who call k t f k2 t2 f2 old new (Err e) = (k2 ≡ k) × (t2 ≡ t) × (f2 ≡ f) × (new ≡ old)
 
--- Where it is not cut off, nothing comes to lie past the end of a file.
+-- Where it is not cut off, the log's base stays, and nothing comes to lie past the end of a file.
 abbrev pub KeepsEnds : View → Files → View → Files → Supply → Type 0
-KeepsEnds k f k2 f2 new = is_on new ≡ true → FilesEnd k.volume f → FilesEnd k2.volume f2
+KeepsEnds k f k2 f2 new = is_on new ≡ true → (k2.volume.base ≡ k.volume.base) × (FilesEnd k.volume f → FilesEnd k2.volume f2)
 
 -- the device has its size, and the same words are lent
 pub record HasSameLoans (old new : View) : Type 0 where

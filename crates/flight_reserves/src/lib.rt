@@ -17,3 +17,6 @@ pub fn a_run_is_reserved_in_flight()
     ensures done { StandsReserved }
     ensures cut { KeepsReserved }
 {}
+
+pub use world_relinks::k_split;
+pub use world_standing::staging_files;

@@ -1,1 +1,2 @@
 pub mod Laws
+pub use Rattle.flight_changes.specs.world_lent as world_lent

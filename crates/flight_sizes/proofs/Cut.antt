@@ -7,17 +7,17 @@ use Rattle.posix_types.specs.declared.call.Who.{Who}
 use Rattle.posix_types.specs.declared.handle.Handle.{Handle}
 use Rattle.posix_words.specs.Open.{opened}
 use Rattle.posix_words.specs.Room.{growth}
-use Rattle.posix_frames.specs.Needs.{needs as needs_of}
+use Rattle.flight_changes.specs.posix_frames.Needs.{needs as needs_of}
 use Rattle.posix_puts.specs.Views.{need_of}
 use Rattle.posix_spec.specs.FileRows.{content}
 use Rattle.posix_spec.specs.Run.{after_call, Begun, run}
 use Rattle.posix_spec.specs.State.{room, State}
 use Rattle.std.specs.Prelude.{sum_by}
 use Rattle.flight_steps.specs.posix_orders.Commutes.{takes}
-use Rattle.world_standing.specs.k_split.MapChanges.{ChangesMaps}
-use Rattle.world_standing.specs.world_images.Promised.{IsKept}
-use Rattle.world_standing.specs.world_rules.Jobs.{begun_of}
-use Rattle.world_standing.specs.world_steps.Steps.{begun-flights, flights_of}
+use Rattle.flight_steps.specs.world_standing.k_split.MapChanges.{ChangesMaps}
+use Rattle.flight_steps.specs.world_standing.world_images.Promised.{IsKept}
+use Rattle.flight_steps.specs.world_standing.world_rules.Jobs.{begun_of}
+use Rattle.flight_steps.specs.world_standing.world_steps.Steps.{begun-flights, flights_of}
 use Rattle.flight_changes.specs.world_lent.Flights.{leads_after, leads_before}
 use Rattle.flight_changes.specs.world_lent.Laws.{GoesBeside, LeadsTo}
 use Rattle.flight_changes.specs.Changes.{IsChangeWith}

@@ -15,13 +15,13 @@ use Rattle.posix_types.specs.declared.item.Item.{Item}
 use Rattle.posix_types.specs.declared.call.Mode.{Mode}
 use Rattle.posix_spec.specs.Run.{Begun}
 use Rattle.posix_spec.specs.State.{State}
-use Rattle.world_standing.specs.world_rules.Jobs.{begun_of, Job}
-use Rattle.world_standing.specs.world_rules.Promised.{AreWhole}
-use Rattle.world_standing.specs.world_rules.Shown.{AreFilled, landed_pairs}
-use Rattle.world_standing.specs.world_steps.Worlds.{IsWorld}
-use Rattle.world_standing.specs.world_images.Changed.{ShowsLog-same, sound_headed}
-use Rattle.world_standing.specs.world_images.Images.{HasRoom, IsHeaded, ShowsWorld, StandsFor}
-use Rattle.world_standing.specs.world_images.Promised.{IsKept}
+use Rattle.flight_steps.specs.world_standing.world_rules.Jobs.{begun_of, Job}
+use Rattle.flight_steps.specs.world_standing.world_rules.Promised.{AreWhole}
+use Rattle.flight_steps.specs.world_standing.world_rules.Shown.{AreFilled, landed_pairs}
+use Rattle.flight_steps.specs.world_standing.world_steps.Worlds.{IsWorld}
+use Rattle.flight_steps.specs.world_standing.world_images.Changed.{ShowsLog-same, sound_headed}
+use Rattle.flight_steps.specs.world_standing.world_images.Images.{HasRoom, IsHeaded, ShowsWorld, StandsFor}
+use Rattle.flight_steps.specs.world_standing.world_images.Promised.{IsKept}
 use Rattle.flight_changes.specs.world_lent.Back.{IsPutBack}
 use Rattle.flight_changes.specs.world_lent.Flights.{ShowsBack}
 use Rattle.flight_changes.specs.world_lent.Laws.{LeadsTo, SameBlocks}

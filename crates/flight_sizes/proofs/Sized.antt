@@ -25,17 +25,17 @@ use Rattle.posix_words.specs.Open.{Tables}
 use Rattle.posix_spec.specs.Run.{after_call}
 use Rattle.posix_spec.specs.State.{alone, State, with_file}
 use Rattle.posix_spec.specs.Step.{stepped, truncate_done}
-use Rattle.world_standing.specs.flight_facts.Flying.{IsOut}
-use Rattle.world_standing.specs.held_sums.Laws.{AreSizes}
-use Rattle.world_standing.specs.job_facts.Blocks.{AreOut}
-use Rattle.world_standing.specs.k_split.MapChanges.{ChangesMaps, IsMapDone, IsSizeAnswer}
-use Rattle.world_standing.specs.overlay_facts.Overlays.{IsOverlayOf, run_of}
-use Rattle.world_standing.specs.staging_files.Keeps.{Agrees, IsStaging}
-use Rattle.world_standing.specs.world_images.Images.{StandsFor}
-use Rattle.world_standing.specs.world_rules.Jobs.{Job, JobsStand, JobStands, live_claims, staged_block}
-use Rattle.world_standing.specs.world_rules.Stands.{entries_of}
-use Rattle.world_standing.proofs.staging_files_proofs.GiveUpLaws.{staging-file}
-use Rattle.world_standing.specs.Standing.{AreJobsOf, HasItsBlocks, Kept, LinesStand, Pending, StandsAt}
+use Rattle.flight_steps.specs.world_standing.flight_facts.Flying.{IsOut}
+use Rattle.flight_steps.specs.world_standing.held_sums.Laws.{AreSizes}
+use Rattle.flight_steps.specs.world_standing.job_facts.Blocks.{AreOut}
+use Rattle.flight_steps.specs.world_standing.k_split.MapChanges.{ChangesMaps, IsMapDone, IsSizeAnswer}
+use Rattle.flight_steps.specs.world_standing.overlay_facts.Overlays.{IsOverlayOf, run_of}
+use Rattle.flight_steps.specs.world_standing.staging_files.Keeps.{Agrees, IsStaging}
+use Rattle.flight_steps.specs.world_standing.world_images.Images.{StandsFor}
+use Rattle.flight_steps.specs.world_standing.world_rules.Jobs.{Job, JobsStand, JobStands, live_claims, staged_block}
+use Rattle.flight_steps.specs.world_standing.world_rules.Stands.{entries_of}
+use Rattle.flight_steps.proofs.world_standing_proofs.staging_files_proofs.GiveUpLaws.{staging-file}
+use Rattle.flight_steps.specs.world_standing.Standing.{AreJobsOf, HasItsBlocks, Kept, LinesStand, Pending, StandsAt}
 use Rattle.flight_changes.specs.Changes.{IsChangeWith}
 use Rattle.flight_changes.proofs.Devices.{keeps_log_home_with}
 use Rattle.flight_sizes.specs.Sizes.{MaySize, StandsSized}

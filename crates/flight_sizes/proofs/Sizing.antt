@@ -29,14 +29,14 @@ use Rattle.file_table.specs.Files.{size_in}
 use Rattle.k_rules.specs.View.{View}
 use Rattle.list_facts.specs.Filters.{filter-agree}
 use Rattle.log_mount.proofs.Trims.{fewer-blocks, fewer-extents}
-use Rattle.log_replay.proofs.Passed.{chain-counted, map-canonical}
+use Rattle.log_mount.proofs.log_replay_proofs.Passed.{chain-counted, map-canonical}
 use Rattle.map_rules.specs.Changes.{IsSized, with_size}
 use Rattle.map_rules.specs.Taken.{with_map}
 use Rattle.volume_facts.specs.Changes.{chain-set_same, extents-set_other, extents-set_same, inode-set_other, inode-set_same}
 use Rattle.flight_changes.specs.volume_uses.PoolLaws.{AreInData, unused-set}
 use Rattle.flight_steps.specs.k_plans.Whole.{IsWhole}
-use Rattle.world_standing.specs.k_split.MapChanges.{is_free_in, IsSizedWith}
-use Rattle.world_relinks.proofs.WorldLaws.{free-in_data, free-unmapped}
+use Rattle.flight_steps.specs.world_standing.k_split.MapChanges.{is_free_in, IsSizedWith}
+use Rattle.log_mount.proofs.world_relinks_proofs.WorldLaws.{free-in_data, free-unmapped}
 use Rattle.posix_types.specs.declared.call.Call.{Call}
 use Rattle.posix_types.specs.declared.call.Who.{Who}
 use Rattle.posix_types.specs.declared.handle.Handle.{Handle}
@@ -47,27 +47,27 @@ use Rattle.posix_words.specs.Nodes.{bytes_of, node_at}
 use Rattle.posix_words.specs.Open.{opened, Tables}
 use Rattle.posix_words.specs.Room.{growth}
 use Rattle.posix_facts.specs.FitsLaws.{length-resized}
-use Rattle.posix_frames.specs.Needs.{needs as needs_of}
+use Rattle.flight_changes.specs.posix_frames.Needs.{needs as needs_of}
 use Rattle.posix_spec.specs.FileRows.{content, file_number}
 use Rattle.posix_spec.specs.Run.{after_call, Begun}
 use Rattle.posix_spec.specs.State.{room, State}
 use Rattle.posix_puts.specs.Views.{need_of}
 use Rattle.crash_spec.specs.Busy.{waits_for}
 use Rattle.std.specs.Prelude.{sum_by}
-use Rattle.world_standing.specs.overlay_facts.Overlays.{run_of}
-use Rattle.world_standing.specs.world_rules.Jobs.{Job, JobsStand, live_claims}
-use Rattle.world_standing.specs.world_rules.Stands.{entries_of, FileStands, is_used, NodeStands, number}
-use Rattle.world_standing.specs.world_promise.TreeRules.{used_below}
-use Rattle.world_standing.specs.world_images.Images.{HasRoom}
-use Rattle.world_standing.specs.world_images.Rooms.{room_kept}
-use Rattle.world_standing.specs.world_images.Settings.{keeps_setting}
-use Rattle.world_standing.specs.world_steps.Steps.{begun-flights, flights_of}
-use Rattle.world_standing.specs.world_steps.Worlds.{IsWorld}
+use Rattle.flight_steps.specs.world_standing.overlay_facts.Overlays.{run_of}
+use Rattle.flight_steps.specs.world_standing.world_rules.Jobs.{Job, JobsStand, live_claims}
+use Rattle.flight_steps.specs.world_standing.world_rules.Stands.{entries_of, FileStands, is_used, NodeStands, number}
+use Rattle.flight_steps.specs.world_standing.world_promise.TreeRules.{used_below}
+use Rattle.flight_steps.specs.world_standing.world_images.Images.{HasRoom}
+use Rattle.flight_steps.specs.world_standing.world_images.Rooms.{room_kept}
+use Rattle.flight_steps.specs.world_standing.world_images.Settings.{keeps_setting}
+use Rattle.flight_steps.specs.world_standing.world_steps.Steps.{begun-flights, flights_of}
+use Rattle.flight_steps.specs.world_standing.world_steps.Worlds.{IsWorld}
 use Rattle.flight_changes.specs.world_jobs.Resizes.{HasAlone, Resizes}
 use Rattle.flight_changes.specs.world_jobs.ResizeSteps.{no_cover, truncated}
 use Rattle.flight_changes.specs.world_lent.Laws.{SameBlocks}
 use Rattle.flight_changes.specs.Changes.{AreSpare}
-use Rattle.world_standing.specs.Standing.{Kept, StandsAt}
+use Rattle.flight_steps.specs.world_standing.Standing.{Kept, StandsAt}
 use Rattle.flight_sizes.specs.Sizes.{AreZeros, MaySize}
 
 -- ---- lists of bytes

@@ -17,10 +17,10 @@ use Rattle.extent_words.specs.Extents.{disk_at}
 use Rattle.file_table.specs.Files.{size_in}
 use Rattle.volume_facts.specs.ImageLaws.{journaled-other}
 use Rattle.volume_facts.specs.LineWords.{data_word, data_word-not_journaled}
-use Rattle.world_standing.specs.k_split.Bytes.{tail_zeros, zeros_behind}
-use Rattle.world_standing.specs.world_promise.Lent.{in_data}
-use Rattle.world_standing.specs.world_promise.TreeRules.{used_below}
-use Rattle.world_standing.specs.world_rules.Stands.{is_used, IsSane}
+use Rattle.flight_steps.specs.world_standing.k_split.Bytes.{tail_zeros, zeros_behind}
+use Rattle.flight_steps.specs.world_standing.world_promise.Lent.{in_data}
+use Rattle.flight_steps.specs.world_standing.world_promise.TreeRules.{used_below}
+use Rattle.flight_steps.specs.world_standing.world_rules.Stands.{is_used, IsSane}
 use Rattle.flight_sizes.specs.Sizes.{AreZeros, CleansBehind}
 
 -- a byte of a data block is seen as it is

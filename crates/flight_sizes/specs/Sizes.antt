@@ -12,8 +12,8 @@ use Rattle.extent_words.specs.Extents.{disk_at}
 use Rattle.file_ends.specs.Ends.{FilesEnd}
 use Rattle.file_table.specs.Files.{ChangesFile, Files, runs_in, size_in, spare_in}
 use Rattle.k_rules.specs.View.{View}
-use Rattle.world_standing.specs.k_split.Bytes.{IsOverwriteDone, tail_zeros}
-use Rattle.world_standing.specs.k_split.MapChanges.{IsMapCut, IsSizeAnswer, IsSizedWith}
+use Rattle.flight_steps.specs.world_standing.k_split.Bytes.{IsOverwriteDone, tail_zeros}
+use Rattle.flight_steps.specs.world_standing.k_split.MapChanges.{IsMapCut, IsSizeAnswer, IsSizedWith}
 use Rattle.posix_types.specs.declared.call.Call.{Call}
 use Rattle.posix_types.specs.declared.call.Mode.{Mode}
 use Rattle.posix_types.specs.declared.call.Who.{Who}
@@ -26,14 +26,14 @@ use Rattle.posix_spec.specs.FileRows.{content, truncate_rows}
 use Rattle.posix_spec.specs.Run.{after_call, run}
 use Rattle.posix_spec.specs.State.{room, State}
 use Rattle.crash_spec.specs.Busy.{waits_for}
-use Rattle.world_standing.specs.world_rules.Jobs.{begun_of, Job}
-use Rattle.world_standing.specs.world_rules.Stands.{number}
-use Rattle.world_standing.specs.world_promise.JobLaws.{needs}
-use Rattle.world_standing.specs.world_images.Promised.{IsKept}
-use Rattle.world_standing.specs.world_steps.Steps.{flights_of, LetsJobsBe}
+use Rattle.flight_steps.specs.world_standing.world_rules.Jobs.{begun_of, Job}
+use Rattle.flight_steps.specs.world_standing.world_rules.Stands.{number}
+use Rattle.flight_steps.specs.world_standing.world_promise.JobLaws.{needs}
+use Rattle.flight_steps.specs.world_standing.world_images.Promised.{IsKept}
+use Rattle.flight_steps.specs.world_standing.world_steps.Steps.{flights_of, LetsJobsBe}
 use Rattle.flight_steps.specs.posix_orders.Orders.{AreTwoEach}
 use Rattle.flight_changes.specs.world_lent.Back.{IsPutBack}
-use Rattle.world_standing.specs.Standing.{Kept, StandsAt}
+use Rattle.flight_steps.specs.world_standing.Standing.{Kept, StandsAt}
 
 -- by these words the bytes of the map of a file are zero, from one place on and before another
 abbrev pub AreZeros : Volume → ℕ → ℕ → ℕ → Words → Type 0

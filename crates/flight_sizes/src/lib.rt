@@ -19,3 +19,5 @@ pub fn a_file_gets_another_size_in_flight()
     ensures done { StandsSized }
     ensures cut { KeepsSized }
 {}
+
+pub use log_mount;

@@ -13,12 +13,12 @@ use Rattle.disk_rules.specs.Placed.{block_at, IsOutside}
 use Rattle.disk_rules.specs.Volume.{extents, Volume}
 use Rattle.block_bytes.specs.Overwrites.{IsBeside, IsBesideBlocks, IsOverwrittenWhole, StandsIn}
 use Rattle.k_rules.specs.Stands.{IsOldOrNew}
-use Rattle.k_split.specs.Bytes.{IsWrittenOver, tail_zeros, zeros_behind}
+use Rattle.world_relinks.specs.k_split.Bytes.{IsWrittenOver, tail_zeros, zeros_behind}
 use Rattle.volume_facts.specs.ImageLaws.{journaled-other}
 use Rattle.volume_facts.specs.LineWords.{data_word, data_word-not_journaled}
-use Rattle.volume_uses.specs.OwnerLaws.{IsOnePlace, one_owner}
-use Rattle.world_promise.specs.Lent.{in_data, once_named}
-use Rattle.world_rules.specs.Stands.{IsSane}
+use Rattle.flight_changes.specs.volume_uses.OwnerLaws.{IsOnePlace, one_owner}
+use Rattle.flight_changes.specs.world_promise.Lent.{in_data, once_named}
+use Rattle.flight_changes.specs.world_rules.Stands.{IsSane}
 use Rattle.flight_changes.proofs.Words.{same_block}
 use Rattle.flight_zeros.proofs.Reading.{SameBut}
 

@@ -12,14 +12,14 @@ use Rattle.posix_words.specs.Nodes.{node_at}
 use Rattle.posix_spec.specs.State.{State}
 use Rattle.list_facts.specs.Filters.{filter-In}
 use Rattle.list_facts.specs.Members.{In}
-use Rattle.world_rules.specs.Jobs.{Job, JobsStand, live_claims}
-use Rattle.world_rules.specs.Stands.{is_used, IsUsed, LogStands, number, Stands}
-use Rattle.world_promise.specs.JobLaws.{live_used}
-use Rattle.world_promise.specs.Landed.{NodeStands-same, SameFile}
-use Rattle.world_promise.specs.Latest.{latest-In}
-use Rattle.world_promise.specs.TreeRules.{used_below}
-use Rattle.world_jobs.specs.PlaceSteps.{staging_below}
-use Rattle.world_steps.specs.Worlds.{IsWorld}
+use Rattle.flight_changes.specs.world_rules.Jobs.{Job, JobsStand, live_claims}
+use Rattle.flight_changes.specs.world_rules.Stands.{is_used, IsUsed, LogStands, number, Stands}
+use Rattle.flight_changes.specs.world_promise.JobLaws.{live_used}
+use Rattle.flight_changes.specs.world_promise.Landed.{NodeStands-same, SameFile}
+use Rattle.flight_changes.specs.world_promise.Latest.{latest-In}
+use Rattle.flight_changes.specs.world_promise.TreeRules.{used_below}
+use Rattle.flight_changes.specs.world_jobs.PlaceSteps.{staging_below}
+use Rattle.flight_changes.specs.world_steps.Worlds.{IsWorld}
 
 -- the bytes of the blocks that maps have, but those of one block from a place on
 pub record SameBut (v : Volume) (x place off : ℕ) (f g : Words) : Type 0 where

@@ -15,31 +15,31 @@ use Rattle.extent_words.specs.Extents.{disk_at, is_within}
 use Rattle.block_bytes.specs.Overwrites.{IsOverwrittenWhole}
 use Rattle.data_route.specs.Reads.{source_by, source_of}
 use Rattle.file_overlay.specs.Runs.{place_in}
-use Rattle.file_reads.specs.Reads.{block_in, block_of}
+use Rattle.world_standing.specs.file_reads.Reads.{block_in, block_of}
 use Rattle.file_table.specs.Files.{runs_in, size_in}
 use Rattle.flight_changes.specs.Changes.{AreSpare}
 use Rattle.flight_changes.proofs.Words.{same_block}
 use Rattle.k_rules.specs.Stands.{IsOldOrNew}
 use Rattle.k_rules.specs.View.{View}
-use Rattle.k_split.specs.Bytes.{tail_zeros}
-use Rattle.k_split.specs.MapChanges.{ChangesMaps, IsMapDone, IsPreallocatedWith}
+use Rattle.world_relinks.specs.k_split.Bytes.{tail_zeros}
+use Rattle.world_relinks.specs.k_split.MapChanges.{ChangesMaps, IsMapDone, IsPreallocatedWith}
 use Rattle.list_facts.specs.Filters.{filter-In}
 use Rattle.list_facts.specs.Members.{In}
-use Rattle.overlay_facts.proofs.Overlays.{overlay_is_log, source_is_log}
-use Rattle.overlay_facts.specs.Overlays.{run_of}
+use Rattle.world_standing.proofs.overlay_facts_proofs.Overlays.{overlay_is_log, source_is_log}
+use Rattle.world_standing.specs.overlay_facts.Overlays.{run_of}
 use Rattle.posix_words.specs.Open.{Tables}
 use Rattle.posix_spec.specs.State.{State}
-use Rattle.staging_files.specs.declared.runs.StageRun.{StageRun}
-use Rattle.staging_files.specs.Keeps.{Staged}
-use Rattle.staging_files.specs.Reserves.{IsGiven, share}
-use Rattle.world_images.specs.Changed.{sound_headed}
-use Rattle.world_promise.specs.Latest.{latest-In}
-use Rattle.world_promise.specs.Lent.{disk_of-in_data}
-use Rattle.world_promise.specs.TreeRules.{used_below}
-use Rattle.world_jobs.specs.PlaceSteps.{staging_below}
-use Rattle.world_rules.specs.Jobs.{live_claims}
-use Rattle.world_rules.specs.Stands.{is_used, IsSane}
-use Rattle.world_steps.specs.Worlds.{IsWorld}
+use Rattle.world_standing.specs.staging_files.declared.runs.StageRun.{StageRun}
+use Rattle.world_standing.specs.staging_files.Keeps.{Staged}
+use Rattle.world_standing.specs.staging_files.Reserves.{IsGiven, share}
+use Rattle.flight_changes.specs.world_images.Changed.{sound_headed}
+use Rattle.flight_changes.specs.world_promise.Latest.{latest-In}
+use Rattle.flight_changes.specs.world_promise.Lent.{disk_of-in_data}
+use Rattle.flight_changes.specs.world_promise.TreeRules.{used_below}
+use Rattle.flight_changes.specs.world_jobs.PlaceSteps.{staging_below}
+use Rattle.flight_changes.specs.world_rules.Jobs.{live_claims}
+use Rattle.flight_changes.specs.world_rules.Stands.{is_used, IsSane}
+use Rattle.flight_changes.specs.world_steps.Worlds.{IsWorld}
 use Rattle.world_standing.specs.Standing.{Kept, StandsAt}
 use Rattle.flight_zeros.specs.Laws.{ReservedReadZero, ZeroedReadZero}
 use Rattle.flight_zeros.specs.Zeros.{block_end, ReadZero}

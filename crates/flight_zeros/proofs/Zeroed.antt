@@ -19,33 +19,33 @@ use Rattle.disk_places.specs.Places.{Geometry, is_data_block, is_journaled_line,
 use Rattle.disk_rules.specs.Content.{entry_of_block, size_of}
 use Rattle.disk_rules.specs.Volume.{extents, Volume}
 use Rattle.file_overlay.specs.Runs.{place_in}
-use Rattle.file_reads.specs.Reads.{block_of}
+use Rattle.world_standing.specs.file_reads.Reads.{block_of}
 use Rattle.file_table.specs.Files.{runs_in, size_in}
-use Rattle.flight_facts.specs.Flying.{IsFlying}
-use Rattle.flight_facts.proofs.Readable.{flies_readable}
+use Rattle.world_standing.specs.flight_facts.Flying.{IsFlying}
+use Rattle.world_standing.proofs.flight_facts_proofs.Readable.{flies_readable}
 use Rattle.k_rules.specs.Stands.{Stands}
 use Rattle.k_rules.specs.View.{View}
-use Rattle.k_split.specs.Bytes.{IsWrittenOver, Overwrites, tail_zeros}
-use Rattle.k_split.specs.Loans.{MayLend}
-use Rattle.k_split.specs.Order.{IsInOrder}
+use Rattle.world_relinks.specs.k_split.Bytes.{IsWrittenOver, Overwrites, tail_zeros}
+use Rattle.world_relinks.specs.k_split.Loans.{MayLend}
+use Rattle.world_relinks.specs.k_split.Order.{IsInOrder}
 use Rattle.list_facts.specs.Filters.{filter-In}
 use Rattle.list_facts.specs.Members.{In}
-use Rattle.overlay_facts.proofs.Overlays.{source_is_log}
-use Rattle.overlay_facts.specs.Overlays.{run_of}
+use Rattle.world_standing.proofs.overlay_facts_proofs.Overlays.{source_is_log}
+use Rattle.world_standing.specs.overlay_facts.Overlays.{run_of}
 use Rattle.posix_words.specs.Open.{Tables}
 use Rattle.posix_spec.specs.Run.{run}
 use Rattle.posix_spec.specs.State.{State}
-use Rattle.staging_files.specs.Keeps.{Agrees}
+use Rattle.world_standing.specs.staging_files.Keeps.{Agrees}
 use Rattle.volume_facts.specs.LineWords.{data_word, data_word-not_journaled}
-use Rattle.world_jobs.specs.PlaceSteps.{staging_below}
-use Rattle.world_promise.specs.Latest.{latest-In}
-use Rattle.world_promise.specs.Lent.{in_data}
-use Rattle.world_rules.specs.Jobs.{begun_of, live_claims}
-use Rattle.world_steps.specs.Worlds.{IsWorld}
-use Rattle.world_images.specs.Changed.{ShowsLog-same, sound_headed}
-use Rattle.world_images.specs.Images.{HasLogHome, IsHeaded, ShowsWorld}
-use Rattle.world_images.specs.Promised.{IsKept}
-use Rattle.world_lent.specs.Flights.{leads_before, ShowsBack}
+use Rattle.flight_changes.specs.world_jobs.PlaceSteps.{staging_below}
+use Rattle.flight_changes.specs.world_promise.Latest.{latest-In}
+use Rattle.flight_changes.specs.world_promise.Lent.{in_data}
+use Rattle.flight_changes.specs.world_rules.Jobs.{begun_of, live_claims}
+use Rattle.flight_changes.specs.world_steps.Worlds.{IsWorld}
+use Rattle.flight_changes.specs.world_images.Changed.{ShowsLog-same, sound_headed}
+use Rattle.flight_changes.specs.world_images.Images.{HasLogHome, IsHeaded, ShowsWorld}
+use Rattle.flight_changes.specs.world_images.Promised.{IsKept}
+use Rattle.flight_changes.specs.world_lent.Flights.{leads_before, ShowsBack}
 use Rattle.world_standing.specs.Standing.{file_state, Kept, LinesStand, StandsAt}
 use Rattle.flight_changes.proofs.Devices.{image_of, kept_leading, shows_back, small_lap}
 use Rattle.flight_changes.proofs.Words.{headed_changed, same_log}

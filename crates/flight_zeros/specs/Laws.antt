@@ -6,23 +6,23 @@ use Rattle.disk_lines.specs.declared.Kind.TheVariants.{File}
 use Rattle.disk_places.specs.Places.{Geometry}
 use Rattle.disk_rules.specs.Volume.{extents, inode}
 use Rattle.extent_words.specs.Extents.{disk_at}
-use Rattle.file_reads.specs.Reads.{block_in}
+use Rattle.world_standing.specs.file_reads.Reads.{block_in}
 use Rattle.file_table.specs.Files.{runs_in}
 use Rattle.k_rules.specs.View.{View}
-use Rattle.k_split.specs.Bytes.{IsOverwriteCut, IsOverwriteDone, tail_zeros}
-use Rattle.k_split.specs.Loans.{MayLend}
+use Rattle.world_relinks.specs.k_split.Bytes.{IsOverwriteCut, IsOverwriteDone, tail_zeros}
+use Rattle.world_relinks.specs.k_split.Loans.{MayLend}
 use Rattle.posix_types.specs.declared.call.Mode.{Mode}
 use Rattle.posix_types.specs.declared.item.Item.{Item}
 use Rattle.posix_words.specs.Open.{Tables}
 use Rattle.posix_spec.specs.Run.{Begun, run}
 use Rattle.posix_spec.specs.State.{State}
-use Rattle.staging_files.specs.declared.runs.StageFault.{StageFault}
-use Rattle.staging_files.specs.declared.runs.StageRun.{StageRun}
-use Rattle.staging_files.specs.Keeps.{Staged}
-use Rattle.staging_files.specs.Reserves.{IsReserveAnswer}
-use Rattle.world_rules.specs.Jobs.{begun_of}
-use Rattle.world_images.specs.Promised.{IsKept}
-use Rattle.world_lent.specs.Back.{IsPutBack}
+use Rattle.world_standing.specs.staging_files.declared.runs.StageFault.{StageFault}
+use Rattle.world_standing.specs.staging_files.declared.runs.StageRun.{StageRun}
+use Rattle.world_standing.specs.staging_files.Keeps.{Staged}
+use Rattle.world_standing.specs.staging_files.Reserves.{IsReserveAnswer}
+use Rattle.flight_changes.specs.world_rules.Jobs.{begun_of}
+use Rattle.flight_changes.specs.world_images.Promised.{IsKept}
+use Rattle.flight_changes.specs.world_lent.Back.{IsPutBack}
 use Rattle.world_standing.specs.Standing.{Kept, StandsAt}
 use Rattle.flight_zeros.specs.Zeros.{block_end, MayZero, ReadZero, staged_place}
 

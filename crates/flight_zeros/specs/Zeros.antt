@@ -7,11 +7,11 @@ use Rattle.disk_lines.specs.declared.Kind.TheVariants.{File}
 use Rattle.disk_rules.specs.Content.{byte_in}
 use Rattle.disk_rules.specs.Volume.{inode}
 use Rattle.file_overlay.specs.Runs.{staged_at}
-use Rattle.file_reads.specs.Reads.{block_in}
+use Rattle.world_standing.specs.file_reads.Reads.{block_in}
 use Rattle.file_table.specs.Files.{Files, runs_in, size_in}
 use Rattle.k_rules.specs.View.{View}
 use Rattle.list_facts.specs.Members.{In}
-use Rattle.world_rules.specs.Jobs.{Job}
+use Rattle.flight_changes.specs.world_rules.Jobs.{Job}
 use Rattle.world_standing.specs.Standing.{Kept}
 
 -- THE BYTES READ ZERO: those of the file from a place on up to another, by what is staged of it and its map, in each image.

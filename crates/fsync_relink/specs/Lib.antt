@@ -13,3 +13,5 @@ pub use Rattle.world_relinks.specs.world_room as world_room
 pub use Rattle.world_relinks.specs.world_rules as world_rules
 pub use Rattle.world_relinks.specs.world_runs as world_runs
 pub use Rattle.world_relinks.specs.world_steps as world_steps
+pub use Rattle.world_relinks.specs.posix_frames as posix_frames
+pub use Rattle.world_relinks.specs.world_log as world_log

@@ -7,3 +7,5 @@ pub use Rattle.world_room.specs.world_jobs as world_jobs
 pub use Rattle.world_room.specs.world_promise as world_promise
 pub use Rattle.world_room.specs.world_rules as world_rules
 pub use Rattle.world_room.specs.world_steps as world_steps
+pub use Rattle.world_images.specs.world_beginning as world_beginning
+pub use Rattle.world_room.specs.world_spaces as world_spaces

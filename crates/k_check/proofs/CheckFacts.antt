@@ -7,8 +7,8 @@ use Rattle.disk_rules.specs.Broken.{at_one, Holds, HoldAll, FailsFirst, BreaksFi
 use Rattle.disk_rules.specs.Checked.{HasHead}
 use Rattle.disk_rules.specs.Rules.{geometry_of, CanRecover, IsChecked}
 use Rattle.disk_rules.specs.Volume.{Volume, volume}
-use Rattle.image_facts.specs.BrokenLaws.{HoldAll-append, BreaksFirst-behind, BreaksFirst-before}
-use Rattle.image_facts.specs.CheckedLaws.{checked-HoldAll, checked-unbroken}
+use Rattle.volume_check.specs.image_facts.BrokenLaws.{HoldAll-append, BreaksFirst-behind, BreaksFirst-before}
+use Rattle.volume_check.specs.image_facts.CheckedLaws.{checked-HoldAll, checked-unbroken}
 use Rattle.volume_facts.specs.ReadingLaws.{volume-geometry}
 use Rattle.volume_check.specs.Readings.{AreTables, front_rules}
 use Rattle.volume_check.specs.declared.reading.Tables.{Tables}

@@ -28,4 +28,5 @@ mod rules;
 pub use checking::check;
 pub use crashes::crash_image;
 pub use recovery::live_log;
-pub use volume_check::{BadImage, CheckFault};
+pub use volume_check;
+pub use volume_check::{BadImage, CheckFault, k_reading};

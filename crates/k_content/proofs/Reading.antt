@@ -23,11 +23,11 @@ use Rattle.disk_rules.specs.Live.{is_directory}
 use Rattle.disk_rules.specs.Reading.{Reads, slot_for}
 use Rattle.disk_rules.specs.Rules.{IsInData, IsKindAt, file_blocks_of}
 use Rattle.disk_rules.specs.Volume.{Volume, extents, free_inode, inode}
-use Rattle.name_facts.specs.ForestLaws.{up-parent, up-top}
-use Rattle.name_facts.specs.KeptLaws.{HasAllLines, kept-forest, kept-keyed, kept-named, kept-placed, reads-all_lines}
-use Rattle.name_facts.specs.RowLaws.{row-below}
+use Rattle.k_tables.specs.name_facts.ForestLaws.{up-parent, up-top}
+use Rattle.k_tables.specs.name_facts.KeptLaws.{HasAllLines, kept-forest, kept-keyed, kept-named, kept-placed, reads-all_lines}
+use Rattle.k_tables.specs.name_facts.RowLaws.{row-below}
 use Rattle.posix_words.specs.Names.{longest_path}
-use Rattle.volume_names.specs.TreeLaws.{one-depth, up-of_walk}
+use Rattle.k_tables.specs.volume_names.TreeLaws.{one-depth, up-of_walk}
 use Rattle.k_content.specs.Files.{IsInside}
 use Rattle.k_content.specs.Laws.{HaveTrees}
 use Rattle.k_content.specs.Trees.{HasTree}

@@ -5,3 +5,4 @@ pub mod Maps
 pub mod PlanLaws
 pub mod Plans
 pub mod WrittenLaws
+pub use Rattle.volume_uses.specs as volume_uses

@@ -12,20 +12,20 @@ use Rattle.disk_places.specs.Places.{is_data_block, reserve}
 use Rattle.disk_rules.specs.Volume.{chain, extents, inode}
 use Rattle.extent_words.specs.declared.Extent.{Extent}
 use Rattle.k_journal.specs.declared.batches.Entry.{Entry}
-use Rattle.k_land.specs.Plans.{NewChain}
+use Rattle.k_plans.specs.k_land.Plans.{NewChain}
 use Rattle.k_plans.specs.Free.{free_blocks, is_free_block}
 use Rattle.k_plans.specs.Switching.{IsSetAside, WaitOnce}
 use Rattle.k_plans.specs.View.{TablesView}
 use Rattle.k_plans.specs.Whole.{IsWhole}
 use Rattle.map_rules.specs.Changes.{Fills, IsFilled}
 use Rattle.map_rules.specs.Taken.{AreLowest, switched, with_map}
-use Rattle.volume_maps.specs.Bounds.{map-bound, own-data, own-once}
-use Rattle.volume_maps.specs.Hits.{in_chain-append}
-use Rattle.volume_maps.specs.Switches.{unused-data, unused-owners}
-use Rattle.volume_maps.specs.TakenLaws.{AreLowest-append, rising-once}
-use Rattle.volume_uses.specs.OwnerLaws.{uses-le-owners}
-use Rattle.volume_uses.specs.UseLaws.{length-uses_by}
-use Rattle.volume_uses.specs.Uses.{in_chain, in_map}
+use Rattle.k_plans.specs.volume_maps.Bounds.{map-bound, own-data, own-once}
+use Rattle.k_plans.specs.volume_maps.Hits.{in_chain-append}
+use Rattle.k_plans.specs.volume_maps.Switches.{unused-data, unused-owners}
+use Rattle.k_plans.specs.volume_maps.TakenLaws.{AreLowest-append, rising-once}
+use Rattle.k_plans.specs.volume_uses.OwnerLaws.{uses-le-owners}
+use Rattle.k_plans.specs.volume_uses.UseLaws.{length-uses_by}
+use Rattle.k_plans.specs.volume_uses.Uses.{in_chain, in_map}
 use Rattle.k_map_plans.specs.Going.{HasGoneOver, MayGoOver}
 use Rattle.k_map_plans.specs.Plans.{IsLiveFile}
 use Rattle.k_map_plans.proofs.Goings.{aside-once, aside-unused, aside-volume, left-free}

@@ -18,18 +18,18 @@ use Rattle.extent_facts.specs.Counts.{length-le}
 use Rattle.extent_words.specs.declared.Extent.{Extent}
 use Rattle.extent_words.specs.Extents.{IsCanonical}
 use Rattle.k_journal.specs.declared.batches.Entry.{Entry}
-use Rattle.k_land.specs.Plans.{NewChain, Turns, new_at}
-use Rattle.k_land.specs.WrittenLaws.{blocks_of-one}
+use Rattle.k_plans.specs.k_land.Plans.{NewChain, Turns, new_at}
+use Rattle.k_plans.specs.k_land.WrittenLaws.{blocks_of-one}
 use Rattle.k_plans.specs.Free.{is_free_block}
 use Rattle.k_plans.specs.Switching.{IsMapPlan, IsSetAside, WaitOnce}
 use Rattle.k_plans.specs.View.{TablesView}
 use Rattle.k_plans.specs.Whole.{IsWhole}
 use Rattle.map_rules.specs.Taken.{AreLowest, switched, with_map}
 use Rattle.volume_facts.specs.Changes.{chain-set_same}
-use Rattle.volume_maps.specs.Hits.{in_chain-append}
-use Rattle.volume_maps.specs.Switches.{MaySwitch, counted-among, unused-data}
-use Rattle.volume_maps.specs.TakenLaws.{All-at, rising-distinct, rising-once}
-use Rattle.volume_uses.specs.Uses.{in_chain, in_map, is_unused}
+use Rattle.k_plans.specs.volume_maps.Hits.{in_chain-append}
+use Rattle.k_plans.specs.volume_maps.Switches.{MaySwitch, counted-among, unused-data}
+use Rattle.k_plans.specs.volume_maps.TakenLaws.{All-at, rising-distinct, rising-once}
+use Rattle.k_plans.specs.volume_uses.Uses.{in_chain, in_map, is_unused}
 use Rattle.k_map_plans.specs.Going.{MayGoOver}
 
 -- ---- blocks that are set aside

@@ -18,9 +18,9 @@ use Rattle.k_plans.specs.View.{TablesView}
 use Rattle.k_plans.specs.Whole.{IsWhole}
 use Rattle.map_rules.specs.Changes.{with_size}
 use Rattle.map_rules.specs.Taken.{with_map}
-use Rattle.volume_maps.specs.Bounds.{part-bound}
-use Rattle.volume_maps.specs.Hits.{in_map-parts}
-use Rattle.volume_uses.specs.Uses.{in_chain}
+use Rattle.k_plans.specs.volume_maps.Bounds.{part-bound}
+use Rattle.k_plans.specs.volume_maps.Hits.{in_map-parts}
+use Rattle.k_plans.specs.volume_uses.Uses.{in_chain}
 use Rattle.k_map_plans.specs.Going.{MayGoOver}
 use Rattle.k_map_plans.specs.Plans.{IsLiveFile}
 

@@ -12,7 +12,7 @@ use Rattle.disk_rules.specs.Rules.{file_blocks_of}
 use Rattle.disk_rules.specs.Volume.{Volume, extents, inode}
 use Rattle.extent_words.specs.declared.Extent.{Extent}
 use Rattle.k_journal.specs.declared.batches.Entry.{Entry}
-use Rattle.k_land.specs.Plans.{NewChain}
+use Rattle.k_plans.specs.k_land.Plans.{NewChain}
 use Rattle.k_plans.specs.View.{TablesView}
 use Rattle.k_plans.specs.Whole.{IsWhole}
 use Rattle.block_counts.specs.Counts.{chains_for}
@@ -23,12 +23,12 @@ use Rattle.k_plans.specs.Switching.{IsMapPlan, IsSetAside, WaitOnce}
 use Rattle.map_rules.specs.Changes.{aged, HasInOrder, IsPreallocated}
 use Rattle.map_rules.specs.Taken.{switched, with_map}
 use Rattle.std.specs.List.{list_any}
-use Rattle.volume_maps.specs.Bounds.{map-bound}
-use Rattle.volume_maps.specs.Hits.{in_chain-append, in_map-in_order}
-use Rattle.volume_maps.specs.Shorts.{in_order-below}
-use Rattle.volume_maps.specs.Switches.{unused-data}
-use Rattle.volume_maps.specs.TakenLaws.{AreLowest-append, rising-once}
-use Rattle.volume_uses.specs.Uses.{in_chain, in_map, is_unused}
+use Rattle.k_plans.specs.volume_maps.Bounds.{map-bound}
+use Rattle.k_plans.specs.volume_maps.Hits.{in_chain-append, in_map-in_order}
+use Rattle.k_plans.specs.volume_maps.Shorts.{in_order-below}
+use Rattle.k_plans.specs.volume_maps.Switches.{unused-data}
+use Rattle.k_plans.specs.volume_maps.TakenLaws.{AreLowest-append, rising-once}
+use Rattle.k_plans.specs.volume_uses.Uses.{in_chain, in_map, is_unused}
 use Rattle.k_map_plans.specs.Going.{HasGoneOver, MayGoOver}
 use Rattle.k_map_plans.specs.Plans.{IsStagingFile}
 use Rattle.k_map_plans.proofs.Goings.{aside-once, aside-unused, aside-volume, left-free}

@@ -8,12 +8,12 @@ use Rattle.disk_lines.specs.Lines.{is_inode}
 use Rattle.disk_rules.specs.Rules.{file_blocks_of}
 use Rattle.disk_rules.specs.Volume.{chain, extents, inode}
 use Rattle.k_journal.specs.declared.batches.Entry.{Entry}
-use Rattle.k_land.specs.Plans.{NewChain}
+use Rattle.k_plans.specs.k_land.Plans.{NewChain}
 use Rattle.k_plans.specs.Free.{free_blocks, is_free_block}
 use Rattle.k_plans.specs.Switching.{IsMapPlan, WaitOnce}
 use Rattle.k_plans.specs.View.{TablesView}
 use Rattle.map_rules.specs.Taken.{AreLowest, switched, with_map}
-use Rattle.volume_uses.specs.Uses.{in_chain, in_map}
+use Rattle.k_plans.specs.volume_uses.Uses.{in_chain, in_map}
 
 -- The inode keeps its kind, a file's or a staging file's, and may have this line with any map. What it has then and what is
 -- freed of its map is what it had, with the blocks that wait. There is room for the new chain.

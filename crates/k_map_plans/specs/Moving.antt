@@ -6,7 +6,7 @@ use Rattle.k_plans.specs.View.{TablesView}
 use Rattle.map_rules.specs.Changes.{with_length}
 use Rattle.map_rules.specs.Taken.{switched}
 use Rattle.map_rules.specs.declared.moves.Move.{Move}
-use Rattle.volume_maps.specs.Switches.{MaySwitch}
+use Rattle.k_plans.specs.volume_maps.Switches.{MaySwitch}
 
 -- the volume without the blocks that leave the staging file, and the one with them in the file
 abbrev pub left_volume : Move → List Extent → List ℕ → Volume → Volume

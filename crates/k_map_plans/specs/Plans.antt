@@ -6,7 +6,7 @@ use Rattle.disk_places.specs.Places.{reserve}
 use Rattle.disk_rules.specs.Volume.{Volume, chain, extents, inode}
 use Rattle.extent_words.specs.declared.Extent.{Extent}
 use Rattle.k_journal.specs.declared.batches.Entry.{Entry}
-use Rattle.k_land.specs.Plans.{NewChain}
+use Rattle.k_plans.specs.k_land.Plans.{NewChain}
 use Rattle.k_plans.specs.Free.{free_blocks, is_free_block}
 use Rattle.k_plans.specs.Switching.{IsMapPlan}
 use Rattle.k_plans.specs.View.{TablesView}

@@ -5,13 +5,13 @@ ghost use Rattle.k_map_plans.specs.Plans.{fill_row, IsFillPlan, IsLiveFile, IsNo
 ghost use Rattle.k_plans.specs.Free.{is_free_block};
 ghost use Rattle.k_plans.specs.Switching.{IsMapPlan, WaitOnce};
 ghost use Rattle.map_rules.specs.Changes.{Fills, holes, IsFilled};
-ghost use Rattle.volume_uses.specs.Uses.{in_chain, in_map};
+ghost use Rattle.k_plans.specs.volume_uses.Uses.{in_chain, in_map};
 
 use crate::going::go_over;
 use extent_map::{Extent, ExtentMap};
 use k_journal::Batch;
-use k_land::NewMap;
 use k_plans::Tables;
+use k_plans::k_land::NewMap;
 use posix_types::{Room, What};
 use std::alloc::{AllocError, Global};
 

@@ -9,8 +9,8 @@ use block_counts::chains_for;
 use disk_lines::Inode;
 use extent_map::{Extent, ExtentMap};
 use k_journal::Batch;
-use k_land::NewMap;
 use k_plans::Tables;
+use k_plans::k_land::NewMap;
 use std::alloc::{AllocError, Global};
 
 /// Sets blocks for a chain aside, gives the inode this line and this map, and plans it. The old

@@ -2,7 +2,7 @@
 ghost use Rattle.std.specs.Prelude.{◌≡◌, ◌<◌, ◌+◌, ◌^◌, ℕ, All, OnOk};
 ghost use Rattle.extent_facts.specs.Counts.{one_if};
 ghost use Rattle.extent_words.specs.Extents.{is_within, IsExtent};
-ghost use Rattle.volume_uses.specs.Uses.{in_chain, in_map};
+ghost use Rattle.k_plans.specs.volume_uses.Uses.{in_chain, in_map};
 
 use extent_map::Extent;
 use std::alloc::AllocError;

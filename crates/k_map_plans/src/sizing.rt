@@ -12,8 +12,8 @@ use crate::going::go_over;
 use block_counts::blocks_for;
 use disk_lines::Inode;
 use k_journal::Batch;
-use k_land::NewMap;
 use k_plans::Tables;
+use k_plans::k_land::NewMap;
 use std::alloc::{AllocError, Global};
 
 // Cuts the map of a file and gives it the size. What the file has no longer waits then. After an

@@ -11,8 +11,8 @@ use crate::going::go_over;
 use disk_lines::Inode;
 use extent_map::{Extent, ExtentMap};
 use k_journal::Batch;
-use k_land::NewMap;
 use k_plans::Tables;
+use k_plans::k_land::NewMap;
 use std::alloc::{AllocError, Global};
 
 // Takes the map of a staging file away. Its blocks wait then. After an error nothing is changed.

@@ -3,8 +3,8 @@ use Rattle.std.proofs.Common.{◌≡◌, ◌+◌, ◌<◌, ◌≤◌, ℕ, List,
 use Rattle.block_pool.specs.FreeSets.{FreeSet}
 use Rattle.disk_rules.specs.Reading.{base_set}
 use Rattle.disk_rules.specs.Volume.{Volume}
-use Rattle.volume_changes.specs.MapLaws.{base-keeps}
-use Rattle.volume_uses.specs.OwnerLaws.{owners-base}
+use Rattle.volume_maps.specs.volume_changes.MapLaws.{base-keeps}
+use Rattle.k_land.specs.volume_uses.OwnerLaws.{owners-base}
 use Rattle.k_journal.specs.declared.batches.Entry.{Entry}
 use Rattle.k_land.specs.PlanLaws.{turns-none}
 use Rattle.k_land.specs.Plans.{NewChain, Turns}

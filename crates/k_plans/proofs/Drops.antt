@@ -17,15 +17,15 @@ use Rattle.disk_rules.specs.Volume.{Volume, chain, extents, inode}
 use Rattle.extent_words.specs.declared.Extent.{Extent}
 use Rattle.extent_words.specs.Extents.{covers, holds_disk}
 use Rattle.k_rules.specs.Changes.{dropped, gone_node}
-use Rattle.volume_changes.specs.Changes.{MayDrop}
-use Rattle.volume_changes.specs.CountLaws.{gone_node-fits}
-use Rattle.volume_changes.specs.LineLaws.{lines-inode, maps-inode}
-use Rattle.volume_changes.specs.MapLaws.{dropped-keeps}
+use Rattle.volume_maps.specs.volume_changes.Changes.{MayDrop}
+use Rattle.volume_maps.specs.volume_changes.CountLaws.{gone_node-fits}
+use Rattle.volume_maps.specs.volume_changes.LineLaws.{lines-inode, maps-inode}
+use Rattle.volume_maps.specs.volume_changes.MapLaws.{dropped-keeps}
 use Rattle.volume_facts.specs.Changes.{chain-set_other, chain-set_same, extents-set_other}
-use Rattle.volume_uses.specs.OwnerLaws.{one_use, uses-le-owners}
-use Rattle.volume_uses.specs.PoolLaws.{covered-in_data, has_none-some, is_unused-given, is_unused-others}
-use Rattle.volume_uses.specs.UseLaws.{covers-in_map, in_chain-at, in_chain-some, in_chain-two, in_map-at, in_map-covers, in_map-two, length-uses_by}
-use Rattle.volume_uses.specs.Uses.{in_chain, in_map, is_unused}
+use Rattle.k_land.specs.volume_uses.OwnerLaws.{one_use, uses-le-owners}
+use Rattle.k_land.specs.volume_uses.PoolLaws.{covered-in_data, has_none-some, is_unused-given, is_unused-others}
+use Rattle.k_land.specs.volume_uses.UseLaws.{covers-in_map, in_chain-at, in_chain-some, in_chain-two, in_map-at, in_map-covers, in_map-two, length-uses_by}
+use Rattle.k_land.specs.volume_uses.Uses.{in_chain, in_map, is_unused}
 use Rattle.k_plans.specs.Free.{AreTables, is_free_block}
 use Rattle.k_plans.specs.Giving.{AreGiven, MayGiveChain, MayGiveMap, is_held}
 use Rattle.k_plans.specs.Plans.{KeepsStaged}

@@ -6,10 +6,10 @@ use Rattle.disk_lines.specs.Names.{IsBelow, is_child, names_of, row as row_at, u
 use Rattle.disk_lines.specs.TableLaws.{is_child-parts}
 use Rattle.disk_rules.specs.Volume.{Volume}
 use Rattle.volume_facts.specs.Lists.{count_by-some}
-use Rattle.name_facts.specs.ForestLaws.{up-parent, up-top}
-use Rattle.name_facts.specs.KeptLaws.{kept-one_name, kept-placed}
-use Rattle.name_facts.specs.SetLaws.{parent_of-none, parent_of-one_name}
-use Rattle.volume_changes.specs.CallLaws.{IsKeptVolume}
+use Rattle.k_tables.specs.name_facts.ForestLaws.{up-parent, up-top}
+use Rattle.k_tables.specs.name_facts.KeptLaws.{kept-one_name, kept-placed}
+use Rattle.k_tables.specs.name_facts.SetLaws.{parent_of-none, parent_of-one_name}
+use Rattle.volume_maps.specs.volume_changes.CallLaws.{IsKeptVolume}
 
 none-some : (o : Option ℕ) (n : ℕ) → o ≡ None → o ≡ Some n → ⊥
 none-some o n none some = cc

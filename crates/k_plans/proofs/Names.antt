@@ -7,7 +7,7 @@ use Rattle.std.specs.Prelude.{nat_le, nat_lt, not, ◌&&◌}
 use Rattle.std.specs.List.{list_all, list_any}
 use Rattle.disk_lines.specs.Lines.{is_dots, is_name, is_name_byte}
 use Rattle.posix_words.specs.Names.{is_root, last_name, longest_path, too_long}
-use Rattle.volume_names.specs.TreeLaws.{some-names}
+use Rattle.k_tables.specs.volume_names.TreeLaws.{some-names}
 use Rattle.path_spelling.specs.Spelling.{AreSpelled, is_spelled}
 
 short-name : (name : List ℕ) → is_spelled name ≡ true → nat_lt 48 (length name) ≡ false → is_name name ≡ true

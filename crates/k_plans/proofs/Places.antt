@@ -17,11 +17,11 @@ use Rattle.k_rules.specs.Changes.{new_node}
 use Rattle.k_tables.specs.Found.{IsPlace}
 use Rattle.k_tables.specs.declared.making.Place.{Place}
 use Rattle.posix_words.specs.Names.{last_name}
-use Rattle.volume_changes.specs.CallLaws.{may-make, row_to}
-use Rattle.volume_changes.specs.Changes.{MayMake}
-use Rattle.volume_changes.specs.CountLaws.{made-owners, new_node-fits}
-use Rattle.volume_changes.specs.FoundLaws.{IsLowestFree, free-found, make-keeps}
-use Rattle.volume_changes.specs.LineLaws.{lines-node, lines-row, maps-node, maps-row}
+use Rattle.volume_maps.specs.volume_changes.CallLaws.{may-make, row_to}
+use Rattle.volume_maps.specs.volume_changes.Changes.{MayMake}
+use Rattle.volume_maps.specs.volume_changes.CountLaws.{made-owners, new_node-fits}
+use Rattle.volume_maps.specs.volume_changes.FoundLaws.{IsLowestFree, free-found, make-keeps}
+use Rattle.volume_maps.specs.volume_changes.LineLaws.{lines-node, lines-row, maps-node, maps-row}
 use Rattle.k_plans.specs.Free.{AreTables}
 use Rattle.k_plans.specs.Making.{kind_of, made_at}
 use Rattle.k_plans.specs.Plans.{IsPlan}

@@ -11,10 +11,10 @@ use Rattle.k_land.specs.Plans.{Turns}
 use Rattle.k_rules.specs.Changes.{gone_node, removed, unnamed}
 use Rattle.k_tables.specs.Found.{IsDirectoryAt, IsFileAt}
 use Rattle.k_tables.specs.declared.removing.Entry.{Entry}
-use Rattle.name_facts.specs.KeptLaws.{node-below}
-use Rattle.volume_changes.specs.CountLaws.{gone_node-fits, removed-owners, unnamed-owners}
-use Rattle.volume_changes.specs.FoundLaws.{rmdir-keeps, unlink-keeps}
-use Rattle.volume_changes.specs.LineLaws.{lines-node, lines-row, maps-node, maps-row}
+use Rattle.k_tables.specs.name_facts.KeptLaws.{node-below}
+use Rattle.volume_maps.specs.volume_changes.CountLaws.{gone_node-fits, removed-owners, unnamed-owners}
+use Rattle.volume_maps.specs.volume_changes.FoundLaws.{rmdir-keeps, unlink-keeps}
+use Rattle.volume_maps.specs.volume_changes.LineLaws.{lines-node, lines-row, maps-node, maps-row}
 use Rattle.k_plans.specs.Free.{AreTables}
 use Rattle.k_plans.specs.Plans.{IsPlan}
 use Rattle.k_plans.specs.View.{TablesView, with_volume}

@@ -14,19 +14,19 @@ use Rattle.k_rules.specs.Spaces.{is_directory_in, volume_space}
 use Rattle.k_tables.specs.Found.{IsEntryAt, IsMoving, IsTargetAt}
 use Rattle.k_tables.specs.declared.removing.Entry.{Entry}
 use Rattle.k_tables.specs.declared.renaming.Moving.{Moving}
-use Rattle.name_facts.specs.KeptLaws.{kept-keyed, node-below}
-use Rattle.name_facts.specs.RowLaws.{names_of-zero}
-use Rattle.name_facts.specs.SetLaws.{row-freed}
+use Rattle.k_tables.specs.name_facts.KeptLaws.{kept-keyed, node-below}
+use Rattle.k_tables.specs.name_facts.RowLaws.{names_of-zero}
+use Rattle.k_tables.specs.name_facts.SetLaws.{row-freed}
 use Rattle.posix_types.specs.declared.reply.Errno.{Errno}
 use Rattle.posix_words.specs.NameRows.{rename_rows}
 use Rattle.posix_words.specs.Names.{Space, child_of, last_name, walk}
 use Rattle.posix_words.specs.Outcomes.{first}
-use Rattle.volume_changes.specs.CallLaws.{may-rename, row_to}
-use Rattle.volume_changes.specs.CountLaws.{gone_node-fits}
-use Rattle.volume_changes.specs.FoundLaws.{rename-keeps, rename-over_directory-keeps, rename-over_file-keeps, row-found}
-use Rattle.volume_changes.specs.LineLaws.{lines-node, lines-row, maps-node, maps-row}
-use Rattle.volume_names.specs.Paths.{CanReplace, IsAt, IsNewAt, MayGo}
-use Rattle.volume_names.specs.RenameLaws.{rename-may}
+use Rattle.volume_maps.specs.volume_changes.CallLaws.{may-rename, row_to}
+use Rattle.volume_maps.specs.volume_changes.CountLaws.{gone_node-fits}
+use Rattle.volume_maps.specs.volume_changes.FoundLaws.{rename-keeps, rename-over_directory-keeps, rename-over_file-keeps, row-found}
+use Rattle.volume_maps.specs.volume_changes.LineLaws.{lines-node, lines-row, maps-node, maps-row}
+use Rattle.k_tables.specs.volume_names.Paths.{CanReplace, IsAt, IsNewAt, MayGo}
+use Rattle.k_tables.specs.volume_names.RenameLaws.{rename-may}
 use Rattle.path_spelling.specs.Spelling.{AreSpelled}
 use Rattle.k_plans.specs.Whole.{IsWhole}
 use Rattle.k_plans.proofs.Names.{last-fits}

@@ -11,11 +11,11 @@ use Rattle.disk_rules.specs.Volume.{Volume, chain}
 use Rattle.extent_words.specs.declared.Extent.{Extent}
 use Rattle.extent_words.specs.Extents.{IsCanonical}
 use Rattle.map_rules.specs.Taken.{switched, with_map}
-use Rattle.volume_changes.specs.LineLaws.{lines-inode, maps-inode}
+use Rattle.volume_maps.specs.volume_changes.LineLaws.{lines-inode, maps-inode}
 use Rattle.volume_facts.specs.Changes.{chain-set_other, chain-set_same}
 use Rattle.volume_maps.specs.Switches.{MaySwitch, StandsWith, counted-among, switched-chain, switched-free, switched-keeps, unused-data, wait-once, wait-unused, among-counted}
-use Rattle.volume_uses.specs.UseLaws.{in_chain-at, in_chain-two}
-use Rattle.volume_uses.specs.Uses.{in_chain, is_unused}
+use Rattle.k_land.specs.volume_uses.UseLaws.{in_chain-at, in_chain-two}
+use Rattle.k_land.specs.volume_uses.Uses.{in_chain, is_unused}
 use Rattle.k_plans.specs.Free.{AreTables, is_free_block}
 use Rattle.k_plans.specs.Giving.{AreGiven, MayGiveChain}
 use Rattle.k_plans.specs.Switching.{IsSetAside, WaitOnce, switched_tables, with_waiting}

@@ -18,7 +18,7 @@ use Rattle.disk_rules.specs.Volume.{Volume, inode}
 use Rattle.k_journal.specs.declared.batches.Entry.{Entry}
 use Rattle.k_land.specs.Plans.{Turns}
 use Rattle.volume_facts.specs.Changes.{inode-set_same, inode-set_other}
-use Rattle.volume_uses.specs.Uses.{is_unused}
+use Rattle.k_land.specs.volume_uses.Uses.{is_unused}
 use Rattle.k_plans.specs.Free.{AreTables}
 use Rattle.k_plans.specs.Plans.{IsPlan, KeepsStaged}
 use Rattle.k_plans.specs.View.{TablesView, with_volume}

@@ -3,7 +3,7 @@ use Rattle.std.specs.Prelude.{◌≡◌, ℕ, Bool, true, not, ◌&&◌, length,
 use Rattle.std.specs.List.{range_with_len}
 use Rattle.block_pool.specs.FreeSets.{FreeSet, is_among, is_free_at}
 use Rattle.disk_places.specs.Places.{data_blocks, first_data}
-use Rattle.volume_uses.specs.Uses.{is_unused}
+use Rattle.k_land.specs.volume_uses.Uses.{is_unused}
 use Rattle.k_plans.specs.View.{TablesView}
 use Rattle.k_plans.specs.Whole.{IsWhole}
 

@@ -10,7 +10,7 @@ use Rattle.k_tables.specs.Found.{IsPlace}
 use Rattle.k_tables.specs.declared.making.Place.{Place}
 use Rattle.posix_words.specs.NameRows.{mkdir_rows}
 use Rattle.posix_words.specs.Outcomes.{first}
-use Rattle.volume_changes.specs.CallLaws.{row_to}
+use Rattle.volume_maps.specs.volume_changes.CallLaws.{row_to}
 use Rattle.k_plans.specs.Plans.{IsPlan, IsNotMade}
 use Rattle.k_plans.specs.View.{TablesView}
 use Rattle.k_plans.specs.declared.faults.PlanFault.{PlanFault}

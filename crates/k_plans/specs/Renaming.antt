@@ -13,7 +13,7 @@ use Rattle.posix_types.specs.declared.item.Outcome.{Outcome}
 use Rattle.posix_types.specs.declared.reply.Reply.{Reply}
 use Rattle.posix_words.specs.NameRows.{rename_rows}
 use Rattle.posix_words.specs.Outcomes.{answer, first}
-use Rattle.volume_changes.specs.CallLaws.{row_to}
+use Rattle.volume_maps.specs.volume_changes.CallLaws.{row_to}
 use Rattle.k_plans.specs.Plans.{IsPlan, IsFaultOf, IsNotMade}
 use Rattle.k_plans.specs.View.{TablesView}
 use Rattle.k_plans.specs.declared.faults.PlanFault.{PlanFault}

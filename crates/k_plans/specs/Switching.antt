@@ -9,7 +9,7 @@ use Rattle.k_journal.specs.declared.batches.Entry.{Entry}
 use Rattle.k_land.specs.Maps.{AreApart, write_steps}
 use Rattle.k_land.specs.Plans.{NewChain, Turns, blocks_of, new_at}
 use Rattle.map_rules.specs.Taken.{AreLowest, switched}
-use Rattle.volume_uses.specs.Uses.{in_chain, is_unused}
+use Rattle.k_land.specs.volume_uses.Uses.{in_chain, is_unused}
 use Rattle.k_plans.specs.Free.{is_free_block}
 use Rattle.k_plans.specs.View.{TablesView}
 use Rattle.k_plans.specs.Whole.{IsWhole}

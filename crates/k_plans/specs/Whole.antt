@@ -3,8 +3,8 @@ use Rattle.std.specs.Prelude.{◌≡◌, ℕ, All, true}
 use Rattle.disk_lines.specs.Lines.{is_inode}
 use Rattle.disk_places.specs.Places.{is_data_block}
 use Rattle.disk_rules.specs.Volume.{Volume, inode, chain}
-use Rattle.volume_changes.specs.CallLaws.{IsKeptVolume}
-use Rattle.volume_uses.specs.Uses.{HasAllMaps}
+use Rattle.volume_maps.specs.volume_changes.CallLaws.{IsKeptVolume}
+use Rattle.k_land.specs.volume_uses.Uses.{HasAllMaps}
 
 -- The volume keeps the rules, with all its lines and maps and numbers in range; each of its inodes may stand in a line, and
 -- each chain is in data blocks.

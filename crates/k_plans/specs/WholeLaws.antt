@@ -10,8 +10,8 @@ use Rattle.disk_lines.specs.Lines.{is_inode}
 use Rattle.disk_rules.specs.Kept.{AreKept}
 use Rattle.disk_rules.specs.Reading.{Reads}
 use Rattle.disk_rules.specs.Volume.{Volume, free_inode, inode, chain}
-use Rattle.name_facts.specs.KeptLaws.{reads-all_lines}
-use Rattle.volume_uses.specs.PoolLaws.{reads-all_maps}
+use Rattle.k_tables.specs.name_facts.KeptLaws.{reads-all_lines}
+use Rattle.k_land.specs.volume_uses.PoolLaws.{reads-all_maps}
 use Rattle.k_plans.specs.Whole.{IsWhole}
 
 none-in_data : (g : Geometry) (blocks : List ℕ) → blocks ≡ [] → All (λ b. is_data_block g b ≡ true) blocks

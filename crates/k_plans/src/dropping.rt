@@ -7,7 +7,7 @@ ghost use Rattle.k_plans.specs.Giving.{AreGiven, MayGiveChain, MayGiveMap, is_he
 ghost use Rattle.k_plans.specs.Plans.{IsPlan};
 ghost use Rattle.k_plans.specs.View.{with_volume};
 ghost use Rattle.k_rules.specs.Changes.{dropped};
-ghost use Rattle.volume_changes.specs.Changes.{MayDrop};
+ghost use Rattle.volume_maps.specs.volume_changes.Changes.{MayDrop};
 
 use crate::giving::{give_chain, give_map};
 use crate::removing::gone_node;

@@ -25,4 +25,6 @@ mod switching;
 mod tables;
 
 pub use faults::PlanFault;
+pub use k_land;
+pub use k_reading;
 pub use tables::{Tables, nodes_are_made_behind_the_staging_files, tables_begin_with_what_is_read};

@@ -11,7 +11,7 @@ ghost use Rattle.k_plans.specs.View.{with_volume};
 ghost use Rattle.k_rules.specs.Changes.{new_node};
 ghost use Rattle.k_tables.specs.Found.{IsPlace};
 ghost use Rattle.posix_words.specs.Names.{is_root};
-ghost use Rattle.volume_changes.specs.CallLaws.{row_to};
+ghost use Rattle.volume_maps.specs.volume_changes.CallLaws.{row_to};
 
 use crate::faults::{PlanFault, fault_of};
 use crate::tables::Tables;

@@ -14,7 +14,7 @@ ghost use Rattle.k_tables.specs.Found.{IsMoving};
 ghost use Rattle.k_tables.specs.Refusals.{outcome_of};
 ghost use Rattle.posix_words.specs.NameRows.{rename_rows};
 ghost use Rattle.posix_words.specs.Outcomes.{first};
-ghost use Rattle.volume_changes.specs.CallLaws.{row_to};
+ghost use Rattle.volume_maps.specs.volume_changes.CallLaws.{row_to};
 
 use crate::faults::{PlanFault, fault_of};
 use crate::making::name_line;

@@ -2,11 +2,11 @@
 ghost use Rattle.std.specs.Prelude.{◌≡◌, ◌%◌, length};
 
 use image_layout::Geometry;
-use k_reading::fresh_image;
+use k_check::k_reading::fresh_image;
+use k_check::volume_check::{BadImage, Tables, read_volume};
 use pm_lines::Pm;
 use std::alloc::{AllocError, Global};
 use std::test::Fail;
-use volume_check::{BadImage, Tables, read_volume};
 
 // Reads the device of some bytes.
 fn read_bytes(alloc: Global, bytes: &[u8]) -> Result<Result<Tables, BadImage>, AllocError>

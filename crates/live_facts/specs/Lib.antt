@@ -8,3 +8,4 @@ pub use Rattle.world_runs.specs.world_log as world_log
 pub use Rattle.world_runs.specs.world_promise as world_promise
 pub use Rattle.world_runs.specs.world_rules as world_rules
 pub use Rattle.world_runs.specs.world_steps as world_steps
+pub use Rattle.world_runs.specs.posix_frames as posix_frames

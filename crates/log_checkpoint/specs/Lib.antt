@@ -13,3 +13,5 @@ pub use Rattle.staging_files.specs.k_map_plans as k_map_plans
 pub use Rattle.staging_files.specs.k_plans as k_plans
 pub use Rattle.staging_files.specs.k_split as k_split
 pub use Rattle.staging_files.specs.volume_uses as volume_uses
+pub use Rattle.fsync_relink.specs.posix_frames as posix_frames
+pub use Rattle.fsync_relink.specs.world_log as world_log

@@ -27,7 +27,7 @@ fn begin_bare_lap(
     requires on { GoesOn k.old }
     requires single { AllStagedSingle k.old }
     requires next { HasNextLap k.old }
-    ensures steps { Steps (2 ^ 18) power.old power.new }
+    ensures steps { Steps (2 ^ 17 + 2 ^ 15) power.old power.new }
     ensures paid { IsPublishPaid power.new result }
     ensures answer { IsLapAnswer k.old staging.new k.new result }
 {
@@ -52,7 +52,7 @@ fn begin_bare_lap(
 ///
 /// # Steps
 ///
-/// At most 2^15 for each run and for each file, and 2^18.
+/// At most 2^15 for each run and for each file, and five times 2^15.
 pub fn gather(
     alloc: Global,
     k: &mut KSplit,
@@ -65,7 +65,7 @@ pub fn gather(
     requires may { k.old.lost ≡ false → MayGather files.old k.old }
     requires single { k.old.lost ≡ false → AllStagedSingle k.old }
     requires next { k.old.lost ≡ false → HasNextLap k.old }
-    ensures steps { Steps (2 ^ 15 * (total_runs files.old + file_count k.old.volume + 8))
+    ensures steps { Steps (2 ^ 15 * (total_runs files.old + file_count k.old.volume + 5))
         power.old power.new }
     ensures paid { IsPublishPaid power.new result }
     ensures answer { IsGatherAnswer files.old k.old staging.new files.new k.new result }

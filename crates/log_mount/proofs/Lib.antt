@@ -6,3 +6,5 @@ pub mod Trims
 pub mod Resets
 pub mod Showing
 pub mod Mounting
+pub use Rattle.log_replay.proofs as log_replay_proofs
+pub use Rattle.log_replay.proofs.world_relinks_proofs as world_relinks_proofs

@@ -1,10 +1,10 @@
 //! Why a device is not mounted.
 ghost use Rattle.std.specs.Prelude.{◌≡◌};
 
+use k_check::volume_check::BadImage;
 use pm_lines::Pm;
 use std::alloc::AllocError;
 use thiserror::Error;
-use volume_check::BadImage;
 
 /// Why a device is not mounted.
 #[derive(Debug, Drop, Error)]

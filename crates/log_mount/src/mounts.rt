@@ -24,6 +24,7 @@ use crate::trimming::trim;
 use crate::unstaging::unstage;
 use disk_lines::Draft;
 use image_layout::Geometry;
+use k_check::volume_check::CheckFault;
 use k_check::{check, live_log};
 use k_journal::journal::recover;
 use k_journal::{Commit, Recovered};
@@ -32,7 +33,6 @@ use log_replay::{in_order, replay};
 use pm_lines::{Pm, Power};
 use staging_files::k_split::KSplit;
 use std::alloc::{AllocError, Global};
-use volume_check::CheckFault;
 
 // Nothing is staged any more, and no map goes past the end of its file.
 fn sweep(alloc: Global, k: &mut KSplit, power: &mut Power) -> Result<Commit, AllocError>

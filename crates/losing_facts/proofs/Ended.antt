@@ -9,15 +9,15 @@ use Rattle.pm_words.specs.Cells.{cell, is_lent, IsCandidate, unmarked}
 use Rattle.pm_words.specs.Images.{IsImage}
 use Rattle.pm_words.specs.Parts.{put_back}
 use Rattle.pm_words.specs.Words.{Words}
-use Rattle.block_loans.proofs.SettleLaws.{puts_back}
+use Rattle.write_ends.proofs.block_loans_proofs.SettleLaws.{puts_back}
 use Rattle.disk_lines.specs.declared.Draft.{Draft}
 use Rattle.disk_places.specs.Journal.{journaled}
 use Rattle.disk_places.specs.PlaceLaws.{behind_log-not_journaled, behind_log-words}
 use Rattle.disk_places.specs.Places.{log_line}
 use Rattle.disk_rules.specs.Honest.{IsHonest}
 use Rattle.disk_rules.specs.Volume.{Volume}
-use Rattle.flight_facts.specs.Flying.{IsOut as IsOutWord}
-use Rattle.job_facts.specs.Blocks.{ArePutBack, SpellWhole}
+use Rattle.write_ends.specs.flight_facts.Flying.{IsOut as IsOutWord}
+use Rattle.write_ends.specs.job_facts.Blocks.{ArePutBack, SpellWhole}
 use Rattle.list_facts.specs.Members.{In, pushed-In}
 use Rattle.posix_puts.specs.Puts.{PutsWhole}
 use Rattle.posix_spec.specs.Run.{Begun, run}
@@ -27,16 +27,16 @@ use Rattle.posix_types.specs.declared.item.Item.{Item}
 use Rattle.posix_spec.specs.State.{State}
 use Rattle.volume_facts.specs.ImageLaws.{journaled-other}
 use Rattle.volume_facts.specs.LineWords.{data_word}
-use Rattle.k_split.proofs.LogLaws.{data_beside}
-use Rattle.k_split.specs.Laps.{IsLogWord}
-use Rattle.world_images.specs.Promised.{IsKept}
-use Rattle.world_jobs.specs.JobSteps.{Valid-front}
-use Rattle.world_lent.specs.Back.{IsPutBack}
-use Rattle.world_log.specs.Lines.{AreLinesOut}
-use Rattle.world_rules.specs.Jobs.{AreApartJobs, HoldsWhole, IsStagedIn, Job, JobStands, live_claims, staged_block, Valid}
-use Rattle.world_rules.specs.Promised.{AreWhole}
-use Rattle.world_standing.specs.Standing.{AreLinesLent, Kept, Pending}
-use Rattle.world_steps.specs.Worlds.{IsWorld}
+use Rattle.lost_devices.proofs.k_split_proofs.LogLaws.{data_beside}
+use Rattle.lost_devices.specs.k_split.Laps.{IsLogWord}
+use Rattle.write_ends.specs.world_images.Promised.{IsKept}
+use Rattle.log_checkpoint.specs.world_jobs.JobSteps.{Valid-front}
+use Rattle.write_ends.specs.world_lent.Back.{IsPutBack}
+use Rattle.log_checkpoint.specs.world_log.Lines.{AreLinesOut}
+use Rattle.log_checkpoint.specs.world_rules.Jobs.{AreApartJobs, HoldsWhole, IsStagedIn, Job, JobStands, live_claims, staged_block, Valid}
+use Rattle.log_checkpoint.specs.world_rules.Promised.{AreWhole}
+use Rattle.write_ends.specs.world_standing.Standing.{AreLinesLent, Kept, Pending}
+use Rattle.log_checkpoint.specs.world_steps.Worlds.{IsWorld}
 use Rattle.losing_facts.proofs.Pending.{IsSplit, apart_of, loans_of_entry, places_of_entry, split_in, split_of}
 use Rattle.write_ends.specs.Ends.{IsOut}
 use Rattle.write_jobs.specs.Jobs.{FilledView, loan_at}

@@ -12,13 +12,13 @@ use Rattle.lost_devices.proofs.Cuts.{left_same}
 use Rattle.lost_devices.specs.Left.{IsLeftOf}
 use Rattle.posix_types.specs.declared.call.Mode.{Mode}
 use Rattle.posix_spec.specs.Run.{Begun, run}
-use Rattle.world_images.specs.Changed.{sound_headed}
-use Rattle.world_images.specs.Kept.{kept_more}
-use Rattle.world_images.specs.Promised.{IsKept}
-use Rattle.world_lent.specs.Flights.{promise_in_flight}
-use Rattle.world_rules.specs.Jobs.{begun_of, Job, JobStands, live_claims}
-use Rattle.world_rules.specs.Stands.{number}
-use Rattle.world_standing.specs.Standing.{AreJobsOf, Pending}
+use Rattle.write_ends.specs.world_images.Changed.{sound_headed}
+use Rattle.write_ends.specs.world_images.Kept.{kept_more}
+use Rattle.write_ends.specs.world_images.Promised.{IsKept}
+use Rattle.write_ends.specs.world_lent.Flights.{promise_in_flight}
+use Rattle.log_checkpoint.specs.world_rules.Jobs.{begun_of, Job, JobStands, live_claims}
+use Rattle.log_checkpoint.specs.world_rules.Stands.{number}
+use Rattle.write_ends.specs.world_standing.Standing.{AreJobsOf, Pending}
 use Rattle.write_ends.specs.Lost.{begun_by}
 use Rattle.losing_facts.proofs.Pending.{stands_of}
 use Rattle.losing_facts.specs.Laws.{IsFoundAtCall, IsFoundLost, IsLostAlike, LosesCall}

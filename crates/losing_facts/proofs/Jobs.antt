@@ -15,17 +15,17 @@ use Rattle.disk_places.specs.Places.{is_data_block}
 use Rattle.disk_rules.specs.Rules.{AreApart, file_blocks_of}
 use Rattle.disk_rules.specs.Volume.{extents, inode, Volume}
 use Rattle.extent_facts.specs.Covers.{covers-disk_at}
-use Rattle.job_facts.specs.Blocks.{AreOut}
+use Rattle.write_ends.specs.job_facts.Blocks.{AreOut}
 use Rattle.list_facts.specs.Members.{In}
 use Rattle.posix_types.specs.declared.item.Item.{Item}
 use Rattle.posix_spec.specs.Run.{Begun}
 use Rattle.posix_spec.specs.State.{State}
-use Rattle.volume_uses.specs.OwnerLaws.{IsOnePlace, one_owner}
-use Rattle.volume_uses.specs.PoolLaws.{covered-in_data}
-use Rattle.world_promise.specs.Lent.{once_named}
-use Rattle.world_rules.specs.Jobs.{IsStagedIn, Job, JobsStand, JobStands, live_claims, staged_block}
-use Rattle.world_rules.specs.Stands.{IsSane}
-use Rattle.world_standing.specs.Standing.{AreJobsOf, HasItsBlocks, Kept, Pending}
+use Rattle.lost_devices.specs.volume_uses.OwnerLaws.{IsOnePlace, one_owner}
+use Rattle.lost_devices.specs.volume_uses.PoolLaws.{covered-in_data}
+use Rattle.log_checkpoint.specs.world_promise.Lent.{once_named}
+use Rattle.log_checkpoint.specs.world_rules.Jobs.{IsStagedIn, Job, JobsStand, JobStands, live_claims, staged_block}
+use Rattle.log_checkpoint.specs.world_rules.Stands.{IsSane}
+use Rattle.write_ends.specs.world_standing.Standing.{AreJobsOf, HasItsBlocks, Kept, Pending}
 use Rattle.losing_facts.proofs.Pending.{IsJobOf, apart_of, job_of, staging_below, stands_of}
 use Rattle.losing_facts.specs.Blocks.{AreBlocksHome, AreBlocksOut, AreHome}
 use Rattle.losing_facts.specs.Lost.{IsLostJob, IsLostWith}

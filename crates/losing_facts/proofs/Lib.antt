@@ -3,6 +3,6 @@ pub mod Jobs
 pub mod Going
 pub mod Ended
 pub mod Homes
-pub mod LogLines
-pub mod Crashed
 pub mod Stopped
+pub mod Apart
+pub use Rattle.lost_devices.proofs.k_split_proofs as k_split_proofs

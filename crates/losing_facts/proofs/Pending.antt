@@ -12,10 +12,10 @@ use Rattle.std.proofs.Common.{Bool, List, Some, [], ap, arith, cond, false, inl,
 use Rattle.std.proofs.lemmas.Bool.{cases_lt}
 use Rattle.std.proofs.lemmas.List.{get_or_past, length-map}
 use Rattle.std.specs.Prelude.{AllPairs, slice_index, slice_index_or}
-use Rattle.world_lent.specs.world_rules.Jobs.{ApartFrom, AreApartJobs, Job, JobStands, JobsStand, staged_block}
-use Rattle.world_standing.specs.Standing.{AreJobsOf, AreOfTwoThreads, HasItsBlocks, Pending}
-use Rattle.world_standing.specs.Views.{without}
-use Rattle.posix_frames.specs.Handles.{same_who-sym}
+use Rattle.write_ends.specs.world_lent.world_rules.Jobs.{ApartFrom, AreApartJobs, Job, JobStands, JobsStand, staged_block}
+use Rattle.write_ends.specs.world_standing.Standing.{AreJobsOf, AreOfTwoThreads, HasItsBlocks, Pending}
+use Rattle.write_ends.specs.world_standing.Views.{without}
+use Rattle.log_checkpoint.specs.posix_frames.Handles.{same_who-sym}
 use Rattle.write_jobs.specs.Jobs.{FilledView, blocks_of, loan_at}
 
 -- the first one and those behind it

@@ -9,20 +9,20 @@ use Rattle.disk_places.specs.Places.{Geometry}
 use Rattle.disk_rules.specs.Volume.{inode, Volume}
 use Rattle.file_overlay.specs.declared.runs.Run.{Run}
 use Rattle.file_table.specs.Files.{Files, runs_in, size_in}
-use Rattle.fsync_relink.specs.Publishes.{AreRelinked, IsPublishStopped, IsRelinkedUpTo, move_of, size_before}
+use Rattle.log_checkpoint.specs.fsync_relink.Publishes.{AreRelinked, IsPublishStopped, IsRelinkedUpTo, move_of, size_before}
 use Rattle.k_journal.specs.declared.outcomes.Commit.{Commit}
 use Rattle.k_rules.specs.View.{View}
-use Rattle.k_split.specs.Answers.{IsOff}
-use Rattle.k_split.specs.Laps.{IsBaseAnswer, next_base}
-use Rattle.k_split.specs.MapChanges.{IsGivenUpWith, IsMapAnswer, IsMovedWith, IsSizedWith}
-use Rattle.k_split.specs.Order.{IsInOrder}
-use Rattle.k_split.specs.declared.faults.KFault.{KFault}
+use Rattle.lost_devices.specs.k_split.Answers.{IsOff}
+use Rattle.lost_devices.specs.k_split.Laps.{IsBaseAnswer, next_base}
+use Rattle.lost_devices.specs.k_split.MapChanges.{IsGivenUpWith, IsMapAnswer, IsMovedWith, IsSizedWith}
+use Rattle.lost_devices.specs.k_split.Order.{IsInOrder}
+use Rattle.lost_devices.specs.k_split.declared.faults.KFault.{KFault}
 use Rattle.log_checkpoint.specs.Gathers.{AreDone, AreDoneUpTo, IsGatheredTo, IsLapAnswer, IsLineDone}
 use Rattle.lost_devices.proofs.Cuts.{left_map_cut, left_same, left_through}
 use Rattle.lost_devices.specs.Left.{IsLeftOf}
-use Rattle.staging_files.specs.GivesUp.{AreCutOff, AreGivenUp}
-use Rattle.staging_files.specs.Keeps.{Staged}
-use Rattle.world_images.specs.Changed.{sound_headed}
+use Rattle.log_checkpoint.specs.staging_files.GivesUp.{AreCutOff, AreGivenUp}
+use Rattle.log_checkpoint.specs.staging_files.Keeps.{Staged}
+use Rattle.write_ends.specs.world_images.Changed.{sound_headed}
 use Rattle.losing_facts.specs.Stops.{KeepsGatheredOut, KeepsOut, KeepsPublishedOut, LeavesStopped}
 use Rattle.map_rules.specs.declared.moves.Move.{Move}
 

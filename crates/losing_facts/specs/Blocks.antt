@@ -6,7 +6,7 @@ use Rattle.pm_words.specs.Parts.{Part}
 use Rattle.disk_lines.specs.declared.Draft.{Draft}
 use Rattle.disk_rules.specs.Volume.{Volume}
 use Rattle.list_facts.specs.Members.{In}
-use Rattle.world_rules.specs.Jobs.{IsStagedIn}
+use Rattle.log_checkpoint.specs.world_rules.Jobs.{IsStagedIn}
 
 -- each word of the blocks is lent; and none is
 abbrev pub AreBlocksOut : List ℕ → List Cell → Type 0

@@ -7,7 +7,7 @@ use Rattle.disk_lines.specs.declared.Draft.{Draft}
 use Rattle.disk_places.specs.Places.{log_line}
 use Rattle.disk_rules.specs.LogRule.{HoldsEntry, IsAsAtFirst}
 use Rattle.disk_rules.specs.Volume.{Volume}
-use Rattle.k_split.specs.LogLines.{AreLogLines}
+use Rattle.lost_devices.specs.k_split.LogLines.{AreLogLines}
 use Rattle.lines_out.specs.Lines.{line_at}
 use Rattle.list_facts.specs.Members.{In}
 use Rattle.oplog_tail.specs.EntryLines.{entry_words, IsPutOver}

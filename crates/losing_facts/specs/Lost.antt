@@ -7,19 +7,19 @@ use Rattle.pm_words.specs.Words.{Words}
 use Rattle.disk_places.specs.Journal.{IsSound, journaled}
 use Rattle.disk_lines.specs.declared.Draft.{Draft}
 use Rattle.disk_rules.specs.Volume.{Volume}
-use Rattle.flight_facts.specs.Flying.{IsOut}
-use Rattle.job_facts.specs.Blocks.{AreOut}
+use Rattle.write_ends.specs.flight_facts.Flying.{IsOut}
+use Rattle.write_ends.specs.job_facts.Blocks.{AreOut}
 use Rattle.list_facts.specs.Members.{In}
 use Rattle.posix_types.specs.declared.item.Item.{Item}
 use Rattle.posix_puts.specs.Puts.{PutsWhole}
 use Rattle.posix_spec.specs.Run.{Begun, run}
 use Rattle.posix_spec.specs.State.{State}
-use Rattle.world_images.specs.Promised.{IsKept}
-use Rattle.world_lent.specs.Back.{IsPutBack}
-use Rattle.world_rules.specs.Jobs.{HoldsWhole, Job}
-use Rattle.world_rules.specs.Promised.{AreWhole}
-use Rattle.world_standing.specs.Standing.{AreJobsOf, AreLinesLent, AreOfTwoThreads, HasItsBlocks, IsSpellable, Kept, Pending}
-use Rattle.world_steps.specs.Worlds.{IsWorld}
+use Rattle.write_ends.specs.world_images.Promised.{IsKept}
+use Rattle.write_ends.specs.world_lent.Back.{IsPutBack}
+use Rattle.log_checkpoint.specs.world_rules.Jobs.{HoldsWhole, Job}
+use Rattle.log_checkpoint.specs.world_rules.Promised.{AreWhole}
+use Rattle.write_ends.specs.world_standing.Standing.{AreJobsOf, AreLinesLent, AreOfTwoThreads, HasItsBlocks, IsSpellable, Kept, Pending}
+use Rattle.log_checkpoint.specs.world_steps.Worlds.{IsWorld}
 use Rattle.losing_facts.specs.Blocks.{AreHome}
 
 -- A job whose finish claimed a slot has its blocks at home, and whatever image is taken they hold what is found of it; any other one has

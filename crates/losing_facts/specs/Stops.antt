@@ -5,16 +5,16 @@ use Rattle.pm_words.specs.Frames.{SameLent}
 use Rattle.disk_places.specs.Places.{Geometry}
 use Rattle.file_overlay.specs.declared.runs.Run.{Run}
 use Rattle.file_table.specs.Files.{Files}
-use Rattle.fsync_relink.specs.Publishes.{IsPublishDone, IsPublishStopped}
+use Rattle.log_checkpoint.specs.fsync_relink.Publishes.{IsPublishDone, IsPublishStopped}
 use Rattle.k_journal.specs.declared.outcomes.Commit.{Commit}
 use Rattle.k_rules.specs.View.{View}
-use Rattle.k_split.specs.declared.faults.KFault.{KFault}
+use Rattle.lost_devices.specs.k_split.declared.faults.KFault.{KFault}
 use Rattle.log_checkpoint.specs.Gathers.{IsGatherAnswer}
 use Rattle.lost_devices.specs.Left.{IsLeftOf}
 use Rattle.posix_words.specs.Open.{Tables}
 use Rattle.posix_spec.specs.State.{State}
-use Rattle.staging_files.specs.Keeps.{Staged}
-use Rattle.world_standing.specs.Standing.{Kept, StandsAt}
+use Rattle.log_checkpoint.specs.staging_files.Keeps.{Staged}
+use Rattle.write_ends.specs.world_standing.Standing.{Kept, StandsAt}
 
 -- the same words are lent, of as many
 pub record KeepsOut (d e : List Cell) : Type 0 where

@@ -2,10 +2,8 @@
 //!
 //! What is lent is outside the device, so that the promise speaks of each image with lines and blocks put back
 //! (`IsLostWith`). The layer above may rely on this: a World that stood together is so once the power went in a
-//! call or was found off; it stays so while jobs finish or are given up, whose blocks come home; and when all
-//! that is out is handed in, in whatever order, and put back, nothing is lent any more, and the device keeps the
-//! promise for the calls that returned and those that did not (`KeepsCrashed`). With log lines at home it does so
-//! at any moment (`KeepsHome`).
+//! call or was found off; and it stays so while jobs finish or are given up, whose blocks come home. What a crash
+//! leaves of it `crash_facts` says.
 //!
 //! Lemmas alone. Stands on `write_ends`, `world_lent` and `lost_devices`.
 #![tactic(auto)]
@@ -17,14 +15,13 @@ ghost use Rattle.losing_facts.specs.Laws.{
   FinishesLost,
   GivesUpLost,
   HasBlocksOut,
+  HasLoansApart,
   IsFoundAtCall,
   IsFoundLost,
   IsLostAlike,
-  KeepsCrashed,
-  KeepsHome,
-  LinesHoldOut,
   LeavesBlocks,
   LosesCall,
+  StandsApart,
 };
 ghost use Rattle.losing_facts.specs.Stops.{KeepsGatheredOut, KeepsPublishedOut, LeavesStopped};
 
@@ -40,6 +37,8 @@ pub fn the_power_goes()
 pub fn blocks_are_out_or_at_home()
     ensures out { HasBlocksOut }
     ensures left { LeavesBlocks }
+    ensures lost_apart { HasLoansApart }
+    ensures stand_apart { StandsApart }
     ensures none { ComeHomeNone }
     ensures more { ComeHomeMore }
 {}
@@ -51,16 +50,12 @@ pub fn jobs_end_after_a_loss()
     ensures alone { ComesHomeAlone }
 {}
 
-/// All that was out is put back.
-pub fn a_crash_keeps_the_promise()
-    ensures crashed { KeepsCrashed }
-    ensures home { KeepsHome }
-    ensures lines { LinesHoldOut }
-{}
-
 /// Files are published, or stopped being so.
 pub fn publishing_leaves_what_is_out()
     ensures stopped { LeavesStopped }
     ensures published { KeepsPublishedOut }
     ensures gathered { KeepsGatheredOut }
 {}
+
+pub use write_ends;
+pub use write_ends::block_loans;

@@ -17,3 +17,5 @@ pub fn cuts_leave_devices()
     ensures maps { LeavesMapCut }
     ensures bytes { LeavesOverwritten }
 {}
+
+pub use k_split;

@@ -11,7 +11,7 @@ use Rattle.file_table.specs.Files.{ChangesFile, Files, runs_in, size_in}
 use Rattle.k_rules.specs.View.{View}
 use Rattle.list_facts.specs.Members.{In}
 use Rattle.log_checkpoint.specs.Gathers.{AreDone}
-use Rattle.staging_files.proofs.GiveUpLaws.{staging-file}
+use Rattle.log_checkpoint.proofs.staging_files_proofs.GiveUpLaws.{staging-file}
 use Rattle.map_ends.specs.Laws.{EndBegun, EndGathered, EndLaid, EndPublished, EndReserved}
 use Rattle.map_ends.proofs.Maps.{given_up_ends, MapsEnd, preallocated_ends, published_ends}
 

@@ -13,14 +13,14 @@ use Rattle.extent_words.specs.Extents.{disk_at, is_within}
 use Rattle.extent_words.specs.Maps.{IsPart}
 use Rattle.file_overlay.specs.declared.runs.Run.{Run}
 use Rattle.file_table.specs.Files.{Files, size_in}
-use Rattle.fsync_relink.specs.Publishes.{AreRelinked, IsPublishDone, move_of, size_before}
+use Rattle.log_checkpoint.specs.fsync_relink.Publishes.{AreRelinked, IsPublishDone, move_of, size_before}
 use Rattle.k_rules.specs.View.{View}
 use Rattle.list_facts.specs.Members.{In}
 use Rattle.map_rules.specs.Changes.{aged, given_up, IsMoved, IsPreallocated, IsSized, with_length, with_size}
 use Rattle.map_rules.specs.declared.moves.Move.{Move}
 use Rattle.map_rules.specs.Taken.{switched, with_map}
-use Rattle.staging_files.specs.GivesUp.{AreGivenUp}
-use Rattle.staging_files.specs.k_split.MapChanges.{is_free_in}
+use Rattle.log_checkpoint.specs.staging_files.GivesUp.{AreGivenUp}
+use Rattle.log_checkpoint.specs.staging_files.k_split.MapChanges.{is_free_in}
 
 -- no block of the map of a file lies past the size that is kept
 abbrev pub MapsEnd : Volume → Files → Type 0

@@ -8,15 +8,15 @@ use Rattle.extent_words.specs.Extents.{disk_at}
 use Rattle.file_ends.specs.Ends.{DraftEnds, FilesEnd}
 use Rattle.file_overlay.specs.declared.runs.Run.{Run}
 use Rattle.file_table.specs.Files.{ChangesFile, Files, runs_in, size_in}
-use Rattle.fsync_relink.specs.Publishes.{IsPublishDone}
+use Rattle.log_checkpoint.specs.fsync_relink.Publishes.{IsPublishDone}
 use Rattle.k_journal.specs.declared.outcomes.Commit.{Commit}
 use Rattle.k_rules.specs.View.{View}
 use Rattle.log_checkpoint.specs.k_plans.Whole.{IsWhole}
 use Rattle.log_checkpoint.specs.Gathers.{IsGatherAnswer}
-use Rattle.staging_files.specs.declared.runs.StageFault.{StageFault}
-use Rattle.staging_files.specs.declared.runs.StageRun.{StageRun}
-use Rattle.staging_files.specs.Keeps.{Staged}
-use Rattle.staging_files.specs.Reserves.{IsReserveAnswer}
+use Rattle.log_checkpoint.specs.staging_files.declared.runs.StageFault.{StageFault}
+use Rattle.log_checkpoint.specs.staging_files.declared.runs.StageRun.{StageRun}
+use Rattle.log_checkpoint.specs.staging_files.Keeps.{Staged}
+use Rattle.log_checkpoint.specs.staging_files.Reserves.{IsReserveAnswer}
 
 -- Maps that end with their files, of which nothing is staged;
 abbrev pub EndBegun : Type 0

@@ -11,11 +11,11 @@ use Rattle.file_table.specs.Files.{runs_in}
 use Rattle.k_rules.specs.View.{View}
 use Rattle.list_facts.specs.Filters.{In-filter}
 use Rattle.list_facts.specs.Members.{In}
-use Rattle.overlay_facts.specs.Overlays.{run_of}
+use Rattle.world_standing.specs.overlay_facts.Overlays.{run_of}
 use Rattle.posix_words.specs.Open.{Tables}
 use Rattle.posix_spec.specs.State.{State}
-use Rattle.world_rules.specs.Jobs.{live_claims}
-use Rattle.world_rules.specs.Stands.{entries_of}
+use Rattle.world_standing.specs.world_rules.Jobs.{live_claims}
+use Rattle.world_standing.specs.world_rules.Stands.{entries_of}
 use Rattle.world_standing.specs.Standing.{Kept, StandsAt}
 use Rattle.round_facts.proofs.Jobs.{world_now}
 

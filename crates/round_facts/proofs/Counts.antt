@@ -22,16 +22,16 @@ use Rattle.file_table.specs.Files.{nothing_laid, runs_in}
 use Rattle.k_rules.specs.View.{View}
 use Rattle.list_facts.specs.Filters.{filter-In}
 use Rattle.list_facts.specs.Members.{In}
-use Rattle.overlay_facts.specs.Overlays.{run_of}
+use Rattle.world_standing.specs.overlay_facts.Overlays.{run_of}
 use Rattle.posix_types.specs.declared.call.Who.{Who}
 use Rattle.posix_words.specs.Open.{same_who, Tables}
 use Rattle.posix_spec.specs.State.{State}
 use Rattle.script_calls.specs.Counters.{IsCounted}
-use Rattle.staging_files.specs.declared.runs.StageRun.{StageRun}
-use Rattle.staging_files.specs.Keeps.{AreApart, given_to, has_block, IsPlaced, IsStaged, Staged}
-use Rattle.world_promise.specs.Latest.{latest-In}
-use Rattle.world_rules.specs.Jobs.{live_claims}
-use Rattle.world_rules.specs.Stands.{entries_of}
+use Rattle.world_standing.specs.staging_files.declared.runs.StageRun.{StageRun}
+use Rattle.world_standing.specs.staging_files.Keeps.{AreApart, given_to, has_block, IsPlaced, IsStaged, Staged}
+use Rattle.world_standing.specs.world_promise.Latest.{latest-In}
+use Rattle.world_standing.specs.world_rules.Jobs.{live_claims}
+use Rattle.world_standing.specs.world_rules.Stands.{entries_of}
 use Rattle.world_standing.specs.Standing.{AreOfTwoThreads, Kept, Pending, StandsAt}
 
 -- ---- things with keys of their own

@@ -20,18 +20,18 @@ use Rattle.posix_puts.specs.Puts.{put_bytes, PutsWhole}
 use Rattle.posix_puts.specs.Views.{need_of}
 use Rattle.posix_spec.specs.Run.{after_call, Begun}
 use Rattle.posix_spec.specs.State.{room, State}
-use Rattle.posix_frames.specs.Flights.{InFlight, need_of-step, PutsWhole-step, waits_for-put}
-use Rattle.posix_frames.specs.Frames.{AreThreads}
-use Rattle.posix_frames.specs.Histories.{AreAllThreads, LetsAllBe-idle, outs}
-use Rattle.posix_frames.specs.Needs.{LetsAllBe, LetsBe}
+use Rattle.script_calls.specs.posix_frames.Flights.{InFlight, need_of-step, PutsWhole-step, waits_for-put}
+use Rattle.script_calls.specs.posix_frames.Frames.{AreThreads}
+use Rattle.script_calls.specs.posix_frames.Histories.{AreAllThreads, LetsAllBe-idle, outs}
+use Rattle.script_calls.specs.posix_frames.Needs.{LetsAllBe, LetsBe}
 use Rattle.crash_spec.specs.Busy.{is_busy, Out, waits_for}
-use Rattle.world_rules.specs.Jobs.{begun_of, Job, JobsStand, JobStands, live_claims}
-use Rattle.world_rules.specs.Stands.{number}
-use Rattle.world_promise.specs.JobLaws.{needs}
-use Rattle.world_steps.specs.Steps.{AreBeside, flight_of, flights_of, InFlight-job, LetsJobsBe}
-use Rattle.world_steps.specs.Touched.{only}
-use Rattle.world_steps.specs.Worlds.{IsWorld}
-use Rattle.job_facts.specs.Blocks.{SpellWhole}
+use Rattle.world_standing.specs.world_rules.Jobs.{begun_of, Job, JobsStand, JobStands, live_claims}
+use Rattle.world_standing.specs.world_rules.Stands.{number}
+use Rattle.world_standing.specs.world_promise.JobLaws.{needs}
+use Rattle.world_standing.specs.world_steps.Steps.{AreBeside, flight_of, flights_of, InFlight-job, LetsJobsBe}
+use Rattle.world_standing.specs.world_steps.Touched.{only}
+use Rattle.world_standing.specs.world_steps.Worlds.{IsWorld}
+use Rattle.world_standing.specs.job_facts.Blocks.{SpellWhole}
 use Rattle.world_standing.specs.Standing.{AreJobsOf, IsSpellable, Kept, Pending, StandsAt}
 use Rattle.world_standing.specs.Views.{SpellCall}
 

@@ -8,7 +8,7 @@ use Rattle.disk_lines.specs.declared.Draft.{Draft}
 use Rattle.disk_places.specs.Places.{Geometry}
 use Rattle.k_rules.specs.Spaces.{volume_space}
 use Rattle.k_rules.specs.View.{View}
-use Rattle.k_split.specs.Looks.{IsFound}
+use Rattle.world_standing.specs.k_split.Looks.{IsFound}
 use Rattle.list_facts.specs.Members.{In}
 use Rattle.open_numbers.proofs.Lookups.{same_opened}
 use Rattle.open_numbers.specs.Numbered.{described_as}
@@ -24,12 +24,12 @@ use Rattle.posix_words.specs.Names.{child_of, exists_at, is_root, last_name, nod
 use Rattle.posix_words.specs.Open.{describes, is_open, key_of, opened, same_who, Tables}
 use Rattle.posix_words.specs.Outcomes.{answer, first, row}
 use Rattle.posix_spec.specs.State.{space, State}
-use Rattle.posix_frames.specs.Handles.{same_who-is}
+use Rattle.script_calls.specs.posix_frames.Handles.{same_who-is}
 use Rattle.crash_spec.specs.Busy.{handle_node, is_busy, keeps_busy, Out, path_node, waits_for}
-use Rattle.world_steps.specs.Worlds.{world_mirror}
-use Rattle.world_promise.specs.JobLaws.{live_used}
-use Rattle.world_rules.specs.Stands.{is_used, IsUsed, number}
-use Rattle.world_spaces.specs.Mirrors.{Mirrors, node_at_path-same, node_at_path-used}
+use Rattle.world_standing.specs.world_steps.Worlds.{world_mirror}
+use Rattle.world_standing.specs.world_promise.JobLaws.{live_used}
+use Rattle.world_standing.specs.world_rules.Stands.{is_used, IsUsed, number}
+use Rattle.world_standing.specs.world_spaces.Mirrors.{Mirrors, node_at_path-same, node_at_path-used}
 use Rattle.world_standing.specs.Standing.{Kept, Pending, StandsAt}
 use Rattle.round_facts.specs.Busy.{file_out, files_by, found_ino, HoldsFile, IsKeeping, IsNodeOf}
 use Rattle.round_facts.proofs.Jobs.{its_job, same_who-refl, stood, waits_of, words_now, world_now}

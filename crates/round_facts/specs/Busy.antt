@@ -9,7 +9,7 @@ use Rattle.posix_types.specs.declared.reply.Errno.{Errno}
 use Rattle.posix_words.specs.Open.{Tables}
 use Rattle.posix_spec.specs.State.{State}
 use Rattle.crash_spec.specs.Busy.{is_busy, Out, waits_for}
-use Rattle.world_rules.specs.Stands.{IsUsed, number}
+use Rattle.world_standing.specs.world_rules.Stands.{IsUsed, number}
 use Rattle.world_standing.specs.Standing.{Kept, Pending, StandsAt}
 
 -- the files of the jobs that are out, with their callers, as calls wait for them

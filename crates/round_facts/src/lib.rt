@@ -6,3 +6,6 @@
 //!
 //! Stands on `world_standing` and `script_calls`.
 #![tactic(auto)]
+
+pub use script_calls;
+pub use world_standing::{k_split, staging_files};

@@ -2,7 +2,7 @@
 use Rattle.std.specs.Prelude.{◌≡◌, ℕ, false, List, Option, Some, None, option_map, Result, refl}
 use Rattle.std.proofs.Common.{sym, subst}
 use Rattle.k_rules.specs.View.{View}
-use Rattle.k_split.specs.Looks.{IsFound}
+use Rattle.round_facts.specs.k_split.Looks.{IsFound}
 use Rattle.posix_types.specs.declared.call.Call.{Call}
 use Rattle.posix_types.specs.declared.call.Who.{Who}
 use Rattle.posix_types.specs.declared.handle.Handle.{Handle}
@@ -11,7 +11,7 @@ use Rattle.posix_words.specs.declared.open.Description.{Description}
 use Rattle.posix_words.specs.Open.{opened, Tables}
 use Rattle.posix_spec.specs.State.{State}
 use Rattle.crash_spec.specs.Busy.{handle_node, is_busy, path_node, waits_for}
-use Rattle.world_standing.specs.Standing.{Pending}
+use Rattle.round_facts.specs.world_standing.Standing.{Pending}
 use Rattle.round_facts.specs.Busy.{files_by, found_ino, HoldsFile, IsKeeping, IsKept, IsNodeOf, WaitsForFile}
 use Rattle.round_facts.proofs.Waiting.{handle_waits, idle_file, idle_none, kept_waiting, path_waits}
 

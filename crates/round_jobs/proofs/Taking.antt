@@ -7,11 +7,11 @@ use Rattle.std.proofs.lemmas.Option.{same_Some}
 use Rattle.list_facts.specs.Members.{In, In-slice_get}
 use Rattle.posix_types.specs.declared.call.Who.{Who}
 use Rattle.posix_words.specs.Open.{same_who}
-use Rattle.posix_frames.specs.Handles.{same_who-is}
+use Rattle.open_files.specs.posix_frames.Handles.{same_who-is}
 use Rattle.round_facts.proofs.Counts.{pairs}
 use Rattle.round_facts.proofs.Jobs.{same_who-refl}
-use Rattle.world_standing.specs.Standing.{AreOfTwoThreads, Pending}
-use Rattle.world_standing.specs.Views.{without}
+use Rattle.round_facts.specs.world_standing.Standing.{AreOfTwoThreads, Pending}
+use Rattle.round_facts.specs.world_standing.Views.{without}
 
 pub other_who : (a b : Who) → a ≢ b → same_who a b ≡ false
 other_who a b apart = by (same_who a b) refl where

@@ -12,4 +12,6 @@ mod keeping;
 mod pending;
 
 pub use keeping::{keeper, waits_for};
+pub use open_files;
 pub use pending::{Pending, place_of, take_job};
+pub use round_facts::{k_split, script_calls, staging_files};

@@ -2,8 +2,8 @@
 ghost use Rattle.std.specs.Prelude.{◌≡◌, ◌≢◌, IfNone, IfSome, slice_get, Some, AllPairs};
 ghost use Rattle.list_facts.specs.Members.{In};
 ghost use Rattle.posix_words.specs.Open.{same_who};
-ghost use Rattle.world_standing.specs.Standing.{AreOfTwoThreads};
-ghost use Rattle.world_standing.specs.Views.{without};
+ghost use Rattle.round_facts.specs.world_standing.Standing.{AreOfTwoThreads};
+ghost use Rattle.round_facts.specs.world_standing.Views.{without};
 
 use disk_lines::Draft;
 use posix_types::{Call, Who};
@@ -20,7 +20,7 @@ pub struct Pending {
 }
 
 impl Model for Pending {
-    ghost use Rattle.world_standing.specs.Standing as standing;
+    ghost use Rattle.round_facts.specs.world_standing.Standing as standing;
 
     ghost Value = { standing.Pending };
 

@@ -13,6 +13,7 @@ use Rattle.std.proofs.lemmas.List.Quantifiers.{all_pairs_push, all_pairs_remove}
 use Rattle.extent_words.specs.Extents.{is_within}
 use Rattle.staging_files.specs.declared.runs.StageRun.{StageRun}
 use Rattle.staging_files.specs.Keeps.{AreApart, given_to, has_block, is_kept_free, IsKeptEmpty, IsPlaced, IsStaged, IsStaging, Staged}
+use Rattle.staging_files.specs.GivesUp.{nothing_staged}
 use Rattle.staging_files.specs.Reserves.{has_empty, IsFreeRun, with_given, with_out}
 
 -- what a block that is kept as free is
@@ -165,3 +166,16 @@ some-empty s x keeps is empty = list_any_at (λ n. n == 0) s.given (x - 1) 0 (om
 pub none-past : (s : Staged) (count x c : ℕ) → IsStaged s → IsStaging x → 1 ≤ count → 64 ≤ c → ¬ IsFreeRun s count x c
 none-past s count x c keeps is some past free =
     omega (arith, free-given s x c (free c (omega arith) (omega (arith, some))), keeps.most (x - 1) 0 (omega (arith, keeps.files, is.least, is.most)), past)
+
+-- ---- a staging with nothing out
+
+four_zeros : (xs : List ℕ) → length xs ≡ 4 → get_or xs 0 0 ≡ 0 → get_or xs 1 0 ≡ 0 → get_or xs 2 0 ≡ 0 → get_or xs 3 0 ≡ 0 → xs ≡ 0 ∷ 0 ∷ 0 ∷ 0 ∷ []
+four_zeros [] four a b c d = absurd (omega (arith, four))
+four_zeros (x ∷ []) four a b c d = absurd (omega (arith, four))
+four_zeros (x ∷ y ∷ []) four a b c d = absurd (omega (arith, four))
+four_zeros (x ∷ y ∷ z ∷ []) four a b c d = absurd (omega (arith, four))
+four_zeros (x ∷ y ∷ z ∷ w ∷ []) four a b c d = λ i. a i ∷ b i ∷ c i ∷ d i ∷ []
+four_zeros (x ∷ y ∷ z ∷ w ∷ u ∷ xs) four a b c d = absurd (omega (arith, four))
+
+pub fresh_is : (s : Staged) → IsStaged s → s.out ≡ [] → given_to s 1 ≡ 0 → given_to s 2 ≡ 0 → given_to s 3 ≡ 0 → given_to s 4 ≡ 0 → s ≡ nothing_staged
+fresh_is s keeps none a b c d = λ i. record { out = none i; given = four_zeros s.given keeps.files a b c d i }

@@ -1,5 +1,5 @@
 //! What a staging keeps.
-ghost use Rattle.std.specs.Prelude.{◌≡◌, length};
+ghost use Rattle.std.specs.Prelude.{◌≡◌, ◌↔◌, IsTrue, length};
 ghost use Rattle.staging_files.specs.GivesUp.{nothing_staged};
 ghost use Rattle.staging_files.specs.Keeps.{IsStaged};
 
@@ -42,5 +42,16 @@ impl Staging {
         ensures keeps { IsStaged self.now }
     {
         self.out.len() as u32
+    }
+
+    /// Whether no run is out and all four staging files are kept as empty, as after `new` and `give_up_all`.
+    pub fn is_fresh(&self) -> bool
+        ensures { IsTrue result ↔ (self.now ≡ nothing_staged) }
+    {
+        self.out.is_empty()
+            && self.given[0] == 0
+            && self.given[1] == 0
+            && self.given[2] == 0
+            && self.given[3] == 0
     }
 }

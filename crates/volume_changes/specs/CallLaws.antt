@@ -16,10 +16,10 @@ use Rattle.disk_rules.specs.Live.{is_directory}
 use Rattle.disk_rules.specs.Rules.{IsKindAt}
 use Rattle.disk_rules.specs.Volume.{Volume, inode}
 use Rattle.k_rules.specs.Spaces.{is_directory_in, volume_space}
-use Rattle.name_facts.specs.KeptLaws.{HasAllLines}
-use Rattle.name_facts.specs.RowLaws.{names_of-one_line, row-below}
-use Rattle.name_facts.specs.SetLaws.{child_named-none}
-use Rattle.name_facts.specs.WalkLaws.{walk-empty}
+use Rattle.volume_names.specs.name_facts.KeptLaws.{HasAllLines}
+use Rattle.volume_names.specs.name_facts.RowLaws.{names_of-one_line, row-below}
+use Rattle.volume_names.specs.name_facts.SetLaws.{child_named-none}
+use Rattle.volume_names.specs.name_facts.WalkLaws.{walk-empty}
 use Rattle.posix_words.specs.Names.{directory_path, is_below, last_name, longest_path, has_entries as has_entries_in, walk as walk_to}
 use Rattle.volume_changes.specs.Changes.{HasPlace, MayMake, MayUnname, MayRemove, MayRename, MayRenameOver, MayRenameOverFile, MayRenameOverDirectory}
 use Rattle.volume_changes.specs.NodeLaws.{plain-empty}

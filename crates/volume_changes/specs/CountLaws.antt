@@ -12,8 +12,8 @@ use Rattle.disk_rules.specs.Uses.{owners}
 use Rattle.disk_rules.specs.Volume.{Volume, inode, free_inode}
 use Rattle.k_rules.specs.Changes.{new_node, gone_node, made, unnamed, removed, renamed, renamed_over_file, renamed_over_directory, dropped}
 use Rattle.k_rules.specs.Spaces.{is_free, volume_space}
-use Rattle.name_facts.specs.RowLaws.{row-below}
-use Rattle.name_facts.specs.SetLaws.{free_lines-taken, free_lines-freed}
+use Rattle.volume_names.specs.name_facts.RowLaws.{row-below}
+use Rattle.volume_names.specs.name_facts.SetLaws.{free_lines-taken, free_lines-freed}
 use Rattle.volume_changes.specs.Changes.{MayMake, MayRenameOver, MayDrop}
 use Rattle.volume_facts.specs.Changes.{row-set_other}
 use Rattle.volume_facts.specs.Lists.{one_if, count_by-set}

@@ -17,7 +17,7 @@ use Rattle.disk_rules.specs.Uses.{owners, uses_by}
 use Rattle.disk_rules.specs.Volume.{Volume, inode, free_inode}
 use Rattle.k_rules.specs.Changes.{made, unnamed, removed, renamed, renamed_over_file, renamed_over_directory, dropped}
 use Rattle.k_rules.specs.Spaces.{volume_space}
-use Rattle.name_facts.specs.KeptLaws.{HasAllLines}
+use Rattle.volume_names.specs.name_facts.KeptLaws.{HasAllLines}
 use Rattle.posix_words.specs.Names.{directory_path, last_name, has_entries as has_entries_in}
 use Rattle.volume_changes.specs.CallLaws.{IsKeptVolume, row_to}
 use Rattle.volume_changes.specs.Changes.{MayMake, MayRename, MayRenameOverFile, MayRenameOverDirectory}

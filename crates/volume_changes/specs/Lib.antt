@@ -13,3 +13,5 @@ pub mod NodeLaws
 pub mod OverLaws
 pub mod Sane
 pub mod SaneLaws
+pub use Rattle.volume_names.specs.name_facts as name_facts
+pub use Rattle.volume_uses.specs as volume_uses

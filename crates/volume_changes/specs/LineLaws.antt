@@ -7,7 +7,7 @@ use Rattle.disk_lines.specs.declared.Inode.{Inode}
 use Rattle.disk_lines.specs.Lines.{NameRow}
 use Rattle.disk_rules.specs.Reading.{inode_set, node_set, row_set}
 use Rattle.disk_rules.specs.Volume.{Volume}
-use Rattle.name_facts.specs.KeptLaws.{HasAllLines}
+use Rattle.volume_names.specs.name_facts.KeptLaws.{HasAllLines}
 use Rattle.volume_uses.specs.Uses.{HasAllMaps}
 
 pub lines-row : (k : ℕ) (o : Option NameRow) (v : Volume) → HasAllLines v → HasAllLines (row_set k o v)

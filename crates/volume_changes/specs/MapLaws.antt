@@ -14,8 +14,8 @@ use Rattle.disk_rules.specs.Rules.{IsKindAt, IsInData, file_blocks_of}
 use Rattle.disk_rules.specs.Uses.{owners, uses_by}
 use Rattle.disk_rules.specs.Volume.{Volume, inode, extents, free_inode}
 use Rattle.k_rules.specs.Changes.{gone_node, dropped}
-use Rattle.name_facts.specs.KeptLaws.{HasAllLines}
-use Rattle.name_facts.specs.RowLaws.{names_of-zero}
+use Rattle.volume_names.specs.name_facts.KeptLaws.{HasAllLines}
+use Rattle.volume_names.specs.name_facts.RowLaws.{names_of-zero}
 use Rattle.volume_changes.specs.Changes.{MayDrop}
 use Rattle.volume_changes.specs.NodeLaws.{file-number, set-kinds, set-data, set-other, set-same, set-kind}
 use Rattle.volume_changes.specs.Sane.{AreSane, HasData, HasBlocksOnce, sane-kept, kept-sane}

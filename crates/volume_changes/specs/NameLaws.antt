@@ -11,9 +11,9 @@ use Rattle.disk_rules.specs.Reading.{node_set, row_set}
 use Rattle.disk_rules.specs.Rules.{file_blocks_of}
 use Rattle.disk_rules.specs.Volume.{Volume, inode, free_inode}
 use Rattle.k_rules.specs.Changes.{new_node, gone_node, made, unnamed, removed, renamed}
-use Rattle.name_facts.specs.KeptLaws.{HasAllLines, node-below}
-use Rattle.name_facts.specs.RowLaws.{row-below, has_entries-parent, names_of-zero, names_of-one_line}
-use Rattle.name_facts.specs.SetLaws.{row-freed, names_of-taken, names_of-freed, names_of-moved}
+use Rattle.volume_names.specs.name_facts.KeptLaws.{HasAllLines, node-below}
+use Rattle.volume_names.specs.name_facts.RowLaws.{row-below, has_entries-parent, names_of-zero, names_of-one_line}
+use Rattle.volume_names.specs.name_facts.SetLaws.{row-freed, names_of-taken, names_of-freed, names_of-moved}
 use Rattle.volume_changes.specs.Changes.{MayMake, MayUnname, MayRemove, MayRename}
 use Rattle.volume_changes.specs.NodeLaws.{named-used, free-unnamed, plain-empty, free-number, directory-number, node-number, node-blocks, node-named, directory-blocks, set-kinds, set-data, set-other, set-same}
 use Rattle.volume_changes.specs.Sane.{AreSane, HasKinds, sane-kept, kept-sane}

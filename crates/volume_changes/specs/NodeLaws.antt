@@ -11,7 +11,7 @@ use Rattle.disk_rules.specs.Live.{is_directory, is_file}
 use Rattle.disk_rules.specs.Reading.{node_set}
 use Rattle.disk_rules.specs.Rules.{IsKindAt, IsInData, file_blocks_of}
 use Rattle.disk_rules.specs.Volume.{Volume, inode, chain, extents, free_inode}
-use Rattle.name_facts.specs.RowLaws.{has_entries-none, names_of-none}
+use Rattle.volume_names.specs.name_facts.RowLaws.{has_entries-none, names_of-none}
 use Rattle.volume_changes.specs.Sane.{AreSane, HasKinds, HasData}
 use Rattle.volume_facts.specs.Changes.{inode-set_same, inode-set_other}
 

@@ -12,9 +12,9 @@ use Rattle.disk_rules.specs.Live.{is_directory}
 use Rattle.disk_rules.specs.Reading.{row_set}
 use Rattle.disk_rules.specs.Volume.{Volume, inode, free_inode}
 use Rattle.k_rules.specs.Changes.{gone_node, unnamed, removed, renamed_over_file, renamed_over_directory}
-use Rattle.name_facts.specs.KeptLaws.{HasAllLines}
-use Rattle.name_facts.specs.RowLaws.{has_entries-parent}
-use Rattle.name_facts.specs.SetLaws.{row-freed}
+use Rattle.volume_names.specs.name_facts.KeptLaws.{HasAllLines}
+use Rattle.volume_names.specs.name_facts.RowLaws.{has_entries-parent}
+use Rattle.volume_names.specs.name_facts.SetLaws.{row-freed}
 use Rattle.volume_changes.specs.Changes.{MayRename, MayRenameOver, MayRenameOverFile, MayRenameOverDirectory}
 use Rattle.volume_changes.specs.LineLaws.{lines-row, lines-node}
 use Rattle.volume_changes.specs.NameLaws.{unnamed-keeps, removed-keeps, renamed-keeps}

@@ -9,8 +9,8 @@ use Rattle.disk_rules.specs.Live.{is_directory}
 use Rattle.disk_rules.specs.Rules.{IsKindAt, IsNamed, IsNamedOnce, IsInData, IsRowPlaced, file_blocks_of}
 use Rattle.disk_rules.specs.Volume.{Volume, inode, extents}
 use Rattle.disk_places.specs.Places.{is_data_block}
-use Rattle.name_facts.specs.Forests.{IsForest}
-use Rattle.name_facts.specs.KeptLaws.{HasAllLines, kept-placed, kept-named, kept-keyed, kept-one_name, kept-ends}
+use Rattle.volume_names.specs.name_facts.Forests.{IsForest}
+use Rattle.volume_names.specs.name_facts.KeptLaws.{HasAllLines, kept-placed, kept-named, kept-keyed, kept-one_name, kept-ends}
 
 -- going up from the inode one comes to the root in less than 16 steps
 abbrev pub HasWayUp : Rows → ℕ → Type 0

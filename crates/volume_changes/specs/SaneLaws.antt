@@ -10,10 +10,10 @@ use Rattle.disk_rules.specs.Live.{is_directory, is_file}
 use Rattle.disk_rules.specs.Reading.{row_set}
 use Rattle.disk_rules.specs.Rules.{IsNamed}
 use Rattle.disk_rules.specs.Volume.{Volume, inode, free_inode}
-use Rattle.name_facts.specs.Forests.{SameAbove}
-use Rattle.name_facts.specs.ForestLaws.{up-unmoved, up-moved, up-taken, up-freed, meets-or_not, forest-taken, forest-freed, forest-moved}
-use Rattle.name_facts.specs.RowLaws.{row-below, has_entries-parent}
-use Rattle.name_facts.specs.SetLaws.{row-freed, names_of-taken, names_of-freed, names_of-moved, parent_of-moved, parent_of-moved_other}
+use Rattle.volume_names.specs.name_facts.Forests.{SameAbove}
+use Rattle.volume_names.specs.name_facts.ForestLaws.{up-unmoved, up-moved, up-taken, up-freed, meets-or_not, forest-taken, forest-freed, forest-moved}
+use Rattle.volume_names.specs.name_facts.RowLaws.{row-below, has_entries-parent}
+use Rattle.volume_names.specs.name_facts.SetLaws.{row-freed, names_of-taken, names_of-freed, names_of-moved, parent_of-moved, parent_of-moved_other}
 use Rattle.volume_changes.specs.Sane.{AreSane, HasWayUp}
 use Rattle.volume_facts.specs.Changes.{row-set_same, row-set_other}
 use Rattle.volume_facts.specs.Lists.{one_if}

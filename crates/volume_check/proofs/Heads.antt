@@ -8,7 +8,7 @@ use Rattle.disk_places.specs.Superblock.{has_magic, has_version, has_numbers}
 use Rattle.disk_rules.specs.Broken.{at_one, below, Holds, HoldAll, FailsFirst, BreaksFirst, head_rules}
 use Rattle.disk_rules.specs.Checked.{HasHead}
 use Rattle.disk_rules.specs.Rules.{geometry_of, IsWholeBlocks, HasMagic, HasVersion, HasNumbers, HasTarget, HasState}
-use Rattle.image_facts.specs.BrokenLaws.{BreaksFirst-before}
+use Rattle.k_reading.specs.image_facts.BrokenLaws.{BreaksFirst-before}
 use Rattle.volume_check.specs.Heads.{block_0_rules, journal_rules, IsSuperKept}
 
 -- a rule with one place holds, or fails there

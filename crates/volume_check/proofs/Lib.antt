@@ -7,3 +7,4 @@ pub mod NameFacts
 pub mod ReadFacts
 pub mod UseFacts
 pub mod Views
+pub use Rattle.k_reading.proofs as k_reading_proofs

@@ -12,7 +12,7 @@ use Rattle.disk_lines.specs.Names.{row}
 use Rattle.disk_rules.specs.Chains.{chain_of, map_of}
 use Rattle.disk_rules.specs.Rules.{IsKindAt, HasInode}
 use Rattle.disk_rules.specs.Volume.{volume, inode_at, name_at, row_of, free_inode, inode_or_free, inode}
-use Rattle.image_facts.specs.CheckedLaws.{volume-inode, volume-row}
+use Rattle.k_reading.specs.image_facts.CheckedLaws.{volume-inode, volume-row}
 use Rattle.volume_facts.specs.ReadingLaws.{volume-geometry}
 
 pub inode-kept : (j : Words) (ino : ℕ) (x : Inode) → inode_at j ino ≡ Some x → IsKindAt ino x.kind → HasInode j ino

@@ -11,7 +11,7 @@ use Rattle.disk_lines.specs.TableLaws.{is_entry-own, is_entry-parts}
 use Rattle.disk_rules.specs.Live.{is_directory}
 use Rattle.disk_rules.specs.Rules.{IsPlaced}
 use Rattle.disk_rules.specs.Volume.{Volume, inode}
-use Rattle.image_facts.specs.ClimbLaws.{ends-reaches, reaches-ends, ends_at_root-root}
+use Rattle.k_reading.specs.image_facts.ClimbLaws.{ends-reaches, reaches-ends, ends_at_root-root}
 use Rattle.volume_check.specs.Above.{HasChildBelow, HaveChildrenBelow, IsAbove, IsOnly}
 
 -- the parent in the row that a look-up finds

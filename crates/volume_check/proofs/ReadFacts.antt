@@ -16,8 +16,8 @@ use Rattle.disk_rules.specs.Checked.{HasHead}
 use Rattle.disk_rules.specs.Live.{is_file, is_directory}
 use Rattle.disk_rules.specs.Rules.{geometry_of, file_blocks_of, IsInData, IsNameSlot}
 use Rattle.disk_rules.specs.Volume.{Volume, volume, name_at, row_of, inode, chain, extents, free_inode}
-use Rattle.image_facts.specs.BrokenLaws.{HoldAll-append, BreaksFirst-behind, BreaksFirst-before}
-use Rattle.image_facts.specs.CheckedLaws.{volume-row, HoldAll-head}
+use Rattle.k_reading.specs.image_facts.BrokenLaws.{HoldAll-append, BreaksFirst-behind, BreaksFirst-before}
+use Rattle.k_reading.specs.image_facts.CheckedLaws.{volume-row, HoldAll-head}
 use Rattle.k_reading.specs.Pools.{IsOfTables}
 use Rattle.volume_facts.specs.ReadingLaws.{volume-geometry}
 use Rattle.volume_check.specs.Above.{HasChildBelow}

@@ -18,9 +18,9 @@ use Rattle.disk_rules.specs.Uses.{Use, owners}
 use Rattle.disk_rules.specs.Volume.{Volume, chain, extents}
 use Rattle.k_reading.specs.Pools.{IsOfTables}
 use Rattle.volume_facts.specs.Lists.{sum_by-agree, sum_by-add}
-use Rattle.volume_uses.specs.OwnerLaws.{length-owners}
-use Rattle.volume_uses.specs.UseLaws.{length-uses_by}
-use Rattle.volume_uses.specs.Uses.{HasAllMaps, in_chain, in_map, uses_of}
+use Rattle.k_reading.specs.volume_uses.OwnerLaws.{length-owners}
+use Rattle.k_reading.specs.volume_uses.UseLaws.{length-uses_by}
+use Rattle.k_reading.specs.volume_uses.Uses.{HasAllMaps, in_chain, in_map, uses_of}
 use Rattle.volume_check.specs.Above.{rows_rule}
 use Rattle.volume_check.specs.Marks.{AreMarks, AreFew, IsFirstTwice, uses_in}
 use Rattle.volume_check.specs.Readings.{blocks_rule, tree_rules, AreUseMarks, AreNameMarks}

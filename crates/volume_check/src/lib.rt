@@ -26,5 +26,6 @@ mod volumes;
 
 pub use blocks::count_unused;
 pub use faults::{BadImage, CheckFault};
+pub use k_reading;
 pub use reading::{Tables, read_volume};
 pub use view::view_line;

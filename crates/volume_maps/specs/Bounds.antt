@@ -14,12 +14,12 @@ use Rattle.disk_rules.specs.Kept.{AreKept}
 use Rattle.disk_rules.specs.Placed.{extent_at, no_extent}
 use Rattle.disk_rules.specs.Rules.{file_blocks_of}
 use Rattle.disk_rules.specs.Volume.{Volume, extents, inode}
-use Rattle.name_facts.specs.KeptLaws.{HasAllLines}
-use Rattle.volume_uses.specs.BoundLaws.{chains-bound}
-use Rattle.volume_uses.specs.OwnerLaws.{one_use}
-use Rattle.volume_uses.specs.PoolLaws.{covered-in_data}
-use Rattle.volume_uses.specs.UseLaws.{covers-in_map, in_map-at}
-use Rattle.volume_uses.specs.Uses.{in_map}
+use Rattle.volume_changes.specs.name_facts.KeptLaws.{HasAllLines}
+use Rattle.volume_changes.specs.volume_uses.BoundLaws.{chains-bound}
+use Rattle.volume_changes.specs.volume_uses.OwnerLaws.{one_use}
+use Rattle.volume_changes.specs.volume_uses.PoolLaws.{covered-in_data}
+use Rattle.volume_changes.specs.volume_uses.UseLaws.{covers-in_map, in_map-at}
+use Rattle.volume_changes.specs.volume_uses.Uses.{in_map}
 use Rattle.volume_maps.specs.Hits.{hits, in_map-hits, is_disk}
 
 -- ---- parts of a map

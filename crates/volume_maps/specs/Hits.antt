@@ -14,7 +14,7 @@ use Rattle.extent_facts.specs.Counts.{count_below, count_below-agree, count_belo
 use Rattle.extent_facts.specs.Facts.{IsCanonical-tail}
 use Rattle.extent_facts.specs.Spelling.{none_behind}
 use Rattle.disk_rules.specs.Placed.{block_at}
-use Rattle.volume_uses.specs.Uses.{in_chain, in_map}
+use Rattle.volume_changes.specs.volume_uses.Uses.{in_chain, in_map}
 use Rattle.map_rules.specs.Changes.{HasInOrder}
 
 -- whether a file block has the disk block

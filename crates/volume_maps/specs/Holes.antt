@@ -15,7 +15,7 @@ use Rattle.extent_words.specs.Extents.{disk_at, disk_in, holds, IsCanonical}
 use Rattle.extent_words.specs.Maps.{Replaces}
 use Rattle.map_rules.specs.Changes.{Fills, holes}
 use Rattle.volume_maps.specs.Hits.{in_chain-push, in_map-one}
-use Rattle.volume_uses.specs.Uses.{in_chain, in_map}
+use Rattle.volume_changes.specs.volume_uses.Uses.{in_chain, in_map}
 
 -- ---- the holes of a range that grows
 

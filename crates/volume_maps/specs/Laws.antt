@@ -13,10 +13,10 @@ use Rattle.disk_rules.specs.Kept.{AreKept}
 use Rattle.disk_rules.specs.Volume.{Volume, extents}
 use Rattle.map_rules.specs.Changes.{HasInOrder}
 use Rattle.map_rules.specs.Taken.{switched}
-use Rattle.name_facts.specs.KeptLaws.{HasAllLines}
+use Rattle.volume_changes.specs.name_facts.KeptLaws.{HasAllLines}
 use Rattle.volume_maps.specs.Hits.{AreAt}
 use Rattle.volume_maps.specs.Switches.{MaySwitch, StandsWith}
-use Rattle.volume_uses.specs.Uses.{in_chain, in_map, is_unused}
+use Rattle.volume_changes.specs.volume_uses.Uses.{in_chain, in_map, is_unused}
 
 -- ---- an inode goes over to a map
 

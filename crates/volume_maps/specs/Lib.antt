@@ -6,3 +6,4 @@ pub mod Lengths
 pub mod Switches
 pub mod TakenLaws
 pub mod Shorts
+pub use Rattle.volume_changes.specs as volume_changes

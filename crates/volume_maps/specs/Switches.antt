@@ -19,12 +19,12 @@ use Rattle.disk_rules.specs.Rules.{IsInData, file_blocks_of}
 use Rattle.disk_rules.specs.Uses.{owners, uses_by}
 use Rattle.disk_rules.specs.Volume.{Volume, chain, extents, inode}
 use Rattle.map_rules.specs.Taken.{switched, with_map}
-use Rattle.name_facts.specs.KeptLaws.{HasAllLines}
+use Rattle.volume_changes.specs.name_facts.KeptLaws.{HasAllLines}
 use Rattle.volume_changes.specs.MapLaws.{switch-keeps}
-use Rattle.volume_uses.specs.OwnerLaws.{uses-le-owners}
-use Rattle.volume_uses.specs.PoolLaws.{covered-in_data, has_none-length, has_none-some, is_unused-given, is_unused-others, is_unused-taken}
-use Rattle.volume_uses.specs.UseLaws.{covers-in_map, in_chain-at, in_chain-some, in_map-at, length-uses_by}
-use Rattle.volume_uses.specs.Uses.{HasAllMaps, in_chain, in_map, is_unused}
+use Rattle.volume_changes.specs.volume_uses.OwnerLaws.{uses-le-owners}
+use Rattle.volume_changes.specs.volume_uses.PoolLaws.{covered-in_data, has_none-length, has_none-some, is_unused-given, is_unused-others, is_unused-taken}
+use Rattle.volume_changes.specs.volume_uses.UseLaws.{covers-in_map, in_chain-at, in_chain-some, in_map-at, length-uses_by}
+use Rattle.volume_changes.specs.volume_uses.Uses.{HasAllMaps, in_chain, in_map, is_unused}
 
 -- ---- what it takes
 

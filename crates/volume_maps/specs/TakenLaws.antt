@@ -10,8 +10,8 @@ use Rattle.extent_facts.specs.Counts.{one_if}
 use Rattle.map_rules.specs.Taken.{AreLowest}
 use Rattle.volume_maps.specs.Hits.{in_chain-append}
 use Rattle.volume_maps.specs.Switches.{counted-among, not-among}
-use Rattle.volume_uses.specs.UseLaws.{in_chain-some}
-use Rattle.volume_uses.specs.Uses.{in_chain}
+use Rattle.volume_changes.specs.volume_uses.UseLaws.{in_chain-some}
+use Rattle.volume_changes.specs.volume_uses.Uses.{in_chain}
 
 -- rising blocks are distinct, and each is there once
 pub rising-distinct : (blocks : List ℕ) → AllPairs ◌<◌ blocks → AreDistinct blocks

@@ -9,3 +9,4 @@ pub mod RenameLaws
 pub mod RenameRefusals
 pub mod RowLists
 pub mod TreeLaws
+pub use Rattle.name_facts.specs as name_facts

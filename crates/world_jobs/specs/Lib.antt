@@ -12,3 +12,4 @@ pub use Rattle.world_log.specs.world_promise as world_promise
 pub use Rattle.world_log.specs.world_rules as world_rules
 pub use Rattle.world_steps.specs as world_steps
 pub use Rattle.world_steps.specs.posix_frames as posix_frames
+pub use Rattle.world_steps.specs.world_spaces as world_spaces

@@ -13,3 +13,5 @@ pub use Rattle.live_facts.specs.world_steps as world_steps
 pub use Rattle.map_facts.specs as map_facts
 pub use Rattle.map_facts.specs.volume_maps as volume_maps
 pub use Rattle.map_facts.specs.world_room as world_room
+pub use Rattle.live_facts.specs.posix_frames as posix_frames
+pub use Rattle.live_facts.specs.world_log as world_log

@@ -8,3 +8,4 @@ pub use Rattle.world_runs.specs.world_jobs as world_jobs
 pub use Rattle.world_runs.specs.world_promise as world_promise
 pub use Rattle.world_runs.specs.world_rules as world_rules
 pub use Rattle.world_runs.specs.world_steps as world_steps
+pub use Rattle.world_runs.specs.world_spaces as world_spaces

@@ -11,3 +11,4 @@ pub use Rattle.world_jobs.specs.world_log as world_log
 pub use Rattle.world_jobs.specs.world_promise as world_promise
 pub use Rattle.world_jobs.specs.world_rules as world_rules
 pub use Rattle.world_jobs.specs.world_steps as world_steps
+pub use Rattle.world_jobs.specs.world_spaces as world_spaces

@@ -13,3 +13,5 @@ pub use Rattle.held_sums.specs.world_promise as world_promise
 pub use Rattle.held_sums.specs.world_rules as world_rules
 pub use Rattle.staging_files.specs as staging_files
 pub use Rattle.staging_files.specs.k_split as k_split
+pub use Rattle.flight_facts.specs.world_beginning as world_beginning
+pub use Rattle.flight_facts.specs.world_spaces as world_spaces

@@ -3,3 +3,4 @@ pub mod Orders
 pub use Rattle.world_standing.proofs.flight_facts_proofs as flight_facts_proofs
 pub use Rattle.world_standing.proofs.job_facts_proofs as job_facts_proofs
 pub use Rattle.world_standing.proofs.overlay_facts_proofs as overlay_facts_proofs
+pub use Rattle.write_asks.proofs as write_asks_proofs

@@ -35,3 +35,4 @@ pub fn kept_numbers_are_those_of_the_state()
 
 pub use world_standing::{file_reads, k_split};
 pub use write_asks;
+pub use write_asks::open_files;

@@ -46,7 +46,7 @@ stays_in (x ∷ out) (suc place) run other at differs (suc k, below, is) =
     let rest = stays_in out place run other at differs (k, omega (arith, below), is) in
     (suc rest.0, omega (arith, rest.1), rest.2)
 
-one_fewer : (out : List StageRun) (place : ℕ) (run : StageRun) → slice_get out place ≡ Some run → length (remove out place) + 1 ≡ length out
+pub one_fewer : (out : List StageRun) (place : ℕ) (run : StageRun) → slice_get out place ≡ Some run → length (remove out place) + 1 ≡ length out
 one_fewer [] place run at = cc
 one_fewer (x ∷ out) zero run at = omega arith
 one_fewer (x ∷ out) (suc place) run at = omega (arith, one_fewer out place run at)

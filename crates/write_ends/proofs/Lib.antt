@@ -7,3 +7,4 @@ mod Laid
 mod Pending
 mod PowerOff
 mod Settled
+pub use Rattle.block_loans.proofs as block_loans_proofs

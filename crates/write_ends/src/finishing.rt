@@ -1,6 +1,7 @@
 //! A logged write finishes.
 ghost use Rattle.std.specs.Prelude.{◌≡◌, ◌<◌, [], ◌∷◌, ◌++◌, length, vec_len, vec_capacity};
 ghost use Rattle.block_loans.specs.Loans.{ComeBack};
+ghost use Rattle.file_table.specs.Files.{runs_in, ChangesFile};
 ghost use Rattle.world_standing.specs.overlay_facts.Overlays.{run_of};
 ghost use Rattle.write_ends.specs.Ends.{CanFinish, HasJob, HasWrite, LeavesFinished};
 
@@ -45,6 +46,9 @@ pub fn finish_write(
     ensures back { ComeBack job.loans k.old.cells k.new.cells }
     ensures same { k.new ≡ record k.old { cells = k.new.cells } }
     ensures claims { claims.new.items ≡ claims.old.items ++ (slot, job.draft) ∷ [] }
+    ensures capacity { vec_capacity claims.new ≡ vec_capacity claims.old }
+    ensures lays { ChangesFile job.draft.ino (runs_in files.old job.draft.ino ++ run_of job.draft ∷ [])
+        job.draft.size files.old files.new }
     ensures leaves { (has : HasJob k.old job) → HasWrite k.old job tables.old.tables files.old call.now has
         → LeavesFinished k.old job has slot k.new tables.new.tables files.new }
 {

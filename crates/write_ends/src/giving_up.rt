@@ -1,5 +1,5 @@
 //! A logged write is given up.
-ghost use Rattle.std.specs.Prelude.{◌≡◌};
+ghost use Rattle.std.specs.Prelude.{◌≡◌, ◌+◌, length};
 ghost use Rattle.block_loans.specs.Loans.{ComeBack};
 ghost use Rattle.world_standing.specs.Standing.{reserved_run};
 ghost use Rattle.write_ends.specs.Ends.{CanGiveUp, HasJob, LeavesGivenUp};
@@ -28,6 +28,7 @@ pub fn give_up_write(k: &mut KSplit, staging: &mut Staging, job: FilledJob)
     requires { CanGiveUp k.old job staging.old }
     ensures back { ComeBack job.loans k.old.cells k.new.cells }
     ensures same { k.new ≡ record k.old { cells = k.new.cells } }
+    ensures runs { length staging.new.out + 1 ≡ length staging.old.out }
     ensures leaves { (has : HasJob k.old job) → has.kept.staging ≡ staging.old
         → LeavesGivenUp k.old job has k.new staging.new }
 {

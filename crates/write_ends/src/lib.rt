@@ -19,6 +19,7 @@ mod finishing;
 mod giving_up;
 mod losing;
 
+pub use block_loans;
 pub use finishing::finish_write;
 pub use giving_up::give_up_write;
 pub use losing::{lose_write, the_power_may_be_off};

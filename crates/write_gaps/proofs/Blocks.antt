@@ -5,17 +5,17 @@ use Rattle.disk_rules.specs.Volume.{extents, Volume}
 use Rattle.data_route.specs.Reads.{source_by}
 use Rattle.extent_words.specs.Extents.{disk_at}
 use Rattle.file_overlay.specs.Runs.{staged_at}
-use Rattle.file_reads.specs.Reads.{block_of}
+use Rattle.flight_cleans.specs.file_reads.Reads.{block_of}
 use Rattle.file_table.specs.Files.{Files, runs_in, size_in}
 use Rattle.flight_cleans.specs.Laws.{StandsCleaned}
 use Rattle.flight_zeros.specs.Laws.{StandsToZero, StandsZeroed, ZeroedReadZero}
 use Rattle.flight_zeros.specs.Zeros.{block_end, MayZero, ReadZero, staged_place}
 use Rattle.flight_zeros.proofs.Zeroed.{staging_there}
 use Rattle.k_rules.specs.View.{View}
-use Rattle.k_split.specs.Bytes.{IsOverwriteDone, tail_zeros}
-use Rattle.k_split.specs.Loans.{MayLend}
-use Rattle.world_promise.specs.TreeRules.{used_below}
-use Rattle.world_rules.specs.Stands.{is_used}
+use Rattle.lost_devices.specs.k_split.Bytes.{IsOverwriteDone, tail_zeros}
+use Rattle.lost_devices.specs.k_split.Loans.{MayLend}
+use Rattle.flight_cleans.specs.world_promise.TreeRules.{used_below}
+use Rattle.flight_cleans.specs.world_rules.Stands.{is_used}
 use Rattle.write_gaps.specs.Gaps.{Clears, HasFile, with_files}
 
 place_in_block : (block from : ℕ) → (staged_place block from / 4096 ≡ block) × (staged_place block from % 4096 ≡ from % 4096)

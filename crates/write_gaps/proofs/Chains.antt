@@ -9,9 +9,9 @@ use Rattle.flight_zeros.specs.Zeros.{block_end, ReadZero}
 use Rattle.k_rules.specs.View.{View}
 use Rattle.list_facts.specs.Members.{In}
 use Rattle.lost_devices.proofs.Cuts.{left_through}
-use Rattle.world_images.specs.Promised.{IsKept}
-use Rattle.world_lent.specs.Back.{IsPutBack}
-use Rattle.world_rules.specs.Jobs.{begun_of}
+use Rattle.flight_cleans.specs.world_images.Promised.{IsKept}
+use Rattle.flight_cleans.specs.world_lent.Back.{IsPutBack}
+use Rattle.flight_cleans.specs.world_rules.Jobs.{begun_of}
 use Rattle.write_gaps.specs.Gaps.{Clears, HasFile, LosesGap}
 
 -- nothing lies between the end and a byte that is not behind it

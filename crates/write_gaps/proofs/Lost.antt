@@ -11,7 +11,7 @@ use Rattle.flight_cleans.specs.Laws.{KeepsCleaned}
 use Rattle.flight_zeros.specs.Laws.{KeepsZeroed}
 use Rattle.flight_zeros.specs.Zeros.{staged_place}
 use Rattle.k_rules.specs.View.{View}
-use Rattle.k_split.specs.Bytes.{IsOverwriteCut, tail_zeros}
+use Rattle.lost_devices.specs.k_split.Bytes.{IsOverwriteCut, tail_zeros}
 use Rattle.list_facts.specs.Members.{In}
 use Rattle.lost_devices.specs.Left.{IsLeftOf}
 use Rattle.lost_devices.proofs.Cuts.{left_at, left_overwritten, left_same}
@@ -20,12 +20,12 @@ use Rattle.posix_types.specs.declared.item.Item.{Item}
 use Rattle.posix_words.specs.Open.{Tables}
 use Rattle.posix_spec.specs.Run.{Begun, run}
 use Rattle.posix_spec.specs.State.{State}
-use Rattle.world_images.specs.Changed.{sound_headed}
-use Rattle.world_images.specs.Promised.{IsKept}
-use Rattle.world_lent.specs.Back.{IsPutBack}
-use Rattle.world_lent.specs.Flights.{promise_at_begin}
-use Rattle.world_rules.specs.Jobs.{begun_of, Job}
-use Rattle.world_standing.specs.Standing.{Kept, StandsAt}
+use Rattle.flight_cleans.specs.world_images.Changed.{sound_headed}
+use Rattle.flight_cleans.specs.world_images.Promised.{IsKept}
+use Rattle.flight_cleans.specs.world_lent.Back.{IsPutBack}
+use Rattle.flight_cleans.specs.world_lent.Flights.{promise_at_begin}
+use Rattle.flight_cleans.specs.world_rules.Jobs.{begun_of, Job}
+use Rattle.flight_cleans.specs.world_standing.Standing.{Kept, StandsAt}
 use Rattle.write_gaps.specs.Gaps.{LosesGap, with_files}
 
 not_posix : (m : Mode) → m ≡ Mode.Strict → m ≢ Mode.Posix

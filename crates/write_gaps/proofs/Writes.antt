@@ -5,8 +5,8 @@ use Rattle.extent_words.specs.Extents.{disk_at}
 use Rattle.disk_rules.specs.Volume.{extents, Volume}
 use Rattle.flight_zeros.specs.Zeros.{staged_place}
 use Rattle.k_rules.specs.View.{View}
-use Rattle.k_split.specs.Bytes.{IsOverwriteAnswer, IsOverwriteCut, tail_zeros, zeros_behind}
-use Rattle.k_split.specs.declared.faults.KFault.{KFault}
+use Rattle.lost_devices.specs.k_split.Bytes.{IsOverwriteAnswer, IsOverwriteCut, tail_zeros, zeros_behind}
+use Rattle.lost_devices.specs.k_split.declared.faults.KFault.{KFault}
 
 -- where they are not written, the power went
 pub lost_of : (x p : ℕ) (bytes : List ℕ) (k l : View) (fault : KFault) → IsOverwriteAnswer x p bytes k l (Err fault) → (l.cells ≡ k.cells) ⊎ IsOverwriteCut x p bytes k l

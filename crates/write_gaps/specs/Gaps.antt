@@ -11,7 +11,7 @@ use Rattle.file_table.specs.Files.{Files, size_in}
 use Rattle.flight_zeros.specs.Zeros.{block_end, ReadZero}
 use Rattle.k_journal.specs.declared.outcomes.Commit.{Commit}
 use Rattle.k_rules.specs.View.{View}
-use Rattle.k_split.specs.Bytes.{IsOverwriteCut, IsOverwriteDone, tail_zeros}
+use Rattle.lost_devices.specs.k_split.Bytes.{IsOverwriteCut, IsOverwriteDone, tail_zeros}
 use Rattle.list_facts.specs.Members.{In}
 use Rattle.lost_devices.specs.Left.{IsLeftOf}
 use Rattle.posix_types.specs.declared.call.Mode.{Mode}
@@ -19,10 +19,10 @@ use Rattle.posix_types.specs.declared.item.Item.{Item}
 use Rattle.posix_words.specs.Open.{Tables}
 use Rattle.posix_spec.specs.Run.{Begun, run}
 use Rattle.posix_spec.specs.State.{State}
-use Rattle.world_images.specs.Promised.{IsKept}
-use Rattle.world_lent.specs.Back.{IsPutBack}
-use Rattle.world_rules.specs.Jobs.{begun_of, Job}
-use Rattle.world_standing.specs.Standing.{Kept, StandsAt}
+use Rattle.flight_cleans.specs.world_images.Promised.{IsKept}
+use Rattle.flight_cleans.specs.world_lent.Back.{IsPutBack}
+use Rattle.flight_cleans.specs.world_rules.Jobs.{begun_of, Job}
+use Rattle.flight_cleans.specs.world_standing.Standing.{Kept, StandsAt}
 
 -- what the World keeps, with these files
 abbrev pub with_files : Kept → Files → Kept

@@ -5,9 +5,9 @@ ghost use Rattle.disk_lines.specs.declared.Kind.TheVariants.{File};
 ghost use Rattle.disk_rules.specs.Volume.{inode};
 ghost use Rattle.extent_words.specs.Extents.{disk_at};
 ghost use Rattle.file_table.specs.Files.{size_in};
-ghost use Rattle.k_split.specs.Bytes.{zeros_behind};
+ghost use Rattle.lost_devices.specs.k_split.Bytes.{zeros_behind};
 ghost use Rattle.flight_zeros.specs.Zeros.{staged_place};
-ghost use Rattle.k_split.specs.Loans.{MayLend};
+ghost use Rattle.lost_devices.specs.k_split.Loans.{MayLend};
 ghost use Rattle.write_gaps.specs.Gaps.{block_start, HasFile, IsBlockCleared, IsCleared, IsClearPaid, IsZeroed};
 
 use extent_map::ExtentMap;
@@ -15,7 +15,7 @@ use file_table::FileTable;
 use flight_cleans::the_end_of_a_file_is_cleaned_in_flight;
 use flight_zeros::blocks_are_zeroed_in_flight;
 use k_journal::Commit;
-use k_split::KSplit;
+use lost_devices::k_split::KSplit;
 use pm_lines::Power;
 
 // How many bytes of a file there are from byte `from` to the end of its block; none of a hole.

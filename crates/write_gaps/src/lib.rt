@@ -11,4 +11,5 @@
 
 mod gaps;
 
+pub use flight_zeros;
 pub use gaps::clear_gap;

@@ -13,30 +13,30 @@ use Rattle.disk_lines.specs.declared.Draft.{Draft}
 use Rattle.disk_lines.specs.Lines.{most_bytes}
 use Rattle.disk_rules.specs.Volume.{extents, inode, Volume}
 use Rattle.extent_words.specs.Extents.{disk_at, is_within}
-use Rattle.file_reads.specs.Reads.{FileCanBeRead}
+use Rattle.flight_begins.specs.file_reads.Reads.{FileCanBeRead}
 use Rattle.file_table.specs.Files.{Files, runs_in}
 use Rattle.crash_judge.proofs.ByteLaws.{length-resized}
-use Rattle.k_map_plans.specs.Plans.{IsStagingFile}
+use Rattle.block_loans.specs.k_map_plans.Plans.{IsStagingFile}
 use Rattle.k_rules.specs.View.{View}
-use Rattle.k_split.specs.Loans.{MayLend}
+use Rattle.block_loans.specs.k_split.Loans.{MayLend}
 use Rattle.posix_types.specs.declared.call.Who.{Who}
 use Rattle.posix_words.specs.Bytes.{overwritten}
-use Rattle.staging_files.specs.declared.runs.StageRun.{StageRun}
-use Rattle.staging_files.specs.Keeps.{given_to, IsAtHome, IsPlaced}
-use Rattle.staging_files.proofs.GiveUpLaws.{staging-file}
-use Rattle.volume_uses.specs.OwnerLaws.{IsOnePlace, one_owner}
-use Rattle.world_promise.specs.Lent.{once_named}
-use Rattle.world_promise.specs.TreeRules.{used_below}
-use Rattle.world_rules.specs.Jobs.{live_claims, staged_block}
-use Rattle.world_rules.specs.Stands.{entries_of, is_used, IsSane}
-use Rattle.world_steps.specs.Worlds.{IsWorld}
+use Rattle.flight_begins.specs.staging_files.declared.runs.StageRun.{StageRun}
+use Rattle.flight_begins.specs.staging_files.Keeps.{given_to, IsAtHome, IsPlaced}
+use Rattle.flight_begins.proofs.staging_files_proofs.GiveUpLaws.{staging-file}
+use Rattle.block_loans.specs.volume_uses.OwnerLaws.{IsOnePlace, one_owner}
+use Rattle.block_loans.specs.world_promise.Lent.{once_named}
+use Rattle.block_loans.specs.world_promise.TreeRules.{used_below}
+use Rattle.block_loans.specs.world_rules.Jobs.{live_claims, staged_block}
+use Rattle.block_loans.specs.world_rules.Stands.{entries_of, is_used, IsSane}
+use Rattle.block_loans.specs.world_steps.Worlds.{IsWorld}
 use Rattle.block_loans.specs.Loans.{AreLoansOf, MayLendAll}
-use Rattle.write_asks.specs.declared.asking.Target.{Target}
-use Rattle.write_drafts.specs.Drafts.{draft_in, DraftsAreNext, IsNextEntry, order_behind, staged_count}
+use Rattle.write_words.specs.write_asks.declared.asking.Target.{Target}
+use Rattle.write_words.specs.write_drafts.Drafts.{draft_in, DraftsAreNext, IsNextEntry, order_behind, staged_count}
 use Rattle.write_jobs.specs.Contents.{SpellBytes}
 use Rattle.write_jobs.specs.Jobs.{AreOfEntry, AreSingle, loan_at}
 use Rattle.write_words.specs.Words.{old_in, staged_in, StandsReadable}
-use Rattle.world_standing.specs.Standing.{Kept}
+use Rattle.flight_begins.specs.world_standing.Standing.{Kept}
 use Rattle.write_stages.specs.Stages.{Ready, with_parts}
 
 within_from : (first count i : ℕ) → i < count → is_within first count (first + i) ≡ true

@@ -6,9 +6,9 @@ use Rattle.std.proofs.lemmas.Bool.Decides.{nat_tests}
 use Rattle.extent_words.specs.Extents.{is_within}
 use Rattle.crash_judge.proofs.ByteLaws.{index-overwritten}
 use Rattle.posix_words.specs.Bytes.{overwritten}
-use Rattle.staging_files.specs.declared.runs.StageRun.{StageRun}
-use Rattle.staging_files.specs.Keeps.{AreApart, has_block}
-use Rattle.write_drafts.specs.Drafts.{staged_count}
+use Rattle.flight_begins.specs.staging_files.declared.runs.StageRun.{StageRun}
+use Rattle.flight_begins.specs.staging_files.Keeps.{AreApart, has_block}
+use Rattle.write_words.specs.write_drafts.Drafts.{staged_count}
 
 -- ---- blocks of a write
 

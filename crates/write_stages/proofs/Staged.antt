@@ -20,14 +20,14 @@ use Rattle.disk_rules.specs.Content.{byte_in, disk_of, size_of}
 use Rattle.disk_rules.specs.Rules.{AreApart, HasStagingBlocks}
 use Rattle.disk_rules.specs.Volume.{extents, inode, Volume}
 use Rattle.extent_words.specs.Extents.{disk_at, is_within}
-use Rattle.file_reads.specs.Reads.{block_in}
+use Rattle.flight_begins.specs.file_reads.Reads.{block_in}
 use Rattle.file_table.specs.Files.{Files, runs_in, size_in}
 use Rattle.flight_begins.specs.Laws.{MayBegin, StandsBegun, with_cells, with_job}
-use Rattle.job_facts.specs.Blocks.{GoOut, SpellWhole}
+use Rattle.block_loans.specs.job_facts.Blocks.{GoOut, SpellWhole}
 use Rattle.k_rules.specs.View.{View}
-use Rattle.k_split.specs.Order.{IsInOrder}
+use Rattle.block_loans.specs.k_split.Order.{IsInOrder}
 use Rattle.list_facts.specs.Members.{In}
-use Rattle.overlay_facts.proofs.Overlays.{overlay_is_log}
+use Rattle.flight_begins.proofs.overlay_facts_proofs.Overlays.{overlay_is_log}
 use Rattle.posix_types.specs.declared.call.Who.{Who}
 use Rattle.posix_words.specs.declared.nodes.Node.{Node}
 use Rattle.posix_words.specs.Bytes.{overwritten}
@@ -36,15 +36,15 @@ use Rattle.posix_facts.specs.FitsLaws.{length-overwritten}
 use Rattle.posix_puts.specs.Puts.{PutsWhole}
 use Rattle.posix_spec.specs.Put.{Put}
 use Rattle.posix_spec.specs.State.{State}
-use Rattle.staging_files.specs.declared.runs.StageRun.{StageRun}
-use Rattle.world_rules.specs.Jobs.{AreApartJobs, Job, JobsStand, JobStands, live_claims, staged_block, Valid}
-use Rattle.world_rules.specs.Stands.{FileStands, is_used, number, Stands}
-use Rattle.world_standing.specs.Standing.{AreJobsOf, HasItsBlocks, Kept, Pending, reserved_run, StandsAt}
-use Rattle.world_standing.specs.Views.{SpellCall}
+use Rattle.flight_begins.specs.staging_files.declared.runs.StageRun.{StageRun}
+use Rattle.block_loans.specs.world_rules.Jobs.{AreApartJobs, Job, JobsStand, JobStands, live_claims, staged_block, Valid}
+use Rattle.block_loans.specs.world_rules.Stands.{FileStands, is_used, number, Stands}
+use Rattle.flight_begins.specs.world_standing.Standing.{AreJobsOf, HasItsBlocks, Kept, Pending, reserved_run, StandsAt}
+use Rattle.flight_begins.specs.world_standing.Views.{SpellCall}
 use Rattle.block_loans.specs.Loans.{AreLentBy, AreLoansOf}
-use Rattle.write_asks.specs.declared.asking.Target.{Target}
-use Rattle.write_drafts.specs.Drafts.{DraftsAreNext, IsNextEntry, staged_count}
-use Rattle.write_drafts.proofs.Numbers.{file_node}
+use Rattle.write_words.specs.write_asks.declared.asking.Target.{Target}
+use Rattle.write_words.specs.write_drafts.Drafts.{DraftsAreNext, IsNextEntry, staged_count}
+use Rattle.write_words.proofs.write_drafts_proofs.Numbers.{file_node}
 use Rattle.write_jobs.specs.Contents.{SpellBytes}
 use Rattle.write_jobs.specs.Jobs.{blocks_of, loan_at}
 use Rattle.write_words.specs.Words.{staged_in, StagesTheFile}

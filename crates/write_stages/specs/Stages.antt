@@ -12,19 +12,19 @@ use Rattle.list_facts.specs.Members.{In}
 use Rattle.posix_types.specs.declared.call.Call.{Call}
 use Rattle.posix_types.specs.declared.call.Who.{Who}
 use Rattle.posix_words.specs.Open.{Tables}
-use Rattle.posix_frames.specs.Frames.{AreThreads}
+use Rattle.block_loans.specs.posix_frames.Frames.{AreThreads}
 use Rattle.posix_puts.specs.Views.{need_of}
 use Rattle.posix_spec.specs.Put.{put_by}
 use Rattle.posix_spec.specs.State.{room, State}
-use Rattle.staging_files.specs.declared.runs.StageRun.{StageRun}
-use Rattle.staging_files.specs.Keeps.{AreApart, IsRunSingle, IsThere, Staged}
-use Rattle.world_promise.specs.JobLaws.{needs}
-use Rattle.world_rules.specs.Jobs.{Job, live_claims}
-use Rattle.world_rules.specs.Stands.{number}
-use Rattle.world_standing.specs.Standing.{Kept, Pending, reserved_run, StandsAt}
-use Rattle.world_standing.specs.Views.{SpellCall}
-use Rattle.write_asks.specs.declared.asking.Target.{Target}
-use Rattle.write_drafts.specs.Drafts.{draft_in, HasRun}
+use Rattle.flight_begins.specs.staging_files.declared.runs.StageRun.{StageRun}
+use Rattle.flight_begins.specs.staging_files.Keeps.{AreApart, IsRunSingle, IsThere, Staged}
+use Rattle.block_loans.specs.world_promise.JobLaws.{needs}
+use Rattle.block_loans.specs.world_rules.Jobs.{Job, live_claims}
+use Rattle.block_loans.specs.world_rules.Stands.{number}
+use Rattle.flight_begins.specs.world_standing.Standing.{Kept, Pending, reserved_run, StandsAt}
+use Rattle.flight_begins.specs.world_standing.Views.{SpellCall}
+use Rattle.write_words.specs.write_asks.declared.asking.Target.{Target}
+use Rattle.write_words.specs.write_drafts.Drafts.{draft_in, HasRun}
 use Rattle.write_jobs.specs.Jobs.{blocks_of, JobView}
 
 -- what the World keeps, with this staging and these files

@@ -12,3 +12,4 @@
 mod staging;
 
 pub use staging::{StagedWrite, stage_write};
+pub use write_words::{open_files, write_asks, write_drafts};

@@ -3,18 +3,18 @@ ghost use Rattle.std.specs.Prelude.{◌≡◌, ◌<◌, ◌+◌, ◌^◌, ◌≤
 ghost use Rattle.write_jobs.specs.Jobs.{blocks_of};
 ghost use Rattle.write_stages.specs.Stages.{IsJobOf, IsStaged, Ready};
 
+use block_loans::k_split::KSplit;
 use block_loans::lend_blocks;
 use file_table::FileTable;
 use flight_begins::a_job_begins_in_flight;
-use k_split::KSplit;
+use flight_begins::staging_files::StageRun;
 use map_collection::Collection;
 use pm_lines::Loan;
 use posix_types::Who;
-use staging_files::StageRun;
 use std::alloc::{AllocError, Global};
-use write_asks::Target;
-use write_drafts::{draft_of, entries_are_the_next_ones};
 use write_jobs::Job;
+use write_words::write_asks::Target;
+use write_words::write_drafts::{draft_of, entries_are_the_next_ones};
 use write_words::{words_of_write, words_spell_the_file};
 
 /// A write that is staged: its job, and the disk blocks that it was lent, in the order of the entry's blocks.

@@ -19,3 +19,6 @@ pub fn words_spell_the_file()
     ensures readable { StandsReadable }
     ensures staged { StagesTheFile }
 {}
+
+pub use write_drafts;
+pub use write_drafts::{open_files, write_asks};

@@ -1,3 +1,4 @@
+use Rattle.losing_facts.proofs.Apart.{has_loans_apart, stands_apart}
 use Rattle.losing_facts.proofs.Homes.{come_home_more, come_home_none, has_blocks_out, leaves_blocks}
 use Rattle.losing_facts.proofs.blocks_are_out_or_at_home.Goals as goal
 
@@ -12,3 +13,9 @@ returns-clause-none c = come_home_none
 
 pub returns-clause-more : goal.returns-clause-more
 returns-clause-more c = come_home_more
+
+pub returns-clause-lost_apart : goal.returns-clause-lost_apart
+returns-clause-lost_apart c = has_loans_apart
+
+pub returns-clause-stand_apart : goal.returns-clause-stand_apart
+returns-clause-stand_apart c = stands_apart

@@ -6,7 +6,7 @@ use Rattle.flight_steps.specs.k_split.Answers.{IsPaid}
 use Rattle.flight_steps.specs.k_split.Names.{IsRenameAnswer, rename_row}
 use Rattle.flight_names.specs.Answers.{IsEnded}
 use Rattle.flight_steps.specs.k_plans.Renaming.{IsRenamed}
-use Rattle.flight_names.proofs.Ends.{fault_ends, rename_ends}
+use Rattle.flight_names.proofs.Ends.{ends_then, fault_ends, rename_ends}
 use Rattle.flight_names.proofs.NameCalls.{rename_done, took}
 use Rattle.flight_names.proofs.Halves.{loans_done, over_file, rename_fault, rename_half, rename_line, rename_may, rename_replies}
 use Rattle.flight_names.proofs.names.rename.Goals as goal
@@ -59,10 +59,11 @@ returns-in-Err-clause-ended c who =
     (rename_fault who c.args.path.now c.args.to.now c.args.k.now t f c.requires.spelled c.rename.new.self c.args.power.now c.rename.new.power c.in-Err.fault (c.in-Err.ensures.answer, c.in-Err.ensures.paid))
 
 pub returns-in-Ok-None-clause-ends : goal.returns-in-Ok-None-clause-ends
-returns-in-Ok-None-clause-ends c on ends = rename_ends c.args.path.now c.args.to.now c.args.k.now c.rename.new.self c.args.data.now c.in-Ok-None.field-0 c.in-Ok-None.ensures.answer ends
+returns-in-Ok-None-clause-ends c on = rename_ends c.args.path.now c.args.to.now c.args.k.now c.rename.new.self c.args.data.now c.in-Ok-None.field-0 c.in-Ok-None.ensures.answer
 
 pub returns-in-Ok-Some-clause-ends : goal.returns-in-Ok-Some-clause-ends
-returns-in-Ok-Some-clause-ends c on ends = c.sweep.ensures.ends on (rename_ends c.args.path.now c.args.to.now c.args.k.now c.rename.new.self c.args.data.now c.in-Ok-Some.field-0 c.in-Ok-Some.ensures.answer ends)
+returns-in-Ok-Some-clause-ends c =
+    ends_then c.args.k.now c.rename.new.self c.sweep.new.k c.args.data.now c.args.data.now c.sweep.new.data c.sweep.new.power (rename_ends c.args.path.now c.args.to.now c.args.k.now c.rename.new.self c.args.data.now c.in-Ok-Some.field-0 c.in-Ok-Some.ensures.answer) c.sweep.ensures.ends
 
 pub returns-in-Err-clause-ends : goal.returns-in-Err-clause-ends
 returns-in-Err-clause-ends c =

@@ -4,7 +4,7 @@ use Rattle.posix_types.specs.declared.call.Call.{Call}
 use Rattle.flight_names.specs.Answers.{IsEnded}
 use Rattle.flight_steps.specs.k_plans.Removing.{IsUnlinked}
 use Rattle.flight_steps.specs.k_split.Names.{unlink_row}
-use Rattle.flight_names.proofs.Ends.{fault_ends, unlink_ends}
+use Rattle.flight_names.proofs.Ends.{ends_then, fault_ends, unlink_ends}
 use Rattle.flight_names.proofs.Halves.{loans_done, unlink_fault, unlink_half, unlink_line, unlink_may, unlink_replies, unlink_spent}
 use Rattle.flight_names.proofs.names.unlink.Goals as goal
 
@@ -37,7 +37,8 @@ returns-in-Err-clause-ended c who =
     (unlink_fault who c.args.path.now c.args.k.now t f c.unlink.new.self c.args.power.now c.unlink.new.power c.in-Err.fault (c.in-Err.ensures.answer, c.in-Err.ensures.paid))
 
 pub returns-in-Ok-clause-ends : goal.returns-in-Ok-clause-ends
-returns-in-Ok-clause-ends c on ends = c.sweep.ensures.ends on (unlink_ends c.args.path.now c.args.k.now c.unlink.new.self c.args.data.now c.in-Ok.ino c.in-Ok.ensures.answer ends)
+returns-in-Ok-clause-ends c =
+    ends_then c.args.k.now c.unlink.new.self c.sweep.new.k c.args.data.now c.args.data.now c.sweep.new.data c.sweep.new.power (unlink_ends c.args.path.now c.args.k.now c.unlink.new.self c.args.data.now c.in-Ok.ino c.in-Ok.ensures.answer) c.sweep.ensures.ends
 
 pub returns-in-Err-clause-ends : goal.returns-in-Err-clause-ends
 returns-in-Err-clause-ends c =

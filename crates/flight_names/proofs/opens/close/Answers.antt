@@ -102,6 +102,6 @@ returns-in-Ok-clause-ends c =
     drop_ends c.in-Some.opened.ino c.args.k.now c.drop_node.new.self c.args.data.now c.clear.new.self c.drop_node.new.power (used_below c.args.k.now.volume c.in-Some.opened.ino (ap is_used file)) c.in-Ok.ensures.answer c.clear.ensures.file
 
 pub returns-in-Err-clause-ends : goal.returns-in-Err-clause-ends
-returns-in-Err-clause-ends c on ends =
+returns-in-Err-clause-ends c on =
     let fault = drop_fault c.args.k.now c.drop_node.new.self c.in-Some.opened.ino c.args.power.now c.drop_node.new.power c.in-Err.field-0 c.in-Err.ensures.memory (c.in-Err.ensures.answer, c.in-Err.ensures.paid) in
     absurd (off_on c.drop_node.new.power fault.1 on)

@@ -5,7 +5,7 @@ use Rattle.disk_rules.specs.Volume.{extents, free_inode}
 use Rattle.extent_words.specs.declared.Extent.{Extent}
 use Rattle.k_plans.specs.Switching.{IsSetAside}
 use Rattle.map_rules.specs.Changes.{Fills, holes}
-use Rattle.volume_uses.specs.Uses.{in_chain, in_map}
+use Rattle.k_plans.specs.volume_uses.Uses.{in_chain, in_map}
 use Rattle.k_map_plans.specs.Going.{HasGoneOver, MayGoOver}
 use Rattle.k_map_plans.proofs.Fillings.{fill-may, filled-is}
 use Rattle.k_map_plans.proofs.Goings.{aside-once}

@@ -1,6 +1,6 @@
 use Rattle.std.proofs.Common.{◌≡◌, ◌+◌, ap, arith, get_or, refl, sym, subst}
 use Rattle.std.specs.Prelude.{is_none}
-use Rattle.volume_maps.specs.Holes.{HasFilled, blocks-all, filled-hole, filled-mapped, filled-none, next-below}
+use Rattle.k_plans.specs.volume_maps.Holes.{HasFilled, blocks-all, filled-hole, filled-mapped, filled-none, next-below}
 use Rattle.k_map_plans.proofs.filling.fill_map.Goals as goal
 use Rattle.k_map_plans.proofs.filling.fill_map.Goals.{in-None+in_ok-replace_range-in-None, in-Some}
 

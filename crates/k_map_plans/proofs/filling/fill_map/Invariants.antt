@@ -1,4 +1,4 @@
-use Rattle.volume_maps.specs.Holes.{HasFilled}
+use Rattle.k_plans.specs.volume_maps.Holes.{HasFilled}
 use Rattle.k_map_plans.proofs.filling.fill_map.Given as goal
 
 abbrev pub invariant-loop-place : goal.invariant-loop-place

@@ -4,16 +4,16 @@ use Rattle.disk_rules.specs.Chains.{first_or_zero}
 use Rattle.disk_rules.specs.Volume.{Volume, chain}
 use Rattle.extent_words.specs.Extents.{IsCanonical}
 use Rattle.extent_words.specs.declared.Extent.{Extent}
-use Rattle.k_land.specs.PlanLaws.{turns-none}
+use Rattle.k_plans.specs.k_land.PlanLaws.{turns-none}
 use Rattle.k_journal.specs.declared.batches.Entry.{Entry}
-use Rattle.k_land.specs.Plans.{NewChain, Turns}
-use Rattle.k_land.specs.Plans.IsMapFrom.{NewMap}
+use Rattle.k_plans.specs.k_land.Plans.{NewChain, Turns}
+use Rattle.k_plans.specs.k_land.Plans.IsMapFrom.{NewMap}
 use Rattle.k_plans.specs.Free.{is_free_block}
 use Rattle.k_plans.specs.Switching.{IsSetAside, WaitOnce}
 use Rattle.k_plans.specs.View.{TablesView}
 use Rattle.map_rules.specs.Taken.{AreLowest, switched}
-use Rattle.volume_maps.specs.Switches.{MaySwitch}
-use Rattle.volume_uses.specs.Uses.{in_chain, in_map}
+use Rattle.k_plans.specs.volume_maps.Switches.{MaySwitch}
+use Rattle.k_plans.specs.volume_uses.Uses.{in_chain, in_map}
 use Rattle.k_map_plans.proofs.Goings.{aside-once, aside-volume, may-switch, plan-one, switched-chain_is}
 use Rattle.k_map_plans.proofs.going.go_over.Goals as goal
 

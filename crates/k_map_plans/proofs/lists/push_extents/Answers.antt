@@ -5,7 +5,7 @@ use Rattle.disk_rules.specs.Placed.{no_extent}
 use Rattle.extent_facts.specs.Counts.{one_if}
 use Rattle.extent_words.specs.declared.Extent.{Extent}
 use Rattle.extent_words.specs.Extents.{holds_disk}
-use Rattle.volume_uses.specs.Uses.{in_map}
+use Rattle.k_plans.specs.volume_uses.Uses.{in_map}
 use Rattle.k_map_plans.proofs.lists.push_extents.Goals as goal
 
 pub loop-extent-preserved : goal.loop-extent-preserved

@@ -1,7 +1,7 @@
 use Rattle.std.proofs.Common.{◌≡◌, ◌+◌, ℕ}
 use Rattle.extent_facts.specs.Counts.{one_if}
 use Rattle.extent_words.specs.Extents.{is_between}
-use Rattle.volume_uses.specs.Uses.{in_chain}
+use Rattle.k_plans.specs.volume_uses.Uses.{in_chain}
 use Rattle.k_map_plans.proofs.lists.push_run.Given as goal
 
 abbrev pub invariant-loop-block : goal.invariant-loop-block

@@ -1,5 +1,5 @@
 use Rattle.std.proofs.Common.{◌≡◌, ◌+◌, length}
-use Rattle.volume_maps.specs.Hits.{AreAt}
+use Rattle.k_plans.specs.volume_maps.Hits.{AreAt}
 use Rattle.k_map_plans.proofs.moving.blocks_at.Given as goal
 
 abbrev pub invariant-loop-place : goal.invariant-loop-place

@@ -4,15 +4,15 @@ use Rattle.disk_rules.specs.Chains.{first_or_zero}
 use Rattle.disk_rules.specs.Volume.{Volume, chain, extents}
 use Rattle.extent_words.specs.Moves.{Moves}
 use Rattle.extent_words.specs.declared.Extent.{Extent}
-use Rattle.k_land.specs.PlanLaws.{turns-none}
-use Rattle.k_land.specs.Plans.{NewChain, Turns}
-use Rattle.k_land.specs.Plans.IsMapFrom.{NewMap}
+use Rattle.k_plans.specs.k_land.PlanLaws.{turns-none}
+use Rattle.k_plans.specs.k_land.Plans.{NewChain, Turns}
+use Rattle.k_plans.specs.k_land.Plans.IsMapFrom.{NewMap}
 use Rattle.k_map_plans.specs.Moving.{moved_volume}
 use Rattle.k_plans.specs.Free.{free_blocks, is_free_block}
 use Rattle.k_plans.specs.Switching.{IsSetAside}
 use Rattle.map_rules.specs.Taken.{AreLowest}
-use Rattle.volume_maps.specs.Hits.{in_chain-append}
-use Rattle.volume_uses.specs.Uses.{in_chain, in_map}
+use Rattle.k_plans.specs.volume_maps.Hits.{in_chain-append}
+use Rattle.k_plans.specs.volume_uses.Uses.{in_chain, in_map}
 use Rattle.k_map_plans.proofs.Goings.{aside-volume, once-after}
 use Rattle.k_map_plans.proofs.Moves.{both-may, move-room, plan-two}
 use Rattle.k_map_plans.proofs.moving.place_both.Goals as goal

@@ -3,7 +3,7 @@ use Rattle.std.specs.Prelude.{slice_index_or}
 use Rattle.disk_lines.specs.declared.Inode.{Inode}
 use Rattle.disk_rules.specs.Volume.{free_inode}
 use Rattle.k_journal.specs.declared.batches.Entry.{Entry}
-use Rattle.k_land.specs.Plans.{Turns}
+use Rattle.k_plans.specs.k_land.Plans.{Turns}
 use Rattle.k_plans.specs.View.{TablesView}
 use Rattle.map_rules.specs.Changes.{with_length}
 use Rattle.k_map_plans.proofs.Moves.{both-turns}

@@ -1,5 +1,5 @@
 use Rattle.pm_words.specs.Images.{words_of}
-use Rattle.k_reading.proofs.FreshTables.{keyed-fresh}
+use Rattle.k_check.proofs.k_reading_proofs.FreshTables.{keyed-fresh}
 use Rattle.layer_tests.proofs.reading.fresh_names.Goals as goal
 
 pub read_names-requires-clause-keyed : goal.read_names-requires-clause-keyed

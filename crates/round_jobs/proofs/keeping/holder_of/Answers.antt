@@ -4,7 +4,7 @@ use Rattle.posix_words.specs.Open.{same_who}
 use Rattle.std.proofs.lemmas.Bool.{cases_lt}
 use Rattle.std.proofs.lemmas.Option.{slice_get_within}
 use Rattle.list_facts.specs.Members.{In, slice_get-In}
-use Rattle.world_standing.specs.Standing.{Pending}
+use Rattle.round_facts.specs.world_standing.Standing.{Pending}
 use Rattle.round_jobs.proofs.Taking.{at_index, held, not_held, there}
 use Rattle.round_jobs.proofs.keeping.holder_of.Goals as goal
 

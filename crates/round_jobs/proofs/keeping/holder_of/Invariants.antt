@@ -1,6 +1,6 @@
 use Rattle.std.proofs.Common.{◌≡◌, ℕ, ◌<◌}
 use Rattle.std.specs.Prelude.{slice_get, Some}
-use Rattle.world_standing.specs.Standing.{Pending}
+use Rattle.round_facts.specs.world_standing.Standing.{Pending}
 use Rattle.round_jobs.proofs.keeping.holder_of.Given as goal
 
 abbrev pub invariant-loop-job : goal.invariant-loop-job

@@ -1,7 +1,7 @@
 use Rattle.std.proofs.Common.{sym, subst, ap, ◌∙◌}
 use Rattle.std.specs.Prelude.{◌≡◌, slice_get, Some, List}
 use Rattle.list_facts.specs.Members.{In, In-slice_get}
-use Rattle.world_standing.specs.Standing.{Pending}
+use Rattle.round_facts.specs.world_standing.Standing.{Pending}
 use Rattle.round_jobs.proofs.Taking.{all_left, at_index, one_taken}
 use Rattle.round_jobs.proofs.pending.take_job.Goals as goal
 

@@ -1,4 +1,4 @@
-use Rattle.std.proofs.Common.{◌≡◌, ◌<◌, ◌/◌, ◌∙◌, ap, ℕ, true, List, length, subst, sym}
+use Rattle.std.proofs.Common.{◌≡◌, ◌<◌, ◌+◌, ◌/◌, ◌∙◌, ap, ℕ, true, List, length, subst, sym}
 use Rattle.std.specs.Prelude.{Contains}
 use Rattle.pm_words.specs.Cells.{cell, is_lent}
 use Rattle.pm_words.specs.Parts.{Part}
@@ -9,7 +9,7 @@ use Rattle.write_jobs.specs.Jobs.{loan_at}
 use Rattle.block_loans.specs.Loans.{AreApart, ComeBack}
 use Rattle.world_standing.specs.Standing.{reserved_run}
 use Rattle.write_ends.proofs.Ending.{loans_apart, loans_out}
-use Rattle.write_ends.proofs.GivesUp.{give_up_leaves, run_out}
+use Rattle.write_ends.proofs.GivesUp.{give_up_leaves, one_fewer, run_out}
 use Rattle.write_ends.proofs.giving_up.give_up_write.Goals as goal
 
 pub settle_blocks-requires-clause-out : goal.settle_blocks-requires-clause-out
@@ -24,6 +24,11 @@ pub give_back-requires : goal.give_back-requires
 give_back-requires c =
     subst (λ (run : StageRun). Contains c.args.staging.now.out run) (sym (c.stage_run_of.ensures ∙ ap reserved_run c.draft.ensures.draft))
     (subst (λ (s : Staged). Contains s.out (reserved_run c.args.job.draft)) c.requires.1 (run_out c.args.k.now c.args.job c.requires.0))
+
+pub returns-clause-runs : goal.returns-clause-runs
+returns-clause-runs c =
+    let back = c.give_back.ensures.back in
+    ap (λ (s : Staged). length s.out + 1) back.now ∙ one_fewer c.args.staging.now.out back.place c.stage_run_of.result back.was
 
 pub returns-clause-leaves : goal.returns-clause-leaves
 returns-clause-leaves c = λ has staging.

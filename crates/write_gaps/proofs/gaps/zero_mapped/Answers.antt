@@ -2,7 +2,7 @@ use Rattle.std.proofs.Common.{◌≡◌, ◌∙◌, ◌/◌, List, ℕ, ap, arit
 use Rattle.std.specs.Prelude.{◌⊎◌}
 use Rattle.std.proofs.lemmas.List.{take-replicate}
 use Rattle.extent_words.specs.Extents.{disk_at}
-use Rattle.k_split.specs.Bytes.{IsOverwriteCut, IsOverwriteDone, tail_zeros, zeros_behind}
+use Rattle.lost_devices.specs.k_split.Bytes.{IsOverwriteCut, IsOverwriteDone, tail_zeros, zeros_behind}
 use Rattle.write_gaps.proofs.Writes.{lost_of}
 use Rattle.write_gaps.proofs.gaps.zero_mapped.Goals as goal
 

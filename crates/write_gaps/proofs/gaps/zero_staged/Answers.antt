@@ -2,7 +2,7 @@ use Rattle.std.proofs.Common.{◌≡◌, ◌∙◌, ◌-◌, ◌%◌, List, ℕ,
 use Rattle.std.specs.Prelude.{◌⊎◌}
 use Rattle.std.proofs.lemmas.List.{take-replicate}
 use Rattle.flight_zeros.specs.Zeros.{staged_place}
-use Rattle.k_split.specs.Bytes.{IsOverwriteCut, IsOverwriteDone, tail_zeros}
+use Rattle.lost_devices.specs.k_split.Bytes.{IsOverwriteCut, IsOverwriteDone, tail_zeros}
 use Rattle.write_gaps.proofs.Writes.{lost_of, staged_zeros}
 use Rattle.write_gaps.proofs.gaps.zero_staged.Goals as goal
 

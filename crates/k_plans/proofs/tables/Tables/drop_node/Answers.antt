@@ -15,7 +15,7 @@ use Rattle.k_plans.specs.Giving.{AreGiven, MayGiveChain, MayGiveMap, is_held}
 use Rattle.k_plans.specs.contracts.tables.Tables.{the_view}
 use Rattle.k_plans.specs.View.{TablesView, with_volume}
 use Rattle.k_rules.specs.Changes.{dropped, gone_node}
-use Rattle.volume_changes.specs.Changes.{MayDrop}
+use Rattle.volume_maps.specs.volume_changes.Changes.{MayDrop}
 use Rattle.k_plans.proofs.Drops.{chain-may, dropped-after, dropped-staged, dropped-whole, map-apart, map-may}
 use Rattle.k_plans.proofs.Wholes.{plan-from}
 use Rattle.k_plans.proofs.tables.Tables.drop_node.Goals as goal

@@ -7,7 +7,7 @@ use Rattle.disk_rules.specs.Volume.{Volume}
 use Rattle.k_plans.specs.contracts.tables.Tables.{the_view}
 use Rattle.k_plans.specs.View.{TablesView, with_volume}
 use Rattle.k_rules.specs.Changes.{renamed}
-use Rattle.volume_changes.specs.CountLaws.{renamed-owners}
+use Rattle.volume_maps.specs.volume_changes.CountLaws.{renamed-owners}
 use Rattle.k_plans.proofs.Renames.{Moves, moves-alone, moves-row, moves-whole}
 use Rattle.k_plans.proofs.Wholes.{after-tables, plan-from, with_names}
 use Rattle.k_plans.proofs.tables.Tables.move_new.Goals as goal

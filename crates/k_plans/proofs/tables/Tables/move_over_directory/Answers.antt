@@ -10,7 +10,7 @@ use Rattle.k_plans.specs.contracts.tables.Tables.{the_view}
 use Rattle.k_plans.specs.View.{TablesView, with_volume}
 use Rattle.k_rules.specs.Changes.{gone_node, renamed_over_directory}
 use Rattle.k_rules.specs.Spaces.{is_directory_in}
-use Rattle.volume_changes.specs.CountLaws.{renamed_over_directory-owners}
+use Rattle.volume_maps.specs.volume_changes.CountLaws.{renamed_over_directory-owners}
 use Rattle.k_plans.specs.Whole.{IsWhole}
 use Rattle.k_plans.proofs.Renames.{Moves, moves-row, over-alone, over-bare, over-below, over_directory-whole}
 use Rattle.k_plans.proofs.Wholes.{after-tables, plan-from, with_lines}

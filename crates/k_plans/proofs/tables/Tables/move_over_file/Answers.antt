@@ -6,7 +6,7 @@ use Rattle.k_plans.specs.contracts.tables.Tables.{the_view}
 use Rattle.k_plans.specs.View.{TablesView, with_volume}
 use Rattle.k_rules.specs.Changes.{renamed_over_file}
 use Rattle.k_rules.specs.Spaces.{is_directory_in}
-use Rattle.volume_changes.specs.CountLaws.{renamed_over_file-owners}
+use Rattle.volume_maps.specs.volume_changes.CountLaws.{renamed_over_file-owners}
 use Rattle.k_plans.specs.Whole.{IsWhole}
 use Rattle.k_plans.proofs.Renames.{Moves, moves-row, over-alone, over_file-whole}
 use Rattle.k_plans.proofs.Wholes.{after-tables, plan-from, with_names}

@@ -1,4 +1,4 @@
-use Rattle.name_facts.specs.KeptLaws.{kept-acyclic}
+use Rattle.k_tables.specs.name_facts.KeptLaws.{kept-acyclic}
 use Rattle.k_plans.proofs.tables.Tables.rename.Goals as goal
 
 pub entries_to_rename-requires : goal.entries_to_rename-requires

@@ -1,4 +1,4 @@
-use Rattle.name_facts.specs.KeptLaws.{kept-acyclic}
+use Rattle.k_tables.specs.name_facts.KeptLaws.{kept-acyclic}
 use Rattle.k_plans.proofs.Idles.{rmdir-not_idle}
 use Rattle.k_plans.proofs.tables.Tables.rmdir.Goals as goal
 

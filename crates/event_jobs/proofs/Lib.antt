@@ -1,0 +1,2 @@
+pub mod Jobs
+pub use Rattle.event_facts.proofs as event_facts_proofs

@@ -1,0 +1,96 @@
+-- The rows of a `truncate` by numbers are those of the state.
+use Rattle.std.specs.Prelude.{◌≡◌, ◌≤◌, ◌<◌, ◌+◌, ◌-◌, ℕ, nat_le, nat_lt, not, Bool, true, false, [], ◌∷◌, length, Option, Some, None, is_none, option_map, sum_by, refl}
+use Rattle.std.specs.Option.{option_map_or}
+use Rattle.std.proofs.Common.{arith, ap, ◌∙◌, sym, subst}
+use Rattle.block_counts.specs.Counts.{held_by, reserve_for}
+use Rattle.disk_places.specs.Places.{data_blocks, Geometry}
+use Rattle.file_table.specs.Files.{Files, runs_in, size_in}
+use Rattle.k_rules.specs.View.{View}
+use Rattle.open_numbers.specs.Numbered.{described_as}
+use Rattle.posix_types.specs.declared.call.Call.{Call}
+use Rattle.posix_types.specs.declared.call.Who.{Who}
+use Rattle.posix_types.specs.declared.handle.Handle.{Handle}
+use Rattle.posix_types.specs.declared.item.Outcome.{Outcome}
+use Rattle.posix_types.specs.declared.reply.Errno.{Errno}
+use Rattle.posix_types.specs.declared.reply.Reply.{Reply}
+use Rattle.posix_words.specs.declared.open.Description.{Description}
+use Rattle.posix_words.specs.Nodes.{bytes_of, node_at}
+use Rattle.posix_words.specs.Open.{may_write, opened, Tables}
+use Rattle.posix_words.specs.Outcomes.{answer, first, row}
+use Rattle.posix_words.specs.Room.{growth}
+use Rattle.posix_spec.specs.FileRows.{content, file_number, truncate_rows}
+use Rattle.posix_spec.specs.Run.{after_call}
+use Rattle.posix_spec.specs.State.{room, State, with_file}
+use Rattle.posix_spec.specs.Step.{step, stepped, truncate_done}
+use Rattle.crash_spec.specs.Busy.{waits_for}
+use Rattle.write_drafts.proofs.Numbers.{length_at}
+use Rattle.write_drafts.specs.Numbers.{RoomIsKept}
+use Rattle.write_rows.specs.Rows.{truncate_row_by}
+use Rattle.flight_names.specs.flight_steps.world_rules.Stands.{number}
+use Rattle.flight_names.specs.flight_steps.world_standing.Standing.{Kept}
+use Rattle.flight_names.specs.Runs.{RunsAs, with_files}
+use Rattle.flight_names.proofs.CloseCalls.{handle_open, handle_there}
+
+-- how much room all files leave
+abbrev pub room_left : View → Files → ℕ
+room_left k f = data_blocks k.volume.geometry - reserve_for (data_blocks k.volume.geometry) - sum_by held_by f.sizes
+
+-- by equal numbers
+pub row_same : (may : Bool) (size a b x y : ℕ) → a ≡ b → x ≡ y → truncate_row_by may size a x ≡ truncate_row_by may size b y
+row_same may size a b x y first second = λ i. truncate_row_by may size (first i) (second i)
+
+pub room_same : (k : View) (f : Files) (left blocks sum : ℕ) → left ≡ blocks - reserve_for blocks - sum → blocks ≡ data_blocks k.volume.geometry → sum ≡ sum_by held_by f.sizes → left ≡ room_left k f
+room_same k f left blocks sum is blocks_are sum_is = is ∙ (λ i. blocks_are i - reserve_for (blocks_are i) - sum_is i)
+
+rows_by : (s : State) (who : Who) (h : Handle) (size : ℕ) → first (truncate_rows s who h size) ≡ truncate_row_by (may_write s.tables who h) size (length (content s who h)) (room s)
+unfolding truncate_rows
+rows_by s who h size = refl
+
+-- a handle that stands for nothing
+pub unknown_row : (g : Geometry) (k : View) (t : Tables) (x : Kept) (n : ℕ) (s : State) (runs : RunsAs g k t x n s) (who : Who) (h : Handle) (size : ℕ) → opened t who h ≡ None
+    → first (truncate_rows s who h size) ≡ Some (answer (Reply.Error Errno.EBADF))
+unknown_row g k t x n s runs who h size none =
+    rows_by s who h size
+    ∙ ap (λ (o : Option Description). truncate_row_by (option_map_or (λ z. z.flags.write) o false) size (length (content s who h)) (room s)) (handle_there g k t x n s runs who h None none)
+
+module _ (g : Geometry) (k : View) (t : Tables) (x : Kept) (n : ℕ) (s : State) (runs : RunsAs g k t x n s) (who : Who) (h : Handle) (d : Description) (known : opened t who h ≡ Some d) where
+  there : opened s.tables who h ≡ Some (described_as (number runs.numbers) d)
+  there = handle_there g k t x n s runs who h (Some d) known
+
+  pub content_long : length (content s who h) ≡ size_in x.files d.node
+  content_long =
+      ap (λ (o : Option Description). length (bytes_of (node_at s.nodes (option_map_or (λ z. z.node) o 0)))) there
+      ∙ length_at g k t x s runs d.node (handle_open t who h d known)
+
+  pub waits : (size : ℕ) → waits_for s (who, Call.Truncate h size) ≡ Some (number runs.numbers d.node)
+  unfolding waits_for
+  waits size = ap (option_map (λ (z : Description). z.node)) there
+
+  pub room_is : RoomIsKept → room s ≡ room_left k x.files
+  room_is kept = kept g k t x true n s runs
+
+  pub row_is : RoomIsKept → (size : ℕ) → first (truncate_rows s who h size) ≡ truncate_row_by d.flags.write size (size_in x.files d.node) (room_left k x.files)
+  row_is kept size =
+      rows_by s who h size
+      ∙ (λ i. truncate_row_by (option_map_or (λ z. z.flags.write) (there i) false) size (content_long i) (room_is kept i))
+
+-- ---- its step
+
+pub step_refused : (s : State) (who : Who) (h : Handle) (size : ℕ) (o : Outcome) → first (truncate_rows s who h size) ≡ Some o → step s who (Call.Truncate h size) ≡ record { state = s; outcome = o }
+step_refused s who h size o is = ap (λ z. stepped s z (truncate_done s who h size)) is
+
+pub step_done : (s : State) (who : Who) (h : Handle) (size : ℕ) → first (truncate_rows s who h size) ≡ None → step s who (Call.Truncate h size) ≡ truncate_done s who h size
+step_done s who h size none = ap (λ z. stepped s z (truncate_done s who h size)) none
+
+pub outcome_done : (s : State) (who : Who) (h : Handle) (size : ℕ) → (truncate_done s who h size).outcome ≡ answer Reply.Ok
+unfolding truncate_done
+outcome_done s who h size = refl
+
+-- no name is made, removed or moved
+entries_by : (s : State) (who : Who) (h : Handle) (size : ℕ) (o : Option Outcome) → (stepped s o (truncate_done s who h size)).state.entries ≡ s.entries
+unfolding truncate_done with_file
+entries_by s who h size None = refl
+entries_by s who h size (Some o) = refl
+
+pub same_entries : (s : State) (who : Who) (h : Handle) (size : ℕ) → (after_call s (who, Call.Truncate h size)).entries ≡ s.entries
+same_entries s who h size = entries_by s who h size (first (truncate_rows s who h size))

@@ -1,0 +1,2 @@
+pub mod Truncates
+pub use Rattle.flight_sizes.specs.log_mount as log_mount

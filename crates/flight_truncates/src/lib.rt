@@ -1,0 +1,22 @@
+//! `truncate` while writes of other callers are in flight.
+//!
+//! The layer above may rely on this: where K-Split, the open files and what is kept of files run in
+//! a state with writes of others out, and nothing is staged of the file, `truncate_file` is done and
+//! its outcome is that of the step, and they run in its next state; or no row refuses it but the
+//! writes that are out leave less room than it takes, and nothing was done; or the power went, and
+//! each image, with log lines and blocks of jobs put back, is kept with the calls of the jobs
+//! unfinished, and this one; or memory wanted, and they run in the same state (`IsTruncated`).
+//! A file that grows has its last block cleaned first, so that it shows zeros behind its old end:
+//! this asks that nothing lies past the ends of files (`FilesEnd`), and leaves it so.
+//!
+//! Stands on `flight_sizes` and `flight_cleans`, `write_rows` for the rows, and `flight_names`.
+#![tactic(auto)]
+
+mod asking;
+mod outcomes;
+mod sizing;
+mod truncating;
+
+pub use flight_sizes::log_mount;
+pub use outcomes::Truncated;
+pub use truncating::truncate_file;

@@ -1,0 +1,66 @@
+//! `truncate` of an open file.
+ghost use Rattle.std.specs.Prelude.{◌≡◌, ◌^◌, true};
+ghost use Rattle.flight_names.specs.file_ends.Ends.{FilesEnd};
+ghost use Rattle.flight_names.specs.Answers.{KeepsEnds};
+ghost use Rattle.flight_names.specs.Runs.{RunsInSome};
+ghost use Rattle.pm_words.specs.Powers.{is_on, Steps};
+ghost use Rattle.flight_truncates.specs.Truncates.{HasNothingStaged, IsTruncated};
+
+use crate::asking::{Asked, ask};
+use crate::outcomes::Truncated;
+use crate::sizing::give_size;
+use file_table::FileTable;
+use flight_cleans::the_end_of_a_file_is_cleaned_in_flight;
+use flight_names::NoMemory;
+use flight_names::k_split::KSplit;
+use flight_names::open_files::OpenFiles;
+use pm_lines::Power;
+use posix_types::{Errno, Handle, Reply, Who};
+use posix_words::outcomes::answer;
+use std::alloc::Global;
+use write_drafts::kept_numbers_are_those_of_the_state;
+use write_rows::room_by;
+
+/// Gives the file of a handle another size, beside writes of other callers that are out, of other
+/// files, and need `needs` blocks together. Nothing is staged of the file, and nothing lies past the
+/// ends of files.
+///
+/// # Errors
+///
+/// Want of memory: no call sees a change.
+///
+/// # Steps
+///
+/// At most 2^16; none where a row refuses it or it answers `RoundOver`.
+pub fn truncate_file(
+    alloc: Global,
+    k: &mut KSplit,
+    files: &OpenFiles,
+    data: &mut FileTable,
+    who: Who,
+    handle: Handle,
+    size: u64,
+    needs: u64,
+    power: &mut Power,
+) -> Result<Truncated, NoMemory>
+    requires runs { RunsInSome k.old files.now.tables data.old }
+    requires bare { HasNothingStaged who handle files.now.tables data.old }
+    requires ends { FilesEnd k.old.volume data.old }
+    requires power { is_on power.old ≡ true }
+    ensures steps { Steps (2 ^ 16) power.old power.new }
+    ensures ended { IsTruncated who handle size needs k.old files.now.tables data.old k.new data.new
+        power.old power.new result }
+    ensures ends { KeepsEnds k.old data.old k.new data.new power.new }
+{
+    the_end_of_a_file_is_cleaned_in_flight();
+    kept_numbers_are_those_of_the_state();
+    let Some(opened) = files.find(who, handle) else {
+        return Ok(Truncated::Answered(answer(Reply::Error(Errno::EBADF))));
+    };
+    let room = room_by(k.geometry().data_blocks(), data.held());
+    match ask(opened.flags.write, size, data.size(opened.ino), room, needs) {
+        Asked::Answered(outcome) => Ok(Truncated::Answered(outcome)),
+        Asked::Full { need, left } => Ok(Truncated::RoundOver { need, room: left }),
+        Asked::Goes => give_size(alloc, k, data, opened.ino, size, power),
+    }
+}

@@ -1,0 +1,139 @@
+-- A call that is not logged runs to its end.
+use Rattle.std.specs.Prelude.{◌≡◌, ◌⊎◌, ◌<◌, ◌+◌, ◌^◌, ◌++◌, ℕ, true, false, List, [], ◌∷◌, length, map, Option, None, refl}
+use Rattle.std.specs.Option.{option_map_or}
+use Rattle.std.proofs.Common.{arith, ap}
+use Rattle.pm_words.specs.declared.Cell.{Cell}
+use Rattle.pm_words.specs.Powers.{is_on, Supply}
+use Rattle.pm_words.specs.Words.{Words}
+use Rattle.file_table.specs.Files.{Files}
+use Rattle.flight_calls.specs.Built.{IsBuilt, NamesAreSpelled}
+use Rattle.flight_calls.specs.flight_names.Answers.{Answers, IsSpent, LeavesDevice, Loses}
+use Rattle.flight_calls.specs.flight_names.Runs.{RunsInSome}
+use Rattle.flight_rounds.specs.world_lent.Back.{IsPutBack}
+use Rattle.k_journal.specs.Commits.{TakesAStep}
+use Rattle.k_rules.specs.View.{View}
+use Rattle.posix_types.specs.declared.call.Call.{Call}
+use Rattle.posix_types.specs.declared.call.Who.{Who}
+use Rattle.posix_types.specs.declared.item.Outcome.{Outcome}
+use Rattle.posix_words.specs.Open.{Tables}
+use Rattle.posix_spec.specs.Put.{Put, put_by}
+use Rattle.posix_spec.specs.Run.{after_call}
+use Rattle.posix_spec.specs.Scripted.{items_of}
+use Rattle.posix_spec.specs.State.{State}
+use Rattle.posix_spec.specs.Step.{step}
+use Rattle.crash_spec.specs.Busy.{is_logged, is_logged_put}
+use Rattle.round_jobs.specs.script_calls.Histories.{item_with}
+use Rattle.round_jobs.specs.staging_files.Keeps.{Staged}
+use Rattle.round_jobs.specs.world_images.Promised.{IsKept}
+use Rattle.round_jobs.specs.world_rules.Jobs.{begun_of}
+use Rattle.round_jobs.specs.world_standing.Standing.{StandsAt}
+use Rattle.round_jobs.specs.world_steps.Steps.{LetsJobsBe}
+use Rattle.round_turns.proofs.Beginning.{lets, lost_call, others_lost, others_returned, returned}
+use Rattle.round_turns.proofs.Losing.{lost_view}
+use Rattle.round_views.specs.Begins.{item_of, LosesCall, Publishes, Returns}
+use Rattle.round_views.specs.file_ends.Ends.{FilesEnd}
+use Rattle.round_views.specs.lost_devices.Left.{IsLeftOf}
+use Rattle.round_views.specs.Views.{disk_of, IsWorldOver, kept_of, state_of, WorldView}
+use Rattle.round_calls.specs.Calls.{AtCall}
+use Rattle.round_calls.proofs.Staying.{few_calls, stands_now}
+
+-- ---- calls that are not logged
+
+unlogged_by : (s : State) (who : Who) (call : Call) → put_by s who call ≡ None → is_logged s (who, call) ≡ false
+unlogged_by s who call none = ap (λ (m : Option Put). option_map_or (is_logged_put s.mode s) m false) none
+
+pub built_unlogged : (s : State) (who : Who) (call : Call) → IsBuilt call → is_logged s (who, call) ≡ false
+unfolding put_by
+built_unlogged s who (Call.Mkdir p) built = unlogged_by s who (Call.Mkdir p) refl
+built_unlogged s who (Call.Rmdir p) built = unlogged_by s who (Call.Rmdir p) refl
+built_unlogged s who (Call.Unlink p) built = unlogged_by s who (Call.Unlink p) refl
+built_unlogged s who (Call.Rename p q) built = unlogged_by s who (Call.Rename p q) refl
+built_unlogged s who (Call.Open h p f) built = unlogged_by s who (Call.Open h p f) refl
+built_unlogged s who (Call.Close h) built = unlogged_by s who (Call.Close h) refl
+built_unlogged s who (Call.Dup h to) built = unlogged_by s who (Call.Dup h to) refl
+built_unlogged s who (Call.Read h n) built = unlogged_by s who (Call.Read h n) refl
+built_unlogged s who (Call.Pread h o n) built = unlogged_by s who (Call.Pread h o n) refl
+built_unlogged s who (Call.Write h x) built = absurd built
+built_unlogged s who (Call.Pwrite h o x) built = absurd built
+built_unlogged s who (Call.Seek h w by) built = unlogged_by s who (Call.Seek h w by) refl
+built_unlogged s who (Call.Truncate h n) built = absurd built
+built_unlogged s who (Call.Fsync h) built = unlogged_by s who (Call.Fsync h) refl
+built_unlogged s who (Call.Stat p) built = unlogged_by s who (Call.Stat p) refl
+built_unlogged s who (Call.List p) built = unlogged_by s who (Call.List p) refl
+
+module _ (k : View) (t : Tables) (staging : Staged) (files : Files) (w : WorldView) (who : Who) (call : Call) (one : AtCall k t staging files w who call) where
+  abbrev now : StandsAt w.geometry k t (kept_of w staging files) true (length w.history) (state_of w)
+  now = stands_now k t staging files w who call one
+
+  -- WHAT A CALL ASKS
+  pub runs_in_some : RunsInSome k t files
+  runs_in_some = record { geometry_is = w.geometry; kept = kept_of w staging files; made = length w.history; state = state_of w; runs = now }
+
+  pub is_spelled : NamesAreSpelled call
+  is_spelled = one.world.spelled who (length (items_of w.history who)) call one.begins.next
+
+  pub lets_now : LetsJobsBe (state_of w) (who, call) now.numbers now.jobs
+  lets_now = lets k t staging files w one.world one.begins.awake one.out who call one.begins.next one.up one.none one.begins.idle
+
+  pub few_next : length w.history + 1 < 2 ^ 31
+  few_next = (let calls = few_calls k t staging files w who call one in omega (arith, calls))
+
+  -- ---- it returned
+
+  module _ (l : View) (u : Tables) (laid : Files) (base : l.volume.base ≡ k.volume.base) (ends : FilesEnd l.volume laid) (stands : StandsAt w.geometry l u (kept_of w staging laid) true (length w.history + 1) (after_call (state_of w) (who, call))) where
+    abbrev pub return_view : WorldView
+    return_view = record w { history = w.history ++ item_of w who call ∷ []; acts = w.acts + 1; disk = disk_of l u staging }
+
+    pub ran : IsWorldOver l u staging laid return_view
+    ran = returned k t staging files w one.world one.begins.awake one.out who call one.begins.next one.up one.none one.begins.idle l u laid base ends stands
+
+    pub returns : (before after : Supply) → is_logged (state_of w) (who, call) ≡ false → Publishes who call w return_view → is_on after ≡ true
+        → ((after_call (state_of w) (who, call)).entries ≡ (state_of w).entries) ⊎ TakesAStep before after → Returns who w return_view before after
+    returns before after unlogged published on spent = record {
+      call = call;
+      begins = one.begins;
+      unlogged = unlogged;
+      new_is = refl;
+      published = published;
+      stay = others_returned k t staging files w one.world one.begins.awake one.out who call one.begins.next one.up one.none one.begins.idle l u laid base ends stands;
+      on = on;
+      spent = spent;
+    }
+
+  -- with this outcome
+  pub item_with_outcome : (outcome : Outcome) → (step (state_of w) who call).outcome ≡ outcome → item_of w who call ≡ item_with w.history who call outcome
+  item_with_outcome outcome is = ap (item_with w.history who call) is
+
+  -- as `run_call` answers it
+  pub stands_by : (l : View) (u : Tables) (laid : Files) (outcome : Outcome) → Answers who call k t files l u laid outcome
+      → StandsAt w.geometry l u (kept_of w staging laid) true (length w.history + 1) (after_call (state_of w) (who, call)) × ((step (state_of w) who call).outcome ≡ outcome)
+  stands_by l u laid outcome answers = answers w.geometry (kept_of w staging files) (length w.history) (state_of w) few_next now lets_now
+
+  pub spent_by : (before after : Supply) → IsSpent who call k t files before after → ((after_call (state_of w) (who, call)).entries ≡ (state_of w).entries) ⊎ TakesAStep before after
+  spent_by before after spent = spent w.geometry (kept_of w staging files) (length w.history) (state_of w) now
+
+  -- ---- it lost its power
+
+  module _ (l : View) (u : Tables) (laid : Files) (loses : Loses who call k t files l) (leaves : LeavesDevice who call k t files l) where
+    left : IsLeftOf w.geometry k.cells l.cells
+    left = leaves w.geometry (kept_of w staging files) (length w.history) (state_of w) few_next now lets_now
+
+    promise : (back : ℕ → Cell) (slots : List (Option ℕ)) (image : Words) → IsPutBack k.volume l.cells back (kept_of w staging files).first w.claims now.jobs slots image
+        → IsKept w.geometry w.start w.history (map begun_of now.jobs ++ (who, call) ∷ []) image
+    promise = loses w.geometry (kept_of w staging files) (length w.history) w.start w.history few_next one.world.mode now lets_now
+
+    abbrev pub off_view : WorldView
+    off_view = lost_view w ((who, call) ∷ []) (w.acts + 1) (disk_of l u staging)
+
+    pub call_lost : IsWorldOver l u staging laid off_view
+    call_lost = lost_call k t staging files w one.world one.begins.awake one.out who call one.begins.next one.up one.none l u staging laid left promise
+
+    pub call_loses : (after : Supply) → is_on after ≡ false → LosesCall who w off_view after
+    call_loses after off = record {
+      call = call;
+      next = one.begins.next;
+      awake = one.begins.awake;
+      new_is = refl;
+      stay = others_lost k t staging files w one.world one.begins.awake one.out who call one.begins.next one.up one.none l u staging laid left promise;
+      off = off;
+    }

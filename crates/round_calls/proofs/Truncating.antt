@@ -1,0 +1,165 @@
+-- A `truncate` of a World.
+use Rattle.std.specs.Prelude.{◌≡◌, ◌≢◌, ◌≤◌, ◌+◌, ◌-◌, ◌++◌, nat_le, nat_lt, ℕ, Bool, true, false, List, [], ◌∷◌, length, map, Option, Some, None, sum_by, refl}
+use Rattle.std.proofs.Common.{arith, lit<, ap, ◌∙◌, sym, inl}
+use Rattle.std.proofs.lemmas.Bool.Decides.{nat_tests}
+use Rattle.block_counts.specs.Counts.{held_by}
+use Rattle.pm_words.specs.declared.Cell.{Cell}
+use Rattle.pm_words.specs.Powers.{is_on, Supply}
+use Rattle.pm_words.specs.Words.{Words}
+use Rattle.file_table.specs.Files.{Files}
+use Rattle.flight_truncates.specs.Truncates as truncates
+use Rattle.flight_truncates.specs.Truncates.{Finds, StillRuns}
+use Rattle.flight_rounds.specs.world_lent.Back.{IsPutBack}
+use Rattle.k_rules.specs.View.{View}
+use Rattle.posix_types.specs.declared.call.Call.{Call}
+use Rattle.posix_types.specs.declared.call.Who.{Who}
+use Rattle.posix_types.specs.declared.handle.Handle.{Handle}
+use Rattle.posix_types.specs.declared.item.Outcome.{Outcome}
+use Rattle.posix_types.specs.declared.reply.What.{What}
+use Rattle.posix_words.specs.Open.{Tables}
+use Rattle.posix_words.specs.Outcomes.{first, space_row, unless}
+use Rattle.posix_words.specs.Room.{growth}
+use Rattle.posix_puts.specs.Views.{need_of}
+use Rattle.posix_facts.specs.RowLaws.{none_fits}
+use Rattle.posix_spec.specs.FileRows.{content, no_blocks, truncate_rows}
+use Rattle.posix_spec.specs.Put.{put_by}
+use Rattle.posix_spec.specs.Run.{after_call}
+use Rattle.posix_spec.specs.State.{room, State}
+use Rattle.posix_spec.specs.Step.{step}
+use Rattle.crash_spec.specs.Busy.{is_logged}
+use Rattle.round_jobs.specs.staging_files.Keeps.{Staged}
+use Rattle.round_jobs.specs.world_images.Promised.{IsKept}
+use Rattle.round_jobs.specs.world_rules.Jobs.{begun_of}
+use Rattle.round_jobs.specs.world_standing.Standing.{Pending, StandsAt}
+use Rattle.round_jobs.specs.world_standing.world_promise.JobLaws.{needs}
+use Rattle.round_turns.proofs.Beginning.{lost_call, others_lost}
+use Rattle.round_turns.proofs.Losing.{lost_view}
+use Rattle.round_views.specs.declared.over.Over.{Over}
+use Rattle.round_views.specs.Begins.{EndsRound, LosesCall, WantsMemory}
+use Rattle.round_views.specs.file_ends.Ends.{FilesEnd}
+use Rattle.round_views.specs.lost_devices.Left.{IsLeftOf}
+use Rattle.round_views.specs.Views.{disk_of, IsWorldOver, kept_of, state_of, WorldView}
+use Rattle.round_calls.proofs.Jobs.{needs_are}
+use Rattle.round_calls.proofs.Running.{few_next, lets_now}
+use Rattle.round_calls.specs.Calls.{AtCall}
+use Rattle.round_calls.proofs.Staying.{ends_round, going_now, round_over, stands_now, unchanged, wants_memory}
+
+pub truncate_unlogged : (s : State) (who : Who) (h : Handle) (size : ℕ) → is_logged s (who, Call.Truncate h size) ≡ false
+unfolding put_by
+truncate_unlogged s who h size = refl
+
+-- what no row refuses fits
+last_row : (s : State) (small : Bool) (need : ℕ) → unless small (no_blocks s need) ≡ None → small ≡ false → need ≤ room s
+last_row s small need none large = by (nat_lt (room s) need) refl (sym (ap (λ b. unless b (no_blocks s need)) large) ∙ none) where
+  by : (b : Bool) → nat_lt (room s) need ≡ b → space_row b What.Blocks need (room s) ≡ None → need ≤ room s
+  by false is row_is = grind (arith, nat_tests)
+  by true is row_is = cc
+
+blocks_grow : (m n : ℕ) → m ≤ n → held_by m ≤ held_by n
+blocks_grow m n le = omega (arith, le)
+
+no_growth : (from to : ℕ) → to ≤ from → growth from to ≡ 0
+no_growth from to le = (let less = blocks_grow to from le in omega (arith, less))
+
+pub truncate_fits : (s : State) (who : Who) (h : Handle) (size : ℕ) → first (truncate_rows s who h size) ≡ None → growth (length (content s who h)) size ≤ room s
+unfolding truncate_rows
+truncate_fits s who h size none = by (nat_le size (length (content s who h))) refl where
+  last : unless (nat_le size (length (content s who h))) (no_blocks s (growth (length (content s who h)) size)) ≡ None
+  last = none_fits (truncate_rows s who h size) none 2 None (lit< tt)
+
+  by : (b : Bool) → nat_le size (length (content s who h)) ≡ b → growth (length (content s who h)) size ≤ room s
+  by true is = (let none_more = no_growth (length (content s who h)) size (grind (arith, nat_tests)) in omega (arith, none_more))
+  by false is = last_row s (nat_le size (length (content s who h))) (growth (length (content s who h)) size) last is
+
+no_needs : (s : State) (pending : List Pending) → pending ≡ [] → sum_by (λ (p : Pending). need_of s p.who p.call) pending ≡ 0
+no_needs s [] none = refl
+no_needs s (p ∷ pending) none = cc
+
+module _ (k : View) (t : Tables) (staging : Staged) (files : Files) (w : WorldView) (who : Who) (h : Handle) (size : ℕ) (one : AtCall k t staging files w who (Call.Truncate h size)) (taken : ℕ)
+    (taken_is : taken ≡ needs (state_of w) (stands_now k t staging files w who (Call.Truncate h size) one).jobs) where
+  abbrev now : StandsAt w.geometry k t (kept_of w staging files) true (length w.history) (state_of w)
+  now = stands_now k t staging files w who (Call.Truncate h size) one
+
+  -- IT IS FOUND AS IT ASKS.
+  abbrev pub finds : Finds w.geometry k t (kept_of w staging files) (length w.history) (state_of w) who (Call.Truncate h size) taken
+  finds = record {
+    runs = now;
+    few = few_next k t staging files w who (Call.Truncate h size) one;
+    beside = lets_now k t staging files w who (Call.Truncate h size) one;
+    needs_are = taken_is;
+  }
+
+  -- ---- the round is over
+
+  module _ (needed left : ℕ) (over : truncates.EndsRound who h size taken k t files needed left) where
+    accepted : first (truncate_rows (state_of w) who h size) ≡ None
+    accepted = over.accepted w.geometry (kept_of w staging files) (length w.history) (state_of w) finds
+
+    needed_is : needed ≡ growth (length (content (state_of w) who h)) size
+    needed_is = over.need_is w.geometry (kept_of w staging files) (length w.history) (state_of w) finds
+
+    fits : needed ≤ room (state_of w)
+    fits = (let fit = truncate_fits (state_of w) who h size accepted in omega (arith, fit, needed_is))
+
+    left_is : left ≡ room (state_of w) - sum_by (λ (p : Pending). need_of (state_of w) p.who p.call) w.pending
+    left_is =
+        over.left_is w.geometry (kept_of w staging files) (length w.history) (state_of w) finds
+        ∙ ap (λ n. room (state_of w) - n) (taken_is ∙ needs_are (state_of w) w.pending now.jobs now.jobs_are)
+
+    some_out : w.pending ≢ []
+    some_out none = (
+        let lacks = over.lacks in
+        let zero = no_needs (state_of w) w.pending none in
+        omega (arith, lacks, zero, left_is, fits))
+
+    pub truncate_over : IsWorldOver k t staging files (record w { over = Some (Over.Space needed left); acts = w.acts + 1; disk = disk_of k t staging })
+    truncate_over = round_over k t staging files w who (Call.Truncate h size) one k staging files refl refl (going_now k t staging files w who (Call.Truncate h size) one).ends now needed left (inl some_out)
+
+    pub truncate_ends_round : (after : Supply) → is_on after ≡ true → EndsRound who w (record w { over = Some (Over.Space needed left); acts = w.acts + 1; disk = disk_of k t staging }) after needed left
+    truncate_ends_round =
+        ends_round k t staging files w who (Call.Truncate h size) one k staging files refl refl (going_now k t staging files w who (Call.Truncate h size) one).ends now needed left (inl some_out)
+        (inl (record { need_is = (accepted, needed_is); left_is = left_is; fits = fits; lacks = over.lacks }))
+
+  -- ---- memory wanted
+
+  module _ (l : View) (still : StillRuns who h size taken k t files l) (base : l.volume.base ≡ k.volume.base) (ends : FilesEnd l.volume files) where
+    stands_still : StandsAt w.geometry l t (kept_of w staging files) true (length w.history) (state_of w)
+    stands_still = (still w.geometry (kept_of w staging files) (length w.history) (state_of w) finds).0
+
+    pub truncate_unchanged : IsWorldOver l t staging files (record w { disk = disk_of l t staging })
+    truncate_unchanged = unchanged k t staging files w who (Call.Truncate h size) one l staging files refl base ends stands_still
+
+    pub truncate_wants : (after : Supply) → is_on after ≡ true → WantsMemory who w (record w { disk = disk_of l t staging }) after
+    truncate_wants = wants_memory k t staging files w who (Call.Truncate h size) one l staging files refl base ends stands_still
+
+  -- ---- it returned, or lost its power
+
+  pub truncate_stands : (l : View) (laid : Files) (outcome : Outcome) → truncates.Answers who h size taken k t files l laid outcome
+      → StandsAt w.geometry l t (kept_of w staging laid) true (length w.history + 1) (after_call (state_of w) (who, Call.Truncate h size))
+      × ((step (state_of w) who (Call.Truncate h size)).outcome ≡ outcome) × ((after_call (state_of w) (who, Call.Truncate h size)).entries ≡ (state_of w).entries)
+  truncate_stands l laid outcome answers = (
+    answers.runs w.geometry (kept_of w staging files) (length w.history) (state_of w) finds,
+    answers.outcome_is w.geometry (kept_of w staging files) (length w.history) (state_of w) finds,
+    answers.names w.geometry (kept_of w staging files) (length w.history) (state_of w) finds,
+  )
+
+  module _ (l : View) (loses : truncates.Loses who h size taken k t files l) where
+    left_device : IsLeftOf w.geometry k.cells l.cells
+    left_device = loses.left w.geometry (kept_of w staging files) (length w.history) (state_of w) finds
+
+    promise : (back : ℕ → Cell) (slots : List (Option ℕ)) (image : Words) → IsPutBack k.volume l.cells back (kept_of w staging files).first w.claims now.jobs slots image
+        → IsKept w.geometry w.start w.history (map begun_of now.jobs ++ (who, Call.Truncate h size) ∷ []) image
+    promise = loses.kept w.geometry (kept_of w staging files) (length w.history) w.start w.history one.world.mode finds
+
+    pub truncate_lost : IsWorldOver l t staging files (lost_view w ((who, Call.Truncate h size) ∷ []) (w.acts + 1) (disk_of l t staging))
+    truncate_lost = lost_call k t staging files w one.world one.begins.awake one.out who (Call.Truncate h size) one.begins.next one.up one.none l t staging files left_device promise
+
+    pub truncate_loses : (after : Supply) → is_on after ≡ false → LosesCall who w (lost_view w ((who, Call.Truncate h size) ∷ []) (w.acts + 1) (disk_of l t staging)) after
+    truncate_loses after off = record {
+      call = Call.Truncate h size;
+      next = one.begins.next;
+      awake = one.begins.awake;
+      new_is = refl;
+      stay = others_lost k t staging files w one.world one.begins.awake one.out who (Call.Truncate h size) one.begins.next one.up one.none l t staging files left_device promise;
+      off = off;
+    }

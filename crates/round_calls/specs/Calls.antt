@@ -1,0 +1,34 @@
+-- A World at its next call.
+use Rattle.std.specs.Prelude.{◌≡◌, ℕ, Bool, true, [], length, Some}
+use Rattle.crash_spec.specs.Busy.{waits_for}
+use Rattle.disk_places.specs.Places.{Geometry}
+use Rattle.file_table.specs.Files.{Files, runs_in}
+use Rattle.k_rules.specs.View.{View}
+use Rattle.posix_types.specs.declared.call.Call.{Call}
+use Rattle.posix_types.specs.declared.call.Who.{Who}
+use Rattle.posix_words.specs.Open.{Tables}
+use Rattle.posix_spec.specs.Scripted.{IsSetUp}
+use Rattle.posix_spec.specs.State.{State}
+use Rattle.round_jobs.specs.staging_files.Keeps.{Staged}
+use Rattle.round_jobs.specs.world_rules.Stands.{IsUsed, number}
+use Rattle.round_jobs.specs.world_standing.Standing.{Kept, StandsAt}
+use Rattle.round_views.specs.Begins.{Begins}
+use Rattle.round_views.specs.Views.{HasNone, IsWorldOver, kept_of, state_of, WorldView}
+
+-- A WORLD AT ITS NEXT CALL: the log's lines are out; the call is the caller's next one, the round is not over, and no job keeps it
+-- waiting; the caller may begin, and has no job out.
+pub record AtCall (k : View) (t : Tables) (staging : Staged) (files : Files) (w : WorldView) (who : Who) (call : Call) : Type 0 where
+  pub world : IsWorldOver k t staging files w
+  pub out : w.lines_out ≡ true
+  pub begins : Begins w who call
+  pub up : IsSetUp w.scripts w.history who
+  pub none : HasNone w who
+
+-- NOTHING IS STAGED of the file that the call waits for,
+abbrev pub IsBare : (g : Geometry) (k : View) (t : Tables) (kept : Kept) (lines : Bool) (n : ℕ) (s : State) → StandsAt g k t kept lines n s → Who → Call → Type 0
+IsBare g k t kept lines n s stands who call = (ino : ℕ) → waits_for s (who, call) ≡ Some (number stands.numbers ino) → IsUsed k.volume ino → runs_in kept.files ino ≡ []
+
+-- by some way in which the World stands together.
+pub record HasBareFile (k : View) (t : Tables) (staging : Staged) (files : Files) (w : WorldView) (who : Who) (call : Call) : Type 0 where
+  pub stands : StandsAt w.geometry k t (kept_of w staging files) true (length w.history) (state_of w)
+  pub bare : IsBare w.geometry k t (kept_of w staging files) true (length w.history) (state_of w) stands who call

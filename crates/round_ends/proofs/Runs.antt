@@ -1,0 +1,84 @@
+-- An unmount: what is left of a run keeps the promise.
+use Rattle.std.specs.Prelude.{◌≡◌, ◌*◌, ◌++◌, Bool, true, false, List, [], length, map, refl}
+use Rattle.std.proofs.Common.{arith, ◌∙◌, sym, subst}
+use Rattle.pm_words.specs.declared.Cell.{Cell}
+use Rattle.pm_words.specs.Cells.{AllHome}
+use Rattle.pm_words.specs.Parts.{Part}
+use Rattle.crash_facts.specs.Laws.{KeepsHome, LinesHoldOut}
+use Rattle.file_table.specs.Files.{Files}
+use Rattle.flight_gathers.specs.Laws.{KeepsGathered, StandsGathered}
+use Rattle.flight_laps.specs.staging_files.GivesUp.{nothing_staged}
+use Rattle.flight_laps.specs.staging_files.Keeps.{Staged}
+use Rattle.round_views.specs.world_images.Promised.{KeepsPromise}
+use Rattle.flight_rounds.specs.Laws.{StandsHome}
+use Rattle.k_rules.specs.View.{View}
+use Rattle.list_facts.specs.Members.{In}
+use Rattle.losing_facts.specs.Stops.{KeepsGatheredOut}
+use Rattle.posix_spec.specs.Run.{Begun}
+use Rattle.posix_words.specs.Open.{Tables}
+use Rattle.round_views.specs.losing_facts.write_ends.Lost.{begun_by}
+use Rattle.round_views.specs.Rounds.{IsLeft}
+use Rattle.round_views.specs.script_calls.Counts.{history_within}
+use Rattle.round_views.specs.Views.{calls_out, first_by, WorldView}
+use Rattle.round_ends.proofs.Lines.{each_claimed, each_other}
+use Rattle.round_ends.proofs.Rounds.{home_behind, home_cut, promise_cut, size_behind, size_cut, stands_behind}
+use Rattle.round_ends.specs.Laws.{EndsRunWhole, IsEnding, LosesRun, MayCrashWhole}
+
+-- what is left on this device
+left : (k l : View) (t : Tables) (staging : Staged) (files : Files) (w : WorldView) (lines : List Part) (pm : List Cell) (unfinished : List Begun) → IsEnding k l t staging files w lines → unfinished ≡ calls_out w
+    → length pm ≡ 512 * w.geometry.blocks → AllHome pm → KeepsPromise w.geometry pm w.start w.history unfinished → IsLeft w pm w.history unfinished
+left k l t staging files w lines pm unfinished ending same size home promise = record {
+  history_is = refl;
+  unfinished_is = same;
+  legal = ending.world.legal;
+  scripted = ending.world.scripted;
+  within = history_within w.scripts w.history ending.world.scripted;
+  size = size;
+  home = home;
+  promise = promise;
+}
+
+none_begun : (k l : View) (t : Tables) (staging : Staged) (files : Files) (w : WorldView) (lines : List Part) → IsEnding k l t staging files w lines → [] ≡ calls_out w
+none_begun k l t staging files w lines ending = sym (λ i. map begun_by (ending.none_out i) ++ (ending.world.going ending.awake).none_unfinished i)
+
+-- DONE
+pub ends_run_whole : StandsHome → LinesHoldOut → StandsGathered → KeepsGatheredOut → KeepsHome → EndsRunWhole
+ends_run_whole turning holding gathered keeps at_home k l m t staging then files table w lines ending done =
+    left k l t staging files w lines m.cells [] ending (none_begun k l t staging files w lines ending)
+    (size_behind turning holding gathered keeps k l m t staging then files table w lines ending done)
+    (home_behind turning holding gathered keeps k l m t staging then files table w lines ending done)
+    (at_home w.geometry m t (record { staging = nothing_staged; files = table; claims = []; pending = []; first = first_by w.geometry w.first }) (length w.history) w.start w.history []
+    (stands_behind turning holding gathered keeps k l m t staging then files table w lines ending done))
+
+-- THE POWER WENT.
+pub loses_run : StandsHome → LinesHoldOut → KeepsGathered → KeepsGatheredOut → LosesRun
+loses_run turning holding cutting keeps k l m t staging then files table w lines ending cut =
+    left k l t staging files w lines m.cells (calls_out w) ending refl
+    (size_cut turning holding cutting keeps k l m t staging then files table w lines ending cut)
+    (home_cut turning holding cutting keeps k l m t staging then files table w lines ending cut)
+    (promise_cut turning holding cutting keeps k l m t staging then files table w lines ending cut)
+
+-- it had gone
+pub may_crash_whole : MayCrashWhole
+may_crash_whole w lines none_out holds = record {
+  jobs = record {
+    each_out = λ job at. absurd at;
+    each_filled = λ job at. absurd at;
+    one_each = λ m n d before below. absurd (omega (arith, below));
+    all = λ p at. absurd (subst (In p) none_out at);
+  };
+  lines_are = λ out. (
+    [],
+    record {
+      are = holds.are;
+      claimed = each_claimed w lines holds;
+      of_jobs = λ n d at. absurd at;
+      one_each = λ m n d at other. absurd at;
+      entries = λ n d at. absurd at;
+      others = λ n below unclaimed untaken. each_other w lines holds n below unclaimed;
+    },
+  );
+  none = λ home. absurd (both w.lines_out holds.are.out home);
+} where
+  both : (b : Bool) → b ≡ true → b ≡ false → ⊥
+  both b one two = (let never : true ≡ false = sym one ∙ two in cc)

@@ -1,0 +1,60 @@
+//! How a round of the World ends, and the whole run.
+//!
+//! A round ends at a checkpoint: its lines come home, all that is staged is gathered, and the next lap begins. The layer
+//! above may rely on this: with its lines at home a round may begin (`MayBegin`); those that hold the claims may be put back (`MayEnd`), and then all is there
+//! that a gathering asks for (`EndsReady`); done, the World goes on with the next round (`GoesIntoNextRound`), and where
+//! the power goes it is lost with the lines at home (`LosesRoundInside`, `LosesRoundBefore`); and what is left of a run
+//! that ends so keeps the promise (`EndsRunWhole`, `LosesRun`).
+//!
+//! Lemmas alone, over what `round_views` says that a World keeps. Stands on `flight_rounds`, `flight_gathers`,
+//! `standing_facts`, `map_ends`, `losing_facts` and `crash_facts`.
+#![tactic(auto)]
+
+ghost use Rattle.round_ends.specs.Laws.{EndsReady, EndsRunWhole, GoesIntoNextRound, LosesRoundBefore, LosesRoundInside, LosesRun, MayBegin, MayCrashWhole, MayEnd};
+
+use crash_facts::a_crash_keeps_the_promise;
+use flight_gathers::all_files_are_gathered;
+use flight_rounds::log_lines_come_home;
+use losing_facts::publishing_leaves_what_is_out;
+use map_ends::files_end_after_changes_of_maps;
+use standing_facts::what_stands_may_be_gathered;
+
+/// The log's lines may go out.
+pub fn the_lines_of_a_round_may_go_out()
+    ensures { MayBegin }
+{}
+
+/// The log's lines come home at the end of a round, or of the run, and all that is staged may be gathered.
+pub fn the_lines_of_a_round_come_home()
+    ensures may { MayEnd }
+    ensures ready { EndsReady }
+{
+    a_crash_keeps_the_promise();
+    log_lines_come_home();
+    what_stands_may_be_gathered();
+}
+
+/// A checkpoint: the World goes on, or is lost.
+pub fn a_checkpoint_ends_a_round()
+    ensures done { GoesIntoNextRound }
+    ensures inside { LosesRoundInside }
+    ensures before { LosesRoundBefore }
+{
+    a_crash_keeps_the_promise();
+    log_lines_come_home();
+    all_files_are_gathered();
+    publishing_leaves_what_is_out();
+    files_end_after_changes_of_maps();
+}
+
+/// An unmount: what is left keeps the promise.
+pub fn an_unmount_ends_a_run()
+    ensures whole { EndsRunWhole }
+    ensures lost { LosesRun }
+    ensures crash { MayCrashWhole }
+{
+    a_crash_keeps_the_promise();
+    log_lines_come_home();
+    all_files_are_gathered();
+    publishing_leaves_what_is_out();
+}

@@ -1,0 +1,4 @@
+pub mod Lines
+pub mod Trees
+pub mod Going
+pub mod Begun

@@ -1,0 +1,11 @@
+use Rattle.std.specs.Prelude.{◌≡◌, ◌<◌, ℕ, [], length}
+use Rattle.disk_rules.specs.Volume.{inode}
+use Rattle.file_table.specs.Files.{runs_in, size_in}
+use Rattle.round_starts.proofs.sizes.table_of.Given as goal
+
+abbrev pub invariant-loop-ino : goal.invariant-loop-ino
+invariant-loop-ino l = record {
+  count : length l.table.sizes ≡ l.k.volume.geometry.inodes;
+  done : (i : ℕ) → i < l.ino → size_in l.table i ≡ (inode l.k.volume i).size;
+  runs : (i : ℕ) → runs_in l.table i ≡ [];
+}

@@ -1,0 +1,1 @@
+pub use Rattle.losing_facts.proofs as losing_facts_proofs

@@ -1,0 +1,135 @@
+-- What the beginning of a write answers and leaves.
+use Rattle.std.specs.Prelude.{◌≡◌, ◌≢◌, ◌⊎◌, ◌<◌, ◌≤◌, ◌+◌, ◌-◌, ◌^◌, ℕ, true, false, List, [], ◌∷◌, ◌++◌, length, map, Option, Some, None, Result, Ok, Err}
+use Rattle.std.specs.declared.alloc.AllocError.{AllocError}
+use Rattle.block_counts.specs.Counts.{blocks_for}
+use Rattle.pm_words.specs.declared.Cell.{Cell}
+use Rattle.pm_words.specs.Powers.{is_on, Supply}
+use Rattle.pm_words.specs.Words.{Words}
+use Rattle.disk_places.specs.Places.{Geometry}
+use Rattle.file_table.specs.Files.{Files}
+use Rattle.k_rules.specs.View.{View}
+use Rattle.write_gaps.specs.lost_devices.Left.{IsLeftOf}
+use Rattle.posix_types.specs.declared.call.Call.{Call}
+use Rattle.posix_types.specs.declared.call.Mode.{Mode}
+use Rattle.posix_types.specs.declared.call.Who.{Who}
+use Rattle.posix_types.specs.declared.handle.Handle.{Handle}
+use Rattle.posix_types.specs.declared.item.Item.{Item}
+use Rattle.posix_types.specs.declared.item.Outcome.{Outcome}
+use Rattle.posix_words.specs.Open.{Tables}
+use Rattle.posix_words.specs.Outcomes.{first}
+use Rattle.posix_puts.specs.Views.{need_of}
+use Rattle.posix_spec.specs.FileRows.{write_rows}
+use Rattle.posix_spec.specs.Run.{run}
+use Rattle.posix_spec.specs.State.{room, State}
+use Rattle.flight_reserves.specs.staging_files.Keeps.{Staged}
+use Rattle.flight_reserves.specs.staging_files.Reserves.{IsLacking}
+use Rattle.flight_reserves.specs.world_images.Promised.{IsKept}
+use Rattle.flight_reserves.specs.world_lent.Back.{IsPutBack}
+use Rattle.flight_reserves.specs.world_promise.JobLaws.{needs}
+use Rattle.flight_reserves.specs.world_rules.Jobs.{begun_of, Job}
+use Rattle.flight_reserves.specs.world_standing.Standing.{Kept, StandsAt}
+use Rattle.flight_reserves.specs.world_standing.Views.{SpellCall}
+use Rattle.flight_reserves.specs.world_steps.Steps.{LetsJobsBe}
+use Rattle.write_stages.specs.write_asks.Laws.{call_of, start_of}
+use Rattle.write_stages.specs.write_drafts.Drafts.{staged_count}
+use Rattle.write_jobs.specs.Jobs.{blocks_of, JobView}
+use Rattle.write_stages.specs.Stages.{with_parts}
+use Rattle.write_begins.specs.declared.beginning.WriteBegun.{WriteBegun}
+
+-- A WORLD IN WHICH THE CALL BEGINS, over this K-Split with these tables, while the log lines are out: it stands together, in strict
+-- mode; the callers of the jobs that are out are others, and their files too; and together they need so many blocks.
+pub record Found (k : View) (t : Tables) (staging : Staged) (files : Files) (who : Who) (call : Call) (taken : ℕ) : Type 0 where
+  pub g : Geometry
+  pub kept : Kept
+  pub n : ℕ
+  pub few : n < 2 ^ 62
+  pub s : State
+  pub stands : StandsAt g k t (with_parts kept staging files) true n s
+  pub strict : s.mode ≡ Mode.Strict
+  pub beside : LetsJobsBe s (who, call) stands.numbers stands.jobs
+  pub taken_is : taken ≡ needs s stands.jobs
+
+-- ---- it returns at once
+
+-- A ROW REFUSED IT, or it has no bytes: it is answered so in the state.
+abbrev pub IsAnsweredBy : Who → Handle → Option ℕ → List ℕ → View → Tables → Staged → Files → ℕ → Outcome → Type 0
+IsAnsweredBy who h at x k t staging files taken outcome =
+    (found : Found k t staging files who (call_of h at x) taken) → first (write_rows found.s who h (start_of found.s who h at) x) ≡ Some outcome
+
+-- no row fits
+abbrev pub IsAccepted : Who → Handle → Option ℕ → List ℕ → View → Tables → Staged → Files → ℕ → Type 0
+IsAccepted who h at x k t staging files taken =
+    (found : Found k t staging files who (call_of h at x) taken) → first (write_rows found.s who h (start_of found.s who h at) x) ≡ None
+
+-- ---- it is logged
+
+-- A JOB IS OUT, last of those that are out, with its entry, its blocks and the words of the call; the World stands together with
+-- it, in the same state; its blocks lie in the file as its entry leaves it; and one run more is out.
+pub record BeginsWrite (who : Who) (h : Handle) (at : Option ℕ) (x : List ℕ) (k l : View) (t : Tables)
+    (old new : Staged) (files then : Files) (taken : ℕ) (job : JobView) (blocks : List ℕ) : Type 0 where
+  pub accepted : IsAccepted who h at x k t old files taken
+  pub job_who : job.who ≡ who
+  pub blocks_are : blocks_of job.loans ≡ blocks
+  pub fresh : job.lost ≡ false
+  pub ends : job.draft.file_block + job.draft.count ≤ blocks_for job.draft.size
+  pub runs : length new.out ≡ length old.out + 1
+  pub words : (found : Found k t old files who (call_of h at x) taken)
+      → SpellCall found.s (record { who = who; call = call_of h at x; draft = job.draft; blocks = blocks }) job.words
+  pub stands : (found : Found k t old files who (call_of h at x) taken)
+      → StandsAt found.g l t
+      (record (with_parts found.kept new then) { pending = found.kept.pending ++ record { who = who; call = call_of h at x; draft = job.draft; blocks = blocks } ∷ [] }) true found.n found.s
+
+-- ---- it is not begun
+
+-- No call sees a change: each World stands together in its state still, and as many runs are out.
+pub record StaysStanding (who : Who) (call : Call) (k l : View) (t : Tables) (old new : Staged) (files then : Files) (taken : ℕ) : Type 0 where
+  pub runs : length new.out ≡ length old.out
+  pub stands : (found : Found k t old files who call taken) → StandsAt found.g l t (with_parts found.kept new then) true found.n found.s
+
+-- The state has room for the call, but the jobs that are out leave less than it needs.
+pub record LacksBeside (s : State) (who : Who) (call : Call) (jobs : List Job) (need left : ℕ) : Type 0 where
+  pub need_is : need ≡ need_of s who call
+  pub left_is : left ≡ room s - needs s jobs
+  pub lacks : left < need
+
+-- THE ROUND IS OVER for want of space, and these two numbers say why: what the call needs and what the jobs that are out leave; or
+-- what the staging needs free for the blocks of its plan, and has. Some run is out: of a job, or of an earlier write of this lap.
+pub record EndsRound (who : Who) (h : Handle) (at : Option ℕ) (x : List ℕ) (k l : View) (t : Tables)
+    (old new : Staged) (files then : Files) (taken need left : ℕ) : Type 0 where
+  pub accepted : IsAccepted who h at x k t old files taken
+  pub cause : (found : Found k t old files who (call_of h at x) taken)
+      → LacksBeside found.s who (call_of h at x) found.stands.jobs need left
+      ⊎ IsLacking (staged_count (start_of found.s who h at) (length x)) old k need left
+  pub late : old.out ≢ []
+  pub stays : StaysStanding who (call_of h at x) k l t old new files then taken
+
+-- ---- the power
+
+-- THE POWER WENT: the device is left of the one before, and each image, once log lines and blocks of jobs are put back, is kept
+-- with the calls of the jobs unfinished, and this one as the last.
+pub record LosesWrite (who : Who) (call : Call) (k l : View) (t : Tables) (staging : Staged) (files : Files) (taken : ℕ) : Type 0 where
+  pub left : (found : Found k t staging files who call taken) → IsLeftOf found.g k.cells l.cells
+  pub kept : (found : Found k t staging files who call taken) (start : State) (history : List Item) → found.s ≡ run start history → start.mode ≡ Mode.Strict
+      → (back : ℕ → Cell) (slots : List (Option ℕ)) (image : Words)
+      → IsPutBack k.volume l.cells back found.kept.first found.kept.claims found.stands.jobs slots image
+      → IsKept found.g start history (map begun_of found.stands.jobs ++ (who, call) ∷ []) image
+
+-- ---- all of it
+
+-- WHAT `begin_write` ANSWERS AND LEAVES. A row that fits answers it, and nothing changed; it became a job; the round is over; the
+-- power went; or memory wanted.
+abbrev pub IsBegun : Who → Handle → Option ℕ → List ℕ → ℕ → View → View → Tables → Staged → Staged → Files → Files → Result WriteBegun AllocError → Type 0
+IsBegun who h at x taken k l t old new files then (Ok (WriteBegun.Answered outcome)) =
+    IsAnsweredBy who h at x k t old files taken outcome × (l ≡ k) × (new ≡ old) × (then ≡ files)
+IsBegun who h at x taken k l t old new files then (Ok (WriteBegun.Job job blocks)) = BeginsWrite who h at x k l t old new files then taken job blocks.items
+IsBegun who h at x taken k l t old new files then (Ok (WriteBegun.RoundOver need left)) = EndsRound who h at x k l t old new files then taken need left
+IsBegun who h at x taken k l t old new files then (Ok WriteBegun.PowerLost) = LosesWrite who (call_of h at x) k l t old files taken
+IsBegun who h at x taken k l t old new files then (Err e) = StaysStanding who (call_of h at x) k l t old new files then taken
+
+-- `PowerLost` exactly where the power is off
+abbrev pub IsPaid : Supply → Result WriteBegun AllocError → Type 0
+IsPaid power (Ok (WriteBegun.Answered outcome)) = is_on power ≡ true
+IsPaid power (Ok (WriteBegun.Job job blocks)) = is_on power ≡ true
+IsPaid power (Ok (WriteBegun.RoundOver need left)) = is_on power ≡ true
+IsPaid power (Ok WriteBegun.PowerLost) = is_on power ≡ false
+IsPaid power (Err e) = is_on power ≡ true

@@ -1,0 +1,83 @@
+//! A write begins.
+ghost use Rattle.std.specs.Prelude.{◌≡◌, ◌^◌, true};
+ghost use Rattle.pm_words.specs.Powers.{is_on, Steps};
+ghost use Rattle.file_ends.specs.Ends.{FilesEnd};
+ghost use Rattle.write_stages.specs.write_asks.Laws.{call_of};
+ghost use Rattle.write_begins.specs.Begins.{Found, IsBegun, IsPaid};
+ghost use Rattle.write_begins.specs.Goes.{KeepsMaps};
+
+use crate::rooms::begin_target;
+use file_table::FileTable;
+use flight_reserves::k_split::KSplit;
+use flight_reserves::staging_files::Staging;
+use pm_lines::Power;
+use posix_types::{Data, Handle, Outcome, Who};
+use std::alloc::{AllocError, Global};
+use write_jobs::Job;
+use write_stages::open_files::OpenFiles;
+use write_stages::write_asks::{Asked, ask, numbers_are_those_of_the_state};
+use write_stages::write_drafts::kept_numbers_are_those_of_the_state;
+
+/// How a write began.
+#[derive(Debug, Drop)]
+pub enum WriteBegun {
+    /// It returned, with this outcome.
+    Answered(Outcome),
+    /// It is logged: its job, and the disk blocks that it was lent, in the order of the entry's blocks.
+    Job { job: Job, blocks: Vec<u32> },
+    /// The round is over for want of space: the blocks that are needed, and those that there are.
+    RoundOver { need: u64, room: u64 },
+    /// The power is off.
+    PowerLost,
+}
+
+/// Begins a write of bytes through a handle, at `offset` or where the handle stands, in strict mode, beside
+/// jobs that need `needs` blocks together. The power is on, and the World stands together, with the log's
+/// lines out; the jobs that are out are of other callers and other files; and nothing of a file lies past its end.
+///
+/// It answers in this order: by the row of the call that fits; RoundOver where only the jobs that are out leave
+/// too little; PowerLost where the power goes while it makes room; RoundOver where the staging has no run; else
+/// a job. RoundOver comes only where some run is out.
+///
+/// # Errors
+///
+/// Want of memory: now, or of a write before this one in the lap, where the staging blocks of the runs that went
+/// back do not do and no run is out. No call sees a change.
+///
+/// # Steps
+///
+/// At most 2^22.
+pub fn begin_write(
+    alloc: Global,
+    k: &mut KSplit,
+    tables: &OpenFiles,
+    staging: &mut Staging,
+    files: &mut FileTable,
+    who: Who,
+    handle: Handle,
+    offset: Option<u64>,
+    bytes: &Data,
+    needs: u64,
+    power: &mut Power,
+) -> Result<WriteBegun, AllocError>
+    requires on { is_on power.old ≡ true }
+    requires found { Found k.old tables.now.tables staging.old files.old who
+        (call_of handle offset bytes.now) needs }
+    requires ends { FilesEnd k.old.volume files.old }
+    ensures steps { Steps (2 ^ 22) power.old power.new }
+    ensures paid { IsPaid power.new result }
+    ensures keeps { is_on power.new ≡ true
+        → KeepsMaps k.old.volume k.new.volume files.old files.new }
+    ensures begun { IsBegun who handle offset bytes.now needs k.old k.new tables.now.tables
+        staging.old staging.new files.old files.new result }
+{
+    numbers_are_those_of_the_state();
+    kept_numbers_are_those_of_the_state();
+    let blocks = k.geometry().data_blocks();
+    let new = bytes.bytes.as_slice();
+    match ask(tables, files, who, handle, offset, new.len(), blocks, needs) {
+        Asked::Answered(outcome) => Ok(WriteBegun::Answered(outcome)),
+        Asked::Full { need, left } => Ok(WriteBegun::RoundOver { need, room: left }),
+        Asked::Goes(target) => { begin_target(alloc, k, staging, files, who, target, new, power) }
+    }
+}

@@ -1,0 +1,33 @@
+//! The beginning of a logged write.
+//!
+//! `begin_write` tries the rows of the call, zeroes what lies between the end of the file and a write in a later
+//! block, reserves staging blocks, reads what they are to hold already, and lends them: a job. It takes all
+//! memory of the job. The layer above may rely on this: a row that fits answers the call, and nothing changed
+//! (`IsAnsweredBy`); a write that no row refuses becomes a job, with which the World stands together
+//! (`BeginsWrite`), or ends the round for want of space, only where some run is out (`EndsRound`); where memory
+//! wants no call sees a change (`StaysStanding`); where the power goes the promise is kept (`LosesWrite`). The first
+//! write of a lap lacks no space, as nothing of a file lies past its end.
+//! `need_of` says what a call needs; the needs of the jobs that are out are those of their calls (`JobsNeed`).
+//!
+//! Stands on `write_asks`, `write_gaps`, `write_stages` and the laws of `flight_reserves` and `first_writes`.
+#![tactic(auto)]
+
+ghost use Rattle.write_begins.specs.Needs.{JobsNeed};
+
+use write_stages::write_asks::numbers_are_those_of_the_state;
+use write_stages::write_drafts::kept_numbers_are_those_of_the_state;
+
+mod beginning;
+mod needs;
+mod rooms;
+
+pub use beginning::{WriteBegun, begin_write};
+pub use needs::need_of;
+
+/// The jobs that are out need what their calls do.
+pub fn jobs_need_what_their_calls_do()
+    ensures { JobsNeed }
+{
+    numbers_are_those_of_the_state();
+    kept_numbers_are_those_of_the_state();
+}

@@ -9,7 +9,8 @@ use Rattle.script_text.specs.Words.{data_in, flags_in, handle_in, number_in, pat
 abbrev pub known_words : List (List ℕ)
 known_words =
     codes "mkdir" ∷ codes "rmdir" ∷ codes "unlink" ∷ codes "rename" ∷ codes "open" ∷ codes "close" ∷ codes "dup"
-    ∷ codes "read" ∷ codes "pread" ∷ codes "seek" ∷ codes "fsync" ∷ codes "stat" ∷ codes "list" ∷ []
+    ∷ codes "read" ∷ codes "pread" ∷ codes "write" ∷ codes "pwrite" ∷ codes "seek" ∷ codes "truncate" ∷ codes "fsync" ∷ codes "stat"
+    ∷ codes "list" ∷ []
 
 abbrev pub is_known : List ℕ → Bool
 is_known word = list_any (is_same word) known_words

@@ -1,19 +1,37 @@
 -- The World of an image that was mounted begins as the run of the scripts does.
-use Rattle.std.proofs.Common.{◌≡◌, ◌≤◌, ℕ, List, length, sym, ◌∙◌, ap, subst}
-use Rattle.pm_words.specs.Words.{word_at}
-use Rattle.disk_places.specs.Places.{Geometry}
+use Rattle.std.proofs.Common.{◌≡◌, ◌<◌, ◌≤◌, ◌^◌, ℕ, List, length, sym, ◌∙◌, ap, subst, arith}
+use Rattle.std.proofs.lemmas.Bool.{and_parts}
+use Rattle.std.proofs.lemmas.Bool.Decides.{nat_tests}
+use Rattle.std.specs.Prelude.{true}
+use Rattle.pm_words.specs.Words.{line_bytes, word_at}
+use Rattle.disk_places.specs.Fields.{is_same}
+use Rattle.disk_places.specs.Places.{Geometry, is_in_range}
+use Rattle.disk_places.specs.Superblock.{superblock}
 use Rattle.disk_rules.specs.Rules.{geometry_of}
 use Rattle.posix_types.specs.declared.call.Mode.{Mode}
 use Rattle.posix_types.specs.Scripts.{Scripts}
-use Rattle.split_machine.specs.world_beginning.Laws.{IsShapeOf}
-use Rattle.split_machine.specs.Starts.{BeginsMounted}
-use Rattle.split_machine.specs.Views.{WorldView}
+use Rattle.split_events.specs.world_beginning.Laws.{IsShapeOf}
+use Rattle.split_events.specs.round_views.Starts.{BeginsMounted}
+use Rattle.split_events.specs.round_views.Views.{WorldView}
 use Rattle.split_top.specs.Images.{CanOpen}
 use Rattle.split_top.specs.Worlds.{AreRunnable, BeginsOn}
+
+-- the log of a checked image has lines, and few
+has_lines : (g : Geometry) → is_in_range g ≡ true → 1 ≤ g.log
+has_lines g within = grind (arith, nat_tests)
+
+has_few_lines : (g : Geometry) → is_in_range g ≡ true → g.log < 2 ^ 32
+has_few_lines g within = grind (arith, nat_tests)
 
 module _ (bytes : List ℕ) (g : Geometry) (can : CanOpen bytes) (numbers : geometry_of (word_at bytes) ≡ g) (scripts : Scripts) (w : WorldView) (runnable : AreRunnable scripts) (begins : BeginsMounted (geometry_of (word_at bytes)) (word_at bytes) Mode.Strict scripts w) where
   scripts_are : w.scripts ≡ scripts
   scripts_are = ap (λ (v : WorldView). v.scripts) begins.world_is
+
+  -- the numbers of the image are in range
+  in_range : is_in_range w.geometry ≡ true
+  in_range =
+      subst (λ (h : Geometry). is_in_range h ≡ true) (sym (ap (λ (v : WorldView). v.geometry) begins.world_is))
+      (and_parts (is_in_range (geometry_of (word_at bytes))) (is_same (line_bytes (word_at bytes) 0) (superblock (geometry_of (word_at bytes)))) can.rule_4.numbers).0
 
   pub begins-on : BeginsOn bytes g scripts w
   begins-on = record {
@@ -24,7 +42,17 @@ module _ (bytes : List ℕ) (g : Geometry) (can : CanOpen bytes) (numbers : geom
     on = record {
       first = record {
         history = ap (λ (v : WorldView). v.history) begins.world_is;
+        claims = ap (λ (v : WorldView). v.claims) begins.world_is;
+        pending = ap (λ (v : WorldView). v.pending) begins.world_is;
         unfinished = ap (λ (v : WorldView). v.unfinished) begins.world_is;
+        over = ap (λ (v : WorldView). v.over) begins.world_is;
+        given_up = ap (λ (v : WorldView). v.given_up) begins.world_is;
+        settled = ap (λ (v : WorldView). v.settled) begins.world_is;
+        acts = ap (λ (v : WorldView). v.acts) begins.world_is;
+        lines = ap (λ (v : WorldView). v.lines_out) begins.world_is;
+        usable = ap (λ (v : WorldView). v.usable) begins.world_is;
+        log = has_lines w.geometry in_range;
+        few = has_few_lines w.geometry in_range;
         on = ap (λ (v : WorldView). v.lost) begins.world_is;
         one = subst (λ (s : Scripts). length s.threads ≤ 1) (sym scripts_are) runnable.one;
       };

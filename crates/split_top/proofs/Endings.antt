@@ -1,9 +1,9 @@
 -- A run as a whole: what the machine says of it, and what was found on the device.
-use Rattle.std.proofs.Common.{◌≡◌, ◌+◌, ◌*◌, ◌≤◌, ℕ, false, List, [], length, sym, ◌∙◌, ap, subst, arith, inl, inr, Option, Some, None}
+use Rattle.std.proofs.Common.{◌≡◌, ◌≤◌, ℕ, false, List, [], sym, ◌∙◌, ap, subst, arith, inl, inr, Option, Some, None}
 use Rattle.std.specs.Prelude.{nat_lt}
 use Rattle.std.proofs.lemmas.Bool.{true≢false, ltb-false}
 use Rattle.pm_words.specs.declared.Cell.{Cell}
-use Rattle.pm_words.specs.Powers.{is_left, is_on, Steps, Supply}
+use Rattle.pm_words.specs.Powers.{is_left, is_on, Supply}
 use Rattle.crash_spec.specs.Permitted.{Permitted}
 use Rattle.crash_spec.specs.Strict.{Strict}
 use Rattle.disk_places.specs.Places.{Geometry}
@@ -13,37 +13,37 @@ use Rattle.posix_types.specs.declared.item.Item.{Item}
 use Rattle.posix_types.specs.declared.reply.Shape.{Shape}
 use Rattle.posix_types.specs.declared.tree.TreeEntry.{TreeEntry}
 use Rattle.posix_types.specs.Scripts.{Scripts}
+use Rattle.posix_spec.specs.Afforded.{Afforded}
 use Rattle.posix_spec.specs.Ending.{beginning, IsWhole}
 use Rattle.posix_spec.specs.Run.{Begun, IsLegal}
 use Rattle.posix_spec.specs.Scripted.{IsComplete, Scripted}
 use Rattle.posix_spec.specs.State.{State}
 use Rattle.posix_spec.specs.Unfinished.{AreUnfinished}
-use Rattle.split_machine.specs.Changes.{ChangesAtMost}
-use Rattle.split_machine.specs.Runs.{IsRan}
-use Rattle.split_machine.specs.Steps.{steps_of_begun, steps_of_items}
-use Rattle.split_machine.specs.Laws.{AffordsItsSteps}
-use Rattle.split_machine.specs.Views.{WorldView}
-use Rattle.split_machine.specs.world_images.Starts.{has_setting}
+use Rattle.split_events.specs.event_facts.Changes.{ChangesAtMost}
+use Rattle.split_events.specs.Runs.{IsRan}
+use Rattle.split_events.specs.round_views.Views.{WorldView}
+use Rattle.split_events.specs.world_images.Starts.{has_setting}
 use Rattle.split_top.specs.Found.{IsFound}
 use Rattle.split_top.specs.Runs.{IsRun, task_on}
 use Rattle.split_top.specs.Worlds.{IsWorldOn}
 
 -- a power that went had no more steps than were taken
-spent : (n steps : ℕ) (before after : Supply) → before ≡ record { given = Some n; taken = 0 } → Steps steps before after → is_on after ≡ false → n ≤ steps
-spent n steps before after start took off =
-    let given : after.given ≡ Some n = took.given ∙ ap (λ p. p.given) start in
-    let none : before.taken ≡ 0 = ap (λ p. p.taken) start in
-    let bound = took.bound in
+spent : (n : ℕ) (before after : Supply) → before ≡ record { given = Some n; taken = 0 } → after.given ≡ before.given → is_on after ≡ false → n ≤ after.taken
+spent n before after start same off =
+    let given : after.given ≡ Some n = same ∙ ap (λ p. p.given) start in
     let left : nat_lt after.taken n ≡ false = ap (λ g. is_left g after.taken) (sym given) ∙ off in
-    let least : n ≤ after.taken = ltb-false after.taken n left in
-    omega arith
+    ltb-false after.taken n left
 
-never_off : (steps : ℕ) (before after : Supply) → before ≡ record { given = None; taken = 0 } → Steps steps before after → is_on after ≡ false → ⊥
-never_off steps before after start took off =
-    let given : after.given ≡ None = took.given ∙ ap (λ p. p.given) start in
+-- fewer steps are afforded too
+fewer : (m n : ℕ) (history : List Item) (scripts : Scripts) (mode : Mode) → m ≤ n → Afforded n history scripts mode → Afforded m history scripts mode
+fewer m n history scripts mode least is = record { by_any = omega (arith, least, is.by_any); by_names = λ quiet. omega (arith, least, is.by_names quiet) }
+
+never_off : (before after : Supply) → before ≡ record { given = None; taken = 0 } → after.given ≡ before.given → is_on after ≡ false → ⊥
+never_off before after start same off =
+    let given : after.given ≡ None = same ∙ ap (λ p. p.given) start in
     true≢false (ap (λ g. is_left g after.taken) (sym given) ∙ off)
 
-module _ (g : Geometry) (image : List TreeEntry) (shape : Shape) (scripts : Scripts) (stop : Option ℕ) (choice : Choice) (w : WorldView) (before after : Supply) (pm : List Cell) (history : List Item) (unfinished : List Begun) (left : List TreeEntry) (on : IsWorldOn g image shape scripts w) (power : before ≡ record { given = stop; taken = 0 }) (ran : IsRan w before after pm history unfinished) (permits : Permitted w.start.mode w.start history unfinished left) (finds : IsFound g choice w.start history unfinished left) (affords : AffordsItsSteps) where
+module _ (g : Geometry) (image : List TreeEntry) (shape : Shape) (scripts : Scripts) (stop : Option ℕ) (choice : Choice) (w : WorldView) (before after : Supply) (pm : List Cell) (history : List Item) (unfinished : List Begun) (left : List TreeEntry) (on : IsWorldOn g image shape scripts w) (power : before ≡ record { given = stop; taken = 0 }) (ran : IsRan w before after pm history unfinished) (permits : Permitted w.start.mode w.start history unfinished left) (finds : IsFound g choice w.start history unfinished left) where
   legal : IsLegal (beginning (task_on image shape scripts)) history
   legal = subst (λ s. IsLegal s history) on.start ran.legal
 
@@ -63,6 +63,11 @@ module _ (g : Geometry) (image : List TreeEntry) (shape : Shape) (scripts : Scri
 
   found : IsFound g choice (beginning (task_on image shape scripts)) history unfinished left
   found = subst (λ s. IsFound g choice s history unfinished left) on.start finds
+
+  afforded : Afforded after.taken history scripts Mode.Strict
+  afforded =
+      subst (λ (m : Mode). Afforded after.taken history scripts m) (ap (λ (s : State). s.mode) on.start ∙ (has_setting image shape Mode.Strict).1)
+      (subst (λ (s : Scripts). Afforded after.taken history s w.start.mode) on.scripts_are (ran.afforded after.taken (omega (arith, ap (λ (p : Supply). p.taken) power))))
 
   -- all calls returned
   pub ran_whole : IsComplete w.scripts history → unfinished ≡ [] → IsRun g (task_on image shape scripts) stop choice history unfinished left
@@ -85,10 +90,9 @@ module _ (g : Geometry) (image : List TreeEntry) (shape : Shape) (scripts : Scri
       scripted = scripted;
       open_calls = open_calls;
       permitted = permitted;
-      whole = λ always. absurd (never_off (steps_of_items history + steps_of_begun unfinished) before after (power ∙ ap (λ given. record { given = given; taken = 0 }) always) ran.steps off);
+      whole = λ always. absurd (never_off before after (power ∙ ap (λ given. record { given = given; taken = 0 }) always) ran.given off);
       stopped = λ n some.
-          inr (affords n history unfinished scripts Mode.Strict open_calls ran.one
-          (spent n (steps_of_items history + steps_of_begun unfinished) before after (power ∙ ap (λ given. record { given = given; taken = 0 }) some) ran.steps off));
+          inr (fewer n after.taken history scripts Mode.Strict (spent n before after (power ∙ ap (λ given. record { given = given; taken = 0 }) some) ran.given off) afforded);
     };
     kept = kept;
     found = found;

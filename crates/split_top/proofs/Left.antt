@@ -1,5 +1,5 @@
 -- What a run leaves on the device.
-use Rattle.std.proofs.Common.{List, subst}
+use Rattle.std.proofs.Common.{◌≡◌, ◌*◌, List, length, subst}
 use Rattle.pm_words.specs.declared.Cell.{Cell}
 use Rattle.pm_words.specs.Powers.{Supply}
 use Rattle.disk_places.specs.Places.{Geometry}
@@ -8,16 +8,16 @@ use Rattle.posix_types.specs.declared.reply.Shape.{Shape}
 use Rattle.posix_types.specs.declared.tree.TreeEntry.{TreeEntry}
 use Rattle.posix_types.specs.Scripts.{Scripts}
 use Rattle.posix_spec.specs.Run.{Begun}
-use Rattle.split_machine.specs.world_images.Promised.{KeepsPromise}
-use Rattle.split_machine.specs.CallRuns.{HasNoLog}
-use Rattle.split_machine.specs.Runs.{IsRan}
-use Rattle.split_machine.specs.Views.{WorldView}
+use Rattle.split_events.specs.world_images.Promised.{KeepsPromise}
+use Rattle.split_events.specs.Runs.{IsRan}
+use Rattle.split_events.specs.round_views.Views.{WorldView}
 use Rattle.split_top.specs.Found.{IsLeftAs}
 use Rattle.split_top.specs.Worlds.{IsWorldOn}
 
 pub left_as : (g : Geometry) (tree : List TreeEntry) (shape : Shape) (scripts : Scripts) (w : WorldView) (before after : Supply) (pm : List Cell) (history : List Item) (unfinished : List Begun)
     → IsWorldOn g tree shape scripts w → IsRan w before after pm history unfinished → IsLeftAs g pm w.start history unfinished
 left_as g tree shape scripts w before after pm history unfinished on ran = record {
-  no_log = subst (λ h. HasNoLog h pm) on.geometry ran.no_log;
+  size = subst (λ (h : Geometry). length pm ≡ 512 * h.blocks) on.geometry ran.size;
+  home = ran.home;
   promise = subst (λ h. KeepsPromise h pm w.start history unfinished) on.geometry ran.promise;
 }

@@ -1,5 +1,5 @@
 -- A device that was mounted: its tree is that of the image's content, and its own image is as a mount leaves it.
-use Rattle.std.proofs.Common.{◌≡◌, ◌≤◌, ◌<◌, ◌+◌, ◌*◌, ◌^◌, ◌⊎◌, ℕ, List, [], length, sym, ◌∙◌, ap, subst, arith, inl, inr}
+use Rattle.std.proofs.Common.{◌≡◌, ◌≤◌, ◌+◌, ◌*◌, ◌^◌, ℕ, List, [], length, sym, ◌∙◌, ap, subst, arith, inl, inr}
 use Rattle.std.proofs.Math.Path.{fun_ext}
 use Rattle.std.proofs.lemmas.Bool.{cases_lt}
 use Rattle.pm_words.specs.Cells.{newest}
@@ -11,20 +11,20 @@ use Rattle.disk_rules.specs.Content.{content}
 use Rattle.disk_rules.specs.Live.{live_entries}
 use Rattle.disk_rules.specs.Rules.{geometry_of, IsChecked}
 use Rattle.disk_rules.specs.Volume.{Volume, volume}
-use Rattle.split_machine.specs.image_facts.CheckedLaws.{checked-parts}
+use Rattle.split_events.specs.image_facts.CheckedLaws.{checked-parts}
 use Rattle.volume_facts.specs.ReadingLaws.{reads-volume}
-use Rattle.split_machine.specs.k_content.Trees.{tree_content}
-use Rattle.split_machine.specs.MountLaws.{TreesAreOfContent}
-use Rattle.split_machine.specs.Sheds.{AllNamed}
+use Rattle.split_events.specs.k_content.Trees.{tree_content}
+use Rattle.split_events.specs.MountLaws.{TreesAreOfContent}
+use Rattle.split_events.specs.Sheds.{AllNamed}
 use Rattle.k_rules.specs.View.{View}
-use Rattle.split_machine.specs.Mounts.{IsMounted}
-use Rattle.split_machine.specs.Resets.{IsLow}
-use Rattle.split_machine.specs.Sweeps.{AreBare, EndsInTime}
+use Rattle.split_events.specs.Mounts.{IsMounted}
+use Rattle.split_events.specs.Resets.{IsLow}
+use Rattle.split_events.specs.Sweeps.{AreBare, EndsInTime}
 use Rattle.posix_trees.specs.TreeOf.{IsTreeOf}
 use Rattle.posix_types.specs.declared.tree.TreeEntry.{TreeEntry}
-use Rattle.split_machine.specs.NoLog.{none_live}
-use Rattle.split_machine.specs.world_images.Images.{HasNoEntry}
-use Rattle.split_machine.specs.world_rules.Shown.{IsTreeOfContent}
+use Rattle.split_events.specs.LapImages.{none_live}
+use Rattle.split_events.specs.world_images.Images.{HasNoEntry}
+use Rattle.split_events.specs.world_rules.Shown.{IsTreeOfContent}
 use Rattle.split_top.specs.Found.{IsFoundOn}
 use Rattle.split_top.specs.Images as images
 

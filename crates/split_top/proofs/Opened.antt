@@ -8,9 +8,9 @@ use Rattle.disk_places.specs.Places.{Geometry}
 use Rattle.disk_rules.specs.Broken.{Breaks}
 use Rattle.disk_rules.specs.Content.{content}
 use Rattle.disk_rules.specs.Rules.{geometry_of, IsChecked}
-use Rattle.split_machine.specs.image_facts.CheckedLaws.{checked-unbroken}
+use Rattle.split_events.specs.image_facts.CheckedLaws.{checked-unbroken}
 use Rattle.posix_types.specs.declared.tree.TreeEntry.{TreeEntry}
-use Rattle.split_machine.specs.world_rules.Shown.{IsTreeOfContent}
+use Rattle.split_events.specs.world_rules.Shown.{IsTreeOfContent}
 use Rattle.report_text.specs.Texts.{tree_text}
 use Rattle.split_top.specs.Images.{CanOpen, IsRefused, IsTreeText}
 

@@ -1,14 +1,14 @@
 -- The image that is chosen of the device that a run left can be opened again; its tree is permitted, and is what is found.
-use Rattle.std.proofs.Common.{◌≡◌, ◌*◌, ℕ, List, [], length, sym, ◌∙◌, ap, subst, arith}
+use Rattle.std.proofs.Common.{◌≡◌, ◌*◌, ℕ, List, length, sym, ◌∙◌, ap, subst, arith}
 use Rattle.pm_words.specs.declared.Cell.{Cell}
 use Rattle.pm_words.specs.Cells.{cell}
-use Rattle.pm_words.specs.Images.{IsImage, IsImageOf}
+use Rattle.pm_words.specs.Images.{IsImageOf}
 use Rattle.pm_words.specs.Words.{word_at}
 use Rattle.disk_places.specs.Places.{Geometry}
 use Rattle.disk_rules.specs.Content.{content}
 use Rattle.disk_rules.specs.Honest.{IsHonest}
 use Rattle.disk_rules.specs.Rules.{geometry_of, IsChecked}
-use Rattle.split_machine.specs.k_check.Crashes.{IsCrashImage}
+use Rattle.split_events.specs.k_check.Crashes.{IsCrashImage}
 use Rattle.k_rules.specs.View.{View}
 use Rattle.crash_spec.specs.Permitted.{Permitted}
 use Rattle.pm_lines.specs.declared.choices.Choice.{Choice}
@@ -16,8 +16,8 @@ use Rattle.posix_types.specs.declared.item.Item.{Item}
 use Rattle.posix_types.specs.declared.tree.TreeEntry.{TreeEntry}
 use Rattle.posix_spec.specs.Run.{Begun}
 use Rattle.posix_spec.specs.State.{State}
-use Rattle.split_machine.specs.world_images.Promised.{IsKept}
-use Rattle.split_machine.specs.world_rules.Shown.{IsTreeOfContent}
+use Rattle.split_events.specs.world_images.Promised.{IsKept}
+use Rattle.split_events.specs.world_rules.Shown.{IsTreeOfContent}
 use Rattle.split_top.specs.Found.{IsChosenImage, IsFound, IsFoundOn, IsLeftAs}
 use Rattle.split_top.specs.Images.{CanOpen}
 
@@ -42,7 +42,7 @@ module _ (g : Geometry) (choice : Choice) (d : List Cell) (start : State) (histo
     long : length given ≡ 4096 * g.blocks
     long =
         let bytes_long : length bytes ≡ 8 * length d = taken.image.size in
-        let wide : length d ≡ 512 * g.blocks = left.no_log.size in
+        let wide : length d ≡ 512 * g.blocks = left.size in
         let all : length bytes ≡ 4096 * g.blocks = omega arith in
         ap length same ∙ all
 

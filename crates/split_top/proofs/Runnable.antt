@@ -1,18 +1,18 @@
--- The scripts of a text without a bad line can be run: each call is built, its paths are spelled, no line begins a set-up or a
--- thread, and the limits are kept.
-use Rattle.std.proofs.Common.{◌≡◌, ◌≤◌, ℕ, zero, suc, List, [], ◌∷◌, Option, Some, None, subst, length}
-use Rattle.std.specs.Prelude.{refl, slice_get, slice_index_or, true}
+-- The scripts of a text without a bad line can be run: the paths of each call are spelled, no line begins a set-up or a thread, and
+-- the limits are kept.
+use Rattle.std.proofs.Common.{◌≡◌, ℕ, zero, suc, List, [], ◌∷◌, Some, None, subst}
+use Rattle.std.specs.Prelude.{refl, slice_get, slice_index_or}
 use Rattle.std.specs.List.{All, AllByRecursion}
 use Rattle.std.proofs.lemmas.List.Elements.{recursion_from_All}
 use Rattle.posix_types.specs.declared.call.Call.{Call}
 use Rattle.posix_types.specs.declared.call.Who.{Who}
 use Rattle.posix_types.specs.Scripts.{Scripts}
 use Rattle.posix_spec.specs.Scripted.{script_of}
-use Rattle.script_text.specs.Known.{AreKnownCalls, IsKnownCall, KnownCallsAlone, OneThreadAlone}
+use Rattle.script_text.specs.Known.{OneThreadAlone}
 use Rattle.script_text.specs.Laws.{ScriptsAreSpelled, ScriptsAreWithinLimits}
 use Rattle.script_text.specs.Scripts.{bad_line, scripts_of}
 use Rattle.script_text.specs.Spelled as text
-use Rattle.split_machine.specs.Built.{IsBuilt, NamesAreSpelled}
+use Rattle.split_events.specs.Built.{NamesAreSpelled}
 use Rattle.split_top.specs.Worlds.{AreRunnable}
 
 -- ---- lists
@@ -26,29 +26,6 @@ each_of : {A : Type 0} (P : A → Type 0) (lists : List (List A)) (n : ℕ) → 
 each_of P [] n h = tt
 each_of P (xs ∷ lists) zero h = recursion_from_All P xs h.0
 each_of P (xs ∷ lists) (suc n) h = each_of P lists n h.1
-
--- ---- a call of the table of known words is built
-built : (call : Call) → IsKnownCall call → IsBuilt call
-built (Call.Mkdir p) known = tt
-built (Call.Rmdir p) known = tt
-built (Call.Unlink p) known = tt
-built (Call.Rename p q) known = tt
-built (Call.Open k p f) known = tt
-built (Call.Close k) known = tt
-built (Call.Dup k g) known = tt
-built (Call.Read k n) known = tt
-built (Call.Pread k o n) known = tt
-built (Call.Write k x) known = cc
-built (Call.Pwrite k o x) known = cc
-built (Call.Seek k w b) known = tt
-built (Call.Truncate k n) known = cc
-built (Call.Fsync k) known = tt
-built (Call.Stat p) known = tt
-built (Call.List p) known = tt
-
-calls-known : (scripts : Scripts) → AreKnownCalls scripts → (who : Who) → AllByRecursion IsKnownCall (script_of scripts who)
-calls-known scripts h Who.Setup = recursion_from_All IsKnownCall scripts.setup h.setup
-calls-known scripts h (Who.Thread n) = each_of IsKnownCall scripts.threads n (recursion_from_All (λ calls. All IsKnownCall calls) scripts.threads h.threads)
 
 -- ---- paths
 spelled : (call : Call) → text.IsSpelledCall call → NamesAreSpelled call
@@ -74,17 +51,14 @@ calls-spelled scripts h Who.Setup = recursion_from_All text.IsSpelledCall script
 calls-spelled scripts h (Who.Thread n) = each_of text.IsSpelledCall scripts.threads n (recursion_from_All (λ calls. All text.IsSpelledCall calls) scripts.threads h.threads)
 
 -- THE SCRIPTS OF A TEXT without a bad line can be run.
-pub scripts_are_runnable : ScriptsAreSpelled → ScriptsAreWithinLimits → KnownCallsAlone → OneThreadAlone → (bytes : List ℕ) → bad_line bytes ≡ None → AreRunnable (scripts_of bytes)
-scripts_are_runnable spelled_all within known alone bytes good =
+pub scripts_are_runnable : ScriptsAreSpelled → ScriptsAreWithinLimits → OneThreadAlone → (bytes : List ℕ) → bad_line bytes ≡ None → AreRunnable (scripts_of bytes)
+scripts_are_runnable spelled_all within alone bytes good =
     let limits = within bytes good in
     record {
       limits = record {
         few = limits.calls;
         threads = limits.threads;
-        built = λ who i call is. (
-          built call (at IsKnownCall (script_of (scripts_of bytes) who) i call (calls-known (scripts_of bytes) (known bytes) who) is),
-          spelled call (at text.IsSpelledCall (script_of (scripts_of bytes) who) i call (calls-spelled (scripts_of bytes) (spelled_all bytes) who) is),
-        );
+        spelled = λ who i call is. spelled call (at text.IsSpelledCall (script_of (scripts_of bytes) who) i call (calls-spelled (scripts_of bytes) (spelled_all bytes) who) is);
       };
       one = (alone bytes refl refl).threads;
     }

@@ -2,7 +2,7 @@
 use Rattle.std.proofs.Common.{◌≡◌, ℕ, List, Option, length, refl, sym, ◌∙◌, subst, inl, inr}
 use Rattle.pm_words.specs.Words.{word_at}
 use Rattle.disk_rules.specs.Broken.{Breaks}
-use Rattle.split_machine.specs.image_facts.CheckedLaws.{checked-unbroken}
+use Rattle.split_events.specs.image_facts.CheckedLaws.{checked-unbroken}
 use Rattle.image_layout.specs.Numbers.{default_numbers}
 use Rattle.outside.specs.Outside.{FileList, IsAbsent}
 use Rattle.command_words.specs.Command.{Command, Fresh, Image, Stored, Tree}

@@ -1,28 +1,29 @@
 -- The device that a run leaves, and what is found on it.
-use Rattle.std.specs.Prelude.{List}
+use Rattle.std.specs.Prelude.{◌≡◌, ◌*◌, List, length}
 use Rattle.pm_words.specs.declared.Cell.{Cell}
-use Rattle.pm_words.specs.Cells.{cell}
+use Rattle.pm_words.specs.Cells.{AllHome, cell}
 use Rattle.pm_words.specs.Images.{IsImage}
 use Rattle.pm_words.specs.Words.{Words}
 use Rattle.disk_places.specs.Places.{Geometry}
 use Rattle.disk_rules.specs.Content.{content}
 use Rattle.disk_rules.specs.Honest.{IsHonest}
 use Rattle.disk_rules.specs.Rules.{geometry_of}
-use Rattle.split_machine.specs.k_check.Crashes.{IsCrashImage}
+use Rattle.split_events.specs.k_check.Crashes.{IsCrashImage}
 use Rattle.k_rules.specs.View.{View}
-use Rattle.split_machine.specs.Mounts.{IsMounted}
+use Rattle.split_events.specs.Mounts.{IsMounted}
 use Rattle.pm_lines.specs.declared.choices.Choice.{Choice}
 use Rattle.posix_types.specs.declared.item.Item.{Item}
 use Rattle.posix_types.specs.declared.tree.TreeEntry.{TreeEntry}
 use Rattle.posix_spec.specs.Run.{Begun}
 use Rattle.posix_spec.specs.State.{State}
-use Rattle.split_machine.specs.world_images.Promised.{KeepsPromise}
-use Rattle.split_machine.specs.world_rules.Shown.{IsTreeOfContent}
-use Rattle.split_machine.specs.CallRuns.{HasNoLog}
+use Rattle.split_events.specs.world_images.Promised.{KeepsPromise}
+use Rattle.split_events.specs.world_rules.Shown.{IsTreeOfContent}
 
--- WHAT A RUN LEAVES: a device of this geometry that has no log and keeps the promise for the history and the unfinished calls.
+-- WHAT A RUN LEAVES: a device of this geometry, of which nothing is lent, and which keeps the promise for the history and the
+-- unfinished calls.
 pub record IsLeftAs (g : Geometry) (d : List Cell) (start : State) (history : List Item) (unfinished : List Begun) : Type 0 where
-  pub no_log : HasNoLog g d
+  pub size : length d ≡ 512 * g.blocks
+  pub home : AllHome d
   pub promise : KeepsPromise g d start history unfinished
 
 -- The image is one of the device, and honest: that which a power loss leaves by the choice.

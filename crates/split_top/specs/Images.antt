@@ -10,11 +10,11 @@ use Rattle.disk_rules.specs.FreshVolume.{root_alone}
 use Rattle.disk_rules.specs.Rules.{geometry_of, IsChecked}
 use Rattle.disk_rules.specs.Volume.{Volume, volume}
 use Rattle.posix_types.specs.declared.tree.TreeEntry.{TreeEntry}
-use Rattle.split_machine.specs.world_rules.Shown.{IsTreeOfContent}
-use Rattle.split_machine.specs.Sheds.{AllNamed}
-use Rattle.split_machine.specs.Resets.{IsLow}
-use Rattle.split_machine.specs.Sweeps.{AreBare, EndsInTime}
-use Rattle.split_machine.specs.world_images.Images.{HasNoEntry}
+use Rattle.split_events.specs.world_rules.Shown.{IsTreeOfContent}
+use Rattle.split_events.specs.Sheds.{AllNamed}
+use Rattle.split_events.specs.Resets.{IsLow}
+use Rattle.split_events.specs.Sweeps.{AreBare, EndsInTime}
+use Rattle.split_events.specs.world_images.Images.{HasNoEntry}
 use Rattle.image_layout.specs.Numbers.{default_numbers}
 use Rattle.report_text.specs.Texts.{tree_text}
 use Rattle.outside.specs.Outside.{AreOfFile, FileList, IsReplaced}

@@ -10,7 +10,7 @@ use Rattle.posix_types.specs.Scripts.{Scripts}
 use Rattle.posix_spec.specs.Run.{Begun}
 use Rattle.posix_spec.specs.Ending.{beginning, IsRunOf, Task}
 use Rattle.crash_spec.specs.Strict.{Strict}
-use Rattle.split_machine.specs.Changes.{ChangesAtMost}
+use Rattle.split_events.specs.event_facts.Changes.{ChangesAtMost}
 use Rattle.split_top.specs.Found.{IsFound}
 
 -- what is run: these scripts, on an image with this tree and this shape, in strict mode

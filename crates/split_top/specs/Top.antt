@@ -11,7 +11,7 @@ use Rattle.posix_types.specs.declared.tree.TreeEntry.{TreeEntry}
 use Rattle.posix_types.specs.Scripts.{Scripts}
 use Rattle.posix_spec.specs.Ending.{Task}
 use Rattle.posix_spec.specs.Run.{Begun}
-use Rattle.split_machine.specs.world_beginning.Laws.{IsShapeOf}
+use Rattle.split_events.specs.world_beginning.Laws.{IsShapeOf}
 use Rattle.report_text.specs.Texts.{history_text, tree_text}
 use Rattle.script_text.specs.Scripts.{bad_line, scripts_of}
 use Rattle.command_words.specs.Command.{Command, Mkfs, Tree, Step, Image, Fresh, Stored, Run, command_of}

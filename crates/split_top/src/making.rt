@@ -9,7 +9,7 @@ use crate::jobs::put_output;
 use exit_status::Status;
 use image_layout::Geometry;
 use outside::{FileFault, Files, Sink};
-use split_machine::mkfs;
+use split_events::mkfs;
 use std::alloc::{AllocError, Global};
 
 /// The bytes of a fresh image.

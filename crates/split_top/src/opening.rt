@@ -10,7 +10,7 @@ ghost use Rattle.split_top.specs.Jobs.{IsUnopened};
 use exit_status::Status;
 use image_layout::Geometry;
 use pm_lines::Pm;
-use split_machine::k_check::{CheckFault, check};
+use split_events::k_check::{CheckFault, check};
 use std::alloc::{AllocError, Global};
 
 /// Whether so many bytes are whole blocks, as many as an image may have.

@@ -40,8 +40,8 @@ fn do_command<F: Files, K: Sink>(
 ///
 /// - `mkfs IMAGE BLOCKS LOG INODES NAMES`: the file IMAGE is replaced by the fresh image with these numbers, and then
 ///   the line `D data blocks` is put.
-/// - `tree IMAGE`: the image is read, checked and mounted, and its tree is put. `-` is the fresh default image. An image
-///   in whose log an entry is live is refused as rule 12 at 0, since no log is recovered yet.
+/// - `tree IMAGE`: the image is read, checked and mounted, and its tree is put. `-` is the fresh default image. Live
+///   entries of the log count: the tree is the one that they leave.
 /// - `step IMAGE S strict`, then the options `stop N`, `choose C` and `keep NAME`: the image is read, checked and mounted
 ///   (`-` is the fresh default one); the script S is read, checked and run on it in strict mode; the file NAME is
 ///   replaced by the image that is left; then the history of the calls and the tree that is left are put at once. With

@@ -17,7 +17,7 @@ use script_text::{
     ScriptFault, read_script, scripts_are_spelled, scripts_are_within_limits,
     scripts_have_known_words,
 };
-use split_machine::NoMemory;
+use split_events::NoMemory;
 use std::alloc::Global;
 
 /// The text of the history of a run and of the tree that was left, and the image that was left.

@@ -19,8 +19,8 @@ use crate::opening::device;
 use image_layout::Geometry;
 use pm_lines::{Choice, Pm, Power};
 use posix_types::{Item, Mode, Scripts, Tree};
-use split_machine::k_check::crash_image;
-use split_machine::{Ended, MountFault, NoMemory, World, run as run_scripts, steps_are_afforded};
+use split_events::k_check::crash_image;
+use split_events::{Ended, MountFault, NoMemory, World, run as run_scripts};
 use std::alloc::{AllocError, Global};
 
 /// What a run leaves: the calls that returned, the tree that is found afterwards, and the image that shows it.
@@ -101,7 +101,6 @@ fn run_world(
     ensures mounted { IfOk result (λ ran. IsMounted ran.image.items ran.tree) }
     ensures numbers { IfOk result (λ ran. geometry_of (word_at ran.image.items) ≡ geometry) }
 {
-    steps_are_afforded();
     let mut power = power_for(stop);
     match run_scripts(alloc, world, &mut power)? {
         Ended::Whole { pm, history } => {

@@ -1,4 +1,4 @@
-use Rattle.std.proofs.Common.{◌≡◌, ◌*◌, length}
+use Rattle.std.proofs.Common.{◌*◌, length}
 use Rattle.pm_words.specs.Images.{words_of}
 use Rattle.disk_rules.specs.Broken.{Breaks}
 use Rattle.split_top.proofs.Opened.{can-open, refused}

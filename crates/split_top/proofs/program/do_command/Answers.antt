@@ -1,1 +1,0 @@
-use Rattle.split_top.proofs.program.do_command.Goals as goal

@@ -7,7 +7,7 @@ use Rattle.split_top.proofs.running.run_script.Goals as goal
 pub outcome_of-requires-clause-runnable : goal.outcome_of-requires-clause-runnable
 outcome_of-requires-clause-runnable c =
     subst AreRunnable (sym c.in-Ok.ensures.ok)
-    (scripts_are_runnable c.scripts_are_spelled.ensures c.scripts_are_within_limits.ensures c.scripts_have_known_words.ensures.calls c.scripts_have_known_words.ensures.headings c.args.bytes.now c.in-Ok.ensures.sound)
+    (scripts_are_runnable c.scripts_are_spelled.ensures c.scripts_are_within_limits.ensures c.scripts_have_known_words.ensures.headings c.args.bytes.now c.in-Ok.ensures.sound)
 
 pub returns-in-Ok-outcome_of-clause-outcome : goal.returns-in-Ok-outcome_of-clause-outcome
 returns-in-Ok-outcome_of-clause-outcome c =

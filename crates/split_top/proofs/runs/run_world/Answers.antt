@@ -1,6 +1,5 @@
 use Rattle.std.proofs.Common.{[], subst, refl}
-use Rattle.split_machine.specs.Runs.{IsRunEnded}
-use Rattle.split_machine.specs.Views.{unfinished_of}
+use Rattle.split_events.specs.Runs.{IsRunEnded}
 use Rattle.split_top.proofs.Endings.{ran_lost, ran_whole}
 use Rattle.split_top.proofs.Left.{left_as}
 use Rattle.split_top.proofs.runs.run_world.Goals as goal
@@ -20,7 +19,7 @@ left_on-requires-in-Lost c =
     let p = c.power_for-power.result in
     let q = c.run.new.power in
     let crashed = c.in-Lost.crashed in
-    let unfinished = unfinished_of crashed.unfinished in
+    let unfinished = crashed.unfinished.items in
     let ended = subst (λ e. IsRunEnded w p q e) c.in-Lost.is c.in_ok-pm.ensures in
     let on = c.requires.3 in
     (w.start, crashed.history.items, unfinished, left_as c.args.geometry c.requires.0 c.requires.1 c.requires.2 w p q crashed.pm crashed.history.items unfinished on ended.0)
@@ -36,7 +35,7 @@ returns-in_ok-left-in-Whole-clause-ran c tree shape scripts on =
     let left = left_as c.args.geometry tree shape scripts w p q c.in-Whole.pm history [] on ended.0 in (
       [],
       ran_whole c.args.geometry tree shape scripts c.args.stop c.args.choice w p q c.in-Whole.pm history [] found on c.power_for-power.ensures ended.0
-          (c.in_ok-left-in-Whole.ensures.permitted w.start history [] left) (c.in_ok-left-in-Whole.ensures.found w.start history [] left) c.steps_are_afforded.ensures ended.1 refl,
+          (c.in_ok-left-in-Whole.ensures.permitted w.start history [] left) (c.in_ok-left-in-Whole.ensures.found w.start history [] left) ended.1 refl,
     )
 
 pub returns-in_ok-left-in-Lost-clause-ran : goal.returns-in_ok-left-in-Lost-clause-ran
@@ -46,11 +45,11 @@ returns-in_ok-left-in-Lost-clause-ran c tree shape scripts on =
     let q = c.run.new.power in
     let crashed = c.in-Lost.crashed in
     let history = crashed.history.items in
-    let unfinished = unfinished_of crashed.unfinished in
+    let unfinished = crashed.unfinished.items in
     let found = c.in_ok-left-in-Lost.left.tree in
     let ended = subst (λ e. IsRunEnded w p q e) c.in-Lost.is c.in_ok-pm.ensures in
     let left = left_as c.args.geometry tree shape scripts w p q crashed.pm history unfinished on ended.0 in (
       unfinished,
       ran_lost c.args.geometry tree shape scripts c.args.stop c.args.choice w p q crashed.pm history unfinished found on c.power_for-power.ensures ended.0
-          (c.in_ok-left-in-Lost.ensures.permitted w.start history unfinished left) (c.in_ok-left-in-Lost.ensures.found w.start history unfinished left) c.steps_are_afforded.ensures ended.1,
+          (c.in_ok-left-in-Lost.ensures.permitted w.start history unfinished left) (c.in_ok-left-in-Lost.ensures.found w.start history unfinished left) ended.1,
     )

@@ -2,7 +2,6 @@ use Rattle.std.proofs.Common.{◌≡◌, ℕ, List, Err, sym, ◌∙◌, ap, sub
 use Rattle.command_words.specs.Command as commands
 use Rattle.command_words.specs.Seen.{seen_image}
 use Rattle.exit_status.specs.declared.statuses.Status.{Status}
-use Rattle.outside.specs.Outside.{IsAbsent, Rose}
 use Rattle.split_top.proofs.Answered.{put-answer, unread-answer}
 use Rattle.split_top.proofs.Shown.{given-opens, tree-unread, unopened-answer, verdict-given}
 use Rattle.split_top.specs.Images.{AreOfImage, IsTreeText}

@@ -1,7 +1,6 @@
-use Rattle.std.proofs.Common.{◌≡◌, Err, sym, ◌∙◌, ap, subst}
+use Rattle.std.proofs.Common.{◌≡◌, Err, sym, ap, subst}
 use Rattle.std.specs.Prelude.{IsSome}
 use Rattle.command_words.specs.Command as commands
-use Rattle.command_words.specs.Seen.{seen_options}
 use Rattle.exit_status.specs.declared.statuses.Status.{Status}
 use Rattle.split_top.specs.Top.{IsStepped, Keeps}
 use Rattle.split_top.proofs.Answered.{put-answer}

@@ -1,12 +1,10 @@
 use Rattle.std.proofs.Common.{◌≡◌, ℕ, List, Err, sym, ◌∙◌, ap, subst, inr, refl}
-use Rattle.pm_words.specs.Words.{word_at}
 use Rattle.command_words.specs.Command as commands
 use Rattle.command_words.specs.Seen.{seen_options}
 use Rattle.exit_status.specs.declared.statuses.Status.{Status}
 use Rattle.outside.specs.Outside.{AreOfFile, IsAbsent, Rose}
 use Rattle.split_top.proofs.Answered.{answer-later, rose-later, unread-answer}
 use Rattle.split_top.proofs.Stepped.{ran-step, unread-script, unrun-answer}
-use Rattle.split_top.specs.Images.{AreOfImage}
 use Rattle.split_top.specs.Jobs.{IsAnswer}
 use Rattle.split_top.specs.Top.{CompletesStep, IsScriptRunOn, IsStepped}
 use Rattle.split_top.proofs.stepping.run_on.Goals as goal

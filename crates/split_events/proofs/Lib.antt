@@ -1,0 +1,4 @@
+pub mod Scripts
+pub mod Ends
+pub mod Acts
+pub mod Fills

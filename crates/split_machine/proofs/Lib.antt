@@ -1,3 +1,0 @@
-pub mod Ends
-pub mod Histories
-pub mod Afford

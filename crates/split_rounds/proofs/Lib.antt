@@ -1,0 +1,16 @@
+mod Adding
+mod Finishes
+mod Lost
+mod Nexts
+mod Settles
+mod GivesUp
+mod Rooming
+mod Composing
+mod Opening
+mod Lapping
+mod Checking
+mod Endings
+mod Turning
+mod Writing
+mod Calling
+mod Firsts

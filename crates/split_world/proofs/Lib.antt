@@ -1,4 +1,0 @@
-mod Begins
-mod Starting
-pub mod Remounted
-mod Counting

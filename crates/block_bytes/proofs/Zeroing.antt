@@ -8,7 +8,7 @@ use Rattle.pm_words.specs.CellLaws.{settled-single}
 use Rattle.pm_words.specs.Cells.{cell, IsCandidate, is_single, Settles}
 use Rattle.pm_words.specs.Frames.{KeepsSingle}
 use Rattle.pm_words.specs.Images.{Follows}
-use Rattle.disk_rules.specs.Placed.{AreSingle, block_at, IsOutside}
+use Rattle.map_rules.specs.disk_rules.Placed.{AreSingle, block_at, IsOutside}
 use Rattle.block_bytes.specs.Overwrites.{IsZeroed, SameBeside}
 use Rattle.block_bytes.proofs.Before as written
 

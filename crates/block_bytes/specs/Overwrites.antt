@@ -6,7 +6,7 @@ use Rattle.pm_words.specs.Cells.{cell, has_two, is_single, newest, oldest}
 use Rattle.pm_words.specs.Words.{byte_of, Words}
 use Rattle.extent_words.specs.declared.Extent.{Extent}
 use Rattle.extent_words.specs.Extents.{disk_at}
-use Rattle.disk_rules.specs.Placed.{AreDistinct, AreInDevice, AreSingle, IsOutside}
+use Rattle.map_rules.specs.disk_rules.Placed.{AreDistinct, AreInDevice, AreSingle, IsOutside}
 use Rattle.map_rules.specs.Zeros.{AreZeros}
 use Rattle.block_bytes.specs.Puts.{with_bytes}
 

@@ -1,6 +1,6 @@
 //! Whole blocks: set to zero, read.
 ghost use Rattle.std.specs.Prelude.{◌≡◌, ◌≢◌, ◌+◌, ◌*◌, ◌/◌, ◌<◌, ℕ, true, false, length, slice_index};
-ghost use Rattle.disk_rules.specs.Placed.{block_at, BlockIsHome, IsOutside};
+ghost use Rattle.map_rules.specs.disk_rules.Placed.{block_at, BlockIsHome, IsOutside};
 ghost use Rattle.pm_words.specs.declared.Cell.TheVariants.{Single};
 ghost use Rattle.pm_words.specs.Cells.{cell, fenced, is_single, Settles};
 ghost use Rattle.pm_words.specs.Frames.{KeepsSingle, SameLent};

@@ -25,3 +25,5 @@ pub use ranges::write_bytes;
 pub fn bytes_are_put()
     ensures { PutsBytes }
 {}
+
+pub use map_rules;

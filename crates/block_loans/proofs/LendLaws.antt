@@ -11,10 +11,10 @@ use Rattle.pm_words.specs.Cells.{cell, is_lent, is_single, unmarked}
 use Rattle.pm_words.specs.Parts.{GoesOut, Part}
 use Rattle.pm_words.specs.PartLaws.{GoesOut-at}
 use Rattle.disk_lines.specs.declared.Draft.{Draft}
-use Rattle.disk_rules.specs.Volume.{Volume}
+use Rattle.k_split.specs.disk_rules.Volume.{Volume}
 use Rattle.k_split.specs.Loans.{MayLend}
 use Rattle.job_facts.specs.world_rules.Jobs.{staged_block}
-use Rattle.write_jobs.specs.Jobs.{loan_at}
+use Rattle.job_facts.specs.write_jobs.Jobs.{loan_at}
 use Rattle.job_facts.specs.Blocks.{GoOut}
 use Rattle.block_loans.specs.Loans.{AreApart, AreLoansOf, ComeBack, MayLendAll}
 use Rattle.block_loans.proofs.SettleLaws.{loan_before, loan_last}

@@ -6,7 +6,7 @@ use Rattle.std.proofs.lemmas.Option.{same_Some}
 use Rattle.pm_words.specs.declared.Cell.{Cell}
 use Rattle.pm_words.specs.Cells.{cell, is_lent, unmarked}
 use Rattle.pm_words.specs.Parts.{ComesBack, Part}
-use Rattle.write_jobs.specs.Jobs.{loan_at}
+use Rattle.job_facts.specs.write_jobs.Jobs.{loan_at}
 use Rattle.block_loans.specs.Loans.{AreApart, ComeBack, PutsBack}
 
 -- ---- one loan more

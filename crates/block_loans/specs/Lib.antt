@@ -8,3 +8,6 @@ pub use Rattle.job_facts.specs.world_rules as world_rules
 pub use Rattle.job_facts.specs.world_steps as world_steps
 pub use Rattle.k_split.specs.k_map_plans as k_map_plans
 pub use Rattle.k_split.specs.volume_uses as volume_uses
+pub use Rattle.job_facts.specs.write_jobs as write_jobs
+pub use Rattle.k_split.specs.disk_rules as disk_rules
+pub use Rattle.k_split.specs.k_rules as k_rules

@@ -4,10 +4,10 @@ use Rattle.pm_words.specs.declared.Cell.{Cell}
 use Rattle.pm_words.specs.Cells.{cell, unmarked}
 use Rattle.pm_words.specs.Parts.{Part}
 use Rattle.disk_lines.specs.declared.Draft.{Draft}
-use Rattle.disk_rules.specs.Volume.{Volume}
+use Rattle.k_split.specs.disk_rules.Volume.{Volume}
 use Rattle.k_split.specs.Loans.{MayLend}
 use Rattle.job_facts.specs.world_rules.Jobs.{staged_block}
-use Rattle.write_jobs.specs.Jobs.{loan_at}
+use Rattle.job_facts.specs.write_jobs.Jobs.{loan_at}
 use Rattle.job_facts.specs.Blocks.{ArePutBack, GoOut}
 
 -- Each block of the entry may be lent, and no two places of it have one block.

@@ -2,7 +2,7 @@
 ghost use Rattle.std.specs.Prelude.{◌≡◌, ◌<◌, ◌/◌, ℕ, true, length};
 ghost use Rattle.pm_words.specs.Cells.{cell, is_lent};
 ghost use Rattle.block_loans.specs.Loans.{AreApart, ComeBack};
-ghost use Rattle.write_jobs.specs.Jobs.{loan_at};
+ghost use Rattle.job_facts.specs.write_jobs.Jobs.{loan_at};
 
 use k_split::KSplit;
 use pm_lines::Loan;

@@ -11,8 +11,8 @@ use Rattle.disk_places.specs.Places.{log_line}
 use Rattle.disk_lines.specs.declared.Draft.{Draft}
 use Rattle.disk_lines.specs.Entries.{encode_entry, is_draft}
 use Rattle.disk_lines.specs.EntryLaws.{FitsDraft}
-use Rattle.disk_rules.specs.LogRule.{cells_of_line, HoldsEntry}
-use Rattle.disk_rules.specs.Volume.{Volume}
+use Rattle.oplog_tail.specs.disk_rules.LogRule.{cells_of_line, HoldsEntry}
+use Rattle.oplog_tail.specs.disk_rules.Volume.{Volume}
 use Rattle.list_facts.specs.Members.{In}
 use Rattle.oplog_tail.specs.declared.views.Claim.{Claim}
 use Rattle.oplog_tail.specs.declared.views.Mark.{Mark}

@@ -9,8 +9,8 @@ use Rattle.disk_places.specs.Places.{log_line}
 use Rattle.disk_lines.specs.declared.Draft.{Draft}
 use Rattle.disk_lines.specs.Entries.{encode_entry, is_draft}
 use Rattle.disk_lines.specs.EntryLaws.{FitsDraft}
-use Rattle.disk_rules.specs.LogRule.{words_of_line}
-use Rattle.disk_rules.specs.Volume.{Volume}
+use Rattle.oplog_tail.specs.disk_rules.LogRule.{words_of_line}
+use Rattle.oplog_tail.specs.disk_rules.Volume.{Volume}
 use Rattle.oplog_tail.specs.EntryLines as log
 use Rattle.world_log.specs.Lines.{HoldsWords, IsPutOver, Spells}
 

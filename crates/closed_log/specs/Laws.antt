@@ -6,8 +6,8 @@ use Rattle.pm_words.specs.Words.{Words}
 use Rattle.disk_lines.specs.declared.Draft.{Draft}
 use Rattle.disk_lines.specs.Entries.{is_draft}
 use Rattle.disk_lines.specs.EntryLaws.{FitsDraft}
-use Rattle.disk_rules.specs.LogRule.{HoldsClaims}
-use Rattle.disk_rules.specs.Volume.{Volume}
+use Rattle.oplog_tail.specs.disk_rules.LogRule.{HoldsClaims}
+use Rattle.oplog_tail.specs.disk_rules.Volume.{Volume}
 use Rattle.list_facts.specs.Members.{In}
 use Rattle.oplog_tail.specs.declared.views.Claim.{Claim}
 use Rattle.oplog_tail.specs.Closing.{cells_of, first_words, LeavesLines}

@@ -14,4 +14,6 @@ mod geometries;
 mod options;
 
 pub use commands::{Command, Image, read_command};
+pub use image_layout;
 pub use options::Options;
+pub use script_text;

@@ -12,16 +12,16 @@ use Rattle.disk_lines.specs.declared.Draft.{Draft}
 use Rattle.disk_places.specs.Journal.{journaled}
 use Rattle.disk_places.specs.PlaceLaws.{behind_log-not_journaled, behind_log-words}
 use Rattle.disk_places.specs.Places.{Geometry, log_line}
-use Rattle.disk_rules.specs.Honest.{IsHonest}
-use Rattle.disk_rules.specs.Volume.{Volume}
+use Rattle.losing_facts.specs.disk_rules.Honest.{IsHonest}
+use Rattle.losing_facts.specs.disk_rules.Volume.{Volume}
 use Rattle.losing_facts.proofs.k_split_proofs.LogLaws.{data_beside}
 use Rattle.losing_facts.specs.k_split.Laps.{IsLogWord}
 use Rattle.list_facts.specs.Members.{In}
-use Rattle.posix_spec.specs.Run.{Begun, run}
-use Rattle.posix_spec.specs.State.{State}
+use Rattle.losing_facts.specs.posix_spec.Run.{Begun, run}
+use Rattle.losing_facts.specs.posix_spec.State.{State}
 use Rattle.posix_types.specs.declared.item.Item.{Item}
-use Rattle.volume_facts.specs.ImageLaws.{journaled-other}
-use Rattle.volume_facts.specs.LineWords.{data_word}
+use Rattle.losing_facts.specs.volume_facts.ImageLaws.{journaled-other}
+use Rattle.losing_facts.specs.volume_facts.LineWords.{data_word}
 use Rattle.losing_facts.specs.world_images.Images.{StandsFor}
 use Rattle.losing_facts.specs.world_images.Promised.{IsKept, KeepsPromise}
 use Rattle.losing_facts.specs.world_images.Running.{promise_now}
@@ -31,7 +31,7 @@ use Rattle.losing_facts.specs.world_rules.Shown.{AreFilled}
 use Rattle.losing_facts.specs.world_standing.Standing.{AreJobsOf, IsSpellable, Kept, Pending}
 use Rattle.losing_facts.proofs.Pending.{IsJobOf, loans_of_entry, places_of_entry}
 use Rattle.losing_facts.specs.write_ends.Ends.{IsOut}
-use Rattle.write_jobs.specs.Jobs.{FilledView, loan_at}
+use Rattle.losing_facts.specs.write_jobs.Jobs.{FilledView, loan_at}
 use Rattle.losing_facts.specs.Blocks.{AreBlocksOut, ComeHome}
 use Rattle.crash_facts.specs.Laws.{AreHandedIn, KeepsCrashed, KeepsHome, LinesAreHome}
 use Rattle.losing_facts.specs.Lines.{AreCrashLines}

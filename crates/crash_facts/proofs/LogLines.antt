@@ -10,13 +10,13 @@ use Rattle.pm_words.specs.Words.{line_bytes, Words}
 use Rattle.disk_lines.specs.declared.Draft.{Draft}
 use Rattle.disk_lines.specs.Entries.{encode_entry}
 use Rattle.disk_places.specs.Places.{log_line}
-use Rattle.disk_rules.specs.LogRule.{HoldsEntry, IsAsAtFirst, words_of_line}
-use Rattle.disk_rules.specs.Volume.{Volume}
+use Rattle.losing_facts.specs.disk_rules.LogRule.{HoldsEntry, IsAsAtFirst, words_of_line}
+use Rattle.losing_facts.specs.disk_rules.Volume.{Volume}
 use Rattle.losing_facts.specs.k_split.Laps.{IsLogWord}
 use Rattle.losing_facts.specs.k_split.LogLines.{AreLogLines}
-use Rattle.lines_out.specs.Lines.{line_at}
-use Rattle.oplog_tail.specs.EntryBytes.{encode_entry-small, length-encode_entry}
-use Rattle.oplog_tail.specs.EntryLines.{entry_words}
+use Rattle.losing_facts.specs.lines_out.Lines.{line_at}
+use Rattle.losing_facts.specs.oplog_tail.EntryBytes.{encode_entry-small, length-encode_entry}
+use Rattle.losing_facts.specs.oplog_tail.EntryLines.{entry_words}
 use Rattle.losing_facts.specs.world_log.Lines as lined
 use Rattle.losing_facts.specs.world_log.Lines.{AreLinesOut, HoldsWords, IsClaimedLine, Spells}
 use Rattle.losing_facts.specs.world_standing.Standing.{IsSpellable}

@@ -6,20 +6,20 @@ use Rattle.pm_words.specs.Parts.{Part, put_back}
 use Rattle.pm_words.specs.Words.{Words}
 use Rattle.disk_lines.specs.declared.Draft.{Draft}
 use Rattle.disk_places.specs.Places.{Geometry, log_line}
-use Rattle.disk_rules.specs.Volume.{Volume}
-use Rattle.k_rules.specs.View.{View}
+use Rattle.losing_facts.specs.disk_rules.Volume.{Volume}
+use Rattle.losing_facts.specs.k_rules.View.{View}
 use Rattle.losing_facts.specs.k_split.Laps.{IsLogWord}
-use Rattle.lines_out.specs.Lines.{LinesComeBack}
+use Rattle.losing_facts.specs.lines_out.Lines.{LinesComeBack}
 use Rattle.list_facts.specs.Members.{In}
 use Rattle.posix_types.specs.declared.item.Item.{Item}
 use Rattle.posix_words.specs.Open.{Tables}
-use Rattle.posix_spec.specs.Run.{Begun, run}
-use Rattle.posix_spec.specs.State.{State}
+use Rattle.losing_facts.specs.posix_spec.Run.{Begun, run}
+use Rattle.losing_facts.specs.posix_spec.State.{State}
 use Rattle.losing_facts.specs.world_images.Promised.{KeepsPromise}
 use Rattle.losing_facts.specs.world_log.Lines.{AreLinesOut}
 use Rattle.losing_facts.specs.world_standing.Standing.{AreLinesLent, Kept, Pending, StandsAt}
 use Rattle.losing_facts.specs.write_ends.Ends.{IsOut}
-use Rattle.write_jobs.specs.Jobs.{FilledView, HoldWords}
+use Rattle.losing_facts.specs.write_jobs.Jobs.{FilledView, HoldWords}
 use Rattle.losing_facts.specs.Blocks.{AreBlocksHome, ComeHome}
 use Rattle.losing_facts.specs.Lines.{AreCrashLines, HoldClaims}
 use Rattle.losing_facts.specs.Lost.{IsLostWith}

@@ -16,3 +16,5 @@ pub fn a_crash_keeps_the_promise()
     ensures home { KeepsHome }
     ensures lines { LinesHoldOut }
 {}
+
+pub use losing_facts;

@@ -9,12 +9,12 @@ use Rattle.posix_types.specs.declared.reply.Shape.{Shape}
 use Rattle.posix_types.specs.declared.tree.TreeEntry.{TreeEntry}
 use Rattle.posix_words.specs.declared.nodes.Node.{Node}
 use Rattle.posix_words.specs.Nodes.{node_at}
-use Rattle.posix_spec.specs.Run.{after_call, after_calls, Begun, begun, run}
-use Rattle.posix_spec.specs.State.{State}
-use Rattle.posix_spec.specs.Step.{step}
-use Rattle.posix_spec.specs.Tree.{start, tree}
-use Rattle.crash_spec.specs.Permitted.{Permitted}
-use Rattle.crash_spec.specs.Posix.{acting, ByteRule, IsLeft, KeepsFront, NodeLeft, others, OrUnfinished, Overwritten, Posix, syncs, TreeLeft}
+use Rattle.posix_puts.specs.posix_spec.Run.{after_call, after_calls, Begun, begun, run}
+use Rattle.posix_puts.specs.posix_spec.State.{State}
+use Rattle.posix_puts.specs.posix_spec.Step.{step}
+use Rattle.posix_puts.specs.posix_spec.Tree.{start, tree}
+use Rattle.judge_bytes.specs.crash_spec.Permitted.{Permitted}
+use Rattle.judge_bytes.specs.crash_spec.Posix.{acting, ByteRule, IsLeft, KeepsFront, NodeLeft, others, OrUnfinished, Overwritten, Posix, syncs, TreeLeft}
 use Rattle.judge_bytes.specs.declared.effects.Effect.{Effect}
 use Rattle.judge_bytes.specs.Effects.{AreEffects, EffectRule}
 use Rattle.crash_judge.specs.Judged.{IsPermitted}

@@ -24,11 +24,11 @@ use Rattle.posix_words.specs.Nodes.{bytes_of, is_directory, is_live, node_at, pu
 use Rattle.posix_words.specs.Open.{is_full, is_open, key_of, may_write, Tables, with_offset, with_opened}
 use Rattle.posix_words.specs.Outcomes.{first, idle_row, row, space_row, unless}
 use Rattle.posix_words.specs.Room.{growth, held, write_need}
-use Rattle.posix_spec.specs.FileRows.{appends, content, dup_rows, file_number, offset_of, seek_base, seek_rows, seek_target, truncate_rows, unknown_row, write_rows, write_start}
-use Rattle.posix_spec.specs.Put.{put_by, put_unless}
-use Rattle.posix_spec.specs.Run.{after_call, Begun}
-use Rattle.posix_spec.specs.State.{alone, made, room, space, State, swept, unnamed, with_file, with_node, with_published}
-use Rattle.posix_spec.specs.Step.{close_done, dup_done, empty_file, fsync_done, list_done, mkdir_done, moved_offset, open_done, opening, opening_number, pread_done, pwrite_done, read_done, rename_done, renamed, rmdir_done, seek_done, stat_done, step, stepped, Stepped, truncate_done, unlink_done, write_done, written}
+use Rattle.posix_puts.specs.posix_spec.FileRows.{appends, content, dup_rows, file_number, offset_of, seek_base, seek_rows, seek_target, truncate_rows, unknown_row, write_rows, write_start}
+use Rattle.posix_puts.specs.posix_spec.Put.{put_by, put_unless}
+use Rattle.posix_puts.specs.posix_spec.Run.{after_call, Begun}
+use Rattle.posix_puts.specs.posix_spec.State.{alone, made, room, space, State, swept, unnamed, with_file, with_node, with_published}
+use Rattle.posix_puts.specs.posix_spec.Step.{close_done, dup_done, empty_file, fsync_done, list_done, mkdir_done, moved_offset, open_done, opening, opening_number, pread_done, pwrite_done, read_done, rename_done, renamed, rmdir_done, seek_done, stat_done, step, stepped, Stepped, truncate_done, unlink_done, write_done, written}
 use Rattle.crash_judge.proofs.ByteLaws.{index-overwritten, index-resized, length-bytes_from, length-overwritten, length-resized, written_at}
 use Rattle.judge_bytes.proofs.NearestLaws.{split}
 

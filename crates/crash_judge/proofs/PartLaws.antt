@@ -14,14 +14,14 @@ use Rattle.posix_words.specs.declared.nodes.Node.{Node}
 use Rattle.posix_words.specs.declared.places.Place.{Place}
 use Rattle.posix_words.specs.Nodes.{bytes_of, node_at, published_of}
 use Rattle.posix_words.specs.Places.{places, tree_entry, tree_node}
-use Rattle.posix_spec.specs.Put.{Put, put_by}
-use Rattle.posix_spec.specs.Run.{after_call, after_calls, Begun, run}
-use Rattle.posix_spec.specs.State.{State, with_file}
-use Rattle.posix_spec.specs.Tree.{tree}
+use Rattle.posix_puts.specs.posix_spec.Put.{Put, put_by}
+use Rattle.posix_puts.specs.posix_spec.Run.{after_call, after_calls, Begun, run}
+use Rattle.posix_puts.specs.posix_spec.State.{State, with_file}
+use Rattle.posix_puts.specs.posix_spec.Tree.{tree}
 use Rattle.posix_puts.specs.PutLaws.{LeavesWhole-put}
 use Rattle.posix_puts.specs.Puts.{put_bytes}
-use Rattle.crash_spec.specs.Strict.{Strict, StrictFrom}
-use Rattle.crash_spec.specs.Sync.{ActsInPart, file_bytes, IsPartOf, Sync, SyncFrom, with_bytes}
+use Rattle.judge_bytes.specs.crash_spec.Strict.{Strict, StrictFrom}
+use Rattle.judge_bytes.specs.crash_spec.Sync.{ActsInPart, file_bytes, IsPartOf, Sync, SyncFrom, with_bytes}
 use Rattle.crash_judge.specs.Parts.{all_toward, LeadTo, PartsThen, pick, picked, put_toward, SomeLead, toward}
 use Rattle.judge_bytes.specs.Wanted.{numbers_of, wanted}
 use Rattle.crash_judge.proofs.Likes.{AllGo-same, bytes_go, BytesGo, ByteWise, Like, Like-call, Like-file, MayBeSame, NodesGo, published_same, put_by-like}

@@ -4,9 +4,9 @@ use Rattle.posix_types.specs.declared.call.Mode.{Mode}
 use Rattle.posix_types.specs.declared.item.Item.{Item}
 use Rattle.posix_types.specs.declared.reply.Shape.{Shape}
 use Rattle.posix_types.specs.declared.tree.TreeEntry.{TreeEntry}
-use Rattle.posix_spec.specs.Run.{Begun}
-use Rattle.posix_spec.specs.Tree.{start}
-use Rattle.crash_spec.specs.Permitted.{Permitted}
+use Rattle.posix_puts.specs.posix_spec.Run.{Begun}
+use Rattle.posix_puts.specs.posix_spec.Tree.{start}
+use Rattle.judge_bytes.specs.crash_spec.Permitted.{Permitted}
 
 -- the mode permits this tree of a file system that began with a tree
 abbrev pub IsPermitted : Mode → Shape → List TreeEntry → List Item → List Begun → List TreeEntry → Type 0

@@ -22,7 +22,7 @@ use crate::parts::is_sync;
 use crate::posix::is_posix;
 use crate::strict::is_strict;
 use judge_bytes::run;
-use posix_spec::{Call, Item, Mode, Shape, State, Tree, Who};
+use posix_puts::posix_spec::{Call, Item, Mode, Shape, State, Tree, Who};
 use std::alloc::{AllocError, Global};
 
 /// Whether the mode permits this tree after a power loss: of a file system of this shape that began
@@ -50,3 +50,5 @@ pub fn judge(
         Mode::Posix => is_posix(alloc, &first, history, unfinished, after),
     }
 }
+
+pub use posix_puts::posix_spec;

@@ -1,12 +1,12 @@
 //! What sync mode permits: some of the unfinished calls act, in order, each whole or in part.
 ghost use Rattle.std.specs.Prelude.{◌≡◌, ◌↔◌, [], IfOk, IsTrue, length};
-ghost use Rattle.posix_spec.specs.Run.{after_calls};
-ghost use Rattle.crash_spec.specs.Sync.{Sync};
+ghost use Rattle.posix_puts.specs.posix_spec.Run.{after_calls};
+ghost use Rattle.judge_bytes.specs.crash_spec.Sync.{Sync};
 ghost use Rattle.crash_judge.specs.Parts.{all_toward, LeadTo, pick, picked, SomeLead, toward};
 ghost use Rattle.judge_bytes.specs.Wanted.{wanted};
 
 use judge_bytes::{after, after_all, byte_at, has_tree, numbers_of, run, wanted, with_call};
-use posix_spec::{Call, Data, Item, State, Tree, TreeEntry, Who};
+use posix_puts::posix_spec::{Call, Data, Item, State, Tree, TreeEntry, Who};
 use posix_words::nodes::bytes_at;
 use std::alloc::{AllocError, Global};
 

@@ -2,13 +2,13 @@
 //! calls; or the tree is that of the history.
 ghost use Rattle.std.specs.Prelude.{◌≡◌, ◌↔◌, [], IfOk, IsTrue, map};
 ghost use Rattle.std.specs.List.{list_any};
-ghost use Rattle.posix_spec.specs.Run.{begun, run};
-ghost use Rattle.crash_spec.specs.Posix.{Posix, syncs};
+ghost use Rattle.posix_puts.specs.posix_spec.Run.{begun, run};
+ghost use Rattle.judge_bytes.specs.crash_spec.Posix.{Posix, syncs};
 ghost use Rattle.judge_bytes.specs.Effects.{AreEffects};
 ghost use Rattle.crash_judge.specs.Fronts.{ActsOrNot, KeptFrom, KeptHere};
 
 use judge_bytes::{Effect, after, calls_of, effects_of, has_tree, is_left, run, with_call};
-use posix_spec::{Call, Item, Reply, State, Tree, Who};
+use posix_puts::posix_spec::{Call, Item, Reply, State, Tree, Who};
 use std::alloc::{AllocError, Global};
 
 /// Whether an item is an `fsync` that returned ok.

@@ -15,12 +15,12 @@ use Rattle.posix_words.specs.Names.{height, node_at_path, walk, with_entry}
 use Rattle.posix_words.specs.NameRows.{open_rows}
 use Rattle.posix_words.specs.Open.{binding_of, key_of, opened, with_binding, with_descriptor, with_offset, with_opened}
 use Rattle.posix_words.specs.Places.{entry_place, path_to, places, tree_entry, tree_node, with_place}
-use Rattle.posix_spec.specs.FileRows.{truncate_rows, write_rows}
-use Rattle.posix_spec.specs.Put.{put_by}
-use Rattle.posix_spec.specs.Run.{after_calls, begun, run}
-use Rattle.posix_spec.specs.State.{made, State, with_file, with_published}
-use Rattle.posix_spec.specs.Step.{fsync_done, open_done, opening, pwrite_done, truncate_done, write_done, written}
-use Rattle.posix_spec.specs.Tree.{tree}
+use Rattle.posix_facts.specs.posix_spec.FileRows.{truncate_rows, write_rows}
+use Rattle.posix_facts.specs.posix_spec.Put.{put_by}
+use Rattle.posix_facts.specs.posix_spec.Run.{after_calls, begun, run}
+use Rattle.posix_facts.specs.posix_spec.State.{made, State, with_file, with_published}
+use Rattle.posix_facts.specs.posix_spec.Step.{fsync_done, open_done, opening, pwrite_done, truncate_done, write_done, written}
+use Rattle.posix_facts.specs.posix_spec.Tree.{tree}
 use Rattle.crash_spec.specs.ByteRows.{ByteRows, cut_and_written, file_of, fresh, later, one_later, synced}
 use Rattle.crash_spec.specs.Posix.{acting, ByteRule, FileLeft, IsLeft, KeepsFront, LastBeforeCut, LaterRule, NodeLeft, OrUnfinished, others, Overwritten, StrongPosix, syncs, TreeLeft}
 use Rattle.crash_spec.specs.ScheduleRows.{handle, item}

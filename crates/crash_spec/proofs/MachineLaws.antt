@@ -13,9 +13,9 @@ use Rattle.posix_types.specs.declared.call.Who.{Who}
 use Rattle.posix_types.specs.declared.item.Item.{Item}
 use Rattle.posix_types.specs.Scripts.{Scripts}
 use Rattle.posix_words.specs.Open.{same_who}
-use Rattle.posix_spec.specs.Run.{Begun, begun, IsLegal, IsLegal-append}
-use Rattle.posix_spec.specs.Scripted.{IsSetUp, Scripted, Scripted-append}
-use Rattle.posix_spec.specs.Unfinished.{AreUnfinished, HaveTwoCallers, IsNextCall}
+use Rattle.posix_facts.specs.posix_spec.Run.{Begun, begun, IsLegal, IsLegal-append}
+use Rattle.posix_facts.specs.posix_spec.Scripted.{IsSetUp, Scripted, Scripted-append}
+use Rattle.posix_facts.specs.posix_spec.Unfinished.{AreUnfinished, HaveTwoCallers, IsNextCall}
 use Rattle.posix_facts.specs.UnfinishedLaws.{AreUnfinished-begun, AreUnfinished-finished, AreUnfinished-none, IsNext-item}
 use Rattle.crash_spec.specs.Busy.{is_busy}
 use Rattle.crash_spec.specs.Laws.{Follows}

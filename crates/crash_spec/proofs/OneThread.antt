@@ -8,9 +8,9 @@ use Rattle.posix_types.specs.declared.call.Call.{Call}
 use Rattle.posix_types.specs.declared.call.Who.{Who}
 use Rattle.posix_types.specs.declared.item.Item.{Item}
 use Rattle.posix_words.specs.Open.{same_who}
-use Rattle.posix_spec.specs.Run.{Begun}
-use Rattle.posix_spec.specs.Scripted.{items_of, next_call, ScriptedAfter}
-use Rattle.posix_spec.specs.State.{State}
+use Rattle.posix_facts.specs.posix_spec.Run.{Begun}
+use Rattle.posix_facts.specs.posix_spec.Scripted.{items_of, next_call, ScriptedAfter}
+use Rattle.posix_facts.specs.posix_spec.State.{State}
 use Rattle.crash_spec.specs.Laws.{on_one_thread, one_script}
 use Rattle.crash_spec.proofs.MachineLaws.{Follows-Scheduled}
 use Rattle.crash_spec.specs.Orders.{Order}

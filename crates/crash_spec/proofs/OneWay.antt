@@ -6,10 +6,10 @@ use Rattle.posix_types.specs.declared.call.Call.{Call}
 use Rattle.posix_types.specs.declared.call.Who.{Who}
 use Rattle.posix_types.specs.declared.item.Item.{Item}
 use Rattle.posix_types.specs.Scripts.{Scripts}
-use Rattle.posix_spec.specs.Put.{put_by}
-use Rattle.posix_spec.specs.Scripted.{items_of, script_of}
-use Rattle.posix_spec.specs.State.{State}
-use Rattle.posix_spec.specs.Unfinished.{IsNextCall}
+use Rattle.posix_facts.specs.posix_spec.Put.{put_by}
+use Rattle.posix_facts.specs.posix_spec.Scripted.{items_of, script_of}
+use Rattle.posix_facts.specs.posix_spec.State.{State}
+use Rattle.posix_facts.specs.posix_spec.Unfinished.{IsNextCall}
 use Rattle.crash_spec.specs.Machine.{Checkpoint, Event, Goes, LacksSpace, Machine, MayLackSpace, Setting, state_of, Checks as Checkpoints}
 use Rattle.crash_spec.proofs.MachineLaws.{Checkpoint-idle, IsSound, IsSound-Reaches, MayBegin-Begins}
 use Rattle.crash_spec.specs.Orders.{ArePassedOver, BehindList, ByDraw, ByList, InTurn, IsInTurn, IsLowest, Order, Picker, Picks}

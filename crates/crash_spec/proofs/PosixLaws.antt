@@ -5,8 +5,8 @@ use Rattle.posix_types.specs.declared.item.Item.{Item}
 use Rattle.posix_types.specs.declared.tree.TreeEntry.{TreeEntry}
 use Rattle.posix_words.specs.declared.nodes.Node.{Node}
 use Rattle.posix_words.specs.Nodes.{node_at}
-use Rattle.posix_spec.specs.Run.{after_call, after_calls, Begun, begun, run}
-use Rattle.posix_spec.specs.State.{State}
+use Rattle.posix_facts.specs.posix_spec.Run.{after_call, after_calls, Begun, begun, run}
+use Rattle.posix_facts.specs.posix_spec.State.{State}
 use Rattle.crash_spec.specs.Posix.{acting, ByteRule, IsLastOrAny, IsLeft, LastBeforeCut, NodeLeft, others, OrUnfinished, Overwritten, Posix, StrongPosix, TreeLeft}
 use Rattle.crash_spec.specs.Values.{is_shortened, IsOneOf, last_of, shortens, value_before_cut, value_put, values_put, with_value}
 

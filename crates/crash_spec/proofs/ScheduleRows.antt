@@ -6,10 +6,10 @@ use Rattle.posix_types.specs.declared.call.Who.{Who}
 use Rattle.posix_words.specs.Names.{height, node_at_path, walk, with_entry, without_entry}
 use Rattle.posix_words.specs.NameRows.{list_rows, open_rows, rename_kind_rows, rename_rows, stat_rows}
 use Rattle.posix_words.specs.Open.{binding_of, key_of, opened, with_binding, with_descriptor, with_offset, with_opened}
-use Rattle.posix_spec.specs.FileRows.{write_rows}
-use Rattle.posix_spec.specs.Put.{put_by}
-use Rattle.posix_spec.specs.State.{made, swept, unnamed, with_file}
-use Rattle.posix_spec.specs.Step.{list_done, open_done, opening, rename_done, renamed, stat_done, write_done, written}
+use Rattle.posix_facts.specs.posix_spec.FileRows.{write_rows}
+use Rattle.posix_facts.specs.posix_spec.Put.{put_by}
+use Rattle.posix_facts.specs.posix_spec.State.{made, swept, unnamed, with_file}
+use Rattle.posix_facts.specs.posix_spec.Step.{list_done, open_done, opening, rename_done, renamed, stat_done, write_done, written}
 use Rattle.crash_spec.specs.Busy.{is_busy, waits_for}
 use Rattle.crash_spec.specs.Machine.{may_begin}
 use Rattle.crash_spec.specs.Orders.{draw}

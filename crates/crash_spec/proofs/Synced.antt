@@ -13,9 +13,9 @@ use Rattle.posix_words.specs.declared.nodes.Node.{Node}
 use Rattle.posix_words.specs.declared.places.Place.{Place}
 use Rattle.posix_words.specs.Nodes.{node_at}
 use Rattle.posix_words.specs.Places.{places, tree_entry, tree_node}
-use Rattle.posix_spec.specs.Run.{after_calls, Begun, begun, run}
-use Rattle.posix_spec.specs.State.{State}
-use Rattle.posix_spec.specs.Tree.{tree}
+use Rattle.posix_facts.specs.posix_spec.Run.{after_calls, Begun, begun, run}
+use Rattle.posix_facts.specs.posix_spec.State.{State}
+use Rattle.posix_facts.specs.posix_spec.Tree.{tree}
 use Rattle.crash_spec.specs.Laws.{AllPublished, IsPublished}
 use Rattle.crash_spec.specs.Posix.{acting, ByteRule, FileLeft, NodeLeft, others, OrUnfinished, Overwritten, Posix, syncs, TreeLeft}
 use Rattle.crash_spec.specs.Values.{is_shortened, values_put}

@@ -9,9 +9,9 @@ use Rattle.posix_types.specs.declared.handle.Handle.{Handle}
 use Rattle.posix_words.specs.Names.{node_at_path, too_long}
 use Rattle.posix_words.specs.Nodes.{bytes_of, node_at}
 use Rattle.posix_words.specs.Open.{opened, same_who}
-use Rattle.posix_spec.specs.Put.{Put, put_by}
-use Rattle.posix_spec.specs.Run.{Begun}
-use Rattle.posix_spec.specs.State.{space, State}
+use Rattle.posix_facts.specs.posix_spec.Put.{Put, put_by}
+use Rattle.posix_facts.specs.posix_spec.Run.{Begun}
+use Rattle.posix_facts.specs.posix_spec.State.{space, State}
 
 -- A write of at least one byte that is accepted is logged: in strict mode always, in sync mode where it reaches past the
 -- file's length, in POSIX mode never. No other call is.

@@ -5,9 +5,9 @@ use Rattle.posix_types.specs.declared.call.Mode.{Mode}
 use Rattle.posix_types.specs.declared.call.Who.{Who}
 use Rattle.posix_types.specs.declared.handle.Flags.{Flags}
 use Rattle.posix_types.specs.declared.handle.Whence.{Whence}
-use Rattle.posix_spec.specs.Run.{after_calls}
-use Rattle.posix_spec.specs.State.{State}
-use Rattle.posix_spec.specs.Tree.{default_shape, root_alone, start}
+use Rattle.posix_facts.specs.posix_spec.Run.{after_calls}
+use Rattle.posix_facts.specs.posix_spec.State.{State}
+use Rattle.posix_facts.specs.posix_spec.Tree.{default_shape, root_alone, start}
 use Rattle.crash_spec.specs.Busy.{is_busy, is_logged}
 use Rattle.crash_spec.specs.ScheduleRows.{handle, opens, path, writing}
 

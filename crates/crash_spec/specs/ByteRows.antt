@@ -8,8 +8,8 @@ use Rattle.posix_types.specs.declared.item.Item.{Item}
 use Rattle.posix_types.specs.declared.reply.Reply.{Reply}
 use Rattle.posix_types.specs.declared.tree.TreeEntry.{TreeEntry}
 use Rattle.posix_types.specs.declared.tree.TreeNode.{TreeNode}
-use Rattle.posix_spec.specs.State.{State}
-use Rattle.posix_spec.specs.Tree.{default_shape, root_alone, start}
+use Rattle.posix_facts.specs.posix_spec.State.{State}
+use Rattle.posix_facts.specs.posix_spec.Tree.{default_shape, root_alone, start}
 use Rattle.crash_spec.specs.Posix.{Posix, StrongPosix}
 use Rattle.crash_spec.specs.ScheduleRows.{handle, item, opens, path}
 

@@ -8,11 +8,11 @@ use Rattle.posix_types.specs.declared.tree.TreeEntry.{TreeEntry}
 use Rattle.posix_types.specs.Scripts.{Scripts}
 use Rattle.posix_words.specs.declared.nodes.Node.{Node}
 use Rattle.posix_words.specs.Nodes.{node_at}
-use Rattle.posix_spec.specs.Run.{after_call, Begun, IsAnswered, IsLegal, run}
-use Rattle.posix_spec.specs.Scripted.{Scripted}
-use Rattle.posix_spec.specs.State.{State}
-use Rattle.posix_spec.specs.Tree.{tree}
-use Rattle.posix_spec.specs.Unfinished.{AreUnfinished}
+use Rattle.posix_facts.specs.posix_spec.Run.{after_call, Begun, IsAnswered, IsLegal, run}
+use Rattle.posix_facts.specs.posix_spec.Scripted.{Scripted}
+use Rattle.posix_facts.specs.posix_spec.State.{State}
+use Rattle.posix_facts.specs.posix_spec.Tree.{tree}
+use Rattle.posix_facts.specs.posix_spec.Unfinished.{AreUnfinished}
 use Rattle.crash_spec.specs.Busy.{is_busy}
 use Rattle.crash_spec.specs.Machine.{Begins, Checkpoint, Goes, Machine, outs, Setting, state_of}
 use Rattle.crash_spec.specs.Orders.{Order}

@@ -13,3 +13,4 @@ pub mod Posix
 pub mod Strict
 pub mod Sync
 pub mod Values
+pub use Rattle.posix_facts.specs.posix_spec as posix_spec

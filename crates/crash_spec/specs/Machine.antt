@@ -8,13 +8,13 @@ use Rattle.posix_types.specs.declared.call.Who.{Who}
 use Rattle.posix_types.specs.declared.item.Item.{Item}
 use Rattle.posix_types.specs.Scripts.{Scripts}
 use Rattle.posix_words.specs.Open.{same_who}
-use Rattle.posix_spec.specs.FileRows.{content, truncate_rows}
+use Rattle.posix_facts.specs.posix_spec.FileRows.{content, truncate_rows}
 use Rattle.posix_words.specs.Outcomes.{first}
-use Rattle.posix_spec.specs.Put.{put_by}
-use Rattle.posix_spec.specs.Run.{Begun, run}
-use Rattle.posix_spec.specs.Scripted.{call_count, items_of, next_call}
-use Rattle.posix_spec.specs.State.{State}
-use Rattle.posix_spec.specs.Step.{step}
+use Rattle.posix_facts.specs.posix_spec.Put.{put_by}
+use Rattle.posix_facts.specs.posix_spec.Run.{Begun, run}
+use Rattle.posix_facts.specs.posix_spec.Scripted.{call_count, items_of, next_call}
+use Rattle.posix_facts.specs.posix_spec.State.{State}
+use Rattle.posix_facts.specs.posix_spec.Step.{step}
 use Rattle.crash_spec.specs.Busy.{is_busy, is_logged, Out, waits_for}
 
 -- how far a logged call is

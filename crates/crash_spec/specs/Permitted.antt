@@ -3,8 +3,8 @@ use Rattle.std.specs.Prelude.{List}
 use Rattle.posix_types.specs.declared.call.Mode.{Mode}
 use Rattle.posix_types.specs.declared.item.Item.{Item}
 use Rattle.posix_types.specs.declared.tree.TreeEntry.{TreeEntry}
-use Rattle.posix_spec.specs.Run.{Begun}
-use Rattle.posix_spec.specs.State.{State}
+use Rattle.posix_facts.specs.posix_spec.Run.{Begun}
+use Rattle.posix_facts.specs.posix_spec.State.{State}
 use Rattle.crash_spec.specs.Strict.{Strict}
 use Rattle.crash_spec.specs.Sync.{Sync}
 use Rattle.crash_spec.specs.Posix.{Posix}

@@ -13,9 +13,9 @@ use Rattle.posix_types.specs.declared.tree.TreeEntry.{TreeEntry}
 use Rattle.posix_words.specs.declared.nodes.File.{File}
 use Rattle.posix_words.specs.declared.nodes.Node.{Node}
 use Rattle.posix_words.specs.Nodes.{node_at}
-use Rattle.posix_spec.specs.Run.{after_calls, Begun, begun, run}
-use Rattle.posix_spec.specs.State.{State}
-use Rattle.posix_spec.specs.Tree.{tree}
+use Rattle.posix_facts.specs.posix_spec.Run.{after_calls, Begun, begun, run}
+use Rattle.posix_facts.specs.posix_spec.State.{State}
+use Rattle.posix_facts.specs.posix_spec.Tree.{tree}
 use Rattle.crash_spec.specs.Values.{is_shortened, IsOneOf, last_of, value_before_cut, values_put}
 
 -- A rule for bytes: of byte i of node n, which had value v, whether x may be found there.

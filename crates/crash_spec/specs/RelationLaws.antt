@@ -5,9 +5,9 @@ use Rattle.std.proofs.Common.{inl, inr, sym}
 use Rattle.posix_types.specs.declared.call.Mode.{Mode}
 use Rattle.posix_types.specs.declared.item.Item.{Item}
 use Rattle.posix_types.specs.declared.tree.TreeEntry.{TreeEntry}
-use Rattle.posix_spec.specs.Run.{after_call, Begun, run}
-use Rattle.posix_spec.specs.State.{State}
-use Rattle.posix_spec.specs.Tree.{tree}
+use Rattle.posix_facts.specs.posix_spec.Run.{after_call, Begun, run}
+use Rattle.posix_facts.specs.posix_spec.State.{State}
+use Rattle.posix_facts.specs.posix_spec.Tree.{tree}
 use Rattle.crash_spec.specs.Permitted.{Permitted}
 use Rattle.crash_spec.specs.Strict.{Strict, StrictFrom, Strict-none, Strict-one}
 use Rattle.crash_spec.specs.Sync.{IsPartOf, Sync, SyncFrom}

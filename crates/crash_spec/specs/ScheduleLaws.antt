@@ -3,8 +3,8 @@ use Rattle.std.specs.Prelude.{◌≡◌, ℕ, ◌+◌, ◌-◌, ◌≤◌, Bool,
 use Rattle.posix_types.specs.declared.call.Call.{Call}
 use Rattle.posix_types.specs.declared.call.Who.{Who}
 use Rattle.posix_types.specs.declared.item.Item.{Item}
-use Rattle.posix_spec.specs.Run.{Begun}
-use Rattle.posix_spec.specs.Scripted.{script_of}
+use Rattle.posix_facts.specs.posix_spec.Run.{Begun}
+use Rattle.posix_facts.specs.posix_spec.Scripted.{script_of}
 use Rattle.crash_spec.specs.Machine.{Setting, unfinished_of}
 use Rattle.crash_spec.specs.Orders.{Order}
 use Rattle.crash_spec.specs.Schedules.{Advances, Course, Further, Reaches, Scheduled, Starts}

@@ -10,7 +10,7 @@ use Rattle.posix_types.specs.declared.item.Item.{Item}
 use Rattle.posix_types.specs.declared.reply.Reply.{Reply}
 use Rattle.posix_types.specs.declared.reply.Stat.{Stat}
 use Rattle.posix_types.specs.Scripts.{Scripts}
-use Rattle.posix_spec.specs.Tree.{default_shape, root_alone, start}
+use Rattle.posix_facts.specs.posix_spec.Tree.{default_shape, root_alone, start}
 use Rattle.crash_spec.specs.Machine.{Setting}
 use Rattle.crash_spec.specs.Orders.{Listed, Round, Seeded}
 use Rattle.crash_spec.specs.ScheduleLaws.{IsTheOnlySchedule, IsTheSchedule}

@@ -5,10 +5,10 @@ use Rattle.std.specs.Prelude.{◌≡◌, ◌⊎◌, ℕ, ◌<◌, List, [], ◌�
 use Rattle.posix_types.specs.declared.item.Item.{Item}
 use Rattle.posix_types.specs.declared.tree.TreeEntry.{TreeEntry}
 use Rattle.posix_words.specs.Nodes.{bytes_of, node_at, published_of}
-use Rattle.posix_spec.specs.Put.{Put, put_by}
-use Rattle.posix_spec.specs.Run.{after_call, Begun, run}
-use Rattle.posix_spec.specs.State.{State, with_file}
-use Rattle.posix_spec.specs.Tree.{tree}
+use Rattle.posix_facts.specs.posix_spec.Put.{Put, put_by}
+use Rattle.posix_facts.specs.posix_spec.Run.{after_call, Begun, run}
+use Rattle.posix_facts.specs.posix_spec.State.{State, with_file}
+use Rattle.posix_facts.specs.posix_spec.Tree.{tree}
 
 -- The bytes of a file after a write that was done in part: as many as after the whole write. Each is as the whole
 -- write makes it, or, below the old length, as it was. So a write within the old length leaves the length, and one past

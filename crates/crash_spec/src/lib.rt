@@ -79,3 +79,5 @@ pub fn calls_wait_for_a_busy_file()
 pub fn rules_for_bytes_differ()
     ensures { ByteRows }
 {}
+
+pub use posix_facts::posix_spec;

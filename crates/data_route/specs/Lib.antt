@@ -1,3 +1,4 @@
 pub mod Writes
 pub mod Reads
 pub mod Laws
+pub use Rattle.map_collection.specs as map_collection

@@ -37,3 +37,5 @@ pub fn old_bytes_are_in_place()
 pub fn few_blocks_are_staged()
     ensures { StagesFewBlocks }
 {}
+
+pub use map_collection;

@@ -11,9 +11,9 @@ use Rattle.posix_types.specs.declared.tree.TreeEntry.{TreeEntry}
 use Rattle.posix_words.specs.declared.nodes.DirEntry.{DirEntry}
 use Rattle.posix_words.specs.Lookups.{AreDistinct}
 use Rattle.posix_words.specs.Names.{child_of, names_in}
-use Rattle.posix_spec.specs.State.{Instance, State}
-use Rattle.posix_spec.specs.Step.{step_of}
-use Rattle.posix_spec.specs.Tree.{start}
+use Rattle.posix_trees.specs.posix_spec.State.{Instance, State}
+use Rattle.posix_trees.specs.posix_spec.Step.{step_of}
+use Rattle.posix_trees.specs.posix_spec.Tree.{start}
 use Rattle.posix_trees.specs.Order.{RisingBy}
 use Rattle.entry_orders.specs.Listed.{AreOnce}
 use Rattle.entry_orders.specs.Orders.{AreOrdered, entry_text}

@@ -11,7 +11,7 @@ use Rattle.list_facts.specs.Filters.{filter-In, In-filter, In-map, map-In}
 use Rattle.list_facts.specs.Members.{find-In, find-none, In}
 use Rattle.posix_words.specs.declared.nodes.DirEntry.{DirEntry}
 use Rattle.posix_words.specs.Names.{bytes_before, child_of, entries_in, is_entry, names_in, same_name}
-use Rattle.posix_facts.specs.DistinctLaws.{own_entry}
+use Rattle.posix_trees.specs.posix_facts.DistinctLaws.{own_entry}
 use Rattle.posix_trees.specs.Order.{before_or_after, before_trans, Rising-same, RisingBy}
 use Rattle.entry_orders.specs.Orders.{entry_text}
 

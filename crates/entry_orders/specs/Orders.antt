@@ -19,12 +19,12 @@ use Rattle.posix_words.specs.Names.{bytes_before, child_of, comes_before, exists
 use Rattle.posix_words.specs.NameRows.{mkdir_rows, open_rows, walk_row}
 use Rattle.posix_words.specs.Outcomes.{first}
 use Rattle.posix_words.specs.Open.{closed}
-use Rattle.posix_spec.specs.FileRows.{file_number}
-use Rattle.posix_spec.specs.Run.{run}
-use Rattle.posix_spec.specs.State.{alone, Instance, made, space, State, swept, unnamed, with_file, with_node, with_published}
-use Rattle.posix_spec.specs.Step.{close_done, dup_done, empty_file, fsync_done, list_done, mkdir_done, open_done, opening, pread_done, pwrite_done, read_done, rename_done, renamed, rmdir_done, seek_done, stat_done, step, step_of, truncate_done, unlink_done, write_done, written}
-use Rattle.posix_facts.specs.DistinctLaws.{AreDistinct-with_entry, AreDistinct-without_entry, nothing_there, own_entry}
-use Rattle.posix_facts.specs.RowLaws.{no_row, none_fits, stepped-keeps}
+use Rattle.posix_trees.specs.posix_spec.FileRows.{file_number}
+use Rattle.posix_trees.specs.posix_spec.Run.{run}
+use Rattle.posix_trees.specs.posix_spec.State.{alone, Instance, made, space, State, swept, unnamed, with_file, with_node, with_published}
+use Rattle.posix_trees.specs.posix_spec.Step.{close_done, dup_done, empty_file, fsync_done, list_done, mkdir_done, open_done, opening, pread_done, pwrite_done, read_done, rename_done, renamed, rmdir_done, seek_done, stat_done, step, step_of, truncate_done, unlink_done, write_done, written}
+use Rattle.posix_trees.specs.posix_facts.DistinctLaws.{AreDistinct-with_entry, AreDistinct-without_entry, nothing_there, own_entry}
+use Rattle.posix_trees.specs.posix_facts.RowLaws.{no_row, none_fits, stepped-keeps}
 use Rattle.posix_trees.specs.Order.{insert-position, put_in, Rising-put_in, RisingBy}
 
 -- the directory's number, and then the name, as one text

@@ -10,9 +10,9 @@ use Rattle.posix_words.specs.declared.nodes.DirEntry.{DirEntry}
 use Rattle.posix_words.specs.Lookups.{AreDistinct}
 use Rattle.posix_words.specs.Names.{child_of, comes_before, is_entry, is_root, with_entry}
 use Rattle.posix_words.specs.Places.{node_of}
-use Rattle.posix_facts.specs.DistinctLaws.{own_entry}
-use Rattle.posix_spec.specs.State.{made, State}
-use Rattle.posix_spec.specs.Tree.{bare, planted, start}
+use Rattle.posix_trees.specs.posix_facts.DistinctLaws.{own_entry}
+use Rattle.posix_trees.specs.posix_spec.State.{made, State}
+use Rattle.posix_trees.specs.posix_spec.Tree.{bare, planted, start}
 use Rattle.posix_trees.specs.Order.{insert-position, put_in, Rising-put_in, RisingBy}
 use Rattle.entry_orders.specs.Orders.{entry_text, no_entry, same_test}
 

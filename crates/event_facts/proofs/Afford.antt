@@ -12,9 +12,9 @@ use Rattle.posix_types.specs.declared.call.Mode.{Mode}
 use Rattle.posix_types.specs.declared.call.Who.{Who}
 use Rattle.posix_types.specs.declared.item.Item.{Item}
 use Rattle.posix_types.specs.Scripts.{Scripts}
-use Rattle.posix_spec.specs.Afforded.{AffordedByNames, callers, is_posix, is_quiet, moves_data, next_calls}
-use Rattle.posix_spec.specs.Scripted.{call_count, items_of, next_call, script_of}
-use Rattle.posix_spec.specs.State.{State}
+use Rattle.round_views.specs.posix_spec.Afforded.{AffordedByNames, callers, is_posix, is_quiet, moves_data, next_calls}
+use Rattle.round_views.specs.posix_spec.Scripted.{call_count, items_of, next_call, script_of}
+use Rattle.round_views.specs.posix_spec.State.{State}
 use Rattle.event_facts.specs.Changes.{after_item, ChangesAtMost}
 use Rattle.event_facts.specs.Laws.{AffordsLost, AffordsWhole, KeepsGiven}
 use Rattle.event_facts.specs.Paid.{has_moved, may_move}

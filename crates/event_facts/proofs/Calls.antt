@@ -7,10 +7,10 @@ use Rattle.posix_types.specs.declared.call.Call.{Call}
 use Rattle.posix_types.specs.declared.call.Who.{Who}
 use Rattle.posix_types.specs.declared.item.Item.{Item}
 use Rattle.posix_types.specs.Scripts.{Scripts}
-use Rattle.posix_spec.specs.Afforded.{moves_data}
-use Rattle.posix_spec.specs.Run.{Begun}
-use Rattle.posix_spec.specs.Scripted.{Scripted, Scripted-append}
-use Rattle.posix_spec.specs.Unfinished.{AreUnfinished, IsNextCall}
+use Rattle.round_views.specs.posix_spec.Afforded.{moves_data}
+use Rattle.round_views.specs.posix_spec.Run.{Begun}
+use Rattle.round_views.specs.posix_spec.Scripted.{Scripted, Scripted-append}
+use Rattle.round_views.specs.posix_spec.Unfinished.{AreUnfinished, IsNextCall}
 use Rattle.list_facts.specs.Members.{In}
 use Rattle.round_log.specs.Rounds.{RoundView}
 use Rattle.round_views.specs.declared.over.Over.{Over}

@@ -7,18 +7,18 @@ use Rattle.pm_words.specs.Parts.{Part}
 use Rattle.pm_words.specs.Words.{Words}
 use Rattle.disk_lines.specs.declared.Draft.{Draft}
 use Rattle.disk_places.specs.Places.{Geometry, log_line}
-use Rattle.disk_rules.specs.LogRule.{HoldsClaims, HoldsEntry, IsAsAtFirst, words_of_line}
-use Rattle.lines_out.specs.Lines.{AreFrom, line_at}
+use Rattle.round_log.specs.disk_rules.LogRule.{HoldsClaims, HoldsEntry, IsAsAtFirst, words_of_line}
+use Rattle.round_views.specs.lines_out.Lines.{AreFrom, line_at}
 use Rattle.list_facts.specs.Members.{In}
 use Rattle.round_views.specs.losing_facts.Lines.{IsJobLine}
-use Rattle.oplog_tail.specs.Closing.{cells_of}
-use Rattle.oplog_tail.specs.EntryLines.{IsPutOver}
+use Rattle.round_log.specs.oplog_tail.Closing.{cells_of}
+use Rattle.round_log.specs.oplog_tail.EntryLines.{IsPutOver}
 use Rattle.round_log.specs.Held.{HoldsRound}
 use Rattle.round_log.specs.Rounds.{RoundView}
 use Rattle.round_log.proofs.Holding.{lines_hold}
 use Rattle.round_views.specs.Lines.{AreCrashLines, AreFresh, AreRoundLines, first_of, HoldTheClaims}
 use Rattle.round_views.specs.Views.{first_by, WorldView}
-use Rattle.write_jobs.specs.Jobs.{FilledView}
+use Rattle.round_views.specs.write_jobs.Jobs.{FilledView}
 use Rattle.event_facts.specs.Events.{IsLogOf}
 
 -- ---- members

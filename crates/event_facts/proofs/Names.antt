@@ -6,20 +6,20 @@ use Rattle.std.proofs.lemmas.List.{append-nil, map-append}
 use Rattle.std.specs.Option.{option_map_or}
 use Rattle.std.proofs.lemmas.List.Elements.{filter-append}
 use Rattle.std.proofs.lemmas.List.Folds.{list_any-append}
-use Rattle.k_journal.specs.Commits.{TakesAStep}
+use Rattle.round_views.specs.k_journal.Commits.{TakesAStep}
 use Rattle.pm_words.specs.Powers.{is_left, is_on, Steps, Supply}
 use Rattle.posix_types.specs.declared.call.Call.{Call}
 use Rattle.posix_types.specs.declared.call.Who.{Who}
 use Rattle.posix_types.specs.declared.item.Item.{Item}
 use Rattle.posix_types.specs.Scripts.{Scripts}
 use Rattle.posix_words.specs.Open.{same_who}
-use Rattle.posix_puts.specs.PutLaws.{LeavesWhole-put}
-use Rattle.posix_spec.specs.Afforded.{moves_data}
-use Rattle.posix_spec.specs.Put.{Put, put_by}
-use Rattle.posix_spec.specs.Run.{after_call, run}
-use Rattle.posix_spec.specs.Scripted.{IsSetUp, items_of}
-use Rattle.posix_spec.specs.State.{State}
-use Rattle.crash_spec.specs.Busy.{is_logged, is_logged_put}
+use Rattle.round_views.specs.posix_puts.PutLaws.{LeavesWhole-put}
+use Rattle.round_views.specs.posix_spec.Afforded.{moves_data}
+use Rattle.round_views.specs.posix_spec.Put.{Put, put_by}
+use Rattle.round_views.specs.posix_spec.Run.{after_call, run}
+use Rattle.round_views.specs.posix_spec.Scripted.{IsSetUp, items_of}
+use Rattle.round_views.specs.posix_spec.State.{State}
+use Rattle.round_views.specs.crash_spec.Busy.{is_logged, is_logged_put}
 use Rattle.round_views.specs.Views.{WorldView}
 use Rattle.event_facts.specs.Changes.{after_item, ChangesAtMost}
 use Rattle.event_facts.specs.Paid.{has_moved, KeepsNames}

@@ -5,10 +5,10 @@ use Rattle.std.proofs.lemmas.Bool.{eq-eqb, ne_eqb}
 use Rattle.pm_words.specs.Powers.{is_on, Steps, Supply}
 use Rattle.posix_types.specs.declared.call.Call.{Call}
 use Rattle.posix_types.specs.declared.call.Who.{Who}
-use Rattle.posix_spec.specs.Afforded.{moves_data}
-use Rattle.posix_spec.specs.Put.{Put, put_by}
-use Rattle.posix_spec.specs.Run.{Begun}
-use Rattle.posix_spec.specs.Unfinished.{AreUnfinished}
+use Rattle.round_views.specs.posix_spec.Afforded.{moves_data}
+use Rattle.round_views.specs.posix_spec.Put.{Put, put_by}
+use Rattle.round_views.specs.posix_spec.Run.{Begun}
+use Rattle.round_views.specs.posix_spec.Unfinished.{AreUnfinished}
 use Rattle.round_log.specs.Rounds.{RoundView}
 use Rattle.round_views.specs.declared.over.Over.{Over}
 use Rattle.round_views.specs.Begins.{EndsRound, IsNeed, IsOver, IsRoundOver, IsStagingNeed, LacksBeside, LacksStaging}

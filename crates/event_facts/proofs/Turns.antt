@@ -4,7 +4,7 @@ use Rattle.std.proofs.Common.{ap, arith, ◌∙◌, subst, sym}
 use Rattle.pm_words.specs.Powers.{Supply}
 use Rattle.round_log.proofs.Holding.{holds_none}
 use Rattle.disk_lines.specs.declared.Draft.{Draft}
-use Rattle.posix_spec.specs.Scripted.{items_of}
+use Rattle.round_views.specs.posix_spec.Scripted.{items_of}
 use Rattle.round_log.specs.Held.{HoldsRound}
 use Rattle.round_log.specs.Rounds.{RoundView}
 use Rattle.posix_types.specs.declared.call.Who.{Who}

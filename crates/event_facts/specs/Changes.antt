@@ -1,8 +1,8 @@
 -- How many calls of a history changed the names.
 use Rattle.std.specs.Prelude.{◌≡◌, ◌⊎◌, ◌+◌, ℕ, List, [], ◌∷◌}
 use Rattle.posix_types.specs.declared.item.Item.{Item}
-use Rattle.posix_spec.specs.State.{State}
-use Rattle.posix_spec.specs.Step.{step}
+use Rattle.round_views.specs.posix_spec.State.{State}
+use Rattle.round_views.specs.posix_spec.Step.{step}
 
 -- the state after the call of an item
 abbrev pub after_item : State → Item → State

@@ -4,15 +4,15 @@ use Rattle.pm_words.specs.Parts.{Part}
 use Rattle.pm_words.specs.Powers.{is_on, Supply}
 use Rattle.posix_types.specs.declared.call.Who.{Who}
 use Rattle.posix_words.specs.Open.{same_who}
-use Rattle.posix_spec.specs.Scripted.{call_count, IsSetUp, items_of, Scripted}
-use Rattle.posix_spec.specs.Unfinished.{AreUnfinished}
+use Rattle.round_views.specs.posix_spec.Scripted.{call_count, IsSetUp, items_of, Scripted}
+use Rattle.round_views.specs.posix_spec.Unfinished.{AreUnfinished}
 use Rattle.round_log.specs.Held.{HoldsRound}
 use Rattle.round_log.specs.Rounds.{IsRound, RoundView}
 use Rattle.round_views.specs.declared.over.Over.{Over}
 use Rattle.round_views.specs.Lines.{AreFresh}
 use Rattle.round_views.specs.Losses.{MayCrash}
 use Rattle.round_views.specs.Views.{calls_out, next_of, WorldView}
-use Rattle.write_jobs.specs.Jobs.{FilledView, JobView}
+use Rattle.round_views.specs.write_jobs.Jobs.{FilledView, JobView}
 use Rattle.event_facts.specs.Paid.{has_moved, IsPaid, IsPaidOff, may_move}
 
 -- What is out of a World between two events of one caller: the log of its round; and, where the power went, the job that was being

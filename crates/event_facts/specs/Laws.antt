@@ -4,8 +4,8 @@ use Rattle.pm_words.specs.Parts.{Part}
 use Rattle.pm_words.specs.Powers.{is_on, Steps, Supply}
 use Rattle.posix_types.specs.declared.call.Mode.{Mode}
 use Rattle.posix_types.specs.declared.call.Who.{Who}
-use Rattle.posix_spec.specs.Afforded.{Afforded}
-use Rattle.posix_spec.specs.Scripted.{IsComplete}
+use Rattle.round_views.specs.posix_spec.Afforded.{Afforded}
+use Rattle.round_views.specs.posix_spec.Scripted.{IsComplete}
 use Rattle.round_log.specs.Rounds.{RoundView}
 use Rattle.round_views.specs.declared.over.Over.{Over}
 use Rattle.round_views.specs.Begins.{IsPowerLost, IsRoundOver, Returns}

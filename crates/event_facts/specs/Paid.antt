@@ -5,7 +5,7 @@ use Rattle.pm_words.specs.Powers.{Steps, Supply}
 use Rattle.posix_types.specs.declared.call.Call.{Call}
 use Rattle.posix_types.specs.declared.call.Who.{Who}
 use Rattle.posix_types.specs.declared.item.Item.{Item}
-use Rattle.posix_spec.specs.Afforded.{moves_data}
+use Rattle.round_views.specs.posix_spec.Afforded.{moves_data}
 use Rattle.round_views.specs.Views.{next_of, WorldView}
 use Rattle.event_facts.specs.Changes.{ChangesAtMost}
 

@@ -63,4 +63,4 @@ pub fn a_run_is_paid()
 {}
 
 pub use round_log;
-pub use round_views::flight_names;
+pub use round_views::{flight_names, k_journal, write_jobs};

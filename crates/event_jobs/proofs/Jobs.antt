@@ -9,22 +9,22 @@ use Rattle.pm_words.specs.Parts.{Part}
 use Rattle.pm_words.specs.PowerLaws.{Steps-then}
 use Rattle.pm_words.specs.Powers.{is_on, Steps, Supply}
 use Rattle.disk_lines.specs.declared.Draft.{Draft}
-use Rattle.disk_rules.specs.LogRule.{HoldsEntry, IsAsAtFirst}
+use Rattle.event_facts.specs.disk_rules.LogRule.{HoldsEntry, IsAsAtFirst}
 use Rattle.list_facts.specs.Members.{In}
-use Rattle.lines_out.specs.Lines.{line_at}
+use Rattle.event_facts.specs.lines_out.Lines.{line_at}
 use Rattle.event_facts.specs.losing_facts.Lines.{IsJobLine}
-use Rattle.oplog_tail.specs.declared.views.Full.{Full}
-use Rattle.oplog_tail.specs.declared.views.Mark.TheVariants.{Lost, Written}
-use Rattle.oplog_tail.specs.EntryLines.{entry_words, Holds, IsPutOver, IsSingle}
+use Rattle.event_facts.specs.oplog_tail.declared.views.Full.{Full}
+use Rattle.event_facts.specs.oplog_tail.declared.views.Mark.TheVariants.{Lost, Written}
+use Rattle.event_facts.specs.oplog_tail.EntryLines.{entry_words, Holds, IsPutOver, IsSingle}
 use Rattle.posix_types.specs.declared.call.Call.{Call}
 use Rattle.posix_types.specs.declared.call.Who.{Who}
 use Rattle.posix_types.specs.declared.item.Item.{Item}
 use Rattle.posix_words.specs.Open.{same_who}
-use Rattle.crash_spec.specs.Busy.{is_logged}
-use Rattle.posix_spec.specs.Afforded.{moves_data}
-use Rattle.posix_spec.specs.Run.{after_call, Begun}
-use Rattle.posix_spec.specs.Scripted.{IsSetUp, Scripted, Scripted-append}
-use Rattle.posix_spec.specs.Unfinished.{AreUnfinished}
+use Rattle.event_facts.specs.crash_spec.Busy.{is_logged}
+use Rattle.event_facts.specs.posix_spec.Afforded.{moves_data}
+use Rattle.event_facts.specs.posix_spec.Run.{after_call, Begun}
+use Rattle.event_facts.specs.posix_spec.Scripted.{IsSetUp, Scripted, Scripted-append}
+use Rattle.event_facts.specs.posix_spec.Unfinished.{AreUnfinished}
 use Rattle.event_facts.specs.round_log.Rounds.{IsClaimed, IsRound, RoundView}
 use Rattle.event_facts.specs.round_log.Held.{HoldsRound}
 use Rattle.event_facts.specs.round_log.Stores.{HasStored}
@@ -39,7 +39,7 @@ use Rattle.event_facts.specs.script_calls.Counts.{history_within}
 use Rattle.event_facts.specs.world_standing.Standing.{Pending}
 use Rattle.event_facts.specs.world_standing.Views.{SpellCall, without}
 use Rattle.event_facts.specs.write_ends.Lost.{begun_by}
-use Rattle.write_jobs.specs.Jobs.{FilledView, IsCutOff, JobView}
+use Rattle.event_facts.specs.write_jobs.Jobs.{FilledView, IsCutOff, JobView}
 use Rattle.event_facts.specs.Events.{GoesOn, IsLogOf, IsSteady, lines_in, listed, LosesPower, only_log, OutView, rounds_by}
 use Rattle.event_jobs.specs.Laws.{ActsFinished, ActsGivenUp, HasAppended, HasBegun, HasFilled, IsFilledHere, LosesAppend, LosesFill, NeverLosesFinish, SlotIsFree}
 use Rattle.event_facts.specs.Paid.{may_move}

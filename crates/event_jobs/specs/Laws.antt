@@ -1,10 +1,10 @@
 -- How a job of one caller leads from one moment between two calls to the next, each law as one statement.
 use Rattle.std.specs.Prelude.{◌≡◌, ◌<◌, ◌+◌, ◌^◌, ℕ, Bool, true, false, length, Ok, Err, Some, None, if◌then◌else◌}
 use Rattle.disk_lines.specs.declared.Draft.{Draft}
-use Rattle.oplog_tail.specs.declared.views.Full.{Full}
-use Rattle.oplog_tail.specs.declared.views.Mark.TheVariants.{Lost, Written}
-use Rattle.oplog_tail.specs.EntryLines.{entry_words, IsSingle}
-use Rattle.oplog_tail.specs.Rule.{line_at}
+use Rattle.event_facts.specs.oplog_tail.declared.views.Full.{Full}
+use Rattle.event_facts.specs.oplog_tail.declared.views.Mark.TheVariants.{Lost, Written}
+use Rattle.event_facts.specs.oplog_tail.EntryLines.{entry_words, IsSingle}
+use Rattle.event_facts.specs.oplog_tail.Rule.{line_at}
 use Rattle.pm_words.specs.Powers.{is_on, Steps, Supply}
 use Rattle.posix_types.specs.declared.call.Who.{Who}
 use Rattle.event_facts.specs.round_log.Rounds.{ChangesLine, IsClaimed, RoundView}
@@ -13,7 +13,7 @@ use Rattle.event_facts.specs.round_views.Begins.{BeginsJob, IsFilledOut}
 use Rattle.event_facts.specs.round_views.Jobs.{Finishes, GivesUp, IsOfWorld, LosesFinish}
 use Rattle.event_facts.specs.round_views.Views.{WorldView}
 use Rattle.event_facts.specs.world_standing.Standing.{Pending}
-use Rattle.write_jobs.specs.Jobs.{FilledView, IsCutOff, IsFilled, JobView}
+use Rattle.event_facts.specs.write_jobs.Jobs.{FilledView, IsCutOff, IsFilled, JobView}
 use Rattle.event_facts.specs.Events.{GoesOn, LosesPower, only_log}
 use Rattle.event_facts.specs.Laws.{HasLogOut}
 

@@ -7,3 +7,13 @@ pub use Rattle.event_facts.specs.script_calls as script_calls
 pub use Rattle.event_facts.specs.world_images as world_images
 pub use Rattle.event_facts.specs.world_standing as world_standing
 pub use Rattle.event_facts.specs.write_ends as write_ends
+pub use Rattle.event_facts.specs.crash_spec as crash_spec
+pub use Rattle.event_facts.specs.disk_rules as disk_rules
+pub use Rattle.event_facts.specs.image_layout as image_layout
+pub use Rattle.event_facts.specs.k_rules as k_rules
+pub use Rattle.event_facts.specs.oplog_tail as oplog_tail
+pub use Rattle.event_facts.specs.posix_facts as posix_facts
+pub use Rattle.event_facts.specs.posix_spec as posix_spec
+pub use Rattle.event_facts.specs.posix_trees as posix_trees
+pub use Rattle.event_facts.specs.volume_facts as volume_facts
+pub use Rattle.event_facts.specs.write_jobs as write_jobs

@@ -30,4 +30,4 @@ pub fn a_job_runs()
 {}
 
 pub use event_facts;
-pub use event_facts::{flight_names, round_log};
+pub use event_facts::{flight_names, k_journal, round_log, write_jobs};

@@ -9,25 +9,25 @@ use Rattle.pm_words.specs.ImageLaws.{IsImage-words_of}
 use Rattle.pm_words.specs.Images.{words_of}
 use Rattle.disk_lines.specs.declared.Inode.{Inode}
 use Rattle.disk_lines.specs.declared.Kind.TheVariants.{File, Free}
-use Rattle.disk_rules.specs.Live.{is_directory}
-use Rattle.disk_rules.specs.Volume.{extents, free_inode, inode, Volume}
+use Rattle.k_plans.specs.disk_rules.Live.{is_directory}
+use Rattle.k_plans.specs.disk_rules.Volume.{extents, free_inode, inode, Volume}
 use Rattle.extent_words.specs.declared.Extent.{Extent}
 use Rattle.extent_words.specs.Extents.{disk_at}
 use Rattle.file_overlay.specs.declared.runs.Run.{Run}
 use Rattle.file_table.specs.Files.{ChangesFile, Files, runs_in, size_in}
-use Rattle.disk_rules.specs.Reading.{inode_set}
+use Rattle.k_plans.specs.disk_rules.Reading.{inode_set}
 use Rattle.k_plans.specs.Making.{kind_of}
 use Rattle.k_plans.specs.Renaming.{renamed_over}
 use Rattle.k_plans.proofs.Wholes.{free-bare}
-use Rattle.k_rules.specs.Changes.{dropped, gone_node, new_node, renamed_over_directory, renamed_over_file}
-use Rattle.k_rules.specs.Spaces.{is_directory_in}
+use Rattle.k_plans.specs.k_rules.Changes.{dropped, gone_node, new_node, renamed_over_directory, renamed_over_file}
+use Rattle.k_plans.specs.k_rules.Spaces.{is_directory_in}
 use Rattle.k_plans.specs.k_tables.declared.removing.Entry.{Entry}
 use Rattle.list_facts.specs.Members.{In}
-use Rattle.map_rules.specs.Changes.{with_size}
-use Rattle.map_rules.specs.Taken.{with_map}
+use Rattle.k_plans.specs.map_rules.Changes.{with_size}
+use Rattle.k_plans.specs.map_rules.Taken.{with_map}
 use Rattle.k_plans.specs.volume_changes.CallLaws.{row_to}
 use Rattle.k_plans.specs.volume_changes.FoundLaws.{free-found}
-use Rattle.volume_facts.specs.Changes.{extents-set_other, extents-set_same, inode-set_other, inode-set_same}
+use Rattle.k_plans.specs.volume_facts.Changes.{extents-set_other, extents-set_same, inode-set_other, inode-set_same}
 use Rattle.file_ends.specs.Ends.{FilesEnd}
 use Rattle.file_ends.specs.Laws.{EndDropped, EndMade, EndRemoved, EndRenamed, EndSized, EndUnlinked, FreeHasNoMap}
 

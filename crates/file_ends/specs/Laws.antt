@@ -1,15 +1,15 @@
 -- That nothing lies past the end of a file stays so, each law as one statement.
 use Rattle.std.specs.Prelude.{◌<◌, ℕ, Bool, List, [], length, Option}
 use Rattle.pm_words.specs.declared.Cell.{Cell}
-use Rattle.disk_rules.specs.Volume.{Volume}
+use Rattle.k_plans.specs.disk_rules.Volume.{Volume}
 use Rattle.file_table.specs.Files.{ChangesFile, Files}
 use Rattle.k_plans.specs.Making.{IsMade}
 use Rattle.k_plans.specs.Removing.{IsRemoved, IsUnlinked}
 use Rattle.k_plans.specs.Renaming.{IsRenamed}
 use Rattle.k_plans.specs.Whole.{IsWhole}
-use Rattle.k_rules.specs.Changes.{dropped}
-use Rattle.k_rules.specs.Stands.{Stands}
-use Rattle.map_rules.specs.Changes.{IsSized}
+use Rattle.k_plans.specs.k_rules.Changes.{dropped}
+use Rattle.k_plans.specs.k_rules.Stands.{Stands}
+use Rattle.k_plans.specs.map_rules.Changes.{IsSized}
 use Rattle.file_ends.specs.Ends.{FilesEnd, FreeHaveNone}
 
 -- Where a device stands at a volume that keeps the rules, free inodes have no map;

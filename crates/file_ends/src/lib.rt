@@ -22,3 +22,6 @@ pub fn files_end_after_changes()
     ensures dropped { EndDropped }
     ensures sized { EndSized }
 {}
+
+pub use file_table;
+pub use k_plans::{image_layout, k_journal};

@@ -9,3 +9,6 @@ pub use Rattle.k_split.specs.k_tables as k_tables
 pub use Rattle.k_split.specs.name_facts as name_facts
 pub use Rattle.k_split.specs.volume_changes as volume_changes
 pub use Rattle.k_split.specs.volume_uses as volume_uses
+pub use Rattle.data_route.specs as data_route
+pub use Rattle.data_route.specs.map_collection as map_collection
+pub use Rattle.k_split.specs.k_rules as k_rules

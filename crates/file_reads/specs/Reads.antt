@@ -4,9 +4,9 @@ use Rattle.std.specs.List.{range_with_len}
 use Rattle.pm_words.specs.declared.Cell.{Cell}
 use Rattle.pm_words.specs.Words.{Words}
 use Rattle.extent_words.specs.Extents.{disk_at}
-use Rattle.disk_rules.specs.Content.{byte_in}
-use Rattle.disk_rules.specs.Placed.{BlockIsHome}
-use Rattle.disk_rules.specs.Volume.{extents, Volume}
+use Rattle.k_split.specs.disk_rules.Content.{byte_in}
+use Rattle.k_split.specs.disk_rules.Placed.{BlockIsHome}
+use Rattle.k_split.specs.disk_rules.Volume.{extents, Volume}
 use Rattle.file_overlay.specs.declared.runs.Run.{Run}
 use Rattle.data_route.specs.declared.reads.Piece.{Piece}
 use Rattle.data_route.specs.declared.reads.Source.{Source}

@@ -23,4 +23,5 @@ pub fn an_empty_overlay_hides_nothing()
     ensures { MapAlone }
 {}
 
+pub use data_route::map_collection;
 pub use k_split;

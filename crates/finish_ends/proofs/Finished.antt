@@ -11,18 +11,18 @@ use Rattle.disk_lines.specs.declared.Kind.{Kind}
 use Rattle.disk_lines.specs.declared.Kind.TheVariants.{Directory, File, Free, Staging}
 use Rattle.disk_places.specs.Journal.{journaled}
 use Rattle.disk_places.specs.Places.{Geometry}
-use Rattle.disk_rules.specs.Volume.{extents, inode, Volume}
+use Rattle.file_ends.specs.disk_rules.Volume.{extents, inode, Volume}
 use Rattle.extent_words.specs.Extents.{disk_at}
 use Rattle.file_ends.specs.Ends.{DraftEnds, FilesEnd}
 use Rattle.file_overlay.specs.declared.runs.Run.{Run}
-use Rattle.file_table.specs.Files.{runs_in, size_in}
-use Rattle.k_rules.specs.View.{View}
+use Rattle.file_ends.specs.file_table.Files.{runs_in, size_in}
+use Rattle.file_ends.specs.k_rules.View.{View}
 use Rattle.list_facts.specs.Members.{In}
-use Rattle.posix_facts.specs.FitsLaws.{length-overwritten}
+use Rattle.world_standing.specs.posix_facts.FitsLaws.{length-overwritten}
 use Rattle.posix_words.specs.declared.nodes.Node.{Node}
 use Rattle.posix_words.specs.Nodes.{bytes_of, node_at}
 use Rattle.posix_words.specs.Open.{Tables}
-use Rattle.posix_spec.specs.State.{State}
+use Rattle.world_standing.specs.posix_spec.State.{State}
 use Rattle.world_standing.specs.overlay_facts.Overlays.{IsOverlayOf, run_of}
 use Rattle.world_standing.proofs.overlay_facts_proofs.Overlays.{lays_beside, lays_entry}
 use Rattle.world_standing.specs.world_promise.JobLaws.{live_claims-more, live_file, live_used}

@@ -2,11 +2,11 @@
 use Rattle.std.specs.Prelude.{◌≡◌, ◌≤◌, ℕ, Bool, List, [], ◌∷◌, ◌++◌}
 use Rattle.disk_places.specs.Places.{Geometry}
 use Rattle.file_ends.specs.Ends.{DraftEnds, FilesEnd}
-use Rattle.file_table.specs.Files.{size_in}
-use Rattle.k_rules.specs.View.{View}
+use Rattle.file_ends.specs.file_table.Files.{size_in}
+use Rattle.file_ends.specs.k_rules.View.{View}
 use Rattle.list_facts.specs.Members.{In}
 use Rattle.posix_words.specs.Open.{Tables}
-use Rattle.posix_spec.specs.State.{State}
+use Rattle.world_standing.specs.posix_spec.State.{State}
 use Rattle.world_standing.specs.Standing.{Kept, Pending, StandsAt}
 
 -- Its entry leaves the file no shorter than what is kept says.

@@ -13,22 +13,22 @@ use Rattle.disk_lines.specs.declared.Kind.{Kind}
 use Rattle.disk_lines.specs.declared.Kind.TheVariants.{Directory, File, Free, Staging}
 use Rattle.disk_places.specs.Journal.{journaled}
 use Rattle.disk_places.specs.Places.{data_blocks, Geometry}
-use Rattle.disk_rules.specs.Live.{is_directory}
-use Rattle.disk_rules.specs.Room.{unused_blocks}
-use Rattle.disk_rules.specs.Rules.{file_blocks_of, IsKindAt}
-use Rattle.disk_rules.specs.Volume.{chain, extents, inode, Volume}
+use Rattle.file_ends.specs.disk_rules.Live.{is_directory}
+use Rattle.file_ends.specs.disk_rules.Room.{unused_blocks}
+use Rattle.file_ends.specs.disk_rules.Rules.{file_blocks_of, IsKindAt}
+use Rattle.file_ends.specs.disk_rules.Volume.{chain, extents, inode, Volume}
 use Rattle.extent_facts.specs.Counts.{block_count-mapped, count_below-le, count_below-none, is_mapped}
 use Rattle.extent_facts.specs.Facts.{IsCanonical-tail}
 use Rattle.extent_words.specs.declared.Extent.{Extent}
 use Rattle.extent_words.specs.Extents.{block_count, disk_at, IsCanonical, IsExtent}
 use Rattle.file_ends.specs.Ends.{FilesEnd}
-use Rattle.file_table.specs.Files.{size_in}
+use Rattle.file_ends.specs.file_table.Files.{size_in}
 use Rattle.file_ends.proofs.k_plans_proofs.Wholes.{directory-bare, free-bare}
 use Rattle.file_ends.specs.k_plans.Whole.{IsWhole}
-use Rattle.k_rules.specs.Stands.{Stands}
-use Rattle.k_rules.specs.View.{View}
+use Rattle.file_ends.specs.k_rules.Stands.{Stands}
+use Rattle.file_ends.specs.k_rules.View.{View}
 use Rattle.posix_words.specs.Open.{Tables}
-use Rattle.posix_spec.specs.State.{State}
+use Rattle.world_relinks.specs.posix_spec.State.{State}
 use Rattle.file_ends.specs.volume_uses.PoolLaws.{unused-held}
 use Rattle.file_ends.specs.volume_uses.Uses.{blocks_held, blocks_of}
 use Rattle.world_relinks.proofs.RelinkLaws.{has-chain}

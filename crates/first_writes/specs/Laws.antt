@@ -2,11 +2,11 @@
 use Rattle.std.specs.Prelude.{◌≡◌, ◌≤◌, ◌+◌, ℕ, Bool}
 use Rattle.disk_places.specs.Places.{data_blocks, Geometry}
 use Rattle.file_ends.specs.Ends.{FilesEnd}
-use Rattle.k_rules.specs.View.{View}
+use Rattle.file_ends.specs.k_rules.View.{View}
 use Rattle.posix_types.specs.declared.call.Mode.{Mode}
 use Rattle.posix_words.specs.Open.{Tables}
 use Rattle.posix_words.specs.Room.{write_need}
-use Rattle.posix_spec.specs.State.{State}
+use Rattle.world_relinks.specs.posix_spec.State.{State}
 use Rattle.write_drafts.specs.write_asks.Asks.{room_in}
 use Rattle.write_drafts.specs.Drafts.{staged_count}
 use Rattle.write_drafts.specs.world_standing.staging_files.GivesUp.{nothing_staged}

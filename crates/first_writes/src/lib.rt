@@ -15,3 +15,7 @@ ghost use Rattle.first_writes.specs.Laws.{FirstWriteFits};
 pub fn the_first_write_finds_its_blocks()
     ensures { FirstWriteFits }
 {}
+
+pub use file_ends::{file_table, k_journal};
+pub use write_drafts;
+pub use write_drafts::write_jobs;

@@ -14,21 +14,21 @@ use Rattle.disk_lines.specs.declared.Draft.{Draft}
 use Rattle.disk_lines.specs.Entries.{is_draft}
 use Rattle.disk_places.specs.Journal.{journaled}
 use Rattle.disk_places.specs.Places.{Geometry, is_data_block, log_line, reserve}
-use Rattle.disk_rules.specs.Room.{unused_blocks}
-use Rattle.disk_rules.specs.Rules.{file_blocks_of}
-use Rattle.disk_rules.specs.Volume.{extents, inode, Volume}
+use Rattle.world_standing.specs.disk_rules.Room.{unused_blocks}
+use Rattle.world_standing.specs.disk_rules.Rules.{file_blocks_of}
+use Rattle.world_standing.specs.disk_rules.Volume.{extents, inode, Volume}
 use Rattle.extent_facts.specs.Covers.{covers-disk_at}
 use Rattle.extent_words.specs.Extents.{disk_at, is_within}
-use Rattle.file_table.specs.Files.{spare_in}
+use Rattle.world_standing.specs.file_table.Files.{spare_in}
 use Rattle.world_standing.specs.flight_facts.Flying.{IsFlying}
 use Rattle.world_standing.proofs.flight_facts_proofs.Flights.{flies_begun}
 use Rattle.world_standing.specs.job_facts.Blocks.{GoOut, IsBeside}
-use Rattle.k_rules.specs.Stands.{Stands}
-use Rattle.k_rules.specs.View.{View}
+use Rattle.world_standing.specs.k_rules.Stands.{Stands}
+use Rattle.world_standing.specs.k_rules.View.{View}
 use Rattle.world_standing.specs.k_split.Order.{IsInOrder}
 use Rattle.list_facts.specs.Members.{In, pushed-In}
 use Rattle.posix_words.specs.Open.{Tables}
-use Rattle.posix_spec.specs.State.{State}
+use Rattle.world_standing.specs.posix_spec.State.{State}
 use Rattle.world_standing.specs.staging_files.Keeps.{Agrees, AreFreeSingle, has_block, is_kept_free, IsStaging}
 use Rattle.world_standing.proofs.staging_files_proofs.GiveUpLaws.{staging-file}
 use Rattle.world_standing.proofs.staging_files_proofs.StagedLaws.{free-none}

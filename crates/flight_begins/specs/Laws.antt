@@ -5,15 +5,15 @@ use Rattle.pm_words.specs.Images.{IsImage}
 use Rattle.pm_words.specs.Words.{Words}
 use Rattle.disk_places.specs.Journal.{journaled}
 use Rattle.disk_places.specs.Places.{Geometry, reserve}
-use Rattle.disk_rules.specs.Room.{unused_blocks}
-use Rattle.file_table.specs.Files.{spare_in}
+use Rattle.world_standing.specs.disk_rules.Room.{unused_blocks}
+use Rattle.world_standing.specs.file_table.Files.{spare_in}
 use Rattle.world_standing.specs.job_facts.Blocks.{GoOut}
-use Rattle.k_rules.specs.View.{View}
+use Rattle.world_standing.specs.k_rules.View.{View}
 use Rattle.world_standing.specs.k_split.Order.{IsInOrder}
 use Rattle.list_facts.specs.Members.{In}
-use Rattle.posix_puts.specs.Views.{need_of}
+use Rattle.world_standing.specs.posix_puts.Views.{need_of}
 use Rattle.posix_words.specs.Open.{Tables}
-use Rattle.posix_spec.specs.State.{room, State}
+use Rattle.world_standing.specs.posix_spec.State.{room, State}
 use Rattle.world_standing.specs.world_promise.JobLaws.{needs}
 use Rattle.world_standing.specs.world_rules.Jobs.{AreApartJobs, Job, JobStands, live_claims}
 use Rattle.world_standing.specs.Standing.{AreOfTwoThreads, HasItsBlocks, Kept, Pending, reserved_run, StandsAt}

@@ -16,19 +16,19 @@ use Rattle.extent_words.specs.Extents.{disk_at}
 use Rattle.disk_lines.specs.declared.Draft.{Draft}
 use Rattle.disk_lines.specs.declared.Kind.{Kind}
 use Rattle.disk_lines.specs.declared.Kind.TheVariants.{Directory, File, Free, Staging}
-use Rattle.disk_rules.specs.Content.{byte_in}
-use Rattle.disk_rules.specs.Rules.{file_blocks_of}
-use Rattle.disk_rules.specs.Volume.{extents, inode, Volume}
-use Rattle.volume_facts.specs.ImageLaws.{journaled-idle}
-use Rattle.volume_facts.specs.LineWords.{data_word}
+use Rattle.flight_names.specs.disk_rules.Content.{byte_in}
+use Rattle.flight_names.specs.disk_rules.Rules.{file_blocks_of}
+use Rattle.flight_names.specs.disk_rules.Volume.{extents, inode, Volume}
+use Rattle.flight_names.specs.volume_facts.ImageLaws.{journaled-idle}
+use Rattle.flight_names.specs.volume_facts.LineWords.{data_word}
 use Rattle.flight_names.specs.volume_uses.PoolLaws.{covered-in_data}
-use Rattle.data_route.specs.Reads.{read_len, source_by}
+use Rattle.flight_names.specs.data_route.Reads.{read_len, source_by}
 use Rattle.file_overlay.specs.declared.runs.Run.{Run}
 use Rattle.file_overlay.specs.Runs.{staged_at}
 use Rattle.flight_names.specs.file_reads.Reads.{block_in, block_of, bytes_in, FileCanBeRead, SourceCanBeRead}
-use Rattle.file_table.specs.Files.{Files, runs_in, size_in}
+use Rattle.flight_names.specs.file_table.Files.{Files, runs_in, size_in}
 use Rattle.flight_names.proofs.flight_facts_proofs.Readable.{flies_readable}
-use Rattle.k_rules.specs.View.{View}
+use Rattle.flight_names.specs.k_rules.View.{View}
 use Rattle.open_numbers.specs.Numbered.{described_as, numbered_as}
 use Rattle.open_numbers.proofs.Changes.{moves_alike}
 use Rattle.open_numbers.proofs.Lookups.{same_key}
@@ -43,10 +43,10 @@ use Rattle.posix_words.specs.Bytes.{bytes_from}
 use Rattle.posix_words.specs.Nodes.{bytes_of, node_at}
 use Rattle.posix_words.specs.Open.{describes, is_open, key_of, may_read, opened, Tables, with_offset}
 use Rattle.posix_words.specs.Outcomes.{answer, first, row}
-use Rattle.posix_spec.specs.FileRows.{content, file_number, offset_of, read_rows}
-use Rattle.posix_spec.specs.Run.{after_call}
-use Rattle.posix_spec.specs.State.{State}
-use Rattle.posix_spec.specs.Step.{pread_done, read_done, step, stepped}
+use Rattle.flight_names.specs.posix_spec.FileRows.{content, file_number, offset_of, read_rows}
+use Rattle.flight_names.specs.posix_spec.Run.{after_call}
+use Rattle.flight_names.specs.posix_spec.State.{State}
+use Rattle.flight_names.specs.posix_spec.Step.{pread_done, read_done, step, stepped}
 use Rattle.flight_names.specs.overlay_facts.Overlays.{IsOverlayOf}
 use Rattle.flight_names.proofs.overlay_facts_proofs.Overlays.{reads_file}
 use Rattle.flight_names.specs.world_rules.Jobs.{live_claims}

@@ -3,8 +3,8 @@ use Rattle.std.specs.Prelude.{◌≡◌, ℕ, true, [], ◌∷◌, Option, Some,
 use Rattle.std.proofs.Common.{ap, ◌∙◌, inl}
 use Rattle.pm_words.specs.Powers.{is_on, Supply}
 use Rattle.disk_places.specs.Places.{Geometry}
-use Rattle.file_table.specs.Files.{Files, size_in}
-use Rattle.k_rules.specs.View.{View}
+use Rattle.flight_names.specs.file_table.Files.{Files, size_in}
+use Rattle.flight_names.specs.k_rules.View.{View}
 use Rattle.open_numbers.specs.Numbered.{numbered_as}
 use Rattle.posix_types.specs.declared.call.Call.{Call}
 use Rattle.posix_types.specs.declared.call.Who.{Who}
@@ -16,10 +16,10 @@ use Rattle.posix_words.specs.declared.open.Description.{Description}
 use Rattle.posix_words.specs.Bytes.{moved_place}
 use Rattle.posix_words.specs.Open.{key_of, opened, Tables, with_offset}
 use Rattle.posix_words.specs.Outcomes.{answer, first, row}
-use Rattle.posix_spec.specs.FileRows.{seek_base, seek_rows, seek_target}
-use Rattle.posix_spec.specs.Run.{after_call}
-use Rattle.posix_spec.specs.State.{State, with_published}
-use Rattle.posix_spec.specs.Step.{fsync_done, seek_done, step, stepped}
+use Rattle.flight_names.specs.posix_spec.FileRows.{seek_base, seek_rows, seek_target}
+use Rattle.flight_names.specs.posix_spec.Run.{after_call}
+use Rattle.flight_names.specs.posix_spec.State.{State, with_published}
+use Rattle.flight_names.specs.posix_spec.Step.{fsync_done, seek_done, step, stepped}
 use Rattle.flight_names.specs.world_rules.Stands.{number}
 use Rattle.flight_names.specs.world_standing.Standing.{Kept}
 use Rattle.flight_names.specs.Answers.{Answers, IsEnded}

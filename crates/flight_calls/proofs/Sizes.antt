@@ -14,16 +14,16 @@ use Rattle.disk_lines.specs.LineLaws.{IsInodeLine-decode_inode}
 use Rattle.disk_lines.specs.Lines.{is_inode_of_kind, most_bytes}
 use Rattle.disk_places.specs.Journal.{journaled}
 use Rattle.disk_places.specs.Places.{Geometry, inode_line}
-use Rattle.disk_rules.specs.Content.{size_by}
-use Rattle.disk_rules.specs.Live.{latest}
-use Rattle.disk_rules.specs.Reading.{Reads}
-use Rattle.disk_rules.specs.Volume.{inode, Volume}
-use Rattle.file_table.specs.Files.{size_in}
-use Rattle.k_rules.specs.View.{View}
+use Rattle.flight_names.specs.disk_rules.Content.{size_by}
+use Rattle.flight_names.specs.disk_rules.Live.{latest}
+use Rattle.flight_names.specs.disk_rules.Reading.{Reads}
+use Rattle.flight_names.specs.disk_rules.Volume.{inode, Volume}
+use Rattle.flight_names.specs.file_table.Files.{size_in}
+use Rattle.flight_names.specs.k_rules.View.{View}
 use Rattle.list_facts.specs.Filters.{filter-In}
 use Rattle.list_facts.specs.Members.{In}
 use Rattle.posix_words.specs.Open.{Tables}
-use Rattle.posix_spec.specs.State.{State}
+use Rattle.flight_names.specs.posix_spec.State.{State}
 use Rattle.flight_names.specs.world_rules.Jobs.{live_claims}
 use Rattle.flight_names.specs.world_rules.Stands.{is_used}
 use Rattle.flight_names.specs.world_promise.Latest.{latest-In}

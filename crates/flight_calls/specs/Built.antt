@@ -1,8 +1,8 @@
 -- Which calls run by now, and how their paths are spelled.
-use Rattle.path_spelling.specs.Spelling.{AreSpelled}
-use Rattle.file_table.specs.Files.{Files}
+use Rattle.flight_names.specs.path_spelling.Spelling.{AreSpelled}
+use Rattle.flight_names.specs.file_table.Files.{Files}
 use Rattle.flight_names.specs.Answers.{CutsNothingStaged}
-use Rattle.k_rules.specs.View.{View}
+use Rattle.flight_names.specs.k_rules.View.{View}
 use Rattle.posix_types.specs.declared.call.Call.{Call}
 
 -- THE CALLS THAT ARE BUILT. Here alone it grows.

@@ -1,8 +1,8 @@
 -- When the bytes of an open file can be read.
 use Rattle.std.specs.Prelude.{◌≡◌, ◌<◌, ℕ, true, length, Some, IsSome}
 use Rattle.flight_names.specs.file_reads.Reads.{FileCanBeRead}
-use Rattle.file_table.specs.Files.{Files, runs_in}
-use Rattle.k_rules.specs.View.{View}
+use Rattle.flight_names.specs.file_table.Files.{Files, runs_in}
+use Rattle.flight_names.specs.k_rules.View.{View}
 use Rattle.flight_names.specs.open_files.declared.opened.Opened.{Opened}
 use Rattle.flight_names.specs.open_files.Found.{description_in}
 use Rattle.posix_types.specs.declared.call.Who.{Who}

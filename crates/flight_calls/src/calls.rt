@@ -6,7 +6,7 @@ ghost use Rattle.flight_names.specs.Runs.{RunsInSome};
 ghost use Rattle.flight_calls.specs.Built.{CutsNothing, IsBuilt, NamesAreSpelled};
 
 use crate::reads::{fsync, pread, read, seek};
-use file_table::FileTable;
+use flight_names::file_table::FileTable;
 use flight_names::k_split::KSplit;
 use flight_names::open_files::OpenFiles;
 use flight_names::{NoMemory, Told, close, dup, list, mkdir, open, rename, rmdir, stat, unlink};

@@ -2,22 +2,22 @@
 ghost use Rattle.std.specs.Prelude.{◌≡◌, ◌<◌, length, false, true, IfNone, IfOk, IfSome, Ok};
 ghost use Rattle.pm_words.specs.Images.{words_of};
 ghost use Rattle.pm_words.specs.Powers.{is_on, Supply};
-ghost use Rattle.data_route.specs.Reads.{read_len};
+ghost use Rattle.flight_names.specs.data_route.Reads.{read_len};
 ghost use Rattle.flight_names.specs.file_reads.Reads.{bytes_in};
-ghost use Rattle.file_table.specs.Files.{Files, runs_in, size_in};
-ghost use Rattle.k_rules.specs.View.{View};
+ghost use Rattle.flight_names.specs.file_table.Files.{Files, runs_in, size_in};
+ghost use Rattle.flight_names.specs.k_rules.View.{View};
 ghost use Rattle.posix_types.specs.declared.call.Call.{Call};
 ghost use Rattle.posix_words.specs.Open.{may_read};
 ghost use Rattle.flight_names.specs.Answers.{IsEnded};
 ghost use Rattle.flight_calls.specs.Reading.{base_by, IsReadableFile, IsReadBy};
 ghost use Rattle.flight_names.specs.Runs.{RunsInSome};
 
-use file_table::FileTable;
 use flight_names::file_reads::read_bytes;
+use flight_names::file_table::FileTable;
 use flight_names::k_split::KSplit;
+use flight_names::map_collection::Collection;
 use flight_names::open_files::{OpenFiles, Opened};
 use flight_names::{NoMemory, Told, answered};
-use map_collection::Collection;
 use posix_types::{Data, Errno, Handle, Reply, Whence, Who};
 use posix_words::bytes::moved_place;
 use std::alloc::{AllocError, Global};

@@ -13,16 +13,16 @@ use Rattle.disk_places.specs.PlaceLaws.{behind_log-not_journaled, behind_log-wor
 use Rattle.disk_places.specs.Places.{base_word, Geometry, log_line}
 use Rattle.disk_lines.specs.declared.Draft.{Draft}
 use Rattle.disk_lines.specs.Entries.{is_self_valid}
-use Rattle.disk_rules.specs.Honest.{IsHonest, IsTorn}
-use Rattle.disk_rules.specs.Reading.{Reads}
-use Rattle.disk_rules.specs.Volume.{Volume}
-use Rattle.volume_facts.specs.ImageLaws.{journaled-other}
-use Rattle.k_rules.specs.Stands.{IsOldOrNew}
+use Rattle.world_jobs.specs.disk_rules.Honest.{IsHonest, IsTorn}
+use Rattle.world_jobs.specs.disk_rules.Reading.{Reads}
+use Rattle.world_jobs.specs.disk_rules.Volume.{Volume}
+use Rattle.world_jobs.specs.volume_facts.ImageLaws.{journaled-other}
+use Rattle.world_jobs.specs.k_rules.Stands.{IsOldOrNew}
 use Rattle.posix_types.specs.declared.item.Item.{Item}
 use Rattle.posix_types.specs.declared.call.Mode.{Mode}
-use Rattle.posix_spec.specs.Run.{Begun}
-use Rattle.posix_spec.specs.State.{State}
-use Rattle.crash_spec.specs.Permitted.{Permitted}
+use Rattle.world_jobs.specs.posix_spec.Run.{Begun}
+use Rattle.world_jobs.specs.posix_spec.State.{State}
+use Rattle.world_jobs.specs.crash_spec.Permitted.{Permitted}
 use Rattle.world_jobs.specs.world_rules.Jobs.{begun_of, Job}
 use Rattle.world_jobs.specs.world_rules.Promised.{AreWhole}
 use Rattle.world_jobs.specs.world_rules.Shown.{AreFilled, landed_pairs}

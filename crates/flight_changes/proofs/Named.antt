@@ -4,10 +4,10 @@ use Rattle.std.proofs.Common.{arith, ◌∙◌}
 use Rattle.pm_words.specs.Words.{byte_of, Words}
 use Rattle.extent_words.specs.Extents.{disk_at, is_within}
 use Rattle.disk_lines.specs.declared.Draft.{Draft}
-use Rattle.disk_rules.specs.Content.{byte_in, disk_by, disk_of, entry_of_block}
-use Rattle.disk_rules.specs.Volume.{extents, inode, Volume}
+use Rattle.world_jobs.specs.disk_rules.Content.{byte_in, disk_by, disk_of, entry_of_block}
+use Rattle.world_jobs.specs.disk_rules.Volume.{extents, inode, Volume}
 use Rattle.posix_words.specs.Nodes.{node_at}
-use Rattle.posix_spec.specs.State.{State}
+use Rattle.world_jobs.specs.posix_spec.State.{State}
 use Rattle.list_facts.specs.Filters.{filter-In}
 use Rattle.list_facts.specs.Members.{In}
 use Rattle.world_jobs.specs.world_rules.Jobs.{Job, JobsStand, live_claims}

@@ -8,15 +8,15 @@ use Rattle.disk_places.specs.Journal.{is_journal_word, IsSound, journaled}
 use Rattle.disk_places.specs.PlaceLaws.{behind_log-not_journaled}
 use Rattle.disk_places.specs.Places.{base_word, commit_word, first_data, Geometry, is_data_block, log_block, log_line, state_line}
 use Rattle.disk_places.specs.Superblock.{geometry_at, has_magic, has_numbers, has_version}
-use Rattle.disk_rules.specs.Placed.{block_at, IsOutside}
-use Rattle.disk_rules.specs.Reading.{Reads}
-use Rattle.disk_rules.specs.Rules.{geometry_of, HasTarget}
-use Rattle.disk_rules.specs.Volume.{Volume}
-use Rattle.volume_facts.specs.Footprint.{SameLog}
-use Rattle.volume_facts.specs.ImageLaws.{journaled-other}
-use Rattle.volume_facts.specs.LineWords.{data_word}
+use Rattle.world_jobs.specs.disk_rules.Placed.{block_at, IsOutside}
+use Rattle.world_jobs.specs.disk_rules.Reading.{Reads}
+use Rattle.world_jobs.specs.disk_rules.Rules.{geometry_of, HasTarget}
+use Rattle.world_jobs.specs.disk_rules.Volume.{Volume}
+use Rattle.world_jobs.specs.volume_facts.Footprint.{SameLog}
+use Rattle.world_jobs.specs.volume_facts.ImageLaws.{journaled-other}
+use Rattle.world_jobs.specs.volume_facts.LineWords.{data_word}
 use Rattle.world_lent.specs.image_facts.ViewLaws.{head_word, sound-targets}
-use Rattle.k_rules.specs.Stands.{IsOldOrNew}
+use Rattle.world_jobs.specs.k_rules.Stands.{IsOldOrNew}
 use Rattle.world_lent.specs.world_images.Images.{IsHeaded}
 
 -- ---- places

@@ -3,10 +3,10 @@ use Rattle.std.specs.Prelude.{◌≡◌, ◌≢◌, ◌<◌, ℕ, true, List, le
 use Rattle.pm_words.specs.declared.Cell.{Cell}
 use Rattle.pm_words.specs.Images.{Follows}
 use Rattle.disk_places.specs.Places.{is_data_block}
-use Rattle.disk_rules.specs.Placed.{block_at}
-use Rattle.disk_rules.specs.Volume.{extents, Volume}
+use Rattle.world_jobs.specs.disk_rules.Placed.{block_at}
+use Rattle.world_jobs.specs.disk_rules.Volume.{extents, Volume}
 use Rattle.extent_words.specs.Extents.{disk_at}
-use Rattle.k_rules.specs.Stands.{IsOldOrNew}
+use Rattle.world_jobs.specs.k_rules.Stands.{IsOldOrNew}
 
 -- Data blocks that no map of the volume has.
 pub record AreSpare (blocks : List ℕ) (v : Volume) : Type 0 where

@@ -4,12 +4,12 @@ use Rattle.pm_words.specs.declared.Cell.{Cell}
 use Rattle.pm_words.specs.Images.{IsImage}
 use Rattle.pm_words.specs.Words.{Words}
 use Rattle.disk_lines.specs.declared.Draft.{Draft}
-use Rattle.disk_rules.specs.Volume.{Volume}
-use Rattle.k_rules.specs.Stands.{Stands}
+use Rattle.world_jobs.specs.disk_rules.Volume.{Volume}
+use Rattle.world_jobs.specs.k_rules.Stands.{Stands}
 use Rattle.posix_types.specs.declared.call.Mode.{Mode}
 use Rattle.posix_types.specs.declared.item.Item.{Item}
-use Rattle.posix_spec.specs.Run.{Begun}
-use Rattle.posix_spec.specs.State.{State}
+use Rattle.world_jobs.specs.posix_spec.Run.{Begun}
+use Rattle.world_jobs.specs.posix_spec.State.{State}
 use Rattle.world_jobs.specs.world_rules.Jobs.{begun_of, Job}
 use Rattle.world_jobs.specs.world_rules.Promised.{AreWhole}
 use Rattle.world_lent.specs.world_images.Images.{HasLogHome, HasRoom, IsHeaded, StandsFor}

@@ -10,3 +10,10 @@ pub use Rattle.world_lent.specs as world_lent
 pub use Rattle.world_lent.specs.image_facts as image_facts
 pub use Rattle.world_lent.specs.world_images as world_images
 pub use Rattle.world_jobs.specs.posix_frames as posix_frames
+pub use Rattle.world_jobs.specs.crash_spec as crash_spec
+pub use Rattle.world_jobs.specs.disk_rules as disk_rules
+pub use Rattle.world_jobs.specs.k_rules as k_rules
+pub use Rattle.world_jobs.specs.posix_facts as posix_facts
+pub use Rattle.world_jobs.specs.posix_puts as posix_puts
+pub use Rattle.world_jobs.specs.posix_spec as posix_spec
+pub use Rattle.world_jobs.specs.volume_facts as volume_facts

@@ -8,16 +8,16 @@ use Rattle.pm_words.specs.Words.{Words}
 use Rattle.extent_words.specs.Extents.{disk_at}
 use Rattle.disk_places.specs.Journal.{IsSound, journaled}
 use Rattle.disk_places.specs.Places.{Geometry, log_line}
-use Rattle.disk_rules.specs.Content.{size_of}
-use Rattle.disk_rules.specs.Volume.{extents, Volume}
+use Rattle.flight_changes.specs.disk_rules.Content.{size_of}
+use Rattle.flight_changes.specs.disk_rules.Volume.{extents, Volume}
 use Rattle.world_standing.specs.flight_facts.Flying.{IsFlying}
-use Rattle.k_rules.specs.Stands.{Stands}
-use Rattle.k_rules.specs.View.{View}
+use Rattle.flight_changes.specs.k_rules.Stands.{Stands}
+use Rattle.flight_changes.specs.k_rules.View.{View}
 use Rattle.world_standing.specs.k_split.Bytes.{IsWrittenOver, Overwrites, tail_zeros}
 use Rattle.world_standing.specs.k_split.Order.{IsInOrder}
 use Rattle.posix_words.specs.Open.{Tables}
-use Rattle.posix_spec.specs.Run.{run}
-use Rattle.posix_spec.specs.State.{State}
+use Rattle.flight_changes.specs.posix_spec.Run.{run}
+use Rattle.flight_changes.specs.posix_spec.State.{State}
 use Rattle.world_standing.specs.staging_files.Keeps.{Agrees}
 use Rattle.flight_changes.specs.world_promise.TreeRules.{used_below}
 use Rattle.flight_changes.specs.world_rules.Jobs.{begun_of, live_claims}

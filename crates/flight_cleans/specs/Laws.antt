@@ -4,16 +4,16 @@ use Rattle.pm_words.specs.declared.Cell.{Cell}
 use Rattle.pm_words.specs.Words.{Words}
 use Rattle.disk_lines.specs.declared.Kind.TheVariants.{File}
 use Rattle.disk_places.specs.Places.{Geometry}
-use Rattle.disk_rules.specs.Volume.{inode}
-use Rattle.file_table.specs.Files.{size_in}
-use Rattle.k_rules.specs.View.{View}
+use Rattle.flight_changes.specs.disk_rules.Volume.{inode}
+use Rattle.world_standing.specs.file_table.Files.{size_in}
+use Rattle.flight_changes.specs.k_rules.View.{View}
 use Rattle.world_standing.specs.k_split.Bytes.{IsOverwriteCut, IsOverwriteDone, tail_zeros}
 use Rattle.list_facts.specs.Members.{In}
 use Rattle.posix_types.specs.declared.call.Mode.{Mode}
 use Rattle.posix_types.specs.declared.item.Item.{Item}
 use Rattle.posix_words.specs.Open.{Tables}
-use Rattle.posix_spec.specs.Run.{Begun, run}
-use Rattle.posix_spec.specs.State.{State}
+use Rattle.flight_changes.specs.posix_spec.Run.{Begun, run}
+use Rattle.flight_changes.specs.posix_spec.State.{State}
 use Rattle.flight_changes.specs.world_rules.Jobs.{begun_of, Job}
 use Rattle.flight_changes.specs.world_images.Promised.{IsKept}
 use Rattle.flight_changes.specs.world_lent.Back.{IsPutBack}

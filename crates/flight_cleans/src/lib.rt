@@ -17,3 +17,5 @@ pub fn the_end_of_a_file_is_cleaned_in_flight()
     ensures done { StandsCleaned }
     ensures cut { KeepsCleaned }
 {}
+
+pub use world_standing::file_table;

@@ -12,15 +12,15 @@ use Rattle.pm_words.specs.Parts.{Part}
 use Rattle.disk_places.specs.Journal.{journaled}
 use Rattle.disk_lines.specs.declared.Draft.{Draft}
 use Rattle.disk_lines.specs.declared.Kind.TheVariants.{File}
-use Rattle.disk_rules.specs.Volume.{inode, Volume}
+use Rattle.overlay_facts.specs.disk_rules.Volume.{inode, Volume}
 use Rattle.list_facts.specs.Members.{In, pushed-In}
-use Rattle.posix_spec.specs.State.{State}
+use Rattle.overlay_facts.specs.posix_spec.State.{State}
 use Rattle.job_facts.specs.world_jobs.JobSteps.{Valid-front}
 use Rattle.job_facts.specs.world_promise.JobLaws.{live_claims-more}
 use Rattle.job_facts.specs.world_promise.Latest.{AreBelow-Consecutive}
 use Rattle.job_facts.specs.world_rules.Jobs.{IsStagedIn, Job, JobStands, live_claims, Valid}
 use Rattle.job_facts.specs.world_rules.Stands.{Consecutive, entries_of}
-use Rattle.write_jobs.specs.Jobs.{loan_at}
+use Rattle.job_facts.specs.write_jobs.Jobs.{loan_at}
 use Rattle.job_facts.specs.Blocks.{AreOut, ArePutBack, IsBeside}
 use Rattle.job_facts.proofs.Begins.{begins_job}
 use Rattle.job_facts.proofs.Ends.{finishes_job, gives_up_job}

@@ -7,10 +7,10 @@ use Rattle.std.proofs.lemmas.Option.{same_Some}
 use Rattle.pm_words.specs.Words.{Words}
 use Rattle.disk_lines.specs.declared.Draft.{Draft}
 use Rattle.disk_lines.specs.declared.Kind.TheVariants.{Staging}
-use Rattle.disk_rules.specs.Rules.{AreApart}
-use Rattle.disk_rules.specs.Volume.{free_inode, inode, Volume}
+use Rattle.overlay_facts.specs.disk_rules.Rules.{AreApart}
+use Rattle.overlay_facts.specs.disk_rules.Volume.{free_inode, inode, Volume}
 use Rattle.list_facts.specs.Members.{In}
-use Rattle.posix_spec.specs.State.{State}
+use Rattle.overlay_facts.specs.posix_spec.State.{State}
 use Rattle.job_facts.specs.volume_uses.OwnerLaws.{IsOnePlace, one_owner}
 use Rattle.job_facts.specs.world_promise.Lent.{once_named}
 use Rattle.job_facts.specs.world_rules.Jobs.{ApartFrom, AreApartJobs, IsStagedIn, Job, JobsStand, JobStands, staged_block}

@@ -8,18 +8,18 @@ use Rattle.pm_words.specs.ImageLaws.{IsImage-words_of}
 use Rattle.pm_words.specs.Images.{words_of}
 use Rattle.disk_places.specs.Journal.{journaled}
 use Rattle.disk_places.specs.Places.{Geometry, is_data_block, log_line}
-use Rattle.data_route.specs.declared.reads.Source.TheVariants.{Staged}
-use Rattle.data_route.specs.Reads.{source_by, source_of}
+use Rattle.overlay_facts.specs.data_route.declared.reads.Source.TheVariants.{Staged}
+use Rattle.overlay_facts.specs.data_route.Reads.{source_by, source_of}
 use Rattle.disk_lines.specs.declared.Draft.{Draft}
 use Rattle.disk_lines.specs.declared.Kind.TheVariants.{File}
-use Rattle.disk_rules.specs.Content.{disk_of, entry_of_block}
-use Rattle.disk_rules.specs.Volume.{extents, inode, Volume}
+use Rattle.overlay_facts.specs.disk_rules.Content.{disk_of, entry_of_block}
+use Rattle.overlay_facts.specs.disk_rules.Volume.{extents, inode, Volume}
 use Rattle.extent_words.specs.Extents.{disk_at, is_within}
 use Rattle.file_overlay.specs.Runs.{place_in}
 use Rattle.overlay_facts.specs.file_reads.Reads.{IsReadable, SourceCanBeRead}
 use Rattle.list_facts.specs.Filters.{filter-In}
 use Rattle.list_facts.specs.Members.{In}
-use Rattle.posix_spec.specs.State.{State}
+use Rattle.overlay_facts.specs.posix_spec.State.{State}
 use Rattle.job_facts.specs.world_promise.Latest.{latest-In}
 use Rattle.job_facts.specs.world_promise.Lent.{disk_of-in_data, not_lent}
 use Rattle.job_facts.specs.world_rules.Jobs.{IsStagedIn, Job, live_claims}

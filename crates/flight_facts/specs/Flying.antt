@@ -6,14 +6,14 @@ use Rattle.pm_words.specs.Parts.{Part}
 use Rattle.disk_places.specs.Places.{log_line}
 use Rattle.disk_lines.specs.declared.Draft.{Draft}
 use Rattle.disk_lines.specs.declared.Kind.TheVariants.{File}
-use Rattle.disk_rules.specs.Volume.{inode, Volume}
+use Rattle.overlay_facts.specs.disk_rules.Volume.{inode, Volume}
 use Rattle.file_overlay.specs.declared.runs.Run.{Run}
 use Rattle.list_facts.specs.Members.{In}
-use Rattle.posix_spec.specs.State.{State}
+use Rattle.overlay_facts.specs.posix_spec.State.{State}
 use Rattle.job_facts.specs.world_images.Images.{StandsFor}
 use Rattle.job_facts.specs.world_rules.Jobs.{IsStagedIn, Job, live_claims}
 use Rattle.job_facts.specs.world_rules.Promised.{AreWhole}
-use Rattle.write_jobs.specs.Jobs.{loan_at}
+use Rattle.job_facts.specs.write_jobs.Jobs.{loan_at}
 use Rattle.job_facts.specs.Blocks.{AreOut}
 use Rattle.overlay_facts.specs.Overlays.{IsOverlayOf, run_of}
 

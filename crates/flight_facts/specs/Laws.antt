@@ -7,18 +7,18 @@ use Rattle.pm_words.specs.Words.{Words}
 use Rattle.disk_places.specs.Journal.{journaled}
 use Rattle.disk_places.specs.Places.{reserve}
 use Rattle.disk_lines.specs.declared.Draft.{Draft}
-use Rattle.disk_rules.specs.Room.{unused_blocks}
+use Rattle.overlay_facts.specs.disk_rules.Room.{unused_blocks}
 use Rattle.disk_lines.specs.declared.Kind.TheVariants.{File}
-use Rattle.disk_rules.specs.Volume.{inode, Volume}
+use Rattle.overlay_facts.specs.disk_rules.Volume.{inode, Volume}
 use Rattle.overlay_facts.specs.file_reads.Reads.{FileCanBeRead}
-use Rattle.k_rules.specs.Stands.{Stands}
+use Rattle.overlay_facts.specs.k_rules.Stands.{Stands}
 use Rattle.list_facts.specs.Members.{In}
-use Rattle.posix_puts.specs.Views.{need_of}
-use Rattle.posix_spec.specs.Run.{after_call}
-use Rattle.posix_spec.specs.State.{room, State}
+use Rattle.overlay_facts.specs.posix_puts.Views.{need_of}
+use Rattle.overlay_facts.specs.posix_spec.Run.{after_call}
+use Rattle.overlay_facts.specs.posix_spec.State.{room, State}
 use Rattle.job_facts.specs.world_promise.JobLaws.{needs}
 use Rattle.job_facts.specs.world_rules.Jobs.{AreApartJobs, begun_of, Job, JobStands, live_claims}
-use Rattle.write_jobs.specs.Jobs.{HoldWords}
+use Rattle.job_facts.specs.write_jobs.Jobs.{HoldWords}
 use Rattle.job_facts.specs.Blocks.{ArePutBack, GoOut, SpellWhole}
 use Rattle.flight_facts.specs.Flying.{AreHomeLoans, FileState, IsFlying, with_entry}
 

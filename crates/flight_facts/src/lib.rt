@@ -19,4 +19,5 @@ pub fn flights_come_and_go()
     ensures readable { FliesReadable }
 {}
 
-pub use overlay_facts::file_reads;
+pub use job_facts::write_jobs;
+pub use overlay_facts::{file_reads, map_collection};

@@ -5,13 +5,13 @@ use Rattle.std.proofs.lemmas.Bool.{cases_eq, cases_lt}
 use Rattle.disk_lines.specs.declared.Kind.TheVariants.{File}
 use Rattle.disk_lines.specs.Lines.{most_bytes}
 use Rattle.disk_places.specs.Places.{Geometry}
-use Rattle.disk_rules.specs.Volume.{inode}
+use Rattle.flight_laps.specs.disk_rules.Volume.{inode}
 use Rattle.file_overlay.specs.declared.runs.Run.{Run}
-use Rattle.file_table.specs.Files.{Files, runs_in, size_in}
+use Rattle.flight_laps.specs.file_table.Files.{Files, runs_in, size_in}
 use Rattle.flight_relinks.specs.fsync_relink.Publishes.{IsPublishDone, IsPublishStopped, MayPublish}
-use Rattle.k_journal.specs.declared.outcomes.Commit.{Commit}
+use Rattle.flight_laps.specs.k_journal.declared.outcomes.Commit.{Commit}
 use Rattle.flight_relinks.specs.k_map_plans.Plans.{IsLiveFile}
-use Rattle.k_rules.specs.View.{View}
+use Rattle.flight_laps.specs.k_rules.View.{View}
 use Rattle.flight_relinks.specs.k_split.declared.faults.KFault.{KFault}
 use Rattle.flight_relinks.specs.k_split.Laps.{HasNextLap}
 use Rattle.standing_facts.proofs.log_checkpoint_proofs.Laps.{still-next}
@@ -19,8 +19,8 @@ use Rattle.standing_facts.specs.log_checkpoint.Gathers.{AreAllDone, AreDone, Are
 use Rattle.posix_types.specs.declared.call.Mode.{Mode}
 use Rattle.posix_types.specs.declared.item.Item.{Item}
 use Rattle.posix_words.specs.Open.{Tables}
-use Rattle.posix_spec.specs.Run.{run}
-use Rattle.posix_spec.specs.State.{State}
+use Rattle.flight_laps.specs.posix_spec.Run.{run}
+use Rattle.flight_laps.specs.posix_spec.State.{State}
 use Rattle.flight_relinks.specs.staging_files.Keeps.{Staged}
 use Rattle.standing_facts.specs.Laws.{StandsToPublish}
 use Rattle.flight_relinks.specs.world_images.Images.{IsRunning, StandsFor}

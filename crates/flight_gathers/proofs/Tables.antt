@@ -5,12 +5,12 @@ use Rattle.std.proofs.lemmas.Bool.{cases_lt}
 use Rattle.std.proofs.lemmas.List.{set-get_or}
 use Rattle.disk_places.specs.Places.{Geometry}
 use Rattle.file_overlay.specs.Runs.{Overlaid}
-use Rattle.file_table.specs.Files.{ChangesFile, Files, nothing_laid, runs_in, size_in, spare_in}
-use Rattle.k_rules.specs.View.{View}
+use Rattle.flight_laps.specs.file_table.Files.{ChangesFile, Files, nothing_laid, runs_in, size_in, spare_in}
+use Rattle.flight_laps.specs.k_rules.View.{View}
 use Rattle.list_facts.specs.Members.{In}
 use Rattle.standing_facts.specs.log_checkpoint.Gathers.{AreCleared}
 use Rattle.posix_words.specs.Open.{Tables}
-use Rattle.posix_spec.specs.State.{State}
+use Rattle.flight_laps.specs.posix_spec.State.{State}
 use Rattle.flight_relinks.specs.world_rules.Jobs.{Job}
 use Rattle.flight_relinks.specs.world_standing.Standing.{AreJobsOf, Kept, Pending, StandsAt}
 use Rattle.flight_relinks.specs.Laws.{StandsThen}

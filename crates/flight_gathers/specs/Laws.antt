@@ -5,16 +5,16 @@ use Rattle.pm_words.specs.Images.{IsImage}
 use Rattle.pm_words.specs.Words.{Words}
 use Rattle.disk_lines.specs.Lines.{most_bytes}
 use Rattle.disk_places.specs.Places.{Geometry}
-use Rattle.file_table.specs.Files.{Files}
-use Rattle.k_journal.specs.declared.outcomes.Commit.{Commit}
-use Rattle.k_rules.specs.View.{View}
+use Rattle.flight_laps.specs.file_table.Files.{Files}
+use Rattle.flight_laps.specs.k_journal.declared.outcomes.Commit.{Commit}
+use Rattle.flight_laps.specs.k_rules.View.{View}
 use Rattle.flight_relinks.specs.k_split.Laps.{HasNextLap}
 use Rattle.standing_facts.specs.log_checkpoint.Gathers.{IsGatherAnswer}
 use Rattle.posix_types.specs.declared.call.Mode.{Mode}
 use Rattle.posix_types.specs.declared.item.Item.{Item}
 use Rattle.posix_words.specs.Open.{Tables}
-use Rattle.posix_spec.specs.Run.{run}
-use Rattle.posix_spec.specs.State.{State}
+use Rattle.flight_laps.specs.posix_spec.Run.{run}
+use Rattle.flight_laps.specs.posix_spec.State.{State}
 use Rattle.flight_relinks.specs.staging_files.Keeps.{Staged}
 use Rattle.flight_relinks.specs.world_images.Promised.{KeepsPromise}
 use Rattle.flight_relinks.specs.world_standing.Standing.{Kept, StandsAt}

@@ -25,3 +25,5 @@ pub fn all_files_are_gathered()
     a_file_is_published();
     the_next_lap_begins();
 }
+
+pub use standing_facts;

@@ -5,7 +5,7 @@ use Rattle.pm_words.specs.declared.Cell.{Cell}
 use Rattle.pm_words.specs.Bytes.{line_bytes-same}
 use Rattle.pm_words.specs.Images.{Follows, IsImage}
 use Rattle.pm_words.specs.Words.{line_bytes, Words}
-use Rattle.crash_spec.specs.Permitted.{Permitted}
+use Rattle.log_checkpoint.specs.crash_spec.Permitted.{Permitted}
 use Rattle.disk_places.specs.Journal.{IsSound, journaled}
 use Rattle.disk_places.specs.PlaceLaws.{behind_log-not_journaled, behind_log-words}
 use Rattle.disk_places.specs.Places.{base_word, commit_word, Geometry, is_data_block, log_line, state_line}
@@ -13,19 +13,19 @@ use Rattle.disk_places.specs.Superblock.{geometry_at, has_magic, has_numbers, ha
 use Rattle.disk_lines.specs.declared.Draft.{Draft}
 use Rattle.disk_lines.specs.Entries.{decode_entry, held_seq, is_self_valid}
 use Rattle.disk_lines.specs.EntryLaws.{held_seq-decode_entry}
-use Rattle.disk_rules.specs.Live.{entry_in}
-use Rattle.disk_rules.specs.Reading.{base_set, Reads}
-use Rattle.disk_rules.specs.Room.{unused_blocks}
-use Rattle.disk_rules.specs.Rules.{geometry_of, HasTarget}
-use Rattle.disk_rules.specs.Volume.{Volume}
+use Rattle.log_checkpoint.specs.disk_rules.Live.{entry_in}
+use Rattle.log_checkpoint.specs.disk_rules.Reading.{base_set, Reads}
+use Rattle.log_checkpoint.specs.disk_rules.Room.{unused_blocks}
+use Rattle.log_checkpoint.specs.disk_rules.Rules.{geometry_of, HasTarget}
+use Rattle.log_checkpoint.specs.disk_rules.Volume.{Volume}
 use Rattle.log_checkpoint.specs.image_facts.ViewLaws.{head_word, sound-targets}
-use Rattle.k_rules.specs.Stands.{IsOldOrNew, Stands}
+use Rattle.log_checkpoint.specs.k_rules.Stands.{IsOldOrNew, Stands}
 use Rattle.posix_types.specs.declared.item.Item.{Item}
-use Rattle.posix_spec.specs.Run.{Begun}
-use Rattle.posix_spec.specs.State.{State}
-use Rattle.posix_spec.specs.Tree.{tree}
-use Rattle.volume_facts.specs.Footprint.{SameLog}
-use Rattle.volume_facts.specs.ImageLaws.{journaled-other}
+use Rattle.log_checkpoint.specs.posix_spec.Run.{Begun}
+use Rattle.log_checkpoint.specs.posix_spec.State.{State}
+use Rattle.log_checkpoint.specs.posix_spec.Tree.{tree}
+use Rattle.log_checkpoint.specs.volume_facts.Footprint.{SameLog}
+use Rattle.log_checkpoint.specs.volume_facts.ImageLaws.{journaled-other}
 use Rattle.log_checkpoint.specs.volume_uses.OwnerLaws.{owners-base}
 use Rattle.world_standing.specs.world_images.Changed.{IsWorld-words, same_data, same_word, SameLog-changed, ShowsLog-same, sound_headed}
 use Rattle.world_standing.specs.world_images.Images.{HasRoom, IsHeaded, IsRunning, ShowsLog, ShowsWorld}

@@ -6,33 +6,33 @@ use Rattle.pm_words.specs.declared.Cell.{Cell}
 use Rattle.pm_words.specs.Frames.{KeepsSingle, SameLent}
 use Rattle.pm_words.specs.ImageLaws.{IsImage-words_of}
 use Rattle.pm_words.specs.Images.{words_of}
-use Rattle.crash_spec.specs.Permitted.{Permitted}
+use Rattle.log_checkpoint.specs.crash_spec.Permitted.{Permitted}
 use Rattle.disk_lines.specs.declared.Draft.{Draft}
 use Rattle.disk_lines.specs.declared.Inode.{Inode}
 use Rattle.disk_lines.specs.declared.Kind.TheVariants.{File, Staging}
-use Rattle.disk_rules.specs.Live.{is_file, is_live}
-use Rattle.disk_rules.specs.Reading.{inode_set}
-use Rattle.disk_rules.specs.Room.{unused_blocks}
-use Rattle.disk_rules.specs.Rules.{file_blocks_of}
-use Rattle.disk_rules.specs.Volume.{inode, Volume}
+use Rattle.log_checkpoint.specs.disk_rules.Live.{is_file, is_live}
+use Rattle.log_checkpoint.specs.disk_rules.Reading.{inode_set}
+use Rattle.log_checkpoint.specs.disk_rules.Room.{unused_blocks}
+use Rattle.log_checkpoint.specs.disk_rules.Rules.{file_blocks_of}
+use Rattle.log_checkpoint.specs.disk_rules.Volume.{inode, Volume}
 use Rattle.extent_words.specs.Extents.{block_count}
 use Rattle.log_checkpoint.specs.fsync_relink.Others.{GoesOn}
 use Rattle.log_checkpoint.specs.k_map_plans.Plans.{IsStagingFile}
 use Rattle.log_checkpoint.specs.k_plans.Whole.{IsWhole}
-use Rattle.k_rules.specs.Stands.{Stands}
-use Rattle.k_rules.specs.View.{View}
+use Rattle.log_checkpoint.specs.k_rules.Stands.{Stands}
+use Rattle.log_checkpoint.specs.k_rules.View.{View}
 use Rattle.log_checkpoint.specs.k_split.MapChanges.{ChangesMaps, IsGivenUpWith, IsGiveUpAnswer, IsMapCut}
 use Rattle.list_facts.specs.Filters.{filter-agree}
 use Rattle.list_facts.specs.Members.{In}
-use Rattle.map_rules.specs.Taken.{with_map}
+use Rattle.log_checkpoint.specs.map_rules.Taken.{with_map}
 use Rattle.posix_types.specs.declared.item.Item.{Item}
-use Rattle.posix_spec.specs.Run.{Begun}
-use Rattle.posix_spec.specs.State.{State}
-use Rattle.posix_spec.specs.Tree.{tree}
+use Rattle.log_checkpoint.specs.posix_spec.Run.{Begun}
+use Rattle.log_checkpoint.specs.posix_spec.State.{State}
+use Rattle.log_checkpoint.specs.posix_spec.Tree.{tree}
 use Rattle.log_checkpoint.proofs.staging_files_proofs.GiveUpLaws.{AreBare, bare-next, none-bare, staging-file}
 use Rattle.log_checkpoint.specs.staging_files.GivesUp.{AreGivenUp}
 use Rattle.log_checkpoint.specs.staging_files.Keeps.{IsStaging}
-use Rattle.volume_facts.specs.Changes.{inode-set_same}
+use Rattle.log_checkpoint.specs.volume_facts.Changes.{inode-set_same}
 use Rattle.log_checkpoint.specs.volume_uses.PoolLaws.{AreInData, unused-set}
 use Rattle.world_standing.specs.world_images.Images.{HasRoom, IsChange, IsRunning}
 use Rattle.world_standing.specs.world_images.Laws.{Takes}

@@ -7,22 +7,22 @@ use Rattle.pm_words.specs.Cells.{cell, is_lent}
 use Rattle.pm_words.specs.ImageLaws.{IsImage-words_of}
 use Rattle.pm_words.specs.Images.{Follows, IsImage, words_of}
 use Rattle.pm_words.specs.Words.{Words}
-use Rattle.crash_spec.specs.Permitted.{Permitted}
-use Rattle.crash_spec.specs.RelationLaws.{Permitted-none}
+use Rattle.log_checkpoint.specs.crash_spec.Permitted.{Permitted}
+use Rattle.log_checkpoint.specs.crash_spec.RelationLaws.{Permitted-none}
 use Rattle.disk_places.specs.Places.{Geometry, log_line}
 use Rattle.disk_lines.specs.declared.Draft.{Draft}
 use Rattle.disk_lines.specs.declared.Kind.TheVariants.{File}
-use Rattle.disk_rules.specs.Content.{size_by}
-use Rattle.disk_rules.specs.Live.{is_live, latest}
-use Rattle.disk_rules.specs.Reading.{base_set}
-use Rattle.disk_rules.specs.Volume.{extents, inode, Volume}
-use Rattle.file_table.specs.Files.{runs_in, size_in}
+use Rattle.log_checkpoint.specs.disk_rules.Content.{size_by}
+use Rattle.log_checkpoint.specs.disk_rules.Live.{is_live, latest}
+use Rattle.log_checkpoint.specs.disk_rules.Reading.{base_set}
+use Rattle.log_checkpoint.specs.disk_rules.Volume.{extents, inode, Volume}
+use Rattle.log_checkpoint.specs.file_table.Files.{runs_in, size_in}
 use Rattle.world_standing.specs.flight_facts.Flying.{IsOut}
 use Rattle.log_checkpoint.specs.fsync_relink.Others.{GoesOn}
 use Rattle.world_standing.specs.held_sums.Laws.{AreSizes}
-use Rattle.k_journal.specs.declared.outcomes.Commit.{Commit}
-use Rattle.k_rules.specs.Stands.{IsOldOrNew, Stands}
-use Rattle.k_rules.specs.View.{View}
+use Rattle.log_checkpoint.specs.k_journal.declared.outcomes.Commit.{Commit}
+use Rattle.log_checkpoint.specs.k_rules.Stands.{IsOldOrNew, Stands}
+use Rattle.log_checkpoint.specs.k_rules.View.{View}
 use Rattle.log_checkpoint.specs.k_split.Answers.{Changes, IsCut, IsDone, IsOff}
 use Rattle.log_checkpoint.specs.k_split.Laps.{HasNextLap, IsBaseAnswer, next_base}
 use Rattle.log_checkpoint.specs.k_split.MapChanges.{IsGivenUpWith, IsMapCut}
@@ -32,9 +32,9 @@ use Rattle.log_checkpoint.specs.Gathers.{IsLapAnswer, IsLapBegun}
 use Rattle.world_standing.specs.overlay_facts.Overlays.{IsOverlayOf, run_of}
 use Rattle.posix_types.specs.declared.item.Item.{Item}
 use Rattle.posix_words.specs.Open.{Tables}
-use Rattle.posix_spec.specs.Run.{Begun, run}
-use Rattle.posix_spec.specs.State.{State}
-use Rattle.posix_spec.specs.Tree.{tree}
+use Rattle.log_checkpoint.specs.posix_spec.Run.{Begun, run}
+use Rattle.log_checkpoint.specs.posix_spec.State.{State}
+use Rattle.log_checkpoint.specs.posix_spec.Tree.{tree}
 use Rattle.log_checkpoint.proofs.staging_files_proofs.GiveUpLaws.{agrees-nothing, AreBare, staged-nothing}
 use Rattle.log_checkpoint.proofs.staging_files_proofs.StagedLaws.{free-given}
 use Rattle.log_checkpoint.specs.staging_files.GivesUp.{AreCutOff, AreGivenUp, nothing_staged}

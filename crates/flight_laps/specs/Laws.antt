@@ -4,16 +4,16 @@ use Rattle.pm_words.specs.Images.{IsImage}
 use Rattle.pm_words.specs.Words.{line_bytes, Words}
 use Rattle.disk_lines.specs.Entries.{held_seq, is_self_valid}
 use Rattle.disk_places.specs.Places.{Geometry, log_line}
-use Rattle.disk_rules.specs.Volume.{Volume}
-use Rattle.file_table.specs.Files.{runs_in}
-use Rattle.k_journal.specs.declared.outcomes.Commit.{Commit}
-use Rattle.k_rules.specs.View.{View}
+use Rattle.log_checkpoint.specs.disk_rules.Volume.{Volume}
+use Rattle.log_checkpoint.specs.file_table.Files.{runs_in}
+use Rattle.log_checkpoint.specs.k_journal.declared.outcomes.Commit.{Commit}
+use Rattle.log_checkpoint.specs.k_rules.View.{View}
 use Rattle.log_checkpoint.specs.k_split.Laps.{HasNextLap}
 use Rattle.log_checkpoint.specs.Gathers.{IsLapAnswer, IsLapBegun}
 use Rattle.posix_types.specs.declared.item.Item.{Item}
 use Rattle.posix_words.specs.Open.{Tables}
-use Rattle.posix_spec.specs.Run.{Begun, run}
-use Rattle.posix_spec.specs.State.{State}
+use Rattle.log_checkpoint.specs.posix_spec.Run.{Begun, run}
+use Rattle.log_checkpoint.specs.posix_spec.State.{State}
 use Rattle.log_checkpoint.specs.staging_files.GivesUp.{nothing_staged}
 use Rattle.log_checkpoint.specs.staging_files.Keeps.{Staged}
 use Rattle.world_standing.specs.world_images.Promised.{KeepsPromise}

@@ -7,8 +7,8 @@ use Rattle.pm_words.specs.Words.{Words}
 use Rattle.disk_places.specs.Journal.{journaled}
 use Rattle.disk_places.specs.Places.{Geometry}
 use Rattle.disk_lines.specs.declared.Draft.{Draft}
-use Rattle.disk_rules.specs.Honest.{IsHonestWith}
-use Rattle.disk_rules.specs.Volume.{Volume}
+use Rattle.file_ends.specs.disk_rules.Honest.{IsHonestWith}
+use Rattle.file_ends.specs.disk_rules.Volume.{Volume}
 use Rattle.flight_steps.specs.world_log.Lines.{AreJobLines, AreLinesOut, IsClaimedLine, IsJobLine, Spells}
 use Rattle.flight_steps.specs.world_rules.Jobs.{Job}
 use Rattle.flight_steps.specs.world_rules.Shown.{AreFilled}

@@ -7,10 +7,10 @@ use Rattle.posix_words.specs.NameRows.{mkdir_rows, rename_rows, rmdir_rows, unli
 use Rattle.posix_words.specs.Names.{directory_stands, file_stands, is_named, number_at}
 use Rattle.posix_words.specs.Open.{is_open}
 use Rattle.posix_words.specs.Outcomes.{first}
-use Rattle.posix_spec.specs.Run.{after_call}
-use Rattle.posix_spec.specs.State.{alone, made, space, State, swept, unnamed, with_node}
-use Rattle.posix_spec.specs.Step.{mkdir_done, rename_done, renamed, rmdir_done, unlink_done}
-use Rattle.posix_facts.specs.RowLaws.{stepped-keeps}
+use Rattle.open_files.specs.posix_spec.Run.{after_call}
+use Rattle.open_files.specs.posix_spec.State.{alone, made, space, State, swept, unnamed, with_node}
+use Rattle.open_files.specs.posix_spec.Step.{mkdir_done, rename_done, renamed, rmdir_done, unlink_done}
+use Rattle.open_files.specs.posix_facts.RowLaws.{stepped-keeps}
 
 pub swept_tables : (s : State) (n : ℕ) → (swept alone s n).tables ≡ s.tables
 unfolding swept

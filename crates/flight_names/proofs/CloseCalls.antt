@@ -9,13 +9,13 @@ use Rattle.disk_places.specs.Places.{Geometry}
 use Rattle.disk_lines.specs.declared.Kind.TheVariants.{File}
 use Rattle.disk_lines.specs.Names.{is_child, names_of, row as row_at}
 use Rattle.disk_lines.specs.TableLaws.{is_child-parts}
-use Rattle.disk_rules.specs.Live.{is_directory}
-use Rattle.disk_rules.specs.Volume.{inode, Volume}
-use Rattle.file_table.specs.Files.{Files}
-use Rattle.entry_orders.specs.Orders.{AreOrdered-step_of}
-use Rattle.volume_facts.specs.Lists.{count_by-some}
+use Rattle.file_ends.specs.disk_rules.Live.{is_directory}
+use Rattle.file_ends.specs.disk_rules.Volume.{inode, Volume}
+use Rattle.file_ends.specs.file_table.Files.{Files}
+use Rattle.flight_steps.specs.entry_orders.Orders.{AreOrdered-step_of}
+use Rattle.file_ends.specs.volume_facts.Lists.{count_by-some}
 use Rattle.flight_steps.specs.volume_changes.Changes.{MayDrop}
-use Rattle.k_rules.specs.View.{View}
+use Rattle.file_ends.specs.k_rules.View.{View}
 use Rattle.open_numbers.specs.Numbered.{described_as, numbered_as}
 use Rattle.open_numbers.proofs.Changes.{closes_alike, open_once_closed}
 use Rattle.open_numbers.proofs.Lookups.{same_open, same_opened}
@@ -32,11 +32,11 @@ use Rattle.posix_words.specs.Open.{closed, is_open, opened, Tables}
 use Rattle.posix_words.specs.Outcomes.{answer, first, row}
 use Rattle.open_files.specs.posix_frames.Bystanders.{is_open-Opens}
 use Rattle.open_files.specs.posix_frames.Handles.{Opens-opened}
-use Rattle.posix_spec.specs.FileRows.{close_rows, file_number}
-use Rattle.posix_spec.specs.Run.{after_call}
-use Rattle.posix_spec.specs.State.{alone, State, swept, with_published}
-use Rattle.posix_spec.specs.Step.{close_done, step, stepped}
-use Rattle.posix_spec.specs.Tree.{tree}
+use Rattle.open_files.specs.posix_spec.FileRows.{close_rows, file_number}
+use Rattle.open_files.specs.posix_spec.Run.{after_call}
+use Rattle.open_files.specs.posix_spec.State.{alone, State, swept, with_published}
+use Rattle.open_files.specs.posix_spec.Step.{close_done, step, stepped}
+use Rattle.open_files.specs.posix_spec.Tree.{tree}
 use Rattle.flight_steps.specs.world_rules.Stands.{is_used, number}
 use Rattle.flight_steps.specs.world_promise.TreeRules.{used_below}
 use Rattle.flight_steps.specs.world_images.Settings.{keeps_setting}

@@ -5,21 +5,21 @@ use Rattle.pm_words.specs.Powers.{Supply}
 use Rattle.disk_lines.specs.declared.Draft.{Draft}
 use Rattle.disk_places.specs.Places.{Geometry, reserve}
 use Rattle.disk_lines.specs.declared.Kind.TheVariants.{File}
-use Rattle.disk_rules.specs.Volume.{inode, Volume}
-use Rattle.entry_orders.specs.Orders.{AreOrdered-step_of}
-use Rattle.file_table.specs.Files.{ChangesFile, Files, runs_in, spare_in}
-use Rattle.volume_facts.specs.Changes.{inode-set_same}
+use Rattle.file_ends.specs.disk_rules.Volume.{inode, Volume}
+use Rattle.flight_steps.specs.entry_orders.Orders.{AreOrdered-step_of}
+use Rattle.file_ends.specs.file_table.Files.{ChangesFile, Files, runs_in, spare_in}
+use Rattle.file_ends.specs.volume_facts.Changes.{inode-set_same}
 use Rattle.flight_steps.specs.k_map_plans.Plans.{IsLiveFile}
 use Rattle.flight_steps.proofs.k_plans_proofs.FreeCounts.{unwaiting-counted}
 use Rattle.flight_steps.specs.k_plans.Whole.{IsWhole}
-use Rattle.k_rules.specs.Spaces.{volume_space}
-use Rattle.k_rules.specs.View.{View}
+use Rattle.file_ends.specs.k_rules.Spaces.{volume_space}
+use Rattle.file_ends.specs.k_rules.View.{View}
 use Rattle.flight_steps.specs.k_split.declared.faults.KFault.{KFault}
 use Rattle.flight_steps.specs.k_split.Answers.{IsDone, IsPaid}
 use Rattle.flight_steps.specs.k_split.Looks.{IsFound}
 use Rattle.flight_steps.specs.k_split.MapChanges.{free_blocks_in, IsSizeAnswer}
-use Rattle.map_rules.specs.Changes.{with_size}
-use Rattle.map_rules.specs.Taken.{with_map}
+use Rattle.file_ends.specs.map_rules.Changes.{with_size}
+use Rattle.file_ends.specs.map_rules.Taken.{with_map}
 use Rattle.flight_steps.specs.overlay_facts.Overlays.{run_of}
 use Rattle.posix_types.specs.declared.call.Call.{Call}
 use Rattle.posix_types.specs.declared.call.Who.{Who}
@@ -29,9 +29,9 @@ use Rattle.posix_types.specs.declared.reply.Reply.{Reply}
 use Rattle.posix_words.specs.NameRows.{open_rows}
 use Rattle.posix_words.specs.Open.{free_descriptor, is_full, Tables, with_opened}
 use Rattle.posix_words.specs.Outcomes.{answer, first}
-use Rattle.posix_spec.specs.Run.{after_call, run}
-use Rattle.posix_spec.specs.State.{alone, State}
-use Rattle.posix_spec.specs.Step.{open_done}
+use Rattle.open_files.specs.posix_spec.Run.{after_call, run}
+use Rattle.open_files.specs.posix_spec.State.{alone, State}
+use Rattle.open_files.specs.posix_spec.Step.{open_done}
 use Rattle.flight_steps.specs.world_rules.Jobs.{live_claims}
 use Rattle.flight_steps.specs.world_rules.Stands.{entries_of, is_used}
 use Rattle.flight_steps.specs.world_promise.TreeRules.{used_below}

@@ -3,14 +3,14 @@ use Rattle.std.specs.Prelude.{◌≡◌, ◌<◌, ℕ, Bool, true, false, List, 
 use Rattle.std.proofs.Common.{arith, ap, ◌∙◌, sym, subst, inl, inr}
 use Rattle.pm_words.specs.Powers.{is_on, Supply}
 use Rattle.disk_lines.specs.Lines.{NameRow}
-use Rattle.disk_rules.specs.Volume.{Volume}
+use Rattle.file_ends.specs.disk_rules.Volume.{Volume}
 use Rattle.file_ends.proofs.Ending.{end_dropped, end_made, end_removed, end_renamed, end_sized, end_unlinked, free_has_no_map}
 use Rattle.file_ends.specs.Ends.{FilesEnd, FreeHaveNone}
-use Rattle.file_table.specs.Files.{ChangesFile, Files}
-use Rattle.k_rules.specs.Changes.{renamed_over_directory, renamed_over_file}
-use Rattle.k_rules.specs.Spaces.{is_directory_in}
-use Rattle.k_rules.specs.Stands.{Stands}
-use Rattle.k_rules.specs.View.{View}
+use Rattle.file_ends.specs.file_table.Files.{ChangesFile, Files}
+use Rattle.file_ends.specs.k_rules.Changes.{renamed_over_directory, renamed_over_file}
+use Rattle.file_ends.specs.k_rules.Spaces.{is_directory_in}
+use Rattle.file_ends.specs.k_rules.Stands.{Stands}
+use Rattle.file_ends.specs.k_rules.View.{View}
 use Rattle.flight_steps.specs.k_plans.Renaming.{renamed_over}
 use Rattle.flight_steps.specs.k_tables.declared.removing.Entry.{Entry}
 use Rattle.flight_steps.specs.volume_changes.CallLaws.{row_to}

@@ -10,21 +10,21 @@ use Rattle.disk_places.specs.Journal.{journaled}
 use Rattle.disk_places.specs.Places.{Geometry}
 use Rattle.disk_lines.specs.declared.Kind.TheVariants.{File}
 use Rattle.disk_lines.specs.Lines.{NameRow}
-use Rattle.disk_rules.specs.Live.{is_directory}
-use Rattle.disk_rules.specs.Volume.{inode, Volume}
-use Rattle.entry_orders.specs.Orders.{AreOrdered, renamed_ordered, unnamed_ordered}
-use Rattle.file_table.specs.Files.{ChangesFile, Files, spare_in}
+use Rattle.file_ends.specs.disk_rules.Live.{is_directory}
+use Rattle.file_ends.specs.disk_rules.Volume.{inode, Volume}
+use Rattle.flight_steps.specs.entry_orders.Orders.{AreOrdered, renamed_ordered, unnamed_ordered}
+use Rattle.file_ends.specs.file_table.Files.{ChangesFile, Files, spare_in}
 use Rattle.flight_steps.specs.volume_changes.Changes.{MayDrop}
 use Rattle.flight_steps.specs.volume_changes.FrameLaws.{dropped-inode, dropped-others}
-use Rattle.k_journal.specs.Commits.{TakesAStep}
+use Rattle.file_ends.specs.k_journal.Commits.{TakesAStep}
 use Rattle.flight_steps.specs.k_plans.Removing.{IsUnlinked}
 use Rattle.flight_steps.specs.k_plans.Renaming.{IsRenamed, renamed_over}
 use Rattle.flight_steps.specs.volume_changes.CallLaws.{row_to}
 use Rattle.flight_steps.specs.k_tables.declared.removing.Entry.{Entry}
-use Rattle.k_rules.specs.Spaces.{is_directory_in}
+use Rattle.file_ends.specs.k_rules.Spaces.{is_directory_in}
 use Rattle.flight_steps.specs.world_images.Images.{StandsFor}
-use Rattle.k_rules.specs.Changes.{dropped, gone_node, renamed_over_directory, renamed_over_file}
-use Rattle.k_rules.specs.View.{View}
+use Rattle.file_ends.specs.k_rules.Changes.{dropped, gone_node, renamed_over_directory, renamed_over_file}
+use Rattle.file_ends.specs.k_rules.View.{View}
 use Rattle.flight_steps.specs.k_split.declared.faults.KFault.{KFault}
 use Rattle.flight_steps.specs.k_split.Answers.{IsAnswer, IsDone, IsPaid}
 use Rattle.flight_steps.specs.k_split.Names.{IsDropAnswer, IsRenameAnswer, IsUnlinkAnswer, rename_row, unlink_row}
@@ -32,7 +32,7 @@ use Rattle.lost_devices.proofs.Cuts.{left_through}
 use Rattle.lost_devices.specs.Left.{IsLeftOf}
 use Rattle.open_numbers.specs.Numbered.{IsTold}
 use Rattle.open_numbers.proofs.Lookups.{same_open}
-use Rattle.path_spelling.specs.Spelling.{AreSpelled}
+use Rattle.file_ends.specs.path_spelling.Spelling.{AreSpelled}
 use Rattle.posix_types.specs.declared.call.Call.{Call}
 use Rattle.posix_types.specs.declared.call.Mode.{Mode}
 use Rattle.posix_types.specs.declared.call.Who.{Who}
@@ -42,9 +42,9 @@ use Rattle.posix_types.specs.declared.reply.Errno.{Errno}
 use Rattle.posix_types.specs.declared.reply.Reply.{Reply}
 use Rattle.posix_words.specs.Open.{is_open, Tables}
 use Rattle.posix_words.specs.Outcomes.{answer}
-use Rattle.posix_spec.specs.Run.{after_call, run}
-use Rattle.posix_spec.specs.State.{alone, State, swept, unnamed as unnamed_state}
-use Rattle.posix_spec.specs.Tree.{tree}
+use Rattle.open_files.specs.posix_spec.Run.{after_call, run}
+use Rattle.open_files.specs.posix_spec.State.{alone, State, swept, unnamed as unnamed_state}
+use Rattle.open_files.specs.posix_spec.Tree.{tree}
 use Rattle.flight_steps.specs.posix_orders.Commutes.{takes}
 use Rattle.flight_steps.specs.world_rules.Jobs.{begun_of, Job, live_claims}
 use Rattle.flight_steps.specs.world_rules.Stands.{is_used, number}

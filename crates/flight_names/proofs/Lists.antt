@@ -10,10 +10,10 @@ use Rattle.disk_places.specs.Fields.{is_same}
 use Rattle.disk_places.specs.Places.{Geometry}
 use Rattle.disk_lines.specs.Names.{child_named}
 use Rattle.disk_lines.specs.Tables.{names_below}
-use Rattle.entry_orders.specs.Listed.{AreOnce, names-sorted}
-use Rattle.file_table.specs.Files.{Files}
-use Rattle.k_rules.specs.Spaces.{volume_space}
-use Rattle.k_rules.specs.View.{View}
+use Rattle.flight_steps.specs.entry_orders.Listed.{AreOnce, names-sorted}
+use Rattle.file_ends.specs.file_table.Files.{Files}
+use Rattle.file_ends.specs.k_rules.Spaces.{volume_space}
+use Rattle.file_ends.specs.k_rules.View.{View}
 use Rattle.flight_steps.specs.k_split.Looks.{IsListed, IsListFault}
 use Rattle.flight_steps.specs.k_split.declared.faults.KFault.{KFault}
 use Rattle.flight_steps.proofs.k_tables_proofs.ChildNames.{count-child}
@@ -27,8 +27,8 @@ use Rattle.posix_words.specs.NameRows.{list_rows}
 use Rattle.posix_words.specs.Names.{child_of, names_in}
 use Rattle.posix_words.specs.Open.{Tables}
 use Rattle.posix_words.specs.Outcomes.{answer, first}
-use Rattle.posix_spec.specs.State.{space, State}
-use Rattle.posix_spec.specs.Step.{list_done, step, stepped}
+use Rattle.open_files.specs.posix_spec.State.{space, State}
+use Rattle.open_files.specs.posix_spec.Step.{list_done, step, stepped}
 use Rattle.flight_steps.specs.world_promise.TreeRules.{all_lines}
 use Rattle.flight_steps.specs.world_rules.Stands.{IsUsed, number}
 use Rattle.flight_steps.specs.world_standing.Standing.{Kept}

@@ -6,21 +6,21 @@ use Rattle.disk_places.specs.Places.{Geometry}
 use Rattle.disk_lines.specs.declared.Kind.{Kind}
 use Rattle.disk_lines.specs.declared.Kind.TheVariants.{Directory, File, Free, Staging}
 use Rattle.disk_lines.specs.Lines.{NameRow}
-use Rattle.disk_rules.specs.Live.{is_directory, is_file}
-use Rattle.disk_rules.specs.Volume.{inode, Volume}
-use Rattle.entry_orders.specs.Orders.{AreOrdered-step_of}
+use Rattle.file_ends.specs.disk_rules.Live.{is_directory, is_file}
+use Rattle.file_ends.specs.disk_rules.Volume.{inode, Volume}
+use Rattle.flight_steps.specs.entry_orders.Orders.{AreOrdered-step_of}
 use Rattle.flight_steps.specs.volume_changes.CallLaws.{row_to}
 use Rattle.flight_steps.specs.volume_changes.FoundLaws.{free-found, IsLowestFree}
 use Rattle.flight_steps.specs.volume_changes.FrameLaws.{made-inode, made-others, removed-inode, removed-others}
-use Rattle.k_journal.specs.Commits.{TakesAStep}
+use Rattle.file_ends.specs.k_journal.Commits.{TakesAStep}
 use Rattle.flight_steps.specs.k_plans.Making.{IsMade, kind_of}
 use Rattle.flight_steps.specs.k_plans.Removing.{IsRemoved}
 use Rattle.flight_steps.specs.k_plans.Renaming.{IsRenamed, renamed_over}
-use Rattle.k_rules.specs.Changes.{made, removed, renamed_over_directory, renamed_over_file}
-use Rattle.k_rules.specs.Spaces.{is_directory_in, volume_space}
-use Rattle.k_rules.specs.View.{View}
+use Rattle.file_ends.specs.k_rules.Changes.{made, removed, renamed_over_directory, renamed_over_file}
+use Rattle.file_ends.specs.k_rules.Spaces.{is_directory_in, volume_space}
+use Rattle.file_ends.specs.k_rules.View.{View}
 use Rattle.flight_steps.specs.k_tables.declared.removing.Entry.{Entry}
-use Rattle.path_spelling.specs.Spelling.{AreSpelled}
+use Rattle.file_ends.specs.path_spelling.Spelling.{AreSpelled}
 use Rattle.flight_steps.specs.k_split.declared.faults.KFault.{KFault}
 use Rattle.flight_steps.specs.k_split.Answers.{IsAnswer, IsPaid}
 use Rattle.flight_steps.specs.k_split.Names.{IsIdle, IsMakeAnswer, IsRenameAnswer, IsRmdirAnswer, make_row, rename_row, rmdir_row}
@@ -32,9 +32,9 @@ use Rattle.posix_types.specs.declared.item.Outcome.{Outcome}
 use Rattle.posix_types.specs.declared.reply.Reply.{Reply}
 use Rattle.posix_words.specs.Open.{is_open, Tables}
 use Rattle.posix_words.specs.Outcomes.{answer}
-use Rattle.posix_spec.specs.Run.{after_call, run}
-use Rattle.posix_spec.specs.State.{alone, State}
-use Rattle.posix_spec.specs.Step.{step}
+use Rattle.open_files.specs.posix_spec.Run.{after_call, run}
+use Rattle.open_files.specs.posix_spec.State.{alone, State}
+use Rattle.open_files.specs.posix_spec.Step.{step}
 use Rattle.flight_steps.specs.world_rules.Stands.{is_used, number}
 use Rattle.flight_steps.specs.world_promise.TreeRules.{used_below}
 use Rattle.flight_steps.specs.world_steps.Makers.{renumbered, renumbered-other}
@@ -48,7 +48,7 @@ use Rattle.flight_names.specs.declared.outcomes.Told.{Told}
 use Rattle.flight_names.proofs.CallTables.{tables_mkdir, tables_rename, tables_rmdir}
 use Rattle.flight_steps.specs.Laws.{AreLeft, size_now}
 use Rattle.flight_steps.proofs.Standing.{stands_on}
-use Rattle.file_table.specs.Files.{Files, runs_in, size_in}
+use Rattle.file_ends.specs.file_table.Files.{Files, runs_in, size_in}
 use Rattle.flight_steps.specs.world_standing.Standing.{Kept}
 use Rattle.flight_steps.specs.world_steps.Steps.{LetsJobsBe}
 use Rattle.flight_names.proofs.Running.{fault_ended, leads_end, left_alone, loses_cut, nothing_ended, row_refuses}

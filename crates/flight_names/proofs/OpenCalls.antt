@@ -10,18 +10,18 @@ use Rattle.disk_places.specs.Places.{Geometry}
 use Rattle.disk_lines.specs.declared.Draft.{Draft}
 use Rattle.disk_lines.specs.declared.Kind.{Kind}
 use Rattle.disk_lines.specs.declared.Kind.TheVariants.{Directory, File, Free, Staging}
-use Rattle.disk_rules.specs.Content.{size_of}
-use Rattle.disk_rules.specs.Volume.{inode, Volume}
-use Rattle.entry_orders.specs.Orders.{AreOrdered-step_of}
-use Rattle.file_table.specs.Files.{Files, size_in}
+use Rattle.file_ends.specs.disk_rules.Content.{size_of}
+use Rattle.file_ends.specs.disk_rules.Volume.{inode, Volume}
+use Rattle.flight_steps.specs.entry_orders.Orders.{AreOrdered-step_of}
+use Rattle.file_ends.specs.file_table.Files.{Files, size_in}
 use Rattle.flight_steps.proofs.Standing.{stands_on}
 use Rattle.flight_steps.specs.volume_changes.CallLaws.{row_to}
 use Rattle.flight_steps.specs.volume_changes.FoundLaws.{free-found}
 use Rattle.flight_steps.specs.volume_changes.FrameLaws.{made-inode}
 use Rattle.flight_steps.specs.k_plans.Making.{IsMade}
-use Rattle.k_rules.specs.Spaces.{volume_space}
-use Rattle.k_rules.specs.View.{View}
-use Rattle.path_spelling.specs.Spelling.{AreSpelled}
+use Rattle.file_ends.specs.k_rules.Spaces.{volume_space}
+use Rattle.file_ends.specs.k_rules.View.{View}
+use Rattle.file_ends.specs.path_spelling.Spelling.{AreSpelled}
 use Rattle.flight_steps.specs.k_split.declared.faults.KFault.{KFault}
 use Rattle.flight_steps.specs.k_split.Answers.{IsPaid}
 use Rattle.flight_steps.specs.k_split.Looks.{IsFound}
@@ -44,10 +44,10 @@ use Rattle.posix_words.specs.Names.{exists_at, node_at_path, number_at}
 use Rattle.posix_words.specs.Nodes.{node_at}
 use Rattle.posix_words.specs.Open.{free_descriptor, is_full, is_open, key_of, next_descriptor, opened, Tables, with_descriptor, with_opened}
 use Rattle.posix_words.specs.Outcomes.{answer, first, row}
-use Rattle.posix_spec.specs.FileRows.{dup_rows}
-use Rattle.posix_spec.specs.Run.{after_call, run}
-use Rattle.posix_spec.specs.State.{alone, made as made_state, space, State, with_node}
-use Rattle.posix_spec.specs.Step.{dup_done, empty_file, is_busy, open_done, opening, opening_number, stat_done, stat_of, step, stepped}
+use Rattle.open_files.specs.posix_spec.FileRows.{dup_rows}
+use Rattle.open_files.specs.posix_spec.Run.{after_call, run}
+use Rattle.open_files.specs.posix_spec.State.{alone, made as made_state, space, State, with_node}
+use Rattle.open_files.specs.posix_spec.Step.{dup_done, empty_file, is_busy, open_done, opening, opening_number, stat_done, stat_of, step, stepped}
 use Rattle.flight_steps.specs.world_rules.Stands.{is_used, IsUsed, NodeStands, number}
 use Rattle.flight_steps.specs.world_rules.Jobs.{live_claims}
 use Rattle.flight_steps.specs.world_images.Settings.{keeps_setting}

@@ -6,12 +6,12 @@ use Rattle.pm_words.specs.Powers.{is_on, Supply}
 use Rattle.disk_lines.specs.declared.Inode.{Inode}
 use Rattle.disk_lines.specs.declared.Kind.{Kind}
 use Rattle.disk_lines.specs.declared.Kind.TheVariants.{Directory, File, Free, Staging}
-use Rattle.disk_rules.specs.Live.{is_directory}
-use Rattle.disk_rules.specs.Volume.{inode, Volume}
-use Rattle.file_table.specs.Files.{Files, size_in}
+use Rattle.file_ends.specs.disk_rules.Live.{is_directory}
+use Rattle.file_ends.specs.disk_rules.Volume.{inode, Volume}
+use Rattle.file_ends.specs.file_table.Files.{Files, size_in}
 use Rattle.flight_steps.specs.k_plans.View.{node_at as inode_at}
-use Rattle.k_rules.specs.Spaces.{is_directory_in, is_free, volume_space}
-use Rattle.k_rules.specs.View.{View}
+use Rattle.file_ends.specs.k_rules.Spaces.{is_directory_in, is_free, volume_space}
+use Rattle.file_ends.specs.k_rules.View.{View}
 use Rattle.flight_steps.specs.k_split.Looks.{IsFound, IsLed}
 use Rattle.open_files.specs.State.{IsDupFault, IsOpenFault, OpenState}
 use Rattle.open_files.specs.declared.faults.OpenFault.{OpenFault}

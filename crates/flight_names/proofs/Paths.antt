@@ -2,8 +2,8 @@
 use Rattle.std.specs.Prelude.{◌≡◌, ◌&&◌, not, ℕ, Bool, true, false, List, [], ◌∷◌, Option, Some, None, is_some, Ok, Err, Result, refl, if◌then◌else◌}
 use Rattle.std.specs.Option.{option_map_or}
 use Rattle.std.proofs.Common.{ap, ◌∙◌, sym, subst}
-use Rattle.disk_rules.specs.Volume.{Volume}
-use Rattle.k_rules.specs.Spaces.{volume_space}
+use Rattle.file_ends.specs.disk_rules.Volume.{Volume}
+use Rattle.file_ends.specs.k_rules.Spaces.{volume_space}
 use Rattle.flight_steps.specs.k_split.Looks.{IsFound, IsLed}
 use Rattle.posix_types.specs.declared.handle.Flags.{Flags}
 use Rattle.posix_types.specs.declared.item.Outcome.{Outcome}

@@ -9,11 +9,11 @@ use Rattle.disk_places.specs.Journal.{IsSound, journaled}
 use Rattle.disk_places.specs.Places.{Geometry}
 use Rattle.disk_lines.specs.declared.Draft.{Draft}
 use Rattle.disk_lines.specs.declared.Kind.TheVariants.{File}
-use Rattle.disk_rules.specs.Volume.{inode, Volume}
-use Rattle.entry_orders.specs.Orders.{AreOrdered, AreOrdered-step_of}
-use Rattle.file_table.specs.Files.{Files}
-use Rattle.k_rules.specs.Spaces.{volume_space}
-use Rattle.k_rules.specs.View.{View}
+use Rattle.file_ends.specs.disk_rules.Volume.{inode, Volume}
+use Rattle.flight_steps.specs.entry_orders.Orders.{AreOrdered, AreOrdered-step_of}
+use Rattle.file_ends.specs.file_table.Files.{Files}
+use Rattle.file_ends.specs.k_rules.Spaces.{volume_space}
+use Rattle.file_ends.specs.k_rules.View.{View}
 use Rattle.flight_steps.specs.k_split.declared.faults.KFault.{KFault}
 use Rattle.flight_steps.specs.k_split.Answers.{IsAnswer, IsCut, IsOff, IsPaid}
 use Rattle.lost_devices.proofs.Cuts.{left_at, left_cut, left_same}
@@ -27,14 +27,14 @@ use Rattle.posix_types.specs.declared.reply.Errno.{Errno}
 use Rattle.posix_types.specs.declared.reply.Reply.{Reply}
 use Rattle.posix_words.specs.Open.{is_open, Tables}
 use Rattle.posix_words.specs.Outcomes.{answer}
-use Rattle.posix_spec.specs.Run.{after_call, Begun, run}
-use Rattle.posix_spec.specs.State.{alone, room, State}
-use Rattle.posix_spec.specs.Step.{step}
+use Rattle.open_files.specs.posix_spec.Run.{after_call, Begun, run}
+use Rattle.open_files.specs.posix_spec.State.{alone, room, State}
+use Rattle.open_files.specs.posix_spec.Step.{step}
 use Rattle.open_files.specs.posix_frames.Frames.{AreThreads}
 use Rattle.open_files.specs.posix_frames.Needs.{IsApart, needs}
 use Rattle.flight_steps.specs.posix_orders.Commutes.{takes}
 use Rattle.flight_steps.specs.posix_orders.Orders.{AreTwoEach}
-use Rattle.posix_puts.specs.Views.{AreAfforded}
+use Rattle.open_files.specs.posix_puts.Views.{AreAfforded}
 use Rattle.flight_steps.specs.world_rules.Jobs.{ApartFrom, begun_of, Job, JobsStand, JobStands, live_claims}
 use Rattle.flight_steps.specs.world_rules.Stands.{number}
 use Rattle.flight_steps.specs.world_promise.JobLaws.{live_used}

@@ -4,21 +4,21 @@ use Rattle.std.proofs.Common.{arith, ◌∙◌, sym, subst}
 use Rattle.std.proofs.lemmas.List.Sums.{sum_by-cons}
 use Rattle.pm_words.specs.Words.{Words}
 use Rattle.disk_lines.specs.declared.Draft.{Draft}
-use Rattle.disk_rules.specs.Volume.{Volume}
+use Rattle.file_ends.specs.disk_rules.Volume.{Volume}
 use Rattle.posix_types.specs.declared.call.Call.{Call}
 use Rattle.posix_types.specs.declared.call.Who.{Who}
 use Rattle.posix_types.specs.declared.handle.Handle.{Handle}
 use Rattle.posix_words.specs.declared.open.Description.{Description}
 use Rattle.posix_words.specs.Open.{closed, opened}
-use Rattle.posix_spec.specs.Run.{Begun}
-use Rattle.posix_spec.specs.State.{room, State}
-use Rattle.posix_puts.specs.ViewLaws.{need_of-kept, PutsWhole-kept}
-use Rattle.posix_puts.specs.Views.{AreAfforded, KeepsView, need_of}
+use Rattle.open_files.specs.posix_spec.Run.{Begun}
+use Rattle.open_files.specs.posix_spec.State.{room, State}
+use Rattle.open_files.specs.posix_puts.ViewLaws.{need_of-kept, PutsWhole-kept}
+use Rattle.open_files.specs.posix_puts.Views.{AreAfforded, KeepsView, need_of}
 use Rattle.open_files.specs.posix_frames.Flights.{InFlight, KeepsView-seen}
 use Rattle.open_files.specs.posix_frames.Frames.{KeepsSeen, other_file}
 use Rattle.open_files.specs.posix_frames.Handles.{Opens-closed}
 use Rattle.open_files.specs.posix_frames.Needs.{AreInFlight, LetsBe}
-use Rattle.crash_spec.specs.Busy.{waits_for}
+use Rattle.open_files.specs.crash_spec.Busy.{waits_for}
 use Rattle.flight_steps.specs.world_rules.Jobs.{begun_of, Job, JobsStand, live_claims, Valid}
 use Rattle.flight_steps.specs.world_rules.Stands.{number, Stands}
 use Rattle.flight_steps.specs.world_steps.Steps.{flight_of, flights_of, GoOn, HaveSameFiles, InFlight-job, LetsJobsBe}

@@ -7,12 +7,12 @@ use Rattle.pm_words.specs.Words.{Words}
 use Rattle.disk_places.specs.Places.{Geometry}
 use Rattle.disk_lines.specs.declared.Kind.{Kind}
 use Rattle.disk_lines.specs.declared.Kind.TheVariants.{Directory, File, Free, Staging}
-use Rattle.disk_rules.specs.Volume.{Volume}
+use Rattle.file_ends.specs.disk_rules.Volume.{Volume}
 use Rattle.file_ends.specs.Ends.{FilesEnd}
-use Rattle.file_table.specs.Files.{Files, runs_in}
-use Rattle.k_journal.specs.Commits.{TakesAStep}
-use Rattle.k_rules.specs.Spaces.{volume_space}
-use Rattle.k_rules.specs.View.{View}
+use Rattle.file_ends.specs.file_table.Files.{Files, runs_in}
+use Rattle.file_ends.specs.k_journal.Commits.{TakesAStep}
+use Rattle.file_ends.specs.k_rules.Spaces.{volume_space}
+use Rattle.file_ends.specs.k_rules.View.{View}
 use Rattle.flight_steps.specs.k_split.declared.faults.KFault.{KFault}
 use Rattle.flight_steps.specs.k_split.Looks.{IsFound}
 use Rattle.lost_devices.specs.Left.{IsLeftOf}
@@ -30,11 +30,11 @@ use Rattle.posix_words.specs.NameRows.{too_long_row, walk_row}
 use Rattle.posix_words.specs.Names.{node_at_path}
 use Rattle.posix_words.specs.Open.{Tables}
 use Rattle.posix_words.specs.Outcomes.{answer}
-use Rattle.posix_spec.specs.Afforded.{moves_data}
-use Rattle.posix_spec.specs.Run.{after_call, run}
-use Rattle.posix_spec.specs.State.{alone, State, swept}
-use Rattle.posix_spec.specs.Step.{step}
-use Rattle.posix_spec.specs.Tree.{tree}
+use Rattle.open_files.specs.posix_spec.Afforded.{moves_data}
+use Rattle.open_files.specs.posix_spec.Run.{after_call, run}
+use Rattle.open_files.specs.posix_spec.State.{alone, State, swept}
+use Rattle.open_files.specs.posix_spec.Step.{step}
+use Rattle.open_files.specs.posix_spec.Tree.{tree}
 use Rattle.flight_steps.specs.volume_changes.Changes.{MayDrop}
 use Rattle.flight_steps.specs.world_rules.Jobs.{begun_of, Job}
 use Rattle.flight_steps.specs.world_rules.Stands.{number}

@@ -20,7 +20,8 @@ mod names;
 mod opens;
 mod outcomes;
 
-pub use flight_steps::{file_reads, k_split};
+pub use file_ends::file_table;
+pub use flight_steps::{file_reads, k_split, map_collection};
 pub use looks::{list, stat};
 pub use names::{mkdir, rename, rmdir, unlink};
 pub use open_files;

@@ -1,7 +1,7 @@
 //! The calls that look at a path.
 ghost use Rattle.std.specs.Prelude.{◌≡◌, ◌<◌, length, true, Ok};
 ghost use Rattle.disk_lines.specs.declared.Kind.TheVariants.{File};
-ghost use Rattle.file_table.specs.Files.{Files, size_in};
+ghost use Rattle.file_ends.specs.file_table.Files.{Files, size_in};
 ghost use Rattle.pm_words.specs.Powers.{is_on, Supply};
 ghost use Rattle.posix_types.specs.declared.call.Call.{Call};
 ghost use Rattle.posix_types.specs.declared.call.Who.{Who};
@@ -10,7 +10,7 @@ ghost use Rattle.flight_names.specs.Answers.{IsEnded, stat_by};
 
 use crate::outcomes::{NoMemory, Told, after_fault, answered};
 use disk_lines::{Inode, Kind};
-use file_table::FileTable;
+use file_ends::file_table::FileTable;
 use flight_steps::k_split::KSplit;
 use posix_types::{NameList, Path, Reply, Stat};
 use std::alloc::Global;

@@ -1,12 +1,12 @@
 //! The calls on descriptors.
 ghost use Rattle.std.specs.Prelude.{◌≡◌, ◌&&◌, ◌<◌, ◌^◌, length, nat_lt, [], true, false, Ok};
-ghost use Rattle.path_spelling.specs.Spelling.{AreSpelled};
+ghost use Rattle.file_ends.specs.path_spelling.Spelling.{AreSpelled};
 ghost use Rattle.pm_words.specs.Powers.{is_on, Steps, Supply};
 ghost use Rattle.disk_lines.specs.declared.Kind.TheVariants.{File};
-ghost use Rattle.disk_rules.specs.Volume.{inode};
-ghost use Rattle.file_table.specs.Files.{Files, runs_in, size_in};
-ghost use Rattle.k_rules.specs.Spaces.{is_directory_in};
-ghost use Rattle.k_rules.specs.View.{View};
+ghost use Rattle.file_ends.specs.disk_rules.Volume.{inode};
+ghost use Rattle.file_ends.specs.file_table.Files.{Files, runs_in, size_in};
+ghost use Rattle.file_ends.specs.k_rules.Spaces.{is_directory_in};
+ghost use Rattle.file_ends.specs.k_rules.View.{View};
 ghost use Rattle.flight_steps.specs.k_split.Looks.{IsFound};
 ghost use Rattle.posix_types.specs.declared.call.Call.{Call};
 ghost use Rattle.flight_names.specs.Answers.{most_steps, told_of_open, CutsNothingStaged, IsEnded, IsMissing, KeepsEnds};
@@ -14,7 +14,7 @@ ghost use Rattle.flight_names.specs.Runs.{RunsInSome};
 
 use crate::outcomes::{NoMemory, Told, after_fault, answered};
 use disk_lines::Kind;
-use file_table::FileTable;
+use file_ends::file_table::FileTable;
 use flight_steps::k_split::KSplit;
 use open_files::{OpenFault, OpenFiles};
 use pm_lines::Power;

@@ -2,10 +2,10 @@
 use Rattle.std.specs.Prelude.{◌≡◌, ◌+◌, ◌*◌, ℕ, List, [], length, Ok, refl}
 use Rattle.std.proofs.Common.{sym, subst}
 use Rattle.file_overlay.specs.declared.runs.Run.{Run}
-use Rattle.file_table.specs.Files.{ChangesFile, Files, runs_in, size_in}
+use Rattle.flight_relinks.specs.file_table.Files.{ChangesFile, Files, runs_in, size_in}
 use Rattle.flight_relinks.specs.fsync_relink.Publishes.{IsCarriedOut, IsPublishDone, IsPublishStopped, MayPublish}
-use Rattle.k_journal.specs.declared.outcomes.Commit.{Commit}
-use Rattle.k_rules.specs.View.{View}
+use Rattle.flight_relinks.specs.k_journal.declared.outcomes.Commit.{Commit}
+use Rattle.flight_relinks.specs.k_rules.View.{View}
 use Rattle.flight_relinks.specs.k_split.declared.faults.KFault.{KFault}
 use Rattle.pm_words.specs.Powers.{Steps, Supply}
 use Rattle.flight_publishes.specs.Answers.{IsFilePublished, with_files}

@@ -4,16 +4,16 @@ use Rattle.std.specs.declared.alloc.AllocError.{AllocError}
 use Rattle.pm_words.specs.declared.Cell.{Cell}
 use Rattle.pm_words.specs.Words.{Words}
 use Rattle.disk_places.specs.Places.{Geometry}
-use Rattle.file_table.specs.Files.{ChangesFile, Files, runs_in, size_in}
+use Rattle.flight_relinks.specs.file_table.Files.{ChangesFile, Files, runs_in, size_in}
 use Rattle.flight_relinks.specs.fsync_relink.Publishes.{IsPublishDone, IsPublishStopped}
-use Rattle.k_journal.specs.declared.outcomes.Commit.{Commit}
-use Rattle.k_rules.specs.View.{View}
+use Rattle.flight_relinks.specs.k_journal.declared.outcomes.Commit.{Commit}
+use Rattle.flight_relinks.specs.k_rules.View.{View}
 use Rattle.flight_relinks.specs.k_split.declared.faults.KFault.{KFault}
 use Rattle.posix_types.specs.declared.call.Mode.{Mode}
 use Rattle.posix_types.specs.declared.item.Item.{Item}
 use Rattle.posix_words.specs.Open.{Tables}
-use Rattle.posix_spec.specs.Run.{run}
-use Rattle.posix_spec.specs.State.{State}
+use Rattle.flight_relinks.specs.posix_spec.Run.{run}
+use Rattle.flight_relinks.specs.posix_spec.State.{State}
 use Rattle.flight_relinks.specs.world_images.Promised.{IsKept}
 use Rattle.flight_relinks.specs.world_lent.Back.{IsPutBack}
 use Rattle.flight_relinks.specs.world_rules.Jobs.{begun_of}

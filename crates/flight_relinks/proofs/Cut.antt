@@ -7,14 +7,14 @@ use Rattle.pm_words.specs.Images.{ComesFrom, IsImage}
 use Rattle.pm_words.specs.Words.{Words}
 use Rattle.disk_places.specs.Journal.{IsSound, journaled}
 use Rattle.disk_lines.specs.declared.Draft.{Draft}
-use Rattle.disk_rules.specs.Reading.{Reads}
-use Rattle.disk_rules.specs.Volume.{Volume}
-use Rattle.k_rules.specs.Stands.{IsOldOrNew}
+use Rattle.flight_changes.specs.disk_rules.Reading.{Reads}
+use Rattle.flight_changes.specs.disk_rules.Volume.{Volume}
+use Rattle.flight_changes.specs.k_rules.Stands.{IsOldOrNew}
 use Rattle.list_facts.specs.Members.{In}
 use Rattle.posix_types.specs.declared.call.Mode.{Mode}
 use Rattle.posix_types.specs.declared.item.Item.{Item}
-use Rattle.posix_spec.specs.Run.{run}
-use Rattle.posix_spec.specs.State.{State}
+use Rattle.flight_changes.specs.posix_spec.Run.{run}
+use Rattle.flight_changes.specs.posix_spec.State.{State}
 use Rattle.flight_changes.specs.world_rules.Jobs.{begun_of, Job, staged_block}
 use Rattle.flight_changes.specs.world_rules.Promised.{AreWhole}
 use Rattle.flight_changes.specs.world_rules.Shown.{AreFilled, landed_pairs}

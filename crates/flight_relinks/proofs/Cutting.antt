@@ -10,21 +10,21 @@ use Rattle.disk_places.specs.Journal.{journaled}
 use Rattle.disk_places.specs.Places.{Geometry, log_line}
 use Rattle.disk_lines.specs.declared.Draft.{Draft}
 use Rattle.disk_lines.specs.Entries.{encode_entry, held_seq, is_self_valid}
-use Rattle.disk_rules.specs.Honest.{IsHonest, IsHonestWith}
-use Rattle.disk_rules.specs.Volume.{Volume}
+use Rattle.flight_changes.specs.disk_rules.Honest.{IsHonest, IsHonestWith}
+use Rattle.flight_changes.specs.disk_rules.Volume.{Volume}
 use Rattle.file_overlay.specs.declared.runs.Run.{Run}
-use Rattle.file_table.specs.Files.{Files, runs_in, size_in}
+use Rattle.world_standing.specs.file_table.Files.{Files, runs_in, size_in}
 use Rattle.fsync_relink.proofs.NextLaws.{next-may}
 use Rattle.fsync_relink.specs.Publishes.{IsPublishStopped, IsRelinkedUpTo, IsResized, MayPublish}
-use Rattle.k_rules.specs.View.{View}
+use Rattle.flight_changes.specs.k_rules.View.{View}
 use Rattle.fsync_relink.specs.k_split.declared.faults.KFault.{KFault}
 use Rattle.fsync_relink.specs.k_split.MapChanges.{IsRelinkAnswer}
 use Rattle.world_standing.specs.overlay_facts.Overlays.{IsOverlayOf}
 use Rattle.posix_types.specs.declared.call.Mode.{Mode}
 use Rattle.posix_types.specs.declared.item.Item.{Item}
 use Rattle.posix_words.specs.Open.{Tables}
-use Rattle.posix_spec.specs.Run.{run}
-use Rattle.posix_spec.specs.State.{State}
+use Rattle.flight_changes.specs.posix_spec.Run.{run}
+use Rattle.flight_changes.specs.posix_spec.State.{State}
 use Rattle.flight_changes.specs.world_images.Images.{StandsFor}
 use Rattle.flight_changes.specs.world_images.Promised.{IsKept, KeepsPromise}
 use Rattle.flight_changes.specs.world_images.Running.{promise_now}

@@ -2,16 +2,16 @@
 use Rattle.std.specs.Prelude.{◌≡◌, ℕ, Bool, false, List, [], ◌∷◌, map, refl}
 use Rattle.std.proofs.Common.{sym, subst}
 use Rattle.disk_places.specs.Places.{Geometry}
-use Rattle.disk_rules.specs.Volume.{Volume}
+use Rattle.flight_changes.specs.disk_rules.Volume.{Volume}
 use Rattle.file_overlay.specs.declared.runs.Run.{Run}
-use Rattle.file_table.specs.Files.{runs_in, size_in}
+use Rattle.world_standing.specs.file_table.Files.{runs_in, size_in}
 use Rattle.fsync_relink.specs.Publishes.{MayPublish}
-use Rattle.k_rules.specs.View.{View}
+use Rattle.flight_changes.specs.k_rules.View.{View}
 use Rattle.fsync_relink.specs.k_split.MapChanges.{ChangesMaps, IsMapCut, IsMovedWith}
 use Rattle.posix_types.specs.declared.item.Item.{Item}
 use Rattle.posix_words.specs.Open.{Tables}
-use Rattle.posix_spec.specs.Run.{run}
-use Rattle.posix_spec.specs.State.{State}
+use Rattle.flight_changes.specs.posix_spec.Run.{run}
+use Rattle.flight_changes.specs.posix_spec.State.{State}
 use Rattle.flight_changes.specs.world_images.Promised.{IsKept}
 use Rattle.flight_changes.specs.world_rules.Jobs.{begun_of, Job}
 use Rattle.flight_changes.specs.world_steps.Steps.{AreBeside}

@@ -5,8 +5,8 @@ use Rattle.std.proofs.lemmas.Bool.{cases_eq, eq-eqb, lt-ltb, ne_eqb}
 use Rattle.std.proofs.lemmas.Bool.Decides.{Decides-eqb, nat_tests}
 use Rattle.extent_words.specs.declared.Extent.{Extent}
 use Rattle.disk_lines.specs.declared.Draft.{Draft}
-use Rattle.disk_rules.specs.Live.{is_file, is_live, is_of_file}
-use Rattle.disk_rules.specs.Volume.{inode, Volume}
+use Rattle.flight_changes.specs.disk_rules.Live.{is_file, is_live, is_of_file}
+use Rattle.flight_changes.specs.disk_rules.Volume.{inode, Volume}
 use Rattle.list_facts.specs.Filters.{filter-agree, filter-both, filter-In}
 use Rattle.list_facts.specs.Members.{In}
 use Rattle.flight_changes.specs.world_rules.Jobs.{live_claims}

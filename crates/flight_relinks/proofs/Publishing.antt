@@ -5,19 +5,19 @@ use Rattle.std.proofs.lemmas.Bool.{cases_eq, cases_lt}
 use Rattle.std.proofs.lemmas.List.{get_or_past, set-get_or}
 use Rattle.disk_places.specs.Places.{Geometry}
 use Rattle.disk_lines.specs.declared.Draft.{Draft}
-use Rattle.disk_rules.specs.Content.{size_by}
-use Rattle.disk_rules.specs.Live.{latest}
-use Rattle.disk_rules.specs.Volume.{inode, Volume}
+use Rattle.flight_changes.specs.disk_rules.Content.{size_by}
+use Rattle.flight_changes.specs.disk_rules.Live.{latest}
+use Rattle.flight_changes.specs.disk_rules.Volume.{inode, Volume}
 use Rattle.file_overlay.specs.declared.runs.Run.{Run}
 use Rattle.file_overlay.specs.Runs.{Overlaid}
-use Rattle.file_table.specs.Files.{ChangesFile, Files, nothing_laid, runs_in, size_in, spare_in}
+use Rattle.world_standing.specs.file_table.Files.{ChangesFile, Files, nothing_laid, runs_in, size_in, spare_in}
 use Rattle.fsync_relink.proofs.NextLaws.{next-may}
 use Rattle.fsync_relink.specs.Publishes.{AreRelinked, IsPublishDone, MayPublish}
-use Rattle.k_rules.specs.View.{View}
+use Rattle.flight_changes.specs.k_rules.View.{View}
 use Rattle.list_facts.specs.Members.{In}
 use Rattle.world_standing.specs.overlay_facts.Overlays.{IsOverlayOf, run_of}
 use Rattle.posix_words.specs.Open.{Tables}
-use Rattle.posix_spec.specs.State.{State}
+use Rattle.flight_changes.specs.posix_spec.State.{State}
 use Rattle.flight_changes.specs.world_rules.Jobs.{live_claims}
 use Rattle.flight_changes.specs.world_rules.Stands.{entries_of}
 use Rattle.flight_changes.specs.world_steps.Steps.{AreBeside}

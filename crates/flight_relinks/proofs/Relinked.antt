@@ -10,27 +10,27 @@ use Rattle.disk_places.specs.Places.{data_blocks, Geometry}
 use Rattle.disk_lines.specs.declared.Draft.{Draft}
 use Rattle.disk_lines.specs.declared.Kind.TheVariants.{File, Staging}
 use Rattle.disk_lines.specs.Entries.{is_draft}
-use Rattle.disk_rules.specs.Content.{size_by, size_of}
-use Rattle.disk_rules.specs.Live.{latest}
-use Rattle.disk_rules.specs.Placed.{block_at}
-use Rattle.disk_rules.specs.Rules.{AreApart}
-use Rattle.disk_rules.specs.Volume.{extents, inode, Volume}
+use Rattle.flight_changes.specs.disk_rules.Content.{size_by, size_of}
+use Rattle.flight_changes.specs.disk_rules.Live.{latest}
+use Rattle.flight_changes.specs.disk_rules.Placed.{block_at}
+use Rattle.flight_changes.specs.disk_rules.Rules.{AreApart}
+use Rattle.flight_changes.specs.disk_rules.Volume.{extents, inode, Volume}
 use Rattle.extent_facts.specs.Covers.{covers-disk_at}
 use Rattle.extent_words.specs.Extents.{covers, disk_at, is_within}
 use Rattle.file_overlay.specs.declared.runs.Run.{Run}
-use Rattle.file_table.specs.Files.{runs_in, size_in}
+use Rattle.world_standing.specs.file_table.Files.{runs_in, size_in}
 use Rattle.fsync_relink.proofs.NextLaws.{may-move}
 use Rattle.fsync_relink.specs.Publishes.{MayPublish, move_of, size_before}
 use Rattle.fsync_relink.specs.k_map_plans.Plans.{MayMove}
 use Rattle.fsync_relink.specs.k_plans.Whole.{IsWhole}
-use Rattle.k_rules.specs.View.{View}
+use Rattle.flight_changes.specs.k_rules.View.{View}
 use Rattle.fsync_relink.specs.k_split.MapChanges.{is_free_in, IsMovedWith}
 use Rattle.list_facts.specs.Filters.{filter-In}
 use Rattle.list_facts.specs.Members.{In}
 use Rattle.fsync_relink.specs.map_facts.Moves.{move_for}
 use Rattle.world_standing.specs.overlay_facts.Overlays.{IsOverlayOf, run_of}
 use Rattle.posix_words.specs.Open.{Tables}
-use Rattle.posix_spec.specs.State.{State}
+use Rattle.flight_changes.specs.posix_spec.State.{State}
 use Rattle.flight_changes.specs.world_images.Images.{HasRoom}
 use Rattle.flight_changes.specs.world_images.Laws.{Takes}
 use Rattle.fsync_relink.proofs.world_relinks_proofs.RelinkLaws.{chain-file, chain-left}

@@ -13,23 +13,23 @@ use Rattle.disk_places.specs.Places.{Geometry, log_line}
 use Rattle.disk_lines.specs.declared.Draft.{Draft}
 use Rattle.disk_lines.specs.declared.Kind.TheVariants.{File}
 use Rattle.disk_lines.specs.Entries.{held_seq, is_self_valid}
-use Rattle.disk_rules.specs.Content.{size_by}
-use Rattle.disk_rules.specs.Live.{latest}
-use Rattle.disk_rules.specs.Volume.{extents, inode, Volume}
+use Rattle.flight_changes.specs.disk_rules.Content.{size_by}
+use Rattle.flight_changes.specs.disk_rules.Live.{latest}
+use Rattle.flight_changes.specs.disk_rules.Volume.{extents, inode, Volume}
 use Rattle.extent_words.specs.Extents.{disk_at, is_within}
 use Rattle.file_overlay.specs.declared.runs.Run.{Run}
-use Rattle.file_table.specs.Files.{ChangesFile, Files, runs_in, size_in, spare_in}
+use Rattle.world_standing.specs.file_table.Files.{ChangesFile, Files, runs_in, size_in, spare_in}
 use Rattle.world_standing.specs.flight_facts.Flying.{IsOut}
 use Rattle.fsync_relink.specs.Publishes.{MayPublish}
 use Rattle.world_standing.specs.held_sums.Laws.{AreSizes}
 use Rattle.world_standing.specs.job_facts.Blocks.{AreOut}
-use Rattle.k_rules.specs.Stands.{Stands}
-use Rattle.k_rules.specs.View.{View}
+use Rattle.flight_changes.specs.k_rules.Stands.{Stands}
+use Rattle.flight_changes.specs.k_rules.View.{View}
 use Rattle.fsync_relink.specs.k_split.MapChanges.{ChangesMaps, IsMapDone, IsRelinkAnswer}
 use Rattle.list_facts.specs.Members.{In}
 use Rattle.world_standing.specs.overlay_facts.Overlays.{IsOverlayOf, run_of}
 use Rattle.posix_words.specs.Open.{Tables}
-use Rattle.posix_spec.specs.State.{State}
+use Rattle.flight_changes.specs.posix_spec.State.{State}
 use Rattle.world_standing.proofs.staging_files_proofs.GiveUpLaws.{staging-file}
 use Rattle.world_standing.proofs.staging_files_proofs.StagedLaws.{free-none}
 use Rattle.world_standing.specs.staging_files.Keeps.{Agrees, has_block, is_kept_free, IsKeptEmpty, IsStaging}

@@ -3,19 +3,19 @@ use Rattle.std.specs.Prelude.{◌≡◌, ℕ, Bool, false, List, [], ◌∷◌, 
 use Rattle.pm_words.specs.declared.Cell.{Cell}
 use Rattle.pm_words.specs.Words.{Words}
 use Rattle.disk_places.specs.Places.{Geometry}
-use Rattle.disk_rules.specs.Volume.{inode, Volume}
+use Rattle.flight_changes.specs.disk_rules.Volume.{inode, Volume}
 use Rattle.file_overlay.specs.declared.runs.Run.{Run}
-use Rattle.file_table.specs.Files.{ChangesFile, Files, runs_in, size_in}
+use Rattle.world_standing.specs.file_table.Files.{ChangesFile, Files, runs_in, size_in}
 use Rattle.fsync_relink.specs.Publishes.{IsPublishDone, IsPublishStopped, MayPublish, move_of, size_before}
-use Rattle.k_rules.specs.View.{View}
+use Rattle.flight_changes.specs.k_rules.View.{View}
 use Rattle.fsync_relink.specs.k_split.declared.faults.KFault.{KFault}
 use Rattle.fsync_relink.specs.k_split.MapChanges.{IsMapCut, IsMovedWith, IsRelinkAnswer}
-use Rattle.map_rules.specs.declared.moves.Move.{Move}
+use Rattle.fsync_relink.specs.map_rules.declared.moves.Move.{Move}
 use Rattle.posix_types.specs.declared.call.Mode.{Mode}
 use Rattle.posix_types.specs.declared.item.Item.{Item}
 use Rattle.posix_words.specs.Open.{Tables}
-use Rattle.posix_spec.specs.Run.{run}
-use Rattle.posix_spec.specs.State.{State}
+use Rattle.flight_changes.specs.posix_spec.Run.{run}
+use Rattle.flight_changes.specs.posix_spec.State.{State}
 use Rattle.flight_changes.specs.world_images.Promised.{IsKept, KeepsPromise}
 use Rattle.flight_changes.specs.world_lent.Back.{IsPutBack}
 use Rattle.flight_changes.specs.world_rules.Jobs.{begun_of}

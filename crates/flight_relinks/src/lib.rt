@@ -36,4 +36,5 @@ pub fn a_file_is_published()
 {}
 
 pub use fsync_relink;
-pub use fsync_relink::k_split;
+pub use fsync_relink::{k_journal, k_split};
+pub use world_standing::file_table;

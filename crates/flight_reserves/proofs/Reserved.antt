@@ -12,17 +12,17 @@ use Rattle.disk_lines.specs.declared.Draft.{Draft}
 use Rattle.disk_lines.specs.declared.Kind.TheVariants.{File}
 use Rattle.disk_lines.specs.Entries.{held_seq, is_self_valid}
 use Rattle.disk_places.specs.Places.{Geometry, log_line, reserve}
-use Rattle.disk_rules.specs.Content.{size_by}
-use Rattle.disk_rules.specs.Live.{latest}
-use Rattle.disk_rules.specs.Room.{unused_blocks}
-use Rattle.disk_rules.specs.Volume.{inode, Volume}
-use Rattle.file_table.specs.Files.{runs_in, size_in}
+use Rattle.flight_changes.specs.disk_rules.Content.{size_by}
+use Rattle.flight_changes.specs.disk_rules.Live.{latest}
+use Rattle.flight_changes.specs.disk_rules.Room.{unused_blocks}
+use Rattle.flight_changes.specs.disk_rules.Volume.{inode, Volume}
+use Rattle.world_standing.specs.file_table.Files.{runs_in, size_in}
 use Rattle.world_standing.specs.flight_facts.Flying.{IsOut}
 use Rattle.world_standing.specs.held_sums.Laws.{AreSizes}
 use Rattle.world_standing.specs.job_facts.Blocks.{AreOut}
 use Rattle.world_relinks.proofs.k_plans_proofs.FreeCounts.{unwaiting-counted}
-use Rattle.k_rules.specs.Stands.{Stands}
-use Rattle.k_rules.specs.View.{View}
+use Rattle.flight_changes.specs.k_rules.Stands.{Stands}
+use Rattle.flight_changes.specs.k_rules.View.{View}
 use Rattle.world_relinks.specs.k_split.Answers.{IsOff}
 use Rattle.world_relinks.specs.k_split.MapChanges.{ChangesMaps, free_blocks_in, IsMapCut, IsMapDone, IsPreallocatedWith}
 use Rattle.list_facts.specs.Members.{In}
@@ -30,8 +30,8 @@ use Rattle.world_standing.specs.overlay_facts.Overlays.{IsOverlayOf, run_of}
 use Rattle.posix_types.specs.declared.call.Mode.{Mode}
 use Rattle.posix_types.specs.declared.item.Item.{Item}
 use Rattle.posix_words.specs.Open.{Tables}
-use Rattle.posix_spec.specs.Run.{Begun, run}
-use Rattle.posix_spec.specs.State.{State}
+use Rattle.flight_changes.specs.posix_spec.Run.{Begun, run}
+use Rattle.flight_changes.specs.posix_spec.State.{State}
 use Rattle.world_standing.specs.staging_files.declared.runs.StageRun.{StageRun}
 use Rattle.world_standing.specs.staging_files.Keeps.{Agrees, AreApart, AreFreeSingle, IsKeptEmpty, IsRunSingle, IsStaged, IsStaging, IsThere, Staged}
 use Rattle.world_standing.specs.staging_files.Reserves.{IsFreeRun, IsGiven, IsTaken, share, wanted, with_out}

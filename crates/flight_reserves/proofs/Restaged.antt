@@ -12,32 +12,32 @@ use Rattle.disk_lines.specs.declared.Draft.{Draft}
 use Rattle.disk_lines.specs.declared.Inode.{Inode}
 use Rattle.disk_lines.specs.declared.Kind.TheVariants.{File, Staging}
 use Rattle.disk_lines.specs.Entries.{is_draft}
-use Rattle.disk_rules.specs.Live.{is_file, is_live, is_of_file}
-use Rattle.disk_rules.specs.Placed.{block_at}
-use Rattle.disk_rules.specs.Reading.{inode_set}
-use Rattle.disk_rules.specs.Room.{unused_blocks}
-use Rattle.disk_rules.specs.Rules.{file_blocks_of}
-use Rattle.disk_rules.specs.Volume.{chain, extents, inode, Volume}
+use Rattle.flight_changes.specs.disk_rules.Live.{is_file, is_live, is_of_file}
+use Rattle.flight_changes.specs.disk_rules.Placed.{block_at}
+use Rattle.flight_changes.specs.disk_rules.Reading.{inode_set}
+use Rattle.flight_changes.specs.disk_rules.Room.{unused_blocks}
+use Rattle.flight_changes.specs.disk_rules.Rules.{file_blocks_of}
+use Rattle.flight_changes.specs.disk_rules.Volume.{chain, extents, inode, Volume}
 use Rattle.extent_facts.specs.Counts.{block_count-mapped, count_below-agree, count_below-range, is_mapped}
 use Rattle.extent_facts.specs.Covers.{covers-disk_at}
 use Rattle.extent_words.specs.declared.Extent.{Extent}
 use Rattle.extent_words.specs.Extents.{block_count, disk_at, is_within}
-use Rattle.volume_facts.specs.Changes.{chain-set_same, inode-set_same}
+use Rattle.flight_changes.specs.volume_facts.Changes.{chain-set_same, inode-set_same}
 use Rattle.world_relinks.specs.volume_maps.Switches.{unused-data}
 use Rattle.world_relinks.specs.volume_maps.Shorts.{in_order-below, length-below}
 use Rattle.flight_changes.specs.volume_uses.PoolLaws.{AreInData, unused-set, unused-uncovered}
 use Rattle.list_facts.specs.Filters.{filter-agree}
 use Rattle.list_facts.specs.Members.{In}
-use Rattle.map_rules.specs.Changes.{aged, HasInOrder, in_order, IsPreallocated}
-use Rattle.map_rules.specs.Taken.{with_map}
+use Rattle.world_relinks.specs.map_rules.Changes.{aged, HasInOrder, in_order, IsPreallocated}
+use Rattle.world_relinks.specs.map_rules.Taken.{with_map}
 use Rattle.world_relinks.specs.k_map_plans.Plans.{IsStagingFile}
-use Rattle.block_pool.specs.FreeSets.{is_among}
+use Rattle.world_relinks.specs.block_pool.FreeSets.{is_among}
 use Rattle.flight_changes.specs.volume_uses.Uses.{is_unused}
 use Rattle.world_relinks.specs.k_plans.Whole.{IsWhole}
-use Rattle.k_rules.specs.View.{View}
+use Rattle.flight_changes.specs.k_rules.View.{View}
 use Rattle.world_relinks.specs.k_split.MapChanges.{is_free_in, IsPreallocatedWith}
 use Rattle.posix_words.specs.Open.{Tables}
-use Rattle.posix_spec.specs.State.{State}
+use Rattle.flight_changes.specs.posix_spec.State.{State}
 use Rattle.world_standing.specs.staging_files.Keeps.{IsKeptEmpty, IsStaging}
 use Rattle.world_standing.proofs.staging_files_proofs.GiveUpLaws.{staging-file}
 use Rattle.flight_changes.specs.world_rules.Jobs.{Job, JobsStand, JobStands, live_claims, staged_block}

@@ -3,13 +3,13 @@ use Rattle.std.specs.Prelude.{◌≡◌, ◌≤◌, ◌+◌, ℕ, Bool, Contains
 use Rattle.pm_words.specs.declared.Cell.{Cell}
 use Rattle.pm_words.specs.Words.{Words}
 use Rattle.disk_places.specs.Places.{Geometry, reserve}
-use Rattle.disk_rules.specs.Room.{unused_blocks}
-use Rattle.k_rules.specs.View.{View}
+use Rattle.flight_changes.specs.disk_rules.Room.{unused_blocks}
+use Rattle.flight_changes.specs.k_rules.View.{View}
 use Rattle.posix_types.specs.declared.call.Mode.{Mode}
 use Rattle.posix_types.specs.declared.item.Item.{Item}
 use Rattle.posix_words.specs.Open.{Tables}
-use Rattle.posix_spec.specs.Run.{Begun, run}
-use Rattle.posix_spec.specs.State.{State}
+use Rattle.flight_changes.specs.posix_spec.Run.{Begun, run}
+use Rattle.flight_changes.specs.posix_spec.State.{State}
 use Rattle.world_standing.specs.staging_files.declared.runs.StageFault.{StageFault}
 use Rattle.world_standing.specs.staging_files.declared.runs.StageRun.{StageRun}
 use Rattle.world_standing.specs.staging_files.Keeps.{AreApart, IsRunSingle, IsThere, Staged}

@@ -7,23 +7,23 @@ use Rattle.pm_words.specs.declared.Cell.{Cell}
 use Rattle.pm_words.specs.Cells.{cell, IsCandidate}
 use Rattle.pm_words.specs.Images.{IsImage}
 use Rattle.pm_words.specs.Words.{line_bytes, Words}
-use Rattle.block_bytes.specs.Overwrites.{SameBesideLines}
+use Rattle.flight_laps.specs.block_bytes.Overwrites.{SameBesideLines}
 use Rattle.disk_places.specs.Journal.{IsSound, journaled}
 use Rattle.disk_places.specs.Places.{base_word, commit_word, Geometry, is_data_block, log_line}
 use Rattle.disk_places.specs.Superblock.{geometry_at, has_magic, has_numbers, has_version}
 use Rattle.disk_lines.specs.declared.Draft.{Draft}
-use Rattle.disk_rules.specs.Rules.{geometry_of, HasTarget}
-use Rattle.disk_rules.specs.Volume.{extents, inode, Volume}
-use Rattle.disk_rules.specs.Rules.{file_blocks_of}
+use Rattle.flight_changes.specs.disk_rules.Rules.{geometry_of, HasTarget}
+use Rattle.flight_changes.specs.disk_rules.Volume.{extents, inode, Volume}
+use Rattle.flight_changes.specs.disk_rules.Rules.{file_blocks_of}
 use Rattle.extent_words.specs.Extents.{disk_at}
 use Rattle.extent_facts.specs.Covers.{covers-disk_at}
 use Rattle.flight_changes.specs.image_facts.ViewLaws.{sound-targets}
 use Rattle.flight_laps.specs.k_map_plans.Plans.{IsStagingFile}
 use Rattle.flight_laps.specs.k_plans.Whole.{IsWhole}
-use Rattle.k_rules.specs.Stands.{Stands}
+use Rattle.flight_changes.specs.k_rules.Stands.{Stands}
 use Rattle.flight_laps.proofs.k_split_proofs.LogLaws.{data_beside, seen}
 use Rattle.flight_laps.specs.k_split.Laps.{IsLogWord}
-use Rattle.posix_spec.specs.State.{State}
+use Rattle.flight_changes.specs.posix_spec.State.{State}
 use Rattle.flight_laps.proofs.staging_files_proofs.GiveUpLaws.{staging-file}
 use Rattle.flight_laps.specs.staging_files.Keeps.{IsStaging}
 use Rattle.flight_changes.specs.volume_uses.PoolLaws.{covered-in_data}

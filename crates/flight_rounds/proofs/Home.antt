@@ -11,19 +11,19 @@ use Rattle.pm_words.specs.Words.{Words}
 use Rattle.disk_lines.specs.declared.Draft.{Draft}
 use Rattle.disk_places.specs.Journal.{journaled}
 use Rattle.disk_places.specs.Places.{Geometry, log_line}
-use Rattle.disk_rules.specs.Honest.{IsHonestWith}
-use Rattle.disk_rules.specs.Volume.{Volume}
+use Rattle.flight_changes.specs.disk_rules.Honest.{IsHonestWith}
+use Rattle.flight_changes.specs.disk_rules.Volume.{Volume}
 use Rattle.flight_laps.specs.flight_facts.Flying.{IsOut}
-use Rattle.k_rules.specs.Stands.{Stands}
-use Rattle.k_rules.specs.View.{View}
+use Rattle.flight_changes.specs.k_rules.Stands.{Stands}
+use Rattle.flight_changes.specs.k_rules.View.{View}
 use Rattle.flight_laps.proofs.k_split_proofs.LoanLaws.{is_lent-Lent}
 use Rattle.flight_laps.specs.k_split.Laps.{IsLogWord}
 use Rattle.flight_laps.specs.k_split.LogLines.{AreLogLines}
 use Rattle.flight_laps.specs.k_split.Order.{IsInOrder}
-use Rattle.lines_out.specs.Lines.{LinesComeBack}
+use Rattle.flight_laps.specs.lines_out.Lines.{LinesComeBack}
 use Rattle.list_facts.specs.Members.{In}
 use Rattle.posix_words.specs.Open.{Tables}
-use Rattle.posix_spec.specs.State.{State}
+use Rattle.flight_changes.specs.posix_spec.State.{State}
 use Rattle.flight_laps.specs.staging_files.Keeps.{Agrees, AreFreeSingle}
 use Rattle.flight_changes.specs.world_images.Images.{HasLogHome, ShowsLog, StandsFor}
 use Rattle.flight_changes.specs.world_lent.Back.{IsPutBack}

@@ -11,18 +11,18 @@ use Rattle.pm_words.specs.Parts.{Part}
 use Rattle.pm_words.specs.Words.{line_bytes, Words}
 use Rattle.disk_lines.specs.Entries.{held_seq, is_self_valid}
 use Rattle.disk_places.specs.Places.{Geometry, log_line}
-use Rattle.disk_rules.specs.Volume.{Volume}
+use Rattle.flight_changes.specs.disk_rules.Volume.{Volume}
 use Rattle.flight_laps.specs.flight_facts.Flying.{IsOut}
-use Rattle.k_rules.specs.Stands.{Stands}
-use Rattle.k_rules.specs.View.{View}
+use Rattle.flight_changes.specs.k_rules.Stands.{Stands}
+use Rattle.flight_changes.specs.k_rules.View.{View}
 use Rattle.flight_laps.proofs.k_split_proofs.LoanLaws.{is_lent-Lent}
 use Rattle.flight_laps.specs.k_split.Laps.{IsLogWord}
 use Rattle.flight_laps.specs.k_split.LogLines.{AreLogLines}
 use Rattle.flight_laps.specs.k_split.Order.{IsInOrder}
-use Rattle.lines_out.specs.Lines.{LinesGoOut}
+use Rattle.flight_laps.specs.lines_out.Lines.{LinesGoOut}
 use Rattle.list_facts.specs.Members.{In}
 use Rattle.posix_words.specs.Open.{Tables}
-use Rattle.posix_spec.specs.State.{State}
+use Rattle.flight_changes.specs.posix_spec.State.{State}
 use Rattle.flight_laps.specs.staging_files.Keeps.{Agrees, AreFreeSingle}
 use Rattle.flight_changes.specs.world_images.Images.{StandsFor}
 use Rattle.flight_changes.specs.world_rules.Jobs.{Job}

@@ -6,13 +6,13 @@ use Rattle.pm_words.specs.Images.{words_of}
 use Rattle.pm_words.specs.Parts.{Part, put_back}
 use Rattle.pm_words.specs.Words.{Words}
 use Rattle.disk_places.specs.Places.{Geometry, log_line}
-use Rattle.k_rules.specs.View.{View}
+use Rattle.flight_changes.specs.k_rules.View.{View}
 use Rattle.flight_laps.specs.k_split.Laps.{IsLogWord}
 use Rattle.flight_laps.specs.k_split.LogLines.{AreLogLines}
 use Rattle.flight_laps.specs.k_split.Order.{IsInOrder}
-use Rattle.lines_out.specs.Lines.{LinesComeBack, LinesGoOut}
+use Rattle.flight_laps.specs.lines_out.Lines.{LinesComeBack, LinesGoOut}
 use Rattle.posix_words.specs.Open.{Tables}
-use Rattle.posix_spec.specs.State.{State}
+use Rattle.flight_changes.specs.posix_spec.State.{State}
 use Rattle.flight_changes.specs.world_log.Lines.{AreLinesOut}
 use Rattle.flight_laps.specs.world_standing.Standing.{Kept, StandsAt}
 use Rattle.flight_laps.specs.Laws.{HasOldLines}

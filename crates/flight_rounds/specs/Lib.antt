@@ -1,2 +1,3 @@
 pub mod Laws
 pub use Rattle.flight_changes.specs.world_lent as world_lent
+pub use Rattle.flight_laps.specs as flight_laps

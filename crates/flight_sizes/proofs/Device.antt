@@ -6,15 +6,15 @@ use Rattle.pm_words.specs.Images.{ComesFrom, IsImage}
 use Rattle.pm_words.specs.Words.{Words}
 use Rattle.disk_places.specs.Journal.{IsSound, journaled}
 use Rattle.disk_lines.specs.declared.Draft.{Draft}
-use Rattle.disk_rules.specs.Content.{byte_in}
-use Rattle.disk_rules.specs.Reading.{Reads}
-use Rattle.disk_rules.specs.Volume.{extents, Volume}
+use Rattle.file_ends.specs.disk_rules.Content.{byte_in}
+use Rattle.file_ends.specs.disk_rules.Reading.{Reads}
+use Rattle.file_ends.specs.disk_rules.Volume.{extents, Volume}
 use Rattle.extent_words.specs.Extents.{disk_at}
-use Rattle.k_rules.specs.Stands.{IsOldOrNew, Stands}
+use Rattle.file_ends.specs.k_rules.Stands.{IsOldOrNew, Stands}
 use Rattle.posix_types.specs.declared.item.Item.{Item}
 use Rattle.posix_types.specs.declared.call.Mode.{Mode}
-use Rattle.posix_spec.specs.Run.{Begun}
-use Rattle.posix_spec.specs.State.{State}
+use Rattle.flight_changes.specs.posix_spec.Run.{Begun}
+use Rattle.flight_changes.specs.posix_spec.State.{State}
 use Rattle.flight_steps.specs.world_standing.world_rules.Jobs.{begun_of, Job}
 use Rattle.flight_steps.specs.world_standing.world_rules.Promised.{AreWhole}
 use Rattle.flight_steps.specs.world_standing.world_rules.Shown.{AreFilled, landed_pairs}

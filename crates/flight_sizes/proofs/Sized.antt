@@ -9,22 +9,22 @@ use Rattle.disk_places.specs.Places.{Geometry, log_line}
 use Rattle.disk_lines.specs.declared.Draft.{Draft}
 use Rattle.disk_lines.specs.declared.Kind.TheVariants.{File, Staging}
 use Rattle.disk_lines.specs.Entries.{held_seq, is_self_valid}
-use Rattle.disk_rules.specs.Content.{size_by}
-use Rattle.disk_rules.specs.Live.{latest}
-use Rattle.disk_rules.specs.Volume.{extents, inode, Volume}
-use Rattle.entry_orders.specs.Orders.{AreOrdered-step_of}
+use Rattle.file_ends.specs.disk_rules.Content.{size_by}
+use Rattle.file_ends.specs.disk_rules.Live.{latest}
+use Rattle.file_ends.specs.disk_rules.Volume.{extents, inode, Volume}
+use Rattle.flight_steps.specs.entry_orders.Orders.{AreOrdered-step_of}
 use Rattle.extent_words.specs.Extents.{disk_at}
-use Rattle.file_table.specs.Files.{ChangesFile, Files, runs_in, size_in, spare_in}
-use Rattle.k_rules.specs.Stands.{Stands}
-use Rattle.k_rules.specs.View.{View}
+use Rattle.file_ends.specs.file_table.Files.{ChangesFile, Files, runs_in, size_in, spare_in}
+use Rattle.file_ends.specs.k_rules.Stands.{Stands}
+use Rattle.file_ends.specs.k_rules.View.{View}
 use Rattle.list_facts.specs.Members.{In}
 use Rattle.posix_types.specs.declared.call.Call.{Call}
 use Rattle.posix_types.specs.declared.call.Who.{Who}
 use Rattle.posix_types.specs.declared.handle.Handle.{Handle}
 use Rattle.posix_words.specs.Open.{Tables}
-use Rattle.posix_spec.specs.Run.{after_call}
-use Rattle.posix_spec.specs.State.{alone, State, with_file}
-use Rattle.posix_spec.specs.Step.{stepped, truncate_done}
+use Rattle.flight_changes.specs.posix_spec.Run.{after_call}
+use Rattle.flight_changes.specs.posix_spec.State.{alone, State, with_file}
+use Rattle.flight_changes.specs.posix_spec.Step.{stepped, truncate_done}
 use Rattle.flight_steps.specs.world_standing.flight_facts.Flying.{IsOut}
 use Rattle.flight_steps.specs.world_standing.held_sums.Laws.{AreSizes}
 use Rattle.flight_steps.specs.world_standing.job_facts.Blocks.{AreOut}

@@ -16,23 +16,23 @@ use Rattle.disk_lines.specs.declared.Inode.{Inode}
 use Rattle.disk_lines.specs.declared.Kind.{Kind}
 use Rattle.disk_lines.specs.declared.Kind.TheVariants.{Directory, File, Free, Staging}
 use Rattle.disk_lines.specs.Names.{row}
-use Rattle.disk_rules.specs.Content.{byte_in, disk_by}
-use Rattle.disk_rules.specs.Live.{is_file, is_live}
-use Rattle.disk_rules.specs.Placed.{block_at}
-use Rattle.disk_rules.specs.Reading.{inode_set}
-use Rattle.disk_rules.specs.Room.{unused_blocks}
-use Rattle.disk_rules.specs.Rules.{file_blocks_of}
-use Rattle.disk_rules.specs.Volume.{chain, extents, inode, Volume}
+use Rattle.file_ends.specs.disk_rules.Content.{byte_in, disk_by}
+use Rattle.file_ends.specs.disk_rules.Live.{is_file, is_live}
+use Rattle.file_ends.specs.disk_rules.Placed.{block_at}
+use Rattle.file_ends.specs.disk_rules.Reading.{inode_set}
+use Rattle.file_ends.specs.disk_rules.Room.{unused_blocks}
+use Rattle.file_ends.specs.disk_rules.Rules.{file_blocks_of}
+use Rattle.file_ends.specs.disk_rules.Volume.{chain, extents, inode, Volume}
 use Rattle.extent_facts.specs.Covers.{covers-disk_at}
 use Rattle.extent_words.specs.Extents.{covers, disk_at, IsCanonical}
-use Rattle.file_table.specs.Files.{size_in}
-use Rattle.k_rules.specs.View.{View}
+use Rattle.file_ends.specs.file_table.Files.{size_in}
+use Rattle.file_ends.specs.k_rules.View.{View}
 use Rattle.list_facts.specs.Filters.{filter-agree}
 use Rattle.log_mount.proofs.Trims.{fewer-blocks, fewer-extents}
 use Rattle.log_mount.proofs.log_replay_proofs.Passed.{chain-counted, map-canonical}
-use Rattle.map_rules.specs.Changes.{IsSized, with_size}
-use Rattle.map_rules.specs.Taken.{with_map}
-use Rattle.volume_facts.specs.Changes.{chain-set_same, extents-set_other, extents-set_same, inode-set_other, inode-set_same}
+use Rattle.file_ends.specs.map_rules.Changes.{IsSized, with_size}
+use Rattle.file_ends.specs.map_rules.Taken.{with_map}
+use Rattle.file_ends.specs.volume_facts.Changes.{chain-set_same, extents-set_other, extents-set_same, inode-set_other, inode-set_same}
 use Rattle.flight_changes.specs.volume_uses.PoolLaws.{AreInData, unused-set}
 use Rattle.flight_steps.specs.k_plans.Whole.{IsWhole}
 use Rattle.flight_steps.specs.world_standing.k_split.MapChanges.{is_free_in, IsSizedWith}
@@ -46,13 +46,13 @@ use Rattle.posix_words.specs.Bytes.{resized}
 use Rattle.posix_words.specs.Nodes.{bytes_of, node_at}
 use Rattle.posix_words.specs.Open.{opened, Tables}
 use Rattle.posix_words.specs.Room.{growth}
-use Rattle.posix_facts.specs.FitsLaws.{length-resized}
+use Rattle.flight_changes.specs.posix_facts.FitsLaws.{length-resized}
 use Rattle.flight_changes.specs.posix_frames.Needs.{needs as needs_of}
-use Rattle.posix_spec.specs.FileRows.{content, file_number}
-use Rattle.posix_spec.specs.Run.{after_call, Begun}
-use Rattle.posix_spec.specs.State.{room, State}
-use Rattle.posix_puts.specs.Views.{need_of}
-use Rattle.crash_spec.specs.Busy.{waits_for}
+use Rattle.flight_changes.specs.posix_spec.FileRows.{content, file_number}
+use Rattle.flight_changes.specs.posix_spec.Run.{after_call, Begun}
+use Rattle.flight_changes.specs.posix_spec.State.{room, State}
+use Rattle.flight_changes.specs.posix_puts.Views.{need_of}
+use Rattle.flight_changes.specs.crash_spec.Busy.{waits_for}
 use Rattle.std.specs.Prelude.{sum_by}
 use Rattle.flight_steps.specs.world_standing.overlay_facts.Overlays.{run_of}
 use Rattle.flight_steps.specs.world_standing.world_rules.Jobs.{Job, JobsStand, live_claims}

@@ -4,19 +4,19 @@ use Rattle.std.proofs.Common.{arith, ap, ◌∙◌, sym, subst, inl, inr}
 use Rattle.std.proofs.lemmas.Bool.{cases_eq}
 use Rattle.std.proofs.lemmas.List.{get_or-replicate, length-replicate}
 use Rattle.block_counts.specs.Counts.{blocks_for}
-use Rattle.block_bytes.specs.Overwrites.{IsOverwrittenWhole}
+use Rattle.flight_steps.specs.block_bytes.Overwrites.{IsOverwrittenWhole}
 use Rattle.pm_words.specs.ImageLaws.{IsImage-words_of}
 use Rattle.pm_words.specs.Images.{words_of}
 use Rattle.pm_words.specs.Words.{byte_of, Words}
 use Rattle.disk_places.specs.Journal.{IsSound, journaled}
 use Rattle.disk_places.specs.PlaceLaws.{behind_log-words}
 use Rattle.disk_places.specs.Places.{Geometry, is_data_block}
-use Rattle.disk_rules.specs.Content.{byte_in}
-use Rattle.disk_rules.specs.Volume.{extents, Volume}
+use Rattle.file_ends.specs.disk_rules.Content.{byte_in}
+use Rattle.file_ends.specs.disk_rules.Volume.{extents, Volume}
 use Rattle.extent_words.specs.Extents.{disk_at}
-use Rattle.file_table.specs.Files.{size_in}
-use Rattle.volume_facts.specs.ImageLaws.{journaled-other}
-use Rattle.volume_facts.specs.LineWords.{data_word, data_word-not_journaled}
+use Rattle.file_ends.specs.file_table.Files.{size_in}
+use Rattle.file_ends.specs.volume_facts.ImageLaws.{journaled-other}
+use Rattle.file_ends.specs.volume_facts.LineWords.{data_word, data_word-not_journaled}
 use Rattle.flight_steps.specs.world_standing.k_split.Bytes.{tail_zeros, zeros_behind}
 use Rattle.flight_steps.specs.world_standing.world_promise.Lent.{in_data}
 use Rattle.flight_steps.specs.world_standing.world_promise.TreeRules.{used_below}

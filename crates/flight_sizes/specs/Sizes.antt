@@ -6,12 +6,12 @@ use Rattle.pm_words.specs.Words.{Words}
 use Rattle.disk_lines.specs.declared.Kind.TheVariants.{File}
 use Rattle.disk_places.specs.Journal.{journaled}
 use Rattle.disk_places.specs.Places.{Geometry}
-use Rattle.disk_rules.specs.Content.{byte_in}
-use Rattle.disk_rules.specs.Volume.{extents, inode, Volume}
+use Rattle.file_ends.specs.disk_rules.Content.{byte_in}
+use Rattle.file_ends.specs.disk_rules.Volume.{extents, inode, Volume}
 use Rattle.extent_words.specs.Extents.{disk_at}
 use Rattle.file_ends.specs.Ends.{FilesEnd}
-use Rattle.file_table.specs.Files.{ChangesFile, Files, runs_in, size_in, spare_in}
-use Rattle.k_rules.specs.View.{View}
+use Rattle.file_ends.specs.file_table.Files.{ChangesFile, Files, runs_in, size_in, spare_in}
+use Rattle.file_ends.specs.k_rules.View.{View}
 use Rattle.flight_steps.specs.world_standing.k_split.Bytes.{IsOverwriteDone, tail_zeros}
 use Rattle.flight_steps.specs.world_standing.k_split.MapChanges.{IsMapCut, IsSizeAnswer, IsSizedWith}
 use Rattle.posix_types.specs.declared.call.Call.{Call}
@@ -22,10 +22,10 @@ use Rattle.posix_types.specs.declared.item.Item.{Item}
 use Rattle.posix_words.specs.Open.{Tables}
 use Rattle.posix_words.specs.Outcomes.{first}
 use Rattle.posix_words.specs.Room.{growth}
-use Rattle.posix_spec.specs.FileRows.{content, truncate_rows}
-use Rattle.posix_spec.specs.Run.{after_call, run}
-use Rattle.posix_spec.specs.State.{room, State}
-use Rattle.crash_spec.specs.Busy.{waits_for}
+use Rattle.flight_changes.specs.posix_spec.FileRows.{content, truncate_rows}
+use Rattle.flight_changes.specs.posix_spec.Run.{after_call, run}
+use Rattle.flight_changes.specs.posix_spec.State.{room, State}
+use Rattle.flight_changes.specs.crash_spec.Busy.{waits_for}
 use Rattle.flight_steps.specs.world_standing.world_rules.Jobs.{begun_of, Job}
 use Rattle.flight_steps.specs.world_standing.world_rules.Stands.{number}
 use Rattle.flight_steps.specs.world_standing.world_promise.JobLaws.{needs}

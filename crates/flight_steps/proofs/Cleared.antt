@@ -2,9 +2,9 @@
 use Rattle.std.specs.Prelude.{◌≡◌, ◌≢◌, ◌≤◌, ◌<◌, ℕ, zero, suc, Bool, true, false, List, [], ◌∷◌, length, slice_index, slice_set, Some, if◌then◌else◌, refl}
 use Rattle.std.proofs.Common.{arith, ap, ◌∙◌, sym, subst}
 use Rattle.std.proofs.lemmas.List.{length-set}
-use Rattle.disk_rules.specs.Live.{is_file}
-use Rattle.disk_rules.specs.Volume.{inode, Volume}
-use Rattle.file_table.specs.Files.{runs_in, size_in, spare_in}
+use Rattle.world_exits.specs.disk_rules.Live.{is_file}
+use Rattle.world_exits.specs.disk_rules.Volume.{inode, Volume}
+use Rattle.world_standing.specs.file_table.Files.{runs_in, size_in, spare_in}
 use Rattle.flight_steps.specs.Laws.{LeavesCleared, size_now}
 
 index_other : (xs : List ℕ) (i j x : ℕ) → j ≢ i → slice_index (slice_set xs i x) j ≡ slice_index xs j

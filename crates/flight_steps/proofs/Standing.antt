@@ -11,22 +11,22 @@ use Rattle.disk_lines.specs.declared.Draft.{Draft}
 use Rattle.disk_lines.specs.declared.Kind.{Kind}
 use Rattle.disk_lines.specs.declared.Kind.TheVariants.{Directory, File, Free, Staging}
 use Rattle.disk_lines.specs.Entries.{held_seq, is_self_valid}
-use Rattle.disk_rules.specs.Content.{size_by}
-use Rattle.disk_rules.specs.Live.{is_file, is_live, latest}
-use Rattle.disk_rules.specs.Volume.{extents, inode, Volume}
-use Rattle.entry_orders.specs.Orders.{AreOrdered}
+use Rattle.world_exits.specs.disk_rules.Content.{size_by}
+use Rattle.world_exits.specs.disk_rules.Live.{is_file, is_live, latest}
+use Rattle.world_exits.specs.disk_rules.Volume.{extents, inode, Volume}
+use Rattle.world_standing.specs.entry_orders.Orders.{AreOrdered}
 use Rattle.extent_words.specs.Extents.{disk_at}
-use Rattle.file_table.specs.Files.{Files, runs_in, size_in, spare_in}
+use Rattle.world_standing.specs.file_table.Files.{Files, runs_in, size_in, spare_in}
 use Rattle.world_standing.specs.flight_facts.Flying.{AreOverlays, IsOut}
 use Rattle.world_standing.specs.held_sums.Laws.{AreSizes}
-use Rattle.k_rules.specs.View.{View}
+use Rattle.world_exits.specs.k_rules.View.{View}
 use Rattle.world_exits.specs.k_split.Answers.{IsDone}
 use Rattle.list_facts.specs.Filters.{filter-In, In-filter}
 use Rattle.list_facts.specs.Members.{In}
 use Rattle.open_numbers.specs.Numbered.{numbered_as}
 use Rattle.world_standing.specs.overlay_facts.Overlays.{IsOverlayOf, run_of}
 use Rattle.posix_words.specs.Open.{is_open, Tables}
-use Rattle.posix_spec.specs.State.{State}
+use Rattle.world_exits.specs.posix_spec.State.{State}
 use Rattle.world_standing.specs.staging_files.Keeps.{Agrees, IsStaging}
 use Rattle.world_standing.proofs.staging_files_proofs.GiveUpLaws.{staging-file}
 use Rattle.world_standing.specs.job_facts.Blocks.{AreOut}

@@ -3,15 +3,15 @@ use Rattle.std.specs.Prelude.{◌≡◌, ◌≢◌, ◌≤◌, ◌<◌, ◌+◌,
 use Rattle.pm_words.specs.Words.{Words}
 use Rattle.disk_places.specs.Places.{Geometry}
 use Rattle.disk_lines.specs.declared.Kind.TheVariants.{File}
-use Rattle.disk_rules.specs.Live.{is_file}
-use Rattle.disk_rules.specs.Volume.{inode, Volume}
-use Rattle.entry_orders.specs.Orders.{AreOrdered}
-use Rattle.file_table.specs.Files.{ChangesFile, Files, runs_in, size_in, spare_in}
-use Rattle.k_rules.specs.View.{View}
+use Rattle.world_exits.specs.disk_rules.Live.{is_file}
+use Rattle.world_exits.specs.disk_rules.Volume.{inode, Volume}
+use Rattle.world_standing.specs.entry_orders.Orders.{AreOrdered}
+use Rattle.world_standing.specs.file_table.Files.{ChangesFile, Files, runs_in, size_in, spare_in}
+use Rattle.world_exits.specs.k_rules.View.{View}
 use Rattle.world_exits.specs.k_split.Answers.{IsDone}
 use Rattle.open_numbers.specs.Numbered.{numbered_as}
 use Rattle.posix_words.specs.Open.{is_open, Tables}
-use Rattle.posix_spec.specs.State.{State}
+use Rattle.world_exits.specs.posix_spec.State.{State}
 use Rattle.world_exits.specs.world_rules.Stands.{number}
 use Rattle.world_exits.specs.world_steps.Worlds.{IsWorld}
 use Rattle.world_exits.specs.Going.{IsStep}

@@ -19,3 +19,7 @@ pub use Rattle.world_exits.specs.world_steps as world_steps
 pub use Rattle.world_standing.specs as world_standing
 pub use Rattle.world_standing.specs.file_reads as file_reads
 pub use Rattle.world_standing.specs.overlay_facts as overlay_facts
+pub use Rattle.world_exits.specs.block_bytes as block_bytes
+pub use Rattle.world_standing.specs.data_route as data_route
+pub use Rattle.world_standing.specs.entry_orders as entry_orders
+pub use Rattle.world_standing.specs.map_collection as map_collection

@@ -20,4 +20,4 @@ pub fn a_step_leaves_the_world_standing()
 {}
 
 pub use world_exits::k_split;
-pub use world_standing::file_reads;
+pub use world_standing::{file_reads, map_collection};

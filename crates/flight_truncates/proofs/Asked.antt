@@ -4,12 +4,12 @@ use Rattle.std.proofs.Common.{arith, ap, ◌∙◌, sym}
 use Rattle.disk_lines.specs.declared.Draft.{Draft}
 use Rattle.disk_lines.specs.declared.Kind.TheVariants.{File}
 use Rattle.disk_places.specs.Places.{reserve}
-use Rattle.disk_rules.specs.Content.{size_by}
-use Rattle.disk_rules.specs.Live.{latest}
-use Rattle.disk_rules.specs.Volume.{inode}
-use Rattle.file_table.specs.Files.{Files, runs_in, size_in}
+use Rattle.write_drafts.specs.disk_rules.Content.{size_by}
+use Rattle.write_drafts.specs.disk_rules.Live.{latest}
+use Rattle.write_drafts.specs.disk_rules.Volume.{inode}
+use Rattle.write_drafts.specs.file_table.Files.{Files, runs_in, size_in}
 use Rattle.flight_names.proofs.flight_steps_proofs.k_plans_proofs.FreeCounts.{unwaiting-counted}
-use Rattle.k_rules.specs.View.{View}
+use Rattle.write_drafts.specs.k_rules.View.{View}
 use Rattle.posix_types.specs.declared.call.Who.{Who}
 use Rattle.posix_types.specs.declared.handle.Handle.{Handle}
 use Rattle.posix_words.specs.declared.open.Description.{Description}

@@ -8,12 +8,12 @@ use Rattle.pm_words.specs.Words.{Words}
 use Rattle.disk_places.specs.Journal.{journaled}
 use Rattle.disk_places.specs.Places.{Geometry}
 use Rattle.disk_lines.specs.declared.Kind.TheVariants.{File}
-use Rattle.disk_rules.specs.Volume.{inode, Volume}
+use Rattle.write_drafts.specs.disk_rules.Volume.{inode, Volume}
 use Rattle.flight_names.proofs.file_ends_proofs.Ending.{end_sized}
 use Rattle.flight_names.specs.file_ends.Ends.{FilesEnd}
-use Rattle.file_table.specs.Files.{Files, runs_in, size_in}
-use Rattle.k_journal.specs.declared.outcomes.Commit.{Commit}
-use Rattle.k_rules.specs.View.{View}
+use Rattle.write_drafts.specs.file_table.Files.{Files, runs_in, size_in}
+use Rattle.write_drafts.specs.k_journal.declared.outcomes.Commit.{Commit}
+use Rattle.write_drafts.specs.k_rules.View.{View}
 use Rattle.list_facts.specs.Members.{In}
 use Rattle.flight_names.proofs.lost_devices_proofs.Cuts.{left_at, left_map_cut, left_overwritten, left_through}
 use Rattle.flight_names.specs.lost_devices.Left.{IsLeftOf}
@@ -29,13 +29,13 @@ use Rattle.posix_words.specs.declared.open.Description.{Description}
 use Rattle.posix_words.specs.Open.{opened, Tables}
 use Rattle.posix_words.specs.Outcomes.{answer, first}
 use Rattle.posix_words.specs.Room.{growth}
-use Rattle.posix_spec.specs.FileRows.{content, truncate_rows}
-use Rattle.crash_spec.specs.Busy.{waits_for}
-use Rattle.posix_spec.specs.Run.{after_call, run}
-use Rattle.posix_spec.specs.State.{room, State}
-use Rattle.posix_spec.specs.Step.{step}
+use Rattle.write_drafts.specs.posix_spec.FileRows.{content, truncate_rows}
+use Rattle.write_drafts.specs.crash_spec.Busy.{waits_for}
+use Rattle.write_drafts.specs.posix_spec.Run.{after_call, run}
+use Rattle.write_drafts.specs.posix_spec.State.{room, State}
+use Rattle.write_drafts.specs.posix_spec.Step.{step}
 use Rattle.write_drafts.specs.Numbers.{RoomIsKept}
-use Rattle.write_rows.specs.Rows.{truncate_row_by}
+use Rattle.write_drafts.specs.write_rows.Rows.{truncate_row_by}
 use Rattle.flight_cleans.specs.Laws.{KeepsCleaned, MayClean, StandsCleaned}
 use Rattle.flight_sizes.proofs.Cut.{keeps_sized}
 use Rattle.flight_sizes.proofs.Sized.{stands_sized}

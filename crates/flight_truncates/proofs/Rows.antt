@@ -4,8 +4,8 @@ use Rattle.std.specs.Option.{option_map_or}
 use Rattle.std.proofs.Common.{arith, ap, ◌∙◌, sym, subst}
 use Rattle.block_counts.specs.Counts.{held_by, reserve_for}
 use Rattle.disk_places.specs.Places.{data_blocks, Geometry}
-use Rattle.file_table.specs.Files.{Files, runs_in, size_in}
-use Rattle.k_rules.specs.View.{View}
+use Rattle.write_drafts.specs.file_table.Files.{Files, runs_in, size_in}
+use Rattle.write_drafts.specs.k_rules.View.{View}
 use Rattle.open_numbers.specs.Numbered.{described_as}
 use Rattle.posix_types.specs.declared.call.Call.{Call}
 use Rattle.posix_types.specs.declared.call.Who.{Who}
@@ -18,14 +18,14 @@ use Rattle.posix_words.specs.Nodes.{bytes_of, node_at}
 use Rattle.posix_words.specs.Open.{may_write, opened, Tables}
 use Rattle.posix_words.specs.Outcomes.{answer, first, row}
 use Rattle.posix_words.specs.Room.{growth}
-use Rattle.posix_spec.specs.FileRows.{content, file_number, truncate_rows}
-use Rattle.posix_spec.specs.Run.{after_call}
-use Rattle.posix_spec.specs.State.{room, State, with_file}
-use Rattle.posix_spec.specs.Step.{step, stepped, truncate_done}
-use Rattle.crash_spec.specs.Busy.{waits_for}
+use Rattle.write_drafts.specs.posix_spec.FileRows.{content, file_number, truncate_rows}
+use Rattle.write_drafts.specs.posix_spec.Run.{after_call}
+use Rattle.write_drafts.specs.posix_spec.State.{room, State, with_file}
+use Rattle.write_drafts.specs.posix_spec.Step.{step, stepped, truncate_done}
+use Rattle.write_drafts.specs.crash_spec.Busy.{waits_for}
 use Rattle.write_drafts.proofs.Numbers.{length_at}
 use Rattle.write_drafts.specs.Numbers.{RoomIsKept}
-use Rattle.write_rows.specs.Rows.{truncate_row_by}
+use Rattle.write_drafts.specs.write_rows.Rows.{truncate_row_by}
 use Rattle.flight_names.specs.flight_steps.world_rules.Stands.{number}
 use Rattle.flight_names.specs.flight_steps.world_standing.Standing.{Kept}
 use Rattle.flight_names.specs.Runs.{RunsAs, with_files}

@@ -4,7 +4,7 @@ use Rattle.pm_words.specs.declared.Cell.{Cell}
 use Rattle.pm_words.specs.Powers.{is_on, Supply}
 use Rattle.pm_words.specs.Words.{Words}
 use Rattle.disk_places.specs.Places.{Geometry}
-use Rattle.file_table.specs.Files.{ChangesFile, Files, runs_in, spare_in}
+use Rattle.write_drafts.specs.file_table.Files.{ChangesFile, Files, runs_in, spare_in}
 use Rattle.flight_names.specs.flight_steps.k_split.Bytes.{IsOverwriteCut, IsOverwriteDone, tail_zeros}
 use Rattle.flight_names.specs.flight_steps.k_split.declared.faults.KFault.{KFault}
 use Rattle.flight_names.specs.flight_steps.k_split.MapChanges.{IsSizeAnswer}
@@ -13,8 +13,8 @@ use Rattle.flight_names.specs.flight_steps.world_lent.Back.{IsPutBack}
 use Rattle.flight_names.specs.flight_steps.world_promise.JobLaws.{needs as needs_of}
 use Rattle.flight_names.specs.flight_steps.world_rules.Jobs.{begun_of}
 use Rattle.flight_names.specs.flight_steps.world_steps.Steps.{LetsJobsBe}
-use Rattle.k_journal.specs.declared.outcomes.Commit.{Commit}
-use Rattle.k_rules.specs.View.{View}
+use Rattle.write_drafts.specs.k_journal.declared.outcomes.Commit.{Commit}
+use Rattle.write_drafts.specs.k_rules.View.{View}
 use Rattle.flight_names.specs.lost_devices.Left.{IsLeftOf}
 use Rattle.posix_types.specs.declared.call.Call.{Call}
 use Rattle.posix_types.specs.declared.call.Mode.{Mode}
@@ -27,11 +27,11 @@ use Rattle.posix_words.specs.declared.open.Description.{Description}
 use Rattle.posix_words.specs.Open.{opened, Tables}
 use Rattle.posix_words.specs.Outcomes.{answer, first}
 use Rattle.posix_words.specs.Room.{growth}
-use Rattle.posix_spec.specs.FileRows.{content, truncate_rows}
-use Rattle.posix_spec.specs.Run.{after_call, run}
-use Rattle.posix_spec.specs.State.{room, State}
-use Rattle.posix_spec.specs.Step.{step}
-use Rattle.write_rows.specs.Rows.{truncate_row_by}
+use Rattle.write_drafts.specs.posix_spec.FileRows.{content, truncate_rows}
+use Rattle.write_drafts.specs.posix_spec.Run.{after_call, run}
+use Rattle.write_drafts.specs.posix_spec.State.{room, State}
+use Rattle.write_drafts.specs.posix_spec.Step.{step}
+use Rattle.write_drafts.specs.write_rows.Rows.{truncate_row_by}
 use Rattle.flight_names.specs.flight_steps.world_standing.Standing.{Kept}
 use Rattle.flight_names.specs.declared.outcomes.NoMemory.{NoMemory}
 use Rattle.flight_names.specs.Runs.{RunsAs, with_files}

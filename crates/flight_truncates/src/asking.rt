@@ -4,7 +4,7 @@ ghost use Rattle.flight_truncates.specs.Truncates.{IsAsked, IsBeside};
 
 use posix_types::Outcome;
 use posix_words::room::growth;
-use write_rows::truncate_row;
+use write_drafts::write_rows::truncate_row;
 
 /// How it goes.
 #[derive(Debug, Drop)]

@@ -9,7 +9,6 @@ ghost use Rattle.flight_truncates.specs.Truncates.{HasNothingStaged, IsTruncated
 use crate::asking::{Asked, ask};
 use crate::outcomes::Truncated;
 use crate::sizing::give_size;
-use file_table::FileTable;
 use flight_cleans::the_end_of_a_file_is_cleaned_in_flight;
 use flight_names::NoMemory;
 use flight_names::k_split::KSplit;
@@ -18,8 +17,9 @@ use pm_lines::Power;
 use posix_types::{Errno, Handle, Reply, Who};
 use posix_words::outcomes::answer;
 use std::alloc::Global;
+use write_drafts::file_table::FileTable;
 use write_drafts::kept_numbers_are_those_of_the_state;
-use write_rows::room_by;
+use write_drafts::write_rows::room_by;
 
 /// Gives the file of a handle another size, beside writes of other callers that are out, of other
 /// files, and need `needs` blocks together. Nothing is staged of the file, and nothing lies past the

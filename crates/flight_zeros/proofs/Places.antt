@@ -9,13 +9,13 @@ use Rattle.extent_words.specs.Extents.{disk_at}
 use Rattle.disk_places.specs.Journal.{IsSound, journaled}
 use Rattle.disk_places.specs.PlaceLaws.{behind_log-words}
 use Rattle.disk_places.specs.Places.{Geometry, is_data_block}
-use Rattle.disk_rules.specs.Placed.{block_at, IsOutside}
-use Rattle.disk_rules.specs.Volume.{extents, Volume}
-use Rattle.block_bytes.specs.Overwrites.{IsBeside, IsBesideBlocks, IsOverwrittenWhole, StandsIn}
-use Rattle.k_rules.specs.Stands.{IsOldOrNew}
+use Rattle.flight_changes.specs.disk_rules.Placed.{block_at, IsOutside}
+use Rattle.flight_changes.specs.disk_rules.Volume.{extents, Volume}
+use Rattle.world_relinks.specs.block_bytes.Overwrites.{IsBeside, IsBesideBlocks, IsOverwrittenWhole, StandsIn}
+use Rattle.flight_changes.specs.k_rules.Stands.{IsOldOrNew}
 use Rattle.world_relinks.specs.k_split.Bytes.{IsWrittenOver, tail_zeros, zeros_behind}
-use Rattle.volume_facts.specs.ImageLaws.{journaled-other}
-use Rattle.volume_facts.specs.LineWords.{data_word, data_word-not_journaled}
+use Rattle.flight_changes.specs.volume_facts.ImageLaws.{journaled-other}
+use Rattle.flight_changes.specs.volume_facts.LineWords.{data_word, data_word-not_journaled}
 use Rattle.flight_changes.specs.volume_uses.OwnerLaws.{IsOnePlace, one_owner}
 use Rattle.flight_changes.specs.world_promise.Lent.{in_data, once_named}
 use Rattle.flight_changes.specs.world_rules.Stands.{IsSane}

@@ -8,19 +8,19 @@ use Rattle.disk_lines.specs.declared.Draft.{Draft}
 use Rattle.disk_lines.specs.declared.Kind.TheVariants.{File}
 use Rattle.disk_places.specs.Journal.{IsSound, journaled}
 use Rattle.disk_places.specs.Places.{Geometry, is_data_block}
-use Rattle.disk_rules.specs.Content.{byte_in, disk_by, disk_of, entry_of_block}
-use Rattle.disk_rules.specs.Placed.{block_at}
-use Rattle.disk_rules.specs.Volume.{extents, inode, Volume}
+use Rattle.flight_changes.specs.disk_rules.Content.{byte_in, disk_by, disk_of, entry_of_block}
+use Rattle.flight_changes.specs.disk_rules.Placed.{block_at}
+use Rattle.flight_changes.specs.disk_rules.Volume.{extents, inode, Volume}
 use Rattle.extent_words.specs.Extents.{disk_at, is_within}
-use Rattle.block_bytes.specs.Overwrites.{IsOverwrittenWhole}
-use Rattle.data_route.specs.Reads.{source_by, source_of}
+use Rattle.world_relinks.specs.block_bytes.Overwrites.{IsOverwrittenWhole}
+use Rattle.world_standing.specs.data_route.Reads.{source_by, source_of}
 use Rattle.file_overlay.specs.Runs.{place_in}
 use Rattle.world_standing.specs.file_reads.Reads.{block_in, block_of}
-use Rattle.file_table.specs.Files.{runs_in, size_in}
+use Rattle.world_standing.specs.file_table.Files.{runs_in, size_in}
 use Rattle.flight_changes.specs.Changes.{AreSpare}
 use Rattle.flight_changes.proofs.Words.{same_block}
-use Rattle.k_rules.specs.Stands.{IsOldOrNew}
-use Rattle.k_rules.specs.View.{View}
+use Rattle.flight_changes.specs.k_rules.Stands.{IsOldOrNew}
+use Rattle.flight_changes.specs.k_rules.View.{View}
 use Rattle.world_relinks.specs.k_split.Bytes.{tail_zeros}
 use Rattle.world_relinks.specs.k_split.MapChanges.{ChangesMaps, IsMapDone, IsPreallocatedWith}
 use Rattle.list_facts.specs.Filters.{filter-In}
@@ -28,7 +28,7 @@ use Rattle.list_facts.specs.Members.{In}
 use Rattle.world_standing.proofs.overlay_facts_proofs.Overlays.{overlay_is_log, source_is_log}
 use Rattle.world_standing.specs.overlay_facts.Overlays.{run_of}
 use Rattle.posix_words.specs.Open.{Tables}
-use Rattle.posix_spec.specs.State.{State}
+use Rattle.flight_changes.specs.posix_spec.State.{State}
 use Rattle.world_standing.specs.staging_files.declared.runs.StageRun.{StageRun}
 use Rattle.world_standing.specs.staging_files.Keeps.{Staged}
 use Rattle.world_standing.specs.staging_files.Reserves.{IsGiven, share}

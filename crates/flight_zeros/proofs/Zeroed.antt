@@ -8,23 +8,23 @@ use Rattle.pm_words.specs.Cells.{cell, is_lent, is_single}
 use Rattle.pm_words.specs.ImageLaws.{IsImage-words_of}
 use Rattle.pm_words.specs.Images.{ComesFrom, IsImage, words_of}
 use Rattle.pm_words.specs.Words.{Words}
-use Rattle.data_route.specs.declared.reads.Source.TheVariants.{Staged}
-use Rattle.data_route.specs.Reads.{source_by, source_of}
+use Rattle.world_standing.specs.data_route.declared.reads.Source.TheVariants.{Staged}
+use Rattle.world_standing.specs.data_route.Reads.{source_by, source_of}
 use Rattle.extent_words.specs.Extents.{disk_at, is_within}
 use Rattle.disk_lines.specs.declared.Draft.{Draft}
 use Rattle.disk_lines.specs.Entries.{is_draft}
 use Rattle.disk_places.specs.Journal.{is_journal_word, IsSound, journaled}
 use Rattle.disk_places.specs.PlaceLaws.{behind_log-words}
 use Rattle.disk_places.specs.Places.{Geometry, is_data_block, is_journaled_line, log_block, log_line}
-use Rattle.disk_rules.specs.Content.{entry_of_block, size_of}
-use Rattle.disk_rules.specs.Volume.{extents, Volume}
+use Rattle.flight_changes.specs.disk_rules.Content.{entry_of_block, size_of}
+use Rattle.flight_changes.specs.disk_rules.Volume.{extents, Volume}
 use Rattle.file_overlay.specs.Runs.{place_in}
 use Rattle.world_standing.specs.file_reads.Reads.{block_of}
-use Rattle.file_table.specs.Files.{runs_in, size_in}
+use Rattle.world_standing.specs.file_table.Files.{runs_in, size_in}
 use Rattle.world_standing.specs.flight_facts.Flying.{IsFlying}
 use Rattle.world_standing.proofs.flight_facts_proofs.Readable.{flies_readable}
-use Rattle.k_rules.specs.Stands.{Stands}
-use Rattle.k_rules.specs.View.{View}
+use Rattle.flight_changes.specs.k_rules.Stands.{Stands}
+use Rattle.flight_changes.specs.k_rules.View.{View}
 use Rattle.world_relinks.specs.k_split.Bytes.{IsWrittenOver, Overwrites, tail_zeros}
 use Rattle.world_relinks.specs.k_split.Loans.{MayLend}
 use Rattle.world_relinks.specs.k_split.Order.{IsInOrder}
@@ -33,10 +33,10 @@ use Rattle.list_facts.specs.Members.{In}
 use Rattle.world_standing.proofs.overlay_facts_proofs.Overlays.{source_is_log}
 use Rattle.world_standing.specs.overlay_facts.Overlays.{run_of}
 use Rattle.posix_words.specs.Open.{Tables}
-use Rattle.posix_spec.specs.Run.{run}
-use Rattle.posix_spec.specs.State.{State}
+use Rattle.flight_changes.specs.posix_spec.Run.{run}
+use Rattle.flight_changes.specs.posix_spec.State.{State}
 use Rattle.world_standing.specs.staging_files.Keeps.{Agrees}
-use Rattle.volume_facts.specs.LineWords.{data_word, data_word-not_journaled}
+use Rattle.flight_changes.specs.volume_facts.LineWords.{data_word, data_word-not_journaled}
 use Rattle.flight_changes.specs.world_jobs.PlaceSteps.{staging_below}
 use Rattle.flight_changes.specs.world_promise.Latest.{latest-In}
 use Rattle.flight_changes.specs.world_promise.Lent.{in_data}

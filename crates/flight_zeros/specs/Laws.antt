@@ -4,18 +4,18 @@ use Rattle.pm_words.specs.declared.Cell.{Cell}
 use Rattle.pm_words.specs.Words.{Words}
 use Rattle.disk_lines.specs.declared.Kind.TheVariants.{File}
 use Rattle.disk_places.specs.Places.{Geometry}
-use Rattle.disk_rules.specs.Volume.{extents, inode}
+use Rattle.flight_changes.specs.disk_rules.Volume.{extents, inode}
 use Rattle.extent_words.specs.Extents.{disk_at}
 use Rattle.world_standing.specs.file_reads.Reads.{block_in}
-use Rattle.file_table.specs.Files.{runs_in}
-use Rattle.k_rules.specs.View.{View}
+use Rattle.world_standing.specs.file_table.Files.{runs_in}
+use Rattle.flight_changes.specs.k_rules.View.{View}
 use Rattle.world_relinks.specs.k_split.Bytes.{IsOverwriteCut, IsOverwriteDone, tail_zeros}
 use Rattle.world_relinks.specs.k_split.Loans.{MayLend}
 use Rattle.posix_types.specs.declared.call.Mode.{Mode}
 use Rattle.posix_types.specs.declared.item.Item.{Item}
 use Rattle.posix_words.specs.Open.{Tables}
-use Rattle.posix_spec.specs.Run.{Begun, run}
-use Rattle.posix_spec.specs.State.{State}
+use Rattle.flight_changes.specs.posix_spec.Run.{Begun, run}
+use Rattle.flight_changes.specs.posix_spec.State.{State}
 use Rattle.world_standing.specs.staging_files.declared.runs.StageFault.{StageFault}
 use Rattle.world_standing.specs.staging_files.declared.runs.StageRun.{StageRun}
 use Rattle.world_standing.specs.staging_files.Keeps.{Staged}

@@ -4,12 +4,12 @@ use Rattle.pm_words.specs.Images.{IsImage}
 use Rattle.pm_words.specs.Words.{Words}
 use Rattle.disk_places.specs.Journal.{journaled}
 use Rattle.disk_lines.specs.declared.Kind.TheVariants.{File}
-use Rattle.disk_rules.specs.Content.{byte_in}
-use Rattle.disk_rules.specs.Volume.{inode}
+use Rattle.flight_changes.specs.disk_rules.Content.{byte_in}
+use Rattle.flight_changes.specs.disk_rules.Volume.{inode}
 use Rattle.file_overlay.specs.Runs.{staged_at}
 use Rattle.world_standing.specs.file_reads.Reads.{block_in}
-use Rattle.file_table.specs.Files.{Files, runs_in, size_in}
-use Rattle.k_rules.specs.View.{View}
+use Rattle.world_standing.specs.file_table.Files.{Files, runs_in, size_in}
+use Rattle.flight_changes.specs.k_rules.View.{View}
 use Rattle.list_facts.specs.Members.{In}
 use Rattle.flight_changes.specs.world_rules.Jobs.{Job}
 use Rattle.world_standing.specs.Standing.{Kept}

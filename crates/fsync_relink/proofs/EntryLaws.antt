@@ -7,18 +7,18 @@ use Rattle.disk_lines.specs.declared.Draft.{Draft}
 use Rattle.disk_lines.specs.declared.Kind.TheVariants.{File}
 use Rattle.disk_places.specs.Journal.{journaled}
 use Rattle.disk_places.specs.Places.{log_line}
-use Rattle.disk_rules.specs.Content.{content, disk_of, size_of}
-use Rattle.disk_rules.specs.Live.{live_entries}
-use Rattle.disk_rules.specs.Volume.{inode, Volume}
+use Rattle.world_relinks.specs.disk_rules.Content.{content, disk_of, size_of}
+use Rattle.world_relinks.specs.disk_rules.Live.{live_entries}
+use Rattle.world_relinks.specs.disk_rules.Volume.{inode, Volume}
 use Rattle.file_overlay.specs.declared.runs.Run.{Run}
-use Rattle.k_rules.specs.Stands.{IsOldOrNew}
-use Rattle.k_rules.specs.View.{View}
+use Rattle.world_relinks.specs.k_rules.Stands.{IsOldOrNew}
+use Rattle.world_relinks.specs.k_rules.View.{View}
 use Rattle.world_relinks.specs.k_split.MapChanges.{IsRelinkAnswer}
 use Rattle.list_facts.specs.Members.{In}
 use Rattle.world_relinks.specs.live_facts.Logs.{AreSound, CarriesOut, HasSameFiles}
-use Rattle.map_rules.specs.declared.moves.Move.{Move}
-use Rattle.volume_facts.specs.Footprint.{SameLog}
-use Rattle.volume_facts.specs.FootprintLaws.{live_entries-same}
+use Rattle.world_relinks.specs.map_rules.declared.moves.Move.{Move}
+use Rattle.world_relinks.specs.volume_facts.Footprint.{SameLog}
+use Rattle.world_relinks.specs.volume_facts.FootprintLaws.{live_entries-same}
 use Rattle.world_relinks.specs.Images.{IsCarried}
 use Rattle.fsync_relink.specs.Logged.{IsLogged, run_of}
 use Rattle.fsync_relink.specs.Others.{CarriesAllOut, GoesOn, HasPublishedLog, IsPublishedIn, KeepsRest, LeavesEntries}

@@ -10,9 +10,9 @@ use Rattle.pm_words.specs.Words.{Words}
 use Rattle.disk_lines.specs.declared.Draft.{Draft}
 use Rattle.disk_lines.specs.declared.Inode.{Inode}
 use Rattle.disk_places.specs.Journal.{journaled}
-use Rattle.disk_rules.specs.Content.{content, disk_by, entry_of_block, size_by, size_of}
-use Rattle.disk_rules.specs.Live.{latest, live_entries}
-use Rattle.disk_rules.specs.Volume.{inode, Volume}
+use Rattle.world_relinks.specs.disk_rules.Content.{content, disk_by, entry_of_block, size_by, size_of}
+use Rattle.world_relinks.specs.disk_rules.Live.{latest, live_entries}
+use Rattle.world_relinks.specs.disk_rules.Volume.{inode, Volume}
 use Rattle.extent_words.specs.Extents.{is_within}
 use Rattle.file_overlay.specs.declared.runs.Run.{Run}
 use Rattle.file_overlay.specs.Laws.{IsEarlier, LastIsGreatest, NoneHasBlock}
@@ -20,18 +20,18 @@ use Rattle.file_overlay.specs.Runs.{has_block, last_run, place_in}
 use Rattle.world_relinks.specs.k_map_plans.Plans.{MayMove}
 use Rattle.world_relinks.specs.k_plans.Whole.{IsWhole}
 use Rattle.std.specs.declared.alloc.AllocError.{AllocError}
-use Rattle.k_journal.specs.declared.outcomes.Commit.{Commit}
-use Rattle.k_rules.specs.Stands.{IsOldOrNew}
-use Rattle.k_rules.specs.View.{View}
+use Rattle.world_relinks.specs.k_journal.declared.outcomes.Commit.{Commit}
+use Rattle.world_relinks.specs.k_rules.Stands.{IsOldOrNew}
+use Rattle.world_relinks.specs.k_rules.View.{View}
 use Rattle.world_relinks.specs.k_split.MapChanges.{ChangesMaps, is_free_in, IsMovedWith, IsRelinkAnswer}
 use Rattle.world_relinks.specs.k_split.Order.{IsInOrder}
 use Rattle.world_relinks.specs.k_split.declared.faults.KFault.{KFault}
 use Rattle.list_facts.specs.Filters.{filter-In, In-filter}
 use Rattle.list_facts.specs.Members.{In}
 use Rattle.world_relinks.specs.map_facts.Moves.{move_for}
-use Rattle.map_rules.specs.declared.moves.Move.{Move}
-use Rattle.volume_facts.specs.FootprintLaws.{live_entries-same}
-use Rattle.volume_facts.specs.Footprint.{SameLog}
+use Rattle.world_relinks.specs.map_rules.declared.moves.Move.{Move}
+use Rattle.world_relinks.specs.volume_facts.FootprintLaws.{live_entries-same}
+use Rattle.world_relinks.specs.volume_facts.Footprint.{SameLog}
 use Rattle.world_relinks.specs.world_promise.Latest.{latest-In, latest-most, latest-none}
 use Rattle.world_relinks.proofs.RelinkLaws.{geometry-same, line-file}
 use Rattle.world_relinks.proofs.WorldLaws.{keeps-content}

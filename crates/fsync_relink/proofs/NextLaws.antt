@@ -9,17 +9,17 @@ use Rattle.disk_lines.specs.declared.Inode.{Inode}
 use Rattle.disk_lines.specs.declared.Kind.{Kind}
 use Rattle.disk_lines.specs.declared.Kind.TheVariants.{File, Staging}
 use Rattle.disk_places.specs.Places.{reserve}
-use Rattle.disk_rules.specs.Volume.{extents, inode, Volume}
+use Rattle.world_relinks.specs.disk_rules.Volume.{extents, inode, Volume}
 use Rattle.extent_words.specs.Extents.{disk_at, is_within}
 use Rattle.file_overlay.specs.declared.runs.Run.{Run}
 use Rattle.world_relinks.specs.k_map_plans.Plans.{IsLiveFile, IsStagingFile, MayMove}
 use Rattle.world_relinks.specs.k_plans.View.{node_at}
 use Rattle.world_relinks.specs.k_plans.Whole.{IsWhole}
-use Rattle.k_rules.specs.Spaces.{is_free}
-use Rattle.k_rules.specs.View.{View}
+use Rattle.world_relinks.specs.k_rules.Spaces.{is_free}
+use Rattle.world_relinks.specs.k_rules.View.{View}
 use Rattle.world_relinks.specs.k_split.MapChanges.{is_free_in, IsMovedSingle, IsRelinkAnswer}
 use Rattle.world_relinks.specs.k_split.Order.{IsInOrder}
-use Rattle.map_rules.specs.declared.moves.Move.{Move}
+use Rattle.world_relinks.specs.map_rules.declared.moves.Move.{Move}
 use Rattle.world_relinks.proofs.k_plans_proofs.FreeCounts.{unwaiting-counted}
 use Rattle.fsync_relink.specs.Publishes.{has_staged, IsStagedRun, MayPublish, move_of, ShareNone, size_before}
 use Rattle.world_relinks.proofs.RelinkLaws.{count-same, geometry-same, kind-same, line-file, map-left, map-other}

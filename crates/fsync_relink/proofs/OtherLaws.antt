@@ -5,14 +5,14 @@ use Rattle.std.proofs.lemmas.Bool.{cases_Bool}
 use Rattle.std.proofs.lemmas.List.Elements.{All-head, All-tail}
 use Rattle.disk_lines.specs.declared.Inode.{Inode}
 use Rattle.disk_places.specs.Places.{reserve}
-use Rattle.disk_rules.specs.Volume.{extents, inode}
+use Rattle.world_relinks.specs.disk_rules.Volume.{extents, inode}
 use Rattle.extent_words.specs.Extents.{disk_at}
 use Rattle.file_overlay.specs.declared.runs.Run.{Run}
 use Rattle.world_relinks.specs.k_map_plans.Plans.{IsLiveFile, IsStagingFile, MayMove}
 use Rattle.world_relinks.proofs.k_plans_proofs.FreeCounts.{unwaiting-counted}
-use Rattle.k_rules.specs.View.{View}
+use Rattle.world_relinks.specs.k_rules.View.{View}
 use Rattle.world_relinks.specs.k_split.MapChanges.{free_blocks_in, is_free_in, IsRelinkAnswer, IsSizeAnswer}
-use Rattle.map_rules.specs.declared.moves.Move.{Move}
+use Rattle.world_relinks.specs.map_rules.declared.moves.Move.{Move}
 use Rattle.fsync_relink.specs.Others.{AllApart, GoesOn, KeepsRest, LeavesOthers, LeavesRoom}
 use Rattle.fsync_relink.specs.Publishes.{AreRelinked, has_staged, IsStagedRun, MayPublish, move_of, ShareNone, size_before}
 use Rattle.fsync_relink.proofs.NextLaws.{may-move, next-may, run-stays, staged-stays}

@@ -7,10 +7,10 @@ use Rattle.std.proofs.lemmas.List.{length-set}
 use Rattle.block_counts.specs.Counts.{blocks_for}
 use Rattle.disk_lines.specs.declared.Inode.{Inode}
 use Rattle.disk_lines.specs.declared.Kind.TheVariants.{File, Staging}
-use Rattle.disk_rules.specs.Reading.{inode_set}
-use Rattle.disk_rules.specs.Room.{unused_blocks}
-use Rattle.disk_rules.specs.Rules.{file_blocks_of}
-use Rattle.disk_rules.specs.Volume.{chain, extents, inode, Volume}
+use Rattle.world_relinks.specs.disk_rules.Reading.{inode_set}
+use Rattle.world_relinks.specs.disk_rules.Room.{unused_blocks}
+use Rattle.world_relinks.specs.disk_rules.Rules.{file_blocks_of}
+use Rattle.world_relinks.specs.disk_rules.Volume.{chain, extents, inode, Volume}
 use Rattle.extent_facts.specs.Counts.{block_count-mapped, is_mapped, one_if}
 use Rattle.extent_words.specs.declared.Extent.{Extent}
 use Rattle.extent_words.specs.Extents.{block_count, disk_at, IsCanonical}
@@ -18,11 +18,11 @@ use Rattle.extent_words.specs.Maps.{IsPart}
 use Rattle.world_relinks.specs.k_map_plans.Plans.{IsLiveFile, IsStagingFile}
 use Rattle.world_relinks.proofs.k_plans_proofs.FreeCounts.{unwaiting-counted}
 use Rattle.world_relinks.specs.k_plans.Whole.{IsWhole}
-use Rattle.k_rules.specs.View.{View}
+use Rattle.world_relinks.specs.k_rules.View.{View}
 use Rattle.world_relinks.specs.k_split.MapChanges.{free_blocks_in, is_free_in, IsSizeAnswer}
-use Rattle.map_rules.specs.Changes.{IsSized, with_size}
-use Rattle.map_rules.specs.Taken.{with_map}
-use Rattle.volume_facts.specs.Changes.{extents-set_other, inode-set_other, inode-set_same}
+use Rattle.world_relinks.specs.map_rules.Changes.{IsSized, with_size}
+use Rattle.world_relinks.specs.map_rules.Taken.{with_map}
+use Rattle.world_relinks.specs.volume_facts.Changes.{extents-set_other, inode-set_other, inode-set_same}
 use Rattle.world_relinks.specs.volume_maps.Bounds.{count_below-most}
 use Rattle.world_relinks.specs.volume_maps.Lengths.{begins, disk_before, length-begins, starts}
 use Rattle.world_relinks.specs.volume_uses.PoolLaws.{AreInData, unused-set}

@@ -3,14 +3,14 @@ use Rattle.std.proofs.Common.{◌≡◌, ◌≤◌, ◌<◌, ◌+◌, ◌-◌, �
 use Rattle.std.proofs.lemmas.List.{drop_all}
 use Rattle.pm_words.specs.PowerLaws.{Steps-none, Steps-then}
 use Rattle.pm_words.specs.Powers.{Steps, Supply}
-use Rattle.disk_rules.specs.Volume.{inode}
+use Rattle.world_relinks.specs.disk_rules.Volume.{inode}
 use Rattle.file_overlay.specs.declared.runs.Run.{Run}
-use Rattle.k_rules.specs.View.{View}
+use Rattle.world_relinks.specs.k_rules.View.{View}
 use Rattle.world_relinks.specs.k_split.Answers.{IsPaid}
 use Rattle.disk_places.specs.Places.{reserve}
 use Rattle.world_relinks.specs.k_map_plans.Plans.{MayMove}
 use Rattle.world_relinks.specs.k_split.MapChanges.{free_blocks_in, IsMovedSingle, IsRelinkAnswer, IsSizeAnswer}
-use Rattle.map_rules.specs.declared.moves.Move.{Move}
+use Rattle.world_relinks.specs.map_rules.declared.moves.Move.{Move}
 use Rattle.world_relinks.specs.k_split.Order.{IsInOrder}
 use Rattle.world_relinks.specs.k_split.declared.faults.KFault.{KFault}
 use Rattle.fsync_relink.specs.Publishes.{AreRelinked, IsPublishPaid, IsRelinkedEach, IsRelinkedUpTo, IsResizedOnce, MayPublish, move_of, size_before, stopped_by}

@@ -15,3 +15,7 @@ pub use Rattle.world_relinks.specs.world_runs as world_runs
 pub use Rattle.world_relinks.specs.world_steps as world_steps
 pub use Rattle.world_relinks.specs.posix_frames as posix_frames
 pub use Rattle.world_relinks.specs.world_log as world_log
+pub use Rattle.world_relinks.specs.crash_spec as crash_spec
+pub use Rattle.world_relinks.specs.k_journal as k_journal
+pub use Rattle.world_relinks.specs.map_rules as map_rules
+pub use Rattle.world_relinks.specs.posix_puts as posix_puts

@@ -3,9 +3,9 @@ use Rattle.std.specs.Prelude.{◌≡◌, ◌↔◌, ℕ, List, AllPairs}
 use Rattle.pm_words.specs.Words.{Words}
 use Rattle.disk_lines.specs.declared.Draft.{Draft}
 use Rattle.disk_places.specs.Journal.{journaled}
-use Rattle.disk_rules.specs.Content.{content, disk_of, size_of}
-use Rattle.disk_rules.specs.Live.{live_entries}
-use Rattle.disk_rules.specs.Volume.{Volume}
+use Rattle.world_relinks.specs.disk_rules.Content.{content, disk_of, size_of}
+use Rattle.world_relinks.specs.disk_rules.Live.{live_entries}
+use Rattle.world_relinks.specs.disk_rules.Volume.{Volume}
 use Rattle.file_overlay.specs.declared.runs.Run.{Run}
 use Rattle.file_overlay.specs.Laws.{IsEarlier}
 use Rattle.file_overlay.specs.Runs.{staged_at}

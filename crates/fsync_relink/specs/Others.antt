@@ -6,18 +6,18 @@ use Rattle.pm_words.specs.Words.{Words}
 use Rattle.disk_lines.specs.declared.Draft.{Draft}
 use Rattle.disk_places.specs.Journal.{journaled}
 use Rattle.disk_places.specs.Places.{reserve}
-use Rattle.disk_rules.specs.Content.{content}
-use Rattle.disk_rules.specs.Live.{live_entries}
-use Rattle.disk_rules.specs.Volume.{extents, inode, Volume}
+use Rattle.world_relinks.specs.disk_rules.Content.{content}
+use Rattle.world_relinks.specs.disk_rules.Live.{live_entries}
+use Rattle.world_relinks.specs.disk_rules.Volume.{extents, inode, Volume}
 use Rattle.extent_words.specs.Extents.{disk_at}
 use Rattle.file_overlay.specs.declared.runs.Run.{Run}
 use Rattle.world_relinks.specs.k_map_plans.Plans.{IsStagingFile}
-use Rattle.k_rules.specs.View.{View}
+use Rattle.world_relinks.specs.k_rules.View.{View}
 use Rattle.world_relinks.specs.k_split.MapChanges.{free_blocks_in}
 use Rattle.world_relinks.specs.k_split.Order.{IsInOrder}
 use Rattle.list_facts.specs.Members.{In}
 use Rattle.world_relinks.specs.live_facts.Logs.{AreSound, HasSameFiles}
-use Rattle.volume_facts.specs.Footprint.{SameLog}
+use Rattle.world_relinks.specs.volume_facts.Footprint.{SameLog}
 use Rattle.fsync_relink.specs.Logged.{IsLogged}
 use Rattle.fsync_relink.specs.Publishes.{IsPublishDone, MayPublish, ShareNone}
 

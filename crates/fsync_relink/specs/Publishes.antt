@@ -6,18 +6,18 @@ use Rattle.pm_words.specs.Cells.{cell, is_single}
 use Rattle.pm_words.specs.Powers.{is_on, Supply}
 use Rattle.disk_lines.specs.Lines.{most_bytes}
 use Rattle.disk_places.specs.Places.{reserve}
-use Rattle.disk_rules.specs.Volume.{extents, inode, Volume}
+use Rattle.world_relinks.specs.disk_rules.Volume.{extents, inode, Volume}
 use Rattle.extent_words.specs.Extents.{disk_at, is_within}
 use Rattle.extent_words.specs.Moves.{IsMapped}
 use Rattle.file_overlay.specs.declared.runs.Run.{Run}
 use Rattle.file_overlay.specs.Laws.{IsEarlier}
 use Rattle.file_overlay.specs.Runs.{Overlaid, staged_at}
-use Rattle.k_journal.specs.declared.outcomes.Commit.{Commit}
+use Rattle.world_relinks.specs.k_journal.declared.outcomes.Commit.{Commit}
 use Rattle.world_relinks.specs.k_map_plans.Plans.{IsLiveFile, IsStagingFile}
-use Rattle.k_rules.specs.View.{View}
+use Rattle.world_relinks.specs.k_rules.View.{View}
 use Rattle.world_relinks.specs.k_split.declared.faults.KFault.{KFault}
 use Rattle.world_relinks.specs.k_split.MapChanges.{free_blocks_in, IsRelinkAnswer, IsSizeAnswer}
-use Rattle.map_rules.specs.declared.moves.Move.{Move}
+use Rattle.world_relinks.specs.map_rules.declared.moves.Move.{Move}
 
 -- ---- what it asks for
 

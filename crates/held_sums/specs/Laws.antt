@@ -4,10 +4,10 @@ use Rattle.pm_words.specs.Words.{Words}
 use Rattle.block_counts.specs.Counts.{held_by}
 use Rattle.disk_lines.specs.declared.Draft.{Draft}
 use Rattle.disk_lines.specs.declared.Kind.TheVariants.{File}
-use Rattle.disk_rules.specs.Content.{size_of}
-use Rattle.disk_rules.specs.Volume.{inode, Volume}
+use Rattle.world_promise.specs.disk_rules.Content.{size_of}
+use Rattle.world_promise.specs.disk_rules.Volume.{inode, Volume}
 use Rattle.posix_words.specs.Room.{held}
-use Rattle.posix_spec.specs.State.{State}
+use Rattle.world_promise.specs.posix_spec.State.{State}
 use Rattle.world_promise.specs.world_rules.Stands.{Stands}
 
 -- THE SIZES of the inode lines: that of a file as its live entries give it, and 0 of all else.

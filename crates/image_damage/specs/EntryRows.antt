@@ -9,12 +9,12 @@ use Rattle.disk_lines.specs.Entries.{entry_body, encode_entry, fnv_1a_from, deco
 use Rattle.disk_lines.specs.EntryLaws.{decode_entry-encode_entry}
 use Rattle.disk_lines.specs.Fresh.{fresh}
 use Rattle.disk_lines.specs.Names.{ends_at_root}
-use Rattle.disk_rules.specs.Broken.{HoldAll, log_rules, Breaks}
-use Rattle.disk_rules.specs.Live.{entry_in, live_entries}
-use Rattle.disk_rules.specs.Reading.{Reads}
-use Rattle.disk_rules.specs.Rules.{HasStagingBlocks, CanRecover}
-use Rattle.disk_rules.specs.Volume.{Volume}
-use Rattle.volume_facts.specs.LineWords.{with_line-out, line_bytes-set, line_bytes-other}
+use Rattle.image_facts.specs.disk_rules.Broken.{HoldAll, log_rules, Breaks}
+use Rattle.image_facts.specs.disk_rules.Live.{entry_in, live_entries}
+use Rattle.image_facts.specs.disk_rules.Reading.{Reads}
+use Rattle.image_facts.specs.disk_rules.Rules.{HasStagingBlocks, CanRecover}
+use Rattle.image_facts.specs.disk_rules.Volume.{Volume}
+use Rattle.image_facts.specs.volume_facts.LineWords.{with_line-out, line_bytes-set, line_bytes-other}
 use Rattle.image_facts.specs.BrokenLaws.{BreaksFirst-behind}
 use Rattle.image_facts.specs.FreshLaws.{same-at}
 use Rattle.image_facts.specs.KeptRules.{kept_rules}

@@ -12,8 +12,8 @@ use Rattle.disk_places.specs.Places.{Geometry, IsGeometry, state_line, base_word
 use Rattle.disk_places.specs.SuperLaws.{IsSuperblockOf, superblock-read}
 use Rattle.disk_places.specs.Superblock.{superblock, has_magic, has_version, has_numbers, geometry_at}
 use Rattle.disk_lines.specs.Fresh.{fresh}
-use Rattle.disk_rules.specs.Broken.{at_one, below, FailsFirst, HoldAll, Breaks}
-use Rattle.disk_rules.specs.Rules.{geometry_of, IsWholeBlocks, HasMagic, HasVersion, HasNumbers, HasTarget, HasState}
+use Rattle.image_facts.specs.disk_rules.Broken.{at_one, below, FailsFirst, HoldAll, Breaks}
+use Rattle.image_facts.specs.disk_rules.Rules.{geometry_of, IsWholeBlocks, HasMagic, HasVersion, HasNumbers, HasTarget, HasState}
 use Rattle.image_damage.specs.Damage.{with_word}
 use Rattle.image_facts.specs.FreshLines.{fresh-superblock, geometry_of-fresh, fresh-zero, fresh-state, fresh-commit}
 

@@ -11,9 +11,9 @@ use Rattle.disk_lines.specs.Entries.{is_draft}
 use Rattle.disk_lines.specs.EntryLaws.{FitsDraft}
 use Rattle.disk_lines.specs.Fresh.{empty_inode, fresh}
 use Rattle.disk_lines.specs.Lines.{encode_inode, decode_inode}
-use Rattle.disk_rules.specs.Broken.{HoldAll, Breaks, FailsFirst}
-use Rattle.disk_rules.specs.Reading.{AreBytes}
-use Rattle.disk_rules.specs.Rules.{IsKindAt}
+use Rattle.image_facts.specs.disk_rules.Broken.{HoldAll, Breaks, FailsFirst}
+use Rattle.image_facts.specs.disk_rules.Reading.{AreBytes}
+use Rattle.image_facts.specs.disk_rules.Rules.{IsKindAt}
 use Rattle.image_facts.specs.KeptRules.{kept_rules}
 use Rattle.image_damage.specs.Damage.{with_word, small, wide}
 use Rattle.image_damage.specs.EntryRows.{an_entry, twice_one_order, without_its_block}

@@ -15,14 +15,14 @@ use Rattle.disk_lines.specs.declared.Inode.{Inode}
 use Rattle.disk_lines.specs.Fresh.{fresh}
 use Rattle.disk_lines.specs.Lines.{FreeName, decode_inode, decode_name}
 use Rattle.disk_lines.specs.NameLaws.{decode_name-zeros}
-use Rattle.disk_rules.specs.Broken.{BreaksFirst, head_rules, line_rules, volume_rules, log_rules, rules_of, Breaks}
-use Rattle.disk_rules.specs.Checked.{HasHead}
-use Rattle.disk_rules.specs.FreshVolume.{fresh_inode}
-use Rattle.disk_rules.specs.Reading.{Reads, AreBytes}
-use Rattle.disk_rules.specs.Rules.{geometry_of, IsKindAt, HasInode, IsNameSlot}
-use Rattle.disk_rules.specs.Volume.{Volume, volume, name_at}
-use Rattle.volume_facts.specs.ImageLaws.{journaled-idle}
-use Rattle.volume_facts.specs.LineWords.{with_line-out, line_bytes-set, line_bytes-other}
+use Rattle.image_facts.specs.disk_rules.Broken.{BreaksFirst, head_rules, line_rules, volume_rules, log_rules, rules_of, Breaks}
+use Rattle.image_facts.specs.disk_rules.Checked.{HasHead}
+use Rattle.image_facts.specs.disk_rules.FreshVolume.{fresh_inode}
+use Rattle.image_facts.specs.disk_rules.Reading.{Reads, AreBytes}
+use Rattle.image_facts.specs.disk_rules.Rules.{geometry_of, IsKindAt, HasInode, IsNameSlot}
+use Rattle.image_facts.specs.disk_rules.Volume.{Volume, volume, name_at}
+use Rattle.image_facts.specs.volume_facts.ImageLaws.{journaled-idle}
+use Rattle.image_facts.specs.volume_facts.LineWords.{with_line-out, line_bytes-set, line_bytes-other}
 use Rattle.image_facts.specs.BrokenLaws.{BreaksFirst-behind}
 use Rattle.image_facts.specs.CheckedLaws.{HoldAll-head}
 use Rattle.image_facts.specs.KeptRules.{kept_rules, reads-break}

@@ -10,12 +10,12 @@ use Rattle.disk_lines.specs.declared.Draft.{Draft}
 use Rattle.disk_lines.specs.Entries.{fnv_1a, entry_body, encode_entry, is_draft, decode_entry, held_seq, is_self_valid}
 use Rattle.disk_lines.specs.EntryLaws.{FitsDraft, decode_entry-encode_entry, held_seq-encode_entry, decode_entry-other_seq, is_self_valid-encode_entry}
 use Rattle.disk_lines.specs.Fresh.{fresh}
-use Rattle.disk_rules.specs.Broken.{log_rules, Breaks}
-use Rattle.disk_rules.specs.FreshVolume.{fresh_volume}
-use Rattle.disk_rules.specs.Live.{entry_in, is_live, live_entries}
-use Rattle.disk_rules.specs.Reading.{Reads, AreBytes}
-use Rattle.volume_facts.specs.Lists.{filter_map-agree}
-use Rattle.volume_facts.specs.LineWords.{with_line-out, line_bytes-set, line_bytes-other}
+use Rattle.image_facts.specs.disk_rules.Broken.{log_rules, Breaks}
+use Rattle.image_facts.specs.disk_rules.FreshVolume.{fresh_volume}
+use Rattle.image_facts.specs.disk_rules.Live.{entry_in, is_live, live_entries}
+use Rattle.image_facts.specs.disk_rules.Reading.{Reads, AreBytes}
+use Rattle.image_facts.specs.volume_facts.Lists.{filter_map-agree}
+use Rattle.image_facts.specs.volume_facts.LineWords.{with_line-out, line_bytes-set, line_bytes-other}
 use Rattle.image_facts.specs.BrokenLaws.{BreaksFirst-behind}
 use Rattle.image_facts.specs.FreshLaws.{fresh-reads, fresh-kept, unset-log, filter_map-none, zeros-no_entry, zeros-invalid, held-fresh, unused-fresh}
 use Rattle.image_facts.specs.FreshLines.{AreSmall, small-append, small-zeros, small-u32, fresh-zeros, journaled-fresh}

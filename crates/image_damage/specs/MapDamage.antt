@@ -13,18 +13,18 @@ use Rattle.disk_lines.specs.declared.Kind.TheVariants.{File}
 use Rattle.disk_lines.specs.Fresh.{empty_inode, fresh}
 use Rattle.disk_lines.specs.Lines.{encode_inode, decode_inode, FreeName, decode_name}
 use Rattle.disk_lines.specs.NameLaws.{decode_name-zeros}
-use Rattle.disk_rules.specs.Broken.{Rule, FailsFirst, Breaks}
-use Rattle.disk_rules.specs.Chains.{blocks_from, extent_in, extents_in, chain_of, map_of, SpellsChain}
-use Rattle.disk_rules.specs.Reading.{AreBytes}
-use Rattle.disk_rules.specs.Rules.{HasInode, HasChain, IsNameSlot, IsNamedOnce}
-use Rattle.disk_rules.specs.Uses.{Holds, owners}
-use Rattle.disk_rules.specs.Volume.{Volume, volume, inode_at, name_at, inode, chain, extents, free_inode}
-use Rattle.chain_facts.specs.RuleLaws.{volume-of_words}
-use Rattle.volume_facts.specs.LineWords.{with_line-out, line_bytes-set, line_bytes-other}
+use Rattle.image_facts.specs.disk_rules.Broken.{Rule, FailsFirst, Breaks}
+use Rattle.image_facts.specs.disk_rules.Chains.{blocks_from, extent_in, extents_in, chain_of, map_of, SpellsChain}
+use Rattle.image_facts.specs.disk_rules.Reading.{AreBytes}
+use Rattle.image_facts.specs.disk_rules.Rules.{HasInode, HasChain, IsNameSlot, IsNamedOnce}
+use Rattle.image_facts.specs.disk_rules.Uses.{Holds, owners}
+use Rattle.image_facts.specs.disk_rules.Volume.{Volume, volume, inode_at, name_at, inode, chain, extents, free_inode}
+use Rattle.image_facts.specs.chain_facts.RuleLaws.{volume-of_words}
+use Rattle.image_facts.specs.volume_facts.LineWords.{with_line-out, line_bytes-set, line_bytes-other}
 use Rattle.image_facts.specs.CheckedLaws.{volume-inode}
 use Rattle.image_facts.specs.FreshLaws.{line-fresh, kind-fresh, unset-name, fresh_cases}
 use Rattle.image_facts.specs.FreshLines.{fresh-zero, fresh-zeros}
-use Rattle.disk_rules.specs.FreshVolume.{fresh_inode}
+use Rattle.image_facts.specs.disk_rules.FreshVolume.{fresh_inode}
 use Rattle.image_damage.specs.LineDamage.{AreBytes-test, IsLaidOn, laid-fresh, laid-line, breaks-behind_head}
 use Rattle.image_damage.specs.Damage.{small}
 use Rattle.image_damage.specs.VolumeTests.{passes-from}

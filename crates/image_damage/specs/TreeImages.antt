@@ -12,10 +12,10 @@ use Rattle.disk_lines.specs.declared.Kind.TheVariants.{Free, Directory, File, St
 use Rattle.disk_lines.specs.Fresh.{empty_inode, fresh}
 use Rattle.disk_lines.specs.Lines.{NameRow, Named, is_name_row, encode_inode, decode_inode, encode_name, decode_name}
 use Rattle.disk_lines.specs.NameLaws.{decode_name-encode_name}
-use Rattle.disk_rules.specs.FreshVolume.{fresh_inode, fresh_volume}
-use Rattle.disk_rules.specs.Reading.{Reads, AreBytes, node_set, row_set}
-use Rattle.disk_rules.specs.Volume.{Volume, inode, free_inode}
-use Rattle.volume_facts.specs.SetLaws.{reads-node, reads-row}
+use Rattle.image_facts.specs.disk_rules.FreshVolume.{fresh_inode, fresh_volume}
+use Rattle.image_facts.specs.disk_rules.Reading.{Reads, AreBytes, node_set, row_set}
+use Rattle.image_facts.specs.disk_rules.Volume.{Volume, inode, free_inode}
+use Rattle.image_facts.specs.volume_facts.SetLaws.{reads-node, reads-row}
 use Rattle.image_facts.specs.FreshLaws.{fresh_cases, fresh-reads, inode-fresh}
 use Rattle.image_damage.specs.LineDamage.{AreBytes-test, IsLaidOn, laid-fresh, laid-line}
 

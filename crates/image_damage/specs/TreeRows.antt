@@ -12,11 +12,11 @@ use Rattle.disk_lines.specs.declared.Kind.TheVariants.{Free, Directory, File, St
 use Rattle.disk_lines.specs.Fresh.{empty_inode, fresh}
 use Rattle.disk_lines.specs.Lines.{NameRow, encode_inode, decode_inode, decode_name}
 use Rattle.disk_lines.specs.Names.{row, names_of, ends_at_root}
-use Rattle.disk_rules.specs.Broken.{below, Holds, HoldAll, BreaksFirst, log_rules, Breaks}
-use Rattle.disk_rules.specs.Kept.{IsNamedRow}
-use Rattle.disk_rules.specs.Reading.{AreBytes}
-use Rattle.disk_rules.specs.Rules.{IsKindAt, IsRowPlaced, AreDirectoriesNamed, HasOneName, IsNamedOnce, IsInData, file_blocks_of}
-use Rattle.disk_rules.specs.Volume.{Volume, inode, chain, extents}
+use Rattle.image_facts.specs.disk_rules.Broken.{below, Holds, HoldAll, BreaksFirst, log_rules, Breaks}
+use Rattle.image_facts.specs.disk_rules.Kept.{IsNamedRow}
+use Rattle.image_facts.specs.disk_rules.Reading.{AreBytes}
+use Rattle.image_facts.specs.disk_rules.Rules.{IsKindAt, IsRowPlaced, AreDirectoriesNamed, HasOneName, IsNamedOnce, IsInData, file_blocks_of}
+use Rattle.image_facts.specs.disk_rules.Volume.{Volume, inode, chain, extents}
 use Rattle.pm_words.specs.Words.{with_line}
 use Rattle.image_facts.specs.BrokenLaws.{BreaksFirst-before}
 use Rattle.image_facts.specs.ClimbLaws.{reaches-ends}

@@ -11,10 +11,10 @@ use Rattle.disk_lines.specs.declared.Kind.TheVariants.{Free, Directory, File, St
 use Rattle.disk_lines.specs.Lines.{NameRow}
 use Rattle.disk_lines.specs.Names.{Rows, row, is_entry, names_of, ends_at_root}
 use Rattle.disk_lines.specs.TableLaws.{is_entry-own}
-use Rattle.disk_rules.specs.Kept.{IsNamedRow}
-use Rattle.disk_rules.specs.Live.{is_file, is_directory}
-use Rattle.disk_rules.specs.Rules.{IsKindAt, IsRowPlaced, AreDirectoriesNamed}
-use Rattle.disk_rules.specs.Volume.{Volume, inode, free_inode}
+use Rattle.image_facts.specs.disk_rules.Kept.{IsNamedRow}
+use Rattle.image_facts.specs.disk_rules.Live.{is_file, is_directory}
+use Rattle.image_facts.specs.disk_rules.Rules.{IsKindAt, IsRowPlaced, AreDirectoriesNamed}
+use Rattle.image_facts.specs.disk_rules.Volume.{Volume, inode, free_inode}
 use Rattle.image_facts.specs.ClimbLaws.{ends-reaches}
 
 -- a test at each number below a count

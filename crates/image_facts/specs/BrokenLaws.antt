@@ -3,7 +3,7 @@
 use Rattle.std.specs.Prelude.{◌≡◌, ℕ, List, [], ◌∷◌, ◌++◌}
 use Rattle.std.proofs.Common.{inl, inr, sym, ◌∙◌}
 use Rattle.std.proofs.lemmas.Bool.{cases_order}
-use Rattle.disk_rules.specs.Broken.{Rule, FailsFirst, HoldAll, BreaksFirst}
+use Rattle.volume_facts.specs.disk_rules.Broken.{Rule, FailsFirst, HoldAll, BreaksFirst}
 
 -- of one rule the lowest place is one
 lowest-same : (r : Rule) (p q : ℕ) → FailsFirst r p → FailsFirst r q → p ≡ q

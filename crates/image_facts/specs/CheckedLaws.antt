@@ -9,14 +9,14 @@ use Rattle.disk_places.specs.Places.{Geometry, base_word, first_data, data_block
 use Rattle.disk_lines.specs.declared.Inode.{Inode}
 use Rattle.disk_lines.specs.Lines.{NameRow, NameSlot, FreeName, Named, BadName}
 use Rattle.disk_lines.specs.Names.{row}
-use Rattle.chain_facts.specs.RuleLaws.{volume-of_words, chain-of_rule}
-use Rattle.disk_rules.specs.Broken.{HoldAll, Breaks, head_rules, line_rules, rules_of}
-use Rattle.disk_rules.specs.Checked.{HasHead, AreLinesKept, IsLogKept, IsCheckedAs}
-use Rattle.disk_rules.specs.Chains.{chain_of, map_of}
-use Rattle.disk_rules.specs.Kept.{IsNamedRow, AreKept}
-use Rattle.disk_rules.specs.Reading.{slot_for, Reads}
-use Rattle.disk_rules.specs.Rules.{geometry_of, IsKindAt, IsNameSlot, HasInode, AreRulesKept, IsChecked}
-use Rattle.disk_rules.specs.Volume.{Volume, volume, inode_at, name_at, inode_or_free, free_inode, row_of, inode, chain}
+use Rattle.volume_facts.specs.chain_facts.RuleLaws.{volume-of_words, chain-of_rule}
+use Rattle.volume_facts.specs.disk_rules.Broken.{HoldAll, Breaks, head_rules, line_rules, rules_of}
+use Rattle.volume_facts.specs.disk_rules.Checked.{HasHead, AreLinesKept, IsLogKept, IsCheckedAs}
+use Rattle.volume_facts.specs.disk_rules.Chains.{chain_of, map_of}
+use Rattle.volume_facts.specs.disk_rules.Kept.{IsNamedRow, AreKept}
+use Rattle.volume_facts.specs.disk_rules.Reading.{slot_for, Reads}
+use Rattle.volume_facts.specs.disk_rules.Rules.{geometry_of, IsKindAt, IsNameSlot, HasInode, AreRulesKept, IsChecked}
+use Rattle.volume_facts.specs.disk_rules.Volume.{Volume, volume, inode_at, name_at, inode_or_free, free_inode, row_of, inode, chain}
 use Rattle.volume_facts.specs.ReadingLaws.{reads-volume}
 use Rattle.image_facts.specs.BrokenLaws.{HoldAll-unbroken, BreaksFirst-one}
 

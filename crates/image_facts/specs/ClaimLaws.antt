@@ -7,7 +7,7 @@ use Rattle.pm_words.specs.Words.{Words}
 use Rattle.disk_lines.specs.declared.Draft.{Draft}
 use Rattle.disk_lines.specs.Entries.{encode_entry, is_draft, decode_entry}
 use Rattle.disk_lines.specs.EntryLaws.{FitsDraft, decode_entry-encode_entry}
-use Rattle.disk_rules.specs.LogRule.{cells_of_line, IsAsAtFirst, HoldsClaims}
+use Rattle.volume_facts.specs.disk_rules.LogRule.{cells_of_line, IsAsAtFirst, HoldsClaims}
 
 -- a claim whose number lies past the lines is held by none
 pub claim-past : (base : ℕ) (lines : List (List Cell)) (claims : List (ℕ × Draft)) (first : ℕ → Words) (n : ℕ) (d : Draft)

@@ -24,18 +24,18 @@ use Rattle.disk_lines.specs.Lines.{NameRow, encode_inode, decode_inode, decode_n
 use Rattle.disk_lines.specs.NameLaws.{decode_name-zeros}
 use Rattle.disk_lines.specs.Names.{row, is_child, is_entry, names_of, first_row_from, walk}
 use Rattle.extent_words.specs.declared.Extent.{Extent}
-use Rattle.disk_rules.specs.Chains.{SpellsChain, blocks_from}
-use Rattle.disk_rules.specs.Checked.{HasHead, IsLogKept, IsCheckedAs}
-use Rattle.disk_rules.specs.Content.{size_of, node_by, node_of, bytes_of_file, found, content}
-use Rattle.disk_rules.specs.FreshVolume.{fresh_inode, fresh_volume, root_alone}
-use Rattle.disk_rules.specs.Kept.{AreKept}
-use Rattle.disk_rules.specs.Live.{is_file, is_directory, entry_in, live_entries, is_live}
-use Rattle.disk_rules.specs.Reading.{slot_for, Reads}
-use Rattle.disk_rules.specs.Room.{is_named_file, held_after_recovery, has_none, unused_blocks}
-use Rattle.disk_rules.specs.Rules.{IsKindAt, IsChecked}
-use Rattle.disk_rules.specs.Standing.{IsChain}
-use Rattle.disk_rules.specs.Uses.{Use, uses_by, owners}
-use Rattle.disk_rules.specs.Volume.{Volume, volume, inode_at, inode, chain, extents, free_inode}
+use Rattle.volume_facts.specs.disk_rules.Chains.{SpellsChain, blocks_from}
+use Rattle.volume_facts.specs.disk_rules.Checked.{HasHead, IsLogKept, IsCheckedAs}
+use Rattle.volume_facts.specs.disk_rules.Content.{size_of, node_by, node_of, bytes_of_file, found, content}
+use Rattle.volume_facts.specs.disk_rules.FreshVolume.{fresh_inode, fresh_volume, root_alone}
+use Rattle.volume_facts.specs.disk_rules.Kept.{AreKept}
+use Rattle.volume_facts.specs.disk_rules.Live.{is_file, is_directory, entry_in, live_entries, is_live}
+use Rattle.volume_facts.specs.disk_rules.Reading.{slot_for, Reads}
+use Rattle.volume_facts.specs.disk_rules.Room.{is_named_file, held_after_recovery, has_none, unused_blocks}
+use Rattle.volume_facts.specs.disk_rules.Rules.{IsKindAt, IsChecked}
+use Rattle.volume_facts.specs.disk_rules.Standing.{IsChain}
+use Rattle.volume_facts.specs.disk_rules.Uses.{Use, uses_by, owners}
+use Rattle.volume_facts.specs.disk_rules.Volume.{Volume, volume, inode_at, inode, chain, extents, free_inode}
 use Rattle.volume_facts.specs.Lists.{filter_map-agree, flat_map-agree, sum_by-agree, count_by-agree}
 use Rattle.volume_facts.specs.ReadingLaws.{reads-volume}
 use Rattle.image_facts.specs.CheckedLaws.{checked-parts}

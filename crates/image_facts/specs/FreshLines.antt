@@ -16,8 +16,8 @@ use Rattle.disk_places.specs.Superblock.{superblock, magic, geometry_at}
 use Rattle.disk_lines.specs.declared.Kind.TheVariants.{Directory, Staging}
 use Rattle.disk_lines.specs.Fresh.{empty_inode, with_inode, state_bytes, blank, staging_files, first_inodes, fresh}
 use Rattle.disk_lines.specs.Lines.{encode_inode}
-use Rattle.disk_rules.specs.Reading.{AreBytes}
-use Rattle.disk_rules.specs.Rules.{geometry_of}
+use Rattle.volume_facts.specs.disk_rules.Reading.{AreBytes}
+use Rattle.volume_facts.specs.disk_rules.Rules.{geometry_of}
 use Rattle.volume_facts.specs.ImageLaws.{journaled-idle}
 use Rattle.volume_facts.specs.LineWords.{with_line-in, with_line-out, line_bytes-set, line_bytes-other}
 use Rattle.volume_facts.specs.StateLaws.{state_bytes-first, state_bytes-later}

@@ -9,7 +9,7 @@ use Rattle.pm_words.specs.Frames.{LineIsSingle}
 use Rattle.pm_words.specs.Parts.{put_back}
 use Rattle.pm_words.specs.Words.{Words}
 use Rattle.disk_places.specs.Places.{Geometry, log_line}
-use Rattle.disk_rules.specs.Honest.{HasOlder, HasNewer, SomeHasTwo, EachHasTwo, IsTorn, IsHonest, IsHonestWith}
+use Rattle.volume_facts.specs.disk_rules.Honest.{HasOlder, HasNewer, SomeHasTwo, EachHasTwo, IsTorn, IsHonest, IsHonestWith}
 
 -- A line is not torn that reads as before, or as after stores to each of its words.
 pub older-whole : (cells : ℕ → Cell) (image : Words) (line : ℕ) → HasOlder cells image line → IsTorn cells image line → ⊥

@@ -9,12 +9,12 @@ use Rattle.disk_places.specs.Places.{Geometry, is_data_block}
 use Rattle.disk_lines.specs.declared.Inode.{Inode}
 use Rattle.disk_lines.specs.Lines.{NameRow}
 use Rattle.disk_lines.specs.Names.{row}
-use Rattle.disk_rules.specs.Broken.{Rule, below, FailsFirst, BreaksFirst, HoldAll, head_rules, line_rules, volume_rules, log_rules, Breaks}
-use Rattle.disk_rules.specs.Checked.{HasHead}
-use Rattle.disk_rules.specs.Kept.{IsNamedRow, AreKept}
-use Rattle.disk_rules.specs.Reading.{slot_for, Reads}
-use Rattle.disk_rules.specs.Rules.{geometry_of, IsKindAt, IsNameSlot, HasInode, HasChain, file_blocks_of, IsInData}
-use Rattle.disk_rules.specs.Volume.{Volume, volume, name_at, inode, chain, extents}
+use Rattle.volume_facts.specs.disk_rules.Broken.{Rule, below, FailsFirst, BreaksFirst, HoldAll, head_rules, line_rules, volume_rules, log_rules, Breaks}
+use Rattle.volume_facts.specs.disk_rules.Checked.{HasHead}
+use Rattle.volume_facts.specs.disk_rules.Kept.{IsNamedRow, AreKept}
+use Rattle.volume_facts.specs.disk_rules.Reading.{slot_for, Reads}
+use Rattle.volume_facts.specs.disk_rules.Rules.{geometry_of, IsKindAt, IsNameSlot, HasInode, HasChain, file_blocks_of, IsInData}
+use Rattle.volume_facts.specs.disk_rules.Volume.{Volume, volume, name_at, inode, chain, extents}
 use Rattle.volume_facts.specs.ReadingLaws.{reads-volume}
 use Rattle.image_facts.specs.BrokenLaws.{BreaksFirst-behind}
 use Rattle.image_facts.specs.CheckedLaws.{data-within, HoldAll-head}

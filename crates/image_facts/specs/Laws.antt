@@ -8,15 +8,15 @@ use Rattle.disk_places.specs.Places.{Geometry, IsGeometry}
 use Rattle.disk_lines.specs.declared.Draft.{Draft}
 use Rattle.disk_lines.specs.Fresh.{fresh}
 use Rattle.disk_lines.specs.Names.{Rows, up, ends_at_root}
-use Rattle.disk_rules.specs.Broken.{HoldAll, BreaksFirst, log_rules, rules_of, Breaks}
-use Rattle.disk_rules.specs.Checked.{HasHead, IsCheckedAs}
-use Rattle.disk_rules.specs.Content.{content}
-use Rattle.disk_rules.specs.FreshVolume.{fresh_volume, root_alone}
-use Rattle.disk_rules.specs.Honest.{HasOlder, HasNewer, SomeHasTwo, EachHasTwo, IsTorn}
-use Rattle.disk_rules.specs.LogRule.{HoldsClaims}
-use Rattle.disk_rules.specs.Reading.{Reads}
-use Rattle.disk_rules.specs.Rules.{geometry_of, IsChecked}
-use Rattle.disk_rules.specs.Volume.{Volume, volume}
+use Rattle.volume_facts.specs.disk_rules.Broken.{HoldAll, BreaksFirst, log_rules, rules_of, Breaks}
+use Rattle.volume_facts.specs.disk_rules.Checked.{HasHead, IsCheckedAs}
+use Rattle.volume_facts.specs.disk_rules.Content.{content}
+use Rattle.volume_facts.specs.disk_rules.FreshVolume.{fresh_volume, root_alone}
+use Rattle.volume_facts.specs.disk_rules.Honest.{HasOlder, HasNewer, SomeHasTwo, EachHasTwo, IsTorn}
+use Rattle.volume_facts.specs.disk_rules.LogRule.{HoldsClaims}
+use Rattle.volume_facts.specs.disk_rules.Reading.{Reads}
+use Rattle.volume_facts.specs.disk_rules.Rules.{geometry_of, IsChecked}
+use Rattle.volume_facts.specs.disk_rules.Volume.{Volume, volume}
 use Rattle.image_facts.specs.ClimbLaws.{ReachesRoot}
 use Rattle.image_facts.specs.KeptRules.{kept_rules}
 use Rattle.image_facts.specs.ViewLaws.{HaveSameView, AgreeButLog}

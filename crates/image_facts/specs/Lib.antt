@@ -8,3 +8,6 @@ pub mod HonestLaws
 pub mod KeptRules
 pub mod Laws
 pub mod ViewLaws
+pub use Rattle.volume_facts.specs as volume_facts
+pub use Rattle.volume_facts.specs.chain_facts as chain_facts
+pub use Rattle.volume_facts.specs.disk_rules as disk_rules

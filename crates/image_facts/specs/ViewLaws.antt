@@ -11,12 +11,12 @@ use Rattle.disk_places.specs.Journal.{is_journal_word, record_target, record_wor
 use Rattle.disk_places.specs.Places.{Geometry, state_line, base_word, commit_word, record_line, log_block, log_line, is_data_block, is_journaled_line}
 use Rattle.disk_places.specs.PlaceLaws.{journaled-below_log}
 use Rattle.disk_places.specs.Superblock.{has_magic, has_version, has_numbers, geometry_at}
-use Rattle.disk_rules.specs.Checked.{HasHead, IsLogKept, IsCheckedAs}
-use Rattle.disk_rules.specs.Content.{content_of, content}
-use Rattle.disk_rules.specs.Placed.{block_at}
-use Rattle.disk_rules.specs.Reading.{Reads}
-use Rattle.disk_rules.specs.Rules.{geometry_of, HasTarget, IsChecked}
-use Rattle.disk_rules.specs.Volume.{Volume, volume, chain}
+use Rattle.volume_facts.specs.disk_rules.Checked.{HasHead, IsLogKept, IsCheckedAs}
+use Rattle.volume_facts.specs.disk_rules.Content.{content_of, content}
+use Rattle.volume_facts.specs.disk_rules.Placed.{block_at}
+use Rattle.volume_facts.specs.disk_rules.Reading.{Reads}
+use Rattle.volume_facts.specs.disk_rules.Rules.{geometry_of, HasTarget, IsChecked}
+use Rattle.volume_facts.specs.disk_rules.Volume.{Volume, volume, chain}
 use Rattle.volume_facts.specs.ImageLaws.{journaled-other}
 use Rattle.volume_facts.specs.ReadingLaws.{reads-same}
 use Rattle.image_facts.specs.CheckedLaws.{parts-checked, checked-parts}

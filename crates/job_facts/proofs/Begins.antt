@@ -15,12 +15,12 @@ use Rattle.disk_places.specs.PlaceLaws.{behind_log-words}
 use Rattle.disk_places.specs.Places.{base_word, commit_word, Geometry, is_data_block, is_journaled_line, log_block, record_line}
 use Rattle.disk_places.specs.Superblock.{geometry_at, has_magic, has_numbers, has_version}
 use Rattle.disk_lines.specs.declared.Draft.{Draft}
-use Rattle.disk_rules.specs.Checked.{HasHead}
-use Rattle.disk_rules.specs.Rules.{geometry_of}
-use Rattle.disk_rules.specs.Volume.{Volume}
-use Rattle.volume_facts.specs.ImageLaws.{journaled-idle, journaled-same}
-use Rattle.volume_facts.specs.LineWords.{data_word}
-use Rattle.k_rules.specs.Stands.{Stands}
+use Rattle.world_room.specs.disk_rules.Checked.{HasHead}
+use Rattle.world_room.specs.disk_rules.Rules.{geometry_of}
+use Rattle.world_room.specs.disk_rules.Volume.{Volume}
+use Rattle.world_room.specs.volume_facts.ImageLaws.{journaled-idle, journaled-same}
+use Rattle.world_room.specs.volume_facts.LineWords.{data_word}
+use Rattle.world_room.specs.k_rules.Stands.{Stands}
 use Rattle.world_images.specs.Images.{IsHeaded}
 use Rattle.world_room.specs.world_jobs.JobSteps.{begun, filled}
 use Rattle.world_room.specs.Free.{stays_free_begun}

@@ -10,8 +10,8 @@ use Rattle.disk_places.specs.Places.{is_data_block}
 use Rattle.extent_facts.specs.Covers.{covers-disk_at}
 use Rattle.disk_lines.specs.declared.Draft.{Draft}
 use Rattle.disk_lines.specs.declared.Kind.TheVariants.{Staging}
-use Rattle.disk_rules.specs.Rules.{file_blocks_of}
-use Rattle.disk_rules.specs.Volume.{extents, free_inode, inode, Volume}
+use Rattle.world_room.specs.disk_rules.Rules.{file_blocks_of}
+use Rattle.world_room.specs.disk_rules.Volume.{extents, free_inode, inode, Volume}
 use Rattle.world_room.specs.volume_uses.PoolLaws.{covered-in_data}
 use Rattle.world_room.specs.world_rules.Jobs.{staged_block}
 use Rattle.world_room.specs.world_rules.Stands.{IsSane}

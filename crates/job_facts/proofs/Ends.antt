@@ -14,13 +14,13 @@ use Rattle.disk_places.specs.Journal.{journaled}
 use Rattle.disk_places.specs.PlaceLaws.{behind_log-words}
 use Rattle.disk_places.specs.Places.{commit_word, Geometry}
 use Rattle.disk_lines.specs.declared.Draft.{Draft}
-use Rattle.disk_rules.specs.Live.{is_live}
-use Rattle.disk_rules.specs.Volume.{Volume}
-use Rattle.volume_facts.specs.ImageLaws.{journaled-idle}
-use Rattle.volume_facts.specs.LineWords.{data_word}
-use Rattle.k_rules.specs.Stands.{Stands}
-use Rattle.posix_spec.specs.Run.{after_call}
-use Rattle.posix_spec.specs.State.{State}
+use Rattle.world_room.specs.disk_rules.Live.{is_live}
+use Rattle.world_room.specs.disk_rules.Volume.{Volume}
+use Rattle.world_room.specs.volume_facts.ImageLaws.{journaled-idle}
+use Rattle.world_room.specs.volume_facts.LineWords.{data_word}
+use Rattle.world_room.specs.k_rules.Stands.{Stands}
+use Rattle.world_room.specs.posix_spec.Run.{after_call}
+use Rattle.world_room.specs.posix_spec.State.{State}
 use Rattle.world_images.specs.Images.{StandsFor}
 use Rattle.world_images.specs.Settings.{keeps_setting}
 use Rattle.world_room.specs.world_jobs.JobSteps.{finished, given_up, Valid-front}

@@ -4,7 +4,7 @@ use Rattle.pm_words.specs.declared.Cell.{Cell}
 use Rattle.pm_words.specs.Cells.{cell, is_lent, unmarked}
 use Rattle.pm_words.specs.Parts.{Part}
 use Rattle.disk_lines.specs.declared.Draft.{Draft}
-use Rattle.disk_rules.specs.Volume.{Volume}
+use Rattle.world_room.specs.disk_rules.Volume.{Volume}
 use Rattle.world_room.specs.world_rules.Jobs.{staged_block}
 use Rattle.write_jobs.specs.Jobs.{loan_at}
 

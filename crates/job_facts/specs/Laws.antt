@@ -7,14 +7,14 @@ use Rattle.pm_words.specs.Words.{Words}
 use Rattle.disk_places.specs.Journal.{journaled}
 use Rattle.disk_places.specs.Places.{reserve}
 use Rattle.disk_lines.specs.declared.Draft.{Draft}
-use Rattle.disk_rules.specs.Room.{unused_blocks}
-use Rattle.disk_rules.specs.Volume.{Volume}
-use Rattle.k_rules.specs.Stands.{Stands}
+use Rattle.world_room.specs.disk_rules.Room.{unused_blocks}
+use Rattle.world_room.specs.disk_rules.Volume.{Volume}
+use Rattle.world_room.specs.k_rules.Stands.{Stands}
 use Rattle.list_facts.specs.Members.{In}
 use Rattle.posix_words.specs.Bytes.{bytes_from, overwritten}
-use Rattle.posix_spec.specs.Run.{after_call}
-use Rattle.posix_spec.specs.State.{room, State}
-use Rattle.posix_puts.specs.Views.{need_of}
+use Rattle.world_room.specs.posix_spec.Run.{after_call}
+use Rattle.world_room.specs.posix_spec.State.{room, State}
+use Rattle.world_room.specs.posix_puts.Views.{need_of}
 use Rattle.world_images.specs.Images.{StandsFor}
 use Rattle.world_room.specs.world_promise.JobLaws.{needs}
 use Rattle.world_room.specs.world_rules.Jobs.{AreApartJobs, begun_of, Job, JobStands, live_claims}

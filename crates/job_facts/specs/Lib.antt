@@ -9,3 +9,4 @@ pub use Rattle.world_room.specs.world_rules as world_rules
 pub use Rattle.world_room.specs.world_steps as world_steps
 pub use Rattle.world_images.specs.world_beginning as world_beginning
 pub use Rattle.world_room.specs.world_spaces as world_spaces
+pub use Rattle.write_jobs.specs as write_jobs

@@ -20,3 +20,5 @@ pub fn jobs_come_and_go_on_the_device()
     ensures bytes { StagesWhole }
     ensures words { SpellsWhole }
 {}
+
+pub use write_jobs;

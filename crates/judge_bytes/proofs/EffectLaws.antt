@@ -5,9 +5,9 @@ use Rattle.std.proofs.lemmas.Bool.Decides.{nat_tests}
 use Rattle.std.proofs.lemmas.List.{get_or_past, take_more}
 use Rattle.posix_words.specs.declared.nodes.Node.{Node}
 use Rattle.posix_words.specs.Nodes.{bytes_of, node_at}
-use Rattle.posix_spec.specs.Put.{Put, put_by}
-use Rattle.posix_spec.specs.Run.{after_call, after_calls, Begun}
-use Rattle.posix_spec.specs.State.{State}
+use Rattle.crash_spec.specs.posix_spec.Put.{Put, put_by}
+use Rattle.crash_spec.specs.posix_spec.Run.{after_call, after_calls, Begun}
+use Rattle.crash_spec.specs.posix_spec.State.{State}
 use Rattle.crash_spec.specs.Posix.{IsLastOrAny, OrUnfinished, Overwritten}
 use Rattle.crash_spec.specs.Values.{ends_before, is_shortened, IsOneOf, last_of, shortens, value_of, value_put, values_put, with_value}
 use Rattle.judge_bytes.specs.declared.effects.Cut.{Cut}

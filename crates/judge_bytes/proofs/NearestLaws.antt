@@ -10,8 +10,8 @@ use Rattle.posix_words.specs.declared.nodes.Node.{Node}
 use Rattle.posix_words.specs.declared.places.Place.{Place}
 use Rattle.posix_words.specs.Nodes.{bytes_of, node_at}
 use Rattle.posix_words.specs.Places.{places, tree_entry, tree_node}
-use Rattle.posix_spec.specs.State.{State}
-use Rattle.posix_spec.specs.Tree.{tree}
+use Rattle.crash_spec.specs.posix_spec.State.{State}
+use Rattle.crash_spec.specs.posix_spec.Tree.{tree}
 use Rattle.crash_spec.specs.Posix.{FileLeft, IsLeft, NodeLeft, TreeLeft}
 use Rattle.crash_spec.specs.Values.{value_of}
 use Rattle.judge_bytes.specs.declared.effects.Effect.{Effect}

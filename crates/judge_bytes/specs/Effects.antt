@@ -3,9 +3,9 @@ use Rattle.std.specs.Prelude.{◌≡◌, ℕ, Bool, false, ◌&&◌, ◌||◌, �
 use Rattle.std.specs.List.{list_any}
 use Rattle.posix_words.specs.declared.nodes.Node.{Node}
 use Rattle.posix_words.specs.Nodes.{bytes_of, node_at}
-use Rattle.posix_spec.specs.Put.{put_by}
-use Rattle.posix_spec.specs.Run.{after_call, Begun}
-use Rattle.posix_spec.specs.State.{State}
+use Rattle.crash_spec.specs.posix_spec.Put.{put_by}
+use Rattle.crash_spec.specs.posix_spec.Run.{after_call, Begun}
+use Rattle.crash_spec.specs.posix_spec.State.{State}
 use Rattle.crash_spec.specs.Posix.{ByteRule}
 use Rattle.crash_spec.specs.Values.{shortens, value_of}
 use Rattle.judge_bytes.specs.declared.effects.Cut.{Cut}

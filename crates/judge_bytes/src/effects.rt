@@ -1,12 +1,12 @@
 //! What calls do to bytes, kept as plain data: what each puts, and how far each shortens the files.
 ghost use Rattle.std.specs.Prelude.{◌≡◌, [], ◌∷◌, ◌++◌, IfOk, length, map};
 ghost use Rattle.posix_words.specs.Nodes.{node_at};
-ghost use Rattle.posix_spec.specs.Run.{after_call, begun};
+ghost use Rattle.crash_spec.specs.posix_spec.Run.{after_call, begun};
 ghost use Rattle.crash_spec.specs.Values.{value_of};
 ghost use Rattle.judge_bytes.specs.Effects.{any_cuts, any_puts, AreCuts, AreEffects, cut_of, end_of, is_cut, IsEffect, may_be, newest, puts_it};
 
 use crate::runs::after;
-use posix_spec::{Call, Item, Put, State, Who};
+use crash_spec::posix_spec::{Call, Item, Put, State, Who};
 use posix_words::nodes::{Node, length_of};
 use std::alloc::{AllocError, Global};
 

@@ -1,9 +1,9 @@
 //! The state after calls, and whether it has a tree.
 ghost use Rattle.std.specs.Prelude.{◌≡◌, ◌↔◌, IfOk, IsTrue};
-ghost use Rattle.posix_spec.specs.Run.{after_call, after_calls, run};
-ghost use Rattle.posix_spec.specs.Tree.{tree};
+ghost use Rattle.crash_spec.specs.posix_spec.Run.{after_call, after_calls, run};
+ghost use Rattle.crash_spec.specs.posix_spec.Tree.{tree};
 
-use posix_spec::{Call, Item, State, Tree, Who};
+use crash_spec::posix_spec::{Call, Item, State, Tree, Who};
 use std::alloc::AllocError;
 
 /// The state after the calls of a history.

@@ -3,13 +3,13 @@ use Rattle.std.proofs.Common.{◌≡◌, ℕ, ◌*◌, ◌≤◌, ◌^◌, refl,
 use Rattle.pm_words.specs.Words.{Words}
 use Rattle.disk_places.specs.Journal.{journaled}
 use Rattle.disk_places.specs.Places.{Geometry, base_word}
-use Rattle.disk_rules.specs.Broken.{at_one, Holds, HoldAll, FailsFirst, BreaksFirst, Breaks, log_rules}
-use Rattle.disk_rules.specs.Checked.{HasHead}
-use Rattle.disk_rules.specs.Rules.{geometry_of, CanRecover, IsChecked}
-use Rattle.disk_rules.specs.Volume.{Volume, volume}
+use Rattle.volume_check.specs.disk_rules.Broken.{at_one, Holds, HoldAll, FailsFirst, BreaksFirst, Breaks, log_rules}
+use Rattle.volume_check.specs.disk_rules.Checked.{HasHead}
+use Rattle.volume_check.specs.disk_rules.Rules.{geometry_of, CanRecover, IsChecked}
+use Rattle.volume_check.specs.disk_rules.Volume.{Volume, volume}
 use Rattle.volume_check.specs.image_facts.BrokenLaws.{HoldAll-append, BreaksFirst-behind, BreaksFirst-before}
 use Rattle.volume_check.specs.image_facts.CheckedLaws.{checked-HoldAll, checked-unbroken}
-use Rattle.volume_facts.specs.ReadingLaws.{volume-geometry}
+use Rattle.volume_check.specs.volume_facts.ReadingLaws.{volume-geometry}
 use Rattle.volume_check.specs.Readings.{AreTables, front_rules}
 use Rattle.volume_check.specs.declared.reading.Tables.{Tables}
 use Rattle.k_check.specs.Slots.{later_rule}

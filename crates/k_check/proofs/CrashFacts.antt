@@ -11,7 +11,7 @@ use Rattle.pm_words.specs.Images.{IsImage}
 use Rattle.pm_words.specs.Words.{Words, word_at, line_bytes}
 use Rattle.disk_places.specs.Places.{Geometry, log_line}
 use Rattle.disk_lines.specs.Entries.{is_self_valid}
-use Rattle.disk_rules.specs.Honest.{IsTorn, IsHonest}
+use Rattle.volume_check.specs.disk_rules.Honest.{IsTorn, IsHonest}
 use Rattle.pm_lines.specs.Choices.{chosen}
 use Rattle.pm_lines.specs.declared.choices.Choice.{Choice}
 use Rattle.k_check.specs.Crashes.{IsChance, IsAsChosen, IsSettled, IsCrashImage}

@@ -11,9 +11,9 @@ use Rattle.disk_places.specs.Places.{Geometry, log_line}
 use Rattle.disk_lines.specs.declared.Draft.{Draft}
 use Rattle.disk_lines.specs.Entries.{decode_entry, is_draft}
 use Rattle.disk_lines.specs.EntryLaws.{IsEntryLine-decode_entry}
-use Rattle.disk_rules.specs.Live.{entry_in, is_live, live_entries}
-use Rattle.disk_rules.specs.Rules.{HasStagingBlocks, CanRecover}
-use Rattle.disk_rules.specs.Volume.{Volume}
+use Rattle.volume_check.specs.disk_rules.Live.{entry_in, is_live, live_entries}
+use Rattle.volume_check.specs.disk_rules.Rules.{HasStagingBlocks, CanRecover}
+use Rattle.volume_check.specs.disk_rules.Volume.{Volume}
 use Rattle.k_check.specs.Rooms.{HasRoom}
 use Rattle.k_check.specs.Slots.{slots_at, AreGoodSlots, IsDraftOrNone, AreDrafts}
 use Rattle.k_check.proofs.SlotFacts.{items_of}

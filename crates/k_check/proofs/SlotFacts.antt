@@ -8,7 +8,7 @@ use Rattle.std.proofs.lemmas.Bool.{cases_lt}
 use Rattle.std.proofs.lemmas.List.{get_or_default, get_or_past}
 use Rattle.std.proofs.lemmas.Option.{same_Some}
 use Rattle.disk_lines.specs.declared.Draft.{Draft}
-use Rattle.disk_rules.specs.Volume.{Volume}
+use Rattle.volume_check.specs.disk_rules.Volume.{Volume}
 use Rattle.k_check.specs.Slots.{passing, IsGoodPair, IsGoodSlot, IsGoodWithLater, AreGoodSlots}
 
 abbrev pub items_of : List (Option Draft) → List Draft

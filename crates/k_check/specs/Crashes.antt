@@ -5,7 +5,7 @@ use Rattle.pm_words.specs.Cells.{cell}
 use Rattle.pm_words.specs.Words.{Words, line_bytes}
 use Rattle.disk_places.specs.Places.{Geometry, log_line}
 use Rattle.disk_lines.specs.Entries.{is_self_valid}
-use Rattle.disk_rules.specs.Honest.{HasOlder, IsTorn}
+use Rattle.volume_check.specs.disk_rules.Honest.{HasOlder, IsTorn}
 use Rattle.pm_lines.specs.Choices.{chosen}
 use Rattle.pm_lines.specs.declared.choices.Choice.{Choice}
 

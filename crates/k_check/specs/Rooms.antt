@@ -2,8 +2,8 @@
 use Rattle.std.specs.Prelude.{◌+◌, ◌≤◌, List, length}
 use Rattle.disk_places.specs.Places.{data_blocks, reserve}
 use Rattle.disk_lines.specs.declared.Draft.{Draft}
-use Rattle.disk_rules.specs.Room.{held_after_recovery, unused_blocks}
-use Rattle.disk_rules.specs.Volume.{Volume}
+use Rattle.volume_check.specs.disk_rules.Room.{held_after_recovery, unused_blocks}
+use Rattle.volume_check.specs.disk_rules.Volume.{Volume}
 
 pub record HasRoom (v : Volume) (live : List Draft) : Type 0 where
   pub held : held_after_recovery v live + reserve v.geometry ≤ data_blocks v.geometry

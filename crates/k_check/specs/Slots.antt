@@ -5,10 +5,10 @@ use Rattle.pm_words.specs.Words.{Words, line_bytes}
 use Rattle.disk_places.specs.Places.{Geometry, log_line}
 use Rattle.disk_lines.specs.declared.Draft.{Draft}
 use Rattle.disk_lines.specs.Entries.{decode_entry, is_draft, is_self_valid, held_seq}
-use Rattle.disk_rules.specs.Broken.{Rule, below}
-use Rattle.disk_rules.specs.Live.{is_of_file, is_live}
-use Rattle.disk_rules.specs.Rules.{AreApart, IsOfNoLater}
-use Rattle.disk_rules.specs.Volume.{Volume}
+use Rattle.volume_check.specs.disk_rules.Broken.{Rule, below}
+use Rattle.volume_check.specs.disk_rules.Live.{is_of_file, is_live}
+use Rattle.volume_check.specs.disk_rules.Rules.{AreApart, IsOfNoLater}
+use Rattle.volume_check.specs.disk_rules.Volume.{Volume}
 
 -- the entry that is valid in each slot of a log with this base
 abbrev pub slots_at : Geometry → ℕ → Words → List (Option Draft)

@@ -1,10 +1,10 @@
 //! The check of a whole image.
 ghost use Rattle.std.specs.Prelude.{◌≡◌, ◌↔◌, ◌*◌, ◌%◌, ◌<◌, ◌≤◌, ◌^◌, length, true, All, IsTrue, IfOk, OnOk};
 ghost use Rattle.disk_lines.specs.Entries.{is_draft};
-ghost use Rattle.disk_rules.specs.Broken.{Breaks};
-ghost use Rattle.disk_rules.specs.Live.{live_entries};
-ghost use Rattle.disk_rules.specs.Rules.{geometry_of, CanRecover, IsChecked};
-ghost use Rattle.disk_rules.specs.Volume.{Volume};
+ghost use Rattle.volume_check.specs.disk_rules.Broken.{Breaks};
+ghost use Rattle.volume_check.specs.disk_rules.Live.{live_entries};
+ghost use Rattle.volume_check.specs.disk_rules.Rules.{geometry_of, CanRecover, IsChecked};
+ghost use Rattle.volume_check.specs.disk_rules.Volume.{Volume};
 ghost use Rattle.k_check.specs.Rooms.{HasRoom};
 ghost use Rattle.k_check.specs.Slots.{slots_at, AreDrafts};
 ghost use Rattle.pm_words.specs.Cells.{AllHome};
@@ -16,10 +16,10 @@ ghost use Rattle.volume_check.specs.Readings.{AreTables};
 use crate::entries::{live_entries, read_slots};
 use crate::room::held_after;
 use crate::rules::{are_good_slots, are_staged, later_entry};
-use image_layout::Geometry;
 use oplog_entry::Draft;
 use pm_lines::Pm;
 use std::alloc::{AllocError, Global};
+use volume_check::image_layout::Geometry;
 use volume_check::{BadImage, CheckFault, Tables, count_unused, read_volume};
 
 // Rule 12, the parts that speak of room: whether what the files hold after recovery leaves the

@@ -27,6 +27,9 @@ mod rules;
 
 pub use checking::check;
 pub use crashes::crash_image;
+pub use oplog_entry;
 pub use recovery::live_log;
 pub use volume_check;
-pub use volume_check::{BadImage, CheckFault, k_reading};
+pub use volume_check::{
+    BadImage, CheckFault, block_pool, image_layout, k_inodes, k_journal, k_reading, map_chain,
+};

@@ -1,9 +1,9 @@
 //! What recovery has to carry out of the log of a checked image.
 ghost use Rattle.std.specs.Prelude.{◌≡◌, ◌*◌, ◌%◌, ◌<◌, ◌^◌, length, IfOk};
 ghost use Rattle.disk_places.specs.Journal.{journaled};
-ghost use Rattle.disk_rules.specs.Live.{live_entries};
-ghost use Rattle.disk_rules.specs.Rules.{geometry_of, IsChecked};
-ghost use Rattle.disk_rules.specs.Volume.{volume};
+ghost use Rattle.volume_check.specs.disk_rules.Live.{live_entries};
+ghost use Rattle.volume_check.specs.disk_rules.Rules.{geometry_of, IsChecked};
+ghost use Rattle.volume_check.specs.disk_rules.Volume.{volume};
 ghost use Rattle.pm_words.specs.Cells.{AllHome};
 ghost use Rattle.pm_words.specs.Images.{words_of};
 

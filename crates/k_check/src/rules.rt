@@ -2,9 +2,9 @@
 ghost use Rattle.std.specs.Prelude.{◌≡◌, ◌↔◌, ◌*◌, ◌+◌, ◌<◌, ◌≤◌, ◌^◌, ℕ, [], length, slice_index_or, true, All, None, IsTrue, MatchOption};
 ghost use Rattle.disk_lines.specs.Entries.{is_draft};
 ghost use Rattle.disk_places.specs.Journal.{journaled};
-ghost use Rattle.disk_rules.specs.Broken.{Holds, FailsFirst};
-ghost use Rattle.disk_rules.specs.Rules.{HasStagingBlocks};
-ghost use Rattle.disk_rules.specs.Volume.{Volume};
+ghost use Rattle.volume_check.specs.disk_rules.Broken.{Holds, FailsFirst};
+ghost use Rattle.volume_check.specs.disk_rules.Rules.{HasStagingBlocks};
+ghost use Rattle.volume_check.specs.disk_rules.Volume.{Volume};
 ghost use Rattle.extent_words.specs.Extents.{disk_at};
 ghost use Rattle.k_check.specs.Slots.{IsGoodPair, IsGoodSlot, IsGoodWithLater, AreGoodSlots, IsDraftOrNone, AreDrafts, IsNoLaterAt, later_rule};
 ghost use Rattle.pm_words.specs.Cells.{AllHome};
@@ -12,11 +12,11 @@ ghost use Rattle.pm_words.specs.Images.{words_of};
 
 use crate::entries::{is_live, is_of_file, log_bytes};
 use extent_map::ExtentMap;
-use image_layout::Geometry;
-use k_inodes::Inode;
 use line_fields::u64_at;
 use oplog_entry::{Draft, decode};
 use pm_lines::Pm;
+use volume_check::image_layout::Geometry;
+use volume_check::k_inodes::Inode;
 
 // The disk block of a file block of an inode, by these maps.
 fn disk_block(maps: &[ExtentMap], ino: u32, block: u32) -> Option<u32>

@@ -2,7 +2,7 @@
 use Rattle.std.proofs.Common.{◌≡◌, ℕ, List, Option, Some, None, refl, sym, ap}
 use Rattle.std.specs.Prelude.{option_map}
 use Rattle.std.proofs.lemmas.Option.{same_Some}
-use Rattle.disk_rules.specs.Content.{Node, IsDirectory, HasBytes}
+use Rattle.k_tables.specs.disk_rules.Content.{Node, IsDirectory, HasBytes}
 use Rattle.posix_types.specs.declared.tree.TreeEntry.{TreeEntry}
 use Rattle.posix_types.specs.declared.tree.TreeNode.{TreeNode}
 use Rattle.posix_trees.specs.TreeOf.{IsTreeOf, IsTreeOf-same}

@@ -9,7 +9,7 @@ use Rattle.pm_words.specs.Bytes.{length-line_bytes, line_front, line_front-all, 
 use Rattle.pm_words.specs.Words.{Words, byte_of, line_bytes}
 use Rattle.extent_words.specs.declared.Extent.{Extent}
 use Rattle.extent_words.specs.Extents.{disk_at}
-use Rattle.disk_rules.specs.Content.{byte_in}
+use Rattle.k_tables.specs.disk_rules.Content.{byte_in}
 use Rattle.k_content.specs.Files.{first_bytes, line_in}
 
 -- ---- a line of words

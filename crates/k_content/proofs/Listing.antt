@@ -16,10 +16,10 @@ use Rattle.disk_lines.specs.declared.Kind.TheVariants.{Free, Directory, File, St
 use Rattle.disk_lines.specs.Lines.{NameRow, is_dots, is_name, is_name_byte, line_name_bytes}
 use Rattle.disk_lines.specs.Names.{Rows, row, walk}
 use Rattle.disk_lines.specs.TableLaws.{walk-step}
-use Rattle.disk_rules.specs.Content as content
-use Rattle.disk_rules.specs.Content.{found, node_of}
-use Rattle.disk_rules.specs.Live.{is_directory, is_file}
-use Rattle.disk_rules.specs.Volume.{Volume, free_inode, inode, extents}
+use Rattle.k_tables.specs.disk_rules.Content as content
+use Rattle.k_tables.specs.disk_rules.Content.{found, node_of}
+use Rattle.k_tables.specs.disk_rules.Live.{is_directory, is_file}
+use Rattle.k_tables.specs.disk_rules.Volume.{Volume, free_inode, inode, extents}
 use Rattle.posix_types.specs.declared.tree.TreeEntry.{TreeEntry}
 use Rattle.posix_types.specs.declared.tree.TreeNode.{TreeNode}
 use Rattle.posix_words.specs.Names.{bytes_before, longest_path}

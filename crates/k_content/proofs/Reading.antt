@@ -18,11 +18,11 @@ use Rattle.disk_lines.specs.Lines.{NameRow, is_inode_of_kind, is_name, most_byte
 use Rattle.disk_lines.specs.NameLaws.{IsNameLine-decode_name}
 use Rattle.disk_lines.specs.Names.{parent_of, row, up, walk}
 use Rattle.disk_lines.specs.TableLaws.{NamingLine-parent_of}
-use Rattle.disk_rules.specs.Kept.{AreKept}
-use Rattle.disk_rules.specs.Live.{is_directory}
-use Rattle.disk_rules.specs.Reading.{Reads, slot_for}
-use Rattle.disk_rules.specs.Rules.{IsInData, IsKindAt, file_blocks_of}
-use Rattle.disk_rules.specs.Volume.{Volume, extents, free_inode, inode}
+use Rattle.k_tables.specs.disk_rules.Kept.{AreKept}
+use Rattle.k_tables.specs.disk_rules.Live.{is_directory}
+use Rattle.k_tables.specs.disk_rules.Reading.{Reads, slot_for}
+use Rattle.k_tables.specs.disk_rules.Rules.{IsInData, IsKindAt, file_blocks_of}
+use Rattle.k_tables.specs.disk_rules.Volume.{Volume, extents, free_inode, inode}
 use Rattle.k_tables.specs.name_facts.ForestLaws.{up-parent, up-top}
 use Rattle.k_tables.specs.name_facts.KeptLaws.{HasAllLines, kept-forest, kept-keyed, kept-named, kept-placed, reads-all_lines}
 use Rattle.k_tables.specs.name_facts.RowLaws.{row-below}

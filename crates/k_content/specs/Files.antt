@@ -5,7 +5,7 @@ use Rattle.pm_words.specs.declared.Cell.{Cell}
 use Rattle.pm_words.specs.Words.{Words}
 use Rattle.extent_words.specs.declared.Extent.{Extent}
 use Rattle.extent_words.specs.Extents.{disk_at}
-use Rattle.disk_rules.specs.Content.{byte_in}
+use Rattle.k_tables.specs.disk_rules.Content.{byte_in}
 
 -- the first n bytes of a file with this map
 abbrev pub first_bytes : List Extent → Words → ℕ → List ℕ

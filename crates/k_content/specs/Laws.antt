@@ -4,10 +4,10 @@ use Rattle.pm_words.specs.declared.Cell.{Cell}
 use Rattle.pm_words.specs.Cells.{AllHome}
 use Rattle.pm_words.specs.Words.{Words}
 use Rattle.disk_places.specs.Places.{Geometry, IsGeometry}
-use Rattle.disk_rules.specs.Content.{Node}
-use Rattle.disk_rules.specs.Kept.{AreKept}
-use Rattle.disk_rules.specs.Reading.{Reads}
-use Rattle.disk_rules.specs.Volume.{Volume}
+use Rattle.k_tables.specs.disk_rules.Content.{Node}
+use Rattle.k_tables.specs.disk_rules.Kept.{AreKept}
+use Rattle.k_tables.specs.disk_rules.Reading.{Reads}
+use Rattle.k_tables.specs.disk_rules.Volume.{Volume}
 use Rattle.posix_types.specs.declared.tree.TreeEntry.{TreeEntry}
 use Rattle.posix_trees.specs.TreeOf.{IsTreeOf}
 use Rattle.k_content.specs.Trees.{HasTree, tree_content}

@@ -10,9 +10,9 @@ use Rattle.disk_lines.specs.declared.Kind.TheVariants.{Free, Directory, File, St
 use Rattle.disk_lines.specs.Lines.{NameRow, is_name, most_bytes}
 use Rattle.disk_lines.specs.Names.{Rows, row, walk}
 use Rattle.disk_lines.specs.Tables.{IsKeyed}
-use Rattle.disk_rules.specs.Content.{Node, IsDirectory, HasBytes}
-use Rattle.disk_rules.specs.Live.{is_directory, is_file}
-use Rattle.disk_rules.specs.Volume.{Volume, free_inode}
+use Rattle.k_tables.specs.disk_rules.Content.{Node, IsDirectory, HasBytes}
+use Rattle.k_tables.specs.disk_rules.Live.{is_directory, is_file}
+use Rattle.k_tables.specs.disk_rules.Volume.{Volume, free_inode}
 use Rattle.posix_types.specs.declared.tree.TreeEntry.{TreeEntry}
 use Rattle.posix_types.specs.declared.tree.TreeNode.{TreeNode}
 use Rattle.posix_words.specs.Names.{longest_path}

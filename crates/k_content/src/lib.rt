@@ -19,5 +19,7 @@ mod laws;
 mod trees;
 
 pub use k_tables;
+pub use k_tables::k_names;
 pub use laws::{trees_can_be_read, trees_tell_contents};
+pub use posix_trees::posix_spec;
 pub use trees::content_tree;

@@ -2,8 +2,8 @@
 ghost use Rattle.std.specs.Prelude.{◌≡◌, ◌≤◌, ◌<◌, [], length, IfOk};
 ghost use Rattle.pm_words.specs.Cells.{AllHome};
 ghost use Rattle.pm_words.specs.Images.{words_of};
-ghost use Rattle.disk_rules.specs.Content.{found};
-ghost use Rattle.disk_rules.specs.Volume.{Volume};
+ghost use Rattle.k_tables.specs.disk_rules.Content.{found};
+ghost use Rattle.k_tables.specs.disk_rules.Volume.{Volume};
 ghost use Rattle.posix_trees.specs.TreeOf.{IsTreeOf};
 ghost use Rattle.k_content.specs.Files.{IsInside};
 ghost use Rattle.k_content.specs.Trees.{tree_content, node_in, entry_in, HasTables, HasTree};
@@ -11,7 +11,7 @@ ghost use Rattle.k_content.specs.Trees.{tree_content, node_in, entry_in, HasTabl
 use crate::files::read_file;
 use disk_lines::{Inode, Kind};
 use extent_map::ExtentMap;
-use k_names::NameTable;
+use k_tables::k_names::NameTable;
 use k_tables::{TreePlace, tree_places};
 use pm_lines::Pm;
 use posix_types::{Tree, TreeEntry, TreeNode};

@@ -24,4 +24,5 @@ mod recoveries;
 pub mod journal;
 
 pub use batches::{Batch, BatchFull, Entry};
+pub use image_layout;
 pub use outcomes::{Commit, Recovered};

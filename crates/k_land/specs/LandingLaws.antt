@@ -12,9 +12,9 @@ use Rattle.pm_words.specs.Words.{Words}
 use Rattle.disk_places.specs.Journal.{journaled, IsSound}
 use Rattle.disk_places.specs.PlaceLaws.{journaled-below_log}
 use Rattle.disk_places.specs.Places.{Geometry, commit_word, is_journaled_line}
-use Rattle.disk_rules.specs.Placed.{AreSingle}
-use Rattle.disk_rules.specs.Reading.{Reads}
-use Rattle.disk_rules.specs.Volume.{Volume, chain}
+use Rattle.k_rules.specs.disk_rules.Placed.{AreSingle}
+use Rattle.k_rules.specs.disk_rules.Reading.{Reads}
+use Rattle.k_rules.specs.disk_rules.Volume.{Volume, chain}
 use Rattle.k_journal.specs.Batch.{target, with_batch, AllLines, IsNew}
 use Rattle.k_journal.specs.Commits.{MayCommit, IsBeforeOrAfter, IsAfter}
 use Rattle.k_journal.specs.declared.batches.Entry.{Entry}

@@ -2,7 +2,7 @@
 use Rattle.std.specs.Prelude.{◌≡◌, ℕ, ◌/◌, List, false}
 use Rattle.pm_words.specs.Words.{Words}
 use Rattle.disk_places.specs.Journal.{is_journal_word}
-use Rattle.disk_rules.specs.Placed.{IsOutside}
+use Rattle.k_rules.specs.disk_rules.Placed.{IsOutside}
 use Rattle.k_journal.specs.Batch.{IsNew}
 use Rattle.k_journal.specs.declared.batches.Entry.{Entry}
 

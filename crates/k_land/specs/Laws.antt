@@ -2,7 +2,7 @@
 use Rattle.std.specs.Prelude.{◌≡◌, ◌<◌, ℕ, List, [], ◌∷◌, length, All, true}
 use Rattle.pm_words.specs.declared.Cell.{Cell}
 use Rattle.disk_places.specs.Places.{Geometry}
-use Rattle.disk_rules.specs.Volume.{Volume}
+use Rattle.k_rules.specs.disk_rules.Volume.{Volume}
 use Rattle.volume_uses.specs.Uses.{is_unused}
 use Rattle.k_journal.specs.Commits.{MayCommit}
 use Rattle.k_journal.specs.declared.batches.Entry.{Entry}

@@ -6,9 +6,9 @@ use Rattle.pm_words.specs.Frames.{SameLent, KeepsSingle}
 use Rattle.pm_words.specs.Images.{IsImage, Follows}
 use Rattle.pm_words.specs.Powers.{Supply, Steps, is_on}
 use Rattle.pm_words.specs.Words.{Words}
-use Rattle.disk_rules.specs.Chains.{first_or_zero}
-use Rattle.disk_rules.specs.Placed.{block_at, IsOutside}
-use Rattle.disk_rules.specs.Standing.{IsChain}
+use Rattle.k_rules.specs.disk_rules.Chains.{first_or_zero}
+use Rattle.k_rules.specs.disk_rules.Placed.{block_at, IsOutside}
+use Rattle.k_rules.specs.disk_rules.Standing.{IsChain}
 use Rattle.map_chain.specs.Writes.{MayWrite, SameOutside, IsWritten}
 use Rattle.k_land.specs.Plans.{NewChain, new_at}
 

@@ -10,16 +10,16 @@ use Rattle.extent_words.specs.declared.Extent.{Extent}
 use Rattle.disk_lines.specs.declared.Inode.{Inode}
 use Rattle.disk_lines.specs.Fresh.{state_bytes}
 use Rattle.disk_lines.specs.Lines.{NameRow, decode_inode, decode_name}
-use Rattle.disk_rules.specs.Chains.{blocks_from, first_or_zero, SpellsChain}
-use Rattle.disk_rules.specs.Placed.{block_at}
-use Rattle.disk_rules.specs.Reading.{slot_for, StandsFor, Reads, inode_set, row_set, base_set, AreBytes}
-use Rattle.disk_rules.specs.Standing.{IsChain}
-use Rattle.disk_rules.specs.Volume.{Volume, chain}
-use Rattle.chain_facts.specs.ChainLaws.{IsChain-same}
-use Rattle.volume_facts.specs.Changes.{chain-set_same, chain-set_other}
-use Rattle.volume_facts.specs.LineWords.{data_word-not_journaled}
-use Rattle.volume_facts.specs.SetLaws.{reads-stands, reads-inode, reads-row}
-use Rattle.volume_facts.specs.StateLaws.{reads-state}
+use Rattle.k_rules.specs.disk_rules.Chains.{blocks_from, first_or_zero, SpellsChain}
+use Rattle.k_rules.specs.disk_rules.Placed.{block_at}
+use Rattle.k_rules.specs.disk_rules.Reading.{slot_for, StandsFor, Reads, inode_set, row_set, base_set, AreBytes}
+use Rattle.k_rules.specs.disk_rules.Standing.{IsChain}
+use Rattle.k_rules.specs.disk_rules.Volume.{Volume, chain}
+use Rattle.map_chain.specs.chain_facts.ChainLaws.{IsChain-same}
+use Rattle.volume_uses.specs.volume_facts.Changes.{chain-set_same, chain-set_other}
+use Rattle.volume_uses.specs.volume_facts.LineWords.{data_word-not_journaled}
+use Rattle.volume_uses.specs.volume_facts.SetLaws.{reads-stands, reads-inode, reads-row}
+use Rattle.volume_uses.specs.volume_facts.StateLaws.{reads-state}
 use Rattle.k_journal.specs.Batch.{target, content, with_batch, with_line_set, AllLines}
 use Rattle.k_journal.specs.Patches.{patched-none, patched-miss}
 use Rattle.k_journal.specs.declared.batches.Entry.{Entry}

@@ -6,10 +6,10 @@ use Rattle.pm_words.specs.Words.{Words}
 use Rattle.disk_places.specs.Places.{Geometry, is_data_block, is_journaled_line}
 use Rattle.extent_words.specs.declared.Extent.{Extent}
 use Rattle.disk_lines.specs.declared.Inode.{Inode}
-use Rattle.disk_rules.specs.Chains.{first_or_zero}
-use Rattle.disk_rules.specs.Reading.{Reads}
-use Rattle.disk_rules.specs.Standing.{IsChain}
-use Rattle.disk_rules.specs.Volume.{Volume, inode, chain, extents}
+use Rattle.k_rules.specs.disk_rules.Chains.{first_or_zero}
+use Rattle.k_rules.specs.disk_rules.Reading.{Reads}
+use Rattle.k_rules.specs.disk_rules.Standing.{IsChain}
+use Rattle.k_rules.specs.disk_rules.Volume.{Volume, inode, chain, extents}
 use Rattle.k_journal.specs.Batch.{with_batch, AllLines}
 use Rattle.k_journal.specs.declared.batches.Entry.{Entry}
 

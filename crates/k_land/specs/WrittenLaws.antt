@@ -18,15 +18,15 @@ use Rattle.pm_words.specs.Words.{Words}
 use Rattle.disk_places.specs.Journal.{is_journal_word, journaled}
 use Rattle.disk_places.specs.PlaceLaws.{behind_log-words}
 use Rattle.disk_places.specs.Places.{Geometry, commit_word, is_data_block}
-use Rattle.disk_rules.specs.Chains.{first_or_zero}
-use Rattle.disk_rules.specs.Placed.{block_at, IsOutside}
-use Rattle.disk_rules.specs.Reading.{Reads}
-use Rattle.disk_rules.specs.Volume.{Volume}
-use Rattle.chain_facts.specs.ChainLaws.{IsChain-same}
-use Rattle.volume_facts.specs.ImageLaws.{journaled-idle, journaled-same, journal-outside}
-use Rattle.volume_facts.specs.LineWords.{data_word}
-use Rattle.volume_facts.specs.Reading.{AreUnchained}
-use Rattle.volume_facts.specs.SetLaws.{reads-written}
+use Rattle.k_rules.specs.disk_rules.Chains.{first_or_zero}
+use Rattle.k_rules.specs.disk_rules.Placed.{block_at, IsOutside}
+use Rattle.k_rules.specs.disk_rules.Reading.{Reads}
+use Rattle.k_rules.specs.disk_rules.Volume.{Volume}
+use Rattle.map_chain.specs.chain_facts.ChainLaws.{IsChain-same}
+use Rattle.volume_uses.specs.volume_facts.ImageLaws.{journaled-idle, journaled-same, journal-outside}
+use Rattle.volume_uses.specs.volume_facts.LineWords.{data_word}
+use Rattle.volume_uses.specs.volume_facts.Reading.{AreUnchained}
+use Rattle.volume_uses.specs.volume_facts.SetLaws.{reads-written}
 use Rattle.volume_uses.specs.PoolLaws.{unused-unchained}
 use Rattle.volume_uses.specs.Uses.{is_unused}
 use Rattle.k_journal.specs.Batch.{IsNew}

@@ -1,6 +1,6 @@
 //! Landing a plan without new maps: one commit.
 ghost use Rattle.std.specs.Prelude.{◌≡◌, ◌+◌, ◌*◌, ◌<◌, ℕ, [], length, true, false};
-ghost use Rattle.disk_rules.specs.Volume.{Volume};
+ghost use Rattle.k_rules.specs.disk_rules.Volume.{Volume};
 ghost use Rattle.k_journal.specs.Commits.{MayCommit, TakesAStep};
 ghost use Rattle.k_land.specs.Landings.{IsElsewhere, SameElsewhere};
 ghost use Rattle.k_land.specs.Plans.{Turns};
@@ -10,7 +10,7 @@ ghost use Rattle.pm_words.specs.Frames.{SameLent, KeepsSingle};
 ghost use Rattle.pm_words.specs.Images.{Follows};
 ghost use Rattle.pm_words.specs.Powers.{is_on, Steps};
 
-use image_layout::Geometry;
+use k_journal::image_layout::Geometry;
 use k_journal::{Batch, Commit, journal};
 use pm_lines::{Pm, Power};
 

@@ -1,7 +1,7 @@
 //! New maps: their writes into free blocks, and landing a plan that switches to them.
 ghost use Rattle.std.specs.Prelude.{◌≡◌, ◌+◌, ◌*◌, ◌<◌, ℕ, [], length, All, true, false};
 ghost use Rattle.disk_places.specs.Places.{is_data_block};
-ghost use Rattle.disk_rules.specs.Volume.{Volume};
+ghost use Rattle.k_rules.specs.disk_rules.Volume.{Volume};
 ghost use Rattle.k_journal.specs.Commits.{MayCommit, TakesAStep};
 ghost use Rattle.k_land.specs.Landings.{IsElsewhere, SameElsewhere};
 ghost use Rattle.k_land.specs.Maps.{MayWriteAll, Writes, WritesFirst, write_steps};
@@ -15,7 +15,7 @@ ghost use Rattle.pm_words.specs.Powers.{is_on, Steps};
 ghost use Rattle.volume_uses.specs.Uses.{is_unused};
 
 use extent_map::ExtentMap;
-use image_layout::Geometry;
+use k_journal::image_layout::Geometry;
 use k_journal::{Batch, Commit, journal};
 use map_chain::write;
 use pm_lines::{Pm, Power};

@@ -7,9 +7,9 @@ use Rattle.disk_lines.specs.declared.Inode.{Inode}
 use Rattle.disk_lines.specs.declared.Kind.{Kind}
 use Rattle.disk_lines.specs.declared.Kind.TheVariants.{File}
 use Rattle.disk_lines.specs.Lines.{has_map_or_none, is_inode, is_inode_of_kind, most_bytes}
-use Rattle.disk_rules.specs.Volume.{Volume, chain, extents, inode}
+use Rattle.k_map_plans.specs.disk_rules.Volume.{Volume, chain, extents, inode}
 use Rattle.extent_words.specs.declared.Extent.{Extent}
-use Rattle.k_journal.specs.declared.batches.Entry.{Entry}
+use Rattle.k_map_plans.specs.k_journal.declared.batches.Entry.{Entry}
 use Rattle.k_map_plans.specs.k_land.PlanLaws.{turns-none}
 use Rattle.k_map_plans.specs.k_land.Plans.{Turns, IsMapFrom}
 use Rattle.k_map_plans.specs.k_land.Plans.IsMapFrom.{SameMap}
@@ -18,7 +18,7 @@ use Rattle.k_map_plans.specs.k_plans.Plans.{IsPlan}
 use Rattle.k_map_plans.specs.k_plans.Switching.{switched_tables}
 use Rattle.k_map_plans.specs.k_plans.View.{TablesView, with_volume}
 use Rattle.k_map_plans.specs.k_plans.Whole.{IsWhole}
-use Rattle.map_rules.specs.Taken.{switched, with_map}
+use Rattle.k_map_plans.specs.map_rules.Taken.{switched, with_map}
 use Rattle.k_map_plans.specs.volume_maps.Switches.{MaySwitch}
 use Rattle.k_log_plans.specs.Resets.{HasOwnMap, reset, unapplied}
 

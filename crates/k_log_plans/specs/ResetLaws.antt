@@ -11,9 +11,9 @@ use Rattle.pm_words.specs.Words.{Words}
 use Rattle.disk_lines.specs.declared.Draft.{Draft}
 use Rattle.disk_lines.specs.declared.Inode.{Inode}
 use Rattle.disk_lines.specs.Names.{walk}
-use Rattle.disk_rules.specs.Content.{byte_in, disk_of, found, node_by, node_of}
-use Rattle.disk_rules.specs.Live.{entry_in, is_live, live_entries}
-use Rattle.disk_rules.specs.Volume.{Volume, free_inode, inode}
+use Rattle.k_map_plans.specs.disk_rules.Content.{byte_in, disk_of, found, node_by, node_of}
+use Rattle.k_map_plans.specs.disk_rules.Live.{entry_in, is_live, live_entries}
+use Rattle.k_map_plans.specs.disk_rules.Volume.{Volume, free_inode, inode}
 use Rattle.k_log_plans.specs.Resets.{HasNoValid, KeepsContentWithoutEntries, reset, unapplied}
 
 no_members : (ds : List Draft) → ((d : Draft) → In d ds → ⊥) → ds ≡ []

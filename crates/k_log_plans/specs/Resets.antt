@@ -3,12 +3,12 @@ use Rattle.std.specs.Prelude.{◌≡◌, ◌<◌, ℕ, List, length, None, Resul
 use Rattle.std.specs.declared.alloc.AllocError.{AllocError}
 use Rattle.pm_words.specs.Words.{Words}
 use Rattle.disk_lines.specs.declared.Inode.{Inode}
-use Rattle.disk_rules.specs.Chains.{first_or_zero}
-use Rattle.disk_rules.specs.Content.{found}
-use Rattle.disk_rules.specs.Live.{entry_in, live_entries}
-use Rattle.disk_rules.specs.Reading.{node_set}
-use Rattle.disk_rules.specs.Volume.{Volume, chain, extents, inode}
-use Rattle.k_journal.specs.declared.batches.Entry.{Entry}
+use Rattle.k_map_plans.specs.disk_rules.Chains.{first_or_zero}
+use Rattle.k_map_plans.specs.disk_rules.Content.{found}
+use Rattle.k_map_plans.specs.disk_rules.Live.{entry_in, live_entries}
+use Rattle.k_map_plans.specs.disk_rules.Reading.{node_set}
+use Rattle.k_map_plans.specs.disk_rules.Volume.{Volume, chain, extents, inode}
+use Rattle.k_map_plans.specs.k_journal.declared.batches.Entry.{Entry}
 use Rattle.k_map_plans.specs.Plans.{IsNotPlanned}
 use Rattle.k_map_plans.specs.k_plans.Plans.{IsPlan}
 use Rattle.k_map_plans.specs.k_plans.View.{TablesView, with_volume}

@@ -16,7 +16,7 @@ ghost use Rattle.k_log_plans.specs.Resets.{HasOwnMap, IsResetPlan};
 ghost use Rattle.k_map_plans.specs.Plans.{IsLiveFile};
 
 use disk_lines::Inode;
-use k_journal::Batch;
+use k_map_plans::k_journal::Batch;
 use k_map_plans::k_plans::Tables;
 use std::alloc::{AllocError, Global};
 
@@ -46,4 +46,4 @@ pub fn plan_reset(
 }
 
 pub use k_map_plans;
-pub use k_map_plans::{k_land, k_plans, k_reading};
+pub use k_map_plans::{image_layout, k_inodes, k_journal, k_land, k_plans, k_reading};

@@ -3,8 +3,8 @@ use Rattle.std.proofs.Common.{◌≡◌, ℕ, false, List, Result, Ok, Err, sym,
 use Rattle.pm_words.specs.declared.Cell.{Cell}
 use Rattle.pm_words.specs.Cells.{AllHome}
 use Rattle.pm_words.specs.Frames.{KeepsSingle, SameLent}
-use Rattle.disk_rules.specs.Volume.{Volume}
-use Rattle.k_rules.specs.View.{View}
+use Rattle.k_check.specs.disk_rules.Volume.{Volume}
+use Rattle.k_split.specs.k_rules.View.{View}
 use Rattle.k_split.specs.declared.faults.KFault.{KFault}
 use Rattle.k_split.specs.Answers.{IsDone}
 use Rattle.k_split.specs.Bytes.{IsOverwriteAnswer}

@@ -3,8 +3,8 @@ use Rattle.std.proofs.Common.{false, List, subst, sym}
 use Rattle.pm_words.specs.declared.Cell.{Cell}
 use Rattle.pm_words.specs.CellLaws.{single-home}
 use Rattle.pm_words.specs.Cells.{AllHome, AllSingle, cell}
-use Rattle.disk_rules.specs.Volume.{Volume}
-use Rattle.k_rules.specs.View.{View}
+use Rattle.k_check.specs.disk_rules.Volume.{Volume}
+use Rattle.k_split.specs.k_rules.View.{View}
 use Rattle.k_split.specs.Order.{IsOpened}
 use Rattle.k_map_calls.specs.Calls.{IsFresh}
 

@@ -1,7 +1,7 @@
 -- A K-Split on which a call may be made, and what a call leaves of one.
 use Rattle.std.specs.Prelude.{◌≡◌, false, Result, Ok, Err}
 use Rattle.pm_words.specs.Cells.{AllHome, AllSingle}
-use Rattle.k_rules.specs.View.{View}
+use Rattle.k_split.specs.k_rules.View.{View}
 use Rattle.k_split.specs.Order.{IsInOrder}
 use Rattle.k_split.specs.declared.faults.KFault.{KFault}
 use Rattle.k_map_calls.specs.declared.kinds.Reply.{Reply}

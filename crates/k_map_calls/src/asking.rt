@@ -1,6 +1,6 @@
 //! What a call asks for, looked up before it is made.
 ghost use Rattle.std.specs.Prelude.{◌≡◌, ◌+◌, ◌/◌, ◌^◌, ◌<◌, ◌≤◌, ℕ, [], IsTrue, IsSome, Some};
-ghost use Rattle.disk_rules.specs.Volume.{extents, inode};
+ghost use Rattle.k_check.specs.disk_rules.Volume.{extents, inode};
 ghost use Rattle.extent_words.specs.Extents.{disk_at};
 ghost use Rattle.extent_words.specs.Moves.{IsMapped};
 ghost use Rattle.k_split.specs.k_map_plans.Plans.{IsLiveFile, IsStagingFile, MayMove};
@@ -8,7 +8,7 @@ ghost use Rattle.k_split.specs.k_map_plans.Plans.{IsLiveFile, IsStagingFile, May
 use disk_lines::Kind;
 use extent_map::ExtentMap;
 use k_split::KSplit;
-use map_rules::Move;
+use k_split::map_rules::Move;
 
 /// Whether an inode is a file in use.
 pub fn is_file(k: &KSplit, ino: u32) -> bool

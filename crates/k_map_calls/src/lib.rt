@@ -21,6 +21,8 @@ mod shown;
 pub use asking::{blocks_are_there, has_block, is_file, is_staging};
 pub use calls::{apply, has_free, made};
 pub use devices::{begun, block_bytes, left, opened, reopened};
+pub use k_check::{image_layout, k_journal, oplog_entry};
 pub use k_split;
+pub use k_split::map_rules;
 pub use kinds::{MapCall, Put, Reply, RunError};
 pub use shown::map_text;

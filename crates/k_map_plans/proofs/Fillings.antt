@@ -9,16 +9,16 @@ use Rattle.disk_lines.specs.declared.Kind.{Kind}
 use Rattle.disk_lines.specs.declared.Kind.TheVariants.{File}
 use Rattle.disk_lines.specs.Lines.{has_map_or_none, is_inode, is_inode_of_kind, most_bytes}
 use Rattle.disk_places.specs.Places.{is_data_block, reserve}
-use Rattle.disk_rules.specs.Volume.{chain, extents, inode}
+use Rattle.k_plans.specs.disk_rules.Volume.{chain, extents, inode}
 use Rattle.extent_words.specs.declared.Extent.{Extent}
-use Rattle.k_journal.specs.declared.batches.Entry.{Entry}
+use Rattle.k_plans.specs.k_journal.declared.batches.Entry.{Entry}
 use Rattle.k_plans.specs.k_land.Plans.{NewChain}
 use Rattle.k_plans.specs.Free.{free_blocks, is_free_block}
 use Rattle.k_plans.specs.Switching.{IsSetAside, WaitOnce}
 use Rattle.k_plans.specs.View.{TablesView}
 use Rattle.k_plans.specs.Whole.{IsWhole}
-use Rattle.map_rules.specs.Changes.{Fills, IsFilled}
-use Rattle.map_rules.specs.Taken.{AreLowest, switched, with_map}
+use Rattle.k_plans.specs.map_rules.Changes.{Fills, IsFilled}
+use Rattle.k_plans.specs.map_rules.Taken.{AreLowest, switched, with_map}
 use Rattle.k_plans.specs.volume_maps.Bounds.{map-bound, own-data, own-once}
 use Rattle.k_plans.specs.volume_maps.Hits.{in_chain-append}
 use Rattle.k_plans.specs.volume_maps.Switches.{unused-data, unused-owners}

@@ -6,26 +6,26 @@ use Rattle.std.proofs.lemmas.Bool.{both_ways, cases_Bool, cases_lt, eq-eqb, ne_e
 use Rattle.std.proofs.lemmas.Bool.Decides.{nat_tests}
 use Rattle.std.proofs.lemmas.List.{length-set}
 use Rattle.block_counts.specs.Counts.{chains_for}
-use Rattle.block_pool.specs.FreeSets.{is_among}
+use Rattle.k_plans.specs.block_pool.FreeSets.{is_among}
 use Rattle.disk_lines.specs.declared.Inode.{Inode}
 use Rattle.disk_lines.specs.declared.Kind.{Kind}
 use Rattle.disk_lines.specs.declared.Kind.TheVariants.{Free, Directory, File, Staging}
 use Rattle.disk_lines.specs.Lines.{has_map_or_none, is_inode, is_inode_of_kind}
 use Rattle.disk_places.specs.Places.{is_data_block}
-use Rattle.disk_rules.specs.Placed.{AreDistinct}
-use Rattle.disk_rules.specs.Volume.{Volume, chain}
+use Rattle.k_plans.specs.disk_rules.Placed.{AreDistinct}
+use Rattle.k_plans.specs.disk_rules.Volume.{Volume, chain}
 use Rattle.extent_facts.specs.Counts.{length-le}
 use Rattle.extent_words.specs.declared.Extent.{Extent}
 use Rattle.extent_words.specs.Extents.{IsCanonical}
-use Rattle.k_journal.specs.declared.batches.Entry.{Entry}
+use Rattle.k_plans.specs.k_journal.declared.batches.Entry.{Entry}
 use Rattle.k_plans.specs.k_land.Plans.{NewChain, Turns, new_at}
 use Rattle.k_plans.specs.k_land.WrittenLaws.{blocks_of-one}
 use Rattle.k_plans.specs.Free.{is_free_block}
 use Rattle.k_plans.specs.Switching.{IsMapPlan, IsSetAside, WaitOnce}
 use Rattle.k_plans.specs.View.{TablesView}
 use Rattle.k_plans.specs.Whole.{IsWhole}
-use Rattle.map_rules.specs.Taken.{AreLowest, switched, with_map}
-use Rattle.volume_facts.specs.Changes.{chain-set_same}
+use Rattle.k_plans.specs.map_rules.Taken.{AreLowest, switched, with_map}
+use Rattle.k_plans.specs.volume_facts.Changes.{chain-set_same}
 use Rattle.k_plans.specs.volume_maps.Hits.{in_chain-append}
 use Rattle.k_plans.specs.volume_maps.Switches.{MaySwitch, counted-among, unused-data}
 use Rattle.k_plans.specs.volume_maps.TakenLaws.{All-at, rising-distinct, rising-once}

@@ -8,18 +8,18 @@ use Rattle.block_counts.specs.Counts.{chains_for}
 use Rattle.disk_lines.specs.declared.Inode.{Inode}
 use Rattle.disk_lines.specs.declared.Kind.TheVariants.{File, Staging}
 use Rattle.disk_places.specs.Places.{is_data_block, reserve}
-use Rattle.disk_rules.specs.Placed.{AreDistinct, block_at}
+use Rattle.k_plans.specs.disk_rules.Placed.{AreDistinct, block_at}
 use Rattle.extent_facts.specs.Counts.{length-le}
 use Rattle.k_plans.specs.k_land.Maps.{AreApart}
 use Rattle.k_plans.specs.Free.{is_free_block}
-use Rattle.disk_rules.specs.Rules.{file_blocks_of}
-use Rattle.disk_rules.specs.Volume.{Volume, chain, extents, inode}
+use Rattle.k_plans.specs.disk_rules.Rules.{file_blocks_of}
+use Rattle.k_plans.specs.disk_rules.Volume.{Volume, chain, extents, inode}
 use Rattle.extent_words.specs.Extents.{IsCanonical, disk_at, is_within}
 use Rattle.extent_words.specs.Moves.{Moves}
 use Rattle.k_plans.specs.Switching.{IsMapPlan, IsSetAside}
 use Rattle.k_plans.specs.View.{TablesView}
 use Rattle.k_plans.specs.Whole.{IsWhole}
-use Rattle.volume_facts.specs.Changes.{chain-set_other, extents-set_other, inode-set_other}
+use Rattle.k_plans.specs.volume_facts.Changes.{chain-set_other, extents-set_other, inode-set_other}
 use Rattle.k_plans.specs.volume_maps.Bounds.{map-bound, own-data, own-once}
 use Rattle.k_plans.specs.volume_maps.Hits.{AreAt, in_chain-append, in_map-left, in_map-linked}
 use Rattle.k_plans.specs.volume_maps.Shorts.{AreBelow, length-below, mapped-below, part-below}
@@ -29,11 +29,11 @@ use Rattle.k_plans.specs.volume_uses.OwnerLaws.{two-le-owners}
 use Rattle.k_plans.specs.volume_uses.UseLaws.{in_chain-at, length-uses_by}
 use Rattle.k_plans.specs.volume_uses.Uses.{in_chain, in_map, is_unused}
 use Rattle.extent_words.specs.declared.Extent.{Extent}
-use Rattle.k_journal.specs.declared.batches.Entry.{Entry}
+use Rattle.k_plans.specs.k_journal.declared.batches.Entry.{Entry}
 use Rattle.k_plans.specs.k_land.Plans.{IsMapFrom, NewChain, Turns, blocks_of, new_at}
-use Rattle.map_rules.specs.Changes.{with_length}
-use Rattle.map_rules.specs.Taken.{AreLowest, switched, with_map}
-use Rattle.map_rules.specs.declared.moves.Move.{Move}
+use Rattle.k_plans.specs.map_rules.Changes.{with_length}
+use Rattle.k_plans.specs.map_rules.Taken.{AreLowest, switched, with_map}
+use Rattle.k_plans.specs.map_rules.declared.moves.Move.{Move}
 use Rattle.k_map_plans.specs.Moving.{MayGoBoth, left_volume}
 use Rattle.k_map_plans.specs.Plans.{MayMove}
 use Rattle.k_map_plans.proofs.Goings.{aside-unused, data-above, fields-fit, free-unused}

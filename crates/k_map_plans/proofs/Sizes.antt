@@ -8,16 +8,16 @@ use Rattle.disk_lines.specs.declared.Kind.{Kind}
 use Rattle.disk_lines.specs.declared.Kind.TheVariants.{File}
 use Rattle.disk_lines.specs.Lines.{has_map_or_none, is_inode, is_inode_of_kind, most_bytes}
 use Rattle.disk_places.specs.Places.{reserve}
-use Rattle.disk_rules.specs.Rules.{file_blocks_of}
-use Rattle.disk_rules.specs.Volume.{extents, inode}
+use Rattle.k_plans.specs.disk_rules.Rules.{file_blocks_of}
+use Rattle.k_plans.specs.disk_rules.Volume.{extents, inode}
 use Rattle.extent_words.specs.declared.Extent.{Extent}
 use Rattle.extent_words.specs.Extents.{IsCanonical}
 use Rattle.extent_words.specs.Maps.{IsPart}
 use Rattle.k_plans.specs.Free.{free_blocks}
 use Rattle.k_plans.specs.View.{TablesView}
 use Rattle.k_plans.specs.Whole.{IsWhole}
-use Rattle.map_rules.specs.Changes.{with_size}
-use Rattle.map_rules.specs.Taken.{with_map}
+use Rattle.k_plans.specs.map_rules.Changes.{with_size}
+use Rattle.k_plans.specs.map_rules.Taken.{with_map}
 use Rattle.k_plans.specs.volume_maps.Bounds.{part-bound}
 use Rattle.k_plans.specs.volume_maps.Hits.{in_map-parts}
 use Rattle.k_plans.specs.volume_uses.Uses.{in_chain}

@@ -8,20 +8,20 @@ use Rattle.disk_lines.specs.declared.Inode.{Inode}
 use Rattle.disk_lines.specs.declared.Kind.{Kind}
 use Rattle.disk_lines.specs.declared.Kind.TheVariants.{Staging}
 use Rattle.disk_lines.specs.Lines.{has_map_or_none, is_inode, is_inode_of_kind}
-use Rattle.disk_rules.specs.Rules.{file_blocks_of}
-use Rattle.disk_rules.specs.Volume.{Volume, extents, inode}
+use Rattle.k_plans.specs.disk_rules.Rules.{file_blocks_of}
+use Rattle.k_plans.specs.disk_rules.Volume.{Volume, extents, inode}
 use Rattle.extent_words.specs.declared.Extent.{Extent}
-use Rattle.k_journal.specs.declared.batches.Entry.{Entry}
+use Rattle.k_plans.specs.k_journal.declared.batches.Entry.{Entry}
 use Rattle.k_plans.specs.k_land.Plans.{NewChain}
 use Rattle.k_plans.specs.View.{TablesView}
 use Rattle.k_plans.specs.Whole.{IsWhole}
 use Rattle.block_counts.specs.Counts.{chains_for}
-use Rattle.block_pool.specs.FreeSets.{is_among}
+use Rattle.k_plans.specs.block_pool.FreeSets.{is_among}
 use Rattle.disk_places.specs.Places.{reserve}
 use Rattle.k_plans.specs.Free.{free_blocks, is_free_block}
 use Rattle.k_plans.specs.Switching.{IsMapPlan, IsSetAside, WaitOnce}
-use Rattle.map_rules.specs.Changes.{aged, HasInOrder, IsPreallocated}
-use Rattle.map_rules.specs.Taken.{switched, with_map}
+use Rattle.k_plans.specs.map_rules.Changes.{aged, HasInOrder, IsPreallocated}
+use Rattle.k_plans.specs.map_rules.Taken.{switched, with_map}
 use Rattle.std.specs.List.{list_any}
 use Rattle.k_plans.specs.volume_maps.Bounds.{map-bound}
 use Rattle.k_plans.specs.volume_maps.Hits.{in_chain-append, in_map-in_order}

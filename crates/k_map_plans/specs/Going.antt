@@ -5,14 +5,14 @@ use Rattle.extent_words.specs.declared.Extent.{Extent}
 use Rattle.disk_lines.specs.declared.Inode.{Inode}
 use Rattle.disk_lines.specs.declared.Kind.TheVariants.{File, Staging}
 use Rattle.disk_lines.specs.Lines.{is_inode}
-use Rattle.disk_rules.specs.Rules.{file_blocks_of}
-use Rattle.disk_rules.specs.Volume.{chain, extents, inode}
-use Rattle.k_journal.specs.declared.batches.Entry.{Entry}
+use Rattle.k_plans.specs.disk_rules.Rules.{file_blocks_of}
+use Rattle.k_plans.specs.disk_rules.Volume.{chain, extents, inode}
+use Rattle.k_plans.specs.k_journal.declared.batches.Entry.{Entry}
 use Rattle.k_plans.specs.k_land.Plans.{NewChain}
 use Rattle.k_plans.specs.Free.{free_blocks, is_free_block}
 use Rattle.k_plans.specs.Switching.{IsMapPlan, WaitOnce}
 use Rattle.k_plans.specs.View.{TablesView}
-use Rattle.map_rules.specs.Taken.{AreLowest, switched, with_map}
+use Rattle.k_plans.specs.map_rules.Taken.{AreLowest, switched, with_map}
 use Rattle.k_plans.specs.volume_uses.Uses.{in_chain, in_map}
 
 -- The inode keeps its kind, a file's or a staging file's, and may have this line with any map. What it has then and what is

@@ -1,11 +1,11 @@
 -- The two inodes of a move go over to their maps, one after the other.
 use Rattle.std.specs.Prelude.{◌<◌, ℕ, List, length}
 use Rattle.extent_words.specs.declared.Extent.{Extent}
-use Rattle.disk_rules.specs.Volume.{Volume, inode}
+use Rattle.k_plans.specs.disk_rules.Volume.{Volume, inode}
 use Rattle.k_plans.specs.View.{TablesView}
-use Rattle.map_rules.specs.Changes.{with_length}
-use Rattle.map_rules.specs.Taken.{switched}
-use Rattle.map_rules.specs.declared.moves.Move.{Move}
+use Rattle.k_plans.specs.map_rules.Changes.{with_length}
+use Rattle.k_plans.specs.map_rules.Taken.{switched}
+use Rattle.k_plans.specs.map_rules.declared.moves.Move.{Move}
 use Rattle.k_plans.specs.volume_maps.Switches.{MaySwitch}
 
 -- the volume without the blocks that leave the staging file, and the one with them in the file

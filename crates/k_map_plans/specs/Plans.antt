@@ -3,15 +3,15 @@ use Rattle.std.specs.Prelude.{◌≡◌, ◌≤◌, ◌<◌, ◌+◌, ◌-◌, �
 use Rattle.std.specs.declared.alloc.AllocError.{AllocError}
 use Rattle.disk_lines.specs.declared.Kind.TheVariants.{File, Staging}
 use Rattle.disk_places.specs.Places.{reserve}
-use Rattle.disk_rules.specs.Volume.{Volume, chain, extents, inode}
+use Rattle.k_plans.specs.disk_rules.Volume.{Volume, chain, extents, inode}
 use Rattle.extent_words.specs.declared.Extent.{Extent}
-use Rattle.k_journal.specs.declared.batches.Entry.{Entry}
+use Rattle.k_plans.specs.k_journal.declared.batches.Entry.{Entry}
 use Rattle.k_plans.specs.k_land.Plans.{NewChain}
 use Rattle.k_plans.specs.Free.{free_blocks, is_free_block}
 use Rattle.k_plans.specs.Switching.{IsMapPlan}
 use Rattle.k_plans.specs.View.{TablesView}
-use Rattle.map_rules.specs.Changes.{given_up, holes, IsFilled, IsMoved, IsPreallocated, IsSized}
-use Rattle.map_rules.specs.declared.moves.Move.{Move}
+use Rattle.k_plans.specs.map_rules.Changes.{given_up, holes, IsFilled, IsMoved, IsPreallocated, IsSized}
+use Rattle.k_plans.specs.map_rules.declared.moves.Move.{Move}
 use Rattle.extent_words.specs.Moves.{IsMapped}
 use Rattle.disk_lines.specs.Lines.{most_bytes}
 use Rattle.posix_types.specs.declared.item.Outcome.{Outcome}

@@ -1,16 +1,16 @@
 //! The holes of a file get blocks.
 ghost use Rattle.std.specs.Prelude.{◌≡◌, ◌<◌, ◌≤◌, ◌+◌, ◌^◌, ◌∷◌, [], ℕ, true, All, length, Ok, IfErr, IfOk, OnErr, OnOk};
-ghost use Rattle.disk_rules.specs.Volume.{chain};
+ghost use Rattle.k_plans.specs.disk_rules.Volume.{chain};
 ghost use Rattle.k_map_plans.specs.Plans.{fill_row, IsFillPlan, IsLiveFile, IsNotPlanned, MayFill, row_of};
 ghost use Rattle.k_plans.specs.Free.{is_free_block};
 ghost use Rattle.k_plans.specs.Switching.{IsMapPlan, WaitOnce};
-ghost use Rattle.map_rules.specs.Changes.{Fills, holes, IsFilled};
+ghost use Rattle.k_plans.specs.map_rules.Changes.{Fills, holes, IsFilled};
 ghost use Rattle.k_plans.specs.volume_uses.Uses.{in_chain, in_map};
 
 use crate::going::go_over;
 use extent_map::{Extent, ExtentMap};
-use k_journal::Batch;
 use k_plans::Tables;
+use k_plans::k_journal::Batch;
 use k_plans::k_land::NewMap;
 use posix_types::{Room, What};
 use std::alloc::{AllocError, Global};

@@ -8,8 +8,8 @@ use crate::lists::push_extents;
 use block_counts::chains_for;
 use disk_lines::Inode;
 use extent_map::{Extent, ExtentMap};
-use k_journal::Batch;
 use k_plans::Tables;
+use k_plans::k_journal::Batch;
 use k_plans::k_land::NewMap;
 use std::alloc::{AllocError, Global};
 

@@ -19,7 +19,7 @@ mod staging;
 
 pub use filling::{may_fill, plan_fill};
 pub use k_plans;
-pub use k_plans::{k_land, k_reading};
+pub use k_plans::{image_layout, k_inodes, k_journal, k_land, k_reading};
 pub use moving::plan_move;
 pub use sizing::plan_size;
 pub use staging::{plan_give_up, plan_preallocate};

@@ -1,7 +1,7 @@
 //! Blocks go from a staging file to a file.
 ghost use Rattle.std.specs.Prelude.{◌≡◌, ◌<◌, ◌≤◌, ◌+◌, ◌^◌, ◌∷◌, [], ℕ, List, length, IfOk, OnErr, OnOk};
 ghost use Rattle.disk_places.specs.Places.{reserve};
-ghost use Rattle.disk_rules.specs.Volume.{Volume, chain, extents, inode};
+ghost use Rattle.k_plans.specs.disk_rules.Volume.{Volume, chain, extents, inode};
 ghost use Rattle.extent_words.specs.Extents.{IsCanonical};
 ghost use Rattle.extent_words.specs.declared.Extent.{Extent};
 ghost use Rattle.extent_words.specs.Moves.{IsMapped, Moves};
@@ -11,19 +11,19 @@ ghost use Rattle.k_map_plans.specs.Plans.{IsMovePlan, MayMove};
 ghost use Rattle.k_plans.specs.Free.{free_blocks, is_free_block};
 ghost use Rattle.k_plans.specs.Switching.{IsMapPlan, WaitOnce};
 ghost use Rattle.k_plans.specs.Whole.{IsWhole};
-ghost use Rattle.map_rules.specs.Changes.{IsMoved, with_length};
-ghost use Rattle.map_rules.specs.Taken.{switched, with_map};
+ghost use Rattle.k_plans.specs.map_rules.Changes.{IsMoved, with_length};
+ghost use Rattle.k_plans.specs.map_rules.Taken.{switched, with_map};
 ghost use Rattle.k_plans.specs.volume_maps.Hits.{AreAt};
 
 use crate::lists::push_extents;
 use block_counts::chains_for;
 use disk_lines::Inode;
 use extent_map::ExtentMap;
-use k_journal::Batch;
 use k_plans::Tables;
+use k_plans::k_journal::Batch;
 use k_plans::k_land::NewMap;
+use k_plans::map_rules::Move;
 use k_relink::{RelinkFault, Relinked, relink};
-use map_rules::Move;
 use std::alloc::{AllocError, Global};
 
 // The disk blocks of `count` file blocks of a map from `from` on, each of which has one.

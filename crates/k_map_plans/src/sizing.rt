@@ -2,17 +2,17 @@
 ghost use Rattle.std.specs.Prelude.{◌≡◌, ◌≤◌, ◌+◌, ◌∷◌, [], IfOk, OnErr, OnOk};
 ghost use Rattle.disk_lines.specs.Lines.{most_bytes};
 ghost use Rattle.disk_places.specs.Places.{reserve};
-ghost use Rattle.disk_rules.specs.Volume.{chain};
+ghost use Rattle.k_plans.specs.disk_rules.Volume.{chain};
 ghost use Rattle.k_map_plans.specs.Plans.{IsLiveFile, IsSizePlan};
 ghost use Rattle.k_plans.specs.Free.{free_blocks, is_free_block};
 ghost use Rattle.k_plans.specs.Switching.{IsMapPlan, WaitOnce};
-ghost use Rattle.map_rules.specs.Changes.{IsSized};
+ghost use Rattle.k_plans.specs.map_rules.Changes.{IsSized};
 
 use crate::going::go_over;
 use block_counts::blocks_for;
 use disk_lines::Inode;
-use k_journal::Batch;
 use k_plans::Tables;
+use k_plans::k_journal::Batch;
 use k_plans::k_land::NewMap;
 use std::alloc::{AllocError, Global};
 

@@ -1,17 +1,17 @@
 //! The blocks of a staging file: it gives them up, and gets new ones.
 ghost use Rattle.std.specs.Prelude.{◌≡◌, ◌≤◌, ◌<◌, ◌+◌, ◌^◌, ◌∷◌, [], All, length, IfOk, OnErr, OnOk};
 ghost use Rattle.disk_places.specs.Places.{reserve};
-ghost use Rattle.disk_rules.specs.Volume.{chain, extents};
+ghost use Rattle.k_plans.specs.disk_rules.Volume.{chain, extents};
 ghost use Rattle.k_map_plans.specs.Plans.{IsGiveUpPlan, IsPreallocatePlan, IsStagingFile};
 ghost use Rattle.k_plans.specs.Free.{free_blocks, is_free_block};
 ghost use Rattle.k_plans.specs.Switching.{IsMapPlan, WaitOnce};
-ghost use Rattle.map_rules.specs.Changes.{aged, given_up, HasInOrder, IsPreallocated};
+ghost use Rattle.k_plans.specs.map_rules.Changes.{aged, given_up, HasInOrder, IsPreallocated};
 
 use crate::going::go_over;
 use disk_lines::Inode;
 use extent_map::{Extent, ExtentMap};
-use k_journal::Batch;
 use k_plans::Tables;
+use k_plans::k_journal::Batch;
 use k_plans::k_land::NewMap;
 use std::alloc::{AllocError, Global};
 

@@ -15,16 +15,16 @@ use Rattle.disk_lines.specs.declared.Draft.{Draft}
 use Rattle.disk_lines.specs.declared.Inode.{Inode}
 use Rattle.disk_lines.specs.Entries.{held_seq, is_self_valid}
 use Rattle.disk_lines.specs.Names.{names_of}
-use Rattle.disk_rules.specs.Checked.{IsCheckedAs, IsLogKept}
-use Rattle.disk_rules.specs.Kept.{AreKept}
-use Rattle.disk_rules.specs.Live.{entry_in, is_file, is_live, is_of_file, live_entries, valid_entries}
-use Rattle.disk_rules.specs.Reading.{Reads}
-use Rattle.disk_rules.specs.Room.{held_after_recovery, is_named_file, unused_blocks}
-use Rattle.disk_rules.specs.Rules.{geometry_of, HasStagingBlocks}
-use Rattle.disk_rules.specs.Volume.{inode, Volume}
-use Rattle.k_rules.specs.Stands.{IsOldOrNew}
-use Rattle.volume_facts.specs.Footprint.{SameLog}
-use Rattle.volume_facts.specs.FootprintLaws.{entry_in-same, live_entries-same}
+use Rattle.world_images.specs.disk_rules.Checked.{IsCheckedAs, IsLogKept}
+use Rattle.world_images.specs.disk_rules.Kept.{AreKept}
+use Rattle.world_images.specs.disk_rules.Live.{entry_in, is_file, is_live, is_of_file, live_entries, valid_entries}
+use Rattle.world_images.specs.disk_rules.Reading.{Reads}
+use Rattle.world_images.specs.disk_rules.Room.{held_after_recovery, is_named_file, unused_blocks}
+use Rattle.world_images.specs.disk_rules.Rules.{geometry_of, HasStagingBlocks}
+use Rattle.world_images.specs.disk_rules.Volume.{inode, Volume}
+use Rattle.world_images.specs.k_rules.Stands.{IsOldOrNew}
+use Rattle.world_images.specs.volume_facts.Footprint.{SameLog}
+use Rattle.world_images.specs.volume_facts.FootprintLaws.{entry_in-same, live_entries-same}
 use Rattle.world_images.specs.Changed.{headed_changed, SameLog-changed, sound_headed}
 use Rattle.world_images.specs.Images.{IsHeaded}
 use Rattle.k_mount.specs.Sheds.{IsKeptAt, IsShedAt, Sheds}

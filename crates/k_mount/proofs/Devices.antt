@@ -4,9 +4,9 @@ use Rattle.std.proofs.lemmas.Bool.{cases_lt}
 use Rattle.pm_words.specs.declared.Cell.{Cell}
 use Rattle.pm_words.specs.CellLaws.{single-home}
 use Rattle.pm_words.specs.Cells.{AllHome, AllSingle, cell}
-use Rattle.disk_rules.specs.Volume.{Volume}
-use Rattle.k_journal.specs.declared.outcomes.Commit.{Commit}
-use Rattle.k_rules.specs.View.{View}
+use Rattle.world_images.specs.disk_rules.Volume.{Volume}
+use Rattle.k_split.specs.k_journal.declared.outcomes.Commit.{Commit}
+use Rattle.world_images.specs.k_rules.View.{View}
 use Rattle.k_split.specs.Answers.{Changes, IsAnswer, IsOff}
 use Rattle.k_split.specs.declared.faults.KFault.{KFault}
 use Rattle.k_split.specs.Laps.{IsBaseAnswer, IsRestartAnswer, LosesLog}

@@ -9,25 +9,25 @@ use Rattle.pm_words.specs.Words.{Words}
 use Rattle.disk_places.specs.Journal.{IsSound, is_journal_word, journaled}
 use Rattle.disk_places.specs.PlaceLaws.{behind_log-words}
 use Rattle.disk_places.specs.Places.{commit_word, Geometry, is_data_block, is_journaled_line}
-use Rattle.disk_rules.specs.Checked.{IsCheckedAs}
-use Rattle.disk_rules.specs.Content.{content, found}
-use Rattle.disk_rules.specs.Kept.{AreKept}
-use Rattle.disk_rules.specs.Live.{live_entries}
-use Rattle.disk_rules.specs.Placed.{IsOutside}
-use Rattle.disk_rules.specs.Reading.{Reads}
-use Rattle.disk_rules.specs.Room.{unused_blocks}
-use Rattle.disk_rules.specs.Volume.{Volume, volume}
+use Rattle.world_images.specs.disk_rules.Checked.{IsCheckedAs}
+use Rattle.world_images.specs.disk_rules.Content.{content, found}
+use Rattle.world_images.specs.disk_rules.Kept.{AreKept}
+use Rattle.world_images.specs.disk_rules.Live.{live_entries}
+use Rattle.world_images.specs.disk_rules.Placed.{IsOutside}
+use Rattle.world_images.specs.disk_rules.Reading.{Reads}
+use Rattle.world_images.specs.disk_rules.Room.{unused_blocks}
+use Rattle.world_images.specs.disk_rules.Volume.{Volume, volume}
 use Rattle.world_images.specs.image_facts.CheckedLaws.{checked-parts, head-checked, parts-checked}
-use Rattle.k_rules.specs.Changes.{dropped}
-use Rattle.k_rules.specs.Stands.{IsOldOrNew}
-use Rattle.k_rules.specs.View.{View}
+use Rattle.world_images.specs.k_rules.Changes.{dropped}
+use Rattle.world_images.specs.k_rules.Stands.{IsOldOrNew}
+use Rattle.world_images.specs.k_rules.View.{View}
 use Rattle.k_split.specs.Answers.{Changes, IsCut, IsOff}
 use Rattle.k_split.specs.declared.faults.KFault.{KFault}
 use Rattle.k_split.specs.Names.{IsDropAnswer}
-use Rattle.volume_facts.specs.Footprint.{SameLog}
-use Rattle.volume_facts.specs.ImageLaws.{journaled-other}
-use Rattle.volume_facts.specs.LineWords.{data_word, data_word-not_journaled}
-use Rattle.volume_facts.specs.ReadingLaws.{reads-volume}
+use Rattle.world_images.specs.volume_facts.Footprint.{SameLog}
+use Rattle.world_images.specs.volume_facts.ImageLaws.{journaled-other}
+use Rattle.world_images.specs.volume_facts.LineWords.{data_word, data_word-not_journaled}
+use Rattle.world_images.specs.volume_facts.ReadingLaws.{reads-volume}
 use Rattle.world_images.specs.Changed.{headed_changed, SameLog-changed, sound_headed}
 use Rattle.world_images.specs.Images.{IsHeaded}
 use Rattle.k_mount.proofs.Checked.{log_kept, none_live}

@@ -9,13 +9,13 @@ use Rattle.disk_lines.specs.declared.Inode.{Inode}
 use Rattle.disk_lines.specs.declared.Kind.{Kind}
 use Rattle.disk_lines.specs.declared.Kind.TheVariants.{File, Free}
 use Rattle.disk_lines.specs.Names.{names_of}
-use Rattle.disk_rules.specs.Room.{unused_blocks}
-use Rattle.disk_rules.specs.Rules.{file_blocks_of, IsKindAt}
-use Rattle.disk_rules.specs.Volume.{chain, extents, free_inode, inode, Volume}
+use Rattle.world_images.specs.disk_rules.Room.{unused_blocks}
+use Rattle.world_images.specs.disk_rules.Rules.{file_blocks_of, IsKindAt}
+use Rattle.world_images.specs.disk_rules.Volume.{chain, extents, free_inode, inode, Volume}
 use Rattle.k_split.specs.k_plans.Whole.{IsWhole}
-use Rattle.k_rules.specs.Changes.{dropped, gone_node}
-use Rattle.k_rules.specs.View.{View}
-use Rattle.volume_facts.specs.Changes.{chain-set_other, chain-set_same, extents-set_other, extents-set_same, inode-set_other, inode-set_same}
+use Rattle.world_images.specs.k_rules.Changes.{dropped, gone_node}
+use Rattle.world_images.specs.k_rules.View.{View}
+use Rattle.world_images.specs.volume_facts.Changes.{chain-set_other, chain-set_same, extents-set_other, extents-set_same, inode-set_other, inode-set_same}
 use Rattle.world_images.specs.volume_uses.PoolLaws.{held-set, unused-held}
 use Rattle.world_images.specs.volume_uses.Uses.{blocks_held, HasAllMaps}
 use Rattle.k_mount.specs.Sheds.{AllNamed, IsAtRest, IsKeptAt, IsNameless, IsShedAt, IsShedOne, LosesNameless, SameOutside, Sheds}

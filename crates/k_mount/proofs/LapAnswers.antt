@@ -11,9 +11,9 @@ use Rattle.pm_words.specs.Images.{words_of}
 use Rattle.disk_places.specs.Journal.{is_journal_word}
 use Rattle.disk_places.specs.PlaceLaws.{behind_log-not_journaled, behind_log-words}
 use Rattle.disk_places.specs.Places.{is_journaled_line}
-use Rattle.disk_rules.specs.Volume.{Volume}
-use Rattle.k_journal.specs.declared.outcomes.Commit.{Commit}
-use Rattle.k_rules.specs.View.{View}
+use Rattle.world_images.specs.disk_rules.Volume.{Volume}
+use Rattle.k_split.specs.k_journal.declared.outcomes.Commit.{Commit}
+use Rattle.world_images.specs.k_rules.View.{View}
 use Rattle.k_split.specs.Answers.{IsDone}
 use Rattle.k_split.specs.Laps.{ClearsLog, IsBaseAnswer, IsLogWord, IsRestartAnswer, next_base}
 use Rattle.k_mount.specs.NextLaps.{BeginsLap, IsRestarted, IsRisen}

@@ -18,25 +18,25 @@ use Rattle.disk_places.specs.Superblock.{geometry_at, has_magic, has_numbers, ha
 use Rattle.disk_lines.specs.declared.Draft.{Draft}
 use Rattle.disk_lines.specs.Entries.{decode_entry, held_seq, is_self_valid}
 use Rattle.disk_lines.specs.EntryLaws.{held_seq-decode_entry}
-use Rattle.disk_rules.specs.Checked.{IsCheckedAs, IsLogKept}
-use Rattle.disk_rules.specs.Content.{content, found, node_of}
-use Rattle.disk_rules.specs.Live.{entry_in, is_live, live_entries}
-use Rattle.disk_rules.specs.Kept.{AreKept}
-use Rattle.disk_rules.specs.Placed.{IsOutside}
-use Rattle.disk_rules.specs.Reading.{base_set, Reads}
-use Rattle.disk_rules.specs.Room.{has_none, held_after_recovery, unused_blocks}
-use Rattle.disk_rules.specs.Rules.{geometry_of, HasStagingBlocks, HasTarget, IsOfNoLater}
-use Rattle.disk_rules.specs.Volume.{Volume}
+use Rattle.world_images.specs.disk_rules.Checked.{IsCheckedAs, IsLogKept}
+use Rattle.world_images.specs.disk_rules.Content.{content, found, node_of}
+use Rattle.world_images.specs.disk_rules.Live.{entry_in, is_live, live_entries}
+use Rattle.world_images.specs.disk_rules.Kept.{AreKept}
+use Rattle.world_images.specs.disk_rules.Placed.{IsOutside}
+use Rattle.world_images.specs.disk_rules.Reading.{base_set, Reads}
+use Rattle.world_images.specs.disk_rules.Room.{has_none, held_after_recovery, unused_blocks}
+use Rattle.world_images.specs.disk_rules.Rules.{geometry_of, HasStagingBlocks, HasTarget, IsOfNoLater}
+use Rattle.world_images.specs.disk_rules.Volume.{Volume}
 use Rattle.list_facts.specs.Filters.{filter-In, filter_map-In, range-In}
 use Rattle.list_facts.specs.Members.{In}
-use Rattle.volume_facts.specs.ImageLaws.{journaled-idle, journaled-other}
-use Rattle.volume_facts.specs.LineWords.{data_word, data_word-not_journaled}
-use Rattle.volume_facts.specs.ReadingLaws.{reads-volume}
+use Rattle.world_images.specs.volume_facts.ImageLaws.{journaled-idle, journaled-other}
+use Rattle.world_images.specs.volume_facts.LineWords.{data_word, data_word-not_journaled}
+use Rattle.world_images.specs.volume_facts.ReadingLaws.{reads-volume}
 use Rattle.world_images.specs.volume_uses.OwnerLaws.{owners-base}
 use Rattle.world_images.specs.image_facts.FreshLaws.{zeros-no_entry}
 use Rattle.world_images.specs.image_facts.ViewLaws.{head_word, sound-targets}
-use Rattle.k_rules.specs.Stands.{IsOldOrNew, Stands}
-use Rattle.k_rules.specs.View.{View}
+use Rattle.world_images.specs.k_rules.Stands.{IsOldOrNew, Stands}
+use Rattle.world_images.specs.k_rules.View.{View}
 use Rattle.k_split.specs.Laps.{IsLogWord, next_base}
 use Rattle.world_images.specs.Changed.{sound_headed}
 use Rattle.world_images.specs.Images.{HasNoEntry}

@@ -13,23 +13,23 @@ use Rattle.disk_places.specs.Places.{Geometry, is_data_block, is_journaled_line}
 use Rattle.extent_words.specs.Extents.{covers}
 use Rattle.disk_lines.specs.declared.Kind.{Kind}
 use Rattle.disk_lines.specs.declared.Kind.TheVariants.{Directory, File, Free, Staging}
-use Rattle.disk_rules.specs.Checked.{IsCheckedAs}
-use Rattle.disk_rules.specs.Content.{content, disk_of, found}
-use Rattle.disk_rules.specs.Kept.{AreKept}
-use Rattle.disk_rules.specs.Live.{is_directory, live_entries}
-use Rattle.disk_rules.specs.Reading.{Reads}
-use Rattle.disk_rules.specs.Room.{unused_blocks}
-use Rattle.disk_rules.specs.Rules.{file_blocks_of, geometry_of, IsChecked}
-use Rattle.disk_rules.specs.Volume.{extents, inode, Volume, volume}
-use Rattle.volume_facts.specs.Footprint.{SameData}
-use Rattle.volume_facts.specs.FootprintLaws.{disk_of-covered, found-same}
-use Rattle.volume_facts.specs.LineWords.{data_word, data_word-not_journaled}
+use Rattle.world_images.specs.disk_rules.Checked.{IsCheckedAs}
+use Rattle.world_images.specs.disk_rules.Content.{content, disk_of, found}
+use Rattle.world_images.specs.disk_rules.Kept.{AreKept}
+use Rattle.world_images.specs.disk_rules.Live.{is_directory, live_entries}
+use Rattle.world_images.specs.disk_rules.Reading.{Reads}
+use Rattle.world_images.specs.disk_rules.Room.{unused_blocks}
+use Rattle.world_images.specs.disk_rules.Rules.{file_blocks_of, geometry_of, IsChecked}
+use Rattle.world_images.specs.disk_rules.Volume.{extents, inode, Volume, volume}
+use Rattle.world_images.specs.volume_facts.Footprint.{SameData}
+use Rattle.world_images.specs.volume_facts.FootprintLaws.{disk_of-covered, found-same}
+use Rattle.world_images.specs.volume_facts.LineWords.{data_word, data_word-not_journaled}
 use Rattle.world_images.specs.volume_uses.PoolLaws.{covered-in_data}
-use Rattle.volume_facts.specs.ImageLaws.{journaled-other}
+use Rattle.world_images.specs.volume_facts.ImageLaws.{journaled-other}
 use Rattle.world_images.specs.image_facts.CheckedLaws.{head-checked, parts-checked, reads-checked}
 use Rattle.world_images.specs.volume_changes.CallLaws.{root-directory}
-use Rattle.k_rules.specs.Stands.{Stands}
-use Rattle.k_rules.specs.View.{View}
+use Rattle.world_images.specs.k_rules.Stands.{Stands}
+use Rattle.world_images.specs.k_rules.View.{View}
 use Rattle.world_images.specs.Changed.{sound_headed}
 use Rattle.k_mount.specs.Laws.{IsCheckedToo, IsRecovered}
 use Rattle.k_mount.specs.Sheds.{IsAtRest, SameOutside, Sheds}

@@ -9,13 +9,13 @@ use Rattle.pm_words.specs.Images.{words_of}
 use Rattle.pm_words.specs.Powers.{Steps, Supply}
 use Rattle.disk_places.specs.Journal.{journaled}
 use Rattle.disk_places.specs.Places.{Geometry}
-use Rattle.disk_rules.specs.Live.{live_entries}
-use Rattle.disk_rules.specs.Volume.{Volume, volume}
-use Rattle.volume_facts.specs.ImageLaws.{journaled-idle}
-use Rattle.volume_facts.specs.ReadingLaws.{reads-volume}
-use Rattle.k_journal.specs.declared.outcomes.Commit.{Commit}
-use Rattle.k_rules.specs.Stands.{Stands}
-use Rattle.k_rules.specs.View.{View}
+use Rattle.world_images.specs.disk_rules.Live.{live_entries}
+use Rattle.world_images.specs.disk_rules.Volume.{Volume, volume}
+use Rattle.world_images.specs.volume_facts.ImageLaws.{journaled-idle}
+use Rattle.world_images.specs.volume_facts.ReadingLaws.{reads-volume}
+use Rattle.k_split.specs.k_journal.declared.outcomes.Commit.{Commit}
+use Rattle.world_images.specs.k_rules.Stands.{Stands}
+use Rattle.world_images.specs.k_rules.View.{View}
 use Rattle.k_split.specs.Laps.{IsBaseAnswer, IsRestartAnswer, next_base}
 use Rattle.k_mount.specs.Laws.{IsRecovered}
 use Rattle.k_mount.specs.NextLaps.{BeginsLap}

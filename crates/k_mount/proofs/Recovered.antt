@@ -8,13 +8,13 @@ use Rattle.pm_words.specs.Images.{words_of}
 use Rattle.pm_words.specs.Words.{Words}
 use Rattle.disk_places.specs.Journal.{is_journal_word, IsSound, journaled}
 use Rattle.disk_places.specs.Places.{commit_word, Geometry, is_journaled_line}
-use Rattle.disk_rules.specs.Checked.{IsCheckedAs, IsLogKept}
-use Rattle.disk_rules.specs.Reading.{Reads}
-use Rattle.disk_rules.specs.Rules.{geometry_of, IsChecked}
-use Rattle.disk_rules.specs.Volume.{Volume, volume}
-use Rattle.volume_facts.specs.ImageLaws.{journaled-idle, journaled-other}
+use Rattle.world_images.specs.disk_rules.Checked.{IsCheckedAs, IsLogKept}
+use Rattle.world_images.specs.disk_rules.Reading.{Reads}
+use Rattle.world_images.specs.disk_rules.Rules.{geometry_of, IsChecked}
+use Rattle.world_images.specs.disk_rules.Volume.{Volume, volume}
+use Rattle.world_images.specs.volume_facts.ImageLaws.{journaled-idle, journaled-other}
 use Rattle.world_images.specs.image_facts.CheckedLaws.{checked-parts, parts-checked}
-use Rattle.k_rules.specs.Stands.{IsOldOrNew}
+use Rattle.world_images.specs.k_rules.Stands.{IsOldOrNew}
 use Rattle.world_images.specs.Changed.{headed_changed, sound_headed}
 use Rattle.world_images.specs.Images.{IsHeaded}
 use Rattle.k_mount.specs.Laws.{IsCheckedToo, IsRecovered, RecoversChecked}

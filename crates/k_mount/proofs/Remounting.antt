@@ -8,14 +8,14 @@ use Rattle.pm_words.specs.Words.{Words}
 use Rattle.disk_places.specs.Journal.{is_journal_word, journaled}
 use Rattle.disk_places.specs.PlaceLaws.{behind_log-not_journaled, behind_log-words}
 use Rattle.disk_places.specs.Places.{Geometry, is_data_block, is_journaled_line, log_line}
-use Rattle.disk_rules.specs.Checked.{IsCheckedAs}
-use Rattle.disk_rules.specs.Content.{content, found}
-use Rattle.disk_rules.specs.Live.{live_entries}
-use Rattle.disk_rules.specs.Reading.{base_set}
-use Rattle.disk_rules.specs.Rules.{geometry_of}
-use Rattle.disk_rules.specs.Volume.{Volume, volume}
-use Rattle.block_bytes.specs.Overwrites.{IsInLines}
-use Rattle.k_rules.specs.View.{View}
+use Rattle.world_images.specs.disk_rules.Checked.{IsCheckedAs}
+use Rattle.world_images.specs.disk_rules.Content.{content, found}
+use Rattle.world_images.specs.disk_rules.Live.{live_entries}
+use Rattle.world_images.specs.disk_rules.Reading.{base_set}
+use Rattle.world_images.specs.disk_rules.Rules.{geometry_of}
+use Rattle.world_images.specs.disk_rules.Volume.{Volume, volume}
+use Rattle.k_split.specs.block_bytes.Overwrites.{IsInLines}
+use Rattle.world_images.specs.k_rules.View.{View}
 use Rattle.k_split.specs.Laps.{IsLogWord, next_base}
 use Rattle.k_mount.specs.NextLaps.{BeginsLap, IsNextLap}
 use Rattle.k_mount.specs.Sheds.{AllNamed, IsAtRest, IsKeptAt, IsSettled, IsShedAt, Sheds}

@@ -12,34 +12,34 @@ use Rattle.pm_words.specs.Cells.{cell, has_two, is_single, IsCandidate, newest, 
 use Rattle.pm_words.specs.ImageLaws.{image-single, IsImage-words_of}
 use Rattle.pm_words.specs.Images.{IsImage, words_of}
 use Rattle.pm_words.specs.Words.{line_bytes, Words}
-use Rattle.block_bytes.specs.Overwrites.{GoesToZero}
+use Rattle.k_split.specs.block_bytes.Overwrites.{GoesToZero}
 use Rattle.disk_places.specs.Journal.{is_journal_word, IsSound, journaled}
 use Rattle.disk_places.specs.Places.{commit_word, Geometry, is_data_block, is_journaled_line, log_line}
 use Rattle.disk_lines.specs.declared.Draft.{Draft}
 use Rattle.disk_lines.specs.Entries.{decode_entry, held_seq, is_self_valid}
 use Rattle.disk_lines.specs.EntryLaws.{held_seq-decode_entry}
-use Rattle.disk_rules.specs.Checked.{IsCheckedAs, IsLogKept}
-use Rattle.disk_rules.specs.Content.{content, found}
-use Rattle.disk_rules.specs.Honest.{IsHonest}
-use Rattle.disk_rules.specs.Kept.{AreKept}
-use Rattle.disk_rules.specs.Live.{entry_in, is_live, live_entries, valid_entries}
-use Rattle.disk_rules.specs.Placed.{block_at, IsOutside}
-use Rattle.disk_rules.specs.Reading.{base_set, Reads}
-use Rattle.disk_rules.specs.Room.{held_after_recovery}
-use Rattle.disk_rules.specs.Rules.{HasStagingBlocks}
-use Rattle.disk_rules.specs.Volume.{chain, Volume, volume}
+use Rattle.world_images.specs.disk_rules.Checked.{IsCheckedAs, IsLogKept}
+use Rattle.world_images.specs.disk_rules.Content.{content, found}
+use Rattle.world_images.specs.disk_rules.Honest.{IsHonest}
+use Rattle.world_images.specs.disk_rules.Kept.{AreKept}
+use Rattle.world_images.specs.disk_rules.Live.{entry_in, is_live, live_entries, valid_entries}
+use Rattle.world_images.specs.disk_rules.Placed.{block_at, IsOutside}
+use Rattle.world_images.specs.disk_rules.Reading.{base_set, Reads}
+use Rattle.world_images.specs.disk_rules.Room.{held_after_recovery}
+use Rattle.world_images.specs.disk_rules.Rules.{HasStagingBlocks}
+use Rattle.world_images.specs.disk_rules.Volume.{chain, Volume, volume}
 use Rattle.world_images.specs.image_facts.CheckedLaws.{checked-parts, parts-checked}
 use Rattle.world_images.specs.image_facts.FreshLaws.{zeros-no_entry}
-use Rattle.k_journal.specs.declared.outcomes.Commit.{Commit}
-use Rattle.k_rules.specs.Stands.{IsOldOrNew, Stands}
-use Rattle.k_rules.specs.View.{View}
+use Rattle.k_split.specs.k_journal.declared.outcomes.Commit.{Commit}
+use Rattle.world_images.specs.k_rules.Stands.{IsOldOrNew, Stands}
+use Rattle.world_images.specs.k_rules.View.{View}
 use Rattle.k_split.proofs.LogLaws.{data_beside, journal_beside, line_beside, seen}
 use Rattle.k_split.specs.Answers.{Changes, IsCut}
 use Rattle.k_split.specs.Laps.{ClearsLog, IsLogWord, IsRestartAnswer, LosesLog}
 use Rattle.list_facts.specs.Filters.{filter-In, filter_map-In, In-filter, In-filter_map, range-In}
 use Rattle.list_facts.specs.Members.{In}
-use Rattle.volume_facts.specs.ImageLaws.{journaled-other}
-use Rattle.volume_facts.specs.ReadingLaws.{reads-same}
+use Rattle.world_images.specs.volume_facts.ImageLaws.{journaled-other}
+use Rattle.world_images.specs.volume_facts.ReadingLaws.{reads-same}
 use Rattle.k_mount.proofs.Dropping.{begun}
 use Rattle.k_mount.proofs.LapImages.{checked_based, checked_kept, content_based, content_kept, data_based, data_kept, in-log, log-beside, log-no_line, no_members, numbers_based, numbers_kept, Slot, slot_zero, zero_line}
 use Rattle.k_mount.proofs.Opened.{content_of_image, shown_in}

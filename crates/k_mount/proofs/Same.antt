@@ -8,8 +8,8 @@ use Rattle.extent_words.specs.Extents.{disk_at}
 use Rattle.disk_lines.specs.declared.Kind.TheVariants.{Directory, File}
 use Rattle.disk_lines.specs.Names.{Rows, walk}
 use Rattle.disk_lines.specs.TableLaws.{walk-step}
-use Rattle.disk_rules.specs.Content.{byte_in, found, HasBytes, IsDirectory, Node, node_by, node_of}
-use Rattle.disk_rules.specs.Volume.{inode, Volume}
+use Rattle.world_images.specs.disk_rules.Content.{byte_in, found, HasBytes, IsDirectory, Node, node_by, node_of}
+use Rattle.world_images.specs.disk_rules.Volume.{inode, Volume}
 use Rattle.k_split.specs.k_content.Trees.{tree_node}
 use Rattle.posix_types.specs.declared.tree.TreeNode.{TreeNode}
 use Rattle.world_images.specs.world_rules.Shown.{shown_as}

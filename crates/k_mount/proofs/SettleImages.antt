@@ -9,17 +9,17 @@ use Rattle.pm_words.specs.Images.{Follows, words_of}
 use Rattle.pm_words.specs.Words.{Words}
 use Rattle.disk_places.specs.Journal.{IsSound, journaled}
 use Rattle.disk_places.specs.Places.{Geometry, is_data_block, is_journaled_line}
-use Rattle.disk_rules.specs.Checked.{IsCheckedAs}
-use Rattle.disk_rules.specs.Content.{content, found}
-use Rattle.disk_rules.specs.Kept.{AreKept}
-use Rattle.disk_rules.specs.Placed.{IsOutside}
-use Rattle.disk_rules.specs.Reading.{base_set, Reads}
-use Rattle.disk_rules.specs.Rules.{geometry_of, IsChecked}
-use Rattle.disk_rules.specs.Volume.{Volume}
+use Rattle.world_images.specs.disk_rules.Checked.{IsCheckedAs}
+use Rattle.world_images.specs.disk_rules.Content.{content, found}
+use Rattle.world_images.specs.disk_rules.Kept.{AreKept}
+use Rattle.world_images.specs.disk_rules.Placed.{IsOutside}
+use Rattle.world_images.specs.disk_rules.Reading.{base_set, Reads}
+use Rattle.world_images.specs.disk_rules.Rules.{geometry_of, IsChecked}
+use Rattle.world_images.specs.disk_rules.Volume.{Volume}
 use Rattle.world_images.specs.image_facts.CheckedLaws.{checked-parts}
-use Rattle.k_journal.specs.declared.outcomes.Commit.{Commit}
-use Rattle.k_rules.specs.Stands.{IsOldOrNew}
-use Rattle.k_rules.specs.View.{View}
+use Rattle.k_split.specs.k_journal.declared.outcomes.Commit.{Commit}
+use Rattle.world_images.specs.k_rules.Stands.{IsOldOrNew}
+use Rattle.world_images.specs.k_rules.View.{View}
 use Rattle.k_split.specs.Answers.{Changes, IsCut}
 use Rattle.k_split.specs.Laps.{IsBaseAnswer, IsRestartAnswer, next_base}
 use Rattle.k_mount.proofs.DropImages.{still-shows}

@@ -8,12 +8,12 @@ use Rattle.pm_words.specs.Words.{Words}
 use Rattle.disk_places.specs.Journal.{is_journal_word, journaled}
 use Rattle.disk_places.specs.Places.{commit_word, Geometry}
 use Rattle.disk_lines.specs.declared.Kind.TheVariants.{Directory}
-use Rattle.disk_rules.specs.Content.{found, Node}
-use Rattle.disk_rules.specs.Rules.{geometry_of, IsChecked}
-use Rattle.disk_rules.specs.Volume.{inode, Volume}
+use Rattle.world_images.specs.disk_rules.Content.{found, Node}
+use Rattle.world_images.specs.disk_rules.Rules.{geometry_of, IsChecked}
+use Rattle.world_images.specs.disk_rules.Volume.{inode, Volume}
 use Rattle.k_split.specs.k_content.Trees.{tree_content}
 use Rattle.posix_types.specs.declared.tree.TreeEntry.{TreeEntry}
-use Rattle.posix_trees.specs.TreeOf.{IsTreeOf}
+use Rattle.world_images.specs.posix_trees.TreeOf.{IsTreeOf}
 use Rattle.world_images.specs.world_rules.Shown.{IsTreeOfContent}
 use Rattle.k_mount.specs.Sheds.{Sheds}
 

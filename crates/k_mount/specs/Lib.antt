@@ -7,3 +7,5 @@ pub use Rattle.world_images.specs.Changed
 pub use Rattle.world_images.specs.Images
 pub use Rattle.k_split.specs as k_split
 pub use Rattle.k_split.specs.k_map_plans as k_map_plans
+pub use Rattle.k_split.specs.block_pool as block_pool
+pub use Rattle.k_split.specs.k_journal as k_journal

@@ -5,9 +5,9 @@ use Rattle.pm_words.specs.Cells.{cell}
 use Rattle.pm_words.specs.Words.{Words}
 use Rattle.disk_places.specs.Journal.{is_journal_word}
 use Rattle.disk_places.specs.Places.{is_journaled_line}
-use Rattle.disk_rules.specs.Reading.{base_set}
-use Rattle.disk_rules.specs.Volume.{Volume}
-use Rattle.k_rules.specs.View.{View}
+use Rattle.world_images.specs.disk_rules.Reading.{base_set}
+use Rattle.world_images.specs.disk_rules.Volume.{Volume}
+use Rattle.world_images.specs.k_rules.View.{View}
 use Rattle.k_split.specs.Laps.{IsLogWord, next_base}
 
 -- The log base rose by the number of log lines, and no word outside the journal and the journaled lines differs.

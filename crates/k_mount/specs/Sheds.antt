@@ -11,17 +11,17 @@ use Rattle.disk_places.specs.Places.{Geometry, is_journaled_line, log_line}
 use Rattle.disk_lines.specs.Entries.{held_seq, is_self_valid}
 use Rattle.disk_lines.specs.declared.Kind.TheVariants.{File}
 use Rattle.disk_lines.specs.Names.{names_of}
-use Rattle.disk_rules.specs.Checked.{IsCheckedAs}
-use Rattle.disk_rules.specs.Content.{content}
-use Rattle.disk_rules.specs.Honest.{IsHonest}
-use Rattle.disk_rules.specs.Live.{live_entries}
-use Rattle.disk_rules.specs.Reading.{base_set}
-use Rattle.disk_rules.specs.Room.{unused_blocks}
-use Rattle.disk_rules.specs.Rules.{geometry_of, IsChecked}
-use Rattle.disk_rules.specs.Volume.{chain, extents, inode, Volume, volume}
-use Rattle.k_journal.specs.declared.outcomes.Commit.{Commit}
-use Rattle.k_rules.specs.Changes.{dropped, gone_node}
-use Rattle.k_rules.specs.View.{View}
+use Rattle.world_images.specs.disk_rules.Checked.{IsCheckedAs}
+use Rattle.world_images.specs.disk_rules.Content.{content}
+use Rattle.world_images.specs.disk_rules.Honest.{IsHonest}
+use Rattle.world_images.specs.disk_rules.Live.{live_entries}
+use Rattle.world_images.specs.disk_rules.Reading.{base_set}
+use Rattle.world_images.specs.disk_rules.Room.{unused_blocks}
+use Rattle.world_images.specs.disk_rules.Rules.{geometry_of, IsChecked}
+use Rattle.world_images.specs.disk_rules.Volume.{chain, extents, inode, Volume, volume}
+use Rattle.k_split.specs.k_journal.declared.outcomes.Commit.{Commit}
+use Rattle.world_images.specs.k_rules.Changes.{dropped, gone_node}
+use Rattle.world_images.specs.k_rules.View.{View}
 use Rattle.k_split.specs.Answers.{IsCut, IsOff}
 use Rattle.k_split.specs.Laps.{IsLogWord}
 use Rattle.k_split.specs.Order.{IsInOrder}

@@ -5,8 +5,8 @@ ghost use Rattle.k_split.specs.Answers.{IsCommitPaid};
 ghost use Rattle.k_split.specs.Laps.{IsBaseAnswer, IsRestartAnswer, next_base};
 ghost use Rattle.k_mount.specs.Sheds.{IsAtRest};
 
-use k_journal::Commit;
 use k_split::KSplit;
+use k_split::k_journal::Commit;
 use pm_lines::Power;
 
 // The highest log base that rises: above it the log begins anew.

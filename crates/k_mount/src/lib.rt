@@ -28,3 +28,4 @@ pub fn a_remount_shows_the_same()
 {}
 
 pub use k_split;
+pub use k_split::{k_journal, map_rules};

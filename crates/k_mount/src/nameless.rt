@@ -5,8 +5,8 @@ ghost use Rattle.pm_words.specs.Powers.{is_on, Steps};
 ghost use Rattle.k_split.specs.Answers.{IsCommitPaid};
 ghost use Rattle.k_mount.specs.Sheds.{IsAtRest, IsNameless, IsSameDevice, IsShedCut, IsShedOne, LosesNameless, MaySettle, OnCommit, OnLost, StillShows};
 
-use k_inodes::Kind;
-use k_journal::Commit;
+use k_split::k_inodes::Kind;
+use k_split::k_journal::Commit;
 use k_split::{KFault, KSplit};
 use pm_lines::Power;
 

@@ -7,8 +7,8 @@ ghost use Rattle.k_split.specs.Answers.{IsCommitPaid};
 
 use crate::laps::begin_lap;
 use crate::nameless::drop_nameless;
-use k_journal::Commit;
 use k_split::KSplit;
+use k_split::k_journal::Commit;
 use pm_lines::Power;
 
 /// Settles a device of whose log no entry is live: files go to which no name leads, and the log's next lap

@@ -1,11 +1,11 @@
 -- Another log base, and all else as it was.
 use Rattle.std.proofs.Common.{◌≡◌, ◌+◌, ◌<◌, ◌≤◌, ℕ, List, [], arith, length, refl, ap, subst, sym}
-use Rattle.block_pool.specs.FreeSets.{FreeSet}
-use Rattle.disk_rules.specs.Reading.{base_set}
-use Rattle.disk_rules.specs.Volume.{Volume}
+use Rattle.k_reading.specs.block_pool.FreeSets.{FreeSet}
+use Rattle.k_tables.specs.disk_rules.Reading.{base_set}
+use Rattle.k_tables.specs.disk_rules.Volume.{Volume}
 use Rattle.volume_maps.specs.volume_changes.MapLaws.{base-keeps}
 use Rattle.k_land.specs.volume_uses.OwnerLaws.{owners-base}
-use Rattle.k_journal.specs.declared.batches.Entry.{Entry}
+use Rattle.k_land.specs.k_journal.declared.batches.Entry.{Entry}
 use Rattle.k_land.specs.PlanLaws.{turns-none}
 use Rattle.k_land.specs.Plans.{NewChain, Turns}
 use Rattle.k_plans.specs.Free.{AreTables}

@@ -5,23 +5,23 @@ use Rattle.std.proofs.lemmas.Bool.Decides.{nat_tests}
 use Rattle.std.proofs.lemmas.Grind.{get_or_default_zero}
 use Rattle.std.proofs.lemmas.List.Folds.{Any-from_list_any, list_any_at}
 use Rattle.std.specs.Prelude.{◌==◌, ◌&&◌, ◌||◌, All}
-use Rattle.block_pool.specs.FreeSets.{FreeSet, LiesWithin, has_block, is_among, is_free_at}
+use Rattle.k_reading.specs.block_pool.FreeSets.{FreeSet, LiesWithin, has_block, is_among, is_free_at}
 use Rattle.disk_lines.specs.declared.Inode.{Inode}
 use Rattle.disk_places.specs.Places.{is_data_block}
-use Rattle.disk_rules.specs.Placed.{block_at, extent_at, no_extent}
-use Rattle.disk_rules.specs.Room.{has_none}
+use Rattle.k_tables.specs.disk_rules.Placed.{block_at, extent_at, no_extent}
+use Rattle.k_tables.specs.disk_rules.Room.{has_none}
 use Rattle.disk_lines.specs.declared.Kind.TheVariants.{File}
-use Rattle.disk_rules.specs.Rules.{IsInData, IsKindAt, file_blocks_of}
-use Rattle.disk_rules.specs.Uses.{owners}
-use Rattle.disk_rules.specs.Volume.{Volume, chain, extents, inode}
+use Rattle.k_tables.specs.disk_rules.Rules.{IsInData, IsKindAt, file_blocks_of}
+use Rattle.k_tables.specs.disk_rules.Uses.{owners}
+use Rattle.k_tables.specs.disk_rules.Volume.{Volume, chain, extents, inode}
 use Rattle.extent_words.specs.declared.Extent.{Extent}
 use Rattle.extent_words.specs.Extents.{covers, holds_disk}
-use Rattle.k_rules.specs.Changes.{dropped, gone_node}
+use Rattle.k_tables.specs.k_rules.Changes.{dropped, gone_node}
 use Rattle.volume_maps.specs.volume_changes.Changes.{MayDrop}
 use Rattle.volume_maps.specs.volume_changes.CountLaws.{gone_node-fits}
 use Rattle.volume_maps.specs.volume_changes.LineLaws.{lines-inode, maps-inode}
 use Rattle.volume_maps.specs.volume_changes.MapLaws.{dropped-keeps}
-use Rattle.volume_facts.specs.Changes.{chain-set_other, chain-set_same, extents-set_other}
+use Rattle.k_tables.specs.volume_facts.Changes.{chain-set_other, chain-set_same, extents-set_other}
 use Rattle.k_land.specs.volume_uses.OwnerLaws.{one_use, uses-le-owners}
 use Rattle.k_land.specs.volume_uses.PoolLaws.{covered-in_data, has_none-some, is_unused-given, is_unused-others}
 use Rattle.k_land.specs.volume_uses.UseLaws.{covers-in_map, in_chain-at, in_chain-some, in_chain-two, in_map-at, in_map-covers, in_map-two, length-uses_by}

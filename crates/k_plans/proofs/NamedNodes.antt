@@ -4,8 +4,8 @@ use Rattle.std.proofs.lemmas.Bool.{cases_lt}
 use Rattle.std.proofs.lemmas.Option.{same_Some}
 use Rattle.disk_lines.specs.Names.{IsBelow, is_child, names_of, row as row_at, up}
 use Rattle.disk_lines.specs.TableLaws.{is_child-parts}
-use Rattle.disk_rules.specs.Volume.{Volume}
-use Rattle.volume_facts.specs.Lists.{count_by-some}
+use Rattle.k_tables.specs.disk_rules.Volume.{Volume}
+use Rattle.k_tables.specs.volume_facts.Lists.{count_by-some}
 use Rattle.k_tables.specs.name_facts.ForestLaws.{up-parent, up-top}
 use Rattle.k_tables.specs.name_facts.KeptLaws.{kept-one_name, kept-placed}
 use Rattle.k_tables.specs.name_facts.SetLaws.{parent_of-none, parent_of-one_name}

@@ -2,18 +2,18 @@
 use Rattle.std.proofs.Common.{◌≡◌, ◌<◌, ◌≤◌, ◌⊎◌, ℕ, Bool, true, false, not, List, [], length, refl, sym, ◌∙◌, ap, inl, inr, arith, subst}
 use Rattle.std.proofs.lemmas.Bool.{and_from, ne_eqb}
 use Rattle.std.specs.Prelude.{◌==◌, Some, slice_set}
-use Rattle.block_pool.specs.FreeSets.{FreeSet}
+use Rattle.k_reading.specs.block_pool.FreeSets.{FreeSet}
 use Rattle.disk_lines.specs.declared.Inode.{Inode}
 use Rattle.disk_lines.specs.declared.Kind.{Kind}
 use Rattle.disk_lines.specs.declared.Kind.TheVariants.{Directory, File}
 use Rattle.disk_lines.specs.Lines.{NameRow, is_name, is_name_row}
 use Rattle.disk_lines.specs.Names.{Rows, is_entry, row}
-use Rattle.disk_rules.specs.Reading.{node_set, row_set}
-use Rattle.disk_rules.specs.Rules.{IsKindAt}
-use Rattle.disk_rules.specs.Volume.{Volume, inode}
-use Rattle.k_journal.specs.declared.batches.Entry.{Entry}
+use Rattle.k_tables.specs.disk_rules.Reading.{node_set, row_set}
+use Rattle.k_tables.specs.disk_rules.Rules.{IsKindAt}
+use Rattle.k_tables.specs.disk_rules.Volume.{Volume, inode}
+use Rattle.k_land.specs.k_journal.declared.batches.Entry.{Entry}
 use Rattle.k_land.specs.Plans.{Turns}
-use Rattle.k_rules.specs.Changes.{new_node}
+use Rattle.k_tables.specs.k_rules.Changes.{new_node}
 use Rattle.k_tables.specs.Found.{IsPlace}
 use Rattle.k_tables.specs.declared.making.Place.{Place}
 use Rattle.posix_words.specs.Names.{last_name}

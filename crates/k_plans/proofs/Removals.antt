@@ -1,14 +1,14 @@
 -- A name that goes: the volume stays whole, and its lines are a plan for it.
 use Rattle.std.proofs.Common.{◌≡◌, ◌<◌, ◌≤◌, ℕ, List, [], length, refl, sym, ◌∙◌, ap, inl, arith, subst}
 use Rattle.std.specs.Prelude.{None, slice_set}
-use Rattle.block_pool.specs.FreeSets.{FreeSet}
+use Rattle.k_reading.specs.block_pool.FreeSets.{FreeSet}
 use Rattle.disk_lines.specs.declared.Inode.{Inode}
 use Rattle.disk_lines.specs.Names.{Rows}
-use Rattle.disk_rules.specs.Reading.{node_set, row_set}
-use Rattle.disk_rules.specs.Volume.{Volume, inode}
-use Rattle.k_journal.specs.declared.batches.Entry.{Entry as Line}
+use Rattle.k_tables.specs.disk_rules.Reading.{node_set, row_set}
+use Rattle.k_tables.specs.disk_rules.Volume.{Volume, inode}
+use Rattle.k_land.specs.k_journal.declared.batches.Entry.{Entry as Line}
 use Rattle.k_land.specs.Plans.{Turns}
-use Rattle.k_rules.specs.Changes.{gone_node, removed, unnamed}
+use Rattle.k_tables.specs.k_rules.Changes.{gone_node, removed, unnamed}
 use Rattle.k_tables.specs.Found.{IsDirectoryAt, IsFileAt}
 use Rattle.k_tables.specs.declared.removing.Entry.{Entry}
 use Rattle.k_tables.specs.name_facts.KeptLaws.{node-below}

@@ -6,11 +6,11 @@ use Rattle.disk_lines.specs.Lines.{NameRow, is_name, is_name_row}
 use Rattle.disk_lines.specs.Names.{Rows, find_name, is_child, is_entry, row}
 use Rattle.disk_lines.specs.TableLaws.{is_entry-own, is_entry-parts}
 use Rattle.disk_lines.specs.Tables.{IsKeyed}
-use Rattle.disk_rules.specs.Reading.{node_set, row_set}
-use Rattle.disk_rules.specs.Volume.{Volume, inode}
-use Rattle.k_names.specs.Finding.{IsRow}
-use Rattle.k_rules.specs.Changes.{gone_node, renamed, renamed_over_directory, renamed_over_file, unnamed}
-use Rattle.k_rules.specs.Spaces.{is_directory_in, volume_space}
+use Rattle.k_tables.specs.disk_rules.Reading.{node_set, row_set}
+use Rattle.k_tables.specs.disk_rules.Volume.{Volume, inode}
+use Rattle.k_tables.specs.k_names.Finding.{IsRow}
+use Rattle.k_tables.specs.k_rules.Changes.{gone_node, renamed, renamed_over_directory, renamed_over_file, unnamed}
+use Rattle.k_tables.specs.k_rules.Spaces.{is_directory_in, volume_space}
 use Rattle.k_tables.specs.Found.{IsEntryAt, IsMoving, IsTargetAt}
 use Rattle.k_tables.specs.declared.removing.Entry.{Entry}
 use Rattle.k_tables.specs.declared.renaming.Moving.{Moving}

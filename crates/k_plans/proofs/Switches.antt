@@ -3,16 +3,16 @@ use Rattle.std.proofs.Common.{◌≡◌, ◌<◌, ◌≤◌, ℕ, Bool, true, fa
 use Rattle.std.proofs.lemmas.Bool.{both_ways, cases_Bool, cases_eq, eqb-true}
 use Rattle.std.proofs.lemmas.List.Folds.{Any-from_list_any}
 use Rattle.std.specs.Prelude.{◌==◌, ◌&&◌, ◌||◌, All}
-use Rattle.block_pool.specs.FreeSets.{FreeSet, Takes, is_among, is_free_at}
+use Rattle.k_reading.specs.block_pool.FreeSets.{FreeSet, Takes, is_among, is_free_at}
 use Rattle.disk_lines.specs.declared.Inode.{Inode}
 use Rattle.disk_places.specs.Places.{is_data_block}
-use Rattle.disk_rules.specs.Placed.{block_at}
-use Rattle.disk_rules.specs.Volume.{Volume, chain}
+use Rattle.k_tables.specs.disk_rules.Placed.{block_at}
+use Rattle.k_tables.specs.disk_rules.Volume.{Volume, chain}
 use Rattle.extent_words.specs.declared.Extent.{Extent}
 use Rattle.extent_words.specs.Extents.{IsCanonical}
-use Rattle.map_rules.specs.Taken.{switched, with_map}
+use Rattle.volume_maps.specs.map_rules.Taken.{switched, with_map}
 use Rattle.volume_maps.specs.volume_changes.LineLaws.{lines-inode, maps-inode}
-use Rattle.volume_facts.specs.Changes.{chain-set_other, chain-set_same}
+use Rattle.k_tables.specs.volume_facts.Changes.{chain-set_other, chain-set_same}
 use Rattle.volume_maps.specs.Switches.{MaySwitch, StandsWith, counted-among, switched-chain, switched-free, switched-keeps, unused-data, wait-once, wait-unused, among-counted}
 use Rattle.k_land.specs.volume_uses.UseLaws.{in_chain-at, in_chain-two}
 use Rattle.k_land.specs.volume_uses.Uses.{in_chain, is_unused}

@@ -2,12 +2,12 @@
 use Rattle.std.proofs.Common.{◌≡◌, ℕ, true, [], arith}
 use Rattle.std.proofs.lemmas.List.Elements.{All-from_get_or}
 use Rattle.std.specs.Prelude.{All}
-use Rattle.block_pool.specs.FreeSets.{LiesWithin}
+use Rattle.k_reading.specs.block_pool.FreeSets.{LiesWithin}
 use Rattle.disk_places.specs.Places.{Geometry, IsGeometry, first_data, data_blocks, is_data_block}
 use Rattle.extent_words.specs.declared.Extent.{Extent}
-use Rattle.disk_rules.specs.Placed.{no_extent, extent_at}
-use Rattle.disk_rules.specs.Rules.{IsInData, file_blocks_of}
-use Rattle.disk_rules.specs.Volume.{Volume, inode, extents}
+use Rattle.k_tables.specs.disk_rules.Placed.{no_extent, extent_at}
+use Rattle.k_tables.specs.disk_rules.Rules.{IsInData, file_blocks_of}
+use Rattle.k_tables.specs.disk_rules.Volume.{Volume, inode, extents}
 use Rattle.k_reading.specs.Pools.{AreInData}
 use Rattle.k_plans.specs.Whole.{IsWhole}
 

@@ -3,21 +3,21 @@ use Rattle.std.proofs.Common.{◌≡◌, ◌<◌, ◌⊎◌, ℕ, true, false, L
 use Rattle.std.proofs.lemmas.Bool.{cases_eq}
 use Rattle.std.proofs.lemmas.Bool.Decides.{nat_tests}
 use Rattle.std.specs.Prelude.{◌==◌, ◌&&◌, not}
-use Rattle.block_pool.specs.FreeSets.{FreeSet, is_among}
+use Rattle.k_reading.specs.block_pool.FreeSets.{FreeSet, is_among}
 use Rattle.disk_lines.specs.declared.Inode.{Inode}
 use Rattle.disk_lines.specs.declared.Kind.{Kind}
 use Rattle.disk_lines.specs.declared.Kind.TheVariants.{Free, Directory, File, Staging}
 use Rattle.disk_lines.specs.Lines.{is_inode, is_inode_of_kind}
 use Rattle.disk_lines.specs.Names.{Rows}
 use Rattle.disk_places.specs.Places.{is_data_block, first_data, data_blocks}
-use Rattle.disk_rules.specs.Live.{is_directory}
-use Rattle.disk_rules.specs.Reading.{node_set}
-use Rattle.disk_rules.specs.Room.{has_none}
-use Rattle.disk_rules.specs.Uses.{owners}
-use Rattle.disk_rules.specs.Volume.{Volume, inode}
-use Rattle.k_journal.specs.declared.batches.Entry.{Entry}
+use Rattle.k_tables.specs.disk_rules.Live.{is_directory}
+use Rattle.k_tables.specs.disk_rules.Reading.{node_set}
+use Rattle.k_tables.specs.disk_rules.Room.{has_none}
+use Rattle.k_tables.specs.disk_rules.Uses.{owners}
+use Rattle.k_tables.specs.disk_rules.Volume.{Volume, inode}
+use Rattle.k_land.specs.k_journal.declared.batches.Entry.{Entry}
 use Rattle.k_land.specs.Plans.{Turns}
-use Rattle.volume_facts.specs.Changes.{inode-set_same, inode-set_other}
+use Rattle.k_tables.specs.volume_facts.Changes.{inode-set_same, inode-set_other}
 use Rattle.k_land.specs.volume_uses.Uses.{is_unused}
 use Rattle.k_plans.specs.Free.{AreTables}
 use Rattle.k_plans.specs.Plans.{IsPlan, KeepsStaged}

@@ -1,7 +1,7 @@
 -- Which blocks are free to take, and what tables keep of them.
 use Rattle.std.specs.Prelude.{◌≡◌, ℕ, Bool, true, not, ◌&&◌, length, count_by}
 use Rattle.std.specs.List.{range_with_len}
-use Rattle.block_pool.specs.FreeSets.{FreeSet, is_among, is_free_at}
+use Rattle.k_reading.specs.block_pool.FreeSets.{FreeSet, is_among, is_free_at}
 use Rattle.disk_places.specs.Places.{data_blocks, first_data}
 use Rattle.k_land.specs.volume_uses.Uses.{is_unused}
 use Rattle.k_plans.specs.View.{TablesView}

@@ -1,7 +1,7 @@
 -- Blocks that come free in a pool.
 use Rattle.std.specs.Prelude.{◌≡◌, ℕ, ◌+◌, ◌<◌, ◌^◌, Bool, true, false, ◌||◌, List, length}
-use Rattle.block_pool.specs.FreeSets.{FreeSet, LiesWithin, SameBlocks, has_block, is_among, is_free_at}
-use Rattle.disk_rules.specs.Placed.{AreDistinct, block_at, extent_at}
+use Rattle.k_reading.specs.block_pool.FreeSets.{FreeSet, LiesWithin, SameBlocks, has_block, is_among, is_free_at}
+use Rattle.k_tables.specs.disk_rules.Placed.{AreDistinct, block_at, extent_at}
 use Rattle.extent_words.specs.declared.Extent.{Extent}
 use Rattle.extent_words.specs.Extents.{covers, holds_disk}
 

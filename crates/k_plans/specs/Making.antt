@@ -2,10 +2,10 @@
 use Rattle.std.specs.Prelude.{◌≡◌, ℕ, Bool, List, None, Result, Ok, Err, if◌then◌else◌}
 use Rattle.disk_lines.specs.declared.Kind.{Kind}
 use Rattle.disk_lines.specs.declared.Kind.TheVariants.{Directory, File}
-use Rattle.disk_rules.specs.Volume.{Volume}
-use Rattle.k_journal.specs.declared.batches.Entry.{Entry}
-use Rattle.k_rules.specs.Changes.{made}
-use Rattle.k_rules.specs.Spaces.{volume_space}
+use Rattle.k_tables.specs.disk_rules.Volume.{Volume}
+use Rattle.k_land.specs.k_journal.declared.batches.Entry.{Entry}
+use Rattle.k_tables.specs.k_rules.Changes.{made}
+use Rattle.k_tables.specs.k_rules.Spaces.{volume_space}
 use Rattle.k_tables.specs.Found.{IsPlace}
 use Rattle.k_tables.specs.declared.making.Place.{Place}
 use Rattle.posix_words.specs.NameRows.{mkdir_rows}

@@ -1,7 +1,7 @@
 -- What a change of the tables leaves: a plan of lines for the change, or nothing.
 use Rattle.std.specs.Prelude.{◌≡◌, ◌<◌, ◌≤◌, ℕ, List, [], length, Option, None, Some}
-use Rattle.disk_rules.specs.Volume.{Volume, extents}
-use Rattle.k_journal.specs.declared.batches.Entry.{Entry}
+use Rattle.k_tables.specs.disk_rules.Volume.{Volume, extents}
+use Rattle.k_land.specs.k_journal.declared.batches.Entry.{Entry}
 use Rattle.k_land.specs.Plans.{Turns}
 use Rattle.posix_types.specs.declared.item.Outcome.{Outcome}
 use Rattle.posix_types.specs.declared.reply.Errno.{Errno}

@@ -1,9 +1,9 @@
 -- A name that is taken away, of a file or of a directory.
 use Rattle.std.specs.Prelude.{◌≡◌, ℕ, List, None, Result, Ok, Err}
-use Rattle.disk_rules.specs.Volume.{Volume}
-use Rattle.k_journal.specs.declared.batches.Entry.{Entry as Line}
-use Rattle.k_rules.specs.Changes.{removed, unnamed}
-use Rattle.k_rules.specs.Spaces.{volume_space}
+use Rattle.k_tables.specs.disk_rules.Volume.{Volume}
+use Rattle.k_land.specs.k_journal.declared.batches.Entry.{Entry as Line}
+use Rattle.k_tables.specs.k_rules.Changes.{removed, unnamed}
+use Rattle.k_tables.specs.k_rules.Spaces.{volume_space}
 use Rattle.k_tables.specs.Found.{IsDirectoryAt, IsFileAt}
 use Rattle.k_tables.specs.declared.removing.Entry.{Entry}
 use Rattle.posix_words.specs.NameRows.{rmdir_rows, unlink_rows}

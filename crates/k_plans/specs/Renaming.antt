@@ -2,10 +2,10 @@
 use Rattle.std.specs.Prelude.{◌≡◌, ◌⊎◌, ℕ, List, [], Option, None, Some, Result, Ok, Err, if◌then◌else◌}
 use Rattle.disk_lines.specs.declared.Inode.{Inode}
 use Rattle.disk_lines.specs.Lines.{NameRow}
-use Rattle.disk_rules.specs.Volume.{Volume}
-use Rattle.k_journal.specs.declared.batches.Entry.{Entry as Line}
-use Rattle.k_rules.specs.Changes.{renamed, renamed_over_directory, renamed_over_file}
-use Rattle.k_rules.specs.Spaces.{is_directory_in, volume_space}
+use Rattle.k_tables.specs.disk_rules.Volume.{Volume}
+use Rattle.k_land.specs.k_journal.declared.batches.Entry.{Entry as Line}
+use Rattle.k_tables.specs.k_rules.Changes.{renamed, renamed_over_directory, renamed_over_file}
+use Rattle.k_tables.specs.k_rules.Spaces.{is_directory_in, volume_space}
 use Rattle.k_tables.specs.Found.{IsMoving}
 use Rattle.k_tables.specs.declared.removing.Entry.{Entry}
 use Rattle.k_tables.specs.declared.renaming.Moving.{Moving}

@@ -1,14 +1,14 @@
 -- An inode of the tables that goes over to another map: blocks that are set aside for it, and what is planned.
 use Rattle.std.specs.Prelude.{◌≡◌, ◌<◌, ◌≤◌, ℕ, All, true, List, ◌++◌, length}
 use Rattle.block_counts.specs.Counts.{chains_for}
-use Rattle.disk_rules.specs.Placed.{AreDistinct}
-use Rattle.disk_rules.specs.Volume.{Volume}
+use Rattle.k_tables.specs.disk_rules.Placed.{AreDistinct}
+use Rattle.k_tables.specs.disk_rules.Volume.{Volume}
 use Rattle.extent_words.specs.declared.Extent.{Extent}
 use Rattle.disk_lines.specs.declared.Inode.{Inode}
-use Rattle.k_journal.specs.declared.batches.Entry.{Entry}
+use Rattle.k_land.specs.k_journal.declared.batches.Entry.{Entry}
 use Rattle.k_land.specs.Maps.{AreApart, write_steps}
 use Rattle.k_land.specs.Plans.{NewChain, Turns, blocks_of, new_at}
-use Rattle.map_rules.specs.Taken.{AreLowest, switched}
+use Rattle.volume_maps.specs.map_rules.Taken.{AreLowest, switched}
 use Rattle.k_land.specs.volume_uses.Uses.{in_chain, is_unused}
 use Rattle.k_plans.specs.Free.{is_free_block}
 use Rattle.k_plans.specs.View.{TablesView}

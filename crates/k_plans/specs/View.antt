@@ -4,8 +4,8 @@ use Rattle.disk_places.specs.Places.{Geometry}
 use Rattle.extent_words.specs.declared.Extent.{Extent}
 use Rattle.disk_lines.specs.declared.Inode.{Inode}
 use Rattle.disk_lines.specs.Names.{Rows}
-use Rattle.disk_rules.specs.Volume.{Volume, inode}
-use Rattle.k_rules.specs.Spaces.{is_free}
+use Rattle.k_tables.specs.disk_rules.Volume.{Volume, inode}
+use Rattle.k_tables.specs.k_rules.Spaces.{is_free}
 
 -- the volume of the tables, and the blocks that wait for a commit: they came free in changes that are not on the device yet
 pub record TablesView : Type 0 where

@@ -7,9 +7,9 @@ use Rattle.pm_words.specs.Words.{Words, line_bytes}
 use Rattle.disk_places.specs.Places.{Geometry, IsGeometry, inode_line, is_data_block}
 use Rattle.disk_lines.specs.LineLaws.{IsInodeLine-decode_inode}
 use Rattle.disk_lines.specs.Lines.{is_inode}
-use Rattle.disk_rules.specs.Kept.{AreKept}
-use Rattle.disk_rules.specs.Reading.{Reads}
-use Rattle.disk_rules.specs.Volume.{Volume, free_inode, inode, chain}
+use Rattle.k_tables.specs.disk_rules.Kept.{AreKept}
+use Rattle.k_tables.specs.disk_rules.Reading.{Reads}
+use Rattle.k_tables.specs.disk_rules.Volume.{Volume, free_inode, inode, chain}
 use Rattle.k_tables.specs.name_facts.KeptLaws.{reads-all_lines}
 use Rattle.k_land.specs.volume_uses.PoolLaws.{reads-all_maps}
 use Rattle.k_plans.specs.Whole.{IsWhole}

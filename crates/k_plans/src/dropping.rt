@@ -1,22 +1,22 @@
 //! Giving a node up, with its map.
 ghost use Rattle.std.specs.Prelude.{◌≡◌, ◌<◌, ℕ, [], length, true, false};
-ghost use Rattle.block_pool.specs.FreeSets.{is_among};
-ghost use Rattle.disk_rules.specs.Placed.{extent_at};
+ghost use Rattle.k_reading.specs.block_pool.FreeSets.{is_among};
+ghost use Rattle.k_tables.specs.disk_rules.Placed.{extent_at};
 ghost use Rattle.extent_words.specs.Extents.{covers, holds_disk};
 ghost use Rattle.k_plans.specs.Giving.{AreGiven, MayGiveChain, MayGiveMap, is_held};
 ghost use Rattle.k_plans.specs.Plans.{IsPlan};
 ghost use Rattle.k_plans.specs.View.{with_volume};
-ghost use Rattle.k_rules.specs.Changes.{dropped};
+ghost use Rattle.k_tables.specs.k_rules.Changes.{dropped};
 ghost use Rattle.volume_maps.specs.volume_changes.Changes.{MayDrop};
 
 use crate::giving::{give_chain, give_map};
 use crate::removing::gone_node;
 use crate::tables::Tables;
-use block_pool::Pool;
 use extent_map::{Extent, ExtentMap};
-use k_journal::Batch;
+use k_land::k_journal::Batch;
 use k_land::put_inode;
 use k_reading::Blocks;
+use k_reading::block_pool::Pool;
 
 // Makes the blocks of an inode free: those of its chain and those of its map.
 fn give_inode(pool: &mut Pool, blocks: &[u32], extents: &[Extent])

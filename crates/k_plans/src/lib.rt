@@ -26,5 +26,7 @@ mod tables;
 
 pub use faults::PlanFault;
 pub use k_land;
+pub use k_land::{image_layout, k_inodes, k_journal};
 pub use k_reading;
 pub use tables::{Tables, nodes_are_made_behind_the_staging_files, tables_begin_with_what_is_read};
+pub use volume_maps::map_rules;

@@ -1,11 +1,11 @@
 //! The log base.
 ghost use Rattle.std.specs.Prelude.{◌≡◌, ◌^◌, ◌≤◌, []};
-ghost use Rattle.disk_rules.specs.Reading.{base_set};
+ghost use Rattle.k_tables.specs.disk_rules.Reading.{base_set};
 ghost use Rattle.k_plans.specs.Plans.{IsPlan};
 ghost use Rattle.k_plans.specs.View.{with_volume};
 
 use crate::tables::Tables;
-use k_journal::Batch;
+use k_land::k_journal::Batch;
 use k_land::put_base;
 
 impl Tables {

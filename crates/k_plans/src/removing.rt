@@ -1,20 +1,20 @@
 //! Taking names away.
 ghost use Rattle.std.specs.Prelude.{◌≡◌, ◌≢◌, ◌<◌, ◌≤◌, [], length, true, None, Err};
 ghost use Rattle.disk_lines.specs.Lines.{is_inode};
-ghost use Rattle.disk_rules.specs.Reading.{node_set, row_set};
-ghost use Rattle.disk_rules.specs.Volume.{Volume, inode as inode_of};
+ghost use Rattle.k_tables.specs.disk_rules.Reading.{node_set, row_set};
+ghost use Rattle.k_tables.specs.disk_rules.Volume.{Volume, inode as inode_of};
 ghost use Rattle.k_land.specs.Plans.{Turns};
 ghost use Rattle.k_plans.specs.Plans.{IsPlan};
 ghost use Rattle.k_plans.specs.Removing.{IsRmdirPlan, IsUnlinkPlan};
 ghost use Rattle.k_plans.specs.View.{with_volume};
-ghost use Rattle.k_rules.specs.Changes.{gone_node, removed, unnamed};
+ghost use Rattle.k_tables.specs.k_rules.Changes.{gone_node, removed, unnamed};
 ghost use Rattle.k_tables.specs.Found.{IsDirectoryAt, IsFileAt};
 
 use crate::faults::{PlanFault, fault_of};
 use crate::tables::Tables;
 use disk_lines::{Inode, Kind};
-use image_layout::Geometry;
-use k_journal::Batch;
+use k_land::image_layout::Geometry;
+use k_land::k_journal::Batch;
 use k_land::{clear_name, put_inode};
 use k_tables::{Entry, directory_to_remove, entry_to_unlink};
 use posix_types::Path;

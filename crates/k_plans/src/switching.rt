@@ -1,20 +1,20 @@
 //! Maps that change: blocks are set aside, inodes go over to maps, and what waits comes free.
 ghost use Rattle.std.specs.Prelude.{◌≡◌, ◌<◌, ◌≤◌, ◌+◌, ℕ, List, [], length, OnErr, IfNone, IfOk, IfSome};
-ghost use Rattle.disk_rules.specs.Chains.{first_or_zero};
-ghost use Rattle.disk_rules.specs.Volume.{Volume, chain, extents};
+ghost use Rattle.k_tables.specs.disk_rules.Chains.{first_or_zero};
+ghost use Rattle.k_tables.specs.disk_rules.Volume.{Volume, chain, extents};
 ghost use Rattle.extent_words.specs.Extents.{IsCanonical};
 ghost use Rattle.k_land.specs.Plans.{IsMapFrom, NewChain, Turns};
 ghost use Rattle.k_plans.specs.Free.{free_blocks};
 ghost use Rattle.k_plans.specs.Switching.{IsSetAside, switched_tables, WaitOnce, with_waiting};
 ghost use Rattle.k_plans.specs.Whole.{IsWhole};
-ghost use Rattle.map_rules.specs.Taken.{with_map};
+ghost use Rattle.volume_maps.specs.map_rules.Taken.{with_map};
 ghost use Rattle.volume_maps.specs.Switches.{MaySwitch};
 
 use crate::giving::give_chain;
 use crate::tables::Tables;
 use disk_lines::Inode;
 use extent_map::ExtentMap;
-use k_journal::Batch;
+use k_land::k_journal::Batch;
 use k_land::put_inode;
 use k_reading::Blocks;
 use std::alloc::{AllocError, Global};

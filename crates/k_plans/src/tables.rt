@@ -1,19 +1,19 @@
 //! The tables: how they are made of what was read, and what they are asked for.
 ghost use Rattle.std.specs.Prelude.{◌≡◌, ◌<◌, ◌↔◌, [], length, if◌then◌else◌, None, Some, IfOk, IfSome, IsSome, IsTrue};
 ghost use Rattle.disk_lines.specs.Names.{names_of};
-ghost use Rattle.k_rules.specs.Spaces.{is_free};
-ghost use Rattle.disk_rules.specs.Volume.{extents};
+ghost use Rattle.k_tables.specs.k_rules.Spaces.{is_free};
+ghost use Rattle.k_tables.specs.disk_rules.Volume.{extents};
 ghost use Rattle.k_plans.specs.Free.{free_blocks};
 ghost use Rattle.k_plans.specs.Laws.{FreeAreUnused, IsBehindStaging, IsWholeWhereRead};
 ghost use Rattle.k_plans.specs.View.{node_at, tables_view};
 ghost use Rattle.k_plans.specs.Whole.{IsWhole};
 
-use block_pool::Pool;
 use disk_lines::{Inode, Kind};
 use extent_map::ExtentMap;
-use image_layout::Geometry;
-use k_names::NameTable;
+use k_land::image_layout::Geometry;
+use k_reading::block_pool::Pool;
 use k_reading::{Blocks, Maps, free_blocks};
+use k_tables::k_names::NameTable;
 use std::alloc::{AllocError, Global};
 use std::marker::Model;
 

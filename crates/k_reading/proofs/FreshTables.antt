@@ -11,7 +11,7 @@ use Rattle.disk_lines.specs.Tables.{IsKeyed}
 use Rattle.disk_rules.specs.FreshVolume.{fresh_volume}
 use Rattle.disk_rules.specs.Volume.{Volume, volume}
 use Rattle.block_pool.specs.FreeSets.{LiesWithin}
-use Rattle.volume_facts.specs.ReadingLaws.{reads-volume}
+use Rattle.image_facts.specs.volume_facts.ReadingLaws.{reads-volume}
 use Rattle.image_facts.specs.FreshLaws.{fresh-reads, row-fresh}
 use Rattle.disk_rules.specs.Reading.{Reads}
 use Rattle.k_reading.specs.Pools.{AreInData}

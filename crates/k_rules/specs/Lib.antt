@@ -3,3 +3,4 @@ pub mod Example
 pub mod Spaces
 pub mod Stands
 pub mod View
+pub use Rattle.disk_rules.specs as disk_rules

@@ -19,22 +19,22 @@ use Rattle.extent_facts.specs.Covers.{covers-disk_at}
 use Rattle.extent_facts.specs.Facts.{disk_at-past}
 use Rattle.disk_lines.specs.declared.Kind.{Kind}
 use Rattle.disk_lines.specs.declared.Kind.TheVariants.{File, Free}
-use Rattle.disk_rules.specs.Placed.{block_at}
-use Rattle.disk_rules.specs.Rules.{file_blocks_of, IsKindAt, IsNamedOnce}
-use Rattle.disk_rules.specs.Volume.{chain, extents, free_inode, inode, Volume}
-use Rattle.volume_facts.specs.ImageLaws.{journal-outside, journaled-same}
-use Rattle.volume_facts.specs.ReadingLaws.{reads-same}
-use Rattle.volume_facts.specs.SetLaws.{journaled-outside}
+use Rattle.lines_out.specs.disk_rules.Placed.{block_at}
+use Rattle.lines_out.specs.disk_rules.Rules.{file_blocks_of, IsKindAt, IsNamedOnce}
+use Rattle.lines_out.specs.disk_rules.Volume.{chain, extents, free_inode, inode, Volume}
+use Rattle.k_content.specs.volume_facts.ImageLaws.{journal-outside, journaled-same}
+use Rattle.k_content.specs.volume_facts.ReadingLaws.{reads-same}
+use Rattle.k_content.specs.volume_facts.SetLaws.{journaled-outside}
 use Rattle.k_log_plans.specs.volume_uses.OwnerLaws.{no_chain_has, one_owner, one_user}
 use Rattle.k_log_plans.specs.volume_uses.PoolLaws.{covered-in_data}
 use Rattle.k_log_plans.specs.volume_uses.UseLaws.{in_map-covers, length-uses_by}
 use Rattle.k_log_plans.specs.volume_uses.Uses.{uses_of}
-use Rattle.block_bytes.specs.Overwrites.{IsBesideBlocks, IsOverwritten, IsOverwrittenWhole, MayOverwrite, StandsIn}
-use Rattle.k_journal.specs.declared.batches.Entry.{Entry}
+use Rattle.lines_out.specs.block_bytes.Overwrites.{IsBesideBlocks, IsOverwritten, IsOverwrittenWhole, MayOverwrite, StandsIn}
+use Rattle.k_log_plans.specs.k_journal.declared.batches.Entry.{Entry}
 use Rattle.k_log_plans.specs.k_plans.View.{TablesView}
 use Rattle.k_log_plans.specs.k_plans.Whole.{IsWhole}
-use Rattle.k_rules.specs.Stands.{Stands}
-use Rattle.k_rules.specs.View.{View}
+use Rattle.k_content.specs.k_rules.Stands.{Stands}
+use Rattle.k_content.specs.k_rules.View.{View}
 use Rattle.k_split.specs.Bytes.{IsOverwriteCut, IsOverwriteDone, IsWrittenOver, MayWriteBytes, Overwrites}
 use Rattle.k_split.specs.Order.{IsReady, IsUnstaged, IsUnstagedSingle, view_of}
 

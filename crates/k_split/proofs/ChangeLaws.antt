@@ -6,17 +6,17 @@ use Rattle.pm_words.specs.Frames.{KeepsSingle}
 use Rattle.pm_words.specs.Powers.{is_on, Steps, Supply}
 use Rattle.disk_places.specs.Places.{is_data_block}
 use Rattle.extent_words.specs.Extents.{covers}
-use Rattle.disk_rules.specs.Volume.{Volume}
-use Rattle.k_journal.specs.declared.batches.Entry.{Entry}
-use Rattle.k_journal.specs.declared.outcomes.Commit.{Commit}
+use Rattle.lines_out.specs.disk_rules.Volume.{Volume}
+use Rattle.k_log_plans.specs.k_journal.declared.batches.Entry.{Entry}
+use Rattle.k_log_plans.specs.k_journal.declared.outcomes.Commit.{Commit}
 use Rattle.k_log_plans.specs.k_land.PlanLaws.{turns-none}
 use Rattle.k_log_plans.specs.k_land.Plans.{Turns}
 use Rattle.k_log_plans.specs.k_plans.Renaming.{IsRenamed, IsRenamePlan}
-use Rattle.k_rules.specs.Spaces.{volume_space}
+use Rattle.k_content.specs.k_rules.Spaces.{volume_space}
 use Rattle.posix_words.specs.NameRows.{rename_rows}
 use Rattle.k_log_plans.specs.k_plans.Plans.{IsPlan, KeepsStaged}
 use Rattle.k_log_plans.specs.k_plans.View.{TablesView}
-use Rattle.k_rules.specs.View.{View}
+use Rattle.k_content.specs.k_rules.View.{View}
 use Rattle.posix_types.specs.declared.item.Outcome.{Outcome}
 use Rattle.posix_types.specs.declared.reply.Reply.{Reply}
 use Rattle.posix_words.specs.Outcomes.{answer, first}

@@ -13,23 +13,23 @@ use Rattle.disk_places.specs.PlaceLaws.{behind_log-words, log_line-not_journaled
 use Rattle.disk_places.specs.Places.{commit_word, first_data, Geometry, is_data_block, is_journaled_line, log_line}
 use Rattle.extent_words.specs.Extents.{covers}
 use Rattle.disk_lines.specs.declared.Draft.{Draft}
-use Rattle.disk_rules.specs.Content.{content, disk_of, found}
-use Rattle.disk_rules.specs.Kept.{AreKept}
-use Rattle.disk_rules.specs.Live.{live_entries}
-use Rattle.disk_rules.specs.Placed.{block_at, IsOutside}
-use Rattle.disk_rules.specs.Reading.{Reads}
-use Rattle.disk_rules.specs.Rules.{file_blocks_of}
-use Rattle.disk_rules.specs.Volume.{Volume, extents, inode}
-use Rattle.volume_facts.specs.Footprint.{SameData, SameLog}
-use Rattle.volume_facts.specs.FootprintLaws.{content-own, content-read, disk_of-covered, found-same}
-use Rattle.volume_facts.specs.ImageLaws.{journaled-idle, journaled-other}
-use Rattle.volume_facts.specs.LineWords.{data_word, data_word-not_journaled}
-use Rattle.volume_facts.specs.SetLaws.{block-outside}
+use Rattle.lines_out.specs.disk_rules.Content.{content, disk_of, found}
+use Rattle.lines_out.specs.disk_rules.Kept.{AreKept}
+use Rattle.lines_out.specs.disk_rules.Live.{live_entries}
+use Rattle.lines_out.specs.disk_rules.Placed.{block_at, IsOutside}
+use Rattle.lines_out.specs.disk_rules.Reading.{Reads}
+use Rattle.lines_out.specs.disk_rules.Rules.{file_blocks_of}
+use Rattle.lines_out.specs.disk_rules.Volume.{Volume, extents, inode}
+use Rattle.k_content.specs.volume_facts.Footprint.{SameData, SameLog}
+use Rattle.k_content.specs.volume_facts.FootprintLaws.{content-own, content-read, disk_of-covered, found-same}
+use Rattle.k_content.specs.volume_facts.ImageLaws.{journaled-idle, journaled-other}
+use Rattle.k_content.specs.volume_facts.LineWords.{data_word, data_word-not_journaled}
+use Rattle.k_content.specs.volume_facts.SetLaws.{block-outside}
 use Rattle.k_log_plans.specs.volume_uses.PoolLaws.{covered-in_data, unused-uncovered}
 use Rattle.k_log_plans.specs.volume_uses.Uses.{is_unused}
 use Rattle.k_log_plans.specs.k_land.LandingLaws.{idle-image}
 use Rattle.k_log_plans.specs.k_land.WrittenLaws.{unused-apart}
-use Rattle.k_rules.specs.Stands.{IsOldOrNew, Stands}
+use Rattle.k_content.specs.k_rules.Stands.{IsOldOrNew, Stands}
 use Rattle.k_split.specs.Contents.{AreOwnBlocks, HasNoBlocks, HasOldOrNew, HaveOldOrNew}
 
 -- a block that a file reads is a data block

@@ -13,21 +13,21 @@ use Rattle.pm_words.specs.Powers.{is_on, Steps, Supply}
 use Rattle.pm_words.specs.Words.{Words}
 use Rattle.disk_places.specs.Journal.{is_journal_word, journaled}
 use Rattle.disk_places.specs.Places.{commit_word, Geometry, is_data_block, is_journaled_line}
-use Rattle.disk_rules.specs.Placed.{block_at, IsOutside}
-use Rattle.disk_rules.specs.Reading.{Reads}
-use Rattle.disk_rules.specs.Volume.{Volume}
-use Rattle.block_bytes.specs.Overwrites.{IsZeroed, MayZero, SameBeside}
-use Rattle.map_rules.specs.Zeros.{ReadZeros}
-use Rattle.volume_facts.specs.ImageLaws.{journal-outside}
-use Rattle.volume_facts.specs.Reading.{AreUnchained}
-use Rattle.volume_facts.specs.ReadingLaws.{reads-one}
-use Rattle.volume_facts.specs.SetLaws.{journaled-outside}
+use Rattle.lines_out.specs.disk_rules.Placed.{block_at, IsOutside}
+use Rattle.lines_out.specs.disk_rules.Reading.{Reads}
+use Rattle.lines_out.specs.disk_rules.Volume.{Volume}
+use Rattle.lines_out.specs.block_bytes.Overwrites.{IsZeroed, MayZero, SameBeside}
+use Rattle.lines_out.specs.map_rules.Zeros.{ReadZeros}
+use Rattle.k_content.specs.volume_facts.ImageLaws.{journal-outside}
+use Rattle.k_content.specs.volume_facts.Reading.{AreUnchained}
+use Rattle.k_content.specs.volume_facts.ReadingLaws.{reads-one}
+use Rattle.k_content.specs.volume_facts.SetLaws.{journaled-outside}
 use Rattle.k_log_plans.specs.volume_maps.Switches.{unused-data}
-use Rattle.k_journal.specs.declared.batches.Entry.{Entry}
+use Rattle.k_log_plans.specs.k_journal.declared.batches.Entry.{Entry}
 use Rattle.k_log_plans.specs.k_land.LandingLaws.{idle-image, idle-sound}
 use Rattle.k_log_plans.specs.k_land.Plans.{NewChain, blocks_of}
 use Rattle.k_log_plans.specs.k_land.WrittenLaws.{reads-beside, settles-then, stands-written, took-later, unused-apart}
-use Rattle.k_rules.specs.Stands.{IsOldOrNew}
+use Rattle.k_content.specs.k_rules.Stands.{IsOldOrNew}
 use Rattle.k_split.specs.declared.faults.KFault.{KFault}
 use Rattle.k_split.specs.Filling.{IsFillLanded, IsFillPlanned}
 use Rattle.k_split.specs.MapChanges.{ChangesMaps, IsMapLanded, IsMapPlanned}

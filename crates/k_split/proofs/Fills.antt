@@ -9,21 +9,21 @@ use Rattle.pm_words.specs.declared.Cell.{Cell}
 use Rattle.pm_words.specs.Frames.{KeepsSingle}
 use Rattle.pm_words.specs.Powers.{Supply}
 use Rattle.extent_words.specs.Extents.{disk_at}
-use Rattle.disk_rules.specs.Placed.{AreDistinct, block_at}
-use Rattle.disk_rules.specs.Volume.{chain, extents, inode}
-use Rattle.volume_facts.specs.Changes.{chain-set_same, extents-set_same}
-use Rattle.map_rules.specs.Taken.{AreLowest, with_map}
-use Rattle.map_rules.specs.Changes.{holes}
+use Rattle.lines_out.specs.disk_rules.Placed.{AreDistinct, block_at}
+use Rattle.lines_out.specs.disk_rules.Volume.{chain, extents, inode}
+use Rattle.k_content.specs.volume_facts.Changes.{chain-set_same, extents-set_same}
+use Rattle.lines_out.specs.map_rules.Taken.{AreLowest, with_map}
+use Rattle.lines_out.specs.map_rules.Changes.{holes}
 use Rattle.k_log_plans.specs.volume_maps.Switches.{unused-data}
 use Rattle.k_log_plans.specs.volume_uses.Uses.{is_unused}
-use Rattle.k_journal.specs.declared.batches.Entry.{Entry}
+use Rattle.k_log_plans.specs.k_journal.declared.batches.Entry.{Entry}
 use Rattle.k_log_plans.specs.k_land.Maps.{AreApart}
 use Rattle.k_log_plans.specs.k_land.Plans.{NewChain, blocks_of}
 use Rattle.k_log_plans.specs.k_land.WrittenLaws.{blocks_of-one}
 use Rattle.k_log_plans.specs.k_map_plans.Plans.{IsFillPlan, IsLiveFile}
 use Rattle.k_log_plans.specs.k_plans.Free.{is_free_block}
 use Rattle.k_log_plans.specs.k_plans.View.{TablesView}
-use Rattle.k_rules.specs.View.{View}
+use Rattle.k_content.specs.k_rules.View.{View}
 use Rattle.posix_types.specs.declared.item.Outcome.{Outcome}
 use Rattle.k_split.specs.declared.faults.KFault.{KFault}
 use Rattle.k_split.specs.Answers.{IsPaid}

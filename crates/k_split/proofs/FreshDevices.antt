@@ -8,7 +8,7 @@ use Rattle.pm_words.specs.Images.{words_of}
 use Rattle.pm_words.specs.Words.{word_at}
 use Rattle.disk_places.specs.Places.{commit_word, Geometry}
 use Rattle.disk_lines.specs.Fresh.{fresh}
-use Rattle.disk_rules.specs.Rules.{geometry_of, IsChecked}
+use Rattle.lines_out.specs.disk_rules.Rules.{geometry_of, IsChecked}
 use Rattle.k_log_plans.specs.image_facts.FreshLines.{fresh-commit}
 use Rattle.k_split.proofs.OpenLaws.{IsOpenable}
 

@@ -8,13 +8,13 @@ use Rattle.pm_words.specs.Images.{Follows, words_of}
 use Rattle.pm_words.specs.Powers.{is_on, Steps, Supply}
 use Rattle.disk_places.specs.Journal.{journaled}
 use Rattle.disk_places.specs.Places.{Geometry}
-use Rattle.disk_rules.specs.Volume.{Volume}
-use Rattle.k_journal.specs.Commits.{MayCommit, TakesAStep}
-use Rattle.k_journal.specs.declared.batches.Entry.{Entry}
+use Rattle.lines_out.specs.disk_rules.Volume.{Volume}
+use Rattle.k_log_plans.specs.k_journal.Commits.{MayCommit, TakesAStep}
+use Rattle.k_log_plans.specs.k_journal.declared.batches.Entry.{Entry}
 use Rattle.k_log_plans.specs.k_land.LandingLaws.{lines-new, may-commit}
 use Rattle.k_log_plans.specs.k_land.Landings.{IsElsewhere}
 use Rattle.k_log_plans.specs.k_land.Plans.{Turns}
-use Rattle.k_rules.specs.Stands.{IsOldOrNew, Stands}
+use Rattle.k_content.specs.k_rules.Stands.{IsOldOrNew, Stands}
 use Rattle.k_split.specs.Answers.{Changes}
 use Rattle.k_split.specs.Landed.{IsLandedDone, IsLandedLost, IsPlanned}
 

@@ -14,18 +14,18 @@ use Rattle.disk_places.specs.Places.{commit_word, is_data_block, log_block}
 use Rattle.extent_words.specs.declared.Extent.{Extent}
 use Rattle.extent_words.specs.Extents.{covers, disk_at}
 use Rattle.extent_facts.specs.Covers.{covers-disk_at}
-use Rattle.disk_rules.specs.Placed.{block_at}
-use Rattle.disk_rules.specs.Rules.{file_blocks_of}
-use Rattle.disk_rules.specs.Volume.{chain, extents, inode, Volume}
-use Rattle.volume_facts.specs.LineWords.{data_word}
-use Rattle.volume_facts.specs.LoanLaws.{all_read-lent, all_read-settled}
-use Rattle.volume_facts.specs.Reading.{AreUnchained}
+use Rattle.lines_out.specs.disk_rules.Placed.{block_at}
+use Rattle.lines_out.specs.disk_rules.Rules.{file_blocks_of}
+use Rattle.lines_out.specs.disk_rules.Volume.{chain, extents, inode, Volume}
+use Rattle.k_content.specs.volume_facts.LineWords.{data_word}
+use Rattle.k_content.specs.volume_facts.LoanLaws.{all_read-lent, all_read-settled}
+use Rattle.k_content.specs.volume_facts.Reading.{AreUnchained}
 use Rattle.k_log_plans.specs.volume_uses.OwnerLaws.{no_chain_has}
 use Rattle.k_log_plans.specs.volume_uses.PoolLaws.{covered-in_data}
-use Rattle.k_journal.specs.declared.batches.Entry.{Entry}
+use Rattle.k_log_plans.specs.k_journal.declared.batches.Entry.{Entry}
 use Rattle.k_log_plans.specs.k_plans.View.{TablesView}
 use Rattle.k_log_plans.specs.k_plans.Whole.{IsWhole}
-use Rattle.k_rules.specs.Stands.{Stands}
+use Rattle.k_content.specs.k_rules.Stands.{Stands}
 use Rattle.k_split.specs.Loans.{MayLend}
 use Rattle.k_split.specs.Order.{IsReady, IsUnstagedSingle, view_of}
 use Rattle.k_split.proofs.ByteLaws.{one_of}

@@ -10,16 +10,16 @@ use Rattle.pm_words.specs.Words.{Words}
 use Rattle.disk_places.specs.Journal.{is_journal_word, journaled}
 use Rattle.disk_places.specs.PlaceLaws.{behind_log-not_journaled, behind_log-words}
 use Rattle.disk_places.specs.Places.{commit_word, is_data_block, is_journaled_line, log_line}
-use Rattle.disk_rules.specs.Placed.{block_at}
-use Rattle.disk_rules.specs.Volume.{chain, Volume}
-use Rattle.block_bytes.specs.Overwrites.{AreGoingToZero, AreLinesZeroed, IsInLines, SameBesideLines}
+use Rattle.lines_out.specs.disk_rules.Placed.{block_at}
+use Rattle.lines_out.specs.disk_rules.Volume.{chain, Volume}
+use Rattle.lines_out.specs.block_bytes.Overwrites.{AreGoingToZero, AreLinesZeroed, IsInLines, SameBesideLines}
 use Rattle.pm_words.specs.Frames.{KeepsSingle, SameLent}
 use Rattle.pm_words.specs.Images.{Follows}
-use Rattle.volume_facts.specs.ImageLaws.{journaled-same}
-use Rattle.volume_facts.specs.ReadingLaws.{reads-same}
-use Rattle.k_journal.specs.declared.batches.Entry.{Entry}
+use Rattle.k_content.specs.volume_facts.ImageLaws.{journaled-same}
+use Rattle.k_content.specs.volume_facts.ReadingLaws.{reads-same}
+use Rattle.k_log_plans.specs.k_journal.declared.batches.Entry.{Entry}
 use Rattle.k_log_plans.specs.k_plans.View.{TablesView}
-use Rattle.k_rules.specs.Stands.{Stands}
+use Rattle.k_content.specs.k_rules.Stands.{Stands}
 use Rattle.k_split.specs.Laps.{ClearsLog, IsLogWord}
 use Rattle.k_split.specs.Order.{IsReady, view_of}
 

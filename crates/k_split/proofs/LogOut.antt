@@ -11,15 +11,15 @@ use Rattle.pm_words.specs.Parts.{Part}
 use Rattle.pm_words.specs.Words.{Words}
 use Rattle.disk_places.specs.Journal.{journaled}
 use Rattle.disk_places.specs.Places.{commit_word, is_data_block, log_block, log_line}
-use Rattle.disk_rules.specs.Placed.{block_at}
-use Rattle.disk_rules.specs.Volume.{chain, Volume}
-use Rattle.block_bytes.specs.Overwrites.{IsInLines}
+use Rattle.lines_out.specs.disk_rules.Placed.{block_at}
+use Rattle.lines_out.specs.disk_rules.Volume.{chain, Volume}
+use Rattle.lines_out.specs.block_bytes.Overwrites.{IsInLines}
 use Rattle.lines_out.specs.Lines.{LinesComeBack, LinesGoOut}
-use Rattle.volume_facts.specs.ReadingLaws.{reads-same}
-use Rattle.k_journal.specs.declared.batches.Entry.{Entry}
+use Rattle.k_content.specs.volume_facts.ReadingLaws.{reads-same}
+use Rattle.k_log_plans.specs.k_journal.declared.batches.Entry.{Entry}
 use Rattle.k_log_plans.specs.k_plans.View.{TablesView}
 use Rattle.k_log_plans.specs.k_plans.Whole.{IsWhole}
-use Rattle.k_rules.specs.Stands.{Stands}
+use Rattle.k_content.specs.k_rules.Stands.{Stands}
 use Rattle.k_split.specs.Laps.{IsLogWord}
 use Rattle.k_split.specs.Order.{IsReady, view_of}
 use Rattle.k_split.proofs.LoanLaws.{is_lent-Lent}

@@ -3,12 +3,12 @@ use Rattle.std.proofs.Common.{◌≡◌, ℕ, Bool, true, false, List, [], ◌�
 use Rattle.std.specs.Prelude.{not}
 use Rattle.std.specs.Option.{option_map_or}
 use Rattle.disk_lines.specs.Names.{Rows}
-use Rattle.disk_rules.specs.Volume.{Volume}
+use Rattle.lines_out.specs.disk_rules.Volume.{Volume}
 use Rattle.pm_words.specs.declared.Cell.{Cell}
 use Rattle.disk_lines.specs.declared.Inode.{Inode}
 use Rattle.k_log_plans.specs.k_plans.View.{TablesView}
-use Rattle.k_rules.specs.Spaces.{is_directory_in, space_of, volume_space}
-use Rattle.k_rules.specs.View.{View}
+use Rattle.k_content.specs.k_rules.Spaces.{is_directory_in, space_of, volume_space}
+use Rattle.k_content.specs.k_rules.View.{View}
 use Rattle.posix_types.specs.declared.item.Outcome.{Outcome}
 use Rattle.posix_types.specs.declared.reply.Errno.{Errno}
 use Rattle.posix_types.specs.declared.reply.Reply.{Reply}

@@ -9,22 +9,22 @@ use Rattle.pm_words.specs.Powers.{Supply}
 use Rattle.disk_lines.specs.declared.Inode.{Inode}
 use Rattle.disk_lines.specs.declared.Kind.TheVariants.{File}
 use Rattle.disk_places.specs.Places.{is_data_block}
-use Rattle.disk_rules.specs.Rules.{IsKindAt}
+use Rattle.lines_out.specs.disk_rules.Rules.{IsKindAt}
 use Rattle.extent_words.specs.Extents.{covers}
 use Rattle.extent_words.specs.declared.Extent.{Extent}
 use Rattle.k_log_plans.specs.k_map_plans.Plans.{IsLiveFile, IsStagingFile}
-use Rattle.map_rules.specs.Changes.{given_up}
-use Rattle.map_rules.specs.Taken.{switched, with_map}
-use Rattle.volume_facts.specs.Changes.{chain-set_same, extents-set_other}
-use Rattle.disk_rules.specs.Volume.{Volume, chain, extents, inode}
-use Rattle.k_journal.specs.declared.batches.Entry.{Entry}
+use Rattle.lines_out.specs.map_rules.Changes.{given_up}
+use Rattle.lines_out.specs.map_rules.Taken.{switched, with_map}
+use Rattle.k_content.specs.volume_facts.Changes.{chain-set_same, extents-set_other}
+use Rattle.lines_out.specs.disk_rules.Volume.{Volume, chain, extents, inode}
+use Rattle.k_log_plans.specs.k_journal.declared.batches.Entry.{Entry}
 use Rattle.k_log_plans.specs.k_land.Plans.{NewChain}
 use Rattle.k_log_plans.specs.k_land.WrittenLaws.{block-among}
 use Rattle.k_log_plans.specs.k_plans.Plans.{KeepsStaged}
 use Rattle.k_log_plans.specs.k_plans.Switching.{IsMapPlan}
 use Rattle.k_log_plans.specs.k_plans.View.{TablesView}
 use Rattle.k_log_plans.specs.k_plans.Whole.{IsWhole}
-use Rattle.k_rules.specs.View.{View}
+use Rattle.k_content.specs.k_rules.View.{View}
 use Rattle.posix_types.specs.declared.reply.Reply.{Reply}
 use Rattle.posix_words.specs.Outcomes.{answer}
 use Rattle.k_log_plans.specs.volume_maps.Switches.{unused-data}

@@ -8,16 +8,16 @@ use Rattle.pm_words.specs.Frames.{KeepsSingle, SameLent}
 use Rattle.pm_words.specs.Images.{Follows}
 use Rattle.pm_words.specs.Powers.{is_on, Supply}
 use Rattle.disk_places.specs.Places.{Geometry, is_data_block}
-use Rattle.disk_rules.specs.Placed.{AreInDevice, block_at}
-use Rattle.disk_rules.specs.Volume.{Volume}
-use Rattle.k_journal.specs.Commits.{TakesAStep}
-use Rattle.k_journal.specs.declared.batches.Entry.{Entry}
+use Rattle.lines_out.specs.disk_rules.Placed.{AreInDevice, block_at}
+use Rattle.lines_out.specs.disk_rules.Volume.{Volume}
+use Rattle.k_log_plans.specs.k_journal.Commits.{TakesAStep}
+use Rattle.k_log_plans.specs.k_journal.declared.batches.Entry.{Entry}
 use Rattle.k_log_plans.specs.k_land.LandingLaws.{lines-new}
 use Rattle.k_log_plans.specs.k_land.Landings.{IsElsewhere}
 use Rattle.k_log_plans.specs.k_land.Maps.{MayWriteAll}
 use Rattle.k_log_plans.specs.k_land.Plans.{NewChain, Turns, blocks_of, new_at}
 use Rattle.k_log_plans.specs.k_land.WrittenLaws.{in_data-each}
-use Rattle.k_rules.specs.Stands.{IsOldOrNew, Stands}
+use Rattle.k_content.specs.k_rules.Stands.{IsOldOrNew, Stands}
 use Rattle.k_log_plans.specs.volume_maps.Switches.{unused-data}
 use Rattle.k_log_plans.specs.volume_uses.Uses.{is_unused}
 use Rattle.k_split.specs.MapChanges.{ChangesMaps, IsMapLandedDone, IsMapLandedLost, IsMapPlanned}

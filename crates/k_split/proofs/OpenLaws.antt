@@ -15,23 +15,23 @@ use Rattle.extent_words.specs.declared.Extent.{Extent}
 use Rattle.disk_lines.specs.declared.Inode.{Inode}
 use Rattle.disk_lines.specs.Names.{Rows}
 use Rattle.disk_lines.specs.Tables.{IsKeyed}
-use Rattle.disk_rules.specs.Kept.{AreKept}
-use Rattle.disk_rules.specs.Reading.{Reads}
-use Rattle.disk_rules.specs.Rules.{geometry_of, IsChecked}
-use Rattle.disk_rules.specs.Volume.{Volume, volume}
-use Rattle.volume_facts.specs.ImageLaws.{journaled-idle}
+use Rattle.lines_out.specs.disk_rules.Kept.{AreKept}
+use Rattle.lines_out.specs.disk_rules.Reading.{Reads}
+use Rattle.lines_out.specs.disk_rules.Rules.{geometry_of, IsChecked}
+use Rattle.lines_out.specs.disk_rules.Volume.{Volume, volume}
+use Rattle.k_content.specs.volume_facts.ImageLaws.{journaled-idle}
 use Rattle.disk_places.specs.PlaceLaws.{behind_log-words}
-use Rattle.volume_facts.specs.LineWords.{data_word}
-use Rattle.volume_facts.specs.ReadingLaws.{reads-same, reads-volume}
+use Rattle.k_content.specs.volume_facts.LineWords.{data_word}
+use Rattle.k_content.specs.volume_facts.ReadingLaws.{reads-same, reads-volume}
 use Rattle.k_content.specs.name_facts.KeptLaws.{kept-keyed, reads-all_lines}
 use Rattle.k_log_plans.specs.image_facts.CheckedLaws.{kept-checked, reads-checked}
 use Rattle.k_log_plans.specs.image_facts.FreshLaws.{content-fresh, fresh-checked}
 use Rattle.k_log_plans.specs.image_facts.FreshLines.{geometry_of-fresh}
 use Rattle.disk_lines.specs.Fresh.{fresh}
-use Rattle.disk_rules.specs.Content.{content}
-use Rattle.disk_rules.specs.FreshVolume.{root_alone}
-use Rattle.k_journal.specs.declared.batches.Entry.{Entry}
-use Rattle.k_rules.specs.Stands.{Stands}
+use Rattle.lines_out.specs.disk_rules.Content.{content}
+use Rattle.lines_out.specs.disk_rules.FreshVolume.{root_alone}
+use Rattle.k_log_plans.specs.k_journal.declared.batches.Entry.{Entry}
+use Rattle.k_content.specs.k_rules.Stands.{Stands}
 use Rattle.k_log_plans.specs.k_plans.View.{tables_view, TablesView}
 use Rattle.k_log_plans.specs.k_plans.Whole.{IsWhole}
 use Rattle.k_log_plans.specs.k_plans.WholeLaws.{whole-read}

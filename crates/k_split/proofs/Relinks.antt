@@ -5,18 +5,18 @@ use Rattle.std.proofs.lemmas.List.{append-nil}
 use Rattle.pm_words.specs.declared.Cell.{Cell}
 use Rattle.pm_words.specs.Cells.{cell, is_single}
 use Rattle.disk_lines.specs.declared.Kind.TheVariants.{Staging}
-use Rattle.disk_rules.specs.Rules.{IsKindAt}
-use Rattle.disk_rules.specs.Volume.{Volume, extents, inode}
+use Rattle.lines_out.specs.disk_rules.Rules.{IsKindAt}
+use Rattle.lines_out.specs.disk_rules.Volume.{Volume, extents, inode}
 use Rattle.extent_facts.specs.Covers.{covers-disk_at, disk_at-covers}
 use Rattle.extent_words.specs.declared.Extent.{Extent}
 use Rattle.extent_words.specs.Extents.{covers, disk_at, is_within, IsCanonical}
 use Rattle.k_log_plans.specs.k_land.Plans.{NewChain, blocks_of}
 use Rattle.k_log_plans.specs.k_map_plans.Plans.{MayMove}
 use Rattle.k_log_plans.specs.k_plans.Whole.{IsWhole}
-use Rattle.map_rules.specs.Changes.{IsMoved, with_length}
-use Rattle.map_rules.specs.Taken.{switched, with_map}
-use Rattle.map_rules.specs.declared.moves.Move.{Move}
-use Rattle.volume_facts.specs.Changes.{extents-set_other, extents-set_same}
+use Rattle.lines_out.specs.map_rules.Changes.{IsMoved, with_length}
+use Rattle.lines_out.specs.map_rules.Taken.{switched, with_map}
+use Rattle.lines_out.specs.map_rules.declared.moves.Move.{Move}
+use Rattle.k_content.specs.volume_facts.Changes.{extents-set_other, extents-set_same}
 use Rattle.k_split.specs.MapChanges.{IsMovedSingle}
 use Rattle.k_split.specs.Order.{IsUnstaged}
 

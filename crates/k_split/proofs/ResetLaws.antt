@@ -12,17 +12,17 @@ use Rattle.disk_lines.specs.declared.Inode.{Inode}
 use Rattle.disk_lines.specs.declared.Kind.{Kind}
 use Rattle.disk_lines.specs.declared.Kind.TheVariants.{File}
 use Rattle.disk_lines.specs.Lines.{has_map_or_none, is_inode, is_inode_of_kind, most_bytes}
-use Rattle.disk_rules.specs.Chains.{blocks_from, first_or_zero}
-use Rattle.disk_rules.specs.Content.{Node, content, found}
-use Rattle.disk_rules.specs.Live.{live_entries}
-use Rattle.disk_rules.specs.Volume.{Volume, inode}
-use Rattle.volume_facts.specs.FootprintLaws.{content-own}
-use Rattle.k_journal.specs.declared.batches.Entry.{Entry}
+use Rattle.lines_out.specs.disk_rules.Chains.{blocks_from, first_or_zero}
+use Rattle.lines_out.specs.disk_rules.Content.{Node, content, found}
+use Rattle.lines_out.specs.disk_rules.Live.{live_entries}
+use Rattle.lines_out.specs.disk_rules.Volume.{Volume, inode}
+use Rattle.k_content.specs.volume_facts.FootprintLaws.{content-own}
+use Rattle.k_log_plans.specs.k_journal.declared.batches.Entry.{Entry}
 use Rattle.k_log_plans.specs.ResetLaws.{reset-content}
 use Rattle.k_log_plans.specs.Resets.{HasNoValid, HasOwnMap, reset}
 use Rattle.k_log_plans.specs.k_map_plans.Plans.{IsLiveFile}
 use Rattle.k_log_plans.specs.k_plans.Whole.{IsWhole}
-use Rattle.k_rules.specs.Stands.{IsOldOrNew, Stands}
+use Rattle.k_content.specs.k_rules.Stands.{IsOldOrNew, Stands}
 use Rattle.k_split.specs.declared.faults.KFault.{KFault}
 use Rattle.k_split.specs.Contents.{HasOldOrNew}
 use Rattle.k_split.specs.Landed.{IsLanded}

@@ -8,10 +8,10 @@ use Rattle.pm_words.specs.ImageLaws.{IsImage-words_of}
 use Rattle.pm_words.specs.Images.{words_of}
 use Rattle.extent_words.specs.Extents.{disk_at, IsCanonical}
 use Rattle.extent_facts.specs.Facts.{disk_at-past}
-use Rattle.disk_rules.specs.Volume.{extents, Volume}
-use Rattle.block_bytes.specs.Overwrites.{MayOverwrite}
+use Rattle.lines_out.specs.disk_rules.Volume.{extents, Volume}
+use Rattle.lines_out.specs.block_bytes.Overwrites.{MayOverwrite}
 use Rattle.k_log_plans.specs.k_plans.Whole.{IsWhole}
-use Rattle.k_rules.specs.Stands.{Stands}
+use Rattle.k_content.specs.k_rules.Stands.{Stands}
 use Rattle.k_split.specs.Loans.{MayLend}
 use Rattle.k_split.proofs.ByteLaws.{may_overwrite}
 

@@ -6,21 +6,21 @@ use Rattle.pm_words.specs.declared.Cell.{Cell}
 use Rattle.pm_words.specs.Cells.{AllHome}
 use Rattle.pm_words.specs.Images.{words_of}
 use Rattle.disk_places.specs.Journal.{journaled}
-use Rattle.disk_rules.specs.Content.{content, found}
-use Rattle.disk_rules.specs.Live.{live_entries}
-use Rattle.disk_rules.specs.Volume.{Volume}
+use Rattle.lines_out.specs.disk_rules.Content.{content, found}
+use Rattle.lines_out.specs.disk_rules.Live.{live_entries}
+use Rattle.lines_out.specs.disk_rules.Volume.{Volume}
 use Rattle.posix_types.specs.declared.tree.TreeEntry.{TreeEntry}
-use Rattle.posix_trees.specs.TreeOf.{IsTreeOf}
+use Rattle.k_content.specs.posix_trees.TreeOf.{IsTreeOf}
 use Rattle.k_content.proofs.Reading.{have-trees}
 use Rattle.k_content.specs.Trees.{HasTables, HasTree, tree_content}
 use Rattle.extent_words.specs.declared.Extent.{Extent}
 use Rattle.disk_lines.specs.declared.Inode.{Inode}
 use Rattle.disk_lines.specs.Names.{Rows}
-use Rattle.k_journal.specs.declared.batches.Entry.{Entry}
+use Rattle.k_log_plans.specs.k_journal.declared.batches.Entry.{Entry}
 use Rattle.k_log_plans.specs.k_plans.View.{TablesView}
 use Rattle.k_split.specs.Order.{IsInOrder, IsReady, view_of}
-use Rattle.k_rules.specs.Stands.{Stands}
-use Rattle.k_rules.specs.View.{View}
+use Rattle.k_content.specs.k_rules.Stands.{Stands}
+use Rattle.k_content.specs.k_rules.View.{View}
 use Rattle.k_split.proofs.ContentLaws.{content-words, reads-words}
 
 pub has-tree : (k : View) → k.batched ≡ false → IsInOrder k → AllHome k.cells → HasTree k.volume.inodes k.volume.names k.volume.maps k.cells

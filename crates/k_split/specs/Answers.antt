@@ -7,12 +7,12 @@ use Rattle.pm_words.specs.Images.{Follows}
 use Rattle.pm_words.specs.Powers.{is_on, Supply}
 use Rattle.disk_places.specs.Journal.{is_journal_word}
 use Rattle.disk_places.specs.Places.{is_journaled_line}
-use Rattle.disk_rules.specs.Volume.{Volume}
-use Rattle.k_journal.specs.Commits.{TakesAStep}
-use Rattle.k_journal.specs.declared.outcomes.Commit.{Commit}
+use Rattle.lines_out.specs.disk_rules.Volume.{Volume}
+use Rattle.k_log_plans.specs.k_journal.Commits.{TakesAStep}
+use Rattle.k_log_plans.specs.k_journal.declared.outcomes.Commit.{Commit}
 use Rattle.k_log_plans.specs.k_plans.Whole.{IsWhole}
-use Rattle.k_rules.specs.Stands.{IsOldOrNew}
-use Rattle.k_rules.specs.View.{View}
+use Rattle.k_content.specs.k_rules.Stands.{IsOldOrNew}
+use Rattle.k_content.specs.k_rules.View.{View}
 use Rattle.posix_types.specs.declared.item.Outcome.{Outcome}
 use Rattle.posix_types.specs.declared.reply.Errno.{Errno}
 use Rattle.posix_types.specs.declared.reply.Reply.{Reply}

@@ -9,10 +9,10 @@ use Rattle.pm_words.specs.Words.{Words}
 use Rattle.disk_places.specs.Journal.{IsSound, journaled}
 use Rattle.extent_words.specs.Extents.{disk_at}
 use Rattle.disk_lines.specs.declared.Kind.TheVariants.{File}
-use Rattle.disk_rules.specs.Reading.{Reads}
-use Rattle.disk_rules.specs.Volume.{extents, inode, Volume}
-use Rattle.block_bytes.specs.Overwrites.{IsBesideBlocks, IsOverwritten, IsOverwrittenWhole}
-use Rattle.k_rules.specs.View.{View}
+use Rattle.lines_out.specs.disk_rules.Reading.{Reads}
+use Rattle.lines_out.specs.disk_rules.Volume.{extents, inode, Volume}
+use Rattle.lines_out.specs.block_bytes.Overwrites.{IsBesideBlocks, IsOverwritten, IsOverwrittenWhole}
+use Rattle.k_content.specs.k_rules.View.{View}
 use Rattle.k_split.specs.declared.faults.KFault.{KFault}
 use Rattle.k_split.specs.Order.{IsInOrder}
 

@@ -6,13 +6,13 @@ use Rattle.pm_words.specs.Words.{Words}
 use Rattle.disk_places.specs.Journal.{journaled}
 use Rattle.disk_places.specs.Places.{Geometry}
 use Rattle.extent_words.specs.Extents.{covers}
-use Rattle.disk_rules.specs.Content.{content, found}
-use Rattle.disk_rules.specs.Kept.{AreKept}
-use Rattle.disk_rules.specs.Live.{live_entries}
-use Rattle.disk_rules.specs.Placed.{block_at}
-use Rattle.disk_rules.specs.Volume.{extents, Volume}
+use Rattle.lines_out.specs.disk_rules.Content.{content, found}
+use Rattle.lines_out.specs.disk_rules.Kept.{AreKept}
+use Rattle.lines_out.specs.disk_rules.Live.{live_entries}
+use Rattle.lines_out.specs.disk_rules.Placed.{block_at}
+use Rattle.lines_out.specs.disk_rules.Volume.{extents, Volume}
 use Rattle.k_log_plans.specs.volume_uses.Uses.{is_unused}
-use Rattle.k_rules.specs.Stands.{IsOldOrNew, Stands}
+use Rattle.k_content.specs.k_rules.Stands.{IsOldOrNew, Stands}
 
 -- The content of the image is that of the image before, or what w makes of the words before.
 abbrev pub HasOldOrNew : Geometry → Volume → Words → Words → Type 0

@@ -2,16 +2,16 @@
 use Rattle.std.specs.Prelude.{◌≡◌, ◌≢◌, ◌⊎◌, ℕ, true, All, List, ◌++◌, length, Option, None, Some, Result, Ok, Err}
 use Rattle.pm_words.specs.declared.Cell.{Cell}
 use Rattle.pm_words.specs.Powers.{Supply}
-use Rattle.disk_rules.specs.Placed.{AreDistinct, AreSingle}
-use Rattle.disk_rules.specs.Volume.{Volume, chain, extents}
-use Rattle.k_journal.specs.declared.batches.Entry.{Entry}
+use Rattle.lines_out.specs.disk_rules.Placed.{AreDistinct, AreSingle}
+use Rattle.lines_out.specs.disk_rules.Volume.{Volume, chain, extents}
+use Rattle.k_log_plans.specs.k_journal.declared.batches.Entry.{Entry}
 use Rattle.k_log_plans.specs.k_land.Maps.{AreApart}
 use Rattle.k_log_plans.specs.k_land.Plans.{NewChain, blocks_of}
 use Rattle.k_log_plans.specs.k_map_plans.Plans.{holes_row}
 use Rattle.disk_places.specs.Places.{reserve}
-use Rattle.k_rules.specs.View.{View}
-use Rattle.map_rules.specs.Changes.{holes, IsFilled}
-use Rattle.map_rules.specs.Zeros.{ReadZeros}
+use Rattle.k_content.specs.k_rules.View.{View}
+use Rattle.lines_out.specs.map_rules.Changes.{holes, IsFilled}
+use Rattle.lines_out.specs.map_rules.Zeros.{ReadZeros}
 use Rattle.posix_types.specs.declared.item.Outcome.{Outcome}
 use Rattle.posix_types.specs.declared.reply.Errno.{Errno}
 use Rattle.posix_types.specs.declared.reply.Reply.{Reply}

@@ -4,12 +4,12 @@ use Rattle.pm_words.specs.declared.Cell.{Cell}
 use Rattle.pm_words.specs.Cells.{cell, is_single, Settles}
 use Rattle.pm_words.specs.Frames.{KeepsSingle, SameLent}
 use Rattle.pm_words.specs.Images.{Follows}
-use Rattle.block_bytes.specs.Overwrites.{AreGoingToZero, AreLinesZeroed, IsInLines, SameBesideLines}
+use Rattle.lines_out.specs.block_bytes.Overwrites.{AreGoingToZero, AreLinesZeroed, IsInLines, SameBesideLines}
 use Rattle.disk_places.specs.Places.{log_line}
-use Rattle.disk_rules.specs.Reading.{base_set}
-use Rattle.disk_rules.specs.Volume.{Volume}
-use Rattle.k_journal.specs.declared.outcomes.Commit.{Commit}
-use Rattle.k_rules.specs.View.{View}
+use Rattle.lines_out.specs.disk_rules.Reading.{base_set}
+use Rattle.lines_out.specs.disk_rules.Volume.{Volume}
+use Rattle.k_log_plans.specs.k_journal.declared.outcomes.Commit.{Commit}
+use Rattle.k_content.specs.k_rules.View.{View}
 use Rattle.k_split.specs.declared.faults.KFault.{KFault}
 use Rattle.k_split.specs.Answers.{IsAnswer, IsCut, IsDone, IsOff}
 

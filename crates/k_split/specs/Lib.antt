@@ -23,3 +23,16 @@ pub use Rattle.k_log_plans.specs.k_plans as k_plans
 pub use Rattle.k_log_plans.specs.volume_changes as volume_changes
 pub use Rattle.k_log_plans.specs.volume_maps as volume_maps
 pub use Rattle.k_log_plans.specs.volume_uses as volume_uses
+pub use Rattle.k_content.specs.k_rules as k_rules
+pub use Rattle.k_content.specs.posix_facts as posix_facts
+pub use Rattle.k_content.specs.posix_spec as posix_spec
+pub use Rattle.k_content.specs.posix_trees as posix_trees
+pub use Rattle.k_content.specs.volume_facts as volume_facts
+pub use Rattle.k_log_plans.specs.block_pool as block_pool
+pub use Rattle.k_log_plans.specs.image_layout as image_layout
+pub use Rattle.k_log_plans.specs.k_journal as k_journal
+pub use Rattle.k_log_plans.specs.path_spelling as path_spelling
+pub use Rattle.lines_out.specs as lines_out
+pub use Rattle.lines_out.specs.block_bytes as block_bytes
+pub use Rattle.lines_out.specs.disk_rules as disk_rules
+pub use Rattle.lines_out.specs.map_rules as map_rules

@@ -3,7 +3,7 @@ use Rattle.std.specs.Prelude.{◌≡◌, ◌≤◌, ◌/◌, ℕ, true, List, So
 use Rattle.pm_words.specs.declared.Cell.{Cell}
 use Rattle.pm_words.specs.Cells.{cell, is_single}
 use Rattle.extent_words.specs.Extents.{disk_at}
-use Rattle.disk_rules.specs.Volume.{extents, Volume}
+use Rattle.lines_out.specs.disk_rules.Volume.{extents, Volume}
 
 -- The staging file, inode 1 to 4, has this disk block at its block, and each word of it has one candidate: so none is lent.
 pub record MayLend (v : Volume) (d : List Cell) (staging block b : ℕ) : Type 0 where

@@ -2,7 +2,7 @@
 use Rattle.std.specs.Prelude.{◌≡◌, List, length}
 use Rattle.pm_words.specs.Parts.{Part}
 use Rattle.disk_places.specs.Places.{log_line}
-use Rattle.disk_rules.specs.Volume.{Volume}
+use Rattle.lines_out.specs.disk_rules.Volume.{Volume}
 use Rattle.lines_out.specs.Lines.{AreFrom}
 
 -- they are the log's lines, by rising slot

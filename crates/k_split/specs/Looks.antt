@@ -3,8 +3,8 @@ use Rattle.std.specs.Prelude.{◌≡◌, ℕ, List, [], ◌∷◌, Option, Some,
 use Rattle.std.specs.Cmp.Lexicographic.{slice_cmp}
 use Rattle.std.specs.Ordering.{nat_cmp}
 use Rattle.disk_lines.specs.Tables.{names_below}
-use Rattle.disk_rules.specs.Volume.{Volume}
-use Rattle.k_rules.specs.Spaces.{volume_space}
+use Rattle.lines_out.specs.disk_rules.Volume.{Volume}
+use Rattle.k_content.specs.k_rules.Spaces.{volume_space}
 use Rattle.posix_types.specs.declared.item.Outcome.{Outcome}
 use Rattle.posix_types.specs.declared.reply.Errno.{Errno}
 use Rattle.posix_types.specs.declared.reply.Reply.{Reply}

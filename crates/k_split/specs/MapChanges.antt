@@ -5,23 +5,23 @@ use Rattle.pm_words.specs.Cells.{cell, is_single, Settles}
 use Rattle.pm_words.specs.Frames.{SameLent, KeepsSingle}
 use Rattle.pm_words.specs.Images.{Follows}
 use Rattle.pm_words.specs.Powers.{is_on, Supply}
-use Rattle.block_pool.specs.FreeSets.{is_among}
+use Rattle.k_log_plans.specs.block_pool.FreeSets.{is_among}
 use Rattle.disk_places.specs.Journal.{is_journal_word}
 use Rattle.disk_places.specs.Places.{is_journaled_line}
-use Rattle.disk_rules.specs.Placed.{AreSingle, IsOutside}
-use Rattle.disk_rules.specs.Volume.{Volume, chain, extents}
+use Rattle.lines_out.specs.disk_rules.Placed.{AreSingle, IsOutside}
+use Rattle.lines_out.specs.disk_rules.Volume.{Volume, chain, extents}
 use Rattle.extent_words.specs.Extents.{covers, disk_at, is_within}
 use Rattle.extent_words.specs.declared.Extent.{Extent}
-use Rattle.k_journal.specs.Commits.{TakesAStep}
-use Rattle.k_journal.specs.declared.batches.Entry.{Entry}
+use Rattle.k_log_plans.specs.k_journal.Commits.{TakesAStep}
+use Rattle.k_log_plans.specs.k_journal.declared.batches.Entry.{Entry}
 use Rattle.k_log_plans.specs.k_land.Plans.{NewChain, new_at}
 use Rattle.k_log_plans.specs.k_plans.Free.{free_blocks}
 use Rattle.k_log_plans.specs.k_plans.Switching.{IsMapPlan}
 use Rattle.k_log_plans.specs.k_plans.Whole.{IsWhole}
-use Rattle.k_rules.specs.Stands.{IsOldOrNew, Stands}
-use Rattle.k_rules.specs.View.{View}
-use Rattle.map_rules.specs.Changes.{given_up, IsMoved, IsPreallocated, IsSized}
-use Rattle.map_rules.specs.declared.moves.Move.{Move}
+use Rattle.k_content.specs.k_rules.Stands.{IsOldOrNew, Stands}
+use Rattle.k_content.specs.k_rules.View.{View}
+use Rattle.lines_out.specs.map_rules.Changes.{given_up, IsMoved, IsPreallocated, IsSized}
+use Rattle.lines_out.specs.map_rules.declared.moves.Move.{Move}
 use Rattle.k_log_plans.specs.volume_uses.Uses.{is_unused}
 use Rattle.k_split.specs.declared.faults.KFault.{KFault}
 use Rattle.k_split.specs.Answers.{IsOff}

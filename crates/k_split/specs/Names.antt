@@ -3,9 +3,9 @@ use Rattle.std.specs.Prelude.{◌≡◌, ◌⊎◌, ℕ, Bool, List, Option, Non
 use Rattle.k_log_plans.specs.k_plans.Making.{IsMade}
 use Rattle.k_log_plans.specs.k_plans.Removing.{IsRemoved, IsUnlinked}
 use Rattle.k_log_plans.specs.k_plans.Renaming.{IsRenamed}
-use Rattle.k_rules.specs.Changes.{dropped}
-use Rattle.k_rules.specs.Spaces.{volume_space}
-use Rattle.k_rules.specs.View.{View}
+use Rattle.k_content.specs.k_rules.Changes.{dropped}
+use Rattle.k_content.specs.k_rules.Spaces.{volume_space}
+use Rattle.k_content.specs.k_rules.View.{View}
 use Rattle.posix_types.specs.declared.item.Outcome.{Outcome}
 use Rattle.posix_types.specs.declared.reply.Reply.{Reply}
 use Rattle.posix_words.specs.NameRows.{mkdir_rows, rename_rows, rmdir_rows, unlink_rows}

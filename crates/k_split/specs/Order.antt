@@ -4,12 +4,12 @@ use Rattle.pm_words.specs.declared.Cell.{Cell}
 use Rattle.pm_words.specs.Cells.{cell, is_single}
 use Rattle.disk_places.specs.Places.{is_data_block}
 use Rattle.extent_words.specs.Extents.{covers}
-use Rattle.disk_rules.specs.Volume.{Volume, extents}
-use Rattle.k_journal.specs.declared.batches.Entry.{Entry}
+use Rattle.lines_out.specs.disk_rules.Volume.{Volume, extents}
+use Rattle.k_log_plans.specs.k_journal.declared.batches.Entry.{Entry}
 use Rattle.k_log_plans.specs.k_plans.View.{TablesView}
 use Rattle.k_log_plans.specs.k_plans.Whole.{IsWhole}
-use Rattle.k_rules.specs.Stands.{Stands}
-use Rattle.k_rules.specs.View.{View}
+use Rattle.k_content.specs.k_rules.Stands.{Stands}
+use Rattle.k_content.specs.k_rules.View.{View}
 
 -- what contracts see of tables and a device, while each change is committed at once
 abbrev pub view_of : TablesView → List Cell → Bool → Bool → View

@@ -2,10 +2,10 @@
 use Rattle.std.specs.Prelude.{◌≡◌, ℕ, List, None, Result}
 use Rattle.pm_words.specs.Words.{Words}
 use Rattle.disk_places.specs.Journal.{journaled}
-use Rattle.disk_rules.specs.Content.{content}
-use Rattle.disk_rules.specs.Volume.{Volume}
+use Rattle.lines_out.specs.disk_rules.Content.{content}
+use Rattle.lines_out.specs.disk_rules.Volume.{Volume}
 use Rattle.k_log_plans.specs.Resets.{HasNoValid, reset}
-use Rattle.k_rules.specs.View.{View}
+use Rattle.k_content.specs.k_rules.View.{View}
 use Rattle.k_split.specs.declared.faults.KFault.{KFault}
 use Rattle.k_split.specs.Answers.{IsAnswer}
 

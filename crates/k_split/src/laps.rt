@@ -7,8 +7,8 @@ ghost use Rattle.k_split.specs.Laps.{ClearsLog, HasNextLap, HasSingleLog, IsBase
 use crate::changes::land_plan;
 use crate::faults::KFault;
 use crate::state::KSplit;
-use block_bytes::zero_lines;
-use k_journal::Commit;
+use k_log_plans::k_journal::Commit;
+use lines_out::block_bytes::zero_lines;
 use pm_lines::Power;
 
 impl KSplit {

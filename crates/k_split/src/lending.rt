@@ -1,6 +1,6 @@
 //! Blocks of staging files, lent and taken back; blocks read.
 ghost use Rattle.std.specs.Prelude.{◌≡◌, ◌+◌, ◌*◌, ◌/◌, ◌<◌, ℕ, true, false, length, slice_index, IfOk, OnErr};
-ghost use Rattle.disk_rules.specs.Placed.{BlockIsHome};
+ghost use Rattle.lines_out.specs.disk_rules.Placed.{BlockIsHome};
 ghost use Rattle.pm_words.specs.Cells.{cell, is_lent};
 ghost use Rattle.pm_words.specs.Images.{words_of};
 ghost use Rattle.pm_words.specs.Parts.{ComesBack, GoesOut};
@@ -8,7 +8,7 @@ ghost use Rattle.pm_words.specs.Words.{byte_of};
 ghost use Rattle.k_split.specs.Loans.{MayLend};
 
 use crate::state::KSplit;
-use block_bytes::read_block;
+use lines_out::block_bytes::read_block;
 use pm_lines::Loan;
 use std::alloc::{AllocError, Global};
 

@@ -1,15 +1,15 @@
 //! What stands at a path, and whether an inode has a name.
 ghost use Rattle.std.specs.Prelude.{◌≡◌, ◌<◌, ◌↔◌, false, IsTrue, Ok, IfErr, IfOk};
 ghost use Rattle.disk_lines.specs.Names.{names_of};
-ghost use Rattle.k_rules.specs.Spaces.{space_of};
+ghost use Rattle.k_content.specs.k_rules.Spaces.{space_of};
 ghost use Rattle.k_split.specs.Looks.{IsFound, IsDirectoryFound, IsLed, IsListed, IsListFault};
 ghost use Rattle.posix_words.specs.Names.{node_at_path, walk};
 
 use crate::faults::KFault;
 use crate::state::KSplit;
 use disk_lines::Inode;
+use k_content::k_names::NameTable;
 use k_content::k_tables::{child, is_directory, parent_of};
-use k_names::NameTable;
 use posix_types::{Errno, Name, Path};
 use posix_words::entries::{is_root, is_too_long};
 use std::alloc::Global;

@@ -10,7 +10,7 @@ use crate::faults::KFault;
 use crate::mapping::land_maps_plan;
 use crate::state::KSplit;
 use k_log_plans::k_map_plans::plan_move;
-use map_rules::Move;
+use lines_out::map_rules::Move;
 use pm_lines::Power;
 use std::alloc::Global;
 

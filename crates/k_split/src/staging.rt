@@ -1,7 +1,7 @@
 //! The blocks of staging files: they get them, and give them up.
 ghost use Rattle.std.specs.Prelude.{◌≡◌, ◌≤◌, ◌+◌, ◌^◌, [], true, false, None};
 ghost use Rattle.disk_places.specs.Places.{reserve};
-ghost use Rattle.disk_rules.specs.Volume.{extents};
+ghost use Rattle.lines_out.specs.disk_rules.Volume.{extents};
 ghost use Rattle.k_log_plans.specs.k_map_plans.Plans.{IsStagingFile};
 ghost use Rattle.pm_words.specs.Powers.{is_on, Steps};
 ghost use Rattle.k_split.specs.Answers.{IsPaid};

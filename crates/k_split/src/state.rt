@@ -5,8 +5,8 @@ ghost use Rattle.k_log_plans.specs.k_plans.View.{node_at};
 ghost use Rattle.k_split.specs.Order.{IsInOrder};
 
 use disk_lines::Inode;
-use image_layout::Geometry;
-use k_journal::Batch;
+use k_log_plans::image_layout::Geometry;
+use k_log_plans::k_journal::Batch;
 use k_log_plans::k_plans::Tables;
 use pm_lines::Pm;
 use std::marker::Model;
@@ -23,7 +23,7 @@ pub struct KSplit {
 
 impl Model for KSplit {
     ghost use Rattle.std.specs.Prelude.{◌≡◌, false};
-    ghost use Rattle.k_rules.specs.View.{View};
+    ghost use Rattle.k_content.specs.k_rules.View.{View};
     ghost use Rattle.k_split.specs.Order.{view_of, IsReady};
 
     ghost Value = { View };

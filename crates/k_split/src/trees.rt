@@ -3,9 +3,9 @@ ghost use Rattle.std.specs.Prelude.{◌≡◌, [], false, IfOk};
 ghost use Rattle.pm_words.specs.Cells.{AllHome};
 ghost use Rattle.pm_words.specs.Images.{words_of};
 ghost use Rattle.disk_places.specs.Journal.{journaled};
-ghost use Rattle.disk_rules.specs.Content.{content, found};
-ghost use Rattle.disk_rules.specs.Live.{live_entries};
-ghost use Rattle.posix_trees.specs.TreeOf.{IsTreeOf};
+ghost use Rattle.lines_out.specs.disk_rules.Content.{content, found};
+ghost use Rattle.lines_out.specs.disk_rules.Live.{live_entries};
+ghost use Rattle.k_content.specs.posix_trees.TreeOf.{IsTreeOf};
 ghost use Rattle.k_content.specs.Trees.{tree_content};
 
 use crate::state::KSplit;

@@ -15,17 +15,17 @@ use Rattle.disk_lines.specs.declared.Inode.{Inode}
 use Rattle.disk_lines.specs.declared.Kind.TheVariants.{File}
 use Rattle.disk_lines.specs.Names.{names_of}
 use Rattle.disk_lines.specs.Lines.{NameRow}
-use Rattle.disk_rules.specs.Reading.{node_set, Reads}
-use Rattle.disk_rules.specs.Volume.{free_inode, inode, Volume}
+use Rattle.k_split.specs.disk_rules.Reading.{node_set, Reads}
+use Rattle.k_split.specs.disk_rules.Volume.{free_inode, inode, Volume}
 use Rattle.k_split.specs.k_plans.Making.{IsMade, kind_of}
 use Rattle.k_split.specs.k_plans.Removing.{IsRemoved, IsUnlinked}
 use Rattle.k_split.specs.k_plans.Renaming.{IsRenamed, renamed_over}
 use Rattle.k_split.specs.k_plans.View.{node_at}
 use Rattle.k_split.specs.k_plans.Whole.{IsWhole}
-use Rattle.k_rules.specs.Changes.{dropped, gone_node, new_node, renamed_over_directory, renamed_over_file}
-use Rattle.k_rules.specs.Spaces.{is_directory_in, is_free}
-use Rattle.k_rules.specs.Stands.{IsOldOrNew, Stands}
-use Rattle.k_rules.specs.View.{View}
+use Rattle.k_split.specs.k_rules.Changes.{dropped, gone_node, new_node, renamed_over_directory, renamed_over_file}
+use Rattle.k_split.specs.k_rules.Spaces.{is_directory_in, is_free}
+use Rattle.k_split.specs.k_rules.Stands.{IsOldOrNew, Stands}
+use Rattle.k_split.specs.k_rules.View.{View}
 use Rattle.k_split.specs.volume_changes.CallLaws.{row_to}
 use Rattle.k_split.specs.volume_changes.Changes.{MayDrop}
 use Rattle.k_split.specs.k_tables.declared.removing.Entry.{Entry}

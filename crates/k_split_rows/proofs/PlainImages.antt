@@ -12,23 +12,23 @@ use Rattle.disk_places.specs.PlaceLaws.{behind_log-words, log_line-not_journaled
 use Rattle.disk_places.specs.Places.{base_word, commit_word, data_blocks, first_data, Geometry, IsGeometry, is_journaled_line, log_line, state_line}
 use Rattle.disk_places.specs.Superblock.{geometry_at, has_magic, has_numbers, has_version}
 use Rattle.disk_lines.specs.Entries.{decode_entry, held_seq, is_self_valid}
-use Rattle.disk_rules.specs.Checked.{HasHead, IsLogKept}
-use Rattle.disk_rules.specs.Content.{size_of}
-use Rattle.disk_rules.specs.Kept.{AreKept}
-use Rattle.disk_rules.specs.Live.{entry_in, is_live, live_entries}
-use Rattle.disk_rules.specs.Placed.{IsOutside}
-use Rattle.disk_rules.specs.Reading.{Reads}
-use Rattle.disk_rules.specs.Room.{has_none, held_after_recovery, is_named_file, unused_blocks}
-use Rattle.disk_rules.specs.Rules.{geometry_of, HasTarget}
-use Rattle.disk_rules.specs.Uses.{owners}
-use Rattle.disk_rules.specs.Volume.{Volume}
-use Rattle.volume_facts.specs.Footprint.{SameLog}
-use Rattle.volume_facts.specs.FootprintLaws.{entry_in-same}
-use Rattle.volume_facts.specs.ImageLaws.{journaled-other}
-use Rattle.volume_facts.specs.Lists.{count_by-agree, filter_map-agree, sum_by-agree}
+use Rattle.k_split.specs.disk_rules.Checked.{HasHead, IsLogKept}
+use Rattle.k_split.specs.disk_rules.Content.{size_of}
+use Rattle.k_split.specs.disk_rules.Kept.{AreKept}
+use Rattle.k_split.specs.disk_rules.Live.{entry_in, is_live, live_entries}
+use Rattle.k_split.specs.disk_rules.Placed.{IsOutside}
+use Rattle.k_split.specs.disk_rules.Reading.{Reads}
+use Rattle.k_split.specs.disk_rules.Room.{has_none, held_after_recovery, is_named_file, unused_blocks}
+use Rattle.k_split.specs.disk_rules.Rules.{geometry_of, HasTarget}
+use Rattle.k_split.specs.disk_rules.Uses.{owners}
+use Rattle.k_split.specs.disk_rules.Volume.{Volume}
+use Rattle.k_split.specs.volume_facts.Footprint.{SameLog}
+use Rattle.k_split.specs.volume_facts.FootprintLaws.{entry_in-same}
+use Rattle.k_split.specs.volume_facts.ImageLaws.{journaled-other}
+use Rattle.k_split.specs.volume_facts.Lists.{count_by-agree, filter_map-agree, sum_by-agree}
 use Rattle.k_split.specs.image_facts.FreshLaws.{filter_map-none, owners-none}
 use Rattle.k_split.specs.image_facts.ViewLaws.{head_word, sound-head, sound-targets}
-use Rattle.k_rules.specs.Stands.{IsOldOrNew}
+use Rattle.k_split.specs.k_rules.Stands.{IsOldOrNew}
 use Rattle.k_split_rows.specs.Plain.{HasBlankLog, HasNoData, IsPlainAs}
 
 -- ---- the log of a volume of names alone

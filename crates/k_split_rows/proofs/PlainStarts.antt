@@ -15,18 +15,18 @@ use Rattle.disk_places.specs.Places.{commit_word, Geometry, IsGeometry, log_line
 use Rattle.disk_lines.specs.declared.Inode.{Inode}
 use Rattle.disk_lines.specs.Entries.{decode_entry}
 use Rattle.disk_lines.specs.Fresh.{fresh}
-use Rattle.disk_rules.specs.Checked.{IsCheckedAs}
-use Rattle.disk_rules.specs.FreshVolume.{fresh_inode, fresh_volume}
-use Rattle.disk_rules.specs.Reading.{Reads}
-use Rattle.disk_rules.specs.Rules.{geometry_of, IsChecked}
-use Rattle.disk_rules.specs.Volume.{volume, Volume}
-use Rattle.volume_facts.specs.ReadingLaws.{reads-volume}
+use Rattle.k_split.specs.disk_rules.Checked.{IsCheckedAs}
+use Rattle.k_split.specs.disk_rules.FreshVolume.{fresh_inode, fresh_volume}
+use Rattle.k_split.specs.disk_rules.Reading.{Reads}
+use Rattle.k_split.specs.disk_rules.Rules.{geometry_of, IsChecked}
+use Rattle.k_split.specs.disk_rules.Volume.{volume, Volume}
+use Rattle.k_split.specs.volume_facts.ReadingLaws.{reads-volume}
 use Rattle.k_split.specs.image_facts.CheckedLaws.{checked-parts}
 use Rattle.k_split.specs.image_facts.FreshLaws.{chain-fresh, extents-fresh, fresh_cases, fresh-checked_as, fresh-log, inode-fresh, unset-log, zeros-no_entry}
 use Rattle.k_split.specs.image_facts.FreshLines.{fresh-commit, fresh-zeros, geometry_of-fresh, journaled-fresh}
 use Rattle.k_split.specs.image_facts.ViewLaws.{checked_as-same_view, sound-head}
-use Rattle.k_journal.specs.Recoveries.{KeepsView}
-use Rattle.k_rules.specs.View.{View}
+use Rattle.k_split.specs.k_journal.Recoveries.{KeepsView}
+use Rattle.k_split.specs.k_rules.View.{View}
 use Rattle.k_split.specs.Order.{IsOpened}
 use Rattle.k_split_rows.specs.Plain.{HasBlankLog, IsPlain, IsPlainAs}
 

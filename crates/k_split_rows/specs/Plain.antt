@@ -6,11 +6,11 @@ use Rattle.pm_words.specs.Images.{IsImage}
 use Rattle.pm_words.specs.Words.{Words}
 use Rattle.disk_places.specs.Journal.{journaled}
 use Rattle.disk_places.specs.Places.{Geometry}
-use Rattle.disk_rules.specs.Checked.{IsCheckedAs}
-use Rattle.disk_rules.specs.Live.{entry_in}
-use Rattle.disk_rules.specs.Rules.{geometry_of, IsOfNoLater}
-use Rattle.disk_rules.specs.Volume.{chain, extents, inode, Volume}
-use Rattle.k_rules.specs.View.{View}
+use Rattle.k_split.specs.disk_rules.Checked.{IsCheckedAs}
+use Rattle.k_split.specs.disk_rules.Live.{entry_in}
+use Rattle.k_split.specs.disk_rules.Rules.{geometry_of, IsOfNoLater}
+use Rattle.k_split.specs.disk_rules.Volume.{chain, extents, inode, Volume}
+use Rattle.k_split.specs.k_rules.View.{View}
 use Rattle.k_split.specs.Order.{IsInOrder}
 use Rattle.k_split.specs.declared.faults.KFault.{KFault}
 

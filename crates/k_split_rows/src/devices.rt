@@ -1,7 +1,7 @@
 //! Devices on which only names are changed: opened, changed, and opened again.
 ghost use Rattle.std.specs.Prelude.{◌≡◌, ◌*◌, true, length, IfOk, IsTrue};
-ghost use Rattle.disk_rules.specs.Volume.{Volume};
-ghost use Rattle.path_spelling.specs.Spelling.{AreSpelled};
+ghost use Rattle.k_split.specs.disk_rules.Volume.{Volume};
+ghost use Rattle.k_split.specs.path_spelling.Spelling.{AreSpelled};
 ghost use Rattle.pm_words.specs.Words.{word_at};
 ghost use Rattle.k_split.specs.volume_changes.Changes.{MayDrop};
 ghost use Rattle.k_split_rows.specs.Plain.{IsLeft, IsPlain, IsPlainAs};
@@ -9,9 +9,9 @@ ghost use Rattle.k_split_rows.specs.Rows.{IsSpelledCall};
 
 use crate::reading::NameCall;
 use disk_lines::Kind;
-use image_layout::Geometry;
-use k_journal::Recovered;
-use k_journal::journal::recover;
+use k_split::image_layout::Geometry;
+use k_split::k_journal::Recovered;
+use k_split::k_journal::journal::recover;
 use k_split::{KFault, KSplit, mkfs};
 use pm_lines::{Pm, Power};
 use posix_types::Path;

@@ -1,6 +1,6 @@
 //! Calls that are drawn from a seed, answered by K-Split and by the calls' state.
 ghost use Rattle.std.specs.Prelude.{◌<◌, IfOk, OnOk};
-ghost use Rattle.path_spelling.specs.Spelling.{AreSpelled};
+ghost use Rattle.k_split.specs.path_spelling.Spelling.{AreSpelled};
 ghost use Rattle.k_split_rows.specs.Plain.{IsPlain};
 ghost use Rattle.k_split_rows.specs.Rows.{IsSpelledCall};
 
@@ -8,9 +8,9 @@ use crate::devices::fresh;
 use crate::reading::{NameCall, RowError, name};
 use crate::runner::{reply, shown};
 use crate::states::{fresh_state, state_reply, state_tree};
-use image_layout::Geometry;
 use k_split::KSplit;
-use posix_spec::State;
+use k_split::image_layout::Geometry;
+use k_split::posix_spec::State;
 use posix_types::Path;
 use rand_core::{Rng, SeedableRng};
 use rand_xoshiro::SplitMix64;

@@ -6,7 +6,7 @@ ghost use Rattle.k_split_rows.specs.Rows.{IsSpelledCall};
 use crate::devices::{apply, fresh, reopened};
 use crate::printing::{fault_text, tree_text};
 use crate::reading::{NameCall, RowError, call, number, word};
-use image_layout::Geometry;
+use k_split::image_layout::Geometry;
 use k_split::{KFault, KSplit};
 use pm_lines::{Choice, Pm, Power};
 use posix_types::Errno;

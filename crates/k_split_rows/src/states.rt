@@ -1,7 +1,7 @@
 //! The meaning of the calls beside K-Split: the same calls, made on a state.
 use crate::printing::{fault_text, tree_text};
 use crate::reading::{NameCall, RowError};
-use posix_spec::{
+use k_split::posix_spec::{
     Call, Flags, Handle, Mode, Outcome, Path, Reply, Shape, State, Tree, TreeEntry, TreeNode, Who,
 };
 use std::alloc::{AllocError, Global};

@@ -1,15 +1,15 @@
 //! A rename over a file that loses its power after each number of steps.
 ghost use Rattle.std.specs.Prelude.{◌≡◌, ◌*◌, length, IfOk, IfSome};
-ghost use Rattle.disk_rules.specs.Volume.{Volume};
-ghost use Rattle.path_spelling.specs.Spelling.{AreSpelled};
+ghost use Rattle.k_split.specs.disk_rules.Volume.{Volume};
+ghost use Rattle.k_split.specs.path_spelling.Spelling.{AreSpelled};
 ghost use Rattle.pm_words.specs.Words.{word_at};
 ghost use Rattle.k_split_rows.specs.Plain.{IsPlainAs, IsPlainDevice};
 
 use crate::devices::{fresh, renamed, reopened};
 use crate::reading::{RowError, call, path};
 use crate::runner::{reply, shown_anew};
-use image_layout::Geometry;
 use k_split::KFault;
+use k_split::image_layout::Geometry;
 use pm_lines::{Choice, Pm, Power};
 use posix_types::Path;
 use std::alloc::Global;

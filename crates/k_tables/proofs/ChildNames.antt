@@ -9,7 +9,7 @@ use Rattle.disk_lines.specs.Lines.{NameRow}
 use Rattle.disk_lines.specs.Names.{Rows, row, is_entry, child_named, find_name}
 use Rattle.disk_lines.specs.TableLaws.{find_name-none, is_entry-own, names_below-once, NamingLine-child_named}
 use Rattle.disk_lines.specs.Tables.{IsKeyed, NamingLine, name_below, names_below}
-use Rattle.volume_facts.specs.Lists.{count_by-at, count_by-some}
+use Rattle.volume_names.specs.volume_facts.Lists.{count_by-at, count_by-some}
 
 count_of_row : (parent : ℕ) (name : List ℕ) (o : Option NameRow) → count_by (λ x. is_same x name) (name_below parent o) ≡ cond (is_entry parent name o) 1 0
 count_of_row parent name None = refl

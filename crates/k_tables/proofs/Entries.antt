@@ -7,7 +7,7 @@ use Rattle.disk_lines.specs.Lines.{NameRow}
 use Rattle.disk_lines.specs.Names.{Rows, row, is_entry, find_name, has_entries, walk, HasHeight}
 use Rattle.disk_lines.specs.TableLaws.{is_entry-own, find_name-none, walk-one, walk-step}
 use Rattle.volume_names.specs.name_facts.RowLaws.{has_entries-line}
-use Rattle.k_rules.specs.Spaces.{entries_of}
+use Rattle.volume_names.specs.k_rules.Spaces.{entries_of}
 use Rattle.posix_words.specs.Names.{has_entries as has_entries_in}
 use Rattle.volume_names.specs.EntryLaws.{has_entries-rows}
 

@@ -8,7 +8,7 @@ use Rattle.disk_lines.specs.Names.{Rows, row, walk, HasHeight}
 use Rattle.disk_lines.specs.TableLaws.{child_named-at, walk-cons}
 use Rattle.disk_lines.specs.Tables.{IsKeyed}
 use Rattle.volume_names.specs.name_facts.RowLaws.{row-below}
-use Rattle.k_rules.specs.Spaces.{entries_of}
+use Rattle.volume_names.specs.k_rules.Spaces.{entries_of}
 use Rattle.posix_words.specs.declared.nodes.DirEntry.{DirEntry}
 use Rattle.posix_words.specs.Names.{entries_in, height, longest_path}
 use Rattle.volume_names.specs.HeightLaws.{height-walk}

@@ -3,7 +3,7 @@ use Rattle.std.specs.Prelude.{◌≡◌, ℕ, ◌<◌, true, false, List, length
 use Rattle.disk_lines.specs.declared.Inode.{Inode}
 use Rattle.disk_lines.specs.Names.{Rows, find_name, free_line}
 use Rattle.k_names.specs.Finding.{IsRow}
-use Rattle.k_rules.specs.Spaces.{entries_of, is_directory_in, is_free, space_of}
+use Rattle.volume_names.specs.k_rules.Spaces.{entries_of, is_directory_in, is_free, space_of}
 use Rattle.posix_words.specs.Names.{child_of, has_entries, last_name}
 use Rattle.volume_names.specs.Paths.{HasDirectory, IsAt, IsNewAt}
 use Rattle.k_tables.specs.declared.making.Place.{Place}

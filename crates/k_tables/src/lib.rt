@@ -22,6 +22,7 @@ mod renaming;
 mod trees;
 mod walks;
 
+pub use k_names;
 pub use lookups::{free_inode, is_directory};
 pub use making::{Place, place_to_make};
 pub use refusals::Refusal;

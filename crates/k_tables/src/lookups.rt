@@ -1,7 +1,7 @@
 //! Look-ups in the inodes.
 ghost use Rattle.std.specs.Prelude.{◌≡◌, ◌<◌, ◌^◌, length, position, IfSome};
 ghost use Rattle.disk_lines.specs.declared.Inode.{Inode};
-ghost use Rattle.k_rules.specs.Spaces.{is_directory_in, is_free};
+ghost use Rattle.volume_names.specs.k_rules.Spaces.{is_directory_in, is_free};
 
 use disk_lines::{Inode, Kind};
 

@@ -1,6 +1,6 @@
 //! Where a node is made.
 ghost use Rattle.std.specs.Prelude.{◌≡◌, ◌<◌, ◌^◌, length, IfOk};
-ghost use Rattle.k_rules.specs.Spaces.{space_of};
+ghost use Rattle.volume_names.specs.k_rules.Spaces.{space_of};
 ghost use Rattle.k_tables.specs.Found.{HasRoomAt, IsPlace};
 ghost use Rattle.k_tables.specs.Refusals.{refusal_of, room_rows, new_rows};
 ghost use Rattle.posix_words.specs.NameRows.{mkdir_rows};

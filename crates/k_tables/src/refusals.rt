@@ -1,6 +1,6 @@
 //! Why a call on names is refused, and the rows that the calls share.
 ghost use Rattle.std.specs.Prelude.{◌≡◌, false, IfOk};
-ghost use Rattle.k_rules.specs.Spaces.{space_of};
+ghost use Rattle.volume_names.specs.k_rules.Spaces.{space_of};
 ghost use Rattle.k_tables.specs.Refusals.{directory_rows, refusal_of};
 ghost use Rattle.posix_words.specs.NameRows.{walk_row};
 ghost use Rattle.posix_words.specs.Names.{is_root, too_long};

@@ -1,7 +1,7 @@
 //! The entries that are taken away.
 ghost use Rattle.std.specs.Prelude.{◌≡◌, false, option_map, IfOk};
 ghost use Rattle.disk_lines.specs.Tables.{IsAcyclic, IsKeyed};
-ghost use Rattle.k_rules.specs.Spaces.{space_of};
+ghost use Rattle.volume_names.specs.k_rules.Spaces.{space_of};
 ghost use Rattle.k_tables.specs.declared.removing.Entry.{Entry};
 ghost use Rattle.k_tables.specs.Found.{IsDirectoryAt, IsEntryAt, IsFileAt, IsTargetAt};
 ghost use Rattle.k_tables.specs.Refusals.{entry_rows, errno_row, refusal_of, removal_rows, standing_rows};

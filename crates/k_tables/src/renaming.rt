@@ -1,7 +1,7 @@
 //! Both entries of a rename.
 ghost use Rattle.std.specs.Prelude.{◌≡◌, ◌+◌, ◌&&◌, ◌||◌, ◌<◌, ◌^◌, false, nat_lt, length, option_map, Some, IfOk};
 ghost use Rattle.disk_lines.specs.Tables.{IsAcyclic, IsKeyed};
-ghost use Rattle.k_rules.specs.Spaces.{entries_of, space_of};
+ghost use Rattle.volume_names.specs.k_rules.Spaces.{entries_of, space_of};
 ghost use Rattle.k_tables.specs.Found.{IsEntryAt, IsMoving};
 ghost use Rattle.k_tables.specs.declared.removing.Entry.{Entry};
 ghost use Rattle.k_tables.specs.Refusals.{directory_kind_rows, ends_rows, errno_row, file_kind_rows, has_entries_node, is_directory_node, is_file_node, moving_rows, refusal_of};

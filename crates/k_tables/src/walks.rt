@@ -1,7 +1,7 @@
 //! Walks of paths over the tables.
 ghost use Rattle.std.specs.Prelude.{◌≡◌, false, Ok};
 ghost use Rattle.disk_lines.specs.Tables.{IsAcyclic};
-ghost use Rattle.k_rules.specs.Spaces.{entries_of, is_directory_in, space_of};
+ghost use Rattle.volume_names.specs.k_rules.Spaces.{entries_of, is_directory_in, space_of};
 ghost use Rattle.posix_words.specs.Names.{child_of, downward, has_entries, is_root, last_name, node_at_path, walk, walk_from};
 
 use crate::lookups::is_directory;

@@ -3,7 +3,7 @@ ghost use Rattle.std.specs.Prelude.{◌≡◌, ◌+◌, ◌*◌, ◌≤◌, leng
 ghost use Rattle.pm_words.specs.Cells.{AllHome, AllSingle};
 
 use extent_map::{Extent, ExtentMap};
-use map_chain::{read, write};
+use k_check::map_chain::{read, write};
 use pm_lines::{Choice, Pm, Power};
 use std::alloc::{AllocError, Global};
 use std::process::Abort;

@@ -2,10 +2,10 @@
 ghost use Rattle.std.specs.Prelude.{◌≡◌, ◌*◌, ◌%◌, length, IfOk};
 ghost use Rattle.pm_words.specs.Cells.{AllHome};
 
-use image_layout::Geometry;
+use k_check::image_layout::Geometry;
 use k_check::k_reading::fresh_image;
+use k_check::oplog_entry::{Draft, encode};
 use k_check::{BadImage, CheckFault, check, crash_image};
-use oplog_entry::{Draft, encode};
 use pm_lines::{Choice, Pm, Power};
 use std::alloc::{AllocError, Global};
 use std::test::Fail;

@@ -1,7 +1,7 @@
 //! Two entries, as other programs made them, and a log of two lines.
 ghost use Rattle.std.specs.Prelude.{◌≡◌, length, IfOk};
 
-use oplog_entry::{Draft, decode, encode, scan};
+use k_check::oplog_entry::{Draft, decode, encode, scan};
 use pm_lines::{Line, Pm};
 use std::alloc::{AllocError, Global};
 use std::test::Fail;

@@ -1,6 +1,6 @@
 //! Look-ups of mapped blocks, before and after the collection forgets.
+use data_route::map_collection::Collection;
 use extent_map::{Extent, ExtentMap};
-use map_collection::Collection;
 use std::process::Abort;
 use std::test::Fail;
 

@@ -1,6 +1,6 @@
 //! That blocks are taken with ample memory.
-use block_pool::Pool;
 use extent_map::Extent;
+use k_check::block_pool::Pool;
 use std::test::Fail;
 
 #[test]

@@ -4,15 +4,15 @@ ghost use Rattle.pm_words.specs.Cells.{AllSingle};
 ghost use Rattle.pm_words.specs.Images.{words_of};
 ghost use Rattle.disk_places.specs.Places.{IsGeometry};
 ghost use Rattle.disk_lines.specs.Fresh.{fresh};
-ghost use Rattle.disk_rules.specs.Volume.{volume};
+ghost use Rattle.k_tables.specs.disk_rules.Volume.{volume};
 ghost use Rattle.k_check.specs.k_reading.Pools.{AreInData};
 
-use image_layout::Geometry;
+use k_check::image_layout::Geometry;
+use k_check::k_inodes::Inode;
 use k_check::k_reading::{
     Maps, free_blocks, fresh_image, read_base, read_inodes, read_maps, read_names,
 };
-use k_inodes::Inode;
-use k_names::NameTable;
+use k_tables::k_names::NameTable;
 use pm_lines::Pm;
 use std::alloc::{AllocError, Global};
 use std::test::Fail;

@@ -1,8 +1,8 @@
 //! Plans of writes in each mode, and of a read over staged, mapped and absent blocks.
+use data_route::map_collection::Collection;
 use data_route::{Piece, Source, WritePlan, plan_read, plan_write};
 use extent_map::{Extent, ExtentMap};
 use file_overlay::{Overlay, Run};
-use map_collection::Collection;
 use posix_types::Mode;
 use std::process::Abort;
 use std::test::Fail;

@@ -49,3 +49,6 @@ pub fn put_lines(pm: &mut Pm, first: u64, lines: Vec<Line>)
         pm.put_line(line);
     }
 }
+
+pub use block_bytes;
+pub use block_bytes::map_rules;

@@ -12,9 +12,9 @@ use Rattle.disk_lines.specs.declared.Kind.TheVariants.{Directory, File, Free, St
 use Rattle.disk_lines.specs.Entries.{is_draft}
 use Rattle.disk_lines.specs.EntryLaws.{IsEntryLine-decode_entry}
 use Rattle.disk_places.specs.Places.{log_line}
-use Rattle.disk_rules.specs.Live.{entry_in, is_live, is_of_file, live_entries, valid_entries}
-use Rattle.disk_rules.specs.Rules.{AreApart, HasStagingBlocks, IsKindAt}
-use Rattle.disk_rules.specs.Volume.{inode, Volume}
+use Rattle.world_runs.specs.disk_rules.Live.{entry_in, is_live, is_of_file, live_entries, valid_entries}
+use Rattle.world_runs.specs.disk_rules.Rules.{AreApart, HasStagingBlocks, IsKindAt}
+use Rattle.world_runs.specs.disk_rules.Volume.{inode, Volume}
 use Rattle.list_facts.specs.Filters.{filter-In, filter_map-In, range-In}
 use Rattle.list_facts.specs.Members.{In}
 use Rattle.live_facts.specs.Laws.{AreSoundWhenChecked}

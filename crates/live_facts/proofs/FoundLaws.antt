@@ -14,10 +14,10 @@ use Rattle.disk_lines.specs.declared.Kind.{Kind}
 use Rattle.disk_lines.specs.declared.Kind.TheVariants.{Directory, File, Free, Staging}
 use Rattle.disk_lines.specs.Entries.{decode_entry}
 use Rattle.disk_lines.specs.Names.{walk}
-use Rattle.disk_rules.specs.Content.{byte_in, bytes_of_file, disk_by, disk_of, entry_of_block, found, Node, node_by, node_of, size_by, size_of}
-use Rattle.disk_rules.specs.Live.{is_file, is_live, is_of_file, latest, live_entries, valid_entries}
-use Rattle.disk_rules.specs.Rules.{AreApart}
-use Rattle.disk_rules.specs.Volume.{extents, inode, Volume}
+use Rattle.world_runs.specs.disk_rules.Content.{byte_in, bytes_of_file, disk_by, disk_of, entry_of_block, found, Node, node_by, node_of, size_by, size_of}
+use Rattle.world_runs.specs.disk_rules.Live.{is_file, is_live, is_of_file, latest, live_entries, valid_entries}
+use Rattle.world_runs.specs.disk_rules.Rules.{AreApart}
+use Rattle.world_runs.specs.disk_rules.Volume.{extents, inode, Volume}
 use Rattle.list_facts.specs.Filters.{filter-agree, filter-both, filter-In, In-filter}
 use Rattle.list_facts.specs.Members.{In}
 use Rattle.world_runs.specs.world_promise.JobLaws.{live_file}

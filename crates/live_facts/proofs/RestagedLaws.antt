@@ -6,9 +6,9 @@ use Rattle.pm_words.specs.Words.{Words}
 use Rattle.disk_lines.specs.declared.Draft.{Draft}
 use Rattle.disk_lines.specs.declared.Inode.{Inode}
 use Rattle.disk_lines.specs.declared.Kind.TheVariants.{File, Staging}
-use Rattle.disk_rules.specs.Content.{disk_by, disk_of, entry_of_block, size_by, size_of}
-use Rattle.disk_rules.specs.Live.{is_file, is_live, latest, live_entries, valid_entries}
-use Rattle.disk_rules.specs.Volume.{inode, Volume}
+use Rattle.world_runs.specs.disk_rules.Content.{disk_by, disk_of, entry_of_block, size_by, size_of}
+use Rattle.world_runs.specs.disk_rules.Live.{is_file, is_live, latest, live_entries, valid_entries}
+use Rattle.world_runs.specs.disk_rules.Volume.{inode, Volume}
 use Rattle.extent_words.specs.Extents.{disk_at, is_within}
 use Rattle.list_facts.specs.Filters.{filter-agree, filter-In, In-filter}
 use Rattle.list_facts.specs.Members.{In}

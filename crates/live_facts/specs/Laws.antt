@@ -4,11 +4,11 @@ use Rattle.pm_words.specs.Words.{Words}
 use Rattle.extent_words.specs.declared.Extent.{Extent}
 use Rattle.disk_lines.specs.declared.Draft.{Draft}
 use Rattle.disk_places.specs.Places.{IsGeometry}
-use Rattle.disk_rules.specs.Content.{found}
-use Rattle.disk_rules.specs.Kept.{AreKept}
-use Rattle.disk_rules.specs.Live.{live_entries}
-use Rattle.disk_rules.specs.Rules.{CanRecover}
-use Rattle.disk_rules.specs.Volume.{Volume}
+use Rattle.world_runs.specs.disk_rules.Content.{found}
+use Rattle.world_runs.specs.disk_rules.Kept.{AreKept}
+use Rattle.world_runs.specs.disk_rules.Live.{live_entries}
+use Rattle.world_runs.specs.disk_rules.Rules.{CanRecover}
+use Rattle.world_runs.specs.disk_rules.Volume.{Volume}
 use Rattle.world_runs.specs.Relinks.{Relinks}
 use Rattle.world_runs.specs.Restages.{Restages}
 use Rattle.live_facts.specs.Logs.{AreSound, CarriesOut, HasSameFiles, IsDeadIn, IsNext}

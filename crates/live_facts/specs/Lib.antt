@@ -9,3 +9,12 @@ pub use Rattle.world_runs.specs.world_promise as world_promise
 pub use Rattle.world_runs.specs.world_rules as world_rules
 pub use Rattle.world_runs.specs.world_steps as world_steps
 pub use Rattle.world_runs.specs.posix_frames as posix_frames
+pub use Rattle.world_runs.specs.chain_facts as chain_facts
+pub use Rattle.world_runs.specs.crash_spec as crash_spec
+pub use Rattle.world_runs.specs.disk_rules as disk_rules
+pub use Rattle.world_runs.specs.k_rules as k_rules
+pub use Rattle.world_runs.specs.posix_facts as posix_facts
+pub use Rattle.world_runs.specs.posix_puts as posix_puts
+pub use Rattle.world_runs.specs.posix_spec as posix_spec
+pub use Rattle.world_runs.specs.posix_trees as posix_trees
+pub use Rattle.world_runs.specs.volume_facts as volume_facts

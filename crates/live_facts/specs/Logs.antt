@@ -3,10 +3,10 @@ use Rattle.std.specs.Prelude.{◌≡◌, ◌≢◌, ◌⊎◌, ◌<◌, ◌↔�
 use Rattle.pm_words.specs.Words.{Words}
 use Rattle.disk_lines.specs.declared.Draft.{Draft}
 use Rattle.disk_lines.specs.declared.Kind.TheVariants.{File, Staging}
-use Rattle.disk_rules.specs.Content.{disk_of, size_of}
-use Rattle.disk_rules.specs.Live.{live_entries}
-use Rattle.disk_rules.specs.Rules.{AreApart, HasStagingBlocks}
-use Rattle.disk_rules.specs.Volume.{inode, Volume}
+use Rattle.world_runs.specs.disk_rules.Content.{disk_of, size_of}
+use Rattle.world_runs.specs.disk_rules.Live.{live_entries}
+use Rattle.world_runs.specs.disk_rules.Rules.{AreApart, HasStagingBlocks}
+use Rattle.world_runs.specs.disk_rules.Volume.{inode, Volume}
 use Rattle.list_facts.specs.Members.{In}
 
 -- THE LIVE ENTRIES ARE SOUND: their blocks are in staging files, no two share one, and no two of one file have one order.

@@ -8,10 +8,10 @@ use Rattle.disk_lines.specs.declared.Draft.{Draft}
 use Rattle.disk_lines.specs.Entries.{held_seq, is_self_valid}
 use Rattle.disk_places.specs.Journal.{journaled}
 use Rattle.disk_places.specs.Places.{Geometry, log_line}
-use Rattle.disk_rules.specs.Content.{content}
-use Rattle.disk_rules.specs.Live.{live_entries}
-use Rattle.disk_rules.specs.Rules.{IsOfNoLater}
-use Rattle.disk_rules.specs.Volume.{Volume}
+use Rattle.staging_files.specs.disk_rules.Content.{content}
+use Rattle.staging_files.specs.disk_rules.Live.{live_entries}
+use Rattle.staging_files.specs.disk_rules.Rules.{IsOfNoLater}
+use Rattle.staging_files.specs.disk_rules.Volume.{Volume}
 use Rattle.file_table.specs.Files.{Files, runs_in, size_in}
 use Rattle.fsync_relink.proofs.EntryLaws.{leaves-entries}
 use Rattle.fsync_relink.proofs.LoggedLaws.{halted-images}
@@ -20,11 +20,11 @@ use Rattle.fsync_relink.specs.Logged.{HasSameContent, IsLogged}
 use Rattle.fsync_relink.specs.Others.{GoesOn, HasPublishedLog, IsPublishedIn, KeepsRest}
 use Rattle.fsync_relink.specs.Publishes.{MayPublish}
 use Rattle.staging_files.specs.k_map_plans.Plans.{IsLiveFile}
-use Rattle.k_rules.specs.View.{View}
+use Rattle.staging_files.specs.k_rules.View.{View}
 use Rattle.staging_files.specs.k_split.declared.faults.KFault.{KFault}
 use Rattle.list_facts.specs.Members.{In}
-use Rattle.volume_facts.specs.Footprint.{SameLog}
-use Rattle.volume_facts.specs.FootprintLaws.{live_entries-same}
+use Rattle.staging_files.specs.volume_facts.Footprint.{SameLog}
+use Rattle.staging_files.specs.volume_facts.FootprintLaws.{live_entries-same}
 use Rattle.log_checkpoint.specs.Gathers.{AreDone, AreDoneUpTo, IsLineDone, IsLineStopped, MayGather}
 use Rattle.log_checkpoint.specs.Logged.{AreLogged}
 use Rattle.log_checkpoint.proofs.Lines.{IsOnTheWay, way-of}

@@ -14,18 +14,18 @@ use Rattle.disk_lines.specs.Entries.{decode_entry, held_seq, is_self_valid}
 use Rattle.disk_lines.specs.EntryLaws.{held_seq-decode_entry}
 use Rattle.disk_places.specs.Journal.{journaled}
 use Rattle.disk_places.specs.Places.{log_line}
-use Rattle.disk_rules.specs.Content.{content, found, node_of}
-use Rattle.disk_rules.specs.Live.{entry_in, is_live, live_entries, valid_entries}
-use Rattle.disk_rules.specs.Reading.{base_set}
-use Rattle.disk_rules.specs.Rules.{IsOfNoLater}
-use Rattle.disk_rules.specs.Volume.{Volume}
+use Rattle.staging_files.specs.disk_rules.Content.{content, found, node_of}
+use Rattle.staging_files.specs.disk_rules.Live.{entry_in, is_live, live_entries, valid_entries}
+use Rattle.staging_files.specs.disk_rules.Reading.{base_set}
+use Rattle.staging_files.specs.disk_rules.Rules.{IsOfNoLater}
+use Rattle.staging_files.specs.disk_rules.Volume.{Volume}
 use Rattle.file_table.specs.Files.{Files}
 use Rattle.fsync_relink.specs.Others.{GoesOn, KeepsRest}
-use Rattle.k_journal.specs.declared.outcomes.Commit.{Commit}
+use Rattle.staging_files.specs.k_journal.declared.outcomes.Commit.{Commit}
 use Rattle.staging_files.specs.k_map_plans.Plans.{IsStagingFile}
 use Rattle.staging_files.specs.k_plans.Whole.{IsWhole}
-use Rattle.k_rules.specs.Stands.{IsOldOrNew, Stands}
-use Rattle.k_rules.specs.View.{View}
+use Rattle.staging_files.specs.k_rules.Stands.{IsOldOrNew, Stands}
+use Rattle.staging_files.specs.k_rules.View.{View}
 use Rattle.staging_files.specs.k_split.Answers.{Changes}
 use Rattle.staging_files.specs.k_split.Contents.{AreOwnBlocks, HasOldOrNew, HaveOldOrNew}
 use Rattle.staging_files.specs.k_split.declared.faults.KFault.{KFault}
@@ -39,8 +39,8 @@ use Rattle.fsync_relink.specs.live_facts.Logs.{IsDeadIn}
 use Rattle.staging_files.proofs.GiveUpLaws.{bared-volume, staging-file}
 use Rattle.staging_files.specs.GivesUp.{AreGivenUp}
 use Rattle.staging_files.specs.Keeps.{Staged}
-use Rattle.volume_facts.specs.Footprint.{SameLog}
-use Rattle.volume_facts.specs.FootprintLaws.{content-own, live_entries-same}
+use Rattle.staging_files.specs.volume_facts.Footprint.{SameLog}
+use Rattle.staging_files.specs.volume_facts.FootprintLaws.{content-own, live_entries-same}
 use Rattle.fsync_relink.proofs.world_relinks_proofs.StagingLaws.{keeps-content-given_up, restages-given_up, stays-dead}
 use Rattle.fsync_relink.proofs.world_relinks_proofs.WorldLaws.{sane-in-order}
 use Rattle.fsync_relink.specs.world_relinks.Images.{IsRestaged}

@@ -1,13 +1,13 @@
 -- The next lap begins with nothing staged: what it asks for, and what is answered.
 use Rattle.std.proofs.Common.{◌≡◌, ◌≤◌, ◌+◌, ◌/◌, ◌^◌, ℕ, zero, suc, Result, Ok, Err, sym, ◌∙◌, subst, inr}
 use Rattle.std.specs.declared.alloc.AllocError.{AllocError}
-use Rattle.disk_rules.specs.Volume.{extents}
+use Rattle.staging_files.specs.disk_rules.Volume.{extents}
 use Rattle.extent_facts.specs.Covers.{covers-disk_at, disk_at-covers}
 use Rattle.file_table.specs.Files.{Files}
 use Rattle.fsync_relink.specs.Others.{GoesOn, KeepsRest}
-use Rattle.k_journal.specs.declared.outcomes.Commit.{Commit}
+use Rattle.staging_files.specs.k_journal.declared.outcomes.Commit.{Commit}
 use Rattle.staging_files.specs.k_map_plans.Plans.{IsStagingFile}
-use Rattle.k_rules.specs.View.{View}
+use Rattle.staging_files.specs.k_rules.View.{View}
 use Rattle.staging_files.specs.k_split.Laps.{HasNextLap, next_base}
 use Rattle.staging_files.proofs.GiveUpLaws.{staging-file}
 use Rattle.staging_files.specs.GivesUp.{AllStagedSingle, AreGivenUp}

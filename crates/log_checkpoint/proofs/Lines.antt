@@ -6,16 +6,16 @@ use Rattle.std.proofs.lemmas.Bool.{cases_eq}
 use Rattle.std.proofs.lemmas.List.{set-get_or}
 use Rattle.disk_lines.specs.declared.Kind.{Kind}
 use Rattle.disk_places.specs.Places.{reserve}
-use Rattle.disk_rules.specs.Live.{is_file}
+use Rattle.staging_files.specs.disk_rules.Live.{is_file}
 use Rattle.file_overlay.specs.declared.runs.Run.{Run}
 use Rattle.file_table.specs.Files.{ChangesFile, Files, runs_in, size_in}
 use Rattle.fsync_relink.proofs.OtherLaws.{keeps-same, keeps-then, leaves-others}
 use Rattle.fsync_relink.proofs.WayLaws.{steps-within}
 use Rattle.fsync_relink.specs.Others.{GoesOn, KeepsRest, LeavesRoom}
 use Rattle.fsync_relink.specs.Publishes.{IsCarriedOut, IsPublishDone, MayPublish}
-use Rattle.k_journal.specs.declared.outcomes.Commit.{Commit}
+use Rattle.staging_files.specs.k_journal.declared.outcomes.Commit.{Commit}
 use Rattle.staging_files.specs.k_map_plans.Plans.{IsLiveFile}
-use Rattle.k_rules.specs.View.{View}
+use Rattle.staging_files.specs.k_rules.View.{View}
 use Rattle.staging_files.specs.k_split.MapChanges.{free_blocks_in}
 use Rattle.pm_words.specs.Powers.{Steps, Supply}
 use Rattle.log_checkpoint.specs.Gathers.{AreCleared, AreDone, file_at, IsLineDone, IsPublishedLine, MayGather}

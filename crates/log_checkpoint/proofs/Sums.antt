@@ -5,8 +5,8 @@ use Rattle.std.proofs.lemmas.Bool.{cases_lt}
 use Rattle.std.proofs.lemmas.List.{drop_all, drop_more, get_or_past}
 use Rattle.std.proofs.lemmas.List.Sums.{sum_by-cons}
 use Rattle.disk_lines.specs.declared.Inode.{Inode}
-use Rattle.disk_rules.specs.Live.{is_file}
-use Rattle.disk_rules.specs.Volume.{free_inode, Volume}
+use Rattle.staging_files.specs.disk_rules.Live.{is_file}
+use Rattle.staging_files.specs.disk_rules.Volume.{free_inode, Volume}
 use Rattle.file_overlay.specs.Runs.{Overlaid}
 use Rattle.file_table.specs.Files.{Files, nothing_laid, runs_in}
 use Rattle.log_checkpoint.specs.Gathers.{file_at, file_count, total_runs}

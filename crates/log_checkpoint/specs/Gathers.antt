@@ -3,15 +3,15 @@ use Rattle.std.specs.Prelude.{◌≡◌, ◌≢◌, ◌⊎◌, ◌≤◌, ◌<�
 use Rattle.std.specs.declared.alloc.AllocError.{AllocError}
 use Rattle.disk_lines.specs.declared.Inode.{Inode}
 use Rattle.disk_places.specs.Places.{reserve}
-use Rattle.disk_rules.specs.Live.{is_file}
-use Rattle.disk_rules.specs.Volume.{inode, Volume}
+use Rattle.staging_files.specs.disk_rules.Live.{is_file}
+use Rattle.staging_files.specs.disk_rules.Volume.{inode, Volume}
 use Rattle.file_overlay.specs.Runs.{Overlaid}
 use Rattle.file_table.specs.Files.{ChangesFile, Files, runs_in, size_in}
 use Rattle.fsync_relink.specs.Others.{AllApart, GoesOn, KeepsRest}
 use Rattle.fsync_relink.specs.Publishes.{IsPublishDone, IsPublishStopped, MayPublish}
-use Rattle.k_journal.specs.declared.outcomes.Commit.{Commit}
+use Rattle.staging_files.specs.k_journal.declared.outcomes.Commit.{Commit}
 use Rattle.staging_files.specs.k_map_plans.Plans.{IsLiveFile}
-use Rattle.k_rules.specs.View.{View}
+use Rattle.staging_files.specs.k_rules.View.{View}
 use Rattle.staging_files.specs.k_split.declared.faults.KFault.{KFault}
 use Rattle.staging_files.specs.k_split.Laps.{IsBaseAnswer, next_base}
 use Rattle.staging_files.specs.k_split.MapChanges.{free_blocks_in}

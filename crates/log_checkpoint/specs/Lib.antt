@@ -15,3 +15,17 @@ pub use Rattle.staging_files.specs.k_split as k_split
 pub use Rattle.staging_files.specs.volume_uses as volume_uses
 pub use Rattle.fsync_relink.specs.posix_frames as posix_frames
 pub use Rattle.fsync_relink.specs.world_log as world_log
+pub use Rattle.file_table.specs as file_table
+pub use Rattle.fsync_relink.specs.crash_spec as crash_spec
+pub use Rattle.fsync_relink.specs.posix_puts as posix_puts
+pub use Rattle.staging_files.specs.block_bytes as block_bytes
+pub use Rattle.staging_files.specs.disk_rules as disk_rules
+pub use Rattle.staging_files.specs.k_content as k_content
+pub use Rattle.staging_files.specs.k_journal as k_journal
+pub use Rattle.staging_files.specs.k_rules as k_rules
+pub use Rattle.staging_files.specs.lines_out as lines_out
+pub use Rattle.staging_files.specs.map_rules as map_rules
+pub use Rattle.staging_files.specs.posix_facts as posix_facts
+pub use Rattle.staging_files.specs.posix_spec as posix_spec
+pub use Rattle.staging_files.specs.posix_trees as posix_trees
+pub use Rattle.staging_files.specs.volume_facts as volume_facts

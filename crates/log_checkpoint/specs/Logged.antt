@@ -3,10 +3,10 @@ use Rattle.std.specs.Prelude.{◌≡◌, ◌<◌, ℕ}
 use Rattle.pm_words.specs.Words.{Words}
 use Rattle.disk_lines.specs.declared.Draft.{Draft}
 use Rattle.disk_places.specs.Journal.{journaled}
-use Rattle.disk_rules.specs.Content.{content}
-use Rattle.disk_rules.specs.Live.{live_entries}
-use Rattle.disk_rules.specs.Rules.{IsOfNoLater}
-use Rattle.disk_rules.specs.Volume.{Volume}
+use Rattle.staging_files.specs.disk_rules.Content.{content}
+use Rattle.staging_files.specs.disk_rules.Live.{live_entries}
+use Rattle.staging_files.specs.disk_rules.Rules.{IsOfNoLater}
+use Rattle.staging_files.specs.disk_rules.Volume.{Volume}
 use Rattle.file_table.specs.Files.{Files, runs_in, size_in}
 use Rattle.fsync_relink.specs.Logged.{IsLogged}
 use Rattle.staging_files.specs.k_map_plans.Plans.{IsLiveFile}

@@ -11,9 +11,9 @@ ghost use Rattle.log_checkpoint.specs.Logged.{KeepsLoggedContent};
 
 use crate::publishing::publish_all;
 use file_table::FileTable;
-use k_journal::Commit;
 use pm_lines::Power;
 use staging_files::Staging;
+use staging_files::k_journal::Commit;
 use staging_files::k_split::{KSplit, images_have_the_old_or_the_new_content};
 use std::alloc::{AllocError, Global};
 

@@ -16,3 +16,5 @@ mod gathering;
 mod publishing;
 
 pub use gathering::gather;
+pub use staging_files;
+pub use staging_files::lines_out;

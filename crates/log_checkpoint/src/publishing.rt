@@ -10,8 +10,8 @@ ghost use Rattle.log_checkpoint.specs.Gathers.{IsPublishAllAnswer, IsPublishedLi
 use disk_lines::Kind;
 use file_table::FileTable;
 use fsync_relink::publish_runs;
-use k_journal::Commit;
 use pm_lines::Power;
+use staging_files::k_journal::Commit;
 use staging_files::k_split::KSplit;
 use std::alloc::{AllocError, Global};
 

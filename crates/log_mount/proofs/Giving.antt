@@ -9,24 +9,24 @@ use Rattle.pm_words.specs.Images.{Follows}
 use Rattle.pm_words.specs.Powers.{Supply}
 use Rattle.disk_lines.specs.declared.Inode.{Inode}
 use Rattle.disk_lines.specs.declared.Kind.TheVariants.{File, Staging}
-use Rattle.disk_rules.specs.Live.{live_entries}
-use Rattle.disk_rules.specs.Reading.{inode_set}
-use Rattle.disk_rules.specs.Room.{unused_blocks}
-use Rattle.disk_rules.specs.Rules.{file_blocks_of}
-use Rattle.disk_rules.specs.Volume.{extents, inode, Volume}
+use Rattle.k_check.specs.disk_rules.Live.{live_entries}
+use Rattle.k_check.specs.disk_rules.Reading.{inode_set}
+use Rattle.k_check.specs.disk_rules.Room.{unused_blocks}
+use Rattle.k_check.specs.disk_rules.Rules.{file_blocks_of}
+use Rattle.k_check.specs.disk_rules.Volume.{extents, inode, Volume}
 use Rattle.extent_words.specs.Extents.{disk_at}
-use Rattle.k_journal.specs.declared.outcomes.Commit.{Commit}
+use Rattle.k_check.specs.k_journal.declared.outcomes.Commit.{Commit}
 use Rattle.log_replay.specs.Plans.{IsStagingFile}
 use Rattle.log_replay.proofs.k_mount_proofs.Devices.{device-mapped, device-none, device-then}
 use Rattle.log_replay.specs.k_mount.Sheds.{IsSameDevice}
 use Rattle.log_replay.specs.k_mount.Whole.{IsWhole}
-use Rattle.k_rules.specs.View.{View}
+use Rattle.staging_files.specs.k_rules.View.{View}
 use Rattle.staging_files.specs.k_split.declared.faults.KFault.{KFault}
 use Rattle.staging_files.specs.k_split.MapChanges.{is_free_in, IsGiveUpAnswer, IsGivenUpWith}
-use Rattle.map_rules.specs.Changes.{given_up}
-use Rattle.map_rules.specs.Taken.{with_map}
+use Rattle.staging_files.specs.map_rules.Changes.{given_up}
+use Rattle.staging_files.specs.map_rules.Taken.{with_map}
 use Rattle.staging_files.proofs.GiveUpLaws.{staging-file}
-use Rattle.volume_facts.specs.Changes.{extents-set_other, extents-set_same}
+use Rattle.k_check.specs.volume_facts.Changes.{extents-set_other, extents-set_same}
 use Rattle.staging_files.specs.GivesUp.{AreGivenUp, IsGiveUpAllAnswer, IsGiveUpAllPaid}
 use Rattle.staging_files.specs.Keeps.{IsStaging, Staged}
 use Rattle.staging_files.specs.volume_uses.PoolLaws.{unused-set}

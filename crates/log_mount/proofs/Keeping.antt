@@ -16,23 +16,23 @@ use Rattle.disk_lines.specs.Entries.{held_seq, is_self_valid}
 use Rattle.disk_places.specs.Journal.{is_journal_word, journaled}
 use Rattle.disk_places.specs.PlaceLaws.{behind_log-words}
 use Rattle.disk_places.specs.Places.{commit_word, data_blocks, Geometry, is_data_block, is_journaled_line, log_line, reserve}
-use Rattle.disk_rules.specs.Checked.{IsCheckedAs, IsLogKept}
-use Rattle.disk_rules.specs.Content.{content, found}
-use Rattle.disk_rules.specs.Kept.{AreKept}
-use Rattle.disk_rules.specs.Live.{entry_in, is_file, is_live, live_entries, valid_entries}
-use Rattle.disk_rules.specs.Placed.{block_at, IsOutside}
-use Rattle.disk_rules.specs.Reading.{Reads}
-use Rattle.disk_rules.specs.Room.{held_after_recovery, unused_blocks}
-use Rattle.disk_rules.specs.Rules.{file_blocks_of, HasStagingBlocks, IsChecked}
-use Rattle.disk_rules.specs.Volume.{extents, inode, Volume}
+use Rattle.k_check.specs.disk_rules.Checked.{IsCheckedAs, IsLogKept}
+use Rattle.k_check.specs.disk_rules.Content.{content, found}
+use Rattle.k_check.specs.disk_rules.Kept.{AreKept}
+use Rattle.k_check.specs.disk_rules.Live.{entry_in, is_file, is_live, live_entries, valid_entries}
+use Rattle.k_check.specs.disk_rules.Placed.{block_at, IsOutside}
+use Rattle.k_check.specs.disk_rules.Reading.{Reads}
+use Rattle.k_check.specs.disk_rules.Room.{held_after_recovery, unused_blocks}
+use Rattle.k_check.specs.disk_rules.Rules.{file_blocks_of, HasStagingBlocks, IsChecked}
+use Rattle.k_check.specs.disk_rules.Volume.{extents, inode, Volume}
 use Rattle.extent_facts.specs.Covers.{covers-disk_at}
 use Rattle.extent_words.specs.Extents.{covers, disk_at}
 use Rattle.staging_files.specs.image_facts.CheckedLaws.{checked-parts}
 use Rattle.staging_files.specs.k_land.LandingLaws.{idle-image}
 use Rattle.log_replay.specs.k_mount.Sheds.{IsAtRest}
 use Rattle.log_replay.specs.k_mount.Whole.{IsWhole}
-use Rattle.k_rules.specs.Stands.{IsOldOrNew, Stands}
-use Rattle.k_rules.specs.View.{View}
+use Rattle.staging_files.specs.k_rules.Stands.{IsOldOrNew, Stands}
+use Rattle.staging_files.specs.k_rules.View.{View}
 use Rattle.staging_files.specs.k_split.Answers.{IsOff}
 use Rattle.staging_files.specs.k_split.MapChanges.{ChangesMaps, is_free_in, IsMapDone}
 use Rattle.list_facts.specs.Filters.{In-filter, In-filter_map, In-range}
@@ -40,11 +40,11 @@ use Rattle.list_facts.specs.Members.{In}
 use Rattle.log_replay.proofs.Passed.{free-data, free-uncovered, headed-beside, kept-beside, log-beside}
 use Rattle.log_replay.specs.Landed.{kind_file}
 use Rattle.log_replay.specs.Replays.{seen, ShowsTheSame}
-use Rattle.volume_facts.specs.Footprint.{SameData, SameLog}
-use Rattle.volume_facts.specs.FootprintLaws.{content-own, content-read, live_entries-same}
-use Rattle.volume_facts.specs.ImageLaws.{journaled-idle, journaled-other}
-use Rattle.volume_facts.specs.LineWords.{data_word, data_word-not_journaled}
-use Rattle.volume_facts.specs.SetLaws.{block-outside}
+use Rattle.k_check.specs.volume_facts.Footprint.{SameData, SameLog}
+use Rattle.k_check.specs.volume_facts.FootprintLaws.{content-own, content-read, live_entries-same}
+use Rattle.k_check.specs.volume_facts.ImageLaws.{journaled-idle, journaled-other}
+use Rattle.k_check.specs.volume_facts.LineWords.{data_word, data_word-not_journaled}
+use Rattle.k_check.specs.volume_facts.SetLaws.{block-outside}
 use Rattle.staging_files.specs.volume_uses.PoolLaws.{covered-in_data}
 use Rattle.log_replay.specs.k_mount.Images.{IsHeaded}
 use Rattle.log_mount.proofs.Lines.{found-kept, held-kept, KeepsBytes, KeepsLines, of_file-kept}

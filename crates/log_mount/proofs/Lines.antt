@@ -13,20 +13,20 @@ use Rattle.disk_lines.specs.declared.Inode.{Inode}
 use Rattle.disk_lines.specs.declared.Kind.{Kind}
 use Rattle.disk_lines.specs.declared.Kind.TheVariants.{Directory, File, Free, Staging}
 use Rattle.disk_lines.specs.Names.{names_of, walk}
-use Rattle.disk_rules.specs.Content.{byte_in, bytes_of_file, found, Node, node_by, node_of}
-use Rattle.disk_rules.specs.Live.{is_file, is_of_file, live_entries}
-use Rattle.disk_rules.specs.Reading.{inode_set}
-use Rattle.disk_rules.specs.Room.{held_after_recovery, is_named_file}
-use Rattle.disk_rules.specs.Rules.{file_blocks_of, IsKindAt}
-use Rattle.disk_rules.specs.Volume.{extents, free_inode, inode, Volume}
+use Rattle.k_check.specs.disk_rules.Content.{byte_in, bytes_of_file, found, Node, node_by, node_of}
+use Rattle.k_check.specs.disk_rules.Live.{is_file, is_of_file, live_entries}
+use Rattle.k_check.specs.disk_rules.Reading.{inode_set}
+use Rattle.k_check.specs.disk_rules.Room.{held_after_recovery, is_named_file}
+use Rattle.k_check.specs.disk_rules.Rules.{file_blocks_of, IsKindAt}
+use Rattle.k_check.specs.disk_rules.Volume.{extents, free_inode, inode, Volume}
 use Rattle.extent_words.specs.declared.Extent.{Extent}
 use Rattle.extent_words.specs.Extents.{disk_at}
 use Rattle.log_replay.specs.k_mount.View.{node_at}
 use Rattle.log_replay.specs.k_mount.Whole.{IsWhole}
-use Rattle.k_rules.specs.Spaces.{is_free}
+use Rattle.staging_files.specs.k_rules.Spaces.{is_free}
 use Rattle.log_replay.proofs.Passed.{valid-beside}
-use Rattle.volume_facts.specs.Changes.{inode-set_other, inode-set_same}
-use Rattle.volume_facts.specs.Lists.{map-agree}
+use Rattle.k_check.specs.volume_facts.Changes.{inode-set_other, inode-set_same}
+use Rattle.k_check.specs.volume_facts.Lists.{map-agree}
 use Rattle.staging_files.specs.volume_uses.PoolLaws.{AreInData}
 
 -- Each inode keeps of its line the kind, the generation and the size; the names, the numbers and the log base are the same.

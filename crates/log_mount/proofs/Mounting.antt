@@ -12,27 +12,27 @@ use Rattle.disk_lines.specs.declared.Kind.TheVariants.{File, Free}
 use Rattle.disk_lines.specs.Names.{names_of}
 use Rattle.disk_places.specs.Journal.{IsSound, journaled}
 use Rattle.disk_places.specs.Places.{Geometry}
-use Rattle.disk_rules.specs.Checked.{IsCheckedAs}
-use Rattle.disk_rules.specs.Content.{content, content_of}
-use Rattle.disk_rules.specs.Live.{live_entries}
-use Rattle.disk_rules.specs.Reading.{base_set, Reads}
-use Rattle.disk_rules.specs.Rules.{geometry_of, IsChecked}
-use Rattle.disk_rules.specs.Volume.{extents, Volume, volume}
+use Rattle.k_check.specs.disk_rules.Checked.{IsCheckedAs}
+use Rattle.k_check.specs.disk_rules.Content.{content, content_of}
+use Rattle.k_check.specs.disk_rules.Live.{live_entries}
+use Rattle.k_check.specs.disk_rules.Reading.{base_set, Reads}
+use Rattle.k_check.specs.disk_rules.Rules.{geometry_of, IsChecked}
+use Rattle.k_check.specs.disk_rules.Volume.{extents, Volume, volume}
 use Rattle.extent_words.specs.Extents.{disk_at}
 use Rattle.block_counts.specs.Counts.{blocks_for}
 use Rattle.staging_files.specs.image_facts.CheckedLaws.{checked-parts, head-checked, parts-checked}
-use Rattle.k_journal.specs.declared.outcomes.Commit.{Commit}
+use Rattle.k_check.specs.k_journal.declared.outcomes.Commit.{Commit}
 use Rattle.log_replay.proofs.k_mount_proofs.LapImages.{none_live}
 use Rattle.log_replay.proofs.k_mount_proofs.Recovered.{recovers_checked}
 use Rattle.log_replay.specs.k_mount.Laws.{IsCheckedToo, IsRecovered}
 use Rattle.log_replay.specs.k_mount.Sheds.{AllNamed, IsAtRest, IsKeptAt, IsSameDevice, IsSettled, IsShedAt, MaySettle, Sheds, StaysShown}
-use Rattle.k_rules.specs.View.{View}
+use Rattle.staging_files.specs.k_rules.View.{View}
 use Rattle.staging_files.specs.k_split.Laps.{next_base}
 use Rattle.staging_files.specs.k_split.Order.{IsOpened}
 use Rattle.log_replay.specs.Replays.{IsReplayed, MayReplay, seen, ShowsTheSame}
 use Rattle.log_replay.specs.Orders.{AreInOrder}
 use Rattle.staging_files.specs.Keeps.{IsStaging}
-use Rattle.volume_facts.specs.ReadingLaws.{reads-volume}
+use Rattle.k_check.specs.volume_facts.ReadingLaws.{reads-volume}
 use Rattle.log_replay.specs.k_mount.Changed.{sound_headed}
 use Rattle.log_mount.proofs.Keeping.{shows-then}
 use Rattle.log_mount.specs.declared.faults.MountFault.{MountFault}

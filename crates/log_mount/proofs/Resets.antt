@@ -16,24 +16,24 @@ use Rattle.disk_lines.specs.declared.Kind.TheVariants.{Directory, File, Free, St
 use Rattle.disk_lines.specs.Entries.{held_seq, is_self_valid}
 use Rattle.disk_lines.specs.Lines.{has_map_or_none, is_inode, is_inode_of_kind}
 use Rattle.disk_places.specs.Places.{Geometry, log_line}
-use Rattle.disk_rules.specs.Live.{live_entries}
-use Rattle.disk_rules.specs.Reading.{inode_set}
-use Rattle.disk_rules.specs.Room.{unused_blocks}
-use Rattle.disk_rules.specs.Rules.{file_blocks_of}
-use Rattle.disk_rules.specs.Volume.{chain, extents, free_inode, inode, Volume}
+use Rattle.k_check.specs.disk_rules.Live.{live_entries}
+use Rattle.k_check.specs.disk_rules.Reading.{inode_set}
+use Rattle.k_check.specs.disk_rules.Room.{unused_blocks}
+use Rattle.k_check.specs.disk_rules.Rules.{file_blocks_of}
+use Rattle.k_check.specs.disk_rules.Volume.{chain, extents, free_inode, inode, Volume}
 use Rattle.extent_words.specs.Extents.{disk_at}
 use Rattle.staging_files.specs.k_log_plans.Resets.{reset, unapplied}
 use Rattle.log_replay.specs.Plans.{IsLiveFile}
 use Rattle.log_replay.proofs.k_mount_proofs.LapImages.{none_live}
 use Rattle.log_replay.specs.k_mount.Whole.{IsWhole}
-use Rattle.k_rules.specs.View.{View}
+use Rattle.staging_files.specs.k_rules.View.{View}
 use Rattle.staging_files.specs.k_split.Answers.{Changes, IsDone}
 use Rattle.staging_files.specs.k_split.declared.faults.KFault.{KFault}
 use Rattle.staging_files.specs.k_split.MapChanges.{ChangesMaps, is_free_in, IsMapDone}
 use Rattle.staging_files.specs.k_split.Resets.{IsResetAnswer}
-use Rattle.volume_facts.specs.Changes.{inode_set-same, inode-set_other, inode-set_same}
-use Rattle.volume_facts.specs.Footprint.{SameLog}
-use Rattle.volume_facts.specs.FootprintLaws.{entry_in-same}
+use Rattle.k_check.specs.volume_facts.Changes.{inode_set-same, inode-set_other, inode-set_same}
+use Rattle.k_check.specs.volume_facts.Footprint.{SameLog}
+use Rattle.k_check.specs.volume_facts.FootprintLaws.{entry_in-same}
 use Rattle.staging_files.specs.volume_uses.PoolLaws.{unused-set}
 use Rattle.log_replay.specs.k_mount.Images.{HasNoEntry}
 use Rattle.log_replay.specs.k_mount.Sheds.{HasOldLines}

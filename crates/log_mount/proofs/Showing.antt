@@ -8,18 +8,18 @@ use Rattle.pm_words.specs.Words.{Words}
 use Rattle.disk_lines.specs.declared.Draft.{Draft}
 use Rattle.disk_places.specs.Journal.{is_journal_word, journaled}
 use Rattle.disk_places.specs.Places.{commit_word, Geometry}
-use Rattle.disk_rules.specs.Checked.{IsCheckedAs, IsLogKept}
-use Rattle.disk_rules.specs.Content.{content_of}
-use Rattle.disk_rules.specs.Reading.{Reads}
-use Rattle.disk_rules.specs.Rules.{geometry_of, IsChecked}
-use Rattle.disk_rules.specs.Volume.{Volume, volume}
+use Rattle.k_check.specs.disk_rules.Checked.{IsCheckedAs, IsLogKept}
+use Rattle.k_check.specs.disk_rules.Content.{content_of}
+use Rattle.k_check.specs.disk_rules.Reading.{Reads}
+use Rattle.k_check.specs.disk_rules.Rules.{geometry_of, IsChecked}
+use Rattle.k_check.specs.disk_rules.Volume.{Volume, volume}
 use Rattle.staging_files.specs.image_facts.CheckedLaws.{checked-parts, parts-checked}
-use Rattle.k_journal.specs.Recoveries.{KeepsView}
+use Rattle.k_check.specs.k_journal.Recoveries.{KeepsView}
 use Rattle.log_replay.proofs.k_mount_proofs.Devices.{home-device}
 use Rattle.log_replay.proofs.k_mount_proofs.Shown.{shown-then}
 use Rattle.log_replay.specs.k_mount.Sheds.{IsSameDevice, IsSettled, StaysShown, StillShows}
-use Rattle.k_rules.specs.Stands.{IsOldOrNew}
-use Rattle.k_rules.specs.View.{View}
+use Rattle.staging_files.specs.k_rules.Stands.{IsOldOrNew}
+use Rattle.staging_files.specs.k_rules.View.{View}
 use Rattle.log_replay.specs.Replays.{IsReplayed, MayReplay, ShowsTheSame}
 use Rattle.log_replay.specs.k_mount.Changed.{headed_changed, sound_headed}
 use Rattle.log_replay.specs.k_mount.Images.{IsHeaded}

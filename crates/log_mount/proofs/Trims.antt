@@ -11,26 +11,26 @@ use Rattle.disk_lines.specs.declared.Inode.{Inode}
 use Rattle.disk_lines.specs.declared.Kind.TheVariants.{File, Staging}
 use Rattle.disk_lines.specs.Lines.{is_inode, is_inode_of_kind, most_bytes}
 use Rattle.disk_places.specs.Places.{Geometry, reserve}
-use Rattle.disk_rules.specs.Live.{live_entries}
-use Rattle.disk_rules.specs.Reading.{inode_set}
-use Rattle.disk_rules.specs.Room.{unused_blocks}
-use Rattle.disk_rules.specs.Rules.{file_blocks_of}
-use Rattle.disk_rules.specs.Volume.{chain, extents, inode, Volume}
+use Rattle.k_check.specs.disk_rules.Live.{live_entries}
+use Rattle.k_check.specs.disk_rules.Reading.{inode_set}
+use Rattle.k_check.specs.disk_rules.Room.{unused_blocks}
+use Rattle.k_check.specs.disk_rules.Rules.{file_blocks_of}
+use Rattle.k_check.specs.disk_rules.Volume.{chain, extents, inode, Volume}
 use Rattle.extent_facts.specs.Counts.{block_count-mapped, is_mapped, one_if}
 use Rattle.extent_words.specs.declared.Extent.{Extent}
 use Rattle.extent_words.specs.Extents.{block_count, disk_at, IsCanonical}
 use Rattle.extent_words.specs.Maps.{IsPart}
 use Rattle.log_replay.specs.Plans.{IsLiveFile}
 use Rattle.log_replay.specs.k_mount.Whole.{IsWhole}
-use Rattle.k_rules.specs.View.{View}
+use Rattle.staging_files.specs.k_rules.View.{View}
 use Rattle.staging_files.specs.k_split.declared.faults.KFault.{KFault}
 use Rattle.staging_files.specs.k_split.MapChanges.{ChangesMaps, free_blocks_in, is_free_in, IsSizeAnswer, IsSizedWith}
-use Rattle.map_rules.specs.Changes.{IsSized, with_size}
-use Rattle.map_rules.specs.Taken.{switched, with_map}
+use Rattle.staging_files.specs.map_rules.Changes.{IsSized, with_size}
+use Rattle.staging_files.specs.map_rules.Taken.{switched, with_map}
 use Rattle.staging_files.proofs.GiveUpLaws.{staging-file}
 use Rattle.staging_files.proofs.RoomLaws.{free-unused}
 use Rattle.staging_files.specs.Keeps.{IsStaging}
-use Rattle.volume_facts.specs.Changes.{chain-set_same, extents-set_other, extents-set_same}
+use Rattle.k_check.specs.volume_facts.Changes.{chain-set_same, extents-set_other, extents-set_same}
 use Rattle.staging_files.specs.volume_maps.Bounds.{count_below-most}
 use Rattle.staging_files.specs.volume_maps.Lengths.{begins, disk_before, length-begins, starts}
 use Rattle.staging_files.specs.volume_uses.PoolLaws.{unused-set}

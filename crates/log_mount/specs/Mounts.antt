@@ -7,13 +7,13 @@ use Rattle.pm_words.specs.Powers.{is_on, Supply}
 use Rattle.pm_words.specs.Words.{Words}
 use Rattle.disk_places.specs.Journal.{journaled}
 use Rattle.disk_places.specs.Places.{Geometry}
-use Rattle.disk_rules.specs.Broken.{Breaks}
-use Rattle.disk_rules.specs.Checked.{IsCheckedAs}
-use Rattle.disk_rules.specs.Content.{content}
-use Rattle.disk_rules.specs.Rules.{geometry_of, IsChecked}
-use Rattle.disk_rules.specs.Volume.{Volume, volume}
+use Rattle.k_check.specs.disk_rules.Broken.{Breaks}
+use Rattle.k_check.specs.disk_rules.Checked.{IsCheckedAs}
+use Rattle.k_check.specs.disk_rules.Content.{content}
+use Rattle.k_check.specs.disk_rules.Rules.{geometry_of, IsChecked}
+use Rattle.k_check.specs.disk_rules.Volume.{Volume, volume}
 use Rattle.log_replay.specs.k_mount.Sheds.{AllNamed, HasOldLines, IsAtRest, StaysShown}
-use Rattle.k_rules.specs.View.{View}
+use Rattle.staging_files.specs.k_rules.View.{View}
 use Rattle.staging_files.specs.k_split.Laps.{next_base}
 use Rattle.log_replay.specs.k_mount.Images.{HasNoEntry}
 use Rattle.log_mount.specs.declared.faults.MountFault.{MountFault}

@@ -3,14 +3,14 @@ use Rattle.std.specs.Prelude.{◌≡◌, ◌≤◌, ◌*◌, true, false, [], Re
 use Rattle.std.specs.declared.alloc.AllocError.{AllocError}
 use Rattle.pm_words.specs.Images.{words_of}
 use Rattle.pm_words.specs.Powers.{is_on, Supply}
-use Rattle.disk_rules.specs.Checked.{IsCheckedAs}
-use Rattle.disk_rules.specs.Content.{content}
-use Rattle.disk_rules.specs.Rules.{geometry_of}
-use Rattle.k_journal.specs.declared.outcomes.Commit.{Commit}
+use Rattle.k_check.specs.disk_rules.Checked.{IsCheckedAs}
+use Rattle.k_check.specs.disk_rules.Content.{content}
+use Rattle.k_check.specs.disk_rules.Rules.{geometry_of}
+use Rattle.k_check.specs.k_journal.declared.outcomes.Commit.{Commit}
 use Rattle.log_replay.specs.k_mount.Sheds.{IsAtRest}
-use Rattle.k_rules.specs.View.{View}
+use Rattle.staging_files.specs.k_rules.View.{View}
 use Rattle.log_replay.specs.Replays.{live_in, seen}
-use Rattle.volume_facts.specs.Footprint.{SameLog}
+use Rattle.k_check.specs.volume_facts.Footprint.{SameLog}
 
 -- WHAT IS ASKED FOR: K-Split is at rest on a checked image with the numbers of its volume, and no entry of its log is live.
 pub record IsQuiet (k : View) : Type 0 where

@@ -1,10 +1,10 @@
 -- What files have applied counts anew where it is high.
 use Rattle.std.specs.Prelude.{◌≡◌, ◌⊎◌, ◌≤◌, ◌^◌, ℕ, Ok}
 use Rattle.pm_words.specs.Images.{words_of}
-use Rattle.disk_rules.specs.Volume.{extents, inode, Volume}
+use Rattle.k_check.specs.disk_rules.Volume.{extents, inode, Volume}
 use Rattle.log_replay.specs.Plans.{IsLiveFile}
 use Rattle.log_replay.specs.k_mount.Sheds.{HasOldLines, IsSettled}
-use Rattle.k_rules.specs.View.{View}
+use Rattle.staging_files.specs.k_rules.View.{View}
 use Rattle.staging_files.specs.k_split.Resets.{IsResetAnswer}
 use Rattle.log_replay.specs.k_mount.Images.{HasNoEntry}
 use Rattle.log_replay.specs.Replays.{seen}

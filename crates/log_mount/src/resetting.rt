@@ -1,6 +1,6 @@
 //! What files have applied counts anew where it is high.
 ghost use Rattle.std.specs.Prelude.{◌≡◌, ◌<◌, ◌^◌, ◌↔◌, true, IsTrue};
-ghost use Rattle.disk_rules.specs.Volume.{inode};
+ghost use Rattle.k_check.specs.disk_rules.Volume.{inode};
 ghost use Rattle.pm_words.specs.Powers.{is_on};
 ghost use Rattle.log_replay.specs.Replays.{ShowsTheSame};
 ghost use Rattle.pm_words.specs.Images.{Follows};
@@ -8,7 +8,7 @@ ghost use Rattle.log_replay.specs.k_mount.Sheds.{IsSameDevice};
 ghost use Rattle.log_mount.specs.Quiet.{IsQuiet, IsSpent, IsSweepPaid, OnDone};
 ghost use Rattle.log_mount.specs.Resets.{AreReset, IsResetOne, MayReset};
 
-use k_journal::Commit;
+use k_check::k_journal::Commit;
 use pm_lines::Power;
 use staging_files::k_split::{KFault, KSplit};
 use std::alloc::{AllocError, Global};

@@ -1,6 +1,6 @@
 //! Maps lose what they have past the ends of files.
 ghost use Rattle.std.specs.Prelude.{◌≡◌, true, IfNone, IfSome, Ok};
-ghost use Rattle.disk_rules.specs.Volume.{inode};
+ghost use Rattle.k_check.specs.disk_rules.Volume.{inode};
 ghost use Rattle.log_replay.specs.Plans.{IsLiveFile};
 ghost use Rattle.staging_files.specs.k_split.MapChanges.{IsSizeAnswer};
 ghost use Rattle.pm_words.specs.Powers.{is_on};
@@ -12,7 +12,7 @@ ghost use Rattle.log_mount.specs.Sweeps.{AreTrimmed, EndsInTime, IsTrimmedOne};
 
 use block_counts::blocks_for;
 use disk_lines::Kind;
-use k_journal::Commit;
+use k_check::k_journal::Commit;
 use pm_lines::Power;
 use staging_files::k_split::{KFault, KSplit};
 use std::alloc::{AllocError, Global};

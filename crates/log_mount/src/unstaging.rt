@@ -5,7 +5,7 @@ ghost use Rattle.log_replay.specs.k_mount.Sheds.{IsSameDevice};
 ghost use Rattle.log_mount.specs.Quiet.{IsQuiet, IsSpent, IsSweepPaid, OnDone};
 ghost use Rattle.log_mount.specs.Sweeps.{AreUnstaged};
 
-use k_journal::Commit;
+use k_check::k_journal::Commit;
 use pm_lines::Power;
 use staging_files::Staging;
 use staging_files::k_split::KSplit;

@@ -4,27 +4,27 @@ use Rattle.std.specs.Prelude.{All, count_by}
 use Rattle.std.specs.List.{range_with_len}
 use Rattle.std.proofs.lemmas.Bool.Decides.{nat_tests}
 use Rattle.block_counts.specs.Counts.{chains_for}
-use Rattle.block_pool.specs.FreeSets.{is_among}
+use Rattle.k_mount.specs.block_pool.FreeSets.{is_among}
 use Rattle.pm_words.specs.Words.{Words}
 use Rattle.disk_places.specs.Journal.{journaled}
 use Rattle.disk_places.specs.Places.{base_word, commit_word, data_blocks, first_data, Geometry, is_data_block}
-use Rattle.disk_rules.specs.Checked.{IsLogKept}
-use Rattle.disk_rules.specs.Live.{valid_entries}
-use Rattle.disk_rules.specs.Reading.{Reads}
-use Rattle.disk_rules.specs.Room.{has_none, unused_blocks}
-use Rattle.disk_rules.specs.Uses.{owners}
-use Rattle.disk_rules.specs.Volume.{chain, extents, Volume}
+use Rattle.replay_facts.specs.disk_rules.Checked.{IsLogKept}
+use Rattle.replay_facts.specs.disk_rules.Live.{valid_entries}
+use Rattle.replay_facts.specs.disk_rules.Reading.{Reads}
+use Rattle.replay_facts.specs.disk_rules.Room.{has_none, unused_blocks}
+use Rattle.replay_facts.specs.disk_rules.Uses.{owners}
+use Rattle.replay_facts.specs.disk_rules.Volume.{chain, extents, Volume}
 use Rattle.extent_words.specs.Extents.{covers, IsCanonical}
-use Rattle.k_rules.specs.Stands.{IsOldOrNew}
-use Rattle.k_rules.specs.View.{View}
+use Rattle.replay_facts.specs.k_rules.Stands.{IsOldOrNew}
+use Rattle.replay_facts.specs.k_rules.View.{View}
 use Rattle.k_mount.specs.k_split.MapChanges.{free_blocks_in, is_free_in}
 use Rattle.k_mount.specs.k_split.Order.{IsInOrder}
 use Rattle.k_mount.specs.Images.{IsHeaded}
 use Rattle.replay_facts.proofs.live_facts_proofs.FoundLaws.{valid-same}
 use Rattle.replay_facts.proofs.Heads.{headed-next}
 use Rattle.replay_facts.proofs.Kept.{log-same}
-use Rattle.volume_facts.specs.Footprint.{SameLog}
-use Rattle.volume_facts.specs.Lists.{count_by-agree}
+use Rattle.replay_facts.specs.volume_facts.Footprint.{SameLog}
+use Rattle.replay_facts.specs.volume_facts.Lists.{count_by-agree}
 use Rattle.replay_facts.specs.volume_uses.Uses.{is_unused}
 use Rattle.world_relinks.proofs.ImageLaws.{same-log}
 use Rattle.world_relinks.proofs.RelinkLaws.{has-chain}

@@ -20,12 +20,12 @@ use Rattle.disk_lines.specs.EntryLaws.{IsEntryLine-decode_entry}
 use Rattle.disk_lines.specs.Lines.{most_bytes}
 use Rattle.disk_places.specs.Journal.{journaled}
 use Rattle.disk_places.specs.Places.{Geometry, is_data_block, log_line, reserve}
-use Rattle.disk_rules.specs.Checked.{IsCheckedAs}
-use Rattle.disk_rules.specs.Content.{content, disk_of, size_of}
-use Rattle.disk_rules.specs.Live.{entry_in, is_file, is_live, live_entries, valid_entries}
-use Rattle.disk_rules.specs.Reading.{Reads}
-use Rattle.disk_rules.specs.Rules.{geometry_of, IsChecked}
-use Rattle.disk_rules.specs.Volume.{chain, extents, free_inode, inode, Volume}
+use Rattle.replay_facts.specs.disk_rules.Checked.{IsCheckedAs}
+use Rattle.replay_facts.specs.disk_rules.Content.{content, disk_of, size_of}
+use Rattle.replay_facts.specs.disk_rules.Live.{entry_in, is_file, is_live, live_entries, valid_entries}
+use Rattle.replay_facts.specs.disk_rules.Reading.{Reads}
+use Rattle.replay_facts.specs.disk_rules.Rules.{geometry_of, IsChecked}
+use Rattle.replay_facts.specs.disk_rules.Volume.{chain, extents, free_inode, inode, Volume}
 use Rattle.std.specs.List.{range_with_len}
 use Rattle.extent_words.specs.Extents.{disk_at}
 use Rattle.extent_words.specs.Moves.{IsMapped}
@@ -36,14 +36,14 @@ use Rattle.k_mount.specs.k_map_plans.Plans.{MayMove}
 use Rattle.k_mount.specs.Images.{IsHeaded}
 use Rattle.k_mount.specs.Sheds.{IsAtRest}
 use Rattle.k_mount.specs.Whole.{IsWhole}
-use Rattle.k_rules.specs.Stands.{IsOldOrNew}
-use Rattle.k_rules.specs.View.{View}
+use Rattle.replay_facts.specs.k_rules.Stands.{IsOldOrNew}
+use Rattle.replay_facts.specs.k_rules.View.{View}
 use Rattle.k_mount.specs.k_split.Answers.{IsPaid}
 use Rattle.k_mount.specs.k_split.MapChanges.{ChangesMaps, free_blocks_in, is_free_in, IsMovedSingle, IsMovedWith, IsRelinkAnswer}
 use Rattle.k_mount.specs.k_split.declared.faults.KFault.{KFault}
 use Rattle.world_relinks.specs.map_facts.Moves.{move_for}
-use Rattle.volume_facts.specs.Footprint.{SameLog}
-use Rattle.volume_facts.specs.FootprintLaws.{live_entries-same}
+use Rattle.replay_facts.specs.volume_facts.Footprint.{SameLog}
+use Rattle.replay_facts.specs.volume_facts.FootprintLaws.{live_entries-same}
 use Rattle.replay_facts.specs.world_log.LogRules.{live_parts}
 use Rattle.replay_facts.specs.world_promise.Landed.{kind_file}
 use Rattle.replay_facts.proofs.live_facts_proofs.CheckedLaws.{sound-checked}

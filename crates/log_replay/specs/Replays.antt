@@ -7,16 +7,16 @@ use Rattle.pm_words.specs.Words.{Words}
 use Rattle.disk_lines.specs.declared.Draft.{Draft}
 use Rattle.disk_places.specs.Journal.{journaled}
 use Rattle.disk_places.specs.Places.{Geometry}
-use Rattle.disk_rules.specs.Checked.{IsCheckedAs}
-use Rattle.disk_rules.specs.Content.{content}
-use Rattle.disk_rules.specs.Live.{live_entries}
-use Rattle.disk_rules.specs.Rules.{geometry_of, IsChecked}
-use Rattle.disk_rules.specs.Volume.{inode}
-use Rattle.k_journal.specs.declared.outcomes.Commit.{Commit}
+use Rattle.replay_facts.specs.disk_rules.Checked.{IsCheckedAs}
+use Rattle.replay_facts.specs.disk_rules.Content.{content}
+use Rattle.replay_facts.specs.disk_rules.Live.{live_entries}
+use Rattle.replay_facts.specs.disk_rules.Rules.{geometry_of, IsChecked}
+use Rattle.replay_facts.specs.disk_rules.Volume.{inode}
+use Rattle.k_mount.specs.k_journal.declared.outcomes.Commit.{Commit}
 use Rattle.k_mount.specs.Sheds.{IsAtRest}
-use Rattle.k_rules.specs.View.{View}
+use Rattle.replay_facts.specs.k_rules.View.{View}
 use Rattle.k_mount.specs.k_split.declared.faults.KFault.{KFault}
-use Rattle.volume_facts.specs.Footprint.{SameLog}
+use Rattle.replay_facts.specs.volume_facts.Footprint.{SameLog}
 use Rattle.replay_facts.specs.live_facts.Logs.{HasSameFiles}
 use Rattle.replay_facts.specs.world_runs.Relinks.{SameLine}
 use Rattle.replay_facts.specs.Orders.{AreInOrder}

@@ -7,9 +7,9 @@ ghost use Rattle.k_mount.specs.Sheds.{IsSameDevice};
 ghost use Rattle.log_replay.specs.Replays.{IsReplayAnswer, IsReplayPaid, MayReplay, ShowsTheSame, stopped_by};
 
 use disk_lines::Draft;
-use k_journal::Commit;
+use k_mount::k_journal::Commit;
 use k_mount::k_split::{KFault, KSplit};
-use map_rules::Move;
+use k_mount::map_rules::Move;
 use pm_lines::Power;
 use std::alloc::{AllocError, Global};
 

@@ -8,15 +8,15 @@ use Rattle.write_ends.specs.block_loans.Loans.{AreApart}
 use Rattle.disk_lines.specs.declared.Draft.{Draft}
 use Rattle.disk_lines.specs.declared.Kind.TheVariants.{Staging}
 use Rattle.disk_places.specs.Journal.{journaled}
-use Rattle.disk_rules.specs.Volume.{inode, Volume}
+use Rattle.oplog_tail.specs.disk_rules.Volume.{inode, Volume}
 use Rattle.list_facts.specs.Members.{In}
-use Rattle.posix_spec.specs.State.{State}
+use Rattle.lost_devices.specs.posix_spec.State.{State}
 use Rattle.lost_devices.specs.volume_uses.OwnerLaws.{IsOnePlace, one_owner}
 use Rattle.log_checkpoint.specs.world_promise.Lent.{once_named}
 use Rattle.log_checkpoint.specs.world_rules.Jobs.{AreApartJobs, IsStagedIn, Job, JobsStand, JobStands, live_claims, staged_block}
 use Rattle.log_checkpoint.specs.world_rules.Stands.{IsSane}
 use Rattle.write_ends.specs.world_standing.Standing.{AreJobsOf, HasItsBlocks, Pending}
-use Rattle.write_jobs.specs.Jobs.{blocks_of, FilledView, loan_at}
+use Rattle.write_ends.specs.write_jobs.Jobs.{blocks_of, FilledView, loan_at}
 use Rattle.losing_facts.specs.Laws.{HasLoansApart, SharesNone, StandsApart}
 use Rattle.losing_facts.proofs.Jobs.{none_common, staged_of}
 use Rattle.losing_facts.proofs.Pending.{apart_of, IsJobOf, job_of, loans_of_entry, places_of_entry, staging_below, stands_of}

@@ -14,19 +14,19 @@ use Rattle.disk_lines.specs.declared.Draft.{Draft}
 use Rattle.disk_places.specs.Journal.{journaled}
 use Rattle.disk_places.specs.PlaceLaws.{behind_log-not_journaled, behind_log-words}
 use Rattle.disk_places.specs.Places.{log_line}
-use Rattle.disk_rules.specs.Honest.{IsHonest}
-use Rattle.disk_rules.specs.Volume.{Volume}
+use Rattle.oplog_tail.specs.disk_rules.Honest.{IsHonest}
+use Rattle.oplog_tail.specs.disk_rules.Volume.{Volume}
 use Rattle.write_ends.specs.flight_facts.Flying.{IsOut as IsOutWord}
 use Rattle.write_ends.specs.job_facts.Blocks.{ArePutBack, SpellWhole}
 use Rattle.list_facts.specs.Members.{In, pushed-In}
-use Rattle.posix_puts.specs.Puts.{PutsWhole}
-use Rattle.posix_spec.specs.Run.{Begun, run}
+use Rattle.log_checkpoint.specs.posix_puts.Puts.{PutsWhole}
+use Rattle.lost_devices.specs.posix_spec.Run.{Begun, run}
 use Rattle.posix_types.specs.declared.call.Call.{Call}
 use Rattle.posix_types.specs.declared.call.Who.{Who}
 use Rattle.posix_types.specs.declared.item.Item.{Item}
-use Rattle.posix_spec.specs.State.{State}
-use Rattle.volume_facts.specs.ImageLaws.{journaled-other}
-use Rattle.volume_facts.specs.LineWords.{data_word}
+use Rattle.lost_devices.specs.posix_spec.State.{State}
+use Rattle.lost_devices.specs.volume_facts.ImageLaws.{journaled-other}
+use Rattle.lost_devices.specs.volume_facts.LineWords.{data_word}
 use Rattle.lost_devices.proofs.k_split_proofs.LogLaws.{data_beside}
 use Rattle.lost_devices.specs.k_split.Laps.{IsLogWord}
 use Rattle.write_ends.specs.world_images.Promised.{IsKept}
@@ -39,7 +39,7 @@ use Rattle.write_ends.specs.world_standing.Standing.{AreLinesLent, Kept, Pending
 use Rattle.log_checkpoint.specs.world_steps.Worlds.{IsWorld}
 use Rattle.losing_facts.proofs.Pending.{IsSplit, apart_of, loans_of_entry, places_of_entry, split_in, split_of}
 use Rattle.write_ends.specs.Ends.{IsOut}
-use Rattle.write_jobs.specs.Jobs.{FilledView, loan_at}
+use Rattle.write_ends.specs.write_jobs.Jobs.{FilledView, loan_at}
 use Rattle.losing_facts.specs.Blocks.{AreBlocksHome, AreHome}
 use Rattle.losing_facts.specs.Laws.{claimed_by, ComesHome, ComesHomeAlone, FinishesLost, GivesUpLost}
 use Rattle.losing_facts.specs.Lost.{IsLostJob, IsLostWith}

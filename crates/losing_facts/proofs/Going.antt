@@ -11,7 +11,7 @@ use Rattle.list_facts.specs.Members.{In}
 use Rattle.lost_devices.proofs.Cuts.{left_same}
 use Rattle.lost_devices.specs.Left.{IsLeftOf}
 use Rattle.posix_types.specs.declared.call.Mode.{Mode}
-use Rattle.posix_spec.specs.Run.{Begun, run}
+use Rattle.lost_devices.specs.posix_spec.Run.{Begun, run}
 use Rattle.write_ends.specs.world_images.Changed.{sound_headed}
 use Rattle.write_ends.specs.world_images.Kept.{kept_more}
 use Rattle.write_ends.specs.world_images.Promised.{IsKept}

@@ -6,7 +6,7 @@ use Rattle.pm_words.specs.Cells.{cell, is_lent, unmarked}
 use Rattle.pm_words.specs.Parts.{Part}
 use Rattle.list_facts.specs.Members.{In}
 use Rattle.losing_facts.proofs.Pending.{job_of}
-use Rattle.write_jobs.specs.Jobs.{loan_at}
+use Rattle.write_ends.specs.write_jobs.Jobs.{loan_at}
 use Rattle.losing_facts.specs.Laws.{ComeHomeMore, ComeHomeNone, HasBlocksOut, LeavesBlocks}
 use Rattle.losing_facts.proofs.Jobs.{blocks_out}
 

@@ -12,14 +12,14 @@ use Rattle.disk_lines.specs.declared.Draft.{Draft}
 use Rattle.disk_lines.specs.declared.Kind.TheVariants.{Staging}
 use Rattle.disk_lines.specs.Entries.{is_draft}
 use Rattle.disk_places.specs.Places.{is_data_block}
-use Rattle.disk_rules.specs.Rules.{AreApart, file_blocks_of}
-use Rattle.disk_rules.specs.Volume.{extents, inode, Volume}
+use Rattle.oplog_tail.specs.disk_rules.Rules.{AreApart, file_blocks_of}
+use Rattle.oplog_tail.specs.disk_rules.Volume.{extents, inode, Volume}
 use Rattle.extent_facts.specs.Covers.{covers-disk_at}
 use Rattle.write_ends.specs.job_facts.Blocks.{AreOut}
 use Rattle.list_facts.specs.Members.{In}
 use Rattle.posix_types.specs.declared.item.Item.{Item}
-use Rattle.posix_spec.specs.Run.{Begun}
-use Rattle.posix_spec.specs.State.{State}
+use Rattle.lost_devices.specs.posix_spec.Run.{Begun}
+use Rattle.lost_devices.specs.posix_spec.State.{State}
 use Rattle.lost_devices.specs.volume_uses.OwnerLaws.{IsOnePlace, one_owner}
 use Rattle.lost_devices.specs.volume_uses.PoolLaws.{covered-in_data}
 use Rattle.log_checkpoint.specs.world_promise.Lent.{once_named}

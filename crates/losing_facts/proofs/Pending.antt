@@ -1,11 +1,11 @@
 -- The job that ends among those that are out, and its loans.
 use Rattle.disk_lines.specs.declared.Draft.{Draft}
 use Rattle.disk_lines.specs.declared.Kind.TheVariants.{Staging}
-use Rattle.disk_rules.specs.Volume.{Volume, free_inode, inode}
+use Rattle.oplog_tail.specs.disk_rules.Volume.{Volume, free_inode, inode}
 use Rattle.list_facts.specs.Members.{In}
 use Rattle.pm_words.specs.Parts.{Part}
 use Rattle.pm_words.specs.Words.{Words}
-use Rattle.posix_spec.specs.State.{State}
+use Rattle.lost_devices.specs.posix_spec.State.{State}
 use Rattle.posix_types.specs.declared.call.Who.{Who}
 use Rattle.posix_words.specs.Open.{same_who}
 use Rattle.std.proofs.Common.{Bool, List, Some, [], ap, arith, cond, false, inl, inr, length, not, refl, subst, suc, sym, true, zero, ℕ, ◌++◌, ◌<◌, ◌∙◌, ◌∷◌, ◌≡◌, ◌⊎◌}
@@ -16,7 +16,7 @@ use Rattle.write_ends.specs.world_lent.world_rules.Jobs.{ApartFrom, AreApartJobs
 use Rattle.write_ends.specs.world_standing.Standing.{AreJobsOf, AreOfTwoThreads, HasItsBlocks, Pending}
 use Rattle.write_ends.specs.world_standing.Views.{without}
 use Rattle.log_checkpoint.specs.posix_frames.Handles.{same_who-sym}
-use Rattle.write_jobs.specs.Jobs.{FilledView, blocks_of, loan_at}
+use Rattle.write_ends.specs.write_jobs.Jobs.{FilledView, blocks_of, loan_at}
 
 -- the first one and those behind it
 two_of : (p : Pending) (pending : List Pending) (q : Pending) → AllPairs AreOfTwoThreads (p ∷ pending) → In q pending → AreOfTwoThreads p q

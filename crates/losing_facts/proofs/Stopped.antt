@@ -6,12 +6,12 @@ use Rattle.pm_words.specs.Images.{IsImage}
 use Rattle.pm_words.specs.Words.{Words}
 use Rattle.disk_places.specs.Journal.{IsSound}
 use Rattle.disk_places.specs.Places.{Geometry}
-use Rattle.disk_rules.specs.Volume.{inode, Volume}
+use Rattle.oplog_tail.specs.disk_rules.Volume.{inode, Volume}
 use Rattle.file_overlay.specs.declared.runs.Run.{Run}
-use Rattle.file_table.specs.Files.{Files, runs_in, size_in}
+use Rattle.log_checkpoint.specs.file_table.Files.{Files, runs_in, size_in}
 use Rattle.log_checkpoint.specs.fsync_relink.Publishes.{AreRelinked, IsPublishStopped, IsRelinkedUpTo, move_of, size_before}
-use Rattle.k_journal.specs.declared.outcomes.Commit.{Commit}
-use Rattle.k_rules.specs.View.{View}
+use Rattle.lost_devices.specs.k_journal.declared.outcomes.Commit.{Commit}
+use Rattle.lost_devices.specs.k_rules.View.{View}
 use Rattle.lost_devices.specs.k_split.Answers.{IsOff}
 use Rattle.lost_devices.specs.k_split.Laps.{IsBaseAnswer, next_base}
 use Rattle.lost_devices.specs.k_split.MapChanges.{IsGivenUpWith, IsMapAnswer, IsMovedWith, IsSizedWith}
@@ -24,7 +24,7 @@ use Rattle.log_checkpoint.specs.staging_files.GivesUp.{AreCutOff, AreGivenUp}
 use Rattle.log_checkpoint.specs.staging_files.Keeps.{Staged}
 use Rattle.write_ends.specs.world_images.Changed.{sound_headed}
 use Rattle.losing_facts.specs.Stops.{KeepsGatheredOut, KeepsOut, KeepsPublishedOut, LeavesStopped}
-use Rattle.map_rules.specs.declared.moves.Move.{Move}
+use Rattle.lost_devices.specs.map_rules.declared.moves.Move.{Move}
 
 -- ---- the same words
 

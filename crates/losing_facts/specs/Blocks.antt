@@ -4,7 +4,7 @@ use Rattle.pm_words.specs.declared.Cell.{Cell}
 use Rattle.pm_words.specs.Cells.{cell, is_lent, unmarked}
 use Rattle.pm_words.specs.Parts.{Part}
 use Rattle.disk_lines.specs.declared.Draft.{Draft}
-use Rattle.disk_rules.specs.Volume.{Volume}
+use Rattle.oplog_tail.specs.disk_rules.Volume.{Volume}
 use Rattle.list_facts.specs.Members.{In}
 use Rattle.log_checkpoint.specs.world_rules.Jobs.{IsStagedIn}
 

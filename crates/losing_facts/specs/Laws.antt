@@ -7,21 +7,21 @@ use Rattle.pm_words.specs.Words.{Words}
 use Rattle.write_ends.specs.block_loans.Loans.{AreApart, ComeBack}
 use Rattle.disk_lines.specs.declared.Draft.{Draft}
 use Rattle.disk_places.specs.Places.{Geometry}
-use Rattle.disk_rules.specs.Volume.{Volume}
-use Rattle.k_rules.specs.View.{View}
+use Rattle.oplog_tail.specs.disk_rules.Volume.{Volume}
+use Rattle.lost_devices.specs.k_rules.View.{View}
 use Rattle.list_facts.specs.Members.{In}
 use Rattle.lost_devices.specs.Left.{IsLeftOf}
 use Rattle.posix_types.specs.declared.call.Mode.{Mode}
 use Rattle.posix_types.specs.declared.item.Item.{Item}
 use Rattle.posix_words.specs.Open.{Tables}
-use Rattle.posix_spec.specs.Run.{Begun, run}
-use Rattle.posix_spec.specs.State.{State}
+use Rattle.lost_devices.specs.posix_spec.Run.{Begun, run}
+use Rattle.lost_devices.specs.posix_spec.State.{State}
 use Rattle.write_ends.specs.world_images.Promised.{IsKept}
 use Rattle.write_ends.specs.world_lent.Back.{IsPutBack}
 use Rattle.write_ends.specs.world_standing.Standing.{IsSpellable, Kept, Pending, StandsAt}
 use Rattle.write_ends.specs.Ends.{IsOut}
 use Rattle.write_ends.specs.Lost.{begun_by}
-use Rattle.write_jobs.specs.Jobs.{FilledView, HoldWords, blocks_of}
+use Rattle.write_ends.specs.write_jobs.Jobs.{FilledView, HoldWords, blocks_of}
 use Rattle.losing_facts.specs.Blocks.{AreBlocksHome, AreBlocksOut, ComeHome}
 use Rattle.losing_facts.specs.Lost.{IsLostWith}
 

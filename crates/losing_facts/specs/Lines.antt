@@ -5,13 +5,13 @@ use Rattle.pm_words.specs.Parts.{Part}
 use Rattle.pm_words.specs.Words.{Words}
 use Rattle.disk_lines.specs.declared.Draft.{Draft}
 use Rattle.disk_places.specs.Places.{log_line}
-use Rattle.disk_rules.specs.LogRule.{HoldsEntry, IsAsAtFirst}
-use Rattle.disk_rules.specs.Volume.{Volume}
+use Rattle.oplog_tail.specs.disk_rules.LogRule.{HoldsEntry, IsAsAtFirst}
+use Rattle.oplog_tail.specs.disk_rules.Volume.{Volume}
 use Rattle.lost_devices.specs.k_split.LogLines.{AreLogLines}
-use Rattle.lines_out.specs.Lines.{line_at}
+use Rattle.lost_devices.specs.lines_out.Lines.{line_at}
 use Rattle.list_facts.specs.Members.{In}
 use Rattle.oplog_tail.specs.EntryLines.{entry_words, IsPutOver}
-use Rattle.write_jobs.specs.Jobs.{FilledView}
+use Rattle.write_ends.specs.write_jobs.Jobs.{FilledView}
 
 -- the words that line n of the log had when the lap began
 abbrev pub first_at : Volume → Words → ℕ → Words

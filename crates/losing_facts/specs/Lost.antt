@@ -6,14 +6,14 @@ use Rattle.pm_words.specs.Images.{IsImage}
 use Rattle.pm_words.specs.Words.{Words}
 use Rattle.disk_places.specs.Journal.{IsSound, journaled}
 use Rattle.disk_lines.specs.declared.Draft.{Draft}
-use Rattle.disk_rules.specs.Volume.{Volume}
+use Rattle.oplog_tail.specs.disk_rules.Volume.{Volume}
 use Rattle.write_ends.specs.flight_facts.Flying.{IsOut}
 use Rattle.write_ends.specs.job_facts.Blocks.{AreOut}
 use Rattle.list_facts.specs.Members.{In}
 use Rattle.posix_types.specs.declared.item.Item.{Item}
-use Rattle.posix_puts.specs.Puts.{PutsWhole}
-use Rattle.posix_spec.specs.Run.{Begun, run}
-use Rattle.posix_spec.specs.State.{State}
+use Rattle.log_checkpoint.specs.posix_puts.Puts.{PutsWhole}
+use Rattle.lost_devices.specs.posix_spec.Run.{Begun, run}
+use Rattle.lost_devices.specs.posix_spec.State.{State}
 use Rattle.write_ends.specs.world_images.Promised.{IsKept}
 use Rattle.write_ends.specs.world_lent.Back.{IsPutBack}
 use Rattle.log_checkpoint.specs.world_rules.Jobs.{HoldsWhole, Job}

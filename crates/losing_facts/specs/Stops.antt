@@ -4,15 +4,15 @@ use Rattle.pm_words.specs.declared.Cell.{Cell}
 use Rattle.pm_words.specs.Frames.{SameLent}
 use Rattle.disk_places.specs.Places.{Geometry}
 use Rattle.file_overlay.specs.declared.runs.Run.{Run}
-use Rattle.file_table.specs.Files.{Files}
+use Rattle.log_checkpoint.specs.file_table.Files.{Files}
 use Rattle.log_checkpoint.specs.fsync_relink.Publishes.{IsPublishDone, IsPublishStopped}
-use Rattle.k_journal.specs.declared.outcomes.Commit.{Commit}
-use Rattle.k_rules.specs.View.{View}
+use Rattle.lost_devices.specs.k_journal.declared.outcomes.Commit.{Commit}
+use Rattle.lost_devices.specs.k_rules.View.{View}
 use Rattle.lost_devices.specs.k_split.declared.faults.KFault.{KFault}
 use Rattle.log_checkpoint.specs.Gathers.{IsGatherAnswer}
 use Rattle.lost_devices.specs.Left.{IsLeftOf}
 use Rattle.posix_words.specs.Open.{Tables}
-use Rattle.posix_spec.specs.State.{State}
+use Rattle.lost_devices.specs.posix_spec.State.{State}
 use Rattle.log_checkpoint.specs.staging_files.Keeps.{Staged}
 use Rattle.write_ends.specs.world_standing.Standing.{Kept, StandsAt}
 

@@ -57,5 +57,6 @@ pub fn publishing_leaves_what_is_out()
     ensures gathered { KeepsGatheredOut }
 {}
 
+pub use oplog_tail;
 pub use write_ends;
 pub use write_ends::block_loans;

@@ -7,7 +7,7 @@ use Rattle.pm_words.specs.Images.{IsImage}
 use Rattle.pm_words.specs.Words.{Words}
 use Rattle.disk_places.specs.Journal.{IsSound}
 use Rattle.disk_places.specs.Places.{Geometry}
-use Rattle.disk_rules.specs.Volume.{Volume}
+use Rattle.k_split.specs.disk_rules.Volume.{Volume}
 use Rattle.lost_devices.specs.Left.{IsLeftOf, LeavesCut, LeavesMapCut, LeavesOverwritten}
 
 -- nothing was done to it

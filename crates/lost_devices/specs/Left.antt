@@ -6,8 +6,8 @@ use Rattle.pm_words.specs.Images.{IsImage}
 use Rattle.pm_words.specs.Words.{Words}
 use Rattle.disk_places.specs.Journal.{IsSound}
 use Rattle.disk_places.specs.Places.{Geometry}
-use Rattle.disk_rules.specs.Volume.{Volume}
-use Rattle.k_rules.specs.View.{View}
+use Rattle.k_split.specs.disk_rules.Volume.{Volume}
+use Rattle.k_split.specs.k_rules.View.{View}
 use Rattle.k_split.specs.Answers.{IsCut}
 use Rattle.k_split.specs.Bytes.{IsOverwriteCut}
 use Rattle.k_split.specs.MapChanges.{IsMapCut}

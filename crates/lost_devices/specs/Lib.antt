@@ -1,3 +1,10 @@
 pub mod Left
 pub use Rattle.k_split.specs as k_split
 pub use Rattle.k_split.specs.volume_uses as volume_uses
+pub use Rattle.k_split.specs.disk_rules as disk_rules
+pub use Rattle.k_split.specs.k_journal as k_journal
+pub use Rattle.k_split.specs.k_rules as k_rules
+pub use Rattle.k_split.specs.lines_out as lines_out
+pub use Rattle.k_split.specs.map_rules as map_rules
+pub use Rattle.k_split.specs.posix_spec as posix_spec
+pub use Rattle.k_split.specs.volume_facts as volume_facts

@@ -19,3 +19,4 @@ pub fn cuts_leave_devices()
 {}
 
 pub use k_split;
+pub use k_split::k_journal;

@@ -7,18 +7,18 @@ use Rattle.std.proofs.lemmas.List.{get_or-set_other, get_or-set_same, get_or_pas
 use Rattle.block_counts.specs.Counts.{blocks_for}
 use Rattle.disk_lines.specs.declared.Inode.{Inode}
 use Rattle.disk_lines.specs.declared.Kind.TheVariants.{File, Staging}
-use Rattle.disk_rules.specs.Volume.{extents, free_inode, inode, Volume}
+use Rattle.file_ends.specs.disk_rules.Volume.{extents, free_inode, inode, Volume}
 use Rattle.extent_words.specs.declared.Extent.{Extent}
 use Rattle.extent_words.specs.Extents.{disk_at, is_within}
 use Rattle.extent_words.specs.Maps.{IsPart}
 use Rattle.file_overlay.specs.declared.runs.Run.{Run}
-use Rattle.file_table.specs.Files.{Files, size_in}
+use Rattle.file_ends.specs.file_table.Files.{Files, size_in}
 use Rattle.log_checkpoint.specs.fsync_relink.Publishes.{AreRelinked, IsPublishDone, move_of, size_before}
-use Rattle.k_rules.specs.View.{View}
+use Rattle.file_ends.specs.k_rules.View.{View}
 use Rattle.list_facts.specs.Members.{In}
-use Rattle.map_rules.specs.Changes.{aged, given_up, IsMoved, IsPreallocated, IsSized, with_length, with_size}
-use Rattle.map_rules.specs.declared.moves.Move.{Move}
-use Rattle.map_rules.specs.Taken.{switched, with_map}
+use Rattle.file_ends.specs.map_rules.Changes.{aged, given_up, IsMoved, IsPreallocated, IsSized, with_length, with_size}
+use Rattle.file_ends.specs.map_rules.declared.moves.Move.{Move}
+use Rattle.file_ends.specs.map_rules.Taken.{switched, with_map}
 use Rattle.log_checkpoint.specs.staging_files.GivesUp.{AreGivenUp}
 use Rattle.log_checkpoint.specs.staging_files.k_split.MapChanges.{is_free_in}
 

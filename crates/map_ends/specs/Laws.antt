@@ -3,14 +3,14 @@ use Rattle.std.specs.Prelude.{◌≡◌, ◌≤◌, ◌<◌, ℕ, [], ◌∷◌,
 use Rattle.block_counts.specs.Counts.{blocks_for}
 use Rattle.disk_lines.specs.declared.Draft.{Draft}
 use Rattle.disk_lines.specs.declared.Kind.TheVariants.{File}
-use Rattle.disk_rules.specs.Volume.{extents, inode, Volume}
+use Rattle.file_ends.specs.disk_rules.Volume.{extents, inode, Volume}
 use Rattle.extent_words.specs.Extents.{disk_at}
 use Rattle.file_ends.specs.Ends.{DraftEnds, FilesEnd}
 use Rattle.file_overlay.specs.declared.runs.Run.{Run}
-use Rattle.file_table.specs.Files.{ChangesFile, Files, runs_in, size_in}
+use Rattle.file_ends.specs.file_table.Files.{ChangesFile, Files, runs_in, size_in}
 use Rattle.log_checkpoint.specs.fsync_relink.Publishes.{IsPublishDone}
-use Rattle.k_journal.specs.declared.outcomes.Commit.{Commit}
-use Rattle.k_rules.specs.View.{View}
+use Rattle.file_ends.specs.k_journal.declared.outcomes.Commit.{Commit}
+use Rattle.file_ends.specs.k_rules.View.{View}
 use Rattle.log_checkpoint.specs.k_plans.Whole.{IsWhole}
 use Rattle.log_checkpoint.specs.Gathers.{IsGatherAnswer}
 use Rattle.log_checkpoint.specs.staging_files.declared.runs.StageFault.{StageFault}

@@ -19,3 +19,6 @@ pub fn files_end_after_changes_of_maps()
     ensures reserved { EndReserved }
     ensures laid { EndLaid }
 {}
+
+pub use file_ends::{file_table, image_layout, k_journal};
+pub use log_checkpoint::{lines_out, staging_files};

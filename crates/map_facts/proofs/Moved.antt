@@ -12,13 +12,13 @@ use Rattle.disk_lines.specs.declared.Draft.{Draft}
 use Rattle.disk_lines.specs.declared.Inode.{Inode}
 use Rattle.disk_lines.specs.declared.Kind.{Kind}
 use Rattle.disk_lines.specs.declared.Kind.TheVariants.{Staging}
-use Rattle.disk_rules.specs.Reading.{Reads}
-use Rattle.disk_rules.specs.Rules.{file_blocks_of, IsInData}
-use Rattle.disk_rules.specs.Volume.{chain, extents, inode, Volume}
-use Rattle.map_rules.specs.Changes.{IsMoved, with_length}
-use Rattle.map_rules.specs.Taken.{switched, with_map}
-use Rattle.chain_facts.specs.ChainLaws.{length-blocks_from}
-use Rattle.volume_facts.specs.Changes.{chain-set_other, extents-set_other, extents-set_same, inode-set_other, inode-set_same}
+use Rattle.block_bytes.specs.disk_rules.Reading.{Reads}
+use Rattle.block_bytes.specs.disk_rules.Rules.{file_blocks_of, IsInData}
+use Rattle.block_bytes.specs.disk_rules.Volume.{chain, extents, inode, Volume}
+use Rattle.block_bytes.specs.map_rules.Changes.{IsMoved, with_length}
+use Rattle.block_bytes.specs.map_rules.Taken.{switched, with_map}
+use Rattle.volume_maps.specs.chain_facts.ChainLaws.{length-blocks_from}
+use Rattle.volume_maps.specs.volume_facts.Changes.{chain-set_other, extents-set_other, extents-set_same, inode-set_other, inode-set_same}
 use Rattle.volume_maps.specs.Lengths.{chain-left, chain-linked}
 use Rattle.volume_maps.specs.Shorts.{AreBelow}
 use Rattle.world_room.specs.world_rules.Stands.{IsSane}

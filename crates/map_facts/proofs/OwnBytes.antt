@@ -6,10 +6,10 @@ use Rattle.block_bytes.specs.Overwrites.{IsBeside, IsOverwritten, IsOverwrittenW
 use Rattle.extent_words.specs.Extents.{disk_at}
 use Rattle.extent_facts.specs.Covers.{covers-disk_at}
 use Rattle.disk_places.specs.Places.{is_data_block}
-use Rattle.disk_rules.specs.Content.{byte_in}
-use Rattle.disk_rules.specs.Kept.{AreKept}
-use Rattle.disk_rules.specs.Rules.{file_blocks_of, IsNamedOnce}
-use Rattle.disk_rules.specs.Volume.{extents, inode, Volume}
+use Rattle.block_bytes.specs.disk_rules.Content.{byte_in}
+use Rattle.block_bytes.specs.disk_rules.Kept.{AreKept}
+use Rattle.block_bytes.specs.disk_rules.Rules.{file_blocks_of, IsNamedOnce}
+use Rattle.block_bytes.specs.disk_rules.Volume.{extents, inode, Volume}
 use Rattle.world_room.specs.name_facts.KeptLaws.{HasAllLines}
 use Rattle.world_room.specs.volume_uses.OwnerLaws.{one_owner}
 use Rattle.world_room.specs.volume_uses.PoolLaws.{covered-in_data}

@@ -3,9 +3,9 @@ use Rattle.std.specs.Prelude.{◌≡◌, ◌⊎◌, ◌<◌, ◌≤◌, ◌+◌,
 use Rattle.pm_words.specs.Words.{Words}
 use Rattle.block_bytes.specs.Overwrites.{IsOverwritten, IsOverwrittenWhole}
 use Rattle.extent_words.specs.Extents.{disk_at}
-use Rattle.disk_rules.specs.Content.{byte_in}
-use Rattle.disk_rules.specs.Kept.{AreKept}
-use Rattle.disk_rules.specs.Volume.{extents, Volume}
+use Rattle.block_bytes.specs.disk_rules.Content.{byte_in}
+use Rattle.block_bytes.specs.disk_rules.Kept.{AreKept}
+use Rattle.block_bytes.specs.disk_rules.Volume.{extents, Volume}
 use Rattle.world_room.specs.name_facts.KeptLaws.{HasAllLines}
 
 -- byte p of an inode, where the words are these; 0 of a hole

@@ -7,10 +7,10 @@ use Rattle.extent_words.specs.declared.Extent.{Extent}
 use Rattle.extent_words.specs.Extents.{IsCanonical}
 use Rattle.disk_lines.specs.declared.Draft.{Draft}
 use Rattle.disk_lines.specs.declared.Kind.TheVariants.{Staging}
-use Rattle.disk_rules.specs.Reading.{Reads}
-use Rattle.disk_rules.specs.Volume.{chain, extents, inode, Volume}
-use Rattle.map_rules.specs.declared.moves.Move.{Move}
-use Rattle.map_rules.specs.Changes.{IsMoved}
+use Rattle.block_bytes.specs.disk_rules.Reading.{Reads}
+use Rattle.block_bytes.specs.disk_rules.Volume.{chain, extents, inode, Volume}
+use Rattle.block_bytes.specs.map_rules.declared.moves.Move.{Move}
+use Rattle.block_bytes.specs.map_rules.Changes.{IsMoved}
 use Rattle.world_room.specs.world_rules.Stands.{IsSane}
 use Rattle.world_room.specs.world_runs.Relinks.{Relinks}
 use Rattle.world_room.specs.Laws.{GrowsLittle}

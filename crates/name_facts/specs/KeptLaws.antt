@@ -10,11 +10,11 @@ use Rattle.disk_lines.specs.Names.{row, is_entry, is_child, names_of, parent_of,
 use Rattle.disk_lines.specs.TableLaws.{is_entry-parts, is_child-parts, NamingLine-parent_of}
 use Rattle.disk_lines.specs.Tables.{IsKeyed, IsAcyclic}
 use Rattle.disk_lines.specs.UpLaws.{up-past}
-use Rattle.disk_rules.specs.Kept.{IsNamedRow, AreKept}
-use Rattle.disk_rules.specs.Live.{is_file, is_directory}
-use Rattle.disk_rules.specs.Reading.{Reads}
-use Rattle.disk_rules.specs.Rules.{IsNamed, IsPlaced, IsRowPlaced}
-use Rattle.disk_rules.specs.Volume.{Volume, free_inode, inode}
+use Rattle.volume_facts.specs.disk_rules.Kept.{IsNamedRow, AreKept}
+use Rattle.volume_facts.specs.disk_rules.Live.{is_file, is_directory}
+use Rattle.volume_facts.specs.disk_rules.Reading.{Reads}
+use Rattle.volume_facts.specs.disk_rules.Rules.{IsNamed, IsPlaced, IsRowPlaced}
+use Rattle.volume_facts.specs.disk_rules.Volume.{Volume, free_inode, inode}
 use Rattle.name_facts.specs.Forests.{EndsUpwards, IsForest}
 use Rattle.name_facts.specs.ForestLaws.{forest-acyclic, up-parent, up-top}
 use Rattle.name_facts.specs.RowLaws.{row-below, names_of-none}

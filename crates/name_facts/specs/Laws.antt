@@ -4,8 +4,8 @@ use Rattle.std.specs.List.{count_by}
 use Rattle.disk_lines.specs.Lines.{NameRow}
 use Rattle.disk_lines.specs.Names.{Rows, row, is_entry, is_free_row, find_name, child_named, names_of, has_entries, parent_of, up, walk}
 use Rattle.disk_lines.specs.Tables.{IsKeyed, IsAcyclic}
-use Rattle.disk_rules.specs.Kept.{AreKept}
-use Rattle.disk_rules.specs.Volume.{Volume}
+use Rattle.volume_facts.specs.disk_rules.Kept.{AreKept}
+use Rattle.volume_facts.specs.disk_rules.Volume.{Volume}
 use Rattle.name_facts.specs.Forests.{IsForest, SameAbove, MeetsFirst}
 use Rattle.name_facts.specs.KeptLaws.{HasAllLines}
 use Rattle.volume_facts.specs.Lists.{one_if}

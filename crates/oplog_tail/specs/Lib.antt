@@ -7,3 +7,4 @@ pub mod Seats
 pub mod Logs
 pub mod Answers
 pub mod Closing
+pub use Rattle.disk_rules.specs as disk_rules

@@ -7,11 +7,11 @@ use Rattle.std.proofs.lemmas.Grind.{same_number_lists}
 use Rattle.std.proofs.lemmas.List.{get_or-drop, get_or-take, length-drop, length-take, map-append, reverse-append}
 use Rattle.std.proofs.lemmas.List.Folds.{find-append}
 use Rattle.std.proofs.lemmas.List.FromFn.{get_or-map-range_with_len, length-map-range_with_len}
-use Rattle.data_route.specs.Reads.{read_len, source_by, source_of}
+use Rattle.file_reads.specs.data_route.Reads.{read_len, source_by, source_of}
 use Rattle.disk_lines.specs.declared.Draft.{Draft}
-use Rattle.disk_rules.specs.Content.{byte_in, disk_by, entry_of_block, size_by}
-use Rattle.disk_rules.specs.Live.{later_of, latest}
-use Rattle.disk_rules.specs.Volume.{extents, inode, Volume}
+use Rattle.world_promise.specs.disk_rules.Content.{byte_in, disk_by, entry_of_block, size_by}
+use Rattle.world_promise.specs.disk_rules.Live.{later_of, latest}
+use Rattle.world_promise.specs.disk_rules.Volume.{extents, inode, Volume}
 use Rattle.extent_words.specs.Extents.{disk_at, is_within}
 use Rattle.file_overlay.specs.declared.runs.Run.{Run}
 use Rattle.file_overlay.specs.Runs.{has_block, last_run, place_in}

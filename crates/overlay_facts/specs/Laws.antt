@@ -1,10 +1,10 @@
 -- The laws of overlays and entries, each as one statement.
 use Rattle.std.specs.Prelude.{◌≡◌, ◌≢◌, ℕ, List, [], ◌∷◌, ◌++◌}
 use Rattle.pm_words.specs.Words.{Words}
-use Rattle.data_route.specs.Reads.{read_len}
+use Rattle.file_reads.specs.data_route.Reads.{read_len}
 use Rattle.disk_lines.specs.declared.Draft.{Draft}
-use Rattle.disk_rules.specs.Content.{disk_of}
-use Rattle.disk_rules.specs.Volume.{inode, Volume}
+use Rattle.world_promise.specs.disk_rules.Content.{disk_of}
+use Rattle.world_promise.specs.disk_rules.Volume.{inode, Volume}
 use Rattle.file_overlay.specs.declared.runs.Run.{Run}
 use Rattle.file_reads.specs.Reads.{block_in, bytes_in}
 use Rattle.posix_words.specs.Bytes.{bytes_from}

@@ -1,8 +1,8 @@
 -- The overlay of a file beside the live entries of the log.
 use Rattle.std.specs.Prelude.{◌≡◌, ℕ, List, map}
 use Rattle.disk_lines.specs.declared.Draft.{Draft}
-use Rattle.disk_rules.specs.Content.{size_of}
-use Rattle.disk_rules.specs.Volume.{Volume}
+use Rattle.world_promise.specs.disk_rules.Content.{size_of}
+use Rattle.world_promise.specs.disk_rules.Volume.{Volume}
 use Rattle.file_overlay.specs.declared.runs.Run.{Run}
 use Rattle.world_promise.specs.world_rules.Stands.{entries_of}
 

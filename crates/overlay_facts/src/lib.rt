@@ -20,3 +20,4 @@ pub fn the_overlay_is_the_log()
 {}
 
 pub use file_reads;
+pub use file_reads::map_collection;

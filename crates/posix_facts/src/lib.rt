@@ -16,3 +16,5 @@ pub fn states_stay_sound()
     ensures fits { FitsAlways }
     ensures distinct { IsDistinctAlways }
 {}
+
+pub use posix_spec;

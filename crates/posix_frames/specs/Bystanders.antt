@@ -16,9 +16,9 @@ use Rattle.posix_words.specs.NameRows.{rmdir_rows}
 use Rattle.posix_words.specs.Names.{directory_stands, file_stands, is_named, node_at_path, number_at}
 use Rattle.posix_words.specs.Nodes.{is_directory, node_at}
 use Rattle.posix_words.specs.Open.{describes, is_open, Tables}
-use Rattle.posix_spec.specs.State.{alone, made, space, State, swept, unnamed, with_node}
-use Rattle.posix_spec.specs.Step.{mkdir_done, rename_done, renamed, rmdir_done, step, unlink_done}
-use Rattle.posix_facts.specs.RowLaws.{no_row, none_fits, stepped-keeps}
+use Rattle.posix_puts.specs.posix_spec.State.{alone, made, space, State, swept, unnamed, with_node}
+use Rattle.posix_puts.specs.posix_spec.Step.{mkdir_done, rename_done, renamed, rmdir_done, step, unlink_done}
+use Rattle.posix_puts.specs.posix_facts.RowLaws.{no_row, none_fits, stepped-keeps}
 use Rattle.posix_frames.specs.Handles.{Opens, slot_of}
 
 -- The file of a node, and that someone has it open.

@@ -9,11 +9,11 @@ use Rattle.posix_words.specs.declared.nodes.Node.{Node}
 use Rattle.posix_words.specs.declared.open.Description.{Description}
 use Rattle.posix_words.specs.Nodes.{node_at}
 use Rattle.posix_words.specs.Open.{opened}
-use Rattle.posix_spec.specs.FileRows.{write_start}
-use Rattle.posix_spec.specs.Put.{Put, put_at, put_by}
-use Rattle.posix_spec.specs.Run.{after_call, Begun}
-use Rattle.posix_spec.specs.State.{room, State}
-use Rattle.posix_facts.specs.RowLaws.{put_at-Some}
+use Rattle.posix_puts.specs.posix_spec.FileRows.{write_start}
+use Rattle.posix_puts.specs.posix_spec.Put.{Put, put_at, put_by}
+use Rattle.posix_puts.specs.posix_spec.Run.{after_call, Begun}
+use Rattle.posix_puts.specs.posix_spec.State.{room, State}
+use Rattle.posix_puts.specs.posix_facts.RowLaws.{put_at-Some}
 use Rattle.posix_puts.specs.Puts.{PutsWhole}
 use Rattle.posix_puts.specs.ViewLaws.{need_of-kept, PutsWhole-kept}
 use Rattle.posix_puts.specs.Views.{KeepsView, need_of, SameView}

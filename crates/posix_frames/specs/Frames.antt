@@ -18,11 +18,11 @@ use Rattle.posix_words.specs.Names.{exists_at, is_named, node_at_path, number_at
 use Rattle.posix_words.specs.Nodes.{node_at}
 use Rattle.posix_words.specs.Outcomes.{first}
 use Rattle.posix_words.specs.Open.{is_full, is_open, key_of, opened, same_who, Tables, with_offset}
-use Rattle.posix_spec.specs.FileRows.{close_rows, dup_rows, file_number, fsync_rows, read_rows, seek_rows, truncate_rows, write_start}
-use Rattle.posix_spec.specs.Run.{Begun}
-use Rattle.posix_spec.specs.State.{alone, made, space, State, swept, with_file, with_node, with_published}
-use Rattle.posix_spec.specs.Step.{close_done, dup_done, empty_file, fsync_done, is_busy as is_elsewhere, list_done, moved_offset, open_done, opening, pread_done, pwrite_done, read_done, seek_done, stat_done, step, truncate_done, write_done, written}
-use Rattle.posix_facts.specs.RowLaws.{Accepts-from_rows, no_row, none_fits, stepped-keeps}
+use Rattle.posix_puts.specs.posix_spec.FileRows.{close_rows, dup_rows, file_number, fsync_rows, read_rows, seek_rows, truncate_rows, write_start}
+use Rattle.posix_puts.specs.posix_spec.Run.{Begun}
+use Rattle.posix_puts.specs.posix_spec.State.{alone, made, space, State, swept, with_file, with_node, with_published}
+use Rattle.posix_puts.specs.posix_spec.Step.{close_done, dup_done, empty_file, fsync_done, is_busy as is_elsewhere, list_done, moved_offset, open_done, opening, pread_done, pwrite_done, read_done, seek_done, stat_done, step, truncate_done, write_done, written}
+use Rattle.posix_puts.specs.posix_facts.RowLaws.{Accepts-from_rows, no_row, none_fits, stepped-keeps}
 use Rattle.crash_spec.specs.Busy.{handle_node, is_busy, keeps_busy, Out, path_node, waits_for}
 use Rattle.posix_frames.specs.Bystanders.{file_within, IsHeld, KeepsFile, KeepsFile-mkdir, KeepsFile-none, KeepsFile-rename, KeepsFile-rmdir, KeepsFile-unlink, kept-made, kept-with_node, not_not}
 use Rattle.posix_frames.specs.Handles.{Opens, Opens-closed, Opens-with_descriptor, Opens-with_offset, Opens-with_opened}

@@ -3,8 +3,8 @@ use Rattle.std.specs.Prelude.{◌≡◌, false, List, [], ◌∷◌, map, refl}
 use Rattle.std.proofs.Common.{ap, ◌∙◌, inl, inr}
 use Rattle.list_facts.specs.Members.{In}
 use Rattle.posix_types.specs.declared.item.Item.{Item}
-use Rattle.posix_spec.specs.Run.{after_call, begun, Begun, run}
-use Rattle.posix_spec.specs.State.{State}
+use Rattle.posix_puts.specs.posix_spec.Run.{after_call, begun, Begun, run}
+use Rattle.posix_puts.specs.posix_spec.State.{State}
 use Rattle.posix_puts.specs.Views.{AreAfforded}
 use Rattle.crash_spec.specs.Busy.{is_busy, Out}
 use Rattle.posix_frames.specs.Frames.{AreThreads, LeavesAlone-idle}

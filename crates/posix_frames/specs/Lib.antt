@@ -7,3 +7,7 @@ pub mod Rooms
 pub mod Needs
 pub mod Histories
 pub mod Laws
+pub use Rattle.crash_spec.specs as crash_spec
+pub use Rattle.posix_puts.specs as posix_puts
+pub use Rattle.posix_puts.specs.posix_facts as posix_facts
+pub use Rattle.posix_puts.specs.posix_spec as posix_spec

@@ -4,9 +4,9 @@ use Rattle.std.proofs.Common.{arith, ◌∙◌, sym, subst}
 use Rattle.std.proofs.lemmas.List.Sums.{sum_by-cons}
 use Rattle.posix_types.specs.declared.call.Call.{Call}
 use Rattle.posix_types.specs.declared.call.Who.{Who}
-use Rattle.posix_spec.specs.Put.{put_by}
-use Rattle.posix_spec.specs.Run.{after_call, Begun}
-use Rattle.posix_spec.specs.State.{room, State}
+use Rattle.posix_puts.specs.posix_spec.Put.{put_by}
+use Rattle.posix_puts.specs.posix_spec.Run.{after_call, Begun}
+use Rattle.posix_puts.specs.posix_spec.State.{room, State}
 use Rattle.posix_puts.specs.Puts.{PutsWhole}
 use Rattle.posix_puts.specs.Views.{AreAfforded, need_of}
 use Rattle.posix_frames.specs.Flights.{InFlight, InFlight-step, LeavesAlone-put, need_of-step}

@@ -14,12 +14,12 @@ use Rattle.posix_words.specs.Nodes.{bytes_of, node_at, published_node}
 use Rattle.posix_words.specs.Open.{closed, is_open}
 use Rattle.posix_words.specs.Outcomes.{first}
 use Rattle.posix_words.specs.Room.{growth, held}
-use Rattle.posix_spec.specs.FileRows.{content, file_number, truncate_rows, write_rows, write_start}
-use Rattle.posix_spec.specs.Run.{after_call, Begun}
-use Rattle.posix_spec.specs.State.{alone, made, room, space, State, swept, unnamed, with_file, with_node, with_published}
-use Rattle.posix_spec.specs.Step.{close_done, dup_done, empty_file, fsync_done, list_done, mkdir_done, open_done, opening, pread_done, pwrite_done, read_done, rename_done, renamed, rmdir_done, seek_done, stat_done, truncate_done, unlink_done, write_done, written}
-use Rattle.posix_facts.specs.FitsLaws.{length-overwritten, length-resized}
-use Rattle.posix_facts.specs.RowLaws.{stepped-keeps}
+use Rattle.posix_puts.specs.posix_spec.FileRows.{content, file_number, truncate_rows, write_rows, write_start}
+use Rattle.posix_puts.specs.posix_spec.Run.{after_call, Begun}
+use Rattle.posix_puts.specs.posix_spec.State.{alone, made, room, space, State, swept, unnamed, with_file, with_node, with_published}
+use Rattle.posix_puts.specs.posix_spec.Step.{close_done, dup_done, empty_file, fsync_done, list_done, mkdir_done, open_done, opening, pread_done, pwrite_done, read_done, rename_done, renamed, rmdir_done, seek_done, stat_done, truncate_done, unlink_done, write_done, written}
+use Rattle.posix_puts.specs.posix_facts.FitsLaws.{length-overwritten, length-resized}
+use Rattle.posix_puts.specs.posix_facts.RowLaws.{stepped-keeps}
 use Rattle.posix_puts.specs.Views.{need_of}
 
 -- If the call is accepted, what it takes fits beside so many blocks.

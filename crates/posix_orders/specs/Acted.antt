@@ -19,10 +19,10 @@ use Rattle.posix_words.specs.declared.open.Description.{Description}
 use Rattle.posix_words.specs.Names.{exists_at, is_named, last_name, lines_taken, longest_name, number_at, parent_at, with_entry, without_entry, without_place}
 use Rattle.posix_words.specs.Nodes.{is_directory, is_live, node_at}
 use Rattle.posix_words.specs.Open.{closed, describes, description_number, has_key, is_binding, is_open, key_of, next_descriptor, opened, Tables, with_binding, with_descriptor, with_offset, with_opened, without_binding, without_unused}
-use Rattle.posix_spec.specs.FileRows.{file_number}
-use Rattle.posix_spec.specs.State.{alone, made, space, State, swept, unnamed, with_node}
-use Rattle.posix_spec.specs.Step.{empty_file, opening, opening_number, renamed}
-use Rattle.posix_puts.specs.Views.{SameView}
+use Rattle.posix_frames.specs.posix_spec.FileRows.{file_number}
+use Rattle.posix_frames.specs.posix_spec.State.{alone, made, space, State, swept, unnamed, with_node}
+use Rattle.posix_frames.specs.posix_spec.Step.{empty_file, opening, opening_number, renamed}
+use Rattle.posix_frames.specs.posix_puts.Views.{SameView}
 use Rattle.posix_frames.specs.Bystanders.{file_within, swept-open}
 use Rattle.posix_frames.specs.Frames.{file_number-is, KeepsSeen}
 use Rattle.posix_frames.specs.Handles.{closed-is, described, keys_apart, Opens, Opens-opened, opened-Opens, Opens-set, slot_of, with_offset-is}

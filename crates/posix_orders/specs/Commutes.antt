@@ -21,14 +21,14 @@ use Rattle.posix_words.specs.Nodes.{is_directory, node_at, published_node, publi
 use Rattle.posix_words.specs.Open.{closed, is_full, key_of, next_descriptor, opened, with_descriptor, with_offset, with_opened}
 use Rattle.posix_words.specs.Outcomes.{answer, first, idle_row, row, unless}
 use Rattle.posix_words.specs.Room.{growth, write_need}
-use Rattle.posix_spec.specs.FileRows.{close_rows, content, dup_rows, file_number, fsync_rows, no_blocks, offset_of, read_rows, seek_base, seek_rows, seek_target, truncate_rows, write_rows, write_start}
-use Rattle.posix_spec.specs.Run.{Begun}
-use Rattle.posix_spec.specs.State.{alone, room, space, State, swept, unnamed, with_file, with_node, with_published}
-use Rattle.posix_spec.specs.Step.{close_done, done, dup_done, fsync_done, is_busy as is_elsewhere, list_done, mkdir_done, moved_offset, open_done, opening_number, pread_done, pwrite_done, read_done, rename_done, renamed, rmdir_done, seek_done, stat_done, stat_of, step, stepped, Stepped, truncate_done, unlink_done, write_done, written}
-use Rattle.posix_facts.specs.RowLaws.{no_row, none_fits, row-none}
-use Rattle.posix_puts.specs.ViewLaws.{content-same, file_number-same, node-same, write_start-same}
-use Rattle.posix_puts.specs.Views.{need_of, SameView}
-use Rattle.crash_spec.specs.Busy.{handle_node, path_node, waits_for}
+use Rattle.posix_frames.specs.posix_spec.FileRows.{close_rows, content, dup_rows, file_number, fsync_rows, no_blocks, offset_of, read_rows, seek_base, seek_rows, seek_target, truncate_rows, write_rows, write_start}
+use Rattle.posix_frames.specs.posix_spec.Run.{Begun}
+use Rattle.posix_frames.specs.posix_spec.State.{alone, room, space, State, swept, unnamed, with_file, with_node, with_published}
+use Rattle.posix_frames.specs.posix_spec.Step.{close_done, done, dup_done, fsync_done, is_busy as is_elsewhere, list_done, mkdir_done, moved_offset, open_done, opening_number, pread_done, pwrite_done, read_done, rename_done, renamed, rmdir_done, seek_done, stat_done, stat_of, step, stepped, Stepped, truncate_done, unlink_done, write_done, written}
+use Rattle.posix_frames.specs.posix_facts.RowLaws.{no_row, none_fits, row-none}
+use Rattle.posix_frames.specs.posix_puts.ViewLaws.{content-same, file_number-same, node-same, write_start-same}
+use Rattle.posix_frames.specs.posix_puts.Views.{need_of, SameView}
+use Rattle.posix_frames.specs.crash_spec.Busy.{handle_node, path_node, waits_for}
 use Rattle.posix_orders.specs.Acted.{acted, Change, closed-acted, handle-acted, IsSwept, key_of-acted, made-acted, node-acted, opening-acted, opening_number-acted, option_either, renamed-acted, space-acted, swept-acted, Touches, unknown-acted, unnamed-acted, view-acted, with_descriptor-acted, with_offset-acted, with_opened-acted, with_slot}
 use Rattle.posix_frames.specs.Bystanders.{directory_apart, is_open-Opens, no_file, not_not, stands}
 use Rattle.posix_frames.specs.Frames.{AreThreads, granted, IsOpened-from, known, LeavesAlone, other_file, other_number, path_apart}

@@ -17,17 +17,17 @@ use Rattle.posix_words.specs.Nodes.{bytes_of, node_at}
 use Rattle.posix_words.specs.Open.{may_write}
 use Rattle.posix_words.specs.Outcomes.{answer, first, no_space}
 use Rattle.posix_words.specs.Room.{growth, held, staged_below, write_need}
-use Rattle.posix_spec.specs.FileRows.{content, file_number, no_blocks, write_rows, write_start}
-use Rattle.posix_spec.specs.Put.{Put, put_at, put_by}
-use Rattle.posix_spec.specs.Run.{after_call, after_calls, Begun}
-use Rattle.posix_spec.specs.State.{alone, room, State}
-use Rattle.posix_spec.specs.Step.{pwrite_done, step, stepped, write_done}
-use Rattle.posix_facts.specs.FitsLaws.{held_by-le, length-overwritten}
-use Rattle.posix_facts.specs.RowLaws.{NoRow, put_at-Some, rows-from_Accepts}
-use Rattle.posix_puts.specs.PutLaws.{LeavesWhole-step}
-use Rattle.posix_puts.specs.Puts.{LeavesWhole, put_bytes, PutsWhole, with_whole}
-use Rattle.posix_puts.specs.ViewLaws.{content-same, write_start-same}
-use Rattle.posix_puts.specs.Views.{AreAfforded, KeepsView, need_of}
+use Rattle.posix_frames.specs.posix_spec.FileRows.{content, file_number, no_blocks, write_rows, write_start}
+use Rattle.posix_frames.specs.posix_spec.Put.{Put, put_at, put_by}
+use Rattle.posix_frames.specs.posix_spec.Run.{after_call, after_calls, Begun}
+use Rattle.posix_frames.specs.posix_spec.State.{alone, room, State}
+use Rattle.posix_frames.specs.posix_spec.Step.{pwrite_done, step, stepped, write_done}
+use Rattle.posix_frames.specs.posix_facts.FitsLaws.{held_by-le, length-overwritten}
+use Rattle.posix_frames.specs.posix_facts.RowLaws.{NoRow, put_at-Some, rows-from_Accepts}
+use Rattle.posix_frames.specs.posix_puts.PutLaws.{LeavesWhole-step}
+use Rattle.posix_frames.specs.posix_puts.Puts.{LeavesWhole, put_bytes, PutsWhole, with_whole}
+use Rattle.posix_frames.specs.posix_puts.ViewLaws.{content-same, write_start-same}
+use Rattle.posix_frames.specs.posix_puts.Views.{AreAfforded, KeepsView, need_of}
 use Rattle.posix_frames.specs.Flights.{InFlight, KeepsView-call}
 use Rattle.posix_frames.specs.Needs.{AreAfforded-step, AreInFlight, begun_of, FitsBeside-put, Flight, LetsAllBe, LetsAllBe-flight, needs, needs-cons, needs-step}
 use Rattle.posix_orders.specs.Commutes.{below_not}

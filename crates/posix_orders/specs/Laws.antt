@@ -9,14 +9,14 @@ use Rattle.posix_types.specs.declared.tree.TreeEntry.{TreeEntry}
 use Rattle.posix_words.specs.Open.{may_write}
 use Rattle.posix_words.specs.Outcomes.{answer, first, no_space}
 use Rattle.posix_words.specs.Room.{held, write_need}
-use Rattle.posix_spec.specs.FileRows.{content, write_rows}
-use Rattle.posix_spec.specs.Run.{after_call, Begun}
-use Rattle.posix_spec.specs.State.{Fits, room, State}
-use Rattle.posix_spec.specs.Step.{step}
-use Rattle.crash_spec.specs.Strict.{StrictFrom}
-use Rattle.posix_facts.specs.RowLaws.{NoRow}
-use Rattle.posix_puts.specs.Puts.{LeavesWhole, PutsWhole}
-use Rattle.posix_puts.specs.Views.{AreAfforded, KeepsView, need_of}
+use Rattle.posix_frames.specs.posix_spec.FileRows.{content, write_rows}
+use Rattle.posix_frames.specs.posix_spec.Run.{after_call, Begun}
+use Rattle.posix_frames.specs.posix_spec.State.{Fits, room, State}
+use Rattle.posix_frames.specs.posix_spec.Step.{step}
+use Rattle.posix_frames.specs.crash_spec.Strict.{StrictFrom}
+use Rattle.posix_frames.specs.posix_facts.RowLaws.{NoRow}
+use Rattle.posix_frames.specs.posix_puts.Puts.{LeavesWhole, PutsWhole}
+use Rattle.posix_frames.specs.posix_puts.Views.{AreAfforded, KeepsView, need_of}
 use Rattle.posix_orders.specs.Commutes.{takes}
 use Rattle.posix_orders.specs.Counted.{counted, room_beside}
 use Rattle.posix_frames.specs.Flights.{InFlight}

@@ -11,11 +11,11 @@ use Rattle.posix_words.specs.declared.nodes.Node.{Node}
 use Rattle.posix_words.specs.declared.open.Description.{Description}
 use Rattle.posix_words.specs.Open.{Tables}
 use Rattle.posix_words.specs.Room.{held}
-use Rattle.posix_spec.specs.Run.{after_call, Begun}
-use Rattle.posix_spec.specs.State.{Fits, room, State}
-use Rattle.posix_puts.specs.PutLaws.{LeavesWhole-step}
-use Rattle.posix_puts.specs.Puts.{LeavesWhole, PutsWhole, with_whole}
-use Rattle.posix_puts.specs.Views.{KeepsView, need_of}
+use Rattle.posix_frames.specs.posix_spec.Run.{after_call, Begun}
+use Rattle.posix_frames.specs.posix_spec.State.{Fits, room, State}
+use Rattle.posix_frames.specs.posix_puts.PutLaws.{LeavesWhole-step}
+use Rattle.posix_frames.specs.posix_puts.Puts.{LeavesWhole, PutsWhole, with_whole}
+use Rattle.posix_frames.specs.posix_puts.Views.{KeepsView, need_of}
 use Rattle.posix_orders.specs.Acted.{Change}
 use Rattle.posix_orders.specs.Counted.{held-exact, held-put}
 use Rattle.posix_frames.specs.Flights.{InFlight, KeepsView-seen}

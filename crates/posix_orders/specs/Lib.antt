@@ -7,3 +7,5 @@ pub mod Leaves
 pub mod Rows
 pub mod Laws
 pub use Rattle.posix_frames.specs as posix_frames
+pub use Rattle.posix_frames.specs.crash_spec as crash_spec
+pub use Rattle.posix_frames.specs.posix_spec as posix_spec

@@ -4,14 +4,14 @@ use Rattle.std.proofs.Common.{arith, ap, ◌∙◌, sym, subst, inl, inr}
 use Rattle.posix_types.specs.declared.call.Call.{Call}
 use Rattle.posix_types.specs.declared.call.Who.{Who}
 use Rattle.posix_types.specs.declared.tree.TreeEntry.{TreeEntry}
-use Rattle.posix_spec.specs.Put.{put_by}
-use Rattle.posix_spec.specs.Run.{after_call, after_calls, Begun}
-use Rattle.posix_spec.specs.State.{room, State}
-use Rattle.posix_spec.specs.Step.{step}
-use Rattle.crash_spec.specs.Strict.{StrictFrom}
-use Rattle.posix_puts.specs.Puts.{PutsWhole}
-use Rattle.posix_puts.specs.Views.{need_of}
-use Rattle.crash_spec.specs.Busy.{waits_for}
+use Rattle.posix_frames.specs.posix_spec.Put.{put_by}
+use Rattle.posix_frames.specs.posix_spec.Run.{after_call, after_calls, Begun}
+use Rattle.posix_frames.specs.posix_spec.State.{room, State}
+use Rattle.posix_frames.specs.posix_spec.Step.{step}
+use Rattle.posix_frames.specs.crash_spec.Strict.{StrictFrom}
+use Rattle.posix_frames.specs.posix_puts.Puts.{PutsWhole}
+use Rattle.posix_frames.specs.posix_puts.Views.{need_of}
+use Rattle.posix_frames.specs.crash_spec.Busy.{waits_for}
 use Rattle.posix_orders.specs.Acted.{Change}
 use Rattle.posix_orders.specs.Commutes.{takes}
 use Rattle.posix_frames.specs.Flights.{InFlight, LeavesAlone-put}

@@ -12,17 +12,17 @@ use Rattle.posix_words.specs.Names.{node_at_path, too_long}
 use Rattle.posix_words.specs.Open.{key_of, opened, with_offset}
 use Rattle.posix_words.specs.Outcomes.{first}
 use Rattle.posix_words.specs.Room.{growth}
-use Rattle.posix_spec.specs.FileRows.{truncate_rows, write_rows, write_start}
-use Rattle.posix_spec.specs.Put.{put_by}
-use Rattle.posix_spec.specs.Run.{after_call, Begun}
-use Rattle.posix_spec.specs.State.{alone, room, State, with_file}
-use Rattle.posix_spec.specs.Step.{pwrite_done, step, stepped, Stepped, write_done, written}
-use Rattle.posix_facts.specs.RowLaws.{Accepts-from_rows, no_row, none_fits, put_at-Some, rows-from_Accepts}
-use Rattle.posix_puts.specs.PutLaws.{LeavesWhole-step}
-use Rattle.posix_puts.specs.Puts.{LeavesWhole, PutsWhole}
-use Rattle.posix_puts.specs.ViewLaws.{content-same, need_of-kept, write_start-same}
-use Rattle.posix_puts.specs.Views.{need_of, SameView}
-use Rattle.crash_spec.specs.Busy.{path_node, waits_for}
+use Rattle.posix_frames.specs.posix_spec.FileRows.{truncate_rows, write_rows, write_start}
+use Rattle.posix_frames.specs.posix_spec.Put.{put_by}
+use Rattle.posix_frames.specs.posix_spec.Run.{after_call, Begun}
+use Rattle.posix_frames.specs.posix_spec.State.{alone, room, State, with_file}
+use Rattle.posix_frames.specs.posix_spec.Step.{pwrite_done, step, stepped, Stepped, write_done, written}
+use Rattle.posix_frames.specs.posix_facts.RowLaws.{Accepts-from_rows, no_row, none_fits, put_at-Some, rows-from_Accepts}
+use Rattle.posix_frames.specs.posix_puts.PutLaws.{LeavesWhole-step}
+use Rattle.posix_frames.specs.posix_puts.Puts.{LeavesWhole, PutsWhole}
+use Rattle.posix_frames.specs.posix_puts.ViewLaws.{content-same, need_of-kept, write_start-same}
+use Rattle.posix_frames.specs.posix_puts.Views.{need_of, SameView}
+use Rattle.posix_frames.specs.crash_spec.Busy.{path_node, waits_for}
 use Rattle.posix_orders.specs.Acted.{acted, Change, handle-acted, option_either, space-acted, Touches, unknown-acted, view-acted, with_slot}
 use Rattle.posix_frames.specs.Bystanders.{not_not}
 use Rattle.posix_orders.specs.Commutes.{step-acted, takes}

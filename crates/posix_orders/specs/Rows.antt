@@ -7,18 +7,18 @@ use Rattle.posix_types.specs.declared.call.Who.{Who}
 use Rattle.posix_types.specs.declared.handle.Flags.{Flags}
 use Rattle.posix_types.specs.declared.handle.Handle.{Handle}
 use Rattle.posix_words.specs.Open.{binding_of, key_of, opened, with_binding, with_descriptor, with_opened}
-use Rattle.posix_spec.specs.FileRows.{write_rows}
-use Rattle.posix_spec.specs.Put.{put_by}
-use Rattle.posix_spec.specs.Run.{after_call, after_calls, Begun}
-use Rattle.posix_spec.specs.State.{made, State}
-use Rattle.posix_spec.specs.Step.{open_done, opening}
-use Rattle.crash_spec.specs.Busy.{waits_for}
+use Rattle.posix_frames.specs.posix_spec.FileRows.{write_rows}
+use Rattle.posix_frames.specs.posix_spec.Put.{put_by}
+use Rattle.posix_frames.specs.posix_spec.Run.{after_call, after_calls, Begun}
+use Rattle.posix_frames.specs.posix_spec.State.{made, State}
+use Rattle.posix_frames.specs.posix_spec.Step.{open_done, opening}
+use Rattle.posix_frames.specs.crash_spec.Busy.{waits_for}
 use Rattle.posix_types.specs.declared.tree.TreeEntry.{TreeEntry}
-use Rattle.crash_spec.specs.Strict.{StrictFrom}
-use Rattle.posix_spec.specs.Tree.{bare, default_shape}
+use Rattle.posix_frames.specs.crash_spec.Strict.{StrictFrom}
+use Rattle.posix_frames.specs.posix_spec.Tree.{bare, default_shape}
 use Rattle.posix_words.specs.NameRows.{open_rows}
 use Rattle.posix_words.specs.Names.{node_at_path, walk, with_entry}
-use Rattle.posix_puts.specs.Views.{AreAfforded}
+use Rattle.posix_frames.specs.posix_puts.Views.{AreAfforded}
 use Rattle.posix_frames.specs.Needs.{AreInFlight, begun_of, Flight, LetsAllBe}
 use Rattle.posix_orders.specs.Orders.{AreTwoEach, StrictFrom-last}
 

@@ -7,10 +7,10 @@ use Rattle.posix_types.specs.declared.handle.Handle.{Handle}
 use Rattle.posix_types.specs.declared.item.Outcome.{Outcome}
 use Rattle.posix_words.specs.Bytes.{overwritten}
 use Rattle.posix_words.specs.Outcomes.{first}
-use Rattle.posix_spec.specs.FileRows.{content, file_number, write_rows, write_start}
-use Rattle.posix_spec.specs.Put.{Put, put_by}
-use Rattle.posix_spec.specs.State.{alone, State, with_file}
-use Rattle.posix_spec.specs.Step.{pwrite_done, step, stepped, write_done, written}
+use Rattle.posix_facts.specs.posix_spec.FileRows.{content, file_number, write_rows, write_start}
+use Rattle.posix_facts.specs.posix_spec.Put.{Put, put_by}
+use Rattle.posix_facts.specs.posix_spec.State.{alone, State, with_file}
+use Rattle.posix_facts.specs.posix_spec.Step.{pwrite_done, step, stepped, write_done, written}
 use Rattle.posix_facts.specs.RowLaws.{put_at-Some, rows-from_Accepts}
 use Rattle.posix_puts.specs.Puts.{LeavesWhole, put_bytes, PutsWhole}
 

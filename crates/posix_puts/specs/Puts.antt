@@ -5,8 +5,8 @@ use Rattle.posix_types.specs.declared.call.Who.{Who}
 use Rattle.posix_words.specs.declared.nodes.Node.{Node}
 use Rattle.posix_words.specs.Bytes.{overwritten}
 use Rattle.posix_words.specs.Nodes.{bytes_of, node_at, published_of}
-use Rattle.posix_spec.specs.Put.{Put, put_by}
-use Rattle.posix_spec.specs.State.{State}
+use Rattle.posix_facts.specs.posix_spec.Put.{Put, put_by}
+use Rattle.posix_facts.specs.posix_spec.State.{State}
 
 -- the bytes of a node's file after a put
 abbrev pub put_bytes : State → Put → List ℕ

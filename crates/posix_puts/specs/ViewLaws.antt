@@ -11,9 +11,9 @@ use Rattle.posix_words.specs.Bytes.{overwritten}
 use Rattle.posix_words.specs.Nodes.{bytes_of, node_at}
 use Rattle.posix_words.specs.Open.{may_write}
 use Rattle.posix_words.specs.Room.{write_need}
-use Rattle.posix_spec.specs.FileRows.{appends, content, file_number, offset_of, write_start}
-use Rattle.posix_spec.specs.Put.{Put, put_at, put_by, put_unless}
-use Rattle.posix_spec.specs.State.{room, State}
+use Rattle.posix_facts.specs.posix_spec.FileRows.{appends, content, file_number, offset_of, write_start}
+use Rattle.posix_facts.specs.posix_spec.Put.{Put, put_at, put_by, put_unless}
+use Rattle.posix_facts.specs.posix_spec.State.{room, State}
 use Rattle.posix_facts.specs.RowLaws.{Accepts, put_at-Some, rows-from_Accepts}
 use Rattle.posix_puts.specs.Puts.{put_bytes, PutsWhole}
 use Rattle.posix_puts.specs.Views.{KeepsView, need_of, SameView}

@@ -6,9 +6,9 @@ use Rattle.posix_types.specs.declared.handle.Handle.{Handle}
 use Rattle.posix_words.specs.Nodes.{node_at}
 use Rattle.posix_words.specs.Open.{opened}
 use Rattle.posix_words.specs.Room.{write_need}
-use Rattle.posix_spec.specs.FileRows.{content, file_number, write_start}
-use Rattle.posix_spec.specs.Run.{Begun}
-use Rattle.posix_spec.specs.State.{room, State}
+use Rattle.posix_facts.specs.posix_spec.FileRows.{content, file_number, write_start}
+use Rattle.posix_facts.specs.posix_spec.Run.{Begun}
+use Rattle.posix_facts.specs.posix_spec.State.{room, State}
 
 -- what a write needs, in blocks; other calls need none
 abbrev pub need_of : State → Who → Call → ℕ

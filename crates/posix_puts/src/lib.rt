@@ -9,3 +9,5 @@
 //!
 //! Stands on `posix_spec` and `posix_facts`.
 #![tactic(auto)]
+
+pub use posix_facts::posix_spec;

@@ -17,8 +17,8 @@ use Rattle.posix_words.specs.Lookups.{entry_of}
 use Rattle.posix_words.specs.Names.{bytes_before, child_of, directory_path, downward, is_entry, is_root, last_name, parent_at, walk, walk_from, with_entry}
 use Rattle.posix_words.specs.Nodes.{is_directory, node_at}
 use Rattle.posix_words.specs.Places.{node_of, printed}
-use Rattle.posix_spec.specs.State.{made, space, State}
-use Rattle.posix_spec.specs.Tree.{bare, planted, start}
+use Rattle.posix_facts.specs.posix_spec.State.{made, space, State}
+use Rattle.posix_facts.specs.posix_spec.Tree.{bare, planted, start}
 use Rattle.posix_facts.specs.DistinctLaws.{own_entry}
 use Rattle.list_facts.specs.Members.{find-In, find-none, In, In-insert, insert-In, length-inserted, slice_get-front, slice_get-In, slice_get-last, slice_get-push}
 use Rattle.posix_trees.specs.Order.{Rising-push, rising_place, RisingBy}

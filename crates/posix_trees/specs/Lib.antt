@@ -6,3 +6,5 @@ pub mod Laws
 pub mod Paths
 pub mod Entries
 pub mod TreeOf
+pub use Rattle.posix_facts.specs as posix_facts
+pub use Rattle.posix_facts.specs.posix_spec as posix_spec

@@ -7,7 +7,7 @@ use Rattle.posix_words.specs.declared.nodes.DirEntry.{DirEntry}
 use Rattle.posix_words.specs.Names.{child_of}
 use Rattle.posix_words.specs.Nodes.{node_at}
 use Rattle.posix_words.specs.Places.{printed, tree_node}
-use Rattle.posix_spec.specs.State.{State}
+use Rattle.posix_facts.specs.posix_spec.State.{State}
 
 -- the node that names lead to, from a node down
 unfoldable pub walk_down : List DirEntry → ℕ → List (List ℕ) → Option ℕ

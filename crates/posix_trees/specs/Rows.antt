@@ -7,7 +7,7 @@ use Rattle.posix_types.specs.declared.tree.TreeEntry.{TreeEntry}
 use Rattle.posix_types.specs.declared.tree.TreeNode.{TreeNode}
 use Rattle.posix_words.specs.Names.{bytes_before}
 use Rattle.posix_words.specs.Places.{printed}
-use Rattle.posix_spec.specs.Tree.{start, tree}
+use Rattle.posix_facts.specs.posix_spec.Tree.{start, tree}
 use Rattle.posix_trees.specs.Begins.{IsTree, MayFollow}
 use Rattle.list_facts.specs.Members.{In}
 use Rattle.posix_trees.specs.TreeLaws.{tree-start}

@@ -15,7 +15,7 @@ use Rattle.posix_words.specs.declared.places.Place.{Place}
 use Rattle.posix_words.specs.Names.{bytes_before}
 use Rattle.posix_words.specs.Nodes.{node_at}
 use Rattle.posix_words.specs.Places.{entry_place, node_of, path_to, place_of, places, printed, tree_entry, tree_node, with_place}
-use Rattle.posix_spec.specs.Tree.{start, tree}
+use Rattle.posix_facts.specs.posix_spec.Tree.{start, tree}
 use Rattle.posix_trees.specs.Begins.{AreBegun, AreBegun-start, HaveOwnChildren, IsTree, never_below, node_at-begun, one_element, path_below, path_first, shorter_above}
 use Rattle.list_facts.specs.Members.{find-In, find-none, In, In-insert, In-slice_get, insert-In}
 use Rattle.posix_trees.specs.Order.{insert-position, Rising-put_in, Rising-same, rising_place, RisingBy}

@@ -11,8 +11,8 @@ use Rattle.posix_words.specs.Names.{bytes_before, is_entry}
 use Rattle.posix_words.specs.Nodes.{node_at}
 use Rattle.posix_words.specs.Places.{entry_place, place_of, places, printed, tree_entry, tree_node}
 use Rattle.posix_facts.specs.DistinctLaws.{own_entry}
-use Rattle.posix_spec.specs.State.{State}
-use Rattle.posix_spec.specs.Tree.{tree}
+use Rattle.posix_facts.specs.posix_spec.State.{State}
+use Rattle.posix_facts.specs.posix_spec.Tree.{tree}
 use Rattle.list_facts.specs.Filters.{In-map, map-In}
 use Rattle.list_facts.specs.Members.{find-none, In}
 use Rattle.posix_trees.specs.Entries.{IsTreeLike, led_where, path_of, path_of-plain, walk_down-path_of}

@@ -27,3 +27,5 @@ pub fn a_content_has_one_tree()
 pub fn a_tree_lists_what_stands()
     ensures { ListsWhatStands }
 {}
+
+pub use posix_facts::posix_spec;

@@ -1,11 +1,11 @@
 -- No word is lent after a publishing.
 use Rattle.std.proofs.Common.{ℕ, List, [], ◌∷◌, Ok, Err, sym, subst, inl, inr}
 use Rattle.pm_words.specs.Cells.{AllHome}
-use Rattle.disk_rules.specs.Volume.{inode}
+use Rattle.k_map_calls.specs.disk_rules.Volume.{inode}
 use Rattle.file_overlay.specs.declared.runs.Run.{Run}
 use Rattle.file_overlay.specs.Runs.{Overlaid}
-use Rattle.k_journal.specs.declared.outcomes.Commit.{Commit}
-use Rattle.k_rules.specs.View.{View}
+use Rattle.k_map_calls.specs.k_journal.declared.outcomes.Commit.{Commit}
+use Rattle.k_map_calls.specs.k_rules.View.{View}
 use Rattle.k_map_calls.specs.k_split.declared.faults.KFault.{KFault}
 use Rattle.k_map_calls.specs.k_split.MapChanges.{IsMovedWith, IsSizedWith}
 use Rattle.k_map_calls.specs.Calls.{IsFresh}

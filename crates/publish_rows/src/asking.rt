@@ -1,6 +1,6 @@
 //! What `publish` asks for, tested before it is called.
 ghost use Rattle.std.specs.Prelude.{◌+◌, ◌≤◌, ◌<◌, ◌^◌, ◌↔◌, [], ◌∷◌, IsTrue};
-ghost use Rattle.disk_rules.specs.Volume.{inode};
+ghost use Rattle.k_map_calls.specs.disk_rules.Volume.{inode};
 ghost use Rattle.fsync_relink.specs.Publishes.{IsStagedRun, MayPublish, ShareNone};
 ghost use Rattle.k_map_calls.specs.Calls.{IsFresh};
 

@@ -6,7 +6,7 @@ ghost use Rattle.k_map_calls.specs.Calls.{IsFresh};
 use crate::asking::may_publish;
 use file_overlay::{Overlay, Run};
 use fsync_relink::publish;
-use k_journal::Commit;
+use k_map_calls::k_journal::Commit;
 use k_map_calls::k_split::KSplit;
 use k_map_calls::{RunError, opened};
 use pm_lines::{Pm, Power};

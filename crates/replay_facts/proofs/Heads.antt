@@ -7,12 +7,12 @@ use Rattle.pm_words.specs.Words.{line_bytes, Words}
 use Rattle.disk_places.specs.Journal.{journaled}
 use Rattle.disk_places.specs.Places.{base_word, commit_word, first_data, Geometry, is_data_block, state_line}
 use Rattle.disk_places.specs.Superblock.{geometry_at, has_magic, has_numbers, has_version}
-use Rattle.disk_rules.specs.Placed.{block_at, IsOutside}
-use Rattle.disk_rules.specs.Reading.{Reads}
-use Rattle.disk_rules.specs.Rules.{geometry_of, HasTarget}
-use Rattle.disk_rules.specs.Volume.{Volume}
+use Rattle.live_facts.specs.disk_rules.Placed.{block_at, IsOutside}
+use Rattle.live_facts.specs.disk_rules.Reading.{Reads}
+use Rattle.live_facts.specs.disk_rules.Rules.{geometry_of, HasTarget}
+use Rattle.live_facts.specs.disk_rules.Volume.{Volume}
 use Rattle.world_images.specs.image_facts.ViewLaws.{head_word, sound-targets}
-use Rattle.k_rules.specs.Stands.{IsOldOrNew}
+use Rattle.live_facts.specs.k_rules.Stands.{IsOldOrNew}
 use Rattle.world_images.specs.Images.{IsHeaded}
 
 base_read : (g : Geometry) (v w : Volume) (j : Words) → Reads g j v ⊎ Reads g j w → w.base ≡ v.base → j base_word ≡ v.base

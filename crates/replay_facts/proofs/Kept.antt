@@ -11,17 +11,17 @@ use Rattle.disk_lines.specs.declared.Draft.{Draft}
 use Rattle.disk_lines.specs.Entries.{held_seq, is_self_valid}
 use Rattle.disk_lines.specs.Names.{names_of}
 use Rattle.disk_places.specs.Places.{data_blocks, Geometry, log_line, reserve}
-use Rattle.disk_rules.specs.Checked.{IsLogKept}
-use Rattle.disk_rules.specs.Content.{size_of}
-use Rattle.disk_rules.specs.Live.{entry_in, is_file, is_live, is_of_file, live_entries, valid_entries}
-use Rattle.disk_rules.specs.Room.{held_after_recovery, is_named_file, unused_blocks}
-use Rattle.disk_rules.specs.Rules.{HasStagingBlocks}
-use Rattle.disk_rules.specs.Volume.{inode, Volume}
+use Rattle.live_facts.specs.disk_rules.Checked.{IsLogKept}
+use Rattle.live_facts.specs.disk_rules.Content.{size_of}
+use Rattle.live_facts.specs.disk_rules.Live.{entry_in, is_file, is_live, is_of_file, live_entries, valid_entries}
+use Rattle.live_facts.specs.disk_rules.Room.{held_after_recovery, is_named_file, unused_blocks}
+use Rattle.live_facts.specs.disk_rules.Rules.{HasStagingBlocks}
+use Rattle.live_facts.specs.disk_rules.Volume.{inode, Volume}
 use Rattle.list_facts.specs.Filters.{filter-In, In-filter, In-filter_map, In-range}
 use Rattle.list_facts.specs.Members.{In}
-use Rattle.posix_trees.specs.Entries.{few}
-use Rattle.volume_facts.specs.Footprint.{SameLog}
-use Rattle.volume_facts.specs.FootprintLaws.{entry_in-same, live_entries-same}
+use Rattle.live_facts.specs.posix_trees.Entries.{few}
+use Rattle.live_facts.specs.volume_facts.Footprint.{SameLog}
+use Rattle.live_facts.specs.volume_facts.FootprintLaws.{entry_in-same, live_entries-same}
 use Rattle.live_facts.specs.world_promise.Landed.{kind_file}
 use Rattle.live_facts.specs.Logs.{CarriesOut, HasSameFiles}
 use Rattle.live_facts.specs.world_runs.Relinks.{SameLine}

@@ -4,14 +4,14 @@ use Rattle.pm_words.specs.Words.{Words}
 use Rattle.disk_lines.specs.declared.Draft.{Draft}
 use Rattle.disk_places.specs.Journal.{journaled}
 use Rattle.disk_places.specs.Places.{base_word, Geometry, is_data_block}
-use Rattle.disk_rules.specs.Checked.{IsLogKept}
-use Rattle.disk_rules.specs.Live.{live_entries}
-use Rattle.disk_rules.specs.Room.{held_after_recovery, unused_blocks}
-use Rattle.disk_rules.specs.Volume.{inode, Volume}
-use Rattle.k_rules.specs.Stands.{IsOldOrNew}
+use Rattle.live_facts.specs.disk_rules.Checked.{IsLogKept}
+use Rattle.live_facts.specs.disk_rules.Live.{live_entries}
+use Rattle.live_facts.specs.disk_rules.Room.{held_after_recovery, unused_blocks}
+use Rattle.live_facts.specs.disk_rules.Volume.{inode, Volume}
+use Rattle.live_facts.specs.k_rules.Stands.{IsOldOrNew}
 use Rattle.list_facts.specs.Members.{In}
 use Rattle.live_facts.specs.Logs.{CarriesOut, HasSameFiles}
-use Rattle.volume_facts.specs.Footprint.{SameLog}
+use Rattle.live_facts.specs.volume_facts.Footprint.{SameLog}
 use Rattle.world_images.specs.Images.{IsHeaded}
 use Rattle.live_facts.specs.world_runs.Relinks.{SameLine}
 use Rattle.replay_facts.specs.Orders.{AreInOrder, ComeFirst, HaveOwnOrders}

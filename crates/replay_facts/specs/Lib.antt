@@ -6,3 +6,6 @@ pub use Rattle.live_facts.specs.world_log as world_log
 pub use Rattle.live_facts.specs.world_promise as world_promise
 pub use Rattle.live_facts.specs.world_runs as world_runs
 pub use Rattle.world_images.specs.image_facts as image_facts
+pub use Rattle.live_facts.specs.disk_rules as disk_rules
+pub use Rattle.live_facts.specs.k_rules as k_rules
+pub use Rattle.live_facts.specs.volume_facts as volume_facts

@@ -3,8 +3,8 @@ use Rattle.std.specs.Prelude.{◌≡◌, ◌≢◌, ◌<◌, ℕ, true, List, []
 use Rattle.std.specs.List.Sorted.{IsNonDecreasingBy, IsPermutation}
 use Rattle.pm_words.specs.Words.{Words}
 use Rattle.disk_lines.specs.declared.Draft.{Draft}
-use Rattle.disk_rules.specs.Live.{entry_in, is_of_file}
-use Rattle.disk_rules.specs.Volume.{Volume}
+use Rattle.live_facts.specs.disk_rules.Live.{entry_in, is_of_file}
+use Rattle.live_facts.specs.disk_rules.Volume.{Volume}
 use Rattle.list_facts.specs.Members.{In}
 
 -- THE ENTRIES IN THEIR ORDER: those of the list, each as often as there, and none has an order above that of a later one.

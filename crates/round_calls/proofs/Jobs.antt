@@ -3,14 +3,14 @@ use Rattle.std.specs.Prelude.{◌≡◌, ◌≢◌, ◌⊎◌, ◌+◌, ℕ, Boo
 use Rattle.std.proofs.Common.{arith, ◌∙◌, sym, inl, inr}
 use Rattle.std.proofs.lemmas.List.Sums.{sum_by-cons}
 use Rattle.disk_places.specs.Places.{Geometry}
-use Rattle.k_rules.specs.View.{View}
+use Rattle.map_ends.specs.k_rules.View.{View}
 use Rattle.posix_words.specs.Open.{Tables}
-use Rattle.posix_puts.specs.Views.{need_of}
-use Rattle.posix_spec.specs.Run.{Begun}
-use Rattle.posix_spec.specs.State.{State}
-use Rattle.round_jobs.specs.world_rules.Jobs.{begun_of, Job}
-use Rattle.round_jobs.specs.world_standing.Standing.{AreJobsOf, Kept, Pending, StandsAt}
-use Rattle.round_jobs.specs.world_standing.world_promise.JobLaws.{needs}
+use Rattle.map_ends.specs.posix_puts.Views.{need_of}
+use Rattle.map_ends.specs.posix_spec.Run.{Begun}
+use Rattle.map_ends.specs.posix_spec.State.{State}
+use Rattle.round_turns.specs.round_jobs.world_rules.Jobs.{begun_of, Job}
+use Rattle.round_turns.specs.round_jobs.world_standing.Standing.{AreJobsOf, Kept, Pending, StandsAt}
+use Rattle.round_turns.specs.round_jobs.world_standing.world_promise.JobLaws.{needs}
 
 -- ---- what stands
 

@@ -10,18 +10,18 @@ use Rattle.disk_lines.specs.declared.Draft.{Draft}
 use Rattle.disk_lines.specs.declared.Inode.{Inode}
 use Rattle.disk_lines.specs.declared.Kind.TheVariants.{File}
 use Rattle.disk_places.specs.Places.{Geometry}
-use Rattle.disk_rules.specs.Live.{is_file}
-use Rattle.disk_rules.specs.Volume.{inode}
+use Rattle.map_ends.specs.disk_rules.Live.{is_file}
+use Rattle.map_ends.specs.disk_rules.Volume.{inode}
 use Rattle.file_overlay.specs.declared.runs.Run.{Run}
-use Rattle.file_table.specs.Files.{ChangesFile, Files, runs_in, size_in}
-use Rattle.flight_calls.specs.Built.{CutsNothing}
+use Rattle.map_ends.specs.file_table.Files.{ChangesFile, Files, runs_in, size_in}
+use Rattle.round_turns.specs.flight_calls.Built.{CutsNothing}
 use Rattle.flight_publishes.specs.Answers.{LosesFile, PublishesFile}
-use Rattle.flight_relinks.specs.fsync_relink.Others.{GoesOn}
-use Rattle.flight_relinks.specs.fsync_relink.Publishes.{IsPublishDone, IsPublishStopped, MayPublish}
-use Rattle.flight_relinks.specs.Laws.{StandsThen}
-use Rattle.flight_relinks.specs.world_promise.TreeRules.{used_below}
-use Rattle.flight_rounds.specs.world_lent.Back.{IsPutBack}
-use Rattle.k_rules.specs.View.{View}
+use Rattle.flight_publishes.specs.flight_relinks.fsync_relink.Others.{GoesOn}
+use Rattle.flight_publishes.specs.flight_relinks.fsync_relink.Publishes.{IsPublishDone, IsPublishStopped, MayPublish}
+use Rattle.flight_publishes.specs.flight_relinks.Laws.{StandsThen}
+use Rattle.flight_publishes.specs.flight_relinks.world_promise.TreeRules.{used_below}
+use Rattle.round_turns.specs.flight_rounds.world_lent.Back.{IsPutBack}
+use Rattle.map_ends.specs.k_rules.View.{View}
 use Rattle.list_facts.specs.Members.{In}
 use Rattle.map_ends.proofs.Files.{end_published}
 use Rattle.posix_types.specs.declared.call.Call.{Call}
@@ -30,32 +30,32 @@ use Rattle.posix_types.specs.declared.call.Who.{Who}
 use Rattle.posix_types.specs.declared.handle.Handle.{Handle}
 use Rattle.posix_words.specs.declared.open.Description.{Description}
 use Rattle.posix_words.specs.Open.{opened, Tables}
-use Rattle.posix_spec.specs.Run.{Begun}
-use Rattle.posix_spec.specs.State.{State}
-use Rattle.crash_spec.specs.Busy.{handle_node, path_node, waits_for}
-use Rattle.round_jobs.proofs.round_facts_proofs.Claims.{claims_applied}
-use Rattle.round_jobs.proofs.round_facts_proofs.Counts.{sizes_small}
-use Rattle.round_jobs.proofs.round_facts_proofs.Waiting.{handle_waits, one_file, path_waits}
-use Rattle.round_facts.specs.Busy.{IsNodeOf, WaitsForFile}
-use Rattle.round_jobs.specs.k_split.declared.faults.KFault.{KFault}
-use Rattle.round_jobs.specs.staging_files.Keeps.{Staged}
-use Rattle.round_jobs.specs.world_images.Kept.{kept_more}
-use Rattle.round_jobs.specs.world_images.Promised.{IsKept}
-use Rattle.round_jobs.specs.world_rules.Jobs.{begun_of, Job}
-use Rattle.round_jobs.specs.world_rules.Stands.{is_used, IsUsed, number}
-use Rattle.round_jobs.specs.world_standing.Standing.{Kept, StandsAt}
-use Rattle.round_jobs.specs.world_standing.world_promise.Landed.{kind_file}
-use Rattle.round_jobs.specs.world_steps.Steps.{AreBeside, LetsJobsBe}
-use Rattle.round_jobs.specs.world_steps.Touched.{only}
+use Rattle.map_ends.specs.posix_spec.Run.{Begun}
+use Rattle.map_ends.specs.posix_spec.State.{State}
+use Rattle.map_ends.specs.crash_spec.Busy.{handle_node, path_node, waits_for}
+use Rattle.round_turns.proofs.round_jobs_proofs.round_facts_proofs.Claims.{claims_applied}
+use Rattle.round_turns.proofs.round_jobs_proofs.round_facts_proofs.Counts.{sizes_small}
+use Rattle.round_turns.proofs.round_jobs_proofs.round_facts_proofs.Waiting.{handle_waits, one_file, path_waits}
+use Rattle.round_turns.specs.round_facts.Busy.{IsNodeOf, WaitsForFile}
+use Rattle.round_turns.specs.round_jobs.k_split.declared.faults.KFault.{KFault}
+use Rattle.round_turns.specs.round_jobs.staging_files.Keeps.{Staged}
+use Rattle.round_turns.specs.round_jobs.world_images.Kept.{kept_more}
+use Rattle.round_turns.specs.round_jobs.world_images.Promised.{IsKept}
+use Rattle.round_turns.specs.round_jobs.world_rules.Jobs.{begun_of, Job}
+use Rattle.round_turns.specs.round_jobs.world_rules.Stands.{is_used, IsUsed, number}
+use Rattle.round_turns.specs.round_jobs.world_standing.Standing.{Kept, StandsAt}
+use Rattle.round_turns.specs.round_jobs.world_standing.world_promise.Landed.{kind_file}
+use Rattle.round_turns.specs.round_jobs.world_steps.Steps.{AreBeside, LetsJobsBe}
+use Rattle.round_turns.specs.round_jobs.world_steps.Touched.{only}
 use Rattle.round_turns.proofs.Beginning.{lets, lost_call, others_lost}
 use Rattle.round_turns.proofs.Losing.{lost_view}
-use Rattle.round_views.proofs.losing_facts_proofs.Stopped.{leaves_stopped}
-use Rattle.round_views.specs.Begins.{LosesCall, OthersStay, Publishes, WantsMemory}
-use Rattle.round_views.specs.file_ends.Ends.{FilesEnd}
-use Rattle.round_views.specs.lost_devices.Left.{IsLeftOf}
-use Rattle.round_views.specs.Views.{Disk, disk_of, inode_on, IsWorldOver, kept_of, state_of, WorldView}
+use Rattle.round_turns.proofs.round_views_proofs.losing_facts_proofs.Stopped.{leaves_stopped}
+use Rattle.round_turns.specs.round_views.Begins.{LosesCall, OthersStay, Publishes, WantsMemory}
+use Rattle.round_turns.specs.round_views.file_ends.Ends.{FilesEnd}
+use Rattle.round_turns.specs.round_views.lost_devices.Left.{IsLeftOf}
+use Rattle.round_turns.specs.round_views.Views.{Disk, disk_of, inode_on, IsWorldOver, kept_of, state_of, WorldView}
 use Rattle.flight_truncates.specs.Truncates.{HasNothingStaged}
-use Rattle.write_asks.proofs.Calls.{handle_open}
+use Rattle.flight_truncates.proofs.write_asks_proofs.Calls.{handle_open}
 use Rattle.standing_facts.specs.Laws.{StandsToPublish}
 use Rattle.round_calls.specs.Calls.{AtCall, HasBareFile, IsBare}
 use Rattle.round_calls.proofs.Staying.{few_made, going_now, others_still, stands_now, still_at}

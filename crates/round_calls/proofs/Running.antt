@@ -5,35 +5,35 @@ use Rattle.std.proofs.Common.{arith, ap}
 use Rattle.pm_words.specs.declared.Cell.{Cell}
 use Rattle.pm_words.specs.Powers.{is_on, Supply}
 use Rattle.pm_words.specs.Words.{Words}
-use Rattle.file_table.specs.Files.{Files}
-use Rattle.flight_calls.specs.Built.{IsBuilt, NamesAreSpelled}
-use Rattle.flight_calls.specs.flight_names.Answers.{Answers, IsSpent, LeavesDevice, Loses}
-use Rattle.flight_calls.specs.flight_names.Runs.{RunsInSome}
-use Rattle.flight_rounds.specs.world_lent.Back.{IsPutBack}
-use Rattle.k_journal.specs.Commits.{TakesAStep}
-use Rattle.k_rules.specs.View.{View}
+use Rattle.map_ends.specs.file_table.Files.{Files}
+use Rattle.round_turns.specs.flight_calls.Built.{IsBuilt, NamesAreSpelled}
+use Rattle.round_turns.specs.flight_calls.flight_names.Answers.{Answers, IsSpent, LeavesDevice, Loses}
+use Rattle.round_turns.specs.flight_calls.flight_names.Runs.{RunsInSome}
+use Rattle.round_turns.specs.flight_rounds.world_lent.Back.{IsPutBack}
+use Rattle.map_ends.specs.k_journal.Commits.{TakesAStep}
+use Rattle.map_ends.specs.k_rules.View.{View}
 use Rattle.posix_types.specs.declared.call.Call.{Call}
 use Rattle.posix_types.specs.declared.call.Who.{Who}
 use Rattle.posix_types.specs.declared.item.Outcome.{Outcome}
 use Rattle.posix_words.specs.Open.{Tables}
-use Rattle.posix_spec.specs.Put.{Put, put_by}
-use Rattle.posix_spec.specs.Run.{after_call}
-use Rattle.posix_spec.specs.Scripted.{items_of}
-use Rattle.posix_spec.specs.State.{State}
-use Rattle.posix_spec.specs.Step.{step}
-use Rattle.crash_spec.specs.Busy.{is_logged, is_logged_put}
-use Rattle.round_jobs.specs.script_calls.Histories.{item_with}
-use Rattle.round_jobs.specs.staging_files.Keeps.{Staged}
-use Rattle.round_jobs.specs.world_images.Promised.{IsKept}
-use Rattle.round_jobs.specs.world_rules.Jobs.{begun_of}
-use Rattle.round_jobs.specs.world_standing.Standing.{StandsAt}
-use Rattle.round_jobs.specs.world_steps.Steps.{LetsJobsBe}
+use Rattle.map_ends.specs.posix_spec.Put.{Put, put_by}
+use Rattle.map_ends.specs.posix_spec.Run.{after_call}
+use Rattle.map_ends.specs.posix_spec.Scripted.{items_of}
+use Rattle.map_ends.specs.posix_spec.State.{State}
+use Rattle.map_ends.specs.posix_spec.Step.{step}
+use Rattle.map_ends.specs.crash_spec.Busy.{is_logged, is_logged_put}
+use Rattle.round_turns.specs.round_jobs.script_calls.Histories.{item_with}
+use Rattle.round_turns.specs.round_jobs.staging_files.Keeps.{Staged}
+use Rattle.round_turns.specs.round_jobs.world_images.Promised.{IsKept}
+use Rattle.round_turns.specs.round_jobs.world_rules.Jobs.{begun_of}
+use Rattle.round_turns.specs.round_jobs.world_standing.Standing.{StandsAt}
+use Rattle.round_turns.specs.round_jobs.world_steps.Steps.{LetsJobsBe}
 use Rattle.round_turns.proofs.Beginning.{lets, lost_call, others_lost, others_returned, returned}
 use Rattle.round_turns.proofs.Losing.{lost_view}
-use Rattle.round_views.specs.Begins.{item_of, LosesCall, Publishes, Returns}
-use Rattle.round_views.specs.file_ends.Ends.{FilesEnd}
-use Rattle.round_views.specs.lost_devices.Left.{IsLeftOf}
-use Rattle.round_views.specs.Views.{disk_of, IsWorldOver, kept_of, state_of, WorldView}
+use Rattle.round_turns.specs.round_views.Begins.{item_of, LosesCall, Publishes, Returns}
+use Rattle.round_turns.specs.round_views.file_ends.Ends.{FilesEnd}
+use Rattle.round_turns.specs.round_views.lost_devices.Left.{IsLeftOf}
+use Rattle.round_turns.specs.round_views.Views.{disk_of, IsWorldOver, kept_of, state_of, WorldView}
 use Rattle.round_calls.specs.Calls.{AtCall}
 use Rattle.round_calls.proofs.Staying.{few_calls, stands_now}
 

@@ -2,23 +2,23 @@
 use Rattle.std.specs.Prelude.{◌≡◌, ◌≢◌, ◌⊎◌, ◌≤◌, ◌<◌, ◌+◌, ◌^◌, ℕ, true, [], length, Option, Some, None, refl}
 use Rattle.std.proofs.Common.{arith, ◌∙◌, sym, subst, inl, inr}
 use Rattle.pm_words.specs.Powers.{is_on, Supply}
-use Rattle.file_table.specs.Files.{Files}
-use Rattle.k_rules.specs.View.{View}
+use Rattle.map_ends.specs.file_table.Files.{Files}
+use Rattle.map_ends.specs.k_rules.View.{View}
 use Rattle.posix_types.specs.declared.call.Call.{Call}
 use Rattle.posix_types.specs.declared.call.Mode.{Mode}
 use Rattle.posix_types.specs.declared.call.Who.{Who}
 use Rattle.posix_words.specs.Open.{Tables}
-use Rattle.round_jobs.specs.script_calls.Counts.{history_within}
-use Rattle.round_jobs.specs.staging_files.Keeps.{Staged}
-use Rattle.round_jobs.specs.world_images.Settings.{setting_run}
-use Rattle.round_jobs.specs.world_standing.Standing.{StandsAt}
+use Rattle.round_turns.specs.round_jobs.script_calls.Counts.{history_within}
+use Rattle.round_turns.specs.round_jobs.staging_files.Keeps.{Staged}
+use Rattle.round_turns.specs.round_jobs.world_images.Settings.{setting_run}
+use Rattle.round_turns.specs.round_jobs.world_standing.Standing.{StandsAt}
 use Rattle.round_turns.proofs.Beginning.{standing}
 use Rattle.round_turns.proofs.Ending.{no_both}
-use Rattle.round_views.specs.declared.over.Over.{Over}
-use Rattle.round_views.proofs.losing_facts_proofs.Homes.{has_blocks_out}
-use Rattle.round_views.specs.Begins.{EndsRound, LacksBeside, LacksStaging, OthersStay, WantsMemory}
-use Rattle.round_views.specs.file_ends.Ends.{FilesEnd}
-use Rattle.round_views.specs.Views.{disk_of, IsGoing, IsWorldOver, kept_of, state_of, WorldView}
+use Rattle.round_turns.specs.round_views.declared.over.Over.{Over}
+use Rattle.round_turns.proofs.round_views_proofs.losing_facts_proofs.Homes.{has_blocks_out}
+use Rattle.round_turns.specs.round_views.Begins.{EndsRound, LacksBeside, LacksStaging, OthersStay, WantsMemory}
+use Rattle.round_turns.specs.round_views.file_ends.Ends.{FilesEnd}
+use Rattle.round_turns.specs.round_views.Views.{disk_of, IsGoing, IsWorldOver, kept_of, state_of, WorldView}
 use Rattle.round_calls.specs.Calls.{AtCall}
 use Rattle.round_calls.proofs.Jobs.{some_out}
 

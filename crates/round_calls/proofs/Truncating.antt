@@ -6,11 +6,11 @@ use Rattle.block_counts.specs.Counts.{held_by}
 use Rattle.pm_words.specs.declared.Cell.{Cell}
 use Rattle.pm_words.specs.Powers.{is_on, Supply}
 use Rattle.pm_words.specs.Words.{Words}
-use Rattle.file_table.specs.Files.{Files}
+use Rattle.map_ends.specs.file_table.Files.{Files}
 use Rattle.flight_truncates.specs.Truncates as truncates
 use Rattle.flight_truncates.specs.Truncates.{Finds, StillRuns}
-use Rattle.flight_rounds.specs.world_lent.Back.{IsPutBack}
-use Rattle.k_rules.specs.View.{View}
+use Rattle.round_turns.specs.flight_rounds.world_lent.Back.{IsPutBack}
+use Rattle.map_ends.specs.k_rules.View.{View}
 use Rattle.posix_types.specs.declared.call.Call.{Call}
 use Rattle.posix_types.specs.declared.call.Who.{Who}
 use Rattle.posix_types.specs.declared.handle.Handle.{Handle}
@@ -19,26 +19,26 @@ use Rattle.posix_types.specs.declared.reply.What.{What}
 use Rattle.posix_words.specs.Open.{Tables}
 use Rattle.posix_words.specs.Outcomes.{first, space_row, unless}
 use Rattle.posix_words.specs.Room.{growth}
-use Rattle.posix_puts.specs.Views.{need_of}
-use Rattle.posix_facts.specs.RowLaws.{none_fits}
-use Rattle.posix_spec.specs.FileRows.{content, no_blocks, truncate_rows}
-use Rattle.posix_spec.specs.Put.{put_by}
-use Rattle.posix_spec.specs.Run.{after_call}
-use Rattle.posix_spec.specs.State.{room, State}
-use Rattle.posix_spec.specs.Step.{step}
-use Rattle.crash_spec.specs.Busy.{is_logged}
-use Rattle.round_jobs.specs.staging_files.Keeps.{Staged}
-use Rattle.round_jobs.specs.world_images.Promised.{IsKept}
-use Rattle.round_jobs.specs.world_rules.Jobs.{begun_of}
-use Rattle.round_jobs.specs.world_standing.Standing.{Pending, StandsAt}
-use Rattle.round_jobs.specs.world_standing.world_promise.JobLaws.{needs}
+use Rattle.map_ends.specs.posix_puts.Views.{need_of}
+use Rattle.map_ends.specs.posix_facts.RowLaws.{none_fits}
+use Rattle.map_ends.specs.posix_spec.FileRows.{content, no_blocks, truncate_rows}
+use Rattle.map_ends.specs.posix_spec.Put.{put_by}
+use Rattle.map_ends.specs.posix_spec.Run.{after_call}
+use Rattle.map_ends.specs.posix_spec.State.{room, State}
+use Rattle.map_ends.specs.posix_spec.Step.{step}
+use Rattle.map_ends.specs.crash_spec.Busy.{is_logged}
+use Rattle.round_turns.specs.round_jobs.staging_files.Keeps.{Staged}
+use Rattle.round_turns.specs.round_jobs.world_images.Promised.{IsKept}
+use Rattle.round_turns.specs.round_jobs.world_rules.Jobs.{begun_of}
+use Rattle.round_turns.specs.round_jobs.world_standing.Standing.{Pending, StandsAt}
+use Rattle.round_turns.specs.round_jobs.world_standing.world_promise.JobLaws.{needs}
 use Rattle.round_turns.proofs.Beginning.{lost_call, others_lost}
 use Rattle.round_turns.proofs.Losing.{lost_view}
-use Rattle.round_views.specs.declared.over.Over.{Over}
-use Rattle.round_views.specs.Begins.{EndsRound, LosesCall, WantsMemory}
-use Rattle.round_views.specs.file_ends.Ends.{FilesEnd}
-use Rattle.round_views.specs.lost_devices.Left.{IsLeftOf}
-use Rattle.round_views.specs.Views.{disk_of, IsWorldOver, kept_of, state_of, WorldView}
+use Rattle.round_turns.specs.round_views.declared.over.Over.{Over}
+use Rattle.round_turns.specs.round_views.Begins.{EndsRound, LosesCall, WantsMemory}
+use Rattle.round_turns.specs.round_views.file_ends.Ends.{FilesEnd}
+use Rattle.round_turns.specs.round_views.lost_devices.Left.{IsLeftOf}
+use Rattle.round_turns.specs.round_views.Views.{disk_of, IsWorldOver, kept_of, state_of, WorldView}
 use Rattle.round_calls.proofs.Jobs.{needs_are}
 use Rattle.round_calls.proofs.Running.{few_next, lets_now}
 use Rattle.round_calls.specs.Calls.{AtCall}

@@ -1,19 +1,19 @@
 -- A World at its next call.
 use Rattle.std.specs.Prelude.{◌≡◌, ℕ, Bool, true, [], length, Some}
-use Rattle.crash_spec.specs.Busy.{waits_for}
+use Rattle.map_ends.specs.crash_spec.Busy.{waits_for}
 use Rattle.disk_places.specs.Places.{Geometry}
-use Rattle.file_table.specs.Files.{Files, runs_in}
-use Rattle.k_rules.specs.View.{View}
+use Rattle.map_ends.specs.file_table.Files.{Files, runs_in}
+use Rattle.map_ends.specs.k_rules.View.{View}
 use Rattle.posix_types.specs.declared.call.Call.{Call}
 use Rattle.posix_types.specs.declared.call.Who.{Who}
 use Rattle.posix_words.specs.Open.{Tables}
-use Rattle.posix_spec.specs.Scripted.{IsSetUp}
-use Rattle.posix_spec.specs.State.{State}
-use Rattle.round_jobs.specs.staging_files.Keeps.{Staged}
-use Rattle.round_jobs.specs.world_rules.Stands.{IsUsed, number}
-use Rattle.round_jobs.specs.world_standing.Standing.{Kept, StandsAt}
-use Rattle.round_views.specs.Begins.{Begins}
-use Rattle.round_views.specs.Views.{HasNone, IsWorldOver, kept_of, state_of, WorldView}
+use Rattle.map_ends.specs.posix_spec.Scripted.{IsSetUp}
+use Rattle.map_ends.specs.posix_spec.State.{State}
+use Rattle.round_turns.specs.round_jobs.staging_files.Keeps.{Staged}
+use Rattle.round_turns.specs.round_jobs.world_rules.Stands.{IsUsed, number}
+use Rattle.round_turns.specs.round_jobs.world_standing.Standing.{Kept, StandsAt}
+use Rattle.round_turns.specs.round_views.Begins.{Begins}
+use Rattle.round_turns.specs.round_views.Views.{HasNone, IsWorldOver, kept_of, state_of, WorldView}
 
 -- A WORLD AT ITS NEXT CALL: the log's lines are out; the call is the caller's next one, the round is not over, and no job keeps it
 -- waiting; the caller may begin, and has no job out.

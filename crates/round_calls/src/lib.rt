@@ -11,3 +11,4 @@
 pub use flight_publishes;
 pub use flight_truncates;
 pub use round_turns;
+pub use round_turns::{finish_ends, round_jobs};

@@ -16,25 +16,25 @@ use Rattle.disk_lines.specs.declared.Kind.{Kind}
 use Rattle.disk_lines.specs.declared.Kind.TheVariants.{Directory, File, Free, Staging}
 use Rattle.disk_places.specs.Journal.{journaled}
 use Rattle.disk_places.specs.Places.{Geometry}
-use Rattle.disk_rules.specs.Live.{entry_in, is_file, is_live, live_entries, valid_entries}
-use Rattle.disk_rules.specs.Rules.{IsKindAt}
-use Rattle.disk_rules.specs.Volume.{free_inode, inode, Volume}
+use Rattle.map_ends.specs.disk_rules.Live.{entry_in, is_file, is_live, live_entries, valid_entries}
+use Rattle.map_ends.specs.disk_rules.Rules.{IsKindAt}
+use Rattle.map_ends.specs.disk_rules.Volume.{free_inode, inode, Volume}
 use Rattle.file_overlay.specs.Runs.{Overlaid}
-use Rattle.file_table.specs.Files.{nothing_laid, runs_in}
-use Rattle.flight_laps.specs.world_standing.overlay_facts.Overlays.{run_of}
-use Rattle.flight_laps.specs.world_standing.Standing.{Kept, StandsAt}
-use Rattle.k_rules.specs.View.{View}
+use Rattle.map_ends.specs.file_table.Files.{nothing_laid, runs_in}
+use Rattle.flight_rounds.specs.flight_laps.world_standing.overlay_facts.Overlays.{run_of}
+use Rattle.flight_rounds.specs.flight_laps.world_standing.Standing.{Kept, StandsAt}
+use Rattle.map_ends.specs.k_rules.View.{View}
 use Rattle.list_facts.specs.Filters.{In-filter}
 use Rattle.list_facts.specs.Members.{In}
-use Rattle.posix_spec.specs.State.{State}
-use Rattle.posix_trees.specs.Entries.{AreDifferent, few}
+use Rattle.map_ends.specs.posix_spec.State.{State}
+use Rattle.map_ends.specs.posix_trees.Entries.{AreDifferent, few}
 use Rattle.posix_words.specs.Open.{Tables}
 use Rattle.round_views.specs.losing_facts.world_rules.Jobs.{live_claims}
-use Rattle.standing_facts.specs.log_checkpoint.Gathers.{file_count, total_runs}
-use Rattle.standing_facts.specs.log_checkpoint.world_rules.Shown.{ShowsClaims}
-use Rattle.standing_facts.specs.log_checkpoint.world_rules.Stands.{Consecutive, entries_of}
-use Rattle.world_promise.specs.Ends.{SameMembers-shown}
-use Rattle.world_promise.specs.Latest.{Consecutive-between}
+use Rattle.flight_gathers.specs.standing_facts.log_checkpoint.Gathers.{file_count, total_runs}
+use Rattle.flight_gathers.specs.standing_facts.log_checkpoint.world_rules.Shown.{ShowsClaims}
+use Rattle.flight_gathers.specs.standing_facts.log_checkpoint.world_rules.Stands.{Consecutive, entries_of}
+use Rattle.map_ends.specs.world_promise.Ends.{SameMembers-shown}
+use Rattle.map_ends.specs.world_promise.Latest.{Consecutive-between}
 
 -- ---- live claims are different, and each is an entry of the log
 

@@ -9,21 +9,21 @@ use Rattle.pm_words.specs.Parts.{Part}
 use Rattle.crash_facts.specs.Laws.{LinesHoldOut}
 use Rattle.disk_lines.specs.declared.Draft.{Draft}
 use Rattle.disk_places.specs.Places.{Geometry, log_line}
-use Rattle.disk_rules.specs.LogRule.{cells_of_line, HoldsEntry, IsAsAtFirst}
-use Rattle.disk_rules.specs.Volume.{Volume}
-use Rattle.file_table.specs.Files.{Files}
+use Rattle.map_ends.specs.disk_rules.LogRule.{cells_of_line, HoldsEntry, IsAsAtFirst}
+use Rattle.map_ends.specs.disk_rules.Volume.{Volume}
+use Rattle.map_ends.specs.file_table.Files.{Files}
 use Rattle.flight_gathers.proofs.Tables.{no-jobs}
-use Rattle.flight_laps.specs.flight_facts.Flying.{IsOut}
-use Rattle.flight_laps.specs.k_split.Laps.{IsLogWord}
-use Rattle.flight_laps.specs.k_split.Order.{IsInOrder}
-use Rattle.flight_laps.specs.staging_files.Keeps.{Staged}
-use Rattle.flight_laps.specs.world_standing.Standing.{StandsAt}
+use Rattle.flight_rounds.specs.flight_laps.flight_facts.Flying.{IsOut}
+use Rattle.flight_rounds.specs.flight_laps.k_split.Laps.{IsLogWord}
+use Rattle.flight_rounds.specs.flight_laps.k_split.Order.{IsInOrder}
+use Rattle.flight_rounds.specs.flight_laps.staging_files.Keeps.{Staged}
+use Rattle.flight_rounds.specs.flight_laps.world_standing.Standing.{StandsAt}
 use Rattle.flight_rounds.specs.Laws.{HasTurned, StandsHome}
-use Rattle.k_rules.specs.View.{View}
-use Rattle.lines_out.specs.Lines.{AreFrom, line_at}
+use Rattle.map_ends.specs.k_rules.View.{View}
+use Rattle.map_ends.specs.lines_out.Lines.{AreFrom, line_at}
 use Rattle.list_facts.specs.Members.{In}
-use Rattle.losing_facts.specs.Lines.{HoldClaims}
-use Rattle.oplog_tail.specs.Closing.{cells_of}
+use Rattle.crash_facts.specs.losing_facts.Lines.{HoldClaims}
+use Rattle.crash_facts.specs.oplog_tail.Closing.{cells_of}
 use Rattle.posix_words.specs.Open.{Tables}
 use Rattle.round_views.specs.Lines.{first_of, HoldTheClaims}
 use Rattle.round_views.specs.Views.{first_by, IsGoing, IsWorldOver, kept_of, state_of, WorldView}

@@ -19,28 +19,28 @@ use Rattle.disk_lines.specs.Lines.{is_inode_of_kind, most_bytes}
 use Rattle.disk_places.specs.Journal.{journaled}
 use Rattle.disk_places.specs.PlaceLaws.{behind_log-not_journaled, behind_log-words}
 use Rattle.disk_places.specs.Places.{Geometry, inode_line, is_data_block, log_block}
-use Rattle.disk_rules.specs.Content.{size_by}
-use Rattle.disk_rules.specs.Live.{latest}
-use Rattle.disk_rules.specs.Reading.{Reads}
-use Rattle.disk_rules.specs.Rules.{file_blocks_of}
-use Rattle.disk_rules.specs.Volume.{extents, inode, Volume}
-use Rattle.file_table.specs.Files.{Files, size_in}
-use Rattle.flight_laps.specs.k_split.Laps.{HasNextLap}
-use Rattle.flight_laps.specs.staging_files.GivesUp.{AllStagedSingle}
-use Rattle.flight_laps.specs.staging_files.Keeps.{Staged}
-use Rattle.flight_laps.specs.world_standing.Standing.{IsQuietBeside, Kept, StandsAt}
+use Rattle.map_ends.specs.disk_rules.Content.{size_by}
+use Rattle.map_ends.specs.disk_rules.Live.{latest}
+use Rattle.map_ends.specs.disk_rules.Reading.{Reads}
+use Rattle.map_ends.specs.disk_rules.Rules.{file_blocks_of}
+use Rattle.map_ends.specs.disk_rules.Volume.{extents, inode, Volume}
+use Rattle.map_ends.specs.file_table.Files.{Files, size_in}
+use Rattle.flight_rounds.specs.flight_laps.k_split.Laps.{HasNextLap}
+use Rattle.flight_rounds.specs.flight_laps.staging_files.GivesUp.{AllStagedSingle}
+use Rattle.flight_rounds.specs.flight_laps.staging_files.Keeps.{Staged}
+use Rattle.flight_rounds.specs.flight_laps.world_standing.Standing.{IsQuietBeside, Kept, StandsAt}
 use Rattle.flight_rounds.specs.Laws.{StandsHome}
-use Rattle.k_rules.specs.View.{View}
+use Rattle.map_ends.specs.k_rules.View.{View}
 use Rattle.list_facts.specs.Filters.{filter-In}
-use Rattle.posix_spec.specs.State.{State}
+use Rattle.map_ends.specs.posix_spec.State.{State}
 use Rattle.posix_words.specs.Open.{Tables}
 use Rattle.round_views.specs.losing_facts.world_rules.Jobs.{live_claims}
 use Rattle.round_views.specs.script_calls.Counts.{history_within}
 use Rattle.round_views.specs.Views.{kept_of, state_of, WorldView}
-use Rattle.standing_facts.specs.Laws.{StandsToGather}
-use Rattle.standing_facts.specs.log_checkpoint.volume_uses.PoolLaws.{covered-in_data}
-use Rattle.volume_facts.specs.LineWords.{data_word}
-use Rattle.world_promise.specs.Latest.{latest-In}
+use Rattle.flight_gathers.specs.standing_facts.Laws.{StandsToGather}
+use Rattle.flight_gathers.specs.standing_facts.log_checkpoint.volume_uses.PoolLaws.{covered-in_data}
+use Rattle.map_ends.specs.volume_facts.LineWords.{data_word}
+use Rattle.map_ends.specs.world_promise.Latest.{latest-In}
 use Rattle.round_ends.proofs.Counts.{file_or_not, few_gathered}
 use Rattle.round_ends.proofs.Lines.{all_home, at_home, same_volume}
 use Rattle.round_ends.specs.Laws.{EndsReady, IsEnding, ReadyToGather}

@@ -9,27 +9,27 @@ use Rattle.pm_words.specs.ImageLaws.{IsImage-words_of}
 use Rattle.pm_words.specs.Images.{words_of}
 use Rattle.pm_words.specs.Parts.{Part}
 use Rattle.pm_words.specs.Words.{Words}
-use Rattle.block_bytes.specs.Overwrites.{IsInLines}
+use Rattle.map_ends.specs.block_bytes.Overwrites.{IsInLines}
 use Rattle.crash_facts.specs.Laws.{KeepsCrashed, LinesHoldOut}
 use Rattle.disk_places.specs.Places.{Geometry, log_line}
-use Rattle.disk_rules.specs.Honest.{IsHonest}
-use Rattle.disk_rules.specs.Volume.{Volume}
-use Rattle.file_table.specs.Files.{Files}
+use Rattle.map_ends.specs.disk_rules.Honest.{IsHonest}
+use Rattle.map_ends.specs.disk_rules.Volume.{Volume}
+use Rattle.map_ends.specs.file_table.Files.{Files}
 use Rattle.flight_gathers.specs.Laws.{HasGathered, KeepsGathered, StandsGathered}
-use Rattle.flight_laps.specs.staging_files.GivesUp.{nothing_staged}
-use Rattle.flight_laps.specs.staging_files.Keeps.{Staged}
+use Rattle.flight_rounds.specs.flight_laps.staging_files.GivesUp.{nothing_staged}
+use Rattle.flight_rounds.specs.flight_laps.staging_files.Keeps.{Staged}
 use Rattle.round_views.specs.world_images.Promised.{IsKept, KeepsPromise}
-use Rattle.flight_laps.specs.world_standing.Standing.{Pending, StandsAt}
+use Rattle.flight_rounds.specs.flight_laps.world_standing.Standing.{Pending, StandsAt}
 use Rattle.flight_rounds.specs.Laws.{StandsHome}
-use Rattle.k_journal.specs.declared.outcomes.Commit.{Commit}
-use Rattle.k_rules.specs.View.{View}
-use Rattle.lines_out.specs.Lines.{LinesComeBack}
+use Rattle.map_ends.specs.k_journal.declared.outcomes.Commit.{Commit}
+use Rattle.map_ends.specs.k_rules.View.{View}
+use Rattle.map_ends.specs.lines_out.Lines.{LinesComeBack}
 use Rattle.list_facts.specs.Members.{In}
-use Rattle.losing_facts.specs.Blocks.{ComeHome}
-use Rattle.losing_facts.specs.Lines.{AreCrashLines, HoldClaims}
-use Rattle.losing_facts.specs.Stops.{KeepsGatheredOut, KeepsOut}
+use Rattle.crash_facts.specs.losing_facts.Blocks.{ComeHome}
+use Rattle.crash_facts.specs.losing_facts.Lines.{AreCrashLines, HoldClaims}
+use Rattle.crash_facts.specs.losing_facts.Stops.{KeepsGatheredOut, KeepsOut}
 use Rattle.map_ends.specs.Laws.{EndGathered}
-use Rattle.posix_spec.specs.Run.{Begun}
+use Rattle.map_ends.specs.posix_spec.Run.{Begun}
 use Rattle.posix_words.specs.Open.{Tables}
 use Rattle.round_views.specs.declared.over.Over.{Over}
 use Rattle.round_views.specs.file_ends.Ends.{FilesEnd}
@@ -37,7 +37,7 @@ use Rattle.round_views.specs.Lines.{HoldTheClaims}
 use Rattle.round_views.specs.losing_facts.write_ends.Lost.{begun_by}
 use Rattle.round_views.specs.Rounds.{MayCheckpoint}
 use Rattle.round_views.specs.Views.{AreCounted, calls_out, ComesHomeTo, Disk, disk_of, first_by, IsGoing, IsLost, IsLostHome, IsLostOut, IsWorldOver, kept_of, most_acts, state_of, WorldView}
-use Rattle.standing_facts.specs.log_checkpoint.Gathers.{IsGatherAnswer}
+use Rattle.flight_gathers.specs.standing_facts.log_checkpoint.Gathers.{IsGatherAnswer}
 use Rattle.round_ends.proofs.Lines.{all_home, at_home, lines_hold, same_volume}
 use Rattle.round_ends.proofs.Ready.{few_nodes, next_lap, small_enough}
 use Rattle.round_ends.specs.Laws.{GoesIntoNextRound, IsEnding, LosesRoundBefore, LosesRoundInside, lost_round, next_view}

@@ -5,16 +5,16 @@ use Rattle.pm_words.specs.declared.Cell.{Cell}
 use Rattle.pm_words.specs.Cells.{AllHome}
 use Rattle.pm_words.specs.Parts.{Part}
 use Rattle.crash_facts.specs.Laws.{KeepsHome, LinesHoldOut}
-use Rattle.file_table.specs.Files.{Files}
+use Rattle.map_ends.specs.file_table.Files.{Files}
 use Rattle.flight_gathers.specs.Laws.{KeepsGathered, StandsGathered}
-use Rattle.flight_laps.specs.staging_files.GivesUp.{nothing_staged}
-use Rattle.flight_laps.specs.staging_files.Keeps.{Staged}
+use Rattle.flight_rounds.specs.flight_laps.staging_files.GivesUp.{nothing_staged}
+use Rattle.flight_rounds.specs.flight_laps.staging_files.Keeps.{Staged}
 use Rattle.round_views.specs.world_images.Promised.{KeepsPromise}
 use Rattle.flight_rounds.specs.Laws.{StandsHome}
-use Rattle.k_rules.specs.View.{View}
+use Rattle.map_ends.specs.k_rules.View.{View}
 use Rattle.list_facts.specs.Members.{In}
-use Rattle.losing_facts.specs.Stops.{KeepsGatheredOut}
-use Rattle.posix_spec.specs.Run.{Begun}
+use Rattle.crash_facts.specs.losing_facts.Stops.{KeepsGatheredOut}
+use Rattle.map_ends.specs.posix_spec.Run.{Begun}
 use Rattle.posix_words.specs.Open.{Tables}
 use Rattle.round_views.specs.losing_facts.write_ends.Lost.{begun_by}
 use Rattle.round_views.specs.Rounds.{IsLeft}

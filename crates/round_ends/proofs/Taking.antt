@@ -4,11 +4,11 @@ use Rattle.std.proofs.Common.{arith, sym, subst}
 use Rattle.std.proofs.Math.Nat.{mul-le-mul}
 use Rattle.disk_places.specs.PlaceLaws.{behind_log-not_journaled, behind_log-words}
 use Rattle.disk_places.specs.Places.{Geometry}
-use Rattle.file_table.specs.Files.{Files}
-use Rattle.flight_laps.specs.k_split.Laps.{HasSingleLog}
-use Rattle.flight_laps.specs.staging_files.Keeps.{Staged}
-use Rattle.flight_laps.specs.world_standing.Standing.{IsQuietBeside, StandsAt}
-use Rattle.k_rules.specs.View.{View}
+use Rattle.map_ends.specs.file_table.Files.{Files}
+use Rattle.flight_rounds.specs.flight_laps.k_split.Laps.{HasSingleLog}
+use Rattle.flight_rounds.specs.flight_laps.staging_files.Keeps.{Staged}
+use Rattle.flight_rounds.specs.flight_laps.world_standing.Standing.{IsQuietBeside, StandsAt}
+use Rattle.map_ends.specs.k_rules.View.{View}
 use Rattle.posix_words.specs.Open.{Tables}
 use Rattle.round_views.specs.script_calls.Counts.{history_within}
 use Rattle.round_views.specs.Views.{IsGoing, IsWorldOver, kept_of, state_of, WorldView}

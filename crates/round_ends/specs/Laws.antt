@@ -3,21 +3,21 @@ use Rattle.std.specs.Prelude.{◌≡◌, ◌≤◌, ◌+◌, ◌^◌, ℕ, true,
 use Rattle.pm_words.specs.Cells.{cell, is_lent}
 use Rattle.pm_words.specs.Parts.{Part}
 use Rattle.disk_places.specs.Places.{log_line}
-use Rattle.file_table.specs.Files.{Files}
-use Rattle.flight_laps.specs.k_split.Laps.{HasNextLap, HasSingleLog, IsLogWord}
-use Rattle.flight_laps.specs.k_split.LogLines.{AreLogLines}
-use Rattle.flight_laps.specs.k_split.Order.{IsInOrder}
-use Rattle.k_journal.specs.declared.outcomes.Commit.{Commit}
-use Rattle.k_rules.specs.View.{View}
-use Rattle.lines_out.specs.Lines.{LinesComeBack}
+use Rattle.map_ends.specs.file_table.Files.{Files}
+use Rattle.flight_rounds.specs.flight_laps.k_split.Laps.{HasNextLap, HasSingleLog, IsLogWord}
+use Rattle.flight_rounds.specs.flight_laps.k_split.LogLines.{AreLogLines}
+use Rattle.flight_rounds.specs.flight_laps.k_split.Order.{IsInOrder}
+use Rattle.map_ends.specs.k_journal.declared.outcomes.Commit.{Commit}
+use Rattle.map_ends.specs.k_rules.View.{View}
+use Rattle.map_ends.specs.lines_out.Lines.{LinesComeBack}
 use Rattle.posix_words.specs.Open.{Tables}
-use Rattle.standing_facts.specs.log_checkpoint.Gathers.{file_count, IsGatherAnswer, MayGather, total_runs}
-use Rattle.flight_laps.specs.staging_files.GivesUp.{AllStagedSingle}
+use Rattle.flight_gathers.specs.standing_facts.log_checkpoint.Gathers.{file_count, IsGatherAnswer, MayGather, total_runs}
+use Rattle.flight_rounds.specs.flight_laps.staging_files.GivesUp.{AllStagedSingle}
 use Rattle.round_views.specs.Lines.{HoldTheClaims}
 use Rattle.round_views.specs.Losses.{MayCrash}
 use Rattle.round_views.specs.Rounds.{IsLeft, MayCheckpoint}
 use Rattle.round_views.specs.Views.{calls_out, Disk, disk_of, IsWorldOver, WorldView}
-use Rattle.flight_laps.specs.staging_files.Keeps.{Staged}
+use Rattle.flight_rounds.specs.flight_laps.staging_files.Keeps.{Staged}
 
 -- ---- the log's lines go out
 

@@ -13,11 +13,11 @@
 ghost use Rattle.round_ends.specs.Laws.{EndsReady, EndsRunWhole, GoesIntoNextRound, LosesRoundBefore, LosesRoundInside, LosesRun, MayBegin, MayCrashWhole, MayEnd};
 
 use crash_facts::a_crash_keeps_the_promise;
+use crash_facts::losing_facts::publishing_leaves_what_is_out;
 use flight_gathers::all_files_are_gathered;
+use flight_gathers::standing_facts::what_stands_may_be_gathered;
 use flight_rounds::log_lines_come_home;
-use losing_facts::publishing_leaves_what_is_out;
 use map_ends::files_end_after_changes_of_maps;
-use standing_facts::what_stands_may_be_gathered;
 
 /// The log's lines may go out.
 pub fn the_lines_of_a_round_may_go_out()
@@ -58,3 +58,6 @@ pub fn an_unmount_ends_a_run()
     all_files_are_gathered();
     publishing_leaves_what_is_out();
 }
+
+pub use flight_gathers::standing_facts;
+pub use flight_rounds;

@@ -14,18 +14,18 @@ use Rattle.disk_lines.specs.declared.Kind.TheVariants.{Directory, File, Free, St
 use Rattle.disk_lines.specs.Entries.{is_draft}
 use Rattle.disk_lines.specs.Lines.{is_inode_of_kind, most_bytes}
 use Rattle.disk_places.specs.Places.{Geometry}
-use Rattle.disk_rules.specs.Content.{size_by}
-use Rattle.disk_rules.specs.Live.{is_file, latest}
-use Rattle.disk_rules.specs.Volume.{inode}
+use Rattle.world_standing.specs.disk_rules.Content.{size_by}
+use Rattle.world_standing.specs.disk_rules.Live.{is_file, latest}
+use Rattle.world_standing.specs.disk_rules.Volume.{inode}
 use Rattle.file_overlay.specs.Runs.{Overlaid}
-use Rattle.file_table.specs.Files.{nothing_laid, runs_in}
-use Rattle.k_rules.specs.View.{View}
+use Rattle.world_standing.specs.file_table.Files.{nothing_laid, runs_in}
+use Rattle.world_standing.specs.k_rules.View.{View}
 use Rattle.list_facts.specs.Filters.{filter-In}
 use Rattle.list_facts.specs.Members.{In}
 use Rattle.world_standing.specs.overlay_facts.Overlays.{run_of}
 use Rattle.posix_types.specs.declared.call.Who.{Who}
 use Rattle.posix_words.specs.Open.{same_who, Tables}
-use Rattle.posix_spec.specs.State.{State}
+use Rattle.script_calls.specs.posix_spec.State.{State}
 use Rattle.script_calls.specs.Counters.{IsCounted}
 use Rattle.world_standing.specs.staging_files.declared.runs.StageRun.{StageRun}
 use Rattle.world_standing.specs.staging_files.Keeps.{AreApart, given_to, has_block, IsPlaced, IsStaged, Staged}

@@ -10,21 +10,21 @@ use Rattle.pm_words.specs.Words.{Words}
 use Rattle.disk_places.specs.Journal.{journaled}
 use Rattle.disk_places.specs.Places.{Geometry}
 use Rattle.disk_lines.specs.declared.Draft.{Draft}
-use Rattle.disk_rules.specs.Volume.{Volume}
-use Rattle.k_rules.specs.View.{View}
+use Rattle.world_standing.specs.disk_rules.Volume.{Volume}
+use Rattle.world_standing.specs.k_rules.View.{View}
 use Rattle.list_facts.specs.Members.{In}
 use Rattle.posix_types.specs.declared.call.Call.{Call}
 use Rattle.posix_types.specs.declared.call.Who.{Who}
 use Rattle.posix_words.specs.Open.{same_who, Tables}
-use Rattle.posix_puts.specs.Puts.{put_bytes, PutsWhole}
-use Rattle.posix_puts.specs.Views.{need_of}
-use Rattle.posix_spec.specs.Run.{after_call, Begun}
-use Rattle.posix_spec.specs.State.{room, State}
+use Rattle.script_calls.specs.posix_puts.Puts.{put_bytes, PutsWhole}
+use Rattle.script_calls.specs.posix_puts.Views.{need_of}
+use Rattle.script_calls.specs.posix_spec.Run.{after_call, Begun}
+use Rattle.script_calls.specs.posix_spec.State.{room, State}
 use Rattle.script_calls.specs.posix_frames.Flights.{InFlight, need_of-step, PutsWhole-step, waits_for-put}
 use Rattle.script_calls.specs.posix_frames.Frames.{AreThreads}
 use Rattle.script_calls.specs.posix_frames.Histories.{AreAllThreads, LetsAllBe-idle, outs}
 use Rattle.script_calls.specs.posix_frames.Needs.{LetsAllBe, LetsBe}
-use Rattle.crash_spec.specs.Busy.{is_busy, Out, waits_for}
+use Rattle.script_calls.specs.crash_spec.Busy.{is_busy, Out, waits_for}
 use Rattle.world_standing.specs.world_rules.Jobs.{begun_of, Job, JobsStand, JobStands, live_claims}
 use Rattle.world_standing.specs.world_rules.Stands.{number}
 use Rattle.world_standing.specs.world_promise.JobLaws.{needs}

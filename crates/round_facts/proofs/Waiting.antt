@@ -6,8 +6,8 @@ use Rattle.std.proofs.Common.{arith, ap, ◌∙◌, sym, subst, inl, inr}
 use Rattle.std.proofs.lemmas.Bool.Decides.{Decides-eqb}
 use Rattle.disk_lines.specs.declared.Draft.{Draft}
 use Rattle.disk_places.specs.Places.{Geometry}
-use Rattle.k_rules.specs.Spaces.{volume_space}
-use Rattle.k_rules.specs.View.{View}
+use Rattle.world_standing.specs.k_rules.Spaces.{volume_space}
+use Rattle.world_standing.specs.k_rules.View.{View}
 use Rattle.world_standing.specs.k_split.Looks.{IsFound}
 use Rattle.list_facts.specs.Members.{In}
 use Rattle.open_numbers.proofs.Lookups.{same_opened}
@@ -23,9 +23,9 @@ use Rattle.posix_words.specs.NameRows.{stat_rows, walk_row}
 use Rattle.posix_words.specs.Names.{child_of, exists_at, is_root, last_name, node_at_path, Space, too_long, walk}
 use Rattle.posix_words.specs.Open.{describes, is_open, key_of, opened, same_who, Tables}
 use Rattle.posix_words.specs.Outcomes.{answer, first, row}
-use Rattle.posix_spec.specs.State.{space, State}
+use Rattle.script_calls.specs.posix_spec.State.{space, State}
 use Rattle.script_calls.specs.posix_frames.Handles.{same_who-is}
-use Rattle.crash_spec.specs.Busy.{handle_node, is_busy, keeps_busy, Out, path_node, waits_for}
+use Rattle.script_calls.specs.crash_spec.Busy.{handle_node, is_busy, keeps_busy, Out, path_node, waits_for}
 use Rattle.world_standing.specs.world_steps.Worlds.{world_mirror}
 use Rattle.world_standing.specs.world_promise.JobLaws.{live_used}
 use Rattle.world_standing.specs.world_rules.Stands.{is_used, IsUsed, number}

@@ -8,4 +8,4 @@
 #![tactic(auto)]
 
 pub use script_calls;
-pub use world_standing::{k_split, staging_files};
+pub use world_standing::{k_journal, k_split, staging_files, write_jobs};

@@ -1,7 +1,7 @@
 -- Which file a call waits for.
 use Rattle.std.specs.Prelude.{◌≡◌, ℕ, false, List, Option, Some, None, option_map, Result, refl}
 use Rattle.std.proofs.Common.{sym, subst}
-use Rattle.k_rules.specs.View.{View}
+use Rattle.round_facts.specs.k_rules.View.{View}
 use Rattle.round_facts.specs.k_split.Looks.{IsFound}
 use Rattle.posix_types.specs.declared.call.Call.{Call}
 use Rattle.posix_types.specs.declared.call.Who.{Who}
@@ -9,8 +9,8 @@ use Rattle.posix_types.specs.declared.handle.Handle.{Handle}
 use Rattle.posix_types.specs.declared.reply.Errno.{Errno}
 use Rattle.posix_words.specs.declared.open.Description.{Description}
 use Rattle.posix_words.specs.Open.{opened, Tables}
-use Rattle.posix_spec.specs.State.{State}
-use Rattle.crash_spec.specs.Busy.{handle_node, is_busy, path_node, waits_for}
+use Rattle.open_files.specs.posix_spec.State.{State}
+use Rattle.open_files.specs.crash_spec.Busy.{handle_node, is_busy, path_node, waits_for}
 use Rattle.round_facts.specs.world_standing.Standing.{Pending}
 use Rattle.round_facts.specs.Busy.{files_by, found_ino, HoldsFile, IsKeeping, IsKept, IsNodeOf, WaitsForFile}
 use Rattle.round_facts.proofs.Waiting.{handle_waits, idle_file, idle_none, kept_waiting, path_waits}

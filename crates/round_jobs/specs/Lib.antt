@@ -6,3 +6,13 @@ pub use Rattle.round_facts.specs.world_images as world_images
 pub use Rattle.round_facts.specs.world_rules as world_rules
 pub use Rattle.round_facts.specs.world_standing as world_standing
 pub use Rattle.round_facts.specs.world_steps as world_steps
+pub use Rattle.open_files.specs.crash_spec as crash_spec
+pub use Rattle.open_files.specs.posix_facts as posix_facts
+pub use Rattle.open_files.specs.posix_spec as posix_spec
+pub use Rattle.round_facts.specs as round_facts
+pub use Rattle.round_facts.specs.block_bytes as block_bytes
+pub use Rattle.round_facts.specs.disk_rules as disk_rules
+pub use Rattle.round_facts.specs.file_table as file_table
+pub use Rattle.round_facts.specs.k_rules as k_rules
+pub use Rattle.round_facts.specs.lines_out as lines_out
+pub use Rattle.round_facts.specs.write_jobs as write_jobs

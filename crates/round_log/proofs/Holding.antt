@@ -7,7 +7,7 @@ use Rattle.std.proofs.Math.ListN.{get_or-map}
 use Rattle.std.proofs.lemmas.List.Elements.{Contains-append_left, Contains-push, Contains-push_cases}
 use Rattle.pm_words.specs.Parts.{Part}
 use Rattle.disk_lines.specs.declared.Draft.{Draft}
-use Rattle.disk_rules.specs.LogRule.{cells_of_line, HoldsEntry, IsAsAtFirst}
+use Rattle.oplog_tail.specs.disk_rules.LogRule.{cells_of_line, HoldsEntry, IsAsAtFirst}
 use Rattle.oplog_tail.specs.Closing.{cells_of}
 use Rattle.oplog_tail.specs.Rule.{line_at}
 use Rattle.round_log.specs.Held.{ChangesTaken, ClaimsSlot, HoldsNone, IsUnclaimed, LinesHoldClaims, TakesSlot}

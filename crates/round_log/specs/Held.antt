@@ -3,7 +3,7 @@ use Rattle.std.specs.Prelude.{◌≡◌, ◌<◌, ◌+◌, ℕ, Contains, List, 
 use Rattle.pm_words.specs.Parts.{Part}
 use Rattle.pm_words.specs.Words.{Words}
 use Rattle.disk_lines.specs.declared.Draft.{Draft}
-use Rattle.disk_rules.specs.LogRule.{HoldsClaims, HoldsEntry, IsAsAtFirst}
+use Rattle.oplog_tail.specs.disk_rules.LogRule.{HoldsClaims, HoldsEntry, IsAsAtFirst}
 use Rattle.oplog_tail.specs.Closing.{cells_of}
 use Rattle.oplog_tail.specs.Rule.{line_at}
 use Rattle.round_log.specs.Rounds.{ChangesLine, IsClaimed, IsRound, RoundView}

@@ -7,7 +7,7 @@ ghost use Rattle.round_log.specs.Stores.{HasStored, Persists};
 
 use disk_lines::Draft;
 use line_fields::u64_at;
-use oplog_entry::encode;
+use oplog_tail::oplog_entry::encode;
 use pm_lines::{Line, Power};
 
 // Stores the words of an entry into a line. Without power the rest of the steps do nothing.

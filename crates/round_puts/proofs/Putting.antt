@@ -4,39 +4,39 @@ use Rattle.std.proofs.Common.{arith, ap, ◌∙◌, sym, subst, inl, inr}
 use Rattle.block_counts.specs.Counts.{blocks_for}
 use Rattle.pm_words.specs.Powers.{is_on, Supply}
 use Rattle.disk_lines.specs.declared.Kind.TheVariants.{File}
-use Rattle.disk_rules.specs.Volume.{inode, Volume}
+use Rattle.write_begins.specs.disk_rules.Volume.{inode, Volume}
 use Rattle.extent_words.specs.Extents.{disk_at}
-use Rattle.file_table.specs.Files.{Files}
-use Rattle.k_rules.specs.View.{View}
+use Rattle.write_begins.specs.file_table.Files.{Files}
+use Rattle.write_begins.specs.k_rules.View.{View}
 use Rattle.list_facts.specs.Members.{In, pushed-In}
 use Rattle.posix_types.specs.declared.call.Mode.{Mode}
 use Rattle.posix_types.specs.declared.call.Who.{Who}
 use Rattle.posix_types.specs.declared.handle.Handle.{Handle}
 use Rattle.posix_types.specs.declared.item.Outcome.{Outcome}
 use Rattle.posix_words.specs.Open.{Tables}
-use Rattle.posix_spec.specs.Run.{after_call}
-use Rattle.posix_spec.specs.State.{room, State}
-use Rattle.posix_spec.specs.Step.{step, Stepped}
-use Rattle.round_jobs.proofs.round_facts_proofs.Counts.{few_jobs}
-use Rattle.round_jobs.specs.script_calls.Counters.{IsCounted}
-use Rattle.round_jobs.specs.script_calls.Histories.{is_counted, item_with}
-use Rattle.round_jobs.specs.staging_files.Keeps.{Staged}
-use Rattle.round_jobs.specs.world_standing.Standing.{Pending, StandsAt}
-use Rattle.write_jobs.specs.Jobs.{JobView}
-use Rattle.round_turns.proofs.Beginning.{began, lets, lost_call, others_began, others_lost, others_returned, returned}
-use Rattle.round_turns.proofs.Losing.{lost_view}
-use Rattle.round_views.specs.declared.over.Over.{Over}
-use Rattle.round_views.proofs.losing_facts_proofs.Homes.{has_blocks_out}
-use Rattle.round_views.specs.Begins.{BeginsJob, EndsRound, item_of, LacksBeside, LacksStaging, LosesCall, Returns, WantsMemory}
-use Rattle.round_views.specs.file_ends.Ends.{FilesEnd}
-use Rattle.round_views.specs.Views.{disk_of, IsGoing, IsWorldOver, kept_of, state_of, WorldView}
+use Rattle.write_begins.specs.posix_spec.Run.{after_call}
+use Rattle.write_begins.specs.posix_spec.State.{room, State}
+use Rattle.write_begins.specs.posix_spec.Step.{step, Stepped}
+use Rattle.round_calls.proofs.round_jobs_proofs.round_facts_proofs.Counts.{few_jobs}
+use Rattle.round_calls.specs.round_jobs.script_calls.Counters.{IsCounted}
+use Rattle.round_calls.specs.round_jobs.script_calls.Histories.{is_counted, item_with}
+use Rattle.round_calls.specs.round_jobs.staging_files.Keeps.{Staged}
+use Rattle.round_calls.specs.round_jobs.world_standing.Standing.{Pending, StandsAt}
+use Rattle.write_begins.specs.write_jobs.Jobs.{JobView}
+use Rattle.round_calls.proofs.round_turns_proofs.Beginning.{began, lets, lost_call, others_began, others_lost, others_returned, returned}
+use Rattle.round_calls.proofs.round_turns_proofs.Losing.{lost_view}
+use Rattle.round_calls.specs.round_views.declared.over.Over.{Over}
+use Rattle.round_calls.proofs.round_views_proofs.losing_facts_proofs.Homes.{has_blocks_out}
+use Rattle.round_calls.specs.round_views.Begins.{BeginsJob, EndsRound, item_of, LacksBeside, LacksStaging, LosesCall, Returns, WantsMemory}
+use Rattle.round_calls.specs.round_views.file_ends.Ends.{FilesEnd}
+use Rattle.round_calls.specs.round_views.Views.{disk_of, IsGoing, IsWorldOver, kept_of, state_of, WorldView}
 use Rattle.write_begins.proofs.Begun.{need_fits}
 use Rattle.write_begins.specs.Begins as writing
 use Rattle.write_begins.specs.Begins.{BeginsWrite, Found, IsAnsweredBy, LosesWrite, StaysStanding}
 use Rattle.write_begins.specs.Goes.{KeepsMaps}
 use Rattle.write_begins.specs.Needs.{JobsNeed, need_by}
 use Rattle.write_begins.specs.write_asks.Laws.{call_of, start_of}
-use Rattle.posix_facts.specs.RowLaws.{Accepts-from_rows}
+use Rattle.write_begins.specs.posix_facts.RowLaws.{Accepts-from_rows}
 use Rattle.round_puts.proofs.Rows.{accepted_logged, is_its_need, lacks_staging, no_publish, refused_step, refused_unlogged}
 use Rattle.round_calls.proofs.Jobs.{needs_are, stands_later}
 use Rattle.round_calls.specs.Calls.{AtCall}

@@ -3,27 +3,27 @@ use Rattle.std.specs.Prelude.{◌≡◌, ◌≢◌, ◌≤◌, ◌<◌, ◌+◌,
 use Rattle.std.specs.Option.{option_map_or}
 use Rattle.std.proofs.Common.{arith, ap, ◌∙◌, sym, subst, inl, inr}
 use Rattle.disk_places.specs.Places.{Geometry, reserve}
-use Rattle.k_rules.specs.View.{View}
+use Rattle.write_begins.specs.k_rules.View.{View}
 use Rattle.posix_types.specs.declared.call.Mode.{Mode}
 use Rattle.posix_types.specs.declared.call.Who.{Who}
 use Rattle.posix_types.specs.declared.handle.Handle.{Handle}
 use Rattle.posix_types.specs.declared.item.Outcome.{Outcome}
 use Rattle.posix_words.specs.Open.{Tables}
 use Rattle.posix_words.specs.Outcomes.{first}
-use Rattle.posix_puts.specs.Views.{need_of}
-use Rattle.posix_spec.specs.FileRows.{file_number, write_rows, write_start}
-use Rattle.posix_spec.specs.Put.{Put, put_by, put_unless}
-use Rattle.posix_spec.specs.State.{alone, State}
-use Rattle.posix_spec.specs.Step.{pwrite_done, step, stepped, Stepped, write_done}
-use Rattle.crash_spec.specs.Busy.{is_logged, is_logged_put}
-use Rattle.round_jobs.specs.k_split.MapChanges.{free_blocks_in}
-use Rattle.round_jobs.specs.staging_files.Keeps.{Staged}
-use Rattle.round_jobs.specs.staging_files.Reserves.{has_empty, HasNoFreeRun, IsLacking, LacksFirstWay, LacksSecondWay, need}
+use Rattle.write_begins.specs.posix_puts.Views.{need_of}
+use Rattle.write_begins.specs.posix_spec.FileRows.{file_number, write_rows, write_start}
+use Rattle.write_begins.specs.posix_spec.Put.{Put, put_by, put_unless}
+use Rattle.write_begins.specs.posix_spec.State.{alone, State}
+use Rattle.write_begins.specs.posix_spec.Step.{pwrite_done, step, stepped, Stepped, write_done}
+use Rattle.write_begins.specs.crash_spec.Busy.{is_logged, is_logged_put}
+use Rattle.round_calls.specs.round_jobs.k_split.MapChanges.{free_blocks_in}
+use Rattle.round_calls.specs.round_jobs.staging_files.Keeps.{Staged}
+use Rattle.round_calls.specs.round_jobs.staging_files.Reserves.{has_empty, HasNoFreeRun, IsLacking, LacksFirstWay, LacksSecondWay, need}
 use Rattle.write_begins.proofs.Asked.{puts_of}
 use Rattle.write_begins.specs.write_asks.Laws.{call_of, start_of}
 use Rattle.write_begins.specs.write_drafts.Drafts.{staged_count}
-use Rattle.round_views.specs.Begins.{HasNoRun, IsNeed, IsStagingNeed, LacksStaging, Publishes, staged_by}
-use Rattle.round_views.specs.Views.{Disk, disk_of, state_of, WorldView}
+use Rattle.round_calls.specs.round_views.Begins.{HasNoRun, IsNeed, IsStagingNeed, LacksStaging, Publishes, staged_by}
+use Rattle.round_calls.specs.round_views.Views.{Disk, disk_of, state_of, WorldView}
 
 -- ---- a row fits
 

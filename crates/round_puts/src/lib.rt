@@ -10,4 +10,6 @@
 #![tactic(auto)]
 
 pub use round_calls;
+pub use round_calls::{finish_ends, flight_truncates, round_jobs};
 pub use write_begins;
+pub use write_begins::write_drafts;

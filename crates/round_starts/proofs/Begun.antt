@@ -5,11 +5,11 @@ use Rattle.std.proofs.Math.Path.{fun_ext}
 use Rattle.pm_words.specs.Images.{words_of}
 use Rattle.pm_words.specs.Words.{Words}
 use Rattle.disk_places.specs.Places.{Geometry}
-use Rattle.disk_rules.specs.Content.{content}
-use Rattle.flight_laps.specs.staging_files.GivesUp.{nothing_staged}
-use Rattle.k_rules.specs.View.{View}
+use Rattle.map_ends.specs.disk_rules.Content.{content}
+use Rattle.round_views.specs.flight_laps.staging_files.GivesUp.{nothing_staged}
+use Rattle.map_ends.specs.k_rules.View.{View}
 use Rattle.log_mount.specs.Mounts.{IsMounted}
-use Rattle.posix_spec.specs.Tree.{start}
+use Rattle.map_ends.specs.posix_spec.Tree.{start}
 use Rattle.posix_types.specs.declared.call.Mode.{Mode}
 use Rattle.posix_types.specs.declared.reply.Shape.{Shape}
 use Rattle.posix_types.specs.declared.tree.TreeEntry.{TreeEntry}

@@ -14,21 +14,21 @@ use Rattle.disk_lines.specs.Entries.{held_seq, is_self_valid}
 use Rattle.disk_places.specs.Journal.{IsSound, journaled}
 use Rattle.disk_places.specs.PlaceLaws.{behind_log-not_journaled, behind_log-words}
 use Rattle.disk_places.specs.Places.{Geometry, log_line}
-use Rattle.disk_rules.specs.Checked.{IsCheckedAs}
-use Rattle.disk_rules.specs.Content.{content}
-use Rattle.disk_rules.specs.Volume.{inode, Volume, volume}
-use Rattle.entry_orders.specs.Starts.{start-rising}
-use Rattle.file_table.specs.Files.{Files}
-use Rattle.flight_laps.proofs.staging_files_proofs.GiveUpLaws.{staged-nothing}
-use Rattle.flight_laps.proofs.staging_files_proofs.StagedLaws.{free-given}
-use Rattle.flight_laps.specs.Laws.{HasOldLines}
-use Rattle.flight_laps.specs.staging_files.GivesUp.{nothing_staged}
-use Rattle.flight_laps.specs.staging_files.Keeps.{Agrees, AreFreeSingle, is_kept_free, IsStaging}
-use Rattle.k_rules.specs.View.{View}
+use Rattle.map_ends.specs.disk_rules.Checked.{IsCheckedAs}
+use Rattle.map_ends.specs.disk_rules.Content.{content}
+use Rattle.map_ends.specs.disk_rules.Volume.{inode, Volume, volume}
+use Rattle.round_views.specs.entry_orders.Starts.{start-rising}
+use Rattle.map_ends.specs.file_table.Files.{Files}
+use Rattle.round_views.proofs.flight_laps_proofs.staging_files_proofs.GiveUpLaws.{staged-nothing}
+use Rattle.round_views.proofs.flight_laps_proofs.staging_files_proofs.StagedLaws.{free-given}
+use Rattle.round_views.specs.flight_laps.Laws.{HasOldLines}
+use Rattle.round_views.specs.flight_laps.staging_files.GivesUp.{nothing_staged}
+use Rattle.round_views.specs.flight_laps.staging_files.Keeps.{Agrees, AreFreeSingle, is_kept_free, IsStaging}
+use Rattle.map_ends.specs.k_rules.View.{View}
 use Rattle.log_mount.specs.Mounts.{IsMounted}
 use Rattle.map_ends.specs.Laws.{EndBegun}
 use Rattle.open_numbers.proofs.Changes.{nothing_is_open}
-use Rattle.posix_spec.specs.Tree.{bare, start}
+use Rattle.map_ends.specs.posix_spec.Tree.{bare, start}
 use Rattle.posix_types.specs.declared.call.Mode.{Mode}
 use Rattle.posix_types.specs.declared.reply.Shape.{Shape}
 use Rattle.posix_types.specs.declared.tree.TreeEntry.{TreeEntry}
@@ -43,7 +43,7 @@ use Rattle.round_views.specs.world_standing.held_sums.Laws.{AreSizes}
 use Rattle.round_views.specs.world_standing.Standing.{StandsAt}
 use Rattle.round_views.specs.world_standing.world_beginning.Begun.{numbers_of}
 use Rattle.round_views.specs.world_standing.world_rules.Stands.{number}
-use Rattle.volume_facts.specs.ImageLaws.{journaled-other}
+use Rattle.map_ends.specs.volume_facts.ImageLaws.{journaled-other}
 use Rattle.round_starts.proofs.Lines.{size_is, stands_at_rest}
 use Rattle.round_starts.proofs.Trees.{fold_tables, shape_of, shown_tree}
 use Rattle.round_starts.specs.Laws.{first_view, MayStart, StartsGoing}

@@ -14,10 +14,10 @@ use Rattle.disk_lines.specs.LineLaws.{IsInodeLine-decode_inode}
 use Rattle.disk_lines.specs.Lines.{is_inode_of_kind, most_bytes}
 use Rattle.disk_places.specs.Journal.{journaled}
 use Rattle.disk_places.specs.Places.{Geometry, inode_line}
-use Rattle.disk_rules.specs.Reading.{Reads}
-use Rattle.disk_rules.specs.Volume.{free_inode, inode, Volume}
-use Rattle.k_rules.specs.Stands.{Stands}
-use Rattle.k_rules.specs.View.{View}
+use Rattle.map_ends.specs.disk_rules.Reading.{Reads}
+use Rattle.map_ends.specs.disk_rules.Volume.{free_inode, inode, Volume}
+use Rattle.map_ends.specs.k_rules.Stands.{Stands}
+use Rattle.map_ends.specs.k_rules.View.{View}
 use Rattle.log_mount.specs.k_mount.Sheds.{IsAtRest}
 
 few_bytes : (kind : Kind) (x : Inode) → is_inode_of_kind kind x ≡ true → x.size ≤ most_bytes

@@ -9,15 +9,15 @@ use Rattle.pm_words.specs.Words.{Words}
 use Rattle.disk_lines.specs.declared.Draft.{Draft}
 use Rattle.disk_places.specs.Journal.{journaled}
 use Rattle.disk_places.specs.Places.{Geometry}
-use Rattle.disk_rules.specs.Content.{HasBytes, IsDirectory, Node}
-use Rattle.disk_rules.specs.Live.{entry_in, is_live, live_entries}
-use Rattle.disk_rules.specs.Volume.{Volume}
-use Rattle.k_content.specs.Trees.{tree_content, tree_node}
+use Rattle.map_ends.specs.disk_rules.Content.{HasBytes, IsDirectory, Node}
+use Rattle.map_ends.specs.disk_rules.Live.{entry_in, is_live, live_entries}
+use Rattle.map_ends.specs.disk_rules.Volume.{Volume}
+use Rattle.map_ends.specs.k_content.Trees.{tree_content, tree_node}
 use Rattle.list_facts.specs.Filters.{filter-In, filter_map-In, range-In}
 use Rattle.list_facts.specs.Members.{In}
-use Rattle.posix_spec.specs.State.{made, State}
-use Rattle.posix_spec.specs.Tree.{planted}
-use Rattle.posix_trees.specs.TreeOf.{IsTreeOf}
+use Rattle.map_ends.specs.posix_spec.State.{made, State}
+use Rattle.map_ends.specs.posix_spec.Tree.{planted}
+use Rattle.map_ends.specs.posix_trees.TreeOf.{IsTreeOf}
 use Rattle.posix_types.specs.declared.reply.Shape.{Shape}
 use Rattle.posix_types.specs.declared.tree.TreeEntry.{TreeEntry}
 use Rattle.posix_types.specs.declared.tree.TreeNode.{TreeNode}

@@ -5,14 +5,14 @@ use Rattle.pm_words.specs.Images.{words_of}
 use Rattle.pm_words.specs.Words.{Words}
 use Rattle.disk_places.specs.Journal.{journaled}
 use Rattle.disk_places.specs.Places.{data_blocks, Geometry, IsGeometry, nodes}
-use Rattle.disk_rules.specs.Content.{content}
-use Rattle.disk_rules.specs.Live.{live_entries}
-use Rattle.file_table.specs.Files.{Files}
-use Rattle.k_content.specs.Trees.{tree_content}
-use Rattle.k_rules.specs.View.{View}
+use Rattle.map_ends.specs.disk_rules.Content.{content}
+use Rattle.map_ends.specs.disk_rules.Live.{live_entries}
+use Rattle.map_ends.specs.file_table.Files.{Files}
+use Rattle.map_ends.specs.k_content.Trees.{tree_content}
+use Rattle.map_ends.specs.k_rules.View.{View}
 use Rattle.log_mount.specs.Mounts.{IsMounted}
-use Rattle.posix_spec.specs.Tree.{start}
-use Rattle.posix_trees.specs.TreeOf.{IsTreeOf}
+use Rattle.map_ends.specs.posix_spec.Tree.{start}
+use Rattle.map_ends.specs.posix_trees.TreeOf.{IsTreeOf}
 use Rattle.posix_types.specs.declared.call.Mode.{Mode}
 use Rattle.posix_types.specs.declared.reply.Shape.{Shape}
 use Rattle.posix_types.specs.declared.tree.TreeEntry.{TreeEntry}

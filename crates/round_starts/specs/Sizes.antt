@@ -1,7 +1,7 @@
 -- The sizes of the files of a mounted device.
 use Rattle.std.specs.Prelude.{◌≡◌, ℕ, [], length}
-use Rattle.disk_rules.specs.Volume.{inode, Volume}
-use Rattle.file_table.specs.Files.{Files, runs_in, size_in}
+use Rattle.map_ends.specs.disk_rules.Volume.{inode, Volume}
+use Rattle.map_ends.specs.file_table.Files.{Files, runs_in, size_in}
 
 -- THE TABLE HAS THE SIZES OF ALL INODES, and nothing is staged of any.
 pub record HasSizesOf (v : Volume) (t : Files) : Type 0 where

@@ -24,3 +24,9 @@ pub fn a_world_begins()
 {
     files_end_after_changes_of_maps();
 }
+
+pub use log_mount;
+pub use log_mount::k_mount;
+pub use map_ends::{file_table, image_layout, k_journal, lines_out};
+pub use round_views;
+pub use round_views::{oplog_tail, write_jobs};

@@ -4,19 +4,19 @@ use Rattle.std.proofs.Common.{arith, ap, ◌∙◌, sym, subst, inl, inr, length
 use Rattle.pm_words.specs.declared.Cell.{Cell}
 use Rattle.pm_words.specs.Words.{Words}
 use Rattle.round_views.specs.file_ends.Ends.{DraftEnds, FilesEnd}
-use Rattle.file_table.specs.Files.{Files}
-use Rattle.k_rules.specs.View.{View}
+use Rattle.round_jobs.specs.file_table.Files.{Files}
+use Rattle.round_jobs.specs.k_rules.View.{View}
 use Rattle.list_facts.specs.Members.{In, pushed-In}
 use Rattle.round_views.specs.lost_devices.Left.{IsLeftOf}
 use Rattle.posix_types.specs.declared.call.Call.{Call}
 use Rattle.posix_types.specs.declared.call.Who.{Who}
 use Rattle.posix_words.specs.Open.{Tables}
-use Rattle.posix_spec.specs.Run.{after_call, Begun}
-use Rattle.posix_spec.specs.Scripted.{IsSetUp}
-use Rattle.posix_spec.specs.State.{State}
-use Rattle.posix_spec.specs.Step.{step}
+use Rattle.round_jobs.specs.posix_spec.Run.{after_call, Begun}
+use Rattle.round_jobs.specs.posix_spec.Scripted.{IsSetUp}
+use Rattle.round_jobs.specs.posix_spec.State.{State}
+use Rattle.round_jobs.specs.posix_spec.Step.{step}
 use Rattle.round_jobs.specs.posix_frames.Frames.{AreThreads}
-use Rattle.crash_spec.specs.Busy.{is_busy}
+use Rattle.round_jobs.specs.crash_spec.Busy.{is_busy}
 use Rattle.round_jobs.specs.script_calls.Histories.{are_threads, Grows, grows, next_stays, set_up_stays}
 use Rattle.round_jobs.specs.staging_files.Keeps.{Staged}
 use Rattle.round_jobs.specs.world_images.Promised.{IsKept}

@@ -6,21 +6,21 @@ use Rattle.pm_words.specs.declared.Cell.{Cell}
 use Rattle.pm_words.specs.Cells.{AllHome, cell, is_lent}
 use Rattle.pm_words.specs.Parts.{Part}
 use Rattle.pm_words.specs.Words.{Words}
-use Rattle.block_bytes.specs.Overwrites.{IsInLines}
+use Rattle.round_jobs.specs.block_bytes.Overwrites.{IsInLines}
 use Rattle.disk_lines.specs.declared.Draft.{Draft}
 use Rattle.disk_places.specs.Places.{Geometry, log_line}
-use Rattle.disk_rules.specs.LogRule.{HoldsEntry, IsAsAtFirst}
-use Rattle.disk_rules.specs.Volume.{Volume}
-use Rattle.file_table.specs.Files.{Files}
-use Rattle.k_rules.specs.View.{View}
-use Rattle.lines_out.specs.Lines.{AreFrom, line_at, LinesComeBack}
+use Rattle.round_jobs.specs.disk_rules.LogRule.{HoldsEntry, IsAsAtFirst}
+use Rattle.round_jobs.specs.disk_rules.Volume.{Volume}
+use Rattle.round_jobs.specs.file_table.Files.{Files}
+use Rattle.round_jobs.specs.k_rules.View.{View}
+use Rattle.round_jobs.specs.lines_out.Lines.{AreFrom, line_at, LinesComeBack}
 use Rattle.list_facts.specs.Members.{In}
 use Rattle.posix_words.specs.Open.{Tables}
 use Rattle.round_jobs.specs.script_calls.Counts.{history_within}
 use Rattle.round_jobs.specs.staging_files.Keeps.{Staged}
 use Rattle.round_jobs.specs.world_images.Promised.{KeepsPromise}
 use Rattle.round_jobs.specs.world_standing.Standing.{Pending}
-use Rattle.write_jobs.specs.Jobs.{blocks_of, FilledView, HoldWords, JobView}
+use Rattle.round_jobs.specs.write_jobs.Jobs.{blocks_of, FilledView, HoldWords, JobView}
 use Rattle.round_views.specs.losing_facts.Blocks.{AreBlocksOut, ComeHome}
 use Rattle.crash_facts.specs.Laws.{AreHandedIn}
 use Rattle.round_views.specs.losing_facts.Lines as crashed

@@ -2,29 +2,29 @@
 use Rattle.std.specs.Prelude.{◌≡◌, ◌≢◌, ◌+◌, ◌++◌, not, ℕ, suc, Bool, true, false, cond, List, [], ◌∷◌, length, Option, Some, None, AllPairs, refl}
 use Rattle.std.proofs.Common.{arith, ap, ◌∙◌, sym, subst, inl, inr, length-append}
 use Rattle.disk_lines.specs.declared.Draft.{Draft}
-use Rattle.disk_rules.specs.Volume.{Volume}
+use Rattle.round_jobs.specs.disk_rules.Volume.{Volume}
 use Rattle.round_views.specs.file_ends.Ends.{FilesEnd}
-use Rattle.file_table.specs.Files.{Files}
-use Rattle.k_rules.specs.View.{View}
+use Rattle.round_jobs.specs.file_table.Files.{Files}
+use Rattle.round_jobs.specs.k_rules.View.{View}
 use Rattle.list_facts.specs.Filters.{filter-In, In-filter}
 use Rattle.list_facts.specs.Members.{In, pushed-In}
 use Rattle.posix_types.specs.declared.call.Who.{Who}
 use Rattle.posix_words.specs.Open.{same_who, Tables}
-use Rattle.posix_spec.specs.Run.{after_call}
-use Rattle.posix_spec.specs.State.{State}
-use Rattle.posix_spec.specs.Step.{step}
+use Rattle.round_jobs.specs.posix_spec.Run.{after_call}
+use Rattle.round_jobs.specs.posix_spec.State.{State}
+use Rattle.round_jobs.specs.posix_spec.Step.{step}
 use Rattle.round_jobs.specs.script_calls.Histories.{Grows, grows, next_stays, set_up_stays}
 use Rattle.round_jobs.specs.staging_files.Keeps.{Staged}
 use Rattle.round_jobs.specs.world_standing.Standing.{AreOfTwoThreads, IsSpellable, Pending, StandsAt}
 use Rattle.round_jobs.specs.world_standing.Views.{SpellCall, without}
 use Rattle.round_views.specs.write_ends.Ends.{CanFinish, CanGiveUp, HasJob, HasWrite, LeavesFinished, LeavesGivenUp}
-use Rattle.write_jobs.specs.Jobs.{FilledView}
+use Rattle.round_jobs.specs.write_jobs.Jobs.{FilledView}
 use Rattle.round_views.proofs.losing_facts_proofs.Homes.{has_blocks_out}
 use Rattle.round_jobs.proofs.round_facts_proofs.Counts.{pairs}
 use Rattle.round_jobs.proofs.round_facts_proofs.Jobs.{same_who-refl, spellable}
 use Rattle.round_jobs.proofs.Taking.{all_left, other_who}
 use Rattle.round_views.specs.declared.over.Over.{Over}
-use Rattle.oplog_tail.specs.declared.views.Full.{Full}
+use Rattle.crash_facts.specs.oplog_tail.declared.views.Full.{Full}
 use Rattle.round_views.specs.Begins.{IsFilledOut, item_of, OthersStay}
 use Rattle.round_views.specs.Views.{AreCounted, AreNextCalls, disk_of, IsGoing, IsWorldOver, kept_of, state_of, WorldView}
 

@@ -2,20 +2,20 @@
 use Rattle.std.specs.Prelude.{◌≡◌, ℕ, suc, Bool, true, false, List, [], ◌∷◌, length, Some, AllPairs, refl}
 use Rattle.std.proofs.Common.{arith, ap, ◌∙◌, sym, inl, inr}
 use Rattle.disk_places.specs.Places.{Geometry}
-use Rattle.file_table.specs.Files.{Files}
+use Rattle.round_jobs.specs.file_table.Files.{Files}
 use Rattle.finish_ends.specs.Laws.{EndFinished}
-use Rattle.k_rules.specs.View.{View}
+use Rattle.round_jobs.specs.k_rules.View.{View}
 use Rattle.list_facts.specs.Members.{In}
 use Rattle.posix_types.specs.declared.call.Call.{Call}
 use Rattle.posix_types.specs.declared.call.Who.{Who}
 use Rattle.posix_types.specs.declared.reply.Reply.{Reply}
 use Rattle.posix_words.specs.Open.{same_who, Tables}
 use Rattle.posix_words.specs.Outcomes.{answer}
-use Rattle.posix_spec.specs.FileRows.{write_start}
-use Rattle.posix_spec.specs.Put.{Put, put_by}
-use Rattle.posix_spec.specs.State.{State}
-use Rattle.posix_spec.specs.Step.{step}
-use Rattle.posix_facts.specs.RowLaws.{put_at-Some}
+use Rattle.round_jobs.specs.posix_spec.FileRows.{write_start}
+use Rattle.round_jobs.specs.posix_spec.Put.{Put, put_by}
+use Rattle.round_jobs.specs.posix_spec.State.{State}
+use Rattle.round_jobs.specs.posix_spec.Step.{step}
+use Rattle.round_jobs.specs.posix_facts.RowLaws.{put_at-Some}
 use Rattle.flight_rounds.specs.world_lent.posix_orders.Counted.{outcome-put}
 use Rattle.round_jobs.proofs.round_facts_proofs.Counts.{pairs}
 use Rattle.round_jobs.proofs.round_facts_proofs.Jobs.{puts_of, same_who-refl}
@@ -23,7 +23,7 @@ use Rattle.round_jobs.specs.staging_files.Keeps.{Staged}
 use Rattle.round_jobs.specs.world_standing.Standing.{AreOfTwoThreads, Kept, Pending, StandsAt}
 use Rattle.round_views.specs.file_ends.Ends.{FilesEnd}
 use Rattle.round_views.specs.write_ends.Ends.{LeavesFinished}
-use Rattle.write_jobs.specs.Jobs.{FilledView}
+use Rattle.round_jobs.specs.write_jobs.Jobs.{FilledView}
 use Rattle.round_turns.specs.Puts.{put_bytes_of}
 use Rattle.round_turns.proofs.Ending.{has, no_both}
 use Rattle.round_views.specs.Begins.{IsFilledOut}

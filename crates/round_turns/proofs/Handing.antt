@@ -5,7 +5,7 @@ use Rattle.pm_words.specs.declared.Cell.{Cell}
 use Rattle.pm_words.specs.Cells.{cell, is_lent, unmarked}
 use Rattle.pm_words.specs.Parts.{ComesBack, Part}
 use Rattle.list_facts.specs.Members.{In}
-use Rattle.write_jobs.specs.Jobs.{FilledView, JobView, loan_at}
+use Rattle.round_jobs.specs.write_jobs.Jobs.{FilledView, JobView, loan_at}
 use Rattle.round_views.specs.block_loans.Loans.{AreApart}
 use Rattle.round_views.specs.losing_facts.Blocks.{ComeHome}
 use Rattle.round_turns.specs.Handed.{AreOneEach, HaveOtherPlaces, loans_filled, loans_out}

@@ -4,22 +4,22 @@ use Rattle.std.proofs.Common.{arith, ap, ◌∙◌, sym, subst, inl, inr}
 use Rattle.pm_words.specs.declared.Cell.{Cell}
 use Rattle.pm_words.specs.Cells.{cell, is_lent}
 use Rattle.pm_words.specs.Parts.{Part}
-use Rattle.block_bytes.specs.Overwrites.{IsInLines}
+use Rattle.round_jobs.specs.block_bytes.Overwrites.{IsInLines}
 use Rattle.disk_lines.specs.declared.Draft.{Draft}
 use Rattle.disk_lines.specs.declared.Kind.TheVariants.{Staging}
 use Rattle.disk_places.specs.Places.{Geometry, log_line}
-use Rattle.disk_rules.specs.Volume.{inode, Volume}
-use Rattle.file_table.specs.Files.{Files}
-use Rattle.k_rules.specs.View.{View}
+use Rattle.round_jobs.specs.disk_rules.Volume.{inode, Volume}
+use Rattle.round_jobs.specs.file_table.Files.{Files}
+use Rattle.round_jobs.specs.k_rules.View.{View}
 use Rattle.round_views.proofs.losing_facts_proofs.k_split_proofs.LogLaws.{data_beside}
 use Rattle.round_jobs.specs.k_split.Laps.{IsLogWord}
-use Rattle.lines_out.specs.Lines.{AreFrom, LinesComeBack}
+use Rattle.round_jobs.specs.lines_out.Lines.{AreFrom, LinesComeBack}
 use Rattle.list_facts.specs.Members.{In}
 use Rattle.posix_types.specs.declared.call.Who.{Who}
 use Rattle.posix_words.specs.Open.{Tables}
 use Rattle.round_jobs.specs.staging_files.Keeps.{Staged}
 use Rattle.round_jobs.specs.world_standing.Standing.{Pending}
-use Rattle.write_jobs.specs.Jobs.{blocks_of, FilledView, HoldWords, JobView}
+use Rattle.round_jobs.specs.write_jobs.Jobs.{blocks_of, FilledView, HoldWords, JobView}
 use Rattle.round_views.specs.losing_facts.Blocks.{ComeHome}
 use Rattle.round_views.proofs.losing_facts_proofs.Apart.{has_loans_apart}
 use Rattle.round_views.proofs.losing_facts_proofs.Jobs.{in_data_block, its_job, sane, staged_of, stood}

@@ -7,19 +7,19 @@ use Rattle.pm_words.specs.declared.Cell.{Cell}
 use Rattle.pm_words.specs.Cells.{cell, is_lent, IsCandidate}
 use Rattle.pm_words.specs.Words.{Words}
 use Rattle.disk_places.specs.Places.{Geometry, log_line}
-use Rattle.disk_rules.specs.Honest.{IsHonest}
-use Rattle.disk_rules.specs.Volume.{Volume}
-use Rattle.file_table.specs.Files.{Files}
-use Rattle.k_rules.specs.View.{View}
-use Rattle.lines_out.specs.Lines.{LinesComeBack}
+use Rattle.round_jobs.specs.disk_rules.Honest.{IsHonest}
+use Rattle.round_jobs.specs.disk_rules.Volume.{Volume}
+use Rattle.round_jobs.specs.file_table.Files.{Files}
+use Rattle.round_jobs.specs.k_rules.View.{View}
+use Rattle.round_jobs.specs.lines_out.Lines.{LinesComeBack}
 use Rattle.list_facts.specs.Members.{In}
 use Rattle.posix_words.specs.Open.{Tables}
-use Rattle.posix_spec.specs.Run.{Begun}
+use Rattle.round_jobs.specs.posix_spec.Run.{Begun}
 use Rattle.round_jobs.specs.staging_files.Keeps.{Staged}
 use Rattle.round_jobs.specs.world_images.Promised.{IsKept}
 use Rattle.round_jobs.specs.world_standing.Standing.{Pending, StandsAt}
 use Rattle.round_views.specs.write_ends.Lost.{begun_by}
-use Rattle.write_jobs.specs.Jobs.{FilledView, HoldWords}
+use Rattle.round_jobs.specs.write_jobs.Jobs.{FilledView, HoldWords}
 use Rattle.round_views.specs.block_loans.Loans.{ComeBack}
 use Rattle.round_views.specs.losing_facts.Blocks.{AreBlocksHome, AreBlocksOut}
 use Rattle.round_views.specs.losing_facts.Laws.{ComesHome}

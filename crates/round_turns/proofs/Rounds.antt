@@ -7,15 +7,15 @@ use Rattle.pm_words.specs.Cells.{cell, is_single, newest}
 use Rattle.pm_words.specs.Images.{words_of}
 use Rattle.pm_words.specs.Parts.{Part}
 use Rattle.disk_places.specs.Places.{Geometry, log_line}
-use Rattle.disk_rules.specs.Volume.{Volume}
+use Rattle.round_jobs.specs.disk_rules.Volume.{Volume}
 use Rattle.round_views.specs.file_ends.Ends.{FilesEnd}
-use Rattle.file_table.specs.Files.{Files}
+use Rattle.round_jobs.specs.file_table.Files.{Files}
 use Rattle.flight_rounds.specs.Laws.{HasTurned, StandsOut, with_first}
-use Rattle.k_rules.specs.View.{View}
+use Rattle.round_jobs.specs.k_rules.View.{View}
 use Rattle.round_jobs.specs.k_split.Laps.{HasSingleLog, IsLogWord}
 use Rattle.round_jobs.specs.k_split.LogLines.{AreLogLines}
 use Rattle.round_jobs.specs.k_split.Order.{IsInOrder}
-use Rattle.lines_out.specs.Lines.{AreFrom, line_at, LinesGoOut}
+use Rattle.round_jobs.specs.lines_out.Lines.{AreFrom, line_at, LinesGoOut}
 use Rattle.posix_words.specs.Open.{Tables}
 use Rattle.round_jobs.specs.staging_files.Keeps.{Staged}
 use Rattle.round_jobs.specs.world_standing.Standing.{StandsAt}

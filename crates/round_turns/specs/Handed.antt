@@ -2,7 +2,7 @@
 use Rattle.std.specs.Prelude.{◌≢◌, List, [], ◌∷◌, ◌++◌}
 use Rattle.pm_words.specs.Parts.{Part}
 use Rattle.list_facts.specs.Members.{In}
-use Rattle.write_jobs.specs.Jobs.{FilledView, JobView}
+use Rattle.round_jobs.specs.write_jobs.Jobs.{FilledView, JobView}
 
 abbrev pub loans_out : List JobView → List Part
 loans_out [] = []

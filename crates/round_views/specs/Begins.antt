@@ -3,7 +3,7 @@ use Rattle.std.specs.Prelude.{◌≡◌, ◌≢◌, ◌⊎◌, ◌<◌, ◌≤�
 use Rattle.block_counts.specs.Counts.{blocks_for}
 use Rattle.pm_words.specs.Powers.{is_on, Supply}
 use Rattle.disk_places.specs.Places.{reserve}
-use Rattle.k_journal.specs.Commits.{TakesAStep}
+use Rattle.round_facts.specs.k_journal.Commits.{TakesAStep}
 use Rattle.list_facts.specs.Members.{In}
 use Rattle.posix_types.specs.declared.call.Call.{Call}
 use Rattle.posix_types.specs.declared.call.Who.{Who}
@@ -11,21 +11,21 @@ use Rattle.posix_types.specs.declared.item.Item.{Item}
 use Rattle.disk_lines.specs.declared.Draft.{Draft}
 use Rattle.posix_words.specs.declared.open.Description.{Description}
 use Rattle.posix_words.specs.Open.{opened}
-use Rattle.posix_puts.specs.Views.{need_of}
+use Rattle.round_facts.specs.posix_puts.Views.{need_of}
 use Rattle.posix_words.specs.Outcomes.{first}
 use Rattle.posix_words.specs.Room.{growth}
-use Rattle.posix_spec.specs.FileRows.{content, truncate_rows}
-use Rattle.posix_spec.specs.Put.{Put, put_by}
-use Rattle.posix_spec.specs.Run.{after_call}
-use Rattle.posix_spec.specs.State.{room}
-use Rattle.posix_spec.specs.Step.{step}
-use Rattle.crash_spec.specs.Busy.{is_busy, is_logged}
+use Rattle.round_facts.specs.posix_spec.FileRows.{content, truncate_rows}
+use Rattle.round_facts.specs.posix_spec.Put.{Put, put_by}
+use Rattle.round_facts.specs.posix_spec.Run.{after_call}
+use Rattle.round_facts.specs.posix_spec.State.{room}
+use Rattle.round_facts.specs.posix_spec.Step.{step}
+use Rattle.round_facts.specs.crash_spec.Busy.{is_busy, is_logged}
 use Rattle.round_facts.specs.Busy.{IsKeeping}
 use Rattle.round_facts.specs.script_calls.Histories.{item_with}
 use Rattle.round_facts.specs.staging_files.Reserves.{has_empty, HasNoFreeRun}
 use Rattle.round_facts.specs.world_standing.Standing.{Pending}
 use Rattle.round_facts.specs.world_standing.Views.{SpellCall}
-use Rattle.write_jobs.specs.Jobs.{blocks_of, FilledView, JobView}
+use Rattle.round_facts.specs.write_jobs.Jobs.{blocks_of, FilledView, JobView}
 use Rattle.losing_facts.specs.Blocks.{AreBlocksOut}
 use Rattle.round_views.specs.declared.over.Over.{Over}
 use Rattle.round_views.specs.Views.{files_out, inode_on, next_of, state_of, WorldView}

@@ -1,10 +1,10 @@
 -- What the ends of a job leave.
 use Rattle.std.specs.Prelude.{◌≡◌, ◌⊎◌, ◌+◌, ℕ, true, false, [], ◌∷◌, ◌++◌, Some}
 use Rattle.pm_words.specs.Powers.{is_on, Supply}
-use Rattle.oplog_tail.specs.declared.views.Full.{Full}
+use Rattle.losing_facts.specs.oplog_tail.declared.views.Full.{Full}
 use Rattle.round_facts.specs.world_standing.Standing.{Pending}
 use Rattle.round_facts.specs.world_standing.Views.{without}
-use Rattle.write_jobs.specs.Jobs.{FilledView}
+use Rattle.round_facts.specs.write_jobs.Jobs.{FilledView}
 use Rattle.losing_facts.specs.Blocks.{AreBlocksHome}
 use Rattle.round_views.specs.declared.over.Over.{Over}
 use Rattle.round_views.specs.Begins.{IsFilledOut, item_of, OthersStay}

@@ -4,11 +4,11 @@ use Rattle.pm_words.specs.Parts.{Part}
 use Rattle.pm_words.specs.Words.{Words}
 use Rattle.disk_lines.specs.declared.Draft.{Draft}
 use Rattle.disk_places.specs.Places.{log_line}
-use Rattle.disk_rules.specs.LogRule.{HoldsClaims, HoldsEntry, IsAsAtFirst}
-use Rattle.lines_out.specs.Lines.{AreFrom, line_at}
+use Rattle.round_facts.specs.disk_rules.LogRule.{HoldsClaims, HoldsEntry, IsAsAtFirst}
+use Rattle.round_facts.specs.lines_out.Lines.{AreFrom, line_at}
 use Rattle.list_facts.specs.Members.{In}
-use Rattle.oplog_tail.specs.Closing.{cells_of}
-use Rattle.write_jobs.specs.Jobs.{FilledView}
+use Rattle.losing_facts.specs.oplog_tail.Closing.{cells_of}
+use Rattle.round_facts.specs.write_jobs.Jobs.{FilledView}
 use Rattle.losing_facts.specs.Lines.{IsJobLine}
 use Rattle.round_views.specs.Views.{first_by, WorldView}
 

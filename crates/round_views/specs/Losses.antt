@@ -5,7 +5,7 @@ use Rattle.disk_lines.specs.declared.Draft.{Draft}
 use Rattle.list_facts.specs.Members.{In}
 use Rattle.posix_types.specs.declared.call.Who.{Who}
 use Rattle.round_facts.specs.world_standing.Standing.{Pending}
-use Rattle.write_jobs.specs.Jobs.{FilledView, JobView}
+use Rattle.round_facts.specs.write_jobs.Jobs.{FilledView, JobView}
 use Rattle.losing_facts.specs.Blocks.{AreBlocksHome}
 use Rattle.round_views.specs.Begins.{IsFilledOut, IsJobOut}
 use Rattle.round_views.specs.Lines.{AreCrashLines}

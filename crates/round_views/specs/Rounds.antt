@@ -5,8 +5,8 @@ use Rattle.pm_words.specs.Cells.{AllHome}
 use Rattle.pm_words.specs.Parts.{Part}
 use Rattle.pm_words.specs.Powers.{is_on, Supply}
 use Rattle.posix_types.specs.declared.item.Item.{Item}
-use Rattle.posix_spec.specs.Run.{Begun, IsLegal}
-use Rattle.posix_spec.specs.Scripted.{call_count, IsComplete, Scripted}
+use Rattle.round_facts.specs.posix_spec.Run.{Begun, IsLegal}
+use Rattle.round_facts.specs.posix_spec.Scripted.{call_count, IsComplete, Scripted}
 use Rattle.round_facts.specs.world_images.Promised.{KeepsPromise}
 use Rattle.round_views.specs.Lines.{AreFresh, HoldTheClaims}
 use Rattle.round_views.specs.Views.{calls_out, WorldView}

@@ -4,13 +4,13 @@ use Rattle.pm_words.specs.Cells.{AllSingle}
 use Rattle.pm_words.specs.Images.{words_of}
 use Rattle.pm_words.specs.Words.{Words}
 use Rattle.disk_places.specs.Places.{Geometry}
-use Rattle.disk_rules.specs.Content.{content}
+use Rattle.round_facts.specs.disk_rules.Content.{content}
 use Rattle.posix_types.specs.declared.call.Mode.{Mode}
 use Rattle.posix_types.specs.declared.reply.Shape.{Shape}
 use Rattle.posix_types.specs.declared.tree.TreeEntry.{TreeEntry}
 use Rattle.posix_types.specs.Scripts.{Scripts}
-use Rattle.posix_spec.specs.Scripted.{call_count}
-use Rattle.posix_spec.specs.Tree.{start}
+use Rattle.round_facts.specs.posix_spec.Scripted.{call_count}
+use Rattle.round_facts.specs.posix_spec.Tree.{start}
 use Rattle.round_facts.specs.world_rules.Shown.{IsTreeOfContent}
 use Rattle.round_facts.specs.world_beginning.Laws.{IsShapeOf}
 use Rattle.round_views.specs.Views.{AreSpelledCalls, WorldView}

@@ -5,15 +5,15 @@ use Rattle.pm_words.specs.Cells.{AllHome, cell, is_lent}
 use Rattle.pm_words.specs.Images.{words_of}
 use Rattle.pm_words.specs.Parts.{Part}
 use Rattle.pm_words.specs.Words.{Words}
-use Rattle.block_bytes.specs.Overwrites.{IsInLines}
+use Rattle.round_facts.specs.block_bytes.Overwrites.{IsInLines}
 use Rattle.disk_lines.specs.declared.Draft.{Draft}
 use Rattle.disk_lines.specs.declared.Inode.{Inode}
 use Rattle.disk_places.specs.Places.{Geometry, log_line}
-use Rattle.disk_rules.specs.Volume.{free_inode, Volume}
+use Rattle.round_facts.specs.disk_rules.Volume.{free_inode, Volume}
 use Rattle.flight_calls.specs.file_ends.Ends.{DraftEnds, FilesEnd}
-use Rattle.file_table.specs.Files.{Files}
-use Rattle.k_rules.specs.View.{View}
-use Rattle.lines_out.specs.Lines.{AreFrom, LinesComeBack}
+use Rattle.round_facts.specs.file_table.Files.{Files}
+use Rattle.round_facts.specs.k_rules.View.{View}
+use Rattle.round_facts.specs.lines_out.Lines.{AreFrom, LinesComeBack}
 use Rattle.list_facts.specs.Members.{In}
 use Rattle.posix_types.specs.declared.call.Call.{Call}
 use Rattle.posix_types.specs.declared.call.Mode.{Mode}
@@ -21,10 +21,10 @@ use Rattle.posix_types.specs.declared.call.Who.{Who}
 use Rattle.posix_types.specs.declared.item.Item.{Item}
 use Rattle.posix_types.specs.Scripts.{Scripts}
 use Rattle.posix_words.specs.Open.{Tables}
-use Rattle.posix_spec.specs.Run.{Begun, IsLegal, run}
-use Rattle.posix_spec.specs.Scripted.{call_count, IsSetUp, next_call, script_of, Scripted}
-use Rattle.posix_spec.specs.State.{State}
-use Rattle.crash_spec.specs.Busy.{Out}
+use Rattle.round_facts.specs.posix_spec.Run.{Begun, IsLegal, run}
+use Rattle.round_facts.specs.posix_spec.Scripted.{call_count, IsSetUp, next_call, script_of, Scripted}
+use Rattle.round_facts.specs.posix_spec.State.{State}
+use Rattle.round_facts.specs.crash_spec.Busy.{Out}
 use Rattle.round_facts.specs.Busy.{files_by}
 use Rattle.round_facts.specs.k_split.MapChanges.{free_blocks_in}
 use Rattle.round_facts.specs.staging_files.Keeps.{Staged}

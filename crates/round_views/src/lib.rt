@@ -6,7 +6,7 @@
 //! `Begins` says what `begin` and `ready` answer, `Jobs` how a job ends, `Rounds` what the ends of rounds and of
 //! the run leave, `Losses` what a crash asks for, `Starts` how a World begins.
 //!
-//! `split_rounds`, whose contracts cite these, keeps a World; the crates of facts between them say how it goes
+//! `split_world`, whose contracts cite these, keeps a World; the crates of facts between them say how it goes
 //! on. Stands on `world_standing` and `losing_facts`.
 #![tactic(auto)]
 
@@ -15,5 +15,6 @@ mod over;
 pub use flight_calls;
 pub use flight_calls::flight_names;
 pub use flight_laps::log_checkpoint;
-pub use losing_facts::{block_loans, write_ends};
+pub use losing_facts::{block_loans, oplog_tail, write_ends};
 pub use over::Over;
+pub use round_facts::{k_journal, write_jobs};

@@ -1,5 +1,5 @@
 //! What ends a round.
-use oplog_tail::Full;
+use losing_facts::oplog_tail::Full;
 
 /// Why a round is over.
 #[derive(Clone, Copy, Debug, PartialEq, Eq)]

@@ -1,7 +1,7 @@
 -- How many steps a call of a script takes at most.
 use Rattle.std.specs.Prelude.{◌^◌, ℕ, Option, Some, None, if◌then◌else◌}
 use Rattle.posix_types.specs.declared.call.Call.{Call}
-use Rattle.posix_spec.specs.Afforded.{moves_data}
+use Rattle.posix_frames.specs.posix_spec.Afforded.{moves_data}
 
 -- 2^26 where it may move data, and else 512
 abbrev pub most_of_call : Call → ℕ

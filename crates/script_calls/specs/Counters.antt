@@ -2,7 +2,7 @@
 use Rattle.std.specs.Prelude.{◌≡◌, ◌<◌, ℕ, List, length, slice_index}
 use Rattle.posix_types.specs.declared.call.Who.{Who}
 use Rattle.posix_types.specs.declared.item.Item.{Item}
-use Rattle.posix_spec.specs.Scripted.{items_of}
+use Rattle.posix_frames.specs.posix_spec.Scripted.{items_of}
 
 -- the number of a caller: of the set-up, or of one of 8 threads; others have none
 abbrev pub count_for : ℕ → List ℕ → Who → ℕ

@@ -13,7 +13,7 @@ use Rattle.posix_types.specs.declared.item.Item.{Item}
 use Rattle.posix_types.specs.Scripts.{Scripts}
 use Rattle.posix_words.specs.Open.{same_who}
 use Rattle.posix_frames.specs.Handles.{same_who-is}
-use Rattle.posix_spec.specs.Scripted.{call_count, items_of, script_of, Scripted, ScriptedAfter}
+use Rattle.posix_frames.specs.posix_spec.Scripted.{call_count, items_of, script_of, Scripted, ScriptedAfter}
 
 -- ---- each caller
 

@@ -13,10 +13,10 @@ use Rattle.posix_types.specs.Scripts.{Scripts}
 use Rattle.posix_words.specs.Open.{same_who}
 use Rattle.posix_frames.specs.Frames.{AreThreads}
 use Rattle.posix_frames.specs.Handles.{same_who-is}
-use Rattle.posix_spec.specs.Run.{after_call, IsLegal, IsLegal-append, run, run-append}
-use Rattle.posix_spec.specs.Scripted.{call_count, IsSetUp, items_of, next_call, script_of, Scripted, Scripted-append}
-use Rattle.posix_spec.specs.State.{State}
-use Rattle.posix_spec.specs.Step.{step}
+use Rattle.posix_frames.specs.posix_spec.Run.{after_call, IsLegal, IsLegal-append, run, run-append}
+use Rattle.posix_frames.specs.posix_spec.Scripted.{call_count, IsSetUp, items_of, next_call, script_of, Scripted, Scripted-append}
+use Rattle.posix_frames.specs.posix_spec.State.{State}
+use Rattle.posix_frames.specs.posix_spec.Step.{step}
 use Rattle.script_calls.specs.Counters.{AreCounts, count_for, IsCounted}
 use Rattle.script_calls.specs.Counts.{history_within, items_more}
 

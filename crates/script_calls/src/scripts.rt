@@ -1,7 +1,7 @@
 //! The calls of a caller's script.
 ghost use Rattle.std.specs.Prelude.{◌≡◌, length, slice_get, IfOk};
 ghost use Rattle.std.specs.Option.{option_copied};
-ghost use Rattle.posix_spec.specs.Scripted.{script_of};
+ghost use Rattle.posix_frames.specs.posix_spec.Scripted.{script_of};
 
 use posix_types::{Call, Scripts, Who};
 use std::alloc::AllocError;

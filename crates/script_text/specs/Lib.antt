@@ -9,3 +9,4 @@ pub mod Scripts
 pub mod Spelled
 pub mod Words
 pub mod Written
+pub use Rattle.posix_spec.specs as posix_spec

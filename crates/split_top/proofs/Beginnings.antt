@@ -7,12 +7,12 @@ use Rattle.pm_words.specs.Words.{line_bytes, word_at}
 use Rattle.disk_places.specs.Fields.{is_same}
 use Rattle.disk_places.specs.Places.{Geometry, is_in_range}
 use Rattle.disk_places.specs.Superblock.{superblock}
-use Rattle.disk_rules.specs.Rules.{geometry_of}
+use Rattle.split_machine.specs.disk_rules.Rules.{geometry_of}
 use Rattle.posix_types.specs.declared.call.Mode.{Mode}
 use Rattle.posix_types.specs.Scripts.{Scripts}
-use Rattle.split_events.specs.world_beginning.Laws.{IsShapeOf}
-use Rattle.split_events.specs.round_views.Starts.{BeginsMounted}
-use Rattle.split_events.specs.round_views.Views.{WorldView}
+use Rattle.split_machine.specs.world_beginning.Laws.{IsShapeOf}
+use Rattle.split_machine.specs.round_views.Starts.{BeginsMounted}
+use Rattle.split_machine.specs.round_views.Views.{WorldView}
 use Rattle.split_top.specs.Images.{CanOpen}
 use Rattle.split_top.specs.Worlds.{AreRunnable, BeginsOn}
 

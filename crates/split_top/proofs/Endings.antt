@@ -4,8 +4,8 @@ use Rattle.std.specs.Prelude.{nat_lt}
 use Rattle.std.proofs.lemmas.Bool.{true≢false, ltb-false}
 use Rattle.pm_words.specs.declared.Cell.{Cell}
 use Rattle.pm_words.specs.Powers.{is_left, is_on, Supply}
-use Rattle.crash_spec.specs.Permitted.{Permitted}
-use Rattle.crash_spec.specs.Strict.{Strict}
+use Rattle.split_machine.specs.crash_spec.Permitted.{Permitted}
+use Rattle.split_machine.specs.crash_spec.Strict.{Strict}
 use Rattle.disk_places.specs.Places.{Geometry}
 use Rattle.pm_lines.specs.declared.choices.Choice.{Choice}
 use Rattle.posix_types.specs.declared.call.Mode.{Mode}
@@ -13,16 +13,16 @@ use Rattle.posix_types.specs.declared.item.Item.{Item}
 use Rattle.posix_types.specs.declared.reply.Shape.{Shape}
 use Rattle.posix_types.specs.declared.tree.TreeEntry.{TreeEntry}
 use Rattle.posix_types.specs.Scripts.{Scripts}
-use Rattle.posix_spec.specs.Afforded.{Afforded}
-use Rattle.posix_spec.specs.Ending.{beginning, IsWhole}
-use Rattle.posix_spec.specs.Run.{Begun, IsLegal}
-use Rattle.posix_spec.specs.Scripted.{IsComplete, Scripted}
-use Rattle.posix_spec.specs.State.{State}
-use Rattle.posix_spec.specs.Unfinished.{AreUnfinished}
-use Rattle.split_events.specs.event_facts.Changes.{ChangesAtMost}
-use Rattle.split_events.specs.Runs.{IsRan}
-use Rattle.split_events.specs.round_views.Views.{WorldView}
-use Rattle.split_events.specs.world_images.Starts.{has_setting}
+use Rattle.command_words.specs.posix_spec.Afforded.{Afforded}
+use Rattle.command_words.specs.posix_spec.Ending.{beginning, IsWhole}
+use Rattle.command_words.specs.posix_spec.Run.{Begun, IsLegal}
+use Rattle.command_words.specs.posix_spec.Scripted.{IsComplete, Scripted}
+use Rattle.command_words.specs.posix_spec.State.{State}
+use Rattle.command_words.specs.posix_spec.Unfinished.{AreUnfinished}
+use Rattle.split_machine.specs.event_facts.Changes.{ChangesAtMost}
+use Rattle.split_machine.specs.Runs.{IsRan}
+use Rattle.split_machine.specs.round_views.Views.{WorldView}
+use Rattle.split_machine.specs.world_images.Starts.{has_setting}
 use Rattle.split_top.specs.Found.{IsFound}
 use Rattle.split_top.specs.Runs.{IsRun, task_on}
 use Rattle.split_top.specs.Worlds.{IsWorldOn}

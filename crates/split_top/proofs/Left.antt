@@ -7,10 +7,10 @@ use Rattle.posix_types.specs.declared.item.Item.{Item}
 use Rattle.posix_types.specs.declared.reply.Shape.{Shape}
 use Rattle.posix_types.specs.declared.tree.TreeEntry.{TreeEntry}
 use Rattle.posix_types.specs.Scripts.{Scripts}
-use Rattle.posix_spec.specs.Run.{Begun}
-use Rattle.split_events.specs.world_images.Promised.{KeepsPromise}
-use Rattle.split_events.specs.Runs.{IsRan}
-use Rattle.split_events.specs.round_views.Views.{WorldView}
+use Rattle.command_words.specs.posix_spec.Run.{Begun}
+use Rattle.split_machine.specs.world_images.Promised.{KeepsPromise}
+use Rattle.split_machine.specs.Runs.{IsRan}
+use Rattle.split_machine.specs.round_views.Views.{WorldView}
 use Rattle.split_top.specs.Found.{IsLeftAs}
 use Rattle.split_top.specs.Worlds.{IsWorldOn}
 

@@ -7,24 +7,24 @@ use Rattle.pm_words.specs.Images.{words_of}
 use Rattle.pm_words.specs.Words.{word_at, Words}
 use Rattle.disk_places.specs.Journal.{journaled}
 use Rattle.disk_places.specs.Places.{commit_word, Geometry}
-use Rattle.disk_rules.specs.Content.{content}
-use Rattle.disk_rules.specs.Live.{live_entries}
-use Rattle.disk_rules.specs.Rules.{geometry_of, IsChecked}
-use Rattle.disk_rules.specs.Volume.{Volume, volume}
-use Rattle.split_events.specs.image_facts.CheckedLaws.{checked-parts}
-use Rattle.volume_facts.specs.ReadingLaws.{reads-volume}
-use Rattle.split_events.specs.k_content.Trees.{tree_content}
-use Rattle.split_events.specs.MountLaws.{TreesAreOfContent}
-use Rattle.split_events.specs.Sheds.{AllNamed}
-use Rattle.k_rules.specs.View.{View}
-use Rattle.split_events.specs.Mounts.{IsMounted}
-use Rattle.split_events.specs.Resets.{IsLow}
-use Rattle.split_events.specs.Sweeps.{AreBare, EndsInTime}
-use Rattle.posix_trees.specs.TreeOf.{IsTreeOf}
+use Rattle.split_machine.specs.disk_rules.Content.{content}
+use Rattle.split_machine.specs.disk_rules.Live.{live_entries}
+use Rattle.split_machine.specs.disk_rules.Rules.{geometry_of, IsChecked}
+use Rattle.split_machine.specs.disk_rules.Volume.{Volume, volume}
+use Rattle.split_machine.specs.image_facts.CheckedLaws.{checked-parts}
+use Rattle.split_machine.specs.volume_facts.ReadingLaws.{reads-volume}
+use Rattle.split_machine.specs.k_content.Trees.{tree_content}
+use Rattle.split_machine.specs.MountLaws.{TreesAreOfContent}
+use Rattle.split_machine.specs.Sheds.{AllNamed}
+use Rattle.split_machine.specs.k_rules.View.{View}
+use Rattle.split_machine.specs.Mounts.{IsMounted}
+use Rattle.split_machine.specs.Resets.{IsLow}
+use Rattle.split_machine.specs.Sweeps.{AreBare, EndsInTime}
+use Rattle.split_machine.specs.posix_trees.TreeOf.{IsTreeOf}
 use Rattle.posix_types.specs.declared.tree.TreeEntry.{TreeEntry}
-use Rattle.split_events.specs.LapImages.{none_live}
-use Rattle.split_events.specs.world_images.Images.{HasNoEntry}
-use Rattle.split_events.specs.world_rules.Shown.{IsTreeOfContent}
+use Rattle.split_machine.specs.LapImages.{none_live}
+use Rattle.split_machine.specs.world_images.Images.{HasNoEntry}
+use Rattle.split_machine.specs.world_rules.Shown.{IsTreeOfContent}
 use Rattle.split_top.specs.Found.{IsFoundOn}
 use Rattle.split_top.specs.Images as images
 

@@ -5,12 +5,12 @@ use Rattle.pm_words.specs.Images.{words_of}
 use Rattle.pm_words.specs.Powers.{is_left, is_on, Supply}
 use Rattle.pm_words.specs.Words.{word_at}
 use Rattle.disk_places.specs.Places.{Geometry}
-use Rattle.disk_rules.specs.Broken.{Breaks}
-use Rattle.disk_rules.specs.Content.{content}
-use Rattle.disk_rules.specs.Rules.{geometry_of, IsChecked}
-use Rattle.split_events.specs.image_facts.CheckedLaws.{checked-unbroken}
+use Rattle.split_machine.specs.disk_rules.Broken.{Breaks}
+use Rattle.split_machine.specs.disk_rules.Content.{content}
+use Rattle.split_machine.specs.disk_rules.Rules.{geometry_of, IsChecked}
+use Rattle.split_machine.specs.image_facts.CheckedLaws.{checked-unbroken}
 use Rattle.posix_types.specs.declared.tree.TreeEntry.{TreeEntry}
-use Rattle.split_events.specs.world_rules.Shown.{IsTreeOfContent}
+use Rattle.split_machine.specs.world_rules.Shown.{IsTreeOfContent}
 use Rattle.report_text.specs.Texts.{tree_text}
 use Rattle.split_top.specs.Images.{CanOpen, IsRefused, IsTreeText}
 

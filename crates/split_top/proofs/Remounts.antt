@@ -5,19 +5,19 @@ use Rattle.pm_words.specs.Cells.{cell}
 use Rattle.pm_words.specs.Images.{IsImageOf}
 use Rattle.pm_words.specs.Words.{word_at}
 use Rattle.disk_places.specs.Places.{Geometry}
-use Rattle.disk_rules.specs.Content.{content}
-use Rattle.disk_rules.specs.Honest.{IsHonest}
-use Rattle.disk_rules.specs.Rules.{geometry_of, IsChecked}
-use Rattle.split_events.specs.k_check.Crashes.{IsCrashImage}
-use Rattle.k_rules.specs.View.{View}
-use Rattle.crash_spec.specs.Permitted.{Permitted}
+use Rattle.split_machine.specs.disk_rules.Content.{content}
+use Rattle.split_machine.specs.disk_rules.Honest.{IsHonest}
+use Rattle.split_machine.specs.disk_rules.Rules.{geometry_of, IsChecked}
+use Rattle.split_machine.specs.k_check.Crashes.{IsCrashImage}
+use Rattle.split_machine.specs.k_rules.View.{View}
+use Rattle.split_machine.specs.crash_spec.Permitted.{Permitted}
 use Rattle.pm_lines.specs.declared.choices.Choice.{Choice}
 use Rattle.posix_types.specs.declared.item.Item.{Item}
 use Rattle.posix_types.specs.declared.tree.TreeEntry.{TreeEntry}
-use Rattle.posix_spec.specs.Run.{Begun}
-use Rattle.posix_spec.specs.State.{State}
-use Rattle.split_events.specs.world_images.Promised.{IsKept}
-use Rattle.split_events.specs.world_rules.Shown.{IsTreeOfContent}
+use Rattle.command_words.specs.posix_spec.Run.{Begun}
+use Rattle.command_words.specs.posix_spec.State.{State}
+use Rattle.split_machine.specs.world_images.Promised.{IsKept}
+use Rattle.split_machine.specs.world_rules.Shown.{IsTreeOfContent}
 use Rattle.split_top.specs.Found.{IsChosenImage, IsFound, IsFoundOn, IsLeftAs}
 use Rattle.split_top.specs.Images.{CanOpen}
 

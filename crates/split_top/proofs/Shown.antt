@@ -1,9 +1,9 @@
 -- What an answer says where an image is refused, and of two readings of one image.
 use Rattle.std.proofs.Common.{◌≡◌, ℕ, List, Option, length, refl, sym, ◌∙◌, subst, inl, inr}
 use Rattle.pm_words.specs.Words.{word_at}
-use Rattle.disk_rules.specs.Broken.{Breaks}
-use Rattle.split_events.specs.image_facts.CheckedLaws.{checked-unbroken}
-use Rattle.image_layout.specs.Numbers.{default_numbers}
+use Rattle.split_machine.specs.disk_rules.Broken.{Breaks}
+use Rattle.split_machine.specs.image_facts.CheckedLaws.{checked-unbroken}
+use Rattle.command_words.specs.image_layout.Numbers.{default_numbers}
 use Rattle.outside.specs.Outside.{FileList, IsAbsent}
 use Rattle.command_words.specs.Command.{Command, Fresh, Image, Stored, Tree}
 use Rattle.exit_status.specs.declared.statuses.Status.{Status}

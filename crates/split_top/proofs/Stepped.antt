@@ -4,7 +4,7 @@ use Rattle.std.specs.Prelude.{IsSome}
 use Rattle.outside.specs.Outside.{AreOfFile, FileList, IsAbsent}
 use Rattle.command_words.specs.Command.{Run, Step, Stored}
 use Rattle.exit_status.specs.declared.statuses.Status.{Status}
-use Rattle.script_text.specs.Scripts.{bad_line}
+use Rattle.command_words.specs.script_text.Scripts.{bad_line}
 use Rattle.split_top.specs.Images.{AreOfImage, CanOpen}
 use Rattle.split_top.specs.Jobs.{IsAnswer, IsUnkept, IsUnopened, IsUnread, IsUnrun}
 use Rattle.split_top.specs.Top.{CompletesStep, IsGivenImage, IsImageVerdict, IsReplacedBy, IsStepped, IsStepVerdict, Keeps}

@@ -5,19 +5,19 @@ use Rattle.pm_words.specs.Cells.{AllHome, cell}
 use Rattle.pm_words.specs.Images.{IsImage}
 use Rattle.pm_words.specs.Words.{Words}
 use Rattle.disk_places.specs.Places.{Geometry}
-use Rattle.disk_rules.specs.Content.{content}
-use Rattle.disk_rules.specs.Honest.{IsHonest}
-use Rattle.disk_rules.specs.Rules.{geometry_of}
-use Rattle.split_events.specs.k_check.Crashes.{IsCrashImage}
-use Rattle.k_rules.specs.View.{View}
-use Rattle.split_events.specs.Mounts.{IsMounted}
+use Rattle.split_machine.specs.disk_rules.Content.{content}
+use Rattle.split_machine.specs.disk_rules.Honest.{IsHonest}
+use Rattle.split_machine.specs.disk_rules.Rules.{geometry_of}
+use Rattle.split_machine.specs.k_check.Crashes.{IsCrashImage}
+use Rattle.split_machine.specs.k_rules.View.{View}
+use Rattle.split_machine.specs.Mounts.{IsMounted}
 use Rattle.pm_lines.specs.declared.choices.Choice.{Choice}
 use Rattle.posix_types.specs.declared.item.Item.{Item}
 use Rattle.posix_types.specs.declared.tree.TreeEntry.{TreeEntry}
-use Rattle.posix_spec.specs.Run.{Begun}
-use Rattle.posix_spec.specs.State.{State}
-use Rattle.split_events.specs.world_images.Promised.{KeepsPromise}
-use Rattle.split_events.specs.world_rules.Shown.{IsTreeOfContent}
+use Rattle.command_words.specs.posix_spec.Run.{Begun}
+use Rattle.command_words.specs.posix_spec.State.{State}
+use Rattle.split_machine.specs.world_images.Promised.{KeepsPromise}
+use Rattle.split_machine.specs.world_rules.Shown.{IsTreeOfContent}
 
 -- WHAT A RUN LEAVES: a device of this geometry, of which nothing is lent, and which keeps the promise for the history and the
 -- unfinished calls.

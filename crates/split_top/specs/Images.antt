@@ -4,18 +4,18 @@ use Rattle.pm_words.specs.Words.{word_at, Words}
 use Rattle.disk_places.specs.Journal.{journaled}
 use Rattle.disk_places.specs.Places.{commit_word, data_blocks, Geometry}
 use Rattle.disk_lines.specs.Fresh.{fresh}
-use Rattle.disk_rules.specs.Broken.{Breaks}
-use Rattle.disk_rules.specs.Content.{content}
-use Rattle.disk_rules.specs.FreshVolume.{root_alone}
-use Rattle.disk_rules.specs.Rules.{geometry_of, IsChecked}
-use Rattle.disk_rules.specs.Volume.{Volume, volume}
+use Rattle.split_machine.specs.disk_rules.Broken.{Breaks}
+use Rattle.split_machine.specs.disk_rules.Content.{content}
+use Rattle.split_machine.specs.disk_rules.FreshVolume.{root_alone}
+use Rattle.split_machine.specs.disk_rules.Rules.{geometry_of, IsChecked}
+use Rattle.split_machine.specs.disk_rules.Volume.{Volume, volume}
 use Rattle.posix_types.specs.declared.tree.TreeEntry.{TreeEntry}
-use Rattle.split_events.specs.world_rules.Shown.{IsTreeOfContent}
-use Rattle.split_events.specs.Sheds.{AllNamed}
-use Rattle.split_events.specs.Resets.{IsLow}
-use Rattle.split_events.specs.Sweeps.{AreBare, EndsInTime}
-use Rattle.split_events.specs.world_images.Images.{HasNoEntry}
-use Rattle.image_layout.specs.Numbers.{default_numbers}
+use Rattle.split_machine.specs.world_rules.Shown.{IsTreeOfContent}
+use Rattle.split_machine.specs.Sheds.{AllNamed}
+use Rattle.split_machine.specs.Resets.{IsLow}
+use Rattle.split_machine.specs.Sweeps.{AreBare, EndsInTime}
+use Rattle.split_machine.specs.world_images.Images.{HasNoEntry}
+use Rattle.command_words.specs.image_layout.Numbers.{default_numbers}
 use Rattle.report_text.specs.Texts.{tree_text}
 use Rattle.outside.specs.Outside.{AreOfFile, FileList, IsReplaced}
 use Rattle.command_words.specs.Command.{Fresh, Image, Stored}

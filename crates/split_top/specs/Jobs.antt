@@ -1,7 +1,7 @@
 -- What the parts of a job answer.
 use Rattle.std.specs.Prelude.{◌≡◌, ◌≢◌, ◌⊎◌, ⊤, ℕ, List, Option, Some}
 use Rattle.outside.specs.Outside.{FileList}
-use Rattle.script_text.specs.Scripts.{bad_line}
+use Rattle.command_words.specs.script_text.Scripts.{bad_line}
 use Rattle.command_words.specs.Command.{Command}
 use Rattle.exit_status.specs.declared.statuses.Status.{Status}
 use Rattle.split_top.specs.Images.{IsRefused}

@@ -7,10 +7,10 @@ use Rattle.posix_types.specs.declared.item.Item.{Item}
 use Rattle.posix_types.specs.declared.reply.Shape.{Shape}
 use Rattle.posix_types.specs.declared.tree.TreeEntry.{TreeEntry}
 use Rattle.posix_types.specs.Scripts.{Scripts}
-use Rattle.posix_spec.specs.Run.{Begun}
-use Rattle.posix_spec.specs.Ending.{beginning, IsRunOf, Task}
-use Rattle.crash_spec.specs.Strict.{Strict}
-use Rattle.split_events.specs.event_facts.Changes.{ChangesAtMost}
+use Rattle.command_words.specs.posix_spec.Run.{Begun}
+use Rattle.command_words.specs.posix_spec.Ending.{beginning, IsRunOf, Task}
+use Rattle.split_machine.specs.crash_spec.Strict.{Strict}
+use Rattle.split_machine.specs.event_facts.Changes.{ChangesAtMost}
 use Rattle.split_top.specs.Found.{IsFound}
 
 -- what is run: these scripts, on an image with this tree and this shape, in strict mode

@@ -2,18 +2,18 @@
 use Rattle.std.specs.Prelude.{◌≡◌, ◌⊎◌, ⊤, ℕ, List, ◌++◌, Option, Some, None, IsSome}
 use Rattle.outside.specs.Outside.{FileList, AreOfFile, IsAbsent, IsReplaced, Takes, TakesFront, bytes_named}
 use Rattle.pm_words.specs.Words.{word_at}
-use Rattle.disk_rules.specs.Rules.{geometry_of}
+use Rattle.split_machine.specs.disk_rules.Rules.{geometry_of}
 use Rattle.disk_places.specs.Places.{Geometry}
 use Rattle.pm_lines.specs.declared.choices.Choice.{Choice}
 use Rattle.posix_types.specs.declared.item.Item.{Item}
 use Rattle.posix_types.specs.declared.reply.Shape.{Shape}
 use Rattle.posix_types.specs.declared.tree.TreeEntry.{TreeEntry}
 use Rattle.posix_types.specs.Scripts.{Scripts}
-use Rattle.posix_spec.specs.Ending.{Task}
-use Rattle.posix_spec.specs.Run.{Begun}
-use Rattle.split_events.specs.world_beginning.Laws.{IsShapeOf}
+use Rattle.command_words.specs.posix_spec.Ending.{Task}
+use Rattle.command_words.specs.posix_spec.Run.{Begun}
+use Rattle.split_machine.specs.world_beginning.Laws.{IsShapeOf}
 use Rattle.report_text.specs.Texts.{history_text, tree_text}
-use Rattle.script_text.specs.Scripts.{bad_line, scripts_of}
+use Rattle.command_words.specs.script_text.Scripts.{bad_line, scripts_of}
 use Rattle.command_words.specs.Command.{Command, Mkfs, Tree, Step, Image, Fresh, Stored, Run, command_of}
 use Rattle.split_top.specs.Images.{AreOfImage, blocks_text, CanOpen, IsMade, IsMounted, IsRefused, IsTreeText, ShowsTree}
 use Rattle.split_top.specs.Runs.{IsRun, task_on}

@@ -6,12 +6,12 @@ use Rattle.posix_types.specs.declared.item.Item.{Item}
 use Rattle.posix_types.specs.declared.reply.Shape.{Shape}
 use Rattle.posix_types.specs.declared.tree.TreeEntry.{TreeEntry}
 use Rattle.posix_types.specs.Scripts.{Scripts}
-use Rattle.posix_spec.specs.Ending.{beginning}
-use Rattle.posix_spec.specs.Run.{Begun}
-use Rattle.split_events.specs.round_views.Starts.{AreInLimits}
-use Rattle.split_events.specs.round_views.Views.{WorldView}
-use Rattle.split_events.specs.Runs.{IsFirst}
-use Rattle.split_events.specs.world_beginning.Laws.{IsShapeOf}
+use Rattle.command_words.specs.posix_spec.Ending.{beginning}
+use Rattle.command_words.specs.posix_spec.Run.{Begun}
+use Rattle.split_machine.specs.round_views.Starts.{AreInLimits}
+use Rattle.split_machine.specs.round_views.Views.{WorldView}
+use Rattle.split_machine.specs.Runs.{IsFirst}
+use Rattle.split_machine.specs.world_beginning.Laws.{IsShapeOf}
 use Rattle.split_top.specs.Images.{ShowsTree}
 use Rattle.split_top.specs.Runs.{IsRun, task_on}
 

@@ -3,15 +3,15 @@ ghost use Rattle.std.specs.Prelude.{◌≡◌, ◌≤◌, List, ℕ, Err, IfErr,
 ghost use Rattle.outside.specs.Outside.{IsAbsent, Rose};
 ghost use Rattle.command_words.specs.Command as commands;
 ghost use Rattle.command_words.specs.Seen.{seen_image};
-ghost use Rattle.image_layout.specs.Numbers.{default_numbers};
+ghost use Rattle.command_words.specs.image_layout.Numbers.{default_numbers};
 ghost use Rattle.split_top.specs.Images.{AreOfImage, IsFreshImage};
 ghost use Rattle.split_top.specs.Jobs.{IsUnread};
 
 use crate::jobs::read_file;
 use crate::making::fresh_bytes;
 use command_words::Image;
+use command_words::image_layout::Geometry;
 use exit_status::Status;
-use image_layout::Geometry;
 use outside::Files;
 use std::alloc::Global;
 

@@ -4,7 +4,7 @@
 //! history and of a tree (`report_text`) where the history is legal and follows the script, and the tree is one that
 //! strict mode permits for it (`specs/Runs.antt`). Every other status says when it comes and what it leaves.
 //!
-//! A script is read by `script_text`, and run by `split_events` in a World (`split_rounds`) that is mounted on the image,
+//! A script is read by `script_text`, and run by `split_machine` in a World (`split_world`) that is mounted on the image,
 //! with power for as many steps as `stop` says. What is printed comes from the device that is left: it is mounted again
 //! by `log_mount`, and the tree is that of its content, which the World's promise permits.
 #![tactic(auto)]

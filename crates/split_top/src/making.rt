@@ -6,10 +6,10 @@ ghost use Rattle.split_top.specs.Images.{blocks_text, IsFreshImage};
 ghost use Rattle.split_top.specs.Jobs.{IsAnswer};
 
 use crate::jobs::put_output;
+use command_words::image_layout::Geometry;
 use exit_status::Status;
-use image_layout::Geometry;
 use outside::{FileFault, Files, Sink};
-use split_events::mkfs;
+use split_machine::mkfs;
 use std::alloc::{AllocError, Global};
 
 /// The bytes of a fresh image.

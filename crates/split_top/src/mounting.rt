@@ -7,7 +7,7 @@ ghost use Rattle.split_top.specs.Images.{CanOpen};
 use crate::opening::device;
 use pm_lines::Power;
 use posix_types::Tree;
-use split_events::{KSplit, MountFault, a_remount_shows_the_same, mount};
+use split_machine::{KSplit, MountFault, a_remount_shows_the_same, mount};
 use std::alloc::{AllocError, Global};
 
 /// K-Split on an image, and the tree that is found there.

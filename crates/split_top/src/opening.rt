@@ -3,14 +3,14 @@ ghost use Rattle.std.specs.Prelude.{◌≡◌, ◌↔◌, ◌*◌, IsTrue, IfErr
 ghost use Rattle.pm_words.specs.Cells.{AllSingle};
 ghost use Rattle.pm_words.specs.Images.{words_of};
 ghost use Rattle.pm_words.specs.Words.{word_at};
-ghost use Rattle.disk_rules.specs.Rules.{geometry_of, IsWholeBlocks};
+ghost use Rattle.split_machine.specs.disk_rules.Rules.{geometry_of, IsWholeBlocks};
 ghost use Rattle.split_top.specs.Images.{CanOpen};
 ghost use Rattle.split_top.specs.Jobs.{IsUnopened};
 
+use command_words::image_layout::Geometry;
 use exit_status::Status;
-use image_layout::Geometry;
 use pm_lines::Pm;
-use split_events::k_check::{CheckFault, check};
+use split_machine::k_check::{CheckFault, check};
 use std::alloc::{AllocError, Global};
 
 /// Whether so many bytes are whole blocks, as many as an image may have.

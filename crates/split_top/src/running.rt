@@ -1,23 +1,23 @@
 //! A script is read, run on an image, and told.
 ghost use Rattle.std.specs.Prelude.{◌≡◌, IfErr, IfOk};
 ghost use Rattle.pm_words.specs.Words.{word_at};
-ghost use Rattle.disk_rules.specs.Rules.{geometry_of};
+ghost use Rattle.split_machine.specs.disk_rules.Rules.{geometry_of};
 ghost use Rattle.split_top.specs.Images.{CanOpen};
 ghost use Rattle.split_top.specs.Jobs.{IsUnrun};
 ghost use Rattle.split_top.specs.Top.{IsRunOn, IsScriptRunOn};
 ghost use Rattle.split_top.specs.Worlds.{AreRunnable};
 
 use crate::runs::run;
-use exit_status::Status;
-use image_layout::Geometry;
-use pm_lines::Choice;
-use posix_types::Scripts;
-use report_text::{history_text, tree_text};
-use script_text::{
+use command_words::image_layout::Geometry;
+use command_words::script_text::{
     ScriptFault, read_script, scripts_are_spelled, scripts_are_within_limits,
     scripts_have_known_words,
 };
-use split_events::NoMemory;
+use exit_status::Status;
+use pm_lines::Choice;
+use posix_types::Scripts;
+use report_text::{history_text, tree_text};
+use split_machine::NoMemory;
 use std::alloc::Global;
 
 /// The text of the history of a run and of the tree that was left, and the image that was left.

@@ -2,7 +2,7 @@
 //! history and the tree that is left are put.
 ghost use Rattle.std.specs.Prelude.{◌≡◌, Err, IfErr, IsSome, OnErr, OnOk};
 ghost use Rattle.pm_words.specs.Words.{word_at};
-ghost use Rattle.disk_rules.specs.Rules.{geometry_of};
+ghost use Rattle.split_machine.specs.disk_rules.Rules.{geometry_of};
 ghost use Rattle.outside.specs.Outside.{Rose};
 ghost use Rattle.command_words.specs.Command as commands;
 ghost use Rattle.command_words.specs.Seen.{seen_image, seen_options};
@@ -14,9 +14,9 @@ use crate::images::read_image;
 use crate::jobs::{put_output, read_file};
 use crate::opening::geometry_to_open;
 use crate::running::{Outcome, run_script};
+use command_words::image_layout::Geometry;
 use command_words::{Image, Options};
 use exit_status::Status;
-use image_layout::Geometry;
 use outside::{FileFault, Files, Sink};
 use std::alloc::Global;
 

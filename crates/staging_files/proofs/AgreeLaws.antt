@@ -9,17 +9,17 @@ use Rattle.std.proofs.lemmas.List.Edits.{get_or-remove_above, get_or-remove_belo
 use Rattle.std.proofs.lemmas.List.Folds.{Any-from_list_any, list_any-append, list_any_at}
 use Rattle.pm_words.specs.Cells.{cell, is_single}
 use Rattle.pm_words.specs.CellLaws.{single-home}
-use Rattle.block_pool.specs.FreeSets.{is_among}
+use Rattle.k_split.specs.block_pool.FreeSets.{is_among}
 use Rattle.disk_places.specs.Places.{is_data_block}
-use Rattle.disk_rules.specs.Placed.{block_at}
-use Rattle.disk_rules.specs.Volume.{extents, inode}
+use Rattle.k_split.specs.disk_rules.Placed.{block_at}
+use Rattle.k_split.specs.disk_rules.Volume.{extents, inode}
 use Rattle.extent_words.specs.Extents.{covers, disk_at, is_within}
-use Rattle.k_rules.specs.View.{View}
+use Rattle.k_split.specs.k_rules.View.{View}
 use Rattle.k_split.specs.MapChanges.{is_free_in, IsMapDone, IsPreallocateAnswer, IsPreallocatedWith}
 use Rattle.k_split.specs.Order.{IsInOrder}
-use Rattle.map_rules.specs.Changes.{aged}
-use Rattle.map_rules.specs.Taken.{with_map}
-use Rattle.volume_facts.specs.Changes.{extents-set_other, extents-set_same}
+use Rattle.k_split.specs.map_rules.Changes.{aged}
+use Rattle.k_split.specs.map_rules.Taken.{with_map}
+use Rattle.k_split.specs.volume_facts.Changes.{extents-set_other, extents-set_same}
 use Rattle.k_split.specs.volume_maps.Switches.{unused-data}
 use Rattle.k_split.specs.volume_uses.PoolLaws.{unused-uncovered}
 use Rattle.k_split.specs.volume_uses.Uses.{is_unused}

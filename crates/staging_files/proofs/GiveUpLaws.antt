@@ -6,19 +6,19 @@ use Rattle.std.specs.Prelude.{remove, slice_get, Contains}
 use Rattle.pm_words.specs.Powers.{Steps, Supply}
 use Rattle.disk_lines.specs.declared.Kind.TheVariants.{Directory, File, Free, Staging}
 use Rattle.disk_lines.specs.declared.Kind.{Kind}
-use Rattle.disk_rules.specs.Rules.{IsKindAt}
-use Rattle.disk_rules.specs.Volume.{Volume, extents, inode}
+use Rattle.k_split.specs.disk_rules.Rules.{IsKindAt}
+use Rattle.k_split.specs.disk_rules.Volume.{Volume, extents, inode}
 use Rattle.extent_words.specs.Extents.{covers}
 use Rattle.k_split.specs.k_map_plans.Plans.{IsStagingFile}
 use Rattle.k_split.specs.k_plans.Whole.{IsWhole}
-use Rattle.k_rules.specs.View.{View}
+use Rattle.k_split.specs.k_rules.View.{View}
 use Rattle.k_split.specs.MapChanges.{IsGiveUpAnswer}
 use Rattle.k_split.specs.Answers.{IsPaid}
 use Rattle.k_split.specs.Order.{IsInOrder}
 use Rattle.k_split.specs.declared.faults.KFault.{KFault}
-use Rattle.map_rules.specs.Changes.{given_up}
-use Rattle.map_rules.specs.Taken.{with_map}
-use Rattle.volume_facts.specs.Changes.{extents-set_other, extents-set_same}
+use Rattle.k_split.specs.map_rules.Changes.{given_up}
+use Rattle.k_split.specs.map_rules.Taken.{with_map}
+use Rattle.k_split.specs.volume_facts.Changes.{extents-set_other, extents-set_same}
 use Rattle.staging_files.specs.GivesUp.{AgreesAfterAll, AllStagedSingle, AreGivenUp, bared, IsGiveUpAllPaid, IsGivenUpEach, nothing_staged, stopped_by}
 use Rattle.staging_files.specs.declared.runs.StageRun.{StageRun}
 use Rattle.staging_files.specs.Keeps.{Agrees, given_to, IsStaged, IsStaging, Staged}

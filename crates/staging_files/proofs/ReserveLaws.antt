@@ -3,7 +3,7 @@ use Rattle.std.proofs.Common.{◌≡◌, ◌≤◌, ◌<◌, ◌+◌, ℕ, false
 use Rattle.std.specs.Prelude.{IfOk}
 use Rattle.pm_words.specs.Powers.{Steps, Supply}
 use Rattle.disk_places.specs.Places.{reserve}
-use Rattle.k_rules.specs.View.{View}
+use Rattle.k_split.specs.k_rules.View.{View}
 use Rattle.k_split.specs.Answers.{IsPaid}
 use Rattle.k_split.specs.MapChanges.{free_blocks_in, IsPreallocateAnswer}
 use Rattle.k_split.specs.Order.{IsInOrder}

@@ -6,24 +6,24 @@ use Rattle.std.proofs.lemmas.Bool.{cases_lt}
 use Rattle.std.proofs.lemmas.Bool.Decides.{nat_tests}
 use Rattle.std.proofs.lemmas.List.FromFn.{length-range_with_len}
 use Rattle.std.proofs.lemmas.List.Sums.{count_by-le-length}
-use Rattle.block_pool.specs.FreeSets.{is_among}
+use Rattle.k_split.specs.block_pool.FreeSets.{is_among}
 use Rattle.disk_places.specs.Places.{data_blocks, first_data, is_data_block, reserve}
 use Rattle.disk_lines.specs.declared.Inode.{Inode}
-use Rattle.disk_rules.specs.Reading.{inode_set}
-use Rattle.disk_rules.specs.Room.{has_none, unused_blocks}
-use Rattle.disk_rules.specs.Rules.{file_blocks_of}
-use Rattle.disk_rules.specs.Uses.{owners}
-use Rattle.disk_rules.specs.Volume.{Volume, inode}
+use Rattle.k_split.specs.disk_rules.Reading.{inode_set}
+use Rattle.k_split.specs.disk_rules.Room.{has_none, unused_blocks}
+use Rattle.k_split.specs.disk_rules.Rules.{file_blocks_of}
+use Rattle.k_split.specs.disk_rules.Uses.{owners}
+use Rattle.k_split.specs.disk_rules.Volume.{Volume, inode}
 use Rattle.extent_facts.specs.Counts.{block_count-mapped, count_below-agree, count_below-range, is_mapped}
 use Rattle.extent_words.specs.declared.Extent.{Extent}
 use Rattle.extent_words.specs.Extents.{block_count, is_within}
 use Rattle.k_split.specs.k_plans.Whole.{IsWhole}
-use Rattle.k_rules.specs.View.{View}
+use Rattle.k_split.specs.k_rules.View.{View}
 use Rattle.k_split.specs.MapChanges.{free_blocks_in, IsMapDone, IsPreallocateAnswer, IsPreallocatedWith}
 use Rattle.k_split.specs.Order.{IsInOrder}
-use Rattle.map_rules.specs.Changes.{aged, HasInOrder, in_order}
-use Rattle.map_rules.specs.Taken.{with_map}
-use Rattle.volume_facts.specs.Lists.{count_by-agree}
+use Rattle.k_split.specs.map_rules.Changes.{aged, HasInOrder, in_order}
+use Rattle.k_split.specs.map_rules.Taken.{with_map}
+use Rattle.k_split.specs.volume_facts.Lists.{count_by-agree}
 use Rattle.k_split.specs.volume_maps.Shorts.{in_order-below, length-below}
 use Rattle.k_split.specs.volume_uses.PoolLaws.{AreInData, unused-set}
 use Rattle.k_split.specs.volume_uses.Uses.{is_unused}

@@ -2,12 +2,12 @@
 use Rattle.std.specs.Prelude.{◌≡◌, ◌<◌, ℕ, suc, zero, true, false, [], replicate, remove, slice_get, Some, Result, Ok, Err, alloc_error}
 use Rattle.std.specs.declared.alloc.AllocError.{AllocError}
 use Rattle.pm_words.specs.Powers.{is_on, Supply}
-use Rattle.disk_rules.specs.Volume.{Volume}
-use Rattle.k_journal.specs.declared.outcomes.Commit.{Commit}
-use Rattle.k_rules.specs.View.{View}
+use Rattle.k_split.specs.disk_rules.Volume.{Volume}
+use Rattle.k_split.specs.k_journal.declared.outcomes.Commit.{Commit}
+use Rattle.k_split.specs.k_rules.View.{View}
 use Rattle.k_split.specs.MapChanges.{IsGiveUpAnswer, IsStagedSingle}
 use Rattle.k_split.specs.declared.faults.KFault.{KFault}
-use Rattle.map_rules.specs.Changes.{given_up}
+use Rattle.k_split.specs.map_rules.Changes.{given_up}
 use Rattle.staging_files.specs.declared.runs.StageRun.{StageRun}
 use Rattle.staging_files.specs.Keeps.{Agrees, IsStaging, Staged}
 

@@ -3,8 +3,8 @@ use Rattle.std.specs.Prelude.{◌≡◌, ◌≤◌, ◌+◌, ◌-◌, ◌/◌, �
 use Rattle.std.specs.List.{list_any}
 use Rattle.pm_words.specs.Cells.{cell, is_lent, is_single}
 use Rattle.extent_words.specs.Extents.{disk_at, is_within}
-use Rattle.disk_rules.specs.Volume.{extents}
-use Rattle.k_rules.specs.View.{View}
+use Rattle.k_split.specs.disk_rules.Volume.{extents}
+use Rattle.k_split.specs.k_rules.View.{View}
 use Rattle.staging_files.specs.declared.runs.StageRun.{StageRun}
 
 -- What contracts see of a staging: the runs that are out, in the order in which they were reserved, and how many blocks each of

@@ -9,3 +9,15 @@ pub use Rattle.k_split.specs.k_map_plans as k_map_plans
 pub use Rattle.k_split.specs.k_plans as k_plans
 pub use Rattle.k_split.specs.volume_maps as volume_maps
 pub use Rattle.k_split.specs.volume_uses as volume_uses
+pub use Rattle.k_split.specs.block_bytes as block_bytes
+pub use Rattle.k_split.specs.disk_rules as disk_rules
+pub use Rattle.k_split.specs.image_layout as image_layout
+pub use Rattle.k_split.specs.k_content as k_content
+pub use Rattle.k_split.specs.k_journal as k_journal
+pub use Rattle.k_split.specs.k_rules as k_rules
+pub use Rattle.k_split.specs.lines_out as lines_out
+pub use Rattle.k_split.specs.map_rules as map_rules
+pub use Rattle.k_split.specs.posix_facts as posix_facts
+pub use Rattle.k_split.specs.posix_spec as posix_spec
+pub use Rattle.k_split.specs.posix_trees as posix_trees
+pub use Rattle.k_split.specs.volume_facts as volume_facts

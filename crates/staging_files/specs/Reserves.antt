@@ -3,8 +3,8 @@ use Rattle.std.specs.Prelude.{◌≡◌, ◌⊎◌, ◌≤◌, ◌<◌, ◌+◌,
 use Rattle.std.specs.List.{list_any}
 use Rattle.pm_words.specs.Powers.{is_on, Supply}
 use Rattle.disk_places.specs.Places.{reserve}
-use Rattle.disk_rules.specs.Volume.{inode}
-use Rattle.k_rules.specs.View.{View}
+use Rattle.k_split.specs.disk_rules.Volume.{inode}
+use Rattle.k_split.specs.k_rules.View.{View}
 use Rattle.k_split.specs.Answers.{IsSpared}
 use Rattle.k_split.specs.MapChanges.{free_blocks_in, IsPreallocateAnswer}
 use Rattle.k_split.specs.declared.faults.KFault.{KFault}

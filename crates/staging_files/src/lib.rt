@@ -21,5 +21,6 @@ mod runs;
 mod staging;
 
 pub use k_split;
+pub use k_split::{image_layout, k_journal, lines_out};
 pub use runs::{StageFault, StageRun};
 pub use staging::Staging;

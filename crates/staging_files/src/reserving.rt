@@ -1,7 +1,7 @@
 //! Runs are reserved: the two ways, in their order.
 ghost use Rattle.std.specs.Prelude.{◌≡◌, ◌≤◌, ◌<◌, ◌+◌, ◌^◌, [], true, false, length, IfSome, IfNone, IfOk, OnErr, OnOk, if◌then◌else◌};
 ghost use Rattle.disk_places.specs.Places.{reserve};
-ghost use Rattle.disk_rules.specs.Volume.{extents};
+ghost use Rattle.k_split.specs.disk_rules.Volume.{extents};
 ghost use Rattle.k_split.specs.k_map_plans.Plans.{IsStagingFile};
 ghost use Rattle.k_split.specs.MapChanges.{free_blocks_in};
 ghost use Rattle.k_split.specs.Order.{IsInOrder};

@@ -8,7 +8,7 @@ use Rattle.pm_words.specs.Images.{words_of}
 use Rattle.pm_words.specs.Words.{word_at, Words}
 use Rattle.disk_places.specs.Places.{commit_word, Geometry}
 use Rattle.disk_lines.specs.Fresh.{fresh}
-use Rattle.disk_rules.specs.Rules.{geometry_of, IsChecked}
+use Rattle.staging_files.specs.disk_rules.Rules.{geometry_of, IsChecked}
 use Rattle.staging_files.specs.image_facts.FreshLines.{fresh-commit}
 
 -- what opening it asks for

@@ -2,8 +2,8 @@
 use Rattle.std.specs.Prelude.{◌≡◌, false, Result, Ok, Err}
 use Rattle.pm_words.specs.Cells.{AllSingle}
 use Rattle.std.specs.declared.alloc.AllocError.{AllocError}
-use Rattle.k_journal.specs.declared.outcomes.Commit.{Commit}
-use Rattle.k_rules.specs.View.{View}
+use Rattle.staging_files.specs.k_journal.declared.outcomes.Commit.{Commit}
+use Rattle.staging_files.specs.k_rules.View.{View}
 use Rattle.staging_files.specs.declared.runs.StageFault.{StageFault}
 use Rattle.staging_files.specs.declared.runs.StageRun.{StageRun}
 use Rattle.staging_files.specs.Keeps.{Agrees, Staged}

@@ -2,8 +2,8 @@
 ghost use Rattle.std.specs.Prelude.{◌≤◌, OnOk};
 ghost use Rattle.staging_rows.specs.Calm.{IsCalm, IsCalmAfter, IsCalmDone};
 
-use k_journal::Commit;
 use pm_lines::Power;
+use staging_files::k_journal::Commit;
 use staging_files::k_split::KSplit;
 use staging_files::{StageFault, StageRun, Staging};
 use std::alloc::{AllocError, Global};

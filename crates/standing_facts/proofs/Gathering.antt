@@ -8,22 +8,22 @@ use Rattle.disk_lines.specs.declared.Kind.{Kind}
 use Rattle.disk_lines.specs.declared.Kind.TheVariants.{Directory, File, Free, Staging}
 use Rattle.disk_lines.specs.Lines.{most_bytes}
 use Rattle.disk_places.specs.Places.{Geometry}
-use Rattle.disk_rules.specs.Live.{is_file}
-use Rattle.disk_rules.specs.Volume.{inode}
+use Rattle.log_checkpoint.specs.disk_rules.Live.{is_file}
+use Rattle.log_checkpoint.specs.disk_rules.Volume.{inode}
 use Rattle.file_overlay.specs.declared.runs.Run.{Run}
 use Rattle.file_overlay.specs.Runs.{Overlaid}
-use Rattle.file_table.specs.Files.{nothing_laid, runs_in}
+use Rattle.log_checkpoint.specs.file_table.Files.{nothing_laid, runs_in}
 use Rattle.log_checkpoint.specs.fsync_relink.Others.{AllApart}
 use Rattle.log_checkpoint.specs.fsync_relink.Publishes.{ShareNone}
 use Rattle.log_checkpoint.specs.k_map_plans.Plans.{IsLiveFile}
 use Rattle.log_checkpoint.proofs.k_plans_proofs.FreeCounts.{unwaiting-counted}
-use Rattle.k_rules.specs.View.{View}
+use Rattle.log_checkpoint.specs.k_rules.View.{View}
 use Rattle.list_facts.specs.Filters.{filter-In}
 use Rattle.list_facts.specs.Members.{In}
 use Rattle.log_checkpoint.specs.Gathers.{MayGather, total_runs}
 use Rattle.world_standing.specs.overlay_facts.Overlays.{run_of}
 use Rattle.posix_words.specs.Open.{Tables}
-use Rattle.posix_spec.specs.State.{State}
+use Rattle.log_checkpoint.specs.posix_spec.State.{State}
 use Rattle.log_checkpoint.specs.world_rules.Jobs.{live_claims}
 use Rattle.log_checkpoint.specs.world_promise.TreeRules.{used_below}
 use Rattle.log_checkpoint.specs.world_rules.Stands.{entries_of, is_used}

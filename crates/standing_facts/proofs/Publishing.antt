@@ -10,23 +10,23 @@ use Rattle.disk_places.specs.PlaceLaws.{behind_log-words}
 use Rattle.disk_places.specs.Places.{Geometry, is_data_block, is_journaled_line, log_line}
 use Rattle.disk_lines.specs.declared.Draft.{Draft}
 use Rattle.disk_lines.specs.Lines.{most_bytes}
-use Rattle.disk_rules.specs.Rules.{file_blocks_of}
-use Rattle.disk_rules.specs.Volume.{extents, inode, Volume}
+use Rattle.log_checkpoint.specs.disk_rules.Rules.{file_blocks_of}
+use Rattle.log_checkpoint.specs.disk_rules.Volume.{extents, inode, Volume}
 use Rattle.extent_facts.specs.Covers.{covers-disk_at}
 use Rattle.extent_words.specs.Extents.{disk_at, is_within}
 use Rattle.file_overlay.specs.Laws.{IsEarlier}
-use Rattle.file_table.specs.Files.{runs_in, size_in}
+use Rattle.log_checkpoint.specs.file_table.Files.{runs_in, size_in}
 use Rattle.log_checkpoint.specs.fsync_relink.Publishes.{IsStagedRun, MayPublish, ShareNone}
 use Rattle.log_checkpoint.specs.k_map_plans.Plans.{IsLiveFile, IsStagingFile}
 use Rattle.log_checkpoint.proofs.k_plans_proofs.FreeCounts.{unwaiting-counted}
-use Rattle.k_rules.specs.View.{View}
+use Rattle.log_checkpoint.specs.k_rules.View.{View}
 use Rattle.list_facts.specs.Filters.{filter-In}
 use Rattle.list_facts.specs.Members.{In}
 use Rattle.world_standing.specs.overlay_facts.Overlays.{run_of}
 use Rattle.posix_words.specs.Open.{Tables}
-use Rattle.posix_spec.specs.State.{State}
+use Rattle.log_checkpoint.specs.posix_spec.State.{State}
 use Rattle.log_checkpoint.proofs.staging_files_proofs.GiveUpLaws.{staging-file}
-use Rattle.volume_facts.specs.LineWords.{data_word, data_word-not_journaled}
+use Rattle.log_checkpoint.specs.volume_facts.LineWords.{data_word, data_word-not_journaled}
 use Rattle.log_checkpoint.specs.volume_uses.OwnerLaws.{IsOnePlace, one_owner}
 use Rattle.log_checkpoint.specs.volume_uses.PoolLaws.{covered-in_data}
 use Rattle.log_checkpoint.specs.world_promise.Lent.{once_named}

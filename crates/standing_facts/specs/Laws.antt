@@ -2,13 +2,13 @@
 use Rattle.std.specs.Prelude.{◌≤◌, ◌^◌, ℕ, Bool, All}
 use Rattle.disk_lines.specs.Lines.{most_bytes}
 use Rattle.disk_places.specs.Places.{Geometry}
-use Rattle.file_table.specs.Files.{runs_in, size_in}
+use Rattle.log_checkpoint.specs.file_table.Files.{runs_in, size_in}
 use Rattle.log_checkpoint.specs.fsync_relink.Publishes.{MayPublish}
 use Rattle.log_checkpoint.specs.k_map_plans.Plans.{IsLiveFile}
-use Rattle.k_rules.specs.View.{View}
+use Rattle.log_checkpoint.specs.k_rules.View.{View}
 use Rattle.log_checkpoint.specs.Gathers.{MayGather}
 use Rattle.posix_words.specs.Open.{Tables}
-use Rattle.posix_spec.specs.State.{State}
+use Rattle.log_checkpoint.specs.posix_spec.State.{State}
 use Rattle.world_standing.specs.Standing.{Kept, StandsAt}
 
 -- WHAT IS STAGED OF A FILE MAY BE PUBLISHED, whatever is in flight.

@@ -11,11 +11,11 @@ use Rattle.disk_lines.specs.Lines.{NameRow}
 use Rattle.disk_lines.specs.Names.{row, is_child, is_entry, child_named, free_line, up, walk}
 use Rattle.disk_lines.specs.TableLaws.{NamingLine-child_named, child_named-at, free_line-some, walk-append, walk-one, walk-up}
 use Rattle.disk_lines.specs.Tables.{NamingLine}
-use Rattle.disk_rules.specs.Kept.{AreKept}
-use Rattle.disk_rules.specs.Live.{is_directory}
-use Rattle.disk_rules.specs.Rules.{IsKindAt}
-use Rattle.disk_rules.specs.Volume.{Volume, inode}
-use Rattle.k_rules.specs.Spaces.{is_directory_in, volume_space}
+use Rattle.volume_uses.specs.disk_rules.Kept.{AreKept}
+use Rattle.volume_uses.specs.disk_rules.Live.{is_directory}
+use Rattle.volume_uses.specs.disk_rules.Rules.{IsKindAt}
+use Rattle.volume_uses.specs.disk_rules.Volume.{Volume, inode}
+use Rattle.volume_names.specs.k_rules.Spaces.{is_directory_in, volume_space}
 use Rattle.volume_names.specs.name_facts.KeptLaws.{HasAllLines}
 use Rattle.volume_names.specs.name_facts.RowLaws.{names_of-one_line, row-below}
 use Rattle.volume_names.specs.name_facts.SetLaws.{child_named-none}

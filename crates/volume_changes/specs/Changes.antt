@@ -4,8 +4,8 @@ use Rattle.disk_lines.specs.declared.Kind.{Kind}
 use Rattle.disk_lines.specs.declared.Kind.TheVariants.{Free, Directory, File}
 use Rattle.disk_lines.specs.Lines.{NameRow}
 use Rattle.disk_lines.specs.Names.{row, is_entry, names_of, has_entries, up}
-use Rattle.disk_rules.specs.Live.{is_directory}
-use Rattle.disk_rules.specs.Volume.{Volume, inode}
+use Rattle.volume_uses.specs.disk_rules.Live.{is_directory}
+use Rattle.volume_uses.specs.disk_rules.Volume.{Volume, inode}
 use Rattle.volume_changes.specs.Sane.{HasWayUp}
 
 -- `made kind ino line r`: the inode and the line are free, the name is new, and its parent is a directory from which

@@ -6,17 +6,17 @@ use Rattle.disk_lines.specs.declared.Kind.{Kind}
 use Rattle.disk_lines.specs.declared.Kind.TheVariants.{Free, Directory, File, Staging}
 use Rattle.disk_lines.specs.Lines.{NameRow, is_inode}
 use Rattle.disk_lines.specs.Names.{Rows, row, is_free_row}
-use Rattle.disk_rules.specs.Live.{is_directory}
-use Rattle.disk_rules.specs.Reading.{node_set}
-use Rattle.disk_rules.specs.Uses.{owners}
-use Rattle.disk_rules.specs.Volume.{Volume, inode, free_inode}
-use Rattle.k_rules.specs.Changes.{new_node, gone_node, made, unnamed, removed, renamed, renamed_over_file, renamed_over_directory, dropped}
-use Rattle.k_rules.specs.Spaces.{is_free, volume_space}
+use Rattle.volume_uses.specs.disk_rules.Live.{is_directory}
+use Rattle.volume_uses.specs.disk_rules.Reading.{node_set}
+use Rattle.volume_uses.specs.disk_rules.Uses.{owners}
+use Rattle.volume_uses.specs.disk_rules.Volume.{Volume, inode, free_inode}
+use Rattle.volume_names.specs.k_rules.Changes.{new_node, gone_node, made, unnamed, removed, renamed, renamed_over_file, renamed_over_directory, dropped}
+use Rattle.volume_names.specs.k_rules.Spaces.{is_free, volume_space}
 use Rattle.volume_names.specs.name_facts.RowLaws.{row-below}
 use Rattle.volume_names.specs.name_facts.SetLaws.{free_lines-taken, free_lines-freed}
 use Rattle.volume_changes.specs.Changes.{MayMake, MayRenameOver, MayDrop}
-use Rattle.volume_facts.specs.Changes.{row-set_other}
-use Rattle.volume_facts.specs.Lists.{one_if, count_by-set}
+use Rattle.volume_uses.specs.volume_facts.Changes.{row-set_other}
+use Rattle.volume_uses.specs.volume_facts.Lists.{one_if, count_by-set}
 use Rattle.volume_uses.specs.OwnerLaws.{owners-node, owners-row}
 
 -- ---- inode lines

@@ -11,10 +11,10 @@ use Rattle.disk_lines.specs.Lines.{NameRow}
 use Rattle.disk_lines.specs.Names.{Rows, row, is_entry, child_of_row, line_and_child, first_row_from, find_name, free_line}
 use Rattle.disk_lines.specs.RowLaws.{first_row-is}
 use Rattle.disk_lines.specs.TableLaws.{is_entry-parts}
-use Rattle.disk_rules.specs.Kept.{AreKept}
-use Rattle.disk_rules.specs.Volume.{Volume, free_inode}
-use Rattle.k_rules.specs.Changes.{made, unnamed, removed, renamed, renamed_over_file, renamed_over_directory}
-use Rattle.k_rules.specs.Spaces.{is_free, volume_space}
+use Rattle.volume_uses.specs.disk_rules.Kept.{AreKept}
+use Rattle.volume_uses.specs.disk_rules.Volume.{Volume, free_inode}
+use Rattle.volume_names.specs.k_rules.Changes.{made, unnamed, removed, renamed, renamed_over_file, renamed_over_directory}
+use Rattle.volume_names.specs.k_rules.Spaces.{is_free, volume_space}
 use Rattle.posix_words.specs.Names.{directory_path, last_name, has_entries as has_entries_in}
 use Rattle.volume_changes.specs.CallLaws.{IsKeptVolume, row_to, may-make, may-unname, may-remove, may-rename, may-rename-over_file, may-rename-over_directory}
 use Rattle.volume_changes.specs.NameLaws.{made-keeps, unnamed-keeps, removed-keeps, renamed-keeps}

@@ -4,10 +4,10 @@ use Rattle.std.proofs.Common.{◌∙◌}
 use Rattle.disk_lines.specs.declared.Inode.{Inode}
 use Rattle.disk_lines.specs.declared.Kind.{Kind}
 use Rattle.disk_lines.specs.Lines.{NameRow}
-use Rattle.disk_rules.specs.Volume.{Volume, inode, chain, extents, free_inode}
-use Rattle.k_rules.specs.Changes.{new_node, gone_node, made, unnamed, removed, renamed, renamed_over_file, renamed_over_directory, dropped}
+use Rattle.volume_uses.specs.disk_rules.Volume.{Volume, inode, chain, extents, free_inode}
+use Rattle.volume_names.specs.k_rules.Changes.{new_node, gone_node, made, unnamed, removed, renamed, renamed_over_file, renamed_over_directory, dropped}
 use Rattle.volume_changes.specs.Frames.{LeavesOthers}
-use Rattle.volume_facts.specs.Changes.{inode-set_same, inode-set_other, chain-set_other, extents-set_other, row-set_other}
+use Rattle.volume_uses.specs.volume_facts.Changes.{inode-set_same, inode-set_other, chain-set_other, extents-set_other, row-set_other}
 
 other_node : (v : Volume) (ino : ℕ) (x : Inode) (i : ℕ) → i ≢ ino
     → slice_index_or (slice_set v.inodes ino x) i free_inode ≡ inode v i

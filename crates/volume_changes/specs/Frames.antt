@@ -1,7 +1,7 @@
 -- What a change of a volume leaves as it was.
 use Rattle.std.specs.Prelude.{◌≡◌, ◌≢◌, ℕ, List, [], ◌∷◌}
 use Rattle.disk_lines.specs.Names.{row}
-use Rattle.disk_rules.specs.Volume.{Volume, inode, chain, extents}
+use Rattle.volume_uses.specs.disk_rules.Volume.{Volume, inode, chain, extents}
 
 -- the number is none of these
 abbrev pub IsOther : ℕ → List ℕ → Type 0

@@ -9,14 +9,14 @@ use Rattle.disk_lines.specs.Fresh.{empty_inode}
 use Rattle.disk_lines.specs.Lines.{NameRow}
 use Rattle.disk_lines.specs.Names.{row, child_named, find_name, free_line, has_entries, names_of, up}
 use Rattle.disk_lines.specs.Tables.{IsKeyed}
-use Rattle.disk_rules.specs.Kept.{AreKept}
-use Rattle.disk_rules.specs.Live.{is_directory}
-use Rattle.disk_rules.specs.Reading.{inode_set, row_set}
-use Rattle.disk_rules.specs.Rules.{IsInData, file_blocks_of}
-use Rattle.disk_rules.specs.Uses.{owners, uses_by}
-use Rattle.disk_rules.specs.Volume.{Volume, inode, free_inode}
-use Rattle.k_rules.specs.Changes.{made, unnamed, removed, renamed, renamed_over_file, renamed_over_directory, dropped}
-use Rattle.k_rules.specs.Spaces.{volume_space}
+use Rattle.volume_uses.specs.disk_rules.Kept.{AreKept}
+use Rattle.volume_uses.specs.disk_rules.Live.{is_directory}
+use Rattle.volume_uses.specs.disk_rules.Reading.{inode_set, row_set}
+use Rattle.volume_uses.specs.disk_rules.Rules.{IsInData, file_blocks_of}
+use Rattle.volume_uses.specs.disk_rules.Uses.{owners, uses_by}
+use Rattle.volume_uses.specs.disk_rules.Volume.{Volume, inode, free_inode}
+use Rattle.volume_names.specs.k_rules.Changes.{made, unnamed, removed, renamed, renamed_over_file, renamed_over_directory, dropped}
+use Rattle.volume_names.specs.k_rules.Spaces.{volume_space}
 use Rattle.volume_names.specs.name_facts.KeptLaws.{HasAllLines}
 use Rattle.posix_words.specs.Names.{directory_path, last_name, has_entries as has_entries_in}
 use Rattle.volume_changes.specs.CallLaws.{IsKeptVolume, row_to}

@@ -15,3 +15,7 @@ pub mod Sane
 pub mod SaneLaws
 pub use Rattle.volume_names.specs.name_facts as name_facts
 pub use Rattle.volume_uses.specs as volume_uses
+pub use Rattle.volume_names.specs.k_rules as k_rules
+pub use Rattle.volume_uses.specs.chain_facts as chain_facts
+pub use Rattle.volume_uses.specs.disk_rules as disk_rules
+pub use Rattle.volume_uses.specs.volume_facts as volume_facts

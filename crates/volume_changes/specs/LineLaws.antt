@@ -5,8 +5,8 @@ use Rattle.std.proofs.lemmas.List.{length-set}
 use Rattle.extent_words.specs.declared.Extent.{Extent}
 use Rattle.disk_lines.specs.declared.Inode.{Inode}
 use Rattle.disk_lines.specs.Lines.{NameRow}
-use Rattle.disk_rules.specs.Reading.{inode_set, node_set, row_set}
-use Rattle.disk_rules.specs.Volume.{Volume}
+use Rattle.volume_uses.specs.disk_rules.Reading.{inode_set, node_set, row_set}
+use Rattle.volume_uses.specs.disk_rules.Volume.{Volume}
 use Rattle.volume_names.specs.name_facts.KeptLaws.{HasAllLines}
 use Rattle.volume_uses.specs.Uses.{HasAllMaps}
 

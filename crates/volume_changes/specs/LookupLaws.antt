@@ -8,7 +8,7 @@ use Rattle.disk_lines.specs.TableLaws.{is_entry-own, is_entry-parts}
 use Rattle.disk_lines.specs.Tables.{IsKeyed}
 use Rattle.volume_names.specs.name_facts.RowLaws.{first_row-nothing, row-below}
 use Rattle.volume_names.specs.name_facts.SetLaws.{keyed-freed, row-freed, child_named-past, child_named-set, child_named-taken, child_named-freed, child_named-freed_other}
-use Rattle.volume_facts.specs.Changes.{row-set_same, row-set_other}
+use Rattle.volume_uses.specs.volume_facts.Changes.{row-set_same, row-set_other}
 
 -- a name leads to the child of a row where it is that row's, and else where it led
 abbrev pub leads_to : NameRow → (ℕ → List ℕ → Option ℕ) → ℕ → List ℕ → Option ℕ

@@ -7,20 +7,20 @@ use Rattle.disk_places.specs.Places.{is_data_block}
 use Rattle.extent_words.specs.declared.Extent.{Extent}
 use Rattle.disk_lines.specs.declared.Inode.{Inode}
 use Rattle.disk_lines.specs.Names.{row, is_child}
-use Rattle.disk_rules.specs.Kept.{AreKept}
-use Rattle.disk_rules.specs.Live.{is_directory}
-use Rattle.disk_rules.specs.Reading.{inode_set, node_set, base_set}
-use Rattle.disk_rules.specs.Rules.{IsKindAt, IsInData, file_blocks_of}
-use Rattle.disk_rules.specs.Uses.{owners, uses_by}
-use Rattle.disk_rules.specs.Volume.{Volume, inode, extents, free_inode}
-use Rattle.k_rules.specs.Changes.{gone_node, dropped}
+use Rattle.volume_uses.specs.disk_rules.Kept.{AreKept}
+use Rattle.volume_uses.specs.disk_rules.Live.{is_directory}
+use Rattle.volume_uses.specs.disk_rules.Reading.{inode_set, node_set, base_set}
+use Rattle.volume_uses.specs.disk_rules.Rules.{IsKindAt, IsInData, file_blocks_of}
+use Rattle.volume_uses.specs.disk_rules.Uses.{owners, uses_by}
+use Rattle.volume_uses.specs.disk_rules.Volume.{Volume, inode, extents, free_inode}
+use Rattle.volume_names.specs.k_rules.Changes.{gone_node, dropped}
 use Rattle.volume_names.specs.name_facts.KeptLaws.{HasAllLines}
 use Rattle.volume_names.specs.name_facts.RowLaws.{names_of-zero}
 use Rattle.volume_changes.specs.Changes.{MayDrop}
 use Rattle.volume_changes.specs.NodeLaws.{file-number, set-kinds, set-data, set-other, set-same, set-kind}
 use Rattle.volume_changes.specs.Sane.{AreSane, HasData, HasBlocksOnce, sane-kept, kept-sane}
 use Rattle.volume_changes.specs.SaneLaws.{sane-nodes}
-use Rattle.volume_facts.specs.Changes.{inode-set_same, inode-set_other, extents-set_same, extents-set_other}
+use Rattle.volume_uses.specs.volume_facts.Changes.{inode-set_same, inode-set_other, extents-set_same, extents-set_other}
 use Rattle.volume_uses.specs.OwnerLaws.{owners-base, owners-node, once-set}
 use Rattle.volume_uses.specs.Uses.{HasAllMaps, uses_of}
 

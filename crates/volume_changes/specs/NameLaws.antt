@@ -5,12 +5,12 @@ use Rattle.std.proofs.lemmas.Bool.{cases_eq, both_ways, eq-eqb, ne_eqb}
 use Rattle.disk_lines.specs.declared.Kind.{Kind}
 use Rattle.disk_lines.specs.Lines.{NameRow}
 use Rattle.disk_lines.specs.Names.{row, is_child, names_of, has_entries}
-use Rattle.disk_rules.specs.Kept.{AreKept}
-use Rattle.disk_rules.specs.Live.{is_directory, is_file}
-use Rattle.disk_rules.specs.Reading.{node_set, row_set}
-use Rattle.disk_rules.specs.Rules.{file_blocks_of}
-use Rattle.disk_rules.specs.Volume.{Volume, inode, free_inode}
-use Rattle.k_rules.specs.Changes.{new_node, gone_node, made, unnamed, removed, renamed}
+use Rattle.volume_uses.specs.disk_rules.Kept.{AreKept}
+use Rattle.volume_uses.specs.disk_rules.Live.{is_directory, is_file}
+use Rattle.volume_uses.specs.disk_rules.Reading.{node_set, row_set}
+use Rattle.volume_uses.specs.disk_rules.Rules.{file_blocks_of}
+use Rattle.volume_uses.specs.disk_rules.Volume.{Volume, inode, free_inode}
+use Rattle.volume_names.specs.k_rules.Changes.{new_node, gone_node, made, unnamed, removed, renamed}
 use Rattle.volume_names.specs.name_facts.KeptLaws.{HasAllLines, node-below}
 use Rattle.volume_names.specs.name_facts.RowLaws.{row-below, has_entries-parent, names_of-zero, names_of-one_line}
 use Rattle.volume_names.specs.name_facts.SetLaws.{row-freed, names_of-taken, names_of-freed, names_of-moved}
@@ -18,7 +18,7 @@ use Rattle.volume_changes.specs.Changes.{MayMake, MayUnname, MayRemove, MayRenam
 use Rattle.volume_changes.specs.NodeLaws.{named-used, free-unnamed, plain-empty, free-number, directory-number, node-number, node-blocks, node-named, directory-blocks, set-kinds, set-data, set-other, set-same}
 use Rattle.volume_changes.specs.Sane.{AreSane, HasKinds, sane-kept, kept-sane}
 use Rattle.volume_changes.specs.SaneLaws.{sane-taken, sane-freed, sane-moved, sane-nodes}
-use Rattle.volume_facts.specs.Lists.{one_if}
+use Rattle.volume_uses.specs.volume_facts.Lists.{one_if}
 use Rattle.volume_uses.specs.OwnerLaws.{owners-node, owners-row}
 
 -- ---- a node is made

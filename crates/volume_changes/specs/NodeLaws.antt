@@ -7,13 +7,13 @@ use Rattle.disk_lines.specs.declared.Kind.{Kind}
 use Rattle.disk_lines.specs.declared.Kind.TheVariants.{Free, Directory, File, Staging}
 use Rattle.disk_lines.specs.Lines.{NameRow}
 use Rattle.disk_lines.specs.Names.{row, is_child, is_below_parent, names_of, has_entries}
-use Rattle.disk_rules.specs.Live.{is_directory, is_file}
-use Rattle.disk_rules.specs.Reading.{node_set}
-use Rattle.disk_rules.specs.Rules.{IsKindAt, IsInData, file_blocks_of}
-use Rattle.disk_rules.specs.Volume.{Volume, inode, chain, extents, free_inode}
+use Rattle.volume_uses.specs.disk_rules.Live.{is_directory, is_file}
+use Rattle.volume_uses.specs.disk_rules.Reading.{node_set}
+use Rattle.volume_uses.specs.disk_rules.Rules.{IsKindAt, IsInData, file_blocks_of}
+use Rattle.volume_uses.specs.disk_rules.Volume.{Volume, inode, chain, extents, free_inode}
 use Rattle.volume_names.specs.name_facts.RowLaws.{has_entries-none, names_of-none}
 use Rattle.volume_changes.specs.Sane.{AreSane, HasKinds, HasData}
-use Rattle.volume_facts.specs.Changes.{inode-set_same, inode-set_other}
+use Rattle.volume_uses.specs.volume_facts.Changes.{inode-set_same, inode-set_other}
 
 -- ---- inodes of a sane volume
 

@@ -7,11 +7,11 @@ use Rattle.disk_lines.specs.declared.Inode.{Inode}
 use Rattle.disk_lines.specs.Lines.{NameRow}
 use Rattle.disk_lines.specs.Names.{row, is_entry, has_entries, up}
 use Rattle.disk_lines.specs.TableLaws.{is_entry-own, is_entry-parts}
-use Rattle.disk_rules.specs.Kept.{AreKept}
-use Rattle.disk_rules.specs.Live.{is_directory}
-use Rattle.disk_rules.specs.Reading.{row_set}
-use Rattle.disk_rules.specs.Volume.{Volume, inode, free_inode}
-use Rattle.k_rules.specs.Changes.{gone_node, unnamed, removed, renamed_over_file, renamed_over_directory}
+use Rattle.volume_uses.specs.disk_rules.Kept.{AreKept}
+use Rattle.volume_uses.specs.disk_rules.Live.{is_directory}
+use Rattle.volume_uses.specs.disk_rules.Reading.{row_set}
+use Rattle.volume_uses.specs.disk_rules.Volume.{Volume, inode, free_inode}
+use Rattle.volume_names.specs.k_rules.Changes.{gone_node, unnamed, removed, renamed_over_file, renamed_over_directory}
 use Rattle.volume_names.specs.name_facts.KeptLaws.{HasAllLines}
 use Rattle.volume_names.specs.name_facts.RowLaws.{has_entries-parent}
 use Rattle.volume_names.specs.name_facts.SetLaws.{row-freed}
@@ -21,7 +21,7 @@ use Rattle.volume_changes.specs.NameLaws.{unnamed-keeps, removed-keeps, renamed-
 use Rattle.volume_changes.specs.NodeLaws.{plain-empty, set-other}
 use Rattle.volume_changes.specs.Sane.{AreSane, sane-kept}
 use Rattle.volume_changes.specs.SaneLaws.{way-freed}
-use Rattle.volume_facts.specs.Changes.{row-set_other}
+use Rattle.volume_uses.specs.volume_facts.Changes.{row-set_other}
 
 -- Where the line of an inode without entries was freed, and the inode may be gone, a rename to its name is one to a new
 -- name.

@@ -4,10 +4,10 @@ use Rattle.std.proofs.Common.{arith, subst}
 use Rattle.disk_lines.specs.Lines.{NameRow}
 use Rattle.disk_lines.specs.Names.{Rows, row, is_entry, names_of, up}
 use Rattle.disk_lines.specs.TableLaws.{is_entry-own}
-use Rattle.disk_rules.specs.Kept.{IsNamedRow, AreKept}
-use Rattle.disk_rules.specs.Live.{is_directory}
-use Rattle.disk_rules.specs.Rules.{IsKindAt, IsNamed, IsNamedOnce, IsInData, IsRowPlaced, file_blocks_of}
-use Rattle.disk_rules.specs.Volume.{Volume, inode, extents}
+use Rattle.volume_uses.specs.disk_rules.Kept.{IsNamedRow, AreKept}
+use Rattle.volume_uses.specs.disk_rules.Live.{is_directory}
+use Rattle.volume_uses.specs.disk_rules.Rules.{IsKindAt, IsNamed, IsNamedOnce, IsInData, IsRowPlaced, file_blocks_of}
+use Rattle.volume_uses.specs.disk_rules.Volume.{Volume, inode, extents}
 use Rattle.disk_places.specs.Places.{is_data_block}
 use Rattle.volume_names.specs.name_facts.Forests.{IsForest}
 use Rattle.volume_names.specs.name_facts.KeptLaws.{HasAllLines, kept-placed, kept-named, kept-keyed, kept-one_name, kept-ends}

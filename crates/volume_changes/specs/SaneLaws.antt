@@ -6,17 +6,17 @@ use Rattle.extent_words.specs.declared.Extent.{Extent}
 use Rattle.disk_lines.specs.declared.Inode.{Inode}
 use Rattle.disk_lines.specs.Lines.{NameRow}
 use Rattle.disk_lines.specs.Names.{Rows, row, is_entry, names_of, has_entries, parent_of, up}
-use Rattle.disk_rules.specs.Live.{is_directory, is_file}
-use Rattle.disk_rules.specs.Reading.{row_set}
-use Rattle.disk_rules.specs.Rules.{IsNamed}
-use Rattle.disk_rules.specs.Volume.{Volume, inode, free_inode}
+use Rattle.volume_uses.specs.disk_rules.Live.{is_directory, is_file}
+use Rattle.volume_uses.specs.disk_rules.Reading.{row_set}
+use Rattle.volume_uses.specs.disk_rules.Rules.{IsNamed}
+use Rattle.volume_uses.specs.disk_rules.Volume.{Volume, inode, free_inode}
 use Rattle.volume_names.specs.name_facts.Forests.{SameAbove}
 use Rattle.volume_names.specs.name_facts.ForestLaws.{up-unmoved, up-moved, up-taken, up-freed, meets-or_not, forest-taken, forest-freed, forest-moved}
 use Rattle.volume_names.specs.name_facts.RowLaws.{row-below, has_entries-parent}
 use Rattle.volume_names.specs.name_facts.SetLaws.{row-freed, names_of-taken, names_of-freed, names_of-moved, parent_of-moved, parent_of-moved_other}
 use Rattle.volume_changes.specs.Sane.{AreSane, HasWayUp}
-use Rattle.volume_facts.specs.Changes.{row-set_same, row-set_other}
-use Rattle.volume_facts.specs.Lists.{one_if}
+use Rattle.volume_uses.specs.volume_facts.Changes.{row-set_same, row-set_other}
+use Rattle.volume_uses.specs.volume_facts.Lists.{one_if}
 
 -- a row of a table in which a line was set is the one that was set, or one of another line
 row-cases : (rows : Rows) (line : ℕ) (s : NameRow) (k : ℕ) (t : NameRow) → line < length rows

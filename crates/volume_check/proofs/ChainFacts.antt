@@ -6,14 +6,14 @@ use Rattle.disk_places.specs.Places.{Geometry, is_data_block}
 use Rattle.disk_places.specs.PlaceLaws.{behind_log-words}
 use Rattle.extent_words.specs.declared.Extent.{Extent}
 use Rattle.disk_lines.specs.declared.Inode.{Inode}
-use Rattle.disk_rules.specs.Placed.{block_at}
-use Rattle.disk_rules.specs.Rules.{file_blocks_of, IsInData, HasChain}
-use Rattle.disk_rules.specs.Standing.{IsChain, HasNoChain}
-use Rattle.disk_rules.specs.Volume.{Volume, inode, chain, extents}
-use Rattle.chain_facts.specs.ChainLaws.{IsChain-same, has_one_chain}
-use Rattle.chain_facts.specs.RuleLaws.{IsOfWords, chain-of_rule, rule-of_chain}
-use Rattle.volume_facts.specs.ImageLaws.{journaled-other}
-use Rattle.volume_facts.specs.LineWords.{data_word, data_word-not_journaled}
+use Rattle.k_reading.specs.disk_rules.Placed.{block_at}
+use Rattle.k_reading.specs.disk_rules.Rules.{file_blocks_of, IsInData, HasChain}
+use Rattle.k_reading.specs.disk_rules.Standing.{IsChain, HasNoChain}
+use Rattle.k_reading.specs.disk_rules.Volume.{Volume, inode, chain, extents}
+use Rattle.k_reading.specs.chain_facts.ChainLaws.{IsChain-same, has_one_chain}
+use Rattle.k_reading.specs.chain_facts.RuleLaws.{IsOfWords, chain-of_rule, rule-of_chain}
+use Rattle.k_reading.specs.volume_facts.ImageLaws.{journaled-other}
+use Rattle.k_reading.specs.volume_facts.LineWords.{data_word, data_word-not_journaled}
 
 -- a word of a data block is the same in the view
 pub data-viewed : (g : Geometry) (f : Words) (b i : ℕ) → IsSound g f → is_data_block g b ≡ true → i < 512

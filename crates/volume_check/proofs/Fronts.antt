@@ -2,7 +2,7 @@
 use Rattle.std.proofs.Common.{◌≡◌, ℕ, ◌+◌, ◌<◌, ◌≤◌, List, [], ◌∷◌, ◌++◌, length, get_or, sym, ◌∙◌, ap, arith, inl, inr, subst, length-append}
 use Rattle.std.proofs.lemmas.Bool.{cases_eq}
 use Rattle.std.proofs.lemmas.List.{ext_get_or, get_or_at, get_or_append_left}
-use Rattle.disk_rules.specs.Broken.{Holds, FailsFirst, below}
+use Rattle.k_reading.specs.disk_rules.Broken.{Holds, FailsFirst, below}
 
 -- the first n items of a table are those that were read, and the rule holds at each of their places
 pub record IsFront {X : Type 0} (d : X) (P : ℕ → Type 0) (front all : List X) (n : ℕ) : Type 0 where

@@ -5,9 +5,9 @@ use Rattle.pm_words.specs.Words.{Words, line_bytes}
 use Rattle.disk_places.specs.Journal.{committed, record_target}
 use Rattle.disk_places.specs.Places.{Geometry, is_journaled_line}
 use Rattle.disk_places.specs.Superblock.{has_magic, has_version, has_numbers}
-use Rattle.disk_rules.specs.Broken.{at_one, below, Holds, HoldAll, FailsFirst, BreaksFirst, head_rules}
-use Rattle.disk_rules.specs.Checked.{HasHead}
-use Rattle.disk_rules.specs.Rules.{geometry_of, IsWholeBlocks, HasMagic, HasVersion, HasNumbers, HasTarget, HasState}
+use Rattle.k_reading.specs.disk_rules.Broken.{at_one, below, Holds, HoldAll, FailsFirst, BreaksFirst, head_rules}
+use Rattle.k_reading.specs.disk_rules.Checked.{HasHead}
+use Rattle.k_reading.specs.disk_rules.Rules.{geometry_of, IsWholeBlocks, HasMagic, HasVersion, HasNumbers, HasTarget, HasState}
 use Rattle.k_reading.specs.image_facts.BrokenLaws.{BreaksFirst-before}
 use Rattle.volume_check.specs.Heads.{block_0_rules, journal_rules, IsSuperKept}
 

@@ -9,11 +9,11 @@ use Rattle.disk_places.specs.Places.{Geometry}
 use Rattle.disk_lines.specs.declared.Inode.{Inode}
 use Rattle.disk_lines.specs.Lines.{NameRow, NameSlot}
 use Rattle.disk_lines.specs.Names.{row}
-use Rattle.disk_rules.specs.Chains.{chain_of, map_of}
-use Rattle.disk_rules.specs.Rules.{IsKindAt, HasInode}
-use Rattle.disk_rules.specs.Volume.{volume, inode_at, name_at, row_of, free_inode, inode_or_free, inode}
+use Rattle.k_reading.specs.disk_rules.Chains.{chain_of, map_of}
+use Rattle.k_reading.specs.disk_rules.Rules.{IsKindAt, HasInode}
+use Rattle.k_reading.specs.disk_rules.Volume.{volume, inode_at, name_at, row_of, free_inode, inode_or_free, inode}
 use Rattle.k_reading.specs.image_facts.CheckedLaws.{volume-inode, volume-row}
-use Rattle.volume_facts.specs.ReadingLaws.{volume-geometry}
+use Rattle.k_reading.specs.volume_facts.ReadingLaws.{volume-geometry}
 
 pub inode-kept : (j : Words) (ino : ℕ) (x : Inode) → inode_at j ino ≡ Some x → IsKindAt ino x.kind → HasInode j ino
 inode-kept j ino x is kind = record { line = x; is = is; kind = kind }

@@ -8,9 +8,9 @@ use Rattle.std.proofs.lemmas.List.{get_or_default, get_or_past, get_or-set_same,
 use Rattle.disk_lines.specs.Lines.{NameRow}
 use Rattle.disk_lines.specs.Names.{Rows, row, is_entry, is_child, parent_of_row, first_row_from, parent_of, holds_above, ends_at_root}
 use Rattle.disk_lines.specs.TableLaws.{is_entry-own, is_entry-parts}
-use Rattle.disk_rules.specs.Live.{is_directory}
-use Rattle.disk_rules.specs.Rules.{IsPlaced}
-use Rattle.disk_rules.specs.Volume.{Volume, inode}
+use Rattle.k_reading.specs.disk_rules.Live.{is_directory}
+use Rattle.k_reading.specs.disk_rules.Rules.{IsPlaced}
+use Rattle.k_reading.specs.disk_rules.Volume.{Volume, inode}
 use Rattle.k_reading.specs.image_facts.ClimbLaws.{ends-reaches, reaches-ends, ends_at_root-root}
 use Rattle.volume_check.specs.Above.{HasChildBelow, HaveChildrenBelow, IsAbove, IsOnly}
 

@@ -6,20 +6,20 @@ use Rattle.std.proofs.lemmas.List.{get_or_default, get_or_past}
 use Rattle.pm_words.specs.Words.{Words}
 use Rattle.disk_places.specs.Journal.{journaled}
 use Rattle.disk_places.specs.Places.{Geometry, IsGeometry, base_word, first_data, data_blocks, is_data_block}
-use Rattle.block_pool.specs.FreeSets.{LiesWithin}
+use Rattle.k_reading.specs.block_pool.FreeSets.{LiesWithin}
 use Rattle.extent_words.specs.declared.Extent.{Extent}
 use Rattle.disk_lines.specs.declared.Inode.{Inode}
 use Rattle.disk_lines.specs.Lines.{NameSlot, FreeName, Named, BadName}
 use Rattle.disk_lines.specs.Names.{Rows, row}
-use Rattle.disk_rules.specs.Broken.{Rule, Holds, HoldAll, FailsFirst, BreaksFirst, line_rules, volume_rules, head_rules}
-use Rattle.disk_rules.specs.Checked.{HasHead}
-use Rattle.disk_rules.specs.Live.{is_file, is_directory}
-use Rattle.disk_rules.specs.Rules.{geometry_of, file_blocks_of, IsInData, IsNameSlot}
-use Rattle.disk_rules.specs.Volume.{Volume, volume, name_at, row_of, inode, chain, extents, free_inode}
+use Rattle.k_reading.specs.disk_rules.Broken.{Rule, Holds, HoldAll, FailsFirst, BreaksFirst, line_rules, volume_rules, head_rules}
+use Rattle.k_reading.specs.disk_rules.Checked.{HasHead}
+use Rattle.k_reading.specs.disk_rules.Live.{is_file, is_directory}
+use Rattle.k_reading.specs.disk_rules.Rules.{geometry_of, file_blocks_of, IsInData, IsNameSlot}
+use Rattle.k_reading.specs.disk_rules.Volume.{Volume, volume, name_at, row_of, inode, chain, extents, free_inode}
 use Rattle.k_reading.specs.image_facts.BrokenLaws.{HoldAll-append, BreaksFirst-behind, BreaksFirst-before}
 use Rattle.k_reading.specs.image_facts.CheckedLaws.{volume-row, HoldAll-head}
 use Rattle.k_reading.specs.Pools.{IsOfTables}
-use Rattle.volume_facts.specs.ReadingLaws.{volume-geometry}
+use Rattle.k_reading.specs.volume_facts.ReadingLaws.{volume-geometry}
 use Rattle.volume_check.specs.Above.{HasChildBelow}
 use Rattle.volume_check.specs.LineRules.{inodes_rule, names_rule, chains_rule}
 use Rattle.volume_check.specs.Readings.{AreOf, AreGood, blocks_rule, tree_rules, body_rules, front_rules}

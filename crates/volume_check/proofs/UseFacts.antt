@@ -11,13 +11,13 @@ use Rattle.extent_facts.specs.Counts.{one_if}
 use Rattle.extent_words.specs.declared.Extent.{Extent}
 use Rattle.disk_lines.specs.declared.Inode.{Inode}
 use Rattle.disk_lines.specs.Names.{Rows, row, names_of}
-use Rattle.disk_rules.specs.Broken.{below, Holds, HoldAll, FailsFirst, BreaksFirst}
-use Rattle.disk_rules.specs.Rules.{IsRowPlaced, HasOneName, AreDirectoriesNamed}
-use Rattle.disk_rules.specs.Room.{has_none, unused_blocks}
-use Rattle.disk_rules.specs.Uses.{Use, owners}
-use Rattle.disk_rules.specs.Volume.{Volume, chain, extents}
+use Rattle.k_reading.specs.disk_rules.Broken.{below, Holds, HoldAll, FailsFirst, BreaksFirst}
+use Rattle.k_reading.specs.disk_rules.Rules.{IsRowPlaced, HasOneName, AreDirectoriesNamed}
+use Rattle.k_reading.specs.disk_rules.Room.{has_none, unused_blocks}
+use Rattle.k_reading.specs.disk_rules.Uses.{Use, owners}
+use Rattle.k_reading.specs.disk_rules.Volume.{Volume, chain, extents}
 use Rattle.k_reading.specs.Pools.{IsOfTables}
-use Rattle.volume_facts.specs.Lists.{sum_by-agree, sum_by-add}
+use Rattle.k_reading.specs.volume_facts.Lists.{sum_by-agree, sum_by-add}
 use Rattle.k_reading.specs.volume_uses.OwnerLaws.{length-owners}
 use Rattle.k_reading.specs.volume_uses.UseLaws.{length-uses_by}
 use Rattle.k_reading.specs.volume_uses.Uses.{HasAllMaps, in_chain, in_map, uses_of}

@@ -2,9 +2,9 @@
 use Rattle.std.specs.Prelude.{◌≡◌, ◌≢◌, ℕ, ◌<◌, List, length, Option, Some, None, slice_index_or}
 use Rattle.disk_lines.specs.Lines.{NameRow}
 use Rattle.disk_lines.specs.Names.{Rows, row, parent_of}
-use Rattle.disk_rules.specs.Broken.{Rule, below}
-use Rattle.disk_rules.specs.Rules.{IsRowPlaced, HasOneName}
-use Rattle.disk_rules.specs.Volume.{Volume}
+use Rattle.k_reading.specs.disk_rules.Broken.{Rule, below}
+use Rattle.k_reading.specs.disk_rules.Rules.{IsRowPlaced, HasOneName}
+use Rattle.k_reading.specs.disk_rules.Volume.{Volume}
 
 -- the child of a row, where there is one, is one of so many inodes
 abbrev pub HasChildBelow : ℕ → Option NameRow → Type 0

@@ -1,6 +1,6 @@
 -- What the answers of a check say of the rules that were tried.
 use Rattle.std.specs.Prelude.{List, Result, Ok, Err}
-use Rattle.disk_rules.specs.Broken.{Rule, BreaksFirst}
+use Rattle.k_reading.specs.disk_rules.Broken.{Rule, BreaksFirst}
 use Rattle.volume_check.specs.declared.faults.BadImage.{BadImage}
 use Rattle.volume_check.specs.declared.faults.CheckFault.{CheckFault}
 use Rattle.volume_check.specs.declared.faults.CheckFault.TheVariants.{Bad, NoMemory}

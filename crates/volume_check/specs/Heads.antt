@@ -3,8 +3,8 @@ use Rattle.std.specs.Prelude.{◌≡◌, ℕ, List, [], ◌∷◌, true}
 use Rattle.pm_words.specs.Words.{Words}
 use Rattle.disk_places.specs.Places.{Geometry}
 use Rattle.disk_places.specs.Superblock.{has_magic, has_version, has_numbers}
-use Rattle.disk_rules.specs.Broken.{Rule, at_one, below}
-use Rattle.disk_rules.specs.Rules.{HasMagic, HasVersion, HasNumbers, HasTarget, HasState}
+use Rattle.k_reading.specs.disk_rules.Broken.{Rule, at_one, below}
+use Rattle.k_reading.specs.disk_rules.Rules.{HasMagic, HasVersion, HasNumbers, HasTarget, HasState}
 
 -- rules 2 to 4 and rule 11
 abbrev pub block_0_rules : ℕ → Words → List Rule

@@ -2,10 +2,10 @@
 use Rattle.std.specs.Prelude.{◌≡◌, ◌⊎◌, ℕ, true}
 use Rattle.pm_words.specs.Words.{Words}
 use Rattle.disk_places.specs.Places.{Geometry}
-use Rattle.disk_rules.specs.Broken.{Rule, below}
-use Rattle.disk_rules.specs.Live.{is_file, is_directory}
-use Rattle.disk_rules.specs.Rules.{HasInode, IsNameSlot, HasChain}
-use Rattle.disk_rules.specs.Volume.{Volume, name_at, inode}
+use Rattle.k_reading.specs.disk_rules.Broken.{Rule, below}
+use Rattle.k_reading.specs.disk_rules.Live.{is_file, is_directory}
+use Rattle.k_reading.specs.disk_rules.Rules.{HasInode, IsNameSlot, HasChain}
+use Rattle.k_reading.specs.disk_rules.Volume.{Volume, name_at, inode}
 
 -- the inode is a directory or a file
 abbrev pub IsNode : Volume → ℕ → Type 0

@@ -6,10 +6,10 @@ use Rattle.disk_places.specs.Places.{Geometry, first_data, data_blocks}
 use Rattle.extent_words.specs.declared.Extent.{Extent}
 use Rattle.disk_lines.specs.declared.Inode.{Inode}
 use Rattle.disk_lines.specs.Names.{Rows, row, names_of}
-use Rattle.disk_rules.specs.Broken.{Rule, at_one, below, head_rules, line_rules, volume_rules}
-use Rattle.disk_rules.specs.Rules.{geometry_of, IsRowPlaced, AreDirectoriesNamed, HasOneName, IsNamedOnce}
-use Rattle.disk_rules.specs.Uses.{owners}
-use Rattle.disk_rules.specs.Volume.{Volume, volume}
+use Rattle.k_reading.specs.disk_rules.Broken.{Rule, at_one, below, head_rules, line_rules, volume_rules}
+use Rattle.k_reading.specs.disk_rules.Rules.{geometry_of, IsRowPlaced, AreDirectoriesNamed, HasOneName, IsNamedOnce}
+use Rattle.k_reading.specs.disk_rules.Uses.{owners}
+use Rattle.k_reading.specs.disk_rules.Volume.{Volume, volume}
 use Rattle.k_reading.specs.Pools.{AreInData}
 use Rattle.volume_check.specs.declared.reading.Tables.{Tables}
 use Rattle.volume_check.specs.Above.{HaveChildrenBelow}

@@ -3,16 +3,16 @@ ghost use Rattle.std.specs.Prelude.{◌≡◌, ◌+◌, ◌<◌, ◌≤◌, ◌=
 ghost use Rattle.std.specs.List.{count_by};
 ghost use Rattle.extent_facts.specs.Counts.{one_if};
 ghost use Rattle.extent_words.specs.Extents.{holds_disk, is_within};
-ghost use Rattle.block_pool.specs.FreeSets.{LiesWithin};
+ghost use Rattle.k_reading.specs.block_pool.FreeSets.{LiesWithin};
 ghost use Rattle.disk_places.specs.Places.{first_data, data_blocks};
-ghost use Rattle.disk_rules.specs.Room.{unused_blocks};
-ghost use Rattle.disk_rules.specs.Volume.{Volume};
+ghost use Rattle.k_reading.specs.disk_rules.Room.{unused_blocks};
+ghost use Rattle.k_reading.specs.disk_rules.Volume.{Volume};
 ghost use Rattle.volume_check.specs.Marks.{AreMarks, LiesAt, AreFew, IsFirstTwice, chain_uses, map_uses, uses_in};
 ghost use Rattle.k_reading.specs.Pools.{AreInData};
 ghost use Rattle.volume_check.specs.Readings.{AreUseMarks};
 
 use extent_map::{Extent, ExtentMap};
-use image_layout::Geometry;
+use k_journal::image_layout::Geometry;
 use k_reading::Blocks;
 use std::alloc::{AllocError, Global};
 

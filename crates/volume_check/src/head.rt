@@ -2,9 +2,9 @@
 ghost use Rattle.std.specs.Prelude.{◌≡◌, ◌≢◌, ◌↔◌, ◌+◌, ◌*◌, ◌/◌, ◌%◌, ◌^◌, ◌<◌, ◌≤◌, ℕ, true, false, length, IsTrue, OnOk, IfOk, IfErr, MatchOption};
 ghost use Rattle.disk_places.specs.Journal.{committed, journaled, record_target};
 ghost use Rattle.disk_places.specs.Places.{base_word, commit_word, state_line, is_journaled_line};
-ghost use Rattle.disk_rules.specs.Broken.{Holds, HoldAll, FailsFirst, below, head_rules};
-ghost use Rattle.disk_rules.specs.Checked.{HasHead};
-ghost use Rattle.disk_rules.specs.Rules.{geometry_of, IsWholeBlocks, HasMagic, HasVersion, HasNumbers, HasTarget, HasState};
+ghost use Rattle.k_reading.specs.disk_rules.Broken.{Holds, HoldAll, FailsFirst, below, head_rules};
+ghost use Rattle.k_reading.specs.disk_rules.Checked.{HasHead};
+ghost use Rattle.k_reading.specs.disk_rules.Rules.{geometry_of, IsWholeBlocks, HasMagic, HasVersion, HasNumbers, HasTarget, HasState};
 ghost use Rattle.volume_check.specs.Answers.{IsFirstOf};
 ghost use Rattle.volume_check.specs.Heads.{IsSuperKept, block_0_rules, journal_rules};
 ghost use Rattle.pm_words.specs.Cells.{AllHome};
@@ -13,7 +13,7 @@ ghost use Rattle.pm_words.specs.Words.{line_bytes};
 
 use crate::faults::BadImage;
 use crate::view::{committed, target_of, view_word};
-use image_layout::{Geometry, SuperFault, read_superblock};
+use k_journal::image_layout::{Geometry, SuperFault, read_superblock};
 use pm_lines::Pm;
 
 // The word of the log base.

@@ -26,6 +26,9 @@ mod volumes;
 
 pub use blocks::count_unused;
 pub use faults::{BadImage, CheckFault};
+pub use k_journal;
+pub use k_journal::image_layout;
 pub use k_reading;
+pub use k_reading::{block_pool, k_inodes, map_chain};
 pub use reading::{Tables, read_volume};
 pub use view::view_line;

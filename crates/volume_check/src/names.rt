@@ -1,16 +1,16 @@
 // Rules 9 and 10: the names are a tree, and no node has two.
 ghost use Rattle.std.specs.Prelude.{◌≡◌, ◌↔◌, ◌+◌, ◌<◌, ℕ, length, slice_index_or, true, None, IsTrue, IfOk, MatchOption};
 ghost use Rattle.disk_lines.specs.Names.{Rows, is_entry, names_of, ends_at_root};
-ghost use Rattle.disk_rules.specs.Broken.{Holds, FailsFirst};
-ghost use Rattle.disk_rules.specs.Live.{is_directory};
-ghost use Rattle.disk_rules.specs.Rules.{IsPlaced, AreDirectoriesNamed};
-ghost use Rattle.disk_rules.specs.Volume.{Volume, inode};
+ghost use Rattle.k_reading.specs.disk_rules.Broken.{Holds, FailsFirst};
+ghost use Rattle.k_reading.specs.disk_rules.Live.{is_directory};
+ghost use Rattle.k_reading.specs.disk_rules.Rules.{IsPlaced, AreDirectoriesNamed};
+ghost use Rattle.k_reading.specs.disk_rules.Volume.{Volume, inode};
 ghost use Rattle.volume_check.specs.Above.{HaveChildrenBelow, IsAbove, IsOnly, rows_rule};
 ghost use Rattle.volume_check.specs.Marks.{AreMarks};
 
 use crate::blocks::mark;
-use k_inodes::{Inode, Kind};
-use k_names::NameLine;
+use k_reading::k_inodes::{Inode, Kind};
+use k_reading::k_names::NameLine;
 use std::alloc::{AllocError, Global};
 
 // A directory is at most so many names below the root, that of its own name left out.

@@ -1,7 +1,7 @@
 // Rules 8, 9 and 10: what is asked of the tables of a volume as a whole.
 ghost use Rattle.std.specs.Prelude.{◌≡◌, ◌^◌, ◌<◌, length, IfOk, IfErr, OnOk};
-ghost use Rattle.disk_rules.specs.Broken.{Holds, HoldAll, FailsFirst};
-ghost use Rattle.disk_rules.specs.Volume.{Volume};
+ghost use Rattle.k_reading.specs.disk_rules.Broken.{Holds, HoldAll, FailsFirst};
+ghost use Rattle.k_reading.specs.disk_rules.Volume.{Volume};
 ghost use Rattle.k_reading.specs.Pools.{AreInData, IsOfTables};
 ghost use Rattle.volume_check.specs.Above.{HaveChildrenBelow};
 ghost use Rattle.volume_check.specs.Answers.{IsFirstOf};
@@ -10,10 +10,10 @@ ghost use Rattle.volume_check.specs.Readings.{blocks_rule, tree_rules, AreUseMar
 use crate::blocks::{count_uses, first_twice};
 use crate::faults::BadImage;
 use crate::names::{are_directories_named, bad_row, count_names, parents_above};
-use image_layout::Geometry;
-use k_inodes::Inode;
-use k_names::NameLine;
+use k_journal::image_layout::Geometry;
 use k_reading::Maps;
+use k_reading::k_inodes::Inode;
+use k_reading::k_names::NameLine;
 use std::alloc::{AllocError, Global};
 
 /// Rule 8: how often each data block is named, or the first that is named twice.

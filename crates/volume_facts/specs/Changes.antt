@@ -5,8 +5,8 @@ use Rattle.extent_words.specs.declared.Extent.{Extent}
 use Rattle.disk_lines.specs.declared.Inode.{Inode}
 use Rattle.disk_lines.specs.Lines.{NameRow}
 use Rattle.disk_lines.specs.Names.{Rows, row}
-use Rattle.disk_rules.specs.Reading.{inode_set, node_set, row_set}
-use Rattle.disk_rules.specs.Volume.{Volume, free_inode, inode, chain, extents}
+use Rattle.chain_facts.specs.disk_rules.Reading.{inode_set, node_set, row_set}
+use Rattle.chain_facts.specs.disk_rules.Volume.{Volume, free_inode, inode, chain, extents}
 use Rattle.std.specs.Prelude.{slice_set}
 
 -- the inode that was set, with its chain and its map, and another one

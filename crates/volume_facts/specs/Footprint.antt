@@ -3,10 +3,10 @@ use Rattle.std.specs.Prelude.{◌≡◌, ◌≢◌, ℕ, ◌+◌, ◌*◌, ◌/�
 use Rattle.pm_words.specs.Words.{Words}
 use Rattle.disk_places.specs.Places.{Geometry, log_line}
 use Rattle.disk_lines.specs.declared.Draft.{Draft}
-use Rattle.disk_rules.specs.Content.{size_of, disk_of}
-use Rattle.disk_rules.specs.Live.{is_file}
-use Rattle.disk_rules.specs.Placed.{block_at}
-use Rattle.disk_rules.specs.Volume.{Volume, inode}
+use Rattle.chain_facts.specs.disk_rules.Content.{size_of, disk_of}
+use Rattle.chain_facts.specs.disk_rules.Live.{is_file}
+use Rattle.chain_facts.specs.disk_rules.Placed.{block_at}
+use Rattle.chain_facts.specs.disk_rules.Volume.{Volume, inode}
 
 -- the log lines are the same
 pub record SameLog (g : Geometry) (f h : Words) : Type 0 where

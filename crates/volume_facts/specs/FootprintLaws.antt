@@ -15,11 +15,11 @@ use Rattle.disk_lines.specs.Entries.{decode_entry}
 use Rattle.disk_lines.specs.declared.Kind.{Kind}
 use Rattle.disk_lines.specs.declared.Kind.TheVariants.{Free, Directory, File, Staging}
 use Rattle.disk_lines.specs.Names.{walk}
-use Rattle.disk_rules.specs.Content.{Node, size_of, entry_of_block, disk_by, disk_of, byte_in, bytes_of_file, node_by, node_of, found, content_of, content}
-use Rattle.disk_rules.specs.Live.{is_file, entry_in, is_live, live_entries}
-use Rattle.disk_rules.specs.Placed.{block_at, IsOutside}
-use Rattle.disk_rules.specs.Reading.{Reads}
-use Rattle.disk_rules.specs.Volume.{Volume, inode, extents}
+use Rattle.chain_facts.specs.disk_rules.Content.{Node, size_of, entry_of_block, disk_by, disk_of, byte_in, bytes_of_file, node_by, node_of, found, content_of, content}
+use Rattle.chain_facts.specs.disk_rules.Live.{is_file, entry_in, is_live, live_entries}
+use Rattle.chain_facts.specs.disk_rules.Placed.{block_at, IsOutside}
+use Rattle.chain_facts.specs.disk_rules.Reading.{Reads}
+use Rattle.chain_facts.specs.disk_rules.Volume.{Volume, inode, extents}
 use Rattle.volume_facts.specs.Footprint.{SameLog, SameData, AreUnread}
 use Rattle.volume_facts.specs.Lists.{map-agree, filter_map-agree}
 use Rattle.volume_facts.specs.ImageLaws.{journaled-same, journal-outside}

@@ -6,7 +6,7 @@ use Rattle.std.proofs.lemmas.Bool.Decides.{nat_tests}
 use Rattle.pm_words.specs.Words.{Words}
 use Rattle.disk_places.specs.Journal.{is_journal_word, record_target, record_word, committed, patched, journaled, IsSound}
 use Rattle.disk_places.specs.Places.{Geometry, commit_word, record_line, is_data_block, is_journaled_line}
-use Rattle.disk_rules.specs.Placed.{block_at, IsOutside}
+use Rattle.chain_facts.specs.disk_rules.Placed.{block_at, IsOutside}
 use Rattle.volume_facts.specs.LineWords.{data_word}
 
 -- a word of a line that no record targets

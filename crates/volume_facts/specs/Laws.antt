@@ -11,12 +11,12 @@ use Rattle.extent_words.specs.declared.Extent.{Extent}
 use Rattle.disk_lines.specs.declared.Inode.{Inode}
 use Rattle.disk_lines.specs.Fresh.{state_bytes}
 use Rattle.disk_lines.specs.Lines.{NameRow, decode_inode, decode_name}
-use Rattle.disk_rules.specs.Content.{found, content_of, content}
-use Rattle.disk_rules.specs.Live.{live_entries}
-use Rattle.disk_rules.specs.Placed.{IsOutside}
-use Rattle.disk_rules.specs.Reading.{slot_for, StandsFor, Reads, inode_set, row_set, base_set, AreBytes}
-use Rattle.disk_rules.specs.Standing.{IsChain}
-use Rattle.disk_rules.specs.Volume.{Volume, volume}
+use Rattle.chain_facts.specs.disk_rules.Content.{found, content_of, content}
+use Rattle.chain_facts.specs.disk_rules.Live.{live_entries}
+use Rattle.chain_facts.specs.disk_rules.Placed.{IsOutside}
+use Rattle.chain_facts.specs.disk_rules.Reading.{slot_for, StandsFor, Reads, inode_set, row_set, base_set, AreBytes}
+use Rattle.chain_facts.specs.disk_rules.Standing.{IsChain}
+use Rattle.chain_facts.specs.disk_rules.Volume.{Volume, volume}
 use Rattle.volume_facts.specs.Footprint.{SameLog, SameData, AreUnread}
 use Rattle.volume_facts.specs.LoanLaws.{AllRead}
 use Rattle.volume_facts.specs.Reading.{AgreeFor, AreUnchained}

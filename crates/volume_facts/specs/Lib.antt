@@ -10,3 +10,5 @@ pub mod ReadingLaws
 pub mod SetLaws
 pub mod StateLaws
 pub mod Laws
+pub use Rattle.chain_facts.specs as chain_facts
+pub use Rattle.chain_facts.specs.disk_rules as disk_rules

@@ -7,7 +7,7 @@ use Rattle.pm_words.specs.Bytes.{line_bytes-same, line_bytes-words}
 use Rattle.pm_words.specs.Words.{Words, word_at, line_bytes, with_line}
 use Rattle.disk_places.specs.PlaceLaws.{behind_log-not_journaled}
 use Rattle.disk_places.specs.Places.{Geometry, log_block, is_data_block, is_journaled_line}
-use Rattle.disk_rules.specs.Reading.{AreBytes}
+use Rattle.chain_facts.specs.disk_rules.Reading.{AreBytes}
 
 -- a word of the line that was set, and one of another line
 pub with_line-in : (line : ℕ) (bytes : List ℕ) (f : Words) (i : ℕ) → i / 8 ≡ line

@@ -14,9 +14,9 @@ use Rattle.pm_words.specs.Words.{Words}
 use Rattle.disk_places.specs.Journal.{is_journal_word, journaled}
 use Rattle.disk_places.specs.PlaceLaws.{log_line-not_journaled}
 use Rattle.disk_places.specs.Places.{Geometry, first_data, is_journaled_line, log_line}
-use Rattle.disk_rules.specs.Placed.{block_at, IsOutside}
-use Rattle.disk_rules.specs.Reading.{Reads}
-use Rattle.disk_rules.specs.Volume.{Volume, chain}
+use Rattle.chain_facts.specs.disk_rules.Placed.{block_at, IsOutside}
+use Rattle.chain_facts.specs.disk_rules.Reading.{Reads}
+use Rattle.chain_facts.specs.disk_rules.Volume.{Volume, chain}
 use Rattle.volume_facts.specs.ImageLaws.{journaled-same, journal-outside}
 use Rattle.volume_facts.specs.Reading.{AreUnchained}
 use Rattle.volume_facts.specs.ReadingLaws.{reads-same}

@@ -2,8 +2,8 @@
 use Rattle.std.specs.Prelude.{◌≡◌, ◌≢◌, ℕ, ◌+◌, ◌*◌, ◌/◌, ◌<◌, List, length, All, true}
 use Rattle.pm_words.specs.Words.{Words}
 use Rattle.disk_places.specs.Places.{Geometry, is_data_block, is_journaled_line}
-use Rattle.disk_rules.specs.Placed.{block_at}
-use Rattle.disk_rules.specs.Volume.{Volume, chain}
+use Rattle.chain_facts.specs.disk_rules.Placed.{block_at}
+use Rattle.chain_facts.specs.disk_rules.Volume.{Volume, chain}
 
 -- the words of the blocks of each chain of the volume are the same
 abbrev pub AgreeInChains : Geometry → Volume → Words → Words → Type 0

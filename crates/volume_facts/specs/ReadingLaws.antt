@@ -11,9 +11,9 @@ use Rattle.disk_lines.specs.declared.Inode.{Inode}
 use Rattle.disk_lines.specs.LineLaws.{IsInodeLine, IsInodeLine-decode_inode}
 use Rattle.disk_lines.specs.Lines.{NameRow, decode_inode, decode_name}
 use Rattle.disk_lines.specs.Names.{row}
-use Rattle.disk_rules.specs.Chains.{extents_in, chain_of, map_of}
-use Rattle.disk_rules.specs.Reading.{slot_for, Reads}
-use Rattle.disk_rules.specs.Volume.{Volume, volume, name_at, inode_or_free, free_inode, row_of, inode, chain, extents}
+use Rattle.chain_facts.specs.disk_rules.Chains.{extents_in, chain_of, map_of}
+use Rattle.chain_facts.specs.disk_rules.Reading.{slot_for, Reads}
+use Rattle.chain_facts.specs.disk_rules.Volume.{Volume, volume, name_at, inode_or_free, free_inode, row_of, inode, chain, extents}
 use Rattle.chain_facts.specs.ChainLaws.{IsChain-same, chain-map}
 use Rattle.volume_facts.specs.Reading.{AgreeFor}
 use Rattle.std.specs.List.{flat_map}

@@ -10,10 +10,10 @@ use Rattle.extent_words.specs.declared.Extent.{Extent}
 use Rattle.disk_lines.specs.declared.Inode.{Inode}
 use Rattle.disk_lines.specs.Lines.{NameRow, decode_inode, decode_name}
 use Rattle.disk_lines.specs.Names.{row}
-use Rattle.disk_rules.specs.Placed.{block_at, IsOutside}
-use Rattle.disk_rules.specs.Reading.{slot_for, StandsFor, Reads, inode_set, node_set, row_set, base_set, AreBytes}
-use Rattle.disk_rules.specs.Standing.{IsChain}
-use Rattle.disk_rules.specs.Volume.{Volume, volume, inode_at, name_at, inode, chain, extents}
+use Rattle.chain_facts.specs.disk_rules.Placed.{block_at, IsOutside}
+use Rattle.chain_facts.specs.disk_rules.Reading.{slot_for, StandsFor, Reads, inode_set, node_set, row_set, base_set, AreBytes}
+use Rattle.chain_facts.specs.disk_rules.Standing.{IsChain}
+use Rattle.chain_facts.specs.disk_rules.Volume.{Volume, volume, inode_at, name_at, inode, chain, extents}
 use Rattle.chain_facts.specs.ChainLaws.{IsChain-same}
 use Rattle.volume_facts.specs.Changes.{inode-set_same, chain-set_same, extents-set_same, inode-set_other, chain-set_other, extents-set_other, row-set_same, row-set_other, inode_set-same}
 use Rattle.volume_facts.specs.LineWords.{with_line-in, with_line-out, line_bytes-set, line_bytes-other, data_word-apart, data_word-not_journaled}

@@ -8,8 +8,8 @@ use Rattle.pm_words.specs.Words.{Words, word_at, with_line}
 use Rattle.disk_places.specs.Fields.{zeros}
 use Rattle.disk_places.specs.Places.{Geometry, state_line}
 use Rattle.disk_lines.specs.Fresh.{state_bytes}
-use Rattle.disk_rules.specs.Reading.{Reads, base_set}
-use Rattle.disk_rules.specs.Volume.{Volume}
+use Rattle.chain_facts.specs.disk_rules.Reading.{Reads, base_set}
+use Rattle.chain_facts.specs.disk_rules.Volume.{Volume}
 use Rattle.volume_facts.specs.SetLaws.{reads-base}
 
 pub state_bytes-first : (base : ℕ) → base < 2 ^ 64 → word_at (state_bytes base) 0 ≡ base

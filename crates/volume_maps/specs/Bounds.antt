@@ -10,10 +10,10 @@ use Rattle.extent_words.specs.declared.Extent.{Extent}
 use Rattle.extent_words.specs.Extents.{disk_at, holds_disk, IsCanonical, IsExtent}
 use Rattle.extent_words.specs.Maps.{IsPart}
 use Rattle.extent_facts.specs.Counts.{count_below, one_if}
-use Rattle.disk_rules.specs.Kept.{AreKept}
-use Rattle.disk_rules.specs.Placed.{extent_at, no_extent}
-use Rattle.disk_rules.specs.Rules.{file_blocks_of}
-use Rattle.disk_rules.specs.Volume.{Volume, extents, inode}
+use Rattle.map_rules.specs.disk_rules.Kept.{AreKept}
+use Rattle.map_rules.specs.disk_rules.Placed.{extent_at, no_extent}
+use Rattle.map_rules.specs.disk_rules.Rules.{file_blocks_of}
+use Rattle.map_rules.specs.disk_rules.Volume.{Volume, extents, inode}
 use Rattle.volume_changes.specs.name_facts.KeptLaws.{HasAllLines}
 use Rattle.volume_changes.specs.volume_uses.BoundLaws.{chains-bound}
 use Rattle.volume_changes.specs.volume_uses.OwnerLaws.{one_use}

@@ -13,7 +13,7 @@ use Rattle.extent_words.specs.Moves.{Moves}
 use Rattle.extent_facts.specs.Counts.{count_below, count_below-agree, count_below-balance, count_below-more, count_below-range, count_below-zero, one_if}
 use Rattle.extent_facts.specs.Facts.{IsCanonical-tail}
 use Rattle.extent_facts.specs.Spelling.{none_behind}
-use Rattle.disk_rules.specs.Placed.{block_at}
+use Rattle.map_rules.specs.disk_rules.Placed.{block_at}
 use Rattle.volume_changes.specs.volume_uses.Uses.{in_chain, in_map}
 use Rattle.map_rules.specs.Changes.{HasInOrder}
 

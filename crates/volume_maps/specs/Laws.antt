@@ -9,8 +9,8 @@ use Rattle.extent_words.specs.Maps.{IsPart, Replaces}
 use Rattle.extent_words.specs.Moves.{Moves}
 use Rattle.extent_facts.specs.Counts.{one_if}
 use Rattle.disk_lines.specs.declared.Inode.{Inode}
-use Rattle.disk_rules.specs.Kept.{AreKept}
-use Rattle.disk_rules.specs.Volume.{Volume, extents}
+use Rattle.map_rules.specs.disk_rules.Kept.{AreKept}
+use Rattle.map_rules.specs.disk_rules.Volume.{Volume, extents}
 use Rattle.map_rules.specs.Changes.{HasInOrder}
 use Rattle.map_rules.specs.Taken.{switched}
 use Rattle.volume_changes.specs.name_facts.KeptLaws.{HasAllLines}

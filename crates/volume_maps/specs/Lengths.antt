@@ -4,7 +4,7 @@ use Rattle.std.proofs.Common.{arith, ap, sym, ◌∙◌, inl, inr, get_or, subst
 use Rattle.std.proofs.lemmas.Bool.{cases_Bool, cases_eq, cases_lt, eq-eqb, ne_eqb}
 use Rattle.std.proofs.lemmas.Bool.Decides.{nat_tests}
 use Rattle.block_counts.specs.Counts.{chains_for}
-use Rattle.disk_rules.specs.Placed.{no_extent}
+use Rattle.map_rules.specs.disk_rules.Placed.{no_extent}
 use Rattle.extent_words.specs.declared.Extent.{Extent}
 use Rattle.extent_words.specs.Extents.{ComesAfter, disk_at, disk_in, holds, is_within, IsCanonical, IsExtent}
 use Rattle.extent_words.specs.Maps.{IsPart}

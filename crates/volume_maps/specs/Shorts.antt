@@ -3,7 +3,7 @@ use Rattle.std.specs.Prelude.{◌≡◌, ℕ, suc, ◌+◌, ◌-◌, ◌<◌, �
 use Rattle.std.proofs.Common.{arith, sym, ◌∙◌, inl, inr, get_or}
 use Rattle.std.proofs.lemmas.Bool.{cases_Bool, cases_lt}
 use Rattle.std.proofs.lemmas.Bool.Decides.{nat_tests}
-use Rattle.disk_rules.specs.Placed.{no_extent}
+use Rattle.map_rules.specs.disk_rules.Placed.{no_extent}
 use Rattle.extent_words.specs.declared.Extent.{Extent}
 use Rattle.extent_words.specs.Extents.{ComesAfter, disk_at, disk_in, holds, IsCanonical, IsExtent}
 use Rattle.extent_words.specs.Maps.{IsPart}

@@ -12,12 +12,12 @@ use Rattle.extent_words.specs.declared.Extent.{Extent}
 use Rattle.extent_words.specs.Extents.{holds_disk, IsCanonical, IsExtent}
 use Rattle.disk_lines.specs.declared.Inode.{Inode}
 use Rattle.disk_lines.specs.Lines.{is_inode}
-use Rattle.disk_rules.specs.Kept.{AreKept}
-use Rattle.disk_rules.specs.Placed.{block_at, extent_at, no_extent}
-use Rattle.disk_rules.specs.Room.{has_none}
-use Rattle.disk_rules.specs.Rules.{IsInData, file_blocks_of}
-use Rattle.disk_rules.specs.Uses.{owners, uses_by}
-use Rattle.disk_rules.specs.Volume.{Volume, chain, extents, inode}
+use Rattle.map_rules.specs.disk_rules.Kept.{AreKept}
+use Rattle.map_rules.specs.disk_rules.Placed.{block_at, extent_at, no_extent}
+use Rattle.map_rules.specs.disk_rules.Room.{has_none}
+use Rattle.map_rules.specs.disk_rules.Rules.{IsInData, file_blocks_of}
+use Rattle.map_rules.specs.disk_rules.Uses.{owners, uses_by}
+use Rattle.map_rules.specs.disk_rules.Volume.{Volume, chain, extents, inode}
 use Rattle.map_rules.specs.Taken.{switched, with_map}
 use Rattle.volume_changes.specs.name_facts.KeptLaws.{HasAllLines}
 use Rattle.volume_changes.specs.MapLaws.{switch-keeps}

@@ -37,3 +37,5 @@ pub fn changes_find_their_blocks()
     ensures one_more { TakesOneMore }
     ensures no_fewer { TakesNoFewer }
 {}
+
+pub use map_rules;

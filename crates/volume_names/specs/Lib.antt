@@ -10,3 +10,6 @@ pub mod RenameRefusals
 pub mod RowLists
 pub mod TreeLaws
 pub use Rattle.name_facts.specs as name_facts
+pub use Rattle.k_rules.specs as k_rules
+pub use Rattle.k_rules.specs.disk_rules as disk_rules
+pub use Rattle.name_facts.specs.volume_facts as volume_facts

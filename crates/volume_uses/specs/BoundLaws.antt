@@ -11,10 +11,10 @@ use Rattle.extent_words.specs.declared.Extent.{Extent}
 use Rattle.extent_words.specs.Extents.{block_count, IsExtent, IsCanonical}
 use Rattle.extent_facts.specs.Counts.{length-le}
 use Rattle.extent_facts.specs.Facts.{IsCanonical-tail}
-use Rattle.chain_facts.specs.ChainLaws.{chain-count}
-use Rattle.disk_rules.specs.Reading.{Reads}
-use Rattle.disk_rules.specs.Rules.{IsInData, IsNamedOnce}
-use Rattle.disk_rules.specs.Volume.{Volume, chain, extents}
+use Rattle.volume_facts.specs.chain_facts.ChainLaws.{chain-count}
+use Rattle.volume_facts.specs.disk_rules.Reading.{Reads}
+use Rattle.volume_facts.specs.disk_rules.Rules.{IsInData, IsNamedOnce}
+use Rattle.volume_facts.specs.disk_rules.Volume.{Volume, chain, extents}
 use Rattle.volume_uses.specs.OwnerLaws.{one_use}
 use Rattle.volume_uses.specs.PoolLaws.{map-counted, sum_by-bound}
 use Rattle.volume_uses.specs.Uses.{in_map}

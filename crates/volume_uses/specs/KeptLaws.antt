@@ -3,11 +3,11 @@ use Rattle.std.specs.Prelude.{◌≡◌, ℕ, ◌+◌, ◌<◌, ◌≤◌, lengt
 use Rattle.std.proofs.Common.{arith, ap, sym, subst}
 use Rattle.pm_words.specs.Words.{Words}
 use Rattle.disk_places.specs.Places.{Geometry, data_blocks, reserve, is_data_block}
-use Rattle.disk_rules.specs.Kept.{AreKept}
-use Rattle.disk_rules.specs.Reading.{Reads}
-use Rattle.disk_rules.specs.Room.{unused_blocks}
-use Rattle.disk_rules.specs.Rules.{file_blocks_of, IsInData}
-use Rattle.disk_rules.specs.Volume.{Volume, inode, chain, extents}
+use Rattle.volume_facts.specs.disk_rules.Kept.{AreKept}
+use Rattle.volume_facts.specs.disk_rules.Reading.{Reads}
+use Rattle.volume_facts.specs.disk_rules.Room.{unused_blocks}
+use Rattle.volume_facts.specs.disk_rules.Rules.{file_blocks_of, IsInData}
+use Rattle.volume_facts.specs.disk_rules.Volume.{Volume, inode, chain, extents}
 use Rattle.volume_uses.specs.BoundLaws.{reads-chain_bound}
 use Rattle.volume_uses.specs.PoolLaws.{AreInData, unused-held}
 use Rattle.volume_uses.specs.Uses.{blocks_held}

@@ -6,14 +6,14 @@ use Rattle.disk_places.specs.Places.{Geometry, data_blocks, reserve, is_data_blo
 use Rattle.extent_words.specs.declared.Extent.{Extent}
 use Rattle.extent_words.specs.Extents.{disk_at, covers}
 use Rattle.disk_lines.specs.declared.Inode.{Inode}
-use Rattle.disk_rules.specs.Content.{content}
-use Rattle.disk_rules.specs.Live.{live_entries}
-use Rattle.disk_rules.specs.Placed.{block_at, IsOutside}
-use Rattle.disk_rules.specs.Reading.{Reads, inode_set}
-use Rattle.disk_rules.specs.Room.{unused_blocks}
-use Rattle.disk_rules.specs.Rules.{IsInData, IsNamedOnce}
-use Rattle.disk_rules.specs.Uses.{uses_by, owners}
-use Rattle.disk_rules.specs.Volume.{Volume, chain, extents}
+use Rattle.volume_facts.specs.disk_rules.Content.{content}
+use Rattle.volume_facts.specs.disk_rules.Live.{live_entries}
+use Rattle.volume_facts.specs.disk_rules.Placed.{block_at, IsOutside}
+use Rattle.volume_facts.specs.disk_rules.Reading.{Reads, inode_set}
+use Rattle.volume_facts.specs.disk_rules.Room.{unused_blocks}
+use Rattle.volume_facts.specs.disk_rules.Rules.{IsInData, IsNamedOnce}
+use Rattle.volume_facts.specs.disk_rules.Uses.{uses_by, owners}
+use Rattle.volume_facts.specs.disk_rules.Volume.{Volume, chain, extents}
 use Rattle.volume_facts.specs.Reading.{AreUnchained}
 use Rattle.volume_uses.specs.OwnerLaws.{IsOnePlace}
 use Rattle.volume_uses.specs.PoolLaws.{AreInData}

@@ -7,3 +7,6 @@ pub mod Staged
 pub mod StagedLaws
 pub mod UseLaws
 pub mod Uses
+pub use Rattle.volume_facts.specs as volume_facts
+pub use Rattle.volume_facts.specs.chain_facts as chain_facts
+pub use Rattle.volume_facts.specs.disk_rules as disk_rules

@@ -12,11 +12,11 @@ use Rattle.extent_words.specs.Extents.{holds, holds_disk, disk_in, disk_at, cove
 use Rattle.extent_facts.specs.Facts.{disk_at_found}
 use Rattle.disk_lines.specs.declared.Inode.{Inode}
 use Rattle.disk_lines.specs.Lines.{NameRow}
-use Rattle.disk_rules.specs.Placed.{no_extent, extent_at, block_at}
-use Rattle.disk_rules.specs.Reading.{inode_set, node_set, row_set, base_set}
-use Rattle.disk_rules.specs.Rules.{IsNamedOnce}
-use Rattle.disk_rules.specs.Uses.{uses_by, owners}
-use Rattle.disk_rules.specs.Volume.{Volume, chain, extents}
+use Rattle.volume_facts.specs.disk_rules.Placed.{no_extent, extent_at, block_at}
+use Rattle.volume_facts.specs.disk_rules.Reading.{inode_set, node_set, row_set, base_set}
+use Rattle.volume_facts.specs.disk_rules.Rules.{IsNamedOnce}
+use Rattle.volume_facts.specs.disk_rules.Uses.{uses_by, owners}
+use Rattle.volume_facts.specs.disk_rules.Volume.{Volume, chain, extents}
 use Rattle.volume_facts.specs.Changes.{chain-set_same, extents-set_same, chain-set_other, extents-set_other}
 use Rattle.volume_facts.specs.Lists.{sum_by-but_one, at-le-sum_by, two-le-sum_by}
 use Rattle.volume_uses.specs.UseLaws.{length-uses_by, in_chain-at, in_chain-two, in_map-at, in_map-two, in_map-covers}

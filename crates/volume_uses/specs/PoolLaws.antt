@@ -12,12 +12,12 @@ use Rattle.disk_places.specs.Places.{Geometry, first_data, data_blocks, is_data_
 use Rattle.extent_words.specs.declared.Extent.{Extent}
 use Rattle.extent_words.specs.Extents.{holds_disk, covers, block_count}
 use Rattle.disk_lines.specs.declared.Inode.{Inode}
-use Rattle.disk_rules.specs.Placed.{no_extent, extent_at, block_at}
-use Rattle.disk_rules.specs.Reading.{Reads, inode_set}
-use Rattle.disk_rules.specs.Room.{has_none, unused_blocks}
-use Rattle.disk_rules.specs.Rules.{IsInData, IsNamedOnce}
-use Rattle.disk_rules.specs.Uses.{Use, uses_by, owners}
-use Rattle.disk_rules.specs.Volume.{Volume, chain, extents}
+use Rattle.volume_facts.specs.disk_rules.Placed.{no_extent, extent_at, block_at}
+use Rattle.volume_facts.specs.disk_rules.Reading.{Reads, inode_set}
+use Rattle.volume_facts.specs.disk_rules.Room.{has_none, unused_blocks}
+use Rattle.volume_facts.specs.disk_rules.Rules.{IsInData, IsNamedOnce}
+use Rattle.volume_facts.specs.disk_rules.Uses.{Use, uses_by, owners}
+use Rattle.volume_facts.specs.disk_rules.Volume.{Volume, chain, extents}
 use Rattle.volume_facts.specs.Changes.{chain-set_same, extents-set_same, chain-set_other, extents-set_other}
 use Rattle.volume_facts.specs.Lists.{one_if, sum_by-agree, sum_by-but_one, sum_by-add, sum_by-swap, count_by-range, count_by-one}
 use Rattle.volume_facts.specs.Reading.{AreUnchained}

@@ -4,8 +4,8 @@ use Rattle.disk_places.specs.Places.{is_data_block}
 use Rattle.extent_words.specs.Extents.{disk_at}
 use Rattle.disk_lines.specs.declared.Draft.{Draft}
 use Rattle.disk_lines.specs.declared.Kind.TheVariants.{Staging}
-use Rattle.disk_rules.specs.Placed.{block_at}
-use Rattle.disk_rules.specs.Volume.{Volume, inode, extents}
+use Rattle.volume_facts.specs.disk_rules.Placed.{block_at}
+use Rattle.volume_facts.specs.disk_rules.Volume.{Volume, inode, extents}
 
 -- The blocks are those of the blocks of a staging file, from block `from` on.
 pub record AreStaged (v : Volume) (staging from : ℕ) (blocks : List ℕ) : Type 0 where

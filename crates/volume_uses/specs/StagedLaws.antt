@@ -13,12 +13,12 @@ use Rattle.disk_places.specs.Places.{Geometry, is_data_block}
 use Rattle.extent_words.specs.Extents.{disk_at, is_within}
 use Rattle.extent_facts.specs.Covers.{covers-disk_at}
 use Rattle.disk_lines.specs.declared.Draft.{Draft}
-use Rattle.disk_rules.specs.Content.{entry_of_block, disk_by, content}
-use Rattle.disk_rules.specs.Live.{is_file, live_entries, later_of, latest}
-use Rattle.disk_rules.specs.Placed.{block_at, IsOutside}
-use Rattle.disk_rules.specs.Reading.{Reads}
-use Rattle.disk_rules.specs.Rules.{IsNamedOnce}
-use Rattle.disk_rules.specs.Volume.{Volume, free_inode, inode, extents}
+use Rattle.volume_facts.specs.disk_rules.Content.{entry_of_block, disk_by, content}
+use Rattle.volume_facts.specs.disk_rules.Live.{is_file, live_entries, later_of, latest}
+use Rattle.volume_facts.specs.disk_rules.Placed.{block_at, IsOutside}
+use Rattle.volume_facts.specs.disk_rules.Reading.{Reads}
+use Rattle.volume_facts.specs.disk_rules.Rules.{IsNamedOnce}
+use Rattle.volume_facts.specs.disk_rules.Volume.{Volume, free_inode, inode, extents}
 use Rattle.volume_facts.specs.Footprint.{AreUnread}
 use Rattle.volume_facts.specs.FootprintLaws.{content-image}
 use Rattle.volume_facts.specs.Reading.{AreUnchained}

@@ -9,8 +9,8 @@ use Rattle.std.proofs.lemmas.List.FromFn.{length-range_with_len, get_or-range_wi
 use Rattle.std.proofs.lemmas.List.Sums.{length-filter}
 use Rattle.extent_words.specs.declared.Extent.{Extent}
 use Rattle.extent_words.specs.Extents.{holds_disk, covers}
-use Rattle.disk_rules.specs.Placed.{no_extent, extent_at, block_at}
-use Rattle.disk_rules.specs.Uses.{InChain, Holds, places_in, uses_by}
+use Rattle.volume_facts.specs.disk_rules.Placed.{no_extent, extent_at, block_at}
+use Rattle.volume_facts.specs.disk_rules.Uses.{InChain, Holds, places_in, uses_by}
 use Rattle.volume_facts.specs.Lists.{count_by-at, count_by-two, count_by-some}
 use Rattle.volume_uses.specs.Uses.{in_chain, in_map}
 

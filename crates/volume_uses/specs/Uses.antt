@@ -4,10 +4,10 @@ use Rattle.std.specs.List.{range_with_len, count_by}
 use Rattle.disk_places.specs.Places.{is_data_block}
 use Rattle.extent_words.specs.declared.Extent.{Extent}
 use Rattle.extent_words.specs.Extents.{holds_disk, block_count}
-use Rattle.disk_rules.specs.Placed.{block_at}
-use Rattle.disk_rules.specs.Room.{has_none}
-use Rattle.disk_rules.specs.Uses.{uses_by, owners}
-use Rattle.disk_rules.specs.Volume.{Volume, chain, extents}
+use Rattle.volume_facts.specs.disk_rules.Placed.{block_at}
+use Rattle.volume_facts.specs.disk_rules.Room.{has_none}
+use Rattle.volume_facts.specs.disk_rules.Uses.{uses_by, owners}
+use Rattle.volume_facts.specs.disk_rules.Volume.{Volume, chain, extents}
 
 -- how many places of a chain have the block, and how many extents of a map
 abbrev pub in_chain : List ℕ → ℕ → ℕ

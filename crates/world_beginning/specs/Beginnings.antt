@@ -8,18 +8,18 @@ use Rattle.disk_lines.specs.declared.Kind.TheVariants.{Free, Directory, File, St
 use Rattle.disk_lines.specs.Lines.{is_name, NameRow}
 use Rattle.disk_lines.specs.NameLaws.{IsNameLine-decode_name}
 use Rattle.disk_lines.specs.Names.{row}
-use Rattle.disk_rules.specs.Reading.{slot_for}
-use Rattle.disk_rules.specs.Rules.{IsKindAt}
-use Rattle.disk_rules.specs.Volume.{inode}
+use Rattle.world_steps.specs.disk_rules.Reading.{slot_for}
+use Rattle.world_steps.specs.disk_rules.Rules.{IsKindAt}
+use Rattle.world_steps.specs.disk_rules.Volume.{inode}
 use Rattle.world_steps.specs.name_facts.RowLaws.{row-below}
 use Rattle.posix_types.specs.declared.reply.Shape.{Shape}
 use Rattle.posix_types.specs.declared.tree.TreeEntry.{TreeEntry}
 use Rattle.posix_words.specs.Names.{is_root}
 use Rattle.posix_words.specs.Places.{node_of}
-use Rattle.posix_spec.specs.State.{made, State}
-use Rattle.posix_spec.specs.Tree.{bare, planted, start}
-use Rattle.posix_trees.specs.Begins.{AreBegun-start, IsTree}
-use Rattle.posix_trees.specs.TreeLaws.{tree-start}
+use Rattle.world_steps.specs.posix_spec.State.{made, State}
+use Rattle.world_steps.specs.posix_spec.Tree.{bare, planted, start}
+use Rattle.world_steps.specs.posix_trees.Begins.{AreBegun-start, IsTree}
+use Rattle.world_steps.specs.posix_trees.TreeLaws.{tree-start}
 use Rattle.world_steps.specs.world_rules.Stands.{NodesStand, Stands}
 use Rattle.world_steps.specs.world_spaces.Counts.{HasShape, lines_left-same, nodes_left-same}
 use Rattle.world_beginning.specs.Begun.{NamesStand-begun, NodesStand-begun, numbers_of}

@@ -13,8 +13,8 @@ use Rattle.disk_lines.specs.declared.Kind.{Kind}
 use Rattle.disk_lines.specs.declared.Kind.TheVariants.{Free, Directory, File, Staging}
 use Rattle.disk_lines.specs.Names.{child_named, walk}
 use Rattle.disk_lines.specs.TableLaws.{walk-append, walk-one}
-use Rattle.disk_rules.specs.Content.{byte_in, bytes_of_file, disk_of, found, node_by, size_of}
-use Rattle.disk_rules.specs.Volume.{inode, Volume}
+use Rattle.world_steps.specs.disk_rules.Content.{byte_in, bytes_of_file, disk_of, found, node_by, size_of}
+use Rattle.world_steps.specs.disk_rules.Volume.{inode, Volume}
 use Rattle.posix_types.specs.declared.tree.TreeEntry.{TreeEntry}
 use Rattle.posix_types.specs.declared.tree.TreeNode.{TreeNode}
 use Rattle.posix_words.specs.declared.nodes.DirEntry.{DirEntry}
@@ -23,11 +23,11 @@ use Rattle.posix_words.specs.Lookups.{AreDistinct}
 use Rattle.posix_words.specs.Names.{child_of}
 use Rattle.posix_words.specs.Nodes.{node_at}
 use Rattle.posix_words.specs.Places.{node_of, printed}
-use Rattle.posix_spec.specs.State.{State}
+use Rattle.world_steps.specs.posix_spec.State.{State}
 use Rattle.list_facts.specs.Members.{In, In-slice_get}
-use Rattle.posix_trees.specs.Begins.{AreBegun, HaveOwnChildren, node_at-begun, one_element}
-use Rattle.posix_trees.specs.Entries.{child_of-In, Leads-child_of}
-use Rattle.posix_trees.specs.Order.{rising_place}
+use Rattle.world_steps.specs.posix_trees.Begins.{AreBegun, HaveOwnChildren, node_at-begun, one_element}
+use Rattle.world_steps.specs.posix_trees.Entries.{child_of-In, Leads-child_of}
+use Rattle.world_steps.specs.posix_trees.Order.{rising_place}
 use Rattle.world_steps.specs.world_rules.Shown.{IsTreeOfContent, shown_as}
 use Rattle.world_steps.specs.world_rules.Stands.{is_used, IsUsed, NamesStand, NodesStand, NodeStands, number}
 use Rattle.world_steps.specs.world_promise.TreeRules.{child_used, used_below}

@@ -5,18 +5,18 @@ use Rattle.disk_places.specs.Places.{data_blocks, Geometry, IsGeometry, reserve}
 use Rattle.disk_lines.specs.declared.Draft.{Draft}
 use Rattle.disk_lines.specs.declared.Kind.TheVariants.{File}
 use Rattle.disk_lines.specs.Names.{names_of}
-use Rattle.disk_rules.specs.Content.{found}
-use Rattle.disk_rules.specs.Kept.{AreKept}
-use Rattle.disk_rules.specs.Reading.{Reads}
-use Rattle.disk_rules.specs.Room.{held_after_recovery}
-use Rattle.disk_rules.specs.Volume.{inode, Volume}
-use Rattle.k_rules.specs.Spaces.{volume_space}
+use Rattle.world_steps.specs.disk_rules.Content.{found}
+use Rattle.world_steps.specs.disk_rules.Kept.{AreKept}
+use Rattle.world_steps.specs.disk_rules.Reading.{Reads}
+use Rattle.world_steps.specs.disk_rules.Room.{held_after_recovery}
+use Rattle.world_steps.specs.disk_rules.Volume.{inode, Volume}
+use Rattle.world_steps.specs.k_rules.Spaces.{volume_space}
 use Rattle.posix_types.specs.declared.call.Mode.{Mode}
 use Rattle.posix_types.specs.declared.reply.Shape.{Shape}
 use Rattle.posix_types.specs.declared.tree.TreeEntry.{TreeEntry}
-use Rattle.posix_spec.specs.State.{space, State}
-use Rattle.posix_spec.specs.Tree.{start, tree}
-use Rattle.posix_trees.specs.Begins.{IsTree}
+use Rattle.world_steps.specs.posix_spec.State.{space, State}
+use Rattle.world_steps.specs.posix_spec.Tree.{start, tree}
+use Rattle.world_steps.specs.posix_trees.Begins.{IsTree}
 use Rattle.world_steps.specs.world_rules.Shown.{IsTreeOfContent}
 use Rattle.world_steps.specs.Worlds.{IsWorld}
 use Rattle.world_beginning.specs.Begun.{numbers_of}

@@ -11,20 +11,20 @@ use Rattle.disk_lines.specs.declared.Kind.TheVariants.{Free, Directory, File, St
 use Rattle.disk_lines.specs.Lines.{is_name, NameRow}
 use Rattle.disk_lines.specs.Names.{child_named, is_child, names_of, row, Rows, walk}
 use Rattle.disk_lines.specs.TableLaws.{child_named-at, is_child-parts, walk-append, walk-one, walk-up}
-use Rattle.disk_rules.specs.Content as shown
-use Rattle.disk_rules.specs.Content.{bytes_of_file, found, HasBytes, IsDirectory, node_by, node_of}
-use Rattle.disk_rules.specs.Live.{is_directory}
-use Rattle.disk_rules.specs.Volume.{inode, Volume}
+use Rattle.world_steps.specs.disk_rules.Content as shown
+use Rattle.world_steps.specs.disk_rules.Content.{bytes_of_file, found, HasBytes, IsDirectory, node_by, node_of}
+use Rattle.world_steps.specs.disk_rules.Live.{is_directory}
+use Rattle.world_steps.specs.disk_rules.Volume.{inode, Volume}
 use Rattle.world_steps.specs.name_facts.Forests.{IsForest}
 use Rattle.world_steps.specs.name_facts.KeptLaws.{kept-forest, kept-keyed, kept-placed}
 use Rattle.world_steps.specs.name_facts.RowLaws.{row-below}
-use Rattle.volume_facts.specs.Lists.{count_by-some}
+use Rattle.world_steps.specs.volume_facts.Lists.{count_by-some}
 use Rattle.world_steps.specs.volume_names.TreeLaws.{one-path}
 use Rattle.posix_types.specs.declared.tree.TreeNode.{TreeNode}
 use Rattle.posix_words.specs.Names.{bytes_before}
 use Rattle.posix_words.specs.Places.{printed}
-use Rattle.posix_trees.specs.Order.{not_before_itself}
-use Rattle.posix_trees.specs.Paths.{by_last, IsFilled}
+use Rattle.world_steps.specs.posix_trees.Order.{not_before_itself}
+use Rattle.world_steps.specs.posix_trees.Paths.{by_last, IsFilled}
 use Rattle.world_steps.specs.world_rules.Shown.{shown_as}
 use Rattle.world_steps.specs.world_rules.Stands.{is_used, IsSane, IsUsed}
 use Rattle.world_steps.specs.world_promise.TreeRules.{all_lines, child_used}

@@ -11,14 +11,14 @@ use Rattle.disk_lines.specs.declared.Draft.{Draft}
 use Rattle.disk_lines.specs.declared.Kind.{Kind}
 use Rattle.disk_lines.specs.declared.Kind.TheVariants.{Free, Directory, File, Staging}
 use Rattle.disk_lines.specs.Names.{names_of}
-use Rattle.disk_rules.specs.Content.{size_of}
-use Rattle.disk_rules.specs.Live.{is_file}
-use Rattle.disk_rules.specs.Room.{held_after_recovery, is_named_file}
-use Rattle.disk_rules.specs.Volume.{inode, Volume}
+use Rattle.world_steps.specs.disk_rules.Content.{size_of}
+use Rattle.world_steps.specs.disk_rules.Live.{is_file}
+use Rattle.world_steps.specs.disk_rules.Room.{held_after_recovery, is_named_file}
+use Rattle.world_steps.specs.disk_rules.Volume.{inode, Volume}
 use Rattle.posix_words.specs.declared.nodes.Node.{Node}
 use Rattle.posix_words.specs.Nodes.{bytes_of, node_at}
 use Rattle.posix_words.specs.Room.{held}
-use Rattle.posix_spec.specs.State.{Fits, State}
+use Rattle.world_steps.specs.posix_spec.State.{Fits, State}
 use Rattle.world_steps.specs.world_rules.Stands.{NodesStand, NodeStands, number}
 use Rattle.world_steps.specs.world_promise.TreeRules.{used_below}
 use Rattle.world_steps.specs.world_spaces.Sums.{sum-Reaches}

@@ -11,18 +11,18 @@ use Rattle.pm_words.specs.Words.{Words}
 use Rattle.disk_lines.specs.declared.Draft.{Draft}
 use Rattle.disk_lines.specs.Names.{walk}
 use Rattle.disk_lines.specs.TableLaws.{NamingLine-child_named}
-use Rattle.disk_rules.specs.Content.{bytes_of_file, found, IsDirectory, node_by}
-use Rattle.disk_rules.specs.Live.{is_directory}
-use Rattle.disk_rules.specs.Volume.{inode, Volume}
+use Rattle.world_steps.specs.disk_rules.Content.{bytes_of_file, found, IsDirectory, node_by}
+use Rattle.world_steps.specs.disk_rules.Live.{is_directory}
+use Rattle.world_steps.specs.disk_rules.Volume.{inode, Volume}
 use Rattle.world_steps.specs.name_facts.KeptLaws.{kept-placed}
 use Rattle.posix_types.specs.declared.tree.TreeEntry.{TreeEntry}
 use Rattle.posix_types.specs.declared.tree.TreeNode.{TreeNode}
 use Rattle.posix_words.specs.Names.{bytes_before}
 use Rattle.posix_words.specs.Places.{printed}
 use Rattle.list_facts.specs.Members.{In}
-use Rattle.posix_trees.specs.Begins.{Follow, IsTree, MayFollow}
-use Rattle.posix_trees.specs.Order.{before_trans, not_before_itself, RisingBy}
-use Rattle.posix_trees.specs.Paths.{by_last, IsFilled}
+use Rattle.world_steps.specs.posix_trees.Begins.{Follow, IsTree, MayFollow}
+use Rattle.world_steps.specs.posix_trees.Order.{before_trans, not_before_itself, RisingBy}
+use Rattle.world_steps.specs.posix_trees.Paths.{by_last, IsFilled}
 use Rattle.world_steps.specs.world_rules.Shown.{IsTreeOfContent, shown_as}
 use Rattle.world_steps.specs.world_rules.Stands.{is_used}
 use Rattle.world_steps.specs.world_promise.TreeRules.{all_lines, parent_used}

@@ -13,18 +13,18 @@ use Rattle.extent_facts.specs.Spelling.{first_here}
 use Rattle.disk_lines.specs.declared.Draft.{Draft}
 use Rattle.disk_lines.specs.declared.Inode.{Inode}
 use Rattle.disk_lines.specs.declared.Kind.TheVariants.{File, Staging}
-use Rattle.disk_rules.specs.Live.{is_file, is_live}
-use Rattle.disk_rules.specs.Placed.{IsOutside}
-use Rattle.disk_rules.specs.Room.{unused_blocks}
-use Rattle.disk_rules.specs.Rules.{file_blocks_of}
-use Rattle.disk_rules.specs.Volume.{chain, extents, inode, Volume}
-use Rattle.volume_facts.specs.Changes.{chain-set_same, extents-set_other, inode-set_other, inode-set_same}
+use Rattle.world_names.specs.disk_rules.Live.{is_file, is_live}
+use Rattle.world_names.specs.disk_rules.Placed.{IsOutside}
+use Rattle.world_names.specs.disk_rules.Room.{unused_blocks}
+use Rattle.world_names.specs.disk_rules.Rules.{file_blocks_of}
+use Rattle.world_names.specs.disk_rules.Volume.{chain, extents, inode, Volume}
+use Rattle.world_names.specs.volume_facts.Changes.{chain-set_same, extents-set_other, inode-set_other, inode-set_same}
 use Rattle.world_names.specs.volume_uses.PoolLaws.{held-set, unused-held}
 use Rattle.world_names.specs.volume_uses.Uses.{blocks_held, HasAllMaps}
-use Rattle.map_rules.specs.Changes.{IsSized, with_size}
-use Rattle.map_rules.specs.Taken.{switched, with_map}
-use Rattle.k_rules.specs.Spaces.{volume_space}
-use Rattle.k_rules.specs.View.{View}
+use Rattle.k_split.specs.map_rules.Changes.{IsSized, with_size}
+use Rattle.k_split.specs.map_rules.Taken.{switched, with_map}
+use Rattle.world_names.specs.k_rules.Spaces.{volume_space}
+use Rattle.world_names.specs.k_rules.View.{View}
 use Rattle.k_split.specs.k_plans.Whole.{IsWhole}
 use Rattle.k_split.specs.declared.faults.KFault.{KFault}
 use Rattle.k_split.specs.Answers.{IsAnswer, IsCut, IsDone, IsOff}
@@ -37,10 +37,10 @@ use Rattle.posix_words.specs.NameRows.{open_rows}
 use Rattle.posix_words.specs.Names.{node_at_path, Space, too_long}
 use Rattle.posix_words.specs.Open.{is_full}
 use Rattle.posix_words.specs.Outcomes.{first}
-use Rattle.posix_spec.specs.Run.{after_call}
-use Rattle.posix_spec.specs.State.{alone, space, State}
-use Rattle.posix_spec.specs.Step.{is_busy}
-use Rattle.crash_spec.specs.Busy.{waits_for}
+use Rattle.world_names.specs.posix_spec.Run.{after_call}
+use Rattle.world_names.specs.posix_spec.State.{alone, space, State}
+use Rattle.world_names.specs.posix_spec.Step.{is_busy}
+use Rattle.world_names.specs.crash_spec.Busy.{waits_for}
 use Rattle.list_facts.specs.Filters.{filter-agree}
 use Rattle.world_names.specs.world_rules.Jobs.{Job, live_claims}
 use Rattle.world_names.specs.world_rules.Stands.{entries_of, IsSane, IsUsed, number}

@@ -8,15 +8,15 @@ use Rattle.pm_words.specs.Words.{Words}
 use Rattle.disk_lines.specs.declared.Draft.{Draft}
 use Rattle.disk_lines.specs.declared.Kind.TheVariants.{Staging}
 use Rattle.disk_places.specs.Journal.{journaled}
-use Rattle.disk_rules.specs.Volume.{extents, inode, Volume}
+use Rattle.world_names.specs.disk_rules.Volume.{extents, inode, Volume}
 use Rattle.extent_words.specs.Extents.{disk_at}
-use Rattle.k_rules.specs.Stands.{Stands}
-use Rattle.k_rules.specs.View.{View}
+use Rattle.world_names.specs.k_rules.Stands.{Stands}
+use Rattle.world_names.specs.k_rules.View.{View}
 use Rattle.k_split.specs.Answers.{Changes}
 use Rattle.posix_types.specs.declared.call.Mode.{Mode}
 use Rattle.posix_types.specs.declared.item.Item.{Item}
-use Rattle.posix_spec.specs.Run.{Begun, run}
-use Rattle.posix_spec.specs.State.{State}
+use Rattle.world_names.specs.posix_spec.Run.{Begun, run}
+use Rattle.world_names.specs.posix_spec.State.{State}
 use Rattle.world_names.specs.world_rules.Jobs.{Job, JobsStand}
 use Rattle.world_lent.specs.world_images.Images.{HasLogHome, IsChange, IsRunning, StandsFor}
 use Rattle.world_lent.specs.world_images.Promised.{IsKept, KeepsPromise}

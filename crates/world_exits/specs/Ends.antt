@@ -8,14 +8,14 @@ use Rattle.pm_words.specs.Images.{words_of}
 use Rattle.pm_words.specs.Words.{Words}
 use Rattle.disk_places.specs.Journal.{journaled}
 use Rattle.disk_lines.specs.declared.Draft.{Draft}
-use Rattle.disk_rules.specs.Live.{is_directory}
-use Rattle.disk_rules.specs.Volume.{inode, Volume}
+use Rattle.world_names.specs.disk_rules.Live.{is_directory}
+use Rattle.world_names.specs.disk_rules.Volume.{inode, Volume}
 use Rattle.world_names.specs.volume_names.Paths.{CanReplace}
 use Rattle.world_names.specs.volume_changes.CallLaws.{root-directory, row_to}
 use Rattle.world_names.specs.volume_changes.Changes.{MayDrop}
 use Rattle.world_names.specs.volume_changes.FoundLaws.{IsRowFound}
-use Rattle.k_rules.specs.Changes.{renamed_over_directory, renamed_over_file}
-use Rattle.k_rules.specs.Spaces.{is_directory_in, volume_space}
+use Rattle.world_names.specs.k_rules.Changes.{renamed_over_directory, renamed_over_file}
+use Rattle.world_names.specs.k_rules.Spaces.{is_directory_in, volume_space}
 use Rattle.k_split.specs.k_tables.Found.{IsTargetAt}
 use Rattle.k_split.specs.k_tables.declared.removing.Entry.{Entry}
 use Rattle.k_split.specs.k_tables.declared.renaming.Moving.{Moving}
@@ -27,10 +27,10 @@ use Rattle.posix_words.specs.declared.nodes.Node.{Node}
 use Rattle.posix_words.specs.NameRows.{mkdir_rows, rename_rows, rmdir_rows, unlink_rows}
 use Rattle.posix_words.specs.Names.{last_name, node_at_path}
 use Rattle.posix_words.specs.Outcomes.{answer, first}
-use Rattle.posix_spec.specs.Run.{after_call}
-use Rattle.posix_spec.specs.State.{alone, space, State, swept, unnamed as unnamed_state, with_node}
-use Rattle.posix_spec.specs.Step.{mkdir_done, rename_done, renamed as renamed_state, rmdir_done, Stepped, stepped, unlink_done}
-use Rattle.posix_spec.specs.Tree.{tree}
+use Rattle.world_names.specs.posix_spec.Run.{after_call}
+use Rattle.world_names.specs.posix_spec.State.{alone, space, State, swept, unnamed as unnamed_state, with_node}
+use Rattle.world_names.specs.posix_spec.Step.{mkdir_done, rename_done, renamed as renamed_state, rmdir_done, Stepped, stepped, unlink_done}
+use Rattle.world_names.specs.posix_spec.Tree.{tree}
 use Rattle.world_names.specs.world_rules.Jobs.{Job}
 use Rattle.world_names.specs.world_rules.Stands.{IsUsed, number}
 use Rattle.world_names.specs.world_promise.TreeRules.{used_below}

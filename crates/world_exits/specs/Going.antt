@@ -2,11 +2,11 @@
 use Rattle.std.specs.Prelude.{◌≡◌, ◌≢◌, ◌≤◌, ℕ, true, false, List, [], map, Option, None, Some, if◌then◌else◌}
 use Rattle.disk_lines.specs.declared.Draft.{Draft}
 use Rattle.disk_lines.specs.declared.Kind.TheVariants.{File, Staging}
-use Rattle.disk_rules.specs.Live.{is_live}
-use Rattle.disk_rules.specs.Room.{unused_blocks}
-use Rattle.disk_rules.specs.Volume.{extents, inode, Volume}
-use Rattle.k_rules.specs.Spaces.{is_directory_in}
-use Rattle.k_rules.specs.View.{View}
+use Rattle.world_names.specs.disk_rules.Live.{is_live}
+use Rattle.world_names.specs.disk_rules.Room.{unused_blocks}
+use Rattle.world_names.specs.disk_rules.Volume.{extents, inode, Volume}
+use Rattle.world_names.specs.k_rules.Spaces.{is_directory_in}
+use Rattle.world_names.specs.k_rules.View.{View}
 use Rattle.k_split.specs.k_tables.declared.removing.Entry.{Entry}
 use Rattle.k_split.specs.Order.{IsInOrder}
 use Rattle.posix_types.specs.declared.call.Call.{Call}
@@ -15,9 +15,9 @@ use Rattle.posix_types.specs.declared.item.Outcome.{Outcome}
 use Rattle.posix_words.specs.NameRows.{mkdir_rows, rename_rows, rmdir_rows, unlink_rows}
 use Rattle.posix_words.specs.Names.{Space}
 use Rattle.posix_words.specs.Outcomes.{first}
-use Rattle.posix_spec.specs.Run.{after_call}
-use Rattle.posix_spec.specs.State.{State}
-use Rattle.posix_spec.specs.Step.{renamed as renamed_state}
+use Rattle.world_names.specs.posix_spec.Run.{after_call}
+use Rattle.world_names.specs.posix_spec.State.{State}
+use Rattle.world_names.specs.posix_spec.Step.{renamed as renamed_state}
 use Rattle.list_facts.specs.Members.{In}
 use Rattle.world_names.specs.world_rules.Jobs.{Job, live_claims}
 use Rattle.world_names.specs.world_rules.Stands.{entries_of}

@@ -6,16 +6,16 @@ use Rattle.std.proofs.lemmas.List.Sums.{sum_by-cons}
 use Rattle.pm_words.specs.Words.{Words}
 use Rattle.block_counts.specs.Counts.{held_by}
 use Rattle.disk_lines.specs.declared.Draft.{Draft}
-use Rattle.disk_rules.specs.Volume.{Volume}
+use Rattle.world_names.specs.disk_rules.Volume.{Volume}
 use Rattle.posix_types.specs.declared.call.Who.{Who}
 use Rattle.posix_words.specs.declared.nodes.Node.{Node}
 use Rattle.posix_words.specs.Nodes.{bytes_of}
 use Rattle.posix_words.specs.Open.{is_open}
 use Rattle.posix_words.specs.Room.{held}
-use Rattle.posix_puts.specs.ViewLaws.{need_of-kept, PutsWhole-kept}
-use Rattle.posix_puts.specs.Views.{AreAfforded, KeepsView}
-use Rattle.posix_spec.specs.Run.{Begun}
-use Rattle.posix_spec.specs.State.{room, State, with_node}
+use Rattle.world_names.specs.posix_puts.ViewLaws.{need_of-kept, PutsWhole-kept}
+use Rattle.world_names.specs.posix_puts.Views.{AreAfforded, KeepsView}
+use Rattle.world_names.specs.posix_spec.Run.{Begun}
+use Rattle.world_names.specs.posix_spec.State.{room, State, with_node}
 use Rattle.world_names.specs.posix_frames.Bystanders.{IsHeld}
 use Rattle.world_names.specs.posix_frames.Flights.{InFlight, IsHeld-put, KeepsView-seen}
 use Rattle.world_names.specs.posix_frames.Frames.{KeepsSeen}

@@ -4,18 +4,18 @@ use Rattle.pm_words.specs.declared.Cell.{Cell}
 use Rattle.pm_words.specs.Words.{Words}
 use Rattle.disk_lines.specs.declared.Draft.{Draft}
 use Rattle.disk_lines.specs.declared.Kind.TheVariants.{File}
-use Rattle.disk_rules.specs.Volume.{inode, Volume}
-use Rattle.map_rules.specs.Changes.{with_size}
-use Rattle.map_rules.specs.Taken.{switched}
+use Rattle.world_names.specs.disk_rules.Volume.{inode, Volume}
+use Rattle.k_split.specs.map_rules.Changes.{with_size}
+use Rattle.k_split.specs.map_rules.Taken.{switched}
 use Rattle.world_names.specs.volume_uses.Uses.{HasAllMaps}
 use Rattle.world_names.specs.volume_changes.Changes.{MayDrop}
-use Rattle.k_rules.specs.Changes.{dropped}
-use Rattle.k_rules.specs.Spaces.{volume_space}
-use Rattle.k_rules.specs.View.{View}
+use Rattle.world_names.specs.k_rules.Changes.{dropped}
+use Rattle.world_names.specs.k_rules.Spaces.{volume_space}
+use Rattle.world_names.specs.k_rules.View.{View}
 use Rattle.k_split.specs.k_plans.Making.{IsMade}
 use Rattle.k_split.specs.k_plans.Removing.{IsRemoved, IsUnlinked}
 use Rattle.k_split.specs.k_plans.Renaming.{IsRenamed}
-use Rattle.path_spelling.specs.Spelling.{AreSpelled}
+use Rattle.k_split.specs.path_spelling.Spelling.{AreSpelled}
 use Rattle.k_split.specs.k_plans.Whole.{IsWhole}
 use Rattle.k_split.specs.declared.faults.KFault.{KFault}
 use Rattle.k_split.specs.Answers.{IsAnswer, IsCut, IsDone, IsOff}
@@ -32,10 +32,10 @@ use Rattle.posix_words.specs.NameRows.{mkdir_rows, open_rows, rename_rows, rmdir
 use Rattle.posix_words.specs.Names.{node_at_path}
 use Rattle.posix_words.specs.Open.{is_full, is_open}
 use Rattle.posix_words.specs.Outcomes.{answer, first}
-use Rattle.posix_spec.specs.Run.{after_call, Begun, run}
-use Rattle.posix_spec.specs.State.{alone, State, swept, unnamed as unnamed_state}
-use Rattle.posix_spec.specs.Step.{is_busy, step}
-use Rattle.posix_spec.specs.Tree.{tree}
+use Rattle.world_names.specs.posix_spec.Run.{after_call, Begun, run}
+use Rattle.world_names.specs.posix_spec.State.{alone, State, swept, unnamed as unnamed_state}
+use Rattle.world_names.specs.posix_spec.Step.{is_busy, step}
+use Rattle.world_names.specs.posix_spec.Tree.{tree}
 use Rattle.world_names.specs.world_rules.Jobs.{begun_of, Job, live_claims}
 use Rattle.world_names.specs.world_rules.Promised.{AreWhole}
 use Rattle.world_names.specs.world_rules.Stands.{entries_of, number}

@@ -26,3 +26,7 @@ pub use Rattle.world_names.specs.world_promise as world_promise
 pub use Rattle.world_names.specs.world_rules as world_rules
 pub use Rattle.world_names.specs.world_spaces as world_spaces
 pub use Rattle.world_names.specs.world_steps as world_steps
+pub use Rattle.k_split.specs.block_bytes as block_bytes
+pub use Rattle.world_names.specs.disk_rules as disk_rules
+pub use Rattle.world_names.specs.k_rules as k_rules
+pub use Rattle.world_names.specs.posix_spec as posix_spec

@@ -12,16 +12,16 @@ use Rattle.disk_lines.specs.declared.Inode.{Inode}
 use Rattle.disk_lines.specs.declared.Kind.{Kind}
 use Rattle.disk_lines.specs.declared.Kind.TheVariants.{File, Free, Staging}
 use Rattle.disk_lines.specs.Lines.{NameRow}
-use Rattle.disk_rules.specs.Live.{is_file, is_live, is_of_file}
-use Rattle.disk_rules.specs.Reading.{node_set, row_set}
-use Rattle.disk_rules.specs.Room.{has_none, unused_blocks}
-use Rattle.disk_rules.specs.Uses.{owners, Use}
-use Rattle.disk_rules.specs.Volume.{free_inode, inode, Volume}
-use Rattle.volume_facts.specs.Changes.{inode-set_other, inode-set_same}
-use Rattle.volume_facts.specs.Lists.{one_if}
+use Rattle.world_names.specs.disk_rules.Live.{is_file, is_live, is_of_file}
+use Rattle.world_names.specs.disk_rules.Reading.{node_set, row_set}
+use Rattle.world_names.specs.disk_rules.Room.{has_none, unused_blocks}
+use Rattle.world_names.specs.disk_rules.Uses.{owners, Use}
+use Rattle.world_names.specs.disk_rules.Volume.{free_inode, inode, Volume}
+use Rattle.world_names.specs.volume_facts.Changes.{inode-set_other, inode-set_same}
+use Rattle.world_names.specs.volume_facts.Lists.{one_if}
 use Rattle.world_names.specs.volume_uses.OwnerLaws.{owners-node, owners-row, owners-set}
 use Rattle.world_names.specs.volume_uses.Uses.{HasAllMaps}
-use Rattle.k_rules.specs.Changes.{dropped, gone_node, made, new_node}
+use Rattle.world_names.specs.k_rules.Changes.{dropped, gone_node, made, new_node}
 use Rattle.list_facts.specs.Filters.{filter-In}
 use Rattle.list_facts.specs.Members.{In}
 use Rattle.world_names.specs.world_rules.Jobs.{live_claims}

@@ -4,13 +4,13 @@ use Rattle.std.proofs.Common.{ap, ◌∙◌, sym, subst, inl, inr}
 use Rattle.pm_words.specs.Images.{words_of}
 use Rattle.disk_places.specs.Journal.{journaled}
 use Rattle.disk_lines.specs.Lines.{is_name}
-use Rattle.disk_rules.specs.Reading.{node_set}
-use Rattle.disk_rules.specs.Volume.{inode, Volume}
+use Rattle.world_names.specs.disk_rules.Reading.{node_set}
+use Rattle.world_names.specs.disk_rules.Volume.{inode, Volume}
 use Rattle.world_names.specs.volume_names.Paths.{CanReplace, IsAt, IsNewAt, MayGo}
 use Rattle.world_names.specs.volume_names.RenameLaws.{rename-may}
 use Rattle.world_names.specs.volume_changes.CallLaws.{row_to}
-use Rattle.k_rules.specs.Changes.{gone_node, removed, renamed_over_directory, renamed_over_file, unnamed}
-use Rattle.k_rules.specs.Spaces.{is_directory_in, volume_space}
+use Rattle.world_names.specs.k_rules.Changes.{gone_node, removed, renamed_over_directory, renamed_over_file, unnamed}
+use Rattle.world_names.specs.k_rules.Spaces.{is_directory_in, volume_space}
 use Rattle.k_split.specs.k_tables.Found.{IsMoving, IsTargetAt}
 use Rattle.k_split.specs.k_tables.declared.removing.Entry.{Entry}
 use Rattle.k_split.specs.k_tables.declared.renaming.Moving.{Moving}
@@ -20,8 +20,8 @@ use Rattle.posix_types.specs.declared.reply.Errno.{Errno}
 use Rattle.posix_words.specs.NameRows.{rename_rows}
 use Rattle.posix_words.specs.Names.{child_of, last_name, Space, walk}
 use Rattle.posix_words.specs.Outcomes.{first}
-use Rattle.posix_spec.specs.Run.{after_call}
-use Rattle.posix_spec.specs.Step.{renamed as renamed_state}
+use Rattle.world_names.specs.posix_spec.Run.{after_call}
+use Rattle.world_names.specs.posix_spec.Step.{renamed as renamed_state}
 use Rattle.world_names.specs.world_rules.Jobs.{Job}
 use Rattle.world_names.specs.world_promise.TreeRules.{used_below}
 use Rattle.world_names.specs.RenameCalls.{IsWorld-rename_directory, IsWorld-rename_midway, IsWorld-renamed}

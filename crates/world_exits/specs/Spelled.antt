@@ -8,7 +8,7 @@ use Rattle.std.proofs.lemmas.List.Folds.{list_any_at}
 use Rattle.disk_lines.specs.Lines.{is_dots, is_name, is_name_byte}
 use Rattle.posix_words.specs.Names.{is_root, last_name, longest_path, too_long}
 use Rattle.world_names.specs.volume_names.TreeLaws.{some-names}
-use Rattle.path_spelling.specs.Spelling.{AreSpelled, is_spelled}
+use Rattle.k_split.specs.path_spelling.Spelling.{AreSpelled, is_spelled}
 
 short_name : (name : List ℕ) → is_spelled name ≡ true → nat_lt 48 (length name) ≡ false → is_name name ≡ true
 short_name name spelled short =

@@ -10,16 +10,16 @@ use Rattle.disk_places.specs.Journal.{journaled}
 use Rattle.disk_lines.specs.declared.Draft.{Draft}
 use Rattle.disk_lines.specs.declared.Kind.{Kind}
 use Rattle.disk_lines.specs.declared.Kind.TheVariants.{Directory, File, Free, Staging}
-use Rattle.disk_rules.specs.Live.{is_directory}
-use Rattle.disk_rules.specs.Reading.{node_set}
-use Rattle.disk_rules.specs.Volume.{inode, Volume}
+use Rattle.world_names.specs.disk_rules.Live.{is_directory}
+use Rattle.world_names.specs.disk_rules.Reading.{node_set}
+use Rattle.world_names.specs.disk_rules.Volume.{inode, Volume}
 use Rattle.world_names.specs.volume_uses.Uses.{HasAllMaps}
 use Rattle.world_names.specs.volume_changes.CallLaws.{row_to}
 use Rattle.world_names.specs.volume_changes.Changes.{MayDrop}
 use Rattle.world_names.specs.volume_changes.FoundLaws.{free-found, IsLowestFree, IsRowFound}
 use Rattle.world_names.specs.volume_changes.FrameLaws.{dropped-others}
-use Rattle.k_rules.specs.Changes.{dropped, gone_node, made, unnamed}
-use Rattle.k_rules.specs.Spaces.{volume_space}
+use Rattle.world_names.specs.k_rules.Changes.{dropped, gone_node, made, unnamed}
+use Rattle.world_names.specs.k_rules.Spaces.{volume_space}
 use Rattle.k_split.specs.k_tables.Found.{IsEntryAt}
 use Rattle.k_split.specs.k_tables.declared.removing.Entry.{Entry}
 use Rattle.posix_types.specs.declared.call.Call.{Call}
@@ -27,9 +27,9 @@ use Rattle.posix_words.specs.declared.nodes.Node.{Node}
 use Rattle.posix_words.specs.Names.{last_name, node_at_path, number_at}
 use Rattle.posix_words.specs.NameRows.{unlink_rows}
 use Rattle.posix_words.specs.Outcomes.{first}
-use Rattle.posix_spec.specs.Run.{after_call}
-use Rattle.posix_spec.specs.State.{alone, space, State, swept, unnamed as unnamed_state, with_node}
-use Rattle.posix_spec.specs.Step.{stepped, unlink_done}
+use Rattle.world_names.specs.posix_spec.Run.{after_call}
+use Rattle.world_names.specs.posix_spec.State.{alone, space, State, swept, unnamed as unnamed_state, with_node}
+use Rattle.world_names.specs.posix_spec.Step.{stepped, unlink_done}
 use Rattle.world_names.specs.world_rules.Jobs.{Job}
 use Rattle.world_names.specs.world_rules.Stands.{is_used, IsUsed, number}
 use Rattle.world_names.specs.world_promise.TreeRules.{used_below}

@@ -4,17 +4,17 @@ use Rattle.std.specs.List.{list_any}
 use Rattle.std.proofs.Common.{arith, ap, ◌∙◌, sym, subst, inl, inr}
 use Rattle.pm_words.specs.Words.{Words}
 use Rattle.disk_lines.specs.declared.Draft.{Draft}
-use Rattle.disk_rules.specs.Volume.{Volume}
+use Rattle.world_names.specs.disk_rules.Volume.{Volume}
 use Rattle.posix_types.specs.declared.handle.Handle.{Handle}
 use Rattle.posix_types.specs.declared.item.Item.{Item}
 use Rattle.posix_types.specs.declared.tree.TreeEntry.{TreeEntry}
 use Rattle.posix_words.specs.declared.nodes.Node.{Node}
 use Rattle.posix_words.specs.Names.{is_named}
 use Rattle.posix_words.specs.Open.{describes, is_open}
-use Rattle.posix_spec.specs.Run.{after_call, Begun}
-use Rattle.posix_spec.specs.State.{alone, room, State, swept, with_node}
-use Rattle.posix_spec.specs.Tree.{tree}
-use Rattle.crash_spec.specs.Strict.{StrictFrom}
+use Rattle.world_names.specs.posix_spec.Run.{after_call, Begun}
+use Rattle.world_names.specs.posix_spec.State.{alone, room, State, swept, with_node}
+use Rattle.world_names.specs.posix_spec.Tree.{tree}
+use Rattle.world_names.specs.crash_spec.Strict.{StrictFrom}
 use Rattle.world_names.specs.posix_frames.Flights.{InFlight, IsHeld-put, LeavesAlone-put}
 use Rattle.world_names.specs.posix_frames.Handles.{slot_of}
 use Rattle.world_names.specs.posix_frames.Needs.{AreInFlight, AreInFlight-step, begun_of, FitsBeside-put, Flight, IsApart, LetsAllBe, needs, needs-cons, needs-step}
@@ -22,7 +22,7 @@ use Rattle.world_names.specs.posix_frames.Rooms.{room-step}
 use Rattle.world_lent.specs.posix_orders.Acted.{acted, Change, node-acted, Touches}
 use Rattle.world_lent.specs.posix_orders.Orders.{AreTwoEach}
 use Rattle.world_lent.specs.posix_orders.Pairs.{Acts-twice, ActsTwice}
-use Rattle.posix_puts.specs.Views.{AreAfforded}
+use Rattle.world_names.specs.posix_puts.Views.{AreAfforded}
 use Rattle.world_names.specs.world_rules.Jobs.{Job, live_claims}
 use Rattle.world_names.specs.RemoveCalls.{swept-gone}
 use Rattle.world_names.specs.world_steps.Steps.{AreInFlight-jobs, begun-flights, flights_of}

@@ -11,18 +11,18 @@ use Rattle.disk_places.specs.Places.{base_word, commit_word, Geometry, is_data_b
 use Rattle.disk_places.specs.Superblock.{geometry_at, has_magic, has_numbers, has_version}
 use Rattle.disk_lines.specs.declared.Draft.{Draft}
 use Rattle.disk_lines.specs.Entries.{held_seq, is_self_valid}
-use Rattle.disk_rules.specs.Live.{entry_in}
-use Rattle.disk_rules.specs.Placed.{IsOutside}
-use Rattle.disk_rules.specs.Reading.{Reads}
-use Rattle.disk_rules.specs.Rules.{geometry_of, HasTarget}
-use Rattle.disk_rules.specs.Volume.{Volume}
-use Rattle.volume_facts.specs.Footprint.{SameLog}
-use Rattle.volume_facts.specs.FootprintLaws.{entry_in-same}
-use Rattle.volume_facts.specs.ImageLaws.{journaled-other}
-use Rattle.volume_facts.specs.LineWords.{data_word}
+use Rattle.image_facts.specs.disk_rules.Live.{entry_in}
+use Rattle.image_facts.specs.disk_rules.Placed.{IsOutside}
+use Rattle.image_facts.specs.disk_rules.Reading.{Reads}
+use Rattle.image_facts.specs.disk_rules.Rules.{geometry_of, HasTarget}
+use Rattle.image_facts.specs.disk_rules.Volume.{Volume}
+use Rattle.image_facts.specs.volume_facts.Footprint.{SameLog}
+use Rattle.image_facts.specs.volume_facts.FootprintLaws.{entry_in-same}
+use Rattle.image_facts.specs.volume_facts.ImageLaws.{journaled-other}
+use Rattle.image_facts.specs.volume_facts.LineWords.{data_word}
 use Rattle.image_facts.specs.ViewLaws.{head_word, sound-head, sound-targets}
-use Rattle.k_rules.specs.Stands.{IsOldOrNew}
-use Rattle.posix_spec.specs.State.{State}
+use Rattle.world_beginning.specs.k_rules.Stands.{IsOldOrNew}
+use Rattle.world_log.specs.posix_spec.State.{State}
 use Rattle.world_log.specs.world_rules.Jobs.{Job}
 use Rattle.world_log.specs.world_rules.Shown.{SameButLent}
 use Rattle.world_log.specs.world_promise.Lent.{Valid-words}

@@ -6,13 +6,13 @@ use Rattle.pm_words.specs.Words.{Words}
 use Rattle.disk_places.specs.Journal.{journaled}
 use Rattle.disk_places.specs.Places.{data_blocks, Geometry}
 use Rattle.disk_lines.specs.declared.Draft.{Draft}
-use Rattle.disk_rules.specs.Checked.{HasHead}
-use Rattle.disk_rules.specs.Live.{entry_in}
-use Rattle.disk_rules.specs.Reading.{Reads}
-use Rattle.disk_rules.specs.Rules.{geometry_of, IsOfNoLater}
-use Rattle.disk_rules.specs.Volume.{Volume}
-use Rattle.k_rules.specs.Stands.{IsOldOrNew, Stands}
-use Rattle.posix_spec.specs.State.{State}
+use Rattle.image_facts.specs.disk_rules.Checked.{HasHead}
+use Rattle.image_facts.specs.disk_rules.Live.{entry_in}
+use Rattle.image_facts.specs.disk_rules.Reading.{Reads}
+use Rattle.image_facts.specs.disk_rules.Rules.{geometry_of, IsOfNoLater}
+use Rattle.image_facts.specs.disk_rules.Volume.{Volume}
+use Rattle.world_beginning.specs.k_rules.Stands.{IsOldOrNew, Stands}
+use Rattle.world_log.specs.posix_spec.State.{State}
 use Rattle.world_log.specs.world_rules.Jobs.{Job}
 use Rattle.world_log.specs.world_rules.Shown.{AreFilled, landed_pairs, ShowsClaims}
 use Rattle.world_log.specs.Rules.{HasFreeBlocks}

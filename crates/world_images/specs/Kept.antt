@@ -5,20 +5,20 @@ use Rattle.pm_words.specs.Words.{Words}
 use Rattle.disk_places.specs.Journal.{journaled}
 use Rattle.disk_places.specs.Places.{Geometry}
 use Rattle.disk_lines.specs.declared.Draft.{Draft}
-use Rattle.disk_rules.specs.Checked.{IsCheckedAs}
-use Rattle.disk_rules.specs.Content.{content}
-use Rattle.disk_rules.specs.Reading.{Reads}
-use Rattle.disk_rules.specs.Rules.{IsChecked}
-use Rattle.disk_rules.specs.Volume.{Volume}
-use Rattle.volume_facts.specs.FootprintLaws.{content-own}
+use Rattle.image_facts.specs.disk_rules.Checked.{IsCheckedAs}
+use Rattle.image_facts.specs.disk_rules.Content.{content}
+use Rattle.image_facts.specs.disk_rules.Reading.{Reads}
+use Rattle.image_facts.specs.disk_rules.Rules.{IsChecked}
+use Rattle.image_facts.specs.disk_rules.Volume.{Volume}
+use Rattle.image_facts.specs.volume_facts.FootprintLaws.{content-own}
 use Rattle.image_facts.specs.CheckedLaws.{checked-parts}
 use Rattle.posix_types.specs.declared.call.Mode.{Mode}
 use Rattle.posix_types.specs.declared.item.Item.{Item}
 use Rattle.posix_types.specs.declared.tree.TreeEntry.{TreeEntry}
-use Rattle.posix_spec.specs.Run.{Begun, run}
-use Rattle.posix_spec.specs.State.{State}
-use Rattle.posix_spec.specs.Tree.{tree}
-use Rattle.crash_spec.specs.Permitted.{Permitted}
+use Rattle.world_log.specs.posix_spec.Run.{Begun, run}
+use Rattle.world_log.specs.posix_spec.State.{State}
+use Rattle.world_log.specs.posix_spec.Tree.{tree}
+use Rattle.world_log.specs.crash_spec.Permitted.{Permitted}
 use Rattle.world_log.specs.world_rules.Jobs.{begun_of, Job}
 use Rattle.world_log.specs.world_rules.Promised.{AreWhole, content_shown, IsShown}
 use Rattle.world_log.specs.world_rules.Shown.{IsTreeOfContent}

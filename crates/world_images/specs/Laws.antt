@@ -11,13 +11,13 @@ use Rattle.disk_lines.specs.declared.Kind.{Kind}
 use Rattle.disk_lines.specs.declared.Kind.TheVariants.{File, Free}
 use Rattle.disk_lines.specs.Lines.{NameRow}
 use Rattle.disk_lines.specs.Names.{names_of}
-use Rattle.disk_rules.specs.Checked.{IsCheckedAs}
-use Rattle.disk_rules.specs.Content.{content}
-use Rattle.disk_rules.specs.Rules.{geometry_of}
-use Rattle.disk_rules.specs.Volume.{inode, Volume}
+use Rattle.image_facts.specs.disk_rules.Checked.{IsCheckedAs}
+use Rattle.image_facts.specs.disk_rules.Content.{content}
+use Rattle.image_facts.specs.disk_rules.Rules.{geometry_of}
+use Rattle.image_facts.specs.disk_rules.Volume.{inode, Volume}
 use Rattle.world_log.specs.volume_uses.Uses.{HasAllMaps}
-use Rattle.k_rules.specs.Changes.{dropped, made, removed, renamed, renamed_over_directory, renamed_over_file, unnamed}
-use Rattle.k_rules.specs.Stands.{Stands}
+use Rattle.world_beginning.specs.k_rules.Changes.{dropped, made, removed, renamed, renamed_over_directory, renamed_over_file, unnamed}
+use Rattle.world_beginning.specs.k_rules.Stands.{Stands}
 use Rattle.posix_types.specs.declared.call.Call.{Call}
 use Rattle.posix_types.specs.declared.call.Mode.{Mode}
 use Rattle.posix_types.specs.declared.call.Who.{Who}
@@ -29,12 +29,12 @@ use Rattle.posix_words.specs.NameRows.{rename_rows, unlink_rows}
 use Rattle.posix_words.specs.Names.{directory_stands}
 use Rattle.posix_words.specs.Nodes.{is_directory}
 use Rattle.posix_words.specs.Outcomes.{first}
-use Rattle.posix_spec.specs.FileRows.{file_number}
-use Rattle.posix_spec.specs.Run.{after_call, Begun, run}
-use Rattle.posix_spec.specs.State.{space, State, unnamed as unnamed_state}
-use Rattle.posix_spec.specs.Step.{renamed as renamed_state}
-use Rattle.posix_spec.specs.Tree.{start, tree}
-use Rattle.crash_spec.specs.Permitted.{Permitted}
+use Rattle.world_log.specs.posix_spec.FileRows.{file_number}
+use Rattle.world_log.specs.posix_spec.Run.{after_call, Begun, run}
+use Rattle.world_log.specs.posix_spec.State.{space, State, unnamed as unnamed_state}
+use Rattle.world_log.specs.posix_spec.Step.{renamed as renamed_state}
+use Rattle.world_log.specs.posix_spec.Tree.{start, tree}
+use Rattle.world_log.specs.crash_spec.Permitted.{Permitted}
 use Rattle.world_log.specs.world_rules.Jobs.{begun_of, Job}
 use Rattle.world_log.specs.world_rules.Promised.{AreWhole}
 use Rattle.world_log.specs.world_rules.Shown.{IsTreeOfContent}

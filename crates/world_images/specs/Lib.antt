@@ -17,3 +17,9 @@ pub use Rattle.world_log.specs as world_log
 pub use Rattle.world_log.specs.volume_uses as volume_uses
 pub use Rattle.world_log.specs.world_promise as world_promise
 pub use Rattle.world_log.specs.world_rules as world_rules
+pub use Rattle.image_facts.specs.disk_rules as disk_rules
+pub use Rattle.image_facts.specs.volume_facts as volume_facts
+pub use Rattle.world_beginning.specs.k_rules as k_rules
+pub use Rattle.world_log.specs.crash_spec as crash_spec
+pub use Rattle.world_log.specs.posix_spec as posix_spec
+pub use Rattle.world_log.specs.posix_trees as posix_trees

@@ -5,14 +5,14 @@ use Rattle.pm_words.specs.Cells.{cell}
 use Rattle.pm_words.specs.Images.{IsImage}
 use Rattle.pm_words.specs.Words.{Words}
 use Rattle.disk_places.specs.Places.{Geometry}
-use Rattle.disk_rules.specs.Content.{content}
-use Rattle.disk_rules.specs.Honest.{IsHonest}
-use Rattle.disk_rules.specs.Rules.{geometry_of, IsChecked}
+use Rattle.image_facts.specs.disk_rules.Content.{content}
+use Rattle.image_facts.specs.disk_rules.Honest.{IsHonest}
+use Rattle.image_facts.specs.disk_rules.Rules.{geometry_of, IsChecked}
 use Rattle.posix_types.specs.declared.item.Item.{Item}
 use Rattle.posix_types.specs.declared.tree.TreeEntry.{TreeEntry}
-use Rattle.posix_spec.specs.Run.{Begun}
-use Rattle.posix_spec.specs.State.{State}
-use Rattle.crash_spec.specs.Permitted.{Permitted}
+use Rattle.world_log.specs.posix_spec.Run.{Begun}
+use Rattle.world_log.specs.posix_spec.State.{State}
+use Rattle.world_log.specs.crash_spec.Permitted.{Permitted}
 use Rattle.world_log.specs.world_rules.Shown.{IsTreeOfContent}
 
 -- The image is checked, with this geometry; its content has a tree; and each tree of it is permitted after the history, with

@@ -10,16 +10,16 @@ use Rattle.disk_lines.specs.declared.Draft.{Draft}
 use Rattle.disk_lines.specs.declared.Kind.{Kind}
 use Rattle.disk_lines.specs.declared.Kind.TheVariants.{Free, Staging}
 use Rattle.disk_lines.specs.Lines.{NameRow}
-use Rattle.disk_rules.specs.Live.{is_file, is_live, is_of_file}
-use Rattle.disk_rules.specs.Reading.{node_set, row_set}
-use Rattle.disk_rules.specs.Room.{has_none, unused_blocks}
-use Rattle.disk_rules.specs.Uses.{owners, Use}
-use Rattle.disk_rules.specs.Volume.{free_inode, inode, Volume}
-use Rattle.volume_facts.specs.Lists.{one_if}
+use Rattle.image_facts.specs.disk_rules.Live.{is_file, is_live, is_of_file}
+use Rattle.image_facts.specs.disk_rules.Reading.{node_set, row_set}
+use Rattle.image_facts.specs.disk_rules.Room.{has_none, unused_blocks}
+use Rattle.image_facts.specs.disk_rules.Uses.{owners, Use}
+use Rattle.image_facts.specs.disk_rules.Volume.{free_inode, inode, Volume}
+use Rattle.image_facts.specs.volume_facts.Lists.{one_if}
 use Rattle.world_log.specs.volume_uses.OwnerLaws.{owners-node, owners-row, owners-set}
-use Rattle.k_rules.specs.Changes.{dropped, gone_node, made, new_node, removed, unnamed}
+use Rattle.world_beginning.specs.k_rules.Changes.{dropped, gone_node, made, new_node, removed, unnamed}
 use Rattle.list_facts.specs.Members.{In}
-use Rattle.posix_spec.specs.State.{State}
+use Rattle.world_log.specs.posix_spec.State.{State}
 use Rattle.world_log.specs.world_rules.Jobs.{Job, live_claims}
 use Rattle.world_beginning.specs.world_steps.Ages.{AreAged, dead-made}
 use Rattle.world_images.specs.Images.{HasRoom}

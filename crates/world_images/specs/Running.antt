@@ -7,18 +7,18 @@ use Rattle.pm_words.specs.Words.{Words}
 use Rattle.disk_places.specs.Journal.{IsSound, journaled}
 use Rattle.disk_places.specs.Places.{Geometry, is_data_block}
 use Rattle.disk_lines.specs.declared.Draft.{Draft}
-use Rattle.disk_rules.specs.Reading.{Reads}
-use Rattle.disk_rules.specs.Volume.{Volume}
-use Rattle.k_rules.specs.Stands.{IsOldOrNew}
+use Rattle.image_facts.specs.disk_rules.Reading.{Reads}
+use Rattle.image_facts.specs.disk_rules.Volume.{Volume}
+use Rattle.world_beginning.specs.k_rules.Stands.{IsOldOrNew}
 use Rattle.posix_types.specs.declared.call.Mode.{Mode}
 use Rattle.posix_types.specs.declared.item.Item.{Item}
 use Rattle.posix_types.specs.declared.tree.TreeEntry.{TreeEntry}
-use Rattle.posix_spec.specs.Run.{Begun, run}
-use Rattle.posix_spec.specs.State.{State}
-use Rattle.posix_spec.specs.Tree.{tree}
-use Rattle.crash_spec.specs.Permitted.{Permitted}
-use Rattle.crash_spec.specs.RelationLaws.{Permitted-none, Sync-one}
-use Rattle.crash_spec.specs.Strict.{Strict-one}
+use Rattle.world_log.specs.posix_spec.Run.{Begun, run}
+use Rattle.world_log.specs.posix_spec.State.{State}
+use Rattle.world_log.specs.posix_spec.Tree.{tree}
+use Rattle.world_log.specs.crash_spec.Permitted.{Permitted}
+use Rattle.world_log.specs.crash_spec.RelationLaws.{Permitted-none, Sync-one}
+use Rattle.world_log.specs.crash_spec.Strict.{Strict-one}
 use Rattle.world_log.specs.world_rules.Jobs.{Job}
 use Rattle.world_log.specs.world_rules.Shown.{SameButLent}
 use Rattle.world_images.specs.Changed.{headed_changed, IsWorld-words, same_data, SameLog-changed, ShowsLog-same, sound_headed}

@@ -11,11 +11,11 @@ use Rattle.posix_words.specs.NameRows.{list_rows, mkdir_rows, open_rows, rename_
 use Rattle.posix_words.specs.Names.{directory_stands, exists_at, file_stands, is_named, number_at}
 use Rattle.posix_words.specs.Open.{closed, is_full, is_open}
 use Rattle.posix_words.specs.Outcomes.{first}
-use Rattle.posix_spec.specs.FileRows.{close_rows, dup_rows, file_number, fsync_rows, read_rows, seek_rows, truncate_rows, write_rows, write_start}
-use Rattle.posix_spec.specs.Run.{after_call, Begun, run}
-use Rattle.posix_spec.specs.State.{alone, made, space, State, swept, unnamed, with_file, with_node, with_published}
-use Rattle.posix_spec.specs.Step.{close_done, dup_done, empty_file, fsync_done, is_busy, list_done, mkdir_done, open_done, opening, pread_done, pwrite_done, read_done, rename_done, renamed, rmdir_done, seek_done, stat_done, step, truncate_done, unlink_done, write_done, written}
-use Rattle.posix_facts.specs.RowLaws.{stepped-keeps}
+use Rattle.world_log.specs.posix_spec.FileRows.{close_rows, dup_rows, file_number, fsync_rows, read_rows, seek_rows, truncate_rows, write_rows, write_start}
+use Rattle.world_log.specs.posix_spec.Run.{after_call, Begun, run}
+use Rattle.world_log.specs.posix_spec.State.{alone, made, space, State, swept, unnamed, with_file, with_node, with_published}
+use Rattle.world_log.specs.posix_spec.Step.{close_done, dup_done, empty_file, fsync_done, is_busy, list_done, mkdir_done, open_done, opening, pread_done, pwrite_done, read_done, rename_done, renamed, rmdir_done, seek_done, stat_done, step, truncate_done, unlink_done, write_done, written}
+use Rattle.world_log.specs.posix_facts.RowLaws.{stepped-keeps}
 
 pub record KeepsSetting (s new : State) : Type 0 where
   pub shape : new.shape ≡ s.shape

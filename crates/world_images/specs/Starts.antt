@@ -8,19 +8,19 @@ use Rattle.pm_words.specs.Words.{Words}
 use Rattle.disk_places.specs.Journal.{journaled}
 use Rattle.disk_places.specs.Places.{data_blocks, reserve}
 use Rattle.disk_lines.specs.declared.Draft.{Draft}
-use Rattle.disk_rules.specs.Content.{content, found}
-use Rattle.disk_rules.specs.Live.{entry_in, is_live, live_entries}
-use Rattle.disk_rules.specs.Reading.{Reads}
-use Rattle.disk_rules.specs.Room.{held_after_recovery}
-use Rattle.disk_rules.specs.Rules.{IsOfNoLater}
-use Rattle.disk_rules.specs.Volume.{Volume}
-use Rattle.volume_facts.specs.FootprintLaws.{content-own}
+use Rattle.image_facts.specs.disk_rules.Content.{content, found}
+use Rattle.image_facts.specs.disk_rules.Live.{entry_in, is_live, live_entries}
+use Rattle.image_facts.specs.disk_rules.Reading.{Reads}
+use Rattle.image_facts.specs.disk_rules.Room.{held_after_recovery}
+use Rattle.image_facts.specs.disk_rules.Rules.{IsOfNoLater}
+use Rattle.image_facts.specs.disk_rules.Volume.{Volume}
+use Rattle.image_facts.specs.volume_facts.FootprintLaws.{content-own}
 use Rattle.posix_types.specs.declared.reply.Shape.{Shape}
 use Rattle.posix_types.specs.declared.tree.TreeEntry.{TreeEntry}
 use Rattle.posix_words.specs.Names.{is_root}
 use Rattle.posix_words.specs.Places.{node_of}
-use Rattle.posix_spec.specs.State.{made, State}
-use Rattle.posix_spec.specs.Tree.{bare, planted, start}
+use Rattle.world_log.specs.posix_spec.State.{made, State}
+use Rattle.world_log.specs.posix_spec.Tree.{bare, planted, start}
 use Rattle.list_facts.specs.Filters.{filter-In, filter_map-In, range-In}
 use Rattle.list_facts.specs.Members.{In}
 use Rattle.world_log.specs.world_rules.Shown.{IsTreeOfContent}

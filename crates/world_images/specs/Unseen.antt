@@ -17,12 +17,12 @@ use Rattle.posix_words.specs.Nodes.{is_directory, node_at, published_node}
 use Rattle.posix_words.specs.Open.{closed, is_open}
 use Rattle.posix_words.specs.Outcomes.{answer, first, row}
 use Rattle.posix_words.specs.Places.{entry_place, place_of, places, tree_entry, tree_node}
-use Rattle.posix_spec.specs.FileRows.{close_rows, file_number}
-use Rattle.posix_spec.specs.State.{alone, space, State, swept, unnamed, with_node, with_published}
-use Rattle.posix_spec.specs.Step.{close_done, rename_done, renamed, stepped, unlink_done}
-use Rattle.posix_spec.specs.Tree.{tree}
+use Rattle.world_log.specs.posix_spec.FileRows.{close_rows, file_number}
+use Rattle.world_log.specs.posix_spec.State.{alone, space, State, swept, unnamed, with_node, with_published}
+use Rattle.world_log.specs.posix_spec.Step.{close_done, rename_done, renamed, stepped, unlink_done}
+use Rattle.world_log.specs.posix_spec.Tree.{tree}
 use Rattle.list_facts.specs.Members.{In}
-use Rattle.posix_trees.specs.TreeLaws.{put_all-In}
+use Rattle.world_log.specs.posix_trees.TreeLaws.{put_all-In}
 use Rattle.world_images.specs.Laws.{HasTreeOfClose, HasTreeOfRename, HasTreeOfUnlink}
 
 -- an entry of a list names its child

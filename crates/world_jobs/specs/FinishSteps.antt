@@ -6,16 +6,16 @@ use Rattle.std.proofs.lemmas.List.{get_or-set_other}
 use Rattle.std.proofs.lemmas.List.Sums.{sum_by-cons}
 use Rattle.pm_words.specs.Words.{Words}
 use Rattle.disk_lines.specs.declared.Draft.{Draft}
-use Rattle.disk_rules.specs.Volume.{Volume}
+use Rattle.world_log.specs.disk_rules.Volume.{Volume}
 use Rattle.posix_words.specs.declared.nodes.Node.{Node}
 use Rattle.posix_words.specs.Nodes.{node_at, published_of}
-use Rattle.posix_spec.specs.Run.{after_call, Begun}
-use Rattle.posix_spec.specs.State.{room, State}
-use Rattle.posix_puts.specs.Puts.{LeavesWhole, with_whole}
-use Rattle.posix_puts.specs.ViewLaws.{need_of-kept, PutsWhole-kept}
-use Rattle.posix_puts.specs.Views.{KeepsView, need_of}
+use Rattle.world_log.specs.posix_spec.Run.{after_call, Begun}
+use Rattle.world_log.specs.posix_spec.State.{room, State}
+use Rattle.world_log.specs.posix_puts.Puts.{LeavesWhole, with_whole}
+use Rattle.world_log.specs.posix_puts.ViewLaws.{need_of-kept, PutsWhole-kept}
+use Rattle.world_log.specs.posix_puts.Views.{KeepsView, need_of}
 use Rattle.world_steps.specs.posix_frames.Needs.{AreInFlight}
-use Rattle.crash_spec.specs.Sync.{with_bytes}
+use Rattle.world_log.specs.crash_spec.Sync.{with_bytes}
 use Rattle.world_log.specs.world_rules.Jobs.{ApartFrom, begun_of, Job, JobsStand, JobStands, live_claims}
 use Rattle.world_log.specs.world_rules.Stands.{number, Stands}
 use Rattle.world_log.specs.world_promise.Beside.{Fits-after, KeepsView-other, LeavesWhole-bytes, room-after, with_bytes-whole}

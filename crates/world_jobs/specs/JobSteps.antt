@@ -8,17 +8,17 @@ use Rattle.pm_words.specs.Words.{Words}
 use Rattle.disk_lines.specs.declared.Draft.{Draft}
 use Rattle.disk_lines.specs.declared.Kind.{Kind}
 use Rattle.disk_lines.specs.declared.Kind.TheVariants.{Directory, File, Free, Staging}
-use Rattle.disk_rules.specs.Rules.{IsKindAt}
-use Rattle.disk_rules.specs.Live.{is_file, is_live, is_of_file}
-use Rattle.disk_rules.specs.Reading.{base_set}
-use Rattle.disk_rules.specs.Volume.{inode, Volume}
+use Rattle.world_log.specs.disk_rules.Rules.{IsKindAt}
+use Rattle.world_log.specs.disk_rules.Live.{is_file, is_live, is_of_file}
+use Rattle.world_log.specs.disk_rules.Reading.{base_set}
+use Rattle.world_log.specs.disk_rules.Volume.{inode, Volume}
 use Rattle.world_steps.specs.volume_changes.MapLaws.{base-keeps}
 use Rattle.posix_words.specs.Nodes.{node_at}
-use Rattle.posix_spec.specs.Run.{after_call, Begun}
-use Rattle.posix_spec.specs.State.{room, State}
+use Rattle.world_log.specs.posix_spec.Run.{after_call, Begun}
+use Rattle.world_log.specs.posix_spec.State.{room, State}
 use Rattle.list_facts.specs.Members.{In}
-use Rattle.posix_puts.specs.Views.{need_of}
-use Rattle.crash_spec.specs.Sync.{with_bytes}
+use Rattle.world_log.specs.posix_puts.Views.{need_of}
+use Rattle.world_log.specs.crash_spec.Sync.{with_bytes}
 use Rattle.world_log.specs.world_rules.Jobs.{ApartFrom, AreApartJobs, begun_of, Job, JobsStand, JobStands, live_claims, Valid}
 use Rattle.world_log.specs.world_rules.Stands.{IsSane, number, Stands}
 use Rattle.world_log.specs.world_promise.Beside.{with_bytes-whole}

@@ -3,8 +3,8 @@
 use Rattle.std.specs.Prelude.{◌≡◌, ◌<◌, ◌≤◌, ◌+◌, ◌^◌, ℕ, true, List, [], ◌∷◌, ◌++◌, None, Some, slice_set}
 use Rattle.pm_words.specs.Words.{Words}
 use Rattle.disk_lines.specs.declared.Draft.{Draft}
-use Rattle.disk_rules.specs.Reading.{base_set}
-use Rattle.disk_rules.specs.Volume.{Volume}
+use Rattle.world_log.specs.disk_rules.Reading.{base_set}
+use Rattle.world_log.specs.disk_rules.Volume.{Volume}
 use Rattle.posix_types.specs.declared.call.Call.{Call}
 use Rattle.posix_types.specs.declared.call.Who.{Who}
 use Rattle.posix_types.specs.declared.handle.Flags.{Flags}
@@ -14,15 +14,15 @@ use Rattle.posix_words.specs.Bytes.{resized}
 use Rattle.posix_words.specs.NameRows.{open_rows}
 use Rattle.posix_words.specs.Open.{is_full}
 use Rattle.posix_words.specs.Outcomes.{first}
-use Rattle.posix_spec.specs.FileRows.{content, truncate_rows}
-use Rattle.posix_spec.specs.Run.{after_call}
-use Rattle.posix_spec.specs.State.{alone, room, space, State}
-use Rattle.posix_spec.specs.Step.{is_busy}
-use Rattle.crash_spec.specs.Busy.{waits_for}
+use Rattle.world_log.specs.posix_spec.FileRows.{content, truncate_rows}
+use Rattle.world_log.specs.posix_spec.Run.{after_call}
+use Rattle.world_log.specs.posix_spec.State.{alone, room, space, State}
+use Rattle.world_log.specs.posix_spec.Step.{is_busy}
+use Rattle.world_log.specs.crash_spec.Busy.{waits_for}
 use Rattle.world_steps.specs.posix_frames.Needs.{needs as needs_of}
 use Rattle.world_steps.specs.posix_frames.Rooms.{FitsBeside}
 use Rattle.list_facts.specs.Members.{In}
-use Rattle.posix_puts.specs.Views.{need_of}
+use Rattle.world_log.specs.posix_puts.Views.{need_of}
 use Rattle.world_log.specs.world_rules.Jobs.{AreApartJobs, begun_of, HoldsWhole, Job, JobStands, live_claims}
 use Rattle.world_log.specs.world_rules.Shown.{SameButLent}
 use Rattle.world_log.specs.world_rules.Stands.{entries_of, number}

@@ -13,3 +13,12 @@ pub use Rattle.world_log.specs.world_rules as world_rules
 pub use Rattle.world_steps.specs as world_steps
 pub use Rattle.world_steps.specs.posix_frames as posix_frames
 pub use Rattle.world_steps.specs.world_spaces as world_spaces
+pub use Rattle.world_log.specs.chain_facts as chain_facts
+pub use Rattle.world_log.specs.crash_spec as crash_spec
+pub use Rattle.world_log.specs.disk_rules as disk_rules
+pub use Rattle.world_log.specs.posix_facts as posix_facts
+pub use Rattle.world_log.specs.posix_puts as posix_puts
+pub use Rattle.world_log.specs.posix_spec as posix_spec
+pub use Rattle.world_log.specs.posix_trees as posix_trees
+pub use Rattle.world_log.specs.volume_facts as volume_facts
+pub use Rattle.world_steps.specs.k_rules as k_rules

@@ -9,15 +9,15 @@ use Rattle.extent_words.specs.Extents.{disk_at, is_within}
 use Rattle.disk_lines.specs.declared.Draft.{Draft}
 use Rattle.disk_lines.specs.declared.Kind.{Kind}
 use Rattle.disk_lines.specs.declared.Kind.TheVariants.{Free, File, Staging}
-use Rattle.disk_rules.specs.Content.{byte_in, disk_by, disk_of, entry_of_block}
-use Rattle.disk_rules.specs.Volume.{extents, free_inode, inode, Volume}
+use Rattle.world_log.specs.disk_rules.Content.{byte_in, disk_by, disk_of, entry_of_block}
+use Rattle.world_log.specs.disk_rules.Volume.{extents, free_inode, inode, Volume}
 use Rattle.world_log.specs.volume_uses.OwnerLaws.{IsOnePlace, one_owner}
 use Rattle.posix_words.specs.declared.nodes.Node.{Node}
 use Rattle.posix_words.specs.Nodes.{bytes_of, node_at}
-use Rattle.posix_spec.specs.State.{State}
+use Rattle.world_log.specs.posix_spec.State.{State}
 use Rattle.list_facts.specs.Filters.{filter-In}
 use Rattle.list_facts.specs.Members.{In}
-use Rattle.crash_spec.specs.Sync.{IsPartOf}
+use Rattle.world_log.specs.crash_spec.Sync.{IsPartOf}
 use Rattle.world_steps.specs.posix_frames.Needs.{AreInFlight}
 use Rattle.world_log.specs.world_rules.Jobs.{Job, JobsStand, live_claims}
 use Rattle.world_log.specs.world_rules.Stands.{is_used, IsSane, IsUsed, LogStands, NodeStands, number, Stands}

@@ -4,8 +4,8 @@ use Rattle.pm_words.specs.Words.{byte_of, Words}
 use Rattle.disk_places.specs.Places.{is_data_block}
 use Rattle.disk_lines.specs.declared.Draft.{Draft}
 use Rattle.disk_lines.specs.declared.Kind.TheVariants.{File}
-use Rattle.disk_rules.specs.Content.{byte_in, disk_of, size_of}
-use Rattle.disk_rules.specs.Volume.{inode, Volume}
+use Rattle.world_log.specs.disk_rules.Content.{byte_in, disk_of, size_of}
+use Rattle.world_log.specs.disk_rules.Volume.{inode, Volume}
 
 -- Words change in blocks of one file alone, which then has these bytes, as many as before.
 pub record WritesInPlace (v : Volume) (live : List Draft) (f g : Words) (ino : ℕ) (bytes : List ℕ) : Type 0 where

@@ -10,9 +10,9 @@ use Rattle.extent_words.specs.Extents.{is_within}
 use Rattle.disk_lines.specs.declared.Draft.{Draft}
 use Rattle.disk_lines.specs.declared.Kind.TheVariants.{File, Staging}
 use Rattle.disk_lines.specs.Names.{child_named}
-use Rattle.disk_rules.specs.Content.{byte_in, disk_by, entry_of_block, size_by}
-use Rattle.disk_rules.specs.Live.{is_file, is_live, is_of_file, latest}
-use Rattle.disk_rules.specs.Volume.{inode, Volume}
+use Rattle.world_log.specs.disk_rules.Content.{byte_in, disk_by, entry_of_block, size_by}
+use Rattle.world_log.specs.disk_rules.Live.{is_file, is_live, is_of_file, latest}
+use Rattle.world_log.specs.disk_rules.Volume.{inode, Volume}
 use Rattle.posix_types.specs.declared.call.Call.{Call}
 use Rattle.posix_words.specs.declared.nodes.Node.{Node}
 use Rattle.posix_words.specs.declared.open.Description.{Description}
@@ -20,13 +20,13 @@ use Rattle.posix_words.specs.Bytes.{resized}
 use Rattle.posix_words.specs.Names.{exists_at, node_at_path, number_at, too_long}
 use Rattle.posix_words.specs.Nodes.{node_at}
 use Rattle.posix_words.specs.Open.{opened}
-use Rattle.posix_spec.specs.FileRows.{content, file_number}
-use Rattle.posix_spec.specs.Run.{after_call, Begun}
-use Rattle.posix_spec.specs.State.{made, space, State, with_file, with_node}
-use Rattle.posix_spec.specs.Step.{empty_file, open_done, opening, stepped, truncate_done}
+use Rattle.world_log.specs.posix_spec.FileRows.{content, file_number}
+use Rattle.world_log.specs.posix_spec.Run.{after_call, Begun}
+use Rattle.world_log.specs.posix_spec.State.{made, space, State, with_file, with_node}
+use Rattle.world_log.specs.posix_spec.Step.{empty_file, open_done, opening, stepped, truncate_done}
 use Rattle.list_facts.specs.Filters.{filter-In, In-filter}
 use Rattle.list_facts.specs.Members.{In}
-use Rattle.crash_spec.specs.Busy.{waits_for}
+use Rattle.world_log.specs.crash_spec.Busy.{waits_for}
 use Rattle.world_log.specs.world_rules.Jobs.{Job, live_claims}
 use Rattle.world_log.specs.world_rules.Stands.{entries_of, FileStands, is_used, IsSane, IsUsed, NamesStand, NodeStands, number}
 use Rattle.world_log.specs.world_promise.Landed.{NamesStand-same}

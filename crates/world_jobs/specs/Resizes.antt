@@ -3,8 +3,8 @@ use Rattle.std.specs.Prelude.{◌≡◌, ◌≢◌, ◌<◌, ◌/◌, ℕ, List,
 use Rattle.pm_words.specs.Words.{Words}
 use Rattle.extent_words.specs.Extents.{disk_at}
 use Rattle.disk_lines.specs.declared.Kind.TheVariants.{File}
-use Rattle.disk_rules.specs.Content.{byte_in}
-use Rattle.disk_rules.specs.Volume.{extents, inode, Volume}
+use Rattle.world_log.specs.disk_rules.Content.{byte_in}
+use Rattle.world_log.specs.disk_rules.Volume.{extents, inode, Volume}
 use Rattle.world_log.specs.world_rules.Stands.{IsSane}
 
 -- All but the size and the map of one file stays, and the volume is sane.

@@ -6,8 +6,8 @@ use Rattle.pm_words.specs.Parts.{IsImageWith, put_back}
 use Rattle.pm_words.specs.Words.{Words}
 use Rattle.disk_places.specs.Journal.{journaled}
 use Rattle.disk_lines.specs.declared.Draft.{Draft}
-use Rattle.disk_rules.specs.Honest.{IsHonestWith}
-use Rattle.disk_rules.specs.Volume.{Volume}
+use Rattle.world_images.specs.disk_rules.Honest.{IsHonestWith}
+use Rattle.world_images.specs.disk_rules.Volume.{Volume}
 use Rattle.world_images.specs.world_rules.Jobs.{Job}
 use Rattle.world_images.specs.world_rules.Shown.{AreFilled}
 use Rattle.world_images.specs.world_log.Lines.{AreLinesOut}

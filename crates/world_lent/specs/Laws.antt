@@ -3,13 +3,13 @@ use Rattle.std.specs.Prelude.{◌≡◌, ◌≢◌, ◌≤◌, ◌+◌, ℕ, Lis
 use Rattle.pm_words.specs.declared.Cell.{Cell}
 use Rattle.pm_words.specs.Words.{Words}
 use Rattle.disk_lines.specs.declared.Draft.{Draft}
-use Rattle.disk_rules.specs.Volume.{Volume}
+use Rattle.world_images.specs.disk_rules.Volume.{Volume}
 use Rattle.posix_types.specs.declared.call.Mode.{Mode}
 use Rattle.posix_types.specs.declared.item.Item.{Item}
 use Rattle.posix_types.specs.declared.tree.TreeEntry.{TreeEntry}
-use Rattle.posix_spec.specs.Run.{after_call, Begun, run}
-use Rattle.posix_spec.specs.State.{room, State}
-use Rattle.crash_spec.specs.Strict.{StrictFrom}
+use Rattle.posix_orders.specs.posix_spec.Run.{after_call, Begun, run}
+use Rattle.posix_orders.specs.posix_spec.State.{room, State}
+use Rattle.posix_orders.specs.crash_spec.Strict.{StrictFrom}
 use Rattle.posix_orders.specs.posix_frames.Needs.{needs}
 use Rattle.posix_orders.specs.Commutes.{takes}
 use Rattle.posix_orders.specs.Orders.{AreTwoEach}

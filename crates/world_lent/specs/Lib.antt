@@ -10,3 +10,6 @@ pub use Rattle.world_images.specs.world_log as world_log
 pub use Rattle.world_images.specs.world_promise as world_promise
 pub use Rattle.world_images.specs.world_rules as world_rules
 pub use Rattle.world_images.specs.world_steps as world_steps
+pub use Rattle.world_images.specs.disk_rules as disk_rules
+pub use Rattle.world_images.specs.k_rules as k_rules
+pub use Rattle.world_images.specs.volume_facts as volume_facts

@@ -4,9 +4,9 @@ use Rattle.std.specs.List.{cons_option, filter_map, range_with_len}
 use Rattle.std.proofs.Common.{arith, ap, sym, subst, append_assoc, append-nil, length-append}
 use Rattle.pm_words.specs.Words.{Words}
 use Rattle.disk_lines.specs.declared.Draft.{Draft}
-use Rattle.disk_rules.specs.Live.{entry_in, is_live, live_entries}
-use Rattle.disk_rules.specs.Volume.{Volume}
-use Rattle.posix_spec.specs.State.{State}
+use Rattle.world_promise.specs.disk_rules.Live.{entry_in, is_live, live_entries}
+use Rattle.world_promise.specs.disk_rules.Volume.{Volume}
+use Rattle.world_promise.specs.posix_spec.State.{State}
 use Rattle.list_facts.specs.Filters.{filter-In, filter_map-In, range-In}
 use Rattle.list_facts.specs.Members.{In}
 use Rattle.world_promise.specs.world_rules.Claims.{ClaimsStand}
@@ -17,7 +17,7 @@ use Rattle.world_promise.specs.JobLaws.{acted, live_claims-more, Valid-dropped, 
 use Rattle.world_promise.specs.Lent.{Valid-words}
 use Rattle.world_log.specs.Laws.{MayRecover}
 use Rattle.world_log.specs.LogRules.{ClaimsStand-landed, live_parts, log_promise}
-use Rattle.posix_trees.specs.Entries.{AreDifferent, few}
+use Rattle.world_promise.specs.posix_trees.Entries.{AreDifferent, few}
 
 -- entries that pass a test, found by rising numbers, are different where those of two numbers are
 different_found : (p : Draft → Bool) (h : ℕ → Option Draft) (a n : ℕ)

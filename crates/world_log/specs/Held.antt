@@ -11,14 +11,14 @@ use Rattle.disk_places.specs.Places.{data_blocks, reserve}
 use Rattle.disk_lines.specs.declared.Draft.{Draft}
 use Rattle.disk_lines.specs.declared.Kind.TheVariants.{File}
 use Rattle.disk_lines.specs.Names.{names_of}
-use Rattle.disk_rules.specs.Content.{size_of}
-use Rattle.disk_rules.specs.Live.{is_file}
-use Rattle.disk_rules.specs.Room.{held_after_recovery, is_named_file}
-use Rattle.disk_rules.specs.Volume.{inode, Volume}
+use Rattle.world_promise.specs.disk_rules.Content.{size_of}
+use Rattle.world_promise.specs.disk_rules.Live.{is_file}
+use Rattle.world_promise.specs.disk_rules.Room.{held_after_recovery, is_named_file}
+use Rattle.world_promise.specs.disk_rules.Volume.{inode, Volume}
 use Rattle.posix_words.specs.declared.nodes.Node.{Node}
 use Rattle.posix_words.specs.Nodes.{bytes_of, node_at}
 use Rattle.posix_words.specs.Room.{held}
-use Rattle.posix_spec.specs.State.{Fits, State}
+use Rattle.world_promise.specs.posix_spec.State.{Fits, State}
 use Rattle.world_promise.specs.world_rules.Stands.{Consecutive, entries_of, is_used, IsUsed, NodeStands, number, Stands}
 use Rattle.world_promise.specs.Contents.{size-same}
 use Rattle.world_promise.specs.Landed.{kind_file}

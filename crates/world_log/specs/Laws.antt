@@ -4,10 +4,10 @@ use Rattle.pm_words.specs.declared.Cell.{Cell}
 use Rattle.pm_words.specs.Words.{Words}
 use Rattle.disk_places.specs.Places.{data_blocks}
 use Rattle.disk_lines.specs.declared.Draft.{Draft}
-use Rattle.disk_rules.specs.Honest.{IsHonest}
-use Rattle.disk_rules.specs.Rules.{CanRecover, IsOfNoLater}
-use Rattle.disk_rules.specs.Volume.{Volume}
-use Rattle.posix_spec.specs.State.{State}
+use Rattle.world_promise.specs.disk_rules.Honest.{IsHonest}
+use Rattle.world_promise.specs.disk_rules.Rules.{CanRecover, IsOfNoLater}
+use Rattle.world_promise.specs.disk_rules.Volume.{Volume}
+use Rattle.world_promise.specs.posix_spec.State.{State}
 use Rattle.world_promise.specs.world_rules.Claims.{ClaimsStand}
 use Rattle.world_promise.specs.world_rules.Jobs.{Job, Valid}
 use Rattle.world_promise.specs.world_rules.Promised.{IsShown}

@@ -9,3 +9,11 @@ pub use Rattle.world_promise.specs as world_promise
 pub use Rattle.world_promise.specs.name_facts as name_facts
 pub use Rattle.world_promise.specs.volume_uses as volume_uses
 pub use Rattle.world_promise.specs.world_rules as world_rules
+pub use Rattle.world_promise.specs.chain_facts as chain_facts
+pub use Rattle.world_promise.specs.crash_spec as crash_spec
+pub use Rattle.world_promise.specs.disk_rules as disk_rules
+pub use Rattle.world_promise.specs.posix_facts as posix_facts
+pub use Rattle.world_promise.specs.posix_puts as posix_puts
+pub use Rattle.world_promise.specs.posix_spec as posix_spec
+pub use Rattle.world_promise.specs.posix_trees as posix_trees
+pub use Rattle.world_promise.specs.volume_facts as volume_facts

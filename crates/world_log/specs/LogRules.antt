@@ -7,12 +7,12 @@ use Rattle.std.proofs.lemmas.Option.{slice_get-get_or}
 use Rattle.pm_words.specs.Words.{Words}
 use Rattle.disk_places.specs.Places.{data_blocks, reserve}
 use Rattle.disk_lines.specs.declared.Draft.{Draft}
-use Rattle.disk_rules.specs.Live.{entry_in, is_live, is_of_file, live_entries}
-use Rattle.disk_rules.specs.Room.{held_after_recovery}
-use Rattle.disk_rules.specs.Rules.{AreApart, HasStagingBlocks}
-use Rattle.disk_rules.specs.Volume.{inode, Volume}
+use Rattle.world_promise.specs.disk_rules.Live.{entry_in, is_live, is_of_file, live_entries}
+use Rattle.world_promise.specs.disk_rules.Room.{held_after_recovery}
+use Rattle.world_promise.specs.disk_rules.Rules.{AreApart, HasStagingBlocks}
+use Rattle.world_promise.specs.disk_rules.Volume.{inode, Volume}
 use Rattle.posix_types.specs.declared.reply.Shape.{Shape}
-use Rattle.posix_spec.specs.State.{State}
+use Rattle.world_promise.specs.posix_spec.State.{State}
 use Rattle.list_facts.specs.Filters.{In-filter, In-map}
 use Rattle.list_facts.specs.Members.{In, In-slice_get, pushed-In}
 use Rattle.world_promise.specs.world_rules.Claims.{ClaimsStand}

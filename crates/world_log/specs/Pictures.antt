@@ -13,10 +13,10 @@ use Rattle.disk_places.specs.Places.{log_line}
 use Rattle.disk_lines.specs.declared.Draft.{Draft}
 use Rattle.disk_lines.specs.Entries.{decode_entry, encode_entry, held_seq, is_draft, is_self_valid}
 use Rattle.disk_lines.specs.EntryLaws.{decode_entry-encode_entry, FitsDraft, held_seq-decode_entry, held_seq-encode_entry}
-use Rattle.disk_rules.specs.Honest.{IsHonest, IsTorn}
-use Rattle.disk_rules.specs.Live.{entry_in}
-use Rattle.disk_rules.specs.Rules.{IsOfNoLater}
-use Rattle.disk_rules.specs.Volume.{Volume}
+use Rattle.world_promise.specs.disk_rules.Honest.{IsHonest, IsTorn}
+use Rattle.world_promise.specs.disk_rules.Live.{entry_in}
+use Rattle.world_promise.specs.disk_rules.Rules.{IsOfNoLater}
+use Rattle.world_promise.specs.disk_rules.Volume.{Volume}
 use Rattle.list_facts.specs.Members.{In}
 use Rattle.world_promise.specs.world_rules.Jobs.{Job}
 use Rattle.world_promise.specs.world_rules.Shown.{AreFilled, landed_pairs, ShowsClaims}

@@ -3,10 +3,10 @@ use Rattle.std.specs.Prelude.{◌≡◌, ◌≢◌, ◌≤◌, ◌<◌, ℕ, ◌
 use Rattle.pm_words.specs.Words.{Words}
 use Rattle.disk_places.specs.Places.{data_blocks, reserve}
 use Rattle.disk_lines.specs.declared.Draft.{Draft}
-use Rattle.disk_rules.specs.Live.{entry_in, is_live, is_of_file, live_entries}
-use Rattle.disk_rules.specs.Room.{held_after_recovery, unused_blocks}
-use Rattle.disk_rules.specs.Rules.{AreApart, HasStagingBlocks}
-use Rattle.disk_rules.specs.Volume.{Volume}
+use Rattle.world_promise.specs.disk_rules.Live.{entry_in, is_live, is_of_file, live_entries}
+use Rattle.world_promise.specs.disk_rules.Room.{held_after_recovery, unused_blocks}
+use Rattle.world_promise.specs.disk_rules.Rules.{AreApart, HasStagingBlocks}
+use Rattle.world_promise.specs.disk_rules.Volume.{Volume}
 use Rattle.world_promise.specs.world_rules.Jobs.{Job, live_claims}
 
 -- Live entries have their staging blocks, and share none; no two entries of one file have one order; and what files hold

@@ -10,11 +10,11 @@ use Rattle.disk_lines.specs.declared.Kind.TheVariants.{Free, Directory, File, St
 use Rattle.disk_lines.specs.Lines.{is_name, NameRow}
 use Rattle.disk_lines.specs.Names.{child_named, row, Rows}
 use Rattle.disk_lines.specs.TableLaws.{NamingLine-child_named}
-use Rattle.disk_rules.specs.Live.{is_directory}
-use Rattle.disk_rules.specs.Kept.{AreKept}
-use Rattle.disk_rules.specs.Rules.{IsKindAt}
-use Rattle.disk_rules.specs.Volume.{extents, inode, Volume}
-use Rattle.k_rules.specs.Changes.{dropped, gone_node, unnamed}
+use Rattle.world_steps.specs.disk_rules.Live.{is_directory}
+use Rattle.world_steps.specs.disk_rules.Kept.{AreKept}
+use Rattle.world_steps.specs.disk_rules.Rules.{IsKindAt}
+use Rattle.world_steps.specs.disk_rules.Volume.{extents, inode, Volume}
+use Rattle.world_steps.specs.k_rules.Changes.{dropped, gone_node, unnamed}
 use Rattle.world_steps.specs.name_facts.KeptLaws.{kept-placed}
 use Rattle.world_steps.specs.volume_changes.Changes.{MayUnname}
 use Rattle.world_steps.specs.volume_changes.FrameLaws.{dropped-inode, dropped-others}
@@ -24,7 +24,7 @@ use Rattle.posix_words.specs.declared.nodes.Node.{Node}
 use Rattle.posix_words.specs.Names.{without_entry}
 use Rattle.posix_words.specs.Nodes.{node_at}
 use Rattle.posix_words.specs.Open.{is_open}
-use Rattle.posix_spec.specs.State.{State}
+use Rattle.world_steps.specs.posix_spec.State.{State}
 use Rattle.world_steps.specs.posix_frames.Flights.{IsHeld-put}
 use Rattle.world_steps.specs.posix_frames.Needs.{AreInFlight}
 use Rattle.world_steps.specs.world_rules.Jobs.{Job, live_claims}

@@ -6,9 +6,9 @@ use Rattle.disk_lines.specs.declared.Draft.{Draft}
 use Rattle.disk_lines.specs.declared.Kind.TheVariants.{Directory, File}
 use Rattle.disk_lines.specs.Lines.{is_name}
 use Rattle.disk_lines.specs.Names.{free_line}
-use Rattle.disk_rules.specs.Volume.{inode, Volume}
-use Rattle.k_rules.specs.Changes.{dropped, made, removed, renamed, renamed_over_directory, renamed_over_file, unnamed}
-use Rattle.k_rules.specs.Spaces.{volume_space}
+use Rattle.world_steps.specs.disk_rules.Volume.{inode, Volume}
+use Rattle.world_steps.specs.k_rules.Changes.{dropped, made, removed, renamed, renamed_over_directory, renamed_over_file, unnamed}
+use Rattle.world_steps.specs.k_rules.Spaces.{volume_space}
 use Rattle.world_steps.specs.volume_changes.CallLaws.{row_to}
 use Rattle.world_steps.specs.volume_changes.FoundLaws.{IsLowestFree}
 use Rattle.world_steps.specs.volume_names.Paths.{CanReplace, IsNewAt, MayGo}
@@ -20,10 +20,10 @@ use Rattle.posix_words.specs.NameRows.{mkdir_rows, open_rows, rename_rows, rmdir
 use Rattle.posix_words.specs.Names.{exists_at, has_entries as has_entries_in, is_named, last_name}
 use Rattle.posix_words.specs.Open.{closed, is_full, is_open}
 use Rattle.posix_words.specs.Outcomes.{first}
-use Rattle.posix_spec.specs.FileRows.{close_rows, file_number}
-use Rattle.posix_spec.specs.Run.{after_call}
-use Rattle.posix_spec.specs.State.{alone, space, State, unnamed as unnamed_state}
-use Rattle.posix_spec.specs.Step.{is_busy, renamed as renamed_state}
+use Rattle.world_steps.specs.posix_spec.FileRows.{close_rows, file_number}
+use Rattle.world_steps.specs.posix_spec.Run.{after_call}
+use Rattle.world_steps.specs.posix_spec.State.{alone, space, State, unnamed as unnamed_state}
+use Rattle.world_steps.specs.posix_spec.Step.{is_busy, renamed as renamed_state}
 use Rattle.world_steps.specs.world_rules.Jobs.{Job}
 use Rattle.world_steps.specs.world_rules.Stands.{number}
 use Rattle.world_steps.specs.Makers.{renumbered}

@@ -13,3 +13,9 @@ pub use Rattle.world_steps.specs.volume_uses as volume_uses
 pub use Rattle.world_steps.specs.world_promise as world_promise
 pub use Rattle.world_steps.specs.world_rules as world_rules
 pub use Rattle.world_steps.specs.world_spaces as world_spaces
+pub use Rattle.world_steps.specs.crash_spec as crash_spec
+pub use Rattle.world_steps.specs.disk_rules as disk_rules
+pub use Rattle.world_steps.specs.k_rules as k_rules
+pub use Rattle.world_steps.specs.posix_puts as posix_puts
+pub use Rattle.world_steps.specs.posix_spec as posix_spec
+pub use Rattle.world_steps.specs.volume_facts as volume_facts

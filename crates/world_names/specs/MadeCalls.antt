@@ -10,20 +10,20 @@ use Rattle.disk_lines.specs.declared.Kind.{Kind}
 use Rattle.disk_lines.specs.declared.Kind.TheVariants.{Free, Directory, File, Staging}
 use Rattle.disk_lines.specs.Lines.{is_name, NameRow}
 use Rattle.disk_lines.specs.Names.{free_line}
-use Rattle.disk_rules.specs.Content.{size_by}
-use Rattle.disk_rules.specs.Live.{latest}
-use Rattle.disk_rules.specs.Volume.{inode, Volume}
-use Rattle.k_rules.specs.Changes.{made, new_node}
-use Rattle.k_rules.specs.Spaces.{volume_space}
+use Rattle.world_steps.specs.disk_rules.Content.{size_by}
+use Rattle.world_steps.specs.disk_rules.Live.{latest}
+use Rattle.world_steps.specs.disk_rules.Volume.{inode, Volume}
+use Rattle.world_steps.specs.k_rules.Changes.{made, new_node}
+use Rattle.world_steps.specs.k_rules.Spaces.{volume_space}
 use Rattle.posix_types.specs.declared.call.Call.{Call}
 use Rattle.posix_words.specs.declared.nodes.Node.{Node}
 use Rattle.posix_words.specs.NameRows.{mkdir_rows, open_rows}
 use Rattle.posix_words.specs.Names.{exists_at, last_name, node_at_path, number_at, parent_at, with_entry}
 use Rattle.posix_words.specs.Open.{is_full}
 use Rattle.posix_words.specs.Outcomes.{first}
-use Rattle.posix_spec.specs.Run.{after_call}
-use Rattle.posix_spec.specs.State.{alone, made as made_state, space, State, with_node}
-use Rattle.posix_spec.specs.Step.{empty_file, is_busy, mkdir_done, open_done, opening, stepped}
+use Rattle.world_steps.specs.posix_spec.Run.{after_call}
+use Rattle.world_steps.specs.posix_spec.State.{alone, made as made_state, space, State, with_node}
+use Rattle.world_steps.specs.posix_spec.Step.{empty_file, is_busy, mkdir_done, open_done, opening, stepped}
 use Rattle.world_steps.specs.volume_changes.CallLaws.{may-make, row_to}
 use Rattle.world_steps.specs.volume_changes.Changes.{MayMake}
 use Rattle.world_steps.specs.volume_changes.FoundLaws.{IsLowestFree}

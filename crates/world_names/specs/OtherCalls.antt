@@ -4,8 +4,8 @@ use Rattle.std.proofs.Common.{ap, ◌∙◌, sym, subst, inl, inr}
 use Rattle.std.proofs.lemmas.List.{get_or-set_other, get_or-set_same, length-set}
 use Rattle.pm_words.specs.Words.{Words}
 use Rattle.disk_lines.specs.declared.Draft.{Draft}
-use Rattle.disk_rules.specs.Volume.{Volume}
-use Rattle.k_rules.specs.Changes.{dropped}
+use Rattle.world_steps.specs.disk_rules.Volume.{Volume}
+use Rattle.world_steps.specs.k_rules.Changes.{dropped}
 use Rattle.posix_types.specs.declared.call.Call.{Call}
 use Rattle.posix_types.specs.declared.call.Who.{Who}
 use Rattle.posix_types.specs.declared.handle.Handle.{Handle}
@@ -15,13 +15,13 @@ use Rattle.posix_words.specs.Names.{is_named, number_at}
 use Rattle.posix_words.specs.Nodes.{node_at, published_node}
 use Rattle.posix_words.specs.Open.{closed, is_open}
 use Rattle.posix_words.specs.Outcomes.{first}
-use Rattle.posix_spec.specs.FileRows.{close_rows, file_number}
-use Rattle.posix_spec.specs.Run.{after_call}
-use Rattle.posix_spec.specs.State.{alone, made, space, State, swept, with_node, with_published}
-use Rattle.posix_spec.specs.Step.{close_done, empty_file, fsync_done, open_done, opening, pread_done, read_done, seek_done, dup_done, list_done, stat_done, stepped, Stepped}
+use Rattle.world_steps.specs.posix_spec.FileRows.{close_rows, file_number}
+use Rattle.world_steps.specs.posix_spec.Run.{after_call}
+use Rattle.world_steps.specs.posix_spec.State.{alone, made, space, State, swept, with_node, with_published}
+use Rattle.world_steps.specs.posix_spec.Step.{close_done, empty_file, fsync_done, open_done, opening, pread_done, read_done, seek_done, dup_done, list_done, stat_done, stepped, Stepped}
 use Rattle.world_steps.specs.posix_frames.Needs.{needs}
 use Rattle.world_steps.specs.posix_frames.Rooms.{FitsBeside}
-use Rattle.posix_facts.specs.RowLaws.{stepped-keeps}
+use Rattle.world_steps.specs.posix_facts.RowLaws.{stepped-keeps}
 use Rattle.world_steps.specs.world_rules.Jobs.{Job}
 use Rattle.world_steps.specs.world_rules.Stands.{is_used, IsUsed}
 use Rattle.world_steps.specs.world_promise.Landed.{NamesStand-same}

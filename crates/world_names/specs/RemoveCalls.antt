@@ -9,10 +9,10 @@ use Rattle.disk_lines.specs.declared.Kind.TheVariants.{Free, Directory, File, St
 use Rattle.disk_lines.specs.Lines.{NameRow}
 use Rattle.disk_lines.specs.Names.{child_named, has_entries, row}
 use Rattle.disk_lines.specs.TableLaws.{NamingLine-child_named}
-use Rattle.disk_rules.specs.Live.{is_directory}
-use Rattle.disk_rules.specs.Volume.{inode, Volume}
-use Rattle.k_rules.specs.Changes.{dropped, gone_node, removed, unnamed}
-use Rattle.k_rules.specs.Spaces.{volume_space}
+use Rattle.world_steps.specs.disk_rules.Live.{is_directory}
+use Rattle.world_steps.specs.disk_rules.Volume.{inode, Volume}
+use Rattle.world_steps.specs.k_rules.Changes.{dropped, gone_node, removed, unnamed}
+use Rattle.world_steps.specs.k_rules.Spaces.{volume_space}
 use Rattle.world_steps.specs.name_facts.RowLaws.{has_entries-parent}
 use Rattle.world_steps.specs.name_facts.SetLaws.{row-freed}
 use Rattle.world_steps.specs.volume_changes.CallLaws.{may-remove, may-unname}
@@ -26,9 +26,9 @@ use Rattle.posix_words.specs.NameRows.{rmdir_rows, unlink_rows}
 use Rattle.posix_words.specs.Names.{is_named, last_name, node_at_path, parent_at, without_entry}
 use Rattle.posix_words.specs.Open.{is_open}
 use Rattle.posix_words.specs.Outcomes.{first}
-use Rattle.posix_spec.specs.Run.{after_call}
-use Rattle.posix_spec.specs.State.{alone, space, State, swept, unnamed as unnamed_state, with_node}
-use Rattle.posix_spec.specs.Step.{rmdir_done, stepped, unlink_done}
+use Rattle.world_steps.specs.posix_spec.Run.{after_call}
+use Rattle.world_steps.specs.posix_spec.State.{alone, space, State, swept, unnamed as unnamed_state, with_node}
+use Rattle.world_steps.specs.posix_spec.Step.{rmdir_done, stepped, unlink_done}
 use Rattle.world_steps.specs.world_rules.Jobs.{Job, live_claims}
 use Rattle.world_steps.specs.world_rules.Stands.{is_used, IsSane, IsUsed, number}
 use Rattle.world_steps.specs.world_promise.TreeRules.{all_lines, used_below}

@@ -12,10 +12,10 @@ use Rattle.disk_lines.specs.declared.Kind.{Kind}
 use Rattle.disk_lines.specs.declared.Kind.TheVariants.{Free, Directory, File, Staging}
 use Rattle.disk_lines.specs.Lines.{is_name, NameRow}
 use Rattle.disk_lines.specs.Names.{child_named, is_entry, row, Rows}
-use Rattle.disk_rules.specs.Live.{is_directory}
-use Rattle.disk_rules.specs.Volume.{free_inode, inode, Volume}
-use Rattle.k_rules.specs.Changes.{dropped, gone_node, renamed, renamed_over_directory, renamed_over_file}
-use Rattle.k_rules.specs.Spaces.{volume_space}
+use Rattle.world_steps.specs.disk_rules.Live.{is_directory}
+use Rattle.world_steps.specs.disk_rules.Volume.{free_inode, inode, Volume}
+use Rattle.world_steps.specs.k_rules.Changes.{dropped, gone_node, renamed, renamed_over_directory, renamed_over_file}
+use Rattle.world_steps.specs.k_rules.Spaces.{volume_space}
 use Rattle.world_steps.specs.name_facts.KeptLaws.{kept-keyed}
 use Rattle.world_steps.specs.volume_changes.CallLaws.{may-rename, may-rename-over_directory, may-rename-over_file, row_to}
 use Rattle.world_steps.specs.volume_changes.Changes.{MayRenameOver}
@@ -31,9 +31,9 @@ use Rattle.posix_words.specs.declared.nodes.Node.{Node}
 use Rattle.posix_words.specs.NameRows.{rename_rows}
 use Rattle.posix_words.specs.Names.{directory_path, last_name, node_at_path, number_at}
 use Rattle.posix_words.specs.Outcomes.{first}
-use Rattle.posix_spec.specs.Run.{after_call}
-use Rattle.posix_spec.specs.State.{alone, space, State, swept, unnamed as unnamed_state, with_node}
-use Rattle.posix_spec.specs.Step.{rename_done, renamed as renamed_state, stepped}
+use Rattle.world_steps.specs.posix_spec.Run.{after_call}
+use Rattle.world_steps.specs.posix_spec.State.{alone, space, State, swept, unnamed as unnamed_state, with_node}
+use Rattle.world_steps.specs.posix_spec.Step.{rename_done, renamed as renamed_state, stepped}
 use Rattle.world_steps.specs.world_rules.Jobs.{Job, live_claims}
 use Rattle.world_steps.specs.world_rules.Stands.{is_used, IsSane, IsUsed, number}
 use Rattle.world_steps.specs.world_promise.TreeRules.{all_lines, used_below}

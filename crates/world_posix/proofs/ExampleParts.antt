@@ -16,13 +16,13 @@ use Rattle.disk_lines.specs.declared.Kind.{Kind}
 use Rattle.disk_lines.specs.declared.Kind.TheVariants.{Directory, File, Free, Staging}
 use Rattle.disk_lines.specs.Lines.{is_name, NameRow}
 use Rattle.disk_lines.specs.Names.{child_named, line_and_child, names_of, row, up}
-use Rattle.disk_rules.specs.Content.{byte_in, disk_of, size_of}
-use Rattle.disk_rules.specs.Kept.{IsNamedRow}
-use Rattle.disk_rules.specs.Live.{is_directory, is_file}
-use Rattle.disk_rules.specs.Placed.{block_at}
-use Rattle.disk_rules.specs.Rules.{file_blocks_of, HasOneName, HasStagingBlocks, IsInData, IsKindAt, IsNamedOnce, IsRowPlaced}
-use Rattle.disk_rules.specs.Uses.{owners}
-use Rattle.disk_rules.specs.Volume.{chain, extents, inode, Volume}
+use Rattle.world_images.specs.disk_rules.Content.{byte_in, disk_of, size_of}
+use Rattle.world_images.specs.disk_rules.Kept.{IsNamedRow}
+use Rattle.world_images.specs.disk_rules.Live.{is_directory, is_file}
+use Rattle.world_images.specs.disk_rules.Placed.{block_at}
+use Rattle.world_images.specs.disk_rules.Rules.{file_blocks_of, HasOneName, HasStagingBlocks, IsInData, IsKindAt, IsNamedOnce, IsRowPlaced}
+use Rattle.world_images.specs.disk_rules.Uses.{owners}
+use Rattle.world_images.specs.disk_rules.Volume.{chain, extents, inode, Volume}
 use Rattle.posix_words.specs.declared.nodes.DirEntry.{DirEntry}
 use Rattle.posix_words.specs.declared.nodes.Node.{Node}
 use Rattle.posix_words.specs.Names.{child_of}

@@ -9,23 +9,23 @@ use Rattle.extent_words.specs.Extents.{covers, disk_at}
 use Rattle.extent_facts.specs.Covers.{covers-disk_at}
 use Rattle.disk_lines.specs.declared.Draft.{Draft}
 use Rattle.disk_lines.specs.declared.Kind.TheVariants.{Directory, File}
-use Rattle.disk_rules.specs.Content.{disk_of, entry_of_block, size_of}
-use Rattle.disk_rules.specs.Placed.{block_at}
-use Rattle.disk_rules.specs.Rules.{HasStagingBlocks, IsInData}
-use Rattle.disk_rules.specs.Uses.{owners}
-use Rattle.disk_rules.specs.Volume.{chain}
+use Rattle.world_images.specs.disk_rules.Content.{disk_of, entry_of_block, size_of}
+use Rattle.world_images.specs.disk_rules.Placed.{block_at}
+use Rattle.world_images.specs.disk_rules.Rules.{HasStagingBlocks, IsInData}
+use Rattle.world_images.specs.disk_rules.Uses.{owners}
+use Rattle.world_images.specs.disk_rules.Volume.{chain}
 use Rattle.posix_words.specs.declared.nodes.Node.{Node}
 use Rattle.posix_words.specs.Names.{node_at_path, walk, with_entry, without_entry}
 use Rattle.posix_words.specs.NameRows.{mkdir_rows, unlink_rows}
 use Rattle.posix_words.specs.Nodes.{bytes_of, node_at}
 use Rattle.posix_words.specs.Open.{binding_of, key_of, opened, Tables}
-use Rattle.posix_spec.specs.FileRows.{truncate_rows, write_rows}
-use Rattle.posix_spec.specs.Put.{put_by}
-use Rattle.posix_spec.specs.Run.{begun, run}
-use Rattle.posix_spec.specs.State.{made, State, swept, unnamed, with_file, with_published}
-use Rattle.posix_spec.specs.Step.{fsync_done, mkdir_done, pwrite_done, truncate_done, unlink_done, written}
-use Rattle.crash_spec.specs.Posix.{IsLeft, LastBeforeCut, NodeLeft, Overwritten}
-use Rattle.crash_spec.specs.Values.{is_shortened, value_before_cut, value_put, values_put}
+use Rattle.world_images.specs.posix_spec.FileRows.{truncate_rows, write_rows}
+use Rattle.world_images.specs.posix_spec.Put.{put_by}
+use Rattle.world_images.specs.posix_spec.Run.{begun, run}
+use Rattle.world_images.specs.posix_spec.State.{made, State, swept, unnamed, with_file, with_published}
+use Rattle.world_images.specs.posix_spec.Step.{fsync_done, mkdir_done, pwrite_done, truncate_done, unlink_done, written}
+use Rattle.world_images.specs.crash_spec.Posix.{IsLeft, LastBeforeCut, NodeLeft, Overwritten}
+use Rattle.world_images.specs.crash_spec.Values.{is_shortened, value_before_cut, value_put, values_put}
 use Rattle.world_images.specs.world_rules.Stands.{IsUsed, LogStands, number, Stands}
 use Rattle.world_posix.specs.Example.{batch_b, batch_c, batch_d, batch_e, committed_c, committed_d, extent, kept_d, later_a, later_c, later_d, lost_call, lost_word, lost_words, no_tables, only_5, open_file, file_with, run_at, start_a, start_c, start_d, state_with, tables_p, volume_a, volume_with, words_p, world_a, world_b, world_c, world_d, world_e}
 use Rattle.world_posix.proofs.ExampleParts.{apart, apart_behind, chains_with, file_stands, files_with, fresh_with, has_bytes, log_none, log_one, mapped_with, names_once, names_with, nodes_with, sane_with, size_with, staging_with}

@@ -11,13 +11,13 @@ use Rattle.disk_places.specs.Journal.{journaled}
 use Rattle.disk_lines.specs.declared.Draft.{Draft}
 use Rattle.disk_lines.specs.declared.Inode.{Inode}
 use Rattle.disk_lines.specs.declared.Kind.TheVariants.{File}
-use Rattle.disk_rules.specs.Live.{entry_in}
-use Rattle.disk_rules.specs.Volume.{free_inode, inode, Volume}
+use Rattle.world_images.specs.disk_rules.Live.{entry_in}
+use Rattle.world_images.specs.disk_rules.Volume.{free_inode, inode, Volume}
 use Rattle.posix_types.specs.declared.call.Mode.{Mode}
 use Rattle.posix_words.specs.declared.nodes.Node.{Node}
 use Rattle.posix_words.specs.Nodes.{bytes_of, node_at, published_of}
-use Rattle.posix_spec.specs.State.{State}
-use Rattle.crash_spec.specs.Posix.{ByteRule, IsLeft, LastBeforeCut, LaterRule, NodeLeft, Overwritten}
+use Rattle.world_images.specs.posix_spec.State.{State}
+use Rattle.world_images.specs.crash_spec.Posix.{ByteRule, IsLeft, LastBeforeCut, LaterRule, NodeLeft, Overwritten}
 use Rattle.world_images.specs.world_rules.Stands.{is_used, NodeStands, number, Stands}
 use Rattle.world_images.specs.Images.{HasNoEntry, IsRunning, ShowsLog}
 use Rattle.world_posix.specs.Device.{at_rest, IsAllPublished, PosixRuns, ShowsPosixWorld}

@@ -6,15 +6,15 @@ use Rattle.pm_words.specs.Words.{Words}
 use Rattle.disk_places.specs.Journal.{journaled}
 use Rattle.disk_places.specs.Places.{data_blocks, IsGeometry, reserve}
 use Rattle.disk_lines.specs.declared.Inode.{Inode}
-use Rattle.disk_rules.specs.Room.{unused_blocks}
-use Rattle.disk_rules.specs.Rules.{IsOfNoLater}
-use Rattle.disk_rules.specs.Volume.{Volume}
-use Rattle.k_rules.specs.Stands.{Stands}
+use Rattle.world_images.specs.disk_rules.Room.{unused_blocks}
+use Rattle.world_images.specs.disk_rules.Rules.{IsOfNoLater}
+use Rattle.world_images.specs.disk_rules.Volume.{Volume}
+use Rattle.world_images.specs.k_rules.Stands.{Stands}
 use Rattle.posix_types.specs.declared.call.Mode.{Mode}
 use Rattle.posix_types.specs.declared.item.Item.{Item}
 use Rattle.posix_words.specs.Nodes.{bytes_of, node_at, published_of}
-use Rattle.posix_spec.specs.State.{Fits, State}
-use Rattle.crash_spec.specs.Posix.{LaterRule}
+use Rattle.world_images.specs.posix_spec.State.{Fits, State}
+use Rattle.world_images.specs.crash_spec.Posix.{LaterRule}
 use Rattle.world_images.specs.world_log.Rules.{HasFreeBlocks}
 use Rattle.world_images.specs.world_spaces.Counts.{HasShape}
 use Rattle.world_images.specs.Images.{HasNoEntry, IsHeaded}

@@ -3,16 +3,16 @@ use Rattle.std.specs.Prelude.{◌≡◌, ℕ, List, [], ◌∷◌, ◌++◌}
 use Rattle.pm_words.specs.declared.Cell.{Cell}
 use Rattle.pm_words.specs.Images.{IsImage}
 use Rattle.pm_words.specs.Words.{Words}
-use Rattle.disk_rules.specs.Content.{content, found}
-use Rattle.disk_rules.specs.Live.{live_entries}
-use Rattle.disk_rules.specs.Uses.{IsUnused}
-use Rattle.disk_rules.specs.Volume.{Volume}
+use Rattle.world_images.specs.disk_rules.Content.{content, found}
+use Rattle.world_images.specs.disk_rules.Live.{live_entries}
+use Rattle.world_images.specs.disk_rules.Uses.{IsUnused}
+use Rattle.world_images.specs.disk_rules.Volume.{Volume}
 use Rattle.posix_types.specs.declared.call.Mode.{Mode}
 use Rattle.posix_types.specs.declared.item.Item.{Item}
 use Rattle.posix_types.specs.declared.tree.TreeEntry.{TreeEntry}
-use Rattle.posix_spec.specs.Run.{Begun}
-use Rattle.posix_spec.specs.State.{State}
-use Rattle.crash_spec.specs.Posix.{LastBeforeCut, Overwritten, Posix, StrongPosix}
+use Rattle.world_images.specs.posix_spec.Run.{Begun}
+use Rattle.world_images.specs.posix_spec.State.{State}
+use Rattle.world_images.specs.crash_spec.Posix.{LastBeforeCut, Overwritten, Posix, StrongPosix}
 use Rattle.world_images.specs.world_rules.Shown.{IsTreeOfContent}
 use Rattle.world_images.specs.world_rules.Stands.{IsSane, Stands}
 use Rattle.world_images.specs.Images.{IsRunning}

@@ -4,12 +4,12 @@ use Rattle.std.proofs.Common.{arith, ◌∙◌, sym, subst}
 use Rattle.pm_words.specs.Words.{Words}
 use Rattle.disk_places.specs.Journal.{journaled}
 use Rattle.disk_places.specs.Places.{IsGeometry}
-use Rattle.disk_rules.specs.Reading.{Reads}
-use Rattle.volume_facts.specs.FootprintLaws.{content-own}
+use Rattle.world_images.specs.disk_rules.Reading.{Reads}
+use Rattle.world_images.specs.volume_facts.FootprintLaws.{content-own}
 use Rattle.posix_types.specs.declared.item.Item.{Item}
-use Rattle.posix_spec.specs.State.{State}
-use Rattle.crash_spec.specs.Permitted.{Permitted}
-use Rattle.crash_spec.specs.Posix.{LastBeforeCut, LaterRule, Overwritten}
+use Rattle.world_images.specs.posix_spec.State.{State}
+use Rattle.world_images.specs.crash_spec.Permitted.{Permitted}
+use Rattle.world_images.specs.crash_spec.Posix.{LastBeforeCut, LaterRule, Overwritten}
 use Rattle.world_images.specs.world_rules.Shown.{IsTreeOfContent}
 use Rattle.world_images.specs.world_log.Rules.{HasFreeBlocks}
 use Rattle.world_images.specs.world_steps.Worlds.{IsWorld}

@@ -16,16 +16,16 @@ use Rattle.extent_words.specs.Extents.{disk_at}
 use Rattle.disk_lines.specs.declared.Draft.{Draft}
 use Rattle.disk_lines.specs.declared.Inode.{Inode}
 use Rattle.disk_lines.specs.declared.Kind.TheVariants.{File, Staging}
-use Rattle.disk_rules.specs.Content.{disk_of, entry_of_block, size_of}
-use Rattle.disk_rules.specs.Placed.{block_at}
-use Rattle.disk_rules.specs.Volume.{chain, extents, inode, Volume}
+use Rattle.world_images.specs.disk_rules.Content.{disk_of, entry_of_block, size_of}
+use Rattle.world_images.specs.disk_rules.Placed.{block_at}
+use Rattle.world_images.specs.disk_rules.Volume.{chain, extents, inode, Volume}
 use Rattle.posix_types.specs.declared.item.Item.{Item}
 use Rattle.posix_words.specs.declared.nodes.Node.{Node}
 use Rattle.posix_words.specs.Nodes.{bytes_of, node_at, published_of}
-use Rattle.posix_spec.specs.Run.{Begun, begun, run}
-use Rattle.posix_spec.specs.State.{State}
-use Rattle.crash_spec.specs.Posix.{ByteRule, IsLeft, LaterRule, syncs}
-use Rattle.crash_spec.specs.Values.{is_shortened, value_put}
+use Rattle.world_images.specs.posix_spec.Run.{Begun, begun, run}
+use Rattle.world_images.specs.posix_spec.State.{State}
+use Rattle.world_images.specs.crash_spec.Posix.{ByteRule, IsLeft, LaterRule, syncs}
+use Rattle.world_images.specs.crash_spec.Values.{is_shortened, value_put}
 use Rattle.world_images.specs.world_rules.Stands.{IsUsed, number, Stands}
 
 -- The volume that was committed last and that of the open batch, each with the nodes of its inodes; the runs that are staged and

@@ -5,11 +5,11 @@ use Rattle.std.proofs.Common.{ap, ◌∙◌, sym, subst}
 use Rattle.disk_lines.specs.declared.Inode.{Inode}
 use Rattle.disk_lines.specs.Lines.{NameRow}
 use Rattle.disk_lines.specs.Names.{row}
-use Rattle.disk_rules.specs.Kept.{IsNamedRow}
-use Rattle.disk_rules.specs.Live.{is_directory, is_file}
-use Rattle.disk_rules.specs.Rules.{file_blocks_of, IsInData, IsKindAt, IsRowPlaced}
-use Rattle.disk_rules.specs.Uses.{owners, uses_by}
-use Rattle.disk_rules.specs.Volume.{chain, extents, free_inode, inode, Volume}
+use Rattle.world_images.specs.disk_rules.Kept.{IsNamedRow}
+use Rattle.world_images.specs.disk_rules.Live.{is_directory, is_file}
+use Rattle.world_images.specs.disk_rules.Rules.{file_blocks_of, IsInData, IsKindAt, IsRowPlaced}
+use Rattle.world_images.specs.disk_rules.Uses.{owners, uses_by}
+use Rattle.world_images.specs.disk_rules.Volume.{chain, extents, free_inode, inode, Volume}
 use Rattle.world_posix.specs.Laws.{KeepsSane}
 use Rattle.world_posix.specs.Sides.{sized, with_sizes}
 

@@ -8,22 +8,22 @@ use Rattle.disk_lines.specs.declared.Draft.{Draft}
 use Rattle.disk_lines.specs.declared.Kind.TheVariants.{Free, Staging}
 use Rattle.extent_words.specs.Extents.{disk_at, is_within}
 use Rattle.extent_facts.specs.Covers.{covers-disk_at}
-use Rattle.disk_rules.specs.Content.{disk_by, entry_of_block, found}
-use Rattle.disk_rules.specs.Live.{live_entries}
-use Rattle.disk_rules.specs.Rules.{IsNamedOnce}
-use Rattle.disk_rules.specs.Volume.{chain, extents, free_inode, inode, Volume}
+use Rattle.world_images.specs.disk_rules.Content.{disk_by, entry_of_block, found}
+use Rattle.world_images.specs.disk_rules.Live.{live_entries}
+use Rattle.world_images.specs.disk_rules.Rules.{IsNamedOnce}
+use Rattle.world_images.specs.disk_rules.Volume.{chain, extents, free_inode, inode, Volume}
 use Rattle.world_images.specs.volume_uses.OwnerLaws.{IsOnePlace, no_chain_has, one_owner}
 use Rattle.posix_types.specs.declared.item.Item.{Item}
 use Rattle.posix_types.specs.declared.tree.TreeEntry.{TreeEntry}
 use Rattle.posix_words.specs.declared.nodes.Node.{Node}
 use Rattle.posix_words.specs.Nodes.{node_at}
-use Rattle.posix_spec.specs.Run.{Begun, begun, run}
-use Rattle.posix_spec.specs.State.{State}
-use Rattle.posix_spec.specs.Tree.{tree}
-use Rattle.posix_trees.specs.Paths.{stands_at}
-use Rattle.posix_trees.specs.TreeOf.{IsTreeOf-same, IsTreeOf-tree}
-use Rattle.crash_spec.specs.Posix.{ByteRule, IsLeft, LaterRule, LastBeforeCut, NodeLeft, OrUnfinished, Overwritten, PosixBy}
-use Rattle.crash_spec.specs.Values.{is_shortened, value_before_cut, values_put}
+use Rattle.world_images.specs.posix_spec.Run.{Begun, begun, run}
+use Rattle.world_images.specs.posix_spec.State.{State}
+use Rattle.world_images.specs.posix_spec.Tree.{tree}
+use Rattle.world_images.specs.posix_trees.Paths.{stands_at}
+use Rattle.world_images.specs.posix_trees.TreeOf.{IsTreeOf-same, IsTreeOf-tree}
+use Rattle.world_images.specs.crash_spec.Posix.{ByteRule, IsLeft, LaterRule, LastBeforeCut, NodeLeft, OrUnfinished, Overwritten, PosixBy}
+use Rattle.world_images.specs.crash_spec.Values.{is_shortened, value_before_cut, values_put}
 use Rattle.list_facts.specs.Filters.{filter-In}
 use Rattle.world_images.specs.world_rules.Shown.{IsTreeOfContent}
 use Rattle.world_images.specs.world_rules.Stands.{is_used, IsSane, Stands}

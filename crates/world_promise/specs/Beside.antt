@@ -16,17 +16,17 @@ use Rattle.posix_words.specs.Nodes.{bytes_of, node_at, published_of}
 use Rattle.posix_words.specs.Open.{key_of, opened, Tables, with_offset}
 use Rattle.posix_words.specs.Outcomes.{first}
 use Rattle.posix_words.specs.Room.{growth, held, staged_below}
-use Rattle.posix_spec.specs.FileRows.{content, file_number, write_rows, write_start}
-use Rattle.posix_spec.specs.Put.{put_at, put_by}
-use Rattle.posix_spec.specs.Run.{after_call, Begun}
-use Rattle.posix_spec.specs.State.{alone, Fits, room, State, with_file}
-use Rattle.posix_spec.specs.Step.{pwrite_done, step, stepped, write_done, written}
-use Rattle.posix_facts.specs.FitsLaws.{length-overwritten}
-use Rattle.posix_facts.specs.RowLaws.{put_at-Some, rows-from_Accepts}
-use Rattle.crash_spec.specs.Sync.{with_bytes}
-use Rattle.posix_puts.specs.Puts.{LeavesWhole, put_bytes, PutsWhole, with_whole}
-use Rattle.posix_puts.specs.PutLaws.{LeavesWhole-step}
-use Rattle.posix_puts.specs.Views.{KeepsView, need_of, SameView}
+use Rattle.world_rules.specs.posix_spec.FileRows.{content, file_number, write_rows, write_start}
+use Rattle.world_rules.specs.posix_spec.Put.{put_at, put_by}
+use Rattle.world_rules.specs.posix_spec.Run.{after_call, Begun}
+use Rattle.world_rules.specs.posix_spec.State.{alone, Fits, room, State, with_file}
+use Rattle.world_rules.specs.posix_spec.Step.{pwrite_done, step, stepped, write_done, written}
+use Rattle.world_rules.specs.posix_facts.FitsLaws.{length-overwritten}
+use Rattle.world_rules.specs.posix_facts.RowLaws.{put_at-Some, rows-from_Accepts}
+use Rattle.world_rules.specs.crash_spec.Sync.{with_bytes}
+use Rattle.world_rules.specs.posix_puts.Puts.{LeavesWhole, put_bytes, PutsWhole, with_whole}
+use Rattle.world_rules.specs.posix_puts.PutLaws.{LeavesWhole-step}
+use Rattle.world_rules.specs.posix_puts.Views.{KeepsView, need_of, SameView}
 
 -- Tables.
 

@@ -13,19 +13,19 @@ use Rattle.disk_lines.specs.declared.Kind.{Kind}
 use Rattle.disk_lines.specs.declared.Kind.TheVariants.{Free, Directory, File, Staging}
 use Rattle.disk_lines.specs.Names.{child_named}
 use Rattle.disk_lines.specs.Names as lines
-use Rattle.disk_rules.specs.Content as shown
-use Rattle.disk_rules.specs.Content.{byte_in, bytes_of_file, disk_by, disk_of, entry_of_block, found, HasBytes, IsDirectory, node_by, size_by, size_of}
-use Rattle.disk_rules.specs.Volume.{inode, Volume}
+use Rattle.name_facts.specs.disk_rules.Content as shown
+use Rattle.name_facts.specs.disk_rules.Content.{byte_in, bytes_of_file, disk_by, disk_of, entry_of_block, found, HasBytes, IsDirectory, node_by, size_by, size_of}
+use Rattle.name_facts.specs.disk_rules.Volume.{inode, Volume}
 use Rattle.posix_types.specs.declared.tree.TreeEntry.{TreeEntry}
 use Rattle.posix_types.specs.declared.tree.TreeNode.{TreeNode}
 use Rattle.posix_words.specs.declared.nodes.Node.{Node}
 use Rattle.posix_words.specs.Names.{child_of}
 use Rattle.posix_words.specs.Nodes.{node_at}
 use Rattle.posix_words.specs.Places.{tree_node}
-use Rattle.posix_spec.specs.State.{State}
+use Rattle.world_rules.specs.posix_spec.State.{State}
 use Rattle.list_facts.specs.Filters.{filter-both, filter-In, In-filter}
-use Rattle.posix_trees.specs.Paths.{stands_at, walk_down}
-use Rattle.posix_trees.specs.TreeOf.{IsTreeOf}
+use Rattle.world_rules.specs.posix_trees.Paths.{stands_at, walk_down}
+use Rattle.world_rules.specs.posix_trees.TreeOf.{IsTreeOf}
 use Rattle.world_rules.specs.Shown.{IsTreeOfContent, shown_as}
 use Rattle.world_rules.specs.Stands.{entries_of, FileStands, IsUsed, NodeStands, number, Stands}
 use Rattle.world_promise.specs.Latest.{latest-same_members, OneOrderEach, OneOrderEach-filter, SameMembers}

@@ -7,20 +7,20 @@ use Rattle.std.proofs.lemmas.List.Sums.{sum_by-cons}
 use Rattle.pm_words.specs.Words.{Words}
 use Rattle.disk_lines.specs.declared.Draft.{Draft}
 use Rattle.disk_lines.specs.declared.Kind.TheVariants.{File}
-use Rattle.disk_rules.specs.Content.{byte_in}
-use Rattle.disk_rules.specs.Live.{is_file, is_live, is_of_file}
-use Rattle.disk_rules.specs.Rules.{AreApart}
-use Rattle.disk_rules.specs.Volume.{inode, Volume}
+use Rattle.name_facts.specs.disk_rules.Content.{byte_in}
+use Rattle.name_facts.specs.disk_rules.Live.{is_file, is_live, is_of_file}
+use Rattle.name_facts.specs.disk_rules.Rules.{AreApart}
+use Rattle.name_facts.specs.disk_rules.Volume.{inode, Volume}
 use Rattle.posix_words.specs.declared.nodes.Node.{Node}
 use Rattle.posix_words.specs.Nodes.{bytes_of, node_at}
-use Rattle.posix_spec.specs.Run.{after_call, Begun}
-use Rattle.posix_spec.specs.State.{room, State}
-use Rattle.crash_spec.specs.Sync.{IsPartOf, with_bytes}
+use Rattle.world_rules.specs.posix_spec.Run.{after_call, Begun}
+use Rattle.world_rules.specs.posix_spec.State.{room, State}
+use Rattle.world_rules.specs.crash_spec.Sync.{IsPartOf, with_bytes}
 use Rattle.list_facts.specs.Filters.{filter-more}
 use Rattle.list_facts.specs.Members.{pushed-In}
-use Rattle.posix_puts.specs.Puts.{LeavesWhole, with_whole}
-use Rattle.posix_puts.specs.ViewLaws.{need_of-kept, PutsWhole-kept}
-use Rattle.posix_puts.specs.Views.{KeepsView, need_of}
+use Rattle.world_rules.specs.posix_puts.Puts.{LeavesWhole, with_whole}
+use Rattle.world_rules.specs.posix_puts.ViewLaws.{need_of-kept, PutsWhole-kept}
+use Rattle.world_rules.specs.posix_puts.Views.{KeepsView, need_of}
 use Rattle.world_rules.specs.Jobs.{ApartFrom, AreApartJobs, begun_of, HoldsWhole, Job, JobsStand, JobStands, live_claims, Valid}
 use Rattle.world_rules.specs.Promised.{Acts}
 use Rattle.world_rules.specs.Stands.{is_used, IsUsed, number, Stands}

@@ -9,18 +9,18 @@ use Rattle.extent_words.specs.Extents.{is_within}
 use Rattle.disk_lines.specs.declared.Draft.{Draft}
 use Rattle.disk_lines.specs.declared.Kind.{Kind}
 use Rattle.disk_lines.specs.declared.Kind.TheVariants.{Free, Directory, File, Staging}
-use Rattle.disk_rules.specs.Content.{byte_in, disk_by, disk_of, size_by, size_of}
-use Rattle.disk_rules.specs.Live.{is_file, latest}
-use Rattle.disk_rules.specs.Rules.{AreApart, HasStagingBlocks}
-use Rattle.disk_rules.specs.Volume.{inode, Volume}
+use Rattle.name_facts.specs.disk_rules.Content.{byte_in, disk_by, disk_of, size_by, size_of}
+use Rattle.name_facts.specs.disk_rules.Live.{is_file, latest}
+use Rattle.name_facts.specs.disk_rules.Rules.{AreApart, HasStagingBlocks}
+use Rattle.name_facts.specs.disk_rules.Volume.{inode, Volume}
 use Rattle.posix_words.specs.declared.nodes.Node.{Node}
 use Rattle.posix_words.specs.Lookups.{AreDistinct}
 use Rattle.posix_words.specs.Names.{child_of}
 use Rattle.posix_words.specs.Nodes.{node_at}
-use Rattle.posix_spec.specs.State.{State}
+use Rattle.world_rules.specs.posix_spec.State.{State}
 use Rattle.list_facts.specs.Filters.{filter-In, filter-more, filter-same, In-filter}
 use Rattle.list_facts.specs.Members.{In, pushed-In}
-use Rattle.posix_puts.specs.Puts.{LeavesWhole, with_whole}
+use Rattle.world_rules.specs.posix_puts.Puts.{LeavesWhole, with_whole}
 use Rattle.world_rules.specs.Jobs.{HoldsWhole, staged_block}
 use Rattle.world_rules.specs.Stands.{Consecutive, entries_of, FileStands, is_used, IsUsed, LogStands, NamesStand, NodeStands, number, Stands}
 use Rattle.world_promise.specs.Latest.{AreBelow, AreBelow-Consecutive, Consecutive-append, latest-append_last}

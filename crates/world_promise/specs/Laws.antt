@@ -2,13 +2,13 @@
 use Rattle.std.specs.Prelude.{ℕ, List, [], ◌∷◌, ◌++◌, map, Option}
 use Rattle.pm_words.specs.Words.{Words}
 use Rattle.disk_lines.specs.declared.Draft.{Draft}
-use Rattle.disk_rules.specs.Volume.{Volume}
+use Rattle.name_facts.specs.disk_rules.Volume.{Volume}
 use Rattle.posix_types.specs.declared.item.Item.{Item}
 use Rattle.posix_types.specs.declared.tree.TreeEntry.{TreeEntry}
-use Rattle.posix_spec.specs.Run.{Begun, run}
-use Rattle.posix_spec.specs.State.{State}
-use Rattle.crash_spec.specs.Strict.{Strict}
-use Rattle.crash_spec.specs.Sync.{Sync}
+use Rattle.world_rules.specs.posix_spec.Run.{Begun, run}
+use Rattle.world_rules.specs.posix_spec.State.{State}
+use Rattle.world_rules.specs.crash_spec.Strict.{Strict}
+use Rattle.world_rules.specs.crash_spec.Sync.{Sync}
 use Rattle.world_rules.specs.Jobs.{begun_of, Job, Valid}
 use Rattle.world_rules.specs.Promised.{AreWhole, content_shown, IsShown}
 use Rattle.world_rules.specs.Shown.{IsTreeOfContent}

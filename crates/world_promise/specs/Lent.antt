@@ -10,13 +10,13 @@ use Rattle.extent_facts.specs.Covers.{covers-disk_at}
 use Rattle.disk_lines.specs.declared.Draft.{Draft}
 use Rattle.disk_lines.specs.declared.Kind.{Kind}
 use Rattle.disk_lines.specs.declared.Kind.TheVariants.{Free, Staging}
-use Rattle.disk_rules.specs.Content.{byte_in, disk_by, disk_of, entry_of_block}
-use Rattle.disk_rules.specs.Rules.{AreApart, file_blocks_of, IsNamedOnce}
-use Rattle.disk_rules.specs.Volume.{extents, free_inode, inode, Volume}
+use Rattle.name_facts.specs.disk_rules.Content.{byte_in, disk_by, disk_of, entry_of_block}
+use Rattle.name_facts.specs.disk_rules.Rules.{AreApart, file_blocks_of, IsNamedOnce}
+use Rattle.name_facts.specs.disk_rules.Volume.{extents, free_inode, inode, Volume}
 use Rattle.volume_uses.specs.OwnerLaws.{IsOnePlace, one_owner}
 use Rattle.volume_uses.specs.PoolLaws.{covered-in_data}
 use Rattle.posix_words.specs.Nodes.{node_at}
-use Rattle.posix_spec.specs.State.{State}
+use Rattle.world_rules.specs.posix_spec.State.{State}
 use Rattle.list_facts.specs.Filters.{filter-In}
 use Rattle.list_facts.specs.Members.{In}
 use Rattle.world_rules.specs.Jobs.{IsStagedIn, Job, JobsStand, live_claims, Valid}

@@ -11,3 +11,11 @@ pub mod Promise
 pub use Rattle.name_facts.specs as name_facts
 pub use Rattle.volume_uses.specs as volume_uses
 pub use Rattle.world_rules.specs as world_rules
+pub use Rattle.name_facts.specs.chain_facts as chain_facts
+pub use Rattle.name_facts.specs.disk_rules as disk_rules
+pub use Rattle.name_facts.specs.volume_facts as volume_facts
+pub use Rattle.world_rules.specs.crash_spec as crash_spec
+pub use Rattle.world_rules.specs.posix_facts as posix_facts
+pub use Rattle.world_rules.specs.posix_puts as posix_puts
+pub use Rattle.world_rules.specs.posix_spec as posix_spec
+pub use Rattle.world_rules.specs.posix_trees as posix_trees

@@ -3,15 +3,15 @@ use Rattle.std.specs.Prelude.{ℕ, List, Option}
 use Rattle.std.proofs.Common.{subst}
 use Rattle.pm_words.specs.Words.{Words}
 use Rattle.disk_lines.specs.declared.Draft.{Draft}
-use Rattle.disk_rules.specs.Content as shown
-use Rattle.disk_rules.specs.Content.{found}
-use Rattle.disk_rules.specs.Volume.{Volume}
+use Rattle.name_facts.specs.disk_rules.Content as shown
+use Rattle.name_facts.specs.disk_rules.Content.{found}
+use Rattle.name_facts.specs.disk_rules.Volume.{Volume}
 use Rattle.posix_types.specs.declared.tree.TreeEntry.{TreeEntry}
-use Rattle.posix_spec.specs.Run.{run}
-use Rattle.posix_spec.specs.State.{State}
-use Rattle.posix_spec.specs.Tree.{tree}
-use Rattle.posix_trees.specs.TreeOf.{IsTreeOf-same, IsTreeOf-tree}
-use Rattle.posix_trees.specs.Paths.{stands_at}
+use Rattle.world_rules.specs.posix_spec.Run.{run}
+use Rattle.world_rules.specs.posix_spec.State.{State}
+use Rattle.world_rules.specs.posix_spec.Tree.{tree}
+use Rattle.world_rules.specs.posix_trees.TreeOf.{IsTreeOf-same, IsTreeOf-tree}
+use Rattle.world_rules.specs.posix_trees.Paths.{stands_at}
 use Rattle.world_rules.specs.Jobs.{Job, Valid}
 use Rattle.world_rules.specs.Promised.{content_shown, IsShown, LeftBy}
 use Rattle.world_rules.specs.Shown.{IsTreeOfContent}

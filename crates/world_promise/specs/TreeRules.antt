@@ -12,16 +12,16 @@ use Rattle.disk_lines.specs.Lines.{is_dots, is_name, is_name_byte, line_name_byt
 use Rattle.disk_lines.specs.Names.{child_named, is_child, parent_of, row, up}
 use Rattle.disk_lines.specs.TableLaws.{child_named-NamingLine, NamingLine-child_named, NamingLine-parent_of}
 use Rattle.disk_lines.specs.Tables.{NamingLine}
-use Rattle.disk_rules.specs.Live.{is_directory, is_file}
-use Rattle.disk_rules.specs.Volume.{free_inode, inode, Volume}
+use Rattle.name_facts.specs.disk_rules.Live.{is_directory, is_file}
+use Rattle.name_facts.specs.disk_rules.Volume.{free_inode, inode, Volume}
 use Rattle.name_facts.specs.KeptLaws.{HasAllLines, kept-keyed, kept-named, kept-one_name, kept-placed}
 use Rattle.name_facts.specs.RowLaws.{names_of-one_line, names_of-zero}
 use Rattle.posix_words.specs.declared.nodes.DirEntry.{DirEntry}
 use Rattle.posix_words.specs.Names.{child_of}
-use Rattle.posix_spec.specs.State.{State}
+use Rattle.world_rules.specs.posix_spec.State.{State}
 use Rattle.list_facts.specs.Members.{In}
-use Rattle.posix_trees.specs.Entries.{child_of-In, IsDeep, IsTreeLike, Leads-child_of}
-use Rattle.posix_trees.specs.Paths.{HasNoSlash, IsFilled, IsPlainName}
+use Rattle.world_rules.specs.posix_trees.Entries.{child_of-In, IsDeep, IsTreeLike, Leads-child_of}
+use Rattle.world_rules.specs.posix_trees.Paths.{HasNoSlash, IsFilled, IsPlainName}
 use Rattle.world_rules.specs.Stands.{is_used, IsSane, IsUsed, NamesStand, number}
 
 pub all_lines : (v : Volume) → IsSane v → HasAllLines v

@@ -11,21 +11,21 @@ use Rattle.disk_places.specs.Journal.{is_journal_word, journaled}
 use Rattle.disk_places.specs.PlaceLaws.{behind_log-words, log_line-not_journaled}
 use Rattle.disk_places.specs.Places.{commit_word, first_data, Geometry, is_data_block, is_journaled_line, log_line}
 use Rattle.extent_words.specs.Extents.{covers}
-use Rattle.disk_rules.specs.Content.{content, disk_of}
-use Rattle.disk_rules.specs.Kept.{AreKept}
-use Rattle.disk_rules.specs.Live.{is_file, live_entries}
-use Rattle.disk_rules.specs.Placed.{block_at, IsOutside}
-use Rattle.disk_rules.specs.Reading.{Reads}
-use Rattle.disk_rules.specs.Rules.{file_blocks_of}
-use Rattle.disk_rules.specs.Volume.{extents, inode, Volume}
+use Rattle.live_facts.specs.disk_rules.Content.{content, disk_of}
+use Rattle.live_facts.specs.disk_rules.Kept.{AreKept}
+use Rattle.live_facts.specs.disk_rules.Live.{is_file, live_entries}
+use Rattle.live_facts.specs.disk_rules.Placed.{block_at, IsOutside}
+use Rattle.live_facts.specs.disk_rules.Reading.{Reads}
+use Rattle.live_facts.specs.disk_rules.Rules.{file_blocks_of}
+use Rattle.live_facts.specs.disk_rules.Volume.{extents, inode, Volume}
 use Rattle.k_split.specs.k_land.LandingLaws.{idle-image}
-use Rattle.k_rules.specs.Stands.{IsOldOrNew, Stands}
+use Rattle.live_facts.specs.k_rules.Stands.{IsOldOrNew, Stands}
 use Rattle.k_split.specs.MapChanges.{ChangesMaps}
-use Rattle.volume_facts.specs.Footprint.{SameData, SameLog}
-use Rattle.volume_facts.specs.FootprintLaws.{content-own, content-read, disk_of-covered}
-use Rattle.volume_facts.specs.ImageLaws.{journaled-idle, journaled-other}
-use Rattle.volume_facts.specs.LineWords.{data_word, data_word-not_journaled}
-use Rattle.volume_facts.specs.SetLaws.{block-outside}
+use Rattle.live_facts.specs.volume_facts.Footprint.{SameData, SameLog}
+use Rattle.live_facts.specs.volume_facts.FootprintLaws.{content-own, content-read, disk_of-covered}
+use Rattle.live_facts.specs.volume_facts.ImageLaws.{journaled-idle, journaled-other}
+use Rattle.live_facts.specs.volume_facts.LineWords.{data_word, data_word-not_journaled}
+use Rattle.live_facts.specs.volume_facts.SetLaws.{block-outside}
 use Rattle.live_facts.specs.volume_uses.PoolLaws.{covered-in_data}
 use Rattle.live_facts.specs.world_promise.Landed.{kind_file}
 use Rattle.live_facts.specs.Logs.{HasSameFiles}

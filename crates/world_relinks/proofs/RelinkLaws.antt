@@ -6,23 +6,23 @@ use Rattle.std.proofs.lemmas.List.{length-set}
 use Rattle.pm_words.specs.ImageLaws.{IsImage-words_of}
 use Rattle.pm_words.specs.Images.{words_of}
 use Rattle.block_counts.specs.Counts.{chains_for}
-use Rattle.chain_facts.specs.ChainLaws.{length-blocks_from}
+use Rattle.live_facts.specs.chain_facts.ChainLaws.{length-blocks_from}
 use Rattle.disk_places.specs.Journal.{journaled}
 use Rattle.disk_lines.specs.declared.Inode.{Inode}
 use Rattle.disk_lines.specs.declared.Kind.TheVariants.{File, Staging}
-use Rattle.disk_rules.specs.Reading.{inode_set, Reads}
-use Rattle.disk_rules.specs.Rules.{file_blocks_of}
-use Rattle.disk_rules.specs.Volume.{chain, extents, inode, Volume}
+use Rattle.live_facts.specs.disk_rules.Reading.{inode_set, Reads}
+use Rattle.live_facts.specs.disk_rules.Rules.{file_blocks_of}
+use Rattle.live_facts.specs.disk_rules.Volume.{chain, extents, inode, Volume}
 use Rattle.extent_words.specs.declared.Extent.{Extent}
 use Rattle.extent_words.specs.Extents.{disk_at, IsCanonical, is_within}
 use Rattle.k_split.specs.k_map_plans.Plans.{MayMove}
 use Rattle.k_split.specs.k_plans.Whole.{IsWhole}
-use Rattle.k_rules.specs.View.{View}
+use Rattle.live_facts.specs.k_rules.View.{View}
 use Rattle.k_split.specs.Order.{IsInOrder}
-use Rattle.map_rules.specs.Changes.{IsMoved, with_length}
-use Rattle.map_rules.specs.Taken.{switched, with_map}
-use Rattle.map_rules.specs.declared.moves.Move.{Move}
-use Rattle.volume_facts.specs.Changes.{chain-set_other, chain-set_same, extents-set_other, extents-set_same, inode-set_other, inode-set_same}
+use Rattle.k_split.specs.map_rules.Changes.{IsMoved, with_length}
+use Rattle.k_split.specs.map_rules.Taken.{switched, with_map}
+use Rattle.k_split.specs.map_rules.declared.moves.Move.{Move}
+use Rattle.live_facts.specs.volume_facts.Changes.{chain-set_other, chain-set_same, extents-set_other, extents-set_same, inode-set_other, inode-set_same}
 use Rattle.map_facts.specs.volume_maps.Shorts.{AreBelow, mapped-below}
 use Rattle.map_facts.specs.volume_maps.Lengths.{chain-left as chain-shrinks, chain-linked as chain-grows}
 

@@ -8,18 +8,18 @@ use Rattle.disk_lines.specs.declared.Draft.{Draft}
 use Rattle.disk_lines.specs.declared.Inode.{Inode}
 use Rattle.disk_lines.specs.declared.Kind.TheVariants.{Staging}
 use Rattle.disk_places.specs.Journal.{journaled}
-use Rattle.disk_rules.specs.Live.{is_file, is_live, valid_entries}
-use Rattle.disk_rules.specs.Volume.{chain, extents, inode, Volume}
+use Rattle.live_facts.specs.disk_rules.Live.{is_file, is_live, valid_entries}
+use Rattle.live_facts.specs.disk_rules.Volume.{chain, extents, inode, Volume}
 use Rattle.extent_words.specs.declared.Extent.{Extent}
 use Rattle.k_split.specs.k_map_plans.Plans.{IsStagingFile}
 use Rattle.k_split.specs.k_plans.Whole.{IsWhole}
-use Rattle.k_rules.specs.View.{View}
+use Rattle.live_facts.specs.k_rules.View.{View}
 use Rattle.k_split.specs.MapChanges.{is_free_in, IsPreallocatedWith}
 use Rattle.k_split.specs.Order.{IsInOrder}
 use Rattle.list_facts.specs.Filters.{filter-In, In-filter}
-use Rattle.map_rules.specs.Changes.{aged, given_up}
-use Rattle.map_rules.specs.Taken.{switched, with_map}
-use Rattle.volume_facts.specs.Changes.{chain-set_same, extents-set_other, inode-set_other, inode-set_same}
+use Rattle.k_split.specs.map_rules.Changes.{aged, given_up}
+use Rattle.k_split.specs.map_rules.Taken.{switched, with_map}
+use Rattle.live_facts.specs.volume_facts.Changes.{chain-set_same, extents-set_other, inode-set_other, inode-set_same}
 use Rattle.live_facts.specs.world_rules.Stands.{IsSane}
 use Rattle.live_facts.specs.world_runs.Restages.{Restages}
 use Rattle.world_relinks.specs.Laws.{GivesRestagesFilled, GivesRestagesGivenUp, KeepsContentFilled, KeepsContentGivenUp, StaysDeadGivenUp}

@@ -6,7 +6,7 @@ use Rattle.std.proofs.lemmas.List.{get_or_past}
 use Rattle.pm_words.specs.ImageLaws.{IsImage-words_of}
 use Rattle.pm_words.specs.Images.{Follows, Follows-weaken, words_of}
 use Rattle.pm_words.specs.Words.{Words}
-use Rattle.block_pool.specs.FreeSets.{is_among}
+use Rattle.k_split.specs.block_pool.FreeSets.{is_among}
 use Rattle.disk_lines.specs.declared.Draft.{Draft}
 use Rattle.disk_lines.specs.declared.Inode.{Inode}
 use Rattle.disk_lines.specs.declared.Kind.TheVariants.{File, Staging}
@@ -15,24 +15,24 @@ use Rattle.disk_lines.specs.NameLaws.{IsNameLine-decode_name}
 use Rattle.disk_lines.specs.Names.{row}
 use Rattle.disk_places.specs.Journal.{journaled}
 use Rattle.disk_places.specs.Places.{is_data_block}
-use Rattle.disk_rules.specs.Live.{live_entries}
-use Rattle.disk_rules.specs.Placed.{block_at}
-use Rattle.disk_rules.specs.Reading.{Reads, slot_for}
-use Rattle.disk_rules.specs.Room.{has_none, unused_blocks}
-use Rattle.disk_rules.specs.Uses.{owners}
-use Rattle.disk_rules.specs.Volume.{chain, extents, inode, Volume}
+use Rattle.live_facts.specs.disk_rules.Live.{live_entries}
+use Rattle.live_facts.specs.disk_rules.Placed.{block_at}
+use Rattle.live_facts.specs.disk_rules.Reading.{Reads, slot_for}
+use Rattle.live_facts.specs.disk_rules.Room.{has_none, unused_blocks}
+use Rattle.live_facts.specs.disk_rules.Uses.{owners}
+use Rattle.live_facts.specs.disk_rules.Volume.{chain, extents, inode, Volume}
 use Rattle.extent_words.specs.Extents.{covers}
 use Rattle.extent_words.specs.Moves.{Moves}
 use Rattle.k_split.specs.k_map_plans.Plans.{MayMove}
 use Rattle.k_split.specs.k_plans.Whole.{IsWhole}
-use Rattle.k_rules.specs.Stands.{Stands}
-use Rattle.k_rules.specs.View.{View}
+use Rattle.live_facts.specs.k_rules.Stands.{Stands}
+use Rattle.live_facts.specs.k_rules.View.{View}
 use Rattle.k_split.specs.MapChanges.{ChangesMaps, is_free_in, IsMovedWith}
 use Rattle.k_split.specs.Order.{IsInOrder}
 use Rattle.map_facts.specs.Moves.{move_for}
-use Rattle.map_rules.specs.Changes.{with_length}
-use Rattle.map_rules.specs.Taken.{with_map}
-use Rattle.map_rules.specs.declared.moves.Move.{Move}
+use Rattle.k_split.specs.map_rules.Changes.{with_length}
+use Rattle.k_split.specs.map_rules.Taken.{with_map}
+use Rattle.k_split.specs.map_rules.declared.moves.Move.{Move}
 use Rattle.live_facts.specs.name_facts.RowLaws.{row-below}
 use Rattle.live_facts.specs.volume_uses.PoolLaws.{unused-uncovered}
 use Rattle.live_facts.specs.volume_uses.Uses.{is_unused}

@@ -3,13 +3,13 @@ use Rattle.std.specs.Prelude.{◌≡◌, ℕ}
 use Rattle.pm_words.specs.Words.{Words}
 use Rattle.disk_lines.specs.declared.Draft.{Draft}
 use Rattle.disk_places.specs.Journal.{journaled}
-use Rattle.disk_rules.specs.Content.{content}
-use Rattle.disk_rules.specs.Live.{live_entries}
-use Rattle.disk_rules.specs.Volume.{Volume}
+use Rattle.live_facts.specs.disk_rules.Content.{content}
+use Rattle.live_facts.specs.disk_rules.Live.{live_entries}
+use Rattle.live_facts.specs.disk_rules.Volume.{Volume}
 use Rattle.live_facts.specs.Logs.{AreSound, CarriesOut, IsDeadIn, IsNext}
 use Rattle.map_facts.specs.Moves.{move_for}
-use Rattle.map_rules.specs.declared.moves.Move.{Move}
-use Rattle.volume_facts.specs.Footprint.{SameLog}
+use Rattle.k_split.specs.map_rules.declared.moves.Move.{Move}
+use Rattle.live_facts.specs.volume_facts.Footprint.{SameLog}
 
 -- Of a move: the log lines are the same, and where the log of the image before has an entry that the move carries out, which
 -- is the next one of its file, the new volume carries it out, and the content is the same, be it the new volume that the image

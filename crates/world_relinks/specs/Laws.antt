@@ -3,15 +3,15 @@ use Rattle.std.specs.Prelude.{◌≡◌, ℕ, false, List}
 use Rattle.pm_words.specs.Images.{Follows}
 use Rattle.pm_words.specs.Words.{Words}
 use Rattle.disk_lines.specs.declared.Draft.{Draft}
-use Rattle.disk_rules.specs.Volume.{inode, Volume}
+use Rattle.live_facts.specs.disk_rules.Volume.{inode, Volume}
 use Rattle.k_split.specs.k_map_plans.Plans.{IsStagingFile, MayMove}
 use Rattle.k_split.specs.k_plans.Whole.{IsWhole}
-use Rattle.k_rules.specs.View.{View}
+use Rattle.live_facts.specs.k_rules.View.{View}
 use Rattle.k_split.specs.MapChanges.{ChangesMaps, IsGivenUpWith, IsMovedWith, IsPreallocatedWith}
 use Rattle.k_split.specs.Order.{IsInOrder}
 use Rattle.map_facts.specs.Moves.{move_for}
-use Rattle.map_rules.specs.Changes.{given_up}
-use Rattle.map_rules.specs.declared.moves.Move.{Move}
+use Rattle.k_split.specs.map_rules.Changes.{given_up}
+use Rattle.k_split.specs.map_rules.declared.moves.Move.{Move}
 use Rattle.live_facts.specs.world_rules.Stands.{IsSane}
 use Rattle.live_facts.specs.world_runs.Relinks.{Relinks}
 use Rattle.live_facts.specs.world_runs.Restages.{Restages}

@@ -15,3 +15,14 @@ pub use Rattle.map_facts.specs.volume_maps as volume_maps
 pub use Rattle.map_facts.specs.world_room as world_room
 pub use Rattle.live_facts.specs.posix_frames as posix_frames
 pub use Rattle.live_facts.specs.world_log as world_log
+pub use Rattle.k_split.specs.block_bytes as block_bytes
+pub use Rattle.k_split.specs.block_pool as block_pool
+pub use Rattle.k_split.specs.k_journal as k_journal
+pub use Rattle.k_split.specs.map_rules as map_rules
+pub use Rattle.live_facts.specs.crash_spec as crash_spec
+pub use Rattle.live_facts.specs.disk_rules as disk_rules
+pub use Rattle.live_facts.specs.k_rules as k_rules
+pub use Rattle.live_facts.specs.posix_facts as posix_facts
+pub use Rattle.live_facts.specs.posix_puts as posix_puts
+pub use Rattle.live_facts.specs.posix_spec as posix_spec
+pub use Rattle.live_facts.specs.volume_facts as volume_facts

@@ -7,14 +7,14 @@ use Rattle.std.proofs.lemmas.List.{length-set}
 use Rattle.disk_places.specs.Places.{data_blocks, first_data, is_data_block, reserve}
 use Rattle.extent_words.specs.Extents.{block_count}
 use Rattle.disk_lines.specs.declared.Draft.{Draft}
-use Rattle.disk_rules.specs.Live.{is_live}
-use Rattle.disk_rules.specs.Room.{has_none, unused_blocks}
-use Rattle.disk_rules.specs.Rules.{file_blocks_of}
-use Rattle.disk_rules.specs.Uses.{owners}
-use Rattle.disk_rules.specs.Volume.{chain, inode, Volume}
-use Rattle.k_rules.specs.Changes.{dropped, gone_node}
-use Rattle.volume_facts.specs.Changes.{chain-set_other, chain-set_same}
-use Rattle.volume_facts.specs.Lists.{count_by-agree, sum_by-but_one}
+use Rattle.world_runs.specs.disk_rules.Live.{is_live}
+use Rattle.world_runs.specs.disk_rules.Room.{has_none, unused_blocks}
+use Rattle.world_runs.specs.disk_rules.Rules.{file_blocks_of}
+use Rattle.world_runs.specs.disk_rules.Uses.{owners}
+use Rattle.world_runs.specs.disk_rules.Volume.{chain, inode, Volume}
+use Rattle.world_runs.specs.k_rules.Changes.{dropped, gone_node}
+use Rattle.world_runs.specs.volume_facts.Changes.{chain-set_other, chain-set_same}
+use Rattle.world_runs.specs.volume_facts.Lists.{count_by-agree, sum_by-but_one}
 use Rattle.world_runs.specs.volume_uses.PoolLaws.{AreInData, held-set, unused-held}
 use Rattle.world_runs.specs.volume_uses.Uses.{blocks_held, blocks_of}
 use Rattle.world_runs.specs.world_rules.Jobs.{live_claims}

@@ -4,11 +4,11 @@ use Rattle.std.specs.Prelude.{◌≡◌, ◌≢◌, ◌<◌, ◌≤◌, ◌+◌,
 use Rattle.disk_places.specs.Places.{is_data_block, reserve}
 use Rattle.extent_words.specs.declared.Extent.{Extent}
 use Rattle.disk_lines.specs.declared.Draft.{Draft}
-use Rattle.disk_rules.specs.Live.{is_live}
-use Rattle.disk_rules.specs.Room.{unused_blocks}
-use Rattle.disk_rules.specs.Uses.{owners}
-use Rattle.disk_rules.specs.Volume.{chain, Volume}
-use Rattle.k_rules.specs.Changes.{dropped}
+use Rattle.world_runs.specs.disk_rules.Live.{is_live}
+use Rattle.world_runs.specs.disk_rules.Room.{unused_blocks}
+use Rattle.world_runs.specs.disk_rules.Uses.{owners}
+use Rattle.world_runs.specs.disk_rules.Volume.{chain, Volume}
+use Rattle.world_runs.specs.k_rules.Changes.{dropped}
 use Rattle.world_runs.specs.world_rules.Jobs.{Job, live_claims}
 use Rattle.world_runs.specs.world_rules.Stands.{IsSane}
 use Rattle.world_runs.specs.world_log.Rules.{HasFreeBlocks}

@@ -9,3 +9,8 @@ pub use Rattle.world_runs.specs.world_promise as world_promise
 pub use Rattle.world_runs.specs.world_rules as world_rules
 pub use Rattle.world_runs.specs.world_steps as world_steps
 pub use Rattle.world_runs.specs.world_spaces as world_spaces
+pub use Rattle.world_runs.specs.disk_rules as disk_rules
+pub use Rattle.world_runs.specs.k_rules as k_rules
+pub use Rattle.world_runs.specs.posix_puts as posix_puts
+pub use Rattle.world_runs.specs.posix_spec as posix_spec
+pub use Rattle.world_runs.specs.volume_facts as volume_facts

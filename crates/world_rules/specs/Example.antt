@@ -17,7 +17,7 @@ use Rattle.posix_types.specs.declared.call.Who.{Who}
 use Rattle.posix_types.specs.declared.handle.Flags.{Flags}
 use Rattle.posix_types.specs.declared.handle.Handle.{Handle}
 use Rattle.posix_words.specs.declared.nodes.Node.{Node}
-use Rattle.posix_spec.specs.State.{State}
+use Rattle.posix_puts.specs.posix_spec.State.{State}
 use Rattle.list_facts.specs.Members.{In}
 use Rattle.world_rules.specs.Jobs.{Job, live_claims, staged_block}
 

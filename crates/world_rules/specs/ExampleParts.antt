@@ -21,15 +21,15 @@ use Rattle.posix_words.specs.declared.nodes.Node.{Node}
 use Rattle.posix_words.specs.Names.{child_of}
 use Rattle.posix_words.specs.Nodes.{node_at}
 use Rattle.posix_words.specs.Open.{binding_of, key_of, opened}
-use Rattle.posix_spec.specs.FileRows.{write_rows}
-use Rattle.posix_spec.specs.Put.{put_by}
+use Rattle.posix_puts.specs.posix_spec.FileRows.{write_rows}
+use Rattle.posix_puts.specs.posix_spec.Put.{put_by}
 use Rattle.list_facts.specs.Members.{In}
 use Rattle.posix_puts.specs.Puts.{PutsWhole}
 use Rattle.posix_puts.specs.Views.{AreAfforded}
 use Rattle.world_rules.specs.Jobs.{begun_of, live_claims}
 use Rattle.world_rules.specs.Stands.{Consecutive, entries_of, FileStands, IsSane, IsUsed, LogStands, NamesStand, NodesStand, NodeStands, number}
 use Rattle.world_rules.specs.Example.{claims_a, entry_a, job_a, numbers_a, one_entry, staged_at, staged_extent, state_a, volume_a, words_a}
-use Rattle.posix_spec.specs.State.{Fits}
+use Rattle.posix_puts.specs.posix_spec.State.{Fits}
 
 -- What the volume keeps.
 

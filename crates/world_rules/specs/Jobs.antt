@@ -13,8 +13,8 @@ use Rattle.disk_rules.specs.Volume.{extents, inode, Volume}
 use Rattle.posix_types.specs.declared.call.Call.{Call}
 use Rattle.posix_types.specs.declared.call.Who.{Who}
 use Rattle.posix_words.specs.Nodes.{bytes_of, node_at}
-use Rattle.posix_spec.specs.Run.{Begun}
-use Rattle.posix_spec.specs.State.{Fits, State}
+use Rattle.posix_puts.specs.posix_spec.Run.{Begun}
+use Rattle.posix_puts.specs.posix_spec.State.{Fits, State}
 use Rattle.crash_spec.specs.Sync.{IsPartOf}
 use Rattle.list_facts.specs.Members.{In}
 use Rattle.posix_puts.specs.Puts.{PutsWhole}

@@ -8,3 +8,8 @@ pub mod Laws
 pub mod Promised
 pub mod Shown
 pub mod Stands
+pub use Rattle.crash_spec.specs as crash_spec
+pub use Rattle.posix_puts.specs as posix_puts
+pub use Rattle.posix_puts.specs.posix_facts as posix_facts
+pub use Rattle.posix_puts.specs.posix_spec as posix_spec
+pub use Rattle.posix_trees.specs as posix_trees

@@ -7,9 +7,9 @@ use Rattle.disk_rules.specs.Live.{live_entries}
 use Rattle.disk_rules.specs.Volume.{Volume}
 use Rattle.posix_types.specs.declared.tree.TreeEntry.{TreeEntry}
 use Rattle.posix_words.specs.Nodes.{bytes_of, node_at}
-use Rattle.posix_spec.specs.Run.{after_call}
-use Rattle.posix_spec.specs.State.{State}
-use Rattle.posix_spec.specs.Tree.{tree}
+use Rattle.posix_puts.specs.posix_spec.Run.{after_call}
+use Rattle.posix_puts.specs.posix_spec.State.{State}
+use Rattle.posix_puts.specs.posix_spec.Tree.{tree}
 use Rattle.crash_spec.specs.Sync.{IsPartOf, with_bytes}
 use Rattle.posix_puts.specs.Puts.{PutsWhole}
 use Rattle.world_rules.specs.Jobs.{begun_of, Job}

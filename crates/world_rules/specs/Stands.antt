@@ -14,7 +14,7 @@ use Rattle.posix_words.specs.declared.nodes.Node.{Node}
 use Rattle.posix_words.specs.Lookups.{AreDistinct}
 use Rattle.posix_words.specs.Names.{child_of}
 use Rattle.posix_words.specs.Nodes.{node_at}
-use Rattle.posix_spec.specs.State.{State}
+use Rattle.posix_puts.specs.posix_spec.State.{State}
 use Rattle.list_facts.specs.Members.{In}
 
 -- The volume is sane: it keeps the rules of a checked image that speak of it alone, each inode has a line, a chain and a

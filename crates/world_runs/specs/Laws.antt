@@ -4,8 +4,8 @@ use Rattle.std.specs.Prelude.{◌≢◌, ℕ, List}
 use Rattle.pm_words.specs.Words.{Words}
 use Rattle.extent_words.specs.declared.Extent.{Extent}
 use Rattle.disk_lines.specs.declared.Draft.{Draft}
-use Rattle.disk_rules.specs.Volume.{Volume}
-use Rattle.posix_spec.specs.State.{State}
+use Rattle.world_jobs.specs.disk_rules.Volume.{Volume}
+use Rattle.world_jobs.specs.posix_spec.State.{State}
 use Rattle.list_facts.specs.Members.{In}
 use Rattle.world_jobs.specs.world_rules.Jobs.{Job, live_claims}
 use Rattle.world_jobs.specs.world_steps.Steps.{AreBeside}

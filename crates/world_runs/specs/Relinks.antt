@@ -4,7 +4,7 @@ use Rattle.extent_words.specs.declared.Extent.{Extent}
 use Rattle.extent_words.specs.Moves.{Moves}
 use Rattle.disk_lines.specs.declared.Draft.{Draft}
 use Rattle.disk_lines.specs.declared.Inode.{Inode}
-use Rattle.disk_rules.specs.Volume.{extents, inode, Volume}
+use Rattle.world_jobs.specs.disk_rules.Volume.{extents, inode, Volume}
 use Rattle.world_jobs.specs.world_rules.Stands.{entries_of, IsSane}
 
 -- what each inode keeps

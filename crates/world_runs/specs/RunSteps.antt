@@ -10,12 +10,12 @@ use Rattle.extent_words.specs.Extents.{disk_at, is_within}
 use Rattle.disk_lines.specs.declared.Draft.{Draft}
 use Rattle.disk_lines.specs.declared.Kind.TheVariants.{File, Staging}
 use Rattle.disk_lines.specs.Names.{child_named}
-use Rattle.disk_rules.specs.Content.{byte_in, disk_by, disk_of, entry_of_block, size_by, size_of}
-use Rattle.disk_rules.specs.Live.{is_file, is_live, is_of_file, later_of, latest}
-use Rattle.disk_rules.specs.Rules.{AreApart, HasStagingBlocks}
-use Rattle.disk_rules.specs.Volume.{extents, inode, Volume}
+use Rattle.world_jobs.specs.disk_rules.Content.{byte_in, disk_by, disk_of, entry_of_block, size_by, size_of}
+use Rattle.world_jobs.specs.disk_rules.Live.{is_file, is_live, is_of_file, later_of, latest}
+use Rattle.world_jobs.specs.disk_rules.Rules.{AreApart, HasStagingBlocks}
+use Rattle.world_jobs.specs.disk_rules.Volume.{extents, inode, Volume}
 use Rattle.posix_words.specs.Nodes.{node_at}
-use Rattle.posix_spec.specs.State.{State}
+use Rattle.world_jobs.specs.posix_spec.State.{State}
 use Rattle.list_facts.specs.Filters.{filter-agree, filter-both, filter-In, In-filter}
 use Rattle.list_facts.specs.Members.{In}
 use Rattle.world_jobs.specs.world_rules.Jobs.{Job, JobsStand, live_claims, staged_block}

@@ -9,10 +9,10 @@ use Rattle.disk_lines.specs.declared.Draft.{Draft}
 use Rattle.disk_lines.specs.declared.Kind.{Kind}
 use Rattle.disk_lines.specs.declared.Kind.TheVariants.{Free, Directory, File, Staging}
 use Rattle.disk_lines.specs.Names.{child_named}
-use Rattle.disk_rules.specs.Content.{byte_in, disk_by, disk_of, entry_of_block, size_by}
-use Rattle.disk_rules.specs.Live.{is_file, is_live, is_of_file, latest}
-use Rattle.disk_rules.specs.Rules.{IsKindAt}
-use Rattle.disk_rules.specs.Volume.{inode, Volume}
+use Rattle.world_jobs.specs.disk_rules.Content.{byte_in, disk_by, disk_of, entry_of_block, size_by}
+use Rattle.world_jobs.specs.disk_rules.Live.{is_file, is_live, is_of_file, latest}
+use Rattle.world_jobs.specs.disk_rules.Rules.{IsKindAt}
+use Rattle.world_jobs.specs.disk_rules.Volume.{inode, Volume}
 use Rattle.posix_words.specs.Nodes.{node_at}
 use Rattle.list_facts.specs.Filters.{filter-agree, filter-In, In-filter}
 use Rattle.list_facts.specs.Members.{In}

@@ -11,20 +11,20 @@ use Rattle.disk_lines.specs.declared.Kind.TheVariants.{Free, Directory, File, St
 use Rattle.disk_lines.specs.Lines.{NameRow}
 use Rattle.disk_lines.specs.Names.{child_named, is_entry, is_free_row, row, Rows}
 use Rattle.disk_lines.specs.TableLaws.{child_named-at, is_entry-own, NamingLine-child_named}
-use Rattle.disk_rules.specs.Rules.{IsKindAt}
-use Rattle.disk_rules.specs.Volume.{free_inode, inode, Volume}
-use Rattle.k_rules.specs.Spaces.{is_free, volume_space}
+use Rattle.volume_names.specs.disk_rules.Rules.{IsKindAt}
+use Rattle.volume_names.specs.disk_rules.Volume.{free_inode, inode, Volume}
+use Rattle.volume_names.specs.k_rules.Spaces.{is_free, volume_space}
 use Rattle.world_promise.specs.name_facts.KeptLaws.{kept-keyed}
 use Rattle.world_promise.specs.name_facts.RowLaws.{row-below}
-use Rattle.volume_facts.specs.Lists.{one_if}
+use Rattle.volume_names.specs.volume_facts.Lists.{one_if}
 use Rattle.posix_words.specs.declared.nodes.DirEntry.{DirEntry}
 use Rattle.posix_words.specs.declared.nodes.Node.{Node}
 use Rattle.posix_words.specs.Lookups.{AreDistinct}
 use Rattle.posix_words.specs.Names.{child_of, lines_taken}
 use Rattle.posix_words.specs.Nodes.{is_live, node_at}
-use Rattle.posix_spec.specs.State.{space, State}
+use Rattle.world_promise.specs.posix_spec.State.{space, State}
 use Rattle.list_facts.specs.Members.{In-slice_get, slice_get-In}
-use Rattle.posix_trees.specs.Entries.{child_of-In, Leads-child_of}
+use Rattle.world_promise.specs.posix_trees.Entries.{child_of-In, Leads-child_of}
 use Rattle.world_promise.specs.world_rules.Stands.{is_used, IsSane, IsUsed, NamesStand, NodesStand, NodeStands, number}
 use Rattle.world_promise.specs.TreeRules.{all_lines, parent_used, used_below}
 use Rattle.world_spaces.specs.Sums.{sum-Reaches}

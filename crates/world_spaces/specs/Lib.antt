@@ -10,3 +10,4 @@ pub use Rattle.world_promise.specs as world_promise
 pub use Rattle.world_promise.specs.name_facts as name_facts
 pub use Rattle.world_promise.specs.volume_uses as volume_uses
 pub use Rattle.world_promise.specs.world_rules as world_rules
+pub use Rattle.world_promise.specs.posix_trees as posix_trees

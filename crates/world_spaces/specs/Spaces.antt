@@ -9,9 +9,9 @@ use Rattle.disk_lines.specs.declared.Kind.TheVariants.{Free, Directory, File, St
 use Rattle.disk_lines.specs.Lines.{NameRow}
 use Rattle.disk_lines.specs.Names.{child_named, row, Rows}
 use Rattle.disk_lines.specs.TableLaws.{child_named-at, NamingLine-child_named}
-use Rattle.disk_rules.specs.Live.{is_directory}
-use Rattle.disk_rules.specs.Volume.{inode, Volume}
-use Rattle.k_rules.specs.Spaces.{entries_of, entry_of, volume_space}
+use Rattle.volume_names.specs.disk_rules.Live.{is_directory}
+use Rattle.volume_names.specs.disk_rules.Volume.{inode, Volume}
+use Rattle.volume_names.specs.k_rules.Spaces.{entries_of, entry_of, volume_space}
 use Rattle.world_promise.specs.name_facts.KeptLaws.{kept-keyed}
 use Rattle.world_promise.specs.name_facts.RowLaws.{row-below}
 use Rattle.volume_names.specs.EntryLaws.{child_of-rows}
@@ -19,10 +19,10 @@ use Rattle.posix_words.specs.declared.nodes.DirEntry.{DirEntry}
 use Rattle.posix_words.specs.declared.nodes.Node.{Node}
 use Rattle.posix_words.specs.Names.{child_of, longest_path}
 use Rattle.posix_words.specs.Nodes.{is_directory as is_directory_node, node_at}
-use Rattle.posix_spec.specs.State.{space, State}
+use Rattle.world_promise.specs.posix_spec.State.{space, State}
 use Rattle.list_facts.specs.Filters.{filter_map-In, In-filter_map}
 use Rattle.list_facts.specs.Members.{In, slice_get-In}
-use Rattle.posix_trees.specs.Entries.{child_of-In, Leads-child_of}
+use Rattle.world_promise.specs.posix_trees.Entries.{child_of-In, Leads-child_of}
 use Rattle.world_promise.specs.world_rules.Stands.{IsSane, IsUsed, NamesStand, NodeStands, number, Stands}
 use Rattle.world_promise.specs.TreeRules.{all_lines, child_used}
 use Rattle.world_spaces.specs.Counts.{HasShape, lines_left-same, nodes_left-same}

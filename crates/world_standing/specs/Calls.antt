@@ -5,12 +5,12 @@ use Rattle.disk_lines.specs.declared.Draft.{Draft}
 use Rattle.posix_types.specs.declared.call.Call.{Call}
 use Rattle.posix_types.specs.declared.call.Who.{Who}
 use Rattle.posix_types.specs.declared.item.Item.{Item}
-use Rattle.posix_spec.specs.Run.{run}
-use Rattle.posix_spec.specs.Scripted.{items_of, next_call}
-use Rattle.posix_spec.specs.Step.{step}
-use Rattle.posix_spec.specs.FileRows.{write_rows, write_start}
+use Rattle.entry_orders.specs.posix_spec.Run.{run}
+use Rattle.entry_orders.specs.posix_spec.Scripted.{items_of, next_call}
+use Rattle.entry_orders.specs.posix_spec.Step.{step}
+use Rattle.entry_orders.specs.posix_spec.FileRows.{write_rows, write_start}
 use Rattle.posix_words.specs.Outcomes.{first}
-use Rattle.write_jobs.specs.Jobs.{FilledView, JobView}
+use Rattle.flight_facts.specs.write_jobs.Jobs.{FilledView, JobView}
 use Rattle.world_standing.specs.Standing.{Pending}
 use Rattle.world_standing.specs.Views.{IsFilledOut, IsJobOut, Over, without, WorldView}
 

@@ -10,12 +10,12 @@ use Rattle.disk_lines.specs.Entries.{held_seq, is_draft, is_self_valid}
 use Rattle.disk_lines.specs.EntryLaws.{FitsDraft}
 use Rattle.disk_places.specs.Journal.{is_journal_word}
 use Rattle.disk_places.specs.Places.{Geometry, is_journaled_line, log_line}
-use Rattle.disk_rules.specs.Volume.{inode, Volume}
+use Rattle.held_sums.specs.disk_rules.Volume.{inode, Volume}
 use Rattle.entry_orders.specs.Orders.{AreOrdered}
 use Rattle.file_table.specs.Files.{Files, runs_in, size_in, spare_in}
 use Rattle.flight_facts.specs.Flying.{FileState, IsFlying}
 use Rattle.held_sums.specs.Laws.{AreSizes}
-use Rattle.k_rules.specs.View.{View}
+use Rattle.staging_files.specs.k_rules.View.{View}
 use Rattle.staging_files.specs.k_split.Order.{IsInOrder}
 use Rattle.list_facts.specs.Members.{In}
 use Rattle.open_numbers.specs.Numbered.{numbered_as}
@@ -23,7 +23,7 @@ use Rattle.posix_types.specs.declared.call.Call.{Call}
 use Rattle.posix_types.specs.declared.call.Who.{Who}
 use Rattle.posix_words.specs.Open.{is_open, Tables}
 use Rattle.flight_facts.specs.posix_frames.Frames.{AreThreads}
-use Rattle.posix_spec.specs.State.{State}
+use Rattle.entry_orders.specs.posix_spec.State.{State}
 use Rattle.staging_files.specs.declared.runs.StageRun.{StageRun}
 use Rattle.staging_files.specs.Keeps.{Agrees, AreFreeSingle, IsStaged, Staged}
 use Rattle.flight_facts.specs.world_images.Images.{HasLogHome}

@@ -7,11 +7,11 @@ use Rattle.posix_types.specs.declared.call.Call.{Call}
 use Rattle.posix_types.specs.declared.call.Who.{Who}
 use Rattle.posix_types.specs.declared.item.Item.{Item}
 use Rattle.posix_types.specs.Scripts.{Scripts}
-use Rattle.posix_puts.specs.Puts.{PutsWhole}
-use Rattle.posix_spec.specs.Run.{Begun, run}
-use Rattle.posix_spec.specs.State.{State}
+use Rattle.held_sums.specs.posix_puts.Puts.{PutsWhole}
+use Rattle.entry_orders.specs.posix_spec.Run.{Begun, run}
+use Rattle.entry_orders.specs.posix_spec.State.{State}
 use Rattle.posix_words.specs.Open.{same_who}
-use Rattle.write_jobs.specs.Jobs.{blocks_of, FilledView, JobView}
+use Rattle.flight_facts.specs.write_jobs.Jobs.{blocks_of, FilledView, JobView}
 use Rattle.flight_facts.specs.job_facts.Blocks.{SpellWhole}
 use Rattle.world_standing.specs.Standing.{Pending}
 

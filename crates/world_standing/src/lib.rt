@@ -8,7 +8,8 @@
 //! Stands on `flight_facts` (the World in flight), `staging_files` and `write_jobs`.
 #![tactic(auto)]
 
-pub use flight_facts::file_reads;
+pub use file_table;
+pub use flight_facts::{file_reads, map_collection, write_jobs};
 pub use held_sums;
 pub use staging_files;
-pub use staging_files::k_split;
+pub use staging_files::{k_journal, k_split};

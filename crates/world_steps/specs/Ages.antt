@@ -7,9 +7,9 @@ use Rattle.disk_lines.specs.declared.Draft.{Draft}
 use Rattle.disk_lines.specs.declared.Kind.TheVariants.{Free, Staging}
 use Rattle.disk_lines.specs.Lines.{NameRow}
 use Rattle.disk_lines.specs.declared.Kind.{Kind}
-use Rattle.disk_rules.specs.Live.{is_file, is_of_file}
-use Rattle.disk_rules.specs.Volume.{inode, Volume}
-use Rattle.k_rules.specs.Changes.{made}
+use Rattle.volume_changes.specs.disk_rules.Live.{is_file, is_of_file}
+use Rattle.volume_changes.specs.disk_rules.Volume.{inode, Volume}
+use Rattle.volume_changes.specs.k_rules.Changes.{made}
 use Rattle.list_facts.specs.Members.{In}
 use Rattle.volume_changes.specs.FrameLaws.{made-inode, made-others}
 

@@ -7,14 +7,14 @@ use Rattle.disk_lines.specs.declared.Kind.{Kind}
 use Rattle.disk_lines.specs.declared.Kind.TheVariants.{Free}
 use Rattle.disk_lines.specs.Lines.{NameRow}
 use Rattle.disk_lines.specs.Names.{child_named, row}
-use Rattle.disk_rules.specs.Live.{is_of_file}
-use Rattle.disk_rules.specs.Reading.{row_set}
-use Rattle.disk_rules.specs.Volume.{inode, Volume}
-use Rattle.k_rules.specs.Changes.{made}
+use Rattle.volume_changes.specs.disk_rules.Live.{is_of_file}
+use Rattle.volume_changes.specs.disk_rules.Reading.{row_set}
+use Rattle.volume_changes.specs.disk_rules.Volume.{inode, Volume}
+use Rattle.volume_changes.specs.k_rules.Changes.{made}
 use Rattle.volume_changes.specs.LookupLaws.{leads_nowhere, leads_to}
 use Rattle.posix_words.specs.Names.{with_entry, without_entry}
-use Rattle.posix_spec.specs.Run.{after_call, Begun}
-use Rattle.posix_spec.specs.State.{State}
+use Rattle.posix_frames.specs.posix_spec.Run.{after_call, Begun}
+use Rattle.posix_frames.specs.posix_spec.State.{State}
 use Rattle.list_facts.specs.Members.{In}
 use Rattle.posix_frames.specs.Needs.{needs}
 use Rattle.posix_frames.specs.Rooms.{FitsBeside}

@@ -14,3 +14,11 @@ pub use Rattle.world_spaces.specs.volume_names as volume_names
 pub use Rattle.world_spaces.specs.volume_uses as volume_uses
 pub use Rattle.world_spaces.specs.world_promise as world_promise
 pub use Rattle.world_spaces.specs.world_rules as world_rules
+pub use Rattle.posix_frames.specs.crash_spec as crash_spec
+pub use Rattle.posix_frames.specs.posix_facts as posix_facts
+pub use Rattle.posix_frames.specs.posix_puts as posix_puts
+pub use Rattle.posix_frames.specs.posix_spec as posix_spec
+pub use Rattle.volume_changes.specs.disk_rules as disk_rules
+pub use Rattle.volume_changes.specs.k_rules as k_rules
+pub use Rattle.volume_changes.specs.volume_facts as volume_facts
+pub use Rattle.world_spaces.specs.posix_trees as posix_trees

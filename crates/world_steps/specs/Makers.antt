@@ -7,11 +7,11 @@ use Rattle.pm_words.specs.Words.{Words}
 use Rattle.disk_lines.specs.declared.Draft.{Draft}
 use Rattle.disk_lines.specs.declared.Kind.TheVariants.{Free, Staging}
 use Rattle.disk_lines.specs.Names.{Rows}
-use Rattle.disk_rules.specs.Live.{is_file, is_of_file}
-use Rattle.disk_rules.specs.Volume.{inode, Volume}
+use Rattle.volume_changes.specs.disk_rules.Live.{is_file, is_of_file}
+use Rattle.volume_changes.specs.disk_rules.Volume.{inode, Volume}
 use Rattle.posix_words.specs.declared.nodes.Node.{Node}
 use Rattle.posix_words.specs.Nodes.{node_at}
-use Rattle.posix_spec.specs.State.{State}
+use Rattle.posix_frames.specs.posix_spec.State.{State}
 use Rattle.list_facts.specs.Members.{In}
 use Rattle.world_spaces.specs.world_rules.Jobs.{live_claims}
 use Rattle.world_spaces.specs.world_rules.Stands.{is_used, IsSane, IsUsed, NamesStand, NodesStand, NodeStands, number}

@@ -9,24 +9,24 @@ use Rattle.pm_words.specs.Words.{Words}
 use Rattle.disk_lines.specs.declared.Draft.{Draft}
 use Rattle.disk_lines.specs.declared.Kind.{Kind}
 use Rattle.disk_lines.specs.declared.Kind.TheVariants.{Free, Directory, File, Staging}
-use Rattle.disk_rules.specs.Content.{byte_in}
-use Rattle.disk_rules.specs.Live.{is_file, is_live, is_of_file}
-use Rattle.disk_rules.specs.Volume.{inode, Volume}
+use Rattle.volume_changes.specs.disk_rules.Content.{byte_in}
+use Rattle.volume_changes.specs.disk_rules.Live.{is_file, is_live, is_of_file}
+use Rattle.volume_changes.specs.disk_rules.Volume.{inode, Volume}
 use Rattle.posix_types.specs.declared.call.Call.{Call}
 use Rattle.posix_types.specs.declared.call.Who.{Who}
 use Rattle.posix_words.specs.declared.nodes.DirEntry.{DirEntry}
 use Rattle.posix_words.specs.declared.nodes.File.{File as FileNode}
 use Rattle.posix_words.specs.declared.nodes.Node.{Node}
 use Rattle.posix_words.specs.Nodes.{bytes_of, node_at}
-use Rattle.posix_spec.specs.Run.{after_call, Begun}
-use Rattle.posix_spec.specs.State.{alone, Fits, room, State}
-use Rattle.posix_facts.specs.FitsLaws.{Fits-step_of}
-use Rattle.crash_spec.specs.Sync.{IsPartOf}
+use Rattle.posix_frames.specs.posix_spec.Run.{after_call, Begun}
+use Rattle.posix_frames.specs.posix_spec.State.{alone, Fits, room, State}
+use Rattle.posix_frames.specs.posix_facts.FitsLaws.{Fits-step_of}
+use Rattle.posix_frames.specs.crash_spec.Sync.{IsPartOf}
 use Rattle.list_facts.specs.Filters.{filter-agree, filter-both}
 use Rattle.list_facts.specs.Members.{In}
-use Rattle.posix_puts.specs.Puts.{PutsWhole}
-use Rattle.posix_puts.specs.ViewLaws.{need_of-kept, PutsWhole-kept}
-use Rattle.posix_puts.specs.Views.{AreAfforded, KeepsView, need_of}
+use Rattle.posix_frames.specs.posix_puts.Puts.{PutsWhole}
+use Rattle.posix_frames.specs.posix_puts.ViewLaws.{need_of-kept, PutsWhole-kept}
+use Rattle.posix_frames.specs.posix_puts.Views.{AreAfforded, KeepsView, need_of}
 use Rattle.posix_frames.specs.Flights.{InFlight, KeepsSeen-call}
 use Rattle.posix_frames.specs.Needs.{AreAfforded-step, AreInFlight, Flight, LetsAllBe, needs}
 use Rattle.posix_frames.specs.Needs as flying

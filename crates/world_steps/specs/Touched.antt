@@ -7,10 +7,10 @@ use Rattle.pm_words.specs.Words.{Words}
 use Rattle.extent_words.specs.Extents.{disk_at, is_within}
 use Rattle.disk_lines.specs.declared.Draft.{Draft}
 use Rattle.disk_lines.specs.declared.Kind.TheVariants.{Staging}
-use Rattle.disk_rules.specs.Content.{byte_in, disk_by, disk_of, entry_of_block, size_by, size_of}
-use Rattle.disk_rules.specs.Live.{latest}
-use Rattle.disk_rules.specs.Rules.{HasStagingBlocks}
-use Rattle.disk_rules.specs.Volume.{extents, inode, Volume}
+use Rattle.volume_changes.specs.disk_rules.Content.{byte_in, disk_by, disk_of, entry_of_block, size_by, size_of}
+use Rattle.volume_changes.specs.disk_rules.Live.{latest}
+use Rattle.volume_changes.specs.disk_rules.Rules.{HasStagingBlocks}
+use Rattle.volume_changes.specs.disk_rules.Volume.{extents, inode, Volume}
 use Rattle.list_facts.specs.Filters.{filter-agree, filter-both, filter-In}
 use Rattle.list_facts.specs.Members.{In}
 use Rattle.world_spaces.specs.world_rules.Stands.{Consecutive, entries_of, LogStands}

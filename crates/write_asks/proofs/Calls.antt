@@ -7,7 +7,7 @@ use Rattle.file_table.specs.Files.{Files, size_in}
 use Rattle.open_numbers.specs.Numbered.{described_as, numbered_as}
 use Rattle.open_numbers.proofs.Changes.{moves_alike}
 use Rattle.open_numbers.proofs.Lookups.{same_key, same_opened}
-use Rattle.posix_facts.specs.RowLaws.{put_at-Some, rows-from_Accepts}
+use Rattle.open_files.specs.posix_facts.RowLaws.{put_at-Some, rows-from_Accepts}
 use Rattle.open_files.specs.posix_frames.Bystanders.{is_open-Opens}
 use Rattle.open_files.specs.posix_frames.Handles.{Opens-opened}
 use Rattle.posix_types.specs.declared.call.Call.{Call}
@@ -23,10 +23,10 @@ use Rattle.posix_words.specs.Open.{describes, is_open, key_of, may_write, opened
 use Rattle.posix_words.specs.Bytes.{longest_file, longest_write}
 use Rattle.posix_words.specs.Outcomes.{first, idle_row, row}
 use Rattle.posix_words.specs.Room.{write_need}
-use Rattle.posix_spec.specs.FileRows.{appends, content, file_number, no_blocks, offset_of, write_rows, write_start}
-use Rattle.posix_spec.specs.Put.{put_by}
-use Rattle.posix_spec.specs.State.{alone, room, State, with_file}
-use Rattle.posix_spec.specs.Step.{pwrite_done, stepped, write_done, written}
+use Rattle.write_rows.specs.posix_spec.FileRows.{appends, content, file_number, no_blocks, offset_of, write_rows, write_start}
+use Rattle.write_rows.specs.posix_spec.Put.{put_by}
+use Rattle.write_rows.specs.posix_spec.State.{alone, room, State, with_file}
+use Rattle.write_rows.specs.posix_spec.Step.{pwrite_done, stepped, write_done, written}
 use Rattle.write_rows.specs.Rows.{write_row_by, WritesByRow}
 use Rattle.write_asks.specs.Asks.{room_in, row_in, start_at, start_in}
 use Rattle.write_asks.specs.Laws.{AreOfState, MayMove, MovesAsCall, NeedsAsCall, OpensNothing, RowsAsCall, start_of, StartsAsCall}

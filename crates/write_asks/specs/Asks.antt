@@ -10,7 +10,7 @@ use Rattle.posix_types.specs.declared.item.Outcome.{Outcome}
 use Rattle.posix_words.specs.declared.open.Description.{Description}
 use Rattle.posix_words.specs.Open.{key_of, may_write, opened, Tables, with_offset}
 use Rattle.posix_words.specs.Room.{write_need}
-use Rattle.posix_spec.specs.FileRows.{appends, file_number, offset_of}
+use Rattle.write_rows.specs.posix_spec.FileRows.{appends, file_number, offset_of}
 use Rattle.write_asks.specs.declared.asking.Asked.{Asked}
 use Rattle.write_asks.specs.declared.asking.Target.{Target}
 use Rattle.open_files.specs.declared.opened.Opened.{Opened}

@@ -9,11 +9,11 @@ use Rattle.posix_types.specs.declared.handle.Handle.{Handle}
 use Rattle.posix_words.specs.Nodes.{bytes_of, node_at}
 use Rattle.posix_words.specs.Open.{is_open, may_write, Tables}
 use Rattle.posix_words.specs.Outcomes.{first}
-use Rattle.posix_puts.specs.Views.{need_of}
-use Rattle.posix_spec.specs.FileRows.{write_rows, write_start}
-use Rattle.posix_spec.specs.Put.{Put, put_by}
-use Rattle.posix_spec.specs.Run.{after_call}
-use Rattle.posix_spec.specs.State.{room, State}
+use Rattle.open_files.specs.posix_puts.Views.{need_of}
+use Rattle.write_rows.specs.posix_spec.FileRows.{write_rows, write_start}
+use Rattle.write_rows.specs.posix_spec.Put.{Put, put_by}
+use Rattle.write_rows.specs.posix_spec.Run.{after_call}
+use Rattle.write_rows.specs.posix_spec.State.{room, State}
 use Rattle.write_asks.specs.Asks.{CanMoveBy, moved_by, need_in, room_in, row_in, start_at}
 
 -- The tables and the file table are those of the state, of which f says the node of each inode: open files have the sizes that are

@@ -4,12 +4,12 @@ use Rattle.std.specs.Option.{option_map_or}
 use Rattle.std.proofs.Common.{arith, ap, ◌∙◌, sym, subst, inl, inr}
 use Rattle.pm_words.specs.ImageLaws.{IsImage-words_of}
 use Rattle.pm_words.specs.Images.{words_of}
-use Rattle.crash_spec.specs.Busy.{handle_node, waits_for}
+use Rattle.first_writes.specs.crash_spec.Busy.{handle_node, waits_for}
 use Rattle.disk_places.specs.Places.{data_blocks}
-use Rattle.disk_rules.specs.Volume.{Volume}
-use Rattle.file_ends.specs.Ends.{FilesEnd}
-use Rattle.file_table.specs.Files.{Files, size_in}
-use Rattle.k_rules.specs.View.{View}
+use Rattle.first_writes.specs.disk_rules.Volume.{Volume}
+use Rattle.first_writes.specs.file_ends.Ends.{FilesEnd}
+use Rattle.first_writes.specs.file_table.Files.{Files, size_in}
+use Rattle.first_writes.specs.k_rules.View.{View}
 use Rattle.list_facts.specs.Members.{In}
 use Rattle.open_numbers.proofs.Lookups.{same_opened}
 use Rattle.open_numbers.specs.Numbered.{described_as}
@@ -20,14 +20,14 @@ use Rattle.posix_words.specs.declared.open.Description.{Description}
 use Rattle.posix_words.specs.Open.{is_open, may_write, opened, Tables}
 use Rattle.posix_words.specs.Outcomes.{first}
 use Rattle.posix_words.specs.Room.{write_need}
-use Rattle.posix_facts.specs.RowLaws.{Accepts-from_rows}
+use Rattle.first_writes.specs.posix_facts.RowLaws.{Accepts-from_rows}
 use Rattle.flight_reserves.specs.posix_frames.Frames.{AreThreads, LeavesAlone}
 use Rattle.flight_reserves.specs.posix_frames.Handles.{same_who-sym}
-use Rattle.posix_puts.specs.Views.{need_of}
-use Rattle.posix_spec.specs.FileRows.{file_number, write_rows, write_start}
-use Rattle.posix_spec.specs.Put.{Put, put_by, put_unless}
-use Rattle.posix_spec.specs.Run.{Begun}
-use Rattle.posix_spec.specs.State.{room, State}
+use Rattle.first_writes.specs.posix_puts.Views.{need_of}
+use Rattle.first_writes.specs.posix_spec.FileRows.{file_number, write_rows, write_start}
+use Rattle.first_writes.specs.posix_spec.Put.{Put, put_by, put_unless}
+use Rattle.first_writes.specs.posix_spec.Run.{Begun}
+use Rattle.first_writes.specs.posix_spec.State.{room, State}
 use Rattle.flight_reserves.specs.staging_files.Keeps.{Staged}
 use Rattle.flight_reserves.specs.world_promise.JobLaws.{needs}
 use Rattle.flight_reserves.specs.world_rules.Jobs.{Job}

@@ -3,15 +3,15 @@ use Rattle.std.specs.Prelude.{◌≡◌, ◌≤◌, ◌<◌, ◌-◌, ℕ, List,
 use Rattle.std.specs.declared.alloc.AllocError.{AllocError}
 use Rattle.std.proofs.Common.{arith, ap, ◌∙◌, sym, subst, inl, inr}
 use Rattle.disk_places.specs.Places.{data_blocks}
-use Rattle.file_table.specs.Files.{Files}
-use Rattle.k_rules.specs.View.{View}
+use Rattle.first_writes.specs.file_table.Files.{Files}
+use Rattle.first_writes.specs.k_rules.View.{View}
 use Rattle.posix_types.specs.declared.call.Who.{Who}
 use Rattle.posix_types.specs.declared.handle.Handle.{Handle}
 use Rattle.posix_types.specs.declared.item.Outcome.{Outcome}
 use Rattle.posix_words.specs.Open.{Tables}
-use Rattle.posix_facts.specs.RowLaws.{Accepts, Accepts-from_rows}
-use Rattle.posix_puts.specs.Views.{need_of}
-use Rattle.posix_spec.specs.State.{room, State}
+use Rattle.first_writes.specs.posix_facts.RowLaws.{Accepts, Accepts-from_rows}
+use Rattle.first_writes.specs.posix_puts.Views.{need_of}
+use Rattle.first_writes.specs.posix_spec.State.{room, State}
 use Rattle.flight_reserves.specs.staging_files.Keeps.{Staged}
 use Rattle.flight_reserves.specs.staging_files.Reserves.{IsLacking}
 use Rattle.flight_reserves.specs.world_promise.JobLaws.{needs}

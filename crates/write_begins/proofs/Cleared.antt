@@ -4,12 +4,12 @@ use Rattle.std.specs.declared.alloc.AllocError.{AllocError}
 use Rattle.std.proofs.Common.{ap, ◌∙◌}
 use Rattle.pm_words.specs.Powers.{is_on, Supply}
 use Rattle.disk_lines.specs.Lines.{most_bytes}
-use Rattle.disk_rules.specs.Volume.{Volume}
-use Rattle.file_table.specs.Files.{Files, spare_in}
+use Rattle.first_writes.specs.disk_rules.Volume.{Volume}
+use Rattle.first_writes.specs.file_table.Files.{Files, spare_in}
 use Rattle.flight_reserves.specs.Laws.{StandsReserved}
 use Rattle.write_gaps.specs.flight_zeros.Laws.{ReservedReadZero}
 use Rattle.write_gaps.specs.flight_zeros.Zeros.{ReadZero}
-use Rattle.k_rules.specs.View.{View}
+use Rattle.first_writes.specs.k_rules.View.{View}
 use Rattle.posix_types.specs.declared.call.Who.{Who}
 use Rattle.flight_reserves.specs.staging_files.declared.runs.StageRun.{StageRun}
 use Rattle.flight_reserves.specs.staging_files.Keeps.{Staged}

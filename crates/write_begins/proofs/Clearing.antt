@@ -4,11 +4,11 @@ use Rattle.std.proofs.Common.{arith, ap, ◌∙◌, sym, subst, inl, inr}
 use Rattle.block_counts.specs.Counts.{blocks_for}
 use Rattle.disk_lines.specs.declared.Draft.{Draft}
 use Rattle.disk_places.specs.Places.{data_blocks}
-use Rattle.disk_rules.specs.Volume.{Volume}
-use Rattle.file_table.specs.Files.{Files, runs_in, size_in, spare_in}
+use Rattle.first_writes.specs.disk_rules.Volume.{Volume}
+use Rattle.first_writes.specs.file_table.Files.{Files, runs_in, size_in, spare_in}
 use Rattle.flight_reserves.specs.flight_facts.Flying.{IsFlying}
 use Rattle.flight_reserves.specs.held_sums.Laws.{AreSizes}
-use Rattle.k_rules.specs.View.{View}
+use Rattle.first_writes.specs.k_rules.View.{View}
 use Rattle.list_facts.specs.Members.{In}
 use Rattle.flight_reserves.specs.overlay_facts.Overlays.{IsOverlayOf}
 use Rattle.posix_types.specs.declared.call.Mode.{Mode}

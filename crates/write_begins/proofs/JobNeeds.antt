@@ -9,8 +9,8 @@ use Rattle.pm_words.specs.Images.{words_of}
 use Rattle.pm_words.specs.Words.{Words}
 use Rattle.disk_lines.specs.declared.Draft.{Draft}
 use Rattle.disk_places.specs.Journal.{journaled}
-use Rattle.disk_rules.specs.Volume.{Volume}
-use Rattle.file_table.specs.Files.{Files}
+use Rattle.first_writes.specs.disk_rules.Volume.{Volume}
+use Rattle.first_writes.specs.file_table.Files.{Files}
 use Rattle.open_numbers.proofs.Lookups.{same_opened}
 use Rattle.open_numbers.specs.Numbered.{described_as}
 use Rattle.posix_types.specs.declared.call.Call.{Call}
@@ -20,12 +20,12 @@ use Rattle.posix_types.specs.declared.handle.Handle.{Handle}
 use Rattle.posix_words.specs.declared.open.Description.{Description}
 use Rattle.posix_words.specs.Bytes.{longest_file}
 use Rattle.posix_words.specs.Open.{may_write, opened, Tables}
-use Rattle.posix_facts.specs.RowLaws.{Accepts, put_at-Some}
-use Rattle.posix_puts.specs.Views.{need_of}
-use Rattle.posix_spec.specs.FileRows.{write_start}
-use Rattle.posix_spec.specs.Put.{Put, put_by}
-use Rattle.posix_spec.specs.Run.{Begun}
-use Rattle.posix_spec.specs.State.{State}
+use Rattle.first_writes.specs.posix_facts.RowLaws.{Accepts, put_at-Some}
+use Rattle.first_writes.specs.posix_puts.Views.{need_of}
+use Rattle.first_writes.specs.posix_spec.FileRows.{write_start}
+use Rattle.first_writes.specs.posix_spec.Put.{Put, put_by}
+use Rattle.first_writes.specs.posix_spec.Run.{Begun}
+use Rattle.first_writes.specs.posix_spec.State.{State}
 use Rattle.flight_reserves.specs.world_promise.JobLaws.{needs}
 use Rattle.flight_reserves.specs.world_rules.Jobs.{begun_of, Job, JobsStand, live_claims}
 use Rattle.flight_reserves.specs.world_rules.Stands.{number}

@@ -3,10 +3,10 @@ use Rattle.std.specs.Prelude.{◌≡◌, ◌≢◌, ◌≤◌, ◌++◌, ◌∷�
 use Rattle.std.proofs.Common.{ap, ◌∙◌, sym, subst, inl, inr}
 use Rattle.pm_words.specs.declared.Cell.{Cell}
 use Rattle.pm_words.specs.Words.{Words}
-use Rattle.file_table.specs.Files.{Files}
+use Rattle.first_writes.specs.file_table.Files.{Files}
 use Rattle.first_writes.specs.Laws.{FirstWriteFits}
 use Rattle.flight_reserves.specs.Laws.{KeepsReserved}
-use Rattle.k_rules.specs.View.{View}
+use Rattle.first_writes.specs.k_rules.View.{View}
 use Rattle.write_gaps.specs.lost_devices.Left.{IsLeftOf}
 use Rattle.write_gaps.proofs.lost_devices_proofs.Cuts.{left_at, left_map_cut}
 use Rattle.posix_types.specs.declared.call.Who.{Who}

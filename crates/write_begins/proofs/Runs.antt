@@ -12,18 +12,18 @@ use Rattle.block_counts.specs.Counts.{blocks_for}
 use Rattle.disk_lines.specs.declared.Draft.{Draft}
 use Rattle.disk_lines.specs.declared.Inode.{Inode}
 use Rattle.disk_lines.specs.Lines.{most_bytes}
-use Rattle.disk_rules.specs.Volume.{inode}
-use Rattle.file_table.specs.Files.{Files, spare_in}
+use Rattle.first_writes.specs.disk_rules.Volume.{inode}
+use Rattle.first_writes.specs.file_table.Files.{Files, spare_in}
 use Rattle.flight_reserves.specs.Laws.{StandsReserved, StandsWithRun}
 use Rattle.write_gaps.proofs.flight_zeros_proofs.Refilled as refilling
 use Rattle.write_gaps.specs.flight_zeros.Laws.{ReservedReadZero}
 use Rattle.write_gaps.specs.flight_zeros.Zeros.{ReadZero}
-use Rattle.k_rules.specs.View.{View}
+use Rattle.first_writes.specs.k_rules.View.{View}
 use Rattle.list_facts.specs.Members.{In, slice_get-push}
 use Rattle.posix_types.specs.declared.call.Who.{Who}
-use Rattle.posix_puts.specs.Views.{need_of}
-use Rattle.posix_spec.specs.Put.{Put}
-use Rattle.posix_spec.specs.State.{room}
+use Rattle.first_writes.specs.posix_puts.Views.{need_of}
+use Rattle.first_writes.specs.posix_spec.Put.{Put}
+use Rattle.first_writes.specs.posix_spec.State.{room}
 use Rattle.flight_reserves.specs.staging_files.declared.runs.StageFault.{StageFault}
 use Rattle.flight_reserves.specs.staging_files.declared.runs.StageRun.{StageRun}
 use Rattle.flight_reserves.specs.staging_files.GivesUp.{IsGivenBack}
@@ -37,7 +37,7 @@ use Rattle.flight_reserves.specs.world_standing.Standing.{Kept, reserved_run, St
 use Rattle.write_stages.specs.write_asks.declared.asking.Target.{Target}
 use Rattle.write_stages.specs.write_drafts.Drafts.{staged_count}
 use Rattle.flight_reserves.specs.world_standing.Views.{SpellCall}
-use Rattle.write_jobs.specs.Jobs.{JobView}
+use Rattle.first_writes.specs.write_jobs.Jobs.{JobView}
 use Rattle.write_stages.specs.Stages.{IsStaged as IsJobStaged, Ready, with_parts}
 use Rattle.write_begins.specs.Goes.{BecomesJob, FitsTarget, Goes, GoesNoFurther, job_of, KeepsMaps, RunGivenBack, StagedAsJob}
 

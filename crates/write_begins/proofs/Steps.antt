@@ -4,15 +4,15 @@ use Rattle.std.specs.declared.alloc.AllocError.{AllocError}
 use Rattle.std.proofs.Common.{ap, ◌∙◌, sym, subst}
 use Rattle.pm_words.specs.declared.Cell.{Cell}
 use Rattle.pm_words.specs.Frames.{SameLent}
-use Rattle.disk_rules.specs.Volume.{Volume}
-use Rattle.file_table.specs.Files.{Files}
-use Rattle.k_rules.specs.View.{View}
+use Rattle.first_writes.specs.disk_rules.Volume.{Volume}
+use Rattle.first_writes.specs.file_table.Files.{Files}
+use Rattle.first_writes.specs.k_rules.View.{View}
 use Rattle.list_facts.specs.Members.{In}
 use Rattle.write_gaps.proofs.lost_devices_proofs.Cuts.{left_through}
 use Rattle.posix_types.specs.declared.call.Who.{Who}
-use Rattle.posix_puts.specs.Views.{need_of}
-use Rattle.posix_spec.specs.Put.{Put}
-use Rattle.posix_spec.specs.State.{room}
+use Rattle.first_writes.specs.posix_puts.Views.{need_of}
+use Rattle.first_writes.specs.posix_spec.Put.{Put}
+use Rattle.first_writes.specs.posix_spec.State.{room}
 use Rattle.flight_reserves.specs.staging_files.Keeps.{Staged}
 use Rattle.flight_reserves.specs.staging_files.Reserves.{IsLacking}
 use Rattle.flight_reserves.specs.world_images.Promised.{IsKept}

@@ -6,8 +6,8 @@ use Rattle.pm_words.specs.declared.Cell.{Cell}
 use Rattle.pm_words.specs.Powers.{is_on, Supply}
 use Rattle.pm_words.specs.Words.{Words}
 use Rattle.disk_places.specs.Places.{Geometry}
-use Rattle.file_table.specs.Files.{Files}
-use Rattle.k_rules.specs.View.{View}
+use Rattle.first_writes.specs.file_table.Files.{Files}
+use Rattle.first_writes.specs.k_rules.View.{View}
 use Rattle.write_gaps.specs.lost_devices.Left.{IsLeftOf}
 use Rattle.posix_types.specs.declared.call.Call.{Call}
 use Rattle.posix_types.specs.declared.call.Mode.{Mode}
@@ -17,10 +17,10 @@ use Rattle.posix_types.specs.declared.item.Item.{Item}
 use Rattle.posix_types.specs.declared.item.Outcome.{Outcome}
 use Rattle.posix_words.specs.Open.{Tables}
 use Rattle.posix_words.specs.Outcomes.{first}
-use Rattle.posix_puts.specs.Views.{need_of}
-use Rattle.posix_spec.specs.FileRows.{write_rows}
-use Rattle.posix_spec.specs.Run.{run}
-use Rattle.posix_spec.specs.State.{room, State}
+use Rattle.first_writes.specs.posix_puts.Views.{need_of}
+use Rattle.first_writes.specs.posix_spec.FileRows.{write_rows}
+use Rattle.first_writes.specs.posix_spec.Run.{run}
+use Rattle.first_writes.specs.posix_spec.State.{room, State}
 use Rattle.flight_reserves.specs.staging_files.Keeps.{Staged}
 use Rattle.flight_reserves.specs.staging_files.Reserves.{IsLacking}
 use Rattle.flight_reserves.specs.world_images.Promised.{IsKept}
@@ -32,7 +32,7 @@ use Rattle.flight_reserves.specs.world_standing.Views.{SpellCall}
 use Rattle.flight_reserves.specs.world_steps.Steps.{LetsJobsBe}
 use Rattle.write_stages.specs.write_asks.Laws.{call_of, start_of}
 use Rattle.write_stages.specs.write_drafts.Drafts.{staged_count}
-use Rattle.write_jobs.specs.Jobs.{blocks_of, JobView}
+use Rattle.first_writes.specs.write_jobs.Jobs.{blocks_of, JobView}
 use Rattle.write_stages.specs.Stages.{with_parts}
 use Rattle.write_begins.specs.declared.beginning.WriteBegun.{WriteBegun}
 

@@ -6,10 +6,10 @@ use Rattle.pm_words.specs.Words.{Words}
 use Rattle.block_counts.specs.Counts.{blocks_for}
 use Rattle.disk_lines.specs.declared.Kind.TheVariants.{File}
 use Rattle.disk_places.specs.Places.{data_blocks, Geometry}
-use Rattle.disk_rules.specs.Volume.{extents, inode, Volume}
-use Rattle.file_ends.specs.Ends.{FilesEnd}
-use Rattle.file_table.specs.Files.{Files, runs_in, size_in}
-use Rattle.k_rules.specs.View.{View}
+use Rattle.first_writes.specs.disk_rules.Volume.{extents, inode, Volume}
+use Rattle.first_writes.specs.file_ends.Ends.{FilesEnd}
+use Rattle.first_writes.specs.file_table.Files.{Files, runs_in, size_in}
+use Rattle.first_writes.specs.k_rules.View.{View}
 use Rattle.list_facts.specs.Members.{In}
 use Rattle.write_gaps.specs.lost_devices.Left.{IsLeftOf}
 use Rattle.posix_types.specs.declared.call.Call.{Call}
@@ -19,10 +19,10 @@ use Rattle.posix_types.specs.declared.item.Item.{Item}
 use Rattle.posix_words.specs.Open.{is_open, Tables}
 use Rattle.posix_words.specs.Room.{write_need}
 use Rattle.flight_reserves.specs.posix_frames.Frames.{AreThreads}
-use Rattle.posix_puts.specs.Views.{need_of}
-use Rattle.posix_spec.specs.Put.{put_by}
-use Rattle.posix_spec.specs.Run.{run}
-use Rattle.posix_spec.specs.State.{room, State}
+use Rattle.first_writes.specs.posix_puts.Views.{need_of}
+use Rattle.first_writes.specs.posix_spec.Put.{put_by}
+use Rattle.first_writes.specs.posix_spec.Run.{run}
+use Rattle.first_writes.specs.posix_spec.State.{room, State}
 use Rattle.flight_reserves.specs.staging_files.declared.runs.StageRun.{StageRun}
 use Rattle.flight_reserves.specs.staging_files.GivesUp.{IsGivenBack}
 use Rattle.flight_reserves.specs.staging_files.Keeps as staging
@@ -38,7 +38,7 @@ use Rattle.flight_reserves.specs.world_standing.Views.{SpellCall}
 use Rattle.write_stages.specs.write_asks.declared.asking.Target.{Target}
 use Rattle.write_stages.specs.write_asks.Asks.{room_in}
 use Rattle.write_stages.specs.write_drafts.Drafts.{staged_count}
-use Rattle.write_jobs.specs.Jobs.{blocks_of, JobView}
+use Rattle.first_writes.specs.write_jobs.Jobs.{blocks_of, JobView}
 use Rattle.write_stages.specs.Stages.{IsJobOf, IsStaged, Ready, with_parts}
 use Rattle.write_begins.specs.declared.beginning.WriteBegun.{WriteBegun}
 

@@ -1,8 +1,8 @@
 -- What calls need, by the tables of open files and what is kept of files.
 use Rattle.std.specs.Prelude.{◌≡◌, ◌+◌, ◌&&◌, nat_le, if◌then◌else◌, ℕ, Bool, length, Option, None, Some, sum_by}
 use Rattle.disk_places.specs.Places.{Geometry}
-use Rattle.file_table.specs.Files.{Files}
-use Rattle.k_rules.specs.View.{View}
+use Rattle.first_writes.specs.file_table.Files.{Files}
+use Rattle.first_writes.specs.k_rules.View.{View}
 use Rattle.write_stages.specs.open_files.declared.opened.Opened.{Opened}
 use Rattle.posix_types.specs.declared.call.Call.{Call}
 use Rattle.posix_types.specs.declared.call.Mode.{Mode}
@@ -10,7 +10,7 @@ use Rattle.posix_types.specs.declared.call.Who.{Who}
 use Rattle.posix_types.specs.declared.handle.Handle.{Handle}
 use Rattle.posix_words.specs.Bytes.{longest_file}
 use Rattle.posix_words.specs.Open.{may_write, Tables}
-use Rattle.posix_spec.specs.State.{State}
+use Rattle.first_writes.specs.posix_spec.State.{State}
 use Rattle.flight_reserves.specs.world_promise.JobLaws.{needs}
 use Rattle.flight_reserves.specs.world_standing.Standing.{Kept, Pending, StandsAt}
 use Rattle.write_stages.specs.write_asks.Asks.{need_in, start_at}

@@ -1,19 +1,19 @@
 //! A write begins.
 ghost use Rattle.std.specs.Prelude.{◌≡◌, ◌^◌, true};
 ghost use Rattle.pm_words.specs.Powers.{is_on, Steps};
-ghost use Rattle.file_ends.specs.Ends.{FilesEnd};
+ghost use Rattle.first_writes.specs.file_ends.Ends.{FilesEnd};
 ghost use Rattle.write_stages.specs.write_asks.Laws.{call_of};
 ghost use Rattle.write_begins.specs.Begins.{Found, IsBegun, IsPaid};
 ghost use Rattle.write_begins.specs.Goes.{KeepsMaps};
 
 use crate::rooms::begin_target;
-use file_table::FileTable;
+use first_writes::file_table::FileTable;
+use first_writes::write_jobs::Job;
 use flight_reserves::k_split::KSplit;
 use flight_reserves::staging_files::Staging;
 use pm_lines::Power;
 use posix_types::{Data, Handle, Outcome, Who};
 use std::alloc::{AllocError, Global};
-use write_jobs::Job;
 use write_stages::open_files::OpenFiles;
 use write_stages::write_asks::{Asked, ask, numbers_are_those_of_the_state};
 use write_stages::write_drafts::kept_numbers_are_those_of_the_state;

@@ -31,3 +31,5 @@ pub fn jobs_need_what_their_calls_do()
     numbers_are_those_of_the_state();
     kept_numbers_are_those_of_the_state();
 }
+
+pub use first_writes::write_drafts;

@@ -3,7 +3,7 @@ ghost use Rattle.std.specs.Prelude.{◌≡◌};
 ghost use Rattle.write_stages.specs.write_asks.Asks.{HaveLines};
 ghost use Rattle.write_begins.specs.Needs.{need_by, need_through, start_from};
 
-use file_table::FileTable;
+use first_writes::file_table::FileTable;
 use posix_types::{Call, Handle, Mode, Who};
 use posix_words::bytes::is_too_far;
 use posix_words::room::write_need;

@@ -1,7 +1,7 @@
 //! Room for a write, and its job.
 ghost use Rattle.std.specs.Prelude.{◌≡◌, ◌+◌, ◌*◌, ◌≤◌, ◌^◌, true, length, Contains};
 ghost use Rattle.pm_words.specs.Powers.{is_on, Steps};
-ghost use Rattle.file_table.specs.Files.{size_in, spare_in};
+ghost use Rattle.first_writes.specs.file_table.Files.{size_in, spare_in};
 ghost use Rattle.write_gaps.specs.flight_zeros.Zeros.{ReadZero};
 ghost use Rattle.write_begins.specs.Begins.{IsPaid};
 ghost use Rattle.write_begins.specs.Goes.{FitsTarget, Goes, HasRoom, IsGone, IsJobBegun, KeepsMaps};
@@ -11,12 +11,12 @@ ghost use Rattle.write_gaps.specs.Gaps.{block_start};
 
 use crate::beginning::WriteBegun;
 use block_counts::blocks_for;
-use file_table::FileTable;
+use first_writes::file_table::FileTable;
+use first_writes::k_journal::Commit;
 use first_writes::the_first_write_finds_its_blocks;
 use flight_reserves::a_run_is_reserved_in_flight;
 use flight_reserves::k_split::KSplit;
 use flight_reserves::staging_files::{StageFault, StageRun, Staging};
-use k_journal::Commit;
 use pm_lines::Power;
 use posix_types::Who;
 use std::alloc::{AllocError, Global};

@@ -9,14 +9,14 @@ use Rattle.disk_places.specs.Places.{Geometry}
 use Rattle.disk_lines.specs.declared.Draft.{Draft}
 use Rattle.disk_lines.specs.declared.Kind.{Kind}
 use Rattle.disk_lines.specs.declared.Kind.TheVariants.{Directory, File, Free, Staging}
-use Rattle.disk_rules.specs.Volume.{inode, Volume}
-use Rattle.file_table.specs.Files.{size_in}
+use Rattle.world_standing.specs.disk_rules.Volume.{inode, Volume}
+use Rattle.write_asks.specs.file_table.Files.{size_in}
 use Rattle.world_standing.specs.held_sums.Laws.{HeldIsTheSum}
-use Rattle.k_rules.specs.View.{View}
+use Rattle.world_standing.specs.k_rules.View.{View}
 use Rattle.posix_words.specs.declared.nodes.Node.{Node}
 use Rattle.posix_words.specs.Nodes.{bytes_of, node_at}
 use Rattle.posix_words.specs.Open.{is_open, Tables}
-use Rattle.posix_spec.specs.State.{State}
+use Rattle.write_asks.specs.posix_spec.State.{State}
 use Rattle.world_standing.specs.world_promise.TreeRules.{used_below}
 use Rattle.world_standing.specs.world_rules.Jobs.{live_claims}
 use Rattle.world_standing.specs.world_rules.Stands.{FileStands, is_used, NodeStands, number}

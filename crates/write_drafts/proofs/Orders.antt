@@ -8,10 +8,10 @@ use Rattle.disk_lines.specs.declared.Draft.{Draft}
 use Rattle.disk_lines.specs.declared.Kind.TheVariants.{File}
 use Rattle.disk_lines.specs.Entries.{is_draft}
 use Rattle.disk_lines.specs.Lines.{most_bytes}
-use Rattle.disk_rules.specs.Live.{is_file, is_live}
-use Rattle.disk_rules.specs.Volume.{inode, Volume}
+use Rattle.world_standing.specs.disk_rules.Live.{is_file, is_live}
+use Rattle.world_standing.specs.disk_rules.Volume.{inode, Volume}
 use Rattle.file_overlay.specs.declared.runs.Run.{Run}
-use Rattle.file_table.specs.Files.{runs_in}
+use Rattle.write_asks.specs.file_table.Files.{runs_in}
 use Rattle.world_standing.specs.overlay_facts.Overlays.{run_of}
 use Rattle.world_standing.specs.staging_files.declared.runs.StageRun.{StageRun}
 use Rattle.world_standing.specs.staging_files.Keeps.{given_to, IsPlaced, IsStaged, Staged}

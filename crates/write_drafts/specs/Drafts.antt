@@ -6,13 +6,13 @@ use Rattle.disk_lines.specs.declared.Draft.{Draft}
 use Rattle.disk_lines.specs.declared.Kind.TheVariants.{File}
 use Rattle.disk_lines.specs.Entries.{is_draft}
 use Rattle.disk_lines.specs.Lines.{most_bytes}
-use Rattle.disk_rules.specs.Live.{is_live}
-use Rattle.disk_rules.specs.Volume.{inode, Volume}
+use Rattle.world_standing.specs.disk_rules.Live.{is_live}
+use Rattle.world_standing.specs.disk_rules.Volume.{inode, Volume}
 use Rattle.file_overlay.specs.declared.runs.Run.{Run}
-use Rattle.file_table.specs.Files.{Files, runs_in}
-use Rattle.k_rules.specs.View.{View}
+use Rattle.write_asks.specs.file_table.Files.{Files, runs_in}
+use Rattle.world_standing.specs.k_rules.View.{View}
 use Rattle.posix_words.specs.Open.{Tables}
-use Rattle.posix_spec.specs.State.{State}
+use Rattle.write_asks.specs.posix_spec.State.{State}
 use Rattle.world_standing.specs.staging_files.declared.runs.StageRun.{StageRun}
 use Rattle.world_standing.specs.staging_files.Keeps.{Staged}
 use Rattle.world_standing.specs.world_rules.Jobs.{live_claims}

@@ -1,9 +1,9 @@
 -- What the World keeps of files says the numbers of the state.
 use Rattle.std.specs.Prelude.{◌≡◌, ℕ, Bool}
 use Rattle.disk_places.specs.Places.{data_blocks, Geometry}
-use Rattle.k_rules.specs.View.{View}
+use Rattle.world_standing.specs.k_rules.View.{View}
 use Rattle.posix_words.specs.Open.{Tables}
-use Rattle.posix_spec.specs.State.{room, State}
+use Rattle.write_asks.specs.posix_spec.State.{room, State}
 use Rattle.world_standing.specs.world_rules.Stands.{number}
 use Rattle.world_standing.specs.Standing.{Kept, StandsAt}
 use Rattle.write_asks.specs.Asks.{HaveLines, room_in}

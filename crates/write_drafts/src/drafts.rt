@@ -2,16 +2,16 @@
 ghost use Rattle.std.specs.Prelude.{◌≡◌, ◌≤◌, ◌<◌, ◌+◌, ◌^◌, length};
 ghost use Rattle.disk_lines.specs.declared.Kind.TheVariants.{File};
 ghost use Rattle.disk_lines.specs.EntryLaws.{FitsDraft};
-ghost use Rattle.disk_rules.specs.Volume.{inode};
-ghost use Rattle.file_table.specs.Files.{runs_in};
+ghost use Rattle.world_standing.specs.disk_rules.Volume.{inode};
+ghost use Rattle.write_asks.specs.file_table.Files.{runs_in};
 ghost use Rattle.write_drafts.specs.Drafts.{draft_in, order_behind};
 
 use disk_lines::Draft;
 use file_overlay::Run;
-use file_table::FileTable;
 use world_standing::k_split::KSplit;
 use world_standing::staging_files::StageRun;
 use write_asks::Target;
+use write_asks::file_table::FileTable;
 
 // The order behind these runs of a file that has applied so much.
 fn order_behind(applied: u64, runs: &[Run]) -> u64

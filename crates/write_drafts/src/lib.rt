@@ -33,6 +33,6 @@ pub fn kept_numbers_are_those_of_the_state()
     what_files_hold_is_the_sum();
 }
 
-pub use world_standing::{file_reads, k_split};
+pub use world_standing::{file_reads, k_journal, k_split, map_collection, write_jobs};
 pub use write_asks;
-pub use write_asks::open_files;
+pub use write_asks::{file_table, open_files, write_rows};

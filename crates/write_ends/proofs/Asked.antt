@@ -4,14 +4,14 @@ use Rattle.std.proofs.lemmas.Bool.Decides.{nat_tests}
 use Rattle.disk_lines.specs.declared.Draft.{Draft}
 use Rattle.disk_lines.specs.Entries.{is_draft}
 use Rattle.disk_lines.specs.Lines.{most_bytes}
-use Rattle.file_table.specs.Files.{ChangesFile, Files, runs_in, spare_in}
-use Rattle.k_rules.specs.View.{View}
+use Rattle.write_asks.specs.file_table.Files.{ChangesFile, Files, runs_in, spare_in}
+use Rattle.world_lent.specs.k_rules.View.{View}
 use Rattle.block_loans.specs.k_split.Order.{IsInOrder}
 use Rattle.world_standing.specs.overlay_facts.Overlays.{run_of}
 use Rattle.posix_types.specs.declared.call.Call.{Call}
 use Rattle.posix_types.specs.declared.call.Who.{Who}
 use Rattle.posix_words.specs.Open.{Tables}
-use Rattle.write_jobs.specs.Jobs.{FilledView, HoldWords}
+use Rattle.block_loans.specs.write_jobs.Jobs.{FilledView, HoldWords}
 use Rattle.block_loans.specs.Loans.{ComeBack}
 use Rattle.write_asks.specs.Asks.{CanMoveBy, moved_by}
 use Rattle.write_ends.specs.Ends.{CanFinish, HasJob, HasWrite, LeavesFinished}

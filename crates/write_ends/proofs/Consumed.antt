@@ -14,18 +14,18 @@ use Rattle.disk_places.specs.PlaceLaws.{behind_log-not_journaled, behind_log-wor
 use Rattle.disk_places.specs.Places.{is_data_block, log_line}
 use Rattle.disk_lines.specs.declared.Draft.{Draft}
 use Rattle.disk_lines.specs.declared.Kind.TheVariants.{Staging}
-use Rattle.disk_rules.specs.Honest.{IsHonest}
-use Rattle.disk_rules.specs.Rules.{AreApart, file_blocks_of}
-use Rattle.disk_rules.specs.Volume.{extents, inode, Volume}
+use Rattle.world_lent.specs.disk_rules.Honest.{IsHonest}
+use Rattle.world_lent.specs.disk_rules.Rules.{AreApart, file_blocks_of}
+use Rattle.world_lent.specs.disk_rules.Volume.{extents, inode, Volume}
 use Rattle.extent_facts.specs.Covers.{covers-disk_at}
-use Rattle.volume_facts.specs.ImageLaws.{journaled-other}
-use Rattle.volume_facts.specs.LineWords.{data_word}
+use Rattle.world_lent.specs.volume_facts.ImageLaws.{journaled-other}
+use Rattle.world_lent.specs.volume_facts.LineWords.{data_word}
 use Rattle.world_lent.specs.volume_uses.OwnerLaws.{IsOnePlace, one_owner}
 use Rattle.world_lent.specs.volume_uses.PoolLaws.{covered-in_data}
-use Rattle.k_rules.specs.View.{View}
+use Rattle.world_lent.specs.k_rules.View.{View}
 use Rattle.list_facts.specs.Members.{In}
-use Rattle.posix_puts.specs.Puts.{PutsWhole}
-use Rattle.posix_spec.specs.Run.{run}
+use Rattle.write_asks.specs.posix_puts.Puts.{PutsWhole}
+use Rattle.write_asks.specs.posix_spec.Run.{run}
 use Rattle.posix_types.specs.declared.call.Call.{Call}
 use Rattle.posix_types.specs.declared.call.Who.{Who}
 use Rattle.world_lent.specs.world_images.Promised.{IsKept}
@@ -37,7 +37,7 @@ use Rattle.world_lent.specs.world_rules.Jobs.{AreApartJobs, HoldsWhole, IsStaged
 use Rattle.world_lent.specs.world_rules.Promised.{AreWhole}
 use Rattle.world_lent.specs.world_rules.Stands.{IsSane}
 use Rattle.world_lent.specs.world_steps.Worlds.{IsWorld}
-use Rattle.write_jobs.specs.Jobs.{FilledView, HoldWords, loan_at}
+use Rattle.block_loans.specs.write_jobs.Jobs.{FilledView, HoldWords, loan_at}
 use Rattle.block_loans.specs.Loans.{AreApart as LoansApart, ComeBack}
 use Rattle.block_loans.proofs.SettleLaws.{puts_back}
 use Rattle.block_loans.specs.job_facts.Blocks.{AreOut, ArePutBack, SpellWhole}

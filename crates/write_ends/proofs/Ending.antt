@@ -13,12 +13,12 @@ use Rattle.pm_words.specs.Words.{Words}
 use Rattle.disk_places.specs.Journal.{journaled}
 use Rattle.disk_lines.specs.declared.Draft.{Draft}
 use Rattle.disk_lines.specs.declared.Kind.TheVariants.{File, Staging}
-use Rattle.disk_rules.specs.Volume.{free_inode, inode, Volume}
-use Rattle.k_rules.specs.View.{View}
+use Rattle.world_lent.specs.disk_rules.Volume.{free_inode, inode, Volume}
+use Rattle.world_lent.specs.k_rules.View.{View}
 use Rattle.list_facts.specs.Members.{In}
 use Rattle.posix_types.specs.declared.call.Call.{Call}
 use Rattle.posix_types.specs.declared.call.Who.{Who}
-use Rattle.posix_puts.specs.Puts.{PutsWhole}
+use Rattle.write_asks.specs.posix_puts.Puts.{PutsWhole}
 use Rattle.world_lent.specs.volume_uses.OwnerLaws.{IsOnePlace, one_owner}
 use Rattle.block_loans.specs.world_jobs.JobSteps.{Valid-front}
 use Rattle.world_lent.specs.world_promise.JobLaws.{live_file, live_used}
@@ -27,7 +27,7 @@ use Rattle.world_lent.specs.world_promise.TreeRules.{used_below}
 use Rattle.world_lent.specs.world_rules.Jobs.{Job, JobStands, live_claims, staged_block, Valid}
 use Rattle.world_lent.specs.world_rules.Stands.{IsSane, number}
 use Rattle.world_lent.specs.world_steps.Worlds.{IsWorld}
-use Rattle.write_jobs.specs.Jobs.{blocks_of, FilledView, loan_at}
+use Rattle.block_loans.specs.write_jobs.Jobs.{blocks_of, FilledView, loan_at}
 use Rattle.block_loans.specs.Loans.{AreApart, ComeBack}
 use Rattle.block_loans.proofs.SettleLaws.{puts_back}
 use Rattle.world_standing.specs.flight_facts.Flying.{IsFlying}

@@ -13,11 +13,11 @@ use Rattle.disk_places.specs.Places.{Geometry}
 use Rattle.disk_lines.specs.declared.Draft.{Draft}
 use Rattle.disk_lines.specs.declared.Kind.{Kind}
 use Rattle.disk_lines.specs.declared.Kind.TheVariants.{Directory, File, Free, Staging}
-use Rattle.disk_rules.specs.Live.{is_live}
-use Rattle.disk_rules.specs.Volume.{inode, Volume}
-use Rattle.entry_orders.specs.Orders.{AreOrdered-step_of}
-use Rattle.file_table.specs.Files.{ChangesFile, Files, runs_in, size_in}
-use Rattle.k_rules.specs.View.{View}
+use Rattle.world_lent.specs.disk_rules.Live.{is_live}
+use Rattle.world_lent.specs.disk_rules.Volume.{inode, Volume}
+use Rattle.world_standing.specs.entry_orders.Orders.{AreOrdered-step_of}
+use Rattle.write_asks.specs.file_table.Files.{ChangesFile, Files, runs_in, size_in}
+use Rattle.world_lent.specs.k_rules.View.{View}
 use Rattle.block_loans.specs.k_split.Order.{IsInOrder}
 use Rattle.list_facts.specs.Members.{In, pushed-In}
 use Rattle.open_numbers.specs.Numbered.{numbered_as}
@@ -27,14 +27,14 @@ use Rattle.posix_types.specs.declared.call.Who.{Who}
 use Rattle.posix_words.specs.declared.nodes.Node.{Node}
 use Rattle.posix_words.specs.Nodes.{bytes_of, node_at}
 use Rattle.posix_words.specs.Open.{is_open, same_who, Tables}
-use Rattle.posix_puts.specs.Puts.{put_bytes, PutsWhole}
-use Rattle.posix_spec.specs.Run.{after_call, Begun}
-use Rattle.posix_spec.specs.State.{alone, State}
+use Rattle.write_asks.specs.posix_puts.Puts.{put_bytes, PutsWhole}
+use Rattle.write_asks.specs.posix_spec.Run.{after_call, Begun}
+use Rattle.write_asks.specs.posix_spec.State.{alone, State}
 use Rattle.world_lent.specs.world_promise.JobLaws.{live_claims-more}
 use Rattle.world_lent.specs.world_promise.TreeRules.{used_below}
 use Rattle.world_lent.specs.world_rules.Jobs.{begun_of, live_claims}
 use Rattle.world_lent.specs.world_rules.Stands.{entries_of, FileStands, is_used, NodeStands, number}
-use Rattle.write_jobs.specs.Jobs.{FilledView, HoldWords}
+use Rattle.block_loans.specs.write_jobs.Jobs.{FilledView, HoldWords}
 use Rattle.block_loans.specs.Loans.{ComeBack}
 use Rattle.world_standing.specs.flight_facts.Flying.{IsFlying, with_entry}
 use Rattle.world_standing.proofs.flight_facts_proofs.Flights.{flies_finished}

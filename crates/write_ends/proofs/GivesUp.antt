@@ -11,10 +11,10 @@ use Rattle.pm_words.specs.Cells.{cell, is_lent, is_single}
 use Rattle.disk_lines.specs.declared.Draft.{Draft}
 use Rattle.disk_lines.specs.Entries.{is_draft}
 use Rattle.disk_places.specs.Places.{Geometry}
-use Rattle.disk_rules.specs.Rules.{AreApart}
-use Rattle.disk_rules.specs.Volume.{extents}
+use Rattle.world_lent.specs.disk_rules.Rules.{AreApart}
+use Rattle.world_lent.specs.disk_rules.Volume.{extents}
 use Rattle.extent_words.specs.Extents.{disk_at, is_within}
-use Rattle.k_rules.specs.View.{View}
+use Rattle.world_lent.specs.k_rules.View.{View}
 use Rattle.block_loans.specs.k_split.Order.{IsInOrder}
 use Rattle.list_facts.specs.Members.{In}
 use Rattle.posix_words.specs.Open.{same_who}
@@ -23,7 +23,7 @@ use Rattle.world_standing.specs.staging_files.GivesUp.{IsGivenBack}
 use Rattle.world_standing.specs.staging_files.Keeps.{Agrees, AreFreeSingle, IsRunSingle, IsStaged, IsThere, Staged}
 use Rattle.world_lent.specs.world_rules.Jobs.{Job, live_claims, staged_block}
 use Rattle.world_lent.specs.world_rules.Promised.{AreWhole}
-use Rattle.write_jobs.specs.Jobs.{FilledView, HoldWords, loan_at}
+use Rattle.block_loans.specs.write_jobs.Jobs.{FilledView, HoldWords, loan_at}
 use Rattle.block_loans.specs.Loans.{ComeBack}
 use Rattle.world_standing.specs.flight_facts.Flying.{IsFlying}
 use Rattle.world_standing.proofs.flight_facts_proofs.Flights.{others_home, others_out}

@@ -5,8 +5,8 @@ use Rattle.std.proofs.lemmas.Bool.{eqb-true}
 use Rattle.std.proofs.lemmas.List.{get_or-set_other, get_or-set_same, length-set}
 use Rattle.disk_lines.specs.declared.Draft.{Draft}
 use Rattle.disk_lines.specs.declared.Kind.TheVariants.{File}
-use Rattle.disk_rules.specs.Volume.{inode, Volume}
-use Rattle.file_table.specs.Files.{ChangesFile, Files, runs_in, size_in}
+use Rattle.world_lent.specs.disk_rules.Volume.{inode, Volume}
+use Rattle.write_asks.specs.file_table.Files.{ChangesFile, Files, runs_in, size_in}
 use Rattle.world_standing.specs.held_sums.Laws.{AreSizes}
 use Rattle.world_standing.specs.overlay_facts.Overlays.{IsOverlayOf, run_of}
 use Rattle.world_standing.specs.flight_facts.Flying.{AreOverlays, FileState, with_entry}

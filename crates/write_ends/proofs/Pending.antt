@@ -7,8 +7,8 @@ use Rattle.write_asks.specs.posix_frames.Handles.{same_who-sym}
 use Rattle.posix_words.specs.Open.{same_who}
 use Rattle.pm_words.specs.Words.{Words}
 use Rattle.disk_lines.specs.declared.Draft.{Draft}
-use Rattle.disk_rules.specs.Volume.{Volume}
-use Rattle.posix_spec.specs.State.{State}
+use Rattle.world_lent.specs.disk_rules.Volume.{Volume}
+use Rattle.write_asks.specs.posix_spec.State.{State}
 use Rattle.world_lent.specs.world_rules.Jobs.{ApartFrom, AreApartJobs, Job, JobsStand, JobStands}
 use Rattle.world_standing.specs.Standing.{AreJobsOf, AreOfTwoThreads, Pending}
 use Rattle.world_standing.specs.Views.{without}

@@ -7,7 +7,7 @@ use Rattle.pm_words.specs.Images.{words_of}
 use Rattle.disk_places.specs.Journal.{journaled}
 use Rattle.list_facts.specs.Members.{In}
 use Rattle.posix_types.specs.declared.call.Mode.{Mode}
-use Rattle.posix_spec.specs.Run.{Begun, run}
+use Rattle.write_asks.specs.posix_spec.Run.{Begun, run}
 use Rattle.world_lent.specs.world_images.Changed.{sound_headed}
 use Rattle.world_lent.specs.world_images.Promised.{IsKept}
 use Rattle.world_lent.specs.Flights.{promise_in_flight}

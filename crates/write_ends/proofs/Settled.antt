@@ -6,16 +6,16 @@ use Rattle.pm_words.specs.CellLaws.{single-home}
 use Rattle.pm_words.specs.Cells.{cell, is_lent, is_single, unmarked}
 use Rattle.disk_places.specs.PlaceLaws.{regions_apart}
 use Rattle.disk_places.specs.Places.{Geometry, is_data_block, IsGeometry, log_line}
-use Rattle.disk_rules.specs.Rules.{file_blocks_of}
-use Rattle.disk_rules.specs.Volume.{extents, inode}
+use Rattle.world_lent.specs.disk_rules.Rules.{file_blocks_of}
+use Rattle.world_lent.specs.disk_rules.Volume.{extents, inode}
 use Rattle.extent_facts.specs.Covers.{covers-disk_at}
 use Rattle.extent_words.specs.Extents.{disk_at}
 use Rattle.world_lent.specs.volume_uses.PoolLaws.{covered-in_data}
-use Rattle.k_rules.specs.View.{View}
+use Rattle.world_lent.specs.k_rules.View.{View}
 use Rattle.list_facts.specs.Members.{In}
 use Rattle.world_standing.specs.staging_files.Keeps.{Agrees, AreFreeSingle, Staged}
 use Rattle.world_lent.specs.world_rules.Jobs.{IsStagedIn, Job, staged_block}
-use Rattle.write_jobs.specs.Jobs.{FilledView, HoldWords, loan_at}
+use Rattle.block_loans.specs.write_jobs.Jobs.{FilledView, HoldWords, loan_at}
 use Rattle.block_loans.specs.Loans.{ComeBack}
 use Rattle.world_standing.specs.flight_facts.Flying.{IsOut}
 use Rattle.world_standing.proofs.flight_facts_proofs.Flights.{others_out}

@@ -1,15 +1,15 @@
 -- What the end of a logged write finds of a World, and what it leaves.
 use Rattle.std.specs.Prelude.{◌≡◌, ◌+◌, ℕ, true, List, [], ◌∷◌, ◌++◌}
 use Rattle.disk_places.specs.Places.{Geometry}
-use Rattle.file_table.specs.Files.{Files}
-use Rattle.k_rules.specs.View.{View}
+use Rattle.write_asks.specs.file_table.Files.{Files}
+use Rattle.world_lent.specs.k_rules.View.{View}
 use Rattle.list_facts.specs.Members.{In}
 use Rattle.posix_types.specs.declared.call.Call.{Call}
 use Rattle.posix_words.specs.Open.{Tables}
-use Rattle.posix_spec.specs.Run.{after_call, Begun}
-use Rattle.posix_spec.specs.State.{State}
+use Rattle.write_asks.specs.posix_spec.Run.{after_call, Begun}
+use Rattle.write_asks.specs.posix_spec.State.{State}
 use Rattle.world_standing.specs.staging_files.Keeps.{Staged}
-use Rattle.write_jobs.specs.Jobs.{blocks_of, FilledView}
+use Rattle.block_loans.specs.write_jobs.Jobs.{blocks_of, FilledView}
 use Rattle.world_standing.specs.Standing.{Kept, Pending, StandsAt}
 use Rattle.world_standing.specs.Views.{SpellCall, without}
 

@@ -7,21 +7,21 @@ use Rattle.pm_words.specs.Words.{Words}
 use Rattle.disk_places.specs.Journal.{IsSound, journaled}
 use Rattle.disk_places.specs.Places.{Geometry, log_line}
 use Rattle.disk_lines.specs.declared.Draft.{Draft}
-use Rattle.disk_rules.specs.Volume.{Volume}
-use Rattle.k_rules.specs.View.{View}
+use Rattle.world_lent.specs.disk_rules.Volume.{Volume}
+use Rattle.world_lent.specs.k_rules.View.{View}
 use Rattle.list_facts.specs.Members.{In}
 use Rattle.posix_types.specs.declared.call.Mode.{Mode}
 use Rattle.posix_types.specs.declared.item.Item.{Item}
 use Rattle.posix_words.specs.Open.{Tables}
-use Rattle.posix_puts.specs.Puts.{PutsWhole}
-use Rattle.posix_spec.specs.Run.{Begun, run}
-use Rattle.posix_spec.specs.State.{State}
+use Rattle.write_asks.specs.posix_puts.Puts.{PutsWhole}
+use Rattle.write_asks.specs.posix_spec.Run.{Begun, run}
+use Rattle.write_asks.specs.posix_spec.State.{State}
 use Rattle.world_lent.specs.world_images.Promised.{IsKept}
 use Rattle.world_lent.specs.Back.{IsPutBack}
 use Rattle.world_lent.specs.world_rules.Jobs.{HoldsWhole, IsStagedIn, Job}
 use Rattle.world_lent.specs.world_rules.Promised.{AreWhole}
 use Rattle.world_lent.specs.world_steps.Worlds.{IsWorld}
-use Rattle.write_jobs.specs.Jobs.{FilledView}
+use Rattle.block_loans.specs.write_jobs.Jobs.{FilledView}
 use Rattle.block_loans.specs.job_facts.Blocks.{AreOut}
 use Rattle.world_standing.specs.Standing.{AreJobsOf, AreOfTwoThreads, HasItsBlocks, Kept, Pending, StandsAt}
 use Rattle.write_ends.specs.Ends.{IsOut}

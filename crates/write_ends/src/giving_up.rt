@@ -6,9 +6,9 @@ ghost use Rattle.write_ends.specs.Ends.{CanGiveUp, HasJob, LeavesGivenUp};
 
 use block_loans::k_split::KSplit;
 use block_loans::settle_blocks;
+use block_loans::write_jobs::FilledJob;
 use disk_lines::Draft;
 use world_standing::staging_files::{StageRun, Staging};
-use write_jobs::FilledJob;
 
 // The staged run of an entry.
 fn stage_run_of(draft: &Draft) -> StageRun

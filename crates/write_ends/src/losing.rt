@@ -5,8 +5,8 @@ ghost use Rattle.write_ends.specs.Lost.{HasLostJob, LeavesLost, StandsLost};
 
 use block_loans::k_split::KSplit;
 use block_loans::settle_blocks;
+use block_loans::write_jobs::FilledJob;
 use disk_lines::Draft;
-use write_jobs::FilledJob;
 
 /// A World that stands together, in strict mode, keeps its promise once the power is off.
 pub fn the_power_may_be_off()

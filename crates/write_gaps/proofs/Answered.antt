@@ -1,12 +1,12 @@
 -- What zeroing a block answers, by how the write of zeros went.
 use Rattle.std.specs.Prelude.{◌≡◌, ◌≤◌, ◌/◌, ℕ, Some, None}
 use Rattle.file_overlay.specs.Runs.{staged_at}
-use Rattle.file_table.specs.Files.{Files, runs_in, size_in}
+use Rattle.flight_cleans.specs.file_table.Files.{Files, runs_in, size_in}
 use Rattle.flight_cleans.specs.Laws.{KeepsCleaned, StandsCleaned}
 use Rattle.flight_zeros.specs.Laws.{KeepsZeroed, StandsZeroed, ZeroedReadZero}
 use Rattle.flight_zeros.specs.Zeros.{staged_place}
-use Rattle.k_journal.specs.declared.outcomes.Commit.{Commit}
-use Rattle.k_rules.specs.View.{View}
+use Rattle.lost_devices.specs.k_journal.declared.outcomes.Commit.{Commit}
+use Rattle.lost_devices.specs.k_rules.View.{View}
 use Rattle.write_gaps.specs.Gaps.{HasFile, IsBlockCleared, IsZeroed}
 use Rattle.write_gaps.proofs.Blocks.{cleared_mapped, cleared_staged}
 use Rattle.write_gaps.proofs.Lost.{loses_mapped, loses_staged}

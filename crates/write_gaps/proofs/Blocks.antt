@@ -1,17 +1,17 @@
 -- A block is zeroed.
 use Rattle.std.specs.Prelude.{◌≡◌, ◌≤◌, ◌<◌, ◌/◌, ◌%◌, ℕ, length, Option, Some, None, refl}
 use Rattle.std.proofs.Common.{arith, ap, ◌∙◌, sym}
-use Rattle.disk_rules.specs.Volume.{extents, Volume}
-use Rattle.data_route.specs.Reads.{source_by}
+use Rattle.lost_devices.specs.disk_rules.Volume.{extents, Volume}
+use Rattle.flight_cleans.specs.data_route.Reads.{source_by}
 use Rattle.extent_words.specs.Extents.{disk_at}
 use Rattle.file_overlay.specs.Runs.{staged_at}
 use Rattle.flight_cleans.specs.file_reads.Reads.{block_of}
-use Rattle.file_table.specs.Files.{Files, runs_in, size_in}
+use Rattle.flight_cleans.specs.file_table.Files.{Files, runs_in, size_in}
 use Rattle.flight_cleans.specs.Laws.{StandsCleaned}
 use Rattle.flight_zeros.specs.Laws.{StandsToZero, StandsZeroed, ZeroedReadZero}
 use Rattle.flight_zeros.specs.Zeros.{block_end, MayZero, ReadZero, staged_place}
 use Rattle.flight_zeros.proofs.Zeroed.{staging_there}
-use Rattle.k_rules.specs.View.{View}
+use Rattle.lost_devices.specs.k_rules.View.{View}
 use Rattle.lost_devices.specs.k_split.Bytes.{IsOverwriteDone, tail_zeros}
 use Rattle.lost_devices.specs.k_split.Loans.{MayLend}
 use Rattle.flight_cleans.specs.world_promise.TreeRules.{used_below}

@@ -2,11 +2,11 @@
 use Rattle.std.specs.Prelude.{◌≡◌, ◌≤◌, ◌+◌, ◌*◌, ◌/◌, ℕ, [], ◌∷◌, ◌++◌, map, max, refl}
 use Rattle.std.proofs.Common.{arith, ap, ◌∙◌, sym, subst}
 use Rattle.disk_lines.specs.declared.Kind.TheVariants.{File}
-use Rattle.disk_rules.specs.Volume.{inode, Volume}
+use Rattle.lost_devices.specs.disk_rules.Volume.{inode, Volume}
 use Rattle.pm_words.specs.Powers.{Steps, Supply}
-use Rattle.file_table.specs.Files.{Files, size_in}
+use Rattle.flight_cleans.specs.file_table.Files.{Files, size_in}
 use Rattle.flight_zeros.specs.Zeros.{block_end, ReadZero}
-use Rattle.k_rules.specs.View.{View}
+use Rattle.lost_devices.specs.k_rules.View.{View}
 use Rattle.list_facts.specs.Members.{In}
 use Rattle.lost_devices.proofs.Cuts.{left_through}
 use Rattle.flight_cleans.specs.world_images.Promised.{IsKept}

@@ -6,11 +6,11 @@ use Rattle.pm_words.specs.Words.{Words}
 use Rattle.disk_places.specs.Journal.{IsSound}
 use Rattle.disk_places.specs.Places.{Geometry}
 use Rattle.file_overlay.specs.Runs.{staged_at}
-use Rattle.file_table.specs.Files.{Files, runs_in, size_in}
+use Rattle.flight_cleans.specs.file_table.Files.{Files, runs_in, size_in}
 use Rattle.flight_cleans.specs.Laws.{KeepsCleaned}
 use Rattle.flight_zeros.specs.Laws.{KeepsZeroed}
 use Rattle.flight_zeros.specs.Zeros.{staged_place}
-use Rattle.k_rules.specs.View.{View}
+use Rattle.lost_devices.specs.k_rules.View.{View}
 use Rattle.lost_devices.specs.k_split.Bytes.{IsOverwriteCut, tail_zeros}
 use Rattle.list_facts.specs.Members.{In}
 use Rattle.lost_devices.specs.Left.{IsLeftOf}
@@ -18,8 +18,8 @@ use Rattle.lost_devices.proofs.Cuts.{left_at, left_overwritten, left_same}
 use Rattle.posix_types.specs.declared.call.Mode.{Mode}
 use Rattle.posix_types.specs.declared.item.Item.{Item}
 use Rattle.posix_words.specs.Open.{Tables}
-use Rattle.posix_spec.specs.Run.{Begun, run}
-use Rattle.posix_spec.specs.State.{State}
+use Rattle.lost_devices.specs.posix_spec.Run.{Begun, run}
+use Rattle.lost_devices.specs.posix_spec.State.{State}
 use Rattle.flight_cleans.specs.world_images.Changed.{sound_headed}
 use Rattle.flight_cleans.specs.world_images.Promised.{IsKept}
 use Rattle.flight_cleans.specs.world_lent.Back.{IsPutBack}

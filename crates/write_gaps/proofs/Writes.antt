@@ -2,9 +2,9 @@
 use Rattle.std.specs.Prelude.{◌≡◌, ◌⊎◌, ◌-◌, ◌/◌, ◌%◌, ℕ, List, replicate, Some, Err}
 use Rattle.std.proofs.Common.{arith, ap, ◌∙◌, sym, inl, inr}
 use Rattle.extent_words.specs.Extents.{disk_at}
-use Rattle.disk_rules.specs.Volume.{extents, Volume}
+use Rattle.lost_devices.specs.disk_rules.Volume.{extents, Volume}
 use Rattle.flight_zeros.specs.Zeros.{staged_place}
-use Rattle.k_rules.specs.View.{View}
+use Rattle.lost_devices.specs.k_rules.View.{View}
 use Rattle.lost_devices.specs.k_split.Bytes.{IsOverwriteAnswer, IsOverwriteCut, tail_zeros, zeros_behind}
 use Rattle.lost_devices.specs.k_split.declared.faults.KFault.{KFault}
 

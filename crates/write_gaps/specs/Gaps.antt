@@ -6,19 +6,19 @@ use Rattle.pm_words.specs.Powers.{is_on, Supply}
 use Rattle.pm_words.specs.Words.{Words}
 use Rattle.disk_lines.specs.declared.Kind.TheVariants.{File}
 use Rattle.disk_places.specs.Places.{Geometry}
-use Rattle.disk_rules.specs.Volume.{inode}
-use Rattle.file_table.specs.Files.{Files, size_in}
+use Rattle.lost_devices.specs.disk_rules.Volume.{inode}
+use Rattle.flight_cleans.specs.file_table.Files.{Files, size_in}
 use Rattle.flight_zeros.specs.Zeros.{block_end, ReadZero}
-use Rattle.k_journal.specs.declared.outcomes.Commit.{Commit}
-use Rattle.k_rules.specs.View.{View}
+use Rattle.lost_devices.specs.k_journal.declared.outcomes.Commit.{Commit}
+use Rattle.lost_devices.specs.k_rules.View.{View}
 use Rattle.lost_devices.specs.k_split.Bytes.{IsOverwriteCut, IsOverwriteDone, tail_zeros}
 use Rattle.list_facts.specs.Members.{In}
 use Rattle.lost_devices.specs.Left.{IsLeftOf}
 use Rattle.posix_types.specs.declared.call.Mode.{Mode}
 use Rattle.posix_types.specs.declared.item.Item.{Item}
 use Rattle.posix_words.specs.Open.{Tables}
-use Rattle.posix_spec.specs.Run.{Begun, run}
-use Rattle.posix_spec.specs.State.{State}
+use Rattle.lost_devices.specs.posix_spec.Run.{Begun, run}
+use Rattle.lost_devices.specs.posix_spec.State.{State}
 use Rattle.flight_cleans.specs.world_images.Promised.{IsKept}
 use Rattle.flight_cleans.specs.world_lent.Back.{IsPutBack}
 use Rattle.flight_cleans.specs.world_rules.Jobs.{begun_of, Job}

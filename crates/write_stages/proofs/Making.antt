@@ -11,13 +11,13 @@ use Rattle.pm_words.specs.Parts.{Part}
 use Rattle.disk_places.specs.Journal.{journaled}
 use Rattle.disk_lines.specs.declared.Draft.{Draft}
 use Rattle.disk_lines.specs.Lines.{most_bytes}
-use Rattle.disk_rules.specs.Volume.{extents, inode, Volume}
+use Rattle.block_loans.specs.disk_rules.Volume.{extents, inode, Volume}
 use Rattle.extent_words.specs.Extents.{disk_at, is_within}
 use Rattle.flight_begins.specs.file_reads.Reads.{FileCanBeRead}
-use Rattle.file_table.specs.Files.{Files, runs_in}
+use Rattle.flight_begins.specs.file_table.Files.{Files, runs_in}
 use Rattle.crash_judge.proofs.ByteLaws.{length-resized}
 use Rattle.block_loans.specs.k_map_plans.Plans.{IsStagingFile}
-use Rattle.k_rules.specs.View.{View}
+use Rattle.block_loans.specs.k_rules.View.{View}
 use Rattle.block_loans.specs.k_split.Loans.{MayLend}
 use Rattle.posix_types.specs.declared.call.Who.{Who}
 use Rattle.posix_words.specs.Bytes.{overwritten}
@@ -33,8 +33,8 @@ use Rattle.block_loans.specs.world_steps.Worlds.{IsWorld}
 use Rattle.block_loans.specs.Loans.{AreLoansOf, MayLendAll}
 use Rattle.write_words.specs.write_asks.declared.asking.Target.{Target}
 use Rattle.write_words.specs.write_drafts.Drafts.{draft_in, DraftsAreNext, IsNextEntry, order_behind, staged_count}
-use Rattle.write_jobs.specs.Contents.{SpellBytes}
-use Rattle.write_jobs.specs.Jobs.{AreOfEntry, AreSingle, loan_at}
+use Rattle.block_loans.specs.write_jobs.Contents.{SpellBytes}
+use Rattle.block_loans.specs.write_jobs.Jobs.{AreOfEntry, AreSingle, loan_at}
 use Rattle.write_words.specs.Words.{old_in, staged_in, StandsReadable}
 use Rattle.flight_begins.specs.world_standing.Standing.{Kept}
 use Rattle.write_stages.specs.Stages.{Ready, with_parts}

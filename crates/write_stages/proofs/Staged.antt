@@ -11,20 +11,20 @@ use Rattle.pm_words.specs.ImageLaws.{IsImage-words_of}
 use Rattle.pm_words.specs.Images.{IsImage, words_of}
 use Rattle.pm_words.specs.Parts.{Part}
 use Rattle.pm_words.specs.Words.{Words}
-use Rattle.crash_spec.specs.RelationLaws.{IsPartOf-whole}
+use Rattle.crash_judge.specs.crash_spec.RelationLaws.{IsPartOf-whole}
 use Rattle.disk_places.specs.Journal.{journaled}
 use Rattle.disk_lines.specs.declared.Draft.{Draft}
 use Rattle.disk_lines.specs.Entries.{is_draft}
 use Rattle.disk_lines.specs.EntryLaws.{FitsDraft}
-use Rattle.disk_rules.specs.Content.{byte_in, disk_of, size_of}
-use Rattle.disk_rules.specs.Rules.{AreApart, HasStagingBlocks}
-use Rattle.disk_rules.specs.Volume.{extents, inode, Volume}
+use Rattle.block_loans.specs.disk_rules.Content.{byte_in, disk_of, size_of}
+use Rattle.block_loans.specs.disk_rules.Rules.{AreApart, HasStagingBlocks}
+use Rattle.block_loans.specs.disk_rules.Volume.{extents, inode, Volume}
 use Rattle.extent_words.specs.Extents.{disk_at, is_within}
 use Rattle.flight_begins.specs.file_reads.Reads.{block_in}
-use Rattle.file_table.specs.Files.{Files, runs_in, size_in}
+use Rattle.flight_begins.specs.file_table.Files.{Files, runs_in, size_in}
 use Rattle.flight_begins.specs.Laws.{MayBegin, StandsBegun, with_cells, with_job}
 use Rattle.block_loans.specs.job_facts.Blocks.{GoOut, SpellWhole}
-use Rattle.k_rules.specs.View.{View}
+use Rattle.block_loans.specs.k_rules.View.{View}
 use Rattle.block_loans.specs.k_split.Order.{IsInOrder}
 use Rattle.list_facts.specs.Members.{In}
 use Rattle.flight_begins.proofs.overlay_facts_proofs.Overlays.{overlay_is_log}
@@ -32,10 +32,10 @@ use Rattle.posix_types.specs.declared.call.Who.{Who}
 use Rattle.posix_words.specs.declared.nodes.Node.{Node}
 use Rattle.posix_words.specs.Bytes.{overwritten}
 use Rattle.posix_words.specs.Nodes.{bytes_of, node_at}
-use Rattle.posix_facts.specs.FitsLaws.{length-overwritten}
-use Rattle.posix_puts.specs.Puts.{PutsWhole}
-use Rattle.posix_spec.specs.Put.{Put}
-use Rattle.posix_spec.specs.State.{State}
+use Rattle.crash_judge.specs.posix_facts.FitsLaws.{length-overwritten}
+use Rattle.crash_judge.specs.posix_puts.Puts.{PutsWhole}
+use Rattle.crash_judge.specs.posix_spec.Put.{Put}
+use Rattle.crash_judge.specs.posix_spec.State.{State}
 use Rattle.flight_begins.specs.staging_files.declared.runs.StageRun.{StageRun}
 use Rattle.block_loans.specs.world_rules.Jobs.{AreApartJobs, Job, JobsStand, JobStands, live_claims, staged_block, Valid}
 use Rattle.block_loans.specs.world_rules.Stands.{FileStands, is_used, number, Stands}
@@ -45,8 +45,8 @@ use Rattle.block_loans.specs.Loans.{AreLentBy, AreLoansOf}
 use Rattle.write_words.specs.write_asks.declared.asking.Target.{Target}
 use Rattle.write_words.specs.write_drafts.Drafts.{DraftsAreNext, IsNextEntry, staged_count}
 use Rattle.write_words.proofs.write_drafts_proofs.Numbers.{file_node}
-use Rattle.write_jobs.specs.Contents.{SpellBytes}
-use Rattle.write_jobs.specs.Jobs.{blocks_of, loan_at}
+use Rattle.block_loans.specs.write_jobs.Contents.{SpellBytes}
+use Rattle.block_loans.specs.write_jobs.Jobs.{blocks_of, loan_at}
 use Rattle.write_words.specs.Words.{staged_in, StagesTheFile}
 use Rattle.write_stages.specs.Stages.{IsStaged, pending_of, Ready}
 use Rattle.write_stages.proofs.Making.{count_is, draft, few, kept_is, live, next, placed, staging_file}

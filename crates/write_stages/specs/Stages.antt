@@ -3,19 +3,19 @@ use Rattle.std.specs.Prelude.{◌≡◌, ◌≢◌, ◌≤◌, ◌<◌, ◌+◌,
 use Rattle.disk_lines.specs.declared.Draft.{Draft}
 use Rattle.disk_lines.specs.declared.Kind.TheVariants.{File}
 use Rattle.disk_places.specs.Places.{Geometry, reserve}
-use Rattle.disk_rules.specs.Room.{unused_blocks}
-use Rattle.disk_rules.specs.Volume.{inode}
-use Rattle.file_table.specs.Files.{Files, size_in, spare_in}
+use Rattle.block_loans.specs.disk_rules.Room.{unused_blocks}
+use Rattle.block_loans.specs.disk_rules.Volume.{inode}
+use Rattle.flight_begins.specs.file_table.Files.{Files, size_in, spare_in}
 use Rattle.flight_zeros.specs.Zeros.{ReadZero}
-use Rattle.k_rules.specs.View.{View}
+use Rattle.block_loans.specs.k_rules.View.{View}
 use Rattle.list_facts.specs.Members.{In}
 use Rattle.posix_types.specs.declared.call.Call.{Call}
 use Rattle.posix_types.specs.declared.call.Who.{Who}
 use Rattle.posix_words.specs.Open.{Tables}
 use Rattle.block_loans.specs.posix_frames.Frames.{AreThreads}
-use Rattle.posix_puts.specs.Views.{need_of}
-use Rattle.posix_spec.specs.Put.{put_by}
-use Rattle.posix_spec.specs.State.{room, State}
+use Rattle.crash_judge.specs.posix_puts.Views.{need_of}
+use Rattle.crash_judge.specs.posix_spec.Put.{put_by}
+use Rattle.crash_judge.specs.posix_spec.State.{room, State}
 use Rattle.flight_begins.specs.staging_files.declared.runs.StageRun.{StageRun}
 use Rattle.flight_begins.specs.staging_files.Keeps.{AreApart, IsRunSingle, IsThere, Staged}
 use Rattle.block_loans.specs.world_promise.JobLaws.{needs}
@@ -25,7 +25,7 @@ use Rattle.flight_begins.specs.world_standing.Standing.{Kept, Pending, reserved_
 use Rattle.flight_begins.specs.world_standing.Views.{SpellCall}
 use Rattle.write_words.specs.write_asks.declared.asking.Target.{Target}
 use Rattle.write_words.specs.write_drafts.Drafts.{draft_in, HasRun}
-use Rattle.write_jobs.specs.Jobs.{blocks_of, JobView}
+use Rattle.block_loans.specs.write_jobs.Jobs.{blocks_of, JobView}
 
 -- what the World keeps, with this staging and these files
 abbrev pub with_parts : Kept → Staged → Files → Kept

@@ -1,18 +1,18 @@
 //! The job of a write is made.
 ghost use Rattle.std.specs.Prelude.{◌≡◌, ◌<◌, ◌+◌, ◌^◌, ◌≤◌, [], ◌++◌, true, false, length, map, vec_len, vec_capacity, IfOk, OnErr};
-ghost use Rattle.write_jobs.specs.Jobs.{blocks_of};
+ghost use Rattle.block_loans.specs.write_jobs.Jobs.{blocks_of};
 ghost use Rattle.write_stages.specs.Stages.{IsJobOf, IsStaged, Ready};
 
 use block_loans::k_split::KSplit;
 use block_loans::lend_blocks;
-use file_table::FileTable;
+use block_loans::write_jobs::Job;
 use flight_begins::a_job_begins_in_flight;
+use flight_begins::file_table::FileTable;
+use flight_begins::map_collection::Collection;
 use flight_begins::staging_files::StageRun;
-use map_collection::Collection;
 use pm_lines::Loan;
 use posix_types::Who;
 use std::alloc::{AllocError, Global};
-use write_jobs::Job;
 use write_words::write_asks::Target;
 use write_words::write_drafts::{draft_of, entries_are_the_next_ones};
 use write_words::{words_of_write, words_spell_the_file};

@@ -6,40 +6,40 @@ use Rattle.pm_words.specs.Cells.{newest}
 use Rattle.pm_words.specs.ImageLaws.{IsImage-words_of}
 use Rattle.pm_words.specs.Images.{words_of}
 use Rattle.pm_words.specs.Words.{byte_of, Words}
-use Rattle.data_route.specs.Reads.{read_len, source_by, source_of}
+use Rattle.write_drafts.specs.data_route.Reads.{read_len, source_by, source_of}
 use Rattle.file_overlay.specs.Runs.{staged_at}
-use Rattle.data_route.specs.declared.reads.Source.{Source}
-use Rattle.data_route.specs.declared.reads.Source.TheVariants.{Disk, Staged, Zero}
+use Rattle.write_drafts.specs.data_route.declared.reads.Source.{Source}
+use Rattle.write_drafts.specs.data_route.declared.reads.Source.TheVariants.{Disk, Staged, Zero}
 use Rattle.disk_places.specs.Journal.{journaled}
 use Rattle.disk_places.specs.PlaceLaws.{behind_log-words}
 use Rattle.disk_places.specs.Places.{Geometry, is_data_block}
 use Rattle.disk_lines.specs.declared.Draft.{Draft}
 use Rattle.disk_lines.specs.declared.Kind.{Kind}
 use Rattle.disk_lines.specs.declared.Kind.TheVariants.{Directory, File, Free, Staging}
-use Rattle.disk_rules.specs.Content.{byte_in}
-use Rattle.disk_rules.specs.Rules.{file_blocks_of}
-use Rattle.disk_rules.specs.Volume.{extents, inode, Volume}
+use Rattle.write_drafts.specs.disk_rules.Content.{byte_in}
+use Rattle.write_drafts.specs.disk_rules.Rules.{file_blocks_of}
+use Rattle.write_drafts.specs.disk_rules.Volume.{extents, inode, Volume}
 use Rattle.extent_facts.specs.Covers.{covers-disk_at}
 use Rattle.extent_words.specs.Extents.{disk_at}
-use Rattle.volume_facts.specs.ImageLaws.{journaled-idle}
-use Rattle.volume_facts.specs.LineWords.{data_word}
+use Rattle.write_drafts.specs.volume_facts.ImageLaws.{journaled-idle}
+use Rattle.write_drafts.specs.volume_facts.LineWords.{data_word}
 use Rattle.write_drafts.specs.volume_uses.PoolLaws.{covered-in_data}
 use Rattle.write_drafts.specs.file_reads.Reads.{block_in, block_of, bytes_in, FileCanBeRead}
-use Rattle.file_table.specs.Files.{runs_in, size_in}
+use Rattle.write_drafts.specs.file_table.Files.{runs_in, size_in}
 use Rattle.write_drafts.proofs.flight_facts_proofs.Readable.{flies_readable}
 use Rattle.write_drafts.specs.job_facts.Blocks.{SpellWhole}
 use Rattle.write_drafts.proofs.job_facts_proofs.Staged.{spells_whole}
-use Rattle.k_rules.specs.View.{View}
+use Rattle.write_drafts.specs.k_rules.View.{View}
 use Rattle.write_drafts.proofs.overlay_facts_proofs.Overlays.{reads_file}
 use Rattle.posix_words.specs.declared.nodes.Node.{Node}
 use Rattle.posix_words.specs.Bytes.{bytes_from, overwritten}
 use Rattle.posix_words.specs.Nodes.{bytes_of, node_at}
 use Rattle.posix_words.specs.Open.{Tables}
-use Rattle.posix_spec.specs.State.{State}
+use Rattle.write_drafts.specs.posix_spec.State.{State}
 use Rattle.write_drafts.specs.world_promise.TreeRules.{used_below}
 use Rattle.write_drafts.specs.world_rules.Jobs.{live_claims, Valid}
 use Rattle.write_drafts.specs.world_rules.Stands.{FileStands, IsSane, is_used, NodeStands, number}
-use Rattle.write_jobs.specs.Contents.{SpellBytes, staged_bytes}
+use Rattle.write_drafts.specs.write_jobs.Contents.{SpellBytes, staged_bytes}
 use Rattle.write_drafts.specs.world_standing.Standing.{file_state, Kept, StandsAt}
 use Rattle.write_drafts.proofs.Numbers.{file_node}
 use Rattle.write_words.specs.Words.{old_in, staged_in, StagesTheFile, StandsReadable}

@@ -1,21 +1,21 @@
 -- What the blocks of a write are to hold.
 use Rattle.std.specs.Prelude.{◌≡◌, ◌≤◌, ◌+◌, ◌-◌, ◌*◌, ◌/◌, ℕ, Bool, List, length}
 use Rattle.pm_words.specs.Images.{words_of}
-use Rattle.data_route.specs.Reads.{read_len}
+use Rattle.write_drafts.specs.data_route.Reads.{read_len}
 use Rattle.disk_places.specs.Places.{Geometry}
 use Rattle.disk_lines.specs.declared.Draft.{Draft}
 use Rattle.disk_lines.specs.declared.Kind.TheVariants.{File}
-use Rattle.disk_rules.specs.Volume.{inode}
+use Rattle.write_drafts.specs.disk_rules.Volume.{inode}
 use Rattle.write_drafts.specs.file_reads.Reads.{bytes_in, FileCanBeRead}
-use Rattle.file_table.specs.Files.{Files, runs_in, size_in}
+use Rattle.write_drafts.specs.file_table.Files.{Files, runs_in, size_in}
 use Rattle.write_drafts.specs.job_facts.Blocks.{SpellWhole}
-use Rattle.k_rules.specs.View.{View}
+use Rattle.write_drafts.specs.k_rules.View.{View}
 use Rattle.posix_words.specs.Bytes.{overwritten}
 use Rattle.posix_words.specs.Nodes.{bytes_of, node_at}
 use Rattle.posix_words.specs.Open.{Tables}
-use Rattle.posix_spec.specs.State.{State}
+use Rattle.write_drafts.specs.posix_spec.State.{State}
 use Rattle.write_drafts.specs.world_rules.Stands.{number}
-use Rattle.write_jobs.specs.Contents.{SpellBytes, staged_bytes}
+use Rattle.write_drafts.specs.write_jobs.Contents.{SpellBytes, staged_bytes}
 use Rattle.write_drafts.specs.world_standing.Standing.{Kept, StandsAt}
 
 -- the bytes of so many blocks of a file from that of a byte on, up to its end

@@ -1,19 +1,19 @@
 //! The words of a write.
 ghost use Rattle.std.specs.Prelude.{◌≡◌, ◌≤◌, ◌<◌, ◌+◌, ◌*◌, ◌/◌, length, IfOk};
-ghost use Rattle.disk_rules.specs.Volume.{extents};
+ghost use Rattle.write_drafts.specs.disk_rules.Volume.{extents};
 ghost use Rattle.write_drafts.specs.file_reads.Reads.{FileCanBeRead};
-ghost use Rattle.file_table.specs.Files.{runs_in, size_in};
-ghost use Rattle.map_collection.specs.Kept.{Agrees, KeepsOthers};
-ghost use Rattle.write_jobs.specs.Contents.{SpellBytes};
+ghost use Rattle.write_drafts.specs.file_table.Files.{runs_in, size_in};
+ghost use Rattle.write_drafts.specs.map_collection.Kept.{Agrees, KeepsOthers};
+ghost use Rattle.write_drafts.specs.write_jobs.Contents.{SpellBytes};
 ghost use Rattle.write_words.specs.Words.{staged_in};
 
-use file_table::FileTable;
-use map_collection::Collection;
 use std::alloc::{AllocError, Global};
 use write_drafts::file_reads::read_bytes;
+use write_drafts::file_table::FileTable;
 use write_drafts::k_split::KSplit;
+use write_drafts::map_collection::Collection;
 use write_drafts::write_asks::Target;
-use write_jobs::staged_words;
+use write_drafts::write_jobs::staged_words;
 
 /// The words that `count` blocks are to hold, from that of the target's first byte on: what the file has
 /// there, with the new bytes over it, and zeros behind both. The new bytes lie in these blocks.

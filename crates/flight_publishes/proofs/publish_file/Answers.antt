@@ -1,7 +1,7 @@
 use Rattle.std.proofs.Common.{Ok, refl, ◌∙◌}
 use Rattle.std.proofs.lemmas.Result.{err_from_is_err_and}
 use Rattle.flight_relinks.specs.fsync_relink.Publishes.{IsCarriedOut}
-use Rattle.k_journal.specs.declared.outcomes.Commit.{Commit}
+use Rattle.flight_relinks.specs.k_journal.declared.outcomes.Commit.{Commit}
 use Rattle.flight_publishes.proofs.Files.{file-done, file-lost, file-may, file-steps}
 use Rattle.flight_publishes.proofs.publish_file.Goals as goal
 

@@ -1,10 +1,10 @@
 use Rattle.std.proofs.Common.{◌≡◌, ◌∙◌, [], List, subst, sym}
 use Rattle.std.specs.Prelude.{slice_index_or}
 use Rattle.disk_lines.specs.declared.Inode.{Inode}
-use Rattle.disk_rules.specs.Volume.{chain, free_inode, inode}
+use Rattle.k_map_plans.specs.disk_rules.Volume.{chain, free_inode, inode}
 use Rattle.k_map_plans.specs.k_land.Plans.{IsMapFrom}
 use Rattle.k_map_plans.specs.k_plans.Switching.{switched_tables}
-use Rattle.map_rules.specs.Taken.{with_map}
+use Rattle.k_map_plans.specs.map_rules.Taken.{with_map}
 use Rattle.k_map_plans.specs.volume_maps.Switches.{MaySwitch}
 use Rattle.k_log_plans.specs.Resets.{unapplied}
 use Rattle.k_log_plans.proofs.Resets.{reset-is, reset-may, reset-plan}

@@ -1,5 +1,5 @@
-use Rattle.k_rules.specs.Spaces.{volume_space}
-use Rattle.posix_spec.specs.State.{space}
+use Rattle.volume_names.specs.k_rules.Spaces.{volume_space}
+use Rattle.world_promise.specs.posix_spec.State.{space}
 use Rattle.world_promise.specs.world_rules.Stands.{IsUsed}
 use Rattle.world_spaces.specs.Rows.{HaveSameRows-Mirrors}
 use Rattle.world_spaces.specs.Spaces.{Mirrors-Stands}

@@ -1,5 +1,5 @@
 use Rattle.std.proofs.Common.{◌≡◌, ◌≢◌, ◌*◌, ◌/◌, ◌<◌, ℕ, true, length}
-use Rattle.disk_rules.specs.Placed.{block_at}
+use Rattle.map_rules.specs.disk_rules.Placed.{block_at}
 use Rattle.pm_words.specs.declared.Cell.TheVariants.{Single}
 use Rattle.pm_words.specs.Cells.{cell, is_lent, fenced}
 use Rattle.pm_words.specs.Powers.{is_on, Steps}

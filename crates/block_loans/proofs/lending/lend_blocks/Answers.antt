@@ -1,7 +1,7 @@
 use Rattle.std.proofs.Common.{◌≡◌, ◌<◌, ◌+◌, ◌∙◌, List, ap, sym, refl, arith, subst}
 use Rattle.pm_words.specs.declared.Cell.{Cell}
-use Rattle.disk_rules.specs.Volume.{Volume}
-use Rattle.k_rules.specs.View.{View}
+use Rattle.k_split.specs.disk_rules.Volume.{Volume}
+use Rattle.k_split.specs.k_rules.View.{View}
 use Rattle.k_split.specs.Loans.{MayLend}
 use Rattle.job_facts.specs.Blocks.{GoOut}
 use Rattle.block_loans.specs.Loans.{AreLoansOf}

@@ -1,8 +1,8 @@
 use Rattle.std.specs.Prelude.{◌≡◌}
 use Rattle.std.proofs.Common.{ap, ◌∙◌, rules}
 use Rattle.std.proofs.lemmas.Result.{IfOk-weaker}
-use Rattle.posix_spec.specs.Run.{run}
-use Rattle.posix_spec.specs.State.{State}
+use Rattle.posix_puts.specs.posix_spec.Run.{run}
+use Rattle.posix_puts.specs.posix_spec.State.{State}
 use Rattle.crash_judge.proofs.PartLaws.{sync_decided}
 use Rattle.crash_judge.proofs.parts.is_sync.Goals as goal
 

@@ -1,7 +1,7 @@
 use Rattle.std.specs.Prelude.{◌≡◌, true, ◌∷◌, refl}
 use Rattle.std.proofs.Common.{rules}
 use Rattle.std.proofs.lemmas.Result.{IfOk-weaker}
-use Rattle.posix_spec.specs.Step.{step}
+use Rattle.posix_puts.specs.posix_spec.Step.{step}
 use Rattle.crash_judge.proofs.FrontLaws.{from_more, here_from}
 use Rattle.crash_judge.proofs.posix.+is_kept_from.Goals as goal
 

@@ -1,7 +1,7 @@
 use Rattle.std.specs.Prelude.{◌≡◌, true, refl}
 use Rattle.std.proofs.Common.{ap, ◌∙◌, rules}
-use Rattle.posix_spec.specs.Run.{run}
-use Rattle.posix_spec.specs.State.{State}
+use Rattle.posix_puts.specs.posix_spec.Run.{run}
+use Rattle.posix_puts.specs.posix_spec.State.{State}
 use Rattle.std.proofs.lemmas.Result.{IfOk-weaker}
 use Rattle.crash_judge.proofs.FrontLaws.{Posix-kept, posix_decided}
 use Rattle.crash_judge.proofs.posix.is_posix.Goals as goal

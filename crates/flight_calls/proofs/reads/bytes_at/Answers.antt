@@ -1,8 +1,8 @@
 use Rattle.std.proofs.Common.{subst, sym, List}
-use Rattle.disk_rules.specs.Volume.{extents}
+use Rattle.flight_names.specs.disk_rules.Volume.{extents}
 use Rattle.file_overlay.specs.declared.runs.Run.{Run}
 use Rattle.flight_names.specs.file_reads.Reads.{FileCanBeRead}
-use Rattle.map_collection.specs.Kept.{Agrees, Answer}
+use Rattle.flight_names.specs.map_collection.Kept.{Agrees, Answer}
 use Rattle.flight_calls.proofs.reads.bytes_at.Goals as goal
 
 pub read_bytes-requires-clause-readable : goal.read_bytes-requires-clause-readable

@@ -1,10 +1,10 @@
 use Rattle.std.proofs.Common.{arith, rules, ◌≡◌, ◌<◌, ◌^◌, sym, subst, ap, ◌∙◌, ◌+◌, ◌/◌, ℕ, Option, length}
 use Rattle.std.proofs.lemmas.List.FromFn.{length-map-range_with_len}
 use Rattle.std.specs.Prelude.{Ok, unwrap_or}
-use Rattle.data_route.specs.Reads.{read_len}
-use Rattle.disk_rules.specs.Content.{byte_in}
+use Rattle.flight_names.specs.data_route.Reads.{read_len}
+use Rattle.flight_names.specs.disk_rules.Content.{byte_in}
 use Rattle.flight_names.specs.file_reads.Reads.{block_in}
-use Rattle.file_table.specs.Files.{runs_in, size_in}
+use Rattle.flight_names.specs.file_table.Files.{runs_in, size_in}
 use Rattle.pm_words.specs.Images.{words_of}
 use Rattle.flight_names.specs.open_files.Found.{description_in}
 use Rattle.posix_types.specs.declared.call.Call.{Call}

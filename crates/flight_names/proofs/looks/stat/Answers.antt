@@ -1,7 +1,7 @@
 use Rattle.std.proofs.Common.{arith, sym, subst, ap, ◌∙◌}
 use Rattle.std.specs.Prelude.{Ok}
 use Rattle.disk_lines.specs.declared.Inode.{Inode}
-use Rattle.file_table.specs.Files.{size_in}
+use Rattle.file_ends.specs.file_table.Files.{size_in}
 use Rattle.posix_types.specs.declared.call.Call.{Call}
 use Rattle.posix_types.specs.declared.reply.Reply.{Reply}
 use Rattle.posix_words.specs.Outcomes.{answer}

@@ -1,7 +1,7 @@
 use Rattle.std.proofs.Common.{◌≡◌, ◌<◌, ℕ, Bool, sym, subst, ap, ◌∙◌, refl, inl, inr, arith}
 use Rattle.std.specs.Prelude.{Ok, true, false, option_map, IsTrue, ◌↔◌}
 use Rattle.disk_lines.specs.declared.Kind.TheVariants.{File}
-use Rattle.disk_rules.specs.Volume.{inode}
+use Rattle.file_ends.specs.disk_rules.Volume.{inode}
 use Rattle.posix_types.specs.declared.call.Call.{Call}
 use Rattle.posix_types.specs.declared.reply.Errno.{Errno}
 use Rattle.posix_types.specs.declared.reply.Reply.{Reply}

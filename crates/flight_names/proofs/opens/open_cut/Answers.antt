@@ -2,7 +2,7 @@ use Rattle.std.proofs.Common.{◌≡◌, arith, sym, subst, ap, ◌∙◌}
 use Rattle.flight_steps.specs.world_promise.TreeRules.{used_below}
 use Rattle.flight_steps.specs.world_rules.Stands.{is_used}
 use Rattle.std.specs.Prelude.{Ok, Some}
-use Rattle.disk_rules.specs.Live.{is_directory}
+use Rattle.file_ends.specs.disk_rules.Live.{is_directory}
 use Rattle.posix_types.specs.declared.call.Call.{Call}
 use Rattle.posix_words.specs.Open.{free_descriptor, with_opened}
 use Rattle.flight_names.specs.Answers.{IsEnded, told_of}

@@ -1,6 +1,6 @@
 use Rattle.std.proofs.Common.{sym, subst, ap, refl}
 use Rattle.std.specs.Prelude.{Ok}
-use Rattle.disk_rules.specs.Live.{is_directory}
+use Rattle.file_ends.specs.disk_rules.Live.{is_directory}
 use Rattle.posix_types.specs.declared.call.Call.{Call}
 use Rattle.flight_names.specs.Answers.{IsEnded}
 use Rattle.flight_names.proofs.OpenEnds.{open_found_done, open_found_fault}

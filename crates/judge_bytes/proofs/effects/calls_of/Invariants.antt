@@ -1,5 +1,5 @@
 use Rattle.std.proofs.Common.{◌≡◌, map, take}
-use Rattle.posix_spec.specs.Run.{begun}
+use Rattle.crash_spec.specs.posix_spec.Run.{begun}
 use Rattle.judge_bytes.proofs.effects.calls_of.Given as goal
 
 abbrev pub invariant-loop-item : goal.invariant-loop-item

@@ -1,5 +1,5 @@
 use Rattle.std.proofs.Common.{◌≡◌, take}
-use Rattle.posix_spec.specs.Run.{after_calls}
+use Rattle.crash_spec.specs.posix_spec.Run.{after_calls}
 use Rattle.judge_bytes.specs.Effects.{AreEffects}
 use Rattle.judge_bytes.proofs.effects.effects_of.Given as goal
 

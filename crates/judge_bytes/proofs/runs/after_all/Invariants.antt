@@ -1,5 +1,5 @@
 use Rattle.std.proofs.Common.{◌≡◌, drop}
-use Rattle.posix_spec.specs.Run.{after_calls}
+use Rattle.crash_spec.specs.posix_spec.Run.{after_calls}
 use Rattle.judge_bytes.proofs.runs.after_all.Given as goal
 
 abbrev pub invariant-loop-c : goal.invariant-loop-c

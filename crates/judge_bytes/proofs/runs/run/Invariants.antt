@@ -1,5 +1,5 @@
 use Rattle.std.proofs.Common.{◌≡◌, drop}
-use Rattle.posix_spec.specs.Run.{run}
+use Rattle.crash_spec.specs.posix_spec.Run.{run}
 use Rattle.judge_bytes.proofs.runs.run.Given as goal
 
 abbrev pub invariant-loop-item : goal.invariant-loop-item

@@ -3,9 +3,9 @@ use Rattle.std.specs.Prelude.{Option, filter}
 use Rattle.std.proofs.lemmas.Bool.{both_ways}
 use Rattle.disk_lines.specs.declared.Draft.{Draft}
 use Rattle.disk_places.specs.Journal.{journaled}
-use Rattle.disk_rules.specs.Broken.{HoldAll, Holds, FailsFirst, Breaks, BreaksFirst}
-use Rattle.disk_rules.specs.Checked.{HasHead}
-use Rattle.disk_rules.specs.Live.{is_live}
+use Rattle.volume_check.specs.disk_rules.Broken.{HoldAll, Holds, FailsFirst, Breaks, BreaksFirst}
+use Rattle.volume_check.specs.disk_rules.Checked.{HasHead}
+use Rattle.volume_check.specs.disk_rules.Live.{is_live}
 use Rattle.pm_words.specs.Images.{words_of}
 use Rattle.volume_check.specs.Readings.{AreTables, front_rules}
 use Rattle.k_check.specs.Slots.{slots_at, AreDrafts, later_rule}

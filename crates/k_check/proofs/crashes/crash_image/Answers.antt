@@ -1,6 +1,6 @@
 use Rattle.std.proofs.Common.{◌≡◌, ℕ, List, length, sym, subst, arith}
 use Rattle.std.proofs.lemmas.List.{with_items_is}
-use Rattle.disk_rules.specs.Honest.{IsHonest}
+use Rattle.volume_check.specs.disk_rules.Honest.{IsHonest}
 use Rattle.pm_words.specs.Cells.{cell, IsCandidate}
 use Rattle.pm_words.specs.Images.{IsImageOf}
 use Rattle.pm_words.specs.Words.{word_at}

@@ -1,6 +1,6 @@
 use Rattle.std.proofs.Common.{◌+◌, ◌-◌, ◌*◌, ◌%◌, take, drop, List, ℕ, ap, ◌∙◌, refl, arith}
 use Rattle.pm_words.specs.Words.{word_at}
-use Rattle.volume_facts.specs.LineWords.{with_line-in, with_line-out}
+use Rattle.volume_check.specs.volume_facts.LineWords.{with_line-in, with_line-out}
 use Rattle.volume_check.proofs.k_reading_proofs.LineWords.{words-put}
 use Rattle.k_check.proofs.CrashFacts.{part-words}
 use Rattle.k_check.proofs.crashes.put_line.Goals as goal

@@ -2,8 +2,8 @@ use Rattle.std.proofs.Common.{◌≡◌, take}
 use Rattle.std.specs.Prelude.{filter, Option}
 use Rattle.std.specs.List.{filter_map}
 use Rattle.disk_lines.specs.declared.Draft.{Draft}
-use Rattle.disk_rules.specs.Live.{is_live}
-use Rattle.disk_rules.specs.Volume.{Volume}
+use Rattle.volume_check.specs.disk_rules.Live.{is_live}
+use Rattle.volume_check.specs.disk_rules.Volume.{Volume}
 use Rattle.k_check.proofs.entries.live_entries.Given as goal
 
 -- the live entries of the slots so far

@@ -2,9 +2,9 @@ use Rattle.std.proofs.Common.{◌≡◌, ◌*◌, length, List, sym, ◌∙◌, 
 use Rattle.std.specs.Prelude.{filter, Option}
 use Rattle.disk_lines.specs.declared.Draft.{Draft}
 use Rattle.disk_places.specs.Journal.{journaled}
-use Rattle.disk_rules.specs.Broken.{BreaksFirst}
-use Rattle.disk_rules.specs.Checked.{HasHead}
-use Rattle.disk_rules.specs.Live.{is_live, live_entries}
+use Rattle.volume_check.specs.disk_rules.Broken.{BreaksFirst}
+use Rattle.volume_check.specs.disk_rules.Checked.{HasHead}
+use Rattle.volume_check.specs.disk_rules.Live.{is_live, live_entries}
 use Rattle.pm_words.specs.Images.{words_of}
 use Rattle.volume_check.specs.Readings.{AreTables, front_rules}
 use Rattle.k_check.specs.Slots.{slots_at}

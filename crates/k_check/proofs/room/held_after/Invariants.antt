@@ -2,9 +2,9 @@ use Rattle.std.proofs.Common.{◌≡◌, ◌≤◌, ◌*◌, ◌^◌, cond}
 use Rattle.std.specs.Prelude.{sum_by}
 use Rattle.std.specs.List.{range_with_len}
 use Rattle.block_counts.specs.Counts.{held_by}
-use Rattle.disk_rules.specs.Content.{size_of}
-use Rattle.disk_rules.specs.Room.{is_named_file}
-use Rattle.disk_rules.specs.Volume.{Volume}
+use Rattle.volume_check.specs.disk_rules.Content.{size_of}
+use Rattle.volume_check.specs.disk_rules.Room.{is_named_file}
+use Rattle.volume_check.specs.disk_rules.Volume.{Volume}
 use Rattle.volume_check.specs.Readings.{AreNameMarks}
 use Rattle.k_check.proofs.room.held_after.Given as goal
 

@@ -1,7 +1,7 @@
 use Rattle.std.proofs.Common.{◌≡◌, ◌≤◌, length, drop}
 use Rattle.std.specs.Prelude.{◌==◌, filter}
 use Rattle.disk_lines.specs.declared.Draft.{Draft}
-use Rattle.disk_rules.specs.Live.{latest}
+use Rattle.volume_check.specs.disk_rules.Live.{latest}
 use Rattle.k_check.proofs.room.latest_of.Given as goal
 
 -- the latest of those behind

@@ -3,7 +3,7 @@ use Rattle.std.proofs.lemmas.Bool.{both_ways}
 use Rattle.std.proofs.lemmas.List.{get_or_default}
 use borrow.Author.Count.{below_more}
 use Rattle.disk_lines.specs.declared.Draft.{Draft}
-use Rattle.disk_rules.specs.Rules.{HasStagingBlocks}
+use Rattle.volume_check.specs.disk_rules.Rules.{HasStagingBlocks}
 use Rattle.k_check.proofs.rules.are_staged.Goals as goal
 
 pub returns-then-not-has_staging_blocks : goal.returns-then-not-has_staging_blocks

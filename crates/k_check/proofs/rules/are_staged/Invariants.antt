@@ -1,7 +1,7 @@
 use Rattle.std.proofs.Common.{◌≡◌, ℕ, ◌<◌, get_or}
 use Rattle.disk_lines.specs.declared.Draft.{Draft}
-use Rattle.disk_rules.specs.Rules.{HasStagingBlocks}
-use Rattle.disk_rules.specs.Volume.{Volume}
+use Rattle.volume_check.specs.disk_rules.Rules.{HasStagingBlocks}
+use Rattle.volume_check.specs.disk_rules.Volume.{Volume}
 use Rattle.k_check.proofs.rules.are_staged.Given as goal
 
 -- the entries so far have them

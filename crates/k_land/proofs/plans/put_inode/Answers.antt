@@ -2,8 +2,8 @@
 use Rattle.std.proofs.Common.{length, ◌<◌, ◌≡◌, true, refl, sym, subst}
 use Rattle.disk_places.specs.PlaceLaws.{journaled-inode}
 use Rattle.disk_places.specs.Places.{is_journaled_line}
-use Rattle.disk_rules.specs.Volume.{chain, extents}
-use Rattle.volume_facts.specs.Changes.{inode_set-same}
+use Rattle.k_rules.specs.disk_rules.Volume.{chain, extents}
+use Rattle.volume_uses.specs.volume_facts.Changes.{inode_set-same}
 use Rattle.k_land.specs.Plans.{Turns}
 use Rattle.k_land.specs.Plans.IsMapFrom.{SameMap}
 use Rattle.k_land.specs.PlanLaws.{SetsOneMore, length-with_line_set, turns-inode}

@@ -1,10 +1,10 @@
 use Rattle.std.proofs.Common.{◌≡◌, ◌+◌, ◌<◌, ◌≤◌, ◌∙◌, [], ℕ, List, ap, arith, length, subst, sym}
 use Rattle.std.specs.Prelude.{slice_index_or}
 use Rattle.disk_lines.specs.declared.Inode.{Inode}
-use Rattle.disk_rules.specs.Volume.{extents, free_inode}
+use Rattle.k_plans.specs.disk_rules.Volume.{extents, free_inode}
 use Rattle.extent_words.specs.declared.Extent.{Extent}
 use Rattle.k_plans.specs.Switching.{IsSetAside}
-use Rattle.map_rules.specs.Changes.{Fills, holes}
+use Rattle.k_plans.specs.map_rules.Changes.{Fills, holes}
 use Rattle.k_plans.specs.volume_uses.Uses.{in_chain, in_map}
 use Rattle.k_map_plans.specs.Going.{HasGoneOver, MayGoOver}
 use Rattle.k_map_plans.proofs.Fillings.{fill-may, filled-is}

@@ -1,6 +1,6 @@
 use Rattle.std.proofs.Common.{◌∷◌, ◌+◌, [], ap, arith, length, length-append, sym}
 use Rattle.std.specs.Prelude.{is_none}
-use Rattle.map_rules.specs.Changes.{holes}
+use Rattle.k_plans.specs.map_rules.Changes.{holes}
 use Rattle.k_plans.specs.volume_maps.Holes.{holes-more, holes-same}
 use Rattle.k_map_plans.proofs.filling.hole_count.Goals as goal
 use Rattle.k_map_plans.proofs.filling.hole_count.Goals.{in-None, in-Some}

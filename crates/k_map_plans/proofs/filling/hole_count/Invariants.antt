@@ -1,5 +1,5 @@
 use Rattle.std.proofs.Common.{◌≡◌, ◌≤◌, length}
-use Rattle.map_rules.specs.Changes.{holes}
+use Rattle.k_plans.specs.map_rules.Changes.{holes}
 use Rattle.k_map_plans.proofs.filling.hole_count.Given as goal
 
 abbrev pub invariant-loop-place : goal.invariant-loop-place

@@ -1,17 +1,17 @@
 use Rattle.std.proofs.Common.{◌≡◌, ◌∙◌, ◌+◌, ◌∷◌, [], ℕ, List, length, ap, arith, subst, sym}
 use Rattle.block_counts.specs.Counts.{chains_for}
-use Rattle.disk_rules.specs.Chains.{first_or_zero}
-use Rattle.disk_rules.specs.Volume.{Volume, chain}
+use Rattle.k_plans.specs.disk_rules.Chains.{first_or_zero}
+use Rattle.k_plans.specs.disk_rules.Volume.{Volume, chain}
 use Rattle.extent_words.specs.Extents.{IsCanonical}
 use Rattle.extent_words.specs.declared.Extent.{Extent}
 use Rattle.k_plans.specs.k_land.PlanLaws.{turns-none}
-use Rattle.k_journal.specs.declared.batches.Entry.{Entry}
+use Rattle.k_plans.specs.k_journal.declared.batches.Entry.{Entry}
 use Rattle.k_plans.specs.k_land.Plans.{NewChain, Turns}
 use Rattle.k_plans.specs.k_land.Plans.IsMapFrom.{NewMap}
 use Rattle.k_plans.specs.Free.{is_free_block}
 use Rattle.k_plans.specs.Switching.{IsSetAside, WaitOnce}
 use Rattle.k_plans.specs.View.{TablesView}
-use Rattle.map_rules.specs.Taken.{AreLowest, switched}
+use Rattle.k_plans.specs.map_rules.Taken.{AreLowest, switched}
 use Rattle.k_plans.specs.volume_maps.Switches.{MaySwitch}
 use Rattle.k_plans.specs.volume_uses.Uses.{in_chain, in_map}
 use Rattle.k_map_plans.proofs.Goings.{aside-once, aside-volume, may-switch, plan-one, switched-chain_is}

@@ -1,7 +1,7 @@
 use Rattle.std.proofs.Common.{ap, arith}
 use Rattle.std.proofs.lemmas.List.{take_all}
 use Rattle.std.proofs.lemmas.List.Sums.{sum_by_more}
-use Rattle.disk_rules.specs.Placed.{no_extent}
+use Rattle.k_plans.specs.disk_rules.Placed.{no_extent}
 use Rattle.extent_facts.specs.Counts.{one_if}
 use Rattle.extent_words.specs.declared.Extent.{Extent}
 use Rattle.extent_words.specs.Extents.{holds_disk}

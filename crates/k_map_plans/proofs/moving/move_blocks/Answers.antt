@@ -1,5 +1,5 @@
 use Rattle.std.proofs.Common.{◌≡◌, ◌∙◌, Err, List, None, ap, subst}
-use Rattle.disk_rules.specs.Volume.{extents}
+use Rattle.k_plans.specs.disk_rules.Volume.{extents}
 use Rattle.extent_words.specs.Extents.{disk_at}
 use Rattle.extent_words.specs.declared.Extent.{Extent}
 use Rattle.k_map_plans.proofs.Moves.{no_hole, source-fits}

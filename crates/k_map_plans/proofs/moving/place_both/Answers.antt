@@ -1,7 +1,7 @@
 use Rattle.std.proofs.Common.{◌≡◌, ◌∙◌, ◌+◌, ◌++◌, ◌∷◌, [], ◌<◌, ℕ, List, length, refl, ap, arith, subst, sym}
 use Rattle.block_counts.specs.Counts.{chains_for}
-use Rattle.disk_rules.specs.Chains.{first_or_zero}
-use Rattle.disk_rules.specs.Volume.{Volume, chain, extents}
+use Rattle.k_plans.specs.disk_rules.Chains.{first_or_zero}
+use Rattle.k_plans.specs.disk_rules.Volume.{Volume, chain, extents}
 use Rattle.extent_words.specs.Moves.{Moves}
 use Rattle.extent_words.specs.declared.Extent.{Extent}
 use Rattle.k_plans.specs.k_land.PlanLaws.{turns-none}
@@ -10,7 +10,7 @@ use Rattle.k_plans.specs.k_land.Plans.IsMapFrom.{NewMap}
 use Rattle.k_map_plans.specs.Moving.{moved_volume}
 use Rattle.k_plans.specs.Free.{free_blocks, is_free_block}
 use Rattle.k_plans.specs.Switching.{IsSetAside}
-use Rattle.map_rules.specs.Taken.{AreLowest}
+use Rattle.k_plans.specs.map_rules.Taken.{AreLowest}
 use Rattle.k_plans.specs.volume_maps.Hits.{in_chain-append}
 use Rattle.k_plans.specs.volume_uses.Uses.{in_chain, in_map}
 use Rattle.k_map_plans.proofs.Goings.{aside-volume, once-after}

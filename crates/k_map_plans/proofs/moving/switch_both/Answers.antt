@@ -1,11 +1,11 @@
 use Rattle.std.proofs.Common.{List, ap, subst, sym}
 use Rattle.std.specs.Prelude.{slice_index_or}
 use Rattle.disk_lines.specs.declared.Inode.{Inode}
-use Rattle.disk_rules.specs.Volume.{free_inode}
-use Rattle.k_journal.specs.declared.batches.Entry.{Entry}
+use Rattle.k_plans.specs.disk_rules.Volume.{free_inode}
+use Rattle.k_plans.specs.k_journal.declared.batches.Entry.{Entry}
 use Rattle.k_plans.specs.k_land.Plans.{Turns}
 use Rattle.k_plans.specs.View.{TablesView}
-use Rattle.map_rules.specs.Changes.{with_length}
+use Rattle.k_plans.specs.map_rules.Changes.{with_length}
 use Rattle.k_map_plans.proofs.Moves.{both-turns}
 use Rattle.k_map_plans.proofs.moving.switch_both.Goals as goal
 

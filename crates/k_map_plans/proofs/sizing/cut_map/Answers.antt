@@ -2,10 +2,10 @@ use Rattle.std.proofs.Common.{◌≡◌, List, subst, sym}
 use Rattle.std.specs.Prelude.{nat_le, nat_lt, slice_index_or}
 use Rattle.block_counts.specs.Counts.{blocks_for}
 use Rattle.disk_lines.specs.declared.Inode.{Inode}
-use Rattle.disk_rules.specs.Volume.{extents, free_inode}
+use Rattle.k_plans.specs.disk_rules.Volume.{extents, free_inode}
 use Rattle.extent_words.specs.declared.Extent.{Extent}
 use Rattle.extent_words.specs.Maps.{IsPart}
-use Rattle.map_rules.specs.Changes.{with_size}
+use Rattle.k_plans.specs.map_rules.Changes.{with_size}
 use Rattle.k_map_plans.specs.Going.{MayGoOver}
 use Rattle.k_map_plans.proofs.Sizes.{size-may}
 use Rattle.k_map_plans.proofs.sizing.cut_map.Goals as goal

@@ -1,9 +1,9 @@
 use Rattle.std.proofs.Common.{◌∙◌, [], ℕ, List, ap, arith, subst, sym}
 use Rattle.std.specs.Prelude.{IfOk, slice_index_or}
 use Rattle.disk_lines.specs.declared.Inode.{Inode}
-use Rattle.disk_rules.specs.Volume.{free_inode}
+use Rattle.k_plans.specs.disk_rules.Volume.{free_inode}
 use Rattle.k_plans.specs.Switching.{IsSetAside}
-use Rattle.map_rules.specs.Changes.{aged, HasInOrder}
+use Rattle.k_plans.specs.map_rules.Changes.{aged, HasInOrder}
 use Rattle.k_map_plans.specs.Going.{HasGoneOver, MayGoOver}
 use Rattle.k_map_plans.proofs.Goings.{aside-once}
 use Rattle.k_map_plans.proofs.Sizes.{none-waits}

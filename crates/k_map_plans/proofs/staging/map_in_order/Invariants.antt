@@ -1,6 +1,6 @@
 use Rattle.std.proofs.Common.{◌≡◌, ℕ, take}
 use Rattle.extent_words.specs.Extents.{disk_at, IsCanonical}
-use Rattle.map_rules.specs.Changes.{in_order}
+use Rattle.k_plans.specs.map_rules.Changes.{in_order}
 use Rattle.k_map_plans.proofs.staging.map_in_order.Given as goal
 
 abbrev pub invariant-loop-place : goal.invariant-loop-place

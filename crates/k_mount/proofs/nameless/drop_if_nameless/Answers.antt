@@ -1,6 +1,6 @@
 use Rattle.k_mount.proofs.Devices.{device-answer, device-none}
 use Rattle.k_mount.proofs.DropImages.{cut-of}
-use Rattle.k_rules.specs.Changes.{dropped}
+use Rattle.world_images.specs.k_rules.Changes.{dropped}
 use Rattle.k_split.specs.declared.faults.KFault.{KFault}
 use Rattle.k_split.specs.Names.{IsDropAnswer}
 use Rattle.std.proofs.Common.{Err, None, ◌≡◌}

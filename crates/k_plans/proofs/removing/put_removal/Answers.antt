@@ -1,5 +1,5 @@
 use Rattle.std.proofs.Common.{[], subst, sym}
-use Rattle.disk_rules.specs.Reading.{node_set}
+use Rattle.k_tables.specs.disk_rules.Reading.{node_set}
 use Rattle.k_land.specs.Plans.{Turns}
 use Rattle.k_land.specs.PlanLaws.{turns-none}
 use Rattle.k_plans.proofs.removing.put_removal.Goals as goal

@@ -1,6 +1,6 @@
 use Rattle.std.proofs.Common.{[], subst, sym}
 use Rattle.std.specs.Prelude.{None}
-use Rattle.disk_rules.specs.Reading.{row_set}
+use Rattle.k_tables.specs.disk_rules.Reading.{row_set}
 use Rattle.k_land.specs.Plans.{Turns}
 use Rattle.k_land.specs.PlanLaws.{turns-none}
 use Rattle.k_plans.proofs.renaming.put_over_file.Goals as goal

@@ -1,5 +1,5 @@
 use Rattle.std.proofs.Common.{◌*◌, sym, subst, ap, ◌∙◌}
-use Rattle.disk_rules.specs.Rules.{geometry_of, IsChecked}
+use Rattle.k_split.specs.disk_rules.Rules.{geometry_of, IsChecked}
 use Rattle.pm_words.specs.Cells.{is_single}
 use Rattle.k_split_rows.proofs.PlainStarts.{fresh-opened, idle-fresh, if-plain, words-given}
 use Rattle.k_split_rows.proofs.devices.fresh.Goals as goal

@@ -1,5 +1,5 @@
 use Rattle.std.proofs.Common.{sym, ap, ◌∙◌}
-use Rattle.k_rules.specs.Spaces.{entries_of, space_of}
+use Rattle.volume_names.specs.k_rules.Spaces.{entries_of, space_of}
 use Rattle.posix_words.specs.Names.{child_of}
 use Rattle.k_tables.proofs.RowFacts.{new-exists, new-room}
 use Rattle.k_tables.proofs.making.place_in.Goals as goal

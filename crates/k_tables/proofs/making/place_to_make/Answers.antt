@@ -1,5 +1,5 @@
 use Rattle.std.proofs.Common.{sym, ◌∙◌}
-use Rattle.k_rules.specs.Spaces.{space_of}
+use Rattle.volume_names.specs.k_rules.Spaces.{space_of}
 use Rattle.k_tables.specs.Refusals.{outcome_of}
 use Rattle.k_tables.proofs.RowFacts.{mkdir-root, mkdir-early, mkdir-late}
 use Rattle.k_tables.proofs.making.place_to_make.Goals as goal

@@ -1,4 +1,4 @@
-use Rattle.k_rules.specs.Spaces.{is_free, space_of}
+use Rattle.volume_names.specs.k_rules.Spaces.{is_free, space_of}
 use Rattle.disk_lines.specs.declared.Inode.{Inode}
 use Rattle.k_tables.proofs.RowFacts.{room-nodes, room-lines, room-both}
 use Rattle.k_tables.proofs.Rooms.{counted-some, counted-none, lines-some, lines-none}

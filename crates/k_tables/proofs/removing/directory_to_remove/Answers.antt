@@ -1,5 +1,5 @@
 use Rattle.std.proofs.Common.{sym, ◌∙◌}
-use Rattle.k_rules.specs.Spaces.{space_of}
+use Rattle.volume_names.specs.k_rules.Spaces.{space_of}
 use Rattle.k_tables.specs.Refusals.{outcome_of}
 use Rattle.k_tables.proofs.RowFacts.{rmdir-root, rmdir-early, rmdir-late, removal-none}
 use Rattle.k_tables.proofs.removing.directory_to_remove.Goals as goal

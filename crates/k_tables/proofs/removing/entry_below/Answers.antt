@@ -2,7 +2,7 @@ use Rattle.std.proofs.Common.{sym, ap, subst, refl, ◌∙◌, ℕ, Some, None, 
 use Rattle.std.specs.Prelude.{option_and_then}
 use Rattle.disk_lines.specs.Names.{find_name}
 use Rattle.k_names.specs.Finding.{IsRow}
-use Rattle.k_rules.specs.Spaces.{entries_of, space_of}
+use Rattle.volume_names.specs.k_rules.Spaces.{entries_of, space_of}
 use Rattle.posix_words.specs.Names.{child_of, last_name}
 use Rattle.volume_names.specs.EntryLaws.{child_of-rows}
 use Rattle.volume_names.specs.Paths.{IsAt}

@@ -1,4 +1,4 @@
-use Rattle.k_rules.specs.Spaces.{space_of}
+use Rattle.volume_names.specs.k_rules.Spaces.{space_of}
 use Rattle.k_tables.proofs.RowFacts.{standing-at, standing-none}
 use Rattle.k_tables.proofs.removing.entry_in.Goals as goal
 

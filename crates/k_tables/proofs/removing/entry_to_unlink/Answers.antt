@@ -1,5 +1,5 @@
 use Rattle.std.proofs.Common.{sym, ap, ◌∙◌, [], ◌∷◌}
-use Rattle.k_rules.specs.Spaces.{space_of}
+use Rattle.volume_names.specs.k_rules.Spaces.{space_of}
 use Rattle.posix_types.specs.declared.reply.Errno.{Errno}
 use Rattle.posix_words.specs.Outcomes.{first, row}
 use Rattle.k_tables.specs.Refusals.{outcome_of}

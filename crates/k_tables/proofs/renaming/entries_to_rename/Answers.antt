@@ -1,5 +1,5 @@
 use Rattle.std.proofs.Common.{sym, ◌∙◌}
-use Rattle.k_rules.specs.Spaces.{space_of}
+use Rattle.volume_names.specs.k_rules.Spaces.{space_of}
 use Rattle.k_tables.specs.Refusals.{outcome_of}
 use Rattle.k_tables.proofs.RowFacts.{rename-root, rename-early, rename-late}
 use Rattle.k_tables.proofs.renaming.entries_to_rename.Goals as goal

@@ -1,5 +1,5 @@
 use Rattle.std.proofs.Common.{sym, ◌∙◌, Some, None}
-use Rattle.k_rules.specs.Spaces.{space_of}
+use Rattle.volume_names.specs.k_rules.Spaces.{space_of}
 use Rattle.k_tables.specs.Refusals.{errno_row}
 use Rattle.k_tables.proofs.RowFacts.{node-at, moving-same, moving-kinds, same_node, other_node}
 use Rattle.k_tables.proofs.renaming.moving_to.Goals as goal

@@ -1,5 +1,5 @@
 use Rattle.std.proofs.Common.{sym, ◌∙◌}
-use Rattle.k_rules.specs.Spaces.{space_of}
+use Rattle.volume_names.specs.k_rules.Spaces.{space_of}
 use Rattle.k_tables.proofs.RowFacts.{kinds-directory, kinds-file}
 use Rattle.k_tables.proofs.renaming.refused_kinds.Goals as goal
 

@@ -1,5 +1,5 @@
 use Rattle.std.proofs.Common.{◌∙◌}
-use Rattle.k_rules.specs.Spaces.{entries_of, is_directory_in}
+use Rattle.volume_names.specs.k_rules.Spaces.{entries_of, is_directory_in}
 use Rattle.k_tables.proofs.WalkStops.{walk-stops}
 use Rattle.k_tables.proofs.walks.walk_down.Goals as goal
 

@@ -1,5 +1,5 @@
 use Rattle.std.proofs.Common.{◌≡◌, drop}
-use Rattle.k_rules.specs.Spaces.{entries_of, is_directory_in}
+use Rattle.volume_names.specs.k_rules.Spaces.{entries_of, is_directory_in}
 use Rattle.posix_words.specs.Names.{walk_from}
 use Rattle.k_tables.proofs.walks.walk_down.Given as goal
 

@@ -1,7 +1,7 @@
 use Rattle.std.proofs.Common.{ap, sym, ◌∙◌}
 use Rattle.pm_words.specs.Images.{words_of}
-use Rattle.disk_rules.specs.FreshVolume.{fresh_volume}
-use Rattle.disk_rules.specs.Volume.{Volume}
+use Rattle.k_tables.specs.disk_rules.FreshVolume.{fresh_volume}
+use Rattle.k_tables.specs.disk_rules.Volume.{Volume}
 use Rattle.k_check.proofs.k_reading_proofs.FreshTables.{in_data-fresh, reads-fresh, volume-fresh}
 use Rattle.layer_tests.proofs.reading.fresh_maps.Goals as goal
 

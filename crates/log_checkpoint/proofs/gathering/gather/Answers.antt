@@ -1,6 +1,6 @@
 use Rattle.std.proofs.Common.{Err, inl, Ok}
 use Rattle.fsync_relink.specs.Others.{GoesOn}
-use Rattle.k_journal.specs.declared.outcomes.Commit.{Commit}
+use Rattle.staging_files.specs.k_journal.declared.outcomes.Commit.{Commit}
 use Rattle.log_checkpoint.proofs.EndContent.{gathered-content, goes-on, same-content}
 use Rattle.log_checkpoint.proofs.Laps.{gathered, still-single}
 use Rattle.log_checkpoint.specs.Gathers.{AreAllDone, AreDoneUpTo}

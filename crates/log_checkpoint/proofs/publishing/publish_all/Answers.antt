@@ -1,7 +1,7 @@
 use Rattle.std.proofs.Common.{◌≡◌, ◌<◌, ◌+◌, length, true, Ok, ◌∙◌, ap, arith}
 use Rattle.disk_places.specs.Places.{Geometry}
 use Rattle.file_table.specs.Files.{runs_in}
-use Rattle.k_journal.specs.declared.outcomes.Commit.{Commit}
+use Rattle.staging_files.specs.k_journal.declared.outcomes.Commit.{Commit}
 use Rattle.pm_words.specs.Powers.{is_on}
 use Rattle.log_checkpoint.proofs.Lines.{table-cost, way-line}
 use Rattle.log_checkpoint.proofs.Sums.{steps-next, steps-stop}

@@ -3,7 +3,7 @@ use Rattle.std.proofs.lemmas.Result.{err_from_is_err_and}
 use Rattle.file_table.specs.Files.{runs_in, size_in}
 use Rattle.fsync_relink.proofs.WayLaws.{steps-here}
 use Rattle.fsync_relink.specs.Publishes.{IsCarriedOut, MayPublish}
-use Rattle.k_journal.specs.declared.outcomes.Commit.{Commit}
+use Rattle.staging_files.specs.k_journal.declared.outcomes.Commit.{Commit}
 use Rattle.log_checkpoint.proofs.Lines.{line-failed, line-lost, line-published, line-steps}
 use Rattle.log_checkpoint.specs.Gathers.{file_at}
 use Rattle.log_checkpoint.proofs.publishing.publish_line.Goals as goal

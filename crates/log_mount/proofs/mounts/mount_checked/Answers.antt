@@ -1,7 +1,7 @@
 use Rattle.std.proofs.Common.{subst, sym, ◌∙◌}
 use Rattle.disk_places.specs.Journal.{journaled}
-use Rattle.disk_rules.specs.Live.{live_entries}
-use Rattle.disk_rules.specs.Volume.{volume}
+use Rattle.k_check.specs.disk_rules.Live.{live_entries}
+use Rattle.k_check.specs.disk_rules.Volume.{volume}
 use Rattle.pm_words.specs.Images.{words_of}
 use Rattle.log_replay.specs.Orders.{AreInOrder}
 use Rattle.log_mount.proofs.Mounting.{answer-recovered, order-recovered, too}

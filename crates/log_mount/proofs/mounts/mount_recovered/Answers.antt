@@ -1,6 +1,6 @@
 use Rattle.std.proofs.Common.{false, subst, sym, true, ◌≡◌}
 use Rattle.disk_places.specs.Journal.{journaled}
-use Rattle.disk_rules.specs.Volume.{volume}
+use Rattle.k_check.specs.disk_rules.Volume.{volume}
 use Rattle.staging_files.specs.k_split.Order.{IsOpened}
 use Rattle.pm_words.specs.Images.{words_of}
 use Rattle.pm_words.specs.Powers.{is_on}

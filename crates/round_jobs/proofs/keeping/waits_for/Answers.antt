@@ -1,8 +1,8 @@
 use Rattle.std.proofs.Common.{ap, ◌∙◌}
 use Rattle.std.specs.Prelude.{None, if◌then◌else◌}
-use Rattle.crash_spec.specs.Busy.{path_node, waits_for}
+use Rattle.open_files.specs.crash_spec.Busy.{path_node, waits_for}
 use Rattle.posix_types.specs.declared.call.Call.{Call}
-use Rattle.posix_spec.specs.State.{State}
+use Rattle.open_files.specs.posix_spec.State.{State}
 use Rattle.round_jobs.proofs.Looks.{by_handle, by_path, by_none}
 use Rattle.round_jobs.proofs.keeping.waits_for.Goals as goal
 

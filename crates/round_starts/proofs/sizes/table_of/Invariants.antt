@@ -1,6 +1,6 @@
 use Rattle.std.specs.Prelude.{◌≡◌, ◌<◌, ℕ, [], length}
-use Rattle.disk_rules.specs.Volume.{inode}
-use Rattle.file_table.specs.Files.{runs_in, size_in}
+use Rattle.map_ends.specs.disk_rules.Volume.{inode}
+use Rattle.map_ends.specs.file_table.Files.{runs_in, size_in}
 use Rattle.round_starts.proofs.sizes.table_of.Given as goal
 
 abbrev pub invariant-loop-ino : goal.invariant-loop-ino

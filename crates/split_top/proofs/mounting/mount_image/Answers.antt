@@ -2,8 +2,8 @@ use Rattle.std.proofs.Common.{Err, subst}
 use Rattle.pm_words.specs.CellLaws.{single-home}
 use Rattle.pm_words.specs.Cells.{cell}
 use Rattle.pm_words.specs.Words.{word_at}
-use Rattle.disk_rules.specs.Rules.{geometry_of}
-use Rattle.split_events.specs.Mounts.{IsMountAnswer, IsMounted}
+use Rattle.split_machine.specs.disk_rules.Rules.{geometry_of}
+use Rattle.split_machine.specs.Mounts.{IsMountAnswer, IsMounted}
 use Rattle.split_top.proofs.Mounted.{own-live, own-tree}
 use Rattle.split_top.proofs.Opened.{still-on, unbroken}
 use Rattle.split_top.proofs.mounting.mount_image.Goals as goal

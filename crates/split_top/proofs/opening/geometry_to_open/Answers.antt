@@ -1,6 +1,6 @@
 use Rattle.std.proofs.Common.{◌*◌, length}
 use Rattle.pm_words.specs.Images.{words_of}
-use Rattle.disk_rules.specs.Broken.{Breaks}
+use Rattle.split_machine.specs.disk_rules.Broken.{Breaks}
 use Rattle.split_top.proofs.Opened.{can-open, refused}
 use Rattle.split_top.proofs.opening.geometry_to_open.Goals as goal
 

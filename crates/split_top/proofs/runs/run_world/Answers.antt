@@ -1,5 +1,5 @@
 use Rattle.std.proofs.Common.{[], subst, refl}
-use Rattle.split_events.specs.Runs.{IsRunEnded}
+use Rattle.split_machine.specs.Runs.{IsRunEnded}
 use Rattle.split_top.proofs.Endings.{ran_lost, ran_whole}
 use Rattle.split_top.proofs.Left.{left_as}
 use Rattle.split_top.proofs.runs.run_world.Goals as goal

@@ -1,9 +1,9 @@
 use Rattle.std.proofs.Common.{Err, subst}
 use Rattle.pm_words.specs.Words.{word_at}
-use Rattle.disk_rules.specs.Rules.{geometry_of}
+use Rattle.split_machine.specs.disk_rules.Rules.{geometry_of}
 use Rattle.posix_types.specs.declared.call.Mode.{Mode}
-use Rattle.split_events.specs.round_views.Starts.{BeginsMounted}
-use Rattle.split_events.specs.Mounts.{IsMountAnswer}
+use Rattle.split_machine.specs.round_views.Starts.{BeginsMounted}
+use Rattle.split_machine.specs.Mounts.{IsMountAnswer}
 use Rattle.split_top.proofs.Beginnings.{begins-on}
 use Rattle.split_top.proofs.Opened.{still-on, unbroken}
 use Rattle.split_top.proofs.runs.world_on.Goals as goal

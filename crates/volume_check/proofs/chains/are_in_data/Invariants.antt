@@ -1,6 +1,6 @@
 use Rattle.std.proofs.Common.{ℕ, ◌<◌, get_or}
 use Rattle.extent_words.specs.declared.Extent.{Extent}
-use Rattle.disk_rules.specs.Rules.{IsInData}
+use Rattle.k_reading.specs.disk_rules.Rules.{IsInData}
 use Rattle.volume_check.proofs.chains.are_in_data.Given as goal
 
 -- the extents so far are in data blocks

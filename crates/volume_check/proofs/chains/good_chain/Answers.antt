@@ -1,6 +1,6 @@
 use Rattle.std.proofs.Common.{length, arith, rules}
 use Rattle.std.proofs.lemmas.Bool.{both_ways}
-use Rattle.disk_rules.specs.Standing.{IsChain}
+use Rattle.k_reading.specs.disk_rules.Standing.{IsChain}
 use Rattle.pm_words.specs.Images.{words_of}
 use Rattle.volume_check.proofs.ChainFacts.{IsInRegion, good-of, none-of, outside-of}
 use Rattle.volume_check.proofs.chains.good_chain.Goals as goal

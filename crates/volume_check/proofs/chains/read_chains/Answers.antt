@@ -1,10 +1,10 @@
 use Rattle.std.proofs.Common.{arith, sym, refl, []}
-use Rattle.chain_facts.specs.RuleLaws.{volume-of_words}
+use Rattle.k_reading.specs.chain_facts.RuleLaws.{volume-of_words}
 use Rattle.disk_places.specs.Journal.{journaled}
-use Rattle.disk_rules.specs.Rules.{HasChain}
-use Rattle.disk_rules.specs.Volume.{volume}
+use Rattle.k_reading.specs.disk_rules.Rules.{HasChain}
+use Rattle.k_reading.specs.disk_rules.Volume.{volume}
 use Rattle.pm_words.specs.Images.{words_of}
-use Rattle.volume_facts.specs.ReadingLaws.{volume-geometry}
+use Rattle.k_reading.specs.volume_facts.ReadingLaws.{volume-geometry}
 use Rattle.volume_check.proofs.LineFacts.{count-chains, count-maps, inode-of, index-below, index-count}
 use Rattle.volume_check.proofs.Fronts.{front-more, front-all, front-holds, front-fails}
 use Rattle.volume_check.proofs.chains.read_chains.Goals as goal

@@ -1,7 +1,7 @@
 use Rattle.std.proofs.Common.{[]}
 use Rattle.disk_places.specs.Journal.{journaled}
-use Rattle.disk_rules.specs.Rules.{HasChain}
-use Rattle.disk_rules.specs.Volume.{volume}
+use Rattle.k_reading.specs.disk_rules.Rules.{HasChain}
+use Rattle.k_reading.specs.disk_rules.Volume.{volume}
 use Rattle.pm_words.specs.Images.{words_of}
 use Rattle.volume_check.proofs.Fronts.{IsFront}
 use Rattle.volume_check.proofs.chains.read_chains.Given as goal

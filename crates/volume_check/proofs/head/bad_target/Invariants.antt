@@ -1,5 +1,5 @@
 use Rattle.std.proofs.Common.{◌<◌, ℕ}
-use Rattle.disk_rules.specs.Rules.{HasTarget}
+use Rattle.k_reading.specs.disk_rules.Rules.{HasTarget}
 use Rattle.pm_words.specs.Images.{words_of}
 use Rattle.volume_check.proofs.head.bad_target.Given as goal
 

@@ -1,8 +1,8 @@
 use Rattle.std.proofs.Common.{◌<◌, ap, arith}
 use Rattle.disk_places.specs.Journal.{journaled}
 use Rattle.disk_places.specs.Places.{Geometry}
-use Rattle.disk_rules.specs.Rules.{HasInode}
-use Rattle.disk_rules.specs.Volume.{volume, free_inode}
+use Rattle.k_reading.specs.disk_rules.Rules.{HasInode}
+use Rattle.k_reading.specs.disk_rules.Volume.{volume, free_inode}
 use Rattle.pm_words.specs.Images.{words_of}
 use Rattle.volume_check.proofs.LineFacts.{count-inodes, inode-read}
 use Rattle.volume_check.proofs.Fronts.{front-more, front-all}

@@ -1,6 +1,6 @@
 use Rattle.disk_places.specs.Journal.{journaled}
-use Rattle.disk_rules.specs.Rules.{HasInode}
-use Rattle.disk_rules.specs.Volume.{volume, free_inode}
+use Rattle.k_reading.specs.disk_rules.Rules.{HasInode}
+use Rattle.k_reading.specs.disk_rules.Volume.{volume, free_inode}
 use Rattle.pm_words.specs.Images.{words_of}
 use Rattle.volume_check.proofs.Fronts.{IsFront}
 use Rattle.volume_check.proofs.lines.read_inodes.Given as goal

@@ -1,8 +1,8 @@
 use Rattle.std.proofs.Common.{◌<◌, ap, arith, sym, subst, None}
 use Rattle.disk_places.specs.Journal.{journaled}
 use Rattle.disk_places.specs.Places.{Geometry}
-use Rattle.disk_rules.specs.Rules.{IsNameSlot}
-use Rattle.disk_rules.specs.Volume.{volume, name_at}
+use Rattle.k_reading.specs.disk_rules.Rules.{IsNameSlot}
+use Rattle.k_reading.specs.disk_rules.Volume.{volume, name_at}
 use Rattle.pm_words.specs.Images.{words_of}
 use Rattle.volume_check.proofs.LineFacts.{count-names, count-of, row-read}
 use Rattle.volume_check.proofs.Fronts.{front-more, front-all, front-holds, front-fails}

@@ -1,7 +1,7 @@
 use Rattle.std.specs.Prelude.{None}
 use Rattle.disk_places.specs.Journal.{journaled}
-use Rattle.disk_rules.specs.Rules.{IsNameSlot}
-use Rattle.disk_rules.specs.Volume.{volume, name_at}
+use Rattle.k_reading.specs.disk_rules.Rules.{IsNameSlot}
+use Rattle.k_reading.specs.disk_rules.Volume.{volume, name_at}
 use Rattle.pm_words.specs.Images.{words_of}
 use Rattle.volume_check.proofs.Fronts.{IsFront}
 use Rattle.volume_check.proofs.lines.read_names.Given as goal

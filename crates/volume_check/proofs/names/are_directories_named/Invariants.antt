@@ -1,6 +1,6 @@
 use Rattle.std.proofs.Common.{◌≡◌, ◌≤◌, ◌<◌, ℕ, true, get_or}
-use Rattle.disk_rules.specs.Live.{is_directory}
-use Rattle.disk_rules.specs.Volume.{free_inode}
+use Rattle.k_reading.specs.disk_rules.Live.{is_directory}
+use Rattle.k_reading.specs.disk_rules.Volume.{free_inode}
 use Rattle.volume_check.proofs.names.are_directories_named.Given as goal
 
 -- the directories so far have names

@@ -1,7 +1,7 @@
 use Rattle.std.proofs.Common.{◌≡◌, ◌<◌, ℕ}
 use Rattle.disk_lines.specs.Names.{row}
-use Rattle.disk_rules.specs.Rules.{IsRowPlaced}
-use Rattle.disk_rules.specs.Volume.{Volume}
+use Rattle.k_reading.specs.disk_rules.Rules.{IsRowPlaced}
+use Rattle.k_reading.specs.disk_rules.Volume.{Volume}
 use Rattle.volume_check.proofs.names.bad_row.Given as goal
 
 -- the rows so far keep the rule

@@ -1,8 +1,8 @@
 use Rattle.std.proofs.Common.{◌≡◌, true, sym, ap, ◌∙◌, subst}
 use Rattle.disk_lines.specs.Lines.{NameRow}
 use Rattle.disk_lines.specs.Names.{Rows, ends_at_root}
-use Rattle.disk_rules.specs.Live.{is_directory}
-use Rattle.disk_rules.specs.Volume.{inode}
+use Rattle.k_reading.specs.disk_rules.Live.{is_directory}
+use Rattle.k_reading.specs.disk_rules.Volume.{inode}
 use Rattle.volume_check.specs.Above.{IsOnly}
 use Rattle.volume_check.proofs.NameFacts.{placed-kept, placed-ends}
 use Rattle.volume_check.proofs.names.is_placed.Goals as goal

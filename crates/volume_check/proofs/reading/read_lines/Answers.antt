@@ -1,7 +1,7 @@
 use Rattle.std.proofs.Common.{sym, subst}
 use Rattle.disk_places.specs.Journal.{journaled}
-use Rattle.disk_rules.specs.Broken.{Holds, FailsFirst, BreaksFirst, line_rules}
-use Rattle.disk_rules.specs.Volume.{volume}
+use Rattle.k_reading.specs.disk_rules.Broken.{Holds, FailsFirst, BreaksFirst, line_rules}
+use Rattle.k_reading.specs.disk_rules.Volume.{volume}
 use Rattle.pm_words.specs.Images.{words_of}
 use Rattle.volume_check.specs.LineRules.{inodes_rule, names_rule, chains_rule}
 use Rattle.volume_check.proofs.ReadFacts.{breaks-inodes, breaks-names, breaks-chains, lines-hold}

@@ -3,10 +3,10 @@ use Rattle.disk_lines.specs.declared.Inode.{Inode}
 use Rattle.disk_lines.specs.Names.{Rows}
 use Rattle.disk_places.specs.Journal.{journaled}
 use Rattle.disk_places.specs.Places.{Geometry, IsGeometry}
-use Rattle.disk_rules.specs.Broken.{Holds, HoldAll, BreaksFirst, line_rules}
-use Rattle.disk_rules.specs.Volume.{volume}
+use Rattle.k_reading.specs.disk_rules.Broken.{Holds, HoldAll, BreaksFirst, line_rules}
+use Rattle.k_reading.specs.disk_rules.Volume.{volume}
 use Rattle.pm_words.specs.Images.{words_of}
-use Rattle.volume_facts.specs.ReadingLaws.{volume-geometry}
+use Rattle.k_reading.specs.volume_facts.ReadingLaws.{volume-geometry}
 use Rattle.volume_check.specs.Readings.{AreOf, blocks_rule, body_rules}
 use Rattle.volume_check.proofs.ReadFacts.{good-lines, of-tables, volume-base, breaks-blocks, breaks-tree, body-holds}
 use Rattle.volume_check.proofs.reading.read_tables.Goals as goal

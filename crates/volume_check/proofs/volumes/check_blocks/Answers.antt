@@ -1,6 +1,6 @@
 use Rattle.std.proofs.Common.{◌∙◌, ◌+◌, ap, subst, sym, arith, length}
 use Rattle.disk_places.specs.Places.{first_data}
-use Rattle.disk_rules.specs.Broken.{FailsFirst}
+use Rattle.k_reading.specs.disk_rules.Broken.{FailsFirst}
 use Rattle.volume_check.specs.Marks.{AreFew, IsFirstTwice}
 use Rattle.volume_check.specs.Readings.{blocks_rule}
 use Rattle.volume_check.proofs.UseFacts.{marks-owners, blocks-once, blocks-twice}

@@ -1,8 +1,8 @@
 use Rattle.std.proofs.Common.{◌∙◌, ap, subst, sym, List, length}
 use Rattle.disk_lines.specs.Names.{Rows}
 use Rattle.disk_lines.specs.declared.Inode.{Inode}
-use Rattle.disk_rules.specs.Broken.{Holds, BreaksFirst}
-use Rattle.disk_rules.specs.Rules.{AreDirectoriesNamed}
+use Rattle.k_reading.specs.disk_rules.Broken.{Holds, BreaksFirst}
+use Rattle.k_reading.specs.disk_rules.Rules.{AreDirectoriesNamed}
 use Rattle.volume_check.specs.Above.{rows_rule}
 use Rattle.volume_check.specs.Marks.{AreFew, IsFirstTwice}
 use Rattle.volume_check.specs.Readings.{tree_rules, AreNameMarks}

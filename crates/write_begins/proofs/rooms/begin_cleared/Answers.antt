@@ -1,6 +1,6 @@
 use Rattle.std.proofs.Common.{◌∙◌, ℕ, arith, refl, subst, sym}
-use Rattle.disk_rules.specs.Volume.{Volume}
-use Rattle.k_rules.specs.View.{View}
+use Rattle.first_writes.specs.disk_rules.Volume.{Volume}
+use Rattle.first_writes.specs.k_rules.View.{View}
 use Rattle.write_begins.specs.Goes.{KeepsMaps, LacksRun}
 use Rattle.write_begins.proofs.Clearing.{line_there}
 use Rattle.write_begins.proofs.Cleared.{gone_ok, same_maps, same_volume}

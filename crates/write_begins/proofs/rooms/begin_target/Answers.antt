@@ -2,7 +2,7 @@ use Rattle.std.proofs.Common.{◌∙◌, ℕ, List, length, ap, subst, sym, refl
 use Rattle.std.specs.Prelude.{Ok, slice_index}
 use Rattle.write_gaps.specs.Gaps.{block_start}
 use Rattle.write_begins.specs.declared.beginning.WriteBegun.{WriteBegun}
-use Rattle.k_rules.specs.View.{View}
+use Rattle.first_writes.specs.k_rules.View.{View}
 use Rattle.write_gaps.specs.flight_zeros.Zeros.{ReadZero}
 use Rattle.write_begins.specs.Goes.{Goes, HasRoom, KeepsMaps}
 use Rattle.write_begins.proofs.Cleared.{maps_then}

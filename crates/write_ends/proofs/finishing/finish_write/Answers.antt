@@ -4,11 +4,11 @@ use Rattle.pm_words.specs.Parts.{Part}
 use Rattle.disk_lines.specs.declared.Draft.{Draft}
 use Rattle.disk_lines.specs.Lines.{most_bytes}
 use Rattle.file_overlay.specs.declared.runs.Run.{Run}
-use Rattle.file_table.specs.Files.{ChangesFile, runs_in}
-use Rattle.k_rules.specs.View.{View}
+use Rattle.write_asks.specs.file_table.Files.{ChangesFile, runs_in}
+use Rattle.world_lent.specs.k_rules.View.{View}
 use Rattle.world_standing.specs.overlay_facts.Overlays.{run_of}
 use Rattle.posix_types.specs.declared.call.Who.{Who}
-use Rattle.write_jobs.specs.Jobs.{loan_at}
+use Rattle.block_loans.specs.write_jobs.Jobs.{loan_at}
 use Rattle.block_loans.specs.Loans.{AreApart, ComeBack}
 use Rattle.write_asks.specs.Asks.{moved_by}
 use Rattle.write_ends.proofs.Asked.{finish_leaves, may_lay, may_move_by}

@@ -2,10 +2,10 @@ use Rattle.std.proofs.Common.{◌≡◌, ◌<◌, ◌+◌, ◌/◌, ◌∙◌, a
 use Rattle.std.specs.Prelude.{Contains}
 use Rattle.pm_words.specs.Cells.{cell, is_lent}
 use Rattle.pm_words.specs.Parts.{Part}
-use Rattle.k_rules.specs.View.{View}
+use Rattle.world_lent.specs.k_rules.View.{View}
 use Rattle.world_standing.specs.staging_files.declared.runs.StageRun.{StageRun}
 use Rattle.world_standing.specs.staging_files.Keeps.{Staged}
-use Rattle.write_jobs.specs.Jobs.{loan_at}
+use Rattle.block_loans.specs.write_jobs.Jobs.{loan_at}
 use Rattle.block_loans.specs.Loans.{AreApart, ComeBack}
 use Rattle.world_standing.specs.Standing.{reserved_run}
 use Rattle.write_ends.proofs.Ending.{loans_apart, loans_out}

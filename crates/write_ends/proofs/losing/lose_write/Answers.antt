@@ -1,7 +1,7 @@
 use Rattle.std.proofs.Common.{◌≡◌, ◌<◌, ◌/◌, ℕ, true, List, length, subst, sym}
 use Rattle.pm_words.specs.Cells.{cell, is_lent}
 use Rattle.pm_words.specs.Parts.{Part}
-use Rattle.write_jobs.specs.Jobs.{loan_at}
+use Rattle.block_loans.specs.write_jobs.Jobs.{loan_at}
 use Rattle.block_loans.specs.Loans.{AreApart, ComeBack}
 use Rattle.write_ends.proofs.Consumed.{leaves_lost, lost_loans_apart, lost_loans_out}
 use Rattle.write_ends.proofs.losing.lose_write.Goals as goal

@@ -1,6 +1,6 @@
 use Rattle.std.proofs.Common.{◌≡◌, ◌≤◌, length, vec_capacity}
 use Rattle.std.specs.Prelude.{take}
-use Rattle.write_jobs.specs.Jobs.{blocks_of}
+use Rattle.block_loans.specs.write_jobs.Jobs.{blocks_of}
 use Rattle.write_stages.proofs.staging.note_blocks.Given as goal
 
 -- those of the loans so far, with room for all

@@ -2,8 +2,8 @@ use Rattle.std.proofs.Common.{◌≡◌, ◌∙◌, List, ℕ, ap, subst, sym}
 use Rattle.pm_words.specs.Parts.{Part}
 use Rattle.disk_lines.specs.declared.Draft.{Draft}
 use Rattle.disk_lines.specs.EntryLaws.{FitsDraft}
-use Rattle.k_rules.specs.View.{View}
-use Rattle.write_jobs.specs.Jobs.{AreOfEntry, blocks_of, JobView}
+use Rattle.block_loans.specs.k_rules.View.{View}
+use Rattle.block_loans.specs.write_jobs.Jobs.{AreOfEntry, blocks_of, JobView}
 use Rattle.block_loans.specs.Loans.{AreLentBy, MayLendAll}
 use Rattle.write_stages.specs.Stages.{IsStaged}
 use Rattle.write_stages.proofs.Making.{are_single, may_lend, of_entry, readable, small_order}

@@ -1,20 +1,20 @@
 use Rattle.std.proofs.Common.{◌≡◌, ◌∙◌, ◌<◌, ℕ, List, [], length, ap, arith, false, true, refl, subst, sym}
 use Rattle.std.proofs.lemmas.List.{get_or_default}
-use Rattle.block_pool.specs.FreeSets.{is_among}
+use Rattle.k_reading.specs.block_pool.FreeSets.{is_among}
 use Rattle.disk_lines.specs.declared.Inode.{Inode}
-use Rattle.disk_rules.specs.Reading.{inode_set}
-use Rattle.disk_rules.specs.Volume.{chain, extents, free_inode, inode}
+use Rattle.k_tables.specs.disk_rules.Reading.{inode_set}
+use Rattle.k_tables.specs.disk_rules.Volume.{chain, extents, free_inode, inode}
 use Rattle.extent_words.specs.declared.Extent.{Extent}
 use Rattle.extent_words.specs.Extents.{holds_disk}
-use Rattle.disk_rules.specs.Placed.{extent_at}
-use Rattle.k_journal.specs.declared.batches.Entry.{Entry}
+use Rattle.k_tables.specs.disk_rules.Placed.{extent_at}
+use Rattle.k_land.specs.k_journal.declared.batches.Entry.{Entry}
 use Rattle.k_land.specs.Plans.{Turns}
 use Rattle.k_land.specs.Plans.IsMapFrom.{NoMap}
 use Rattle.k_land.specs.PlanLaws.{turns-none}
 use Rattle.k_plans.specs.Giving.{AreGiven, MayGiveChain, MayGiveMap, is_held}
 use Rattle.k_plans.specs.contracts.tables.Tables.{the_view}
 use Rattle.k_plans.specs.View.{TablesView, with_volume}
-use Rattle.k_rules.specs.Changes.{dropped, gone_node}
+use Rattle.k_tables.specs.k_rules.Changes.{dropped, gone_node}
 use Rattle.volume_maps.specs.volume_changes.Changes.{MayDrop}
 use Rattle.k_plans.proofs.Drops.{chain-may, dropped-after, dropped-staged, dropped-whole, map-apart, map-may}
 use Rattle.k_plans.proofs.Wholes.{plan-from}

@@ -3,11 +3,11 @@ use Rattle.std.proofs.lemmas.Bool.{both_ways}
 use Rattle.std.proofs.lemmas.List.{get_or_default}
 use Rattle.disk_lines.specs.Lines.{NameRow, is_name_row}
 use Rattle.disk_lines.specs.Names.{is_entry, row}
-use Rattle.disk_rules.specs.Volume.{free_inode}
+use Rattle.k_tables.specs.disk_rules.Volume.{free_inode}
 use Rattle.k_plans.specs.Making.{kind_of}
 use Rattle.k_plans.specs.contracts.tables.Tables.{the_view}
 use Rattle.k_plans.specs.View.{TablesView}
-use Rattle.k_rules.specs.Changes.{new_node}
+use Rattle.k_tables.specs.k_rules.Changes.{new_node}
 use Rattle.k_tables.specs.Found.{IsPlace}
 use Rattle.k_plans.proofs.Places.{MakesAt, makes-plan, makes-tables, place-new, place-row}
 use Rattle.k_plans.proofs.tables.Tables.make_at.Goals as goal

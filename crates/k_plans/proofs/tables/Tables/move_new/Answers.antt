@@ -1,12 +1,12 @@
 use Rattle.std.proofs.Common.{◌≡◌, List, [], length, ap, arith, refl, subst, sym}
-use Rattle.k_journal.specs.declared.batches.Entry.{Entry}
+use Rattle.k_land.specs.k_journal.declared.batches.Entry.{Entry}
 use Rattle.k_land.specs.Plans.{Turns}
 use Rattle.k_land.specs.PlanLaws.{turns-none}
 use Rattle.disk_lines.specs.Names.{Rows}
-use Rattle.disk_rules.specs.Volume.{Volume}
+use Rattle.k_tables.specs.disk_rules.Volume.{Volume}
 use Rattle.k_plans.specs.contracts.tables.Tables.{the_view}
 use Rattle.k_plans.specs.View.{TablesView, with_volume}
-use Rattle.k_rules.specs.Changes.{renamed}
+use Rattle.k_tables.specs.k_rules.Changes.{renamed}
 use Rattle.volume_maps.specs.volume_changes.CountLaws.{renamed-owners}
 use Rattle.k_plans.proofs.Renames.{Moves, moves-alone, moves-row, moves-whole}
 use Rattle.k_plans.proofs.Wholes.{after-tables, plan-from, with_names}

@@ -3,13 +3,13 @@ use Rattle.std.proofs.lemmas.List.{get_or_default}
 use Rattle.std.specs.Prelude.{None, Some, slice_set}
 use Rattle.disk_lines.specs.declared.Inode.{Inode}
 use Rattle.disk_lines.specs.Names.{Rows}
-use Rattle.disk_rules.specs.Reading.{node_set, row_set}
-use Rattle.disk_rules.specs.Volume.{Volume, free_inode, inode}
+use Rattle.k_tables.specs.disk_rules.Reading.{node_set, row_set}
+use Rattle.k_tables.specs.disk_rules.Volume.{Volume, free_inode, inode}
 use Rattle.k_land.specs.Plans.{Turns}
 use Rattle.k_plans.specs.contracts.tables.Tables.{the_view}
 use Rattle.k_plans.specs.View.{TablesView, with_volume}
-use Rattle.k_rules.specs.Changes.{gone_node, renamed_over_directory}
-use Rattle.k_rules.specs.Spaces.{is_directory_in}
+use Rattle.k_tables.specs.k_rules.Changes.{gone_node, renamed_over_directory}
+use Rattle.k_tables.specs.k_rules.Spaces.{is_directory_in}
 use Rattle.volume_maps.specs.volume_changes.CountLaws.{renamed_over_directory-owners}
 use Rattle.k_plans.specs.Whole.{IsWhole}
 use Rattle.k_plans.proofs.Renames.{Moves, moves-row, over-alone, over-bare, over-below, over_directory-whole}

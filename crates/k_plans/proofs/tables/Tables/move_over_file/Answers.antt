@@ -1,11 +1,11 @@
 use Rattle.std.proofs.Common.{◌≡◌, ◌∙◌, ap, arith, false, refl, subst, sym}
 use Rattle.std.specs.Prelude.{Some, slice_set}
 use Rattle.disk_lines.specs.Names.{Rows}
-use Rattle.disk_rules.specs.Volume.{Volume}
+use Rattle.k_tables.specs.disk_rules.Volume.{Volume}
 use Rattle.k_plans.specs.contracts.tables.Tables.{the_view}
 use Rattle.k_plans.specs.View.{TablesView, with_volume}
-use Rattle.k_rules.specs.Changes.{renamed_over_file}
-use Rattle.k_rules.specs.Spaces.{is_directory_in}
+use Rattle.k_tables.specs.k_rules.Changes.{renamed_over_file}
+use Rattle.k_tables.specs.k_rules.Spaces.{is_directory_in}
 use Rattle.volume_maps.specs.volume_changes.CountLaws.{renamed_over_file-owners}
 use Rattle.k_plans.specs.Whole.{IsWhole}
 use Rattle.k_plans.proofs.Renames.{Moves, moves-row, over-alone, over_file-whole}

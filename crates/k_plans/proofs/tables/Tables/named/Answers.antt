@@ -1,6 +1,6 @@
 use Rattle.std.proofs.Common.{◌<◌, subst, sym}
 use Rattle.disk_lines.specs.Names.{names_of}
-use Rattle.disk_rules.specs.Volume.{Volume}
+use Rattle.k_tables.specs.disk_rules.Volume.{Volume}
 use Rattle.k_tables.specs.name_facts.KeptLaws.{kept-acyclic}
 use Rattle.k_plans.specs.View.{tables_view, TablesView}
 use Rattle.k_plans.proofs.NamedNodes.{below-named, named-below}

@@ -1,9 +1,9 @@
 use Rattle.std.proofs.Common.{◌∙◌, ap, subst, sym}
 use Rattle.std.proofs.lemmas.List.{get_or_default}
-use Rattle.disk_rules.specs.Volume.{free_inode}
+use Rattle.k_tables.specs.disk_rules.Volume.{free_inode}
 use Rattle.k_plans.specs.contracts.tables.Tables.{the_view}
 use Rattle.k_plans.specs.View.{TablesView}
-use Rattle.k_rules.specs.Changes.{gone_node}
+use Rattle.k_tables.specs.k_rules.Changes.{gone_node}
 use Rattle.k_tables.specs.Found.{IsDirectoryAt}
 use Rattle.k_plans.proofs.Removals.{Removes, removed-below, removes-plan, removes-tables}
 use Rattle.k_plans.proofs.tables.Tables.remove_at.Goals as goal

@@ -2,7 +2,7 @@ use Rattle.std.proofs.Common.{◌≡◌, ◌∙◌, ◌++◌, ℕ, false, refl, 
 use Rattle.std.specs.Prelude.{if◌then◌else◌, is_ok, IsOk}
 use Rattle.std.proofs.lemmas.Bool.{both_ways}
 use Rattle.std.specs.declared.alloc.AllocError.{AllocError}
-use Rattle.block_pool.specs.FreeSets.{Takes}
+use Rattle.k_reading.specs.block_pool.FreeSets.{Takes}
 use Rattle.k_plans.specs.Free.{AreTables, free_blocks}
 use Rattle.k_plans.specs.Switching.{with_waiting}
 use Rattle.k_plans.specs.contracts.tables.Tables.{the_view}

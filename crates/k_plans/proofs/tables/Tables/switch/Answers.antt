@@ -1,8 +1,8 @@
 use Rattle.std.proofs.Common.{◌≡◌, ◌∙◌, ap, subst, sym}
 use Rattle.disk_lines.specs.declared.Inode.{Inode}
-use Rattle.disk_rules.specs.Reading.{inode_set}
+use Rattle.k_tables.specs.disk_rules.Reading.{inode_set}
 use Rattle.extent_words.specs.Extents.{IsCanonical}
-use Rattle.map_rules.specs.Taken.{with_map}
+use Rattle.volume_maps.specs.map_rules.Taken.{with_map}
 use Rattle.k_land.specs.Plans.{IsMapFrom, Turns}
 use Rattle.volume_maps.specs.Switches.{MaySwitch}
 use Rattle.k_plans.specs.Free.{AreTables}

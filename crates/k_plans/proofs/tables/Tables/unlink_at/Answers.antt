@@ -1,5 +1,5 @@
 use Rattle.std.proofs.Common.{List, [], length, ap, arith, subst, sym}
-use Rattle.k_journal.specs.declared.batches.Entry.{Entry}
+use Rattle.k_land.specs.k_journal.declared.batches.Entry.{Entry}
 use Rattle.k_land.specs.Plans.{Turns}
 use Rattle.k_land.specs.PlanLaws.{turns-none}
 use Rattle.k_plans.specs.contracts.tables.Tables.{the_view}

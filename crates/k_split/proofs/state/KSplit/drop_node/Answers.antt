@@ -1,8 +1,8 @@
 use Rattle.std.proofs.Common.{◌≡◌, true, false, Option, None, refl, sym, ◌∙◌, ap, subst}
 use Rattle.pm_words.specs.Powers.{is_on}
 use Rattle.k_log_plans.specs.k_plans.View.{TablesView}
-use Rattle.k_rules.specs.Changes.{dropped}
-use Rattle.k_rules.specs.View.{View}
+use Rattle.k_content.specs.k_rules.Changes.{dropped}
+use Rattle.k_content.specs.k_rules.View.{View}
 use Rattle.k_log_plans.specs.volume_changes.Changes.{MayDrop}
 use Rattle.posix_types.specs.declared.item.Outcome.{Outcome}
 use Rattle.k_split.proofs.ChangeLaws.{answer-landed, awake, memory-landed, paid-landed, planned, ready-landed}

@@ -5,8 +5,8 @@ use Rattle.pm_words.specs.Powers.{is_on}
 use Rattle.k_log_plans.specs.k_land.Plans.{NewChain, blocks_of}
 use Rattle.k_log_plans.specs.k_land.WrittenLaws.{blocks_of-one}
 use Rattle.k_log_plans.specs.k_plans.Switching.{IsMapPlan}
-use Rattle.k_rules.specs.View.{View}
-use Rattle.disk_rules.specs.Volume.{inode}
+use Rattle.k_content.specs.k_rules.View.{View}
+use Rattle.lines_out.specs.disk_rules.Volume.{inode}
 use Rattle.k_log_plans.specs.k_map_plans.Plans.{IsStagingFile}
 use Rattle.k_split.proofs.ChangeLaws.{awake}
 use Rattle.k_split.proofs.MapAnswers.{map-answer, map-paid, map-planned, map-ready, given-chain, single-unstaged, unstaged-from}

@@ -1,7 +1,7 @@
 use Rattle.std.proofs.Common.{◌<◌, ◌/◌, ℕ, IfOk, length, subst, sym}
 use Rattle.std.proofs.Common.{ap, ◌∙◌}
 use Rattle.pm_words.specs.Parts.{GoesOut}
-use Rattle.k_rules.specs.View.{View}
+use Rattle.k_content.specs.k_rules.View.{View}
 use Rattle.k_split.specs.Loans.{MayLend}
 use Rattle.k_split.proofs.LoanLaws.{lend_within, ready_asked, same_disk}
 use Rattle.k_split.proofs.state.KSplit.lend.Goals as goal

@@ -4,13 +4,13 @@ use Rattle.pm_words.specs.Frames.{KeepsSingle}
 use Rattle.pm_words.specs.ImageLaws.{IsImage-words_of}
 use Rattle.pm_words.specs.Images.{words_of}
 use Rattle.pm_words.specs.Powers.{is_on}
-use Rattle.disk_rules.specs.Volume.{extents}
+use Rattle.lines_out.specs.disk_rules.Volume.{extents}
 use Rattle.extent_words.specs.Extents.{IsCanonical}
 use Rattle.k_log_plans.specs.k_map_plans.Plans.{MayMove}
 use Rattle.k_log_plans.specs.k_plans.Free.{is_free_block}
 use Rattle.k_log_plans.specs.k_land.Plans.{blocks_of}
 use Rattle.k_log_plans.specs.k_plans.Switching.{IsMapPlan}
-use Rattle.k_rules.specs.View.{View}
+use Rattle.k_content.specs.k_rules.View.{View}
 use Rattle.k_split.proofs.ChangeLaws.{awake}
 use Rattle.k_split.proofs.MapAnswers.{map-answer, map-paid, map-planned, map-ready, unstaged-from}
 use Rattle.k_split.proofs.Relinks.{blocks_of-two, moved-unstaged}

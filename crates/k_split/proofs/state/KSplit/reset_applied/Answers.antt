@@ -4,7 +4,7 @@ use Rattle.pm_words.specs.Powers.{is_on}
 use Rattle.k_log_plans.specs.Resets.{reset}
 use Rattle.k_log_plans.specs.k_map_plans.Plans.{IsLiveFile}
 use Rattle.k_log_plans.specs.k_plans.View.{TablesView}
-use Rattle.k_rules.specs.View.{View}
+use Rattle.k_content.specs.k_rules.View.{View}
 use Rattle.posix_types.specs.declared.item.Outcome.{Outcome}
 use Rattle.k_split.specs.Resets.{KeepsUnloggedContent}
 use Rattle.k_split.proofs.ChangeLaws.{answer-landed, awake, paid-landed, planned, ready-landed}

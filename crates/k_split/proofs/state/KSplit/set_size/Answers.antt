@@ -2,13 +2,13 @@ use Rattle.std.proofs.Common.{◌≡◌, true, false, List, sym, ◌∙◌, ap, 
 use Rattle.pm_words.specs.declared.Cell.{Cell}
 use Rattle.pm_words.specs.Frames.{KeepsSingle}
 use Rattle.pm_words.specs.Powers.{is_on}
-use Rattle.disk_rules.specs.Volume.{inode}
+use Rattle.lines_out.specs.disk_rules.Volume.{inode}
 use Rattle.k_log_plans.specs.k_land.Plans.{NewChain, blocks_of}
 use Rattle.k_log_plans.specs.k_land.WrittenLaws.{blocks_of-one}
 use Rattle.k_log_plans.specs.k_map_plans.Plans.{IsLiveFile}
 use Rattle.k_log_plans.specs.k_plans.Switching.{IsMapPlan}
-use Rattle.k_rules.specs.View.{View}
-use Rattle.map_rules.specs.Changes.{with_size}
+use Rattle.k_content.specs.k_rules.View.{View}
+use Rattle.lines_out.specs.map_rules.Changes.{with_size}
 use Rattle.k_split.proofs.ChangeLaws.{awake, unstaged-kept}
 use Rattle.k_split.proofs.MapAnswers.{file-staged, map-answer, map-paid, map-planned, map-ready}
 use Rattle.k_split.specs.MapChanges.{IsMapPlanned, IsSizedWith}

@@ -2,10 +2,10 @@ use Rattle.std.proofs.Common.{◌≡◌, ◌<◌, ◌∙◌, false, true, length
 use Rattle.pm_words.specs.Images.{words_of}
 use Rattle.pm_words.specs.ImageLaws.{IsImage-words_of}
 use Rattle.pm_words.specs.Powers.{is_on}
-use Rattle.disk_rules.specs.Volume.{extents}
+use Rattle.lines_out.specs.disk_rules.Volume.{extents}
 use Rattle.extent_words.specs.Extents.{IsCanonical}
-use Rattle.block_bytes.specs.Overwrites.{MayOverwrite}
-use Rattle.k_rules.specs.View.{View}
+use Rattle.lines_out.specs.block_bytes.Overwrites.{MayOverwrite}
+use Rattle.k_content.specs.k_rules.View.{View}
 use Rattle.k_split.proofs.ByteLaws.{asked, file_below, file_single, may_overwrite, overwrite-none, short_range}
 use Rattle.k_split.proofs.ChangeLaws.{awake}
 use Rattle.k_split.proofs.state.KSplit.write_in_place.Goals as goal

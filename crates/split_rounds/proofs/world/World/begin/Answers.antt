@@ -1,6 +1,0 @@
-use Rattle.std.proofs.Common.{subst, sym}
-use Rattle.round_views.specs.Views.{HasNone, WorldView}
-use Rattle.split_rounds.proofs.world.World.begin.Goals as goal
-
-pub begin_next-requires-clause-none : goal.begin_next-requires-clause-none
-begin_next-requires-clause-none c = subst (λ (w : WorldView). HasNone w c.args.who) (sym c.self.view_is) c.requires.none

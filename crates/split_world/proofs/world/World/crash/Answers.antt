@@ -1,0 +1,19 @@
+use Rattle.std.proofs.Common.{ap, sym, subst}
+use Rattle.round_starts.specs.round_views.Losses.{MayCrash}
+use Rattle.round_starts.specs.round_views.Rounds.{IsLeft}
+use Rattle.round_starts.specs.round_views.Views.{WorldView}
+use Rattle.split_world.specs.Seen.{seen}
+use Rattle.split_world.proofs.Settles.{left_lost, may_lost}
+use Rattle.split_world.proofs.world.World.crash.Goals as goal
+
+pub crash_lost-requires-clause-may : goal.crash_lost-requires-clause-may
+crash_lost-requires-clause-may c =
+    subst (λ (w : WorldView). MayCrash w c.args.lines.items c.args.out.items c.args.filled.items) (sym (ap seen c.lose.ensures.lost))
+    (may_lost (seen c.self.inside.parts) c.args.lines.items c.args.out.items c.args.filled.items
+    (subst (λ (w : WorldView). MayCrash w c.args.lines.items c.args.out.items c.args.filled.items) (sym c.self.view_is) c.requires.may))
+
+pub returns : goal.returns
+returns c =
+    subst (λ (w : WorldView). IsLeft w c.crash_lost.result.pm c.crash_lost.result.history.items c.crash_lost.result.unfinished.items) c.self.view_is
+    (left_lost (seen c.self.inside.parts) c.args.lines.items c.args.out.items c.args.filled.items c.crash_lost.result.pm c.crash_lost.result.history.items c.crash_lost.result.unfinished.items
+    (subst (λ (w : WorldView). IsLeft w c.crash_lost.result.pm c.crash_lost.result.history.items c.crash_lost.result.unfinished.items) (ap seen c.lose.ensures.lost) c.crash_lost.ensures))

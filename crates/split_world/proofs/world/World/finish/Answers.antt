@@ -1,0 +1,31 @@
+use Rattle.std.proofs.Common.{◌≡◌, ◌∙◌, ap, sym, subst}
+use Rattle.round_puts.specs.round_jobs.world_standing.Standing.{Pending}
+use Rattle.round_starts.specs.round_views.Begins.{IsFilledOut}
+use Rattle.round_starts.specs.round_views.Jobs.{Finishes, IsOfWorld, LosesFinish}
+use Rattle.round_starts.specs.round_views.Views.{WorldView}
+use Rattle.split_world.specs.Seen.{seen}
+use Rattle.split_world.proofs.Lost.{loses_first, out_lost}
+use Rattle.split_world.proofs.world.World.finish.Goals as goal
+
+pub returns-then-self-clause-finished : goal.returns-then-self-clause-finished
+returns-then-self-clause-finished c =
+    subst (λ (w : WorldView). (q : Pending) → IsFilledOut w q c.args.job → LosesFinish c.args.slot q w (seen c.finish_off.new.p) c.args.power.now) c.self.view_is
+    (λ q is. c.finish_off.ensures.finished q is c.args.power.now)
+
+pub finish_off-requires-then-not-on-clause-job : goal.finish_off-requires-then-not-on-clause-job
+finish_off-requires-then-not-on-clause-job c =
+    let own = subst (λ (w : WorldView). IsOfWorld w c.args.job) (sym c.self.view_is) c.requires.job in
+    subst (λ (w : WorldView). IsOfWorld w c.args.job) (sym (ap seen c.lose_one.ensures.lost)) (own.0, out_lost c.self.inside.parts c.if-self.false c.args.slot own.0 c.args.job own.1)
+
+pub returns-then-not-on-clause-finished : goal.returns-then-not-on-clause-finished
+returns-then-not-on-clause-finished c =
+    subst (λ (w : WorldView). (q : Pending) → IsFilledOut w q c.args.job → LosesFinish c.args.slot q w (seen c.finish_off-then-not-on.new.p) c.args.power.now) c.self.view_is
+    (λ q is. loses_first c.self.inside.parts c.if-self.false c.args.slot q c.args.job c.finish_off-then-not-on.new.p c.args.power.now (sym c.on.ensures ∙ c.if-not-on.true)
+    (c.finish_off-then-not-on.ensures.acts ∙ ap (λ p. p.acts) c.lose_one.ensures.lost)
+    (subst (λ (w : WorldView). LosesFinish c.args.slot q w (seen c.finish_off-then-not-on.new.p) c.args.power.now) (ap seen c.lose_one.ensures.lost)
+    (c.finish_off-then-not-on.ensures.finished q (subst (λ (w : WorldView). IsFilledOut w q c.args.job) (sym (ap seen c.lose_one.ensures.lost)) (out_lost c.self.inside.parts c.if-self.false c.args.slot q c.args.job is)) c.args.power.now)))
+
+pub returns-clause-finished : goal.returns-clause-finished
+returns-clause-finished c =
+    subst (λ (w : WorldView). (q : Pending) → IsFilledOut w q c.args.job → Finishes c.args.slot q w (seen c.finish_on.new.p) c.args.power.now) c.self.view_is
+    (λ q is. c.finish_on.ensures.finished q is c.args.power.now (sym c.on.ensures ∙ c.if-not-on.false))

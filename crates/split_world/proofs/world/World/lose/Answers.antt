@@ -1,0 +1,5 @@
+use Rattle.split_world.proofs.Lost.{lost_kept}
+use Rattle.split_world.proofs.world.World.lose.Goals as goal
+
+pub invariant_of-self : goal.invariant_of-self
+invariant_of-self c usable = lost_kept c.self.inside.parts (c.self.invariant usable)

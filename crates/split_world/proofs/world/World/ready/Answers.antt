@@ -1,0 +1,7 @@
+use Rattle.std.proofs.Common.{subst}
+use Rattle.round_starts.specs.round_views.Views.{WorldView}
+use Rattle.split_world.specs.Answers.{IsReady}
+use Rattle.split_world.proofs.world.World.ready.Goals as goal
+
+pub returns : goal.returns
+returns c = subst (λ (w : WorldView). IsReady w c.args.who c.ready_of.result) c.self.view_is c.ready_of.ensures

@@ -1,0 +1,31 @@
+//! The World: a file system with its scripts and the history of their calls since it was mounted, with logged
+//! writes out while others run.
+//!
+//! A round begins with the log's lines handed out (`begin_round`). A call either returns at its beginning or, if
+//! it is logged, becomes a job: its blocks are lent, it is filled outside (`Job::fill`), its entry is written into
+//! a line that nobody else has, and then it finishes. A round ends where the lines or the staging are used up; a
+//! checkpoint publishes what is staged and begins the next lap. The layer above may rely on this: the history is
+//! legal and follows the scripts, each call answers what `step` answers (`IsBegun`, `IsFinished`); while the power
+//! is on all stands together in the state of the history (`IsGoing`); once it went, whatever is put back of lines
+//! and blocks leaves an image that the mode permits (`IsLost`), and a crash leaves a device that keeps the promise
+//! (`IsLeft`). So far in strict mode.
+//!
+//! Stands on `round_views` and its facts, `round_jobs`, `write_begins`, `write_ends`, `flight_calls`,
+//! `flight_truncates` and `log_checkpoint`; it
+//! begins on a device that `log_mount` mounts.
+#![tactic(auto)]
+
+mod begins;
+mod ends;
+mod looks;
+mod losses;
+mod outcomes;
+mod parts;
+mod rounds;
+mod starting;
+mod unmounts;
+mod world;
+
+pub use outcomes::{Begun, Crashed, Ended, Finished, Ready};
+pub use round_starts::{k_mount, log_mount};
+pub use world::World;

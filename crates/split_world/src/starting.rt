@@ -1,0 +1,112 @@
+//! How a World begins.
+ghost use Rattle.std.specs.Prelude.{◌≡◌, ◌%◌, ◌*◌, ◌<◌, ◌^◌, length, IfOk};
+ghost use Rattle.round_puts.specs.flight_truncates.log_mount.Quiet.{IsSpent};
+ghost use Rattle.pm_words.specs.Cells.{AllSingle};
+ghost use Rattle.posix_types.specs.declared.call.Mode.{Mode};
+ghost use Rattle.round_starts.specs.Laws.{BeginsOver, WasMounted};
+ghost use Rattle.round_starts.specs.round_views.Starts.{AreInLimits};
+ghost use Rattle.split_world.specs.Answers.{IsWorldAnswer};
+ghost use Rattle.split_world.specs.Seen.{seen, IsKept};
+
+use crate::parts::Parts;
+use crate::world::World;
+use pm_lines::{Pm, Power};
+use posix_types::{Mode, Scripts};
+use round_puts::flight_truncates::log_mount::{MountFault, mount};
+use round_puts::round_jobs::k_split::KSplit;
+use round_puts::round_jobs::open_files::OpenFiles;
+use round_puts::round_jobs::script_calls::no_calls;
+use round_puts::round_jobs::staging_files::Staging;
+use round_starts::round_views::flight_names::NoMemory;
+use round_starts::{a_world_begins, table_of};
+use std::alloc::Global;
+
+// The parts of the World of a K-Split that was mounted: the tree of the device is the start of the history.
+fn parts_over(alloc: Global, k: KSplit, mode: Mode, scripts: Scripts) -> Result<Parts, NoMemory>
+    requires mounted { WasMounted k }
+    requires strict { mode ≡ Mode.Strict }
+    requires limits { AreInLimits scripts }
+    ensures { IfOk result (λ p. IsKept p × BeginsOver k mode scripts (seen p)) }
+{
+    a_world_begins();
+    let tree = k.tree(alloc)?;
+    let geometry = *k.geometry();
+    let base = k.log_base();
+    let shape = geometry.shape();
+    let files = OpenFiles::new(alloc)?;
+    let data = table_of(alloc, &k)?;
+    let spare = Vec::with_capacity(alloc, 1)?;
+    Ok(Parts {
+        k,
+        files,
+        staging: Staging::new(alloc),
+        data,
+        geometry,
+        base,
+        tree,
+        shape,
+        mode,
+        scripts,
+        history: Vec::new(alloc),
+        counters: no_calls(),
+        settled: 0,
+        claims: Vec::new(alloc),
+        pending: Vec::new(alloc),
+        unfinished: None,
+        spare,
+        over: None,
+        given_up: 0,
+        acts: 0,
+        lines_out: false,
+        home: Vec::new(alloc),
+        first: Vec::new(alloc),
+        lost: false,
+        usable: true,
+    })
+}
+
+impl World {
+    // The World of a K-Split that was mounted.
+    fn over(alloc: Global, k: KSplit, mode: Mode, scripts: Scripts) -> Result<World, NoMemory>
+        requires mounted { WasMounted k }
+        requires strict { mode ≡ Mode.Strict }
+        requires limits { AreInLimits scripts }
+        ensures { IfOk result (λ w. BeginsOver k mode scripts w) }
+    {
+        let parts = parts_over(alloc, k, mode, scripts)?;
+        Ok(World { parts })
+    }
+
+    /// Mounts a device, and begins a World on it: the tree that is found is the start of the history.
+    ///
+    /// Nothing of the device is lent, and each word has one candidate. The mode is strict; the scripts have at most
+    /// 4,096 calls and 8 threads, and the names of their paths are spelled.
+    ///
+    /// # Errors
+    ///
+    /// Those of [`round_puts::flight_truncates::log_mount::mount`]: `Bad` exactly where the image breaks a rule, and nothing was done; else
+    /// `PowerLost` exactly where the power is off at the return, with the device. Want of memory is the only other
+    /// one: the device is dropped then, as it is with `Bad`, and the scripts with each.
+    pub fn mount(
+        alloc: Global,
+        pm: Pm,
+        mode: Mode,
+        scripts: Scripts,
+        power: &mut Power,
+    ) -> Result<World, MountFault>
+        requires single { AllSingle pm }
+        requires whole { length pm % 512 ≡ 0 }
+        requires fits { 8 * length pm < 2 ^ 64 }
+        requires strict { mode ≡ Mode.Strict }
+        requires limits { AreInLimits scripts }
+        ensures spent { IsSpent power.old power.new }
+        ensures answer { IsWorldAnswer pm mode scripts power.old power.new result }
+    {
+        a_world_begins();
+        let k = mount(alloc, pm, false, power)?;
+        match World::over(alloc, k, mode, scripts) {
+            Ok(world) => Ok(world),
+            Err(_) => Err(MountFault::NoMemory),
+        }
+    }
+}

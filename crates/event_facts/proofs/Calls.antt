@@ -20,7 +20,7 @@ use Rattle.round_views.specs.Views.{calls_out, next_of, WorldView}
 use Rattle.round_views.specs.script_calls.Costs.{most_of, most_of_call}
 use Rattle.round_views.specs.script_calls.Counts.{history_within}
 use Rattle.round_views.specs.world_standing.Standing.{Pending}
-use Rattle.round_views.specs.write_ends.Lost.{begun_by}
+use Rattle.round_views.specs.write_ends.Ends.{begun_by}
 use Rattle.event_facts.specs.Events.{GoesOn, IsSteady, left_to_do, LosesPower, only_log, rounds_by}
 use Rattle.event_facts.specs.Laws.{ActsEnded, ActsLost, ActsReturned, HasLogOut}
 use Rattle.event_facts.specs.Paid.{act_steps, IsPaid, IsPaidOff, may_move}

@@ -37,8 +37,8 @@ use Rattle.event_facts.specs.round_views.Losses.{MayCrash}
 use Rattle.event_facts.specs.round_views.Views.{calls_out, next_of, state_of, WorldView}
 use Rattle.event_facts.specs.script_calls.Counts.{history_within}
 use Rattle.event_facts.specs.world_standing.Standing.{Pending}
-use Rattle.event_facts.specs.world_standing.Views.{SpellCall, without}
-use Rattle.event_facts.specs.write_ends.Lost.{begun_by}
+use Rattle.event_facts.specs.world_standing.Jobs.{SpellCall, without}
+use Rattle.event_facts.specs.write_ends.Ends.{begun_by}
 use Rattle.event_facts.specs.write_jobs.Jobs.{FilledView, IsCutOff, JobView}
 use Rattle.event_facts.specs.Events.{GoesOn, IsLogOf, IsSteady, lines_in, listed, LosesPower, only_log, OutView, rounds_by}
 use Rattle.event_jobs.specs.Laws.{ActsFinished, ActsGivenUp, HasAppended, HasBegun, HasFilled, IsFilledHere, LosesAppend, LosesFill, NeverLosesFinish, SlotIsFree}

@@ -18,7 +18,8 @@ use Rattle.flight_laps.specs.posix_spec.State.{State}
 use Rattle.flight_relinks.specs.staging_files.Keeps.{Staged}
 use Rattle.flight_relinks.specs.world_images.Promised.{KeepsPromise}
 use Rattle.flight_relinks.specs.world_standing.Standing.{Kept, StandsAt}
-use Rattle.flight_laps.specs.Laws.{HasOldLines, lapped}
+use Rattle.flight_laps.specs.Laws.{lapped}
+use Rattle.flight_relinks.specs.world_images.Images.{HasOldLines}
 
 -- what the World keeps, with this table
 abbrev pub with_table : Kept → Files → Kept

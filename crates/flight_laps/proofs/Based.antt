@@ -28,7 +28,7 @@ use Rattle.log_checkpoint.specs.volume_facts.Footprint.{SameLog}
 use Rattle.log_checkpoint.specs.volume_facts.ImageLaws.{journaled-other}
 use Rattle.log_checkpoint.specs.volume_uses.OwnerLaws.{owners-base}
 use Rattle.world_standing.specs.world_images.Changed.{IsWorld-words, same_data, same_word, SameLog-changed, ShowsLog-same, sound_headed}
-use Rattle.world_standing.specs.world_images.Images.{HasRoom, IsHeaded, IsRunning, ShowsLog, ShowsWorld}
+use Rattle.world_standing.specs.world_images.Images.{HasOldLines, HasRoom, IsHeaded, IsRunning, ShowsLog, ShowsWorld}
 use Rattle.world_standing.specs.world_images.Kept.{kept_one}
 use Rattle.world_standing.specs.world_images.Promised.{KeepsPromise}
 use Rattle.log_checkpoint.specs.world_jobs.JobSteps.{lap}
@@ -36,7 +36,6 @@ use Rattle.log_checkpoint.specs.world_room.Free.{frees_as_many}
 use Rattle.log_checkpoint.specs.world_rules.Jobs.{live_claims}
 use Rattle.log_checkpoint.specs.world_rules.Shown.{SameButLent}
 use Rattle.log_checkpoint.specs.world_steps.Worlds.{IsWorld}
-use Rattle.flight_laps.specs.Laws.{HasOldLines}
 
 -- a line that is a valid entry of an earlier lap at most has no entry of a later one
 none-past : (bytes : List ℕ) (seq : ℕ) → seq < 2 ^ 64 → (is_self_valid bytes ≡ true → held_seq bytes < seq) → decode_entry bytes seq ≡ None

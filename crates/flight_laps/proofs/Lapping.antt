@@ -39,14 +39,14 @@ use Rattle.log_checkpoint.proofs.staging_files_proofs.GiveUpLaws.{agrees-nothing
 use Rattle.log_checkpoint.proofs.staging_files_proofs.StagedLaws.{free-given}
 use Rattle.log_checkpoint.specs.staging_files.GivesUp.{AreCutOff, AreGivenUp, nothing_staged}
 use Rattle.log_checkpoint.specs.staging_files.Keeps.{Agrees, AreFreeSingle, is_kept_free, IsStaging, Staged}
-use Rattle.world_standing.specs.world_images.Images.{IsRunning, StandsFor}
+use Rattle.world_standing.specs.world_images.Images.{HasOldLines, IsRunning, StandsFor}
 use Rattle.world_standing.specs.world_images.Promised.{KeepsPromise}
 use Rattle.world_standing.specs.world_images.Running.{promise_now}
 use Rattle.log_checkpoint.specs.world_promise.JobLaws.{live_file}
 use Rattle.log_checkpoint.specs.world_rules.Jobs.{Job, live_claims}
 use Rattle.log_checkpoint.specs.world_rules.Stands.{entries_of}
 use Rattle.world_standing.specs.Standing.{AreJobsOf, Kept, Pending, StandsAt}
-use Rattle.flight_laps.specs.Laws.{HasLapped, HasNoRuns, HasOldLines, KeepsLapped, StandsLapped}
+use Rattle.flight_laps.specs.Laws.{HasLapped, HasNoRuns, KeepsLapped, StandsLapped}
 use Rattle.flight_laps.proofs.Gone.{all-gone, cut-gone, HasGone, none-gone}
 use Rattle.flight_laps.proofs.Based.{old-next, promise-next, running-next}
 

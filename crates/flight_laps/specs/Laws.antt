@@ -1,9 +1,8 @@
 -- The next lap of the log, in a World with its log lines at home and no write in flight: each law as one statement.
-use Rattle.std.specs.Prelude.{◌≡◌, ◌<◌, ℕ, true, false, List, [], Ok}
+use Rattle.std.specs.Prelude.{◌≡◌, ℕ, false, List, [], Ok}
 use Rattle.pm_words.specs.Images.{IsImage}
-use Rattle.pm_words.specs.Words.{line_bytes, Words}
-use Rattle.disk_lines.specs.Entries.{held_seq, is_self_valid}
-use Rattle.disk_places.specs.Places.{Geometry, log_line}
+use Rattle.pm_words.specs.Words.{Words}
+use Rattle.disk_places.specs.Places.{Geometry}
 use Rattle.log_checkpoint.specs.disk_rules.Volume.{Volume}
 use Rattle.log_checkpoint.specs.file_table.Files.{runs_in}
 use Rattle.log_checkpoint.specs.k_journal.declared.outcomes.Commit.{Commit}
@@ -16,6 +15,7 @@ use Rattle.log_checkpoint.specs.posix_spec.Run.{Begun, run}
 use Rattle.log_checkpoint.specs.posix_spec.State.{State}
 use Rattle.log_checkpoint.specs.staging_files.GivesUp.{nothing_staged}
 use Rattle.log_checkpoint.specs.staging_files.Keeps.{Staged}
+use Rattle.world_standing.specs.world_images.Images.{HasOldLines}
 use Rattle.world_standing.specs.world_images.Promised.{KeepsPromise}
 use Rattle.world_standing.specs.Standing.{Kept, StandsAt}
 
@@ -26,12 +26,6 @@ lapped kept = record kept { staging = nothing_staged; claims = []; pending = [] 
 -- no run is kept of any file
 abbrev pub HasNoRuns : Kept → Type 0
 HasNoRuns kept = (ino : ℕ) → runs_in kept.files ino ≡ []
-
--- by these words, each line of the log that is an entry is one of an earlier lap
-abbrev pub HasOldLines : Volume → Words → Type 0
-HasOldLines v words =
-    (slot : ℕ) → slot < v.geometry.log → is_self_valid (line_bytes words (log_line v.geometry slot)) ≡ true
-    → held_seq (line_bytes words (log_line v.geometry slot)) < v.base
 
 -- K-Split stands at the beginning of a lap, in the same state and with the same nodes; and by each image no line of
 -- the log is an entry of this lap.

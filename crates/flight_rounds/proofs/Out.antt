@@ -24,10 +24,9 @@ use Rattle.list_facts.specs.Members.{In}
 use Rattle.posix_words.specs.Open.{Tables}
 use Rattle.flight_changes.specs.posix_spec.State.{State}
 use Rattle.flight_laps.specs.staging_files.Keeps.{Agrees, AreFreeSingle}
-use Rattle.flight_changes.specs.world_images.Images.{StandsFor}
+use Rattle.flight_changes.specs.world_images.Images.{HasOldLines, StandsFor}
 use Rattle.flight_changes.specs.world_rules.Jobs.{Job}
 use Rattle.flight_laps.specs.world_standing.Standing.{AreJobsOf, AreLinesLent, IsQuietBeside, Kept, Pending, StandsAt}
-use Rattle.flight_laps.specs.Laws.{HasOldLines}
 use Rattle.flight_rounds.specs.Laws.{HasTurned, StandsOut, with_cells, with_first}
 use Rattle.flight_rounds.proofs.Beside.{ComesBeside, log-or-not, SameBeside, staged-beside, stands-beside}
 

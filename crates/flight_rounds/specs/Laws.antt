@@ -15,7 +15,7 @@ use Rattle.posix_words.specs.Open.{Tables}
 use Rattle.flight_changes.specs.posix_spec.State.{State}
 use Rattle.flight_changes.specs.world_log.Lines.{AreLinesOut}
 use Rattle.flight_laps.specs.world_standing.Standing.{Kept, StandsAt}
-use Rattle.flight_laps.specs.Laws.{HasOldLines}
+use Rattle.flight_changes.specs.world_images.Images.{HasOldLines}
 
 -- K-Split with this device
 abbrev pub with_cells : View → List Cell → View

@@ -39,9 +39,9 @@ use Rattle.world_images.specs.k_rules.Stands.{IsOldOrNew, Stands}
 use Rattle.world_images.specs.k_rules.View.{View}
 use Rattle.k_split.specs.Laps.{IsLogWord, next_base}
 use Rattle.world_images.specs.Changed.{sound_headed}
-use Rattle.world_images.specs.Images.{HasNoEntry}
+use Rattle.world_images.specs.Images.{HasNoEntry, HasOldLines}
 use Rattle.k_mount.specs.NextLaps.{BeginsLap}
-use Rattle.k_mount.specs.Sheds.{HasOldLines, IsAtRest, MaySettle}
+use Rattle.k_mount.specs.Sheds.{IsAtRest, MaySettle}
 
 -- ---- lines
 

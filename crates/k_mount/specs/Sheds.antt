@@ -1,14 +1,13 @@
 -- Volumes of which some nameless files are gone, and what is left of a device that is settled.
-use Rattle.std.specs.Prelude.{◌≡◌, ◌⊎◌, ◌<◌, ◌≤◌, ◌/◌, ◌*◌, ℕ, true, false, List, [], length}
+use Rattle.std.specs.Prelude.{◌≡◌, ◌⊎◌, ◌≤◌, ◌/◌, ◌*◌, ℕ, false, List, [], length}
 use Rattle.pm_words.specs.declared.Cell.{Cell}
 use Rattle.pm_words.specs.declared.Cell.TheVariants.{Single}
 use Rattle.pm_words.specs.Cells.{AllSingle, cell}
 use Rattle.pm_words.specs.Frames.{SameLent}
 use Rattle.pm_words.specs.Images.{IsImage, words_of}
-use Rattle.pm_words.specs.Words.{line_bytes, Words}
+use Rattle.pm_words.specs.Words.{Words}
 use Rattle.disk_places.specs.Journal.{is_journal_word, journaled}
-use Rattle.disk_places.specs.Places.{Geometry, is_journaled_line, log_line}
-use Rattle.disk_lines.specs.Entries.{held_seq, is_self_valid}
+use Rattle.disk_places.specs.Places.{Geometry, is_journaled_line}
 use Rattle.disk_lines.specs.declared.Kind.TheVariants.{File}
 use Rattle.disk_lines.specs.Names.{names_of}
 use Rattle.world_images.specs.disk_rules.Checked.{IsCheckedAs}
@@ -25,7 +24,7 @@ use Rattle.world_images.specs.k_rules.View.{View}
 use Rattle.k_split.specs.Answers.{IsCut, IsOff}
 use Rattle.k_split.specs.Laps.{IsLogWord}
 use Rattle.k_split.specs.Order.{IsInOrder}
-use Rattle.world_images.specs.Images.{HasNoEntry}
+use Rattle.world_images.specs.Images.{HasNoEntry, HasOldLines}
 use Rattle.k_mount.specs.NextLaps.{IsNextLap}
 
 -- a file to which no name leads
@@ -120,12 +119,6 @@ pub record StillShows (g : Geometry) (before image : Words) : Type 0 where
 -- each honest image of a device still shows what the image before did
 abbrev pub StaysShown : Geometry → Words → List Cell → Type 0
 StaysShown g before d = (image : Words) → IsImage d image → IsHonest g (cell d) image → StillShows g before image
-
--- each line of the log that is an entry is one of an earlier lap
-abbrev pub HasOldLines : Volume → Words → Type 0
-HasOldLines v words =
-    (slot : ℕ) → slot < v.geometry.log → is_self_valid (line_bytes words (log_line v.geometry slot)) ≡ true
-    → held_seq (line_bytes words (log_line v.geometry slot)) < v.base
 
 -- WHAT IS LEFT OF A DEVICE, beside an image that it showed: K-Split is at rest, each file has a name, and nothing but nameless files
 -- is gone. The next lap of the log began, and no line of it is an entry of it or a later one. The device is a checked image, with the content of the one

@@ -36,7 +36,7 @@ use Rattle.k_check.specs.volume_facts.Footprint.{SameLog}
 use Rattle.k_check.specs.volume_facts.FootprintLaws.{entry_in-same}
 use Rattle.staging_files.specs.volume_uses.PoolLaws.{unused-set}
 use Rattle.log_replay.specs.k_mount.Images.{HasNoEntry}
-use Rattle.log_replay.specs.k_mount.Sheds.{HasOldLines}
+use Rattle.log_replay.specs.k_mount.Images.{HasOldLines}
 use Rattle.log_replay.specs.Replays.{seen, ShowsTheSame}
 use Rattle.log_mount.proofs.Keeping.{images-next, images-off, images-own, images-then, log-next, shows-first, shows-next}
 use Rattle.log_mount.proofs.Lines.{in-data, KeepsBytes, KeepsLines, lines-set, low-file, used-below}

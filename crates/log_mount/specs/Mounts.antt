@@ -12,7 +12,8 @@ use Rattle.k_check.specs.disk_rules.Checked.{IsCheckedAs}
 use Rattle.k_check.specs.disk_rules.Content.{content}
 use Rattle.k_check.specs.disk_rules.Rules.{geometry_of, IsChecked}
 use Rattle.k_check.specs.disk_rules.Volume.{Volume, volume}
-use Rattle.log_replay.specs.k_mount.Sheds.{AllNamed, HasOldLines, IsAtRest, StaysShown}
+use Rattle.log_replay.specs.k_mount.Images.{HasOldLines}
+use Rattle.log_replay.specs.k_mount.Sheds.{AllNamed, IsAtRest, StaysShown}
 use Rattle.staging_files.specs.k_rules.View.{View}
 use Rattle.staging_files.specs.k_split.Laps.{next_base}
 use Rattle.log_replay.specs.k_mount.Images.{HasNoEntry}

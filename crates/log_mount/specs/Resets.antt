@@ -3,7 +3,8 @@ use Rattle.std.specs.Prelude.{◌≡◌, ◌⊎◌, ◌≤◌, ◌^◌, ℕ, Ok}
 use Rattle.pm_words.specs.Images.{words_of}
 use Rattle.k_check.specs.disk_rules.Volume.{extents, inode, Volume}
 use Rattle.log_replay.specs.Plans.{IsLiveFile}
-use Rattle.log_replay.specs.k_mount.Sheds.{HasOldLines, IsSettled}
+use Rattle.log_replay.specs.k_mount.Images.{HasOldLines}
+use Rattle.log_replay.specs.k_mount.Sheds.{IsSettled}
 use Rattle.staging_files.specs.k_rules.View.{View}
 use Rattle.staging_files.specs.k_split.Resets.{IsResetAnswer}
 use Rattle.log_replay.specs.k_mount.Images.{HasNoEntry}

@@ -19,7 +19,7 @@ use Rattle.write_ends.specs.world_lent.Flights.{promise_in_flight}
 use Rattle.log_checkpoint.specs.world_rules.Jobs.{begun_of, Job, JobStands, live_claims}
 use Rattle.log_checkpoint.specs.world_rules.Stands.{number}
 use Rattle.write_ends.specs.world_standing.Standing.{AreJobsOf, Pending}
-use Rattle.write_ends.specs.Lost.{begun_by}
+use Rattle.write_ends.specs.Ends.{begun_by}
 use Rattle.losing_facts.proofs.Pending.{stands_of}
 use Rattle.losing_facts.specs.Laws.{IsFoundAtCall, IsFoundLost, IsLostAlike, LosesCall}
 use Rattle.losing_facts.specs.Lost.{IsLostWith}

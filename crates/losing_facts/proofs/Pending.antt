@@ -14,7 +14,7 @@ use Rattle.std.proofs.lemmas.List.{get_or_past, length-map}
 use Rattle.std.specs.Prelude.{AllPairs, slice_index, slice_index_or}
 use Rattle.write_ends.specs.world_lent.world_rules.Jobs.{ApartFrom, AreApartJobs, Job, JobStands, JobsStand, staged_block}
 use Rattle.write_ends.specs.world_standing.Standing.{AreJobsOf, AreOfTwoThreads, HasItsBlocks, Pending}
-use Rattle.write_ends.specs.world_standing.Views.{without}
+use Rattle.write_ends.specs.world_standing.Jobs.{without}
 use Rattle.log_checkpoint.specs.posix_frames.Handles.{same_who-sym}
 use Rattle.write_ends.specs.write_jobs.Jobs.{FilledView, blocks_of, loan_at}
 

@@ -20,7 +20,7 @@ use Rattle.write_ends.specs.world_images.Promised.{IsKept}
 use Rattle.write_ends.specs.world_lent.Back.{IsPutBack}
 use Rattle.write_ends.specs.world_standing.Standing.{IsSpellable, Kept, Pending, StandsAt}
 use Rattle.write_ends.specs.Ends.{IsOut}
-use Rattle.write_ends.specs.Lost.{begun_by}
+use Rattle.write_ends.specs.Ends.{begun_by}
 use Rattle.write_ends.specs.write_jobs.Jobs.{FilledView, HoldWords, blocks_of}
 use Rattle.losing_facts.specs.Blocks.{AreBlocksHome, AreBlocksOut, ComeHome}
 use Rattle.losing_facts.specs.Lost.{IsLostWith}

@@ -34,7 +34,7 @@ use Rattle.posix_words.specs.Open.{Tables}
 use Rattle.round_views.specs.declared.over.Over.{Over}
 use Rattle.round_views.specs.file_ends.Ends.{FilesEnd}
 use Rattle.round_views.specs.Lines.{HoldTheClaims}
-use Rattle.round_views.specs.losing_facts.write_ends.Lost.{begun_by}
+use Rattle.round_views.specs.losing_facts.write_ends.Ends.{begun_by}
 use Rattle.round_views.specs.Rounds.{MayCheckpoint}
 use Rattle.round_views.specs.Views.{AreCounted, calls_out, ComesHomeTo, Disk, disk_of, first_by, IsGoing, IsLost, IsLostHome, IsLostOut, IsWorldOver, kept_of, most_acts, state_of, WorldView}
 use Rattle.flight_gathers.specs.standing_facts.log_checkpoint.Gathers.{IsGatherAnswer}

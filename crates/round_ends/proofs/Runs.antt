@@ -16,7 +16,7 @@ use Rattle.list_facts.specs.Members.{In}
 use Rattle.crash_facts.specs.losing_facts.Stops.{KeepsGatheredOut}
 use Rattle.map_ends.specs.posix_spec.Run.{Begun}
 use Rattle.posix_words.specs.Open.{Tables}
-use Rattle.round_views.specs.losing_facts.write_ends.Lost.{begun_by}
+use Rattle.round_views.specs.losing_facts.write_ends.Ends.{begun_by}
 use Rattle.round_views.specs.Rounds.{IsLeft}
 use Rattle.round_views.specs.script_calls.Counts.{history_within}
 use Rattle.round_views.specs.Views.{calls_out, first_by, WorldView}

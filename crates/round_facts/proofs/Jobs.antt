@@ -33,7 +33,7 @@ use Rattle.world_standing.specs.world_steps.Touched.{only}
 use Rattle.world_standing.specs.world_steps.Worlds.{IsWorld}
 use Rattle.world_standing.specs.job_facts.Blocks.{SpellWhole}
 use Rattle.world_standing.specs.Standing.{AreJobsOf, IsSpellable, Kept, Pending, StandsAt}
-use Rattle.world_standing.specs.Views.{SpellCall}
+use Rattle.world_standing.specs.Jobs.{SpellCall}
 
 -- ---- lists of jobs
 

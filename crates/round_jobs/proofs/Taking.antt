@@ -11,7 +11,7 @@ use Rattle.open_files.specs.posix_frames.Handles.{same_who-is}
 use Rattle.round_facts.proofs.Counts.{pairs}
 use Rattle.round_facts.proofs.Jobs.{same_who-refl}
 use Rattle.round_facts.specs.world_standing.Standing.{AreOfTwoThreads, Pending}
-use Rattle.round_facts.specs.world_standing.Views.{without}
+use Rattle.round_facts.specs.world_standing.Jobs.{without}
 
 pub other_who : (a b : Who) → a ≢ b → same_who a b ≡ false
 other_who a b apart = by (same_who a b) refl where

@@ -3,7 +3,7 @@ ghost use Rattle.std.specs.Prelude.{◌≡◌, ◌≢◌, IfNone, IfSome, slice_
 ghost use Rattle.list_facts.specs.Members.{In};
 ghost use Rattle.posix_words.specs.Open.{same_who};
 ghost use Rattle.round_facts.specs.world_standing.Standing.{AreOfTwoThreads};
-ghost use Rattle.round_facts.specs.world_standing.Views.{without};
+ghost use Rattle.round_facts.specs.world_standing.Jobs.{without};
 
 use disk_lines::Draft;
 use posix_types::{Call, Who};

@@ -21,7 +21,6 @@ use Rattle.round_views.specs.entry_orders.Starts.{start-rising}
 use Rattle.map_ends.specs.file_table.Files.{Files}
 use Rattle.round_views.proofs.flight_laps_proofs.staging_files_proofs.GiveUpLaws.{staged-nothing}
 use Rattle.round_views.proofs.flight_laps_proofs.staging_files_proofs.StagedLaws.{free-given}
-use Rattle.round_views.specs.flight_laps.Laws.{HasOldLines}
 use Rattle.round_views.specs.flight_laps.staging_files.GivesUp.{nothing_staged}
 use Rattle.round_views.specs.flight_laps.staging_files.Keeps.{Agrees, AreFreeSingle, is_kept_free, IsStaging}
 use Rattle.map_ends.specs.k_rules.View.{View}
@@ -37,7 +36,7 @@ use Rattle.posix_words.specs.Lookups.{AreDistinct}
 use Rattle.posix_words.specs.Open.{is_open, nothing_open}
 use Rattle.round_views.specs.Views.{AreCounted, IsGoing, IsWorldOver, kept_of}
 use Rattle.round_views.specs.world_images.Changed.{sound_headed}
-use Rattle.round_views.specs.world_images.Images.{IsRunning}
+use Rattle.round_views.specs.world_images.Images.{HasOldLines, IsRunning}
 use Rattle.round_views.specs.world_images.Starts.{begins_running, has_setting}
 use Rattle.round_views.specs.world_standing.held_sums.Laws.{AreSizes}
 use Rattle.round_views.specs.world_standing.Standing.{StandsAt}

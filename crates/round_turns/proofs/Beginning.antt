@@ -23,9 +23,9 @@ use Rattle.round_jobs.specs.world_images.Promised.{IsKept}
 use Rattle.flight_rounds.specs.world_lent.Back.{IsPutBack}
 use Rattle.round_jobs.specs.world_rules.Jobs.{begun_of, Job}
 use Rattle.round_jobs.specs.world_standing.Standing.{AreJobsOf, Pending, StandsAt}
-use Rattle.round_jobs.specs.world_standing.Views.{SpellCall}
+use Rattle.round_jobs.specs.world_standing.Jobs.{SpellCall}
 use Rattle.round_jobs.specs.world_steps.Steps.{LetsJobsBe}
-use Rattle.round_views.specs.write_ends.Lost.{begun_by}
+use Rattle.round_views.specs.write_ends.Ends.{begun_by}
 use Rattle.round_views.specs.losing_facts.Blocks.{AreBlocksOut}
 use Rattle.round_views.proofs.losing_facts_proofs.Going.{loses_call, lost_alike}
 use Rattle.round_views.proofs.losing_facts_proofs.Homes.{has_blocks_out, leaves_blocks}

@@ -16,7 +16,7 @@ use Rattle.round_jobs.specs.posix_spec.Step.{step}
 use Rattle.round_jobs.specs.script_calls.Histories.{Grows, grows, next_stays, set_up_stays}
 use Rattle.round_jobs.specs.staging_files.Keeps.{Staged}
 use Rattle.round_jobs.specs.world_standing.Standing.{AreOfTwoThreads, IsSpellable, Pending, StandsAt}
-use Rattle.round_jobs.specs.world_standing.Views.{SpellCall, without}
+use Rattle.round_jobs.specs.world_standing.Jobs.{SpellCall, without}
 use Rattle.round_views.specs.write_ends.Ends.{CanFinish, CanGiveUp, HasJob, HasWrite, LeavesFinished, LeavesGivenUp}
 use Rattle.round_jobs.specs.write_jobs.Jobs.{FilledView}
 use Rattle.round_views.proofs.losing_facts_proofs.Homes.{has_blocks_out}

@@ -18,7 +18,7 @@ use Rattle.round_jobs.specs.posix_spec.Run.{Begun}
 use Rattle.round_jobs.specs.staging_files.Keeps.{Staged}
 use Rattle.round_jobs.specs.world_images.Promised.{IsKept}
 use Rattle.round_jobs.specs.world_standing.Standing.{Pending, StandsAt}
-use Rattle.round_views.specs.write_ends.Lost.{begun_by}
+use Rattle.round_views.specs.write_ends.Ends.{begun_by}
 use Rattle.round_jobs.specs.write_jobs.Jobs.{FilledView, HoldWords}
 use Rattle.round_views.specs.block_loans.Loans.{ComeBack}
 use Rattle.round_views.specs.losing_facts.Blocks.{AreBlocksHome, AreBlocksOut}

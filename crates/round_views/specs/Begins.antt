@@ -24,7 +24,7 @@ use Rattle.round_facts.specs.Busy.{IsKeeping}
 use Rattle.round_facts.specs.script_calls.Histories.{item_with}
 use Rattle.round_facts.specs.staging_files.Reserves.{has_empty, HasNoFreeRun}
 use Rattle.round_facts.specs.world_standing.Standing.{Pending}
-use Rattle.round_facts.specs.world_standing.Views.{SpellCall}
+use Rattle.round_facts.specs.world_standing.Jobs.{SpellCall}
 use Rattle.round_facts.specs.write_jobs.Jobs.{blocks_of, FilledView, JobView}
 use Rattle.losing_facts.specs.Blocks.{AreBlocksOut}
 use Rattle.round_views.specs.declared.over.Over.{Over}

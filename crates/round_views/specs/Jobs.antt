@@ -3,7 +3,7 @@ use Rattle.std.specs.Prelude.{◌≡◌, ◌⊎◌, ◌+◌, ℕ, true, false, [
 use Rattle.pm_words.specs.Powers.{is_on, Supply}
 use Rattle.losing_facts.specs.oplog_tail.declared.views.Full.{Full}
 use Rattle.round_facts.specs.world_standing.Standing.{Pending}
-use Rattle.round_facts.specs.world_standing.Views.{without}
+use Rattle.round_facts.specs.world_standing.Jobs.{without}
 use Rattle.round_facts.specs.write_jobs.Jobs.{FilledView}
 use Rattle.losing_facts.specs.Blocks.{AreBlocksHome}
 use Rattle.round_views.specs.declared.over.Over.{Over}

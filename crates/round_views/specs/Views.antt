@@ -28,11 +28,11 @@ use Rattle.round_facts.specs.crash_spec.Busy.{Out}
 use Rattle.round_facts.specs.Busy.{files_by}
 use Rattle.round_facts.specs.k_split.MapChanges.{free_blocks_in}
 use Rattle.round_facts.specs.staging_files.Keeps.{Staged}
+use Rattle.round_facts.specs.world_images.Images.{HasOldLines}
 use Rattle.round_facts.specs.world_images.Promised.{KeepsPromise}
 use Rattle.round_facts.specs.world_standing.Standing.{Kept, Pending, StandsAt}
 use Rattle.flight_calls.specs.Built.{NamesAreSpelled}
-use Rattle.flight_laps.specs.Laws.{HasOldLines}
-use Rattle.losing_facts.specs.write_ends.Lost.{begun_by}
+use Rattle.losing_facts.specs.write_ends.Ends.{begun_by}
 use Rattle.losing_facts.specs.Laws.{AreSpelled}
 use Rattle.losing_facts.specs.Lost.{IsLostWith}
 use Rattle.round_views.specs.declared.over.Over.{Over}

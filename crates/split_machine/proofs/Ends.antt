@@ -16,7 +16,7 @@ use Rattle.event_jobs.specs.posix_spec.Unfinished.{AreUnfinished}
 use Rattle.event_jobs.specs.image_layout.declared.geometry.Geometry.{Geometry}
 use Rattle.event_jobs.specs.world_images.Promised.{KeepsPromise}
 use Rattle.event_jobs.specs.world_standing.Standing.{Pending}
-use Rattle.event_jobs.specs.write_ends.Lost.{begun_by}
+use Rattle.event_jobs.specs.write_ends.Ends.{begun_by}
 use Rattle.event_jobs.specs.round_views.Rounds.{IsLeft}
 use Rattle.event_jobs.specs.round_views.Views.{calls_out, WorldView}
 use Rattle.split_world.specs.Answers.{IsEnded}

@@ -22,7 +22,7 @@ use Rattle.round_puts.specs.round_jobs.script_calls.Counters.{count_for, IsCount
 use Rattle.round_puts.specs.round_jobs.script_calls.Counts.{history_within}
 use Rattle.round_puts.specs.round_jobs.script_calls.Histories.{item_with}
 use Rattle.round_puts.specs.round_jobs.world_standing.Standing.{AreOfTwoThreads, Pending, StandsAt}
-use Rattle.round_puts.specs.round_jobs.world_standing.Views.{without}
+use Rattle.round_puts.specs.round_jobs.world_standing.Jobs.{without}
 use Rattle.round_puts.specs.round_turns.Puts.{put_bytes_of}
 use Rattle.round_puts.proofs.round_turns_proofs.Ending.{can_finish, finish_view, finished_on, has, has_write, others_on, without_one}
 use Rattle.round_puts.proofs.round_turns_proofs.Finishing.{finished_ends, job_answers, one_job}

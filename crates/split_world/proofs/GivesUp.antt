@@ -16,7 +16,7 @@ use Rattle.round_puts.specs.round_jobs.staging_files.Keeps.{Staged}
 use Rattle.round_puts.specs.round_jobs.world_rules.Jobs.{IsStagedIn, Job}
 use Rattle.round_puts.specs.round_jobs.world_standing.Standing.{Pending, StandsAt}
 use Rattle.round_puts.proofs.round_jobs_proofs.round_facts_proofs.Jobs.{its_job, stood, world_now}
-use Rattle.round_puts.specs.round_jobs.world_standing.Views.{without}
+use Rattle.round_puts.specs.round_jobs.world_standing.Jobs.{without}
 use Rattle.round_puts.proofs.round_turns_proofs.Ending.{can_give_up, give_view, given_on, has, left_of, no_both, others_given_on, standing, without_one}
 use Rattle.round_starts.proofs.round_views_proofs.losing_facts_proofs.Apart.{stands_apart}
 use Rattle.round_starts.proofs.round_views_proofs.losing_facts_proofs.Jobs.{block_of, in_data_block, pending_of, staged_of}

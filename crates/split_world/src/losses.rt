@@ -8,7 +8,7 @@ ghost use Rattle.round_starts.specs.round_views.losing_facts.Blocks.{ComeHome};
 ghost use Rattle.round_starts.specs.round_views.Losses.{MayCrash};
 ghost use Rattle.round_starts.specs.round_views.Rounds.{IsLeft};
 ghost use Rattle.split_world.specs.Seen.{seen, unfinished_of, IsKept};
-ghost use Rattle.round_starts.specs.round_views.write_ends.Lost.{begun_by};
+ghost use Rattle.round_starts.specs.round_views.write_ends.Ends.{begun_by};
 ghost use Rattle.round_starts.specs.write_jobs.Jobs.{FilledView, HoldWords};
 
 use crate::outcomes::{Crashed, Unfinished};

@@ -1,11 +1,12 @@
 -- What the images of a running world show: the parts that stand whatever is in the log lines, and the log.
-use Rattle.std.specs.Prelude.{◌≡◌, ◌<◌, ℕ, ◌*◌, List, [], ◌++◌, Option, None}
+use Rattle.std.specs.Prelude.{◌≡◌, ◌<◌, ℕ, true, ◌*◌, List, [], ◌++◌, Option, None}
 use Rattle.pm_words.specs.declared.Cell.{Cell}
 use Rattle.pm_words.specs.Images.{Follows, IsImage}
-use Rattle.pm_words.specs.Words.{Words}
+use Rattle.pm_words.specs.Words.{line_bytes, Words}
 use Rattle.disk_places.specs.Journal.{journaled}
-use Rattle.disk_places.specs.Places.{data_blocks, Geometry}
+use Rattle.disk_places.specs.Places.{data_blocks, Geometry, log_line}
 use Rattle.disk_lines.specs.declared.Draft.{Draft}
+use Rattle.disk_lines.specs.Entries.{held_seq, is_self_valid}
 use Rattle.image_facts.specs.disk_rules.Checked.{HasHead}
 use Rattle.image_facts.specs.disk_rules.Live.{entry_in}
 use Rattle.image_facts.specs.disk_rules.Reading.{Reads}
@@ -58,6 +59,12 @@ HasLogHome v d claims = (image : Words) → IsImage d image → ShowsLog v claim
 -- no line of the log is an entry of this lap
 abbrev pub HasNoEntry : Volume → Words → Type 0
 HasNoEntry v f = (slot : ℕ) → slot < v.geometry.log → entry_in v f slot ≡ None
+
+-- each line of the log that is an entry is one of an earlier lap
+abbrev pub HasOldLines : Volume → Words → Type 0
+HasOldLines v words =
+    (slot : ℕ) → slot < v.geometry.log → is_self_valid (line_bytes words (log_line v.geometry slot)) ≡ true
+    → held_seq (line_bytes words (log_line v.geometry slot)) < v.base
 
 -- THE WORLD RUNS, with its log lines at home and no write in flight.
 pub record IsRunning (v : Volume) (d : List Cell) (claims : List (ℕ × Draft)) (numbers : List ℕ) (s : State) (count : ℕ) : Type 0 where

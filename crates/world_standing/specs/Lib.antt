@@ -1,6 +1,5 @@
 pub mod Standing
-pub mod Views
-pub mod Calls
+pub mod Jobs
 pub use Rattle.flight_facts.specs as flight_facts
 pub use Rattle.flight_facts.specs.file_reads as file_reads
 pub use Rattle.flight_facts.specs.job_facts as job_facts

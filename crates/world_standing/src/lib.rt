@@ -1,9 +1,8 @@
-//! The World with writes in flight: its invariant over K-Split, and what its calls leave.
+//! The World with writes in flight: its invariant over K-Split.
 //!
 //! Definitions alone. `StandsAt` says when K-Split, the open files, the staging files, what is kept
 //! of files and the jobs that are out stand together in a state of the calls (strict mode);
-//! `WorldView` is what contracts see; `BeginsJob`, `Finishes`, `LosesFinish` and `GivesUp` are the
-//! answers of the calls of jobs.
+//! `SpellCall` says which words the blocks of a job are to have.
 //!
 //! Stands on `flight_facts` (the World in flight), `staging_files` and `write_jobs`.
 #![tactic(auto)]

@@ -36,7 +36,7 @@ use Rattle.flight_reserves.specs.world_rules.Stands.{number}
 use Rattle.flight_reserves.specs.world_standing.Standing.{Kept, reserved_run, StandsAt}
 use Rattle.write_stages.specs.write_asks.declared.asking.Target.{Target}
 use Rattle.write_stages.specs.write_drafts.Drafts.{staged_count}
-use Rattle.flight_reserves.specs.world_standing.Views.{SpellCall}
+use Rattle.flight_reserves.specs.world_standing.Jobs.{SpellCall}
 use Rattle.first_writes.specs.write_jobs.Jobs.{JobView}
 use Rattle.write_stages.specs.Stages.{IsStaged as IsJobStaged, Ready, with_parts}
 use Rattle.write_begins.specs.Goes.{BecomesJob, FitsTarget, Goes, GoesNoFurther, job_of, KeepsMaps, RunGivenBack, StagedAsJob}

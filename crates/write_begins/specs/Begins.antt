@@ -28,7 +28,7 @@ use Rattle.flight_reserves.specs.world_lent.Back.{IsPutBack}
 use Rattle.flight_reserves.specs.world_promise.JobLaws.{needs}
 use Rattle.flight_reserves.specs.world_rules.Jobs.{begun_of, Job}
 use Rattle.flight_reserves.specs.world_standing.Standing.{Kept, StandsAt}
-use Rattle.flight_reserves.specs.world_standing.Views.{SpellCall}
+use Rattle.flight_reserves.specs.world_standing.Jobs.{SpellCall}
 use Rattle.flight_reserves.specs.world_steps.Steps.{LetsJobsBe}
 use Rattle.write_stages.specs.write_asks.Laws.{call_of, start_of}
 use Rattle.write_stages.specs.write_drafts.Drafts.{staged_count}

@@ -34,7 +34,7 @@ use Rattle.flight_reserves.specs.world_promise.JobLaws.{needs}
 use Rattle.flight_reserves.specs.world_rules.Jobs.{begun_of, Job}
 use Rattle.flight_reserves.specs.world_rules.Stands.{number}
 use Rattle.flight_reserves.specs.world_standing.Standing.{Kept, Pending, StandsAt}
-use Rattle.flight_reserves.specs.world_standing.Views.{SpellCall}
+use Rattle.flight_reserves.specs.world_standing.Jobs.{SpellCall}
 use Rattle.write_stages.specs.write_asks.declared.asking.Target.{Target}
 use Rattle.write_stages.specs.write_asks.Asks.{room_in}
 use Rattle.write_stages.specs.write_drafts.Drafts.{staged_count}

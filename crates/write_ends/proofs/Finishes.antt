@@ -40,7 +40,7 @@ use Rattle.world_standing.specs.flight_facts.Flying.{IsFlying, with_entry}
 use Rattle.world_standing.proofs.flight_facts_proofs.Flights.{flies_finished}
 use Rattle.block_loans.specs.job_facts.Blocks.{SpellWhole}
 use Rattle.world_standing.specs.Standing.{AreOfTwoThreads, file_state, IsQuietBeside, IsSpellable, Pending, reserved_run, StandsAt}
-use Rattle.world_standing.specs.Views.{SpellCall, without}
+use Rattle.world_standing.specs.Jobs.{SpellCall, without}
 use Rattle.write_asks.specs.Asks.{CanMoveBy, moved_by}
 use Rattle.write_asks.specs.Laws.{AreOfState}
 use Rattle.write_asks.proofs.Calls.{may_move as may_move_there, moves_as_call, open_moved}

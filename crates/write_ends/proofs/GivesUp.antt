@@ -29,7 +29,7 @@ use Rattle.world_standing.specs.flight_facts.Flying.{IsFlying}
 use Rattle.world_standing.proofs.flight_facts_proofs.Flights.{others_home, others_out}
 use Rattle.block_loans.proofs.job_facts_proofs.Ends.{gives_up_job}
 use Rattle.world_standing.specs.Standing.{AreOfTwoThreads, file_state, IsQuietBeside, Pending, reserved_run, StandsAt}
-use Rattle.world_standing.specs.Views.{without}
+use Rattle.world_standing.specs.Jobs.{without}
 use Rattle.write_ends.specs.Ends.{given_up, HasJob, LeavesGivenUp}
 use Rattle.write_ends.proofs.Ending.{claims, flying, j, loans_count, numbers, others, out, places, put_back, split, stood, valid, draft_is}
 use Rattle.write_ends.proofs.Pending.{apart_of, job_of, left_there}

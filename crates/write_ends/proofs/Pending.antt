@@ -11,7 +11,7 @@ use Rattle.world_lent.specs.disk_rules.Volume.{Volume}
 use Rattle.write_asks.specs.posix_spec.State.{State}
 use Rattle.world_lent.specs.world_rules.Jobs.{ApartFrom, AreApartJobs, Job, JobsStand, JobStands}
 use Rattle.world_standing.specs.Standing.{AreJobsOf, AreOfTwoThreads, Pending}
-use Rattle.world_standing.specs.Views.{without}
+use Rattle.world_standing.specs.Jobs.{without}
 
 -- the first one and those behind it
 two_of : (p : Pending) (pending : List Pending) (q : Pending) → AllPairs AreOfTwoThreads (p ∷ pending) → In q pending → AreOfTwoThreads p q

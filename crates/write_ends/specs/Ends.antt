@@ -11,7 +11,7 @@ use Rattle.write_asks.specs.posix_spec.State.{State}
 use Rattle.world_standing.specs.staging_files.Keeps.{Staged}
 use Rattle.block_loans.specs.write_jobs.Jobs.{blocks_of, FilledView}
 use Rattle.world_standing.specs.Standing.{Kept, Pending, StandsAt}
-use Rattle.world_standing.specs.Views.{SpellCall, without}
+use Rattle.world_standing.specs.Jobs.{SpellCall, without}
 
 -- THE JOB IS OUT: it is that of one that is kept as out, with its entry, its blocks and the words of its call.
 pub record IsOut (kept : Kept) (s : State) (p : Pending) (job : FilledView) : Type 0 where
@@ -31,6 +31,10 @@ pub record HasJob (k : View) (job : FilledView) : Type 0 where
   pub p : Pending
   pub stands : StandsAt g k t kept true n s
   pub out : IsOut kept s p job
+
+-- the call of one that is out
+abbrev pub begun_by : Pending → Begun
+begun_by p = (p.who, p.call)
 
 -- the call of the job
 abbrev pub call_out : (k : View) (job : FilledView) → HasJob k job → Begun

@@ -1,5 +1,4 @@
 pub mod Ends
-pub mod Lost
 pub use Rattle.block_loans.specs as block_loans
 pub use Rattle.block_loans.specs.job_facts as job_facts
 pub use Rattle.world_lent.specs as world_lent

@@ -3,13 +3,12 @@
 //! A write is out from its beginning on: its blocks are lent. `finish_write` puts them back as they were
 //! filled, moves the offset behind them, lays the run of the entry over the file, and claims the entry in
 //! its slot: its call has acted. `give_up_write` puts the blocks back and gives the staged run back: as if
-//! the call had not begun. `lose_write` ends a write after the power went. None of them takes memory or
-//! makes a step.
+//! the call had not begun. Neither takes memory or makes a step.
 //!
 //! The layer above may rely on this: where a World stands together with the write among those that are out,
 //! it stands together without it afterwards (`LeavesFinished`, `LeavesGivenUp`); the device changes at the
-//! blocks of the write alone; and what other writes that are out are to hold stays what it was. A World
-//! whose power is off keeps the promise for every way in which lines and blocks are put back (`IsLostAt`).
+//! blocks of the write alone; and what other writes that are out are to hold stays what it was. What comes
+//! of them once the power is off is said by `losing_facts`.
 //!
 //! Stands on `world_standing` (when a World stands together), `block_loans`, `write_asks` (the offset behind
 //! a write), `file_table` and `staging_files`.
@@ -17,9 +16,7 @@
 
 mod finishing;
 mod giving_up;
-mod losing;
 
 pub use block_loans;
 pub use finishing::finish_write;
 pub use giving_up::give_up_write;
-pub use losing::{lose_write, the_power_may_be_off};

@@ -40,7 +40,7 @@ use Rattle.flight_begins.specs.staging_files.declared.runs.StageRun.{StageRun}
 use Rattle.block_loans.specs.world_rules.Jobs.{AreApartJobs, Job, JobsStand, JobStands, live_claims, staged_block, Valid}
 use Rattle.block_loans.specs.world_rules.Stands.{FileStands, is_used, number, Stands}
 use Rattle.flight_begins.specs.world_standing.Standing.{AreJobsOf, HasItsBlocks, Kept, Pending, reserved_run, StandsAt}
-use Rattle.flight_begins.specs.world_standing.Views.{SpellCall}
+use Rattle.flight_begins.specs.world_standing.Jobs.{SpellCall}
 use Rattle.block_loans.specs.Loans.{AreLentBy, AreLoansOf}
 use Rattle.write_words.specs.write_asks.declared.asking.Target.{Target}
 use Rattle.write_words.specs.write_drafts.Drafts.{DraftsAreNext, IsNextEntry, staged_count}

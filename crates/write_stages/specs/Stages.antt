@@ -22,7 +22,7 @@ use Rattle.block_loans.specs.world_promise.JobLaws.{needs}
 use Rattle.block_loans.specs.world_rules.Jobs.{Job, live_claims}
 use Rattle.block_loans.specs.world_rules.Stands.{number}
 use Rattle.flight_begins.specs.world_standing.Standing.{Kept, Pending, reserved_run, StandsAt}
-use Rattle.flight_begins.specs.world_standing.Views.{SpellCall}
+use Rattle.flight_begins.specs.world_standing.Jobs.{SpellCall}
 use Rattle.write_words.specs.write_asks.declared.asking.Target.{Target}
 use Rattle.write_words.specs.write_drafts.Drafts.{draft_in, HasRun}
 use Rattle.block_loans.specs.write_jobs.Jobs.{blocks_of, JobView}

@@ -3,7 +3,7 @@ use Rattle.posix_types.specs.declared.call.Who.{Who}
 use Rattle.posix_types.specs.declared.reply.Reply.{Reply}
 use Rattle.posix_words.specs.Outcomes.{answer}
 use Rattle.round_puts.specs.round_jobs.world_standing.Standing.{Pending}
-use Rattle.round_puts.specs.round_jobs.world_standing.Views.{without}
+use Rattle.round_puts.specs.round_jobs.world_standing.Jobs.{without}
 use Rattle.split_world.proofs.Finishes.{callers, finished_kept, finished_so, may_add, may_finish, room_for_claim, taken_is}
 use Rattle.split_world.proofs.ends.finish_on.Goals as goal
 

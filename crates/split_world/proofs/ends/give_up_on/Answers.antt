@@ -1,6 +1,6 @@
 use Rattle.std.proofs.Common.{◌∙◌, ap}
 use Rattle.posix_types.specs.declared.call.Who.{Who}
-use Rattle.round_puts.specs.round_jobs.world_standing.Views.{without}
+use Rattle.round_puts.specs.round_jobs.world_standing.Jobs.{without}
 use Rattle.split_world.proofs.Finishes.{callers}
 use Rattle.split_world.proofs.GivesUp.{given_kept, given_so, may_give_up}
 use Rattle.split_world.proofs.ends.give_up_on.Goals as goal

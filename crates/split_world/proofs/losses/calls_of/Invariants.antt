@@ -1,5 +1,5 @@
 use Rattle.std.proofs.Common.{◌≡◌, ◌++◌, map, vec_capacity}
-use Rattle.round_starts.specs.round_views.write_ends.Lost.{begun_by}
+use Rattle.round_starts.specs.round_views.write_ends.Ends.{begun_by}
 use Rattle.split_world.proofs.losses.calls_of.Given as goal
 
 -- the calls of the jobs so far stand there

@@ -1,0 +1,16 @@
+-- Jobs that are out, and the words of their calls.
+use Rattle.std.specs.Prelude.{not, ℕ, List, filter}
+use Rattle.posix_types.specs.declared.call.Who.{Who}
+use Rattle.held_sums.specs.posix_puts.Puts.{PutsWhole}
+use Rattle.entry_orders.specs.posix_spec.State.{State}
+use Rattle.posix_words.specs.Open.{same_who}
+use Rattle.flight_facts.specs.job_facts.Blocks.{SpellWhole}
+use Rattle.world_standing.specs.Standing.{Pending}
+
+-- the jobs that are out but that of a caller
+abbrev pub without : Who → List Pending → List Pending
+without who pending = filter (λ (p : Pending). not (same_who p.who who)) pending
+
+-- The words are what the call of the job puts, wherever it puts them.
+abbrev pub SpellCall : State → Pending → List ℕ → Type 0
+SpellCall s p words = (node : ℕ) (whole : List ℕ) → PutsWhole s p.who p.call node whole → SpellWhole p.draft words whole

@@ -2,7 +2,6 @@ pub mod Events
 pub mod Runs
 pub use Rattle.split_world.specs.k_mount.Laws as MountLaws
 pub use Rattle.split_world.specs.k_mount.Sheds
-pub use Rattle.split_world.proofs.k_mount_proofs.LapImages
 pub use Rattle.split_world.specs.log_mount.Mounts
 pub use Rattle.split_world.specs.log_mount.Resets
 pub use Rattle.split_world.specs.log_mount.Sweeps

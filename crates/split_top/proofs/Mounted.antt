@@ -22,7 +22,7 @@ use Rattle.split_machine.specs.Resets.{IsLow}
 use Rattle.split_machine.specs.Sweeps.{AreBare, EndsInTime}
 use Rattle.split_machine.specs.posix_trees.TreeOf.{IsTreeOf}
 use Rattle.posix_types.specs.declared.tree.TreeEntry.{TreeEntry}
-use Rattle.split_machine.specs.LapImages.{none_live}
+use Rattle.split_machine.proofs.LapImages.{none_live}
 use Rattle.split_machine.specs.world_images.Images.{HasNoEntry}
 use Rattle.split_machine.specs.world_rules.Shown.{IsTreeOfContent}
 use Rattle.split_top.specs.Found.{IsFoundOn}

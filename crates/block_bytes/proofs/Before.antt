@@ -2,11 +2,11 @@
 use Rattle.std.specs.Prelude.{◌≡◌, ◌⊎◌, ℕ, true, List, refl}
 use Rattle.std.proofs.Common.{subst, sym, inl, inr}
 use Rattle.std.proofs.lemmas.Bool.{both_ways}
-use Rattle.pm_words.specs.declared.Cell.{Cell}
-use Rattle.pm_words.specs.CellLaws.{candidate-settles, newest-candidate, single-home}
-use Rattle.pm_words.specs.Cells.{cell, IsCandidate, is_lent, is_single, newest, Settles}
-use Rattle.pm_words.specs.Images.{ComesFrom, IsImage}
-use Rattle.pm_words.specs.Words.{Words}
+use Rattle.pm_lines.specs.pm_words.declared.Cell.{Cell}
+use Rattle.pm_lines.specs.pm_words.CellLaws.{candidate-settles, newest-candidate, single-home}
+use Rattle.pm_lines.specs.pm_words.Cells.{cell, IsCandidate, is_lent, is_single, newest, Settles}
+use Rattle.pm_lines.specs.pm_words.Images.{ComesFrom, IsImage}
+use Rattle.pm_lines.specs.pm_words.Words.{Words}
 
 module _ (Written : ℕ → Type 0) (is_written : (i : ℕ) → Written i ⊎ ¬ Written i) (old new : List Cell)
     (single : (i : ℕ) → Written i → is_single (cell old i) ≡ true) (others : (i : ℕ) → ¬ Written i → Settles (cell old i) (cell new i)) where

@@ -4,7 +4,7 @@ use Rattle.std.specs.Int.{to_le_bytes, w64}
 use Rattle.std.proofs.Common.{arith, ap, ◌∙◌, sym, get_or}
 use Rattle.std.proofs.lemmas.Bool.Decides.{nat_tests}
 use Rattle.std.proofs.lemmas.Nat.{le_bytes_8}
-use Rattle.pm_words.specs.Words.{byte_of, Words}
+use Rattle.pm_lines.specs.pm_words.Words.{byte_of, Words}
 use Rattle.block_bytes.specs.Puts.{byte_with, is_in, is_reached, put_byte, put_word, PutsBytes, with_bytes}
 
 -- byte j of a number

@@ -1,10 +1,10 @@
 -- The candidates of a cell through a flush and a fence.
 use Rattle.std.specs.Prelude.{◌≡◌, ◌⊎◌, ℕ, Bool, true, false, if◌then◌else◌}
 use Rattle.std.proofs.Common.{◌∙◌, ap, subst, sym, inl, inr}
-use Rattle.pm_words.specs.declared.Cell.{Cell}
-use Rattle.pm_words.specs.declared.Cell.TheVariants.{Single, Two, Marked, Lent}
-use Rattle.pm_words.specs.CellLaws.{candidate-fenced}
-use Rattle.pm_words.specs.Cells.{fenced, flushed, Settles}
+use Rattle.pm_lines.specs.pm_words.declared.Cell.{Cell}
+use Rattle.pm_lines.specs.pm_words.declared.Cell.TheVariants.{Single, Two, Marked, Lent}
+use Rattle.pm_lines.specs.pm_words.CellLaws.{candidate-fenced}
+use Rattle.pm_lines.specs.pm_words.Cells.{fenced, flushed, Settles}
 use Rattle.block_bytes.specs.Puts.{HoldsEither}
 
 either_flushed : (a t : ℕ) (c : Cell) → HoldsEither a t c → HoldsEither a t (flushed c)

@@ -5,15 +5,15 @@ use Rattle.std.proofs.lemmas.Bool.{cases_eq, cases_lt}
 use Rattle.std.proofs.lemmas.Bool.Decides.{nat_tests}
 use Rattle.std.proofs.lemmas.List.{get_or-drop, get_or-take, get_or_past}
 use Rattle.std.proofs.lemmas.Option.{same_Some}
-use Rattle.pm_words.specs.declared.Cell.{Cell}
-use Rattle.pm_words.specs.declared.Cell.TheVariants.{Single}
-use Rattle.pm_words.specs.CellLaws.{settled-single}
-use Rattle.pm_words.specs.Cells.{cell, IsCandidate, is_single, newest, Settles}
-use Rattle.pm_words.specs.Frames.{KeepsSingle}
-use Rattle.pm_words.specs.Images.{ComesFrom, Follows, Follows-same, IsImage, words_of}
-use Rattle.pm_words.specs.Words.{byte_of, Words}
-use Rattle.extent_words.specs.declared.Extent.{Extent}
-use Rattle.extent_words.specs.Extents.{disk_at}
+use Rattle.pm_lines.specs.pm_words.declared.Cell.{Cell}
+use Rattle.pm_lines.specs.pm_words.declared.Cell.TheVariants.{Single}
+use Rattle.pm_lines.specs.pm_words.CellLaws.{settled-single}
+use Rattle.pm_lines.specs.pm_words.Cells.{cell, IsCandidate, is_single, newest, Settles}
+use Rattle.pm_lines.specs.pm_words.Frames.{KeepsSingle}
+use Rattle.pm_lines.specs.pm_words.Images.{ComesFrom, Follows, Follows-same, IsImage, words_of}
+use Rattle.pm_lines.specs.pm_words.Words.{byte_of, Words}
+use Rattle.extent_map.specs.extent_words.declared.Extent.{Extent}
+use Rattle.extent_map.specs.extent_words.Extents.{disk_at}
 use Rattle.block_bytes.specs.Overwrites.{IsBeside, IsBesideBlocks, IsOverwritten, IsOverwrittenWhole, IsReached, MayOverwrite, piece, piece_from, piece_to, StandsIn, word_with}
 use Rattle.block_bytes.specs.Puts.{HoldsEither, is_in, with_bytes}
 use Rattle.block_bytes.proofs.Before as written

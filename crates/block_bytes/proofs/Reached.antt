@@ -1,12 +1,12 @@
 -- Blocks of a range, and the words that they hold while the range is stored.
 use Rattle.std.specs.Prelude.{◌≡◌, ◌≢◌, ◌≤◌, ◌<◌, ℕ, ◌+◌, ◌-◌, ◌*◌, ◌/◌, true, List, length, max, Option, Some, None, IsSome, if◌then◌else◌, refl}
 use Rattle.std.proofs.Common.{arith, ap, ◌∙◌, sym, subst}
-use Rattle.pm_words.specs.declared.Cell.{Cell}
-use Rattle.pm_words.specs.declared.Cell.TheVariants.{Single}
-use Rattle.pm_words.specs.Cells.{cell, fenced, is_single, newest}
-use Rattle.pm_words.specs.Images.{words_of}
-use Rattle.extent_words.specs.declared.Extent.{Extent}
-use Rattle.extent_words.specs.Extents.{disk_at}
+use Rattle.pm_lines.specs.pm_words.declared.Cell.{Cell}
+use Rattle.pm_lines.specs.pm_words.declared.Cell.TheVariants.{Single}
+use Rattle.pm_lines.specs.pm_words.Cells.{cell, fenced, is_single, newest}
+use Rattle.pm_lines.specs.pm_words.Images.{words_of}
+use Rattle.extent_map.specs.extent_words.declared.Extent.{Extent}
+use Rattle.extent_map.specs.extent_words.Extents.{disk_at}
 use Rattle.block_bytes.specs.Overwrites.{IsReached, MayOverwrite, piece, piece_from, StandsIn, word_with}
 use Rattle.block_bytes.specs.Puts.{HoldsEither, is_reached, put_word}
 

@@ -1,9 +1,9 @@
 -- Words on their way to zero, through a store, a flush and a fence.
 use Rattle.std.specs.Prelude.{◌≡◌, ℕ, Bool, true, false, List, if◌then◌else◌, refl}
 use Rattle.std.proofs.Common.{◌∙◌, ap, subst, sym, inl, inr}
-use Rattle.pm_words.specs.declared.Cell.{Cell}
-use Rattle.pm_words.specs.declared.Cell.TheVariants.{Single, Two, Marked, Lent}
-use Rattle.pm_words.specs.Cells.{cell, fenced, flushed, is_single, stored}
+use Rattle.pm_lines.specs.pm_words.declared.Cell.{Cell}
+use Rattle.pm_lines.specs.pm_words.declared.Cell.TheVariants.{Single, Two, Marked, Lent}
+use Rattle.pm_lines.specs.pm_words.Cells.{cell, fenced, flushed, is_single, stored}
 use Rattle.block_bytes.specs.Overwrites.{AreGoingToZero, GoesToZero, HasZeroToo, IsInLines}
 
 -- 0 is stored into a word of one candidate

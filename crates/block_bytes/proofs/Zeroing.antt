@@ -2,12 +2,12 @@
 use Rattle.std.specs.Prelude.{◌≡◌, ◌≢◌, ◌⊎◌, ◌<◌, ◌/◌, ℕ, zero, suc, true, List, [], ◌∷◌, length}
 use Rattle.std.proofs.Common.{arith, ap, sym, subst, inl, inr}
 use Rattle.std.proofs.lemmas.Bool.{cases_eq}
-use Rattle.pm_words.specs.declared.Cell.{Cell}
-use Rattle.pm_words.specs.declared.Cell.TheVariants.{Single}
-use Rattle.pm_words.specs.CellLaws.{settled-single}
-use Rattle.pm_words.specs.Cells.{cell, IsCandidate, is_single, Settles}
-use Rattle.pm_words.specs.Frames.{KeepsSingle}
-use Rattle.pm_words.specs.Images.{Follows}
+use Rattle.pm_lines.specs.pm_words.declared.Cell.{Cell}
+use Rattle.pm_lines.specs.pm_words.declared.Cell.TheVariants.{Single}
+use Rattle.pm_lines.specs.pm_words.CellLaws.{settled-single}
+use Rattle.pm_lines.specs.pm_words.Cells.{cell, IsCandidate, is_single, Settles}
+use Rattle.pm_lines.specs.pm_words.Frames.{KeepsSingle}
+use Rattle.pm_lines.specs.pm_words.Images.{Follows}
 use Rattle.map_rules.specs.disk_rules.Placed.{AreSingle, block_at, IsOutside}
 use Rattle.block_bytes.specs.Overwrites.{IsZeroed, SameBeside}
 use Rattle.block_bytes.proofs.Before as written

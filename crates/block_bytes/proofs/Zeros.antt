@@ -3,7 +3,7 @@ use Rattle.std.specs.Prelude.{◌≡◌, ◌<◌, ℕ, ◌+◌, ◌-◌, ◌*◌
 use Rattle.std.specs.Int.{from_le_bytes, to_le_bytes, w64}
 use Rattle.std.proofs.Common.{arith, ap, ◌∙◌}
 use Rattle.std.proofs.lemmas.Bool.Decides.{nat_tests}
-use Rattle.pm_words.specs.Words.{Words}
+use Rattle.pm_lines.specs.pm_words.Words.{Words}
 use Rattle.block_bytes.specs.Puts.{is_in, is_reached, put_byte, put_word, with_bytes}
 
 module _ (zeros : List ℕ) (size : length zeros ≡ 4096) (all : (n : ℕ) → n < 4096 → slice_index zeros n ≡ 0) (block i : ℕ) (at : i / 512 ≡ block) where

@@ -1,11 +1,11 @@
 -- Bytes of a file that are written over in place, in the blocks of its map.
 use Rattle.std.specs.Prelude.{◌≡◌, ◌≢◌, ◌⊎◌, ◌≤◌, ◌<◌, ℕ, ◌+◌, ◌-◌, ◌*◌, ◌/◌, ◌%◌, true, IsSome, List, length, max, min, take, drop, Some, slice_index}
-use Rattle.pm_words.specs.declared.Cell.{Cell}
-use Rattle.pm_words.specs.declared.Cell.TheVariants.{Single}
-use Rattle.pm_words.specs.Cells.{cell, has_two, is_single, newest, oldest}
-use Rattle.pm_words.specs.Words.{byte_of, Words}
-use Rattle.extent_words.specs.declared.Extent.{Extent}
-use Rattle.extent_words.specs.Extents.{disk_at}
+use Rattle.pm_lines.specs.pm_words.declared.Cell.{Cell}
+use Rattle.pm_lines.specs.pm_words.declared.Cell.TheVariants.{Single}
+use Rattle.pm_lines.specs.pm_words.Cells.{cell, has_two, is_single, newest, oldest}
+use Rattle.pm_lines.specs.pm_words.Words.{byte_of, Words}
+use Rattle.extent_map.specs.extent_words.declared.Extent.{Extent}
+use Rattle.extent_map.specs.extent_words.Extents.{disk_at}
 use Rattle.map_rules.specs.disk_rules.Placed.{AreDistinct, AreInDevice, AreSingle, IsOutside}
 use Rattle.map_rules.specs.Zeros.{AreZeros}
 use Rattle.block_bytes.specs.Puts.{with_bytes}

@@ -1,9 +1,9 @@
 -- Bytes that are put into a memory, from a byte on; and what a word may hold while they are stored.
 use Rattle.std.specs.Prelude.{◌≡◌, ◌⊎◌, ◌<◌, ℕ, ◌+◌, ◌-◌, ◌*◌, Bool, ◌&&◌, nat_le, nat_lt, List, [], ◌∷◌, length, slice_index, if◌then◌else◌}
 use Rattle.std.specs.Int.{from_le_bytes, to_le_bytes, w64}
-use Rattle.pm_words.specs.declared.Cell.{Cell}
-use Rattle.pm_words.specs.Cells.{IsCandidate}
-use Rattle.pm_words.specs.Words.{byte_of, Words}
+use Rattle.pm_lines.specs.pm_words.declared.Cell.{Cell}
+use Rattle.pm_lines.specs.pm_words.Cells.{IsCandidate}
+use Rattle.pm_lines.specs.pm_words.Words.{byte_of, Words}
 
 -- byte k is one of `count` bytes from `place` on
 abbrev pub is_in : ℕ → ℕ → ℕ → Bool

@@ -1,12 +1,12 @@
 //! Whole blocks: set to zero, read.
 ghost use Rattle.std.specs.Prelude.{◌≡◌, ◌≢◌, ◌+◌, ◌*◌, ◌/◌, ◌<◌, ℕ, true, false, length, slice_index};
 ghost use Rattle.map_rules.specs.disk_rules.Placed.{block_at, BlockIsHome, IsOutside};
-ghost use Rattle.pm_words.specs.declared.Cell.TheVariants.{Single};
-ghost use Rattle.pm_words.specs.Cells.{cell, fenced, is_single, Settles};
-ghost use Rattle.pm_words.specs.Frames.{KeepsSingle, SameLent};
-ghost use Rattle.pm_words.specs.Images.{Follows, words_of};
-ghost use Rattle.pm_words.specs.Powers.{is_on, Steps};
-ghost use Rattle.pm_words.specs.Words.{byte_of};
+ghost use Rattle.pm_lines.specs.pm_words.declared.Cell.TheVariants.{Single};
+ghost use Rattle.pm_lines.specs.pm_words.Cells.{cell, fenced, is_single, Settles};
+ghost use Rattle.pm_lines.specs.pm_words.Frames.{KeepsSingle, SameLent};
+ghost use Rattle.pm_lines.specs.pm_words.Images.{Follows, words_of};
+ghost use Rattle.pm_lines.specs.pm_words.Powers.{is_on, Steps};
+ghost use Rattle.pm_lines.specs.pm_words.Words.{byte_of};
 ghost use Rattle.block_bytes.specs.Overwrites.{IsZeroed, MayZero, SameBeside};
 
 use crate::pieces::store_piece;

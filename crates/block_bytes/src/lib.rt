@@ -26,4 +26,4 @@ pub fn bytes_are_put()
     ensures { PutsBytes }
 {}
 
-pub use map_rules;
+pub use map_rules::Move;

@@ -1,10 +1,10 @@
 //! Lines set to zero.
 ghost use Rattle.std.specs.Prelude.{◌≡◌, ◌≢◌, ◌+◌, ◌*◌, ◌/◌, ◌^◌, ◌≤◌, ◌<◌, ℕ, true, false, length};
-ghost use Rattle.pm_words.specs.declared.Cell.TheVariants.{Single};
-ghost use Rattle.pm_words.specs.Cells.{cell, fenced, Settles};
-ghost use Rattle.pm_words.specs.Frames.{KeepsSingle, LineIsSingle, SameLent};
-ghost use Rattle.pm_words.specs.Images.{Follows};
-ghost use Rattle.pm_words.specs.Powers.{is_on, Steps};
+ghost use Rattle.pm_lines.specs.pm_words.declared.Cell.TheVariants.{Single};
+ghost use Rattle.pm_lines.specs.pm_words.Cells.{cell, fenced, Settles};
+ghost use Rattle.pm_lines.specs.pm_words.Frames.{KeepsSingle, LineIsSingle, SameLent};
+ghost use Rattle.pm_lines.specs.pm_words.Images.{Follows};
+ghost use Rattle.pm_lines.specs.pm_words.Powers.{is_on, Steps};
 ghost use Rattle.block_bytes.specs.Overwrites.{AreGoingToZero, AreLinesZeroed, GoesToZero, IsInLines, MayZeroLines, SameBesideLines};
 
 use pm_lines::{Pm, Power};

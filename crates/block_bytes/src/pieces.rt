@@ -1,10 +1,10 @@
 //! Bytes of one block: words stored, lines flushed.
 ghost use Rattle.std.specs.Prelude.{◌≡◌, ◌≢◌, ◌+◌, ◌*◌, ◌/◌, ◌^◌, ◌<◌, ◌≤◌, ℕ, true, length};
-ghost use Rattle.pm_words.specs.declared.Cell.TheVariants.{Single};
-ghost use Rattle.pm_words.specs.Cells.{cell, fenced, is_single, newest};
-ghost use Rattle.pm_words.specs.Frames.{LineIsSingle, SameLent};
-ghost use Rattle.pm_words.specs.Images.{words_of};
-ghost use Rattle.pm_words.specs.Powers.{is_on, Steps};
+ghost use Rattle.pm_lines.specs.pm_words.declared.Cell.TheVariants.{Single};
+ghost use Rattle.pm_lines.specs.pm_words.Cells.{cell, fenced, is_single, newest};
+ghost use Rattle.pm_lines.specs.pm_words.Frames.{LineIsSingle, SameLent};
+ghost use Rattle.pm_lines.specs.pm_words.Images.{words_of};
+ghost use Rattle.pm_lines.specs.pm_words.Powers.{is_on, Steps};
 ghost use Rattle.block_bytes.specs.Puts.{HoldsEither, with_bytes};
 
 use crate::words::{is_reached, put_word};

@@ -1,11 +1,11 @@
 //! A range of a file written over, in the blocks of its map.
 ghost use Rattle.std.specs.Prelude.{◌≡◌, ◌≢◌, ◌+◌, ◌*◌, ◌/◌, ◌^◌, ◌<◌, ◌≤◌, ℕ, true, false, length, Some};
-ghost use Rattle.extent_words.specs.Extents.{disk_at};
-ghost use Rattle.pm_words.specs.declared.Cell.TheVariants.{Single};
-ghost use Rattle.pm_words.specs.Cells.{cell, fenced, is_single, newest, Settles};
-ghost use Rattle.pm_words.specs.Frames.{KeepsSingle, SameLent};
-ghost use Rattle.pm_words.specs.Images.{Follows, words_of};
-ghost use Rattle.pm_words.specs.Powers.{is_on, Steps};
+ghost use Rattle.extent_map.specs.extent_words.Extents.{disk_at};
+ghost use Rattle.pm_lines.specs.pm_words.declared.Cell.TheVariants.{Single};
+ghost use Rattle.pm_lines.specs.pm_words.Cells.{cell, fenced, is_single, newest, Settles};
+ghost use Rattle.pm_lines.specs.pm_words.Frames.{KeepsSingle, SameLent};
+ghost use Rattle.pm_lines.specs.pm_words.Images.{Follows, words_of};
+ghost use Rattle.pm_lines.specs.pm_words.Powers.{is_on, Steps};
 ghost use Rattle.block_bytes.specs.Overwrites.{blocks_reached, IsBesideBlocks, IsOverwritten, IsOverwrittenWhole};
 ghost use Rattle.block_bytes.specs.Overwrites.{IsReached, MayOverwrite, word_with};
 ghost use Rattle.block_bytes.specs.Puts.{HoldsEither};

@@ -4,12 +4,12 @@ use Rattle.std.proofs.Common.{arith, ap, ◌∙◌, sym, inl, inr}
 use Rattle.std.proofs.lemmas.Bool.{cases_eq, cases_lt}
 use Rattle.std.proofs.lemmas.List.{length_push}
 use Rattle.std.proofs.lemmas.Option.{same_Some}
-use Rattle.pm_words.specs.declared.Cell.{Cell}
-use Rattle.pm_words.specs.declared.Cell.TheVariants.{Lent, Marked, Single, Two}
-use Rattle.pm_words.specs.CellLaws.{single-home}
-use Rattle.pm_words.specs.Cells.{cell, is_lent, is_single, unmarked}
-use Rattle.pm_words.specs.Parts.{GoesOut, Part}
-use Rattle.pm_words.specs.PartLaws.{GoesOut-at}
+use Rattle.k_split.specs.pm_words.declared.Cell.{Cell}
+use Rattle.k_split.specs.pm_words.declared.Cell.TheVariants.{Lent, Marked, Single, Two}
+use Rattle.k_split.specs.pm_words.CellLaws.{single-home}
+use Rattle.k_split.specs.pm_words.Cells.{cell, is_lent, is_single, unmarked}
+use Rattle.k_split.specs.pm_words.Parts.{GoesOut, Part}
+use Rattle.k_split.specs.pm_words.PartLaws.{GoesOut-at}
 use Rattle.disk_lines.specs.declared.Draft.{Draft}
 use Rattle.k_split.specs.disk_rules.Volume.{Volume}
 use Rattle.k_split.specs.Loans.{MayLend}

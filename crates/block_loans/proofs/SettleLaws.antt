@@ -3,9 +3,9 @@ use Rattle.std.proofs.Common.{◌≡◌, ◌≢◌, ◌⊎◌, ◌<◌, ◌/◌,
 use Rattle.std.proofs.lemmas.Bool.{cases_lt}
 use Rattle.std.proofs.lemmas.List.{get_or_append_left, get_or_at, length-append, length_push}
 use Rattle.std.proofs.lemmas.Option.{same_Some}
-use Rattle.pm_words.specs.declared.Cell.{Cell}
-use Rattle.pm_words.specs.Cells.{cell, is_lent, unmarked}
-use Rattle.pm_words.specs.Parts.{ComesBack, Part}
+use Rattle.k_split.specs.pm_words.declared.Cell.{Cell}
+use Rattle.k_split.specs.pm_words.Cells.{cell, is_lent, unmarked}
+use Rattle.k_split.specs.pm_words.Parts.{ComesBack, Part}
 use Rattle.job_facts.specs.write_jobs.Jobs.{loan_at}
 use Rattle.block_loans.specs.Loans.{AreApart, ComeBack, PutsBack}
 

@@ -11,3 +11,7 @@ pub use Rattle.k_split.specs.volume_uses as volume_uses
 pub use Rattle.job_facts.specs.write_jobs as write_jobs
 pub use Rattle.k_split.specs.disk_rules as disk_rules
 pub use Rattle.k_split.specs.k_rules as k_rules
+pub use Rattle.disk_lines.specs as disk_lines
+pub use Rattle.disk_lines.specs.disk_places as disk_places
+pub use Rattle.k_split.specs.extent_words as extent_words
+pub use Rattle.pm_lines.specs.pm_words as pm_words

@@ -1,8 +1,8 @@
 -- The blocks of an entry as loans.
 use Rattle.std.specs.Prelude.{◌≡◌, ◌≢◌, ◌<◌, ◌+◌, ◌*◌, ◌/◌, ◌%◌, ℕ, List, length, Some}
-use Rattle.pm_words.specs.declared.Cell.{Cell}
-use Rattle.pm_words.specs.Cells.{cell, unmarked}
-use Rattle.pm_words.specs.Parts.{Part}
+use Rattle.k_split.specs.pm_words.declared.Cell.{Cell}
+use Rattle.k_split.specs.pm_words.Cells.{cell, unmarked}
+use Rattle.k_split.specs.pm_words.Parts.{Part}
 use Rattle.disk_lines.specs.declared.Draft.{Draft}
 use Rattle.k_split.specs.disk_rules.Volume.{Volume}
 use Rattle.k_split.specs.Loans.{MayLend}

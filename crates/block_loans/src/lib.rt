@@ -22,5 +22,5 @@ pub fn loans_are_put_back()
     ensures { PutsBack }
 {}
 
-pub use job_facts::write_jobs;
-pub use k_split;
+pub use job_facts::{FilledJob, Job};
+pub use k_split::KSplit;

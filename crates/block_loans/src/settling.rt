@@ -1,6 +1,6 @@
 //! Blocks come back.
 ghost use Rattle.std.specs.Prelude.{◌≡◌, ◌<◌, ◌/◌, ℕ, true, length};
-ghost use Rattle.pm_words.specs.Cells.{cell, is_lent};
+ghost use Rattle.k_split.specs.pm_words.Cells.{cell, is_lent};
 ghost use Rattle.block_loans.specs.Loans.{AreApart, ComeBack};
 ghost use Rattle.job_facts.specs.write_jobs.Jobs.{loan_at};
 

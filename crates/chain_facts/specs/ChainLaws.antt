@@ -5,10 +5,10 @@ use Rattle.std.proofs.Common.{refl, sym, ◌∙◌, ap, arith, lit<, add-zero, �
 use Rattle.std.proofs.lemmas.Bool.{cases_lt, ne_eqb}
 use Rattle.std.proofs.lemmas.List.{get_or-take, get_or-drop, get_or_default, get_or_past, length-take, length-drop, take-append-drop, drop-drop, nil_from_length, same_lists}
 use Rattle.std.proofs.lemmas.List.FromFn.{length-map-range_with_len, get_or-map-range_with_len}
-use Rattle.pm_words.specs.Words.{Words}
-use Rattle.block_counts.specs.Counts.{chains_for}
-use Rattle.extent_words.specs.declared.Extent.{Extent}
-use Rattle.extent_words.specs.Extents.{IsExtent, ComesAfter, IsCanonical}
+use Rattle.disk_rules.specs.pm_words.Words.{Words}
+use Rattle.disk_rules.specs.block_counts.Counts.{chains_for}
+use Rattle.disk_rules.specs.extent_words.declared.Extent.{Extent}
+use Rattle.disk_rules.specs.extent_words.Extents.{IsExtent, ComesAfter, IsCanonical}
 use Rattle.disk_rules.specs.Chains.{extent_word, chain_word, first_or_zero, SpellsChain, next_block, extent_in, extents_in, blocks_from}
 use Rattle.disk_rules.specs.Placed.{no_extent, extent_at, block_at, part_at, StandsIn, AreDistinct}
 use Rattle.disk_rules.specs.Listed.{first_word, second_word, listed_at, AreListed}

@@ -4,9 +4,9 @@ use Rattle.std.specs.List.{flat_map}
 use Rattle.std.proofs.Common.{sym, ◌∙◌, ap, arith}
 use Rattle.std.proofs.lemmas.Bool.Decides.{nat_tests}
 use Rattle.std.proofs.lemmas.List.FromFn.{get_or-map-range_with_len}
-use Rattle.pm_words.specs.Words.{Words}
-use Rattle.disk_places.specs.Places.{Geometry, is_data_block}
-use Rattle.extent_words.specs.declared.Extent.{Extent}
+use Rattle.disk_rules.specs.pm_words.Words.{Words}
+use Rattle.disk_rules.specs.disk_places.Places.{Geometry, is_data_block}
+use Rattle.disk_rules.specs.extent_words.declared.Extent.{Extent}
 use Rattle.disk_rules.specs.Chains.{extents_in, chain_of, map_of}
 use Rattle.disk_rules.specs.Rules.{file_blocks_of, IsInData, HasChain}
 use Rattle.disk_rules.specs.Volume.{Volume, volume, inode_or_free, free_inode, inode, chain, extents}

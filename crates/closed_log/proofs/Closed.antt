@@ -1,19 +1,19 @@
 -- The laws of closed logs, proved.
 use Rattle.std.specs.Prelude.{◌≡◌, ◌<◌, ◌+◌, ◌*◌, ◌%◌, ℕ, zero, suc, true, Contains, length, List, [], ◌∷◌, Option, Some, None, refl}
 use Rattle.std.proofs.Common.{ap, arith, inl, inr, ◌∙◌, subst, sym, ⊎_elim}
-use Rattle.pm_words.specs.declared.Cell.{Cell}
-use Rattle.pm_words.specs.declared.Cell.TheVariants.{Single}
-use Rattle.pm_words.specs.Bytes.{line_bytes-words}
-use Rattle.pm_words.specs.Cells.{cell, newest, unmarked}
-use Rattle.pm_words.specs.Parts.{Part}
-use Rattle.pm_words.specs.Words.{Words}
-use Rattle.disk_places.specs.Places.{log_line}
-use Rattle.disk_lines.specs.declared.Draft.{Draft}
-use Rattle.disk_lines.specs.Entries.{encode_entry, is_draft}
-use Rattle.disk_lines.specs.EntryLaws.{FitsDraft}
+use Rattle.oplog_tail.specs.pm_words.declared.Cell.{Cell}
+use Rattle.oplog_tail.specs.pm_words.declared.Cell.TheVariants.{Single}
+use Rattle.oplog_tail.specs.pm_words.Bytes.{line_bytes-words}
+use Rattle.oplog_tail.specs.pm_words.Cells.{cell, newest, unmarked}
+use Rattle.oplog_tail.specs.pm_words.Parts.{Part}
+use Rattle.oplog_tail.specs.pm_words.Words.{Words}
+use Rattle.oplog_tail.specs.disk_places.Places.{log_line}
+use Rattle.oplog_tail.specs.disk_lines.declared.Draft.{Draft}
+use Rattle.oplog_tail.specs.disk_lines.Entries.{encode_entry, is_draft}
+use Rattle.oplog_tail.specs.disk_lines.EntryLaws.{FitsDraft}
 use Rattle.oplog_tail.specs.disk_rules.LogRule.{cells_of_line, HoldsEntry}
 use Rattle.oplog_tail.specs.disk_rules.Volume.{Volume}
-use Rattle.list_facts.specs.Members.{In}
+use Rattle.world_log.specs.list_facts.Members.{In}
 use Rattle.oplog_tail.specs.declared.views.Claim.{Claim}
 use Rattle.oplog_tail.specs.declared.views.Mark.{Mark}
 use Rattle.oplog_tail.specs.declared.views.Mark.TheVariants.{Lost, Written}

@@ -1,14 +1,14 @@
 -- The lines of a closed log, put back: claimed lines, lines of jobs, and the others.
 use Rattle.std.specs.Prelude.{◌≡◌, ◌<◌, ℕ, ◌+◌, ◌*◌, true, List, refl}
 use Rattle.std.proofs.Common.{ap, arith, lit<, ◌∙◌, sym}
-use Rattle.pm_words.specs.declared.Cell.{Cell}
-use Rattle.pm_words.specs.declared.Cell.TheVariants.{Lent, Marked, Single, Two}
-use Rattle.pm_words.specs.Cells.{cell, has_two, is_lent, is_single, newest, oldest, unmarked}
-use Rattle.pm_words.specs.Words.{line_bytes, Words}
-use Rattle.disk_places.specs.Places.{log_line}
-use Rattle.disk_lines.specs.declared.Draft.{Draft}
-use Rattle.disk_lines.specs.Entries.{encode_entry, is_draft}
-use Rattle.disk_lines.specs.EntryLaws.{FitsDraft}
+use Rattle.oplog_tail.specs.pm_words.declared.Cell.{Cell}
+use Rattle.oplog_tail.specs.pm_words.declared.Cell.TheVariants.{Lent, Marked, Single, Two}
+use Rattle.oplog_tail.specs.pm_words.Cells.{cell, has_two, is_lent, is_single, newest, oldest, unmarked}
+use Rattle.oplog_tail.specs.pm_words.Words.{line_bytes, Words}
+use Rattle.oplog_tail.specs.disk_places.Places.{log_line}
+use Rattle.oplog_tail.specs.disk_lines.declared.Draft.{Draft}
+use Rattle.oplog_tail.specs.disk_lines.Entries.{encode_entry, is_draft}
+use Rattle.oplog_tail.specs.disk_lines.EntryLaws.{FitsDraft}
 use Rattle.oplog_tail.specs.disk_rules.LogRule.{words_of_line}
 use Rattle.oplog_tail.specs.disk_rules.Volume.{Volume}
 use Rattle.oplog_tail.specs.EntryLines as log

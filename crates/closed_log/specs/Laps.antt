@@ -1,16 +1,16 @@
 -- A log that is opened over the log lines of a device, and its lines put back.
 use Rattle.std.specs.Prelude.{◌≡◌, ◌⊎◌, ◌<◌, ℕ, ◌+◌, ◌*◌, true, Contains, length, List, [], ◌∷◌, Option, Some, None}
-use Rattle.pm_words.specs.declared.Cell.{Cell}
-use Rattle.pm_words.specs.declared.Cell.TheVariants.{Single}
-use Rattle.pm_words.specs.Cells.{cell, unmarked}
-use Rattle.pm_words.specs.Parts.{Part}
-use Rattle.pm_words.specs.Words.{line_bytes, Words}
-use Rattle.disk_places.specs.Places.{log_line}
-use Rattle.disk_lines.specs.declared.Draft.{Draft}
-use Rattle.disk_lines.specs.Entries.{held_seq, is_draft, is_self_valid}
-use Rattle.disk_lines.specs.EntryLaws.{FitsDraft}
+use Rattle.oplog_tail.specs.pm_words.declared.Cell.{Cell}
+use Rattle.oplog_tail.specs.pm_words.declared.Cell.TheVariants.{Single}
+use Rattle.oplog_tail.specs.pm_words.Cells.{cell, unmarked}
+use Rattle.oplog_tail.specs.pm_words.Parts.{Part}
+use Rattle.oplog_tail.specs.pm_words.Words.{line_bytes, Words}
+use Rattle.oplog_tail.specs.disk_places.Places.{log_line}
+use Rattle.oplog_tail.specs.disk_lines.declared.Draft.{Draft}
+use Rattle.oplog_tail.specs.disk_lines.Entries.{held_seq, is_draft, is_self_valid}
+use Rattle.oplog_tail.specs.disk_lines.EntryLaws.{FitsDraft}
 use Rattle.oplog_tail.specs.disk_rules.Volume.{Volume}
-use Rattle.list_facts.specs.Members.{In}
+use Rattle.world_log.specs.list_facts.Members.{In}
 use Rattle.oplog_tail.specs.declared.views.Claim.{Claim}
 use Rattle.oplog_tail.specs.declared.views.Mark.TheVariants.{Written}
 use Rattle.oplog_tail.specs.Logs.{LogView}

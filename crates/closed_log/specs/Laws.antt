@@ -1,14 +1,14 @@
 -- Laws of closed logs, each as one statement.
 use Rattle.std.specs.Prelude.{◌≡◌, ℕ, true, length, List, [], Option}
-use Rattle.pm_words.specs.declared.Cell.{Cell}
-use Rattle.pm_words.specs.Parts.{Part}
-use Rattle.pm_words.specs.Words.{Words}
-use Rattle.disk_lines.specs.declared.Draft.{Draft}
-use Rattle.disk_lines.specs.Entries.{is_draft}
-use Rattle.disk_lines.specs.EntryLaws.{FitsDraft}
+use Rattle.oplog_tail.specs.pm_words.declared.Cell.{Cell}
+use Rattle.oplog_tail.specs.pm_words.Parts.{Part}
+use Rattle.oplog_tail.specs.pm_words.Words.{Words}
+use Rattle.oplog_tail.specs.disk_lines.declared.Draft.{Draft}
+use Rattle.oplog_tail.specs.disk_lines.Entries.{is_draft}
+use Rattle.oplog_tail.specs.disk_lines.EntryLaws.{FitsDraft}
 use Rattle.oplog_tail.specs.disk_rules.LogRule.{HoldsClaims}
 use Rattle.oplog_tail.specs.disk_rules.Volume.{Volume}
-use Rattle.list_facts.specs.Members.{In}
+use Rattle.world_log.specs.list_facts.Members.{In}
 use Rattle.oplog_tail.specs.declared.views.Claim.{Claim}
 use Rattle.oplog_tail.specs.Closing.{cells_of, first_words, LeavesLines}
 use Rattle.oplog_tail.specs.Logs.{LogView}

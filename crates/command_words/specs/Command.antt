@@ -5,8 +5,8 @@
 -- IMAGE is the name of a file, or `-` for the fresh default image, which `mkfs` does not make. C is `oldest`, `newest`,
 -- `even`, `odd` or a number.
 use Rattle.std.specs.Prelude.{ℕ, List, [], length, codes, ◌&&◌, ◌==◌, nat_le, slice_index_or, drop, if◌then◌else◌, Option, Some, None, option_and_then, option_map}
-use Rattle.disk_places.specs.Fields.{is_same}
-use Rattle.disk_places.specs.Places.{Geometry, is_in_range}
+use Rattle.image_layout.specs.disk_places.Fields.{is_same}
+use Rattle.image_layout.specs.disk_places.Places.{Geometry, is_in_range}
 use Rattle.image_layout.specs.Numbers.{numbered}
 use Rattle.pm_lines.specs.declared.choices.Choice.{Choice}
 use Rattle.script_text.specs.Words.{number_in}

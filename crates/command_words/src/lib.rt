@@ -14,6 +14,10 @@ mod geometries;
 mod options;
 
 pub use commands::{Command, Image, read_command};
-pub use image_layout;
+pub use image_layout::Geometry;
 pub use options::Options;
-pub use script_text;
+pub use script_text::{
+    Call, Item, Mode, Name, Path, ScriptFault, Shape, State, Tree, TreeEntry, TreeNode, Who,
+    default_shape, read_script, root_alone, scripts_are_spelled, scripts_are_within_limits,
+    scripts_have_known_words,
+};

@@ -4,16 +4,16 @@ use Rattle.std.proofs.Common.{arith, ap, ◌∙◌, sym, subst, inl, inr}
 use Rattle.std.proofs.lemmas.Bool.Decides.{nat_tests}
 use Rattle.std.proofs.lemmas.List.{get_or-set_other, get_or-set_same, get_or_append_left, get_or_past, get_or_push, length-append, length-set}
 use Rattle.std.proofs.lemmas.List.Sums.{sum_by-cons}
-use Rattle.block_counts.specs.Counts.{held_by, reserve_for}
-use Rattle.posix_types.specs.declared.call.Call.{Call}
-use Rattle.posix_types.specs.declared.call.Who.{Who}
-use Rattle.posix_types.specs.declared.handle.Flags.{Flags}
-use Rattle.posix_types.specs.declared.handle.Handle.{Handle}
-use Rattle.posix_types.specs.declared.handle.Whence.{Whence}
-use Rattle.posix_types.specs.declared.item.Outcome.{Outcome}
-use Rattle.posix_types.specs.declared.reply.Errno.{Errno}
-use Rattle.posix_types.specs.declared.reply.Reply.{Reply}
-use Rattle.posix_types.specs.declared.reply.What.{What}
+use Rattle.posix_puts.specs.block_counts.Counts.{held_by, reserve_for}
+use Rattle.posix_puts.specs.posix_types.declared.call.Call.{Call}
+use Rattle.posix_puts.specs.posix_types.declared.call.Who.{Who}
+use Rattle.posix_puts.specs.posix_types.declared.handle.Flags.{Flags}
+use Rattle.posix_puts.specs.posix_types.declared.handle.Handle.{Handle}
+use Rattle.posix_puts.specs.posix_types.declared.handle.Whence.{Whence}
+use Rattle.posix_puts.specs.posix_types.declared.item.Outcome.{Outcome}
+use Rattle.posix_puts.specs.posix_types.declared.reply.Errno.{Errno}
+use Rattle.posix_puts.specs.posix_types.declared.reply.Reply.{Reply}
+use Rattle.posix_puts.specs.posix_types.declared.reply.What.{What}
 use Rattle.posix_words.specs.declared.nodes.DirEntry.{DirEntry}
 use Rattle.posix_words.specs.declared.nodes.File.{File}
 use Rattle.posix_words.specs.declared.nodes.Node.{Node}

@@ -5,9 +5,9 @@ use Rattle.std.proofs.Common.{arith, ap, ◌∙◌, sym, subst, inl, inr}
 use Rattle.std.proofs.lemmas.Bool.Decides.{nat_tests}
 use Rattle.std.proofs.lemmas.List.{ext_get_or, get_or-set_same, get_or_default, get_or_past, length-set, set-get_or}
 use Rattle.std.proofs.lemmas.List.FromFn.{get_or-map-range_with_len, length-map-range_with_len}
-use Rattle.posix_types.specs.declared.item.Item.{Item}
-use Rattle.posix_types.specs.declared.tree.TreeEntry.{TreeEntry}
-use Rattle.posix_types.specs.declared.tree.TreeNode.{TreeNode}
+use Rattle.posix_puts.specs.posix_types.declared.item.Item.{Item}
+use Rattle.posix_puts.specs.posix_types.declared.tree.TreeEntry.{TreeEntry}
+use Rattle.posix_puts.specs.posix_types.declared.tree.TreeNode.{TreeNode}
 use Rattle.posix_words.specs.declared.nodes.DirEntry.{DirEntry}
 use Rattle.posix_words.specs.declared.nodes.File.{File}
 use Rattle.posix_words.specs.declared.nodes.Node.{Node}

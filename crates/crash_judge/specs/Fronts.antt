@@ -1,8 +1,8 @@
 -- The two ways in which POSIX mode keeps a part of what was done, each as one walk over the calls.
 use Rattle.std.specs.Prelude.{◌≡◌, ◌⊎◌, false, List, [], ◌∷◌, ◌++◌, map}
 use Rattle.std.specs.List.{list_any}
-use Rattle.posix_types.specs.declared.item.Item.{Item}
-use Rattle.posix_types.specs.declared.tree.TreeEntry.{TreeEntry}
+use Rattle.posix_puts.specs.posix_types.declared.item.Item.{Item}
+use Rattle.posix_puts.specs.posix_types.declared.tree.TreeEntry.{TreeEntry}
 use Rattle.posix_puts.specs.posix_spec.Run.{after_call, Begun, begun, run}
 use Rattle.posix_puts.specs.posix_spec.State.{State}
 use Rattle.posix_puts.specs.posix_spec.Step.{step}

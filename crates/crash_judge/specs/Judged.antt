@@ -1,9 +1,9 @@
 -- What the judge decides.
 use Rattle.std.specs.Prelude.{List}
-use Rattle.posix_types.specs.declared.call.Mode.{Mode}
-use Rattle.posix_types.specs.declared.item.Item.{Item}
-use Rattle.posix_types.specs.declared.reply.Shape.{Shape}
-use Rattle.posix_types.specs.declared.tree.TreeEntry.{TreeEntry}
+use Rattle.posix_puts.specs.posix_types.declared.call.Mode.{Mode}
+use Rattle.posix_puts.specs.posix_types.declared.item.Item.{Item}
+use Rattle.posix_puts.specs.posix_types.declared.reply.Shape.{Shape}
+use Rattle.posix_puts.specs.posix_types.declared.tree.TreeEntry.{TreeEntry}
 use Rattle.posix_puts.specs.posix_spec.Run.{Begun}
 use Rattle.posix_puts.specs.posix_spec.Tree.{start}
 use Rattle.judge_bytes.specs.crash_spec.Permitted.{Permitted}

@@ -1,7 +1,7 @@
 -- Sync mode as walks: some calls act, each whole or in part; and one way to act in part, which leads towards a tree.
 use Rattle.std.specs.Prelude.{◌≡◌, ◌⊎◌, ℕ, not, ◌&&◌, ◌==◌, nat_lt, List, [], ◌∷◌, ◌++◌, length, map, Option, Some, None, slice_index, if◌then◌else◌}
 use Rattle.std.specs.List.{range_with_len}
-use Rattle.posix_types.specs.declared.tree.TreeEntry.{TreeEntry}
+use Rattle.posix_puts.specs.posix_types.declared.tree.TreeEntry.{TreeEntry}
 use Rattle.posix_puts.specs.posix_spec.Put.{Put, put_by}
 use Rattle.posix_puts.specs.posix_spec.Run.{after_call, Begun}
 use Rattle.posix_puts.specs.posix_spec.State.{State}

@@ -22,7 +22,7 @@ use crate::parts::is_sync;
 use crate::posix::is_posix;
 use crate::strict::is_strict;
 use judge_bytes::run;
-use posix_puts::posix_spec::{Call, Item, Mode, Shape, State, Tree, Who};
+pub use posix_puts::{Call, Item, Mode, Shape, State, Tree, Who};
 use std::alloc::{AllocError, Global};
 
 /// Whether the mode permits this tree after a power loss: of a file system of this shape that began
@@ -51,4 +51,7 @@ pub fn judge(
     }
 }
 
-pub use posix_puts::posix_spec;
+pub use posix_puts::{
+    Data, Flags, Handle, Name, Path, Put, Reply, TreeEntry, TreeNode, Whence, default_shape,
+    root_alone,
+};

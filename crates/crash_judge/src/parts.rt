@@ -6,7 +6,7 @@ ghost use Rattle.crash_judge.specs.Parts.{all_toward, LeadTo, pick, picked, Some
 ghost use Rattle.judge_bytes.specs.Wanted.{wanted};
 
 use judge_bytes::{after, after_all, byte_at, has_tree, numbers_of, run, wanted, with_call};
-use posix_puts::posix_spec::{Call, Data, Item, State, Tree, TreeEntry, Who};
+use posix_puts::{Call, Data, Item, State, Tree, TreeEntry, Who};
 use posix_words::nodes::bytes_at;
 use std::alloc::{AllocError, Global};
 

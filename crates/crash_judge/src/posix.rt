@@ -8,7 +8,7 @@ ghost use Rattle.judge_bytes.specs.Effects.{AreEffects};
 ghost use Rattle.crash_judge.specs.Fronts.{ActsOrNot, KeptFrom, KeptHere};
 
 use judge_bytes::{Effect, after, calls_of, effects_of, has_tree, is_left, run, with_call};
-use posix_puts::posix_spec::{Call, Item, Reply, State, Tree, Who};
+use posix_puts::{Call, Item, Reply, State, Tree, Who};
 use std::alloc::{AllocError, Global};
 
 /// Whether an item is an `fsync` that returned ok.

@@ -3,7 +3,7 @@ ghost use Rattle.std.specs.Prelude.{◌↔◌, IfOk, IsTrue};
 ghost use Rattle.judge_bytes.specs.crash_spec.Strict.{StrictFrom};
 
 use judge_bytes::{after, has_tree};
-use posix_puts::posix_spec::{Call, State, Tree, Who};
+use posix_puts::{Call, State, Tree, Who};
 use std::alloc::AllocError;
 
 /// Whether some of the unfinished calls, in order, lead from a state to one with this tree.

@@ -1,8 +1,8 @@
 -- The worked rows on who waits and what is logged, by computation.
 use Rattle.std.specs.Prelude.{refl}
-use Rattle.posix_words.specs.Names.{height, node_at_path, walk, with_entry}
-use Rattle.posix_words.specs.NameRows.{open_rows}
-use Rattle.posix_words.specs.Open.{binding_of, key_of, opened, with_binding, with_descriptor, with_offset, with_opened}
+use Rattle.posix_facts.specs.posix_words.Names.{height, node_at_path, walk, with_entry}
+use Rattle.posix_facts.specs.posix_words.NameRows.{open_rows}
+use Rattle.posix_facts.specs.posix_words.Open.{binding_of, key_of, opened, with_binding, with_descriptor, with_offset, with_opened}
 use Rattle.posix_facts.specs.posix_spec.FileRows.{write_rows}
 use Rattle.posix_facts.specs.posix_spec.Put.{put_by}
 use Rattle.posix_facts.specs.posix_spec.State.{made, with_file}

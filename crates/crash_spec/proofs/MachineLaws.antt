@@ -8,11 +8,11 @@ use Rattle.std.proofs.lemmas.List.{map-append}
 use Rattle.std.proofs.lemmas.List.Elements.{All-cons, All-filter, All-nil}
 use Rattle.std.proofs.lemmas.List.Kept.{AllPairs-cons}
 use Rattle.list_facts.specs.Members.{find-In, In}
-use Rattle.posix_types.specs.declared.call.Call.{Call}
-use Rattle.posix_types.specs.declared.call.Who.{Who}
-use Rattle.posix_types.specs.declared.item.Item.{Item}
-use Rattle.posix_types.specs.Scripts.{Scripts}
-use Rattle.posix_words.specs.Open.{same_who}
+use Rattle.posix_facts.specs.posix_types.declared.call.Call.{Call}
+use Rattle.posix_facts.specs.posix_types.declared.call.Who.{Who}
+use Rattle.posix_facts.specs.posix_types.declared.item.Item.{Item}
+use Rattle.posix_facts.specs.posix_types.Scripts.{Scripts}
+use Rattle.posix_facts.specs.posix_words.Open.{same_who}
 use Rattle.posix_facts.specs.posix_spec.Run.{Begun, begun, IsLegal, IsLegal-append}
 use Rattle.posix_facts.specs.posix_spec.Scripted.{IsSetUp, Scripted, Scripted-append}
 use Rattle.posix_facts.specs.posix_spec.Unfinished.{AreUnfinished, HaveTwoCallers, IsNextCall}

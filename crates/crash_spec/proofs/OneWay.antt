@@ -2,10 +2,10 @@
 use Rattle.std.specs.Prelude.{◌≡◌, ◌⊎◌, ℕ, ◌+◌, ◌-◌, ◌<◌, ◌≤◌, Bool, true, false, not, List, length, All, Contains, Option, Some, None, slice_get, refl}
 use Rattle.std.proofs.Common.{arith, ap, ◌∙◌, sym, subst, inl, inr}
 use Rattle.std.proofs.lemmas.Option.{get_or_from_slice_get, slice_get_within}
-use Rattle.posix_types.specs.declared.call.Call.{Call}
-use Rattle.posix_types.specs.declared.call.Who.{Who}
-use Rattle.posix_types.specs.declared.item.Item.{Item}
-use Rattle.posix_types.specs.Scripts.{Scripts}
+use Rattle.posix_facts.specs.posix_types.declared.call.Call.{Call}
+use Rattle.posix_facts.specs.posix_types.declared.call.Who.{Who}
+use Rattle.posix_facts.specs.posix_types.declared.item.Item.{Item}
+use Rattle.posix_facts.specs.posix_types.Scripts.{Scripts}
 use Rattle.posix_facts.specs.posix_spec.Put.{put_by}
 use Rattle.posix_facts.specs.posix_spec.Scripted.{items_of, script_of}
 use Rattle.posix_facts.specs.posix_spec.State.{State}

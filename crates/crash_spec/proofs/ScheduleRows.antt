@@ -1,11 +1,11 @@
 -- The worked schedules, by computation.
 use Rattle.std.specs.Prelude.{◌≡◌, ℕ, zero, suc, List, [], ◌∷◌, ◌++◌, replicate, All, false, refl}
 use Rattle.std.proofs.lemmas.List.Elements.{All-cons, All-nil}
-use Rattle.posix_types.specs.declared.call.Call.{Call}
-use Rattle.posix_types.specs.declared.call.Who.{Who}
-use Rattle.posix_words.specs.Names.{height, node_at_path, walk, with_entry, without_entry}
-use Rattle.posix_words.specs.NameRows.{list_rows, open_rows, rename_kind_rows, rename_rows, stat_rows}
-use Rattle.posix_words.specs.Open.{binding_of, key_of, opened, with_binding, with_descriptor, with_offset, with_opened}
+use Rattle.posix_facts.specs.posix_types.declared.call.Call.{Call}
+use Rattle.posix_facts.specs.posix_types.declared.call.Who.{Who}
+use Rattle.posix_facts.specs.posix_words.Names.{height, node_at_path, walk, with_entry, without_entry}
+use Rattle.posix_facts.specs.posix_words.NameRows.{list_rows, open_rows, rename_kind_rows, rename_rows, stat_rows}
+use Rattle.posix_facts.specs.posix_words.Open.{binding_of, key_of, opened, with_binding, with_descriptor, with_offset, with_opened}
 use Rattle.posix_facts.specs.posix_spec.FileRows.{write_rows}
 use Rattle.posix_facts.specs.posix_spec.Put.{put_by}
 use Rattle.posix_facts.specs.posix_spec.State.{made, swept, unnamed, with_file}

@@ -14,3 +14,5 @@ pub mod Strict
 pub mod Sync
 pub mod Values
 pub use Rattle.posix_facts.specs.posix_spec as posix_spec
+pub use Rattle.list_facts.specs as list_facts
+pub use Rattle.posix_facts.specs.posix_types as posix_types

@@ -1,8 +1,8 @@
 -- Which trees a power loss may leave, by the mode of the file system.
 use Rattle.std.specs.Prelude.{List}
-use Rattle.posix_types.specs.declared.call.Mode.{Mode}
-use Rattle.posix_types.specs.declared.item.Item.{Item}
-use Rattle.posix_types.specs.declared.tree.TreeEntry.{TreeEntry}
+use Rattle.posix_facts.specs.posix_types.declared.call.Mode.{Mode}
+use Rattle.posix_facts.specs.posix_types.declared.item.Item.{Item}
+use Rattle.posix_facts.specs.posix_types.declared.tree.TreeEntry.{TreeEntry}
 use Rattle.posix_facts.specs.posix_spec.Run.{Begun}
 use Rattle.posix_facts.specs.posix_spec.State.{State}
 use Rattle.crash_spec.specs.Strict.{Strict}

@@ -2,9 +2,9 @@
 -- whole.
 use Rattle.std.specs.Prelude.{◌≡◌, ℕ, List, [], ◌∷◌, length, refl}
 use Rattle.std.proofs.Common.{inl, inr, sym}
-use Rattle.posix_types.specs.declared.call.Mode.{Mode}
-use Rattle.posix_types.specs.declared.item.Item.{Item}
-use Rattle.posix_types.specs.declared.tree.TreeEntry.{TreeEntry}
+use Rattle.posix_facts.specs.posix_types.declared.call.Mode.{Mode}
+use Rattle.posix_facts.specs.posix_types.declared.item.Item.{Item}
+use Rattle.posix_facts.specs.posix_types.declared.tree.TreeEntry.{TreeEntry}
 use Rattle.posix_facts.specs.posix_spec.Run.{after_call, Begun, run}
 use Rattle.posix_facts.specs.posix_spec.State.{State}
 use Rattle.posix_facts.specs.posix_spec.Tree.{tree}

@@ -1,8 +1,8 @@
 -- The strict crash relation: which trees a power loss may leave in strict mode.
 use Rattle.std.specs.Prelude.{◌≡◌, ◌⊎◌, List, [], ◌∷◌, refl}
 use Rattle.std.proofs.Common.{inl, inr}
-use Rattle.posix_types.specs.declared.item.Item.{Item}
-use Rattle.posix_types.specs.declared.tree.TreeEntry.{TreeEntry}
+use Rattle.posix_facts.specs.posix_types.declared.item.Item.{Item}
+use Rattle.posix_facts.specs.posix_types.declared.tree.TreeEntry.{TreeEntry}
 use Rattle.posix_facts.specs.posix_spec.Tree.{tree}
 use Rattle.posix_facts.specs.posix_spec.State.{State}
 use Rattle.posix_facts.specs.posix_spec.Run.{after_call, Begun, run}

@@ -2,9 +2,9 @@
 -- unfinished write may be there in part: bytes below the old length are written in place, and each of them may or may
 -- not have reached the medium.
 use Rattle.std.specs.Prelude.{◌≡◌, ◌⊎◌, ℕ, ◌<◌, List, [], ◌∷◌, length, Some, slice_index}
-use Rattle.posix_types.specs.declared.item.Item.{Item}
-use Rattle.posix_types.specs.declared.tree.TreeEntry.{TreeEntry}
-use Rattle.posix_words.specs.Nodes.{bytes_of, node_at, published_of}
+use Rattle.posix_facts.specs.posix_types.declared.item.Item.{Item}
+use Rattle.posix_facts.specs.posix_types.declared.tree.TreeEntry.{TreeEntry}
+use Rattle.posix_facts.specs.posix_words.Nodes.{bytes_of, node_at, published_of}
 use Rattle.posix_facts.specs.posix_spec.Put.{Put, put_by}
 use Rattle.posix_facts.specs.posix_spec.Run.{after_call, Begun, run}
 use Rattle.posix_facts.specs.posix_spec.State.{State, with_file}

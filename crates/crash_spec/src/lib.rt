@@ -80,4 +80,4 @@ pub fn rules_for_bytes_differ()
     ensures { ByteRows }
 {}
 
-pub use posix_facts::posix_spec;
+pub use posix_facts::{Call, Data, Item, Put, State, Tree, TreeEntry, TreeNode, Who};

@@ -38,4 +38,4 @@ pub fn few_blocks_are_staged()
     ensures { StagesFewBlocks }
 {}
 
-pub use map_collection;
+pub use map_collection::Collection;

@@ -2,7 +2,7 @@
 -- generation 0; all else is zero. A directory that is made takes an inode line and a name line.
 use Rattle.std.specs.Prelude.{ℕ, ◌++◌, List}
 use Rattle.std.specs.Int.{to_le_bytes, w64}
-use Rattle.pm_words.specs.Words.{Words, with_line}
+use Rattle.disk_places.specs.pm_words.Words.{Words, with_line}
 use Rattle.disk_places.specs.Fields.{zeros}
 use Rattle.disk_places.specs.Places.{Geometry, state_line, inode_line}
 use Rattle.disk_places.specs.Superblock.{superblock}

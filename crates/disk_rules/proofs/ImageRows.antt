@@ -2,10 +2,10 @@
 use Rattle.std.proofs.Common.{◌≡◌, ◌+◌, ◌<◌, ℕ, [], ◌∷◌, refl, inl, inr, arith}
 use Rattle.std.specs.Prelude.{List, map, replicate, ◌==◌, if◌then◌else◌, Some, None, Option, false}
 use Rattle.std.proofs.lemmas.Bool.{both_ways}
-use Rattle.pm_words.specs.declared.Cell.{Cell}
-use Rattle.pm_words.specs.declared.Cell.TheVariants.{Single, Two}
-use Rattle.pm_words.specs.Words.{Words, word_at, line_bytes, with_line}
-use Rattle.disk_places.specs.Places.{Geometry, inode_line, name_line, log_line}
+use Rattle.disk_lines.specs.pm_words.declared.Cell.{Cell}
+use Rattle.disk_lines.specs.pm_words.declared.Cell.TheVariants.{Single, Two}
+use Rattle.disk_lines.specs.pm_words.Words.{Words, word_at, line_bytes, with_line}
+use Rattle.disk_lines.specs.disk_places.Places.{Geometry, inode_line, name_line, log_line}
 use Rattle.disk_lines.specs.declared.Draft.{Draft}
 use Rattle.disk_lines.specs.declared.Inode.{Inode}
 use Rattle.disk_lines.specs.declared.Kind.TheVariants.{Directory, File, Staging}

@@ -1,8 +1,8 @@
 -- Values worked out by hand, as computations of the definitions.
 use Rattle.std.proofs.Common.{◌≡◌, ◌-◌, [], ◌∷◌, refl}
 use Rattle.std.specs.Prelude.{Some, None}
-use Rattle.pm_words.specs.Words.{Words}
-use Rattle.block_counts.specs.Counts.{blocks_for, chains_for, held_by}
+use Rattle.disk_lines.specs.pm_words.Words.{Words}
+use Rattle.disk_lines.specs.block_counts.Counts.{blocks_for, chains_for, held_by}
 use Rattle.disk_lines.specs.declared.Draft.{Draft}
 use Rattle.extent_words.specs.declared.Extent.{Extent}
 use Rattle.disk_rules.specs.Chains.{chain_word, next_block, extents_in, blocks_from}

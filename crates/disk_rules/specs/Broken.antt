@@ -1,9 +1,9 @@
 -- The rules of a checked image as one list, in the order in which they are tried, and the first of them that an image
 -- breaks, with its lowest place.
 use Rattle.std.specs.Prelude.{◌≡◌, ◌⊎◌, ℕ, ◌+◌, ◌<◌, ◌≤◌, List, [], ◌∷◌, ◌++◌}
-use Rattle.pm_words.specs.Words.{Words}
-use Rattle.disk_places.specs.Journal.{journaled}
-use Rattle.disk_places.specs.Places.{first_data, data_blocks}
+use Rattle.disk_lines.specs.pm_words.Words.{Words}
+use Rattle.disk_lines.specs.disk_places.Journal.{journaled}
+use Rattle.disk_lines.specs.disk_places.Places.{first_data, data_blocks}
 use Rattle.disk_lines.specs.Names.{row}
 use Rattle.disk_rules.specs.Rules.{geometry_of, IsWholeBlocks, HasMagic, HasVersion, HasNumbers, HasTarget, HasState, HasInode, IsNameSlot, HasChain, IsNamedOnce, IsRowPlaced, AreDirectoriesNamed, HasOneName, CanRecover, IsOfNoLater}
 use Rattle.disk_rules.specs.Volume.{Volume, volume, name_at}

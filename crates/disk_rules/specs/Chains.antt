@@ -3,8 +3,8 @@
 -- above it, and its count. All other words are zero. Each block but the last has 255 extents.
 use Rattle.std.specs.Prelude.{◌≡◌, ℕ, zero, suc, ◌+◌, ◌-◌, ◌*◌, ◌/◌, ◌%◌, ◌^◌, ◌<◌, ◌==◌, List, [], ◌∷◌, length, map, take, drop, if◌then◌else◌}
 use Rattle.std.specs.List.{flat_map, range_with_len}
-use Rattle.pm_words.specs.Words.{Words}
-use Rattle.block_counts.specs.Counts.{chains_for}
+use Rattle.disk_lines.specs.pm_words.Words.{Words}
+use Rattle.disk_lines.specs.block_counts.Counts.{chains_for}
 use Rattle.extent_words.specs.declared.Extent.{Extent}
 use Rattle.disk_lines.specs.declared.Inode.{Inode}
 

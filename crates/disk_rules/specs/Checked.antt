@@ -1,8 +1,8 @@
 -- A checked image by its parts, each of use alone: the head, what the lines read as, what the volume keeps, and the
 -- log. The first three speak of no log line, so that they hold while log lines are out.
 use Rattle.std.specs.Prelude.{ℕ, ◌<◌}
-use Rattle.pm_words.specs.Words.{Words}
-use Rattle.disk_places.specs.Journal.{journaled}
+use Rattle.disk_lines.specs.pm_words.Words.{Words}
+use Rattle.disk_lines.specs.disk_places.Journal.{journaled}
 use Rattle.disk_rules.specs.Kept.{AreKept}
 use Rattle.disk_rules.specs.Reading.{Reads}
 use Rattle.disk_rules.specs.Rules.{geometry_of, IsWholeBlocks, HasMagic, HasVersion, HasNumbers, HasTarget, HasState, IsNameSlot, HasInode, HasChain, CanRecover, IsOfNoLater}

@@ -4,9 +4,9 @@
 -- zero. Nothing is moved here.
 use Rattle.std.specs.Prelude.{ℕ, ◌+◌, ◌-◌, ◌*◌, ◌/◌, ◌%◌, List, map, filter, ◌&&◌, ◌==◌, Option, Some, None, option_and_then}
 use Rattle.std.specs.List.{range_with_len}
-use Rattle.pm_words.specs.Words.{Words, byte_of}
-use Rattle.disk_places.specs.Places.{Geometry}
-use Rattle.disk_places.specs.Journal.{journaled}
+use Rattle.disk_lines.specs.pm_words.Words.{Words, byte_of}
+use Rattle.disk_lines.specs.disk_places.Places.{Geometry}
+use Rattle.disk_lines.specs.disk_places.Journal.{journaled}
 use Rattle.extent_words.specs.Extents.{disk_at, is_within}
 use Rattle.disk_lines.specs.declared.Draft.{Draft}
 use Rattle.disk_lines.specs.declared.Kind.{Kind}

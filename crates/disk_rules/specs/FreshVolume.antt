@@ -1,7 +1,7 @@
 -- The volume of the fresh image: a directory without names, four staging files, and free inodes; no chain and no map.
 use Rattle.std.specs.Prelude.{ℕ, ◌==◌, nat_le, map, replicate, [], ◌∷◌, if◌then◌else◌, List, Option, Some, None}
 use Rattle.std.specs.List.{range_with_len}
-use Rattle.disk_places.specs.Places.{Geometry}
+use Rattle.disk_lines.specs.disk_places.Places.{Geometry}
 use Rattle.disk_lines.specs.declared.Inode.{Inode}
 use Rattle.disk_lines.specs.declared.Kind.TheVariants.{Directory, Staging}
 use Rattle.disk_lines.specs.Fresh.{empty_inode}

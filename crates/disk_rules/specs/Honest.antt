@@ -2,11 +2,11 @@
 -- its lines and loans put back, a function from word number to cell: on the device itself a lent line has no two
 -- candidates, so that it would never count as torn.
 use Rattle.std.specs.Prelude.{◌≡◌, ℕ, ◌+◌, ◌*◌, ◌<◌, true, false, List}
-use Rattle.pm_words.specs.declared.Cell.{Cell}
-use Rattle.pm_words.specs.Cells.{has_two, oldest, newest}
-use Rattle.pm_words.specs.Parts.{put_back}
-use Rattle.pm_words.specs.Words.{Words, line_bytes}
-use Rattle.disk_places.specs.Places.{Geometry, log_line}
+use Rattle.disk_lines.specs.pm_words.declared.Cell.{Cell}
+use Rattle.disk_lines.specs.pm_words.Cells.{has_two, oldest, newest}
+use Rattle.disk_lines.specs.pm_words.Parts.{put_back}
+use Rattle.disk_lines.specs.pm_words.Words.{Words, line_bytes}
+use Rattle.disk_lines.specs.disk_places.Places.{Geometry, log_line}
 use Rattle.disk_lines.specs.Entries.{is_self_valid}
 
 -- the words of a line are its older candidates, or its newer ones

@@ -1,6 +1,6 @@
 -- What the rules of a checked image ask of a volume alone, whatever words it is read from.
 use Rattle.std.specs.Prelude.{◌≡◌, ℕ, ◌<◌, All, true, Option, Some, None}
-use Rattle.disk_places.specs.Places.{is_data_block}
+use Rattle.disk_lines.specs.disk_places.Places.{is_data_block}
 use Rattle.disk_lines.specs.Lines.{NameRow}
 use Rattle.disk_lines.specs.Names.{row}
 use Rattle.disk_rules.specs.Rules.{IsKindAt, IsNamed, file_blocks_of, IsInData, IsNamedOnce, IsRowPlaced, AreDirectoriesNamed, HasOneName}

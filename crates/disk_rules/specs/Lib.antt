@@ -15,3 +15,8 @@ pub mod Rules
 pub mod Standing
 pub mod Uses
 pub mod Volume
+pub use Rattle.disk_lines.specs as disk_lines
+pub use Rattle.disk_lines.specs.block_counts as block_counts
+pub use Rattle.disk_lines.specs.disk_places as disk_places
+pub use Rattle.disk_lines.specs.pm_words as pm_words
+pub use Rattle.extent_words.specs as extent_words

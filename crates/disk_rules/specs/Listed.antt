@@ -1,6 +1,6 @@
 -- The extents that the words of a chain's blocks tell of, one by one.
 use Rattle.std.specs.Prelude.{◌≡◌, ℕ, ◌+◌, ◌*◌, ◌/◌, ◌%◌, ◌^◌, ◌<◌, List, length}
-use Rattle.pm_words.specs.Words.{Words}
+use Rattle.disk_lines.specs.pm_words.Words.{Words}
 use Rattle.extent_words.specs.declared.Extent.{Extent}
 use Rattle.disk_rules.specs.Placed.{extent_at, block_at}
 

@@ -1,8 +1,8 @@
 -- The entries of the log that recovery still has to carry out, the live ones. Every slot is looked at.
 use Rattle.std.specs.Prelude.{ℕ, ◌+◌, List, [], ◌∷◌, Bool, true, false, ◌&&◌, ◌==◌, nat_lt, cond, Option, Some, None, filter}
 use Rattle.std.specs.List.{filter_map, range_with_len}
-use Rattle.pm_words.specs.Words.{Words, line_bytes}
-use Rattle.disk_places.specs.Places.{log_line}
+use Rattle.disk_lines.specs.pm_words.Words.{Words, line_bytes}
+use Rattle.disk_lines.specs.disk_places.Places.{log_line}
 use Rattle.disk_lines.specs.declared.Draft.{Draft}
 use Rattle.disk_lines.specs.declared.Kind.{Kind}
 use Rattle.disk_lines.specs.declared.Kind.TheVariants.{Free, Directory, File, Staging}

@@ -1,9 +1,9 @@
 -- What the lines of a log hold while threads fill it.
 use Rattle.std.specs.Prelude.{◌≡◌, ℕ, ◌+◌, ◌<◌, List, [], slice_index_or, length, Contains, true}
-use Rattle.pm_words.specs.declared.Cell.{Cell}
-use Rattle.pm_words.specs.declared.Cell.TheVariants.{Single}
-use Rattle.pm_words.specs.Cells.{cell, is_single, newest}
-use Rattle.pm_words.specs.Words.{Words, line_bytes}
+use Rattle.disk_lines.specs.pm_words.declared.Cell.{Cell}
+use Rattle.disk_lines.specs.pm_words.declared.Cell.TheVariants.{Single}
+use Rattle.disk_lines.specs.pm_words.Cells.{cell, is_single, newest}
+use Rattle.disk_lines.specs.pm_words.Words.{Words, line_bytes}
 use Rattle.disk_lines.specs.declared.Draft.{Draft}
 use Rattle.disk_lines.specs.Entries.{encode_entry}
 

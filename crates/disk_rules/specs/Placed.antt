@@ -1,8 +1,8 @@
 -- A chain seen from its blocks: which extents stand in block k, and which block comes next.
 use Rattle.std.specs.Prelude.{◌≡◌, ◌≢◌, ℕ, ◌+◌, ◌*◌, ◌/◌, ◌<◌, ◌≤◌, true, false, List, length, take, drop, slice_index, slice_index_or}
-use Rattle.pm_words.specs.declared.Cell.{Cell}
-use Rattle.pm_words.specs.Cells.{cell, is_single, is_lent}
-use Rattle.pm_words.specs.Words.{Words}
+use Rattle.disk_lines.specs.pm_words.declared.Cell.{Cell}
+use Rattle.disk_lines.specs.pm_words.Cells.{cell, is_single, is_lent}
+use Rattle.disk_lines.specs.pm_words.Words.{Words}
 use Rattle.extent_words.specs.declared.Extent.{Extent}
 use Rattle.disk_rules.specs.Chains.{extents_per_block, chain_word}
 

@@ -1,8 +1,8 @@
 -- When words read as a volume, line by line, and the volume with one line or one map changed.
 use Rattle.std.specs.Prelude.{◌≡◌, ℕ, ◌+◌, ◌*◌, ◌<◌, List, length, All, true, Option, Some, None, slice_set, slice_index}
-use Rattle.pm_words.specs.Words.{Words}
-use Rattle.disk_places.specs.Fields.{zeros}
-use Rattle.disk_places.specs.Places.{Geometry, base_word, is_data_block}
+use Rattle.disk_lines.specs.pm_words.Words.{Words}
+use Rattle.disk_lines.specs.disk_places.Fields.{zeros}
+use Rattle.disk_lines.specs.disk_places.Places.{Geometry, base_word, is_data_block}
 use Rattle.extent_words.specs.declared.Extent.{Extent}
 use Rattle.disk_lines.specs.declared.Inode.{Inode}
 use Rattle.disk_lines.specs.Lines.{NameRow, NameSlot, FreeName, Named, encode_name}

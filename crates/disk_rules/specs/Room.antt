@@ -1,8 +1,8 @@
 -- The blocks that files hold, and those that nothing names.
 use Rattle.std.specs.Prelude.{ℕ, List, [], ◌∷◌, length, Bool, true, false, ◌&&◌, nat_lt, count_by, sum_by, cond}
 use Rattle.std.specs.List.{range_with_len}
-use Rattle.block_counts.specs.Counts.{held_by}
-use Rattle.disk_places.specs.Places.{first_data, data_blocks}
+use Rattle.disk_lines.specs.block_counts.Counts.{held_by}
+use Rattle.disk_lines.specs.disk_places.Places.{first_data, data_blocks}
 use Rattle.disk_lines.specs.declared.Draft.{Draft}
 use Rattle.disk_lines.specs.Names.{names_of}
 use Rattle.disk_rules.specs.Volume.{Volume, inode}

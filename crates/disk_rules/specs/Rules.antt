@@ -2,10 +2,10 @@
 -- words; lines are taken as the pending journal makes them. The rules are tried in their printed order: 1, 2, 3, 4,
 -- 11, 5, 6, 7, 8, 9, 10, 12, 13; of one rule the lowest place is named.
 use Rattle.std.specs.Prelude.{◌≡◌, ◌≢◌, ◌⊎◌, ℕ, ◌+◌, ◌*◌, ◌/◌, ◌^◌, ◌<◌, ◌≤◌, length, All, true, Option, Some, None, IsSome}
-use Rattle.pm_words.specs.Words.{Words, line_bytes}
-use Rattle.disk_places.specs.Places.{Geometry, first_data, data_blocks, reserve, state_line, commit_word, base_word, log_line, is_data_block, is_journaled_line}
-use Rattle.disk_places.specs.Journal.{committed, record_target, journaled}
-use Rattle.disk_places.specs.Superblock.{has_magic, has_version, has_numbers, geometry_at}
+use Rattle.disk_lines.specs.pm_words.Words.{Words, line_bytes}
+use Rattle.disk_lines.specs.disk_places.Places.{Geometry, first_data, data_blocks, reserve, state_line, commit_word, base_word, log_line, is_data_block, is_journaled_line}
+use Rattle.disk_lines.specs.disk_places.Journal.{committed, record_target, journaled}
+use Rattle.disk_lines.specs.disk_places.Superblock.{has_magic, has_version, has_numbers, geometry_at}
 use Rattle.extent_words.specs.declared.Extent.{Extent}
 use Rattle.extent_words.specs.Extents.{disk_at, IsCanonical}
 use Rattle.disk_lines.specs.declared.Draft.{Draft}

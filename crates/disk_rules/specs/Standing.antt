@@ -1,7 +1,7 @@
 -- What stands as a chain in the words of a device.
 use Rattle.std.specs.Prelude.{◌≡◌, ℕ, ◌^◌, ◌<◌, List, length}
-use Rattle.pm_words.specs.Words.{Words}
-use Rattle.block_counts.specs.Counts.{chains_for}
+use Rattle.disk_lines.specs.pm_words.Words.{Words}
+use Rattle.disk_lines.specs.block_counts.Counts.{chains_for}
 use Rattle.extent_words.specs.declared.Extent.{Extent}
 use Rattle.extent_words.specs.Extents.{IsCanonical}
 use Rattle.disk_rules.specs.Chains.{SpellsChain, blocks_from, first_or_zero}

@@ -1,8 +1,8 @@
 -- The volume of an image: its metadata as one value, read from the words as the journal makes them.
 use Rattle.std.specs.Prelude.{ℕ, List, [], map, Option, Some, None, unwrap_or, slice_index_or}
 use Rattle.std.specs.List.{range_with_len}
-use Rattle.pm_words.specs.Words.{Words, line_bytes}
-use Rattle.disk_places.specs.Places.{Geometry, base_word, inode_line, name_line}
+use Rattle.disk_lines.specs.pm_words.Words.{Words, line_bytes}
+use Rattle.disk_lines.specs.disk_places.Places.{Geometry, base_word, inode_line, name_line}
 use Rattle.extent_words.specs.declared.Extent.{Extent}
 use Rattle.disk_lines.specs.declared.Inode.{Inode}
 use Rattle.disk_lines.specs.declared.Kind.TheVariants.{Free}

@@ -2,15 +2,15 @@
 use Rattle.std.specs.Prelude.{◌≡◌, ◌≢◌, ℕ, List, None, IsSorted}
 use Rattle.std.specs.Cmp.Lexicographic.{slice_cmp}
 use Rattle.std.specs.Ordering.{nat_cmp}
-use Rattle.list_facts.specs.Members.{In}
-use Rattle.posix_types.specs.declared.call.Call.{Call}
-use Rattle.posix_types.specs.declared.call.Mode.{Mode}
-use Rattle.posix_types.specs.declared.call.Who.{Who}
-use Rattle.posix_types.specs.declared.reply.Shape.{Shape}
-use Rattle.posix_types.specs.declared.tree.TreeEntry.{TreeEntry}
-use Rattle.posix_words.specs.declared.nodes.DirEntry.{DirEntry}
-use Rattle.posix_words.specs.Lookups.{AreDistinct}
-use Rattle.posix_words.specs.Names.{child_of, names_in}
+use Rattle.posix_trees.specs.list_facts.Members.{In}
+use Rattle.posix_trees.specs.posix_types.declared.call.Call.{Call}
+use Rattle.posix_trees.specs.posix_types.declared.call.Mode.{Mode}
+use Rattle.posix_trees.specs.posix_types.declared.call.Who.{Who}
+use Rattle.posix_trees.specs.posix_types.declared.reply.Shape.{Shape}
+use Rattle.posix_trees.specs.posix_types.declared.tree.TreeEntry.{TreeEntry}
+use Rattle.posix_trees.specs.posix_words.declared.nodes.DirEntry.{DirEntry}
+use Rattle.posix_trees.specs.posix_words.Lookups.{AreDistinct}
+use Rattle.posix_trees.specs.posix_words.Names.{child_of, names_in}
 use Rattle.posix_trees.specs.posix_spec.State.{Instance, State}
 use Rattle.posix_trees.specs.posix_spec.Step.{step_of}
 use Rattle.posix_trees.specs.posix_spec.Tree.{start}

@@ -7,10 +7,10 @@ use Rattle.std.proofs.Common.{arith, ap, sym, ◌∙◌, subst, inl, inr}
 use Rattle.std.proofs.lemmas.Bool.{and_parts, eq-eqb, false_from_ne_true}
 use Rattle.std.proofs.lemmas.Bool.Decides.{Decides-eqb, Decides-ltb}
 use Rattle.std.proofs.lemmas.List.Sums.{sum_by-cons}
-use Rattle.list_facts.specs.Filters.{filter-In, In-filter, In-map, map-In}
-use Rattle.list_facts.specs.Members.{find-In, find-none, In}
-use Rattle.posix_words.specs.declared.nodes.DirEntry.{DirEntry}
-use Rattle.posix_words.specs.Names.{bytes_before, child_of, entries_in, is_entry, names_in, same_name}
+use Rattle.posix_trees.specs.list_facts.Filters.{filter-In, In-filter, In-map, map-In}
+use Rattle.posix_trees.specs.list_facts.Members.{find-In, find-none, In}
+use Rattle.posix_trees.specs.posix_words.declared.nodes.DirEntry.{DirEntry}
+use Rattle.posix_trees.specs.posix_words.Names.{bytes_before, child_of, entries_in, is_entry, names_in, same_name}
 use Rattle.posix_trees.specs.posix_facts.DistinctLaws.{own_entry}
 use Rattle.posix_trees.specs.Order.{before_or_after, before_trans, Rising-same, RisingBy}
 use Rattle.entry_orders.specs.Orders.{entry_text}

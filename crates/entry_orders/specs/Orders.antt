@@ -6,19 +6,19 @@ use Rattle.std.specs.declared.cmp.Ordering.{Ordering}
 use Rattle.std.specs.declared.cmp.Ordering.TheVariants.{Less, Equal, Greater}
 use Rattle.std.proofs.Common.{ap, sym, ◌∙◌, subst, lit<, inl, inr}
 use Rattle.std.proofs.Math.Path.{fun_ext}
-use Rattle.list_facts.specs.Members.{find-none, In}
-use Rattle.posix_types.specs.declared.call.Call.{Call}
-use Rattle.posix_types.specs.declared.call.Who.{Who}
-use Rattle.posix_types.specs.declared.item.Item.{Item}
-use Rattle.posix_types.specs.declared.handle.Flags.{Flags}
-use Rattle.posix_types.specs.declared.handle.Handle.{Handle}
-use Rattle.posix_words.specs.declared.nodes.Node.{Node}
-use Rattle.posix_words.specs.declared.nodes.DirEntry.{DirEntry}
-use Rattle.posix_words.specs.Lookups.{AreDistinct, child_of-without_entry-itself, without_first, without_place-position}
-use Rattle.posix_words.specs.Names.{bytes_before, child_of, comes_before, exists_at, is_entry, last_name, number_at, parent_at, with_entry, without_entry}
-use Rattle.posix_words.specs.NameRows.{mkdir_rows, open_rows, walk_row}
-use Rattle.posix_words.specs.Outcomes.{first}
-use Rattle.posix_words.specs.Open.{closed}
+use Rattle.posix_trees.specs.list_facts.Members.{find-none, In}
+use Rattle.posix_trees.specs.posix_types.declared.call.Call.{Call}
+use Rattle.posix_trees.specs.posix_types.declared.call.Who.{Who}
+use Rattle.posix_trees.specs.posix_types.declared.item.Item.{Item}
+use Rattle.posix_trees.specs.posix_types.declared.handle.Flags.{Flags}
+use Rattle.posix_trees.specs.posix_types.declared.handle.Handle.{Handle}
+use Rattle.posix_trees.specs.posix_words.declared.nodes.Node.{Node}
+use Rattle.posix_trees.specs.posix_words.declared.nodes.DirEntry.{DirEntry}
+use Rattle.posix_trees.specs.posix_words.Lookups.{AreDistinct, child_of-without_entry-itself, without_first, without_place-position}
+use Rattle.posix_trees.specs.posix_words.Names.{bytes_before, child_of, comes_before, exists_at, is_entry, last_name, number_at, parent_at, with_entry, without_entry}
+use Rattle.posix_trees.specs.posix_words.NameRows.{mkdir_rows, open_rows, walk_row}
+use Rattle.posix_trees.specs.posix_words.Outcomes.{first}
+use Rattle.posix_trees.specs.posix_words.Open.{closed}
 use Rattle.posix_trees.specs.posix_spec.FileRows.{file_number}
 use Rattle.posix_trees.specs.posix_spec.Run.{run}
 use Rattle.posix_trees.specs.posix_spec.State.{alone, Instance, made, space, State, swept, unnamed, with_file, with_node, with_published}

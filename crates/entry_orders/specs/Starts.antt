@@ -2,14 +2,14 @@
 use Rattle.std.specs.Prelude.{◌≡◌, ◌≢◌, Bool, true, false, cond, fold, List, [], ◌∷◌, find, Some, None, option_map, refl}
 use Rattle.std.proofs.Common.{ap, sym, ◌∙◌, subst, inl, inr}
 use Rattle.std.proofs.Math.Path.{fun_ext}
-use Rattle.list_facts.specs.Members.{find-none, In}
-use Rattle.posix_types.specs.declared.call.Mode.{Mode}
-use Rattle.posix_types.specs.declared.reply.Shape.{Shape}
-use Rattle.posix_types.specs.declared.tree.TreeEntry.{TreeEntry}
-use Rattle.posix_words.specs.declared.nodes.DirEntry.{DirEntry}
-use Rattle.posix_words.specs.Lookups.{AreDistinct}
-use Rattle.posix_words.specs.Names.{child_of, comes_before, is_entry, is_root, with_entry}
-use Rattle.posix_words.specs.Places.{node_of}
+use Rattle.posix_trees.specs.list_facts.Members.{find-none, In}
+use Rattle.posix_trees.specs.posix_types.declared.call.Mode.{Mode}
+use Rattle.posix_trees.specs.posix_types.declared.reply.Shape.{Shape}
+use Rattle.posix_trees.specs.posix_types.declared.tree.TreeEntry.{TreeEntry}
+use Rattle.posix_trees.specs.posix_words.declared.nodes.DirEntry.{DirEntry}
+use Rattle.posix_trees.specs.posix_words.Lookups.{AreDistinct}
+use Rattle.posix_trees.specs.posix_words.Names.{child_of, comes_before, is_entry, is_root, with_entry}
+use Rattle.posix_trees.specs.posix_words.Places.{node_of}
 use Rattle.posix_trees.specs.posix_facts.DistinctLaws.{own_entry}
 use Rattle.posix_trees.specs.posix_spec.State.{made, State}
 use Rattle.posix_trees.specs.posix_spec.Tree.{bare, planted, start}

@@ -4,16 +4,16 @@ use Rattle.std.proofs.Common.{arith, ap, ◌∙◌, sym, subst, inl, inr}
 use Rattle.std.proofs.lemmas.Bool.{cases_eq, cases_lt}
 use Rattle.std.proofs.lemmas.Bool.Decides.{nat_tests}
 use Rattle.std.proofs.lemmas.List.{get_or-set_other, get_or-set_same, get_or_past}
-use Rattle.block_counts.specs.Counts.{blocks_for}
-use Rattle.pm_words.specs.ImageLaws.{IsImage-words_of}
-use Rattle.pm_words.specs.Images.{words_of}
-use Rattle.disk_lines.specs.declared.Inode.{Inode}
-use Rattle.disk_lines.specs.declared.Kind.TheVariants.{File, Free}
+use Rattle.file_table.specs.block_counts.Counts.{blocks_for}
+use Rattle.file_table.specs.pm_words.ImageLaws.{IsImage-words_of}
+use Rattle.file_table.specs.pm_words.Images.{words_of}
+use Rattle.file_table.specs.disk_lines.declared.Inode.{Inode}
+use Rattle.file_table.specs.disk_lines.declared.Kind.TheVariants.{File, Free}
 use Rattle.k_plans.specs.disk_rules.Live.{is_directory}
 use Rattle.k_plans.specs.disk_rules.Volume.{extents, free_inode, inode, Volume}
-use Rattle.extent_words.specs.declared.Extent.{Extent}
-use Rattle.extent_words.specs.Extents.{disk_at}
-use Rattle.file_overlay.specs.declared.runs.Run.{Run}
+use Rattle.file_table.specs.extent_words.declared.Extent.{Extent}
+use Rattle.file_table.specs.extent_words.Extents.{disk_at}
+use Rattle.file_table.specs.file_overlay.declared.runs.Run.{Run}
 use Rattle.file_table.specs.Files.{ChangesFile, Files, runs_in, size_in}
 use Rattle.k_plans.specs.disk_rules.Reading.{inode_set}
 use Rattle.k_plans.specs.Making.{kind_of}

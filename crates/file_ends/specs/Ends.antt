@@ -1,11 +1,11 @@
 -- When nothing of a file lies past its end.
 use Rattle.std.specs.Prelude.{◌≡◌, ◌≤◌, ◌+◌, ℕ, [], None}
-use Rattle.block_counts.specs.Counts.{blocks_for}
-use Rattle.disk_lines.specs.declared.Draft.{Draft}
-use Rattle.disk_lines.specs.declared.Kind.TheVariants.{File, Free}
+use Rattle.file_table.specs.block_counts.Counts.{blocks_for}
+use Rattle.file_table.specs.disk_lines.declared.Draft.{Draft}
+use Rattle.file_table.specs.disk_lines.declared.Kind.TheVariants.{File, Free}
 use Rattle.k_plans.specs.disk_rules.Volume.{extents, inode, Volume}
-use Rattle.extent_words.specs.Extents.{disk_at}
-use Rattle.file_overlay.specs.declared.runs.Run.{Run}
+use Rattle.file_table.specs.extent_words.Extents.{disk_at}
+use Rattle.file_table.specs.file_overlay.declared.runs.Run.{Run}
 use Rattle.file_table.specs.Files.{Files, runs_in, size_in}
 use Rattle.list_facts.specs.Members.{In}
 

@@ -1,6 +1,6 @@
 -- That nothing lies past the end of a file stays so, each law as one statement.
 use Rattle.std.specs.Prelude.{◌<◌, ℕ, Bool, List, [], length, Option}
-use Rattle.pm_words.specs.declared.Cell.{Cell}
+use Rattle.file_table.specs.pm_words.declared.Cell.{Cell}
 use Rattle.k_plans.specs.disk_rules.Volume.{Volume}
 use Rattle.file_table.specs.Files.{ChangesFile, Files}
 use Rattle.k_plans.specs.Making.{IsMade}

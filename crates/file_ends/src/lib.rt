@@ -23,5 +23,5 @@ pub fn files_end_after_changes()
     ensures sized { EndSized }
 {}
 
-pub use file_table;
-pub use k_plans::{image_layout, k_journal};
+pub use file_table::FileTable;
+pub use k_plans::{Commit, Geometry};

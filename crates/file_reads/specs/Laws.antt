@@ -1,6 +1,6 @@
 -- The bytes of a file that has nothing staged.
 use Rattle.std.specs.Prelude.{◌≡◌, ℕ, []}
-use Rattle.extent_words.specs.Extents.{disk_at}
+use Rattle.data_route.specs.extent_words.Extents.{disk_at}
 use Rattle.k_split.specs.disk_rules.Volume.{extents, Volume}
 use Rattle.file_reads.specs.Reads.{block_in}
 

@@ -12,3 +12,4 @@ pub use Rattle.k_split.specs.volume_uses as volume_uses
 pub use Rattle.data_route.specs as data_route
 pub use Rattle.data_route.specs.map_collection as map_collection
 pub use Rattle.k_split.specs.k_rules as k_rules
+pub use Rattle.file_overlay.specs as file_overlay

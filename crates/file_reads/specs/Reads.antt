@@ -1,9 +1,9 @@
 -- The bytes of a file with staged runs, and which blocks a read looks at.
 use Rattle.std.specs.Prelude.{◌≡◌, ℕ, ◌/◌, ◌<◌, List, length, map, Option, Some, None}
 use Rattle.std.specs.List.{range_with_len}
-use Rattle.pm_words.specs.declared.Cell.{Cell}
-use Rattle.pm_words.specs.Words.{Words}
-use Rattle.extent_words.specs.Extents.{disk_at}
+use Rattle.k_split.specs.pm_words.declared.Cell.{Cell}
+use Rattle.k_split.specs.pm_words.Words.{Words}
+use Rattle.data_route.specs.extent_words.Extents.{disk_at}
 use Rattle.k_split.specs.disk_rules.Content.{byte_in}
 use Rattle.k_split.specs.disk_rules.Placed.{BlockIsHome}
 use Rattle.k_split.specs.disk_rules.Volume.{extents, Volume}

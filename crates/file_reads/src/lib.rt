@@ -23,5 +23,4 @@ pub fn an_empty_overlay_hides_nothing()
     ensures { MapAlone }
 {}
 
-pub use data_route::map_collection;
-pub use k_split;
+pub use data_route::Collection;

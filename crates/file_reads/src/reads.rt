@@ -3,13 +3,12 @@ ghost use Rattle.std.specs.Prelude.{◌≡◌, ◌+◌, ◌<◌, ◌≤◌, ◌+
 ghost use Rattle.std.specs.Option.{ForSome};
 ghost use Rattle.k_split.specs.disk_rules.Content.{byte_in};
 ghost use Rattle.k_split.specs.disk_rules.Volume.{extents};
-ghost use Rattle.pm_words.specs.Images.{words_of};
+ghost use Rattle.k_split.specs.pm_words.Images.{words_of};
 ghost use Rattle.data_route.specs.Reads.{read_len, FitsBlock};
 ghost use Rattle.data_route.specs.map_collection.Kept.{Agrees, KeepsOthers};
 ghost use Rattle.file_reads.specs.Reads.{block_of, bytes_in, bytes_of_piece, FileCanBeRead, IsReadable, SourceCanBeRead};
 
-use data_route::map_collection::Collection;
-use data_route::{Piece, Source, plan_read};
+use data_route::{Collection, Piece, Source, plan_read};
 use file_overlay::Overlay;
 use k_split::KSplit;
 use std::alloc::{AllocError, Global};

@@ -2,26 +2,26 @@
 use Rattle.std.specs.Prelude.{◌≡◌, ◌≢◌, ◌⊎◌, ◌≤◌, ◌<◌, ◌+◌, ℕ, Bool, List, [], ◌∷◌, ◌++◌, length, max, None, refl}
 use Rattle.std.proofs.Common.{arith, ap, ◌∙◌, sym, subst, inl, inr}
 use Rattle.std.proofs.lemmas.Bool.{cases_eq}
-use Rattle.block_counts.specs.Counts.{blocks_for}
-use Rattle.pm_words.specs.ImageLaws.{IsImage-words_of}
-use Rattle.pm_words.specs.Images.{words_of}
-use Rattle.pm_words.specs.Words.{Words}
-use Rattle.disk_lines.specs.declared.Draft.{Draft}
-use Rattle.disk_lines.specs.declared.Kind.{Kind}
-use Rattle.disk_lines.specs.declared.Kind.TheVariants.{Directory, File, Free, Staging}
-use Rattle.disk_places.specs.Journal.{journaled}
-use Rattle.disk_places.specs.Places.{Geometry}
+use Rattle.file_ends.specs.block_counts.Counts.{blocks_for}
+use Rattle.file_ends.specs.pm_words.ImageLaws.{IsImage-words_of}
+use Rattle.file_ends.specs.pm_words.Images.{words_of}
+use Rattle.file_ends.specs.pm_words.Words.{Words}
+use Rattle.file_ends.specs.disk_lines.declared.Draft.{Draft}
+use Rattle.file_ends.specs.disk_lines.declared.Kind.{Kind}
+use Rattle.file_ends.specs.disk_lines.declared.Kind.TheVariants.{Directory, File, Free, Staging}
+use Rattle.file_ends.specs.disk_places.Journal.{journaled}
+use Rattle.file_ends.specs.disk_places.Places.{Geometry}
 use Rattle.file_ends.specs.disk_rules.Volume.{extents, inode, Volume}
-use Rattle.extent_words.specs.Extents.{disk_at}
+use Rattle.file_ends.specs.extent_words.Extents.{disk_at}
 use Rattle.file_ends.specs.Ends.{DraftEnds, FilesEnd}
-use Rattle.file_overlay.specs.declared.runs.Run.{Run}
+use Rattle.file_ends.specs.file_overlay.declared.runs.Run.{Run}
 use Rattle.file_ends.specs.file_table.Files.{runs_in, size_in}
 use Rattle.file_ends.specs.k_rules.View.{View}
-use Rattle.list_facts.specs.Members.{In}
+use Rattle.file_ends.specs.list_facts.Members.{In}
 use Rattle.world_standing.specs.posix_facts.FitsLaws.{length-overwritten}
-use Rattle.posix_words.specs.declared.nodes.Node.{Node}
-use Rattle.posix_words.specs.Nodes.{bytes_of, node_at}
-use Rattle.posix_words.specs.Open.{Tables}
+use Rattle.file_ends.specs.posix_words.declared.nodes.Node.{Node}
+use Rattle.file_ends.specs.posix_words.Nodes.{bytes_of, node_at}
+use Rattle.file_ends.specs.posix_words.Open.{Tables}
 use Rattle.world_standing.specs.posix_spec.State.{State}
 use Rattle.world_standing.specs.overlay_facts.Overlays.{IsOverlayOf, run_of}
 use Rattle.world_standing.proofs.overlay_facts_proofs.Overlays.{lays_beside, lays_entry}

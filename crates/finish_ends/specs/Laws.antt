@@ -1,11 +1,11 @@
 -- A write that is out, and once it is finished, each law as one statement.
 use Rattle.std.specs.Prelude.{◌≡◌, ◌≤◌, ℕ, Bool, List, [], ◌∷◌, ◌++◌}
-use Rattle.disk_places.specs.Places.{Geometry}
+use Rattle.file_ends.specs.disk_places.Places.{Geometry}
 use Rattle.file_ends.specs.Ends.{DraftEnds, FilesEnd}
 use Rattle.file_ends.specs.file_table.Files.{size_in}
 use Rattle.file_ends.specs.k_rules.View.{View}
-use Rattle.list_facts.specs.Members.{In}
-use Rattle.posix_words.specs.Open.{Tables}
+use Rattle.file_ends.specs.list_facts.Members.{In}
+use Rattle.file_ends.specs.posix_words.Open.{Tables}
 use Rattle.world_standing.specs.posix_spec.State.{State}
 use Rattle.world_standing.specs.Standing.{Kept, Pending, StandsAt}
 

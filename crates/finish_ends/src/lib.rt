@@ -15,3 +15,6 @@ pub fn finished_writes_end_with_their_files()
     ensures longer { LeavesNoShorter }
     ensures finished { EndFinished }
 {}
+
+pub use file_ends::{Commit, FileTable, Geometry};
+pub use world_standing::{FilledJob, Job, KSplit, Staging, put_lines};

@@ -2,13 +2,13 @@
 use Rattle.std.specs.Prelude.{◌≡◌, ◌⊎◌, ◌≤◌, ◌<◌, ◌+◌, ◌-◌, ◌/◌, ◌==◌, ℕ, Bool, true, false, List, [], ◌∷◌, length, max, min, sum_by, refl}
 use Rattle.std.specs.List.{list_any}
 use Rattle.std.proofs.Common.{arith, ap, ◌∙◌, sym, subst, inl, inr}
-use Rattle.block_counts.specs.Counts.{blocks_for, chains_for, held_by, reserve_for}
-use Rattle.disk_places.specs.Places.{data_blocks, Geometry, reserve}
+use Rattle.file_ends.specs.block_counts.Counts.{blocks_for, chains_for, held_by, reserve_for}
+use Rattle.file_ends.specs.disk_places.Places.{data_blocks, Geometry, reserve}
 use Rattle.file_ends.specs.disk_rules.Room.{unused_blocks}
 use Rattle.file_ends.proofs.k_plans_proofs.FreeCounts.{unwaiting-counted}
 use Rattle.file_ends.specs.k_rules.View.{View}
-use Rattle.posix_types.specs.declared.call.Mode.{Mode}
-use Rattle.posix_words.specs.Room.{growth, touched_below, write_need}
+use Rattle.file_ends.specs.posix_types.declared.call.Mode.{Mode}
+use Rattle.file_ends.specs.posix_words.Room.{growth, touched_below, write_need}
 use Rattle.write_drafts.specs.Drafts.{staged_count}
 use Rattle.write_drafts.specs.world_standing.k_split.MapChanges.{free_blocks_in}
 use Rattle.write_drafts.specs.world_standing.staging_files.GivesUp.{nothing_staged}

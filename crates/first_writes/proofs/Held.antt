@@ -4,30 +4,30 @@ use Rattle.std.specs.List.{range_with_len}
 use Rattle.std.proofs.Common.{arith, ap, ◌∙◌, sym, subst, inl, inr}
 use Rattle.std.proofs.lemmas.Bool.{cases_lt}
 use Rattle.std.proofs.lemmas.List.Sums.{sum_by-cons}
-use Rattle.block_counts.specs.Counts.{blocks_for, chains_for, held_by}
-use Rattle.pm_words.specs.ImageLaws.{IsImage-words_of}
-use Rattle.pm_words.specs.Images.{words_of}
-use Rattle.disk_lines.specs.declared.Draft.{Draft}
-use Rattle.disk_lines.specs.declared.Inode.{Inode}
-use Rattle.disk_lines.specs.declared.Kind.{Kind}
-use Rattle.disk_lines.specs.declared.Kind.TheVariants.{Directory, File, Free, Staging}
-use Rattle.disk_places.specs.Journal.{journaled}
-use Rattle.disk_places.specs.Places.{data_blocks, Geometry}
+use Rattle.file_ends.specs.block_counts.Counts.{blocks_for, chains_for, held_by}
+use Rattle.file_ends.specs.pm_words.ImageLaws.{IsImage-words_of}
+use Rattle.file_ends.specs.pm_words.Images.{words_of}
+use Rattle.file_ends.specs.disk_lines.declared.Draft.{Draft}
+use Rattle.file_ends.specs.disk_lines.declared.Inode.{Inode}
+use Rattle.file_ends.specs.disk_lines.declared.Kind.{Kind}
+use Rattle.file_ends.specs.disk_lines.declared.Kind.TheVariants.{Directory, File, Free, Staging}
+use Rattle.file_ends.specs.disk_places.Journal.{journaled}
+use Rattle.file_ends.specs.disk_places.Places.{data_blocks, Geometry}
 use Rattle.file_ends.specs.disk_rules.Live.{is_directory}
 use Rattle.file_ends.specs.disk_rules.Room.{unused_blocks}
 use Rattle.file_ends.specs.disk_rules.Rules.{file_blocks_of, IsKindAt}
 use Rattle.file_ends.specs.disk_rules.Volume.{chain, extents, inode, Volume}
-use Rattle.extent_facts.specs.Counts.{block_count-mapped, count_below-le, count_below-none, is_mapped}
-use Rattle.extent_facts.specs.Facts.{IsCanonical-tail}
-use Rattle.extent_words.specs.declared.Extent.{Extent}
-use Rattle.extent_words.specs.Extents.{block_count, disk_at, IsCanonical, IsExtent}
+use Rattle.file_ends.specs.extent_facts.Counts.{block_count-mapped, count_below-le, count_below-none, is_mapped}
+use Rattle.file_ends.specs.extent_facts.Facts.{IsCanonical-tail}
+use Rattle.file_ends.specs.extent_words.declared.Extent.{Extent}
+use Rattle.file_ends.specs.extent_words.Extents.{block_count, disk_at, IsCanonical, IsExtent}
 use Rattle.file_ends.specs.Ends.{FilesEnd}
 use Rattle.file_ends.specs.file_table.Files.{size_in}
 use Rattle.file_ends.proofs.k_plans_proofs.Wholes.{directory-bare, free-bare}
 use Rattle.file_ends.specs.k_plans.Whole.{IsWhole}
 use Rattle.file_ends.specs.k_rules.Stands.{Stands}
 use Rattle.file_ends.specs.k_rules.View.{View}
-use Rattle.posix_words.specs.Open.{Tables}
+use Rattle.file_ends.specs.posix_words.Open.{Tables}
 use Rattle.world_relinks.specs.posix_spec.State.{State}
 use Rattle.file_ends.specs.volume_uses.PoolLaws.{unused-held}
 use Rattle.file_ends.specs.volume_uses.Uses.{blocks_held, blocks_of}

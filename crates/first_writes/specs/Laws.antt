@@ -1,11 +1,11 @@
 -- The first write of a lap.
 use Rattle.std.specs.Prelude.{◌≡◌, ◌≤◌, ◌+◌, ℕ, Bool}
-use Rattle.disk_places.specs.Places.{data_blocks, Geometry}
+use Rattle.file_ends.specs.disk_places.Places.{data_blocks, Geometry}
 use Rattle.file_ends.specs.Ends.{FilesEnd}
 use Rattle.file_ends.specs.k_rules.View.{View}
-use Rattle.posix_types.specs.declared.call.Mode.{Mode}
-use Rattle.posix_words.specs.Open.{Tables}
-use Rattle.posix_words.specs.Room.{write_need}
+use Rattle.file_ends.specs.posix_types.declared.call.Mode.{Mode}
+use Rattle.file_ends.specs.posix_words.Open.{Tables}
+use Rattle.file_ends.specs.posix_words.Room.{write_need}
 use Rattle.world_relinks.specs.posix_spec.State.{State}
 use Rattle.write_drafts.specs.write_asks.Asks.{room_in}
 use Rattle.write_drafts.specs.Drafts.{staged_count}

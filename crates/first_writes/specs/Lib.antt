@@ -8,3 +8,9 @@ pub use Rattle.world_relinks.specs.posix_facts as posix_facts
 pub use Rattle.world_relinks.specs.posix_puts as posix_puts
 pub use Rattle.world_relinks.specs.posix_spec as posix_spec
 pub use Rattle.write_drafts.specs.write_jobs as write_jobs
+pub use Rattle.file_ends.specs.disk_lines as disk_lines
+pub use Rattle.file_ends.specs.disk_places as disk_places
+pub use Rattle.file_ends.specs.extent_words as extent_words
+pub use Rattle.file_ends.specs.list_facts as list_facts
+pub use Rattle.file_ends.specs.pm_words as pm_words
+pub use Rattle.write_drafts.specs.open_numbers as open_numbers

@@ -16,6 +16,5 @@ pub fn the_first_write_finds_its_blocks()
     ensures { FirstWriteFits }
 {}
 
-pub use file_ends::{file_table, k_journal};
-pub use write_drafts;
-pub use write_drafts::write_jobs;
+pub use file_ends::{Commit, FileTable};
+pub use write_drafts::Job;

@@ -6,19 +6,19 @@ use Rattle.std.proofs.lemmas.Bool.Decides.{Decides-eqb, nat_tests}
 use Rattle.std.proofs.lemmas.List.{length-append}
 use Rattle.std.proofs.lemmas.List.Folds.{list_any_at}
 use Rattle.std.proofs.lemmas.List.Quantifiers.{all_pairs_push}
-use Rattle.pm_words.specs.declared.Cell.{Cell}
-use Rattle.pm_words.specs.Cells.{cell, is_lent, is_single}
-use Rattle.pm_words.specs.ImageLaws.{IsImage-words_of}
-use Rattle.pm_words.specs.Images.{words_of}
-use Rattle.disk_lines.specs.declared.Draft.{Draft}
-use Rattle.disk_lines.specs.Entries.{is_draft}
-use Rattle.disk_places.specs.Journal.{journaled}
-use Rattle.disk_places.specs.Places.{Geometry, is_data_block, log_line, reserve}
+use Rattle.world_standing.specs.pm_words.declared.Cell.{Cell}
+use Rattle.world_standing.specs.pm_words.Cells.{cell, is_lent, is_single}
+use Rattle.world_standing.specs.pm_words.ImageLaws.{IsImage-words_of}
+use Rattle.world_standing.specs.pm_words.Images.{words_of}
+use Rattle.world_standing.specs.disk_lines.declared.Draft.{Draft}
+use Rattle.world_standing.specs.disk_lines.Entries.{is_draft}
+use Rattle.world_standing.specs.disk_places.Journal.{journaled}
+use Rattle.world_standing.specs.disk_places.Places.{Geometry, is_data_block, log_line, reserve}
 use Rattle.world_standing.specs.disk_rules.Room.{unused_blocks}
 use Rattle.world_standing.specs.disk_rules.Rules.{file_blocks_of}
 use Rattle.world_standing.specs.disk_rules.Volume.{extents, inode, Volume}
-use Rattle.extent_facts.specs.Covers.{covers-disk_at}
-use Rattle.extent_words.specs.Extents.{disk_at, is_within}
+use Rattle.world_standing.specs.extent_facts.Covers.{covers-disk_at}
+use Rattle.world_standing.specs.extent_words.Extents.{disk_at, is_within}
 use Rattle.world_standing.specs.file_table.Files.{spare_in}
 use Rattle.world_standing.specs.flight_facts.Flying.{IsFlying}
 use Rattle.world_standing.proofs.flight_facts_proofs.Flights.{flies_begun}
@@ -26,8 +26,8 @@ use Rattle.world_standing.specs.job_facts.Blocks.{GoOut, IsBeside}
 use Rattle.world_standing.specs.k_rules.Stands.{Stands}
 use Rattle.world_standing.specs.k_rules.View.{View}
 use Rattle.world_standing.specs.k_split.Order.{IsInOrder}
-use Rattle.list_facts.specs.Members.{In, pushed-In}
-use Rattle.posix_words.specs.Open.{Tables}
+use Rattle.world_standing.specs.list_facts.Members.{In, pushed-In}
+use Rattle.world_standing.specs.posix_words.Open.{Tables}
 use Rattle.world_standing.specs.posix_spec.State.{State}
 use Rattle.world_standing.specs.staging_files.Keeps.{Agrees, AreFreeSingle, has_block, is_kept_free, IsStaging}
 use Rattle.world_standing.proofs.staging_files_proofs.GiveUpLaws.{staging-file}

@@ -1,18 +1,18 @@
 -- A job that begins in flight, as one statement.
 use Rattle.std.specs.Prelude.{◌≡◌, ◌≤◌, ◌+◌, ℕ, true, Contains, List, [], ◌∷◌, ◌++◌, length}
-use Rattle.pm_words.specs.declared.Cell.{Cell}
-use Rattle.pm_words.specs.Images.{IsImage}
-use Rattle.pm_words.specs.Words.{Words}
-use Rattle.disk_places.specs.Journal.{journaled}
-use Rattle.disk_places.specs.Places.{Geometry, reserve}
+use Rattle.world_standing.specs.pm_words.declared.Cell.{Cell}
+use Rattle.world_standing.specs.pm_words.Images.{IsImage}
+use Rattle.world_standing.specs.pm_words.Words.{Words}
+use Rattle.world_standing.specs.disk_places.Journal.{journaled}
+use Rattle.world_standing.specs.disk_places.Places.{Geometry, reserve}
 use Rattle.world_standing.specs.disk_rules.Room.{unused_blocks}
 use Rattle.world_standing.specs.file_table.Files.{spare_in}
 use Rattle.world_standing.specs.job_facts.Blocks.{GoOut}
 use Rattle.world_standing.specs.k_rules.View.{View}
 use Rattle.world_standing.specs.k_split.Order.{IsInOrder}
-use Rattle.list_facts.specs.Members.{In}
+use Rattle.world_standing.specs.list_facts.Members.{In}
 use Rattle.world_standing.specs.posix_puts.Views.{need_of}
-use Rattle.posix_words.specs.Open.{Tables}
+use Rattle.world_standing.specs.posix_words.Open.{Tables}
 use Rattle.world_standing.specs.posix_spec.State.{room, State}
 use Rattle.world_standing.specs.world_promise.JobLaws.{needs}
 use Rattle.world_standing.specs.world_rules.Jobs.{AreApartJobs, Job, JobStands, live_claims}

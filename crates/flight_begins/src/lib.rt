@@ -15,4 +15,4 @@ pub fn a_job_begins_in_flight()
     ensures { StandsBegun }
 {}
 
-pub use world_standing::{file_table, map_collection, staging_files};
+pub use world_standing::{Collection, FileTable, StageRun};

@@ -3,19 +3,19 @@ use Rattle.std.specs.Prelude.{◌≡◌, ◌≤◌, ◌<◌, ◌+◌, ◌*◌, �
 use Rattle.std.specs.List.{list_any, range_with_len}
 use Rattle.std.specs.Option.{option_flatten, option_map_or}
 use Rattle.std.proofs.Common.{arith, ap, ◌∙◌, sym, subst, inl}
-use Rattle.pm_words.specs.declared.Cell.{Cell}
-use Rattle.pm_words.specs.Cells.{newest}
-use Rattle.pm_words.specs.Images.{words_of}
-use Rattle.pm_words.specs.Powers.{is_on, Supply}
-use Rattle.pm_words.specs.Words.{byte_of, Words}
-use Rattle.disk_places.specs.Journal.{journaled}
-use Rattle.disk_places.specs.PlaceLaws.{behind_log-words}
-use Rattle.disk_places.specs.Places.{Geometry, is_data_block}
-use Rattle.extent_facts.specs.Covers.{covers-disk_at}
-use Rattle.extent_words.specs.Extents.{disk_at}
-use Rattle.disk_lines.specs.declared.Draft.{Draft}
-use Rattle.disk_lines.specs.declared.Kind.{Kind}
-use Rattle.disk_lines.specs.declared.Kind.TheVariants.{Directory, File, Free, Staging}
+use Rattle.flight_names.specs.pm_words.declared.Cell.{Cell}
+use Rattle.flight_names.specs.pm_words.Cells.{newest}
+use Rattle.flight_names.specs.pm_words.Images.{words_of}
+use Rattle.flight_names.specs.pm_words.Powers.{is_on, Supply}
+use Rattle.flight_names.specs.pm_words.Words.{byte_of, Words}
+use Rattle.flight_names.specs.disk_places.Journal.{journaled}
+use Rattle.flight_names.specs.disk_places.PlaceLaws.{behind_log-words}
+use Rattle.flight_names.specs.disk_places.Places.{Geometry, is_data_block}
+use Rattle.flight_names.specs.extent_facts.Covers.{covers-disk_at}
+use Rattle.flight_names.specs.extent_words.Extents.{disk_at}
+use Rattle.flight_names.specs.disk_lines.declared.Draft.{Draft}
+use Rattle.flight_names.specs.disk_lines.declared.Kind.{Kind}
+use Rattle.flight_names.specs.disk_lines.declared.Kind.TheVariants.{Directory, File, Free, Staging}
 use Rattle.flight_names.specs.disk_rules.Content.{byte_in}
 use Rattle.flight_names.specs.disk_rules.Rules.{file_blocks_of}
 use Rattle.flight_names.specs.disk_rules.Volume.{extents, inode, Volume}
@@ -23,15 +23,15 @@ use Rattle.flight_names.specs.volume_facts.ImageLaws.{journaled-idle}
 use Rattle.flight_names.specs.volume_facts.LineWords.{data_word}
 use Rattle.flight_names.specs.volume_uses.PoolLaws.{covered-in_data}
 use Rattle.flight_names.specs.data_route.Reads.{read_len, source_by}
-use Rattle.file_overlay.specs.declared.runs.Run.{Run}
-use Rattle.file_overlay.specs.Runs.{staged_at}
+use Rattle.flight_names.specs.file_overlay.declared.runs.Run.{Run}
+use Rattle.flight_names.specs.file_overlay.Runs.{staged_at}
 use Rattle.flight_names.specs.file_reads.Reads.{block_in, block_of, bytes_in, FileCanBeRead, SourceCanBeRead}
 use Rattle.flight_names.specs.file_table.Files.{Files, runs_in, size_in}
 use Rattle.flight_names.proofs.flight_facts_proofs.Readable.{flies_readable}
 use Rattle.flight_names.specs.k_rules.View.{View}
-use Rattle.open_numbers.specs.Numbered.{described_as, numbered_as}
-use Rattle.open_numbers.proofs.Changes.{moves_alike}
-use Rattle.open_numbers.proofs.Lookups.{same_key}
+use Rattle.flight_names.specs.open_numbers.Numbered.{described_as, numbered_as}
+use Rattle.flight_names.proofs.open_numbers_proofs.Changes.{moves_alike}
+use Rattle.flight_names.proofs.open_numbers_proofs.Lookups.{same_key}
 use Rattle.posix_types.specs.declared.call.Call.{Call}
 use Rattle.posix_types.specs.declared.call.Who.{Who}
 use Rattle.posix_types.specs.declared.handle.Handle.{Handle}

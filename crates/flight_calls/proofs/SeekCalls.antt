@@ -1,11 +1,11 @@
 -- `seek`: the offset is set; and `fsync`, which no call sees.
 use Rattle.std.specs.Prelude.{◌≡◌, ℕ, true, [], ◌∷◌, Option, Some, None, is_none, unwrap_or, ℤ, Ok, refl}
 use Rattle.std.proofs.Common.{ap, ◌∙◌, inl}
-use Rattle.pm_words.specs.Powers.{is_on, Supply}
-use Rattle.disk_places.specs.Places.{Geometry}
+use Rattle.flight_names.specs.pm_words.Powers.{is_on, Supply}
+use Rattle.flight_names.specs.disk_places.Places.{Geometry}
 use Rattle.flight_names.specs.file_table.Files.{Files, size_in}
 use Rattle.flight_names.specs.k_rules.View.{View}
-use Rattle.open_numbers.specs.Numbered.{numbered_as}
+use Rattle.flight_names.specs.open_numbers.Numbered.{numbered_as}
 use Rattle.posix_types.specs.declared.call.Call.{Call}
 use Rattle.posix_types.specs.declared.call.Who.{Who}
 use Rattle.posix_types.specs.declared.handle.Handle.{Handle}

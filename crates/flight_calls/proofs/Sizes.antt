@@ -2,26 +2,26 @@
 use Rattle.std.specs.Prelude.{◌≡◌, ◌≤◌, ◌<◌, ◌==◌, ℕ, true, List, filter, Option, Some, None, refl}
 use Rattle.std.proofs.Common.{arith, sym, subst}
 use Rattle.std.proofs.lemmas.Bool.Decides.{nat_tests}
-use Rattle.pm_words.specs.ImageLaws.{IsImage-words_of}
-use Rattle.pm_words.specs.Images.{words_of}
-use Rattle.pm_words.specs.Words.{line_bytes, Words}
-use Rattle.disk_lines.specs.declared.Draft.{Draft}
-use Rattle.disk_lines.specs.declared.Inode.{Inode}
-use Rattle.disk_lines.specs.declared.Kind.{Kind}
-use Rattle.disk_lines.specs.declared.Kind.TheVariants.{Directory, File, Free, Staging}
-use Rattle.disk_lines.specs.Entries.{is_draft}
-use Rattle.disk_lines.specs.LineLaws.{IsInodeLine-decode_inode}
-use Rattle.disk_lines.specs.Lines.{is_inode_of_kind, most_bytes}
-use Rattle.disk_places.specs.Journal.{journaled}
-use Rattle.disk_places.specs.Places.{Geometry, inode_line}
+use Rattle.flight_names.specs.pm_words.ImageLaws.{IsImage-words_of}
+use Rattle.flight_names.specs.pm_words.Images.{words_of}
+use Rattle.flight_names.specs.pm_words.Words.{line_bytes, Words}
+use Rattle.flight_names.specs.disk_lines.declared.Draft.{Draft}
+use Rattle.flight_names.specs.disk_lines.declared.Inode.{Inode}
+use Rattle.flight_names.specs.disk_lines.declared.Kind.{Kind}
+use Rattle.flight_names.specs.disk_lines.declared.Kind.TheVariants.{Directory, File, Free, Staging}
+use Rattle.flight_names.specs.disk_lines.Entries.{is_draft}
+use Rattle.flight_names.specs.disk_lines.LineLaws.{IsInodeLine-decode_inode}
+use Rattle.flight_names.specs.disk_lines.Lines.{is_inode_of_kind, most_bytes}
+use Rattle.flight_names.specs.disk_places.Journal.{journaled}
+use Rattle.flight_names.specs.disk_places.Places.{Geometry, inode_line}
 use Rattle.flight_names.specs.disk_rules.Content.{size_by}
 use Rattle.flight_names.specs.disk_rules.Live.{latest}
 use Rattle.flight_names.specs.disk_rules.Reading.{Reads}
 use Rattle.flight_names.specs.disk_rules.Volume.{inode, Volume}
 use Rattle.flight_names.specs.file_table.Files.{size_in}
 use Rattle.flight_names.specs.k_rules.View.{View}
-use Rattle.list_facts.specs.Filters.{filter-In}
-use Rattle.list_facts.specs.Members.{In}
+use Rattle.flight_names.specs.list_facts.Filters.{filter-In}
+use Rattle.flight_names.specs.list_facts.Members.{In}
 use Rattle.posix_words.specs.Open.{Tables}
 use Rattle.flight_names.specs.posix_spec.State.{State}
 use Rattle.flight_names.specs.world_rules.Jobs.{live_claims}

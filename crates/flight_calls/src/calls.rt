@@ -1,15 +1,15 @@
 //! Any call that is built.
 ghost use Rattle.std.specs.Prelude.{◌≡◌, true};
-ghost use Rattle.pm_words.specs.Powers.{is_on, Steps};
+ghost use Rattle.flight_names.specs.pm_words.Powers.{is_on, Steps};
 ghost use Rattle.flight_names.specs.Answers.{most_steps, IsEnded, KeepsEnds};
 ghost use Rattle.flight_names.specs.Runs.{RunsInSome};
 ghost use Rattle.flight_calls.specs.Built.{CutsNothing, IsBuilt, NamesAreSpelled};
 
 use crate::reads::{fsync, pread, read, seek};
-use flight_names::file_table::FileTable;
-use flight_names::k_split::KSplit;
-use flight_names::open_files::OpenFiles;
-use flight_names::{NoMemory, Told, close, dup, list, mkdir, open, rename, rmdir, stat, unlink};
+use flight_names::{
+    FileTable, KSplit, NoMemory, OpenFiles, Told, close, dup, list, mkdir, open, rename, rmdir,
+    stat, unlink,
+};
 use pm_lines::Power;
 use posix_types::{Call, Who};
 use std::alloc::Global;

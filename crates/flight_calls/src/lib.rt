@@ -13,5 +13,5 @@ mod calls;
 mod reads;
 
 pub use calls::run_call;
-pub use flight_names;
+pub use flight_names::{NoMemory, Told};
 pub use reads::{fsync, pread, read, seek};

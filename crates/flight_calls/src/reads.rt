@@ -1,7 +1,7 @@
 //! The calls that look at an open file: its bytes, its offset, its length.
 ghost use Rattle.std.specs.Prelude.{◌≡◌, ◌<◌, length, false, true, IfNone, IfOk, IfSome, Ok};
-ghost use Rattle.pm_words.specs.Images.{words_of};
-ghost use Rattle.pm_words.specs.Powers.{is_on, Supply};
+ghost use Rattle.flight_names.specs.pm_words.Images.{words_of};
+ghost use Rattle.flight_names.specs.pm_words.Powers.{is_on, Supply};
 ghost use Rattle.flight_names.specs.data_route.Reads.{read_len};
 ghost use Rattle.flight_names.specs.file_reads.Reads.{bytes_in};
 ghost use Rattle.flight_names.specs.file_table.Files.{Files, runs_in, size_in};
@@ -12,12 +12,9 @@ ghost use Rattle.flight_names.specs.Answers.{IsEnded};
 ghost use Rattle.flight_calls.specs.Reading.{base_by, IsReadableFile, IsReadBy};
 ghost use Rattle.flight_names.specs.Runs.{RunsInSome};
 
-use flight_names::file_reads::read_bytes;
-use flight_names::file_table::FileTable;
-use flight_names::k_split::KSplit;
-use flight_names::map_collection::Collection;
-use flight_names::open_files::{OpenFiles, Opened};
-use flight_names::{NoMemory, Told, answered};
+use flight_names::{
+    Collection, FileTable, KSplit, NoMemory, OpenFiles, Opened, Told, answered, read_bytes,
+};
 use posix_types::{Data, Errno, Handle, Reply, Whence, Who};
 use posix_words::bytes::moved_place;
 use std::alloc::{AllocError, Global};

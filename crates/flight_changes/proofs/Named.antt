@@ -1,15 +1,15 @@
 -- The World rests on the bytes of the blocks that maps have.
 use Rattle.std.specs.Prelude.{◌≡◌, ◌<◌, ℕ, ◌+◌, ◌*◌, ◌-◌, ◌/◌, ◌%◌, ◌==◌, ◌&&◌, List, [], ◌∷◌, length, Option, Some, None, refl}
 use Rattle.std.proofs.Common.{arith, ◌∙◌}
-use Rattle.pm_words.specs.Words.{byte_of, Words}
-use Rattle.extent_words.specs.Extents.{disk_at, is_within}
-use Rattle.disk_lines.specs.declared.Draft.{Draft}
+use Rattle.world_jobs.specs.pm_words.Words.{byte_of, Words}
+use Rattle.world_jobs.specs.extent_words.Extents.{disk_at, is_within}
+use Rattle.world_jobs.specs.disk_lines.declared.Draft.{Draft}
 use Rattle.world_jobs.specs.disk_rules.Content.{byte_in, disk_by, disk_of, entry_of_block}
 use Rattle.world_jobs.specs.disk_rules.Volume.{extents, inode, Volume}
-use Rattle.posix_words.specs.Nodes.{node_at}
+use Rattle.world_jobs.specs.posix_words.Nodes.{node_at}
 use Rattle.world_jobs.specs.posix_spec.State.{State}
-use Rattle.list_facts.specs.Filters.{filter-In}
-use Rattle.list_facts.specs.Members.{In}
+use Rattle.world_jobs.specs.list_facts.Filters.{filter-In}
+use Rattle.world_jobs.specs.list_facts.Members.{In}
 use Rattle.world_jobs.specs.world_rules.Jobs.{Job, JobsStand, live_claims}
 use Rattle.world_jobs.specs.world_rules.Stands.{IsUsed, LogStands, number, Stands}
 use Rattle.world_jobs.specs.world_promise.JobLaws.{live_used}

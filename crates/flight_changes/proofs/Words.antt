@@ -2,12 +2,12 @@
 use Rattle.std.specs.Prelude.{◌≡◌, ◌≢◌, ◌⊎◌, ◌≤◌, ◌<◌, ℕ, ◌+◌, ◌*◌, ◌/◌, ◌%◌, ◌^◌, true, false, List, length}
 use Rattle.std.proofs.Common.{arith, ap, ◌∙◌, sym, subst, inl, inr}
 use Rattle.std.proofs.lemmas.Bool.Decides.{nat_tests}
-use Rattle.pm_words.specs.Bytes.{line_bytes-same}
-use Rattle.pm_words.specs.Words.{byte_of, line_bytes, Words}
-use Rattle.disk_places.specs.Journal.{is_journal_word, IsSound, journaled}
-use Rattle.disk_places.specs.PlaceLaws.{behind_log-not_journaled}
-use Rattle.disk_places.specs.Places.{base_word, commit_word, first_data, Geometry, is_data_block, log_block, log_line, state_line}
-use Rattle.disk_places.specs.Superblock.{geometry_at, has_magic, has_numbers, has_version}
+use Rattle.world_jobs.specs.pm_words.Bytes.{line_bytes-same}
+use Rattle.world_jobs.specs.pm_words.Words.{byte_of, line_bytes, Words}
+use Rattle.world_jobs.specs.disk_places.Journal.{is_journal_word, IsSound, journaled}
+use Rattle.world_jobs.specs.disk_places.PlaceLaws.{behind_log-not_journaled}
+use Rattle.world_jobs.specs.disk_places.Places.{base_word, commit_word, first_data, Geometry, is_data_block, log_block, log_line, state_line}
+use Rattle.world_jobs.specs.disk_places.Superblock.{geometry_at, has_magic, has_numbers, has_version}
 use Rattle.world_jobs.specs.disk_rules.Placed.{block_at, IsOutside}
 use Rattle.world_jobs.specs.disk_rules.Reading.{Reads}
 use Rattle.world_jobs.specs.disk_rules.Rules.{geometry_of, HasTarget}

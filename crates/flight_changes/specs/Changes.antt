@@ -1,11 +1,11 @@
 -- A change that writes blocks.
 use Rattle.std.specs.Prelude.{◌≡◌, ◌≢◌, ◌<◌, ℕ, true, List, length, Some}
-use Rattle.pm_words.specs.declared.Cell.{Cell}
-use Rattle.pm_words.specs.Images.{Follows}
-use Rattle.disk_places.specs.Places.{is_data_block}
+use Rattle.world_jobs.specs.pm_words.declared.Cell.{Cell}
+use Rattle.world_jobs.specs.pm_words.Images.{Follows}
+use Rattle.world_jobs.specs.disk_places.Places.{is_data_block}
 use Rattle.world_jobs.specs.disk_rules.Placed.{block_at}
 use Rattle.world_jobs.specs.disk_rules.Volume.{extents, Volume}
-use Rattle.extent_words.specs.Extents.{disk_at}
+use Rattle.world_jobs.specs.extent_words.Extents.{disk_at}
 use Rattle.world_jobs.specs.k_rules.Stands.{IsOldOrNew}
 
 -- Data blocks that no map of the volume has.

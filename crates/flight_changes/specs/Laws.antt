@@ -1,13 +1,13 @@
 -- Changes that write spare blocks, each law as one statement.
 use Rattle.std.specs.Prelude.{◌≡◌, ℕ, List, [], ◌∷◌, ◌++◌, map, Option}
-use Rattle.pm_words.specs.declared.Cell.{Cell}
-use Rattle.pm_words.specs.Images.{IsImage}
-use Rattle.pm_words.specs.Words.{Words}
-use Rattle.disk_lines.specs.declared.Draft.{Draft}
+use Rattle.world_jobs.specs.pm_words.declared.Cell.{Cell}
+use Rattle.world_jobs.specs.pm_words.Images.{IsImage}
+use Rattle.world_jobs.specs.pm_words.Words.{Words}
+use Rattle.world_jobs.specs.disk_lines.declared.Draft.{Draft}
 use Rattle.world_jobs.specs.disk_rules.Volume.{Volume}
 use Rattle.world_jobs.specs.k_rules.Stands.{Stands}
-use Rattle.posix_types.specs.declared.call.Mode.{Mode}
-use Rattle.posix_types.specs.declared.item.Item.{Item}
+use Rattle.world_jobs.specs.posix_types.declared.call.Mode.{Mode}
+use Rattle.world_jobs.specs.posix_types.declared.item.Item.{Item}
 use Rattle.world_jobs.specs.posix_spec.Run.{Begun}
 use Rattle.world_jobs.specs.posix_spec.State.{State}
 use Rattle.world_jobs.specs.world_rules.Jobs.{begun_of, Job}

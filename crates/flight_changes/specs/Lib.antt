@@ -17,3 +17,12 @@ pub use Rattle.world_jobs.specs.posix_facts as posix_facts
 pub use Rattle.world_jobs.specs.posix_puts as posix_puts
 pub use Rattle.world_jobs.specs.posix_spec as posix_spec
 pub use Rattle.world_jobs.specs.volume_facts as volume_facts
+pub use Rattle.world_jobs.specs.block_counts as block_counts
+pub use Rattle.world_jobs.specs.disk_lines as disk_lines
+pub use Rattle.world_jobs.specs.disk_places as disk_places
+pub use Rattle.world_jobs.specs.extent_facts as extent_facts
+pub use Rattle.world_jobs.specs.extent_words as extent_words
+pub use Rattle.world_jobs.specs.list_facts as list_facts
+pub use Rattle.world_jobs.specs.pm_words as pm_words
+pub use Rattle.world_jobs.specs.posix_types as posix_types
+pub use Rattle.world_jobs.specs.posix_words as posix_words

@@ -1,24 +1,24 @@
 -- The end of a file is cleaned in flight, done and cut off.
 use Rattle.std.specs.Prelude.{◌≡◌, ◌≤◌, ◌<◌, ◌+◌, ◌*◌, ◌/◌, ℕ, Bool, true, false, List, [], ◌∷◌, ◌++◌, length, map, refl}
 use Rattle.std.proofs.Common.{arith, ap, ◌∙◌, sym, subst}
-use Rattle.pm_words.specs.declared.Cell.{Cell}
-use Rattle.pm_words.specs.Cells.{cell, is_single}
-use Rattle.pm_words.specs.Images.{ComesFrom, IsImage}
-use Rattle.pm_words.specs.Words.{Words}
-use Rattle.extent_words.specs.Extents.{disk_at}
-use Rattle.disk_places.specs.Journal.{IsSound, journaled}
-use Rattle.disk_places.specs.Places.{Geometry, log_line}
+use Rattle.flight_changes.specs.pm_words.declared.Cell.{Cell}
+use Rattle.flight_changes.specs.pm_words.Cells.{cell, is_single}
+use Rattle.flight_changes.specs.pm_words.Images.{ComesFrom, IsImage}
+use Rattle.flight_changes.specs.pm_words.Words.{Words}
+use Rattle.flight_changes.specs.extent_words.Extents.{disk_at}
+use Rattle.flight_changes.specs.disk_places.Journal.{IsSound, journaled}
+use Rattle.flight_changes.specs.disk_places.Places.{Geometry, log_line}
 use Rattle.flight_changes.specs.disk_rules.Content.{size_of}
 use Rattle.flight_changes.specs.disk_rules.Volume.{extents, Volume}
-use Rattle.world_standing.specs.flight_facts.Flying.{IsFlying}
+use Rattle.write_drafts.specs.world_standing.flight_facts.Flying.{IsFlying}
 use Rattle.flight_changes.specs.k_rules.Stands.{Stands}
 use Rattle.flight_changes.specs.k_rules.View.{View}
-use Rattle.world_standing.specs.k_split.Bytes.{IsWrittenOver, Overwrites, tail_zeros}
-use Rattle.world_standing.specs.k_split.Order.{IsInOrder}
-use Rattle.posix_words.specs.Open.{Tables}
+use Rattle.write_drafts.specs.world_standing.k_split.Bytes.{IsWrittenOver, Overwrites, tail_zeros}
+use Rattle.write_drafts.specs.world_standing.k_split.Order.{IsInOrder}
+use Rattle.flight_changes.specs.posix_words.Open.{Tables}
 use Rattle.flight_changes.specs.posix_spec.Run.{run}
 use Rattle.flight_changes.specs.posix_spec.State.{State}
-use Rattle.world_standing.specs.staging_files.Keeps.{Agrees}
+use Rattle.write_drafts.specs.world_standing.staging_files.Keeps.{Agrees}
 use Rattle.flight_changes.specs.world_promise.TreeRules.{used_below}
 use Rattle.flight_changes.specs.world_rules.Jobs.{begun_of, live_claims}
 use Rattle.flight_changes.specs.world_rules.Stands.{is_used}
@@ -27,7 +27,7 @@ use Rattle.flight_changes.specs.world_images.Changed.{ShowsLog-same, sound_heade
 use Rattle.flight_changes.specs.world_images.Images.{HasLogHome, IsHeaded, ShowsWorld}
 use Rattle.flight_changes.specs.world_images.Promised.{IsKept}
 use Rattle.flight_changes.specs.world_lent.Flights.{leads_before, ShowsBack}
-use Rattle.world_standing.specs.Standing.{file_state, Kept, LinesStand, StandsAt}
+use Rattle.write_drafts.specs.world_standing.Standing.{file_state, Kept, LinesStand, StandsAt}
 use Rattle.flight_changes.proofs.Devices.{image_of, kept_leading, shows_back, small_lap}
 use Rattle.flight_changes.proofs.Words.{headed_changed, same_log}
 use Rattle.flight_cleans.specs.Laws.{KeepsCleaned, MayClean, StandsCleaned}

@@ -1,16 +1,16 @@
 -- Of a file the World reads the bytes before its end alone.
 use Rattle.std.specs.Prelude.{◌≡◌, ◌≢◌, ◌≤◌, ◌<◌, ℕ, ◌+◌, ◌*◌, ◌-◌, ◌/◌, ◌%◌, ◌==◌, ◌&&◌, List, [], ◌∷◌, length, Option, Some, None, refl}
 use Rattle.std.proofs.Common.{arith, ap, ◌∙◌, sym, subst, inl, inr}
-use Rattle.pm_words.specs.Words.{byte_of, Words}
-use Rattle.extent_words.specs.Extents.{disk_at, is_within}
-use Rattle.disk_lines.specs.declared.Draft.{Draft}
-use Rattle.disk_lines.specs.declared.Kind.TheVariants.{File, Staging}
+use Rattle.flight_changes.specs.pm_words.Words.{byte_of, Words}
+use Rattle.flight_changes.specs.extent_words.Extents.{disk_at, is_within}
+use Rattle.flight_changes.specs.disk_lines.declared.Draft.{Draft}
+use Rattle.flight_changes.specs.disk_lines.declared.Kind.TheVariants.{File, Staging}
 use Rattle.flight_changes.specs.disk_rules.Content.{byte_in, disk_by, disk_of, entry_of_block, size_of}
 use Rattle.flight_changes.specs.disk_rules.Volume.{extents, inode, Volume}
-use Rattle.posix_words.specs.Nodes.{node_at}
+use Rattle.flight_changes.specs.posix_words.Nodes.{node_at}
 use Rattle.flight_changes.specs.posix_spec.State.{State}
-use Rattle.list_facts.specs.Filters.{filter-In}
-use Rattle.list_facts.specs.Members.{In}
+use Rattle.flight_changes.specs.list_facts.Filters.{filter-In}
+use Rattle.flight_changes.specs.list_facts.Members.{In}
 use Rattle.flight_changes.specs.world_rules.Jobs.{Job, JobsStand, live_claims}
 use Rattle.flight_changes.specs.world_rules.Stands.{IsUsed, LogStands, number, Stands}
 use Rattle.flight_changes.specs.world_promise.JobLaws.{live_used}

@@ -4,16 +4,16 @@ use Rattle.std.proofs.Common.{arith, ap, ◌∙◌, sym, inl, inr}
 use Rattle.std.proofs.lemmas.Bool.{cases_eq}
 use Rattle.std.proofs.lemmas.List.{length-replicate}
 use Rattle.std.proofs.lemmas.Option.{same_Some}
-use Rattle.pm_words.specs.Words.{byte_of, Words}
-use Rattle.extent_words.specs.Extents.{disk_at}
-use Rattle.disk_places.specs.Journal.{IsSound, journaled}
-use Rattle.disk_places.specs.PlaceLaws.{behind_log-words}
-use Rattle.disk_places.specs.Places.{Geometry, is_data_block}
+use Rattle.flight_changes.specs.pm_words.Words.{byte_of, Words}
+use Rattle.flight_changes.specs.extent_words.Extents.{disk_at}
+use Rattle.flight_changes.specs.disk_places.Journal.{IsSound, journaled}
+use Rattle.flight_changes.specs.disk_places.PlaceLaws.{behind_log-words}
+use Rattle.flight_changes.specs.disk_places.Places.{Geometry, is_data_block}
 use Rattle.flight_changes.specs.disk_rules.Placed.{block_at, IsOutside}
 use Rattle.flight_changes.specs.disk_rules.Volume.{extents, Volume}
-use Rattle.world_standing.specs.block_bytes.Overwrites.{IsBeside, IsBesideBlocks}
+use Rattle.write_drafts.specs.world_standing.block_bytes.Overwrites.{IsBeside, IsBesideBlocks}
 use Rattle.flight_changes.specs.k_rules.Stands.{IsOldOrNew}
-use Rattle.world_standing.specs.k_split.Bytes.{IsWrittenOver, tail_zeros, zeros_behind}
+use Rattle.write_drafts.specs.world_standing.k_split.Bytes.{IsWrittenOver, tail_zeros, zeros_behind}
 use Rattle.flight_changes.specs.volume_facts.ImageLaws.{journaled-other}
 use Rattle.flight_changes.specs.volume_facts.LineWords.{data_word, data_word-not_journaled}
 use Rattle.flight_changes.specs.volume_uses.OwnerLaws.{IsOnePlace, one_owner}

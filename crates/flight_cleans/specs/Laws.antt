@@ -1,23 +1,23 @@
 -- The end of a file is cleaned, each law as one statement.
 use Rattle.std.specs.Prelude.{◌≡◌, ◌≢◌, ◌≤◌, ℕ, Bool, List, [], ◌∷◌, ◌++◌, map, Option}
-use Rattle.pm_words.specs.declared.Cell.{Cell}
-use Rattle.pm_words.specs.Words.{Words}
-use Rattle.disk_lines.specs.declared.Kind.TheVariants.{File}
-use Rattle.disk_places.specs.Places.{Geometry}
+use Rattle.flight_changes.specs.pm_words.declared.Cell.{Cell}
+use Rattle.flight_changes.specs.pm_words.Words.{Words}
+use Rattle.flight_changes.specs.disk_lines.declared.Kind.TheVariants.{File}
+use Rattle.flight_changes.specs.disk_places.Places.{Geometry}
 use Rattle.flight_changes.specs.disk_rules.Volume.{inode}
-use Rattle.world_standing.specs.file_table.Files.{size_in}
+use Rattle.write_drafts.specs.world_standing.file_table.Files.{size_in}
 use Rattle.flight_changes.specs.k_rules.View.{View}
-use Rattle.world_standing.specs.k_split.Bytes.{IsOverwriteCut, IsOverwriteDone, tail_zeros}
-use Rattle.list_facts.specs.Members.{In}
-use Rattle.posix_types.specs.declared.call.Mode.{Mode}
-use Rattle.posix_types.specs.declared.item.Item.{Item}
-use Rattle.posix_words.specs.Open.{Tables}
+use Rattle.write_drafts.specs.world_standing.k_split.Bytes.{IsOverwriteCut, IsOverwriteDone, tail_zeros}
+use Rattle.flight_changes.specs.list_facts.Members.{In}
+use Rattle.flight_changes.specs.posix_types.declared.call.Mode.{Mode}
+use Rattle.flight_changes.specs.posix_types.declared.item.Item.{Item}
+use Rattle.flight_changes.specs.posix_words.Open.{Tables}
 use Rattle.flight_changes.specs.posix_spec.Run.{Begun, run}
 use Rattle.flight_changes.specs.posix_spec.State.{State}
 use Rattle.flight_changes.specs.world_rules.Jobs.{begun_of, Job}
 use Rattle.flight_changes.specs.world_images.Promised.{IsKept}
 use Rattle.flight_changes.specs.world_lent.Back.{IsPutBack}
-use Rattle.world_standing.specs.Standing.{Kept, StandsAt}
+use Rattle.write_drafts.specs.world_standing.Standing.{Kept, StandsAt}
 
 -- A FILE MAY BE CLEANED from a place on: the file ends there or before, by what is kept of it, and no job that is out is of it.
 pub record MayClean (k : View) (kept : Kept) (jobs : List Job) (ino from : ℕ) : Type 0 where

@@ -18,4 +18,6 @@ pub fn the_end_of_a_file_is_cleaned_in_flight()
     ensures cut { KeepsCleaned }
 {}
 
-pub use world_standing::file_table;
+pub use write_drafts::{
+    Commit, FileTable, kept_numbers_are_those_of_the_state, room_by, truncate_row,
+};

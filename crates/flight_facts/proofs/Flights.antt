@@ -3,27 +3,27 @@ use Rattle.std.specs.Prelude.{◌≡◌, ◌≢◌, ◌<◌, ◌+◌, ◌/◌, �
 use Rattle.std.proofs.Common.{arith, ap, ◌∙◌, sym, subst, inl, inr}
 use Rattle.std.proofs.lemmas.Bool.{both_ways}
 use Rattle.std.proofs.lemmas.Bool.Decides.{nat_tests}
-use Rattle.pm_words.specs.declared.Cell.{Cell}
-use Rattle.pm_words.specs.declared.Cell.TheVariants.{Lent, Marked, Single, Two}
-use Rattle.pm_words.specs.Cells.{cell, is_lent, unmarked}
-use Rattle.pm_words.specs.ImageLaws.{IsImage-words_of}
-use Rattle.pm_words.specs.Images.{words_of}
-use Rattle.pm_words.specs.Parts.{Part}
-use Rattle.disk_places.specs.Journal.{journaled}
-use Rattle.disk_lines.specs.declared.Draft.{Draft}
-use Rattle.disk_lines.specs.declared.Kind.TheVariants.{File}
+use Rattle.overlay_facts.specs.pm_words.declared.Cell.{Cell}
+use Rattle.overlay_facts.specs.pm_words.declared.Cell.TheVariants.{Lent, Marked, Single, Two}
+use Rattle.overlay_facts.specs.pm_words.Cells.{cell, is_lent, unmarked}
+use Rattle.overlay_facts.specs.pm_words.ImageLaws.{IsImage-words_of}
+use Rattle.overlay_facts.specs.pm_words.Images.{words_of}
+use Rattle.overlay_facts.specs.pm_words.Parts.{Part}
+use Rattle.overlay_facts.specs.disk_places.Journal.{journaled}
+use Rattle.overlay_facts.specs.disk_lines.declared.Draft.{Draft}
+use Rattle.overlay_facts.specs.disk_lines.declared.Kind.TheVariants.{File}
 use Rattle.overlay_facts.specs.disk_rules.Volume.{inode, Volume}
-use Rattle.list_facts.specs.Members.{In, pushed-In}
+use Rattle.overlay_facts.specs.list_facts.Members.{In, pushed-In}
 use Rattle.overlay_facts.specs.posix_spec.State.{State}
-use Rattle.job_facts.specs.world_jobs.JobSteps.{Valid-front}
-use Rattle.job_facts.specs.world_promise.JobLaws.{live_claims-more}
-use Rattle.job_facts.specs.world_promise.Latest.{AreBelow-Consecutive}
-use Rattle.job_facts.specs.world_rules.Jobs.{IsStagedIn, Job, JobStands, live_claims, Valid}
-use Rattle.job_facts.specs.world_rules.Stands.{Consecutive, entries_of}
-use Rattle.job_facts.specs.write_jobs.Jobs.{loan_at}
-use Rattle.job_facts.specs.Blocks.{AreOut, ArePutBack, IsBeside}
-use Rattle.job_facts.proofs.Begins.{begins_job}
-use Rattle.job_facts.proofs.Ends.{finishes_job, gives_up_job}
+use Rattle.overlay_facts.specs.job_facts.world_jobs.JobSteps.{Valid-front}
+use Rattle.overlay_facts.specs.job_facts.world_promise.JobLaws.{live_claims-more}
+use Rattle.overlay_facts.specs.job_facts.world_promise.Latest.{AreBelow-Consecutive}
+use Rattle.overlay_facts.specs.job_facts.world_rules.Jobs.{IsStagedIn, Job, JobStands, live_claims, Valid}
+use Rattle.overlay_facts.specs.job_facts.world_rules.Stands.{Consecutive, entries_of}
+use Rattle.overlay_facts.specs.job_facts.write_jobs.Jobs.{loan_at}
+use Rattle.overlay_facts.specs.job_facts.Blocks.{AreOut, ArePutBack, IsBeside}
+use Rattle.overlay_facts.proofs.job_facts_proofs.Begins.{begins_job}
+use Rattle.overlay_facts.proofs.job_facts_proofs.Ends.{finishes_job, gives_up_job}
 use Rattle.overlay_facts.specs.Overlays.{IsOverlayOf, run_of}
 use Rattle.overlay_facts.proofs.Overlays.{lays_beside, lays_entry}
 use Rattle.flight_facts.specs.Flying.{AreOverlays, FileState, IsFlying, IsOut, with_entry}

@@ -4,19 +4,19 @@ use Rattle.std.proofs.Common.{arith, ap, ◌∙◌, sym, subst, inl, inr}
 use Rattle.std.proofs.lemmas.Bool.{cases_eq, cases_lt}
 use Rattle.std.proofs.lemmas.List.{get_or_past}
 use Rattle.std.proofs.lemmas.Option.{same_Some}
-use Rattle.pm_words.specs.Words.{Words}
-use Rattle.disk_lines.specs.declared.Draft.{Draft}
-use Rattle.disk_lines.specs.declared.Kind.TheVariants.{Staging}
+use Rattle.overlay_facts.specs.pm_words.Words.{Words}
+use Rattle.overlay_facts.specs.disk_lines.declared.Draft.{Draft}
+use Rattle.overlay_facts.specs.disk_lines.declared.Kind.TheVariants.{Staging}
 use Rattle.overlay_facts.specs.disk_rules.Rules.{AreApart}
 use Rattle.overlay_facts.specs.disk_rules.Volume.{free_inode, inode, Volume}
-use Rattle.list_facts.specs.Members.{In}
+use Rattle.overlay_facts.specs.list_facts.Members.{In}
 use Rattle.overlay_facts.specs.posix_spec.State.{State}
-use Rattle.job_facts.specs.volume_uses.OwnerLaws.{IsOnePlace, one_owner}
-use Rattle.job_facts.specs.world_promise.Lent.{once_named}
-use Rattle.job_facts.specs.world_rules.Jobs.{ApartFrom, AreApartJobs, IsStagedIn, Job, JobsStand, JobStands, staged_block}
-use Rattle.job_facts.specs.world_rules.Promised.{AreWhole}
-use Rattle.job_facts.specs.world_rules.Shown.{IsLent}
-use Rattle.job_facts.specs.world_rules.Stands.{IsSane}
+use Rattle.overlay_facts.specs.job_facts.volume_uses.OwnerLaws.{IsOnePlace, one_owner}
+use Rattle.overlay_facts.specs.job_facts.world_promise.Lent.{once_named}
+use Rattle.overlay_facts.specs.job_facts.world_rules.Jobs.{ApartFrom, AreApartJobs, IsStagedIn, Job, JobsStand, JobStands, staged_block}
+use Rattle.overlay_facts.specs.job_facts.world_rules.Promised.{AreWhole}
+use Rattle.overlay_facts.specs.job_facts.world_rules.Shown.{IsLent}
+use Rattle.overlay_facts.specs.job_facts.world_rules.Stands.{IsSane}
 
 -- ---- members
 

@@ -2,29 +2,29 @@
 use Rattle.std.specs.Prelude.{◌≡◌, ◌<◌, ◌+◌, ◌*◌, ◌%◌, ◌-◌, ◌/◌, ◌==◌, ◌&&◌, ℕ, Bool, true, false, List, length, Option, Some, None, option_map, refl}
 use Rattle.std.proofs.Common.{arith, ap, ◌∙◌, sym, subst, inl, inr}
 use Rattle.std.proofs.lemmas.Bool.Decides.{nat_tests}
-use Rattle.pm_words.specs.declared.Cell.{Cell}
-use Rattle.pm_words.specs.Cells.{cell, is_lent}
-use Rattle.pm_words.specs.ImageLaws.{IsImage-words_of}
-use Rattle.pm_words.specs.Images.{words_of}
-use Rattle.disk_places.specs.Journal.{journaled}
-use Rattle.disk_places.specs.Places.{Geometry, is_data_block, log_line}
+use Rattle.overlay_facts.specs.pm_words.declared.Cell.{Cell}
+use Rattle.overlay_facts.specs.pm_words.Cells.{cell, is_lent}
+use Rattle.overlay_facts.specs.pm_words.ImageLaws.{IsImage-words_of}
+use Rattle.overlay_facts.specs.pm_words.Images.{words_of}
+use Rattle.overlay_facts.specs.disk_places.Journal.{journaled}
+use Rattle.overlay_facts.specs.disk_places.Places.{Geometry, is_data_block, log_line}
 use Rattle.overlay_facts.specs.data_route.declared.reads.Source.TheVariants.{Staged}
 use Rattle.overlay_facts.specs.data_route.Reads.{source_by, source_of}
-use Rattle.disk_lines.specs.declared.Draft.{Draft}
-use Rattle.disk_lines.specs.declared.Kind.TheVariants.{File}
+use Rattle.overlay_facts.specs.disk_lines.declared.Draft.{Draft}
+use Rattle.overlay_facts.specs.disk_lines.declared.Kind.TheVariants.{File}
 use Rattle.overlay_facts.specs.disk_rules.Content.{disk_of, entry_of_block}
 use Rattle.overlay_facts.specs.disk_rules.Volume.{extents, inode, Volume}
-use Rattle.extent_words.specs.Extents.{disk_at, is_within}
-use Rattle.file_overlay.specs.Runs.{place_in}
+use Rattle.overlay_facts.specs.extent_words.Extents.{disk_at, is_within}
+use Rattle.overlay_facts.specs.file_overlay.Runs.{place_in}
 use Rattle.overlay_facts.specs.file_reads.Reads.{IsReadable, SourceCanBeRead}
-use Rattle.list_facts.specs.Filters.{filter-In}
-use Rattle.list_facts.specs.Members.{In}
+use Rattle.overlay_facts.specs.list_facts.Filters.{filter-In}
+use Rattle.overlay_facts.specs.list_facts.Members.{In}
 use Rattle.overlay_facts.specs.posix_spec.State.{State}
-use Rattle.job_facts.specs.world_promise.Latest.{latest-In}
-use Rattle.job_facts.specs.world_promise.Lent.{disk_of-in_data, not_lent}
-use Rattle.job_facts.specs.world_rules.Jobs.{IsStagedIn, Job, live_claims}
-use Rattle.job_facts.specs.world_rules.Stands.{is_used}
-use Rattle.job_facts.specs.world_steps.Worlds.{IsWorld}
+use Rattle.overlay_facts.specs.job_facts.world_promise.Latest.{latest-In}
+use Rattle.overlay_facts.specs.job_facts.world_promise.Lent.{disk_of-in_data, not_lent}
+use Rattle.overlay_facts.specs.job_facts.world_rules.Jobs.{IsStagedIn, Job, live_claims}
+use Rattle.overlay_facts.specs.job_facts.world_rules.Stands.{is_used}
+use Rattle.overlay_facts.specs.job_facts.world_steps.Worlds.{IsWorld}
 use Rattle.overlay_facts.specs.Overlays.{run_of}
 use Rattle.overlay_facts.proofs.Overlays.{overlay_is_log, source_is_log}
 use Rattle.flight_facts.specs.Flying.{FileState, IsFlying}

@@ -1,20 +1,20 @@
 -- The World in flight, in strict mode: the device with writes out, and what is kept of files beside their inodes.
 use Rattle.std.specs.Prelude.{◌≡◌, ◌⊎◌, ◌<◌, ◌/◌, ◌==◌, ℕ, true, List, [], ◌∷◌, ◌++◌, if◌then◌else◌}
-use Rattle.pm_words.specs.declared.Cell.{Cell}
-use Rattle.pm_words.specs.Cells.{AllHome, cell, is_lent}
-use Rattle.pm_words.specs.Parts.{Part}
-use Rattle.disk_places.specs.Places.{log_line}
-use Rattle.disk_lines.specs.declared.Draft.{Draft}
-use Rattle.disk_lines.specs.declared.Kind.TheVariants.{File}
+use Rattle.overlay_facts.specs.pm_words.declared.Cell.{Cell}
+use Rattle.overlay_facts.specs.pm_words.Cells.{AllHome, cell, is_lent}
+use Rattle.overlay_facts.specs.pm_words.Parts.{Part}
+use Rattle.overlay_facts.specs.disk_places.Places.{log_line}
+use Rattle.overlay_facts.specs.disk_lines.declared.Draft.{Draft}
+use Rattle.overlay_facts.specs.disk_lines.declared.Kind.TheVariants.{File}
 use Rattle.overlay_facts.specs.disk_rules.Volume.{inode, Volume}
-use Rattle.file_overlay.specs.declared.runs.Run.{Run}
-use Rattle.list_facts.specs.Members.{In}
+use Rattle.overlay_facts.specs.file_overlay.declared.runs.Run.{Run}
+use Rattle.overlay_facts.specs.list_facts.Members.{In}
 use Rattle.overlay_facts.specs.posix_spec.State.{State}
-use Rattle.job_facts.specs.world_images.Images.{StandsFor}
-use Rattle.job_facts.specs.world_rules.Jobs.{IsStagedIn, Job, live_claims}
-use Rattle.job_facts.specs.world_rules.Promised.{AreWhole}
-use Rattle.job_facts.specs.write_jobs.Jobs.{loan_at}
-use Rattle.job_facts.specs.Blocks.{AreOut}
+use Rattle.overlay_facts.specs.job_facts.world_images.Images.{StandsFor}
+use Rattle.overlay_facts.specs.job_facts.world_rules.Jobs.{IsStagedIn, Job, live_claims}
+use Rattle.overlay_facts.specs.job_facts.world_rules.Promised.{AreWhole}
+use Rattle.overlay_facts.specs.job_facts.write_jobs.Jobs.{loan_at}
+use Rattle.overlay_facts.specs.job_facts.Blocks.{AreOut}
 use Rattle.overlay_facts.specs.Overlays.{IsOverlayOf, run_of}
 
 -- what is kept of a file: its staged runs, in the order in which they were laid, and its size by them

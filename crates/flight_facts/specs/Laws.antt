@@ -1,25 +1,25 @@
 -- How jobs come and go in flight, each law as one statement.
 use Rattle.std.specs.Prelude.{◌≡◌, ◌≤◌, ◌+◌, ℕ, List, [], ◌∷◌, ◌++◌, length}
-use Rattle.pm_words.specs.declared.Cell.{Cell}
-use Rattle.pm_words.specs.Images.{IsImage}
-use Rattle.pm_words.specs.Parts.{Part}
-use Rattle.pm_words.specs.Words.{Words}
-use Rattle.disk_places.specs.Journal.{journaled}
-use Rattle.disk_places.specs.Places.{reserve}
-use Rattle.disk_lines.specs.declared.Draft.{Draft}
+use Rattle.overlay_facts.specs.pm_words.declared.Cell.{Cell}
+use Rattle.overlay_facts.specs.pm_words.Images.{IsImage}
+use Rattle.overlay_facts.specs.pm_words.Parts.{Part}
+use Rattle.overlay_facts.specs.pm_words.Words.{Words}
+use Rattle.overlay_facts.specs.disk_places.Journal.{journaled}
+use Rattle.overlay_facts.specs.disk_places.Places.{reserve}
+use Rattle.overlay_facts.specs.disk_lines.declared.Draft.{Draft}
 use Rattle.overlay_facts.specs.disk_rules.Room.{unused_blocks}
-use Rattle.disk_lines.specs.declared.Kind.TheVariants.{File}
+use Rattle.overlay_facts.specs.disk_lines.declared.Kind.TheVariants.{File}
 use Rattle.overlay_facts.specs.disk_rules.Volume.{inode, Volume}
 use Rattle.overlay_facts.specs.file_reads.Reads.{FileCanBeRead}
 use Rattle.overlay_facts.specs.k_rules.Stands.{Stands}
-use Rattle.list_facts.specs.Members.{In}
+use Rattle.overlay_facts.specs.list_facts.Members.{In}
 use Rattle.overlay_facts.specs.posix_puts.Views.{need_of}
 use Rattle.overlay_facts.specs.posix_spec.Run.{after_call}
 use Rattle.overlay_facts.specs.posix_spec.State.{room, State}
-use Rattle.job_facts.specs.world_promise.JobLaws.{needs}
-use Rattle.job_facts.specs.world_rules.Jobs.{AreApartJobs, begun_of, Job, JobStands, live_claims}
-use Rattle.job_facts.specs.write_jobs.Jobs.{HoldWords}
-use Rattle.job_facts.specs.Blocks.{ArePutBack, GoOut, SpellWhole}
+use Rattle.overlay_facts.specs.job_facts.world_promise.JobLaws.{needs}
+use Rattle.overlay_facts.specs.job_facts.world_rules.Jobs.{AreApartJobs, begun_of, Job, JobStands, live_claims}
+use Rattle.overlay_facts.specs.job_facts.write_jobs.Jobs.{HoldWords}
+use Rattle.overlay_facts.specs.job_facts.Blocks.{ArePutBack, GoOut, SpellWhole}
 use Rattle.flight_facts.specs.Flying.{AreHomeLoans, FileState, IsFlying, with_entry}
 
 -- A JOB BEGINS, last of those in flight: its blocks go out.

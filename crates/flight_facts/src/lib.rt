@@ -19,5 +19,4 @@ pub fn flights_come_and_go()
     ensures readable { FliesReadable }
 {}
 
-pub use job_facts::write_jobs;
-pub use overlay_facts::{file_reads, map_collection};
+pub use overlay_facts::{Collection, Filled, FilledJob, Job, read_bytes, staged_words};

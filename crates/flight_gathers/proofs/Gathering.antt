@@ -2,27 +2,27 @@
 use Rattle.std.specs.Prelude.{◌≡◌, ◌≢◌, ◌<◌, ◌≤◌, ◌^◌, ℕ, zero, suc, false, List, [], length, Ok, refl}
 use Rattle.std.proofs.Common.{arith, ap, ◌∙◌, sym, subst, inl, inr}
 use Rattle.std.proofs.lemmas.Bool.{cases_eq, cases_lt}
-use Rattle.disk_lines.specs.declared.Kind.TheVariants.{File}
-use Rattle.disk_lines.specs.Lines.{most_bytes}
-use Rattle.disk_places.specs.Places.{Geometry}
-use Rattle.flight_laps.specs.disk_rules.Volume.{inode}
-use Rattle.file_overlay.specs.declared.runs.Run.{Run}
-use Rattle.flight_laps.specs.file_table.Files.{Files, runs_in, size_in}
+use Rattle.flight_relinks.specs.disk_lines.declared.Kind.TheVariants.{File}
+use Rattle.flight_relinks.specs.disk_lines.Lines.{most_bytes}
+use Rattle.flight_relinks.specs.disk_places.Places.{Geometry}
+use Rattle.flight_relinks.specs.flight_laps.disk_rules.Volume.{inode}
+use Rattle.flight_relinks.specs.file_overlay.declared.runs.Run.{Run}
+use Rattle.flight_relinks.specs.flight_laps.file_table.Files.{Files, runs_in, size_in}
 use Rattle.flight_relinks.specs.fsync_relink.Publishes.{IsPublishDone, IsPublishStopped, MayPublish}
-use Rattle.flight_laps.specs.k_journal.declared.outcomes.Commit.{Commit}
+use Rattle.flight_relinks.specs.flight_laps.k_journal.declared.outcomes.Commit.{Commit}
 use Rattle.flight_relinks.specs.k_map_plans.Plans.{IsLiveFile}
-use Rattle.flight_laps.specs.k_rules.View.{View}
+use Rattle.flight_relinks.specs.flight_laps.k_rules.View.{View}
 use Rattle.flight_relinks.specs.k_split.declared.faults.KFault.{KFault}
 use Rattle.flight_relinks.specs.k_split.Laps.{HasNextLap}
-use Rattle.standing_facts.proofs.log_checkpoint_proofs.Laps.{still-next}
-use Rattle.standing_facts.specs.log_checkpoint.Gathers.{AreAllDone, AreDone, AreDoneUpTo, IsGatheredTo, IsLineDone, IsLineStopped}
-use Rattle.posix_types.specs.declared.call.Mode.{Mode}
-use Rattle.posix_types.specs.declared.item.Item.{Item}
-use Rattle.posix_words.specs.Open.{Tables}
-use Rattle.flight_laps.specs.posix_spec.Run.{run}
-use Rattle.flight_laps.specs.posix_spec.State.{State}
+use Rattle.flight_relinks.proofs.standing_facts_proofs.log_checkpoint_proofs.Laps.{still-next}
+use Rattle.flight_relinks.specs.standing_facts.log_checkpoint.Gathers.{AreAllDone, AreDone, AreDoneUpTo, IsGatheredTo, IsLineDone, IsLineStopped}
+use Rattle.flight_relinks.specs.posix_types.declared.call.Mode.{Mode}
+use Rattle.flight_relinks.specs.posix_types.declared.item.Item.{Item}
+use Rattle.flight_relinks.specs.posix_words.Open.{Tables}
+use Rattle.flight_relinks.specs.flight_laps.posix_spec.Run.{run}
+use Rattle.flight_relinks.specs.flight_laps.posix_spec.State.{State}
 use Rattle.flight_relinks.specs.staging_files.Keeps.{Staged}
-use Rattle.standing_facts.specs.Laws.{StandsToPublish}
+use Rattle.flight_relinks.specs.standing_facts.Laws.{StandsToPublish}
 use Rattle.flight_relinks.specs.world_images.Images.{IsRunning, StandsFor}
 use Rattle.flight_relinks.specs.world_images.Promised.{KeepsPromise}
 use Rattle.flight_relinks.specs.world_images.Running.{promise_now}
@@ -32,7 +32,7 @@ use Rattle.flight_relinks.specs.world_rules.Stands.{is_used}
 use Rattle.flight_relinks.specs.world_steps.Steps.{AreBeside}
 use Rattle.flight_relinks.specs.world_steps.Touched.{only}
 use Rattle.flight_relinks.specs.world_standing.Standing.{Kept, StandsAt}
-use Rattle.flight_laps.specs.Laws.{HasNoRuns, KeepsLapped, StandsLapped}
+use Rattle.flight_relinks.specs.flight_laps.Laws.{HasNoRuns, KeepsLapped, StandsLapped}
 use Rattle.flight_relinks.specs.Laws.{KeepsPublishedHome, StandsPublished, StandsThen}
 use Rattle.flight_gathers.specs.Laws.{AreSmall, KeepsGathered, StandsGathered, with_table}
 use Rattle.flight_gathers.proofs.Tables.{all-cleared, cleared, cleared-none, cleared-size, cleared-sizes, clears-next, left-runs, no-jobs, stands-same}

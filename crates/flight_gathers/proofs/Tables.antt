@@ -3,14 +3,14 @@ use Rattle.std.specs.Prelude.{◌≡◌, ◌≢◌, ◌<◌, ◌≤◌, ℕ, zer
 use Rattle.std.proofs.Common.{arith, ap, ◌∙◌, sym, subst, inl, inr, get_or}
 use Rattle.std.proofs.lemmas.Bool.{cases_lt}
 use Rattle.std.proofs.lemmas.List.{set-get_or}
-use Rattle.disk_places.specs.Places.{Geometry}
-use Rattle.file_overlay.specs.Runs.{Overlaid}
-use Rattle.flight_laps.specs.file_table.Files.{ChangesFile, Files, nothing_laid, runs_in, size_in, spare_in}
-use Rattle.flight_laps.specs.k_rules.View.{View}
-use Rattle.list_facts.specs.Members.{In}
-use Rattle.standing_facts.specs.log_checkpoint.Gathers.{AreCleared}
-use Rattle.posix_words.specs.Open.{Tables}
-use Rattle.flight_laps.specs.posix_spec.State.{State}
+use Rattle.flight_relinks.specs.disk_places.Places.{Geometry}
+use Rattle.flight_relinks.specs.file_overlay.Runs.{Overlaid}
+use Rattle.flight_relinks.specs.flight_laps.file_table.Files.{ChangesFile, Files, nothing_laid, runs_in, size_in, spare_in}
+use Rattle.flight_relinks.specs.flight_laps.k_rules.View.{View}
+use Rattle.flight_relinks.specs.list_facts.Members.{In}
+use Rattle.flight_relinks.specs.standing_facts.log_checkpoint.Gathers.{AreCleared}
+use Rattle.flight_relinks.specs.posix_words.Open.{Tables}
+use Rattle.flight_relinks.specs.flight_laps.posix_spec.State.{State}
 use Rattle.flight_relinks.specs.world_rules.Jobs.{Job}
 use Rattle.flight_relinks.specs.world_standing.Standing.{AreJobsOf, Kept, Pending, StandsAt}
 use Rattle.flight_relinks.specs.Laws.{StandsThen}

@@ -1,24 +1,24 @@
 -- A gathering of all that is staged, in a World with its log lines at home and no write in flight: each law as one
 -- statement.
 use Rattle.std.specs.Prelude.{◌≡◌, ◌≤◌, ◌^◌, ℕ, false, All, List, [], Ok}
-use Rattle.pm_words.specs.Images.{IsImage}
-use Rattle.pm_words.specs.Words.{Words}
-use Rattle.disk_lines.specs.Lines.{most_bytes}
-use Rattle.disk_places.specs.Places.{Geometry}
-use Rattle.flight_laps.specs.file_table.Files.{Files}
-use Rattle.flight_laps.specs.k_journal.declared.outcomes.Commit.{Commit}
-use Rattle.flight_laps.specs.k_rules.View.{View}
+use Rattle.flight_relinks.specs.pm_words.Images.{IsImage}
+use Rattle.flight_relinks.specs.pm_words.Words.{Words}
+use Rattle.flight_relinks.specs.disk_lines.Lines.{most_bytes}
+use Rattle.flight_relinks.specs.disk_places.Places.{Geometry}
+use Rattle.flight_relinks.specs.flight_laps.file_table.Files.{Files}
+use Rattle.flight_relinks.specs.flight_laps.k_journal.declared.outcomes.Commit.{Commit}
+use Rattle.flight_relinks.specs.flight_laps.k_rules.View.{View}
 use Rattle.flight_relinks.specs.k_split.Laps.{HasNextLap}
-use Rattle.standing_facts.specs.log_checkpoint.Gathers.{IsGatherAnswer}
-use Rattle.posix_types.specs.declared.call.Mode.{Mode}
-use Rattle.posix_types.specs.declared.item.Item.{Item}
-use Rattle.posix_words.specs.Open.{Tables}
-use Rattle.flight_laps.specs.posix_spec.Run.{run}
-use Rattle.flight_laps.specs.posix_spec.State.{State}
+use Rattle.flight_relinks.specs.standing_facts.log_checkpoint.Gathers.{IsGatherAnswer}
+use Rattle.flight_relinks.specs.posix_types.declared.call.Mode.{Mode}
+use Rattle.flight_relinks.specs.posix_types.declared.item.Item.{Item}
+use Rattle.flight_relinks.specs.posix_words.Open.{Tables}
+use Rattle.flight_relinks.specs.flight_laps.posix_spec.Run.{run}
+use Rattle.flight_relinks.specs.flight_laps.posix_spec.State.{State}
 use Rattle.flight_relinks.specs.staging_files.Keeps.{Staged}
 use Rattle.flight_relinks.specs.world_images.Promised.{KeepsPromise}
 use Rattle.flight_relinks.specs.world_standing.Standing.{Kept, StandsAt}
-use Rattle.flight_laps.specs.Laws.{lapped}
+use Rattle.flight_relinks.specs.flight_laps.Laws.{lapped}
 use Rattle.flight_relinks.specs.world_images.Images.{HasOldLines}
 
 -- what the World keeps, with this table

@@ -1,3 +1,3 @@
 pub mod Laws
 pub use Rattle.flight_relinks.specs as flight_relinks
-pub use Rattle.standing_facts.specs as standing_facts
+pub use Rattle.flight_relinks.specs.standing_facts as standing_facts

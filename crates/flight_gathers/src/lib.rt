@@ -11,9 +11,7 @@
 
 ghost use Rattle.flight_gathers.specs.Laws.{KeepsGathered, StandsGathered};
 
-use flight_laps::the_next_lap_begins;
-use flight_relinks::a_file_is_published;
-use standing_facts::what_stands_may_be_published;
+use flight_relinks::{a_file_is_published, the_next_lap_begins, what_stands_may_be_published};
 
 /// All that is staged is gathered: they stand together behind it, and where the power goes in it,
 /// each image is kept.
@@ -26,4 +24,4 @@ pub fn all_files_are_gathered()
     the_next_lap_begins();
 }
 
-pub use standing_facts;
+pub use flight_relinks::what_stands_may_be_gathered;

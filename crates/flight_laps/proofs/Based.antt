@@ -1,41 +1,41 @@
 -- The log base of the next lap is set while nothing is live: what that leaves of a running World.
 use Rattle.std.specs.Prelude.{◌≡◌, ◌≢◌, ◌⊎◌, ◌≤◌, ◌<◌, ◌+◌, ◌*◌, ◌/◌, ◌^◌, ℕ, true, List, [], Option, Some, None, is_some, refl}
 use Rattle.std.proofs.Common.{arith, ap, ◌∙◌, sym, subst, inl, inr, append-nil}
-use Rattle.pm_words.specs.declared.Cell.{Cell}
-use Rattle.pm_words.specs.Bytes.{line_bytes-same}
-use Rattle.pm_words.specs.Images.{Follows, IsImage}
-use Rattle.pm_words.specs.Words.{line_bytes, Words}
-use Rattle.log_checkpoint.specs.crash_spec.Permitted.{Permitted}
-use Rattle.disk_places.specs.Journal.{IsSound, journaled}
-use Rattle.disk_places.specs.PlaceLaws.{behind_log-not_journaled, behind_log-words}
-use Rattle.disk_places.specs.Places.{base_word, commit_word, Geometry, is_data_block, log_line, state_line}
-use Rattle.disk_places.specs.Superblock.{geometry_at, has_magic, has_numbers, has_version}
-use Rattle.disk_lines.specs.declared.Draft.{Draft}
-use Rattle.disk_lines.specs.Entries.{decode_entry, held_seq, is_self_valid}
-use Rattle.disk_lines.specs.EntryLaws.{held_seq-decode_entry}
-use Rattle.log_checkpoint.specs.disk_rules.Live.{entry_in}
-use Rattle.log_checkpoint.specs.disk_rules.Reading.{base_set, Reads}
-use Rattle.log_checkpoint.specs.disk_rules.Room.{unused_blocks}
-use Rattle.log_checkpoint.specs.disk_rules.Rules.{geometry_of, HasTarget}
-use Rattle.log_checkpoint.specs.disk_rules.Volume.{Volume}
-use Rattle.log_checkpoint.specs.image_facts.ViewLaws.{head_word, sound-targets}
-use Rattle.log_checkpoint.specs.k_rules.Stands.{IsOldOrNew, Stands}
-use Rattle.posix_types.specs.declared.item.Item.{Item}
-use Rattle.log_checkpoint.specs.posix_spec.Run.{Begun}
-use Rattle.log_checkpoint.specs.posix_spec.State.{State}
-use Rattle.log_checkpoint.specs.posix_spec.Tree.{tree}
-use Rattle.log_checkpoint.specs.volume_facts.Footprint.{SameLog}
-use Rattle.log_checkpoint.specs.volume_facts.ImageLaws.{journaled-other}
-use Rattle.log_checkpoint.specs.volume_uses.OwnerLaws.{owners-base}
-use Rattle.world_standing.specs.world_images.Changed.{IsWorld-words, same_data, same_word, SameLog-changed, ShowsLog-same, sound_headed}
-use Rattle.world_standing.specs.world_images.Images.{HasOldLines, HasRoom, IsHeaded, IsRunning, ShowsLog, ShowsWorld}
-use Rattle.world_standing.specs.world_images.Kept.{kept_one}
-use Rattle.world_standing.specs.world_images.Promised.{KeepsPromise}
-use Rattle.log_checkpoint.specs.world_jobs.JobSteps.{lap}
-use Rattle.log_checkpoint.specs.world_room.Free.{frees_as_many}
-use Rattle.log_checkpoint.specs.world_rules.Jobs.{live_claims}
-use Rattle.log_checkpoint.specs.world_rules.Shown.{SameButLent}
-use Rattle.log_checkpoint.specs.world_steps.Worlds.{IsWorld}
+use Rattle.standing_facts.specs.pm_words.declared.Cell.{Cell}
+use Rattle.standing_facts.specs.pm_words.Bytes.{line_bytes-same}
+use Rattle.standing_facts.specs.pm_words.Images.{Follows, IsImage}
+use Rattle.standing_facts.specs.pm_words.Words.{line_bytes, Words}
+use Rattle.standing_facts.specs.log_checkpoint.crash_spec.Permitted.{Permitted}
+use Rattle.standing_facts.specs.disk_places.Journal.{IsSound, journaled}
+use Rattle.standing_facts.specs.disk_places.PlaceLaws.{behind_log-not_journaled, behind_log-words}
+use Rattle.standing_facts.specs.disk_places.Places.{base_word, commit_word, Geometry, is_data_block, log_line, state_line}
+use Rattle.standing_facts.specs.disk_places.Superblock.{geometry_at, has_magic, has_numbers, has_version}
+use Rattle.standing_facts.specs.disk_lines.declared.Draft.{Draft}
+use Rattle.standing_facts.specs.disk_lines.Entries.{decode_entry, held_seq, is_self_valid}
+use Rattle.standing_facts.specs.disk_lines.EntryLaws.{held_seq-decode_entry}
+use Rattle.standing_facts.specs.log_checkpoint.disk_rules.Live.{entry_in}
+use Rattle.standing_facts.specs.log_checkpoint.disk_rules.Reading.{base_set, Reads}
+use Rattle.standing_facts.specs.log_checkpoint.disk_rules.Room.{unused_blocks}
+use Rattle.standing_facts.specs.log_checkpoint.disk_rules.Rules.{geometry_of, HasTarget}
+use Rattle.standing_facts.specs.log_checkpoint.disk_rules.Volume.{Volume}
+use Rattle.standing_facts.specs.log_checkpoint.image_facts.ViewLaws.{head_word, sound-targets}
+use Rattle.standing_facts.specs.log_checkpoint.k_rules.Stands.{IsOldOrNew, Stands}
+use Rattle.standing_facts.specs.posix_types.declared.item.Item.{Item}
+use Rattle.standing_facts.specs.log_checkpoint.posix_spec.Run.{Begun}
+use Rattle.standing_facts.specs.log_checkpoint.posix_spec.State.{State}
+use Rattle.standing_facts.specs.log_checkpoint.posix_spec.Tree.{tree}
+use Rattle.standing_facts.specs.log_checkpoint.volume_facts.Footprint.{SameLog}
+use Rattle.standing_facts.specs.log_checkpoint.volume_facts.ImageLaws.{journaled-other}
+use Rattle.standing_facts.specs.log_checkpoint.volume_uses.OwnerLaws.{owners-base}
+use Rattle.standing_facts.specs.world_standing.world_images.Changed.{IsWorld-words, same_data, same_word, SameLog-changed, ShowsLog-same, sound_headed}
+use Rattle.standing_facts.specs.world_standing.world_images.Images.{HasOldLines, HasRoom, IsHeaded, IsRunning, ShowsLog, ShowsWorld}
+use Rattle.standing_facts.specs.world_standing.world_images.Kept.{kept_one}
+use Rattle.standing_facts.specs.world_standing.world_images.Promised.{KeepsPromise}
+use Rattle.standing_facts.specs.log_checkpoint.world_jobs.JobSteps.{lap}
+use Rattle.standing_facts.specs.log_checkpoint.world_room.Free.{frees_as_many}
+use Rattle.standing_facts.specs.log_checkpoint.world_rules.Jobs.{live_claims}
+use Rattle.standing_facts.specs.log_checkpoint.world_rules.Shown.{SameButLent}
+use Rattle.standing_facts.specs.log_checkpoint.world_steps.Worlds.{IsWorld}
 
 -- a line that is a valid entry of an earlier lap at most has no entry of a later one
 none-past : (bytes : List ℕ) (seq : ℕ) → seq < 2 ^ 64 → (is_self_valid bytes ≡ true → held_seq bytes < seq) → decode_entry bytes seq ≡ None

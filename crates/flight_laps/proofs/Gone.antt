@@ -2,48 +2,48 @@
 use Rattle.std.specs.Prelude.{◌≡◌, ◌≤◌, ◌==◌, ◌&&◌, nat_lt, ℕ, suc, zero, false, List, [], map, Ok, refl}
 use Rattle.std.proofs.Common.{arith, ap, ◌∙◌, sym, subst, inl, inr}
 use Rattle.std.proofs.lemmas.Bool.{cases_eq}
-use Rattle.pm_words.specs.declared.Cell.{Cell}
-use Rattle.pm_words.specs.Frames.{KeepsSingle, SameLent}
-use Rattle.pm_words.specs.ImageLaws.{IsImage-words_of}
-use Rattle.pm_words.specs.Images.{words_of}
-use Rattle.log_checkpoint.specs.crash_spec.Permitted.{Permitted}
-use Rattle.disk_lines.specs.declared.Draft.{Draft}
-use Rattle.disk_lines.specs.declared.Inode.{Inode}
-use Rattle.disk_lines.specs.declared.Kind.TheVariants.{File, Staging}
-use Rattle.log_checkpoint.specs.disk_rules.Live.{is_file, is_live}
-use Rattle.log_checkpoint.specs.disk_rules.Reading.{inode_set}
-use Rattle.log_checkpoint.specs.disk_rules.Room.{unused_blocks}
-use Rattle.log_checkpoint.specs.disk_rules.Rules.{file_blocks_of}
-use Rattle.log_checkpoint.specs.disk_rules.Volume.{inode, Volume}
-use Rattle.extent_words.specs.Extents.{block_count}
-use Rattle.log_checkpoint.specs.fsync_relink.Others.{GoesOn}
-use Rattle.log_checkpoint.specs.k_map_plans.Plans.{IsStagingFile}
-use Rattle.log_checkpoint.specs.k_plans.Whole.{IsWhole}
-use Rattle.log_checkpoint.specs.k_rules.Stands.{Stands}
-use Rattle.log_checkpoint.specs.k_rules.View.{View}
-use Rattle.log_checkpoint.specs.k_split.MapChanges.{ChangesMaps, IsGivenUpWith, IsGiveUpAnswer, IsMapCut}
-use Rattle.list_facts.specs.Filters.{filter-agree}
-use Rattle.list_facts.specs.Members.{In}
-use Rattle.log_checkpoint.specs.map_rules.Taken.{with_map}
-use Rattle.posix_types.specs.declared.item.Item.{Item}
-use Rattle.log_checkpoint.specs.posix_spec.Run.{Begun}
-use Rattle.log_checkpoint.specs.posix_spec.State.{State}
-use Rattle.log_checkpoint.specs.posix_spec.Tree.{tree}
-use Rattle.log_checkpoint.proofs.staging_files_proofs.GiveUpLaws.{AreBare, bare-next, none-bare, staging-file}
-use Rattle.log_checkpoint.specs.staging_files.GivesUp.{AreGivenUp}
-use Rattle.log_checkpoint.specs.staging_files.Keeps.{IsStaging}
-use Rattle.log_checkpoint.specs.volume_facts.Changes.{inode-set_same}
-use Rattle.log_checkpoint.specs.volume_uses.PoolLaws.{AreInData, unused-set}
-use Rattle.world_standing.specs.world_images.Images.{HasRoom, IsChange, IsRunning}
-use Rattle.world_standing.specs.world_images.Laws.{Takes}
-use Rattle.world_standing.specs.world_images.Promised.{KeepsPromise}
-use Rattle.world_standing.specs.world_images.Rooms.{room_kept}
-use Rattle.world_standing.specs.world_images.Running.{promise_in_change, runs_on}
-use Rattle.log_checkpoint.proofs.world_relinks_proofs.StagingLaws.{restages-given_up}
-use Rattle.log_checkpoint.specs.world_rules.Jobs.{live_claims}
-use Rattle.log_checkpoint.specs.world_rules.Stands.{IsSane}
-use Rattle.log_checkpoint.specs.world_runs.Restages.{Restages}
-use Rattle.log_checkpoint.specs.world_runs.StagingSteps.{restaged}
+use Rattle.standing_facts.specs.pm_words.declared.Cell.{Cell}
+use Rattle.standing_facts.specs.pm_words.Frames.{KeepsSingle, SameLent}
+use Rattle.standing_facts.specs.pm_words.ImageLaws.{IsImage-words_of}
+use Rattle.standing_facts.specs.pm_words.Images.{words_of}
+use Rattle.standing_facts.specs.log_checkpoint.crash_spec.Permitted.{Permitted}
+use Rattle.standing_facts.specs.disk_lines.declared.Draft.{Draft}
+use Rattle.standing_facts.specs.disk_lines.declared.Inode.{Inode}
+use Rattle.standing_facts.specs.disk_lines.declared.Kind.TheVariants.{File, Staging}
+use Rattle.standing_facts.specs.log_checkpoint.disk_rules.Live.{is_file, is_live}
+use Rattle.standing_facts.specs.log_checkpoint.disk_rules.Reading.{inode_set}
+use Rattle.standing_facts.specs.log_checkpoint.disk_rules.Room.{unused_blocks}
+use Rattle.standing_facts.specs.log_checkpoint.disk_rules.Rules.{file_blocks_of}
+use Rattle.standing_facts.specs.log_checkpoint.disk_rules.Volume.{inode, Volume}
+use Rattle.standing_facts.specs.extent_words.Extents.{block_count}
+use Rattle.standing_facts.specs.log_checkpoint.fsync_relink.Others.{GoesOn}
+use Rattle.standing_facts.specs.log_checkpoint.k_map_plans.Plans.{IsStagingFile}
+use Rattle.standing_facts.specs.log_checkpoint.k_plans.Whole.{IsWhole}
+use Rattle.standing_facts.specs.log_checkpoint.k_rules.Stands.{Stands}
+use Rattle.standing_facts.specs.log_checkpoint.k_rules.View.{View}
+use Rattle.standing_facts.specs.log_checkpoint.k_split.MapChanges.{ChangesMaps, IsGivenUpWith, IsGiveUpAnswer, IsMapCut}
+use Rattle.standing_facts.specs.list_facts.Filters.{filter-agree}
+use Rattle.standing_facts.specs.list_facts.Members.{In}
+use Rattle.standing_facts.specs.log_checkpoint.map_rules.Taken.{with_map}
+use Rattle.standing_facts.specs.posix_types.declared.item.Item.{Item}
+use Rattle.standing_facts.specs.log_checkpoint.posix_spec.Run.{Begun}
+use Rattle.standing_facts.specs.log_checkpoint.posix_spec.State.{State}
+use Rattle.standing_facts.specs.log_checkpoint.posix_spec.Tree.{tree}
+use Rattle.standing_facts.proofs.log_checkpoint_proofs.staging_files_proofs.GiveUpLaws.{AreBare, bare-next, none-bare, staging-file}
+use Rattle.standing_facts.specs.log_checkpoint.staging_files.GivesUp.{AreGivenUp}
+use Rattle.standing_facts.specs.log_checkpoint.staging_files.Keeps.{IsStaging}
+use Rattle.standing_facts.specs.log_checkpoint.volume_facts.Changes.{inode-set_same}
+use Rattle.standing_facts.specs.log_checkpoint.volume_uses.PoolLaws.{AreInData, unused-set}
+use Rattle.standing_facts.specs.world_standing.world_images.Images.{HasRoom, IsChange, IsRunning}
+use Rattle.standing_facts.specs.world_standing.world_images.Laws.{Takes}
+use Rattle.standing_facts.specs.world_standing.world_images.Promised.{KeepsPromise}
+use Rattle.standing_facts.specs.world_standing.world_images.Rooms.{room_kept}
+use Rattle.standing_facts.specs.world_standing.world_images.Running.{promise_in_change, runs_on}
+use Rattle.standing_facts.proofs.log_checkpoint_proofs.world_relinks_proofs.StagingLaws.{restages-given_up}
+use Rattle.standing_facts.specs.log_checkpoint.world_rules.Jobs.{live_claims}
+use Rattle.standing_facts.specs.log_checkpoint.world_rules.Stands.{IsSane}
+use Rattle.standing_facts.specs.log_checkpoint.world_runs.Restages.{Restages}
+use Rattle.standing_facts.specs.log_checkpoint.world_runs.StagingSteps.{restaged}
 
 in-data : (v : Volume) → IsWhole v → AreInData v (λ ino. file_blocks_of (inode v ino).kind)
 in-data v whole = record {

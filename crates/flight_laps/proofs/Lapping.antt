@@ -3,49 +3,49 @@ use Rattle.std.specs.Prelude.{◌≡◌, ◌⊎◌, ◌≤◌, ◌<◌, ◌+◌,
 use Rattle.std.proofs.Common.{arith, ap, ◌∙◌, sym, subst, inl, inr}
 use Rattle.std.proofs.lemmas.List.{get_or-replicate}
 use Rattle.std.proofs.lemmas.Bool.{eq-eqb}
-use Rattle.pm_words.specs.Cells.{cell, is_lent}
-use Rattle.pm_words.specs.ImageLaws.{IsImage-words_of}
-use Rattle.pm_words.specs.Images.{Follows, IsImage, words_of}
-use Rattle.pm_words.specs.Words.{Words}
-use Rattle.log_checkpoint.specs.crash_spec.Permitted.{Permitted}
-use Rattle.log_checkpoint.specs.crash_spec.RelationLaws.{Permitted-none}
-use Rattle.disk_places.specs.Places.{Geometry, log_line}
-use Rattle.disk_lines.specs.declared.Draft.{Draft}
-use Rattle.disk_lines.specs.declared.Kind.TheVariants.{File}
-use Rattle.log_checkpoint.specs.disk_rules.Content.{size_by}
-use Rattle.log_checkpoint.specs.disk_rules.Live.{is_live, latest}
-use Rattle.log_checkpoint.specs.disk_rules.Reading.{base_set}
-use Rattle.log_checkpoint.specs.disk_rules.Volume.{extents, inode, Volume}
-use Rattle.log_checkpoint.specs.file_table.Files.{runs_in, size_in}
-use Rattle.world_standing.specs.flight_facts.Flying.{IsOut}
-use Rattle.log_checkpoint.specs.fsync_relink.Others.{GoesOn}
-use Rattle.world_standing.specs.held_sums.Laws.{AreSizes}
-use Rattle.log_checkpoint.specs.k_journal.declared.outcomes.Commit.{Commit}
-use Rattle.log_checkpoint.specs.k_rules.Stands.{IsOldOrNew, Stands}
-use Rattle.log_checkpoint.specs.k_rules.View.{View}
-use Rattle.log_checkpoint.specs.k_split.Answers.{Changes, IsCut, IsDone, IsOff}
-use Rattle.log_checkpoint.specs.k_split.Laps.{HasNextLap, IsBaseAnswer, next_base}
-use Rattle.log_checkpoint.specs.k_split.MapChanges.{IsGivenUpWith, IsMapCut}
-use Rattle.list_facts.specs.Filters.{filter-In, In-filter}
-use Rattle.list_facts.specs.Members.{In}
-use Rattle.log_checkpoint.specs.Gathers.{IsLapAnswer, IsLapBegun}
-use Rattle.world_standing.specs.overlay_facts.Overlays.{IsOverlayOf, run_of}
-use Rattle.posix_types.specs.declared.item.Item.{Item}
-use Rattle.posix_words.specs.Open.{Tables}
-use Rattle.log_checkpoint.specs.posix_spec.Run.{Begun, run}
-use Rattle.log_checkpoint.specs.posix_spec.State.{State}
-use Rattle.log_checkpoint.specs.posix_spec.Tree.{tree}
-use Rattle.log_checkpoint.proofs.staging_files_proofs.GiveUpLaws.{agrees-nothing, AreBare, staged-nothing}
-use Rattle.log_checkpoint.proofs.staging_files_proofs.StagedLaws.{free-given}
-use Rattle.log_checkpoint.specs.staging_files.GivesUp.{AreCutOff, AreGivenUp, nothing_staged}
-use Rattle.log_checkpoint.specs.staging_files.Keeps.{Agrees, AreFreeSingle, is_kept_free, IsStaging, Staged}
-use Rattle.world_standing.specs.world_images.Images.{HasOldLines, IsRunning, StandsFor}
-use Rattle.world_standing.specs.world_images.Promised.{KeepsPromise}
-use Rattle.world_standing.specs.world_images.Running.{promise_now}
-use Rattle.log_checkpoint.specs.world_promise.JobLaws.{live_file}
-use Rattle.log_checkpoint.specs.world_rules.Jobs.{Job, live_claims}
-use Rattle.log_checkpoint.specs.world_rules.Stands.{entries_of}
-use Rattle.world_standing.specs.Standing.{AreJobsOf, Kept, Pending, StandsAt}
+use Rattle.standing_facts.specs.pm_words.Cells.{cell, is_lent}
+use Rattle.standing_facts.specs.pm_words.ImageLaws.{IsImage-words_of}
+use Rattle.standing_facts.specs.pm_words.Images.{Follows, IsImage, words_of}
+use Rattle.standing_facts.specs.pm_words.Words.{Words}
+use Rattle.standing_facts.specs.log_checkpoint.crash_spec.Permitted.{Permitted}
+use Rattle.standing_facts.specs.log_checkpoint.crash_spec.RelationLaws.{Permitted-none}
+use Rattle.standing_facts.specs.disk_places.Places.{Geometry, log_line}
+use Rattle.standing_facts.specs.disk_lines.declared.Draft.{Draft}
+use Rattle.standing_facts.specs.disk_lines.declared.Kind.TheVariants.{File}
+use Rattle.standing_facts.specs.log_checkpoint.disk_rules.Content.{size_by}
+use Rattle.standing_facts.specs.log_checkpoint.disk_rules.Live.{is_live, latest}
+use Rattle.standing_facts.specs.log_checkpoint.disk_rules.Reading.{base_set}
+use Rattle.standing_facts.specs.log_checkpoint.disk_rules.Volume.{extents, inode, Volume}
+use Rattle.standing_facts.specs.log_checkpoint.file_table.Files.{runs_in, size_in}
+use Rattle.standing_facts.specs.world_standing.flight_facts.Flying.{IsOut}
+use Rattle.standing_facts.specs.log_checkpoint.fsync_relink.Others.{GoesOn}
+use Rattle.standing_facts.specs.world_standing.held_sums.Laws.{AreSizes}
+use Rattle.standing_facts.specs.log_checkpoint.k_journal.declared.outcomes.Commit.{Commit}
+use Rattle.standing_facts.specs.log_checkpoint.k_rules.Stands.{IsOldOrNew, Stands}
+use Rattle.standing_facts.specs.log_checkpoint.k_rules.View.{View}
+use Rattle.standing_facts.specs.log_checkpoint.k_split.Answers.{Changes, IsCut, IsDone, IsOff}
+use Rattle.standing_facts.specs.log_checkpoint.k_split.Laps.{HasNextLap, IsBaseAnswer, next_base}
+use Rattle.standing_facts.specs.log_checkpoint.k_split.MapChanges.{IsGivenUpWith, IsMapCut}
+use Rattle.standing_facts.specs.list_facts.Filters.{filter-In, In-filter}
+use Rattle.standing_facts.specs.list_facts.Members.{In}
+use Rattle.standing_facts.specs.log_checkpoint.Gathers.{IsLapAnswer, IsLapBegun}
+use Rattle.standing_facts.specs.world_standing.overlay_facts.Overlays.{IsOverlayOf, run_of}
+use Rattle.standing_facts.specs.posix_types.declared.item.Item.{Item}
+use Rattle.standing_facts.specs.posix_words.Open.{Tables}
+use Rattle.standing_facts.specs.log_checkpoint.posix_spec.Run.{Begun, run}
+use Rattle.standing_facts.specs.log_checkpoint.posix_spec.State.{State}
+use Rattle.standing_facts.specs.log_checkpoint.posix_spec.Tree.{tree}
+use Rattle.standing_facts.proofs.log_checkpoint_proofs.staging_files_proofs.GiveUpLaws.{agrees-nothing, AreBare, staged-nothing}
+use Rattle.standing_facts.proofs.log_checkpoint_proofs.staging_files_proofs.StagedLaws.{free-given}
+use Rattle.standing_facts.specs.log_checkpoint.staging_files.GivesUp.{AreCutOff, AreGivenUp, nothing_staged}
+use Rattle.standing_facts.specs.log_checkpoint.staging_files.Keeps.{Agrees, AreFreeSingle, is_kept_free, IsStaging, Staged}
+use Rattle.standing_facts.specs.world_standing.world_images.Images.{HasOldLines, IsRunning, StandsFor}
+use Rattle.standing_facts.specs.world_standing.world_images.Promised.{KeepsPromise}
+use Rattle.standing_facts.specs.world_standing.world_images.Running.{promise_now}
+use Rattle.standing_facts.specs.log_checkpoint.world_promise.JobLaws.{live_file}
+use Rattle.standing_facts.specs.log_checkpoint.world_rules.Jobs.{Job, live_claims}
+use Rattle.standing_facts.specs.log_checkpoint.world_rules.Stands.{entries_of}
+use Rattle.standing_facts.specs.world_standing.Standing.{AreJobsOf, Kept, Pending, StandsAt}
 use Rattle.flight_laps.specs.Laws.{HasLapped, HasNoRuns, KeepsLapped, StandsLapped}
 use Rattle.flight_laps.proofs.Gone.{all-gone, cut-gone, HasGone, none-gone}
 use Rattle.flight_laps.proofs.Based.{old-next, promise-next, running-next}

@@ -1,23 +1,23 @@
 -- The next lap of the log, in a World with its log lines at home and no write in flight: each law as one statement.
 use Rattle.std.specs.Prelude.{◌≡◌, ℕ, false, List, [], Ok}
-use Rattle.pm_words.specs.Images.{IsImage}
-use Rattle.pm_words.specs.Words.{Words}
-use Rattle.disk_places.specs.Places.{Geometry}
-use Rattle.log_checkpoint.specs.disk_rules.Volume.{Volume}
-use Rattle.log_checkpoint.specs.file_table.Files.{runs_in}
-use Rattle.log_checkpoint.specs.k_journal.declared.outcomes.Commit.{Commit}
-use Rattle.log_checkpoint.specs.k_rules.View.{View}
-use Rattle.log_checkpoint.specs.k_split.Laps.{HasNextLap}
-use Rattle.log_checkpoint.specs.Gathers.{IsLapAnswer, IsLapBegun}
-use Rattle.posix_types.specs.declared.item.Item.{Item}
-use Rattle.posix_words.specs.Open.{Tables}
-use Rattle.log_checkpoint.specs.posix_spec.Run.{Begun, run}
-use Rattle.log_checkpoint.specs.posix_spec.State.{State}
-use Rattle.log_checkpoint.specs.staging_files.GivesUp.{nothing_staged}
-use Rattle.log_checkpoint.specs.staging_files.Keeps.{Staged}
-use Rattle.world_standing.specs.world_images.Images.{HasOldLines}
-use Rattle.world_standing.specs.world_images.Promised.{KeepsPromise}
-use Rattle.world_standing.specs.Standing.{Kept, StandsAt}
+use Rattle.standing_facts.specs.pm_words.Images.{IsImage}
+use Rattle.standing_facts.specs.pm_words.Words.{Words}
+use Rattle.standing_facts.specs.disk_places.Places.{Geometry}
+use Rattle.standing_facts.specs.log_checkpoint.disk_rules.Volume.{Volume}
+use Rattle.standing_facts.specs.log_checkpoint.file_table.Files.{runs_in}
+use Rattle.standing_facts.specs.log_checkpoint.k_journal.declared.outcomes.Commit.{Commit}
+use Rattle.standing_facts.specs.log_checkpoint.k_rules.View.{View}
+use Rattle.standing_facts.specs.log_checkpoint.k_split.Laps.{HasNextLap}
+use Rattle.standing_facts.specs.log_checkpoint.Gathers.{IsLapAnswer, IsLapBegun}
+use Rattle.standing_facts.specs.posix_types.declared.item.Item.{Item}
+use Rattle.standing_facts.specs.posix_words.Open.{Tables}
+use Rattle.standing_facts.specs.log_checkpoint.posix_spec.Run.{Begun, run}
+use Rattle.standing_facts.specs.log_checkpoint.posix_spec.State.{State}
+use Rattle.standing_facts.specs.log_checkpoint.staging_files.GivesUp.{nothing_staged}
+use Rattle.standing_facts.specs.log_checkpoint.staging_files.Keeps.{Staged}
+use Rattle.standing_facts.specs.world_standing.world_images.Images.{HasOldLines}
+use Rattle.standing_facts.specs.world_standing.world_images.Promised.{KeepsPromise}
+use Rattle.standing_facts.specs.world_standing.Standing.{Kept, StandsAt}
 
 -- what the World keeps once a lap began: nothing is staged, there is no claim, and no job is out
 abbrev pub lapped : Kept → Kept

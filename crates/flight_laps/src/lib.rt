@@ -18,4 +18,7 @@ pub fn the_next_lap_begins()
     ensures cut { KeepsLapped }
 {}
 
-pub use log_checkpoint;
+pub use standing_facts::{
+    Commit, FileTable, KSplit, gather, publish_runs, what_stands_may_be_gathered,
+    what_stands_may_be_published,
+};

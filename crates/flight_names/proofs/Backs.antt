@@ -1,11 +1,11 @@
 -- Lines and blocks of jobs are put back alike after a change that leaves the geometry, the lap and the maps of staging files.
 use Rattle.std.specs.Prelude.{◌≡◌, ℕ, List, [], ◌∷◌, Option, Some, None}
 use Rattle.std.proofs.Common.{◌∙◌, sym, subst}
-use Rattle.pm_words.specs.declared.Cell.{Cell}
-use Rattle.pm_words.specs.Parts.{put_back}
-use Rattle.pm_words.specs.Words.{Words}
-use Rattle.disk_places.specs.Journal.{journaled}
-use Rattle.disk_places.specs.Places.{Geometry}
+use Rattle.file_ends.specs.pm_words.declared.Cell.{Cell}
+use Rattle.file_ends.specs.pm_words.Parts.{put_back}
+use Rattle.file_ends.specs.pm_words.Words.{Words}
+use Rattle.file_ends.specs.disk_places.Journal.{journaled}
+use Rattle.file_ends.specs.disk_places.Places.{Geometry}
 use Rattle.disk_lines.specs.declared.Draft.{Draft}
 use Rattle.file_ends.specs.disk_rules.Honest.{IsHonestWith}
 use Rattle.file_ends.specs.disk_rules.Volume.{Volume}

@@ -2,11 +2,11 @@
 use Rattle.std.specs.Prelude.{◌≡◌, ◌||◌, ℕ, Bool, true, false, cond, List, refl, if◌then◌else◌}
 use Rattle.posix_types.specs.declared.call.Call.{Call}
 use Rattle.posix_types.specs.declared.call.Who.{Who}
-use Rattle.posix_words.specs.declared.nodes.Node.{Node}
-use Rattle.posix_words.specs.NameRows.{mkdir_rows, rename_rows, rmdir_rows, unlink_rows}
-use Rattle.posix_words.specs.Names.{directory_stands, file_stands, is_named, number_at}
-use Rattle.posix_words.specs.Open.{is_open}
-use Rattle.posix_words.specs.Outcomes.{first}
+use Rattle.open_files.specs.posix_words.declared.nodes.Node.{Node}
+use Rattle.open_files.specs.posix_words.NameRows.{mkdir_rows, rename_rows, rmdir_rows, unlink_rows}
+use Rattle.open_files.specs.posix_words.Names.{directory_stands, file_stands, is_named, number_at}
+use Rattle.open_files.specs.posix_words.Open.{is_open}
+use Rattle.open_files.specs.posix_words.Outcomes.{first}
 use Rattle.open_files.specs.posix_spec.Run.{after_call}
 use Rattle.open_files.specs.posix_spec.State.{alone, made, space, State, swept, unnamed, with_node}
 use Rattle.open_files.specs.posix_spec.Step.{mkdir_done, rename_done, renamed, rmdir_done, unlink_done}

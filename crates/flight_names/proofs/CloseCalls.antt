@@ -2,10 +2,10 @@
 use Rattle.std.specs.Prelude.{◌≡◌, ◌≢◌, ◌⊎◌, ◌<◌, ◌+◌, ℕ, zero, suc, true, false, List, [], ◌∷◌, Option, Some, None, is_none, option_map, slice_set, Ok, refl}
 use Rattle.std.specs.Option.{option_map_or}
 use Rattle.std.proofs.Common.{ap, ◌∙◌, sym, subst, inl, inr}
-use Rattle.pm_words.specs.Images.{words_of}
-use Rattle.pm_words.specs.Powers.{is_on, Supply}
-use Rattle.disk_places.specs.Journal.{journaled}
-use Rattle.disk_places.specs.Places.{Geometry}
+use Rattle.file_ends.specs.pm_words.Images.{words_of}
+use Rattle.file_ends.specs.pm_words.Powers.{is_on, Supply}
+use Rattle.file_ends.specs.disk_places.Journal.{journaled}
+use Rattle.file_ends.specs.disk_places.Places.{Geometry}
 use Rattle.disk_lines.specs.declared.Kind.TheVariants.{File}
 use Rattle.disk_lines.specs.Names.{is_child, names_of, row as row_at}
 use Rattle.disk_lines.specs.TableLaws.{is_child-parts}
@@ -16,20 +16,20 @@ use Rattle.flight_steps.specs.entry_orders.Orders.{AreOrdered-step_of}
 use Rattle.file_ends.specs.volume_facts.Lists.{count_by-some}
 use Rattle.flight_steps.specs.volume_changes.Changes.{MayDrop}
 use Rattle.file_ends.specs.k_rules.View.{View}
-use Rattle.open_numbers.specs.Numbered.{described_as, numbered_as}
-use Rattle.open_numbers.proofs.Changes.{closes_alike, open_once_closed}
-use Rattle.open_numbers.proofs.Lookups.{same_open, same_opened}
+use Rattle.flight_steps.specs.open_numbers.Numbered.{described_as, numbered_as}
+use Rattle.flight_steps.proofs.open_numbers_proofs.Changes.{closes_alike, open_once_closed}
+use Rattle.flight_steps.proofs.open_numbers_proofs.Lookups.{same_open, same_opened}
 use Rattle.posix_types.specs.declared.call.Call.{Call}
 use Rattle.posix_types.specs.declared.call.Who.{Who}
 use Rattle.posix_types.specs.declared.handle.Handle.{Handle}
 use Rattle.posix_types.specs.declared.reply.Errno.{Errno}
 use Rattle.posix_types.specs.declared.reply.Reply.{Reply}
-use Rattle.posix_words.specs.declared.nodes.Node.{Node}
-use Rattle.posix_words.specs.declared.open.Description.{Description}
-use Rattle.posix_words.specs.Names.{is_named}
-use Rattle.posix_words.specs.Nodes.{node_at, published_node}
-use Rattle.posix_words.specs.Open.{closed, is_open, opened, Tables}
-use Rattle.posix_words.specs.Outcomes.{answer, first, row}
+use Rattle.open_files.specs.posix_words.declared.nodes.Node.{Node}
+use Rattle.open_files.specs.posix_words.declared.open.Description.{Description}
+use Rattle.open_files.specs.posix_words.Names.{is_named}
+use Rattle.open_files.specs.posix_words.Nodes.{node_at, published_node}
+use Rattle.open_files.specs.posix_words.Open.{closed, is_open, opened, Tables}
+use Rattle.open_files.specs.posix_words.Outcomes.{answer, first, row}
 use Rattle.open_files.specs.posix_frames.Bystanders.{is_open-Opens}
 use Rattle.open_files.specs.posix_frames.Handles.{Opens-opened}
 use Rattle.open_files.specs.posix_spec.FileRows.{close_rows, file_number}

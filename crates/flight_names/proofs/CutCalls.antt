@@ -1,9 +1,9 @@
 -- An `open` that cuts the file that is there, of which nothing is staged.
 use Rattle.std.specs.Prelude.{◌≡◌, ◌≤◌, ◌<◌, ◌+◌, ℕ, true, false, List, [], ◌∷◌, length, map, Some, None, Result, Ok, Err, refl}
 use Rattle.std.proofs.Common.{arith, ap, ◌∙◌, sym, inr}
-use Rattle.pm_words.specs.Powers.{Supply}
+use Rattle.file_ends.specs.pm_words.Powers.{Supply}
 use Rattle.disk_lines.specs.declared.Draft.{Draft}
-use Rattle.disk_places.specs.Places.{Geometry, reserve}
+use Rattle.file_ends.specs.disk_places.Places.{Geometry, reserve}
 use Rattle.disk_lines.specs.declared.Kind.TheVariants.{File}
 use Rattle.file_ends.specs.disk_rules.Volume.{inode, Volume}
 use Rattle.flight_steps.specs.entry_orders.Orders.{AreOrdered-step_of}
@@ -26,9 +26,9 @@ use Rattle.posix_types.specs.declared.call.Who.{Who}
 use Rattle.posix_types.specs.declared.handle.Flags.{Flags}
 use Rattle.posix_types.specs.declared.handle.Handle.{Handle}
 use Rattle.posix_types.specs.declared.reply.Reply.{Reply}
-use Rattle.posix_words.specs.NameRows.{open_rows}
-use Rattle.posix_words.specs.Open.{free_descriptor, is_full, Tables, with_opened}
-use Rattle.posix_words.specs.Outcomes.{answer, first}
+use Rattle.open_files.specs.posix_words.NameRows.{open_rows}
+use Rattle.open_files.specs.posix_words.Open.{free_descriptor, is_full, Tables, with_opened}
+use Rattle.open_files.specs.posix_words.Outcomes.{answer, first}
 use Rattle.open_files.specs.posix_spec.Run.{after_call, run}
 use Rattle.open_files.specs.posix_spec.State.{alone, State}
 use Rattle.open_files.specs.posix_spec.Step.{open_done}

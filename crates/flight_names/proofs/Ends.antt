@@ -1,7 +1,7 @@
 -- The log's base stays, and nothing comes to lie past the end of a file.
 use Rattle.std.specs.Prelude.{◌≡◌, ◌<◌, ℕ, Bool, true, false, List, [], length, Option, None, Some, Result, Ok, Err, refl, if◌then◌else◌}
 use Rattle.std.proofs.Common.{arith, ap, ◌∙◌, sym, subst, inl, inr}
-use Rattle.pm_words.specs.Powers.{is_on, Supply}
+use Rattle.file_ends.specs.pm_words.Powers.{is_on, Supply}
 use Rattle.disk_lines.specs.Lines.{NameRow}
 use Rattle.file_ends.specs.disk_rules.Volume.{Volume}
 use Rattle.file_ends.proofs.Ending.{end_dropped, end_made, end_removed, end_renamed, end_sized, end_unlinked, free_has_no_map}
@@ -19,7 +19,7 @@ use Rattle.flight_steps.specs.k_split.Answers.{IsAnswer, IsPaid}
 use Rattle.flight_steps.specs.k_split.MapChanges.{IsSizeAnswer}
 use Rattle.flight_steps.specs.k_split.Names.{IsDropAnswer, IsMakeAnswer, IsRenameAnswer, IsRmdirAnswer, IsUnlinkAnswer}
 use Rattle.posix_types.specs.declared.item.Outcome.{Outcome}
-use Rattle.posix_words.specs.Open.{Tables}
+use Rattle.open_files.specs.posix_words.Open.{Tables}
 use Rattle.flight_names.specs.Answers.{KeepsEnds}
 use Rattle.flight_names.specs.Runs.{RunsInSome}
 

@@ -2,12 +2,12 @@
 use Rattle.std.specs.Prelude.{◌≡◌, ◌≢◌, ◌⊎◌, ◌≤◌, ◌<◌, ◌+◌, ℕ, Bool, true, false, if◌then◌else◌, List, [], ◌∷◌, ◌++◌, length, map, Option, Some, None, Result, Ok, Err, refl}
 use Rattle.std.proofs.Common.{arith, ap, ◌∙◌, sym, subst, inl, inr}
 use Rattle.std.proofs.lemmas.List.{length-set}
-use Rattle.pm_words.specs.declared.Cell.{Cell}
-use Rattle.pm_words.specs.Images.{words_of}
-use Rattle.pm_words.specs.Powers.{is_on, Steps, Supply}
-use Rattle.pm_words.specs.Words.{Words}
-use Rattle.disk_places.specs.Journal.{journaled}
-use Rattle.disk_places.specs.Places.{Geometry}
+use Rattle.file_ends.specs.pm_words.declared.Cell.{Cell}
+use Rattle.file_ends.specs.pm_words.Images.{words_of}
+use Rattle.file_ends.specs.pm_words.Powers.{is_on, Steps, Supply}
+use Rattle.file_ends.specs.pm_words.Words.{Words}
+use Rattle.file_ends.specs.disk_places.Journal.{journaled}
+use Rattle.file_ends.specs.disk_places.Places.{Geometry}
 use Rattle.disk_lines.specs.declared.Kind.TheVariants.{File}
 use Rattle.disk_lines.specs.Lines.{NameRow}
 use Rattle.file_ends.specs.disk_rules.Live.{is_directory}
@@ -30,8 +30,8 @@ use Rattle.flight_steps.specs.k_split.Answers.{IsAnswer, IsDone, IsPaid}
 use Rattle.flight_steps.specs.k_split.Names.{IsDropAnswer, IsRenameAnswer, IsUnlinkAnswer, rename_row, unlink_row}
 use Rattle.lost_devices.proofs.Cuts.{left_through}
 use Rattle.lost_devices.specs.Left.{IsLeftOf}
-use Rattle.open_numbers.specs.Numbered.{IsTold}
-use Rattle.open_numbers.proofs.Lookups.{same_open}
+use Rattle.flight_steps.specs.open_numbers.Numbered.{IsTold}
+use Rattle.flight_steps.proofs.open_numbers_proofs.Lookups.{same_open}
 use Rattle.file_ends.specs.path_spelling.Spelling.{AreSpelled}
 use Rattle.posix_types.specs.declared.call.Call.{Call}
 use Rattle.posix_types.specs.declared.call.Mode.{Mode}
@@ -40,8 +40,8 @@ use Rattle.posix_types.specs.declared.item.Item.{Item}
 use Rattle.posix_types.specs.declared.item.Outcome.{Outcome}
 use Rattle.posix_types.specs.declared.reply.Errno.{Errno}
 use Rattle.posix_types.specs.declared.reply.Reply.{Reply}
-use Rattle.posix_words.specs.Open.{is_open, Tables}
-use Rattle.posix_words.specs.Outcomes.{answer}
+use Rattle.open_files.specs.posix_words.Open.{is_open, Tables}
+use Rattle.open_files.specs.posix_words.Outcomes.{answer}
 use Rattle.open_files.specs.posix_spec.Run.{after_call, run}
 use Rattle.open_files.specs.posix_spec.State.{alone, State, swept, unnamed as unnamed_state}
 use Rattle.open_files.specs.posix_spec.Tree.{tree}

@@ -5,9 +5,9 @@ use Rattle.std.specs.Ordering.{nat_cmp}
 use Rattle.std.proofs.Common.{arith, ap, ◌∙◌, sym, subst, inl, inr}
 use Rattle.std.proofs.lemmas.List.Sorted.{sum_by-IsPermutation}
 use Rattle.std.proofs.lemmas.List.Sums.{sum_by-cons}
-use Rattle.pm_words.specs.Powers.{is_on, Supply}
-use Rattle.disk_places.specs.Fields.{is_same}
-use Rattle.disk_places.specs.Places.{Geometry}
+use Rattle.file_ends.specs.pm_words.Powers.{is_on, Supply}
+use Rattle.file_ends.specs.disk_places.Fields.{is_same}
+use Rattle.file_ends.specs.disk_places.Places.{Geometry}
 use Rattle.disk_lines.specs.Names.{child_named}
 use Rattle.disk_lines.specs.Tables.{names_below}
 use Rattle.flight_steps.specs.entry_orders.Listed.{AreOnce, names-sorted}
@@ -17,16 +17,16 @@ use Rattle.file_ends.specs.k_rules.View.{View}
 use Rattle.flight_steps.specs.k_split.Looks.{IsListed, IsListFault}
 use Rattle.flight_steps.specs.k_split.declared.faults.KFault.{KFault}
 use Rattle.flight_steps.proofs.k_tables_proofs.ChildNames.{count-child}
-use Rattle.list_facts.specs.Members.{In}
+use Rattle.open_files.specs.list_facts.Members.{In}
 use Rattle.flight_steps.specs.name_facts.KeptLaws.{kept-keyed}
 use Rattle.posix_types.specs.declared.call.Call.{Call}
 use Rattle.posix_types.specs.declared.call.Who.{Who}
 use Rattle.posix_types.specs.declared.item.Outcome.{Outcome}
 use Rattle.posix_types.specs.declared.reply.Reply.{Reply}
-use Rattle.posix_words.specs.NameRows.{list_rows}
-use Rattle.posix_words.specs.Names.{child_of, names_in}
-use Rattle.posix_words.specs.Open.{Tables}
-use Rattle.posix_words.specs.Outcomes.{answer, first}
+use Rattle.open_files.specs.posix_words.NameRows.{list_rows}
+use Rattle.open_files.specs.posix_words.Names.{child_of, names_in}
+use Rattle.open_files.specs.posix_words.Open.{Tables}
+use Rattle.open_files.specs.posix_words.Outcomes.{answer, first}
 use Rattle.open_files.specs.posix_spec.State.{space, State}
 use Rattle.open_files.specs.posix_spec.Step.{list_done, step, stepped}
 use Rattle.flight_steps.specs.world_promise.TreeRules.{all_lines}

@@ -1,8 +1,8 @@
 -- `mkdir` and `rmdir`, and the first changes of `unlink` and `rename`.
 use Rattle.std.specs.Prelude.{◌≡◌, ◌≢◌, ◌<◌, ◌+◌, ◌^◌, ℕ, Bool, true, false, List, [], length, Option, Some, None, Result, Ok, Err, refl, if◌then◌else◌}
 use Rattle.std.proofs.Common.{arith, ap, ◌∙◌, sym, subst, inl, inr}
-use Rattle.pm_words.specs.Powers.{is_on, Supply}
-use Rattle.disk_places.specs.Places.{Geometry}
+use Rattle.file_ends.specs.pm_words.Powers.{is_on, Supply}
+use Rattle.file_ends.specs.disk_places.Places.{Geometry}
 use Rattle.disk_lines.specs.declared.Kind.{Kind}
 use Rattle.disk_lines.specs.declared.Kind.TheVariants.{Directory, File, Free, Staging}
 use Rattle.disk_lines.specs.Lines.{NameRow}
@@ -24,14 +24,14 @@ use Rattle.file_ends.specs.path_spelling.Spelling.{AreSpelled}
 use Rattle.flight_steps.specs.k_split.declared.faults.KFault.{KFault}
 use Rattle.flight_steps.specs.k_split.Answers.{IsAnswer, IsPaid}
 use Rattle.flight_steps.specs.k_split.Names.{IsIdle, IsMakeAnswer, IsRenameAnswer, IsRmdirAnswer, make_row, rename_row, rmdir_row}
-use Rattle.open_numbers.specs.Numbered.{numbered_as}
-use Rattle.open_numbers.proofs.Lookups.{same_where_open}
+use Rattle.flight_steps.specs.open_numbers.Numbered.{numbered_as}
+use Rattle.flight_steps.proofs.open_numbers_proofs.Lookups.{same_where_open}
 use Rattle.posix_types.specs.declared.call.Call.{Call}
 use Rattle.posix_types.specs.declared.call.Who.{Who}
 use Rattle.posix_types.specs.declared.item.Outcome.{Outcome}
 use Rattle.posix_types.specs.declared.reply.Reply.{Reply}
-use Rattle.posix_words.specs.Open.{is_open, Tables}
-use Rattle.posix_words.specs.Outcomes.{answer}
+use Rattle.open_files.specs.posix_words.Open.{is_open, Tables}
+use Rattle.open_files.specs.posix_words.Outcomes.{answer}
 use Rattle.open_files.specs.posix_spec.Run.{after_call, run}
 use Rattle.open_files.specs.posix_spec.State.{alone, State}
 use Rattle.open_files.specs.posix_spec.Step.{step}

@@ -2,11 +2,11 @@
 use Rattle.std.specs.Prelude.{◌≡◌, ◌⊎◌, ◌<◌, ◌+◌, ◌^◌, ℕ, zero, suc, Bool, true, false, List, [], ◌∷◌, length, Option, Some, None, IsSome, is_none, is_some, option_map, unwrap_or, slice_set, Result, Ok, Err, refl, if◌then◌else◌}
 use Rattle.std.proofs.Common.{arith, ap, ◌∙◌, sym, subst, inl, inr}
 use Rattle.std.proofs.lemmas.List.{length-set}
-use Rattle.pm_words.specs.Images.{words_of}
-use Rattle.pm_words.specs.Powers.{is_on, Supply}
-use Rattle.pm_words.specs.Words.{Words}
-use Rattle.disk_places.specs.Journal.{journaled}
-use Rattle.disk_places.specs.Places.{Geometry}
+use Rattle.file_ends.specs.pm_words.Images.{words_of}
+use Rattle.file_ends.specs.pm_words.Powers.{is_on, Supply}
+use Rattle.file_ends.specs.pm_words.Words.{Words}
+use Rattle.file_ends.specs.disk_places.Journal.{journaled}
+use Rattle.file_ends.specs.disk_places.Places.{Geometry}
 use Rattle.disk_lines.specs.declared.Draft.{Draft}
 use Rattle.disk_lines.specs.declared.Kind.{Kind}
 use Rattle.disk_lines.specs.declared.Kind.TheVariants.{Directory, File, Free, Staging}
@@ -26,9 +26,9 @@ use Rattle.flight_steps.specs.k_split.declared.faults.KFault.{KFault}
 use Rattle.flight_steps.specs.k_split.Answers.{IsPaid}
 use Rattle.flight_steps.specs.k_split.Looks.{IsFound}
 use Rattle.flight_steps.specs.k_split.Names.{IsMakeAnswer, make_row}
-use Rattle.open_numbers.specs.Numbered.{described_as, numbered_as}
-use Rattle.open_numbers.proofs.Changes.{dups_alike, open_once_duped, open_once_opened, opens_alike}
-use Rattle.open_numbers.proofs.Lookups.{same_key, same_opened}
+use Rattle.flight_steps.specs.open_numbers.Numbered.{described_as, numbered_as}
+use Rattle.flight_steps.proofs.open_numbers_proofs.Changes.{dups_alike, open_once_duped, open_once_opened, opens_alike}
+use Rattle.flight_steps.proofs.open_numbers_proofs.Lookups.{same_key, same_opened}
 use Rattle.posix_types.specs.declared.call.Call.{Call}
 use Rattle.posix_types.specs.declared.call.Who.{Who}
 use Rattle.posix_types.specs.declared.handle.Flags.{Flags}
@@ -37,13 +37,13 @@ use Rattle.posix_types.specs.declared.item.Outcome.{Outcome}
 use Rattle.posix_types.specs.declared.reply.Errno.{Errno}
 use Rattle.posix_types.specs.declared.reply.Reply.{Reply}
 use Rattle.posix_types.specs.declared.reply.Stat.{Stat}
-use Rattle.posix_words.specs.declared.nodes.Node.{Node}
-use Rattle.posix_words.specs.declared.open.Description.{Description}
-use Rattle.posix_words.specs.NameRows.{open_rows}
-use Rattle.posix_words.specs.Names.{exists_at, node_at_path, number_at}
-use Rattle.posix_words.specs.Nodes.{node_at}
-use Rattle.posix_words.specs.Open.{free_descriptor, is_full, is_open, key_of, next_descriptor, opened, Tables, with_descriptor, with_opened}
-use Rattle.posix_words.specs.Outcomes.{answer, first, row}
+use Rattle.open_files.specs.posix_words.declared.nodes.Node.{Node}
+use Rattle.open_files.specs.posix_words.declared.open.Description.{Description}
+use Rattle.open_files.specs.posix_words.NameRows.{open_rows}
+use Rattle.open_files.specs.posix_words.Names.{exists_at, node_at_path, number_at}
+use Rattle.open_files.specs.posix_words.Nodes.{node_at}
+use Rattle.open_files.specs.posix_words.Open.{free_descriptor, is_full, is_open, key_of, next_descriptor, opened, Tables, with_descriptor, with_opened}
+use Rattle.open_files.specs.posix_words.Outcomes.{answer, first, row}
 use Rattle.open_files.specs.posix_spec.FileRows.{dup_rows}
 use Rattle.open_files.specs.posix_spec.Run.{after_call, run}
 use Rattle.open_files.specs.posix_spec.State.{alone, made as made_state, space, State, with_node}

@@ -2,7 +2,7 @@
 use Rattle.std.specs.Prelude.{◌≡◌, ◌&&◌, not, nat_lt, ℕ, Bool, true, false, List, [], ◌∷◌, Some, None, is_none, Ok, Err, refl, if◌then◌else◌}
 use Rattle.std.proofs.Common.{arith, ap, ◌∙◌, sym, subst}
 use Rattle.std.proofs.lemmas.Bool.{ltb-false}
-use Rattle.pm_words.specs.Powers.{is_on, Supply}
+use Rattle.file_ends.specs.pm_words.Powers.{is_on, Supply}
 use Rattle.disk_lines.specs.declared.Inode.{Inode}
 use Rattle.disk_lines.specs.declared.Kind.{Kind}
 use Rattle.disk_lines.specs.declared.Kind.TheVariants.{Directory, File, Free, Staging}
@@ -22,9 +22,9 @@ use Rattle.posix_types.specs.declared.handle.Handle.{Handle}
 use Rattle.posix_types.specs.declared.reply.Errno.{Errno}
 use Rattle.posix_types.specs.declared.reply.Reply.{Reply}
 use Rattle.posix_types.specs.declared.reply.Stat.{Stat}
-use Rattle.posix_words.specs.NameRows.{no_line, no_node, open_rows}
-use Rattle.posix_words.specs.Open.{free_descriptor, is_full, Tables, with_opened}
-use Rattle.posix_words.specs.Outcomes.{answer, first, row}
+use Rattle.open_files.specs.posix_words.NameRows.{no_line, no_node, open_rows}
+use Rattle.open_files.specs.posix_words.Open.{free_descriptor, is_full, Tables, with_opened}
+use Rattle.open_files.specs.posix_words.Outcomes.{answer, first, row}
 use Rattle.flight_steps.specs.world_exits.Steps.{plain_file}
 use Rattle.flight_names.specs.Answers.{IsEnded, IsMissing, stat_by, told_of_open}
 use Rattle.flight_names.specs.Runs.{RunsInSome, with_files}

@@ -9,9 +9,9 @@ use Rattle.posix_types.specs.declared.handle.Flags.{Flags}
 use Rattle.posix_types.specs.declared.item.Outcome.{Outcome}
 use Rattle.posix_types.specs.declared.reply.Errno.{Errno}
 use Rattle.posix_types.specs.declared.reply.Reply.{Reply}
-use Rattle.posix_words.specs.NameRows.{mkdir_rows, no_line, no_node, open_rows, stat_rows, too_long_row, walk_row}
-use Rattle.posix_words.specs.Names.{child_of, directory_stands, exists_at, is_root, last_name, node_at_path, Space, walk}
-use Rattle.posix_words.specs.Outcomes.{answer, first, row, unless}
+use Rattle.open_files.specs.posix_words.NameRows.{mkdir_rows, no_line, no_node, open_rows, stat_rows, too_long_row, walk_row}
+use Rattle.open_files.specs.posix_words.Names.{child_of, directory_stands, exists_at, is_root, last_name, node_at_path, Space, walk}
+use Rattle.open_files.specs.posix_words.Outcomes.{answer, first, row, unless}
 use Rattle.flight_steps.specs.world_spaces.Mirrors.{Mirrors}
 
 -- ---- lists of rows

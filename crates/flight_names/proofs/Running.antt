@@ -1,12 +1,12 @@
 -- One change of K-Split in a call: done, refused, or cut off, beside jobs that are out.
 use Rattle.std.specs.Prelude.{◌≡◌, ◌≢◌, ◌⊎◌, ◌≤◌, ◌<◌, ◌+◌, ◌^◌, ℕ, suc, true, AllPairs, length, slice_index_or, List, [], ◌∷◌, ◌++◌, map, Option, Some, None, Result, Err, refl}
 use Rattle.std.proofs.Common.{arith, ap, sym, subst, inl, inr}
-use Rattle.pm_words.specs.ImageLaws.{IsImage-words_of}
-use Rattle.pm_words.specs.Images.{words_of}
-use Rattle.pm_words.specs.Powers.{is_on, Supply}
-use Rattle.pm_words.specs.Words.{Words}
-use Rattle.disk_places.specs.Journal.{IsSound, journaled}
-use Rattle.disk_places.specs.Places.{Geometry}
+use Rattle.file_ends.specs.pm_words.ImageLaws.{IsImage-words_of}
+use Rattle.file_ends.specs.pm_words.Images.{words_of}
+use Rattle.file_ends.specs.pm_words.Powers.{is_on, Supply}
+use Rattle.file_ends.specs.pm_words.Words.{Words}
+use Rattle.file_ends.specs.disk_places.Journal.{IsSound, journaled}
+use Rattle.file_ends.specs.disk_places.Places.{Geometry}
 use Rattle.disk_lines.specs.declared.Draft.{Draft}
 use Rattle.disk_lines.specs.declared.Kind.TheVariants.{File}
 use Rattle.file_ends.specs.disk_rules.Volume.{inode, Volume}
@@ -18,15 +18,15 @@ use Rattle.flight_steps.specs.k_split.declared.faults.KFault.{KFault}
 use Rattle.flight_steps.specs.k_split.Answers.{IsAnswer, IsCut, IsOff, IsPaid}
 use Rattle.lost_devices.proofs.Cuts.{left_at, left_cut, left_same}
 use Rattle.lost_devices.specs.Left.{IsLeftOf}
-use Rattle.open_numbers.specs.Numbered.{numbered_as}
+use Rattle.flight_steps.specs.open_numbers.Numbered.{numbered_as}
 use Rattle.posix_types.specs.declared.call.Call.{Call}
 use Rattle.posix_types.specs.declared.call.Who.{Who}
 use Rattle.posix_types.specs.declared.item.Item.{Item}
 use Rattle.posix_types.specs.declared.item.Outcome.{Outcome}
 use Rattle.posix_types.specs.declared.reply.Errno.{Errno}
 use Rattle.posix_types.specs.declared.reply.Reply.{Reply}
-use Rattle.posix_words.specs.Open.{is_open, Tables}
-use Rattle.posix_words.specs.Outcomes.{answer}
+use Rattle.open_files.specs.posix_words.Open.{is_open, Tables}
+use Rattle.open_files.specs.posix_words.Outcomes.{answer}
 use Rattle.open_files.specs.posix_spec.Run.{after_call, Begun, run}
 use Rattle.open_files.specs.posix_spec.State.{alone, room, State}
 use Rattle.open_files.specs.posix_spec.Step.{step}

@@ -2,14 +2,14 @@
 use Rattle.std.specs.Prelude.{◌≡◌, ◌≤◌, ◌+◌, ℕ, List, [], ◌∷◌, map, Some, sum_by, refl}
 use Rattle.std.proofs.Common.{arith, ◌∙◌, sym, subst}
 use Rattle.std.proofs.lemmas.List.Sums.{sum_by-cons}
-use Rattle.pm_words.specs.Words.{Words}
+use Rattle.file_ends.specs.pm_words.Words.{Words}
 use Rattle.disk_lines.specs.declared.Draft.{Draft}
 use Rattle.file_ends.specs.disk_rules.Volume.{Volume}
 use Rattle.posix_types.specs.declared.call.Call.{Call}
 use Rattle.posix_types.specs.declared.call.Who.{Who}
 use Rattle.posix_types.specs.declared.handle.Handle.{Handle}
-use Rattle.posix_words.specs.declared.open.Description.{Description}
-use Rattle.posix_words.specs.Open.{closed, opened}
+use Rattle.open_files.specs.posix_words.declared.open.Description.{Description}
+use Rattle.open_files.specs.posix_words.Open.{closed, opened}
 use Rattle.open_files.specs.posix_spec.Run.{Begun}
 use Rattle.open_files.specs.posix_spec.State.{room, State}
 use Rattle.open_files.specs.posix_puts.ViewLaws.{need_of-kept, PutsWhole-kept}

@@ -1,10 +1,10 @@
 -- What a call over K-Split and the open files answers and leaves.
 use Rattle.std.specs.Prelude.{◌≡◌, ◌⊎◌, ◌<◌, ◌+◌, ◌^◌, ℕ, true, false, List, [], ◌∷◌, ◌++◌, length, map, Option, Some, None, Result, Ok, Err, if◌then◌else◌}
-use Rattle.pm_words.specs.declared.Cell.{Cell}
-use Rattle.pm_words.specs.Frames.{SameLent}
-use Rattle.pm_words.specs.Powers.{is_on, Supply}
-use Rattle.pm_words.specs.Words.{Words}
-use Rattle.disk_places.specs.Places.{Geometry}
+use Rattle.file_ends.specs.pm_words.declared.Cell.{Cell}
+use Rattle.file_ends.specs.pm_words.Frames.{SameLent}
+use Rattle.file_ends.specs.pm_words.Powers.{is_on, Supply}
+use Rattle.file_ends.specs.pm_words.Words.{Words}
+use Rattle.file_ends.specs.disk_places.Places.{Geometry}
 use Rattle.disk_lines.specs.declared.Kind.{Kind}
 use Rattle.disk_lines.specs.declared.Kind.TheVariants.{Directory, File, Free, Staging}
 use Rattle.file_ends.specs.disk_rules.Volume.{Volume}
@@ -26,10 +26,10 @@ use Rattle.posix_types.specs.declared.item.Outcome.{Outcome}
 use Rattle.posix_types.specs.declared.reply.Errno.{Errno}
 use Rattle.posix_types.specs.declared.reply.Reply.{Reply}
 use Rattle.posix_types.specs.declared.reply.Stat.{Stat}
-use Rattle.posix_words.specs.NameRows.{too_long_row, walk_row}
-use Rattle.posix_words.specs.Names.{node_at_path}
-use Rattle.posix_words.specs.Open.{Tables}
-use Rattle.posix_words.specs.Outcomes.{answer}
+use Rattle.open_files.specs.posix_words.NameRows.{too_long_row, walk_row}
+use Rattle.open_files.specs.posix_words.Names.{node_at_path}
+use Rattle.open_files.specs.posix_words.Open.{Tables}
+use Rattle.open_files.specs.posix_words.Outcomes.{answer}
 use Rattle.open_files.specs.posix_spec.Afforded.{moves_data}
 use Rattle.open_files.specs.posix_spec.Run.{after_call, run}
 use Rattle.open_files.specs.posix_spec.State.{alone, State, swept}

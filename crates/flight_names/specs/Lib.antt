@@ -19,3 +19,11 @@ pub use Rattle.file_ends.specs.volume_facts as volume_facts
 pub use Rattle.flight_steps.specs.data_route as data_route
 pub use Rattle.flight_steps.specs.map_collection as map_collection
 pub use Rattle.open_files.specs.posix_spec as posix_spec
+pub use Rattle.disk_lines.specs as disk_lines
+pub use Rattle.disk_lines.specs.disk_places as disk_places
+pub use Rattle.file_ends.specs.extent_facts as extent_facts
+pub use Rattle.file_ends.specs.extent_words as extent_words
+pub use Rattle.file_ends.specs.file_overlay as file_overlay
+pub use Rattle.flight_steps.specs.open_numbers as open_numbers
+pub use Rattle.open_files.specs.list_facts as list_facts
+pub use Rattle.pm_lines.specs.pm_words as pm_words

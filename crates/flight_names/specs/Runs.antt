@@ -1,9 +1,9 @@
 -- When the calls run over K-Split, the open files and what is kept of files, beside the jobs that are out.
 use Rattle.std.specs.Prelude.{ℕ, true}
-use Rattle.disk_places.specs.Places.{Geometry}
+use Rattle.file_ends.specs.disk_places.Places.{Geometry}
 use Rattle.file_ends.specs.file_table.Files.{Files}
 use Rattle.file_ends.specs.k_rules.View.{View}
-use Rattle.posix_words.specs.Open.{Tables}
+use Rattle.open_files.specs.posix_words.Open.{Tables}
 use Rattle.open_files.specs.posix_spec.State.{State}
 use Rattle.flight_steps.specs.world_standing.Standing.{Kept, StandsAt}
 

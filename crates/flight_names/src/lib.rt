@@ -20,10 +20,11 @@ mod names;
 mod opens;
 mod outcomes;
 
-pub use file_ends::file_table;
-pub use flight_steps::{file_reads, k_split, map_collection};
+pub use file_ends::FileTable;
+pub use flight_steps::{Collection, read_bytes};
 pub use looks::{list, stat};
+pub use lost_devices::KSplit;
 pub use names::{mkdir, rename, rmdir, unlink};
-pub use open_files;
+pub use open_files::{OpenFiles, Opened};
 pub use opens::{close, dup, open};
 pub use outcomes::{NoMemory, Told, after_fault, answered};

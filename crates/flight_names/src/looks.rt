@@ -2,16 +2,16 @@
 ghost use Rattle.std.specs.Prelude.{◌≡◌, ◌<◌, length, true, Ok};
 ghost use Rattle.disk_lines.specs.declared.Kind.TheVariants.{File};
 ghost use Rattle.file_ends.specs.file_table.Files.{Files, size_in};
-ghost use Rattle.pm_words.specs.Powers.{is_on, Supply};
+ghost use Rattle.file_ends.specs.pm_words.Powers.{is_on, Supply};
 ghost use Rattle.posix_types.specs.declared.call.Call.{Call};
 ghost use Rattle.posix_types.specs.declared.call.Who.{Who};
-ghost use Rattle.posix_words.specs.Open.{Tables};
+ghost use Rattle.open_files.specs.posix_words.Open.{Tables};
 ghost use Rattle.flight_names.specs.Answers.{IsEnded, stat_by};
 
 use crate::outcomes::{NoMemory, Told, after_fault, answered};
 use disk_lines::{Inode, Kind};
-use file_ends::file_table::FileTable;
-use flight_steps::k_split::KSplit;
+use file_ends::FileTable;
+use flight_steps::KSplit;
 use posix_types::{NameList, Path, Reply, Stat};
 use std::alloc::Global;
 

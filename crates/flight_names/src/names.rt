@@ -2,12 +2,12 @@
 ghost use Rattle.std.specs.Prelude.{◌≡◌, ◌<◌, length, true, false, Ok};
 ghost use Rattle.file_ends.specs.file_table.Files.{Files};
 ghost use Rattle.file_ends.specs.path_spelling.Spelling.{AreSpelled};
-ghost use Rattle.pm_words.specs.Powers.{is_on, Steps, Supply};
+ghost use Rattle.file_ends.specs.pm_words.Powers.{is_on, Steps, Supply};
 ghost use Rattle.file_ends.specs.k_rules.View.{View};
 ghost use Rattle.posix_types.specs.declared.call.Call.{Call};
 ghost use Rattle.posix_types.specs.declared.call.Who.{Who};
-ghost use Rattle.posix_words.specs.Open.{Tables};
-ghost use Rattle.posix_words.specs.Outcomes.{answer};
+ghost use Rattle.open_files.specs.posix_words.Open.{Tables};
+ghost use Rattle.open_files.specs.posix_words.Outcomes.{answer};
 ghost use Rattle.flight_steps.specs.posix_orders.Commutes.{takes};
 ghost use Rattle.open_files.specs.posix_spec.State.{State};
 ghost use Rattle.flight_steps.specs.volume_changes.Changes.{MayDrop};
@@ -15,8 +15,8 @@ ghost use Rattle.flight_names.specs.Answers.{ComesHalfWay, HasSameLoans, IsEnded
 ghost use Rattle.flight_names.specs.Runs.{RunsInSome};
 
 use crate::outcomes::{NoMemory, Told, after_fault, answered};
-use file_ends::file_table::FileTable;
-use flight_steps::k_split::KSplit;
+use file_ends::FileTable;
+use flight_steps::KSplit;
 use open_files::OpenFiles;
 use pm_lines::Power;
 use posix_types::{Path, Reply};

@@ -1,7 +1,7 @@
 //! The calls on descriptors.
 ghost use Rattle.std.specs.Prelude.{◌≡◌, ◌&&◌, ◌<◌, ◌^◌, length, nat_lt, [], true, false, Ok};
 ghost use Rattle.file_ends.specs.path_spelling.Spelling.{AreSpelled};
-ghost use Rattle.pm_words.specs.Powers.{is_on, Steps, Supply};
+ghost use Rattle.file_ends.specs.pm_words.Powers.{is_on, Steps, Supply};
 ghost use Rattle.disk_lines.specs.declared.Kind.TheVariants.{File};
 ghost use Rattle.file_ends.specs.disk_rules.Volume.{inode};
 ghost use Rattle.file_ends.specs.file_table.Files.{Files, runs_in, size_in};
@@ -14,8 +14,8 @@ ghost use Rattle.flight_names.specs.Runs.{RunsInSome};
 
 use crate::outcomes::{NoMemory, Told, after_fault, answered};
 use disk_lines::Kind;
-use file_ends::file_table::FileTable;
-use flight_steps::k_split::KSplit;
+use file_ends::FileTable;
+use flight_steps::KSplit;
 use open_files::{OpenFault, OpenFiles};
 use pm_lines::Power;
 use posix_types::{Errno, Flags, Handle, Path, Reply, Who};

@@ -1,9 +1,9 @@
 //! How a call ends.
 ghost use Rattle.std.specs.Prelude.{◌≡◌};
-ghost use Rattle.posix_words.specs.Outcomes.{answer};
+ghost use Rattle.open_files.specs.posix_words.Outcomes.{answer};
 ghost use Rattle.flight_names.specs.Answers.{told_of};
 
-use flight_steps::k_split::KFault;
+use flight_steps::KFault;
 use posix_types::{Errno, Outcome, Reply};
 use std::alloc::AllocError;
 

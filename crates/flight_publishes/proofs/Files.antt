@@ -1,13 +1,13 @@
 -- A file is published, or the power goes in it.
 use Rattle.std.specs.Prelude.{◌≡◌, ◌+◌, ◌*◌, ℕ, List, [], length, Ok, refl}
 use Rattle.std.proofs.Common.{sym, subst}
-use Rattle.file_overlay.specs.declared.runs.Run.{Run}
+use Rattle.flight_relinks.specs.file_overlay.declared.runs.Run.{Run}
 use Rattle.flight_relinks.specs.file_table.Files.{ChangesFile, Files, runs_in, size_in}
 use Rattle.flight_relinks.specs.fsync_relink.Publishes.{IsCarriedOut, IsPublishDone, IsPublishStopped, MayPublish}
 use Rattle.flight_relinks.specs.k_journal.declared.outcomes.Commit.{Commit}
 use Rattle.flight_relinks.specs.k_rules.View.{View}
 use Rattle.flight_relinks.specs.k_split.declared.faults.KFault.{KFault}
-use Rattle.pm_words.specs.Powers.{Steps, Supply}
+use Rattle.flight_relinks.specs.pm_words.Powers.{Steps, Supply}
 use Rattle.flight_publishes.specs.Answers.{IsFilePublished, with_files}
 use Rattle.flight_relinks.specs.Laws.{KeepsPublished, StandsPublished}
 

@@ -1,17 +1,17 @@
 -- What the publishing of a file answers and leaves of a World with writes in flight.
 use Rattle.std.specs.Prelude.{◌≡◌, ℕ, Bool, List, [], map, Option, Result, Ok, Err}
 use Rattle.std.specs.declared.alloc.AllocError.{AllocError}
-use Rattle.pm_words.specs.declared.Cell.{Cell}
-use Rattle.pm_words.specs.Words.{Words}
-use Rattle.disk_places.specs.Places.{Geometry}
+use Rattle.flight_relinks.specs.pm_words.declared.Cell.{Cell}
+use Rattle.flight_relinks.specs.pm_words.Words.{Words}
+use Rattle.flight_relinks.specs.disk_places.Places.{Geometry}
 use Rattle.flight_relinks.specs.file_table.Files.{ChangesFile, Files, runs_in, size_in}
 use Rattle.flight_relinks.specs.fsync_relink.Publishes.{IsPublishDone, IsPublishStopped}
 use Rattle.flight_relinks.specs.k_journal.declared.outcomes.Commit.{Commit}
 use Rattle.flight_relinks.specs.k_rules.View.{View}
 use Rattle.flight_relinks.specs.k_split.declared.faults.KFault.{KFault}
-use Rattle.posix_types.specs.declared.call.Mode.{Mode}
-use Rattle.posix_types.specs.declared.item.Item.{Item}
-use Rattle.posix_words.specs.Open.{Tables}
+use Rattle.flight_relinks.specs.posix_types.declared.call.Mode.{Mode}
+use Rattle.flight_relinks.specs.posix_types.declared.item.Item.{Item}
+use Rattle.flight_relinks.specs.posix_words.Open.{Tables}
 use Rattle.flight_relinks.specs.posix_spec.Run.{run}
 use Rattle.flight_relinks.specs.posix_spec.State.{State}
 use Rattle.flight_relinks.specs.world_images.Promised.{IsKept}

@@ -14,13 +14,9 @@ ghost use Rattle.flight_relinks.specs.file_table.Files.{runs_in, size_in};
 ghost use Rattle.flight_publishes.specs.Answers.{IsFilePublished};
 ghost use Rattle.flight_relinks.specs.fsync_relink.Others.{GoesOn};
 ghost use Rattle.flight_relinks.specs.fsync_relink.Publishes.{IsPublishPaid, MayPublish};
-ghost use Rattle.pm_words.specs.Powers.{is_on, Steps};
+ghost use Rattle.flight_relinks.specs.pm_words.Powers.{is_on, Steps};
 
-use flight_relinks::a_file_is_published;
-use flight_relinks::file_table::FileTable;
-use flight_relinks::fsync_relink::publish_runs;
-use flight_relinks::k_journal::Commit;
-use flight_relinks::k_split::KSplit;
+use flight_relinks::{Commit, FileTable, KSplit, a_file_is_published, publish_runs};
 use pm_lines::Power;
 use std::alloc::{AllocError, Global};
 

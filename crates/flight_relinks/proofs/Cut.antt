@@ -2,17 +2,17 @@
 use Rattle.std.specs.Prelude.{◌≡◌, ◌⊎◌, ◌<◌, ℕ, List, [], ◌∷◌, ◌++◌, map, Option, Some, None, refl}
 use Rattle.std.proofs.Common.{◌∙◌, sym, subst, inl, inr}
 use Rattle.std.proofs.lemmas.List.{append-nil}
-use Rattle.pm_words.specs.declared.Cell.{Cell}
-use Rattle.pm_words.specs.Images.{ComesFrom, IsImage}
-use Rattle.pm_words.specs.Words.{Words}
-use Rattle.disk_places.specs.Journal.{IsSound, journaled}
-use Rattle.disk_lines.specs.declared.Draft.{Draft}
+use Rattle.flight_changes.specs.pm_words.declared.Cell.{Cell}
+use Rattle.flight_changes.specs.pm_words.Images.{ComesFrom, IsImage}
+use Rattle.flight_changes.specs.pm_words.Words.{Words}
+use Rattle.flight_changes.specs.disk_places.Journal.{IsSound, journaled}
+use Rattle.flight_changes.specs.disk_lines.declared.Draft.{Draft}
 use Rattle.flight_changes.specs.disk_rules.Reading.{Reads}
 use Rattle.flight_changes.specs.disk_rules.Volume.{Volume}
 use Rattle.flight_changes.specs.k_rules.Stands.{IsOldOrNew}
-use Rattle.list_facts.specs.Members.{In}
-use Rattle.posix_types.specs.declared.call.Mode.{Mode}
-use Rattle.posix_types.specs.declared.item.Item.{Item}
+use Rattle.flight_changes.specs.list_facts.Members.{In}
+use Rattle.flight_changes.specs.posix_types.declared.call.Mode.{Mode}
+use Rattle.flight_changes.specs.posix_types.declared.item.Item.{Item}
 use Rattle.flight_changes.specs.posix_spec.Run.{run}
 use Rattle.flight_changes.specs.posix_spec.State.{State}
 use Rattle.flight_changes.specs.world_rules.Jobs.{begun_of, Job, staged_block}

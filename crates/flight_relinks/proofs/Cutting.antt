@@ -1,28 +1,28 @@
 -- The power went while runs of a file were relinked: each image is kept.
 use Rattle.std.specs.Prelude.{◌≡◌, ◌≢◌, ◌⊎◌, ◌<◌, ◌+◌, ℕ, Bool, false, List, [], ◌∷◌, map, Option, None, Some, Err, refl}
 use Rattle.std.proofs.Common.{arith, ap, ◌∙◌, sym, subst, inl, inr}
-use Rattle.pm_words.specs.declared.Cell.{Cell}
-use Rattle.pm_words.specs.Images.{IsImage}
-use Rattle.pm_words.specs.Parts.{put_back}
-use Rattle.pm_words.specs.Cells.{cell}
-use Rattle.pm_words.specs.Words.{line_bytes, Words}
-use Rattle.disk_places.specs.Journal.{journaled}
-use Rattle.disk_places.specs.Places.{Geometry, log_line}
-use Rattle.disk_lines.specs.declared.Draft.{Draft}
-use Rattle.disk_lines.specs.Entries.{encode_entry, held_seq, is_self_valid}
+use Rattle.flight_changes.specs.pm_words.declared.Cell.{Cell}
+use Rattle.flight_changes.specs.pm_words.Images.{IsImage}
+use Rattle.flight_changes.specs.pm_words.Parts.{put_back}
+use Rattle.flight_changes.specs.pm_words.Cells.{cell}
+use Rattle.flight_changes.specs.pm_words.Words.{line_bytes, Words}
+use Rattle.flight_changes.specs.disk_places.Journal.{journaled}
+use Rattle.flight_changes.specs.disk_places.Places.{Geometry, log_line}
+use Rattle.flight_changes.specs.disk_lines.declared.Draft.{Draft}
+use Rattle.flight_changes.specs.disk_lines.Entries.{encode_entry, held_seq, is_self_valid}
 use Rattle.flight_changes.specs.disk_rules.Honest.{IsHonest, IsHonestWith}
 use Rattle.flight_changes.specs.disk_rules.Volume.{Volume}
-use Rattle.file_overlay.specs.declared.runs.Run.{Run}
-use Rattle.world_standing.specs.file_table.Files.{Files, runs_in, size_in}
-use Rattle.fsync_relink.proofs.NextLaws.{next-may}
-use Rattle.fsync_relink.specs.Publishes.{IsPublishStopped, IsRelinkedUpTo, IsResized, MayPublish}
+use Rattle.flight_laps.specs.file_overlay.declared.runs.Run.{Run}
+use Rattle.flight_laps.specs.world_standing.file_table.Files.{Files, runs_in, size_in}
+use Rattle.flight_laps.proofs.fsync_relink_proofs.NextLaws.{next-may}
+use Rattle.flight_laps.specs.fsync_relink.Publishes.{IsPublishStopped, IsRelinkedUpTo, IsResized, MayPublish}
 use Rattle.flight_changes.specs.k_rules.View.{View}
-use Rattle.fsync_relink.specs.k_split.declared.faults.KFault.{KFault}
-use Rattle.fsync_relink.specs.k_split.MapChanges.{IsRelinkAnswer}
-use Rattle.world_standing.specs.overlay_facts.Overlays.{IsOverlayOf}
-use Rattle.posix_types.specs.declared.call.Mode.{Mode}
-use Rattle.posix_types.specs.declared.item.Item.{Item}
-use Rattle.posix_words.specs.Open.{Tables}
+use Rattle.flight_laps.specs.fsync_relink.k_split.declared.faults.KFault.{KFault}
+use Rattle.flight_laps.specs.fsync_relink.k_split.MapChanges.{IsRelinkAnswer}
+use Rattle.flight_laps.specs.world_standing.overlay_facts.Overlays.{IsOverlayOf}
+use Rattle.flight_changes.specs.posix_types.declared.call.Mode.{Mode}
+use Rattle.flight_changes.specs.posix_types.declared.item.Item.{Item}
+use Rattle.flight_changes.specs.posix_words.Open.{Tables}
 use Rattle.flight_changes.specs.posix_spec.Run.{run}
 use Rattle.flight_changes.specs.posix_spec.State.{State}
 use Rattle.flight_changes.specs.world_images.Images.{StandsFor}
@@ -34,7 +34,7 @@ use Rattle.flight_changes.specs.world_log.Lines.{AreJobLines, AreLinesOut, Holds
 use Rattle.flight_changes.specs.world_rules.Jobs.{begun_of, Job, live_claims}
 use Rattle.flight_changes.specs.world_steps.Steps.{AreBeside}
 use Rattle.flight_changes.specs.world_steps.Touched.{only}
-use Rattle.world_standing.specs.Standing.{Kept, StandsAt}
+use Rattle.flight_laps.specs.world_standing.Standing.{Kept, StandsAt}
 use Rattle.flight_relinks.specs.Laws.{first_move, KeepsPublished, KeepsPublishedHome, StandsThen}
 use Rattle.flight_relinks.proofs.Cut.{filled-same, HaveSameBlocks}
 use Rattle.flight_relinks.proofs.Kept.{keeps-relinked, keeps-relinked-home, no-jobs}

@@ -1,22 +1,22 @@
 -- The power went while the first run of a file was relinked: each image is kept.
 use Rattle.std.specs.Prelude.{◌≡◌, ℕ, Bool, false, List, [], ◌∷◌, map, refl}
 use Rattle.std.proofs.Common.{sym, subst}
-use Rattle.disk_places.specs.Places.{Geometry}
+use Rattle.flight_changes.specs.disk_places.Places.{Geometry}
 use Rattle.flight_changes.specs.disk_rules.Volume.{Volume}
-use Rattle.file_overlay.specs.declared.runs.Run.{Run}
-use Rattle.world_standing.specs.file_table.Files.{runs_in, size_in}
-use Rattle.fsync_relink.specs.Publishes.{MayPublish}
+use Rattle.flight_laps.specs.file_overlay.declared.runs.Run.{Run}
+use Rattle.flight_laps.specs.world_standing.file_table.Files.{runs_in, size_in}
+use Rattle.flight_laps.specs.fsync_relink.Publishes.{MayPublish}
 use Rattle.flight_changes.specs.k_rules.View.{View}
-use Rattle.fsync_relink.specs.k_split.MapChanges.{ChangesMaps, IsMapCut, IsMovedWith}
-use Rattle.posix_types.specs.declared.item.Item.{Item}
-use Rattle.posix_words.specs.Open.{Tables}
+use Rattle.flight_laps.specs.fsync_relink.k_split.MapChanges.{ChangesMaps, IsMapCut, IsMovedWith}
+use Rattle.flight_changes.specs.posix_types.declared.item.Item.{Item}
+use Rattle.flight_changes.specs.posix_words.Open.{Tables}
 use Rattle.flight_changes.specs.posix_spec.Run.{run}
 use Rattle.flight_changes.specs.posix_spec.State.{State}
 use Rattle.flight_changes.specs.world_images.Promised.{IsKept}
 use Rattle.flight_changes.specs.world_rules.Jobs.{begun_of, Job}
 use Rattle.flight_changes.specs.world_steps.Steps.{AreBeside}
 use Rattle.flight_changes.specs.world_steps.Touched.{only}
-use Rattle.world_standing.specs.Standing.{AreJobsOf, Kept, Pending, StandsAt}
+use Rattle.flight_laps.specs.world_standing.Standing.{AreJobsOf, Kept, Pending, StandsAt}
 use Rattle.flight_changes.specs.Changes.{IsChangeWith}
 use Rattle.flight_relinks.specs.Laws.{first_move, KeepsRelinked, KeepsRelinkedHome}
 use Rattle.flight_relinks.proofs.Cut.{kept-back, kept-home}

@@ -3,16 +3,16 @@ use Rattle.std.specs.Prelude.{◌≡◌, ◌≢◌, ◌≤◌, ◌<◌, ◌+◌,
 use Rattle.std.proofs.Common.{arith, ap, ◌∙◌, sym, subst, inl, inr}
 use Rattle.std.proofs.lemmas.Bool.{cases_eq, eq-eqb, lt-ltb, ne_eqb}
 use Rattle.std.proofs.lemmas.Bool.Decides.{Decides-eqb, nat_tests}
-use Rattle.extent_words.specs.declared.Extent.{Extent}
-use Rattle.disk_lines.specs.declared.Draft.{Draft}
+use Rattle.flight_changes.specs.extent_words.declared.Extent.{Extent}
+use Rattle.flight_changes.specs.disk_lines.declared.Draft.{Draft}
 use Rattle.flight_changes.specs.disk_rules.Live.{is_file, is_live, is_of_file}
 use Rattle.flight_changes.specs.disk_rules.Volume.{inode, Volume}
-use Rattle.list_facts.specs.Filters.{filter-agree, filter-both, filter-In}
-use Rattle.list_facts.specs.Members.{In}
+use Rattle.flight_changes.specs.list_facts.Filters.{filter-agree, filter-both, filter-In}
+use Rattle.flight_changes.specs.list_facts.Members.{In}
 use Rattle.flight_changes.specs.world_rules.Jobs.{live_claims}
 use Rattle.flight_changes.specs.world_rules.Stands.{Consecutive, entries_of}
 use Rattle.flight_changes.specs.world_promise.Latest.{Consecutive-between}
-use Rattle.fsync_relink.specs.world_runs.Relinks.{Relinks}
+use Rattle.flight_laps.specs.fsync_relink.world_runs.Relinks.{Relinks}
 
 -- ---- filters
 

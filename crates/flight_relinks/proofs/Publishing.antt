@@ -3,26 +3,26 @@ use Rattle.std.specs.Prelude.{◌≡◌, ◌≢◌, ◌<◌, ◌≤◌, ℕ, Boo
 use Rattle.std.proofs.Common.{arith, ap, ◌∙◌, sym, subst, inl, inr, get_or, get_or-set_other, get_or-set_same}
 use Rattle.std.proofs.lemmas.Bool.{cases_eq, cases_lt}
 use Rattle.std.proofs.lemmas.List.{get_or_past, set-get_or}
-use Rattle.disk_places.specs.Places.{Geometry}
-use Rattle.disk_lines.specs.declared.Draft.{Draft}
+use Rattle.flight_changes.specs.disk_places.Places.{Geometry}
+use Rattle.flight_changes.specs.disk_lines.declared.Draft.{Draft}
 use Rattle.flight_changes.specs.disk_rules.Content.{size_by}
 use Rattle.flight_changes.specs.disk_rules.Live.{latest}
 use Rattle.flight_changes.specs.disk_rules.Volume.{inode, Volume}
-use Rattle.file_overlay.specs.declared.runs.Run.{Run}
-use Rattle.file_overlay.specs.Runs.{Overlaid}
-use Rattle.world_standing.specs.file_table.Files.{ChangesFile, Files, nothing_laid, runs_in, size_in, spare_in}
-use Rattle.fsync_relink.proofs.NextLaws.{next-may}
-use Rattle.fsync_relink.specs.Publishes.{AreRelinked, IsPublishDone, MayPublish}
+use Rattle.flight_laps.specs.file_overlay.declared.runs.Run.{Run}
+use Rattle.flight_laps.specs.file_overlay.Runs.{Overlaid}
+use Rattle.flight_laps.specs.world_standing.file_table.Files.{ChangesFile, Files, nothing_laid, runs_in, size_in, spare_in}
+use Rattle.flight_laps.proofs.fsync_relink_proofs.NextLaws.{next-may}
+use Rattle.flight_laps.specs.fsync_relink.Publishes.{AreRelinked, IsPublishDone, MayPublish}
 use Rattle.flight_changes.specs.k_rules.View.{View}
-use Rattle.list_facts.specs.Members.{In}
-use Rattle.world_standing.specs.overlay_facts.Overlays.{IsOverlayOf, run_of}
-use Rattle.posix_words.specs.Open.{Tables}
+use Rattle.flight_changes.specs.list_facts.Members.{In}
+use Rattle.flight_laps.specs.world_standing.overlay_facts.Overlays.{IsOverlayOf, run_of}
+use Rattle.flight_changes.specs.posix_words.Open.{Tables}
 use Rattle.flight_changes.specs.posix_spec.State.{State}
 use Rattle.flight_changes.specs.world_rules.Jobs.{live_claims}
 use Rattle.flight_changes.specs.world_rules.Stands.{entries_of}
 use Rattle.flight_changes.specs.world_steps.Steps.{AreBeside}
 use Rattle.flight_changes.specs.world_steps.Touched.{only}
-use Rattle.world_standing.specs.Standing.{Kept, LinesStand, Pending, StandsAt}
+use Rattle.flight_laps.specs.world_standing.Standing.{Kept, LinesStand, Pending, StandsAt}
 use Rattle.flight_relinks.specs.Laws.{StandsPublished, StandsThen}
 use Rattle.flight_relinks.proofs.Relinked.{job-beside}
 use Rattle.flight_relinks.proofs.Standing.{job-of, stands-relinked}

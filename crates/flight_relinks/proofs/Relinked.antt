@@ -3,50 +3,50 @@ use Rattle.std.specs.Prelude.{◌≡◌, ◌≢◌, ◌⊎◌, ◌≤◌, ◌<�
 use Rattle.std.proofs.Common.{arith, ap, ◌∙◌, sym, subst, inl, inr}
 use Rattle.std.proofs.lemmas.Bool.{both_ways, cases_eq, eq-eqb, eqb-true}
 use Rattle.std.proofs.lemmas.Bool.Decides.{nat_tests}
-use Rattle.pm_words.specs.ImageLaws.{IsImage-words_of}
-use Rattle.pm_words.specs.Images.{words_of}
-use Rattle.disk_places.specs.Journal.{journaled}
-use Rattle.disk_places.specs.Places.{data_blocks, Geometry}
-use Rattle.disk_lines.specs.declared.Draft.{Draft}
-use Rattle.disk_lines.specs.declared.Kind.TheVariants.{File, Staging}
-use Rattle.disk_lines.specs.Entries.{is_draft}
+use Rattle.flight_changes.specs.pm_words.ImageLaws.{IsImage-words_of}
+use Rattle.flight_changes.specs.pm_words.Images.{words_of}
+use Rattle.flight_changes.specs.disk_places.Journal.{journaled}
+use Rattle.flight_changes.specs.disk_places.Places.{data_blocks, Geometry}
+use Rattle.flight_changes.specs.disk_lines.declared.Draft.{Draft}
+use Rattle.flight_changes.specs.disk_lines.declared.Kind.TheVariants.{File, Staging}
+use Rattle.flight_changes.specs.disk_lines.Entries.{is_draft}
 use Rattle.flight_changes.specs.disk_rules.Content.{size_by, size_of}
 use Rattle.flight_changes.specs.disk_rules.Live.{latest}
 use Rattle.flight_changes.specs.disk_rules.Placed.{block_at}
 use Rattle.flight_changes.specs.disk_rules.Rules.{AreApart}
 use Rattle.flight_changes.specs.disk_rules.Volume.{extents, inode, Volume}
-use Rattle.extent_facts.specs.Covers.{covers-disk_at}
-use Rattle.extent_words.specs.Extents.{covers, disk_at, is_within}
-use Rattle.file_overlay.specs.declared.runs.Run.{Run}
-use Rattle.world_standing.specs.file_table.Files.{runs_in, size_in}
-use Rattle.fsync_relink.proofs.NextLaws.{may-move}
-use Rattle.fsync_relink.specs.Publishes.{MayPublish, move_of, size_before}
-use Rattle.fsync_relink.specs.k_map_plans.Plans.{MayMove}
-use Rattle.fsync_relink.specs.k_plans.Whole.{IsWhole}
+use Rattle.flight_changes.specs.extent_facts.Covers.{covers-disk_at}
+use Rattle.flight_changes.specs.extent_words.Extents.{covers, disk_at, is_within}
+use Rattle.flight_laps.specs.file_overlay.declared.runs.Run.{Run}
+use Rattle.flight_laps.specs.world_standing.file_table.Files.{runs_in, size_in}
+use Rattle.flight_laps.proofs.fsync_relink_proofs.NextLaws.{may-move}
+use Rattle.flight_laps.specs.fsync_relink.Publishes.{MayPublish, move_of, size_before}
+use Rattle.flight_laps.specs.fsync_relink.k_map_plans.Plans.{MayMove}
+use Rattle.flight_laps.specs.fsync_relink.k_plans.Whole.{IsWhole}
 use Rattle.flight_changes.specs.k_rules.View.{View}
-use Rattle.fsync_relink.specs.k_split.MapChanges.{is_free_in, IsMovedWith}
-use Rattle.list_facts.specs.Filters.{filter-In}
-use Rattle.list_facts.specs.Members.{In}
-use Rattle.fsync_relink.specs.map_facts.Moves.{move_for}
-use Rattle.world_standing.specs.overlay_facts.Overlays.{IsOverlayOf, run_of}
-use Rattle.posix_words.specs.Open.{Tables}
+use Rattle.flight_laps.specs.fsync_relink.k_split.MapChanges.{is_free_in, IsMovedWith}
+use Rattle.flight_changes.specs.list_facts.Filters.{filter-In}
+use Rattle.flight_changes.specs.list_facts.Members.{In}
+use Rattle.flight_laps.specs.fsync_relink.map_facts.Moves.{move_for}
+use Rattle.flight_laps.specs.world_standing.overlay_facts.Overlays.{IsOverlayOf, run_of}
+use Rattle.flight_changes.specs.posix_words.Open.{Tables}
 use Rattle.flight_changes.specs.posix_spec.State.{State}
 use Rattle.flight_changes.specs.world_images.Images.{HasRoom}
 use Rattle.flight_changes.specs.world_images.Laws.{Takes}
-use Rattle.fsync_relink.proofs.world_relinks_proofs.RelinkLaws.{chain-file, chain-left}
-use Rattle.fsync_relink.proofs.world_relinks_proofs.WorldLaws.{free-in_data, free-unmapped, gives-relinks, relink-takes_one}
-use Rattle.fsync_relink.specs.world_relinks.Laws.{IsRelinkOf}
-use Rattle.fsync_relink.specs.world_room.Free.{stays_free_relinked}
-use Rattle.posix_words.specs.declared.nodes.Node.{Node}
-use Rattle.posix_words.specs.Nodes.{node_at}
+use Rattle.flight_laps.proofs.fsync_relink_proofs.world_relinks_proofs.RelinkLaws.{chain-file, chain-left}
+use Rattle.flight_laps.proofs.fsync_relink_proofs.world_relinks_proofs.WorldLaws.{free-in_data, free-unmapped, gives-relinks, relink-takes_one}
+use Rattle.flight_laps.specs.fsync_relink.world_relinks.Laws.{IsRelinkOf}
+use Rattle.flight_laps.specs.fsync_relink.world_room.Free.{stays_free_relinked}
+use Rattle.flight_changes.specs.posix_words.declared.nodes.Node.{Node}
+use Rattle.flight_changes.specs.posix_words.Nodes.{node_at}
 use Rattle.flight_changes.specs.world_rules.Jobs.{Job, JobsStand, JobStands, live_claims, staged_block}
 use Rattle.flight_changes.specs.world_rules.Stands.{Consecutive, entries_of, is_used, NodeStands, number}
-use Rattle.fsync_relink.specs.world_runs.Relinks.{IsFirst, Relinks}
-use Rattle.fsync_relink.specs.world_runs.RunSteps.{relinked}
+use Rattle.flight_laps.specs.fsync_relink.world_runs.Relinks.{IsFirst, Relinks}
+use Rattle.flight_laps.specs.fsync_relink.world_runs.RunSteps.{relinked}
 use Rattle.flight_changes.specs.world_steps.Steps.{AreBeside}
 use Rattle.flight_changes.specs.world_steps.Touched.{only}
 use Rattle.flight_changes.specs.world_steps.Worlds.{IsWorld}
-use Rattle.world_standing.specs.Standing.{Kept, StandsAt}
+use Rattle.flight_laps.specs.world_standing.Standing.{Kept, StandsAt}
 use Rattle.flight_changes.specs.Changes.{AreSpare}
 use Rattle.flight_relinks.specs.Laws.{first_move}
 use Rattle.flight_relinks.proofs.Lives.{entries-other, entries-own, one-less, still-live}

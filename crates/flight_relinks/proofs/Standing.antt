@@ -5,40 +5,40 @@ use Rattle.std.proofs.Common.{arith, ap, ◌∙◌, sym, subst, inl, inr, get_or
 use Rattle.std.proofs.lemmas.List.{set-get_or}
 use Rattle.std.proofs.lemmas.List.Folds.{list_any_at}
 use Rattle.std.proofs.lemmas.Bool.{both_ways, cases_Bool, cases_eq, eq-eqb}
-use Rattle.pm_words.specs.Cells.{cell, is_lent}
-use Rattle.pm_words.specs.ImageLaws.{IsImage-words_of}
-use Rattle.pm_words.specs.Images.{words_of}
-use Rattle.pm_words.specs.Words.{line_bytes}
-use Rattle.disk_places.specs.Places.{Geometry, log_line}
-use Rattle.disk_lines.specs.declared.Draft.{Draft}
-use Rattle.disk_lines.specs.declared.Kind.TheVariants.{File}
-use Rattle.disk_lines.specs.Entries.{held_seq, is_self_valid}
+use Rattle.flight_changes.specs.pm_words.Cells.{cell, is_lent}
+use Rattle.flight_changes.specs.pm_words.ImageLaws.{IsImage-words_of}
+use Rattle.flight_changes.specs.pm_words.Images.{words_of}
+use Rattle.flight_changes.specs.pm_words.Words.{line_bytes}
+use Rattle.flight_changes.specs.disk_places.Places.{Geometry, log_line}
+use Rattle.flight_changes.specs.disk_lines.declared.Draft.{Draft}
+use Rattle.flight_changes.specs.disk_lines.declared.Kind.TheVariants.{File}
+use Rattle.flight_changes.specs.disk_lines.Entries.{held_seq, is_self_valid}
 use Rattle.flight_changes.specs.disk_rules.Content.{size_by}
 use Rattle.flight_changes.specs.disk_rules.Live.{latest}
 use Rattle.flight_changes.specs.disk_rules.Volume.{extents, inode, Volume}
-use Rattle.extent_words.specs.Extents.{disk_at, is_within}
-use Rattle.file_overlay.specs.declared.runs.Run.{Run}
-use Rattle.world_standing.specs.file_table.Files.{ChangesFile, Files, runs_in, size_in, spare_in}
-use Rattle.world_standing.specs.flight_facts.Flying.{IsOut}
-use Rattle.fsync_relink.specs.Publishes.{MayPublish}
-use Rattle.world_standing.specs.held_sums.Laws.{AreSizes}
-use Rattle.world_standing.specs.job_facts.Blocks.{AreOut}
+use Rattle.flight_changes.specs.extent_words.Extents.{disk_at, is_within}
+use Rattle.flight_laps.specs.file_overlay.declared.runs.Run.{Run}
+use Rattle.flight_laps.specs.world_standing.file_table.Files.{ChangesFile, Files, runs_in, size_in, spare_in}
+use Rattle.flight_laps.specs.world_standing.flight_facts.Flying.{IsOut}
+use Rattle.flight_laps.specs.fsync_relink.Publishes.{MayPublish}
+use Rattle.flight_laps.specs.world_standing.held_sums.Laws.{AreSizes}
+use Rattle.flight_laps.specs.world_standing.job_facts.Blocks.{AreOut}
 use Rattle.flight_changes.specs.k_rules.Stands.{Stands}
 use Rattle.flight_changes.specs.k_rules.View.{View}
-use Rattle.fsync_relink.specs.k_split.MapChanges.{ChangesMaps, IsMapDone, IsRelinkAnswer}
-use Rattle.list_facts.specs.Members.{In}
-use Rattle.world_standing.specs.overlay_facts.Overlays.{IsOverlayOf, run_of}
-use Rattle.posix_words.specs.Open.{Tables}
+use Rattle.flight_laps.specs.fsync_relink.k_split.MapChanges.{ChangesMaps, IsMapDone, IsRelinkAnswer}
+use Rattle.flight_changes.specs.list_facts.Members.{In}
+use Rattle.flight_laps.specs.world_standing.overlay_facts.Overlays.{IsOverlayOf, run_of}
+use Rattle.flight_changes.specs.posix_words.Open.{Tables}
 use Rattle.flight_changes.specs.posix_spec.State.{State}
-use Rattle.world_standing.proofs.staging_files_proofs.GiveUpLaws.{staging-file}
-use Rattle.world_standing.proofs.staging_files_proofs.StagedLaws.{free-none}
-use Rattle.world_standing.specs.staging_files.Keeps.{Agrees, has_block, is_kept_free, IsKeptEmpty, IsStaging}
+use Rattle.flight_laps.proofs.world_standing_proofs.staging_files_proofs.GiveUpLaws.{staging-file}
+use Rattle.flight_laps.proofs.world_standing_proofs.staging_files_proofs.StagedLaws.{free-none}
+use Rattle.flight_laps.specs.world_standing.staging_files.Keeps.{Agrees, has_block, is_kept_free, IsKeptEmpty, IsStaging}
 use Rattle.flight_changes.specs.world_images.Images.{StandsFor}
 use Rattle.flight_changes.specs.world_rules.Jobs.{Job, live_claims, staged_block}
 use Rattle.flight_changes.specs.world_rules.Stands.{entries_of, IsSane}
 use Rattle.flight_changes.specs.world_steps.Steps.{AreBeside}
 use Rattle.flight_changes.specs.world_steps.Touched.{only}
-use Rattle.world_standing.specs.Standing.{AreJobsOf, HasItsBlocks, Kept, LinesStand, Pending, reserved_run, StandsAt}
+use Rattle.flight_laps.specs.world_standing.Standing.{AreJobsOf, HasItsBlocks, Kept, LinesStand, Pending, reserved_run, StandsAt}
 use Rattle.flight_changes.specs.Changes.{IsChangeWith}
 use Rattle.flight_changes.proofs.Devices.{changes_device_with, keeps_log_home_with}
 use Rattle.flight_relinks.specs.Laws.{first_move, StandsRelinked, StandsThen}

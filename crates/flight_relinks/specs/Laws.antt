@@ -1,19 +1,19 @@
 -- What a relink leaves of a World with writes in flight, each law as one statement.
 use Rattle.std.specs.Prelude.{◌≡◌, ℕ, Bool, false, List, [], ◌∷◌, map, Option, Ok}
-use Rattle.pm_words.specs.declared.Cell.{Cell}
-use Rattle.pm_words.specs.Words.{Words}
-use Rattle.disk_places.specs.Places.{Geometry}
+use Rattle.flight_changes.specs.pm_words.declared.Cell.{Cell}
+use Rattle.flight_changes.specs.pm_words.Words.{Words}
+use Rattle.flight_changes.specs.disk_places.Places.{Geometry}
 use Rattle.flight_changes.specs.disk_rules.Volume.{inode, Volume}
-use Rattle.file_overlay.specs.declared.runs.Run.{Run}
-use Rattle.world_standing.specs.file_table.Files.{ChangesFile, Files, runs_in, size_in}
-use Rattle.fsync_relink.specs.Publishes.{IsPublishDone, IsPublishStopped, MayPublish, move_of, size_before}
+use Rattle.flight_laps.specs.file_overlay.declared.runs.Run.{Run}
+use Rattle.flight_laps.specs.world_standing.file_table.Files.{ChangesFile, Files, runs_in, size_in}
+use Rattle.flight_laps.specs.fsync_relink.Publishes.{IsPublishDone, IsPublishStopped, MayPublish, move_of, size_before}
 use Rattle.flight_changes.specs.k_rules.View.{View}
-use Rattle.fsync_relink.specs.k_split.declared.faults.KFault.{KFault}
-use Rattle.fsync_relink.specs.k_split.MapChanges.{IsMapCut, IsMovedWith, IsRelinkAnswer}
-use Rattle.fsync_relink.specs.map_rules.declared.moves.Move.{Move}
-use Rattle.posix_types.specs.declared.call.Mode.{Mode}
-use Rattle.posix_types.specs.declared.item.Item.{Item}
-use Rattle.posix_words.specs.Open.{Tables}
+use Rattle.flight_laps.specs.fsync_relink.k_split.declared.faults.KFault.{KFault}
+use Rattle.flight_laps.specs.fsync_relink.k_split.MapChanges.{IsMapCut, IsMovedWith, IsRelinkAnswer}
+use Rattle.flight_laps.specs.fsync_relink.map_rules.declared.moves.Move.{Move}
+use Rattle.flight_changes.specs.posix_types.declared.call.Mode.{Mode}
+use Rattle.flight_changes.specs.posix_types.declared.item.Item.{Item}
+use Rattle.flight_changes.specs.posix_words.Open.{Tables}
 use Rattle.flight_changes.specs.posix_spec.Run.{run}
 use Rattle.flight_changes.specs.posix_spec.State.{State}
 use Rattle.flight_changes.specs.world_images.Promised.{IsKept, KeepsPromise}
@@ -21,7 +21,7 @@ use Rattle.flight_changes.specs.world_lent.Back.{IsPutBack}
 use Rattle.flight_changes.specs.world_rules.Jobs.{begun_of}
 use Rattle.flight_changes.specs.world_steps.Steps.{AreBeside}
 use Rattle.flight_changes.specs.world_steps.Touched.{only}
-use Rattle.world_standing.specs.Standing.{Kept, StandsAt}
+use Rattle.flight_laps.specs.world_standing.Standing.{Kept, StandsAt}
 
 -- the relink of a file's first run, behind which these are left
 abbrev pub first_move : Kept → View → ℕ → Run → List Run → Move

@@ -35,6 +35,7 @@ pub fn a_file_is_published()
     ensures home { KeepsPublishedHome }
 {}
 
-pub use fsync_relink;
-pub use fsync_relink::{k_journal, k_split};
-pub use world_standing::file_table;
+pub use flight_laps::{
+    Commit, FileTable, KSplit, publish_runs, the_next_lap_begins, what_stands_may_be_gathered,
+    what_stands_may_be_published,
+};

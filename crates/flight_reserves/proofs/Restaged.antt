@@ -4,30 +4,30 @@ use Rattle.std.proofs.Common.{arith, ap, ◌∙◌, sym, subst, inl, inr}
 use Rattle.std.proofs.lemmas.Bool.{and_parts, cases_eq, cases_lt}
 use Rattle.std.proofs.lemmas.Bool.Decides.{nat_tests}
 use Rattle.std.proofs.lemmas.List.{get_or-append-add, length-append}
-use Rattle.pm_words.specs.ImageLaws.{IsImage-words_of}
-use Rattle.pm_words.specs.Images.{words_of}
-use Rattle.disk_places.specs.Journal.{journaled}
-use Rattle.disk_places.specs.Places.{data_blocks, Geometry, reserve}
-use Rattle.disk_lines.specs.declared.Draft.{Draft}
-use Rattle.disk_lines.specs.declared.Inode.{Inode}
-use Rattle.disk_lines.specs.declared.Kind.TheVariants.{File, Staging}
-use Rattle.disk_lines.specs.Entries.{is_draft}
+use Rattle.flight_changes.specs.pm_words.ImageLaws.{IsImage-words_of}
+use Rattle.flight_changes.specs.pm_words.Images.{words_of}
+use Rattle.flight_changes.specs.disk_places.Journal.{journaled}
+use Rattle.flight_changes.specs.disk_places.Places.{data_blocks, Geometry, reserve}
+use Rattle.flight_changes.specs.disk_lines.declared.Draft.{Draft}
+use Rattle.flight_changes.specs.disk_lines.declared.Inode.{Inode}
+use Rattle.flight_changes.specs.disk_lines.declared.Kind.TheVariants.{File, Staging}
+use Rattle.flight_changes.specs.disk_lines.Entries.{is_draft}
 use Rattle.flight_changes.specs.disk_rules.Live.{is_file, is_live, is_of_file}
 use Rattle.flight_changes.specs.disk_rules.Placed.{block_at}
 use Rattle.flight_changes.specs.disk_rules.Reading.{inode_set}
 use Rattle.flight_changes.specs.disk_rules.Room.{unused_blocks}
 use Rattle.flight_changes.specs.disk_rules.Rules.{file_blocks_of}
 use Rattle.flight_changes.specs.disk_rules.Volume.{chain, extents, inode, Volume}
-use Rattle.extent_facts.specs.Counts.{block_count-mapped, count_below-agree, count_below-range, is_mapped}
-use Rattle.extent_facts.specs.Covers.{covers-disk_at}
-use Rattle.extent_words.specs.declared.Extent.{Extent}
-use Rattle.extent_words.specs.Extents.{block_count, disk_at, is_within}
+use Rattle.flight_changes.specs.extent_facts.Counts.{block_count-mapped, count_below-agree, count_below-range, is_mapped}
+use Rattle.flight_changes.specs.extent_facts.Covers.{covers-disk_at}
+use Rattle.flight_changes.specs.extent_words.declared.Extent.{Extent}
+use Rattle.flight_changes.specs.extent_words.Extents.{block_count, disk_at, is_within}
 use Rattle.flight_changes.specs.volume_facts.Changes.{chain-set_same, inode-set_same}
 use Rattle.world_relinks.specs.volume_maps.Switches.{unused-data}
 use Rattle.world_relinks.specs.volume_maps.Shorts.{in_order-below, length-below}
 use Rattle.flight_changes.specs.volume_uses.PoolLaws.{AreInData, unused-set, unused-uncovered}
-use Rattle.list_facts.specs.Filters.{filter-agree}
-use Rattle.list_facts.specs.Members.{In}
+use Rattle.flight_changes.specs.list_facts.Filters.{filter-agree}
+use Rattle.flight_changes.specs.list_facts.Members.{In}
 use Rattle.world_relinks.specs.map_rules.Changes.{aged, HasInOrder, in_order, IsPreallocated}
 use Rattle.world_relinks.specs.map_rules.Taken.{with_map}
 use Rattle.world_relinks.specs.k_map_plans.Plans.{IsStagingFile}
@@ -36,7 +36,7 @@ use Rattle.flight_changes.specs.volume_uses.Uses.{is_unused}
 use Rattle.world_relinks.specs.k_plans.Whole.{IsWhole}
 use Rattle.flight_changes.specs.k_rules.View.{View}
 use Rattle.world_relinks.specs.k_split.MapChanges.{is_free_in, IsPreallocatedWith}
-use Rattle.posix_words.specs.Open.{Tables}
+use Rattle.flight_changes.specs.posix_words.Open.{Tables}
 use Rattle.flight_changes.specs.posix_spec.State.{State}
 use Rattle.world_standing.specs.staging_files.Keeps.{IsKeptEmpty, IsStaging}
 use Rattle.world_standing.proofs.staging_files_proofs.GiveUpLaws.{staging-file}

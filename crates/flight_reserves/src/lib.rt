@@ -18,5 +18,5 @@ pub fn a_run_is_reserved_in_flight()
     ensures cut { KeepsReserved }
 {}
 
-pub use world_relinks::k_split;
-pub use world_standing::staging_files;
+pub use world_relinks::KSplit;
+pub use world_standing::{StageFault, StageRun, Staging};

@@ -2,21 +2,21 @@
 use Rattle.std.specs.Prelude.{◌≡◌, ◌⊎◌, ◌≤◌, ◌<◌, ◌+◌, ◌*◌, ◌/◌, ◌%◌, ◌^◌, ℕ, true, List, Some}
 use Rattle.std.proofs.Common.{arith, ap, ◌∙◌, sym, subst, inl, inr}
 use Rattle.std.proofs.lemmas.Bool.{cases_lt}
-use Rattle.pm_words.specs.Bytes.{line_bytes-same}
-use Rattle.pm_words.specs.declared.Cell.{Cell}
-use Rattle.pm_words.specs.Cells.{cell, IsCandidate}
-use Rattle.pm_words.specs.Images.{IsImage}
-use Rattle.pm_words.specs.Words.{line_bytes, Words}
+use Rattle.flight_changes.specs.pm_words.Bytes.{line_bytes-same}
+use Rattle.flight_changes.specs.pm_words.declared.Cell.{Cell}
+use Rattle.flight_changes.specs.pm_words.Cells.{cell, IsCandidate}
+use Rattle.flight_changes.specs.pm_words.Images.{IsImage}
+use Rattle.flight_changes.specs.pm_words.Words.{line_bytes, Words}
 use Rattle.flight_laps.specs.block_bytes.Overwrites.{SameBesideLines}
-use Rattle.disk_places.specs.Journal.{IsSound, journaled}
-use Rattle.disk_places.specs.Places.{base_word, commit_word, Geometry, is_data_block, log_line}
-use Rattle.disk_places.specs.Superblock.{geometry_at, has_magic, has_numbers, has_version}
-use Rattle.disk_lines.specs.declared.Draft.{Draft}
+use Rattle.flight_changes.specs.disk_places.Journal.{IsSound, journaled}
+use Rattle.flight_changes.specs.disk_places.Places.{base_word, commit_word, Geometry, is_data_block, log_line}
+use Rattle.flight_changes.specs.disk_places.Superblock.{geometry_at, has_magic, has_numbers, has_version}
+use Rattle.flight_changes.specs.disk_lines.declared.Draft.{Draft}
 use Rattle.flight_changes.specs.disk_rules.Rules.{geometry_of, HasTarget}
 use Rattle.flight_changes.specs.disk_rules.Volume.{extents, inode, Volume}
 use Rattle.flight_changes.specs.disk_rules.Rules.{file_blocks_of}
-use Rattle.extent_words.specs.Extents.{disk_at}
-use Rattle.extent_facts.specs.Covers.{covers-disk_at}
+use Rattle.flight_changes.specs.extent_words.Extents.{disk_at}
+use Rattle.flight_changes.specs.extent_facts.Covers.{covers-disk_at}
 use Rattle.flight_changes.specs.image_facts.ViewLaws.{sound-targets}
 use Rattle.flight_laps.specs.k_map_plans.Plans.{IsStagingFile}
 use Rattle.flight_laps.specs.k_plans.Whole.{IsWhole}

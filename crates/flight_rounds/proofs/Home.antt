@@ -2,15 +2,15 @@
 use Rattle.std.specs.Prelude.{◌≡◌, ◌≢◌, ◌⊎◌, ◌≤◌, ◌<◌, ◌+◌, ◌-◌, ◌*◌, ◌/◌, ◌%◌, ℕ, Bool, true, false, List, [], ◌∷◌, length, Option, refl, if◌then◌else◌}
 use Rattle.std.proofs.Common.{append-nil, arith, ap, ◌∙◌, sym, subst, inl, inr}
 use Rattle.std.proofs.lemmas.Bool.{both_ways, cases_eq}
-use Rattle.pm_words.specs.declared.Cell.{Cell}
-use Rattle.pm_words.specs.declared.Cell.TheVariants.{Single}
-use Rattle.pm_words.specs.Cells.{cell, has_two, is_lent, is_single, IsCandidate}
-use Rattle.pm_words.specs.Images.{IsImage}
-use Rattle.pm_words.specs.Parts.{IsImageWith, Part, put_back}
-use Rattle.pm_words.specs.Words.{Words}
-use Rattle.disk_lines.specs.declared.Draft.{Draft}
-use Rattle.disk_places.specs.Journal.{journaled}
-use Rattle.disk_places.specs.Places.{Geometry, log_line}
+use Rattle.flight_changes.specs.pm_words.declared.Cell.{Cell}
+use Rattle.flight_changes.specs.pm_words.declared.Cell.TheVariants.{Single}
+use Rattle.flight_changes.specs.pm_words.Cells.{cell, has_two, is_lent, is_single, IsCandidate}
+use Rattle.flight_changes.specs.pm_words.Images.{IsImage}
+use Rattle.flight_changes.specs.pm_words.Parts.{IsImageWith, Part, put_back}
+use Rattle.flight_changes.specs.pm_words.Words.{Words}
+use Rattle.flight_changes.specs.disk_lines.declared.Draft.{Draft}
+use Rattle.flight_changes.specs.disk_places.Journal.{journaled}
+use Rattle.flight_changes.specs.disk_places.Places.{Geometry, log_line}
 use Rattle.flight_changes.specs.disk_rules.Honest.{IsHonestWith}
 use Rattle.flight_changes.specs.disk_rules.Volume.{Volume}
 use Rattle.flight_laps.specs.flight_facts.Flying.{IsOut}
@@ -21,8 +21,8 @@ use Rattle.flight_laps.specs.k_split.Laps.{IsLogWord}
 use Rattle.flight_laps.specs.k_split.LogLines.{AreLogLines}
 use Rattle.flight_laps.specs.k_split.Order.{IsInOrder}
 use Rattle.flight_laps.specs.lines_out.Lines.{LinesComeBack}
-use Rattle.list_facts.specs.Members.{In}
-use Rattle.posix_words.specs.Open.{Tables}
+use Rattle.flight_changes.specs.list_facts.Members.{In}
+use Rattle.flight_changes.specs.posix_words.Open.{Tables}
 use Rattle.flight_changes.specs.posix_spec.State.{State}
 use Rattle.flight_laps.specs.staging_files.Keeps.{Agrees, AreFreeSingle}
 use Rattle.flight_changes.specs.world_images.Images.{HasLogHome, ShowsLog, StandsFor}

@@ -2,15 +2,15 @@
 use Rattle.std.specs.Prelude.{◌≡◌, ◌⊎◌, ◌≤◌, ◌<◌, ◌+◌, ◌-◌, ◌*◌, ◌/◌, ℕ, Bool, true, false, List, [], ◌∷◌, length, Some, refl, if◌then◌else◌}
 use Rattle.std.proofs.Common.{arith, ap, ◌∙◌, sym, subst, inl, inr}
 use Rattle.std.proofs.lemmas.Bool.{both_ways}
-use Rattle.pm_words.specs.declared.Cell.{Cell}
-use Rattle.pm_words.specs.Bytes.{line_bytes-same}
-use Rattle.pm_words.specs.CellLaws.{newest-candidate}
-use Rattle.pm_words.specs.Cells.{cell, is_lent, is_single, IsCandidate, newest}
-use Rattle.pm_words.specs.Images.{IsImage, words_of}
-use Rattle.pm_words.specs.Parts.{Part}
-use Rattle.pm_words.specs.Words.{line_bytes, Words}
-use Rattle.disk_lines.specs.Entries.{held_seq, is_self_valid}
-use Rattle.disk_places.specs.Places.{Geometry, log_line}
+use Rattle.flight_changes.specs.pm_words.declared.Cell.{Cell}
+use Rattle.flight_changes.specs.pm_words.Bytes.{line_bytes-same}
+use Rattle.flight_changes.specs.pm_words.CellLaws.{newest-candidate}
+use Rattle.flight_changes.specs.pm_words.Cells.{cell, is_lent, is_single, IsCandidate, newest}
+use Rattle.flight_changes.specs.pm_words.Images.{IsImage, words_of}
+use Rattle.flight_changes.specs.pm_words.Parts.{Part}
+use Rattle.flight_changes.specs.pm_words.Words.{line_bytes, Words}
+use Rattle.flight_changes.specs.disk_lines.Entries.{held_seq, is_self_valid}
+use Rattle.flight_changes.specs.disk_places.Places.{Geometry, log_line}
 use Rattle.flight_changes.specs.disk_rules.Volume.{Volume}
 use Rattle.flight_laps.specs.flight_facts.Flying.{IsOut}
 use Rattle.flight_changes.specs.k_rules.Stands.{Stands}
@@ -20,8 +20,8 @@ use Rattle.flight_laps.specs.k_split.Laps.{IsLogWord}
 use Rattle.flight_laps.specs.k_split.LogLines.{AreLogLines}
 use Rattle.flight_laps.specs.k_split.Order.{IsInOrder}
 use Rattle.flight_laps.specs.lines_out.Lines.{LinesGoOut}
-use Rattle.list_facts.specs.Members.{In}
-use Rattle.posix_words.specs.Open.{Tables}
+use Rattle.flight_changes.specs.list_facts.Members.{In}
+use Rattle.flight_changes.specs.posix_words.Open.{Tables}
 use Rattle.flight_changes.specs.posix_spec.State.{State}
 use Rattle.flight_laps.specs.staging_files.Keeps.{Agrees, AreFreeSingle}
 use Rattle.flight_changes.specs.world_images.Images.{HasOldLines, StandsFor}

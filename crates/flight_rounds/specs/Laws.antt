@@ -1,17 +1,17 @@
 -- The log lines go out when a round begins, and come home at its end: each law as one statement.
 use Rattle.std.specs.Prelude.{◌≡◌, ℕ, Bool, true, false, List, []}
-use Rattle.pm_words.specs.declared.Cell.{Cell}
-use Rattle.pm_words.specs.Cells.{cell, is_lent}
-use Rattle.pm_words.specs.Images.{words_of}
-use Rattle.pm_words.specs.Parts.{Part, put_back}
-use Rattle.pm_words.specs.Words.{Words}
-use Rattle.disk_places.specs.Places.{Geometry, log_line}
+use Rattle.flight_changes.specs.pm_words.declared.Cell.{Cell}
+use Rattle.flight_changes.specs.pm_words.Cells.{cell, is_lent}
+use Rattle.flight_changes.specs.pm_words.Images.{words_of}
+use Rattle.flight_changes.specs.pm_words.Parts.{Part, put_back}
+use Rattle.flight_changes.specs.pm_words.Words.{Words}
+use Rattle.flight_changes.specs.disk_places.Places.{Geometry, log_line}
 use Rattle.flight_changes.specs.k_rules.View.{View}
 use Rattle.flight_laps.specs.k_split.Laps.{IsLogWord}
 use Rattle.flight_laps.specs.k_split.LogLines.{AreLogLines}
 use Rattle.flight_laps.specs.k_split.Order.{IsInOrder}
 use Rattle.flight_laps.specs.lines_out.Lines.{LinesComeBack, LinesGoOut}
-use Rattle.posix_words.specs.Open.{Tables}
+use Rattle.flight_changes.specs.posix_words.Open.{Tables}
 use Rattle.flight_changes.specs.posix_spec.State.{State}
 use Rattle.flight_changes.specs.world_log.Lines.{AreLinesOut}
 use Rattle.flight_laps.specs.world_standing.Standing.{Kept, StandsAt}

@@ -20,3 +20,5 @@ pub fn log_lines_go_out()
 pub fn log_lines_come_home()
     ensures { StandsHome }
 {}
+
+pub use flight_laps::{gather, what_stands_may_be_published};

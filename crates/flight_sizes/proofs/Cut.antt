@@ -1,23 +1,23 @@
 -- The power goes while a file gets another size: each image is kept.
 use Rattle.std.specs.Prelude.{◌≤◌, ◌+◌, ℕ, cond, Bool, true, false, [], ◌∷◌, ◌++◌, length, map, is_none}
 use Rattle.std.proofs.Common.{arith, sym, subst}
-use Rattle.file_ends.specs.file_table.Files.{size_in}
-use Rattle.posix_types.specs.declared.call.Call.{Call}
-use Rattle.posix_types.specs.declared.call.Who.{Who}
-use Rattle.posix_types.specs.declared.handle.Handle.{Handle}
-use Rattle.posix_words.specs.Open.{opened}
-use Rattle.posix_words.specs.Room.{growth}
+use Rattle.flight_names.specs.file_ends.file_table.Files.{size_in}
+use Rattle.flight_changes.specs.posix_types.declared.call.Call.{Call}
+use Rattle.flight_changes.specs.posix_types.declared.call.Who.{Who}
+use Rattle.flight_changes.specs.posix_types.declared.handle.Handle.{Handle}
+use Rattle.flight_changes.specs.posix_words.Open.{opened}
+use Rattle.flight_changes.specs.posix_words.Room.{growth}
 use Rattle.flight_changes.specs.posix_frames.Needs.{needs as needs_of}
 use Rattle.flight_changes.specs.posix_puts.Views.{need_of}
 use Rattle.flight_changes.specs.posix_spec.FileRows.{content}
 use Rattle.flight_changes.specs.posix_spec.Run.{after_call, Begun, run}
 use Rattle.flight_changes.specs.posix_spec.State.{room, State}
 use Rattle.std.specs.Prelude.{sum_by}
-use Rattle.flight_steps.specs.posix_orders.Commutes.{takes}
-use Rattle.flight_steps.specs.world_standing.k_split.MapChanges.{ChangesMaps}
-use Rattle.flight_steps.specs.world_standing.world_images.Promised.{IsKept}
-use Rattle.flight_steps.specs.world_standing.world_rules.Jobs.{begun_of}
-use Rattle.flight_steps.specs.world_standing.world_steps.Steps.{begun-flights, flights_of}
+use Rattle.flight_names.specs.flight_steps.posix_orders.Commutes.{takes}
+use Rattle.flight_names.specs.flight_steps.world_standing.k_split.MapChanges.{ChangesMaps}
+use Rattle.flight_names.specs.flight_steps.world_standing.world_images.Promised.{IsKept}
+use Rattle.flight_names.specs.flight_steps.world_standing.world_rules.Jobs.{begun_of}
+use Rattle.flight_names.specs.flight_steps.world_standing.world_steps.Steps.{begun-flights, flights_of}
 use Rattle.flight_changes.specs.world_lent.Flights.{leads_after, leads_before}
 use Rattle.flight_changes.specs.world_lent.Laws.{GoesBeside, LeadsTo}
 use Rattle.flight_changes.specs.Changes.{IsChangeWith}

@@ -1,27 +1,27 @@
 -- A change that writes spare blocks, of a device whose images have zeros behind the end of a file: done and cut off.
 use Rattle.std.specs.Prelude.{◌≡◌, ◌⊎◌, ◌<◌, ◌/◌, ◌%◌, ℕ, List, [], ◌∷◌, ◌++◌, length, map, Option, Some, None, refl}
 use Rattle.std.proofs.Common.{arith, ◌∙◌, subst, sym, inl, inr}
-use Rattle.pm_words.specs.declared.Cell.{Cell}
-use Rattle.pm_words.specs.Images.{ComesFrom, IsImage}
-use Rattle.pm_words.specs.Words.{Words}
-use Rattle.disk_places.specs.Journal.{IsSound, journaled}
-use Rattle.disk_lines.specs.declared.Draft.{Draft}
-use Rattle.file_ends.specs.disk_rules.Content.{byte_in}
-use Rattle.file_ends.specs.disk_rules.Reading.{Reads}
-use Rattle.file_ends.specs.disk_rules.Volume.{extents, Volume}
-use Rattle.extent_words.specs.Extents.{disk_at}
-use Rattle.file_ends.specs.k_rules.Stands.{IsOldOrNew, Stands}
-use Rattle.posix_types.specs.declared.item.Item.{Item}
-use Rattle.posix_types.specs.declared.call.Mode.{Mode}
+use Rattle.flight_changes.specs.pm_words.declared.Cell.{Cell}
+use Rattle.flight_changes.specs.pm_words.Images.{ComesFrom, IsImage}
+use Rattle.flight_changes.specs.pm_words.Words.{Words}
+use Rattle.flight_changes.specs.disk_places.Journal.{IsSound, journaled}
+use Rattle.flight_changes.specs.disk_lines.declared.Draft.{Draft}
+use Rattle.flight_names.specs.file_ends.disk_rules.Content.{byte_in}
+use Rattle.flight_names.specs.file_ends.disk_rules.Reading.{Reads}
+use Rattle.flight_names.specs.file_ends.disk_rules.Volume.{extents, Volume}
+use Rattle.flight_changes.specs.extent_words.Extents.{disk_at}
+use Rattle.flight_names.specs.file_ends.k_rules.Stands.{IsOldOrNew, Stands}
+use Rattle.flight_changes.specs.posix_types.declared.item.Item.{Item}
+use Rattle.flight_changes.specs.posix_types.declared.call.Mode.{Mode}
 use Rattle.flight_changes.specs.posix_spec.Run.{Begun}
 use Rattle.flight_changes.specs.posix_spec.State.{State}
-use Rattle.flight_steps.specs.world_standing.world_rules.Jobs.{begun_of, Job}
-use Rattle.flight_steps.specs.world_standing.world_rules.Promised.{AreWhole}
-use Rattle.flight_steps.specs.world_standing.world_rules.Shown.{AreFilled, landed_pairs}
-use Rattle.flight_steps.specs.world_standing.world_steps.Worlds.{IsWorld}
-use Rattle.flight_steps.specs.world_standing.world_images.Changed.{ShowsLog-same, sound_headed}
-use Rattle.flight_steps.specs.world_standing.world_images.Images.{HasRoom, IsHeaded, ShowsWorld, StandsFor}
-use Rattle.flight_steps.specs.world_standing.world_images.Promised.{IsKept}
+use Rattle.flight_names.specs.flight_steps.world_standing.world_rules.Jobs.{begun_of, Job}
+use Rattle.flight_names.specs.flight_steps.world_standing.world_rules.Promised.{AreWhole}
+use Rattle.flight_names.specs.flight_steps.world_standing.world_rules.Shown.{AreFilled, landed_pairs}
+use Rattle.flight_names.specs.flight_steps.world_standing.world_steps.Worlds.{IsWorld}
+use Rattle.flight_names.specs.flight_steps.world_standing.world_images.Changed.{ShowsLog-same, sound_headed}
+use Rattle.flight_names.specs.flight_steps.world_standing.world_images.Images.{HasRoom, IsHeaded, ShowsWorld, StandsFor}
+use Rattle.flight_names.specs.flight_steps.world_standing.world_images.Promised.{IsKept}
 use Rattle.flight_changes.specs.world_lent.Back.{IsPutBack}
 use Rattle.flight_changes.specs.world_lent.Flights.{ShowsBack}
 use Rattle.flight_changes.specs.world_lent.Laws.{LeadsTo, SameBlocks}

@@ -3,39 +3,39 @@ use Rattle.std.specs.Prelude.{◌≡◌, ◌≢◌, ◌≤◌, ◌<◌, ◌+◌,
 use Rattle.std.proofs.Common.{arith, ap, ◌∙◌, sym, subst, inl, inr}
 use Rattle.std.proofs.lemmas.Bool.{cases_eq}
 use Rattle.std.proofs.lemmas.List.{get_or-set_other, get_or-set_same, length-set}
-use Rattle.pm_words.specs.Cells.{cell, is_lent}
-use Rattle.pm_words.specs.Words.{line_bytes}
-use Rattle.disk_places.specs.Places.{Geometry, log_line}
-use Rattle.disk_lines.specs.declared.Draft.{Draft}
-use Rattle.disk_lines.specs.declared.Kind.TheVariants.{File, Staging}
-use Rattle.disk_lines.specs.Entries.{held_seq, is_self_valid}
-use Rattle.file_ends.specs.disk_rules.Content.{size_by}
-use Rattle.file_ends.specs.disk_rules.Live.{latest}
-use Rattle.file_ends.specs.disk_rules.Volume.{extents, inode, Volume}
-use Rattle.flight_steps.specs.entry_orders.Orders.{AreOrdered-step_of}
-use Rattle.extent_words.specs.Extents.{disk_at}
-use Rattle.file_ends.specs.file_table.Files.{ChangesFile, Files, runs_in, size_in, spare_in}
-use Rattle.file_ends.specs.k_rules.Stands.{Stands}
-use Rattle.file_ends.specs.k_rules.View.{View}
-use Rattle.list_facts.specs.Members.{In}
-use Rattle.posix_types.specs.declared.call.Call.{Call}
-use Rattle.posix_types.specs.declared.call.Who.{Who}
-use Rattle.posix_types.specs.declared.handle.Handle.{Handle}
-use Rattle.posix_words.specs.Open.{Tables}
+use Rattle.flight_changes.specs.pm_words.Cells.{cell, is_lent}
+use Rattle.flight_changes.specs.pm_words.Words.{line_bytes}
+use Rattle.flight_changes.specs.disk_places.Places.{Geometry, log_line}
+use Rattle.flight_changes.specs.disk_lines.declared.Draft.{Draft}
+use Rattle.flight_changes.specs.disk_lines.declared.Kind.TheVariants.{File, Staging}
+use Rattle.flight_changes.specs.disk_lines.Entries.{held_seq, is_self_valid}
+use Rattle.flight_names.specs.file_ends.disk_rules.Content.{size_by}
+use Rattle.flight_names.specs.file_ends.disk_rules.Live.{latest}
+use Rattle.flight_names.specs.file_ends.disk_rules.Volume.{extents, inode, Volume}
+use Rattle.flight_names.specs.flight_steps.entry_orders.Orders.{AreOrdered-step_of}
+use Rattle.flight_changes.specs.extent_words.Extents.{disk_at}
+use Rattle.flight_names.specs.file_ends.file_table.Files.{ChangesFile, Files, runs_in, size_in, spare_in}
+use Rattle.flight_names.specs.file_ends.k_rules.Stands.{Stands}
+use Rattle.flight_names.specs.file_ends.k_rules.View.{View}
+use Rattle.flight_changes.specs.list_facts.Members.{In}
+use Rattle.flight_changes.specs.posix_types.declared.call.Call.{Call}
+use Rattle.flight_changes.specs.posix_types.declared.call.Who.{Who}
+use Rattle.flight_changes.specs.posix_types.declared.handle.Handle.{Handle}
+use Rattle.flight_changes.specs.posix_words.Open.{Tables}
 use Rattle.flight_changes.specs.posix_spec.Run.{after_call}
 use Rattle.flight_changes.specs.posix_spec.State.{alone, State, with_file}
 use Rattle.flight_changes.specs.posix_spec.Step.{stepped, truncate_done}
-use Rattle.flight_steps.specs.world_standing.flight_facts.Flying.{IsOut}
-use Rattle.flight_steps.specs.world_standing.held_sums.Laws.{AreSizes}
-use Rattle.flight_steps.specs.world_standing.job_facts.Blocks.{AreOut}
-use Rattle.flight_steps.specs.world_standing.k_split.MapChanges.{ChangesMaps, IsMapDone, IsSizeAnswer}
-use Rattle.flight_steps.specs.world_standing.overlay_facts.Overlays.{IsOverlayOf, run_of}
-use Rattle.flight_steps.specs.world_standing.staging_files.Keeps.{Agrees, IsStaging}
-use Rattle.flight_steps.specs.world_standing.world_images.Images.{StandsFor}
-use Rattle.flight_steps.specs.world_standing.world_rules.Jobs.{Job, JobsStand, JobStands, live_claims, staged_block}
-use Rattle.flight_steps.specs.world_standing.world_rules.Stands.{entries_of}
-use Rattle.flight_steps.proofs.world_standing_proofs.staging_files_proofs.GiveUpLaws.{staging-file}
-use Rattle.flight_steps.specs.world_standing.Standing.{AreJobsOf, HasItsBlocks, Kept, LinesStand, Pending, StandsAt}
+use Rattle.flight_names.specs.flight_steps.world_standing.flight_facts.Flying.{IsOut}
+use Rattle.flight_names.specs.flight_steps.world_standing.held_sums.Laws.{AreSizes}
+use Rattle.flight_names.specs.flight_steps.world_standing.job_facts.Blocks.{AreOut}
+use Rattle.flight_names.specs.flight_steps.world_standing.k_split.MapChanges.{ChangesMaps, IsMapDone, IsSizeAnswer}
+use Rattle.flight_names.specs.flight_steps.world_standing.overlay_facts.Overlays.{IsOverlayOf, run_of}
+use Rattle.flight_names.specs.flight_steps.world_standing.staging_files.Keeps.{Agrees, IsStaging}
+use Rattle.flight_names.specs.flight_steps.world_standing.world_images.Images.{StandsFor}
+use Rattle.flight_names.specs.flight_steps.world_standing.world_rules.Jobs.{Job, JobsStand, JobStands, live_claims, staged_block}
+use Rattle.flight_names.specs.flight_steps.world_standing.world_rules.Stands.{entries_of}
+use Rattle.flight_names.proofs.flight_steps_proofs.world_standing_proofs.staging_files_proofs.GiveUpLaws.{staging-file}
+use Rattle.flight_names.specs.flight_steps.world_standing.Standing.{AreJobsOf, HasItsBlocks, Kept, LinesStand, Pending, StandsAt}
 use Rattle.flight_changes.specs.Changes.{IsChangeWith}
 use Rattle.flight_changes.proofs.Devices.{keeps_log_home_with}
 use Rattle.flight_sizes.specs.Sizes.{MaySize, StandsSized}

@@ -5,47 +5,47 @@ use Rattle.std.proofs.Common.{arith, ap, ◌∙◌, sym, subst, inl, inr}
 use Rattle.std.proofs.lemmas.Bool.{both_ways, cases_eq, cases_lt}
 use Rattle.std.proofs.lemmas.Bool.Decides.{nat_tests}
 use Rattle.std.proofs.lemmas.List.{get_or_append_left, get_or-append_right, get_or-replicate, get_or-take, length-set, length-take}
-use Rattle.block_counts.specs.Counts.{blocks_for}
-use Rattle.pm_words.specs.ImageLaws.{IsImage-words_of}
-use Rattle.pm_words.specs.Images.{words_of}
-use Rattle.pm_words.specs.Words.{Words}
-use Rattle.disk_places.specs.Journal.{journaled}
-use Rattle.disk_places.specs.Places.{Geometry}
-use Rattle.disk_lines.specs.declared.Draft.{Draft}
-use Rattle.disk_lines.specs.declared.Inode.{Inode}
-use Rattle.disk_lines.specs.declared.Kind.{Kind}
-use Rattle.disk_lines.specs.declared.Kind.TheVariants.{Directory, File, Free, Staging}
-use Rattle.disk_lines.specs.Names.{row}
-use Rattle.file_ends.specs.disk_rules.Content.{byte_in, disk_by}
-use Rattle.file_ends.specs.disk_rules.Live.{is_file, is_live}
-use Rattle.file_ends.specs.disk_rules.Placed.{block_at}
-use Rattle.file_ends.specs.disk_rules.Reading.{inode_set}
-use Rattle.file_ends.specs.disk_rules.Room.{unused_blocks}
-use Rattle.file_ends.specs.disk_rules.Rules.{file_blocks_of}
-use Rattle.file_ends.specs.disk_rules.Volume.{chain, extents, inode, Volume}
-use Rattle.extent_facts.specs.Covers.{covers-disk_at}
-use Rattle.extent_words.specs.Extents.{covers, disk_at, IsCanonical}
-use Rattle.file_ends.specs.file_table.Files.{size_in}
-use Rattle.file_ends.specs.k_rules.View.{View}
-use Rattle.list_facts.specs.Filters.{filter-agree}
+use Rattle.flight_changes.specs.block_counts.Counts.{blocks_for}
+use Rattle.flight_changes.specs.pm_words.ImageLaws.{IsImage-words_of}
+use Rattle.flight_changes.specs.pm_words.Images.{words_of}
+use Rattle.flight_changes.specs.pm_words.Words.{Words}
+use Rattle.flight_changes.specs.disk_places.Journal.{journaled}
+use Rattle.flight_changes.specs.disk_places.Places.{Geometry}
+use Rattle.flight_changes.specs.disk_lines.declared.Draft.{Draft}
+use Rattle.flight_changes.specs.disk_lines.declared.Inode.{Inode}
+use Rattle.flight_changes.specs.disk_lines.declared.Kind.{Kind}
+use Rattle.flight_changes.specs.disk_lines.declared.Kind.TheVariants.{Directory, File, Free, Staging}
+use Rattle.flight_changes.specs.disk_lines.Names.{row}
+use Rattle.flight_names.specs.file_ends.disk_rules.Content.{byte_in, disk_by}
+use Rattle.flight_names.specs.file_ends.disk_rules.Live.{is_file, is_live}
+use Rattle.flight_names.specs.file_ends.disk_rules.Placed.{block_at}
+use Rattle.flight_names.specs.file_ends.disk_rules.Reading.{inode_set}
+use Rattle.flight_names.specs.file_ends.disk_rules.Room.{unused_blocks}
+use Rattle.flight_names.specs.file_ends.disk_rules.Rules.{file_blocks_of}
+use Rattle.flight_names.specs.file_ends.disk_rules.Volume.{chain, extents, inode, Volume}
+use Rattle.flight_changes.specs.extent_facts.Covers.{covers-disk_at}
+use Rattle.flight_changes.specs.extent_words.Extents.{covers, disk_at, IsCanonical}
+use Rattle.flight_names.specs.file_ends.file_table.Files.{size_in}
+use Rattle.flight_names.specs.file_ends.k_rules.View.{View}
+use Rattle.flight_changes.specs.list_facts.Filters.{filter-agree}
 use Rattle.log_mount.proofs.Trims.{fewer-blocks, fewer-extents}
 use Rattle.log_mount.proofs.log_replay_proofs.Passed.{chain-counted, map-canonical}
-use Rattle.file_ends.specs.map_rules.Changes.{IsSized, with_size}
-use Rattle.file_ends.specs.map_rules.Taken.{with_map}
-use Rattle.file_ends.specs.volume_facts.Changes.{chain-set_same, extents-set_other, extents-set_same, inode-set_other, inode-set_same}
+use Rattle.flight_names.specs.file_ends.map_rules.Changes.{IsSized, with_size}
+use Rattle.flight_names.specs.file_ends.map_rules.Taken.{with_map}
+use Rattle.flight_names.specs.file_ends.volume_facts.Changes.{chain-set_same, extents-set_other, extents-set_same, inode-set_other, inode-set_same}
 use Rattle.flight_changes.specs.volume_uses.PoolLaws.{AreInData, unused-set}
-use Rattle.flight_steps.specs.k_plans.Whole.{IsWhole}
-use Rattle.flight_steps.specs.world_standing.k_split.MapChanges.{is_free_in, IsSizedWith}
+use Rattle.flight_names.specs.flight_steps.k_plans.Whole.{IsWhole}
+use Rattle.flight_names.specs.flight_steps.world_standing.k_split.MapChanges.{is_free_in, IsSizedWith}
 use Rattle.log_mount.proofs.world_relinks_proofs.WorldLaws.{free-in_data, free-unmapped}
-use Rattle.posix_types.specs.declared.call.Call.{Call}
-use Rattle.posix_types.specs.declared.call.Who.{Who}
-use Rattle.posix_types.specs.declared.handle.Handle.{Handle}
-use Rattle.posix_words.specs.declared.nodes.Node.{Node}
-use Rattle.posix_words.specs.declared.open.Description.{Description}
-use Rattle.posix_words.specs.Bytes.{resized}
-use Rattle.posix_words.specs.Nodes.{bytes_of, node_at}
-use Rattle.posix_words.specs.Open.{opened, Tables}
-use Rattle.posix_words.specs.Room.{growth}
+use Rattle.flight_changes.specs.posix_types.declared.call.Call.{Call}
+use Rattle.flight_changes.specs.posix_types.declared.call.Who.{Who}
+use Rattle.flight_changes.specs.posix_types.declared.handle.Handle.{Handle}
+use Rattle.flight_changes.specs.posix_words.declared.nodes.Node.{Node}
+use Rattle.flight_changes.specs.posix_words.declared.open.Description.{Description}
+use Rattle.flight_changes.specs.posix_words.Bytes.{resized}
+use Rattle.flight_changes.specs.posix_words.Nodes.{bytes_of, node_at}
+use Rattle.flight_changes.specs.posix_words.Open.{opened, Tables}
+use Rattle.flight_changes.specs.posix_words.Room.{growth}
 use Rattle.flight_changes.specs.posix_facts.FitsLaws.{length-resized}
 use Rattle.flight_changes.specs.posix_frames.Needs.{needs as needs_of}
 use Rattle.flight_changes.specs.posix_spec.FileRows.{content, file_number}
@@ -54,20 +54,20 @@ use Rattle.flight_changes.specs.posix_spec.State.{room, State}
 use Rattle.flight_changes.specs.posix_puts.Views.{need_of}
 use Rattle.flight_changes.specs.crash_spec.Busy.{waits_for}
 use Rattle.std.specs.Prelude.{sum_by}
-use Rattle.flight_steps.specs.world_standing.overlay_facts.Overlays.{run_of}
-use Rattle.flight_steps.specs.world_standing.world_rules.Jobs.{Job, JobsStand, live_claims}
-use Rattle.flight_steps.specs.world_standing.world_rules.Stands.{entries_of, FileStands, is_used, NodeStands, number}
-use Rattle.flight_steps.specs.world_standing.world_promise.TreeRules.{used_below}
-use Rattle.flight_steps.specs.world_standing.world_images.Images.{HasRoom}
-use Rattle.flight_steps.specs.world_standing.world_images.Rooms.{room_kept}
-use Rattle.flight_steps.specs.world_standing.world_images.Settings.{keeps_setting}
-use Rattle.flight_steps.specs.world_standing.world_steps.Steps.{begun-flights, flights_of}
-use Rattle.flight_steps.specs.world_standing.world_steps.Worlds.{IsWorld}
+use Rattle.flight_names.specs.flight_steps.world_standing.overlay_facts.Overlays.{run_of}
+use Rattle.flight_names.specs.flight_steps.world_standing.world_rules.Jobs.{Job, JobsStand, live_claims}
+use Rattle.flight_names.specs.flight_steps.world_standing.world_rules.Stands.{entries_of, FileStands, is_used, NodeStands, number}
+use Rattle.flight_names.specs.flight_steps.world_standing.world_promise.TreeRules.{used_below}
+use Rattle.flight_names.specs.flight_steps.world_standing.world_images.Images.{HasRoom}
+use Rattle.flight_names.specs.flight_steps.world_standing.world_images.Rooms.{room_kept}
+use Rattle.flight_names.specs.flight_steps.world_standing.world_images.Settings.{keeps_setting}
+use Rattle.flight_names.specs.flight_steps.world_standing.world_steps.Steps.{begun-flights, flights_of}
+use Rattle.flight_names.specs.flight_steps.world_standing.world_steps.Worlds.{IsWorld}
 use Rattle.flight_changes.specs.world_jobs.Resizes.{HasAlone, Resizes}
 use Rattle.flight_changes.specs.world_jobs.ResizeSteps.{no_cover, truncated}
 use Rattle.flight_changes.specs.world_lent.Laws.{SameBlocks}
 use Rattle.flight_changes.specs.Changes.{AreSpare}
-use Rattle.flight_steps.specs.world_standing.Standing.{Kept, StandsAt}
+use Rattle.flight_names.specs.flight_steps.world_standing.Standing.{Kept, StandsAt}
 use Rattle.flight_sizes.specs.Sizes.{AreZeros, MaySize}
 
 -- ---- lists of bytes

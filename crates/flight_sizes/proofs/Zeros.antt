@@ -3,24 +3,24 @@ use Rattle.std.specs.Prelude.{◌≡◌, ◌⊎◌, ◌≤◌, ◌<◌, ◌+◌,
 use Rattle.std.proofs.Common.{arith, ap, ◌∙◌, sym, subst, inl, inr}
 use Rattle.std.proofs.lemmas.Bool.{cases_eq}
 use Rattle.std.proofs.lemmas.List.{get_or-replicate, length-replicate}
-use Rattle.block_counts.specs.Counts.{blocks_for}
-use Rattle.flight_steps.specs.block_bytes.Overwrites.{IsOverwrittenWhole}
-use Rattle.pm_words.specs.ImageLaws.{IsImage-words_of}
-use Rattle.pm_words.specs.Images.{words_of}
-use Rattle.pm_words.specs.Words.{byte_of, Words}
-use Rattle.disk_places.specs.Journal.{IsSound, journaled}
-use Rattle.disk_places.specs.PlaceLaws.{behind_log-words}
-use Rattle.disk_places.specs.Places.{Geometry, is_data_block}
-use Rattle.file_ends.specs.disk_rules.Content.{byte_in}
-use Rattle.file_ends.specs.disk_rules.Volume.{extents, Volume}
-use Rattle.extent_words.specs.Extents.{disk_at}
-use Rattle.file_ends.specs.file_table.Files.{size_in}
-use Rattle.file_ends.specs.volume_facts.ImageLaws.{journaled-other}
-use Rattle.file_ends.specs.volume_facts.LineWords.{data_word, data_word-not_journaled}
-use Rattle.flight_steps.specs.world_standing.k_split.Bytes.{tail_zeros, zeros_behind}
-use Rattle.flight_steps.specs.world_standing.world_promise.Lent.{in_data}
-use Rattle.flight_steps.specs.world_standing.world_promise.TreeRules.{used_below}
-use Rattle.flight_steps.specs.world_standing.world_rules.Stands.{is_used, IsSane}
+use Rattle.flight_changes.specs.block_counts.Counts.{blocks_for}
+use Rattle.flight_names.specs.flight_steps.block_bytes.Overwrites.{IsOverwrittenWhole}
+use Rattle.flight_changes.specs.pm_words.ImageLaws.{IsImage-words_of}
+use Rattle.flight_changes.specs.pm_words.Images.{words_of}
+use Rattle.flight_changes.specs.pm_words.Words.{byte_of, Words}
+use Rattle.flight_changes.specs.disk_places.Journal.{IsSound, journaled}
+use Rattle.flight_changes.specs.disk_places.PlaceLaws.{behind_log-words}
+use Rattle.flight_changes.specs.disk_places.Places.{Geometry, is_data_block}
+use Rattle.flight_names.specs.file_ends.disk_rules.Content.{byte_in}
+use Rattle.flight_names.specs.file_ends.disk_rules.Volume.{extents, Volume}
+use Rattle.flight_changes.specs.extent_words.Extents.{disk_at}
+use Rattle.flight_names.specs.file_ends.file_table.Files.{size_in}
+use Rattle.flight_names.specs.file_ends.volume_facts.ImageLaws.{journaled-other}
+use Rattle.flight_names.specs.file_ends.volume_facts.LineWords.{data_word, data_word-not_journaled}
+use Rattle.flight_names.specs.flight_steps.world_standing.k_split.Bytes.{tail_zeros, zeros_behind}
+use Rattle.flight_names.specs.flight_steps.world_standing.world_promise.Lent.{in_data}
+use Rattle.flight_names.specs.flight_steps.world_standing.world_promise.TreeRules.{used_below}
+use Rattle.flight_names.specs.flight_steps.world_standing.world_rules.Stands.{is_used, IsSane}
 use Rattle.flight_sizes.specs.Sizes.{AreZeros, CleansBehind}
 
 -- a byte of a data block is seen as it is

@@ -1,39 +1,39 @@
 -- A file gets another size, each law as one statement.
 use Rattle.std.specs.Prelude.{◌≡◌, ◌≤◌, ◌<◌, ◌+◌, ◌/◌, ℕ, Bool, List, [], ◌∷◌, ◌++◌, length, map, None, Option, Some, Ok}
-use Rattle.pm_words.specs.declared.Cell.{Cell}
-use Rattle.pm_words.specs.Images.{IsImage}
-use Rattle.pm_words.specs.Words.{Words}
-use Rattle.disk_lines.specs.declared.Kind.TheVariants.{File}
-use Rattle.disk_places.specs.Journal.{journaled}
-use Rattle.disk_places.specs.Places.{Geometry}
-use Rattle.file_ends.specs.disk_rules.Content.{byte_in}
-use Rattle.file_ends.specs.disk_rules.Volume.{extents, inode, Volume}
-use Rattle.extent_words.specs.Extents.{disk_at}
-use Rattle.file_ends.specs.Ends.{FilesEnd}
-use Rattle.file_ends.specs.file_table.Files.{ChangesFile, Files, runs_in, size_in, spare_in}
-use Rattle.file_ends.specs.k_rules.View.{View}
-use Rattle.flight_steps.specs.world_standing.k_split.Bytes.{IsOverwriteDone, tail_zeros}
-use Rattle.flight_steps.specs.world_standing.k_split.MapChanges.{IsMapCut, IsSizeAnswer, IsSizedWith}
-use Rattle.posix_types.specs.declared.call.Call.{Call}
-use Rattle.posix_types.specs.declared.call.Mode.{Mode}
-use Rattle.posix_types.specs.declared.call.Who.{Who}
-use Rattle.posix_types.specs.declared.handle.Handle.{Handle}
-use Rattle.posix_types.specs.declared.item.Item.{Item}
-use Rattle.posix_words.specs.Open.{Tables}
-use Rattle.posix_words.specs.Outcomes.{first}
-use Rattle.posix_words.specs.Room.{growth}
+use Rattle.flight_changes.specs.pm_words.declared.Cell.{Cell}
+use Rattle.flight_changes.specs.pm_words.Images.{IsImage}
+use Rattle.flight_changes.specs.pm_words.Words.{Words}
+use Rattle.flight_changes.specs.disk_lines.declared.Kind.TheVariants.{File}
+use Rattle.flight_changes.specs.disk_places.Journal.{journaled}
+use Rattle.flight_changes.specs.disk_places.Places.{Geometry}
+use Rattle.flight_names.specs.file_ends.disk_rules.Content.{byte_in}
+use Rattle.flight_names.specs.file_ends.disk_rules.Volume.{extents, inode, Volume}
+use Rattle.flight_changes.specs.extent_words.Extents.{disk_at}
+use Rattle.flight_names.specs.file_ends.Ends.{FilesEnd}
+use Rattle.flight_names.specs.file_ends.file_table.Files.{ChangesFile, Files, runs_in, size_in, spare_in}
+use Rattle.flight_names.specs.file_ends.k_rules.View.{View}
+use Rattle.flight_names.specs.flight_steps.world_standing.k_split.Bytes.{IsOverwriteDone, tail_zeros}
+use Rattle.flight_names.specs.flight_steps.world_standing.k_split.MapChanges.{IsMapCut, IsSizeAnswer, IsSizedWith}
+use Rattle.flight_changes.specs.posix_types.declared.call.Call.{Call}
+use Rattle.flight_changes.specs.posix_types.declared.call.Mode.{Mode}
+use Rattle.flight_changes.specs.posix_types.declared.call.Who.{Who}
+use Rattle.flight_changes.specs.posix_types.declared.handle.Handle.{Handle}
+use Rattle.flight_changes.specs.posix_types.declared.item.Item.{Item}
+use Rattle.flight_changes.specs.posix_words.Open.{Tables}
+use Rattle.flight_changes.specs.posix_words.Outcomes.{first}
+use Rattle.flight_changes.specs.posix_words.Room.{growth}
 use Rattle.flight_changes.specs.posix_spec.FileRows.{content, truncate_rows}
 use Rattle.flight_changes.specs.posix_spec.Run.{after_call, run}
 use Rattle.flight_changes.specs.posix_spec.State.{room, State}
 use Rattle.flight_changes.specs.crash_spec.Busy.{waits_for}
-use Rattle.flight_steps.specs.world_standing.world_rules.Jobs.{begun_of, Job}
-use Rattle.flight_steps.specs.world_standing.world_rules.Stands.{number}
-use Rattle.flight_steps.specs.world_standing.world_promise.JobLaws.{needs}
-use Rattle.flight_steps.specs.world_standing.world_images.Promised.{IsKept}
-use Rattle.flight_steps.specs.world_standing.world_steps.Steps.{flights_of, LetsJobsBe}
-use Rattle.flight_steps.specs.posix_orders.Orders.{AreTwoEach}
+use Rattle.flight_names.specs.flight_steps.world_standing.world_rules.Jobs.{begun_of, Job}
+use Rattle.flight_names.specs.flight_steps.world_standing.world_rules.Stands.{number}
+use Rattle.flight_names.specs.flight_steps.world_standing.world_promise.JobLaws.{needs}
+use Rattle.flight_names.specs.flight_steps.world_standing.world_images.Promised.{IsKept}
+use Rattle.flight_names.specs.flight_steps.world_standing.world_steps.Steps.{flights_of, LetsJobsBe}
+use Rattle.flight_names.specs.flight_steps.posix_orders.Orders.{AreTwoEach}
 use Rattle.flight_changes.specs.world_lent.Back.{IsPutBack}
-use Rattle.flight_steps.specs.world_standing.Standing.{Kept, StandsAt}
+use Rattle.flight_names.specs.flight_steps.world_standing.Standing.{Kept, StandsAt}
 
 -- by these words the bytes of the map of a file are zero, from one place on and before another
 abbrev pub AreZeros : Volume → ℕ → ℕ → ℕ → Words → Type 0

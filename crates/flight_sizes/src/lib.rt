@@ -20,4 +20,5 @@ pub fn a_file_gets_another_size_in_flight()
     ensures cut { KeepsSized }
 {}
 
-pub use log_mount;
+pub use flight_names::{NoMemory, OpenFiles};
+pub use log_mount::{KFault, KSplit};

@@ -3,11 +3,11 @@ use Rattle.std.specs.Prelude.{◌≡◌, ◌≢◌, ◌⊎◌, ◌≤◌, ℕ, B
 use Rattle.std.proofs.Common.{arith, ap, ◌∙◌, sym, inl, inr}
 use Rattle.std.proofs.lemmas.Bool.{cases_eq}
 use Rattle.std.proofs.lemmas.Bool.Decides.{Decides-eqb}
-use Rattle.disk_lines.specs.declared.Draft.{Draft}
-use Rattle.disk_lines.specs.declared.Kind.TheVariants.{Staging}
+use Rattle.world_exits.specs.disk_lines.declared.Draft.{Draft}
+use Rattle.world_exits.specs.disk_lines.declared.Kind.TheVariants.{Staging}
 use Rattle.world_exits.specs.disk_rules.Live.{is_file, is_live}
 use Rattle.world_exits.specs.disk_rules.Volume.{inode, Volume}
-use Rattle.list_facts.specs.Members.{In}
+use Rattle.world_exits.specs.list_facts.Members.{In}
 use Rattle.world_exits.specs.world_rules.Jobs.{live_claims}
 use Rattle.world_exits.specs.world_rules.Stands.{entries_of}
 use Rattle.world_exits.specs.Going.{LeavesFiles}

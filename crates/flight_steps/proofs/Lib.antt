@@ -6,3 +6,4 @@ pub use Rattle.world_exits.proofs.k_tables_proofs as k_tables_proofs
 pub use Rattle.world_standing.proofs.flight_facts_proofs as flight_facts_proofs
 pub use Rattle.world_standing.proofs.overlay_facts_proofs as overlay_facts_proofs
 pub use Rattle.world_standing.proofs as world_standing_proofs
+pub use Rattle.world_standing.proofs.open_numbers_proofs as open_numbers_proofs

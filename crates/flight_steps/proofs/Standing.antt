@@ -1,31 +1,31 @@
 -- What stands together goes on to.
 use Rattle.std.specs.Prelude.{◌≡◌, ◌≢◌, ◌⊎◌, ◌≤◌, ◌<◌, ◌+◌, ◌*◌, ◌^◌, ℕ, Bool, true, false, List, [], ◌∷◌, length, map, Option, Some, if◌then◌else◌, refl}
 use Rattle.std.proofs.Common.{arith, ap, ◌∙◌, sym, subst, inl, inr}
-use Rattle.pm_words.specs.Cells.{cell, is_lent}
-use Rattle.pm_words.specs.ImageLaws.{IsImage-words_of}
-use Rattle.pm_words.specs.Images.{words_of}
-use Rattle.pm_words.specs.Words.{line_bytes, Words}
-use Rattle.disk_places.specs.Journal.{journaled}
-use Rattle.disk_places.specs.Places.{Geometry, log_line}
-use Rattle.disk_lines.specs.declared.Draft.{Draft}
-use Rattle.disk_lines.specs.declared.Kind.{Kind}
-use Rattle.disk_lines.specs.declared.Kind.TheVariants.{Directory, File, Free, Staging}
-use Rattle.disk_lines.specs.Entries.{held_seq, is_self_valid}
+use Rattle.world_exits.specs.pm_words.Cells.{cell, is_lent}
+use Rattle.world_exits.specs.pm_words.ImageLaws.{IsImage-words_of}
+use Rattle.world_exits.specs.pm_words.Images.{words_of}
+use Rattle.world_exits.specs.pm_words.Words.{line_bytes, Words}
+use Rattle.world_exits.specs.disk_places.Journal.{journaled}
+use Rattle.world_exits.specs.disk_places.Places.{Geometry, log_line}
+use Rattle.world_exits.specs.disk_lines.declared.Draft.{Draft}
+use Rattle.world_exits.specs.disk_lines.declared.Kind.{Kind}
+use Rattle.world_exits.specs.disk_lines.declared.Kind.TheVariants.{Directory, File, Free, Staging}
+use Rattle.world_exits.specs.disk_lines.Entries.{held_seq, is_self_valid}
 use Rattle.world_exits.specs.disk_rules.Content.{size_by}
 use Rattle.world_exits.specs.disk_rules.Live.{is_file, is_live, latest}
 use Rattle.world_exits.specs.disk_rules.Volume.{extents, inode, Volume}
 use Rattle.world_standing.specs.entry_orders.Orders.{AreOrdered}
-use Rattle.extent_words.specs.Extents.{disk_at}
+use Rattle.world_exits.specs.extent_words.Extents.{disk_at}
 use Rattle.world_standing.specs.file_table.Files.{Files, runs_in, size_in, spare_in}
 use Rattle.world_standing.specs.flight_facts.Flying.{AreOverlays, IsOut}
 use Rattle.world_standing.specs.held_sums.Laws.{AreSizes}
 use Rattle.world_exits.specs.k_rules.View.{View}
 use Rattle.world_exits.specs.k_split.Answers.{IsDone}
-use Rattle.list_facts.specs.Filters.{filter-In, In-filter}
-use Rattle.list_facts.specs.Members.{In}
-use Rattle.open_numbers.specs.Numbered.{numbered_as}
+use Rattle.world_exits.specs.list_facts.Filters.{filter-In, In-filter}
+use Rattle.world_exits.specs.list_facts.Members.{In}
+use Rattle.world_standing.specs.open_numbers.Numbered.{numbered_as}
 use Rattle.world_standing.specs.overlay_facts.Overlays.{IsOverlayOf, run_of}
-use Rattle.posix_words.specs.Open.{is_open, Tables}
+use Rattle.world_exits.specs.posix_words.Open.{is_open, Tables}
 use Rattle.world_exits.specs.posix_spec.State.{State}
 use Rattle.world_standing.specs.staging_files.Keeps.{Agrees, IsStaging}
 use Rattle.world_standing.proofs.staging_files_proofs.GiveUpLaws.{staging-file}

@@ -1,16 +1,16 @@
 -- What steps leave of a World with writes in flight, each law as one statement.
 use Rattle.std.specs.Prelude.{◌≡◌, ◌≢◌, ◌≤◌, ◌<◌, ◌+◌, ℕ, Bool, true, List, [], length, Option, Some, if◌then◌else◌}
-use Rattle.pm_words.specs.Words.{Words}
-use Rattle.disk_places.specs.Places.{Geometry}
-use Rattle.disk_lines.specs.declared.Kind.TheVariants.{File}
+use Rattle.world_exits.specs.pm_words.Words.{Words}
+use Rattle.world_exits.specs.disk_places.Places.{Geometry}
+use Rattle.world_exits.specs.disk_lines.declared.Kind.TheVariants.{File}
 use Rattle.world_exits.specs.disk_rules.Live.{is_file}
 use Rattle.world_exits.specs.disk_rules.Volume.{inode, Volume}
 use Rattle.world_standing.specs.entry_orders.Orders.{AreOrdered}
 use Rattle.world_standing.specs.file_table.Files.{ChangesFile, Files, runs_in, size_in, spare_in}
 use Rattle.world_exits.specs.k_rules.View.{View}
 use Rattle.world_exits.specs.k_split.Answers.{IsDone}
-use Rattle.open_numbers.specs.Numbered.{numbered_as}
-use Rattle.posix_words.specs.Open.{is_open, Tables}
+use Rattle.world_standing.specs.open_numbers.Numbered.{numbered_as}
+use Rattle.world_exits.specs.posix_words.Open.{is_open, Tables}
 use Rattle.world_exits.specs.posix_spec.State.{State}
 use Rattle.world_exits.specs.world_rules.Stands.{number}
 use Rattle.world_exits.specs.world_steps.Worlds.{IsWorld}

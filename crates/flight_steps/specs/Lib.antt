@@ -23,3 +23,4 @@ pub use Rattle.world_exits.specs.block_bytes as block_bytes
 pub use Rattle.world_standing.specs.data_route as data_route
 pub use Rattle.world_standing.specs.entry_orders as entry_orders
 pub use Rattle.world_standing.specs.map_collection as map_collection
+pub use Rattle.world_standing.specs.open_numbers as open_numbers

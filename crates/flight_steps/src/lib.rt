@@ -19,5 +19,5 @@ pub fn a_step_leaves_the_world_standing()
     ensures cleared { LeavesCleared }
 {}
 
-pub use world_exits::k_split;
-pub use world_standing::{file_reads, map_collection};
+pub use world_exits::{KFault, KSplit};
+pub use world_standing::{Collection, read_bytes};

@@ -4,22 +4,22 @@ use Rattle.std.proofs.Common.{arith, ap, ◌∙◌, sym, inl, inr}
 use Rattle.std.proofs.lemmas.Bool.{cases_eq, cases_lt}
 use Rattle.std.proofs.lemmas.List.{get_or-replicate, length-replicate}
 use Rattle.std.proofs.lemmas.Option.{same_Some}
-use Rattle.pm_words.specs.Words.{byte_of, Words}
-use Rattle.extent_words.specs.Extents.{disk_at}
-use Rattle.disk_places.specs.Journal.{IsSound, journaled}
-use Rattle.disk_places.specs.PlaceLaws.{behind_log-words}
-use Rattle.disk_places.specs.Places.{Geometry, is_data_block}
-use Rattle.flight_changes.specs.disk_rules.Placed.{block_at, IsOutside}
-use Rattle.flight_changes.specs.disk_rules.Volume.{extents, Volume}
+use Rattle.world_relinks.specs.pm_words.Words.{byte_of, Words}
+use Rattle.world_relinks.specs.extent_words.Extents.{disk_at}
+use Rattle.world_relinks.specs.disk_places.Journal.{IsSound, journaled}
+use Rattle.world_relinks.specs.disk_places.PlaceLaws.{behind_log-words}
+use Rattle.world_relinks.specs.disk_places.Places.{Geometry, is_data_block}
+use Rattle.flight_cleans.specs.flight_changes.disk_rules.Placed.{block_at, IsOutside}
+use Rattle.flight_cleans.specs.flight_changes.disk_rules.Volume.{extents, Volume}
 use Rattle.world_relinks.specs.block_bytes.Overwrites.{IsBeside, IsBesideBlocks, IsOverwrittenWhole, StandsIn}
-use Rattle.flight_changes.specs.k_rules.Stands.{IsOldOrNew}
+use Rattle.flight_cleans.specs.flight_changes.k_rules.Stands.{IsOldOrNew}
 use Rattle.world_relinks.specs.k_split.Bytes.{IsWrittenOver, tail_zeros, zeros_behind}
-use Rattle.flight_changes.specs.volume_facts.ImageLaws.{journaled-other}
-use Rattle.flight_changes.specs.volume_facts.LineWords.{data_word, data_word-not_journaled}
-use Rattle.flight_changes.specs.volume_uses.OwnerLaws.{IsOnePlace, one_owner}
-use Rattle.flight_changes.specs.world_promise.Lent.{in_data, once_named}
-use Rattle.flight_changes.specs.world_rules.Stands.{IsSane}
-use Rattle.flight_changes.proofs.Words.{same_block}
+use Rattle.flight_cleans.specs.flight_changes.volume_facts.ImageLaws.{journaled-other}
+use Rattle.flight_cleans.specs.flight_changes.volume_facts.LineWords.{data_word, data_word-not_journaled}
+use Rattle.flight_cleans.specs.flight_changes.volume_uses.OwnerLaws.{IsOnePlace, one_owner}
+use Rattle.flight_cleans.specs.flight_changes.world_promise.Lent.{in_data, once_named}
+use Rattle.flight_cleans.specs.flight_changes.world_rules.Stands.{IsSane}
+use Rattle.flight_cleans.proofs.flight_changes_proofs.Words.{same_block}
 use Rattle.flight_zeros.proofs.Reading.{SameBut}
 
 -- the block that is written

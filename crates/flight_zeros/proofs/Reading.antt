@@ -3,23 +3,23 @@ use Rattle.std.specs.Prelude.{◌≡◌, ◌≢◌, ◌⊎◌, ◌≤◌, ◌<�
 use Rattle.std.proofs.Common.{arith, ap, ◌∙◌, sym, subst, inl, inr}
 use Rattle.std.proofs.lemmas.Bool.{and_parts}
 use Rattle.std.proofs.lemmas.Bool.Decides.{Decides-eqb, nat_tests}
-use Rattle.pm_words.specs.Words.{byte_of, Words}
-use Rattle.extent_words.specs.Extents.{disk_at, is_within}
-use Rattle.disk_lines.specs.declared.Draft.{Draft}
-use Rattle.flight_changes.specs.disk_rules.Content.{byte_in, disk_by, disk_of, entry_of_block, size_of}
-use Rattle.flight_changes.specs.disk_rules.Volume.{extents, inode, Volume}
-use Rattle.posix_words.specs.Nodes.{node_at}
-use Rattle.flight_changes.specs.posix_spec.State.{State}
-use Rattle.list_facts.specs.Filters.{filter-In}
-use Rattle.list_facts.specs.Members.{In}
-use Rattle.flight_changes.specs.world_rules.Jobs.{Job, JobsStand, live_claims}
-use Rattle.flight_changes.specs.world_rules.Stands.{is_used, IsUsed, LogStands, number, Stands}
-use Rattle.flight_changes.specs.world_promise.JobLaws.{live_used}
-use Rattle.flight_changes.specs.world_promise.Landed.{NodeStands-same, SameFile}
-use Rattle.flight_changes.specs.world_promise.Latest.{latest-In}
-use Rattle.flight_changes.specs.world_promise.TreeRules.{used_below}
-use Rattle.flight_changes.specs.world_jobs.PlaceSteps.{staging_below}
-use Rattle.flight_changes.specs.world_steps.Worlds.{IsWorld}
+use Rattle.world_relinks.specs.pm_words.Words.{byte_of, Words}
+use Rattle.world_relinks.specs.extent_words.Extents.{disk_at, is_within}
+use Rattle.world_relinks.specs.disk_lines.declared.Draft.{Draft}
+use Rattle.flight_cleans.specs.flight_changes.disk_rules.Content.{byte_in, disk_by, disk_of, entry_of_block, size_of}
+use Rattle.flight_cleans.specs.flight_changes.disk_rules.Volume.{extents, inode, Volume}
+use Rattle.world_relinks.specs.posix_words.Nodes.{node_at}
+use Rattle.flight_cleans.specs.flight_changes.posix_spec.State.{State}
+use Rattle.world_relinks.specs.list_facts.Filters.{filter-In}
+use Rattle.world_relinks.specs.list_facts.Members.{In}
+use Rattle.flight_cleans.specs.flight_changes.world_rules.Jobs.{Job, JobsStand, live_claims}
+use Rattle.flight_cleans.specs.flight_changes.world_rules.Stands.{is_used, IsUsed, LogStands, number, Stands}
+use Rattle.flight_cleans.specs.flight_changes.world_promise.JobLaws.{live_used}
+use Rattle.flight_cleans.specs.flight_changes.world_promise.Landed.{NodeStands-same, SameFile}
+use Rattle.flight_cleans.specs.flight_changes.world_promise.Latest.{latest-In}
+use Rattle.flight_cleans.specs.flight_changes.world_promise.TreeRules.{used_below}
+use Rattle.flight_cleans.specs.flight_changes.world_jobs.PlaceSteps.{staging_below}
+use Rattle.flight_cleans.specs.flight_changes.world_steps.Worlds.{IsWorld}
 
 -- the bytes of the blocks that maps have, but those of one block from a place on
 pub record SameBut (v : Volume) (x place off : ℕ) (f g : Words) : Type 0 where

@@ -4,41 +4,41 @@ use Rattle.std.proofs.Common.{arith, ap, ◌∙◌, sym, subst, inl, inr}
 use Rattle.std.proofs.lemmas.Bool.{and_parts, cases_eq}
 use Rattle.std.proofs.lemmas.Bool.Decides.{nat_tests}
 use Rattle.std.proofs.lemmas.List.{get_or-append-add, length-append}
-use Rattle.pm_words.specs.ImageLaws.{IsImage-words_of}
-use Rattle.pm_words.specs.Images.{words_of}
-use Rattle.disk_places.specs.Journal.{journaled}
-use Rattle.disk_places.specs.Places.{Geometry}
-use Rattle.disk_lines.specs.declared.Draft.{Draft}
-use Rattle.disk_lines.specs.declared.Kind.TheVariants.{File, Staging}
-use Rattle.disk_lines.specs.Entries.{is_draft}
-use Rattle.flight_changes.specs.disk_rules.Live.{is_file, is_live, is_of_file}
-use Rattle.flight_changes.specs.disk_rules.Placed.{block_at}
-use Rattle.flight_changes.specs.disk_rules.Volume.{chain, extents, inode, Volume}
-use Rattle.extent_facts.specs.Covers.{covers-disk_at}
-use Rattle.extent_words.specs.Extents.{disk_at}
-use Rattle.flight_changes.specs.volume_facts.Changes.{chain-set_same}
+use Rattle.world_relinks.specs.pm_words.ImageLaws.{IsImage-words_of}
+use Rattle.world_relinks.specs.pm_words.Images.{words_of}
+use Rattle.world_relinks.specs.disk_places.Journal.{journaled}
+use Rattle.world_relinks.specs.disk_places.Places.{Geometry}
+use Rattle.world_relinks.specs.disk_lines.declared.Draft.{Draft}
+use Rattle.world_relinks.specs.disk_lines.declared.Kind.TheVariants.{File, Staging}
+use Rattle.world_relinks.specs.disk_lines.Entries.{is_draft}
+use Rattle.flight_cleans.specs.flight_changes.disk_rules.Live.{is_file, is_live, is_of_file}
+use Rattle.flight_cleans.specs.flight_changes.disk_rules.Placed.{block_at}
+use Rattle.flight_cleans.specs.flight_changes.disk_rules.Volume.{chain, extents, inode, Volume}
+use Rattle.world_relinks.specs.extent_facts.Covers.{covers-disk_at}
+use Rattle.world_relinks.specs.extent_words.Extents.{disk_at}
+use Rattle.flight_cleans.specs.flight_changes.volume_facts.Changes.{chain-set_same}
 use Rattle.world_relinks.specs.volume_maps.Switches.{unused-data}
-use Rattle.flight_changes.specs.volume_uses.PoolLaws.{unused-uncovered}
-use Rattle.list_facts.specs.Filters.{filter-agree}
-use Rattle.list_facts.specs.Members.{In}
+use Rattle.flight_cleans.specs.flight_changes.volume_uses.PoolLaws.{unused-uncovered}
+use Rattle.world_relinks.specs.list_facts.Filters.{filter-agree}
+use Rattle.world_relinks.specs.list_facts.Members.{In}
 use Rattle.world_relinks.specs.map_rules.Changes.{aged, IsPreallocated}
 use Rattle.world_relinks.specs.map_rules.Taken.{with_map}
 use Rattle.world_relinks.specs.k_map_plans.Plans.{IsStagingFile}
 use Rattle.world_relinks.specs.block_pool.FreeSets.{is_among}
-use Rattle.flight_changes.specs.volume_uses.Uses.{is_unused}
+use Rattle.flight_cleans.specs.flight_changes.volume_uses.Uses.{is_unused}
 use Rattle.world_relinks.specs.k_plans.Whole.{IsWhole}
-use Rattle.flight_changes.specs.k_rules.View.{View}
+use Rattle.flight_cleans.specs.flight_changes.k_rules.View.{View}
 use Rattle.world_relinks.specs.k_split.MapChanges.{is_free_in, IsPreallocatedWith}
-use Rattle.posix_words.specs.Open.{Tables}
-use Rattle.flight_changes.specs.posix_spec.State.{State}
-use Rattle.world_standing.specs.staging_files.Keeps.{IsKeptEmpty, IsStaging}
-use Rattle.world_standing.proofs.staging_files_proofs.GiveUpLaws.{staging-file}
-use Rattle.flight_changes.specs.world_rules.Jobs.{live_claims}
+use Rattle.world_relinks.specs.posix_words.Open.{Tables}
+use Rattle.flight_cleans.specs.flight_changes.posix_spec.State.{State}
+use Rattle.flight_cleans.specs.world_standing.staging_files.Keeps.{IsKeptEmpty, IsStaging}
+use Rattle.flight_cleans.proofs.world_standing_proofs.staging_files_proofs.GiveUpLaws.{staging-file}
+use Rattle.flight_cleans.specs.flight_changes.world_rules.Jobs.{live_claims}
 use Rattle.world_relinks.proofs.StagingLaws.{restages-filled}
 use Rattle.world_relinks.specs.world_runs.Restages.{Restages}
-use Rattle.flight_changes.specs.world_steps.Worlds.{IsWorld}
-use Rattle.world_standing.specs.Standing.{Kept, StandsAt}
-use Rattle.flight_changes.specs.Changes.{AreSpare}
+use Rattle.flight_cleans.specs.flight_changes.world_steps.Worlds.{IsWorld}
+use Rattle.flight_cleans.specs.world_standing.Standing.{Kept, StandsAt}
+use Rattle.flight_cleans.specs.flight_changes.Changes.{AreSpare}
 
 some_blocks : (d : Draft) → is_draft d ≡ true → 1 ≤ d.count
 some_blocks d is = grind (arith, nat_tests)

@@ -2,45 +2,45 @@
 use Rattle.std.specs.Prelude.{◌≡◌, ◌≢◌, ◌⊎◌, ◌≤◌, ◌<◌, ◌+◌, ◌-◌, ◌/◌, ◌%◌, ◌==◌, ◌&&◌, ℕ, Bool, true, length, Option, Some, None, option_map, refl}
 use Rattle.std.proofs.Common.{arith, ap, ◌∙◌, sym, subst, inl, inr}
 use Rattle.std.proofs.lemmas.Bool.{cases_lt}
-use Rattle.pm_words.specs.Images.{ComesFrom, IsImage}
-use Rattle.pm_words.specs.Words.{Words}
-use Rattle.disk_lines.specs.declared.Draft.{Draft}
-use Rattle.disk_lines.specs.declared.Kind.TheVariants.{File}
-use Rattle.disk_places.specs.Journal.{IsSound, journaled}
-use Rattle.disk_places.specs.Places.{Geometry, is_data_block}
-use Rattle.flight_changes.specs.disk_rules.Content.{byte_in, disk_by, disk_of, entry_of_block}
-use Rattle.flight_changes.specs.disk_rules.Placed.{block_at}
-use Rattle.flight_changes.specs.disk_rules.Volume.{extents, inode, Volume}
-use Rattle.extent_words.specs.Extents.{disk_at, is_within}
+use Rattle.world_relinks.specs.pm_words.Images.{ComesFrom, IsImage}
+use Rattle.world_relinks.specs.pm_words.Words.{Words}
+use Rattle.world_relinks.specs.disk_lines.declared.Draft.{Draft}
+use Rattle.world_relinks.specs.disk_lines.declared.Kind.TheVariants.{File}
+use Rattle.world_relinks.specs.disk_places.Journal.{IsSound, journaled}
+use Rattle.world_relinks.specs.disk_places.Places.{Geometry, is_data_block}
+use Rattle.flight_cleans.specs.flight_changes.disk_rules.Content.{byte_in, disk_by, disk_of, entry_of_block}
+use Rattle.flight_cleans.specs.flight_changes.disk_rules.Placed.{block_at}
+use Rattle.flight_cleans.specs.flight_changes.disk_rules.Volume.{extents, inode, Volume}
+use Rattle.world_relinks.specs.extent_words.Extents.{disk_at, is_within}
 use Rattle.world_relinks.specs.block_bytes.Overwrites.{IsOverwrittenWhole}
-use Rattle.world_standing.specs.data_route.Reads.{source_by, source_of}
-use Rattle.file_overlay.specs.Runs.{place_in}
-use Rattle.world_standing.specs.file_reads.Reads.{block_in, block_of}
-use Rattle.world_standing.specs.file_table.Files.{runs_in, size_in}
-use Rattle.flight_changes.specs.Changes.{AreSpare}
-use Rattle.flight_changes.proofs.Words.{same_block}
-use Rattle.flight_changes.specs.k_rules.Stands.{IsOldOrNew}
-use Rattle.flight_changes.specs.k_rules.View.{View}
+use Rattle.flight_cleans.specs.world_standing.data_route.Reads.{source_by, source_of}
+use Rattle.flight_cleans.specs.file_overlay.Runs.{place_in}
+use Rattle.flight_cleans.specs.world_standing.file_reads.Reads.{block_in, block_of}
+use Rattle.flight_cleans.specs.world_standing.file_table.Files.{runs_in, size_in}
+use Rattle.flight_cleans.specs.flight_changes.Changes.{AreSpare}
+use Rattle.flight_cleans.proofs.flight_changes_proofs.Words.{same_block}
+use Rattle.flight_cleans.specs.flight_changes.k_rules.Stands.{IsOldOrNew}
+use Rattle.flight_cleans.specs.flight_changes.k_rules.View.{View}
 use Rattle.world_relinks.specs.k_split.Bytes.{tail_zeros}
 use Rattle.world_relinks.specs.k_split.MapChanges.{ChangesMaps, IsMapDone, IsPreallocatedWith}
-use Rattle.list_facts.specs.Filters.{filter-In}
-use Rattle.list_facts.specs.Members.{In}
-use Rattle.world_standing.proofs.overlay_facts_proofs.Overlays.{overlay_is_log, source_is_log}
-use Rattle.world_standing.specs.overlay_facts.Overlays.{run_of}
-use Rattle.posix_words.specs.Open.{Tables}
-use Rattle.flight_changes.specs.posix_spec.State.{State}
-use Rattle.world_standing.specs.staging_files.declared.runs.StageRun.{StageRun}
-use Rattle.world_standing.specs.staging_files.Keeps.{Staged}
-use Rattle.world_standing.specs.staging_files.Reserves.{IsGiven, share}
-use Rattle.flight_changes.specs.world_images.Changed.{sound_headed}
-use Rattle.flight_changes.specs.world_promise.Latest.{latest-In}
-use Rattle.flight_changes.specs.world_promise.Lent.{disk_of-in_data}
-use Rattle.flight_changes.specs.world_promise.TreeRules.{used_below}
-use Rattle.flight_changes.specs.world_jobs.PlaceSteps.{staging_below}
-use Rattle.flight_changes.specs.world_rules.Jobs.{live_claims}
-use Rattle.flight_changes.specs.world_rules.Stands.{is_used, IsSane}
-use Rattle.flight_changes.specs.world_steps.Worlds.{IsWorld}
-use Rattle.world_standing.specs.Standing.{Kept, StandsAt}
+use Rattle.world_relinks.specs.list_facts.Filters.{filter-In}
+use Rattle.world_relinks.specs.list_facts.Members.{In}
+use Rattle.flight_cleans.proofs.world_standing_proofs.overlay_facts_proofs.Overlays.{overlay_is_log, source_is_log}
+use Rattle.flight_cleans.specs.world_standing.overlay_facts.Overlays.{run_of}
+use Rattle.world_relinks.specs.posix_words.Open.{Tables}
+use Rattle.flight_cleans.specs.flight_changes.posix_spec.State.{State}
+use Rattle.flight_cleans.specs.world_standing.staging_files.declared.runs.StageRun.{StageRun}
+use Rattle.flight_cleans.specs.world_standing.staging_files.Keeps.{Staged}
+use Rattle.flight_cleans.specs.world_standing.staging_files.Reserves.{IsGiven, share}
+use Rattle.flight_cleans.specs.flight_changes.world_images.Changed.{sound_headed}
+use Rattle.flight_cleans.specs.flight_changes.world_promise.Latest.{latest-In}
+use Rattle.flight_cleans.specs.flight_changes.world_promise.Lent.{disk_of-in_data}
+use Rattle.flight_cleans.specs.flight_changes.world_promise.TreeRules.{used_below}
+use Rattle.flight_cleans.specs.flight_changes.world_jobs.PlaceSteps.{staging_below}
+use Rattle.flight_cleans.specs.flight_changes.world_rules.Jobs.{live_claims}
+use Rattle.flight_cleans.specs.flight_changes.world_rules.Stands.{is_used, IsSane}
+use Rattle.flight_cleans.specs.flight_changes.world_steps.Worlds.{IsWorld}
+use Rattle.flight_cleans.specs.world_standing.Standing.{Kept, StandsAt}
 use Rattle.flight_zeros.specs.Laws.{ReservedReadZero, ZeroedReadZero}
 use Rattle.flight_zeros.specs.Zeros.{block_end, ReadZero}
 use Rattle.flight_zeros.proofs.Refilled as refilling

@@ -3,52 +3,52 @@ use Rattle.std.specs.Prelude.{◌≡◌, ◌≤◌, ◌<◌, ◌+◌, ◌*◌, �
 use Rattle.std.proofs.Common.{arith, ap, ◌∙◌, sym, subst}
 use Rattle.std.proofs.lemmas.Bool.{and_parts}
 use Rattle.std.proofs.lemmas.Bool.Decides.{Decides-eqb, nat_tests}
-use Rattle.pm_words.specs.declared.Cell.{Cell}
-use Rattle.pm_words.specs.Cells.{cell, is_lent, is_single}
-use Rattle.pm_words.specs.ImageLaws.{IsImage-words_of}
-use Rattle.pm_words.specs.Images.{ComesFrom, IsImage, words_of}
-use Rattle.pm_words.specs.Words.{Words}
-use Rattle.world_standing.specs.data_route.declared.reads.Source.TheVariants.{Staged}
-use Rattle.world_standing.specs.data_route.Reads.{source_by, source_of}
-use Rattle.extent_words.specs.Extents.{disk_at, is_within}
-use Rattle.disk_lines.specs.declared.Draft.{Draft}
-use Rattle.disk_lines.specs.Entries.{is_draft}
-use Rattle.disk_places.specs.Journal.{is_journal_word, IsSound, journaled}
-use Rattle.disk_places.specs.PlaceLaws.{behind_log-words}
-use Rattle.disk_places.specs.Places.{Geometry, is_data_block, is_journaled_line, log_block, log_line}
-use Rattle.flight_changes.specs.disk_rules.Content.{entry_of_block, size_of}
-use Rattle.flight_changes.specs.disk_rules.Volume.{extents, Volume}
-use Rattle.file_overlay.specs.Runs.{place_in}
-use Rattle.world_standing.specs.file_reads.Reads.{block_of}
-use Rattle.world_standing.specs.file_table.Files.{runs_in, size_in}
-use Rattle.world_standing.specs.flight_facts.Flying.{IsFlying}
-use Rattle.world_standing.proofs.flight_facts_proofs.Readable.{flies_readable}
-use Rattle.flight_changes.specs.k_rules.Stands.{Stands}
-use Rattle.flight_changes.specs.k_rules.View.{View}
+use Rattle.world_relinks.specs.pm_words.declared.Cell.{Cell}
+use Rattle.world_relinks.specs.pm_words.Cells.{cell, is_lent, is_single}
+use Rattle.world_relinks.specs.pm_words.ImageLaws.{IsImage-words_of}
+use Rattle.world_relinks.specs.pm_words.Images.{ComesFrom, IsImage, words_of}
+use Rattle.world_relinks.specs.pm_words.Words.{Words}
+use Rattle.flight_cleans.specs.world_standing.data_route.declared.reads.Source.TheVariants.{Staged}
+use Rattle.flight_cleans.specs.world_standing.data_route.Reads.{source_by, source_of}
+use Rattle.world_relinks.specs.extent_words.Extents.{disk_at, is_within}
+use Rattle.world_relinks.specs.disk_lines.declared.Draft.{Draft}
+use Rattle.world_relinks.specs.disk_lines.Entries.{is_draft}
+use Rattle.world_relinks.specs.disk_places.Journal.{is_journal_word, IsSound, journaled}
+use Rattle.world_relinks.specs.disk_places.PlaceLaws.{behind_log-words}
+use Rattle.world_relinks.specs.disk_places.Places.{Geometry, is_data_block, is_journaled_line, log_block, log_line}
+use Rattle.flight_cleans.specs.flight_changes.disk_rules.Content.{entry_of_block, size_of}
+use Rattle.flight_cleans.specs.flight_changes.disk_rules.Volume.{extents, Volume}
+use Rattle.flight_cleans.specs.file_overlay.Runs.{place_in}
+use Rattle.flight_cleans.specs.world_standing.file_reads.Reads.{block_of}
+use Rattle.flight_cleans.specs.world_standing.file_table.Files.{runs_in, size_in}
+use Rattle.flight_cleans.specs.world_standing.flight_facts.Flying.{IsFlying}
+use Rattle.flight_cleans.proofs.world_standing_proofs.flight_facts_proofs.Readable.{flies_readable}
+use Rattle.flight_cleans.specs.flight_changes.k_rules.Stands.{Stands}
+use Rattle.flight_cleans.specs.flight_changes.k_rules.View.{View}
 use Rattle.world_relinks.specs.k_split.Bytes.{IsWrittenOver, Overwrites, tail_zeros}
 use Rattle.world_relinks.specs.k_split.Loans.{MayLend}
 use Rattle.world_relinks.specs.k_split.Order.{IsInOrder}
-use Rattle.list_facts.specs.Filters.{filter-In}
-use Rattle.list_facts.specs.Members.{In}
-use Rattle.world_standing.proofs.overlay_facts_proofs.Overlays.{source_is_log}
-use Rattle.world_standing.specs.overlay_facts.Overlays.{run_of}
-use Rattle.posix_words.specs.Open.{Tables}
-use Rattle.flight_changes.specs.posix_spec.Run.{run}
-use Rattle.flight_changes.specs.posix_spec.State.{State}
-use Rattle.world_standing.specs.staging_files.Keeps.{Agrees}
-use Rattle.flight_changes.specs.volume_facts.LineWords.{data_word, data_word-not_journaled}
-use Rattle.flight_changes.specs.world_jobs.PlaceSteps.{staging_below}
-use Rattle.flight_changes.specs.world_promise.Latest.{latest-In}
-use Rattle.flight_changes.specs.world_promise.Lent.{in_data}
-use Rattle.flight_changes.specs.world_rules.Jobs.{begun_of, live_claims}
-use Rattle.flight_changes.specs.world_steps.Worlds.{IsWorld}
-use Rattle.flight_changes.specs.world_images.Changed.{ShowsLog-same, sound_headed}
-use Rattle.flight_changes.specs.world_images.Images.{HasLogHome, IsHeaded, ShowsWorld}
-use Rattle.flight_changes.specs.world_images.Promised.{IsKept}
-use Rattle.flight_changes.specs.world_lent.Flights.{leads_before, ShowsBack}
-use Rattle.world_standing.specs.Standing.{file_state, Kept, LinesStand, StandsAt}
-use Rattle.flight_changes.proofs.Devices.{image_of, kept_leading, shows_back, small_lap}
-use Rattle.flight_changes.proofs.Words.{headed_changed, same_log}
+use Rattle.world_relinks.specs.list_facts.Filters.{filter-In}
+use Rattle.world_relinks.specs.list_facts.Members.{In}
+use Rattle.flight_cleans.proofs.world_standing_proofs.overlay_facts_proofs.Overlays.{source_is_log}
+use Rattle.flight_cleans.specs.world_standing.overlay_facts.Overlays.{run_of}
+use Rattle.world_relinks.specs.posix_words.Open.{Tables}
+use Rattle.flight_cleans.specs.flight_changes.posix_spec.Run.{run}
+use Rattle.flight_cleans.specs.flight_changes.posix_spec.State.{State}
+use Rattle.flight_cleans.specs.world_standing.staging_files.Keeps.{Agrees}
+use Rattle.flight_cleans.specs.flight_changes.volume_facts.LineWords.{data_word, data_word-not_journaled}
+use Rattle.flight_cleans.specs.flight_changes.world_jobs.PlaceSteps.{staging_below}
+use Rattle.flight_cleans.specs.flight_changes.world_promise.Latest.{latest-In}
+use Rattle.flight_cleans.specs.flight_changes.world_promise.Lent.{in_data}
+use Rattle.flight_cleans.specs.flight_changes.world_rules.Jobs.{begun_of, live_claims}
+use Rattle.flight_cleans.specs.flight_changes.world_steps.Worlds.{IsWorld}
+use Rattle.flight_cleans.specs.flight_changes.world_images.Changed.{ShowsLog-same, sound_headed}
+use Rattle.flight_cleans.specs.flight_changes.world_images.Images.{HasLogHome, IsHeaded, ShowsWorld}
+use Rattle.flight_cleans.specs.flight_changes.world_images.Promised.{IsKept}
+use Rattle.flight_cleans.specs.flight_changes.world_lent.Flights.{leads_before, ShowsBack}
+use Rattle.flight_cleans.specs.world_standing.Standing.{file_state, Kept, LinesStand, StandsAt}
+use Rattle.flight_cleans.proofs.flight_changes_proofs.Devices.{image_of, kept_leading, shows_back, small_lap}
+use Rattle.flight_cleans.proofs.flight_changes_proofs.Words.{headed_changed, same_log}
 use Rattle.flight_zeros.specs.Laws.{KeepsZeroed, StandsToZero, StandsZeroed}
 use Rattle.flight_zeros.specs.Zeros.{MayZero, staged_place}
 use Rattle.flight_zeros.proofs.Places.{in_data_tail, old_or_new, same_but, tail_blocks}

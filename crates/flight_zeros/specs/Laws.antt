@@ -1,29 +1,29 @@
 -- Blocks behind the end of a file are zeroed while writes are in flight, each law as one statement.
 use Rattle.std.specs.Prelude.{◌≡◌, ◌≤◌, ◌<◌, ◌/◌, ◌%◌, ℕ, Bool, List, [], ◌∷◌, ◌++◌, length, map, Option, Result, Ok}
-use Rattle.pm_words.specs.declared.Cell.{Cell}
-use Rattle.pm_words.specs.Words.{Words}
-use Rattle.disk_lines.specs.declared.Kind.TheVariants.{File}
-use Rattle.disk_places.specs.Places.{Geometry}
-use Rattle.flight_changes.specs.disk_rules.Volume.{extents, inode}
-use Rattle.extent_words.specs.Extents.{disk_at}
-use Rattle.world_standing.specs.file_reads.Reads.{block_in}
-use Rattle.world_standing.specs.file_table.Files.{runs_in}
-use Rattle.flight_changes.specs.k_rules.View.{View}
+use Rattle.world_relinks.specs.pm_words.declared.Cell.{Cell}
+use Rattle.world_relinks.specs.pm_words.Words.{Words}
+use Rattle.world_relinks.specs.disk_lines.declared.Kind.TheVariants.{File}
+use Rattle.world_relinks.specs.disk_places.Places.{Geometry}
+use Rattle.flight_cleans.specs.flight_changes.disk_rules.Volume.{extents, inode}
+use Rattle.world_relinks.specs.extent_words.Extents.{disk_at}
+use Rattle.flight_cleans.specs.world_standing.file_reads.Reads.{block_in}
+use Rattle.flight_cleans.specs.world_standing.file_table.Files.{runs_in}
+use Rattle.flight_cleans.specs.flight_changes.k_rules.View.{View}
 use Rattle.world_relinks.specs.k_split.Bytes.{IsOverwriteCut, IsOverwriteDone, tail_zeros}
 use Rattle.world_relinks.specs.k_split.Loans.{MayLend}
-use Rattle.posix_types.specs.declared.call.Mode.{Mode}
-use Rattle.posix_types.specs.declared.item.Item.{Item}
-use Rattle.posix_words.specs.Open.{Tables}
-use Rattle.flight_changes.specs.posix_spec.Run.{Begun, run}
-use Rattle.flight_changes.specs.posix_spec.State.{State}
-use Rattle.world_standing.specs.staging_files.declared.runs.StageFault.{StageFault}
-use Rattle.world_standing.specs.staging_files.declared.runs.StageRun.{StageRun}
-use Rattle.world_standing.specs.staging_files.Keeps.{Staged}
-use Rattle.world_standing.specs.staging_files.Reserves.{IsReserveAnswer}
-use Rattle.flight_changes.specs.world_rules.Jobs.{begun_of}
-use Rattle.flight_changes.specs.world_images.Promised.{IsKept}
-use Rattle.flight_changes.specs.world_lent.Back.{IsPutBack}
-use Rattle.world_standing.specs.Standing.{Kept, StandsAt}
+use Rattle.world_relinks.specs.posix_types.declared.call.Mode.{Mode}
+use Rattle.world_relinks.specs.posix_types.declared.item.Item.{Item}
+use Rattle.world_relinks.specs.posix_words.Open.{Tables}
+use Rattle.flight_cleans.specs.flight_changes.posix_spec.Run.{Begun, run}
+use Rattle.flight_cleans.specs.flight_changes.posix_spec.State.{State}
+use Rattle.flight_cleans.specs.world_standing.staging_files.declared.runs.StageFault.{StageFault}
+use Rattle.flight_cleans.specs.world_standing.staging_files.declared.runs.StageRun.{StageRun}
+use Rattle.flight_cleans.specs.world_standing.staging_files.Keeps.{Staged}
+use Rattle.flight_cleans.specs.world_standing.staging_files.Reserves.{IsReserveAnswer}
+use Rattle.flight_cleans.specs.flight_changes.world_rules.Jobs.{begun_of}
+use Rattle.flight_cleans.specs.flight_changes.world_images.Promised.{IsKept}
+use Rattle.flight_cleans.specs.flight_changes.world_lent.Back.{IsPutBack}
+use Rattle.flight_cleans.specs.world_standing.Standing.{Kept, StandsAt}
 use Rattle.flight_zeros.specs.Zeros.{block_end, MayZero, ReadZero, staged_place}
 
 -- ---- a staged block

@@ -1,18 +1,18 @@
 -- Bytes of a file that read zero, and what zeroes them in place.
 use Rattle.std.specs.Prelude.{◌≡◌, ◌≢◌, ◌≤◌, ◌<◌, ◌+◌, ◌*◌, ◌/◌, ◌%◌, ℕ, List, Some}
-use Rattle.pm_words.specs.Images.{IsImage}
-use Rattle.pm_words.specs.Words.{Words}
-use Rattle.disk_places.specs.Journal.{journaled}
-use Rattle.disk_lines.specs.declared.Kind.TheVariants.{File}
-use Rattle.flight_changes.specs.disk_rules.Content.{byte_in}
-use Rattle.flight_changes.specs.disk_rules.Volume.{inode}
-use Rattle.file_overlay.specs.Runs.{staged_at}
-use Rattle.world_standing.specs.file_reads.Reads.{block_in}
-use Rattle.world_standing.specs.file_table.Files.{Files, runs_in, size_in}
-use Rattle.flight_changes.specs.k_rules.View.{View}
-use Rattle.list_facts.specs.Members.{In}
-use Rattle.flight_changes.specs.world_rules.Jobs.{Job}
-use Rattle.world_standing.specs.Standing.{Kept}
+use Rattle.world_relinks.specs.pm_words.Images.{IsImage}
+use Rattle.world_relinks.specs.pm_words.Words.{Words}
+use Rattle.world_relinks.specs.disk_places.Journal.{journaled}
+use Rattle.world_relinks.specs.disk_lines.declared.Kind.TheVariants.{File}
+use Rattle.flight_cleans.specs.flight_changes.disk_rules.Content.{byte_in}
+use Rattle.flight_cleans.specs.flight_changes.disk_rules.Volume.{inode}
+use Rattle.flight_cleans.specs.file_overlay.Runs.{staged_at}
+use Rattle.flight_cleans.specs.world_standing.file_reads.Reads.{block_in}
+use Rattle.flight_cleans.specs.world_standing.file_table.Files.{Files, runs_in, size_in}
+use Rattle.flight_cleans.specs.flight_changes.k_rules.View.{View}
+use Rattle.world_relinks.specs.list_facts.Members.{In}
+use Rattle.flight_cleans.specs.flight_changes.world_rules.Jobs.{Job}
+use Rattle.flight_cleans.specs.world_standing.Standing.{Kept}
 
 -- THE BYTES READ ZERO: those of the file from a place on up to another, by what is staged of it and its map, in each image.
 abbrev pub ReadZero : View → Files → ℕ → ℕ → ℕ → Type 0

@@ -21,3 +21,5 @@ pub fn blocks_are_zeroed_in_flight()
     ensures zeroed { ZeroedReadZero }
     ensures reserved { ReservedReadZero }
 {}
+
+pub use flight_cleans::{FileTable, the_end_of_a_file_is_cleaned_in_flight};

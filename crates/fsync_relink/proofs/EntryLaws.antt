@@ -1,12 +1,12 @@
 -- Once a file is published of which the log holds the runs, just the entries of others are live.
 use Rattle.std.proofs.Common.{◌≡◌, ◌≢◌, ◌<◌, ◌/◌, ◌↔◌, ℕ, List, [], ◌∷◌, Ok, refl, sym, ◌∙◌, ap, subst, inl, inr}
-use Rattle.pm_words.specs.ImageLaws.{Follows-then}
-use Rattle.pm_words.specs.Images.{Follows, Follows-same, Follows-weaken, Then}
-use Rattle.pm_words.specs.Words.{Words}
-use Rattle.disk_lines.specs.declared.Draft.{Draft}
-use Rattle.disk_lines.specs.declared.Kind.TheVariants.{File}
-use Rattle.disk_places.specs.Journal.{journaled}
-use Rattle.disk_places.specs.Places.{log_line}
+use Rattle.world_relinks.specs.pm_words.ImageLaws.{Follows-then}
+use Rattle.world_relinks.specs.pm_words.Images.{Follows, Follows-same, Follows-weaken, Then}
+use Rattle.world_relinks.specs.pm_words.Words.{Words}
+use Rattle.world_relinks.specs.disk_lines.declared.Draft.{Draft}
+use Rattle.world_relinks.specs.disk_lines.declared.Kind.TheVariants.{File}
+use Rattle.world_relinks.specs.disk_places.Journal.{journaled}
+use Rattle.world_relinks.specs.disk_places.Places.{log_line}
 use Rattle.world_relinks.specs.disk_rules.Content.{content, disk_of, size_of}
 use Rattle.world_relinks.specs.disk_rules.Live.{live_entries}
 use Rattle.world_relinks.specs.disk_rules.Volume.{inode, Volume}
@@ -14,7 +14,7 @@ use Rattle.file_overlay.specs.declared.runs.Run.{Run}
 use Rattle.world_relinks.specs.k_rules.Stands.{IsOldOrNew}
 use Rattle.world_relinks.specs.k_rules.View.{View}
 use Rattle.world_relinks.specs.k_split.MapChanges.{IsRelinkAnswer}
-use Rattle.list_facts.specs.Members.{In}
+use Rattle.world_relinks.specs.list_facts.Members.{In}
 use Rattle.world_relinks.specs.live_facts.Logs.{AreSound, CarriesOut, HasSameFiles}
 use Rattle.world_relinks.specs.map_rules.declared.moves.Move.{Move}
 use Rattle.world_relinks.specs.volume_facts.Footprint.{SameLog}

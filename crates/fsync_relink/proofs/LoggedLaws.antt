@@ -4,16 +4,16 @@ use Rattle.std.specs.Prelude.{All, AllPairs, filter}
 use Rattle.std.specs.Option.{option_map}
 use Rattle.std.proofs.lemmas.Bool.{and_parts, both_ways, eq-eqb}
 use Rattle.std.proofs.lemmas.Bool.Decides.{Decides-eqb}
-use Rattle.pm_words.specs.ImageLaws.{Follows-then}
-use Rattle.pm_words.specs.Images.{Follows, Follows-same, Follows-weaken, Then}
-use Rattle.pm_words.specs.Words.{Words}
-use Rattle.disk_lines.specs.declared.Draft.{Draft}
-use Rattle.disk_lines.specs.declared.Inode.{Inode}
-use Rattle.disk_places.specs.Journal.{journaled}
+use Rattle.world_relinks.specs.pm_words.ImageLaws.{Follows-then}
+use Rattle.world_relinks.specs.pm_words.Images.{Follows, Follows-same, Follows-weaken, Then}
+use Rattle.world_relinks.specs.pm_words.Words.{Words}
+use Rattle.world_relinks.specs.disk_lines.declared.Draft.{Draft}
+use Rattle.world_relinks.specs.disk_lines.declared.Inode.{Inode}
+use Rattle.world_relinks.specs.disk_places.Journal.{journaled}
 use Rattle.world_relinks.specs.disk_rules.Content.{content, disk_by, entry_of_block, size_by, size_of}
 use Rattle.world_relinks.specs.disk_rules.Live.{latest, live_entries}
 use Rattle.world_relinks.specs.disk_rules.Volume.{inode, Volume}
-use Rattle.extent_words.specs.Extents.{is_within}
+use Rattle.file_overlay.specs.extent_words.Extents.{is_within}
 use Rattle.file_overlay.specs.declared.runs.Run.{Run}
 use Rattle.file_overlay.specs.Laws.{IsEarlier, LastIsGreatest, NoneHasBlock}
 use Rattle.file_overlay.specs.Runs.{has_block, last_run, place_in}
@@ -26,8 +26,8 @@ use Rattle.world_relinks.specs.k_rules.View.{View}
 use Rattle.world_relinks.specs.k_split.MapChanges.{ChangesMaps, is_free_in, IsMovedWith, IsRelinkAnswer}
 use Rattle.world_relinks.specs.k_split.Order.{IsInOrder}
 use Rattle.world_relinks.specs.k_split.declared.faults.KFault.{KFault}
-use Rattle.list_facts.specs.Filters.{filter-In, In-filter}
-use Rattle.list_facts.specs.Members.{In}
+use Rattle.world_relinks.specs.list_facts.Filters.{filter-In, In-filter}
+use Rattle.world_relinks.specs.list_facts.Members.{In}
 use Rattle.world_relinks.specs.map_facts.Moves.{move_for}
 use Rattle.world_relinks.specs.map_rules.declared.moves.Move.{Move}
 use Rattle.world_relinks.specs.volume_facts.FootprintLaws.{live_entries-same}

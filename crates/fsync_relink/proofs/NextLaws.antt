@@ -4,13 +4,13 @@ use Rattle.std.specs.Prelude.{IsSome, if◌then◌else◌}
 use Rattle.std.proofs.lemmas.Bool.{both_ways, cases_Bool, cases_eq, eq-eqb}
 use Rattle.std.proofs.lemmas.Bool.Decides.{nat_tests}
 use Rattle.std.proofs.lemmas.Option.{same_Some}
-use Rattle.disk_lines.specs.Lines.{is_inode, is_inode_of_kind, most_bytes}
-use Rattle.disk_lines.specs.declared.Inode.{Inode}
-use Rattle.disk_lines.specs.declared.Kind.{Kind}
-use Rattle.disk_lines.specs.declared.Kind.TheVariants.{File, Staging}
-use Rattle.disk_places.specs.Places.{reserve}
+use Rattle.world_relinks.specs.disk_lines.Lines.{is_inode, is_inode_of_kind, most_bytes}
+use Rattle.world_relinks.specs.disk_lines.declared.Inode.{Inode}
+use Rattle.world_relinks.specs.disk_lines.declared.Kind.{Kind}
+use Rattle.world_relinks.specs.disk_lines.declared.Kind.TheVariants.{File, Staging}
+use Rattle.world_relinks.specs.disk_places.Places.{reserve}
 use Rattle.world_relinks.specs.disk_rules.Volume.{extents, inode, Volume}
-use Rattle.extent_words.specs.Extents.{disk_at, is_within}
+use Rattle.file_overlay.specs.extent_words.Extents.{disk_at, is_within}
 use Rattle.file_overlay.specs.declared.runs.Run.{Run}
 use Rattle.world_relinks.specs.k_map_plans.Plans.{IsLiveFile, IsStagingFile, MayMove}
 use Rattle.world_relinks.specs.k_plans.View.{node_at}

@@ -3,10 +3,10 @@ use Rattle.std.proofs.Common.{◌≡◌, ◌≢◌, ◌≤◌, ◌+◌, ℕ, zer
 use Rattle.std.specs.Prelude.{All, IsSome}
 use Rattle.std.proofs.lemmas.Bool.{cases_Bool}
 use Rattle.std.proofs.lemmas.List.Elements.{All-head, All-tail}
-use Rattle.disk_lines.specs.declared.Inode.{Inode}
-use Rattle.disk_places.specs.Places.{reserve}
+use Rattle.world_relinks.specs.disk_lines.declared.Inode.{Inode}
+use Rattle.world_relinks.specs.disk_places.Places.{reserve}
 use Rattle.world_relinks.specs.disk_rules.Volume.{extents, inode}
-use Rattle.extent_words.specs.Extents.{disk_at}
+use Rattle.file_overlay.specs.extent_words.Extents.{disk_at}
 use Rattle.file_overlay.specs.declared.runs.Run.{Run}
 use Rattle.world_relinks.specs.k_map_plans.Plans.{IsLiveFile, IsStagingFile, MayMove}
 use Rattle.world_relinks.proofs.k_plans_proofs.FreeCounts.{unwaiting-counted}

@@ -11,7 +11,7 @@ use Rattle.std.proofs.lemmas.Bool.Decides.{nat_tests}
 use Rattle.std.specs.declared.alloc.AllocError.{AllocError}
 use Rattle.world_relinks.specs.k_journal.declared.outcomes.Commit.{Commit}
 use Rattle.world_relinks.specs.disk_rules.Volume.{extents, inode, Volume}
-use Rattle.extent_words.specs.Extents.{disk_at, is_within}
+use Rattle.file_overlay.specs.extent_words.Extents.{disk_at, is_within}
 use Rattle.file_overlay.specs.declared.runs.Run.{Run}
 use Rattle.file_overlay.specs.Runs.{has_block, Overlaid, place_in, staged_at}
 use Rattle.world_relinks.specs.k_map_plans.Plans.{IsStagingFile, MayMove}

@@ -4,17 +4,17 @@ use Rattle.std.specs.Prelude.{is_some, nat_lt}
 use Rattle.std.proofs.lemmas.Bool.{cases_eq, cases_lt}
 use Rattle.std.proofs.lemmas.Bool.Decides.{nat_tests}
 use Rattle.std.proofs.lemmas.List.{length-set}
-use Rattle.block_counts.specs.Counts.{blocks_for}
-use Rattle.disk_lines.specs.declared.Inode.{Inode}
-use Rattle.disk_lines.specs.declared.Kind.TheVariants.{File, Staging}
+use Rattle.world_relinks.specs.block_counts.Counts.{blocks_for}
+use Rattle.world_relinks.specs.disk_lines.declared.Inode.{Inode}
+use Rattle.world_relinks.specs.disk_lines.declared.Kind.TheVariants.{File, Staging}
 use Rattle.world_relinks.specs.disk_rules.Reading.{inode_set}
 use Rattle.world_relinks.specs.disk_rules.Room.{unused_blocks}
 use Rattle.world_relinks.specs.disk_rules.Rules.{file_blocks_of}
 use Rattle.world_relinks.specs.disk_rules.Volume.{chain, extents, inode, Volume}
-use Rattle.extent_facts.specs.Counts.{block_count-mapped, is_mapped, one_if}
-use Rattle.extent_words.specs.declared.Extent.{Extent}
-use Rattle.extent_words.specs.Extents.{block_count, disk_at, IsCanonical}
-use Rattle.extent_words.specs.Maps.{IsPart}
+use Rattle.world_relinks.specs.extent_facts.Counts.{block_count-mapped, is_mapped, one_if}
+use Rattle.file_overlay.specs.extent_words.declared.Extent.{Extent}
+use Rattle.file_overlay.specs.extent_words.Extents.{block_count, disk_at, IsCanonical}
+use Rattle.file_overlay.specs.extent_words.Maps.{IsPart}
 use Rattle.world_relinks.specs.k_map_plans.Plans.{IsLiveFile, IsStagingFile}
 use Rattle.world_relinks.proofs.k_plans_proofs.FreeCounts.{unwaiting-counted}
 use Rattle.world_relinks.specs.k_plans.Whole.{IsWhole}

@@ -1,13 +1,13 @@
 -- Runs are relinked one after the other, and what is left of them.
 use Rattle.std.proofs.Common.{◌≡◌, ◌≤◌, ◌<◌, ◌+◌, ◌-◌, ◌*◌, ◌^◌, ℕ, false, List, [], ◌∷◌, length, take, drop, get_or, take_all, length-drop, None, Ok, Err, refl, sym, ◌∙◌, ap, subst, inl, inr, arith, add-one, drop-cons}
 use Rattle.std.proofs.lemmas.List.{drop_all}
-use Rattle.pm_words.specs.PowerLaws.{Steps-none, Steps-then}
-use Rattle.pm_words.specs.Powers.{Steps, Supply}
+use Rattle.world_relinks.specs.pm_words.PowerLaws.{Steps-none, Steps-then}
+use Rattle.world_relinks.specs.pm_words.Powers.{Steps, Supply}
 use Rattle.world_relinks.specs.disk_rules.Volume.{inode}
 use Rattle.file_overlay.specs.declared.runs.Run.{Run}
 use Rattle.world_relinks.specs.k_rules.View.{View}
 use Rattle.world_relinks.specs.k_split.Answers.{IsPaid}
-use Rattle.disk_places.specs.Places.{reserve}
+use Rattle.world_relinks.specs.disk_places.Places.{reserve}
 use Rattle.world_relinks.specs.k_map_plans.Plans.{MayMove}
 use Rattle.world_relinks.specs.k_split.MapChanges.{free_blocks_in, IsMovedSingle, IsRelinkAnswer, IsSizeAnswer}
 use Rattle.world_relinks.specs.map_rules.declared.moves.Move.{Move}

@@ -1,15 +1,15 @@
 -- Runs that the log holds, and the content of the images of a publishing.
 use Rattle.std.specs.Prelude.{◌≡◌, ◌↔◌, ℕ, List, AllPairs}
-use Rattle.pm_words.specs.Words.{Words}
-use Rattle.disk_lines.specs.declared.Draft.{Draft}
-use Rattle.disk_places.specs.Journal.{journaled}
+use Rattle.world_relinks.specs.pm_words.Words.{Words}
+use Rattle.world_relinks.specs.disk_lines.declared.Draft.{Draft}
+use Rattle.world_relinks.specs.disk_places.Journal.{journaled}
 use Rattle.world_relinks.specs.disk_rules.Content.{content, disk_of, size_of}
 use Rattle.world_relinks.specs.disk_rules.Live.{live_entries}
 use Rattle.world_relinks.specs.disk_rules.Volume.{Volume}
 use Rattle.file_overlay.specs.declared.runs.Run.{Run}
 use Rattle.file_overlay.specs.Laws.{IsEarlier}
 use Rattle.file_overlay.specs.Runs.{staged_at}
-use Rattle.list_facts.specs.Members.{In}
+use Rattle.world_relinks.specs.list_facts.Members.{In}
 use Rattle.fsync_relink.specs.Publishes.{published_at}
 use Rattle.world_relinks.specs.live_facts.Logs.{AreSound}
 

@@ -1,21 +1,21 @@
 -- What the publishing of one file leaves to others: what they ask for, and their entries in the log.
 use Rattle.std.specs.Prelude.{◌≡◌, ◌≢◌, ◌≤◌, ◌+◌, ◌↔◌, ℕ, false, List, length, All, Some}
-use Rattle.pm_words.specs.Frames.{KeepsSingle, SameLent}
-use Rattle.pm_words.specs.Images.{Follows}
-use Rattle.pm_words.specs.Words.{Words}
-use Rattle.disk_lines.specs.declared.Draft.{Draft}
-use Rattle.disk_places.specs.Journal.{journaled}
-use Rattle.disk_places.specs.Places.{reserve}
+use Rattle.world_relinks.specs.pm_words.Frames.{KeepsSingle, SameLent}
+use Rattle.world_relinks.specs.pm_words.Images.{Follows}
+use Rattle.world_relinks.specs.pm_words.Words.{Words}
+use Rattle.world_relinks.specs.disk_lines.declared.Draft.{Draft}
+use Rattle.world_relinks.specs.disk_places.Journal.{journaled}
+use Rattle.world_relinks.specs.disk_places.Places.{reserve}
 use Rattle.world_relinks.specs.disk_rules.Content.{content}
 use Rattle.world_relinks.specs.disk_rules.Live.{live_entries}
 use Rattle.world_relinks.specs.disk_rules.Volume.{extents, inode, Volume}
-use Rattle.extent_words.specs.Extents.{disk_at}
+use Rattle.file_overlay.specs.extent_words.Extents.{disk_at}
 use Rattle.file_overlay.specs.declared.runs.Run.{Run}
 use Rattle.world_relinks.specs.k_map_plans.Plans.{IsStagingFile}
 use Rattle.world_relinks.specs.k_rules.View.{View}
 use Rattle.world_relinks.specs.k_split.MapChanges.{free_blocks_in}
 use Rattle.world_relinks.specs.k_split.Order.{IsInOrder}
-use Rattle.list_facts.specs.Members.{In}
+use Rattle.world_relinks.specs.list_facts.Members.{In}
 use Rattle.world_relinks.specs.live_facts.Logs.{AreSound, HasSameFiles}
 use Rattle.world_relinks.specs.volume_facts.Footprint.{SameLog}
 use Rattle.fsync_relink.specs.Logged.{IsLogged}

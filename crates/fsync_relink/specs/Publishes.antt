@@ -2,13 +2,13 @@
 use Rattle.std.specs.Prelude.{◌≡◌, ◌≢◌, ◌⊎◌, ◌≤◌, ◌<◌, ◌+◌, ◌^◌, ◌/◌, ◌==◌, ◌&&◌, ℕ, Bool, true, false, List, [], ◌∷◌, length, All, AllPairs, Option, Some, None, if◌then◌else◌, Result, Ok, Err, alloc_error}
 use Rattle.std.specs.List.{list_any}
 use Rattle.std.specs.declared.alloc.AllocError.{AllocError}
-use Rattle.pm_words.specs.Cells.{cell, is_single}
-use Rattle.pm_words.specs.Powers.{is_on, Supply}
-use Rattle.disk_lines.specs.Lines.{most_bytes}
-use Rattle.disk_places.specs.Places.{reserve}
+use Rattle.world_relinks.specs.pm_words.Cells.{cell, is_single}
+use Rattle.world_relinks.specs.pm_words.Powers.{is_on, Supply}
+use Rattle.world_relinks.specs.disk_lines.Lines.{most_bytes}
+use Rattle.world_relinks.specs.disk_places.Places.{reserve}
 use Rattle.world_relinks.specs.disk_rules.Volume.{extents, inode, Volume}
-use Rattle.extent_words.specs.Extents.{disk_at, is_within}
-use Rattle.extent_words.specs.Moves.{IsMapped}
+use Rattle.file_overlay.specs.extent_words.Extents.{disk_at, is_within}
+use Rattle.file_overlay.specs.extent_words.Moves.{IsMapped}
 use Rattle.file_overlay.specs.declared.runs.Run.{Run}
 use Rattle.file_overlay.specs.Laws.{IsEarlier}
 use Rattle.file_overlay.specs.Runs.{Overlaid, staged_at}

@@ -18,4 +18,3 @@ mod publishing;
 
 pub use laws::{a_publishing_leaves_others, overlays_show_what_the_log_holds};
 pub use publishing::{publish, publish_runs};
-pub use world_relinks::{k_journal, k_split};

@@ -1,22 +1,20 @@
 //! Runs are relinked, and a file gets its length.
 ghost use Rattle.std.specs.Prelude.{◌≡◌, ◌≤◌, ◌+◌, ◌*◌, ◌^◌, true, false, length};
-ghost use Rattle.disk_lines.specs.Lines.{most_bytes};
-ghost use Rattle.disk_places.specs.Places.{reserve};
+ghost use Rattle.world_relinks.specs.disk_lines.Lines.{most_bytes};
+ghost use Rattle.world_relinks.specs.disk_places.Places.{reserve};
 ghost use Rattle.world_relinks.specs.disk_rules.Volume.{inode};
 ghost use Rattle.world_relinks.specs.k_map_plans.Plans.{IsLiveFile};
 ghost use Rattle.world_relinks.specs.k_split.MapChanges.{free_blocks_in};
 ghost use Rattle.world_relinks.specs.k_split.Order.{IsInOrder};
-ghost use Rattle.pm_words.specs.Images.{Follows};
-ghost use Rattle.pm_words.specs.Powers.{is_on, Steps};
+ghost use Rattle.world_relinks.specs.pm_words.Images.{Follows};
+ghost use Rattle.world_relinks.specs.pm_words.Powers.{is_on, Steps};
 ghost use Rattle.fsync_relink.specs.Logged.{HasSameContent};
 ghost use Rattle.fsync_relink.specs.Publishes.{IsCarriedOut, IsPublishAnswer, IsPublishPaid, IsRelinkedEach, IsResizedOnce, MayPublish, move_of, size_before, stopped_by};
 
 use file_overlay::{Overlay, Run};
 use pm_lines::Power;
 use std::alloc::{AllocError, Global};
-use world_relinks::k_journal::Commit;
-use world_relinks::k_split::{KFault, KSplit};
-use world_relinks::map_rules::Move;
+use world_relinks::{Commit, KFault, KSplit, Move};
 
 // What is answered where K-Split did not make a change.
 fn stopped_by(fault: KFault) -> Result<Commit, AllocError>

@@ -2,13 +2,13 @@
 use Rattle.std.specs.Prelude.{◌≡◌, ◌+◌, ◌||◌, ℕ, zero, suc, Bool, true, false, List, [], ◌∷◌, ◌++◌, slice_set, Option, Some, None, refl, if◌then◌else◌}
 use Rattle.std.proofs.Common.{arith}
 use Rattle.std.proofs.lemmas.List.Sums.{sum_by-append, sum_by-cons}
-use Rattle.posix_types.specs.declared.call.Call.{Call}
-use Rattle.posix_types.specs.declared.item.Outcome.{Outcome}
-use Rattle.posix_words.specs.declared.nodes.Node.{Node}
-use Rattle.posix_words.specs.Names.{is_named}
-use Rattle.posix_words.specs.Nodes.{is_directory, node_at, published_node}
-use Rattle.posix_words.specs.Open.{is_open}
-use Rattle.posix_words.specs.Room.{held}
+use Rattle.posix_spec.specs.posix_types.declared.call.Call.{Call}
+use Rattle.posix_spec.specs.posix_types.declared.item.Outcome.{Outcome}
+use Rattle.posix_spec.specs.posix_words.declared.nodes.Node.{Node}
+use Rattle.posix_spec.specs.posix_words.Names.{is_named}
+use Rattle.posix_spec.specs.posix_words.Nodes.{is_directory, node_at, published_node}
+use Rattle.posix_spec.specs.posix_words.Open.{is_open}
+use Rattle.posix_spec.specs.posix_words.Room.{held}
 use Rattle.posix_spec.specs.FileRows.{file_number}
 use Rattle.posix_spec.specs.State.{made, State, swept, with_file, with_node, with_published}
 use Rattle.posix_spec.specs.Step.{dup_done, fsync_done, list_done, mkdir_done, pread_done, read_done, seek_done, stat_done, Stepped, stepped}

@@ -1,14 +1,14 @@
 -- What files hold, after one of them has changed, each law as one statement. A count that is kept beside the state changes by
 -- the file alone, so that no call has to look at the others.
 use Rattle.std.specs.Prelude.{◌≡◌, ◌<◌, ◌+◌, ◌||◌, ℕ, true, List, length, slice_set, if◌then◌else◌}
-use Rattle.block_counts.specs.Counts.{held_by}
-use Rattle.posix_types.specs.declared.call.Call.{Call}
-use Rattle.posix_types.specs.declared.call.Who.{Who}
-use Rattle.posix_words.specs.declared.nodes.Node.{Node}
-use Rattle.posix_words.specs.Names.{is_named}
-use Rattle.posix_words.specs.Nodes.{bytes_of, is_directory, node_at}
-use Rattle.posix_words.specs.Open.{is_open}
-use Rattle.posix_words.specs.Room.{held}
+use Rattle.posix_spec.specs.block_counts.Counts.{held_by}
+use Rattle.posix_spec.specs.posix_types.declared.call.Call.{Call}
+use Rattle.posix_spec.specs.posix_types.declared.call.Who.{Who}
+use Rattle.posix_spec.specs.posix_words.declared.nodes.Node.{Node}
+use Rattle.posix_spec.specs.posix_words.Names.{is_named}
+use Rattle.posix_spec.specs.posix_words.Nodes.{bytes_of, is_directory, node_at}
+use Rattle.posix_spec.specs.posix_words.Open.{is_open}
+use Rattle.posix_spec.specs.posix_words.Room.{held}
 use Rattle.posix_spec.specs.Run.{after_call}
 use Rattle.posix_spec.specs.State.{alone, State, swept, with_file}
 

@@ -3,13 +3,13 @@ use Rattle.std.specs.Prelude.{◌≡◌, ◌≢◌, ◌<◌, ◌+◌, ℕ, zero,
 use Rattle.std.proofs.Common.{arith, ap, ◌∙◌, sym, subst}
 use Rattle.std.proofs.lemmas.List.{get_or-set_other}
 use Rattle.std.proofs.lemmas.List.Sums.{sum_by-cons}
-use Rattle.block_counts.specs.Counts.{held_by}
-use Rattle.disk_lines.specs.declared.Kind.{Kind}
-use Rattle.disk_lines.specs.declared.Kind.TheVariants.{Directory, File, Free, Staging}
+use Rattle.world_promise.specs.block_counts.Counts.{held_by}
+use Rattle.world_promise.specs.disk_lines.declared.Kind.{Kind}
+use Rattle.world_promise.specs.disk_lines.declared.Kind.TheVariants.{Directory, File, Free, Staging}
 use Rattle.world_promise.specs.disk_rules.Volume.{inode}
-use Rattle.posix_words.specs.declared.nodes.Node.{Node}
-use Rattle.posix_words.specs.Nodes.{bytes_of, node_at}
-use Rattle.posix_words.specs.Room.{held}
+use Rattle.world_promise.specs.posix_words.declared.nodes.Node.{Node}
+use Rattle.world_promise.specs.posix_words.Nodes.{bytes_of, node_at}
+use Rattle.world_promise.specs.posix_words.Room.{held}
 use Rattle.world_promise.specs.world_rules.Stands.{is_used, NodeStands, number}
 use Rattle.world_promise.specs.TreeRules.{used_below}
 use Rattle.held_sums.specs.Laws.{HeldIsTheSum}

@@ -1,12 +1,12 @@
 -- What the files of a state hold, by sizes that are kept of the inodes.
 use Rattle.std.specs.Prelude.{◌≡◌, ◌≢◌, ℕ, List, length, slice_index, sum_by}
-use Rattle.pm_words.specs.Words.{Words}
-use Rattle.block_counts.specs.Counts.{held_by}
-use Rattle.disk_lines.specs.declared.Draft.{Draft}
-use Rattle.disk_lines.specs.declared.Kind.TheVariants.{File}
+use Rattle.world_promise.specs.pm_words.Words.{Words}
+use Rattle.world_promise.specs.block_counts.Counts.{held_by}
+use Rattle.world_promise.specs.disk_lines.declared.Draft.{Draft}
+use Rattle.world_promise.specs.disk_lines.declared.Kind.TheVariants.{File}
 use Rattle.world_promise.specs.disk_rules.Content.{size_of}
 use Rattle.world_promise.specs.disk_rules.Volume.{inode, Volume}
-use Rattle.posix_words.specs.Room.{held}
+use Rattle.world_promise.specs.posix_words.Room.{held}
 use Rattle.world_promise.specs.posix_spec.State.{State}
 use Rattle.world_promise.specs.world_rules.Stands.{Stands}
 

@@ -1,8 +1,8 @@
 -- Words with one word set, and two small geometries for worked rows.
 use Rattle.std.specs.Prelude.{ℕ, ◌==◌, if◌then◌else◌, refl}
-use Rattle.disk_places.specs.PlaceLaws.{IsGeometry-in_range}
-use Rattle.disk_places.specs.Places.{Geometry, IsGeometry}
-use Rattle.pm_words.specs.Words.{Words}
+use Rattle.image_facts.specs.disk_places.PlaceLaws.{IsGeometry-in_range}
+use Rattle.image_facts.specs.disk_places.Places.{Geometry, IsGeometry}
+use Rattle.image_facts.specs.pm_words.Words.{Words}
 
 -- the words with word w set
 abbrev pub with_word : ℕ → ℕ → Words → Words

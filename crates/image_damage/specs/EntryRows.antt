@@ -1,14 +1,14 @@
 -- Worked rows: entries in the log of a small image that no recovery can carry out, and one of a later lap.
 use Rattle.std.specs.Prelude.{◌≡◌, ℕ, ◌+◌, ◌<◌, List, [], ◌∷◌, All, true, false, Some, refl}
 use Rattle.std.proofs.Common.{arith, inl, ap, sym, ◌∙◌, subst}
-use Rattle.pm_words.specs.Words.{Words, word_at, line_bytes, with_line}
-use Rattle.disk_places.specs.Places.{Geometry, log_line}
-use Rattle.disk_lines.specs.declared.Draft.{Draft}
-use Rattle.disk_lines.specs.declared.Kind.TheVariants.{File}
-use Rattle.disk_lines.specs.Entries.{entry_body, encode_entry, fnv_1a_from, decode_entry}
-use Rattle.disk_lines.specs.EntryLaws.{decode_entry-encode_entry}
-use Rattle.disk_lines.specs.Fresh.{fresh}
-use Rattle.disk_lines.specs.Names.{ends_at_root}
+use Rattle.image_facts.specs.pm_words.Words.{Words, word_at, line_bytes, with_line}
+use Rattle.image_facts.specs.disk_places.Places.{Geometry, log_line}
+use Rattle.image_facts.specs.disk_lines.declared.Draft.{Draft}
+use Rattle.image_facts.specs.disk_lines.declared.Kind.TheVariants.{File}
+use Rattle.image_facts.specs.disk_lines.Entries.{entry_body, encode_entry, fnv_1a_from, decode_entry}
+use Rattle.image_facts.specs.disk_lines.EntryLaws.{decode_entry-encode_entry}
+use Rattle.image_facts.specs.disk_lines.Fresh.{fresh}
+use Rattle.image_facts.specs.disk_lines.Names.{ends_at_root}
 use Rattle.image_facts.specs.disk_rules.Broken.{HoldAll, log_rules, Breaks}
 use Rattle.image_facts.specs.disk_rules.Live.{entry_in, live_entries}
 use Rattle.image_facts.specs.disk_rules.Reading.{Reads}

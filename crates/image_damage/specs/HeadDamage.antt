@@ -4,14 +4,14 @@ use Rattle.std.specs.Int.{from_le_bytes, w64}
 use Rattle.std.proofs.Common.{arith, inl, inr, ap, sym, ◌∙◌, subst}
 use Rattle.std.proofs.lemmas.Bool.{both_ways, cond-true, cond-false, ne_eqb, eq-eqb}
 use Rattle.std.proofs.lemmas.Bool.Decides.{nat_tests}
-use Rattle.pm_words.specs.Bytes.{line_bytes-same}
-use Rattle.pm_words.specs.Words.{Words, line_bytes}
-use Rattle.disk_places.specs.Fields.{u32_at}
-use Rattle.disk_places.specs.Journal.{is_journal_word, record_target, record_word, committed, patched, journaled}
-use Rattle.disk_places.specs.Places.{Geometry, IsGeometry, state_line, base_word, commit_word, is_journaled_line}
-use Rattle.disk_places.specs.SuperLaws.{IsSuperblockOf, superblock-read}
-use Rattle.disk_places.specs.Superblock.{superblock, has_magic, has_version, has_numbers, geometry_at}
-use Rattle.disk_lines.specs.Fresh.{fresh}
+use Rattle.image_facts.specs.pm_words.Bytes.{line_bytes-same}
+use Rattle.image_facts.specs.pm_words.Words.{Words, line_bytes}
+use Rattle.image_facts.specs.disk_places.Fields.{u32_at}
+use Rattle.image_facts.specs.disk_places.Journal.{is_journal_word, record_target, record_word, committed, patched, journaled}
+use Rattle.image_facts.specs.disk_places.Places.{Geometry, IsGeometry, state_line, base_word, commit_word, is_journaled_line}
+use Rattle.image_facts.specs.disk_places.SuperLaws.{IsSuperblockOf, superblock-read}
+use Rattle.image_facts.specs.disk_places.Superblock.{superblock, has_magic, has_version, has_numbers, geometry_at}
+use Rattle.image_facts.specs.disk_lines.Fresh.{fresh}
 use Rattle.image_facts.specs.disk_rules.Broken.{at_one, below, FailsFirst, HoldAll, Breaks}
 use Rattle.image_facts.specs.disk_rules.Rules.{geometry_of, IsWholeBlocks, HasMagic, HasVersion, HasNumbers, HasTarget, HasState}
 use Rattle.image_damage.specs.Damage.{with_word}

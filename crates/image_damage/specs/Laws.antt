@@ -1,16 +1,16 @@
 -- The damaged images, each with the rule that it breaks first and the place, as one statement. `Breaks bytes f n p`: of
 -- an image of so many bytes with these words, rule n is the first that is broken, at place p.
 use Rattle.std.specs.Prelude.{◌≡◌, ◌≢◌, ℕ, ◌+◌, ◌*◌, ◌/◌, ◌^◌, ◌<◌, ◌≤◌, ◌++◌, List, [], ◌∷◌, true, Some}
-use Rattle.pm_words.specs.Words.{Words, with_line}
-use Rattle.disk_places.specs.Fields.{zeros}
-use Rattle.disk_places.specs.Places.{Geometry, IsGeometry, state_line, base_word, commit_word, inode_line, name_line}
-use Rattle.disk_lines.specs.declared.Draft.{Draft}
-use Rattle.disk_lines.specs.declared.Inode.{Inode}
-use Rattle.disk_lines.specs.declared.Kind.TheVariants.{Directory, File, Staging}
-use Rattle.disk_lines.specs.Entries.{is_draft}
-use Rattle.disk_lines.specs.EntryLaws.{FitsDraft}
-use Rattle.disk_lines.specs.Fresh.{empty_inode, fresh}
-use Rattle.disk_lines.specs.Lines.{encode_inode, decode_inode}
+use Rattle.image_facts.specs.pm_words.Words.{Words, with_line}
+use Rattle.image_facts.specs.disk_places.Fields.{zeros}
+use Rattle.image_facts.specs.disk_places.Places.{Geometry, IsGeometry, state_line, base_word, commit_word, inode_line, name_line}
+use Rattle.image_facts.specs.disk_lines.declared.Draft.{Draft}
+use Rattle.image_facts.specs.disk_lines.declared.Inode.{Inode}
+use Rattle.image_facts.specs.disk_lines.declared.Kind.TheVariants.{Directory, File, Staging}
+use Rattle.image_facts.specs.disk_lines.Entries.{is_draft}
+use Rattle.image_facts.specs.disk_lines.EntryLaws.{FitsDraft}
+use Rattle.image_facts.specs.disk_lines.Fresh.{empty_inode, fresh}
+use Rattle.image_facts.specs.disk_lines.Lines.{encode_inode, decode_inode}
 use Rattle.image_facts.specs.disk_rules.Broken.{HoldAll, Breaks, FailsFirst}
 use Rattle.image_facts.specs.disk_rules.Reading.{AreBytes}
 use Rattle.image_facts.specs.disk_rules.Rules.{IsKindAt}

@@ -5,16 +5,16 @@ use Rattle.std.proofs.Common.{arith, get_or, inl, inr, ap, sym, ◌∙◌, subst
 use Rattle.std.proofs.Math.Path.{fun_ext}
 use Rattle.std.proofs.lemmas.Bool.{cond-true, and_parts, ltb-true}
 use Rattle.std.proofs.lemmas.Bool.Decides.{nat_tests}
-use Rattle.pm_words.specs.Bytes.{line_bytes-same}
-use Rattle.pm_words.specs.Words.{Words, line_bytes, with_line}
-use Rattle.disk_places.specs.Journal.{is_journal_word, committed, journaled}
-use Rattle.disk_places.specs.Places.{Geometry, IsGeometry, base_word, commit_word, inode_line, name_line}
-use Rattle.disk_places.specs.PlaceLaws.{inode_line-name_line}
-use Rattle.disk_places.specs.Superblock.{superblock, has_magic, has_version, has_numbers, geometry_at}
-use Rattle.disk_lines.specs.declared.Inode.{Inode}
-use Rattle.disk_lines.specs.Fresh.{fresh}
-use Rattle.disk_lines.specs.Lines.{FreeName, decode_inode, decode_name}
-use Rattle.disk_lines.specs.NameLaws.{decode_name-zeros}
+use Rattle.image_facts.specs.pm_words.Bytes.{line_bytes-same}
+use Rattle.image_facts.specs.pm_words.Words.{Words, line_bytes, with_line}
+use Rattle.image_facts.specs.disk_places.Journal.{is_journal_word, committed, journaled}
+use Rattle.image_facts.specs.disk_places.Places.{Geometry, IsGeometry, base_word, commit_word, inode_line, name_line}
+use Rattle.image_facts.specs.disk_places.PlaceLaws.{inode_line-name_line}
+use Rattle.image_facts.specs.disk_places.Superblock.{superblock, has_magic, has_version, has_numbers, geometry_at}
+use Rattle.image_facts.specs.disk_lines.declared.Inode.{Inode}
+use Rattle.image_facts.specs.disk_lines.Fresh.{fresh}
+use Rattle.image_facts.specs.disk_lines.Lines.{FreeName, decode_inode, decode_name}
+use Rattle.image_facts.specs.disk_lines.NameLaws.{decode_name-zeros}
 use Rattle.image_facts.specs.disk_rules.Broken.{BreaksFirst, head_rules, line_rules, volume_rules, log_rules, rules_of, Breaks}
 use Rattle.image_facts.specs.disk_rules.Checked.{HasHead}
 use Rattle.image_facts.specs.disk_rules.FreshVolume.{fresh_inode}

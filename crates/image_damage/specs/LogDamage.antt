@@ -3,13 +3,13 @@ use Rattle.std.specs.Prelude.{◌≡◌, ◌≢◌, ℕ, zero, suc, ◌+◌, ◌
 use Rattle.std.specs.Int.{to_le_bytes, w16, w32, w64}
 use Rattle.std.proofs.Common.{arith, inl, inr, ap, sym, ◌∙◌, subst}
 use Rattle.std.proofs.lemmas.Bool.{both_ways, cases_eq}
-use Rattle.pm_words.specs.Words.{Words, line_bytes, with_line}
-use Rattle.disk_places.specs.Fields.{zeros}
-use Rattle.disk_places.specs.Places.{Geometry, IsGeometry, log_line, data_blocks}
-use Rattle.disk_lines.specs.declared.Draft.{Draft}
-use Rattle.disk_lines.specs.Entries.{fnv_1a, entry_body, encode_entry, is_draft, decode_entry, held_seq, is_self_valid}
-use Rattle.disk_lines.specs.EntryLaws.{FitsDraft, decode_entry-encode_entry, held_seq-encode_entry, decode_entry-other_seq, is_self_valid-encode_entry}
-use Rattle.disk_lines.specs.Fresh.{fresh}
+use Rattle.image_facts.specs.pm_words.Words.{Words, line_bytes, with_line}
+use Rattle.image_facts.specs.disk_places.Fields.{zeros}
+use Rattle.image_facts.specs.disk_places.Places.{Geometry, IsGeometry, log_line, data_blocks}
+use Rattle.image_facts.specs.disk_lines.declared.Draft.{Draft}
+use Rattle.image_facts.specs.disk_lines.Entries.{fnv_1a, entry_body, encode_entry, is_draft, decode_entry, held_seq, is_self_valid}
+use Rattle.image_facts.specs.disk_lines.EntryLaws.{FitsDraft, decode_entry-encode_entry, held_seq-encode_entry, decode_entry-other_seq, is_self_valid-encode_entry}
+use Rattle.image_facts.specs.disk_lines.Fresh.{fresh}
 use Rattle.image_facts.specs.disk_rules.Broken.{log_rules, Breaks}
 use Rattle.image_facts.specs.disk_rules.FreshVolume.{fresh_volume}
 use Rattle.image_facts.specs.disk_rules.Live.{entry_in, is_live, live_entries}

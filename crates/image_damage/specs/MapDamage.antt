@@ -3,16 +3,16 @@ use Rattle.std.specs.Prelude.{◌≡◌, ◌≢◌, ℕ, ◌+◌, ◌-◌, ◌*�
 use Rattle.std.specs.List.{flat_map, range_with_len, list_all}
 use Rattle.std.proofs.Common.{arith, inl, inr, ap, sym, ◌∙◌, subst}
 use Rattle.std.proofs.lemmas.Bool.{leb-true, cases_eq}
-use Rattle.pm_words.specs.Words.{Words, with_line}
-use Rattle.block_counts.specs.Counts.{chains_for}
-use Rattle.disk_places.specs.Places.{Geometry, IsGeometry, inode_line, name_line, first_data, data_blocks}
-use Rattle.disk_places.specs.PlaceLaws.{inode_line-name_line}
-use Rattle.extent_words.specs.declared.Extent.{Extent}
-use Rattle.disk_lines.specs.declared.Inode.{Inode}
-use Rattle.disk_lines.specs.declared.Kind.TheVariants.{File}
-use Rattle.disk_lines.specs.Fresh.{empty_inode, fresh}
-use Rattle.disk_lines.specs.Lines.{encode_inode, decode_inode, FreeName, decode_name}
-use Rattle.disk_lines.specs.NameLaws.{decode_name-zeros}
+use Rattle.image_facts.specs.pm_words.Words.{Words, with_line}
+use Rattle.image_facts.specs.block_counts.Counts.{chains_for}
+use Rattle.image_facts.specs.disk_places.Places.{Geometry, IsGeometry, inode_line, name_line, first_data, data_blocks}
+use Rattle.image_facts.specs.disk_places.PlaceLaws.{inode_line-name_line}
+use Rattle.image_facts.specs.extent_words.declared.Extent.{Extent}
+use Rattle.image_facts.specs.disk_lines.declared.Inode.{Inode}
+use Rattle.image_facts.specs.disk_lines.declared.Kind.TheVariants.{File}
+use Rattle.image_facts.specs.disk_lines.Fresh.{empty_inode, fresh}
+use Rattle.image_facts.specs.disk_lines.Lines.{encode_inode, decode_inode, FreeName, decode_name}
+use Rattle.image_facts.specs.disk_lines.NameLaws.{decode_name-zeros}
 use Rattle.image_facts.specs.disk_rules.Broken.{Rule, FailsFirst, Breaks}
 use Rattle.image_facts.specs.disk_rules.Chains.{blocks_from, extent_in, extents_in, chain_of, map_of, SpellsChain}
 use Rattle.image_facts.specs.disk_rules.Reading.{AreBytes}

@@ -4,14 +4,14 @@ use Rattle.std.specs.List.{list_all}
 use Rattle.std.proofs.Common.{arith, inl, inr, ap, sym, ◌∙◌}
 use Rattle.std.proofs.lemmas.Bool.{cases_eq, and_parts, eqb-true, ltb-true}
 use Rattle.std.proofs.lemmas.List.{get_or-set_same, get_or-set_other}
-use Rattle.pm_words.specs.Words.{Words, with_line}
-use Rattle.disk_places.specs.Places.{Geometry, IsGeometry, inode_line, name_line}
-use Rattle.disk_lines.specs.declared.Inode.{Inode}
-use Rattle.disk_lines.specs.declared.Kind.{Kind}
-use Rattle.disk_lines.specs.declared.Kind.TheVariants.{Free, Directory, File, Staging}
-use Rattle.disk_lines.specs.Fresh.{empty_inode, fresh}
-use Rattle.disk_lines.specs.Lines.{NameRow, Named, is_name_row, encode_inode, decode_inode, encode_name, decode_name}
-use Rattle.disk_lines.specs.NameLaws.{decode_name-encode_name}
+use Rattle.image_facts.specs.pm_words.Words.{Words, with_line}
+use Rattle.image_facts.specs.disk_places.Places.{Geometry, IsGeometry, inode_line, name_line}
+use Rattle.image_facts.specs.disk_lines.declared.Inode.{Inode}
+use Rattle.image_facts.specs.disk_lines.declared.Kind.{Kind}
+use Rattle.image_facts.specs.disk_lines.declared.Kind.TheVariants.{Free, Directory, File, Staging}
+use Rattle.image_facts.specs.disk_lines.Fresh.{empty_inode, fresh}
+use Rattle.image_facts.specs.disk_lines.Lines.{NameRow, Named, is_name_row, encode_inode, decode_inode, encode_name, decode_name}
+use Rattle.image_facts.specs.disk_lines.NameLaws.{decode_name-encode_name}
 use Rattle.image_facts.specs.disk_rules.FreshVolume.{fresh_inode, fresh_volume}
 use Rattle.image_facts.specs.disk_rules.Reading.{Reads, AreBytes, node_set, row_set}
 use Rattle.image_facts.specs.disk_rules.Volume.{Volume, inode, free_inode}

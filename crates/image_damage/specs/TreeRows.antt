@@ -4,20 +4,20 @@ use Rattle.std.specs.List.{list_all, range_with_len}
 use Rattle.std.proofs.Common.{arith, inl, inr, ap, sym, ◌∙◌, subst}
 use Rattle.std.proofs.lemmas.Bool.{leb-true}
 use Rattle.std.proofs.lemmas.Option.{same_Some}
-use Rattle.disk_places.specs.Fields.{zeros}
-use Rattle.disk_places.specs.Places.{Geometry, IsGeometry, inode_line, name_line, first_data, data_blocks}
-use Rattle.disk_lines.specs.declared.Inode.{Inode}
-use Rattle.disk_lines.specs.declared.Kind.{Kind}
-use Rattle.disk_lines.specs.declared.Kind.TheVariants.{Free, Directory, File, Staging}
-use Rattle.disk_lines.specs.Fresh.{empty_inode, fresh}
-use Rattle.disk_lines.specs.Lines.{NameRow, encode_inode, decode_inode, decode_name}
-use Rattle.disk_lines.specs.Names.{row, names_of, ends_at_root}
+use Rattle.image_facts.specs.disk_places.Fields.{zeros}
+use Rattle.image_facts.specs.disk_places.Places.{Geometry, IsGeometry, inode_line, name_line, first_data, data_blocks}
+use Rattle.image_facts.specs.disk_lines.declared.Inode.{Inode}
+use Rattle.image_facts.specs.disk_lines.declared.Kind.{Kind}
+use Rattle.image_facts.specs.disk_lines.declared.Kind.TheVariants.{Free, Directory, File, Staging}
+use Rattle.image_facts.specs.disk_lines.Fresh.{empty_inode, fresh}
+use Rattle.image_facts.specs.disk_lines.Lines.{NameRow, encode_inode, decode_inode, decode_name}
+use Rattle.image_facts.specs.disk_lines.Names.{row, names_of, ends_at_root}
 use Rattle.image_facts.specs.disk_rules.Broken.{below, Holds, HoldAll, BreaksFirst, log_rules, Breaks}
 use Rattle.image_facts.specs.disk_rules.Kept.{IsNamedRow}
 use Rattle.image_facts.specs.disk_rules.Reading.{AreBytes}
 use Rattle.image_facts.specs.disk_rules.Rules.{IsKindAt, IsRowPlaced, AreDirectoriesNamed, HasOneName, IsNamedOnce, IsInData, file_blocks_of}
 use Rattle.image_facts.specs.disk_rules.Volume.{Volume, inode, chain, extents}
-use Rattle.pm_words.specs.Words.{with_line}
+use Rattle.image_facts.specs.pm_words.Words.{with_line}
 use Rattle.image_facts.specs.BrokenLaws.{BreaksFirst-before}
 use Rattle.image_facts.specs.ClimbLaws.{reaches-ends}
 use Rattle.image_facts.specs.FreshLaws.{same-at, owners-none}

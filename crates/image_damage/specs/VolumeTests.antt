@@ -6,11 +6,11 @@ use Rattle.std.proofs.Common.{arith, inl, inr, ap, sym, ◌∙◌, subst}
 use Rattle.std.proofs.lemmas.Bool.{and_parts, or_cases, leb-true, ltb-true, eqb-true, both_ways, cases_eq, cases_lt}
 use Rattle.std.proofs.lemmas.List.{get_or_past, get_or-drop}
 use Rattle.std.proofs.lemmas.List.Sums.{sum_by-cons}
-use Rattle.disk_lines.specs.declared.Kind.{Kind}
-use Rattle.disk_lines.specs.declared.Kind.TheVariants.{Free, Directory, File, Staging}
-use Rattle.disk_lines.specs.Lines.{NameRow}
-use Rattle.disk_lines.specs.Names.{Rows, row, is_entry, names_of, ends_at_root}
-use Rattle.disk_lines.specs.TableLaws.{is_entry-own}
+use Rattle.image_facts.specs.disk_lines.declared.Kind.{Kind}
+use Rattle.image_facts.specs.disk_lines.declared.Kind.TheVariants.{Free, Directory, File, Staging}
+use Rattle.image_facts.specs.disk_lines.Lines.{NameRow}
+use Rattle.image_facts.specs.disk_lines.Names.{Rows, row, is_entry, names_of, ends_at_root}
+use Rattle.image_facts.specs.disk_lines.TableLaws.{is_entry-own}
 use Rattle.image_facts.specs.disk_rules.Kept.{IsNamedRow}
 use Rattle.image_facts.specs.disk_rules.Live.{is_file, is_directory}
 use Rattle.image_facts.specs.disk_rules.Rules.{IsKindAt, IsRowPlaced, AreDirectoriesNamed}

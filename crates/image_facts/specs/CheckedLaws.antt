@@ -3,12 +3,12 @@ use Rattle.std.specs.Prelude.{◌≡◌, ◌↔◌, ℕ, ◌+◌, ◌<◌, ◌�
 use Rattle.std.proofs.Common.{arith, ap, sym, ◌∙◌, subst}
 use Rattle.std.proofs.lemmas.Bool.Decides.{nat_tests}
 use Rattle.std.proofs.lemmas.List.FromFn.{length-map-range_with_len, get_or-map-range_with_len}
-use Rattle.pm_words.specs.Words.{Words}
-use Rattle.disk_places.specs.Journal.{journaled}
-use Rattle.disk_places.specs.Places.{Geometry, base_word, first_data, data_blocks, is_data_block}
-use Rattle.disk_lines.specs.declared.Inode.{Inode}
-use Rattle.disk_lines.specs.Lines.{NameRow, NameSlot, FreeName, Named, BadName}
-use Rattle.disk_lines.specs.Names.{row}
+use Rattle.volume_facts.specs.pm_words.Words.{Words}
+use Rattle.volume_facts.specs.disk_places.Journal.{journaled}
+use Rattle.volume_facts.specs.disk_places.Places.{Geometry, base_word, first_data, data_blocks, is_data_block}
+use Rattle.volume_facts.specs.disk_lines.declared.Inode.{Inode}
+use Rattle.volume_facts.specs.disk_lines.Lines.{NameRow, NameSlot, FreeName, Named, BadName}
+use Rattle.volume_facts.specs.disk_lines.Names.{row}
 use Rattle.volume_facts.specs.chain_facts.RuleLaws.{volume-of_words, chain-of_rule}
 use Rattle.volume_facts.specs.disk_rules.Broken.{HoldAll, Breaks, head_rules, line_rules, rules_of}
 use Rattle.volume_facts.specs.disk_rules.Checked.{HasHead, AreLinesKept, IsLogKept, IsCheckedAs}

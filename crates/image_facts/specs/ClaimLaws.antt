@@ -2,11 +2,11 @@
 use Rattle.std.specs.Prelude.{◌≡◌, ℕ, ◌+◌, ◌<◌, ◌≤◌, List, [], length, Contains, true}
 use Rattle.std.proofs.Common.{arith, ap, sym, ◌∙◌}
 use Rattle.std.proofs.lemmas.Option.{same_Some}
-use Rattle.pm_words.specs.declared.Cell.{Cell}
-use Rattle.pm_words.specs.Words.{Words}
-use Rattle.disk_lines.specs.declared.Draft.{Draft}
-use Rattle.disk_lines.specs.Entries.{encode_entry, is_draft, decode_entry}
-use Rattle.disk_lines.specs.EntryLaws.{FitsDraft, decode_entry-encode_entry}
+use Rattle.volume_facts.specs.pm_words.declared.Cell.{Cell}
+use Rattle.volume_facts.specs.pm_words.Words.{Words}
+use Rattle.volume_facts.specs.disk_lines.declared.Draft.{Draft}
+use Rattle.volume_facts.specs.disk_lines.Entries.{encode_entry, is_draft, decode_entry}
+use Rattle.volume_facts.specs.disk_lines.EntryLaws.{FitsDraft, decode_entry-encode_entry}
 use Rattle.volume_facts.specs.disk_rules.LogRule.{cells_of_line, IsAsAtFirst, HoldsClaims}
 
 -- a claim whose number lies past the lines is held by none

@@ -3,12 +3,12 @@ use Rattle.std.specs.Prelude.{◌≡◌, ◌≢◌, ℕ, zero, suc, ◌+◌, ◌
 use Rattle.std.proofs.Common.{arith, inl, inr, ap, sym, ◌∙◌, subst}
 use Rattle.std.proofs.lemmas.Bool.{both_ways, cases_lt, eq-eqb, eqb-true, or_cases, or_left, or_right}
 use Rattle.std.proofs.lemmas.Option.{option_and_then_some, same_Some}
-use Rattle.disk_lines.specs.Lines.{NameRow}
-use Rattle.disk_lines.specs.Names.{Rows, row, is_child, parent_of_row, first_row_from, parent_of, up, holds_above, ends_at_root}
-use Rattle.disk_lines.specs.RowLaws.{first_row-is, first_row-none}
-use Rattle.disk_lines.specs.TableLaws.{is_child-parts}
-use Rattle.disk_lines.specs.Tables.{IsFirstRow}
-use Rattle.disk_lines.specs.UpLaws.{up-add, up-past}
+use Rattle.volume_facts.specs.disk_lines.Lines.{NameRow}
+use Rattle.volume_facts.specs.disk_lines.Names.{Rows, row, is_child, parent_of_row, first_row_from, parent_of, up, holds_above, ends_at_root}
+use Rattle.volume_facts.specs.disk_lines.RowLaws.{first_row-is, first_row-none}
+use Rattle.volume_facts.specs.disk_lines.TableLaws.{is_child-parts}
+use Rattle.volume_facts.specs.disk_lines.Tables.{IsFirstRow}
+use Rattle.volume_facts.specs.disk_lines.UpLaws.{up-add, up-past}
 
 -- The directory above an inode is the parent in the lowest line whose child it is.
 pub record IsLowestName (rows : Rows) (ino : ℕ) (r : NameRow) : Type 0 where

@@ -8,22 +8,22 @@ use Rattle.std.proofs.lemmas.Bool.Decides.{nat_tests}
 use Rattle.std.proofs.lemmas.List.{get_or_past, get_or-replicate, length-replicate}
 use Rattle.std.proofs.lemmas.List.FromFn.{length-map-range_with_len, get_or-map-range_with_len}
 use Rattle.std.proofs.lemmas.List.Sums.{sum_by-cons}
-use Rattle.pm_words.specs.Words.{Words, line_bytes}
-use Rattle.block_counts.specs.Counts.{held_by}
-use Rattle.disk_places.specs.Fields.{zeros}
-use Rattle.disk_places.specs.Journal.{committed, journaled}
-use Rattle.disk_places.specs.Places.{Geometry, IsGeometry, state_line, base_word, commit_word, inode_line, name_line, log_line, first_data, data_blocks}
-use Rattle.disk_places.specs.SuperLaws.{IsSuperblockOf, superblock-read}
-use Rattle.disk_places.specs.Superblock.{superblock, has_magic, has_version, has_numbers}
-use Rattle.disk_lines.specs.declared.Draft.{Draft}
-use Rattle.disk_lines.specs.declared.Inode.{Inode}
-use Rattle.disk_lines.specs.declared.Kind.TheVariants.{Directory, Staging}
-use Rattle.disk_lines.specs.Entries.{decode_entry, is_self_valid}
-use Rattle.disk_lines.specs.Fresh.{empty_inode, fresh}
-use Rattle.disk_lines.specs.Lines.{NameRow, encode_inode, decode_inode, decode_name}
-use Rattle.disk_lines.specs.NameLaws.{decode_name-zeros}
-use Rattle.disk_lines.specs.Names.{row, is_child, is_entry, names_of, first_row_from, walk}
-use Rattle.extent_words.specs.declared.Extent.{Extent}
+use Rattle.volume_facts.specs.pm_words.Words.{Words, line_bytes}
+use Rattle.volume_facts.specs.block_counts.Counts.{held_by}
+use Rattle.volume_facts.specs.disk_places.Fields.{zeros}
+use Rattle.volume_facts.specs.disk_places.Journal.{committed, journaled}
+use Rattle.volume_facts.specs.disk_places.Places.{Geometry, IsGeometry, state_line, base_word, commit_word, inode_line, name_line, log_line, first_data, data_blocks}
+use Rattle.volume_facts.specs.disk_places.SuperLaws.{IsSuperblockOf, superblock-read}
+use Rattle.volume_facts.specs.disk_places.Superblock.{superblock, has_magic, has_version, has_numbers}
+use Rattle.volume_facts.specs.disk_lines.declared.Draft.{Draft}
+use Rattle.volume_facts.specs.disk_lines.declared.Inode.{Inode}
+use Rattle.volume_facts.specs.disk_lines.declared.Kind.TheVariants.{Directory, Staging}
+use Rattle.volume_facts.specs.disk_lines.Entries.{decode_entry, is_self_valid}
+use Rattle.volume_facts.specs.disk_lines.Fresh.{empty_inode, fresh}
+use Rattle.volume_facts.specs.disk_lines.Lines.{NameRow, encode_inode, decode_inode, decode_name}
+use Rattle.volume_facts.specs.disk_lines.NameLaws.{decode_name-zeros}
+use Rattle.volume_facts.specs.disk_lines.Names.{row, is_child, is_entry, names_of, first_row_from, walk}
+use Rattle.volume_facts.specs.extent_words.declared.Extent.{Extent}
 use Rattle.volume_facts.specs.disk_rules.Chains.{SpellsChain, blocks_from}
 use Rattle.volume_facts.specs.disk_rules.Checked.{HasHead, IsLogKept, IsCheckedAs}
 use Rattle.volume_facts.specs.disk_rules.Content.{size_of, node_by, node_of, bytes_of_file, found, content}

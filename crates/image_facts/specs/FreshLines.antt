@@ -6,16 +6,16 @@ use Rattle.std.proofs.Math.Path.{fun_ext}
 use Rattle.std.proofs.lemmas.Bool.{cases_lt, cond-true}
 use Rattle.std.proofs.lemmas.Bool.Decides.{nat_tests}
 use Rattle.std.proofs.lemmas.List.{get_or_past, get_or-replicate, length-replicate, get_or_append_left, get_or-append_right}
-use Rattle.pm_words.specs.Bytes.{line_bytes-same}
-use Rattle.pm_words.specs.Words.{word_at, line_bytes, with_line}
-use Rattle.disk_places.specs.Fields.{zeros}
-use Rattle.disk_places.specs.Journal.{is_journal_word, journaled}
-use Rattle.disk_places.specs.Places.{Geometry, IsGeometry, state_line, base_word, commit_word, inode_line}
-use Rattle.disk_places.specs.SuperLaws.{geometry_at-superblock}
-use Rattle.disk_places.specs.Superblock.{superblock, magic, geometry_at}
-use Rattle.disk_lines.specs.declared.Kind.TheVariants.{Directory, Staging}
-use Rattle.disk_lines.specs.Fresh.{empty_inode, with_inode, state_bytes, blank, staging_files, first_inodes, fresh}
-use Rattle.disk_lines.specs.Lines.{encode_inode}
+use Rattle.volume_facts.specs.pm_words.Bytes.{line_bytes-same}
+use Rattle.volume_facts.specs.pm_words.Words.{word_at, line_bytes, with_line}
+use Rattle.volume_facts.specs.disk_places.Fields.{zeros}
+use Rattle.volume_facts.specs.disk_places.Journal.{is_journal_word, journaled}
+use Rattle.volume_facts.specs.disk_places.Places.{Geometry, IsGeometry, state_line, base_word, commit_word, inode_line}
+use Rattle.volume_facts.specs.disk_places.SuperLaws.{geometry_at-superblock}
+use Rattle.volume_facts.specs.disk_places.Superblock.{superblock, magic, geometry_at}
+use Rattle.volume_facts.specs.disk_lines.declared.Kind.TheVariants.{Directory, Staging}
+use Rattle.volume_facts.specs.disk_lines.Fresh.{empty_inode, with_inode, state_bytes, blank, staging_files, first_inodes, fresh}
+use Rattle.volume_facts.specs.disk_lines.Lines.{encode_inode}
 use Rattle.volume_facts.specs.disk_rules.Reading.{AreBytes}
 use Rattle.volume_facts.specs.disk_rules.Rules.{geometry_of}
 use Rattle.volume_facts.specs.ImageLaws.{journaled-idle}

@@ -2,13 +2,13 @@
 use Rattle.std.specs.Prelude.{◌≡◌, ◌≢◌, ℕ, ◌+◌, ◌*◌, ◌/◌, ◌<◌, true, false, List, refl}
 use Rattle.std.proofs.Common.{arith, ap, sym, ◌∙◌}
 use Rattle.std.proofs.lemmas.Bool.{both_ways, cond-true, cond-false}
-use Rattle.pm_words.specs.declared.Cell.{Cell}
-use Rattle.pm_words.specs.declared.Cell.TheVariants.{Single, Two, Marked, Lent}
-use Rattle.pm_words.specs.Cells.{cell, is_single, is_lent, has_two, oldest, newest, AllHome}
-use Rattle.pm_words.specs.Frames.{LineIsSingle}
-use Rattle.pm_words.specs.Parts.{put_back}
-use Rattle.pm_words.specs.Words.{Words}
-use Rattle.disk_places.specs.Places.{Geometry, log_line}
+use Rattle.volume_facts.specs.pm_words.declared.Cell.{Cell}
+use Rattle.volume_facts.specs.pm_words.declared.Cell.TheVariants.{Single, Two, Marked, Lent}
+use Rattle.volume_facts.specs.pm_words.Cells.{cell, is_single, is_lent, has_two, oldest, newest, AllHome}
+use Rattle.volume_facts.specs.pm_words.Frames.{LineIsSingle}
+use Rattle.volume_facts.specs.pm_words.Parts.{put_back}
+use Rattle.volume_facts.specs.pm_words.Words.{Words}
+use Rattle.volume_facts.specs.disk_places.Places.{Geometry, log_line}
 use Rattle.volume_facts.specs.disk_rules.Honest.{HasOlder, HasNewer, SomeHasTwo, EachHasTwo, IsTorn, IsHonest, IsHonestWith}
 
 -- A line is not torn that reads as before, or as after stores to each of its words.

@@ -3,12 +3,12 @@
 use Rattle.std.specs.Prelude.{◌≡◌, ◌↔◌, ℕ, ◌<◌, ◌++◌, All, true, List, ◌∷◌, Option, Some, None}
 use Rattle.std.proofs.Common.{arith, inl, inr, ap, sym, ◌∙◌, subst}
 use Rattle.std.proofs.lemmas.Option.{same_Some}
-use Rattle.pm_words.specs.Words.{Words}
-use Rattle.disk_places.specs.Journal.{journaled}
-use Rattle.disk_places.specs.Places.{Geometry, is_data_block}
-use Rattle.disk_lines.specs.declared.Inode.{Inode}
-use Rattle.disk_lines.specs.Lines.{NameRow}
-use Rattle.disk_lines.specs.Names.{row}
+use Rattle.volume_facts.specs.pm_words.Words.{Words}
+use Rattle.volume_facts.specs.disk_places.Journal.{journaled}
+use Rattle.volume_facts.specs.disk_places.Places.{Geometry, is_data_block}
+use Rattle.volume_facts.specs.disk_lines.declared.Inode.{Inode}
+use Rattle.volume_facts.specs.disk_lines.Lines.{NameRow}
+use Rattle.volume_facts.specs.disk_lines.Names.{row}
 use Rattle.volume_facts.specs.disk_rules.Broken.{Rule, below, FailsFirst, BreaksFirst, HoldAll, head_rules, line_rules, volume_rules, log_rules, Breaks}
 use Rattle.volume_facts.specs.disk_rules.Checked.{HasHead}
 use Rattle.volume_facts.specs.disk_rules.Kept.{IsNamedRow, AreKept}

@@ -1,13 +1,13 @@
 -- The chief laws of images, each as one statement.
 use Rattle.std.specs.Prelude.{◌≡◌, ◌≢◌, ◌↔◌, ℕ, suc, ◌+◌, ◌*◌, ◌/◌, ◌<◌, ◌≤◌, ◌++◌, true, false, List, length, Contains, Some}
-use Rattle.pm_words.specs.declared.Cell.{Cell}
-use Rattle.pm_words.specs.Cells.{cell, is_lent, has_two, oldest, newest}
-use Rattle.pm_words.specs.Words.{Words}
-use Rattle.disk_places.specs.Journal.{journaled, IsSound}
-use Rattle.disk_places.specs.Places.{Geometry, IsGeometry}
-use Rattle.disk_lines.specs.declared.Draft.{Draft}
-use Rattle.disk_lines.specs.Fresh.{fresh}
-use Rattle.disk_lines.specs.Names.{Rows, up, ends_at_root}
+use Rattle.volume_facts.specs.pm_words.declared.Cell.{Cell}
+use Rattle.volume_facts.specs.pm_words.Cells.{cell, is_lent, has_two, oldest, newest}
+use Rattle.volume_facts.specs.pm_words.Words.{Words}
+use Rattle.volume_facts.specs.disk_places.Journal.{journaled, IsSound}
+use Rattle.volume_facts.specs.disk_places.Places.{Geometry, IsGeometry}
+use Rattle.volume_facts.specs.disk_lines.declared.Draft.{Draft}
+use Rattle.volume_facts.specs.disk_lines.Fresh.{fresh}
+use Rattle.volume_facts.specs.disk_lines.Names.{Rows, up, ends_at_root}
 use Rattle.volume_facts.specs.disk_rules.Broken.{HoldAll, BreaksFirst, log_rules, rules_of, Breaks}
 use Rattle.volume_facts.specs.disk_rules.Checked.{HasHead, IsCheckedAs}
 use Rattle.volume_facts.specs.disk_rules.Content.{content}

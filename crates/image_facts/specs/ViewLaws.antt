@@ -5,12 +5,12 @@ use Rattle.std.proofs.Common.{arith, ap, sym, ◌∙◌, subst}
 use Rattle.std.proofs.Math.Path.{fun_ext}
 use Rattle.std.proofs.lemmas.Bool.{cond-true, le-leb}
 use Rattle.std.proofs.lemmas.Bool.Decides.{nat_tests}
-use Rattle.pm_words.specs.Bytes.{line_bytes-same}
-use Rattle.pm_words.specs.Words.{Words, line_bytes}
-use Rattle.disk_places.specs.Journal.{is_journal_word, record_target, record_word, committed, patched, journaled, IsSound}
-use Rattle.disk_places.specs.Places.{Geometry, state_line, base_word, commit_word, record_line, log_block, log_line, is_data_block, is_journaled_line}
-use Rattle.disk_places.specs.PlaceLaws.{journaled-below_log}
-use Rattle.disk_places.specs.Superblock.{has_magic, has_version, has_numbers, geometry_at}
+use Rattle.volume_facts.specs.pm_words.Bytes.{line_bytes-same}
+use Rattle.volume_facts.specs.pm_words.Words.{Words, line_bytes}
+use Rattle.volume_facts.specs.disk_places.Journal.{is_journal_word, record_target, record_word, committed, patched, journaled, IsSound}
+use Rattle.volume_facts.specs.disk_places.Places.{Geometry, state_line, base_word, commit_word, record_line, log_block, log_line, is_data_block, is_journaled_line}
+use Rattle.volume_facts.specs.disk_places.PlaceLaws.{journaled-below_log}
+use Rattle.volume_facts.specs.disk_places.Superblock.{has_magic, has_version, has_numbers, geometry_at}
 use Rattle.volume_facts.specs.disk_rules.Checked.{HasHead, IsLogKept, IsCheckedAs}
 use Rattle.volume_facts.specs.disk_rules.Content.{content_of, content}
 use Rattle.volume_facts.specs.disk_rules.Placed.{block_at}

@@ -1,8 +1,8 @@
 //! The numbers of an image, and the places of its lines and regions.
 ghost use Rattle.std.specs.Prelude.{◌≡◌, ◌<◌, ◌≤◌, ◌↔◌, IsSome, IfSome};
 ghost use Rattle.block_counts.specs.Counts.{reserve_for};
-ghost use Rattle.disk_places.specs.PlaceLaws.{AreApart};
-ghost use Rattle.disk_places.specs.Places.{Geometry, IsGeometry, blocks_of_lines, data_blocks, first_data, name_block, log_block, nodes, state_line, record_line, inode_line, name_line, log_line};
+ghost use Rattle.line_fields.specs.disk_places.PlaceLaws.{AreApart};
+ghost use Rattle.line_fields.specs.disk_places.Places.{Geometry, IsGeometry, blocks_of_lines, data_blocks, first_data, name_block, log_block, nodes, state_line, record_line, inode_line, name_line, log_line};
 ghost use Rattle.image_layout.specs.Numbers.{default_numbers, numbered};
 
 use block_counts::reserve_for;
@@ -34,7 +34,7 @@ pub struct Geometry {
 }
 
 impl Model for Geometry {
-    ghost use Rattle.disk_places.specs.Places.{Geometry, IsGeometry};
+    ghost use Rattle.line_fields.specs.disk_places.Places.{Geometry, IsGeometry};
 
     ghost Value = { Geometry };
 

@@ -1,8 +1,8 @@
 //! The superblock as 64 bytes, and back.
 ghost use Rattle.std.specs.Prelude.{◌≡◌, ◌↔◌, true, false, IfOk, IsOk, IsErrOf};
-ghost use Rattle.disk_places.specs.Places.{Geometry, IsGeometry};
-ghost use Rattle.disk_places.specs.SuperLaws.{IsSuperblockOf};
-ghost use Rattle.disk_places.specs.Superblock.{superblock, geometry_at, has_magic, has_version, has_numbers};
+ghost use Rattle.line_fields.specs.disk_places.Places.{Geometry, IsGeometry};
+ghost use Rattle.line_fields.specs.disk_places.SuperLaws.{IsSuperblockOf};
+ghost use Rattle.line_fields.specs.disk_places.Superblock.{superblock, geometry_at, has_magic, has_version, has_numbers};
 
 use crate::geometry::{Geometry, VERSION};
 use line_fields::{put_u32, u32_at};

@@ -3,18 +3,18 @@ use Rattle.std.specs.Prelude.{◌≡◌, ◌≤◌, ◌<◌, ◌+◌, ◌*◌, �
 use Rattle.std.proofs.Common.{arith, ap, ◌∙◌, sym, subst, inl, inr}
 use Rattle.std.proofs.lemmas.Bool.{both_ways}
 use Rattle.std.proofs.lemmas.Bool.Decides.{nat_tests}
-use Rattle.pm_words.specs.Bytes.{line_bytes-same}
-use Rattle.pm_words.specs.declared.Cell.{Cell}
-use Rattle.pm_words.specs.CellLaws.{newest-candidate}
-use Rattle.pm_words.specs.Cells.{cell, is_lent, IsCandidate, newest}
-use Rattle.pm_words.specs.ImageLaws.{IsImage-words_of}
-use Rattle.pm_words.specs.Images.{IsImage, words_of}
-use Rattle.pm_words.specs.Words.{Words}
-use Rattle.disk_places.specs.Journal.{committed, is_journal_word, journaled, record_target}
-use Rattle.disk_places.specs.PlaceLaws.{behind_log-words}
-use Rattle.disk_places.specs.Places.{base_word, commit_word, Geometry, is_data_block, is_journaled_line, log_block, record_line}
-use Rattle.disk_places.specs.Superblock.{geometry_at, has_magic, has_numbers, has_version}
-use Rattle.disk_lines.specs.declared.Draft.{Draft}
+use Rattle.write_jobs.specs.pm_words.Bytes.{line_bytes-same}
+use Rattle.write_jobs.specs.pm_words.declared.Cell.{Cell}
+use Rattle.write_jobs.specs.pm_words.CellLaws.{newest-candidate}
+use Rattle.write_jobs.specs.pm_words.Cells.{cell, is_lent, IsCandidate, newest}
+use Rattle.write_jobs.specs.pm_words.ImageLaws.{IsImage-words_of}
+use Rattle.write_jobs.specs.pm_words.Images.{IsImage, words_of}
+use Rattle.write_jobs.specs.pm_words.Words.{Words}
+use Rattle.write_jobs.specs.disk_places.Journal.{committed, is_journal_word, journaled, record_target}
+use Rattle.write_jobs.specs.disk_places.PlaceLaws.{behind_log-words}
+use Rattle.write_jobs.specs.disk_places.Places.{base_word, commit_word, Geometry, is_data_block, is_journaled_line, log_block, record_line}
+use Rattle.write_jobs.specs.disk_places.Superblock.{geometry_at, has_magic, has_numbers, has_version}
+use Rattle.write_jobs.specs.disk_lines.declared.Draft.{Draft}
 use Rattle.world_room.specs.disk_rules.Checked.{HasHead}
 use Rattle.world_room.specs.disk_rules.Rules.{geometry_of}
 use Rattle.world_room.specs.disk_rules.Volume.{Volume}

@@ -3,13 +3,13 @@ use Rattle.std.specs.Prelude.{◌≡◌, ◌<◌, ◌+◌, ℕ, true, length, So
 use Rattle.std.proofs.Common.{arith, ap, ◌∙◌, sym, inl, inr}
 use Rattle.std.proofs.lemmas.Bool.{cases_lt}
 use Rattle.std.proofs.lemmas.List.{get_or_past}
-use Rattle.pm_words.specs.declared.Cell.{Cell}
-use Rattle.pm_words.specs.declared.Cell.TheVariants.{Lent, Marked, Single, Two}
-use Rattle.pm_words.specs.Cells.{is_lent, IsCandidate}
-use Rattle.disk_places.specs.Places.{is_data_block}
-use Rattle.extent_facts.specs.Covers.{covers-disk_at}
-use Rattle.disk_lines.specs.declared.Draft.{Draft}
-use Rattle.disk_lines.specs.declared.Kind.TheVariants.{Staging}
+use Rattle.write_jobs.specs.pm_words.declared.Cell.{Cell}
+use Rattle.write_jobs.specs.pm_words.declared.Cell.TheVariants.{Lent, Marked, Single, Two}
+use Rattle.write_jobs.specs.pm_words.Cells.{is_lent, IsCandidate}
+use Rattle.write_jobs.specs.disk_places.Places.{is_data_block}
+use Rattle.world_room.specs.extent_facts.Covers.{covers-disk_at}
+use Rattle.write_jobs.specs.disk_lines.declared.Draft.{Draft}
+use Rattle.write_jobs.specs.disk_lines.declared.Kind.TheVariants.{Staging}
 use Rattle.world_room.specs.disk_rules.Rules.{file_blocks_of}
 use Rattle.world_room.specs.disk_rules.Volume.{extents, free_inode, inode, Volume}
 use Rattle.world_room.specs.volume_uses.PoolLaws.{covered-in_data}

@@ -2,18 +2,18 @@
 use Rattle.std.specs.Prelude.{◌≡◌, ◌+◌, ◌*◌, ◌/◌, ◌%◌, ◌^◌, ℕ, Bool, true, false, List, [], ◌∷◌, ◌++◌, length, slice_index, refl}
 use Rattle.std.proofs.Common.{arith, ap, ◌∙◌, sym, subst}
 use Rattle.std.proofs.lemmas.Bool.{both_ways}
-use Rattle.pm_words.specs.declared.Cell.{Cell}
-use Rattle.pm_words.specs.declared.Cell.TheVariants.{Single}
-use Rattle.pm_words.specs.CellLaws.{single-home}
-use Rattle.pm_words.specs.Cells.{cell, is_lent, is_single, IsCandidate, unmarked}
-use Rattle.pm_words.specs.ImageLaws.{IsImage-words_of}
-use Rattle.pm_words.specs.Images.{IsImage, words_of}
-use Rattle.pm_words.specs.Parts.{Part}
-use Rattle.pm_words.specs.Words.{Words}
-use Rattle.disk_places.specs.Journal.{journaled}
-use Rattle.disk_places.specs.PlaceLaws.{behind_log-words}
-use Rattle.disk_places.specs.Places.{commit_word, Geometry}
-use Rattle.disk_lines.specs.declared.Draft.{Draft}
+use Rattle.write_jobs.specs.pm_words.declared.Cell.{Cell}
+use Rattle.write_jobs.specs.pm_words.declared.Cell.TheVariants.{Single}
+use Rattle.write_jobs.specs.pm_words.CellLaws.{single-home}
+use Rattle.write_jobs.specs.pm_words.Cells.{cell, is_lent, is_single, IsCandidate, unmarked}
+use Rattle.write_jobs.specs.pm_words.ImageLaws.{IsImage-words_of}
+use Rattle.write_jobs.specs.pm_words.Images.{IsImage, words_of}
+use Rattle.write_jobs.specs.pm_words.Parts.{Part}
+use Rattle.write_jobs.specs.pm_words.Words.{Words}
+use Rattle.write_jobs.specs.disk_places.Journal.{journaled}
+use Rattle.write_jobs.specs.disk_places.PlaceLaws.{behind_log-words}
+use Rattle.write_jobs.specs.disk_places.Places.{commit_word, Geometry}
+use Rattle.write_jobs.specs.disk_lines.declared.Draft.{Draft}
 use Rattle.world_room.specs.disk_rules.Live.{is_live}
 use Rattle.world_room.specs.disk_rules.Volume.{Volume}
 use Rattle.world_room.specs.volume_facts.ImageLaws.{journaled-idle}

@@ -1,9 +1,9 @@
 -- The blocks of a job: out, and put back; and the words that they hold.
 use Rattle.std.specs.Prelude.{◌≡◌, ◌≢◌, ◌<◌, ◌+◌, ◌*◌, ◌/◌, ◌%◌, ◌^◌, ℕ, true, false, List, length, slice_index, Some}
-use Rattle.pm_words.specs.declared.Cell.{Cell}
-use Rattle.pm_words.specs.Cells.{cell, is_lent, unmarked}
-use Rattle.pm_words.specs.Parts.{Part}
-use Rattle.disk_lines.specs.declared.Draft.{Draft}
+use Rattle.write_jobs.specs.pm_words.declared.Cell.{Cell}
+use Rattle.write_jobs.specs.pm_words.Cells.{cell, is_lent, unmarked}
+use Rattle.write_jobs.specs.pm_words.Parts.{Part}
+use Rattle.write_jobs.specs.disk_lines.declared.Draft.{Draft}
 use Rattle.world_room.specs.disk_rules.Volume.{Volume}
 use Rattle.world_room.specs.world_rules.Jobs.{staged_block}
 use Rattle.write_jobs.specs.Jobs.{loan_at}

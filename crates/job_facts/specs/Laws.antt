@@ -1,17 +1,17 @@
 -- What jobs make of the device, each law as one statement.
 use Rattle.std.specs.Prelude.{◌≡◌, ◌≤◌, ◌<◌, ◌+◌, ◌-◌, ◌*◌, ℕ, List, [], ◌∷◌, ◌++◌, length, slice_index}
-use Rattle.pm_words.specs.declared.Cell.{Cell}
-use Rattle.pm_words.specs.Images.{IsImage}
-use Rattle.pm_words.specs.Parts.{Part}
-use Rattle.pm_words.specs.Words.{Words}
-use Rattle.disk_places.specs.Journal.{journaled}
-use Rattle.disk_places.specs.Places.{reserve}
-use Rattle.disk_lines.specs.declared.Draft.{Draft}
+use Rattle.write_jobs.specs.pm_words.declared.Cell.{Cell}
+use Rattle.write_jobs.specs.pm_words.Images.{IsImage}
+use Rattle.write_jobs.specs.pm_words.Parts.{Part}
+use Rattle.write_jobs.specs.pm_words.Words.{Words}
+use Rattle.write_jobs.specs.disk_places.Journal.{journaled}
+use Rattle.write_jobs.specs.disk_places.Places.{reserve}
+use Rattle.write_jobs.specs.disk_lines.declared.Draft.{Draft}
 use Rattle.world_room.specs.disk_rules.Room.{unused_blocks}
 use Rattle.world_room.specs.disk_rules.Volume.{Volume}
 use Rattle.world_room.specs.k_rules.Stands.{Stands}
-use Rattle.list_facts.specs.Members.{In}
-use Rattle.posix_words.specs.Bytes.{bytes_from, overwritten}
+use Rattle.world_room.specs.list_facts.Members.{In}
+use Rattle.write_jobs.specs.posix_words.Bytes.{bytes_from, overwritten}
 use Rattle.world_room.specs.posix_spec.Run.{after_call}
 use Rattle.world_room.specs.posix_spec.State.{room, State}
 use Rattle.world_room.specs.posix_puts.Views.{need_of}

@@ -21,4 +21,4 @@ pub fn jobs_come_and_go_on_the_device()
     ensures words { SpellsWhole }
 {}
 
-pub use write_jobs;
+pub use write_jobs::{Filled, FilledJob, Job, staged_words};

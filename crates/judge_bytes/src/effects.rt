@@ -6,7 +6,7 @@ ghost use Rattle.crash_spec.specs.Values.{value_of};
 ghost use Rattle.judge_bytes.specs.Effects.{any_cuts, any_puts, AreCuts, AreEffects, cut_of, end_of, is_cut, IsEffect, may_be, newest, puts_it};
 
 use crate::runs::after;
-use crash_spec::posix_spec::{Call, Item, Put, State, Who};
+use crash_spec::{Call, Item, Put, State, Who};
 use posix_words::nodes::{Node, length_of};
 use std::alloc::{AllocError, Global};
 

@@ -7,7 +7,7 @@ ghost use Rattle.judge_bytes.specs.Nearest.{AreNearest, IsNearest, nearest};
 
 use crate::effects::{Effect, may_be, newest};
 use crate::wanting::{byte_at, numbers_of, wanted};
-use crash_spec::posix_spec::{Data, State, Tree, TreeEntry};
+use crash_spec::{Data, State, Tree, TreeEntry};
 use posix_words::nodes::{File, Node};
 use posix_words::places::tree_entries;
 use std::alloc::{AllocError, Global};

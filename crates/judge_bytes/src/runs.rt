@@ -3,7 +3,7 @@ ghost use Rattle.std.specs.Prelude.{◌≡◌, ◌↔◌, IfOk, IsTrue};
 ghost use Rattle.crash_spec.specs.posix_spec.Run.{after_call, after_calls, run};
 ghost use Rattle.crash_spec.specs.posix_spec.Tree.{tree};
 
-use crash_spec::posix_spec::{Call, Item, State, Tree, Who};
+use crash_spec::{Call, Item, State, Tree, Who};
 use std::alloc::AllocError;
 
 /// The state after the calls of a history.

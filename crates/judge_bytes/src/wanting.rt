@@ -2,7 +2,7 @@
 ghost use Rattle.std.specs.Prelude.{◌≡◌, ◌<◌, ◌==◌, [], IfOk, length, map, slice_index};
 ghost use Rattle.judge_bytes.specs.Wanted.{AreLabels, entry_bytes, label, numbers_of, told_number, wanted};
 
-use crash_spec::posix_spec::{Data, TreeEntry, TreeNode};
+use crash_spec::{Data, TreeEntry, TreeNode};
 use posix_words::nodes::{DirEntry, File, Node};
 use posix_words::places::tree_entries;
 use std::alloc::{AllocError, Global};

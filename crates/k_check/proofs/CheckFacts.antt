@@ -1,8 +1,8 @@
 -- The rules of the log behind all others.
 use Rattle.std.proofs.Common.{◌≡◌, ℕ, ◌*◌, ◌≤◌, ◌^◌, refl, sym, ◌∙◌, ap, subst, arith, inl, inr}
-use Rattle.pm_words.specs.Words.{Words}
-use Rattle.disk_places.specs.Journal.{journaled}
-use Rattle.disk_places.specs.Places.{Geometry, base_word}
+use Rattle.oplog_entry.specs.pm_words.Words.{Words}
+use Rattle.oplog_entry.specs.disk_places.Journal.{journaled}
+use Rattle.oplog_entry.specs.disk_places.Places.{Geometry, base_word}
 use Rattle.volume_check.specs.disk_rules.Broken.{at_one, Holds, HoldAll, FailsFirst, BreaksFirst, Breaks, log_rules}
 use Rattle.volume_check.specs.disk_rules.Checked.{HasHead}
 use Rattle.volume_check.specs.disk_rules.Rules.{geometry_of, CanRecover, IsChecked}

@@ -3,14 +3,14 @@ use Rattle.std.proofs.Common.{◌≡◌, ◌≢◌, ℕ, ◌+◌, ◌-◌, ◌*�
 use Rattle.std.proofs.Common.{get_or, take, drop}
 use Rattle.std.proofs.lemmas.Bool.{cases_eq, cases_lt}
 use Rattle.std.proofs.lemmas.List.{get_or-take, get_or-drop}
-use Rattle.pm_words.specs.declared.Cell.{Cell}
-use Rattle.pm_words.specs.declared.Cell.TheVariants.{Single, Two, Marked, Lent}
-use Rattle.pm_words.specs.Bytes.{line_bytes-same, word_at-same}
-use Rattle.pm_words.specs.Cells.{cell, oldest, IsCandidate}
-use Rattle.pm_words.specs.Images.{IsImage}
-use Rattle.pm_words.specs.Words.{Words, word_at, line_bytes}
-use Rattle.disk_places.specs.Places.{Geometry, log_line}
-use Rattle.disk_lines.specs.Entries.{is_self_valid}
+use Rattle.oplog_entry.specs.pm_words.declared.Cell.{Cell}
+use Rattle.oplog_entry.specs.pm_words.declared.Cell.TheVariants.{Single, Two, Marked, Lent}
+use Rattle.oplog_entry.specs.pm_words.Bytes.{line_bytes-same, word_at-same}
+use Rattle.oplog_entry.specs.pm_words.Cells.{cell, oldest, IsCandidate}
+use Rattle.oplog_entry.specs.pm_words.Images.{IsImage}
+use Rattle.oplog_entry.specs.pm_words.Words.{Words, word_at, line_bytes}
+use Rattle.oplog_entry.specs.disk_places.Places.{Geometry, log_line}
+use Rattle.oplog_entry.specs.disk_lines.Entries.{is_self_valid}
 use Rattle.volume_check.specs.disk_rules.Honest.{IsTorn, IsHonest}
 use Rattle.pm_lines.specs.Choices.{chosen}
 use Rattle.pm_lines.specs.declared.choices.Choice.{Choice}

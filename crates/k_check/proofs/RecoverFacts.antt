@@ -6,11 +6,11 @@ use Rattle.std.proofs.lemmas.List.Elements.{All-filter}
 use Rattle.std.proofs.lemmas.Bool.{cases_lt}
 use Rattle.std.proofs.lemmas.List.{get_or_past}
 use Rattle.std.proofs.lemmas.List.FromFn.{length-map-range_with_len, get_or-map-range_with_len}
-use Rattle.pm_words.specs.Words.{Words, line_bytes}
-use Rattle.disk_places.specs.Places.{Geometry, log_line}
-use Rattle.disk_lines.specs.declared.Draft.{Draft}
-use Rattle.disk_lines.specs.Entries.{decode_entry, is_draft}
-use Rattle.disk_lines.specs.EntryLaws.{IsEntryLine-decode_entry}
+use Rattle.oplog_entry.specs.pm_words.Words.{Words, line_bytes}
+use Rattle.oplog_entry.specs.disk_places.Places.{Geometry, log_line}
+use Rattle.oplog_entry.specs.disk_lines.declared.Draft.{Draft}
+use Rattle.oplog_entry.specs.disk_lines.Entries.{decode_entry, is_draft}
+use Rattle.oplog_entry.specs.disk_lines.EntryLaws.{IsEntryLine-decode_entry}
 use Rattle.volume_check.specs.disk_rules.Live.{entry_in, is_live, live_entries}
 use Rattle.volume_check.specs.disk_rules.Rules.{HasStagingBlocks, CanRecover}
 use Rattle.volume_check.specs.disk_rules.Volume.{Volume}

@@ -7,7 +7,7 @@ use Rattle.std.proofs.lemmas.List.Elements.{filter-append, filter_map-append}
 use Rattle.std.proofs.lemmas.Bool.{cases_lt}
 use Rattle.std.proofs.lemmas.List.{get_or_default, get_or_past}
 use Rattle.std.proofs.lemmas.Option.{same_Some}
-use Rattle.disk_lines.specs.declared.Draft.{Draft}
+use Rattle.oplog_entry.specs.disk_lines.declared.Draft.{Draft}
 use Rattle.volume_check.specs.disk_rules.Volume.{Volume}
 use Rattle.k_check.specs.Slots.{passing, IsGoodPair, IsGoodSlot, IsGoodWithLater, AreGoodSlots}
 

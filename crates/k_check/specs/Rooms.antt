@@ -1,7 +1,7 @@
 -- The parts of rule 12 that speak of room.
 use Rattle.std.specs.Prelude.{◌+◌, ◌≤◌, List, length}
-use Rattle.disk_places.specs.Places.{data_blocks, reserve}
-use Rattle.disk_lines.specs.declared.Draft.{Draft}
+use Rattle.oplog_entry.specs.disk_places.Places.{data_blocks, reserve}
+use Rattle.oplog_entry.specs.disk_lines.declared.Draft.{Draft}
 use Rattle.volume_check.specs.disk_rules.Room.{held_after_recovery, unused_blocks}
 use Rattle.volume_check.specs.disk_rules.Volume.{Volume}
 

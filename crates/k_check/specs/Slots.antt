@@ -1,10 +1,10 @@
 -- The log's slots, and what is asked of two entries in them.
 use Rattle.std.specs.Prelude.{◌≡◌, ◌≢◌, ℕ, ◌+◌, ◌<◌, true, Bool, if◌then◌else◌, All, List, [], ◌∷◌, map, Option, Some, None, slice_index_or}
 use Rattle.std.specs.List.{range_with_len}
-use Rattle.pm_words.specs.Words.{Words, line_bytes}
-use Rattle.disk_places.specs.Places.{Geometry, log_line}
-use Rattle.disk_lines.specs.declared.Draft.{Draft}
-use Rattle.disk_lines.specs.Entries.{decode_entry, is_draft, is_self_valid, held_seq}
+use Rattle.oplog_entry.specs.pm_words.Words.{Words, line_bytes}
+use Rattle.oplog_entry.specs.disk_places.Places.{Geometry, log_line}
+use Rattle.oplog_entry.specs.disk_lines.declared.Draft.{Draft}
+use Rattle.oplog_entry.specs.disk_lines.Entries.{decode_entry, is_draft, is_self_valid, held_seq}
 use Rattle.volume_check.specs.disk_rules.Broken.{Rule, below}
 use Rattle.volume_check.specs.disk_rules.Live.{is_of_file, is_live}
 use Rattle.volume_check.specs.disk_rules.Rules.{AreApart, IsOfNoLater}

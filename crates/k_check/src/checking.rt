@@ -1,15 +1,15 @@
 //! The check of a whole image.
 ghost use Rattle.std.specs.Prelude.{◌≡◌, ◌↔◌, ◌*◌, ◌%◌, ◌<◌, ◌≤◌, ◌^◌, length, true, All, IsTrue, IfOk, OnOk};
-ghost use Rattle.disk_lines.specs.Entries.{is_draft};
+ghost use Rattle.oplog_entry.specs.disk_lines.Entries.{is_draft};
 ghost use Rattle.volume_check.specs.disk_rules.Broken.{Breaks};
 ghost use Rattle.volume_check.specs.disk_rules.Live.{live_entries};
 ghost use Rattle.volume_check.specs.disk_rules.Rules.{geometry_of, CanRecover, IsChecked};
 ghost use Rattle.volume_check.specs.disk_rules.Volume.{Volume};
 ghost use Rattle.k_check.specs.Rooms.{HasRoom};
 ghost use Rattle.k_check.specs.Slots.{slots_at, AreDrafts};
-ghost use Rattle.pm_words.specs.Cells.{AllHome};
-ghost use Rattle.pm_words.specs.Images.{words_of};
-ghost use Rattle.pm_words.specs.Words.{Words};
+ghost use Rattle.oplog_entry.specs.pm_words.Cells.{AllHome};
+ghost use Rattle.oplog_entry.specs.pm_words.Images.{words_of};
+ghost use Rattle.oplog_entry.specs.pm_words.Words.{Words};
 ghost use Rattle.volume_check.specs.Answers.{IfBad};
 ghost use Rattle.volume_check.specs.Readings.{AreTables};
 
@@ -19,8 +19,7 @@ use crate::rules::{are_good_slots, are_staged, later_entry};
 use oplog_entry::Draft;
 use pm_lines::Pm;
 use std::alloc::{AllocError, Global};
-use volume_check::image_layout::Geometry;
-use volume_check::{BadImage, CheckFault, Tables, count_unused, read_volume};
+use volume_check::{BadImage, CheckFault, Geometry, Tables, count_unused, read_volume};
 
 // Rule 12, the parts that speak of room: whether what the files hold after recovery leaves the
 // reserve, and the blocks that nothing names are enough.

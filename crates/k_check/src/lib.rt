@@ -27,9 +27,10 @@ mod rules;
 
 pub use checking::check;
 pub use crashes::crash_image;
-pub use oplog_entry;
+pub use oplog_entry::{Draft, decode, encode, scan};
 pub use recovery::live_log;
-pub use volume_check;
 pub use volume_check::{
-    BadImage, CheckFault, block_pool, image_layout, k_inodes, k_journal, k_reading, map_chain,
+    BadImage, Batch, BatchFull, CheckFault, Commit, Geometry, Inode, Kind, Maps, Pool, Recovered,
+    Tables, decode_inode, encode_inode, free_blocks, fresh_image, read, read_base, read_inodes,
+    read_maps, read_names, read_superblock, read_volume, recover, write,
 };

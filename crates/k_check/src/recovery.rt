@@ -1,11 +1,11 @@
 //! What recovery has to carry out of the log of a checked image.
 ghost use Rattle.std.specs.Prelude.{◌≡◌, ◌*◌, ◌%◌, ◌<◌, ◌^◌, length, IfOk};
-ghost use Rattle.disk_places.specs.Journal.{journaled};
+ghost use Rattle.oplog_entry.specs.disk_places.Journal.{journaled};
 ghost use Rattle.volume_check.specs.disk_rules.Live.{live_entries};
 ghost use Rattle.volume_check.specs.disk_rules.Rules.{geometry_of, IsChecked};
 ghost use Rattle.volume_check.specs.disk_rules.Volume.{volume};
-ghost use Rattle.pm_words.specs.Cells.{AllHome};
-ghost use Rattle.pm_words.specs.Images.{words_of};
+ghost use Rattle.oplog_entry.specs.pm_words.Cells.{AllHome};
+ghost use Rattle.oplog_entry.specs.pm_words.Images.{words_of};
 
 use crate::entries::{live_entries, read_slots};
 use oplog_entry::Draft;

@@ -9,7 +9,7 @@ ghost use Rattle.volume_check.specs.Readings.{AreNameMarks};
 
 use block_counts::held_by;
 use oplog_entry::Draft;
-use volume_check::k_inodes::{Inode, Kind};
+use volume_check::{Inode, Kind};
 
 // The entry of greatest order of the inode, the first of those of one order.
 fn latest_of(live: &[Draft], ino: u32) -> Option<Draft>

@@ -5,10 +5,10 @@ use Rattle.std.specs.List.{range_with_len}
 use Rattle.std.proofs.lemmas.Bool.{cases_lt}
 use Rattle.std.proofs.lemmas.List.{append-nil, get_or_default, get_or_append_left, get_or-append_right, length-append, same_lists}
 use Rattle.std.proofs.lemmas.List.FromFn.{get_or-map-range_with_len, map-range_with_len_more, take-map-range_with_len}
-use Rattle.pm_words.specs.Bytes.{length-line_bytes, line_front, line_front-all, line_front-more, line_front-none}
-use Rattle.pm_words.specs.Words.{Words, byte_of, line_bytes}
-use Rattle.extent_words.specs.declared.Extent.{Extent}
-use Rattle.extent_words.specs.Extents.{disk_at}
+use Rattle.pm_lines.specs.pm_words.Bytes.{length-line_bytes, line_front, line_front-all, line_front-more, line_front-none}
+use Rattle.pm_lines.specs.pm_words.Words.{Words, byte_of, line_bytes}
+use Rattle.extent_map.specs.extent_words.declared.Extent.{Extent}
+use Rattle.extent_map.specs.extent_words.Extents.{disk_at}
 use Rattle.k_tables.specs.disk_rules.Content.{byte_in}
 use Rattle.k_content.specs.Files.{first_bytes, line_in}
 

@@ -7,9 +7,9 @@ use Rattle.std.proofs.lemmas.Bool.Decides.{nat_tests, Decides-eqb}
 use Rattle.std.proofs.lemmas.List.{get_or_past}
 use Rattle.std.proofs.lemmas.List.Sums.{sum_by-cons}
 use Rattle.std.proofs.lemmas.Option.{same_Some}
-use Rattle.pm_words.specs.declared.Cell.{Cell}
-use Rattle.pm_words.specs.Words.{Words}
-use Rattle.extent_words.specs.declared.Extent.{Extent}
+use Rattle.pm_lines.specs.pm_words.declared.Cell.{Cell}
+use Rattle.pm_lines.specs.pm_words.Words.{Words}
+use Rattle.extent_map.specs.extent_words.declared.Extent.{Extent}
 use Rattle.disk_lines.specs.declared.Inode.{Inode}
 use Rattle.disk_lines.specs.declared.Kind.{Kind}
 use Rattle.disk_lines.specs.declared.Kind.TheVariants.{Free, Directory, File, Staging}
@@ -22,10 +22,10 @@ use Rattle.k_tables.specs.disk_rules.Live.{is_directory, is_file}
 use Rattle.k_tables.specs.disk_rules.Volume.{Volume, free_inode, inode, extents}
 use Rattle.posix_types.specs.declared.tree.TreeEntry.{TreeEntry}
 use Rattle.posix_types.specs.declared.tree.TreeNode.{TreeNode}
-use Rattle.posix_words.specs.Names.{bytes_before, longest_path}
-use Rattle.posix_words.specs.Places.{printed}
-use Rattle.list_facts.specs.Filters.{In-map, map-In}
-use Rattle.list_facts.specs.Members.{In}
+use Rattle.posix_trees.specs.posix_words.Names.{bytes_before, longest_path}
+use Rattle.posix_trees.specs.posix_words.Places.{printed}
+use Rattle.posix_trees.specs.list_facts.Filters.{In-map, map-In}
+use Rattle.posix_trees.specs.list_facts.Members.{In}
 use Rattle.posix_trees.specs.Order.{RisingBy, before_or_after, before_trans}
 use Rattle.posix_trees.specs.Paths.{ArePlainNames, HasNoSlash, IsFilled, IsPlainName, printed_same}
 use Rattle.posix_trees.specs.TreeOf.{IsTreeOf, Rising-map}

@@ -3,13 +3,13 @@ use Rattle.std.proofs.Common.{◌≡◌, ℕ, suc, ◌+◌, ◌*◌, ◌<◌, �
 use Rattle.std.proofs.lemmas.Bool.{and_parts, cases_lt}
 use Rattle.std.proofs.lemmas.Bool.Decides.{nat_tests}
 use Rattle.std.proofs.lemmas.List.{get_or_past}
-use Rattle.pm_words.specs.declared.Cell.{Cell}
-use Rattle.pm_words.specs.Cells.{AllHome}
-use Rattle.pm_words.specs.Words.{Words, line_bytes}
-use Rattle.disk_places.specs.Places.{Geometry, IsGeometry, inode_line, name_line}
-use Rattle.extent_words.specs.declared.Extent.{Extent}
-use Rattle.extent_words.specs.Extents.{disk_at, disk_in}
-use Rattle.extent_facts.specs.Facts.{disk_at_found}
+use Rattle.pm_lines.specs.pm_words.declared.Cell.{Cell}
+use Rattle.pm_lines.specs.pm_words.Cells.{AllHome}
+use Rattle.pm_lines.specs.pm_words.Words.{Words, line_bytes}
+use Rattle.k_tables.specs.disk_places.Places.{Geometry, IsGeometry, inode_line, name_line}
+use Rattle.extent_map.specs.extent_words.declared.Extent.{Extent}
+use Rattle.extent_map.specs.extent_words.Extents.{disk_at, disk_in}
+use Rattle.extent_map.specs.extent_facts.Facts.{disk_at_found}
 use Rattle.disk_lines.specs.declared.Inode.{Inode}
 use Rattle.disk_lines.specs.declared.Kind.{Kind}
 use Rattle.disk_lines.specs.declared.Kind.TheVariants.{Free, Directory, File, Staging}
@@ -26,7 +26,7 @@ use Rattle.k_tables.specs.disk_rules.Volume.{Volume, extents, free_inode, inode}
 use Rattle.k_tables.specs.name_facts.ForestLaws.{up-parent, up-top}
 use Rattle.k_tables.specs.name_facts.KeptLaws.{HasAllLines, kept-forest, kept-keyed, kept-named, kept-placed, reads-all_lines}
 use Rattle.k_tables.specs.name_facts.RowLaws.{row-below}
-use Rattle.posix_words.specs.Names.{longest_path}
+use Rattle.posix_trees.specs.posix_words.Names.{longest_path}
 use Rattle.k_tables.specs.volume_names.TreeLaws.{one-depth, up-of_walk}
 use Rattle.k_content.specs.Files.{IsInside}
 use Rattle.k_content.specs.Laws.{HaveTrees}

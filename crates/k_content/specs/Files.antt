@@ -1,10 +1,10 @@
 -- The bytes of a file and its lines of 64 bytes, by its map.
 use Rattle.std.specs.Prelude.{◌≡◌, ℕ, ◌+◌, ◌*◌, ◌/◌, ◌≤◌, List, length, map, Option, Some}
 use Rattle.std.specs.List.{range_with_len}
-use Rattle.pm_words.specs.declared.Cell.{Cell}
-use Rattle.pm_words.specs.Words.{Words}
-use Rattle.extent_words.specs.declared.Extent.{Extent}
-use Rattle.extent_words.specs.Extents.{disk_at}
+use Rattle.pm_lines.specs.pm_words.declared.Cell.{Cell}
+use Rattle.pm_lines.specs.pm_words.Words.{Words}
+use Rattle.extent_map.specs.extent_words.declared.Extent.{Extent}
+use Rattle.extent_map.specs.extent_words.Extents.{disk_at}
 use Rattle.k_tables.specs.disk_rules.Content.{byte_in}
 
 -- the first n bytes of a file with this map

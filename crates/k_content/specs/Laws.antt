@@ -1,9 +1,9 @@
 -- When tables and a device have a tree, and what a tree tells, each as one statement.
 use Rattle.std.specs.Prelude.{◌≡◌, ℕ, ◌*◌, List, length, Option}
-use Rattle.pm_words.specs.declared.Cell.{Cell}
-use Rattle.pm_words.specs.Cells.{AllHome}
-use Rattle.pm_words.specs.Words.{Words}
-use Rattle.disk_places.specs.Places.{Geometry, IsGeometry}
+use Rattle.pm_lines.specs.pm_words.declared.Cell.{Cell}
+use Rattle.pm_lines.specs.pm_words.Cells.{AllHome}
+use Rattle.pm_lines.specs.pm_words.Words.{Words}
+use Rattle.k_tables.specs.disk_places.Places.{Geometry, IsGeometry}
 use Rattle.k_tables.specs.disk_rules.Content.{Node}
 use Rattle.k_tables.specs.disk_rules.Kept.{AreKept}
 use Rattle.k_tables.specs.disk_rules.Reading.{Reads}

@@ -1,9 +1,9 @@
 -- The tree of what tables and a device hold, and what it asks for.
 use Rattle.std.specs.Prelude.{◌≡◌, ◌⊎◌, ℕ, ◌≤◌, List, [], length, true, Option, Some, option_map, slice_index_or}
-use Rattle.pm_words.specs.declared.Cell.{Cell}
-use Rattle.pm_words.specs.Cells.{AllHome}
-use Rattle.pm_words.specs.Words.{Words}
-use Rattle.extent_words.specs.declared.Extent.{Extent}
+use Rattle.pm_lines.specs.pm_words.declared.Cell.{Cell}
+use Rattle.pm_lines.specs.pm_words.Cells.{AllHome}
+use Rattle.pm_lines.specs.pm_words.Words.{Words}
+use Rattle.extent_map.specs.extent_words.declared.Extent.{Extent}
 use Rattle.disk_lines.specs.declared.Inode.{Inode}
 use Rattle.disk_lines.specs.declared.Kind.{Kind}
 use Rattle.disk_lines.specs.declared.Kind.TheVariants.{Free, Directory, File, Staging}
@@ -15,7 +15,7 @@ use Rattle.k_tables.specs.disk_rules.Live.{is_directory, is_file}
 use Rattle.k_tables.specs.disk_rules.Volume.{Volume, free_inode}
 use Rattle.posix_types.specs.declared.tree.TreeEntry.{TreeEntry}
 use Rattle.posix_types.specs.declared.tree.TreeNode.{TreeNode}
-use Rattle.posix_words.specs.Names.{longest_path}
+use Rattle.posix_trees.specs.posix_words.Names.{longest_path}
 use Rattle.k_tables.specs.declared.trees.TreePlace.{TreePlace}
 use Rattle.k_content.specs.Files.{first_bytes, IsInside}
 

@@ -1,8 +1,8 @@
 //! The bytes of a file, line by line.
 ghost use Rattle.std.specs.Prelude.{◌≡◌, ◌+◌, ◌*◌, ◌≤◌, ◌<◌, length, IfOk, OnOk};
 ghost use Rattle.std.specs.Option.{ForSome};
-ghost use Rattle.pm_words.specs.Cells.{AllHome};
-ghost use Rattle.pm_words.specs.Images.{words_of};
+ghost use Rattle.pm_lines.specs.pm_words.Cells.{AllHome};
+ghost use Rattle.pm_lines.specs.pm_words.Images.{words_of};
 ghost use Rattle.k_content.specs.Files.{first_bytes, line_in, IsInside};
 
 use extent_map::ExtentMap;

@@ -18,8 +18,9 @@ mod files;
 mod laws;
 mod trees;
 
-pub use k_tables;
-pub use k_tables::k_names;
+pub use k_tables::{NameTable, child, is_directory, parent_of};
 pub use laws::{trees_can_be_read, trees_tell_contents};
-pub use posix_trees::posix_spec;
+pub use posix_trees::{
+    Call, Flags, Handle, Mode, Outcome, Path, Reply, Shape, Tree, TreeEntry, TreeNode, Who,
+};
 pub use trees::content_tree;

@@ -1,7 +1,7 @@
 //! The tree of tables and a device.
 ghost use Rattle.std.specs.Prelude.{◌≡◌, ◌≤◌, ◌<◌, [], length, IfOk};
-ghost use Rattle.pm_words.specs.Cells.{AllHome};
-ghost use Rattle.pm_words.specs.Images.{words_of};
+ghost use Rattle.pm_lines.specs.pm_words.Cells.{AllHome};
+ghost use Rattle.pm_lines.specs.pm_words.Images.{words_of};
 ghost use Rattle.k_tables.specs.disk_rules.Content.{found};
 ghost use Rattle.k_tables.specs.disk_rules.Volume.{Volume};
 ghost use Rattle.posix_trees.specs.TreeOf.{IsTreeOf};
@@ -11,8 +11,7 @@ ghost use Rattle.k_content.specs.Trees.{tree_content, node_in, entry_in, HasTabl
 use crate::files::read_file;
 use disk_lines::{Inode, Kind};
 use extent_map::ExtentMap;
-use k_tables::k_names::NameTable;
-use k_tables::{TreePlace, tree_places};
+use k_tables::{NameTable, TreePlace, tree_places};
 use pm_lines::Pm;
 use posix_types::{Tree, TreeEntry, TreeNode};
 use std::alloc::{AllocError, Global};

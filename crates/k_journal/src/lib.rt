@@ -24,5 +24,5 @@ mod recoveries;
 pub mod journal;
 
 pub use batches::{Batch, BatchFull, Entry};
-pub use image_layout;
+pub use image_layout::{Geometry, SuperFault, read_superblock};
 pub use outcomes::{Commit, Recovered};

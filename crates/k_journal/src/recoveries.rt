@@ -1,14 +1,14 @@
 //! Recovery: the committed records are written to their targets, and the commit word is cleared.
 ghost use Rattle.std.specs.Prelude.{◌≡◌, ◌≢◌, ◌+◌, ◌*◌, ◌/◌, ◌%◌, ◌<◌, ◌≤◌, ℕ, true, false, length, MatchOption};
-ghost use Rattle.disk_places.specs.Journal.{is_journal_word, journaled, record_target, record_word, IsSound};
-ghost use Rattle.disk_places.specs.Places.{commit_word, is_journaled_line};
+ghost use Rattle.image_layout.specs.disk_places.Journal.{is_journal_word, journaled, record_target, record_word, IsSound};
+ghost use Rattle.image_layout.specs.disk_places.Places.{commit_word, is_journaled_line};
 ghost use Rattle.k_journal.specs.Recoveries.{IsFirstFault, IfBad, IfNotBad, KeepsView, AreJournaled, AreWithin, AreApart, IsNoTarget, after_records, IsReplayStage};
-ghost use Rattle.pm_words.specs.declared.Cell.TheVariants.{Single};
-ghost use Rattle.pm_words.specs.Cells.{cell, AllHome, AllSingle};
-ghost use Rattle.pm_words.specs.Frames.{SameLent};
-ghost use Rattle.pm_words.specs.Images.{IsImage, words_of};
-ghost use Rattle.pm_words.specs.Powers.{is_on, Steps};
-ghost use Rattle.pm_words.specs.Words.{Words};
+ghost use Rattle.pm_lines.specs.pm_words.declared.Cell.TheVariants.{Single};
+ghost use Rattle.pm_lines.specs.pm_words.Cells.{cell, AllHome, AllSingle};
+ghost use Rattle.pm_lines.specs.pm_words.Frames.{SameLent};
+ghost use Rattle.pm_lines.specs.pm_words.Images.{IsImage, words_of};
+ghost use Rattle.pm_lines.specs.pm_words.Powers.{is_on, Steps};
+ghost use Rattle.pm_lines.specs.pm_words.Words.{Words};
 
 use crate::outcomes::Recovered;
 use crate::phases::{COMMIT_WORD, set_count};

@@ -3,15 +3,15 @@
 use Rattle.std.specs.Prelude.{◌≡◌, ℕ, ◌*◌, ◌/◌, ◌<◌, List, [], length, false}
 use Rattle.std.proofs.Common.{arith, sym, subst, inl, inr, ⊎_elim}
 use Rattle.std.proofs.lemmas.Bool.{both_ways}
-use Rattle.pm_words.specs.declared.Cell.{Cell}
-use Rattle.pm_words.specs.declared.Cell.TheVariants.{Single}
-use Rattle.pm_words.specs.Cells.{cell, IsCandidate}
-use Rattle.pm_words.specs.Frames.{KeepsSingle}
-use Rattle.pm_words.specs.Images.{IsImage, ComesFrom, Follows}
-use Rattle.pm_words.specs.Words.{Words}
-use Rattle.disk_places.specs.Journal.{journaled, IsSound}
-use Rattle.disk_places.specs.PlaceLaws.{journaled-below_log}
-use Rattle.disk_places.specs.Places.{Geometry, commit_word, is_journaled_line}
+use Rattle.k_inodes.specs.pm_words.declared.Cell.{Cell}
+use Rattle.k_inodes.specs.pm_words.declared.Cell.TheVariants.{Single}
+use Rattle.k_inodes.specs.pm_words.Cells.{cell, IsCandidate}
+use Rattle.k_inodes.specs.pm_words.Frames.{KeepsSingle}
+use Rattle.k_inodes.specs.pm_words.Images.{IsImage, ComesFrom, Follows}
+use Rattle.k_inodes.specs.pm_words.Words.{Words}
+use Rattle.k_inodes.specs.disk_places.Journal.{journaled, IsSound}
+use Rattle.k_inodes.specs.disk_places.PlaceLaws.{journaled-below_log}
+use Rattle.k_inodes.specs.disk_places.Places.{Geometry, commit_word, is_journaled_line}
 use Rattle.k_rules.specs.disk_rules.Placed.{AreSingle}
 use Rattle.k_rules.specs.disk_rules.Reading.{Reads}
 use Rattle.k_rules.specs.disk_rules.Volume.{Volume, chain}

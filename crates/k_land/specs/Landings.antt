@@ -1,7 +1,7 @@
 -- What a landing leaves of images.
 use Rattle.std.specs.Prelude.{◌≡◌, ℕ, ◌/◌, List, false}
-use Rattle.pm_words.specs.Words.{Words}
-use Rattle.disk_places.specs.Journal.{is_journal_word}
+use Rattle.k_inodes.specs.pm_words.Words.{Words}
+use Rattle.k_inodes.specs.disk_places.Journal.{is_journal_word}
 use Rattle.k_rules.specs.disk_rules.Placed.{IsOutside}
 use Rattle.k_journal.specs.Batch.{IsNew}
 use Rattle.k_journal.specs.declared.batches.Entry.{Entry}

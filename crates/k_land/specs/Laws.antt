@@ -1,7 +1,7 @@
 -- Laws of plans that the layer above begins and ends with.
 use Rattle.std.specs.Prelude.{◌≡◌, ◌<◌, ℕ, List, [], ◌∷◌, length, All, true}
-use Rattle.pm_words.specs.declared.Cell.{Cell}
-use Rattle.disk_places.specs.Places.{Geometry}
+use Rattle.k_inodes.specs.pm_words.declared.Cell.{Cell}
+use Rattle.k_inodes.specs.disk_places.Places.{Geometry}
 use Rattle.k_rules.specs.disk_rules.Volume.{Volume}
 use Rattle.volume_uses.specs.Uses.{is_unused}
 use Rattle.k_journal.specs.Commits.{MayCommit}

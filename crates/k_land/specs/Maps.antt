@@ -1,11 +1,11 @@
 -- New maps that are written one after the other beside what stands.
 use Rattle.std.specs.Prelude.{◌≡◌, ◌≢◌, ℕ, ◌+◌, ◌*◌, ◌<◌, true, false, List, length, take, sum_by}
-use Rattle.pm_words.specs.declared.Cell.{Cell}
-use Rattle.pm_words.specs.Cells.{cell, Settles}
-use Rattle.pm_words.specs.Frames.{SameLent, KeepsSingle}
-use Rattle.pm_words.specs.Images.{IsImage, Follows}
-use Rattle.pm_words.specs.Powers.{Supply, Steps, is_on}
-use Rattle.pm_words.specs.Words.{Words}
+use Rattle.k_inodes.specs.pm_words.declared.Cell.{Cell}
+use Rattle.k_inodes.specs.pm_words.Cells.{cell, Settles}
+use Rattle.k_inodes.specs.pm_words.Frames.{SameLent, KeepsSingle}
+use Rattle.k_inodes.specs.pm_words.Images.{IsImage, Follows}
+use Rattle.k_inodes.specs.pm_words.Powers.{Supply, Steps, is_on}
+use Rattle.k_inodes.specs.pm_words.Words.{Words}
 use Rattle.k_rules.specs.disk_rules.Chains.{first_or_zero}
 use Rattle.k_rules.specs.disk_rules.Placed.{block_at, IsOutside}
 use Rattle.k_rules.specs.disk_rules.Standing.{IsChain}

@@ -4,12 +4,12 @@ use Rattle.std.proofs.Common.{arith, sym, subst, inl, inr}
 use Rattle.std.proofs.Math.Path.{fun_ext}
 use Rattle.std.proofs.lemmas.Bool.{both_ways, cases_eq, cases_lt}
 use Rattle.std.proofs.lemmas.List.{set_past}
-use Rattle.pm_words.specs.Words.{Words, with_line}
-use Rattle.disk_places.specs.Places.{Geometry, state_line, inode_line, name_line, is_data_block, is_journaled_line}
-use Rattle.extent_words.specs.declared.Extent.{Extent}
-use Rattle.disk_lines.specs.declared.Inode.{Inode}
-use Rattle.disk_lines.specs.Fresh.{state_bytes}
-use Rattle.disk_lines.specs.Lines.{NameRow, decode_inode, decode_name}
+use Rattle.k_inodes.specs.pm_words.Words.{Words, with_line}
+use Rattle.k_inodes.specs.disk_places.Places.{Geometry, state_line, inode_line, name_line, is_data_block, is_journaled_line}
+use Rattle.k_rules.specs.extent_words.declared.Extent.{Extent}
+use Rattle.k_inodes.specs.disk_lines.declared.Inode.{Inode}
+use Rattle.k_inodes.specs.disk_lines.Fresh.{state_bytes}
+use Rattle.k_inodes.specs.disk_lines.Lines.{NameRow, decode_inode, decode_name}
 use Rattle.k_rules.specs.disk_rules.Chains.{blocks_from, first_or_zero, SpellsChain}
 use Rattle.k_rules.specs.disk_rules.Placed.{block_at}
 use Rattle.k_rules.specs.disk_rules.Reading.{slot_for, StandsFor, Reads, inode_set, row_set, base_set, AreBytes}

@@ -2,10 +2,10 @@
 -- volume.
 use Rattle.std.specs.Prelude.{◌≡◌, ℕ, ◌*◌, ◌<◌, List, [], length, All, true, slice_index_or}
 use Rattle.std.specs.List.{flat_map}
-use Rattle.pm_words.specs.Words.{Words}
-use Rattle.disk_places.specs.Places.{Geometry, is_data_block, is_journaled_line}
-use Rattle.extent_words.specs.declared.Extent.{Extent}
-use Rattle.disk_lines.specs.declared.Inode.{Inode}
+use Rattle.k_inodes.specs.pm_words.Words.{Words}
+use Rattle.k_inodes.specs.disk_places.Places.{Geometry, is_data_block, is_journaled_line}
+use Rattle.k_rules.specs.extent_words.declared.Extent.{Extent}
+use Rattle.k_inodes.specs.disk_lines.declared.Inode.{Inode}
 use Rattle.k_rules.specs.disk_rules.Chains.{first_or_zero}
 use Rattle.k_rules.specs.disk_rules.Reading.{Reads}
 use Rattle.k_rules.specs.disk_rules.Standing.{IsChain}

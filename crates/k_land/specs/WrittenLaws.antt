@@ -5,19 +5,19 @@ use Rattle.std.proofs.Common.{arith, ap, sym, ◌∙◌, subst, inl, inr, ⊎_el
 use Rattle.std.proofs.lemmas.Bool.{cases_Bool, cases_eq, cases_lt}
 use Rattle.std.proofs.lemmas.List.{append-nil, get_or_append_left, get_or-append_right, get_or_default, length-append}
 use Rattle.std.proofs.lemmas.List.Sums.{sum_by_more}
-use Rattle.pm_words.specs.declared.Cell.{Cell}
-use Rattle.pm_words.specs.declared.Cell.TheVariants.{Single, Two, Marked, Lent}
-use Rattle.pm_words.specs.CellLaws.{settled-single}
-use Rattle.pm_words.specs.Cells.{cell, is_single, newest, fenced, Settles}
-use Rattle.pm_words.specs.Frames.{KeepsSingle}
-use Rattle.pm_words.specs.ImageLaws.{Follows-then, IsImage-words_of}
-use Rattle.pm_words.specs.Images.{ComesFrom, Follows, Follows-same, Follows-weaken, Then, words_of}
-use Rattle.pm_words.specs.PowerLaws.{Steps-none, Steps-then}
-use Rattle.pm_words.specs.Powers.{Supply, Steps, is_on}
-use Rattle.pm_words.specs.Words.{Words}
-use Rattle.disk_places.specs.Journal.{is_journal_word, journaled}
-use Rattle.disk_places.specs.PlaceLaws.{behind_log-words}
-use Rattle.disk_places.specs.Places.{Geometry, commit_word, is_data_block}
+use Rattle.k_inodes.specs.pm_words.declared.Cell.{Cell}
+use Rattle.k_inodes.specs.pm_words.declared.Cell.TheVariants.{Single, Two, Marked, Lent}
+use Rattle.k_inodes.specs.pm_words.CellLaws.{settled-single}
+use Rattle.k_inodes.specs.pm_words.Cells.{cell, is_single, newest, fenced, Settles}
+use Rattle.k_inodes.specs.pm_words.Frames.{KeepsSingle}
+use Rattle.k_inodes.specs.pm_words.ImageLaws.{Follows-then, IsImage-words_of}
+use Rattle.k_inodes.specs.pm_words.Images.{ComesFrom, Follows, Follows-same, Follows-weaken, Then, words_of}
+use Rattle.k_inodes.specs.pm_words.PowerLaws.{Steps-none, Steps-then}
+use Rattle.k_inodes.specs.pm_words.Powers.{Supply, Steps, is_on}
+use Rattle.k_inodes.specs.pm_words.Words.{Words}
+use Rattle.k_inodes.specs.disk_places.Journal.{is_journal_word, journaled}
+use Rattle.k_inodes.specs.disk_places.PlaceLaws.{behind_log-words}
+use Rattle.k_inodes.specs.disk_places.Places.{Geometry, commit_word, is_data_block}
 use Rattle.k_rules.specs.disk_rules.Chains.{first_or_zero}
 use Rattle.k_rules.specs.disk_rules.Placed.{block_at, IsOutside}
 use Rattle.k_rules.specs.disk_rules.Reading.{Reads}

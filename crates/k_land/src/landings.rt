@@ -5,13 +5,12 @@ ghost use Rattle.k_journal.specs.Commits.{MayCommit, TakesAStep};
 ghost use Rattle.k_land.specs.Landings.{IsElsewhere, SameElsewhere};
 ghost use Rattle.k_land.specs.Plans.{Turns};
 ghost use Rattle.k_rules.specs.Stands.{Stands, IsOldOrNew};
-ghost use Rattle.pm_words.specs.Cells.{cell, Settles};
-ghost use Rattle.pm_words.specs.Frames.{SameLent, KeepsSingle};
-ghost use Rattle.pm_words.specs.Images.{Follows};
-ghost use Rattle.pm_words.specs.Powers.{is_on, Steps};
+ghost use Rattle.k_inodes.specs.pm_words.Cells.{cell, Settles};
+ghost use Rattle.k_inodes.specs.pm_words.Frames.{SameLent, KeepsSingle};
+ghost use Rattle.k_inodes.specs.pm_words.Images.{Follows};
+ghost use Rattle.k_inodes.specs.pm_words.Powers.{is_on, Steps};
 
-use k_journal::image_layout::Geometry;
-use k_journal::{Batch, Commit, journal};
+use k_journal::{Batch, Commit, Geometry, journal};
 use pm_lines::{Pm, Power};
 
 /// Lands a plan that needs no new map, by one commit. It takes no memory. Without power at the call

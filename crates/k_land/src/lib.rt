@@ -19,9 +19,9 @@ mod laws;
 mod maps;
 mod plans;
 
-pub use k_inodes;
-pub use k_journal;
-pub use k_journal::image_layout;
+pub use k_inodes::Kind;
+pub use k_journal::journal::recover;
+pub use k_journal::{Batch, Commit, Geometry, Recovered};
 pub use landings::land;
 pub use laws::{an_empty_plan_turns_nothing, plans_can_be_landed};
 pub use maps::{NewMap, land_maps};

@@ -1,6 +1,6 @@
 //! New maps: their writes into free blocks, and landing a plan that switches to them.
 ghost use Rattle.std.specs.Prelude.{◌≡◌, ◌+◌, ◌*◌, ◌<◌, ℕ, [], length, All, true, false};
-ghost use Rattle.disk_places.specs.Places.{is_data_block};
+ghost use Rattle.k_inodes.specs.disk_places.Places.{is_data_block};
 ghost use Rattle.k_rules.specs.disk_rules.Volume.{Volume};
 ghost use Rattle.k_journal.specs.Commits.{MayCommit, TakesAStep};
 ghost use Rattle.k_land.specs.Landings.{IsElsewhere, SameElsewhere};
@@ -8,15 +8,14 @@ ghost use Rattle.k_land.specs.Maps.{MayWriteAll, Writes, WritesFirst, write_step
 ghost use Rattle.k_land.specs.Plans.{Turns, blocks_of};
 ghost use Rattle.k_rules.specs.Stands.{Stands, IsOldOrNew};
 ghost use Rattle.map_chain.specs.Writes.{MayWrite};
-ghost use Rattle.pm_words.specs.Cells.{cell, Settles};
-ghost use Rattle.pm_words.specs.Frames.{SameLent, KeepsSingle};
-ghost use Rattle.pm_words.specs.Images.{Follows};
-ghost use Rattle.pm_words.specs.Powers.{is_on, Steps};
+ghost use Rattle.k_inodes.specs.pm_words.Cells.{cell, Settles};
+ghost use Rattle.k_inodes.specs.pm_words.Frames.{SameLent, KeepsSingle};
+ghost use Rattle.k_inodes.specs.pm_words.Images.{Follows};
+ghost use Rattle.k_inodes.specs.pm_words.Powers.{is_on, Steps};
 ghost use Rattle.volume_uses.specs.Uses.{is_unused};
 
 use extent_map::ExtentMap;
-use k_journal::image_layout::Geometry;
-use k_journal::{Batch, Commit, journal};
+use k_journal::{Batch, Commit, Geometry, journal};
 use map_chain::write;
 use pm_lines::{Pm, Power};
 use std::marker::Model;

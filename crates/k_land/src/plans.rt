@@ -1,18 +1,17 @@
 //! One line of a plan: an inode, a name, or the log base.
 ghost use Rattle.std.specs.Prelude.{◌≡◌, ◌+◌, ◌^◌, ◌<◌, ◌≤◌, ℕ, List, length, true, Some, None};
-ghost use Rattle.disk_lines.specs.Fresh.{state_bytes};
-ghost use Rattle.disk_lines.specs.Lines.{encode_inode, encode_name, is_inode, is_name_row};
-ghost use Rattle.disk_places.specs.Fields.{zeros};
-ghost use Rattle.disk_places.specs.Places.{state_line, inode_line, name_line};
+ghost use Rattle.k_inodes.specs.disk_lines.Fresh.{state_bytes};
+ghost use Rattle.k_inodes.specs.disk_lines.Lines.{encode_inode, encode_name, is_inode, is_name_row};
+ghost use Rattle.k_inodes.specs.disk_places.Fields.{zeros};
+ghost use Rattle.k_inodes.specs.disk_places.Places.{state_line, inode_line, name_line};
 ghost use Rattle.k_rules.specs.disk_rules.Reading.{inode_set, node_set, row_set, base_set};
 ghost use Rattle.k_rules.specs.disk_rules.Volume.{Volume, inode as inode_of};
-ghost use Rattle.extent_words.specs.declared.Extent.{Extent};
+ghost use Rattle.k_rules.specs.extent_words.declared.Extent.{Extent};
 ghost use Rattle.k_journal.specs.Batch.{with_line_set};
 ghost use Rattle.k_land.specs.Plans.{NewChain, Turns, IsMapFrom};
 
 use k_inodes::{Inode, encode_inode};
-use k_journal::Batch;
-use k_journal::image_layout::Geometry;
+use k_journal::{Batch, Geometry};
 use k_names::{NameLine, encode_name};
 use line_fields::put_u64;
 

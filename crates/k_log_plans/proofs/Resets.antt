@@ -8,7 +8,7 @@ use Rattle.disk_lines.specs.declared.Kind.{Kind}
 use Rattle.disk_lines.specs.declared.Kind.TheVariants.{File}
 use Rattle.disk_lines.specs.Lines.{has_map_or_none, is_inode, is_inode_of_kind, most_bytes}
 use Rattle.k_map_plans.specs.disk_rules.Volume.{Volume, chain, extents, inode}
-use Rattle.extent_words.specs.declared.Extent.{Extent}
+use Rattle.k_map_plans.specs.extent_words.declared.Extent.{Extent}
 use Rattle.k_map_plans.specs.k_journal.declared.batches.Entry.{Entry}
 use Rattle.k_map_plans.specs.k_land.PlanLaws.{turns-none}
 use Rattle.k_map_plans.specs.k_land.Plans.{Turns, IsMapFrom}

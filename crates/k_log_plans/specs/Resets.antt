@@ -1,7 +1,7 @@
 -- The entries that a file has applied count anew: what becomes of the volume, and what is planned.
 use Rattle.std.specs.Prelude.{◌≡◌, ◌<◌, ℕ, List, length, None, Result, Ok, Err}
 use Rattle.std.specs.declared.alloc.AllocError.{AllocError}
-use Rattle.pm_words.specs.Words.{Words}
+use Rattle.k_map_plans.specs.pm_words.Words.{Words}
 use Rattle.disk_lines.specs.declared.Inode.{Inode}
 use Rattle.k_map_plans.specs.disk_rules.Chains.{first_or_zero}
 use Rattle.k_map_plans.specs.disk_rules.Content.{found}

@@ -16,8 +16,7 @@ ghost use Rattle.k_log_plans.specs.Resets.{HasOwnMap, IsResetPlan};
 ghost use Rattle.k_map_plans.specs.Plans.{IsLiveFile};
 
 use disk_lines::Inode;
-use k_map_plans::k_journal::Batch;
-use k_map_plans::k_plans::Tables;
+pub use k_map_plans::{Batch, Tables};
 use std::alloc::{AllocError, Global};
 
 /// Plans that a file has applied no entry: its `applied` becomes 0, and nothing else changes. The
@@ -45,5 +44,8 @@ pub fn plan_reset(
     Ok(())
 }
 
-pub use k_map_plans;
-pub use k_map_plans::{image_layout, k_inodes, k_journal, k_land, k_plans, k_reading};
+pub use k_map_plans::{
+    Commit, Geometry, Kind, NewMap, PlanFault, Recovered, fresh_image, land, land_maps, may_fill,
+    plan_fill, plan_give_up, plan_move, plan_preallocate, plan_size, read_base, read_inodes,
+    read_maps, read_names, recover,
+};

@@ -11,12 +11,12 @@ use Rattle.disk_lines.specs.declared.Inode.{Inode}
 use Rattle.disk_lines.specs.declared.Kind.{Kind}
 use Rattle.disk_lines.specs.declared.Kind.TheVariants.{Free, Directory, File, Staging}
 use Rattle.disk_lines.specs.Lines.{has_map_or_none, is_inode, is_inode_of_kind}
-use Rattle.disk_places.specs.Places.{is_data_block}
+use Rattle.k_plans.specs.disk_places.Places.{is_data_block}
 use Rattle.k_plans.specs.disk_rules.Placed.{AreDistinct}
 use Rattle.k_plans.specs.disk_rules.Volume.{Volume, chain}
-use Rattle.extent_facts.specs.Counts.{length-le}
-use Rattle.extent_words.specs.declared.Extent.{Extent}
-use Rattle.extent_words.specs.Extents.{IsCanonical}
+use Rattle.k_relink.specs.extent_facts.Counts.{length-le}
+use Rattle.k_relink.specs.extent_words.declared.Extent.{Extent}
+use Rattle.k_relink.specs.extent_words.Extents.{IsCanonical}
 use Rattle.k_plans.specs.k_journal.declared.batches.Entry.{Entry}
 use Rattle.k_plans.specs.k_land.Plans.{NewChain, Turns, new_at}
 use Rattle.k_plans.specs.k_land.WrittenLaws.{blocks_of-one}

@@ -7,15 +7,15 @@ use Rattle.std.proofs.lemmas.List.{append-nil, get_or-append_right, get_or_appen
 use Rattle.block_counts.specs.Counts.{chains_for}
 use Rattle.disk_lines.specs.declared.Inode.{Inode}
 use Rattle.disk_lines.specs.declared.Kind.TheVariants.{File, Staging}
-use Rattle.disk_places.specs.Places.{is_data_block, reserve}
+use Rattle.k_plans.specs.disk_places.Places.{is_data_block, reserve}
 use Rattle.k_plans.specs.disk_rules.Placed.{AreDistinct, block_at}
-use Rattle.extent_facts.specs.Counts.{length-le}
+use Rattle.k_relink.specs.extent_facts.Counts.{length-le}
 use Rattle.k_plans.specs.k_land.Maps.{AreApart}
 use Rattle.k_plans.specs.Free.{is_free_block}
 use Rattle.k_plans.specs.disk_rules.Rules.{file_blocks_of}
 use Rattle.k_plans.specs.disk_rules.Volume.{Volume, chain, extents, inode}
-use Rattle.extent_words.specs.Extents.{IsCanonical, disk_at, is_within}
-use Rattle.extent_words.specs.Moves.{Moves}
+use Rattle.k_relink.specs.extent_words.Extents.{IsCanonical, disk_at, is_within}
+use Rattle.k_relink.specs.extent_words.Moves.{Moves}
 use Rattle.k_plans.specs.Switching.{IsMapPlan, IsSetAside}
 use Rattle.k_plans.specs.View.{TablesView}
 use Rattle.k_plans.specs.Whole.{IsWhole}
@@ -28,7 +28,7 @@ use Rattle.k_plans.specs.volume_maps.TakenLaws.{rising-distinct, rising-once}
 use Rattle.k_plans.specs.volume_uses.OwnerLaws.{two-le-owners}
 use Rattle.k_plans.specs.volume_uses.UseLaws.{in_chain-at, length-uses_by}
 use Rattle.k_plans.specs.volume_uses.Uses.{in_chain, in_map, is_unused}
-use Rattle.extent_words.specs.declared.Extent.{Extent}
+use Rattle.k_relink.specs.extent_words.declared.Extent.{Extent}
 use Rattle.k_plans.specs.k_journal.declared.batches.Entry.{Entry}
 use Rattle.k_plans.specs.k_land.Plans.{IsMapFrom, NewChain, Turns, blocks_of, new_at}
 use Rattle.k_plans.specs.map_rules.Changes.{with_length}

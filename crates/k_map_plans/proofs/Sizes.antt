@@ -7,12 +7,12 @@ use Rattle.disk_lines.specs.declared.Inode.{Inode}
 use Rattle.disk_lines.specs.declared.Kind.{Kind}
 use Rattle.disk_lines.specs.declared.Kind.TheVariants.{File}
 use Rattle.disk_lines.specs.Lines.{has_map_or_none, is_inode, is_inode_of_kind, most_bytes}
-use Rattle.disk_places.specs.Places.{reserve}
+use Rattle.k_plans.specs.disk_places.Places.{reserve}
 use Rattle.k_plans.specs.disk_rules.Rules.{file_blocks_of}
 use Rattle.k_plans.specs.disk_rules.Volume.{extents, inode}
-use Rattle.extent_words.specs.declared.Extent.{Extent}
-use Rattle.extent_words.specs.Extents.{IsCanonical}
-use Rattle.extent_words.specs.Maps.{IsPart}
+use Rattle.k_relink.specs.extent_words.declared.Extent.{Extent}
+use Rattle.k_relink.specs.extent_words.Extents.{IsCanonical}
+use Rattle.k_relink.specs.extent_words.Maps.{IsPart}
 use Rattle.k_plans.specs.Free.{free_blocks}
 use Rattle.k_plans.specs.View.{TablesView}
 use Rattle.k_plans.specs.Whole.{IsWhole}

@@ -10,14 +10,14 @@ use Rattle.disk_lines.specs.declared.Kind.TheVariants.{Staging}
 use Rattle.disk_lines.specs.Lines.{has_map_or_none, is_inode, is_inode_of_kind}
 use Rattle.k_plans.specs.disk_rules.Rules.{file_blocks_of}
 use Rattle.k_plans.specs.disk_rules.Volume.{Volume, extents, inode}
-use Rattle.extent_words.specs.declared.Extent.{Extent}
+use Rattle.k_relink.specs.extent_words.declared.Extent.{Extent}
 use Rattle.k_plans.specs.k_journal.declared.batches.Entry.{Entry}
 use Rattle.k_plans.specs.k_land.Plans.{NewChain}
 use Rattle.k_plans.specs.View.{TablesView}
 use Rattle.k_plans.specs.Whole.{IsWhole}
 use Rattle.block_counts.specs.Counts.{chains_for}
 use Rattle.k_plans.specs.block_pool.FreeSets.{is_among}
-use Rattle.disk_places.specs.Places.{reserve}
+use Rattle.k_plans.specs.disk_places.Places.{reserve}
 use Rattle.k_plans.specs.Free.{free_blocks, is_free_block}
 use Rattle.k_plans.specs.Switching.{IsMapPlan, IsSetAside, WaitOnce}
 use Rattle.k_plans.specs.map_rules.Changes.{aged, HasInOrder, IsPreallocated}

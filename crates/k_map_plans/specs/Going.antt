@@ -1,7 +1,7 @@
 -- One inode of the tables goes over to another map.
 use Rattle.std.specs.Prelude.{◌≡◌, ◌⊎◌, ◌<◌, ◌≤◌, ℕ, ◌+◌, All, true, List, [], ◌∷◌, length}
 use Rattle.block_counts.specs.Counts.{chains_for}
-use Rattle.extent_words.specs.declared.Extent.{Extent}
+use Rattle.k_relink.specs.extent_words.declared.Extent.{Extent}
 use Rattle.disk_lines.specs.declared.Inode.{Inode}
 use Rattle.disk_lines.specs.declared.Kind.TheVariants.{File, Staging}
 use Rattle.disk_lines.specs.Lines.{is_inode}

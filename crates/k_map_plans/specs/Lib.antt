@@ -13,3 +13,5 @@ pub use Rattle.k_plans.specs.image_layout as image_layout
 pub use Rattle.k_plans.specs.k_journal as k_journal
 pub use Rattle.k_plans.specs.map_rules as map_rules
 pub use Rattle.k_plans.specs.path_spelling as path_spelling
+pub use Rattle.disk_lines.specs.pm_words as pm_words
+pub use Rattle.extent_map.specs.extent_words as extent_words

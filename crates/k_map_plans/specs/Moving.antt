@@ -1,6 +1,6 @@
 -- The two inodes of a move go over to their maps, one after the other.
 use Rattle.std.specs.Prelude.{◌<◌, ℕ, List, length}
-use Rattle.extent_words.specs.declared.Extent.{Extent}
+use Rattle.k_relink.specs.extent_words.declared.Extent.{Extent}
 use Rattle.k_plans.specs.disk_rules.Volume.{Volume, inode}
 use Rattle.k_plans.specs.View.{TablesView}
 use Rattle.k_plans.specs.map_rules.Changes.{with_length}

@@ -2,9 +2,9 @@
 use Rattle.std.specs.Prelude.{◌≡◌, ◌≤◌, ◌<◌, ◌+◌, ◌-◌, ◌^◌, ◌==◌, nat_lt, ℕ, Bool, true, false, List, [], ◌∷◌, length, Option, None, Some, Result, Ok, Err}
 use Rattle.std.specs.declared.alloc.AllocError.{AllocError}
 use Rattle.disk_lines.specs.declared.Kind.TheVariants.{File, Staging}
-use Rattle.disk_places.specs.Places.{reserve}
+use Rattle.k_plans.specs.disk_places.Places.{reserve}
 use Rattle.k_plans.specs.disk_rules.Volume.{Volume, chain, extents, inode}
-use Rattle.extent_words.specs.declared.Extent.{Extent}
+use Rattle.k_relink.specs.extent_words.declared.Extent.{Extent}
 use Rattle.k_plans.specs.k_journal.declared.batches.Entry.{Entry}
 use Rattle.k_plans.specs.k_land.Plans.{NewChain}
 use Rattle.k_plans.specs.Free.{free_blocks, is_free_block}
@@ -12,14 +12,14 @@ use Rattle.k_plans.specs.Switching.{IsMapPlan}
 use Rattle.k_plans.specs.View.{TablesView}
 use Rattle.k_plans.specs.map_rules.Changes.{given_up, holes, IsFilled, IsMoved, IsPreallocated, IsSized}
 use Rattle.k_plans.specs.map_rules.declared.moves.Move.{Move}
-use Rattle.extent_words.specs.Moves.{IsMapped}
+use Rattle.k_relink.specs.extent_words.Moves.{IsMapped}
 use Rattle.disk_lines.specs.Lines.{most_bytes}
 use Rattle.posix_types.specs.declared.item.Outcome.{Outcome}
 use Rattle.posix_types.specs.declared.reply.Errno.{Errno}
 use Rattle.posix_types.specs.declared.reply.Reply.{Reply}
 use Rattle.posix_types.specs.declared.reply.Room.{Room}
 use Rattle.posix_types.specs.declared.reply.What.{What}
-use Rattle.posix_words.specs.Outcomes.{answer, first, idle_row, space_row}
+use Rattle.k_plans.specs.posix_words.Outcomes.{answer, first, idle_row, space_row}
 
 -- a file in use
 pub record IsLiveFile (ino : ℕ) (v : Volume) : Type 0 where

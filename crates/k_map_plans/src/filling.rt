@@ -9,9 +9,7 @@ ghost use Rattle.k_plans.specs.volume_uses.Uses.{in_chain, in_map};
 
 use crate::going::go_over;
 use extent_map::{Extent, ExtentMap};
-use k_plans::Tables;
-use k_plans::k_journal::Batch;
-use k_plans::k_land::NewMap;
+use k_plans::{Batch, NewMap, Tables};
 use posix_types::{Room, What};
 use std::alloc::{AllocError, Global};
 

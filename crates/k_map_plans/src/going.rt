@@ -1,6 +1,6 @@
 //! One inode goes over to another map.
 ghost use Rattle.std.specs.Prelude.{◌≡◌, [], All, IfOk, OnErr};
-ghost use Rattle.extent_words.specs.Extents.{IsExtent};
+ghost use Rattle.k_relink.specs.extent_words.Extents.{IsExtent};
 ghost use Rattle.k_map_plans.specs.Going.{HasGoneOver, MayGoOver};
 ghost use Rattle.k_plans.specs.Switching.{WaitOnce};
 
@@ -8,9 +8,7 @@ use crate::lists::push_extents;
 use block_counts::chains_for;
 use disk_lines::Inode;
 use extent_map::{Extent, ExtentMap};
-use k_plans::Tables;
-use k_plans::k_journal::Batch;
-use k_plans::k_land::NewMap;
+use k_plans::{Batch, NewMap, Tables};
 use std::alloc::{AllocError, Global};
 
 /// Sets blocks for a chain aside, gives the inode this line and this map, and plans it. The old

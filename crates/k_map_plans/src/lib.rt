@@ -18,8 +18,10 @@ mod sizing;
 mod staging;
 
 pub use filling::{may_fill, plan_fill};
-pub use k_plans;
-pub use k_plans::{image_layout, k_inodes, k_journal, k_land, k_reading};
+pub use k_plans::{
+    Batch, Commit, Geometry, Kind, NewMap, PlanFault, Recovered, Tables, fresh_image, land,
+    land_maps, read_base, read_inodes, read_maps, read_names, recover,
+};
 pub use moving::plan_move;
 pub use sizing::plan_size;
 pub use staging::{plan_give_up, plan_preallocate};

@@ -1,7 +1,7 @@
 //! Lists of the blocks of extents.
 ghost use Rattle.std.specs.Prelude.{◌≡◌, ◌<◌, ◌+◌, ◌^◌, ℕ, All, OnOk};
-ghost use Rattle.extent_facts.specs.Counts.{one_if};
-ghost use Rattle.extent_words.specs.Extents.{is_within, IsExtent};
+ghost use Rattle.k_relink.specs.extent_facts.Counts.{one_if};
+ghost use Rattle.k_relink.specs.extent_words.Extents.{is_within, IsExtent};
 ghost use Rattle.k_plans.specs.volume_uses.Uses.{in_chain, in_map};
 
 use extent_map::Extent;

@@ -1,10 +1,10 @@
 //! Blocks go from a staging file to a file.
 ghost use Rattle.std.specs.Prelude.{◌≡◌, ◌<◌, ◌≤◌, ◌+◌, ◌^◌, ◌∷◌, [], ℕ, List, length, IfOk, OnErr, OnOk};
-ghost use Rattle.disk_places.specs.Places.{reserve};
+ghost use Rattle.k_plans.specs.disk_places.Places.{reserve};
 ghost use Rattle.k_plans.specs.disk_rules.Volume.{Volume, chain, extents, inode};
-ghost use Rattle.extent_words.specs.Extents.{IsCanonical};
-ghost use Rattle.extent_words.specs.declared.Extent.{Extent};
-ghost use Rattle.extent_words.specs.Moves.{IsMapped, Moves};
+ghost use Rattle.k_relink.specs.extent_words.Extents.{IsCanonical};
+ghost use Rattle.k_relink.specs.extent_words.declared.Extent.{Extent};
+ghost use Rattle.k_relink.specs.extent_words.Moves.{IsMapped, Moves};
 ghost use Rattle.k_plans.specs.k_land.Plans.{IsMapFrom, NewChain, Turns};
 ghost use Rattle.k_map_plans.specs.Moving.{MayGoBoth, moved_volume};
 ghost use Rattle.k_map_plans.specs.Plans.{IsMovePlan, MayMove};
@@ -19,10 +19,7 @@ use crate::lists::push_extents;
 use block_counts::chains_for;
 use disk_lines::Inode;
 use extent_map::ExtentMap;
-use k_plans::Tables;
-use k_plans::k_journal::Batch;
-use k_plans::k_land::NewMap;
-use k_plans::map_rules::Move;
+use k_plans::{Batch, Move, NewMap, Tables};
 use k_relink::{RelinkFault, Relinked, relink};
 use std::alloc::{AllocError, Global};
 

@@ -1,7 +1,7 @@
 //! The size of a file.
 ghost use Rattle.std.specs.Prelude.{◌≡◌, ◌≤◌, ◌+◌, ◌∷◌, [], IfOk, OnErr, OnOk};
 ghost use Rattle.disk_lines.specs.Lines.{most_bytes};
-ghost use Rattle.disk_places.specs.Places.{reserve};
+ghost use Rattle.k_plans.specs.disk_places.Places.{reserve};
 ghost use Rattle.k_plans.specs.disk_rules.Volume.{chain};
 ghost use Rattle.k_map_plans.specs.Plans.{IsLiveFile, IsSizePlan};
 ghost use Rattle.k_plans.specs.Free.{free_blocks, is_free_block};
@@ -11,9 +11,7 @@ ghost use Rattle.k_plans.specs.map_rules.Changes.{IsSized};
 use crate::going::go_over;
 use block_counts::blocks_for;
 use disk_lines::Inode;
-use k_plans::Tables;
-use k_plans::k_journal::Batch;
-use k_plans::k_land::NewMap;
+use k_plans::{Batch, NewMap, Tables};
 use std::alloc::{AllocError, Global};
 
 // Cuts the map of a file and gives it the size. What the file has no longer waits then. After an

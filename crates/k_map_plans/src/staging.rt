@@ -1,6 +1,6 @@
 //! The blocks of a staging file: it gives them up, and gets new ones.
 ghost use Rattle.std.specs.Prelude.{◌≡◌, ◌≤◌, ◌<◌, ◌+◌, ◌^◌, ◌∷◌, [], All, length, IfOk, OnErr, OnOk};
-ghost use Rattle.disk_places.specs.Places.{reserve};
+ghost use Rattle.k_plans.specs.disk_places.Places.{reserve};
 ghost use Rattle.k_plans.specs.disk_rules.Volume.{chain, extents};
 ghost use Rattle.k_map_plans.specs.Plans.{IsGiveUpPlan, IsPreallocatePlan, IsStagingFile};
 ghost use Rattle.k_plans.specs.Free.{free_blocks, is_free_block};
@@ -10,9 +10,7 @@ ghost use Rattle.k_plans.specs.map_rules.Changes.{aged, given_up, HasInOrder, Is
 use crate::going::go_over;
 use disk_lines::Inode;
 use extent_map::{Extent, ExtentMap};
-use k_plans::Tables;
-use k_plans::k_journal::Batch;
-use k_plans::k_land::NewMap;
+use k_plans::{Batch, NewMap, Tables};
 use std::alloc::{AllocError, Global};
 
 // Takes the map of a staging file away. Its blocks wait then. After an error nothing is changed.

@@ -4,17 +4,17 @@ use Rattle.std.specs.List.{range_with_len}
 use Rattle.std.proofs.Common.{◌∙◌, sym, ap, subst, arith, inl, inr}
 use Rattle.std.proofs.Math.Path.{fun_ext}
 use Rattle.std.proofs.lemmas.List.Elements.{All-nil}
-use Rattle.block_counts.specs.Counts.{held_by}
-use Rattle.pm_words.specs.Bytes.{line_bytes-same}
-use Rattle.pm_words.specs.declared.Cell.{Cell}
-use Rattle.pm_words.specs.Images.{words_of}
-use Rattle.pm_words.specs.Words.{line_bytes, Words}
-use Rattle.disk_places.specs.Journal.{is_journal_word, journaled}
-use Rattle.disk_places.specs.Places.{commit_word, data_blocks, Geometry, is_journaled_line, log_line, reserve}
-use Rattle.disk_lines.specs.declared.Draft.{Draft}
-use Rattle.disk_lines.specs.declared.Inode.{Inode}
-use Rattle.disk_lines.specs.Entries.{held_seq, is_self_valid}
-use Rattle.disk_lines.specs.Names.{names_of}
+use Rattle.world_images.specs.block_counts.Counts.{held_by}
+use Rattle.world_images.specs.pm_words.Bytes.{line_bytes-same}
+use Rattle.world_images.specs.pm_words.declared.Cell.{Cell}
+use Rattle.world_images.specs.pm_words.Images.{words_of}
+use Rattle.world_images.specs.pm_words.Words.{line_bytes, Words}
+use Rattle.world_images.specs.disk_places.Journal.{is_journal_word, journaled}
+use Rattle.world_images.specs.disk_places.Places.{commit_word, data_blocks, Geometry, is_journaled_line, log_line, reserve}
+use Rattle.world_images.specs.disk_lines.declared.Draft.{Draft}
+use Rattle.world_images.specs.disk_lines.declared.Inode.{Inode}
+use Rattle.world_images.specs.disk_lines.Entries.{held_seq, is_self_valid}
+use Rattle.world_images.specs.disk_lines.Names.{names_of}
 use Rattle.world_images.specs.disk_rules.Checked.{IsCheckedAs, IsLogKept}
 use Rattle.world_images.specs.disk_rules.Kept.{AreKept}
 use Rattle.world_images.specs.disk_rules.Live.{entry_in, is_file, is_live, is_of_file, live_entries, valid_entries}

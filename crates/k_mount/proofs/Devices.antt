@@ -1,9 +1,9 @@
 -- A device keeps its size and what is lent of it, whatever K-Split makes of it.
 use Rattle.std.proofs.Common.{◌≡◌, ◌<◌, ◌≤◌, ◌^◌, ℕ, List, Option, Result, Ok, Err, refl, sym, ◌∙◌, subst, inl, inr}
 use Rattle.std.proofs.lemmas.Bool.{cases_lt}
-use Rattle.pm_words.specs.declared.Cell.{Cell}
-use Rattle.pm_words.specs.CellLaws.{single-home}
-use Rattle.pm_words.specs.Cells.{AllHome, AllSingle, cell}
+use Rattle.world_images.specs.pm_words.declared.Cell.{Cell}
+use Rattle.world_images.specs.pm_words.CellLaws.{single-home}
+use Rattle.world_images.specs.pm_words.Cells.{AllHome, AllSingle, cell}
 use Rattle.world_images.specs.disk_rules.Volume.{Volume}
 use Rattle.k_split.specs.k_journal.declared.outcomes.Commit.{Commit}
 use Rattle.world_images.specs.k_rules.View.{View}
@@ -11,7 +11,7 @@ use Rattle.k_split.specs.Answers.{Changes, IsAnswer, IsOff}
 use Rattle.k_split.specs.declared.faults.KFault.{KFault}
 use Rattle.k_split.specs.Laps.{IsBaseAnswer, IsRestartAnswer, LosesLog}
 use Rattle.k_split.specs.MapChanges.{IsMapAnswer}
-use Rattle.posix_types.specs.declared.item.Outcome.{Outcome}
+use Rattle.world_images.specs.posix_types.declared.item.Outcome.{Outcome}
 use Rattle.k_mount.specs.Sheds.{IsSameDevice}
 
 pub device-none : (d : List Cell) → IsSameDevice d d

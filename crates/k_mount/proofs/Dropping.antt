@@ -3,12 +3,12 @@ use Rattle.std.specs.Prelude.{◌≡◌, ◌≢◌, ◌⊎◌, ◌<◌, ◌≤�
 use Rattle.std.proofs.Common.{◌∙◌, sym, ap, subst, arith, inl, inr}
 use Rattle.std.proofs.lemmas.Bool.{cases_eq, cases_lt}
 use Rattle.std.proofs.lemmas.List.{get_or_past, length-set}
-use Rattle.pm_words.specs.Powers.{Steps, Supply}
-use Rattle.disk_places.specs.Places.{data_blocks, Geometry}
-use Rattle.disk_lines.specs.declared.Inode.{Inode}
-use Rattle.disk_lines.specs.declared.Kind.{Kind}
-use Rattle.disk_lines.specs.declared.Kind.TheVariants.{File, Free}
-use Rattle.disk_lines.specs.Names.{names_of}
+use Rattle.world_images.specs.pm_words.Powers.{Steps, Supply}
+use Rattle.world_images.specs.disk_places.Places.{data_blocks, Geometry}
+use Rattle.world_images.specs.disk_lines.declared.Inode.{Inode}
+use Rattle.world_images.specs.disk_lines.declared.Kind.{Kind}
+use Rattle.world_images.specs.disk_lines.declared.Kind.TheVariants.{File, Free}
+use Rattle.world_images.specs.disk_lines.Names.{names_of}
 use Rattle.world_images.specs.disk_rules.Room.{unused_blocks}
 use Rattle.world_images.specs.disk_rules.Rules.{file_blocks_of, IsKindAt}
 use Rattle.world_images.specs.disk_rules.Volume.{chain, extents, free_inode, inode, Volume}

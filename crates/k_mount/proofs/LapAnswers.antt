@@ -2,15 +2,15 @@
 use Rattle.std.specs.Prelude.{◌≡◌, ◌≤◌, ◌<◌, ◌^◌, ◌/◌, ℕ, true, false, List}
 use Rattle.std.proofs.Common.{◌∙◌, sym, ap, subst, arith, inl, inr}
 use Rattle.std.proofs.lemmas.Bool.{cases_lt}
-use Rattle.pm_words.specs.declared.Cell.{Cell}
-use Rattle.pm_words.specs.declared.Cell.TheVariants.{Single}
-use Rattle.pm_words.specs.CellLaws.{settled-single, single-newest}
-use Rattle.pm_words.specs.Cells.{AllSingle, cell, is_single, newest, Settles}
-use Rattle.pm_words.specs.ImageLaws.{IsImage-words_of}
-use Rattle.pm_words.specs.Images.{words_of}
-use Rattle.disk_places.specs.Journal.{is_journal_word}
-use Rattle.disk_places.specs.PlaceLaws.{behind_log-not_journaled, behind_log-words}
-use Rattle.disk_places.specs.Places.{is_journaled_line}
+use Rattle.world_images.specs.pm_words.declared.Cell.{Cell}
+use Rattle.world_images.specs.pm_words.declared.Cell.TheVariants.{Single}
+use Rattle.world_images.specs.pm_words.CellLaws.{settled-single, single-newest}
+use Rattle.world_images.specs.pm_words.Cells.{AllSingle, cell, is_single, newest, Settles}
+use Rattle.world_images.specs.pm_words.ImageLaws.{IsImage-words_of}
+use Rattle.world_images.specs.pm_words.Images.{words_of}
+use Rattle.world_images.specs.disk_places.Journal.{is_journal_word}
+use Rattle.world_images.specs.disk_places.PlaceLaws.{behind_log-not_journaled, behind_log-words}
+use Rattle.world_images.specs.disk_places.Places.{is_journaled_line}
 use Rattle.world_images.specs.disk_rules.Volume.{Volume}
 use Rattle.k_split.specs.k_journal.declared.outcomes.Commit.{Commit}
 use Rattle.world_images.specs.k_rules.View.{View}

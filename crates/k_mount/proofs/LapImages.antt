@@ -5,19 +5,19 @@ use Rattle.std.proofs.Common.{◌∙◌, sym, ap, subst, arith, inl, inr}
 use Rattle.std.proofs.Math.Path.{fun_ext}
 use Rattle.std.proofs.lemmas.Bool.Decides.{nat_tests}
 use Rattle.std.proofs.lemmas.List.Elements.{All-nil}
-use Rattle.pm_words.specs.Bytes.{line_bytes-same}
-use Rattle.pm_words.specs.Cells.{cell, newest}
-use Rattle.pm_words.specs.ImageLaws.{IsImage-words_of}
-use Rattle.pm_words.specs.Images.{words_of}
-use Rattle.pm_words.specs.Words.{line_bytes, Words}
-use Rattle.disk_places.specs.Fields.{zeros}
-use Rattle.disk_places.specs.Journal.{is_journal_word, IsSound, journaled}
-use Rattle.disk_places.specs.PlaceLaws.{behind_log-not_journaled, behind_log-words}
-use Rattle.disk_places.specs.Places.{commit_word, data_blocks, first_data, Geometry, is_data_block, is_journaled_line, log_line, reserve, state_line}
-use Rattle.disk_places.specs.Superblock.{geometry_at, has_magic, has_numbers, has_version}
-use Rattle.disk_lines.specs.declared.Draft.{Draft}
-use Rattle.disk_lines.specs.Entries.{decode_entry, held_seq, is_self_valid}
-use Rattle.disk_lines.specs.EntryLaws.{held_seq-decode_entry}
+use Rattle.world_images.specs.pm_words.Bytes.{line_bytes-same}
+use Rattle.world_images.specs.pm_words.Cells.{cell, newest}
+use Rattle.world_images.specs.pm_words.ImageLaws.{IsImage-words_of}
+use Rattle.world_images.specs.pm_words.Images.{words_of}
+use Rattle.world_images.specs.pm_words.Words.{line_bytes, Words}
+use Rattle.world_images.specs.disk_places.Fields.{zeros}
+use Rattle.world_images.specs.disk_places.Journal.{is_journal_word, IsSound, journaled}
+use Rattle.world_images.specs.disk_places.PlaceLaws.{behind_log-not_journaled, behind_log-words}
+use Rattle.world_images.specs.disk_places.Places.{commit_word, data_blocks, first_data, Geometry, is_data_block, is_journaled_line, log_line, reserve, state_line}
+use Rattle.world_images.specs.disk_places.Superblock.{geometry_at, has_magic, has_numbers, has_version}
+use Rattle.world_images.specs.disk_lines.declared.Draft.{Draft}
+use Rattle.world_images.specs.disk_lines.Entries.{decode_entry, held_seq, is_self_valid}
+use Rattle.world_images.specs.disk_lines.EntryLaws.{held_seq-decode_entry}
 use Rattle.world_images.specs.disk_rules.Checked.{IsCheckedAs, IsLogKept}
 use Rattle.world_images.specs.disk_rules.Content.{content, found, node_of}
 use Rattle.world_images.specs.disk_rules.Live.{entry_in, is_live, live_entries}
@@ -27,8 +27,8 @@ use Rattle.world_images.specs.disk_rules.Reading.{base_set, Reads}
 use Rattle.world_images.specs.disk_rules.Room.{has_none, held_after_recovery, unused_blocks}
 use Rattle.world_images.specs.disk_rules.Rules.{geometry_of, HasStagingBlocks, HasTarget, IsOfNoLater}
 use Rattle.world_images.specs.disk_rules.Volume.{Volume}
-use Rattle.list_facts.specs.Filters.{filter-In, filter_map-In, range-In}
-use Rattle.list_facts.specs.Members.{In}
+use Rattle.world_images.specs.list_facts.Filters.{filter-In, filter_map-In, range-In}
+use Rattle.world_images.specs.list_facts.Members.{In}
 use Rattle.world_images.specs.volume_facts.ImageLaws.{journaled-idle, journaled-other}
 use Rattle.world_images.specs.volume_facts.LineWords.{data_word, data_word-not_journaled}
 use Rattle.world_images.specs.volume_facts.ReadingLaws.{reads-volume}

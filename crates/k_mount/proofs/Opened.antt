@@ -2,17 +2,17 @@
 use Rattle.std.proofs.Common.{◌≡◌, ℕ, ◌+◌, ◌*◌, ◌/◌, ◌<◌, ◌≤◌, true, false, List, [], Some, refl, sym, ◌∙◌, ap, subst, arith, inl, inr}
 use Rattle.std.proofs.lemmas.Bool.{cases_lt}
 use Rattle.std.proofs.lemmas.List.{get_or_past}
-use Rattle.pm_words.specs.declared.Cell.TheVariants.{Single}
-use Rattle.pm_words.specs.Cells.{cell, newest}
-use Rattle.pm_words.specs.ImageLaws.{IsImage-words_of}
-use Rattle.pm_words.specs.Images.{words_of}
-use Rattle.pm_words.specs.Words.{Words}
-use Rattle.disk_places.specs.Journal.{is_journal_word, journaled}
-use Rattle.disk_places.specs.PlaceLaws.{behind_log-words}
-use Rattle.disk_places.specs.Places.{Geometry, is_data_block, is_journaled_line}
-use Rattle.extent_words.specs.Extents.{covers}
-use Rattle.disk_lines.specs.declared.Kind.{Kind}
-use Rattle.disk_lines.specs.declared.Kind.TheVariants.{Directory, File, Free, Staging}
+use Rattle.world_images.specs.pm_words.declared.Cell.TheVariants.{Single}
+use Rattle.world_images.specs.pm_words.Cells.{cell, newest}
+use Rattle.world_images.specs.pm_words.ImageLaws.{IsImage-words_of}
+use Rattle.world_images.specs.pm_words.Images.{words_of}
+use Rattle.world_images.specs.pm_words.Words.{Words}
+use Rattle.world_images.specs.disk_places.Journal.{is_journal_word, journaled}
+use Rattle.world_images.specs.disk_places.PlaceLaws.{behind_log-words}
+use Rattle.world_images.specs.disk_places.Places.{Geometry, is_data_block, is_journaled_line}
+use Rattle.world_images.specs.extent_words.Extents.{covers}
+use Rattle.world_images.specs.disk_lines.declared.Kind.{Kind}
+use Rattle.world_images.specs.disk_lines.declared.Kind.TheVariants.{Directory, File, Free, Staging}
 use Rattle.world_images.specs.disk_rules.Checked.{IsCheckedAs}
 use Rattle.world_images.specs.disk_rules.Content.{content, disk_of, found}
 use Rattle.world_images.specs.disk_rules.Kept.{AreKept}

@@ -1,14 +1,14 @@
 -- A device that is settled, as one that was recovered from its own words.
 use Rattle.std.specs.Prelude.{◌≡◌, ◌+◌, ◌*◌, ◌≤◌, ◌<◌, ◌^◌, [], refl}
 use Rattle.std.proofs.Common.{◌∙◌, sym, ap, subst, arith}
-use Rattle.pm_words.specs.CellLaws.{single-newest}
-use Rattle.pm_words.specs.Cells.{cell, newest}
-use Rattle.pm_words.specs.declared.Cell.TheVariants.{Single}
-use Rattle.pm_words.specs.ImageLaws.{IsImage-words_of}
-use Rattle.pm_words.specs.Images.{words_of}
-use Rattle.pm_words.specs.Powers.{Steps, Supply}
-use Rattle.disk_places.specs.Journal.{journaled}
-use Rattle.disk_places.specs.Places.{Geometry}
+use Rattle.world_images.specs.pm_words.CellLaws.{single-newest}
+use Rattle.world_images.specs.pm_words.Cells.{cell, newest}
+use Rattle.world_images.specs.pm_words.declared.Cell.TheVariants.{Single}
+use Rattle.world_images.specs.pm_words.ImageLaws.{IsImage-words_of}
+use Rattle.world_images.specs.pm_words.Images.{words_of}
+use Rattle.world_images.specs.pm_words.Powers.{Steps, Supply}
+use Rattle.world_images.specs.disk_places.Journal.{journaled}
+use Rattle.world_images.specs.disk_places.Places.{Geometry}
 use Rattle.world_images.specs.disk_rules.Live.{live_entries}
 use Rattle.world_images.specs.disk_rules.Volume.{Volume, volume}
 use Rattle.world_images.specs.volume_facts.ImageLaws.{journaled-idle}

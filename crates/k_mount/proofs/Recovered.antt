@@ -2,12 +2,12 @@
 use Rattle.std.specs.Prelude.{◌≡◌, ◌≤◌, ◌/◌, ◌*◌, ℕ, Bool, true, false, List, [], refl}
 use Rattle.std.proofs.Common.{◌∙◌, sym, ap, subst, arith, inl}
 use Rattle.std.proofs.Math.Path.{fun_ext}
-use Rattle.pm_words.specs.declared.Cell.{Cell}
-use Rattle.pm_words.specs.Cells.{newest}
-use Rattle.pm_words.specs.Images.{words_of}
-use Rattle.pm_words.specs.Words.{Words}
-use Rattle.disk_places.specs.Journal.{is_journal_word, IsSound, journaled}
-use Rattle.disk_places.specs.Places.{commit_word, Geometry, is_journaled_line}
+use Rattle.world_images.specs.pm_words.declared.Cell.{Cell}
+use Rattle.world_images.specs.pm_words.Cells.{newest}
+use Rattle.world_images.specs.pm_words.Images.{words_of}
+use Rattle.world_images.specs.pm_words.Words.{Words}
+use Rattle.world_images.specs.disk_places.Journal.{is_journal_word, IsSound, journaled}
+use Rattle.world_images.specs.disk_places.Places.{commit_word, Geometry, is_journaled_line}
 use Rattle.world_images.specs.disk_rules.Checked.{IsCheckedAs, IsLogKept}
 use Rattle.world_images.specs.disk_rules.Reading.{Reads}
 use Rattle.world_images.specs.disk_rules.Rules.{geometry_of, IsChecked}

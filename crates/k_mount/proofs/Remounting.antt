@@ -1,13 +1,13 @@
 -- What is left of a device, once the next lap began.
 use Rattle.std.specs.Prelude.{◌≡◌, ◌⊎◌, ◌<◌, ◌≤◌, ◌+◌, ◌^◌, ◌*◌, ◌/◌, ℕ, true, false, List, [], refl}
 use Rattle.std.proofs.Common.{◌∙◌, sym, ap, subst, arith, inl, inr}
-use Rattle.pm_words.specs.declared.Cell.TheVariants.{Single}
-use Rattle.pm_words.specs.Cells.{cell}
-use Rattle.pm_words.specs.Images.{words_of}
-use Rattle.pm_words.specs.Words.{Words}
-use Rattle.disk_places.specs.Journal.{is_journal_word, journaled}
-use Rattle.disk_places.specs.PlaceLaws.{behind_log-not_journaled, behind_log-words}
-use Rattle.disk_places.specs.Places.{Geometry, is_data_block, is_journaled_line, log_line}
+use Rattle.world_images.specs.pm_words.declared.Cell.TheVariants.{Single}
+use Rattle.world_images.specs.pm_words.Cells.{cell}
+use Rattle.world_images.specs.pm_words.Images.{words_of}
+use Rattle.world_images.specs.pm_words.Words.{Words}
+use Rattle.world_images.specs.disk_places.Journal.{is_journal_word, journaled}
+use Rattle.world_images.specs.disk_places.PlaceLaws.{behind_log-not_journaled, behind_log-words}
+use Rattle.world_images.specs.disk_places.Places.{Geometry, is_data_block, is_journaled_line, log_line}
 use Rattle.world_images.specs.disk_rules.Checked.{IsCheckedAs}
 use Rattle.world_images.specs.disk_rules.Content.{content, found}
 use Rattle.world_images.specs.disk_rules.Live.{live_entries}

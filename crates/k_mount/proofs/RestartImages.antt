@@ -5,19 +5,19 @@ use Rattle.std.specs.List.{range_with_len}
 use Rattle.std.proofs.Common.{◌∙◌, sym, ap, subst, arith, inl, inr}
 use Rattle.std.proofs.lemmas.Bool.{cases_Bool, cases_eq}
 use Rattle.std.proofs.lemmas.List.Elements.{All-nil}
-use Rattle.pm_words.specs.Bytes.{line_bytes-same}
-use Rattle.pm_words.specs.declared.Cell.{Cell}
-use Rattle.pm_words.specs.declared.Cell.TheVariants.{Single, Two, Marked, Lent}
-use Rattle.pm_words.specs.Cells.{cell, has_two, is_single, IsCandidate, newest, oldest}
-use Rattle.pm_words.specs.ImageLaws.{image-single, IsImage-words_of}
-use Rattle.pm_words.specs.Images.{IsImage, words_of}
-use Rattle.pm_words.specs.Words.{line_bytes, Words}
+use Rattle.world_images.specs.pm_words.Bytes.{line_bytes-same}
+use Rattle.world_images.specs.pm_words.declared.Cell.{Cell}
+use Rattle.world_images.specs.pm_words.declared.Cell.TheVariants.{Single, Two, Marked, Lent}
+use Rattle.world_images.specs.pm_words.Cells.{cell, has_two, is_single, IsCandidate, newest, oldest}
+use Rattle.world_images.specs.pm_words.ImageLaws.{image-single, IsImage-words_of}
+use Rattle.world_images.specs.pm_words.Images.{IsImage, words_of}
+use Rattle.world_images.specs.pm_words.Words.{line_bytes, Words}
 use Rattle.k_split.specs.block_bytes.Overwrites.{GoesToZero}
-use Rattle.disk_places.specs.Journal.{is_journal_word, IsSound, journaled}
-use Rattle.disk_places.specs.Places.{commit_word, Geometry, is_data_block, is_journaled_line, log_line}
-use Rattle.disk_lines.specs.declared.Draft.{Draft}
-use Rattle.disk_lines.specs.Entries.{decode_entry, held_seq, is_self_valid}
-use Rattle.disk_lines.specs.EntryLaws.{held_seq-decode_entry}
+use Rattle.world_images.specs.disk_places.Journal.{is_journal_word, IsSound, journaled}
+use Rattle.world_images.specs.disk_places.Places.{commit_word, Geometry, is_data_block, is_journaled_line, log_line}
+use Rattle.world_images.specs.disk_lines.declared.Draft.{Draft}
+use Rattle.world_images.specs.disk_lines.Entries.{decode_entry, held_seq, is_self_valid}
+use Rattle.world_images.specs.disk_lines.EntryLaws.{held_seq-decode_entry}
 use Rattle.world_images.specs.disk_rules.Checked.{IsCheckedAs, IsLogKept}
 use Rattle.world_images.specs.disk_rules.Content.{content, found}
 use Rattle.world_images.specs.disk_rules.Honest.{IsHonest}
@@ -36,8 +36,8 @@ use Rattle.world_images.specs.k_rules.View.{View}
 use Rattle.k_split.proofs.LogLaws.{data_beside, journal_beside, line_beside, seen}
 use Rattle.k_split.specs.Answers.{Changes, IsCut}
 use Rattle.k_split.specs.Laps.{ClearsLog, IsLogWord, IsRestartAnswer, LosesLog}
-use Rattle.list_facts.specs.Filters.{filter-In, filter_map-In, In-filter, In-filter_map, range-In}
-use Rattle.list_facts.specs.Members.{In}
+use Rattle.world_images.specs.list_facts.Filters.{filter-In, filter_map-In, In-filter, In-filter_map, range-In}
+use Rattle.world_images.specs.list_facts.Members.{In}
 use Rattle.world_images.specs.volume_facts.ImageLaws.{journaled-other}
 use Rattle.world_images.specs.volume_facts.ReadingLaws.{reads-same}
 use Rattle.k_mount.proofs.Dropping.{begun}

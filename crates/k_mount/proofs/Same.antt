@@ -3,15 +3,15 @@ use Rattle.std.specs.Prelude.{◌≡◌, ◌⊎◌, ◌/◌, ℕ, List, [], ◌�
 use Rattle.std.specs.List.{range_with_len}
 use Rattle.std.proofs.Common.{◌∙◌, sym, ap, inl, inr}
 use Rattle.std.proofs.lemmas.Option.{same_Some}
-use Rattle.pm_words.specs.Words.{Words}
-use Rattle.extent_words.specs.Extents.{disk_at}
-use Rattle.disk_lines.specs.declared.Kind.TheVariants.{Directory, File}
-use Rattle.disk_lines.specs.Names.{Rows, walk}
-use Rattle.disk_lines.specs.TableLaws.{walk-step}
+use Rattle.world_images.specs.pm_words.Words.{Words}
+use Rattle.world_images.specs.extent_words.Extents.{disk_at}
+use Rattle.world_images.specs.disk_lines.declared.Kind.TheVariants.{Directory, File}
+use Rattle.world_images.specs.disk_lines.Names.{Rows, walk}
+use Rattle.world_images.specs.disk_lines.TableLaws.{walk-step}
 use Rattle.world_images.specs.disk_rules.Content.{byte_in, found, HasBytes, IsDirectory, Node, node_by, node_of}
 use Rattle.world_images.specs.disk_rules.Volume.{inode, Volume}
 use Rattle.k_split.specs.k_content.Trees.{tree_node}
-use Rattle.posix_types.specs.declared.tree.TreeNode.{TreeNode}
+use Rattle.world_images.specs.posix_types.declared.tree.TreeNode.{TreeNode}
 use Rattle.world_images.specs.world_rules.Shown.{shown_as}
 use Rattle.world_images.specs.world_steps.Nameless.{count-nameless, IsNameless}
 use Rattle.k_mount.specs.Laws.{ShowsTheSame, TreesAreOfContent}

@@ -2,13 +2,13 @@
 use Rattle.std.specs.Prelude.{◌≡◌, ◌<◌, ◌≤◌, ◌*◌, ◌/◌, ◌^◌, ℕ, false, true, [], refl}
 use Rattle.std.proofs.Common.{◌∙◌, sym, ap, subst, arith, inl, inr}
 use Rattle.std.proofs.lemmas.Bool.{cases_lt}
-use Rattle.pm_words.specs.CellLaws.{single-home}
-use Rattle.pm_words.specs.Cells.{cell, newest}
-use Rattle.pm_words.specs.ImageLaws.{Follows-from_words, image-single, IsImage-words_of}
-use Rattle.pm_words.specs.Images.{Follows, words_of}
-use Rattle.pm_words.specs.Words.{Words}
-use Rattle.disk_places.specs.Journal.{IsSound, journaled}
-use Rattle.disk_places.specs.Places.{Geometry, is_data_block, is_journaled_line}
+use Rattle.world_images.specs.pm_words.CellLaws.{single-home}
+use Rattle.world_images.specs.pm_words.Cells.{cell, newest}
+use Rattle.world_images.specs.pm_words.ImageLaws.{Follows-from_words, image-single, IsImage-words_of}
+use Rattle.world_images.specs.pm_words.Images.{Follows, words_of}
+use Rattle.world_images.specs.pm_words.Words.{Words}
+use Rattle.world_images.specs.disk_places.Journal.{IsSound, journaled}
+use Rattle.world_images.specs.disk_places.Places.{Geometry, is_data_block, is_journaled_line}
 use Rattle.world_images.specs.disk_rules.Checked.{IsCheckedAs}
 use Rattle.world_images.specs.disk_rules.Content.{content, found}
 use Rattle.world_images.specs.disk_rules.Kept.{AreKept}

@@ -1,11 +1,11 @@
 -- One image after the other that shows what the first did.
 use Rattle.std.proofs.Common.{◌≡◌, List, sym, subst, ◌∙◌}
-use Rattle.pm_words.specs.declared.Cell.{Cell}
-use Rattle.pm_words.specs.Cells.{AllSingle}
-use Rattle.pm_words.specs.ImageLaws.{image-single}
-use Rattle.pm_words.specs.Images.{Follows, words_of}
-use Rattle.pm_words.specs.Words.{Words}
-use Rattle.disk_places.specs.Places.{Geometry}
+use Rattle.world_images.specs.pm_words.declared.Cell.{Cell}
+use Rattle.world_images.specs.pm_words.Cells.{AllSingle}
+use Rattle.world_images.specs.pm_words.ImageLaws.{image-single}
+use Rattle.world_images.specs.pm_words.Images.{Follows, words_of}
+use Rattle.world_images.specs.pm_words.Words.{Words}
+use Rattle.world_images.specs.disk_places.Places.{Geometry}
 use Rattle.k_mount.specs.Sheds.{StaysShown, StillShows}
 
 pub still-then : (g : Geometry) (a b c : Words) → StillShows g a b → StillShows g b c → StillShows g a c

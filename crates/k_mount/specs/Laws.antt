@@ -1,18 +1,18 @@
 -- The laws of remounting, each as one statement.
 use Rattle.std.specs.Prelude.{◌≡◌, ◌*◌, ℕ, false, List, [], Option}
-use Rattle.pm_words.specs.declared.Cell.{Cell}
-use Rattle.pm_words.specs.declared.Cell.TheVariants.{Single}
-use Rattle.pm_words.specs.Cells.{cell}
-use Rattle.pm_words.specs.Images.{words_of}
-use Rattle.pm_words.specs.Words.{Words}
-use Rattle.disk_places.specs.Journal.{is_journal_word, journaled}
-use Rattle.disk_places.specs.Places.{commit_word, Geometry}
-use Rattle.disk_lines.specs.declared.Kind.TheVariants.{Directory}
+use Rattle.world_images.specs.pm_words.declared.Cell.{Cell}
+use Rattle.world_images.specs.pm_words.declared.Cell.TheVariants.{Single}
+use Rattle.world_images.specs.pm_words.Cells.{cell}
+use Rattle.world_images.specs.pm_words.Images.{words_of}
+use Rattle.world_images.specs.pm_words.Words.{Words}
+use Rattle.world_images.specs.disk_places.Journal.{is_journal_word, journaled}
+use Rattle.world_images.specs.disk_places.Places.{commit_word, Geometry}
+use Rattle.world_images.specs.disk_lines.declared.Kind.TheVariants.{Directory}
 use Rattle.world_images.specs.disk_rules.Content.{found, Node}
 use Rattle.world_images.specs.disk_rules.Rules.{geometry_of, IsChecked}
 use Rattle.world_images.specs.disk_rules.Volume.{inode, Volume}
 use Rattle.k_split.specs.k_content.Trees.{tree_content}
-use Rattle.posix_types.specs.declared.tree.TreeEntry.{TreeEntry}
+use Rattle.world_images.specs.posix_types.declared.tree.TreeEntry.{TreeEntry}
 use Rattle.world_images.specs.posix_trees.TreeOf.{IsTreeOf}
 use Rattle.world_images.specs.world_rules.Shown.{IsTreeOfContent}
 use Rattle.k_mount.specs.Sheds.{Sheds}

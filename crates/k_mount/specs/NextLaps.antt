@@ -1,10 +1,10 @@
 -- The next lap of the log, which a mount begins, so that no entry of it is valid.
 use Rattle.std.specs.Prelude.{◌≡◌, ◌⊎◌, ◌≤◌, ◌<◌, ◌^◌, ◌/◌, ℕ, false}
-use Rattle.pm_words.specs.declared.Cell.TheVariants.{Single}
-use Rattle.pm_words.specs.Cells.{cell}
-use Rattle.pm_words.specs.Words.{Words}
-use Rattle.disk_places.specs.Journal.{is_journal_word}
-use Rattle.disk_places.specs.Places.{is_journaled_line}
+use Rattle.world_images.specs.pm_words.declared.Cell.TheVariants.{Single}
+use Rattle.world_images.specs.pm_words.Cells.{cell}
+use Rattle.world_images.specs.pm_words.Words.{Words}
+use Rattle.world_images.specs.disk_places.Journal.{is_journal_word}
+use Rattle.world_images.specs.disk_places.Places.{is_journaled_line}
 use Rattle.world_images.specs.disk_rules.Reading.{base_set}
 use Rattle.world_images.specs.disk_rules.Volume.{Volume}
 use Rattle.world_images.specs.k_rules.View.{View}

@@ -1,15 +1,15 @@
 -- Volumes of which some nameless files are gone, and what is left of a device that is settled.
 use Rattle.std.specs.Prelude.{◌≡◌, ◌⊎◌, ◌≤◌, ◌/◌, ◌*◌, ℕ, false, List, [], length}
-use Rattle.pm_words.specs.declared.Cell.{Cell}
-use Rattle.pm_words.specs.declared.Cell.TheVariants.{Single}
-use Rattle.pm_words.specs.Cells.{AllSingle, cell}
-use Rattle.pm_words.specs.Frames.{SameLent}
-use Rattle.pm_words.specs.Images.{IsImage, words_of}
-use Rattle.pm_words.specs.Words.{Words}
-use Rattle.disk_places.specs.Journal.{is_journal_word, journaled}
-use Rattle.disk_places.specs.Places.{Geometry, is_journaled_line}
-use Rattle.disk_lines.specs.declared.Kind.TheVariants.{File}
-use Rattle.disk_lines.specs.Names.{names_of}
+use Rattle.world_images.specs.pm_words.declared.Cell.{Cell}
+use Rattle.world_images.specs.pm_words.declared.Cell.TheVariants.{Single}
+use Rattle.world_images.specs.pm_words.Cells.{AllSingle, cell}
+use Rattle.world_images.specs.pm_words.Frames.{SameLent}
+use Rattle.world_images.specs.pm_words.Images.{IsImage, words_of}
+use Rattle.world_images.specs.pm_words.Words.{Words}
+use Rattle.world_images.specs.disk_places.Journal.{is_journal_word, journaled}
+use Rattle.world_images.specs.disk_places.Places.{Geometry, is_journaled_line}
+use Rattle.world_images.specs.disk_lines.declared.Kind.TheVariants.{File}
+use Rattle.world_images.specs.disk_lines.Names.{names_of}
 use Rattle.world_images.specs.disk_rules.Checked.{IsCheckedAs}
 use Rattle.world_images.specs.disk_rules.Content.{content}
 use Rattle.world_images.specs.disk_rules.Honest.{IsHonest}

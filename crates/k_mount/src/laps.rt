@@ -1,12 +1,11 @@
 //! The log's next lap, so that no line of the log is an entry of it.
 ghost use Rattle.std.specs.Prelude.{◌≡◌, ◌+◌, ◌*◌, ◌^◌, ◌≤◌, ◌<◌};
-ghost use Rattle.pm_words.specs.Powers.{Steps};
+ghost use Rattle.world_images.specs.pm_words.Powers.{Steps};
 ghost use Rattle.k_split.specs.Answers.{IsCommitPaid};
 ghost use Rattle.k_split.specs.Laps.{IsBaseAnswer, IsRestartAnswer, next_base};
 ghost use Rattle.k_mount.specs.Sheds.{IsAtRest};
 
-use k_split::KSplit;
-use k_split::k_journal::Commit;
+use k_split::{Commit, KSplit};
 use pm_lines::Power;
 
 // The highest log base that rises: above it the log begins anew.

@@ -27,5 +27,4 @@ pub fn a_remount_shows_the_same()
     ensures trees { TreesAreOfContent }
 {}
 
-pub use k_split;
-pub use k_split::{k_journal, map_rules};
+pub use k_split::{Commit, KFault, KSplit, Move};

@@ -1,13 +1,11 @@
 //! Files without a name go.
 ghost use Rattle.std.specs.Prelude.{◌≡◌, ◌↔◌, ◌*◌, true, IsTrue};
-ghost use Rattle.pm_words.specs.Images.{Follows};
-ghost use Rattle.pm_words.specs.Powers.{is_on, Steps};
+ghost use Rattle.world_images.specs.pm_words.Images.{Follows};
+ghost use Rattle.world_images.specs.pm_words.Powers.{is_on, Steps};
 ghost use Rattle.k_split.specs.Answers.{IsCommitPaid};
 ghost use Rattle.k_mount.specs.Sheds.{IsAtRest, IsNameless, IsSameDevice, IsShedCut, IsShedOne, LosesNameless, MaySettle, OnCommit, OnLost, StillShows};
 
-use k_split::k_inodes::Kind;
-use k_split::k_journal::Commit;
-use k_split::{KFault, KSplit};
+use k_split::{Commit, KFault, KSplit, Kind};
 use pm_lines::Power;
 
 // The inodes below are those of the root and of the staging files.

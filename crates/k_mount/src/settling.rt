@@ -1,14 +1,13 @@
 //! A device is settled: nameless files go, and the log's next lap begins.
 ghost use Rattle.std.specs.Prelude.{◌+◌, ◌*◌};
-ghost use Rattle.pm_words.specs.Images.{words_of};
-ghost use Rattle.pm_words.specs.Powers.{Steps};
+ghost use Rattle.world_images.specs.pm_words.Images.{words_of};
+ghost use Rattle.world_images.specs.pm_words.Powers.{Steps};
 ghost use Rattle.k_mount.specs.Sheds.{IsSameDevice, IsSettled, MaySettle, OnCommit, StaysShown};
 ghost use Rattle.k_split.specs.Answers.{IsCommitPaid};
 
 use crate::laps::begin_lap;
 use crate::nameless::drop_nameless;
-use k_split::KSplit;
-use k_split::k_journal::Commit;
+use k_split::{Commit, KSplit};
 use pm_lines::Power;
 
 /// Settles a device of whose log no entry is live: files go to which no name leads, and the log's next lap

@@ -1,7 +1,7 @@
 //! The names of a directory, in order.
 
 ghost use Rattle.std.specs.Prelude.{◌≡◌, ◌≤◌, ℕ, List, IfOk, IsSorted, IsPermutation, count_by};
-ghost use Rattle.disk_places.specs.Fields.{is_same};
+ghost use Rattle.disk_lines.specs.disk_places.Fields.{is_same};
 ghost use Rattle.std.specs.Cmp.Lexicographic.{slice_cmp};
 ghost use Rattle.std.specs.Ordering.{nat_cmp};
 ghost use Rattle.disk_lines.specs.Tables.{IsKeyed, names_below};

@@ -3,7 +3,7 @@ ghost use Rattle.std.specs.Prelude.{◌≡◌, ◌<◌, ◌≤◌, ℕ, List, le
 ghost use Rattle.std.specs.List.{list_all};
 ghost use Rattle.disk_lines.specs.Lines.{NameRow, FreeName, Named, line_name_bytes, is_name_byte, is_dots, is_name, encode_name, is_name_row, decode_name};
 ghost use Rattle.disk_lines.specs.NameLaws.{FitsName, IsNameLine};
-ghost use Rattle.disk_places.specs.Fields.{zeros};
+ghost use Rattle.disk_lines.specs.disk_places.Fields.{zeros};
 ghost use Rattle.k_names.specs.Decoding.{slot_of};
 
 use line_fields::{put_u32, u32_at};

@@ -1,6 +1,6 @@
 //! The table of the names of an image.
 ghost use Rattle.std.specs.Prelude.{◌≡◌, ◌<◌, ◌≤◌, ◌↔◌, ℕ, List, length, true, false, replicate, slice_set, Some, None, IsTrue, IfSome, IfNone, IfOk, IsSorted, IsPermutation, count_by};
-ghost use Rattle.disk_places.specs.Fields.{is_same};
+ghost use Rattle.disk_lines.specs.disk_places.Fields.{is_same};
 ghost use Rattle.std.specs.Cmp.Lexicographic.{slice_cmp};
 ghost use Rattle.std.specs.Ordering.{nat_cmp};
 ghost use Rattle.disk_lines.specs.Names.{row, is_entry, is_free_row, find_name, free_line, IsBelow, HasHeight};

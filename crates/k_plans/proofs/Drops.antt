@@ -7,15 +7,15 @@ use Rattle.std.proofs.lemmas.List.Folds.{Any-from_list_any, list_any_at}
 use Rattle.std.specs.Prelude.{◌==◌, ◌&&◌, ◌||◌, All}
 use Rattle.k_reading.specs.block_pool.FreeSets.{FreeSet, LiesWithin, has_block, is_among, is_free_at}
 use Rattle.disk_lines.specs.declared.Inode.{Inode}
-use Rattle.disk_places.specs.Places.{is_data_block}
+use Rattle.path_spelling.specs.disk_places.Places.{is_data_block}
 use Rattle.k_tables.specs.disk_rules.Placed.{block_at, extent_at, no_extent}
 use Rattle.k_tables.specs.disk_rules.Room.{has_none}
 use Rattle.disk_lines.specs.declared.Kind.TheVariants.{File}
 use Rattle.k_tables.specs.disk_rules.Rules.{IsInData, IsKindAt, file_blocks_of}
 use Rattle.k_tables.specs.disk_rules.Uses.{owners}
 use Rattle.k_tables.specs.disk_rules.Volume.{Volume, chain, extents, inode}
-use Rattle.extent_words.specs.declared.Extent.{Extent}
-use Rattle.extent_words.specs.Extents.{covers, holds_disk}
+use Rattle.k_tables.specs.extent_words.declared.Extent.{Extent}
+use Rattle.k_tables.specs.extent_words.Extents.{covers, holds_disk}
 use Rattle.k_tables.specs.k_rules.Changes.{dropped, gone_node}
 use Rattle.volume_maps.specs.volume_changes.Changes.{MayDrop}
 use Rattle.volume_maps.specs.volume_changes.CountLaws.{gone_node-fits}

@@ -6,7 +6,7 @@ use Rattle.std.proofs.lemmas.List.Folds.{list_any_at}
 use Rattle.std.specs.Prelude.{nat_le, nat_lt, not, ◌&&◌}
 use Rattle.std.specs.List.{list_all, list_any}
 use Rattle.disk_lines.specs.Lines.{is_dots, is_name, is_name_byte}
-use Rattle.posix_words.specs.Names.{is_root, last_name, longest_path, too_long}
+use Rattle.k_tables.specs.posix_words.Names.{is_root, last_name, longest_path, too_long}
 use Rattle.k_tables.specs.volume_names.TreeLaws.{some-names}
 use Rattle.path_spelling.specs.Spelling.{AreSpelled, is_spelled}
 

@@ -16,7 +16,7 @@ use Rattle.k_land.specs.Plans.{Turns}
 use Rattle.k_tables.specs.k_rules.Changes.{new_node}
 use Rattle.k_tables.specs.Found.{IsPlace}
 use Rattle.k_tables.specs.declared.making.Place.{Place}
-use Rattle.posix_words.specs.Names.{last_name}
+use Rattle.k_tables.specs.posix_words.Names.{last_name}
 use Rattle.volume_maps.specs.volume_changes.CallLaws.{may-make, row_to}
 use Rattle.volume_maps.specs.volume_changes.Changes.{MayMake}
 use Rattle.volume_maps.specs.volume_changes.CountLaws.{made-owners, new_node-fits}

@@ -18,9 +18,9 @@ use Rattle.k_tables.specs.name_facts.KeptLaws.{kept-keyed, node-below}
 use Rattle.k_tables.specs.name_facts.RowLaws.{names_of-zero}
 use Rattle.k_tables.specs.name_facts.SetLaws.{row-freed}
 use Rattle.posix_types.specs.declared.reply.Errno.{Errno}
-use Rattle.posix_words.specs.NameRows.{rename_rows}
-use Rattle.posix_words.specs.Names.{Space, child_of, last_name, walk}
-use Rattle.posix_words.specs.Outcomes.{first}
+use Rattle.k_tables.specs.posix_words.NameRows.{rename_rows}
+use Rattle.k_tables.specs.posix_words.Names.{Space, child_of, last_name, walk}
+use Rattle.k_tables.specs.posix_words.Outcomes.{first}
 use Rattle.volume_maps.specs.volume_changes.CallLaws.{may-rename, row_to}
 use Rattle.volume_maps.specs.volume_changes.CountLaws.{gone_node-fits}
 use Rattle.volume_maps.specs.volume_changes.FoundLaws.{rename-keeps, rename-over_directory-keeps, rename-over_file-keeps, row-found}

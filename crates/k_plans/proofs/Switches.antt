@@ -5,11 +5,11 @@ use Rattle.std.proofs.lemmas.List.Folds.{Any-from_list_any}
 use Rattle.std.specs.Prelude.{◌==◌, ◌&&◌, ◌||◌, All}
 use Rattle.k_reading.specs.block_pool.FreeSets.{FreeSet, Takes, is_among, is_free_at}
 use Rattle.disk_lines.specs.declared.Inode.{Inode}
-use Rattle.disk_places.specs.Places.{is_data_block}
+use Rattle.path_spelling.specs.disk_places.Places.{is_data_block}
 use Rattle.k_tables.specs.disk_rules.Placed.{block_at}
 use Rattle.k_tables.specs.disk_rules.Volume.{Volume, chain}
-use Rattle.extent_words.specs.declared.Extent.{Extent}
-use Rattle.extent_words.specs.Extents.{IsCanonical}
+use Rattle.k_tables.specs.extent_words.declared.Extent.{Extent}
+use Rattle.k_tables.specs.extent_words.Extents.{IsCanonical}
 use Rattle.volume_maps.specs.map_rules.Taken.{switched, with_map}
 use Rattle.volume_maps.specs.volume_changes.LineLaws.{lines-inode, maps-inode}
 use Rattle.k_tables.specs.volume_facts.Changes.{chain-set_other, chain-set_same}

@@ -9,7 +9,7 @@ use Rattle.disk_lines.specs.declared.Kind.{Kind}
 use Rattle.disk_lines.specs.declared.Kind.TheVariants.{Free, Directory, File, Staging}
 use Rattle.disk_lines.specs.Lines.{is_inode, is_inode_of_kind}
 use Rattle.disk_lines.specs.Names.{Rows}
-use Rattle.disk_places.specs.Places.{is_data_block, first_data, data_blocks}
+use Rattle.path_spelling.specs.disk_places.Places.{is_data_block, first_data, data_blocks}
 use Rattle.k_tables.specs.disk_rules.Live.{is_directory}
 use Rattle.k_tables.specs.disk_rules.Reading.{node_set}
 use Rattle.k_tables.specs.disk_rules.Room.{has_none}

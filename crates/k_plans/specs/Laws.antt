@@ -1,7 +1,7 @@
 -- Laws of tables for the layer above.
 use Rattle.std.specs.Prelude.{◌≡◌, ◌≤◌, ℕ, List, []}
-use Rattle.pm_words.specs.Words.{Words}
-use Rattle.disk_places.specs.Places.{Geometry, IsGeometry}
+use Rattle.path_spelling.specs.pm_words.Words.{Words}
+use Rattle.path_spelling.specs.disk_places.Places.{Geometry, IsGeometry}
 use Rattle.k_tables.specs.disk_rules.Kept.{AreKept}
 use Rattle.k_tables.specs.disk_rules.Reading.{Reads}
 use Rattle.k_tables.specs.disk_rules.Room.{unused_blocks}

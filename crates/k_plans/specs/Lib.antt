@@ -23,3 +23,7 @@ pub use Rattle.k_tables.specs.k_rules as k_rules
 pub use Rattle.k_tables.specs.volume_facts as volume_facts
 pub use Rattle.path_spelling.specs as path_spelling
 pub use Rattle.volume_maps.specs.map_rules as map_rules
+pub use Rattle.disk_lines.specs.disk_places as disk_places
+pub use Rattle.extent_map.specs.extent_facts as extent_facts
+pub use Rattle.k_tables.specs.posix_words as posix_words
+pub use Rattle.posix_types.specs as posix_types

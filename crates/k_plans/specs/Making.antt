@@ -8,8 +8,8 @@ use Rattle.k_tables.specs.k_rules.Changes.{made}
 use Rattle.k_tables.specs.k_rules.Spaces.{volume_space}
 use Rattle.k_tables.specs.Found.{IsPlace}
 use Rattle.k_tables.specs.declared.making.Place.{Place}
-use Rattle.posix_words.specs.NameRows.{mkdir_rows}
-use Rattle.posix_words.specs.Outcomes.{first}
+use Rattle.k_tables.specs.posix_words.NameRows.{mkdir_rows}
+use Rattle.k_tables.specs.posix_words.Outcomes.{first}
 use Rattle.volume_maps.specs.volume_changes.CallLaws.{row_to}
 use Rattle.k_plans.specs.Plans.{IsPlan, IsNotMade}
 use Rattle.k_plans.specs.View.{TablesView}

@@ -6,7 +6,7 @@ use Rattle.k_land.specs.Plans.{Turns}
 use Rattle.posix_types.specs.declared.item.Outcome.{Outcome}
 use Rattle.posix_types.specs.declared.reply.Errno.{Errno}
 use Rattle.posix_types.specs.declared.reply.Reply.{Reply}
-use Rattle.posix_words.specs.Outcomes.{answer}
+use Rattle.k_tables.specs.posix_words.Outcomes.{answer}
 use Rattle.k_plans.specs.View.{TablesView}
 use Rattle.k_plans.specs.Whole.{IsWhole}
 use Rattle.k_plans.specs.declared.faults.PlanFault.{PlanFault}

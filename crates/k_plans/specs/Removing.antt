@@ -6,8 +6,8 @@ use Rattle.k_tables.specs.k_rules.Changes.{removed, unnamed}
 use Rattle.k_tables.specs.k_rules.Spaces.{volume_space}
 use Rattle.k_tables.specs.Found.{IsDirectoryAt, IsFileAt}
 use Rattle.k_tables.specs.declared.removing.Entry.{Entry}
-use Rattle.posix_words.specs.NameRows.{rmdir_rows, unlink_rows}
-use Rattle.posix_words.specs.Outcomes.{first}
+use Rattle.k_tables.specs.posix_words.NameRows.{rmdir_rows, unlink_rows}
+use Rattle.k_tables.specs.posix_words.Outcomes.{first}
 use Rattle.k_plans.specs.Plans.{IsPlan, IsNotMade}
 use Rattle.k_plans.specs.View.{TablesView}
 use Rattle.k_plans.specs.declared.faults.PlanFault.{PlanFault}

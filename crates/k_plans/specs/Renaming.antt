@@ -11,8 +11,8 @@ use Rattle.k_tables.specs.declared.removing.Entry.{Entry}
 use Rattle.k_tables.specs.declared.renaming.Moving.{Moving}
 use Rattle.posix_types.specs.declared.item.Outcome.{Outcome}
 use Rattle.posix_types.specs.declared.reply.Reply.{Reply}
-use Rattle.posix_words.specs.NameRows.{rename_rows}
-use Rattle.posix_words.specs.Outcomes.{answer, first}
+use Rattle.k_tables.specs.posix_words.NameRows.{rename_rows}
+use Rattle.k_tables.specs.posix_words.Outcomes.{answer, first}
 use Rattle.volume_maps.specs.volume_changes.CallLaws.{row_to}
 use Rattle.k_plans.specs.Plans.{IsPlan, IsFaultOf, IsNotMade}
 use Rattle.k_plans.specs.View.{TablesView}

@@ -1,9 +1,9 @@
 -- An inode of the tables that goes over to another map: blocks that are set aside for it, and what is planned.
 use Rattle.std.specs.Prelude.{◌≡◌, ◌<◌, ◌≤◌, ℕ, All, true, List, ◌++◌, length}
-use Rattle.block_counts.specs.Counts.{chains_for}
+use Rattle.path_spelling.specs.block_counts.Counts.{chains_for}
 use Rattle.k_tables.specs.disk_rules.Placed.{AreDistinct}
 use Rattle.k_tables.specs.disk_rules.Volume.{Volume}
-use Rattle.extent_words.specs.declared.Extent.{Extent}
+use Rattle.k_tables.specs.extent_words.declared.Extent.{Extent}
 use Rattle.disk_lines.specs.declared.Inode.{Inode}
 use Rattle.k_land.specs.k_journal.declared.batches.Entry.{Entry}
 use Rattle.k_land.specs.Maps.{AreApart, write_steps}

@@ -1,7 +1,7 @@
 -- What contracts see of the tables in memory.
 use Rattle.std.specs.Prelude.{ℕ, List, Option, Some, None, if◌then◌else◌}
-use Rattle.disk_places.specs.Places.{Geometry}
-use Rattle.extent_words.specs.declared.Extent.{Extent}
+use Rattle.path_spelling.specs.disk_places.Places.{Geometry}
+use Rattle.k_tables.specs.extent_words.declared.Extent.{Extent}
 use Rattle.disk_lines.specs.declared.Inode.{Inode}
 use Rattle.disk_lines.specs.Names.{Rows}
 use Rattle.k_tables.specs.disk_rules.Volume.{Volume, inode}

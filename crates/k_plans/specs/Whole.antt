@@ -1,7 +1,7 @@
 -- What tables keep of their volume.
 use Rattle.std.specs.Prelude.{◌≡◌, ℕ, All, true}
 use Rattle.disk_lines.specs.Lines.{is_inode}
-use Rattle.disk_places.specs.Places.{is_data_block}
+use Rattle.path_spelling.specs.disk_places.Places.{is_data_block}
 use Rattle.k_tables.specs.disk_rules.Volume.{Volume, inode, chain}
 use Rattle.volume_maps.specs.volume_changes.CallLaws.{IsKeptVolume}
 use Rattle.k_land.specs.volume_uses.Uses.{HasAllMaps}

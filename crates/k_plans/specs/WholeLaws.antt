@@ -3,8 +3,8 @@ use Rattle.std.specs.Prelude.{◌≡◌, ℕ, List, [], All, true}
 use Rattle.std.proofs.Common.{arith, ap, sym, subst, inl, inr}
 use Rattle.std.proofs.lemmas.Bool.{cases_lt}
 use Rattle.std.proofs.lemmas.List.{get_or_past}
-use Rattle.pm_words.specs.Words.{Words, line_bytes}
-use Rattle.disk_places.specs.Places.{Geometry, IsGeometry, inode_line, is_data_block}
+use Rattle.path_spelling.specs.pm_words.Words.{Words, line_bytes}
+use Rattle.path_spelling.specs.disk_places.Places.{Geometry, IsGeometry, inode_line, is_data_block}
 use Rattle.disk_lines.specs.LineLaws.{IsInodeLine-decode_inode}
 use Rattle.disk_lines.specs.Lines.{is_inode}
 use Rattle.k_tables.specs.disk_rules.Kept.{AreKept}

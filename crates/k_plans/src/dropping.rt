@@ -2,7 +2,7 @@
 ghost use Rattle.std.specs.Prelude.{◌≡◌, ◌<◌, ℕ, [], length, true, false};
 ghost use Rattle.k_reading.specs.block_pool.FreeSets.{is_among};
 ghost use Rattle.k_tables.specs.disk_rules.Placed.{extent_at};
-ghost use Rattle.extent_words.specs.Extents.{covers, holds_disk};
+ghost use Rattle.k_tables.specs.extent_words.Extents.{covers, holds_disk};
 ghost use Rattle.k_plans.specs.Giving.{AreGiven, MayGiveChain, MayGiveMap, is_held};
 ghost use Rattle.k_plans.specs.Plans.{IsPlan};
 ghost use Rattle.k_plans.specs.View.{with_volume};
@@ -13,10 +13,8 @@ use crate::giving::{give_chain, give_map};
 use crate::removing::gone_node;
 use crate::tables::Tables;
 use extent_map::{Extent, ExtentMap};
-use k_land::k_journal::Batch;
-use k_land::put_inode;
-use k_reading::Blocks;
-use k_reading::block_pool::Pool;
+use k_land::{Batch, put_inode};
+use k_reading::{Blocks, Pool};
 
 // Makes the blocks of an inode free: those of its chain and those of its map.
 fn give_inode(pool: &mut Pool, blocks: &[u32], extents: &[Extent])

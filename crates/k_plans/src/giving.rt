@@ -1,11 +1,11 @@
 //! Blocks that come free.
 ghost use Rattle.std.specs.Prelude.{◌≡◌, ℕ, ◌+◌, ◌≤◌, ◌<◌, ◌^◌, true, false, length};
 ghost use Rattle.k_reading.specs.block_pool.FreeSets.{is_among, is_free_at};
-ghost use Rattle.extent_words.specs.Extents.{covers, is_within};
+ghost use Rattle.k_tables.specs.extent_words.Extents.{covers, is_within};
 ghost use Rattle.k_plans.specs.Giving.{AreGiven, MayGiveChain, MayGiveMap};
 
 use extent_map::Extent;
-use k_reading::block_pool::Pool;
+use k_reading::Pool;
 
 // Makes the blocks of a chain free.
 pub(crate) fn give_chain(pool: &mut Pool, blocks: &[u32])

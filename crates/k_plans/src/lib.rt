@@ -25,8 +25,7 @@ mod switching;
 mod tables;
 
 pub use faults::PlanFault;
-pub use k_land;
-pub use k_land::{image_layout, k_inodes, k_journal};
-pub use k_reading;
+pub use k_land::{Batch, Commit, Geometry, Kind, NewMap, Recovered, land, land_maps, recover};
+pub use k_reading::{fresh_image, read_base, read_inodes, read_maps, read_names};
 pub use tables::{Tables, nodes_are_made_behind_the_staging_files, tables_begin_with_what_is_read};
-pub use volume_maps::map_rules;
+pub use volume_maps::Move;

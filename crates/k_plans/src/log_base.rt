@@ -5,8 +5,7 @@ ghost use Rattle.k_plans.specs.Plans.{IsPlan};
 ghost use Rattle.k_plans.specs.View.{with_volume};
 
 use crate::tables::Tables;
-use k_land::k_journal::Batch;
-use k_land::put_base;
+use k_land::{Batch, put_base};
 
 impl Tables {
     /// Sets the log base, the number of the log's first entry from then on, and plans its line. It takes

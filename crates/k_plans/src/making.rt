@@ -10,17 +10,14 @@ ghost use Rattle.path_spelling.specs.Spelling.{AreSpelled};
 ghost use Rattle.k_plans.specs.View.{with_volume};
 ghost use Rattle.k_tables.specs.k_rules.Changes.{new_node};
 ghost use Rattle.k_tables.specs.Found.{IsPlace};
-ghost use Rattle.posix_words.specs.Names.{is_root};
+ghost use Rattle.k_tables.specs.posix_words.Names.{is_root};
 ghost use Rattle.volume_maps.specs.volume_changes.CallLaws.{row_to};
 
 use crate::faults::{PlanFault, fault_of};
 use crate::tables::Tables;
 use disk_lines::{Inode, Kind};
-use k_land::image_layout::Geometry;
-use k_land::k_journal::Batch;
-use k_land::{put_inode, put_name};
-use k_tables::k_names::NameLine;
-use k_tables::{Place, place_to_make};
+use k_land::{Batch, Geometry, put_inode, put_name};
+use k_tables::{NameLine, Place, place_to_make};
 use posix_types::{Name, Path};
 use std::alloc::{AllocError, Global};
 

@@ -13,9 +13,7 @@ ghost use Rattle.k_tables.specs.Found.{IsDirectoryAt, IsFileAt};
 use crate::faults::{PlanFault, fault_of};
 use crate::tables::Tables;
 use disk_lines::{Inode, Kind};
-use k_land::image_layout::Geometry;
-use k_land::k_journal::Batch;
-use k_land::{clear_name, put_inode};
+use k_land::{Batch, Geometry, clear_name, put_inode};
 use k_tables::{Entry, directory_to_remove, entry_to_unlink};
 use posix_types::Path;
 

@@ -12,8 +12,8 @@ ghost use Rattle.k_tables.specs.k_rules.Changes.{renamed, renamed_over_directory
 ghost use Rattle.k_tables.specs.k_rules.Spaces.{is_directory_in, volume_space};
 ghost use Rattle.k_tables.specs.Found.{IsMoving};
 ghost use Rattle.k_tables.specs.Refusals.{outcome_of};
-ghost use Rattle.posix_words.specs.NameRows.{rename_rows};
-ghost use Rattle.posix_words.specs.Outcomes.{first};
+ghost use Rattle.k_tables.specs.posix_words.NameRows.{rename_rows};
+ghost use Rattle.k_tables.specs.posix_words.Outcomes.{first};
 ghost use Rattle.volume_maps.specs.volume_changes.CallLaws.{row_to};
 
 use crate::faults::{PlanFault, fault_of};
@@ -21,11 +21,8 @@ use crate::making::name_line;
 use crate::removing::gone_node;
 use crate::tables::Tables;
 use disk_lines::Inode;
-use k_land::image_layout::Geometry;
-use k_land::k_journal::Batch;
-use k_land::{clear_name, put_inode, put_name};
-use k_tables::k_names::NameLine;
-use k_tables::{Entry, Moving, Refusal, entries_to_rename, is_directory};
+use k_land::{Batch, Geometry, clear_name, put_inode, put_name};
+use k_tables::{Entry, Moving, NameLine, Refusal, entries_to_rename, is_directory};
 use posix_types::Path;
 use std::alloc::Global;
 

@@ -2,7 +2,7 @@
 ghost use Rattle.std.specs.Prelude.{◌≡◌, ◌<◌, ◌≤◌, ◌+◌, ℕ, List, [], length, OnErr, IfNone, IfOk, IfSome};
 ghost use Rattle.k_tables.specs.disk_rules.Chains.{first_or_zero};
 ghost use Rattle.k_tables.specs.disk_rules.Volume.{Volume, chain, extents};
-ghost use Rattle.extent_words.specs.Extents.{IsCanonical};
+ghost use Rattle.k_tables.specs.extent_words.Extents.{IsCanonical};
 ghost use Rattle.k_land.specs.Plans.{IsMapFrom, NewChain, Turns};
 ghost use Rattle.k_plans.specs.Free.{free_blocks};
 ghost use Rattle.k_plans.specs.Switching.{IsSetAside, switched_tables, WaitOnce, with_waiting};
@@ -14,8 +14,7 @@ use crate::giving::give_chain;
 use crate::tables::Tables;
 use disk_lines::Inode;
 use extent_map::ExtentMap;
-use k_land::k_journal::Batch;
-use k_land::put_inode;
+use k_land::{Batch, put_inode};
 use k_reading::Blocks;
 use std::alloc::{AllocError, Global};
 

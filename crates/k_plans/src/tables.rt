@@ -10,10 +10,9 @@ ghost use Rattle.k_plans.specs.Whole.{IsWhole};
 
 use disk_lines::{Inode, Kind};
 use extent_map::ExtentMap;
-use k_land::image_layout::Geometry;
-use k_reading::block_pool::Pool;
-use k_reading::{Blocks, Maps, free_blocks};
-use k_tables::k_names::NameTable;
+use k_land::Geometry;
+use k_reading::{Blocks, Maps, Pool, free_blocks};
+use k_tables::NameTable;
 use std::alloc::{AllocError, Global};
 use std::marker::Model;
 

@@ -2,10 +2,10 @@
 use Rattle.std.proofs.Common.{◌≡◌, ℕ, ◌+◌, ◌*◌, ◌<◌, ◌≤◌, List, [], ◌∷◌, ◌++◌, length, get_or, refl, sym, ◌∙◌, ap, arith, inl, inr, subst, length-append}
 use Rattle.std.proofs.lemmas.Bool.{cases_eq}
 use Rattle.std.proofs.lemmas.List.{ext_get_or, get_or_at, get_or_append_left}
-use Rattle.pm_words.specs.Words.{Words}
-use Rattle.disk_places.specs.Places.{Geometry}
-use Rattle.extent_words.specs.declared.Extent.{Extent}
-use Rattle.disk_lines.specs.declared.Inode.{Inode}
+use Rattle.image_layout.specs.pm_words.Words.{Words}
+use Rattle.image_layout.specs.disk_places.Places.{Geometry}
+use Rattle.block_pool.specs.extent_words.declared.Extent.{Extent}
+use Rattle.k_inodes.specs.disk_lines.declared.Inode.{Inode}
 use Rattle.disk_rules.specs.Reading.{Reads}
 use Rattle.disk_rules.specs.Standing.{IsChain}
 use Rattle.disk_rules.specs.Volume.{Volume, free_inode, inode, chain, extents}

@@ -2,12 +2,12 @@
 use Rattle.std.proofs.Common.{◌≡◌, ℕ, ◌<◌, true, List, [], All, get_or, replicate, None, sym, ◌∙◌, ap, subst, arith}
 use Rattle.std.proofs.lemmas.Bool.{both_ways}
 use Rattle.std.proofs.lemmas.List.{get_or-replicate, length-replicate}
-use Rattle.pm_words.specs.Words.{Words}
-use Rattle.disk_places.specs.Places.{Geometry, IsGeometry, is_data_block, first_data, data_blocks}
-use Rattle.extent_words.specs.declared.Extent.{Extent}
-use Rattle.disk_lines.specs.Fresh.{fresh}
-use Rattle.disk_lines.specs.Names.{Rows, row, is_entry}
-use Rattle.disk_lines.specs.Tables.{IsKeyed}
+use Rattle.image_layout.specs.pm_words.Words.{Words}
+use Rattle.image_layout.specs.disk_places.Places.{Geometry, IsGeometry, is_data_block, first_data, data_blocks}
+use Rattle.block_pool.specs.extent_words.declared.Extent.{Extent}
+use Rattle.k_inodes.specs.disk_lines.Fresh.{fresh}
+use Rattle.k_inodes.specs.disk_lines.Names.{Rows, row, is_entry}
+use Rattle.k_inodes.specs.disk_lines.Tables.{IsKeyed}
 use Rattle.disk_rules.specs.FreshVolume.{fresh_volume}
 use Rattle.disk_rules.specs.Volume.{Volume, volume}
 use Rattle.block_pool.specs.FreeSets.{LiesWithin}

@@ -7,9 +7,9 @@ use Rattle.std.proofs.lemmas.Grind.{get_or_default_zero}
 use Rattle.std.proofs.lemmas.List.Folds.{Any-from_list_any, list_any_at}
 use Rattle.std.proofs.lemmas.List.{get_or_default}
 use Rattle.std.proofs.lemmas.List.Sums.{sum_by-cons}
-use Rattle.extent_words.specs.declared.Extent.{Extent}
-use Rattle.extent_words.specs.Extents.{covers}
-use Rattle.disk_places.specs.Places.{Geometry, is_data_block}
+use Rattle.block_pool.specs.extent_words.declared.Extent.{Extent}
+use Rattle.block_pool.specs.extent_words.Extents.{covers}
+use Rattle.image_layout.specs.disk_places.Places.{Geometry, is_data_block}
 use Rattle.disk_rules.specs.Placed.{block_at}
 use Rattle.disk_rules.specs.Room.{has_none}
 use Rattle.disk_rules.specs.Uses.{owners}

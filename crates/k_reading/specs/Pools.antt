@@ -1,9 +1,9 @@
 -- Which data blocks are free: those that no chain and no map names.
 use Rattle.std.specs.Prelude.{◌≡◌, ℕ, Bool, true, not, ◌&&◌, ◌||◌, List, ◌++◌, length, map, flat_map, All}
 use Rattle.std.specs.List.{list_any}
-use Rattle.extent_words.specs.declared.Extent.{Extent}
-use Rattle.extent_words.specs.Extents.{covers}
-use Rattle.disk_places.specs.Places.{Geometry, first_data, data_blocks, is_data_block}
+use Rattle.block_pool.specs.extent_words.declared.Extent.{Extent}
+use Rattle.block_pool.specs.extent_words.Extents.{covers}
+use Rattle.image_layout.specs.disk_places.Places.{Geometry, first_data, data_blocks, is_data_block}
 use Rattle.disk_rules.specs.Volume.{Volume}
 use Rattle.volume_uses.specs.Uses.{HasAllMaps}
 use Rattle.block_pool.specs.FreeSets.{FreeSet, is_free_at, is_among, LiesWithin}

@@ -1,8 +1,8 @@
 -- What is read of the chains of inodes.
 use Rattle.std.specs.Prelude.{◌≡◌, ℕ, ◌<◌, List, [], length, slice_index_or}
-use Rattle.pm_words.specs.Words.{Words}
-use Rattle.extent_words.specs.declared.Extent.{Extent}
-use Rattle.disk_lines.specs.declared.Inode.{Inode}
+use Rattle.image_layout.specs.pm_words.Words.{Words}
+use Rattle.block_pool.specs.extent_words.declared.Extent.{Extent}
+use Rattle.k_inodes.specs.disk_lines.declared.Inode.{Inode}
 use Rattle.disk_rules.specs.Standing.{IsChain, HasNoChain}
 use Rattle.disk_rules.specs.Volume.{free_inode}
 

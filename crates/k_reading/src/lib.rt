@@ -19,11 +19,11 @@ mod lines;
 mod maps;
 mod pools;
 
-pub use block_pool;
+pub use block_pool::Pool;
 pub use fresh::fresh_image;
-pub use k_inodes;
-pub use k_names;
+pub use k_inodes::{Inode, Kind, decode_inode, encode_inode};
+pub use k_names::{Decoded, NameLine, decode_name};
 pub use lines::{read_base, read_inodes, read_names};
-pub use map_chain;
+pub use map_chain::{Chain, read, write};
 pub use maps::{Blocks, Maps, read_maps};
 pub use pools::free_blocks;

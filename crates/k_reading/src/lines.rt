@@ -1,9 +1,9 @@
 //! The log base, the inodes and the names of a device.
 ghost use Rattle.std.specs.Prelude.{◌≡◌, ◌*◌, ◌<◌, length, IfOk};
-ghost use Rattle.pm_words.specs.Cells.{AllSingle};
-ghost use Rattle.pm_words.specs.Images.{words_of};
-ghost use Rattle.disk_places.specs.Places.{base_word};
-ghost use Rattle.disk_lines.specs.Tables.{IsKeyed};
+ghost use Rattle.image_layout.specs.pm_words.Cells.{AllSingle};
+ghost use Rattle.image_layout.specs.pm_words.Images.{words_of};
+ghost use Rattle.image_layout.specs.disk_places.Places.{base_word};
+ghost use Rattle.k_inodes.specs.disk_lines.Tables.{IsKeyed};
 ghost use Rattle.disk_rules.specs.Volume.{inode_or_free, row_of, name_at, volume};
 
 use image_layout::Geometry;

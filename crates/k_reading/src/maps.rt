@@ -1,8 +1,8 @@
 //! The chains and the maps of a device.
 ghost use Rattle.std.specs.Prelude.{◌≡◌, ◌*◌, ℕ, List, [], length, IfOk};
-ghost use Rattle.pm_words.specs.Cells.{AllSingle};
-ghost use Rattle.pm_words.specs.Images.{words_of};
-ghost use Rattle.disk_places.specs.Places.{Geometry};
+ghost use Rattle.image_layout.specs.pm_words.Cells.{AllSingle};
+ghost use Rattle.image_layout.specs.pm_words.Images.{words_of};
+ghost use Rattle.image_layout.specs.disk_places.Places.{Geometry};
 ghost use Rattle.disk_rules.specs.Reading.{Reads};
 ghost use Rattle.disk_rules.specs.Volume.{Volume};
 ghost use Rattle.k_reading.specs.Tables.{IsFound, AreFound};

@@ -1,10 +1,10 @@
 -- What the changes of names and nodes make of a volume.
 use Rattle.std.specs.Prelude.{ℕ, ◌+◌, ◌%◌, ◌^◌, [], Some, None}
-use Rattle.disk_lines.specs.declared.Inode.{Inode}
-use Rattle.disk_lines.specs.declared.Kind.{Kind}
-use Rattle.disk_lines.specs.declared.Kind.TheVariants.{Free}
-use Rattle.disk_lines.specs.Fresh.{empty_inode}
-use Rattle.disk_lines.specs.Lines.{NameRow}
+use Rattle.disk_rules.specs.disk_lines.declared.Inode.{Inode}
+use Rattle.disk_rules.specs.disk_lines.declared.Kind.{Kind}
+use Rattle.disk_rules.specs.disk_lines.declared.Kind.TheVariants.{Free}
+use Rattle.disk_rules.specs.disk_lines.Fresh.{empty_inode}
+use Rattle.disk_rules.specs.disk_lines.Lines.{NameRow}
 use Rattle.disk_rules.specs.Reading.{inode_set, node_set, row_set}
 use Rattle.disk_rules.specs.Volume.{Volume, inode}
 

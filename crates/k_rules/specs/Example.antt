@@ -1,11 +1,11 @@
 -- A small volume, and what each change makes of it, row by row.
 use Rattle.std.specs.Prelude.{◌≡◌, ℕ, ◌-◌, ◌^◌, List, [], ◌∷◌, true, false, Some, None, codes}
-use Rattle.extent_words.specs.declared.Extent.{Extent}
-use Rattle.disk_lines.specs.declared.Inode.{Inode}
-use Rattle.disk_lines.specs.declared.Kind.TheVariants.{Free, Directory, File, Staging}
-use Rattle.disk_lines.specs.Fresh.{empty_inode}
-use Rattle.disk_lines.specs.Lines.{NameRow}
-use Rattle.disk_lines.specs.Names.{Rows}
+use Rattle.disk_rules.specs.extent_words.declared.Extent.{Extent}
+use Rattle.disk_rules.specs.disk_lines.declared.Inode.{Inode}
+use Rattle.disk_rules.specs.disk_lines.declared.Kind.TheVariants.{Free, Directory, File, Staging}
+use Rattle.disk_rules.specs.disk_lines.Fresh.{empty_inode}
+use Rattle.disk_rules.specs.disk_lines.Lines.{NameRow}
+use Rattle.disk_rules.specs.disk_lines.Names.{Rows}
 use Rattle.disk_rules.specs.Volume.{Volume}
 use Rattle.k_rules.specs.Changes.{dropped, made, new_node, removed, renamed, renamed_over_directory, renamed_over_file, unnamed}
 use Rattle.k_rules.specs.Spaces.{volume_space}

@@ -1,11 +1,11 @@
 -- A volume as the rules of names look at it.
 use Rattle.std.specs.Prelude.{ℕ, List, count_by, Option, Some, None}
 use Rattle.std.specs.List.{filter_map}
-use Rattle.disk_lines.specs.declared.Inode.{Inode}
-use Rattle.disk_lines.specs.declared.Kind.{Kind}
-use Rattle.disk_lines.specs.declared.Kind.TheVariants.{Free, Directory, File, Staging}
-use Rattle.disk_lines.specs.Lines.{NameRow}
-use Rattle.disk_lines.specs.Names.{is_free_row, Rows}
+use Rattle.disk_rules.specs.disk_lines.declared.Inode.{Inode}
+use Rattle.disk_rules.specs.disk_lines.declared.Kind.{Kind}
+use Rattle.disk_rules.specs.disk_lines.declared.Kind.TheVariants.{Free, Directory, File, Staging}
+use Rattle.disk_rules.specs.disk_lines.Lines.{NameRow}
+use Rattle.disk_rules.specs.disk_lines.Names.{is_free_row, Rows}
 use Rattle.disk_rules.specs.Live.{is_directory}
 use Rattle.disk_rules.specs.Volume.{free_inode, Volume}
 use Rattle.posix_words.specs.declared.nodes.DirEntry.{DirEntry}

@@ -1,12 +1,12 @@
 -- When a device stands at a volume, and what a power loss leaves of a change of volumes.
 use Rattle.std.specs.Prelude.{◌≡◌, ◌⊎◌, ℕ, ◌*◌, ◌/◌, ◌<◌, List, length, true, false}
-use Rattle.pm_words.specs.declared.Cell.{Cell}
-use Rattle.pm_words.specs.declared.Cell.TheVariants.{Single}
-use Rattle.pm_words.specs.Cells.{cell, is_single}
-use Rattle.pm_words.specs.Images.{IsImage}
-use Rattle.pm_words.specs.Words.{Words}
-use Rattle.disk_places.specs.Places.{Geometry, commit_word, log_block, is_journaled_line}
-use Rattle.disk_places.specs.Journal.{is_journal_word, journaled, IsSound}
+use Rattle.disk_rules.specs.pm_words.declared.Cell.{Cell}
+use Rattle.disk_rules.specs.pm_words.declared.Cell.TheVariants.{Single}
+use Rattle.disk_rules.specs.pm_words.Cells.{cell, is_single}
+use Rattle.disk_rules.specs.pm_words.Images.{IsImage}
+use Rattle.disk_rules.specs.pm_words.Words.{Words}
+use Rattle.disk_rules.specs.disk_places.Places.{Geometry, commit_word, log_block, is_journaled_line}
+use Rattle.disk_rules.specs.disk_places.Journal.{is_journal_word, journaled, IsSound}
 use Rattle.disk_rules.specs.Placed.{AreSingle, IsOutside}
 use Rattle.disk_rules.specs.Reading.{Reads}
 use Rattle.disk_rules.specs.Volume.{Volume, chain}

@@ -1,6 +1,6 @@
 -- What contracts see of K-Split.
 use Rattle.std.specs.Prelude.{Bool, List, ℕ}
-use Rattle.pm_words.specs.declared.Cell.{Cell}
+use Rattle.disk_rules.specs.pm_words.declared.Cell.{Cell}
 use Rattle.disk_rules.specs.Volume.{Volume}
 
 -- The volume as the calls see it, the changes of the open batch included; the volume that was committed last, which is the

@@ -4,19 +4,19 @@ use Rattle.std.specs.Prelude.{IsSome}
 use Rattle.std.proofs.lemmas.Bool.{cases_lt}
 use Rattle.std.proofs.lemmas.Bool.Decides.{nat_tests}
 use Rattle.std.proofs.lemmas.List.{get_or_past}
-use Rattle.pm_words.specs.declared.Cell.{Cell}
-use Rattle.pm_words.specs.declared.Cell.TheVariants.{Single}
-use Rattle.pm_words.specs.CellLaws.{settled-single}
-use Rattle.pm_words.specs.Cells.{cell, is_single, IsCandidate, newest, Settles}
-use Rattle.pm_words.specs.Frames.{KeepsSingle, SameLent}
-use Rattle.pm_words.specs.Images.{Follows, IsImage}
-use Rattle.pm_words.specs.Words.{Words}
-use Rattle.disk_places.specs.Journal.{is_journal_word, journaled}
-use Rattle.disk_places.specs.Places.{commit_word, Geometry, is_data_block, is_journaled_line}
-use Rattle.extent_words.specs.declared.Extent.{Extent}
-use Rattle.extent_words.specs.Extents.{covers, disk_at, IsCanonical}
-use Rattle.extent_facts.specs.Covers.{covers-disk_at}
-use Rattle.extent_facts.specs.Facts.{disk_at-past}
+use Rattle.lines_out.specs.pm_words.declared.Cell.{Cell}
+use Rattle.lines_out.specs.pm_words.declared.Cell.TheVariants.{Single}
+use Rattle.lines_out.specs.pm_words.CellLaws.{settled-single}
+use Rattle.lines_out.specs.pm_words.Cells.{cell, is_single, IsCandidate, newest, Settles}
+use Rattle.lines_out.specs.pm_words.Frames.{KeepsSingle, SameLent}
+use Rattle.lines_out.specs.pm_words.Images.{Follows, IsImage}
+use Rattle.lines_out.specs.pm_words.Words.{Words}
+use Rattle.lines_out.specs.disk_places.Journal.{is_journal_word, journaled}
+use Rattle.lines_out.specs.disk_places.Places.{commit_word, Geometry, is_data_block, is_journaled_line}
+use Rattle.lines_out.specs.extent_words.declared.Extent.{Extent}
+use Rattle.lines_out.specs.extent_words.Extents.{covers, disk_at, IsCanonical}
+use Rattle.lines_out.specs.extent_facts.Covers.{covers-disk_at}
+use Rattle.lines_out.specs.extent_facts.Facts.{disk_at-past}
 use Rattle.disk_lines.specs.declared.Kind.{Kind}
 use Rattle.disk_lines.specs.declared.Kind.TheVariants.{File, Free}
 use Rattle.lines_out.specs.disk_rules.Placed.{block_at}

@@ -1,11 +1,11 @@
 -- What a change leaves that was planned and landed, or neither.
 use Rattle.std.proofs.Common.{◌≡◌, ℕ, Bool, true, false, List, [], length, Option, Some, None, Result, Ok, Err, refl, sym, ◌∙◌, ap, subst, arith, inl, inr}
 use Rattle.std.specs.Prelude.{◌==◌, ◌+◌, ◌*◌, ◌/◌, OnOk, OnErr}
-use Rattle.pm_words.specs.declared.Cell.{Cell}
-use Rattle.pm_words.specs.Frames.{KeepsSingle}
-use Rattle.pm_words.specs.Powers.{is_on, Steps, Supply}
-use Rattle.disk_places.specs.Places.{is_data_block}
-use Rattle.extent_words.specs.Extents.{covers}
+use Rattle.lines_out.specs.pm_words.declared.Cell.{Cell}
+use Rattle.lines_out.specs.pm_words.Frames.{KeepsSingle}
+use Rattle.lines_out.specs.pm_words.Powers.{is_on, Steps, Supply}
+use Rattle.lines_out.specs.disk_places.Places.{is_data_block}
+use Rattle.lines_out.specs.extent_words.Extents.{covers}
 use Rattle.lines_out.specs.disk_rules.Volume.{Volume}
 use Rattle.k_log_plans.specs.k_journal.declared.batches.Entry.{Entry}
 use Rattle.k_log_plans.specs.k_journal.declared.outcomes.Commit.{Commit}

@@ -3,15 +3,15 @@ use Rattle.std.proofs.Common.{◌≡◌, ◌≢◌, ℕ, ◌+◌, ◌*◌, ◌/�
 use Rattle.std.proofs.lemmas.Bool.{both_ways, cases_lt}
 use Rattle.std.proofs.lemmas.Bool.Decides.{nat_tests}
 use Rattle.std.proofs.lemmas.List.{get_or_past}
-use Rattle.pm_words.specs.declared.Cell.{Cell}
-use Rattle.pm_words.specs.CellLaws.{newest-candidate}
-use Rattle.pm_words.specs.Cells.{cell, newest}
-use Rattle.pm_words.specs.Images.{words_of}
-use Rattle.pm_words.specs.Words.{Words}
-use Rattle.disk_places.specs.Journal.{is_journal_word, journaled}
-use Rattle.disk_places.specs.PlaceLaws.{behind_log-words, log_line-not_journaled}
-use Rattle.disk_places.specs.Places.{commit_word, first_data, Geometry, is_data_block, is_journaled_line, log_line}
-use Rattle.extent_words.specs.Extents.{covers}
+use Rattle.lines_out.specs.pm_words.declared.Cell.{Cell}
+use Rattle.lines_out.specs.pm_words.CellLaws.{newest-candidate}
+use Rattle.lines_out.specs.pm_words.Cells.{cell, newest}
+use Rattle.lines_out.specs.pm_words.Images.{words_of}
+use Rattle.lines_out.specs.pm_words.Words.{Words}
+use Rattle.lines_out.specs.disk_places.Journal.{is_journal_word, journaled}
+use Rattle.lines_out.specs.disk_places.PlaceLaws.{behind_log-words, log_line-not_journaled}
+use Rattle.lines_out.specs.disk_places.Places.{commit_word, first_data, Geometry, is_data_block, is_journaled_line, log_line}
+use Rattle.lines_out.specs.extent_words.Extents.{covers}
 use Rattle.disk_lines.specs.declared.Draft.{Draft}
 use Rattle.lines_out.specs.disk_rules.Content.{content, disk_of, found}
 use Rattle.lines_out.specs.disk_rules.Kept.{AreKept}

@@ -4,15 +4,15 @@ use Rattle.std.specs.Prelude.{All}
 use Rattle.std.proofs.lemmas.Bool.{cases_Bool}
 use Rattle.std.proofs.lemmas.Bool.Decides.{nat_tests}
 use Rattle.std.proofs.lemmas.List.{get_or_append_left, get_or-append-add}
-use Rattle.pm_words.specs.declared.Cell.{Cell}
-use Rattle.pm_words.specs.Cells.{cell, Settles}
-use Rattle.pm_words.specs.Frames.{KeepsSingle, SameLent}
-use Rattle.pm_words.specs.ImageLaws.{Follows-then}
-use Rattle.pm_words.specs.Images.{Follows, IsImage}
-use Rattle.pm_words.specs.Powers.{is_on, Steps, Supply}
-use Rattle.pm_words.specs.Words.{Words}
-use Rattle.disk_places.specs.Journal.{is_journal_word, journaled}
-use Rattle.disk_places.specs.Places.{commit_word, Geometry, is_data_block, is_journaled_line}
+use Rattle.lines_out.specs.pm_words.declared.Cell.{Cell}
+use Rattle.lines_out.specs.pm_words.Cells.{cell, Settles}
+use Rattle.lines_out.specs.pm_words.Frames.{KeepsSingle, SameLent}
+use Rattle.lines_out.specs.pm_words.ImageLaws.{Follows-then}
+use Rattle.lines_out.specs.pm_words.Images.{Follows, IsImage}
+use Rattle.lines_out.specs.pm_words.Powers.{is_on, Steps, Supply}
+use Rattle.lines_out.specs.pm_words.Words.{Words}
+use Rattle.lines_out.specs.disk_places.Journal.{is_journal_word, journaled}
+use Rattle.lines_out.specs.disk_places.Places.{commit_word, Geometry, is_data_block, is_journaled_line}
 use Rattle.lines_out.specs.disk_rules.Placed.{block_at, IsOutside}
 use Rattle.lines_out.specs.disk_rules.Reading.{Reads}
 use Rattle.lines_out.specs.disk_rules.Volume.{Volume}

@@ -5,10 +5,10 @@ use Rattle.std.specs.List.{range_with_len}
 use Rattle.std.proofs.lemmas.Bool.{both_ways}
 use Rattle.std.proofs.lemmas.List.{get_or_append_left, get_or-append-add}
 use Rattle.std.proofs.lemmas.List.Elements.{filter_passes}
-use Rattle.pm_words.specs.declared.Cell.{Cell}
-use Rattle.pm_words.specs.Frames.{KeepsSingle}
-use Rattle.pm_words.specs.Powers.{Supply}
-use Rattle.extent_words.specs.Extents.{disk_at}
+use Rattle.lines_out.specs.pm_words.declared.Cell.{Cell}
+use Rattle.lines_out.specs.pm_words.Frames.{KeepsSingle}
+use Rattle.lines_out.specs.pm_words.Powers.{Supply}
+use Rattle.lines_out.specs.extent_words.Extents.{disk_at}
 use Rattle.lines_out.specs.disk_rules.Placed.{AreDistinct, block_at}
 use Rattle.lines_out.specs.disk_rules.Volume.{chain, extents, inode}
 use Rattle.k_content.specs.volume_facts.Changes.{chain-set_same, extents-set_same}

@@ -1,12 +1,12 @@
 -- A device with the fresh image can be opened, for the tests.
 use Rattle.std.proofs.Common.{◌≡◌, ℕ, ◌*◌, List, length, sym, ◌∙◌, ap, subst, arith}
 use Rattle.std.proofs.Math.Path.{fun_ext}
-use Rattle.pm_words.specs.declared.Cell.{Cell}
-use Rattle.pm_words.specs.declared.Cell.TheVariants.{Single}
-use Rattle.pm_words.specs.Cells.{cell, is_single, newest}
-use Rattle.pm_words.specs.Images.{words_of}
-use Rattle.pm_words.specs.Words.{word_at}
-use Rattle.disk_places.specs.Places.{commit_word, Geometry}
+use Rattle.lines_out.specs.pm_words.declared.Cell.{Cell}
+use Rattle.lines_out.specs.pm_words.declared.Cell.TheVariants.{Single}
+use Rattle.lines_out.specs.pm_words.Cells.{cell, is_single, newest}
+use Rattle.lines_out.specs.pm_words.Images.{words_of}
+use Rattle.lines_out.specs.pm_words.Words.{word_at}
+use Rattle.lines_out.specs.disk_places.Places.{commit_word, Geometry}
 use Rattle.disk_lines.specs.Fresh.{fresh}
 use Rattle.lines_out.specs.disk_rules.Rules.{geometry_of, IsChecked}
 use Rattle.k_log_plans.specs.image_facts.FreshLines.{fresh-commit}

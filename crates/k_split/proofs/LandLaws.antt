@@ -1,13 +1,13 @@
 -- A plan on the tables is one that can be landed, and what its landing leaves.
 use Rattle.std.proofs.Common.{◌≡◌, ℕ, ◌+◌, ◌*◌, ◌/◌, ◌<◌, ◌≤◌, true, false, List, [], length, sym, ◌∙◌, subst, arith}
-use Rattle.pm_words.specs.declared.Cell.{Cell}
-use Rattle.pm_words.specs.Cells.{cell, Settles}
-use Rattle.pm_words.specs.Frames.{KeepsSingle, SameLent}
-use Rattle.pm_words.specs.ImageLaws.{IsImage-words_of}
-use Rattle.pm_words.specs.Images.{Follows, words_of}
-use Rattle.pm_words.specs.Powers.{is_on, Steps, Supply}
-use Rattle.disk_places.specs.Journal.{journaled}
-use Rattle.disk_places.specs.Places.{Geometry}
+use Rattle.lines_out.specs.pm_words.declared.Cell.{Cell}
+use Rattle.lines_out.specs.pm_words.Cells.{cell, Settles}
+use Rattle.lines_out.specs.pm_words.Frames.{KeepsSingle, SameLent}
+use Rattle.lines_out.specs.pm_words.ImageLaws.{IsImage-words_of}
+use Rattle.lines_out.specs.pm_words.Images.{Follows, words_of}
+use Rattle.lines_out.specs.pm_words.Powers.{is_on, Steps, Supply}
+use Rattle.lines_out.specs.disk_places.Journal.{journaled}
+use Rattle.lines_out.specs.disk_places.Places.{Geometry}
 use Rattle.lines_out.specs.disk_rules.Volume.{Volume}
 use Rattle.k_log_plans.specs.k_journal.Commits.{MayCommit, TakesAStep}
 use Rattle.k_log_plans.specs.k_journal.declared.batches.Entry.{Entry}

@@ -5,15 +5,15 @@ use Rattle.std.proofs.lemmas.Bool.{both_ways, cases_lt}
 use Rattle.std.proofs.lemmas.Bool.Decides.{nat_tests}
 use Rattle.std.proofs.lemmas.Option.{same_Some}
 use Rattle.std.proofs.lemmas.List.{get_or_past}
-use Rattle.pm_words.specs.declared.Cell.{Cell}
-use Rattle.pm_words.specs.declared.Cell.TheVariants.{Lent, Marked, Single, Two}
-use Rattle.pm_words.specs.CellLaws.{single-home}
-use Rattle.pm_words.specs.Cells.{cell, is_lent, is_single}
-use Rattle.pm_words.specs.Parts.{ComesBack, GoesOut}
-use Rattle.disk_places.specs.Places.{commit_word, is_data_block, log_block}
-use Rattle.extent_words.specs.declared.Extent.{Extent}
-use Rattle.extent_words.specs.Extents.{covers, disk_at}
-use Rattle.extent_facts.specs.Covers.{covers-disk_at}
+use Rattle.lines_out.specs.pm_words.declared.Cell.{Cell}
+use Rattle.lines_out.specs.pm_words.declared.Cell.TheVariants.{Lent, Marked, Single, Two}
+use Rattle.lines_out.specs.pm_words.CellLaws.{single-home}
+use Rattle.lines_out.specs.pm_words.Cells.{cell, is_lent, is_single}
+use Rattle.lines_out.specs.pm_words.Parts.{ComesBack, GoesOut}
+use Rattle.lines_out.specs.disk_places.Places.{commit_word, is_data_block, log_block}
+use Rattle.lines_out.specs.extent_words.declared.Extent.{Extent}
+use Rattle.lines_out.specs.extent_words.Extents.{covers, disk_at}
+use Rattle.lines_out.specs.extent_facts.Covers.{covers-disk_at}
 use Rattle.lines_out.specs.disk_rules.Placed.{block_at}
 use Rattle.lines_out.specs.disk_rules.Rules.{file_blocks_of}
 use Rattle.lines_out.specs.disk_rules.Volume.{chain, extents, inode, Volume}

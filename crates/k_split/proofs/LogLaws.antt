@@ -2,19 +2,19 @@
 use Rattle.std.proofs.Common.{◌≡◌, ℕ, ◌+◌, ◌*◌, ◌/◌, ◌<◌, Bool, true, List, length, refl, ◌∙◌, ap, subst, arith}
 use Rattle.std.proofs.lemmas.Bool.{both_ways}
 use Rattle.std.proofs.lemmas.Bool.Decides.{nat_tests}
-use Rattle.pm_words.specs.declared.Cell.{Cell}
-use Rattle.pm_words.specs.declared.Cell.TheVariants.{Single}
-use Rattle.pm_words.specs.CellLaws.{settled-single}
-use Rattle.pm_words.specs.Cells.{cell, is_single, newest, Settles}
-use Rattle.pm_words.specs.Words.{Words}
-use Rattle.disk_places.specs.Journal.{is_journal_word, journaled}
-use Rattle.disk_places.specs.PlaceLaws.{behind_log-not_journaled, behind_log-words}
-use Rattle.disk_places.specs.Places.{commit_word, is_data_block, is_journaled_line, log_line}
+use Rattle.lines_out.specs.pm_words.declared.Cell.{Cell}
+use Rattle.lines_out.specs.pm_words.declared.Cell.TheVariants.{Single}
+use Rattle.lines_out.specs.pm_words.CellLaws.{settled-single}
+use Rattle.lines_out.specs.pm_words.Cells.{cell, is_single, newest, Settles}
+use Rattle.lines_out.specs.pm_words.Words.{Words}
+use Rattle.lines_out.specs.disk_places.Journal.{is_journal_word, journaled}
+use Rattle.lines_out.specs.disk_places.PlaceLaws.{behind_log-not_journaled, behind_log-words}
+use Rattle.lines_out.specs.disk_places.Places.{commit_word, is_data_block, is_journaled_line, log_line}
 use Rattle.lines_out.specs.disk_rules.Placed.{block_at}
 use Rattle.lines_out.specs.disk_rules.Volume.{chain, Volume}
 use Rattle.lines_out.specs.block_bytes.Overwrites.{AreGoingToZero, AreLinesZeroed, IsInLines, SameBesideLines}
-use Rattle.pm_words.specs.Frames.{KeepsSingle, SameLent}
-use Rattle.pm_words.specs.Images.{Follows}
+use Rattle.lines_out.specs.pm_words.Frames.{KeepsSingle, SameLent}
+use Rattle.lines_out.specs.pm_words.Images.{Follows}
 use Rattle.k_content.specs.volume_facts.ImageLaws.{journaled-same}
 use Rattle.k_content.specs.volume_facts.ReadingLaws.{reads-same}
 use Rattle.k_log_plans.specs.k_journal.declared.batches.Entry.{Entry}

@@ -3,14 +3,14 @@ use Rattle.std.proofs.Common.{◌≡◌, ℕ, ◌+◌, ◌*◌, ◌/◌, ◌<◌
 use Rattle.std.proofs.lemmas.Bool.{both_ways, cases_lt}
 use Rattle.std.proofs.lemmas.Bool.Decides.{nat_tests}
 use Rattle.std.proofs.lemmas.List.{get_or_past}
-use Rattle.pm_words.specs.declared.Cell.{Cell}
-use Rattle.pm_words.specs.CellLaws.{newest-candidate}
-use Rattle.pm_words.specs.Cells.{cell, IsCandidate, is_lent, is_single, newest}
-use Rattle.pm_words.specs.Images.{IsImage}
-use Rattle.pm_words.specs.Parts.{Part}
-use Rattle.pm_words.specs.Words.{Words}
-use Rattle.disk_places.specs.Journal.{journaled}
-use Rattle.disk_places.specs.Places.{commit_word, is_data_block, log_block, log_line}
+use Rattle.lines_out.specs.pm_words.declared.Cell.{Cell}
+use Rattle.lines_out.specs.pm_words.CellLaws.{newest-candidate}
+use Rattle.lines_out.specs.pm_words.Cells.{cell, IsCandidate, is_lent, is_single, newest}
+use Rattle.lines_out.specs.pm_words.Images.{IsImage}
+use Rattle.lines_out.specs.pm_words.Parts.{Part}
+use Rattle.lines_out.specs.pm_words.Words.{Words}
+use Rattle.lines_out.specs.disk_places.Journal.{journaled}
+use Rattle.lines_out.specs.disk_places.Places.{commit_word, is_data_block, log_block, log_line}
 use Rattle.lines_out.specs.disk_rules.Placed.{block_at}
 use Rattle.lines_out.specs.disk_rules.Volume.{chain, Volume}
 use Rattle.lines_out.specs.block_bytes.Overwrites.{IsInLines}

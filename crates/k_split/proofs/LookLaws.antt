@@ -4,7 +4,7 @@ use Rattle.std.specs.Prelude.{not}
 use Rattle.std.specs.Option.{option_map_or}
 use Rattle.disk_lines.specs.Names.{Rows}
 use Rattle.lines_out.specs.disk_rules.Volume.{Volume}
-use Rattle.pm_words.specs.declared.Cell.{Cell}
+use Rattle.lines_out.specs.pm_words.declared.Cell.{Cell}
 use Rattle.disk_lines.specs.declared.Inode.{Inode}
 use Rattle.k_log_plans.specs.k_plans.View.{TablesView}
 use Rattle.k_content.specs.k_rules.Spaces.{is_directory_in, space_of, volume_space}

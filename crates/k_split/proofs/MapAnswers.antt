@@ -1,17 +1,17 @@
 -- What a change of maps leaves that was planned and landed.
 use Rattle.std.proofs.Common.{◌≡◌, ◌≢◌, ◌⊎◌, ℕ, ◌/◌, Bool, true, false, List, [], Some, None, Result, Ok, Err, refl, sym, ◌∙◌, ap, subst, arith, inl, inr}
 use Rattle.std.specs.Prelude.{OnErr, OnOk}
-use Rattle.pm_words.specs.declared.Cell.{Cell}
+use Rattle.lines_out.specs.pm_words.declared.Cell.{Cell}
 use Rattle.std.proofs.lemmas.Bool.{cases_Bool, cases_eq}
-use Rattle.pm_words.specs.Cells.{cell, is_single}
-use Rattle.pm_words.specs.Frames.{KeepsSingle}
-use Rattle.pm_words.specs.Powers.{Supply}
+use Rattle.lines_out.specs.pm_words.Cells.{cell, is_single}
+use Rattle.lines_out.specs.pm_words.Frames.{KeepsSingle}
+use Rattle.lines_out.specs.pm_words.Powers.{Supply}
 use Rattle.disk_lines.specs.declared.Inode.{Inode}
 use Rattle.disk_lines.specs.declared.Kind.TheVariants.{File}
-use Rattle.disk_places.specs.Places.{is_data_block}
+use Rattle.lines_out.specs.disk_places.Places.{is_data_block}
 use Rattle.lines_out.specs.disk_rules.Rules.{IsKindAt}
-use Rattle.extent_words.specs.Extents.{covers}
-use Rattle.extent_words.specs.declared.Extent.{Extent}
+use Rattle.lines_out.specs.extent_words.Extents.{covers}
+use Rattle.lines_out.specs.extent_words.declared.Extent.{Extent}
 use Rattle.k_log_plans.specs.k_map_plans.Plans.{IsLiveFile, IsStagingFile}
 use Rattle.lines_out.specs.map_rules.Changes.{given_up}
 use Rattle.lines_out.specs.map_rules.Taken.{switched, with_map}

@@ -2,12 +2,12 @@
 use Rattle.std.proofs.Common.{◌≡◌, ℕ, ◌*◌, ◌/◌, ◌<◌, true, false, List, length, get_or, sym, ◌∙◌, subst, arith}
 use Rattle.std.specs.Prelude.{All}
 use Rattle.std.proofs.lemmas.Bool.Decides.{nat_tests}
-use Rattle.pm_words.specs.declared.Cell.{Cell}
-use Rattle.pm_words.specs.Cells.{cell, Settles}
-use Rattle.pm_words.specs.Frames.{KeepsSingle, SameLent}
-use Rattle.pm_words.specs.Images.{Follows}
-use Rattle.pm_words.specs.Powers.{is_on, Supply}
-use Rattle.disk_places.specs.Places.{Geometry, is_data_block}
+use Rattle.lines_out.specs.pm_words.declared.Cell.{Cell}
+use Rattle.lines_out.specs.pm_words.Cells.{cell, Settles}
+use Rattle.lines_out.specs.pm_words.Frames.{KeepsSingle, SameLent}
+use Rattle.lines_out.specs.pm_words.Images.{Follows}
+use Rattle.lines_out.specs.pm_words.Powers.{is_on, Supply}
+use Rattle.lines_out.specs.disk_places.Places.{Geometry, is_data_block}
 use Rattle.lines_out.specs.disk_rules.Placed.{AreInDevice, block_at}
 use Rattle.lines_out.specs.disk_rules.Volume.{Volume}
 use Rattle.k_log_plans.specs.k_journal.Commits.{TakesAStep}

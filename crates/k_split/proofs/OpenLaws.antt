@@ -2,16 +2,16 @@
 use Rattle.std.proofs.Common.{◌≡◌, ℕ, ◌*◌, ◌/◌, Bool, false, List, [], length, Result, Ok, Err, Vec, Global, refl, sym, ◌∙◌, ap, subst}
 use Rattle.std.specs.Prelude.{IfOk}
 use Rattle.std.specs.declared.alloc.AllocError.{AllocError}
-use Rattle.pm_words.specs.declared.Cell.{Cell}
-use Rattle.pm_words.specs.declared.Cell.TheVariants.{Single}
-use Rattle.pm_words.specs.Cells.{AllSingle, cell, newest}
-use Rattle.pm_words.specs.ImageLaws.{image-single}
-use Rattle.pm_words.specs.Images.{words_of}
-use Rattle.pm_words.specs.Words.{word_at, Words}
-use Rattle.disk_places.specs.Journal.{journaled}
-use Rattle.disk_places.specs.PlaceLaws.{journaled-words}
-use Rattle.disk_places.specs.Places.{Geometry, IsGeometry, base_word, commit_word}
-use Rattle.extent_words.specs.declared.Extent.{Extent}
+use Rattle.lines_out.specs.pm_words.declared.Cell.{Cell}
+use Rattle.lines_out.specs.pm_words.declared.Cell.TheVariants.{Single}
+use Rattle.lines_out.specs.pm_words.Cells.{AllSingle, cell, newest}
+use Rattle.lines_out.specs.pm_words.ImageLaws.{image-single}
+use Rattle.lines_out.specs.pm_words.Images.{words_of}
+use Rattle.lines_out.specs.pm_words.Words.{word_at, Words}
+use Rattle.lines_out.specs.disk_places.Journal.{journaled}
+use Rattle.lines_out.specs.disk_places.PlaceLaws.{journaled-words}
+use Rattle.lines_out.specs.disk_places.Places.{Geometry, IsGeometry, base_word, commit_word}
+use Rattle.lines_out.specs.extent_words.declared.Extent.{Extent}
 use Rattle.disk_lines.specs.declared.Inode.{Inode}
 use Rattle.disk_lines.specs.Names.{Rows}
 use Rattle.disk_lines.specs.Tables.{IsKeyed}
@@ -20,7 +20,7 @@ use Rattle.lines_out.specs.disk_rules.Reading.{Reads}
 use Rattle.lines_out.specs.disk_rules.Rules.{geometry_of, IsChecked}
 use Rattle.lines_out.specs.disk_rules.Volume.{Volume, volume}
 use Rattle.k_content.specs.volume_facts.ImageLaws.{journaled-idle}
-use Rattle.disk_places.specs.PlaceLaws.{behind_log-words}
+use Rattle.lines_out.specs.disk_places.PlaceLaws.{behind_log-words}
 use Rattle.k_content.specs.volume_facts.LineWords.{data_word}
 use Rattle.k_content.specs.volume_facts.ReadingLaws.{reads-same, reads-volume}
 use Rattle.k_content.specs.name_facts.KeptLaws.{kept-keyed, reads-all_lines}

@@ -2,14 +2,14 @@
 use Rattle.std.proofs.Common.{◌≡◌, ◌≢◌, ◌⊎◌, ◌≤◌, ◌/◌, ◌++◌, ◌∷◌, [], ℕ, Bool, true, List, sym, ◌∙◌, ap, inl, inr, arith, subst}
 use Rattle.std.proofs.lemmas.Bool.{both_ways, cases_Bool, cases_eq}
 use Rattle.std.proofs.lemmas.List.{append-nil}
-use Rattle.pm_words.specs.declared.Cell.{Cell}
-use Rattle.pm_words.specs.Cells.{cell, is_single}
+use Rattle.lines_out.specs.pm_words.declared.Cell.{Cell}
+use Rattle.lines_out.specs.pm_words.Cells.{cell, is_single}
 use Rattle.disk_lines.specs.declared.Kind.TheVariants.{Staging}
 use Rattle.lines_out.specs.disk_rules.Rules.{IsKindAt}
 use Rattle.lines_out.specs.disk_rules.Volume.{Volume, extents, inode}
-use Rattle.extent_facts.specs.Covers.{covers-disk_at, disk_at-covers}
-use Rattle.extent_words.specs.declared.Extent.{Extent}
-use Rattle.extent_words.specs.Extents.{covers, disk_at, is_within, IsCanonical}
+use Rattle.lines_out.specs.extent_facts.Covers.{covers-disk_at, disk_at-covers}
+use Rattle.lines_out.specs.extent_words.declared.Extent.{Extent}
+use Rattle.lines_out.specs.extent_words.Extents.{covers, disk_at, is_within, IsCanonical}
 use Rattle.k_log_plans.specs.k_land.Plans.{NewChain, blocks_of}
 use Rattle.k_log_plans.specs.k_map_plans.Plans.{MayMove}
 use Rattle.k_log_plans.specs.k_plans.Whole.{IsWhole}

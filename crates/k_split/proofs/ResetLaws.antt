@@ -2,12 +2,12 @@
 use Rattle.std.proofs.Common.{◌≡◌, ◌∙◌, ◌<◌, ◌+◌, ◌/◌, ℕ, zero, suc, true, not, List, [], length, Option, Ok, Err, Result, if◌then◌else◌, refl, sym, ap, arith, inl, inr, subst}
 use Rattle.std.specs.Prelude.{◌==◌, ◌&&◌, nat_le, ◌^◌}
 use Rattle.std.proofs.lemmas.Bool.Decides.{nat_tests}
-use Rattle.pm_words.specs.declared.Cell.{Cell}
-use Rattle.pm_words.specs.ImageLaws.{IsImage-words_of}
-use Rattle.pm_words.specs.Images.{Follows, Follows-same, IsImage, words_of}
-use Rattle.pm_words.specs.Powers.{Supply}
-use Rattle.pm_words.specs.Words.{Words}
-use Rattle.disk_places.specs.Journal.{journaled}
+use Rattle.lines_out.specs.pm_words.declared.Cell.{Cell}
+use Rattle.lines_out.specs.pm_words.ImageLaws.{IsImage-words_of}
+use Rattle.lines_out.specs.pm_words.Images.{Follows, Follows-same, IsImage, words_of}
+use Rattle.lines_out.specs.pm_words.Powers.{Supply}
+use Rattle.lines_out.specs.pm_words.Words.{Words}
+use Rattle.lines_out.specs.disk_places.Journal.{journaled}
 use Rattle.disk_lines.specs.declared.Inode.{Inode}
 use Rattle.disk_lines.specs.declared.Kind.{Kind}
 use Rattle.disk_lines.specs.declared.Kind.TheVariants.{File}

@@ -3,11 +3,11 @@ use Rattle.std.proofs.Common.{◌≡◌, ℕ, ◌+◌, ◌*◌, ◌/◌, ◌<◌
 use Rattle.std.specs.Prelude.{IsSome}
 use Rattle.std.proofs.lemmas.Bool.{cases_lt}
 use Rattle.std.proofs.lemmas.Option.{same_Some}
-use Rattle.pm_words.specs.declared.Cell.{Cell}
-use Rattle.pm_words.specs.ImageLaws.{IsImage-words_of}
-use Rattle.pm_words.specs.Images.{words_of}
-use Rattle.extent_words.specs.Extents.{disk_at, IsCanonical}
-use Rattle.extent_facts.specs.Facts.{disk_at-past}
+use Rattle.lines_out.specs.pm_words.declared.Cell.{Cell}
+use Rattle.lines_out.specs.pm_words.ImageLaws.{IsImage-words_of}
+use Rattle.lines_out.specs.pm_words.Images.{words_of}
+use Rattle.lines_out.specs.extent_words.Extents.{disk_at, IsCanonical}
+use Rattle.lines_out.specs.extent_facts.Facts.{disk_at-past}
 use Rattle.lines_out.specs.disk_rules.Volume.{extents, Volume}
 use Rattle.lines_out.specs.block_bytes.Overwrites.{MayOverwrite}
 use Rattle.k_log_plans.specs.k_plans.Whole.{IsWhole}

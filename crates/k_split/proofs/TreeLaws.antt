@@ -2,10 +2,10 @@
 use Rattle.std.proofs.Common.{◌≡◌, Bool, false, List, [], Result, Ok, Err, sym, subst}
 use Rattle.std.specs.Prelude.{IfOk}
 use Rattle.std.specs.declared.alloc.AllocError.{AllocError}
-use Rattle.pm_words.specs.declared.Cell.{Cell}
-use Rattle.pm_words.specs.Cells.{AllHome}
-use Rattle.pm_words.specs.Images.{words_of}
-use Rattle.disk_places.specs.Journal.{journaled}
+use Rattle.lines_out.specs.pm_words.declared.Cell.{Cell}
+use Rattle.lines_out.specs.pm_words.Cells.{AllHome}
+use Rattle.lines_out.specs.pm_words.Images.{words_of}
+use Rattle.lines_out.specs.disk_places.Journal.{journaled}
 use Rattle.lines_out.specs.disk_rules.Content.{content, found}
 use Rattle.lines_out.specs.disk_rules.Live.{live_entries}
 use Rattle.lines_out.specs.disk_rules.Volume.{Volume}
@@ -13,7 +13,7 @@ use Rattle.posix_types.specs.declared.tree.TreeEntry.{TreeEntry}
 use Rattle.k_content.specs.posix_trees.TreeOf.{IsTreeOf}
 use Rattle.k_content.proofs.Reading.{have-trees}
 use Rattle.k_content.specs.Trees.{HasTables, HasTree, tree_content}
-use Rattle.extent_words.specs.declared.Extent.{Extent}
+use Rattle.lines_out.specs.extent_words.declared.Extent.{Extent}
 use Rattle.disk_lines.specs.declared.Inode.{Inode}
 use Rattle.disk_lines.specs.Names.{Rows}
 use Rattle.k_log_plans.specs.k_journal.declared.batches.Entry.{Entry}

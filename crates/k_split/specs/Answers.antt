@@ -1,12 +1,12 @@
 -- What a change of K-Split answers and leaves.
 use Rattle.std.specs.Prelude.{◌≡◌, ◌⊎◌, ℕ, ◌/◌, true, false, List, [], length, Option, Some, None, Result, Ok, Err}
-use Rattle.pm_words.specs.declared.Cell.{Cell}
-use Rattle.pm_words.specs.Cells.{cell, Settles}
-use Rattle.pm_words.specs.Frames.{SameLent, KeepsSingle}
-use Rattle.pm_words.specs.Images.{Follows}
-use Rattle.pm_words.specs.Powers.{is_on, Supply}
-use Rattle.disk_places.specs.Journal.{is_journal_word}
-use Rattle.disk_places.specs.Places.{is_journaled_line}
+use Rattle.lines_out.specs.pm_words.declared.Cell.{Cell}
+use Rattle.lines_out.specs.pm_words.Cells.{cell, Settles}
+use Rattle.lines_out.specs.pm_words.Frames.{SameLent, KeepsSingle}
+use Rattle.lines_out.specs.pm_words.Images.{Follows}
+use Rattle.lines_out.specs.pm_words.Powers.{is_on, Supply}
+use Rattle.lines_out.specs.disk_places.Journal.{is_journal_word}
+use Rattle.lines_out.specs.disk_places.Places.{is_journaled_line}
 use Rattle.lines_out.specs.disk_rules.Volume.{Volume}
 use Rattle.k_log_plans.specs.k_journal.Commits.{TakesAStep}
 use Rattle.k_log_plans.specs.k_journal.declared.outcomes.Commit.{Commit}

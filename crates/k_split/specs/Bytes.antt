@@ -1,13 +1,13 @@
 -- What the calls leave that write bytes of a file over in place.
 use Rattle.std.specs.Prelude.{◌≡◌, ◌⊎◌, ◌≤◌, ◌<◌, ◌+◌, ◌-◌, ◌/◌, ◌%◌, ℕ, true, false, List, [], length, replicate, Option, Some, None, IsSome, Result, Ok, Err}
-use Rattle.pm_words.specs.declared.Cell.{Cell}
-use Rattle.pm_words.specs.Cells.{cell, Settles}
-use Rattle.pm_words.specs.Frames.{KeepsSingle, SameLent}
-use Rattle.pm_words.specs.Images.{Follows}
-use Rattle.pm_words.specs.Powers.{is_on, Supply}
-use Rattle.pm_words.specs.Words.{Words}
-use Rattle.disk_places.specs.Journal.{IsSound, journaled}
-use Rattle.extent_words.specs.Extents.{disk_at}
+use Rattle.lines_out.specs.pm_words.declared.Cell.{Cell}
+use Rattle.lines_out.specs.pm_words.Cells.{cell, Settles}
+use Rattle.lines_out.specs.pm_words.Frames.{KeepsSingle, SameLent}
+use Rattle.lines_out.specs.pm_words.Images.{Follows}
+use Rattle.lines_out.specs.pm_words.Powers.{is_on, Supply}
+use Rattle.lines_out.specs.pm_words.Words.{Words}
+use Rattle.lines_out.specs.disk_places.Journal.{IsSound, journaled}
+use Rattle.lines_out.specs.extent_words.Extents.{disk_at}
 use Rattle.disk_lines.specs.declared.Kind.TheVariants.{File}
 use Rattle.lines_out.specs.disk_rules.Reading.{Reads}
 use Rattle.lines_out.specs.disk_rules.Volume.{extents, inode, Volume}

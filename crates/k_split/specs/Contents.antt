@@ -1,11 +1,11 @@
 -- The content of the images of a change.
 use Rattle.std.specs.Prelude.{◌≡◌, ◌⊎◌, ◌<◌, ℕ, List, [], length, All, true, false}
-use Rattle.pm_words.specs.declared.Cell.{Cell}
-use Rattle.pm_words.specs.Images.{Follows}
-use Rattle.pm_words.specs.Words.{Words}
-use Rattle.disk_places.specs.Journal.{journaled}
-use Rattle.disk_places.specs.Places.{Geometry}
-use Rattle.extent_words.specs.Extents.{covers}
+use Rattle.lines_out.specs.pm_words.declared.Cell.{Cell}
+use Rattle.lines_out.specs.pm_words.Images.{Follows}
+use Rattle.lines_out.specs.pm_words.Words.{Words}
+use Rattle.lines_out.specs.disk_places.Journal.{journaled}
+use Rattle.lines_out.specs.disk_places.Places.{Geometry}
+use Rattle.lines_out.specs.extent_words.Extents.{covers}
 use Rattle.lines_out.specs.disk_rules.Content.{content, found}
 use Rattle.lines_out.specs.disk_rules.Kept.{AreKept}
 use Rattle.lines_out.specs.disk_rules.Live.{live_entries}

@@ -1,14 +1,14 @@
 -- What the filling of holes of a file answers and leaves.
 use Rattle.std.specs.Prelude.{◌≡◌, ◌≢◌, ◌⊎◌, ℕ, true, All, List, ◌++◌, length, Option, None, Some, Result, Ok, Err}
-use Rattle.pm_words.specs.declared.Cell.{Cell}
-use Rattle.pm_words.specs.Powers.{Supply}
+use Rattle.lines_out.specs.pm_words.declared.Cell.{Cell}
+use Rattle.lines_out.specs.pm_words.Powers.{Supply}
 use Rattle.lines_out.specs.disk_rules.Placed.{AreDistinct, AreSingle}
 use Rattle.lines_out.specs.disk_rules.Volume.{Volume, chain, extents}
 use Rattle.k_log_plans.specs.k_journal.declared.batches.Entry.{Entry}
 use Rattle.k_log_plans.specs.k_land.Maps.{AreApart}
 use Rattle.k_log_plans.specs.k_land.Plans.{NewChain, blocks_of}
 use Rattle.k_log_plans.specs.k_map_plans.Plans.{holes_row}
-use Rattle.disk_places.specs.Places.{reserve}
+use Rattle.lines_out.specs.disk_places.Places.{reserve}
 use Rattle.k_content.specs.k_rules.View.{View}
 use Rattle.lines_out.specs.map_rules.Changes.{holes, IsFilled}
 use Rattle.lines_out.specs.map_rules.Zeros.{ReadZeros}

@@ -1,8 +1,8 @@
 -- A plan on the tables, and what its landing leaves.
 use Rattle.std.specs.Prelude.{◌≡◌, ◌<◌, ◌≤◌, true, false, List, [], length, Result, Ok, Err}
-use Rattle.pm_words.specs.declared.Cell.{Cell}
-use Rattle.pm_words.specs.Frames.{KeepsSingle}
-use Rattle.pm_words.specs.Powers.{is_on, Supply}
+use Rattle.lines_out.specs.pm_words.declared.Cell.{Cell}
+use Rattle.lines_out.specs.pm_words.Frames.{KeepsSingle}
+use Rattle.lines_out.specs.pm_words.Powers.{is_on, Supply}
 use Rattle.lines_out.specs.disk_rules.Volume.{Volume}
 use Rattle.k_log_plans.specs.k_journal.Commits.{TakesAStep}
 use Rattle.k_log_plans.specs.k_journal.declared.batches.Entry.{Entry}

@@ -1,11 +1,11 @@
 -- A new lap of the log, and a log that begins anew.
 use Rattle.std.specs.Prelude.{◌≡◌, ◌⊎◌, ◌+◌, ◌≤◌, ◌^◌, ℕ, true, length, List, None, Result}
-use Rattle.pm_words.specs.declared.Cell.{Cell}
-use Rattle.pm_words.specs.Cells.{cell, is_single, Settles}
-use Rattle.pm_words.specs.Frames.{KeepsSingle, SameLent}
-use Rattle.pm_words.specs.Images.{Follows}
+use Rattle.lines_out.specs.pm_words.declared.Cell.{Cell}
+use Rattle.lines_out.specs.pm_words.Cells.{cell, is_single, Settles}
+use Rattle.lines_out.specs.pm_words.Frames.{KeepsSingle, SameLent}
+use Rattle.lines_out.specs.pm_words.Images.{Follows}
 use Rattle.lines_out.specs.block_bytes.Overwrites.{AreGoingToZero, AreLinesZeroed, IsInLines, SameBesideLines}
-use Rattle.disk_places.specs.Places.{log_line}
+use Rattle.lines_out.specs.disk_places.Places.{log_line}
 use Rattle.lines_out.specs.disk_rules.Reading.{base_set}
 use Rattle.lines_out.specs.disk_rules.Volume.{Volume}
 use Rattle.k_log_plans.specs.k_journal.declared.outcomes.Commit.{Commit}

@@ -36,3 +36,12 @@ pub use Rattle.lines_out.specs as lines_out
 pub use Rattle.lines_out.specs.block_bytes as block_bytes
 pub use Rattle.lines_out.specs.disk_rules as disk_rules
 pub use Rattle.lines_out.specs.map_rules as map_rules
+pub use Rattle.disk_lines.specs as disk_lines
+pub use Rattle.disk_lines.specs.disk_places as disk_places
+pub use Rattle.extent_map.specs.extent_facts as extent_facts
+pub use Rattle.extent_map.specs.extent_words as extent_words
+pub use Rattle.k_content.specs.list_facts as list_facts
+pub use Rattle.pm_lines.specs.pm_words as pm_words
+pub use Rattle.posix_types.specs as posix_types
+pub use Rattle.posix_words.specs as posix_words
+pub use Rattle.posix_words.specs.block_counts as block_counts

@@ -1,8 +1,8 @@
 -- What is asked of a block of a staging file that is lent, or written in place.
 use Rattle.std.specs.Prelude.{◌≡◌, ◌≤◌, ◌/◌, ℕ, true, List, Some}
-use Rattle.pm_words.specs.declared.Cell.{Cell}
-use Rattle.pm_words.specs.Cells.{cell, is_single}
-use Rattle.extent_words.specs.Extents.{disk_at}
+use Rattle.lines_out.specs.pm_words.declared.Cell.{Cell}
+use Rattle.lines_out.specs.pm_words.Cells.{cell, is_single}
+use Rattle.lines_out.specs.extent_words.Extents.{disk_at}
 use Rattle.lines_out.specs.disk_rules.Volume.{extents, Volume}
 
 -- The staging file, inode 1 to 4, has this disk block at its block, and each word of it has one candidate: so none is lent.

@@ -1,7 +1,7 @@
 -- The log's lines, out for a lap.
 use Rattle.std.specs.Prelude.{◌≡◌, List, length}
-use Rattle.pm_words.specs.Parts.{Part}
-use Rattle.disk_places.specs.Places.{log_line}
+use Rattle.lines_out.specs.pm_words.Parts.{Part}
+use Rattle.lines_out.specs.disk_places.Places.{log_line}
 use Rattle.lines_out.specs.disk_rules.Volume.{Volume}
 use Rattle.lines_out.specs.Lines.{AreFrom}
 

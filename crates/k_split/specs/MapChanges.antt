@@ -1,17 +1,17 @@
 -- What a change of maps answers and leaves.
 use Rattle.std.specs.Prelude.{◌≡◌, ◌⊎◌, ◌<◌, ◌&&◌, ◌/◌, not, ℕ, Bool, true, false, List, [], ◌++◌, length, Some, Result, Ok, Err}
-use Rattle.pm_words.specs.declared.Cell.{Cell}
-use Rattle.pm_words.specs.Cells.{cell, is_single, Settles}
-use Rattle.pm_words.specs.Frames.{SameLent, KeepsSingle}
-use Rattle.pm_words.specs.Images.{Follows}
-use Rattle.pm_words.specs.Powers.{is_on, Supply}
+use Rattle.lines_out.specs.pm_words.declared.Cell.{Cell}
+use Rattle.lines_out.specs.pm_words.Cells.{cell, is_single, Settles}
+use Rattle.lines_out.specs.pm_words.Frames.{SameLent, KeepsSingle}
+use Rattle.lines_out.specs.pm_words.Images.{Follows}
+use Rattle.lines_out.specs.pm_words.Powers.{is_on, Supply}
 use Rattle.k_log_plans.specs.block_pool.FreeSets.{is_among}
-use Rattle.disk_places.specs.Journal.{is_journal_word}
-use Rattle.disk_places.specs.Places.{is_journaled_line}
+use Rattle.lines_out.specs.disk_places.Journal.{is_journal_word}
+use Rattle.lines_out.specs.disk_places.Places.{is_journaled_line}
 use Rattle.lines_out.specs.disk_rules.Placed.{AreSingle, IsOutside}
 use Rattle.lines_out.specs.disk_rules.Volume.{Volume, chain, extents}
-use Rattle.extent_words.specs.Extents.{covers, disk_at, is_within}
-use Rattle.extent_words.specs.declared.Extent.{Extent}
+use Rattle.lines_out.specs.extent_words.Extents.{covers, disk_at, is_within}
+use Rattle.lines_out.specs.extent_words.declared.Extent.{Extent}
 use Rattle.k_log_plans.specs.k_journal.Commits.{TakesAStep}
 use Rattle.k_log_plans.specs.k_journal.declared.batches.Entry.{Entry}
 use Rattle.k_log_plans.specs.k_land.Plans.{NewChain, new_at}

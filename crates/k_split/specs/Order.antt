@@ -1,9 +1,9 @@
 -- When K-Split is in order.
 use Rattle.std.specs.Prelude.{◌≡◌, ◌≤◌, ℕ, ◌/◌, Bool, true, false, List, []}
-use Rattle.pm_words.specs.declared.Cell.{Cell}
-use Rattle.pm_words.specs.Cells.{cell, is_single}
-use Rattle.disk_places.specs.Places.{is_data_block}
-use Rattle.extent_words.specs.Extents.{covers}
+use Rattle.lines_out.specs.pm_words.declared.Cell.{Cell}
+use Rattle.lines_out.specs.pm_words.Cells.{cell, is_single}
+use Rattle.lines_out.specs.disk_places.Places.{is_data_block}
+use Rattle.lines_out.specs.extent_words.Extents.{covers}
 use Rattle.lines_out.specs.disk_rules.Volume.{Volume, extents}
 use Rattle.k_log_plans.specs.k_journal.declared.batches.Entry.{Entry}
 use Rattle.k_log_plans.specs.k_plans.View.{TablesView}

@@ -1,7 +1,7 @@
 -- The entries that a file has applied count anew.
 use Rattle.std.specs.Prelude.{◌≡◌, ℕ, List, None, Result}
-use Rattle.pm_words.specs.Words.{Words}
-use Rattle.disk_places.specs.Journal.{journaled}
+use Rattle.lines_out.specs.pm_words.Words.{Words}
+use Rattle.lines_out.specs.disk_places.Journal.{journaled}
 use Rattle.lines_out.specs.disk_rules.Content.{content}
 use Rattle.lines_out.specs.disk_rules.Volume.{Volume}
 use Rattle.k_log_plans.specs.Resets.{HasNoValid, reset}

@@ -1,8 +1,8 @@
 //! Bytes of a file, written over in place.
 ghost use Rattle.std.specs.Prelude.{◌≡◌, ◌+◌, ◌*◌, ◌/◌, ◌%◌, ◌^◌, ◌<◌, ◌≤◌, ℕ, true, false, length, replicate, take, IsSome};
 ghost use Rattle.lines_out.specs.block_bytes.Overwrites.{blocks_reached, MayOverwrite};
-ghost use Rattle.pm_words.specs.Powers.{is_on, Steps};
-ghost use Rattle.extent_words.specs.Extents.{disk_at};
+ghost use Rattle.lines_out.specs.pm_words.Powers.{is_on, Steps};
+ghost use Rattle.lines_out.specs.extent_words.Extents.{disk_at};
 ghost use Rattle.disk_lines.specs.declared.Kind.TheVariants.{File};
 ghost use Rattle.lines_out.specs.disk_rules.Volume.{extents, inode};
 ghost use Rattle.k_split.specs.Bytes.{IsOverwriteAnswer, IsOverwritePaid, MayWriteBytes};
@@ -12,7 +12,7 @@ ghost use Rattle.k_split.specs.Loans.{MayLend};
 use crate::faults::KFault;
 use crate::state::KSplit;
 use extent_map::ExtentMap;
-use lines_out::block_bytes::write_bytes;
+use lines_out::write_bytes;
 use pm_lines::Power;
 
 // How many bytes clean a file from byte `from` on: those to the end of its block, and none of a hole.

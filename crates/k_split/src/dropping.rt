@@ -1,6 +1,6 @@
 //! Dropping a file that has no name.
 ghost use Rattle.std.specs.Prelude.{◌≡◌, ◌≢◌, true, false, None, Err};
-ghost use Rattle.pm_words.specs.Powers.{is_on, Steps};
+ghost use Rattle.lines_out.specs.pm_words.Powers.{is_on, Steps};
 ghost use Rattle.k_log_plans.specs.volume_changes.Changes.{MayDrop};
 ghost use Rattle.k_split.specs.Answers.{IsPaid};
 ghost use Rattle.k_split.specs.Names.{IsDropAnswer};

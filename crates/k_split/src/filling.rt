@@ -2,18 +2,15 @@
 ghost use Rattle.std.specs.Prelude.{◌≡◌, ◌≤◌, ◌+◌, ◌*◌, ◌^◌, ◌∷◌, [], length, true, false, OnOk, OnErr};
 ghost use Rattle.lines_out.specs.disk_rules.Volume.{Volume};
 ghost use Rattle.k_log_plans.specs.k_map_plans.Plans.{IsLiveFile};
-ghost use Rattle.pm_words.specs.Powers.{is_on, Steps};
+ghost use Rattle.lines_out.specs.pm_words.Powers.{is_on, Steps};
 ghost use Rattle.k_split.specs.Answers.{IsPaid};
 ghost use Rattle.k_split.specs.Filling.{fill_row, hole_count, IsFillAnswer, IsFillLanded, IsFillPlanned};
 
 use crate::faults::KFault;
 use crate::mapping::land_maps_plan;
 use crate::state::KSplit;
-use k_log_plans::k_journal::Batch;
-use k_log_plans::k_land::NewMap;
-use k_log_plans::k_map_plans::{may_fill, plan_fill};
-use k_log_plans::k_plans::Tables;
-use lines_out::block_bytes::zero_blocks;
+use k_log_plans::{Batch, NewMap, Tables, may_fill, plan_fill};
+use lines_out::zero_blocks;
 use pm_lines::{Pm, Power};
 use std::alloc::Global;
 use std::slice;

@@ -1,14 +1,14 @@
 //! Blocks of staging files, lent and taken back; blocks read.
 ghost use Rattle.std.specs.Prelude.{◌≡◌, ◌+◌, ◌*◌, ◌/◌, ◌<◌, ℕ, true, false, length, slice_index, IfOk, OnErr};
 ghost use Rattle.lines_out.specs.disk_rules.Placed.{BlockIsHome};
-ghost use Rattle.pm_words.specs.Cells.{cell, is_lent};
-ghost use Rattle.pm_words.specs.Images.{words_of};
-ghost use Rattle.pm_words.specs.Parts.{ComesBack, GoesOut};
-ghost use Rattle.pm_words.specs.Words.{byte_of};
+ghost use Rattle.lines_out.specs.pm_words.Cells.{cell, is_lent};
+ghost use Rattle.lines_out.specs.pm_words.Images.{words_of};
+ghost use Rattle.lines_out.specs.pm_words.Parts.{ComesBack, GoesOut};
+ghost use Rattle.lines_out.specs.pm_words.Words.{byte_of};
 ghost use Rattle.k_split.specs.Loans.{MayLend};
 
 use crate::state::KSplit;
-use lines_out::block_bytes::read_block;
+use lines_out::read_block;
 use pm_lines::Loan;
 use std::alloc::{AllocError, Global};
 

@@ -37,10 +37,11 @@ mod state;
 mod trees;
 
 pub use faults::KFault;
-pub use k_content::posix_spec;
-pub use k_log_plans::{image_layout, k_inodes, k_journal};
+pub use k_content::{
+    Call, Flags, Handle, Mode, Outcome, Path, Reply, Shape, Tree, TreeEntry, TreeNode, Who,
+};
+pub use k_log_plans::{Commit, Geometry, Kind, Recovered, recover};
 pub use laws::images_have_the_old_or_the_new_content;
-pub use lines_out;
-pub use lines_out::map_rules;
+pub use lines_out::{Move, put_lines};
 pub use opening::mkfs;
 pub use state::KSplit;

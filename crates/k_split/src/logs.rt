@@ -1,7 +1,7 @@
 //! The log's lines, taken out for a lap and put back.
 ghost use Rattle.std.specs.Prelude.{◌≡◌, ◌≤◌, ℕ, true, false, length, IfOk, OnErr};
-ghost use Rattle.pm_words.specs.Cells.{cell, is_lent, is_single};
-ghost use Rattle.disk_places.specs.Places.{log_line};
+ghost use Rattle.lines_out.specs.pm_words.Cells.{cell, is_lent, is_single};
+ghost use Rattle.lines_out.specs.disk_places.Places.{log_line};
 ghost use Rattle.lines_out.specs.Lines.{LinesComeBack, LinesGoOut};
 ghost use Rattle.k_split.specs.Laps.{HasSingleLog, IsLogWord};
 ghost use Rattle.k_split.specs.LogLines.{AreLogLines};

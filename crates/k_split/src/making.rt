@@ -1,6 +1,6 @@
 //! Making a node.
 ghost use Rattle.std.specs.Prelude.{◌≡◌, true, false};
-ghost use Rattle.pm_words.specs.Powers.{is_on, Steps};
+ghost use Rattle.lines_out.specs.pm_words.Powers.{is_on, Steps};
 ghost use Rattle.k_log_plans.specs.path_spelling.Spelling.{AreSpelled};
 ghost use Rattle.k_split.specs.Answers.{IsPaid};
 ghost use Rattle.k_split.specs.Names.{make_row, IsMakeAnswer};

@@ -1,21 +1,18 @@
 //! Maps: what they are, the landing of a plan with new ones, and the size of a file.
 ghost use Rattle.std.specs.Prelude.{◌≡◌, ◌<◌, ◌≤◌, ◌+◌, ◌^◌, ◌↔◌, [], length, true, false, None, IfSome, IsSome, OnOk, OnErr};
 ghost use Rattle.disk_lines.specs.Lines.{most_bytes};
-ghost use Rattle.disk_places.specs.Places.{reserve};
+ghost use Rattle.lines_out.specs.disk_places.Places.{reserve};
 ghost use Rattle.lines_out.specs.disk_rules.Volume.{Volume, extents};
 ghost use Rattle.k_log_plans.specs.k_land.Plans.{blocks_of};
 ghost use Rattle.k_log_plans.specs.k_map_plans.Plans.{IsLiveFile};
-ghost use Rattle.pm_words.specs.Powers.{is_on, Steps};
+ghost use Rattle.lines_out.specs.pm_words.Powers.{is_on, Steps};
 ghost use Rattle.k_split.specs.Answers.{IsPaid};
 ghost use Rattle.k_split.specs.MapChanges.{IsMapLanded, IsMapPlanned, IsSizeAnswer, free_blocks_in};
 
 use crate::faults::KFault;
 use crate::state::KSplit;
 use extent_map::ExtentMap;
-use k_log_plans::k_journal::{Batch, Commit};
-use k_log_plans::k_land::{NewMap, land_maps};
-use k_log_plans::k_map_plans::plan_size;
-use k_log_plans::k_plans::Tables;
+use k_log_plans::{Batch, Commit, NewMap, Tables, land_maps, plan_size};
 use pm_lines::{Pm, Power};
 use std::alloc::Global;
 use std::slice;

@@ -1,23 +1,22 @@
 //! A fresh image, and the K-Split of a device.
 ghost use Rattle.std.specs.Prelude.{◌≡◌, ◌*◌, [], false, length, IfOk};
-ghost use Rattle.disk_places.specs.Places.{commit_word, IsGeometry};
-ghost use Rattle.disk_places.specs.Journal.{journaled};
+ghost use Rattle.lines_out.specs.disk_places.Places.{commit_word, IsGeometry};
+ghost use Rattle.lines_out.specs.disk_places.Journal.{journaled};
 ghost use Rattle.disk_lines.specs.Fresh.{fresh};
 ghost use Rattle.lines_out.specs.disk_rules.Content.{content};
 ghost use Rattle.lines_out.specs.disk_rules.FreshVolume.{root_alone};
 ghost use Rattle.lines_out.specs.disk_rules.Rules.{geometry_of, IsChecked};
 ghost use Rattle.lines_out.specs.disk_rules.Volume.{volume};
-ghost use Rattle.pm_words.specs.Cells.{cell, AllSingle};
-ghost use Rattle.pm_words.specs.Images.{words_of};
-ghost use Rattle.pm_words.specs.Words.{word_at};
-ghost use Rattle.pm_words.specs.declared.Cell.{Cell};
+ghost use Rattle.lines_out.specs.pm_words.Cells.{cell, AllSingle};
+ghost use Rattle.lines_out.specs.pm_words.Images.{words_of};
+ghost use Rattle.lines_out.specs.pm_words.Words.{word_at};
+ghost use Rattle.lines_out.specs.pm_words.declared.Cell.{Cell};
 ghost use Rattle.k_split.specs.Order.{IsOpened};
 
 use crate::state::KSplit;
-use k_log_plans::image_layout::Geometry;
-use k_log_plans::k_journal::Batch;
-use k_log_plans::k_plans::Tables;
-use k_log_plans::k_reading::{fresh_image, read_base, read_inodes, read_maps, read_names};
+use k_log_plans::{
+    Batch, Geometry, Tables, fresh_image, read_base, read_inodes, read_maps, read_names,
+};
 use pm_lines::Pm;
 use std::alloc::{AllocError, Global};
 

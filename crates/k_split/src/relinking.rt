@@ -1,16 +1,16 @@
 //! Blocks go from a staging file to a file, by their numbers in the two maps.
 ghost use Rattle.std.specs.Prelude.{◌≡◌, ◌≤◌, ◌+◌, ◌^◌, true, false, None};
-ghost use Rattle.disk_places.specs.Places.{reserve};
+ghost use Rattle.lines_out.specs.disk_places.Places.{reserve};
 ghost use Rattle.k_log_plans.specs.k_map_plans.Plans.{MayMove};
-ghost use Rattle.pm_words.specs.Powers.{is_on, Steps};
+ghost use Rattle.lines_out.specs.pm_words.Powers.{is_on, Steps};
 ghost use Rattle.k_split.specs.Answers.{IsPaid};
 ghost use Rattle.k_split.specs.MapChanges.{IsMovedSingle, IsRelinkAnswer, free_blocks_in};
 
 use crate::faults::KFault;
 use crate::mapping::land_maps_plan;
 use crate::state::KSplit;
-use k_log_plans::k_map_plans::plan_move;
-use lines_out::map_rules::Move;
+use k_log_plans::plan_move;
+use lines_out::Move;
 use pm_lines::Power;
 use std::alloc::Global;
 

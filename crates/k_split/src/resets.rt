@@ -1,7 +1,7 @@
 //! The entries that a file has applied count anew.
 ghost use Rattle.std.specs.Prelude.{◌≡◌, true, false, None};
-ghost use Rattle.pm_words.specs.Images.{Follows};
-ghost use Rattle.pm_words.specs.Powers.{is_on, Steps};
+ghost use Rattle.lines_out.specs.pm_words.Images.{Follows};
+ghost use Rattle.lines_out.specs.pm_words.Powers.{is_on, Steps};
 ghost use Rattle.k_log_plans.specs.k_map_plans.Plans.{IsLiveFile};
 ghost use Rattle.k_split.specs.Answers.{IsPaid};
 ghost use Rattle.k_split.specs.Resets.{IsResetAnswer, KeepsUnloggedContent};

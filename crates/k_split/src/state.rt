@@ -5,9 +5,7 @@ ghost use Rattle.k_log_plans.specs.k_plans.View.{node_at};
 ghost use Rattle.k_split.specs.Order.{IsInOrder};
 
 use disk_lines::Inode;
-use k_log_plans::image_layout::Geometry;
-use k_log_plans::k_journal::Batch;
-use k_log_plans::k_plans::Tables;
+use k_log_plans::{Batch, Geometry, Tables};
 use pm_lines::Pm;
 use std::marker::Model;
 

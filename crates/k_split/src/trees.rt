@@ -1,8 +1,8 @@
 //! The tree of a K-Split.
 ghost use Rattle.std.specs.Prelude.{◌≡◌, [], false, IfOk};
-ghost use Rattle.pm_words.specs.Cells.{AllHome};
-ghost use Rattle.pm_words.specs.Images.{words_of};
-ghost use Rattle.disk_places.specs.Journal.{journaled};
+ghost use Rattle.lines_out.specs.pm_words.Cells.{AllHome};
+ghost use Rattle.lines_out.specs.pm_words.Images.{words_of};
+ghost use Rattle.lines_out.specs.disk_places.Journal.{journaled};
 ghost use Rattle.lines_out.specs.disk_rules.Content.{content, found};
 ghost use Rattle.lines_out.specs.disk_rules.Live.{live_entries};
 ghost use Rattle.k_content.specs.posix_trees.TreeOf.{IsTreeOf};

@@ -4,7 +4,7 @@ use Rattle.std.specs.Prelude.{◌==◌, count_by, is_some, option_and_then}
 use Rattle.std.proofs.lemmas.Bool.{both_ways, eqb-true}
 use Rattle.std.proofs.lemmas.List.Elements.{All-append}
 use Rattle.std.proofs.lemmas.List.Sums.{sum_by-append, sum_by-cons}
-use Rattle.disk_places.specs.Fields.{is_same}
+use Rattle.k_names.specs.disk_places.Fields.{is_same}
 use Rattle.disk_lines.specs.Lines.{NameRow}
 use Rattle.disk_lines.specs.Names.{Rows, row, is_entry, child_named, find_name}
 use Rattle.disk_lines.specs.TableLaws.{find_name-none, is_entry-own, names_below-once, NamingLine-child_named}

@@ -9,7 +9,7 @@ use Rattle.std.proofs.lemmas.List.{append-nil, drop_all, take_all}
 use Rattle.std.proofs.lemmas.List.Elements.{All-append, All-map}
 use Rattle.std.proofs.lemmas.List.Sorted.{All-permutation, sum_by-IsPermutation}
 use Rattle.std.proofs.lemmas.List.Sums.{sum_by-append, sum_by-cons, sum_by_more}
-use Rattle.disk_places.specs.Fields.{is_same}
+use Rattle.k_names.specs.disk_places.Fields.{is_same}
 use Rattle.disk_lines.specs.Names.{Rows, child_named, walk}
 use Rattle.disk_lines.specs.TableLaws.{walk-append}
 use Rattle.disk_lines.specs.Tables.{IsKeyed, names_below}

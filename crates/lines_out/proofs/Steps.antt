@@ -2,9 +2,9 @@
 use Rattle.std.proofs.Common.{◌≡◌, ◌≢◌, ℕ, ◌+◌, ◌*◌, ◌/◌, ◌%◌, ◌<◌, ◌≤◌, ◌++◌, ◌∷◌, [], List, length, true, false, refl, sym, ◌∙◌, ap, subst, arith, ⊎_elim}
 use Rattle.std.proofs.lemmas.Bool.{cases_eq, cases_lt}
 use Rattle.std.proofs.lemmas.List.{get_or_append_left, get_or_at, get_or_push, length-append, length_push}
-use Rattle.pm_words.specs.declared.Cell.{Cell}
-use Rattle.pm_words.specs.Cells.{cell, is_lent, unmarked}
-use Rattle.pm_words.specs.Parts.{ComesBack, GoesOut, Part}
+use Rattle.block_bytes.specs.pm_words.declared.Cell.{Cell}
+use Rattle.block_bytes.specs.pm_words.Cells.{cell, is_lent, unmarked}
+use Rattle.block_bytes.specs.pm_words.Parts.{ComesBack, GoesOut, Part}
 use Rattle.block_bytes.specs.Overwrites.{IsInLines}
 use Rattle.lines_out.specs.Lines.{AreFrom, line_at, LinesComeBack, LinesGoOut}
 

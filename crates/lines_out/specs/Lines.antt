@@ -1,9 +1,9 @@
 -- Lines of a device, taken out in order and put back.
 use Rattle.std.specs.Prelude.{◌≡◌, ◌<◌, ℕ, ◌+◌, ◌*◌, List, [], length, slice_index_or}
-use Rattle.pm_words.specs.declared.Cell.{Cell}
-use Rattle.pm_words.specs.declared.Cell.TheVariants.{Lent}
-use Rattle.pm_words.specs.Cells.{cell, unmarked}
-use Rattle.pm_words.specs.Parts.{Part}
+use Rattle.block_bytes.specs.pm_words.declared.Cell.{Cell}
+use Rattle.block_bytes.specs.pm_words.declared.Cell.TheVariants.{Lent}
+use Rattle.block_bytes.specs.pm_words.Cells.{cell, unmarked}
+use Rattle.block_bytes.specs.pm_words.Parts.{Part}
 use Rattle.block_bytes.specs.Overwrites.{IsInLines}
 
 -- line n of these

@@ -9,7 +9,7 @@
 #![tactic(auto)]
 
 ghost use Rattle.std.specs.Prelude.{◌≡◌, ◌<◌, ◌≤◌, ◌+◌, ◌*◌, ◌^◌, ℕ, [], true, false, length, vec_capacity};
-ghost use Rattle.pm_words.specs.Cells.{cell, is_lent, is_single};
+ghost use Rattle.block_bytes.specs.pm_words.Cells.{cell, is_lent, is_single};
 ghost use Rattle.block_bytes.specs.Overwrites.{IsInLines};
 ghost use Rattle.lines_out.specs.Lines.{AreFrom, LinesComeBack, LinesGoOut};
 
@@ -50,5 +50,4 @@ pub fn put_lines(pm: &mut Pm, first: u64, lines: Vec<Line>)
     }
 }
 
-pub use block_bytes;
-pub use block_bytes::map_rules;
+pub use block_bytes::{Move, read_block, write_bytes, zero_blocks, zero_lines};

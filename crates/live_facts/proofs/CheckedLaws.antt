@@ -5,18 +5,18 @@ use Rattle.std.specs.List.{range_with_len}
 use Rattle.std.proofs.lemmas.Bool.{and_parts, cases_eq, cases_lt}
 use Rattle.std.proofs.lemmas.Bool.Decides.{nat_tests}
 use Rattle.std.proofs.lemmas.Option.{same_Some}
-use Rattle.pm_words.specs.Words.{line_bytes, Words}
-use Rattle.disk_lines.specs.declared.Draft.{Draft}
-use Rattle.disk_lines.specs.declared.Kind.{Kind}
-use Rattle.disk_lines.specs.declared.Kind.TheVariants.{Directory, File, Free, Staging}
-use Rattle.disk_lines.specs.Entries.{is_draft}
-use Rattle.disk_lines.specs.EntryLaws.{IsEntryLine-decode_entry}
-use Rattle.disk_places.specs.Places.{log_line}
+use Rattle.world_runs.specs.pm_words.Words.{line_bytes, Words}
+use Rattle.world_runs.specs.disk_lines.declared.Draft.{Draft}
+use Rattle.world_runs.specs.disk_lines.declared.Kind.{Kind}
+use Rattle.world_runs.specs.disk_lines.declared.Kind.TheVariants.{Directory, File, Free, Staging}
+use Rattle.world_runs.specs.disk_lines.Entries.{is_draft}
+use Rattle.world_runs.specs.disk_lines.EntryLaws.{IsEntryLine-decode_entry}
+use Rattle.world_runs.specs.disk_places.Places.{log_line}
 use Rattle.world_runs.specs.disk_rules.Live.{entry_in, is_live, is_of_file, live_entries, valid_entries}
 use Rattle.world_runs.specs.disk_rules.Rules.{AreApart, HasStagingBlocks, IsKindAt}
 use Rattle.world_runs.specs.disk_rules.Volume.{inode, Volume}
-use Rattle.list_facts.specs.Filters.{filter-In, filter_map-In, range-In}
-use Rattle.list_facts.specs.Members.{In}
+use Rattle.world_runs.specs.list_facts.Filters.{filter-In, filter_map-In, range-In}
+use Rattle.world_runs.specs.list_facts.Members.{In}
 use Rattle.live_facts.specs.Laws.{AreSoundWhenChecked}
 
 All-In : {X : Type 0} (P : X → Type 0) (xs : List X) (x : X) → All P xs → In x xs → P x

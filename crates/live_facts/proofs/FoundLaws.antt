@@ -5,21 +5,21 @@ use Rattle.std.proofs.Common.{arith, ap, ◌∙◌, sym, subst, inl, inr}
 use Rattle.std.proofs.Math.Path.{fun_ext}
 use Rattle.std.proofs.lemmas.Bool.{and_parts, both_ways, cases_Bool, cases_eq, eq-eqb, lt-ltb, ne_eqb}
 use Rattle.std.proofs.lemmas.Bool.Decides.{Decides-eqb, nat_tests}
-use Rattle.pm_words.specs.Words.{line_bytes, Words}
-use Rattle.disk_places.specs.Places.{log_line}
-use Rattle.extent_words.specs.declared.Extent.{Extent}
-use Rattle.extent_words.specs.Extents.{disk_at, is_within}
-use Rattle.disk_lines.specs.declared.Draft.{Draft}
-use Rattle.disk_lines.specs.declared.Kind.{Kind}
-use Rattle.disk_lines.specs.declared.Kind.TheVariants.{Directory, File, Free, Staging}
-use Rattle.disk_lines.specs.Entries.{decode_entry}
-use Rattle.disk_lines.specs.Names.{walk}
+use Rattle.world_runs.specs.pm_words.Words.{line_bytes, Words}
+use Rattle.world_runs.specs.disk_places.Places.{log_line}
+use Rattle.world_runs.specs.extent_words.declared.Extent.{Extent}
+use Rattle.world_runs.specs.extent_words.Extents.{disk_at, is_within}
+use Rattle.world_runs.specs.disk_lines.declared.Draft.{Draft}
+use Rattle.world_runs.specs.disk_lines.declared.Kind.{Kind}
+use Rattle.world_runs.specs.disk_lines.declared.Kind.TheVariants.{Directory, File, Free, Staging}
+use Rattle.world_runs.specs.disk_lines.Entries.{decode_entry}
+use Rattle.world_runs.specs.disk_lines.Names.{walk}
 use Rattle.world_runs.specs.disk_rules.Content.{byte_in, bytes_of_file, disk_by, disk_of, entry_of_block, found, Node, node_by, node_of, size_by, size_of}
 use Rattle.world_runs.specs.disk_rules.Live.{is_file, is_live, is_of_file, latest, live_entries, valid_entries}
 use Rattle.world_runs.specs.disk_rules.Rules.{AreApart}
 use Rattle.world_runs.specs.disk_rules.Volume.{extents, inode, Volume}
-use Rattle.list_facts.specs.Filters.{filter-agree, filter-both, filter-In, In-filter}
-use Rattle.list_facts.specs.Members.{In}
+use Rattle.world_runs.specs.list_facts.Filters.{filter-agree, filter-both, filter-In, In-filter}
+use Rattle.world_runs.specs.list_facts.Members.{In}
 use Rattle.world_runs.specs.world_promise.JobLaws.{live_file}
 use Rattle.world_runs.specs.world_promise.Latest.{latest-In, latest-most, latest-none}
 use Rattle.world_runs.specs.Relinks.{Relinks}

@@ -2,16 +2,16 @@
 use Rattle.std.proofs.Common.{◌≡◌, ◌≢◌, ◌+◌, ◌-◌, ◌==◌, ◌&&◌, ℕ, Bool, true, false, refl, sym, ◌∙◌, ap, subst, inl, inr}
 use Rattle.std.specs.Prelude.{filter, nat_lt, Option, Some, None}
 use Rattle.std.proofs.lemmas.Bool.{cases_eq}
-use Rattle.pm_words.specs.Words.{Words}
-use Rattle.disk_lines.specs.declared.Draft.{Draft}
-use Rattle.disk_lines.specs.declared.Inode.{Inode}
-use Rattle.disk_lines.specs.declared.Kind.TheVariants.{File, Staging}
+use Rattle.world_runs.specs.pm_words.Words.{Words}
+use Rattle.world_runs.specs.disk_lines.declared.Draft.{Draft}
+use Rattle.world_runs.specs.disk_lines.declared.Inode.{Inode}
+use Rattle.world_runs.specs.disk_lines.declared.Kind.TheVariants.{File, Staging}
 use Rattle.world_runs.specs.disk_rules.Content.{disk_by, disk_of, entry_of_block, size_by, size_of}
 use Rattle.world_runs.specs.disk_rules.Live.{is_file, is_live, latest, live_entries, valid_entries}
 use Rattle.world_runs.specs.disk_rules.Volume.{inode, Volume}
-use Rattle.extent_words.specs.Extents.{disk_at, is_within}
-use Rattle.list_facts.specs.Filters.{filter-agree, filter-In, In-filter}
-use Rattle.list_facts.specs.Members.{In}
+use Rattle.world_runs.specs.extent_words.Extents.{disk_at, is_within}
+use Rattle.world_runs.specs.list_facts.Filters.{filter-agree, filter-In, In-filter}
+use Rattle.world_runs.specs.list_facts.Members.{In}
 use Rattle.world_runs.specs.world_promise.Latest.{latest-In}
 use Rattle.world_runs.specs.Restages.{Restages}
 use Rattle.live_facts.specs.Laws.{KeepsFilesRestaged}

@@ -1,9 +1,9 @@
 -- The laws of live entries, each as one statement.
 use Rattle.std.specs.Prelude.{◌≡◌, ℕ, List}
-use Rattle.pm_words.specs.Words.{Words}
-use Rattle.extent_words.specs.declared.Extent.{Extent}
-use Rattle.disk_lines.specs.declared.Draft.{Draft}
-use Rattle.disk_places.specs.Places.{IsGeometry}
+use Rattle.world_runs.specs.pm_words.Words.{Words}
+use Rattle.world_runs.specs.extent_words.declared.Extent.{Extent}
+use Rattle.world_runs.specs.disk_lines.declared.Draft.{Draft}
+use Rattle.world_runs.specs.disk_places.Places.{IsGeometry}
 use Rattle.world_runs.specs.disk_rules.Content.{found}
 use Rattle.world_runs.specs.disk_rules.Kept.{AreKept}
 use Rattle.world_runs.specs.disk_rules.Live.{live_entries}

@@ -18,3 +18,12 @@ pub use Rattle.world_runs.specs.posix_puts as posix_puts
 pub use Rattle.world_runs.specs.posix_spec as posix_spec
 pub use Rattle.world_runs.specs.posix_trees as posix_trees
 pub use Rattle.world_runs.specs.volume_facts as volume_facts
+pub use Rattle.world_runs.specs.block_counts as block_counts
+pub use Rattle.world_runs.specs.disk_lines as disk_lines
+pub use Rattle.world_runs.specs.disk_places as disk_places
+pub use Rattle.world_runs.specs.extent_facts as extent_facts
+pub use Rattle.world_runs.specs.extent_words as extent_words
+pub use Rattle.world_runs.specs.list_facts as list_facts
+pub use Rattle.world_runs.specs.pm_words as pm_words
+pub use Rattle.world_runs.specs.posix_types as posix_types
+pub use Rattle.world_runs.specs.posix_words as posix_words

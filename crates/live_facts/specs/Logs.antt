@@ -1,13 +1,13 @@
 -- Live entries of a log that are carried out one by one, and what stays where one is.
 use Rattle.std.specs.Prelude.{◌≡◌, ◌≢◌, ◌⊎◌, ◌<◌, ◌↔◌, ℕ, List}
-use Rattle.pm_words.specs.Words.{Words}
-use Rattle.disk_lines.specs.declared.Draft.{Draft}
-use Rattle.disk_lines.specs.declared.Kind.TheVariants.{File, Staging}
+use Rattle.world_runs.specs.pm_words.Words.{Words}
+use Rattle.world_runs.specs.disk_lines.declared.Draft.{Draft}
+use Rattle.world_runs.specs.disk_lines.declared.Kind.TheVariants.{File, Staging}
 use Rattle.world_runs.specs.disk_rules.Content.{disk_of, size_of}
 use Rattle.world_runs.specs.disk_rules.Live.{live_entries}
 use Rattle.world_runs.specs.disk_rules.Rules.{AreApart, HasStagingBlocks}
 use Rattle.world_runs.specs.disk_rules.Volume.{inode, Volume}
-use Rattle.list_facts.specs.Members.{In}
+use Rattle.world_runs.specs.list_facts.Members.{In}
 
 -- THE LIVE ENTRIES ARE SOUND: their blocks are in staging files, no two share one, and no two of one file have one order.
 pub record AreSound (v : Volume) (live : List Draft) : Type 0 where

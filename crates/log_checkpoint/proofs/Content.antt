@@ -1,13 +1,13 @@
 -- The content of the images while files are published, where the log of the image before holds the runs of all files.
 use Rattle.std.proofs.Common.{◌≡◌, ◌≢◌, ◌≤◌, ◌<◌, ◌⊎◌, ℕ, zero, suc, length, refl, sym, ◌∙◌, ap, subst, arith, inl, inr}
-use Rattle.pm_words.specs.Bytes.{line_bytes-same}
-use Rattle.pm_words.specs.ImageLaws.{Follows-then}
-use Rattle.pm_words.specs.Images.{Follows, Follows-same, Follows-weaken, Then}
-use Rattle.pm_words.specs.Words.{line_bytes, Words}
+use Rattle.file_table.specs.pm_words.Bytes.{line_bytes-same}
+use Rattle.file_table.specs.pm_words.ImageLaws.{Follows-then}
+use Rattle.file_table.specs.pm_words.Images.{Follows, Follows-same, Follows-weaken, Then}
+use Rattle.file_table.specs.pm_words.Words.{line_bytes, Words}
 use Rattle.disk_lines.specs.declared.Draft.{Draft}
 use Rattle.disk_lines.specs.Entries.{held_seq, is_self_valid}
-use Rattle.disk_places.specs.Journal.{journaled}
-use Rattle.disk_places.specs.Places.{Geometry, log_line}
+use Rattle.file_table.specs.disk_places.Journal.{journaled}
+use Rattle.file_table.specs.disk_places.Places.{Geometry, log_line}
 use Rattle.staging_files.specs.disk_rules.Content.{content}
 use Rattle.staging_files.specs.disk_rules.Live.{live_entries}
 use Rattle.staging_files.specs.disk_rules.Rules.{IsOfNoLater}
@@ -22,7 +22,7 @@ use Rattle.fsync_relink.specs.Publishes.{MayPublish}
 use Rattle.staging_files.specs.k_map_plans.Plans.{IsLiveFile}
 use Rattle.staging_files.specs.k_rules.View.{View}
 use Rattle.staging_files.specs.k_split.declared.faults.KFault.{KFault}
-use Rattle.list_facts.specs.Members.{In}
+use Rattle.staging_files.specs.list_facts.Members.{In}
 use Rattle.staging_files.specs.volume_facts.Footprint.{SameLog}
 use Rattle.staging_files.specs.volume_facts.FootprintLaws.{live_entries-same}
 use Rattle.log_checkpoint.specs.Gathers.{AreDone, AreDoneUpTo, IsLineDone, IsLineStopped, MayGather}

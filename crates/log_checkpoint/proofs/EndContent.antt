@@ -4,16 +4,16 @@ use Rattle.std.proofs.Common.{◌≡◌, ◌≤◌, ◌<◌, ◌+◌, ◌^◌, �
 use Rattle.std.specs.Prelude.{is_some}
 use Rattle.std.specs.List.{range_with_len}
 use Rattle.std.specs.declared.alloc.AllocError.{AllocError}
-use Rattle.pm_words.specs.declared.Cell.{Cell}
-use Rattle.pm_words.specs.Frames.{SameLent}
-use Rattle.pm_words.specs.ImageLaws.{Follows-then}
-use Rattle.pm_words.specs.Images.{Follows, Follows-same, Follows-weaken, Then}
-use Rattle.pm_words.specs.Words.{line_bytes, Words}
+use Rattle.file_table.specs.pm_words.declared.Cell.{Cell}
+use Rattle.file_table.specs.pm_words.Frames.{SameLent}
+use Rattle.file_table.specs.pm_words.ImageLaws.{Follows-then}
+use Rattle.file_table.specs.pm_words.Images.{Follows, Follows-same, Follows-weaken, Then}
+use Rattle.file_table.specs.pm_words.Words.{line_bytes, Words}
 use Rattle.disk_lines.specs.declared.Draft.{Draft}
 use Rattle.disk_lines.specs.Entries.{decode_entry, held_seq, is_self_valid}
 use Rattle.disk_lines.specs.EntryLaws.{held_seq-decode_entry}
-use Rattle.disk_places.specs.Journal.{journaled}
-use Rattle.disk_places.specs.Places.{log_line}
+use Rattle.file_table.specs.disk_places.Journal.{journaled}
+use Rattle.file_table.specs.disk_places.Places.{log_line}
 use Rattle.staging_files.specs.disk_rules.Content.{content, found, node_of}
 use Rattle.staging_files.specs.disk_rules.Live.{entry_in, is_live, live_entries, valid_entries}
 use Rattle.staging_files.specs.disk_rules.Reading.{base_set}
@@ -32,8 +32,8 @@ use Rattle.staging_files.specs.k_split.declared.faults.KFault.{KFault}
 use Rattle.staging_files.specs.k_split.Laps.{HasNextLap, IsBaseAnswer, next_base}
 use Rattle.staging_files.specs.k_split.Order.{IsInOrder}
 use Rattle.staging_files.specs.k_split.MapChanges.{ChangesMaps, IsGiveUpAnswer, IsGivenUpWith}
-use Rattle.list_facts.specs.Filters.{filter-In, filter_map-In, range-In}
-use Rattle.list_facts.specs.Members.{In}
+use Rattle.staging_files.specs.list_facts.Filters.{filter-In, filter_map-In, range-In}
+use Rattle.staging_files.specs.list_facts.Members.{In}
 use Rattle.fsync_relink.proofs.live_facts_proofs.RestagedLaws.{keeps-files}
 use Rattle.fsync_relink.specs.live_facts.Logs.{IsDeadIn}
 use Rattle.staging_files.proofs.GiveUpLaws.{bared-volume, staging-file}

@@ -2,7 +2,7 @@
 use Rattle.std.proofs.Common.{◌≡◌, ◌≤◌, ◌+◌, ◌/◌, ◌^◌, ℕ, zero, suc, Result, Ok, Err, sym, ◌∙◌, subst, inr}
 use Rattle.std.specs.declared.alloc.AllocError.{AllocError}
 use Rattle.staging_files.specs.disk_rules.Volume.{extents}
-use Rattle.extent_facts.specs.Covers.{covers-disk_at, disk_at-covers}
+use Rattle.staging_files.specs.extent_facts.Covers.{covers-disk_at, disk_at-covers}
 use Rattle.file_table.specs.Files.{Files}
 use Rattle.fsync_relink.specs.Others.{GoesOn, KeepsRest}
 use Rattle.staging_files.specs.k_journal.declared.outcomes.Commit.{Commit}

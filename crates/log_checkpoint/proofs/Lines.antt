@@ -5,9 +5,9 @@ use Rattle.std.specs.declared.alloc.AllocError.{AllocError}
 use Rattle.std.proofs.lemmas.Bool.{cases_eq}
 use Rattle.std.proofs.lemmas.List.{set-get_or}
 use Rattle.disk_lines.specs.declared.Kind.{Kind}
-use Rattle.disk_places.specs.Places.{reserve}
+use Rattle.file_table.specs.disk_places.Places.{reserve}
 use Rattle.staging_files.specs.disk_rules.Live.{is_file}
-use Rattle.file_overlay.specs.declared.runs.Run.{Run}
+use Rattle.file_table.specs.file_overlay.declared.runs.Run.{Run}
 use Rattle.file_table.specs.Files.{ChangesFile, Files, runs_in, size_in}
 use Rattle.fsync_relink.proofs.OtherLaws.{keeps-same, keeps-then, leaves-others}
 use Rattle.fsync_relink.proofs.WayLaws.{steps-within}
@@ -17,7 +17,7 @@ use Rattle.staging_files.specs.k_journal.declared.outcomes.Commit.{Commit}
 use Rattle.staging_files.specs.k_map_plans.Plans.{IsLiveFile}
 use Rattle.staging_files.specs.k_rules.View.{View}
 use Rattle.staging_files.specs.k_split.MapChanges.{free_blocks_in}
-use Rattle.pm_words.specs.Powers.{Steps, Supply}
+use Rattle.file_table.specs.pm_words.Powers.{Steps, Supply}
 use Rattle.log_checkpoint.specs.Gathers.{AreCleared, AreDone, file_at, IsLineDone, IsPublishedLine, MayGather}
 use Rattle.log_checkpoint.proofs.Sums.{runs_from, runs-step, runs-within}
 

@@ -2,10 +2,10 @@
 use Rattle.std.specs.Prelude.{◌≡◌, ◌≢◌, ◌⊎◌, ◌≤◌, ◌<◌, ◌+◌, ℕ, zero, suc, [], length, sum_by, count_by, Result, Ok, Err, if◌then◌else◌}
 use Rattle.std.specs.declared.alloc.AllocError.{AllocError}
 use Rattle.disk_lines.specs.declared.Inode.{Inode}
-use Rattle.disk_places.specs.Places.{reserve}
+use Rattle.file_table.specs.disk_places.Places.{reserve}
 use Rattle.staging_files.specs.disk_rules.Live.{is_file}
 use Rattle.staging_files.specs.disk_rules.Volume.{inode, Volume}
-use Rattle.file_overlay.specs.Runs.{Overlaid}
+use Rattle.file_table.specs.file_overlay.Runs.{Overlaid}
 use Rattle.file_table.specs.Files.{ChangesFile, Files, runs_in, size_in}
 use Rattle.fsync_relink.specs.Others.{AllApart, GoesOn, KeepsRest}
 use Rattle.fsync_relink.specs.Publishes.{IsPublishDone, IsPublishStopped, MayPublish}

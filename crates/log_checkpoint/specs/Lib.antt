@@ -29,3 +29,12 @@ pub use Rattle.staging_files.specs.posix_facts as posix_facts
 pub use Rattle.staging_files.specs.posix_spec as posix_spec
 pub use Rattle.staging_files.specs.posix_trees as posix_trees
 pub use Rattle.staging_files.specs.volume_facts as volume_facts
+pub use Rattle.disk_lines.specs as disk_lines
+pub use Rattle.disk_lines.specs.disk_places as disk_places
+pub use Rattle.file_table.specs.extent_words as extent_words
+pub use Rattle.file_table.specs.file_overlay as file_overlay
+pub use Rattle.pm_lines.specs.pm_words as pm_words
+pub use Rattle.staging_files.specs.extent_facts as extent_facts
+pub use Rattle.staging_files.specs.list_facts as list_facts
+pub use Rattle.staging_files.specs.posix_types as posix_types
+pub use Rattle.staging_files.specs.posix_words as posix_words

@@ -1,8 +1,8 @@
 -- A log that holds the runs of all files, and the content of the images of a gathering.
 use Rattle.std.specs.Prelude.{◌≡◌, ◌<◌, ℕ}
-use Rattle.pm_words.specs.Words.{Words}
+use Rattle.file_table.specs.pm_words.Words.{Words}
 use Rattle.disk_lines.specs.declared.Draft.{Draft}
-use Rattle.disk_places.specs.Journal.{journaled}
+use Rattle.file_table.specs.disk_places.Journal.{journaled}
 use Rattle.staging_files.specs.disk_rules.Content.{content}
 use Rattle.staging_files.specs.disk_rules.Live.{live_entries}
 use Rattle.staging_files.specs.disk_rules.Rules.{IsOfNoLater}
@@ -10,7 +10,7 @@ use Rattle.staging_files.specs.disk_rules.Volume.{Volume}
 use Rattle.file_table.specs.Files.{Files, runs_in, size_in}
 use Rattle.fsync_relink.specs.Logged.{IsLogged}
 use Rattle.staging_files.specs.k_map_plans.Plans.{IsLiveFile}
-use Rattle.list_facts.specs.Members.{In}
+use Rattle.staging_files.specs.list_facts.Members.{In}
 
 -- THE LOG HOLDS THE RUNS OF ALL FILES: of each file just its runs are live, and it has the size of the table; no entry of
 -- anything else is live; and no line is a valid entry of a lap to come.

@@ -3,8 +3,8 @@ ghost use Rattle.std.specs.Prelude.{◌≡◌, ◌+◌, ◌*◌, ◌^◌, true, 
 ghost use Rattle.fsync_relink.specs.Others.{GoesOn};
 ghost use Rattle.fsync_relink.specs.Publishes.{IsPublishPaid};
 ghost use Rattle.staging_files.specs.k_split.Laps.{HasNextLap};
-ghost use Rattle.pm_words.specs.Images.{Follows};
-ghost use Rattle.pm_words.specs.Powers.{is_on, Steps};
+ghost use Rattle.file_table.specs.pm_words.Images.{Follows};
+ghost use Rattle.file_table.specs.pm_words.Powers.{is_on, Steps};
 ghost use Rattle.staging_files.specs.GivesUp.{AllStagedSingle};
 ghost use Rattle.log_checkpoint.specs.Gathers.{IsGatherAnswer, IsLapAnswer, MayGather, file_count, total_runs};
 ghost use Rattle.log_checkpoint.specs.Logged.{KeepsLoggedContent};
@@ -12,9 +12,7 @@ ghost use Rattle.log_checkpoint.specs.Logged.{KeepsLoggedContent};
 use crate::publishing::publish_all;
 use file_table::FileTable;
 use pm_lines::Power;
-use staging_files::Staging;
-use staging_files::k_journal::Commit;
-use staging_files::k_split::{KSplit, images_have_the_old_or_the_new_content};
+use staging_files::{Commit, KSplit, Staging, images_have_the_old_or_the_new_content};
 use std::alloc::{AllocError, Global};
 
 // The staging files give up their blocks, and a new lap begins.

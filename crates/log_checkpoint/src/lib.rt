@@ -15,6 +15,7 @@
 mod gathering;
 mod publishing;
 
+pub use file_table::FileTable;
+pub use fsync_relink::publish_runs;
 pub use gathering::gather;
-pub use staging_files;
-pub use staging_files::lines_out;
+pub use staging_files::{Commit, KSplit, Staging};

@@ -4,9 +4,9 @@ use Rattle.std.specs.Prelude.{All}
 use Rattle.std.specs.declared.alloc.AllocError.{AllocError}
 use Rattle.std.proofs.lemmas.Bool.{cases_eq}
 use Rattle.std.proofs.lemmas.List.Elements.{All-nil}
-use Rattle.pm_words.specs.Cells.{AllSingle}
-use Rattle.pm_words.specs.Images.{Follows}
-use Rattle.pm_words.specs.Powers.{Supply}
+use Rattle.k_check.specs.pm_words.Cells.{AllSingle}
+use Rattle.k_check.specs.pm_words.Images.{Follows}
+use Rattle.k_check.specs.pm_words.Powers.{Supply}
 use Rattle.disk_lines.specs.declared.Inode.{Inode}
 use Rattle.disk_lines.specs.declared.Kind.TheVariants.{File, Staging}
 use Rattle.k_check.specs.disk_rules.Live.{live_entries}
@@ -14,7 +14,7 @@ use Rattle.k_check.specs.disk_rules.Reading.{inode_set}
 use Rattle.k_check.specs.disk_rules.Room.{unused_blocks}
 use Rattle.k_check.specs.disk_rules.Rules.{file_blocks_of}
 use Rattle.k_check.specs.disk_rules.Volume.{extents, inode, Volume}
-use Rattle.extent_words.specs.Extents.{disk_at}
+use Rattle.k_check.specs.extent_words.Extents.{disk_at}
 use Rattle.k_check.specs.k_journal.declared.outcomes.Commit.{Commit}
 use Rattle.log_replay.specs.Plans.{IsStagingFile}
 use Rattle.log_replay.proofs.k_mount_proofs.Devices.{device-mapped, device-none, device-then}

@@ -5,17 +5,17 @@ use Rattle.std.specs.List.{range_with_len}
 use Rattle.std.proofs.lemmas.Bool.{both_ways, cases_lt}
 use Rattle.std.proofs.lemmas.List.{get_or_past}
 use Rattle.std.proofs.lemmas.List.Elements.{All-nil}
-use Rattle.pm_words.specs.declared.Cell.{Cell}
-use Rattle.pm_words.specs.CellLaws.{single-home}
-use Rattle.pm_words.specs.Cells.{AllHome, AllSingle, cell}
-use Rattle.pm_words.specs.ImageLaws.{Follows-from_words, image-single, IsImage-words_of}
-use Rattle.pm_words.specs.Images.{Follows, IsImage, words_of}
-use Rattle.pm_words.specs.Words.{line_bytes, Words}
+use Rattle.k_check.specs.pm_words.declared.Cell.{Cell}
+use Rattle.k_check.specs.pm_words.CellLaws.{single-home}
+use Rattle.k_check.specs.pm_words.Cells.{AllHome, AllSingle, cell}
+use Rattle.k_check.specs.pm_words.ImageLaws.{Follows-from_words, image-single, IsImage-words_of}
+use Rattle.k_check.specs.pm_words.Images.{Follows, IsImage, words_of}
+use Rattle.k_check.specs.pm_words.Words.{line_bytes, Words}
 use Rattle.disk_lines.specs.declared.Draft.{Draft}
 use Rattle.disk_lines.specs.Entries.{held_seq, is_self_valid}
-use Rattle.disk_places.specs.Journal.{is_journal_word, journaled}
-use Rattle.disk_places.specs.PlaceLaws.{behind_log-words}
-use Rattle.disk_places.specs.Places.{commit_word, data_blocks, Geometry, is_data_block, is_journaled_line, log_line, reserve}
+use Rattle.k_check.specs.disk_places.Journal.{is_journal_word, journaled}
+use Rattle.k_check.specs.disk_places.PlaceLaws.{behind_log-words}
+use Rattle.k_check.specs.disk_places.Places.{commit_word, data_blocks, Geometry, is_data_block, is_journaled_line, log_line, reserve}
 use Rattle.k_check.specs.disk_rules.Checked.{IsCheckedAs, IsLogKept}
 use Rattle.k_check.specs.disk_rules.Content.{content, found}
 use Rattle.k_check.specs.disk_rules.Kept.{AreKept}
@@ -25,8 +25,8 @@ use Rattle.k_check.specs.disk_rules.Reading.{Reads}
 use Rattle.k_check.specs.disk_rules.Room.{held_after_recovery, unused_blocks}
 use Rattle.k_check.specs.disk_rules.Rules.{file_blocks_of, HasStagingBlocks, IsChecked}
 use Rattle.k_check.specs.disk_rules.Volume.{extents, inode, Volume}
-use Rattle.extent_facts.specs.Covers.{covers-disk_at}
-use Rattle.extent_words.specs.Extents.{covers, disk_at}
+use Rattle.k_check.specs.extent_facts.Covers.{covers-disk_at}
+use Rattle.k_check.specs.extent_words.Extents.{covers, disk_at}
 use Rattle.staging_files.specs.image_facts.CheckedLaws.{checked-parts}
 use Rattle.staging_files.specs.k_land.LandingLaws.{idle-image}
 use Rattle.log_replay.specs.k_mount.Sheds.{IsAtRest}
@@ -35,8 +35,8 @@ use Rattle.staging_files.specs.k_rules.Stands.{IsOldOrNew, Stands}
 use Rattle.staging_files.specs.k_rules.View.{View}
 use Rattle.staging_files.specs.k_split.Answers.{IsOff}
 use Rattle.staging_files.specs.k_split.MapChanges.{ChangesMaps, is_free_in, IsMapDone}
-use Rattle.list_facts.specs.Filters.{In-filter, In-filter_map, In-range}
-use Rattle.list_facts.specs.Members.{In}
+use Rattle.staging_files.specs.list_facts.Filters.{In-filter, In-filter_map, In-range}
+use Rattle.staging_files.specs.list_facts.Members.{In}
 use Rattle.log_replay.proofs.Passed.{free-data, free-uncovered, headed-beside, kept-beside, log-beside}
 use Rattle.log_replay.specs.Landed.{kind_file}
 use Rattle.log_replay.specs.Replays.{seen, ShowsTheSame}

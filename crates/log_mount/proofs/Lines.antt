@@ -7,7 +7,7 @@ use Rattle.std.proofs.Math.Path.{fun_ext}
 use Rattle.std.proofs.lemmas.Bool.{cases_eq, cases_lt}
 use Rattle.std.proofs.lemmas.List.{get_or_past, length-set}
 use Rattle.block_counts.specs.Counts.{held_by}
-use Rattle.pm_words.specs.Words.{Words}
+use Rattle.k_check.specs.pm_words.Words.{Words}
 use Rattle.disk_lines.specs.declared.Draft.{Draft}
 use Rattle.disk_lines.specs.declared.Inode.{Inode}
 use Rattle.disk_lines.specs.declared.Kind.{Kind}
@@ -19,8 +19,8 @@ use Rattle.k_check.specs.disk_rules.Reading.{inode_set}
 use Rattle.k_check.specs.disk_rules.Room.{held_after_recovery, is_named_file}
 use Rattle.k_check.specs.disk_rules.Rules.{file_blocks_of, IsKindAt}
 use Rattle.k_check.specs.disk_rules.Volume.{extents, free_inode, inode, Volume}
-use Rattle.extent_words.specs.declared.Extent.{Extent}
-use Rattle.extent_words.specs.Extents.{disk_at}
+use Rattle.k_check.specs.extent_words.declared.Extent.{Extent}
+use Rattle.k_check.specs.extent_words.Extents.{disk_at}
 use Rattle.log_replay.specs.k_mount.View.{node_at}
 use Rattle.log_replay.specs.k_mount.Whole.{IsWhole}
 use Rattle.staging_files.specs.k_rules.Spaces.{is_free}

@@ -1,24 +1,24 @@
 -- A device is opened, the live entries of its log are carried out, it is swept, and it is settled.
 use Rattle.std.proofs.Common.{◌≡◌, ◌≤◌, ◌<◌, ◌+◌, ◌*◌, ◌^◌, ◌⊎◌, ℕ, false, List, [], length, Result, Ok, Err, refl, sym, ◌∙◌, ap, subst, arith, inl, inr}
 use Rattle.std.specs.declared.alloc.AllocError.{AllocError}
-use Rattle.pm_words.specs.declared.Cell.{Cell}
-use Rattle.pm_words.specs.Cells.{AllSingle}
-use Rattle.pm_words.specs.ImageLaws.{image-single, IsImage-words_of}
-use Rattle.pm_words.specs.Images.{Follows, words_of}
-use Rattle.pm_words.specs.Powers.{Supply}
-use Rattle.pm_words.specs.Words.{Words}
+use Rattle.k_check.specs.pm_words.declared.Cell.{Cell}
+use Rattle.k_check.specs.pm_words.Cells.{AllSingle}
+use Rattle.k_check.specs.pm_words.ImageLaws.{image-single, IsImage-words_of}
+use Rattle.k_check.specs.pm_words.Images.{Follows, words_of}
+use Rattle.k_check.specs.pm_words.Powers.{Supply}
+use Rattle.k_check.specs.pm_words.Words.{Words}
 use Rattle.disk_lines.specs.declared.Draft.{Draft}
 use Rattle.disk_lines.specs.declared.Kind.TheVariants.{File, Free}
 use Rattle.disk_lines.specs.Names.{names_of}
-use Rattle.disk_places.specs.Journal.{IsSound, journaled}
-use Rattle.disk_places.specs.Places.{Geometry}
+use Rattle.k_check.specs.disk_places.Journal.{IsSound, journaled}
+use Rattle.k_check.specs.disk_places.Places.{Geometry}
 use Rattle.k_check.specs.disk_rules.Checked.{IsCheckedAs}
 use Rattle.k_check.specs.disk_rules.Content.{content, content_of}
 use Rattle.k_check.specs.disk_rules.Live.{live_entries}
 use Rattle.k_check.specs.disk_rules.Reading.{base_set, Reads}
 use Rattle.k_check.specs.disk_rules.Rules.{geometry_of, IsChecked}
 use Rattle.k_check.specs.disk_rules.Volume.{extents, Volume, volume}
-use Rattle.extent_words.specs.Extents.{disk_at}
+use Rattle.k_check.specs.extent_words.Extents.{disk_at}
 use Rattle.block_counts.specs.Counts.{blocks_for}
 use Rattle.staging_files.specs.image_facts.CheckedLaws.{checked-parts, head-checked, parts-checked}
 use Rattle.k_check.specs.k_journal.declared.outcomes.Commit.{Commit}

@@ -5,23 +5,23 @@ use Rattle.std.proofs.lemmas.Bool.{and_parts, cases_eq, cases_lt}
 use Rattle.std.proofs.lemmas.Bool.Decides.{nat_tests}
 use Rattle.std.proofs.lemmas.List.{get_or_past}
 use Rattle.std.proofs.lemmas.List.Elements.{All-nil}
-use Rattle.pm_words.specs.declared.Cell.{Cell}
-use Rattle.pm_words.specs.Cells.{AllSingle}
-use Rattle.pm_words.specs.Bytes.{line_bytes-same}
-use Rattle.pm_words.specs.Images.{Follows}
-use Rattle.pm_words.specs.Words.{line_bytes}
+use Rattle.k_check.specs.pm_words.declared.Cell.{Cell}
+use Rattle.k_check.specs.pm_words.Cells.{AllSingle}
+use Rattle.k_check.specs.pm_words.Bytes.{line_bytes-same}
+use Rattle.k_check.specs.pm_words.Images.{Follows}
+use Rattle.k_check.specs.pm_words.Words.{line_bytes}
 use Rattle.disk_lines.specs.declared.Inode.{Inode}
 use Rattle.disk_lines.specs.declared.Kind.{Kind}
 use Rattle.disk_lines.specs.declared.Kind.TheVariants.{Directory, File, Free, Staging}
 use Rattle.disk_lines.specs.Entries.{held_seq, is_self_valid}
 use Rattle.disk_lines.specs.Lines.{has_map_or_none, is_inode, is_inode_of_kind}
-use Rattle.disk_places.specs.Places.{Geometry, log_line}
+use Rattle.k_check.specs.disk_places.Places.{Geometry, log_line}
 use Rattle.k_check.specs.disk_rules.Live.{live_entries}
 use Rattle.k_check.specs.disk_rules.Reading.{inode_set}
 use Rattle.k_check.specs.disk_rules.Room.{unused_blocks}
 use Rattle.k_check.specs.disk_rules.Rules.{file_blocks_of}
 use Rattle.k_check.specs.disk_rules.Volume.{chain, extents, free_inode, inode, Volume}
-use Rattle.extent_words.specs.Extents.{disk_at}
+use Rattle.k_check.specs.extent_words.Extents.{disk_at}
 use Rattle.staging_files.specs.k_log_plans.Resets.{reset, unapplied}
 use Rattle.log_replay.specs.Plans.{IsLiveFile}
 use Rattle.log_replay.proofs.k_mount_proofs.LapImages.{none_live}

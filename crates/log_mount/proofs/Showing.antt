@@ -1,13 +1,13 @@
 -- Images of a device that is mounted, beside the first one, wherever the power goes.
 use Rattle.std.proofs.Common.{◌≡◌, ◌*◌, ℕ, true, false, List, [], length, refl, sym, ◌∙◌, ap, subst, inl}
-use Rattle.pm_words.specs.declared.Cell.{Cell}
-use Rattle.pm_words.specs.Cells.{AllSingle}
-use Rattle.pm_words.specs.ImageLaws.{image-single, IsImage-words_of}
-use Rattle.pm_words.specs.Images.{Follows, IsImage, words_of}
-use Rattle.pm_words.specs.Words.{Words}
+use Rattle.k_check.specs.pm_words.declared.Cell.{Cell}
+use Rattle.k_check.specs.pm_words.Cells.{AllSingle}
+use Rattle.k_check.specs.pm_words.ImageLaws.{image-single, IsImage-words_of}
+use Rattle.k_check.specs.pm_words.Images.{Follows, IsImage, words_of}
+use Rattle.k_check.specs.pm_words.Words.{Words}
 use Rattle.disk_lines.specs.declared.Draft.{Draft}
-use Rattle.disk_places.specs.Journal.{is_journal_word, journaled}
-use Rattle.disk_places.specs.Places.{commit_word, Geometry}
+use Rattle.k_check.specs.disk_places.Journal.{is_journal_word, journaled}
+use Rattle.k_check.specs.disk_places.Places.{commit_word, Geometry}
 use Rattle.k_check.specs.disk_rules.Checked.{IsCheckedAs, IsLogKept}
 use Rattle.k_check.specs.disk_rules.Content.{content_of}
 use Rattle.k_check.specs.disk_rules.Reading.{Reads}

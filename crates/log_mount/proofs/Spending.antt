@@ -1,6 +1,6 @@
 -- What is taken of the power by one step after the other.
 use Rattle.std.proofs.Common.{ℕ, refl, ◌∙◌, arith}
-use Rattle.pm_words.specs.Powers.{Steps, Supply}
+use Rattle.k_check.specs.pm_words.Powers.{Steps, Supply}
 use Rattle.log_mount.specs.Quiet.{IsSpent}
 
 pub spent-none : (a : Supply) → IsSpent a a

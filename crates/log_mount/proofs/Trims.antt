@@ -4,22 +4,22 @@ use Rattle.std.specs.Prelude.{All, is_some, nat_lt}
 use Rattle.std.proofs.lemmas.Bool.{cases_eq, cases_lt}
 use Rattle.std.proofs.lemmas.Bool.Decides.{nat_tests}
 use Rattle.block_counts.specs.Counts.{blocks_for}
-use Rattle.pm_words.specs.declared.Cell.{Cell}
-use Rattle.pm_words.specs.Cells.{AllSingle}
-use Rattle.pm_words.specs.Images.{Follows}
+use Rattle.k_check.specs.pm_words.declared.Cell.{Cell}
+use Rattle.k_check.specs.pm_words.Cells.{AllSingle}
+use Rattle.k_check.specs.pm_words.Images.{Follows}
 use Rattle.disk_lines.specs.declared.Inode.{Inode}
 use Rattle.disk_lines.specs.declared.Kind.TheVariants.{File, Staging}
 use Rattle.disk_lines.specs.Lines.{is_inode, is_inode_of_kind, most_bytes}
-use Rattle.disk_places.specs.Places.{Geometry, reserve}
+use Rattle.k_check.specs.disk_places.Places.{Geometry, reserve}
 use Rattle.k_check.specs.disk_rules.Live.{live_entries}
 use Rattle.k_check.specs.disk_rules.Reading.{inode_set}
 use Rattle.k_check.specs.disk_rules.Room.{unused_blocks}
 use Rattle.k_check.specs.disk_rules.Rules.{file_blocks_of}
 use Rattle.k_check.specs.disk_rules.Volume.{chain, extents, inode, Volume}
-use Rattle.extent_facts.specs.Counts.{block_count-mapped, is_mapped, one_if}
-use Rattle.extent_words.specs.declared.Extent.{Extent}
-use Rattle.extent_words.specs.Extents.{block_count, disk_at, IsCanonical}
-use Rattle.extent_words.specs.Maps.{IsPart}
+use Rattle.k_check.specs.extent_facts.Counts.{block_count-mapped, is_mapped, one_if}
+use Rattle.k_check.specs.extent_words.declared.Extent.{Extent}
+use Rattle.k_check.specs.extent_words.Extents.{block_count, disk_at, IsCanonical}
+use Rattle.k_check.specs.extent_words.Maps.{IsPart}
 use Rattle.log_replay.specs.Plans.{IsLiveFile}
 use Rattle.log_replay.specs.k_mount.Whole.{IsWhole}
 use Rattle.staging_files.specs.k_rules.View.{View}

@@ -1,12 +1,12 @@
 -- What a mount answers and leaves of an image whose log may have live entries.
 use Rattle.std.specs.Prelude.{◌≡◌, ◌≤◌, ◌<◌, ◌*◌, ◌^◌, ℕ, true, false, List, length, Result, Ok, Err}
-use Rattle.pm_words.specs.declared.Cell.{Cell}
-use Rattle.pm_words.specs.Cells.{AllHome}
-use Rattle.pm_words.specs.Images.{words_of}
-use Rattle.pm_words.specs.Powers.{is_on, Supply}
-use Rattle.pm_words.specs.Words.{Words}
-use Rattle.disk_places.specs.Journal.{journaled}
-use Rattle.disk_places.specs.Places.{Geometry}
+use Rattle.k_check.specs.pm_words.declared.Cell.{Cell}
+use Rattle.k_check.specs.pm_words.Cells.{AllHome}
+use Rattle.k_check.specs.pm_words.Images.{words_of}
+use Rattle.k_check.specs.pm_words.Powers.{is_on, Supply}
+use Rattle.k_check.specs.pm_words.Words.{Words}
+use Rattle.k_check.specs.disk_places.Journal.{journaled}
+use Rattle.k_check.specs.disk_places.Places.{Geometry}
 use Rattle.k_check.specs.disk_rules.Broken.{Breaks}
 use Rattle.k_check.specs.disk_rules.Checked.{IsCheckedAs}
 use Rattle.k_check.specs.disk_rules.Content.{content}

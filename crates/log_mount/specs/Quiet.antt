@@ -1,8 +1,8 @@
 -- K-Split once no entry of the log is live, and what stays while it is put in order.
 use Rattle.std.specs.Prelude.{◌≡◌, ◌≤◌, ◌*◌, true, false, [], Result, Ok, Err}
 use Rattle.std.specs.declared.alloc.AllocError.{AllocError}
-use Rattle.pm_words.specs.Images.{words_of}
-use Rattle.pm_words.specs.Powers.{is_on, Supply}
+use Rattle.k_check.specs.pm_words.Images.{words_of}
+use Rattle.k_check.specs.pm_words.Powers.{is_on, Supply}
 use Rattle.k_check.specs.disk_rules.Checked.{IsCheckedAs}
 use Rattle.k_check.specs.disk_rules.Content.{content}
 use Rattle.k_check.specs.disk_rules.Rules.{geometry_of}

@@ -1,6 +1,6 @@
 -- What files have applied counts anew where it is high.
 use Rattle.std.specs.Prelude.{◌≡◌, ◌⊎◌, ◌≤◌, ◌^◌, ℕ, Ok}
-use Rattle.pm_words.specs.Images.{words_of}
+use Rattle.k_check.specs.pm_words.Images.{words_of}
 use Rattle.k_check.specs.disk_rules.Volume.{extents, inode, Volume}
 use Rattle.log_replay.specs.Plans.{IsLiveFile}
 use Rattle.log_replay.specs.k_mount.Images.{HasOldLines}

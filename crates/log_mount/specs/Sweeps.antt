@@ -3,7 +3,7 @@ use Rattle.std.specs.Prelude.{◌≡◌, ◌⊎◌, ◌≤◌, ℕ, [], None, Ok
 use Rattle.block_counts.specs.Counts.{blocks_for}
 use Rattle.disk_lines.specs.declared.Kind.TheVariants.{File}
 use Rattle.k_check.specs.disk_rules.Volume.{extents, inode, Volume}
-use Rattle.extent_words.specs.Extents.{disk_at}
+use Rattle.k_check.specs.extent_words.Extents.{disk_at}
 use Rattle.log_replay.specs.Plans.{IsLiveFile}
 use Rattle.staging_files.specs.k_rules.View.{View}
 use Rattle.staging_files.specs.k_split.MapChanges.{IsSizeAnswer}

@@ -1,7 +1,7 @@
 //! Why a device is not mounted.
 ghost use Rattle.std.specs.Prelude.{◌≡◌};
 
-use k_check::volume_check::BadImage;
+use k_check::BadImage;
 use pm_lines::Pm;
 use std::alloc::AllocError;
 use thiserror::Error;

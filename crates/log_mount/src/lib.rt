@@ -17,6 +17,7 @@ mod trimming;
 mod unstaging;
 
 pub use faults::MountFault;
-pub use k_check;
-pub use log_replay::k_mount;
+pub use k_check::{CheckFault, check, crash_image};
+pub use log_replay::a_remount_shows_the_same;
 pub use mounts::mount;
+pub use staging_files::{KFault, KSplit};

@@ -1,10 +1,10 @@
 //! A device is mounted, whatever entries of its log are live.
 ghost use Rattle.std.specs.Prelude.{◌≡◌, ◌*◌, ◌%◌, ◌<◌, ◌≤◌, ◌^◌, false, length, IfOk};
-ghost use Rattle.pm_words.specs.Cells.{cell, AllSingle};
-ghost use Rattle.pm_words.specs.declared.Cell.{Cell};
-ghost use Rattle.pm_words.specs.Images.{Follows, words_of};
-ghost use Rattle.disk_places.specs.Journal.{journaled};
-ghost use Rattle.disk_places.specs.Places.{commit_word};
+ghost use Rattle.k_check.specs.pm_words.Cells.{cell, AllSingle};
+ghost use Rattle.k_check.specs.pm_words.declared.Cell.{Cell};
+ghost use Rattle.k_check.specs.pm_words.Images.{Follows, words_of};
+ghost use Rattle.k_check.specs.disk_places.Journal.{journaled};
+ghost use Rattle.k_check.specs.disk_places.Places.{commit_word};
 ghost use Rattle.k_check.specs.disk_rules.Live.{live_entries};
 ghost use Rattle.k_check.specs.disk_rules.Rules.{geometry_of, IsChecked};
 ghost use Rattle.k_check.specs.disk_rules.Volume.{volume};
@@ -23,15 +23,10 @@ use crate::resetting::reset;
 use crate::trimming::trim;
 use crate::unstaging::unstage;
 use disk_lines::Draft;
-use k_check::image_layout::Geometry;
-use k_check::k_journal::journal::recover;
-use k_check::k_journal::{Commit, Recovered};
-use k_check::volume_check::CheckFault;
-use k_check::{check, live_log};
-use log_replay::k_mount::settle;
-use log_replay::{in_order, replay};
+use k_check::{CheckFault, Commit, Geometry, Recovered, check, live_log, recover};
+use log_replay::{in_order, replay, settle};
 use pm_lines::{Pm, Power};
-use staging_files::k_split::KSplit;
+use staging_files::KSplit;
 use std::alloc::{AllocError, Global};
 
 // Nothing is staged any more, and no map goes past the end of its file.

@@ -1,16 +1,16 @@
 //! What files have applied counts anew where it is high.
 ghost use Rattle.std.specs.Prelude.{◌≡◌, ◌<◌, ◌^◌, ◌↔◌, true, IsTrue};
 ghost use Rattle.k_check.specs.disk_rules.Volume.{inode};
-ghost use Rattle.pm_words.specs.Powers.{is_on};
+ghost use Rattle.k_check.specs.pm_words.Powers.{is_on};
 ghost use Rattle.log_replay.specs.Replays.{ShowsTheSame};
-ghost use Rattle.pm_words.specs.Images.{Follows};
+ghost use Rattle.k_check.specs.pm_words.Images.{Follows};
 ghost use Rattle.log_replay.specs.k_mount.Sheds.{IsSameDevice};
 ghost use Rattle.log_mount.specs.Quiet.{IsQuiet, IsSpent, IsSweepPaid, OnDone};
 ghost use Rattle.log_mount.specs.Resets.{AreReset, IsResetOne, MayReset};
 
-use k_check::k_journal::Commit;
+use k_check::Commit;
 use pm_lines::Power;
-use staging_files::k_split::{KFault, KSplit};
+use staging_files::{KFault, KSplit};
 use std::alloc::{AllocError, Global};
 
 // The inodes below are those of the root and of the staging files.

@@ -3,18 +3,18 @@ ghost use Rattle.std.specs.Prelude.{◌≡◌, true, IfNone, IfSome, Ok};
 ghost use Rattle.k_check.specs.disk_rules.Volume.{inode};
 ghost use Rattle.log_replay.specs.Plans.{IsLiveFile};
 ghost use Rattle.staging_files.specs.k_split.MapChanges.{IsSizeAnswer};
-ghost use Rattle.pm_words.specs.Powers.{is_on};
+ghost use Rattle.k_check.specs.pm_words.Powers.{is_on};
 ghost use Rattle.log_replay.specs.Replays.{ShowsTheSame};
-ghost use Rattle.pm_words.specs.Images.{Follows};
+ghost use Rattle.k_check.specs.pm_words.Images.{Follows};
 ghost use Rattle.log_replay.specs.k_mount.Sheds.{IsSameDevice};
 ghost use Rattle.log_mount.specs.Quiet.{IsQuiet, IsSpent, IsSweepPaid, OnDone};
 ghost use Rattle.log_mount.specs.Sweeps.{AreTrimmed, EndsInTime, IsTrimmedOne};
 
 use block_counts::blocks_for;
 use disk_lines::Kind;
-use k_check::k_journal::Commit;
+use k_check::Commit;
 use pm_lines::Power;
-use staging_files::k_split::{KFault, KSplit};
+use staging_files::{KFault, KSplit};
 use std::alloc::{AllocError, Global};
 
 // The inodes below are those of the root and of the staging files.

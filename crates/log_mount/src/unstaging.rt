@@ -1,14 +1,13 @@
 //! Staging files give up their blocks.
 ghost use Rattle.log_replay.specs.Replays.{ShowsTheSame};
-ghost use Rattle.pm_words.specs.Images.{Follows};
+ghost use Rattle.k_check.specs.pm_words.Images.{Follows};
 ghost use Rattle.log_replay.specs.k_mount.Sheds.{IsSameDevice};
 ghost use Rattle.log_mount.specs.Quiet.{IsQuiet, IsSpent, IsSweepPaid, OnDone};
 ghost use Rattle.log_mount.specs.Sweeps.{AreUnstaged};
 
-use k_check::k_journal::Commit;
+use k_check::Commit;
 use pm_lines::Power;
-use staging_files::Staging;
-use staging_files::k_split::KSplit;
+use staging_files::{KSplit, Staging};
 use std::alloc::{AllocError, Global};
 
 /// All staging files give up their blocks; no entry of the log is live. `PowerLost` comes exactly where the power

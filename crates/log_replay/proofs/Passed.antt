@@ -3,18 +3,18 @@ use Rattle.std.proofs.Common.{◌≡◌, ◌<◌, ◌&&◌, not, ℕ, Bool, true
 use Rattle.std.specs.Prelude.{All, count_by}
 use Rattle.std.specs.List.{range_with_len}
 use Rattle.std.proofs.lemmas.Bool.Decides.{nat_tests}
-use Rattle.block_counts.specs.Counts.{chains_for}
+use Rattle.replay_facts.specs.block_counts.Counts.{chains_for}
 use Rattle.k_mount.specs.block_pool.FreeSets.{is_among}
-use Rattle.pm_words.specs.Words.{Words}
-use Rattle.disk_places.specs.Journal.{journaled}
-use Rattle.disk_places.specs.Places.{base_word, commit_word, data_blocks, first_data, Geometry, is_data_block}
+use Rattle.replay_facts.specs.pm_words.Words.{Words}
+use Rattle.replay_facts.specs.disk_places.Journal.{journaled}
+use Rattle.replay_facts.specs.disk_places.Places.{base_word, commit_word, data_blocks, first_data, Geometry, is_data_block}
 use Rattle.replay_facts.specs.disk_rules.Checked.{IsLogKept}
 use Rattle.replay_facts.specs.disk_rules.Live.{valid_entries}
 use Rattle.replay_facts.specs.disk_rules.Reading.{Reads}
 use Rattle.replay_facts.specs.disk_rules.Room.{has_none, unused_blocks}
 use Rattle.replay_facts.specs.disk_rules.Uses.{owners}
 use Rattle.replay_facts.specs.disk_rules.Volume.{chain, extents, Volume}
-use Rattle.extent_words.specs.Extents.{covers, IsCanonical}
+use Rattle.replay_facts.specs.extent_words.Extents.{covers, IsCanonical}
 use Rattle.replay_facts.specs.k_rules.Stands.{IsOldOrNew}
 use Rattle.replay_facts.specs.k_rules.View.{View}
 use Rattle.k_mount.specs.k_split.MapChanges.{free_blocks_in, is_free_in}

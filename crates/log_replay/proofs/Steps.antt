@@ -5,21 +5,21 @@ use Rattle.std.proofs.lemmas.Bool.{and_parts, cases_lt}
 use Rattle.std.proofs.lemmas.Bool.Decides.{nat_tests}
 use Rattle.std.proofs.lemmas.List.{drop_all, get_or_past}
 use Rattle.std.proofs.lemmas.List.Elements.{All-append}
-use Rattle.pm_words.specs.declared.Cell.{Cell}
-use Rattle.pm_words.specs.CellLaws.{single-home}
-use Rattle.pm_words.specs.Cells.{AllHome, AllSingle, cell}
-use Rattle.pm_words.specs.ImageLaws.{Follows-from_words, image-single, IsImage-words_of}
-use Rattle.pm_words.specs.Images.{Follows, IsImage, words_of}
-use Rattle.pm_words.specs.Powers.{Steps, Supply}
-use Rattle.pm_words.specs.Words.{line_bytes, Words}
+use Rattle.replay_facts.specs.pm_words.declared.Cell.{Cell}
+use Rattle.replay_facts.specs.pm_words.CellLaws.{single-home}
+use Rattle.replay_facts.specs.pm_words.Cells.{AllHome, AllSingle, cell}
+use Rattle.replay_facts.specs.pm_words.ImageLaws.{Follows-from_words, image-single, IsImage-words_of}
+use Rattle.replay_facts.specs.pm_words.Images.{Follows, IsImage, words_of}
+use Rattle.replay_facts.specs.pm_words.Powers.{Steps, Supply}
+use Rattle.replay_facts.specs.pm_words.Words.{line_bytes, Words}
 use Rattle.disk_lines.specs.declared.Draft.{Draft}
 use Rattle.disk_lines.specs.declared.Kind.{Kind}
 use Rattle.disk_lines.specs.declared.Kind.TheVariants.{File, Free, Staging}
 use Rattle.disk_lines.specs.Entries.{is_draft}
 use Rattle.disk_lines.specs.EntryLaws.{IsEntryLine-decode_entry}
 use Rattle.disk_lines.specs.Lines.{most_bytes}
-use Rattle.disk_places.specs.Journal.{journaled}
-use Rattle.disk_places.specs.Places.{Geometry, is_data_block, log_line, reserve}
+use Rattle.replay_facts.specs.disk_places.Journal.{journaled}
+use Rattle.replay_facts.specs.disk_places.Places.{Geometry, is_data_block, log_line, reserve}
 use Rattle.replay_facts.specs.disk_rules.Checked.{IsCheckedAs}
 use Rattle.replay_facts.specs.disk_rules.Content.{content, disk_of, size_of}
 use Rattle.replay_facts.specs.disk_rules.Live.{entry_in, is_file, is_live, live_entries, valid_entries}
@@ -27,10 +27,10 @@ use Rattle.replay_facts.specs.disk_rules.Reading.{Reads}
 use Rattle.replay_facts.specs.disk_rules.Rules.{geometry_of, IsChecked}
 use Rattle.replay_facts.specs.disk_rules.Volume.{chain, extents, free_inode, inode, Volume}
 use Rattle.std.specs.List.{range_with_len}
-use Rattle.extent_words.specs.Extents.{disk_at}
-use Rattle.extent_words.specs.Moves.{IsMapped}
-use Rattle.list_facts.specs.Filters.{filter-In, filter_map-In}
-use Rattle.list_facts.specs.Members.{In}
+use Rattle.replay_facts.specs.extent_words.Extents.{disk_at}
+use Rattle.replay_facts.specs.extent_words.Moves.{IsMapped}
+use Rattle.replay_facts.specs.list_facts.Filters.{filter-In, filter_map-In}
+use Rattle.replay_facts.specs.list_facts.Members.{In}
 use Rattle.replay_facts.specs.image_facts.CheckedLaws.{checked-parts}
 use Rattle.k_mount.specs.k_map_plans.Plans.{MayMove}
 use Rattle.k_mount.specs.Images.{IsHeaded}

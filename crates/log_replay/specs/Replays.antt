@@ -1,12 +1,12 @@
 -- What it asks for that the live entries of a log are carried out, and what that leaves.
 use Rattle.std.specs.Prelude.{◌≡◌, ◌*◌, ℕ, true, false, List, [], Result, Ok, Err, alloc_error}
 use Rattle.std.specs.declared.alloc.AllocError.{AllocError}
-use Rattle.pm_words.specs.Images.{words_of}
-use Rattle.pm_words.specs.Powers.{is_on, Supply}
-use Rattle.pm_words.specs.Words.{Words}
+use Rattle.replay_facts.specs.pm_words.Images.{words_of}
+use Rattle.replay_facts.specs.pm_words.Powers.{is_on, Supply}
+use Rattle.replay_facts.specs.pm_words.Words.{Words}
 use Rattle.disk_lines.specs.declared.Draft.{Draft}
-use Rattle.disk_places.specs.Journal.{journaled}
-use Rattle.disk_places.specs.Places.{Geometry}
+use Rattle.replay_facts.specs.disk_places.Journal.{journaled}
+use Rattle.replay_facts.specs.disk_places.Places.{Geometry}
 use Rattle.replay_facts.specs.disk_rules.Checked.{IsCheckedAs}
 use Rattle.replay_facts.specs.disk_rules.Content.{content}
 use Rattle.replay_facts.specs.disk_rules.Live.{live_entries}

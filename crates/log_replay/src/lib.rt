@@ -13,6 +13,6 @@
 mod ordering;
 mod replays;
 
-pub use k_mount;
+pub use k_mount::{a_remount_shows_the_same, settle};
 pub use ordering::in_order;
 pub use replays::replay;

@@ -1,15 +1,13 @@
 //! The live entries are carried out.
 ghost use Rattle.std.specs.Prelude.{◌≡◌, ◌*◌, ◌^◌, true, length};
 ghost use Rattle.world_relinks.specs.map_facts.Moves.{move_for};
-ghost use Rattle.pm_words.specs.Images.{Follows};
-ghost use Rattle.pm_words.specs.Powers.{is_on, Steps};
+ghost use Rattle.replay_facts.specs.pm_words.Images.{Follows};
+ghost use Rattle.replay_facts.specs.pm_words.Powers.{is_on, Steps};
 ghost use Rattle.k_mount.specs.Sheds.{IsSameDevice};
 ghost use Rattle.log_replay.specs.Replays.{IsReplayAnswer, IsReplayPaid, MayReplay, ShowsTheSame, stopped_by};
 
 use disk_lines::Draft;
-use k_mount::k_journal::Commit;
-use k_mount::k_split::{KFault, KSplit};
-use k_mount::map_rules::Move;
+use k_mount::{Commit, KFault, KSplit, Move};
 use pm_lines::Power;
 use std::alloc::{AllocError, Global};
 

@@ -1,12 +1,12 @@
 -- Each change of K-Split that the power cut off leaves a device so.
 use Rattle.std.specs.Prelude.{◌≡◌, List, length, refl}
 use Rattle.std.proofs.Common.{◌∙◌, subst}
-use Rattle.pm_words.specs.declared.Cell.{Cell}
-use Rattle.pm_words.specs.Frames.{SameLent}
-use Rattle.pm_words.specs.Images.{IsImage}
-use Rattle.pm_words.specs.Words.{Words}
-use Rattle.disk_places.specs.Journal.{IsSound}
-use Rattle.disk_places.specs.Places.{Geometry}
+use Rattle.k_split.specs.pm_words.declared.Cell.{Cell}
+use Rattle.k_split.specs.pm_words.Frames.{SameLent}
+use Rattle.k_split.specs.pm_words.Images.{IsImage}
+use Rattle.k_split.specs.pm_words.Words.{Words}
+use Rattle.k_split.specs.disk_places.Journal.{IsSound}
+use Rattle.k_split.specs.disk_places.Places.{Geometry}
 use Rattle.k_split.specs.disk_rules.Volume.{Volume}
 use Rattle.lost_devices.specs.Left.{IsLeftOf, LeavesCut, LeavesMapCut, LeavesOverwritten}
 

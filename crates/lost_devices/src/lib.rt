@@ -18,5 +18,4 @@ pub fn cuts_leave_devices()
     ensures bytes { LeavesOverwritten }
 {}
 
-pub use k_split;
-pub use k_split::k_journal;
+pub use k_split::{Commit, KSplit};

@@ -1,9 +1,9 @@
 -- What the extents that were listed from blocks say of the map there.
 use Rattle.std.proofs.Common.{◌≡◌, ℕ, List, length, Option, Some, None, sym, subst}
 use Rattle.std.specs.Option.{SomeIff, IfSome, IfNone}
-use Rattle.pm_words.specs.Words.{Words}
-use Rattle.extent_words.specs.declared.Extent.{Extent}
-use Rattle.extent_words.specs.Extents.{IsCanonical}
+use Rattle.pm_lines.specs.pm_words.Words.{Words}
+use Rattle.extent_map.specs.extent_words.declared.Extent.{Extent}
+use Rattle.extent_map.specs.extent_words.Extents.{IsCanonical}
 use Rattle.chain_facts.specs.ChainLaws.{spells-stands, stands-spelled, listed-map}
 use Rattle.disk_rules.specs.Placed.{StandsIn}
 use Rattle.disk_rules.specs.Listed.{AreListed}

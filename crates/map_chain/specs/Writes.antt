@@ -1,11 +1,11 @@
 -- What it takes to write a chain, and what the images are while it is written.
 use Rattle.std.specs.Prelude.{◌≡◌, ℕ, ◌+◌, ◌/◌, ◌%◌, ◌<◌, List, length}
-use Rattle.pm_words.specs.declared.Cell.{Cell}
-use Rattle.pm_words.specs.declared.Cell.TheVariants.{Single}
-use Rattle.pm_words.specs.Cells.{cell}
-use Rattle.pm_words.specs.Words.{Words}
+use Rattle.pm_lines.specs.pm_words.declared.Cell.{Cell}
+use Rattle.pm_lines.specs.pm_words.declared.Cell.TheVariants.{Single}
+use Rattle.pm_lines.specs.pm_words.Cells.{cell}
+use Rattle.pm_lines.specs.pm_words.Words.{Words}
 use Rattle.block_counts.specs.Counts.{chains_for}
-use Rattle.extent_words.specs.declared.Extent.{Extent}
+use Rattle.extent_map.specs.extent_words.declared.Extent.{Extent}
 use Rattle.disk_rules.specs.Chains.{chain_word, first_or_zero}
 use Rattle.disk_rules.specs.Standing.{IsChain}
 use Rattle.disk_rules.specs.Placed.{block_at, part_at, AreDistinct, AreInDevice, AreSingle, IsOutside}

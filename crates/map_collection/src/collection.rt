@@ -1,6 +1,6 @@
 //! What is kept, and the look-up.
 ghost use Rattle.std.specs.Prelude.{◌≡◌, [], IfOk};
-ghost use Rattle.extent_words.specs.Extents.{disk_at};
+ghost use Rattle.extent_map.specs.extent_words.Extents.{disk_at};
 ghost use Rattle.map_collection.specs.Kept.{Agrees, KeepsNothing, KeepsOthers};
 
 use extent_map::ExtentMap;

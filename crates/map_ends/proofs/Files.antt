@@ -3,13 +3,13 @@ use Rattle.std.specs.Prelude.{◌≡◌, ◌≢◌, ◌⊎◌, ◌≤◌, ◌<�
 use Rattle.std.proofs.Common.{arith, ap, ◌∙◌, sym, subst, inl, inr, get_or}
 use Rattle.std.proofs.lemmas.Bool.{cases_eq, cases_lt}
 use Rattle.std.proofs.lemmas.List.{get_or-set_other, get_or-set_same, set-get_or}
-use Rattle.block_counts.specs.Counts.{blocks_for}
+use Rattle.file_ends.specs.block_counts.Counts.{blocks_for}
 use Rattle.file_ends.specs.disk_rules.Volume.{Volume}
 use Rattle.file_ends.specs.Ends.{FilesEnd}
-use Rattle.file_overlay.specs.declared.runs.Run.{Run}
+use Rattle.file_ends.specs.file_overlay.declared.runs.Run.{Run}
 use Rattle.file_ends.specs.file_table.Files.{ChangesFile, Files, runs_in, size_in}
 use Rattle.file_ends.specs.k_rules.View.{View}
-use Rattle.list_facts.specs.Members.{In}
+use Rattle.file_ends.specs.list_facts.Members.{In}
 use Rattle.log_checkpoint.specs.Gathers.{AreDone}
 use Rattle.log_checkpoint.proofs.staging_files_proofs.GiveUpLaws.{staging-file}
 use Rattle.map_ends.specs.Laws.{EndBegun, EndGathered, EndLaid, EndPublished, EndReserved}

@@ -4,18 +4,18 @@ use Rattle.std.proofs.Common.{arith, ap, ◌∙◌, sym, subst, inl, inr}
 use Rattle.std.proofs.lemmas.Bool.{cases_eq, cases_lt}
 use Rattle.std.proofs.lemmas.Bool.Decides.{nat_tests}
 use Rattle.std.proofs.lemmas.List.{get_or-set_other, get_or-set_same, get_or_past, length-set}
-use Rattle.block_counts.specs.Counts.{blocks_for}
-use Rattle.disk_lines.specs.declared.Inode.{Inode}
-use Rattle.disk_lines.specs.declared.Kind.TheVariants.{File, Staging}
+use Rattle.file_ends.specs.block_counts.Counts.{blocks_for}
+use Rattle.file_ends.specs.disk_lines.declared.Inode.{Inode}
+use Rattle.file_ends.specs.disk_lines.declared.Kind.TheVariants.{File, Staging}
 use Rattle.file_ends.specs.disk_rules.Volume.{extents, free_inode, inode, Volume}
-use Rattle.extent_words.specs.declared.Extent.{Extent}
-use Rattle.extent_words.specs.Extents.{disk_at, is_within}
-use Rattle.extent_words.specs.Maps.{IsPart}
-use Rattle.file_overlay.specs.declared.runs.Run.{Run}
+use Rattle.file_ends.specs.extent_words.declared.Extent.{Extent}
+use Rattle.file_ends.specs.extent_words.Extents.{disk_at, is_within}
+use Rattle.file_ends.specs.extent_words.Maps.{IsPart}
+use Rattle.file_ends.specs.file_overlay.declared.runs.Run.{Run}
 use Rattle.file_ends.specs.file_table.Files.{Files, size_in}
 use Rattle.log_checkpoint.specs.fsync_relink.Publishes.{AreRelinked, IsPublishDone, move_of, size_before}
 use Rattle.file_ends.specs.k_rules.View.{View}
-use Rattle.list_facts.specs.Members.{In}
+use Rattle.file_ends.specs.list_facts.Members.{In}
 use Rattle.file_ends.specs.map_rules.Changes.{aged, given_up, IsMoved, IsPreallocated, IsSized, with_length, with_size}
 use Rattle.file_ends.specs.map_rules.declared.moves.Move.{Move}
 use Rattle.file_ends.specs.map_rules.Taken.{switched, with_map}

@@ -1,12 +1,12 @@
 -- Nothing comes to lie past the end of a file, each law as one statement.
 use Rattle.std.specs.Prelude.{◌≡◌, ◌≤◌, ◌<◌, ℕ, [], ◌∷◌, ◌++◌, length, None, Result, Ok}
-use Rattle.block_counts.specs.Counts.{blocks_for}
-use Rattle.disk_lines.specs.declared.Draft.{Draft}
-use Rattle.disk_lines.specs.declared.Kind.TheVariants.{File}
+use Rattle.file_ends.specs.block_counts.Counts.{blocks_for}
+use Rattle.file_ends.specs.disk_lines.declared.Draft.{Draft}
+use Rattle.file_ends.specs.disk_lines.declared.Kind.TheVariants.{File}
 use Rattle.file_ends.specs.disk_rules.Volume.{extents, inode, Volume}
-use Rattle.extent_words.specs.Extents.{disk_at}
+use Rattle.file_ends.specs.extent_words.Extents.{disk_at}
 use Rattle.file_ends.specs.Ends.{DraftEnds, FilesEnd}
-use Rattle.file_overlay.specs.declared.runs.Run.{Run}
+use Rattle.file_ends.specs.file_overlay.declared.runs.Run.{Run}
 use Rattle.file_ends.specs.file_table.Files.{ChangesFile, Files, runs_in, size_in}
 use Rattle.log_checkpoint.specs.fsync_relink.Publishes.{IsPublishDone}
 use Rattle.file_ends.specs.k_journal.declared.outcomes.Commit.{Commit}

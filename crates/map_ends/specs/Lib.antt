@@ -14,3 +14,11 @@ pub use Rattle.log_checkpoint.specs.posix_puts as posix_puts
 pub use Rattle.log_checkpoint.specs.posix_spec as posix_spec
 pub use Rattle.log_checkpoint.specs.posix_trees as posix_trees
 pub use Rattle.log_checkpoint.specs.world_promise as world_promise
+pub use Rattle.file_ends.specs.block_counts as block_counts
+pub use Rattle.file_ends.specs.disk_lines as disk_lines
+pub use Rattle.file_ends.specs.disk_places as disk_places
+pub use Rattle.file_ends.specs.file_overlay as file_overlay
+pub use Rattle.file_ends.specs.list_facts as list_facts
+pub use Rattle.file_ends.specs.pm_words as pm_words
+pub use Rattle.file_ends.specs.posix_types as posix_types
+pub use Rattle.file_ends.specs.posix_words as posix_words

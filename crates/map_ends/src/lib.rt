@@ -20,5 +20,5 @@ pub fn files_end_after_changes_of_maps()
     ensures laid { EndLaid }
 {}
 
-pub use file_ends::{file_table, image_layout, k_journal};
-pub use log_checkpoint::{lines_out, staging_files};
+pub use file_ends::{Commit, FileTable};
+pub use log_checkpoint::{KSplit, Staging};

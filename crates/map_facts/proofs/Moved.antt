@@ -3,15 +3,15 @@ use Rattle.std.proofs.Common.{◌≡◌, ◌≢◌, ◌<◌, ◌≤◌, ◌+◌,
 use Rattle.std.specs.Prelude.{All}
 use Rattle.std.proofs.lemmas.Bool.{cases_eq}
 use Rattle.std.proofs.lemmas.List.{length-set}
-use Rattle.pm_words.specs.Words.{Words}
-use Rattle.block_counts.specs.Counts.{chains_for}
-use Rattle.disk_places.specs.Places.{Geometry, is_data_block}
-use Rattle.extent_words.specs.declared.Extent.{Extent}
-use Rattle.extent_words.specs.Moves.{Moves}
-use Rattle.disk_lines.specs.declared.Draft.{Draft}
-use Rattle.disk_lines.specs.declared.Inode.{Inode}
-use Rattle.disk_lines.specs.declared.Kind.{Kind}
-use Rattle.disk_lines.specs.declared.Kind.TheVariants.{Staging}
+use Rattle.block_bytes.specs.pm_words.Words.{Words}
+use Rattle.block_bytes.specs.block_counts.Counts.{chains_for}
+use Rattle.block_bytes.specs.disk_places.Places.{Geometry, is_data_block}
+use Rattle.block_bytes.specs.extent_words.declared.Extent.{Extent}
+use Rattle.block_bytes.specs.extent_words.Moves.{Moves}
+use Rattle.block_bytes.specs.disk_lines.declared.Draft.{Draft}
+use Rattle.block_bytes.specs.disk_lines.declared.Inode.{Inode}
+use Rattle.block_bytes.specs.disk_lines.declared.Kind.{Kind}
+use Rattle.block_bytes.specs.disk_lines.declared.Kind.TheVariants.{Staging}
 use Rattle.block_bytes.specs.disk_rules.Reading.{Reads}
 use Rattle.block_bytes.specs.disk_rules.Rules.{file_blocks_of, IsInData}
 use Rattle.block_bytes.specs.disk_rules.Volume.{chain, extents, inode, Volume}

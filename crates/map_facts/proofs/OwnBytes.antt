@@ -1,11 +1,11 @@
 -- Bytes of files beside those that are written over in place.
 use Rattle.std.proofs.Common.{◌≡◌, ◌≢◌, ◌⊎◌, ◌<◌, ◌≤◌, ◌+◌, ◌-◌, ◌*◌, ◌/◌, ◌%◌, ℕ, true, List, length, Option, None, Some, refl, ap, sym, ◌∙◌, arith, inl, inr}
 use Rattle.std.specs.Prelude.{slice_index}
-use Rattle.pm_words.specs.Words.{byte_of, Words}
+use Rattle.block_bytes.specs.pm_words.Words.{byte_of, Words}
 use Rattle.block_bytes.specs.Overwrites.{IsBeside, IsOverwritten, IsOverwrittenWhole, StandsIn}
-use Rattle.extent_words.specs.Extents.{disk_at}
-use Rattle.extent_facts.specs.Covers.{covers-disk_at}
-use Rattle.disk_places.specs.Places.{is_data_block}
+use Rattle.block_bytes.specs.extent_words.Extents.{disk_at}
+use Rattle.block_bytes.specs.extent_facts.Covers.{covers-disk_at}
+use Rattle.block_bytes.specs.disk_places.Places.{is_data_block}
 use Rattle.block_bytes.specs.disk_rules.Content.{byte_in}
 use Rattle.block_bytes.specs.disk_rules.Kept.{AreKept}
 use Rattle.block_bytes.specs.disk_rules.Rules.{file_blocks_of, IsNamedOnce}

@@ -1,8 +1,8 @@
 -- The bytes of files, each in the map of its own, after some of one file were written over in place.
 use Rattle.std.specs.Prelude.{◌≡◌, ◌⊎◌, ◌<◌, ◌≤◌, ◌+◌, ◌-◌, ◌/◌, ℕ, List, length, Some, slice_index}
-use Rattle.pm_words.specs.Words.{Words}
+use Rattle.block_bytes.specs.pm_words.Words.{Words}
 use Rattle.block_bytes.specs.Overwrites.{IsOverwritten, IsOverwrittenWhole}
-use Rattle.extent_words.specs.Extents.{disk_at}
+use Rattle.block_bytes.specs.extent_words.Extents.{disk_at}
 use Rattle.block_bytes.specs.disk_rules.Content.{byte_in}
 use Rattle.block_bytes.specs.disk_rules.Kept.{AreKept}
 use Rattle.block_bytes.specs.disk_rules.Volume.{extents, Volume}

@@ -1,12 +1,12 @@
 -- What a move of blocks that carries out a log entry makes of a volume, in the words of the World.
 use Rattle.std.specs.Prelude.{◌≡◌, ◌≢◌, ◌<◌, ◌≤◌, ◌+◌, ℕ, Bool, true, All, List, length}
-use Rattle.pm_words.specs.Words.{Words}
-use Rattle.block_counts.specs.Counts.{chains_for}
-use Rattle.disk_places.specs.Places.{Geometry, is_data_block}
-use Rattle.extent_words.specs.declared.Extent.{Extent}
-use Rattle.extent_words.specs.Extents.{IsCanonical}
-use Rattle.disk_lines.specs.declared.Draft.{Draft}
-use Rattle.disk_lines.specs.declared.Kind.TheVariants.{Staging}
+use Rattle.block_bytes.specs.pm_words.Words.{Words}
+use Rattle.block_bytes.specs.block_counts.Counts.{chains_for}
+use Rattle.block_bytes.specs.disk_places.Places.{Geometry, is_data_block}
+use Rattle.block_bytes.specs.extent_words.declared.Extent.{Extent}
+use Rattle.block_bytes.specs.extent_words.Extents.{IsCanonical}
+use Rattle.block_bytes.specs.disk_lines.declared.Draft.{Draft}
+use Rattle.block_bytes.specs.disk_lines.declared.Kind.TheVariants.{Staging}
 use Rattle.block_bytes.specs.disk_rules.Reading.{Reads}
 use Rattle.block_bytes.specs.disk_rules.Volume.{chain, extents, inode, Volume}
 use Rattle.block_bytes.specs.map_rules.declared.moves.Move.{Move}

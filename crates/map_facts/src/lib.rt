@@ -27,3 +27,5 @@ pub fn bytes_in_place_are_old_or_new()
     ensures either { WritesOldOrNew }
     ensures all { WritesAll }
 {}
+
+pub use block_bytes::Move;

@@ -9,10 +9,10 @@ use Rattle.std.proofs.lemmas.List.Elements.{All-cons, All-nil}
 use Rattle.std.proofs.lemmas.List.Kept.{AllPairs-cons}
 use Rattle.std.proofs.lemmas.List.Sums.{AllPass-from_list_all}
 use Rattle.disk_rules.specs.Uses.{owners}
-use Rattle.extent_words.specs.declared.Extent.{Extent}
-use Rattle.extent_words.specs.Extents.{disk_at, holds, is_within, ComesAfter, IsCanonical, IsExtent}
-use Rattle.extent_words.specs.Maps.{IsPart}
-use Rattle.extent_words.specs.Moves.{Moves}
+use Rattle.disk_rules.specs.extent_words.declared.Extent.{Extent}
+use Rattle.disk_rules.specs.extent_words.Extents.{disk_at, holds, is_within, ComesAfter, IsCanonical, IsExtent}
+use Rattle.disk_rules.specs.extent_words.Maps.{IsPart}
+use Rattle.disk_rules.specs.extent_words.Moves.{Moves}
 use Rattle.map_rules.specs.Changes.{Fills, HasInOrder, holes, in_order as order_of}
 use Rattle.map_rules.specs.Example.{AreChangesOfExample, is_free, run}
 use Rattle.map_rules.specs.Taken.{AreLowest}

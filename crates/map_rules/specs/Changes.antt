@@ -1,12 +1,12 @@
 -- What the changes of maps make of a volume: the size of a file, its holes, a staging file, and blocks that move.
 use Rattle.std.specs.Prelude.{◌≡◌, ℕ, ◌+◌, ◌%◌, ◌^◌, ◌<◌, ◌==◌, nat_lt, Bool, false, if◌then◌else◌, List, [], ◌++◌, length, filter, Option, Some, None, is_none, slice_index}
 use Rattle.std.specs.List.{list_any, range_with_len}
-use Rattle.block_counts.specs.Counts.{blocks_for, chains_for}
-use Rattle.extent_words.specs.declared.Extent.{Extent}
-use Rattle.extent_words.specs.Extents.{disk_at, IsCanonical}
-use Rattle.extent_words.specs.Maps.{IsPart}
-use Rattle.extent_words.specs.Moves.{Moves}
-use Rattle.disk_lines.specs.declared.Inode.{Inode}
+use Rattle.disk_rules.specs.block_counts.Counts.{blocks_for, chains_for}
+use Rattle.disk_rules.specs.extent_words.declared.Extent.{Extent}
+use Rattle.disk_rules.specs.extent_words.Extents.{disk_at, IsCanonical}
+use Rattle.disk_rules.specs.extent_words.Maps.{IsPart}
+use Rattle.disk_rules.specs.extent_words.Moves.{Moves}
+use Rattle.disk_rules.specs.disk_lines.declared.Inode.{Inode}
 use Rattle.disk_rules.specs.Placed.{block_at}
 use Rattle.disk_rules.specs.Volume.{Volume, extents, inode}
 use Rattle.map_rules.specs.declared.moves.Move.{Move}

@@ -1,10 +1,10 @@
 -- A small volume, and what each change of maps makes of it.
 use Rattle.std.specs.Prelude.{◌≡◌, ℕ, Bool, ◌&&◌, List, [], ◌∷◌, None}
-use Rattle.extent_words.specs.declared.Extent.{Extent}
-use Rattle.disk_places.specs.Places.{is_data_block}
-use Rattle.disk_lines.specs.declared.Inode.{Inode}
-use Rattle.disk_lines.specs.declared.Kind.TheVariants.{Free, Directory, File, Staging}
-use Rattle.disk_lines.specs.Fresh.{empty_inode}
+use Rattle.disk_rules.specs.extent_words.declared.Extent.{Extent}
+use Rattle.disk_rules.specs.disk_places.Places.{is_data_block}
+use Rattle.disk_rules.specs.disk_lines.declared.Inode.{Inode}
+use Rattle.disk_rules.specs.disk_lines.declared.Kind.TheVariants.{Free, Directory, File, Staging}
+use Rattle.disk_rules.specs.disk_lines.Fresh.{empty_inode}
 use Rattle.disk_rules.specs.Room.{has_none}
 use Rattle.disk_rules.specs.Uses.{owners}
 use Rattle.disk_rules.specs.Volume.{Volume}

@@ -1,8 +1,8 @@
 -- Which free blocks a change takes, and an inode that goes over to a map.
 use Rattle.std.specs.Prelude.{◌≡◌, ◌<◌, ℕ, ◌==◌, Bool, true, false, List, length, All, AllPairs}
 use Rattle.std.specs.List.{list_any}
-use Rattle.extent_words.specs.declared.Extent.{Extent}
-use Rattle.disk_lines.specs.declared.Inode.{Inode}
+use Rattle.disk_rules.specs.extent_words.declared.Extent.{Extent}
+use Rattle.disk_rules.specs.disk_lines.declared.Inode.{Inode}
 use Rattle.disk_rules.specs.Chains.{first_or_zero}
 use Rattle.disk_rules.specs.Reading.{inode_set}
 use Rattle.disk_rules.specs.Volume.{Volume}

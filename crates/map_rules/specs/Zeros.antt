@@ -1,10 +1,10 @@
 -- Blocks that read zeros.
 use Rattle.std.specs.Prelude.{◌≡◌, ℕ, ◌/◌, ◌<◌, List, length}
-use Rattle.pm_words.specs.declared.Cell.{Cell}
-use Rattle.pm_words.specs.Images.{IsImage}
-use Rattle.pm_words.specs.Words.{Words}
-use Rattle.disk_places.specs.Journal.{journaled}
-use Rattle.disk_places.specs.Places.{Geometry}
+use Rattle.disk_rules.specs.pm_words.declared.Cell.{Cell}
+use Rattle.disk_rules.specs.pm_words.Images.{IsImage}
+use Rattle.disk_rules.specs.pm_words.Words.{Words}
+use Rattle.disk_rules.specs.disk_places.Journal.{journaled}
+use Rattle.disk_rules.specs.disk_places.Places.{Geometry}
 use Rattle.disk_rules.specs.Placed.{block_at}
 use Rattle.disk_rules.specs.Reading.{Reads}
 use Rattle.disk_rules.specs.Volume.{Volume}

@@ -3,11 +3,11 @@ use Rattle.std.specs.Prelude.{◌≡◌, ◌≢◌, ◌⊎◌, ℕ, zero, suc, �
 use Rattle.std.proofs.Common.{arith, ap, sym, ◌∙◌, subst, inl, inr}
 use Rattle.std.proofs.lemmas.Bool.{both_ways, cases_eq, eq-eqb, ne_eqb}
 use Rattle.std.proofs.lemmas.Option.{option_and_then_some, same_Some}
-use Rattle.disk_lines.specs.Lines.{NameRow}
-use Rattle.disk_lines.specs.Names.{Rows, row, is_entry, is_child, names_of, has_entries, parent_of, up}
-use Rattle.disk_lines.specs.TableLaws.{NamingLine-parent_of}
-use Rattle.disk_lines.specs.Tables.{IsAcyclic}
-use Rattle.disk_lines.specs.UpLaws.{HasOneNameEach, up-add, IsAcyclic-from_up}
+use Rattle.volume_facts.specs.disk_lines.Lines.{NameRow}
+use Rattle.volume_facts.specs.disk_lines.Names.{Rows, row, is_entry, is_child, names_of, has_entries, parent_of, up}
+use Rattle.volume_facts.specs.disk_lines.TableLaws.{NamingLine-parent_of}
+use Rattle.volume_facts.specs.disk_lines.Tables.{IsAcyclic}
+use Rattle.volume_facts.specs.disk_lines.UpLaws.{HasOneNameEach, up-add, IsAcyclic-from_up}
 use Rattle.name_facts.specs.Forests.{EndsUpwards, IsForest, SameAbove, DoesNotMeet, MeetsFirst}
 use Rattle.name_facts.specs.RowLaws.{has_entries-line, names_of-one_line}
 use Rattle.name_facts.specs.SetLaws.{keyed-set, keyed-freed, names_of-taken, names_of-freed, names_of-moved, has_entries-taken_other, has_entries-freed_other, parent_of-taken_other, parent_of-freed_other, parent_of-moved_other, parent_of-taken, parent_of-moved}

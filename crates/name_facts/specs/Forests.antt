@@ -1,8 +1,8 @@
 -- Tables whose names are trees: one line for each parent and name, at most one name an inode, and no way up without an
 -- end.
 use Rattle.std.specs.Prelude.{◌≡◌, ◌≢◌, ℕ, ◌<◌, ◌≤◌, Some, None}
-use Rattle.disk_lines.specs.Names.{Rows, names_of, parent_of, up}
-use Rattle.disk_lines.specs.Tables.{IsKeyed}
+use Rattle.volume_facts.specs.disk_lines.Names.{Rows, names_of, parent_of, up}
+use Rattle.volume_facts.specs.disk_lines.Tables.{IsKeyed}
 
 -- going up from each inode comes to an end
 abbrev pub EndsUpwards : Rows → Type 0

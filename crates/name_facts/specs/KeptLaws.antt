@@ -3,13 +3,13 @@ use Rattle.std.specs.Prelude.{◌≡◌, ◌⊎◌, ℕ, suc, ◌<◌, ◌≤◌
 use Rattle.std.proofs.Common.{arith, ap, sym, ◌∙◌, subst, inl, inr}
 use Rattle.std.proofs.lemmas.Bool.{cases_lt, cases_order, false_from_ne_true}
 use Rattle.std.proofs.lemmas.List.{get_or_past}
-use Rattle.pm_words.specs.Words.{Words}
-use Rattle.disk_places.specs.Places.{Geometry}
-use Rattle.disk_lines.specs.Lines.{NameRow}
-use Rattle.disk_lines.specs.Names.{row, is_entry, is_child, names_of, parent_of, up}
-use Rattle.disk_lines.specs.TableLaws.{is_entry-parts, is_child-parts, NamingLine-parent_of}
-use Rattle.disk_lines.specs.Tables.{IsKeyed, IsAcyclic}
-use Rattle.disk_lines.specs.UpLaws.{up-past}
+use Rattle.volume_facts.specs.pm_words.Words.{Words}
+use Rattle.volume_facts.specs.disk_places.Places.{Geometry}
+use Rattle.volume_facts.specs.disk_lines.Lines.{NameRow}
+use Rattle.volume_facts.specs.disk_lines.Names.{row, is_entry, is_child, names_of, parent_of, up}
+use Rattle.volume_facts.specs.disk_lines.TableLaws.{is_entry-parts, is_child-parts, NamingLine-parent_of}
+use Rattle.volume_facts.specs.disk_lines.Tables.{IsKeyed, IsAcyclic}
+use Rattle.volume_facts.specs.disk_lines.UpLaws.{up-past}
 use Rattle.volume_facts.specs.disk_rules.Kept.{IsNamedRow, AreKept}
 use Rattle.volume_facts.specs.disk_rules.Live.{is_file, is_directory}
 use Rattle.volume_facts.specs.disk_rules.Reading.{Reads}

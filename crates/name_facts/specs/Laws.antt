@@ -1,9 +1,9 @@
 -- The chief laws of tables of names, each as one statement.
 use Rattle.std.specs.Prelude.{◌≡◌, ◌≢◌, ◌⊎◌, ℕ, suc, ◌+◌, ◌<◌, ◌≤◌, ◌==◌, List, length, true, false, cond, slice_set, Option, Some, None}
 use Rattle.std.specs.List.{count_by}
-use Rattle.disk_lines.specs.Lines.{NameRow}
-use Rattle.disk_lines.specs.Names.{Rows, row, is_entry, is_free_row, find_name, child_named, names_of, has_entries, parent_of, up, walk}
-use Rattle.disk_lines.specs.Tables.{IsKeyed, IsAcyclic}
+use Rattle.volume_facts.specs.disk_lines.Lines.{NameRow}
+use Rattle.volume_facts.specs.disk_lines.Names.{Rows, row, is_entry, is_free_row, find_name, child_named, names_of, has_entries, parent_of, up, walk}
+use Rattle.volume_facts.specs.disk_lines.Tables.{IsKeyed, IsAcyclic}
 use Rattle.volume_facts.specs.disk_rules.Kept.{AreKept}
 use Rattle.volume_facts.specs.disk_rules.Volume.{Volume}
 use Rattle.name_facts.specs.Forests.{IsForest, SameAbove, MeetsFirst}

@@ -5,9 +5,9 @@ use Rattle.std.proofs.Common.{arith, ap, sym, ◌∙◌, inl, inr, zero-add}
 use Rattle.std.proofs.lemmas.Bool.{both_ways, cases_lt, cases_order, cond-true, cond-false, eq-eqb, false_from_ne_true}
 use Rattle.std.proofs.lemmas.List.{get_or_default, get_or_past}
 use Rattle.std.proofs.lemmas.List.Folds.{list_any_at, Any-from_list_any}
-use Rattle.disk_lines.specs.Lines.{NameRow}
-use Rattle.disk_lines.specs.Names.{Rows, row, first_row_from, is_child, is_below_parent, names_of, has_entries}
-use Rattle.disk_lines.specs.Tables.{IsFirstRow}
+use Rattle.volume_facts.specs.disk_lines.Lines.{NameRow}
+use Rattle.volume_facts.specs.disk_lines.Names.{Rows, row, first_row_from, is_child, is_below_parent, names_of, has_entries}
+use Rattle.volume_facts.specs.disk_lines.Tables.{IsFirstRow}
 use Rattle.volume_facts.specs.Lists.{count_by-at, count_by-two, count_by-some}
 
 -- ---- which line is found

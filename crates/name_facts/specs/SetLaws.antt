@@ -5,10 +5,10 @@ use Rattle.std.proofs.Common.{arith, ap, sym, ◌∙◌, inl, inr}
 use Rattle.std.proofs.lemmas.Bool.{cases_eq, cases_lt, cases_Bool, cond-true, cond-false, eq-eqb, ne_eqb, false_from_ne_true}
 use Rattle.std.proofs.lemmas.List.{length-set, set_past, get_or_past}
 use Rattle.std.proofs.lemmas.Option.{same_Some}
-use Rattle.disk_lines.specs.Lines.{NameRow}
-use Rattle.disk_lines.specs.Names.{Rows, row, is_entry, is_child, is_below_parent, is_free_row, line_and_child, parent_of_row, find_name, child_named, names_of, has_entries, parent_of}
-use Rattle.disk_lines.specs.TableLaws.{is_entry-parts, is_entry-own, find_name-at, find_name-none}
-use Rattle.disk_lines.specs.Tables.{IsKeyed, IsFirstRow, NamingLine}
+use Rattle.volume_facts.specs.disk_lines.Lines.{NameRow}
+use Rattle.volume_facts.specs.disk_lines.Names.{Rows, row, is_entry, is_child, is_below_parent, is_free_row, line_and_child, parent_of_row, find_name, child_named, names_of, has_entries, parent_of}
+use Rattle.volume_facts.specs.disk_lines.TableLaws.{is_entry-parts, is_entry-own, find_name-at, find_name-none}
+use Rattle.volume_facts.specs.disk_lines.Tables.{IsKeyed, IsFirstRow, NamingLine}
 use Rattle.name_facts.specs.RowLaws.{row-within, first_row-first, first_row-nothing, first_row-past, list_any-past, has_entries-line, has_entries-none, names_of-zero, names_of-one_line}
 use Rattle.volume_facts.specs.Changes.{row-set_same, row-set_other}
 use Rattle.volume_facts.specs.Lists.{one_if, count_by-set}

@@ -3,10 +3,10 @@ use Rattle.std.specs.Prelude.{◌≡◌, ◌≢◌, ◌⊎◌, ℕ, ◌<◌, ◌
 use Rattle.std.proofs.Common.{ap, sym, ◌∙◌, inl, inr}
 use Rattle.std.proofs.lemmas.Bool.{both_ways, cases_Bool, eq-eqb, false_from_ne_true}
 use Rattle.std.proofs.lemmas.Option.{option_and_then_some, same_Some}
-use Rattle.disk_lines.specs.Lines.{NameRow}
-use Rattle.disk_lines.specs.Names.{Rows, row, is_entry, is_child, child_named, names_of, has_entries, walk}
-use Rattle.disk_lines.specs.TableLaws.{is_entry-parts, child_named-at, child_named-NamingLine, walk-cons, walk-one, walk-append, walk-step}
-use Rattle.disk_lines.specs.Tables.{IsKeyed, NamingLine}
+use Rattle.volume_facts.specs.disk_lines.Lines.{NameRow}
+use Rattle.volume_facts.specs.disk_lines.Names.{Rows, row, is_entry, is_child, child_named, names_of, has_entries, walk}
+use Rattle.volume_facts.specs.disk_lines.TableLaws.{is_entry-parts, child_named-at, child_named-NamingLine, walk-cons, walk-one, walk-append, walk-step}
+use Rattle.volume_facts.specs.disk_lines.Tables.{IsKeyed, NamingLine}
 use Rattle.name_facts.specs.RowLaws.{row-below, has_entries-line, names_of-one_line}
 use Rattle.name_facts.specs.SetLaws.{is_entry-apart, child_named-past, child_named-set, row-freed, has_entries-taken_other}
 

@@ -4,7 +4,7 @@ use Rattle.std.specs.Option.{option_flatten, option_map}
 use Rattle.std.proofs.Common.{ap, ◌∙◌, sym, inl, inr, arith}
 use Rattle.std.proofs.lemmas.Bool.{cases_eq}
 use Rattle.std.proofs.lemmas.Bool.Decides.{Decides-eqb}
-use Rattle.list_facts.specs.Members.{find-In, find-none, In-slice_get, slice_get-In}
+use Rattle.posix_frames.specs.list_facts.Members.{find-In, find-none, In-slice_get, slice_get-In}
 use Rattle.slab.specs.Slab.{get, Slab, Updates}
 use Rattle.open_files.specs.declared.kept.Kept.{Kept}
 use Rattle.open_files.specs.Kept.{description_of, has_number, numbered, tabulated}

@@ -11,7 +11,7 @@ use Rattle.std.proofs.lemmas.List.Folds.{find_at}
 use Rattle.std.proofs.lemmas.List.Quantifiers.{all_pairs_remove}
 use Rattle.std.proofs.lemmas.List.Sums.{fails_before_first, passes_at_first, sum_by-cons}
 use Rattle.std.proofs.lemmas.Option.{slice_get_past}
-use Rattle.list_facts.specs.Members.{slice_get-front, slice_get-last}
+use Rattle.posix_frames.specs.list_facts.Members.{slice_get-front, slice_get-last}
 use Rattle.posix_words.specs.Names.{without_place}
 use Rattle.posix_words.specs.Open.{description_number, has_key}
 use Rattle.posix_frames.specs.Lists.{slice_get-set_other}

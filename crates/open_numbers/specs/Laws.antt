@@ -1,7 +1,7 @@
 -- What commutes with numbering, each as one statement.
 use Rattle.std.specs.Prelude.{◌≡◌, ◌⊎◌, ℕ, true, option_map}
-use Rattle.posix_types.specs.declared.call.Who.{Who}
-use Rattle.posix_types.specs.declared.handle.Handle.{Handle}
+use Rattle.posix_words.specs.posix_types.declared.call.Who.{Who}
+use Rattle.posix_words.specs.posix_types.declared.handle.Handle.{Handle}
 use Rattle.posix_words.specs.declared.open.Description.{Description}
 use Rattle.posix_words.specs.Open.{closed, is_full, is_open, key_of, next_descriptor, nothing_open, opened, Tables, with_descriptor, with_offset, with_opened}
 use Rattle.open_numbers.specs.Numbered.{described_as, IsTold, numbered_as}

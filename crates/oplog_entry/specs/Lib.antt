@@ -1,1 +1,4 @@
 pub mod Scans
+pub use Rattle.disk_lines.specs as disk_lines
+pub use Rattle.disk_lines.specs.disk_places as disk_places
+pub use Rattle.pm_lines.specs.pm_words as pm_words

@@ -1,9 +1,9 @@
 -- The entries that stand in the lines of a log.
 use Rattle.std.specs.Prelude.{ℕ, ◌+◌, List, [], length, slice_index_or, Option, option_map}
 use Rattle.std.specs.List.{filter_map, range_with_len}
-use Rattle.pm_words.specs.Images.{words_of}
-use Rattle.pm_words.specs.Parts.{Part}
-use Rattle.pm_words.specs.Words.{line_bytes}
+use Rattle.pm_lines.specs.pm_words.Images.{words_of}
+use Rattle.pm_lines.specs.pm_words.Parts.{Part}
+use Rattle.pm_lines.specs.pm_words.Words.{line_bytes}
 use Rattle.disk_lines.specs.declared.Draft.{Draft}
 use Rattle.disk_lines.specs.Entries.{decode_entry}
 

@@ -1,6 +1,6 @@
 //! An entry of the log as 64 bytes, and back.
 ghost use Rattle.std.specs.Prelude.{◌≡◌, ◌≢◌, ◌<◌, ◌^◌, ◌++◌, ℕ, List, true, Some, None};
-ghost use Rattle.disk_places.specs.Fields.{zeros};
+ghost use Rattle.disk_lines.specs.disk_places.Fields.{zeros};
 ghost use Rattle.disk_lines.specs.Entries.{is_draft, entry_body, encode_entry, decode_entry};
 ghost use Rattle.disk_lines.specs.EntryLaws.{FitsDraft, IsEntryLine};
 ghost use Rattle.disk_lines.specs.declared.Draft.{Draft};

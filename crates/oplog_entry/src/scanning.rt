@@ -1,7 +1,7 @@
 //! The entries that are valid in the lines of a log.
 ghost use Rattle.std.specs.Prelude.{◌≡◌, ◌+◌, ◌<◌, ◌^◌, length, IfOk};
-ghost use Rattle.pm_words.specs.Images.{words_of};
-ghost use Rattle.pm_words.specs.Words.{line_bytes};
+ghost use Rattle.pm_lines.specs.pm_words.Images.{words_of};
+ghost use Rattle.pm_lines.specs.pm_words.Words.{line_bytes};
 ghost use Rattle.oplog_entry.specs.Scans.{entries_in};
 
 use crate::entry::decode;

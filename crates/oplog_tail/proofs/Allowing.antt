@@ -6,7 +6,7 @@ use mathlib.Core.Option.{none, some}
 use mir.Val.{bool_byte}
 use mathlib.Core.Option as maybe
 use Rattle.atomic_table.specs.Table.{Allows, gives, homes_after, Joins, keeps, Me, opening, Splits, State, step, takes}
-use Rattle.pm_words.specs.Parts.{Part}
+use Rattle.disk_rules.specs.pm_words.Parts.{Part}
 use Rattle.disk_lines.specs.declared.Draft.{Draft}
 use Rattle.oplog_tail.specs.declared.views.Claim.{Claim}
 use Rattle.oplog_tail.specs.declared.views.Knows.{Knows}

@@ -6,7 +6,7 @@ use mathlib.Core.Option.{none, some}
 use mathlib.Core.Option as maybe
 use lib.ListN.{get_elem?}
 use Rattle.atomic_table.proofs.Lists.{at_set, set_else, set_here}
-use Rattle.pm_words.specs.Parts.{Part}
+use Rattle.disk_rules.specs.pm_words.Parts.{Part}
 use Rattle.oplog_tail.specs.declared.views.Claim.{Claim}
 use Rattle.oplog_tail.specs.declared.views.Knows.{Knows}
 use Rattle.oplog_tail.specs.declared.views.Opened.{Opened}

@@ -1,12 +1,12 @@
 -- A line into which an entry is written, word by word, flushed and fenced, at a power that may be lost at any step.
 use Rattle.std.proofs.Common.{◌≡◌, ◌≢◌, ℕ, ◌+◌, ◌%◌, ◌<◌, ◌≤◌, Bool, true, false, cond, List, sym, refl, ap, ◌∙◌, subst, inl, inr, ⊎_elim, arith, ◌⊎◌}
 use Rattle.std.proofs.lemmas.Bool.{cases_eq}
-use Rattle.pm_words.specs.declared.Cell.{Cell}
-use Rattle.pm_words.specs.declared.Cell.TheVariants.{Single, Two}
-use Rattle.pm_words.specs.Bytes.{line_bytes-words}
-use Rattle.pm_words.specs.Cells.{cell, fenced, flushed, has_two, is_lent, is_single, newest, oldest, stored}
-use Rattle.pm_words.specs.CellLaws.{single-newest}
-use Rattle.pm_words.specs.Words.{Words}
+use Rattle.disk_rules.specs.pm_words.declared.Cell.{Cell}
+use Rattle.disk_rules.specs.pm_words.declared.Cell.TheVariants.{Single, Two}
+use Rattle.disk_rules.specs.pm_words.Bytes.{line_bytes-words}
+use Rattle.disk_rules.specs.pm_words.Cells.{cell, fenced, flushed, has_two, is_lent, is_single, newest, oldest, stored}
+use Rattle.disk_rules.specs.pm_words.CellLaws.{single-newest}
+use Rattle.disk_rules.specs.pm_words.Words.{Words}
 use Rattle.pm_lines.specs.Effects.{Fences, FlushesLine, StoresWord}
 use Rattle.disk_lines.specs.declared.Draft.{Draft}
 use Rattle.disk_lines.specs.Entries.{encode_entry}

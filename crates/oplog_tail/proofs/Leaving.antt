@@ -9,10 +9,10 @@ use Rattle.std.proofs.lemmas.List.Elements.{Contains-append_left, Contains-appen
 use Rattle.std.proofs.lemmas.List.Sums.{get_or-le-sum_by, sum_by-cons}
 use mathlib.Core.Option.{some}
 use lib.ListN.{get_elem?}
-use Rattle.pm_words.specs.declared.Cell.{Cell}
-use Rattle.pm_words.specs.Cells.{cell}
-use Rattle.pm_words.specs.CellLaws.{single-newest}
-use Rattle.pm_words.specs.Parts.{Part}
+use Rattle.disk_rules.specs.pm_words.declared.Cell.{Cell}
+use Rattle.disk_rules.specs.pm_words.Cells.{cell}
+use Rattle.disk_rules.specs.pm_words.CellLaws.{single-newest}
+use Rattle.disk_rules.specs.pm_words.Parts.{Part}
 use Rattle.disk_lines.specs.declared.Draft.{Draft}
 use Rattle.disk_rules.specs.LogRule.{cells_of_line, HoldsClaims, HoldsEntry, IsAsAtFirst}
 use Rattle.oplog_tail.specs.declared.views.Claim.{Claim}

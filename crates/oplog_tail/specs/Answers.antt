@@ -1,6 +1,6 @@
 -- What an append answers, and what it leaves of its seat.
 use Rattle.std.specs.Prelude.{◌≡◌, ◌≤◌, ◌<◌, ℕ, true, false, None}
-use Rattle.pm_words.specs.Powers.{is_on, Supply}
+use Rattle.disk_rules.specs.pm_words.Powers.{is_on, Supply}
 use Rattle.disk_lines.specs.declared.Draft.{Draft}
 use Rattle.oplog_tail.specs.declared.appends.Appended.{Appended}
 use Rattle.oplog_tail.specs.declared.appends.Appended.TheVariants.{Done, PowerLost}

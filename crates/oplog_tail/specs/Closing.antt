@@ -1,8 +1,8 @@
 -- What the lines of a log are once it is closed, by the claims of its seats.
 use Rattle.std.specs.Prelude.{◌≡◌, ◌≤◌, ◌<◌, ℕ, ◌+◌, Contains, flat_map, List, [], ◌∷◌, length, map, sum_by, Option, Some, None}
-use Rattle.pm_words.specs.declared.Cell.{Cell}
-use Rattle.pm_words.specs.Parts.{Part}
-use Rattle.pm_words.specs.Words.{Words}
+use Rattle.disk_rules.specs.pm_words.declared.Cell.{Cell}
+use Rattle.disk_rules.specs.pm_words.Parts.{Part}
+use Rattle.disk_rules.specs.pm_words.Words.{Words}
 use Rattle.disk_rules.specs.LogRule.{words_of_line}
 use Rattle.oplog_tail.specs.declared.views.Claim.{Claim}
 use Rattle.oplog_tail.specs.declared.views.Full.{Full}

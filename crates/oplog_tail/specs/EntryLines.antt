@@ -1,8 +1,8 @@
 -- What an append leaves in its line.
 use Rattle.std.specs.Prelude.{◌≡◌, ◌⊎◌, ◌<◌, ℕ, List, true, false}
-use Rattle.pm_words.specs.declared.Cell.{Cell}
-use Rattle.pm_words.specs.Cells.{cell, has_two, is_lent, is_single, newest, oldest}
-use Rattle.pm_words.specs.Words.{word_at, Words}
+use Rattle.disk_rules.specs.pm_words.declared.Cell.{Cell}
+use Rattle.disk_rules.specs.pm_words.Cells.{cell, has_two, is_lent, is_single, newest, oldest}
+use Rattle.disk_rules.specs.pm_words.Words.{word_at, Words}
 use Rattle.disk_lines.specs.declared.Draft.{Draft}
 use Rattle.disk_lines.specs.Entries.{encode_entry}
 use Rattle.disk_rules.specs.LogRule.{HoldsEntry, words_of_line}

@@ -1,7 +1,7 @@
 -- What seats know of the log, counted.
 use Rattle.std.specs.Prelude.{ℕ, ◌+◌, ◌==◌, Bool, true, false, if◌then◌else◌, List, [], ◌∷◌, ◌++◌, length, count_by, Option, Some, None}
 use Rattle.view_sums.specs.Numbers.{count_with}
-use Rattle.pm_words.specs.Parts.{Part}
+use Rattle.disk_rules.specs.pm_words.Parts.{Part}
 use Rattle.disk_lines.specs.declared.Draft.{Draft}
 use Rattle.oplog_tail.specs.declared.views.Claim.{Claim}
 use Rattle.oplog_tail.specs.declared.views.Knows.{Knows}

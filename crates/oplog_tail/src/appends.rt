@@ -2,8 +2,8 @@
 ghost use Rattle.std.specs.Prelude.{◌≡◌, ◌+◌, ◌≤◌, ◌<◌, ◌^◌, [], ◌∷◌, ℕ, if◌then◌else◌};
 ghost use mathlib.Core.Option.{none};
 ghost use Rattle.atomic_table.specs.Table.{step};
-ghost use Rattle.pm_words.specs.Parts.{Part};
-ghost use Rattle.pm_words.specs.Powers.{is_on, Steps};
+ghost use Rattle.disk_rules.specs.pm_words.Parts.{Part};
+ghost use Rattle.disk_rules.specs.pm_words.Powers.{is_on, Steps};
 ghost use Rattle.oplog_tail.specs.Answers.{Answers};
 ghost use Rattle.oplog_tail.specs.EntryLines.{IsSingle};
 ghost use Rattle.oplog_tail.specs.Logs.{capacity, IsSeatOf};

@@ -27,6 +27,6 @@ pub use appends::{Appended, Receipt};
 pub use closing::claims_have_the_first_numbers;
 pub use disk_lines::Draft;
 pub use logs::OpLog;
-pub use oplog_entry;
+pub use oplog_entry::{encode, scan};
 pub use seats::LogSeat;
 pub use views::{Claim, Full, Mark};

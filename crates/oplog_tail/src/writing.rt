@@ -1,6 +1,6 @@
 //! How an entry is written into a line.
 ghost use Rattle.std.specs.Prelude.{◌≡◌, ◌<◌, ◌^◌, true, if◌then◌else◌};
-ghost use Rattle.pm_words.specs.Powers.{is_on, Steps};
+ghost use Rattle.disk_rules.specs.pm_words.Powers.{is_on, Steps};
 ghost use Rattle.oplog_tail.specs.EntryLines.{Holds, IsSingle};
 
 use crate::views::Mark;

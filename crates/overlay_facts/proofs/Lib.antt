@@ -1,1 +1,2 @@
 pub mod Overlays
+pub use Rattle.job_facts.proofs as job_facts_proofs

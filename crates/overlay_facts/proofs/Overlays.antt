@@ -8,18 +8,18 @@ use Rattle.std.proofs.lemmas.List.{get_or-drop, get_or-take, length-drop, length
 use Rattle.std.proofs.lemmas.List.Folds.{find-append}
 use Rattle.std.proofs.lemmas.List.FromFn.{get_or-map-range_with_len, length-map-range_with_len}
 use Rattle.file_reads.specs.data_route.Reads.{read_len, source_by, source_of}
-use Rattle.disk_lines.specs.declared.Draft.{Draft}
-use Rattle.world_promise.specs.disk_rules.Content.{byte_in, disk_by, entry_of_block, size_by}
-use Rattle.world_promise.specs.disk_rules.Live.{later_of, latest}
-use Rattle.world_promise.specs.disk_rules.Volume.{extents, inode, Volume}
-use Rattle.extent_words.specs.Extents.{disk_at, is_within}
-use Rattle.file_overlay.specs.declared.runs.Run.{Run}
-use Rattle.file_overlay.specs.Runs.{has_block, last_run, place_in}
+use Rattle.job_facts.specs.disk_lines.declared.Draft.{Draft}
+use Rattle.job_facts.specs.world_promise.disk_rules.Content.{byte_in, disk_by, entry_of_block, size_by}
+use Rattle.job_facts.specs.world_promise.disk_rules.Live.{later_of, latest}
+use Rattle.job_facts.specs.world_promise.disk_rules.Volume.{extents, inode, Volume}
+use Rattle.job_facts.specs.extent_words.Extents.{disk_at, is_within}
+use Rattle.file_reads.specs.file_overlay.declared.runs.Run.{Run}
+use Rattle.file_reads.specs.file_overlay.Runs.{has_block, last_run, place_in}
 use Rattle.file_reads.specs.Reads.{block_in, block_of, bytes_in}
-use Rattle.list_facts.specs.Filters.{filter-both, filter-In, filter-more, filter-same}
-use Rattle.posix_words.specs.Bytes.{bytes_from}
-use Rattle.world_promise.specs.Latest.{Consecutive-between, latest-append_last, latest-In}
-use Rattle.world_promise.specs.world_rules.Stands.{Consecutive, entries_of, LogStands}
+use Rattle.job_facts.specs.list_facts.Filters.{filter-both, filter-In, filter-more, filter-same}
+use Rattle.job_facts.specs.posix_words.Bytes.{bytes_from}
+use Rattle.job_facts.specs.world_promise.Latest.{Consecutive-between, latest-append_last, latest-In}
+use Rattle.job_facts.specs.world_promise.world_rules.Stands.{Consecutive, entries_of, LogStands}
 use Rattle.overlay_facts.specs.Laws.{LaysBeside, LaysEntry, NothingIsLaid, OverlayIsLog, OverlayReadsFile}
 use Rattle.overlay_facts.specs.Overlays.{IsOverlayOf, run_of}
 

@@ -1,15 +1,15 @@
 -- The laws of overlays and entries, each as one statement.
 use Rattle.std.specs.Prelude.{◌≡◌, ◌≢◌, ℕ, List, [], ◌∷◌, ◌++◌}
-use Rattle.pm_words.specs.Words.{Words}
+use Rattle.job_facts.specs.pm_words.Words.{Words}
 use Rattle.file_reads.specs.data_route.Reads.{read_len}
-use Rattle.disk_lines.specs.declared.Draft.{Draft}
-use Rattle.world_promise.specs.disk_rules.Content.{disk_of}
-use Rattle.world_promise.specs.disk_rules.Volume.{inode, Volume}
-use Rattle.file_overlay.specs.declared.runs.Run.{Run}
+use Rattle.job_facts.specs.disk_lines.declared.Draft.{Draft}
+use Rattle.job_facts.specs.world_promise.disk_rules.Content.{disk_of}
+use Rattle.job_facts.specs.world_promise.disk_rules.Volume.{inode, Volume}
+use Rattle.file_reads.specs.file_overlay.declared.runs.Run.{Run}
 use Rattle.file_reads.specs.Reads.{block_in, bytes_in}
-use Rattle.posix_words.specs.Bytes.{bytes_from}
-use Rattle.world_promise.specs.Latest.{AreBelow}
-use Rattle.world_promise.specs.world_rules.Stands.{entries_of, FileStands, LogStands}
+use Rattle.job_facts.specs.posix_words.Bytes.{bytes_from}
+use Rattle.job_facts.specs.world_promise.Latest.{AreBelow}
+use Rattle.job_facts.specs.world_promise.world_rules.Stands.{entries_of, FileStands, LogStands}
 use Rattle.overlay_facts.specs.Overlays.{IsOverlayOf, run_of}
 
 -- What lies over the map is what the log says: each block of the file is the same by both.

@@ -1,10 +1,10 @@
 -- The overlay of a file beside the live entries of the log.
 use Rattle.std.specs.Prelude.{◌≡◌, ℕ, List, map}
-use Rattle.disk_lines.specs.declared.Draft.{Draft}
-use Rattle.world_promise.specs.disk_rules.Content.{size_of}
-use Rattle.world_promise.specs.disk_rules.Volume.{Volume}
-use Rattle.file_overlay.specs.declared.runs.Run.{Run}
-use Rattle.world_promise.specs.world_rules.Stands.{entries_of}
+use Rattle.job_facts.specs.disk_lines.declared.Draft.{Draft}
+use Rattle.job_facts.specs.world_promise.disk_rules.Content.{size_of}
+use Rattle.job_facts.specs.world_promise.disk_rules.Volume.{Volume}
+use Rattle.file_reads.specs.file_overlay.declared.runs.Run.{Run}
+use Rattle.job_facts.specs.world_promise.world_rules.Stands.{entries_of}
 
 -- the run of an entry
 abbrev pub run_of : Draft → Run

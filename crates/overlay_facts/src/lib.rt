@@ -19,5 +19,5 @@ pub fn the_overlay_is_the_log()
     ensures others { LaysBeside }
 {}
 
-pub use file_reads;
-pub use file_reads::map_collection;
+pub use file_reads::{Collection, read_bytes};
+pub use job_facts::{Filled, FilledJob, Job, staged_words};

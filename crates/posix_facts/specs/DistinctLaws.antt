@@ -3,19 +3,19 @@ use Rattle.std.specs.Prelude.{◌≡◌, ℕ, zero, suc, Bool, true, false, cond
 use Rattle.std.specs.Cmp.Lexicographic.{bytes_decides}
 use Rattle.std.proofs.Common.{sym, ◌∙◌, subst, lit<}
 use Rattle.std.proofs.lemmas.Bool.Decides.{Decides-eqb}
-use Rattle.posix_types.specs.declared.call.Call.{Call}
-use Rattle.posix_types.specs.declared.call.Who.{Who}
-use Rattle.posix_types.specs.declared.item.Item.{Item}
-use Rattle.posix_types.specs.declared.reply.Errno.{Errno}
-use Rattle.posix_types.specs.declared.handle.Flags.{Flags}
-use Rattle.posix_types.specs.declared.handle.Handle.{Handle}
-use Rattle.posix_words.specs.declared.nodes.Node.{Node}
-use Rattle.posix_words.specs.declared.nodes.DirEntry.{DirEntry}
-use Rattle.posix_words.specs.Lookups.{AreDistinct, child_of-without_entry-itself, entry_of, find-insert, none_mapped, without_first, without_place-position}
-use Rattle.posix_words.specs.Names.{child_of, exists_at, is_entry, is_root, last_name, node_at_path, number_at, parent_at, Space, walk, with_entry, without_entry}
-use Rattle.posix_words.specs.NameRows.{mkdir_rows, open_rows, walk_row}
-use Rattle.posix_words.specs.Outcomes.{first}
-use Rattle.posix_words.specs.Open.{closed}
+use Rattle.posix_spec.specs.posix_types.declared.call.Call.{Call}
+use Rattle.posix_spec.specs.posix_types.declared.call.Who.{Who}
+use Rattle.posix_spec.specs.posix_types.declared.item.Item.{Item}
+use Rattle.posix_spec.specs.posix_types.declared.reply.Errno.{Errno}
+use Rattle.posix_spec.specs.posix_types.declared.handle.Flags.{Flags}
+use Rattle.posix_spec.specs.posix_types.declared.handle.Handle.{Handle}
+use Rattle.posix_spec.specs.posix_words.declared.nodes.Node.{Node}
+use Rattle.posix_spec.specs.posix_words.declared.nodes.DirEntry.{DirEntry}
+use Rattle.posix_spec.specs.posix_words.Lookups.{AreDistinct, child_of-without_entry-itself, entry_of, find-insert, none_mapped, without_first, without_place-position}
+use Rattle.posix_spec.specs.posix_words.Names.{child_of, exists_at, is_entry, is_root, last_name, node_at_path, number_at, parent_at, Space, walk, with_entry, without_entry}
+use Rattle.posix_spec.specs.posix_words.NameRows.{mkdir_rows, open_rows, walk_row}
+use Rattle.posix_spec.specs.posix_words.Outcomes.{first}
+use Rattle.posix_spec.specs.posix_words.Open.{closed}
 use Rattle.posix_spec.specs.FileRows.{file_number}
 use Rattle.posix_spec.specs.Run.{run}
 use Rattle.posix_spec.specs.State.{alone, Instance, made, space, State, swept, unnamed, with_file, with_node, with_published}

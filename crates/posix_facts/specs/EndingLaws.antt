@@ -1,8 +1,8 @@
 -- Laws of runs: which runs there are, under any rule that permits the tree of the history.
 use Rattle.std.specs.Prelude.{◌≡◌, ◌≤◌, ℕ, List, [], Option, Some, None, refl}
 use Rattle.std.proofs.Common.{arith, inl, inr}
-use Rattle.posix_types.specs.declared.item.Item.{Item}
-use Rattle.posix_types.specs.declared.tree.TreeEntry.{TreeEntry}
+use Rattle.posix_spec.specs.posix_types.declared.item.Item.{Item}
+use Rattle.posix_spec.specs.posix_types.declared.tree.TreeEntry.{TreeEntry}
 use Rattle.posix_spec.specs.Afforded.{Afforded}
 use Rattle.posix_spec.specs.Ending.{beginning, IsRunOf, IsWhole, Task}
 use Rattle.posix_spec.specs.Run.{Begun, IsLegal, run}

@@ -4,19 +4,19 @@ use Rattle.std.proofs.Common.{arith, sym, subst, lit<}
 use Rattle.std.proofs.lemmas.Bool.Decides.{nat_tests}
 use Rattle.std.proofs.lemmas.List.{length-append, length-drop, length-replicate, length-take}
 use Rattle.std.proofs.lemmas.List.Sums.{sum_by-cons, sum_by_push}
-use Rattle.block_counts.specs.Counts.{blocks_for, chains_for, held_by, reserve_for}
-use Rattle.posix_types.specs.declared.call.Call.{Call}
-use Rattle.posix_types.specs.declared.call.Who.{Who}
-use Rattle.posix_types.specs.declared.handle.Flags.{Flags}
-use Rattle.posix_types.specs.declared.handle.Handle.{Handle}
-use Rattle.posix_types.specs.declared.item.Item.{Item}
-use Rattle.posix_words.specs.declared.nodes.Node.{Node}
-use Rattle.posix_words.specs.Bytes.{overwritten, resized}
-use Rattle.posix_words.specs.Nodes.{bytes_of, node_at, published_node}
-use Rattle.posix_words.specs.Open.{closed}
-use Rattle.posix_words.specs.Outcomes.{first, unless}
-use Rattle.posix_words.specs.Room.{growth, held}
-use Rattle.posix_words.specs.Names.{directory_stands, exists_at, file_stands, number_at}
+use Rattle.posix_spec.specs.block_counts.Counts.{blocks_for, chains_for, held_by, reserve_for}
+use Rattle.posix_spec.specs.posix_types.declared.call.Call.{Call}
+use Rattle.posix_spec.specs.posix_types.declared.call.Who.{Who}
+use Rattle.posix_spec.specs.posix_types.declared.handle.Flags.{Flags}
+use Rattle.posix_spec.specs.posix_types.declared.handle.Handle.{Handle}
+use Rattle.posix_spec.specs.posix_types.declared.item.Item.{Item}
+use Rattle.posix_spec.specs.posix_words.declared.nodes.Node.{Node}
+use Rattle.posix_spec.specs.posix_words.Bytes.{overwritten, resized}
+use Rattle.posix_spec.specs.posix_words.Nodes.{bytes_of, node_at, published_node}
+use Rattle.posix_spec.specs.posix_words.Open.{closed}
+use Rattle.posix_spec.specs.posix_words.Outcomes.{first, unless}
+use Rattle.posix_spec.specs.posix_words.Room.{growth, held}
+use Rattle.posix_spec.specs.posix_words.Names.{directory_stands, exists_at, file_stands, number_at}
 use Rattle.posix_spec.specs.FileRows.{content, file_number, no_blocks, truncate_rows, write_start}
 use Rattle.posix_spec.specs.Run.{run}
 use Rattle.posix_spec.specs.State.{alone, Fits, Instance, made, room, space, State, swept, unnamed, with_file, with_node, with_published}

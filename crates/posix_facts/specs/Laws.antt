@@ -1,10 +1,10 @@
 -- The chief laws of states, each as one statement.
 use Rattle.std.specs.Prelude.{List}
-use Rattle.posix_types.specs.declared.call.Call.{Call}
-use Rattle.posix_types.specs.declared.call.Who.{Who}
+use Rattle.posix_spec.specs.posix_types.declared.call.Call.{Call}
+use Rattle.posix_spec.specs.posix_types.declared.call.Who.{Who}
 use Rattle.posix_spec.specs.State.{Fits, Instance, State}
 use Rattle.posix_spec.specs.Step.{step_of}
-use Rattle.posix_words.specs.Lookups.{AreDistinct}
+use Rattle.posix_spec.specs.posix_words.Lookups.{AreDistinct}
 
 abbrev pub FitsAlways : Type 0
 FitsAlways = (i : Instance) (s : State) (who : Who) (call : Call) → Fits s → Fits (step_of i s who call).state

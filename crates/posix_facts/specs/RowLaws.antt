@@ -3,14 +3,14 @@ use Rattle.std.specs.Prelude.{◌≡◌, ◌≢◌, ◌≤◌, ℕ, ◌+◌, Boo
 use Rattle.std.proofs.Common.{arith, lit<}
 use Rattle.std.proofs.lemmas.Bool.Decides.{nat_tests}
 use Rattle.std.proofs.lemmas.List.Elements.{All-cons, All-nil}
-use Rattle.posix_types.specs.declared.call.Who.{Who}
-use Rattle.posix_types.specs.declared.call.Mode.{Mode}
-use Rattle.posix_types.specs.declared.handle.Handle.{Handle}
-use Rattle.posix_types.specs.declared.item.Outcome.{Outcome}
-use Rattle.posix_words.specs.Bytes.{longest_file, longest_write}
-use Rattle.posix_words.specs.Open.{may_write}
-use Rattle.posix_words.specs.Outcomes.{first}
-use Rattle.posix_words.specs.Room.{write_need}
+use Rattle.posix_spec.specs.posix_types.declared.call.Who.{Who}
+use Rattle.posix_spec.specs.posix_types.declared.call.Mode.{Mode}
+use Rattle.posix_spec.specs.posix_types.declared.handle.Handle.{Handle}
+use Rattle.posix_spec.specs.posix_types.declared.item.Outcome.{Outcome}
+use Rattle.posix_spec.specs.posix_words.Bytes.{longest_file, longest_write}
+use Rattle.posix_spec.specs.posix_words.Open.{may_write}
+use Rattle.posix_spec.specs.posix_words.Outcomes.{first}
+use Rattle.posix_spec.specs.posix_words.Room.{write_need}
 use Rattle.posix_spec.specs.FileRows.{content, file_number, write_rows}
 use Rattle.posix_spec.specs.Put.{Put, put_at, put_unless}
 use Rattle.posix_spec.specs.State.{room, State}

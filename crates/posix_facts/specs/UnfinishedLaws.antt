@@ -6,11 +6,11 @@ use Rattle.std.proofs.lemmas.Option.{slice_get_within}
 use Rattle.std.proofs.lemmas.List.{append-nil}
 use Rattle.std.proofs.lemmas.List.Elements.{All-append, All-cons, All-nil, filter-append}
 use Rattle.std.proofs.lemmas.List.Quantifiers.{all_pairs_push, all_pairs_remove}
-use Rattle.posix_types.specs.declared.call.Call.{Call}
-use Rattle.posix_types.specs.declared.call.Who.{Who}
-use Rattle.posix_types.specs.declared.item.Item.{Item}
-use Rattle.posix_types.specs.Scripts.{Scripts}
-use Rattle.posix_words.specs.Open.{same_who}
+use Rattle.posix_spec.specs.posix_types.declared.call.Call.{Call}
+use Rattle.posix_spec.specs.posix_types.declared.call.Who.{Who}
+use Rattle.posix_spec.specs.posix_types.declared.item.Item.{Item}
+use Rattle.posix_spec.specs.posix_types.Scripts.{Scripts}
+use Rattle.posix_spec.specs.posix_words.Open.{same_who}
 use Rattle.posix_spec.specs.Run.{Begun, begun}
 use Rattle.posix_spec.specs.Scripted.{IsNext, IsSetUp, items_of, next_call, script_of}
 use Rattle.posix_spec.specs.Unfinished.{AreUnfinished, HaveTwoCallers, IsNextCall}

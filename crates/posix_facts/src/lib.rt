@@ -17,4 +17,7 @@ pub fn states_stay_sound()
     ensures distinct { IsDistinctAlways }
 {}
 
-pub use posix_spec;
+pub use posix_spec::{
+    Call, Data, Flags, Handle, Item, Mode, Name, Outcome, Path, Put, Reply, Shape, State, Tree,
+    TreeEntry, TreeNode, Whence, Who, default_shape, root_alone,
+};

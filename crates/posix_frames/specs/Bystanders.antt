@@ -6,16 +6,16 @@ use Rattle.std.proofs.Common.{ap, ◌∙◌, sym, subst, inl, inr, arith, lit<}
 use Rattle.std.proofs.lemmas.Bool.{cases_eq}
 use Rattle.std.proofs.lemmas.Bool.Decides.{Decides-eqb}
 use Rattle.std.proofs.lemmas.List.{get_or_append_left, get_or-set_other}
-use Rattle.posix_types.specs.declared.call.Call.{Call}
-use Rattle.posix_types.specs.declared.call.Who.{Who}
-use Rattle.posix_types.specs.declared.handle.Handle.{Handle}
-use Rattle.posix_words.specs.declared.nodes.File.{File}
-use Rattle.posix_words.specs.declared.nodes.Node.{Node}
-use Rattle.posix_words.specs.declared.open.Description.{Description}
-use Rattle.posix_words.specs.NameRows.{rmdir_rows}
-use Rattle.posix_words.specs.Names.{directory_stands, file_stands, is_named, node_at_path, number_at}
-use Rattle.posix_words.specs.Nodes.{is_directory, node_at}
-use Rattle.posix_words.specs.Open.{describes, is_open, Tables}
+use Rattle.posix_puts.specs.posix_types.declared.call.Call.{Call}
+use Rattle.posix_puts.specs.posix_types.declared.call.Who.{Who}
+use Rattle.posix_puts.specs.posix_types.declared.handle.Handle.{Handle}
+use Rattle.posix_puts.specs.posix_words.declared.nodes.File.{File}
+use Rattle.posix_puts.specs.posix_words.declared.nodes.Node.{Node}
+use Rattle.posix_puts.specs.posix_words.declared.open.Description.{Description}
+use Rattle.posix_puts.specs.posix_words.NameRows.{rmdir_rows}
+use Rattle.posix_puts.specs.posix_words.Names.{directory_stands, file_stands, is_named, node_at_path, number_at}
+use Rattle.posix_puts.specs.posix_words.Nodes.{is_directory, node_at}
+use Rattle.posix_puts.specs.posix_words.Open.{describes, is_open, Tables}
 use Rattle.posix_puts.specs.posix_spec.State.{alone, made, space, State, swept, unnamed, with_node}
 use Rattle.posix_puts.specs.posix_spec.Step.{mkdir_done, rename_done, renamed, rmdir_done, step, unlink_done}
 use Rattle.posix_puts.specs.posix_facts.RowLaws.{no_row, none_fits, stepped-keeps}

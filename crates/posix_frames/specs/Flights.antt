@@ -1,14 +1,14 @@
 -- A logged write in flight, and what it keeps under a call of others.
 use Rattle.std.specs.Prelude.{◌≡◌, ◌≢◌, ◌≤◌, ℕ, List, Some, option_map}
 use Rattle.std.proofs.Common.{ap, ◌∙◌, sym, subst}
-use Rattle.posix_types.specs.declared.call.Call.{Call}
-use Rattle.posix_types.specs.declared.call.Who.{Who}
-use Rattle.posix_types.specs.declared.handle.Handle.{Handle}
-use Rattle.posix_words.specs.declared.nodes.File.{File}
-use Rattle.posix_words.specs.declared.nodes.Node.{Node}
-use Rattle.posix_words.specs.declared.open.Description.{Description}
-use Rattle.posix_words.specs.Nodes.{node_at}
-use Rattle.posix_words.specs.Open.{opened}
+use Rattle.posix_puts.specs.posix_types.declared.call.Call.{Call}
+use Rattle.posix_puts.specs.posix_types.declared.call.Who.{Who}
+use Rattle.posix_puts.specs.posix_types.declared.handle.Handle.{Handle}
+use Rattle.posix_puts.specs.posix_words.declared.nodes.File.{File}
+use Rattle.posix_puts.specs.posix_words.declared.nodes.Node.{Node}
+use Rattle.posix_puts.specs.posix_words.declared.open.Description.{Description}
+use Rattle.posix_puts.specs.posix_words.Nodes.{node_at}
+use Rattle.posix_puts.specs.posix_words.Open.{opened}
 use Rattle.posix_puts.specs.posix_spec.FileRows.{write_start}
 use Rattle.posix_puts.specs.posix_spec.Put.{Put, put_at, put_by}
 use Rattle.posix_puts.specs.posix_spec.Run.{after_call, Begun}

@@ -5,19 +5,19 @@ use Rattle.std.specs.Option.{option_map_or}
 use Rattle.std.proofs.Common.{ap, ◌∙◌, sym, subst, inl, inr, lit<}
 use Rattle.std.proofs.lemmas.Bool.Decides.{Decides-eqb}
 use Rattle.std.proofs.lemmas.List.{get_or-set_other}
-use Rattle.list_facts.specs.Members.{In}
-use Rattle.posix_types.specs.declared.call.Call.{Call}
-use Rattle.posix_types.specs.declared.call.Who.{Who}
-use Rattle.posix_types.specs.declared.handle.Flags.{Flags}
-use Rattle.posix_types.specs.declared.handle.Handle.{Handle}
-use Rattle.posix_words.specs.declared.nodes.File.{File}
-use Rattle.posix_words.specs.declared.nodes.Node.{Node}
-use Rattle.posix_words.specs.declared.open.Description.{Description}
-use Rattle.posix_words.specs.NameRows.{open_rows}
-use Rattle.posix_words.specs.Names.{exists_at, is_named, node_at_path, number_at, too_long}
-use Rattle.posix_words.specs.Nodes.{node_at}
-use Rattle.posix_words.specs.Outcomes.{first}
-use Rattle.posix_words.specs.Open.{is_full, is_open, key_of, opened, same_who, Tables, with_offset}
+use Rattle.crash_spec.specs.list_facts.Members.{In}
+use Rattle.posix_puts.specs.posix_types.declared.call.Call.{Call}
+use Rattle.posix_puts.specs.posix_types.declared.call.Who.{Who}
+use Rattle.posix_puts.specs.posix_types.declared.handle.Flags.{Flags}
+use Rattle.posix_puts.specs.posix_types.declared.handle.Handle.{Handle}
+use Rattle.posix_puts.specs.posix_words.declared.nodes.File.{File}
+use Rattle.posix_puts.specs.posix_words.declared.nodes.Node.{Node}
+use Rattle.posix_puts.specs.posix_words.declared.open.Description.{Description}
+use Rattle.posix_puts.specs.posix_words.NameRows.{open_rows}
+use Rattle.posix_puts.specs.posix_words.Names.{exists_at, is_named, node_at_path, number_at, too_long}
+use Rattle.posix_puts.specs.posix_words.Nodes.{node_at}
+use Rattle.posix_puts.specs.posix_words.Outcomes.{first}
+use Rattle.posix_puts.specs.posix_words.Open.{is_full, is_open, key_of, opened, same_who, Tables, with_offset}
 use Rattle.posix_puts.specs.posix_spec.FileRows.{close_rows, dup_rows, file_number, fsync_rows, read_rows, seek_rows, truncate_rows, write_start}
 use Rattle.posix_puts.specs.posix_spec.Run.{Begun}
 use Rattle.posix_puts.specs.posix_spec.State.{alone, made, space, State, swept, with_file, with_node, with_published}

@@ -5,14 +5,14 @@ use Rattle.std.specs.Option.{option_flatten, option_or}
 use Rattle.std.specs.Cmp.Lexicographic.{bytes_decides, pointwise}
 use Rattle.std.proofs.Common.{ap, ◌∙◌, sym, subst, inl, inr, arith}
 use Rattle.std.proofs.lemmas.Bool.Decides.{Decides-eqb, nat_tests}
-use Rattle.list_facts.specs.Members.{find-In, slice_get-front}
-use Rattle.posix_types.specs.declared.call.Who.{Who}
-use Rattle.posix_types.specs.declared.handle.Handle.{Handle}
-use Rattle.posix_words.specs.declared.open.Binding.{Binding}
-use Rattle.posix_words.specs.declared.open.Description.{Description}
-use Rattle.posix_words.specs.Lookups.{without_first, without_place-position}
-use Rattle.posix_words.specs.Names.{without_place}
-use Rattle.posix_words.specs.Open.{binding_of, closed, description_number, free_descriptor, has_key, is_binding, is_full, key_of, next_descriptor, opened, same_handle, same_who, Tables, with_binding, with_descriptor, with_offset, with_opened, without_binding, without_unused}
+use Rattle.crash_spec.specs.list_facts.Members.{find-In, slice_get-front}
+use Rattle.posix_puts.specs.posix_types.declared.call.Who.{Who}
+use Rattle.posix_puts.specs.posix_types.declared.handle.Handle.{Handle}
+use Rattle.posix_puts.specs.posix_words.declared.open.Binding.{Binding}
+use Rattle.posix_puts.specs.posix_words.declared.open.Description.{Description}
+use Rattle.posix_puts.specs.posix_words.Lookups.{without_first, without_place-position}
+use Rattle.posix_puts.specs.posix_words.Names.{without_place}
+use Rattle.posix_puts.specs.posix_words.Open.{binding_of, closed, description_number, free_descriptor, has_key, is_binding, is_full, key_of, next_descriptor, opened, same_handle, same_who, Tables, with_binding, with_descriptor, with_offset, with_opened, without_binding, without_unused}
 use Rattle.posix_frames.specs.Lists.{find-pushed, find-without_first, find-without_first-none, free_place, slice_get-set_other}
 
 -- ---- callers and handles are told apart by their tests

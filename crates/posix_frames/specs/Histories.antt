@@ -1,8 +1,8 @@
 -- Writes in flight over histories, and the busy rule for all of them.
 use Rattle.std.specs.Prelude.{◌≡◌, false, List, [], ◌∷◌, map, refl}
 use Rattle.std.proofs.Common.{ap, ◌∙◌, inl, inr}
-use Rattle.list_facts.specs.Members.{In}
-use Rattle.posix_types.specs.declared.item.Item.{Item}
+use Rattle.crash_spec.specs.list_facts.Members.{In}
+use Rattle.posix_puts.specs.posix_types.declared.item.Item.{Item}
 use Rattle.posix_puts.specs.posix_spec.Run.{after_call, begun, Begun, run}
 use Rattle.posix_puts.specs.posix_spec.State.{State}
 use Rattle.posix_puts.specs.Views.{AreAfforded}

@@ -1,6 +1,6 @@
 -- The chief laws of writes in flight under the calls of others, each as one statement.
 use Rattle.std.specs.Prelude.{◌≡◌, ◌≤◌, ℕ, false, List, ◌∷◌, ◌++◌, map}
-use Rattle.posix_types.specs.declared.item.Item.{Item}
+use Rattle.posix_puts.specs.posix_types.declared.item.Item.{Item}
 use Rattle.posix_puts.specs.posix_spec.Run.{after_call, Begun, run}
 use Rattle.posix_puts.specs.posix_spec.State.{room, State}
 use Rattle.posix_puts.specs.Views.{AreAfforded, need_of}

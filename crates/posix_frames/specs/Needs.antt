@@ -2,8 +2,8 @@
 use Rattle.std.specs.Prelude.{◌≡◌, ◌≢◌, ◌≤◌, ℕ, ◌+◌, List, [], ◌∷◌, ◌++◌, map, sum_by, refl}
 use Rattle.std.proofs.Common.{arith, ◌∙◌, sym, subst}
 use Rattle.std.proofs.lemmas.List.Sums.{sum_by-cons}
-use Rattle.posix_types.specs.declared.call.Call.{Call}
-use Rattle.posix_types.specs.declared.call.Who.{Who}
+use Rattle.posix_puts.specs.posix_types.declared.call.Call.{Call}
+use Rattle.posix_puts.specs.posix_types.declared.call.Who.{Who}
 use Rattle.posix_puts.specs.posix_spec.Put.{put_by}
 use Rattle.posix_puts.specs.posix_spec.Run.{after_call, Begun}
 use Rattle.posix_puts.specs.posix_spec.State.{room, State}

@@ -2,18 +2,18 @@
 use Rattle.std.specs.Prelude.{◌≡◌, ◌≤◌, ℕ, zero, suc, ◌+◌, ◌-◌, max, Bool, true, false, cond, ◌||◌, List, [], ◌∷◌, length, None, slice_set, refl}
 use Rattle.std.proofs.Common.{arith, ap, sym, subst}
 use Rattle.std.proofs.lemmas.List.Sums.{sum_by-cons, sum_by_push}
-use Rattle.block_counts.specs.Counts.{held_by, reserve_for}
-use Rattle.posix_types.specs.declared.call.Call.{Call}
-use Rattle.posix_types.specs.declared.call.Who.{Who}
-use Rattle.posix_types.specs.declared.handle.Flags.{Flags}
-use Rattle.posix_types.specs.declared.handle.Handle.{Handle}
-use Rattle.posix_types.specs.declared.reply.Shape.{Shape}
-use Rattle.posix_words.specs.declared.nodes.Node.{Node}
-use Rattle.posix_words.specs.Names.{directory_stands, exists_at, file_stands, is_named, number_at}
-use Rattle.posix_words.specs.Nodes.{bytes_of, node_at, published_node}
-use Rattle.posix_words.specs.Open.{closed, is_open}
-use Rattle.posix_words.specs.Outcomes.{first}
-use Rattle.posix_words.specs.Room.{growth, held}
+use Rattle.posix_puts.specs.block_counts.Counts.{held_by, reserve_for}
+use Rattle.posix_puts.specs.posix_types.declared.call.Call.{Call}
+use Rattle.posix_puts.specs.posix_types.declared.call.Who.{Who}
+use Rattle.posix_puts.specs.posix_types.declared.handle.Flags.{Flags}
+use Rattle.posix_puts.specs.posix_types.declared.handle.Handle.{Handle}
+use Rattle.posix_puts.specs.posix_types.declared.reply.Shape.{Shape}
+use Rattle.posix_puts.specs.posix_words.declared.nodes.Node.{Node}
+use Rattle.posix_puts.specs.posix_words.Names.{directory_stands, exists_at, file_stands, is_named, number_at}
+use Rattle.posix_puts.specs.posix_words.Nodes.{bytes_of, node_at, published_node}
+use Rattle.posix_puts.specs.posix_words.Open.{closed, is_open}
+use Rattle.posix_puts.specs.posix_words.Outcomes.{first}
+use Rattle.posix_puts.specs.posix_words.Room.{growth, held}
 use Rattle.posix_puts.specs.posix_spec.FileRows.{content, file_number, truncate_rows, write_rows, write_start}
 use Rattle.posix_puts.specs.posix_spec.Run.{after_call, Begun}
 use Rattle.posix_puts.specs.posix_spec.State.{alone, made, room, space, State, swept, unnamed, with_file, with_node, with_published}

@@ -9,16 +9,16 @@ use Rattle.std.proofs.lemmas.List.{get_or-set_other, get_or-set_same, set-append
 use Rattle.std.proofs.lemmas.List.Sums.{sum_by-cons}
 use Rattle.std.proofs.lemmas.Option.{slice_get_within}
 use Rattle.std.proofs.Math.ListN.{length-set}
-use Rattle.posix_types.specs.declared.call.Who.{Who}
-use Rattle.posix_types.specs.declared.handle.Handle.{Handle}
-use Rattle.posix_words.specs.declared.nodes.DirEntry.{DirEntry}
-use Rattle.posix_words.specs.declared.nodes.File.{File}
-use Rattle.posix_words.specs.declared.nodes.Node.{Node}
-use Rattle.posix_words.specs.declared.open.Binding.{Binding}
-use Rattle.posix_words.specs.declared.open.Description.{Description}
-use Rattle.posix_words.specs.Names.{exists_at, is_named, last_name, lines_taken, longest_name, number_at, parent_at, with_entry, without_entry, without_place}
-use Rattle.posix_words.specs.Nodes.{is_directory, is_live, node_at}
-use Rattle.posix_words.specs.Open.{closed, describes, description_number, has_key, is_binding, is_open, key_of, next_descriptor, opened, Tables, with_binding, with_descriptor, with_offset, with_opened, without_binding, without_unused}
+use Rattle.posix_frames.specs.posix_types.declared.call.Who.{Who}
+use Rattle.posix_frames.specs.posix_types.declared.handle.Handle.{Handle}
+use Rattle.posix_frames.specs.posix_words.declared.nodes.DirEntry.{DirEntry}
+use Rattle.posix_frames.specs.posix_words.declared.nodes.File.{File}
+use Rattle.posix_frames.specs.posix_words.declared.nodes.Node.{Node}
+use Rattle.posix_frames.specs.posix_words.declared.open.Binding.{Binding}
+use Rattle.posix_frames.specs.posix_words.declared.open.Description.{Description}
+use Rattle.posix_frames.specs.posix_words.Names.{exists_at, is_named, last_name, lines_taken, longest_name, number_at, parent_at, with_entry, without_entry, without_place}
+use Rattle.posix_frames.specs.posix_words.Nodes.{is_directory, is_live, node_at}
+use Rattle.posix_frames.specs.posix_words.Open.{closed, describes, description_number, has_key, is_binding, is_open, key_of, next_descriptor, opened, Tables, with_binding, with_descriptor, with_offset, with_opened, without_binding, without_unused}
 use Rattle.posix_frames.specs.posix_spec.FileRows.{file_number}
 use Rattle.posix_frames.specs.posix_spec.State.{alone, made, space, State, swept, unnamed, with_node}
 use Rattle.posix_frames.specs.posix_spec.Step.{empty_file, opening, opening_number, renamed}

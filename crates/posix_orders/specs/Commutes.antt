@@ -4,23 +4,23 @@ use Rattle.std.specs.Option.{option_map_or}
 use Rattle.std.proofs.Common.{ap, ◌∙◌, sym, subst, inl, inr, arith, lit<}
 use Rattle.std.proofs.lemmas.Bool.Decides.{nat_tests}
 use Rattle.std.proofs.lemmas.List.{get_or-set_other}
-use Rattle.posix_types.specs.declared.call.Call.{Call}
-use Rattle.posix_types.specs.declared.call.Who.{Who}
-use Rattle.posix_types.specs.declared.handle.Flags.{Flags}
-use Rattle.posix_types.specs.declared.handle.Handle.{Handle}
-use Rattle.posix_types.specs.declared.handle.Whence.{Whence}
-use Rattle.posix_types.specs.declared.item.Outcome.{Outcome}
-use Rattle.posix_types.specs.declared.reply.Errno.{Errno}
-use Rattle.posix_types.specs.declared.reply.Reply.{Reply}
-use Rattle.posix_words.specs.declared.nodes.Node.{Node}
-use Rattle.posix_words.specs.declared.open.Description.{Description}
-use Rattle.posix_words.specs.Bytes.{bytes_from, longest_file, longest_write, moved_place, overwritten, resized}
-use Rattle.posix_words.specs.NameRows.{list_rows, mkdir_rows, open_rows, rename_rows, rmdir_rows, stat_rows, unlink_rows}
-use Rattle.posix_words.specs.Names.{directory_stands, exists_at, file_stands, names_in, node_at_path, number_at}
-use Rattle.posix_words.specs.Nodes.{is_directory, node_at, published_node, published_of}
-use Rattle.posix_words.specs.Open.{closed, is_full, key_of, next_descriptor, opened, with_descriptor, with_offset, with_opened}
-use Rattle.posix_words.specs.Outcomes.{answer, first, idle_row, row, unless}
-use Rattle.posix_words.specs.Room.{growth, write_need}
+use Rattle.posix_frames.specs.posix_types.declared.call.Call.{Call}
+use Rattle.posix_frames.specs.posix_types.declared.call.Who.{Who}
+use Rattle.posix_frames.specs.posix_types.declared.handle.Flags.{Flags}
+use Rattle.posix_frames.specs.posix_types.declared.handle.Handle.{Handle}
+use Rattle.posix_frames.specs.posix_types.declared.handle.Whence.{Whence}
+use Rattle.posix_frames.specs.posix_types.declared.item.Outcome.{Outcome}
+use Rattle.posix_frames.specs.posix_types.declared.reply.Errno.{Errno}
+use Rattle.posix_frames.specs.posix_types.declared.reply.Reply.{Reply}
+use Rattle.posix_frames.specs.posix_words.declared.nodes.Node.{Node}
+use Rattle.posix_frames.specs.posix_words.declared.open.Description.{Description}
+use Rattle.posix_frames.specs.posix_words.Bytes.{bytes_from, longest_file, longest_write, moved_place, overwritten, resized}
+use Rattle.posix_frames.specs.posix_words.NameRows.{list_rows, mkdir_rows, open_rows, rename_rows, rmdir_rows, stat_rows, unlink_rows}
+use Rattle.posix_frames.specs.posix_words.Names.{directory_stands, exists_at, file_stands, names_in, node_at_path, number_at}
+use Rattle.posix_frames.specs.posix_words.Nodes.{is_directory, node_at, published_node, published_of}
+use Rattle.posix_frames.specs.posix_words.Open.{closed, is_full, key_of, next_descriptor, opened, with_descriptor, with_offset, with_opened}
+use Rattle.posix_frames.specs.posix_words.Outcomes.{answer, first, idle_row, row, unless}
+use Rattle.posix_frames.specs.posix_words.Room.{growth, write_need}
 use Rattle.posix_frames.specs.posix_spec.FileRows.{close_rows, content, dup_rows, file_number, fsync_rows, no_blocks, offset_of, read_rows, seek_base, seek_rows, seek_target, truncate_rows, write_rows, write_start}
 use Rattle.posix_frames.specs.posix_spec.Run.{Begun}
 use Rattle.posix_frames.specs.posix_spec.State.{alone, room, space, State, swept, unnamed, with_file, with_node, with_published}

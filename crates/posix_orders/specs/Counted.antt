@@ -3,20 +3,20 @@ use Rattle.std.specs.Prelude.{◌≡◌, ◌<◌, ◌≤◌, ℕ, zero, suc, ◌
 use Rattle.std.proofs.Common.{arith, ap, ◌∙◌, sym, subst}
 use Rattle.std.proofs.lemmas.Bool.Decides.{nat_tests}
 use Rattle.std.proofs.lemmas.List.Sums.{sum_by-cons}
-use Rattle.block_counts.specs.Counts.{held_by}
-use Rattle.posix_types.specs.declared.call.Call.{Call}
-use Rattle.posix_types.specs.declared.call.Who.{Who}
-use Rattle.posix_types.specs.declared.handle.Handle.{Handle}
-use Rattle.posix_types.specs.declared.item.Outcome.{Outcome}
-use Rattle.posix_types.specs.declared.reply.Reply.{Reply}
-use Rattle.posix_types.specs.declared.reply.What.{What}
-use Rattle.posix_words.specs.declared.nodes.File.{File}
-use Rattle.posix_words.specs.declared.nodes.Node.{Node}
-use Rattle.posix_words.specs.Bytes.{overwritten}
-use Rattle.posix_words.specs.Nodes.{bytes_of, node_at}
-use Rattle.posix_words.specs.Open.{may_write}
-use Rattle.posix_words.specs.Outcomes.{answer, first, no_space}
-use Rattle.posix_words.specs.Room.{growth, held, staged_below, write_need}
+use Rattle.posix_frames.specs.block_counts.Counts.{held_by}
+use Rattle.posix_frames.specs.posix_types.declared.call.Call.{Call}
+use Rattle.posix_frames.specs.posix_types.declared.call.Who.{Who}
+use Rattle.posix_frames.specs.posix_types.declared.handle.Handle.{Handle}
+use Rattle.posix_frames.specs.posix_types.declared.item.Outcome.{Outcome}
+use Rattle.posix_frames.specs.posix_types.declared.reply.Reply.{Reply}
+use Rattle.posix_frames.specs.posix_types.declared.reply.What.{What}
+use Rattle.posix_frames.specs.posix_words.declared.nodes.File.{File}
+use Rattle.posix_frames.specs.posix_words.declared.nodes.Node.{Node}
+use Rattle.posix_frames.specs.posix_words.Bytes.{overwritten}
+use Rattle.posix_frames.specs.posix_words.Nodes.{bytes_of, node_at}
+use Rattle.posix_frames.specs.posix_words.Open.{may_write}
+use Rattle.posix_frames.specs.posix_words.Outcomes.{answer, first, no_space}
+use Rattle.posix_frames.specs.posix_words.Room.{growth, held, staged_below, write_need}
 use Rattle.posix_frames.specs.posix_spec.FileRows.{content, file_number, no_blocks, write_rows, write_start}
 use Rattle.posix_frames.specs.posix_spec.Put.{Put, put_at, put_by}
 use Rattle.posix_frames.specs.posix_spec.Run.{after_call, after_calls, Begun}

@@ -1,14 +1,14 @@
 -- The chief laws of the orders of writes in flight and of what is counted, each as one statement.
 use Rattle.std.specs.Prelude.{◌≡◌, ◌≢◌, ◌<◌, ◌≤◌, ℕ, ◌+◌, List, ◌∷◌, [], ◌++◌, length, map, Some}
-use Rattle.posix_types.specs.declared.call.Call.{Call}
-use Rattle.posix_types.specs.declared.call.Who.{Who}
-use Rattle.posix_types.specs.declared.handle.Handle.{Handle}
-use Rattle.posix_types.specs.declared.reply.Reply.{Reply}
-use Rattle.posix_types.specs.declared.reply.What.{What}
-use Rattle.posix_types.specs.declared.tree.TreeEntry.{TreeEntry}
-use Rattle.posix_words.specs.Open.{may_write}
-use Rattle.posix_words.specs.Outcomes.{answer, first, no_space}
-use Rattle.posix_words.specs.Room.{held, write_need}
+use Rattle.posix_frames.specs.posix_types.declared.call.Call.{Call}
+use Rattle.posix_frames.specs.posix_types.declared.call.Who.{Who}
+use Rattle.posix_frames.specs.posix_types.declared.handle.Handle.{Handle}
+use Rattle.posix_frames.specs.posix_types.declared.reply.Reply.{Reply}
+use Rattle.posix_frames.specs.posix_types.declared.reply.What.{What}
+use Rattle.posix_frames.specs.posix_types.declared.tree.TreeEntry.{TreeEntry}
+use Rattle.posix_frames.specs.posix_words.Open.{may_write}
+use Rattle.posix_frames.specs.posix_words.Outcomes.{answer, first, no_space}
+use Rattle.posix_frames.specs.posix_words.Room.{held, write_need}
 use Rattle.posix_frames.specs.posix_spec.FileRows.{content, write_rows}
 use Rattle.posix_frames.specs.posix_spec.Run.{after_call, Begun}
 use Rattle.posix_frames.specs.posix_spec.State.{Fits, room, State}

@@ -2,15 +2,15 @@
 use Rattle.std.specs.Prelude.{◌≡◌, ◌≢◌, ◌≤◌, ℕ, ◌+◌, ◌-◌, get_or, List, length}
 use Rattle.std.proofs.Common.{arith, ap, ◌∙◌, sym, subst}
 use Rattle.std.proofs.lemmas.List.{get_or-set_other}
-use Rattle.block_counts.specs.Counts.{held_by, reserve_for}
-use Rattle.posix_types.specs.declared.call.Call.{Call}
-use Rattle.posix_types.specs.declared.call.Who.{Who}
-use Rattle.posix_types.specs.declared.handle.Handle.{Handle}
-use Rattle.posix_types.specs.declared.reply.Shape.{Shape}
-use Rattle.posix_words.specs.declared.nodes.Node.{Node}
-use Rattle.posix_words.specs.declared.open.Description.{Description}
-use Rattle.posix_words.specs.Open.{Tables}
-use Rattle.posix_words.specs.Room.{held}
+use Rattle.posix_frames.specs.block_counts.Counts.{held_by, reserve_for}
+use Rattle.posix_frames.specs.posix_types.declared.call.Call.{Call}
+use Rattle.posix_frames.specs.posix_types.declared.call.Who.{Who}
+use Rattle.posix_frames.specs.posix_types.declared.handle.Handle.{Handle}
+use Rattle.posix_frames.specs.posix_types.declared.reply.Shape.{Shape}
+use Rattle.posix_frames.specs.posix_words.declared.nodes.Node.{Node}
+use Rattle.posix_frames.specs.posix_words.declared.open.Description.{Description}
+use Rattle.posix_frames.specs.posix_words.Open.{Tables}
+use Rattle.posix_frames.specs.posix_words.Room.{held}
 use Rattle.posix_frames.specs.posix_spec.Run.{after_call, Begun}
 use Rattle.posix_frames.specs.posix_spec.State.{Fits, room, State}
 use Rattle.posix_frames.specs.posix_puts.PutLaws.{LeavesWhole-step}

@@ -1,9 +1,9 @@
 -- Writes in flight and a call of others among them, in any order.
 use Rattle.std.specs.Prelude.{◌≡◌, ◌≢◌, ◌≤◌, ℕ, ◌+◌, Bool, true, false, cond, List, [], ◌∷◌, ◌++◌, map, Some, refl}
 use Rattle.std.proofs.Common.{arith, ap, ◌∙◌, sym, subst, inl, inr}
-use Rattle.posix_types.specs.declared.call.Call.{Call}
-use Rattle.posix_types.specs.declared.call.Who.{Who}
-use Rattle.posix_types.specs.declared.tree.TreeEntry.{TreeEntry}
+use Rattle.posix_frames.specs.posix_types.declared.call.Call.{Call}
+use Rattle.posix_frames.specs.posix_types.declared.call.Who.{Who}
+use Rattle.posix_frames.specs.posix_types.declared.tree.TreeEntry.{TreeEntry}
 use Rattle.posix_frames.specs.posix_spec.Put.{put_by}
 use Rattle.posix_frames.specs.posix_spec.Run.{after_call, after_calls, Begun}
 use Rattle.posix_frames.specs.posix_spec.State.{room, State}

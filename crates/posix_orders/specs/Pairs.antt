@@ -1,17 +1,17 @@
 -- What a write in flight makes of a state, now and after a call of others, and that the two commute.
 use Rattle.std.specs.Prelude.{◌≡◌, ◌≢◌, ◌≤◌, ℕ, zero, suc, ◌+◌, cond, List, [], ◌∷◌, length, Option, Some, None, is_none, slice_get, slice_set, unwrap_or, option_map, refl}
 use Rattle.std.proofs.Common.{ap, ◌∙◌, sym, subst, inl, inr, arith, lit<}
-use Rattle.posix_types.specs.declared.call.Call.{Call}
-use Rattle.posix_types.specs.declared.call.Who.{Who}
-use Rattle.posix_types.specs.declared.handle.Handle.{Handle}
-use Rattle.posix_words.specs.declared.nodes.File.{File}
-use Rattle.posix_words.specs.declared.nodes.Node.{Node}
-use Rattle.posix_words.specs.declared.open.Description.{Description}
-use Rattle.posix_words.specs.Nodes.{node_at, published_of}
-use Rattle.posix_words.specs.Names.{node_at_path, too_long}
-use Rattle.posix_words.specs.Open.{key_of, opened, with_offset}
-use Rattle.posix_words.specs.Outcomes.{first}
-use Rattle.posix_words.specs.Room.{growth}
+use Rattle.posix_frames.specs.posix_types.declared.call.Call.{Call}
+use Rattle.posix_frames.specs.posix_types.declared.call.Who.{Who}
+use Rattle.posix_frames.specs.posix_types.declared.handle.Handle.{Handle}
+use Rattle.posix_frames.specs.posix_words.declared.nodes.File.{File}
+use Rattle.posix_frames.specs.posix_words.declared.nodes.Node.{Node}
+use Rattle.posix_frames.specs.posix_words.declared.open.Description.{Description}
+use Rattle.posix_frames.specs.posix_words.Nodes.{node_at, published_of}
+use Rattle.posix_frames.specs.posix_words.Names.{node_at_path, too_long}
+use Rattle.posix_frames.specs.posix_words.Open.{key_of, opened, with_offset}
+use Rattle.posix_frames.specs.posix_words.Outcomes.{first}
+use Rattle.posix_frames.specs.posix_words.Room.{growth}
 use Rattle.posix_frames.specs.posix_spec.FileRows.{truncate_rows, write_rows, write_start}
 use Rattle.posix_frames.specs.posix_spec.Put.{put_by}
 use Rattle.posix_frames.specs.posix_spec.Run.{after_call, Begun}

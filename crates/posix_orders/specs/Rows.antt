@@ -1,23 +1,23 @@
 -- A worked row: two threads write to two files, both writes stand in flight together, and a third thread calls meanwhile.
 use Rattle.std.specs.Prelude.{ℕ, ◌+◌, true, false, List, [], ◌∷◌, ◌++◌, map, refl}
 use Rattle.std.proofs.Common.{arith, lit≤}
-use Rattle.posix_types.specs.declared.call.Call.{Call}
-use Rattle.posix_types.specs.declared.call.Mode.{Mode}
-use Rattle.posix_types.specs.declared.call.Who.{Who}
-use Rattle.posix_types.specs.declared.handle.Flags.{Flags}
-use Rattle.posix_types.specs.declared.handle.Handle.{Handle}
-use Rattle.posix_words.specs.Open.{binding_of, key_of, opened, with_binding, with_descriptor, with_opened}
+use Rattle.posix_frames.specs.posix_types.declared.call.Call.{Call}
+use Rattle.posix_frames.specs.posix_types.declared.call.Mode.{Mode}
+use Rattle.posix_frames.specs.posix_types.declared.call.Who.{Who}
+use Rattle.posix_frames.specs.posix_types.declared.handle.Flags.{Flags}
+use Rattle.posix_frames.specs.posix_types.declared.handle.Handle.{Handle}
+use Rattle.posix_frames.specs.posix_words.Open.{binding_of, key_of, opened, with_binding, with_descriptor, with_opened}
 use Rattle.posix_frames.specs.posix_spec.FileRows.{write_rows}
 use Rattle.posix_frames.specs.posix_spec.Put.{put_by}
 use Rattle.posix_frames.specs.posix_spec.Run.{after_call, after_calls, Begun}
 use Rattle.posix_frames.specs.posix_spec.State.{made, State}
 use Rattle.posix_frames.specs.posix_spec.Step.{open_done, opening}
 use Rattle.posix_frames.specs.crash_spec.Busy.{waits_for}
-use Rattle.posix_types.specs.declared.tree.TreeEntry.{TreeEntry}
+use Rattle.posix_frames.specs.posix_types.declared.tree.TreeEntry.{TreeEntry}
 use Rattle.posix_frames.specs.crash_spec.Strict.{StrictFrom}
 use Rattle.posix_frames.specs.posix_spec.Tree.{bare, default_shape}
-use Rattle.posix_words.specs.NameRows.{open_rows}
-use Rattle.posix_words.specs.Names.{node_at_path, walk, with_entry}
+use Rattle.posix_frames.specs.posix_words.NameRows.{open_rows}
+use Rattle.posix_frames.specs.posix_words.Names.{node_at_path, walk, with_entry}
 use Rattle.posix_frames.specs.posix_puts.Views.{AreAfforded}
 use Rattle.posix_frames.specs.Needs.{AreInFlight, begun_of, Flight, LetsAllBe}
 use Rattle.posix_orders.specs.Orders.{AreTwoEach, StrictFrom-last}

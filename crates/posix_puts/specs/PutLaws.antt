@@ -1,12 +1,12 @@
 -- What an accepted write leaves.
 use Rattle.std.specs.Prelude.{◌≡◌, ℕ, List, Option, Some, None, refl}
 use Rattle.std.proofs.Common.{subst}
-use Rattle.posix_types.specs.declared.call.Call.{Call}
-use Rattle.posix_types.specs.declared.call.Who.{Who}
-use Rattle.posix_types.specs.declared.handle.Handle.{Handle}
-use Rattle.posix_types.specs.declared.item.Outcome.{Outcome}
-use Rattle.posix_words.specs.Bytes.{overwritten}
-use Rattle.posix_words.specs.Outcomes.{first}
+use Rattle.posix_facts.specs.posix_types.declared.call.Call.{Call}
+use Rattle.posix_facts.specs.posix_types.declared.call.Who.{Who}
+use Rattle.posix_facts.specs.posix_types.declared.handle.Handle.{Handle}
+use Rattle.posix_facts.specs.posix_types.declared.item.Outcome.{Outcome}
+use Rattle.posix_facts.specs.posix_words.Bytes.{overwritten}
+use Rattle.posix_facts.specs.posix_words.Outcomes.{first}
 use Rattle.posix_facts.specs.posix_spec.FileRows.{content, file_number, write_rows, write_start}
 use Rattle.posix_facts.specs.posix_spec.Put.{Put, put_by}
 use Rattle.posix_facts.specs.posix_spec.State.{alone, State, with_file}

@@ -1,10 +1,10 @@
 -- What a call puts into a file, and what it leaves.
 use Rattle.std.specs.Prelude.{◌≡◌, ℕ, List, Some, slice_set}
-use Rattle.posix_types.specs.declared.call.Call.{Call}
-use Rattle.posix_types.specs.declared.call.Who.{Who}
-use Rattle.posix_words.specs.declared.nodes.Node.{Node}
-use Rattle.posix_words.specs.Bytes.{overwritten}
-use Rattle.posix_words.specs.Nodes.{bytes_of, node_at, published_of}
+use Rattle.posix_facts.specs.posix_types.declared.call.Call.{Call}
+use Rattle.posix_facts.specs.posix_types.declared.call.Who.{Who}
+use Rattle.posix_facts.specs.posix_words.declared.nodes.Node.{Node}
+use Rattle.posix_facts.specs.posix_words.Bytes.{overwritten}
+use Rattle.posix_facts.specs.posix_words.Nodes.{bytes_of, node_at, published_of}
 use Rattle.posix_facts.specs.posix_spec.Put.{Put, put_by}
 use Rattle.posix_facts.specs.posix_spec.State.{State}
 

@@ -2,15 +2,15 @@
 use Rattle.std.specs.Prelude.{◌≡◌, ◌≤◌, ℕ, ◌+◌, Bool, false, cond, List, length, Option, Some, refl}
 use Rattle.std.specs.Option.{option_map_or}
 use Rattle.std.proofs.Common.{◌∙◌, ap, subst}
-use Rattle.posix_types.specs.declared.call.Call.{Call}
-use Rattle.posix_types.specs.declared.call.Mode.{Mode}
-use Rattle.posix_types.specs.declared.call.Who.{Who}
-use Rattle.posix_types.specs.declared.handle.Handle.{Handle}
-use Rattle.posix_words.specs.declared.open.Description.{Description}
-use Rattle.posix_words.specs.Bytes.{overwritten}
-use Rattle.posix_words.specs.Nodes.{bytes_of, node_at}
-use Rattle.posix_words.specs.Open.{may_write}
-use Rattle.posix_words.specs.Room.{write_need}
+use Rattle.posix_facts.specs.posix_types.declared.call.Call.{Call}
+use Rattle.posix_facts.specs.posix_types.declared.call.Mode.{Mode}
+use Rattle.posix_facts.specs.posix_types.declared.call.Who.{Who}
+use Rattle.posix_facts.specs.posix_types.declared.handle.Handle.{Handle}
+use Rattle.posix_facts.specs.posix_words.declared.open.Description.{Description}
+use Rattle.posix_facts.specs.posix_words.Bytes.{overwritten}
+use Rattle.posix_facts.specs.posix_words.Nodes.{bytes_of, node_at}
+use Rattle.posix_facts.specs.posix_words.Open.{may_write}
+use Rattle.posix_facts.specs.posix_words.Room.{write_need}
 use Rattle.posix_facts.specs.posix_spec.FileRows.{appends, content, file_number, offset_of, write_start}
 use Rattle.posix_facts.specs.posix_spec.Put.{Put, put_at, put_by, put_unless}
 use Rattle.posix_facts.specs.posix_spec.State.{room, State}

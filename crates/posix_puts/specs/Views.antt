@@ -1,11 +1,11 @@
 -- What a write looks at, and what it needs.
 use Rattle.std.specs.Prelude.{◌≡◌, ℕ, ◌+◌, ◌≤◌, List, length, sum_by}
-use Rattle.posix_types.specs.declared.call.Call.{Call}
-use Rattle.posix_types.specs.declared.call.Who.{Who}
-use Rattle.posix_types.specs.declared.handle.Handle.{Handle}
-use Rattle.posix_words.specs.Nodes.{node_at}
-use Rattle.posix_words.specs.Open.{opened}
-use Rattle.posix_words.specs.Room.{write_need}
+use Rattle.posix_facts.specs.posix_types.declared.call.Call.{Call}
+use Rattle.posix_facts.specs.posix_types.declared.call.Who.{Who}
+use Rattle.posix_facts.specs.posix_types.declared.handle.Handle.{Handle}
+use Rattle.posix_facts.specs.posix_words.Nodes.{node_at}
+use Rattle.posix_facts.specs.posix_words.Open.{opened}
+use Rattle.posix_facts.specs.posix_words.Room.{write_need}
 use Rattle.posix_facts.specs.posix_spec.FileRows.{content, file_number, write_start}
 use Rattle.posix_facts.specs.posix_spec.Run.{Begun}
 use Rattle.posix_facts.specs.posix_spec.State.{room, State}

@@ -10,4 +10,7 @@
 //! Stands on `posix_spec` and `posix_facts`.
 #![tactic(auto)]
 
-pub use posix_facts::posix_spec;
+pub use posix_facts::{
+    Call, Data, Flags, Handle, Item, Mode, Name, Path, Put, Reply, Shape, State, Tree, TreeEntry,
+    TreeNode, Whence, Who, default_shape, root_alone,
+};

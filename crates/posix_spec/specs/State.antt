@@ -4,7 +4,7 @@ use Rattle.posix_types.specs.declared.call.Mode.{Mode}
 use Rattle.posix_types.specs.declared.reply.Shape.{Shape}
 use Rattle.posix_words.specs.declared.nodes.Node.{Node}
 use Rattle.posix_words.specs.declared.nodes.DirEntry.{DirEntry}
-use Rattle.block_counts.specs.Counts.{reserve_for}
+use Rattle.posix_words.specs.block_counts.Counts.{reserve_for}
 use Rattle.posix_words.specs.Room.{held}
 use Rattle.posix_words.specs.Open.{is_open, Tables}
 use Rattle.posix_words.specs.Names.{is_named, last_name, lines_taken, longest_name, parent_at, Space, with_entry, without_entry}

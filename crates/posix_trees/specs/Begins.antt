@@ -6,17 +6,17 @@ use Rattle.std.proofs.Math.Seq.{take-append_seam}
 use Rattle.std.proofs.lemmas.List.{append-nil, length-append, length-map, map-append}
 use Rattle.std.proofs.lemmas.Option.{get_or_from_slice_get, slice_get-map, slice_get_within}
 use Rattle.std.proofs.lemmas.Bool.Decides.{nat_tests}
-use Rattle.posix_types.specs.declared.call.Mode.{Mode}
-use Rattle.posix_types.specs.declared.reply.Errno.{Errno}
-use Rattle.posix_types.specs.declared.reply.Shape.{Shape}
-use Rattle.posix_types.specs.declared.tree.TreeEntry.{TreeEntry}
-use Rattle.posix_types.specs.declared.tree.TreeNode.{TreeNode}
-use Rattle.posix_words.specs.declared.nodes.DirEntry.{DirEntry}
-use Rattle.posix_words.specs.declared.nodes.Node.{Node}
-use Rattle.posix_words.specs.Lookups.{entry_of}
-use Rattle.posix_words.specs.Names.{bytes_before, child_of, directory_path, downward, is_entry, is_root, last_name, parent_at, walk, walk_from, with_entry}
-use Rattle.posix_words.specs.Nodes.{is_directory, node_at}
-use Rattle.posix_words.specs.Places.{node_of, printed}
+use Rattle.posix_facts.specs.posix_types.declared.call.Mode.{Mode}
+use Rattle.posix_facts.specs.posix_types.declared.reply.Errno.{Errno}
+use Rattle.posix_facts.specs.posix_types.declared.reply.Shape.{Shape}
+use Rattle.posix_facts.specs.posix_types.declared.tree.TreeEntry.{TreeEntry}
+use Rattle.posix_facts.specs.posix_types.declared.tree.TreeNode.{TreeNode}
+use Rattle.posix_facts.specs.posix_words.declared.nodes.DirEntry.{DirEntry}
+use Rattle.posix_facts.specs.posix_words.declared.nodes.Node.{Node}
+use Rattle.posix_facts.specs.posix_words.Lookups.{entry_of}
+use Rattle.posix_facts.specs.posix_words.Names.{bytes_before, child_of, directory_path, downward, is_entry, is_root, last_name, parent_at, walk, walk_from, with_entry}
+use Rattle.posix_facts.specs.posix_words.Nodes.{is_directory, node_at}
+use Rattle.posix_facts.specs.posix_words.Places.{node_of, printed}
 use Rattle.posix_facts.specs.posix_spec.State.{made, space, State}
 use Rattle.posix_facts.specs.posix_spec.Tree.{bare, planted, start}
 use Rattle.posix_facts.specs.DistinctLaws.{own_entry}

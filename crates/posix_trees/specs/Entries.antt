@@ -4,10 +4,10 @@ use Rattle.std.specs.Option.{option_map_or}
 use Rattle.std.proofs.Common.{arith, ap, ◌∙◌, sym, subst, inl, inr, le_refl}
 use Rattle.std.proofs.lemmas.Bool.Decides.{Decides-eqb}
 use Rattle.std.proofs.lemmas.Option.{same_Some}
-use Rattle.posix_words.specs.declared.nodes.DirEntry.{DirEntry}
-use Rattle.posix_words.specs.Lookups.{AreDistinct, entry_of, none_mapped}
-use Rattle.posix_words.specs.Names.{child_of, is_entry}
-use Rattle.posix_words.specs.Places.{path_to}
+use Rattle.posix_facts.specs.posix_words.declared.nodes.DirEntry.{DirEntry}
+use Rattle.posix_facts.specs.posix_words.Lookups.{AreDistinct, entry_of, none_mapped}
+use Rattle.posix_facts.specs.posix_words.Names.{child_of, is_entry}
+use Rattle.posix_facts.specs.posix_words.Places.{path_to}
 use Rattle.posix_facts.specs.DistinctLaws.{own_entry}
 use Rattle.list_facts.specs.Members.{find-In, find-none, In, slice_get-In}
 use Rattle.posix_trees.specs.Paths.{ArePlainNames, ArePlainNames-push, by_last, IsPlainName, walk_down, walk_down-append, walk_down-last, walk_down-nil}

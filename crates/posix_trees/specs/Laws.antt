@@ -1,9 +1,9 @@
 -- The laws of trees, each as one statement.
 use Rattle.std.specs.Prelude.{◌≡◌, ℕ, List, Option}
-use Rattle.posix_types.specs.declared.call.Mode.{Mode}
-use Rattle.posix_types.specs.declared.reply.Shape.{Shape}
-use Rattle.posix_types.specs.declared.tree.TreeEntry.{TreeEntry}
-use Rattle.posix_types.specs.declared.tree.TreeNode.{TreeNode}
+use Rattle.posix_facts.specs.posix_types.declared.call.Mode.{Mode}
+use Rattle.posix_facts.specs.posix_types.declared.reply.Shape.{Shape}
+use Rattle.posix_facts.specs.posix_types.declared.tree.TreeEntry.{TreeEntry}
+use Rattle.posix_facts.specs.posix_types.declared.tree.TreeNode.{TreeNode}
 use Rattle.posix_facts.specs.posix_spec.State.{State}
 use Rattle.posix_facts.specs.posix_spec.Tree.{start, tree}
 use Rattle.posix_trees.specs.Begins.{IsTree}

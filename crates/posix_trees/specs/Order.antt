@@ -9,7 +9,7 @@ use Rattle.std.proofs.Common.{arith, ap, ◌∙◌, sym, inl, inr}
 use Rattle.std.proofs.lemmas.Cmp.{nat_list_cmp_total}
 use Rattle.std.proofs.lemmas.Bool.Decides.{nat_tests}
 use Rattle.std.proofs.lemmas.List.Sums.{prefix_len-le-length}
-use Rattle.posix_words.specs.Names.{bytes_before}
+use Rattle.posix_facts.specs.posix_words.Names.{bytes_before}
 use Rattle.list_facts.specs.Members.{In, In-slice_get, pushed-In}
 
 -- Byte order.

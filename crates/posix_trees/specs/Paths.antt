@@ -2,11 +2,11 @@
 use Rattle.std.specs.Prelude.{◌≡◌, ◌≢◌, ◌⊎◌, ℕ, suc, ◌==◌, Bool, false, cond, List, [], ◌∷◌, ◌++◌, length, flat_map, Option, Some, None, option_and_then, option_map, refl}
 use Rattle.std.proofs.Common.{arith, ap, ◌∙◌, sym, inl, inr}
 use Rattle.std.proofs.lemmas.Bool.Decides.{nat_tests}
-use Rattle.posix_types.specs.declared.tree.TreeNode.{TreeNode}
-use Rattle.posix_words.specs.declared.nodes.DirEntry.{DirEntry}
-use Rattle.posix_words.specs.Names.{child_of}
-use Rattle.posix_words.specs.Nodes.{node_at}
-use Rattle.posix_words.specs.Places.{printed, tree_node}
+use Rattle.posix_facts.specs.posix_types.declared.tree.TreeNode.{TreeNode}
+use Rattle.posix_facts.specs.posix_words.declared.nodes.DirEntry.{DirEntry}
+use Rattle.posix_facts.specs.posix_words.Names.{child_of}
+use Rattle.posix_facts.specs.posix_words.Nodes.{node_at}
+use Rattle.posix_facts.specs.posix_words.Places.{printed, tree_node}
 use Rattle.posix_facts.specs.posix_spec.State.{State}
 
 -- the node that names lead to, from a node down

@@ -1,12 +1,12 @@
 -- A worked row: a tree of three paths, which is the tree of the state that it begins as, in every shape and mode.
 use Rattle.std.specs.Prelude.{◌≡◌, true, List, [], ◌∷◌, ◌++◌, length, refl}
 use Rattle.std.proofs.Common.{arith, ap, sym, ◌∙◌, inl, inr, codes}
-use Rattle.posix_types.specs.declared.call.Mode.{Mode}
-use Rattle.posix_types.specs.declared.reply.Shape.{Shape}
-use Rattle.posix_types.specs.declared.tree.TreeEntry.{TreeEntry}
-use Rattle.posix_types.specs.declared.tree.TreeNode.{TreeNode}
-use Rattle.posix_words.specs.Names.{bytes_before}
-use Rattle.posix_words.specs.Places.{printed}
+use Rattle.posix_facts.specs.posix_types.declared.call.Mode.{Mode}
+use Rattle.posix_facts.specs.posix_types.declared.reply.Shape.{Shape}
+use Rattle.posix_facts.specs.posix_types.declared.tree.TreeEntry.{TreeEntry}
+use Rattle.posix_facts.specs.posix_types.declared.tree.TreeNode.{TreeNode}
+use Rattle.posix_facts.specs.posix_words.Names.{bytes_before}
+use Rattle.posix_facts.specs.posix_words.Places.{printed}
 use Rattle.posix_facts.specs.posix_spec.Tree.{start, tree}
 use Rattle.posix_trees.specs.Begins.{IsTree, MayFollow}
 use Rattle.list_facts.specs.Members.{In}

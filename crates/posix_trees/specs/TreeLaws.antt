@@ -5,16 +5,16 @@ use Rattle.std.proofs.Common.{arith, ap, ◌∙◌, sym, subst, inl, inr}
 use Rattle.std.proofs.lemmas.Bool.Decides.{Decides-eqb}
 use Rattle.std.proofs.lemmas.List.{nil_from_length}
 use Rattle.std.proofs.lemmas.Option.{slice_get_within}
-use Rattle.posix_types.specs.declared.call.Mode.{Mode}
-use Rattle.posix_types.specs.declared.reply.Shape.{Shape}
-use Rattle.posix_types.specs.declared.tree.TreeEntry.{TreeEntry}
-use Rattle.posix_types.specs.declared.tree.TreeNode.{TreeNode}
-use Rattle.posix_words.specs.declared.nodes.DirEntry.{DirEntry}
-use Rattle.posix_words.specs.declared.nodes.Node.{Node}
-use Rattle.posix_words.specs.declared.places.Place.{Place}
-use Rattle.posix_words.specs.Names.{bytes_before}
-use Rattle.posix_words.specs.Nodes.{node_at}
-use Rattle.posix_words.specs.Places.{entry_place, node_of, path_to, place_of, places, printed, tree_entry, tree_node, with_place}
+use Rattle.posix_facts.specs.posix_types.declared.call.Mode.{Mode}
+use Rattle.posix_facts.specs.posix_types.declared.reply.Shape.{Shape}
+use Rattle.posix_facts.specs.posix_types.declared.tree.TreeEntry.{TreeEntry}
+use Rattle.posix_facts.specs.posix_types.declared.tree.TreeNode.{TreeNode}
+use Rattle.posix_facts.specs.posix_words.declared.nodes.DirEntry.{DirEntry}
+use Rattle.posix_facts.specs.posix_words.declared.nodes.Node.{Node}
+use Rattle.posix_facts.specs.posix_words.declared.places.Place.{Place}
+use Rattle.posix_facts.specs.posix_words.Names.{bytes_before}
+use Rattle.posix_facts.specs.posix_words.Nodes.{node_at}
+use Rattle.posix_facts.specs.posix_words.Places.{entry_place, node_of, path_to, place_of, places, printed, tree_entry, tree_node, with_place}
 use Rattle.posix_facts.specs.posix_spec.Tree.{start, tree}
 use Rattle.posix_trees.specs.Begins.{AreBegun, AreBegun-start, HaveOwnChildren, IsTree, never_below, node_at-begun, one_element, path_below, path_first, shorter_above}
 use Rattle.list_facts.specs.Members.{find-In, find-none, In, In-insert, In-slice_get, insert-In}

@@ -2,14 +2,14 @@
 use Rattle.std.specs.Prelude.{◌≡◌, ◌≢◌, ℕ, true, List, [], ◌∷◌, map, Option, Some, None, option_map, refl}
 use Rattle.std.proofs.Common.{ap, ◌∙◌, sym, subst, inl, inr}
 use Rattle.std.proofs.lemmas.Option.{same_Some}
-use Rattle.posix_types.specs.declared.tree.TreeEntry.{TreeEntry}
-use Rattle.posix_types.specs.declared.tree.TreeNode.{TreeNode}
-use Rattle.posix_words.specs.declared.nodes.DirEntry.{DirEntry}
-use Rattle.posix_words.specs.declared.places.Place.{Place}
-use Rattle.posix_words.specs.Lookups.{AreDistinct, none_mapped}
-use Rattle.posix_words.specs.Names.{bytes_before, is_entry}
-use Rattle.posix_words.specs.Nodes.{node_at}
-use Rattle.posix_words.specs.Places.{entry_place, place_of, places, printed, tree_entry, tree_node}
+use Rattle.posix_facts.specs.posix_types.declared.tree.TreeEntry.{TreeEntry}
+use Rattle.posix_facts.specs.posix_types.declared.tree.TreeNode.{TreeNode}
+use Rattle.posix_facts.specs.posix_words.declared.nodes.DirEntry.{DirEntry}
+use Rattle.posix_facts.specs.posix_words.declared.places.Place.{Place}
+use Rattle.posix_facts.specs.posix_words.Lookups.{AreDistinct, none_mapped}
+use Rattle.posix_facts.specs.posix_words.Names.{bytes_before, is_entry}
+use Rattle.posix_facts.specs.posix_words.Nodes.{node_at}
+use Rattle.posix_facts.specs.posix_words.Places.{entry_place, place_of, places, printed, tree_entry, tree_node}
 use Rattle.posix_facts.specs.DistinctLaws.{own_entry}
 use Rattle.posix_facts.specs.posix_spec.State.{State}
 use Rattle.posix_facts.specs.posix_spec.Tree.{tree}

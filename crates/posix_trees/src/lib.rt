@@ -28,4 +28,6 @@ pub fn a_tree_lists_what_stands()
     ensures { ListsWhatStands }
 {}
 
-pub use posix_facts::posix_spec;
+pub use posix_facts::{
+    Call, Flags, Handle, Mode, Outcome, Path, Reply, Shape, Tree, TreeEntry, TreeNode, Who,
+};

@@ -7,3 +7,5 @@ pub mod Open
 pub mod Bytes
 pub mod Places
 pub mod Lookups
+pub use Rattle.block_counts.specs as block_counts
+pub use Rattle.posix_types.specs as posix_types

@@ -2,11 +2,11 @@
 use Rattle.std.proofs.Common.{◌≡◌, ◌≢◌, ◌≤◌, ◌<◌, ◌+◌, ◌*◌, ◌/◌, ◌^◌, ◌⊎◌, ℕ, true, List, sym, ◌∙◌, ap, subst, arith, inl, inr}
 use Rattle.std.specs.Prelude.{All}
 use Rattle.std.proofs.lemmas.Bool.Decides.{nat_tests}
-use Rattle.pm_words.specs.Bytes.{line_bytes-same}
-use Rattle.pm_words.specs.Words.{line_bytes, Words}
-use Rattle.disk_places.specs.Journal.{journaled}
-use Rattle.disk_places.specs.Places.{base_word, commit_word, first_data, Geometry, is_data_block, state_line}
-use Rattle.disk_places.specs.Superblock.{geometry_at, has_magic, has_numbers, has_version}
+use Rattle.live_facts.specs.pm_words.Bytes.{line_bytes-same}
+use Rattle.live_facts.specs.pm_words.Words.{line_bytes, Words}
+use Rattle.live_facts.specs.disk_places.Journal.{journaled}
+use Rattle.live_facts.specs.disk_places.Places.{base_word, commit_word, first_data, Geometry, is_data_block, state_line}
+use Rattle.live_facts.specs.disk_places.Superblock.{geometry_at, has_magic, has_numbers, has_version}
 use Rattle.live_facts.specs.disk_rules.Placed.{block_at, IsOutside}
 use Rattle.live_facts.specs.disk_rules.Reading.{Reads}
 use Rattle.live_facts.specs.disk_rules.Rules.{geometry_of, HasTarget}

@@ -7,12 +7,12 @@ use Rattle.std.proofs.lemmas.Bool.{and_parts, cases_lt, eq-eqb, eqb-true}
 use Rattle.std.proofs.lemmas.Option.{slice_get-get_or}
 use Rattle.std.proofs.lemmas.List.Sorted.{All-permutation, IsPermutation-sym, sum_by-IsPermutation}
 use Rattle.std.proofs.lemmas.List.Sums.{sum_by-cons}
-use Rattle.disk_lines.specs.declared.Draft.{Draft}
+use Rattle.live_facts.specs.disk_lines.declared.Draft.{Draft}
 use Rattle.live_facts.specs.disk_rules.Live.{entry_in, is_live, live_entries}
 use Rattle.live_facts.specs.disk_rules.Volume.{Volume}
-use Rattle.pm_words.specs.Words.{Words}
-use Rattle.list_facts.specs.Filters.{filter-In, filter_map-In, range-In}
-use Rattle.list_facts.specs.Members.{In, In-slice_get, slice_get-In}
+use Rattle.live_facts.specs.pm_words.Words.{Words}
+use Rattle.live_facts.specs.list_facts.Filters.{filter-In, filter_map-In, range-In}
+use Rattle.live_facts.specs.list_facts.Members.{In, In-slice_get, slice_get-In}
 use Rattle.live_facts.specs.posix_trees.Entries.{AreDifferent}
 use Rattle.live_facts.specs.world_log.LogRules.{live_parts}
 use Rattle.replay_facts.specs.Orders.{AreInOrder, ComeFirst, HaveOwnOrders}

@@ -4,21 +4,21 @@ use Rattle.std.specs.Prelude.{All, nat_lt, sum_by}
 use Rattle.std.specs.List.{range_with_len}
 use Rattle.std.proofs.Math.Path.{fun_ext}
 use Rattle.std.proofs.lemmas.Bool.{and_parts}
-use Rattle.block_counts.specs.Counts.{held_by}
-use Rattle.pm_words.specs.Bytes.{line_bytes-same}
-use Rattle.pm_words.specs.Words.{line_bytes, Words}
-use Rattle.disk_lines.specs.declared.Draft.{Draft}
-use Rattle.disk_lines.specs.Entries.{held_seq, is_self_valid}
-use Rattle.disk_lines.specs.Names.{names_of}
-use Rattle.disk_places.specs.Places.{data_blocks, Geometry, log_line, reserve}
+use Rattle.live_facts.specs.block_counts.Counts.{held_by}
+use Rattle.live_facts.specs.pm_words.Bytes.{line_bytes-same}
+use Rattle.live_facts.specs.pm_words.Words.{line_bytes, Words}
+use Rattle.live_facts.specs.disk_lines.declared.Draft.{Draft}
+use Rattle.live_facts.specs.disk_lines.Entries.{held_seq, is_self_valid}
+use Rattle.live_facts.specs.disk_lines.Names.{names_of}
+use Rattle.live_facts.specs.disk_places.Places.{data_blocks, Geometry, log_line, reserve}
 use Rattle.live_facts.specs.disk_rules.Checked.{IsLogKept}
 use Rattle.live_facts.specs.disk_rules.Content.{size_of}
 use Rattle.live_facts.specs.disk_rules.Live.{entry_in, is_file, is_live, is_of_file, live_entries, valid_entries}
 use Rattle.live_facts.specs.disk_rules.Room.{held_after_recovery, is_named_file, unused_blocks}
 use Rattle.live_facts.specs.disk_rules.Rules.{HasStagingBlocks}
 use Rattle.live_facts.specs.disk_rules.Volume.{inode, Volume}
-use Rattle.list_facts.specs.Filters.{filter-In, In-filter, In-filter_map, In-range}
-use Rattle.list_facts.specs.Members.{In}
+use Rattle.live_facts.specs.list_facts.Filters.{filter-In, In-filter, In-filter_map, In-range}
+use Rattle.live_facts.specs.list_facts.Members.{In}
 use Rattle.live_facts.specs.posix_trees.Entries.{few}
 use Rattle.live_facts.specs.volume_facts.Footprint.{SameLog}
 use Rattle.live_facts.specs.volume_facts.FootprintLaws.{entry_in-same, live_entries-same}

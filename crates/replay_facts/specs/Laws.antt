@@ -1,15 +1,15 @@
 -- The laws of replay, each as one statement.
 use Rattle.std.specs.Prelude.{◌≡◌, ◌≤◌, ◌+◌, ℕ, true, All, List, length}
-use Rattle.pm_words.specs.Words.{Words}
-use Rattle.disk_lines.specs.declared.Draft.{Draft}
-use Rattle.disk_places.specs.Journal.{journaled}
-use Rattle.disk_places.specs.Places.{base_word, Geometry, is_data_block}
+use Rattle.live_facts.specs.pm_words.Words.{Words}
+use Rattle.live_facts.specs.disk_lines.declared.Draft.{Draft}
+use Rattle.live_facts.specs.disk_places.Journal.{journaled}
+use Rattle.live_facts.specs.disk_places.Places.{base_word, Geometry, is_data_block}
 use Rattle.live_facts.specs.disk_rules.Checked.{IsLogKept}
 use Rattle.live_facts.specs.disk_rules.Live.{live_entries}
 use Rattle.live_facts.specs.disk_rules.Room.{held_after_recovery, unused_blocks}
 use Rattle.live_facts.specs.disk_rules.Volume.{inode, Volume}
 use Rattle.live_facts.specs.k_rules.Stands.{IsOldOrNew}
-use Rattle.list_facts.specs.Members.{In}
+use Rattle.live_facts.specs.list_facts.Members.{In}
 use Rattle.live_facts.specs.Logs.{CarriesOut, HasSameFiles}
 use Rattle.live_facts.specs.volume_facts.Footprint.{SameLog}
 use Rattle.world_images.specs.Images.{IsHeaded}

@@ -1,11 +1,11 @@
 -- The order in which recovery carries out the entries of a log.
 use Rattle.std.specs.Prelude.{◌≡◌, ◌≢◌, ◌<◌, ℕ, true, List, [], ◌∷◌, Some}
 use Rattle.std.specs.List.Sorted.{IsNonDecreasingBy, IsPermutation}
-use Rattle.pm_words.specs.Words.{Words}
-use Rattle.disk_lines.specs.declared.Draft.{Draft}
+use Rattle.live_facts.specs.pm_words.Words.{Words}
+use Rattle.live_facts.specs.disk_lines.declared.Draft.{Draft}
 use Rattle.live_facts.specs.disk_rules.Live.{entry_in, is_of_file}
 use Rattle.live_facts.specs.disk_rules.Volume.{Volume}
-use Rattle.list_facts.specs.Members.{In}
+use Rattle.live_facts.specs.list_facts.Members.{In}
 
 -- THE ENTRIES IN THEIR ORDER: those of the list, each as often as there, and none has an order above that of a later one.
 pub record AreInOrder (live ds : List Draft) : Type 0 where

@@ -10,7 +10,7 @@ use Rattle.posix_types.specs.declared.call.Who.{Who}
 use Rattle.posix_types.specs.declared.item.Item.{Item}
 use Rattle.posix_types.specs.declared.item.Outcome.{Outcome}
 use Rattle.posix_types.specs.Scripts.{Scripts}
-use Rattle.posix_words.specs.Open.{same_who}
+use Rattle.posix_frames.specs.posix_words.Open.{same_who}
 use Rattle.posix_frames.specs.Frames.{AreThreads}
 use Rattle.posix_frames.specs.Handles.{same_who-is}
 use Rattle.posix_frames.specs.posix_spec.Run.{after_call, IsLegal, IsLegal-append, run, run-append}

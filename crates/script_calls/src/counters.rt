@@ -1,6 +1,6 @@
 //! How many calls of each caller have returned.
 ghost use Rattle.std.specs.Prelude.{◌≡◌, ◌+◌, ◌^◌, ◌<◌, [], false};
-ghost use Rattle.posix_words.specs.Open.{same_who};
+ghost use Rattle.posix_frames.specs.posix_words.Open.{same_who};
 ghost use Rattle.script_calls.specs.Counters.{count_for, AreCounts, IsCounted};
 
 use posix_types::Who;

@@ -34,6 +34,10 @@ pub use laws::{
     scripts_are_within_limits, scripts_have_known_words,
 };
 pub use numbers::read_number;
+pub use posix_spec::{
+    Call, Item, Mode, Name, Path, Shape, State, Tree, TreeEntry, TreeNode, Who, default_shape,
+    root_alone,
+};
 pub use rows::{
     calls_in_rows, data_in_rows, flags_in_rows, handles_in_rows, headings_in_rows, limits_in_rows,
     lines_in_rows, numbers_in_rows, paths_in_rows,

@@ -1,7 +1,7 @@
 //! Paths: the slash alone, or names that each have a slash before them.
 ghost use Rattle.std.specs.Prelude.{◌≡◌, IfOk};
 ghost use Rattle.std.specs.List.{list_all};
-ghost use Rattle.disk_lines.specs.Lines.{is_dots, is_name_byte};
+ghost use Rattle.path_spelling.specs.disk_lines.Lines.{is_dots, is_name_byte};
 ghost use Rattle.path_spelling.specs.Spelling.{is_spelled};
 ghost use Rattle.script_text.specs.Words.{names_in, parts_of, path_in};
 

@@ -7,13 +7,13 @@ use Rattle.std.proofs.lemmas.Bool.Decides.{nat_tests}
 use Rattle.std.proofs.lemmas.List.{get_or_append_left}
 use Rattle.std.proofs.lemmas.List.Edits.{get_or-remove_above, get_or-remove_below, length-remove}
 use Rattle.std.proofs.lemmas.List.Folds.{Any-from_list_any, list_any-append, list_any_at}
-use Rattle.pm_words.specs.Cells.{cell, is_single}
-use Rattle.pm_words.specs.CellLaws.{single-home}
+use Rattle.k_split.specs.pm_words.Cells.{cell, is_single}
+use Rattle.k_split.specs.pm_words.CellLaws.{single-home}
 use Rattle.k_split.specs.block_pool.FreeSets.{is_among}
-use Rattle.disk_places.specs.Places.{is_data_block}
+use Rattle.k_split.specs.disk_places.Places.{is_data_block}
 use Rattle.k_split.specs.disk_rules.Placed.{block_at}
 use Rattle.k_split.specs.disk_rules.Volume.{extents, inode}
-use Rattle.extent_words.specs.Extents.{covers, disk_at, is_within}
+use Rattle.k_split.specs.extent_words.Extents.{covers, disk_at, is_within}
 use Rattle.k_split.specs.k_rules.View.{View}
 use Rattle.k_split.specs.MapChanges.{is_free_in, IsMapDone, IsPreallocateAnswer, IsPreallocatedWith}
 use Rattle.k_split.specs.Order.{IsInOrder}

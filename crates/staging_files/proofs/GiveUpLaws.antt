@@ -3,12 +3,12 @@ use Rattle.std.proofs.Common.{◌≡◌, ◌≢◌, ◌≤◌, ◌<◌, ◌-◌,
 use Rattle.std.proofs.lemmas.Bool.{both_ways, cases_eq}
 use Rattle.std.proofs.lemmas.List.{get_or-replicate}
 use Rattle.std.specs.Prelude.{remove, slice_get, Contains}
-use Rattle.pm_words.specs.Powers.{Steps, Supply}
-use Rattle.disk_lines.specs.declared.Kind.TheVariants.{Directory, File, Free, Staging}
-use Rattle.disk_lines.specs.declared.Kind.{Kind}
+use Rattle.k_split.specs.pm_words.Powers.{Steps, Supply}
+use Rattle.k_split.specs.disk_lines.declared.Kind.TheVariants.{Directory, File, Free, Staging}
+use Rattle.k_split.specs.disk_lines.declared.Kind.{Kind}
 use Rattle.k_split.specs.disk_rules.Rules.{IsKindAt}
 use Rattle.k_split.specs.disk_rules.Volume.{Volume, extents, inode}
-use Rattle.extent_words.specs.Extents.{covers}
+use Rattle.k_split.specs.extent_words.Extents.{covers}
 use Rattle.k_split.specs.k_map_plans.Plans.{IsStagingFile}
 use Rattle.k_split.specs.k_plans.Whole.{IsWhole}
 use Rattle.k_split.specs.k_rules.View.{View}

@@ -7,16 +7,16 @@ use Rattle.std.proofs.lemmas.Bool.Decides.{nat_tests}
 use Rattle.std.proofs.lemmas.List.FromFn.{length-range_with_len}
 use Rattle.std.proofs.lemmas.List.Sums.{count_by-le-length}
 use Rattle.k_split.specs.block_pool.FreeSets.{is_among}
-use Rattle.disk_places.specs.Places.{data_blocks, first_data, is_data_block, reserve}
-use Rattle.disk_lines.specs.declared.Inode.{Inode}
+use Rattle.k_split.specs.disk_places.Places.{data_blocks, first_data, is_data_block, reserve}
+use Rattle.k_split.specs.disk_lines.declared.Inode.{Inode}
 use Rattle.k_split.specs.disk_rules.Reading.{inode_set}
 use Rattle.k_split.specs.disk_rules.Room.{has_none, unused_blocks}
 use Rattle.k_split.specs.disk_rules.Rules.{file_blocks_of}
 use Rattle.k_split.specs.disk_rules.Uses.{owners}
 use Rattle.k_split.specs.disk_rules.Volume.{Volume, inode}
-use Rattle.extent_facts.specs.Counts.{block_count-mapped, count_below-agree, count_below-range, is_mapped}
-use Rattle.extent_words.specs.declared.Extent.{Extent}
-use Rattle.extent_words.specs.Extents.{block_count, is_within}
+use Rattle.k_split.specs.extent_facts.Counts.{block_count-mapped, count_below-agree, count_below-range, is_mapped}
+use Rattle.k_split.specs.extent_words.declared.Extent.{Extent}
+use Rattle.k_split.specs.extent_words.Extents.{block_count, is_within}
 use Rattle.k_split.specs.k_plans.Whole.{IsWhole}
 use Rattle.k_split.specs.k_rules.View.{View}
 use Rattle.k_split.specs.MapChanges.{free_blocks_in, IsMapDone, IsPreallocateAnswer, IsPreallocatedWith}

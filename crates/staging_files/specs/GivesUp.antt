@@ -1,7 +1,7 @@
 -- Runs that are given back, and staging files that give up all their blocks.
 use Rattle.std.specs.Prelude.{◌≡◌, ◌<◌, ℕ, suc, zero, true, false, [], replicate, remove, slice_get, Some, Result, Ok, Err, alloc_error}
 use Rattle.std.specs.declared.alloc.AllocError.{AllocError}
-use Rattle.pm_words.specs.Powers.{is_on, Supply}
+use Rattle.k_split.specs.pm_words.Powers.{is_on, Supply}
 use Rattle.k_split.specs.disk_rules.Volume.{Volume}
 use Rattle.k_split.specs.k_journal.declared.outcomes.Commit.{Commit}
 use Rattle.k_split.specs.k_rules.View.{View}

@@ -21,3 +21,10 @@ pub use Rattle.k_split.specs.posix_facts as posix_facts
 pub use Rattle.k_split.specs.posix_spec as posix_spec
 pub use Rattle.k_split.specs.posix_trees as posix_trees
 pub use Rattle.k_split.specs.volume_facts as volume_facts
+pub use Rattle.k_split.specs.disk_lines as disk_lines
+pub use Rattle.k_split.specs.disk_places as disk_places
+pub use Rattle.k_split.specs.extent_facts as extent_facts
+pub use Rattle.k_split.specs.list_facts as list_facts
+pub use Rattle.k_split.specs.posix_types as posix_types
+pub use Rattle.k_split.specs.posix_words as posix_words
+pub use Rattle.pm_lines.specs.pm_words as pm_words

@@ -1,8 +1,8 @@
 -- What `reserve` answers: a run by the first of two ways, or why there is none.
 use Rattle.std.specs.Prelude.{◌≡◌, ◌⊎◌, ◌≤◌, ◌<◌, ◌+◌, ◌-◌, ◌/◌, ◌==◌, ℕ, Bool, true, false, [], ◌∷◌, ◌++◌, length, slice_set, min, max, if◌then◌else◌, Result, Ok, Err}
 use Rattle.std.specs.List.{list_any}
-use Rattle.pm_words.specs.Powers.{is_on, Supply}
-use Rattle.disk_places.specs.Places.{reserve}
+use Rattle.k_split.specs.pm_words.Powers.{is_on, Supply}
+use Rattle.k_split.specs.disk_places.Places.{reserve}
 use Rattle.k_split.specs.disk_rules.Volume.{inode}
 use Rattle.k_split.specs.k_rules.View.{View}
 use Rattle.k_split.specs.Answers.{IsSpared}

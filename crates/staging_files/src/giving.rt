@@ -1,14 +1,13 @@
 //! Runs are given back, and staging files give up their blocks.
 ghost use Rattle.std.specs.Prelude.{◌≡◌, ◌≢◌, ◌^◌, ℕ, true, false, slice_get, Contains, Some, IfNone, IfSome};
-ghost use Rattle.pm_words.specs.Powers.{is_on, Steps};
+ghost use Rattle.k_split.specs.pm_words.Powers.{is_on, Steps};
 ghost use Rattle.k_split.specs.k_rules.View.{View};
 ghost use Rattle.staging_files.specs.GivesUp.{AgreesAfterAll, AllStagedSingle, IsGiveUpAllAnswer, IsGiveUpAllPaid, IsGivenBack, IsGivenUpEach, nothing_staged, stopped_by};
 ghost use Rattle.staging_files.specs.Keeps.{Agrees, AreFreeSingle, IsRunSingle, IsThere};
 
 use crate::runs::StageRun;
 use crate::staging::Staging;
-use k_split::k_journal::Commit;
-use k_split::{KFault, KSplit};
+use k_split::{Commit, KFault, KSplit};
 use pm_lines::Power;
 use std::alloc::{AllocError, Global};
 

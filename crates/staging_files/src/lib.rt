@@ -20,7 +20,8 @@ mod reserving;
 mod runs;
 mod staging;
 
-pub use k_split;
-pub use k_split::{image_layout, k_journal, lines_out};
+pub use k_split::{
+    Commit, Geometry, KFault, KSplit, images_have_the_old_or_the_new_content, mkfs, put_lines,
+};
 pub use runs::{StageFault, StageRun};
 pub use staging::Staging;

@@ -2,9 +2,9 @@
 use Rattle.std.specs.Prelude.{◌≡◌, ◌≤◌, ◌<◌, ◌+◌, ℕ, zero, suc, true, All, AllPairs, List, [], ◌∷◌, length, map, slice_index_or, refl}
 use Rattle.std.proofs.Common.{arith, ap, ◌∙◌, sym, subst, inl, inr}
 use Rattle.std.proofs.lemmas.Bool.Decides.{nat_tests}
-use Rattle.disk_lines.specs.declared.Draft.{Draft}
-use Rattle.disk_lines.specs.Entries.{is_draft}
-use Rattle.list_facts.specs.Members.{In}
+use Rattle.log_checkpoint.specs.disk_lines.declared.Draft.{Draft}
+use Rattle.log_checkpoint.specs.disk_lines.Entries.{is_draft}
+use Rattle.log_checkpoint.specs.list_facts.Members.{In}
 use Rattle.log_checkpoint.specs.world_rules.Stands.{Consecutive}
 
 -- the bounds of an entry

@@ -3,26 +3,26 @@ use Rattle.std.specs.Prelude.{◌≡◌, ◌≢◌, ◌⊎◌, ◌≤◌, ◌<�
 use Rattle.std.proofs.Common.{arith, ap, ◌∙◌, sym, subst, inl, inr}
 use Rattle.std.proofs.lemmas.Bool.Decides.{Decides-eqb, nat_tests}
 use Rattle.std.proofs.lemmas.List.Sums.{sum_by-cons}
-use Rattle.disk_lines.specs.declared.Draft.{Draft}
-use Rattle.disk_lines.specs.declared.Kind.{Kind}
-use Rattle.disk_lines.specs.declared.Kind.TheVariants.{Directory, File, Free, Staging}
-use Rattle.disk_lines.specs.Lines.{most_bytes}
-use Rattle.disk_places.specs.Places.{Geometry}
+use Rattle.log_checkpoint.specs.disk_lines.declared.Draft.{Draft}
+use Rattle.log_checkpoint.specs.disk_lines.declared.Kind.{Kind}
+use Rattle.log_checkpoint.specs.disk_lines.declared.Kind.TheVariants.{Directory, File, Free, Staging}
+use Rattle.log_checkpoint.specs.disk_lines.Lines.{most_bytes}
+use Rattle.log_checkpoint.specs.disk_places.Places.{Geometry}
 use Rattle.log_checkpoint.specs.disk_rules.Live.{is_file}
 use Rattle.log_checkpoint.specs.disk_rules.Volume.{inode}
-use Rattle.file_overlay.specs.declared.runs.Run.{Run}
-use Rattle.file_overlay.specs.Runs.{Overlaid}
+use Rattle.log_checkpoint.specs.file_overlay.declared.runs.Run.{Run}
+use Rattle.log_checkpoint.specs.file_overlay.Runs.{Overlaid}
 use Rattle.log_checkpoint.specs.file_table.Files.{nothing_laid, runs_in}
 use Rattle.log_checkpoint.specs.fsync_relink.Others.{AllApart}
 use Rattle.log_checkpoint.specs.fsync_relink.Publishes.{ShareNone}
 use Rattle.log_checkpoint.specs.k_map_plans.Plans.{IsLiveFile}
 use Rattle.log_checkpoint.proofs.k_plans_proofs.FreeCounts.{unwaiting-counted}
 use Rattle.log_checkpoint.specs.k_rules.View.{View}
-use Rattle.list_facts.specs.Filters.{filter-In}
-use Rattle.list_facts.specs.Members.{In}
+use Rattle.log_checkpoint.specs.list_facts.Filters.{filter-In}
+use Rattle.log_checkpoint.specs.list_facts.Members.{In}
 use Rattle.log_checkpoint.specs.Gathers.{MayGather, total_runs}
 use Rattle.world_standing.specs.overlay_facts.Overlays.{run_of}
-use Rattle.posix_words.specs.Open.{Tables}
+use Rattle.log_checkpoint.specs.posix_words.Open.{Tables}
 use Rattle.log_checkpoint.specs.posix_spec.State.{State}
 use Rattle.log_checkpoint.specs.world_rules.Jobs.{live_claims}
 use Rattle.log_checkpoint.specs.world_promise.TreeRules.{used_below}

@@ -2,28 +2,28 @@
 use Rattle.std.specs.Prelude.{◌≡◌, ◌≢◌, ◌≤◌, ◌<◌, ◌+◌, ◌-◌, ◌*◌, ◌/◌, ◌%◌, ◌^◌, ◌==◌, ◌&&◌, ℕ, Bool, true, false, List, [], ◌∷◌, filter, length, map, Some, IsSome, slice_index_or, refl}
 use Rattle.std.proofs.Common.{arith, ap, ◌∙◌, sym, subst, inl, inr}
 use Rattle.std.proofs.lemmas.Bool.Decides.{Decides-eqb, nat_tests}
-use Rattle.pm_words.specs.Cells.{cell, is_lent, is_single}
-use Rattle.pm_words.specs.ImageLaws.{IsImage-words_of}
-use Rattle.pm_words.specs.Images.{words_of}
-use Rattle.disk_places.specs.Journal.{journaled}
-use Rattle.disk_places.specs.PlaceLaws.{behind_log-words}
-use Rattle.disk_places.specs.Places.{Geometry, is_data_block, is_journaled_line, log_line}
-use Rattle.disk_lines.specs.declared.Draft.{Draft}
-use Rattle.disk_lines.specs.Lines.{most_bytes}
+use Rattle.log_checkpoint.specs.pm_words.Cells.{cell, is_lent, is_single}
+use Rattle.log_checkpoint.specs.pm_words.ImageLaws.{IsImage-words_of}
+use Rattle.log_checkpoint.specs.pm_words.Images.{words_of}
+use Rattle.log_checkpoint.specs.disk_places.Journal.{journaled}
+use Rattle.log_checkpoint.specs.disk_places.PlaceLaws.{behind_log-words}
+use Rattle.log_checkpoint.specs.disk_places.Places.{Geometry, is_data_block, is_journaled_line, log_line}
+use Rattle.log_checkpoint.specs.disk_lines.declared.Draft.{Draft}
+use Rattle.log_checkpoint.specs.disk_lines.Lines.{most_bytes}
 use Rattle.log_checkpoint.specs.disk_rules.Rules.{file_blocks_of}
 use Rattle.log_checkpoint.specs.disk_rules.Volume.{extents, inode, Volume}
-use Rattle.extent_facts.specs.Covers.{covers-disk_at}
-use Rattle.extent_words.specs.Extents.{disk_at, is_within}
-use Rattle.file_overlay.specs.Laws.{IsEarlier}
+use Rattle.log_checkpoint.specs.extent_facts.Covers.{covers-disk_at}
+use Rattle.log_checkpoint.specs.extent_words.Extents.{disk_at, is_within}
+use Rattle.log_checkpoint.specs.file_overlay.Laws.{IsEarlier}
 use Rattle.log_checkpoint.specs.file_table.Files.{runs_in, size_in}
 use Rattle.log_checkpoint.specs.fsync_relink.Publishes.{IsStagedRun, MayPublish, ShareNone}
 use Rattle.log_checkpoint.specs.k_map_plans.Plans.{IsLiveFile, IsStagingFile}
 use Rattle.log_checkpoint.proofs.k_plans_proofs.FreeCounts.{unwaiting-counted}
 use Rattle.log_checkpoint.specs.k_rules.View.{View}
-use Rattle.list_facts.specs.Filters.{filter-In}
-use Rattle.list_facts.specs.Members.{In}
+use Rattle.log_checkpoint.specs.list_facts.Filters.{filter-In}
+use Rattle.log_checkpoint.specs.list_facts.Members.{In}
 use Rattle.world_standing.specs.overlay_facts.Overlays.{run_of}
-use Rattle.posix_words.specs.Open.{Tables}
+use Rattle.log_checkpoint.specs.posix_words.Open.{Tables}
 use Rattle.log_checkpoint.specs.posix_spec.State.{State}
 use Rattle.log_checkpoint.proofs.staging_files_proofs.GiveUpLaws.{staging-file}
 use Rattle.log_checkpoint.specs.volume_facts.LineWords.{data_word, data_word-not_journaled}

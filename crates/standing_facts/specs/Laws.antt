@@ -1,13 +1,13 @@
 -- What a World that stands gives, each as one statement.
 use Rattle.std.specs.Prelude.{◌≤◌, ◌^◌, ℕ, Bool, All}
-use Rattle.disk_lines.specs.Lines.{most_bytes}
-use Rattle.disk_places.specs.Places.{Geometry}
+use Rattle.log_checkpoint.specs.disk_lines.Lines.{most_bytes}
+use Rattle.log_checkpoint.specs.disk_places.Places.{Geometry}
 use Rattle.log_checkpoint.specs.file_table.Files.{runs_in, size_in}
 use Rattle.log_checkpoint.specs.fsync_relink.Publishes.{MayPublish}
 use Rattle.log_checkpoint.specs.k_map_plans.Plans.{IsLiveFile}
 use Rattle.log_checkpoint.specs.k_rules.View.{View}
 use Rattle.log_checkpoint.specs.Gathers.{MayGather}
-use Rattle.posix_words.specs.Open.{Tables}
+use Rattle.log_checkpoint.specs.posix_words.Open.{Tables}
 use Rattle.log_checkpoint.specs.posix_spec.State.{State}
 use Rattle.world_standing.specs.Standing.{Kept, StandsAt}
 

@@ -20,3 +20,5 @@ pub fn what_stands_may_be_published()
 pub fn what_stands_may_be_gathered()
     ensures { StandsToGather }
 {}
+
+pub use log_checkpoint::{Commit, FileTable, KSplit, gather, publish_runs};

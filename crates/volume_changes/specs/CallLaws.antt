@@ -4,13 +4,13 @@ use Rattle.std.proofs.Common.{arith, ap, sym, ◌∙◌, inl, inr}
 use Rattle.std.proofs.lemmas.Bool.{both_ways, cases_Bool, eq-eqb}
 use Rattle.std.proofs.lemmas.List.{length-append}
 use Rattle.std.proofs.lemmas.Option.{same_Some}
-use Rattle.disk_places.specs.Places.{IsGeometry}
-use Rattle.disk_lines.specs.declared.Kind.{Kind}
-use Rattle.disk_lines.specs.declared.Kind.TheVariants.{Free, Directory, File, Staging}
-use Rattle.disk_lines.specs.Lines.{NameRow}
-use Rattle.disk_lines.specs.Names.{row, is_child, is_entry, child_named, free_line, up, walk}
-use Rattle.disk_lines.specs.TableLaws.{NamingLine-child_named, child_named-at, free_line-some, walk-append, walk-one, walk-up}
-use Rattle.disk_lines.specs.Tables.{NamingLine}
+use Rattle.volume_uses.specs.disk_places.Places.{IsGeometry}
+use Rattle.volume_uses.specs.disk_lines.declared.Kind.{Kind}
+use Rattle.volume_uses.specs.disk_lines.declared.Kind.TheVariants.{Free, Directory, File, Staging}
+use Rattle.volume_uses.specs.disk_lines.Lines.{NameRow}
+use Rattle.volume_uses.specs.disk_lines.Names.{row, is_child, is_entry, child_named, free_line, up, walk}
+use Rattle.volume_uses.specs.disk_lines.TableLaws.{NamingLine-child_named, child_named-at, free_line-some, walk-append, walk-one, walk-up}
+use Rattle.volume_uses.specs.disk_lines.Tables.{NamingLine}
 use Rattle.volume_uses.specs.disk_rules.Kept.{AreKept}
 use Rattle.volume_uses.specs.disk_rules.Live.{is_directory}
 use Rattle.volume_uses.specs.disk_rules.Rules.{IsKindAt}
@@ -20,7 +20,7 @@ use Rattle.volume_names.specs.name_facts.KeptLaws.{HasAllLines}
 use Rattle.volume_names.specs.name_facts.RowLaws.{names_of-one_line, row-below}
 use Rattle.volume_names.specs.name_facts.SetLaws.{child_named-none}
 use Rattle.volume_names.specs.name_facts.WalkLaws.{walk-empty}
-use Rattle.posix_words.specs.Names.{directory_path, is_below, last_name, longest_path, has_entries as has_entries_in, walk as walk_to}
+use Rattle.volume_names.specs.posix_words.Names.{directory_path, is_below, last_name, longest_path, has_entries as has_entries_in, walk as walk_to}
 use Rattle.volume_changes.specs.Changes.{HasPlace, MayMake, MayUnname, MayRemove, MayRename, MayRenameOver, MayRenameOverFile, MayRenameOverDirectory}
 use Rattle.volume_changes.specs.NodeLaws.{plain-empty}
 use Rattle.volume_changes.specs.Sane.{AreSane, sane-kept}

@@ -1,9 +1,9 @@
 -- What each change of names and nodes asks for, so that it keeps the rules.
 use Rattle.std.specs.Prelude.{◌≡◌, ◌≢◌, ◌⊎◌, ℕ, ◌+◌, ◌<◌, length, true, false, Some, None}
-use Rattle.disk_lines.specs.declared.Kind.{Kind}
-use Rattle.disk_lines.specs.declared.Kind.TheVariants.{Free, Directory, File}
-use Rattle.disk_lines.specs.Lines.{NameRow}
-use Rattle.disk_lines.specs.Names.{row, is_entry, names_of, has_entries, up}
+use Rattle.volume_uses.specs.disk_lines.declared.Kind.{Kind}
+use Rattle.volume_uses.specs.disk_lines.declared.Kind.TheVariants.{Free, Directory, File}
+use Rattle.volume_uses.specs.disk_lines.Lines.{NameRow}
+use Rattle.volume_uses.specs.disk_lines.Names.{row, is_entry, names_of, has_entries, up}
 use Rattle.volume_uses.specs.disk_rules.Live.{is_directory}
 use Rattle.volume_uses.specs.disk_rules.Volume.{Volume, inode}
 use Rattle.volume_changes.specs.Sane.{HasWayUp}

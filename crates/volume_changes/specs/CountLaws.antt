@@ -1,11 +1,11 @@
 -- How many inode lines and name lines are left after each change, and that the changes of names leave who uses a block.
 use Rattle.std.specs.Prelude.{◌≡◌, ◌≢◌, ◌⊎◌, ℕ, ◌+◌, ◌<◌, List, length, true, false, count_by, slice_set, slice_index_or, Some, None, refl}
 use Rattle.std.proofs.Common.{arith, ap, sym, ◌∙◌, inl, inr}
-use Rattle.disk_lines.specs.declared.Inode.{Inode}
-use Rattle.disk_lines.specs.declared.Kind.{Kind}
-use Rattle.disk_lines.specs.declared.Kind.TheVariants.{Free, Directory, File, Staging}
-use Rattle.disk_lines.specs.Lines.{NameRow, is_inode}
-use Rattle.disk_lines.specs.Names.{Rows, row, is_free_row}
+use Rattle.volume_uses.specs.disk_lines.declared.Inode.{Inode}
+use Rattle.volume_uses.specs.disk_lines.declared.Kind.{Kind}
+use Rattle.volume_uses.specs.disk_lines.declared.Kind.TheVariants.{Free, Directory, File, Staging}
+use Rattle.volume_uses.specs.disk_lines.Lines.{NameRow, is_inode}
+use Rattle.volume_uses.specs.disk_lines.Names.{Rows, row, is_free_row}
 use Rattle.volume_uses.specs.disk_rules.Live.{is_directory}
 use Rattle.volume_uses.specs.disk_rules.Reading.{node_set}
 use Rattle.volume_uses.specs.disk_rules.Uses.{owners}

@@ -4,18 +4,18 @@ use Rattle.std.specs.Prelude.{◌≡◌, ◌≢◌, ◌⊎◌, ℕ, ◌<◌, Lis
 use Rattle.std.proofs.Common.{ap, sym, ◌∙◌}
 use Rattle.std.proofs.lemmas.List.Quantifiers.{position-Some}
 use Rattle.std.proofs.lemmas.Option.{option_and_then_some, same_Some}
-use Rattle.disk_lines.specs.declared.Inode.{Inode}
-use Rattle.disk_lines.specs.declared.Kind.{Kind}
-use Rattle.disk_lines.specs.declared.Kind.TheVariants.{Free, Directory, File, Staging}
-use Rattle.disk_lines.specs.Lines.{NameRow}
-use Rattle.disk_lines.specs.Names.{Rows, row, is_entry, child_of_row, line_and_child, first_row_from, find_name, free_line}
-use Rattle.disk_lines.specs.RowLaws.{first_row-is}
-use Rattle.disk_lines.specs.TableLaws.{is_entry-parts}
+use Rattle.volume_uses.specs.disk_lines.declared.Inode.{Inode}
+use Rattle.volume_uses.specs.disk_lines.declared.Kind.{Kind}
+use Rattle.volume_uses.specs.disk_lines.declared.Kind.TheVariants.{Free, Directory, File, Staging}
+use Rattle.volume_uses.specs.disk_lines.Lines.{NameRow}
+use Rattle.volume_uses.specs.disk_lines.Names.{Rows, row, is_entry, child_of_row, line_and_child, first_row_from, find_name, free_line}
+use Rattle.volume_uses.specs.disk_lines.RowLaws.{first_row-is}
+use Rattle.volume_uses.specs.disk_lines.TableLaws.{is_entry-parts}
 use Rattle.volume_uses.specs.disk_rules.Kept.{AreKept}
 use Rattle.volume_uses.specs.disk_rules.Volume.{Volume, free_inode}
 use Rattle.volume_names.specs.k_rules.Changes.{made, unnamed, removed, renamed, renamed_over_file, renamed_over_directory}
 use Rattle.volume_names.specs.k_rules.Spaces.{is_free, volume_space}
-use Rattle.posix_words.specs.Names.{directory_path, last_name, has_entries as has_entries_in}
+use Rattle.volume_names.specs.posix_words.Names.{directory_path, last_name, has_entries as has_entries_in}
 use Rattle.volume_changes.specs.CallLaws.{IsKeptVolume, row_to, may-make, may-unname, may-remove, may-rename, may-rename-over_file, may-rename-over_directory}
 use Rattle.volume_changes.specs.NameLaws.{made-keeps, unnamed-keeps, removed-keeps, renamed-keeps}
 use Rattle.volume_changes.specs.OverLaws.{renamed_over_file-keeps, renamed_over_directory-keeps}

@@ -1,9 +1,9 @@
 -- Each change leaves all inodes, chains, maps and rows as they were but those that it names.
 use Rattle.std.specs.Prelude.{◌≡◌, ◌≢◌, ℕ, ◌<◌, [], ◌∷◌, length, slice_set, slice_index_or, Some, None, refl}
 use Rattle.std.proofs.Common.{◌∙◌}
-use Rattle.disk_lines.specs.declared.Inode.{Inode}
-use Rattle.disk_lines.specs.declared.Kind.{Kind}
-use Rattle.disk_lines.specs.Lines.{NameRow}
+use Rattle.volume_uses.specs.disk_lines.declared.Inode.{Inode}
+use Rattle.volume_uses.specs.disk_lines.declared.Kind.{Kind}
+use Rattle.volume_uses.specs.disk_lines.Lines.{NameRow}
 use Rattle.volume_uses.specs.disk_rules.Volume.{Volume, inode, chain, extents, free_inode}
 use Rattle.volume_names.specs.k_rules.Changes.{new_node, gone_node, made, unnamed, removed, renamed, renamed_over_file, renamed_over_directory, dropped}
 use Rattle.volume_changes.specs.Frames.{LeavesOthers}

@@ -1,6 +1,6 @@
 -- What a change of a volume leaves as it was.
 use Rattle.std.specs.Prelude.{◌≡◌, ◌≢◌, ℕ, List, [], ◌∷◌}
-use Rattle.disk_lines.specs.Names.{row}
+use Rattle.volume_uses.specs.disk_lines.Names.{row}
 use Rattle.volume_uses.specs.disk_rules.Volume.{Volume, inode, chain, extents}
 
 -- the number is none of these

@@ -1,14 +1,14 @@
 -- The chief laws of the changes of a volume, each as one statement.
 use Rattle.std.specs.Prelude.{◌≡◌, ◌⊎◌, ◌≢◌, ◌<◌, ◌≤◌, ℕ, ◌+◌, ◌%◌, ◌^◌, List, [], ◌∷◌, length, All, true, false, slice_index_or, Some}
-use Rattle.disk_places.specs.Places.{is_data_block}
-use Rattle.extent_words.specs.declared.Extent.{Extent}
-use Rattle.disk_lines.specs.declared.Inode.{Inode}
-use Rattle.disk_lines.specs.declared.Kind.{Kind}
-use Rattle.disk_lines.specs.declared.Kind.TheVariants.{Free, Directory, File}
-use Rattle.disk_lines.specs.Fresh.{empty_inode}
-use Rattle.disk_lines.specs.Lines.{NameRow}
-use Rattle.disk_lines.specs.Names.{row, child_named, find_name, free_line, has_entries, names_of, up}
-use Rattle.disk_lines.specs.Tables.{IsKeyed}
+use Rattle.volume_uses.specs.disk_places.Places.{is_data_block}
+use Rattle.volume_uses.specs.extent_words.declared.Extent.{Extent}
+use Rattle.volume_uses.specs.disk_lines.declared.Inode.{Inode}
+use Rattle.volume_uses.specs.disk_lines.declared.Kind.{Kind}
+use Rattle.volume_uses.specs.disk_lines.declared.Kind.TheVariants.{Free, Directory, File}
+use Rattle.volume_uses.specs.disk_lines.Fresh.{empty_inode}
+use Rattle.volume_uses.specs.disk_lines.Lines.{NameRow}
+use Rattle.volume_uses.specs.disk_lines.Names.{row, child_named, find_name, free_line, has_entries, names_of, up}
+use Rattle.volume_uses.specs.disk_lines.Tables.{IsKeyed}
 use Rattle.volume_uses.specs.disk_rules.Kept.{AreKept}
 use Rattle.volume_uses.specs.disk_rules.Live.{is_directory}
 use Rattle.volume_uses.specs.disk_rules.Reading.{inode_set, row_set}
@@ -18,7 +18,7 @@ use Rattle.volume_uses.specs.disk_rules.Volume.{Volume, inode, free_inode}
 use Rattle.volume_names.specs.k_rules.Changes.{made, unnamed, removed, renamed, renamed_over_file, renamed_over_directory, dropped}
 use Rattle.volume_names.specs.k_rules.Spaces.{volume_space}
 use Rattle.volume_names.specs.name_facts.KeptLaws.{HasAllLines}
-use Rattle.posix_words.specs.Names.{directory_path, last_name, has_entries as has_entries_in}
+use Rattle.volume_names.specs.posix_words.Names.{directory_path, last_name, has_entries as has_entries_in}
 use Rattle.volume_changes.specs.CallLaws.{IsKeptVolume, row_to}
 use Rattle.volume_changes.specs.Changes.{MayMake, MayRename, MayRenameOverFile, MayRenameOverDirectory}
 use Rattle.volume_changes.specs.FoundLaws.{IsLowestFree}

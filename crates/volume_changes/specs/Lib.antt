@@ -19,3 +19,8 @@ pub use Rattle.volume_names.specs.k_rules as k_rules
 pub use Rattle.volume_uses.specs.chain_facts as chain_facts
 pub use Rattle.volume_uses.specs.disk_rules as disk_rules
 pub use Rattle.volume_uses.specs.volume_facts as volume_facts
+pub use Rattle.volume_uses.specs.disk_lines as disk_lines
+pub use Rattle.volume_uses.specs.disk_places as disk_places
+pub use Rattle.volume_uses.specs.extent_facts as extent_facts
+pub use Rattle.volume_uses.specs.extent_words as extent_words
+pub use Rattle.volume_uses.specs.pm_words as pm_words

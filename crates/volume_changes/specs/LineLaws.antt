@@ -2,9 +2,9 @@
 use Rattle.std.specs.Prelude.{ℕ, List, Option}
 use Rattle.std.proofs.Common.{sym, ◌∙◌}
 use Rattle.std.proofs.lemmas.List.{length-set}
-use Rattle.extent_words.specs.declared.Extent.{Extent}
-use Rattle.disk_lines.specs.declared.Inode.{Inode}
-use Rattle.disk_lines.specs.Lines.{NameRow}
+use Rattle.volume_uses.specs.extent_words.declared.Extent.{Extent}
+use Rattle.volume_uses.specs.disk_lines.declared.Inode.{Inode}
+use Rattle.volume_uses.specs.disk_lines.Lines.{NameRow}
 use Rattle.volume_uses.specs.disk_rules.Reading.{inode_set, node_set, row_set}
 use Rattle.volume_uses.specs.disk_rules.Volume.{Volume}
 use Rattle.volume_names.specs.name_facts.KeptLaws.{HasAllLines}

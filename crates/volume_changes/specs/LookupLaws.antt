@@ -2,10 +2,10 @@
 use Rattle.std.specs.Prelude.{◌≡◌, ◌≢◌, ◌⊎◌, ℕ, ◌<◌, List, length, true, false, cond, slice_set, Option, Some, None, option_and_then, refl}
 use Rattle.std.proofs.Common.{ap, sym, ◌∙◌, subst, inl, inr}
 use Rattle.std.proofs.lemmas.Bool.{cases_eq, cases_Bool, cond-true, cond-false, false_from_ne_true}
-use Rattle.disk_lines.specs.Lines.{NameRow}
-use Rattle.disk_lines.specs.Names.{Rows, row, is_entry, line_and_child, child_named}
-use Rattle.disk_lines.specs.TableLaws.{is_entry-own, is_entry-parts}
-use Rattle.disk_lines.specs.Tables.{IsKeyed}
+use Rattle.volume_uses.specs.disk_lines.Lines.{NameRow}
+use Rattle.volume_uses.specs.disk_lines.Names.{Rows, row, is_entry, line_and_child, child_named}
+use Rattle.volume_uses.specs.disk_lines.TableLaws.{is_entry-own, is_entry-parts}
+use Rattle.volume_uses.specs.disk_lines.Tables.{IsKeyed}
 use Rattle.volume_names.specs.name_facts.RowLaws.{first_row-nothing, row-below}
 use Rattle.volume_names.specs.name_facts.SetLaws.{keyed-freed, row-freed, child_named-past, child_named-set, child_named-taken, child_named-freed, child_named-freed_other}
 use Rattle.volume_uses.specs.volume_facts.Changes.{row-set_same, row-set_other}

@@ -3,10 +3,10 @@ use Rattle.std.specs.Prelude.{◌≡◌, ℕ, ◌+◌, ◌<◌, ◌≤◌, List,
 use Rattle.std.proofs.Common.{arith, ap, sym, ◌∙◌, subst, inl, inr}
 use Rattle.std.proofs.lemmas.Bool.{cases_eq, both_ways, eq-eqb}
 use Rattle.std.proofs.lemmas.List.Elements.{All-nil}
-use Rattle.disk_places.specs.Places.{is_data_block}
-use Rattle.extent_words.specs.declared.Extent.{Extent}
-use Rattle.disk_lines.specs.declared.Inode.{Inode}
-use Rattle.disk_lines.specs.Names.{row, is_child}
+use Rattle.volume_uses.specs.disk_places.Places.{is_data_block}
+use Rattle.volume_uses.specs.extent_words.declared.Extent.{Extent}
+use Rattle.volume_uses.specs.disk_lines.declared.Inode.{Inode}
+use Rattle.volume_uses.specs.disk_lines.Names.{row, is_child}
 use Rattle.volume_uses.specs.disk_rules.Kept.{AreKept}
 use Rattle.volume_uses.specs.disk_rules.Live.{is_directory}
 use Rattle.volume_uses.specs.disk_rules.Reading.{inode_set, node_set, base_set}

@@ -2,9 +2,9 @@
 use Rattle.std.specs.Prelude.{◌≡◌, ◌≢◌, ◌⊎◌, ℕ, ◌<◌, ◌≤◌, length, true, false, slice_set, slice_index_or, Some, None, refl}
 use Rattle.std.proofs.Common.{arith, ap, sym, ◌∙◌, subst, inl, inr}
 use Rattle.std.proofs.lemmas.Bool.{cases_eq, both_ways, eq-eqb, ne_eqb}
-use Rattle.disk_lines.specs.declared.Kind.{Kind}
-use Rattle.disk_lines.specs.Lines.{NameRow}
-use Rattle.disk_lines.specs.Names.{row, is_child, names_of, has_entries}
+use Rattle.volume_uses.specs.disk_lines.declared.Kind.{Kind}
+use Rattle.volume_uses.specs.disk_lines.Lines.{NameRow}
+use Rattle.volume_uses.specs.disk_lines.Names.{row, is_child, names_of, has_entries}
 use Rattle.volume_uses.specs.disk_rules.Kept.{AreKept}
 use Rattle.volume_uses.specs.disk_rules.Live.{is_directory, is_file}
 use Rattle.volume_uses.specs.disk_rules.Reading.{node_set, row_set}

@@ -2,11 +2,11 @@
 use Rattle.std.specs.Prelude.{◌≡◌, ◌≢◌, ◌⊎◌, ℕ, ◌<◌, ◌≤◌, length, All, true, false, slice_set, slice_index_or, Option, Some, None, refl}
 use Rattle.std.proofs.Common.{ap, sym, ◌∙◌, subst, inl, inr}
 use Rattle.std.proofs.lemmas.Bool.{cases_eq, both_ways, ne_eqb}
-use Rattle.disk_lines.specs.declared.Inode.{Inode}
-use Rattle.disk_lines.specs.declared.Kind.{Kind}
-use Rattle.disk_lines.specs.declared.Kind.TheVariants.{Free, Directory, File, Staging}
-use Rattle.disk_lines.specs.Lines.{NameRow}
-use Rattle.disk_lines.specs.Names.{row, is_child, is_below_parent, names_of, has_entries}
+use Rattle.volume_uses.specs.disk_lines.declared.Inode.{Inode}
+use Rattle.volume_uses.specs.disk_lines.declared.Kind.{Kind}
+use Rattle.volume_uses.specs.disk_lines.declared.Kind.TheVariants.{Free, Directory, File, Staging}
+use Rattle.volume_uses.specs.disk_lines.Lines.{NameRow}
+use Rattle.volume_uses.specs.disk_lines.Names.{row, is_child, is_below_parent, names_of, has_entries}
 use Rattle.volume_uses.specs.disk_rules.Live.{is_directory, is_file}
 use Rattle.volume_uses.specs.disk_rules.Reading.{node_set}
 use Rattle.volume_uses.specs.disk_rules.Rules.{IsKindAt, IsInData, file_blocks_of}

@@ -2,11 +2,11 @@
 -- rename to a new name.
 use Rattle.std.specs.Prelude.{◌≡◌, ◌≢◌, ℕ, List, true, false, slice_set, slice_index_or, Some, None, refl}
 use Rattle.std.proofs.Common.{ap, sym, ◌∙◌, subst}
-use Rattle.extent_words.specs.declared.Extent.{Extent}
-use Rattle.disk_lines.specs.declared.Inode.{Inode}
-use Rattle.disk_lines.specs.Lines.{NameRow}
-use Rattle.disk_lines.specs.Names.{row, is_entry, has_entries, up}
-use Rattle.disk_lines.specs.TableLaws.{is_entry-own, is_entry-parts}
+use Rattle.volume_uses.specs.extent_words.declared.Extent.{Extent}
+use Rattle.volume_uses.specs.disk_lines.declared.Inode.{Inode}
+use Rattle.volume_uses.specs.disk_lines.Lines.{NameRow}
+use Rattle.volume_uses.specs.disk_lines.Names.{row, is_entry, has_entries, up}
+use Rattle.volume_uses.specs.disk_lines.TableLaws.{is_entry-own, is_entry-parts}
 use Rattle.volume_uses.specs.disk_rules.Kept.{AreKept}
 use Rattle.volume_uses.specs.disk_rules.Live.{is_directory}
 use Rattle.volume_uses.specs.disk_rules.Reading.{row_set}

@@ -1,14 +1,14 @@
 -- What the rules say of the names of a volume, but that each directory has a name: of any table, whatever its length.
 use Rattle.std.specs.Prelude.{◌≡◌, ℕ, ◌<◌, ◌≤◌, All, true, Option, Some, None, refl}
 use Rattle.std.proofs.Common.{arith, subst}
-use Rattle.disk_lines.specs.Lines.{NameRow}
-use Rattle.disk_lines.specs.Names.{Rows, row, is_entry, names_of, up}
-use Rattle.disk_lines.specs.TableLaws.{is_entry-own}
+use Rattle.volume_uses.specs.disk_lines.Lines.{NameRow}
+use Rattle.volume_uses.specs.disk_lines.Names.{Rows, row, is_entry, names_of, up}
+use Rattle.volume_uses.specs.disk_lines.TableLaws.{is_entry-own}
 use Rattle.volume_uses.specs.disk_rules.Kept.{IsNamedRow, AreKept}
 use Rattle.volume_uses.specs.disk_rules.Live.{is_directory}
 use Rattle.volume_uses.specs.disk_rules.Rules.{IsKindAt, IsNamed, IsNamedOnce, IsInData, IsRowPlaced, file_blocks_of}
 use Rattle.volume_uses.specs.disk_rules.Volume.{Volume, inode, extents}
-use Rattle.disk_places.specs.Places.{is_data_block}
+use Rattle.volume_uses.specs.disk_places.Places.{is_data_block}
 use Rattle.volume_names.specs.name_facts.Forests.{IsForest}
 use Rattle.volume_names.specs.name_facts.KeptLaws.{HasAllLines, kept-placed, kept-named, kept-keyed, kept-one_name, kept-ends}
 

@@ -2,10 +2,10 @@
 use Rattle.std.specs.Prelude.{◌≡◌, ◌≢◌, ◌⊎◌, ℕ, suc, ◌+◌, ◌<◌, List, length, true, false, slice_set, slice_index_or, Some, None}
 use Rattle.std.proofs.Common.{arith, ap, sym, ◌∙◌, subst, inl, inr}
 use Rattle.std.proofs.lemmas.Bool.{cases_eq, ne_eqb}
-use Rattle.extent_words.specs.declared.Extent.{Extent}
-use Rattle.disk_lines.specs.declared.Inode.{Inode}
-use Rattle.disk_lines.specs.Lines.{NameRow}
-use Rattle.disk_lines.specs.Names.{Rows, row, is_entry, names_of, has_entries, parent_of, up}
+use Rattle.volume_uses.specs.extent_words.declared.Extent.{Extent}
+use Rattle.volume_uses.specs.disk_lines.declared.Inode.{Inode}
+use Rattle.volume_uses.specs.disk_lines.Lines.{NameRow}
+use Rattle.volume_uses.specs.disk_lines.Names.{Rows, row, is_entry, names_of, has_entries, parent_of, up}
 use Rattle.volume_uses.specs.disk_rules.Live.{is_directory, is_file}
 use Rattle.volume_uses.specs.disk_rules.Reading.{row_set}
 use Rattle.volume_uses.specs.disk_rules.Rules.{IsNamed}

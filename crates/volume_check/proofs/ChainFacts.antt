@@ -1,11 +1,11 @@
 -- Chains in data blocks: the journal does not change them, so that the device has the chains of the view.
 use Rattle.std.proofs.Common.{◌≡◌, ℕ, ◌+◌, ◌*◌, ◌<◌, ◌^◌, true, List, All, sym, ◌∙◌, ap, subst}
-use Rattle.pm_words.specs.Words.{Words}
-use Rattle.disk_places.specs.Journal.{journaled, IsSound}
-use Rattle.disk_places.specs.Places.{Geometry, is_data_block}
-use Rattle.disk_places.specs.PlaceLaws.{behind_log-words}
-use Rattle.extent_words.specs.declared.Extent.{Extent}
-use Rattle.disk_lines.specs.declared.Inode.{Inode}
+use Rattle.k_journal.specs.pm_words.Words.{Words}
+use Rattle.k_journal.specs.disk_places.Journal.{journaled, IsSound}
+use Rattle.k_journal.specs.disk_places.Places.{Geometry, is_data_block}
+use Rattle.k_journal.specs.disk_places.PlaceLaws.{behind_log-words}
+use Rattle.k_reading.specs.extent_words.declared.Extent.{Extent}
+use Rattle.k_reading.specs.disk_lines.declared.Inode.{Inode}
 use Rattle.k_reading.specs.disk_rules.Placed.{block_at}
 use Rattle.k_reading.specs.disk_rules.Rules.{file_blocks_of, IsInData, HasChain}
 use Rattle.k_reading.specs.disk_rules.Standing.{IsChain, HasNoChain}

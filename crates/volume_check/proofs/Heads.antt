@@ -1,10 +1,10 @@
 -- Rules with one place, and the head's rules as they are tried.
 use Rattle.std.proofs.Common.{◌≡◌, ℕ, ◌*◌, ◌<◌, ◌≤◌, ◌/◌, ◌%◌, ◌⊎◌, true, false, List, ◌++◌, refl, sym, ap, ◌∙◌, arith, inl, inr}
 use Rattle.std.proofs.lemmas.Bool.{both_ways}
-use Rattle.pm_words.specs.Words.{Words, line_bytes}
-use Rattle.disk_places.specs.Journal.{committed, record_target}
-use Rattle.disk_places.specs.Places.{Geometry, is_journaled_line}
-use Rattle.disk_places.specs.Superblock.{has_magic, has_version, has_numbers}
+use Rattle.k_journal.specs.pm_words.Words.{Words, line_bytes}
+use Rattle.k_journal.specs.disk_places.Journal.{committed, record_target}
+use Rattle.k_journal.specs.disk_places.Places.{Geometry, is_journaled_line}
+use Rattle.k_journal.specs.disk_places.Superblock.{has_magic, has_version, has_numbers}
 use Rattle.k_reading.specs.disk_rules.Broken.{at_one, below, Holds, HoldAll, FailsFirst, BreaksFirst, head_rules}
 use Rattle.k_reading.specs.disk_rules.Checked.{HasHead}
 use Rattle.k_reading.specs.disk_rules.Rules.{geometry_of, IsWholeBlocks, HasMagic, HasVersion, HasNumbers, HasTarget, HasState}

@@ -4,11 +4,11 @@ use Rattle.std.proofs.lemmas.Option.{same_Some}
 use Rattle.std.proofs.lemmas.List.FromFn.{length-map-range_with_len}
 use Rattle.std.proofs.Common.{List, length}
 use Rattle.std.specs.Prelude.{slice_index_or}
-use Rattle.pm_words.specs.Words.{Words}
-use Rattle.disk_places.specs.Places.{Geometry}
-use Rattle.disk_lines.specs.declared.Inode.{Inode}
-use Rattle.disk_lines.specs.Lines.{NameRow, NameSlot}
-use Rattle.disk_lines.specs.Names.{row}
+use Rattle.k_journal.specs.pm_words.Words.{Words}
+use Rattle.k_journal.specs.disk_places.Places.{Geometry}
+use Rattle.k_reading.specs.disk_lines.declared.Inode.{Inode}
+use Rattle.k_reading.specs.disk_lines.Lines.{NameRow, NameSlot}
+use Rattle.k_reading.specs.disk_lines.Names.{row}
 use Rattle.k_reading.specs.disk_rules.Chains.{chain_of, map_of}
 use Rattle.k_reading.specs.disk_rules.Rules.{IsKindAt, HasInode}
 use Rattle.k_reading.specs.disk_rules.Volume.{volume, inode_at, name_at, row_of, free_inode, inode_or_free, inode}

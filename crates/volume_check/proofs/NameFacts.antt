@@ -5,9 +5,9 @@ use Rattle.std.proofs.Math.ListN.{set}
 use Rattle.std.proofs.Math.Seq.{drop-cons}
 use Rattle.std.proofs.lemmas.Bool.{cases_eq, cases_lt, eq-eqb, ne_eqb, both_ways}
 use Rattle.std.proofs.lemmas.List.{get_or_default, get_or_past, get_or-set_same, get_or-set_other}
-use Rattle.disk_lines.specs.Lines.{NameRow}
-use Rattle.disk_lines.specs.Names.{Rows, row, is_entry, is_child, parent_of_row, first_row_from, parent_of, holds_above, ends_at_root}
-use Rattle.disk_lines.specs.TableLaws.{is_entry-own, is_entry-parts}
+use Rattle.k_reading.specs.disk_lines.Lines.{NameRow}
+use Rattle.k_reading.specs.disk_lines.Names.{Rows, row, is_entry, is_child, parent_of_row, first_row_from, parent_of, holds_above, ends_at_root}
+use Rattle.k_reading.specs.disk_lines.TableLaws.{is_entry-own, is_entry-parts}
 use Rattle.k_reading.specs.disk_rules.Live.{is_directory}
 use Rattle.k_reading.specs.disk_rules.Rules.{IsPlaced}
 use Rattle.k_reading.specs.disk_rules.Volume.{Volume, inode}

@@ -3,14 +3,14 @@ use Rattle.std.proofs.Common.{◌≡◌, ℕ, ◌<◌, ◌⊎◌, List, [], ◌�
 use Rattle.std.specs.Prelude.{slice_index_or, Result, Ok, Err, IfOk, IfErr, OnOk}
 use Rattle.std.proofs.lemmas.Bool.{cases_lt, both_ways}
 use Rattle.std.proofs.lemmas.List.{get_or_default, get_or_past}
-use Rattle.pm_words.specs.Words.{Words}
-use Rattle.disk_places.specs.Journal.{journaled}
-use Rattle.disk_places.specs.Places.{Geometry, IsGeometry, base_word, first_data, data_blocks, is_data_block}
+use Rattle.k_journal.specs.pm_words.Words.{Words}
+use Rattle.k_journal.specs.disk_places.Journal.{journaled}
+use Rattle.k_journal.specs.disk_places.Places.{Geometry, IsGeometry, base_word, first_data, data_blocks, is_data_block}
 use Rattle.k_reading.specs.block_pool.FreeSets.{LiesWithin}
-use Rattle.extent_words.specs.declared.Extent.{Extent}
-use Rattle.disk_lines.specs.declared.Inode.{Inode}
-use Rattle.disk_lines.specs.Lines.{NameSlot, FreeName, Named, BadName}
-use Rattle.disk_lines.specs.Names.{Rows, row}
+use Rattle.k_reading.specs.extent_words.declared.Extent.{Extent}
+use Rattle.k_reading.specs.disk_lines.declared.Inode.{Inode}
+use Rattle.k_reading.specs.disk_lines.Lines.{NameSlot, FreeName, Named, BadName}
+use Rattle.k_reading.specs.disk_lines.Names.{Rows, row}
 use Rattle.k_reading.specs.disk_rules.Broken.{Rule, Holds, HoldAll, FailsFirst, BreaksFirst, line_rules, volume_rules, head_rules}
 use Rattle.k_reading.specs.disk_rules.Checked.{HasHead}
 use Rattle.k_reading.specs.disk_rules.Live.{is_file, is_directory}

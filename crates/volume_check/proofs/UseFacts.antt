@@ -6,11 +6,11 @@ use Rattle.std.proofs.lemmas.Bool.{eq-eqb, ne_eqb}
 use Rattle.std.proofs.lemmas.List.{ext_get_or}
 use Rattle.std.proofs.lemmas.List.FromFn.{length-map-range_with_len, get_or-map-range_with_len}
 use Rattle.std.proofs.lemmas.List.Sums.{sum_by-cons}
-use Rattle.disk_places.specs.Places.{Geometry, first_data, data_blocks}
-use Rattle.extent_facts.specs.Counts.{one_if}
-use Rattle.extent_words.specs.declared.Extent.{Extent}
-use Rattle.disk_lines.specs.declared.Inode.{Inode}
-use Rattle.disk_lines.specs.Names.{Rows, row, names_of}
+use Rattle.k_journal.specs.disk_places.Places.{Geometry, first_data, data_blocks}
+use Rattle.k_reading.specs.extent_facts.Counts.{one_if}
+use Rattle.k_reading.specs.extent_words.declared.Extent.{Extent}
+use Rattle.k_reading.specs.disk_lines.declared.Inode.{Inode}
+use Rattle.k_reading.specs.disk_lines.Names.{Rows, row, names_of}
 use Rattle.k_reading.specs.disk_rules.Broken.{below, Holds, HoldAll, FailsFirst, BreaksFirst}
 use Rattle.k_reading.specs.disk_rules.Rules.{IsRowPlaced, HasOneName, AreDirectoriesNamed}
 use Rattle.k_reading.specs.disk_rules.Room.{has_none, unused_blocks}

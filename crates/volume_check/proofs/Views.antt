@@ -1,9 +1,9 @@
 -- Lines of the journaled view, read from the device.
 use Rattle.std.proofs.Common.{◌≡◌, ℕ, ◌+◌, ◌*◌, ◌/◌, ◌%◌, ◌<◌, false, sym, ◌∙◌, ap, arith, lit<, add-zero}
 use Rattle.std.proofs.lemmas.Bool.{cond-false}
-use Rattle.pm_words.specs.Words.{Words, line_bytes}
-use Rattle.disk_places.specs.Journal.{is_journal_word, journaled, patched, committed, record_target, record_word}
-use Rattle.disk_places.specs.Places.{record_line}
+use Rattle.k_journal.specs.pm_words.Words.{Words, line_bytes}
+use Rattle.k_journal.specs.disk_places.Journal.{is_journal_word, journaled, patched, committed, record_target, record_word}
+use Rattle.k_journal.specs.disk_places.Places.{record_line}
 use Rattle.k_journal.specs.Patches.{patched-last, patched-skip, patched-none}
 
 -- After n records the words of the line are those of line `source` of the device.

@@ -1,7 +1,7 @@
 -- The tables that the tree of names is checked with.
 use Rattle.std.specs.Prelude.{◌≡◌, ◌≢◌, ℕ, ◌<◌, List, length, Option, Some, None, slice_index_or}
-use Rattle.disk_lines.specs.Lines.{NameRow}
-use Rattle.disk_lines.specs.Names.{Rows, row, parent_of}
+use Rattle.k_reading.specs.disk_lines.Lines.{NameRow}
+use Rattle.k_reading.specs.disk_lines.Names.{Rows, row, parent_of}
 use Rattle.k_reading.specs.disk_rules.Broken.{Rule, below}
 use Rattle.k_reading.specs.disk_rules.Rules.{IsRowPlaced, HasOneName}
 use Rattle.k_reading.specs.disk_rules.Volume.{Volume}

@@ -1,8 +1,8 @@
 -- The rules of the head, in parts.
 use Rattle.std.specs.Prelude.{◌≡◌, ℕ, List, [], ◌∷◌, true}
-use Rattle.pm_words.specs.Words.{Words}
-use Rattle.disk_places.specs.Places.{Geometry}
-use Rattle.disk_places.specs.Superblock.{has_magic, has_version, has_numbers}
+use Rattle.k_journal.specs.pm_words.Words.{Words}
+use Rattle.k_journal.specs.disk_places.Places.{Geometry}
+use Rattle.k_journal.specs.disk_places.Superblock.{has_magic, has_version, has_numbers}
 use Rattle.k_reading.specs.disk_rules.Broken.{Rule, at_one, below}
 use Rattle.k_reading.specs.disk_rules.Rules.{HasMagic, HasVersion, HasNumbers, HasTarget, HasState}
 

@@ -1,7 +1,7 @@
 -- The rules of the lines, for a geometry and the words of the view.
 use Rattle.std.specs.Prelude.{◌≡◌, ◌⊎◌, ℕ, true}
-use Rattle.pm_words.specs.Words.{Words}
-use Rattle.disk_places.specs.Places.{Geometry}
+use Rattle.k_journal.specs.pm_words.Words.{Words}
+use Rattle.k_journal.specs.disk_places.Places.{Geometry}
 use Rattle.k_reading.specs.disk_rules.Broken.{Rule, below}
 use Rattle.k_reading.specs.disk_rules.Live.{is_file, is_directory}
 use Rattle.k_reading.specs.disk_rules.Rules.{HasInode, IsNameSlot, HasChain}

@@ -1,8 +1,8 @@
 -- Marks: of each place whether it has no use, one, or more.
 use Rattle.std.specs.Prelude.{◌≡◌, ℕ, ◌+◌, ◌<◌, ◌≤◌, ◌==◌, min, List, length, slice_index, sum_by}
 use Rattle.std.specs.List.{count_by}
-use Rattle.extent_words.specs.declared.Extent.{Extent}
-use Rattle.extent_words.specs.Extents.{holds_disk}
+use Rattle.k_reading.specs.extent_words.declared.Extent.{Extent}
+use Rattle.k_reading.specs.extent_words.Extents.{holds_disk}
 
 -- the marks are those of places with so many uses
 pub record AreMarks (marks : List ℕ) (uses : ℕ → ℕ) : Type 0 where

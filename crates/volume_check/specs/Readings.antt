@@ -1,11 +1,11 @@
 -- The tables of a volume, as they are read and checked.
 use Rattle.std.specs.Prelude.{◌≡◌, ℕ, ◌+◌, List, [], ◌∷◌, ◌++◌, length}
-use Rattle.pm_words.specs.Words.{Words}
-use Rattle.disk_places.specs.Journal.{journaled}
-use Rattle.disk_places.specs.Places.{Geometry, first_data, data_blocks}
-use Rattle.extent_words.specs.declared.Extent.{Extent}
-use Rattle.disk_lines.specs.declared.Inode.{Inode}
-use Rattle.disk_lines.specs.Names.{Rows, row, names_of}
+use Rattle.k_journal.specs.pm_words.Words.{Words}
+use Rattle.k_journal.specs.disk_places.Journal.{journaled}
+use Rattle.k_journal.specs.disk_places.Places.{Geometry, first_data, data_blocks}
+use Rattle.k_reading.specs.extent_words.declared.Extent.{Extent}
+use Rattle.k_reading.specs.disk_lines.declared.Inode.{Inode}
+use Rattle.k_reading.specs.disk_lines.Names.{Rows, row, names_of}
 use Rattle.k_reading.specs.disk_rules.Broken.{Rule, at_one, below, head_rules, line_rules, volume_rules}
 use Rattle.k_reading.specs.disk_rules.Rules.{geometry_of, IsRowPlaced, AreDirectoriesNamed, HasOneName, IsNamedOnce}
 use Rattle.k_reading.specs.disk_rules.Uses.{owners}

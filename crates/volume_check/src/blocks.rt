@@ -1,10 +1,10 @@
 // Rule 8: how often each data block is named, one mark a block.
 ghost use Rattle.std.specs.Prelude.{◌≡◌, ◌+◌, ◌<◌, ◌≤◌, ◌==◌, ◌^◌, ℕ, length, All, IfOk, MatchOption};
 ghost use Rattle.std.specs.List.{count_by};
-ghost use Rattle.extent_facts.specs.Counts.{one_if};
-ghost use Rattle.extent_words.specs.Extents.{holds_disk, is_within};
+ghost use Rattle.k_reading.specs.extent_facts.Counts.{one_if};
+ghost use Rattle.k_reading.specs.extent_words.Extents.{holds_disk, is_within};
 ghost use Rattle.k_reading.specs.block_pool.FreeSets.{LiesWithin};
-ghost use Rattle.disk_places.specs.Places.{first_data, data_blocks};
+ghost use Rattle.k_journal.specs.disk_places.Places.{first_data, data_blocks};
 ghost use Rattle.k_reading.specs.disk_rules.Room.{unused_blocks};
 ghost use Rattle.k_reading.specs.disk_rules.Volume.{Volume};
 ghost use Rattle.volume_check.specs.Marks.{AreMarks, LiesAt, AreFew, IsFirstTwice, chain_uses, map_uses, uses_in};
@@ -12,7 +12,7 @@ ghost use Rattle.k_reading.specs.Pools.{AreInData};
 ghost use Rattle.volume_check.specs.Readings.{AreUseMarks};
 
 use extent_map::{Extent, ExtentMap};
-use k_journal::image_layout::Geometry;
+use k_journal::Geometry;
 use k_reading::Blocks;
 use std::alloc::{AllocError, Global};
 

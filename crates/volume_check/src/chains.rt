@@ -1,20 +1,18 @@
 // Rule 7: the chains and the maps. Their blocks are data blocks, which the journal does not change.
 ghost use Rattle.std.specs.Prelude.{◌≡◌, ◌↔◌, ◌*◌, ℕ, length, true, All, IsTrue, IfOk, IfErr, IfSome, IfNone, OnOk};
 ghost use Rattle.k_reading.specs.chain_facts.RuleLaws.{IsOfWords};
-ghost use Rattle.disk_places.specs.Journal.{journaled, IsSound};
-ghost use Rattle.disk_places.specs.Places.{is_data_block};
+ghost use Rattle.k_journal.specs.disk_places.Journal.{journaled, IsSound};
+ghost use Rattle.k_journal.specs.disk_places.Places.{is_data_block};
 ghost use Rattle.k_reading.specs.disk_rules.Broken.{Holds, FailsFirst};
 ghost use Rattle.k_reading.specs.disk_rules.Rules.{file_blocks_of, IsInData, HasChain};
 ghost use Rattle.k_reading.specs.disk_rules.Volume.{Volume, volume, inode, chain, extents};
 ghost use Rattle.volume_check.specs.LineRules.{chains_rule};
-ghost use Rattle.pm_words.specs.Cells.{AllHome};
-ghost use Rattle.pm_words.specs.Images.{words_of};
+ghost use Rattle.k_journal.specs.pm_words.Cells.{AllHome};
+ghost use Rattle.k_journal.specs.pm_words.Images.{words_of};
 
 use extent_map::Extent;
-use k_journal::image_layout::Geometry;
-use k_reading::k_inodes::{Inode, Kind};
-use k_reading::map_chain::{Chain, read};
-use k_reading::{Blocks, Maps};
+use k_journal::Geometry;
+use k_reading::{Blocks, Chain, Inode, Kind, Maps, read};
 use pm_lines::Pm;
 use std::alloc::{AllocError, Global};
 

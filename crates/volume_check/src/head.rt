@@ -1,19 +1,19 @@
 // Rules 1 to 4 and 11: the length, block 0 and the journal.
 ghost use Rattle.std.specs.Prelude.{◌≡◌, ◌≢◌, ◌↔◌, ◌+◌, ◌*◌, ◌/◌, ◌%◌, ◌^◌, ◌<◌, ◌≤◌, ℕ, true, false, length, IsTrue, OnOk, IfOk, IfErr, MatchOption};
-ghost use Rattle.disk_places.specs.Journal.{committed, journaled, record_target};
-ghost use Rattle.disk_places.specs.Places.{base_word, commit_word, state_line, is_journaled_line};
+ghost use Rattle.k_journal.specs.disk_places.Journal.{committed, journaled, record_target};
+ghost use Rattle.k_journal.specs.disk_places.Places.{base_word, commit_word, state_line, is_journaled_line};
 ghost use Rattle.k_reading.specs.disk_rules.Broken.{Holds, HoldAll, FailsFirst, below, head_rules};
 ghost use Rattle.k_reading.specs.disk_rules.Checked.{HasHead};
 ghost use Rattle.k_reading.specs.disk_rules.Rules.{geometry_of, IsWholeBlocks, HasMagic, HasVersion, HasNumbers, HasTarget, HasState};
 ghost use Rattle.volume_check.specs.Answers.{IsFirstOf};
 ghost use Rattle.volume_check.specs.Heads.{IsSuperKept, block_0_rules, journal_rules};
-ghost use Rattle.pm_words.specs.Cells.{AllHome};
-ghost use Rattle.pm_words.specs.Images.{words_of};
-ghost use Rattle.pm_words.specs.Words.{line_bytes};
+ghost use Rattle.k_journal.specs.pm_words.Cells.{AllHome};
+ghost use Rattle.k_journal.specs.pm_words.Images.{words_of};
+ghost use Rattle.k_journal.specs.pm_words.Words.{line_bytes};
 
 use crate::faults::BadImage;
 use crate::view::{committed, target_of, view_word};
-use k_journal::image_layout::{Geometry, SuperFault, read_superblock};
+use k_journal::{Geometry, SuperFault, read_superblock};
 use pm_lines::Pm;
 
 // The word of the log base.

@@ -26,9 +26,11 @@ mod volumes;
 
 pub use blocks::count_unused;
 pub use faults::{BadImage, CheckFault};
-pub use k_journal;
-pub use k_journal::image_layout;
-pub use k_reading;
-pub use k_reading::{block_pool, k_inodes, map_chain};
+pub use k_journal::journal::recover;
+pub use k_journal::{Batch, BatchFull, Commit, Geometry, Recovered, read_superblock};
+pub use k_reading::{
+    Inode, Kind, Maps, Pool, decode_inode, encode_inode, free_blocks, fresh_image, read, read_base,
+    read_inodes, read_maps, read_names, write,
+};
 pub use reading::{Tables, read_volume};
 pub use view::view_line;

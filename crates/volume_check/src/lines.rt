@@ -1,18 +1,17 @@
 // Rules 5 and 6: the inode lines and the name lines, as the journal makes them.
 ghost use Rattle.std.specs.Prelude.{◌≡◌, ◌↔◌, ◌*◌, ◌<◌, ℕ, length, IsTrue, IfOk, IfErr, IfSome, IfNone, OnOk};
-ghost use Rattle.disk_places.specs.Journal.{journaled};
+ghost use Rattle.k_journal.specs.disk_places.Journal.{journaled};
 ghost use Rattle.k_reading.specs.disk_rules.Broken.{Holds, FailsFirst};
 ghost use Rattle.k_reading.specs.disk_rules.Rules.{IsKindAt, IsNameSlot, HasInode};
 ghost use Rattle.k_reading.specs.disk_rules.Volume.{Volume, volume, inode_at, name_at, row_of};
 ghost use Rattle.volume_check.specs.LineRules.{IsNode, inodes_rule, names_rule};
 ghost use Rattle.k_reading.specs.k_names.Decoding.{slot_of};
-ghost use Rattle.pm_words.specs.Cells.{AllHome};
-ghost use Rattle.pm_words.specs.Images.{words_of};
+ghost use Rattle.k_journal.specs.pm_words.Cells.{AllHome};
+ghost use Rattle.k_journal.specs.pm_words.Images.{words_of};
 
 use crate::view::view_line;
-use k_journal::image_layout::Geometry;
-use k_reading::k_inodes::{Inode, Kind, decode_inode};
-use k_reading::k_names::{Decoded, NameLine, decode_name};
+use k_journal::Geometry;
+use k_reading::{Decoded, Inode, Kind, NameLine, decode_inode, decode_name};
 use pm_lines::Pm;
 use std::alloc::{AllocError, Global};
 

@@ -1,6 +1,6 @@
 // Rules 9 and 10: the names are a tree, and no node has two.
 ghost use Rattle.std.specs.Prelude.{◌≡◌, ◌↔◌, ◌+◌, ◌<◌, ℕ, length, slice_index_or, true, None, IsTrue, IfOk, MatchOption};
-ghost use Rattle.disk_lines.specs.Names.{Rows, is_entry, names_of, ends_at_root};
+ghost use Rattle.k_reading.specs.disk_lines.Names.{Rows, is_entry, names_of, ends_at_root};
 ghost use Rattle.k_reading.specs.disk_rules.Broken.{Holds, FailsFirst};
 ghost use Rattle.k_reading.specs.disk_rules.Live.{is_directory};
 ghost use Rattle.k_reading.specs.disk_rules.Rules.{IsPlaced, AreDirectoriesNamed};
@@ -9,8 +9,7 @@ ghost use Rattle.volume_check.specs.Above.{HaveChildrenBelow, IsAbove, IsOnly, r
 ghost use Rattle.volume_check.specs.Marks.{AreMarks};
 
 use crate::blocks::mark;
-use k_reading::k_inodes::{Inode, Kind};
-use k_reading::k_names::NameLine;
+use k_reading::{Inode, Kind, NameLine};
 use std::alloc::{AllocError, Global};
 
 // A directory is at most so many names below the root, that of its own name left out.

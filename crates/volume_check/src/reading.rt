@@ -1,12 +1,12 @@
 //! The tables of an image, as far as it keeps the rules before those of the log.
 ghost use Rattle.std.specs.Prelude.{◌≡◌, ◌*◌, ◌%◌, ◌^◌, ◌<◌, length, IfOk, IfErr, OnOk};
-ghost use Rattle.disk_places.specs.Journal.{journaled, IsSound};
+ghost use Rattle.k_journal.specs.disk_places.Journal.{journaled, IsSound};
 ghost use Rattle.k_reading.specs.disk_rules.Broken.{HoldAll, line_rules};
 ghost use Rattle.k_reading.specs.disk_rules.Checked.{HasHead};
 ghost use Rattle.k_reading.specs.disk_rules.Rules.{geometry_of};
 ghost use Rattle.k_reading.specs.disk_rules.Volume.{volume};
-ghost use Rattle.pm_words.specs.Cells.{AllHome};
-ghost use Rattle.pm_words.specs.Images.{words_of};
+ghost use Rattle.k_journal.specs.pm_words.Cells.{AllHome};
+ghost use Rattle.k_journal.specs.pm_words.Images.{words_of};
 ghost use Rattle.volume_check.specs.Answers.{IsFirstOf};
 ghost use Rattle.volume_check.specs.Readings.{AreOf, AreTables, body_rules, front_rules};
 
@@ -16,10 +16,8 @@ use crate::head::check_head;
 use crate::lines::{read_inodes, read_names};
 use crate::view::view_word;
 use crate::volumes::{check_blocks, check_tree};
-use k_journal::image_layout::Geometry;
-use k_reading::Maps;
-use k_reading::k_inodes::Inode;
-use k_reading::k_names::NameLine;
+use k_journal::Geometry;
+use k_reading::{Inode, Maps, NameLine};
 use pm_lines::Pm;
 use std::alloc::{AllocError, Global};
 

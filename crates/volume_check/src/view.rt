@@ -1,10 +1,10 @@
 // The device as its journal makes it, read line by line. Nothing is written.
 ghost use Rattle.std.specs.Prelude.{◌≡◌, ◌+◌, ◌*◌, ◌/◌, ◌%◌, ◌<◌, ◌≤◌, ℕ, false, length};
-ghost use Rattle.disk_places.specs.Journal.{is_journal_word, journaled, committed, record_target};
-ghost use Rattle.disk_places.specs.Places.{record_line};
-ghost use Rattle.pm_words.specs.Cells.{AllHome};
-ghost use Rattle.pm_words.specs.Images.{words_of};
-ghost use Rattle.pm_words.specs.Words.{line_bytes};
+ghost use Rattle.k_journal.specs.disk_places.Journal.{is_journal_word, journaled, committed, record_target};
+ghost use Rattle.k_journal.specs.disk_places.Places.{record_line};
+ghost use Rattle.k_journal.specs.pm_words.Cells.{AllHome};
+ghost use Rattle.k_journal.specs.pm_words.Images.{words_of};
+ghost use Rattle.k_journal.specs.pm_words.Words.{line_bytes};
 
 use pm_lines::Pm;
 

@@ -10,10 +10,8 @@ ghost use Rattle.volume_check.specs.Readings.{blocks_rule, tree_rules, AreUseMar
 use crate::blocks::{count_uses, first_twice};
 use crate::faults::BadImage;
 use crate::names::{are_directories_named, bad_row, count_names, parents_above};
-use k_journal::image_layout::Geometry;
-use k_reading::Maps;
-use k_reading::k_inodes::Inode;
-use k_reading::k_names::NameLine;
+use k_journal::Geometry;
+use k_reading::{Inode, Maps, NameLine};
 use std::alloc::{AllocError, Global};
 
 /// Rule 8: how often each data block is named, or the first that is named twice.

@@ -1,10 +1,10 @@
 -- A volume with one inode or one row set: what its parts are.
 use Rattle.std.specs.Prelude.{◌≡◌, ◌≢◌, ℕ, ◌<◌, List, [], length, Option, None}
 use Rattle.std.proofs.lemmas.List.{get_or-set_same, get_or-set_other, set-get_or}
-use Rattle.extent_words.specs.declared.Extent.{Extent}
-use Rattle.disk_lines.specs.declared.Inode.{Inode}
-use Rattle.disk_lines.specs.Lines.{NameRow}
-use Rattle.disk_lines.specs.Names.{Rows, row}
+use Rattle.extent_facts.specs.extent_words.declared.Extent.{Extent}
+use Rattle.chain_facts.specs.disk_lines.declared.Inode.{Inode}
+use Rattle.chain_facts.specs.disk_lines.Lines.{NameRow}
+use Rattle.chain_facts.specs.disk_lines.Names.{Rows, row}
 use Rattle.chain_facts.specs.disk_rules.Reading.{inode_set, node_set, row_set}
 use Rattle.chain_facts.specs.disk_rules.Volume.{Volume, free_inode, inode, chain, extents}
 use Rattle.std.specs.Prelude.{slice_set}

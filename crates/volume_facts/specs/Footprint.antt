@@ -1,8 +1,8 @@
 -- What the content rests on beside the volume: the log lines, and the blocks that files have.
 use Rattle.std.specs.Prelude.{◌≡◌, ◌≢◌, ℕ, ◌+◌, ◌*◌, ◌/◌, ◌<◌, List, length, true, Some}
-use Rattle.pm_words.specs.Words.{Words}
-use Rattle.disk_places.specs.Places.{Geometry, log_line}
-use Rattle.disk_lines.specs.declared.Draft.{Draft}
+use Rattle.chain_facts.specs.pm_words.Words.{Words}
+use Rattle.chain_facts.specs.disk_places.Places.{Geometry, log_line}
+use Rattle.chain_facts.specs.disk_lines.declared.Draft.{Draft}
 use Rattle.chain_facts.specs.disk_rules.Content.{size_of, disk_of}
 use Rattle.chain_facts.specs.disk_rules.Live.{is_file}
 use Rattle.chain_facts.specs.disk_rules.Placed.{block_at}

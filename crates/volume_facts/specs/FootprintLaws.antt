@@ -4,17 +4,17 @@ use Rattle.std.specs.Prelude.{◌≡◌, ℕ, ◌+◌, ◌-◌, ◌*◌, ◌/◌
 use Rattle.std.proofs.Common.{arith, ap, sym, ◌∙◌}
 use Rattle.std.proofs.Math.Path.{fun_ext}
 use Rattle.std.proofs.lemmas.Bool.Decides.{nat_tests}
-use Rattle.pm_words.specs.Bytes.{line_bytes-same}
-use Rattle.pm_words.specs.Words.{Words}
-use Rattle.disk_places.specs.Journal.{journaled}
-use Rattle.disk_places.specs.Places.{Geometry, first_data, log_line, is_data_block}
-use Rattle.extent_words.specs.Extents.{covers}
+use Rattle.chain_facts.specs.pm_words.Bytes.{line_bytes-same}
+use Rattle.chain_facts.specs.pm_words.Words.{Words}
+use Rattle.chain_facts.specs.disk_places.Journal.{journaled}
+use Rattle.chain_facts.specs.disk_places.Places.{Geometry, first_data, log_line, is_data_block}
+use Rattle.extent_facts.specs.extent_words.Extents.{covers}
 use Rattle.extent_facts.specs.Covers.{covers-disk_at}
-use Rattle.disk_lines.specs.declared.Draft.{Draft}
-use Rattle.disk_lines.specs.Entries.{decode_entry}
-use Rattle.disk_lines.specs.declared.Kind.{Kind}
-use Rattle.disk_lines.specs.declared.Kind.TheVariants.{Free, Directory, File, Staging}
-use Rattle.disk_lines.specs.Names.{walk}
+use Rattle.chain_facts.specs.disk_lines.declared.Draft.{Draft}
+use Rattle.chain_facts.specs.disk_lines.Entries.{decode_entry}
+use Rattle.chain_facts.specs.disk_lines.declared.Kind.{Kind}
+use Rattle.chain_facts.specs.disk_lines.declared.Kind.TheVariants.{Free, Directory, File, Staging}
+use Rattle.chain_facts.specs.disk_lines.Names.{walk}
 use Rattle.chain_facts.specs.disk_rules.Content.{Node, size_of, entry_of_block, disk_by, disk_of, byte_in, bytes_of_file, node_by, node_of, found, content_of, content}
 use Rattle.chain_facts.specs.disk_rules.Live.{is_file, entry_in, is_live, live_entries}
 use Rattle.chain_facts.specs.disk_rules.Placed.{block_at, IsOutside}

@@ -3,9 +3,9 @@ use Rattle.std.specs.Prelude.{◌≡◌, ◌≢◌, ℕ, zero, suc, ◌+◌, ◌
 use Rattle.std.proofs.Common.{arith, ap, ◌∙◌, subst}
 use Rattle.std.proofs.lemmas.Bool.{both_ways, cond-false, ne_eqb}
 use Rattle.std.proofs.lemmas.Bool.Decides.{nat_tests}
-use Rattle.pm_words.specs.Words.{Words}
-use Rattle.disk_places.specs.Journal.{is_journal_word, record_target, record_word, committed, patched, journaled, IsSound}
-use Rattle.disk_places.specs.Places.{Geometry, commit_word, record_line, is_data_block, is_journaled_line}
+use Rattle.chain_facts.specs.pm_words.Words.{Words}
+use Rattle.chain_facts.specs.disk_places.Journal.{is_journal_word, record_target, record_word, committed, patched, journaled, IsSound}
+use Rattle.chain_facts.specs.disk_places.Places.{Geometry, commit_word, record_line, is_data_block, is_journaled_line}
 use Rattle.chain_facts.specs.disk_rules.Placed.{block_at, IsOutside}
 use Rattle.volume_facts.specs.LineWords.{data_word}
 

@@ -1,16 +1,16 @@
 -- The chief laws of volumes, each as one statement.
 use Rattle.std.specs.Prelude.{◌≡◌, ℕ, ◌*◌, ◌/◌, ◌%◌, ◌<◌, ◌^◌, List, [], ◌∷◌, Option, Some, true, false}
-use Rattle.pm_words.specs.declared.Cell.{Cell}
-use Rattle.pm_words.specs.declared.Cell.TheVariants.{Lent}
-use Rattle.pm_words.specs.Cells.{cell, is_lent, unmarked}
-use Rattle.pm_words.specs.Parts.{GoesOut, ComesBack, put_back}
-use Rattle.pm_words.specs.Words.{Words, with_line}
-use Rattle.disk_places.specs.Journal.{journaled}
-use Rattle.disk_places.specs.Places.{Geometry, state_line, inode_line, name_line}
-use Rattle.extent_words.specs.declared.Extent.{Extent}
-use Rattle.disk_lines.specs.declared.Inode.{Inode}
-use Rattle.disk_lines.specs.Fresh.{state_bytes}
-use Rattle.disk_lines.specs.Lines.{NameRow, decode_inode, decode_name}
+use Rattle.chain_facts.specs.pm_words.declared.Cell.{Cell}
+use Rattle.chain_facts.specs.pm_words.declared.Cell.TheVariants.{Lent}
+use Rattle.chain_facts.specs.pm_words.Cells.{cell, is_lent, unmarked}
+use Rattle.chain_facts.specs.pm_words.Parts.{GoesOut, ComesBack, put_back}
+use Rattle.chain_facts.specs.pm_words.Words.{Words, with_line}
+use Rattle.chain_facts.specs.disk_places.Journal.{journaled}
+use Rattle.chain_facts.specs.disk_places.Places.{Geometry, state_line, inode_line, name_line}
+use Rattle.extent_facts.specs.extent_words.declared.Extent.{Extent}
+use Rattle.chain_facts.specs.disk_lines.declared.Inode.{Inode}
+use Rattle.chain_facts.specs.disk_lines.Fresh.{state_bytes}
+use Rattle.chain_facts.specs.disk_lines.Lines.{NameRow, decode_inode, decode_name}
 use Rattle.chain_facts.specs.disk_rules.Content.{found, content_of, content}
 use Rattle.chain_facts.specs.disk_rules.Live.{live_entries}
 use Rattle.chain_facts.specs.disk_rules.Placed.{IsOutside}

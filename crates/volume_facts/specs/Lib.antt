@@ -12,3 +12,9 @@ pub mod StateLaws
 pub mod Laws
 pub use Rattle.chain_facts.specs as chain_facts
 pub use Rattle.chain_facts.specs.disk_rules as disk_rules
+pub use Rattle.chain_facts.specs.block_counts as block_counts
+pub use Rattle.chain_facts.specs.disk_lines as disk_lines
+pub use Rattle.chain_facts.specs.disk_places as disk_places
+pub use Rattle.chain_facts.specs.pm_words as pm_words
+pub use Rattle.extent_facts.specs as extent_facts
+pub use Rattle.extent_facts.specs.extent_words as extent_words

@@ -3,10 +3,10 @@ use Rattle.std.specs.Prelude.{◌≡◌, ◌≢◌, ℕ, ◌+◌, ◌*◌, ◌/�
 use Rattle.std.proofs.Common.{arith, subst}
 use Rattle.std.proofs.lemmas.Bool.{both_ways, cond-true, cond-false, eq-eqb, ne_eqb}
 use Rattle.std.proofs.lemmas.Bool.Decides.{nat_tests}
-use Rattle.pm_words.specs.Bytes.{line_bytes-same, line_bytes-words}
-use Rattle.pm_words.specs.Words.{Words, word_at, line_bytes, with_line}
-use Rattle.disk_places.specs.PlaceLaws.{behind_log-not_journaled}
-use Rattle.disk_places.specs.Places.{Geometry, log_block, is_data_block, is_journaled_line}
+use Rattle.chain_facts.specs.pm_words.Bytes.{line_bytes-same, line_bytes-words}
+use Rattle.chain_facts.specs.pm_words.Words.{Words, word_at, line_bytes, with_line}
+use Rattle.chain_facts.specs.disk_places.PlaceLaws.{behind_log-not_journaled}
+use Rattle.chain_facts.specs.disk_places.Places.{Geometry, log_block, is_data_block, is_journaled_line}
 use Rattle.chain_facts.specs.disk_rules.Reading.{AreBytes}
 
 -- a word of the line that was set, and one of another line

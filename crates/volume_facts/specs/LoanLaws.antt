@@ -4,16 +4,16 @@ use Rattle.std.specs.Prelude.{◌≡◌, ◌≢◌, ℕ, ◌+◌, ◌*◌, ◌/�
 use Rattle.std.proofs.Common.{arith, ap, sym, ◌∙◌, subst, inl, inr}
 use Rattle.std.proofs.lemmas.Bool.{both_ways, cases_eq, cond-true, cond-false, eq-eqb, ne_eqb}
 use Rattle.std.proofs.lemmas.Bool.Decides.{nat_tests}
-use Rattle.pm_words.specs.declared.Cell.{Cell}
-use Rattle.pm_words.specs.declared.Cell.TheVariants.{Single, Two, Marked, Lent}
-use Rattle.pm_words.specs.CellLaws.{candidate-single, newest-candidate}
-use Rattle.pm_words.specs.Cells.{cell, is_single, is_lent, newest, unmarked, IsCandidate, AllHome}
-use Rattle.pm_words.specs.Images.{IsImage, ComesFrom, Follows}
-use Rattle.pm_words.specs.Parts.{GoesOut, ComesBack, put_back, IsImageWith}
-use Rattle.pm_words.specs.Words.{Words}
-use Rattle.disk_places.specs.Journal.{is_journal_word, journaled}
-use Rattle.disk_places.specs.PlaceLaws.{log_line-not_journaled}
-use Rattle.disk_places.specs.Places.{Geometry, first_data, is_journaled_line, log_line}
+use Rattle.chain_facts.specs.pm_words.declared.Cell.{Cell}
+use Rattle.chain_facts.specs.pm_words.declared.Cell.TheVariants.{Single, Two, Marked, Lent}
+use Rattle.chain_facts.specs.pm_words.CellLaws.{candidate-single, newest-candidate}
+use Rattle.chain_facts.specs.pm_words.Cells.{cell, is_single, is_lent, newest, unmarked, IsCandidate, AllHome}
+use Rattle.chain_facts.specs.pm_words.Images.{IsImage, ComesFrom, Follows}
+use Rattle.chain_facts.specs.pm_words.Parts.{GoesOut, ComesBack, put_back, IsImageWith}
+use Rattle.chain_facts.specs.pm_words.Words.{Words}
+use Rattle.chain_facts.specs.disk_places.Journal.{is_journal_word, journaled}
+use Rattle.chain_facts.specs.disk_places.PlaceLaws.{log_line-not_journaled}
+use Rattle.chain_facts.specs.disk_places.Places.{Geometry, first_data, is_journaled_line, log_line}
 use Rattle.chain_facts.specs.disk_rules.Placed.{block_at, IsOutside}
 use Rattle.chain_facts.specs.disk_rules.Reading.{Reads}
 use Rattle.chain_facts.specs.disk_rules.Volume.{Volume, chain}

@@ -1,7 +1,7 @@
 -- What two contents of a memory have in common where both read as one volume, and which blocks no chain has.
 use Rattle.std.specs.Prelude.{◌≡◌, ◌≢◌, ℕ, ◌+◌, ◌*◌, ◌/◌, ◌<◌, List, length, All, true}
-use Rattle.pm_words.specs.Words.{Words}
-use Rattle.disk_places.specs.Places.{Geometry, is_data_block, is_journaled_line}
+use Rattle.chain_facts.specs.pm_words.Words.{Words}
+use Rattle.chain_facts.specs.disk_places.Places.{Geometry, is_data_block, is_journaled_line}
 use Rattle.chain_facts.specs.disk_rules.Placed.{block_at}
 use Rattle.chain_facts.specs.disk_rules.Volume.{Volume, chain}
 

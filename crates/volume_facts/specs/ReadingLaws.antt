@@ -3,14 +3,14 @@
 use Rattle.std.specs.Prelude.{◌≡◌, ℕ, ◌*◌, ◌/◌, ◌^◌, ◌<◌, true, [], Option, Some, None, unwrap_or, refl}
 use Rattle.std.proofs.Common.{arith, ap, sym, ◌∙◌, subst}
 use Rattle.std.proofs.lemmas.List.FromFn.{fill_by_all}
-use Rattle.pm_words.specs.Bytes.{line_bytes-same}
-use Rattle.pm_words.specs.Words.{Words, line_bytes}
-use Rattle.disk_places.specs.PlaceLaws.{journaled-state, journaled-inode, journaled-name}
-use Rattle.disk_places.specs.Places.{Geometry, state_line, base_word, inode_line, name_line, is_journaled_line}
-use Rattle.disk_lines.specs.declared.Inode.{Inode}
-use Rattle.disk_lines.specs.LineLaws.{IsInodeLine, IsInodeLine-decode_inode}
-use Rattle.disk_lines.specs.Lines.{NameRow, decode_inode, decode_name}
-use Rattle.disk_lines.specs.Names.{row}
+use Rattle.chain_facts.specs.pm_words.Bytes.{line_bytes-same}
+use Rattle.chain_facts.specs.pm_words.Words.{Words, line_bytes}
+use Rattle.chain_facts.specs.disk_places.PlaceLaws.{journaled-state, journaled-inode, journaled-name}
+use Rattle.chain_facts.specs.disk_places.Places.{Geometry, state_line, base_word, inode_line, name_line, is_journaled_line}
+use Rattle.chain_facts.specs.disk_lines.declared.Inode.{Inode}
+use Rattle.chain_facts.specs.disk_lines.LineLaws.{IsInodeLine, IsInodeLine-decode_inode}
+use Rattle.chain_facts.specs.disk_lines.Lines.{NameRow, decode_inode, decode_name}
+use Rattle.chain_facts.specs.disk_lines.Names.{row}
 use Rattle.chain_facts.specs.disk_rules.Chains.{extents_in, chain_of, map_of}
 use Rattle.chain_facts.specs.disk_rules.Reading.{slot_for, Reads}
 use Rattle.chain_facts.specs.disk_rules.Volume.{Volume, volume, name_at, inode_or_free, free_inode, row_of, inode, chain, extents}

@@ -3,13 +3,13 @@ use Rattle.std.specs.Prelude.{◌≡◌, ◌≢◌, ℕ, ◌+◌, ◌*◌, ◌/�
 use Rattle.std.proofs.Common.{arith, ap, sym, ◌∙◌, subst, inl, inr}
 use Rattle.std.proofs.lemmas.Bool.{both_ways, cases_eq}
 use Rattle.std.proofs.lemmas.List.{length-set}
-use Rattle.pm_words.specs.Words.{Words, word_at, with_line}
-use Rattle.disk_places.specs.PlaceLaws.{journaled-inode, journaled-name, inode_line-name_line}
-use Rattle.disk_places.specs.Places.{Geometry, state_line, base_word, inode_line, name_line, is_data_block, is_journaled_line}
-use Rattle.extent_words.specs.declared.Extent.{Extent}
-use Rattle.disk_lines.specs.declared.Inode.{Inode}
-use Rattle.disk_lines.specs.Lines.{NameRow, decode_inode, decode_name}
-use Rattle.disk_lines.specs.Names.{row}
+use Rattle.chain_facts.specs.pm_words.Words.{Words, word_at, with_line}
+use Rattle.chain_facts.specs.disk_places.PlaceLaws.{journaled-inode, journaled-name, inode_line-name_line}
+use Rattle.chain_facts.specs.disk_places.Places.{Geometry, state_line, base_word, inode_line, name_line, is_data_block, is_journaled_line}
+use Rattle.extent_facts.specs.extent_words.declared.Extent.{Extent}
+use Rattle.chain_facts.specs.disk_lines.declared.Inode.{Inode}
+use Rattle.chain_facts.specs.disk_lines.Lines.{NameRow, decode_inode, decode_name}
+use Rattle.chain_facts.specs.disk_lines.Names.{row}
 use Rattle.chain_facts.specs.disk_rules.Placed.{block_at, IsOutside}
 use Rattle.chain_facts.specs.disk_rules.Reading.{slot_for, StandsFor, Reads, inode_set, node_set, row_set, base_set, AreBytes}
 use Rattle.chain_facts.specs.disk_rules.Standing.{IsChain}

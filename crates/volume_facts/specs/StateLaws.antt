@@ -3,11 +3,11 @@ use Rattle.std.specs.Prelude.{◌≡◌, ◌+◌, ◌-◌, ◌*◌, ◌^◌, ◌
 use Rattle.std.specs.Int.{to_le_bytes, w64}
 use Rattle.std.proofs.Common.{arith, sym, ◌∙◌}
 use Rattle.std.proofs.lemmas.List.{get_or-append_right, get_or-replicate}
-use Rattle.pm_words.specs.Bytes.{word_at-same, word_at-append_left, word_at-append_word}
-use Rattle.pm_words.specs.Words.{Words, word_at, with_line}
-use Rattle.disk_places.specs.Fields.{zeros}
-use Rattle.disk_places.specs.Places.{Geometry, state_line}
-use Rattle.disk_lines.specs.Fresh.{state_bytes}
+use Rattle.chain_facts.specs.pm_words.Bytes.{word_at-same, word_at-append_left, word_at-append_word}
+use Rattle.chain_facts.specs.pm_words.Words.{Words, word_at, with_line}
+use Rattle.chain_facts.specs.disk_places.Fields.{zeros}
+use Rattle.chain_facts.specs.disk_places.Places.{Geometry, state_line}
+use Rattle.chain_facts.specs.disk_lines.Fresh.{state_bytes}
 use Rattle.chain_facts.specs.disk_rules.Reading.{Reads, base_set}
 use Rattle.chain_facts.specs.disk_rules.Volume.{Volume}
 use Rattle.volume_facts.specs.SetLaws.{reads-base}

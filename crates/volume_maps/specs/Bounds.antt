@@ -4,12 +4,12 @@ use Rattle.std.proofs.Common.{arith, ap, ◌∙◌, inl, inr, get_or}
 use Rattle.std.proofs.lemmas.Bool.{cases_Bool, cases_lt}
 use Rattle.std.proofs.lemmas.Bool.Decides.{nat_tests}
 use Rattle.std.proofs.lemmas.List.{get_or_default}
-use Rattle.block_counts.specs.Counts.{chains_for}
-use Rattle.disk_places.specs.Places.{is_data_block, reserve}
-use Rattle.extent_words.specs.declared.Extent.{Extent}
-use Rattle.extent_words.specs.Extents.{disk_at, holds_disk, IsCanonical, IsExtent}
-use Rattle.extent_words.specs.Maps.{IsPart}
-use Rattle.extent_facts.specs.Counts.{count_below, one_if}
+use Rattle.map_rules.specs.block_counts.Counts.{chains_for}
+use Rattle.map_rules.specs.disk_places.Places.{is_data_block, reserve}
+use Rattle.map_rules.specs.extent_words.declared.Extent.{Extent}
+use Rattle.map_rules.specs.extent_words.Extents.{disk_at, holds_disk, IsCanonical, IsExtent}
+use Rattle.map_rules.specs.extent_words.Maps.{IsPart}
+use Rattle.volume_changes.specs.extent_facts.Counts.{count_below, one_if}
 use Rattle.map_rules.specs.disk_rules.Kept.{AreKept}
 use Rattle.map_rules.specs.disk_rules.Placed.{extent_at, no_extent}
 use Rattle.map_rules.specs.disk_rules.Rules.{file_blocks_of}

@@ -6,13 +6,13 @@ use Rattle.std.proofs.lemmas.Bool.{cases_Bool, cases_eq, cases_lt}
 use Rattle.std.proofs.lemmas.Bool.Decides.{nat_tests}
 use Rattle.std.proofs.lemmas.List.{get_or_append_left, get_or-append_right}
 use Rattle.std.proofs.lemmas.List.Sums.{sum_by-cons}
-use Rattle.extent_words.specs.declared.Extent.{Extent}
-use Rattle.extent_words.specs.Extents.{disk_at, disk_in, holds, holds_disk, is_within, IsCanonical, IsExtent}
-use Rattle.extent_words.specs.Maps.{IsPart, Replaces}
-use Rattle.extent_words.specs.Moves.{Moves}
-use Rattle.extent_facts.specs.Counts.{count_below, count_below-agree, count_below-balance, count_below-more, count_below-range, count_below-zero, one_if}
-use Rattle.extent_facts.specs.Facts.{IsCanonical-tail}
-use Rattle.extent_facts.specs.Spelling.{none_behind}
+use Rattle.map_rules.specs.extent_words.declared.Extent.{Extent}
+use Rattle.map_rules.specs.extent_words.Extents.{disk_at, disk_in, holds, holds_disk, is_within, IsCanonical, IsExtent}
+use Rattle.map_rules.specs.extent_words.Maps.{IsPart, Replaces}
+use Rattle.map_rules.specs.extent_words.Moves.{Moves}
+use Rattle.volume_changes.specs.extent_facts.Counts.{count_below, count_below-agree, count_below-balance, count_below-more, count_below-range, count_below-zero, one_if}
+use Rattle.volume_changes.specs.extent_facts.Facts.{IsCanonical-tail}
+use Rattle.volume_changes.specs.extent_facts.Spelling.{none_behind}
 use Rattle.map_rules.specs.disk_rules.Placed.{block_at}
 use Rattle.volume_changes.specs.volume_uses.Uses.{in_chain, in_map}
 use Rattle.map_rules.specs.Changes.{HasInOrder}

@@ -9,10 +9,10 @@ use Rattle.std.proofs.lemmas.List.{append-nil, get_or_append_left, get_or-append
 use Rattle.std.proofs.lemmas.List.Elements.{filter-append}
 use Rattle.std.proofs.lemmas.List.Folds.{list_any-append, list_any_none}
 use Rattle.map_rules.specs.disk_rules.Placed.{block_at}
-use Rattle.extent_facts.specs.Counts.{one_if}
-use Rattle.extent_words.specs.declared.Extent.{Extent}
-use Rattle.extent_words.specs.Extents.{disk_at, disk_in, holds, IsCanonical}
-use Rattle.extent_words.specs.Maps.{Replaces}
+use Rattle.volume_changes.specs.extent_facts.Counts.{one_if}
+use Rattle.map_rules.specs.extent_words.declared.Extent.{Extent}
+use Rattle.map_rules.specs.extent_words.Extents.{disk_at, disk_in, holds, IsCanonical}
+use Rattle.map_rules.specs.extent_words.Maps.{Replaces}
 use Rattle.map_rules.specs.Changes.{Fills, holes}
 use Rattle.volume_maps.specs.Hits.{in_chain-push, in_map-one}
 use Rattle.volume_changes.specs.volume_uses.Uses.{in_chain, in_map}

@@ -1,14 +1,14 @@
 -- The chief laws of the changes of maps, each as one statement.
 use Rattle.std.specs.Prelude.{◌≡◌, ◌==◌, ℕ, ◌+◌, ◌<◌, ◌≤◌, ◌&&◌, not, Bool, true, List, length, None}
 use Rattle.std.specs.List.{list_any}
-use Rattle.block_counts.specs.Counts.{chains_for}
-use Rattle.disk_places.specs.Places.{is_data_block, reserve}
-use Rattle.extent_words.specs.declared.Extent.{Extent}
-use Rattle.extent_words.specs.Extents.{disk_at, IsCanonical}
-use Rattle.extent_words.specs.Maps.{IsPart, Replaces}
-use Rattle.extent_words.specs.Moves.{Moves}
-use Rattle.extent_facts.specs.Counts.{one_if}
-use Rattle.disk_lines.specs.declared.Inode.{Inode}
+use Rattle.map_rules.specs.block_counts.Counts.{chains_for}
+use Rattle.map_rules.specs.disk_places.Places.{is_data_block, reserve}
+use Rattle.map_rules.specs.extent_words.declared.Extent.{Extent}
+use Rattle.map_rules.specs.extent_words.Extents.{disk_at, IsCanonical}
+use Rattle.map_rules.specs.extent_words.Maps.{IsPart, Replaces}
+use Rattle.map_rules.specs.extent_words.Moves.{Moves}
+use Rattle.volume_changes.specs.extent_facts.Counts.{one_if}
+use Rattle.map_rules.specs.disk_lines.declared.Inode.{Inode}
 use Rattle.map_rules.specs.disk_rules.Kept.{AreKept}
 use Rattle.map_rules.specs.disk_rules.Volume.{Volume, extents}
 use Rattle.map_rules.specs.Changes.{HasInOrder}

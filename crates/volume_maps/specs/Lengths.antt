@@ -3,14 +3,14 @@ use Rattle.std.specs.Prelude.{◌≡◌, ◌≢◌, ℕ, zero, suc, ◌+◌, ◌
 use Rattle.std.proofs.Common.{arith, ap, sym, ◌∙◌, inl, inr, get_or, subst}
 use Rattle.std.proofs.lemmas.Bool.{cases_Bool, cases_eq, cases_lt, eq-eqb, ne_eqb}
 use Rattle.std.proofs.lemmas.Bool.Decides.{nat_tests}
-use Rattle.block_counts.specs.Counts.{chains_for}
+use Rattle.map_rules.specs.block_counts.Counts.{chains_for}
 use Rattle.map_rules.specs.disk_rules.Placed.{no_extent}
-use Rattle.extent_words.specs.declared.Extent.{Extent}
-use Rattle.extent_words.specs.Extents.{ComesAfter, disk_at, disk_in, holds, is_within, IsCanonical, IsExtent}
-use Rattle.extent_words.specs.Maps.{IsPart}
-use Rattle.extent_words.specs.Moves.{Moves}
-use Rattle.extent_facts.specs.Counts.{count_below, count_below-balance, count_below-more, count_below-range, count_below-zero, one_if}
-use Rattle.extent_facts.specs.Facts.{disk_at_found, IsCanonical-tail}
+use Rattle.map_rules.specs.extent_words.declared.Extent.{Extent}
+use Rattle.map_rules.specs.extent_words.Extents.{ComesAfter, disk_at, disk_in, holds, is_within, IsCanonical, IsExtent}
+use Rattle.map_rules.specs.extent_words.Maps.{IsPart}
+use Rattle.map_rules.specs.extent_words.Moves.{Moves}
+use Rattle.volume_changes.specs.extent_facts.Counts.{count_below, count_below-balance, count_below-more, count_below-range, count_below-zero, one_if}
+use Rattle.volume_changes.specs.extent_facts.Facts.{disk_at_found, IsCanonical-tail}
 use Rattle.volume_maps.specs.Shorts.{AreBelow, length-below, part-below}
 
 -- ---- where an extent begins

@@ -4,10 +4,10 @@ use Rattle.std.proofs.Common.{arith, sym, ◌∙◌, inl, inr, get_or}
 use Rattle.std.proofs.lemmas.Bool.{cases_Bool, cases_lt}
 use Rattle.std.proofs.lemmas.Bool.Decides.{nat_tests}
 use Rattle.map_rules.specs.disk_rules.Placed.{no_extent}
-use Rattle.extent_words.specs.declared.Extent.{Extent}
-use Rattle.extent_words.specs.Extents.{ComesAfter, disk_at, disk_in, holds, IsCanonical, IsExtent}
-use Rattle.extent_words.specs.Maps.{IsPart}
-use Rattle.extent_facts.specs.Facts.{disk_at_found, disk_at_is, IsCanonical-tail}
+use Rattle.map_rules.specs.extent_words.declared.Extent.{Extent}
+use Rattle.map_rules.specs.extent_words.Extents.{ComesAfter, disk_at, disk_in, holds, IsCanonical, IsExtent}
+use Rattle.map_rules.specs.extent_words.Maps.{IsPart}
+use Rattle.volume_changes.specs.extent_facts.Facts.{disk_at_found, disk_at_is, IsCanonical-tail}
 use Rattle.map_rules.specs.Changes.{HasInOrder}
 
 -- the extents end by the file block

@@ -7,11 +7,11 @@ use Rattle.std.proofs.lemmas.Bool.Decides.{nat_tests}
 use Rattle.std.proofs.lemmas.Grind.{get_or_default_zero}
 use Rattle.std.proofs.lemmas.List.{get_or_default}
 use Rattle.std.proofs.lemmas.List.Folds.{Any-from_list_any, list_any_at}
-use Rattle.disk_places.specs.Places.{is_data_block}
-use Rattle.extent_words.specs.declared.Extent.{Extent}
-use Rattle.extent_words.specs.Extents.{holds_disk, IsCanonical, IsExtent}
-use Rattle.disk_lines.specs.declared.Inode.{Inode}
-use Rattle.disk_lines.specs.Lines.{is_inode}
+use Rattle.map_rules.specs.disk_places.Places.{is_data_block}
+use Rattle.map_rules.specs.extent_words.declared.Extent.{Extent}
+use Rattle.map_rules.specs.extent_words.Extents.{holds_disk, IsCanonical, IsExtent}
+use Rattle.map_rules.specs.disk_lines.declared.Inode.{Inode}
+use Rattle.map_rules.specs.disk_lines.Lines.{is_inode}
 use Rattle.map_rules.specs.disk_rules.Kept.{AreKept}
 use Rattle.map_rules.specs.disk_rules.Placed.{block_at, extent_at, no_extent}
 use Rattle.map_rules.specs.disk_rules.Room.{has_none}

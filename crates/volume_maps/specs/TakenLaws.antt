@@ -6,7 +6,7 @@ use Rattle.std.proofs.lemmas.Bool.{both_ways, cases_eq, cases_lt, ne_eqb}
 use Rattle.std.proofs.lemmas.List.Elements.{All-append}
 use Rattle.std.proofs.lemmas.List.Kept.{AllPairs-cons}
 use Rattle.map_rules.specs.disk_rules.Placed.{AreDistinct}
-use Rattle.extent_facts.specs.Counts.{one_if}
+use Rattle.volume_changes.specs.extent_facts.Counts.{one_if}
 use Rattle.map_rules.specs.Taken.{AreLowest}
 use Rattle.volume_maps.specs.Hits.{in_chain-append}
 use Rattle.volume_maps.specs.Switches.{counted-among, not-among}

@@ -38,4 +38,4 @@ pub fn changes_find_their_blocks()
     ensures no_fewer { TakesNoFewer }
 {}
 
-pub use map_rules;
+pub use map_rules::Move;

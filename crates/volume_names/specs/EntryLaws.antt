@@ -2,12 +2,12 @@
 use Rattle.std.specs.Prelude.{◌≡◌, ℕ, ◌+◌, List, [], ◌∷◌, Bool, true, false, cond, ◌||◌, ◌==◌, find, Option, Some, None, option_map, option_and_then, Ok, Err, refl, if◌then◌else◌}
 use Rattle.std.specs.List.{list_any}
 use Rattle.std.proofs.Common.{ap, sym, ◌∙◌, subst}
-use Rattle.disk_lines.specs.Lines.{NameRow}
-use Rattle.disk_lines.specs.Names.{Rows, is_entry, is_child, line_and_child, first_row_from, child_named, has_entries, walk}
+use Rattle.k_rules.specs.disk_lines.Lines.{NameRow}
+use Rattle.k_rules.specs.disk_lines.Names.{Rows, is_entry, is_child, line_and_child, first_row_from, child_named, has_entries, walk}
 use Rattle.k_rules.specs.Spaces.{entries_of}
-use Rattle.posix_types.specs.declared.reply.Errno.{Errno}
-use Rattle.posix_words.specs.declared.nodes.DirEntry.{DirEntry}
-use Rattle.posix_words.specs.Names.{child_of, downward, is_named, walk_from, is_entry as is_entry_of, has_entries as has_entries_in}
+use Rattle.k_rules.specs.posix_types.declared.reply.Errno.{Errno}
+use Rattle.k_rules.specs.posix_words.declared.nodes.DirEntry.{DirEntry}
+use Rattle.k_rules.specs.posix_words.Names.{child_of, downward, is_named, walk_from, is_entry as is_entry_of, has_entries as has_entries_in}
 
 -- ---- look-ups
 

@@ -2,12 +2,12 @@
 use Rattle.std.specs.Prelude.{◌≡◌, ℕ, zero, suc, ◌+◌, ◌<◌, ◌≤◌, max, fold, List, [], ◌∷◌, length, Bool, true, false, cond, ◌==◌, Some, None, refl}
 use Rattle.std.proofs.Common.{arith, ap, ◌∙◌, subst, inl, inr}
 use Rattle.std.proofs.lemmas.Bool.{cases_lt, eq-eqb}
-use Rattle.disk_lines.specs.Lines.{NameRow}
-use Rattle.disk_lines.specs.Names.{Rows, row, walk}
-use Rattle.disk_lines.specs.TableLaws.{walk-step}
+use Rattle.k_rules.specs.disk_lines.Lines.{NameRow}
+use Rattle.k_rules.specs.disk_lines.Names.{Rows, row, walk}
+use Rattle.k_rules.specs.disk_lines.TableLaws.{walk-step}
 use Rattle.k_rules.specs.Spaces.{entries_of}
-use Rattle.posix_words.specs.declared.nodes.DirEntry.{DirEntry}
-use Rattle.posix_words.specs.Names.{entries_in, height}
+use Rattle.k_rules.specs.posix_words.declared.nodes.DirEntry.{DirEntry}
+use Rattle.k_rules.specs.posix_words.Names.{entries_in, height}
 
 -- the greatest of a number and of what f gives the children of some entries
 abbrev greatest : (ℕ → ℕ) → ℕ → List DirEntry → ℕ

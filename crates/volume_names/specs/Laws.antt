@@ -1,14 +1,14 @@
 -- The chief laws of the space of a volume, each as one statement.
 use Rattle.std.specs.Prelude.{◌≡◌, ◌≢◌, ◌<◌, ◌≤◌, ℕ, ◌+◌, List, [], ◌∷◌, ◌++◌, length, Bool, true, false, Some, None, Ok}
-use Rattle.disk_lines.specs.Names.{Rows, child_named, up, walk, has_entries as has_rows}
+use Rattle.k_rules.specs.disk_lines.Names.{Rows, child_named, up, walk, has_entries as has_rows}
 use Rattle.k_rules.specs.Spaces.{entries_of}
 use Rattle.name_facts.specs.Forests.{IsForest}
-use Rattle.posix_types.specs.declared.reply.What.{What}
-use Rattle.posix_types.specs.declared.reply.Errno.{Errno}
-use Rattle.posix_types.specs.declared.reply.Reply.{Reply}
-use Rattle.posix_words.specs.NameRows.{mkdir_rows, rmdir_rows, unlink_rows, rename_rows, rename_kind_rows}
-use Rattle.posix_words.specs.Names.{child_of, has_entries, height, is_below, longest_path, node_at_path, Space, walk_from}
-use Rattle.posix_words.specs.Outcomes.{answer, first, no_space}
+use Rattle.k_rules.specs.posix_types.declared.reply.What.{What}
+use Rattle.k_rules.specs.posix_types.declared.reply.Errno.{Errno}
+use Rattle.k_rules.specs.posix_types.declared.reply.Reply.{Reply}
+use Rattle.k_rules.specs.posix_words.NameRows.{mkdir_rows, rmdir_rows, unlink_rows, rename_rows, rename_kind_rows}
+use Rattle.k_rules.specs.posix_words.Names.{child_of, has_entries, height, is_below, longest_path, node_at_path, Space, walk_from}
+use Rattle.k_rules.specs.posix_words.Outcomes.{answer, first, no_space}
 use Rattle.volume_names.specs.EntryLaws.{LeadsTo}
 use Rattle.volume_names.specs.LookLaws.{HaveDirectories}
 use Rattle.volume_names.specs.Paths.{IsAt, IsNewAt, HasRoom, MayGo, MayLand}

@@ -5,15 +5,15 @@ use Rattle.std.specs.Option.{option_map_or}
 use Rattle.std.proofs.Common.{arith, ap, sym, ◌∙◌, subst}
 use Rattle.std.proofs.lemmas.Bool.{ne_eqb}
 use Rattle.std.proofs.lemmas.Option.{option_and_then_some, same_Some}
-use Rattle.disk_lines.specs.Lines.{NameRow}
-use Rattle.disk_lines.specs.Names.{Rows, row, child_named, walk}
-use Rattle.disk_lines.specs.TableLaws.{walk-append, walk-one, walk-step}
+use Rattle.k_rules.specs.disk_lines.Lines.{NameRow}
+use Rattle.k_rules.specs.disk_lines.Names.{Rows, row, child_named, walk}
+use Rattle.k_rules.specs.disk_lines.TableLaws.{walk-append, walk-one, walk-step}
 use Rattle.k_rules.specs.Spaces.{entries_of}
-use Rattle.posix_types.specs.declared.handle.Flags.{Flags}
-use Rattle.posix_types.specs.declared.reply.Errno.{Errno}
-use Rattle.posix_words.specs.NameRows.{open_rows, stat_rows, list_rows}
-use Rattle.posix_words.specs.Names.{child_of, directory_path, directory_stands, exists_at, file_stands, is_root, last_name, node_at_path, Space, too_long, walk_from, walk as walk_to}
-use Rattle.posix_words.specs.Outcomes.{first}
+use Rattle.k_rules.specs.posix_types.declared.handle.Flags.{Flags}
+use Rattle.k_rules.specs.posix_types.declared.reply.Errno.{Errno}
+use Rattle.k_rules.specs.posix_words.NameRows.{open_rows, stat_rows, list_rows}
+use Rattle.k_rules.specs.posix_words.Names.{child_of, directory_path, directory_stands, exists_at, file_stands, is_root, last_name, node_at_path, Space, too_long, walk_from, walk as walk_to}
+use Rattle.k_rules.specs.posix_words.Outcomes.{first}
 use Rattle.volume_names.specs.EntryLaws.{child_of-rows, walk_from-rows}
 use Rattle.volume_names.specs.PathLaws.{directory-there, new-there, node_left, line_left}
 use Rattle.volume_names.specs.Paths.{IsNewAt, HasRoom}

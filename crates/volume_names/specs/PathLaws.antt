@@ -4,11 +4,11 @@ use Rattle.std.specs.Option.{option_map_or}
 use Rattle.std.proofs.Common.{arith, ap, sym, ◌∙◌}
 use Rattle.std.proofs.lemmas.Bool.{both_ways, eq-eqb}
 use Rattle.std.proofs.lemmas.Bool.Decides.{nat_tests}
-use Rattle.posix_types.specs.declared.reply.Reply.{Reply}
-use Rattle.posix_types.specs.declared.reply.Errno.{Errno}
-use Rattle.posix_words.specs.NameRows.{walk_row, mkdir_rows, rmdir_rows, unlink_rows}
-use Rattle.posix_words.specs.Names.{child_of, directory_stands, exists_at, file_stands, has_entries, is_root, last_name, node_at_path, number_at, Space, too_long, walk}
-use Rattle.posix_words.specs.Outcomes.{answer, first}
+use Rattle.k_rules.specs.posix_types.declared.reply.Reply.{Reply}
+use Rattle.k_rules.specs.posix_types.declared.reply.Errno.{Errno}
+use Rattle.k_rules.specs.posix_words.NameRows.{walk_row, mkdir_rows, rmdir_rows, unlink_rows}
+use Rattle.k_rules.specs.posix_words.Names.{child_of, directory_stands, exists_at, file_stands, has_entries, is_root, last_name, node_at_path, number_at, Space, too_long, walk}
+use Rattle.k_rules.specs.posix_words.Outcomes.{answer, first}
 use Rattle.volume_names.specs.Paths.{HasDirectory, IsAt, IsNewAt, HasRoom}
 use Rattle.volume_names.specs.RowLists.{AllNone, none_fits, no_row}
 

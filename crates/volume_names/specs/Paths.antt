@@ -1,6 +1,6 @@
 -- Where the paths of a call lead in a space.
 use Rattle.std.specs.Prelude.{◌≡◌, ◌≢◌, ◌⊎◌, ◌≤◌, ℕ, ◌+◌, List, length, true, false, Some, None, Ok}
-use Rattle.posix_words.specs.Names.{child_of, has_entries, height, is_below, is_root, last_name, longest_path, Space, too_long, walk}
+use Rattle.k_rules.specs.posix_words.Names.{child_of, has_entries, height, is_below, is_root, last_name, longest_path, Space, too_long, walk}
 
 -- the path is not that of the root, is not too long, and its directory is there
 pub record HasDirectory (s : Space) (p : List (List ℕ)) (parent : ℕ) : Type 0 where

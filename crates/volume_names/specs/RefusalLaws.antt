@@ -4,12 +4,12 @@ use Rattle.std.specs.Option.{option_map_or}
 use Rattle.std.proofs.Common.{arith, ap, ◌∙◌}
 use Rattle.std.proofs.lemmas.Bool.{ne_eqb}
 use Rattle.std.proofs.lemmas.Bool.Decides.{nat_tests}
-use Rattle.posix_types.specs.declared.reply.Reply.{Reply}
-use Rattle.posix_types.specs.declared.reply.Errno.{Errno}
-use Rattle.posix_types.specs.declared.reply.What.{What}
-use Rattle.posix_words.specs.NameRows.{mkdir_rows, rmdir_rows, unlink_rows}
-use Rattle.posix_words.specs.Names.{directory_stands, exists_at, file_stands, has_entries, is_root, node_at_path, number_at, Space, too_long, walk}
-use Rattle.posix_words.specs.Outcomes.{answer, first, no_space}
+use Rattle.k_rules.specs.posix_types.declared.reply.Reply.{Reply}
+use Rattle.k_rules.specs.posix_types.declared.reply.Errno.{Errno}
+use Rattle.k_rules.specs.posix_types.declared.reply.What.{What}
+use Rattle.k_rules.specs.posix_words.NameRows.{mkdir_rows, rmdir_rows, unlink_rows}
+use Rattle.k_rules.specs.posix_words.Names.{directory_stands, exists_at, file_stands, has_entries, is_root, node_at_path, number_at, Space, too_long, walk}
+use Rattle.k_rules.specs.posix_words.Outcomes.{answer, first, no_space}
 use Rattle.volume_names.specs.PathLaws.{node_at-path}
 use Rattle.volume_names.specs.Paths.{IsAt, IsNewAt, HasRoom}
 

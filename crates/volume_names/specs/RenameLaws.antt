@@ -4,9 +4,9 @@ use Rattle.std.specs.Option.{option_map_or}
 use Rattle.std.proofs.Common.{arith, ap, sym, ◌∙◌, subst, inl, inr}
 use Rattle.std.proofs.lemmas.Bool.{both_ways, and_from, or_parts, eq-eqb}
 use Rattle.std.proofs.lemmas.Bool.Decides.{nat_tests}
-use Rattle.posix_words.specs.NameRows.{rename_kind_rows, rename_rows}
-use Rattle.posix_words.specs.Names.{directory_stands, exists_at, file_stands, has_entries, height, is_below, is_root, longest_path, node_at_path, number_at, Space, too_long}
-use Rattle.posix_words.specs.Outcomes.{first}
+use Rattle.k_rules.specs.posix_words.NameRows.{rename_kind_rows, rename_rows}
+use Rattle.k_rules.specs.posix_words.Names.{directory_stands, exists_at, file_stands, has_entries, height, is_below, is_root, longest_path, node_at_path, number_at, Space, too_long}
+use Rattle.k_rules.specs.posix_words.Outcomes.{first}
 use Rattle.volume_names.specs.PathLaws.{child-there, directory-there, node_at-path}
 use Rattle.volume_names.specs.Paths.{HasDirectory, MayLand, MayGo}
 use Rattle.volume_names.specs.RowLists.{AllNone, none_fits, no_row}

@@ -4,12 +4,12 @@ use Rattle.std.specs.Option.{option_map_or, option_or}
 use Rattle.std.proofs.Common.{arith, ap, sym, ◌∙◌, inl, inr}
 use Rattle.std.proofs.lemmas.Bool.{and_left, and_right, eq-eqb, ne_eqb}
 use Rattle.std.proofs.lemmas.Bool.Decides.{nat_tests}
-use Rattle.posix_types.specs.declared.item.Outcome.{Outcome}
-use Rattle.posix_types.specs.declared.reply.Reply.{Reply}
-use Rattle.posix_types.specs.declared.reply.Errno.{Errno}
-use Rattle.posix_words.specs.NameRows.{rename_kind_rows, rename_rows}
-use Rattle.posix_words.specs.Names.{directory_stands, exists_at, file_stands, has_entries, height, is_below, is_root, longest_path, number_at, Space, too_long, walk}
-use Rattle.posix_words.specs.Outcomes.{answer, first}
+use Rattle.k_rules.specs.posix_types.declared.item.Outcome.{Outcome}
+use Rattle.k_rules.specs.posix_types.declared.reply.Reply.{Reply}
+use Rattle.k_rules.specs.posix_types.declared.reply.Errno.{Errno}
+use Rattle.k_rules.specs.posix_words.NameRows.{rename_kind_rows, rename_rows}
+use Rattle.k_rules.specs.posix_words.Names.{directory_stands, exists_at, file_stands, has_entries, height, is_below, is_root, longest_path, number_at, Space, too_long, walk}
+use Rattle.k_rules.specs.posix_words.Outcomes.{answer, first}
 use Rattle.volume_names.specs.Paths.{HasDirectory, IsAt, IsNewAt, MayLand, MayGo}
 use Rattle.volume_names.specs.PathLaws.{node_at-path}
 use Rattle.volume_names.specs.RefusalLaws.{stands-at, nothing-at}

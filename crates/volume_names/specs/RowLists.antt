@@ -1,7 +1,7 @@
 -- Laws of lists of rows, of which the first that fits gives the outcome.
 use Rattle.std.specs.Prelude.{◌≡◌, Bool, true, false, cond, List, [], ◌∷◌, Option, Some, None, refl}
-use Rattle.posix_types.specs.declared.item.Outcome.{Outcome}
-use Rattle.posix_words.specs.Outcomes.{first}
+use Rattle.k_rules.specs.posix_types.declared.item.Outcome.{Outcome}
+use Rattle.k_rules.specs.posix_words.Outcomes.{first}
 
 abbrev pub AllNone : List (Option Outcome) → Type 0
 AllNone [] = Unit {0}

@@ -8,15 +8,15 @@ use Rattle.std.proofs.lemmas.Bool.Decides.{nat_tests}
 use Rattle.std.proofs.lemmas.List.{length-take, take_all, take_more}
 use Rattle.std.proofs.lemmas.Option.{same_Some}
 use Rattle.std.proofs.lemmas.Slice.Eq.{bytes_eq-Decides, starts_is}
-use Rattle.disk_lines.specs.Lines.{NameRow}
-use Rattle.disk_lines.specs.Names.{Rows, row, is_child, parent_of, up, walk}
-use Rattle.disk_lines.specs.TableLaws.{up-more, walk-append, walk-step, walk-up}
-use Rattle.disk_lines.specs.UpLaws.{up-add}
+use Rattle.k_rules.specs.disk_lines.Lines.{NameRow}
+use Rattle.k_rules.specs.disk_lines.Names.{Rows, row, is_child, parent_of, up, walk}
+use Rattle.k_rules.specs.disk_lines.TableLaws.{up-more, walk-append, walk-step, walk-up}
+use Rattle.k_rules.specs.disk_lines.UpLaws.{up-add}
 use Rattle.name_facts.specs.Forests.{IsForest}
 use Rattle.name_facts.specs.ForestLaws.{forest-acyclic}
 use Rattle.name_facts.specs.RowLaws.{names_of-one_line}
 use Rattle.name_facts.specs.SetLaws.{parent_of-one_name}
-use Rattle.posix_words.specs.Names.{directory_path, is_below, is_root, last_name, longest_path, too_long}
+use Rattle.k_rules.specs.posix_words.Names.{directory_path, is_below, is_root, last_name, longest_path, too_long}
 
 -- ---- a path and its last name
 

@@ -4,13 +4,13 @@ use Rattle.std.specs.Prelude.{◌≡◌, ℕ, ◌+◌, ◌<◌, ◌≤◌, min, 
 use Rattle.std.proofs.Common.{arith}
 use Rattle.std.proofs.lemmas.Bool.Decides.{nat_tests}
 use Rattle.std.proofs.lemmas.List.Sums.{sum_by-cons}
-use Rattle.pm_words.specs.Words.{Words}
-use Rattle.block_counts.specs.Counts.{chains_for}
-use Rattle.disk_places.specs.Places.{Geometry, first_data, data_blocks, reserve, is_data_block}
-use Rattle.extent_words.specs.declared.Extent.{Extent}
-use Rattle.extent_words.specs.Extents.{block_count, IsExtent, IsCanonical}
-use Rattle.extent_facts.specs.Counts.{length-le}
-use Rattle.extent_facts.specs.Facts.{IsCanonical-tail}
+use Rattle.volume_facts.specs.pm_words.Words.{Words}
+use Rattle.volume_facts.specs.block_counts.Counts.{chains_for}
+use Rattle.volume_facts.specs.disk_places.Places.{Geometry, first_data, data_blocks, reserve, is_data_block}
+use Rattle.volume_facts.specs.extent_words.declared.Extent.{Extent}
+use Rattle.volume_facts.specs.extent_words.Extents.{block_count, IsExtent, IsCanonical}
+use Rattle.volume_facts.specs.extent_facts.Counts.{length-le}
+use Rattle.volume_facts.specs.extent_facts.Facts.{IsCanonical-tail}
 use Rattle.volume_facts.specs.chain_facts.ChainLaws.{chain-count}
 use Rattle.volume_facts.specs.disk_rules.Reading.{Reads}
 use Rattle.volume_facts.specs.disk_rules.Rules.{IsInData, IsNamedOnce}

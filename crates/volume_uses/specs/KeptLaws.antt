@@ -1,8 +1,8 @@
 -- What the rules that a sane volume keeps say of its blocks: the bound of its chains, and how many blocks are free.
 use Rattle.std.specs.Prelude.{◌≡◌, ℕ, ◌+◌, ◌<◌, ◌≤◌, length, All, true}
 use Rattle.std.proofs.Common.{arith, ap, sym, subst}
-use Rattle.pm_words.specs.Words.{Words}
-use Rattle.disk_places.specs.Places.{Geometry, data_blocks, reserve, is_data_block}
+use Rattle.volume_facts.specs.pm_words.Words.{Words}
+use Rattle.volume_facts.specs.disk_places.Places.{Geometry, data_blocks, reserve, is_data_block}
 use Rattle.volume_facts.specs.disk_rules.Kept.{AreKept}
 use Rattle.volume_facts.specs.disk_rules.Reading.{Reads}
 use Rattle.volume_facts.specs.disk_rules.Room.{unused_blocks}

@@ -1,11 +1,11 @@
 -- The chief laws of the uses of blocks, each as one statement.
 use Rattle.std.specs.Prelude.{◌≡◌, ◌≢◌, ℕ, ◌+◌, ◌<◌, ◌≤◌, true, List, length, All, Some}
-use Rattle.pm_words.specs.Words.{Words}
-use Rattle.disk_places.specs.Journal.{journaled}
-use Rattle.disk_places.specs.Places.{Geometry, data_blocks, reserve, is_data_block}
-use Rattle.extent_words.specs.declared.Extent.{Extent}
-use Rattle.extent_words.specs.Extents.{disk_at, covers}
-use Rattle.disk_lines.specs.declared.Inode.{Inode}
+use Rattle.volume_facts.specs.pm_words.Words.{Words}
+use Rattle.volume_facts.specs.disk_places.Journal.{journaled}
+use Rattle.volume_facts.specs.disk_places.Places.{Geometry, data_blocks, reserve, is_data_block}
+use Rattle.volume_facts.specs.extent_words.declared.Extent.{Extent}
+use Rattle.volume_facts.specs.extent_words.Extents.{disk_at, covers}
+use Rattle.volume_facts.specs.disk_lines.declared.Inode.{Inode}
 use Rattle.volume_facts.specs.disk_rules.Content.{content}
 use Rattle.volume_facts.specs.disk_rules.Live.{live_entries}
 use Rattle.volume_facts.specs.disk_rules.Placed.{block_at, IsOutside}

@@ -6,12 +6,12 @@ use Rattle.std.proofs.lemmas.Bool.{cases_order}
 use Rattle.std.proofs.lemmas.Bool.Decides.{nat_tests}
 use Rattle.std.proofs.lemmas.List.{length-set}
 use Rattle.std.proofs.lemmas.List.Concat.{length-flat_map}
-use Rattle.disk_places.specs.Places.{is_data_block}
-use Rattle.extent_words.specs.declared.Extent.{Extent}
-use Rattle.extent_words.specs.Extents.{holds, holds_disk, disk_in, disk_at, covers}
-use Rattle.extent_facts.specs.Facts.{disk_at_found}
-use Rattle.disk_lines.specs.declared.Inode.{Inode}
-use Rattle.disk_lines.specs.Lines.{NameRow}
+use Rattle.volume_facts.specs.disk_places.Places.{is_data_block}
+use Rattle.volume_facts.specs.extent_words.declared.Extent.{Extent}
+use Rattle.volume_facts.specs.extent_words.Extents.{holds, holds_disk, disk_in, disk_at, covers}
+use Rattle.volume_facts.specs.extent_facts.Facts.{disk_at_found}
+use Rattle.volume_facts.specs.disk_lines.declared.Inode.{Inode}
+use Rattle.volume_facts.specs.disk_lines.Lines.{NameRow}
 use Rattle.volume_facts.specs.disk_rules.Placed.{no_extent, extent_at, block_at}
 use Rattle.volume_facts.specs.disk_rules.Reading.{inode_set, node_set, row_set, base_set}
 use Rattle.volume_facts.specs.disk_rules.Rules.{IsNamedOnce}

@@ -7,11 +7,11 @@ use Rattle.std.proofs.lemmas.Bool.{and_parts, and_from, and_right, false_from_ne
 use Rattle.std.proofs.lemmas.Bool.Decides.{nat_tests}
 use Rattle.std.proofs.lemmas.List.{length-set}
 use Rattle.std.proofs.lemmas.List.Sums.{sum_by-cons}
-use Rattle.pm_words.specs.Words.{Words}
-use Rattle.disk_places.specs.Places.{Geometry, first_data, data_blocks, is_data_block}
-use Rattle.extent_words.specs.declared.Extent.{Extent}
-use Rattle.extent_words.specs.Extents.{holds_disk, covers, block_count}
-use Rattle.disk_lines.specs.declared.Inode.{Inode}
+use Rattle.volume_facts.specs.pm_words.Words.{Words}
+use Rattle.volume_facts.specs.disk_places.Places.{Geometry, first_data, data_blocks, is_data_block}
+use Rattle.volume_facts.specs.extent_words.declared.Extent.{Extent}
+use Rattle.volume_facts.specs.extent_words.Extents.{holds_disk, covers, block_count}
+use Rattle.volume_facts.specs.disk_lines.declared.Inode.{Inode}
 use Rattle.volume_facts.specs.disk_rules.Placed.{no_extent, extent_at, block_at}
 use Rattle.volume_facts.specs.disk_rules.Reading.{Reads, inode_set}
 use Rattle.volume_facts.specs.disk_rules.Room.{has_none, unused_blocks}

@@ -1,9 +1,9 @@
 -- Blocks of a staging file that no live entry tells of.
 use Rattle.std.specs.Prelude.{◌≡◌, ◌⊎◌, ℕ, ◌+◌, ◌<◌, ◌≤◌, List, length, All, true, Some}
-use Rattle.disk_places.specs.Places.{is_data_block}
-use Rattle.extent_words.specs.Extents.{disk_at}
-use Rattle.disk_lines.specs.declared.Draft.{Draft}
-use Rattle.disk_lines.specs.declared.Kind.TheVariants.{Staging}
+use Rattle.volume_facts.specs.disk_places.Places.{is_data_block}
+use Rattle.volume_facts.specs.extent_words.Extents.{disk_at}
+use Rattle.volume_facts.specs.disk_lines.declared.Draft.{Draft}
+use Rattle.volume_facts.specs.disk_lines.declared.Kind.TheVariants.{Staging}
 use Rattle.volume_facts.specs.disk_rules.Placed.{block_at}
 use Rattle.volume_facts.specs.disk_rules.Volume.{Volume, inode, extents}
 

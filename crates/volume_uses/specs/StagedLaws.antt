@@ -7,12 +7,12 @@ use Rattle.std.proofs.lemmas.Bool.Decides.{nat_tests}
 use Rattle.std.proofs.lemmas.List.{get_or_past}
 use Rattle.std.proofs.lemmas.List.Elements.{All-filter, All-head, All-tail, filter_passes}
 use Rattle.std.proofs.lemmas.Option.{same_Some}
-use Rattle.pm_words.specs.Words.{Words}
-use Rattle.disk_places.specs.Journal.{journaled}
-use Rattle.disk_places.specs.Places.{Geometry, is_data_block}
-use Rattle.extent_words.specs.Extents.{disk_at, is_within}
-use Rattle.extent_facts.specs.Covers.{covers-disk_at}
-use Rattle.disk_lines.specs.declared.Draft.{Draft}
+use Rattle.volume_facts.specs.pm_words.Words.{Words}
+use Rattle.volume_facts.specs.disk_places.Journal.{journaled}
+use Rattle.volume_facts.specs.disk_places.Places.{Geometry, is_data_block}
+use Rattle.volume_facts.specs.extent_words.Extents.{disk_at, is_within}
+use Rattle.volume_facts.specs.extent_facts.Covers.{covers-disk_at}
+use Rattle.volume_facts.specs.disk_lines.declared.Draft.{Draft}
 use Rattle.volume_facts.specs.disk_rules.Content.{entry_of_block, disk_by, content}
 use Rattle.volume_facts.specs.disk_rules.Live.{is_file, live_entries, later_of, latest}
 use Rattle.volume_facts.specs.disk_rules.Placed.{block_at, IsOutside}

@@ -7,8 +7,8 @@ use Rattle.std.proofs.lemmas.List.{length-map}
 use Rattle.std.proofs.lemmas.List.Folds.{list_any_at, Any-from_list_any}
 use Rattle.std.proofs.lemmas.List.FromFn.{length-range_with_len, get_or-range_with_len}
 use Rattle.std.proofs.lemmas.List.Sums.{length-filter}
-use Rattle.extent_words.specs.declared.Extent.{Extent}
-use Rattle.extent_words.specs.Extents.{holds_disk, covers}
+use Rattle.volume_facts.specs.extent_words.declared.Extent.{Extent}
+use Rattle.volume_facts.specs.extent_words.Extents.{holds_disk, covers}
 use Rattle.volume_facts.specs.disk_rules.Placed.{no_extent, extent_at, block_at}
 use Rattle.volume_facts.specs.disk_rules.Uses.{InChain, Holds, places_in, uses_by}
 use Rattle.volume_facts.specs.Lists.{count_by-at, count_by-two, count_by-some}

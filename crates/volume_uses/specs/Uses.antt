@@ -1,9 +1,9 @@
 -- How often a block is used: by a chain, by a map, by an inode; and whether it is free.
 use Rattle.std.specs.Prelude.{◌≡◌, ℕ, ◌≤◌, ◌==◌, ◌&&◌, ◌+◌, List, length, sum_by, Bool, true, false}
 use Rattle.std.specs.List.{range_with_len, count_by}
-use Rattle.disk_places.specs.Places.{is_data_block}
-use Rattle.extent_words.specs.declared.Extent.{Extent}
-use Rattle.extent_words.specs.Extents.{holds_disk, block_count}
+use Rattle.volume_facts.specs.disk_places.Places.{is_data_block}
+use Rattle.volume_facts.specs.extent_words.declared.Extent.{Extent}
+use Rattle.volume_facts.specs.extent_words.Extents.{holds_disk, block_count}
 use Rattle.volume_facts.specs.disk_rules.Placed.{block_at}
 use Rattle.volume_facts.specs.disk_rules.Room.{has_none}
 use Rattle.volume_facts.specs.disk_rules.Uses.{uses_by, owners}

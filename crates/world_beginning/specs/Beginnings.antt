@@ -2,20 +2,20 @@
 use Rattle.std.specs.Prelude.{◌≡◌, ◌<◌, ◌≤◌, ◌+◌, ℕ, Bool, true, false, List, [], ◌∷◌, fold, not, ◌==◌, Some, refl, if◌then◌else◌}
 use Rattle.std.proofs.Common.{arith, ap, ◌∙◌, sym, subst}
 use Rattle.std.proofs.lemmas.Bool.{and_parts}
-use Rattle.disk_places.specs.Places.{Geometry}
-use Rattle.disk_lines.specs.declared.Kind.{Kind}
-use Rattle.disk_lines.specs.declared.Kind.TheVariants.{Free, Directory, File, Staging}
-use Rattle.disk_lines.specs.Lines.{is_name, NameRow}
-use Rattle.disk_lines.specs.NameLaws.{IsNameLine-decode_name}
-use Rattle.disk_lines.specs.Names.{row}
+use Rattle.world_steps.specs.disk_places.Places.{Geometry}
+use Rattle.world_steps.specs.disk_lines.declared.Kind.{Kind}
+use Rattle.world_steps.specs.disk_lines.declared.Kind.TheVariants.{Free, Directory, File, Staging}
+use Rattle.world_steps.specs.disk_lines.Lines.{is_name, NameRow}
+use Rattle.world_steps.specs.disk_lines.NameLaws.{IsNameLine-decode_name}
+use Rattle.world_steps.specs.disk_lines.Names.{row}
 use Rattle.world_steps.specs.disk_rules.Reading.{slot_for}
 use Rattle.world_steps.specs.disk_rules.Rules.{IsKindAt}
 use Rattle.world_steps.specs.disk_rules.Volume.{inode}
 use Rattle.world_steps.specs.name_facts.RowLaws.{row-below}
-use Rattle.posix_types.specs.declared.reply.Shape.{Shape}
-use Rattle.posix_types.specs.declared.tree.TreeEntry.{TreeEntry}
-use Rattle.posix_words.specs.Names.{is_root}
-use Rattle.posix_words.specs.Places.{node_of}
+use Rattle.world_steps.specs.posix_types.declared.reply.Shape.{Shape}
+use Rattle.world_steps.specs.posix_types.declared.tree.TreeEntry.{TreeEntry}
+use Rattle.world_steps.specs.posix_words.Names.{is_root}
+use Rattle.world_steps.specs.posix_words.Places.{node_of}
 use Rattle.world_steps.specs.posix_spec.State.{made, State}
 use Rattle.world_steps.specs.posix_spec.Tree.{bare, planted, start}
 use Rattle.world_steps.specs.posix_trees.Begins.{AreBegun-start, IsTree}

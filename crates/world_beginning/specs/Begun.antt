@@ -7,24 +7,24 @@ use Rattle.std.proofs.lemmas.Bool.Decides.{Decides-eqb}
 use Rattle.std.proofs.lemmas.List.{length-map}
 use Rattle.std.proofs.lemmas.List.FromFn.{get_or-map-range_with_len, length-map-range_with_len}
 use Rattle.std.proofs.lemmas.Option.{same_Some}
-use Rattle.pm_words.specs.Words.{Words}
-use Rattle.disk_lines.specs.declared.Draft.{Draft}
-use Rattle.disk_lines.specs.declared.Kind.{Kind}
-use Rattle.disk_lines.specs.declared.Kind.TheVariants.{Free, Directory, File, Staging}
-use Rattle.disk_lines.specs.Names.{child_named, walk}
-use Rattle.disk_lines.specs.TableLaws.{walk-append, walk-one}
+use Rattle.world_steps.specs.pm_words.Words.{Words}
+use Rattle.world_steps.specs.disk_lines.declared.Draft.{Draft}
+use Rattle.world_steps.specs.disk_lines.declared.Kind.{Kind}
+use Rattle.world_steps.specs.disk_lines.declared.Kind.TheVariants.{Free, Directory, File, Staging}
+use Rattle.world_steps.specs.disk_lines.Names.{child_named, walk}
+use Rattle.world_steps.specs.disk_lines.TableLaws.{walk-append, walk-one}
 use Rattle.world_steps.specs.disk_rules.Content.{byte_in, bytes_of_file, disk_of, found, node_by, size_of}
 use Rattle.world_steps.specs.disk_rules.Volume.{inode, Volume}
-use Rattle.posix_types.specs.declared.tree.TreeEntry.{TreeEntry}
-use Rattle.posix_types.specs.declared.tree.TreeNode.{TreeNode}
-use Rattle.posix_words.specs.declared.nodes.DirEntry.{DirEntry}
-use Rattle.posix_words.specs.declared.nodes.Node.{Node}
-use Rattle.posix_words.specs.Lookups.{AreDistinct}
-use Rattle.posix_words.specs.Names.{child_of}
-use Rattle.posix_words.specs.Nodes.{node_at}
-use Rattle.posix_words.specs.Places.{node_of, printed}
+use Rattle.world_steps.specs.posix_types.declared.tree.TreeEntry.{TreeEntry}
+use Rattle.world_steps.specs.posix_types.declared.tree.TreeNode.{TreeNode}
+use Rattle.world_steps.specs.posix_words.declared.nodes.DirEntry.{DirEntry}
+use Rattle.world_steps.specs.posix_words.declared.nodes.Node.{Node}
+use Rattle.world_steps.specs.posix_words.Lookups.{AreDistinct}
+use Rattle.world_steps.specs.posix_words.Names.{child_of}
+use Rattle.world_steps.specs.posix_words.Nodes.{node_at}
+use Rattle.world_steps.specs.posix_words.Places.{node_of, printed}
 use Rattle.world_steps.specs.posix_spec.State.{State}
-use Rattle.list_facts.specs.Members.{In, In-slice_get}
+use Rattle.world_steps.specs.list_facts.Members.{In, In-slice_get}
 use Rattle.world_steps.specs.posix_trees.Begins.{AreBegun, HaveOwnChildren, node_at-begun, one_element}
 use Rattle.world_steps.specs.posix_trees.Entries.{child_of-In, Leads-child_of}
 use Rattle.world_steps.specs.posix_trees.Order.{rising_place}

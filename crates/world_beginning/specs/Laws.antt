@@ -1,19 +1,19 @@
 -- The laws of the beginning, each as one statement.
 use Rattle.std.specs.Prelude.{◌≡◌, ◌≤◌, ◌+◌, ℕ, List, []}
-use Rattle.pm_words.specs.Words.{Words}
-use Rattle.disk_places.specs.Places.{data_blocks, Geometry, IsGeometry, reserve}
-use Rattle.disk_lines.specs.declared.Draft.{Draft}
-use Rattle.disk_lines.specs.declared.Kind.TheVariants.{File}
-use Rattle.disk_lines.specs.Names.{names_of}
+use Rattle.world_steps.specs.pm_words.Words.{Words}
+use Rattle.world_steps.specs.disk_places.Places.{data_blocks, Geometry, IsGeometry, reserve}
+use Rattle.world_steps.specs.disk_lines.declared.Draft.{Draft}
+use Rattle.world_steps.specs.disk_lines.declared.Kind.TheVariants.{File}
+use Rattle.world_steps.specs.disk_lines.Names.{names_of}
 use Rattle.world_steps.specs.disk_rules.Content.{found}
 use Rattle.world_steps.specs.disk_rules.Kept.{AreKept}
 use Rattle.world_steps.specs.disk_rules.Reading.{Reads}
 use Rattle.world_steps.specs.disk_rules.Room.{held_after_recovery}
 use Rattle.world_steps.specs.disk_rules.Volume.{inode, Volume}
 use Rattle.world_steps.specs.k_rules.Spaces.{volume_space}
-use Rattle.posix_types.specs.declared.call.Mode.{Mode}
-use Rattle.posix_types.specs.declared.reply.Shape.{Shape}
-use Rattle.posix_types.specs.declared.tree.TreeEntry.{TreeEntry}
+use Rattle.world_steps.specs.posix_types.declared.call.Mode.{Mode}
+use Rattle.world_steps.specs.posix_types.declared.reply.Shape.{Shape}
+use Rattle.world_steps.specs.posix_types.declared.tree.TreeEntry.{TreeEntry}
 use Rattle.world_steps.specs.posix_spec.State.{space, State}
 use Rattle.world_steps.specs.posix_spec.Tree.{start, tree}
 use Rattle.world_steps.specs.posix_trees.Begins.{IsTree}

@@ -4,13 +4,13 @@ use Rattle.std.proofs.Common.{arith, ap, ◌∙◌, sym, subst, inl, inr}
 use Rattle.std.proofs.lemmas.Bool.{cases_eq}
 use Rattle.std.proofs.lemmas.Bool.Decides.{nat_tests}
 use Rattle.std.proofs.lemmas.Option.{same_Some}
-use Rattle.pm_words.specs.Words.{Words}
-use Rattle.disk_lines.specs.declared.Draft.{Draft}
-use Rattle.disk_lines.specs.declared.Kind.{Kind}
-use Rattle.disk_lines.specs.declared.Kind.TheVariants.{Free, Directory, File, Staging}
-use Rattle.disk_lines.specs.Lines.{is_name, NameRow}
-use Rattle.disk_lines.specs.Names.{child_named, is_child, names_of, row, Rows, walk}
-use Rattle.disk_lines.specs.TableLaws.{child_named-at, is_child-parts, walk-append, walk-one, walk-up}
+use Rattle.world_steps.specs.pm_words.Words.{Words}
+use Rattle.world_steps.specs.disk_lines.declared.Draft.{Draft}
+use Rattle.world_steps.specs.disk_lines.declared.Kind.{Kind}
+use Rattle.world_steps.specs.disk_lines.declared.Kind.TheVariants.{Free, Directory, File, Staging}
+use Rattle.world_steps.specs.disk_lines.Lines.{is_name, NameRow}
+use Rattle.world_steps.specs.disk_lines.Names.{child_named, is_child, names_of, row, Rows, walk}
+use Rattle.world_steps.specs.disk_lines.TableLaws.{child_named-at, is_child-parts, walk-append, walk-one, walk-up}
 use Rattle.world_steps.specs.disk_rules.Content as shown
 use Rattle.world_steps.specs.disk_rules.Content.{bytes_of_file, found, HasBytes, IsDirectory, node_by, node_of}
 use Rattle.world_steps.specs.disk_rules.Live.{is_directory}
@@ -20,9 +20,9 @@ use Rattle.world_steps.specs.name_facts.KeptLaws.{kept-forest, kept-keyed, kept-
 use Rattle.world_steps.specs.name_facts.RowLaws.{row-below}
 use Rattle.world_steps.specs.volume_facts.Lists.{count_by-some}
 use Rattle.world_steps.specs.volume_names.TreeLaws.{one-path}
-use Rattle.posix_types.specs.declared.tree.TreeNode.{TreeNode}
-use Rattle.posix_words.specs.Names.{bytes_before}
-use Rattle.posix_words.specs.Places.{printed}
+use Rattle.world_steps.specs.posix_types.declared.tree.TreeNode.{TreeNode}
+use Rattle.world_steps.specs.posix_words.Names.{bytes_before}
+use Rattle.world_steps.specs.posix_words.Places.{printed}
 use Rattle.world_steps.specs.posix_trees.Order.{not_before_itself}
 use Rattle.world_steps.specs.posix_trees.Paths.{by_last, IsFilled}
 use Rattle.world_steps.specs.world_rules.Shown.{shown_as}

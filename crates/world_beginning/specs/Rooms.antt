@@ -4,20 +4,20 @@ use Rattle.std.specs.List.{range_with_len}
 use Rattle.std.proofs.Common.{arith, ◌∙◌, sym, subst, inl, inr}
 use Rattle.std.proofs.lemmas.Bool.Decides.{nat_tests}
 use Rattle.std.proofs.lemmas.List.FromFn.{get_or-range_with_len, length-range_with_len}
-use Rattle.block_counts.specs.Counts.{held_by, reserve_for}
-use Rattle.pm_words.specs.Words.{Words}
-use Rattle.disk_places.specs.Places.{data_blocks, reserve}
-use Rattle.disk_lines.specs.declared.Draft.{Draft}
-use Rattle.disk_lines.specs.declared.Kind.{Kind}
-use Rattle.disk_lines.specs.declared.Kind.TheVariants.{Free, Directory, File, Staging}
-use Rattle.disk_lines.specs.Names.{names_of}
+use Rattle.world_steps.specs.block_counts.Counts.{held_by, reserve_for}
+use Rattle.world_steps.specs.pm_words.Words.{Words}
+use Rattle.world_steps.specs.disk_places.Places.{data_blocks, reserve}
+use Rattle.world_steps.specs.disk_lines.declared.Draft.{Draft}
+use Rattle.world_steps.specs.disk_lines.declared.Kind.{Kind}
+use Rattle.world_steps.specs.disk_lines.declared.Kind.TheVariants.{Free, Directory, File, Staging}
+use Rattle.world_steps.specs.disk_lines.Names.{names_of}
 use Rattle.world_steps.specs.disk_rules.Content.{size_of}
 use Rattle.world_steps.specs.disk_rules.Live.{is_file}
 use Rattle.world_steps.specs.disk_rules.Room.{held_after_recovery, is_named_file}
 use Rattle.world_steps.specs.disk_rules.Volume.{inode, Volume}
-use Rattle.posix_words.specs.declared.nodes.Node.{Node}
-use Rattle.posix_words.specs.Nodes.{bytes_of, node_at}
-use Rattle.posix_words.specs.Room.{held}
+use Rattle.world_steps.specs.posix_words.declared.nodes.Node.{Node}
+use Rattle.world_steps.specs.posix_words.Nodes.{bytes_of, node_at}
+use Rattle.world_steps.specs.posix_words.Room.{held}
 use Rattle.world_steps.specs.posix_spec.State.{Fits, State}
 use Rattle.world_steps.specs.world_rules.Stands.{NodesStand, NodeStands, number}
 use Rattle.world_steps.specs.world_promise.TreeRules.{used_below}

@@ -7,19 +7,19 @@ use Rattle.std.proofs.Common.{arith, ap, ◌∙◌, append_assoc, sym, subst, in
 use Rattle.std.proofs.lemmas.Grind.{flat_map-append}
 use Rattle.std.proofs.lemmas.Bool.Decides.{nat_tests}
 use Rattle.std.proofs.lemmas.Option.{same_Some}
-use Rattle.pm_words.specs.Words.{Words}
-use Rattle.disk_lines.specs.declared.Draft.{Draft}
-use Rattle.disk_lines.specs.Names.{walk}
-use Rattle.disk_lines.specs.TableLaws.{NamingLine-child_named}
+use Rattle.world_steps.specs.pm_words.Words.{Words}
+use Rattle.world_steps.specs.disk_lines.declared.Draft.{Draft}
+use Rattle.world_steps.specs.disk_lines.Names.{walk}
+use Rattle.world_steps.specs.disk_lines.TableLaws.{NamingLine-child_named}
 use Rattle.world_steps.specs.disk_rules.Content.{bytes_of_file, found, IsDirectory, node_by}
 use Rattle.world_steps.specs.disk_rules.Live.{is_directory}
 use Rattle.world_steps.specs.disk_rules.Volume.{inode, Volume}
 use Rattle.world_steps.specs.name_facts.KeptLaws.{kept-placed}
-use Rattle.posix_types.specs.declared.tree.TreeEntry.{TreeEntry}
-use Rattle.posix_types.specs.declared.tree.TreeNode.{TreeNode}
-use Rattle.posix_words.specs.Names.{bytes_before}
-use Rattle.posix_words.specs.Places.{printed}
-use Rattle.list_facts.specs.Members.{In}
+use Rattle.world_steps.specs.posix_types.declared.tree.TreeEntry.{TreeEntry}
+use Rattle.world_steps.specs.posix_types.declared.tree.TreeNode.{TreeNode}
+use Rattle.world_steps.specs.posix_words.Names.{bytes_before}
+use Rattle.world_steps.specs.posix_words.Places.{printed}
+use Rattle.world_steps.specs.list_facts.Members.{In}
 use Rattle.world_steps.specs.posix_trees.Begins.{Follow, IsTree, MayFollow}
 use Rattle.world_steps.specs.posix_trees.Order.{before_trans, not_before_itself, RisingBy}
 use Rattle.world_steps.specs.posix_trees.Paths.{by_last, IsFilled}

@@ -4,15 +4,15 @@ use Rattle.std.proofs.Common.{arith, ap, ◌∙◌, sym, subst, inl, inr}
 use Rattle.std.proofs.lemmas.Bool.{cases_eq}
 use Rattle.std.proofs.lemmas.Bool.Decides.{nat_tests}
 use Rattle.std.proofs.lemmas.List.{length-set}
-use Rattle.pm_words.specs.declared.Cell.{Cell}
-use Rattle.pm_words.specs.Words.{Words}
-use Rattle.disk_places.specs.Places.{data_blocks}
-use Rattle.extent_words.specs.declared.Extent.{Extent}
-use Rattle.extent_words.specs.Extents.{disk_at, IsCanonical}
-use Rattle.extent_facts.specs.Spelling.{first_here}
-use Rattle.disk_lines.specs.declared.Draft.{Draft}
-use Rattle.disk_lines.specs.declared.Inode.{Inode}
-use Rattle.disk_lines.specs.declared.Kind.TheVariants.{File, Staging}
+use Rattle.world_names.specs.pm_words.declared.Cell.{Cell}
+use Rattle.world_names.specs.pm_words.Words.{Words}
+use Rattle.world_names.specs.disk_places.Places.{data_blocks}
+use Rattle.world_names.specs.extent_words.declared.Extent.{Extent}
+use Rattle.world_names.specs.extent_words.Extents.{disk_at, IsCanonical}
+use Rattle.world_names.specs.extent_facts.Spelling.{first_here}
+use Rattle.world_names.specs.disk_lines.declared.Draft.{Draft}
+use Rattle.world_names.specs.disk_lines.declared.Inode.{Inode}
+use Rattle.world_names.specs.disk_lines.declared.Kind.TheVariants.{File, Staging}
 use Rattle.world_names.specs.disk_rules.Live.{is_file, is_live}
 use Rattle.world_names.specs.disk_rules.Placed.{IsOutside}
 use Rattle.world_names.specs.disk_rules.Room.{unused_blocks}
@@ -29,19 +29,19 @@ use Rattle.k_split.specs.k_plans.Whole.{IsWhole}
 use Rattle.k_split.specs.declared.faults.KFault.{KFault}
 use Rattle.k_split.specs.Answers.{IsAnswer, IsCut, IsDone, IsOff}
 use Rattle.k_split.specs.MapChanges.{IsMapCut, IsMapDone, IsSizeAnswer, IsSizedWith}
-use Rattle.posix_types.specs.declared.call.Call.{Call}
-use Rattle.posix_types.specs.declared.call.Who.{Who}
-use Rattle.posix_types.specs.declared.handle.Flags.{Flags}
-use Rattle.posix_types.specs.declared.handle.Handle.{Handle}
-use Rattle.posix_words.specs.NameRows.{open_rows}
-use Rattle.posix_words.specs.Names.{node_at_path, Space, too_long}
-use Rattle.posix_words.specs.Open.{is_full}
-use Rattle.posix_words.specs.Outcomes.{first}
+use Rattle.world_names.specs.posix_types.declared.call.Call.{Call}
+use Rattle.world_names.specs.posix_types.declared.call.Who.{Who}
+use Rattle.world_names.specs.posix_types.declared.handle.Flags.{Flags}
+use Rattle.world_names.specs.posix_types.declared.handle.Handle.{Handle}
+use Rattle.world_names.specs.posix_words.NameRows.{open_rows}
+use Rattle.world_names.specs.posix_words.Names.{node_at_path, Space, too_long}
+use Rattle.world_names.specs.posix_words.Open.{is_full}
+use Rattle.world_names.specs.posix_words.Outcomes.{first}
 use Rattle.world_names.specs.posix_spec.Run.{after_call}
 use Rattle.world_names.specs.posix_spec.State.{alone, space, State}
 use Rattle.world_names.specs.posix_spec.Step.{is_busy}
 use Rattle.world_names.specs.crash_spec.Busy.{waits_for}
-use Rattle.list_facts.specs.Filters.{filter-agree}
+use Rattle.world_names.specs.list_facts.Filters.{filter-agree}
 use Rattle.world_names.specs.world_rules.Jobs.{Job, live_claims}
 use Rattle.world_names.specs.world_rules.Stands.{entries_of, IsSane, IsUsed, number}
 use Rattle.world_names.specs.world_spaces.Mirrors.{Mirrors, node_at_path-same}

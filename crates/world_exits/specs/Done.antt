@@ -1,20 +1,20 @@
 -- A step of K-Split that is done, one that is cut off, and a call after the power went.
 use Rattle.std.specs.Prelude.{◌≡◌, ◌≢◌, ◌+◌, ℕ, false, List, [], ◌∷◌, ◌++◌, map, Option}
 use Rattle.std.proofs.Common.{ap, ◌∙◌, sym, subst}
-use Rattle.pm_words.specs.declared.Cell.{Cell}
-use Rattle.pm_words.specs.ImageLaws.{IsImage-words_of}
-use Rattle.pm_words.specs.Images.{words_of}
-use Rattle.pm_words.specs.Words.{Words}
-use Rattle.disk_lines.specs.declared.Draft.{Draft}
-use Rattle.disk_lines.specs.declared.Kind.TheVariants.{Staging}
-use Rattle.disk_places.specs.Journal.{journaled}
+use Rattle.world_names.specs.pm_words.declared.Cell.{Cell}
+use Rattle.world_names.specs.pm_words.ImageLaws.{IsImage-words_of}
+use Rattle.world_names.specs.pm_words.Images.{words_of}
+use Rattle.world_names.specs.pm_words.Words.{Words}
+use Rattle.world_names.specs.disk_lines.declared.Draft.{Draft}
+use Rattle.world_names.specs.disk_lines.declared.Kind.TheVariants.{Staging}
+use Rattle.world_names.specs.disk_places.Journal.{journaled}
 use Rattle.world_names.specs.disk_rules.Volume.{extents, inode, Volume}
-use Rattle.extent_words.specs.Extents.{disk_at}
+use Rattle.world_names.specs.extent_words.Extents.{disk_at}
 use Rattle.world_names.specs.k_rules.Stands.{Stands}
 use Rattle.world_names.specs.k_rules.View.{View}
 use Rattle.k_split.specs.Answers.{Changes}
-use Rattle.posix_types.specs.declared.call.Mode.{Mode}
-use Rattle.posix_types.specs.declared.item.Item.{Item}
+use Rattle.world_names.specs.posix_types.declared.call.Mode.{Mode}
+use Rattle.world_names.specs.posix_types.declared.item.Item.{Item}
 use Rattle.world_names.specs.posix_spec.Run.{Begun, run}
 use Rattle.world_names.specs.posix_spec.State.{State}
 use Rattle.world_names.specs.world_rules.Jobs.{Job, JobsStand}

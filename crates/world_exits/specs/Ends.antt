@@ -3,11 +3,11 @@ use Rattle.std.specs.Prelude.{◌≡◌, ◌≢◌, ℕ, Bool, false, true, not,
 use Rattle.std.specs.Option.{option_map_or}
 use Rattle.std.proofs.Common.{ap, ◌∙◌, sym, subst}
 use Rattle.std.proofs.lemmas.Option.{same_Some}
-use Rattle.pm_words.specs.declared.Cell.{Cell}
-use Rattle.pm_words.specs.Images.{words_of}
-use Rattle.pm_words.specs.Words.{Words}
-use Rattle.disk_places.specs.Journal.{journaled}
-use Rattle.disk_lines.specs.declared.Draft.{Draft}
+use Rattle.world_names.specs.pm_words.declared.Cell.{Cell}
+use Rattle.world_names.specs.pm_words.Images.{words_of}
+use Rattle.world_names.specs.pm_words.Words.{Words}
+use Rattle.world_names.specs.disk_places.Journal.{journaled}
+use Rattle.world_names.specs.disk_lines.declared.Draft.{Draft}
 use Rattle.world_names.specs.disk_rules.Live.{is_directory}
 use Rattle.world_names.specs.disk_rules.Volume.{inode, Volume}
 use Rattle.world_names.specs.volume_names.Paths.{CanReplace}
@@ -20,13 +20,13 @@ use Rattle.k_split.specs.k_tables.Found.{IsTargetAt}
 use Rattle.k_split.specs.k_tables.declared.removing.Entry.{Entry}
 use Rattle.k_split.specs.k_tables.declared.renaming.Moving.{Moving}
 use Rattle.k_split.specs.k_plans.Renaming.{file_over, IsRenamed, renamed_over}
-use Rattle.posix_types.specs.declared.call.Call.{Call}
-use Rattle.posix_types.specs.declared.item.Outcome.{Outcome}
-use Rattle.posix_types.specs.declared.reply.Reply.{Reply}
-use Rattle.posix_words.specs.declared.nodes.Node.{Node}
-use Rattle.posix_words.specs.NameRows.{mkdir_rows, rename_rows, rmdir_rows, unlink_rows}
-use Rattle.posix_words.specs.Names.{last_name, node_at_path}
-use Rattle.posix_words.specs.Outcomes.{answer, first}
+use Rattle.world_names.specs.posix_types.declared.call.Call.{Call}
+use Rattle.world_names.specs.posix_types.declared.item.Outcome.{Outcome}
+use Rattle.world_names.specs.posix_types.declared.reply.Reply.{Reply}
+use Rattle.world_names.specs.posix_words.declared.nodes.Node.{Node}
+use Rattle.world_names.specs.posix_words.NameRows.{mkdir_rows, rename_rows, rmdir_rows, unlink_rows}
+use Rattle.world_names.specs.posix_words.Names.{last_name, node_at_path}
+use Rattle.world_names.specs.posix_words.Outcomes.{answer, first}
 use Rattle.world_names.specs.posix_spec.Run.{after_call}
 use Rattle.world_names.specs.posix_spec.State.{alone, space, State, swept, unnamed as unnamed_state, with_node}
 use Rattle.world_names.specs.posix_spec.Step.{mkdir_done, rename_done, renamed as renamed_state, rmdir_done, Stepped, stepped, unlink_done}

@@ -1,7 +1,7 @@
 -- The World over K-Split between two calls, and what one change of the volume makes of it.
 use Rattle.std.specs.Prelude.{◌≡◌, ◌≢◌, ◌≤◌, ℕ, true, false, List, [], map, Option, None, Some, if◌then◌else◌}
-use Rattle.disk_lines.specs.declared.Draft.{Draft}
-use Rattle.disk_lines.specs.declared.Kind.TheVariants.{File, Staging}
+use Rattle.world_names.specs.disk_lines.declared.Draft.{Draft}
+use Rattle.world_names.specs.disk_lines.declared.Kind.TheVariants.{File, Staging}
 use Rattle.world_names.specs.disk_rules.Live.{is_live}
 use Rattle.world_names.specs.disk_rules.Room.{unused_blocks}
 use Rattle.world_names.specs.disk_rules.Volume.{extents, inode, Volume}
@@ -9,16 +9,16 @@ use Rattle.world_names.specs.k_rules.Spaces.{is_directory_in}
 use Rattle.world_names.specs.k_rules.View.{View}
 use Rattle.k_split.specs.k_tables.declared.removing.Entry.{Entry}
 use Rattle.k_split.specs.Order.{IsInOrder}
-use Rattle.posix_types.specs.declared.call.Call.{Call}
-use Rattle.posix_types.specs.declared.call.Who.{Who}
-use Rattle.posix_types.specs.declared.item.Outcome.{Outcome}
-use Rattle.posix_words.specs.NameRows.{mkdir_rows, rename_rows, rmdir_rows, unlink_rows}
-use Rattle.posix_words.specs.Names.{Space}
-use Rattle.posix_words.specs.Outcomes.{first}
+use Rattle.world_names.specs.posix_types.declared.call.Call.{Call}
+use Rattle.world_names.specs.posix_types.declared.call.Who.{Who}
+use Rattle.world_names.specs.posix_types.declared.item.Outcome.{Outcome}
+use Rattle.world_names.specs.posix_words.NameRows.{mkdir_rows, rename_rows, rmdir_rows, unlink_rows}
+use Rattle.world_names.specs.posix_words.Names.{Space}
+use Rattle.world_names.specs.posix_words.Outcomes.{first}
 use Rattle.world_names.specs.posix_spec.Run.{after_call}
 use Rattle.world_names.specs.posix_spec.State.{State}
 use Rattle.world_names.specs.posix_spec.Step.{renamed as renamed_state}
-use Rattle.list_facts.specs.Members.{In}
+use Rattle.world_names.specs.list_facts.Members.{In}
 use Rattle.world_names.specs.world_rules.Jobs.{Job, live_claims}
 use Rattle.world_names.specs.world_rules.Stands.{entries_of}
 use Rattle.world_lent.specs.world_images.Images.{HasRoom, StandsFor}

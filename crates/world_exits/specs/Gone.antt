@@ -3,15 +3,15 @@ use Rattle.std.specs.Prelude.{◌≡◌, ◌≢◌, ◌≤◌, ◌+◌, ℕ, zer
 use Rattle.std.proofs.Common.{arith, ap, ◌∙◌, sym, subst}
 use Rattle.std.proofs.lemmas.List.{get_or-set_other}
 use Rattle.std.proofs.lemmas.List.Sums.{sum_by-cons}
-use Rattle.pm_words.specs.Words.{Words}
-use Rattle.block_counts.specs.Counts.{held_by}
-use Rattle.disk_lines.specs.declared.Draft.{Draft}
+use Rattle.world_names.specs.pm_words.Words.{Words}
+use Rattle.world_names.specs.block_counts.Counts.{held_by}
+use Rattle.world_names.specs.disk_lines.declared.Draft.{Draft}
 use Rattle.world_names.specs.disk_rules.Volume.{Volume}
-use Rattle.posix_types.specs.declared.call.Who.{Who}
-use Rattle.posix_words.specs.declared.nodes.Node.{Node}
-use Rattle.posix_words.specs.Nodes.{bytes_of}
-use Rattle.posix_words.specs.Open.{is_open}
-use Rattle.posix_words.specs.Room.{held}
+use Rattle.world_names.specs.posix_types.declared.call.Who.{Who}
+use Rattle.world_names.specs.posix_words.declared.nodes.Node.{Node}
+use Rattle.world_names.specs.posix_words.Nodes.{bytes_of}
+use Rattle.world_names.specs.posix_words.Open.{is_open}
+use Rattle.world_names.specs.posix_words.Room.{held}
 use Rattle.world_names.specs.posix_puts.ViewLaws.{need_of-kept, PutsWhole-kept}
 use Rattle.world_names.specs.posix_puts.Views.{AreAfforded, KeepsView}
 use Rattle.world_names.specs.posix_spec.Run.{Begun}

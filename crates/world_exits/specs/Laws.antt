@@ -1,9 +1,9 @@
 -- The laws of the World's exits, each as one statement.
 use Rattle.std.specs.Prelude.{◌≡◌, ◌≢◌, ◌<◌, ◌+◌, ◌^◌, ℕ, true, false, length, Option, None, Some, List, [], ◌∷◌, ◌++◌, map, Result}
-use Rattle.pm_words.specs.declared.Cell.{Cell}
-use Rattle.pm_words.specs.Words.{Words}
-use Rattle.disk_lines.specs.declared.Draft.{Draft}
-use Rattle.disk_lines.specs.declared.Kind.TheVariants.{File}
+use Rattle.world_names.specs.pm_words.declared.Cell.{Cell}
+use Rattle.world_names.specs.pm_words.Words.{Words}
+use Rattle.world_names.specs.disk_lines.declared.Draft.{Draft}
+use Rattle.world_names.specs.disk_lines.declared.Kind.TheVariants.{File}
 use Rattle.world_names.specs.disk_rules.Volume.{inode, Volume}
 use Rattle.k_split.specs.map_rules.Changes.{with_size}
 use Rattle.k_split.specs.map_rules.Taken.{switched}
@@ -20,18 +20,18 @@ use Rattle.k_split.specs.k_plans.Whole.{IsWhole}
 use Rattle.k_split.specs.declared.faults.KFault.{KFault}
 use Rattle.k_split.specs.Answers.{IsAnswer, IsCut, IsDone, IsOff}
 use Rattle.k_split.specs.MapChanges.{IsSizeAnswer}
-use Rattle.posix_types.specs.declared.call.Call.{Call}
-use Rattle.posix_types.specs.declared.call.Mode.{Mode}
-use Rattle.posix_types.specs.declared.call.Who.{Who}
-use Rattle.posix_types.specs.declared.handle.Flags.{Flags}
-use Rattle.posix_types.specs.declared.handle.Handle.{Handle}
-use Rattle.posix_types.specs.declared.item.Item.{Item}
-use Rattle.posix_types.specs.declared.item.Outcome.{Outcome}
-use Rattle.posix_types.specs.declared.reply.Reply.{Reply}
-use Rattle.posix_words.specs.NameRows.{mkdir_rows, open_rows, rename_rows, rmdir_rows, unlink_rows}
-use Rattle.posix_words.specs.Names.{node_at_path}
-use Rattle.posix_words.specs.Open.{is_full, is_open}
-use Rattle.posix_words.specs.Outcomes.{answer, first}
+use Rattle.world_names.specs.posix_types.declared.call.Call.{Call}
+use Rattle.world_names.specs.posix_types.declared.call.Mode.{Mode}
+use Rattle.world_names.specs.posix_types.declared.call.Who.{Who}
+use Rattle.world_names.specs.posix_types.declared.handle.Flags.{Flags}
+use Rattle.world_names.specs.posix_types.declared.handle.Handle.{Handle}
+use Rattle.world_names.specs.posix_types.declared.item.Item.{Item}
+use Rattle.world_names.specs.posix_types.declared.item.Outcome.{Outcome}
+use Rattle.world_names.specs.posix_types.declared.reply.Reply.{Reply}
+use Rattle.world_names.specs.posix_words.NameRows.{mkdir_rows, open_rows, rename_rows, rmdir_rows, unlink_rows}
+use Rattle.world_names.specs.posix_words.Names.{node_at_path}
+use Rattle.world_names.specs.posix_words.Open.{is_full, is_open}
+use Rattle.world_names.specs.posix_words.Outcomes.{answer, first}
 use Rattle.world_names.specs.posix_spec.Run.{after_call, Begun, run}
 use Rattle.world_names.specs.posix_spec.State.{alone, State, swept, unnamed as unnamed_state}
 use Rattle.world_names.specs.posix_spec.Step.{is_busy, step}

@@ -30,3 +30,9 @@ pub use Rattle.k_split.specs.block_bytes as block_bytes
 pub use Rattle.world_names.specs.disk_rules as disk_rules
 pub use Rattle.world_names.specs.k_rules as k_rules
 pub use Rattle.world_names.specs.posix_spec as posix_spec
+pub use Rattle.world_names.specs.disk_lines as disk_lines
+pub use Rattle.world_names.specs.disk_places as disk_places
+pub use Rattle.world_names.specs.extent_words as extent_words
+pub use Rattle.world_names.specs.list_facts as list_facts
+pub use Rattle.world_names.specs.pm_words as pm_words
+pub use Rattle.world_names.specs.posix_words as posix_words

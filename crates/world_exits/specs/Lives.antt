@@ -6,12 +6,12 @@ use Rattle.std.proofs.lemmas.Bool.{cases_eq}
 use Rattle.std.proofs.lemmas.Bool.Decides.{Decides-eqb}
 use Rattle.std.proofs.lemmas.List.{get_or-set_other, get_or-set_same}
 use Rattle.std.proofs.lemmas.List.Sums.{sum_by-cons}
-use Rattle.disk_places.specs.Places.{data_blocks, first_data}
-use Rattle.disk_lines.specs.declared.Draft.{Draft}
-use Rattle.disk_lines.specs.declared.Inode.{Inode}
-use Rattle.disk_lines.specs.declared.Kind.{Kind}
-use Rattle.disk_lines.specs.declared.Kind.TheVariants.{File, Free, Staging}
-use Rattle.disk_lines.specs.Lines.{NameRow}
+use Rattle.world_names.specs.disk_places.Places.{data_blocks, first_data}
+use Rattle.world_names.specs.disk_lines.declared.Draft.{Draft}
+use Rattle.world_names.specs.disk_lines.declared.Inode.{Inode}
+use Rattle.world_names.specs.disk_lines.declared.Kind.{Kind}
+use Rattle.world_names.specs.disk_lines.declared.Kind.TheVariants.{File, Free, Staging}
+use Rattle.world_names.specs.disk_lines.Lines.{NameRow}
 use Rattle.world_names.specs.disk_rules.Live.{is_file, is_live, is_of_file}
 use Rattle.world_names.specs.disk_rules.Reading.{node_set, row_set}
 use Rattle.world_names.specs.disk_rules.Room.{has_none, unused_blocks}
@@ -22,8 +22,8 @@ use Rattle.world_names.specs.volume_facts.Lists.{one_if}
 use Rattle.world_names.specs.volume_uses.OwnerLaws.{owners-node, owners-row, owners-set}
 use Rattle.world_names.specs.volume_uses.Uses.{HasAllMaps}
 use Rattle.world_names.specs.k_rules.Changes.{dropped, gone_node, made, new_node}
-use Rattle.list_facts.specs.Filters.{filter-In}
-use Rattle.list_facts.specs.Members.{In}
+use Rattle.world_names.specs.list_facts.Filters.{filter-In}
+use Rattle.world_names.specs.list_facts.Members.{In}
 use Rattle.world_names.specs.world_rules.Jobs.{live_claims}
 use Rattle.world_names.specs.world_rules.Stands.{entries_of}
 use Rattle.world_names.specs.world_steps.Ages.{AreAged, dead-made}

@@ -1,9 +1,9 @@
 -- What a rename makes of the volume and the state: a step of the World, and a second one where a file lost its name.
 use Rattle.std.specs.Prelude.{◌≡◌, ◌⊎◌, ℕ, Bool, false, true, List, [], Option, Some, None, Result, Ok, if◌then◌else◌, refl}
 use Rattle.std.proofs.Common.{ap, ◌∙◌, sym, subst, inl, inr}
-use Rattle.pm_words.specs.Images.{words_of}
-use Rattle.disk_places.specs.Journal.{journaled}
-use Rattle.disk_lines.specs.Lines.{is_name}
+use Rattle.world_names.specs.pm_words.Images.{words_of}
+use Rattle.world_names.specs.disk_places.Journal.{journaled}
+use Rattle.world_names.specs.disk_lines.Lines.{is_name}
 use Rattle.world_names.specs.disk_rules.Reading.{node_set}
 use Rattle.world_names.specs.disk_rules.Volume.{inode, Volume}
 use Rattle.world_names.specs.volume_names.Paths.{CanReplace, IsAt, IsNewAt, MayGo}
@@ -15,11 +15,11 @@ use Rattle.k_split.specs.k_tables.Found.{IsMoving, IsTargetAt}
 use Rattle.k_split.specs.k_tables.declared.removing.Entry.{Entry}
 use Rattle.k_split.specs.k_tables.declared.renaming.Moving.{Moving}
 use Rattle.k_split.specs.k_plans.Renaming.{file_over, renamed_over}
-use Rattle.posix_types.specs.declared.call.Call.{Call}
-use Rattle.posix_types.specs.declared.reply.Errno.{Errno}
-use Rattle.posix_words.specs.NameRows.{rename_rows}
-use Rattle.posix_words.specs.Names.{child_of, last_name, Space, walk}
-use Rattle.posix_words.specs.Outcomes.{first}
+use Rattle.world_names.specs.posix_types.declared.call.Call.{Call}
+use Rattle.world_names.specs.posix_types.declared.reply.Errno.{Errno}
+use Rattle.world_names.specs.posix_words.NameRows.{rename_rows}
+use Rattle.world_names.specs.posix_words.Names.{child_of, last_name, Space, walk}
+use Rattle.world_names.specs.posix_words.Outcomes.{first}
 use Rattle.world_names.specs.posix_spec.Run.{after_call}
 use Rattle.world_names.specs.posix_spec.Step.{renamed as renamed_state}
 use Rattle.world_names.specs.world_rules.Jobs.{Job}

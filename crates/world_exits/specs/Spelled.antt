@@ -5,8 +5,8 @@ use Rattle.std.proofs.Common.{arith}
 use Rattle.std.proofs.lemmas.Bool.{and_from, and_parts, both_ways, false_from_ne_true, or_parts}
 use Rattle.std.proofs.lemmas.Bool.Decides.{nat_tests}
 use Rattle.std.proofs.lemmas.List.Folds.{list_any_at}
-use Rattle.disk_lines.specs.Lines.{is_dots, is_name, is_name_byte}
-use Rattle.posix_words.specs.Names.{is_root, last_name, longest_path, too_long}
+use Rattle.world_names.specs.disk_lines.Lines.{is_dots, is_name, is_name_byte}
+use Rattle.world_names.specs.posix_words.Names.{is_root, last_name, longest_path, too_long}
 use Rattle.world_names.specs.volume_names.TreeLaws.{some-names}
 use Rattle.k_split.specs.path_spelling.Spelling.{AreSpelled, is_spelled}
 

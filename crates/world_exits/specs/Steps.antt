@@ -2,14 +2,14 @@
 use Rattle.std.specs.Prelude.{◌≡◌, ◌≢◌, ℕ, ◌+◌, false, true, List, length, slice_set, Some, None, refl}
 use Rattle.std.proofs.Common.{arith, ap, ◌∙◌, sym, subst}
 use Rattle.std.proofs.lemmas.List.{get_or-set_other, get_or-set_same, length-set}
-use Rattle.pm_words.specs.declared.Cell.{Cell}
-use Rattle.pm_words.specs.ImageLaws.{IsImage-words_of}
-use Rattle.pm_words.specs.Images.{words_of}
-use Rattle.pm_words.specs.Words.{Words}
-use Rattle.disk_places.specs.Journal.{journaled}
-use Rattle.disk_lines.specs.declared.Draft.{Draft}
-use Rattle.disk_lines.specs.declared.Kind.{Kind}
-use Rattle.disk_lines.specs.declared.Kind.TheVariants.{Directory, File, Free, Staging}
+use Rattle.world_names.specs.pm_words.declared.Cell.{Cell}
+use Rattle.world_names.specs.pm_words.ImageLaws.{IsImage-words_of}
+use Rattle.world_names.specs.pm_words.Images.{words_of}
+use Rattle.world_names.specs.pm_words.Words.{Words}
+use Rattle.world_names.specs.disk_places.Journal.{journaled}
+use Rattle.world_names.specs.disk_lines.declared.Draft.{Draft}
+use Rattle.world_names.specs.disk_lines.declared.Kind.{Kind}
+use Rattle.world_names.specs.disk_lines.declared.Kind.TheVariants.{Directory, File, Free, Staging}
 use Rattle.world_names.specs.disk_rules.Live.{is_directory}
 use Rattle.world_names.specs.disk_rules.Reading.{node_set}
 use Rattle.world_names.specs.disk_rules.Volume.{inode, Volume}
@@ -22,11 +22,11 @@ use Rattle.world_names.specs.k_rules.Changes.{dropped, gone_node, made, unnamed}
 use Rattle.world_names.specs.k_rules.Spaces.{volume_space}
 use Rattle.k_split.specs.k_tables.Found.{IsEntryAt}
 use Rattle.k_split.specs.k_tables.declared.removing.Entry.{Entry}
-use Rattle.posix_types.specs.declared.call.Call.{Call}
-use Rattle.posix_words.specs.declared.nodes.Node.{Node}
-use Rattle.posix_words.specs.Names.{last_name, node_at_path, number_at}
-use Rattle.posix_words.specs.NameRows.{unlink_rows}
-use Rattle.posix_words.specs.Outcomes.{first}
+use Rattle.world_names.specs.posix_types.declared.call.Call.{Call}
+use Rattle.world_names.specs.posix_words.declared.nodes.Node.{Node}
+use Rattle.world_names.specs.posix_words.Names.{last_name, node_at_path, number_at}
+use Rattle.world_names.specs.posix_words.NameRows.{unlink_rows}
+use Rattle.world_names.specs.posix_words.Outcomes.{first}
 use Rattle.world_names.specs.posix_spec.Run.{after_call}
 use Rattle.world_names.specs.posix_spec.State.{alone, space, State, swept, unnamed as unnamed_state, with_node}
 use Rattle.world_names.specs.posix_spec.Step.{stepped, unlink_done}

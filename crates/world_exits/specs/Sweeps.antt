@@ -2,15 +2,15 @@
 use Rattle.std.specs.Prelude.{◌≡◌, ◌≢◌, ◌≤◌, ◌==◌, ◌||◌, ℕ, zero, suc, Bool, true, false, List, [], ◌∷◌, map, slice_get, slice_set, Some, refl, if◌then◌else◌}
 use Rattle.std.specs.List.{list_any}
 use Rattle.std.proofs.Common.{arith, ap, ◌∙◌, sym, subst, inl, inr}
-use Rattle.pm_words.specs.Words.{Words}
-use Rattle.disk_lines.specs.declared.Draft.{Draft}
+use Rattle.world_names.specs.pm_words.Words.{Words}
+use Rattle.world_names.specs.disk_lines.declared.Draft.{Draft}
 use Rattle.world_names.specs.disk_rules.Volume.{Volume}
-use Rattle.posix_types.specs.declared.handle.Handle.{Handle}
-use Rattle.posix_types.specs.declared.item.Item.{Item}
-use Rattle.posix_types.specs.declared.tree.TreeEntry.{TreeEntry}
-use Rattle.posix_words.specs.declared.nodes.Node.{Node}
-use Rattle.posix_words.specs.Names.{is_named}
-use Rattle.posix_words.specs.Open.{describes, is_open}
+use Rattle.world_names.specs.posix_types.declared.handle.Handle.{Handle}
+use Rattle.world_names.specs.posix_types.declared.item.Item.{Item}
+use Rattle.world_names.specs.posix_types.declared.tree.TreeEntry.{TreeEntry}
+use Rattle.world_names.specs.posix_words.declared.nodes.Node.{Node}
+use Rattle.world_names.specs.posix_words.Names.{is_named}
+use Rattle.world_names.specs.posix_words.Open.{describes, is_open}
 use Rattle.world_names.specs.posix_spec.Run.{after_call, Begun}
 use Rattle.world_names.specs.posix_spec.State.{alone, room, State, swept, with_node}
 use Rattle.world_names.specs.posix_spec.Tree.{tree}

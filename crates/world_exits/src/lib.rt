@@ -58,4 +58,4 @@ pub fn replies_are_those_of_the_rows()
     ensures answered { DoneByRow }
 {}
 
-pub use k_split;
+pub use k_split::{KFault, KSplit};

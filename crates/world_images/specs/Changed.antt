@@ -3,14 +3,14 @@
 use Rattle.std.specs.Prelude.{◌≡◌, ◌≢◌, ◌⊎◌, ◌≤◌, ◌<◌, ℕ, ◌+◌, ◌*◌, ◌/◌, ◌%◌, ◌^◌, true, false, List, [], Some}
 use Rattle.std.proofs.Common.{arith, ap, ◌∙◌, sym, subst, inl, inr}
 use Rattle.std.proofs.lemmas.Bool.Decides.{nat_tests}
-use Rattle.pm_words.specs.Bytes.{line_bytes-same}
-use Rattle.pm_words.specs.Words.{byte_of, line_bytes, Words}
-use Rattle.disk_places.specs.Journal.{is_journal_word, IsSound, journaled}
-use Rattle.disk_places.specs.PlaceLaws.{behind_log-not_journaled}
-use Rattle.disk_places.specs.Places.{base_word, commit_word, Geometry, is_data_block, is_journaled_line, log_block, log_line, state_line}
-use Rattle.disk_places.specs.Superblock.{geometry_at, has_magic, has_numbers, has_version}
-use Rattle.disk_lines.specs.declared.Draft.{Draft}
-use Rattle.disk_lines.specs.Entries.{held_seq, is_self_valid}
+use Rattle.image_facts.specs.pm_words.Bytes.{line_bytes-same}
+use Rattle.image_facts.specs.pm_words.Words.{byte_of, line_bytes, Words}
+use Rattle.image_facts.specs.disk_places.Journal.{is_journal_word, IsSound, journaled}
+use Rattle.image_facts.specs.disk_places.PlaceLaws.{behind_log-not_journaled}
+use Rattle.image_facts.specs.disk_places.Places.{base_word, commit_word, Geometry, is_data_block, is_journaled_line, log_block, log_line, state_line}
+use Rattle.image_facts.specs.disk_places.Superblock.{geometry_at, has_magic, has_numbers, has_version}
+use Rattle.image_facts.specs.disk_lines.declared.Draft.{Draft}
+use Rattle.image_facts.specs.disk_lines.Entries.{held_seq, is_self_valid}
 use Rattle.image_facts.specs.disk_rules.Live.{entry_in}
 use Rattle.image_facts.specs.disk_rules.Placed.{IsOutside}
 use Rattle.image_facts.specs.disk_rules.Reading.{Reads}

@@ -1,12 +1,12 @@
 -- What the images of a running world show: the parts that stand whatever is in the log lines, and the log.
 use Rattle.std.specs.Prelude.{◌≡◌, ◌<◌, ℕ, true, ◌*◌, List, [], ◌++◌, Option, None}
-use Rattle.pm_words.specs.declared.Cell.{Cell}
-use Rattle.pm_words.specs.Images.{Follows, IsImage}
-use Rattle.pm_words.specs.Words.{line_bytes, Words}
-use Rattle.disk_places.specs.Journal.{journaled}
-use Rattle.disk_places.specs.Places.{data_blocks, Geometry, log_line}
-use Rattle.disk_lines.specs.declared.Draft.{Draft}
-use Rattle.disk_lines.specs.Entries.{held_seq, is_self_valid}
+use Rattle.image_facts.specs.pm_words.declared.Cell.{Cell}
+use Rattle.image_facts.specs.pm_words.Images.{Follows, IsImage}
+use Rattle.image_facts.specs.pm_words.Words.{line_bytes, Words}
+use Rattle.image_facts.specs.disk_places.Journal.{journaled}
+use Rattle.image_facts.specs.disk_places.Places.{data_blocks, Geometry, log_line}
+use Rattle.image_facts.specs.disk_lines.declared.Draft.{Draft}
+use Rattle.image_facts.specs.disk_lines.Entries.{held_seq, is_self_valid}
 use Rattle.image_facts.specs.disk_rules.Checked.{HasHead}
 use Rattle.image_facts.specs.disk_rules.Live.{entry_in}
 use Rattle.image_facts.specs.disk_rules.Reading.{Reads}

@@ -1,10 +1,10 @@
 -- An image that shows the World is checked, has a tree, and only trees that are permitted.
 use Rattle.std.specs.Prelude.{◌≡◌, ◌≢◌, ℕ, ◌*◌, List, [], ◌∷◌, ◌++◌, map, refl}
 use Rattle.std.proofs.Common.{sym, subst}
-use Rattle.pm_words.specs.Words.{Words}
-use Rattle.disk_places.specs.Journal.{journaled}
-use Rattle.disk_places.specs.Places.{Geometry}
-use Rattle.disk_lines.specs.declared.Draft.{Draft}
+use Rattle.image_facts.specs.pm_words.Words.{Words}
+use Rattle.image_facts.specs.disk_places.Journal.{journaled}
+use Rattle.image_facts.specs.disk_places.Places.{Geometry}
+use Rattle.image_facts.specs.disk_lines.declared.Draft.{Draft}
 use Rattle.image_facts.specs.disk_rules.Checked.{IsCheckedAs}
 use Rattle.image_facts.specs.disk_rules.Content.{content}
 use Rattle.image_facts.specs.disk_rules.Reading.{Reads}
@@ -12,9 +12,9 @@ use Rattle.image_facts.specs.disk_rules.Rules.{IsChecked}
 use Rattle.image_facts.specs.disk_rules.Volume.{Volume}
 use Rattle.image_facts.specs.volume_facts.FootprintLaws.{content-own}
 use Rattle.image_facts.specs.CheckedLaws.{checked-parts}
-use Rattle.posix_types.specs.declared.call.Mode.{Mode}
-use Rattle.posix_types.specs.declared.item.Item.{Item}
-use Rattle.posix_types.specs.declared.tree.TreeEntry.{TreeEntry}
+use Rattle.world_log.specs.posix_types.declared.call.Mode.{Mode}
+use Rattle.world_log.specs.posix_types.declared.item.Item.{Item}
+use Rattle.world_log.specs.posix_types.declared.tree.TreeEntry.{TreeEntry}
 use Rattle.world_log.specs.posix_spec.Run.{Begun, run}
 use Rattle.world_log.specs.posix_spec.State.{State}
 use Rattle.world_log.specs.posix_spec.Tree.{tree}

@@ -1,16 +1,16 @@
 -- The laws of the images of a running world, each as one statement.
 use Rattle.std.specs.Prelude.{None, true, false, ◌≡◌, ◌≢◌, ◌⊎◌, ◌≤◌, ◌<◌, ℕ, ◌*◌, length, List, [], ◌∷◌, ◌++◌, map}
-use Rattle.pm_words.specs.declared.Cell.{Cell}
-use Rattle.pm_words.specs.Cells.{AllSingle}
-use Rattle.pm_words.specs.Images.{IsImage, words_of}
-use Rattle.pm_words.specs.Words.{Words}
-use Rattle.disk_places.specs.Journal.{journaled}
-use Rattle.disk_places.specs.Places.{Geometry, IsGeometry}
-use Rattle.disk_lines.specs.declared.Draft.{Draft}
-use Rattle.disk_lines.specs.declared.Kind.{Kind}
-use Rattle.disk_lines.specs.declared.Kind.TheVariants.{File, Free}
-use Rattle.disk_lines.specs.Lines.{NameRow}
-use Rattle.disk_lines.specs.Names.{names_of}
+use Rattle.image_facts.specs.pm_words.declared.Cell.{Cell}
+use Rattle.image_facts.specs.pm_words.Cells.{AllSingle}
+use Rattle.image_facts.specs.pm_words.Images.{IsImage, words_of}
+use Rattle.image_facts.specs.pm_words.Words.{Words}
+use Rattle.image_facts.specs.disk_places.Journal.{journaled}
+use Rattle.image_facts.specs.disk_places.Places.{Geometry, IsGeometry}
+use Rattle.image_facts.specs.disk_lines.declared.Draft.{Draft}
+use Rattle.image_facts.specs.disk_lines.declared.Kind.{Kind}
+use Rattle.image_facts.specs.disk_lines.declared.Kind.TheVariants.{File, Free}
+use Rattle.image_facts.specs.disk_lines.Lines.{NameRow}
+use Rattle.image_facts.specs.disk_lines.Names.{names_of}
 use Rattle.image_facts.specs.disk_rules.Checked.{IsCheckedAs}
 use Rattle.image_facts.specs.disk_rules.Content.{content}
 use Rattle.image_facts.specs.disk_rules.Rules.{geometry_of}
@@ -18,17 +18,17 @@ use Rattle.image_facts.specs.disk_rules.Volume.{inode, Volume}
 use Rattle.world_log.specs.volume_uses.Uses.{HasAllMaps}
 use Rattle.world_beginning.specs.k_rules.Changes.{dropped, made, removed, renamed, renamed_over_directory, renamed_over_file, unnamed}
 use Rattle.world_beginning.specs.k_rules.Stands.{Stands}
-use Rattle.posix_types.specs.declared.call.Call.{Call}
-use Rattle.posix_types.specs.declared.call.Mode.{Mode}
-use Rattle.posix_types.specs.declared.call.Who.{Who}
-use Rattle.posix_types.specs.declared.handle.Handle.{Handle}
-use Rattle.posix_types.specs.declared.item.Item.{Item}
-use Rattle.posix_types.specs.declared.reply.Shape.{Shape}
-use Rattle.posix_types.specs.declared.tree.TreeEntry.{TreeEntry}
-use Rattle.posix_words.specs.NameRows.{rename_rows, unlink_rows}
-use Rattle.posix_words.specs.Names.{directory_stands}
-use Rattle.posix_words.specs.Nodes.{is_directory}
-use Rattle.posix_words.specs.Outcomes.{first}
+use Rattle.world_log.specs.posix_types.declared.call.Call.{Call}
+use Rattle.world_log.specs.posix_types.declared.call.Mode.{Mode}
+use Rattle.world_log.specs.posix_types.declared.call.Who.{Who}
+use Rattle.world_log.specs.posix_types.declared.handle.Handle.{Handle}
+use Rattle.world_log.specs.posix_types.declared.item.Item.{Item}
+use Rattle.world_log.specs.posix_types.declared.reply.Shape.{Shape}
+use Rattle.world_log.specs.posix_types.declared.tree.TreeEntry.{TreeEntry}
+use Rattle.world_log.specs.posix_words.NameRows.{rename_rows, unlink_rows}
+use Rattle.world_log.specs.posix_words.Names.{directory_stands}
+use Rattle.world_log.specs.posix_words.Nodes.{is_directory}
+use Rattle.world_log.specs.posix_words.Outcomes.{first}
 use Rattle.world_log.specs.posix_spec.FileRows.{file_number}
 use Rattle.world_log.specs.posix_spec.Run.{after_call, Begun, run}
 use Rattle.world_log.specs.posix_spec.State.{space, State, unnamed as unnamed_state}

@@ -23,3 +23,12 @@ pub use Rattle.world_beginning.specs.k_rules as k_rules
 pub use Rattle.world_log.specs.crash_spec as crash_spec
 pub use Rattle.world_log.specs.posix_spec as posix_spec
 pub use Rattle.world_log.specs.posix_trees as posix_trees
+pub use Rattle.image_facts.specs.block_counts as block_counts
+pub use Rattle.image_facts.specs.disk_lines as disk_lines
+pub use Rattle.image_facts.specs.disk_places as disk_places
+pub use Rattle.image_facts.specs.extent_facts as extent_facts
+pub use Rattle.image_facts.specs.extent_words as extent_words
+pub use Rattle.image_facts.specs.pm_words as pm_words
+pub use Rattle.world_log.specs.list_facts as list_facts
+pub use Rattle.world_log.specs.posix_types as posix_types
+pub use Rattle.world_log.specs.posix_words as posix_words

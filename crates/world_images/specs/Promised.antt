@@ -1,15 +1,15 @@
 -- The promise of a device.
 use Rattle.std.specs.Prelude.{◌≡◌, ◌*◌, List}
-use Rattle.pm_words.specs.declared.Cell.{Cell}
-use Rattle.pm_words.specs.Cells.{cell}
-use Rattle.pm_words.specs.Images.{IsImage}
-use Rattle.pm_words.specs.Words.{Words}
-use Rattle.disk_places.specs.Places.{Geometry}
+use Rattle.image_facts.specs.pm_words.declared.Cell.{Cell}
+use Rattle.image_facts.specs.pm_words.Cells.{cell}
+use Rattle.image_facts.specs.pm_words.Images.{IsImage}
+use Rattle.image_facts.specs.pm_words.Words.{Words}
+use Rattle.image_facts.specs.disk_places.Places.{Geometry}
 use Rattle.image_facts.specs.disk_rules.Content.{content}
 use Rattle.image_facts.specs.disk_rules.Honest.{IsHonest}
 use Rattle.image_facts.specs.disk_rules.Rules.{geometry_of, IsChecked}
-use Rattle.posix_types.specs.declared.item.Item.{Item}
-use Rattle.posix_types.specs.declared.tree.TreeEntry.{TreeEntry}
+use Rattle.world_log.specs.posix_types.declared.item.Item.{Item}
+use Rattle.world_log.specs.posix_types.declared.tree.TreeEntry.{TreeEntry}
 use Rattle.world_log.specs.posix_spec.Run.{Begun}
 use Rattle.world_log.specs.posix_spec.State.{State}
 use Rattle.world_log.specs.crash_spec.Permitted.{Permitted}

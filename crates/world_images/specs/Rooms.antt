@@ -5,11 +5,11 @@ use Rattle.std.proofs.Common.{arith, ap, ◌∙◌, sym, subst, inl, inr}
 use Rattle.std.proofs.lemmas.Bool.{cases_eq}
 use Rattle.std.proofs.lemmas.List.{get_or-set_other, get_or-set_same}
 use Rattle.std.proofs.lemmas.List.Sums.{sum_by-cons}
-use Rattle.disk_places.specs.Places.{data_blocks, first_data, reserve}
-use Rattle.disk_lines.specs.declared.Draft.{Draft}
-use Rattle.disk_lines.specs.declared.Kind.{Kind}
-use Rattle.disk_lines.specs.declared.Kind.TheVariants.{Free, Staging}
-use Rattle.disk_lines.specs.Lines.{NameRow}
+use Rattle.image_facts.specs.disk_places.Places.{data_blocks, first_data, reserve}
+use Rattle.image_facts.specs.disk_lines.declared.Draft.{Draft}
+use Rattle.image_facts.specs.disk_lines.declared.Kind.{Kind}
+use Rattle.image_facts.specs.disk_lines.declared.Kind.TheVariants.{Free, Staging}
+use Rattle.image_facts.specs.disk_lines.Lines.{NameRow}
 use Rattle.image_facts.specs.disk_rules.Live.{is_file, is_live, is_of_file}
 use Rattle.image_facts.specs.disk_rules.Reading.{node_set, row_set}
 use Rattle.image_facts.specs.disk_rules.Room.{has_none, unused_blocks}
@@ -18,7 +18,7 @@ use Rattle.image_facts.specs.disk_rules.Volume.{free_inode, inode, Volume}
 use Rattle.image_facts.specs.volume_facts.Lists.{one_if}
 use Rattle.world_log.specs.volume_uses.OwnerLaws.{owners-node, owners-row, owners-set}
 use Rattle.world_beginning.specs.k_rules.Changes.{dropped, gone_node, made, new_node, removed, unnamed}
-use Rattle.list_facts.specs.Members.{In}
+use Rattle.world_log.specs.list_facts.Members.{In}
 use Rattle.world_log.specs.posix_spec.State.{State}
 use Rattle.world_log.specs.world_rules.Jobs.{Job, live_claims}
 use Rattle.world_beginning.specs.world_steps.Ages.{AreAged, dead-made}

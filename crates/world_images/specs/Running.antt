@@ -1,18 +1,18 @@
 -- A running world, its promise, and what a change of its volume makes of it, done or cut off.
 use Rattle.std.specs.Prelude.{◌≡◌, ◌≢◌, ◌⊎◌, ℕ, true, List, [], ◌∷◌, refl}
 use Rattle.std.proofs.Common.{ap, append-nil, ◌∙◌, sym, subst, inl, inr}
-use Rattle.pm_words.specs.declared.Cell.{Cell}
-use Rattle.pm_words.specs.Images.{ComesFrom, IsImage}
-use Rattle.pm_words.specs.Words.{Words}
-use Rattle.disk_places.specs.Journal.{IsSound, journaled}
-use Rattle.disk_places.specs.Places.{Geometry, is_data_block}
-use Rattle.disk_lines.specs.declared.Draft.{Draft}
+use Rattle.image_facts.specs.pm_words.declared.Cell.{Cell}
+use Rattle.image_facts.specs.pm_words.Images.{ComesFrom, IsImage}
+use Rattle.image_facts.specs.pm_words.Words.{Words}
+use Rattle.image_facts.specs.disk_places.Journal.{IsSound, journaled}
+use Rattle.image_facts.specs.disk_places.Places.{Geometry, is_data_block}
+use Rattle.image_facts.specs.disk_lines.declared.Draft.{Draft}
 use Rattle.image_facts.specs.disk_rules.Reading.{Reads}
 use Rattle.image_facts.specs.disk_rules.Volume.{Volume}
 use Rattle.world_beginning.specs.k_rules.Stands.{IsOldOrNew}
-use Rattle.posix_types.specs.declared.call.Mode.{Mode}
-use Rattle.posix_types.specs.declared.item.Item.{Item}
-use Rattle.posix_types.specs.declared.tree.TreeEntry.{TreeEntry}
+use Rattle.world_log.specs.posix_types.declared.call.Mode.{Mode}
+use Rattle.world_log.specs.posix_types.declared.item.Item.{Item}
+use Rattle.world_log.specs.posix_types.declared.tree.TreeEntry.{TreeEntry}
 use Rattle.world_log.specs.posix_spec.Run.{Begun, run}
 use Rattle.world_log.specs.posix_spec.State.{State}
 use Rattle.world_log.specs.posix_spec.Tree.{tree}

@@ -1,16 +1,16 @@
 -- No call changes the shape or the mode of a state.
 use Rattle.std.specs.Prelude.{◌≡◌, ◌||◌, ℕ, Bool, true, false, cond, List, [], ◌∷◌, refl}
 use Rattle.std.proofs.Common.{◌∙◌}
-use Rattle.posix_types.specs.declared.call.Call.{Call}
-use Rattle.posix_types.specs.declared.call.Who.{Who}
-use Rattle.posix_types.specs.declared.handle.Flags.{Flags}
-use Rattle.posix_types.specs.declared.handle.Handle.{Handle}
-use Rattle.posix_types.specs.declared.item.Item.{Item}
-use Rattle.posix_words.specs.declared.nodes.Node.{Node}
-use Rattle.posix_words.specs.NameRows.{list_rows, mkdir_rows, open_rows, rename_rows, rmdir_rows, stat_rows, unlink_rows}
-use Rattle.posix_words.specs.Names.{directory_stands, exists_at, file_stands, is_named, number_at}
-use Rattle.posix_words.specs.Open.{closed, is_full, is_open}
-use Rattle.posix_words.specs.Outcomes.{first}
+use Rattle.world_log.specs.posix_types.declared.call.Call.{Call}
+use Rattle.world_log.specs.posix_types.declared.call.Who.{Who}
+use Rattle.world_log.specs.posix_types.declared.handle.Flags.{Flags}
+use Rattle.world_log.specs.posix_types.declared.handle.Handle.{Handle}
+use Rattle.world_log.specs.posix_types.declared.item.Item.{Item}
+use Rattle.world_log.specs.posix_words.declared.nodes.Node.{Node}
+use Rattle.world_log.specs.posix_words.NameRows.{list_rows, mkdir_rows, open_rows, rename_rows, rmdir_rows, stat_rows, unlink_rows}
+use Rattle.world_log.specs.posix_words.Names.{directory_stands, exists_at, file_stands, is_named, number_at}
+use Rattle.world_log.specs.posix_words.Open.{closed, is_full, is_open}
+use Rattle.world_log.specs.posix_words.Outcomes.{first}
 use Rattle.world_log.specs.posix_spec.FileRows.{close_rows, dup_rows, file_number, fsync_rows, read_rows, seek_rows, truncate_rows, write_rows, write_start}
 use Rattle.world_log.specs.posix_spec.Run.{after_call, Begun, run}
 use Rattle.world_log.specs.posix_spec.State.{alone, made, space, State, swept, unnamed, with_file, with_node, with_published}

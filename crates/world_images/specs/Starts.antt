@@ -2,12 +2,12 @@
 use Rattle.std.specs.Prelude.{◌≡◌, ◌≤◌, ◌<◌, ℕ, ◌+◌, Bool, true, false, cond, fold, List, [], ◌∷◌, None, Some, refl}
 use Rattle.std.specs.List.{filter_map, range_with_len}
 use Rattle.std.proofs.Common.{arith, ap, ◌∙◌, sym, subst, inl}
-use Rattle.pm_words.specs.ImageLaws.{image-single}
-use Rattle.pm_words.specs.Images.{IsImage, words_of}
-use Rattle.pm_words.specs.Words.{Words}
-use Rattle.disk_places.specs.Journal.{journaled}
-use Rattle.disk_places.specs.Places.{data_blocks, reserve}
-use Rattle.disk_lines.specs.declared.Draft.{Draft}
+use Rattle.image_facts.specs.pm_words.ImageLaws.{image-single}
+use Rattle.image_facts.specs.pm_words.Images.{IsImage, words_of}
+use Rattle.image_facts.specs.pm_words.Words.{Words}
+use Rattle.image_facts.specs.disk_places.Journal.{journaled}
+use Rattle.image_facts.specs.disk_places.Places.{data_blocks, reserve}
+use Rattle.image_facts.specs.disk_lines.declared.Draft.{Draft}
 use Rattle.image_facts.specs.disk_rules.Content.{content, found}
 use Rattle.image_facts.specs.disk_rules.Live.{entry_in, is_live, live_entries}
 use Rattle.image_facts.specs.disk_rules.Reading.{Reads}
@@ -15,14 +15,14 @@ use Rattle.image_facts.specs.disk_rules.Room.{held_after_recovery}
 use Rattle.image_facts.specs.disk_rules.Rules.{IsOfNoLater}
 use Rattle.image_facts.specs.disk_rules.Volume.{Volume}
 use Rattle.image_facts.specs.volume_facts.FootprintLaws.{content-own}
-use Rattle.posix_types.specs.declared.reply.Shape.{Shape}
-use Rattle.posix_types.specs.declared.tree.TreeEntry.{TreeEntry}
-use Rattle.posix_words.specs.Names.{is_root}
-use Rattle.posix_words.specs.Places.{node_of}
+use Rattle.world_log.specs.posix_types.declared.reply.Shape.{Shape}
+use Rattle.world_log.specs.posix_types.declared.tree.TreeEntry.{TreeEntry}
+use Rattle.world_log.specs.posix_words.Names.{is_root}
+use Rattle.world_log.specs.posix_words.Places.{node_of}
 use Rattle.world_log.specs.posix_spec.State.{made, State}
 use Rattle.world_log.specs.posix_spec.Tree.{bare, planted, start}
-use Rattle.list_facts.specs.Filters.{filter-In, filter_map-In, range-In}
-use Rattle.list_facts.specs.Members.{In}
+use Rattle.world_log.specs.list_facts.Filters.{filter-In, filter_map-In, range-In}
+use Rattle.world_log.specs.list_facts.Members.{In}
 use Rattle.world_log.specs.world_rules.Shown.{IsTreeOfContent}
 use Rattle.world_beginning.specs.Beginnings.{begins, mounts}
 use Rattle.world_beginning.specs.Begun.{numbers_of}

@@ -4,24 +4,24 @@ use Rattle.std.specs.Option.{option_map_or}
 use Rattle.std.proofs.Common.{ap, ◌∙◌, sym, inl, inr}
 use Rattle.std.proofs.lemmas.Bool.{eq-eqb}
 use Rattle.std.proofs.lemmas.List.{get_or-set_other}
-use Rattle.posix_types.specs.declared.item.Outcome.{Outcome}
-use Rattle.posix_types.specs.declared.reply.Errno.{Errno}
-use Rattle.posix_types.specs.declared.reply.Reply.{Reply}
-use Rattle.posix_types.specs.declared.tree.TreeNode.{TreeNode}
-use Rattle.posix_words.specs.declared.nodes.DirEntry.{DirEntry}
-use Rattle.posix_words.specs.declared.nodes.Node.{Node}
-use Rattle.posix_words.specs.declared.places.Place.{Place}
-use Rattle.posix_words.specs.NameRows.{too_long_row, unlink_rows, walk_row}
-use Rattle.posix_words.specs.Names.{directory_stands, exists_at, file_stands, is_named, is_root, node_at_path, number_at}
-use Rattle.posix_words.specs.Nodes.{is_directory, node_at, published_node}
-use Rattle.posix_words.specs.Open.{closed, is_open}
-use Rattle.posix_words.specs.Outcomes.{answer, first, row}
-use Rattle.posix_words.specs.Places.{entry_place, place_of, places, tree_entry, tree_node}
+use Rattle.world_log.specs.posix_types.declared.item.Outcome.{Outcome}
+use Rattle.world_log.specs.posix_types.declared.reply.Errno.{Errno}
+use Rattle.world_log.specs.posix_types.declared.reply.Reply.{Reply}
+use Rattle.world_log.specs.posix_types.declared.tree.TreeNode.{TreeNode}
+use Rattle.world_log.specs.posix_words.declared.nodes.DirEntry.{DirEntry}
+use Rattle.world_log.specs.posix_words.declared.nodes.Node.{Node}
+use Rattle.world_log.specs.posix_words.declared.places.Place.{Place}
+use Rattle.world_log.specs.posix_words.NameRows.{too_long_row, unlink_rows, walk_row}
+use Rattle.world_log.specs.posix_words.Names.{directory_stands, exists_at, file_stands, is_named, is_root, node_at_path, number_at}
+use Rattle.world_log.specs.posix_words.Nodes.{is_directory, node_at, published_node}
+use Rattle.world_log.specs.posix_words.Open.{closed, is_open}
+use Rattle.world_log.specs.posix_words.Outcomes.{answer, first, row}
+use Rattle.world_log.specs.posix_words.Places.{entry_place, place_of, places, tree_entry, tree_node}
 use Rattle.world_log.specs.posix_spec.FileRows.{close_rows, file_number}
 use Rattle.world_log.specs.posix_spec.State.{alone, space, State, swept, unnamed, with_node, with_published}
 use Rattle.world_log.specs.posix_spec.Step.{close_done, rename_done, renamed, stepped, unlink_done}
 use Rattle.world_log.specs.posix_spec.Tree.{tree}
-use Rattle.list_facts.specs.Members.{In}
+use Rattle.world_log.specs.list_facts.Members.{In}
 use Rattle.world_log.specs.posix_trees.TreeLaws.{put_all-In}
 use Rattle.world_images.specs.Laws.{HasTreeOfClose, HasTreeOfRename, HasTreeOfUnlink}
 

@@ -4,11 +4,11 @@ use Rattle.std.proofs.Common.{arith, ap, ◌∙◌, sym, subst}
 use Rattle.std.proofs.lemmas.Bool.{ne_eqb}
 use Rattle.std.proofs.lemmas.List.{get_or-set_other}
 use Rattle.std.proofs.lemmas.List.Sums.{sum_by-cons}
-use Rattle.pm_words.specs.Words.{Words}
-use Rattle.disk_lines.specs.declared.Draft.{Draft}
+use Rattle.world_log.specs.pm_words.Words.{Words}
+use Rattle.world_log.specs.disk_lines.declared.Draft.{Draft}
 use Rattle.world_log.specs.disk_rules.Volume.{Volume}
-use Rattle.posix_words.specs.declared.nodes.Node.{Node}
-use Rattle.posix_words.specs.Nodes.{node_at, published_of}
+use Rattle.world_log.specs.posix_words.declared.nodes.Node.{Node}
+use Rattle.world_log.specs.posix_words.Nodes.{node_at, published_of}
 use Rattle.world_log.specs.posix_spec.Run.{after_call, Begun}
 use Rattle.world_log.specs.posix_spec.State.{room, State}
 use Rattle.world_log.specs.posix_puts.Puts.{LeavesWhole, with_whole}

@@ -4,19 +4,19 @@ use Rattle.std.proofs.Common.{arith, ap, ◌∙◌, sym, subst, inl, inr}
 use Rattle.std.proofs.lemmas.Bool.{and_parts}
 use Rattle.std.proofs.lemmas.Bool.Decides.{Decides-eqb}
 use Rattle.std.proofs.lemmas.List.Sums.{sum_by-cons}
-use Rattle.pm_words.specs.Words.{Words}
-use Rattle.disk_lines.specs.declared.Draft.{Draft}
-use Rattle.disk_lines.specs.declared.Kind.{Kind}
-use Rattle.disk_lines.specs.declared.Kind.TheVariants.{Directory, File, Free, Staging}
+use Rattle.world_log.specs.pm_words.Words.{Words}
+use Rattle.world_log.specs.disk_lines.declared.Draft.{Draft}
+use Rattle.world_log.specs.disk_lines.declared.Kind.{Kind}
+use Rattle.world_log.specs.disk_lines.declared.Kind.TheVariants.{Directory, File, Free, Staging}
 use Rattle.world_log.specs.disk_rules.Rules.{IsKindAt}
 use Rattle.world_log.specs.disk_rules.Live.{is_file, is_live, is_of_file}
 use Rattle.world_log.specs.disk_rules.Reading.{base_set}
 use Rattle.world_log.specs.disk_rules.Volume.{inode, Volume}
 use Rattle.world_steps.specs.volume_changes.MapLaws.{base-keeps}
-use Rattle.posix_words.specs.Nodes.{node_at}
+use Rattle.world_log.specs.posix_words.Nodes.{node_at}
 use Rattle.world_log.specs.posix_spec.Run.{after_call, Begun}
 use Rattle.world_log.specs.posix_spec.State.{room, State}
-use Rattle.list_facts.specs.Members.{In}
+use Rattle.world_log.specs.list_facts.Members.{In}
 use Rattle.world_log.specs.posix_puts.Views.{need_of}
 use Rattle.world_log.specs.crash_spec.Sync.{with_bytes}
 use Rattle.world_log.specs.world_rules.Jobs.{ApartFrom, AreApartJobs, begun_of, Job, JobsStand, JobStands, live_claims, Valid}

@@ -1,19 +1,19 @@
 -- The laws of jobs and laps, of resized files and of bytes in place, each as one statement. `IsWorld v claims jobs f numbers s count`: the World is valid,
 -- `count` nodes were made since the lap began, and `numbers` has the node of each inode.
 use Rattle.std.specs.Prelude.{◌≡◌, ◌<◌, ◌≤◌, ◌+◌, ◌^◌, ℕ, true, List, [], ◌∷◌, ◌++◌, None, Some, slice_set}
-use Rattle.pm_words.specs.Words.{Words}
-use Rattle.disk_lines.specs.declared.Draft.{Draft}
+use Rattle.world_log.specs.pm_words.Words.{Words}
+use Rattle.world_log.specs.disk_lines.declared.Draft.{Draft}
 use Rattle.world_log.specs.disk_rules.Reading.{base_set}
 use Rattle.world_log.specs.disk_rules.Volume.{Volume}
-use Rattle.posix_types.specs.declared.call.Call.{Call}
-use Rattle.posix_types.specs.declared.call.Who.{Who}
-use Rattle.posix_types.specs.declared.handle.Flags.{Flags}
-use Rattle.posix_types.specs.declared.handle.Handle.{Handle}
-use Rattle.posix_words.specs.declared.nodes.Node.{Node}
-use Rattle.posix_words.specs.Bytes.{resized}
-use Rattle.posix_words.specs.NameRows.{open_rows}
-use Rattle.posix_words.specs.Open.{is_full}
-use Rattle.posix_words.specs.Outcomes.{first}
+use Rattle.world_log.specs.posix_types.declared.call.Call.{Call}
+use Rattle.world_log.specs.posix_types.declared.call.Who.{Who}
+use Rattle.world_log.specs.posix_types.declared.handle.Flags.{Flags}
+use Rattle.world_log.specs.posix_types.declared.handle.Handle.{Handle}
+use Rattle.world_log.specs.posix_words.declared.nodes.Node.{Node}
+use Rattle.world_log.specs.posix_words.Bytes.{resized}
+use Rattle.world_log.specs.posix_words.NameRows.{open_rows}
+use Rattle.world_log.specs.posix_words.Open.{is_full}
+use Rattle.world_log.specs.posix_words.Outcomes.{first}
 use Rattle.world_log.specs.posix_spec.FileRows.{content, truncate_rows}
 use Rattle.world_log.specs.posix_spec.Run.{after_call}
 use Rattle.world_log.specs.posix_spec.State.{alone, room, space, State}
@@ -21,7 +21,7 @@ use Rattle.world_log.specs.posix_spec.Step.{is_busy}
 use Rattle.world_log.specs.crash_spec.Busy.{waits_for}
 use Rattle.world_steps.specs.posix_frames.Needs.{needs as needs_of}
 use Rattle.world_steps.specs.posix_frames.Rooms.{FitsBeside}
-use Rattle.list_facts.specs.Members.{In}
+use Rattle.world_log.specs.list_facts.Members.{In}
 use Rattle.world_log.specs.posix_puts.Views.{need_of}
 use Rattle.world_log.specs.world_rules.Jobs.{AreApartJobs, begun_of, HoldsWhole, Job, JobStands, live_claims}
 use Rattle.world_log.specs.world_rules.Shown.{SameButLent}

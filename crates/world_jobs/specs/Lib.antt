@@ -22,3 +22,12 @@ pub use Rattle.world_log.specs.posix_spec as posix_spec
 pub use Rattle.world_log.specs.posix_trees as posix_trees
 pub use Rattle.world_log.specs.volume_facts as volume_facts
 pub use Rattle.world_steps.specs.k_rules as k_rules
+pub use Rattle.world_log.specs.block_counts as block_counts
+pub use Rattle.world_log.specs.disk_lines as disk_lines
+pub use Rattle.world_log.specs.disk_places as disk_places
+pub use Rattle.world_log.specs.extent_facts as extent_facts
+pub use Rattle.world_log.specs.extent_words as extent_words
+pub use Rattle.world_log.specs.list_facts as list_facts
+pub use Rattle.world_log.specs.pm_words as pm_words
+pub use Rattle.world_log.specs.posix_types as posix_types
+pub use Rattle.world_log.specs.posix_words as posix_words

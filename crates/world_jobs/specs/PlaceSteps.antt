@@ -4,19 +4,19 @@ use Rattle.std.proofs.Common.{arith, ap, ◌∙◌, sym, subst, inl, inr}
 use Rattle.std.proofs.lemmas.Bool.{and_parts, cases_eq, cases_lt, eq-eqb}
 use Rattle.std.proofs.lemmas.Bool.Decides.{Decides-eqb}
 use Rattle.std.proofs.lemmas.List.{get_or_past, get_or-set_other, get_or-set_same, length-set}
-use Rattle.pm_words.specs.Words.{Words}
-use Rattle.extent_words.specs.Extents.{disk_at, is_within}
-use Rattle.disk_lines.specs.declared.Draft.{Draft}
-use Rattle.disk_lines.specs.declared.Kind.{Kind}
-use Rattle.disk_lines.specs.declared.Kind.TheVariants.{Free, File, Staging}
+use Rattle.world_log.specs.pm_words.Words.{Words}
+use Rattle.world_log.specs.extent_words.Extents.{disk_at, is_within}
+use Rattle.world_log.specs.disk_lines.declared.Draft.{Draft}
+use Rattle.world_log.specs.disk_lines.declared.Kind.{Kind}
+use Rattle.world_log.specs.disk_lines.declared.Kind.TheVariants.{Free, File, Staging}
 use Rattle.world_log.specs.disk_rules.Content.{byte_in, disk_by, disk_of, entry_of_block}
 use Rattle.world_log.specs.disk_rules.Volume.{extents, free_inode, inode, Volume}
 use Rattle.world_log.specs.volume_uses.OwnerLaws.{IsOnePlace, one_owner}
-use Rattle.posix_words.specs.declared.nodes.Node.{Node}
-use Rattle.posix_words.specs.Nodes.{bytes_of, node_at}
+use Rattle.world_log.specs.posix_words.declared.nodes.Node.{Node}
+use Rattle.world_log.specs.posix_words.Nodes.{bytes_of, node_at}
 use Rattle.world_log.specs.posix_spec.State.{State}
-use Rattle.list_facts.specs.Filters.{filter-In}
-use Rattle.list_facts.specs.Members.{In}
+use Rattle.world_log.specs.list_facts.Filters.{filter-In}
+use Rattle.world_log.specs.list_facts.Members.{In}
 use Rattle.world_log.specs.crash_spec.Sync.{IsPartOf}
 use Rattle.world_steps.specs.posix_frames.Needs.{AreInFlight}
 use Rattle.world_log.specs.world_rules.Jobs.{Job, JobsStand, live_claims}

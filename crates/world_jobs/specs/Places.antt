@@ -1,9 +1,9 @@
 -- Bytes in place: what is asked of the change.
 use Rattle.std.specs.Prelude.{◌≡◌, ◌≢◌, ◌<◌, ◌+◌, ◌*◌, ◌/◌, ℕ, true, List, length, Some, slice_index}
-use Rattle.pm_words.specs.Words.{byte_of, Words}
-use Rattle.disk_places.specs.Places.{is_data_block}
-use Rattle.disk_lines.specs.declared.Draft.{Draft}
-use Rattle.disk_lines.specs.declared.Kind.TheVariants.{File}
+use Rattle.world_log.specs.pm_words.Words.{byte_of, Words}
+use Rattle.world_log.specs.disk_places.Places.{is_data_block}
+use Rattle.world_log.specs.disk_lines.declared.Draft.{Draft}
+use Rattle.world_log.specs.disk_lines.declared.Kind.TheVariants.{File}
 use Rattle.world_log.specs.disk_rules.Content.{byte_in, disk_of, size_of}
 use Rattle.world_log.specs.disk_rules.Volume.{inode, Volume}
 

@@ -5,27 +5,27 @@ use Rattle.std.proofs.Common.{ap, ◌∙◌, sym, subst, inl, inr}
 use Rattle.std.proofs.lemmas.Bool.{and_parts, cases_Bool, cases_eq, eq-eqb, ne_eqb}
 use Rattle.std.proofs.lemmas.Bool.Decides.{Decides-eqb}
 use Rattle.std.proofs.lemmas.List.{get_or-set_other, get_or-set_same, length-set}
-use Rattle.pm_words.specs.Words.{Words}
-use Rattle.extent_words.specs.Extents.{is_within}
-use Rattle.disk_lines.specs.declared.Draft.{Draft}
-use Rattle.disk_lines.specs.declared.Kind.TheVariants.{File, Staging}
-use Rattle.disk_lines.specs.Names.{child_named}
+use Rattle.world_log.specs.pm_words.Words.{Words}
+use Rattle.world_log.specs.extent_words.Extents.{is_within}
+use Rattle.world_log.specs.disk_lines.declared.Draft.{Draft}
+use Rattle.world_log.specs.disk_lines.declared.Kind.TheVariants.{File, Staging}
+use Rattle.world_log.specs.disk_lines.Names.{child_named}
 use Rattle.world_log.specs.disk_rules.Content.{byte_in, disk_by, entry_of_block, size_by}
 use Rattle.world_log.specs.disk_rules.Live.{is_file, is_live, is_of_file, latest}
 use Rattle.world_log.specs.disk_rules.Volume.{inode, Volume}
-use Rattle.posix_types.specs.declared.call.Call.{Call}
-use Rattle.posix_words.specs.declared.nodes.Node.{Node}
-use Rattle.posix_words.specs.declared.open.Description.{Description}
-use Rattle.posix_words.specs.Bytes.{resized}
-use Rattle.posix_words.specs.Names.{exists_at, node_at_path, number_at, too_long}
-use Rattle.posix_words.specs.Nodes.{node_at}
-use Rattle.posix_words.specs.Open.{opened}
+use Rattle.world_log.specs.posix_types.declared.call.Call.{Call}
+use Rattle.world_log.specs.posix_words.declared.nodes.Node.{Node}
+use Rattle.world_log.specs.posix_words.declared.open.Description.{Description}
+use Rattle.world_log.specs.posix_words.Bytes.{resized}
+use Rattle.world_log.specs.posix_words.Names.{exists_at, node_at_path, number_at, too_long}
+use Rattle.world_log.specs.posix_words.Nodes.{node_at}
+use Rattle.world_log.specs.posix_words.Open.{opened}
 use Rattle.world_log.specs.posix_spec.FileRows.{content, file_number}
 use Rattle.world_log.specs.posix_spec.Run.{after_call, Begun}
 use Rattle.world_log.specs.posix_spec.State.{made, space, State, with_file, with_node}
 use Rattle.world_log.specs.posix_spec.Step.{empty_file, open_done, opening, stepped, truncate_done}
-use Rattle.list_facts.specs.Filters.{filter-In, In-filter}
-use Rattle.list_facts.specs.Members.{In}
+use Rattle.world_log.specs.list_facts.Filters.{filter-In, In-filter}
+use Rattle.world_log.specs.list_facts.Members.{In}
 use Rattle.world_log.specs.crash_spec.Busy.{waits_for}
 use Rattle.world_log.specs.world_rules.Jobs.{Job, live_claims}
 use Rattle.world_log.specs.world_rules.Stands.{entries_of, FileStands, is_used, IsSane, IsUsed, NamesStand, NodeStands, number}

@@ -1,8 +1,8 @@
 -- A file of which nothing is live has another map and another size: what is asked of the change.
 use Rattle.std.specs.Prelude.{◌≡◌, ◌≢◌, ◌<◌, ◌/◌, ℕ, List, length, slice_index}
-use Rattle.pm_words.specs.Words.{Words}
-use Rattle.extent_words.specs.Extents.{disk_at}
-use Rattle.disk_lines.specs.declared.Kind.TheVariants.{File}
+use Rattle.world_log.specs.pm_words.Words.{Words}
+use Rattle.world_log.specs.extent_words.Extents.{disk_at}
+use Rattle.world_log.specs.disk_lines.declared.Kind.TheVariants.{File}
 use Rattle.world_log.specs.disk_rules.Content.{byte_in}
 use Rattle.world_log.specs.disk_rules.Volume.{extents, inode, Volume}
 use Rattle.world_log.specs.world_rules.Stands.{IsSane}

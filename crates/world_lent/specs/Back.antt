@@ -1,11 +1,11 @@
 -- The images of a device whose log lines and data blocks are out: those that a power loss may leave once each of them is put
 -- back as it was at that moment.
 use Rattle.std.specs.Prelude.{ℕ, List, Option}
-use Rattle.pm_words.specs.declared.Cell.{Cell}
-use Rattle.pm_words.specs.Parts.{IsImageWith, put_back}
-use Rattle.pm_words.specs.Words.{Words}
-use Rattle.disk_places.specs.Journal.{journaled}
-use Rattle.disk_lines.specs.declared.Draft.{Draft}
+use Rattle.world_images.specs.pm_words.declared.Cell.{Cell}
+use Rattle.world_images.specs.pm_words.Parts.{IsImageWith, put_back}
+use Rattle.world_images.specs.pm_words.Words.{Words}
+use Rattle.world_images.specs.disk_places.Journal.{journaled}
+use Rattle.world_images.specs.disk_lines.declared.Draft.{Draft}
 use Rattle.world_images.specs.disk_rules.Honest.{IsHonestWith}
 use Rattle.world_images.specs.disk_rules.Volume.{Volume}
 use Rattle.world_images.specs.world_rules.Jobs.{Job}

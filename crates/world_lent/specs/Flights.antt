@@ -1,25 +1,25 @@
 -- The promise while writes are in flight, proved.
 use Rattle.std.specs.Prelude.{◌≡◌, ◌≢◌, ◌⊎◌, ◌<◌, ◌≤◌, ◌+◌, ◌*◌, ◌/◌, ◌^◌, ℕ, cond, true, List, [], ◌∷◌, ◌++◌, Option, None, Some, map, refl}
 use Rattle.std.proofs.Common.{ap, arith, inl, inr, ◌∙◌, subst, sym}
-use Rattle.pm_words.specs.declared.Cell.{Cell}
-use Rattle.pm_words.specs.declared.Cell.TheVariants.{Lent, Marked, Single, Two}
-use Rattle.pm_words.specs.Bytes.{line_bytes-same}
-use Rattle.pm_words.specs.Cells.{cell, is_lent, IsCandidate}
-use Rattle.pm_words.specs.Images.{ComesFrom, IsImage}
-use Rattle.pm_words.specs.Parts.{IsImageWith, put_back}
-use Rattle.pm_words.specs.Words.{line_bytes, Words}
-use Rattle.disk_places.specs.Journal.{IsSound, journaled}
-use Rattle.disk_places.specs.PlaceLaws.{behind_log-not_journaled, behind_log-words}
-use Rattle.disk_places.specs.Places.{base_word, Geometry, is_data_block, log_line}
-use Rattle.disk_lines.specs.declared.Draft.{Draft}
-use Rattle.disk_lines.specs.Entries.{is_self_valid}
+use Rattle.world_images.specs.pm_words.declared.Cell.{Cell}
+use Rattle.world_images.specs.pm_words.declared.Cell.TheVariants.{Lent, Marked, Single, Two}
+use Rattle.world_images.specs.pm_words.Bytes.{line_bytes-same}
+use Rattle.world_images.specs.pm_words.Cells.{cell, is_lent, IsCandidate}
+use Rattle.world_images.specs.pm_words.Images.{ComesFrom, IsImage}
+use Rattle.world_images.specs.pm_words.Parts.{IsImageWith, put_back}
+use Rattle.world_images.specs.pm_words.Words.{line_bytes, Words}
+use Rattle.world_images.specs.disk_places.Journal.{IsSound, journaled}
+use Rattle.world_images.specs.disk_places.PlaceLaws.{behind_log-not_journaled, behind_log-words}
+use Rattle.world_images.specs.disk_places.Places.{base_word, Geometry, is_data_block, log_line}
+use Rattle.world_images.specs.disk_lines.declared.Draft.{Draft}
+use Rattle.world_images.specs.disk_lines.Entries.{is_self_valid}
 use Rattle.world_images.specs.disk_rules.Honest.{IsHonest, IsTorn}
 use Rattle.world_images.specs.disk_rules.Reading.{Reads}
 use Rattle.world_images.specs.disk_rules.Volume.{Volume}
 use Rattle.world_images.specs.volume_facts.ImageLaws.{journaled-other}
 use Rattle.world_images.specs.k_rules.Stands.{IsOldOrNew}
-use Rattle.posix_types.specs.declared.call.Mode.{Mode}
-use Rattle.posix_types.specs.declared.item.Item.{Item}
+use Rattle.posix_orders.specs.posix_types.declared.call.Mode.{Mode}
+use Rattle.posix_orders.specs.posix_types.declared.item.Item.{Item}
 use Rattle.posix_orders.specs.posix_spec.Run.{after_call, Begun, run}
 use Rattle.posix_orders.specs.posix_spec.State.{State}
 use Rattle.posix_orders.specs.crash_spec.Permitted.{Permitted}

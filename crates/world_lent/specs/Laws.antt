@@ -1,12 +1,12 @@
 -- What the World promises while lines and blocks are out, each promise as one statement.
 use Rattle.std.specs.Prelude.{◌≡◌, ◌≢◌, ◌≤◌, ◌+◌, ℕ, List, [], ◌∷◌, ◌++◌, Option, map}
-use Rattle.pm_words.specs.declared.Cell.{Cell}
-use Rattle.pm_words.specs.Words.{Words}
-use Rattle.disk_lines.specs.declared.Draft.{Draft}
+use Rattle.world_images.specs.pm_words.declared.Cell.{Cell}
+use Rattle.world_images.specs.pm_words.Words.{Words}
+use Rattle.world_images.specs.disk_lines.declared.Draft.{Draft}
 use Rattle.world_images.specs.disk_rules.Volume.{Volume}
-use Rattle.posix_types.specs.declared.call.Mode.{Mode}
-use Rattle.posix_types.specs.declared.item.Item.{Item}
-use Rattle.posix_types.specs.declared.tree.TreeEntry.{TreeEntry}
+use Rattle.posix_orders.specs.posix_types.declared.call.Mode.{Mode}
+use Rattle.posix_orders.specs.posix_types.declared.item.Item.{Item}
+use Rattle.posix_orders.specs.posix_types.declared.tree.TreeEntry.{TreeEntry}
 use Rattle.posix_orders.specs.posix_spec.Run.{after_call, Begun, run}
 use Rattle.posix_orders.specs.posix_spec.State.{room, State}
 use Rattle.posix_orders.specs.crash_spec.Strict.{StrictFrom}

@@ -13,3 +13,4 @@ pub use Rattle.world_images.specs.world_steps as world_steps
 pub use Rattle.world_images.specs.disk_rules as disk_rules
 pub use Rattle.world_images.specs.k_rules as k_rules
 pub use Rattle.world_images.specs.volume_facts as volume_facts
+pub use Rattle.world_images.specs.extent_facts as extent_facts

@@ -2,13 +2,13 @@
 use Rattle.std.specs.Prelude.{◌≡◌, ◌≢◌, ◌≤◌, ◌<◌, ℕ, zero, suc, ◌+◌, Bool, true, false, cond, List, [], ◌∷◌, ◌++◌, length, filter, Option, Some, None, refl}
 use Rattle.std.specs.List.{cons_option, filter_map, range_with_len}
 use Rattle.std.proofs.Common.{arith, ap, sym, subst, append_assoc, append-nil, length-append}
-use Rattle.pm_words.specs.Words.{Words}
-use Rattle.disk_lines.specs.declared.Draft.{Draft}
+use Rattle.world_promise.specs.pm_words.Words.{Words}
+use Rattle.world_promise.specs.disk_lines.declared.Draft.{Draft}
 use Rattle.world_promise.specs.disk_rules.Live.{entry_in, is_live, live_entries}
 use Rattle.world_promise.specs.disk_rules.Volume.{Volume}
 use Rattle.world_promise.specs.posix_spec.State.{State}
-use Rattle.list_facts.specs.Filters.{filter-In, filter_map-In, range-In}
-use Rattle.list_facts.specs.Members.{In}
+use Rattle.world_promise.specs.list_facts.Filters.{filter-In, filter_map-In, range-In}
+use Rattle.world_promise.specs.list_facts.Members.{In}
 use Rattle.world_promise.specs.world_rules.Claims.{ClaimsStand}
 use Rattle.world_promise.specs.world_rules.Jobs.{Job, live_claims, Valid}
 use Rattle.world_promise.specs.world_rules.Shown.{AreFilled, landed_pairs, ShowsClaims}

@@ -5,19 +5,19 @@ use Rattle.std.proofs.Common.{arith, ap, sym, subst}
 use Rattle.std.proofs.lemmas.Bool.{and_parts}
 use Rattle.std.proofs.lemmas.List.{get_or-set_other}
 use Rattle.std.proofs.lemmas.List.Sums.{sum_by-cons}
-use Rattle.block_counts.specs.Counts.{held_by, reserve_for}
-use Rattle.pm_words.specs.Words.{Words}
-use Rattle.disk_places.specs.Places.{data_blocks, reserve}
-use Rattle.disk_lines.specs.declared.Draft.{Draft}
-use Rattle.disk_lines.specs.declared.Kind.TheVariants.{File}
-use Rattle.disk_lines.specs.Names.{names_of}
+use Rattle.world_promise.specs.block_counts.Counts.{held_by, reserve_for}
+use Rattle.world_promise.specs.pm_words.Words.{Words}
+use Rattle.world_promise.specs.disk_places.Places.{data_blocks, reserve}
+use Rattle.world_promise.specs.disk_lines.declared.Draft.{Draft}
+use Rattle.world_promise.specs.disk_lines.declared.Kind.TheVariants.{File}
+use Rattle.world_promise.specs.disk_lines.Names.{names_of}
 use Rattle.world_promise.specs.disk_rules.Content.{size_of}
 use Rattle.world_promise.specs.disk_rules.Live.{is_file}
 use Rattle.world_promise.specs.disk_rules.Room.{held_after_recovery, is_named_file}
 use Rattle.world_promise.specs.disk_rules.Volume.{inode, Volume}
-use Rattle.posix_words.specs.declared.nodes.Node.{Node}
-use Rattle.posix_words.specs.Nodes.{bytes_of, node_at}
-use Rattle.posix_words.specs.Room.{held}
+use Rattle.world_promise.specs.posix_words.declared.nodes.Node.{Node}
+use Rattle.world_promise.specs.posix_words.Nodes.{bytes_of, node_at}
+use Rattle.world_promise.specs.posix_words.Room.{held}
 use Rattle.world_promise.specs.posix_spec.State.{Fits, State}
 use Rattle.world_promise.specs.world_rules.Stands.{Consecutive, entries_of, is_used, IsUsed, NodeStands, number, Stands}
 use Rattle.world_promise.specs.Contents.{size-same}

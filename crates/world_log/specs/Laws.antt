@@ -1,9 +1,9 @@
 -- What the World promises of the log of an image, each promise as one statement.
 use Rattle.std.specs.Prelude.{◌≡◌, ◌≤◌, ◌<◌, ℕ, ◌+◌, ◌^◌, List, ◌++◌, Option}
-use Rattle.pm_words.specs.declared.Cell.{Cell}
-use Rattle.pm_words.specs.Words.{Words}
-use Rattle.disk_places.specs.Places.{data_blocks}
-use Rattle.disk_lines.specs.declared.Draft.{Draft}
+use Rattle.world_promise.specs.pm_words.declared.Cell.{Cell}
+use Rattle.world_promise.specs.pm_words.Words.{Words}
+use Rattle.world_promise.specs.disk_places.Places.{data_blocks}
+use Rattle.world_promise.specs.disk_lines.declared.Draft.{Draft}
 use Rattle.world_promise.specs.disk_rules.Honest.{IsHonest}
 use Rattle.world_promise.specs.disk_rules.Rules.{CanRecover, IsOfNoLater}
 use Rattle.world_promise.specs.disk_rules.Volume.{Volume}

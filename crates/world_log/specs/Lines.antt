@@ -1,15 +1,15 @@
 -- The log lines of a device with lines put back, in the middle of a lap: what claimed lines hold, and the others.
 use Rattle.std.specs.Prelude.{◌≡◌, ◌⊎◌, ◌<◌, ℕ, ◌+◌, ◌*◌, true, false, List, [], ◌∷◌, Option, Some, None}
-use Rattle.pm_words.specs.declared.Cell.{Cell}
-use Rattle.pm_words.specs.declared.Cell.TheVariants.{Single}
-use Rattle.pm_words.specs.Cells.{has_two, IsCandidate, is_lent, newest, oldest}
-use Rattle.pm_words.specs.Words.{line_bytes, Words}
-use Rattle.disk_places.specs.Places.{log_line}
-use Rattle.disk_lines.specs.declared.Draft.{Draft}
-use Rattle.disk_lines.specs.Entries.{encode_entry, held_seq, is_draft, is_self_valid}
-use Rattle.disk_lines.specs.EntryLaws.{FitsDraft}
+use Rattle.world_promise.specs.pm_words.declared.Cell.{Cell}
+use Rattle.world_promise.specs.pm_words.declared.Cell.TheVariants.{Single}
+use Rattle.world_promise.specs.pm_words.Cells.{has_two, IsCandidate, is_lent, newest, oldest}
+use Rattle.world_promise.specs.pm_words.Words.{line_bytes, Words}
+use Rattle.world_promise.specs.disk_places.Places.{log_line}
+use Rattle.world_promise.specs.disk_lines.declared.Draft.{Draft}
+use Rattle.world_promise.specs.disk_lines.Entries.{encode_entry, held_seq, is_draft, is_self_valid}
+use Rattle.world_promise.specs.disk_lines.EntryLaws.{FitsDraft}
 use Rattle.world_promise.specs.disk_rules.Volume.{Volume}
-use Rattle.list_facts.specs.Members.{In}
+use Rattle.world_promise.specs.list_facts.Members.{In}
 use Rattle.world_promise.specs.world_rules.Jobs.{Job}
 
 -- the line has these words, each alone

@@ -4,17 +4,17 @@ use Rattle.std.proofs.Common.{arith, ap, ◌∙◌, sym, subst, inl, inr, append
 use Rattle.std.proofs.lemmas.Bool.{and_parts}
 use Rattle.std.proofs.lemmas.Bool.Decides.{Decides-eqb}
 use Rattle.std.proofs.lemmas.Option.{slice_get-get_or}
-use Rattle.pm_words.specs.Words.{Words}
-use Rattle.disk_places.specs.Places.{data_blocks, reserve}
-use Rattle.disk_lines.specs.declared.Draft.{Draft}
+use Rattle.world_promise.specs.pm_words.Words.{Words}
+use Rattle.world_promise.specs.disk_places.Places.{data_blocks, reserve}
+use Rattle.world_promise.specs.disk_lines.declared.Draft.{Draft}
 use Rattle.world_promise.specs.disk_rules.Live.{entry_in, is_live, is_of_file, live_entries}
 use Rattle.world_promise.specs.disk_rules.Room.{held_after_recovery}
 use Rattle.world_promise.specs.disk_rules.Rules.{AreApart, HasStagingBlocks}
 use Rattle.world_promise.specs.disk_rules.Volume.{inode, Volume}
-use Rattle.posix_types.specs.declared.reply.Shape.{Shape}
+use Rattle.world_promise.specs.posix_types.declared.reply.Shape.{Shape}
 use Rattle.world_promise.specs.posix_spec.State.{State}
-use Rattle.list_facts.specs.Filters.{In-filter, In-map}
-use Rattle.list_facts.specs.Members.{In, In-slice_get, pushed-In}
+use Rattle.world_promise.specs.list_facts.Filters.{In-filter, In-map}
+use Rattle.world_promise.specs.list_facts.Members.{In, In-slice_get, pushed-In}
 use Rattle.world_promise.specs.world_rules.Claims.{ClaimsStand}
 use Rattle.world_promise.specs.world_rules.Jobs.{Job, live_claims, Valid}
 use Rattle.world_promise.specs.world_rules.Shown.{AreFilled, landed_pairs, ShowsClaims}

@@ -4,20 +4,20 @@ use Rattle.std.proofs.Common.{arith, ap, ◌∙◌, sym, subst, inl, inr}
 use Rattle.std.proofs.lemmas.Bool.{and_from, and_parts, both_ways, cases_eq}
 use Rattle.std.proofs.lemmas.Bool.Decides.{Decides-eqb}
 use Rattle.std.proofs.lemmas.Option.{same_Some}
-use Rattle.pm_words.specs.declared.Cell.{Cell}
-use Rattle.pm_words.specs.declared.Cell.TheVariants.{Lent, Marked, Single, Two}
-use Rattle.pm_words.specs.Bytes.{line_bytes-same}
-use Rattle.pm_words.specs.Cells.{has_two, IsCandidate, is_lent, newest, oldest}
-use Rattle.pm_words.specs.Words.{line_bytes, Words}
-use Rattle.disk_places.specs.Places.{log_line}
-use Rattle.disk_lines.specs.declared.Draft.{Draft}
-use Rattle.disk_lines.specs.Entries.{decode_entry, encode_entry, held_seq, is_draft, is_self_valid}
-use Rattle.disk_lines.specs.EntryLaws.{decode_entry-encode_entry, FitsDraft, held_seq-decode_entry, held_seq-encode_entry}
+use Rattle.world_promise.specs.pm_words.declared.Cell.{Cell}
+use Rattle.world_promise.specs.pm_words.declared.Cell.TheVariants.{Lent, Marked, Single, Two}
+use Rattle.world_promise.specs.pm_words.Bytes.{line_bytes-same}
+use Rattle.world_promise.specs.pm_words.Cells.{has_two, IsCandidate, is_lent, newest, oldest}
+use Rattle.world_promise.specs.pm_words.Words.{line_bytes, Words}
+use Rattle.world_promise.specs.disk_places.Places.{log_line}
+use Rattle.world_promise.specs.disk_lines.declared.Draft.{Draft}
+use Rattle.world_promise.specs.disk_lines.Entries.{decode_entry, encode_entry, held_seq, is_draft, is_self_valid}
+use Rattle.world_promise.specs.disk_lines.EntryLaws.{decode_entry-encode_entry, FitsDraft, held_seq-decode_entry, held_seq-encode_entry}
 use Rattle.world_promise.specs.disk_rules.Honest.{IsHonest, IsTorn}
 use Rattle.world_promise.specs.disk_rules.Live.{entry_in}
 use Rattle.world_promise.specs.disk_rules.Rules.{IsOfNoLater}
 use Rattle.world_promise.specs.disk_rules.Volume.{Volume}
-use Rattle.list_facts.specs.Members.{In}
+use Rattle.world_promise.specs.list_facts.Members.{In}
 use Rattle.world_promise.specs.world_rules.Jobs.{Job}
 use Rattle.world_promise.specs.world_rules.Shown.{AreFilled, landed_pairs, ShowsClaims}
 use Rattle.world_log.specs.Laws.{KeepsLaps, ShowsPictures}

@@ -1,8 +1,8 @@
 -- The rules of a checked image that speak of its log and of what files hold.
 use Rattle.std.specs.Prelude.{◌≡◌, ◌≢◌, ◌≤◌, ◌<◌, ℕ, ◌+◌, All, true, List, length, Some}
-use Rattle.pm_words.specs.Words.{Words}
-use Rattle.disk_places.specs.Places.{data_blocks, reserve}
-use Rattle.disk_lines.specs.declared.Draft.{Draft}
+use Rattle.world_promise.specs.pm_words.Words.{Words}
+use Rattle.world_promise.specs.disk_places.Places.{data_blocks, reserve}
+use Rattle.world_promise.specs.disk_lines.declared.Draft.{Draft}
 use Rattle.world_promise.specs.disk_rules.Live.{entry_in, is_live, is_of_file, live_entries}
 use Rattle.world_promise.specs.disk_rules.Room.{held_after_recovery, unused_blocks}
 use Rattle.world_promise.specs.disk_rules.Rules.{AreApart, HasStagingBlocks}

@@ -3,13 +3,13 @@ use Rattle.std.specs.Prelude.{◌≡◌, ◌≢◌, ◌⊎◌, ◌<◌, ◌==◌
 use Rattle.std.proofs.Common.{arith, ap, ◌∙◌, sym, subst, inl, inr}
 use Rattle.std.proofs.lemmas.Bool.{cases_eq, eq-eqb, ne_eqb}
 use Rattle.std.proofs.lemmas.List.{length-set}
-use Rattle.pm_words.specs.Words.{Words}
-use Rattle.disk_lines.specs.declared.Draft.{Draft}
-use Rattle.disk_lines.specs.declared.Kind.{Kind}
-use Rattle.disk_lines.specs.declared.Kind.TheVariants.{Free, Directory, File, Staging}
-use Rattle.disk_lines.specs.Lines.{is_name, NameRow}
-use Rattle.disk_lines.specs.Names.{child_named, row, Rows}
-use Rattle.disk_lines.specs.TableLaws.{NamingLine-child_named}
+use Rattle.world_steps.specs.pm_words.Words.{Words}
+use Rattle.world_steps.specs.disk_lines.declared.Draft.{Draft}
+use Rattle.world_steps.specs.disk_lines.declared.Kind.{Kind}
+use Rattle.world_steps.specs.disk_lines.declared.Kind.TheVariants.{Free, Directory, File, Staging}
+use Rattle.world_steps.specs.disk_lines.Lines.{is_name, NameRow}
+use Rattle.world_steps.specs.disk_lines.Names.{child_named, row, Rows}
+use Rattle.world_steps.specs.disk_lines.TableLaws.{NamingLine-child_named}
 use Rattle.world_steps.specs.disk_rules.Live.{is_directory}
 use Rattle.world_steps.specs.disk_rules.Kept.{AreKept}
 use Rattle.world_steps.specs.disk_rules.Rules.{IsKindAt}
@@ -20,10 +20,10 @@ use Rattle.world_steps.specs.volume_changes.Changes.{MayUnname}
 use Rattle.world_steps.specs.volume_changes.FrameLaws.{dropped-inode, dropped-others}
 use Rattle.world_steps.specs.volume_changes.MapLaws.{dropped-keeps}
 use Rattle.world_steps.specs.volume_changes.NameLaws.{unnamed-keeps}
-use Rattle.posix_words.specs.declared.nodes.Node.{Node}
-use Rattle.posix_words.specs.Names.{without_entry}
-use Rattle.posix_words.specs.Nodes.{node_at}
-use Rattle.posix_words.specs.Open.{is_open}
+use Rattle.world_steps.specs.posix_words.declared.nodes.Node.{Node}
+use Rattle.world_steps.specs.posix_words.Names.{without_entry}
+use Rattle.world_steps.specs.posix_words.Nodes.{node_at}
+use Rattle.world_steps.specs.posix_words.Open.{is_open}
 use Rattle.world_steps.specs.posix_spec.State.{State}
 use Rattle.world_steps.specs.posix_frames.Flights.{IsHeld-put}
 use Rattle.world_steps.specs.posix_frames.Needs.{AreInFlight}

@@ -1,25 +1,25 @@
 -- The laws of the changes of names and nodes, each as one statement. `IsWorld v claims jobs f numbers s count`: the World is
 -- valid, `count` nodes were made since the lap began, and `numbers` has the node of each inode.
 use Rattle.std.specs.Prelude.{◌≡◌, ◌⊎◌, ◌<◌, ◌+◌, ◌^◌, ℕ, true, false, List, length, None, Some}
-use Rattle.pm_words.specs.Words.{Words}
-use Rattle.disk_lines.specs.declared.Draft.{Draft}
-use Rattle.disk_lines.specs.declared.Kind.TheVariants.{Directory, File}
-use Rattle.disk_lines.specs.Lines.{is_name}
-use Rattle.disk_lines.specs.Names.{free_line}
+use Rattle.world_steps.specs.pm_words.Words.{Words}
+use Rattle.world_steps.specs.disk_lines.declared.Draft.{Draft}
+use Rattle.world_steps.specs.disk_lines.declared.Kind.TheVariants.{Directory, File}
+use Rattle.world_steps.specs.disk_lines.Lines.{is_name}
+use Rattle.world_steps.specs.disk_lines.Names.{free_line}
 use Rattle.world_steps.specs.disk_rules.Volume.{inode, Volume}
 use Rattle.world_steps.specs.k_rules.Changes.{dropped, made, removed, renamed, renamed_over_directory, renamed_over_file, unnamed}
 use Rattle.world_steps.specs.k_rules.Spaces.{volume_space}
 use Rattle.world_steps.specs.volume_changes.CallLaws.{row_to}
 use Rattle.world_steps.specs.volume_changes.FoundLaws.{IsLowestFree}
 use Rattle.world_steps.specs.volume_names.Paths.{CanReplace, IsNewAt, MayGo}
-use Rattle.posix_types.specs.declared.call.Call.{Call}
-use Rattle.posix_types.specs.declared.call.Who.{Who}
-use Rattle.posix_types.specs.declared.handle.Flags.{Flags}
-use Rattle.posix_types.specs.declared.handle.Handle.{Handle}
-use Rattle.posix_words.specs.NameRows.{mkdir_rows, open_rows, rename_rows, rmdir_rows, unlink_rows}
-use Rattle.posix_words.specs.Names.{exists_at, has_entries as has_entries_in, is_named, last_name}
-use Rattle.posix_words.specs.Open.{closed, is_full, is_open}
-use Rattle.posix_words.specs.Outcomes.{first}
+use Rattle.world_steps.specs.posix_types.declared.call.Call.{Call}
+use Rattle.world_steps.specs.posix_types.declared.call.Who.{Who}
+use Rattle.world_steps.specs.posix_types.declared.handle.Flags.{Flags}
+use Rattle.world_steps.specs.posix_types.declared.handle.Handle.{Handle}
+use Rattle.world_steps.specs.posix_words.NameRows.{mkdir_rows, open_rows, rename_rows, rmdir_rows, unlink_rows}
+use Rattle.world_steps.specs.posix_words.Names.{exists_at, has_entries as has_entries_in, is_named, last_name}
+use Rattle.world_steps.specs.posix_words.Open.{closed, is_full, is_open}
+use Rattle.world_steps.specs.posix_words.Outcomes.{first}
 use Rattle.world_steps.specs.posix_spec.FileRows.{close_rows, file_number}
 use Rattle.world_steps.specs.posix_spec.Run.{after_call}
 use Rattle.world_steps.specs.posix_spec.State.{alone, space, State, unnamed as unnamed_state}

@@ -4,23 +4,23 @@ use Rattle.std.proofs.Common.{arith, ap, ◌∙◌, length-append, sym, subst, i
 use Rattle.std.proofs.lemmas.Bool.{eq-eqb, ne_eqb}
 use Rattle.std.proofs.lemmas.List.{length-set}
 use Rattle.std.proofs.lemmas.Option.{same_Some}
-use Rattle.pm_words.specs.Words.{Words}
-use Rattle.disk_lines.specs.declared.Draft.{Draft}
-use Rattle.disk_lines.specs.declared.Kind.{Kind}
-use Rattle.disk_lines.specs.declared.Kind.TheVariants.{Free, Directory, File, Staging}
-use Rattle.disk_lines.specs.Lines.{is_name, NameRow}
-use Rattle.disk_lines.specs.Names.{free_line}
+use Rattle.world_steps.specs.pm_words.Words.{Words}
+use Rattle.world_steps.specs.disk_lines.declared.Draft.{Draft}
+use Rattle.world_steps.specs.disk_lines.declared.Kind.{Kind}
+use Rattle.world_steps.specs.disk_lines.declared.Kind.TheVariants.{Free, Directory, File, Staging}
+use Rattle.world_steps.specs.disk_lines.Lines.{is_name, NameRow}
+use Rattle.world_steps.specs.disk_lines.Names.{free_line}
 use Rattle.world_steps.specs.disk_rules.Content.{size_by}
 use Rattle.world_steps.specs.disk_rules.Live.{latest}
 use Rattle.world_steps.specs.disk_rules.Volume.{inode, Volume}
 use Rattle.world_steps.specs.k_rules.Changes.{made, new_node}
 use Rattle.world_steps.specs.k_rules.Spaces.{volume_space}
-use Rattle.posix_types.specs.declared.call.Call.{Call}
-use Rattle.posix_words.specs.declared.nodes.Node.{Node}
-use Rattle.posix_words.specs.NameRows.{mkdir_rows, open_rows}
-use Rattle.posix_words.specs.Names.{exists_at, last_name, node_at_path, number_at, parent_at, with_entry}
-use Rattle.posix_words.specs.Open.{is_full}
-use Rattle.posix_words.specs.Outcomes.{first}
+use Rattle.world_steps.specs.posix_types.declared.call.Call.{Call}
+use Rattle.world_steps.specs.posix_words.declared.nodes.Node.{Node}
+use Rattle.world_steps.specs.posix_words.NameRows.{mkdir_rows, open_rows}
+use Rattle.world_steps.specs.posix_words.Names.{exists_at, last_name, node_at_path, number_at, parent_at, with_entry}
+use Rattle.world_steps.specs.posix_words.Open.{is_full}
+use Rattle.world_steps.specs.posix_words.Outcomes.{first}
 use Rattle.world_steps.specs.posix_spec.Run.{after_call}
 use Rattle.world_steps.specs.posix_spec.State.{alone, made as made_state, space, State, with_node}
 use Rattle.world_steps.specs.posix_spec.Step.{empty_file, is_busy, mkdir_done, open_done, opening, stepped}

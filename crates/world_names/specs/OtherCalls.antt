@@ -2,19 +2,19 @@
 use Rattle.std.specs.Prelude.{◌≡◌, ◌⊎◌, ◌<◌, ℕ, zero, suc, true, false, List, [], ◌∷◌, length, Option, Some, None, slice_set, refl, if◌then◌else◌}
 use Rattle.std.proofs.Common.{ap, ◌∙◌, sym, subst, inl, inr}
 use Rattle.std.proofs.lemmas.List.{get_or-set_other, get_or-set_same, length-set}
-use Rattle.pm_words.specs.Words.{Words}
-use Rattle.disk_lines.specs.declared.Draft.{Draft}
+use Rattle.world_steps.specs.pm_words.Words.{Words}
+use Rattle.world_steps.specs.disk_lines.declared.Draft.{Draft}
 use Rattle.world_steps.specs.disk_rules.Volume.{Volume}
 use Rattle.world_steps.specs.k_rules.Changes.{dropped}
-use Rattle.posix_types.specs.declared.call.Call.{Call}
-use Rattle.posix_types.specs.declared.call.Who.{Who}
-use Rattle.posix_types.specs.declared.handle.Handle.{Handle}
-use Rattle.posix_types.specs.declared.item.Outcome.{Outcome}
-use Rattle.posix_words.specs.declared.nodes.Node.{Node}
-use Rattle.posix_words.specs.Names.{is_named, number_at}
-use Rattle.posix_words.specs.Nodes.{node_at, published_node}
-use Rattle.posix_words.specs.Open.{closed, is_open}
-use Rattle.posix_words.specs.Outcomes.{first}
+use Rattle.world_steps.specs.posix_types.declared.call.Call.{Call}
+use Rattle.world_steps.specs.posix_types.declared.call.Who.{Who}
+use Rattle.world_steps.specs.posix_types.declared.handle.Handle.{Handle}
+use Rattle.world_steps.specs.posix_types.declared.item.Outcome.{Outcome}
+use Rattle.world_steps.specs.posix_words.declared.nodes.Node.{Node}
+use Rattle.world_steps.specs.posix_words.Names.{is_named, number_at}
+use Rattle.world_steps.specs.posix_words.Nodes.{node_at, published_node}
+use Rattle.world_steps.specs.posix_words.Open.{closed, is_open}
+use Rattle.world_steps.specs.posix_words.Outcomes.{first}
 use Rattle.world_steps.specs.posix_spec.FileRows.{close_rows, file_number}
 use Rattle.world_steps.specs.posix_spec.Run.{after_call}
 use Rattle.world_steps.specs.posix_spec.State.{alone, made, space, State, swept, with_node, with_published}

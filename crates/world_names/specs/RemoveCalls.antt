@@ -2,13 +2,13 @@
 use Rattle.std.specs.Prelude.{◌≡◌, ◌≢◌, ◌||◌, ℕ, Bool, true, false, List, Option, Some, None, unwrap_or, slice_set, refl, if◌then◌else◌}
 use Rattle.std.proofs.Common.{ap, ◌∙◌, sym, subst}
 use Rattle.std.proofs.lemmas.List.{get_or-set_other, get_or-set_same, length-set}
-use Rattle.pm_words.specs.Words.{Words}
-use Rattle.disk_lines.specs.declared.Draft.{Draft}
-use Rattle.disk_lines.specs.declared.Kind.{Kind}
-use Rattle.disk_lines.specs.declared.Kind.TheVariants.{Free, Directory, File, Staging}
-use Rattle.disk_lines.specs.Lines.{NameRow}
-use Rattle.disk_lines.specs.Names.{child_named, has_entries, row}
-use Rattle.disk_lines.specs.TableLaws.{NamingLine-child_named}
+use Rattle.world_steps.specs.pm_words.Words.{Words}
+use Rattle.world_steps.specs.disk_lines.declared.Draft.{Draft}
+use Rattle.world_steps.specs.disk_lines.declared.Kind.{Kind}
+use Rattle.world_steps.specs.disk_lines.declared.Kind.TheVariants.{Free, Directory, File, Staging}
+use Rattle.world_steps.specs.disk_lines.Lines.{NameRow}
+use Rattle.world_steps.specs.disk_lines.Names.{child_named, has_entries, row}
+use Rattle.world_steps.specs.disk_lines.TableLaws.{NamingLine-child_named}
 use Rattle.world_steps.specs.disk_rules.Live.{is_directory}
 use Rattle.world_steps.specs.disk_rules.Volume.{inode, Volume}
 use Rattle.world_steps.specs.k_rules.Changes.{dropped, gone_node, removed, unnamed}
@@ -19,13 +19,13 @@ use Rattle.world_steps.specs.volume_changes.CallLaws.{may-remove, may-unname}
 use Rattle.world_steps.specs.volume_changes.FoundLaws.{IsRowFound, row-found}
 use Rattle.world_steps.specs.volume_changes.FrameLaws.{removed-inode, removed-others}
 use Rattle.world_steps.specs.volume_changes.NameLaws.{removed-keeps}
-use Rattle.posix_types.specs.declared.call.Call.{Call}
-use Rattle.posix_types.specs.declared.call.Who.{Who}
-use Rattle.posix_words.specs.declared.nodes.Node.{Node}
-use Rattle.posix_words.specs.NameRows.{rmdir_rows, unlink_rows}
-use Rattle.posix_words.specs.Names.{is_named, last_name, node_at_path, parent_at, without_entry}
-use Rattle.posix_words.specs.Open.{is_open}
-use Rattle.posix_words.specs.Outcomes.{first}
+use Rattle.world_steps.specs.posix_types.declared.call.Call.{Call}
+use Rattle.world_steps.specs.posix_types.declared.call.Who.{Who}
+use Rattle.world_steps.specs.posix_words.declared.nodes.Node.{Node}
+use Rattle.world_steps.specs.posix_words.NameRows.{rmdir_rows, unlink_rows}
+use Rattle.world_steps.specs.posix_words.Names.{is_named, last_name, node_at_path, parent_at, without_entry}
+use Rattle.world_steps.specs.posix_words.Open.{is_open}
+use Rattle.world_steps.specs.posix_words.Outcomes.{first}
 use Rattle.world_steps.specs.posix_spec.Run.{after_call}
 use Rattle.world_steps.specs.posix_spec.State.{alone, space, State, swept, unnamed as unnamed_state, with_node}
 use Rattle.world_steps.specs.posix_spec.Step.{rmdir_done, stepped, unlink_done}

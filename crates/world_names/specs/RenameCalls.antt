@@ -5,13 +5,13 @@ use Rattle.std.proofs.Common.{ap, ◌∙◌, sym, subst}
 use Rattle.std.proofs.lemmas.Bool.{ne_eqb}
 use Rattle.std.proofs.lemmas.List.{get_or-set_other, get_or-set_same, length-set}
 use Rattle.std.proofs.lemmas.Option.{same_Some}
-use Rattle.pm_words.specs.Words.{Words}
-use Rattle.disk_places.specs.Fields.{is_same}
-use Rattle.disk_lines.specs.declared.Draft.{Draft}
-use Rattle.disk_lines.specs.declared.Kind.{Kind}
-use Rattle.disk_lines.specs.declared.Kind.TheVariants.{Free, Directory, File, Staging}
-use Rattle.disk_lines.specs.Lines.{is_name, NameRow}
-use Rattle.disk_lines.specs.Names.{child_named, is_entry, row, Rows}
+use Rattle.world_steps.specs.pm_words.Words.{Words}
+use Rattle.world_steps.specs.disk_places.Fields.{is_same}
+use Rattle.world_steps.specs.disk_lines.declared.Draft.{Draft}
+use Rattle.world_steps.specs.disk_lines.declared.Kind.{Kind}
+use Rattle.world_steps.specs.disk_lines.declared.Kind.TheVariants.{Free, Directory, File, Staging}
+use Rattle.world_steps.specs.disk_lines.Lines.{is_name, NameRow}
+use Rattle.world_steps.specs.disk_lines.Names.{child_named, is_entry, row, Rows}
 use Rattle.world_steps.specs.disk_rules.Live.{is_directory}
 use Rattle.world_steps.specs.disk_rules.Volume.{free_inode, inode, Volume}
 use Rattle.world_steps.specs.k_rules.Changes.{dropped, gone_node, renamed, renamed_over_directory, renamed_over_file}
@@ -25,12 +25,12 @@ use Rattle.world_steps.specs.volume_changes.NameLaws.{renamed-keeps}
 use Rattle.world_steps.specs.volume_changes.OverLaws.{renamed_over_directory-keeps, renamed_over_file-keeps}
 use Rattle.world_steps.specs.volume_names.EntryLaws.{child_of-rows}
 use Rattle.world_steps.specs.volume_names.Paths.{CanReplace, MayGo}
-use Rattle.posix_types.specs.declared.call.Call.{Call}
-use Rattle.posix_types.specs.declared.call.Who.{Who}
-use Rattle.posix_words.specs.declared.nodes.Node.{Node}
-use Rattle.posix_words.specs.NameRows.{rename_rows}
-use Rattle.posix_words.specs.Names.{directory_path, last_name, node_at_path, number_at}
-use Rattle.posix_words.specs.Outcomes.{first}
+use Rattle.world_steps.specs.posix_types.declared.call.Call.{Call}
+use Rattle.world_steps.specs.posix_types.declared.call.Who.{Who}
+use Rattle.world_steps.specs.posix_words.declared.nodes.Node.{Node}
+use Rattle.world_steps.specs.posix_words.NameRows.{rename_rows}
+use Rattle.world_steps.specs.posix_words.Names.{directory_path, last_name, node_at_path, number_at}
+use Rattle.world_steps.specs.posix_words.Outcomes.{first}
 use Rattle.world_steps.specs.posix_spec.Run.{after_call}
 use Rattle.world_steps.specs.posix_spec.State.{alone, space, State, swept, unnamed as unnamed_state, with_node}
 use Rattle.world_steps.specs.posix_spec.Step.{rename_done, renamed as renamed_state, stepped}

@@ -5,17 +5,17 @@ use Rattle.std.proofs.Common.{arith, ap, ◌∙◌, sym, subst, inl, inr}
 use Rattle.std.proofs.lemmas.Bool.{and_parts}
 use Rattle.std.proofs.lemmas.Bool.Decides.{nat_tests}
 use Rattle.std.proofs.lemmas.Option.{same_Some}
-use Rattle.pm_words.specs.Words.{Words}
-use Rattle.disk_places.specs.Fields.{is_same}
-use Rattle.disk_places.specs.Places.{is_data_block}
-use Rattle.extent_words.specs.declared.Extent.{Extent}
-use Rattle.extent_words.specs.Extents.{covers, disk_at}
-use Rattle.extent_facts.specs.Covers.{covers-disk_at}
-use Rattle.disk_lines.specs.declared.Draft.{Draft}
-use Rattle.disk_lines.specs.declared.Kind.{Kind}
-use Rattle.disk_lines.specs.declared.Kind.TheVariants.{Directory, File, Free, Staging}
-use Rattle.disk_lines.specs.Lines.{is_name, NameRow}
-use Rattle.disk_lines.specs.Names.{child_named, line_and_child, names_of, row, up}
+use Rattle.world_images.specs.pm_words.Words.{Words}
+use Rattle.world_images.specs.disk_places.Fields.{is_same}
+use Rattle.world_images.specs.disk_places.Places.{is_data_block}
+use Rattle.world_images.specs.extent_words.declared.Extent.{Extent}
+use Rattle.world_images.specs.extent_words.Extents.{covers, disk_at}
+use Rattle.world_images.specs.extent_facts.Covers.{covers-disk_at}
+use Rattle.world_images.specs.disk_lines.declared.Draft.{Draft}
+use Rattle.world_images.specs.disk_lines.declared.Kind.{Kind}
+use Rattle.world_images.specs.disk_lines.declared.Kind.TheVariants.{Directory, File, Free, Staging}
+use Rattle.world_images.specs.disk_lines.Lines.{is_name, NameRow}
+use Rattle.world_images.specs.disk_lines.Names.{child_named, line_and_child, names_of, row, up}
 use Rattle.world_images.specs.disk_rules.Content.{byte_in, disk_of, size_of}
 use Rattle.world_images.specs.disk_rules.Kept.{IsNamedRow}
 use Rattle.world_images.specs.disk_rules.Live.{is_directory, is_file}
@@ -23,13 +23,13 @@ use Rattle.world_images.specs.disk_rules.Placed.{block_at}
 use Rattle.world_images.specs.disk_rules.Rules.{file_blocks_of, HasOneName, HasStagingBlocks, IsInData, IsKindAt, IsNamedOnce, IsRowPlaced}
 use Rattle.world_images.specs.disk_rules.Uses.{owners}
 use Rattle.world_images.specs.disk_rules.Volume.{chain, extents, inode, Volume}
-use Rattle.posix_words.specs.declared.nodes.DirEntry.{DirEntry}
-use Rattle.posix_words.specs.declared.nodes.Node.{Node}
-use Rattle.posix_words.specs.Names.{child_of}
-use Rattle.posix_words.specs.Nodes.{node_at}
-use Rattle.posix_words.specs.Open.{Tables}
-use Rattle.list_facts.specs.Filters.{In-range}
-use Rattle.list_facts.specs.Members.{In}
+use Rattle.world_images.specs.posix_words.declared.nodes.DirEntry.{DirEntry}
+use Rattle.world_images.specs.posix_words.declared.nodes.Node.{Node}
+use Rattle.world_images.specs.posix_words.Names.{child_of}
+use Rattle.world_images.specs.posix_words.Nodes.{node_at}
+use Rattle.world_images.specs.posix_words.Open.{Tables}
+use Rattle.world_images.specs.list_facts.Filters.{In-range}
+use Rattle.world_images.specs.list_facts.Members.{In}
 use Rattle.world_images.specs.world_rules.Stands.{Consecutive, FileStands, is_used, IsSane, IsUsed, LogStands, NamesStand, NodesStand, NodeStands, number}
 use Rattle.world_posix.specs.Example.{extent, only_5, state_with, volume_with}
 use Rattle.world_posix.specs.Sides.{IsFresh}

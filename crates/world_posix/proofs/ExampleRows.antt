@@ -3,22 +3,22 @@ use Rattle.std.specs.Prelude.{◌≡◌, ◌≢◌, ◌⊎◌, ◌<◌, ◌≤�
 use Rattle.std.proofs.Common.{arith, ap, sym, subst, inl, inr}
 use Rattle.std.proofs.lemmas.Bool.Decides.{nat_tests}
 use Rattle.std.proofs.lemmas.Option.{same_Some}
-use Rattle.pm_words.specs.Words.{byte_of}
-use Rattle.extent_words.specs.declared.Extent.{Extent}
-use Rattle.extent_words.specs.Extents.{covers, disk_at}
-use Rattle.extent_facts.specs.Covers.{covers-disk_at}
-use Rattle.disk_lines.specs.declared.Draft.{Draft}
-use Rattle.disk_lines.specs.declared.Kind.TheVariants.{Directory, File}
+use Rattle.world_images.specs.pm_words.Words.{byte_of}
+use Rattle.world_images.specs.extent_words.declared.Extent.{Extent}
+use Rattle.world_images.specs.extent_words.Extents.{covers, disk_at}
+use Rattle.world_images.specs.extent_facts.Covers.{covers-disk_at}
+use Rattle.world_images.specs.disk_lines.declared.Draft.{Draft}
+use Rattle.world_images.specs.disk_lines.declared.Kind.TheVariants.{Directory, File}
 use Rattle.world_images.specs.disk_rules.Content.{disk_of, entry_of_block, size_of}
 use Rattle.world_images.specs.disk_rules.Placed.{block_at}
 use Rattle.world_images.specs.disk_rules.Rules.{HasStagingBlocks, IsInData}
 use Rattle.world_images.specs.disk_rules.Uses.{owners}
 use Rattle.world_images.specs.disk_rules.Volume.{chain}
-use Rattle.posix_words.specs.declared.nodes.Node.{Node}
-use Rattle.posix_words.specs.Names.{node_at_path, walk, with_entry, without_entry}
-use Rattle.posix_words.specs.NameRows.{mkdir_rows, unlink_rows}
-use Rattle.posix_words.specs.Nodes.{bytes_of, node_at}
-use Rattle.posix_words.specs.Open.{binding_of, key_of, opened, Tables}
+use Rattle.world_images.specs.posix_words.declared.nodes.Node.{Node}
+use Rattle.world_images.specs.posix_words.Names.{node_at_path, walk, with_entry, without_entry}
+use Rattle.world_images.specs.posix_words.NameRows.{mkdir_rows, unlink_rows}
+use Rattle.world_images.specs.posix_words.Nodes.{bytes_of, node_at}
+use Rattle.world_images.specs.posix_words.Open.{binding_of, key_of, opened, Tables}
 use Rattle.world_images.specs.posix_spec.FileRows.{truncate_rows, write_rows}
 use Rattle.world_images.specs.posix_spec.Put.{put_by}
 use Rattle.world_images.specs.posix_spec.Run.{begun, run}

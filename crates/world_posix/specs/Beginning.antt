@@ -3,19 +3,19 @@ use Rattle.std.specs.Prelude.{◌≡◌, ℕ, List, [], ◌∷◌, length, map, 
 use Rattle.std.proofs.Common.{arith, ap, ◌∙◌, sym, subst, inr}
 use Rattle.std.proofs.Math.ListN.{get_or-map}
 use Rattle.std.proofs.Math.Seq.{take-length}
-use Rattle.pm_words.specs.declared.Cell.{Cell}
-use Rattle.pm_words.specs.ImageLaws.{IsImage-words_of}
-use Rattle.pm_words.specs.Images.{IsImage, words_of}
-use Rattle.pm_words.specs.Words.{Words}
-use Rattle.disk_places.specs.Journal.{journaled}
-use Rattle.disk_lines.specs.declared.Draft.{Draft}
-use Rattle.disk_lines.specs.declared.Inode.{Inode}
-use Rattle.disk_lines.specs.declared.Kind.TheVariants.{File}
+use Rattle.world_images.specs.pm_words.declared.Cell.{Cell}
+use Rattle.world_images.specs.pm_words.ImageLaws.{IsImage-words_of}
+use Rattle.world_images.specs.pm_words.Images.{IsImage, words_of}
+use Rattle.world_images.specs.pm_words.Words.{Words}
+use Rattle.world_images.specs.disk_places.Journal.{journaled}
+use Rattle.world_images.specs.disk_lines.declared.Draft.{Draft}
+use Rattle.world_images.specs.disk_lines.declared.Inode.{Inode}
+use Rattle.world_images.specs.disk_lines.declared.Kind.TheVariants.{File}
 use Rattle.world_images.specs.disk_rules.Live.{entry_in}
 use Rattle.world_images.specs.disk_rules.Volume.{free_inode, inode, Volume}
-use Rattle.posix_types.specs.declared.call.Mode.{Mode}
-use Rattle.posix_words.specs.declared.nodes.Node.{Node}
-use Rattle.posix_words.specs.Nodes.{bytes_of, node_at, published_of}
+use Rattle.world_images.specs.posix_types.declared.call.Mode.{Mode}
+use Rattle.world_images.specs.posix_words.declared.nodes.Node.{Node}
+use Rattle.world_images.specs.posix_words.Nodes.{bytes_of, node_at, published_of}
 use Rattle.world_images.specs.posix_spec.State.{State}
 use Rattle.world_images.specs.crash_spec.Posix.{ByteRule, IsLeft, LastBeforeCut, LaterRule, NodeLeft, Overwritten}
 use Rattle.world_images.specs.world_rules.Stands.{is_used, NodeStands, number, Stands}

@@ -1,18 +1,18 @@
 -- POSIX mode on a device, between two calls.
 use Rattle.std.specs.Prelude.{◌≡◌, ◌≤◌, ◌<◌, ◌+◌, ℕ, List, [], length, map}
-use Rattle.pm_words.specs.declared.Cell.{Cell}
-use Rattle.pm_words.specs.Images.{IsImage}
-use Rattle.pm_words.specs.Words.{Words}
-use Rattle.disk_places.specs.Journal.{journaled}
-use Rattle.disk_places.specs.Places.{data_blocks, IsGeometry, reserve}
-use Rattle.disk_lines.specs.declared.Inode.{Inode}
+use Rattle.world_images.specs.pm_words.declared.Cell.{Cell}
+use Rattle.world_images.specs.pm_words.Images.{IsImage}
+use Rattle.world_images.specs.pm_words.Words.{Words}
+use Rattle.world_images.specs.disk_places.Journal.{journaled}
+use Rattle.world_images.specs.disk_places.Places.{data_blocks, IsGeometry, reserve}
+use Rattle.world_images.specs.disk_lines.declared.Inode.{Inode}
 use Rattle.world_images.specs.disk_rules.Room.{unused_blocks}
 use Rattle.world_images.specs.disk_rules.Rules.{IsOfNoLater}
 use Rattle.world_images.specs.disk_rules.Volume.{Volume}
 use Rattle.world_images.specs.k_rules.Stands.{Stands}
-use Rattle.posix_types.specs.declared.call.Mode.{Mode}
-use Rattle.posix_types.specs.declared.item.Item.{Item}
-use Rattle.posix_words.specs.Nodes.{bytes_of, node_at, published_of}
+use Rattle.world_images.specs.posix_types.declared.call.Mode.{Mode}
+use Rattle.world_images.specs.posix_types.declared.item.Item.{Item}
+use Rattle.world_images.specs.posix_words.Nodes.{bytes_of, node_at, published_of}
 use Rattle.world_images.specs.posix_spec.State.{Fits, State}
 use Rattle.world_images.specs.crash_spec.Posix.{LaterRule}
 use Rattle.world_images.specs.world_log.Rules.{HasFreeBlocks}

@@ -1,21 +1,21 @@
 -- Worked worlds in POSIX mode: a root with one name, `a`, of inode 5, and one staging file with blocks.
 use Rattle.std.specs.Prelude.{ℕ, ◌==◌, true, false, cond, List, [], ◌∷◌, length, None, Some}
-use Rattle.pm_words.specs.Words.{Words}
-use Rattle.extent_words.specs.declared.Extent.{Extent}
-use Rattle.disk_lines.specs.declared.Draft.{Draft}
-use Rattle.disk_lines.specs.declared.Inode.{Inode}
-use Rattle.disk_lines.specs.declared.Kind.{Kind}
-use Rattle.disk_lines.specs.declared.Kind.TheVariants.{Directory, File, Staging}
+use Rattle.world_images.specs.pm_words.Words.{Words}
+use Rattle.world_images.specs.extent_words.declared.Extent.{Extent}
+use Rattle.world_images.specs.disk_lines.declared.Draft.{Draft}
+use Rattle.world_images.specs.disk_lines.declared.Inode.{Inode}
+use Rattle.world_images.specs.disk_lines.declared.Kind.{Kind}
+use Rattle.world_images.specs.disk_lines.declared.Kind.TheVariants.{Directory, File, Staging}
 use Rattle.world_images.specs.disk_rules.Volume.{Volume}
-use Rattle.posix_types.specs.declared.call.Call.{Call}
-use Rattle.posix_types.specs.declared.call.Mode.{Mode}
-use Rattle.posix_types.specs.declared.call.Who.{Who}
-use Rattle.posix_types.specs.declared.handle.Flags.{Flags}
-use Rattle.posix_types.specs.declared.handle.Handle.{Handle}
-use Rattle.posix_types.specs.declared.item.Item.{Item}
-use Rattle.posix_types.specs.declared.reply.Reply.{Reply}
-use Rattle.posix_words.specs.declared.nodes.Node.{Node}
-use Rattle.posix_words.specs.Open.{Tables}
+use Rattle.world_images.specs.posix_types.declared.call.Call.{Call}
+use Rattle.world_images.specs.posix_types.declared.call.Mode.{Mode}
+use Rattle.world_images.specs.posix_types.declared.call.Who.{Who}
+use Rattle.world_images.specs.posix_types.declared.handle.Flags.{Flags}
+use Rattle.world_images.specs.posix_types.declared.handle.Handle.{Handle}
+use Rattle.world_images.specs.posix_types.declared.item.Item.{Item}
+use Rattle.world_images.specs.posix_types.declared.reply.Reply.{Reply}
+use Rattle.world_images.specs.posix_words.declared.nodes.Node.{Node}
+use Rattle.world_images.specs.posix_words.Open.{Tables}
 use Rattle.world_images.specs.posix_spec.Run.{Begun}
 use Rattle.world_images.specs.posix_spec.State.{State}
 use Rattle.world_posix.specs.Sides.{Sides}

@@ -1,15 +1,15 @@
 -- The laws of POSIX mode that follow from the three standings, each as one statement; and that there are worlds of this kind.
 use Rattle.std.specs.Prelude.{◌≡◌, ℕ, List, [], ◌∷◌, ◌++◌}
-use Rattle.pm_words.specs.declared.Cell.{Cell}
-use Rattle.pm_words.specs.Images.{IsImage}
-use Rattle.pm_words.specs.Words.{Words}
+use Rattle.world_images.specs.pm_words.declared.Cell.{Cell}
+use Rattle.world_images.specs.pm_words.Images.{IsImage}
+use Rattle.world_images.specs.pm_words.Words.{Words}
 use Rattle.world_images.specs.disk_rules.Content.{content, found}
 use Rattle.world_images.specs.disk_rules.Live.{live_entries}
 use Rattle.world_images.specs.disk_rules.Uses.{IsUnused}
 use Rattle.world_images.specs.disk_rules.Volume.{Volume}
-use Rattle.posix_types.specs.declared.call.Mode.{Mode}
-use Rattle.posix_types.specs.declared.item.Item.{Item}
-use Rattle.posix_types.specs.declared.tree.TreeEntry.{TreeEntry}
+use Rattle.world_images.specs.posix_types.declared.call.Mode.{Mode}
+use Rattle.world_images.specs.posix_types.declared.item.Item.{Item}
+use Rattle.world_images.specs.posix_types.declared.tree.TreeEntry.{TreeEntry}
 use Rattle.world_images.specs.posix_spec.Run.{Begun}
 use Rattle.world_images.specs.posix_spec.State.{State}
 use Rattle.world_images.specs.crash_spec.Posix.{LastBeforeCut, Overwritten, Posix, StrongPosix}

@@ -1,12 +1,12 @@
 -- The promise of a device that runs in POSIX mode: each image shows a World of the committed volume alone, with no write in flight.
 use Rattle.std.specs.Prelude.{◌≡◌, List, [], ◌++◌, Some, None}
 use Rattle.std.proofs.Common.{arith, ◌∙◌, sym, subst}
-use Rattle.pm_words.specs.Words.{Words}
-use Rattle.disk_places.specs.Journal.{journaled}
-use Rattle.disk_places.specs.Places.{IsGeometry}
+use Rattle.world_images.specs.pm_words.Words.{Words}
+use Rattle.world_images.specs.disk_places.Journal.{journaled}
+use Rattle.world_images.specs.disk_places.Places.{IsGeometry}
 use Rattle.world_images.specs.disk_rules.Reading.{Reads}
 use Rattle.world_images.specs.volume_facts.FootprintLaws.{content-own}
-use Rattle.posix_types.specs.declared.item.Item.{Item}
+use Rattle.world_images.specs.posix_types.declared.item.Item.{Item}
 use Rattle.world_images.specs.posix_spec.State.{State}
 use Rattle.world_images.specs.crash_spec.Permitted.{Permitted}
 use Rattle.world_images.specs.crash_spec.Posix.{LastBeforeCut, LaterRule, Overwritten}

@@ -11,17 +11,17 @@
 -- batch and keeps the published lengths: then no run is staged, and a file is longer than its inode line says.
 use Rattle.std.specs.Prelude.{◌≡◌, ◌≢◌, ◌⊎◌, ◌<◌, ◌≤◌, ◌+◌, ◌*◌, ◌/◌, ◌%◌, ℕ, true, false, List, [], ◌∷◌, ◌++◌, length, map, Some, IsSome, slice_index}
 use Rattle.std.specs.List.{list_any}
-use Rattle.pm_words.specs.Words.{byte_of, Words}
-use Rattle.extent_words.specs.Extents.{disk_at}
-use Rattle.disk_lines.specs.declared.Draft.{Draft}
-use Rattle.disk_lines.specs.declared.Inode.{Inode}
-use Rattle.disk_lines.specs.declared.Kind.TheVariants.{File, Staging}
+use Rattle.world_images.specs.pm_words.Words.{byte_of, Words}
+use Rattle.world_images.specs.extent_words.Extents.{disk_at}
+use Rattle.world_images.specs.disk_lines.declared.Draft.{Draft}
+use Rattle.world_images.specs.disk_lines.declared.Inode.{Inode}
+use Rattle.world_images.specs.disk_lines.declared.Kind.TheVariants.{File, Staging}
 use Rattle.world_images.specs.disk_rules.Content.{disk_of, entry_of_block, size_of}
 use Rattle.world_images.specs.disk_rules.Placed.{block_at}
 use Rattle.world_images.specs.disk_rules.Volume.{chain, extents, inode, Volume}
-use Rattle.posix_types.specs.declared.item.Item.{Item}
-use Rattle.posix_words.specs.declared.nodes.Node.{Node}
-use Rattle.posix_words.specs.Nodes.{bytes_of, node_at, published_of}
+use Rattle.world_images.specs.posix_types.declared.item.Item.{Item}
+use Rattle.world_images.specs.posix_words.declared.nodes.Node.{Node}
+use Rattle.world_images.specs.posix_words.Nodes.{bytes_of, node_at, published_of}
 use Rattle.world_images.specs.posix_spec.Run.{Begun, begun, run}
 use Rattle.world_images.specs.posix_spec.State.{State}
 use Rattle.world_images.specs.crash_spec.Posix.{ByteRule, IsLeft, LaterRule, syncs}

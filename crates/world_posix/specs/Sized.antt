@@ -2,9 +2,9 @@
 use Rattle.std.specs.Prelude.{◌≡◌, ◌⊎◌, ◌≤◌, ℕ, zero, suc, All, true, List, [], ◌∷◌, length, Option, Some, None, slice_index_or, refl}
 use Rattle.std.specs.List.{flat_map, range_with_len}
 use Rattle.std.proofs.Common.{ap, ◌∙◌, sym, subst}
-use Rattle.disk_lines.specs.declared.Inode.{Inode}
-use Rattle.disk_lines.specs.Lines.{NameRow}
-use Rattle.disk_lines.specs.Names.{row}
+use Rattle.world_images.specs.disk_lines.declared.Inode.{Inode}
+use Rattle.world_images.specs.disk_lines.Lines.{NameRow}
+use Rattle.world_images.specs.disk_lines.Names.{row}
 use Rattle.world_images.specs.disk_rules.Kept.{IsNamedRow}
 use Rattle.world_images.specs.disk_rules.Live.{is_directory, is_file}
 use Rattle.world_images.specs.disk_rules.Rules.{file_blocks_of, IsInData, IsKindAt, IsRowPlaced}

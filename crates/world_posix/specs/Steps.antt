@@ -3,20 +3,20 @@ use Rattle.std.specs.Prelude.{◌≡◌, ◌⊎◌, ◌<◌, ◌+◌, ◌-◌, �
 use Rattle.std.proofs.Common.{arith, ap, append-nil, ◌∙◌, sym, subst, inl, inr}
 use Rattle.std.proofs.lemmas.Bool.{cases_lt}
 use Rattle.std.proofs.lemmas.List.{get_or_past}
-use Rattle.pm_words.specs.Words.{Words}
-use Rattle.disk_lines.specs.declared.Draft.{Draft}
-use Rattle.disk_lines.specs.declared.Kind.TheVariants.{Free, Staging}
-use Rattle.extent_words.specs.Extents.{disk_at, is_within}
-use Rattle.extent_facts.specs.Covers.{covers-disk_at}
+use Rattle.world_images.specs.pm_words.Words.{Words}
+use Rattle.world_images.specs.disk_lines.declared.Draft.{Draft}
+use Rattle.world_images.specs.disk_lines.declared.Kind.TheVariants.{Free, Staging}
+use Rattle.world_images.specs.extent_words.Extents.{disk_at, is_within}
+use Rattle.world_images.specs.extent_facts.Covers.{covers-disk_at}
 use Rattle.world_images.specs.disk_rules.Content.{disk_by, entry_of_block, found}
 use Rattle.world_images.specs.disk_rules.Live.{live_entries}
 use Rattle.world_images.specs.disk_rules.Rules.{IsNamedOnce}
 use Rattle.world_images.specs.disk_rules.Volume.{chain, extents, free_inode, inode, Volume}
 use Rattle.world_images.specs.volume_uses.OwnerLaws.{IsOnePlace, no_chain_has, one_owner}
-use Rattle.posix_types.specs.declared.item.Item.{Item}
-use Rattle.posix_types.specs.declared.tree.TreeEntry.{TreeEntry}
-use Rattle.posix_words.specs.declared.nodes.Node.{Node}
-use Rattle.posix_words.specs.Nodes.{node_at}
+use Rattle.world_images.specs.posix_types.declared.item.Item.{Item}
+use Rattle.world_images.specs.posix_types.declared.tree.TreeEntry.{TreeEntry}
+use Rattle.world_images.specs.posix_words.declared.nodes.Node.{Node}
+use Rattle.world_images.specs.posix_words.Nodes.{node_at}
 use Rattle.world_images.specs.posix_spec.Run.{Begun, begun, run}
 use Rattle.world_images.specs.posix_spec.State.{State}
 use Rattle.world_images.specs.posix_spec.Tree.{tree}
@@ -24,7 +24,7 @@ use Rattle.world_images.specs.posix_trees.Paths.{stands_at}
 use Rattle.world_images.specs.posix_trees.TreeOf.{IsTreeOf-same, IsTreeOf-tree}
 use Rattle.world_images.specs.crash_spec.Posix.{ByteRule, IsLeft, LaterRule, LastBeforeCut, NodeLeft, OrUnfinished, Overwritten, PosixBy}
 use Rattle.world_images.specs.crash_spec.Values.{is_shortened, value_before_cut, values_put}
-use Rattle.list_facts.specs.Filters.{filter-In}
+use Rattle.world_images.specs.list_facts.Filters.{filter-In}
 use Rattle.world_images.specs.world_rules.Shown.{IsTreeOfContent}
 use Rattle.world_images.specs.world_rules.Stands.{is_used, IsSane, Stands}
 use Rattle.world_images.specs.world_promise.Contents.{found-Stands, IsTreeOf-content}

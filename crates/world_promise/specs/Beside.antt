@@ -4,18 +4,18 @@ use Rattle.std.specs.Option.{option_flatten, option_map_or}
 use Rattle.std.proofs.Common.{arith, ap, ◌∙◌, sym, subst}
 use Rattle.std.proofs.lemmas.List.{get_or-set_other, get_or-set_same}
 use Rattle.std.proofs.lemmas.List.Sums.{sum_by-cons}
-use Rattle.block_counts.specs.Counts.{held_by, reserve_for}
-use Rattle.posix_types.specs.declared.call.Call.{Call}
-use Rattle.posix_types.specs.declared.call.Who.{Who}
-use Rattle.posix_types.specs.declared.handle.Handle.{Handle}
-use Rattle.posix_types.specs.declared.item.Outcome.{Outcome}
-use Rattle.posix_types.specs.declared.reply.Shape.{Shape}
-use Rattle.posix_words.specs.declared.nodes.Node.{Node}
-use Rattle.posix_words.specs.declared.open.Description.{Description}
-use Rattle.posix_words.specs.Nodes.{bytes_of, node_at, published_of}
-use Rattle.posix_words.specs.Open.{key_of, opened, Tables, with_offset}
-use Rattle.posix_words.specs.Outcomes.{first}
-use Rattle.posix_words.specs.Room.{growth, held, staged_below}
+use Rattle.name_facts.specs.block_counts.Counts.{held_by, reserve_for}
+use Rattle.world_rules.specs.posix_types.declared.call.Call.{Call}
+use Rattle.world_rules.specs.posix_types.declared.call.Who.{Who}
+use Rattle.world_rules.specs.posix_types.declared.handle.Handle.{Handle}
+use Rattle.world_rules.specs.posix_types.declared.item.Outcome.{Outcome}
+use Rattle.world_rules.specs.posix_types.declared.reply.Shape.{Shape}
+use Rattle.world_rules.specs.posix_words.declared.nodes.Node.{Node}
+use Rattle.world_rules.specs.posix_words.declared.open.Description.{Description}
+use Rattle.world_rules.specs.posix_words.Nodes.{bytes_of, node_at, published_of}
+use Rattle.world_rules.specs.posix_words.Open.{key_of, opened, Tables, with_offset}
+use Rattle.world_rules.specs.posix_words.Outcomes.{first}
+use Rattle.world_rules.specs.posix_words.Room.{growth, held, staged_below}
 use Rattle.world_rules.specs.posix_spec.FileRows.{content, file_number, write_rows, write_start}
 use Rattle.world_rules.specs.posix_spec.Put.{put_at, put_by}
 use Rattle.world_rules.specs.posix_spec.Run.{after_call, Begun}

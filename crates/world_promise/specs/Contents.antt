@@ -6,24 +6,24 @@ use Rattle.std.proofs.Common.{arith, ap, ◌∙◌, sym, subst}
 use Rattle.std.proofs.lemmas.List.{ext_get_or}
 use Rattle.std.proofs.lemmas.List.FromFn.{get_or-map-range_with_len, length-map-range_with_len}
 use Rattle.std.proofs.lemmas.Option.{same_Some}
-use Rattle.pm_words.specs.Words.{Words}
-use Rattle.extent_words.specs.Extents.{is_within}
-use Rattle.disk_lines.specs.declared.Draft.{Draft}
-use Rattle.disk_lines.specs.declared.Kind.{Kind}
-use Rattle.disk_lines.specs.declared.Kind.TheVariants.{Free, Directory, File, Staging}
-use Rattle.disk_lines.specs.Names.{child_named}
-use Rattle.disk_lines.specs.Names as lines
+use Rattle.name_facts.specs.pm_words.Words.{Words}
+use Rattle.name_facts.specs.extent_words.Extents.{is_within}
+use Rattle.name_facts.specs.disk_lines.declared.Draft.{Draft}
+use Rattle.name_facts.specs.disk_lines.declared.Kind.{Kind}
+use Rattle.name_facts.specs.disk_lines.declared.Kind.TheVariants.{Free, Directory, File, Staging}
+use Rattle.name_facts.specs.disk_lines.Names.{child_named}
+use Rattle.name_facts.specs.disk_lines.Names as lines
 use Rattle.name_facts.specs.disk_rules.Content as shown
 use Rattle.name_facts.specs.disk_rules.Content.{byte_in, bytes_of_file, disk_by, disk_of, entry_of_block, found, HasBytes, IsDirectory, node_by, size_by, size_of}
 use Rattle.name_facts.specs.disk_rules.Volume.{inode, Volume}
-use Rattle.posix_types.specs.declared.tree.TreeEntry.{TreeEntry}
-use Rattle.posix_types.specs.declared.tree.TreeNode.{TreeNode}
-use Rattle.posix_words.specs.declared.nodes.Node.{Node}
-use Rattle.posix_words.specs.Names.{child_of}
-use Rattle.posix_words.specs.Nodes.{node_at}
-use Rattle.posix_words.specs.Places.{tree_node}
+use Rattle.world_rules.specs.posix_types.declared.tree.TreeEntry.{TreeEntry}
+use Rattle.world_rules.specs.posix_types.declared.tree.TreeNode.{TreeNode}
+use Rattle.world_rules.specs.posix_words.declared.nodes.Node.{Node}
+use Rattle.world_rules.specs.posix_words.Names.{child_of}
+use Rattle.world_rules.specs.posix_words.Nodes.{node_at}
+use Rattle.world_rules.specs.posix_words.Places.{tree_node}
 use Rattle.world_rules.specs.posix_spec.State.{State}
-use Rattle.list_facts.specs.Filters.{filter-both, filter-In, In-filter}
+use Rattle.world_rules.specs.list_facts.Filters.{filter-both, filter-In, In-filter}
 use Rattle.world_rules.specs.posix_trees.Paths.{stands_at, walk_down}
 use Rattle.world_rules.specs.posix_trees.TreeOf.{IsTreeOf}
 use Rattle.world_rules.specs.Shown.{IsTreeOfContent, shown_as}

@@ -2,20 +2,20 @@
 use Rattle.std.specs.Prelude.{◌≡◌, ℕ, List, [], ◌∷◌, ◌++◌, map, Option, Some, None, option_map, refl}
 use Rattle.std.specs.List.{range_with_len}
 use Rattle.std.proofs.Common.{arith, ap, ◌∙◌, sym, subst, inl, inr, append_assoc, append-nil}
-use Rattle.pm_words.specs.Words.{Words}
-use Rattle.disk_lines.specs.declared.Draft.{Draft}
+use Rattle.name_facts.specs.pm_words.Words.{Words}
+use Rattle.name_facts.specs.disk_lines.declared.Draft.{Draft}
 use Rattle.name_facts.specs.disk_rules.Content as shown
 use Rattle.name_facts.specs.disk_rules.Content.{found}
 use Rattle.name_facts.specs.disk_rules.Live.{entry_in, is_live, live_entries, valid_entries}
 use Rattle.name_facts.specs.disk_rules.Volume.{Volume}
-use Rattle.posix_types.specs.declared.tree.TreeEntry.{TreeEntry}
+use Rattle.world_rules.specs.posix_types.declared.tree.TreeEntry.{TreeEntry}
 use Rattle.world_rules.specs.posix_spec.Run.{after_call, Begun}
 use Rattle.world_rules.specs.posix_spec.State.{State}
 use Rattle.world_rules.specs.posix_spec.Tree.{tree}
 use Rattle.world_rules.specs.crash_spec.Strict.{StrictFrom}
 use Rattle.world_rules.specs.crash_spec.Sync.{file_bytes, IsPartOf, SyncFrom, with_bytes}
-use Rattle.list_facts.specs.Filters.{filter-In, filter_map-In, In-filter, In-filter_map, In-map, In-range, map-In, range-In}
-use Rattle.list_facts.specs.Members.{In}
+use Rattle.world_rules.specs.list_facts.Filters.{filter-In, filter_map-In, In-filter, In-filter_map, In-map, In-range, map-In, range-In}
+use Rattle.world_rules.specs.list_facts.Members.{In}
 use Rattle.world_rules.specs.posix_trees.Entries.{IsTreeLike}
 use Rattle.world_rules.specs.posix_trees.Paths.{stands_at}
 use Rattle.world_rules.specs.Jobs.{begun_of, Job, live_claims, Valid}

@@ -4,20 +4,20 @@ use Rattle.std.proofs.Common.{arith, ap, ◌∙◌, sym, subst, inl, inr}
 use Rattle.std.proofs.lemmas.Bool.{and_parts}
 use Rattle.std.proofs.lemmas.List.{get_or-set_other, map-append}
 use Rattle.std.proofs.lemmas.List.Sums.{sum_by-cons}
-use Rattle.pm_words.specs.Words.{Words}
-use Rattle.disk_lines.specs.declared.Draft.{Draft}
-use Rattle.disk_lines.specs.declared.Kind.TheVariants.{File}
+use Rattle.name_facts.specs.pm_words.Words.{Words}
+use Rattle.name_facts.specs.disk_lines.declared.Draft.{Draft}
+use Rattle.name_facts.specs.disk_lines.declared.Kind.TheVariants.{File}
 use Rattle.name_facts.specs.disk_rules.Content.{byte_in}
 use Rattle.name_facts.specs.disk_rules.Live.{is_file, is_live, is_of_file}
 use Rattle.name_facts.specs.disk_rules.Rules.{AreApart}
 use Rattle.name_facts.specs.disk_rules.Volume.{inode, Volume}
-use Rattle.posix_words.specs.declared.nodes.Node.{Node}
-use Rattle.posix_words.specs.Nodes.{bytes_of, node_at}
+use Rattle.world_rules.specs.posix_words.declared.nodes.Node.{Node}
+use Rattle.world_rules.specs.posix_words.Nodes.{bytes_of, node_at}
 use Rattle.world_rules.specs.posix_spec.Run.{after_call, Begun}
 use Rattle.world_rules.specs.posix_spec.State.{room, State}
 use Rattle.world_rules.specs.crash_spec.Sync.{IsPartOf, with_bytes}
-use Rattle.list_facts.specs.Filters.{filter-more}
-use Rattle.list_facts.specs.Members.{pushed-In}
+use Rattle.world_rules.specs.list_facts.Filters.{filter-more}
+use Rattle.world_rules.specs.list_facts.Members.{pushed-In}
 use Rattle.world_rules.specs.posix_puts.Puts.{LeavesWhole, with_whole}
 use Rattle.world_rules.specs.posix_puts.ViewLaws.{need_of-kept, PutsWhole-kept}
 use Rattle.world_rules.specs.posix_puts.Views.{KeepsView, need_of}

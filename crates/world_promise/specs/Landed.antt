@@ -4,22 +4,22 @@ use Rattle.std.proofs.Common.{arith, ap, ◌∙◌, sym, subst, inl, inr}
 use Rattle.std.proofs.lemmas.Bool.{and_from, and_left, and_right, cases_Bool, cases_eq, ne_eqb}
 use Rattle.std.proofs.lemmas.Bool.Decides.{Decides-eqb, nat_tests}
 use Rattle.std.proofs.lemmas.List.{get_or-set_other, get_or-set_same, length-set}
-use Rattle.pm_words.specs.Words.{Words}
-use Rattle.extent_words.specs.Extents.{is_within}
-use Rattle.disk_lines.specs.declared.Draft.{Draft}
-use Rattle.disk_lines.specs.declared.Kind.{Kind}
-use Rattle.disk_lines.specs.declared.Kind.TheVariants.{Free, Directory, File, Staging}
+use Rattle.name_facts.specs.pm_words.Words.{Words}
+use Rattle.name_facts.specs.extent_words.Extents.{is_within}
+use Rattle.name_facts.specs.disk_lines.declared.Draft.{Draft}
+use Rattle.name_facts.specs.disk_lines.declared.Kind.{Kind}
+use Rattle.name_facts.specs.disk_lines.declared.Kind.TheVariants.{Free, Directory, File, Staging}
 use Rattle.name_facts.specs.disk_rules.Content.{byte_in, disk_by, disk_of, size_by, size_of}
 use Rattle.name_facts.specs.disk_rules.Live.{is_file, latest}
 use Rattle.name_facts.specs.disk_rules.Rules.{AreApart, HasStagingBlocks}
 use Rattle.name_facts.specs.disk_rules.Volume.{inode, Volume}
-use Rattle.posix_words.specs.declared.nodes.Node.{Node}
-use Rattle.posix_words.specs.Lookups.{AreDistinct}
-use Rattle.posix_words.specs.Names.{child_of}
-use Rattle.posix_words.specs.Nodes.{node_at}
+use Rattle.world_rules.specs.posix_words.declared.nodes.Node.{Node}
+use Rattle.world_rules.specs.posix_words.Lookups.{AreDistinct}
+use Rattle.world_rules.specs.posix_words.Names.{child_of}
+use Rattle.world_rules.specs.posix_words.Nodes.{node_at}
 use Rattle.world_rules.specs.posix_spec.State.{State}
-use Rattle.list_facts.specs.Filters.{filter-In, filter-more, filter-same, In-filter}
-use Rattle.list_facts.specs.Members.{In, pushed-In}
+use Rattle.world_rules.specs.list_facts.Filters.{filter-In, filter-more, filter-same, In-filter}
+use Rattle.world_rules.specs.list_facts.Members.{In, pushed-In}
 use Rattle.world_rules.specs.posix_puts.Puts.{LeavesWhole, with_whole}
 use Rattle.world_rules.specs.Jobs.{HoldsWhole, staged_block}
 use Rattle.world_rules.specs.Stands.{Consecutive, entries_of, FileStands, is_used, IsUsed, LogStands, NamesStand, NodeStands, number, Stands}

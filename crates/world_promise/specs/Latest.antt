@@ -3,10 +3,10 @@ use Rattle.std.specs.Prelude.{◌≡◌, ◌<◌, ◌≤◌, ℕ, ◌+◌, nat_l
 use Rattle.std.proofs.Common.{arith, ap, ◌∙◌, sym, subst, inl, inr, lt-ltb}
 use Rattle.std.proofs.lemmas.Bool.Decides.{nat_tests}
 use Rattle.std.proofs.lemmas.Option.{same_Some}
-use Rattle.disk_lines.specs.declared.Draft.{Draft}
+use Rattle.name_facts.specs.disk_lines.declared.Draft.{Draft}
 use Rattle.name_facts.specs.disk_rules.Live.{later_of, latest}
-use Rattle.list_facts.specs.Filters.{filter-In}
-use Rattle.list_facts.specs.Members.{In}
+use Rattle.world_rules.specs.list_facts.Filters.{filter-In}
+use Rattle.world_rules.specs.list_facts.Members.{In}
 use Rattle.world_rules.specs.Stands.{Consecutive}
 
 -- the same entries are in both

@@ -1,10 +1,10 @@
 -- What the World promises of a power loss, each promise as one statement.
 use Rattle.std.specs.Prelude.{ℕ, List, [], ◌∷◌, ◌++◌, map, Option}
-use Rattle.pm_words.specs.Words.{Words}
-use Rattle.disk_lines.specs.declared.Draft.{Draft}
+use Rattle.name_facts.specs.pm_words.Words.{Words}
+use Rattle.name_facts.specs.disk_lines.declared.Draft.{Draft}
 use Rattle.name_facts.specs.disk_rules.Volume.{Volume}
-use Rattle.posix_types.specs.declared.item.Item.{Item}
-use Rattle.posix_types.specs.declared.tree.TreeEntry.{TreeEntry}
+use Rattle.world_rules.specs.posix_types.declared.item.Item.{Item}
+use Rattle.world_rules.specs.posix_types.declared.tree.TreeEntry.{TreeEntry}
 use Rattle.world_rules.specs.posix_spec.Run.{Begun, run}
 use Rattle.world_rules.specs.posix_spec.State.{State}
 use Rattle.world_rules.specs.crash_spec.Strict.{Strict}

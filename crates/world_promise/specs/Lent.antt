@@ -3,22 +3,22 @@ use Rattle.std.specs.Prelude.{◌≡◌, ◌<◌, ℕ, ◌+◌, ◌-◌, ◌/◌
 use Rattle.std.proofs.Common.{arith, ap, ◌∙◌, sym, subst, inl, inr}
 use Rattle.std.proofs.lemmas.Bool.{and_parts, cases_lt}
 use Rattle.std.proofs.lemmas.List.{get_or_past}
-use Rattle.pm_words.specs.Words.{Words}
-use Rattle.disk_places.specs.Places.{is_data_block}
-use Rattle.extent_words.specs.Extents.{disk_at, is_within}
-use Rattle.extent_facts.specs.Covers.{covers-disk_at}
-use Rattle.disk_lines.specs.declared.Draft.{Draft}
-use Rattle.disk_lines.specs.declared.Kind.{Kind}
-use Rattle.disk_lines.specs.declared.Kind.TheVariants.{Free, Staging}
+use Rattle.name_facts.specs.pm_words.Words.{Words}
+use Rattle.name_facts.specs.disk_places.Places.{is_data_block}
+use Rattle.name_facts.specs.extent_words.Extents.{disk_at, is_within}
+use Rattle.name_facts.specs.extent_facts.Covers.{covers-disk_at}
+use Rattle.name_facts.specs.disk_lines.declared.Draft.{Draft}
+use Rattle.name_facts.specs.disk_lines.declared.Kind.{Kind}
+use Rattle.name_facts.specs.disk_lines.declared.Kind.TheVariants.{Free, Staging}
 use Rattle.name_facts.specs.disk_rules.Content.{byte_in, disk_by, disk_of, entry_of_block}
 use Rattle.name_facts.specs.disk_rules.Rules.{AreApart, file_blocks_of, IsNamedOnce}
 use Rattle.name_facts.specs.disk_rules.Volume.{extents, free_inode, inode, Volume}
 use Rattle.volume_uses.specs.OwnerLaws.{IsOnePlace, one_owner}
 use Rattle.volume_uses.specs.PoolLaws.{covered-in_data}
-use Rattle.posix_words.specs.Nodes.{node_at}
+use Rattle.world_rules.specs.posix_words.Nodes.{node_at}
 use Rattle.world_rules.specs.posix_spec.State.{State}
-use Rattle.list_facts.specs.Filters.{filter-In}
-use Rattle.list_facts.specs.Members.{In}
+use Rattle.world_rules.specs.list_facts.Filters.{filter-In}
+use Rattle.world_rules.specs.list_facts.Members.{In}
 use Rattle.world_rules.specs.Jobs.{IsStagedIn, Job, JobsStand, live_claims, Valid}
 use Rattle.world_rules.specs.Shown.{IsLent, SameButLent}
 use Rattle.world_rules.specs.Stands.{is_used, IsSane, IsUsed, LogStands, number, Stands}

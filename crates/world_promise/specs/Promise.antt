@@ -1,12 +1,12 @@
 -- The promise, proved.
 use Rattle.std.specs.Prelude.{ℕ, List, Option}
 use Rattle.std.proofs.Common.{subst}
-use Rattle.pm_words.specs.Words.{Words}
-use Rattle.disk_lines.specs.declared.Draft.{Draft}
+use Rattle.name_facts.specs.pm_words.Words.{Words}
+use Rattle.name_facts.specs.disk_lines.declared.Draft.{Draft}
 use Rattle.name_facts.specs.disk_rules.Content as shown
 use Rattle.name_facts.specs.disk_rules.Content.{found}
 use Rattle.name_facts.specs.disk_rules.Volume.{Volume}
-use Rattle.posix_types.specs.declared.tree.TreeEntry.{TreeEntry}
+use Rattle.world_rules.specs.posix_types.declared.tree.TreeEntry.{TreeEntry}
 use Rattle.world_rules.specs.posix_spec.Run.{run}
 use Rattle.world_rules.specs.posix_spec.State.{State}
 use Rattle.world_rules.specs.posix_spec.Tree.{tree}

@@ -6,20 +6,20 @@ use Rattle.std.proofs.lemmas.Bool.{and_parts, cases_lt}
 use Rattle.std.proofs.lemmas.Bool.Decides.{Decides-eqb}
 use Rattle.std.proofs.lemmas.List.{get_or_past}
 use Rattle.std.proofs.lemmas.Option.{same_Some}
-use Rattle.disk_lines.specs.declared.Kind.{Kind}
-use Rattle.disk_lines.specs.declared.Kind.TheVariants.{Free, Directory, File, Staging}
-use Rattle.disk_lines.specs.Lines.{is_dots, is_name, is_name_byte, line_name_bytes, NameRow}
-use Rattle.disk_lines.specs.Names.{child_named, is_child, parent_of, row, up}
-use Rattle.disk_lines.specs.TableLaws.{child_named-NamingLine, NamingLine-child_named, NamingLine-parent_of}
-use Rattle.disk_lines.specs.Tables.{NamingLine}
+use Rattle.name_facts.specs.disk_lines.declared.Kind.{Kind}
+use Rattle.name_facts.specs.disk_lines.declared.Kind.TheVariants.{Free, Directory, File, Staging}
+use Rattle.name_facts.specs.disk_lines.Lines.{is_dots, is_name, is_name_byte, line_name_bytes, NameRow}
+use Rattle.name_facts.specs.disk_lines.Names.{child_named, is_child, parent_of, row, up}
+use Rattle.name_facts.specs.disk_lines.TableLaws.{child_named-NamingLine, NamingLine-child_named, NamingLine-parent_of}
+use Rattle.name_facts.specs.disk_lines.Tables.{NamingLine}
 use Rattle.name_facts.specs.disk_rules.Live.{is_directory, is_file}
 use Rattle.name_facts.specs.disk_rules.Volume.{free_inode, inode, Volume}
 use Rattle.name_facts.specs.KeptLaws.{HasAllLines, kept-keyed, kept-named, kept-one_name, kept-placed}
 use Rattle.name_facts.specs.RowLaws.{names_of-one_line, names_of-zero}
-use Rattle.posix_words.specs.declared.nodes.DirEntry.{DirEntry}
-use Rattle.posix_words.specs.Names.{child_of}
+use Rattle.world_rules.specs.posix_words.declared.nodes.DirEntry.{DirEntry}
+use Rattle.world_rules.specs.posix_words.Names.{child_of}
 use Rattle.world_rules.specs.posix_spec.State.{State}
-use Rattle.list_facts.specs.Members.{In}
+use Rattle.world_rules.specs.list_facts.Members.{In}
 use Rattle.world_rules.specs.posix_trees.Entries.{child_of-In, IsDeep, IsTreeLike, Leads-child_of}
 use Rattle.world_rules.specs.posix_trees.Paths.{HasNoSlash, IsFilled, IsPlainName}
 use Rattle.world_rules.specs.Stands.{is_used, IsSane, IsUsed, NamesStand, number}

@@ -4,13 +4,13 @@ use Rattle.std.specs.Prelude.{All}
 use Rattle.std.proofs.lemmas.Bool.{both_ways, cases_lt}
 use Rattle.std.proofs.lemmas.Bool.Decides.{nat_tests}
 use Rattle.std.proofs.lemmas.List.{get_or_past}
-use Rattle.pm_words.specs.declared.Cell.{Cell}
-use Rattle.pm_words.specs.Images.{Follows}
-use Rattle.pm_words.specs.Words.{Words}
-use Rattle.disk_places.specs.Journal.{is_journal_word, journaled}
-use Rattle.disk_places.specs.PlaceLaws.{behind_log-words, log_line-not_journaled}
-use Rattle.disk_places.specs.Places.{commit_word, first_data, Geometry, is_data_block, is_journaled_line, log_line}
-use Rattle.extent_words.specs.Extents.{covers}
+use Rattle.live_facts.specs.pm_words.declared.Cell.{Cell}
+use Rattle.live_facts.specs.pm_words.Images.{Follows}
+use Rattle.live_facts.specs.pm_words.Words.{Words}
+use Rattle.live_facts.specs.disk_places.Journal.{is_journal_word, journaled}
+use Rattle.live_facts.specs.disk_places.PlaceLaws.{behind_log-words, log_line-not_journaled}
+use Rattle.live_facts.specs.disk_places.Places.{commit_word, first_data, Geometry, is_data_block, is_journaled_line, log_line}
+use Rattle.live_facts.specs.extent_words.Extents.{covers}
 use Rattle.live_facts.specs.disk_rules.Content.{content, disk_of}
 use Rattle.live_facts.specs.disk_rules.Kept.{AreKept}
 use Rattle.live_facts.specs.disk_rules.Live.{is_file, live_entries}

@@ -3,18 +3,18 @@ use Rattle.std.proofs.Common.{◌≡◌, ◌≢◌, ◌≤◌, ◌<◌, ◌+◌,
 use Rattle.std.specs.Prelude.{IsSome}
 use Rattle.std.proofs.lemmas.Bool.{cases_eq}
 use Rattle.std.proofs.lemmas.List.{length-set}
-use Rattle.pm_words.specs.ImageLaws.{IsImage-words_of}
-use Rattle.pm_words.specs.Images.{words_of}
-use Rattle.block_counts.specs.Counts.{chains_for}
+use Rattle.live_facts.specs.pm_words.ImageLaws.{IsImage-words_of}
+use Rattle.live_facts.specs.pm_words.Images.{words_of}
+use Rattle.live_facts.specs.block_counts.Counts.{chains_for}
 use Rattle.live_facts.specs.chain_facts.ChainLaws.{length-blocks_from}
-use Rattle.disk_places.specs.Journal.{journaled}
-use Rattle.disk_lines.specs.declared.Inode.{Inode}
-use Rattle.disk_lines.specs.declared.Kind.TheVariants.{File, Staging}
+use Rattle.live_facts.specs.disk_places.Journal.{journaled}
+use Rattle.live_facts.specs.disk_lines.declared.Inode.{Inode}
+use Rattle.live_facts.specs.disk_lines.declared.Kind.TheVariants.{File, Staging}
 use Rattle.live_facts.specs.disk_rules.Reading.{inode_set, Reads}
 use Rattle.live_facts.specs.disk_rules.Rules.{file_blocks_of}
 use Rattle.live_facts.specs.disk_rules.Volume.{chain, extents, inode, Volume}
-use Rattle.extent_words.specs.declared.Extent.{Extent}
-use Rattle.extent_words.specs.Extents.{disk_at, IsCanonical, is_within}
+use Rattle.live_facts.specs.extent_words.declared.Extent.{Extent}
+use Rattle.live_facts.specs.extent_words.Extents.{disk_at, IsCanonical, is_within}
 use Rattle.k_split.specs.k_map_plans.Plans.{MayMove}
 use Rattle.k_split.specs.k_plans.Whole.{IsWhole}
 use Rattle.live_facts.specs.k_rules.View.{View}

@@ -3,20 +3,20 @@ use Rattle.std.proofs.Common.{◌≡◌, ◌+◌, ◌++◌, ◌==◌, ◌&&◌, 
 use Rattle.std.specs.Prelude.{All, nat_lt}
 use Rattle.std.proofs.lemmas.Bool.{cases_eq}
 use Rattle.std.proofs.lemmas.List.{get_or-append-add}
-use Rattle.pm_words.specs.Images.{Follows, Follows-weaken}
-use Rattle.disk_lines.specs.declared.Draft.{Draft}
-use Rattle.disk_lines.specs.declared.Inode.{Inode}
-use Rattle.disk_lines.specs.declared.Kind.TheVariants.{Staging}
-use Rattle.disk_places.specs.Journal.{journaled}
+use Rattle.live_facts.specs.pm_words.Images.{Follows, Follows-weaken}
+use Rattle.live_facts.specs.disk_lines.declared.Draft.{Draft}
+use Rattle.live_facts.specs.disk_lines.declared.Inode.{Inode}
+use Rattle.live_facts.specs.disk_lines.declared.Kind.TheVariants.{Staging}
+use Rattle.live_facts.specs.disk_places.Journal.{journaled}
 use Rattle.live_facts.specs.disk_rules.Live.{is_file, is_live, valid_entries}
 use Rattle.live_facts.specs.disk_rules.Volume.{chain, extents, inode, Volume}
-use Rattle.extent_words.specs.declared.Extent.{Extent}
+use Rattle.live_facts.specs.extent_words.declared.Extent.{Extent}
 use Rattle.k_split.specs.k_map_plans.Plans.{IsStagingFile}
 use Rattle.k_split.specs.k_plans.Whole.{IsWhole}
 use Rattle.live_facts.specs.k_rules.View.{View}
 use Rattle.k_split.specs.MapChanges.{is_free_in, IsPreallocatedWith}
 use Rattle.k_split.specs.Order.{IsInOrder}
-use Rattle.list_facts.specs.Filters.{filter-In, In-filter}
+use Rattle.live_facts.specs.list_facts.Filters.{filter-In, In-filter}
 use Rattle.k_split.specs.map_rules.Changes.{aged, given_up}
 use Rattle.k_split.specs.map_rules.Taken.{switched, with_map}
 use Rattle.live_facts.specs.volume_facts.Changes.{chain-set_same, extents-set_other, inode-set_other, inode-set_same}

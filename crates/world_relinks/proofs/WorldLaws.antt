@@ -3,26 +3,26 @@ use Rattle.std.proofs.Common.{◌≡◌, ◌≢◌, ◌≤◌, ◌<◌, ◌+◌,
 use Rattle.std.specs.Prelude.{All, Some, ◌==◌}
 use Rattle.std.proofs.lemmas.Bool.{and_parts, cases_lt}
 use Rattle.std.proofs.lemmas.List.{get_or_past}
-use Rattle.pm_words.specs.ImageLaws.{IsImage-words_of}
-use Rattle.pm_words.specs.Images.{Follows, Follows-weaken, words_of}
-use Rattle.pm_words.specs.Words.{Words}
+use Rattle.live_facts.specs.pm_words.ImageLaws.{IsImage-words_of}
+use Rattle.live_facts.specs.pm_words.Images.{Follows, Follows-weaken, words_of}
+use Rattle.live_facts.specs.pm_words.Words.{Words}
 use Rattle.k_split.specs.block_pool.FreeSets.{is_among}
-use Rattle.disk_lines.specs.declared.Draft.{Draft}
-use Rattle.disk_lines.specs.declared.Inode.{Inode}
-use Rattle.disk_lines.specs.declared.Kind.TheVariants.{File, Staging}
-use Rattle.disk_lines.specs.Lines.{is_name, NameRow}
-use Rattle.disk_lines.specs.NameLaws.{IsNameLine-decode_name}
-use Rattle.disk_lines.specs.Names.{row}
-use Rattle.disk_places.specs.Journal.{journaled}
-use Rattle.disk_places.specs.Places.{is_data_block}
+use Rattle.live_facts.specs.disk_lines.declared.Draft.{Draft}
+use Rattle.live_facts.specs.disk_lines.declared.Inode.{Inode}
+use Rattle.live_facts.specs.disk_lines.declared.Kind.TheVariants.{File, Staging}
+use Rattle.live_facts.specs.disk_lines.Lines.{is_name, NameRow}
+use Rattle.live_facts.specs.disk_lines.NameLaws.{IsNameLine-decode_name}
+use Rattle.live_facts.specs.disk_lines.Names.{row}
+use Rattle.live_facts.specs.disk_places.Journal.{journaled}
+use Rattle.live_facts.specs.disk_places.Places.{is_data_block}
 use Rattle.live_facts.specs.disk_rules.Live.{live_entries}
 use Rattle.live_facts.specs.disk_rules.Placed.{block_at}
 use Rattle.live_facts.specs.disk_rules.Reading.{Reads, slot_for}
 use Rattle.live_facts.specs.disk_rules.Room.{has_none, unused_blocks}
 use Rattle.live_facts.specs.disk_rules.Uses.{owners}
 use Rattle.live_facts.specs.disk_rules.Volume.{chain, extents, inode, Volume}
-use Rattle.extent_words.specs.Extents.{covers}
-use Rattle.extent_words.specs.Moves.{Moves}
+use Rattle.live_facts.specs.extent_words.Extents.{covers}
+use Rattle.live_facts.specs.extent_words.Moves.{Moves}
 use Rattle.k_split.specs.k_map_plans.Plans.{MayMove}
 use Rattle.k_split.specs.k_plans.Whole.{IsWhole}
 use Rattle.live_facts.specs.k_rules.Stands.{Stands}

@@ -1,8 +1,8 @@
 -- Images of a change of K-Split, beside the image before.
 use Rattle.std.specs.Prelude.{◌≡◌, ℕ}
-use Rattle.pm_words.specs.Words.{Words}
-use Rattle.disk_lines.specs.declared.Draft.{Draft}
-use Rattle.disk_places.specs.Journal.{journaled}
+use Rattle.live_facts.specs.pm_words.Words.{Words}
+use Rattle.live_facts.specs.disk_lines.declared.Draft.{Draft}
+use Rattle.live_facts.specs.disk_places.Journal.{journaled}
 use Rattle.live_facts.specs.disk_rules.Content.{content}
 use Rattle.live_facts.specs.disk_rules.Live.{live_entries}
 use Rattle.live_facts.specs.disk_rules.Volume.{Volume}

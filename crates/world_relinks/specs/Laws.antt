@@ -1,8 +1,8 @@
 -- The changes of K-Split in the words of the World, and the content of their images, each law as one statement.
 use Rattle.std.specs.Prelude.{◌≡◌, ℕ, false, List}
-use Rattle.pm_words.specs.Images.{Follows}
-use Rattle.pm_words.specs.Words.{Words}
-use Rattle.disk_lines.specs.declared.Draft.{Draft}
+use Rattle.live_facts.specs.pm_words.Images.{Follows}
+use Rattle.live_facts.specs.pm_words.Words.{Words}
+use Rattle.live_facts.specs.disk_lines.declared.Draft.{Draft}
 use Rattle.live_facts.specs.disk_rules.Volume.{inode, Volume}
 use Rattle.k_split.specs.k_map_plans.Plans.{IsStagingFile, MayMove}
 use Rattle.k_split.specs.k_plans.Whole.{IsWhole}

@@ -26,3 +26,12 @@ pub use Rattle.live_facts.specs.posix_facts as posix_facts
 pub use Rattle.live_facts.specs.posix_puts as posix_puts
 pub use Rattle.live_facts.specs.posix_spec as posix_spec
 pub use Rattle.live_facts.specs.volume_facts as volume_facts
+pub use Rattle.live_facts.specs.block_counts as block_counts
+pub use Rattle.live_facts.specs.disk_lines as disk_lines
+pub use Rattle.live_facts.specs.disk_places as disk_places
+pub use Rattle.live_facts.specs.extent_facts as extent_facts
+pub use Rattle.live_facts.specs.extent_words as extent_words
+pub use Rattle.live_facts.specs.list_facts as list_facts
+pub use Rattle.live_facts.specs.pm_words as pm_words
+pub use Rattle.live_facts.specs.posix_types as posix_types
+pub use Rattle.live_facts.specs.posix_words as posix_words

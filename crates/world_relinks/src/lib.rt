@@ -12,8 +12,8 @@
 
 mod laws;
 
-pub use k_split;
-pub use k_split::{k_journal, map_rules};
+pub use k_split::{Commit, KFault, KSplit};
 pub use laws::{
     relinks_are_those_of_the_world, relinks_keep_the_content, staging_files_change_as_in_the_world,
 };
+pub use map_facts::Move;

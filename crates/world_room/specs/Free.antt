@@ -4,9 +4,9 @@ use Rattle.std.specs.List.{range_with_len}
 use Rattle.std.proofs.Common.{arith, ap, ◌∙◌, length-append, sym, subst, inl, inr}
 use Rattle.std.proofs.lemmas.Bool.{cases_eq, eq-eqb, ne_eqb}
 use Rattle.std.proofs.lemmas.List.{length-set}
-use Rattle.disk_places.specs.Places.{data_blocks, first_data, is_data_block, reserve}
-use Rattle.extent_words.specs.Extents.{block_count}
-use Rattle.disk_lines.specs.declared.Draft.{Draft}
+use Rattle.world_runs.specs.disk_places.Places.{data_blocks, first_data, is_data_block, reserve}
+use Rattle.world_runs.specs.extent_words.Extents.{block_count}
+use Rattle.world_runs.specs.disk_lines.declared.Draft.{Draft}
 use Rattle.world_runs.specs.disk_rules.Live.{is_live}
 use Rattle.world_runs.specs.disk_rules.Room.{has_none, unused_blocks}
 use Rattle.world_runs.specs.disk_rules.Rules.{file_blocks_of}

@@ -1,9 +1,9 @@
 -- The arithmetic of free blocks, each fact as one statement. Free are the data blocks that nothing names (`unused_blocks`). With p
 -- entries live or jobs in flight at least `reserve - 3 + p` are free (`HasFreeBlocks`).
 use Rattle.std.specs.Prelude.{◌≡◌, ◌≢◌, ◌<◌, ◌≤◌, ◌+◌, ◌-◌, ◌/◌, ℕ, All, true, List, [], ◌∷◌, ◌++◌, length, max, min}
-use Rattle.disk_places.specs.Places.{is_data_block, reserve}
-use Rattle.extent_words.specs.declared.Extent.{Extent}
-use Rattle.disk_lines.specs.declared.Draft.{Draft}
+use Rattle.world_runs.specs.disk_places.Places.{is_data_block, reserve}
+use Rattle.world_runs.specs.extent_words.declared.Extent.{Extent}
+use Rattle.world_runs.specs.disk_lines.declared.Draft.{Draft}
 use Rattle.world_runs.specs.disk_rules.Live.{is_live}
 use Rattle.world_runs.specs.disk_rules.Room.{unused_blocks}
 use Rattle.world_runs.specs.disk_rules.Uses.{owners}

@@ -14,3 +14,6 @@ pub use Rattle.world_runs.specs.k_rules as k_rules
 pub use Rattle.world_runs.specs.posix_puts as posix_puts
 pub use Rattle.world_runs.specs.posix_spec as posix_spec
 pub use Rattle.world_runs.specs.volume_facts as volume_facts
+pub use Rattle.world_runs.specs.extent_facts as extent_facts
+pub use Rattle.world_runs.specs.extent_words as extent_words
+pub use Rattle.world_runs.specs.list_facts as list_facts

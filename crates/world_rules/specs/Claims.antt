@@ -1,9 +1,9 @@
 -- The claims of a lap, also those whose entries are carried out already.
 use Rattle.std.specs.Prelude.{◌≡◌, ◌≢◌, ◌⊎◌, ◌≤◌, ℕ, true, List}
-use Rattle.disk_lines.specs.declared.Draft.{Draft}
+use Rattle.disk_rules.specs.disk_lines.declared.Draft.{Draft}
 use Rattle.disk_rules.specs.Live.{is_live, is_of_file}
 use Rattle.disk_rules.specs.Volume.{inode, Volume}
-use Rattle.list_facts.specs.Members.{In}
+use Rattle.crash_spec.specs.list_facts.Members.{In}
 
 -- The claims of files that are there: those of one file in two slots have two orders, and those above what the file has
 -- applied are live.

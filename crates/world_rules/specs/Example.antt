@@ -3,22 +3,22 @@
 -- of the function that says that it is valid puts them together.
 use Rattle.std.specs.Prelude.{◌≡◌, ℕ, zero, suc, ◌==◌, true, false, cond, IsSome, List, [], ◌∷◌, Some}
 use Rattle.std.proofs.Common.{arith, inl, inr}
-use Rattle.pm_words.specs.Words.{Words}
-use Rattle.extent_words.specs.declared.Extent.{Extent}
-use Rattle.disk_lines.specs.declared.Draft.{Draft}
-use Rattle.disk_lines.specs.declared.Inode.{Inode}
-use Rattle.disk_lines.specs.declared.Kind.{Kind}
-use Rattle.disk_lines.specs.declared.Kind.TheVariants.{Directory, File, Staging}
+use Rattle.disk_rules.specs.pm_words.Words.{Words}
+use Rattle.disk_rules.specs.extent_words.declared.Extent.{Extent}
+use Rattle.disk_rules.specs.disk_lines.declared.Draft.{Draft}
+use Rattle.disk_rules.specs.disk_lines.declared.Inode.{Inode}
+use Rattle.disk_rules.specs.disk_lines.declared.Kind.{Kind}
+use Rattle.disk_rules.specs.disk_lines.declared.Kind.TheVariants.{Directory, File, Staging}
 use Rattle.disk_rules.specs.Rules.{HasStagingBlocks}
 use Rattle.disk_rules.specs.Volume.{Volume}
-use Rattle.posix_types.specs.declared.call.Call.{Call}
-use Rattle.posix_types.specs.declared.call.Mode.{Mode}
-use Rattle.posix_types.specs.declared.call.Who.{Who}
-use Rattle.posix_types.specs.declared.handle.Flags.{Flags}
-use Rattle.posix_types.specs.declared.handle.Handle.{Handle}
-use Rattle.posix_words.specs.declared.nodes.Node.{Node}
+use Rattle.posix_puts.specs.posix_types.declared.call.Call.{Call}
+use Rattle.posix_puts.specs.posix_types.declared.call.Mode.{Mode}
+use Rattle.posix_puts.specs.posix_types.declared.call.Who.{Who}
+use Rattle.posix_puts.specs.posix_types.declared.handle.Flags.{Flags}
+use Rattle.posix_puts.specs.posix_types.declared.handle.Handle.{Handle}
+use Rattle.posix_puts.specs.posix_words.declared.nodes.Node.{Node}
 use Rattle.posix_puts.specs.posix_spec.State.{State}
-use Rattle.list_facts.specs.Members.{In}
+use Rattle.crash_spec.specs.list_facts.Members.{In}
 use Rattle.world_rules.specs.Jobs.{Job, live_claims, staged_block}
 
 -- The volume: inode 5 is the file `a` of the root, inode 1 a staging file with blocks 10 and 11.

@@ -2,7 +2,7 @@
 use Rattle.std.specs.Prelude.{◌≡◌, ℕ, zero, suc, ◌+◌, ◌*◌, ◌/◌, ◌%◌, ◌^◌, List, ◌∷◌, ◌++◌, replicate, slice_index, refl}
 use Rattle.std.proofs.Common.{arith, ap, ◌∙◌, sym}
 use Rattle.std.proofs.Math.Nat.{zero-div}
-use Rattle.disk_lines.specs.declared.Draft.{Draft}
+use Rattle.disk_rules.specs.disk_lines.declared.Draft.{Draft}
 use Rattle.world_rules.specs.Jobs.{HoldsWhole}
 use Rattle.world_rules.specs.Example.{volume_a}
 

@@ -2,13 +2,13 @@
 -- world together.
 use Rattle.std.specs.Prelude.{◌≡◌, ◌≢◌, ◌⊎◌, ◌<◌, ◌≤◌, ℕ, zero, suc, ◌/◌, true, false, [], ◌∷◌, slice_index, refl}
 use Rattle.std.proofs.Common.{arith, ap, ◌∙◌, sym, subst, inl, inr}
-use Rattle.extent_words.specs.Extents.{is_within}
-use Rattle.disk_lines.specs.declared.Draft.{Draft}
+use Rattle.disk_rules.specs.extent_words.Extents.{is_within}
+use Rattle.disk_rules.specs.disk_lines.declared.Draft.{Draft}
 use Rattle.disk_rules.specs.Content.{byte_in, disk_of}
 use Rattle.disk_rules.specs.Live.{is_live, is_of_file}
 use Rattle.disk_rules.specs.Rules.{AreApart}
 use Rattle.disk_rules.specs.Volume.{inode}
-use Rattle.list_facts.specs.Members.{In}
+use Rattle.crash_spec.specs.list_facts.Members.{In}
 use Rattle.posix_puts.specs.Puts.{PutsWhole}
 use Rattle.world_rules.specs.Claims.{ClaimsStand}
 use Rattle.world_rules.specs.Jobs.{JobStands, live_claims}

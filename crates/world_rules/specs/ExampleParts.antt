@@ -3,27 +3,27 @@ use Rattle.std.specs.Prelude.{◌≡◌, ◌≢◌, ◌⊎◌, ◌<◌, ◌≤�
 use Rattle.std.proofs.Common.{arith, ap, ◌∙◌, sym, subst, inl, inr}
 use Rattle.std.proofs.lemmas.Bool.Decides.{nat_tests}
 use Rattle.std.proofs.lemmas.Option.{same_Some}
-use Rattle.disk_places.specs.Fields.{is_same}
-use Rattle.extent_words.specs.declared.Extent.{Extent}
-use Rattle.extent_words.specs.Extents.{holds_disk}
-use Rattle.disk_lines.specs.declared.Draft.{Draft}
-use Rattle.disk_lines.specs.declared.Kind.TheVariants.{Staging}
-use Rattle.disk_lines.specs.Lines.{is_name, NameRow}
-use Rattle.disk_lines.specs.Names.{child_named, line_and_child, names_of, row, up}
+use Rattle.disk_rules.specs.disk_places.Fields.{is_same}
+use Rattle.disk_rules.specs.extent_words.declared.Extent.{Extent}
+use Rattle.disk_rules.specs.extent_words.Extents.{holds_disk}
+use Rattle.disk_rules.specs.disk_lines.declared.Draft.{Draft}
+use Rattle.disk_rules.specs.disk_lines.declared.Kind.TheVariants.{Staging}
+use Rattle.disk_rules.specs.disk_lines.Lines.{is_name, NameRow}
+use Rattle.disk_rules.specs.disk_lines.Names.{child_named, line_and_child, names_of, row, up}
 use Rattle.disk_rules.specs.Content.{byte_in, disk_of}
 use Rattle.disk_rules.specs.Kept.{IsNamedRow}
 use Rattle.disk_rules.specs.Live.{is_directory}
 use Rattle.disk_rules.specs.Rules.{file_blocks_of, HasOneName, HasStagingBlocks, IsInData, IsKindAt, IsNamedOnce, IsRowPlaced}
 use Rattle.disk_rules.specs.Uses.{Holds, owners}
 use Rattle.disk_rules.specs.Volume.{extents, inode}
-use Rattle.posix_words.specs.declared.nodes.DirEntry.{DirEntry}
-use Rattle.posix_words.specs.declared.nodes.Node.{Node}
-use Rattle.posix_words.specs.Names.{child_of}
-use Rattle.posix_words.specs.Nodes.{node_at}
-use Rattle.posix_words.specs.Open.{binding_of, key_of, opened}
+use Rattle.posix_puts.specs.posix_words.declared.nodes.DirEntry.{DirEntry}
+use Rattle.posix_puts.specs.posix_words.declared.nodes.Node.{Node}
+use Rattle.posix_puts.specs.posix_words.Names.{child_of}
+use Rattle.posix_puts.specs.posix_words.Nodes.{node_at}
+use Rattle.posix_puts.specs.posix_words.Open.{binding_of, key_of, opened}
 use Rattle.posix_puts.specs.posix_spec.FileRows.{write_rows}
 use Rattle.posix_puts.specs.posix_spec.Put.{put_by}
-use Rattle.list_facts.specs.Members.{In}
+use Rattle.crash_spec.specs.list_facts.Members.{In}
 use Rattle.posix_puts.specs.Puts.{PutsWhole}
 use Rattle.posix_puts.specs.Views.{AreAfforded}
 use Rattle.world_rules.specs.Jobs.{begun_of, live_claims}

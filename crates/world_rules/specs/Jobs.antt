@@ -1,22 +1,22 @@
 -- A logged write in flight, and the valid world.
 use Rattle.std.specs.Prelude.{◌≡◌, ◌≢◌, ℕ, ◌+◌, ◌*◌, ◌/◌, ◌<◌, true, false, List, [], ◌∷◌, length, map, filter, Option, Some, slice_index}
-use Rattle.pm_words.specs.Words.{byte_of, Words}
-use Rattle.extent_words.specs.Extents.{disk_at, is_within}
-use Rattle.disk_lines.specs.declared.Draft.{Draft}
-use Rattle.disk_lines.specs.declared.Kind.TheVariants.{Staging}
-use Rattle.disk_lines.specs.Entries.{is_draft}
-use Rattle.disk_lines.specs.EntryLaws.{FitsDraft}
+use Rattle.disk_rules.specs.pm_words.Words.{byte_of, Words}
+use Rattle.disk_rules.specs.extent_words.Extents.{disk_at, is_within}
+use Rattle.disk_rules.specs.disk_lines.declared.Draft.{Draft}
+use Rattle.disk_rules.specs.disk_lines.declared.Kind.TheVariants.{Staging}
+use Rattle.disk_rules.specs.disk_lines.Entries.{is_draft}
+use Rattle.disk_rules.specs.disk_lines.EntryLaws.{FitsDraft}
 use Rattle.disk_rules.specs.Content.{byte_in, disk_of}
 use Rattle.disk_rules.specs.Live.{is_live}
 use Rattle.disk_rules.specs.Rules.{AreApart, HasStagingBlocks}
 use Rattle.disk_rules.specs.Volume.{extents, inode, Volume}
-use Rattle.posix_types.specs.declared.call.Call.{Call}
-use Rattle.posix_types.specs.declared.call.Who.{Who}
-use Rattle.posix_words.specs.Nodes.{bytes_of, node_at}
+use Rattle.posix_puts.specs.posix_types.declared.call.Call.{Call}
+use Rattle.posix_puts.specs.posix_types.declared.call.Who.{Who}
+use Rattle.posix_puts.specs.posix_words.Nodes.{bytes_of, node_at}
 use Rattle.posix_puts.specs.posix_spec.Run.{Begun}
 use Rattle.posix_puts.specs.posix_spec.State.{Fits, State}
 use Rattle.crash_spec.specs.Sync.{IsPartOf}
-use Rattle.list_facts.specs.Members.{In}
+use Rattle.crash_spec.specs.list_facts.Members.{In}
 use Rattle.posix_puts.specs.Puts.{PutsWhole}
 use Rattle.posix_puts.specs.Views.{AreAfforded}
 use Rattle.world_rules.specs.Stands.{entries_of, number, Stands}

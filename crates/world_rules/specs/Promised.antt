@@ -1,12 +1,12 @@
 -- What an image shows of a valid world, and what the jobs that it shows leave.
 use Rattle.std.specs.Prelude.{◌≡◌, ◌⊎◌, ℕ, ◌<◌, List, [], ◌∷◌, ◌++◌, length, Option}
-use Rattle.pm_words.specs.Words.{Words}
-use Rattle.disk_lines.specs.declared.Draft.{Draft}
+use Rattle.disk_rules.specs.pm_words.Words.{Words}
+use Rattle.disk_rules.specs.disk_lines.declared.Draft.{Draft}
 use Rattle.disk_rules.specs.Content.{found, Node}
 use Rattle.disk_rules.specs.Live.{live_entries}
 use Rattle.disk_rules.specs.Volume.{Volume}
-use Rattle.posix_types.specs.declared.tree.TreeEntry.{TreeEntry}
-use Rattle.posix_words.specs.Nodes.{bytes_of, node_at}
+use Rattle.posix_puts.specs.posix_types.declared.tree.TreeEntry.{TreeEntry}
+use Rattle.posix_puts.specs.posix_words.Nodes.{bytes_of, node_at}
 use Rattle.posix_puts.specs.posix_spec.Run.{after_call}
 use Rattle.posix_puts.specs.posix_spec.State.{State}
 use Rattle.posix_puts.specs.posix_spec.Tree.{tree}

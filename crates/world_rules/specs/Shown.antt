@@ -1,16 +1,16 @@
 -- What an image shows of the log and of jobs, and the tree of a content.
 use Rattle.std.specs.Prelude.{◌≡◌, ◌⊎◌, ◌↔◌, ℕ, ◌+◌, ◌*◌, ◌<◌, true, List, [], ◌∷◌, Option, Some, None}
-use Rattle.pm_words.specs.Words.{byte_of, Words}
-use Rattle.disk_places.specs.Places.{is_data_block}
-use Rattle.disk_lines.specs.declared.Draft.{Draft}
+use Rattle.disk_rules.specs.pm_words.Words.{byte_of, Words}
+use Rattle.disk_rules.specs.disk_places.Places.{is_data_block}
+use Rattle.disk_rules.specs.disk_lines.declared.Draft.{Draft}
 use Rattle.disk_rules.specs.Content as shown
 use Rattle.disk_rules.specs.Content.{HasBytes, IsDirectory}
 use Rattle.disk_rules.specs.Live.{entry_in}
 use Rattle.disk_rules.specs.Volume.{Volume}
-use Rattle.posix_types.specs.declared.tree.TreeEntry.{TreeEntry}
-use Rattle.posix_types.specs.declared.tree.TreeNode.{TreeNode}
-use Rattle.posix_words.specs.Places.{printed}
-use Rattle.list_facts.specs.Members.{In}
+use Rattle.posix_puts.specs.posix_types.declared.tree.TreeEntry.{TreeEntry}
+use Rattle.posix_puts.specs.posix_types.declared.tree.TreeNode.{TreeNode}
+use Rattle.posix_puts.specs.posix_words.Places.{printed}
+use Rattle.crash_spec.specs.list_facts.Members.{In}
 use Rattle.posix_trees.specs.Order.{RisingBy}
 use Rattle.world_rules.specs.Jobs.{HoldsWhole, IsStagedIn, Job}
 

@@ -1,21 +1,21 @@
 -- When a volume with live log entries stands for a state of the calls.
 use Rattle.std.specs.Prelude.{◌≡◌, ◌≢◌, ◌⊎◌, ℕ, ◌+◌, ◌/◌, ◌<◌, Bool, true, false, ◌==◌, List, [], ◌∷◌, length, filter, option_map, Some, slice_index, slice_index_or}
-use Rattle.pm_words.specs.Words.{Words}
-use Rattle.disk_lines.specs.declared.Draft.{Draft}
-use Rattle.disk_lines.specs.declared.Kind.{Kind}
-use Rattle.disk_lines.specs.declared.Kind.TheVariants.{Free, Directory, File, Staging}
-use Rattle.disk_lines.specs.Lines.{is_name, NameRow}
-use Rattle.disk_lines.specs.Names.{child_named, row}
+use Rattle.disk_rules.specs.pm_words.Words.{Words}
+use Rattle.disk_rules.specs.disk_lines.declared.Draft.{Draft}
+use Rattle.disk_rules.specs.disk_lines.declared.Kind.{Kind}
+use Rattle.disk_rules.specs.disk_lines.declared.Kind.TheVariants.{Free, Directory, File, Staging}
+use Rattle.disk_rules.specs.disk_lines.Lines.{is_name, NameRow}
+use Rattle.disk_rules.specs.disk_lines.Names.{child_named, row}
 use Rattle.disk_rules.specs.Content.{byte_in, disk_of, size_of}
 use Rattle.disk_rules.specs.Kept.{AreKept}
 use Rattle.disk_rules.specs.Rules.{AreApart, HasStagingBlocks}
 use Rattle.disk_rules.specs.Volume.{inode, Volume}
-use Rattle.posix_words.specs.declared.nodes.Node.{Node}
-use Rattle.posix_words.specs.Lookups.{AreDistinct}
-use Rattle.posix_words.specs.Names.{child_of}
-use Rattle.posix_words.specs.Nodes.{node_at}
+use Rattle.posix_puts.specs.posix_words.declared.nodes.Node.{Node}
+use Rattle.posix_puts.specs.posix_words.Lookups.{AreDistinct}
+use Rattle.posix_puts.specs.posix_words.Names.{child_of}
+use Rattle.posix_puts.specs.posix_words.Nodes.{node_at}
 use Rattle.posix_puts.specs.posix_spec.State.{State}
-use Rattle.list_facts.specs.Members.{In}
+use Rattle.crash_spec.specs.list_facts.Members.{In}
 
 -- The volume is sane: it keeps the rules of a checked image that speak of it alone, each inode has a line, a chain and a
 -- map, and each name is spelled as a name.

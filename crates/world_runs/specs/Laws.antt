@@ -1,12 +1,12 @@
 -- The laws of runs, each as one statement. `IsWorld v claims jobs f numbers s count`: the World is valid, `count` nodes were made
 -- since the lap began, and `numbers` has the node of each inode.
 use Rattle.std.specs.Prelude.{◌≢◌, ℕ, List}
-use Rattle.pm_words.specs.Words.{Words}
-use Rattle.extent_words.specs.declared.Extent.{Extent}
-use Rattle.disk_lines.specs.declared.Draft.{Draft}
+use Rattle.world_jobs.specs.pm_words.Words.{Words}
+use Rattle.world_jobs.specs.extent_words.declared.Extent.{Extent}
+use Rattle.world_jobs.specs.disk_lines.declared.Draft.{Draft}
 use Rattle.world_jobs.specs.disk_rules.Volume.{Volume}
 use Rattle.world_jobs.specs.posix_spec.State.{State}
-use Rattle.list_facts.specs.Members.{In}
+use Rattle.world_jobs.specs.list_facts.Members.{In}
 use Rattle.world_jobs.specs.world_rules.Jobs.{Job, live_claims}
 use Rattle.world_jobs.specs.world_steps.Steps.{AreBeside}
 use Rattle.world_jobs.specs.world_steps.Touched.{only}

@@ -1,9 +1,9 @@
 -- A run is carried out: what a relink of an entry asks for and makes of a volume.
 use Rattle.std.specs.Prelude.{◌≡◌, ◌≢◌, ℕ, List, [], ◌∷◌}
-use Rattle.extent_words.specs.declared.Extent.{Extent}
-use Rattle.extent_words.specs.Moves.{Moves}
-use Rattle.disk_lines.specs.declared.Draft.{Draft}
-use Rattle.disk_lines.specs.declared.Inode.{Inode}
+use Rattle.world_jobs.specs.extent_words.declared.Extent.{Extent}
+use Rattle.world_jobs.specs.extent_words.Moves.{Moves}
+use Rattle.world_jobs.specs.disk_lines.declared.Draft.{Draft}
+use Rattle.world_jobs.specs.disk_lines.declared.Inode.{Inode}
 use Rattle.world_jobs.specs.disk_rules.Volume.{extents, inode, Volume}
 use Rattle.world_jobs.specs.world_rules.Stands.{entries_of, IsSane}
 

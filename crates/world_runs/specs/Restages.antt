@@ -1,6 +1,6 @@
 -- A staging file that changes: what is asked of the change.
 use Rattle.std.specs.Prelude.{◌≡◌, ◌≢◌, ℕ}
-use Rattle.disk_lines.specs.declared.Kind.TheVariants.{Staging}
+use Rattle.world_jobs.specs.disk_lines.declared.Kind.TheVariants.{Staging}
 use Rattle.world_jobs.specs.disk_rules.Volume.{extents, inode, Volume}
 use Rattle.world_jobs.specs.world_rules.Stands.{IsSane}
 

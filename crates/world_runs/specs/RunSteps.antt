@@ -3,21 +3,21 @@ use Rattle.std.specs.Prelude.{◌≡◌, ◌≢◌, ◌⊎◌, ◌<◌, ◌≤�
 use Rattle.std.proofs.Common.{arith, ap, ◌∙◌, sym, subst, inl, inr}
 use Rattle.std.proofs.lemmas.Bool.{and_parts, cases_Bool, cases_eq, cases_lt, eq-eqb, lt-ltb, ne_eqb}
 use Rattle.std.proofs.lemmas.Bool.Decides.{Decides-eqb, nat_tests}
-use Rattle.pm_words.specs.Words.{Words}
-use Rattle.disk_places.specs.Places.{IsGeometry}
-use Rattle.extent_words.specs.declared.Extent.{Extent}
-use Rattle.extent_words.specs.Extents.{disk_at, is_within}
-use Rattle.disk_lines.specs.declared.Draft.{Draft}
-use Rattle.disk_lines.specs.declared.Kind.TheVariants.{File, Staging}
-use Rattle.disk_lines.specs.Names.{child_named}
+use Rattle.world_jobs.specs.pm_words.Words.{Words}
+use Rattle.world_jobs.specs.disk_places.Places.{IsGeometry}
+use Rattle.world_jobs.specs.extent_words.declared.Extent.{Extent}
+use Rattle.world_jobs.specs.extent_words.Extents.{disk_at, is_within}
+use Rattle.world_jobs.specs.disk_lines.declared.Draft.{Draft}
+use Rattle.world_jobs.specs.disk_lines.declared.Kind.TheVariants.{File, Staging}
+use Rattle.world_jobs.specs.disk_lines.Names.{child_named}
 use Rattle.world_jobs.specs.disk_rules.Content.{byte_in, disk_by, disk_of, entry_of_block, size_by, size_of}
 use Rattle.world_jobs.specs.disk_rules.Live.{is_file, is_live, is_of_file, later_of, latest}
 use Rattle.world_jobs.specs.disk_rules.Rules.{AreApart, HasStagingBlocks}
 use Rattle.world_jobs.specs.disk_rules.Volume.{extents, inode, Volume}
-use Rattle.posix_words.specs.Nodes.{node_at}
+use Rattle.world_jobs.specs.posix_words.Nodes.{node_at}
 use Rattle.world_jobs.specs.posix_spec.State.{State}
-use Rattle.list_facts.specs.Filters.{filter-agree, filter-both, filter-In, In-filter}
-use Rattle.list_facts.specs.Members.{In}
+use Rattle.world_jobs.specs.list_facts.Filters.{filter-agree, filter-both, filter-In, In-filter}
+use Rattle.world_jobs.specs.list_facts.Members.{In}
 use Rattle.world_jobs.specs.world_rules.Jobs.{Job, JobsStand, live_claims, staged_block}
 use Rattle.world_jobs.specs.world_rules.Stands.{Consecutive, entries_of, is_used, IsUsed, LogStands, NodeStands, number, Stands}
 use Rattle.world_jobs.specs.world_promise.JobLaws.{live_file}

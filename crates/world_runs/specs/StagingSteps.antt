@@ -3,19 +3,19 @@ use Rattle.std.specs.Prelude.{◌≡◌, ◌≢◌, ◌⊎◌, ◌<◌, ◌≤�
 use Rattle.std.proofs.Common.{arith, ap, ◌∙◌, sym, subst, inl, inr}
 use Rattle.std.proofs.lemmas.Bool.{cases_Bool, cases_eq}
 use Rattle.std.proofs.lemmas.Bool.Decides.{Decides-eqb, nat_tests}
-use Rattle.disk_places.specs.Places.{IsGeometry}
-use Rattle.extent_words.specs.Extents.{disk_at}
-use Rattle.disk_lines.specs.declared.Draft.{Draft}
-use Rattle.disk_lines.specs.declared.Kind.{Kind}
-use Rattle.disk_lines.specs.declared.Kind.TheVariants.{Free, Directory, File, Staging}
-use Rattle.disk_lines.specs.Names.{child_named}
+use Rattle.world_jobs.specs.disk_places.Places.{IsGeometry}
+use Rattle.world_jobs.specs.extent_words.Extents.{disk_at}
+use Rattle.world_jobs.specs.disk_lines.declared.Draft.{Draft}
+use Rattle.world_jobs.specs.disk_lines.declared.Kind.{Kind}
+use Rattle.world_jobs.specs.disk_lines.declared.Kind.TheVariants.{Free, Directory, File, Staging}
+use Rattle.world_jobs.specs.disk_lines.Names.{child_named}
 use Rattle.world_jobs.specs.disk_rules.Content.{byte_in, disk_by, disk_of, entry_of_block, size_by}
 use Rattle.world_jobs.specs.disk_rules.Live.{is_file, is_live, is_of_file, latest}
 use Rattle.world_jobs.specs.disk_rules.Rules.{IsKindAt}
 use Rattle.world_jobs.specs.disk_rules.Volume.{inode, Volume}
-use Rattle.posix_words.specs.Nodes.{node_at}
-use Rattle.list_facts.specs.Filters.{filter-agree, filter-In, In-filter}
-use Rattle.list_facts.specs.Members.{In}
+use Rattle.world_jobs.specs.posix_words.Nodes.{node_at}
+use Rattle.world_jobs.specs.list_facts.Filters.{filter-agree, filter-In, In-filter}
+use Rattle.world_jobs.specs.list_facts.Members.{In}
 use Rattle.world_jobs.specs.world_rules.Jobs.{Job, JobsStand, live_claims}
 use Rattle.world_jobs.specs.world_rules.Stands.{Consecutive, entries_of, is_used, IsUsed, NodeStands, number, Stands}
 use Rattle.world_jobs.specs.world_promise.JobLaws.{live_used}

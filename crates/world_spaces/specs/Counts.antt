@@ -3,27 +3,27 @@ use Rattle.std.specs.Prelude.{◌≡◌, ◌≢◌, ◌≤◌, ◌<◌, ◌⊎�
 use Rattle.std.proofs.Common.{arith, ap, ◌∙◌, sym, subst, inl, inr}
 use Rattle.std.proofs.lemmas.List.Sums.{sum_by-cons}
 use Rattle.std.proofs.lemmas.Option.{same_Some}
-use Rattle.pm_words.specs.Words.{Words}
-use Rattle.disk_lines.specs.declared.Draft.{Draft}
-use Rattle.disk_lines.specs.declared.Inode.{Inode}
-use Rattle.disk_lines.specs.declared.Kind.{Kind}
-use Rattle.disk_lines.specs.declared.Kind.TheVariants.{Free, Directory, File, Staging}
-use Rattle.disk_lines.specs.Lines.{NameRow}
-use Rattle.disk_lines.specs.Names.{child_named, is_entry, is_free_row, row, Rows}
-use Rattle.disk_lines.specs.TableLaws.{child_named-at, is_entry-own, NamingLine-child_named}
+use Rattle.volume_names.specs.pm_words.Words.{Words}
+use Rattle.volume_names.specs.disk_lines.declared.Draft.{Draft}
+use Rattle.volume_names.specs.disk_lines.declared.Inode.{Inode}
+use Rattle.volume_names.specs.disk_lines.declared.Kind.{Kind}
+use Rattle.volume_names.specs.disk_lines.declared.Kind.TheVariants.{Free, Directory, File, Staging}
+use Rattle.volume_names.specs.disk_lines.Lines.{NameRow}
+use Rattle.volume_names.specs.disk_lines.Names.{child_named, is_entry, is_free_row, row, Rows}
+use Rattle.volume_names.specs.disk_lines.TableLaws.{child_named-at, is_entry-own, NamingLine-child_named}
 use Rattle.volume_names.specs.disk_rules.Rules.{IsKindAt}
 use Rattle.volume_names.specs.disk_rules.Volume.{free_inode, inode, Volume}
 use Rattle.volume_names.specs.k_rules.Spaces.{is_free, volume_space}
 use Rattle.world_promise.specs.name_facts.KeptLaws.{kept-keyed}
 use Rattle.world_promise.specs.name_facts.RowLaws.{row-below}
 use Rattle.volume_names.specs.volume_facts.Lists.{one_if}
-use Rattle.posix_words.specs.declared.nodes.DirEntry.{DirEntry}
-use Rattle.posix_words.specs.declared.nodes.Node.{Node}
-use Rattle.posix_words.specs.Lookups.{AreDistinct}
-use Rattle.posix_words.specs.Names.{child_of, lines_taken}
-use Rattle.posix_words.specs.Nodes.{is_live, node_at}
+use Rattle.volume_names.specs.posix_words.declared.nodes.DirEntry.{DirEntry}
+use Rattle.volume_names.specs.posix_words.declared.nodes.Node.{Node}
+use Rattle.volume_names.specs.posix_words.Lookups.{AreDistinct}
+use Rattle.volume_names.specs.posix_words.Names.{child_of, lines_taken}
+use Rattle.volume_names.specs.posix_words.Nodes.{is_live, node_at}
 use Rattle.world_promise.specs.posix_spec.State.{space, State}
-use Rattle.list_facts.specs.Members.{In-slice_get, slice_get-In}
+use Rattle.world_promise.specs.list_facts.Members.{In-slice_get, slice_get-In}
 use Rattle.world_promise.specs.posix_trees.Entries.{child_of-In, Leads-child_of}
 use Rattle.world_promise.specs.world_rules.Stands.{is_used, IsSane, IsUsed, NamesStand, NodesStand, NodeStands, number}
 use Rattle.world_promise.specs.TreeRules.{all_lines, parent_used, used_below}

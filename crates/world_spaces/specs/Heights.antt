@@ -3,10 +3,10 @@ use Rattle.std.specs.Prelude.{◌≡◌, ◌≤◌, ℕ, zero, suc, ◌+◌, max
 use Rattle.std.proofs.Common.{arith, ap, ◌∙◌, sym, subst, inl, inr}
 use Rattle.std.proofs.lemmas.Bool.{eq-eqb}
 use Rattle.std.proofs.lemmas.Bool.Decides.{Decides-eqb}
-use Rattle.posix_words.specs.declared.nodes.DirEntry.{DirEntry}
-use Rattle.posix_words.specs.Names.{entries_in, has_entries, height}
-use Rattle.list_facts.specs.Filters.{filter-In, In-filter}
-use Rattle.list_facts.specs.Members.{In}
+use Rattle.volume_names.specs.posix_words.declared.nodes.DirEntry.{DirEntry}
+use Rattle.volume_names.specs.posix_words.Names.{entries_in, has_entries, height}
+use Rattle.world_promise.specs.list_facts.Filters.{filter-In, In-filter}
+use Rattle.world_promise.specs.list_facts.Members.{In}
 use Rattle.world_promise.specs.world_rules.Stands.{number}
 
 -- an entry of a node in the one list has one in the other

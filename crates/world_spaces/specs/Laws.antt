@@ -1,10 +1,10 @@
 -- The laws of the space of a volume that stands for a state, each as one statement.
 use Rattle.std.specs.Prelude.{◌≡◌, ℕ, List, Ok, option_map}
-use Rattle.pm_words.specs.Words.{Words}
-use Rattle.disk_lines.specs.declared.Draft.{Draft}
+use Rattle.volume_names.specs.pm_words.Words.{Words}
+use Rattle.volume_names.specs.disk_lines.declared.Draft.{Draft}
 use Rattle.volume_names.specs.disk_rules.Volume.{Volume}
 use Rattle.volume_names.specs.k_rules.Spaces.{volume_space}
-use Rattle.posix_words.specs.Names.{has_entries, height, longest_path, node_at_path, parent_at, walk}
+use Rattle.volume_names.specs.posix_words.Names.{has_entries, height, longest_path, node_at_path, parent_at, walk}
 use Rattle.world_promise.specs.posix_spec.State.{space, State}
 use Rattle.world_promise.specs.world_rules.Stands.{IsUsed, number, Stands}
 use Rattle.world_spaces.specs.Counts.{HasShape}

@@ -4,12 +4,12 @@ use Rattle.std.specs.Option.{option_map_or}
 use Rattle.std.proofs.Common.{ap, ◌∙◌, sym, subst, inl, inr}
 use Rattle.std.proofs.lemmas.Bool.{cases_eq, eq-eqb, ne_eqb}
 use Rattle.std.proofs.lemmas.Option.{same_Some}
-use Rattle.posix_types.specs.declared.item.Outcome.{Outcome}
-use Rattle.posix_types.specs.declared.reply.Errno.{Errno}
-use Rattle.posix_types.specs.declared.reply.Reply.{Reply}
-use Rattle.posix_words.specs.NameRows.{walk_row}
-use Rattle.posix_words.specs.Names.{child_of, directory_path, directory_stands, downward, exists_at, file_stands, has_entries, height, is_root, last_name, longest_path, node_at_path, number_at, parent_at, Space, walk, walk_from}
-use Rattle.posix_words.specs.Outcomes.{answer}
+use Rattle.volume_names.specs.posix_types.declared.item.Outcome.{Outcome}
+use Rattle.volume_names.specs.posix_types.declared.reply.Errno.{Errno}
+use Rattle.volume_names.specs.posix_types.declared.reply.Reply.{Reply}
+use Rattle.volume_names.specs.posix_words.NameRows.{walk_row}
+use Rattle.volume_names.specs.posix_words.Names.{child_of, directory_path, directory_stands, downward, exists_at, file_stands, has_entries, height, is_root, last_name, longest_path, node_at_path, number_at, parent_at, Space, walk, walk_from}
+use Rattle.volume_names.specs.posix_words.Outcomes.{answer}
 use Rattle.world_promise.specs.world_rules.Stands.{number}
 
 -- The second space mirrors the first: each node in use has a number, no two the same, and directories, names, heights and

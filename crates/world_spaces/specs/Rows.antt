@@ -1,12 +1,12 @@
 -- The rows of every call that takes a path are the same over a space and over one that mirrors it.
 use Rattle.std.specs.Prelude.{◌≡◌, ℕ, ◌+◌, Bool, not, ◌&&◌, ◌||◌, ◌==◌, nat_lt, List, [], ◌∷◌, length}
 use Rattle.std.proofs.Common.{ap}
-use Rattle.posix_types.specs.declared.handle.Flags.{Flags}
-use Rattle.posix_types.specs.declared.reply.Errno.{Errno}
-use Rattle.posix_types.specs.declared.reply.Reply.{Reply}
-use Rattle.posix_words.specs.Names.{directory_stands, exists_at, file_stands, has_entries, height, is_below, is_root, longest_path, number_at, Space}
-use Rattle.posix_words.specs.NameRows.{list_rows, mkdir_rows, no_line, no_node, open_rows, rename_kind_rows, rename_rows, rmdir_rows, stat_rows, too_long_row, unlink_rows, walk_row}
-use Rattle.posix_words.specs.Outcomes.{first, idle_row, row, unless}
+use Rattle.volume_names.specs.posix_types.declared.handle.Flags.{Flags}
+use Rattle.volume_names.specs.posix_types.declared.reply.Errno.{Errno}
+use Rattle.volume_names.specs.posix_types.declared.reply.Reply.{Reply}
+use Rattle.volume_names.specs.posix_words.Names.{directory_stands, exists_at, file_stands, has_entries, height, is_below, is_root, longest_path, number_at, Space}
+use Rattle.volume_names.specs.posix_words.NameRows.{list_rows, mkdir_rows, no_line, no_node, open_rows, rename_kind_rows, rename_rows, rmdir_rows, stat_rows, too_long_row, unlink_rows, walk_row}
+use Rattle.volume_names.specs.posix_words.Outcomes.{first, idle_row, row, unless}
 use Rattle.world_spaces.specs.Mirrors.{directory_stands-same, exists-same, file_stands-same, filled-same, height-same, meets-same, Mirrors, walk_row-same}
 
 -- what stands at a path, by all that the rows look at

@@ -2,26 +2,26 @@
 use Rattle.std.specs.Prelude.{◌≡◌, ℕ, zero, suc, List, [], ◌∷◌, Option, Some, None, option_map, refl}
 use Rattle.std.proofs.Common.{ap, ◌∙◌, sym, subst, inl, inr}
 use Rattle.std.proofs.lemmas.Option.{get_or_from_slice_get, same_Some}
-use Rattle.pm_words.specs.Words.{Words}
-use Rattle.disk_lines.specs.declared.Draft.{Draft}
-use Rattle.disk_lines.specs.declared.Kind.{Kind}
-use Rattle.disk_lines.specs.declared.Kind.TheVariants.{Free, Directory, File, Staging}
-use Rattle.disk_lines.specs.Lines.{NameRow}
-use Rattle.disk_lines.specs.Names.{child_named, row, Rows}
-use Rattle.disk_lines.specs.TableLaws.{child_named-at, NamingLine-child_named}
+use Rattle.volume_names.specs.pm_words.Words.{Words}
+use Rattle.volume_names.specs.disk_lines.declared.Draft.{Draft}
+use Rattle.volume_names.specs.disk_lines.declared.Kind.{Kind}
+use Rattle.volume_names.specs.disk_lines.declared.Kind.TheVariants.{Free, Directory, File, Staging}
+use Rattle.volume_names.specs.disk_lines.Lines.{NameRow}
+use Rattle.volume_names.specs.disk_lines.Names.{child_named, row, Rows}
+use Rattle.volume_names.specs.disk_lines.TableLaws.{child_named-at, NamingLine-child_named}
 use Rattle.volume_names.specs.disk_rules.Live.{is_directory}
 use Rattle.volume_names.specs.disk_rules.Volume.{inode, Volume}
 use Rattle.volume_names.specs.k_rules.Spaces.{entries_of, entry_of, volume_space}
 use Rattle.world_promise.specs.name_facts.KeptLaws.{kept-keyed}
 use Rattle.world_promise.specs.name_facts.RowLaws.{row-below}
 use Rattle.volume_names.specs.EntryLaws.{child_of-rows}
-use Rattle.posix_words.specs.declared.nodes.DirEntry.{DirEntry}
-use Rattle.posix_words.specs.declared.nodes.Node.{Node}
-use Rattle.posix_words.specs.Names.{child_of, longest_path}
-use Rattle.posix_words.specs.Nodes.{is_directory as is_directory_node, node_at}
+use Rattle.volume_names.specs.posix_words.declared.nodes.DirEntry.{DirEntry}
+use Rattle.volume_names.specs.posix_words.declared.nodes.Node.{Node}
+use Rattle.volume_names.specs.posix_words.Names.{child_of, longest_path}
+use Rattle.volume_names.specs.posix_words.Nodes.{is_directory as is_directory_node, node_at}
 use Rattle.world_promise.specs.posix_spec.State.{space, State}
-use Rattle.list_facts.specs.Filters.{filter_map-In, In-filter_map}
-use Rattle.list_facts.specs.Members.{In, slice_get-In}
+use Rattle.world_promise.specs.list_facts.Filters.{filter_map-In, In-filter_map}
+use Rattle.world_promise.specs.list_facts.Members.{In, slice_get-In}
 use Rattle.world_promise.specs.posix_trees.Entries.{child_of-In, Leads-child_of}
 use Rattle.world_promise.specs.world_rules.Stands.{IsSane, IsUsed, NamesStand, NodeStands, number, Stands}
 use Rattle.world_promise.specs.TreeRules.{all_lines, child_used}

@@ -1,9 +1,9 @@
 -- Jobs that are out, and the words of their calls.
 use Rattle.std.specs.Prelude.{not, ℕ, List, filter}
-use Rattle.posix_types.specs.declared.call.Who.{Who}
+use Rattle.open_numbers.specs.posix_types.declared.call.Who.{Who}
 use Rattle.held_sums.specs.posix_puts.Puts.{PutsWhole}
 use Rattle.entry_orders.specs.posix_spec.State.{State}
-use Rattle.posix_words.specs.Open.{same_who}
+use Rattle.open_numbers.specs.posix_words.Open.{same_who}
 use Rattle.flight_facts.specs.job_facts.Blocks.{SpellWhole}
 use Rattle.world_standing.specs.Standing.{Pending}
 

@@ -30,3 +30,13 @@ pub use Rattle.staging_files.specs.image_layout as image_layout
 pub use Rattle.staging_files.specs.k_journal as k_journal
 pub use Rattle.staging_files.specs.k_rules as k_rules
 pub use Rattle.staging_files.specs.lines_out as lines_out
+pub use Rattle.entry_orders.specs.list_facts as list_facts
+pub use Rattle.file_table.specs.disk_lines as disk_lines
+pub use Rattle.file_table.specs.disk_places as disk_places
+pub use Rattle.file_table.specs.extent_words as extent_words
+pub use Rattle.file_table.specs.file_overlay as file_overlay
+pub use Rattle.file_table.specs.pm_words as pm_words
+pub use Rattle.held_sums.specs.crash_spec as crash_spec
+pub use Rattle.held_sums.specs.extent_facts as extent_facts
+pub use Rattle.open_numbers.specs as open_numbers
+pub use Rattle.open_numbers.specs.posix_words as posix_words

@@ -1,15 +1,15 @@
 -- When K-Split, the open files, the staging files, what is kept of files, and the jobs that are out stand together in a state of
 -- the calls, in strict mode.
 use Rattle.std.specs.Prelude.{◌≡◌, ◌≢◌, ◌≤◌, ◌<◌, ◌+◌, ◌*◌, ◌/◌, ◌^◌, ℕ, Bool, true, false, Contains, AllPairs, List, [], ◌∷◌, length, Some, slice_index}
-use Rattle.pm_words.specs.declared.Cell.{Cell}
-use Rattle.pm_words.specs.Cells.{cell, is_lent, is_single}
-use Rattle.pm_words.specs.Words.{line_bytes, Words}
-use Rattle.disk_lines.specs.declared.Draft.{Draft}
-use Rattle.disk_lines.specs.declared.Kind.TheVariants.{File}
-use Rattle.disk_lines.specs.Entries.{held_seq, is_draft, is_self_valid}
-use Rattle.disk_lines.specs.EntryLaws.{FitsDraft}
-use Rattle.disk_places.specs.Journal.{is_journal_word}
-use Rattle.disk_places.specs.Places.{Geometry, is_journaled_line, log_line}
+use Rattle.file_table.specs.pm_words.declared.Cell.{Cell}
+use Rattle.file_table.specs.pm_words.Cells.{cell, is_lent, is_single}
+use Rattle.file_table.specs.pm_words.Words.{line_bytes, Words}
+use Rattle.file_table.specs.disk_lines.declared.Draft.{Draft}
+use Rattle.file_table.specs.disk_lines.declared.Kind.TheVariants.{File}
+use Rattle.file_table.specs.disk_lines.Entries.{held_seq, is_draft, is_self_valid}
+use Rattle.file_table.specs.disk_lines.EntryLaws.{FitsDraft}
+use Rattle.file_table.specs.disk_places.Journal.{is_journal_word}
+use Rattle.file_table.specs.disk_places.Places.{Geometry, is_journaled_line, log_line}
 use Rattle.held_sums.specs.disk_rules.Volume.{inode, Volume}
 use Rattle.entry_orders.specs.Orders.{AreOrdered}
 use Rattle.file_table.specs.Files.{Files, runs_in, size_in, spare_in}
@@ -17,11 +17,11 @@ use Rattle.flight_facts.specs.Flying.{FileState, IsFlying}
 use Rattle.held_sums.specs.Laws.{AreSizes}
 use Rattle.staging_files.specs.k_rules.View.{View}
 use Rattle.staging_files.specs.k_split.Order.{IsInOrder}
-use Rattle.list_facts.specs.Members.{In}
+use Rattle.entry_orders.specs.list_facts.Members.{In}
 use Rattle.open_numbers.specs.Numbered.{numbered_as}
-use Rattle.posix_types.specs.declared.call.Call.{Call}
-use Rattle.posix_types.specs.declared.call.Who.{Who}
-use Rattle.posix_words.specs.Open.{is_open, Tables}
+use Rattle.open_numbers.specs.posix_types.declared.call.Call.{Call}
+use Rattle.open_numbers.specs.posix_types.declared.call.Who.{Who}
+use Rattle.open_numbers.specs.posix_words.Open.{is_open, Tables}
 use Rattle.flight_facts.specs.posix_frames.Frames.{AreThreads}
 use Rattle.entry_orders.specs.posix_spec.State.{State}
 use Rattle.staging_files.specs.declared.runs.StageRun.{StageRun}

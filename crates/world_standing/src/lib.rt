@@ -7,8 +7,7 @@
 //! Stands on `flight_facts` (the World in flight), `staging_files` and `write_jobs`.
 #![tactic(auto)]
 
-pub use file_table;
-pub use flight_facts::{file_reads, map_collection, write_jobs};
-pub use held_sums;
-pub use staging_files;
-pub use staging_files::{k_journal, k_split};
+pub use file_table::FileTable;
+pub use flight_facts::{Collection, Filled, FilledJob, Job, read_bytes, staged_words};
+pub use held_sums::what_files_hold_is_the_sum;
+pub use staging_files::{Commit, KSplit, StageFault, StageRun, Staging, mkfs, put_lines};

@@ -3,14 +3,14 @@
 use Rattle.std.specs.Prelude.{◌≡◌, ◌≢◌, ◌⊎◌, ◌<◌, ◌≤◌, ◌+◌, ◌%◌, ◌^◌, ◌==◌, ◌&&◌, ℕ, Bool, true, false, List, length, map, refl}
 use Rattle.std.proofs.Common.{arith, ap, ◌∙◌, sym, inl, inr}
 use Rattle.std.proofs.lemmas.Bool.{cases_eq, ne_eqb}
-use Rattle.disk_lines.specs.declared.Draft.{Draft}
-use Rattle.disk_lines.specs.declared.Kind.TheVariants.{Free, Staging}
-use Rattle.disk_lines.specs.Lines.{NameRow}
-use Rattle.disk_lines.specs.declared.Kind.{Kind}
+use Rattle.volume_changes.specs.disk_lines.declared.Draft.{Draft}
+use Rattle.volume_changes.specs.disk_lines.declared.Kind.TheVariants.{Free, Staging}
+use Rattle.volume_changes.specs.disk_lines.Lines.{NameRow}
+use Rattle.volume_changes.specs.disk_lines.declared.Kind.{Kind}
 use Rattle.volume_changes.specs.disk_rules.Live.{is_file, is_of_file}
 use Rattle.volume_changes.specs.disk_rules.Volume.{inode, Volume}
 use Rattle.volume_changes.specs.k_rules.Changes.{made}
-use Rattle.list_facts.specs.Members.{In}
+use Rattle.posix_frames.specs.list_facts.Members.{In}
 use Rattle.volume_changes.specs.FrameLaws.{made-inode, made-others}
 
 -- Since the lap began so many nodes were made. Each claim of the lap is in a staging file, of an inode that may be a file's, and

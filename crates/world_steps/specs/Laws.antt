@@ -1,21 +1,21 @@
 -- The laws of one step, each as one statement. `IsWorld v claims jobs f numbers s count`: the World is valid, `count` nodes were made
 -- since the lap began, and `numbers` has the node of each inode.
 use Rattle.std.specs.Prelude.{◌≡◌, ◌≢◌, ◌<◌, ◌+◌, ℕ, Bool, false, List, length, map, None, Some, slice_set}
-use Rattle.pm_words.specs.Words.{Words}
-use Rattle.disk_lines.specs.declared.Draft.{Draft}
-use Rattle.disk_lines.specs.declared.Kind.{Kind}
-use Rattle.disk_lines.specs.declared.Kind.TheVariants.{Free}
-use Rattle.disk_lines.specs.Lines.{NameRow}
-use Rattle.disk_lines.specs.Names.{child_named, row}
+use Rattle.volume_changes.specs.pm_words.Words.{Words}
+use Rattle.volume_changes.specs.disk_lines.declared.Draft.{Draft}
+use Rattle.volume_changes.specs.disk_lines.declared.Kind.{Kind}
+use Rattle.volume_changes.specs.disk_lines.declared.Kind.TheVariants.{Free}
+use Rattle.volume_changes.specs.disk_lines.Lines.{NameRow}
+use Rattle.volume_changes.specs.disk_lines.Names.{child_named, row}
 use Rattle.volume_changes.specs.disk_rules.Live.{is_of_file}
 use Rattle.volume_changes.specs.disk_rules.Reading.{row_set}
 use Rattle.volume_changes.specs.disk_rules.Volume.{inode, Volume}
 use Rattle.volume_changes.specs.k_rules.Changes.{made}
 use Rattle.volume_changes.specs.LookupLaws.{leads_nowhere, leads_to}
-use Rattle.posix_words.specs.Names.{with_entry, without_entry}
+use Rattle.posix_frames.specs.posix_words.Names.{with_entry, without_entry}
 use Rattle.posix_frames.specs.posix_spec.Run.{after_call, Begun}
 use Rattle.posix_frames.specs.posix_spec.State.{State}
-use Rattle.list_facts.specs.Members.{In}
+use Rattle.posix_frames.specs.list_facts.Members.{In}
 use Rattle.posix_frames.specs.Needs.{needs}
 use Rattle.posix_frames.specs.Rooms.{FitsBeside}
 use Rattle.world_spaces.specs.world_rules.Jobs.{Job, live_claims, Valid}

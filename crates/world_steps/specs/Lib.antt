@@ -22,3 +22,12 @@ pub use Rattle.volume_changes.specs.disk_rules as disk_rules
 pub use Rattle.volume_changes.specs.k_rules as k_rules
 pub use Rattle.volume_changes.specs.volume_facts as volume_facts
 pub use Rattle.world_spaces.specs.posix_trees as posix_trees
+pub use Rattle.posix_frames.specs.block_counts as block_counts
+pub use Rattle.posix_frames.specs.list_facts as list_facts
+pub use Rattle.posix_frames.specs.posix_types as posix_types
+pub use Rattle.posix_frames.specs.posix_words as posix_words
+pub use Rattle.volume_changes.specs.disk_lines as disk_lines
+pub use Rattle.volume_changes.specs.disk_places as disk_places
+pub use Rattle.volume_changes.specs.extent_facts as extent_facts
+pub use Rattle.volume_changes.specs.extent_words as extent_words
+pub use Rattle.volume_changes.specs.pm_words as pm_words

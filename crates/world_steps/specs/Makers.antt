@@ -3,16 +3,16 @@ use Rattle.std.specs.Prelude.{◌≡◌, ◌≢◌, ◌⊎◌, ◌<◌, ℕ, zer
 use Rattle.std.proofs.Common.{arith, ap, ◌∙◌, sym, subst, inl, inr}
 use Rattle.std.proofs.lemmas.Bool.{cases_eq, eq-eqb, ne_eqb}
 use Rattle.std.proofs.lemmas.Bool.Decides.{Decides-eqb}
-use Rattle.pm_words.specs.Words.{Words}
-use Rattle.disk_lines.specs.declared.Draft.{Draft}
-use Rattle.disk_lines.specs.declared.Kind.TheVariants.{Free, Staging}
-use Rattle.disk_lines.specs.Names.{Rows}
+use Rattle.volume_changes.specs.pm_words.Words.{Words}
+use Rattle.volume_changes.specs.disk_lines.declared.Draft.{Draft}
+use Rattle.volume_changes.specs.disk_lines.declared.Kind.TheVariants.{Free, Staging}
+use Rattle.volume_changes.specs.disk_lines.Names.{Rows}
 use Rattle.volume_changes.specs.disk_rules.Live.{is_file, is_of_file}
 use Rattle.volume_changes.specs.disk_rules.Volume.{inode, Volume}
-use Rattle.posix_words.specs.declared.nodes.Node.{Node}
-use Rattle.posix_words.specs.Nodes.{node_at}
+use Rattle.posix_frames.specs.posix_words.declared.nodes.Node.{Node}
+use Rattle.posix_frames.specs.posix_words.Nodes.{node_at}
 use Rattle.posix_frames.specs.posix_spec.State.{State}
-use Rattle.list_facts.specs.Members.{In}
+use Rattle.posix_frames.specs.list_facts.Members.{In}
 use Rattle.world_spaces.specs.world_rules.Jobs.{live_claims}
 use Rattle.world_spaces.specs.world_rules.Stands.{is_used, IsSane, IsUsed, NamesStand, NodesStand, NodeStands, number}
 use Rattle.world_steps.specs.Steps.{shown_node, Steps}

@@ -2,18 +2,18 @@
 use Rattle.std.specs.Prelude.{◌≡◌, ◌≢◌, ◌<◌, ◌+◌, ℕ, Bool, true, false, cond, ◌&&◌, ◌==◌, List, length, Option, Some, None, option_map, slice_set, refl}
 use Rattle.std.proofs.Common.{arith, ap, ◌∙◌, sym, subst, inl, inr}
 use Rattle.std.proofs.lemmas.Bool.{cases_eq, eq-eqb, ne_eqb}
-use Rattle.disk_lines.specs.declared.Kind.TheVariants.{Free}
-use Rattle.disk_lines.specs.Lines.{NameRow}
-use Rattle.disk_lines.specs.Names.{child_named, is_entry as is_row_entry, row}
-use Rattle.disk_lines.specs.TableLaws.{child_named-at}
+use Rattle.volume_changes.specs.disk_lines.declared.Kind.TheVariants.{Free}
+use Rattle.volume_changes.specs.disk_lines.Lines.{NameRow}
+use Rattle.volume_changes.specs.disk_lines.Names.{child_named, is_entry as is_row_entry, row}
+use Rattle.volume_changes.specs.disk_lines.TableLaws.{child_named-at}
 use Rattle.volume_changes.specs.disk_rules.Reading.{row_set}
 use Rattle.volume_changes.specs.disk_rules.Volume.{inode, Volume}
 use Rattle.world_spaces.specs.name_facts.KeptLaws.{kept-keyed}
 use Rattle.world_spaces.specs.name_facts.RowLaws.{row-below}
 use Rattle.volume_changes.specs.LookupLaws.{leads_nowhere, leads_to, names-freed, names-taken}
-use Rattle.posix_words.specs.declared.nodes.DirEntry.{DirEntry}
-use Rattle.posix_words.specs.Lookups.{AreDistinct, child_of-with_entry, child_of-without_entry, child_of-without_entry-itself, entry_of}
-use Rattle.posix_words.specs.Names.{child_of, is_entry, same_name, with_entry, without_entry}
+use Rattle.posix_frames.specs.posix_words.declared.nodes.DirEntry.{DirEntry}
+use Rattle.posix_frames.specs.posix_words.Lookups.{AreDistinct, child_of-with_entry, child_of-without_entry, child_of-without_entry-itself, entry_of}
+use Rattle.posix_frames.specs.posix_words.Names.{child_of, is_entry, same_name, with_entry, without_entry}
 use Rattle.posix_frames.specs.posix_spec.State.{State}
 use Rattle.posix_frames.specs.posix_facts.DistinctLaws.{AreDistinct-with_entry, AreDistinct-without_entry}
 use Rattle.world_spaces.specs.world_rules.Stands.{is_used, IsSane, IsUsed, NamesStand, number}

@@ -4,18 +4,18 @@ use Rattle.std.proofs.Common.{ap, ◌∙◌, sym, inl, inr}
 use Rattle.std.proofs.lemmas.Bool.{cases_eq, eq-eqb, ne_eqb}
 use Rattle.std.proofs.lemmas.Bool.Decides.{Decides-eqb}
 use Rattle.std.proofs.lemmas.Option.{same_Some}
-use Rattle.disk_lines.specs.Lines.{NameRow}
-use Rattle.disk_lines.specs.Names.{child_named, is_child, names_of, row, Rows}
-use Rattle.disk_lines.specs.TableLaws.{child_named-at, NamingLine-child_named}
+use Rattle.volume_changes.specs.disk_lines.Lines.{NameRow}
+use Rattle.volume_changes.specs.disk_lines.Names.{child_named, is_child, names_of, row, Rows}
+use Rattle.volume_changes.specs.disk_lines.TableLaws.{child_named-at, NamingLine-child_named}
 use Rattle.volume_changes.specs.disk_rules.Volume.{Volume}
 use Rattle.world_spaces.specs.name_facts.KeptLaws.{kept-keyed, kept-one_name}
 use Rattle.world_spaces.specs.name_facts.RowLaws.{names_of-none, names_of-one_line, names_of-zero, row-below}
 use Rattle.world_spaces.specs.name_facts.SetLaws.{row-freed}
 use Rattle.volume_changes.specs.volume_facts.Changes.{row-set_other, row-set_same}
-use Rattle.posix_words.specs.declared.nodes.DirEntry.{DirEntry}
-use Rattle.posix_words.specs.Names.{child_of, is_named}
+use Rattle.posix_frames.specs.posix_words.declared.nodes.DirEntry.{DirEntry}
+use Rattle.posix_frames.specs.posix_words.Names.{child_of, is_named}
 use Rattle.posix_frames.specs.posix_spec.State.{State}
-use Rattle.list_facts.specs.Members.{In}
+use Rattle.posix_frames.specs.list_facts.Members.{In}
 use Rattle.world_spaces.specs.posix_trees.Entries.{child_of-In, Leads-child_of}
 use Rattle.world_spaces.specs.world_rules.Stands.{IsSane, IsUsed, NamesStand, number}
 use Rattle.world_spaces.specs.world_promise.TreeRules.{all_lines, child_used, parent_used}

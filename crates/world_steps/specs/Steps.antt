@@ -5,25 +5,25 @@ use Rattle.std.proofs.Common.{arith, ap, ◌∙◌, sym, subst, inl, inr}
 use Rattle.std.proofs.lemmas.Bool.{cases_Bool}
 use Rattle.std.proofs.lemmas.Bool.Decides.{nat_tests}
 use Rattle.std.proofs.lemmas.List.Sums.{sum_by-cons}
-use Rattle.pm_words.specs.Words.{Words}
-use Rattle.disk_lines.specs.declared.Draft.{Draft}
-use Rattle.disk_lines.specs.declared.Kind.{Kind}
-use Rattle.disk_lines.specs.declared.Kind.TheVariants.{Free, Directory, File, Staging}
+use Rattle.volume_changes.specs.pm_words.Words.{Words}
+use Rattle.volume_changes.specs.disk_lines.declared.Draft.{Draft}
+use Rattle.volume_changes.specs.disk_lines.declared.Kind.{Kind}
+use Rattle.volume_changes.specs.disk_lines.declared.Kind.TheVariants.{Free, Directory, File, Staging}
 use Rattle.volume_changes.specs.disk_rules.Content.{byte_in}
 use Rattle.volume_changes.specs.disk_rules.Live.{is_file, is_live, is_of_file}
 use Rattle.volume_changes.specs.disk_rules.Volume.{inode, Volume}
-use Rattle.posix_types.specs.declared.call.Call.{Call}
-use Rattle.posix_types.specs.declared.call.Who.{Who}
-use Rattle.posix_words.specs.declared.nodes.DirEntry.{DirEntry}
-use Rattle.posix_words.specs.declared.nodes.File.{File as FileNode}
-use Rattle.posix_words.specs.declared.nodes.Node.{Node}
-use Rattle.posix_words.specs.Nodes.{bytes_of, node_at}
+use Rattle.posix_frames.specs.posix_types.declared.call.Call.{Call}
+use Rattle.posix_frames.specs.posix_types.declared.call.Who.{Who}
+use Rattle.posix_frames.specs.posix_words.declared.nodes.DirEntry.{DirEntry}
+use Rattle.posix_frames.specs.posix_words.declared.nodes.File.{File as FileNode}
+use Rattle.posix_frames.specs.posix_words.declared.nodes.Node.{Node}
+use Rattle.posix_frames.specs.posix_words.Nodes.{bytes_of, node_at}
 use Rattle.posix_frames.specs.posix_spec.Run.{after_call, Begun}
 use Rattle.posix_frames.specs.posix_spec.State.{alone, Fits, room, State}
 use Rattle.posix_frames.specs.posix_facts.FitsLaws.{Fits-step_of}
 use Rattle.posix_frames.specs.crash_spec.Sync.{IsPartOf}
-use Rattle.list_facts.specs.Filters.{filter-agree, filter-both}
-use Rattle.list_facts.specs.Members.{In}
+use Rattle.posix_frames.specs.list_facts.Filters.{filter-agree, filter-both}
+use Rattle.posix_frames.specs.list_facts.Members.{In}
 use Rattle.posix_frames.specs.posix_puts.Puts.{PutsWhole}
 use Rattle.posix_frames.specs.posix_puts.ViewLaws.{need_of-kept, PutsWhole-kept}
 use Rattle.posix_frames.specs.posix_puts.Views.{AreAfforded, KeepsView, need_of}

@@ -3,16 +3,16 @@ use Rattle.std.specs.Prelude.{◌≡◌, ◌⊎◌, ◌<◌, ◌/◌, ◌+◌, �
 use Rattle.std.proofs.Common.{ap, ◌∙◌, sym, subst, inl, inr}
 use Rattle.std.proofs.lemmas.Bool.{and_parts, cases_Bool}
 use Rattle.std.proofs.lemmas.Bool.Decides.{Decides-eqb}
-use Rattle.pm_words.specs.Words.{Words}
-use Rattle.extent_words.specs.Extents.{disk_at, is_within}
-use Rattle.disk_lines.specs.declared.Draft.{Draft}
-use Rattle.disk_lines.specs.declared.Kind.TheVariants.{Staging}
+use Rattle.volume_changes.specs.pm_words.Words.{Words}
+use Rattle.volume_changes.specs.extent_words.Extents.{disk_at, is_within}
+use Rattle.volume_changes.specs.disk_lines.declared.Draft.{Draft}
+use Rattle.volume_changes.specs.disk_lines.declared.Kind.TheVariants.{Staging}
 use Rattle.volume_changes.specs.disk_rules.Content.{byte_in, disk_by, disk_of, entry_of_block, size_by, size_of}
 use Rattle.volume_changes.specs.disk_rules.Live.{latest}
 use Rattle.volume_changes.specs.disk_rules.Rules.{HasStagingBlocks}
 use Rattle.volume_changes.specs.disk_rules.Volume.{extents, inode, Volume}
-use Rattle.list_facts.specs.Filters.{filter-agree, filter-both, filter-In}
-use Rattle.list_facts.specs.Members.{In}
+use Rattle.posix_frames.specs.list_facts.Filters.{filter-agree, filter-both, filter-In}
+use Rattle.posix_frames.specs.list_facts.Members.{In}
 use Rattle.world_spaces.specs.world_rules.Stands.{Consecutive, entries_of, LogStands}
 use Rattle.world_spaces.specs.world_rules.Jobs.{staged_block}
 use Rattle.world_spaces.specs.world_promise.Landed.{SameFile}

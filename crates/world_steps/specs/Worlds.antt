@@ -3,19 +3,19 @@ use Rattle.std.specs.Prelude.{◌≡◌, ◌<◌, ◌≤◌, ◌+◌, ℕ, Bool,
 use Rattle.std.proofs.Common.{ap, ◌∙◌, sym, subst, inl, inr}
 use Rattle.std.proofs.lemmas.Bool.{cases_eq}
 use Rattle.std.proofs.lemmas.List.{length-set}
-use Rattle.pm_words.specs.Words.{Words}
-use Rattle.disk_places.specs.Places.{IsGeometry}
-use Rattle.disk_lines.specs.declared.Draft.{Draft}
-use Rattle.disk_lines.specs.Lines.{is_name, NameRow}
-use Rattle.disk_lines.specs.Names.{find_name, row, Rows}
+use Rattle.volume_changes.specs.pm_words.Words.{Words}
+use Rattle.volume_changes.specs.disk_places.Places.{IsGeometry}
+use Rattle.volume_changes.specs.disk_lines.declared.Draft.{Draft}
+use Rattle.volume_changes.specs.disk_lines.Lines.{is_name, NameRow}
+use Rattle.volume_changes.specs.disk_lines.Names.{find_name, row, Rows}
 use Rattle.volume_changes.specs.disk_rules.Volume.{Volume}
 use Rattle.volume_changes.specs.k_rules.Spaces.{volume_space}
 use Rattle.volume_changes.specs.CallLaws.{IsKeptVolume}
 use Rattle.volume_changes.specs.volume_facts.Changes.{row-set_other, row-set_same}
 use Rattle.world_spaces.specs.name_facts.RowLaws.{row-below}
 use Rattle.world_spaces.specs.volume_names.Paths.{HasDirectory, IsAt}
-use Rattle.posix_types.specs.declared.call.Call.{Call}
-use Rattle.posix_words.specs.Names.{last_name, node_at_path, parent_at}
+use Rattle.posix_frames.specs.posix_types.declared.call.Call.{Call}
+use Rattle.posix_frames.specs.posix_words.Names.{last_name, node_at_path, parent_at}
 use Rattle.posix_frames.specs.posix_spec.State.{space, State}
 use Rattle.world_spaces.specs.world_rules.Claims.{ClaimsStand}
 use Rattle.world_spaces.specs.world_rules.Jobs.{Job, live_claims, Valid}

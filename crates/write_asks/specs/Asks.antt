@@ -1,6 +1,6 @@
 -- Where a write begins, what it finds, and the offset behind it, by the tables of open files and what is kept of files.
 use Rattle.std.specs.Prelude.{◌≡◌, ◌≤◌, ◌<◌, ◌+◌, ◌-◌, ◌^◌, ℕ, length, Option, Some, None, sum_by, unwrap_or, if◌then◌else◌}
-use Rattle.block_counts.specs.Counts.{held_by, reserve_for}
+use Rattle.open_numbers.specs.block_counts.Counts.{held_by, reserve_for}
 use Rattle.file_table.specs.Files.{Files, size_in}
 use Rattle.posix_types.specs.declared.call.Call.{Call}
 use Rattle.posix_types.specs.declared.call.Mode.{Mode}

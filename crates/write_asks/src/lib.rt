@@ -31,6 +31,6 @@ pub fn numbers_are_those_of_the_state()
     ensures opens { OpensNothing }
 {}
 
-pub use file_table;
-pub use open_files;
-pub use write_rows;
+pub use file_table::FileTable;
+pub use open_files::{OpenFiles, Opened};
+pub use write_rows::{room_by, truncate_row};

@@ -1,11 +1,11 @@
 -- What is kept of files beside the state.
 use Rattle.std.proofs.Common.{◌≡◌, ◌-◌, ℕ, Bool, true, List, length, arith, ap, ◌∙◌, sym}
-use Rattle.block_counts.specs.Counts.{reserve_for}
-use Rattle.pm_words.specs.ImageLaws.{IsImage-words_of}
-use Rattle.pm_words.specs.Images.{words_of}
-use Rattle.pm_words.specs.Words.{Words}
-use Rattle.disk_places.specs.Journal.{journaled}
-use Rattle.disk_places.specs.Places.{Geometry}
+use Rattle.write_asks.specs.block_counts.Counts.{reserve_for}
+use Rattle.write_asks.specs.pm_words.ImageLaws.{IsImage-words_of}
+use Rattle.write_asks.specs.pm_words.Images.{words_of}
+use Rattle.write_asks.specs.pm_words.Words.{Words}
+use Rattle.write_asks.specs.disk_places.Journal.{journaled}
+use Rattle.write_asks.specs.disk_places.Places.{Geometry}
 use Rattle.disk_lines.specs.declared.Draft.{Draft}
 use Rattle.disk_lines.specs.declared.Kind.{Kind}
 use Rattle.disk_lines.specs.declared.Kind.TheVariants.{Directory, File, Free, Staging}
@@ -13,9 +13,9 @@ use Rattle.world_standing.specs.disk_rules.Volume.{inode, Volume}
 use Rattle.write_asks.specs.file_table.Files.{size_in}
 use Rattle.world_standing.specs.held_sums.Laws.{HeldIsTheSum}
 use Rattle.world_standing.specs.k_rules.View.{View}
-use Rattle.posix_words.specs.declared.nodes.Node.{Node}
-use Rattle.posix_words.specs.Nodes.{bytes_of, node_at}
-use Rattle.posix_words.specs.Open.{is_open, Tables}
+use Rattle.write_asks.specs.posix_words.declared.nodes.Node.{Node}
+use Rattle.write_asks.specs.posix_words.Nodes.{bytes_of, node_at}
+use Rattle.write_asks.specs.posix_words.Open.{is_open, Tables}
 use Rattle.write_asks.specs.posix_spec.State.{State}
 use Rattle.world_standing.specs.world_promise.TreeRules.{used_below}
 use Rattle.world_standing.specs.world_rules.Jobs.{live_claims}

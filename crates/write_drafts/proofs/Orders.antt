@@ -2,8 +2,8 @@
 use Rattle.std.proofs.Common.{◌≡◌, ◌≤◌, ◌<◌, ◌+◌, ◌-◌, ◌/◌, ◌^◌, ◌==◌, ◌&&◌, ◌∷◌, [], ℕ, true, List, length, get_or, refl, arith, ap, ◌∙◌, sym, subst}
 use Rattle.std.specs.Prelude.{Contains, map, max, nat_lt}
 use Rattle.std.proofs.lemmas.Bool.Decides.{nat_tests}
-use Rattle.pm_words.specs.ImageLaws.{IsImage-words_of}
-use Rattle.pm_words.specs.Images.{words_of}
+use Rattle.write_asks.specs.pm_words.ImageLaws.{IsImage-words_of}
+use Rattle.write_asks.specs.pm_words.Images.{words_of}
 use Rattle.disk_lines.specs.declared.Draft.{Draft}
 use Rattle.disk_lines.specs.declared.Kind.TheVariants.{File}
 use Rattle.disk_lines.specs.Entries.{is_draft}

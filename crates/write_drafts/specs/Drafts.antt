@@ -1,7 +1,7 @@
 -- The entry of a logged write in strict mode.
 use Rattle.std.specs.Prelude.{◌≡◌, ◌≤◌, ◌<◌, ◌+◌, ◌-◌, ◌/◌, ◌^◌, ℕ, Bool, true, Contains, List, [], ◌∷◌, length, max}
-use Rattle.block_counts.specs.Counts.{blocks_for}
-use Rattle.disk_places.specs.Places.{Geometry}
+use Rattle.write_asks.specs.block_counts.Counts.{blocks_for}
+use Rattle.write_asks.specs.disk_places.Places.{Geometry}
 use Rattle.disk_lines.specs.declared.Draft.{Draft}
 use Rattle.disk_lines.specs.declared.Kind.TheVariants.{File}
 use Rattle.disk_lines.specs.Entries.{is_draft}
@@ -11,7 +11,7 @@ use Rattle.world_standing.specs.disk_rules.Volume.{inode, Volume}
 use Rattle.file_overlay.specs.declared.runs.Run.{Run}
 use Rattle.write_asks.specs.file_table.Files.{Files, runs_in}
 use Rattle.world_standing.specs.k_rules.View.{View}
-use Rattle.posix_words.specs.Open.{Tables}
+use Rattle.write_asks.specs.posix_words.Open.{Tables}
 use Rattle.write_asks.specs.posix_spec.State.{State}
 use Rattle.world_standing.specs.staging_files.declared.runs.StageRun.{StageRun}
 use Rattle.world_standing.specs.staging_files.Keeps.{Staged}

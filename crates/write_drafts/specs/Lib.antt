@@ -19,3 +19,11 @@ pub use Rattle.write_asks.specs.crash_spec as crash_spec
 pub use Rattle.write_asks.specs.file_table as file_table
 pub use Rattle.write_asks.specs.posix_spec as posix_spec
 pub use Rattle.write_asks.specs.write_rows as write_rows
+pub use Rattle.disk_lines.specs as disk_lines
+pub use Rattle.disk_lines.specs.disk_places as disk_places
+pub use Rattle.disk_lines.specs.pm_words as pm_words
+pub use Rattle.file_overlay.specs as file_overlay
+pub use Rattle.file_overlay.specs.extent_words as extent_words
+pub use Rattle.world_standing.specs.extent_facts as extent_facts
+pub use Rattle.write_asks.specs.open_numbers as open_numbers
+pub use Rattle.write_asks.specs.posix_words as posix_words

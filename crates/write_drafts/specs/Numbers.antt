@@ -1,8 +1,8 @@
 -- What the World keeps of files says the numbers of the state.
 use Rattle.std.specs.Prelude.{◌≡◌, ℕ, Bool}
-use Rattle.disk_places.specs.Places.{data_blocks, Geometry}
+use Rattle.write_asks.specs.disk_places.Places.{data_blocks, Geometry}
 use Rattle.world_standing.specs.k_rules.View.{View}
-use Rattle.posix_words.specs.Open.{Tables}
+use Rattle.write_asks.specs.posix_words.Open.{Tables}
 use Rattle.write_asks.specs.posix_spec.State.{room, State}
 use Rattle.world_standing.specs.world_rules.Stands.{number}
 use Rattle.world_standing.specs.Standing.{Kept, StandsAt}

@@ -8,10 +8,8 @@ ghost use Rattle.write_drafts.specs.Drafts.{draft_in, order_behind};
 
 use disk_lines::Draft;
 use file_overlay::Run;
-use world_standing::k_split::KSplit;
-use world_standing::staging_files::StageRun;
-use write_asks::Target;
-use write_asks::file_table::FileTable;
+use world_standing::{KSplit, StageRun};
+use write_asks::{FileTable, Target};
 
 // The order behind these runs of a file that has applied so much.
 fn order_behind(applied: u64, runs: &[Run]) -> u64

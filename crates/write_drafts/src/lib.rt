@@ -13,7 +13,7 @@
 ghost use Rattle.write_drafts.specs.Drafts.{DraftsAreNext};
 ghost use Rattle.write_drafts.specs.Numbers.{OpenHaveLines, RoomIsKept, StandsAsKept};
 
-use world_standing::held_sums::what_files_hold_is_the_sum;
+use world_standing::what_files_hold_is_the_sum;
 
 mod drafts;
 
@@ -33,6 +33,8 @@ pub fn kept_numbers_are_those_of_the_state()
     what_files_hold_is_the_sum();
 }
 
-pub use world_standing::{file_reads, k_journal, k_split, map_collection, write_jobs};
-pub use write_asks;
-pub use write_asks::{file_table, open_files, write_rows};
+pub use world_standing::{Collection, Commit, Job, KSplit, read_bytes, staged_words};
+pub use write_asks::{
+    Asked, FileTable, OpenFiles, Opened, Target, ask, numbers_are_those_of_the_state, room_by,
+    truncate_row,
+};

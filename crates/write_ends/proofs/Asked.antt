@@ -10,7 +10,7 @@ use Rattle.block_loans.specs.k_split.Order.{IsInOrder}
 use Rattle.world_standing.specs.overlay_facts.Overlays.{run_of}
 use Rattle.posix_types.specs.declared.call.Call.{Call}
 use Rattle.posix_types.specs.declared.call.Who.{Who}
-use Rattle.posix_words.specs.Open.{Tables}
+use Rattle.write_asks.specs.posix_words.Open.{Tables}
 use Rattle.block_loans.specs.write_jobs.Jobs.{FilledView, HoldWords}
 use Rattle.block_loans.specs.Loans.{ComeBack}
 use Rattle.write_asks.specs.Asks.{CanMoveBy, moved_by}

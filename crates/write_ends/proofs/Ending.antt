@@ -4,18 +4,18 @@ use Rattle.std.specs.Prelude.{slice_index}
 use Rattle.std.proofs.lemmas.Bool.{cases_lt}
 use Rattle.std.proofs.lemmas.List.{get_or_past, length-map}
 use Rattle.std.proofs.lemmas.Option.{same_Some}
-use Rattle.pm_words.specs.declared.Cell.{Cell}
-use Rattle.pm_words.specs.Cells.{cell, is_lent}
-use Rattle.pm_words.specs.ImageLaws.{IsImage-words_of}
-use Rattle.pm_words.specs.Images.{words_of}
-use Rattle.pm_words.specs.Parts.{Part}
-use Rattle.pm_words.specs.Words.{Words}
-use Rattle.disk_places.specs.Journal.{journaled}
+use Rattle.write_asks.specs.pm_words.declared.Cell.{Cell}
+use Rattle.write_asks.specs.pm_words.Cells.{cell, is_lent}
+use Rattle.write_asks.specs.pm_words.ImageLaws.{IsImage-words_of}
+use Rattle.write_asks.specs.pm_words.Images.{words_of}
+use Rattle.write_asks.specs.pm_words.Parts.{Part}
+use Rattle.write_asks.specs.pm_words.Words.{Words}
+use Rattle.write_asks.specs.disk_places.Journal.{journaled}
 use Rattle.disk_lines.specs.declared.Draft.{Draft}
 use Rattle.disk_lines.specs.declared.Kind.TheVariants.{File, Staging}
 use Rattle.world_lent.specs.disk_rules.Volume.{free_inode, inode, Volume}
 use Rattle.world_lent.specs.k_rules.View.{View}
-use Rattle.list_facts.specs.Members.{In}
+use Rattle.write_asks.specs.list_facts.Members.{In}
 use Rattle.posix_types.specs.declared.call.Call.{Call}
 use Rattle.posix_types.specs.declared.call.Who.{Who}
 use Rattle.write_asks.specs.posix_puts.Puts.{PutsWhole}

@@ -4,12 +4,12 @@ use Rattle.std.specs.Prelude.{Contains}
 use Rattle.std.proofs.lemmas.List.{length-append, length_push}
 use Rattle.std.proofs.lemmas.List.Kept.{AllPairs-filter}
 use Rattle.std.proofs.lemmas.Option.{same_Some}
-use Rattle.pm_words.specs.declared.Cell.{Cell}
-use Rattle.pm_words.specs.ImageLaws.{IsImage-words_of}
-use Rattle.pm_words.specs.Images.{words_of}
-use Rattle.pm_words.specs.Words.{Words}
-use Rattle.disk_places.specs.Journal.{journaled}
-use Rattle.disk_places.specs.Places.{Geometry}
+use Rattle.write_asks.specs.pm_words.declared.Cell.{Cell}
+use Rattle.write_asks.specs.pm_words.ImageLaws.{IsImage-words_of}
+use Rattle.write_asks.specs.pm_words.Images.{words_of}
+use Rattle.write_asks.specs.pm_words.Words.{Words}
+use Rattle.write_asks.specs.disk_places.Journal.{journaled}
+use Rattle.write_asks.specs.disk_places.Places.{Geometry}
 use Rattle.disk_lines.specs.declared.Draft.{Draft}
 use Rattle.disk_lines.specs.declared.Kind.{Kind}
 use Rattle.disk_lines.specs.declared.Kind.TheVariants.{Directory, File, Free, Staging}
@@ -19,14 +19,14 @@ use Rattle.world_standing.specs.entry_orders.Orders.{AreOrdered-step_of}
 use Rattle.write_asks.specs.file_table.Files.{ChangesFile, Files, runs_in, size_in}
 use Rattle.world_lent.specs.k_rules.View.{View}
 use Rattle.block_loans.specs.k_split.Order.{IsInOrder}
-use Rattle.list_facts.specs.Members.{In, pushed-In}
-use Rattle.open_numbers.specs.Numbered.{numbered_as}
+use Rattle.write_asks.specs.list_facts.Members.{In, pushed-In}
+use Rattle.write_asks.specs.open_numbers.Numbered.{numbered_as}
 use Rattle.world_standing.specs.overlay_facts.Overlays.{run_of}
 use Rattle.posix_types.specs.declared.call.Call.{Call}
 use Rattle.posix_types.specs.declared.call.Who.{Who}
-use Rattle.posix_words.specs.declared.nodes.Node.{Node}
-use Rattle.posix_words.specs.Nodes.{bytes_of, node_at}
-use Rattle.posix_words.specs.Open.{is_open, same_who, Tables}
+use Rattle.write_asks.specs.posix_words.declared.nodes.Node.{Node}
+use Rattle.write_asks.specs.posix_words.Nodes.{bytes_of, node_at}
+use Rattle.write_asks.specs.posix_words.Open.{is_open, same_who, Tables}
 use Rattle.write_asks.specs.posix_puts.Puts.{put_bytes, PutsWhole}
 use Rattle.write_asks.specs.posix_spec.Run.{after_call, Begun}
 use Rattle.write_asks.specs.posix_spec.State.{alone, State}

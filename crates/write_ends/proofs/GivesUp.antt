@@ -5,19 +5,19 @@ use Rattle.std.proofs.lemmas.Bool.Decides.{nat_tests}
 use Rattle.std.proofs.lemmas.List.{length-append}
 use Rattle.std.proofs.lemmas.List.Kept.{AllPairs-filter}
 use Rattle.std.proofs.lemmas.Option.{same_Some}
-use Rattle.pm_words.specs.declared.Cell.{Cell}
-use Rattle.pm_words.specs.CellLaws.{single-home}
-use Rattle.pm_words.specs.Cells.{cell, is_lent, is_single}
+use Rattle.write_asks.specs.pm_words.declared.Cell.{Cell}
+use Rattle.write_asks.specs.pm_words.CellLaws.{single-home}
+use Rattle.write_asks.specs.pm_words.Cells.{cell, is_lent, is_single}
 use Rattle.disk_lines.specs.declared.Draft.{Draft}
 use Rattle.disk_lines.specs.Entries.{is_draft}
-use Rattle.disk_places.specs.Places.{Geometry}
+use Rattle.write_asks.specs.disk_places.Places.{Geometry}
 use Rattle.world_lent.specs.disk_rules.Rules.{AreApart}
 use Rattle.world_lent.specs.disk_rules.Volume.{extents}
-use Rattle.extent_words.specs.Extents.{disk_at, is_within}
+use Rattle.write_asks.specs.extent_words.Extents.{disk_at, is_within}
 use Rattle.world_lent.specs.k_rules.View.{View}
 use Rattle.block_loans.specs.k_split.Order.{IsInOrder}
-use Rattle.list_facts.specs.Members.{In}
-use Rattle.posix_words.specs.Open.{same_who}
+use Rattle.write_asks.specs.list_facts.Members.{In}
+use Rattle.write_asks.specs.posix_words.Open.{same_who}
 use Rattle.world_standing.specs.staging_files.declared.runs.StageRun.{StageRun}
 use Rattle.world_standing.specs.staging_files.GivesUp.{IsGivenBack}
 use Rattle.world_standing.specs.staging_files.Keeps.{Agrees, AreFreeSingle, IsRunSingle, IsStaged, IsThere, Staged}

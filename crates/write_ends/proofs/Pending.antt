@@ -1,11 +1,11 @@
 -- The job that ends among those that are out.
 use Rattle.std.proofs.Common.{◌≡◌, ◌<◌, ◌++◌, ◌∷◌, [], ℕ, zero, suc, Bool, true, false, not, cond, List, length, refl, arith, ap, ◌∙◌, sym, subst, inl, inr}
 use Rattle.std.specs.Prelude.{AllPairs, slice_index_or}
-use Rattle.list_facts.specs.Members.{In}
+use Rattle.write_asks.specs.list_facts.Members.{In}
 use Rattle.posix_types.specs.declared.call.Who.{Who}
 use Rattle.write_asks.specs.posix_frames.Handles.{same_who-sym}
-use Rattle.posix_words.specs.Open.{same_who}
-use Rattle.pm_words.specs.Words.{Words}
+use Rattle.write_asks.specs.posix_words.Open.{same_who}
+use Rattle.write_asks.specs.pm_words.Words.{Words}
 use Rattle.disk_lines.specs.declared.Draft.{Draft}
 use Rattle.world_lent.specs.disk_rules.Volume.{Volume}
 use Rattle.write_asks.specs.posix_spec.State.{State}

@@ -1,18 +1,18 @@
 -- The blocks of a job are back: what holds of the device.
 use Rattle.std.proofs.Common.{◌≡◌, ◌≢◌, ◌⊎◌, ◌<◌, ◌+◌, ◌*◌, ◌/◌, ◌%◌, ◌++◌, ◌∷◌, [], ℕ, Bool, true, false, List, length, Some, refl, arith, ap, ◌∙◌, sym, subst, inl, inr}
 use Rattle.std.proofs.lemmas.Bool.{both_ways}
-use Rattle.pm_words.specs.declared.Cell.{Cell}
-use Rattle.pm_words.specs.CellLaws.{single-home}
-use Rattle.pm_words.specs.Cells.{cell, is_lent, is_single, unmarked}
-use Rattle.disk_places.specs.PlaceLaws.{regions_apart}
-use Rattle.disk_places.specs.Places.{Geometry, is_data_block, IsGeometry, log_line}
+use Rattle.write_asks.specs.pm_words.declared.Cell.{Cell}
+use Rattle.write_asks.specs.pm_words.CellLaws.{single-home}
+use Rattle.write_asks.specs.pm_words.Cells.{cell, is_lent, is_single, unmarked}
+use Rattle.write_asks.specs.disk_places.PlaceLaws.{regions_apart}
+use Rattle.write_asks.specs.disk_places.Places.{Geometry, is_data_block, IsGeometry, log_line}
 use Rattle.world_lent.specs.disk_rules.Rules.{file_blocks_of}
 use Rattle.world_lent.specs.disk_rules.Volume.{extents, inode}
-use Rattle.extent_facts.specs.Covers.{covers-disk_at}
-use Rattle.extent_words.specs.Extents.{disk_at}
+use Rattle.world_lent.specs.extent_facts.Covers.{covers-disk_at}
+use Rattle.write_asks.specs.extent_words.Extents.{disk_at}
 use Rattle.world_lent.specs.volume_uses.PoolLaws.{covered-in_data}
 use Rattle.world_lent.specs.k_rules.View.{View}
-use Rattle.list_facts.specs.Members.{In}
+use Rattle.write_asks.specs.list_facts.Members.{In}
 use Rattle.world_standing.specs.staging_files.Keeps.{Agrees, AreFreeSingle, Staged}
 use Rattle.world_lent.specs.world_rules.Jobs.{IsStagedIn, Job, staged_block}
 use Rattle.block_loans.specs.write_jobs.Jobs.{FilledView, HoldWords, loan_at}

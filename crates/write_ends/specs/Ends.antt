@@ -1,11 +1,11 @@
 -- What the end of a logged write finds of a World, and what it leaves.
 use Rattle.std.specs.Prelude.{◌≡◌, ◌+◌, ℕ, true, List, [], ◌∷◌, ◌++◌}
-use Rattle.disk_places.specs.Places.{Geometry}
+use Rattle.write_asks.specs.disk_places.Places.{Geometry}
 use Rattle.write_asks.specs.file_table.Files.{Files}
 use Rattle.world_lent.specs.k_rules.View.{View}
-use Rattle.list_facts.specs.Members.{In}
+use Rattle.write_asks.specs.list_facts.Members.{In}
 use Rattle.posix_types.specs.declared.call.Call.{Call}
-use Rattle.posix_words.specs.Open.{Tables}
+use Rattle.write_asks.specs.posix_words.Open.{Tables}
 use Rattle.write_asks.specs.posix_spec.Run.{after_call, Begun}
 use Rattle.write_asks.specs.posix_spec.State.{State}
 use Rattle.world_standing.specs.staging_files.Keeps.{Staged}

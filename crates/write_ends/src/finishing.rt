@@ -5,15 +5,11 @@ ghost use Rattle.write_asks.specs.file_table.Files.{runs_in, ChangesFile};
 ghost use Rattle.world_standing.specs.overlay_facts.Overlays.{run_of};
 ghost use Rattle.write_ends.specs.Ends.{CanFinish, HasJob, HasWrite, LeavesFinished};
 
-use block_loans::k_split::KSplit;
-use block_loans::settle_blocks;
-use block_loans::write_jobs::FilledJob;
+use block_loans::{FilledJob, KSplit, settle_blocks};
 use disk_lines::Draft;
 use file_overlay::Run;
 use posix_types::Call;
-use write_asks::file_table::FileTable;
-use write_asks::move_by;
-use write_asks::open_files::OpenFiles;
+use write_asks::{FileTable, OpenFiles, move_by};
 
 // The run of an entry.
 fn run_of(draft: &Draft) -> Run

@@ -4,11 +4,9 @@ ghost use Rattle.block_loans.specs.Loans.{ComeBack};
 ghost use Rattle.world_standing.specs.Standing.{reserved_run};
 ghost use Rattle.write_ends.specs.Ends.{CanGiveUp, HasJob, LeavesGivenUp};
 
-use block_loans::k_split::KSplit;
-use block_loans::settle_blocks;
-use block_loans::write_jobs::FilledJob;
+use block_loans::{FilledJob, KSplit, settle_blocks};
 use disk_lines::Draft;
-use world_standing::staging_files::{StageRun, Staging};
+use world_standing::{StageRun, Staging};
 
 // The staged run of an entry.
 fn stage_run_of(draft: &Draft) -> StageRun

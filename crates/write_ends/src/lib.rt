@@ -17,6 +17,6 @@
 mod finishing;
 mod giving_up;
 
-pub use block_loans;
+pub use block_loans::settle_blocks;
 pub use finishing::finish_write;
 pub use giving_up::give_up_write;

@@ -1,8 +1,8 @@
 -- What zeroing a block answers, by how the write of zeros went.
 use Rattle.std.specs.Prelude.{◌≡◌, ◌≤◌, ◌/◌, ℕ, Some, None}
-use Rattle.file_overlay.specs.Runs.{staged_at}
-use Rattle.flight_cleans.specs.file_table.Files.{Files, runs_in, size_in}
-use Rattle.flight_cleans.specs.Laws.{KeepsCleaned, StandsCleaned}
+use Rattle.flight_zeros.specs.file_overlay.Runs.{staged_at}
+use Rattle.flight_zeros.specs.flight_cleans.file_table.Files.{Files, runs_in, size_in}
+use Rattle.flight_zeros.specs.flight_cleans.Laws.{KeepsCleaned, StandsCleaned}
 use Rattle.flight_zeros.specs.Laws.{KeepsZeroed, StandsZeroed, ZeroedReadZero}
 use Rattle.flight_zeros.specs.Zeros.{staged_place}
 use Rattle.lost_devices.specs.k_journal.declared.outcomes.Commit.{Commit}

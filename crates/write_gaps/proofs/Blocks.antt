@@ -2,20 +2,20 @@
 use Rattle.std.specs.Prelude.{◌≡◌, ◌≤◌, ◌<◌, ◌/◌, ◌%◌, ℕ, length, Option, Some, None, refl}
 use Rattle.std.proofs.Common.{arith, ap, ◌∙◌, sym}
 use Rattle.lost_devices.specs.disk_rules.Volume.{extents, Volume}
-use Rattle.flight_cleans.specs.data_route.Reads.{source_by}
-use Rattle.extent_words.specs.Extents.{disk_at}
-use Rattle.file_overlay.specs.Runs.{staged_at}
-use Rattle.flight_cleans.specs.file_reads.Reads.{block_of}
-use Rattle.flight_cleans.specs.file_table.Files.{Files, runs_in, size_in}
-use Rattle.flight_cleans.specs.Laws.{StandsCleaned}
+use Rattle.flight_zeros.specs.flight_cleans.data_route.Reads.{source_by}
+use Rattle.lost_devices.specs.extent_words.Extents.{disk_at}
+use Rattle.flight_zeros.specs.file_overlay.Runs.{staged_at}
+use Rattle.flight_zeros.specs.flight_cleans.file_reads.Reads.{block_of}
+use Rattle.flight_zeros.specs.flight_cleans.file_table.Files.{Files, runs_in, size_in}
+use Rattle.flight_zeros.specs.flight_cleans.Laws.{StandsCleaned}
 use Rattle.flight_zeros.specs.Laws.{StandsToZero, StandsZeroed, ZeroedReadZero}
 use Rattle.flight_zeros.specs.Zeros.{block_end, MayZero, ReadZero, staged_place}
 use Rattle.flight_zeros.proofs.Zeroed.{staging_there}
 use Rattle.lost_devices.specs.k_rules.View.{View}
 use Rattle.lost_devices.specs.k_split.Bytes.{IsOverwriteDone, tail_zeros}
 use Rattle.lost_devices.specs.k_split.Loans.{MayLend}
-use Rattle.flight_cleans.specs.world_promise.TreeRules.{used_below}
-use Rattle.flight_cleans.specs.world_rules.Stands.{is_used}
+use Rattle.flight_zeros.specs.flight_cleans.world_promise.TreeRules.{used_below}
+use Rattle.flight_zeros.specs.flight_cleans.world_rules.Stands.{is_used}
 use Rattle.write_gaps.specs.Gaps.{Clears, HasFile, with_files}
 
 place_in_block : (block from : ℕ) → (staged_place block from / 4096 ≡ block) × (staged_place block from % 4096 ≡ from % 4096)

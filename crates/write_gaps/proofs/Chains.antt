@@ -1,17 +1,17 @@
 -- Blocks are zeroed one after the other.
 use Rattle.std.specs.Prelude.{◌≡◌, ◌≤◌, ◌+◌, ◌*◌, ◌/◌, ℕ, [], ◌∷◌, ◌++◌, map, max, refl}
 use Rattle.std.proofs.Common.{arith, ap, ◌∙◌, sym, subst}
-use Rattle.disk_lines.specs.declared.Kind.TheVariants.{File}
+use Rattle.lost_devices.specs.disk_lines.declared.Kind.TheVariants.{File}
 use Rattle.lost_devices.specs.disk_rules.Volume.{inode, Volume}
-use Rattle.pm_words.specs.Powers.{Steps, Supply}
-use Rattle.flight_cleans.specs.file_table.Files.{Files, size_in}
+use Rattle.lost_devices.specs.pm_words.Powers.{Steps, Supply}
+use Rattle.flight_zeros.specs.flight_cleans.file_table.Files.{Files, size_in}
 use Rattle.flight_zeros.specs.Zeros.{block_end, ReadZero}
 use Rattle.lost_devices.specs.k_rules.View.{View}
-use Rattle.list_facts.specs.Members.{In}
+use Rattle.lost_devices.specs.list_facts.Members.{In}
 use Rattle.lost_devices.proofs.Cuts.{left_through}
-use Rattle.flight_cleans.specs.world_images.Promised.{IsKept}
-use Rattle.flight_cleans.specs.world_lent.Back.{IsPutBack}
-use Rattle.flight_cleans.specs.world_rules.Jobs.{begun_of}
+use Rattle.flight_zeros.specs.flight_cleans.world_images.Promised.{IsKept}
+use Rattle.flight_zeros.specs.flight_cleans.world_lent.Back.{IsPutBack}
+use Rattle.flight_zeros.specs.flight_cleans.world_rules.Jobs.{begun_of}
 use Rattle.write_gaps.specs.Gaps.{Clears, HasFile, LosesGap}
 
 -- nothing lies between the end and a byte that is not behind it

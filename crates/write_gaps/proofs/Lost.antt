@@ -1,31 +1,31 @@
 -- The power goes while a block is zeroed, or before.
 use Rattle.std.specs.Prelude.{◌≡◌, ◌≢◌, ◌⊎◌, ◌≤◌, ◌/◌, ℕ, Bool, List, [], ◌∷◌, ◌++◌, map, Option, Some}
 use Rattle.std.proofs.Common.{sym, subst, inl, inr}
-use Rattle.pm_words.specs.declared.Cell.{Cell}
-use Rattle.pm_words.specs.Words.{Words}
-use Rattle.disk_places.specs.Journal.{IsSound}
-use Rattle.disk_places.specs.Places.{Geometry}
-use Rattle.file_overlay.specs.Runs.{staged_at}
-use Rattle.flight_cleans.specs.file_table.Files.{Files, runs_in, size_in}
-use Rattle.flight_cleans.specs.Laws.{KeepsCleaned}
+use Rattle.lost_devices.specs.pm_words.declared.Cell.{Cell}
+use Rattle.lost_devices.specs.pm_words.Words.{Words}
+use Rattle.lost_devices.specs.disk_places.Journal.{IsSound}
+use Rattle.lost_devices.specs.disk_places.Places.{Geometry}
+use Rattle.flight_zeros.specs.file_overlay.Runs.{staged_at}
+use Rattle.flight_zeros.specs.flight_cleans.file_table.Files.{Files, runs_in, size_in}
+use Rattle.flight_zeros.specs.flight_cleans.Laws.{KeepsCleaned}
 use Rattle.flight_zeros.specs.Laws.{KeepsZeroed}
 use Rattle.flight_zeros.specs.Zeros.{staged_place}
 use Rattle.lost_devices.specs.k_rules.View.{View}
 use Rattle.lost_devices.specs.k_split.Bytes.{IsOverwriteCut, tail_zeros}
-use Rattle.list_facts.specs.Members.{In}
+use Rattle.lost_devices.specs.list_facts.Members.{In}
 use Rattle.lost_devices.specs.Left.{IsLeftOf}
 use Rattle.lost_devices.proofs.Cuts.{left_at, left_overwritten, left_same}
-use Rattle.posix_types.specs.declared.call.Mode.{Mode}
-use Rattle.posix_types.specs.declared.item.Item.{Item}
-use Rattle.posix_words.specs.Open.{Tables}
+use Rattle.lost_devices.specs.posix_types.declared.call.Mode.{Mode}
+use Rattle.lost_devices.specs.posix_types.declared.item.Item.{Item}
+use Rattle.lost_devices.specs.posix_words.Open.{Tables}
 use Rattle.lost_devices.specs.posix_spec.Run.{Begun, run}
 use Rattle.lost_devices.specs.posix_spec.State.{State}
-use Rattle.flight_cleans.specs.world_images.Changed.{sound_headed}
-use Rattle.flight_cleans.specs.world_images.Promised.{IsKept}
-use Rattle.flight_cleans.specs.world_lent.Back.{IsPutBack}
-use Rattle.flight_cleans.specs.world_lent.Flights.{promise_at_begin}
-use Rattle.flight_cleans.specs.world_rules.Jobs.{begun_of, Job}
-use Rattle.flight_cleans.specs.world_standing.Standing.{Kept, StandsAt}
+use Rattle.flight_zeros.specs.flight_cleans.world_images.Changed.{sound_headed}
+use Rattle.flight_zeros.specs.flight_cleans.world_images.Promised.{IsKept}
+use Rattle.flight_zeros.specs.flight_cleans.world_lent.Back.{IsPutBack}
+use Rattle.flight_zeros.specs.flight_cleans.world_lent.Flights.{promise_at_begin}
+use Rattle.flight_zeros.specs.flight_cleans.world_rules.Jobs.{begun_of, Job}
+use Rattle.flight_zeros.specs.flight_cleans.world_standing.Standing.{Kept, StandsAt}
 use Rattle.write_gaps.specs.Gaps.{LosesGap, with_files}
 
 not_posix : (m : Mode) → m ≡ Mode.Strict → m ≢ Mode.Posix

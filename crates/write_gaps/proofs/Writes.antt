@@ -1,7 +1,7 @@
 -- Zeros that are written over bytes.
 use Rattle.std.specs.Prelude.{◌≡◌, ◌⊎◌, ◌-◌, ◌/◌, ◌%◌, ℕ, List, replicate, Some, Err}
 use Rattle.std.proofs.Common.{arith, ap, ◌∙◌, sym, inl, inr}
-use Rattle.extent_words.specs.Extents.{disk_at}
+use Rattle.lost_devices.specs.extent_words.Extents.{disk_at}
 use Rattle.lost_devices.specs.disk_rules.Volume.{extents, Volume}
 use Rattle.flight_zeros.specs.Zeros.{staged_place}
 use Rattle.lost_devices.specs.k_rules.View.{View}

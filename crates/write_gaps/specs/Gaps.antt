@@ -1,28 +1,28 @@
 -- What zeroing the bytes between the end of a file and a write in a later block leaves.
 use Rattle.std.specs.Prelude.{◌≡◌, ◌≢◌, ◌⊎◌, ◌*◌, ◌/◌, ℕ, Bool, true, false, List, [], ◌∷◌, ◌++◌, length, map, Option}
-use Rattle.pm_words.specs.declared.Cell.{Cell}
-use Rattle.pm_words.specs.Frames.{SameLent}
-use Rattle.pm_words.specs.Powers.{is_on, Supply}
-use Rattle.pm_words.specs.Words.{Words}
-use Rattle.disk_lines.specs.declared.Kind.TheVariants.{File}
-use Rattle.disk_places.specs.Places.{Geometry}
+use Rattle.lost_devices.specs.pm_words.declared.Cell.{Cell}
+use Rattle.lost_devices.specs.pm_words.Frames.{SameLent}
+use Rattle.lost_devices.specs.pm_words.Powers.{is_on, Supply}
+use Rattle.lost_devices.specs.pm_words.Words.{Words}
+use Rattle.lost_devices.specs.disk_lines.declared.Kind.TheVariants.{File}
+use Rattle.lost_devices.specs.disk_places.Places.{Geometry}
 use Rattle.lost_devices.specs.disk_rules.Volume.{inode}
-use Rattle.flight_cleans.specs.file_table.Files.{Files, size_in}
+use Rattle.flight_zeros.specs.flight_cleans.file_table.Files.{Files, size_in}
 use Rattle.flight_zeros.specs.Zeros.{block_end, ReadZero}
 use Rattle.lost_devices.specs.k_journal.declared.outcomes.Commit.{Commit}
 use Rattle.lost_devices.specs.k_rules.View.{View}
 use Rattle.lost_devices.specs.k_split.Bytes.{IsOverwriteCut, IsOverwriteDone, tail_zeros}
-use Rattle.list_facts.specs.Members.{In}
+use Rattle.lost_devices.specs.list_facts.Members.{In}
 use Rattle.lost_devices.specs.Left.{IsLeftOf}
-use Rattle.posix_types.specs.declared.call.Mode.{Mode}
-use Rattle.posix_types.specs.declared.item.Item.{Item}
-use Rattle.posix_words.specs.Open.{Tables}
+use Rattle.lost_devices.specs.posix_types.declared.call.Mode.{Mode}
+use Rattle.lost_devices.specs.posix_types.declared.item.Item.{Item}
+use Rattle.lost_devices.specs.posix_words.Open.{Tables}
 use Rattle.lost_devices.specs.posix_spec.Run.{Begun, run}
 use Rattle.lost_devices.specs.posix_spec.State.{State}
-use Rattle.flight_cleans.specs.world_images.Promised.{IsKept}
-use Rattle.flight_cleans.specs.world_lent.Back.{IsPutBack}
-use Rattle.flight_cleans.specs.world_rules.Jobs.{begun_of, Job}
-use Rattle.flight_cleans.specs.world_standing.Standing.{Kept, StandsAt}
+use Rattle.flight_zeros.specs.flight_cleans.world_images.Promised.{IsKept}
+use Rattle.flight_zeros.specs.flight_cleans.world_lent.Back.{IsPutBack}
+use Rattle.flight_zeros.specs.flight_cleans.world_rules.Jobs.{begun_of, Job}
+use Rattle.flight_zeros.specs.flight_cleans.world_standing.Standing.{Kept, StandsAt}
 
 -- what the World keeps, with these files
 abbrev pub with_files : Kept → Files → Kept

@@ -1,21 +1,20 @@
 //! Blocks are zeroed in place.
 ghost use Rattle.std.specs.Prelude.{◌≡◌, ◌+◌, ◌*◌, ◌-◌, ◌/◌, ◌%◌, ◌^◌, ◌<◌, ◌≤◌, ℕ, true, false, length, replicate, take, IsSome};
-ghost use Rattle.pm_words.specs.Powers.{is_on, Steps};
-ghost use Rattle.disk_lines.specs.declared.Kind.TheVariants.{File};
+ghost use Rattle.lost_devices.specs.pm_words.Powers.{is_on, Steps};
+ghost use Rattle.lost_devices.specs.disk_lines.declared.Kind.TheVariants.{File};
 ghost use Rattle.lost_devices.specs.disk_rules.Volume.{inode};
-ghost use Rattle.extent_words.specs.Extents.{disk_at};
-ghost use Rattle.flight_cleans.specs.file_table.Files.{size_in};
+ghost use Rattle.lost_devices.specs.extent_words.Extents.{disk_at};
+ghost use Rattle.flight_zeros.specs.flight_cleans.file_table.Files.{size_in};
 ghost use Rattle.lost_devices.specs.k_split.Bytes.{zeros_behind};
 ghost use Rattle.flight_zeros.specs.Zeros.{staged_place};
 ghost use Rattle.lost_devices.specs.k_split.Loans.{MayLend};
 ghost use Rattle.write_gaps.specs.Gaps.{block_start, HasFile, IsBlockCleared, IsCleared, IsClearPaid, IsZeroed};
 
 use extent_map::ExtentMap;
-use flight_cleans::file_table::FileTable;
-use flight_cleans::the_end_of_a_file_is_cleaned_in_flight;
-use flight_zeros::blocks_are_zeroed_in_flight;
-use lost_devices::k_journal::Commit;
-use lost_devices::k_split::KSplit;
+use flight_zeros::{
+    FileTable, blocks_are_zeroed_in_flight, the_end_of_a_file_is_cleaned_in_flight,
+};
+use lost_devices::{Commit, KSplit};
 use pm_lines::Power;
 
 // How many bytes of a file there are from byte `from` to the end of its block; none of a hole.

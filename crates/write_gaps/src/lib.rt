@@ -11,5 +11,5 @@
 
 mod gaps;
 
-pub use flight_zeros;
+pub use flight_zeros::blocks_are_zeroed_in_flight;
 pub use gaps::clear_gap;

@@ -1,5 +1,5 @@
 -- What `fill` answers.
-use Rattle.pm_words.specs.Powers.{Supply}
+use Rattle.pm_lines.specs.pm_words.Powers.{Supply}
 use Rattle.write_jobs.specs.declared.fills.Filled.{Filled}
 use Rattle.write_jobs.specs.declared.fills.Filled.TheVariants.{PowerLost, Ready}
 use Rattle.write_jobs.specs.Jobs.{IsCutOff, IsFilled, JobView}

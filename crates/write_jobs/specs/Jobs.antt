@@ -1,9 +1,9 @@
 -- Logged writes that have begun, with the blocks that they were lent, and what filling makes of them.
 use Rattle.std.specs.Prelude.{◌≡◌, ◌≤◌, ◌<◌, ◌+◌, ◌*◌, ℕ, Bool, true, false, List, [], length, map, slice_index, slice_index_or}
-use Rattle.pm_words.specs.declared.Cell.TheVariants.{Single}
-use Rattle.pm_words.specs.Cells.{cell, is_single}
-use Rattle.pm_words.specs.Parts.{Part}
-use Rattle.pm_words.specs.Powers.{is_on, Supply}
+use Rattle.pm_lines.specs.pm_words.declared.Cell.TheVariants.{Single}
+use Rattle.pm_lines.specs.pm_words.Cells.{cell, is_single}
+use Rattle.pm_lines.specs.pm_words.Parts.{Part}
+use Rattle.pm_lines.specs.pm_words.Powers.{is_on, Supply}
 use Rattle.disk_lines.specs.declared.Draft.{Draft}
 use Rattle.posix_types.specs.declared.call.Who.{Who}
 

@@ -1,8 +1,8 @@
 //! Filling a job: its words stored into its blocks and made durable.
 ghost use Rattle.std.specs.Prelude.{◌≡◌, ◌≢◌, ◌≤◌, ◌<◌, ◌+◌, ◌*◌, ◌/◌, ℕ, true, false, length, slice_index, MatchOption};
-ghost use Rattle.pm_words.specs.declared.Cell.TheVariants.{Single};
-ghost use Rattle.pm_words.specs.Cells.{cell, fenced, is_single};
-ghost use Rattle.pm_words.specs.Powers.{is_on, Steps};
+ghost use Rattle.pm_lines.specs.pm_words.declared.Cell.TheVariants.{Single};
+ghost use Rattle.pm_lines.specs.pm_words.Cells.{cell, fenced, is_single};
+ghost use Rattle.pm_lines.specs.pm_words.Powers.{is_on, Steps};
 ghost use Rattle.write_jobs.specs.Filling.{IsFilledBy};
 ghost use Rattle.write_jobs.specs.Jobs.{blocks_of, loan_at, AreSingle, HoldWords};
 

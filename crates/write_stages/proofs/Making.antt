@@ -3,16 +3,16 @@ use Rattle.std.specs.Prelude.{◌≡◌, ◌≢◌, ◌⊎◌, ◌≤◌, ◌<�
 use Rattle.std.proofs.Common.{arith, ap, ◌∙◌, sym, subst, inl, inr}
 use Rattle.std.proofs.lemmas.Bool.Decides.{nat_tests}
 use Rattle.std.proofs.lemmas.Option.{same_Some}
-use Rattle.pm_words.specs.declared.Cell.{Cell}
-use Rattle.pm_words.specs.Cells.{cell, is_single}
-use Rattle.pm_words.specs.ImageLaws.{IsImage-words_of}
-use Rattle.pm_words.specs.Images.{words_of}
-use Rattle.pm_words.specs.Parts.{Part}
-use Rattle.disk_places.specs.Journal.{journaled}
-use Rattle.disk_lines.specs.declared.Draft.{Draft}
-use Rattle.disk_lines.specs.Lines.{most_bytes}
+use Rattle.block_loans.specs.pm_words.declared.Cell.{Cell}
+use Rattle.block_loans.specs.pm_words.Cells.{cell, is_single}
+use Rattle.block_loans.specs.pm_words.ImageLaws.{IsImage-words_of}
+use Rattle.block_loans.specs.pm_words.Images.{words_of}
+use Rattle.block_loans.specs.pm_words.Parts.{Part}
+use Rattle.block_loans.specs.disk_places.Journal.{journaled}
+use Rattle.block_loans.specs.disk_lines.declared.Draft.{Draft}
+use Rattle.block_loans.specs.disk_lines.Lines.{most_bytes}
 use Rattle.block_loans.specs.disk_rules.Volume.{extents, inode, Volume}
-use Rattle.extent_words.specs.Extents.{disk_at, is_within}
+use Rattle.block_loans.specs.extent_words.Extents.{disk_at, is_within}
 use Rattle.flight_begins.specs.file_reads.Reads.{FileCanBeRead}
 use Rattle.flight_begins.specs.file_table.Files.{Files, runs_in}
 use Rattle.crash_judge.proofs.ByteLaws.{length-resized}
@@ -20,7 +20,7 @@ use Rattle.block_loans.specs.k_map_plans.Plans.{IsStagingFile}
 use Rattle.block_loans.specs.k_rules.View.{View}
 use Rattle.block_loans.specs.k_split.Loans.{MayLend}
 use Rattle.posix_types.specs.declared.call.Who.{Who}
-use Rattle.posix_words.specs.Bytes.{overwritten}
+use Rattle.crash_judge.specs.posix_words.Bytes.{overwritten}
 use Rattle.flight_begins.specs.staging_files.declared.runs.StageRun.{StageRun}
 use Rattle.flight_begins.specs.staging_files.Keeps.{given_to, IsAtHome, IsPlaced}
 use Rattle.flight_begins.proofs.staging_files_proofs.GiveUpLaws.{staging-file}

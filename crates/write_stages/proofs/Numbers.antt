@@ -3,9 +3,9 @@ use Rattle.std.specs.Prelude.{◌≡◌, ◌≢◌, ◌⊎◌, ◌≤◌, ◌<�
 use Rattle.std.proofs.Common.{arith, ap, ◌∙◌, sym, inl, inr}
 use Rattle.std.proofs.lemmas.Bool.{cases_lt}
 use Rattle.std.proofs.lemmas.Bool.Decides.{nat_tests}
-use Rattle.extent_words.specs.Extents.{is_within}
+use Rattle.block_loans.specs.extent_words.Extents.{is_within}
 use Rattle.crash_judge.proofs.ByteLaws.{index-overwritten}
-use Rattle.posix_words.specs.Bytes.{overwritten}
+use Rattle.crash_judge.specs.posix_words.Bytes.{overwritten}
 use Rattle.flight_begins.specs.staging_files.declared.runs.StageRun.{StageRun}
 use Rattle.flight_begins.specs.staging_files.Keeps.{AreApart, has_block}
 use Rattle.write_words.specs.write_drafts.Drafts.{staged_count}

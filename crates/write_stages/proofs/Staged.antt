@@ -6,32 +6,32 @@ use Rattle.std.proofs.lemmas.Bool.{cases_lt}
 use Rattle.std.proofs.lemmas.Bool.Decides.{nat_tests}
 use Rattle.std.proofs.lemmas.List.{get_or_past, length-map}
 use Rattle.std.proofs.lemmas.Option.{same_Some}
-use Rattle.pm_words.specs.declared.Cell.{Cell}
-use Rattle.pm_words.specs.ImageLaws.{IsImage-words_of}
-use Rattle.pm_words.specs.Images.{IsImage, words_of}
-use Rattle.pm_words.specs.Parts.{Part}
-use Rattle.pm_words.specs.Words.{Words}
+use Rattle.block_loans.specs.pm_words.declared.Cell.{Cell}
+use Rattle.block_loans.specs.pm_words.ImageLaws.{IsImage-words_of}
+use Rattle.block_loans.specs.pm_words.Images.{IsImage, words_of}
+use Rattle.block_loans.specs.pm_words.Parts.{Part}
+use Rattle.block_loans.specs.pm_words.Words.{Words}
 use Rattle.crash_judge.specs.crash_spec.RelationLaws.{IsPartOf-whole}
-use Rattle.disk_places.specs.Journal.{journaled}
-use Rattle.disk_lines.specs.declared.Draft.{Draft}
-use Rattle.disk_lines.specs.Entries.{is_draft}
-use Rattle.disk_lines.specs.EntryLaws.{FitsDraft}
+use Rattle.block_loans.specs.disk_places.Journal.{journaled}
+use Rattle.block_loans.specs.disk_lines.declared.Draft.{Draft}
+use Rattle.block_loans.specs.disk_lines.Entries.{is_draft}
+use Rattle.block_loans.specs.disk_lines.EntryLaws.{FitsDraft}
 use Rattle.block_loans.specs.disk_rules.Content.{byte_in, disk_of, size_of}
 use Rattle.block_loans.specs.disk_rules.Rules.{AreApart, HasStagingBlocks}
 use Rattle.block_loans.specs.disk_rules.Volume.{extents, inode, Volume}
-use Rattle.extent_words.specs.Extents.{disk_at, is_within}
+use Rattle.block_loans.specs.extent_words.Extents.{disk_at, is_within}
 use Rattle.flight_begins.specs.file_reads.Reads.{block_in}
 use Rattle.flight_begins.specs.file_table.Files.{Files, runs_in, size_in}
 use Rattle.flight_begins.specs.Laws.{MayBegin, StandsBegun, with_cells, with_job}
 use Rattle.block_loans.specs.job_facts.Blocks.{GoOut, SpellWhole}
 use Rattle.block_loans.specs.k_rules.View.{View}
 use Rattle.block_loans.specs.k_split.Order.{IsInOrder}
-use Rattle.list_facts.specs.Members.{In}
+use Rattle.crash_judge.specs.list_facts.Members.{In}
 use Rattle.flight_begins.proofs.overlay_facts_proofs.Overlays.{overlay_is_log}
 use Rattle.posix_types.specs.declared.call.Who.{Who}
-use Rattle.posix_words.specs.declared.nodes.Node.{Node}
-use Rattle.posix_words.specs.Bytes.{overwritten}
-use Rattle.posix_words.specs.Nodes.{bytes_of, node_at}
+use Rattle.crash_judge.specs.posix_words.declared.nodes.Node.{Node}
+use Rattle.crash_judge.specs.posix_words.Bytes.{overwritten}
+use Rattle.crash_judge.specs.posix_words.Nodes.{bytes_of, node_at}
 use Rattle.crash_judge.specs.posix_facts.FitsLaws.{length-overwritten}
 use Rattle.crash_judge.specs.posix_puts.Puts.{PutsWhole}
 use Rattle.crash_judge.specs.posix_spec.Put.{Put}

@@ -1,17 +1,17 @@
 -- A logged write that has its run of staging blocks becomes a job.
 use Rattle.std.specs.Prelude.{◌≡◌, ◌≢◌, ◌≤◌, ◌<◌, ◌+◌, ◌*◌, ◌/◌, ◌^◌, ℕ, true, false, Contains, List, [], ◌∷◌, ◌++◌, length, Some}
-use Rattle.disk_lines.specs.declared.Draft.{Draft}
-use Rattle.disk_lines.specs.declared.Kind.TheVariants.{File}
-use Rattle.disk_places.specs.Places.{Geometry, reserve}
+use Rattle.block_loans.specs.disk_lines.declared.Draft.{Draft}
+use Rattle.block_loans.specs.disk_lines.declared.Kind.TheVariants.{File}
+use Rattle.block_loans.specs.disk_places.Places.{Geometry, reserve}
 use Rattle.block_loans.specs.disk_rules.Room.{unused_blocks}
 use Rattle.block_loans.specs.disk_rules.Volume.{inode}
 use Rattle.flight_begins.specs.file_table.Files.{Files, size_in, spare_in}
-use Rattle.flight_zeros.specs.Zeros.{ReadZero}
+use Rattle.write_gaps.specs.flight_zeros.Zeros.{ReadZero}
 use Rattle.block_loans.specs.k_rules.View.{View}
-use Rattle.list_facts.specs.Members.{In}
+use Rattle.crash_judge.specs.list_facts.Members.{In}
 use Rattle.posix_types.specs.declared.call.Call.{Call}
 use Rattle.posix_types.specs.declared.call.Who.{Who}
-use Rattle.posix_words.specs.Open.{Tables}
+use Rattle.crash_judge.specs.posix_words.Open.{Tables}
 use Rattle.block_loans.specs.posix_frames.Frames.{AreThreads}
 use Rattle.crash_judge.specs.posix_puts.Views.{need_of}
 use Rattle.crash_judge.specs.posix_spec.Put.{put_by}

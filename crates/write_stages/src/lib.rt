@@ -11,5 +11,10 @@
 
 mod staging;
 
+pub use crash_judge::judge;
 pub use staging::{StagedWrite, stage_write};
-pub use write_words::{open_files, write_asks, write_drafts};
+pub use write_gaps::{blocks_are_zeroed_in_flight, clear_gap};
+pub use write_words::{
+    Asked, OpenFiles, Opened, Target, ask, kept_numbers_are_those_of_the_state,
+    numbers_are_those_of_the_state,
+};

@@ -3,19 +3,14 @@ ghost use Rattle.std.specs.Prelude.{◌≡◌, ◌<◌, ◌+◌, ◌^◌, ◌≤
 ghost use Rattle.block_loans.specs.write_jobs.Jobs.{blocks_of};
 ghost use Rattle.write_stages.specs.Stages.{IsJobOf, IsStaged, Ready};
 
-use block_loans::k_split::KSplit;
-use block_loans::lend_blocks;
-use block_loans::write_jobs::Job;
-use flight_begins::a_job_begins_in_flight;
-use flight_begins::file_table::FileTable;
-use flight_begins::map_collection::Collection;
-use flight_begins::staging_files::StageRun;
+use block_loans::{Job, KSplit, lend_blocks};
+use flight_begins::{Collection, FileTable, StageRun, a_job_begins_in_flight};
 use pm_lines::Loan;
 use posix_types::Who;
 use std::alloc::{AllocError, Global};
-use write_words::write_asks::Target;
-use write_words::write_drafts::{draft_of, entries_are_the_next_ones};
-use write_words::{words_of_write, words_spell_the_file};
+use write_words::{
+    Target, draft_of, entries_are_the_next_ones, words_of_write, words_spell_the_file,
+};
 
 /// A write that is staged: its job, and the disk blocks that it was lent, in the order of the entry's blocks.
 #[derive(Debug, Drop)]

@@ -2,25 +2,25 @@
 use Rattle.std.proofs.Common.{◌≡◌, ◌≤◌, ◌<◌, ◌+◌, ◌-◌, ◌*◌, ◌/◌, ◌%◌, ◌^◌, ℕ, Bool, true, List, length, Option, None, Some, refl, arith, ap, ◌∙◌, sym, subst}
 use Rattle.std.specs.Prelude.{map}
 use Rattle.std.specs.List.{range_with_len}
-use Rattle.pm_words.specs.Cells.{newest}
-use Rattle.pm_words.specs.ImageLaws.{IsImage-words_of}
-use Rattle.pm_words.specs.Images.{words_of}
-use Rattle.pm_words.specs.Words.{byte_of, Words}
+use Rattle.write_drafts.specs.pm_words.Cells.{newest}
+use Rattle.write_drafts.specs.pm_words.ImageLaws.{IsImage-words_of}
+use Rattle.write_drafts.specs.pm_words.Images.{words_of}
+use Rattle.write_drafts.specs.pm_words.Words.{byte_of, Words}
 use Rattle.write_drafts.specs.data_route.Reads.{read_len, source_by, source_of}
-use Rattle.file_overlay.specs.Runs.{staged_at}
+use Rattle.write_drafts.specs.file_overlay.Runs.{staged_at}
 use Rattle.write_drafts.specs.data_route.declared.reads.Source.{Source}
 use Rattle.write_drafts.specs.data_route.declared.reads.Source.TheVariants.{Disk, Staged, Zero}
-use Rattle.disk_places.specs.Journal.{journaled}
-use Rattle.disk_places.specs.PlaceLaws.{behind_log-words}
-use Rattle.disk_places.specs.Places.{Geometry, is_data_block}
-use Rattle.disk_lines.specs.declared.Draft.{Draft}
-use Rattle.disk_lines.specs.declared.Kind.{Kind}
-use Rattle.disk_lines.specs.declared.Kind.TheVariants.{Directory, File, Free, Staging}
+use Rattle.write_drafts.specs.disk_places.Journal.{journaled}
+use Rattle.write_drafts.specs.disk_places.PlaceLaws.{behind_log-words}
+use Rattle.write_drafts.specs.disk_places.Places.{Geometry, is_data_block}
+use Rattle.write_drafts.specs.disk_lines.declared.Draft.{Draft}
+use Rattle.write_drafts.specs.disk_lines.declared.Kind.{Kind}
+use Rattle.write_drafts.specs.disk_lines.declared.Kind.TheVariants.{Directory, File, Free, Staging}
 use Rattle.write_drafts.specs.disk_rules.Content.{byte_in}
 use Rattle.write_drafts.specs.disk_rules.Rules.{file_blocks_of}
 use Rattle.write_drafts.specs.disk_rules.Volume.{extents, inode, Volume}
-use Rattle.extent_facts.specs.Covers.{covers-disk_at}
-use Rattle.extent_words.specs.Extents.{disk_at}
+use Rattle.write_drafts.specs.extent_facts.Covers.{covers-disk_at}
+use Rattle.write_drafts.specs.extent_words.Extents.{disk_at}
 use Rattle.write_drafts.specs.volume_facts.ImageLaws.{journaled-idle}
 use Rattle.write_drafts.specs.volume_facts.LineWords.{data_word}
 use Rattle.write_drafts.specs.volume_uses.PoolLaws.{covered-in_data}
@@ -31,10 +31,10 @@ use Rattle.write_drafts.specs.job_facts.Blocks.{SpellWhole}
 use Rattle.write_drafts.proofs.job_facts_proofs.Staged.{spells_whole}
 use Rattle.write_drafts.specs.k_rules.View.{View}
 use Rattle.write_drafts.proofs.overlay_facts_proofs.Overlays.{reads_file}
-use Rattle.posix_words.specs.declared.nodes.Node.{Node}
-use Rattle.posix_words.specs.Bytes.{bytes_from, overwritten}
-use Rattle.posix_words.specs.Nodes.{bytes_of, node_at}
-use Rattle.posix_words.specs.Open.{Tables}
+use Rattle.write_drafts.specs.posix_words.declared.nodes.Node.{Node}
+use Rattle.write_drafts.specs.posix_words.Bytes.{bytes_from, overwritten}
+use Rattle.write_drafts.specs.posix_words.Nodes.{bytes_of, node_at}
+use Rattle.write_drafts.specs.posix_words.Open.{Tables}
 use Rattle.write_drafts.specs.posix_spec.State.{State}
 use Rattle.write_drafts.specs.world_promise.TreeRules.{used_below}
 use Rattle.write_drafts.specs.world_rules.Jobs.{live_claims, Valid}

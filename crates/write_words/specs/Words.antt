@@ -1,18 +1,18 @@
 -- What the blocks of a write are to hold.
 use Rattle.std.specs.Prelude.{◌≡◌, ◌≤◌, ◌+◌, ◌-◌, ◌*◌, ◌/◌, ℕ, Bool, List, length}
-use Rattle.pm_words.specs.Images.{words_of}
+use Rattle.write_drafts.specs.pm_words.Images.{words_of}
 use Rattle.write_drafts.specs.data_route.Reads.{read_len}
-use Rattle.disk_places.specs.Places.{Geometry}
-use Rattle.disk_lines.specs.declared.Draft.{Draft}
-use Rattle.disk_lines.specs.declared.Kind.TheVariants.{File}
+use Rattle.write_drafts.specs.disk_places.Places.{Geometry}
+use Rattle.write_drafts.specs.disk_lines.declared.Draft.{Draft}
+use Rattle.write_drafts.specs.disk_lines.declared.Kind.TheVariants.{File}
 use Rattle.write_drafts.specs.disk_rules.Volume.{inode}
 use Rattle.write_drafts.specs.file_reads.Reads.{bytes_in, FileCanBeRead}
 use Rattle.write_drafts.specs.file_table.Files.{Files, runs_in, size_in}
 use Rattle.write_drafts.specs.job_facts.Blocks.{SpellWhole}
 use Rattle.write_drafts.specs.k_rules.View.{View}
-use Rattle.posix_words.specs.Bytes.{overwritten}
-use Rattle.posix_words.specs.Nodes.{bytes_of, node_at}
-use Rattle.posix_words.specs.Open.{Tables}
+use Rattle.write_drafts.specs.posix_words.Bytes.{overwritten}
+use Rattle.write_drafts.specs.posix_words.Nodes.{bytes_of, node_at}
+use Rattle.write_drafts.specs.posix_words.Open.{Tables}
 use Rattle.write_drafts.specs.posix_spec.State.{State}
 use Rattle.write_drafts.specs.world_rules.Stands.{number}
 use Rattle.write_drafts.specs.write_jobs.Contents.{SpellBytes, staged_bytes}

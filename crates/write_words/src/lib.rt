@@ -20,5 +20,7 @@ pub fn words_spell_the_file()
     ensures staged { StagesTheFile }
 {}
 
-pub use write_drafts;
-pub use write_drafts::{open_files, write_asks};
+pub use write_drafts::{
+    Asked, OpenFiles, Opened, Target, ask, draft_of, entries_are_the_next_ones,
+    kept_numbers_are_those_of_the_state, numbers_are_those_of_the_state,
+};

@@ -8,12 +8,7 @@ ghost use Rattle.write_drafts.specs.write_jobs.Contents.{SpellBytes};
 ghost use Rattle.write_words.specs.Words.{staged_in};
 
 use std::alloc::{AllocError, Global};
-use write_drafts::file_reads::read_bytes;
-use write_drafts::file_table::FileTable;
-use write_drafts::k_split::KSplit;
-use write_drafts::map_collection::Collection;
-use write_drafts::write_asks::Target;
-use write_drafts::write_jobs::staged_words;
+use write_drafts::{Collection, FileTable, KSplit, Target, read_bytes, staged_words};
 
 /// The words that `count` blocks are to hold, from that of the target's first byte on: what the file has
 /// there, with the new bytes over it, and zeros behind both. The new bytes lie in these blocks.

@@ -1,7 +1,7 @@
 use Rattle.std.specs.Prelude.{◌≡◌}
 use Rattle.std.proofs.Common.{rules}
 use Rattle.std.proofs.lemmas.Result.{IfOk-weaker}
-use Rattle.posix_types.specs.declared.call.Mode.{Mode}
+use Rattle.posix_puts.specs.posix_types.declared.call.Mode.{Mode}
 use Rattle.crash_judge.proofs.FrontLaws.{judged}
 use Rattle.crash_judge.proofs.judge.Goals as goal
 

@@ -1,6 +1,6 @@
 use Rattle.std.proofs.Common.{◌∙◌, ◌++◌, ◌∷◌, [], List, ap, sym}
 use Rattle.std.proofs.lemmas.List.{append_assoc}
-use Rattle.pm_words.specs.Parts.{Part}
+use Rattle.block_bytes.specs.pm_words.Parts.{Part}
 use Rattle.lines_out.proofs.Steps.{back_more, home_more, out_next, place_next}
 use Rattle.lines_out.proofs.put_lines.Goals as goal
 

@@ -1,5 +1,5 @@
 use Rattle.std.proofs.Common.{◌≡◌, ◌++◌, ℕ, false, length}
-use Rattle.pm_words.specs.Cells.{cell, is_lent}
+use Rattle.block_bytes.specs.pm_words.Cells.{cell, is_lent}
 use Rattle.block_bytes.specs.Overwrites.{IsInLines}
 use Rattle.lines_out.specs.Lines.{LinesComeBack}
 use Rattle.lines_out.proofs.put_lines.Given as goal

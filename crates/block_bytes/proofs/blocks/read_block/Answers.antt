@@ -3,8 +3,8 @@ use Rattle.std.proofs.lemmas.Bool.{cases_eq}
 use Rattle.std.proofs.lemmas.List.{get_or-set_other, get_or-set_same, length-set}
 use Rattle.std.proofs.Common.{inl, inr}
 use Rattle.std.specs.Prelude.{slice_index, slice_set}
-use Rattle.pm_words.specs.Cells.{cell, newest}
-use Rattle.pm_words.specs.Images.{words_of}
+use Rattle.pm_lines.specs.pm_words.Cells.{cell, newest}
+use Rattle.pm_lines.specs.pm_words.Images.{words_of}
 use Rattle.block_bytes.proofs.Bytes.{read_byte}
 use Rattle.block_bytes.proofs.blocks.read_block.Goals as goal
 

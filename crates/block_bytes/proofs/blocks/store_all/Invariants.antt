@@ -1,8 +1,8 @@
 use Rattle.std.proofs.Common.{◌≡◌, ◌≢◌, ◌*◌, ◌/◌, ◌<◌, ℕ, true, length}
 use Rattle.map_rules.specs.disk_rules.Placed.{block_at}
-use Rattle.pm_words.specs.declared.Cell.TheVariants.{Single}
-use Rattle.pm_words.specs.Cells.{cell, is_lent, fenced}
-use Rattle.pm_words.specs.Powers.{is_on, Steps}
+use Rattle.pm_lines.specs.pm_words.declared.Cell.TheVariants.{Single}
+use Rattle.pm_lines.specs.pm_words.Cells.{cell, is_lent, fenced}
+use Rattle.pm_lines.specs.pm_words.Powers.{is_on, Steps}
 use Rattle.block_bytes.proofs.blocks.store_all.Given as goal
 
 -- the blocks so far are flushed, the other words are as they were

@@ -1,8 +1,8 @@
 use Rattle.std.proofs.Common.{◌∙◌, ap}
 use Rattle.std.proofs.lemmas.List.{get_or-replicate, length-replicate}
 use Rattle.std.specs.Prelude.{ℕ, replicate}
-use Rattle.pm_words.specs.declared.Cell.TheVariants.{Single}
-use Rattle.pm_words.specs.Images.{words_of}
+use Rattle.pm_lines.specs.pm_words.declared.Cell.TheVariants.{Single}
+use Rattle.pm_lines.specs.pm_words.Images.{words_of}
 use Rattle.block_bytes.proofs.Zeros.{zero_word}
 use Rattle.block_bytes.proofs.blocks.store_zeros.Goals as goal
 

@@ -1,7 +1,7 @@
 use Rattle.std.proofs.Common.{◌∙◌, refl, sym}
-use Rattle.pm_words.specs.Cells.{cell}
-use Rattle.pm_words.specs.Images.{Follows-same}
-use Rattle.pm_words.specs.Powers.{is_on}
+use Rattle.pm_lines.specs.pm_words.Cells.{cell}
+use Rattle.pm_lines.specs.pm_words.Images.{Follows-same}
+use Rattle.pm_lines.specs.pm_words.Powers.{is_on}
 use Rattle.block_bytes.specs.Overwrites.{SameBeside}
 use Rattle.block_bytes.proofs.Cells.{fence_done, settled}
 use Rattle.block_bytes.proofs.Zeroing.{kept, zeroed, zeroing}

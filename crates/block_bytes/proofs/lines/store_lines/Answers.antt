@@ -1,7 +1,7 @@
 use Rattle.std.proofs.Common.{◌≡◌, ◌≢◌, ◌+◌, ◌/◌, ◌<◌, ◌≤◌, ◌∙◌, ap, arith, inl, inr, subst, sym, ⊎_elim}
 use Rattle.std.proofs.lemmas.Bool.{cases_eq}
 use Rattle.std.proofs.lemmas.Grind.{common_steps}
-use Rattle.pm_words.specs.Cells.{cell, fenced}
+use Rattle.pm_lines.specs.pm_words.Cells.{cell, fenced}
 use Rattle.block_bytes.specs.Overwrites.{GoesToZero}
 use Rattle.block_bytes.proofs.lines.store_lines.Goals as goal
 

@@ -1,7 +1,7 @@
 use Rattle.std.proofs.Common.{◌≡◌, ◌-◌, ◌*◌, ◌/◌, ◌<◌, ◌≤◌, ◌⊎◌, ℕ, true, length}
-use Rattle.pm_words.specs.declared.Cell.TheVariants.{Single}
-use Rattle.pm_words.specs.Cells.{cell, is_lent, fenced}
-use Rattle.pm_words.specs.Powers.{is_on, Steps}
+use Rattle.pm_lines.specs.pm_words.declared.Cell.TheVariants.{Single}
+use Rattle.pm_lines.specs.pm_words.Cells.{cell, is_lent, fenced}
+use Rattle.pm_lines.specs.pm_words.Powers.{is_on, Steps}
 use Rattle.block_bytes.specs.Overwrites.{GoesToZero}
 use Rattle.block_bytes.proofs.lines.store_lines.Given as goal
 

@@ -1,7 +1,7 @@
 use Rattle.std.proofs.Common.{arith}
-use Rattle.pm_words.specs.Cells.{cell, newest}
-use Rattle.pm_words.specs.Images.{words_of}
-use Rattle.pm_words.specs.Powers.{is_on}
+use Rattle.pm_lines.specs.pm_words.Cells.{cell, newest}
+use Rattle.pm_lines.specs.pm_words.Images.{words_of}
+use Rattle.pm_lines.specs.pm_words.Powers.{is_on}
 use Rattle.block_bytes.specs.Puts.{with_bytes}
 use Rattle.block_bytes.proofs.Cells.{either_after}
 use Rattle.block_bytes.proofs.pieces.store_line.Goals as goal

@@ -1,8 +1,8 @@
 use Rattle.std.proofs.Common.{◌≡◌, ◌≢◌, ◌/◌, ◌%◌, ◌<◌, ◌≤◌, ℕ, true, false, length}
-use Rattle.pm_words.specs.declared.Cell.TheVariants.{Single}
-use Rattle.pm_words.specs.Cells.{cell, is_lent, flushed, fenced, newest}
-use Rattle.pm_words.specs.Images.{words_of}
-use Rattle.pm_words.specs.Powers.{is_on, Steps}
+use Rattle.pm_lines.specs.pm_words.declared.Cell.TheVariants.{Single}
+use Rattle.pm_lines.specs.pm_words.Cells.{cell, is_lent, flushed, fenced, newest}
+use Rattle.pm_lines.specs.pm_words.Images.{words_of}
+use Rattle.pm_lines.specs.pm_words.Powers.{is_on, Steps}
 use Rattle.block_bytes.specs.Puts.{HoldsEither, with_bytes}
 use Rattle.block_bytes.proofs.pieces.store_line.Given as goal
 

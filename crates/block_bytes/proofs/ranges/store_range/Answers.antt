@@ -1,10 +1,10 @@
 use Rattle.std.proofs.Common.{◌≡◌, ◌≢◌, ◌+◌, ◌-◌, ◌/◌, ◌<◌, ◌≤◌, ◌∙◌, ℕ, length, Some, ap, arith, subst, sym, ⊎_elim}
 use Rattle.std.proofs.lemmas.Bool.{cases_eq}
 use Rattle.std.proofs.lemmas.Grind.{common_steps}
-use Rattle.extent_words.specs.Extents.{disk_at}
-use Rattle.pm_words.specs.declared.Cell.TheVariants.{Single}
-use Rattle.pm_words.specs.Cells.{cell, fenced, is_single, newest}
-use Rattle.pm_words.specs.Images.{words_of}
+use Rattle.extent_map.specs.extent_words.Extents.{disk_at}
+use Rattle.pm_lines.specs.pm_words.declared.Cell.TheVariants.{Single}
+use Rattle.pm_lines.specs.pm_words.Cells.{cell, fenced, is_single, newest}
+use Rattle.pm_lines.specs.pm_words.Images.{words_of}
 use Rattle.block_bytes.specs.Overwrites.{word_with}
 use Rattle.block_bytes.specs.Puts.{HoldsEither}
 use Rattle.block_bytes.proofs.Reached.{apart, as_was, block_of, done_same, each_same, in_range, one_candidate, range_of, within}

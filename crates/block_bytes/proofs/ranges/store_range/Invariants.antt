@@ -1,9 +1,9 @@
 use Rattle.std.proofs.Common.{◌≡◌, ◌≢◌, ◌*◌, ◌/◌, ◌-◌, ◌<◌, ◌≤◌, ℕ, true, length, Some}
-use Rattle.extent_words.specs.Extents.{disk_at}
-use Rattle.pm_words.specs.declared.Cell.TheVariants.{Single}
-use Rattle.pm_words.specs.Cells.{cell, is_lent, fenced, newest}
-use Rattle.pm_words.specs.Images.{words_of}
-use Rattle.pm_words.specs.Powers.{is_on, Steps}
+use Rattle.extent_map.specs.extent_words.Extents.{disk_at}
+use Rattle.pm_lines.specs.pm_words.declared.Cell.TheVariants.{Single}
+use Rattle.pm_lines.specs.pm_words.Cells.{cell, is_lent, fenced, newest}
+use Rattle.pm_lines.specs.pm_words.Images.{words_of}
+use Rattle.pm_lines.specs.pm_words.Powers.{is_on, Steps}
 use Rattle.block_bytes.specs.Overwrites.{word_with}
 use Rattle.block_bytes.specs.Puts.{HoldsEither}
 use Rattle.block_bytes.proofs.ranges.store_range.Given as goal

@@ -1,6 +1,6 @@
 use Rattle.std.proofs.Common.{◌≡◌, ◌∙◌, false, true, length, arith, inl, inr, sym}
-use Rattle.pm_words.specs.Cells.{cell}
-use Rattle.pm_words.specs.Powers.{is_on}
+use Rattle.pm_lines.specs.pm_words.Cells.{cell}
+use Rattle.pm_lines.specs.pm_words.Powers.{is_on}
 use Rattle.block_bytes.proofs.Cells.{either_fenced, fence_done, settled}
 use Rattle.block_bytes.proofs.Overwriting.{beside_none, empty_overwritten, kept_single, none_overwritten, overwritten, overwritten_whole}
 use Rattle.block_bytes.proofs.ranges.write_bytes.Goals as goal

@@ -1,5 +1,5 @@
 use Rattle.std.proofs.Common.{◌≡◌, ◌<◌, ◌+◌, ◌∙◌, List, ap, sym, refl, arith, subst}
-use Rattle.pm_words.specs.declared.Cell.{Cell}
+use Rattle.k_split.specs.pm_words.declared.Cell.{Cell}
 use Rattle.k_split.specs.disk_rules.Volume.{Volume}
 use Rattle.k_split.specs.k_rules.View.{View}
 use Rattle.k_split.specs.Loans.{MayLend}

@@ -1,6 +1,6 @@
 use Rattle.std.proofs.Common.{◌∙◌, ◌++◌, ◌∷◌, [], List, ap, sym, refl}
 use Rattle.std.proofs.lemmas.List.{append_assoc}
-use Rattle.pm_words.specs.Parts.{Part}
+use Rattle.k_split.specs.pm_words.Parts.{Part}
 use Rattle.k_split.specs.k_rules.View.{View}
 use Rattle.block_loans.proofs.SettleLaws.{come_back_more, come_back_none, next_apart, next_out}
 use Rattle.block_loans.proofs.settling.settle_blocks.Goals as goal

@@ -1,7 +1,7 @@
 use Rattle.std.specs.Prelude.{length, List}
 use Rattle.std.proofs.Common.{ap, ◌∙◌}
 use Rattle.std.proofs.lemmas.Result.{IfOk-weaker}
-use Rattle.posix_types.specs.declared.tree.TreeEntry.{TreeEntry}
+use Rattle.posix_puts.specs.posix_types.declared.tree.TreeEntry.{TreeEntry}
 use Rattle.posix_puts.specs.posix_spec.State.{State}
 use Rattle.crash_judge.specs.Parts.{all_toward}
 use Rattle.judge_bytes.specs.Wanted.{numbers_of, wanted}

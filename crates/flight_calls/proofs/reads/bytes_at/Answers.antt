@@ -1,6 +1,6 @@
 use Rattle.std.proofs.Common.{subst, sym, List}
 use Rattle.flight_names.specs.disk_rules.Volume.{extents}
-use Rattle.file_overlay.specs.declared.runs.Run.{Run}
+use Rattle.flight_names.specs.file_overlay.declared.runs.Run.{Run}
 use Rattle.flight_names.specs.file_reads.Reads.{FileCanBeRead}
 use Rattle.flight_names.specs.map_collection.Kept.{Agrees, Answer}
 use Rattle.flight_calls.proofs.reads.bytes_at.Goals as goal

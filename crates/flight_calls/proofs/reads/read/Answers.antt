@@ -5,7 +5,7 @@ use Rattle.flight_names.specs.data_route.Reads.{read_len}
 use Rattle.flight_names.specs.disk_rules.Content.{byte_in}
 use Rattle.flight_names.specs.file_reads.Reads.{block_in}
 use Rattle.flight_names.specs.file_table.Files.{runs_in, size_in}
-use Rattle.pm_words.specs.Images.{words_of}
+use Rattle.flight_names.specs.pm_words.Images.{words_of}
 use Rattle.flight_names.specs.open_files.Found.{description_in}
 use Rattle.posix_types.specs.declared.call.Call.{Call}
 use Rattle.posix_words.specs.Open.{description_number, with_offset}

@@ -4,7 +4,7 @@ use Rattle.disk_lines.specs.declared.Inode.{Inode}
 use Rattle.file_ends.specs.file_table.Files.{size_in}
 use Rattle.posix_types.specs.declared.call.Call.{Call}
 use Rattle.posix_types.specs.declared.reply.Reply.{Reply}
-use Rattle.posix_words.specs.Outcomes.{answer}
+use Rattle.open_files.specs.posix_words.Outcomes.{answer}
 use Rattle.flight_steps.specs.world_promise.TreeRules.{used_below}
 use Rattle.flight_steps.specs.world_rules.Stands.{is_used}
 use Rattle.flight_names.specs.Answers.{IsEnded, stat_by}

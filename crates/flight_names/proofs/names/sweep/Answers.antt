@@ -1,6 +1,6 @@
 use Rattle.std.proofs.Common.{sym, subst, ◌∙◌}
 use Rattle.std.specs.Prelude.{Ok}
-use Rattle.posix_words.specs.Outcomes.{answer}
+use Rattle.open_files.specs.posix_words.Outcomes.{answer}
 use Rattle.flight_names.specs.Answers.{IsEnded}
 use Rattle.flight_names.proofs.Ends.{drop_ends, off_on}
 use Rattle.flight_names.proofs.Halves.{drop_fault, goes_lost, goes_too, stays_open}

@@ -5,7 +5,7 @@ use Rattle.file_ends.specs.disk_rules.Volume.{inode}
 use Rattle.posix_types.specs.declared.call.Call.{Call}
 use Rattle.posix_types.specs.declared.reply.Errno.{Errno}
 use Rattle.posix_types.specs.declared.reply.Reply.{Reply}
-use Rattle.posix_words.specs.Outcomes.{answer}
+use Rattle.open_files.specs.posix_words.Outcomes.{answer}
 use Rattle.open_files.specs.Found.{description_in}
 use Rattle.flight_steps.specs.world_promise.TreeRules.{used_below}
 use Rattle.flight_steps.specs.world_rules.Stands.{is_used}

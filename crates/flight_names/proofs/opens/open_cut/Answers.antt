@@ -4,7 +4,7 @@ use Rattle.flight_steps.specs.world_rules.Stands.{is_used}
 use Rattle.std.specs.Prelude.{Ok, Some}
 use Rattle.file_ends.specs.disk_rules.Live.{is_directory}
 use Rattle.posix_types.specs.declared.call.Call.{Call}
-use Rattle.posix_words.specs.Open.{free_descriptor, with_opened}
+use Rattle.open_files.specs.posix_words.Open.{free_descriptor, with_opened}
 use Rattle.flight_names.specs.Answers.{IsEnded, told_of}
 use Rattle.flight_names.proofs.Ends.{cut_ends, size_fault_ends}
 use Rattle.flight_names.proofs.CutCalls.{cut_ended, cut_fault, has_reserve, live_file}

@@ -1,7 +1,7 @@
 use Rattle.std.proofs.Common.{◌≡◌, sym, subst, ap, ◌∙◌}
 use Rattle.std.specs.Prelude.{Ok, Some, false}
 use Rattle.posix_types.specs.declared.call.Call.{Call}
-use Rattle.posix_words.specs.Open.{free_descriptor, with_opened}
+use Rattle.open_files.specs.posix_words.Open.{free_descriptor, with_opened}
 use Rattle.flight_names.specs.Answers.{IsEnded, told_of}
 use Rattle.flight_steps.specs.k_plans.Making.{IsMade}
 use Rattle.flight_steps.specs.k_split.Names.{make_row}

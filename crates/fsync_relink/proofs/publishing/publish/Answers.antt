@@ -1,6 +1,6 @@
 use Rattle.std.proofs.Common.{◌+◌, ◌*◌, length, refl, sym, ◌∙◌, subst, inl}
-use Rattle.pm_words.specs.Images.{Follows, Follows-same}
-use Rattle.pm_words.specs.Powers.{Steps}
+use Rattle.world_relinks.specs.pm_words.Images.{Follows, Follows-same}
+use Rattle.world_relinks.specs.pm_words.Powers.{Steps}
 use Rattle.fsync_relink.specs.Logged.{HasSameContent}
 use Rattle.fsync_relink.specs.Publishes.{MayPublish}
 use Rattle.fsync_relink.proofs.PublishedLaws.{done-answer, failed-answer, lost-answer}

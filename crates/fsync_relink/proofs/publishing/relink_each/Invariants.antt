@@ -1,5 +1,5 @@
 use Rattle.std.proofs.Common.{◌≡◌, ◌*◌, ◌^◌, drop, true}
-use Rattle.pm_words.specs.Powers.{is_on, Steps}
+use Rattle.world_relinks.specs.pm_words.Powers.{is_on, Steps}
 use Rattle.fsync_relink.proofs.WayLaws.{IsOnTheWay}
 use Rattle.fsync_relink.proofs.publishing.relink_each.Given as goal
 

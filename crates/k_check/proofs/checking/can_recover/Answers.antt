@@ -1,7 +1,7 @@
 use Rattle.std.proofs.Common.{sym, ◌∙◌, subst, List, All}
 use Rattle.std.specs.Prelude.{Option}
 use Rattle.std.proofs.lemmas.Bool.{both_ways}
-use Rattle.disk_lines.specs.declared.Draft.{Draft}
+use Rattle.oplog_entry.specs.disk_lines.declared.Draft.{Draft}
 use Rattle.volume_check.specs.disk_rules.Rules.{HasStagingBlocks}
 use Rattle.k_check.specs.Rooms.{HasRoom}
 use Rattle.k_check.specs.Slots.{AreGoodSlots}

@@ -1,12 +1,12 @@
 use Rattle.std.proofs.Common.{◌≡◌, ◌*◌, ap, sym, ◌∙◌, subst, List, length}
 use Rattle.std.specs.Prelude.{Option, filter}
 use Rattle.std.proofs.lemmas.Bool.{both_ways}
-use Rattle.disk_lines.specs.declared.Draft.{Draft}
-use Rattle.disk_places.specs.Journal.{journaled}
+use Rattle.oplog_entry.specs.disk_lines.declared.Draft.{Draft}
+use Rattle.oplog_entry.specs.disk_places.Journal.{journaled}
 use Rattle.volume_check.specs.disk_rules.Broken.{HoldAll, Holds, FailsFirst, Breaks, BreaksFirst}
 use Rattle.volume_check.specs.disk_rules.Checked.{HasHead}
 use Rattle.volume_check.specs.disk_rules.Live.{is_live}
-use Rattle.pm_words.specs.Images.{words_of}
+use Rattle.oplog_entry.specs.pm_words.Images.{words_of}
 use Rattle.volume_check.specs.Readings.{AreTables, front_rules}
 use Rattle.k_check.specs.Slots.{slots_at, AreDrafts, later_rule}
 use Rattle.k_check.proofs.CheckFacts.{volume_of, geometry-read, size-read, base-read, breaks-front, breaks-recovery, breaks-later, all-kept}

@@ -1,5 +1,5 @@
 use Rattle.std.proofs.Common.{◌+◌, ◌-◌, ◌*◌, ◌%◌, take, drop, List, ℕ, ap, ◌∙◌, refl, arith}
-use Rattle.pm_words.specs.Words.{word_at}
+use Rattle.oplog_entry.specs.pm_words.Words.{word_at}
 use Rattle.volume_check.specs.volume_facts.LineWords.{with_line-in, with_line-out}
 use Rattle.volume_check.proofs.k_reading_proofs.LineWords.{words-put}
 use Rattle.k_check.proofs.CrashFacts.{part-words}

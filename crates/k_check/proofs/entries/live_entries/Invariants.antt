@@ -1,7 +1,7 @@
 use Rattle.std.proofs.Common.{◌≡◌, take}
 use Rattle.std.specs.Prelude.{filter, Option}
 use Rattle.std.specs.List.{filter_map}
-use Rattle.disk_lines.specs.declared.Draft.{Draft}
+use Rattle.oplog_entry.specs.disk_lines.declared.Draft.{Draft}
 use Rattle.volume_check.specs.disk_rules.Live.{is_live}
 use Rattle.volume_check.specs.disk_rules.Volume.{Volume}
 use Rattle.k_check.proofs.entries.live_entries.Given as goal

@@ -1,11 +1,11 @@
 use Rattle.std.proofs.Common.{◌≡◌, ◌*◌, length, List, sym, ◌∙◌, ap}
 use Rattle.std.specs.Prelude.{filter, Option}
-use Rattle.disk_lines.specs.declared.Draft.{Draft}
-use Rattle.disk_places.specs.Journal.{journaled}
+use Rattle.oplog_entry.specs.disk_lines.declared.Draft.{Draft}
+use Rattle.oplog_entry.specs.disk_places.Journal.{journaled}
 use Rattle.volume_check.specs.disk_rules.Broken.{BreaksFirst}
 use Rattle.volume_check.specs.disk_rules.Checked.{HasHead}
 use Rattle.volume_check.specs.disk_rules.Live.{is_live, live_entries}
-use Rattle.pm_words.specs.Images.{words_of}
+use Rattle.oplog_entry.specs.pm_words.Images.{words_of}
 use Rattle.volume_check.specs.Readings.{AreTables, front_rules}
 use Rattle.k_check.specs.Slots.{slots_at}
 use Rattle.k_check.proofs.CheckFacts.{base-read, read-whole, size-read, volume_of}

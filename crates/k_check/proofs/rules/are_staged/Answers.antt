@@ -2,7 +2,7 @@ use Rattle.std.proofs.Common.{arith, subst, get_or, length, ◌<◌}
 use Rattle.std.proofs.lemmas.Bool.{both_ways}
 use Rattle.std.proofs.lemmas.List.{get_or_default}
 use borrow.Author.Count.{below_more}
-use Rattle.disk_lines.specs.declared.Draft.{Draft}
+use Rattle.oplog_entry.specs.disk_lines.declared.Draft.{Draft}
 use Rattle.volume_check.specs.disk_rules.Rules.{HasStagingBlocks}
 use Rattle.k_check.proofs.rules.are_staged.Goals as goal
 

@@ -1,5 +1,5 @@
 use Rattle.std.proofs.Common.{◌≡◌, ℕ, ◌<◌, get_or}
-use Rattle.disk_lines.specs.declared.Draft.{Draft}
+use Rattle.oplog_entry.specs.disk_lines.declared.Draft.{Draft}
 use Rattle.volume_check.specs.disk_rules.Rules.{HasStagingBlocks}
 use Rattle.volume_check.specs.disk_rules.Volume.{Volume}
 use Rattle.k_check.proofs.rules.are_staged.Given as goal

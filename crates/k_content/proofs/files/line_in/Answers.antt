@@ -1,5 +1,5 @@
 use Rattle.std.proofs.Common.{◌≡◌, ◌+◌, ◌*◌, ◌∙◌, ap, sym, arith}
-use Rattle.pm_words.specs.Images.{words_of}
+use Rattle.pm_lines.specs.pm_words.Images.{words_of}
 use Rattle.k_content.specs.Files.{line_in}
 use Rattle.k_content.proofs.FileBytes.{line_in-block}
 use Rattle.k_content.proofs.files.line_in.Goals as goal

@@ -1,5 +1,5 @@
 use Rattle.std.proofs.Common.{ap, ◌∙◌, ◌++◌, ◌*◌, ◌%◌, take}
-use Rattle.pm_words.specs.Images.{words_of}
+use Rattle.pm_lines.specs.pm_words.Images.{words_of}
 use Rattle.k_content.specs.Files.{first_bytes, line_in}
 use Rattle.k_content.proofs.FileBytes.{first_bytes-line}
 use Rattle.k_content.proofs.files.push_line.Goals as goal

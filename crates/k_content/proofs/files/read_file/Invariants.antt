@@ -1,5 +1,5 @@
 use Rattle.std.proofs.Common.{◌≡◌, ◌*◌}
-use Rattle.pm_words.specs.Images.{words_of}
+use Rattle.pm_lines.specs.pm_words.Images.{words_of}
 use Rattle.k_content.specs.Files.{first_bytes}
 use Rattle.k_content.proofs.files.read_file.Given as goal
 

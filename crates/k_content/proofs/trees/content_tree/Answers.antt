@@ -1,6 +1,6 @@
 use Rattle.std.proofs.Common.{◌<◌, length, get_or, map, ◌∙◌, ap, subst}
 use Rattle.std.proofs.lemmas.List.{take_all}
-use Rattle.pm_words.specs.Images.{words_of}
+use Rattle.pm_lines.specs.pm_words.Images.{words_of}
 use Rattle.k_content.specs.Trees.{entry_in}
 use Rattle.k_content.proofs.Listing.{place-within, tree-listed}
 use Rattle.k_content.proofs.trees.content_tree.Goals as goal

@@ -1,5 +1,5 @@
 use Rattle.std.proofs.Common.{◌≡◌, take, map}
-use Rattle.pm_words.specs.Images.{words_of}
+use Rattle.pm_lines.specs.pm_words.Images.{words_of}
 use Rattle.k_content.specs.Trees.{entry_in}
 use Rattle.k_content.proofs.trees.content_tree.Given as goal
 

@@ -1,13 +1,13 @@
 use Rattle.std.proofs.Common.{◌≡◌, true, refl, sym, ◌∙◌, ap, arith, rules}
 use Rattle.std.proofs.lemmas.Grind.{common_steps}
-use Rattle.disk_places.specs.Journal.{record_target, record_word}
+use Rattle.image_layout.specs.disk_places.Journal.{record_target, record_word}
 use Rattle.k_journal.specs.Patches.{patched-none}
-use Rattle.pm_words.specs.declared.Cell.TheVariants.{Single}
-use Rattle.pm_words.specs.CellLaws.{single-newest}
-use Rattle.pm_words.specs.Cells.{cell}
-use Rattle.pm_words.specs.Images.{words_of}
-use Rattle.pm_words.specs.PowerLaws.{Steps-none}
-use Rattle.pm_words.specs.Powers.{is_on}
+use Rattle.pm_lines.specs.pm_words.declared.Cell.TheVariants.{Single}
+use Rattle.pm_lines.specs.pm_words.CellLaws.{single-newest}
+use Rattle.pm_lines.specs.pm_words.Cells.{cell}
+use Rattle.pm_lines.specs.pm_words.Images.{words_of}
+use Rattle.pm_lines.specs.pm_words.PowerLaws.{Steps-none}
+use Rattle.pm_lines.specs.pm_words.Powers.{is_on}
 use Rattle.k_journal.specs.Recoveries.{AreApart}
 use Rattle.k_journal.proofs.Replays.{IsReplayed, record_target-kept, replayed-more}
 use Rattle.k_journal.proofs.recoveries.replay.Goals as goal

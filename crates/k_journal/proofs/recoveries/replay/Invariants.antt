@@ -1,9 +1,9 @@
 use Rattle.std.proofs.Common.{◌≡◌, ◌≢◌, ◌*◌, ◌/◌, ◌<◌, ℕ, true, length}
-use Rattle.disk_places.specs.Journal.{patched, record_target, record_word}
-use Rattle.pm_words.specs.declared.Cell.TheVariants.{Single}
-use Rattle.pm_words.specs.Cells.{cell, is_lent}
-use Rattle.pm_words.specs.Images.{words_of}
-use Rattle.pm_words.specs.Powers.{is_on, Steps}
+use Rattle.image_layout.specs.disk_places.Journal.{patched, record_target, record_word}
+use Rattle.pm_lines.specs.pm_words.declared.Cell.TheVariants.{Single}
+use Rattle.pm_lines.specs.pm_words.Cells.{cell, is_lent}
+use Rattle.pm_lines.specs.pm_words.Images.{words_of}
+use Rattle.pm_lines.specs.pm_words.Powers.{is_on, Steps}
 use Rattle.k_journal.proofs.recoveries.replay.Given as goal
 
 -- the words after the records before `index`, as long as there is power

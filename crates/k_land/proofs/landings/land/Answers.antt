@@ -1,6 +1,6 @@
 -- a commit of a plan without new maps
 use Rattle.std.proofs.Common.{[]}
-use Rattle.pm_words.specs.Images.{Follows-weaken}
+use Rattle.k_inodes.specs.pm_words.Images.{Follows-weaken}
 use Rattle.k_journal.specs.Commits.{IsBeforeOrAfter}
 use Rattle.k_land.specs.Landings.{SameElsewhere}
 use Rattle.k_land.specs.LandingLaws.{each_image-committed, stands-committed, has-none, single-none}

@@ -1,6 +1,6 @@
 -- the write of the maps, and then a commit
 use Rattle.std.proofs.Common.{◌≡◌, true}
-use Rattle.pm_words.specs.Powers.{is_on}
+use Rattle.k_inodes.specs.pm_words.Powers.{is_on}
 use Rattle.k_land.specs.WrittenLaws.{outside-each, may-commit-written, each_image-landed, stands-landed, same_elsewhere, settles_elsewhere, took-later, unused-apart}
 use Rattle.k_land.proofs.maps.land_maps.Goals as goal
 

@@ -1,9 +1,9 @@
 -- one name line of zeros
 use Rattle.std.proofs.Common.{length, ◌<◌, ◌≡◌, true, None, refl, sym, subst}
-use Rattle.disk_lines.specs.Lines.{FreeName, decode_name}
-use Rattle.disk_places.specs.Fields.{zeros}
-use Rattle.disk_places.specs.PlaceLaws.{journaled-name}
-use Rattle.disk_places.specs.Places.{is_journaled_line}
+use Rattle.k_inodes.specs.disk_lines.Lines.{FreeName, decode_name}
+use Rattle.k_inodes.specs.disk_places.Fields.{zeros}
+use Rattle.k_inodes.specs.disk_places.PlaceLaws.{journaled-name}
+use Rattle.k_inodes.specs.disk_places.Places.{is_journaled_line}
 use Rattle.k_land.specs.PlanLaws.{SetsOneMore, length-with_line_set, turns-row}
 use Rattle.k_land.proofs.plans.clear_name.Goals as goal
 

@@ -1,7 +1,7 @@
 -- the line of the log base
 use Rattle.std.proofs.Common.{length, ◌≡◌, ◌^◌, ◌<◌, true, arith, sym, subst}
-use Rattle.disk_places.specs.PlaceLaws.{journaled-state}
-use Rattle.disk_places.specs.Places.{state_line, is_journaled_line}
+use Rattle.k_inodes.specs.disk_places.PlaceLaws.{journaled-state}
+use Rattle.k_inodes.specs.disk_places.Places.{state_line, is_journaled_line}
 use Rattle.k_land.specs.PlanLaws.{SetsOneMore, length-with_line_set, turns-base}
 use Rattle.k_land.proofs.plans.put_base.Goals as goal
 

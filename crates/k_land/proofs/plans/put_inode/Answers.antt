@@ -1,7 +1,7 @@
 -- one more inode line
 use Rattle.std.proofs.Common.{length, ◌<◌, ◌≡◌, true, refl, sym, subst}
-use Rattle.disk_places.specs.PlaceLaws.{journaled-inode}
-use Rattle.disk_places.specs.Places.{is_journaled_line}
+use Rattle.k_inodes.specs.disk_places.PlaceLaws.{journaled-inode}
+use Rattle.k_inodes.specs.disk_places.Places.{is_journaled_line}
 use Rattle.k_rules.specs.disk_rules.Volume.{chain, extents}
 use Rattle.volume_uses.specs.volume_facts.Changes.{inode_set-same}
 use Rattle.k_land.specs.Plans.{Turns}

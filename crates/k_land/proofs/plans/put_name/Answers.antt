@@ -1,7 +1,7 @@
 -- one more name line
 use Rattle.std.proofs.Common.{length, ◌<◌, ◌≡◌, true, Some, sym, subst}
-use Rattle.disk_places.specs.PlaceLaws.{journaled-name}
-use Rattle.disk_places.specs.Places.{is_journaled_line}
+use Rattle.k_inodes.specs.disk_places.PlaceLaws.{journaled-name}
+use Rattle.k_inodes.specs.disk_places.Places.{is_journaled_line}
 use Rattle.k_land.specs.PlanLaws.{SetsOneMore, length-with_line_set, turns-row}
 use Rattle.k_land.proofs.plans.put_name.Goals as goal
 

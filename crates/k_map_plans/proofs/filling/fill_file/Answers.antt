@@ -2,7 +2,7 @@ use Rattle.std.proofs.Common.{◌≡◌, ◌+◌, ◌<◌, ◌≤◌, ◌∙◌,
 use Rattle.std.specs.Prelude.{slice_index_or}
 use Rattle.disk_lines.specs.declared.Inode.{Inode}
 use Rattle.k_plans.specs.disk_rules.Volume.{extents, free_inode}
-use Rattle.extent_words.specs.declared.Extent.{Extent}
+use Rattle.k_relink.specs.extent_words.declared.Extent.{Extent}
 use Rattle.k_plans.specs.Switching.{IsSetAside}
 use Rattle.k_plans.specs.map_rules.Changes.{Fills, holes}
 use Rattle.k_plans.specs.volume_uses.Uses.{in_chain, in_map}

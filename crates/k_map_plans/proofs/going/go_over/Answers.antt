@@ -2,8 +2,8 @@ use Rattle.std.proofs.Common.{◌≡◌, ◌∙◌, ◌+◌, ◌∷◌, [], ℕ,
 use Rattle.block_counts.specs.Counts.{chains_for}
 use Rattle.k_plans.specs.disk_rules.Chains.{first_or_zero}
 use Rattle.k_plans.specs.disk_rules.Volume.{Volume, chain}
-use Rattle.extent_words.specs.Extents.{IsCanonical}
-use Rattle.extent_words.specs.declared.Extent.{Extent}
+use Rattle.k_relink.specs.extent_words.Extents.{IsCanonical}
+use Rattle.k_relink.specs.extent_words.declared.Extent.{Extent}
 use Rattle.k_plans.specs.k_land.PlanLaws.{turns-none}
 use Rattle.k_plans.specs.k_journal.declared.batches.Entry.{Entry}
 use Rattle.k_plans.specs.k_land.Plans.{NewChain, Turns}

@@ -2,9 +2,9 @@ use Rattle.std.proofs.Common.{ap, arith}
 use Rattle.std.proofs.lemmas.List.{take_all}
 use Rattle.std.proofs.lemmas.List.Sums.{sum_by_more}
 use Rattle.k_plans.specs.disk_rules.Placed.{no_extent}
-use Rattle.extent_facts.specs.Counts.{one_if}
-use Rattle.extent_words.specs.declared.Extent.{Extent}
-use Rattle.extent_words.specs.Extents.{holds_disk}
+use Rattle.k_relink.specs.extent_facts.Counts.{one_if}
+use Rattle.k_relink.specs.extent_words.declared.Extent.{Extent}
+use Rattle.k_relink.specs.extent_words.Extents.{holds_disk}
 use Rattle.k_plans.specs.volume_uses.Uses.{in_map}
 use Rattle.k_map_plans.proofs.lists.push_extents.Goals as goal
 

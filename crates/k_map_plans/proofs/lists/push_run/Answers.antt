@@ -2,8 +2,8 @@ use Rattle.std.proofs.Common.{◌≡◌, ◌+◌, ◌≤◌, ℕ, true, false, a
 use Rattle.std.specs.Prelude.{◌==◌}
 use Rattle.std.proofs.lemmas.Bool.{cases_eq}
 use Rattle.std.proofs.lemmas.Bool.Decides.{nat_tests}
-use Rattle.extent_facts.specs.Counts.{one_if}
-use Rattle.extent_words.specs.Extents.{is_between}
+use Rattle.k_relink.specs.extent_facts.Counts.{one_if}
+use Rattle.k_relink.specs.extent_words.Extents.{is_between}
 use Rattle.k_plans.specs.volume_maps.Hits.{in_chain-push}
 use Rattle.k_plans.specs.volume_uses.Uses.{in_chain}
 use Rattle.k_map_plans.proofs.lists.push_run.Goals as goal

@@ -1,6 +1,6 @@
 use Rattle.std.proofs.Common.{◌≡◌, ◌+◌, ℕ}
-use Rattle.extent_facts.specs.Counts.{one_if}
-use Rattle.extent_words.specs.Extents.{is_between}
+use Rattle.k_relink.specs.extent_facts.Counts.{one_if}
+use Rattle.k_relink.specs.extent_words.Extents.{is_between}
 use Rattle.k_plans.specs.volume_uses.Uses.{in_chain}
 use Rattle.k_map_plans.proofs.lists.push_run.Given as goal
 

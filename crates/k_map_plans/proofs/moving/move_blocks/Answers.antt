@@ -1,7 +1,7 @@
 use Rattle.std.proofs.Common.{◌≡◌, ◌∙◌, Err, List, None, ap, subst}
 use Rattle.k_plans.specs.disk_rules.Volume.{extents}
-use Rattle.extent_words.specs.Extents.{disk_at}
-use Rattle.extent_words.specs.declared.Extent.{Extent}
+use Rattle.k_relink.specs.extent_words.Extents.{disk_at}
+use Rattle.k_relink.specs.extent_words.declared.Extent.{Extent}
 use Rattle.k_map_plans.proofs.Moves.{no_hole, source-fits}
 use Rattle.k_map_plans.proofs.moving.move_blocks.Goals as goal
 

@@ -2,8 +2,8 @@ use Rattle.std.proofs.Common.{◌≡◌, ◌∙◌, ◌+◌, ◌++◌, ◌∷◌
 use Rattle.block_counts.specs.Counts.{chains_for}
 use Rattle.k_plans.specs.disk_rules.Chains.{first_or_zero}
 use Rattle.k_plans.specs.disk_rules.Volume.{Volume, chain, extents}
-use Rattle.extent_words.specs.Moves.{Moves}
-use Rattle.extent_words.specs.declared.Extent.{Extent}
+use Rattle.k_relink.specs.extent_words.Moves.{Moves}
+use Rattle.k_relink.specs.extent_words.declared.Extent.{Extent}
 use Rattle.k_plans.specs.k_land.PlanLaws.{turns-none}
 use Rattle.k_plans.specs.k_land.Plans.{NewChain, Turns}
 use Rattle.k_plans.specs.k_land.Plans.IsMapFrom.{NewMap}

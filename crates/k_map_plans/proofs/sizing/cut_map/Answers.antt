@@ -3,8 +3,8 @@ use Rattle.std.specs.Prelude.{nat_le, nat_lt, slice_index_or}
 use Rattle.block_counts.specs.Counts.{blocks_for}
 use Rattle.disk_lines.specs.declared.Inode.{Inode}
 use Rattle.k_plans.specs.disk_rules.Volume.{extents, free_inode}
-use Rattle.extent_words.specs.declared.Extent.{Extent}
-use Rattle.extent_words.specs.Maps.{IsPart}
+use Rattle.k_relink.specs.extent_words.declared.Extent.{Extent}
+use Rattle.k_relink.specs.extent_words.Maps.{IsPart}
 use Rattle.k_plans.specs.map_rules.Changes.{with_size}
 use Rattle.k_map_plans.specs.Going.{MayGoOver}
 use Rattle.k_map_plans.proofs.Sizes.{size-may}

@@ -2,7 +2,7 @@ use Rattle.std.proofs.Common.{◌≡◌, ◌∙◌, [], List, subst, sym}
 use Rattle.std.specs.Prelude.{slice_index_or}
 use Rattle.disk_lines.specs.declared.Inode.{Inode}
 use Rattle.k_plans.specs.disk_rules.Volume.{extents, free_inode}
-use Rattle.extent_words.specs.declared.Extent.{Extent}
+use Rattle.k_relink.specs.extent_words.declared.Extent.{Extent}
 use Rattle.std.specs.Prelude.{IfOk}
 use Rattle.k_map_plans.specs.Going.{HasGoneOver, MayGoOver}
 use Rattle.k_map_plans.proofs.Stagings.{give_up-may, given-ok}

@@ -1,5 +1,5 @@
 use Rattle.std.proofs.Common.{◌≡◌, ℕ, take}
-use Rattle.extent_words.specs.Extents.{disk_at, IsCanonical}
+use Rattle.k_relink.specs.extent_words.Extents.{disk_at, IsCanonical}
 use Rattle.k_plans.specs.map_rules.Changes.{in_order}
 use Rattle.k_map_plans.proofs.staging.map_in_order.Given as goal
 

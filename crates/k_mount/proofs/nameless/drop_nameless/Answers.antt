@@ -1,5 +1,5 @@
 use Rattle.std.proofs.Common.{◌≡◌, ◌+◌, ◌∙◌, ap, sym, arith}
-use Rattle.disk_places.specs.Places.{Geometry}
+use Rattle.world_images.specs.disk_places.Places.{Geometry}
 use Rattle.k_mount.proofs.Devices.{device-none, device-then}
 use Rattle.k_mount.proofs.DropImages.{images-shed, images-way}
 use Rattle.k_mount.proofs.Dropping.{all_gone, all_steps, begun, first_steps, more_steps, next_shed}

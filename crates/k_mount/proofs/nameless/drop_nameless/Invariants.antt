@@ -1,5 +1,5 @@
 use Rattle.std.proofs.Common.{◌≡◌, ◌*◌, true}
-use Rattle.pm_words.specs.Powers.{is_on, Steps}
+use Rattle.world_images.specs.pm_words.Powers.{is_on, Steps}
 use Rattle.k_mount.proofs.Dropping.{HasShed}
 use Rattle.k_mount.specs.Sheds.{IsSameDevice}
 use Rattle.k_mount.proofs.nameless.drop_nameless.Given as goal

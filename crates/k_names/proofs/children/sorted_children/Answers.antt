@@ -3,7 +3,7 @@ use Rattle.std.proofs.Common.{arith, rules, is_lt, ap, cond}
 use Rattle.std.proofs.lemmas.Cmp.{nat_list_cmp_total}
 use Rattle.std.proofs.lemmas.List.Sorted.{ranks_by, answers_always, sum_by-IsPermutation}
 use Rattle.std.specs.Prelude.{count_by}
-use Rattle.disk_places.specs.Fields.{is_same}
+use Rattle.disk_lines.specs.disk_places.Fields.{is_same}
 use Rattle.disk_lines.specs.TableLaws.{names_below-once}
 use Rattle.std.specs.Cmp.Lexicographic.{slice_cmp}
 use Rattle.std.specs.Ordering.{nat_cmp}

@@ -1,5 +1,5 @@
 use Rattle.k_plans.specs.Giving.{AreGiven}
-use Rattle.extent_words.specs.Extents.{is_between}
+use Rattle.k_tables.specs.extent_words.Extents.{is_between}
 use Rattle.k_plans.proofs.giving.give_run.Given as goal
 
 abbrev pub invariant-loop-block : goal.invariant-loop-block

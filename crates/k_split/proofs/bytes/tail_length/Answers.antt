@@ -1,6 +1,6 @@
 use Rattle.std.proofs.Common.{◌≡◌, ◌/◌, ◌∙◌, None, Some, arith, inl, inr, sym}
 use Rattle.std.proofs.lemmas.Bool.{cases_lt}
-use Rattle.extent_facts.specs.Facts.{disk_at-past}
+use Rattle.lines_out.specs.extent_facts.Facts.{disk_at-past}
 use Rattle.k_split.proofs.bytes.tail_length.Goals as goal
 
 pub returns-in-Some-clause-short : goal.returns-in-Some-clause-short

@@ -1,5 +1,5 @@
 use Rattle.std.proofs.Common.{◌≡◌, ◌∷◌, ◌+◌, ◌*◌, ◌∙◌, [], true, List, length, subst, sym}
-use Rattle.pm_words.specs.Powers.{is_on}
+use Rattle.lines_out.specs.pm_words.Powers.{is_on}
 use Rattle.k_log_plans.specs.k_land.Plans.{NewChain, blocks_of}
 use Rattle.k_split.proofs.FillLands.{fill-landed, fill-lost, zero-planned}
 use Rattle.k_split.specs.MapChanges.{IsMapLanded, IsMapPlanned}

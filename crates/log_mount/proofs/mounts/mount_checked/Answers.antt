@@ -1,8 +1,8 @@
 use Rattle.std.proofs.Common.{subst, sym, ◌∙◌}
-use Rattle.disk_places.specs.Journal.{journaled}
+use Rattle.k_check.specs.disk_places.Journal.{journaled}
 use Rattle.k_check.specs.disk_rules.Live.{live_entries}
 use Rattle.k_check.specs.disk_rules.Volume.{volume}
-use Rattle.pm_words.specs.Images.{words_of}
+use Rattle.k_check.specs.pm_words.Images.{words_of}
 use Rattle.log_replay.specs.Orders.{AreInOrder}
 use Rattle.log_mount.proofs.Mounting.{answer-recovered, order-recovered, too}
 use Rattle.log_mount.proofs.Spending.{spent-none, spent-then}

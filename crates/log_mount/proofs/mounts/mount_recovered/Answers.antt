@@ -1,9 +1,9 @@
 use Rattle.std.proofs.Common.{false, subst, sym, true, ◌≡◌}
-use Rattle.disk_places.specs.Journal.{journaled}
+use Rattle.k_check.specs.disk_places.Journal.{journaled}
 use Rattle.k_check.specs.disk_rules.Volume.{volume}
 use Rattle.staging_files.specs.k_split.Order.{IsOpened}
-use Rattle.pm_words.specs.Images.{words_of}
-use Rattle.pm_words.specs.Powers.{is_on}
+use Rattle.k_check.specs.pm_words.Images.{words_of}
+use Rattle.k_check.specs.pm_words.Powers.{is_on}
 use Rattle.log_mount.proofs.Mounting.{left-open, may-replay, mounted-open}
 use Rattle.log_mount.specs.Mounts.{IsLeft, IsMounted}
 use Rattle.log_mount.proofs.mounts.mount_recovered.Goals as goal

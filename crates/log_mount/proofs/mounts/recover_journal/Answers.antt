@@ -1,5 +1,5 @@
 use Rattle.std.proofs.Common.{◌∙◌}
-use Rattle.pm_words.specs.Images.{words_of}
+use Rattle.k_check.specs.pm_words.Images.{words_of}
 use Rattle.log_mount.proofs.Mounting.{sound-journal}
 use Rattle.log_mount.proofs.Spending.{spent-steps}
 use Rattle.log_mount.proofs.Showing.{left-viewed}

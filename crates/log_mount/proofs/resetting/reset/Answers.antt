@@ -1,6 +1,6 @@
 use Rattle.std.proofs.Common.{◌≡◌, ◌∙◌, ap, arith, sym, true}
-use Rattle.disk_places.specs.Places.{Geometry}
-use Rattle.pm_words.specs.Powers.{is_on}
+use Rattle.k_check.specs.disk_places.Places.{Geometry}
+use Rattle.k_check.specs.pm_words.Powers.{is_on}
 use Rattle.log_replay.proofs.k_mount_proofs.Devices.{device-none, device-then}
 use Rattle.log_mount.proofs.Keeping.{images-own, shows-first}
 use Rattle.log_mount.proofs.Spending.{spent-none, spent-then}

@@ -1,5 +1,5 @@
 use Rattle.std.proofs.Common.{◌≡◌, true}
-use Rattle.pm_words.specs.Powers.{is_on}
+use Rattle.k_check.specs.pm_words.Powers.{is_on}
 use Rattle.log_replay.specs.k_mount.Sheds.{IsSameDevice}
 use Rattle.log_mount.proofs.Resets.{IsOnTheWay}
 use Rattle.log_mount.specs.Quiet.{IsSpent}

@@ -1,6 +1,6 @@
 use Rattle.std.proofs.Common.{◌+◌, ◌<◌, length, drop, ◌∷◌, Ok, Err, refl, sym, ◌∙◌, subst, arith}
 use Rattle.std.proofs.lemmas.Bool.{both_ways}
-use Rattle.pm_words.specs.PowerLaws.{Steps-none}
+use Rattle.replay_facts.specs.pm_words.PowerLaws.{Steps-none}
 use Rattle.k_mount.specs.k_map_plans.Plans.{MayMove}
 use Rattle.k_mount.proofs.Devices.{device-mapped, device-none, device-then}
 use Rattle.k_mount.specs.k_split.MapChanges.{IsMovedWith, IsRelinkAnswer}

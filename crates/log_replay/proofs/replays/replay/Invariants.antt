@@ -1,5 +1,5 @@
 use Rattle.std.proofs.Common.{◌≡◌, ◌*◌, ◌^◌, drop, true}
-use Rattle.pm_words.specs.Powers.{is_on, Steps}
+use Rattle.replay_facts.specs.pm_words.Powers.{is_on, Steps}
 use Rattle.k_mount.specs.Sheds.{IsSameDevice}
 use Rattle.log_replay.proofs.Steps.{IsOnTheWay}
 use Rattle.log_replay.proofs.replays.replay.Given as goal

@@ -1,6 +1,6 @@
 use Rattle.std.proofs.Common.{length, arith, rules}
-use Rattle.extent_facts.specs.Counts.{length-le}
-use Rattle.pm_words.specs.Images.{words_of}
+use Rattle.extent_map.specs.extent_facts.Counts.{length-le}
+use Rattle.pm_lines.specs.pm_words.Images.{words_of}
 use Rattle.chain_facts.specs.ChainLaws.{chain-map, chain-distinct, has_one_chain}
 use Rattle.disk_rules.specs.Standing.{IsChain}
 use Rattle.map_chain.proofs.reading.read.Goals as goal

@@ -1,6 +1,6 @@
 use Rattle.std.proofs.Common.{◌≡◌, true, refl, arith, rules}
-use Rattle.pm_words.specs.Images.{Follows-same}
-use Rattle.pm_words.specs.Powers.{is_on}
+use Rattle.pm_lines.specs.pm_words.Images.{Follows-same}
+use Rattle.pm_lines.specs.pm_words.Powers.{is_on}
 use Rattle.disk_rules.specs.Standing.{FitHalves}
 use Rattle.map_chain.specs.Writes.{MayWrite, SameOutside}
 use Rattle.map_chain.proofs.Frames.{follows, keeps, written}

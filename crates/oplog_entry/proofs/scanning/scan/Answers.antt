@@ -1,9 +1,9 @@
 -- The line of a slot is decoded with that slot's number.
 use Rattle.std.proofs.Common.{◌≡◌, ◌∙◌, ◌+◌, ◌∷◌, ◌++◌, [], List, ℕ, sym, ap}
 use Rattle.std.proofs.lemmas.List.{get_or_read}
-use Rattle.pm_words.specs.Images.{words_of}
-use Rattle.pm_words.specs.Parts.{Part}
-use Rattle.pm_words.specs.Words.{line_bytes}
+use Rattle.pm_lines.specs.pm_words.Images.{words_of}
+use Rattle.pm_lines.specs.pm_words.Parts.{Part}
+use Rattle.pm_lines.specs.pm_words.Words.{line_bytes}
 use Rattle.disk_lines.specs.declared.Draft.{Draft}
 use Rattle.disk_lines.specs.Entries.{decode_entry}
 use Rattle.oplog_entry.specs.Scans.{bytes_in}

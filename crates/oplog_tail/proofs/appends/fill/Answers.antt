@@ -2,7 +2,7 @@
 use Rattle.std.proofs.Common.{◌≡◌, ◌∙◌, ◌+◌, ◌%◌, ◌^◌, ◌≤◌, ◌∷◌, [], ℕ, cond, ap, sym, subst, arith}
 use mathlib.Core.Option.{none}
 use Rattle.atomic_table.specs.Table.{Allows, Me, step}
-use Rattle.pm_words.specs.Parts.{Part}
+use Rattle.disk_rules.specs.pm_words.Parts.{Part}
 use Rattle.oplog_tail.specs.EntryLines.{Holds}
 use Rattle.oplog_tail.specs.Rule.{Kept}
 use Rattle.oplog_tail.specs.Steps.{mark_of, marked}

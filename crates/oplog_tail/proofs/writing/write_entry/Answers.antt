@@ -1,9 +1,9 @@
 -- One word more is stored; and once the eight words stand, the line is flushed and fenced.
 use Rattle.std.proofs.Common.{◌≡◌, ◌∙◌, arith, subst, sym, ℕ, List, cond, Bool}
-use Rattle.pm_words.specs.Bytes.{word_at-bytes}
-use Rattle.pm_words.specs.Powers.{is_on}
-use Rattle.pm_words.specs.PowerLaws.{Steps-then}
-use Rattle.pm_words.specs.Words.{word_at}
+use Rattle.disk_rules.specs.pm_words.Bytes.{word_at-bytes}
+use Rattle.disk_rules.specs.pm_words.Powers.{is_on}
+use Rattle.disk_rules.specs.pm_words.PowerLaws.{Steps-then}
+use Rattle.disk_rules.specs.pm_words.Words.{word_at}
 use Rattle.oplog_tail.specs.EntryLines.{Holds, entry_words}
 use Rattle.oplog_tail.specs.declared.views.Mark.TheVariants.{Lost, Written}
 use Rattle.oplog_tail.proofs.EntryWords.{finishes, IsStoring, stores_more}

@@ -1,6 +1,6 @@
 use Rattle.std.proofs.Common.{◌≡◌}
-use Rattle.pm_words.specs.Powers.{is_on, Steps}
-use Rattle.pm_words.specs.Words.{word_at}
+use Rattle.disk_rules.specs.pm_words.Powers.{is_on, Steps}
+use Rattle.disk_rules.specs.pm_words.Words.{word_at}
 use Rattle.oplog_tail.proofs.EntryWords.{IsStoring}
 use Rattle.oplog_tail.proofs.writing.write_entry.Given as goal
 

@@ -1,6 +1,6 @@
 use Rattle.std.proofs.Common.{◌≡◌, ◌+◌, length, sym, ◌∙◌, ap, subst, arith}
 use Rattle.std.proofs.lemmas.List.{with_items_is}
-use Rattle.disk_places.specs.Places.{first_data}
+use Rattle.k_journal.specs.disk_places.Places.{first_data}
 use Rattle.volume_check.specs.Marks.{AreMarks, uses_in}
 use Rattle.volume_check.proofs.MarkFacts.{marks-none, marks-agree}
 use Rattle.volume_check.proofs.blocks.count_uses.Goals as goal

@@ -1,6 +1,6 @@
 use Rattle.std.proofs.Common.{ℕ, ◌+◌, take}
 use Rattle.std.specs.List.{count_by}
-use Rattle.extent_words.specs.Extents.{holds_disk}
+use Rattle.k_reading.specs.extent_words.Extents.{holds_disk}
 use Rattle.volume_check.specs.Marks.{AreMarks}
 use Rattle.volume_check.proofs.blocks.mark_extents.Given as goal
 

@@ -1,6 +1,6 @@
 use Rattle.std.proofs.Common.{ℕ, ◌+◌, ◌-◌}
-use Rattle.extent_facts.specs.Counts.{one_if}
-use Rattle.extent_words.specs.Extents.{is_within}
+use Rattle.k_reading.specs.extent_facts.Counts.{one_if}
+use Rattle.k_reading.specs.extent_words.Extents.{is_within}
 use Rattle.volume_check.specs.Marks.{AreMarks}
 use Rattle.volume_check.proofs.blocks.mark_run.Given as goal
 

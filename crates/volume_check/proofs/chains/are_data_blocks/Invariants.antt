@@ -1,5 +1,5 @@
 use Rattle.std.proofs.Common.{◌≡◌, ℕ, ◌<◌, true, get_or}
-use Rattle.disk_places.specs.Places.{is_data_block}
+use Rattle.k_journal.specs.disk_places.Places.{is_data_block}
 use Rattle.volume_check.proofs.chains.are_data_blocks.Given as goal
 
 -- the blocks so far are data blocks

@@ -1,5 +1,5 @@
 use Rattle.std.proofs.Common.{ℕ, ◌<◌, get_or}
-use Rattle.extent_words.specs.declared.Extent.{Extent}
+use Rattle.k_reading.specs.extent_words.declared.Extent.{Extent}
 use Rattle.k_reading.specs.disk_rules.Rules.{IsInData}
 use Rattle.volume_check.proofs.chains.are_in_data.Given as goal
 

@@ -1,7 +1,7 @@
 use Rattle.std.proofs.Common.{length, arith, rules}
 use Rattle.std.proofs.lemmas.Bool.{both_ways}
 use Rattle.k_reading.specs.disk_rules.Standing.{IsChain}
-use Rattle.pm_words.specs.Images.{words_of}
+use Rattle.k_journal.specs.pm_words.Images.{words_of}
 use Rattle.volume_check.proofs.ChainFacts.{IsInRegion, good-of, none-of, outside-of}
 use Rattle.volume_check.proofs.chains.good_chain.Goals as goal
 use Rattle.volume_check.proofs.chains.good_chain.Goals.{else-are_data_blocks-via-then-are_data_blocks+else-are_in_data, else-are_data_blocks-via-else-are_data_blocks}

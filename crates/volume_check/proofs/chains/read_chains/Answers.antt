@@ -1,9 +1,9 @@
 use Rattle.std.proofs.Common.{arith, sym, refl, []}
 use Rattle.k_reading.specs.chain_facts.RuleLaws.{volume-of_words}
-use Rattle.disk_places.specs.Journal.{journaled}
+use Rattle.k_journal.specs.disk_places.Journal.{journaled}
 use Rattle.k_reading.specs.disk_rules.Rules.{HasChain}
 use Rattle.k_reading.specs.disk_rules.Volume.{volume}
-use Rattle.pm_words.specs.Images.{words_of}
+use Rattle.k_journal.specs.pm_words.Images.{words_of}
 use Rattle.k_reading.specs.volume_facts.ReadingLaws.{volume-geometry}
 use Rattle.volume_check.proofs.LineFacts.{count-chains, count-maps, inode-of, index-below, index-count}
 use Rattle.volume_check.proofs.Fronts.{front-more, front-all, front-holds, front-fails}

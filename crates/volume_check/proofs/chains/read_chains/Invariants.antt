@@ -1,8 +1,8 @@
 use Rattle.std.proofs.Common.{[]}
-use Rattle.disk_places.specs.Journal.{journaled}
+use Rattle.k_journal.specs.disk_places.Journal.{journaled}
 use Rattle.k_reading.specs.disk_rules.Rules.{HasChain}
 use Rattle.k_reading.specs.disk_rules.Volume.{volume}
-use Rattle.pm_words.specs.Images.{words_of}
+use Rattle.k_journal.specs.pm_words.Images.{words_of}
 use Rattle.volume_check.proofs.Fronts.{IsFront}
 use Rattle.volume_check.proofs.chains.read_chains.Given as goal
 

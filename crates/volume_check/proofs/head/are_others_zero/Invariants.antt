@@ -1,6 +1,6 @@
 use Rattle.std.proofs.Common.{◌≡◌, ◌≢◌, ◌/◌, ◌<◌, ◌≤◌, ℕ}
-use Rattle.disk_places.specs.Places.{commit_word, state_line}
-use Rattle.pm_words.specs.Images.{words_of}
+use Rattle.k_journal.specs.disk_places.Places.{commit_word, state_line}
+use Rattle.k_journal.specs.pm_words.Images.{words_of}
 use Rattle.volume_check.proofs.head.are_others_zero.Given as goal
 
 -- the words so far are zero

@@ -1,6 +1,6 @@
 use Rattle.std.proofs.Common.{arith, sym, ◌∙◌, ap}
-use Rattle.disk_places.specs.Places.{is_journaled_line}
-use Rattle.pm_words.specs.Images.{words_of}
+use Rattle.k_journal.specs.disk_places.Places.{is_journaled_line}
+use Rattle.k_journal.specs.pm_words.Images.{words_of}
 use Rattle.volume_check.proofs.Heads.{target-fails, targets-hold}
 use Rattle.volume_check.proofs.head.bad_target.Goals as goal
 

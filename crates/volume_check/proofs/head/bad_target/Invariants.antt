@@ -1,6 +1,6 @@
 use Rattle.std.proofs.Common.{◌<◌, ℕ}
 use Rattle.k_reading.specs.disk_rules.Rules.{HasTarget}
-use Rattle.pm_words.specs.Images.{words_of}
+use Rattle.k_journal.specs.pm_words.Images.{words_of}
 use Rattle.volume_check.proofs.head.bad_target.Given as goal
 
 -- the records so far have journaled targets

@@ -1,7 +1,7 @@
 use Rattle.std.proofs.Common.{◌≡◌, ◌<◌, ℕ}
-use Rattle.disk_places.specs.Journal.{journaled}
-use Rattle.disk_places.specs.Places.{base_word}
-use Rattle.pm_words.specs.Images.{words_of}
+use Rattle.k_journal.specs.disk_places.Journal.{journaled}
+use Rattle.k_journal.specs.disk_places.Places.{base_word}
+use Rattle.k_journal.specs.pm_words.Images.{words_of}
 use Rattle.volume_check.proofs.head.is_state_zero.Given as goal
 
 -- the words so far are zero

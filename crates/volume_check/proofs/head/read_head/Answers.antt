@@ -1,5 +1,5 @@
 use Rattle.std.proofs.Common.{◌*◌, length, subst, refl, rules}
-use Rattle.pm_words.specs.Images.{words_of}
+use Rattle.k_journal.specs.pm_words.Images.{words_of}
 use Rattle.volume_check.specs.Heads.{IsSuperKept}
 use Rattle.volume_check.proofs.Heads.{super-kept, super-numbers}
 use Rattle.volume_check.proofs.head.read_head.Goals as goal

@@ -1,9 +1,9 @@
 use Rattle.std.proofs.Common.{◌<◌, ap, arith}
-use Rattle.disk_places.specs.Journal.{journaled}
-use Rattle.disk_places.specs.Places.{Geometry}
+use Rattle.k_journal.specs.disk_places.Journal.{journaled}
+use Rattle.k_journal.specs.disk_places.Places.{Geometry}
 use Rattle.k_reading.specs.disk_rules.Rules.{HasInode}
 use Rattle.k_reading.specs.disk_rules.Volume.{volume, free_inode}
-use Rattle.pm_words.specs.Images.{words_of}
+use Rattle.k_journal.specs.pm_words.Images.{words_of}
 use Rattle.volume_check.proofs.LineFacts.{count-inodes, inode-read}
 use Rattle.volume_check.proofs.Fronts.{front-more, front-all}
 use Rattle.volume_check.proofs.lines.read_inodes.Goals as goal

@@ -1,7 +1,7 @@
-use Rattle.disk_places.specs.Journal.{journaled}
+use Rattle.k_journal.specs.disk_places.Journal.{journaled}
 use Rattle.k_reading.specs.disk_rules.Rules.{HasInode}
 use Rattle.k_reading.specs.disk_rules.Volume.{volume, free_inode}
-use Rattle.pm_words.specs.Images.{words_of}
+use Rattle.k_journal.specs.pm_words.Images.{words_of}
 use Rattle.volume_check.proofs.Fronts.{IsFront}
 use Rattle.volume_check.proofs.lines.read_inodes.Given as goal
 

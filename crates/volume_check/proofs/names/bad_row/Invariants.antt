@@ -1,5 +1,5 @@
 use Rattle.std.proofs.Common.{◌≡◌, ◌<◌, ℕ}
-use Rattle.disk_lines.specs.Names.{row}
+use Rattle.k_reading.specs.disk_lines.Names.{row}
 use Rattle.k_reading.specs.disk_rules.Rules.{IsRowPlaced}
 use Rattle.k_reading.specs.disk_rules.Volume.{Volume}
 use Rattle.volume_check.proofs.names.bad_row.Given as goal

@@ -1,6 +1,6 @@
 use Rattle.std.proofs.Common.{◌≡◌, ◌+◌, length, sym, ◌∙◌, subst, arith}
 use Rattle.std.proofs.lemmas.List.{with_items_is}
-use Rattle.disk_lines.specs.Names.{names_of}
+use Rattle.k_reading.specs.disk_lines.Names.{names_of}
 use Rattle.volume_check.specs.Marks.{AreMarks}
 use Rattle.volume_check.proofs.MarkFacts.{marks-none, marks-agree}
 use Rattle.volume_check.proofs.names.count_names.Goals as goal

@@ -1,5 +1,5 @@
 use Rattle.std.proofs.Common.{◌∙◌, ap, sym, refl, arith}
-use Rattle.disk_lines.specs.Names.{is_entry}
+use Rattle.k_reading.specs.disk_lines.Names.{is_entry}
 use Rattle.volume_check.proofs.NameFacts.{only-kept, only-fails, row-read}
 use Rattle.volume_check.proofs.names.is_only.Goals as goal
 

@@ -1,5 +1,5 @@
 use Rattle.std.proofs.Common.{◌≡◌, ℕ, ◌<◌, false}
-use Rattle.disk_lines.specs.Names.{row, is_entry}
+use Rattle.k_reading.specs.disk_lines.Names.{row, is_entry}
 use Rattle.volume_check.proofs.names.is_only.Given as goal
 
 -- no line so far has the parent and the name

@@ -1,6 +1,6 @@
 use Rattle.std.proofs.Common.{◌≡◌, true, sym, ap, ◌∙◌, subst}
-use Rattle.disk_lines.specs.Lines.{NameRow}
-use Rattle.disk_lines.specs.Names.{Rows, ends_at_root}
+use Rattle.k_reading.specs.disk_lines.Lines.{NameRow}
+use Rattle.k_reading.specs.disk_lines.Names.{Rows, ends_at_root}
 use Rattle.k_reading.specs.disk_rules.Live.{is_directory}
 use Rattle.k_reading.specs.disk_rules.Volume.{inode}
 use Rattle.volume_check.specs.Above.{IsOnly}

@@ -1,5 +1,5 @@
 use Rattle.std.proofs.Common.{ℕ, ◌+◌, take}
-use Rattle.disk_lines.specs.Names.{names_of}
+use Rattle.k_reading.specs.disk_lines.Names.{names_of}
 use Rattle.volume_check.specs.Marks.{AreMarks}
 use Rattle.volume_check.proofs.names.mark_children.Given as goal
 

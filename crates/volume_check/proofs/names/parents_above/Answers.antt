@@ -1,6 +1,6 @@
 use Rattle.std.proofs.Common.{◌≡◌, ◌+◌, ◌-◌, ◌<◌, arith, subst, drop, ap, ◌∙◌, length}
 use Rattle.std.proofs.lemmas.List.{length-set}
-use Rattle.disk_lines.specs.Lines.{NameRow}
+use Rattle.k_reading.specs.disk_lines.Lines.{NameRow}
 use Rattle.volume_check.specs.Above.{IsAbove}
 use Rattle.volume_check.proofs.NameFacts.{above-free, above-line, row-read, child-read}
 use Rattle.volume_check.proofs.names.parents_above.Goals as goal

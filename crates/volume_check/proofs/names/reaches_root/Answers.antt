@@ -1,5 +1,5 @@
 use Rattle.std.proofs.Common.{◌≡◌, ◌+◌, ◌-◌, suc, sym, ap, ◌∙◌, arith}
-use Rattle.disk_lines.specs.Names.{ends_at_root}
+use Rattle.k_reading.specs.disk_lines.Names.{ends_at_root}
 use Rattle.volume_check.proofs.NameFacts.{ends-here, ends-up, ends-stops, ends-last}
 use Rattle.volume_check.proofs.names.reaches_root.Goals as goal
 

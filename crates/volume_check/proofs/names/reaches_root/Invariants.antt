@@ -1,5 +1,5 @@
 use Rattle.std.proofs.Common.{◌≡◌, ◌-◌}
-use Rattle.disk_lines.specs.Names.{Rows, ends_at_root}
+use Rattle.k_reading.specs.disk_lines.Names.{Rows, ends_at_root}
 use Rattle.volume_check.specs.Above.{IsAbove}
 use Rattle.volume_check.proofs.names.reaches_root.Given as goal
 

@@ -1,8 +1,8 @@
 use Rattle.std.proofs.Common.{sym, subst}
-use Rattle.disk_places.specs.Journal.{journaled}
+use Rattle.k_journal.specs.disk_places.Journal.{journaled}
 use Rattle.k_reading.specs.disk_rules.Broken.{Holds, FailsFirst, BreaksFirst, line_rules}
 use Rattle.k_reading.specs.disk_rules.Volume.{volume}
-use Rattle.pm_words.specs.Images.{words_of}
+use Rattle.k_journal.specs.pm_words.Images.{words_of}
 use Rattle.volume_check.specs.LineRules.{inodes_rule, names_rule, chains_rule}
 use Rattle.volume_check.proofs.ReadFacts.{breaks-inodes, breaks-names, breaks-chains, lines-hold}
 use Rattle.volume_check.proofs.reading.read_lines.Goals as goal

@@ -1,11 +1,11 @@
 use Rattle.std.proofs.Common.{◌∙◌, ap, arith, sym, subst, List, length}
-use Rattle.disk_lines.specs.declared.Inode.{Inode}
-use Rattle.disk_lines.specs.Names.{Rows}
-use Rattle.disk_places.specs.Journal.{journaled}
-use Rattle.disk_places.specs.Places.{Geometry, IsGeometry}
+use Rattle.k_reading.specs.disk_lines.declared.Inode.{Inode}
+use Rattle.k_reading.specs.disk_lines.Names.{Rows}
+use Rattle.k_journal.specs.disk_places.Journal.{journaled}
+use Rattle.k_journal.specs.disk_places.Places.{Geometry, IsGeometry}
 use Rattle.k_reading.specs.disk_rules.Broken.{Holds, HoldAll, BreaksFirst, line_rules}
 use Rattle.k_reading.specs.disk_rules.Volume.{volume}
-use Rattle.pm_words.specs.Images.{words_of}
+use Rattle.k_journal.specs.pm_words.Images.{words_of}
 use Rattle.k_reading.specs.volume_facts.ReadingLaws.{volume-geometry}
 use Rattle.volume_check.specs.Readings.{AreOf, blocks_rule, body_rules}
 use Rattle.volume_check.proofs.ReadFacts.{good-lines, of-tables, volume-base, breaks-blocks, breaks-tree, body-holds}

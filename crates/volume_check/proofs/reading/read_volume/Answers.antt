@@ -1,5 +1,5 @@
 use Rattle.std.proofs.Common.{◌*◌, length}
-use Rattle.pm_words.specs.Images.{words_of}
+use Rattle.k_journal.specs.pm_words.Images.{words_of}
 use Rattle.volume_check.proofs.ReadFacts.{if_ok, if_err, on_ok, breaks-body, front-holds}
 use Rattle.volume_check.proofs.reading.read_volume.Goals as goal
 

@@ -1,6 +1,6 @@
 use Rattle.std.proofs.Common.{◌≡◌, ◌+◌, arith, sym, ◌∙◌, subst}
-use Rattle.pm_words.specs.Images.{words_of}
-use Rattle.disk_places.specs.Places.{record_line}
+use Rattle.k_journal.specs.pm_words.Images.{words_of}
+use Rattle.k_journal.specs.disk_places.Places.{record_line}
 use Rattle.volume_check.proofs.Views.{StandsAt, stands-none, stands-last, stands-skip, view-word}
 use Rattle.volume_check.proofs.view.source_of.Goals as goal
 use Rattle.volume_check.proofs.view.source_of.Goals.{then-target_of-line, else-target_of-line}

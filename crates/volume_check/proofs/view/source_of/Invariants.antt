@@ -1,5 +1,5 @@
 use Rattle.std.proofs.Common.{◌/◌, ◌<◌, length}
-use Rattle.pm_words.specs.Images.{words_of}
+use Rattle.k_journal.specs.pm_words.Images.{words_of}
 use Rattle.volume_check.proofs.Views.{StandsAt}
 use Rattle.volume_check.proofs.view.source_of.Given as goal
 

@@ -1,6 +1,6 @@
 use Rattle.std.proofs.Common.{◌∙◌}
-use Rattle.pm_words.specs.Images.{words_of}
-use Rattle.disk_places.specs.Journal.{journaled}
+use Rattle.k_journal.specs.pm_words.Images.{words_of}
+use Rattle.k_journal.specs.disk_places.Journal.{journaled}
 use Rattle.volume_check.proofs.Views.{line_bytes-moved}
 use Rattle.volume_check.proofs.view.view_line.Goals as goal
 

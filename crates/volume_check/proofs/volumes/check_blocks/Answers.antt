@@ -1,5 +1,5 @@
 use Rattle.std.proofs.Common.{◌∙◌, ◌+◌, ap, subst, sym, arith, length}
-use Rattle.disk_places.specs.Places.{first_data}
+use Rattle.k_journal.specs.disk_places.Places.{first_data}
 use Rattle.k_reading.specs.disk_rules.Broken.{FailsFirst}
 use Rattle.volume_check.specs.Marks.{AreFew, IsFirstTwice}
 use Rattle.volume_check.specs.Readings.{blocks_rule}

@@ -1,6 +1,6 @@
 use Rattle.std.proofs.Common.{◌∙◌, ap, subst, sym, List, length}
-use Rattle.disk_lines.specs.Names.{Rows}
-use Rattle.disk_lines.specs.declared.Inode.{Inode}
+use Rattle.k_reading.specs.disk_lines.Names.{Rows}
+use Rattle.k_reading.specs.disk_lines.declared.Inode.{Inode}
 use Rattle.k_reading.specs.disk_rules.Broken.{Holds, BreaksFirst}
 use Rattle.k_reading.specs.disk_rules.Rules.{AreDirectoriesNamed}
 use Rattle.volume_check.specs.Above.{rows_rule}

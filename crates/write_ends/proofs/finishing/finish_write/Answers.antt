@@ -1,6 +1,6 @@
 use Rattle.std.proofs.Common.{◌≡◌, ◌<◌, ◌≤◌, ◌+◌, ◌/◌, ◌++◌, ◌∷◌, [], ◌∙◌, ap, arith, ℕ, true, List, length, subst, sym}
-use Rattle.pm_words.specs.Cells.{cell, is_lent}
-use Rattle.pm_words.specs.Parts.{Part}
+use Rattle.write_asks.specs.pm_words.Cells.{cell, is_lent}
+use Rattle.write_asks.specs.pm_words.Parts.{Part}
 use Rattle.disk_lines.specs.declared.Draft.{Draft}
 use Rattle.disk_lines.specs.Lines.{most_bytes}
 use Rattle.file_overlay.specs.declared.runs.Run.{Run}

@@ -1,7 +1,7 @@
 use Rattle.std.proofs.Common.{◌≡◌, ◌<◌, ◌+◌, ◌/◌, ◌∙◌, ap, ℕ, true, List, length, subst, sym}
 use Rattle.std.specs.Prelude.{Contains}
-use Rattle.pm_words.specs.Cells.{cell, is_lent}
-use Rattle.pm_words.specs.Parts.{Part}
+use Rattle.write_asks.specs.pm_words.Cells.{cell, is_lent}
+use Rattle.write_asks.specs.pm_words.Parts.{Part}
 use Rattle.world_lent.specs.k_rules.View.{View}
 use Rattle.world_standing.specs.staging_files.declared.runs.StageRun.{StageRun}
 use Rattle.world_standing.specs.staging_files.Keeps.{Staged}

@@ -1,7 +1,7 @@
 use Rattle.std.proofs.Common.{◌+◌, ◌*◌, ◌-◌, ◌/◌, ℕ, arith, subst}
 use Rattle.std.specs.Prelude.{max}
-use Rattle.pm_words.specs.PowerLaws.{Steps-none, Steps-then}
-use Rattle.flight_cleans.specs.file_table.Files.{size_in}
+use Rattle.lost_devices.specs.pm_words.PowerLaws.{Steps-none, Steps-then}
+use Rattle.flight_zeros.specs.flight_cleans.file_table.Files.{size_in}
 use Rattle.flight_zeros.specs.Zeros.{block_end, ReadZero}
 use Rattle.write_gaps.specs.Gaps.{Clears}
 use Rattle.write_gaps.proofs.Chains.{clears_none, clears_then, loses_then, next_end, steps_few, then_has}

@@ -1,6 +1,6 @@
 use Rattle.std.proofs.Common.{◌≡◌, ◌≤◌, ◌*◌, ◌-◌, ◌/◌, true}
 use Rattle.std.specs.Prelude.{max}
-use Rattle.pm_words.specs.Powers.{is_on, Steps}
+use Rattle.lost_devices.specs.pm_words.Powers.{is_on, Steps}
 use Rattle.write_gaps.specs.Gaps.{Clears}
 use Rattle.write_gaps.proofs.gaps.clear_gap.Given as goal
 

@@ -1,6 +1,6 @@
 use Rattle.std.proofs.Common.{◌∙◌, ◌/◌, List, ap, sym}
-use Rattle.file_overlay.specs.declared.runs.Run.{Run}
-use Rattle.file_overlay.specs.Runs.{staged_at}
+use Rattle.flight_zeros.specs.file_overlay.declared.runs.Run.{Run}
+use Rattle.flight_zeros.specs.file_overlay.Runs.{staged_at}
 use Rattle.write_gaps.proofs.Answered.{mapped_answer, staged_answer}
 use Rattle.write_gaps.proofs.Blocks.{can_zero}
 use Rattle.write_gaps.proofs.gaps.zero_block.Goals as goal

@@ -1,7 +1,7 @@
 use Rattle.std.proofs.Common.{◌≡◌, ◌∙◌, ◌/◌, List, ℕ, ap, arith, subst}
 use Rattle.std.specs.Prelude.{◌⊎◌}
 use Rattle.std.proofs.lemmas.List.{take-replicate}
-use Rattle.extent_words.specs.Extents.{disk_at}
+use Rattle.lost_devices.specs.extent_words.Extents.{disk_at}
 use Rattle.lost_devices.specs.k_split.Bytes.{IsOverwriteCut, IsOverwriteDone, tail_zeros, zeros_behind}
 use Rattle.write_gaps.proofs.Writes.{lost_of}
 use Rattle.write_gaps.proofs.gaps.zero_mapped.Goals as goal

@@ -1,11 +1,11 @@
 use Rattle.std.proofs.Common.{arith, ◌≡◌, ◌<◌, ◌+◌, ◌*◌, ◌-◌, ℕ, true, length, sym, ap, subst, ◌∙◌}
 use Rattle.std.specs.Prelude.{drop}
 use Rattle.std.proofs.lemmas.List.{get_or-drop, get_or-take, length-set}
-use Rattle.pm_words.specs.declared.Cell.TheVariants.{Single}
-use Rattle.pm_words.specs.Cells.{cell, is_single}
-use Rattle.pm_words.specs.Parts.{Part}
-use Rattle.pm_words.specs.PowerLaws.{Steps-then}
-use Rattle.pm_words.specs.Powers.{Steps}
+use Rattle.pm_lines.specs.pm_words.declared.Cell.TheVariants.{Single}
+use Rattle.pm_lines.specs.pm_words.Cells.{cell, is_single}
+use Rattle.pm_lines.specs.pm_words.Parts.{Part}
+use Rattle.pm_lines.specs.pm_words.PowerLaws.{Steps-then}
+use Rattle.pm_lines.specs.pm_words.Powers.{Steps}
 use Rattle.write_jobs.specs.Jobs.{loan_at}
 use Rattle.write_jobs.proofs.Filling.{loan_is, set_holds, set_other, set_places}
 use Rattle.write_jobs.proofs.fills.fill_blocks.Goals as goal

@@ -1,8 +1,8 @@
 use Rattle.std.proofs.Common.{◌≡◌, ◌+◌, ◌*◌, ◌<◌, ◌≤◌, ℕ, true, length}
 use Rattle.std.specs.Prelude.{slice_index}
-use Rattle.pm_words.specs.declared.Cell.TheVariants.{Single}
-use Rattle.pm_words.specs.Cells.{cell}
-use Rattle.pm_words.specs.Powers.{is_on, Steps}
+use Rattle.pm_lines.specs.pm_words.declared.Cell.TheVariants.{Single}
+use Rattle.pm_lines.specs.pm_words.Cells.{cell}
+use Rattle.pm_lines.specs.pm_words.Powers.{is_on, Steps}
 use Rattle.write_jobs.specs.Jobs.{blocks_of, loan_at}
 use Rattle.write_jobs.proofs.fills.fill_blocks.Given as goal
 

@@ -1,8 +1,8 @@
 use Rattle.std.proofs.Common.{◌≡◌, ◌≢◌, ◌/◌, ◌%◌, ◌<◌, ◌≤◌, ℕ, true}
 use Rattle.std.specs.Prelude.{slice_index}
-use Rattle.pm_words.specs.declared.Cell.TheVariants.{Single}
-use Rattle.pm_words.specs.Cells.{cell, fenced, flushed}
-use Rattle.pm_words.specs.Powers.{is_on, Steps}
+use Rattle.pm_lines.specs.pm_words.declared.Cell.TheVariants.{Single}
+use Rattle.pm_lines.specs.pm_words.Cells.{cell, fenced, flushed}
+use Rattle.pm_lines.specs.pm_words.Powers.{is_on, Steps}
 use Rattle.write_jobs.proofs.fills.store_line.Given as goal
 
 -- the words before k are stored, the others are as they were

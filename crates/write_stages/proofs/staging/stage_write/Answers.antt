@@ -1,7 +1,7 @@
 use Rattle.std.proofs.Common.{◌≡◌, ◌∙◌, List, ℕ, ap, subst, sym}
-use Rattle.pm_words.specs.Parts.{Part}
-use Rattle.disk_lines.specs.declared.Draft.{Draft}
-use Rattle.disk_lines.specs.EntryLaws.{FitsDraft}
+use Rattle.block_loans.specs.pm_words.Parts.{Part}
+use Rattle.block_loans.specs.disk_lines.declared.Draft.{Draft}
+use Rattle.block_loans.specs.disk_lines.EntryLaws.{FitsDraft}
 use Rattle.block_loans.specs.k_rules.View.{View}
 use Rattle.block_loans.specs.write_jobs.Jobs.{AreOfEntry, blocks_of, JobView}
 use Rattle.block_loans.specs.Loans.{AreLentBy, MayLendAll}

@@ -4,8 +4,8 @@ use Rattle.k_reading.specs.block_pool.FreeSets.{is_among}
 use Rattle.disk_lines.specs.declared.Inode.{Inode}
 use Rattle.k_tables.specs.disk_rules.Reading.{inode_set}
 use Rattle.k_tables.specs.disk_rules.Volume.{chain, extents, free_inode, inode}
-use Rattle.extent_words.specs.declared.Extent.{Extent}
-use Rattle.extent_words.specs.Extents.{holds_disk}
+use Rattle.k_tables.specs.extent_words.declared.Extent.{Extent}
+use Rattle.k_tables.specs.extent_words.Extents.{holds_disk}
 use Rattle.k_tables.specs.disk_rules.Placed.{extent_at}
 use Rattle.k_land.specs.k_journal.declared.batches.Entry.{Entry}
 use Rattle.k_land.specs.Plans.{Turns}

@@ -1,7 +1,7 @@
 use Rattle.std.proofs.Common.{◌≡◌, ◌∙◌, ap, subst, sym}
 use Rattle.disk_lines.specs.declared.Inode.{Inode}
 use Rattle.k_tables.specs.disk_rules.Reading.{inode_set}
-use Rattle.extent_words.specs.Extents.{IsCanonical}
+use Rattle.k_tables.specs.extent_words.Extents.{IsCanonical}
 use Rattle.volume_maps.specs.map_rules.Taken.{with_map}
 use Rattle.k_land.specs.Plans.{IsMapFrom, Turns}
 use Rattle.volume_maps.specs.Switches.{MaySwitch}

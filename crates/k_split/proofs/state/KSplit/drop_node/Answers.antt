@@ -1,5 +1,5 @@
 use Rattle.std.proofs.Common.{◌≡◌, true, false, Option, None, refl, sym, ◌∙◌, ap, subst}
-use Rattle.pm_words.specs.Powers.{is_on}
+use Rattle.lines_out.specs.pm_words.Powers.{is_on}
 use Rattle.k_log_plans.specs.k_plans.View.{TablesView}
 use Rattle.k_content.specs.k_rules.Changes.{dropped}
 use Rattle.k_content.specs.k_rules.View.{View}

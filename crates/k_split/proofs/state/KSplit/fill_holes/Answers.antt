@@ -1,5 +1,5 @@
 use Rattle.std.proofs.Common.{◌≡◌, ◌∷◌, ◌∙◌, [], ℕ, None, Ok, true, false, List, ap, subst, sym}
-use Rattle.pm_words.specs.Powers.{is_on}
+use Rattle.lines_out.specs.pm_words.Powers.{is_on}
 use Rattle.k_log_plans.specs.k_map_plans.Plans.{IsLiveFile, row_of}
 use Rattle.k_content.specs.k_rules.View.{View}
 use Rattle.k_split.proofs.ChangeLaws.{awake}

@@ -1,7 +1,7 @@
 use Rattle.std.proofs.Common.{◌≡◌, [], true, false, List, sym, ◌∙◌, ap, subst}
-use Rattle.pm_words.specs.declared.Cell.{Cell}
-use Rattle.pm_words.specs.Frames.{KeepsSingle}
-use Rattle.pm_words.specs.Powers.{is_on}
+use Rattle.lines_out.specs.pm_words.declared.Cell.{Cell}
+use Rattle.lines_out.specs.pm_words.Frames.{KeepsSingle}
+use Rattle.lines_out.specs.pm_words.Powers.{is_on}
 use Rattle.k_log_plans.specs.k_land.Plans.{NewChain, blocks_of}
 use Rattle.k_log_plans.specs.k_land.WrittenLaws.{blocks_of-one}
 use Rattle.k_log_plans.specs.k_plans.Switching.{IsMapPlan}

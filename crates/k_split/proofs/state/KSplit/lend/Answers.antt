@@ -1,6 +1,6 @@
 use Rattle.std.proofs.Common.{◌<◌, ◌/◌, ℕ, IfOk, length, subst, sym}
 use Rattle.std.proofs.Common.{ap, ◌∙◌}
-use Rattle.pm_words.specs.Parts.{GoesOut}
+use Rattle.lines_out.specs.pm_words.Parts.{GoesOut}
 use Rattle.k_content.specs.k_rules.View.{View}
 use Rattle.k_split.specs.Loans.{MayLend}
 use Rattle.k_split.proofs.LoanLaws.{lend_within, ready_asked, same_disk}

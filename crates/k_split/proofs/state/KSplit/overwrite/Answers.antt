@@ -1,9 +1,9 @@
 use Rattle.std.proofs.Common.{◌≡◌, ◌<◌, ◌∙◌, ℕ, false, List, length, ap, inr, subst, sym}
-use Rattle.extent_words.specs.declared.Extent.{Extent}
+use Rattle.lines_out.specs.extent_words.declared.Extent.{Extent}
 use Rattle.lines_out.specs.block_bytes.Overwrites.{IsBesideBlocks, IsOverwritten, IsOverwrittenWhole, MayOverwrite}
 use Rattle.lines_out.specs.disk_rules.Volume.{extents}
-use Rattle.pm_words.specs.Cells.{cell, Settles}
-use Rattle.pm_words.specs.Images.{Follows}
+use Rattle.lines_out.specs.pm_words.Cells.{cell, Settles}
+use Rattle.lines_out.specs.pm_words.Images.{Follows}
 use Rattle.k_content.specs.k_rules.View.{View}
 use Rattle.k_split.proofs.ByteLaws.{overwrite-cut, overwrite-done, overwrites, ready-over}
 use Rattle.k_split.proofs.state.KSplit.overwrite.Goals as goal

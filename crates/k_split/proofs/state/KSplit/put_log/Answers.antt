@@ -1,7 +1,7 @@
 use Rattle.std.proofs.Common.{◌≡◌, ℕ, true, false, length, sym, ◌∙◌, ap, subst}
-use Rattle.pm_words.specs.Cells.{cell, is_lent}
+use Rattle.lines_out.specs.pm_words.Cells.{cell, is_lent}
 use Rattle.lines_out.specs.block_bytes.Overwrites.{IsInLines}
-use Rattle.disk_places.specs.Places.{Geometry, log_line}
+use Rattle.lines_out.specs.disk_places.Places.{Geometry, log_line}
 use Rattle.lines_out.specs.Lines.{AreFrom, LinesComeBack}
 use Rattle.k_content.specs.k_rules.View.{View}
 use Rattle.k_split.specs.Laps.{IsLogWord}

@@ -1,11 +1,11 @@
 use Rattle.std.proofs.Common.{◌≡◌, ◌∷◌, ◌∙◌, ◌++◌, [], true, false, List, sym, arith, subst}
-use Rattle.pm_words.specs.declared.Cell.{Cell}
-use Rattle.pm_words.specs.Frames.{KeepsSingle}
-use Rattle.pm_words.specs.ImageLaws.{IsImage-words_of}
-use Rattle.pm_words.specs.Images.{words_of}
-use Rattle.pm_words.specs.Powers.{is_on}
+use Rattle.lines_out.specs.pm_words.declared.Cell.{Cell}
+use Rattle.lines_out.specs.pm_words.Frames.{KeepsSingle}
+use Rattle.lines_out.specs.pm_words.ImageLaws.{IsImage-words_of}
+use Rattle.lines_out.specs.pm_words.Images.{words_of}
+use Rattle.lines_out.specs.pm_words.Powers.{is_on}
 use Rattle.lines_out.specs.disk_rules.Volume.{extents}
-use Rattle.extent_words.specs.Extents.{IsCanonical}
+use Rattle.lines_out.specs.extent_words.Extents.{IsCanonical}
 use Rattle.k_log_plans.specs.k_map_plans.Plans.{MayMove}
 use Rattle.k_log_plans.specs.k_plans.Free.{is_free_block}
 use Rattle.k_log_plans.specs.k_land.Plans.{blocks_of}

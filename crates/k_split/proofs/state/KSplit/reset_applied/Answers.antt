@@ -1,6 +1,6 @@
 use Rattle.std.proofs.Common.{◌≡◌, true, false, Option, None, refl, sym, ◌∙◌, ap, subst}
-use Rattle.pm_words.specs.Images.{Follows}
-use Rattle.pm_words.specs.Powers.{is_on}
+use Rattle.lines_out.specs.pm_words.Images.{Follows}
+use Rattle.lines_out.specs.pm_words.Powers.{is_on}
 use Rattle.k_log_plans.specs.Resets.{reset}
 use Rattle.k_log_plans.specs.k_map_plans.Plans.{IsLiveFile}
 use Rattle.k_log_plans.specs.k_plans.View.{TablesView}

@@ -1,5 +1,5 @@
 use Rattle.std.proofs.Common.{◌≡◌, true, false, Option, None, refl, sym, ◌∙◌, ap}
-use Rattle.pm_words.specs.Powers.{is_on}
+use Rattle.lines_out.specs.pm_words.Powers.{is_on}
 use Rattle.k_log_plans.specs.k_plans.View.{TablesView}
 use Rattle.lines_out.specs.disk_rules.Reading.{base_set}
 use Rattle.posix_types.specs.declared.item.Outcome.{Outcome}

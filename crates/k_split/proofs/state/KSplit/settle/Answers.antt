@@ -1,5 +1,5 @@
 use Rattle.std.proofs.Common.{◌≡◌, ◌/◌, ℕ, subst, sym, true}
-use Rattle.pm_words.specs.Cells.{cell, is_lent}
+use Rattle.lines_out.specs.pm_words.Cells.{cell, is_lent}
 use Rattle.k_content.specs.k_rules.View.{View}
 use Rattle.k_split.proofs.LoanLaws.{ready_back}
 use Rattle.k_split.proofs.state.KSplit.settle.Goals as goal

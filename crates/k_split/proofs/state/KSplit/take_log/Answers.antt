@@ -1,5 +1,5 @@
 use Rattle.std.proofs.Common.{◌≡◌, length, ◌∙◌, ap, subst}
-use Rattle.disk_places.specs.Places.{Geometry, log_line}
+use Rattle.lines_out.specs.disk_places.Places.{Geometry, log_line}
 use Rattle.lines_out.specs.Lines.{LinesGoOut}
 use Rattle.k_content.specs.k_rules.View.{View}
 use Rattle.k_split.specs.LogLines.{AreLogLines}

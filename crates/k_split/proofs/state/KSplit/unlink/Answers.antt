@@ -1,5 +1,5 @@
 use Rattle.std.proofs.Common.{◌≡◌, ℕ, true, false, sym, ◌∙◌, subst}
-use Rattle.pm_words.specs.Powers.{is_on}
+use Rattle.lines_out.specs.pm_words.Powers.{is_on}
 use Rattle.k_log_plans.specs.k_plans.Removing.{IsUnlinked}
 use Rattle.k_split.specs.Names.{IsUnlinkAnswer, unlink_row}
 use Rattle.k_split.proofs.ChangeLaws.{answer-cut, answer-done, awake, done-memory, fault-memory, memory-cut, paid-cut, paid-done, planned, ready-landed}

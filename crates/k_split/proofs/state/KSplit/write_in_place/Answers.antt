@@ -1,9 +1,9 @@
 use Rattle.std.proofs.Common.{◌≡◌, ◌<◌, ◌∙◌, false, true, length, arith, subst, sym}
-use Rattle.pm_words.specs.Images.{words_of}
-use Rattle.pm_words.specs.ImageLaws.{IsImage-words_of}
-use Rattle.pm_words.specs.Powers.{is_on}
+use Rattle.lines_out.specs.pm_words.Images.{words_of}
+use Rattle.lines_out.specs.pm_words.ImageLaws.{IsImage-words_of}
+use Rattle.lines_out.specs.pm_words.Powers.{is_on}
 use Rattle.lines_out.specs.disk_rules.Volume.{extents}
-use Rattle.extent_words.specs.Extents.{IsCanonical}
+use Rattle.lines_out.specs.extent_words.Extents.{IsCanonical}
 use Rattle.lines_out.specs.block_bytes.Overwrites.{MayOverwrite}
 use Rattle.k_content.specs.k_rules.View.{View}
 use Rattle.k_split.proofs.ByteLaws.{asked, file_below, file_single, may_overwrite, overwrite-none, short_range}

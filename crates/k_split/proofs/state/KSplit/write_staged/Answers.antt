@@ -1,5 +1,5 @@
 use Rattle.std.proofs.Common.{◌≡◌, ◌*◌, ◌+◌, ◌<◌, ◌∙◌, ℕ, false, true, length, arith, subst, sym}
-use Rattle.pm_words.specs.Powers.{is_on}
+use Rattle.lines_out.specs.pm_words.Powers.{is_on}
 use Rattle.lines_out.specs.block_bytes.Overwrites.{MayOverwrite}
 use Rattle.lines_out.specs.disk_rules.Volume.{extents}
 use Rattle.k_content.specs.k_rules.View.{View}

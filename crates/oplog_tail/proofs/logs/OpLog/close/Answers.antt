@@ -1,6 +1,6 @@
 -- What the place of all seats knows of the slots is said of the lines that come out of them.
 use Rattle.std.proofs.Common.{◌≡◌, ◌∙◌, ◌<◌, List, ℕ, length, refl, ap, sym, subst}
-use Rattle.pm_words.specs.Parts.{Part}
+use Rattle.disk_rules.specs.pm_words.Parts.{Part}
 use Rattle.std.specs.Mem.Slots.{slots_items}
 use Rattle.oplog_tail.specs.Closing.{AreNumbered, claims_of_all, LeavesLines}
 use Rattle.oplog_tail.specs.EntryLines.{IsSingle}

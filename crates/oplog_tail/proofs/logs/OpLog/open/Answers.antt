@@ -1,7 +1,7 @@
 -- The table that is opened keeps the rule.
 use Rattle.std.proofs.Common.{◌≡◌, ◌∙◌, ◌≤◌, ◌<◌, ℕ, List, length, map, ap, sym, subst}
 use Rattle.std.proofs.Common.{Vec, Global}
-use Rattle.pm_words.specs.Parts.{Part}
+use Rattle.disk_rules.specs.pm_words.Parts.{Part}
 use Rattle.pm_lines.specs.declared.lines.Line.{Line}
 use Rattle.oplog_tail.specs.EntryLines.{IsSingle}
 use Rattle.oplog_tail.specs.Rule.{line_at}

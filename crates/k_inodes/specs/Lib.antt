@@ -1,0 +1,3 @@
+pub use Rattle.disk_lines.specs as disk_lines
+pub use Rattle.disk_lines.specs.disk_places as disk_places
+pub use Rattle.disk_lines.specs.pm_words as pm_words

@@ -3,23 +3,23 @@ use Rattle.std.proofs.Common.{◌≡◌, ◌≢◌, ◌⊎◌, ◌<◌, ◌+◌,
 use Rattle.std.specs.Prelude.{if◌then◌else◌, map, slice_index}
 use Rattle.std.proofs.lemmas.Bool.{both_ways, cases_eq, cases_lt, eq-eqb, ne_eqb}
 use Rattle.std.proofs.lemmas.Option.{same_Some}
-use Rattle.pm_words.specs.declared.Cell.{Cell}
-use Rattle.pm_words.specs.Cells.{AllHome, cell, is_lent, IsCandidate, unmarked}
-use Rattle.pm_words.specs.Images.{IsImage}
-use Rattle.pm_words.specs.Parts.{Part, put_back}
-use Rattle.pm_words.specs.Words.{Words}
-use Rattle.disk_lines.specs.declared.Draft.{Draft}
-use Rattle.disk_places.specs.Journal.{journaled}
-use Rattle.disk_places.specs.PlaceLaws.{behind_log-not_journaled, behind_log-words}
-use Rattle.disk_places.specs.Places.{Geometry, log_line}
+use Rattle.losing_facts.specs.pm_words.declared.Cell.{Cell}
+use Rattle.losing_facts.specs.pm_words.Cells.{AllHome, cell, is_lent, IsCandidate, unmarked}
+use Rattle.losing_facts.specs.pm_words.Images.{IsImage}
+use Rattle.losing_facts.specs.pm_words.Parts.{Part, put_back}
+use Rattle.losing_facts.specs.pm_words.Words.{Words}
+use Rattle.losing_facts.specs.disk_lines.declared.Draft.{Draft}
+use Rattle.losing_facts.specs.disk_places.Journal.{journaled}
+use Rattle.losing_facts.specs.disk_places.PlaceLaws.{behind_log-not_journaled, behind_log-words}
+use Rattle.losing_facts.specs.disk_places.Places.{Geometry, log_line}
 use Rattle.losing_facts.specs.disk_rules.Honest.{IsHonest}
 use Rattle.losing_facts.specs.disk_rules.Volume.{Volume}
 use Rattle.losing_facts.proofs.k_split_proofs.LogLaws.{data_beside}
 use Rattle.losing_facts.specs.k_split.Laps.{IsLogWord}
-use Rattle.list_facts.specs.Members.{In}
+use Rattle.losing_facts.specs.list_facts.Members.{In}
 use Rattle.losing_facts.specs.posix_spec.Run.{Begun, run}
 use Rattle.losing_facts.specs.posix_spec.State.{State}
-use Rattle.posix_types.specs.declared.item.Item.{Item}
+use Rattle.losing_facts.specs.posix_types.declared.item.Item.{Item}
 use Rattle.losing_facts.specs.volume_facts.ImageLaws.{journaled-other}
 use Rattle.losing_facts.specs.volume_facts.LineWords.{data_word}
 use Rattle.losing_facts.specs.world_images.Images.{StandsFor}

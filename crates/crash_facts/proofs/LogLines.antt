@@ -1,15 +1,15 @@
 -- Log lines that came home: of claims, of jobs, and the others.
 use Rattle.std.specs.Prelude.{◌≡◌, ◌<◌, ℕ, ◌+◌, ◌*◌, ◌%◌, true, List, refl, if◌then◌else◌}
 use Rattle.std.proofs.Common.{ap, arith, inl, inr, lit<, ◌∙◌, subst, sym}
-use Rattle.pm_words.specs.declared.Cell.{Cell}
-use Rattle.pm_words.specs.declared.Cell.TheVariants.{Lent, Marked, Single, Two}
-use Rattle.pm_words.specs.Bytes.{line_bytes-words}
-use Rattle.pm_words.specs.Cells.{cell, has_two, is_lent, is_single, newest, oldest, unmarked}
-use Rattle.pm_words.specs.Parts.{Part, put_back}
-use Rattle.pm_words.specs.Words.{line_bytes, Words}
-use Rattle.disk_lines.specs.declared.Draft.{Draft}
-use Rattle.disk_lines.specs.Entries.{encode_entry}
-use Rattle.disk_places.specs.Places.{log_line}
+use Rattle.losing_facts.specs.pm_words.declared.Cell.{Cell}
+use Rattle.losing_facts.specs.pm_words.declared.Cell.TheVariants.{Lent, Marked, Single, Two}
+use Rattle.losing_facts.specs.pm_words.Bytes.{line_bytes-words}
+use Rattle.losing_facts.specs.pm_words.Cells.{cell, has_two, is_lent, is_single, newest, oldest, unmarked}
+use Rattle.losing_facts.specs.pm_words.Parts.{Part, put_back}
+use Rattle.losing_facts.specs.pm_words.Words.{line_bytes, Words}
+use Rattle.losing_facts.specs.disk_lines.declared.Draft.{Draft}
+use Rattle.losing_facts.specs.disk_lines.Entries.{encode_entry}
+use Rattle.losing_facts.specs.disk_places.Places.{log_line}
 use Rattle.losing_facts.specs.disk_rules.LogRule.{HoldsEntry, IsAsAtFirst, words_of_line}
 use Rattle.losing_facts.specs.disk_rules.Volume.{Volume}
 use Rattle.losing_facts.specs.k_split.Laps.{IsLogWord}

@@ -1,18 +1,18 @@
 -- What a crash leaves of a World that lost its power, each law as one statement.
 use Rattle.std.specs.Prelude.{◌≡◌, ◌⊎◌, ◌/◌, ℕ, true, false, List, []}
-use Rattle.pm_words.specs.declared.Cell.{Cell}
-use Rattle.pm_words.specs.Cells.{AllHome, cell, is_lent}
-use Rattle.pm_words.specs.Parts.{Part, put_back}
-use Rattle.pm_words.specs.Words.{Words}
-use Rattle.disk_lines.specs.declared.Draft.{Draft}
-use Rattle.disk_places.specs.Places.{Geometry, log_line}
+use Rattle.losing_facts.specs.pm_words.declared.Cell.{Cell}
+use Rattle.losing_facts.specs.pm_words.Cells.{AllHome, cell, is_lent}
+use Rattle.losing_facts.specs.pm_words.Parts.{Part, put_back}
+use Rattle.losing_facts.specs.pm_words.Words.{Words}
+use Rattle.losing_facts.specs.disk_lines.declared.Draft.{Draft}
+use Rattle.losing_facts.specs.disk_places.Places.{Geometry, log_line}
 use Rattle.losing_facts.specs.disk_rules.Volume.{Volume}
 use Rattle.losing_facts.specs.k_rules.View.{View}
 use Rattle.losing_facts.specs.k_split.Laps.{IsLogWord}
 use Rattle.losing_facts.specs.lines_out.Lines.{LinesComeBack}
-use Rattle.list_facts.specs.Members.{In}
-use Rattle.posix_types.specs.declared.item.Item.{Item}
-use Rattle.posix_words.specs.Open.{Tables}
+use Rattle.losing_facts.specs.list_facts.Members.{In}
+use Rattle.losing_facts.specs.posix_types.declared.item.Item.{Item}
+use Rattle.losing_facts.specs.posix_words.Open.{Tables}
 use Rattle.losing_facts.specs.posix_spec.Run.{Begun, run}
 use Rattle.losing_facts.specs.posix_spec.State.{State}
 use Rattle.losing_facts.specs.world_images.Promised.{KeepsPromise}

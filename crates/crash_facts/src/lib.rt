@@ -17,4 +17,6 @@ pub fn a_crash_keeps_the_promise()
     ensures lines { LinesHoldOut }
 {}
 
-pub use losing_facts;
+pub use losing_facts::{
+    Full, finish_write, give_up_write, publishing_leaves_what_is_out, settle_blocks,
+};

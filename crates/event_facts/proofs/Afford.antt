@@ -5,13 +5,13 @@ use Rattle.std.proofs.Common.{arith, ap, ◌∙◌, sym, inl, inr}
 use Rattle.std.proofs.lemmas.Bool.{and_parts, cases_lt}
 use Rattle.std.proofs.lemmas.List.{get_or_past}
 use Rattle.std.proofs.lemmas.Option.{slice_get_within}
-use Rattle.list_facts.specs.Filters.{In-filter_map, In-map, In-range}
-use Rattle.list_facts.specs.Members.{In}
-use Rattle.posix_types.specs.declared.call.Call.{Call}
-use Rattle.posix_types.specs.declared.call.Mode.{Mode}
-use Rattle.posix_types.specs.declared.call.Who.{Who}
-use Rattle.posix_types.specs.declared.item.Item.{Item}
-use Rattle.posix_types.specs.Scripts.{Scripts}
+use Rattle.round_views.specs.list_facts.Filters.{In-filter_map, In-map, In-range}
+use Rattle.round_views.specs.list_facts.Members.{In}
+use Rattle.round_views.specs.posix_types.declared.call.Call.{Call}
+use Rattle.round_views.specs.posix_types.declared.call.Mode.{Mode}
+use Rattle.round_views.specs.posix_types.declared.call.Who.{Who}
+use Rattle.round_views.specs.posix_types.declared.item.Item.{Item}
+use Rattle.round_views.specs.posix_types.Scripts.{Scripts}
 use Rattle.round_views.specs.posix_spec.Afforded.{AffordedByNames, callers, is_posix, is_quiet, moves_data, next_calls}
 use Rattle.round_views.specs.posix_spec.Scripted.{call_count, items_of, next_call, script_of}
 use Rattle.round_views.specs.posix_spec.State.{State}

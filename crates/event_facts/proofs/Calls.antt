@@ -1,17 +1,17 @@
 -- A call begins: it returns, or its power goes; or the script has ended.
 use Rattle.std.specs.Prelude.{◌≡◌, ◌<◌, ◌≤◌, ◌+◌, ◌*◌, ◌^◌, ◌==◌, ℕ, zero, suc, Bool, true, false, All, List, [], ◌∷◌, ◌++◌, length, map, Option, Some, None, if◌then◌else◌, refl}
 use Rattle.std.proofs.Common.{ap, arith, inl, inr, ◌∙◌, subst, sym, length-append}
-use Rattle.pm_words.specs.PowerLaws.{Steps-then}
-use Rattle.pm_words.specs.Powers.{is_on, Steps, Supply}
-use Rattle.posix_types.specs.declared.call.Call.{Call}
-use Rattle.posix_types.specs.declared.call.Who.{Who}
-use Rattle.posix_types.specs.declared.item.Item.{Item}
-use Rattle.posix_types.specs.Scripts.{Scripts}
+use Rattle.round_log.specs.pm_words.PowerLaws.{Steps-then}
+use Rattle.round_log.specs.pm_words.Powers.{is_on, Steps, Supply}
+use Rattle.round_views.specs.posix_types.declared.call.Call.{Call}
+use Rattle.round_views.specs.posix_types.declared.call.Who.{Who}
+use Rattle.round_views.specs.posix_types.declared.item.Item.{Item}
+use Rattle.round_views.specs.posix_types.Scripts.{Scripts}
 use Rattle.round_views.specs.posix_spec.Afforded.{moves_data}
 use Rattle.round_views.specs.posix_spec.Run.{Begun}
 use Rattle.round_views.specs.posix_spec.Scripted.{Scripted, Scripted-append}
 use Rattle.round_views.specs.posix_spec.Unfinished.{AreUnfinished, IsNextCall}
-use Rattle.list_facts.specs.Members.{In}
+use Rattle.round_views.specs.list_facts.Members.{In}
 use Rattle.round_log.specs.Rounds.{RoundView}
 use Rattle.round_views.specs.declared.over.Over.{Over}
 use Rattle.round_views.specs.Begins.{item_of, LosesCall, Returns}
@@ -210,9 +210,9 @@ module _ (who : Who) (w new : WorldView) (log : RoundView) (before after : Suppl
     lost_now = subst (λ (x : WorldView). LosesPower who w x (only_log (Some log)) before after) (sym is.new_is) lost
 
   -- before the end of the script was seen
-  module _ (same : new ≡ record w { lost = true }) (spared : after ≡ before) (off : is_on after ≡ false) where
+  module _ (same : new ≡ record w { acts = w.acts + 1; lost = true }) (spared : after ≡ before) (off : is_on after ≡ false) where
     abbrev v-3 : WorldView
-    v-3 = record w { lost = true }
+    v-3 = record w { acts = w.acts + 1; lost = true }
 
     alone-3 : calls_out v-3 ≡ []
     alone-3 = calls_alone v-3 steady-2.none_out ∙ steady-2.none_unfinished
@@ -232,7 +232,7 @@ module _ (who : Who) (w new : WorldView) (log : RoundView) (before after : Suppl
         open_calls = subst (AreUnfinished w.scripts w.history) (sym alone-3) (no_calls w.scripts w.history);
       };
       paid = λ first was. subst (λ (p : Supply). IsPaidOff who first p v-3) (sym spared) (record {
-        any = was.any;
+        any = Steps-more (act_steps * w.acts) (act_steps * (w.acts + 1)) first before (omega arith) was.any;
         quiet = λ none next. Steps-more (512 * length w.history) (512 * (length w.history + 1)) first before (omega arith) (was.quiet none next);
         names = λ given some. let kept = was.names given some in record { changed = kept.changed; fewer = kept.fewer; most = kept.most; each = kept.each };
       });
@@ -243,5 +243,5 @@ module _ (who : Who) (w new : WorldView) (log : RoundView) (before after : Suppl
 
 pub acts_lost : ActsLost
 acts_lost who w new log before after out steps (inl was) = (let never : true ≡ false = sym was.0 ∙ out.steady.awake in cc)
-acts_lost who w new log before after out steps (inr (inl is)) = lost_now who w new log before after out steps is
+acts_lost who w new log before after out steps (inr (inl is)) = lost_now who w new log before after out steps is.0
 acts_lost who w new log before after out steps (inr (inr is)) = ended_now who w new log before after out steps is.2 is.3 is.4

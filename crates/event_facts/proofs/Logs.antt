@@ -1,15 +1,15 @@
 -- The log of a round beside the World: it stays, and what its lines hold.
 use Rattle.std.specs.Prelude.{◌≡◌, ◌<◌, ◌+◌, ◌*◌, ℕ, zero, suc, Contains, List, [], ◌∷◌, length, refl}
 use Rattle.std.proofs.Common.{ap, arith, inl, inr, ◌∙◌, subst, sym}
-use Rattle.pm_words.specs.declared.Cell.{Cell}
-use Rattle.pm_words.specs.Cells.{newest}
-use Rattle.pm_words.specs.Parts.{Part}
-use Rattle.pm_words.specs.Words.{Words}
-use Rattle.disk_lines.specs.declared.Draft.{Draft}
-use Rattle.disk_places.specs.Places.{Geometry, log_line}
+use Rattle.round_log.specs.pm_words.declared.Cell.{Cell}
+use Rattle.round_log.specs.pm_words.Cells.{newest}
+use Rattle.round_log.specs.pm_words.Parts.{Part}
+use Rattle.round_log.specs.pm_words.Words.{Words}
+use Rattle.round_log.specs.disk_lines.declared.Draft.{Draft}
+use Rattle.round_log.specs.disk_places.Places.{Geometry, log_line}
 use Rattle.round_log.specs.disk_rules.LogRule.{HoldsClaims, HoldsEntry, IsAsAtFirst, words_of_line}
 use Rattle.round_views.specs.lines_out.Lines.{AreFrom, line_at}
-use Rattle.list_facts.specs.Members.{In}
+use Rattle.round_views.specs.list_facts.Members.{In}
 use Rattle.round_views.specs.losing_facts.Lines.{IsJobLine}
 use Rattle.round_log.specs.oplog_tail.Closing.{cells_of}
 use Rattle.round_log.specs.oplog_tail.EntryLines.{IsPutOver}

@@ -7,12 +7,12 @@ use Rattle.std.specs.Option.{option_map_or}
 use Rattle.std.proofs.lemmas.List.Elements.{filter-append}
 use Rattle.std.proofs.lemmas.List.Folds.{list_any-append}
 use Rattle.round_views.specs.k_journal.Commits.{TakesAStep}
-use Rattle.pm_words.specs.Powers.{is_left, is_on, Steps, Supply}
-use Rattle.posix_types.specs.declared.call.Call.{Call}
-use Rattle.posix_types.specs.declared.call.Who.{Who}
-use Rattle.posix_types.specs.declared.item.Item.{Item}
-use Rattle.posix_types.specs.Scripts.{Scripts}
-use Rattle.posix_words.specs.Open.{same_who}
+use Rattle.round_log.specs.pm_words.Powers.{is_left, is_on, Steps, Supply}
+use Rattle.round_views.specs.posix_types.declared.call.Call.{Call}
+use Rattle.round_views.specs.posix_types.declared.call.Who.{Who}
+use Rattle.round_views.specs.posix_types.declared.item.Item.{Item}
+use Rattle.round_views.specs.posix_types.Scripts.{Scripts}
+use Rattle.round_views.specs.posix_words.Open.{same_who}
 use Rattle.round_views.specs.posix_puts.PutLaws.{LeavesWhole-put}
 use Rattle.round_views.specs.posix_spec.Afforded.{moves_data}
 use Rattle.round_views.specs.posix_spec.Put.{Put, put_by}

@@ -2,9 +2,9 @@
 use Rattle.std.specs.Prelude.{◌≡◌, ◌≢◌, ◌⊎◌, ◌<◌, ◌+◌, ◌*◌, ◌^◌, ℕ, Bool, true, false, List, [], length, Option, Some, None, if◌then◌else◌, refl}
 use Rattle.std.proofs.Common.{ap, arith, inl, inr, ◌∙◌, subst, sym}
 use Rattle.std.proofs.lemmas.Bool.{eq-eqb, ne_eqb}
-use Rattle.pm_words.specs.Powers.{is_on, Steps, Supply}
-use Rattle.posix_types.specs.declared.call.Call.{Call}
-use Rattle.posix_types.specs.declared.call.Who.{Who}
+use Rattle.round_log.specs.pm_words.Powers.{is_on, Steps, Supply}
+use Rattle.round_views.specs.posix_types.declared.call.Call.{Call}
+use Rattle.round_views.specs.posix_types.declared.call.Who.{Who}
 use Rattle.round_views.specs.posix_spec.Afforded.{moves_data}
 use Rattle.round_views.specs.posix_spec.Put.{Put, put_by}
 use Rattle.round_views.specs.posix_spec.Run.{Begun}
@@ -21,7 +21,7 @@ use Rattle.event_facts.specs.Paid.{act_steps, has_moved, IsPaid, may_move}
 use Rattle.event_facts.proofs.Calls.{calls_alone, no_calls, none_handed, small}
 use Rattle.event_facts.proofs.Logs.{log_holds, log_stays}
 use Rattle.event_facts.proofs.Names.{logged_moves, put_moves, names_later, Steps-more}
-use Rattle.pm_words.specs.PowerLaws.{Steps-then}
+use Rattle.round_log.specs.pm_words.PowerLaws.{Steps-then}
 
 -- ---- the round is over
 

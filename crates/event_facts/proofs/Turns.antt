@@ -1,13 +1,13 @@
 -- A round begins: only what stands below, the lines and their first words differ.
 use Rattle.std.specs.Prelude.{◌≡◌, ◌<◌, ◌^◌, ℕ, List, [], length, IsSome, None, Option, Some, refl}
 use Rattle.std.proofs.Common.{ap, arith, ◌∙◌, subst, sym}
-use Rattle.pm_words.specs.Powers.{Supply}
+use Rattle.round_log.specs.pm_words.Powers.{Supply}
 use Rattle.round_log.proofs.Holding.{holds_none}
-use Rattle.disk_lines.specs.declared.Draft.{Draft}
+use Rattle.round_log.specs.disk_lines.declared.Draft.{Draft}
 use Rattle.round_views.specs.posix_spec.Scripted.{items_of}
 use Rattle.round_log.specs.Held.{HoldsRound}
 use Rattle.round_log.specs.Rounds.{RoundView}
-use Rattle.posix_types.specs.declared.call.Who.{Who}
+use Rattle.round_views.specs.posix_types.declared.call.Who.{Who}
 use Rattle.round_views.specs.Views.{WorldView}
 use Rattle.event_facts.specs.Events.{CanAct, IsLater, IsLogOf, IsSteady, left_to_do, only_log}
 use Rattle.event_facts.specs.Laws.{BeginsLog, EndsTurned, GoesOnTurned, HasOneLog, IsTurn, LosesTurned, opened_log, OpensLog, StaysOpen}

@@ -1,6 +1,6 @@
 -- How many calls of a history changed the names.
 use Rattle.std.specs.Prelude.{◌≡◌, ◌⊎◌, ◌+◌, ℕ, List, [], ◌∷◌}
-use Rattle.posix_types.specs.declared.item.Item.{Item}
+use Rattle.round_views.specs.posix_types.declared.item.Item.{Item}
 use Rattle.round_views.specs.posix_spec.State.{State}
 use Rattle.round_views.specs.posix_spec.Step.{step}
 

@@ -1,9 +1,9 @@
 -- What is out of a World while one caller runs, and what its events leave.
 use Rattle.std.specs.Prelude.{◌≡◌, ◌≢◌, ◌⊎◌, ◌≤◌, ◌<◌, ◌+◌, ◌-◌, ◌*◌, ◌^◌, ◌==◌, ℕ, true, false, List, [], ◌∷◌, length, Option, Some, None, IsSome, if◌then◌else◌}
-use Rattle.pm_words.specs.Parts.{Part}
-use Rattle.pm_words.specs.Powers.{is_on, Supply}
-use Rattle.posix_types.specs.declared.call.Who.{Who}
-use Rattle.posix_words.specs.Open.{same_who}
+use Rattle.round_log.specs.pm_words.Parts.{Part}
+use Rattle.round_log.specs.pm_words.Powers.{is_on, Supply}
+use Rattle.round_views.specs.posix_types.declared.call.Who.{Who}
+use Rattle.round_views.specs.posix_words.Open.{same_who}
 use Rattle.round_views.specs.posix_spec.Scripted.{call_count, IsSetUp, items_of, Scripted}
 use Rattle.round_views.specs.posix_spec.Unfinished.{AreUnfinished}
 use Rattle.round_log.specs.Held.{HoldsRound}

@@ -1,9 +1,9 @@
 -- How the events of one caller lead from one moment between two calls to the next, each law as one statement.
 use Rattle.std.specs.Prelude.{◌≡◌, ◌≤◌, ◌*◌, ◌+◌, ◌^◌, ℕ, true, List, [], length, Some, None, IsSome}
-use Rattle.pm_words.specs.Parts.{Part}
-use Rattle.pm_words.specs.Powers.{is_on, Steps, Supply}
-use Rattle.posix_types.specs.declared.call.Mode.{Mode}
-use Rattle.posix_types.specs.declared.call.Who.{Who}
+use Rattle.round_log.specs.pm_words.Parts.{Part}
+use Rattle.round_log.specs.pm_words.Powers.{is_on, Steps, Supply}
+use Rattle.round_views.specs.posix_types.declared.call.Mode.{Mode}
+use Rattle.round_views.specs.posix_types.declared.call.Who.{Who}
 use Rattle.round_views.specs.posix_spec.Afforded.{Afforded}
 use Rattle.round_views.specs.posix_spec.Scripted.{IsComplete}
 use Rattle.round_log.specs.Rounds.{RoundView}

@@ -21,3 +21,8 @@ pub use Rattle.round_views.specs.posix_spec as posix_spec
 pub use Rattle.round_views.specs.posix_trees as posix_trees
 pub use Rattle.round_views.specs.volume_facts as volume_facts
 pub use Rattle.round_views.specs.write_jobs as write_jobs
+pub use Rattle.round_log.specs.disk_lines as disk_lines
+pub use Rattle.round_log.specs.pm_words as pm_words
+pub use Rattle.round_views.specs.list_facts as list_facts
+pub use Rattle.round_views.specs.posix_types as posix_types
+pub use Rattle.round_views.specs.posix_words as posix_words

@@ -1,10 +1,10 @@
 -- What the events of one caller take of the power.
 use Rattle.std.specs.Prelude.{◌≡◌, ◌≤◌, ◌+◌, ◌*◌, ◌^◌, ℕ, Bool, false, List, length, map, Option, Some, None}
 use Rattle.std.specs.List.{list_any}
-use Rattle.pm_words.specs.Powers.{Steps, Supply}
-use Rattle.posix_types.specs.declared.call.Call.{Call}
-use Rattle.posix_types.specs.declared.call.Who.{Who}
-use Rattle.posix_types.specs.declared.item.Item.{Item}
+use Rattle.round_log.specs.pm_words.Powers.{Steps, Supply}
+use Rattle.round_views.specs.posix_types.declared.call.Call.{Call}
+use Rattle.round_views.specs.posix_types.declared.call.Who.{Who}
+use Rattle.round_views.specs.posix_types.declared.item.Item.{Item}
 use Rattle.round_views.specs.posix_spec.Afforded.{moves_data}
 use Rattle.round_views.specs.Views.{next_of, WorldView}
 use Rattle.event_facts.specs.Changes.{ChangesAtMost}

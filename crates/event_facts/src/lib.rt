@@ -62,5 +62,5 @@ pub fn a_run_is_paid()
     ensures names { KeepsGiven }
 {}
 
-pub use round_log;
-pub use round_views::{flight_names, k_journal, write_jobs};
+pub use round_log::RoundLog;
+pub use round_views::{Commit, Filled, FilledJob, Job, KSplit, NoMemory, mkfs};

@@ -2,24 +2,24 @@
 use Rattle.std.specs.Prelude.{◌≡◌, ◌≢◌, ◌<◌, ◌≤◌, ◌+◌, ◌^◌, ℕ, Bool, true, false, Contains, List, [], ◌∷◌, ◌++◌, length, map, Option, Some, None, Err, if◌then◌else◌, not, refl}
 use Rattle.std.proofs.lemmas.Bool.{ne_eqb}
 use Rattle.std.proofs.Common.{ap, arith, inl, inr, ◌∙◌, subst, sym, length-append}
-use Rattle.pm_words.specs.declared.Cell.{Cell}
-use Rattle.pm_words.specs.declared.Cell.TheVariants.{Single}
-use Rattle.pm_words.specs.Cells.{cell, is_single}
-use Rattle.pm_words.specs.Parts.{Part}
-use Rattle.pm_words.specs.PowerLaws.{Steps-then}
-use Rattle.pm_words.specs.Powers.{is_on, Steps, Supply}
-use Rattle.disk_lines.specs.declared.Draft.{Draft}
+use Rattle.event_facts.specs.pm_words.declared.Cell.{Cell}
+use Rattle.event_facts.specs.pm_words.declared.Cell.TheVariants.{Single}
+use Rattle.event_facts.specs.pm_words.Cells.{cell, is_single}
+use Rattle.event_facts.specs.pm_words.Parts.{Part}
+use Rattle.event_facts.specs.pm_words.PowerLaws.{Steps-then}
+use Rattle.event_facts.specs.pm_words.Powers.{is_on, Steps, Supply}
+use Rattle.event_facts.specs.disk_lines.declared.Draft.{Draft}
 use Rattle.event_facts.specs.disk_rules.LogRule.{HoldsEntry, IsAsAtFirst}
-use Rattle.list_facts.specs.Members.{In}
+use Rattle.event_facts.specs.list_facts.Members.{In}
 use Rattle.event_facts.specs.lines_out.Lines.{line_at}
 use Rattle.event_facts.specs.losing_facts.Lines.{IsJobLine}
 use Rattle.event_facts.specs.oplog_tail.declared.views.Full.{Full}
 use Rattle.event_facts.specs.oplog_tail.declared.views.Mark.TheVariants.{Lost, Written}
 use Rattle.event_facts.specs.oplog_tail.EntryLines.{entry_words, Holds, IsPutOver, IsSingle}
-use Rattle.posix_types.specs.declared.call.Call.{Call}
-use Rattle.posix_types.specs.declared.call.Who.{Who}
-use Rattle.posix_types.specs.declared.item.Item.{Item}
-use Rattle.posix_words.specs.Open.{same_who}
+use Rattle.event_facts.specs.posix_types.declared.call.Call.{Call}
+use Rattle.event_facts.specs.posix_types.declared.call.Who.{Who}
+use Rattle.event_facts.specs.posix_types.declared.item.Item.{Item}
+use Rattle.event_facts.specs.posix_words.Open.{same_who}
 use Rattle.event_facts.specs.crash_spec.Busy.{is_logged}
 use Rattle.event_facts.specs.posix_spec.Afforded.{moves_data}
 use Rattle.event_facts.specs.posix_spec.Run.{after_call, Begun}
@@ -32,7 +32,7 @@ use Rattle.event_facts.proofs.round_log_proofs.Holding.{changes_taken, claims_sl
 use Rattle.event_facts.specs.round_views.declared.over.Over.{Over}
 use Rattle.event_facts.specs.round_views.Begins.{BeginsJob, IsFilledOut, IsJobOut, item_of}
 use Rattle.event_facts.specs.round_views.Lines.{first_of}
-use Rattle.event_facts.specs.round_views.Jobs.{Finishes, GivesUp}
+use Rattle.event_facts.specs.round_views.Jobs.{Finishes, GivesUp, over_by}
 use Rattle.event_facts.specs.round_views.Losses.{MayCrash}
 use Rattle.event_facts.specs.round_views.Views.{calls_out, next_of, state_of, WorldView}
 use Rattle.event_facts.specs.script_calls.Counts.{history_within}
@@ -449,10 +449,10 @@ module _ (who : Who) (w middle new : WorldView) (log : RoundView) (before betwee
   s-5 = has.begun.1.out.steady
 
   abbrev z-5 : WorldView
-  z-5 = record w { pending = []; over = Some (Over.Lap full); given_up = w.given_up + 1; acts = w.acts + 1; disk = new.disk }
+  z-5 = record w { pending = []; over = Some (over_by w.over full); given_up = w.given_up + 1; acts = w.acts + 1; disk = new.disk }
 
   at-5 : WorldView → List Pending → WorldView
-  at-5 m ps = record m { pending = ps; over = Some (Over.Lap full); given_up = m.given_up + 1; disk = new.disk }
+  at-5 m ps = record m { pending = ps; over = Some (over_by m.over full); given_up = m.given_up + 1; disk = new.disk }
 
   awake : middle.lost ≡ false
   awake = ap (λ (x : WorldView). x.lost) has.begun.1.begins.new_is ∙ s-5.awake

@@ -1,12 +1,12 @@
 -- How a job of one caller leads from one moment between two calls to the next, each law as one statement.
 use Rattle.std.specs.Prelude.{◌≡◌, ◌<◌, ◌+◌, ◌^◌, ℕ, Bool, true, false, length, Ok, Err, Some, None, if◌then◌else◌}
-use Rattle.disk_lines.specs.declared.Draft.{Draft}
+use Rattle.event_facts.specs.disk_lines.declared.Draft.{Draft}
 use Rattle.event_facts.specs.oplog_tail.declared.views.Full.{Full}
 use Rattle.event_facts.specs.oplog_tail.declared.views.Mark.TheVariants.{Lost, Written}
 use Rattle.event_facts.specs.oplog_tail.EntryLines.{entry_words, IsSingle}
 use Rattle.event_facts.specs.oplog_tail.Rule.{line_at}
-use Rattle.pm_words.specs.Powers.{is_on, Steps, Supply}
-use Rattle.posix_types.specs.declared.call.Who.{Who}
+use Rattle.event_facts.specs.pm_words.Powers.{is_on, Steps, Supply}
+use Rattle.event_facts.specs.posix_types.declared.call.Who.{Who}
 use Rattle.event_facts.specs.round_log.Rounds.{ChangesLine, IsClaimed, RoundView}
 use Rattle.event_facts.specs.round_log.Stores.{HasStored, Persists}
 use Rattle.event_facts.specs.round_views.Begins.{BeginsJob, IsFilledOut}

@@ -17,3 +17,6 @@ pub use Rattle.event_facts.specs.posix_spec as posix_spec
 pub use Rattle.event_facts.specs.posix_trees as posix_trees
 pub use Rattle.event_facts.specs.volume_facts as volume_facts
 pub use Rattle.event_facts.specs.write_jobs as write_jobs
+pub use Rattle.event_facts.specs.list_facts as list_facts
+pub use Rattle.event_facts.specs.pm_words as pm_words
+pub use Rattle.event_facts.specs.posix_words as posix_words

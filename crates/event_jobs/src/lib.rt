@@ -29,5 +29,7 @@ pub fn a_job_runs()
     ensures given_up { ActsGivenUp }
 {}
 
-pub use event_facts;
-pub use event_facts::{flight_names, k_journal, round_log, write_jobs};
+pub use event_facts::{
+    Commit, Filled, FilledJob, Job, KSplit, NoMemory, RoundLog, a_call_acts, a_round_begins,
+    a_round_ends, a_run_is_paid, mkfs,
+};

@@ -1,27 +1,27 @@
 -- What the changes of a `truncate` ask for.
 use Rattle.std.specs.Prelude.{◌≡◌, ◌≤◌, ◌<◌, ◌+◌, ℕ, List, [], ◌∷◌, length, map, Option, Some, refl}
 use Rattle.std.proofs.Common.{arith, ap, ◌∙◌, sym}
-use Rattle.disk_lines.specs.declared.Draft.{Draft}
-use Rattle.disk_lines.specs.declared.Kind.TheVariants.{File}
-use Rattle.disk_places.specs.Places.{reserve}
-use Rattle.write_drafts.specs.disk_rules.Content.{size_by}
-use Rattle.write_drafts.specs.disk_rules.Live.{latest}
-use Rattle.write_drafts.specs.disk_rules.Volume.{inode}
-use Rattle.write_drafts.specs.file_table.Files.{Files, runs_in, size_in}
-use Rattle.flight_names.proofs.flight_steps_proofs.k_plans_proofs.FreeCounts.{unwaiting-counted}
-use Rattle.write_drafts.specs.k_rules.View.{View}
+use Rattle.flight_cleans.specs.disk_lines.declared.Draft.{Draft}
+use Rattle.flight_cleans.specs.disk_lines.declared.Kind.TheVariants.{File}
+use Rattle.flight_cleans.specs.disk_places.Places.{reserve}
+use Rattle.flight_cleans.specs.write_drafts.disk_rules.Content.{size_by}
+use Rattle.flight_cleans.specs.write_drafts.disk_rules.Live.{latest}
+use Rattle.flight_cleans.specs.write_drafts.disk_rules.Volume.{inode}
+use Rattle.flight_cleans.specs.write_drafts.file_table.Files.{Files, runs_in, size_in}
+use Rattle.flight_sizes.proofs.flight_names_proofs.flight_steps_proofs.k_plans_proofs.FreeCounts.{unwaiting-counted}
+use Rattle.flight_cleans.specs.write_drafts.k_rules.View.{View}
 use Rattle.posix_types.specs.declared.call.Who.{Who}
 use Rattle.posix_types.specs.declared.handle.Handle.{Handle}
 use Rattle.posix_words.specs.declared.open.Description.{Description}
 use Rattle.posix_words.specs.Open.{opened, Tables}
-use Rattle.flight_names.specs.flight_steps.k_map_plans.Plans.{IsLiveFile}
-use Rattle.flight_names.specs.flight_steps.k_split.MapChanges.{free_blocks_in}
-use Rattle.flight_names.specs.flight_steps.overlay_facts.Overlays.{run_of}
-use Rattle.flight_names.specs.flight_steps.world_promise.TreeRules.{used_below}
-use Rattle.flight_names.specs.flight_steps.world_rules.Jobs.{live_claims}
-use Rattle.flight_names.specs.flight_steps.world_rules.Stands.{entries_of, is_used}
-use Rattle.flight_names.specs.Runs.{RunsInSome}
-use Rattle.flight_names.proofs.CloseCalls.{handle_open}
+use Rattle.flight_sizes.specs.flight_names.flight_steps.k_map_plans.Plans.{IsLiveFile}
+use Rattle.flight_sizes.specs.flight_names.flight_steps.k_split.MapChanges.{free_blocks_in}
+use Rattle.flight_sizes.specs.flight_names.flight_steps.overlay_facts.Overlays.{run_of}
+use Rattle.flight_sizes.specs.flight_names.flight_steps.world_promise.TreeRules.{used_below}
+use Rattle.flight_sizes.specs.flight_names.flight_steps.world_rules.Jobs.{live_claims}
+use Rattle.flight_sizes.specs.flight_names.flight_steps.world_rules.Stands.{entries_of, is_used}
+use Rattle.flight_sizes.specs.flight_names.Runs.{RunsInSome}
+use Rattle.flight_sizes.proofs.flight_names_proofs.CloseCalls.{handle_open}
 
 none_mapped : (ds : List Draft) → [] ≡ map run_of ds → ds ≡ []
 none_mapped [] is = refl

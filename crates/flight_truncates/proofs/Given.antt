@@ -1,22 +1,22 @@
 -- What a `truncate` answers and leaves, each answer.
 use Rattle.std.specs.Prelude.{◌≡◌, ◌≢◌, ◌⊎◌, ◌≤◌, ◌<◌, ◌+◌, ◌-◌, ◌^◌, ℕ, Bool, true, false, List, [], ◌∷◌, ◌++◌, length, map, Option, Some, None, Result, Ok, Err, refl}
 use Rattle.std.proofs.Common.{arith, ap, ◌∙◌, sym, subst, inl, inr}
-use Rattle.pm_words.specs.declared.Cell.{Cell}
-use Rattle.pm_words.specs.Images.{IsImage}
-use Rattle.pm_words.specs.Powers.{is_on, Supply}
-use Rattle.pm_words.specs.Words.{Words}
-use Rattle.disk_places.specs.Journal.{journaled}
-use Rattle.disk_places.specs.Places.{Geometry}
-use Rattle.disk_lines.specs.declared.Kind.TheVariants.{File}
-use Rattle.write_drafts.specs.disk_rules.Volume.{inode, Volume}
-use Rattle.flight_names.proofs.file_ends_proofs.Ending.{end_sized}
-use Rattle.flight_names.specs.file_ends.Ends.{FilesEnd}
-use Rattle.write_drafts.specs.file_table.Files.{Files, runs_in, size_in}
-use Rattle.write_drafts.specs.k_journal.declared.outcomes.Commit.{Commit}
-use Rattle.write_drafts.specs.k_rules.View.{View}
-use Rattle.list_facts.specs.Members.{In}
-use Rattle.flight_names.proofs.lost_devices_proofs.Cuts.{left_at, left_map_cut, left_overwritten, left_through}
-use Rattle.flight_names.specs.lost_devices.Left.{IsLeftOf}
+use Rattle.flight_cleans.specs.pm_words.declared.Cell.{Cell}
+use Rattle.flight_cleans.specs.pm_words.Images.{IsImage}
+use Rattle.flight_cleans.specs.pm_words.Powers.{is_on, Supply}
+use Rattle.flight_cleans.specs.pm_words.Words.{Words}
+use Rattle.flight_cleans.specs.disk_places.Journal.{journaled}
+use Rattle.flight_cleans.specs.disk_places.Places.{Geometry}
+use Rattle.flight_cleans.specs.disk_lines.declared.Kind.TheVariants.{File}
+use Rattle.flight_cleans.specs.write_drafts.disk_rules.Volume.{inode, Volume}
+use Rattle.flight_sizes.proofs.flight_names_proofs.file_ends_proofs.Ending.{end_sized}
+use Rattle.flight_sizes.specs.flight_names.file_ends.Ends.{FilesEnd}
+use Rattle.flight_cleans.specs.write_drafts.file_table.Files.{Files, runs_in, size_in}
+use Rattle.flight_cleans.specs.write_drafts.k_journal.declared.outcomes.Commit.{Commit}
+use Rattle.flight_cleans.specs.write_drafts.k_rules.View.{View}
+use Rattle.flight_cleans.specs.list_facts.Members.{In}
+use Rattle.flight_sizes.proofs.flight_names_proofs.lost_devices_proofs.Cuts.{left_at, left_map_cut, left_overwritten, left_through}
+use Rattle.flight_sizes.specs.flight_names.lost_devices.Left.{IsLeftOf}
 use Rattle.posix_types.specs.declared.call.Call.{Call}
 use Rattle.posix_types.specs.declared.call.Mode.{Mode}
 use Rattle.posix_types.specs.declared.call.Who.{Who}
@@ -29,34 +29,34 @@ use Rattle.posix_words.specs.declared.open.Description.{Description}
 use Rattle.posix_words.specs.Open.{opened, Tables}
 use Rattle.posix_words.specs.Outcomes.{answer, first}
 use Rattle.posix_words.specs.Room.{growth}
-use Rattle.write_drafts.specs.posix_spec.FileRows.{content, truncate_rows}
-use Rattle.write_drafts.specs.crash_spec.Busy.{waits_for}
-use Rattle.write_drafts.specs.posix_spec.Run.{after_call, run}
-use Rattle.write_drafts.specs.posix_spec.State.{room, State}
-use Rattle.write_drafts.specs.posix_spec.Step.{step}
-use Rattle.write_drafts.specs.Numbers.{RoomIsKept}
-use Rattle.write_drafts.specs.write_rows.Rows.{truncate_row_by}
+use Rattle.flight_cleans.specs.write_drafts.posix_spec.FileRows.{content, truncate_rows}
+use Rattle.flight_cleans.specs.write_drafts.crash_spec.Busy.{waits_for}
+use Rattle.flight_cleans.specs.write_drafts.posix_spec.Run.{after_call, run}
+use Rattle.flight_cleans.specs.write_drafts.posix_spec.State.{room, State}
+use Rattle.flight_cleans.specs.write_drafts.posix_spec.Step.{step}
+use Rattle.flight_cleans.specs.write_drafts.Numbers.{RoomIsKept}
+use Rattle.flight_cleans.specs.write_drafts.write_rows.Rows.{truncate_row_by}
 use Rattle.flight_cleans.specs.Laws.{KeepsCleaned, MayClean, StandsCleaned}
 use Rattle.flight_sizes.proofs.Cut.{keeps_sized}
 use Rattle.flight_sizes.proofs.Sized.{stands_sized}
 use Rattle.flight_sizes.proofs.Zeros.{cleans_behind}
 use Rattle.flight_sizes.specs.Sizes.{AreZeros, MaySize}
-use Rattle.flight_names.specs.flight_steps.k_split.Bytes.{IsOverwriteCut, IsOverwriteDone, tail_zeros}
-use Rattle.flight_names.specs.flight_steps.k_split.declared.faults.KFault.{KFault}
-use Rattle.flight_names.specs.flight_steps.k_split.MapChanges.{IsMapCut, IsSizeAnswer, IsSizedWith}
-use Rattle.flight_names.specs.flight_steps.k_split.Answers.{IsOff}
-use Rattle.flight_names.specs.flight_steps.k_plans.Whole.{IsWhole}
-use Rattle.flight_names.specs.flight_steps.world_images.Promised.{IsKept}
-use Rattle.flight_names.specs.flight_steps.world_lent.Back.{IsPutBack}
-use Rattle.flight_names.specs.flight_steps.world_promise.JobLaws.{needs as needs_of}
-use Rattle.flight_names.specs.flight_steps.world_rules.Jobs.{begun_of, Job}
-use Rattle.flight_names.specs.flight_steps.world_rules.Stands.{number}
-use Rattle.flight_names.specs.flight_steps.world_steps.Steps.{AreBeside, flights_of, LetsJobsBe}
-use Rattle.flight_names.specs.flight_steps.world_standing.Standing.{Kept, StandsAt}
-use Rattle.flight_names.specs.declared.outcomes.NoMemory.{NoMemory}
-use Rattle.flight_names.specs.Runs.{RunsAs, with_files}
-use Rattle.flight_names.proofs.CloseCalls.{handle_open}
-use Rattle.flight_names.proofs.Running.{leaves_off, loses_off, runs_later, two_each, world}
+use Rattle.flight_sizes.specs.flight_names.flight_steps.k_split.Bytes.{IsOverwriteCut, IsOverwriteDone, tail_zeros}
+use Rattle.flight_sizes.specs.flight_names.flight_steps.k_split.declared.faults.KFault.{KFault}
+use Rattle.flight_sizes.specs.flight_names.flight_steps.k_split.MapChanges.{IsMapCut, IsSizeAnswer, IsSizedWith}
+use Rattle.flight_sizes.specs.flight_names.flight_steps.k_split.Answers.{IsOff}
+use Rattle.flight_sizes.specs.flight_names.flight_steps.k_plans.Whole.{IsWhole}
+use Rattle.flight_sizes.specs.flight_names.flight_steps.world_images.Promised.{IsKept}
+use Rattle.flight_sizes.specs.flight_names.flight_steps.world_lent.Back.{IsPutBack}
+use Rattle.flight_sizes.specs.flight_names.flight_steps.world_promise.JobLaws.{needs as needs_of}
+use Rattle.flight_sizes.specs.flight_names.flight_steps.world_rules.Jobs.{begun_of, Job}
+use Rattle.flight_sizes.specs.flight_names.flight_steps.world_rules.Stands.{number}
+use Rattle.flight_sizes.specs.flight_names.flight_steps.world_steps.Steps.{AreBeside, flights_of, LetsJobsBe}
+use Rattle.flight_sizes.specs.flight_names.flight_steps.world_standing.Standing.{Kept, StandsAt}
+use Rattle.flight_sizes.specs.flight_names.declared.outcomes.NoMemory.{NoMemory}
+use Rattle.flight_sizes.specs.flight_names.Runs.{RunsAs, with_files}
+use Rattle.flight_sizes.proofs.flight_names_proofs.CloseCalls.{handle_open}
+use Rattle.flight_sizes.proofs.flight_names_proofs.Running.{leaves_off, loses_off, runs_later, two_each, world}
 use Rattle.flight_truncates.specs.Truncates.{Answers, EndsRound, Finds, HasSize, IsClean, IsCleanAnswer, IsGiven, IsTruncated, IsTruncatePaid, Loses, StillRuns}
 use Rattle.flight_truncates.specs.declared.outcomes.Truncated.{Truncated}
 use Rattle.flight_truncates.proofs.Rows.{content_long, outcome_done, room_is, room_left, row_is, same_entries, step_done, step_refused, unknown_row, waits}
@@ -69,6 +69,7 @@ refused who h size needs k t f o row = record {
   runs = λ g x n s finds. (let is = step_refused s who h size o (row g x n s finds.runs) in
       subst (λ z. RunsAs g k t (with_files x f) (n + 1) z) (sym (ap (λ z. z.state) is)) (runs_later g k t (with_files x f) n s finds.runs));
   outcome_is = λ g x n s finds. ap (λ z. z.outcome) (step_refused s who h size o (row g x n s finds.runs));
+  enough = λ g x n s finds none. absurd (let never : None ≡ Some o = sym none ∙ row g x n s finds.runs in cc);
   names = λ g x n s finds. same_entries s who h size;
 }
 
@@ -123,16 +124,19 @@ module _ (who : Who) (h : Handle) (size needs : ℕ) (k : View) (t : Tables) (f 
       zeros l (inl same) image is = λ i least most. absurd (omega (arith, least, most, same.0))
       zeros l (inr done) image is = cleans_behind g k l t (with_files x f) true n s d.node size finds.runs file ends done.1 image is
 
-      fits_beside : growth (length (content s who h)) size + needs_of s finds.runs.jobs ≤ room s
-      fits_beside =
+      -- the jobs that are out leave what it takes
+      leaves_enough : growth (length (content s who h)) size ≤ room s - needs
+      leaves_enough =
           let long = content_long g k t (with_files x f) n s finds.runs who h d known in
           let left = room_is g k t (with_files x f) n s finds.runs who h d known room_kept in
+          subst (λ m. growth m size ≤ room s - needs) (sym long) (subst (λ m. growth (size_in f d.node) size ≤ m - needs) (sym left) fits)
+
+      fits_beside : growth (length (content s who h)) size + needs_of s finds.runs.jobs ≤ room s
+      fits_beside =
           let all : needs_of s finds.runs.jobs ≤ room s = (world g k t (with_files x f) n s finds.runs).valid.room in
-          let takes : growth (length (content s who h)) size ≤ room s - needs_of s finds.runs.jobs =
-          subst (λ m. growth m size ≤ room s - needs_of s finds.runs.jobs) (sym long)
-          (subst (λ m. growth (size_in f d.node) size ≤ m - needs_of s finds.runs.jobs) (sym left) (subst (λ m. growth (size_in f d.node) size ≤ room_left k f - m) finds.needs_are fits))
-          in
-          omega (arith, all, takes)
+          let takes = leaves_enough in
+          let needed = finds.needs_are in
+          omega (arith, all, takes, needed)
 
       may_size : (l : View) (now : RunsAs g l t (with_files x f) n s) → now.jobs ≡ finds.runs.jobs → now.numbers ≡ finds.runs.numbers → IsClean d.node (size_in f d.node) size k l
           → MaySize l (with_files x f) now.jobs now.numbers s who h size d.node
@@ -152,6 +156,7 @@ module _ (who : Who) (h : Handle) (size needs : ℕ) (k : View) (t : Tables) (f 
       runs = λ g x n s finds. (let now = cleaned g x n s finds stands_clean middle clean in
           (stands_sized g middle l t (with_files x f) u true n (n + 1) s who h size d.node (omega arith) now.0 (may_size g x n s finds middle now.0 now.1 now.2 clean) has.sized has.file has.spare).0);
       outcome_is = λ g x n s finds. ap (λ z. z.outcome) (step_done s who h size (row_at g x n s finds.runs ∙ none)) ∙ outcome_done s who h size;
+      enough = λ g x n s finds accepted. leaves_enough g x n s finds;
       names = λ g x n s finds. same_entries s who h size;
     }
 

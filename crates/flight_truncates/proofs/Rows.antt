@@ -2,11 +2,11 @@
 use Rattle.std.specs.Prelude.{◌≡◌, ◌≤◌, ◌<◌, ◌+◌, ◌-◌, ℕ, nat_le, nat_lt, not, Bool, true, false, [], ◌∷◌, length, Option, Some, None, is_none, option_map, sum_by, refl}
 use Rattle.std.specs.Option.{option_map_or}
 use Rattle.std.proofs.Common.{arith, ap, ◌∙◌, sym, subst}
-use Rattle.block_counts.specs.Counts.{held_by, reserve_for}
-use Rattle.disk_places.specs.Places.{data_blocks, Geometry}
-use Rattle.write_drafts.specs.file_table.Files.{Files, runs_in, size_in}
-use Rattle.write_drafts.specs.k_rules.View.{View}
-use Rattle.open_numbers.specs.Numbered.{described_as}
+use Rattle.flight_cleans.specs.block_counts.Counts.{held_by, reserve_for}
+use Rattle.flight_cleans.specs.disk_places.Places.{data_blocks, Geometry}
+use Rattle.flight_cleans.specs.write_drafts.file_table.Files.{Files, runs_in, size_in}
+use Rattle.flight_cleans.specs.write_drafts.k_rules.View.{View}
+use Rattle.flight_cleans.specs.open_numbers.Numbered.{described_as}
 use Rattle.posix_types.specs.declared.call.Call.{Call}
 use Rattle.posix_types.specs.declared.call.Who.{Who}
 use Rattle.posix_types.specs.declared.handle.Handle.{Handle}
@@ -18,18 +18,18 @@ use Rattle.posix_words.specs.Nodes.{bytes_of, node_at}
 use Rattle.posix_words.specs.Open.{may_write, opened, Tables}
 use Rattle.posix_words.specs.Outcomes.{answer, first, row}
 use Rattle.posix_words.specs.Room.{growth}
-use Rattle.write_drafts.specs.posix_spec.FileRows.{content, file_number, truncate_rows}
-use Rattle.write_drafts.specs.posix_spec.Run.{after_call}
-use Rattle.write_drafts.specs.posix_spec.State.{room, State, with_file}
-use Rattle.write_drafts.specs.posix_spec.Step.{step, stepped, truncate_done}
-use Rattle.write_drafts.specs.crash_spec.Busy.{waits_for}
-use Rattle.write_drafts.proofs.Numbers.{length_at}
-use Rattle.write_drafts.specs.Numbers.{RoomIsKept}
-use Rattle.write_drafts.specs.write_rows.Rows.{truncate_row_by}
-use Rattle.flight_names.specs.flight_steps.world_rules.Stands.{number}
-use Rattle.flight_names.specs.flight_steps.world_standing.Standing.{Kept}
-use Rattle.flight_names.specs.Runs.{RunsAs, with_files}
-use Rattle.flight_names.proofs.CloseCalls.{handle_open, handle_there}
+use Rattle.flight_cleans.specs.write_drafts.posix_spec.FileRows.{content, file_number, truncate_rows}
+use Rattle.flight_cleans.specs.write_drafts.posix_spec.Run.{after_call}
+use Rattle.flight_cleans.specs.write_drafts.posix_spec.State.{room, State, with_file}
+use Rattle.flight_cleans.specs.write_drafts.posix_spec.Step.{step, stepped, truncate_done}
+use Rattle.flight_cleans.specs.write_drafts.crash_spec.Busy.{waits_for}
+use Rattle.flight_cleans.proofs.write_drafts_proofs.Numbers.{length_at}
+use Rattle.flight_cleans.specs.write_drafts.Numbers.{RoomIsKept}
+use Rattle.flight_cleans.specs.write_drafts.write_rows.Rows.{truncate_row_by}
+use Rattle.flight_sizes.specs.flight_names.flight_steps.world_rules.Stands.{number}
+use Rattle.flight_sizes.specs.flight_names.flight_steps.world_standing.Standing.{Kept}
+use Rattle.flight_sizes.specs.flight_names.Runs.{RunsAs, with_files}
+use Rattle.flight_sizes.proofs.flight_names_proofs.CloseCalls.{handle_open, handle_there}
 
 -- how much room all files leave
 abbrev pub room_left : View → Files → ℕ

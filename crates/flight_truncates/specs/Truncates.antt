@@ -1,21 +1,21 @@
 -- What a `truncate` answers and leaves.
 use Rattle.std.specs.Prelude.{◌≡◌, ◌⊎◌, ◌≤◌, ◌<◌, ◌+◌, ◌-◌, ◌^◌, ℕ, Bool, true, false, List, [], ◌∷◌, ◌++◌, length, map, Option, Some, None, Result, Ok, Err}
-use Rattle.pm_words.specs.declared.Cell.{Cell}
-use Rattle.pm_words.specs.Powers.{is_on, Supply}
-use Rattle.pm_words.specs.Words.{Words}
-use Rattle.disk_places.specs.Places.{Geometry}
-use Rattle.write_drafts.specs.file_table.Files.{ChangesFile, Files, runs_in, spare_in}
-use Rattle.flight_names.specs.flight_steps.k_split.Bytes.{IsOverwriteCut, IsOverwriteDone, tail_zeros}
-use Rattle.flight_names.specs.flight_steps.k_split.declared.faults.KFault.{KFault}
-use Rattle.flight_names.specs.flight_steps.k_split.MapChanges.{IsSizeAnswer}
-use Rattle.flight_names.specs.flight_steps.world_images.Promised.{IsKept}
-use Rattle.flight_names.specs.flight_steps.world_lent.Back.{IsPutBack}
-use Rattle.flight_names.specs.flight_steps.world_promise.JobLaws.{needs as needs_of}
-use Rattle.flight_names.specs.flight_steps.world_rules.Jobs.{begun_of}
-use Rattle.flight_names.specs.flight_steps.world_steps.Steps.{LetsJobsBe}
-use Rattle.write_drafts.specs.k_journal.declared.outcomes.Commit.{Commit}
-use Rattle.write_drafts.specs.k_rules.View.{View}
-use Rattle.flight_names.specs.lost_devices.Left.{IsLeftOf}
+use Rattle.flight_cleans.specs.pm_words.declared.Cell.{Cell}
+use Rattle.flight_cleans.specs.pm_words.Powers.{is_on, Supply}
+use Rattle.flight_cleans.specs.pm_words.Words.{Words}
+use Rattle.flight_cleans.specs.disk_places.Places.{Geometry}
+use Rattle.flight_cleans.specs.write_drafts.file_table.Files.{ChangesFile, Files, runs_in, spare_in}
+use Rattle.flight_sizes.specs.flight_names.flight_steps.k_split.Bytes.{IsOverwriteCut, IsOverwriteDone, tail_zeros}
+use Rattle.flight_sizes.specs.flight_names.flight_steps.k_split.declared.faults.KFault.{KFault}
+use Rattle.flight_sizes.specs.flight_names.flight_steps.k_split.MapChanges.{IsSizeAnswer}
+use Rattle.flight_sizes.specs.flight_names.flight_steps.world_images.Promised.{IsKept}
+use Rattle.flight_sizes.specs.flight_names.flight_steps.world_lent.Back.{IsPutBack}
+use Rattle.flight_sizes.specs.flight_names.flight_steps.world_promise.JobLaws.{needs as needs_of}
+use Rattle.flight_sizes.specs.flight_names.flight_steps.world_rules.Jobs.{begun_of}
+use Rattle.flight_sizes.specs.flight_names.flight_steps.world_steps.Steps.{LetsJobsBe}
+use Rattle.flight_cleans.specs.write_drafts.k_journal.declared.outcomes.Commit.{Commit}
+use Rattle.flight_cleans.specs.write_drafts.k_rules.View.{View}
+use Rattle.flight_sizes.specs.flight_names.lost_devices.Left.{IsLeftOf}
 use Rattle.posix_types.specs.declared.call.Call.{Call}
 use Rattle.posix_types.specs.declared.call.Mode.{Mode}
 use Rattle.posix_types.specs.declared.call.Who.{Who}
@@ -27,14 +27,14 @@ use Rattle.posix_words.specs.declared.open.Description.{Description}
 use Rattle.posix_words.specs.Open.{opened, Tables}
 use Rattle.posix_words.specs.Outcomes.{answer, first}
 use Rattle.posix_words.specs.Room.{growth}
-use Rattle.write_drafts.specs.posix_spec.FileRows.{content, truncate_rows}
-use Rattle.write_drafts.specs.posix_spec.Run.{after_call, run}
-use Rattle.write_drafts.specs.posix_spec.State.{room, State}
-use Rattle.write_drafts.specs.posix_spec.Step.{step}
-use Rattle.write_drafts.specs.write_rows.Rows.{truncate_row_by}
-use Rattle.flight_names.specs.flight_steps.world_standing.Standing.{Kept}
-use Rattle.flight_names.specs.declared.outcomes.NoMemory.{NoMemory}
-use Rattle.flight_names.specs.Runs.{RunsAs, with_files}
+use Rattle.flight_cleans.specs.write_drafts.posix_spec.FileRows.{content, truncate_rows}
+use Rattle.flight_cleans.specs.write_drafts.posix_spec.Run.{after_call, run}
+use Rattle.flight_cleans.specs.write_drafts.posix_spec.State.{room, State}
+use Rattle.flight_cleans.specs.write_drafts.posix_spec.Step.{step}
+use Rattle.flight_cleans.specs.write_drafts.write_rows.Rows.{truncate_row_by}
+use Rattle.flight_sizes.specs.flight_names.flight_steps.world_standing.Standing.{Kept}
+use Rattle.flight_sizes.specs.flight_names.declared.outcomes.NoMemory.{NoMemory}
+use Rattle.flight_sizes.specs.flight_names.Runs.{RunsAs, with_files}
 use Rattle.flight_truncates.specs.declared.asking.Asked.{Asked}
 use Rattle.flight_truncates.specs.declared.outcomes.Truncated.{Truncated}
 
@@ -115,7 +115,8 @@ pub record Finds (g : Geometry) (k : View) (t : Tables) (x : Kept) (n : ℕ) (s 
 
 -- ---- what it answers
 
--- It is done, or refused: they run in the next state, and the outcome is that of the step. It makes, removes and moves no name.
+-- It is done, or refused: they run in the next state, and the outcome is that of the step. Where no row refuses it, the jobs that are out
+-- left what it takes. It makes, removes and moves no name.
 pub record Answers (who : Who) (h : Handle) (size needs : ℕ) (k : View) (t : Tables) (f : Files) (l : View) (u : Files)
     (outcome : Outcome) : Type 0 where
   pub runs : (g : Geometry) (x : Kept) (n : ℕ) (s : State)
@@ -124,6 +125,9 @@ pub record Answers (who : Who) (h : Handle) (size needs : ℕ) (k : View) (t : T
   pub outcome_is : (g : Geometry) (x : Kept) (n : ℕ) (s : State)
       → Finds g k t (with_files x f) n s who (Call.Truncate h size) needs
       → (step s who (Call.Truncate h size)).outcome ≡ outcome
+  pub enough : (g : Geometry) (x : Kept) (n : ℕ) (s : State)
+      → Finds g k t (with_files x f) n s who (Call.Truncate h size) needs
+      → first (truncate_rows s who h size) ≡ None → growth (length (content s who h)) size ≤ room s - needs
   pub names : (g : Geometry) (x : Kept) (n : ℕ) (s : State)
       → Finds g k t (with_files x f) n s who (Call.Truncate h size) needs
       → (after_call s (who, Call.Truncate h size)).entries ≡ s.entries

@@ -2,9 +2,9 @@
 ghost use Rattle.std.specs.Prelude.{◌≡◌, ◌≤◌};
 ghost use Rattle.flight_truncates.specs.Truncates.{IsAsked, IsBeside};
 
+use flight_cleans::truncate_row;
 use posix_types::Outcome;
 use posix_words::room::growth;
-use write_drafts::write_rows::truncate_row;
 
 /// How it goes.
 #[derive(Debug, Drop)]

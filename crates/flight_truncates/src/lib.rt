@@ -1,11 +1,12 @@
 //! `truncate` while writes of other callers are in flight.
 //!
 //! The layer above may rely on this: where K-Split, the open files and what is kept of files run in
-//! a state with writes of others out, and nothing is staged of the file, `truncate_file` is done and
-//! its outcome is that of the step, and they run in its next state; or no row refuses it but the
-//! writes that are out leave less room than it takes, and nothing was done; or the power went, and
-//! each image, with log lines and blocks of jobs put back, is kept with the calls of the jobs
-//! unfinished, and this one; or memory wanted, and they run in the same state (`IsTruncated`).
+//! a state with writes of others out, and nothing is staged of the file, `truncate_file` is refused
+//! by a row, or done where the writes that are out leave what it takes; its outcome is that of the
+//! step, and they run in its next state. Or no row refuses it but these writes leave less, and
+//! nothing was done; or the power went, and each image, with log lines and blocks of jobs put back,
+//! is kept with the calls of the jobs unfinished, and this one; or memory wanted, and they run in the
+//! same state (`IsTruncated`).
 //! A file that grows has its last block cleaned first, so that it shows zeros behind its old end:
 //! this asks that nothing lies past the ends of files (`FilesEnd`), and leaves it so.
 //!
@@ -17,6 +18,5 @@ mod outcomes;
 mod sizing;
 mod truncating;
 
-pub use flight_sizes::log_mount;
 pub use outcomes::Truncated;
 pub use truncating::truncate_file;

@@ -1,22 +1,20 @@
 //! The changes of K-Split that a `truncate` makes.
 ghost use Rattle.std.specs.Prelude.{◌≡◌, ◌≤◌, ◌<◌, ◌+◌, ◌^◌, false, length, true};
-ghost use Rattle.disk_places.specs.Places.{reserve};
-ghost use Rattle.write_drafts.specs.disk_rules.Volume.{inode};
-ghost use Rattle.write_drafts.specs.file_table.Files.{size_in};
-ghost use Rattle.flight_names.specs.flight_steps.k_map_plans.Plans.{IsLiveFile};
-ghost use Rattle.flight_names.specs.flight_steps.k_split.MapChanges.{free_blocks_in};
-ghost use Rattle.pm_words.specs.Powers.{is_on, Steps};
+ghost use Rattle.flight_cleans.specs.disk_places.Places.{reserve};
+ghost use Rattle.flight_cleans.specs.write_drafts.disk_rules.Volume.{inode};
+ghost use Rattle.flight_cleans.specs.write_drafts.file_table.Files.{size_in};
+ghost use Rattle.flight_sizes.specs.flight_names.flight_steps.k_map_plans.Plans.{IsLiveFile};
+ghost use Rattle.flight_sizes.specs.flight_names.flight_steps.k_split.MapChanges.{free_blocks_in};
+ghost use Rattle.flight_cleans.specs.pm_words.Powers.{is_on, Steps};
 ghost use Rattle.flight_truncates.specs.Truncates.{IsCleanAnswer, IsCommitPaid, IsGiven, IsSet, IsTruncatePaid};
 
 use crate::outcomes::Truncated;
-use flight_names::NoMemory;
-use flight_names::k_split::{KFault, KSplit};
+use flight_cleans::{Commit, FileTable};
+use flight_sizes::{KFault, KSplit, NoMemory};
 use pm_lines::Power;
 use posix_types::Reply;
 use posix_words::outcomes::answer;
 use std::alloc::Global;
-use write_drafts::file_table::FileTable;
-use write_drafts::k_journal::Commit;
 
 // The rest of the last block of a file that grows is set to zero.
 fn clean_end(k: &mut KSplit, ino: u32, old: u64, size: u64, power: &mut Power) -> Commit

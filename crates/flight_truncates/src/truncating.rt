@@ -1,25 +1,22 @@
 //! `truncate` of an open file.
 ghost use Rattle.std.specs.Prelude.{◌≡◌, ◌^◌, true};
-ghost use Rattle.flight_names.specs.file_ends.Ends.{FilesEnd};
-ghost use Rattle.flight_names.specs.Answers.{KeepsEnds};
-ghost use Rattle.flight_names.specs.Runs.{RunsInSome};
-ghost use Rattle.pm_words.specs.Powers.{is_on, Steps};
+ghost use Rattle.flight_sizes.specs.flight_names.file_ends.Ends.{FilesEnd};
+ghost use Rattle.flight_sizes.specs.flight_names.Answers.{KeepsEnds};
+ghost use Rattle.flight_sizes.specs.flight_names.Runs.{RunsInSome};
+ghost use Rattle.flight_cleans.specs.pm_words.Powers.{is_on, Steps};
 ghost use Rattle.flight_truncates.specs.Truncates.{HasNothingStaged, IsTruncated};
 
 use crate::asking::{Asked, ask};
 use crate::outcomes::Truncated;
 use crate::sizing::give_size;
-use flight_cleans::the_end_of_a_file_is_cleaned_in_flight;
-use flight_names::NoMemory;
-use flight_names::k_split::KSplit;
-use flight_names::open_files::OpenFiles;
+use flight_cleans::{
+    FileTable, kept_numbers_are_those_of_the_state, room_by, the_end_of_a_file_is_cleaned_in_flight,
+};
+use flight_sizes::{KSplit, NoMemory, OpenFiles};
 use pm_lines::Power;
 use posix_types::{Errno, Handle, Reply, Who};
 use posix_words::outcomes::answer;
 use std::alloc::Global;
-use write_drafts::file_table::FileTable;
-use write_drafts::kept_numbers_are_those_of_the_state;
-use write_drafts::write_rows::room_by;
 
 /// Gives the file of a handle another size, beside writes of other callers that are out, of other
 /// files, and need `needs` blocks together. Nothing is staged of the file, and nothing lies past the

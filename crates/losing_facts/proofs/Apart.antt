@@ -1,15 +1,15 @@
 -- The loans of jobs are apart.
 use Rattle.std.proofs.Common.{◌≡◌, ◌≢◌, ◌⊎◌, ◌<◌, ◌+◌, ◌∷◌, [], ℕ, List, length, Some, refl, arith, ap, ◌∙◌, sym, subst, inl, inr}
-use Rattle.pm_words.specs.ImageLaws.{IsImage-words_of}
-use Rattle.pm_words.specs.Images.{words_of}
-use Rattle.pm_words.specs.Parts.{Part}
-use Rattle.pm_words.specs.Words.{Words}
+use Rattle.oplog_tail.specs.pm_words.ImageLaws.{IsImage-words_of}
+use Rattle.oplog_tail.specs.pm_words.Images.{words_of}
+use Rattle.oplog_tail.specs.pm_words.Parts.{Part}
+use Rattle.oplog_tail.specs.pm_words.Words.{Words}
 use Rattle.write_ends.specs.block_loans.Loans.{AreApart}
-use Rattle.disk_lines.specs.declared.Draft.{Draft}
-use Rattle.disk_lines.specs.declared.Kind.TheVariants.{Staging}
-use Rattle.disk_places.specs.Journal.{journaled}
+use Rattle.oplog_tail.specs.disk_lines.declared.Draft.{Draft}
+use Rattle.oplog_tail.specs.disk_lines.declared.Kind.TheVariants.{Staging}
+use Rattle.oplog_tail.specs.disk_places.Journal.{journaled}
 use Rattle.oplog_tail.specs.disk_rules.Volume.{inode, Volume}
-use Rattle.list_facts.specs.Members.{In}
+use Rattle.lost_devices.specs.list_facts.Members.{In}
 use Rattle.lost_devices.specs.posix_spec.State.{State}
 use Rattle.lost_devices.specs.volume_uses.OwnerLaws.{IsOnePlace, one_owner}
 use Rattle.log_checkpoint.specs.world_promise.Lent.{once_named}

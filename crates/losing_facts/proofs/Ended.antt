@@ -3,27 +3,27 @@ use Rattle.std.proofs.Common.{◌≡◌, ◌≢◌, ◌⊎◌, ◌<◌, ◌+◌,
 use Rattle.std.specs.Prelude.{if◌then◌else◌, slice_index}
 use Rattle.std.proofs.lemmas.Bool.{both_ways, cases_eq, eq-eqb, ne_eqb}
 use Rattle.std.proofs.lemmas.Option.{same_Some}
-use Rattle.pm_words.specs.declared.Cell.{Cell}
-use Rattle.pm_words.specs.declared.Cell.TheVariants.{Single}
-use Rattle.pm_words.specs.Cells.{cell, is_lent, IsCandidate, unmarked}
-use Rattle.pm_words.specs.Images.{IsImage}
-use Rattle.pm_words.specs.Parts.{put_back}
-use Rattle.pm_words.specs.Words.{Words}
+use Rattle.oplog_tail.specs.pm_words.declared.Cell.{Cell}
+use Rattle.oplog_tail.specs.pm_words.declared.Cell.TheVariants.{Single}
+use Rattle.oplog_tail.specs.pm_words.Cells.{cell, is_lent, IsCandidate, unmarked}
+use Rattle.oplog_tail.specs.pm_words.Images.{IsImage}
+use Rattle.oplog_tail.specs.pm_words.Parts.{put_back}
+use Rattle.oplog_tail.specs.pm_words.Words.{Words}
 use Rattle.write_ends.proofs.block_loans_proofs.SettleLaws.{puts_back}
-use Rattle.disk_lines.specs.declared.Draft.{Draft}
-use Rattle.disk_places.specs.Journal.{journaled}
-use Rattle.disk_places.specs.PlaceLaws.{behind_log-not_journaled, behind_log-words}
-use Rattle.disk_places.specs.Places.{log_line}
+use Rattle.oplog_tail.specs.disk_lines.declared.Draft.{Draft}
+use Rattle.oplog_tail.specs.disk_places.Journal.{journaled}
+use Rattle.oplog_tail.specs.disk_places.PlaceLaws.{behind_log-not_journaled, behind_log-words}
+use Rattle.oplog_tail.specs.disk_places.Places.{log_line}
 use Rattle.oplog_tail.specs.disk_rules.Honest.{IsHonest}
 use Rattle.oplog_tail.specs.disk_rules.Volume.{Volume}
 use Rattle.write_ends.specs.flight_facts.Flying.{IsOut as IsOutWord}
 use Rattle.write_ends.specs.job_facts.Blocks.{ArePutBack, SpellWhole}
-use Rattle.list_facts.specs.Members.{In, pushed-In}
+use Rattle.lost_devices.specs.list_facts.Members.{In, pushed-In}
 use Rattle.log_checkpoint.specs.posix_puts.Puts.{PutsWhole}
 use Rattle.lost_devices.specs.posix_spec.Run.{Begun, run}
-use Rattle.posix_types.specs.declared.call.Call.{Call}
-use Rattle.posix_types.specs.declared.call.Who.{Who}
-use Rattle.posix_types.specs.declared.item.Item.{Item}
+use Rattle.lost_devices.specs.posix_types.declared.call.Call.{Call}
+use Rattle.lost_devices.specs.posix_types.declared.call.Who.{Who}
+use Rattle.lost_devices.specs.posix_types.declared.item.Item.{Item}
 use Rattle.lost_devices.specs.posix_spec.State.{State}
 use Rattle.lost_devices.specs.volume_facts.ImageLaws.{journaled-other}
 use Rattle.lost_devices.specs.volume_facts.LineWords.{data_word}

@@ -1,16 +1,16 @@
 -- The power goes in a call of a World that stood together, or is found off.
 use Rattle.std.proofs.Common.{◌≡◌, ◌≢◌, ◌∷◌, ◌++◌, [], ℕ, List, None, refl, ◌∙◌, sym, subst, inl, inr}
 use Rattle.std.specs.Prelude.{map}
-use Rattle.pm_words.specs.ImageLaws.{IsImage-words_of}
-use Rattle.pm_words.specs.Images.{words_of}
-use Rattle.pm_words.specs.Words.{Words}
-use Rattle.disk_places.specs.Journal.{IsSound, journaled}
-use Rattle.disk_places.specs.Places.{Geometry}
-use Rattle.disk_lines.specs.declared.Draft.{Draft}
-use Rattle.list_facts.specs.Members.{In}
+use Rattle.oplog_tail.specs.pm_words.ImageLaws.{IsImage-words_of}
+use Rattle.oplog_tail.specs.pm_words.Images.{words_of}
+use Rattle.oplog_tail.specs.pm_words.Words.{Words}
+use Rattle.oplog_tail.specs.disk_places.Journal.{IsSound, journaled}
+use Rattle.oplog_tail.specs.disk_places.Places.{Geometry}
+use Rattle.oplog_tail.specs.disk_lines.declared.Draft.{Draft}
+use Rattle.lost_devices.specs.list_facts.Members.{In}
 use Rattle.lost_devices.proofs.Cuts.{left_same}
 use Rattle.lost_devices.specs.Left.{IsLeftOf}
-use Rattle.posix_types.specs.declared.call.Mode.{Mode}
+use Rattle.lost_devices.specs.posix_types.declared.call.Mode.{Mode}
 use Rattle.lost_devices.specs.posix_spec.Run.{Begun, run}
 use Rattle.write_ends.specs.world_images.Changed.{sound_headed}
 use Rattle.write_ends.specs.world_images.Kept.{kept_more}

@@ -1,10 +1,10 @@
 -- The blocks of jobs, and loans that come home one after the other.
 use Rattle.std.proofs.Common.{◌≡◌, ◌⊎◌, ◌<◌, ◌/◌, ◌%◌, ◌∷◌, ◌++◌, [], ℕ, zero, suc, false, List, length, refl, arith, ap, ◌∙◌, sym, inl, inr}
-use Rattle.pm_words.specs.declared.Cell.{Cell}
-use Rattle.pm_words.specs.declared.Cell.TheVariants.{Lent, Marked, Single, Two}
-use Rattle.pm_words.specs.Cells.{cell, is_lent, unmarked}
-use Rattle.pm_words.specs.Parts.{Part}
-use Rattle.list_facts.specs.Members.{In}
+use Rattle.oplog_tail.specs.pm_words.declared.Cell.{Cell}
+use Rattle.oplog_tail.specs.pm_words.declared.Cell.TheVariants.{Lent, Marked, Single, Two}
+use Rattle.oplog_tail.specs.pm_words.Cells.{cell, is_lent, unmarked}
+use Rattle.oplog_tail.specs.pm_words.Parts.{Part}
+use Rattle.lost_devices.specs.list_facts.Members.{In}
 use Rattle.losing_facts.proofs.Pending.{job_of}
 use Rattle.write_ends.specs.write_jobs.Jobs.{loan_at}
 use Rattle.losing_facts.specs.Laws.{ComeHomeMore, ComeHomeNone, HasBlocksOut, LeavesBlocks}

@@ -4,20 +4,20 @@ use Rattle.std.specs.Prelude.{slice_index}
 use Rattle.std.proofs.lemmas.Bool.{both_ways}
 use Rattle.std.proofs.lemmas.Bool.Decides.{nat_tests}
 use Rattle.std.proofs.lemmas.Option.{same_Some}
-use Rattle.pm_words.specs.declared.Cell.{Cell}
-use Rattle.pm_words.specs.declared.Cell.TheVariants.{Lent, Marked, Single, Two}
-use Rattle.pm_words.specs.Cells.{cell, is_lent, IsCandidate}
-use Rattle.pm_words.specs.Words.{Words}
-use Rattle.disk_lines.specs.declared.Draft.{Draft}
-use Rattle.disk_lines.specs.declared.Kind.TheVariants.{Staging}
-use Rattle.disk_lines.specs.Entries.{is_draft}
-use Rattle.disk_places.specs.Places.{is_data_block}
+use Rattle.oplog_tail.specs.pm_words.declared.Cell.{Cell}
+use Rattle.oplog_tail.specs.pm_words.declared.Cell.TheVariants.{Lent, Marked, Single, Two}
+use Rattle.oplog_tail.specs.pm_words.Cells.{cell, is_lent, IsCandidate}
+use Rattle.oplog_tail.specs.pm_words.Words.{Words}
+use Rattle.oplog_tail.specs.disk_lines.declared.Draft.{Draft}
+use Rattle.oplog_tail.specs.disk_lines.declared.Kind.TheVariants.{Staging}
+use Rattle.oplog_tail.specs.disk_lines.Entries.{is_draft}
+use Rattle.oplog_tail.specs.disk_places.Places.{is_data_block}
 use Rattle.oplog_tail.specs.disk_rules.Rules.{AreApart, file_blocks_of}
 use Rattle.oplog_tail.specs.disk_rules.Volume.{extents, inode, Volume}
-use Rattle.extent_facts.specs.Covers.{covers-disk_at}
+use Rattle.lost_devices.specs.extent_facts.Covers.{covers-disk_at}
 use Rattle.write_ends.specs.job_facts.Blocks.{AreOut}
-use Rattle.list_facts.specs.Members.{In}
-use Rattle.posix_types.specs.declared.item.Item.{Item}
+use Rattle.lost_devices.specs.list_facts.Members.{In}
+use Rattle.lost_devices.specs.posix_types.declared.item.Item.{Item}
 use Rattle.lost_devices.specs.posix_spec.Run.{Begun}
 use Rattle.lost_devices.specs.posix_spec.State.{State}
 use Rattle.lost_devices.specs.volume_uses.OwnerLaws.{IsOnePlace, one_owner}

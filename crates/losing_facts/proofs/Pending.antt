@@ -1,13 +1,13 @@
 -- The job that ends among those that are out, and its loans.
-use Rattle.disk_lines.specs.declared.Draft.{Draft}
-use Rattle.disk_lines.specs.declared.Kind.TheVariants.{Staging}
+use Rattle.oplog_tail.specs.disk_lines.declared.Draft.{Draft}
+use Rattle.oplog_tail.specs.disk_lines.declared.Kind.TheVariants.{Staging}
 use Rattle.oplog_tail.specs.disk_rules.Volume.{Volume, free_inode, inode}
-use Rattle.list_facts.specs.Members.{In}
-use Rattle.pm_words.specs.Parts.{Part}
-use Rattle.pm_words.specs.Words.{Words}
+use Rattle.lost_devices.specs.list_facts.Members.{In}
+use Rattle.oplog_tail.specs.pm_words.Parts.{Part}
+use Rattle.oplog_tail.specs.pm_words.Words.{Words}
 use Rattle.lost_devices.specs.posix_spec.State.{State}
-use Rattle.posix_types.specs.declared.call.Who.{Who}
-use Rattle.posix_words.specs.Open.{same_who}
+use Rattle.lost_devices.specs.posix_types.declared.call.Who.{Who}
+use Rattle.lost_devices.specs.posix_words.Open.{same_who}
 use Rattle.std.proofs.Common.{Bool, List, Some, [], ap, arith, cond, false, inl, inr, length, not, refl, subst, suc, sym, true, zero, ℕ, ◌++◌, ◌<◌, ◌∙◌, ◌∷◌, ◌≡◌, ◌⊎◌}
 use Rattle.std.proofs.lemmas.Bool.{cases_lt}
 use Rattle.std.proofs.lemmas.List.{get_or_past, length-map}

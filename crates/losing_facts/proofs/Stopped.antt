@@ -1,13 +1,13 @@
 -- Changes of K-Split, done or cut off, one after the other: the same words are lent.
 use Rattle.std.proofs.Common.{◌≡◌, ◌∷◌, [], ℕ, zero, suc, false, List, length, refl, ap, ◌∙◌, sym, subst, inl, inr}
 use Rattle.std.specs.Prelude.{Err, Ok}
-use Rattle.pm_words.specs.declared.Cell.{Cell}
-use Rattle.pm_words.specs.Images.{IsImage}
-use Rattle.pm_words.specs.Words.{Words}
-use Rattle.disk_places.specs.Journal.{IsSound}
-use Rattle.disk_places.specs.Places.{Geometry}
+use Rattle.oplog_tail.specs.pm_words.declared.Cell.{Cell}
+use Rattle.oplog_tail.specs.pm_words.Images.{IsImage}
+use Rattle.oplog_tail.specs.pm_words.Words.{Words}
+use Rattle.oplog_tail.specs.disk_places.Journal.{IsSound}
+use Rattle.oplog_tail.specs.disk_places.Places.{Geometry}
 use Rattle.oplog_tail.specs.disk_rules.Volume.{inode, Volume}
-use Rattle.file_overlay.specs.declared.runs.Run.{Run}
+use Rattle.log_checkpoint.specs.file_overlay.declared.runs.Run.{Run}
 use Rattle.log_checkpoint.specs.file_table.Files.{Files, runs_in, size_in}
 use Rattle.log_checkpoint.specs.fsync_relink.Publishes.{AreRelinked, IsPublishStopped, IsRelinkedUpTo, move_of, size_before}
 use Rattle.lost_devices.specs.k_journal.declared.outcomes.Commit.{Commit}

@@ -1,11 +1,11 @@
 -- Disk blocks that are out of a device or at home, and loans that come home.
 use Rattle.std.specs.Prelude.{◌≡◌, ◌≢◌, ◌/◌, ◌%◌, ℕ, true, false, List, length}
-use Rattle.pm_words.specs.declared.Cell.{Cell}
-use Rattle.pm_words.specs.Cells.{cell, is_lent, unmarked}
-use Rattle.pm_words.specs.Parts.{Part}
-use Rattle.disk_lines.specs.declared.Draft.{Draft}
+use Rattle.oplog_tail.specs.pm_words.declared.Cell.{Cell}
+use Rattle.oplog_tail.specs.pm_words.Cells.{cell, is_lent, unmarked}
+use Rattle.oplog_tail.specs.pm_words.Parts.{Part}
+use Rattle.oplog_tail.specs.disk_lines.declared.Draft.{Draft}
 use Rattle.oplog_tail.specs.disk_rules.Volume.{Volume}
-use Rattle.list_facts.specs.Members.{In}
+use Rattle.lost_devices.specs.list_facts.Members.{In}
 use Rattle.log_checkpoint.specs.world_rules.Jobs.{IsStagedIn}
 
 -- each word of the blocks is lent; and none is

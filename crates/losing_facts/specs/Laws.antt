@@ -1,19 +1,19 @@
 -- How a World that lost its power goes on, each law as one statement.
 use Rattle.std.specs.Prelude.{◌≡◌, ◌≢◌, ◌/◌, ℕ, true, false, List, [], ◌∷◌, ◌++◌, map, Option, Bool}
-use Rattle.pm_words.specs.declared.Cell.{Cell}
-use Rattle.pm_words.specs.Cells.{cell, is_lent}
-use Rattle.pm_words.specs.Parts.{Part}
-use Rattle.pm_words.specs.Words.{Words}
+use Rattle.oplog_tail.specs.pm_words.declared.Cell.{Cell}
+use Rattle.oplog_tail.specs.pm_words.Cells.{cell, is_lent}
+use Rattle.oplog_tail.specs.pm_words.Parts.{Part}
+use Rattle.oplog_tail.specs.pm_words.Words.{Words}
 use Rattle.write_ends.specs.block_loans.Loans.{AreApart, ComeBack}
-use Rattle.disk_lines.specs.declared.Draft.{Draft}
-use Rattle.disk_places.specs.Places.{Geometry}
+use Rattle.oplog_tail.specs.disk_lines.declared.Draft.{Draft}
+use Rattle.oplog_tail.specs.disk_places.Places.{Geometry}
 use Rattle.oplog_tail.specs.disk_rules.Volume.{Volume}
 use Rattle.lost_devices.specs.k_rules.View.{View}
-use Rattle.list_facts.specs.Members.{In}
+use Rattle.lost_devices.specs.list_facts.Members.{In}
 use Rattle.lost_devices.specs.Left.{IsLeftOf}
-use Rattle.posix_types.specs.declared.call.Mode.{Mode}
-use Rattle.posix_types.specs.declared.item.Item.{Item}
-use Rattle.posix_words.specs.Open.{Tables}
+use Rattle.lost_devices.specs.posix_types.declared.call.Mode.{Mode}
+use Rattle.lost_devices.specs.posix_types.declared.item.Item.{Item}
+use Rattle.lost_devices.specs.posix_words.Open.{Tables}
 use Rattle.lost_devices.specs.posix_spec.Run.{Begun, run}
 use Rattle.lost_devices.specs.posix_spec.State.{State}
 use Rattle.write_ends.specs.world_images.Promised.{IsKept}

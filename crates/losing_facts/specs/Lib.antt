@@ -17,3 +17,9 @@ pub use Rattle.lost_devices.specs.volume_facts as volume_facts
 pub use Rattle.oplog_tail.specs as oplog_tail
 pub use Rattle.oplog_tail.specs.disk_rules as disk_rules
 pub use Rattle.write_ends.specs.write_jobs as write_jobs
+pub use Rattle.lost_devices.specs.list_facts as list_facts
+pub use Rattle.lost_devices.specs.posix_types as posix_types
+pub use Rattle.lost_devices.specs.posix_words as posix_words
+pub use Rattle.oplog_tail.specs.disk_lines as disk_lines
+pub use Rattle.oplog_tail.specs.disk_places as disk_places
+pub use Rattle.oplog_tail.specs.pm_words as pm_words

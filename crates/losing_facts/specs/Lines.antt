@@ -1,15 +1,15 @@
 -- The lines of a log as they come home once the power went.
 use Rattle.std.specs.Prelude.{◌≡◌, ◌⊎◌, ◌<◌, ◌+◌, ◌*◌, ℕ, List, length}
-use Rattle.pm_words.specs.declared.Cell.{Cell}
-use Rattle.pm_words.specs.Parts.{Part}
-use Rattle.pm_words.specs.Words.{Words}
-use Rattle.disk_lines.specs.declared.Draft.{Draft}
-use Rattle.disk_places.specs.Places.{log_line}
+use Rattle.oplog_tail.specs.pm_words.declared.Cell.{Cell}
+use Rattle.oplog_tail.specs.pm_words.Parts.{Part}
+use Rattle.oplog_tail.specs.pm_words.Words.{Words}
+use Rattle.oplog_tail.specs.disk_lines.declared.Draft.{Draft}
+use Rattle.oplog_tail.specs.disk_places.Places.{log_line}
 use Rattle.oplog_tail.specs.disk_rules.LogRule.{HoldsEntry, IsAsAtFirst}
 use Rattle.oplog_tail.specs.disk_rules.Volume.{Volume}
 use Rattle.lost_devices.specs.k_split.LogLines.{AreLogLines}
 use Rattle.lost_devices.specs.lines_out.Lines.{line_at}
-use Rattle.list_facts.specs.Members.{In}
+use Rattle.lost_devices.specs.list_facts.Members.{In}
 use Rattle.oplog_tail.specs.EntryLines.{entry_words, IsPutOver}
 use Rattle.write_ends.specs.write_jobs.Jobs.{FilledView}
 

@@ -1,16 +1,16 @@
 -- A World whose power went while log lines and blocks of jobs are out.
 use Rattle.std.specs.Prelude.{◌≡◌, ◌⊎◌, ℕ, true, AllPairs, List, Option, Some, None}
-use Rattle.pm_words.specs.declared.Cell.{Cell}
-use Rattle.pm_words.specs.Cells.{cell, is_lent}
-use Rattle.pm_words.specs.Images.{IsImage}
-use Rattle.pm_words.specs.Words.{Words}
-use Rattle.disk_places.specs.Journal.{IsSound, journaled}
-use Rattle.disk_lines.specs.declared.Draft.{Draft}
+use Rattle.oplog_tail.specs.pm_words.declared.Cell.{Cell}
+use Rattle.oplog_tail.specs.pm_words.Cells.{cell, is_lent}
+use Rattle.oplog_tail.specs.pm_words.Images.{IsImage}
+use Rattle.oplog_tail.specs.pm_words.Words.{Words}
+use Rattle.oplog_tail.specs.disk_places.Journal.{IsSound, journaled}
+use Rattle.oplog_tail.specs.disk_lines.declared.Draft.{Draft}
 use Rattle.oplog_tail.specs.disk_rules.Volume.{Volume}
 use Rattle.write_ends.specs.flight_facts.Flying.{IsOut}
 use Rattle.write_ends.specs.job_facts.Blocks.{AreOut}
-use Rattle.list_facts.specs.Members.{In}
-use Rattle.posix_types.specs.declared.item.Item.{Item}
+use Rattle.lost_devices.specs.list_facts.Members.{In}
+use Rattle.lost_devices.specs.posix_types.declared.item.Item.{Item}
 use Rattle.log_checkpoint.specs.posix_puts.Puts.{PutsWhole}
 use Rattle.lost_devices.specs.posix_spec.Run.{Begun, run}
 use Rattle.lost_devices.specs.posix_spec.State.{State}

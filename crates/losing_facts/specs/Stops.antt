@@ -1,9 +1,9 @@
 -- What the publishing of files leaves of a device of which words are lent: where the power went, and where it is done.
 use Rattle.std.specs.Prelude.{◌≡◌, ℕ, Bool, List, length, Ok}
-use Rattle.pm_words.specs.declared.Cell.{Cell}
-use Rattle.pm_words.specs.Frames.{SameLent}
-use Rattle.disk_places.specs.Places.{Geometry}
-use Rattle.file_overlay.specs.declared.runs.Run.{Run}
+use Rattle.oplog_tail.specs.pm_words.declared.Cell.{Cell}
+use Rattle.oplog_tail.specs.pm_words.Frames.{SameLent}
+use Rattle.oplog_tail.specs.disk_places.Places.{Geometry}
+use Rattle.log_checkpoint.specs.file_overlay.declared.runs.Run.{Run}
 use Rattle.log_checkpoint.specs.file_table.Files.{Files}
 use Rattle.log_checkpoint.specs.fsync_relink.Publishes.{IsPublishDone, IsPublishStopped}
 use Rattle.lost_devices.specs.k_journal.declared.outcomes.Commit.{Commit}
@@ -11,7 +11,7 @@ use Rattle.lost_devices.specs.k_rules.View.{View}
 use Rattle.lost_devices.specs.k_split.declared.faults.KFault.{KFault}
 use Rattle.log_checkpoint.specs.Gathers.{IsGatherAnswer}
 use Rattle.lost_devices.specs.Left.{IsLeftOf}
-use Rattle.posix_words.specs.Open.{Tables}
+use Rattle.lost_devices.specs.posix_words.Open.{Tables}
 use Rattle.lost_devices.specs.posix_spec.State.{State}
 use Rattle.log_checkpoint.specs.staging_files.Keeps.{Staged}
 use Rattle.write_ends.specs.world_standing.Standing.{Kept, StandsAt}

@@ -57,6 +57,5 @@ pub fn publishing_leaves_what_is_out()
     ensures gathered { KeepsGatheredOut }
 {}
 
-pub use oplog_tail;
-pub use write_ends;
-pub use write_ends::block_loans;
+pub use oplog_tail::Full;
+pub use write_ends::{finish_write, give_up_write, settle_blocks};

@@ -2,9 +2,9 @@
 use Rattle.std.specs.Prelude.{◌≡◌, ◌≢◌, ◌⊎◌, ◌+◌, ℕ, Bool, List, [], ◌∷◌, length, map, sum_by, refl}
 use Rattle.std.proofs.Common.{arith, ◌∙◌, sym, inl, inr}
 use Rattle.std.proofs.lemmas.List.Sums.{sum_by-cons}
-use Rattle.disk_places.specs.Places.{Geometry}
+use Rattle.map_ends.specs.disk_places.Places.{Geometry}
 use Rattle.map_ends.specs.k_rules.View.{View}
-use Rattle.posix_words.specs.Open.{Tables}
+use Rattle.map_ends.specs.posix_words.Open.{Tables}
 use Rattle.map_ends.specs.posix_puts.Views.{need_of}
 use Rattle.map_ends.specs.posix_spec.Run.{Begun}
 use Rattle.map_ends.specs.posix_spec.State.{State}

@@ -3,16 +3,16 @@ use Rattle.std.specs.Prelude.{◌≡◌, ◌≢◌, ◌≤◌, ◌<◌, ◌+◌,
 use Rattle.std.proofs.Common.{arith, ap, ◌∙◌, sym, subst}
 use Rattle.std.proofs.lemmas.Bool.Decides.{Decides-eqb}
 use Rattle.std.proofs.lemmas.Option.{same_Some}
-use Rattle.pm_words.specs.declared.Cell.{Cell}
-use Rattle.pm_words.specs.Powers.{is_on, Supply}
-use Rattle.pm_words.specs.Words.{Words}
-use Rattle.disk_lines.specs.declared.Draft.{Draft}
-use Rattle.disk_lines.specs.declared.Inode.{Inode}
-use Rattle.disk_lines.specs.declared.Kind.TheVariants.{File}
-use Rattle.disk_places.specs.Places.{Geometry}
+use Rattle.map_ends.specs.pm_words.declared.Cell.{Cell}
+use Rattle.map_ends.specs.pm_words.Powers.{is_on, Supply}
+use Rattle.map_ends.specs.pm_words.Words.{Words}
+use Rattle.map_ends.specs.disk_lines.declared.Draft.{Draft}
+use Rattle.map_ends.specs.disk_lines.declared.Inode.{Inode}
+use Rattle.map_ends.specs.disk_lines.declared.Kind.TheVariants.{File}
+use Rattle.map_ends.specs.disk_places.Places.{Geometry}
 use Rattle.map_ends.specs.disk_rules.Live.{is_file}
 use Rattle.map_ends.specs.disk_rules.Volume.{inode}
-use Rattle.file_overlay.specs.declared.runs.Run.{Run}
+use Rattle.map_ends.specs.file_overlay.declared.runs.Run.{Run}
 use Rattle.map_ends.specs.file_table.Files.{ChangesFile, Files, runs_in, size_in}
 use Rattle.round_turns.specs.flight_calls.Built.{CutsNothing}
 use Rattle.flight_publishes.specs.Answers.{LosesFile, PublishesFile}
@@ -22,14 +22,14 @@ use Rattle.flight_publishes.specs.flight_relinks.Laws.{StandsThen}
 use Rattle.flight_publishes.specs.flight_relinks.world_promise.TreeRules.{used_below}
 use Rattle.round_turns.specs.flight_rounds.world_lent.Back.{IsPutBack}
 use Rattle.map_ends.specs.k_rules.View.{View}
-use Rattle.list_facts.specs.Members.{In}
+use Rattle.map_ends.specs.list_facts.Members.{In}
 use Rattle.map_ends.proofs.Files.{end_published}
-use Rattle.posix_types.specs.declared.call.Call.{Call}
-use Rattle.posix_types.specs.declared.call.Mode.{Mode}
-use Rattle.posix_types.specs.declared.call.Who.{Who}
-use Rattle.posix_types.specs.declared.handle.Handle.{Handle}
-use Rattle.posix_words.specs.declared.open.Description.{Description}
-use Rattle.posix_words.specs.Open.{opened, Tables}
+use Rattle.map_ends.specs.posix_types.declared.call.Call.{Call}
+use Rattle.map_ends.specs.posix_types.declared.call.Mode.{Mode}
+use Rattle.map_ends.specs.posix_types.declared.call.Who.{Who}
+use Rattle.map_ends.specs.posix_types.declared.handle.Handle.{Handle}
+use Rattle.map_ends.specs.posix_words.declared.open.Description.{Description}
+use Rattle.map_ends.specs.posix_words.Open.{opened, Tables}
 use Rattle.map_ends.specs.posix_spec.Run.{Begun}
 use Rattle.map_ends.specs.posix_spec.State.{State}
 use Rattle.map_ends.specs.crash_spec.Busy.{handle_node, path_node, waits_for}
@@ -50,13 +50,13 @@ use Rattle.round_turns.specs.round_jobs.world_steps.Touched.{only}
 use Rattle.round_turns.proofs.Beginning.{lets, lost_call, others_lost}
 use Rattle.round_turns.proofs.Losing.{lost_view}
 use Rattle.round_turns.proofs.round_views_proofs.losing_facts_proofs.Stopped.{leaves_stopped}
-use Rattle.round_turns.specs.round_views.Begins.{LosesCall, OthersStay, Publishes, WantsMemory}
+use Rattle.round_turns.specs.round_views.Begins.{LosesCall, OthersStay, Publishes}
 use Rattle.round_turns.specs.round_views.file_ends.Ends.{FilesEnd}
 use Rattle.round_turns.specs.round_views.lost_devices.Left.{IsLeftOf}
 use Rattle.round_turns.specs.round_views.Views.{Disk, disk_of, inode_on, IsWorldOver, kept_of, state_of, WorldView}
 use Rattle.flight_truncates.specs.Truncates.{HasNothingStaged}
 use Rattle.flight_truncates.proofs.write_asks_proofs.Calls.{handle_open}
-use Rattle.standing_facts.specs.Laws.{StandsToPublish}
+use Rattle.flight_publishes.specs.standing_facts.Laws.{StandsToPublish}
 use Rattle.round_calls.specs.Calls.{AtCall, HasBareFile, IsBare}
 use Rattle.round_calls.proofs.Staying.{few_made, going_now, others_still, stands_now, still_at}
 
@@ -264,9 +264,3 @@ module _ (k : View) (t : Tables) (staging : Staged) (files : Files) (w : WorldVi
       stay = others_lost k t staging files w one.world one.begins.awake one.out who call one.begins.next one.up one.none l t staging files left promise;
       off = off;
     }
-
--- ---- memory wanted
-
--- The World is only to be dropped.
-pub spoiled : (w : WorldView) (who : Who) (l : View) (t : Tables) (staging : Staged) (after : Supply) → w.lost ≡ false → is_on after ≡ true → WantsMemory who w (record w { disk = disk_of l t staging; usable = false }) after
-spoiled w who l t staging after awake on = record { awake = awake; on = on; new_is = refl; stay = λ usable. (let never : false ≡ true = usable in cc) }

@@ -1,10 +1,10 @@
 -- A call that is not logged runs to its end.
-use Rattle.std.specs.Prelude.{◌≡◌, ◌⊎◌, ◌<◌, ◌+◌, ◌^◌, ◌++◌, ℕ, true, false, List, [], ◌∷◌, length, map, Option, None, refl}
+use Rattle.std.specs.Prelude.{◌≡◌, ◌⊎◌, ◌<◌, ◌+◌, ◌^◌, ◌++◌, ℕ, true, false, List, [], ◌∷◌, length, map, Option, Some, None, is_none, is_some, option_map, refl}
 use Rattle.std.specs.Option.{option_map_or}
-use Rattle.std.proofs.Common.{arith, ap}
-use Rattle.pm_words.specs.declared.Cell.{Cell}
-use Rattle.pm_words.specs.Powers.{is_on, Supply}
-use Rattle.pm_words.specs.Words.{Words}
+use Rattle.std.proofs.Common.{arith, ap, ◌∙◌, sym, subst}
+use Rattle.map_ends.specs.pm_words.declared.Cell.{Cell}
+use Rattle.map_ends.specs.pm_words.Powers.{is_on, Supply}
+use Rattle.map_ends.specs.pm_words.Words.{Words}
 use Rattle.map_ends.specs.file_table.Files.{Files}
 use Rattle.round_turns.specs.flight_calls.Built.{IsBuilt, NamesAreSpelled}
 use Rattle.round_turns.specs.flight_calls.flight_names.Answers.{Answers, IsSpent, LeavesDevice, Loses}
@@ -12,28 +12,37 @@ use Rattle.round_turns.specs.flight_calls.flight_names.Runs.{RunsInSome}
 use Rattle.round_turns.specs.flight_rounds.world_lent.Back.{IsPutBack}
 use Rattle.map_ends.specs.k_journal.Commits.{TakesAStep}
 use Rattle.map_ends.specs.k_rules.View.{View}
-use Rattle.posix_types.specs.declared.call.Call.{Call}
-use Rattle.posix_types.specs.declared.call.Who.{Who}
-use Rattle.posix_types.specs.declared.item.Outcome.{Outcome}
-use Rattle.posix_words.specs.Open.{Tables}
+use Rattle.map_ends.specs.posix_types.declared.call.Call.{Call}
+use Rattle.map_ends.specs.posix_types.declared.call.Who.{Who}
+use Rattle.map_ends.specs.posix_types.declared.handle.Handle.{Handle}
+use Rattle.map_ends.specs.posix_types.declared.item.Outcome.{Outcome}
+use Rattle.map_ends.specs.posix_types.declared.reply.Errno.{Errno}
+use Rattle.map_ends.specs.posix_types.declared.reply.Reply.{Reply}
+use Rattle.map_ends.specs.posix_words.declared.open.Description.{Description}
+use Rattle.map_ends.specs.posix_words.Open.{opened, Tables}
+use Rattle.map_ends.specs.posix_words.Outcomes.{first, row}
 use Rattle.map_ends.specs.posix_spec.Put.{Put, put_by}
 use Rattle.map_ends.specs.posix_spec.Run.{after_call}
 use Rattle.map_ends.specs.posix_spec.Scripted.{items_of}
 use Rattle.map_ends.specs.posix_spec.State.{State}
-use Rattle.map_ends.specs.posix_spec.Step.{step}
+use Rattle.map_ends.specs.posix_spec.Step.{fsync_done, step, stepped}
 use Rattle.map_ends.specs.crash_spec.Busy.{is_logged, is_logged_put}
 use Rattle.round_turns.specs.round_jobs.script_calls.Histories.{item_with}
 use Rattle.round_turns.specs.round_jobs.staging_files.Keeps.{Staged}
 use Rattle.round_turns.specs.round_jobs.world_images.Promised.{IsKept}
 use Rattle.round_turns.specs.round_jobs.world_rules.Jobs.{begun_of}
+use Rattle.round_turns.specs.round_jobs.world_rules.Stands.{number}
+use Rattle.round_turns.specs.round_jobs.world_standing.open_numbers.Numbered.{described_as}
 use Rattle.round_turns.specs.round_jobs.world_standing.Standing.{StandsAt}
 use Rattle.round_turns.specs.round_jobs.world_steps.Steps.{LetsJobsBe}
 use Rattle.round_turns.proofs.Beginning.{lets, lost_call, others_lost, others_returned, returned}
+use Rattle.round_turns.proofs.Ending.{no_both}
 use Rattle.round_turns.proofs.Losing.{lost_view}
-use Rattle.round_turns.specs.round_views.Begins.{item_of, LosesCall, Publishes, Returns}
+use Rattle.round_turns.proofs.round_views_proofs.open_numbers_proofs.Lookups.{same_opened}
+use Rattle.round_turns.specs.round_views.Begins.{IsNeed, IsOfOpenFile, item_of, LacksBeside, LosesCall, Publishes, Returns}
 use Rattle.round_turns.specs.round_views.file_ends.Ends.{FilesEnd}
 use Rattle.round_turns.specs.round_views.lost_devices.Left.{IsLeftOf}
-use Rattle.round_turns.specs.round_views.Views.{disk_of, IsWorldOver, kept_of, state_of, WorldView}
+use Rattle.round_turns.specs.round_views.Views.{Disk, disk_of, IsWorldOver, kept_of, state_of, WorldView}
 use Rattle.round_calls.specs.Calls.{AtCall}
 use Rattle.round_calls.proofs.Staying.{few_calls, stands_now}
 
@@ -61,6 +70,23 @@ built_unlogged s who (Call.Fsync h) built = unlogged_by s who (Call.Fsync h) ref
 built_unlogged s who (Call.Stat p) built = unlogged_by s who (Call.Stat p) refl
 built_unlogged s who (Call.List p) built = unlogged_by s who (Call.List p) refl
 
+-- so they need no room beside the jobs that are out
+logged_need : (w : WorldView) (who : Who) (call : Call) (need : ℕ) → IsBuilt call → IsNeed w who call need → is_logged (state_of w) (who, call) ≡ true
+logged_need w who (Call.Truncate h size) need built is = absurd built
+logged_need w who call need built is = is.0
+
+pub built_beside : (w : WorldView) (who : Who) (call : Call) → IsBuilt call → (need left : ℕ) → ¬ LacksBeside w who call need left
+built_beside w who call built need left lacks = no_both (is_logged (state_of w) (who, call)) (logged_need w who call need built lacks.need_is) (built_unlogged (state_of w) who call built) _
+
+-- ---- an `fsync` that answers ok
+
+-- a handle that stands for nothing is refused
+unknown_synced : (s : State) (who : Who) (h : Handle) → opened s.tables who h ≡ None → (step s who (Call.Fsync h)).outcome.reply ≡ Reply.Ok → ⊥
+unknown_synced s who h none ok =
+    let refused = ap (λ (o : Option Description). (stepped s (first (row (is_none o) Errno.EBADF ∷ [])) (fsync_done s who h)).outcome.reply) none in
+    let never : Reply.Error Errno.EBADF ≡ Reply.Ok = sym refused ∙ ok in
+    cc
+
 module _ (k : View) (t : Tables) (staging : Staged) (files : Files) (w : WorldView) (who : Who) (call : Call) (one : AtCall k t staging files w who call) where
   abbrev now : StandsAt w.geometry k t (kept_of w staging files) true (length w.history) (state_of w)
   now = stands_now k t staging files w who call one
@@ -78,6 +104,17 @@ module _ (k : View) (t : Tables) (staging : Staged) (files : Files) (w : WorldVi
   pub few_next : length w.history + 1 < 2 ^ 31
   few_next = (let calls = few_calls k t staging files w who call one in omega (arith, calls))
 
+  -- A HANDLE THAT AN `fsync` ANSWERS OK stands for an open file.
+  synced : (h : Handle) (o : Option Description) → opened t who h ≡ o → (step (state_of w) who (Call.Fsync h)).outcome.reply ≡ Reply.Ok → is_some o ≡ true
+  synced h (Some d) is ok = refl
+  synced h None is ok =
+      let there = ap (λ (u : Tables). opened u who h) now.tables ∙ same_opened (number now.numbers) t who h in
+      absurd (unknown_synced (state_of w) who h (there ∙ ap (option_map (described_as (number now.numbers))) is) ok)
+
+  pub of_open_file : (c : Call) → IsOfOpenFile who c w
+  of_open_file (Call.Fsync h) = λ ok. subst (λ (d : Disk). is_some (opened d.tables who h) ≡ true) (sym one.world.disk_is) (synced h (opened t who h) refl ok)
+  of_open_file other = tt
+
   -- ---- it returned
 
   module _ (l : View) (u : Tables) (laid : Files) (base : l.volume.base ≡ k.volume.base) (ends : FilesEnd l.volume laid) (stands : StandsAt w.geometry l u (kept_of w staging laid) true (length w.history + 1) (after_call (state_of w) (who, call))) where
@@ -87,14 +124,16 @@ module _ (k : View) (t : Tables) (staging : Staged) (files : Files) (w : WorldVi
     pub ran : IsWorldOver l u staging laid return_view
     ran = returned k t staging files w one.world one.begins.awake one.out who call one.begins.next one.up one.none one.begins.idle l u laid base ends stands
 
-    pub returns : (before after : Supply) → is_logged (state_of w) (who, call) ≡ false → Publishes who call w return_view → is_on after ≡ true
+    pub returns : (before after : Supply) → is_logged (state_of w) (who, call) ≡ false → ((need left : ℕ) → ¬ LacksBeside w who call need left) → Publishes who call w return_view → is_on after ≡ true
         → ((after_call (state_of w) (who, call)).entries ≡ (state_of w).entries) ⊎ TakesAStep before after → Returns who w return_view before after
-    returns before after unlogged published on spent = record {
+    returns before after unlogged enough published on spent = record {
       call = call;
       begins = one.begins;
       unlogged = unlogged;
       new_is = refl;
+      enough = enough;
       published = published;
+      of_file = of_open_file call;
       stay = others_returned k t staging files w one.world one.begins.awake one.out who call one.begins.next one.up one.none one.begins.idle l u laid base ends stands;
       on = on;
       spent = spent;

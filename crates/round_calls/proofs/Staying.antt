@@ -1,13 +1,13 @@
 -- A World at its next call, and how it stays where the call is not begun.
 use Rattle.std.specs.Prelude.{◌≡◌, ◌≢◌, ◌⊎◌, ◌≤◌, ◌<◌, ◌+◌, ◌^◌, ℕ, true, [], length, Option, Some, None, refl}
-use Rattle.std.proofs.Common.{arith, ◌∙◌, sym, subst, inl, inr}
-use Rattle.pm_words.specs.Powers.{is_on, Supply}
+use Rattle.std.proofs.Common.{arith, ap, ◌∙◌, sym, subst, inl, inr}
+use Rattle.map_ends.specs.pm_words.Powers.{is_on, Supply}
 use Rattle.map_ends.specs.file_table.Files.{Files}
 use Rattle.map_ends.specs.k_rules.View.{View}
-use Rattle.posix_types.specs.declared.call.Call.{Call}
-use Rattle.posix_types.specs.declared.call.Mode.{Mode}
-use Rattle.posix_types.specs.declared.call.Who.{Who}
-use Rattle.posix_words.specs.Open.{Tables}
+use Rattle.map_ends.specs.posix_types.declared.call.Call.{Call}
+use Rattle.map_ends.specs.posix_types.declared.call.Mode.{Mode}
+use Rattle.map_ends.specs.posix_types.declared.call.Who.{Who}
+use Rattle.map_ends.specs.posix_words.Open.{Tables}
 use Rattle.round_turns.specs.round_jobs.script_calls.Counts.{history_within}
 use Rattle.round_turns.specs.round_jobs.staging_files.Keeps.{Staged}
 use Rattle.round_turns.specs.round_jobs.world_images.Settings.{setting_run}
@@ -16,9 +16,9 @@ use Rattle.round_turns.proofs.Beginning.{standing}
 use Rattle.round_turns.proofs.Ending.{no_both}
 use Rattle.round_turns.specs.round_views.declared.over.Over.{Over}
 use Rattle.round_turns.proofs.round_views_proofs.losing_facts_proofs.Homes.{has_blocks_out}
-use Rattle.round_turns.specs.round_views.Begins.{EndsRound, LacksBeside, LacksStaging, OthersStay, WantsMemory}
+use Rattle.round_turns.specs.round_views.Begins.{EndsRound, LacksBeside, LacksStaging, LeavesByWrite, OthersStay}
 use Rattle.round_turns.specs.round_views.file_ends.Ends.{FilesEnd}
-use Rattle.round_turns.specs.round_views.Views.{disk_of, IsGoing, IsWorldOver, kept_of, state_of, WorldView}
+use Rattle.round_turns.specs.round_views.Views.{Disk, disk_of, IsGoing, IsWorldOver, kept_of, state_of, WorldView}
 use Rattle.round_calls.specs.Calls.{AtCall}
 use Rattle.round_calls.proofs.Jobs.{some_out}
 
@@ -103,10 +103,6 @@ module _ (k : View) (t : Tables) (staging : Staged) (files : Files) (w : WorldVi
       none = one.none;
     }
 
-    -- where MEMORY WANTED that is all.
-    pub wants_memory : (after : Supply) → is_on after ≡ true → WantsMemory who w same_view after
-    wants_memory after on = record { awake = one.begins.awake; on = on; new_is = refl; stay = λ usable. others_still w.over w.acts }
-
     -- THE ROUND IS OVER for want of space.
     module _ (needed left : ℕ) (late : (w.pending ≢ []) ⊎ (w.settled < length w.history)) where
       abbrev pub over_view : WorldView
@@ -140,13 +136,17 @@ module _ (k : View) (t : Tables) (staging : Staged) (files : Files) (w : WorldVi
         gone = λ off. no_both w.lost off one.begins.awake _;
       }
 
-      pub ends_round : LacksBeside w who call needed left ⊎ LacksStaging w who call needed left → (after : Supply) → is_on after ≡ true → EndsRound who w over_view after needed left
-      ends_round cause after on = record {
+      pub ends_round : LacksBeside w who call needed left ⊎ LacksStaging w who call needed left → staged ≡ staging → LeavesByWrite (LacksBeside w who call needed left) call w.disk (disk_of l t staged) → (after : Supply) → is_on after ≡ true
+          → EndsRound who w over_view after needed left
+      ends_round cause same write after on = record {
         call = call;
         begins = one.begins;
         cause = cause;
         late = late;
         new_is = refl;
+        tables = sym (ap (λ (d : Disk). d.tables) one.world.disk_is);
+        staging = same ∙ sym (ap (λ (d : Disk). d.staging) one.world.disk_is);
+        write = write;
         stay = others_still (Some (Over.Space needed left)) (w.acts + 1);
         on = on;
       }

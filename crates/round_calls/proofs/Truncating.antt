@@ -2,23 +2,23 @@
 use Rattle.std.specs.Prelude.{◌≡◌, ◌≢◌, ◌≤◌, ◌+◌, ◌-◌, ◌++◌, nat_le, nat_lt, ℕ, Bool, true, false, List, [], ◌∷◌, length, map, Option, Some, None, sum_by, refl}
 use Rattle.std.proofs.Common.{arith, lit<, ap, ◌∙◌, sym, inl}
 use Rattle.std.proofs.lemmas.Bool.Decides.{nat_tests}
-use Rattle.block_counts.specs.Counts.{held_by}
-use Rattle.pm_words.specs.declared.Cell.{Cell}
-use Rattle.pm_words.specs.Powers.{is_on, Supply}
-use Rattle.pm_words.specs.Words.{Words}
+use Rattle.map_ends.specs.block_counts.Counts.{held_by}
+use Rattle.map_ends.specs.pm_words.declared.Cell.{Cell}
+use Rattle.map_ends.specs.pm_words.Powers.{is_on, Supply}
+use Rattle.map_ends.specs.pm_words.Words.{Words}
 use Rattle.map_ends.specs.file_table.Files.{Files}
 use Rattle.flight_truncates.specs.Truncates as truncates
-use Rattle.flight_truncates.specs.Truncates.{Finds, StillRuns}
+use Rattle.flight_truncates.specs.Truncates.{Finds}
 use Rattle.round_turns.specs.flight_rounds.world_lent.Back.{IsPutBack}
 use Rattle.map_ends.specs.k_rules.View.{View}
-use Rattle.posix_types.specs.declared.call.Call.{Call}
-use Rattle.posix_types.specs.declared.call.Who.{Who}
-use Rattle.posix_types.specs.declared.handle.Handle.{Handle}
-use Rattle.posix_types.specs.declared.item.Outcome.{Outcome}
-use Rattle.posix_types.specs.declared.reply.What.{What}
-use Rattle.posix_words.specs.Open.{Tables}
-use Rattle.posix_words.specs.Outcomes.{first, space_row, unless}
-use Rattle.posix_words.specs.Room.{growth}
+use Rattle.map_ends.specs.posix_types.declared.call.Call.{Call}
+use Rattle.map_ends.specs.posix_types.declared.call.Who.{Who}
+use Rattle.map_ends.specs.posix_types.declared.handle.Handle.{Handle}
+use Rattle.map_ends.specs.posix_types.declared.item.Outcome.{Outcome}
+use Rattle.map_ends.specs.posix_types.declared.reply.What.{What}
+use Rattle.map_ends.specs.posix_words.Open.{Tables}
+use Rattle.map_ends.specs.posix_words.Outcomes.{first, space_row, unless}
+use Rattle.map_ends.specs.posix_words.Room.{growth}
 use Rattle.map_ends.specs.posix_puts.Views.{need_of}
 use Rattle.map_ends.specs.posix_facts.RowLaws.{none_fits}
 use Rattle.map_ends.specs.posix_spec.FileRows.{content, no_blocks, truncate_rows}
@@ -35,14 +35,13 @@ use Rattle.round_turns.specs.round_jobs.world_standing.world_promise.JobLaws.{ne
 use Rattle.round_turns.proofs.Beginning.{lost_call, others_lost}
 use Rattle.round_turns.proofs.Losing.{lost_view}
 use Rattle.round_turns.specs.round_views.declared.over.Over.{Over}
-use Rattle.round_turns.specs.round_views.Begins.{EndsRound, LosesCall, WantsMemory}
-use Rattle.round_turns.specs.round_views.file_ends.Ends.{FilesEnd}
+use Rattle.round_turns.specs.round_views.Begins.{EndsRound, LacksBeside, LosesCall}
 use Rattle.round_turns.specs.round_views.lost_devices.Left.{IsLeftOf}
 use Rattle.round_turns.specs.round_views.Views.{disk_of, IsWorldOver, kept_of, state_of, WorldView}
 use Rattle.round_calls.proofs.Jobs.{needs_are}
 use Rattle.round_calls.proofs.Running.{few_next, lets_now}
 use Rattle.round_calls.specs.Calls.{AtCall}
-use Rattle.round_calls.proofs.Staying.{ends_round, going_now, round_over, stands_now, unchanged, wants_memory}
+use Rattle.round_calls.proofs.Staying.{ends_round, going_now, round_over, stands_now}
 
 pub truncate_unlogged : (s : State) (who : Who) (h : Handle) (size : ℕ) → is_logged s (who, Call.Truncate h size) ≡ false
 unfolding put_by
@@ -118,19 +117,7 @@ module _ (k : View) (t : Tables) (staging : Staged) (files : Files) (w : WorldVi
     pub truncate_ends_round : (after : Supply) → is_on after ≡ true → EndsRound who w (record w { over = Some (Over.Space needed left); acts = w.acts + 1; disk = disk_of k t staging }) after needed left
     truncate_ends_round =
         ends_round k t staging files w who (Call.Truncate h size) one k staging files refl refl (going_now k t staging files w who (Call.Truncate h size) one).ends now needed left (inl some_out)
-        (inl (record { need_is = (accepted, needed_is); left_is = left_is; fits = fits; lacks = over.lacks }))
-
-  -- ---- memory wanted
-
-  module _ (l : View) (still : StillRuns who h size taken k t files l) (base : l.volume.base ≡ k.volume.base) (ends : FilesEnd l.volume files) where
-    stands_still : StandsAt w.geometry l t (kept_of w staging files) true (length w.history) (state_of w)
-    stands_still = (still w.geometry (kept_of w staging files) (length w.history) (state_of w) finds).0
-
-    pub truncate_unchanged : IsWorldOver l t staging files (record w { disk = disk_of l t staging })
-    truncate_unchanged = unchanged k t staging files w who (Call.Truncate h size) one l staging files refl base ends stands_still
-
-    pub truncate_wants : (after : Supply) → is_on after ≡ true → WantsMemory who w (record w { disk = disk_of l t staging }) after
-    truncate_wants = wants_memory k t staging files w who (Call.Truncate h size) one l staging files refl base ends stands_still
+        (inl (record { need_is = (accepted, needed_is); left_is = left_is; fits = fits; lacks = over.lacks })) refl tt
 
   -- ---- it returned, or lost its power
 
@@ -142,6 +129,16 @@ module _ (k : View) (t : Tables) (staging : Staged) (files : Files) (w : WorldVi
     answers.outcome_is w.geometry (kept_of w staging files) (length w.history) (state_of w) finds,
     answers.names w.geometry (kept_of w staging files) (length w.history) (state_of w) finds,
   )
+
+  -- the jobs that are out left what it takes
+  pub truncate_enough : (l : View) (laid : Files) (outcome : Outcome) → truncates.Answers who h size taken k t files l laid outcome → (need left : ℕ) → ¬ LacksBeside w who (Call.Truncate h size) need left
+  truncate_enough l laid outcome answers need left lacks =
+      let enough = answers.enough w.geometry (kept_of w staging files) (length w.history) (state_of w) finds lacks.need_is.0 in
+      let needed = lacks.need_is.1 in
+      let rest = lacks.left_is in
+      let less = lacks.lacks in
+      let taken_by = taken_is ∙ needs_are (state_of w) w.pending now.jobs now.jobs_are in
+      omega (arith, enough, needed, rest, less, taken_by)
 
   module _ (l : View) (loses : truncates.Loses who h size taken k t files l) where
     left_device : IsLeftOf w.geometry k.cells l.cells

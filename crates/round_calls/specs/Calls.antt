@@ -1,12 +1,12 @@
 -- A World at its next call.
 use Rattle.std.specs.Prelude.{◌≡◌, ℕ, Bool, true, [], length, Some}
 use Rattle.map_ends.specs.crash_spec.Busy.{waits_for}
-use Rattle.disk_places.specs.Places.{Geometry}
+use Rattle.map_ends.specs.disk_places.Places.{Geometry}
 use Rattle.map_ends.specs.file_table.Files.{Files, runs_in}
 use Rattle.map_ends.specs.k_rules.View.{View}
-use Rattle.posix_types.specs.declared.call.Call.{Call}
-use Rattle.posix_types.specs.declared.call.Who.{Who}
-use Rattle.posix_words.specs.Open.{Tables}
+use Rattle.map_ends.specs.posix_types.declared.call.Call.{Call}
+use Rattle.map_ends.specs.posix_types.declared.call.Who.{Who}
+use Rattle.map_ends.specs.posix_words.Open.{Tables}
 use Rattle.map_ends.specs.posix_spec.Scripted.{IsSetUp}
 use Rattle.map_ends.specs.posix_spec.State.{State}
 use Rattle.round_turns.specs.round_jobs.staging_files.Keeps.{Staged}

@@ -7,28 +7,28 @@ use Rattle.std.proofs.lemmas.Bool.{eq-eqb}
 use Rattle.std.proofs.lemmas.Bool.Decides.{nat_tests}
 use Rattle.std.proofs.lemmas.List.{length-map}
 use Rattle.std.proofs.lemmas.List.Sums.{count_by-le-length, length-filter, sum_by-cons}
-use Rattle.pm_words.specs.ImageLaws.{IsImage-words_of}
-use Rattle.pm_words.specs.Images.{words_of}
-use Rattle.pm_words.specs.Words.{Words}
-use Rattle.disk_lines.specs.declared.Draft.{Draft}
-use Rattle.disk_lines.specs.declared.Inode.{Inode}
-use Rattle.disk_lines.specs.declared.Kind.{Kind}
-use Rattle.disk_lines.specs.declared.Kind.TheVariants.{Directory, File, Free, Staging}
-use Rattle.disk_places.specs.Journal.{journaled}
-use Rattle.disk_places.specs.Places.{Geometry}
+use Rattle.map_ends.specs.pm_words.ImageLaws.{IsImage-words_of}
+use Rattle.map_ends.specs.pm_words.Images.{words_of}
+use Rattle.map_ends.specs.pm_words.Words.{Words}
+use Rattle.map_ends.specs.disk_lines.declared.Draft.{Draft}
+use Rattle.map_ends.specs.disk_lines.declared.Inode.{Inode}
+use Rattle.map_ends.specs.disk_lines.declared.Kind.{Kind}
+use Rattle.map_ends.specs.disk_lines.declared.Kind.TheVariants.{Directory, File, Free, Staging}
+use Rattle.map_ends.specs.disk_places.Journal.{journaled}
+use Rattle.map_ends.specs.disk_places.Places.{Geometry}
 use Rattle.map_ends.specs.disk_rules.Live.{entry_in, is_file, is_live, live_entries, valid_entries}
 use Rattle.map_ends.specs.disk_rules.Rules.{IsKindAt}
 use Rattle.map_ends.specs.disk_rules.Volume.{free_inode, inode, Volume}
-use Rattle.file_overlay.specs.Runs.{Overlaid}
+use Rattle.map_ends.specs.file_overlay.Runs.{Overlaid}
 use Rattle.map_ends.specs.file_table.Files.{nothing_laid, runs_in}
-use Rattle.flight_rounds.specs.flight_laps.world_standing.overlay_facts.Overlays.{run_of}
-use Rattle.flight_rounds.specs.flight_laps.world_standing.Standing.{Kept, StandsAt}
+use Rattle.round_views.specs.flight_rounds.flight_laps.world_standing.overlay_facts.Overlays.{run_of}
+use Rattle.round_views.specs.flight_rounds.flight_laps.world_standing.Standing.{Kept, StandsAt}
 use Rattle.map_ends.specs.k_rules.View.{View}
-use Rattle.list_facts.specs.Filters.{In-filter}
-use Rattle.list_facts.specs.Members.{In}
+use Rattle.map_ends.specs.list_facts.Filters.{In-filter}
+use Rattle.map_ends.specs.list_facts.Members.{In}
 use Rattle.map_ends.specs.posix_spec.State.{State}
 use Rattle.map_ends.specs.posix_trees.Entries.{AreDifferent, few}
-use Rattle.posix_words.specs.Open.{Tables}
+use Rattle.map_ends.specs.posix_words.Open.{Tables}
 use Rattle.round_views.specs.losing_facts.world_rules.Jobs.{live_claims}
 use Rattle.flight_gathers.specs.standing_facts.log_checkpoint.Gathers.{file_count, total_runs}
 use Rattle.flight_gathers.specs.standing_facts.log_checkpoint.world_rules.Shown.{ShowsClaims}

@@ -3,28 +3,28 @@ use Rattle.std.specs.Prelude.{◌≡◌, ◌<◌, ◌+◌, ◌-◌, ◌*◌, ◌
 use Rattle.std.proofs.Common.{arith, ap, ◌∙◌, sym, subst, inl, inr}
 use Rattle.std.proofs.lemmas.List.{length-map}
 use Rattle.std.proofs.Math.ListN.{get_or-map}
-use Rattle.pm_words.specs.declared.Cell.{Cell}
-use Rattle.pm_words.specs.Cells.{AllHome, cell, is_lent}
-use Rattle.pm_words.specs.Parts.{Part}
-use Rattle.crash_facts.specs.Laws.{LinesHoldOut}
-use Rattle.disk_lines.specs.declared.Draft.{Draft}
-use Rattle.disk_places.specs.Places.{Geometry, log_line}
+use Rattle.map_ends.specs.pm_words.declared.Cell.{Cell}
+use Rattle.map_ends.specs.pm_words.Cells.{AllHome, cell, is_lent}
+use Rattle.map_ends.specs.pm_words.Parts.{Part}
+use Rattle.round_views.specs.crash_facts.Laws.{LinesHoldOut}
+use Rattle.map_ends.specs.disk_lines.declared.Draft.{Draft}
+use Rattle.map_ends.specs.disk_places.Places.{Geometry, log_line}
 use Rattle.map_ends.specs.disk_rules.LogRule.{cells_of_line, HoldsEntry, IsAsAtFirst}
 use Rattle.map_ends.specs.disk_rules.Volume.{Volume}
 use Rattle.map_ends.specs.file_table.Files.{Files}
 use Rattle.flight_gathers.proofs.Tables.{no-jobs}
-use Rattle.flight_rounds.specs.flight_laps.flight_facts.Flying.{IsOut}
-use Rattle.flight_rounds.specs.flight_laps.k_split.Laps.{IsLogWord}
-use Rattle.flight_rounds.specs.flight_laps.k_split.Order.{IsInOrder}
-use Rattle.flight_rounds.specs.flight_laps.staging_files.Keeps.{Staged}
-use Rattle.flight_rounds.specs.flight_laps.world_standing.Standing.{StandsAt}
-use Rattle.flight_rounds.specs.Laws.{HasTurned, StandsHome}
+use Rattle.round_views.specs.flight_rounds.flight_laps.flight_facts.Flying.{IsOut}
+use Rattle.round_views.specs.flight_rounds.flight_laps.k_split.Laps.{IsLogWord}
+use Rattle.round_views.specs.flight_rounds.flight_laps.k_split.Order.{IsInOrder}
+use Rattle.round_views.specs.flight_rounds.flight_laps.staging_files.Keeps.{Staged}
+use Rattle.round_views.specs.flight_rounds.flight_laps.world_standing.Standing.{StandsAt}
+use Rattle.round_views.specs.flight_rounds.Laws.{HasTurned, StandsHome}
 use Rattle.map_ends.specs.k_rules.View.{View}
 use Rattle.map_ends.specs.lines_out.Lines.{AreFrom, line_at}
-use Rattle.list_facts.specs.Members.{In}
-use Rattle.crash_facts.specs.losing_facts.Lines.{HoldClaims}
-use Rattle.crash_facts.specs.oplog_tail.Closing.{cells_of}
-use Rattle.posix_words.specs.Open.{Tables}
+use Rattle.map_ends.specs.list_facts.Members.{In}
+use Rattle.round_views.specs.crash_facts.losing_facts.Lines.{HoldClaims}
+use Rattle.round_views.specs.crash_facts.oplog_tail.Closing.{cells_of}
+use Rattle.map_ends.specs.posix_words.Open.{Tables}
 use Rattle.round_views.specs.Lines.{first_of, HoldTheClaims}
 use Rattle.round_views.specs.Views.{first_by, IsGoing, IsWorldOver, kept_of, state_of, WorldView}
 use Rattle.round_ends.specs.Laws.{IsEnding, MayEnd, MayPutLog}

@@ -4,36 +4,36 @@ use Rattle.std.proofs.Common.{arith, ap, ◌∙◌, sym, subst, inl, inr}
 use Rattle.std.proofs.lemmas.Bool.Decides.{nat_tests}
 use Rattle.std.proofs.lemmas.List.{get_or_default}
 use Rattle.std.proofs.Math.Nat.{mul-le-mul}
-use Rattle.pm_words.specs.ImageLaws.{IsImage-words_of}
-use Rattle.pm_words.specs.Images.{words_of}
-use Rattle.pm_words.specs.Parts.{Part}
-use Rattle.pm_words.specs.Words.{line_bytes, Words}
-use Rattle.crash_facts.specs.Laws.{LinesHoldOut}
-use Rattle.disk_lines.specs.declared.Draft.{Draft}
-use Rattle.disk_lines.specs.declared.Inode.{Inode}
-use Rattle.disk_lines.specs.declared.Kind.{Kind}
-use Rattle.disk_lines.specs.declared.Kind.TheVariants.{Directory, File, Free, Staging}
-use Rattle.disk_lines.specs.Entries.{is_draft}
-use Rattle.disk_lines.specs.LineLaws.{IsInodeLine-decode_inode}
-use Rattle.disk_lines.specs.Lines.{is_inode_of_kind, most_bytes}
-use Rattle.disk_places.specs.Journal.{journaled}
-use Rattle.disk_places.specs.PlaceLaws.{behind_log-not_journaled, behind_log-words}
-use Rattle.disk_places.specs.Places.{Geometry, inode_line, is_data_block, log_block}
+use Rattle.map_ends.specs.pm_words.ImageLaws.{IsImage-words_of}
+use Rattle.map_ends.specs.pm_words.Images.{words_of}
+use Rattle.map_ends.specs.pm_words.Parts.{Part}
+use Rattle.map_ends.specs.pm_words.Words.{line_bytes, Words}
+use Rattle.round_views.specs.crash_facts.Laws.{LinesHoldOut}
+use Rattle.map_ends.specs.disk_lines.declared.Draft.{Draft}
+use Rattle.map_ends.specs.disk_lines.declared.Inode.{Inode}
+use Rattle.map_ends.specs.disk_lines.declared.Kind.{Kind}
+use Rattle.map_ends.specs.disk_lines.declared.Kind.TheVariants.{Directory, File, Free, Staging}
+use Rattle.map_ends.specs.disk_lines.Entries.{is_draft}
+use Rattle.map_ends.specs.disk_lines.LineLaws.{IsInodeLine-decode_inode}
+use Rattle.map_ends.specs.disk_lines.Lines.{is_inode_of_kind, most_bytes}
+use Rattle.map_ends.specs.disk_places.Journal.{journaled}
+use Rattle.map_ends.specs.disk_places.PlaceLaws.{behind_log-not_journaled, behind_log-words}
+use Rattle.map_ends.specs.disk_places.Places.{Geometry, inode_line, is_data_block, log_block}
 use Rattle.map_ends.specs.disk_rules.Content.{size_by}
 use Rattle.map_ends.specs.disk_rules.Live.{latest}
 use Rattle.map_ends.specs.disk_rules.Reading.{Reads}
 use Rattle.map_ends.specs.disk_rules.Rules.{file_blocks_of}
 use Rattle.map_ends.specs.disk_rules.Volume.{extents, inode, Volume}
 use Rattle.map_ends.specs.file_table.Files.{Files, size_in}
-use Rattle.flight_rounds.specs.flight_laps.k_split.Laps.{HasNextLap}
-use Rattle.flight_rounds.specs.flight_laps.staging_files.GivesUp.{AllStagedSingle}
-use Rattle.flight_rounds.specs.flight_laps.staging_files.Keeps.{Staged}
-use Rattle.flight_rounds.specs.flight_laps.world_standing.Standing.{IsQuietBeside, Kept, StandsAt}
-use Rattle.flight_rounds.specs.Laws.{StandsHome}
+use Rattle.round_views.specs.flight_rounds.flight_laps.k_split.Laps.{HasNextLap}
+use Rattle.round_views.specs.flight_rounds.flight_laps.staging_files.GivesUp.{AllStagedSingle}
+use Rattle.round_views.specs.flight_rounds.flight_laps.staging_files.Keeps.{Staged}
+use Rattle.round_views.specs.flight_rounds.flight_laps.world_standing.Standing.{IsQuietBeside, Kept, StandsAt}
+use Rattle.round_views.specs.flight_rounds.Laws.{StandsHome}
 use Rattle.map_ends.specs.k_rules.View.{View}
-use Rattle.list_facts.specs.Filters.{filter-In}
+use Rattle.map_ends.specs.list_facts.Filters.{filter-In}
 use Rattle.map_ends.specs.posix_spec.State.{State}
-use Rattle.posix_words.specs.Open.{Tables}
+use Rattle.map_ends.specs.posix_words.Open.{Tables}
 use Rattle.round_views.specs.losing_facts.world_rules.Jobs.{live_claims}
 use Rattle.round_views.specs.script_calls.Counts.{history_within}
 use Rattle.round_views.specs.Views.{kept_of, state_of, WorldView}

@@ -3,34 +3,34 @@ use Rattle.std.specs.Prelude.{◌≡◌, ◌≢◌, ◌≤◌, ◌<◌, ◌+◌,
 use Rattle.std.proofs.Common.{arith, ap, ◌∙◌, sym, subst, inl, inr}
 use Rattle.std.proofs.Math.Nat.{mul-le-mul_left}
 use Rattle.std.proofs.Math.Path.{fun_ext}
-use Rattle.pm_words.specs.declared.Cell.{Cell}
-use Rattle.pm_words.specs.Cells.{AllHome, cell, is_lent, IsCandidate}
-use Rattle.pm_words.specs.ImageLaws.{IsImage-words_of}
-use Rattle.pm_words.specs.Images.{words_of}
-use Rattle.pm_words.specs.Parts.{Part}
-use Rattle.pm_words.specs.Words.{Words}
+use Rattle.map_ends.specs.pm_words.declared.Cell.{Cell}
+use Rattle.map_ends.specs.pm_words.Cells.{AllHome, cell, is_lent, IsCandidate}
+use Rattle.map_ends.specs.pm_words.ImageLaws.{IsImage-words_of}
+use Rattle.map_ends.specs.pm_words.Images.{words_of}
+use Rattle.map_ends.specs.pm_words.Parts.{Part}
+use Rattle.map_ends.specs.pm_words.Words.{Words}
 use Rattle.map_ends.specs.block_bytes.Overwrites.{IsInLines}
-use Rattle.crash_facts.specs.Laws.{KeepsCrashed, LinesHoldOut}
-use Rattle.disk_places.specs.Places.{Geometry, log_line}
+use Rattle.round_views.specs.crash_facts.Laws.{KeepsCrashed, LinesHoldOut}
+use Rattle.map_ends.specs.disk_places.Places.{Geometry, log_line}
 use Rattle.map_ends.specs.disk_rules.Honest.{IsHonest}
 use Rattle.map_ends.specs.disk_rules.Volume.{Volume}
 use Rattle.map_ends.specs.file_table.Files.{Files}
 use Rattle.flight_gathers.specs.Laws.{HasGathered, KeepsGathered, StandsGathered}
-use Rattle.flight_rounds.specs.flight_laps.staging_files.GivesUp.{nothing_staged}
-use Rattle.flight_rounds.specs.flight_laps.staging_files.Keeps.{Staged}
+use Rattle.round_views.specs.flight_rounds.flight_laps.staging_files.GivesUp.{nothing_staged}
+use Rattle.round_views.specs.flight_rounds.flight_laps.staging_files.Keeps.{Staged}
 use Rattle.round_views.specs.world_images.Promised.{IsKept, KeepsPromise}
-use Rattle.flight_rounds.specs.flight_laps.world_standing.Standing.{Pending, StandsAt}
-use Rattle.flight_rounds.specs.Laws.{StandsHome}
+use Rattle.round_views.specs.flight_rounds.flight_laps.world_standing.Standing.{Pending, StandsAt}
+use Rattle.round_views.specs.flight_rounds.Laws.{StandsHome}
 use Rattle.map_ends.specs.k_journal.declared.outcomes.Commit.{Commit}
 use Rattle.map_ends.specs.k_rules.View.{View}
 use Rattle.map_ends.specs.lines_out.Lines.{LinesComeBack}
-use Rattle.list_facts.specs.Members.{In}
-use Rattle.crash_facts.specs.losing_facts.Blocks.{ComeHome}
-use Rattle.crash_facts.specs.losing_facts.Lines.{AreCrashLines, HoldClaims}
-use Rattle.crash_facts.specs.losing_facts.Stops.{KeepsGatheredOut, KeepsOut}
+use Rattle.map_ends.specs.list_facts.Members.{In}
+use Rattle.round_views.specs.crash_facts.losing_facts.Blocks.{ComeHome}
+use Rattle.round_views.specs.crash_facts.losing_facts.Lines.{AreCrashLines, HoldClaims}
+use Rattle.round_views.specs.crash_facts.losing_facts.Stops.{KeepsGatheredOut, KeepsOut}
 use Rattle.map_ends.specs.Laws.{EndGathered}
 use Rattle.map_ends.specs.posix_spec.Run.{Begun}
-use Rattle.posix_words.specs.Open.{Tables}
+use Rattle.map_ends.specs.posix_words.Open.{Tables}
 use Rattle.round_views.specs.declared.over.Over.{Over}
 use Rattle.round_views.specs.file_ends.Ends.{FilesEnd}
 use Rattle.round_views.specs.Lines.{HoldTheClaims}

@@ -1,21 +1,21 @@
 -- An unmount: what is left of a run keeps the promise.
 use Rattle.std.specs.Prelude.{◌≡◌, ◌*◌, ◌++◌, Bool, true, false, List, [], length, map, refl}
 use Rattle.std.proofs.Common.{arith, ◌∙◌, sym, subst}
-use Rattle.pm_words.specs.declared.Cell.{Cell}
-use Rattle.pm_words.specs.Cells.{AllHome}
-use Rattle.pm_words.specs.Parts.{Part}
-use Rattle.crash_facts.specs.Laws.{KeepsHome, LinesHoldOut}
+use Rattle.map_ends.specs.pm_words.declared.Cell.{Cell}
+use Rattle.map_ends.specs.pm_words.Cells.{AllHome}
+use Rattle.map_ends.specs.pm_words.Parts.{Part}
+use Rattle.round_views.specs.crash_facts.Laws.{KeepsHome, LinesHoldOut}
 use Rattle.map_ends.specs.file_table.Files.{Files}
 use Rattle.flight_gathers.specs.Laws.{KeepsGathered, StandsGathered}
-use Rattle.flight_rounds.specs.flight_laps.staging_files.GivesUp.{nothing_staged}
-use Rattle.flight_rounds.specs.flight_laps.staging_files.Keeps.{Staged}
+use Rattle.round_views.specs.flight_rounds.flight_laps.staging_files.GivesUp.{nothing_staged}
+use Rattle.round_views.specs.flight_rounds.flight_laps.staging_files.Keeps.{Staged}
 use Rattle.round_views.specs.world_images.Promised.{KeepsPromise}
-use Rattle.flight_rounds.specs.Laws.{StandsHome}
+use Rattle.round_views.specs.flight_rounds.Laws.{StandsHome}
 use Rattle.map_ends.specs.k_rules.View.{View}
-use Rattle.list_facts.specs.Members.{In}
-use Rattle.crash_facts.specs.losing_facts.Stops.{KeepsGatheredOut}
+use Rattle.map_ends.specs.list_facts.Members.{In}
+use Rattle.round_views.specs.crash_facts.losing_facts.Stops.{KeepsGatheredOut}
 use Rattle.map_ends.specs.posix_spec.Run.{Begun}
-use Rattle.posix_words.specs.Open.{Tables}
+use Rattle.map_ends.specs.posix_words.Open.{Tables}
 use Rattle.round_views.specs.losing_facts.write_ends.Ends.{begun_by}
 use Rattle.round_views.specs.Rounds.{IsLeft}
 use Rattle.round_views.specs.script_calls.Counts.{history_within}

@@ -2,14 +2,14 @@
 use Rattle.std.specs.Prelude.{◌≡◌, ◌≤◌, ◌+◌, ◌*◌, ◌/◌, ◌^◌, false, length}
 use Rattle.std.proofs.Common.{arith, sym, subst}
 use Rattle.std.proofs.Math.Nat.{mul-le-mul}
-use Rattle.disk_places.specs.PlaceLaws.{behind_log-not_journaled, behind_log-words}
-use Rattle.disk_places.specs.Places.{Geometry}
+use Rattle.map_ends.specs.disk_places.PlaceLaws.{behind_log-not_journaled, behind_log-words}
+use Rattle.map_ends.specs.disk_places.Places.{Geometry}
 use Rattle.map_ends.specs.file_table.Files.{Files}
-use Rattle.flight_rounds.specs.flight_laps.k_split.Laps.{HasSingleLog}
-use Rattle.flight_rounds.specs.flight_laps.staging_files.Keeps.{Staged}
-use Rattle.flight_rounds.specs.flight_laps.world_standing.Standing.{IsQuietBeside, StandsAt}
+use Rattle.round_views.specs.flight_rounds.flight_laps.k_split.Laps.{HasSingleLog}
+use Rattle.round_views.specs.flight_rounds.flight_laps.staging_files.Keeps.{Staged}
+use Rattle.round_views.specs.flight_rounds.flight_laps.world_standing.Standing.{IsQuietBeside, StandsAt}
 use Rattle.map_ends.specs.k_rules.View.{View}
-use Rattle.posix_words.specs.Open.{Tables}
+use Rattle.map_ends.specs.posix_words.Open.{Tables}
 use Rattle.round_views.specs.script_calls.Counts.{history_within}
 use Rattle.round_views.specs.Views.{IsGoing, IsWorldOver, kept_of, state_of, WorldView}
 use Rattle.round_ends.specs.Laws.{MayBegin, MayTakeLog}

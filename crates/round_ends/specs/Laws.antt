@@ -1,23 +1,23 @@
 -- A round of a World begins and ends, and the whole run, each law as one statement.
 use Rattle.std.specs.Prelude.{◌≡◌, ◌≤◌, ◌+◌, ◌^◌, ℕ, true, false, List, [], length, None, Ok}
-use Rattle.pm_words.specs.Cells.{cell, is_lent}
-use Rattle.pm_words.specs.Parts.{Part}
-use Rattle.disk_places.specs.Places.{log_line}
+use Rattle.map_ends.specs.pm_words.Cells.{cell, is_lent}
+use Rattle.map_ends.specs.pm_words.Parts.{Part}
+use Rattle.map_ends.specs.disk_places.Places.{log_line}
 use Rattle.map_ends.specs.file_table.Files.{Files}
-use Rattle.flight_rounds.specs.flight_laps.k_split.Laps.{HasNextLap, HasSingleLog, IsLogWord}
-use Rattle.flight_rounds.specs.flight_laps.k_split.LogLines.{AreLogLines}
-use Rattle.flight_rounds.specs.flight_laps.k_split.Order.{IsInOrder}
+use Rattle.round_views.specs.flight_rounds.flight_laps.k_split.Laps.{HasNextLap, HasSingleLog, IsLogWord}
+use Rattle.round_views.specs.flight_rounds.flight_laps.k_split.LogLines.{AreLogLines}
+use Rattle.round_views.specs.flight_rounds.flight_laps.k_split.Order.{IsInOrder}
 use Rattle.map_ends.specs.k_journal.declared.outcomes.Commit.{Commit}
 use Rattle.map_ends.specs.k_rules.View.{View}
 use Rattle.map_ends.specs.lines_out.Lines.{LinesComeBack}
-use Rattle.posix_words.specs.Open.{Tables}
+use Rattle.map_ends.specs.posix_words.Open.{Tables}
 use Rattle.flight_gathers.specs.standing_facts.log_checkpoint.Gathers.{file_count, IsGatherAnswer, MayGather, total_runs}
-use Rattle.flight_rounds.specs.flight_laps.staging_files.GivesUp.{AllStagedSingle}
+use Rattle.round_views.specs.flight_rounds.flight_laps.staging_files.GivesUp.{AllStagedSingle}
 use Rattle.round_views.specs.Lines.{HoldTheClaims}
 use Rattle.round_views.specs.Losses.{MayCrash}
 use Rattle.round_views.specs.Rounds.{IsLeft, MayCheckpoint}
 use Rattle.round_views.specs.Views.{calls_out, Disk, disk_of, IsWorldOver, WorldView}
-use Rattle.flight_rounds.specs.flight_laps.staging_files.Keeps.{Staged}
+use Rattle.round_views.specs.flight_rounds.flight_laps.staging_files.Keeps.{Staged}
 
 -- ---- the log's lines go out
 

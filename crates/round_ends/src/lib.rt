@@ -12,12 +12,9 @@
 
 ghost use Rattle.round_ends.specs.Laws.{EndsReady, EndsRunWhole, GoesIntoNextRound, LosesRoundBefore, LosesRoundInside, LosesRun, MayBegin, MayCrashWhole, MayEnd};
 
-use crash_facts::a_crash_keeps_the_promise;
-use crash_facts::losing_facts::publishing_leaves_what_is_out;
-use flight_gathers::all_files_are_gathered;
-use flight_gathers::standing_facts::what_stands_may_be_gathered;
-use flight_rounds::log_lines_come_home;
+use flight_gathers::{all_files_are_gathered, what_stands_may_be_gathered};
 use map_ends::files_end_after_changes_of_maps;
+use round_views::{a_crash_keeps_the_promise, log_lines_come_home, publishing_leaves_what_is_out};
 
 /// The log's lines may go out.
 pub fn the_lines_of_a_round_may_go_out()
@@ -59,5 +56,4 @@ pub fn an_unmount_ends_a_run()
     publishing_leaves_what_is_out();
 }
 
-pub use flight_gathers::standing_facts;
-pub use flight_rounds;
+pub use round_views::log_lines_go_out;

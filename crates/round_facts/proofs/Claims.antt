@@ -2,17 +2,17 @@
 use Rattle.std.specs.Prelude.{◌≡◌, ◌≤◌, ◌==◌, ◌&&◌, ℕ, Bool, true, List, [], ◌∷◌, map}
 use Rattle.std.proofs.Common.{ap, ◌∙◌, sym, subst, inl, inr}
 use Rattle.std.proofs.lemmas.Bool.Decides.{Decides-eqb}
-use Rattle.disk_lines.specs.declared.Draft.{Draft}
-use Rattle.disk_lines.specs.declared.Kind.TheVariants.{File}
-use Rattle.disk_places.specs.Places.{Geometry}
+use Rattle.world_standing.specs.disk_lines.declared.Draft.{Draft}
+use Rattle.world_standing.specs.disk_lines.declared.Kind.TheVariants.{File}
+use Rattle.world_standing.specs.disk_places.Places.{Geometry}
 use Rattle.world_standing.specs.disk_rules.Live.{is_file, is_live, is_of_file}
 use Rattle.world_standing.specs.disk_rules.Volume.{inode}
 use Rattle.world_standing.specs.file_table.Files.{runs_in}
 use Rattle.world_standing.specs.k_rules.View.{View}
-use Rattle.list_facts.specs.Filters.{In-filter}
-use Rattle.list_facts.specs.Members.{In}
+use Rattle.script_calls.specs.list_facts.Filters.{In-filter}
+use Rattle.script_calls.specs.list_facts.Members.{In}
 use Rattle.world_standing.specs.overlay_facts.Overlays.{run_of}
-use Rattle.posix_words.specs.Open.{Tables}
+use Rattle.script_calls.specs.posix_words.Open.{Tables}
 use Rattle.script_calls.specs.posix_spec.State.{State}
 use Rattle.world_standing.specs.world_rules.Jobs.{live_claims}
 use Rattle.world_standing.specs.world_rules.Stands.{entries_of}

@@ -7,24 +7,24 @@ use Rattle.std.proofs.lemmas.List.{get_or_default, length-map}
 use Rattle.std.proofs.lemmas.List.Sums.{sum_by-cons}
 use Rattle.std.proofs.lemmas.Map.Keys.{IsDistinct-cons}
 use Rattle.std.proofs.lemmas.Map.Steps.{length-le_from_distinct_below}
-use Rattle.disk_lines.specs.declared.Draft.{Draft}
-use Rattle.disk_lines.specs.declared.Inode.{Inode}
-use Rattle.disk_lines.specs.declared.Kind.{Kind}
-use Rattle.disk_lines.specs.declared.Kind.TheVariants.{Directory, File, Free, Staging}
-use Rattle.disk_lines.specs.Entries.{is_draft}
-use Rattle.disk_lines.specs.Lines.{is_inode_of_kind, most_bytes}
-use Rattle.disk_places.specs.Places.{Geometry}
+use Rattle.world_standing.specs.disk_lines.declared.Draft.{Draft}
+use Rattle.world_standing.specs.disk_lines.declared.Inode.{Inode}
+use Rattle.world_standing.specs.disk_lines.declared.Kind.{Kind}
+use Rattle.world_standing.specs.disk_lines.declared.Kind.TheVariants.{Directory, File, Free, Staging}
+use Rattle.world_standing.specs.disk_lines.Entries.{is_draft}
+use Rattle.world_standing.specs.disk_lines.Lines.{is_inode_of_kind, most_bytes}
+use Rattle.world_standing.specs.disk_places.Places.{Geometry}
 use Rattle.world_standing.specs.disk_rules.Content.{size_by}
 use Rattle.world_standing.specs.disk_rules.Live.{is_file, latest}
 use Rattle.world_standing.specs.disk_rules.Volume.{inode}
-use Rattle.file_overlay.specs.Runs.{Overlaid}
+use Rattle.world_standing.specs.file_overlay.Runs.{Overlaid}
 use Rattle.world_standing.specs.file_table.Files.{nothing_laid, runs_in}
 use Rattle.world_standing.specs.k_rules.View.{View}
-use Rattle.list_facts.specs.Filters.{filter-In}
-use Rattle.list_facts.specs.Members.{In}
+use Rattle.script_calls.specs.list_facts.Filters.{filter-In}
+use Rattle.script_calls.specs.list_facts.Members.{In}
 use Rattle.world_standing.specs.overlay_facts.Overlays.{run_of}
-use Rattle.posix_types.specs.declared.call.Who.{Who}
-use Rattle.posix_words.specs.Open.{same_who, Tables}
+use Rattle.script_calls.specs.posix_types.declared.call.Who.{Who}
+use Rattle.script_calls.specs.posix_words.Open.{same_who, Tables}
 use Rattle.script_calls.specs.posix_spec.State.{State}
 use Rattle.script_calls.specs.Counters.{IsCounted}
 use Rattle.world_standing.specs.staging_files.declared.runs.StageRun.{StageRun}

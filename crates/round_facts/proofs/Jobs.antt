@@ -4,18 +4,18 @@ use Rattle.std.proofs.Common.{arith, ap, ◌∙◌, sym, subst, inl, inr}
 use Rattle.std.proofs.lemmas.Bool.Decides.{Decides-eqb}
 use Rattle.std.proofs.lemmas.List.Sums.{sum_by-cons}
 use Rattle.std.proofs.lemmas.Option.{same_Some}
-use Rattle.pm_words.specs.ImageLaws.{IsImage-words_of}
-use Rattle.pm_words.specs.Images.{words_of}
-use Rattle.pm_words.specs.Words.{Words}
-use Rattle.disk_places.specs.Journal.{journaled}
-use Rattle.disk_places.specs.Places.{Geometry}
-use Rattle.disk_lines.specs.declared.Draft.{Draft}
+use Rattle.world_standing.specs.pm_words.ImageLaws.{IsImage-words_of}
+use Rattle.world_standing.specs.pm_words.Images.{words_of}
+use Rattle.world_standing.specs.pm_words.Words.{Words}
+use Rattle.world_standing.specs.disk_places.Journal.{journaled}
+use Rattle.world_standing.specs.disk_places.Places.{Geometry}
+use Rattle.world_standing.specs.disk_lines.declared.Draft.{Draft}
 use Rattle.world_standing.specs.disk_rules.Volume.{Volume}
 use Rattle.world_standing.specs.k_rules.View.{View}
-use Rattle.list_facts.specs.Members.{In}
-use Rattle.posix_types.specs.declared.call.Call.{Call}
-use Rattle.posix_types.specs.declared.call.Who.{Who}
-use Rattle.posix_words.specs.Open.{same_who, Tables}
+use Rattle.script_calls.specs.list_facts.Members.{In}
+use Rattle.script_calls.specs.posix_types.declared.call.Call.{Call}
+use Rattle.script_calls.specs.posix_types.declared.call.Who.{Who}
+use Rattle.script_calls.specs.posix_words.Open.{same_who, Tables}
 use Rattle.script_calls.specs.posix_puts.Puts.{put_bytes, PutsWhole}
 use Rattle.script_calls.specs.posix_puts.Views.{need_of}
 use Rattle.script_calls.specs.posix_spec.Run.{after_call, Begun}

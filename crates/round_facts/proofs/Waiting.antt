@@ -4,25 +4,25 @@ use Rattle.std.specs.List.{list_any}
 use Rattle.std.specs.Option.{option_flatten, option_map_or}
 use Rattle.std.proofs.Common.{arith, ap, ◌∙◌, sym, subst, inl, inr}
 use Rattle.std.proofs.lemmas.Bool.Decides.{Decides-eqb}
-use Rattle.disk_lines.specs.declared.Draft.{Draft}
-use Rattle.disk_places.specs.Places.{Geometry}
+use Rattle.world_standing.specs.disk_lines.declared.Draft.{Draft}
+use Rattle.world_standing.specs.disk_places.Places.{Geometry}
 use Rattle.world_standing.specs.k_rules.Spaces.{volume_space}
 use Rattle.world_standing.specs.k_rules.View.{View}
 use Rattle.world_standing.specs.k_split.Looks.{IsFound}
-use Rattle.list_facts.specs.Members.{In}
-use Rattle.open_numbers.proofs.Lookups.{same_opened}
-use Rattle.open_numbers.specs.Numbered.{described_as}
-use Rattle.posix_types.specs.declared.call.Call.{Call}
-use Rattle.posix_types.specs.declared.call.Who.{Who}
-use Rattle.posix_types.specs.declared.handle.Handle.{Handle}
-use Rattle.posix_types.specs.declared.item.Outcome.{Outcome}
-use Rattle.posix_types.specs.declared.reply.Errno.{Errno}
-use Rattle.posix_types.specs.declared.reply.Reply.{Reply}
-use Rattle.posix_words.specs.declared.open.Description.{Description}
-use Rattle.posix_words.specs.NameRows.{stat_rows, walk_row}
-use Rattle.posix_words.specs.Names.{child_of, exists_at, is_root, last_name, node_at_path, Space, too_long, walk}
-use Rattle.posix_words.specs.Open.{describes, is_open, key_of, opened, same_who, Tables}
-use Rattle.posix_words.specs.Outcomes.{answer, first, row}
+use Rattle.script_calls.specs.list_facts.Members.{In}
+use Rattle.world_standing.proofs.open_numbers_proofs.Lookups.{same_opened}
+use Rattle.world_standing.specs.open_numbers.Numbered.{described_as}
+use Rattle.script_calls.specs.posix_types.declared.call.Call.{Call}
+use Rattle.script_calls.specs.posix_types.declared.call.Who.{Who}
+use Rattle.script_calls.specs.posix_types.declared.handle.Handle.{Handle}
+use Rattle.script_calls.specs.posix_types.declared.item.Outcome.{Outcome}
+use Rattle.script_calls.specs.posix_types.declared.reply.Errno.{Errno}
+use Rattle.script_calls.specs.posix_types.declared.reply.Reply.{Reply}
+use Rattle.script_calls.specs.posix_words.declared.open.Description.{Description}
+use Rattle.script_calls.specs.posix_words.NameRows.{stat_rows, walk_row}
+use Rattle.script_calls.specs.posix_words.Names.{child_of, exists_at, is_root, last_name, node_at_path, Space, too_long, walk}
+use Rattle.script_calls.specs.posix_words.Open.{describes, is_open, key_of, opened, same_who, Tables}
+use Rattle.script_calls.specs.posix_words.Outcomes.{answer, first, row}
 use Rattle.script_calls.specs.posix_spec.State.{space, State}
 use Rattle.script_calls.specs.posix_frames.Handles.{same_who-is}
 use Rattle.script_calls.specs.crash_spec.Busy.{handle_node, is_busy, keeps_busy, Out, path_node, waits_for}

@@ -1,12 +1,12 @@
 -- Which file a call waits for, and which job keeps it waiting.
 use Rattle.std.specs.Prelude.{◌≡◌, ◌≢◌, ℕ, true, false, List, map, Option, Some, None, Result, Ok, Err, unwrap_or}
-use Rattle.disk_places.specs.Places.{Geometry}
+use Rattle.world_standing.specs.disk_places.Places.{Geometry}
 use Rattle.world_standing.specs.k_rules.View.{View}
-use Rattle.list_facts.specs.Members.{In}
-use Rattle.posix_types.specs.declared.call.Call.{Call}
-use Rattle.posix_types.specs.declared.call.Who.{Who}
-use Rattle.posix_types.specs.declared.reply.Errno.{Errno}
-use Rattle.posix_words.specs.Open.{Tables}
+use Rattle.script_calls.specs.list_facts.Members.{In}
+use Rattle.script_calls.specs.posix_types.declared.call.Call.{Call}
+use Rattle.script_calls.specs.posix_types.declared.call.Who.{Who}
+use Rattle.script_calls.specs.posix_types.declared.reply.Errno.{Errno}
+use Rattle.script_calls.specs.posix_words.Open.{Tables}
 use Rattle.script_calls.specs.posix_spec.State.{State}
 use Rattle.script_calls.specs.crash_spec.Busy.{is_busy, Out, waits_for}
 use Rattle.world_standing.specs.world_rules.Stands.{IsUsed, number}

@@ -7,5 +7,7 @@
 //! Stands on `world_standing` and `script_calls`.
 #![tactic(auto)]
 
-pub use script_calls;
-pub use world_standing::{k_journal, k_split, staging_files, write_jobs};
+pub use script_calls::{
+    Counters, call_at, calls_made, count_call, next_in, no_calls, script_length,
+};
+pub use world_standing::{Commit, Filled, FilledJob, Job, KSplit, mkfs};

@@ -7,8 +7,8 @@ use Rattle.posix_types.specs.declared.call.Call.{Call}
 use Rattle.posix_types.specs.declared.call.Who.{Who}
 use Rattle.posix_types.specs.declared.handle.Handle.{Handle}
 use Rattle.posix_types.specs.declared.reply.Errno.{Errno}
-use Rattle.posix_words.specs.declared.open.Description.{Description}
-use Rattle.posix_words.specs.Open.{opened, Tables}
+use Rattle.open_files.specs.posix_words.declared.open.Description.{Description}
+use Rattle.open_files.specs.posix_words.Open.{opened, Tables}
 use Rattle.open_files.specs.posix_spec.State.{State}
 use Rattle.open_files.specs.crash_spec.Busy.{handle_node, is_busy, path_node, waits_for}
 use Rattle.round_facts.specs.world_standing.Standing.{Pending}

@@ -4,9 +4,9 @@ use Rattle.std.specs.List.{remove}
 use Rattle.std.proofs.Common.{arith, ap, ◌∙◌, sym, subst, inl, inr}
 use Rattle.std.proofs.lemmas.Bool.Decides.{Decides-eqb}
 use Rattle.std.proofs.lemmas.Option.{same_Some}
-use Rattle.list_facts.specs.Members.{In, In-slice_get}
+use Rattle.open_files.specs.list_facts.Members.{In, In-slice_get}
 use Rattle.posix_types.specs.declared.call.Who.{Who}
-use Rattle.posix_words.specs.Open.{same_who}
+use Rattle.open_files.specs.posix_words.Open.{same_who}
 use Rattle.open_files.specs.posix_frames.Handles.{same_who-is}
 use Rattle.round_facts.proofs.Counts.{pairs}
 use Rattle.round_facts.proofs.Jobs.{same_who-refl}

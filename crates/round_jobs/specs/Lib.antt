@@ -16,3 +16,10 @@ pub use Rattle.round_facts.specs.file_table as file_table
 pub use Rattle.round_facts.specs.k_rules as k_rules
 pub use Rattle.round_facts.specs.lines_out as lines_out
 pub use Rattle.round_facts.specs.write_jobs as write_jobs
+pub use Rattle.disk_lines.specs as disk_lines
+pub use Rattle.disk_lines.specs.block_counts as block_counts
+pub use Rattle.disk_lines.specs.disk_places as disk_places
+pub use Rattle.disk_lines.specs.pm_words as pm_words
+pub use Rattle.open_files.specs.list_facts as list_facts
+pub use Rattle.open_files.specs.posix_words as posix_words
+pub use Rattle.posix_types.specs as posix_types

@@ -2,14 +2,14 @@
 ghost use Rattle.std.specs.Prelude.{◌≡◌, ◌==◌, ◌&&◌, not, ℕ, option_map, Result};
 ghost use Rattle.round_facts.specs.k_split.Looks.{IsFound};
 ghost use Rattle.posix_types.specs.declared.reply.Errno.{Errno};
-ghost use Rattle.posix_words.specs.declared.open.Description.{Description};
-ghost use Rattle.posix_words.specs.Open.{opened, same_who};
+ghost use Rattle.open_files.specs.posix_words.declared.open.Description.{Description};
+ghost use Rattle.open_files.specs.posix_words.Open.{opened, same_who};
 ghost use Rattle.round_facts.specs.Busy.{found_ino, HoldsFile, IsKept, WaitsForFile};
 
 use crate::pending::{Pending, is_same};
 use open_files::OpenFiles;
 use posix_types::{Call, Handle, Path, Who};
-use round_facts::k_split::KSplit;
+use round_facts::KSplit;
 
 // The inode of the file that a handle stands for.
 fn handle_file(files: &OpenFiles, who: Who, handle: Handle) -> Option<u32>

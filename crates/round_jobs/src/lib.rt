@@ -12,6 +12,9 @@ mod keeping;
 mod pending;
 
 pub use keeping::{keeper, waits_for};
-pub use open_files;
+pub use open_files::OpenFiles;
 pub use pending::{Pending, place_of, take_job};
-pub use round_facts::{k_split, script_calls, staging_files};
+pub use round_facts::{
+    Commit, Counters, Filled, FilledJob, Job, KSplit, call_at, calls_made, count_call, mkfs,
+    next_in, no_calls, script_length,
+};

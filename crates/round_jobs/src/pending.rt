@@ -1,7 +1,7 @@
 //! The jobs that are out.
 ghost use Rattle.std.specs.Prelude.{◌≡◌, ◌≢◌, IfNone, IfSome, slice_get, Some, AllPairs};
-ghost use Rattle.list_facts.specs.Members.{In};
-ghost use Rattle.posix_words.specs.Open.{same_who};
+ghost use Rattle.open_files.specs.list_facts.Members.{In};
+ghost use Rattle.open_files.specs.posix_words.Open.{same_who};
 ghost use Rattle.round_facts.specs.world_standing.Standing.{AreOfTwoThreads};
 ghost use Rattle.round_facts.specs.world_standing.Jobs.{without};
 

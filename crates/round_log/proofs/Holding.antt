@@ -5,7 +5,7 @@ use Rattle.std.proofs.lemmas.Bool.{cases_eq}
 use Rattle.std.proofs.lemmas.List.{length-map}
 use Rattle.std.proofs.Math.ListN.{get_or-map}
 use Rattle.std.proofs.lemmas.List.Elements.{Contains-append_left, Contains-push, Contains-push_cases}
-use Rattle.pm_words.specs.Parts.{Part}
+use Rattle.oplog_tail.specs.pm_words.Parts.{Part}
 use Rattle.disk_lines.specs.declared.Draft.{Draft}
 use Rattle.oplog_tail.specs.disk_rules.LogRule.{cells_of_line, HoldsEntry, IsAsAtFirst}
 use Rattle.oplog_tail.specs.Closing.{cells_of}

@@ -1,7 +1,7 @@
 -- A line into which the words of an entry are stored, and then made durable.
 use Rattle.std.proofs.Common.{◌≡◌, ℕ, Bool, true, cond, List}
-use Rattle.pm_words.specs.declared.Cell.{Cell}
-use Rattle.pm_words.specs.Words.{Words}
+use Rattle.oplog_tail.specs.pm_words.declared.Cell.{Cell}
+use Rattle.oplog_tail.specs.pm_words.Words.{Words}
 use Rattle.pm_lines.specs.Effects.{Fences, FlushesLine}
 use Rattle.oplog_tail.proofs.EntryWords.{finishes, IsStoring}
 use Rattle.oplog_tail.specs.declared.views.Mark.TheVariants.{Lost, Written}

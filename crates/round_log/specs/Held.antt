@@ -1,7 +1,7 @@
 -- How the log of a round holds claims, while entries are on their way into other lines.
 use Rattle.std.specs.Prelude.{◌≡◌, ◌<◌, ◌+◌, ℕ, Contains, List, [], ◌∷◌, ◌++◌, length, Ok}
-use Rattle.pm_words.specs.Parts.{Part}
-use Rattle.pm_words.specs.Words.{Words}
+use Rattle.oplog_tail.specs.pm_words.Parts.{Part}
+use Rattle.oplog_tail.specs.pm_words.Words.{Words}
 use Rattle.disk_lines.specs.declared.Draft.{Draft}
 use Rattle.oplog_tail.specs.disk_rules.LogRule.{HoldsClaims, HoldsEntry, IsAsAtFirst}
 use Rattle.oplog_tail.specs.Closing.{cells_of}

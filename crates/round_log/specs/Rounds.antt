@@ -1,6 +1,6 @@
 -- What contracts see of the log of a round.
 use Rattle.std.specs.Prelude.{◌≡◌, ◌≢◌, ◌≤◌, ◌<◌, ◌+◌, ◌^◌, ℕ, List, length, Result, Ok, Err}
-use Rattle.pm_words.specs.Parts.{Part}
+use Rattle.oplog_tail.specs.pm_words.Parts.{Part}
 use Rattle.oplog_tail.specs.declared.views.Full.{Full}
 use Rattle.oplog_tail.specs.Rule.{line_at}
 

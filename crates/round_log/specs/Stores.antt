@@ -1,9 +1,9 @@
 -- A line into which an entry is stored.
 use Rattle.std.specs.Prelude.{◌≡◌, ◌⊎◌, ◌<◌, ◌≤◌, ℕ, Bool, true, List}
-use Rattle.pm_words.specs.declared.Cell.{Cell}
-use Rattle.pm_words.specs.declared.Cell.TheVariants.{Two}
-use Rattle.pm_words.specs.Cells.{cell, newest}
-use Rattle.pm_words.specs.Words.{Words}
+use Rattle.oplog_tail.specs.pm_words.declared.Cell.{Cell}
+use Rattle.oplog_tail.specs.pm_words.declared.Cell.TheVariants.{Two}
+use Rattle.oplog_tail.specs.pm_words.Cells.{cell, newest}
+use Rattle.oplog_tail.specs.pm_words.Words.{Words}
 use Rattle.disk_lines.specs.declared.Draft.{Draft}
 use Rattle.oplog_tail.specs.declared.views.Mark.{Mark}
 use Rattle.oplog_tail.specs.EntryLines.{entry_words, Holds, IsSingle}

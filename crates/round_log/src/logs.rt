@@ -1,6 +1,6 @@
 //! The log, and an append in its steps.
 ghost use Rattle.std.specs.Prelude.{◌≡◌, ◌≤◌, ◌<◌, ◌+◌, ◌^◌, length, if◌then◌else◌};
-ghost use Rattle.pm_words.specs.Powers.{is_on, Steps};
+ghost use Rattle.oplog_tail.specs.pm_words.Powers.{is_on, Steps};
 ghost use Rattle.oplog_tail.specs.declared.views.Mark.TheVariants.{Lost, Written};
 ghost use Rattle.oplog_tail.specs.EntryLines.{entry_words, IsSingle};
 ghost use Rattle.oplog_tail.specs.Rule.{line_at};

@@ -1,46 +1,58 @@
 -- A write of a World begins.
-use Rattle.std.specs.Prelude.{◌≡◌, ◌≢◌, ◌⊎◌, ◌≤◌, ◌<◌, ◌+◌, ◌-◌, ◌++◌, ℕ, true, false, List, [], ◌∷◌, length, Option, Some, slice_index, sum_by, refl}
+use Rattle.std.specs.Prelude.{◌≡◌, ◌≢◌, ◌⊎◌, ◌≤◌, ◌<◌, ◌+◌, ◌-◌, ◌++◌, ℕ, true, false, List, [], ◌∷◌, length, Option, Some, None, slice_index, sum_by, refl}
 use Rattle.std.proofs.Common.{arith, ap, ◌∙◌, sym, subst, inl, inr}
-use Rattle.block_counts.specs.Counts.{blocks_for}
-use Rattle.pm_words.specs.Powers.{is_on, Supply}
-use Rattle.disk_lines.specs.declared.Kind.TheVariants.{File}
+use Rattle.write_begins.specs.block_counts.Counts.{blocks_for}
+use Rattle.write_begins.specs.pm_words.Powers.{is_on, Supply}
+use Rattle.write_begins.specs.disk_lines.declared.Kind.TheVariants.{File}
 use Rattle.write_begins.specs.disk_rules.Volume.{inode, Volume}
-use Rattle.extent_words.specs.Extents.{disk_at}
+use Rattle.write_begins.specs.extent_words.Extents.{disk_at}
 use Rattle.write_begins.specs.file_table.Files.{Files}
 use Rattle.write_begins.specs.k_rules.View.{View}
-use Rattle.list_facts.specs.Members.{In, pushed-In}
-use Rattle.posix_types.specs.declared.call.Mode.{Mode}
-use Rattle.posix_types.specs.declared.call.Who.{Who}
-use Rattle.posix_types.specs.declared.handle.Handle.{Handle}
-use Rattle.posix_types.specs.declared.item.Outcome.{Outcome}
-use Rattle.posix_words.specs.Open.{Tables}
+use Rattle.write_begins.specs.list_facts.Members.{In, pushed-In}
+use Rattle.write_begins.specs.posix_types.declared.call.Mode.{Mode}
+use Rattle.write_begins.specs.posix_types.declared.call.Who.{Who}
+use Rattle.write_begins.specs.posix_types.declared.handle.Handle.{Handle}
+use Rattle.write_begins.specs.posix_types.declared.item.Outcome.{Outcome}
+use Rattle.write_begins.specs.posix_words.Open.{Tables}
+use Rattle.write_begins.specs.posix_words.Outcomes.{first}
+use Rattle.write_begins.specs.posix_puts.Views.{need_of}
+use Rattle.write_begins.specs.posix_spec.FileRows.{write_rows}
 use Rattle.write_begins.specs.posix_spec.Run.{after_call}
 use Rattle.write_begins.specs.posix_spec.State.{room, State}
 use Rattle.write_begins.specs.posix_spec.Step.{step, Stepped}
+use Rattle.write_begins.specs.crash_spec.Busy.{is_logged}
 use Rattle.round_calls.proofs.round_jobs_proofs.round_facts_proofs.Counts.{few_jobs}
 use Rattle.round_calls.specs.round_jobs.script_calls.Counters.{IsCounted}
 use Rattle.round_calls.specs.round_jobs.script_calls.Histories.{is_counted, item_with}
 use Rattle.round_calls.specs.round_jobs.staging_files.Keeps.{Staged}
 use Rattle.round_calls.specs.round_jobs.world_standing.Standing.{Pending, StandsAt}
+use Rattle.round_calls.specs.round_jobs.world_standing.world_promise.JobLaws.{needs}
 use Rattle.write_begins.specs.write_jobs.Jobs.{JobView}
 use Rattle.round_calls.proofs.round_turns_proofs.Beginning.{began, lets, lost_call, others_began, others_lost, others_returned, returned}
+use Rattle.round_calls.proofs.round_turns_proofs.Ending.{no_both}
 use Rattle.round_calls.proofs.round_turns_proofs.Losing.{lost_view}
 use Rattle.round_calls.specs.round_views.declared.over.Over.{Over}
 use Rattle.round_calls.proofs.round_views_proofs.losing_facts_proofs.Homes.{has_blocks_out}
-use Rattle.round_calls.specs.round_views.Begins.{BeginsJob, EndsRound, item_of, LacksBeside, LacksStaging, LosesCall, Returns, WantsMemory}
+use Rattle.round_calls.specs.round_views.Begins.{BeginsJob, EndsRound, item_of, LacksBeside, LacksStaging, LeavesByWrite, LosesCall, Returns}
 use Rattle.round_calls.specs.round_views.file_ends.Ends.{FilesEnd}
-use Rattle.round_calls.specs.round_views.Views.{disk_of, IsGoing, IsWorldOver, kept_of, state_of, WorldView}
+use Rattle.round_calls.specs.round_views.Views.{Disk, disk_of, IsGoing, IsWorldOver, kept_of, state_of, WorldView}
 use Rattle.write_begins.proofs.Begun.{need_fits}
 use Rattle.write_begins.specs.Begins as writing
-use Rattle.write_begins.specs.Begins.{BeginsWrite, Found, IsAnsweredBy, LosesWrite, StaysStanding}
+use Rattle.write_begins.specs.Begins.{BeginsWrite, Found, IsAnsweredBy, LosesWrite}
 use Rattle.write_begins.specs.Goes.{KeepsMaps}
 use Rattle.write_begins.specs.Needs.{JobsNeed, need_by}
 use Rattle.write_begins.specs.write_asks.Laws.{call_of, start_of}
 use Rattle.write_begins.specs.posix_facts.RowLaws.{Accepts-from_rows}
-use Rattle.round_puts.proofs.Rows.{accepted_logged, is_its_need, lacks_staging, no_publish, refused_step, refused_unlogged}
+use Rattle.round_puts.proofs.Rows.{accepted_logged, is_its_need, its_need, lacks_in, lacks_staging, no_publish, refused_step, refused_unlogged}
 use Rattle.round_calls.proofs.Jobs.{needs_are, stands_later}
 use Rattle.round_calls.specs.Calls.{AtCall}
-use Rattle.round_calls.proofs.Staying.{ends_round, few_made, going_now, late_run, round_over, stands_now, strict_now, unchanged, wants_memory}
+use Rattle.round_calls.proofs.Running.{of_open_file}
+use Rattle.round_calls.proofs.Staying.{ends_round, few_made, going_now, late_run, round_over, stands_now, strict_now}
+
+-- a write that changed cells alone
+changes_cells : (Beside : Type 0) (h : Handle) (at : Option ℕ) (x : List ℕ) (old new : Disk) → new ≡ record old { cells = new.cells } → (Beside → new ≡ old) → LeavesByWrite Beside (call_of h at x) old new
+changes_cells Beside h None x old new cells none = (cells, none)
+changes_cells Beside h (Some place) x old new cells none = (cells, none)
 
 -- where no map of a file changed, nothing lies past the end of one still
 pub ends_then : (v u : Volume) (files then : Files) → KeepsMaps v u files then → FilesEnd v files → FilesEnd u then
@@ -99,17 +111,43 @@ module _ (k : View) (t : Tables) (staging : Staged) (files : Files) (w : WorldVi
       pub answered : IsWorldOver k t staging files returned_view
       answered = returned k t staging files w one.world one.begins.awake one.out who (call_of h at x) one.begins.next one.up one.none one.begins.idle k t files refl going.ends later
 
+      unlogged : is_logged (state_of w) (who, call_of h at x) ≡ false
+      unlogged = refused_unlogged (state_of w) who h at x outcome (answer found_at)
+
       pub answers : (before after : Supply) → is_on after ≡ true → Returns who w returned_view before after
       answers before after on = record {
         call = call_of h at x;
         begins = one.begins;
-        unlogged = refused_unlogged (state_of w) who h at x outcome (answer found_at);
+        unlogged = unlogged;
         new_is = refl;
+        enough = λ need left lacks. no_both (is_logged (state_of w) (who, call_of h at x)) (its_need w who h at x need lacks.need_is).0 unlogged _;
         published = no_publish who h at x w returned_view;
+        of_file = of_open_file k t staging files w who (call_of h at x) one (call_of h at x);
         stay = others_returned k t staging files w one.world one.begins.awake one.out who (call_of h at x) one.begins.next one.up one.none one.begins.idle k t files refl going.ends later;
         on = on;
         spent = inl (ap (λ (y : State). y.entries) (sym same_state));
       }
+
+    -- ---- what it lacks
+
+    -- the calls of the jobs that are out leave what these jobs leave
+    left_is : room (state_of w) - needs (state_of w) at_call.jobs ≡ room (state_of w) - sum_by (λ (p : Pending). need_of (state_of w) p.who p.call) w.pending
+    left_is = ap (λ n. room (state_of w) - n) (needs_are (state_of w) w.pending at_call.jobs at_call.jobs_are)
+
+    beside_in : (needed left : ℕ) → LacksBeside w who (call_of h at x) needed left → writing.LacksBeside (state_of w) who (call_of h at x) at_call.jobs needed left
+    beside_in needed left is = record { need_is = (its_need w who h at x needed is.need_is).1; left_is = is.left_is ∙ sym left_is; lacks = is.lacks }
+
+    beside_as : first (write_rows (state_of w) who h (start_of (state_of w) who h at) x) ≡ None → (needed left : ℕ) → writing.LacksBeside (state_of w) who (call_of h at x) at_call.jobs needed left
+        → LacksBeside w who (call_of h at x) needed left
+    beside_as none needed left is = record {
+      need_is = is_its_need w who h at x needed (accepted_logged (state_of w) who h at x strict none) is.need_is;
+      left_is = is.left_is ∙ left_is;
+      fits =
+          let fits = need_fits (state_of w) who h at x (Accepts-from_rows (state_of w) who h (start_of (state_of w) who h at) x none) in
+          let needed_is = is.need_is in
+          omega (arith, fits, needed_is);
+      lacks = is.lacks;
+    }
 
     -- ---- it became a job
 
@@ -147,9 +185,14 @@ module _ (k : View) (t : Tables) (staging : Staged) (files : Files) (w : WorldVi
           call = call_of h at x;
           begins = one.begins;
           logged = accepted_logged (state_of w) who h at x strict (begun.accepted found_at);
+          enough = λ need left lacks. begun.enough found_at need left (beside_in need left lacks);
+          run = λ need left lacks.
+              begun.run found_at need left
+              (lacks_in w who h at x k t staging (begun.accepted found_at) one.world.disk_is at_call.geometry going.runs need left lacks);
           pending = pending_of;
           who_is = refl;
           call_is = refl;
+          tables = sym (ap (λ (d : Disk). d.tables) one.world.disk_is);
           new_is = refl;
           out = record {
             there = last_there w.pending;
@@ -166,44 +209,28 @@ module _ (k : View) (t : Tables) (staging : Staged) (files : Files) (w : WorldVi
           on = on;
         }
 
-      -- ---- it is not begun, and no call sees a change
-
-      module _ (stays : StaysStanding who (call_of h at x) k l t staging staged files laid taken) where
-        -- MEMORY WANTED.
-        pub write_unchanged : IsWorldOver l t staged laid (record w { disk = disk_of l t staged })
-        write_unchanged = unchanged k t staging files w who (call_of h at x) one l staged laid stays.runs keeps.base ends_now (stays.stands found_at)
-
-        pub write_wants_memory : (after : Supply) → is_on after ≡ true → WantsMemory who w (record w { disk = disk_of l t staged }) after
-        write_wants_memory = wants_memory k t staging files w who (call_of h at x) one l staged laid stays.runs keeps.base ends_now (stays.stands found_at)
-
       -- ---- the round is over
 
       module _ (needed left : ℕ) (over : writing.EndsRound who h at x k l t staging staged files laid taken needed left) where
         late : (w.pending ≢ []) ⊎ (w.settled < length w.history)
         late = late_run k t staging files w who (call_of h at x) one over.late
 
-        beside : writing.LacksBeside (state_of w) who (call_of h at x) at_call.jobs needed left → LacksBeside w who (call_of h at x) needed left
-        beside is = record {
-          need_is = is_its_need w who h at x needed (accepted_logged (state_of w) who h at x strict (over.accepted found_at)) is.need_is;
-          left_is = is.left_is ∙ ap (λ n. room (state_of w) - n) (needs_are (state_of w) w.pending at_call.jobs at_call.jobs_are);
-          fits =
-              let fits = need_fits (state_of w) who h at x (Accepts-from_rows (state_of w) who h (start_of (state_of w) who h at) x (over.accepted found_at)) in
-              let needed_is = is.need_is in
-              omega (arith, fits, needed_is);
-          lacks = is.lacks;
-        }
-
         cause : LacksBeside w who (call_of h at x) needed left ⊎ LacksStaging w who (call_of h at x) needed left
         cause = elim (over.cause found_at) [
-          | inl is ↦ inl (beside is)
-          | inr lacks ↦ inr (lacks_staging w who h at x k t staging needed left (over.accepted found_at) one.world.disk_is at_call.geometry going.runs over.late lacks)
+          | inl is ↦ inl (beside_as (over.accepted found_at) needed left is)
+          | inr is ↦ inr
+              (lacks_staging w who h at x k t staging (over.accepted found_at) one.world.disk_is at_call.geometry going.runs needed left
+              (λ n m lacks. is.beside n m (beside_in n m lacks)) is.lacks)
         ]
 
         pub write_over : IsWorldOver l t staged laid (record w { over = Some (Over.Space needed left); acts = w.acts + 1; disk = disk_of l t staged })
         write_over = round_over k t staging files w who (call_of h at x) one l staged laid over.stays.runs keeps.base ends_now (over.stays.stands found_at) needed left late
 
         pub write_ends_round : (after : Supply) → is_on after ≡ true → EndsRound who w (record w { over = Some (Over.Space needed left); acts = w.acts + 1; disk = disk_of l t staged }) after needed left
-        write_ends_round = ends_round k t staging files w who (call_of h at x) one l staged laid over.stays.runs keeps.base ends_now (over.stays.stands found_at) needed left late cause
+        write_ends_round = ends_round k t staging files w who (call_of h at x) one l staged laid over.stays.runs keeps.base ends_now (over.stays.stands found_at) needed left late cause over.same
+            (changes_cells (LacksBeside w who (call_of h at x) needed left) h at x w.disk (disk_of l t staged)
+            (ap (λ (y : View). disk_of y t staged) over.cells_alone ∙ ap (λ (s : Staged). disk_of (record k { cells = l.cells }) t s) over.same ∙ ap (λ (d : Disk). record d { cells = l.cells }) (sym one.world.disk_is))
+            (λ lacks. ap (λ (y : View). disk_of y t staged) (over.nothing found_at (beside_in needed left lacks)) ∙ ap (λ (s : Staged). disk_of k t s) over.same ∙ sym one.world.disk_is))
 
     -- ---- it lost its power
 

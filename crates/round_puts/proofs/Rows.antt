@@ -1,15 +1,15 @@
 -- What the rows of a write say of its step, and of what it needs.
-use Rattle.std.specs.Prelude.{◌≡◌, ◌≢◌, ◌≤◌, ◌<◌, ◌+◌, ◌-◌, ℕ, Bool, true, false, List, [], ◌∷◌, length, Option, Some, None, if◌then◌else◌, refl}
+use Rattle.std.specs.Prelude.{◌≡◌, ◌≤◌, ◌<◌, ◌+◌, ◌-◌, ℕ, Bool, true, false, List, length, Option, Some, None, if◌then◌else◌, refl}
 use Rattle.std.specs.Option.{option_map_or}
 use Rattle.std.proofs.Common.{arith, ap, ◌∙◌, sym, subst, inl, inr}
-use Rattle.disk_places.specs.Places.{Geometry, reserve}
+use Rattle.write_begins.specs.disk_places.Places.{Geometry, reserve}
 use Rattle.write_begins.specs.k_rules.View.{View}
-use Rattle.posix_types.specs.declared.call.Mode.{Mode}
-use Rattle.posix_types.specs.declared.call.Who.{Who}
-use Rattle.posix_types.specs.declared.handle.Handle.{Handle}
-use Rattle.posix_types.specs.declared.item.Outcome.{Outcome}
-use Rattle.posix_words.specs.Open.{Tables}
-use Rattle.posix_words.specs.Outcomes.{first}
+use Rattle.write_begins.specs.posix_types.declared.call.Mode.{Mode}
+use Rattle.write_begins.specs.posix_types.declared.call.Who.{Who}
+use Rattle.write_begins.specs.posix_types.declared.handle.Handle.{Handle}
+use Rattle.write_begins.specs.posix_types.declared.item.Outcome.{Outcome}
+use Rattle.write_begins.specs.posix_words.Open.{Tables}
+use Rattle.write_begins.specs.posix_words.Outcomes.{first}
 use Rattle.write_begins.specs.posix_puts.Views.{need_of}
 use Rattle.write_begins.specs.posix_spec.FileRows.{file_number, write_rows, write_start}
 use Rattle.write_begins.specs.posix_spec.Put.{Put, put_by, put_unless}
@@ -18,11 +18,11 @@ use Rattle.write_begins.specs.posix_spec.Step.{pwrite_done, step, stepped, Stepp
 use Rattle.write_begins.specs.crash_spec.Busy.{is_logged, is_logged_put}
 use Rattle.round_calls.specs.round_jobs.k_split.MapChanges.{free_blocks_in}
 use Rattle.round_calls.specs.round_jobs.staging_files.Keeps.{Staged}
-use Rattle.round_calls.specs.round_jobs.staging_files.Reserves.{has_empty, HasNoFreeRun, IsLacking, LacksFirstWay, LacksSecondWay, need}
+use Rattle.round_calls.specs.round_jobs.staging_files.Reserves.{has_empty, HasNoFreeRun, IsLacking, LacksFirstWay, LacksSecondWay, need, wanted}
 use Rattle.write_begins.proofs.Asked.{puts_of}
 use Rattle.write_begins.specs.write_asks.Laws.{call_of, start_of}
 use Rattle.write_begins.specs.write_drafts.Drafts.{staged_count}
-use Rattle.round_calls.specs.round_views.Begins.{HasNoRun, IsNeed, IsStagingNeed, LacksStaging, Publishes, staged_by}
+use Rattle.round_calls.specs.round_views.Begins.{HasNoRun, IsNeed, IsStagingNeed, LacksBeside, LacksStaging, Publishes, wanted_by}
 use Rattle.round_calls.specs.round_views.Views.{Disk, disk_of, state_of, WorldView}
 
 -- ---- a row fits
@@ -53,10 +53,17 @@ accepted_logged s who h at x strict none =
     let put : Put = record { node = file_number s.tables who h; place = start_of s who h at; bytes = x } in
     ap (λ m. option_map_or (is_logged_put s.mode s) m false) (puts_of s who h at x none) ∙ ap (λ mode. is_logged_put mode s put) strict
 
+-- what it needs is what is asked of it
 pub is_its_need : (w : WorldView) (who : Who) (h : Handle) (at : Option ℕ) (x : List ℕ) (need : ℕ) → is_logged (state_of w) (who, call_of h at x) ≡ true → need ≡ need_of (state_of w) who (call_of h at x)
     → IsNeed w who (call_of h at x) need
 is_its_need w who h None x need logged is = (logged, is)
 is_its_need w who h (Some place) x need logged is = (logged, is)
+
+-- and what is asked of it is what it needs
+pub its_need : (w : WorldView) (who : Who) (h : Handle) (at : Option ℕ) (x : List ℕ) (need : ℕ) → IsNeed w who (call_of h at x) need
+    → (is_logged (state_of w) (who, call_of h at x) ≡ true) × (need ≡ need_of (state_of w) who (call_of h at x))
+its_need w who h None x need is = is
+its_need w who h (Some place) x need is = is
 
 -- ---- the staging lacks blocks
 
@@ -68,41 +75,79 @@ lacks_there staged k count left is (inl short) = by (has_empty staged) is where
 lacks_there staged k count left is (inr none) =
     let empty : left ≡ 0 = is ∙ ap {B = ℕ} (λ b. if b then free_blocks_in k else 0) none in omega (arith, empty)
 
--- how many blocks it wants free beside those of the run, where one is out
-wants : (count out kept_back : ℕ) → 1 ≤ out → 1 ≤ kept_back → count + (out + kept_back - 2) + 1 + 1 ≡ count + out + kept_back
-wants count out kept_back some back = omega (arith, some, back)
+second_lacks : (staged : Staged) (k : View) (count left : ℕ) → left ≡ (if has_empty staged then free_blocks_in k else 0) → left < need staged k count → LacksSecondWay staged k count
+second_lacks staged k count left is less = by (has_empty staged) refl is where
+  by : (b : Bool) → has_empty staged ≡ b → left ≡ (if b then free_blocks_in k else 0) → LacksSecondWay staged k count
+  by true some all = inl (omega (arith, all, less))
+  by false none all = inr none
 
-some_back : (g : Geometry) → 1 ≤ reserve g
-some_back g = omega arith
+-- the two ways to say how many blocks have to be free
+counted_as : (count out claims pending back needed : ℕ) → 2 ≤ back → out ≡ claims + pending → needed ≡ count + (out + back - 2) + 1 → needed + 1 ≡ count + claims + pending + back
+counted_as count out claims pending back needed two runs is = omega (arith, two, runs, is)
 
-some_length : {A : Type 0} (xs : List A) → xs ≢ [] → 1 ≤ length xs
-some_length [] some = absurd (some refl)
-some_length (x ∷ xs) some = omega arith
+counted_in : (count out claims pending back needed : ℕ) → 2 ≤ back → out ≡ claims + pending → needed + 1 ≡ count + claims + pending + back → needed ≡ count + (out + back - 2) + 1
+counted_in count out claims pending back needed two runs is = omega (arith, two, runs, is)
 
--- where it has no run, of the World it is said so
-no_run_of : (w : WorldView) (put : Put) (k : View) (t : Tables) (staged : Staged) (count : ℕ) → w.disk ≡ disk_of k t staged → k.volume.geometry ≡ w.geometry → length staged.out ≡ length w.claims + length w.pending → count ≡ staged_by put
-    → LacksFirstWay staged k count → HasNoRun w (Some put)
-no_run_of w put k t staged count disk geometry runs same (inl few) =
-    let free = ap (λ (d : Disk). d.free) disk in
-    let back = ap reserve geometry in
-    inl (omega (arith, few, free, back, runs))
-no_run_of w put k t staged count disk geometry runs same (inr none) = inr (subst (λ (s : Staged). HasNoFreeRun s (staged_by put)) (sym (ap (λ (d : Disk). d.staging) disk)) (subst (HasNoFreeRun staged) same none))
+two_back : (g : Geometry) → 2 ≤ reserve g
+two_back g = omega arith
 
-pub lacks_staging : (w : WorldView) (who : Who) (h : Handle) (at : Option ℕ) (x : List ℕ) (k : View) (t : Tables) (staged : Staged) (needed left : ℕ) → first (write_rows (state_of w) who h (start_of (state_of w) who h at) x) ≡ None
-    → w.disk ≡ disk_of k t staged → k.volume.geometry ≡ w.geometry → length staged.out ≡ length w.claims + length w.pending → staged.out ≢ []
-    → IsLacking (staged_count (start_of (state_of w) who h at) (length x)) staged k needed left → LacksStaging w who (call_of h at x) needed left
-lacks_staging w who h at x k t staged needed left none disk geometry runs some lacks = record {
-  need_is = subst (λ (m : Option Put). IsStagingNeed w m needed) (sym (puts_of (state_of w) who h at x none)) counted;
-  no_run =
-      let put : Put = record { node = file_number (state_of w).tables who h; place = start_of (state_of w) who h at; bytes = x } in
-      subst (HasNoRun w) (sym (puts_of (state_of w) who h at x none))
-      (no_run_of w put k t staged (staged_count (start_of (state_of w) who h at) (length x)) disk geometry runs refl lacks.no_first);
-  left_is = lacks.room_is ∙ ap (λ (d : Disk). if has_empty d.staging then d.free else 0) (sym disk);
-  lacks = subst (λ n. left < n) (sym lacks.need_is) (lacks_there staged k (staged_count (start_of (state_of w) who h at) (length x)) left lacks.room_is lacks.no_second);
-} where
-  counted : needed + 1 ≡ staged_count (start_of (state_of w) who h at) (length x) + length w.claims + length w.pending + reserve w.geometry
-  counted =
-      let is = lacks.need_is in
-      let all = wants (staged_count (start_of (state_of w) who h at) (length x)) (length staged.out) (reserve k.volume.geometry) (some_length staged.out some) (some_back k.volume.geometry) in
-      let same = ap reserve geometry in
-      omega (arith, is, all, same, runs)
+-- WHAT THE STAGING LACKS for a write that no row refuses, in its own words and in the World's.
+module _ (w : WorldView) (who : Who) (h : Handle) (at : Option ℕ) (x : List ℕ) (k : View) (t : Tables) (staged : Staged) (none : first (write_rows (state_of w) who h (start_of (state_of w) who h at) x) ≡ None) (disk : w.disk ≡ disk_of k t staged)
+    (geometry : k.volume.geometry ≡ w.geometry) (runs : length staged.out ≡ length w.claims + length w.pending) where
+  abbrev count : ℕ
+  count = staged_count (start_of (state_of w) who h at) (length x)
+
+  abbrev put : Put
+  put = record { node = file_number (state_of w).tables who h; place = start_of (state_of w) who h at; bytes = x }
+
+  puts : put_by (state_of w) who (call_of h at x) ≡ Some put
+  puts = puts_of (state_of w) who h at x none
+
+  free_is : w.disk.free ≡ free_blocks_in k
+  free_is = ap (λ (d : Disk). d.free) disk
+
+  staging_is : w.disk.staging ≡ staged
+  staging_is = ap (λ (d : Disk). d.staging) disk
+
+  room_is : (if has_empty w.disk.staging then w.disk.free else 0) ≡ (if has_empty staged then free_blocks_in k else 0)
+  room_is = ap (λ (d : Disk). if has_empty d.staging then d.free else 0) disk
+
+  needs_as : (needed : ℕ) → needed ≡ need staged k count → IsStagingNeed w (Some put) needed
+  needs_as needed is =
+      subst (λ (g : Geometry). needed + 1 ≡ count + length w.claims + length w.pending + reserve g) geometry
+      (counted_as count (length staged.out) (length w.claims) (length w.pending) (reserve k.volume.geometry) needed (two_back k.volume.geometry) runs is)
+
+  needs_in : (needed : ℕ) → IsStagingNeed w (Some put) needed → needed ≡ need staged k count
+  needs_in needed is =
+      counted_in count (length staged.out) (length w.claims) (length w.pending) (reserve k.volume.geometry) needed (two_back k.volume.geometry) runs
+      (subst (λ (g : Geometry). needed + 1 ≡ count + length w.claims + length w.pending + reserve g) (sym geometry) is)
+
+  wanted_is : wanted staged k ≡ wanted_by w
+  wanted_is = (λ i. runs i + reserve (geometry i) - 2)
+
+  no_run_as : LacksFirstWay staged k count → HasNoRun w (Some put)
+  no_run_as (inl few) = inl (subst (λ n. n < wanted_by w) (sym free_is) (subst (λ n. free_blocks_in k < n) wanted_is few))
+  no_run_as (inr no_run) = inr (subst (λ (s : Staged). HasNoFreeRun s count) (sym staging_is) no_run)
+
+  no_run_in : HasNoRun w (Some put) → LacksFirstWay staged k count
+  no_run_in (inl few) = inl (subst (λ n. free_blocks_in k < n) (sym wanted_is) (subst (λ n. n < wanted_by w) free_is few))
+  no_run_in (inr no_run) = inr (subst (λ (s : Staged). HasNoFreeRun s count) staging_is no_run)
+
+  pub lacks_staging : (needed left : ℕ) → ((n m : ℕ) → ¬ LacksBeside w who (call_of h at x) n m) → IsLacking count staged k needed left → LacksStaging w who (call_of h at x) needed left
+  lacks_staging needed left beside lacks = record {
+    beside = beside;
+    need_is = subst (λ (m : Option Put). IsStagingNeed w m needed) (sym puts) (needs_as needed lacks.need_is);
+    no_run = subst (HasNoRun w) (sym puts) (no_run_as lacks.no_first);
+    left_is = lacks.room_is ∙ sym room_is;
+    lacks = subst (λ n. left < n) (sym lacks.need_is) (lacks_there staged k count left lacks.room_is lacks.no_second);
+  }
+
+  pub lacks_in : (needed left : ℕ) → LacksStaging w who (call_of h at x) needed left → IsLacking count staged k needed left
+  lacks_in needed left lacks =
+      let need_is = needs_in needed (subst (λ (m : Option Put). IsStagingNeed w m needed) puts lacks.need_is) in
+      record {
+        no_first = no_run_in (subst (HasNoRun w) puts lacks.no_run);
+        no_second = second_lacks staged k count left (lacks.left_is ∙ room_is) (subst (λ n. left < n) need_is lacks.lacks);
+        need_is = need_is;
+        room_is = lacks.left_is ∙ room_is;
+      }

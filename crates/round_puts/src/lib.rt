@@ -3,13 +3,14 @@
 //! Lemmas alone, over what `round_views` says that a World keeps, and what `write_begins` answers. The layer above may
 //! rely on this: a World at its next call, a write that no job keeps waiting, meets what `begin_write` asks (`found_at`);
 //! and by what it answers the write returned (`answers`), it became a job (`begins_job`), it ended the round for want of
-//! space (`ends_round`), it lost its power (`loses_call`), or memory wanted (`wants_memory`); each time with the World
-//! that then stands.
+//! space (`write_ends_round`), or it lost its power (`loses_call`); each time with the World that then stands. `Rows` says
+//! what a row means for its step, and what the staging lacks in its own words and in the World's.
 //!
 //! Stands on `round_turns` and `write_begins`.
 #![tactic(auto)]
 
-pub use round_calls;
-pub use round_calls::{finish_ends, flight_truncates, round_jobs};
-pub use write_begins;
-pub use write_begins::write_drafts;
+pub use round_calls::{Truncated, publish_file, truncate_file};
+pub use write_begins::{
+    WriteBegun, begin_write, jobs_need_what_their_calls_do, judge,
+    kept_numbers_are_those_of_the_state, need_of,
+};

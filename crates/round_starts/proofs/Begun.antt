@@ -1,20 +1,20 @@
 -- The World begins on the image that was mounted.
-use Rattle.std.specs.Prelude.{◌≡◌, List, [], false, true, None}
+use Rattle.std.specs.Prelude.{◌≡◌, List, [], false, true, None, refl}
 use Rattle.std.proofs.Common.{ap, ◌∙◌, sym, subst}
 use Rattle.std.proofs.Math.Path.{fun_ext}
-use Rattle.pm_words.specs.Images.{words_of}
-use Rattle.pm_words.specs.Words.{Words}
-use Rattle.disk_places.specs.Places.{Geometry}
+use Rattle.map_ends.specs.pm_words.Images.{words_of}
+use Rattle.map_ends.specs.pm_words.Words.{Words}
+use Rattle.map_ends.specs.disk_places.Places.{Geometry}
 use Rattle.map_ends.specs.disk_rules.Content.{content}
 use Rattle.round_views.specs.flight_laps.staging_files.GivesUp.{nothing_staged}
 use Rattle.map_ends.specs.k_rules.View.{View}
 use Rattle.log_mount.specs.Mounts.{IsMounted}
 use Rattle.map_ends.specs.posix_spec.Tree.{start}
-use Rattle.posix_types.specs.declared.call.Mode.{Mode}
-use Rattle.posix_types.specs.declared.reply.Shape.{Shape}
-use Rattle.posix_types.specs.declared.tree.TreeEntry.{TreeEntry}
-use Rattle.posix_types.specs.Scripts.{Scripts}
-use Rattle.posix_words.specs.Open.{nothing_open}
+use Rattle.map_ends.specs.posix_types.declared.call.Mode.{Mode}
+use Rattle.map_ends.specs.posix_types.declared.reply.Shape.{Shape}
+use Rattle.map_ends.specs.posix_types.declared.tree.TreeEntry.{TreeEntry}
+use Rattle.map_ends.specs.posix_types.Scripts.{Scripts}
+use Rattle.map_ends.specs.posix_words.Open.{nothing_open}
 use Rattle.round_views.specs.Starts.{BeginsMounted}
 use Rattle.round_views.specs.Views.{disk_of}
 use Rattle.round_views.specs.world_standing.world_beginning.Laws.{IsShapeOf}
@@ -35,6 +35,8 @@ module _ (g : Geometry) (image : Words) (k : View) (mode : Mode) (scripts : Scri
     shape_is = subst (λ (h : Geometry). IsShapeOf h shape) (same_places g image k mounted) (shape_of k.volume.geometry shape shown.shape_is);
     single = mounted.rest.single;
     shows = mounted.shows;
+    tables = refl;
+    staging = refl;
     base = low_base g image k mounted;
     world_is = λ i. record {
       geometry = same_places g image k mounted i;

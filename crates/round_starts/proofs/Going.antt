@@ -3,17 +3,17 @@ use Rattle.std.specs.Prelude.{◌≡◌, ◌≤◌, ◌+◌, ◌-◌, ◌*◌, �
 use Rattle.std.proofs.Common.{arith, ap, ◌∙◌, sym, subst, inl, inr}
 use Rattle.std.proofs.lemmas.Bool.{both_ways, cases_lt}
 use Rattle.std.proofs.lemmas.List.{get_or-replicate}
-use Rattle.pm_words.specs.Bytes.{line_bytes-same}
-use Rattle.pm_words.specs.CellLaws.{single-home}
-use Rattle.pm_words.specs.Cells.{AllHome, cell, is_lent}
-use Rattle.pm_words.specs.ImageLaws.{IsImage-words_of}
-use Rattle.pm_words.specs.Images.{words_of}
-use Rattle.pm_words.specs.Words.{line_bytes, Words}
-use Rattle.disk_lines.specs.declared.Kind.TheVariants.{File}
-use Rattle.disk_lines.specs.Entries.{held_seq, is_self_valid}
-use Rattle.disk_places.specs.Journal.{IsSound, journaled}
-use Rattle.disk_places.specs.PlaceLaws.{behind_log-not_journaled, behind_log-words}
-use Rattle.disk_places.specs.Places.{Geometry, log_line}
+use Rattle.map_ends.specs.pm_words.Bytes.{line_bytes-same}
+use Rattle.map_ends.specs.pm_words.CellLaws.{single-home}
+use Rattle.map_ends.specs.pm_words.Cells.{AllHome, cell, is_lent}
+use Rattle.map_ends.specs.pm_words.ImageLaws.{IsImage-words_of}
+use Rattle.map_ends.specs.pm_words.Images.{words_of}
+use Rattle.map_ends.specs.pm_words.Words.{line_bytes, Words}
+use Rattle.map_ends.specs.disk_lines.declared.Kind.TheVariants.{File}
+use Rattle.map_ends.specs.disk_lines.Entries.{held_seq, is_self_valid}
+use Rattle.map_ends.specs.disk_places.Journal.{IsSound, journaled}
+use Rattle.map_ends.specs.disk_places.PlaceLaws.{behind_log-not_journaled, behind_log-words}
+use Rattle.map_ends.specs.disk_places.Places.{Geometry, log_line}
 use Rattle.map_ends.specs.disk_rules.Checked.{IsCheckedAs}
 use Rattle.map_ends.specs.disk_rules.Content.{content}
 use Rattle.map_ends.specs.disk_rules.Volume.{inode, Volume, volume}
@@ -26,14 +26,14 @@ use Rattle.round_views.specs.flight_laps.staging_files.Keeps.{Agrees, AreFreeSin
 use Rattle.map_ends.specs.k_rules.View.{View}
 use Rattle.log_mount.specs.Mounts.{IsMounted}
 use Rattle.map_ends.specs.Laws.{EndBegun}
-use Rattle.open_numbers.proofs.Changes.{nothing_is_open}
+use Rattle.round_views.proofs.open_numbers_proofs.Changes.{nothing_is_open}
 use Rattle.map_ends.specs.posix_spec.Tree.{bare, start}
-use Rattle.posix_types.specs.declared.call.Mode.{Mode}
-use Rattle.posix_types.specs.declared.reply.Shape.{Shape}
-use Rattle.posix_types.specs.declared.tree.TreeEntry.{TreeEntry}
-use Rattle.posix_types.specs.Scripts.{Scripts}
-use Rattle.posix_words.specs.Lookups.{AreDistinct}
-use Rattle.posix_words.specs.Open.{is_open, nothing_open}
+use Rattle.map_ends.specs.posix_types.declared.call.Mode.{Mode}
+use Rattle.map_ends.specs.posix_types.declared.reply.Shape.{Shape}
+use Rattle.map_ends.specs.posix_types.declared.tree.TreeEntry.{TreeEntry}
+use Rattle.map_ends.specs.posix_types.Scripts.{Scripts}
+use Rattle.map_ends.specs.posix_words.Lookups.{AreDistinct}
+use Rattle.map_ends.specs.posix_words.Open.{is_open, nothing_open}
 use Rattle.round_views.specs.Views.{AreCounted, IsGoing, IsWorldOver, kept_of}
 use Rattle.round_views.specs.world_images.Changed.{sound_headed}
 use Rattle.round_views.specs.world_images.Images.{HasOldLines, IsRunning}

@@ -4,16 +4,16 @@ use Rattle.std.proofs.Common.{arith, sym, subst, inl, inr}
 use Rattle.std.proofs.lemmas.Bool.{cases_lt}
 use Rattle.std.proofs.lemmas.Bool.Decides.{nat_tests}
 use Rattle.std.proofs.lemmas.List.{get_or_past}
-use Rattle.pm_words.specs.ImageLaws.{IsImage-words_of}
-use Rattle.pm_words.specs.Images.{words_of}
-use Rattle.pm_words.specs.Words.{line_bytes, Words}
-use Rattle.disk_lines.specs.declared.Inode.{Inode}
-use Rattle.disk_lines.specs.declared.Kind.{Kind}
-use Rattle.disk_lines.specs.declared.Kind.TheVariants.{Directory, File, Free, Staging}
-use Rattle.disk_lines.specs.LineLaws.{IsInodeLine-decode_inode}
-use Rattle.disk_lines.specs.Lines.{is_inode_of_kind, most_bytes}
-use Rattle.disk_places.specs.Journal.{journaled}
-use Rattle.disk_places.specs.Places.{Geometry, inode_line}
+use Rattle.map_ends.specs.pm_words.ImageLaws.{IsImage-words_of}
+use Rattle.map_ends.specs.pm_words.Images.{words_of}
+use Rattle.map_ends.specs.pm_words.Words.{line_bytes, Words}
+use Rattle.map_ends.specs.disk_lines.declared.Inode.{Inode}
+use Rattle.map_ends.specs.disk_lines.declared.Kind.{Kind}
+use Rattle.map_ends.specs.disk_lines.declared.Kind.TheVariants.{Directory, File, Free, Staging}
+use Rattle.map_ends.specs.disk_lines.LineLaws.{IsInodeLine-decode_inode}
+use Rattle.map_ends.specs.disk_lines.Lines.{is_inode_of_kind, most_bytes}
+use Rattle.map_ends.specs.disk_places.Journal.{journaled}
+use Rattle.map_ends.specs.disk_places.Places.{Geometry, inode_line}
 use Rattle.map_ends.specs.disk_rules.Reading.{Reads}
 use Rattle.map_ends.specs.disk_rules.Volume.{free_inode, inode, Volume}
 use Rattle.map_ends.specs.k_rules.Stands.{Stands}

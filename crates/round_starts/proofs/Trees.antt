@@ -2,27 +2,27 @@
 use Rattle.std.specs.Prelude.{◌≡◌, ℕ, Bool, true, false, cond, fold, List, [], ◌∷◌, Option, Some, None, option_map, refl}
 use Rattle.std.specs.List.{filter_map, range_with_len}
 use Rattle.std.proofs.Common.{arith, ap, ◌∙◌, sym, inl}
-use Rattle.pm_words.specs.CellLaws.{single-home}
-use Rattle.pm_words.specs.Cells.{cell}
-use Rattle.pm_words.specs.Images.{words_of}
-use Rattle.pm_words.specs.Words.{Words}
-use Rattle.disk_lines.specs.declared.Draft.{Draft}
-use Rattle.disk_places.specs.Journal.{journaled}
-use Rattle.disk_places.specs.Places.{Geometry}
+use Rattle.map_ends.specs.pm_words.CellLaws.{single-home}
+use Rattle.map_ends.specs.pm_words.Cells.{cell}
+use Rattle.map_ends.specs.pm_words.Images.{words_of}
+use Rattle.map_ends.specs.pm_words.Words.{Words}
+use Rattle.map_ends.specs.disk_lines.declared.Draft.{Draft}
+use Rattle.map_ends.specs.disk_places.Journal.{journaled}
+use Rattle.map_ends.specs.disk_places.Places.{Geometry}
 use Rattle.map_ends.specs.disk_rules.Content.{HasBytes, IsDirectory, Node}
 use Rattle.map_ends.specs.disk_rules.Live.{entry_in, is_live, live_entries}
 use Rattle.map_ends.specs.disk_rules.Volume.{Volume}
 use Rattle.map_ends.specs.k_content.Trees.{tree_content, tree_node}
-use Rattle.list_facts.specs.Filters.{filter-In, filter_map-In, range-In}
-use Rattle.list_facts.specs.Members.{In}
+use Rattle.map_ends.specs.list_facts.Filters.{filter-In, filter_map-In, range-In}
+use Rattle.map_ends.specs.list_facts.Members.{In}
 use Rattle.map_ends.specs.posix_spec.State.{made, State}
 use Rattle.map_ends.specs.posix_spec.Tree.{planted}
 use Rattle.map_ends.specs.posix_trees.TreeOf.{IsTreeOf}
-use Rattle.posix_types.specs.declared.reply.Shape.{Shape}
-use Rattle.posix_types.specs.declared.tree.TreeEntry.{TreeEntry}
-use Rattle.posix_types.specs.declared.tree.TreeNode.{TreeNode}
-use Rattle.posix_words.specs.Names.{is_root}
-use Rattle.posix_words.specs.Places.{node_of}
+use Rattle.map_ends.specs.posix_types.declared.reply.Shape.{Shape}
+use Rattle.map_ends.specs.posix_types.declared.tree.TreeEntry.{TreeEntry}
+use Rattle.map_ends.specs.posix_types.declared.tree.TreeNode.{TreeNode}
+use Rattle.map_ends.specs.posix_words.Names.{is_root}
+use Rattle.map_ends.specs.posix_words.Places.{node_of}
 use Rattle.round_views.specs.world_images.Images.{HasNoEntry}
 use Rattle.round_views.specs.world_standing.world_beginning.Laws.{IsShapeOf}
 use Rattle.round_views.specs.world_standing.world_rules.Shown.{IsTreeOfContent, shown_as}

@@ -1,10 +1,10 @@
 -- How a World begins on a device that is mounted, each law as one statement.
 use Rattle.std.specs.Prelude.{◌≡◌, false, true, List, [], None}
-use Rattle.pm_words.specs.Cells.{AllHome}
-use Rattle.pm_words.specs.Images.{words_of}
-use Rattle.pm_words.specs.Words.{Words}
-use Rattle.disk_places.specs.Journal.{journaled}
-use Rattle.disk_places.specs.Places.{data_blocks, Geometry, IsGeometry, nodes}
+use Rattle.map_ends.specs.pm_words.Cells.{AllHome}
+use Rattle.map_ends.specs.pm_words.Images.{words_of}
+use Rattle.map_ends.specs.pm_words.Words.{Words}
+use Rattle.map_ends.specs.disk_places.Journal.{journaled}
+use Rattle.map_ends.specs.disk_places.Places.{data_blocks, Geometry, IsGeometry, nodes}
 use Rattle.map_ends.specs.disk_rules.Content.{content}
 use Rattle.map_ends.specs.disk_rules.Live.{live_entries}
 use Rattle.map_ends.specs.file_table.Files.{Files}
@@ -13,11 +13,11 @@ use Rattle.map_ends.specs.k_rules.View.{View}
 use Rattle.log_mount.specs.Mounts.{IsMounted}
 use Rattle.map_ends.specs.posix_spec.Tree.{start}
 use Rattle.map_ends.specs.posix_trees.TreeOf.{IsTreeOf}
-use Rattle.posix_types.specs.declared.call.Mode.{Mode}
-use Rattle.posix_types.specs.declared.reply.Shape.{Shape}
-use Rattle.posix_types.specs.declared.tree.TreeEntry.{TreeEntry}
-use Rattle.posix_types.specs.Scripts.{Scripts}
-use Rattle.posix_words.specs.Open.{nothing_open}
+use Rattle.map_ends.specs.posix_types.declared.call.Mode.{Mode}
+use Rattle.map_ends.specs.posix_types.declared.reply.Shape.{Shape}
+use Rattle.map_ends.specs.posix_types.declared.tree.TreeEntry.{TreeEntry}
+use Rattle.map_ends.specs.posix_types.Scripts.{Scripts}
+use Rattle.map_ends.specs.posix_words.Open.{nothing_open}
 use Rattle.round_views.specs.Starts.{AreInLimits, BeginsMounted}
 use Rattle.round_views.specs.Views.{disk_of, IsWorldOver, WorldView}
 use Rattle.round_views.specs.world_standing.staging_files.GivesUp.{nothing_staged}

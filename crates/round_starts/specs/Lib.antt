@@ -15,3 +15,6 @@ pub use Rattle.round_views.specs as round_views
 pub use Rattle.round_views.specs.oplog_tail as oplog_tail
 pub use Rattle.round_views.specs.round_facts as round_facts
 pub use Rattle.round_views.specs.write_jobs as write_jobs
+pub use Rattle.map_ends.specs.disk_places as disk_places
+pub use Rattle.map_ends.specs.pm_words as pm_words
+pub use Rattle.map_ends.specs.posix_words as posix_words

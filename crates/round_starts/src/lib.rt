@@ -25,8 +25,6 @@ pub fn a_world_begins()
     files_end_after_changes_of_maps();
 }
 
-pub use log_mount;
-pub use log_mount::k_mount;
-pub use map_ends::{file_table, image_layout, k_journal, lines_out};
-pub use round_views;
-pub use round_views::{oplog_tail, write_jobs};
+pub use log_mount::{CheckFault, MountFault, a_remount_shows_the_same, check, crash_image, mount};
+pub use map_ends::{Commit, KSplit, Staging};
+pub use round_views::{FilledJob, Full, Job, OpenFiles, calls_made, no_calls, script_length};

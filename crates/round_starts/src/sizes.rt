@@ -1,12 +1,11 @@
 //! The table of the sizes of all files.
 ghost use Rattle.std.specs.Prelude.{◌≡◌, ◌≤◌, IfOk};
-ghost use Rattle.disk_lines.specs.Lines.{most_bytes};
+ghost use Rattle.map_ends.specs.disk_lines.Lines.{most_bytes};
 ghost use Rattle.map_ends.specs.disk_rules.Volume.{inode};
 ghost use Rattle.log_mount.specs.k_mount.Sheds.{IsAtRest};
 ghost use Rattle.round_starts.specs.Sizes.{HasSizesOf};
 
-use map_ends::file_table::FileTable;
-use map_ends::staging_files::k_split::KSplit;
+use map_ends::{FileTable, KSplit};
 use std::alloc::{AllocError, Global};
 
 // The size of an inode; 0 of a free one.

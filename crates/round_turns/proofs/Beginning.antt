@@ -1,36 +1,36 @@
 -- A call of a World begins.
 use Rattle.std.specs.Prelude.{◌≡◌, ◌≤◌, ◌+◌, ◌++◌, ℕ, true, false, List, [], ◌∷◌, length, map, Option, Some, None, refl}
 use Rattle.std.proofs.Common.{arith, ap, ◌∙◌, sym, subst, inl, inr, length-append}
-use Rattle.pm_words.specs.declared.Cell.{Cell}
-use Rattle.pm_words.specs.Words.{Words}
+use Rattle.finish_ends.specs.pm_words.declared.Cell.{Cell}
+use Rattle.finish_ends.specs.pm_words.Words.{Words}
 use Rattle.round_views.specs.file_ends.Ends.{DraftEnds, FilesEnd}
-use Rattle.round_jobs.specs.file_table.Files.{Files}
-use Rattle.round_jobs.specs.k_rules.View.{View}
-use Rattle.list_facts.specs.Members.{In, pushed-In}
+use Rattle.round_views.specs.round_jobs.file_table.Files.{Files}
+use Rattle.round_views.specs.round_jobs.k_rules.View.{View}
+use Rattle.finish_ends.specs.list_facts.Members.{In, pushed-In}
 use Rattle.round_views.specs.lost_devices.Left.{IsLeftOf}
-use Rattle.posix_types.specs.declared.call.Call.{Call}
-use Rattle.posix_types.specs.declared.call.Who.{Who}
-use Rattle.posix_words.specs.Open.{Tables}
-use Rattle.round_jobs.specs.posix_spec.Run.{after_call, Begun}
-use Rattle.round_jobs.specs.posix_spec.Scripted.{IsSetUp}
-use Rattle.round_jobs.specs.posix_spec.State.{State}
-use Rattle.round_jobs.specs.posix_spec.Step.{step}
-use Rattle.round_jobs.specs.posix_frames.Frames.{AreThreads}
-use Rattle.round_jobs.specs.crash_spec.Busy.{is_busy}
-use Rattle.round_jobs.specs.script_calls.Histories.{are_threads, Grows, grows, next_stays, set_up_stays}
-use Rattle.round_jobs.specs.staging_files.Keeps.{Staged}
-use Rattle.round_jobs.specs.world_images.Promised.{IsKept}
-use Rattle.flight_rounds.specs.world_lent.Back.{IsPutBack}
-use Rattle.round_jobs.specs.world_rules.Jobs.{begun_of, Job}
-use Rattle.round_jobs.specs.world_standing.Standing.{AreJobsOf, Pending, StandsAt}
-use Rattle.round_jobs.specs.world_standing.Jobs.{SpellCall}
-use Rattle.round_jobs.specs.world_steps.Steps.{LetsJobsBe}
+use Rattle.finish_ends.specs.posix_types.declared.call.Call.{Call}
+use Rattle.finish_ends.specs.posix_types.declared.call.Who.{Who}
+use Rattle.finish_ends.specs.posix_words.Open.{Tables}
+use Rattle.round_views.specs.round_jobs.posix_spec.Run.{after_call, Begun}
+use Rattle.round_views.specs.round_jobs.posix_spec.Scripted.{IsSetUp}
+use Rattle.round_views.specs.round_jobs.posix_spec.State.{State}
+use Rattle.round_views.specs.round_jobs.posix_spec.Step.{step}
+use Rattle.round_views.specs.round_jobs.posix_frames.Frames.{AreThreads}
+use Rattle.round_views.specs.round_jobs.crash_spec.Busy.{is_busy}
+use Rattle.round_views.specs.round_jobs.script_calls.Histories.{are_threads, Grows, grows, next_stays, set_up_stays}
+use Rattle.round_views.specs.round_jobs.staging_files.Keeps.{Staged}
+use Rattle.round_views.specs.round_jobs.world_images.Promised.{IsKept}
+use Rattle.round_views.specs.flight_rounds.world_lent.Back.{IsPutBack}
+use Rattle.round_views.specs.round_jobs.world_rules.Jobs.{begun_of, Job}
+use Rattle.round_views.specs.round_jobs.world_standing.Standing.{AreJobsOf, Pending, StandsAt}
+use Rattle.round_views.specs.round_jobs.world_standing.Jobs.{SpellCall}
+use Rattle.round_views.specs.round_jobs.world_steps.Steps.{LetsJobsBe}
 use Rattle.round_views.specs.write_ends.Ends.{begun_by}
 use Rattle.round_views.specs.losing_facts.Blocks.{AreBlocksOut}
 use Rattle.round_views.proofs.losing_facts_proofs.Going.{loses_call, lost_alike}
 use Rattle.round_views.proofs.losing_facts_proofs.Homes.{has_blocks_out, leaves_blocks}
-use Rattle.round_jobs.proofs.round_facts_proofs.Jobs.{lets_be, words_stay}
-use Rattle.round_jobs.proofs.Taking.{other_who}
+use Rattle.round_views.proofs.round_jobs_proofs.round_facts_proofs.Jobs.{lets_be, words_stay}
+use Rattle.round_views.proofs.round_jobs_proofs.Taking.{other_who}
 use Rattle.round_turns.proofs.Ending.{no_both}
 use Rattle.round_turns.proofs.Losing.{lost_view, size_now, world_lost}
 use Rattle.round_views.specs.Begins.{item_of, OthersStay}

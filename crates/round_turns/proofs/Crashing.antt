@@ -2,29 +2,29 @@
 use Rattle.std.specs.Prelude.{◌≡◌, ◌⊎◌, ◌≤◌, ◌<◌, ◌+◌, ◌*◌, ◌/◌, ℕ, true, false, List, [], ◌∷◌, length, refl}
 use Rattle.std.proofs.Common.{ap, ◌∙◌, sym, subst, inl, inr}
 use Rattle.std.proofs.Math.Path.{fun_ext}
-use Rattle.pm_words.specs.declared.Cell.{Cell}
-use Rattle.pm_words.specs.Cells.{AllHome, cell, is_lent}
-use Rattle.pm_words.specs.Parts.{Part}
-use Rattle.pm_words.specs.Words.{Words}
-use Rattle.round_jobs.specs.block_bytes.Overwrites.{IsInLines}
-use Rattle.disk_lines.specs.declared.Draft.{Draft}
-use Rattle.disk_places.specs.Places.{Geometry, log_line}
-use Rattle.round_jobs.specs.disk_rules.LogRule.{HoldsEntry, IsAsAtFirst}
-use Rattle.round_jobs.specs.disk_rules.Volume.{Volume}
-use Rattle.round_jobs.specs.file_table.Files.{Files}
-use Rattle.round_jobs.specs.k_rules.View.{View}
-use Rattle.round_jobs.specs.lines_out.Lines.{AreFrom, line_at, LinesComeBack}
-use Rattle.list_facts.specs.Members.{In}
-use Rattle.posix_words.specs.Open.{Tables}
-use Rattle.round_jobs.specs.script_calls.Counts.{history_within}
-use Rattle.round_jobs.specs.staging_files.Keeps.{Staged}
-use Rattle.round_jobs.specs.world_images.Promised.{KeepsPromise}
-use Rattle.round_jobs.specs.world_standing.Standing.{Pending}
-use Rattle.round_jobs.specs.write_jobs.Jobs.{blocks_of, FilledView, HoldWords, JobView}
+use Rattle.finish_ends.specs.pm_words.declared.Cell.{Cell}
+use Rattle.finish_ends.specs.pm_words.Cells.{AllHome, cell, is_lent}
+use Rattle.finish_ends.specs.pm_words.Parts.{Part}
+use Rattle.finish_ends.specs.pm_words.Words.{Words}
+use Rattle.round_views.specs.round_jobs.block_bytes.Overwrites.{IsInLines}
+use Rattle.finish_ends.specs.disk_lines.declared.Draft.{Draft}
+use Rattle.finish_ends.specs.disk_places.Places.{Geometry, log_line}
+use Rattle.round_views.specs.round_jobs.disk_rules.LogRule.{HoldsEntry, IsAsAtFirst}
+use Rattle.round_views.specs.round_jobs.disk_rules.Volume.{Volume}
+use Rattle.round_views.specs.round_jobs.file_table.Files.{Files}
+use Rattle.round_views.specs.round_jobs.k_rules.View.{View}
+use Rattle.round_views.specs.round_jobs.lines_out.Lines.{AreFrom, line_at, LinesComeBack}
+use Rattle.finish_ends.specs.list_facts.Members.{In}
+use Rattle.finish_ends.specs.posix_words.Open.{Tables}
+use Rattle.round_views.specs.round_jobs.script_calls.Counts.{history_within}
+use Rattle.round_views.specs.round_jobs.staging_files.Keeps.{Staged}
+use Rattle.round_views.specs.round_jobs.world_images.Promised.{KeepsPromise}
+use Rattle.round_views.specs.round_jobs.world_standing.Standing.{Pending}
+use Rattle.round_views.specs.round_jobs.write_jobs.Jobs.{blocks_of, FilledView, HoldWords, JobView}
 use Rattle.round_views.specs.losing_facts.Blocks.{AreBlocksOut, ComeHome}
-use Rattle.crash_facts.specs.Laws.{AreHandedIn}
+use Rattle.round_views.specs.crash_facts.Laws.{AreHandedIn}
 use Rattle.round_views.specs.losing_facts.Lines as crashed
-use Rattle.crash_facts.proofs.Crashed.{keeps_crashed}
+use Rattle.round_views.proofs.crash_facts_proofs.Crashed.{keeps_crashed}
 use Rattle.round_turns.specs.Handed.{handed, loans_filled, loans_out}
 use Rattle.round_turns.proofs.Handing.{in_behind, in_either, in_front}
 use Rattle.round_views.specs.Begins.{IsFilledOut, IsJobOut}

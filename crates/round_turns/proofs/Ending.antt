@@ -1,32 +1,34 @@
 -- A job of a World ends while the power is on.
 use Rattle.std.specs.Prelude.{◌≡◌, ◌≢◌, ◌+◌, ◌++◌, not, ℕ, suc, Bool, true, false, cond, List, [], ◌∷◌, length, Option, Some, None, AllPairs, refl}
 use Rattle.std.proofs.Common.{arith, ap, ◌∙◌, sym, subst, inl, inr, length-append}
-use Rattle.disk_lines.specs.declared.Draft.{Draft}
-use Rattle.round_jobs.specs.disk_rules.Volume.{Volume}
+use Rattle.finish_ends.specs.pm_words.Cells.{cell, is_lent}
+use Rattle.finish_ends.specs.disk_lines.declared.Draft.{Draft}
+use Rattle.round_views.specs.round_jobs.disk_rules.Volume.{Volume}
 use Rattle.round_views.specs.file_ends.Ends.{FilesEnd}
-use Rattle.round_jobs.specs.file_table.Files.{Files}
-use Rattle.round_jobs.specs.k_rules.View.{View}
-use Rattle.list_facts.specs.Filters.{filter-In, In-filter}
-use Rattle.list_facts.specs.Members.{In, pushed-In}
-use Rattle.posix_types.specs.declared.call.Who.{Who}
-use Rattle.posix_words.specs.Open.{same_who, Tables}
-use Rattle.round_jobs.specs.posix_spec.Run.{after_call}
-use Rattle.round_jobs.specs.posix_spec.State.{State}
-use Rattle.round_jobs.specs.posix_spec.Step.{step}
-use Rattle.round_jobs.specs.script_calls.Histories.{Grows, grows, next_stays, set_up_stays}
-use Rattle.round_jobs.specs.staging_files.Keeps.{Staged}
-use Rattle.round_jobs.specs.world_standing.Standing.{AreOfTwoThreads, IsSpellable, Pending, StandsAt}
-use Rattle.round_jobs.specs.world_standing.Jobs.{SpellCall, without}
+use Rattle.round_views.specs.round_jobs.file_table.Files.{Files}
+use Rattle.round_views.specs.round_jobs.k_rules.View.{View}
+use Rattle.finish_ends.specs.list_facts.Filters.{filter-In, In-filter}
+use Rattle.finish_ends.specs.list_facts.Members.{In, pushed-In}
+use Rattle.finish_ends.specs.posix_types.declared.call.Who.{Who}
+use Rattle.finish_ends.specs.posix_words.Open.{same_who, Tables}
+use Rattle.round_views.specs.round_jobs.posix_spec.Run.{after_call}
+use Rattle.round_views.specs.round_jobs.posix_spec.State.{State}
+use Rattle.round_views.specs.round_jobs.posix_spec.Step.{step}
+use Rattle.round_views.specs.round_jobs.script_calls.Histories.{Grows, grows, next_stays, set_up_stays}
+use Rattle.round_views.specs.round_jobs.staging_files.Keeps.{Staged}
+use Rattle.round_views.specs.round_jobs.world_standing.Standing.{AreOfTwoThreads, IsSpellable, Pending, StandsAt}
+use Rattle.round_views.specs.round_jobs.world_standing.Jobs.{SpellCall, without}
 use Rattle.round_views.specs.write_ends.Ends.{CanFinish, CanGiveUp, HasJob, HasWrite, LeavesFinished, LeavesGivenUp}
-use Rattle.round_jobs.specs.write_jobs.Jobs.{FilledView}
+use Rattle.round_views.specs.round_jobs.write_jobs.Jobs.{FilledView}
 use Rattle.round_views.proofs.losing_facts_proofs.Homes.{has_blocks_out}
-use Rattle.round_jobs.proofs.round_facts_proofs.Counts.{pairs}
-use Rattle.round_jobs.proofs.round_facts_proofs.Jobs.{same_who-refl, spellable}
-use Rattle.round_jobs.proofs.Taking.{all_left, other_who}
+use Rattle.round_views.proofs.round_jobs_proofs.round_facts_proofs.Counts.{pairs}
+use Rattle.round_views.proofs.round_jobs_proofs.round_facts_proofs.Jobs.{same_who-refl, spellable}
+use Rattle.round_views.proofs.round_jobs_proofs.Taking.{all_left, other_who}
 use Rattle.round_views.specs.declared.over.Over.{Over}
-use Rattle.crash_facts.specs.oplog_tail.declared.views.Full.{Full}
+use Rattle.round_views.specs.crash_facts.oplog_tail.declared.views.Full.{Full}
 use Rattle.round_views.specs.Begins.{IsFilledOut, item_of, OthersStay}
-use Rattle.round_views.specs.Views.{AreCounted, AreNextCalls, disk_of, IsGoing, IsWorldOver, kept_of, state_of, WorldView}
+use Rattle.round_views.specs.Jobs.{HomesStay, over_by}
+use Rattle.round_views.specs.Views.{AreCounted, AreNextCalls, Disk, disk_of, IsGoing, IsWorldOver, kept_of, state_of, WorldView}
 
 -- ---- the jobs that are left
 
@@ -93,6 +95,12 @@ module _ (k : View) (t : Tables) (staging : Staged) (files : Files) (w : WorldVi
 
   pub can_give_up : CanGiveUp k job staging
   can_give_up = (has, refl)
+
+  -- the blocks of all jobs are out, and so no block of another job was at home
+  pub homes_on : (new : WorldView) → HomesStay p w new
+  homes_on new q there apart home i block =
+      let lent = has_blocks_out w.geometry k t (kept_of w staging files) (length w.history) (state_of w) q standing there i block in
+      no_both (is_lent (cell k.cells i)) lent (ap (λ (d : Disk). is_lent (cell d.cells i)) (sym world.disk_is) ∙ home i block) _
 
   callers : AllPairs AreOfTwoThreads w.pending
   callers = standing.callers
@@ -191,7 +199,7 @@ module _ (k : View) (t : Tables) (staging : Staged) (files : Files) (w : WorldVi
   -- ---- it is given up
 
   abbrev pub give_view : Full → View → Staged → WorldView
-  give_view full l given = record w { pending = without p.who w.pending; over = Some (Over.Lap full); given_up = w.given_up + 1; disk = disk_of l t given }
+  give_view full l given = record w { pending = without p.who w.pending; over = Some (over_by w.over full); given_up = w.given_up + 1; disk = disk_of l t given }
 
   module _ (full : Full) (l : View) (given : Staged) (same : l ≡ record k { cells = l.cells }) (runs : length given.out + 1 ≡ length staging.out) (leaves : LeavesGivenUp k job has l given) where
     going3 : IsGoing l t given files (give_view full l given)
@@ -220,7 +228,7 @@ module _ (k : View) (t : Tables) (staging : Staged) (files : Files) (w : WorldVi
       acts_going = λ still none. absurd (no_over none);
       low = world.counted.low;
     } where
-      no_over : Some (Over.Lap full) ≡ None → ⊥
+      no_over : Some (over_by w.over full) ≡ None → ⊥
       no_over none = no_both true refl (ap is_over none) ⊥ where
         is_over : Option Over → Bool
         is_over None = false

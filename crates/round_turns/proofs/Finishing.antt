@@ -1,29 +1,29 @@
 -- The job of a caller, the reply of its call, and the ends of files once it finished.
 use Rattle.std.specs.Prelude.{◌≡◌, ℕ, suc, Bool, true, false, List, [], ◌∷◌, length, Some, AllPairs, refl}
 use Rattle.std.proofs.Common.{arith, ap, ◌∙◌, sym, inl, inr}
-use Rattle.disk_places.specs.Places.{Geometry}
-use Rattle.round_jobs.specs.file_table.Files.{Files}
+use Rattle.finish_ends.specs.disk_places.Places.{Geometry}
+use Rattle.round_views.specs.round_jobs.file_table.Files.{Files}
 use Rattle.finish_ends.specs.Laws.{EndFinished}
-use Rattle.round_jobs.specs.k_rules.View.{View}
-use Rattle.list_facts.specs.Members.{In}
-use Rattle.posix_types.specs.declared.call.Call.{Call}
-use Rattle.posix_types.specs.declared.call.Who.{Who}
-use Rattle.posix_types.specs.declared.reply.Reply.{Reply}
-use Rattle.posix_words.specs.Open.{same_who, Tables}
-use Rattle.posix_words.specs.Outcomes.{answer}
-use Rattle.round_jobs.specs.posix_spec.FileRows.{write_start}
-use Rattle.round_jobs.specs.posix_spec.Put.{Put, put_by}
-use Rattle.round_jobs.specs.posix_spec.State.{State}
-use Rattle.round_jobs.specs.posix_spec.Step.{step}
-use Rattle.round_jobs.specs.posix_facts.RowLaws.{put_at-Some}
-use Rattle.flight_rounds.specs.world_lent.posix_orders.Counted.{outcome-put}
-use Rattle.round_jobs.proofs.round_facts_proofs.Counts.{pairs}
-use Rattle.round_jobs.proofs.round_facts_proofs.Jobs.{puts_of, same_who-refl}
-use Rattle.round_jobs.specs.staging_files.Keeps.{Staged}
-use Rattle.round_jobs.specs.world_standing.Standing.{AreOfTwoThreads, Kept, Pending, StandsAt}
+use Rattle.round_views.specs.round_jobs.k_rules.View.{View}
+use Rattle.finish_ends.specs.list_facts.Members.{In}
+use Rattle.finish_ends.specs.posix_types.declared.call.Call.{Call}
+use Rattle.finish_ends.specs.posix_types.declared.call.Who.{Who}
+use Rattle.finish_ends.specs.posix_types.declared.reply.Reply.{Reply}
+use Rattle.finish_ends.specs.posix_words.Open.{same_who, Tables}
+use Rattle.finish_ends.specs.posix_words.Outcomes.{answer}
+use Rattle.round_views.specs.round_jobs.posix_spec.FileRows.{write_start}
+use Rattle.round_views.specs.round_jobs.posix_spec.Put.{Put, put_by}
+use Rattle.round_views.specs.round_jobs.posix_spec.State.{State}
+use Rattle.round_views.specs.round_jobs.posix_spec.Step.{step}
+use Rattle.round_views.specs.round_jobs.posix_facts.RowLaws.{put_at-Some}
+use Rattle.round_views.specs.flight_rounds.world_lent.posix_orders.Counted.{outcome-put}
+use Rattle.round_views.proofs.round_jobs_proofs.round_facts_proofs.Counts.{pairs}
+use Rattle.round_views.proofs.round_jobs_proofs.round_facts_proofs.Jobs.{puts_of, same_who-refl}
+use Rattle.round_views.specs.round_jobs.staging_files.Keeps.{Staged}
+use Rattle.round_views.specs.round_jobs.world_standing.Standing.{AreOfTwoThreads, Kept, Pending, StandsAt}
 use Rattle.round_views.specs.file_ends.Ends.{FilesEnd}
 use Rattle.round_views.specs.write_ends.Ends.{LeavesFinished}
-use Rattle.round_jobs.specs.write_jobs.Jobs.{FilledView}
+use Rattle.round_views.specs.round_jobs.write_jobs.Jobs.{FilledView}
 use Rattle.round_turns.specs.Puts.{put_bytes_of}
 use Rattle.round_turns.proofs.Ending.{has, no_both}
 use Rattle.round_views.specs.Begins.{IsFilledOut}

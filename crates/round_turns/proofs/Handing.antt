@@ -1,11 +1,11 @@
 -- Loans come home one after the other, those of one job after those of another.
 use Rattle.std.specs.Prelude.{◌≡◌, ◌≢◌, ◌⊎◌, ◌<◌, ◌/◌, ◌%◌, ◌++◌, ℕ, suc, false, List, [], ◌∷◌, length, refl}
 use Rattle.std.proofs.Common.{append_assoc, arith, ap, ◌∙◌, sym, subst, inl, inr}
-use Rattle.pm_words.specs.declared.Cell.{Cell}
-use Rattle.pm_words.specs.Cells.{cell, is_lent, unmarked}
-use Rattle.pm_words.specs.Parts.{ComesBack, Part}
-use Rattle.list_facts.specs.Members.{In}
-use Rattle.round_jobs.specs.write_jobs.Jobs.{FilledView, JobView, loan_at}
+use Rattle.finish_ends.specs.pm_words.declared.Cell.{Cell}
+use Rattle.finish_ends.specs.pm_words.Cells.{cell, is_lent, unmarked}
+use Rattle.finish_ends.specs.pm_words.Parts.{ComesBack, Part}
+use Rattle.finish_ends.specs.list_facts.Members.{In}
+use Rattle.round_views.specs.round_jobs.write_jobs.Jobs.{FilledView, JobView, loan_at}
 use Rattle.round_views.specs.block_loans.Loans.{AreApart}
 use Rattle.round_views.specs.losing_facts.Blocks.{ComeHome}
 use Rattle.round_turns.specs.Handed.{AreOneEach, HaveOtherPlaces, loans_filled, loans_out}

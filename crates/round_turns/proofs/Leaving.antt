@@ -1,29 +1,29 @@
 -- What the parts of a crash ask for, while blocks and lines are put back one after the other.
 use Rattle.std.specs.Prelude.{◌≡◌, ◌≢◌, ◌≤◌, ◌<◌, ◌+◌, ◌-◌, ◌*◌, ◌/◌, ◌%◌, ◌++◌, ℕ, suc, Bool, true, false, List, [], ◌∷◌, length, map, AllPairs, refl, if◌then◌else◌}
 use Rattle.std.proofs.Common.{arith, ap, ◌∙◌, sym, subst, inl, inr}
-use Rattle.pm_words.specs.declared.Cell.{Cell}
-use Rattle.pm_words.specs.Cells.{cell, is_lent}
-use Rattle.pm_words.specs.Parts.{Part}
-use Rattle.round_jobs.specs.block_bytes.Overwrites.{IsInLines}
-use Rattle.disk_lines.specs.declared.Draft.{Draft}
-use Rattle.disk_lines.specs.declared.Kind.TheVariants.{Staging}
-use Rattle.disk_places.specs.Places.{Geometry, log_line}
-use Rattle.round_jobs.specs.disk_rules.Volume.{inode, Volume}
-use Rattle.round_jobs.specs.file_table.Files.{Files}
-use Rattle.round_jobs.specs.k_rules.View.{View}
+use Rattle.finish_ends.specs.pm_words.declared.Cell.{Cell}
+use Rattle.finish_ends.specs.pm_words.Cells.{cell, is_lent}
+use Rattle.finish_ends.specs.pm_words.Parts.{Part}
+use Rattle.round_views.specs.round_jobs.block_bytes.Overwrites.{IsInLines}
+use Rattle.finish_ends.specs.disk_lines.declared.Draft.{Draft}
+use Rattle.finish_ends.specs.disk_lines.declared.Kind.TheVariants.{Staging}
+use Rattle.finish_ends.specs.disk_places.Places.{Geometry, log_line}
+use Rattle.round_views.specs.round_jobs.disk_rules.Volume.{inode, Volume}
+use Rattle.round_views.specs.round_jobs.file_table.Files.{Files}
+use Rattle.round_views.specs.round_jobs.k_rules.View.{View}
 use Rattle.round_views.proofs.losing_facts_proofs.k_split_proofs.LogLaws.{data_beside}
-use Rattle.round_jobs.specs.k_split.Laps.{IsLogWord}
-use Rattle.round_jobs.specs.lines_out.Lines.{AreFrom, LinesComeBack}
-use Rattle.list_facts.specs.Members.{In}
-use Rattle.posix_types.specs.declared.call.Who.{Who}
-use Rattle.posix_words.specs.Open.{Tables}
-use Rattle.round_jobs.specs.staging_files.Keeps.{Staged}
-use Rattle.round_jobs.specs.world_standing.Standing.{Pending}
-use Rattle.round_jobs.specs.write_jobs.Jobs.{blocks_of, FilledView, HoldWords, JobView}
+use Rattle.round_views.specs.round_jobs.k_split.Laps.{IsLogWord}
+use Rattle.round_views.specs.round_jobs.lines_out.Lines.{AreFrom, LinesComeBack}
+use Rattle.finish_ends.specs.list_facts.Members.{In}
+use Rattle.finish_ends.specs.posix_types.declared.call.Who.{Who}
+use Rattle.finish_ends.specs.posix_words.Open.{Tables}
+use Rattle.round_views.specs.round_jobs.staging_files.Keeps.{Staged}
+use Rattle.round_views.specs.round_jobs.world_standing.Standing.{Pending}
+use Rattle.round_views.specs.round_jobs.write_jobs.Jobs.{blocks_of, FilledView, HoldWords, JobView}
 use Rattle.round_views.specs.losing_facts.Blocks.{ComeHome}
 use Rattle.round_views.proofs.losing_facts_proofs.Apart.{has_loans_apart}
 use Rattle.round_views.proofs.losing_facts_proofs.Jobs.{in_data_block, its_job, sane, staged_of, stood}
-use Rattle.round_jobs.proofs.round_facts_proofs.Counts.{pairs}
+use Rattle.round_views.proofs.round_jobs_proofs.round_facts_proofs.Counts.{pairs}
 use Rattle.round_turns.specs.Handed.{AreOneEach, handed, HaveOtherPlaces, loans_filled, loans_out}
 use Rattle.round_turns.proofs.Crashing.{crashed_home, crashed_out, none_handed, of_filled, of_out, place_in}
 use Rattle.round_turns.proofs.Handing.{each_apart, each_joined, in_behind, in_either}

@@ -6,5 +6,5 @@ pub mod Handing
 pub mod Crashing
 pub mod Leaving
 pub mod Beginning
-pub use Rattle.round_jobs.proofs as round_jobs_proofs
+pub use Rattle.round_views.proofs.round_jobs_proofs as round_jobs_proofs
 pub use Rattle.round_views.proofs as round_views_proofs

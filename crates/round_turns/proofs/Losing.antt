@@ -3,30 +3,31 @@ use Rattle.std.specs.Prelude.{◌≡◌, ◌≢◌, ◌≤◌, ◌+◌, ◌*◌,
 use Rattle.std.proofs.Common.{arith, ap, ◌∙◌, sym, subst}
 use Rattle.std.proofs.Math.Path.{fun_ext}
 use Rattle.std.proofs.lemmas.List.{append-nil}
-use Rattle.pm_words.specs.declared.Cell.{Cell}
-use Rattle.pm_words.specs.Cells.{cell, is_lent, IsCandidate}
-use Rattle.pm_words.specs.Words.{Words}
-use Rattle.disk_places.specs.Places.{Geometry, log_line}
-use Rattle.round_jobs.specs.disk_rules.Honest.{IsHonest}
-use Rattle.round_jobs.specs.disk_rules.Volume.{Volume}
-use Rattle.round_jobs.specs.file_table.Files.{Files}
-use Rattle.round_jobs.specs.k_rules.View.{View}
-use Rattle.round_jobs.specs.lines_out.Lines.{LinesComeBack}
-use Rattle.list_facts.specs.Members.{In}
-use Rattle.posix_words.specs.Open.{Tables}
-use Rattle.round_jobs.specs.posix_spec.Run.{Begun}
-use Rattle.round_jobs.specs.staging_files.Keeps.{Staged}
-use Rattle.round_jobs.specs.world_images.Promised.{IsKept}
-use Rattle.round_jobs.specs.world_standing.Standing.{Pending, StandsAt}
+use Rattle.finish_ends.specs.pm_words.declared.Cell.{Cell}
+use Rattle.finish_ends.specs.pm_words.Cells.{cell, is_lent, IsCandidate}
+use Rattle.finish_ends.specs.pm_words.Words.{Words}
+use Rattle.finish_ends.specs.disk_places.Places.{Geometry, log_line}
+use Rattle.round_views.specs.round_jobs.disk_rules.Honest.{IsHonest}
+use Rattle.round_views.specs.round_jobs.disk_rules.Volume.{Volume}
+use Rattle.round_views.specs.round_jobs.file_table.Files.{Files}
+use Rattle.round_views.specs.round_jobs.k_rules.View.{View}
+use Rattle.round_views.specs.round_jobs.lines_out.Lines.{LinesComeBack}
+use Rattle.finish_ends.specs.list_facts.Members.{In}
+use Rattle.finish_ends.specs.posix_words.Open.{Tables}
+use Rattle.round_views.specs.round_jobs.posix_spec.Run.{Begun}
+use Rattle.round_views.specs.round_jobs.staging_files.Keeps.{Staged}
+use Rattle.round_views.specs.round_jobs.world_images.Promised.{IsKept}
+use Rattle.round_views.specs.round_jobs.world_standing.Standing.{Pending, StandsAt}
 use Rattle.round_views.specs.write_ends.Ends.{begun_by}
-use Rattle.round_jobs.specs.write_jobs.Jobs.{FilledView, HoldWords}
+use Rattle.round_views.specs.round_jobs.write_jobs.Jobs.{FilledView, HoldWords}
 use Rattle.round_views.specs.block_loans.Loans.{ComeBack}
 use Rattle.round_views.specs.losing_facts.Blocks.{AreBlocksHome, AreBlocksOut}
 use Rattle.round_views.specs.losing_facts.Laws.{ComesHome}
 use Rattle.round_views.specs.losing_facts.Lost.{IsLostWith}
-use Rattle.crash_facts.proofs.Crashed.{keeps_home}
+use Rattle.round_views.proofs.crash_facts_proofs.Crashed.{keeps_home}
 use Rattle.round_views.proofs.losing_facts_proofs.Ended.{comes_home_alone, finishes_lost, gives_up_lost}
 use Rattle.round_views.proofs.losing_facts_proofs.Going.{found_at_call, found_lost}
+use Rattle.round_turns.specs.Laws.{BothAreHome}
 use Rattle.round_views.specs.Begins.{IsFilledOut, OthersStay}
 use Rattle.round_views.specs.Views.{AreCounted, calls_out, Disk, disk_of, IsGoing, IsLost, IsLostHome, IsLostOut, IsWorldOver, kept_of, most_acts, state_of, WorldView}
 
@@ -176,6 +177,10 @@ module _ (k l : View) (t : Tables) (staging : Staged) (files : Files) (w : World
   pub blocks_stay : (q : Pending) → In q w.pending → q.who ≢ p.who → AreBlocksOut q.blocks w.disk.cells → AreBlocksOut q.blocks l.cells
   blocks_stay q there other was i block = ap is_lent (alone.1 q i there other block) ∙ was i block
 
+  -- those of others that are at home stay there
+  pub homes_stay : (q : Pending) → In q w.pending → q.who ≢ p.who → AreBlocksHome q.blocks w.disk.cells → AreBlocksHome q.blocks l.cells
+  homes_stay q there other home i block = ap is_lent (alone.1 q i there other block) ∙ home i block
+
   -- what the World is once the job finished, after these acts
   abbrev pub finished_view : ℕ → ℕ → WorldView
   finished_view slot acts = record w { claims = w.claims ++ (slot, p.draft) ∷ []; acts = acts; disk = disk_of l t staging; lost = true }
@@ -269,3 +274,9 @@ module _ (k l : View) (t : Tables) (staging : Staged) (files : Files) (w : World
     λ q other apart is. record { there = is.there; who = is.who; draft = is.draft; blocks = is.blocks; words = is.words; lent = blocks_stay q is.there apart is.lent },
     λ q other apart is. record { there = is.there; who = is.who; draft = is.draft; blocks = is.blocks; words = is.words; lent = blocks_stay q is.there apart is.lent },
   )
+
+-- ---- two jobs end, one behind the other
+
+pub both_are_home : BothAreHome
+both_are_home slot next p q old middle new power later apart at first second =
+    (second.homes p (subst (In p) (sym (ap (λ (w : WorldView). w.pending) first.new_is)) at) apart first.back, second.back)

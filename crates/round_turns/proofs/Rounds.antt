@@ -1,27 +1,27 @@
 -- A round of the World begins.
 use Rattle.std.specs.Prelude.{◌≡◌, ◌≤◌, ◌<◌, ◌+◌, ◌*◌, ◌^◌, ℕ, true, false, List, length, refl}
 use Rattle.std.proofs.Common.{arith, ap, ◌∙◌, sym, subst}
-use Rattle.pm_words.specs.declared.Cell.{Cell}
-use Rattle.pm_words.specs.declared.Cell.TheVariants.{Lent, Marked, Single, Two}
-use Rattle.pm_words.specs.Cells.{cell, is_single, newest}
-use Rattle.pm_words.specs.Images.{words_of}
-use Rattle.pm_words.specs.Parts.{Part}
-use Rattle.disk_places.specs.Places.{Geometry, log_line}
-use Rattle.round_jobs.specs.disk_rules.Volume.{Volume}
+use Rattle.finish_ends.specs.pm_words.declared.Cell.{Cell}
+use Rattle.finish_ends.specs.pm_words.declared.Cell.TheVariants.{Lent, Marked, Single, Two}
+use Rattle.finish_ends.specs.pm_words.Cells.{cell, is_single, newest}
+use Rattle.finish_ends.specs.pm_words.Images.{words_of}
+use Rattle.finish_ends.specs.pm_words.Parts.{Part}
+use Rattle.finish_ends.specs.disk_places.Places.{Geometry, log_line}
+use Rattle.round_views.specs.round_jobs.disk_rules.Volume.{Volume}
 use Rattle.round_views.specs.file_ends.Ends.{FilesEnd}
-use Rattle.round_jobs.specs.file_table.Files.{Files}
-use Rattle.flight_rounds.specs.Laws.{HasTurned, StandsOut, with_first}
-use Rattle.round_jobs.specs.k_rules.View.{View}
-use Rattle.round_jobs.specs.k_split.Laps.{HasSingleLog, IsLogWord}
-use Rattle.round_jobs.specs.k_split.LogLines.{AreLogLines}
-use Rattle.round_jobs.specs.k_split.Order.{IsInOrder}
-use Rattle.round_jobs.specs.lines_out.Lines.{AreFrom, line_at, LinesGoOut}
-use Rattle.posix_words.specs.Open.{Tables}
-use Rattle.round_jobs.specs.staging_files.Keeps.{Staged}
-use Rattle.round_jobs.specs.world_standing.Standing.{StandsAt}
+use Rattle.round_views.specs.round_jobs.file_table.Files.{Files}
+use Rattle.round_views.specs.flight_rounds.Laws.{HasTurned, StandsOut, with_first}
+use Rattle.round_views.specs.round_jobs.k_rules.View.{View}
+use Rattle.round_views.specs.round_jobs.k_split.Laps.{HasSingleLog, IsLogWord}
+use Rattle.round_views.specs.round_jobs.k_split.LogLines.{AreLogLines}
+use Rattle.round_views.specs.round_jobs.k_split.Order.{IsInOrder}
+use Rattle.round_views.specs.round_jobs.lines_out.Lines.{AreFrom, line_at, LinesGoOut}
+use Rattle.finish_ends.specs.posix_words.Open.{Tables}
+use Rattle.round_views.specs.round_jobs.staging_files.Keeps.{Staged}
+use Rattle.round_views.specs.round_jobs.world_standing.Standing.{StandsAt}
 use Rattle.round_turns.proofs.Ending.{no_both}
 use Rattle.round_views.specs.Rounds.{IsRoundBegun}
-use Rattle.round_views.specs.Views.{disk_of, first_by, IsGoing, IsWorldOver, kept_of, state_of, WorldView}
+use Rattle.round_views.specs.Views.{Disk, disk_of, first_by, IsGoing, IsWorldOver, kept_of, state_of, WorldView}
 
 single_of : (c : Cell) (x : Cell) → c ≡ x → is_single x ≡ true → c ≡ Single (newest x)
 single_of c (Single n) same single = same
@@ -98,6 +98,9 @@ module _ (law : StandsOut) (k l : View) (t : Tables) (staging : Staged) (files :
   pub round_begun : (base : ℕ) → base ≡ w.base → base ≤ 2 ^ 63 → IsRoundBegun w (begun_view w l t staging first) lines base
   round_begun base is most = record {
     new_is = refl;
+    out = subst (λ (g : Geometry). LinesGoOut (log_line g 0) w.disk.cells l.cells lines) same_places
+        (subst (λ (cs : List Cell). LinesGoOut (log_line k.volume.geometry 0) cs l.cells lines) (sym (ap (λ (d : Disk). d.cells) world.disk_is)) goes);
+    cells_alone = ap (λ (x : View). disk_of x t staging) same ∙ ap (λ (d : Disk). record d { cells = l.cells }) (sym world.disk_is);
     lines_are = record {
       are = record {
         out = refl;

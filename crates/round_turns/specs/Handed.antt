@@ -1,8 +1,8 @@
 -- The loans of all jobs that a crash is given, and loans of which no two are of one block.
 use Rattle.std.specs.Prelude.{◌≢◌, List, [], ◌∷◌, ◌++◌}
-use Rattle.pm_words.specs.Parts.{Part}
-use Rattle.list_facts.specs.Members.{In}
-use Rattle.round_jobs.specs.write_jobs.Jobs.{FilledView, JobView}
+use Rattle.finish_ends.specs.pm_words.Parts.{Part}
+use Rattle.finish_ends.specs.list_facts.Members.{In}
+use Rattle.round_views.specs.round_jobs.write_jobs.Jobs.{FilledView, JobView}
 
 abbrev pub loans_out : List JobView → List Part
 loans_out [] = []

@@ -1,6 +1,6 @@
 -- The bytes of a write.
 use Rattle.std.specs.Prelude.{ℕ, List, []}
-use Rattle.posix_types.specs.declared.call.Call.{Call}
+use Rattle.finish_ends.specs.posix_types.declared.call.Call.{Call}
 
 -- the bytes that a write puts; other calls put none
 abbrev pub put_bytes_of : Call → List ℕ

@@ -1,34 +1,35 @@
 -- What `begin` leaves, and what is so before it.
-use Rattle.std.specs.Prelude.{◌≡◌, ◌≢◌, ◌⊎◌, ◌<◌, ◌≤◌, ◌+◌, ◌-◌, ◌/◌, ℕ, true, false, [], ◌∷◌, ◌++◌, length, Option, Some, None, sum_by, if◌then◌else◌}
-use Rattle.block_counts.specs.Counts.{blocks_for}
-use Rattle.pm_words.specs.Powers.{is_on, Supply}
-use Rattle.disk_places.specs.Places.{reserve}
-use Rattle.round_facts.specs.k_journal.Commits.{TakesAStep}
-use Rattle.list_facts.specs.Members.{In}
-use Rattle.posix_types.specs.declared.call.Call.{Call}
-use Rattle.posix_types.specs.declared.call.Who.{Who}
-use Rattle.posix_types.specs.declared.item.Item.{Item}
-use Rattle.disk_lines.specs.declared.Draft.{Draft}
-use Rattle.posix_words.specs.declared.open.Description.{Description}
-use Rattle.posix_words.specs.Open.{opened}
-use Rattle.round_facts.specs.posix_puts.Views.{need_of}
-use Rattle.posix_words.specs.Outcomes.{first}
-use Rattle.posix_words.specs.Room.{growth}
-use Rattle.round_facts.specs.posix_spec.FileRows.{content, truncate_rows}
-use Rattle.round_facts.specs.posix_spec.Put.{Put, put_by}
-use Rattle.round_facts.specs.posix_spec.Run.{after_call}
-use Rattle.round_facts.specs.posix_spec.State.{room}
-use Rattle.round_facts.specs.posix_spec.Step.{step}
-use Rattle.round_facts.specs.crash_spec.Busy.{is_busy, is_logged}
-use Rattle.round_facts.specs.Busy.{IsKeeping}
-use Rattle.round_facts.specs.script_calls.Histories.{item_with}
-use Rattle.round_facts.specs.staging_files.Reserves.{has_empty, HasNoFreeRun}
-use Rattle.round_facts.specs.world_standing.Standing.{Pending}
-use Rattle.round_facts.specs.world_standing.Jobs.{SpellCall}
-use Rattle.round_facts.specs.write_jobs.Jobs.{blocks_of, FilledView, JobView}
-use Rattle.losing_facts.specs.Blocks.{AreBlocksOut}
+use Rattle.std.specs.Prelude.{◌≡◌, ◌≢◌, ◌⊎◌, ◌<◌, ◌≤◌, ◌+◌, ◌-◌, ◌/◌, ℕ, true, false, [], ◌∷◌, ◌++◌, length, Option, Some, None, IsSome, sum_by, if◌then◌else◌}
+use Rattle.round_jobs.specs.block_counts.Counts.{blocks_for}
+use Rattle.round_jobs.specs.pm_words.Powers.{is_on, Supply}
+use Rattle.round_jobs.specs.disk_places.Places.{reserve}
+use Rattle.round_jobs.specs.round_facts.k_journal.Commits.{TakesAStep}
+use Rattle.round_jobs.specs.list_facts.Members.{In}
+use Rattle.round_jobs.specs.posix_types.declared.call.Call.{Call}
+use Rattle.round_jobs.specs.posix_types.declared.call.Who.{Who}
+use Rattle.round_jobs.specs.posix_types.declared.item.Item.{Item}
+use Rattle.round_jobs.specs.posix_types.declared.reply.Reply.{Reply}
+use Rattle.round_jobs.specs.disk_lines.declared.Draft.{Draft}
+use Rattle.round_jobs.specs.posix_words.declared.open.Description.{Description}
+use Rattle.round_jobs.specs.posix_words.Open.{opened}
+use Rattle.round_jobs.specs.round_facts.posix_puts.Views.{need_of}
+use Rattle.round_jobs.specs.posix_words.Outcomes.{first}
+use Rattle.round_jobs.specs.posix_words.Room.{growth}
+use Rattle.round_jobs.specs.round_facts.posix_spec.FileRows.{content, truncate_rows}
+use Rattle.round_jobs.specs.round_facts.posix_spec.Put.{Put, put_by}
+use Rattle.round_jobs.specs.round_facts.posix_spec.Run.{after_call}
+use Rattle.round_jobs.specs.round_facts.posix_spec.State.{room}
+use Rattle.round_jobs.specs.round_facts.posix_spec.Step.{step}
+use Rattle.round_jobs.specs.round_facts.crash_spec.Busy.{is_busy, is_logged}
+use Rattle.round_jobs.specs.round_facts.Busy.{IsKeeping}
+use Rattle.round_jobs.specs.round_facts.script_calls.Histories.{item_with}
+use Rattle.round_jobs.specs.round_facts.staging_files.Reserves.{has_empty, HasNoFreeRun}
+use Rattle.round_jobs.specs.round_facts.world_standing.Standing.{Pending}
+use Rattle.round_jobs.specs.round_facts.world_standing.Jobs.{SpellCall}
+use Rattle.round_jobs.specs.round_facts.write_jobs.Jobs.{blocks_of, FilledView, JobView}
+use Rattle.crash_facts.specs.losing_facts.Blocks.{AreBlocksOut}
 use Rattle.round_views.specs.declared.over.Over.{Over}
-use Rattle.round_views.specs.Views.{files_out, inode_on, next_of, state_of, WorldView}
+use Rattle.round_views.specs.Views.{Disk, files_out, inode_on, next_of, state_of, WorldView}
 
 -- ---- jobs that are out
 
@@ -57,67 +58,7 @@ OthersStay old new who =
     ((p : Pending) (job : JobView) → p.who ≢ who → IsJobOut old p job → IsJobOut new p job)
     × ((p : Pending) (job : FilledView) → p.who ≢ who → IsFilledOut old p job → IsFilledOut new p job)
 
--- ---- the next call
-
--- It begins: the round is not over, the power was not lost, and no job that is out keeps it waiting.
-pub record Begins (w : WorldView) (who : Who) (call : Call) : Type 0 where
-  pub next : next_of w who ≡ Some call
-  pub going : w.over ≡ None
-  pub awake : w.lost ≡ false
-  pub idle : is_busy (state_of w) (files_out w) (who, call) ≡ false
-
--- the item that a call gives at the end of the history
-abbrev pub item_of : WorldView → Who → Call → Item
-item_of w who call = item_with w.history who call (step (state_of w) who call).outcome
-
--- an `fsync` published its file: no entry of this lap is left that the file has not applied
-abbrev pub Publishes : Who → Call → WorldView → WorldView → Type 0
-Publishes who (Call.Fsync h) old new =
-    (file : Description) (slot : ℕ) (d : Draft) → opened old.disk.tables who h ≡ Some file → In (slot, d) old.claims
-    → d.ino ≡ file.node → d.generation ≡ (inode_on new.disk file.node).generation → d.order ≤ (inode_on new.disk file.node).applied
-Publishes who call old new = Unit {0}
-
--- IT RETURNED: it is not logged, and its item stands at the end of the history. It made, removed or moved no name, or took a step.
-pub record Returns (who : Who) (old new : WorldView) (before after : Supply) : Type 0 where
-  pub call : Call
-  pub begins : Begins old who call
-  pub unlogged : is_logged (state_of old) (who, call) ≡ false
-  pub new_is : new ≡ record old { history = old.history ++ item_of old who call ∷ []; acts = old.acts + 1; disk = new.disk }
-  pub published : Publishes who call old new
-  pub stay : OthersStay old new who
-  pub on : is_on after ≡ true
-  pub spent : ((after_call (state_of old) (who, call)).entries ≡ (state_of old).entries) ⊎ TakesAStep before after
-
--- IT IS LOGGED, and a job is out, the last one; nothing has returned.
-pub record BeginsJob (who : Who) (old new : WorldView) (after : Supply) (job : JobView) : Type 0 where
-  pub call : Call
-  pub begins : Begins old who call
-  pub logged : is_logged (state_of old) (who, call) ≡ true
-  pub pending : Pending
-  pub who_is : pending.who ≡ who
-  pub call_is : pending.call ≡ call
-  pub new_is : new ≡ record old { pending = old.pending ++ pending ∷ []; acts = old.acts + 1; disk = new.disk }
-  pub out : IsJobOut new pending job
-  pub fresh : job.lost ≡ false
-  pub stay : OthersStay old new who
-  pub on : is_on after ≡ true
-
--- a job of this caller, which is out of the file with this inode, keeps the call waiting
-abbrev pub IsKeptBy : WorldView → Who → Call → ℕ → Who → Type 0
-IsKeptBy w who call ino holder = IsKeeping (state_of w) w.pending who call ino holder
-
--- IT WAITS for a job of another caller; nothing was done.
-pub record Waits (who : Who) (old new : WorldView) (before after : Supply) (ino : ℕ) (holder : Who) : Type 0 where
-  pub call : Call
-  pub next : next_of old who ≡ Some call
-  pub going : old.over ≡ None
-  pub awake : old.lost ≡ false
-  pub kept : IsKeptBy old who call ino holder
-  pub same : new ≡ old
-  pub spared : after ≡ before
-  pub on : is_on after ≡ true
-
--- ---- the round is over
+-- ---- what a call needs, and what there is
 
 -- how many blocks the plan of the call stages: whole ones, from that of its first byte to that of its last one
 abbrev pub staged_by : Put → ℕ
@@ -149,21 +90,106 @@ abbrev pub HasNoRun : WorldView → Option Put → Type 0
 HasNoRun w None = ⊥
 HasNoRun w (Some put) = (w.disk.free < wanted_by w) ⊎ HasNoFreeRun w.disk.staging (staged_by put)
 
--- Or its staging has no room for them: it has no run, and too few blocks are free to give an empty staging file its own; where none is
--- empty, there are none for that.
+-- Or the jobs leave enough, but its staging has no room for them: it has no run, and too few blocks are free to give an empty staging file
+-- its own; where none is empty, there are none for that.
 pub record LacksStaging (w : WorldView) (who : Who) (call : Call) (need left : ℕ) : Type 0 where
+  pub beside : (n m : ℕ) → ¬ LacksBeside w who call n m
   pub need_is : IsStagingNeed w (put_by (state_of w) who call) need
   pub no_run : HasNoRun w (put_by (state_of w) who call)
   pub left_is : left ≡ (if has_empty w.disk.staging then w.disk.free else 0)
   pub lacks : left < need
 
--- THE ROUND ENDS for want of space, while jobs are out or after calls that returned since it began. These two numbers say why.
+-- ---- the next call
+
+-- It begins: the round is not over, the power was not lost, and no job that is out keeps it waiting.
+pub record Begins (w : WorldView) (who : Who) (call : Call) : Type 0 where
+  pub next : next_of w who ≡ Some call
+  pub going : w.over ≡ None
+  pub awake : w.lost ≡ false
+  pub idle : is_busy (state_of w) (files_out w) (who, call) ≡ false
+
+-- the item that a call gives at the end of the history
+abbrev pub item_of : WorldView → Who → Call → Item
+item_of w who call = item_with w.history who call (step (state_of w) who call).outcome
+
+-- an `fsync` published its file, if it is open: no entry of this lap is left that the file has not applied
+abbrev pub Publishes : Who → Call → WorldView → WorldView → Type 0
+Publishes who (Call.Fsync h) old new =
+    (file : Description) (slot : ℕ) (d : Draft) → opened old.disk.tables who h ≡ Some file → In (slot, d) old.claims
+    → d.ino ≡ file.node → d.generation ≡ (inode_on new.disk file.node).generation → d.order ≤ (inode_on new.disk file.node).applied
+Publishes who call old new = Unit {0}
+
+-- one that answers ok is of an open file
+abbrev pub IsOfOpenFile : Who → Call → WorldView → Type 0
+IsOfOpenFile who (Call.Fsync h) w = (step (state_of w) who (Call.Fsync h)).outcome.reply ≡ Reply.Ok → IsSome (opened w.disk.tables who h)
+IsOfOpenFile who call w = Unit {0}
+
+-- IT RETURNED: it is not logged, the jobs that are out left what it needs, and its item stands at the end of the history. It made, removed or
+-- moved no name, or took a step.
+pub record Returns (who : Who) (old new : WorldView) (before after : Supply) : Type 0 where
+  pub call : Call
+  pub begins : Begins old who call
+  pub unlogged : is_logged (state_of old) (who, call) ≡ false
+  pub new_is : new ≡ record old { history = old.history ++ item_of old who call ∷ []; acts = old.acts + 1; disk = new.disk }
+  pub enough : (need left : ℕ) → ¬ LacksBeside old who call need left
+  pub published : Publishes who call old new
+  pub of_file : IsOfOpenFile who call old
+  pub stay : OthersStay old new who
+  pub on : is_on after ≡ true
+  pub spent : ((after_call (state_of old) (who, call)).entries ≡ (state_of old).entries) ⊎ TakesAStep before after
+
+-- IT IS LOGGED, and there was room for it; a job is out, the last one; nothing has returned.
+pub record BeginsJob (who : Who) (old new : WorldView) (after : Supply) (job : JobView) : Type 0 where
+  pub call : Call
+  pub begins : Begins old who call
+  pub logged : is_logged (state_of old) (who, call) ≡ true
+  pub enough : (need left : ℕ) → ¬ LacksBeside old who call need left
+  pub run : (need left : ℕ) → ¬ LacksStaging old who call need left
+  pub pending : Pending
+  pub who_is : pending.who ≡ who
+  pub call_is : pending.call ≡ call
+  pub new_is : new ≡ record old { pending = old.pending ++ pending ∷ []; acts = old.acts + 1; disk = new.disk }
+  pub tables : new.disk.tables ≡ old.disk.tables
+  pub out : IsJobOut new pending job
+  pub fresh : job.lost ≡ false
+  pub stay : OthersStay old new who
+  pub on : is_on after ≡ true
+
+-- a job of this caller, which is out of the file with this inode, keeps the call waiting
+abbrev pub IsKeptBy : WorldView → Who → Call → ℕ → Who → Type 0
+IsKeptBy w who call ino holder = IsKeeping (state_of w) w.pending who call ino holder
+
+-- IT WAITS for a job of another caller; nothing was done.
+pub record Waits (who : Who) (old new : WorldView) (before after : Supply) (ino : ℕ) (holder : Who) : Type 0 where
+  pub call : Call
+  pub next : next_of old who ≡ Some call
+  pub going : old.over ≡ None
+  pub awake : old.lost ≡ false
+  pub kept : IsKeptBy old who call ino holder
+  pub same : new ≡ old
+  pub spared : after ≡ before
+  pub on : is_on after ≡ true
+
+-- ---- the round is over
+
+-- what a write changes that ends the round, in strict mode: cells alone, and nothing where only the jobs that are out are the cause
+abbrev pub LeavesByWrite : Type 0 → Call → Disk → Disk → Type 0
+LeavesByWrite Beside (Call.Write h x) old new = (new ≡ record old { cells = new.cells }) × (Beside → new ≡ old)
+LeavesByWrite Beside (Call.Pwrite h place x) old new = (new ≡ record old { cells = new.cells }) × (Beside → new ≡ old)
+LeavesByWrite Beside call old new = Unit {0}
+
+-- THE ROUND ENDS for want of space, while jobs are out or after calls that returned since it began. These two numbers say why. The open files
+-- and the staging are as before; a write may have changed cells, and a `truncate` may have published its file first: of its inode
+-- lines and of free blocks nothing is said.
 pub record EndsRound (who : Who) (old new : WorldView) (after : Supply) (need left : ℕ) : Type 0 where
   pub call : Call
   pub begins : Begins old who call
   pub cause : LacksBeside old who call need left ⊎ LacksStaging old who call need left
   pub late : (old.pending ≢ []) ⊎ (old.settled < length old.history)
   pub new_is : new ≡ record old { over = Some (Over.Space need left); acts = old.acts + 1; disk = new.disk }
+  pub tables : new.disk.tables ≡ old.disk.tables
+  pub staging : new.disk.staging ≡ old.disk.staging
+  pub write : LeavesByWrite (LacksBeside old who call need left) call old.disk new.disk
   pub stay : OthersStay old new who
   pub on : is_on after ≡ true
 
@@ -187,19 +213,22 @@ pub record LosesCall (who : Who) (old new : WorldView) (after : Supply) : Type 0
   pub stay : OthersStay old new who
   pub off : is_on after ≡ false
 
+-- its call may have begun: the power was off before, or nothing kept a call from it
+abbrev pub MayHaveBegun : WorldView → Who → Supply → Type 0
+MayHaveBegun w who before = (is_on before ≡ false) ⊎ ((call : Call) × Begins w who call)
+
 -- or it had gone, or was lost; or it went before a script that has ended was looked at
 abbrev pub IsPowerLost : Who → WorldView → WorldView → Supply → Supply → Type 0
 IsPowerLost who old new before after =
     ((old.lost ≡ true) × (new ≡ old) × (after ≡ before))
-    ⊎ LosesCall who old new after
-    ⊎ ((old.lost ≡ false) × (next_of old who ≡ None) × (new ≡ record old { lost = true }) × (after ≡ before) × (is_on after ≡ false))
+    ⊎ (LosesCall who old new after × MayHaveBegun old who before)
+    ⊎ ((old.lost ≡ false) × (next_of old who ≡ None) × (new ≡ record old { acts = old.acts + 1; lost = true }) × (after ≡ before) × (is_on after ≡ false))
 
--- MEMORY WANTS: no call sees a change; or what is staged of a file was published in part, and the World is only to be dropped.
-pub record WantsMemory (who : Who) (old new : WorldView) (after : Supply) : Type 0 where
+-- MEMORY WANTS, on the way: no call sees a change, and the World is only to be dropped.
+pub record WantsMemory (old new : WorldView) (after : Supply) : Type 0 where
   pub awake : old.lost ≡ false
   pub on : is_on after ≡ true
-  pub new_is : new ≡ record old { disk = new.disk; usable = new.usable }
-  pub stay : new.usable ≡ true → OthersStay old new who
+  pub new_is : new ≡ record old { disk = new.disk; usable = false }
 
 -- ---- before a call begins
 

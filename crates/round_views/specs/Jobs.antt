@@ -1,11 +1,12 @@
 -- What the ends of a job leave.
-use Rattle.std.specs.Prelude.{◌≡◌, ◌⊎◌, ◌+◌, ℕ, true, false, [], ◌∷◌, ◌++◌, Some}
-use Rattle.pm_words.specs.Powers.{is_on, Supply}
-use Rattle.losing_facts.specs.oplog_tail.declared.views.Full.{Full}
-use Rattle.round_facts.specs.world_standing.Standing.{Pending}
-use Rattle.round_facts.specs.world_standing.Jobs.{without}
-use Rattle.round_facts.specs.write_jobs.Jobs.{FilledView}
-use Rattle.losing_facts.specs.Blocks.{AreBlocksHome}
+use Rattle.std.specs.Prelude.{◌≡◌, ◌≢◌, ◌⊎◌, ◌+◌, ℕ, true, false, [], ◌∷◌, ◌++◌, Option, Some, None}
+use Rattle.round_jobs.specs.pm_words.Powers.{is_on, Supply}
+use Rattle.crash_facts.specs.losing_facts.oplog_tail.declared.views.Full.{Full}
+use Rattle.round_jobs.specs.list_facts.Members.{In}
+use Rattle.round_jobs.specs.round_facts.world_standing.Standing.{Pending}
+use Rattle.round_jobs.specs.round_facts.world_standing.Jobs.{without}
+use Rattle.round_jobs.specs.round_facts.write_jobs.Jobs.{FilledView}
+use Rattle.crash_facts.specs.losing_facts.Blocks.{AreBlocksHome}
 use Rattle.round_views.specs.declared.over.Over.{Over}
 use Rattle.round_views.specs.Begins.{IsFilledOut, item_of, OthersStay}
 use Rattle.round_views.specs.Views.{WorldView}
@@ -25,7 +26,13 @@ pub record Finishes (slot : ℕ) (p : Pending) (old new : WorldView) (power : Su
     acts = old.acts + 1;
     disk = new.disk;
   }
+  pub disk : new.disk ≡ record old.disk { cells = new.disk.cells; tables = new.disk.tables }
   pub stay : OthersStay old new p.who
+
+-- the blocks of other jobs that are at home stay there
+abbrev pub HomesStay : Pending → WorldView → WorldView → Type 0
+HomesStay p old new =
+    (q : Pending) → In q old.pending → q.who ≢ p.who → AreBlocksHome q.blocks old.disk.cells → AreBlocksHome q.blocks new.disk.cells
 
 -- ITS POWER WENT: its blocks are at home, its claim counts, and it stays out as an unfinished call.
 pub record LosesFinish (slot : ℕ) (p : Pending) (old new : WorldView) (power : Supply) : Type 0 where
@@ -34,12 +41,20 @@ pub record LosesFinish (slot : ℕ) (p : Pending) (old new : WorldView) (power :
   pub first_one : old.lost ≡ false → new.acts ≡ old.acts + 1
   pub later_one : old.lost ≡ true → new.acts ≡ old.acts
   pub back : AreBlocksHome p.blocks new.disk.cells
+  pub homes : HomesStay p old new
   pub stay : OthersStay old new p.who
 
--- IT IS GIVEN UP: the call is back at its start, and the round is over with what its claim found. Once the power went it stays out,
+-- what ended the round stays; where it was not over, the claim that found no line ends it
+abbrev pub over_by : Option Over → Full → Over
+over_by None full = Over.Lap full
+over_by (Some over) full = over
+
+-- IT IS GIVEN UP: the call is back at its start, and the round is over, with what ended it first. Once the power went it stays out,
 -- with its blocks at home.
 pub record GivesUp (full : Full) (p : Pending) (old new : WorldView) : Type 0 where
-  pub going : old.lost ≡ false → new ≡ record old { pending = without p.who old.pending; over = Some (Over.Lap full); given_up = old.given_up + 1; disk = new.disk }
+  pub going : old.lost ≡ false → new ≡ record old { pending = without p.who old.pending; over = Some (over_by old.over full); given_up = old.given_up + 1; disk = new.disk }
   pub gone : old.lost ≡ true → new ≡ record old { disk = new.disk }
+  pub disk : old.lost ≡ false → new.disk ≡ record old.disk { cells = new.disk.cells; staging = new.disk.staging }
   pub back : AreBlocksHome p.blocks new.disk.cells
+  pub homes : HomesStay p old new
   pub stay : OthersStay old new p.who

@@ -1,15 +1,15 @@
 -- The lines of the log of a World, as a round hands them out and takes them back.
 use Rattle.std.specs.Prelude.{◌≡◌, ◌<◌, ◌+◌, ◌*◌, ℕ, true, List, length}
-use Rattle.pm_words.specs.Parts.{Part}
-use Rattle.pm_words.specs.Words.{Words}
-use Rattle.disk_lines.specs.declared.Draft.{Draft}
-use Rattle.disk_places.specs.Places.{log_line}
-use Rattle.round_facts.specs.disk_rules.LogRule.{HoldsClaims, HoldsEntry, IsAsAtFirst}
-use Rattle.round_facts.specs.lines_out.Lines.{AreFrom, line_at}
-use Rattle.list_facts.specs.Members.{In}
-use Rattle.losing_facts.specs.oplog_tail.Closing.{cells_of}
-use Rattle.round_facts.specs.write_jobs.Jobs.{FilledView}
-use Rattle.losing_facts.specs.Lines.{IsJobLine}
+use Rattle.round_jobs.specs.pm_words.Parts.{Part}
+use Rattle.round_jobs.specs.pm_words.Words.{Words}
+use Rattle.round_jobs.specs.disk_lines.declared.Draft.{Draft}
+use Rattle.round_jobs.specs.disk_places.Places.{log_line}
+use Rattle.round_jobs.specs.round_facts.disk_rules.LogRule.{HoldsClaims, HoldsEntry, IsAsAtFirst}
+use Rattle.round_jobs.specs.round_facts.lines_out.Lines.{AreFrom, line_at}
+use Rattle.round_jobs.specs.list_facts.Members.{In}
+use Rattle.crash_facts.specs.losing_facts.oplog_tail.Closing.{cells_of}
+use Rattle.round_jobs.specs.round_facts.write_jobs.Jobs.{FilledView}
+use Rattle.crash_facts.specs.losing_facts.Lines.{IsJobLine}
 use Rattle.round_views.specs.Views.{first_by, WorldView}
 
 -- the words that line n of the log had when the lap began

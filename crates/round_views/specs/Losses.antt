@@ -1,12 +1,12 @@
 -- What a crash asks for.
 use Rattle.std.specs.Prelude.{◌≡◌, ◌≢◌, ◌⊎◌, ◌++◌, ℕ, true, false, List, [], map, AllPairs}
-use Rattle.pm_words.specs.Parts.{Part}
-use Rattle.disk_lines.specs.declared.Draft.{Draft}
-use Rattle.list_facts.specs.Members.{In}
-use Rattle.posix_types.specs.declared.call.Who.{Who}
-use Rattle.round_facts.specs.world_standing.Standing.{Pending}
-use Rattle.round_facts.specs.write_jobs.Jobs.{FilledView, JobView}
-use Rattle.losing_facts.specs.Blocks.{AreBlocksHome}
+use Rattle.round_jobs.specs.pm_words.Parts.{Part}
+use Rattle.round_jobs.specs.disk_lines.declared.Draft.{Draft}
+use Rattle.round_jobs.specs.list_facts.Members.{In}
+use Rattle.round_jobs.specs.posix_types.declared.call.Who.{Who}
+use Rattle.round_jobs.specs.round_facts.world_standing.Standing.{Pending}
+use Rattle.round_jobs.specs.round_facts.write_jobs.Jobs.{FilledView, JobView}
+use Rattle.crash_facts.specs.losing_facts.Blocks.{AreBlocksHome}
 use Rattle.round_views.specs.Begins.{IsFilledOut, IsJobOut}
 use Rattle.round_views.specs.Lines.{AreCrashLines}
 use Rattle.round_views.specs.Views.{WorldView}

@@ -1,19 +1,25 @@
 -- What the beginning and the end of a round, and of the whole run, leave.
 use Rattle.std.specs.Prelude.{◌≡◌, ◌≢◌, ◌⊎◌, ◌≤◌, ◌+◌, ◌*◌, ◌^◌, ℕ, true, false, List, [], length, None, IsSome}
-use Rattle.pm_words.specs.declared.Cell.{Cell}
-use Rattle.pm_words.specs.Cells.{AllHome}
-use Rattle.pm_words.specs.Parts.{Part}
-use Rattle.pm_words.specs.Powers.{is_on, Supply}
-use Rattle.posix_types.specs.declared.item.Item.{Item}
-use Rattle.round_facts.specs.posix_spec.Run.{Begun, IsLegal}
-use Rattle.round_facts.specs.posix_spec.Scripted.{call_count, IsComplete, Scripted}
-use Rattle.round_facts.specs.world_images.Promised.{KeepsPromise}
+use Rattle.round_jobs.specs.pm_words.declared.Cell.{Cell}
+use Rattle.round_jobs.specs.pm_words.Cells.{AllHome}
+use Rattle.round_jobs.specs.pm_words.Parts.{Part}
+use Rattle.round_jobs.specs.pm_words.Powers.{is_on, Supply}
+use Rattle.round_jobs.specs.posix_types.declared.item.Item.{Item}
+use Rattle.round_jobs.specs.round_facts.posix_spec.Run.{Begun, IsLegal}
+use Rattle.round_jobs.specs.disk_places.Places.{log_line}
+use Rattle.round_jobs.specs.round_facts.lines_out.Lines.{LinesGoOut}
+use Rattle.round_jobs.specs.round_facts.posix_spec.Scripted.{call_count, IsComplete, Scripted}
+use Rattle.round_jobs.specs.round_facts.staging_files.GivesUp.{nothing_staged}
+use Rattle.round_jobs.specs.round_facts.world_images.Promised.{KeepsPromise}
 use Rattle.round_views.specs.Lines.{AreFresh, HoldTheClaims}
 use Rattle.round_views.specs.Views.{calls_out, WorldView}
 
--- A ROUND BEGINS: the log's lines are out, by rising slot, each of their words alone; the base is that of the lap.
+-- A ROUND BEGINS: the log's lines are out, by rising slot, with the words that they had, each alone; the base is that of the lap. Of what
+-- stands below the calls only cells differ: those of the lines, which are out.
 pub record IsRoundBegun (old new : WorldView) (lines : List Part) (base : ℕ) : Type 0 where
   pub new_is : new ≡ record old { disk = new.disk; lines_out = true; first = new.first }
+  pub cells_alone : new.disk ≡ record old.disk { cells = new.disk.cells }
+  pub out : LinesGoOut (log_line old.geometry 0) old.disk.cells new.disk.cells lines
   pub lines_are : AreFresh new lines
   pub base_is : base ≡ old.base
   pub most : base ≤ 2 ^ 63
@@ -28,7 +34,8 @@ pub record MayCheckpoint (w : WorldView) (lines : List Part) : Type 0 where
   pub lines_are : HoldTheClaims w lines
   pub some : (w.given_up ≡ 0 → ⊥) → w.claims ≢ []
 
--- DONE: all that was staged is published, and the next lap began, with the lines at home and nothing claimed.
+-- DONE: all that was staged is published, so nothing is staged, and the open files are as before; and the next lap began, with the lines at
+-- home and nothing claimed.
 pub record IsNextRound (old new : WorldView) (power : Supply) : Type 0 where
   pub awake : old.lost ≡ false
   pub on : is_on power ≡ true
@@ -42,6 +49,8 @@ pub record IsNextRound (old new : WorldView) (power : Supply) : Type 0 where
     disk = new.disk;
     lines_out = false;
   }
+  pub staging : new.disk.staging ≡ nothing_staged
+  pub tables : new.disk.tables ≡ old.disk.tables
 
 -- THE POWER WENT: the lines are at home, and else nothing that returned differs.
 pub record LosesRound (old new : WorldView) (power : Supply) : Type 0 where

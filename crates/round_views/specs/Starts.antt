@@ -1,18 +1,20 @@
 -- How a World begins on a device that is mounted.
 use Rattle.std.specs.Prelude.{◌≡◌, ◌≤◌, ◌+◌, ◌^◌, ℕ, true, false, List, [], length, None}
-use Rattle.pm_words.specs.Cells.{AllSingle}
-use Rattle.pm_words.specs.Images.{words_of}
-use Rattle.pm_words.specs.Words.{Words}
-use Rattle.disk_places.specs.Places.{Geometry}
-use Rattle.round_facts.specs.disk_rules.Content.{content}
-use Rattle.posix_types.specs.declared.call.Mode.{Mode}
-use Rattle.posix_types.specs.declared.reply.Shape.{Shape}
-use Rattle.posix_types.specs.declared.tree.TreeEntry.{TreeEntry}
-use Rattle.posix_types.specs.Scripts.{Scripts}
-use Rattle.round_facts.specs.posix_spec.Scripted.{call_count}
-use Rattle.round_facts.specs.posix_spec.Tree.{start}
-use Rattle.round_facts.specs.world_rules.Shown.{IsTreeOfContent}
-use Rattle.round_facts.specs.world_beginning.Laws.{IsShapeOf}
+use Rattle.round_jobs.specs.pm_words.Cells.{AllSingle}
+use Rattle.round_jobs.specs.pm_words.Images.{words_of}
+use Rattle.round_jobs.specs.pm_words.Words.{Words}
+use Rattle.round_jobs.specs.disk_places.Places.{Geometry}
+use Rattle.round_jobs.specs.round_facts.disk_rules.Content.{content}
+use Rattle.round_jobs.specs.posix_types.declared.call.Mode.{Mode}
+use Rattle.round_jobs.specs.posix_types.declared.reply.Shape.{Shape}
+use Rattle.round_jobs.specs.posix_types.declared.tree.TreeEntry.{TreeEntry}
+use Rattle.round_jobs.specs.posix_types.Scripts.{Scripts}
+use Rattle.round_jobs.specs.posix_words.Open.{nothing_open}
+use Rattle.round_jobs.specs.round_facts.posix_spec.Scripted.{call_count}
+use Rattle.round_jobs.specs.round_facts.posix_spec.Tree.{start}
+use Rattle.round_jobs.specs.round_facts.staging_files.GivesUp.{nothing_staged}
+use Rattle.round_jobs.specs.round_facts.world_rules.Shown.{IsTreeOfContent}
+use Rattle.round_jobs.specs.round_facts.world_beginning.Laws.{IsShapeOf}
 use Rattle.round_views.specs.Views.{AreSpelledCalls, WorldView}
 
 -- The scripts have at most 4,096 calls and 8 threads, and the names of their paths are spelled.
@@ -21,8 +23,8 @@ pub record AreInLimits (scripts : Scripts) : Type 0 where
   pub threads : length scripts.threads ≤ 8
   pub spelled : AreSpelledCalls scripts
 
--- THE WORLD BEGINS ON AN IMAGE that was mounted: its start is the state of the tree of the image; nothing is done, claimed or out; and
--- its device shows what the image did, each word alone.
+-- THE WORLD BEGINS ON AN IMAGE that was mounted: its start is the state of the tree of the image; nothing is done, claimed or out, no
+-- file is open and nothing is staged; and its device shows what the image did, each word alone.
 pub record BeginsMounted (g : Geometry) (image : Words) (mode : Mode) (scripts : Scripts) (w : WorldView) : Type 0 where
   pub tree : List TreeEntry
   pub shape : Shape
@@ -30,6 +32,8 @@ pub record BeginsMounted (g : Geometry) (image : Words) (mode : Mode) (scripts :
   pub shape_is : IsShapeOf g shape
   pub single : AllSingle w.disk.cells
   pub shows : (path : List (List ℕ)) → content g (words_of w.disk.cells) path ≡ content g image path
+  pub tables : w.disk.tables ≡ nothing_open
+  pub staging : w.disk.staging ≡ nothing_staged
   pub base : w.base ≤ 2 ^ 62 + g.log
   pub world_is : w ≡ record {
     geometry = g;

@@ -1,40 +1,40 @@
 -- What contracts see of a World, and what it keeps.
 use Rattle.std.specs.Prelude.{◌≡◌, ◌≢◌, ◌⊎◌, ◌<◌, ◌≤◌, ◌+◌, ◌*◌, ◌-◌, ◌^◌, ℕ, Bool, true, false, List, [], ◌++◌, length, map, Option, Some, None, slice_get, slice_index, slice_index_or, nat_le, nat_lt, ◌&&◌, if◌then◌else◌}
-use Rattle.pm_words.specs.declared.Cell.{Cell}
-use Rattle.pm_words.specs.Cells.{AllHome, cell, is_lent}
-use Rattle.pm_words.specs.Images.{words_of}
-use Rattle.pm_words.specs.Parts.{Part}
-use Rattle.pm_words.specs.Words.{Words}
-use Rattle.round_facts.specs.block_bytes.Overwrites.{IsInLines}
-use Rattle.disk_lines.specs.declared.Draft.{Draft}
-use Rattle.disk_lines.specs.declared.Inode.{Inode}
-use Rattle.disk_places.specs.Places.{Geometry, log_line}
-use Rattle.round_facts.specs.disk_rules.Volume.{free_inode, Volume}
+use Rattle.round_jobs.specs.pm_words.declared.Cell.{Cell}
+use Rattle.round_jobs.specs.pm_words.Cells.{AllHome, cell, is_lent}
+use Rattle.round_jobs.specs.pm_words.Images.{words_of}
+use Rattle.round_jobs.specs.pm_words.Parts.{Part}
+use Rattle.round_jobs.specs.pm_words.Words.{Words}
+use Rattle.round_jobs.specs.round_facts.block_bytes.Overwrites.{IsInLines}
+use Rattle.round_jobs.specs.disk_lines.declared.Draft.{Draft}
+use Rattle.round_jobs.specs.disk_lines.declared.Inode.{Inode}
+use Rattle.round_jobs.specs.disk_places.Places.{Geometry, log_line}
+use Rattle.round_jobs.specs.round_facts.disk_rules.Volume.{free_inode, Volume}
 use Rattle.flight_calls.specs.file_ends.Ends.{DraftEnds, FilesEnd}
-use Rattle.round_facts.specs.file_table.Files.{Files}
-use Rattle.round_facts.specs.k_rules.View.{View}
-use Rattle.round_facts.specs.lines_out.Lines.{AreFrom, LinesComeBack}
-use Rattle.list_facts.specs.Members.{In}
-use Rattle.posix_types.specs.declared.call.Call.{Call}
-use Rattle.posix_types.specs.declared.call.Mode.{Mode}
-use Rattle.posix_types.specs.declared.call.Who.{Who}
-use Rattle.posix_types.specs.declared.item.Item.{Item}
-use Rattle.posix_types.specs.Scripts.{Scripts}
-use Rattle.posix_words.specs.Open.{Tables}
-use Rattle.round_facts.specs.posix_spec.Run.{Begun, IsLegal, run}
-use Rattle.round_facts.specs.posix_spec.Scripted.{call_count, IsSetUp, next_call, script_of, Scripted}
-use Rattle.round_facts.specs.posix_spec.State.{State}
-use Rattle.round_facts.specs.crash_spec.Busy.{Out}
-use Rattle.round_facts.specs.Busy.{files_by}
-use Rattle.round_facts.specs.k_split.MapChanges.{free_blocks_in}
-use Rattle.round_facts.specs.staging_files.Keeps.{Staged}
-use Rattle.round_facts.specs.world_images.Images.{HasOldLines}
-use Rattle.round_facts.specs.world_images.Promised.{KeepsPromise}
-use Rattle.round_facts.specs.world_standing.Standing.{Kept, Pending, StandsAt}
+use Rattle.round_jobs.specs.round_facts.file_table.Files.{Files}
+use Rattle.round_jobs.specs.round_facts.k_rules.View.{View}
+use Rattle.round_jobs.specs.round_facts.lines_out.Lines.{AreFrom, LinesComeBack}
+use Rattle.round_jobs.specs.list_facts.Members.{In}
+use Rattle.round_jobs.specs.posix_types.declared.call.Call.{Call}
+use Rattle.round_jobs.specs.posix_types.declared.call.Mode.{Mode}
+use Rattle.round_jobs.specs.posix_types.declared.call.Who.{Who}
+use Rattle.round_jobs.specs.posix_types.declared.item.Item.{Item}
+use Rattle.round_jobs.specs.posix_types.Scripts.{Scripts}
+use Rattle.round_jobs.specs.posix_words.Open.{Tables}
+use Rattle.round_jobs.specs.round_facts.posix_spec.Run.{Begun, IsLegal, run}
+use Rattle.round_jobs.specs.round_facts.posix_spec.Scripted.{call_count, IsSetUp, next_call, script_of, Scripted}
+use Rattle.round_jobs.specs.round_facts.posix_spec.State.{State}
+use Rattle.round_jobs.specs.round_facts.crash_spec.Busy.{Out}
+use Rattle.round_jobs.specs.round_facts.Busy.{files_by}
+use Rattle.round_jobs.specs.round_facts.k_split.MapChanges.{free_blocks_in}
+use Rattle.round_jobs.specs.round_facts.staging_files.Keeps.{Staged}
+use Rattle.round_jobs.specs.round_facts.world_images.Images.{HasOldLines}
+use Rattle.round_jobs.specs.round_facts.world_images.Promised.{KeepsPromise}
+use Rattle.round_jobs.specs.round_facts.world_standing.Standing.{Kept, Pending, StandsAt}
 use Rattle.flight_calls.specs.Built.{NamesAreSpelled}
-use Rattle.losing_facts.specs.write_ends.Ends.{begun_by}
-use Rattle.losing_facts.specs.Laws.{AreSpelled}
-use Rattle.losing_facts.specs.Lost.{IsLostWith}
+use Rattle.crash_facts.specs.losing_facts.write_ends.Ends.{begun_by}
+use Rattle.crash_facts.specs.losing_facts.Laws.{AreSpelled}
+use Rattle.crash_facts.specs.losing_facts.Lost.{IsLostWith}
 use Rattle.round_views.specs.declared.over.Over.{Over}
 
 -- What stands below the calls: the cells of the device; the tables of the open files, whose nodes are inodes; the inode lines; how many

@@ -12,9 +12,16 @@
 
 mod over;
 
-pub use flight_calls;
-pub use flight_calls::flight_names;
-pub use flight_laps::log_checkpoint;
-pub use losing_facts::{block_loans, oplog_tail, write_ends};
+pub use crash_facts::{
+    Full, a_crash_keeps_the_promise, finish_write, give_up_write, publishing_leaves_what_is_out,
+    settle_blocks,
+};
+pub use flight_calls::{NoMemory, Told, fsync, run_call};
+pub use flight_rounds::{
+    gather, log_lines_come_home, log_lines_go_out, what_stands_may_be_published,
+};
 pub use over::Over;
-pub use round_facts::{k_journal, write_jobs};
+pub use round_jobs::{
+    Commit, Counters, Filled, FilledJob, Job, KSplit, OpenFiles, Pending, call_at, calls_made,
+    count_call, keeper, mkfs, next_in, no_calls, place_of, script_length, take_job, waits_for,
+};

@@ -1,9 +1,9 @@
 -- The next call of a caller: what it asks for once the log is out, and what its answers leave.
 use Rattle.std.specs.Prelude.{◌≡◌, ◌<◌, ◌^◌, ℕ, true, false, List, [], length, Option, Some, None, IfOk, Result, Ok, Err}
 use Rattle.std.proofs.Common.{arith, sym, subst}
-use Rattle.pm_words.specs.Parts.{Part}
-use Rattle.pm_words.specs.Powers.{is_on, Steps, Supply}
-use Rattle.list_facts.specs.Members.{In}
+use Rattle.event_jobs.specs.pm_words.Parts.{Part}
+use Rattle.event_jobs.specs.pm_words.Powers.{is_on, Steps, Supply}
+use Rattle.event_jobs.specs.list_facts.Members.{In}
 use Rattle.posix_types.specs.declared.call.Who.{Who}
 use Rattle.event_jobs.specs.posix_spec.Scripted.{IsSetUp}
 use Rattle.event_jobs.proofs.event_facts_proofs.Calls.{small}

@@ -2,8 +2,8 @@
 use Rattle.std.specs.Prelude.{◌≡◌, ◌≤◌, ◌+◌, ◌*◌, ◌^◌, ℕ, true, false, List, [], ◌++◌, length, map, Some, Ok, Err, IfOk, Result}
 use Rattle.std.proofs.Common.{arith, ap, ◌∙◌, sym, subst, inl, inr}
 use Rattle.event_jobs.specs.flight_names.declared.outcomes.NoMemory.{NoMemory}
-use Rattle.pm_words.specs.declared.Cell.{Cell}
-use Rattle.pm_words.specs.Powers.{Steps, Supply}
+use Rattle.event_jobs.specs.pm_words.declared.Cell.{Cell}
+use Rattle.event_jobs.specs.pm_words.Powers.{Steps, Supply}
 use Rattle.posix_types.specs.declared.call.Who.{Who}
 use Rattle.posix_types.specs.declared.item.Item.{Item}
 use Rattle.posix_types.specs.Scripts.{Scripts}
@@ -19,9 +19,9 @@ use Rattle.event_jobs.specs.world_standing.Standing.{Pending}
 use Rattle.event_jobs.specs.write_ends.Ends.{begun_by}
 use Rattle.event_jobs.specs.round_views.Rounds.{IsLeft}
 use Rattle.event_jobs.specs.round_views.Views.{calls_out, WorldView}
-use Rattle.split_world.specs.Answers.{IsEnded}
-use Rattle.split_world.specs.declared.outcomes.Crashed.{Crashed}
-use Rattle.split_world.specs.declared.outcomes.Ended.{Ended}
+use Rattle.split_world.specs.world_parts.Answers.{IsEnded}
+use Rattle.split_world.specs.world_parts.declared.outcomes.Crashed.{Crashed}
+use Rattle.split_world.specs.world_parts.declared.outcomes.Ended.{Ended}
 use Rattle.event_jobs.specs.event_facts.Changes.{ChangesAtMost}
 use Rattle.event_jobs.specs.event_facts.Events.{IsCutOff, OutView}
 use Rattle.event_jobs.specs.event_facts.Laws.{AffordsLost, AffordsWhole, KeepsGiven}

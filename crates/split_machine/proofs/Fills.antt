@@ -4,7 +4,7 @@ use Rattle.std.proofs.Common.{arith, ap, ◌∙◌, sym, subst}
 use Rattle.event_jobs.specs.oplog_tail.declared.views.Full.{Full}
 use Rattle.event_jobs.specs.oplog_tail.EntryLines.{IsSingle}
 use Rattle.event_jobs.specs.oplog_tail.Rule.{line_at}
-use Rattle.pm_words.specs.Powers.{is_on, Steps, Supply}
+use Rattle.event_jobs.specs.pm_words.Powers.{is_on, Steps, Supply}
 use Rattle.event_jobs.proofs.event_facts_proofs.Names.{Steps-more}
 use Rattle.event_jobs.specs.round_log.Rounds.{IsClaimed, RoundView}
 use Rattle.event_jobs.specs.round_views.Begins.{IsFilledOut}

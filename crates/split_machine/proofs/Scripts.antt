@@ -3,12 +3,12 @@ use Rattle.std.specs.Prelude.{◌≡◌, ◌⊎◌, ◌≤◌, ◌+◌, ◌*◌,
 use Rattle.std.proofs.Common.{arith, ap, ◌∙◌, sym, subst, inl, inr}
 use Rattle.std.proofs.lemmas.List.Sums.{sum_by-cons}
 use Rattle.event_jobs.specs.flight_names.declared.outcomes.NoMemory.{NoMemory}
-use Rattle.pm_words.specs.Powers.{Steps, Supply}
+use Rattle.event_jobs.specs.pm_words.Powers.{Steps, Supply}
 use Rattle.posix_types.specs.declared.call.Call.{Call}
 use Rattle.posix_types.specs.declared.call.Who.{Who}
 use Rattle.posix_types.specs.declared.item.Item.{Item}
 use Rattle.posix_types.specs.Scripts.{Scripts}
-use Rattle.posix_words.specs.Open.{same_who}
+use Rattle.event_jobs.specs.posix_words.Open.{same_who}
 use Rattle.event_jobs.specs.posix_spec.Scripted.{IsComplete, IsSetUp, items_of, next_call, Scripted}
 use Rattle.event_jobs.specs.round_views.Views.{next_of, WorldView}
 use Rattle.event_jobs.specs.script_calls.Counts.{history_within, made_within}

@@ -1,6 +1,6 @@
 -- What the events of one call leave.
 use Rattle.std.specs.Prelude.{◌≡◌, ℕ, Ok, Option, Some, None}
-use Rattle.pm_words.specs.Powers.{Steps, Supply}
+use Rattle.event_jobs.specs.pm_words.Powers.{Steps, Supply}
 use Rattle.posix_types.specs.declared.call.Who.{Who}
 use Rattle.event_jobs.specs.round_log.Rounds.{IsClaimed, RoundView}
 use Rattle.event_jobs.specs.round_views.declared.over.Over.{Over}

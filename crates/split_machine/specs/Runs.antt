@@ -1,8 +1,8 @@
 -- What a run of the scripts of a World is.
 use Rattle.std.specs.Prelude.{◌≡◌, ◌<◌, ◌≤◌, ◌+◌, ◌*◌, ◌^◌, ℕ, Bool, true, false, List, [], length, None, Some, IsSome}
-use Rattle.pm_words.specs.declared.Cell.{Cell}
-use Rattle.pm_words.specs.Cells.{AllHome}
-use Rattle.pm_words.specs.Powers.{is_on, Supply}
+use Rattle.event_jobs.specs.pm_words.declared.Cell.{Cell}
+use Rattle.event_jobs.specs.pm_words.Cells.{AllHome}
+use Rattle.event_jobs.specs.pm_words.Powers.{is_on, Supply}
 use Rattle.posix_types.specs.declared.call.Who.{Who}
 use Rattle.posix_types.specs.declared.item.Item.{Item}
 use Rattle.event_jobs.specs.posix_spec.Afforded.{Afforded}
@@ -11,7 +11,7 @@ use Rattle.event_jobs.specs.posix_spec.Scripted.{IsComplete, Scripted}
 use Rattle.event_jobs.specs.posix_spec.Unfinished.{AreUnfinished}
 use Rattle.event_jobs.specs.world_images.Promised.{KeepsPromise}
 use Rattle.event_jobs.specs.round_views.Views.{next_of, WorldView}
-use Rattle.split_world.specs.declared.outcomes.Ended.{Ended}
+use Rattle.split_world.specs.world_parts.declared.outcomes.Ended.{Ended}
 use Rattle.event_jobs.specs.event_facts.Changes.{ChangesAtMost}
 use Rattle.event_jobs.specs.event_facts.Events.{CanAct, IsCutOff, IsLater, OutView}
 use Rattle.event_jobs.specs.event_facts.Paid.{IsPaid, IsPaidOff}

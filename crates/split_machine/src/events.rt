@@ -11,12 +11,10 @@ ghost use Rattle.split_machine.specs.Events.{
   RunsJob,
 };
 
-use event_jobs::a_job_runs;
-use event_jobs::event_facts::{a_call_acts, a_round_begins, a_round_ends};
-use event_jobs::flight_names::NoMemory;
-use event_jobs::k_journal::Commit;
-use event_jobs::round_log::RoundLog;
-use event_jobs::write_jobs::{Filled, FilledJob, Job};
+use event_jobs::{
+    Commit, Filled, FilledJob, Job, NoMemory, RoundLog, a_call_acts, a_job_runs, a_round_begins,
+    a_round_ends,
+};
 use pm_lines::Power;
 use posix_types::Who;
 use split_world::{Begun, Finished, World};

@@ -14,9 +14,9 @@
 mod events;
 mod runs;
 
-pub use event_jobs::flight_names::NoMemory;
+pub use event_jobs::{KSplit, NoMemory, mkfs};
 pub use runs::run;
-pub use split_world::k_mount::a_remount_shows_the_same;
-pub use split_world::k_mount::k_split::{KSplit, mkfs};
-pub use split_world::log_mount::{MountFault, k_check, mount};
-pub use split_world::{Ended, World};
+pub use split_world::{
+    CheckFault, Ended, MountFault, World, a_remount_shows_the_same, check, crash_image, judge,
+    mount,
+};

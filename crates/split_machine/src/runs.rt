@@ -6,10 +6,7 @@ ghost use Rattle.event_jobs.specs.round_views.Rounds.{IsLeft};
 ghost use Rattle.split_machine.specs.Runs.{HasRun, IsFirst, IsRunEnded, IsScriptRun};
 
 use crate::events::{Acted, Out, act, nothing_out};
-use event_jobs::event_facts::{a_round_ends, a_run_is_paid};
-use event_jobs::flight_names::NoMemory;
-use event_jobs::round_log::RoundLog;
-use event_jobs::write_jobs::{FilledJob, Job};
+use event_jobs::{FilledJob, Job, NoMemory, RoundLog, a_round_ends, a_run_is_paid};
 use pm_lines::{Line, Power};
 use posix_types::Who;
 use split_world::{Crashed, Ended, World};

@@ -3,10 +3,10 @@ use Rattle.std.proofs.Common.{◌≡◌, ◌<◌, ◌≤◌, ◌^◌, ℕ, List,
 use Rattle.std.proofs.lemmas.Bool.{and_parts}
 use Rattle.std.proofs.lemmas.Bool.Decides.{nat_tests}
 use Rattle.std.specs.Prelude.{true}
-use Rattle.pm_words.specs.Words.{line_bytes, word_at}
-use Rattle.disk_places.specs.Fields.{is_same}
-use Rattle.disk_places.specs.Places.{Geometry, is_in_range}
-use Rattle.disk_places.specs.Superblock.{superblock}
+use Rattle.command_words.specs.pm_words.Words.{line_bytes, word_at}
+use Rattle.command_words.specs.disk_places.Fields.{is_same}
+use Rattle.command_words.specs.disk_places.Places.{Geometry, is_in_range}
+use Rattle.command_words.specs.disk_places.Superblock.{superblock}
 use Rattle.split_machine.specs.disk_rules.Rules.{geometry_of}
 use Rattle.posix_types.specs.declared.call.Mode.{Mode}
 use Rattle.posix_types.specs.Scripts.{Scripts}

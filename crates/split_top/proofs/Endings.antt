@@ -2,11 +2,11 @@
 use Rattle.std.proofs.Common.{◌≡◌, ◌≤◌, ℕ, false, List, [], sym, ◌∙◌, ap, subst, arith, inl, inr, Option, Some, None}
 use Rattle.std.specs.Prelude.{nat_lt}
 use Rattle.std.proofs.lemmas.Bool.{true≢false, ltb-false}
-use Rattle.pm_words.specs.declared.Cell.{Cell}
-use Rattle.pm_words.specs.Powers.{is_left, is_on, Supply}
+use Rattle.command_words.specs.pm_words.declared.Cell.{Cell}
+use Rattle.command_words.specs.pm_words.Powers.{is_left, is_on, Supply}
 use Rattle.split_machine.specs.crash_spec.Permitted.{Permitted}
 use Rattle.split_machine.specs.crash_spec.Strict.{Strict}
-use Rattle.disk_places.specs.Places.{Geometry}
+use Rattle.command_words.specs.disk_places.Places.{Geometry}
 use Rattle.pm_lines.specs.declared.choices.Choice.{Choice}
 use Rattle.posix_types.specs.declared.call.Mode.{Mode}
 use Rattle.posix_types.specs.declared.item.Item.{Item}

@@ -1,8 +1,8 @@
 -- What a run leaves on the device.
 use Rattle.std.proofs.Common.{◌≡◌, ◌*◌, List, length, subst}
-use Rattle.pm_words.specs.declared.Cell.{Cell}
-use Rattle.pm_words.specs.Powers.{Supply}
-use Rattle.disk_places.specs.Places.{Geometry}
+use Rattle.command_words.specs.pm_words.declared.Cell.{Cell}
+use Rattle.command_words.specs.pm_words.Powers.{Supply}
+use Rattle.command_words.specs.disk_places.Places.{Geometry}
 use Rattle.posix_types.specs.declared.item.Item.{Item}
 use Rattle.posix_types.specs.declared.reply.Shape.{Shape}
 use Rattle.posix_types.specs.declared.tree.TreeEntry.{TreeEntry}

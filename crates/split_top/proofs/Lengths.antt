@@ -1,6 +1,6 @@
 -- An image of another length.
 use Rattle.std.proofs.Common.{◌≡◌, ◌≢◌, ◌⊎◌, ◌≤◌, ◌<◌, ◌/◌, ◌%◌, ℕ, refl, arith, inl, inr}
-use Rattle.pm_words.specs.Words.{Words}
+use Rattle.command_words.specs.pm_words.Words.{Words}
 use Rattle.split_machine.specs.disk_rules.Broken.{at_one, Breaks, FailsFirst}
 use Rattle.split_machine.specs.disk_rules.Rules.{IsWholeBlocks}
 

@@ -2,11 +2,11 @@
 use Rattle.std.proofs.Common.{◌≡◌, ◌≤◌, ◌+◌, ◌*◌, ◌^◌, ℕ, List, [], length, sym, ◌∙◌, ap, subst, arith, inl, inr}
 use Rattle.std.proofs.Math.Path.{fun_ext}
 use Rattle.std.proofs.lemmas.Bool.{cases_lt}
-use Rattle.pm_words.specs.Cells.{newest}
-use Rattle.pm_words.specs.Images.{words_of}
-use Rattle.pm_words.specs.Words.{word_at, Words}
-use Rattle.disk_places.specs.Journal.{journaled}
-use Rattle.disk_places.specs.Places.{commit_word, Geometry}
+use Rattle.command_words.specs.pm_words.Cells.{newest}
+use Rattle.command_words.specs.pm_words.Images.{words_of}
+use Rattle.command_words.specs.pm_words.Words.{word_at, Words}
+use Rattle.command_words.specs.disk_places.Journal.{journaled}
+use Rattle.command_words.specs.disk_places.Places.{commit_word, Geometry}
 use Rattle.split_machine.specs.disk_rules.Content.{content}
 use Rattle.split_machine.specs.disk_rules.Live.{live_entries}
 use Rattle.split_machine.specs.disk_rules.Rules.{geometry_of, IsChecked}

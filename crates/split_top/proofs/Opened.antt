@@ -1,10 +1,10 @@
 -- An image by its device, and what is asked of one that is mounted.
 use Rattle.std.proofs.Common.{◌≡◌, ◌*◌, ℕ, true, false, None, List, length, sym, ◌∙◌, ap, subst}
-use Rattle.pm_words.specs.declared.Cell.{Cell}
-use Rattle.pm_words.specs.Images.{words_of}
-use Rattle.pm_words.specs.Powers.{is_left, is_on, Supply}
-use Rattle.pm_words.specs.Words.{word_at}
-use Rattle.disk_places.specs.Places.{Geometry}
+use Rattle.command_words.specs.pm_words.declared.Cell.{Cell}
+use Rattle.command_words.specs.pm_words.Images.{words_of}
+use Rattle.command_words.specs.pm_words.Powers.{is_left, is_on, Supply}
+use Rattle.command_words.specs.pm_words.Words.{word_at}
+use Rattle.command_words.specs.disk_places.Places.{Geometry}
 use Rattle.split_machine.specs.disk_rules.Broken.{Breaks}
 use Rattle.split_machine.specs.disk_rules.Content.{content}
 use Rattle.split_machine.specs.disk_rules.Rules.{geometry_of, IsChecked}

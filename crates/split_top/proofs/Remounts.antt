@@ -1,10 +1,10 @@
 -- The image that is chosen of the device that a run left can be opened again; its tree is permitted, and is what is found.
 use Rattle.std.proofs.Common.{◌≡◌, ◌*◌, ℕ, List, length, sym, ◌∙◌, ap, subst, arith}
-use Rattle.pm_words.specs.declared.Cell.{Cell}
-use Rattle.pm_words.specs.Cells.{cell}
-use Rattle.pm_words.specs.Images.{IsImageOf}
-use Rattle.pm_words.specs.Words.{word_at}
-use Rattle.disk_places.specs.Places.{Geometry}
+use Rattle.command_words.specs.pm_words.declared.Cell.{Cell}
+use Rattle.command_words.specs.pm_words.Cells.{cell}
+use Rattle.command_words.specs.pm_words.Images.{IsImageOf}
+use Rattle.command_words.specs.pm_words.Words.{word_at}
+use Rattle.command_words.specs.disk_places.Places.{Geometry}
 use Rattle.split_machine.specs.disk_rules.Content.{content}
 use Rattle.split_machine.specs.disk_rules.Honest.{IsHonest}
 use Rattle.split_machine.specs.disk_rules.Rules.{geometry_of, IsChecked}

@@ -1,6 +1,6 @@
 -- What an answer says where an image is refused, and of two readings of one image.
 use Rattle.std.proofs.Common.{◌≡◌, ℕ, List, Option, length, refl, sym, ◌∙◌, subst, inl, inr}
-use Rattle.pm_words.specs.Words.{word_at}
+use Rattle.command_words.specs.pm_words.Words.{word_at}
 use Rattle.split_machine.specs.disk_rules.Broken.{Breaks}
 use Rattle.split_machine.specs.image_facts.CheckedLaws.{checked-unbroken}
 use Rattle.command_words.specs.image_layout.Numbers.{default_numbers}

@@ -1,10 +1,10 @@
 -- The device that a run leaves, and what is found on it.
 use Rattle.std.specs.Prelude.{◌≡◌, ◌*◌, List, length}
-use Rattle.pm_words.specs.declared.Cell.{Cell}
-use Rattle.pm_words.specs.Cells.{AllHome, cell}
-use Rattle.pm_words.specs.Images.{IsImage}
-use Rattle.pm_words.specs.Words.{Words}
-use Rattle.disk_places.specs.Places.{Geometry}
+use Rattle.command_words.specs.pm_words.declared.Cell.{Cell}
+use Rattle.command_words.specs.pm_words.Cells.{AllHome, cell}
+use Rattle.command_words.specs.pm_words.Images.{IsImage}
+use Rattle.command_words.specs.pm_words.Words.{Words}
+use Rattle.command_words.specs.disk_places.Places.{Geometry}
 use Rattle.split_machine.specs.disk_rules.Content.{content}
 use Rattle.split_machine.specs.disk_rules.Honest.{IsHonest}
 use Rattle.split_machine.specs.disk_rules.Rules.{geometry_of}

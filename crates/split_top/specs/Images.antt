@@ -1,9 +1,9 @@
 -- What the bytes of an image are to the commands: the fresh image; one that can be opened; or one that is refused, by which rule.
 use Rattle.std.specs.Prelude.{◌≡◌, ◌≤◌, ◌+◌, ◌*◌, ◌^◌, ℕ, List, ◌++◌, length, Option, codes, decimal}
-use Rattle.pm_words.specs.Words.{word_at, Words}
-use Rattle.disk_places.specs.Journal.{journaled}
-use Rattle.disk_places.specs.Places.{commit_word, data_blocks, Geometry}
-use Rattle.disk_lines.specs.Fresh.{fresh}
+use Rattle.command_words.specs.pm_words.Words.{word_at, Words}
+use Rattle.command_words.specs.disk_places.Journal.{journaled}
+use Rattle.command_words.specs.disk_places.Places.{commit_word, data_blocks, Geometry}
+use Rattle.command_words.specs.disk_lines.Fresh.{fresh}
 use Rattle.split_machine.specs.disk_rules.Broken.{Breaks}
 use Rattle.split_machine.specs.disk_rules.Content.{content}
 use Rattle.split_machine.specs.disk_rules.FreshVolume.{root_alone}

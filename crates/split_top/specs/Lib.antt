@@ -4,3 +4,4 @@ pub mod Jobs
 pub mod Runs
 pub mod Top
 pub mod Worlds
+pub use Rattle.command_words.specs as command_words

@@ -1,6 +1,6 @@
 -- What a run of scripts is, on an image in strict mode.
 use Rattle.std.specs.Prelude.{◌≡◌, ℕ, List, Option, Some}
-use Rattle.disk_places.specs.Places.{Geometry}
+use Rattle.command_words.specs.disk_places.Places.{Geometry}
 use Rattle.pm_lines.specs.declared.choices.Choice.{Choice}
 use Rattle.posix_types.specs.declared.call.Mode.{Mode}
 use Rattle.posix_types.specs.declared.item.Item.{Item}

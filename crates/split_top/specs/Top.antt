@@ -1,9 +1,9 @@
 -- What the statuses of the top call say.
 use Rattle.std.specs.Prelude.{◌≡◌, ◌⊎◌, ⊤, ℕ, List, ◌++◌, Option, Some, None, IsSome}
 use Rattle.outside.specs.Outside.{FileList, AreOfFile, IsAbsent, IsReplaced, Takes, TakesFront, bytes_named}
-use Rattle.pm_words.specs.Words.{word_at}
+use Rattle.command_words.specs.pm_words.Words.{word_at}
 use Rattle.split_machine.specs.disk_rules.Rules.{geometry_of}
-use Rattle.disk_places.specs.Places.{Geometry}
+use Rattle.command_words.specs.disk_places.Places.{Geometry}
 use Rattle.pm_lines.specs.declared.choices.Choice.{Choice}
 use Rattle.posix_types.specs.declared.item.Item.{Item}
 use Rattle.posix_types.specs.declared.reply.Shape.{Shape}

@@ -1,6 +1,6 @@
 -- The World that a run begins with.
 use Rattle.std.specs.Prelude.{◌≡◌, ◌≤◌, ℕ, List, length, Option}
-use Rattle.disk_places.specs.Places.{Geometry}
+use Rattle.command_words.specs.disk_places.Places.{Geometry}
 use Rattle.pm_lines.specs.declared.choices.Choice.{Choice}
 use Rattle.posix_types.specs.declared.item.Item.{Item}
 use Rattle.posix_types.specs.declared.reply.Shape.{Shape}

@@ -9,8 +9,7 @@ ghost use Rattle.split_top.specs.Jobs.{IsUnread};
 
 use crate::jobs::read_file;
 use crate::making::fresh_bytes;
-use command_words::Image;
-use command_words::image_layout::Geometry;
+use command_words::{Geometry, Image};
 use exit_status::Status;
 use outside::Files;
 use std::alloc::Global;

@@ -20,4 +20,9 @@ mod runs;
 mod showing;
 mod stepping;
 
+pub use command_words::{
+    Call, Geometry, Item, Mode, Name, Path, Shape, State, Tree, TreeEntry, TreeNode, Who,
+    default_shape, read_script, root_alone,
+};
 pub use program::top;
+pub use split_machine::judge;

@@ -6,7 +6,7 @@ ghost use Rattle.split_top.specs.Images.{blocks_text, IsFreshImage};
 ghost use Rattle.split_top.specs.Jobs.{IsAnswer};
 
 use crate::jobs::put_output;
-use command_words::image_layout::Geometry;
+use command_words::Geometry;
 use exit_status::Status;
 use outside::{FileFault, Files, Sink};
 use split_machine::mkfs;

@@ -1,6 +1,6 @@
 //! A script is read, run on an image, and told.
 ghost use Rattle.std.specs.Prelude.{◌≡◌, IfErr, IfOk};
-ghost use Rattle.pm_words.specs.Words.{word_at};
+ghost use Rattle.command_words.specs.pm_words.Words.{word_at};
 ghost use Rattle.split_machine.specs.disk_rules.Rules.{geometry_of};
 ghost use Rattle.split_top.specs.Images.{CanOpen};
 ghost use Rattle.split_top.specs.Jobs.{IsUnrun};
@@ -8,9 +8,8 @@ ghost use Rattle.split_top.specs.Top.{IsRunOn, IsScriptRunOn};
 ghost use Rattle.split_top.specs.Worlds.{AreRunnable};
 
 use crate::runs::run;
-use command_words::image_layout::Geometry;
-use command_words::script_text::{
-    ScriptFault, read_script, scripts_are_spelled, scripts_are_within_limits,
+use command_words::{
+    Geometry, ScriptFault, read_script, scripts_are_spelled, scripts_are_within_limits,
     scripts_have_known_words,
 };
 use exit_status::Status;

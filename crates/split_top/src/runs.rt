@@ -1,6 +1,6 @@
 //! A run of scripts: their calls in a World on an image, and what is read back of it.
 ghost use Rattle.std.specs.Prelude.{◌≡◌, List, IfOk};
-ghost use Rattle.pm_words.specs.Words.{word_at};
+ghost use Rattle.command_words.specs.pm_words.Words.{word_at};
 ghost use Rattle.split_machine.specs.disk_rules.Rules.{geometry_of};
 ghost use Rattle.split_machine.specs.crash_spec.Permitted.{Permitted};
 ghost use Rattle.command_words.specs.posix_spec.Run.{Begun};
@@ -16,11 +16,10 @@ ghost use Rattle.split_top.specs.Worlds.{AreRunnable, BeginsOn, IsRanOn, IsWorld
 
 use crate::mounting::mount_image;
 use crate::opening::device;
-use command_words::image_layout::Geometry;
+use command_words::Geometry;
 use pm_lines::{Choice, Pm, Power};
 use posix_types::{Item, Mode, Scripts, Tree};
-use split_machine::k_check::crash_image;
-use split_machine::{Ended, MountFault, NoMemory, World, run as run_scripts};
+use split_machine::{Ended, MountFault, NoMemory, World, crash_image, run as run_scripts};
 use std::alloc::{AllocError, Global};
 
 /// What a run leaves: the calls that returned, the tree that is found afterwards, and the image that shows it.

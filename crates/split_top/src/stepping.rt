@@ -1,7 +1,7 @@
 //! The command `step`: a script is read and run on an image; the image that is left is kept where a name says so, and the
 //! history and the tree that is left are put.
 ghost use Rattle.std.specs.Prelude.{◌≡◌, Err, IfErr, IsSome, OnErr, OnOk};
-ghost use Rattle.pm_words.specs.Words.{word_at};
+ghost use Rattle.command_words.specs.pm_words.Words.{word_at};
 ghost use Rattle.split_machine.specs.disk_rules.Rules.{geometry_of};
 ghost use Rattle.outside.specs.Outside.{Rose};
 ghost use Rattle.command_words.specs.Command as commands;
@@ -14,8 +14,7 @@ use crate::images::read_image;
 use crate::jobs::{put_output, read_file};
 use crate::opening::geometry_to_open;
 use crate::running::{Outcome, run_script};
-use command_words::image_layout::Geometry;
-use command_words::{Image, Options};
+use command_words::{Geometry, Image, Options};
 use exit_status::Status;
 use outside::{FileFault, Files, Sink};
 use std::alloc::Global;

@@ -1,23 +1,20 @@
 -- The parts of a World that begins.
-use Rattle.std.specs.Prelude.{◌≡◌, ◌≤◌, ◌+◌, ℕ, true, false, [], length, Option, None, vec_len, refl}
+use Rattle.std.specs.Prelude.{◌≡◌, ◌≤◌, true, false, [], length, None, vec_len}
 use Rattle.std.specs.Vec.{vec_capacity}
-use Rattle.std.proofs.Common.{arith, ap, ◌∙◌, sym, subst}
+use Rattle.std.proofs.Common.{arith, ap, sym, subst}
 use Rattle.round_starts.specs.posix_spec.Tree.{start}
-use Rattle.posix_types.specs.Scripts.{Scripts}
-use Rattle.posix_words.specs.Open.{nothing_open, Tables}
-use Rattle.round_puts.specs.round_jobs.script_calls.Counters.{AreCounts}
-use Rattle.round_puts.specs.round_jobs.staging_files.Keeps.{Staged}
-use Rattle.round_puts.specs.round_jobs.world_standing.Standing.{Pending}
+use Rattle.round_starts.specs.posix_words.Open.{nothing_open, Tables}
+use Rattle.world_begins.specs.world_parts.round_jobs.script_calls.Counters.{AreCounts}
+use Rattle.world_begins.specs.world_parts.round_jobs.staging_files.Keeps.{Staged}
 use Rattle.round_starts.specs.Laws.{BeginsOver, first_view, MayStart, ShowsAs, StartsGoing, WasMounted}
 use Rattle.round_starts.specs.Sizes.{HasSizesOf}
-use Rattle.round_puts.proofs.round_turns_proofs.Ending.{no_both}
-use Rattle.round_puts.specs.round_jobs.staging_files.GivesUp.{nothing_staged}
-use Rattle.round_starts.specs.round_views.Starts.{AreInLimits}
-use Rattle.round_starts.specs.round_views.Views.{disk_of, IsWorldOver, WorldView}
+use Rattle.world_begins.proofs.world_parts_proofs.round_turns_proofs.Ending.{no_both}
+use Rattle.world_begins.specs.world_parts.round_jobs.staging_files.GivesUp.{nothing_staged}
+use Rattle.world_begins.specs.world_parts.round_views.Starts.{AreInLimits}
+use Rattle.world_begins.specs.world_parts.round_views.Views.{disk_of, IsWorldOver, WorldView}
 use Rattle.posix_types.specs.declared.call.Mode.{Mode}
-use Rattle.split_world.specs.declared.outcomes.Unfinished.{Unfinished}
-use Rattle.split_world.specs.declared.parts.Parts.{Parts}
-use Rattle.split_world.specs.Seen.{HasRoom, IsKept, seen, unfinished_of}
+use Rattle.world_begins.specs.world_parts.declared.parts.Parts.{Parts}
+use Rattle.world_begins.specs.world_parts.Seen.{HasRoom, IsKept, seen, unfinished_of}
 
 -- nothing is done in them
 pub record IsFirst (p : Parts) : Type 0 where

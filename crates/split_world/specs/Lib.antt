@@ -1,7 +1,4 @@
-pub mod Seen
-pub mod Rooms
-pub mod Adds
-pub mod Turns
-pub mod Answers
-pub use Rattle.round_starts.specs.k_mount as k_mount
+pub mod Mounts
 pub use Rattle.round_starts.specs.log_mount as log_mount
+pub use Rattle.round_starts.specs.k_mount as k_mount
+pub use Rattle.world_begins.specs.world_parts as world_parts

@@ -10,22 +10,17 @@
 //! and blocks leaves an image that the mode permits (`IsLost`), and a crash leaves a device that keeps the promise
 //! (`IsLeft`). So far in strict mode.
 //!
-//! Stands on `round_views` and its facts, `round_jobs`, `write_begins`, `write_ends`, `flight_calls`,
-//! `flight_truncates` and `log_checkpoint`; it
-//! begins on a device that `log_mount` mounts.
+//! Stands on `world_begins`, `world_ends` and `world_rounds`, which do the parts of its calls over all that it keeps
+//! (`world_parts`), and on `round_starts`: it begins on a device that `log_mount` mounts.
 #![tactic(auto)]
 
-mod begins;
-mod ends;
-mod looks;
-mod losses;
-mod outcomes;
-mod parts;
+mod calls;
 mod rounds;
 mod starting;
-mod unmounts;
 mod world;
 
-pub use outcomes::{Begun, Crashed, Ended, Finished, Ready};
-pub use round_starts::{k_mount, log_mount};
+pub use round_starts::{
+    CheckFault, MountFault, a_remount_shows_the_same, check, crash_image, mount,
+};
 pub use world::World;
+pub use world_begins::{Begun, Crashed, Ended, Finished, Ready, judge};

@@ -1,25 +1,21 @@
 //! How a World begins.
 ghost use Rattle.std.specs.Prelude.{◌≡◌, ◌%◌, ◌*◌, ◌<◌, ◌^◌, length, IfOk};
-ghost use Rattle.round_puts.specs.flight_truncates.log_mount.Quiet.{IsSpent};
-ghost use Rattle.pm_words.specs.Cells.{AllSingle};
+ghost use Rattle.round_starts.specs.log_mount.Quiet.{IsSpent};
+ghost use Rattle.round_starts.specs.pm_words.Cells.{AllSingle};
 ghost use Rattle.posix_types.specs.declared.call.Mode.{Mode};
 ghost use Rattle.round_starts.specs.Laws.{BeginsOver, WasMounted};
-ghost use Rattle.round_starts.specs.round_views.Starts.{AreInLimits};
-ghost use Rattle.split_world.specs.Answers.{IsWorldAnswer};
-ghost use Rattle.split_world.specs.Seen.{seen, IsKept};
+ghost use Rattle.world_begins.specs.world_parts.round_views.Starts.{AreInLimits};
+ghost use Rattle.split_world.specs.Mounts.{IsWorldAnswer};
+ghost use Rattle.world_begins.specs.world_parts.Seen.{seen, IsKept};
 
-use crate::parts::Parts;
 use crate::world::World;
 use pm_lines::{Pm, Power};
 use posix_types::{Mode, Scripts};
-use round_puts::flight_truncates::log_mount::{MountFault, mount};
-use round_puts::round_jobs::k_split::KSplit;
-use round_puts::round_jobs::open_files::OpenFiles;
-use round_puts::round_jobs::script_calls::no_calls;
-use round_puts::round_jobs::staging_files::Staging;
-use round_starts::round_views::flight_names::NoMemory;
-use round_starts::{a_world_begins, table_of};
+use round_starts::{
+    KSplit, MountFault, OpenFiles, Staging, a_world_begins, mount, no_calls, table_of,
+};
 use std::alloc::Global;
+use world_begins::{NoMemory, Parts};
 
 // The parts of the World of a K-Split that was mounted: the tree of the device is the start of the history.
 fn parts_over(alloc: Global, k: KSplit, mode: Mode, scripts: Scripts) -> Result<Parts, NoMemory>
@@ -84,7 +80,7 @@ impl World {
     ///
     /// # Errors
     ///
-    /// Those of [`round_puts::flight_truncates::log_mount::mount`]: `Bad` exactly where the image breaks a rule, and nothing was done; else
+    /// Those of [`round_starts::log_mount::mount`]: `Bad` exactly where the image breaks a rule, and nothing was done; else
     /// `PowerLost` exactly where the power is off at the return, with the device. Want of memory is the only other
     /// one: the device is dropped then, as it is with `Bad`, and the scripts with each.
     pub fn mount(

@@ -3,11 +3,11 @@ ghost use Rattle.std.specs.Prelude.{◌≡◌, ◌↔◌, ◌≤◌, ◌+◌, �
 ghost use Rattle.round_starts.specs.posix_spec.Scripted.{IsSetUp};
 ghost use Rattle.posix_types.specs.declared.call.Who as whos;
 
-use crate::parts::Parts;
 use disk_lines::Draft;
 use posix_types::{Item, Who};
-use round_puts::round_jobs::script_calls::{calls_made, script_length};
+use round_starts::{calls_made, script_length};
 use std::marker::Model;
+use world_begins::Parts;
 
 /// A file system with its scripts and the history of their calls since it was mounted. Contracts see a
 /// `WorldView`.
@@ -18,8 +18,8 @@ pub struct World {
 
 impl Model for World {
     ghost use Rattle.std.specs.Prelude.{◌≡◌, true};
-    ghost use Rattle.round_starts.specs.round_views.Views.{WorldView};
-    ghost use Rattle.split_world.specs.Seen.{seen, IsKept};
+    ghost use Rattle.world_begins.specs.world_parts.round_views.Views.{WorldView};
+    ghost use Rattle.world_begins.specs.world_parts.Seen.{seen, IsKept};
 
     ghost Value = { WorldView };
 
@@ -66,7 +66,8 @@ impl World {
     /// How many threads the scripts have, 8 at most.
     pub fn threads(&self) -> u32
         requires { self.now.usable ≡ true }
-        ensures { result ≡ length self.now.scripts.threads }
+        ensures threads { result ≡ length self.now.scripts.threads }
+        ensures most { result ≤ 8 }
     {
         self.parts.scripts.threads.len() as u32
     }

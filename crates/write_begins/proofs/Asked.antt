@@ -2,17 +2,17 @@
 use Rattle.std.specs.Prelude.{◌≡◌, ◌≤◌, ◌+◌, ◌-◌, ℕ, true, List, [], ◌∷◌, length, Option, None, Some, option_map, refl}
 use Rattle.std.specs.Option.{option_map_or}
 use Rattle.std.proofs.Common.{arith, ap, ◌∙◌, sym, subst, inl, inr}
-use Rattle.pm_words.specs.ImageLaws.{IsImage-words_of}
-use Rattle.pm_words.specs.Images.{words_of}
+use Rattle.first_writes.specs.pm_words.ImageLaws.{IsImage-words_of}
+use Rattle.first_writes.specs.pm_words.Images.{words_of}
 use Rattle.first_writes.specs.crash_spec.Busy.{handle_node, waits_for}
-use Rattle.disk_places.specs.Places.{data_blocks}
+use Rattle.first_writes.specs.disk_places.Places.{data_blocks}
 use Rattle.first_writes.specs.disk_rules.Volume.{Volume}
 use Rattle.first_writes.specs.file_ends.Ends.{FilesEnd}
 use Rattle.first_writes.specs.file_table.Files.{Files, size_in}
 use Rattle.first_writes.specs.k_rules.View.{View}
-use Rattle.list_facts.specs.Members.{In}
-use Rattle.open_numbers.proofs.Lookups.{same_opened}
-use Rattle.open_numbers.specs.Numbered.{described_as}
+use Rattle.first_writes.specs.list_facts.Members.{In}
+use Rattle.first_writes.proofs.open_numbers_proofs.Lookups.{same_opened}
+use Rattle.first_writes.specs.open_numbers.Numbered.{described_as}
 use Rattle.posix_types.specs.declared.call.Mode.{Mode}
 use Rattle.posix_types.specs.declared.call.Who.{Who}
 use Rattle.posix_types.specs.declared.handle.Handle.{Handle}

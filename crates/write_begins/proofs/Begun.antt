@@ -2,7 +2,7 @@
 use Rattle.std.specs.Prelude.{◌≡◌, ◌≤◌, ◌<◌, ◌-◌, ℕ, List, [], ◌∷◌, length, Option, None, Some, refl, Result, Ok, Err}
 use Rattle.std.specs.declared.alloc.AllocError.{AllocError}
 use Rattle.std.proofs.Common.{arith, ap, ◌∙◌, sym, subst, inl, inr}
-use Rattle.disk_places.specs.Places.{data_blocks}
+use Rattle.first_writes.specs.disk_places.Places.{data_blocks}
 use Rattle.first_writes.specs.file_table.Files.{Files}
 use Rattle.first_writes.specs.k_rules.View.{View}
 use Rattle.posix_types.specs.declared.call.Who.{Who}
@@ -22,7 +22,7 @@ use Rattle.write_stages.specs.write_asks.Laws.{call_of, NeedsAsCall, RowsAsCall,
 use Rattle.write_stages.specs.write_drafts.Drafts.{staged_count}
 use Rattle.write_stages.specs.write_drafts.Numbers.{RoomIsKept, StandsAsKept}
 use Rattle.write_begins.specs.declared.beginning.WriteBegun.{WriteBegun}
-use Rattle.write_begins.specs.Begins.{EndsRound, Found, IsAccepted, IsAnsweredBy, IsBegun}
+use Rattle.write_begins.specs.Begins.{EndsRound, Found, IsAccepted, IsAnsweredBy, IsBegun, LacksBeside}
 use Rattle.write_begins.specs.Goes.{Goes, IsGone}
 use Rattle.write_begins.proofs.Asked.{goes_of, need_is, room_is, row_is, start_is}
 
@@ -67,6 +67,9 @@ module _ (kept_law : StandsAsKept) (room_law : RoomIsKept) (rows : RowsAsCall) (
           let room_same = room_is kept_law room_law k t old files who h at x taken one in
           let taken_is = one.taken_is in
           omega (arith, jobs, fits, same, room_same, taken_is, need_is_it, left_is, lacks));
+      same = refl;
+      cells_alone = refl;
+      nothing = λ found lacks. refl;
       stays = record { runs = refl; stands = λ found. found.stands };
     }
 
@@ -78,10 +81,23 @@ module _ (kept_law : StandsAsKept) (room_law : RoomIsKept) (rows : RowsAsCall) (
       start_there : (found : Found k t old files who (call_of h at x) taken) → target.start ≡ start_of found.s who h at
       start_there found = is_target.start_is ∙ sym (start_is kept_law room_law k t old files who h at x taken found starts needs_law (accepted_by none found))
 
+      -- the jobs that are out leave what it needs
+      leave_enough : (found : Found k t old files who (call_of h at x) taken) (need left : ℕ) → ¬ LacksBeside found.s who (call_of h at x) found.stands.jobs need left
+      leave_enough found need left lacks =
+          let same = same_need found in
+          let room_same = room_is kept_law room_law k t old files who h at x taken found in
+          let taken_is = found.taken_is in
+          let needed = lacks.need_is in
+          let rest = lacks.left_is in
+          let less = lacks.lacks in
+          omega (arith, fits, same, room_same, taken_is, needed, rest, less)
+
       pub begun_by : (l : View) (new : Staged) (then : Files) (result : Result WriteBegun AllocError) → IsGone k l old new files then who target x result → IsBegun who h at x taken k l t old new files then result
       begun_by l new then (Ok (WriteBegun.Answered outcome)) is = absurd is
       begun_by l new then (Ok (WriteBegun.Job job blocks)) is = record {
         accepted = accepted_by none;
+        enough = leave_enough;
+        run = λ found need left lacks. is.run need left (subst (λ start. IsLacking (staged_count start (length x)) old k need left) (sym (start_there found)) lacks);
         job_who = is.job_who;
         blocks_are = is.blocks_are;
         fresh = is.fresh;
@@ -92,8 +108,11 @@ module _ (kept_law : StandsAsKept) (room_law : RoomIsKept) (rows : RowsAsCall) (
       }
       begun_by l new then (Ok (WriteBegun.RoundOver need left)) is = record {
         accepted = accepted_by none;
-        cause = λ found. inr (subst (λ start. IsLacking (staged_count start (length x)) old k need left) (start_there found) is.lacks);
+        cause = λ found. inr (record { beside = leave_enough found; lacks = subst (λ start. IsLacking (staged_count start (length x)) old k need left) (start_there found) is.lacks });
         late = is.late;
+        same = is.same;
+        cells_alone = is.cells_alone;
+        nothing = λ found lacks. absurd (leave_enough found need left lacks);
         stays = record { runs = is.stays.runs; stands = λ found. is.stays.stands (goes_on found) };
       }
       begun_by l new then (Ok WriteBegun.PowerLost) is = record { left = λ found. is.left (goes_on found); kept = λ found. is.kept (goes_on found) }

@@ -2,13 +2,13 @@
 use Rattle.std.specs.Prelude.{◌≡◌, ◌≤◌, ◌*◌, ◌/◌, ℕ, true, List, length, refl, Result, Ok, Err}
 use Rattle.std.specs.declared.alloc.AllocError.{AllocError}
 use Rattle.std.proofs.Common.{ap, ◌∙◌}
-use Rattle.pm_words.specs.Powers.{is_on, Supply}
-use Rattle.disk_lines.specs.Lines.{most_bytes}
+use Rattle.first_writes.specs.pm_words.Powers.{is_on, Supply}
+use Rattle.first_writes.specs.disk_lines.Lines.{most_bytes}
 use Rattle.first_writes.specs.disk_rules.Volume.{Volume}
 use Rattle.first_writes.specs.file_table.Files.{Files, spare_in}
 use Rattle.flight_reserves.specs.Laws.{StandsReserved}
-use Rattle.write_gaps.specs.flight_zeros.Laws.{ReservedReadZero}
-use Rattle.write_gaps.specs.flight_zeros.Zeros.{ReadZero}
+use Rattle.write_stages.specs.write_gaps.flight_zeros.Laws.{ReservedReadZero}
+use Rattle.write_stages.specs.write_gaps.flight_zeros.Zeros.{ReadZero}
 use Rattle.first_writes.specs.k_rules.View.{View}
 use Rattle.posix_types.specs.declared.call.Who.{Who}
 use Rattle.flight_reserves.specs.staging_files.declared.runs.StageRun.{StageRun}
@@ -26,7 +26,7 @@ pub gone_ok : (k l m : View) (old new last : Staged) (files : Files) (who : Who)
     → Goes k old files who target x → (result : Result WriteBegun AllocError) → IsJobBegun l m new last files who target x taken result → IsGone k m old last files files who target x result
 gone_ok k l m old new last files who target x count taken law reads some few answer fits small count_is spare zero goes (Ok (WriteBegun.Answered outcome)) is = absurd is
 gone_ok k l m old new last files who target x count taken law reads some few answer fits small count_is spare zero goes (Ok (WriteBegun.Job job blocks)) is =
-    becomes_job k l old new files who target x count taken law some few answer m last job blocks.items reads fits small count_is spare zero is
+    becomes_job k l old new files who target x count taken law some few answer m last job blocks.items reads fits small count_is spare zero goes is
 gone_ok k l m old new last files who target x count taken law reads some few answer fits small count_is spare zero goes (Ok (WriteBegun.RoundOver need left)) is = absurd is
 gone_ok k l m old new last files who target x count taken law reads some few answer fits small count_is spare zero goes (Ok WriteBegun.PowerLost) is = absurd is
 gone_ok k l m old new last files who target x count taken law reads some few answer fits small count_is spare zero goes (Err e) is = goes_back k l old new files who target x count taken law some few answer goes m last is

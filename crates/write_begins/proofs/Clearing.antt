@@ -2,14 +2,14 @@
 use Rattle.std.specs.Prelude.{◌≡◌, ◌≢◌, ◌≤◌, ◌<◌, ◌+◌, ℕ, true, List, [], ◌∷◌, length, slice_index, refl}
 use Rattle.std.proofs.Common.{arith, ap, ◌∙◌, sym, subst, inl, inr}
 use Rattle.block_counts.specs.Counts.{blocks_for}
-use Rattle.disk_lines.specs.declared.Draft.{Draft}
-use Rattle.disk_places.specs.Places.{data_blocks}
+use Rattle.first_writes.specs.disk_lines.declared.Draft.{Draft}
+use Rattle.first_writes.specs.disk_places.Places.{data_blocks}
 use Rattle.first_writes.specs.disk_rules.Volume.{Volume}
 use Rattle.first_writes.specs.file_table.Files.{Files, runs_in, size_in, spare_in}
 use Rattle.flight_reserves.specs.flight_facts.Flying.{IsFlying}
 use Rattle.flight_reserves.specs.held_sums.Laws.{AreSizes}
 use Rattle.first_writes.specs.k_rules.View.{View}
-use Rattle.list_facts.specs.Members.{In}
+use Rattle.first_writes.specs.list_facts.Members.{In}
 use Rattle.flight_reserves.specs.overlay_facts.Overlays.{IsOverlayOf}
 use Rattle.posix_types.specs.declared.call.Mode.{Mode}
 use Rattle.posix_types.specs.declared.call.Who.{Who}
@@ -21,7 +21,7 @@ use Rattle.flight_reserves.specs.world_rules.Stands.{is_used}
 use Rattle.flight_reserves.specs.world_standing.Standing.{AreJobsOf, file_state, Pending}
 use Rattle.write_stages.specs.write_asks.declared.asking.Target.{Target}
 use Rattle.write_stages.specs.write_asks.Asks.{room_in}
-use Rattle.write_gaps.specs.Gaps.{Clears, HasFile, LosesGap}
+use Rattle.write_stages.specs.write_gaps.Gaps.{Clears, HasFile, LosesGap}
 use Rattle.write_stages.specs.Stages.{with_parts}
 use Rattle.write_begins.specs.Goes.{Goes, HasRoom, LosesTarget}
 use Rattle.write_begins.proofs.Steps.{IsStep, Onward}

@@ -4,15 +4,15 @@ use Rattle.std.specs.Option.{option_map_or}
 use Rattle.std.proofs.Common.{arith, ap, ◌∙◌, sym}
 use Rattle.std.proofs.lemmas.Bool.Decides.{nat_tests}
 use Rattle.std.proofs.lemmas.List.Sums.{sum_by-cons}
-use Rattle.pm_words.specs.ImageLaws.{IsImage-words_of}
-use Rattle.pm_words.specs.Images.{words_of}
-use Rattle.pm_words.specs.Words.{Words}
-use Rattle.disk_lines.specs.declared.Draft.{Draft}
-use Rattle.disk_places.specs.Journal.{journaled}
+use Rattle.first_writes.specs.pm_words.ImageLaws.{IsImage-words_of}
+use Rattle.first_writes.specs.pm_words.Images.{words_of}
+use Rattle.first_writes.specs.pm_words.Words.{Words}
+use Rattle.first_writes.specs.disk_lines.declared.Draft.{Draft}
+use Rattle.first_writes.specs.disk_places.Journal.{journaled}
 use Rattle.first_writes.specs.disk_rules.Volume.{Volume}
 use Rattle.first_writes.specs.file_table.Files.{Files}
-use Rattle.open_numbers.proofs.Lookups.{same_opened}
-use Rattle.open_numbers.specs.Numbered.{described_as}
+use Rattle.first_writes.proofs.open_numbers_proofs.Lookups.{same_opened}
+use Rattle.first_writes.specs.open_numbers.Numbered.{described_as}
 use Rattle.posix_types.specs.declared.call.Call.{Call}
 use Rattle.posix_types.specs.declared.call.Mode.{Mode}
 use Rattle.posix_types.specs.declared.call.Who.{Who}

@@ -1,14 +1,14 @@
 -- No run is reserved for a write: the power goes, or there is none.
 use Rattle.std.specs.Prelude.{◌≡◌, ◌≢◌, ◌≤◌, ◌++◌, ◌∷◌, [], ℕ, true, List, length, map, Option, Result, Err}
 use Rattle.std.proofs.Common.{ap, ◌∙◌, sym, subst, inl, inr}
-use Rattle.pm_words.specs.declared.Cell.{Cell}
-use Rattle.pm_words.specs.Words.{Words}
+use Rattle.first_writes.specs.pm_words.declared.Cell.{Cell}
+use Rattle.first_writes.specs.pm_words.Words.{Words}
 use Rattle.first_writes.specs.file_table.Files.{Files}
 use Rattle.first_writes.specs.Laws.{FirstWriteFits}
 use Rattle.flight_reserves.specs.Laws.{KeepsReserved}
 use Rattle.first_writes.specs.k_rules.View.{View}
-use Rattle.write_gaps.specs.lost_devices.Left.{IsLeftOf}
-use Rattle.write_gaps.proofs.lost_devices_proofs.Cuts.{left_at, left_map_cut}
+use Rattle.write_stages.specs.write_gaps.lost_devices.Left.{IsLeftOf}
+use Rattle.write_stages.proofs.write_gaps_proofs.lost_devices_proofs.Cuts.{left_at, left_map_cut}
 use Rattle.posix_types.specs.declared.call.Who.{Who}
 use Rattle.flight_reserves.specs.staging_files.declared.runs.StageFault.{StageFault}
 use Rattle.flight_reserves.specs.staging_files.declared.runs.StageRun.{StageRun}
@@ -21,7 +21,7 @@ use Rattle.flight_reserves.specs.world_rules.Jobs.{begun_of}
 use Rattle.flight_reserves.specs.world_standing.Standing.{StandsAt}
 use Rattle.write_stages.specs.write_asks.declared.asking.Target.{Target}
 use Rattle.write_stages.specs.write_drafts.Drafts.{staged_count}
-use Rattle.write_gaps.proofs.Lost.{left_off}
+use Rattle.write_stages.proofs.write_gaps_proofs.Lost.{left_off}
 use Rattle.write_stages.specs.Stages.{with_parts}
 use Rattle.write_begins.specs.Goes.{Goes, GoesNoFurther, HasRoom, LacksRun, LosesTarget}
 
@@ -73,5 +73,7 @@ pub lacks_run : (k l : View) (old new : Staged) (files : Files) (who : Who) (tar
 lacks_run k l old new files who target x count need left count_is late lacks same = record {
   lacks = subst (λ n. IsLacking n old k need left) count_is lacks;
   late = late;
+  same = same.staging;
+  cells_alone = same.volume ∙ ap (λ (y : View). record k { cells = y.cells }) (sym same.volume);
   stays = goes_same k l old new files who target x same;
 }

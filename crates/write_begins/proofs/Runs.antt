@@ -1,6 +1,6 @@
 -- A run is reserved for a write, and its job begins, or the run goes back.
-use Rattle.std.specs.Prelude.{◌≡◌, ◌⊎◌, ◌≤◌, ◌+◌, ◌*◌, ◌/◌, ℕ, true, false, Contains, List, [], ◌∷◌, ◌++◌, length, max, Some, remove, slice_get, refl, Result, Ok}
-use Rattle.std.proofs.Common.{arith, ap, ◌∙◌, sym, subst, inl, inr}
+use Rattle.std.specs.Prelude.{◌≡◌, ◌⊎◌, ◌≤◌, ◌+◌, ◌-◌, ◌*◌, ◌/◌, ◌==◌, ℕ, true, false, Contains, List, [], ◌∷◌, ◌++◌, length, max, Some, remove, slice_get, refl, Result, Ok}
+use Rattle.std.proofs.Common.{arith, ap, ◌∙◌, sym, subst, inl, inr, eq-eqb}
 use Rattle.std.proofs.lemmas.Bool.{cases_eq}
 use Rattle.std.proofs.lemmas.Bool.Decides.{nat_tests}
 use Rattle.std.proofs.Math.Nat.{sub_self}
@@ -8,18 +8,19 @@ use Rattle.std.proofs.lemmas.List.{append-nil, length-append}
 use Rattle.std.proofs.lemmas.Option.{get_or_from_slice_get, slice_get_within}
 use Rattle.std.proofs.Math.Seq.{get_or-append_seam}
 use Rattle.std.proofs.lemmas.List.Edits.{remove-append_right}
+use Rattle.std.proofs.lemmas.List.Folds.{list_any_at}
 use Rattle.block_counts.specs.Counts.{blocks_for}
-use Rattle.disk_lines.specs.declared.Draft.{Draft}
-use Rattle.disk_lines.specs.declared.Inode.{Inode}
-use Rattle.disk_lines.specs.Lines.{most_bytes}
+use Rattle.first_writes.specs.disk_lines.declared.Draft.{Draft}
+use Rattle.first_writes.specs.disk_lines.declared.Inode.{Inode}
+use Rattle.first_writes.specs.disk_lines.Lines.{most_bytes}
 use Rattle.first_writes.specs.disk_rules.Volume.{inode}
 use Rattle.first_writes.specs.file_table.Files.{Files, spare_in}
 use Rattle.flight_reserves.specs.Laws.{StandsReserved, StandsWithRun}
-use Rattle.write_gaps.proofs.flight_zeros_proofs.Refilled as refilling
-use Rattle.write_gaps.specs.flight_zeros.Laws.{ReservedReadZero}
-use Rattle.write_gaps.specs.flight_zeros.Zeros.{ReadZero}
+use Rattle.write_stages.proofs.write_gaps_proofs.flight_zeros_proofs.Refilled as refilling
+use Rattle.write_stages.specs.write_gaps.flight_zeros.Laws.{ReservedReadZero}
+use Rattle.write_stages.specs.write_gaps.flight_zeros.Zeros.{ReadZero}
 use Rattle.first_writes.specs.k_rules.View.{View}
-use Rattle.list_facts.specs.Members.{In, slice_get-push}
+use Rattle.first_writes.specs.list_facts.Members.{In, slice_get-push}
 use Rattle.posix_types.specs.declared.call.Who.{Who}
 use Rattle.first_writes.specs.posix_puts.Views.{need_of}
 use Rattle.first_writes.specs.posix_spec.Put.{Put}
@@ -27,8 +28,8 @@ use Rattle.first_writes.specs.posix_spec.State.{room}
 use Rattle.flight_reserves.specs.staging_files.declared.runs.StageFault.{StageFault}
 use Rattle.flight_reserves.specs.staging_files.declared.runs.StageRun.{StageRun}
 use Rattle.flight_reserves.specs.staging_files.GivesUp.{IsGivenBack}
-use Rattle.flight_reserves.specs.staging_files.Keeps.{has_block, Staged}
-use Rattle.flight_reserves.specs.staging_files.Reserves.{IsReserveAnswer, share}
+use Rattle.flight_reserves.specs.staging_files.Keeps.{given_to, has_block, IsStaged, Staged}
+use Rattle.flight_reserves.specs.staging_files.Reserves.{has_empty, IsLacking, IsReserveAnswer, LacksFirstWay, LacksSecondWay, share}
 use Rattle.flight_reserves.specs.world_promise.JobLaws.{needs}
 use Rattle.flight_reserves.specs.world_relinks.world_runs.Restages.{Restages}
 use Rattle.flight_reserves.specs.world_rules.Jobs.{live_claims}
@@ -62,6 +63,23 @@ run_is count old new k l taken (inr given) = record {
   generation = ap (λ (r : StageRun). r.generation) given.run_is;
   out_is = ap (λ (s : Staged). s.out) given.staged;
 }
+
+-- A staging that has one lacks none.
+lacks_none : (count : ℕ) (old new : Staged) (k l : View) (taken : StageRun) → IsStaged old → IsRun count old k new l taken → (need left : ℕ) → ¬ IsLacking count old k need left
+lacks_none count old new k l taken keeps (inl was) need left lacks = by lacks.no_first where
+  by : LacksFirstWay old k count → ⊥
+  by (inl few) = let room = was.way.room in omega (arith, few, room)
+  by (inr none) = none taken.staging taken.block was.way.place.staging was.way.place.here
+lacks_none count old new k l taken keeps (inr given) need left lacks = by lacks.no_second where
+  by : LacksSecondWay old k count → ⊥
+  by (inl few) = let room = given.way.room in omega (arith, few, room)
+  by (inr none) =
+      let place = given.way.place in
+      let some : has_empty old ≡ true =
+      list_any_at (λ n. n == 0) old.given (taken.staging - 1) 0 (omega (arith, keeps.files, place.staging.least, place.staging.most)) (eq-eqb (given_to old taken.staging) 0 place.empty)
+      in
+      let never : true ≡ false = sym some ∙ none in
+      cc
 
 pub last_in : (xs : List StageRun) (x : StageRun) → Contains (xs ++ x ∷ []) x
 last_in xs x = (length xs, omega (arith, length-append xs (x ∷ [])), get_or-append_seam xs x [] x)
@@ -144,9 +162,10 @@ module _ (k l : View) (old new : Staged) (files : Files) (who : Who) (target : T
   -- ---- it is a job
 
   pub becomes_job : (m : View) (last : Staged) (job : JobView) (blocks : List ℕ) → ReservedReadZero → FitsTarget files target (length x) → target.size ≤ most_bytes → count ≡ staged_count target.start (length x)
-      → 3 ≤ spare_in files target.ino → ReadZero k files target.ino target.size (4096 * (target.start / 4096)) → StagedAsJob l m new last files who target x taken job blocks
+      → 3 ≤ spare_in files target.ino → ReadZero k files target.ino target.size (4096 * (target.start / 4096)) → Goes k old files who target x → StagedAsJob l m new last files who target x taken job blocks
       → BecomesJob k m old last files files who target x job blocks
-  becomes_job m last job blocks reads fits small count_is spare zero staged = record {
+  becomes_job m last job blocks reads fits small count_is spare zero goes_one staged = record {
+    run = λ need left lacks. lacks_none count old new k l taken goes_one.stands.staged answer need left (subst (λ n. IsLacking n old k need left) (sym count_is) lacks);
     job_who = staged.job_is.who_is;
     blocks_are = staged.job_is.blocks_are;
     fresh = staged.job_is.fresh;

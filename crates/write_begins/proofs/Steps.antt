@@ -2,13 +2,13 @@
 use Rattle.std.specs.Prelude.{◌≡◌, ◌≤◌, ◌+◌, ℕ, true, List, [], ◌∷◌, ◌++◌, length, map, Some, Result, Ok, Err}
 use Rattle.std.specs.declared.alloc.AllocError.{AllocError}
 use Rattle.std.proofs.Common.{ap, ◌∙◌, sym, subst}
-use Rattle.pm_words.specs.declared.Cell.{Cell}
-use Rattle.pm_words.specs.Frames.{SameLent}
+use Rattle.first_writes.specs.pm_words.declared.Cell.{Cell}
+use Rattle.first_writes.specs.pm_words.Frames.{SameLent}
 use Rattle.first_writes.specs.disk_rules.Volume.{Volume}
 use Rattle.first_writes.specs.file_table.Files.{Files}
 use Rattle.first_writes.specs.k_rules.View.{View}
-use Rattle.list_facts.specs.Members.{In}
-use Rattle.write_gaps.proofs.lost_devices_proofs.Cuts.{left_through}
+use Rattle.first_writes.specs.list_facts.Members.{In}
+use Rattle.write_stages.proofs.write_gaps_proofs.lost_devices_proofs.Cuts.{left_through}
 use Rattle.posix_types.specs.declared.call.Who.{Who}
 use Rattle.first_writes.specs.posix_puts.Views.{need_of}
 use Rattle.first_writes.specs.posix_spec.Put.{Put}
@@ -63,11 +63,17 @@ pub record IsStep (k l : View) (staging : Staged) (files then : Files) (who : Wh
 lacks_alone : (count : ℕ) (s : Staged) (k : View) (cells : List Cell) (need left : ℕ) → IsLacking count s (record k { cells = cells }) need left → IsLacking count s k need left
 lacks_alone count s k cells need left is = record { no_first = is.no_first; no_second = is.no_second; need_is = is.need_is; room_is = is.room_is }
 
+lacks_with : (count : ℕ) (s : Staged) (k : View) (cells : List Cell) (need left : ℕ) → IsLacking count s k need left → IsLacking count s (record k { cells = cells }) need left
+lacks_with count s k cells need left is = record { no_first = is.no_first; no_second = is.no_second; need_is = is.need_is; room_is = is.room_is }
+
 -- What it comes to behind the step it comes to from before it.
 pub through : (k l m : View) (old new : Staged) (files then last : Files) (who : Who) (target : Target) (x : List ℕ) → IsStep k l old files then who target x → (result : Result WriteBegun AllocError)
     → IsGone l m old new then last who target x result → IsGone k m old new files last who target x result
 through k l m old new files then last who target x step (Ok (WriteBegun.Answered outcome)) is = absurd is
 through k l m old new files then last who target x step (Ok (WriteBegun.Job job blocks)) is = record {
+  run = λ need left lacks.
+      is.run need left
+      (subst (λ y. IsLacking (staged_count target.start (length x)) old y need left) (sym step.same) (lacks_with (staged_count target.start (length x)) old k l.cells need left lacks));
   job_who = is.job_who;
   blocks_are = is.blocks_are;
   fresh = is.fresh;
@@ -79,6 +85,8 @@ through k l m old new files then last who target x step (Ok (WriteBegun.Job job 
 through k l m old new files then last who target x step (Ok (WriteBegun.RoundOver need left)) is = record {
   lacks = lacks_alone (staged_count target.start (length x)) old k l.cells need left (subst (λ y. IsLacking (staged_count target.start (length x)) old y need left) step.same is.lacks);
   late = is.late;
+  same = is.same;
+  cells_alone = is.cells_alone ∙ ap (λ (y : View). record y { cells = m.cells }) step.same;
   stays = record {
     runs = is.stays.runs;
     stands = λ goes. is.stays.stands (goes_then k l old old files then who target x goes (step.onward goes));

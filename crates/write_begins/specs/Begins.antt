@@ -2,13 +2,13 @@
 use Rattle.std.specs.Prelude.{◌≡◌, ◌≢◌, ◌⊎◌, ◌<◌, ◌≤◌, ◌+◌, ◌-◌, ◌^◌, ℕ, true, false, List, [], ◌∷◌, ◌++◌, length, map, Option, Some, None, Result, Ok, Err}
 use Rattle.std.specs.declared.alloc.AllocError.{AllocError}
 use Rattle.block_counts.specs.Counts.{blocks_for}
-use Rattle.pm_words.specs.declared.Cell.{Cell}
-use Rattle.pm_words.specs.Powers.{is_on, Supply}
-use Rattle.pm_words.specs.Words.{Words}
-use Rattle.disk_places.specs.Places.{Geometry}
+use Rattle.first_writes.specs.pm_words.declared.Cell.{Cell}
+use Rattle.first_writes.specs.pm_words.Powers.{is_on, Supply}
+use Rattle.first_writes.specs.pm_words.Words.{Words}
+use Rattle.first_writes.specs.disk_places.Places.{Geometry}
 use Rattle.first_writes.specs.file_table.Files.{Files}
 use Rattle.first_writes.specs.k_rules.View.{View}
-use Rattle.write_gaps.specs.lost_devices.Left.{IsLeftOf}
+use Rattle.write_stages.specs.write_gaps.lost_devices.Left.{IsLeftOf}
 use Rattle.posix_types.specs.declared.call.Call.{Call}
 use Rattle.posix_types.specs.declared.call.Mode.{Mode}
 use Rattle.posix_types.specs.declared.call.Who.{Who}
@@ -61,13 +61,29 @@ abbrev pub IsAccepted : Who → Handle → Option ℕ → List ℕ → View → 
 IsAccepted who h at x k t staging files taken =
     (found : Found k t staging files who (call_of h at x) taken) → first (write_rows found.s who h (start_of found.s who h at) x) ≡ None
 
+-- ---- room
+
+-- The state has room for the call, but the jobs that are out leave less than it needs.
+pub record LacksBeside (s : State) (who : Who) (call : Call) (jobs : List Job) (need left : ℕ) : Type 0 where
+  pub need_is : need ≡ need_of s who call
+  pub left_is : left ≡ room s - needs s jobs
+  pub lacks : left < need
+
+-- The jobs that are out leave enough, but the staging has no room for the blocks of its plan.
+pub record LacksStaging (s : State) (who : Who) (call : Call) (jobs : List Job) (count : ℕ) (old : Staged) (k : View) (need left : ℕ) : Type 0 where
+  pub beside : (n m : ℕ) → ¬ LacksBeside s who call jobs n m
+  pub lacks : IsLacking count old k need left
+
 -- ---- it is logged
 
--- A JOB IS OUT, last of those that are out, with its entry, its blocks and the words of the call; the World stands together with
--- it, in the same state; its blocks lie in the file as its entry leaves it; and one run more is out.
+-- A JOB IS OUT, last of those that are out, with its entry, its blocks and the words of the call; the jobs that were out left what it
+-- needs, and the staging had a run for it; the World stands together with it, in the same state; its blocks lie in the file as its
+-- entry leaves it; and one run more is out.
 pub record BeginsWrite (who : Who) (h : Handle) (at : Option ℕ) (x : List ℕ) (k l : View) (t : Tables)
     (old new : Staged) (files then : Files) (taken : ℕ) (job : JobView) (blocks : List ℕ) : Type 0 where
   pub accepted : IsAccepted who h at x k t old files taken
+  pub enough : (found : Found k t old files who (call_of h at x) taken) (need left : ℕ) → ¬ LacksBeside found.s who (call_of h at x) found.stands.jobs need left
+  pub run : (found : Found k t old files who (call_of h at x) taken) (need left : ℕ) → ¬ IsLacking (staged_count (start_of found.s who h at) (length x)) old k need left
   pub job_who : job.who ≡ who
   pub blocks_are : blocks_of job.loans ≡ blocks
   pub fresh : job.lost ≡ false
@@ -86,21 +102,19 @@ pub record StaysStanding (who : Who) (call : Call) (k l : View) (t : Tables) (ol
   pub runs : length new.out ≡ length old.out
   pub stands : (found : Found k t old files who call taken) → StandsAt found.g l t (with_parts found.kept new then) true found.n found.s
 
--- The state has room for the call, but the jobs that are out leave less than it needs.
-pub record LacksBeside (s : State) (who : Who) (call : Call) (jobs : List Job) (need left : ℕ) : Type 0 where
-  pub need_is : need ≡ need_of s who call
-  pub left_is : left ≡ room s - needs s jobs
-  pub lacks : left < need
-
 -- THE ROUND IS OVER for want of space, and these two numbers say why: what the call needs and what the jobs that are out leave; or
--- what the staging needs free for the blocks of its plan, and has. Some run is out: of a job, or of an earlier write of this lap.
+-- what the staging needs free for the blocks of its plan, and has. Some run is out: of a job, or of an earlier write of this lap. The
+-- staging is as it was, and of K-Split only cells differ; none, where only the jobs that are out are the cause.
 pub record EndsRound (who : Who) (h : Handle) (at : Option ℕ) (x : List ℕ) (k l : View) (t : Tables)
     (old new : Staged) (files then : Files) (taken need left : ℕ) : Type 0 where
   pub accepted : IsAccepted who h at x k t old files taken
   pub cause : (found : Found k t old files who (call_of h at x) taken)
       → LacksBeside found.s who (call_of h at x) found.stands.jobs need left
-      ⊎ IsLacking (staged_count (start_of found.s who h at) (length x)) old k need left
+      ⊎ LacksStaging found.s who (call_of h at x) found.stands.jobs (staged_count (start_of found.s who h at) (length x)) old k need left
   pub late : old.out ≢ []
+  pub same : new ≡ old
+  pub cells_alone : l ≡ record k { cells = l.cells }
+  pub nothing : (found : Found k t old files who (call_of h at x) taken) → LacksBeside found.s who (call_of h at x) found.stands.jobs need left → l ≡ k
   pub stays : StaysStanding who (call_of h at x) k l t old new files then taken
 
 -- ---- the power

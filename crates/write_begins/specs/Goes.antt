@@ -1,17 +1,17 @@
 -- A write that no row refuses, and that finds room beside the jobs that are out, on its way.
 use Rattle.std.specs.Prelude.{◌≡◌, ◌≢◌, ◌≤◌, ◌<◌, ◌+◌, ◌^◌, ℕ, true, false, List, [], ◌∷◌, ◌++◌, length, map, Option, Some, Result, Ok, Err}
 use Rattle.std.specs.declared.alloc.AllocError.{AllocError}
-use Rattle.pm_words.specs.declared.Cell.{Cell}
-use Rattle.pm_words.specs.Words.{Words}
+use Rattle.first_writes.specs.pm_words.declared.Cell.{Cell}
+use Rattle.first_writes.specs.pm_words.Words.{Words}
 use Rattle.block_counts.specs.Counts.{blocks_for}
-use Rattle.disk_lines.specs.declared.Kind.TheVariants.{File}
-use Rattle.disk_places.specs.Places.{data_blocks, Geometry}
+use Rattle.first_writes.specs.disk_lines.declared.Kind.TheVariants.{File}
+use Rattle.first_writes.specs.disk_places.Places.{data_blocks, Geometry}
 use Rattle.first_writes.specs.disk_rules.Volume.{extents, inode, Volume}
 use Rattle.first_writes.specs.file_ends.Ends.{FilesEnd}
 use Rattle.first_writes.specs.file_table.Files.{Files, runs_in, size_in}
 use Rattle.first_writes.specs.k_rules.View.{View}
-use Rattle.list_facts.specs.Members.{In}
-use Rattle.write_gaps.specs.lost_devices.Left.{IsLeftOf}
+use Rattle.first_writes.specs.list_facts.Members.{In}
+use Rattle.write_stages.specs.write_gaps.lost_devices.Left.{IsLeftOf}
 use Rattle.posix_types.specs.declared.call.Call.{Call}
 use Rattle.posix_types.specs.declared.call.Mode.{Mode}
 use Rattle.posix_types.specs.declared.call.Who.{Who}
@@ -87,6 +87,7 @@ pub record KeepsMaps (v w : Volume) (files then : Files) : Type 0 where
 
 -- IT IS A JOB.
 pub record BecomesJob (k l : View) (old new : Staged) (files then : Files) (who : Who) (target : Target) (x : List ℕ) (job : JobView) (blocks : List ℕ) : Type 0 where
+  pub run : (need left : ℕ) → ¬ IsLacking (staged_count target.start (length x)) old k need left
   pub job_who : job.who ≡ who
   pub blocks_are : blocks_of job.loans ≡ blocks
   pub fresh : job.lost ≡ false
@@ -101,10 +102,12 @@ pub record GoesNoFurther (k l : View) (old new : Staged) (files then : Files) (w
   pub runs : length new.out ≡ length old.out
   pub stands : (goes : Goes k old files who target x) → StandsAt goes.g l goes.t (with_parts goes.kept new then) true goes.n goes.s
 
--- the staging has no run for it, and one at least is out
+-- the staging has no run for it, and one at least is out; only cells differ
 pub record LacksRun (k l : View) (old new : Staged) (files then : Files) (who : Who) (target : Target) (x : List ℕ) (need left : ℕ) : Type 0 where
   pub lacks : IsLacking (staged_count target.start (length x)) old k need left
   pub late : old.out ≢ []
+  pub same : new ≡ old
+  pub cells_alone : l ≡ record k { cells = l.cells }
   pub stays : GoesNoFurther k l old new files then who target x
 
 -- the power went

@@ -11,3 +11,11 @@ pub use Rattle.first_writes.specs.posix_facts as posix_facts
 pub use Rattle.first_writes.specs.posix_puts as posix_puts
 pub use Rattle.first_writes.specs.posix_spec as posix_spec
 pub use Rattle.first_writes.specs.write_jobs as write_jobs
+pub use Rattle.block_counts.specs as block_counts
+pub use Rattle.first_writes.specs.disk_lines as disk_lines
+pub use Rattle.first_writes.specs.disk_places as disk_places
+pub use Rattle.first_writes.specs.extent_words as extent_words
+pub use Rattle.first_writes.specs.list_facts as list_facts
+pub use Rattle.pm_lines.specs.pm_words as pm_words
+pub use Rattle.posix_types.specs as posix_types
+pub use Rattle.posix_words.specs as posix_words

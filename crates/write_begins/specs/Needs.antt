@@ -1,6 +1,6 @@
 -- What calls need, by the tables of open files and what is kept of files.
 use Rattle.std.specs.Prelude.{◌≡◌, ◌+◌, ◌&&◌, nat_le, if◌then◌else◌, ℕ, Bool, length, Option, None, Some, sum_by}
-use Rattle.disk_places.specs.Places.{Geometry}
+use Rattle.first_writes.specs.disk_places.Places.{Geometry}
 use Rattle.first_writes.specs.file_table.Files.{Files}
 use Rattle.first_writes.specs.k_rules.View.{View}
 use Rattle.write_stages.specs.open_files.declared.opened.Opened.{Opened}

@@ -1,22 +1,20 @@
 //! A write begins.
 ghost use Rattle.std.specs.Prelude.{◌≡◌, ◌^◌, true};
-ghost use Rattle.pm_words.specs.Powers.{is_on, Steps};
+ghost use Rattle.first_writes.specs.pm_words.Powers.{is_on, Steps};
 ghost use Rattle.first_writes.specs.file_ends.Ends.{FilesEnd};
 ghost use Rattle.write_stages.specs.write_asks.Laws.{call_of};
 ghost use Rattle.write_begins.specs.Begins.{Found, IsBegun, IsPaid};
 ghost use Rattle.write_begins.specs.Goes.{KeepsMaps};
 
 use crate::rooms::begin_target;
-use first_writes::file_table::FileTable;
-use first_writes::write_jobs::Job;
-use flight_reserves::k_split::KSplit;
-use flight_reserves::staging_files::Staging;
+use first_writes::{FileTable, Job};
+use flight_reserves::{KSplit, Staging};
 use pm_lines::Power;
 use posix_types::{Data, Handle, Outcome, Who};
 use std::alloc::{AllocError, Global};
-use write_stages::open_files::OpenFiles;
-use write_stages::write_asks::{Asked, ask, numbers_are_those_of_the_state};
-use write_stages::write_drafts::kept_numbers_are_those_of_the_state;
+use write_stages::{
+    Asked, OpenFiles, ask, kept_numbers_are_those_of_the_state, numbers_are_those_of_the_state,
+};
 
 /// How a write began.
 #[derive(Debug, Drop)]
@@ -37,7 +35,7 @@ pub enum WriteBegun {
 ///
 /// It answers in this order: by the row of the call that fits; RoundOver where only the jobs that are out leave
 /// too little; PowerLost where the power goes while it makes room; RoundOver where the staging has no run; else
-/// a job. RoundOver comes only where some run is out.
+/// a job. RoundOver comes only where some run is out, and leaves the staging as it was.
 ///
 /// # Errors
 ///

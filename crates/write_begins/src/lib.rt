@@ -4,9 +4,11 @@
 //! block, reserves staging blocks, reads what they are to hold already, and lends them: a job. It takes all
 //! memory of the job. The layer above may rely on this: a row that fits answers the call, and nothing changed
 //! (`IsAnsweredBy`); a write that no row refuses becomes a job, with which the World stands together
-//! (`BeginsWrite`), or ends the round for want of space, only where some run is out (`EndsRound`); where memory
-//! wants no call sees a change (`StaysStanding`); where the power goes the promise is kept (`LosesWrite`). The first
-//! write of a lap lacks no space, as nothing of a file lies past its end.
+//! (`BeginsWrite`), or ends the round for want of space (`EndsRound`). It is a job only where the jobs that are out
+//! left what it needs and the staging had a run for it; it ends the round only where one of these lacks, the jobs
+//! asked first, and only where some run is out. Where memory wants no call sees a change (`StaysStanding`); where
+//! the power goes the promise is kept (`LosesWrite`). The first write of a lap lacks no space, as nothing of a file
+//! lies past its end.
 //! `need_of` says what a call needs; the needs of the jobs that are out are those of their calls (`JobsNeed`).
 //!
 //! Stands on `write_asks`, `write_gaps`, `write_stages` and the laws of `flight_reserves` and `first_writes`.
@@ -14,8 +16,8 @@
 
 ghost use Rattle.write_begins.specs.Needs.{JobsNeed};
 
-use write_stages::write_asks::numbers_are_those_of_the_state;
-use write_stages::write_drafts::kept_numbers_are_those_of_the_state;
+pub use write_stages::kept_numbers_are_those_of_the_state;
+use write_stages::numbers_are_those_of_the_state;
 
 mod beginning;
 mod needs;
@@ -32,4 +34,4 @@ pub fn jobs_need_what_their_calls_do()
     kept_numbers_are_those_of_the_state();
 }
 
-pub use first_writes::write_drafts;
+pub use write_stages::judge;

@@ -3,11 +3,11 @@ ghost use Rattle.std.specs.Prelude.{◌≡◌};
 ghost use Rattle.write_stages.specs.write_asks.Asks.{HaveLines};
 ghost use Rattle.write_begins.specs.Needs.{need_by, need_through, start_from};
 
-use first_writes::file_table::FileTable;
+use first_writes::FileTable;
 use posix_types::{Call, Handle, Mode, Who};
 use posix_words::bytes::is_too_far;
 use posix_words::room::write_need;
-use write_stages::open_files::{OpenFiles, Opened};
+use write_stages::{OpenFiles, Opened};
 
 // Where a write through an open handle begins.
 fn start_of(opened: &Opened, size: u64, at: Option<u64>) -> u64

@@ -1,29 +1,22 @@
 //! Room for a write, and its job.
 ghost use Rattle.std.specs.Prelude.{◌≡◌, ◌+◌, ◌*◌, ◌≤◌, ◌^◌, true, length, Contains};
-ghost use Rattle.pm_words.specs.Powers.{is_on, Steps};
+ghost use Rattle.first_writes.specs.pm_words.Powers.{is_on, Steps};
 ghost use Rattle.first_writes.specs.file_table.Files.{size_in, spare_in};
-ghost use Rattle.write_gaps.specs.flight_zeros.Zeros.{ReadZero};
+ghost use Rattle.write_stages.specs.write_gaps.flight_zeros.Zeros.{ReadZero};
 ghost use Rattle.write_begins.specs.Begins.{IsPaid};
 ghost use Rattle.write_begins.specs.Goes.{FitsTarget, Goes, HasRoom, IsGone, IsJobBegun, KeepsMaps};
 ghost use Rattle.write_stages.specs.write_drafts.Drafts.{staged_count};
 ghost use Rattle.write_stages.specs.Stages.{Ready};
-ghost use Rattle.write_gaps.specs.Gaps.{block_start};
+ghost use Rattle.write_stages.specs.write_gaps.Gaps.{block_start};
 
 use crate::beginning::WriteBegun;
 use block_counts::blocks_for;
-use first_writes::file_table::FileTable;
-use first_writes::k_journal::Commit;
-use first_writes::the_first_write_finds_its_blocks;
-use flight_reserves::a_run_is_reserved_in_flight;
-use flight_reserves::k_split::KSplit;
-use flight_reserves::staging_files::{StageFault, StageRun, Staging};
+use first_writes::{Commit, FileTable, the_first_write_finds_its_blocks};
+use flight_reserves::{KSplit, StageFault, StageRun, Staging, a_run_is_reserved_in_flight};
 use pm_lines::Power;
 use posix_types::Who;
 use std::alloc::{AllocError, Global};
-use write_gaps::clear_gap;
-use write_gaps::flight_zeros::blocks_are_zeroed_in_flight;
-use write_stages::stage_write;
-use write_stages::write_asks::Target;
+use write_stages::{Target, blocks_are_zeroed_in_flight, clear_gap, stage_write};
 
 // How many blocks a write of `len` bytes stages.
 fn count_of(target: Target, len: usize) -> u32

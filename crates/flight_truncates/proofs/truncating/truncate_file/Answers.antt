@@ -1,11 +1,11 @@
 use Rattle.std.proofs.Common.{◌≡◌, ◌-◌, ◌≤◌, refl, ap, ◌∙◌, sym, subst}
 use Rattle.std.specs.Prelude.{None, option_map, Some}
-use Rattle.block_counts.specs.Counts.{reserve_for}
-use Rattle.disk_places.specs.Places.{data_blocks}
-use Rattle.write_drafts.specs.file_table.Files.{size_in}
+use Rattle.flight_cleans.specs.block_counts.Counts.{reserve_for}
+use Rattle.flight_cleans.specs.disk_places.Places.{data_blocks}
+use Rattle.flight_cleans.specs.write_drafts.file_table.Files.{size_in}
 use Rattle.posix_words.specs.Room.{growth}
-use Rattle.flight_names.specs.open_files.Found.{description_in}
-use Rattle.write_drafts.specs.write_rows.Rows.{truncate_row_by}
+use Rattle.flight_sizes.specs.flight_names.open_files.Found.{description_in}
+use Rattle.flight_cleans.specs.write_drafts.write_rows.Rows.{truncate_row_by}
 use Rattle.flight_truncates.specs.Truncates.{Answers}
 use Rattle.flight_truncates.proofs.Asked.{line_there, live_file, published, reserve_there}
 use Rattle.flight_truncates.proofs.Given.{given_ended, given_ends, refused_row, refused_unknown, round_ends}

@@ -1,9 +1,9 @@
 use Rattle.std.proofs.Common.{◌≡◌, ℕ, arith, sym, subst, ap, ◌∙◌, inl, inr}
 use Rattle.std.specs.Prelude.{◌==◌, ◌&&◌, not, false, slice_get, Some}
-use Rattle.posix_words.specs.Open.{same_who}
+use Rattle.open_files.specs.posix_words.Open.{same_who}
 use Rattle.std.proofs.lemmas.Bool.{cases_lt}
 use Rattle.std.proofs.lemmas.Option.{slice_get_within}
-use Rattle.list_facts.specs.Members.{In, slice_get-In}
+use Rattle.open_files.specs.list_facts.Members.{In, slice_get-In}
 use Rattle.round_facts.specs.world_standing.Standing.{Pending}
 use Rattle.round_jobs.proofs.Taking.{at_index, held, not_held, there}
 use Rattle.round_jobs.proofs.keeping.holder_of.Goals as goal

@@ -1,6 +1,6 @@
 use Rattle.std.proofs.Common.{arith}
 use Rattle.std.proofs.lemmas.Option.{slice_get_within}
-use Rattle.list_facts.specs.Members.{slice_get-In}
+use Rattle.open_files.specs.list_facts.Members.{slice_get-In}
 use Rattle.round_jobs.proofs.pending.place_of.Goals as goal
 
 pub returns-clause-none : goal.returns-clause-none

@@ -1,6 +1,6 @@
 use Rattle.std.proofs.Common.{sym, subst, ap, ◌∙◌}
 use Rattle.std.specs.Prelude.{◌≡◌, slice_get, Some, List}
-use Rattle.list_facts.specs.Members.{In, In-slice_get}
+use Rattle.open_files.specs.list_facts.Members.{In, In-slice_get}
 use Rattle.round_facts.specs.world_standing.Standing.{Pending}
 use Rattle.round_jobs.proofs.Taking.{all_left, at_index, one_taken}
 use Rattle.round_jobs.proofs.pending.take_job.Goals as goal

@@ -1,5 +1,5 @@
 use Rattle.std.proofs.Common.{Bool, cond, subst, sym}
-use Rattle.pm_words.specs.Powers.{is_on}
+use Rattle.oplog_tail.specs.pm_words.Powers.{is_on}
 use Rattle.oplog_tail.specs.declared.views.Mark.TheVariants.{Lost, Written}
 use Rattle.round_log.proofs.Storing.{persists}
 use Rattle.round_log.specs.Stores.{Persists}

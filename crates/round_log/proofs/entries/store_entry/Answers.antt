@@ -1,8 +1,8 @@
 use Rattle.std.proofs.Common.{◌≡◌, ◌∙◌, arith, subst, sym, ℕ, List}
-use Rattle.pm_words.specs.Bytes.{word_at-bytes}
-use Rattle.pm_words.specs.Powers.{is_on}
-use Rattle.pm_words.specs.PowerLaws.{Steps-then}
-use Rattle.pm_words.specs.Words.{word_at}
+use Rattle.oplog_tail.specs.pm_words.Bytes.{word_at-bytes}
+use Rattle.oplog_tail.specs.pm_words.Powers.{is_on}
+use Rattle.oplog_tail.specs.pm_words.PowerLaws.{Steps-then}
+use Rattle.oplog_tail.specs.pm_words.Words.{word_at}
 use Rattle.oplog_tail.specs.EntryLines.{entry_words}
 use Rattle.oplog_tail.proofs.EntryWords.{IsStoring, stores_more}
 use Rattle.round_log.proofs.Storing.{stored_all}

@@ -1,6 +1,6 @@
 use Rattle.std.proofs.Common.{◌≡◌}
-use Rattle.pm_words.specs.Powers.{is_on, Steps}
-use Rattle.pm_words.specs.Words.{word_at}
+use Rattle.oplog_tail.specs.pm_words.Powers.{is_on, Steps}
+use Rattle.oplog_tail.specs.pm_words.Words.{word_at}
 use Rattle.oplog_tail.proofs.EntryWords.{IsStoring}
 use Rattle.round_log.proofs.entries.store_entry.Given as goal
 

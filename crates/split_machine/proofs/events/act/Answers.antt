@@ -1,5 +1,5 @@
 use Rattle.std.proofs.Common.{Ok, subst}
-use Rattle.split_world.specs.Answers.{IsBegun}
+use Rattle.split_world.specs.world_parts.Answers.{IsBegun}
 use Rattle.split_machine.proofs.Acts.{acted_turned, ended, ended_turned, lost, returned, runs_job}
 use Rattle.split_machine.proofs.events.act.Goals as goal
 

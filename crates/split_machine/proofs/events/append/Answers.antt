@@ -1,7 +1,7 @@
 use Rattle.std.proofs.Common.{◌+◌, arith, subst}
 use Rattle.event_jobs.specs.oplog_tail.EntryLines.{entry_words}
 use Rattle.event_jobs.specs.oplog_tail.Rule.{line_at}
-use Rattle.pm_words.specs.Powers.{is_on}
+use Rattle.event_jobs.specs.pm_words.Powers.{is_on}
 use Rattle.event_jobs.specs.round_log.Stores.{HasStored}
 use Rattle.event_jobs.specs.Laws.{PersistsLine, StoresEntry}
 use Rattle.split_machine.proofs.Fills.{append_lost, finished, free, here_too, never_lost, slot_within}

@@ -1,4 +1,4 @@
-use Rattle.pm_words.specs.Powers.{Supply}
+use Rattle.event_jobs.specs.pm_words.Powers.{Supply}
 use Rattle.event_jobs.specs.event_facts.Events.{CanAct, IsLater, left_to_do}
 use Rattle.event_jobs.specs.event_facts.Paid.{IsPaid}
 use Rattle.split_machine.proofs.runs.run_script.Given as goal

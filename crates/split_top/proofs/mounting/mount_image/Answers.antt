@@ -1,7 +1,7 @@
 use Rattle.std.proofs.Common.{Err, subst}
-use Rattle.pm_words.specs.CellLaws.{single-home}
-use Rattle.pm_words.specs.Cells.{cell}
-use Rattle.pm_words.specs.Words.{word_at}
+use Rattle.command_words.specs.pm_words.CellLaws.{single-home}
+use Rattle.command_words.specs.pm_words.Cells.{cell}
+use Rattle.command_words.specs.pm_words.Words.{word_at}
 use Rattle.split_machine.specs.disk_rules.Rules.{geometry_of}
 use Rattle.split_machine.specs.Mounts.{IsMountAnswer, IsMounted}
 use Rattle.split_top.proofs.Mounted.{own-live, own-tree}

@@ -1,10 +1,10 @@
 use Rattle.std.proofs.Common.{◌≡◌, ◌*◌, List, length, true, sym, subst, ◌∙◌, ap}
 use Rattle.std.proofs.Math.Path.{fun_ext}
-use Rattle.pm_words.specs.declared.Cell.{Cell}
-use Rattle.pm_words.specs.CellLaws.{single-home}
-use Rattle.pm_words.specs.Cells.{cell, is_single, newest}
-use Rattle.pm_words.specs.Images.{words_of}
-use Rattle.pm_words.specs.Words.{word_at}
+use Rattle.command_words.specs.pm_words.declared.Cell.{Cell}
+use Rattle.command_words.specs.pm_words.CellLaws.{single-home}
+use Rattle.command_words.specs.pm_words.Cells.{cell, is_single, newest}
+use Rattle.command_words.specs.pm_words.Images.{words_of}
+use Rattle.command_words.specs.pm_words.Words.{word_at}
 use Rattle.split_top.proofs.Mounted.{kept-mounted, kept-numbers}
 use Rattle.split_top.proofs.Remounts.{left-found, left-numbers, left-opens, left-permitted}
 use Rattle.split_top.proofs.runs.left_on.Goals as goal

@@ -1,5 +1,5 @@
 use Rattle.std.proofs.Common.{Err, subst}
-use Rattle.pm_words.specs.Words.{word_at}
+use Rattle.command_words.specs.pm_words.Words.{word_at}
 use Rattle.split_machine.specs.disk_rules.Rules.{geometry_of}
 use Rattle.posix_types.specs.declared.call.Mode.{Mode}
 use Rattle.split_machine.specs.round_views.Starts.{BeginsMounted}

@@ -1,5 +1,5 @@
 use Rattle.std.proofs.Common.{◌≡◌, ◌∙◌, true, length, ap, refl, subst, sym}
-use Rattle.disk_places.specs.Places.{data_blocks}
+use Rattle.first_writes.specs.disk_places.Places.{data_blocks}
 use Rattle.write_stages.specs.write_asks.declared.asking.Asked.{Asked}
 use Rattle.write_stages.specs.write_asks.Asks.{IsAsked}
 use Rattle.write_stages.specs.Stages.{with_parts}

@@ -1,9 +1,9 @@
 use Rattle.std.proofs.Common.{◌∙◌, ℕ, List, length, ap, subst, sym, refl}
 use Rattle.std.specs.Prelude.{Ok, slice_index}
-use Rattle.write_gaps.specs.Gaps.{block_start}
+use Rattle.write_stages.specs.write_gaps.Gaps.{block_start}
 use Rattle.write_begins.specs.declared.beginning.WriteBegun.{WriteBegun}
 use Rattle.first_writes.specs.k_rules.View.{View}
-use Rattle.write_gaps.specs.flight_zeros.Zeros.{ReadZero}
+use Rattle.write_stages.specs.write_gaps.flight_zeros.Zeros.{ReadZero}
 use Rattle.write_begins.specs.Goes.{Goes, HasRoom, KeepsMaps}
 use Rattle.write_begins.proofs.Cleared.{maps_then}
 use Rattle.write_begins.proofs.Clearing.{cleared_lost, cleared_step, has_file, room_spared, spare_step, spared, SparesOthers}

@@ -1,9 +1,9 @@
 use Rattle.std.proofs.Common.{ap, sym, subst}
-use Rattle.round_starts.specs.round_views.Losses.{MayCrash}
-use Rattle.round_starts.specs.round_views.Rounds.{IsLeft}
-use Rattle.round_starts.specs.round_views.Views.{WorldView}
-use Rattle.split_world.specs.Seen.{seen}
-use Rattle.split_world.proofs.Settles.{left_lost, may_lost}
+use Rattle.world_begins.specs.world_parts.round_views.Losses.{MayCrash}
+use Rattle.world_begins.specs.world_parts.round_views.Rounds.{IsLeft}
+use Rattle.world_begins.specs.world_parts.round_views.Views.{WorldView}
+use Rattle.world_begins.specs.world_parts.Seen.{seen}
+use Rattle.world_rounds.proofs.Settles.{left_lost, may_lost}
 use Rattle.split_world.proofs.world.World.crash.Goals as goal
 
 pub crash_lost-requires-clause-may : goal.crash_lost-requires-clause-may

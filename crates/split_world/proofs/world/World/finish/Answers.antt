@@ -1,10 +1,10 @@
-use Rattle.std.proofs.Common.{◌≡◌, ◌∙◌, ap, sym, subst}
-use Rattle.round_puts.specs.round_jobs.world_standing.Standing.{Pending}
-use Rattle.round_starts.specs.round_views.Begins.{IsFilledOut}
-use Rattle.round_starts.specs.round_views.Jobs.{Finishes, IsOfWorld, LosesFinish}
-use Rattle.round_starts.specs.round_views.Views.{WorldView}
-use Rattle.split_world.specs.Seen.{seen}
-use Rattle.split_world.proofs.Lost.{loses_first, out_lost}
+use Rattle.std.proofs.Common.{◌∙◌, ap, sym, subst}
+use Rattle.world_begins.specs.world_parts.round_jobs.world_standing.Standing.{Pending}
+use Rattle.world_begins.specs.world_parts.round_views.Begins.{IsFilledOut}
+use Rattle.world_begins.specs.world_parts.round_views.Jobs.{Finishes, IsOfWorld, LosesFinish}
+use Rattle.world_begins.specs.world_parts.round_views.Views.{WorldView}
+use Rattle.world_begins.specs.world_parts.Seen.{seen}
+use Rattle.world_rounds.proofs.world_ends_proofs.Lost.{loses_first, out_lost}
 use Rattle.split_world.proofs.world.World.finish.Goals as goal
 
 pub returns-then-self-clause-finished : goal.returns-then-self-clause-finished

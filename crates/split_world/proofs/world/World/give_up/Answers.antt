@@ -1,9 +1,9 @@
 use Rattle.std.proofs.Common.{subst}
-use Rattle.round_puts.specs.round_jobs.world_standing.Standing.{Pending}
-use Rattle.round_starts.specs.round_views.Begins.{IsFilledOut}
-use Rattle.round_starts.specs.round_views.Jobs.{GivesUp}
-use Rattle.round_starts.specs.round_views.Views.{WorldView}
-use Rattle.split_world.specs.Seen.{seen}
+use Rattle.world_begins.specs.world_parts.round_jobs.world_standing.Standing.{Pending}
+use Rattle.world_begins.specs.world_parts.round_views.Begins.{IsFilledOut}
+use Rattle.world_begins.specs.world_parts.round_views.Jobs.{GivesUp}
+use Rattle.world_begins.specs.world_parts.round_views.Views.{WorldView}
+use Rattle.world_begins.specs.world_parts.Seen.{seen}
 use Rattle.split_world.proofs.world.World.give_up.Goals as goal
 
 pub returns-then-self : goal.returns-then-self

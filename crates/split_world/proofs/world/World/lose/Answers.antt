@@ -1,4 +1,4 @@
-use Rattle.split_world.proofs.Lost.{lost_kept}
+use Rattle.world_begins.proofs.world_parts_proofs.Losing.{lost_kept}
 use Rattle.split_world.proofs.world.World.lose.Goals as goal
 
 pub invariant_of-self : goal.invariant_of-self

@@ -1,4 +1,4 @@
-use Rattle.pm_words.specs.Images.{words_of}
+use Rattle.round_starts.specs.pm_words.Images.{words_of}
 use Rattle.round_starts.specs.disk_rules.Rules.{geometry_of}
 use Rattle.split_world.proofs.world.World.mount.Goals as goal
 

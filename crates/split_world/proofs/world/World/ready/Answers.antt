@@ -1,6 +1,6 @@
 use Rattle.std.proofs.Common.{subst}
-use Rattle.round_starts.specs.round_views.Views.{WorldView}
-use Rattle.split_world.specs.Answers.{IsReady}
+use Rattle.world_begins.specs.world_parts.round_views.Views.{WorldView}
+use Rattle.world_begins.specs.world_parts.Answers.{IsReady}
 use Rattle.split_world.proofs.world.World.ready.Goals as goal
 
 pub returns : goal.returns

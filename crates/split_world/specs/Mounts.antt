@@ -1,0 +1,18 @@
+-- What `mount` answers.
+use Rattle.std.specs.Prelude.{◌≡◌, ◌*◌, true, List, length, Result, Ok, Err}
+use Rattle.round_starts.specs.pm_words.declared.Cell.{Cell}
+use Rattle.round_starts.specs.pm_words.Images.{words_of}
+use Rattle.round_starts.specs.pm_words.Powers.{is_on, Supply}
+use Rattle.round_starts.specs.disk_rules.Rules.{geometry_of, IsChecked}
+use Rattle.posix_types.specs.declared.call.Mode.{Mode}
+use Rattle.posix_types.specs.Scripts.{Scripts}
+use Rattle.round_starts.specs.log_mount.declared.faults.MountFault.{MountFault}
+use Rattle.round_starts.specs.log_mount.Mounts.{IsMountAnswer}
+use Rattle.world_begins.specs.world_parts.round_views.Starts.{BeginsMounted}
+use Rattle.world_begins.specs.world_parts.round_views.Views.{WorldView}
+
+-- WHAT `mount` ANSWERS of a device: the World begins on its image, which is checked, and power is left; or why it is not mounted.
+abbrev pub IsWorldAnswer : List Cell → Mode → Scripts → Supply → Supply → Result WorldView MountFault → Type 0
+IsWorldAnswer pm mode scripts before after (Ok w) =
+    IsChecked (8 * length pm) (words_of pm) × BeginsMounted (geometry_of (words_of pm)) (words_of pm) mode scripts w × (is_on after ≡ true)
+IsWorldAnswer pm mode scripts before after (Err fault) = IsMountAnswer pm before after (Err fault)

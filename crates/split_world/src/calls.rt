@@ -1,0 +1,105 @@
+//! The calls of a World: whether one may begin, how it begins, and how its job ends.
+ghost use Rattle.std.specs.Prelude.{◌≡◌, ◌≤◌, ◌<◌, true};
+ghost use Rattle.round_starts.specs.pm_words.Powers.{Steps};
+ghost use Rattle.round_starts.specs.posix_spec.Scripted.{IsSetUp};
+ghost use Rattle.world_begins.specs.world_parts.Answers.{IsBegun, IsFinished, IsReady};
+ghost use Rattle.world_begins.specs.world_parts.round_jobs.script_calls.Costs.{most_of};
+ghost use Rattle.world_begins.specs.world_parts.round_jobs.world_standing.Standing as standing;
+ghost use Rattle.world_begins.specs.world_parts.round_views.Begins.{IsFilledOut};
+ghost use Rattle.world_begins.specs.world_parts.round_views.Jobs.{GivesUp, IsOfWorld};
+ghost use Rattle.world_begins.specs.world_parts.round_views.Views.{next_of, HasNone};
+
+use crate::world::World;
+use pm_lines::Power;
+use posix_types::Who;
+use round_starts::{FilledJob, Full};
+use std::alloc::Global;
+use world_begins::{Begun, Finished, NoMemory, Ready, begin_next, ready_of};
+use world_rounds::{finish_off, finish_on, give_up_off, give_up_on, lose_one};
+
+impl World {
+    /// Whether a caller can begin its next call, while the log's lines are out. It looks, in this order, at its job,
+    /// its script, the round and the jobs of others; once the power went no call waits, since each answers
+    /// PowerLost.
+    pub fn ready(&self, who: Who) -> Ready
+        requires usable { self.now.usable ≡ true }
+        requires out { self.now.lines_out ≡ true }
+        ensures { IsReady self.now who result }
+    {
+        ready_of(&self.parts, who)
+    }
+
+    /// Begins the next call of a caller. The log's lines are out, the caller has no job out, and the set-up is done
+    /// before a thread begins.
+    ///
+    /// It answers, in this order: PowerLost; ScriptEnd; RoundOver where the round is over already; Busy; and else
+    /// how the call went. A logged call becomes a job, or ends the round where only jobs that are out or runs of
+    /// this lap leave too few blocks; a `truncate` that lengthens may end it too, where only jobs that are out leave
+    /// too few. A call that ends the round leaves the open files and the staging as they were; a write only cells of the
+    /// device differ, a `truncate` may have published its file. All memory of a job is taken here.
+    ///
+    /// # Errors
+    ///
+    /// Want of memory: no call sees a change. Nothing was done, or the World is only to be dropped.
+    ///
+    /// # Steps
+    ///
+    /// At most 2^26 where the call may move data, and else 512; none where it answers Busy, ScriptEnd or the
+    /// RoundOver of a round that is over.
+    pub fn begin(&mut self, alloc: Global, who: Who, power: &mut Power) -> Result<Begun, NoMemory>
+        requires usable { self.old.usable ≡ true }
+        requires out { self.old.lines_out ≡ true }
+        requires none { HasNone self.old who }
+        requires set_up { IsSetUp self.old.scripts self.old.history who }
+        ensures steps { Steps (most_of (next_of self.old who)) power.old power.new }
+        ensures begun { IsBegun who self.old self.new power.old power.new result }
+    {
+        if self.parts.lost {
+            return Ok(Begun::PowerLost);
+        }
+        begin_next(&mut self.parts, alloc, who, power)
+    }
+
+    /// Finishes a job whose entry stands in the slot of the log: its call has acted, and its item stands at the end of
+    /// the history. The job is one of this World, out, and the slot one that it claimed. It takes no memory and no
+    /// step.
+    ///
+    /// `PowerLost` comes exactly where the power is off, or was lost: the claim counts, and the call stays unfinished.
+    pub fn finish(&mut self, job: FilledJob, slot: u32, power: &mut Power) -> Finished
+        requires usable { self.old.usable ≡ true }
+        requires out { self.old.lines_out ≡ true }
+        requires job { IsOfWorld self.old job }
+        requires slot { slot < self.old.geometry.log }
+        ensures spared { power.new ≡ power.old }
+        ensures finished { IsFinished job slot self.old self.new power.new result }
+    {
+        if self.parts.lost {
+            finish_off(&mut self.parts, job, slot);
+            return Finished::PowerLost;
+        }
+        if !power.on() {
+            lose_one(&mut self.parts);
+            finish_off(&mut self.parts, job, slot);
+            return Finished::PowerLost;
+        }
+        finish_on(&mut self.parts, job, slot);
+        Finished::Done
+    }
+
+    /// Gives a job up whose claim found no line left: its call is back at its start, and the round is over, with what
+    /// ended it first. It takes no memory and no step. Once the power went the call stays unfinished.
+    pub fn give_up(&mut self, job: FilledJob, full: Full)
+        requires usable { self.old.usable ≡ true }
+        requires out { self.old.lines_out ≡ true }
+        requires job { IsOfWorld self.old job }
+        requires full { full.capacity ≤ full.claimed }
+        requires capacity { full.capacity ≡ self.old.geometry.log }
+        ensures given { (p : standing.Pending) → IsFilledOut self.old p job → GivesUp full p self.old self.new }
+    {
+        if self.parts.lost {
+            give_up_off(&mut self.parts, job, full);
+            return;
+        }
+        give_up_on(&mut self.parts, job, full);
+    }
+}

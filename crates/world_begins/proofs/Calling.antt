@@ -1,0 +1,137 @@
+-- A call that is not logged, at the parts of a World.
+use Rattle.std.specs.Prelude.{◌≡◌, ◌+◌, ℕ, true, false, length, Some, sum_by, refl}
+use Rattle.std.proofs.Common.{ap, ◌∙◌, sym, subst, inl}
+use Rattle.world_turns.specs.pm_words.Powers.{is_on, Supply}
+use Rattle.world_turns.specs.file_table.Files.{Files}
+use Rattle.world_turns.specs.k_rules.View.{View}
+use Rattle.posix_types.specs.declared.call.Call.{Call}
+use Rattle.posix_types.specs.declared.call.Who.{Who}
+use Rattle.posix_types.specs.declared.handle.Handle.{Handle}
+use Rattle.posix_types.specs.declared.item.Outcome.{Outcome}
+use Rattle.world_turns.specs.round_calls.flight_truncates.Truncates as truncates
+use Rattle.world_turns.proofs.round_calls_proofs.Running.{built_beside, built_unlogged, call_loses, call_lost, item_with_outcome, ran, returns, spent_by, stands_by}
+use Rattle.world_turns.proofs.round_calls_proofs.Staying.{going_now, stands_now, strict_now}
+use Rattle.world_turns.proofs.round_calls_proofs.Truncating.{truncate_ends_round, truncate_enough, truncate_loses, truncate_lost, truncate_over, truncate_stands, truncate_unlogged}
+use Rattle.world_turns.specs.world_parts.round_jobs.world_standing.Standing.{Pending, StandsAt}
+use Rattle.world_turns.specs.world_parts.round_jobs.world_standing.world_promise.JobLaws.{needs}
+use Rattle.world_turns.specs.write_begins.Needs.{JobsNeed, need_by}
+use Rattle.world_turns.specs.world_parts.round_views.declared.over.Over.{Over}
+use Rattle.world_turns.specs.world_parts.round_views.Begins.{EndsRound, LosesCall, Publishes, Returns}
+use Rattle.world_turns.specs.world_parts.round_views.file_ends.Ends.{FilesEnd}
+use Rattle.world_turns.specs.world_parts.round_views.flight_calls.Built.{IsBuilt}
+use Rattle.world_turns.specs.world_parts.round_views.flight_names.Answers.{Answers, IsSpent, KeepsEnds, LeavesDevice, Loses}
+use Rattle.world_turns.specs.world_parts.round_views.Views.{Disk, disk_of, kept_of, state_of, WorldView}
+use Rattle.world_turns.specs.world_parts.declared.parts.Parts.{Parts}
+use Rattle.world_turns.specs.world_parts.Adds.{IsAdded}
+use Rattle.world_turns.specs.world_parts.Seen.{IsKept, seen}
+use Rattle.world_turns.specs.Turns.{IsTurn}
+use Rattle.world_turns.proofs.Turning.{off_kept, off_seen, over_kept, over_seen, returned_kept, returned_seen}
+
+-- what it publishes is said of what stands below alone
+published_then : (who : Who) (call : Call) (old new then : WorldView) → then.disk ≡ new.disk → Publishes who call old new → Publishes who call old then
+published_then who (Call.Fsync h) old new then disk published = subst (λ (e : Disk). Publishes who (Call.Fsync h) old (record new { disk = e })) (sym disk) published
+published_then who (Call.Mkdir p) old new then disk published = tt
+published_then who (Call.Rmdir p) old new then disk published = tt
+published_then who (Call.Unlink p) old new then disk published = tt
+published_then who (Call.Rename p q) old new then disk published = tt
+published_then who (Call.Open h p f) old new then disk published = tt
+published_then who (Call.Close h) old new then disk published = tt
+published_then who (Call.Dup h to) old new then disk published = tt
+published_then who (Call.Read h n) old new then disk published = tt
+published_then who (Call.Pread h o n) old new then disk published = tt
+published_then who (Call.Write h x) old new then disk published = tt
+published_then who (Call.Pwrite h o x) old new then disk published = tt
+published_then who (Call.Seek h w by) old new then disk published = tt
+published_then who (Call.Truncate h n) old new then disk published = tt
+published_then who (Call.Stat p) old new then disk published = tt
+published_then who (Call.List p) old new then disk published = tt
+
+module _ (p : Parts) (who : Who) (call : Call) (turn : IsTurn p who call) where
+  abbrev going_ends : FilesEnd p.k.volume p.data
+  going_ends = (going_now p.k p.files.tables p.staging p.data (seen p) who call turn.calls).ends
+
+  module _ (q : Parts) (same : q ≡ record p { k = q.k; files = q.files; «data» = q.data }) where
+    abbrev m : Parts
+    m = record p { k = q.k; files = q.files; «data» = q.data }
+
+    -- IT RETURNED,
+    pub call_answered : (outcome : Outcome) → IsBuilt call → Answers who call p.k p.files.tables p.data q.k q.files.tables q.data outcome
+        → (before after : Supply) → KeepsEnds p.k p.data q.k q.data after → IsSpent who call p.k p.files.tables p.data before after
+        → Publishes who call (seen p) (record (seen p) { disk = disk_of q.k q.files.tables p.staging }) → is_on after ≡ true
+        → (r : Parts) → IsAdded who call outcome q r → IsKept r × Returns who (seen p) (seen r) before after
+    call_answered outcome built answers before after keeps spent published on r added =
+        let stood = stands_by p.k p.files.tables p.staging p.data (seen p) who call turn.calls q.k q.files.tables q.data outcome answers in
+        let item = item_with_outcome p.k p.files.tables p.staging p.data (seen p) who call turn.calls outcome stood.1 in
+        let on_m : IsAdded who call outcome m r = subst (λ (y : Parts). IsAdded who call outcome y r) same added in
+        let ends = keeps on in (
+          returned_kept p who call turn m refl r outcome item on_m (ran p.k p.files.tables p.staging p.data (seen p) who call turn.calls q.k q.files.tables q.data ends.0 (ends.1 going_ends) stood.0),
+          subst (λ (v : WorldView). Returns who (seen p) v before after) (sym (returned_seen p who call turn m refl r outcome item on_m))
+              (returns p.k p.files.tables p.staging p.data (seen p) who call turn.calls q.k q.files.tables q.data ends.0 (ends.1 going_ends) stood.0 before after (built_unlogged (state_of (seen p)) who call built) (built_beside (seen p) who call built) (published_then who call (seen p) (record (seen p) { disk = disk_of q.k q.files.tables p.staging }) _ refl published) on
+              (spent_by p.k p.files.tables p.staging p.data (seen p) who call turn.calls before after spent)),
+        )
+
+    -- or it lost its power.
+    pub call_off : Loses who call p.k p.files.tables p.data q.k → LeavesDevice who call p.k p.files.tables p.data q.k
+        → (r : Parts) → r ≡ record q { unfinished = Some (record { who = who; call = call }); acts = q.acts + 1; lost = true }
+        → (after : Supply) → is_on after ≡ false → IsKept r × LosesCall who (seen p) (seen r) after
+    call_off loses leaves r rest after off =
+        let on_m : r ≡ record m { unfinished = Some (record { who = who; call = call }); acts = m.acts + 1; lost = true } =
+        rest ∙ ap (λ (y : Parts). (let z : Parts = record y { unfinished = Some (record { who = who; call = call }); acts = y.acts + 1; lost = true } in z)) same in (
+          off_kept p who call turn m refl r on_m (call_lost p.k p.files.tables p.staging p.data (seen p) who call turn.calls q.k q.files.tables q.data loses leaves),
+          subst (λ (v : WorldView). LosesCall who (seen p) v after) (sym (off_seen p who call turn m refl r on_m))
+              (call_loses p.k p.files.tables p.staging p.data (seen p) who call turn.calls q.k q.files.tables q.data loses leaves after off),
+        )
+
+-- ---- a `truncate`
+
+module _ (p : Parts) (who : Who) (h : Handle) (size : ℕ) (turn : IsTurn p who (Call.Truncate h size)) (law : JobsNeed) (taken : ℕ)
+    (taken_is : taken ≡ sum_by (λ (q : Pending). need_by p.files.tables p.data q.who q.call) p.pending.items) (l : View) (d : Files) where
+  abbrev call : Call
+  call = Call.Truncate h size
+
+  abbrev now : StandsAt (seen p).geometry p.k p.files.tables (kept_of (seen p) p.staging p.data) true (length (seen p).history) (state_of (seen p))
+  now = stands_now p.k p.files.tables p.staging p.data (seen p) who call turn.calls
+
+  needs_them : taken ≡ needs (state_of (seen p)) now.jobs
+  needs_them = taken_is ∙ law (seen p).geometry p.k p.files.tables (kept_of (seen p) p.staging p.data) true (length (seen p).history) (state_of (seen p)) now (strict_now p.k p.files.tables p.staging p.data (seen p) who call turn.calls)
+
+  abbrev t : Parts
+  t = record p { k = l; «data» = d }
+
+  -- IT RETURNED,
+  pub truncate_answered : (outcome : Outcome) → truncates.Answers who h size taken p.k p.files.tables p.data l d outcome → (before after : Supply) → KeepsEnds p.k p.data l d after → is_on after ≡ true
+      → (r : Parts) → IsAdded who (Call.Truncate h size) outcome t r → IsKept r × Returns who (seen p) (seen r) before after
+  truncate_answered outcome answers before after keeps on r added =
+      let stood = truncate_stands p.k p.files.tables p.staging p.data (seen p) who h size turn.calls taken needs_them l d outcome answers in
+      let item = item_with_outcome p.k p.files.tables p.staging p.data (seen p) who call turn.calls outcome stood.1 in
+      let ends = keeps on in
+      let its_ends = (going_now p.k p.files.tables p.staging p.data (seen p) who call turn.calls).ends in (
+        returned_kept p who call turn t refl r outcome item added (ran p.k p.files.tables p.staging p.data (seen p) who call turn.calls l p.files.tables d ends.0 (ends.1 its_ends) stood.0),
+        subst (λ (v : WorldView). Returns who (seen p) v before after) (sym (returned_seen p who call turn t refl r outcome item added))
+            (returns p.k p.files.tables p.staging p.data (seen p) who call turn.calls l p.files.tables d ends.0 (ends.1 its_ends) stood.0 before after (truncate_unlogged (state_of (seen p)) who h size)
+            (truncate_enough p.k p.files.tables p.staging p.data (seen p) who h size turn.calls taken needs_them l d outcome answers) tt on (inl stood.2)),
+      )
+
+  -- the round is over,
+  pub truncate_ended : l ≡ p.k → d ≡ p.data → (needed left : ℕ) → truncates.EndsRound who h size taken p.k p.files.tables p.data needed left
+      → (r : Parts) → r ≡ record t { over = Some (Over.Space needed left); acts = p.acts + 1 } → (after : Supply) → is_on after ≡ true → IsKept r × EndsRound who (seen p) (seen r) after needed left
+  truncate_ended k_same d_same needed left ends r rest after on =
+      let on_p : r ≡ record p { over = Some (Over.Space needed left); acts = p.acts + 1 } =
+      rest ∙ (λ i. record p { k = k_same i; «data» = d_same i; over = Some (Over.Space needed left); acts = p.acts + 1 }) in (
+        over_kept p who call turn p refl r needed left on_p (truncate_over p.k p.files.tables p.staging p.data (seen p) who h size turn.calls taken needs_them needed left ends),
+        subst (λ (v : WorldView). EndsRound who (seen p) v after needed left) (sym (over_seen p who call turn p refl r needed left on_p))
+            (truncate_ends_round p.k p.files.tables p.staging p.data (seen p) who h size turn.calls taken needs_them needed left ends after on),
+      )
+
+  -- or it lost its power.
+  pub truncate_off : d ≡ p.data → truncates.Loses who h size taken p.k p.files.tables p.data l
+      → (r : Parts) → r ≡ record t { unfinished = Some (record { who = who; call = Call.Truncate h size }); acts = p.acts + 1; lost = true }
+      → (after : Supply) → is_on after ≡ false → IsKept r × LosesCall who (seen p) (seen r) after
+  truncate_off d_same loses r rest after off =
+      let lost : Parts = record p { k = l } in
+      let on_l : r ≡ record p { k = l; unfinished = Some (record { who = who; call = Call.Truncate h size }); acts = p.acts + 1; lost = true } =
+      rest ∙ (λ i. record p { k = l; «data» = d_same i; unfinished = Some (record { who = who; call = Call.Truncate h size }); acts = p.acts + 1; lost = true }) in (
+        off_kept p who call turn lost refl r on_l (truncate_lost p.k p.files.tables p.staging p.data (seen p) who h size turn.calls taken needs_them l loses),
+        subst (λ (v : WorldView). LosesCall who (seen p) v after) (sym (off_seen p who call turn lost refl r on_l))
+            (truncate_loses p.k p.files.tables p.staging p.data (seen p) who h size turn.calls taken needs_them l loses after off),
+      )

@@ -1,0 +1,13 @@
+pub use Rattle.world_parts.specs as world_parts
+pub use Rattle.world_parts.specs.block_bytes as block_bytes
+pub use Rattle.world_parts.specs.disk_lines as disk_lines
+pub use Rattle.world_parts.specs.disk_places as disk_places
+pub use Rattle.world_parts.specs.file_table as file_table
+pub use Rattle.world_parts.specs.k_journal as k_journal
+pub use Rattle.world_parts.specs.k_rules as k_rules
+pub use Rattle.world_parts.specs.lines_out as lines_out
+pub use Rattle.world_parts.specs.list_facts as list_facts
+pub use Rattle.world_parts.specs.log_checkpoint as log_checkpoint
+pub use Rattle.world_parts.specs.pm_words as pm_words
+pub use Rattle.world_parts.specs.posix_spec as posix_spec
+pub use Rattle.world_parts.specs.write_jobs as write_jobs

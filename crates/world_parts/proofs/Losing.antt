@@ -1,0 +1,45 @@
+-- The parts of a World lose their power.
+use Rattle.std.specs.Prelude.{◌≡◌, ◌≤◌, ◌+◌, ◌*◌, ℕ, Bool, true, false, List, [], length, slice_index, refl}
+use Rattle.std.proofs.Common.{arith, sym, subst, inl, inr}
+use Rattle.std.proofs.lemmas.Bool.{cases_Bool}
+use Rattle.std.proofs.lemmas.List.Sums.{count_by-le-length}
+use Rattle.round_turns.specs.pm_words.Cells.{cell, is_lent}
+use Rattle.round_turns.specs.posix_spec.Run.{Begun}
+use Rattle.round_turns.specs.round_jobs.world_standing.Standing.{Pending}
+use Rattle.round_turns.proofs.Ending.{no_both}
+use Rattle.round_turns.proofs.Losing.{lost_view, world_off, world_off_acted}
+use Rattle.round_turns.specs.round_views.Views.{disk_of, IsGoing, IsWorldOver, WorldView}
+use Rattle.world_parts.specs.declared.parts.Parts.{Parts}
+use Rattle.world_parts.specs.Seen.{blocks_out, IsKept, seen}
+
+module _ (p : Parts) (kept : IsKept p) (awake : p.lost ≡ false) where
+  going : IsGoing p.k p.files.tables p.staging p.data (seen p)
+  going = kept.world.going awake
+
+  pub out_within : blocks_out p.k.cells p.pending.items ≤ length p.pending.items
+  out_within = count_by-le-length (λ (q : Pending). is_lent (cell p.k.cells (512 * slice_index q.blocks 0))) p.pending.items
+
+  lost_at : (acts : ℕ) → IsWorldOver p.k p.files.tables p.staging p.data (lost_view (seen p) [] acts (disk_of p.k p.files.tables p.staging)) → IsKept (record p { acts = acts; lost = true })
+  lost_at acts world = record {
+    world = subst (λ (u : List Begun). (let v : WorldView = record (seen p) { unfinished = u; acts = acts; lost = true } in IsWorldOver p.k p.files.tables p.staging p.data v)) (sym going.none_unfinished) world;
+    counts = kept.counts;
+    room = record {
+      items = λ on. no_both true refl on _;
+      claims_on = λ on. no_both true refl on _;
+      claims_off = λ off out. omega (arith, kept.room.claims_on awake, out_within);
+      empty = kept.room.empty;
+      calls = kept.room.calls;
+    };
+  }
+
+  pub lost_one : IsKept (record p { acts = p.acts + 1; lost = true })
+  lost_one = lost_at (p.acts + 1) (world_off_acted p.k p.files.tables p.staging p.data (seen p) kept.world awake)
+
+  pub lost_none : IsKept (record p { lost = true })
+  lost_none = lost_at p.acts (world_off p.k p.files.tables p.staging p.data (seen p) kept.world awake)
+
+pub lost_kept : (p : Parts) → IsKept p → IsKept (record p { lost = true })
+lost_kept p kept = elim (cases_Bool p.lost) [
+  | inl off ↦ subst (λ (b : Bool). IsKept (record p { lost = b })) off kept
+  | inr on ↦ lost_none p kept on
+]

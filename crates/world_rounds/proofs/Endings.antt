@@ -1,0 +1,20 @@
+-- The end of a run.
+use Rattle.std.specs.Prelude.{◌≡◌, ◌≤◌, ◌+◌, false, List, length}
+use Rattle.std.specs.Vec.{vec_capacity}
+use Rattle.std.proofs.Common.{arith, ap, sym, subst}
+use Rattle.world_ends.specs.pm_words.declared.Cell.{Cell}
+use Rattle.world_ends.specs.k_rules.View.{View}
+use Rattle.world_ends.specs.posix_spec.Run.{Begun}
+use Rattle.world_ends.specs.world_parts.round_views.Rounds.{IsLeft}
+use Rattle.world_ends.specs.world_parts.declared.parts.Parts.{Parts}
+use Rattle.world_ends.specs.world_parts.Seen.{IsKept, seen, unfinished_of}
+
+-- there is room for the calls that had begun
+pub calls_room : (p : Parts) → IsKept p → p.lost ≡ false → length p.pending.items + length (unfinished_of p.unfinished) ≤ vec_capacity p.spare
+calls_room p kept on =
+    let none : length (unfinished_of p.unfinished) ≡ 0 = ap (λ xs. length xs) (kept.world.going on).none_unfinished in
+    omega (arith, none, kept.room.calls)
+
+-- what is left, by the device that was taken out
+pub left_by : (p : Parts) (m : View) (pm : List Cell) (unfinished : List Begun) → pm ≡ m.cells → IsLeft (seen p) m.cells p.history.items unfinished → IsLeft (seen p) pm p.history.items unfinished
+left_by p m pm unfinished same left = subst (λ (d : List Cell). IsLeft (seen p) d p.history.items unfinished) (sym same) left

@@ -1,7 +1,7 @@
 //! What a mode permits, by its definition: every list of calls that may be kept, and every byte that may
 //! be found, one by one. It is for a history and one unfinished call over files of a few bytes.
 use crate::cuts::Cut;
-use crash_judge::posix_spec::{Call, Data, Item, Mode, Put, Reply, State, Tree, Who};
+use crash_judge::{Call, Data, Item, Mode, Put, Reply, State, Tree, Who};
 use posix_words::nodes::{Node, bytes_at};
 use std::alloc::{AllocError, Global};
 

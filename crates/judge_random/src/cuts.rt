@@ -1,6 +1,5 @@
 //! A file system with the history that led to its state and one unfinished call, and what the judge says.
-use crash_judge::judge;
-use crash_judge::posix_spec::{Call, Item, Mode, State, Tree, Who, default_shape, root_alone};
+use crash_judge::{Call, Item, Mode, State, Tree, Who, default_shape, judge, root_alone};
 use std::alloc::{AllocError, Global};
 
 // What was done on a fresh file system by thread 0, and the call that began.

@@ -1,7 +1,7 @@
 //! Numbers, calls and changes of trees, drawn from a seed.
 ghost use Rattle.std.specs.Prelude.{◌<◌};
 
-use crash_judge::posix_spec::{Call, Data, Flags, Handle, Name, Path, Tree, TreeNode};
+use crash_judge::{Call, Data, Flags, Handle, Name, Path, Tree, TreeNode};
 use rand_core::{Rng, SeedableRng};
 use rand_xoshiro::SplitMix64;
 use std::alloc::{AllocError, Global};

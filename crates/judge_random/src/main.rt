@@ -16,7 +16,7 @@ mod draws;
 mod random;
 
 use crate::random::{CALLS, SCRIPTS, judge_scripts};
-use crash_judge::posix_spec::Mode;
+use crash_judge::Mode;
 use std::alloc::Global;
 
 // The seed of the scripts that are drawn.

@@ -2,7 +2,7 @@
 use crate::brute::permits;
 use crate::cuts::Cut;
 use crate::draws::{Draws, call, change, mix, opening};
-use crash_judge::posix_spec::{Mode, Tree};
+use crash_judge::{Mode, Tree};
 use std::alloc::{AllocError, Global};
 
 // How many scripts are drawn in each mode, and how many calls each has.

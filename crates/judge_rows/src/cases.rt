@@ -1,8 +1,5 @@
 //! A file system with a history and unfinished calls, and what the judge says of trees.
-use crash_judge::judge;
-use crash_judge::posix_spec::{
-    Call, Item, Mode, Path, Shape, State, Tree, TreeEntry, TreeNode, Who,
-};
+use crash_judge::{Call, Item, Mode, Path, Shape, State, Tree, TreeEntry, TreeNode, Who, judge};
 use std::alloc::{AllocError, Global};
 
 // The shape of the default image.

@@ -1,5 +1,5 @@
 //! Reads a call and a tree of a row.
-use crash_judge::posix_spec::{
+use crash_judge::{
     Call, Data, Flags, Handle, Mode, Name, Path, Tree, TreeEntry, TreeNode, Whence, Who,
 };
 use std::alloc::{AllocError, Global};

@@ -1,8 +1,8 @@
 -- What a call leaves of a fresh K-Split.
 use Rattle.std.proofs.Common.{◌≡◌, ℕ, false, List, Result, Ok, Err, sym, ◌∙◌, ap, subst, inl, inr}
-use Rattle.pm_words.specs.declared.Cell.{Cell}
-use Rattle.pm_words.specs.Cells.{AllHome}
-use Rattle.pm_words.specs.Frames.{KeepsSingle, SameLent}
+use Rattle.k_check.specs.pm_words.declared.Cell.{Cell}
+use Rattle.k_check.specs.pm_words.Cells.{AllHome}
+use Rattle.k_check.specs.pm_words.Frames.{KeepsSingle, SameLent}
 use Rattle.k_check.specs.disk_rules.Volume.{Volume}
 use Rattle.k_split.specs.k_rules.View.{View}
 use Rattle.k_split.specs.declared.faults.KFault.{KFault}

@@ -1,8 +1,8 @@
 -- A device that is opened.
 use Rattle.std.proofs.Common.{false, List, subst, sym}
-use Rattle.pm_words.specs.declared.Cell.{Cell}
-use Rattle.pm_words.specs.CellLaws.{single-home}
-use Rattle.pm_words.specs.Cells.{AllHome, AllSingle, cell}
+use Rattle.k_check.specs.pm_words.declared.Cell.{Cell}
+use Rattle.k_check.specs.pm_words.CellLaws.{single-home}
+use Rattle.k_check.specs.pm_words.Cells.{AllHome, AllSingle, cell}
 use Rattle.k_check.specs.disk_rules.Volume.{Volume}
 use Rattle.k_split.specs.k_rules.View.{View}
 use Rattle.k_split.specs.Order.{IsOpened}

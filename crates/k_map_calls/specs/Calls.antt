@@ -1,6 +1,6 @@
 -- A K-Split on which a call may be made, and what a call leaves of one.
 use Rattle.std.specs.Prelude.{◌≡◌, false, Result, Ok, Err}
-use Rattle.pm_words.specs.Cells.{AllHome, AllSingle}
+use Rattle.k_check.specs.pm_words.Cells.{AllHome, AllSingle}
 use Rattle.k_split.specs.k_rules.View.{View}
 use Rattle.k_split.specs.Order.{IsInOrder}
 use Rattle.k_split.specs.declared.faults.KFault.{KFault}

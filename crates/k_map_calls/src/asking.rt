@@ -1,14 +1,13 @@
 //! What a call asks for, looked up before it is made.
 ghost use Rattle.std.specs.Prelude.{◌≡◌, ◌+◌, ◌/◌, ◌^◌, ◌<◌, ◌≤◌, ℕ, [], IsTrue, IsSome, Some};
 ghost use Rattle.k_check.specs.disk_rules.Volume.{extents, inode};
-ghost use Rattle.extent_words.specs.Extents.{disk_at};
-ghost use Rattle.extent_words.specs.Moves.{IsMapped};
+ghost use Rattle.k_check.specs.extent_words.Extents.{disk_at};
+ghost use Rattle.k_check.specs.extent_words.Moves.{IsMapped};
 ghost use Rattle.k_split.specs.k_map_plans.Plans.{IsLiveFile, IsStagingFile, MayMove};
 
 use disk_lines::Kind;
 use extent_map::ExtentMap;
-use k_split::KSplit;
-use k_split::map_rules::Move;
+use k_split::{KSplit, Move};
 
 /// Whether an inode is a file in use.
 pub fn is_file(k: &KSplit, ino: u32) -> bool

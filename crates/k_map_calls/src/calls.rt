@@ -1,6 +1,6 @@
 //! Calls on maps, each made where what it asks for is there.
 ghost use Rattle.std.specs.Prelude.{◌+◌, ◌≤◌, IsTrue, OnOk};
-ghost use Rattle.disk_places.specs.Places.{reserve};
+ghost use Rattle.k_check.specs.disk_places.Places.{reserve};
 ghost use Rattle.k_split.specs.MapChanges.{free_blocks_in};
 ghost use Rattle.k_split.specs.k_rules.View.{View};
 ghost use Rattle.k_map_calls.specs.Calls.{IsFresh, IsLeft, IsLeftBy};
@@ -9,8 +9,7 @@ use crate::asking::{
     bytes_are_there, has_block, is_bare, is_behind, is_file, is_staging, may_move,
 };
 use crate::kinds::{MapCall, Put, Reply, RunError};
-use k_split::map_rules::Move;
-use k_split::{KFault, KSplit};
+use k_split::{KFault, KSplit, Move};
 use pm_lines::Power;
 use std::alloc::Global;
 

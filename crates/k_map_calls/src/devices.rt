@@ -1,18 +1,15 @@
 //! Devices that are checked, recovered and opened.
 ghost use Rattle.std.specs.Prelude.{◌≡◌, ◌*◌, ◌%◌, ◌^◌, ◌<◌, [], ◌∷◌, true, length, IfOk, IsTrue, OnOk};
-ghost use Rattle.disk_places.specs.Places.{commit_word};
+ghost use Rattle.k_check.specs.disk_places.Places.{commit_word};
 ghost use Rattle.k_check.specs.disk_rules.Rules.{geometry_of, IsChecked};
 ghost use Rattle.k_split.specs.path_spelling.Spelling.{is_spelled};
-ghost use Rattle.pm_words.specs.Cells.{AllHome, AllSingle, cell};
-ghost use Rattle.pm_words.specs.Images.{words_of};
-ghost use Rattle.pm_words.specs.declared.Cell.{Cell};
+ghost use Rattle.k_check.specs.pm_words.Cells.{AllHome, AllSingle, cell};
+ghost use Rattle.k_check.specs.pm_words.Images.{words_of};
+ghost use Rattle.k_check.specs.pm_words.declared.Cell.{Cell};
 ghost use Rattle.k_map_calls.specs.Calls.{IsFresh};
 
 use crate::kinds::RunError;
-use k_check::image_layout::Geometry;
-use k_check::k_journal::Recovered;
-use k_check::k_journal::journal::recover;
-use k_check::{CheckFault, check};
+use k_check::{CheckFault, Geometry, Recovered, check, recover};
 use k_split::{KSplit, mkfs};
 use pm_lines::{Choice, Pm, Power};
 use posix_types::{Name, Path};

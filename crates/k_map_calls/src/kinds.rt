@@ -1,5 +1,5 @@
 //! Calls on maps, how they went, and why a run of them ended.
-use k_split::map_rules::Move;
+use k_split::Move;
 use posix_types::Room;
 use std::alloc::AllocError;
 use thiserror::Error;

@@ -4,9 +4,9 @@ ghost use Rattle.k_map_calls.specs.Calls.{IsFresh};
 
 use crate::model::{BLOCKS, Blocks, INODES, Model, ModelFile};
 use extent_map::ExtentMap;
-use k_map_calls::k_split::KSplit;
-use k_map_calls::map_rules::Move;
-use k_map_calls::{MapCall, Put, Reply, RunError, begun, block_bytes, made, reopened};
+use k_map_calls::{
+    KSplit, MapCall, Move, Put, Reply, RunError, begun, block_bytes, made, reopened,
+};
 use rand_core::{Rng, SeedableRng};
 use rand_xoshiro::SplitMix64;
 use std::alloc::Global;

@@ -3,9 +3,7 @@
 ghost use Rattle.k_map_calls.specs.Calls.{IsFresh};
 
 use block_counts::{blocks_for, chains_for};
-use k_map_calls::k_split::KSplit;
-use k_map_calls::map_rules::Move;
-use k_map_calls::{MapCall, Put, Reply, RunError, block_bytes};
+use k_map_calls::{KSplit, MapCall, Move, Put, Reply, RunError, block_bytes};
 use posix_types::{Room, What};
 use std::alloc::Global;
 use std::mem;

@@ -1,8 +1,8 @@
 -- A block that is lent.
 use Rattle.std.specs.Prelude.{◌≡◌, ℕ, ◌/◌, true, List, Option, Some, None, Result, Ok, Err}
-use Rattle.pm_words.specs.declared.Cell.{Cell}
-use Rattle.pm_words.specs.Cells.{AllHome, cell, is_lent}
-use Rattle.pm_words.specs.Parts.{Part}
+use Rattle.k_map_calls.specs.pm_words.declared.Cell.{Cell}
+use Rattle.k_map_calls.specs.pm_words.Cells.{AllHome, cell, is_lent}
+use Rattle.k_map_calls.specs.pm_words.Parts.{Part}
 use Rattle.k_map_calls.specs.declared.kinds.RunError.{RunError}
 
 -- just the words of the block are lent

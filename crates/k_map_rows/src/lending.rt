@@ -1,12 +1,11 @@
 //! A block of a staging file that is lent, stored into and settled.
 ghost use Rattle.std.specs.Prelude.{◌≡◌, OnOk};
-ghost use Rattle.pm_words.specs.Cells.{AllHome};
+ghost use Rattle.k_map_calls.specs.pm_words.Cells.{AllHome};
 ghost use Rattle.k_map_calls.specs.Calls.{IsFresh};
 ghost use Rattle.k_map_rows.specs.Lends.{IsOut};
 
 use crate::reading::number;
-use k_map_calls::k_split::KSplit;
-use k_map_calls::{Reply, RunError, has_block, left};
+use k_map_calls::{KSplit, Reply, RunError, has_block, left};
 use pm_lines::{Loan, Power};
 use std::alloc::Global;
 

@@ -1,8 +1,7 @@
 //! Reads a row: a call on maps.
 ghost use Rattle.std.specs.Prelude.{◌<◌, ◌^◌};
 
-use k_map_calls::map_rules::Move;
-use k_map_calls::{MapCall, Put, RunError};
+use k_map_calls::{MapCall, Move, Put, RunError};
 
 // A word of a line by its place, and no text past the last one.
 pub(crate) fn word(line: &str, place: usize) -> &str {

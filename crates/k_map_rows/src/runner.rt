@@ -6,8 +6,9 @@ use crate::lending::lend_and_store;
 use crate::reading::{call, number, word};
 use crate::shown::{bytes_text, reply_text};
 use crate::stops::{stop_bytes, stop_maps};
-use k_map_calls::k_split::KSplit;
-use k_map_calls::{MapCall, Reply, RunError, begun, left, made, map_text, opened, reopened};
+use k_map_calls::{
+    KSplit, MapCall, Reply, RunError, begun, left, made, map_text, opened, reopened,
+};
 use std::alloc::Global;
 
 // Fills every second block of a file from block 0 on, each by a call.

@@ -1,8 +1,7 @@
 //! What a K-Split shows of its maps and bytes, as rows spell it.
 ghost use Rattle.k_map_calls.specs.Calls.{IsFresh};
 
-use k_map_calls::k_split::KSplit;
-use k_map_calls::{Reply, RunError, block_bytes, map_text};
+use k_map_calls::{KSplit, Reply, RunError, block_bytes, map_text};
 use posix_types::What;
 use std::alloc::{AllocError, Global};
 

@@ -1,6 +1,6 @@
 //! A call that loses its power after every seventh number of steps: what its images show.
 ghost use Rattle.std.specs.Prelude.{IfOk, IfSome};
-ghost use Rattle.pm_words.specs.Cells.{AllHome};
+ghost use Rattle.k_map_calls.specs.pm_words.Cells.{AllHome};
 
 use crate::reading::call;
 use crate::shown::all_maps;

@@ -4,13 +4,13 @@ use Rattle.std.proofs.Common.{ap, sym, subst, ◌∙◌, inl, inr}
 use Rattle.std.proofs.lemmas.Bool.{cases_eq, cases_lt}
 use Rattle.std.proofs.lemmas.List.{get_or-set_other, get_or-set_same, get_or_past, set_past}
 use Rattle.std.proofs.lemmas.Option.{same_Some}
-use Rattle.pm_words.specs.Cells.{AllHome}
-use Rattle.pm_words.specs.ImageLaws.{IsImage-words_of}
-use Rattle.pm_words.specs.Images.{Follows, IsImage, words_of}
-use Rattle.pm_words.specs.Powers.{is_on, Supply}
-use Rattle.pm_words.specs.Words.{Words}
-use Rattle.disk_places.specs.Journal.{journaled}
-use Rattle.disk_places.specs.Places.{Geometry, IsGeometry}
+use Rattle.k_split.specs.pm_words.Cells.{AllHome}
+use Rattle.k_split.specs.pm_words.ImageLaws.{IsImage-words_of}
+use Rattle.k_split.specs.pm_words.Images.{Follows, IsImage, words_of}
+use Rattle.k_split.specs.pm_words.Powers.{is_on, Supply}
+use Rattle.k_split.specs.pm_words.Words.{Words}
+use Rattle.k_split.specs.disk_places.Journal.{journaled}
+use Rattle.k_split.specs.disk_places.Places.{Geometry, IsGeometry}
 use Rattle.disk_lines.specs.declared.Inode.{Inode}
 use Rattle.disk_lines.specs.declared.Kind.TheVariants.{File}
 use Rattle.disk_lines.specs.Names.{names_of}

@@ -4,13 +4,13 @@ use Rattle.std.specs.List.{range_with_len}
 use Rattle.std.proofs.Common.{arith, ap, sym, subst, ◌∙◌, inl, inr}
 use Rattle.std.proofs.lemmas.Bool.{cond_both}
 use Rattle.std.proofs.lemmas.List.Sums.{sum_by-cons}
-use Rattle.block_counts.specs.Counts.{held_by}
-use Rattle.pm_words.specs.Bytes.{line_bytes-same}
-use Rattle.pm_words.specs.Words.{line_bytes, Words}
-use Rattle.disk_places.specs.Journal.{is_journal_word, IsSound, journaled}
-use Rattle.disk_places.specs.PlaceLaws.{behind_log-words, log_line-not_journaled}
-use Rattle.disk_places.specs.Places.{base_word, commit_word, data_blocks, first_data, Geometry, IsGeometry, is_journaled_line, log_line, state_line}
-use Rattle.disk_places.specs.Superblock.{geometry_at, has_magic, has_numbers, has_version}
+use Rattle.k_split.specs.block_counts.Counts.{held_by}
+use Rattle.k_split.specs.pm_words.Bytes.{line_bytes-same}
+use Rattle.k_split.specs.pm_words.Words.{line_bytes, Words}
+use Rattle.k_split.specs.disk_places.Journal.{is_journal_word, IsSound, journaled}
+use Rattle.k_split.specs.disk_places.PlaceLaws.{behind_log-words, log_line-not_journaled}
+use Rattle.k_split.specs.disk_places.Places.{base_word, commit_word, data_blocks, first_data, Geometry, IsGeometry, is_journaled_line, log_line, state_line}
+use Rattle.k_split.specs.disk_places.Superblock.{geometry_at, has_magic, has_numbers, has_version}
 use Rattle.disk_lines.specs.Entries.{decode_entry, held_seq, is_self_valid}
 use Rattle.k_split.specs.disk_rules.Checked.{HasHead, IsLogKept}
 use Rattle.k_split.specs.disk_rules.Content.{size_of}

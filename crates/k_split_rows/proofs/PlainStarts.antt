@@ -3,15 +3,15 @@ use Rattle.std.specs.Prelude.{◌≡◌, ℕ, ◌+◌, ◌*◌, List, false, Res
 use Rattle.std.specs.declared.alloc.AllocError.{AllocError}
 use Rattle.std.proofs.Common.{arith, ap, sym, subst, ◌∙◌}
 use Rattle.std.proofs.Math.Path.{fun_ext}
-use Rattle.pm_words.specs.declared.Cell.{Cell}
-use Rattle.pm_words.specs.declared.Cell.TheVariants.{Single}
-use Rattle.pm_words.specs.CellLaws.{single-home}
-use Rattle.pm_words.specs.Cells.{AllHome, AllSingle, cell, newest}
-use Rattle.pm_words.specs.ImageLaws.{image-single}
-use Rattle.pm_words.specs.Images.{IsImage, words_of}
-use Rattle.pm_words.specs.Words.{word_at, Words}
-use Rattle.disk_places.specs.Journal.{IsSound, journaled}
-use Rattle.disk_places.specs.Places.{commit_word, Geometry, IsGeometry, log_line}
+use Rattle.k_split.specs.pm_words.declared.Cell.{Cell}
+use Rattle.k_split.specs.pm_words.declared.Cell.TheVariants.{Single}
+use Rattle.k_split.specs.pm_words.CellLaws.{single-home}
+use Rattle.k_split.specs.pm_words.Cells.{AllHome, AllSingle, cell, newest}
+use Rattle.k_split.specs.pm_words.ImageLaws.{image-single}
+use Rattle.k_split.specs.pm_words.Images.{IsImage, words_of}
+use Rattle.k_split.specs.pm_words.Words.{word_at, Words}
+use Rattle.k_split.specs.disk_places.Journal.{IsSound, journaled}
+use Rattle.k_split.specs.disk_places.Places.{commit_word, Geometry, IsGeometry, log_line}
 use Rattle.disk_lines.specs.declared.Inode.{Inode}
 use Rattle.disk_lines.specs.Entries.{decode_entry}
 use Rattle.disk_lines.specs.Fresh.{fresh}

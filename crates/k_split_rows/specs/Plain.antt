@@ -1,11 +1,11 @@
 -- A device on which only names were changed: each image of it can be opened again.
 use Rattle.std.specs.Prelude.{◌≡◌, ℕ, ◌*◌, ◌<◌, false, List, [], length, None, Result, Ok, Err}
-use Rattle.pm_words.specs.declared.Cell.{Cell}
-use Rattle.pm_words.specs.Cells.{AllHome}
-use Rattle.pm_words.specs.Images.{IsImage}
-use Rattle.pm_words.specs.Words.{Words}
-use Rattle.disk_places.specs.Journal.{journaled}
-use Rattle.disk_places.specs.Places.{Geometry}
+use Rattle.k_split.specs.pm_words.declared.Cell.{Cell}
+use Rattle.k_split.specs.pm_words.Cells.{AllHome}
+use Rattle.k_split.specs.pm_words.Images.{IsImage}
+use Rattle.k_split.specs.pm_words.Words.{Words}
+use Rattle.k_split.specs.disk_places.Journal.{journaled}
+use Rattle.k_split.specs.disk_places.Places.{Geometry}
 use Rattle.k_split.specs.disk_rules.Checked.{IsCheckedAs}
 use Rattle.k_split.specs.disk_rules.Live.{entry_in}
 use Rattle.k_split.specs.disk_rules.Rules.{geometry_of, IsOfNoLater}

@@ -2,17 +2,14 @@
 ghost use Rattle.std.specs.Prelude.{◌≡◌, ◌*◌, true, length, IfOk, IsTrue};
 ghost use Rattle.k_split.specs.disk_rules.Volume.{Volume};
 ghost use Rattle.k_split.specs.path_spelling.Spelling.{AreSpelled};
-ghost use Rattle.pm_words.specs.Words.{word_at};
+ghost use Rattle.k_split.specs.pm_words.Words.{word_at};
 ghost use Rattle.k_split.specs.volume_changes.Changes.{MayDrop};
 ghost use Rattle.k_split_rows.specs.Plain.{IsLeft, IsPlain, IsPlainAs};
 ghost use Rattle.k_split_rows.specs.Rows.{IsSpelledCall};
 
 use crate::reading::NameCall;
 use disk_lines::Kind;
-use k_split::image_layout::Geometry;
-use k_split::k_journal::Recovered;
-use k_split::k_journal::journal::recover;
-use k_split::{KFault, KSplit, mkfs};
+use k_split::{Geometry, KFault, KSplit, Recovered, mkfs, recover};
 use pm_lines::{Pm, Power};
 use posix_types::Path;
 use std::alloc::{AllocError, Global};

@@ -1,9 +1,10 @@
 //! The meaning of the calls beside K-Split: the same calls, made on a state.
 use crate::printing::{fault_text, tree_text};
 use crate::reading::{NameCall, RowError};
-use k_split::posix_spec::{
-    Call, Flags, Handle, Mode, Outcome, Path, Reply, Shape, State, Tree, TreeEntry, TreeNode, Who,
+use k_split::{
+    Call, Flags, Handle, Mode, Outcome, Path, Reply, Shape, Tree, TreeEntry, TreeNode, Who,
 };
+use posix_spec::State;
 use std::alloc::{AllocError, Global};
 
 // The state in which the root stands alone.

@@ -2,14 +2,13 @@
 ghost use Rattle.std.specs.Prelude.{◌≡◌, ◌*◌, length, IfOk, IfSome};
 ghost use Rattle.k_split.specs.disk_rules.Volume.{Volume};
 ghost use Rattle.k_split.specs.path_spelling.Spelling.{AreSpelled};
-ghost use Rattle.pm_words.specs.Words.{word_at};
+ghost use Rattle.k_split.specs.pm_words.Words.{word_at};
 ghost use Rattle.k_split_rows.specs.Plain.{IsPlainAs, IsPlainDevice};
 
 use crate::devices::{fresh, renamed, reopened};
 use crate::reading::{RowError, call, path};
 use crate::runner::{reply, shown_anew};
-use k_split::KFault;
-use k_split::image_layout::Geometry;
+use k_split::{Geometry, KFault};
 use pm_lines::{Choice, Pm, Power};
 use posix_types::Path;
 use std::alloc::Global;

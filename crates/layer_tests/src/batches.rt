@@ -1,5 +1,5 @@
 //! That a batch is made with ample memory, and what a full one tells.
-use k_check::k_journal::{Batch, BatchFull};
+use k_check::{Batch, BatchFull};
 use std::test::Fail;
 
 #[test]

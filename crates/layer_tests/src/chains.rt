@@ -1,9 +1,9 @@
 //! A chain as the format has it, word by word.
 ghost use Rattle.std.specs.Prelude.{◌≡◌, ◌+◌, ◌*◌, ◌≤◌, length, vec_len, IfOk};
-ghost use Rattle.pm_words.specs.Cells.{AllHome, AllSingle};
+ghost use Rattle.k_tables.specs.pm_words.Cells.{AllHome, AllSingle};
 
 use extent_map::{Extent, ExtentMap};
-use k_check::map_chain::{read, write};
+use k_check::{read, write};
 use pm_lines::{Choice, Pm, Power};
 use std::alloc::{AllocError, Global};
 use std::process::Abort;

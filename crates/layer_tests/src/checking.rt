@@ -1,11 +1,8 @@
 //! That the fresh image is checked with ample memory, and some damaged ones.
 ghost use Rattle.std.specs.Prelude.{◌≡◌, ◌*◌, ◌%◌, length, IfOk};
-ghost use Rattle.pm_words.specs.Cells.{AllHome};
+ghost use Rattle.k_tables.specs.pm_words.Cells.{AllHome};
 
-use k_check::image_layout::Geometry;
-use k_check::k_reading::fresh_image;
-use k_check::oplog_entry::{Draft, encode};
-use k_check::{BadImage, CheckFault, check, crash_image};
+use k_check::{BadImage, CheckFault, Draft, Geometry, check, crash_image, encode, fresh_image};
 use pm_lines::{Choice, Pm, Power};
 use std::alloc::{AllocError, Global};
 use std::test::Fail;

@@ -1,6 +1,6 @@
 //! The device: images by each choice, without power, what is lent, many fences.
 ghost use Rattle.std.specs.Prelude.{◌≡◌, ◌*◌, ◌≤◌, length, IfOk};
-ghost use Rattle.pm_words.specs.Cells.{AllHome, AllSingle};
+ghost use Rattle.k_tables.specs.pm_words.Cells.{AllHome, AllSingle};
 
 use pm_lines::{Choice, Pm, Power};
 use std::alloc::{AllocError, Global};

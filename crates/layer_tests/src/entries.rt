@@ -1,7 +1,7 @@
 //! Two entries, as other programs made them, and a log of two lines.
 ghost use Rattle.std.specs.Prelude.{◌≡◌, length, IfOk};
 
-use k_check::oplog_entry::{Draft, decode, encode, scan};
+use k_check::{Draft, decode, encode, scan};
 use pm_lines::{Line, Pm};
 use std::alloc::{AllocError, Global};
 use std::test::Fail;
@@ -77,5 +77,8 @@ fn scan_of_two_lines(rt: HostRuntime) -> Result<(), Fail> {
     let lines = lines_of(alloc, &encode(&SMALL, 7), &encode(&LARGE, 8))?;
     let found = scan(alloc, &lines, 7)?;
     assert_eq!(rt; found.as_slice(), [(0, SMALL), (1, LARGE)].as_slice());
+    let lines = lines_of(alloc, &[0; 64], &encode(&LARGE, 8))?;
+    let found = scan(alloc, &lines, 7)?;
+    assert_eq!(rt; found.as_slice(), [(1, LARGE)].as_slice());
     Ok(())
 }

@@ -1,5 +1,5 @@
 //! An inode line as the format has it, byte by byte.
-use k_check::k_inodes::{Inode, Kind, decode_inode, encode_inode};
+use k_check::{Inode, Kind, decode_inode, encode_inode};
 
 #[test]
 fn line_of_a_file(rt: HostRuntime) {

@@ -1,5 +1,5 @@
 //! The default image, as the format has it.
-use k_check::image_layout::{Geometry, read_superblock};
+use k_check::{Geometry, read_superblock};
 use std::test::Fail;
 
 #[test]

@@ -1,5 +1,5 @@
 //! Look-ups of mapped blocks, before and after the collection forgets.
-use data_route::map_collection::Collection;
+use data_route::Collection;
 use extent_map::{Extent, ExtentMap};
 use std::process::Abort;
 use std::test::Fail;

@@ -1,5 +1,5 @@
 //! A name line as the format has it, and that a table is made and read with ample memory.
-use k_tables::k_names::{Decoded, NameLine, NameTable, decode_name, encode_name};
+use k_tables::{Decoded, NameLine, NameTable, decode_name, encode_name};
 use posix_types::Name;
 use std::test::Fail;
 

@@ -1,6 +1,6 @@
 //! That blocks are taken with ample memory.
 use extent_map::Extent;
-use k_check::block_pool::Pool;
+use k_check::Pool;
 use std::test::Fail;
 
 #[test]

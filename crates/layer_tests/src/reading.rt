@@ -1,18 +1,16 @@
 //! That a fresh image is made and read with ample memory.
 ghost use Rattle.std.specs.Prelude.{◌≡◌, ◌*◌, length, IfOk};
-ghost use Rattle.pm_words.specs.Cells.{AllSingle};
-ghost use Rattle.pm_words.specs.Images.{words_of};
-ghost use Rattle.disk_places.specs.Places.{IsGeometry};
-ghost use Rattle.disk_lines.specs.Fresh.{fresh};
+ghost use Rattle.k_tables.specs.pm_words.Cells.{AllSingle};
+ghost use Rattle.k_tables.specs.pm_words.Images.{words_of};
+ghost use Rattle.k_tables.specs.disk_places.Places.{IsGeometry};
+ghost use Rattle.k_tables.specs.disk_lines.Fresh.{fresh};
 ghost use Rattle.k_tables.specs.disk_rules.Volume.{volume};
 ghost use Rattle.k_check.specs.k_reading.Pools.{AreInData};
 
-use k_check::image_layout::Geometry;
-use k_check::k_inodes::Inode;
-use k_check::k_reading::{
-    Maps, free_blocks, fresh_image, read_base, read_inodes, read_maps, read_names,
+use k_check::{
+    Geometry, Inode, Maps, free_blocks, fresh_image, read_base, read_inodes, read_maps, read_names,
 };
-use k_tables::k_names::NameTable;
+use k_tables::NameTable;
 use pm_lines::Pm;
 use std::alloc::{AllocError, Global};
 use std::test::Fail;

@@ -1,6 +1,5 @@
 //! Plans of writes in each mode, and of a read over staged, mapped and absent blocks.
-use data_route::map_collection::Collection;
-use data_route::{Piece, Source, WritePlan, plan_read, plan_write};
+use data_route::{Collection, Piece, Source, WritePlan, plan_read, plan_write};
 use extent_map::{Extent, ExtentMap};
 use file_overlay::{Overlay, Run};
 use posix_types::Mode;
@@ -85,6 +84,27 @@ fn a_read_over_staged_mapped_and_absent_blocks(rt: HostRuntime) -> Result<(), Fa
             len: 1808,
         },
     ];
+    assert_eq!(rt; pieces.as_slice(), wanted.as_slice());
+    Ok(())
+}
+
+// The file ends behind two bytes, and nothing is staged.
+#[test]
+fn a_read_ends_where_the_file_ends(rt: HostRuntime) -> Result<(), Fail> {
+    let extents = [Extent {
+        file: 0,
+        disk: 9,
+        count: 1,
+    }];
+    let map = ExtentMap::from_extents(rt.alloc(), &extents)?.ok_or("not the one spelling")?;
+    let overlay = Overlay::new(rt.alloc());
+    let mut collection = Collection::new(rt.alloc());
+    let pieces = plan_read(rt.alloc(), 5, 2, 0, 9, &overlay, &mut collection, &map)?;
+    let wanted = [Piece {
+        source: Source::Disk(9),
+        at: 0,
+        len: 2,
+    }];
     assert_eq!(rt; pieces.as_slice(), wanted.as_slice());
     Ok(())
 }

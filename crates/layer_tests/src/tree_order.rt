@@ -1,6 +1,5 @@
 //! The order of printed paths, and that a tree is listed with ample memory.
-use k_tables::k_names::{NameLine, NameTable};
-use k_tables::{TreePlace, tree_places};
+use k_tables::{NameLine, NameTable, TreePlace, tree_places};
 use posix_types::Name;
 use std::alloc::{AllocError, Global};
 use std::test::Fail;

@@ -1,9 +1,7 @@
 //! That the fresh image is read with ample memory.
 ghost use Rattle.std.specs.Prelude.{◌≡◌, ◌%◌, length};
 
-use k_check::image_layout::Geometry;
-use k_check::k_reading::fresh_image;
-use k_check::volume_check::{BadImage, Tables, read_volume};
+use k_check::{BadImage, Geometry, Tables, fresh_image, read_volume};
 use pm_lines::Pm;
 use std::alloc::{AllocError, Global};
 use std::test::Fail;

@@ -1,6 +1,6 @@
 -- No word is lent after a publishing.
 use Rattle.std.proofs.Common.{ℕ, List, [], ◌∷◌, Ok, Err, sym, subst, inl, inr}
-use Rattle.pm_words.specs.Cells.{AllHome}
+use Rattle.k_map_calls.specs.pm_words.Cells.{AllHome}
 use Rattle.k_map_calls.specs.disk_rules.Volume.{inode}
 use Rattle.file_overlay.specs.declared.runs.Run.{Run}
 use Rattle.file_overlay.specs.Runs.{Overlaid}

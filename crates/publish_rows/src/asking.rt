@@ -6,8 +6,7 @@ ghost use Rattle.k_map_calls.specs.Calls.{IsFresh};
 
 use crate::publishing::Three;
 use file_overlay::Run;
-use k_map_calls::k_split::KSplit;
-use k_map_calls::{blocks_are_there, has_free, is_file, is_staging};
+use k_map_calls::{KSplit, blocks_are_there, has_free, is_file, is_staging};
 
 // Whether a run has its blocks in a staging file.
 fn is_staged(k: &KSplit, run: &Run) -> bool

@@ -3,8 +3,7 @@ ghost use Rattle.k_map_calls.specs.Calls.{IsFresh};
 
 use crate::publishing::Three;
 use file_overlay::Run;
-use k_map_calls::k_split::KSplit;
-use k_map_calls::{RunError, block_bytes};
+use k_map_calls::{KSplit, RunError, block_bytes};
 use std::alloc::Global;
 
 // How many blocks of a file are looked at.

@@ -1,14 +1,12 @@
 //! Three runs are laid and published.
 ghost use Rattle.std.specs.Prelude.{◌≡◌, [], ◌∷◌, ◌++◌, IfOk, IfSome, OnOk};
-ghost use Rattle.pm_words.specs.Cells.{AllHome};
+ghost use Rattle.k_map_calls.specs.pm_words.Cells.{AllHome};
 ghost use Rattle.k_map_calls.specs.Calls.{IsFresh};
 
 use crate::asking::may_publish;
 use file_overlay::{Overlay, Run};
 use fsync_relink::publish;
-use k_map_calls::k_journal::Commit;
-use k_map_calls::k_split::KSplit;
-use k_map_calls::{RunError, opened};
+use k_map_calls::{Commit, KSplit, RunError, opened};
 use pm_lines::{Pm, Power};
 use std::alloc::Global;
 

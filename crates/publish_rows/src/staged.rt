@@ -5,10 +5,7 @@ ghost use Rattle.k_map_calls.specs.Calls.{IsFresh};
 use crate::publishing::Three;
 use disk_lines::Draft;
 use file_overlay::Run;
-use k_map_calls::image_layout::Geometry;
-use k_map_calls::k_split::KSplit;
-use k_map_calls::oplog_entry::encode;
-use k_map_calls::{MapCall, Put, Reply, RunError, begun, left, made};
+use k_map_calls::{Geometry, KSplit, MapCall, Put, Reply, RunError, begun, encode, left, made};
 use std::alloc::Global;
 
 const FILE: u32 = 5;

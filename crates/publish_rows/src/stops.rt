@@ -1,5 +1,5 @@
 //! A publishing that loses its power after every seventh number of steps: what its images read.
-ghost use Rattle.pm_words.specs.Cells.{AllHome};
+ghost use Rattle.k_map_calls.specs.pm_words.Cells.{AllHome};
 
 use crate::contents::{Content, applied, content_of, mapped};
 use crate::publishing::{Three, cut, done};

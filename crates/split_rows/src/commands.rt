@@ -1,38 +1,7 @@
 //! Commands over files in memory: what each put, and the text of its status.
-use crate::rows::RowError;
-use exit_status::status_text;
+use image_edits::{RowError, answer, answer_over};
 use outside::{FileFault, Files, MemFiles, MemSink};
-use split_top::top;
 use std::alloc::{AllocError, Global};
-
-// What a command answered over these files and this sink.
-fn answer_over<R>(
-    rt: &R,
-    alloc: Global,
-    files: &mut MemFiles,
-    mut out: MemSink,
-    words: &[&str],
-) -> Result<Vec<u8>, AllocError> {
-    let mut list = Vec::new(alloc);
-    for word in words {
-        list.push(word.to_string(alloc)?)?;
-    }
-    let status = top(rt, alloc, &list, files, &mut out);
-    let mut text = Vec::from_slice(alloc, out.bytes())?;
-    text.extend_from_slice(&status_text(alloc, &status)?)?;
-    Ok(text)
-}
-
-// What a command answered.
-pub(crate) fn answer_to<R>(
-    rt: &R,
-    alloc: Global,
-    files: &mut MemFiles,
-    words: &[&str],
-) -> Result<Vec<u8>, AllocError> {
-    let out = MemSink::new(alloc, Vec::new(alloc));
-    answer_over(rt, alloc, files, out, words)
-}
 
 // The words of a line.
 fn words_of(alloc: Global, line: &str) -> Result<Vec<&str>, AllocError> {
@@ -44,17 +13,12 @@ fn words_of(alloc: Global, line: &str) -> Result<Vec<&str>, AllocError> {
 }
 
 // A command behind `$`, and what it answered.
-pub(crate) fn told<R>(
-    rt: &R,
-    alloc: Global,
-    files: &mut MemFiles,
-    line: &str,
-) -> Result<Vec<u8>, AllocError> {
+pub(crate) fn told(alloc: Global, files: &mut MemFiles, line: &str) -> Result<Vec<u8>, AllocError> {
     let words = words_of(alloc, line)?;
     let mut text = Vec::from_slice(alloc, b"$ ")?;
     text.extend_from_slice(line.as_bytes())?;
     text.push(b'\n')?;
-    text.extend_from_slice(&answer_to(rt, alloc, files, &words)?)?;
+    text.extend_from_slice(&answer(alloc, files, &words)?)?;
     Ok(text)
 }
 
@@ -71,8 +35,7 @@ fn numbers(alloc: Global, word: &str) -> Result<Vec<u64>, RowError> {
 
 // `failing FILES PUTS WORDS`: the command with these words over a file `S` alone, where these calls of the files and of the
 // sink fail, counted from 0. What is told ends with what became of `S`.
-pub(crate) fn told_of_failing<R>(
-    rt: &R,
+pub(crate) fn told_of_failing(
     alloc: Global,
     files: &mut MemFiles,
     line: &str,
@@ -93,7 +56,7 @@ pub(crate) fn told_of_failing<R>(
     let mut text = Vec::from_slice(alloc, b"$ ")?;
     text.extend_from_slice(line.as_bytes())?;
     text.push(b'\n')?;
-    text.extend_from_slice(&answer_over(rt, alloc, &mut alone, out, &words)?)?;
+    text.extend_from_slice(&answer_over(alloc, &mut alone, out, &words)?)?;
     let after = alone.bytes("S").unwrap_or(b"");
     let length = after.len();
     let kept = if after == before.as_slice() {

@@ -1,7 +1,5 @@
 //! Damaged images: places of an image are changed, and its tree is asked for.
-use crate::commands::answer_to;
-use crate::edits::{copy, set};
-use crate::rows::RowError;
+use image_edits::{RowError, answer, copy, set};
 use outside::MemFiles;
 use std::alloc::Global;
 
@@ -17,21 +15,20 @@ pub(crate) struct Damages {
 const DAMAGED: &str = "h";
 
 // What is wanted: `same`, the tree of the image before; `rule R at P`; or a tree whose lines are parted by `; `.
-fn wanted<R>(
-    rt: &R,
+fn wanted(
     alloc: Global,
     files: &mut MemFiles,
     name: &str,
-    answer: &str,
+    want: &str,
 ) -> Result<Vec<u8>, RowError> {
-    if answer == "same" {
-        return Ok(answer_to(rt, alloc, files, &["tree", name])?);
+    if want == "same" {
+        return Ok(answer(alloc, files, &["tree", name])?);
     }
     let mut text = String::new(alloc);
-    if answer.starts_with("rule ") {
+    if want.starts_with("rule ") {
         text.push_str("splitfs: bad image: ")?;
     }
-    for line in answer.split("; ") {
+    for line in want.split("; ") {
         text.push_str(line)?;
         text.push_str("\n")?;
     }
@@ -49,8 +46,7 @@ fn damage(alloc: Global, files: &mut MemFiles, words: &str) -> Result<String, Ro
 }
 
 // Whether the line is one of a damaged image; it is tried then.
-pub(crate) fn was_damage<R>(
-    rt: &R,
+pub(crate) fn was_damage(
     alloc: Global,
     files: &mut MemFiles,
     line: &str,
@@ -59,11 +55,11 @@ pub(crate) fn was_damage<R>(
     let Some(words) = line.strip_prefix("damage ") else {
         return Ok(false);
     };
-    let (words, answer) = words.split_once(" = ").ok_or(RowError::Misspelled)?;
+    let (words, want) = words.split_once(" = ").ok_or(RowError::Misspelled)?;
     let name = damage(alloc, files, words)?;
-    let told = answer_to(rt, alloc, files, &["tree", DAMAGED])?;
+    let told = answer(alloc, files, &["tree", DAMAGED])?;
     damages.tried = damages.tried.saturating_add(1);
-    if told != wanted(rt, alloc, files, name.as_str(), answer)? {
+    if told != wanted(alloc, files, name.as_str(), want)? {
         damages.others = damages.others.saturating_add(1);
         if damages.first_other.is_none() {
             damages.first_other = Some(line.to_string(alloc)?);

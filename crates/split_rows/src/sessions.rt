@@ -4,9 +4,7 @@
 //! there were.
 use crate::commands::{told, told_of_failing};
 use crate::damages::{Damages, damages_told, was_damage};
-use crate::edits::was_edit;
-use crate::forging::forged_told;
-use crate::rows::RowError;
+use image_edits::{RowError, forged_told, was_edit};
 use outside::{Files, MemFiles};
 use std::alloc::Global;
 use std::io::Write;
@@ -36,8 +34,7 @@ fn bytes_told(
 }
 
 // Carries out a line of a table, and gives what is to be printed of it.
-fn line_told<R>(
-    rt: &R,
+fn line_told(
     alloc: Global,
     files: &mut MemFiles,
     line: &str,
@@ -46,20 +43,20 @@ fn line_told<R>(
     if line.is_empty()
         || line.starts_with('#')
         || was_edit(alloc, files, line)?
-        || was_damage(rt, alloc, files, line, damages)?
+        || was_damage(alloc, files, line, damages)?
     {
         return Ok(Vec::new(alloc));
     }
     if let Some(words) = line.strip_prefix("forged ") {
-        return forged_told(rt, alloc, files, words);
+        return forged_told(alloc, files, words);
     }
     if let Some(words) = line.strip_prefix("bytes ") {
         return bytes_told(alloc, files, line, words);
     }
     if let Some(given) = line.strip_prefix("failing ") {
-        return told_of_failing(rt, alloc, files, line, given);
+        return told_of_failing(alloc, files, line, given);
     }
-    Ok(told(rt, alloc, files, line)?)
+    Ok(told(alloc, files, line)?)
 }
 
 // Prints what each command of a table answered.
@@ -71,7 +68,7 @@ pub(crate) fn run_session(rt: &HostRuntime, alloc: Global, table: &str) -> anyho
         first_other: None,
     };
     for line in table.lines() {
-        let text = line_told(rt, alloc, &mut files, line, &mut damages)?;
+        let text = line_told(alloc, &mut files, line, &mut damages)?;
         rt.stdout().write_all(&text)?;
     }
     if damages.tried > 0 {

@@ -1,6 +1,6 @@
 -- A staging stays calm.
 use Rattle.std.proofs.Common.{Result, Ok, Err, List, ℕ, sym, ◌∙◌, ap, subst, inl, inr}
-use Rattle.pm_words.specs.Cells.{AllSingle}
+use Rattle.staging_files.specs.pm_words.Cells.{AllSingle}
 use Rattle.std.specs.declared.alloc.AllocError.{AllocError}
 use Rattle.staging_files.specs.k_journal.declared.outcomes.Commit.{Commit}
 use Rattle.staging_files.specs.k_rules.View.{View}

@@ -1,13 +1,13 @@
 -- A device with the fresh image can be opened.
 use Rattle.std.proofs.Common.{◌≡◌, ℕ, ◌*◌, List, sym, ◌∙◌, ap, subst}
 use Rattle.std.proofs.Math.Path.{fun_ext}
-use Rattle.pm_words.specs.declared.Cell.{Cell}
-use Rattle.pm_words.specs.declared.Cell.TheVariants.{Single}
-use Rattle.pm_words.specs.Cells.{cell, newest}
-use Rattle.pm_words.specs.Images.{words_of}
-use Rattle.pm_words.specs.Words.{word_at, Words}
-use Rattle.disk_places.specs.Places.{commit_word, Geometry}
-use Rattle.disk_lines.specs.Fresh.{fresh}
+use Rattle.staging_files.specs.pm_words.declared.Cell.{Cell}
+use Rattle.staging_files.specs.pm_words.declared.Cell.TheVariants.{Single}
+use Rattle.staging_files.specs.pm_words.Cells.{cell, newest}
+use Rattle.staging_files.specs.pm_words.Images.{words_of}
+use Rattle.staging_files.specs.pm_words.Words.{word_at, Words}
+use Rattle.staging_files.specs.disk_places.Places.{commit_word, Geometry}
+use Rattle.staging_files.specs.disk_lines.Fresh.{fresh}
 use Rattle.staging_files.specs.disk_rules.Rules.{geometry_of, IsChecked}
 use Rattle.staging_files.specs.image_facts.FreshLines.{fresh-commit}
 

@@ -1,6 +1,6 @@
 -- When a staging and its K-Split may be asked for runs.
 use Rattle.std.specs.Prelude.{◌≡◌, false, Result, Ok, Err}
-use Rattle.pm_words.specs.Cells.{AllSingle}
+use Rattle.staging_files.specs.pm_words.Cells.{AllSingle}
 use Rattle.std.specs.declared.alloc.AllocError.{AllocError}
 use Rattle.staging_files.specs.k_journal.declared.outcomes.Commit.{Commit}
 use Rattle.staging_files.specs.k_rules.View.{View}

@@ -1,15 +1,13 @@
 //! Fresh devices.
 ghost use Rattle.std.specs.Prelude.{◌≡◌, true, false, [], IfOk};
 ghost use Rattle.staging_files.specs.disk_rules.Volume.{extents};
-ghost use Rattle.pm_words.specs.Cells.{AllSingle};
+ghost use Rattle.staging_files.specs.pm_words.Cells.{AllSingle};
 ghost use Rattle.staging_files.specs.GivesUp.{nothing_staged};
 ghost use Rattle.staging_files.specs.Keeps.{Agrees};
 ghost use Rattle.staging_rows.specs.Calm.{IsCalm};
 
 use pm_lines::Pm;
-use staging_files::Staging;
-use staging_files::image_layout::Geometry;
-use staging_files::k_split::{KSplit, mkfs};
+use staging_files::{Geometry, KSplit, Staging, mkfs};
 use std::alloc::{AllocError, Global};
 
 // The K-Split of a fresh device.

@@ -15,8 +15,7 @@ mod rows;
 
 use crate::devices::{fresh, is_calm};
 use crate::rows::{print_all_given_up, print_run};
-use staging_files::Staging;
-use staging_files::image_layout::Geometry;
+use staging_files::{Geometry, Staging};
 use std::alloc::Global;
 
 // Asks for runs on the default image.

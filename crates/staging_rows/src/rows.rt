@@ -3,9 +3,7 @@ ghost use Rattle.std.specs.Prelude.{◌≤◌, OnOk};
 ghost use Rattle.staging_rows.specs.Calm.{IsCalm, IsCalmAfter, IsCalmDone};
 
 use pm_lines::Power;
-use staging_files::k_journal::Commit;
-use staging_files::k_split::KSplit;
-use staging_files::{StageFault, StageRun, Staging};
+use staging_files::{Commit, KSplit, StageFault, StageRun, Staging};
 use std::alloc::{AllocError, Global};
 
 // Asks for a run, with power that lasts.

@@ -2,10 +2,10 @@
 use Rattle.std.proofs.Common.{◌≡◌, ℕ, ◌+◌, ◌*◌, ◌/◌, ◌<◌, ◌≤◌, List, [], ◌∷◌, ◌++◌, length, true, sym, refl, ap, ◌∙◌, subst, ⊎_elim, arith, length-append}
 use Rattle.std.proofs.lemmas.Bool.{cases_lt}
 use Rattle.std.proofs.lemmas.List.{get_or_append_left}
-use Rattle.pm_words.specs.declared.Cell.{Cell}
-use Rattle.pm_words.specs.Cells.{cell, is_single}
-use Rattle.pm_words.specs.Parts.{GoesOut, Part}
-use Rattle.pm_words.specs.PartLaws.{GoesOut-at}
+use Rattle.oplog_tail.specs.pm_words.declared.Cell.{Cell}
+use Rattle.oplog_tail.specs.pm_words.Cells.{cell, is_single}
+use Rattle.oplog_tail.specs.pm_words.Parts.{GoesOut, Part}
+use Rattle.oplog_tail.specs.pm_words.PartLaws.{GoesOut-at}
 use Rattle.oplog_tail.specs.EntryLines.{IsSingle}
 use Rattle.oplog_tail.specs.Rule.{line_at}
 

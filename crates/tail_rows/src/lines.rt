@@ -1,6 +1,6 @@
 //! Lines of zeros, as a log is opened with, and drafts that differ.
 ghost use Rattle.std.specs.Prelude.{◌≡◌, ◌*◌, ◌≤◌, ◌<◌, ℕ, length, IfOk};
-ghost use Rattle.pm_words.specs.Cells.{AllSingle};
+ghost use Rattle.oplog_tail.specs.pm_words.Cells.{AllSingle};
 ghost use Rattle.oplog_tail.specs.EntryLines.{IsSingle};
 ghost use Rattle.oplog_tail.specs.Rule.{line_at};
 

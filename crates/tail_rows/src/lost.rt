@@ -1,8 +1,7 @@
 //! One append to a log of one line, with a power of every number of steps up to 16.
 use crate::lines::{draft, lines_of};
 use line_fields::u64_at;
-use oplog_tail::oplog_entry::encode;
-use oplog_tail::{Appended, OpLog};
+use oplog_tail::{Appended, OpLog, encode};
 use pm_lines::{Line, Power};
 use std::alloc::{AllocError, Global};
 

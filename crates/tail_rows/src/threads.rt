@@ -3,8 +3,7 @@ ghost use Rattle.std.specs.Prelude.{◌≡◌, ◌≤◌, ◌<◌, ℕ, All, len
 ghost use Rattle.oplog_tail.specs.Logs.{IsSeatOf};
 
 use crate::lines::{draft, lines_of};
-use oplog_tail::oplog_entry::scan;
-use oplog_tail::{Appended, Draft, LogSeat, OpLog};
+use oplog_tail::{Appended, Draft, LogSeat, OpLog, scan};
 use pm_lines::Power;
 use std::alloc::{AllocError, Global};
 use std::thread;

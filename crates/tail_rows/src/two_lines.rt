@@ -1,7 +1,6 @@
 //! A log of two lines, one seat and three appends.
 use crate::lines::{draft, lines_of};
-use oplog_tail::oplog_entry::scan;
-use oplog_tail::{Appended, Full, OpLog};
+use oplog_tail::{Appended, Full, OpLog, scan};
 use pm_lines::Power;
 use std::alloc::{AllocError, Global};
 

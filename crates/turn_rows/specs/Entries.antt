@@ -1,7 +1,7 @@
 -- A list to which passes append, and what each of them appended.
 use Rattle.std.specs.Prelude.{◌≡◌, ◌≤◌, ℕ, List, [], ◌++◌, drop, length, replicate, sum_by, Vec}
 use Rattle.std.specs.Global.{Global}
-use Rattle.view_sums.specs.Numbers.{count_with}
+use Rattle.ruled_turn.specs.view_sums.Numbers.{count_with}
 use Rattle.turn_rows.specs.declared.entries.Own.{Own}
 
 abbrev pub Entries : Type 0

@@ -3,7 +3,7 @@ use Rattle.std.specs.Prelude.{◌≡◌, ◌≤◌, ℕ, zero, suc, ◌+◌, Lis
 use Rattle.std.proofs.Common.{arith, ap, sym, ◌∙◌}
 use Rattle.std.proofs.lemmas.List.{length-replicate}
 use Rattle.std.proofs.lemmas.List.Sums.{sum_by-cons}
-use Rattle.view_sums.specs.Numbers.{count_with-append}
+use Rattle.ruled_turn.specs.view_sums.Numbers.{count_with-append}
 use Rattle.turn_rows.specs.declared.entries.Own.{Own}
 use Rattle.turn_rows.specs.Entries.{Entries, first_views, Holds, Knows, May, next_view, Opens, own, times}
 

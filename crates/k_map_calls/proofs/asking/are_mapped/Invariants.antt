@@ -1,5 +1,5 @@
 use Rattle.std.proofs.Common.{◌<◌, ◌≤◌, ℕ, IsSome}
-use Rattle.extent_words.specs.Extents.{disk_at}
+use Rattle.k_check.specs.extent_words.Extents.{disk_at}
 use Rattle.k_map_calls.proofs.asking.are_mapped.Given as goal
 
 abbrev pub invariant-loop-block : goal.invariant-loop-block

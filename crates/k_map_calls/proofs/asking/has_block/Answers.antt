@@ -1,7 +1,7 @@
 use Rattle.std.proofs.Common.{◌≡◌, ◌∙◌, ℕ, Option, List, Some, None, true, refl, sym, ap}
 use Rattle.std.specs.Option.{is_some}
-use Rattle.extent_words.specs.Extents.{disk_at}
-use Rattle.extent_words.specs.declared.Extent.{Extent}
+use Rattle.k_check.specs.extent_words.Extents.{disk_at}
+use Rattle.k_check.specs.extent_words.declared.Extent.{Extent}
 use Rattle.k_map_calls.proofs.asking.has_block.Goals as goal
 
 some-at : (o : Option ℕ) → is_some o ≡ true → (b : ℕ) × (o ≡ Some b)

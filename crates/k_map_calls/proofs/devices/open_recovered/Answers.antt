@@ -1,6 +1,6 @@
 use Rattle.std.proofs.Common.{◌≡◌, ◌*◌, arith, length, refl, subst}
 use Rattle.k_check.specs.disk_rules.Rules.{IsChecked}
-use Rattle.pm_words.specs.Images.{words_of}
+use Rattle.k_check.specs.pm_words.Images.{words_of}
 use Rattle.k_map_calls.proofs.Opens.{opened-fresh}
 use Rattle.k_map_calls.proofs.devices.open_recovered.Goals as goal
 

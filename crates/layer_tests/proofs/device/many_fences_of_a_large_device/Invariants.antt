@@ -1,5 +1,5 @@
 use Rattle.std.proofs.Common.{◌≡◌, length}
-use Rattle.pm_words.specs.Cells.{AllHome}
+use Rattle.k_tables.specs.pm_words.Cells.{AllHome}
 use Rattle.layer_tests.proofs.device.many_fences_of_a_large_device.Given as goal
 
 abbrev pub invariant-loop : goal.invariant-loop

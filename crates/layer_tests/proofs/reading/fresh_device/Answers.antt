@@ -1,7 +1,7 @@
 use Rattle.std.proofs.Common.{ap, ◌∙◌}
 use Rattle.std.proofs.Math.Path.{fun_ext}
-use Rattle.pm_words.specs.Cells.{is_single, newest}
-use Rattle.pm_words.specs.Words.{word_at}
+use Rattle.k_tables.specs.pm_words.Cells.{is_single, newest}
+use Rattle.k_tables.specs.pm_words.Words.{word_at}
 use Rattle.layer_tests.proofs.reading.fresh_device.Goals as goal
 
 pub returns-clause-single : goal.returns-clause-single

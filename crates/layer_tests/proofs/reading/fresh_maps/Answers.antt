@@ -1,5 +1,5 @@
 use Rattle.std.proofs.Common.{ap, sym, ◌∙◌}
-use Rattle.pm_words.specs.Images.{words_of}
+use Rattle.k_tables.specs.pm_words.Images.{words_of}
 use Rattle.k_tables.specs.disk_rules.FreshVolume.{fresh_volume}
 use Rattle.k_tables.specs.disk_rules.Volume.{Volume}
 use Rattle.k_check.proofs.k_reading_proofs.FreshTables.{in_data-fresh, reads-fresh, volume-fresh}

@@ -1,4 +1,4 @@
-use Rattle.pm_words.specs.Images.{words_of}
+use Rattle.k_tables.specs.pm_words.Images.{words_of}
 use Rattle.k_check.proofs.k_reading_proofs.FreshTables.{keyed-fresh}
 use Rattle.layer_tests.proofs.reading.fresh_names.Goals as goal
 

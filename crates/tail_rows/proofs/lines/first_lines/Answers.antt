@@ -1,6 +1,6 @@
 -- One line more is taken out.
 use Rattle.std.proofs.Common.{◌∙◌, ◌+◌, List, subst, sym}
-use Rattle.pm_words.specs.Parts.{Part}
+use Rattle.oplog_tail.specs.pm_words.Parts.{Part}
 use Rattle.tail_rows.proofs.Taking.{IsTaking, takes_more}
 use Rattle.tail_rows.proofs.lines.first_lines.Goals as goal
 

@@ -3,9 +3,8 @@
 //! An image has 96 blocks, 16 log lines, and three files `/a`, `/b` and `/c`, with two blocks each; the four staging files
 //! have six blocks each. Entries stand in any slots, each file's by rising order, with any lengths; one of a generation
 //! before is among them. What a file has is said beside them as a list of blocks that entries replace one after another.
-use crate::commands::answer_to;
 use crate::entries::{put_entry, put_number};
-use crate::rows::RowError;
+use memory_runs::{RowError, answer};
 use outside::{Files, MemFiles};
 use rand_core::{Rng, SeedableRng};
 use rand_xoshiro::SplitMix64;
@@ -256,46 +255,35 @@ fn tree_of(alloc: Global, forged: &Forged) -> Result<Vec<u8>, AllocError> {
 }
 
 // Whether the image shows the tree, and shows it again after a run of nothing; of which the image is kept.
-fn is_kept<R>(
-    rt: &R,
-    alloc: Global,
-    files: &mut MemFiles,
-    forged: &Forged,
-) -> Result<bool, RowError> {
+fn is_kept(alloc: Global, files: &mut MemFiles, forged: &Forged) -> Result<bool, RowError> {
     let tree = tree_of(alloc, forged)?;
     files.replace("forged", &forged.bytes)?;
     files.replace("stat", b"stat /a\n")?;
-    let shown = answer_to(rt, alloc, files, &["tree", "forged"])?;
-    let _ran = answer_to(
-        rt,
+    let shown = answer(alloc, files, &["tree", "forged"])?;
+    let _ran = answer(
         alloc,
         files,
         &["step", "forged", "stat", "strict", "keep", "mounted"],
     )?;
-    let again = answer_to(rt, alloc, files, &["tree", "mounted"])?;
+    let again = answer(alloc, files, &["tree", "mounted"])?;
     Ok(shown == tree && again == tree)
 }
 
-// `SEED COUNT`: so many images from this seed; how many live entries they have, and how many of them show, before and after a
-// mount, what they contain.
-pub(crate) fn forged_told<R>(
-    rt: &R,
-    alloc: Global,
-    files: &mut MemFiles,
-    words: &str,
-) -> Result<Vec<u8>, RowError> {
+/// `SEED COUNT`: so many images from this seed; how many live entries they have, and how many of them show, before and after a
+/// mount, what they contain.
+pub fn forged_told(alloc: Global, files: &mut MemFiles, words: &str) -> Result<Vec<u8>, RowError> {
     let (seed, count) = words.split_once(" ").ok_or(RowError::Misspelled)?;
     let seed = seed.parse::<u64>().ok().ok_or(RowError::Misspelled)?;
     let count = count.parse::<u64>().ok().ok_or(RowError::Misspelled)?;
     let mut rng = SplitMix64::seed_from_u64(seed);
-    let _made = answer_to(rt, alloc, files, &["mkfs", "fresh", "96", "16", "16", "16"])?;
+    let _made = answer(alloc, files, &["mkfs", "fresh", "96", "16", "16", "16"])?;
     let mut live = 0_u64;
     let mut kept = 0_u64;
     for _ in 0..count {
         let fresh = files.read(alloc, "fresh")?;
         let forged = forge(fresh, &mut rng);
         live = live.saturating_add(forged.live);
-        if is_kept(rt, alloc, files, &forged)? {
+        if is_kept(alloc, files, &forged)? {
             kept = kept.saturating_add(1);
         }
     }

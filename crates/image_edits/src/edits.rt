@@ -1,6 +1,6 @@
 //! Edits of files in memory, by the lines of a table.
 use crate::entries::put_entry;
-use crate::rows::RowError;
+use memory_runs::RowError;
 use outside::{Files, MemFiles};
 use std::alloc::Global;
 
@@ -8,13 +8,8 @@ fn number(word: &str) -> Result<usize, RowError> {
     word.parse::<usize>().ok().ok_or(RowError::Misspelled)
 }
 
-// A file gets the bytes of another.
-pub(crate) fn copy(
-    alloc: Global,
-    files: &mut MemFiles,
-    from: &str,
-    to: &str,
-) -> Result<(), RowError> {
+/// A file gets the bytes of another.
+pub fn copy(alloc: Global, files: &mut MemFiles, from: &str, to: &str) -> Result<(), RowError> {
     let bytes = files.read(alloc, from)?;
     files.replace(to, &bytes)?;
     Ok(())
@@ -29,13 +24,8 @@ fn cut(alloc: Global, files: &mut MemFiles, name: &str, length: &str) -> Result<
     Ok(())
 }
 
-// `PLACE BYTE BYTE ..`: a file has these bytes from that place on, as far as it has such places.
-pub(crate) fn set(
-    alloc: Global,
-    files: &mut MemFiles,
-    name: &str,
-    words: &str,
-) -> Result<(), RowError> {
+/// `PLACE BYTE BYTE ..`: a file has these bytes from that place on, as far as it has such places.
+pub fn set(alloc: Global, files: &mut MemFiles, name: &str, words: &str) -> Result<(), RowError> {
     let (place, values) = words.split_once(" ").ok_or(RowError::Misspelled)?;
     let mut place = number(place)?;
     let mut bytes = files.read(alloc, name)?;
@@ -99,9 +89,9 @@ fn file(alloc: Global, files: &mut MemFiles, words: &str) -> Result<(), RowError
     Ok(())
 }
 
-// `copy FROM TO`, `cut NAME LENGTH`, `set NAME PLACE BYTE ..`, `fill NAME PLACE COUNT BYTE`, `entry NAME PLACE NUMBER ..`,
-// `file NAME LINE`: whether the line is an edit; it is carried out then.
-pub(crate) fn was_edit(alloc: Global, files: &mut MemFiles, line: &str) -> Result<bool, RowError> {
+/// `copy FROM TO`, `cut NAME LENGTH`, `set NAME PLACE BYTE ..`, `fill NAME PLACE COUNT BYTE`, `entry NAME PLACE NUMBER ..`,
+/// `file NAME LINE`: whether the line is an edit; it is carried out then.
+pub fn was_edit(alloc: Global, files: &mut MemFiles, line: &str) -> Result<bool, RowError> {
     let Some((edit, words)) = line.split_once(" ") else {
         return Ok(false);
     };

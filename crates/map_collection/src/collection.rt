@@ -1,5 +1,5 @@
 //! What is kept, and the look-up.
-ghost use Rattle.std.specs.Prelude.{◌≡◌, [], IfOk};
+ghost use Rattle.std.specs.Prelude.{◌≡◌, [], IfOk, OnErr};
 ghost use Rattle.extent_map.specs.extent_words.Extents.{disk_at};
 ghost use Rattle.map_collection.specs.Kept.{Agrees, KeepsNothing, KeepsOthers};
 
@@ -31,7 +31,11 @@ impl Collection {
     }
 
     /// The disk block of a file block, as the inode's map says. What is kept of the inode agrees with
-    /// the map, afterwards too, also where memory is short.
+    /// the map, afterwards too.
+    ///
+    /// # Errors
+    ///
+    /// Want of memory: what is kept is as before.
     pub fn lookup(
         &mut self,
         ino: u32,
@@ -42,6 +46,7 @@ impl Collection {
         ensures disk { IfOk result (λ disk. disk ≡ disk_at map.now block) }
         ensures agrees { Agrees self.new ino map.now }
         ensures others { KeepsOthers ino self.old self.new }
+        ensures memory { OnErr result (self.new ≡ self.old) }
     {
         Ok(map.lookup(block))
     }

@@ -1,16 +1,23 @@
-//! The real files and the real output. They tell no contents, and count their failures.
-ghost use Rattle.std.specs.Prelude.{◌≡◌, ◌≢◌, ◌≤◌, ◌<◌, ◌↔◌, ℕ, List, Option, None, length, OnOk, OnErr, IfOk, IfErr, IfSome, IsErrOf, IsErrAnd};
+//! The real files and the real output. They tell no contents, and count their failures. A file is
+//! replaced by a new one that is on the disk before it takes the name, so that no failure leaves a
+//! file in part.
+ghost use Rattle.std.specs.Prelude.{◌≡◌, ◌≢◌, ◌≤◌, ◌<◌, ◌↔◌, ◌++◌, ℕ, List, Option, None, length, OnOk, OnErr, IfOk, IfErr, IfSome, IsErrOf, IsErrAnd};
 ghost use Rattle.std.specs.Io.KnownBytes.{Appends};
 ghost use Rattle.std.specs.IoError.{error_kind};
+ghost use Rattle.std.specs.String.{string_bytes};
 ghost use Rattle.outside.specs.Outside.{Rose, Takes, TakesFront};
 
 use crate::faults::{FileFault, Files, Sink, SinkFault};
-use std::alloc::Global;
+use std::alloc::{AllocError, Global};
+use std::fs::OpenFile;
 use std::io::{ErrorKind, Read, Write};
 use std::{fs, io, rt};
 
 /// The longest file that is read, in bytes: 64 MiB more than the largest image, which has 64 MiB.
 pub const LONGEST_READ: usize = 128 << 20;
+
+// What stands behind the name of a file in the name of the new file that is to take its place.
+const BESIDE: &str = ".splitfs-new";
 
 /// The files of a runtime. A count stands still at 2^64 - 1.
 #[derive(Drop)]
@@ -170,6 +177,90 @@ fn write_opened<F: Write + Drop>(opened: io::Result<F>, bytes: &[u8]) -> Result<
     }
 }
 
+// The name of the new file beside a file.
+fn name_beside(alloc: Global, name: &str) -> Result<String, AllocError>
+    ensures { IfOk result (λ beside. string_bytes beside ≡ name.now ++ BESIDE.now) }
+{
+    let mut beside = String::from_str(alloc, name)?;
+    beside.push_str(BESIDE)?;
+    Ok(beside)
+}
+
+// Makes the new file beside a file, with the permissions of the file where it is there; one that
+// was left there is emptied. A file that nobody may write, and what is no file, is not to be
+// replaced.
+fn create_beside<R: rt::Files>(files: &R, name: &str, beside: &str) -> io::Result<R::File> {
+    match fs::metadata(files, name) {
+        Ok(found) => {
+            if !found.is_file() || found.permissions().readonly() {
+                return Err(io::Error::from(ErrorKind::PermissionDenied));
+            }
+            let file = fs::create(files, beside)?;
+            file.set_permissions(found.permissions())?;
+            Ok(file)
+        }
+        Err(error) => {
+            if error.kind() == ErrorKind::NotFound {
+                fs::create(files, beside)
+            } else {
+                Err(error)
+            }
+        }
+    }
+}
+
+// Writes all of the bytes into the new file, until they are on the disk.
+fn write_beside<R: rt::Files>(
+    files: &R,
+    name: &str,
+    beside: &str,
+    bytes: &[u8],
+) -> Result<(), FileFault>
+    ensures never_missing { IsErrOf result FileFault.Missing → ⊥ }
+{
+    let file = write_opened(create_beside(files, name, beside), bytes)?;
+    match file.sync_all() {
+        Ok(()) => Ok(()),
+        Err(error) => Err(working_fault(error.kind())),
+    }
+}
+
+// Writes the new file, and gives it the name of the file.
+fn put_in_place<R: rt::Files>(
+    files: &R,
+    name: &str,
+    beside: &str,
+    bytes: &[u8],
+) -> Result<(), FileFault>
+    ensures never_missing { IsErrOf result FileFault.Missing → ⊥ }
+{
+    write_beside(files, name, beside, bytes)?;
+    match fs::rename(files, beside, name) {
+        Ok(()) => Ok(()),
+        Err(error) => Err(working_fault(error.kind())),
+    }
+}
+
+// Replaces a file by a new one of these bytes. Where that fails the new one is taken away again, as
+// far as that goes.
+fn replace_whole<R: rt::Files>(
+    alloc: Global,
+    files: &R,
+    name: &str,
+    bytes: &[u8],
+) -> Result<(), FileFault>
+    ensures never_missing { IsErrOf result FileFault.Missing → ⊥ }
+{
+    let Ok(beside) = name_beside(alloc, name) else {
+        return Err(FileFault::NoMemory);
+    };
+    let result = put_in_place(files, name, &beside, bytes);
+    if result.is_err() {
+        let _left = fs::remove_file(files, &beside);
+    }
+    result
+}
+
 impl<R: rt::Files + Drop> DiskFiles<R> {
     /// The files that the runtime reaches.
     pub fn new(files: R) -> DiskFiles<R>
@@ -184,7 +275,7 @@ impl<R: rt::Files + Drop> DiskFiles<R> {
     }
 }
 
-impl<R: rt::Files + Drop> Files for DiskFiles<R> {
+impl<R: rt::Files + AllocGlobal + Drop> Files for DiskFiles<R> {
     ghost told = { λ _. None };
 
     ghost faults = { λ d. d.faults };
@@ -201,9 +292,28 @@ impl<R: rt::Files + Drop> Files for DiskFiles<R> {
         result
     }
 
+    /// Writes the bytes into a new file beside the file, its name with `.splitfs-new` behind it,
+    /// waits until they are on the disk, and then gives the new file the name, in one step of the
+    /// operating system. So whenever the process, the host or the disk fails, the name has the old
+    /// bytes or all of the new ones. Until the operating system has put the folder on the disk, a
+    /// crash of the host may bring the old ones back.
+    ///
+    /// A failure leaves the file as it was, and takes the new file away as far as that goes; a
+    /// process that is ended, or a crash, may leave the new file, which the next replace
+    /// overwrites. A file that was there under the name with `.splitfs-new` behind it is lost.
+    ///
+    /// It is answered as Failed also where the folder may not be written, where the last part of
+    /// the name gets longer than the file system allows (255 bytes on most), where nobody may write
+    /// the file, and where the name is that of a folder, a device or a pipe. The new file has the
+    /// permissions of the old one, but it is another file: its owner is who runs this, other hard
+    /// links keep the old bytes, and a symbolic link of this name is replaced, and what it leads to
+    /// left as it is.
+    ///
+    /// NoMemory comes where no memory is left for the name of the new file, and where the operating
+    /// system has none.
     fn replace(&mut self, name: &str, bytes: &[u8]) -> Result<(), FileFault> {
-        match write_opened(fs::create(&self.files, name), bytes) {
-            Ok(_) => Ok(()),
+        match replace_whole(self.files.alloc(), &self.files, name, bytes) {
+            Ok(()) => Ok(()),
             Err(fault) => {
                 if fault == FileFault::Failed {
                     self.faults = self.faults.saturating_add(1);

@@ -6,8 +6,9 @@
 //! that is reported has a cause that anyone can see. `MemFiles` and `MemSink` keep all in memory,
 //! tell it, and fail at just the calls that they are given. `DiskFiles` and `OutSink` are the real
 //! ones: they tell nothing, since no contract can say what a disk holds, and count their failures
-//! from 0. `OutSink::put` says what its writer has taken, where the writer tells it. That
-//! `DiskFiles` reads and replaces the right bytes, and that `OutSink` flushes, is tested.
+//! from 0. `OutSink::put` says what its writer has taken, where the writer tells it. `DiskFiles`
+//! puts a new file, once it is on the disk, in the place of the one that it replaces. That it reads
+//! and replaces the right bytes, and that `OutSink` flushes, is tested.
 //!
 //! Stands on std and `thiserror`.
 #![tactic(auto)]

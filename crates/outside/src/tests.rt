@@ -3,9 +3,11 @@
 use crate::disk::{ReadFault, read_whole};
 use crate::{DiskFiles, FileFault, Files, MemFiles, MemSink, OutSink, Sink};
 use std::alloc::Global;
-use std::io;
+use std::fs::Permissions;
 use std::io::{ErrorKind, Read, Write};
+use std::os::unix::fs::PermissionsExt;
 use std::test::Fail;
+use std::{fs, io};
 
 #[test]
 fn files_in_memory(rt: HostRuntime) {
@@ -22,10 +24,15 @@ fn a_sink_in_memory(rt: HostRuntime) {
     assert_eq!(rt; sink.put(b"/ dir\n"), Ok(()));
 }
 
+// A name of this process alone.
+fn own_name(rt: &HostRuntime, what: &str) -> Result<String, Fail> {
+    let number = std::process::id(rt.process());
+    Ok(format!(in rt.alloc(); "/tmp/splitfs-outside-{number}-{what}")?)
+}
+
 #[test]
 fn real_files(rt: HostRuntime) -> Result<(), Fail> {
-    let number = std::process::id(rt.process());
-    let name = format!(in rt.alloc(); "/tmp/splitfs-outside-{number}")?;
+    let name = own_name(&rt, "real")?;
     let alloc = rt.alloc();
     let mut long = vec![in alloc; 7; 10_000]?;
     long[9_999] = 8;
@@ -36,7 +43,54 @@ fn real_files(rt: HostRuntime) -> Result<(), Fail> {
     assert_eq!(rt; read.as_slice(), long.as_slice());
     assert_eq!(rt; files.read(alloc, "/tmp").err(), Some(FileFault::Failed));
     assert_eq!(rt; files.replace("/tmp", &long), Err(FileFault::Failed));
-    std::fs::remove_file(&rt, &name)?;
+    fs::remove_file(&rt, &name)?;
+    Ok(())
+}
+
+// A file that is replaced has the new bytes alone, and the permissions that it had. The new file
+// beside it is gone, also where one had been left.
+#[test]
+fn a_real_file_is_replaced(rt: HostRuntime) -> Result<(), Fail> {
+    let name = own_name(&rt, "replaced")?;
+    let beside = own_name(&rt, "replaced.splitfs-new")?;
+    let alloc = rt.alloc();
+    let mut files = DiskFiles::new(rt.clone()?);
+    assert_eq!(rt; files.replace(&name, b"the old bytes"), Ok(()));
+    fs::set_permissions(&rt, &name, Permissions::from_mode(0o600))?;
+    fs::write(&rt, &beside, b"what an end in between has left")?;
+    assert_eq!(rt; files.replace(&name, b"new"), Ok(()));
+    let read = files.read(alloc, &name).expect(&rt, "the file");
+    assert_eq!(rt; read.as_slice(), b"new".as_slice());
+    let mode = fs::metadata(&rt, &name)?.permissions().mode();
+    assert_eq!(rt; mode & 0o777, 0o600);
+    assert!(rt; !fs::exists(&rt, &beside)?);
+    fs::remove_file(&rt, &name)?;
+    Ok(())
+}
+
+// A replace that fails is answered as Failed, and leaves the file as it was: where the new file
+// cannot be made, where nobody may write the file, and where there is no such folder, in which none
+// is made.
+#[test]
+fn a_real_file_is_not_replaced(rt: HostRuntime) -> Result<(), Fail> {
+    let name = own_name(&rt, "kept")?;
+    let beside = own_name(&rt, "kept.splitfs-new")?;
+    let nowhere = own_name(&rt, "nowhere")?;
+    let inside = own_name(&rt, "nowhere/image")?;
+    let alloc = rt.alloc();
+    let mut files = DiskFiles::new(rt.clone()?);
+    assert_eq!(rt; files.replace(&name, b"the old bytes"), Ok(()));
+    fs::create_dir(&rt, &beside)?;
+    assert_eq!(rt; files.replace(&name, b"new"), Err(FileFault::Failed));
+    fs::remove_dir(&rt, &beside)?;
+    fs::set_permissions(&rt, &name, Permissions::from_mode(0o400))?;
+    assert_eq!(rt; files.replace(&name, b"new"), Err(FileFault::Failed));
+    let read = files.read(alloc, &name).expect(&rt, "the file");
+    assert_eq!(rt; read.as_slice(), b"the old bytes".as_slice());
+    assert!(rt; !fs::exists(&rt, &beside)?);
+    assert_eq!(rt; files.replace(&inside, b"new"), Err(FileFault::Failed));
+    assert!(rt; !fs::exists(&rt, &nowhere)?);
+    fs::remove_file(&rt, &name)?;
     Ok(())
 }
 
@@ -134,8 +188,8 @@ impl Write for RoughWriter {
     }
 }
 
-// Whether six bytes are put, how many of them are taken, and how many of these are flushed, where one
-// of the calls fails.
+// Whether six bytes are put, how many of them are taken, and how many of these are flushed, where
+// one of the calls fails.
 fn rough_put(alloc: Global, fails_at: u8, kind: ErrorKind) -> (bool, usize, usize) {
     let mut writer = RoughWriter {
         taken: Vec::new(alloc),

@@ -1,8 +1,7 @@
 -- What the changes of a `truncate` ask for.
-use Rattle.std.specs.Prelude.{◌≡◌, ◌≤◌, ◌<◌, ◌+◌, ℕ, List, [], ◌∷◌, length, map, Option, Some, refl}
+use Rattle.std.specs.Prelude.{◌≡◌, ◌≤◌, ◌<◌, ◌+◌, List, [], ◌∷◌, length, map, Some, refl}
 use Rattle.std.proofs.Common.{arith, ap, ◌∙◌, sym}
 use Rattle.flight_cleans.specs.disk_lines.declared.Draft.{Draft}
-use Rattle.flight_cleans.specs.disk_lines.declared.Kind.TheVariants.{File}
 use Rattle.flight_cleans.specs.disk_places.Places.{reserve}
 use Rattle.flight_cleans.specs.write_drafts.disk_rules.Content.{size_by}
 use Rattle.flight_cleans.specs.write_drafts.disk_rules.Live.{latest}

@@ -1,5 +1,5 @@
 -- What a `truncate` answers and leaves, each answer.
-use Rattle.std.specs.Prelude.{◌≡◌, ◌≢◌, ◌⊎◌, ◌≤◌, ◌<◌, ◌+◌, ◌-◌, ◌^◌, ℕ, Bool, true, false, List, [], ◌∷◌, ◌++◌, length, map, Option, Some, None, Result, Ok, Err, refl}
+use Rattle.std.specs.Prelude.{◌≡◌, ◌≢◌, ◌≤◌, ◌<◌, ◌+◌, ◌-◌, ℕ, true, false, List, [], ◌∷◌, ◌++◌, length, map, Some, None, Result, Ok, Err, refl}
 use Rattle.std.proofs.Common.{arith, ap, ◌∙◌, sym, subst, inl, inr}
 use Rattle.flight_cleans.specs.pm_words.declared.Cell.{Cell}
 use Rattle.flight_cleans.specs.pm_words.Images.{IsImage}
@@ -18,10 +18,8 @@ use Rattle.flight_cleans.specs.list_facts.Members.{In}
 use Rattle.flight_sizes.proofs.flight_names_proofs.lost_devices_proofs.Cuts.{left_at, left_map_cut, left_overwritten, left_through}
 use Rattle.flight_sizes.specs.flight_names.lost_devices.Left.{IsLeftOf}
 use Rattle.posix_types.specs.declared.call.Call.{Call}
-use Rattle.posix_types.specs.declared.call.Mode.{Mode}
 use Rattle.posix_types.specs.declared.call.Who.{Who}
 use Rattle.posix_types.specs.declared.handle.Handle.{Handle}
-use Rattle.posix_types.specs.declared.item.Item.{Item}
 use Rattle.posix_types.specs.declared.item.Outcome.{Outcome}
 use Rattle.posix_types.specs.declared.reply.Errno.{Errno}
 use Rattle.posix_types.specs.declared.reply.Reply.{Reply}
@@ -31,9 +29,8 @@ use Rattle.posix_words.specs.Outcomes.{answer, first}
 use Rattle.posix_words.specs.Room.{growth}
 use Rattle.flight_cleans.specs.write_drafts.posix_spec.FileRows.{content, truncate_rows}
 use Rattle.flight_cleans.specs.write_drafts.crash_spec.Busy.{waits_for}
-use Rattle.flight_cleans.specs.write_drafts.posix_spec.Run.{after_call, run}
+use Rattle.flight_cleans.specs.write_drafts.posix_spec.Run.{run}
 use Rattle.flight_cleans.specs.write_drafts.posix_spec.State.{room, State}
-use Rattle.flight_cleans.specs.write_drafts.posix_spec.Step.{step}
 use Rattle.flight_cleans.specs.write_drafts.Numbers.{RoomIsKept}
 use Rattle.flight_cleans.specs.write_drafts.write_rows.Rows.{truncate_row_by}
 use Rattle.flight_cleans.specs.Laws.{KeepsCleaned, MayClean, StandsCleaned}
@@ -41,23 +38,23 @@ use Rattle.flight_sizes.proofs.Cut.{keeps_sized}
 use Rattle.flight_sizes.proofs.Sized.{stands_sized}
 use Rattle.flight_sizes.proofs.Zeros.{cleans_behind}
 use Rattle.flight_sizes.specs.Sizes.{AreZeros, MaySize}
-use Rattle.flight_sizes.specs.flight_names.flight_steps.k_split.Bytes.{IsOverwriteCut, IsOverwriteDone, tail_zeros}
+use Rattle.flight_sizes.specs.flight_names.flight_steps.k_split.Bytes.{tail_zeros}
 use Rattle.flight_sizes.specs.flight_names.flight_steps.k_split.declared.faults.KFault.{KFault}
-use Rattle.flight_sizes.specs.flight_names.flight_steps.k_split.MapChanges.{IsMapCut, IsSizeAnswer, IsSizedWith}
-use Rattle.flight_sizes.specs.flight_names.flight_steps.k_split.Answers.{IsOff}
+use Rattle.flight_sizes.specs.flight_names.flight_steps.k_split.MapChanges.{IsSizeAnswer}
 use Rattle.flight_sizes.specs.flight_names.flight_steps.k_plans.Whole.{IsWhole}
 use Rattle.flight_sizes.specs.flight_names.flight_steps.world_images.Promised.{IsKept}
 use Rattle.flight_sizes.specs.flight_names.flight_steps.world_lent.Back.{IsPutBack}
 use Rattle.flight_sizes.specs.flight_names.flight_steps.world_promise.JobLaws.{needs as needs_of}
 use Rattle.flight_sizes.specs.flight_names.flight_steps.world_rules.Jobs.{begun_of, Job}
 use Rattle.flight_sizes.specs.flight_names.flight_steps.world_rules.Stands.{number}
-use Rattle.flight_sizes.specs.flight_names.flight_steps.world_steps.Steps.{AreBeside, flights_of, LetsJobsBe}
-use Rattle.flight_sizes.specs.flight_names.flight_steps.world_standing.Standing.{Kept, StandsAt}
+use Rattle.flight_sizes.specs.flight_names.flight_steps.world_steps.Steps.{LetsJobsBe}
+use Rattle.flight_sizes.specs.flight_names.flight_steps.world_standing.Standing.{Kept}
 use Rattle.flight_sizes.specs.flight_names.declared.outcomes.NoMemory.{NoMemory}
 use Rattle.flight_sizes.specs.flight_names.Runs.{RunsAs, with_files}
 use Rattle.flight_sizes.proofs.flight_names_proofs.CloseCalls.{handle_open}
 use Rattle.flight_sizes.proofs.flight_names_proofs.Running.{leaves_off, loses_off, runs_later, two_each, world}
-use Rattle.flight_truncates.specs.Truncates.{Answers, EndsRound, Finds, HasSize, IsClean, IsCleanAnswer, IsGiven, IsTruncated, IsTruncatePaid, Loses, StillRuns}
+use Rattle.flight_truncates.specs.Truncates.{Answers, Finds, HasSize, IsAsked, IsClean, IsCleanAnswer, IsGiven, IsLacking, IsTruncated, IsTruncatePaid, lacking_by, LeavesEnough, LeavesLess, Loses, StillRuns}
+use Rattle.flight_truncates.specs.declared.asking.Asked.{Asked}
 use Rattle.flight_truncates.specs.declared.outcomes.Truncated.{Truncated}
 use Rattle.flight_truncates.proofs.Rows.{content_long, outcome_done, room_is, room_left, row_is, same_entries, step_done, step_refused, unknown_row, waits}
 
@@ -89,14 +86,26 @@ module _ (who : Who) (h : Handle) (size needs : ℕ) (k : View) (t : Tables) (f 
   pub refused_row : (o : Outcome) → truncate_row_by d.flags.write size (size_in f d.node) (room_left k f) ≡ Some o → Answers who h size needs k t f k f o
   refused_row o is = refused who h size needs k t f o (λ g x n s runs. row_at g x n s runs ∙ is)
 
-  pub round_ends : (need left : ℕ) → truncate_row_by d.flags.write size (size_in f d.node) (room_left k f) ≡ None → need ≡ growth (size_in f d.node) size → left ≡ room_left k f - needs → left < need
-      → EndsRound who h size needs k t f need left
-  round_ends need left none need_is left_is lacks = record {
+  pub leaves_less : (need left : ℕ) → truncate_row_by d.flags.write size (size_in f d.node) (room_left k f) ≡ None → need ≡ growth (size_in f d.node) size → left ≡ room_left k f - needs → left < need
+      → LeavesLess who h size needs k t f need left
+  leaves_less need left none need_is left_is lacks = record {
     accepted = λ g x n s finds. row_at g x n s finds.runs ∙ none;
     need_is = λ g x n s finds. need_is ∙ ap (λ m. growth m size) (sym (content_long g k t (with_files x f) n s finds.runs who h d known));
     left_is = λ g x n s finds. left_is ∙ ap (λ m. m - needs) (sym (room_is g k t (with_files x f) n s finds.runs who h d known room_kept));
     lacks = lacks;
   }
+
+  pub leaves_enough : growth (size_in f d.node) size ≤ room_left k f - needs → LeavesEnough who h size needs k t f
+  leaves_enough fits g x n s finds accepted =
+      let long = content_long g k t (with_files x f) n s finds.runs who h d known in
+      let left = room_is g k t (with_files x f) n s finds.runs who h d known room_kept in
+      subst (λ m. growth m size ≤ room s - needs) (sym long) (subst (λ m. growth (size_in f d.node) size ≤ m - needs) (sym left) fits)
+
+  -- what is asked by numbers tells whether there is room
+  pub asked_lacks : (asked : Asked) → IsAsked d.flags.write size (size_in f d.node) (room_left k f) needs asked → IsLacking who h size needs k t f (lacking_by asked)
+  asked_lacks (Asked.Answered o) is = (refused_row o is).enough
+  asked_lacks (Asked.Full need rest) (none, need_is, rest_is, lacks) = leaves_less need rest none need_is rest_is lacks
+  asked_lacks Asked.Goes (none, fits, small) = leaves_enough fits
 
   -- ---- it goes on
 
@@ -124,17 +133,11 @@ module _ (who : Who) (h : Handle) (size needs : ℕ) (k : View) (t : Tables) (f 
       zeros l (inl same) image is = λ i least most. absurd (omega (arith, least, most, same.0))
       zeros l (inr done) image is = cleans_behind g k l t (with_files x f) true n s d.node size finds.runs file ends done.1 image is
 
-      -- the jobs that are out leave what it takes
-      leaves_enough : growth (length (content s who h)) size ≤ room s - needs
-      leaves_enough =
-          let long = content_long g k t (with_files x f) n s finds.runs who h d known in
-          let left = room_is g k t (with_files x f) n s finds.runs who h d known room_kept in
-          subst (λ m. growth m size ≤ room s - needs) (sym long) (subst (λ m. growth (size_in f d.node) size ≤ m - needs) (sym left) fits)
-
+      -- beside the jobs that are out there is what it takes
       fits_beside : growth (length (content s who h)) size + needs_of s finds.runs.jobs ≤ room s
       fits_beside =
           let all : needs_of s finds.runs.jobs ≤ room s = (world g k t (with_files x f) n s finds.runs).valid.room in
-          let takes = leaves_enough in
+          let takes = leaves_enough fits g x n s finds (row_at g x n s finds.runs ∙ none) in
           let needed = finds.needs_are in
           omega (arith, all, takes, needed)
 
@@ -156,7 +159,7 @@ module _ (who : Who) (h : Handle) (size needs : ℕ) (k : View) (t : Tables) (f 
       runs = λ g x n s finds. (let now = cleaned g x n s finds stands_clean middle clean in
           (stands_sized g middle l t (with_files x f) u true n (n + 1) s who h size d.node (omega arith) now.0 (may_size g x n s finds middle now.0 now.1 now.2 clean) has.sized has.file has.spare).0);
       outcome_is = λ g x n s finds. ap (λ z. z.outcome) (step_done s who h size (row_at g x n s finds.runs ∙ none)) ∙ outcome_done s who h size;
-      enough = λ g x n s finds accepted. leaves_enough g x n s finds;
+      enough = leaves_enough fits;
       names = λ g x n s finds. same_entries s who h size;
     }
 

@@ -1,10 +1,10 @@
 -- The rows of a `truncate` by numbers are those of the state.
-use Rattle.std.specs.Prelude.{◌≡◌, ◌≤◌, ◌<◌, ◌+◌, ◌-◌, ℕ, nat_le, nat_lt, not, Bool, true, false, [], ◌∷◌, length, Option, Some, None, is_none, option_map, sum_by, refl}
+use Rattle.std.specs.Prelude.{◌≡◌, ◌-◌, ℕ, Bool, true, false, length, Option, Some, None, option_map, sum_by, refl}
 use Rattle.std.specs.Option.{option_map_or}
-use Rattle.std.proofs.Common.{arith, ap, ◌∙◌, sym, subst}
+use Rattle.std.proofs.Common.{ap, ◌∙◌}
 use Rattle.flight_cleans.specs.block_counts.Counts.{held_by, reserve_for}
 use Rattle.flight_cleans.specs.disk_places.Places.{data_blocks, Geometry}
-use Rattle.flight_cleans.specs.write_drafts.file_table.Files.{Files, runs_in, size_in}
+use Rattle.flight_cleans.specs.write_drafts.file_table.Files.{Files, size_in}
 use Rattle.flight_cleans.specs.write_drafts.k_rules.View.{View}
 use Rattle.flight_cleans.specs.open_numbers.Numbered.{described_as}
 use Rattle.posix_types.specs.declared.call.Call.{Call}
@@ -16,9 +16,8 @@ use Rattle.posix_types.specs.declared.reply.Reply.{Reply}
 use Rattle.posix_words.specs.declared.open.Description.{Description}
 use Rattle.posix_words.specs.Nodes.{bytes_of, node_at}
 use Rattle.posix_words.specs.Open.{may_write, opened, Tables}
-use Rattle.posix_words.specs.Outcomes.{answer, first, row}
-use Rattle.posix_words.specs.Room.{growth}
-use Rattle.flight_cleans.specs.write_drafts.posix_spec.FileRows.{content, file_number, truncate_rows}
+use Rattle.posix_words.specs.Outcomes.{answer, first}
+use Rattle.flight_cleans.specs.write_drafts.posix_spec.FileRows.{content, truncate_rows}
 use Rattle.flight_cleans.specs.write_drafts.posix_spec.Run.{after_call}
 use Rattle.flight_cleans.specs.write_drafts.posix_spec.State.{room, State, with_file}
 use Rattle.flight_cleans.specs.write_drafts.posix_spec.Step.{step, stepped, truncate_done}
@@ -28,7 +27,7 @@ use Rattle.flight_cleans.specs.write_drafts.Numbers.{RoomIsKept}
 use Rattle.flight_cleans.specs.write_drafts.write_rows.Rows.{truncate_row_by}
 use Rattle.flight_sizes.specs.flight_names.flight_steps.world_rules.Stands.{number}
 use Rattle.flight_sizes.specs.flight_names.flight_steps.world_standing.Standing.{Kept}
-use Rattle.flight_sizes.specs.flight_names.Runs.{RunsAs, with_files}
+use Rattle.flight_sizes.specs.flight_names.Runs.{RunsAs}
 use Rattle.flight_sizes.proofs.flight_names_proofs.CloseCalls.{handle_open, handle_there}
 
 -- how much room all files leave

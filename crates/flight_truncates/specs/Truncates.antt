@@ -54,6 +54,12 @@ IsAsked may size old left needs (Asked.Full need rest) =
 IsAsked may size old left needs Asked.Goes =
     (truncate_row_by may size old left ≡ None) × (growth old size ≤ left - needs) × (size ≤ 16777216)
 
+-- what lacks, if it is room
+abbrev pub lacking_by : Asked → Option (ℕ × ℕ)
+lacking_by (Asked.Answered outcome) = None
+lacking_by (Asked.Full need rest) = Some (need, rest)
+lacking_by Asked.Goes = None
+
 -- ---- the changes of K-Split
 
 -- the rest of the last block is clean, where the file grows
@@ -113,6 +119,30 @@ pub record Finds (g : Geometry) (k : View) (t : Tables) (x : Kept) (n : ℕ) (s 
   pub beside : LetsJobsBe s (who, call) runs.numbers runs.jobs
   pub needs_are : needs ≡ needs_of s runs.jobs
 
+-- ---- whether there is room
+
+-- the jobs that are out leave what it takes, where no row refuses it
+abbrev pub LeavesEnough : Who → Handle → ℕ → ℕ → View → Tables → Files → Type 0
+LeavesEnough who h size needs k t f =
+    (g : Geometry) (x : Kept) (n : ℕ) (s : State)
+    → Finds g k t (with_files x f) n s who (Call.Truncate h size) needs
+    → first (truncate_rows s who h size) ≡ None → growth (length (content s who h)) size ≤ room s - needs
+
+-- No row refuses it, but the jobs that are out leave less room than it takes.
+pub record LeavesLess (who : Who) (h : Handle) (size needs : ℕ) (k : View) (t : Tables) (f : Files) (need left : ℕ) : Type 0 where
+  pub accepted : (g : Geometry) (x : Kept) (n : ℕ) (s : State)
+      → Finds g k t (with_files x f) n s who (Call.Truncate h size) needs → first (truncate_rows s who h size) ≡ None
+  pub need_is : (g : Geometry) (x : Kept) (n : ℕ) (s : State)
+      → Finds g k t (with_files x f) n s who (Call.Truncate h size) needs → need ≡ growth (length (content s who h)) size
+  pub left_is : (g : Geometry) (x : Kept) (n : ℕ) (s : State)
+      → Finds g k t (with_files x f) n s who (Call.Truncate h size) needs → left ≡ room s - needs
+  pub lacks : left < need
+
+-- THE ROOM THAT LACKS: what it takes, and what the jobs that are out leave; or they leave enough.
+abbrev pub IsLacking : Who → Handle → ℕ → ℕ → View → Tables → Files → Option (ℕ × ℕ) → Type 0
+IsLacking who h size needs k t f None = LeavesEnough who h size needs k t f
+IsLacking who h size needs k t f (Some (need, left)) = LeavesLess who h size needs k t f need left
+
 -- ---- what it answers
 
 -- It is done, or refused: they run in the next state, and the outcome is that of the step. Where no row refuses it, the jobs that are out
@@ -125,22 +155,10 @@ pub record Answers (who : Who) (h : Handle) (size needs : ℕ) (k : View) (t : T
   pub outcome_is : (g : Geometry) (x : Kept) (n : ℕ) (s : State)
       → Finds g k t (with_files x f) n s who (Call.Truncate h size) needs
       → (step s who (Call.Truncate h size)).outcome ≡ outcome
-  pub enough : (g : Geometry) (x : Kept) (n : ℕ) (s : State)
-      → Finds g k t (with_files x f) n s who (Call.Truncate h size) needs
-      → first (truncate_rows s who h size) ≡ None → growth (length (content s who h)) size ≤ room s - needs
+  pub enough : LeavesEnough who h size needs k t f
   pub names : (g : Geometry) (x : Kept) (n : ℕ) (s : State)
       → Finds g k t (with_files x f) n s who (Call.Truncate h size) needs
       → (after_call s (who, Call.Truncate h size)).entries ≡ s.entries
-
--- THE ROUND IS OVER for want of space: no row refuses it, but the jobs that are out leave less room than it takes. Nothing was done.
-pub record EndsRound (who : Who) (h : Handle) (size needs : ℕ) (k : View) (t : Tables) (f : Files) (need left : ℕ) : Type 0 where
-  pub accepted : (g : Geometry) (x : Kept) (n : ℕ) (s : State)
-      → Finds g k t (with_files x f) n s who (Call.Truncate h size) needs → first (truncate_rows s who h size) ≡ None
-  pub need_is : (g : Geometry) (x : Kept) (n : ℕ) (s : State)
-      → Finds g k t (with_files x f) n s who (Call.Truncate h size) needs → need ≡ growth (length (content s who h)) size
-  pub left_is : (g : Geometry) (x : Kept) (n : ℕ) (s : State)
-      → Finds g k t (with_files x f) n s who (Call.Truncate h size) needs → left ≡ room s - needs
-  pub lacks : left < need
 
 -- THE POWER WENT, in strict mode: each image, once log lines and blocks of jobs are put back, is kept with the calls of the jobs
 -- unfinished, and this one as the last; and the device is left of the one before.
@@ -166,7 +184,7 @@ abbrev pub IsTruncated : Who → Handle → ℕ → ℕ → View → Tables → 
 IsTruncated who h size needs k t f l u old new (Ok (Truncated.Answered outcome)) =
     Answers who h size needs k t f l u outcome × (is_on new ≡ true)
 IsTruncated who h size needs k t f l u old new (Ok (Truncated.RoundOver need left)) =
-    EndsRound who h size needs k t f need left × (l ≡ k) × (u ≡ f) × (new ≡ old)
+    LeavesLess who h size needs k t f need left × (l ≡ k) × (u ≡ f) × (new ≡ old)
 IsTruncated who h size needs k t f l u old new (Ok Truncated.PowerLost) =
     Loses who h size needs k t f l × (u ≡ f) × (is_on new ≡ false)
 IsTruncated who h size needs k t f l u old new (Err e) = StillRuns who h size needs k t f l × (u ≡ f) × (is_on new ≡ true)

@@ -1,6 +1,6 @@
 //! How a `truncate` goes, by numbers.
 ghost use Rattle.std.specs.Prelude.{◌≡◌, ◌≤◌};
-ghost use Rattle.flight_truncates.specs.Truncates.{IsAsked, IsBeside};
+ghost use Rattle.flight_truncates.specs.Truncates.{IsAsked, IsBeside, lacking_by};
 
 use flight_cleans::truncate_row;
 use posix_types::Outcome;
@@ -39,5 +39,16 @@ pub(crate) fn ask(may: bool, size: u64, old: u64, room: u64, needs: u64) -> Aske
     match truncate_row(may, size, old, room) {
         Some(outcome) => Asked::Answered(outcome),
         None => beside(size, old, room, needs),
+    }
+}
+
+// The blocks that it takes, and those that are left, where these are too few.
+pub(crate) fn lacking(asked: Asked) -> Option<(u64, u64)>
+    ensures { result ≡ lacking_by asked }
+{
+    match asked {
+        Asked::Full { need, left } => Some((need, left)),
+        Asked::Answered(_) => None,
+        Asked::Goes => None,
     }
 }

@@ -6,7 +6,8 @@
 //! step, and they run in its next state. Or no row refuses it but these writes leave less, and
 //! nothing was done; or the power went, and each image, with log lines and blocks of jobs put back,
 //! is kept with the calls of the jobs unfinished, and this one; or memory wanted, and they run in the
-//! same state (`IsTruncated`).
+//! same state (`IsTruncated`). Whether these writes leave less can be asked before, while something is
+//! staged of the file (`lacks_room`).
 //! A file that grows has its last block cleaned first, so that it shows zeros behind its old end:
 //! this asks that nothing lies past the ends of files (`FilesEnd`), and leaves it so.
 //!
@@ -19,4 +20,4 @@ mod sizing;
 mod truncating;
 
 pub use outcomes::Truncated;
-pub use truncating::truncate_file;
+pub use truncating::{lacks_room, truncate_file};

@@ -4,9 +4,9 @@ ghost use Rattle.flight_sizes.specs.flight_names.file_ends.Ends.{FilesEnd};
 ghost use Rattle.flight_sizes.specs.flight_names.Answers.{KeepsEnds};
 ghost use Rattle.flight_sizes.specs.flight_names.Runs.{RunsInSome};
 ghost use Rattle.flight_cleans.specs.pm_words.Powers.{is_on, Steps};
-ghost use Rattle.flight_truncates.specs.Truncates.{HasNothingStaged, IsTruncated};
+ghost use Rattle.flight_truncates.specs.Truncates.{HasNothingStaged, IsLacking, IsTruncated};
 
-use crate::asking::{Asked, ask};
+use crate::asking::{Asked, ask, lacking};
 use crate::outcomes::Truncated;
 use crate::sizing::give_size;
 use flight_cleans::{
@@ -17,6 +17,28 @@ use pm_lines::Power;
 use posix_types::{Errno, Handle, Reply, Who};
 use posix_words::outcomes::answer;
 use std::alloc::Global;
+
+/// Whether writes of other callers that are out, and need `needs` blocks together, leave too little room for a `truncate`
+/// that no row refuses: the blocks that it takes, and those that are left. Something may be staged of the file still.
+pub fn lacks_room(
+    k: &KSplit,
+    files: &OpenFiles,
+    data: &FileTable,
+    who: Who,
+    handle: Handle,
+    size: u64,
+    needs: u64,
+) -> Option<(u64, u64)>
+    requires runs { RunsInSome k.now files.now.tables data.now }
+    ensures { IsLacking who handle size needs k.now files.now.tables data.now result }
+{
+    kept_numbers_are_those_of_the_state();
+    let Some(file) = files.find(who, handle) else {
+        return None;
+    };
+    let room = room_by(k.geometry().data_blocks(), data.held());
+    lacking(ask(file.flags.write, size, data.size(file.ino), room, needs))
+}
 
 /// Gives the file of a handle another size, beside writes of other callers that are out, of other
 /// files, and need `needs` blocks together. Nothing is staged of the file, and nothing lies past the

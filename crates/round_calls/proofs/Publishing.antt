@@ -217,7 +217,7 @@ module _ (k : View) (t : Tables) (staging : Staged) (files : Files) (w : WorldVi
 
     -- THE WORLD IS AT THE CALL STILL,
     pub published_at : AtCall l t staging laid (record w { disk = disk_of l t staging }) who call
-    published_at = still_at k t staging files w who call one l staging laid refl base_now ends_now stood.now
+    published_at = still_at k t staging files w who call one l staging laid refl base_now ends_now stood.now refl
 
     pub others_published : OthersStay w (record w { disk = disk_of l t staging }) who
     others_published = others_still k t staging files w who call one l staging laid refl base_now ends_now stood.now w.over w.acts

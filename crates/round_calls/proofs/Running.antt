@@ -134,6 +134,7 @@ module _ (k : View) (t : Tables) (staging : Staged) (files : Files) (w : WorldVi
       enough = enough;
       published = published;
       of_file = of_open_file call;
+      staging = sym (ap (λ (d : Disk). d.staging) one.world.disk_is);
       stay = others_returned k t staging files w one.world one.begins.awake one.out who call one.begins.next one.up one.none one.begins.idle l u laid base ends stands;
       on = on;
       spent = spent;

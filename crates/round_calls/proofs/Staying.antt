@@ -1,5 +1,5 @@
 -- A World at its next call, and how it stays where the call is not begun.
-use Rattle.std.specs.Prelude.{◌≡◌, ◌≢◌, ◌⊎◌, ◌≤◌, ◌<◌, ◌+◌, ◌^◌, ℕ, true, [], length, Option, Some, None, refl}
+use Rattle.std.specs.Prelude.{◌≡◌, ◌≢◌, ◌⊎◌, ◌≤◌, ◌<◌, ◌+◌, ◌-◌, ◌^◌, ℕ, true, List, [], ◌∷◌, length, Option, Some, None, sum_by, refl}
 use Rattle.std.proofs.Common.{arith, ap, ◌∙◌, sym, subst, inl, inr}
 use Rattle.map_ends.specs.pm_words.Powers.{is_on, Supply}
 use Rattle.map_ends.specs.file_table.Files.{Files}
@@ -8,19 +8,31 @@ use Rattle.map_ends.specs.posix_types.declared.call.Call.{Call}
 use Rattle.map_ends.specs.posix_types.declared.call.Mode.{Mode}
 use Rattle.map_ends.specs.posix_types.declared.call.Who.{Who}
 use Rattle.map_ends.specs.posix_words.Open.{Tables}
+use Rattle.map_ends.specs.posix_puts.Views.{need_of}
+use Rattle.map_ends.specs.posix_spec.State.{room, State}
 use Rattle.round_turns.specs.round_jobs.script_calls.Counts.{history_within}
+use Rattle.round_turns.specs.round_jobs.staging_files.GivesUp.{nothing_staged}
 use Rattle.round_turns.specs.round_jobs.staging_files.Keeps.{Staged}
 use Rattle.round_turns.specs.round_jobs.world_images.Settings.{setting_run}
-use Rattle.round_turns.specs.round_jobs.world_standing.Standing.{StandsAt}
+use Rattle.round_turns.specs.round_jobs.world_standing.Standing.{Pending, StandsAt}
 use Rattle.round_turns.proofs.Beginning.{standing}
 use Rattle.round_turns.proofs.Ending.{no_both}
 use Rattle.round_turns.specs.round_views.declared.over.Over.{Over}
 use Rattle.round_turns.proofs.round_views_proofs.losing_facts_proofs.Homes.{has_blocks_out}
-use Rattle.round_turns.specs.round_views.Begins.{EndsRound, LacksBeside, LacksStaging, LeavesByWrite, OthersStay}
+use Rattle.round_turns.specs.round_views.Begins.{EndsRound, LacksBeside, LacksStaging, OthersStay}
 use Rattle.round_turns.specs.round_views.file_ends.Ends.{FilesEnd}
 use Rattle.round_turns.specs.round_views.Views.{Disk, disk_of, IsGoing, IsWorldOver, kept_of, state_of, WorldView}
 use Rattle.round_calls.specs.Calls.{AtCall}
 use Rattle.round_calls.proofs.Jobs.{some_out}
+
+no_items : {X : Type 0} → (xs : List X) → length xs ≡ 0 → xs ≡ []
+no_items [] is = refl
+no_items (x ∷ xs) is = absurd (omega (arith, is))
+
+-- no job, no needs
+no_needs : (s : State) (pending : List Pending) → pending ≡ [] → sum_by (λ (p : Pending). need_of s p.who p.call) pending ≡ 0
+no_needs s [] none = refl
+no_needs s (p ∷ pending) none = cc
 
 module _ (k : View) (t : Tables) (staging : Staged) (files : Files) (w : WorldView) (who : Who) (call : Call) (one : AtCall k t staging files w who call) where
   abbrev pub stands_now : StandsAt w.geometry k t (kept_of w staging files) true (length w.history) (state_of w)
@@ -44,10 +56,11 @@ module _ (k : View) (t : Tables) (staging : Staged) (files : Files) (w : WorldVi
   -- THEY STAND TOGETHER STILL, in the same state, over another K-Split.
   module _ (l : View) (staged : Staged) (laid : Files) (runs : length staged.out ≡ length staging.out) (base : l.volume.base ≡ k.volume.base) (ends : FilesEnd l.volume laid)
       (stands : StandsAt w.geometry l t (kept_of w staged laid) true (length w.history) (state_of w)) where
-    going_still : (over : Option Over) (acts : ℕ) → IsGoing l t staged laid (record w { over = over; acts = acts; disk = disk_of l t staged })
-    going_still over acts = record {
+    going_still : (over : Option Over) (acts : ℕ) → (over ≡ None → w.claims ≡ [] → w.pending ≡ [] → staged ≡ nothing_staged) → IsGoing l t staged laid (record w { over = over; acts = acts; disk = disk_of l t staged })
+    going_still over acts bare = record {
       stands = subst (λ b. StandsAt w.geometry l t (kept_of w staged laid) b (length w.history) (state_of w)) (sym one.out) stands;
       runs = runs ∙ going_now.runs;
+      bare = bare;
       none_unfinished = going_now.none_unfinished;
       none_home = going_now.none_home;
       base = going_now.base ∙ sym base;
@@ -69,8 +82,8 @@ module _ (k : View) (t : Tables) (staging : Staged) (files : Files) (w : WorldVi
     same_view = record w { disk = disk_of l t staged }
 
     -- The World stands as before,
-    pub unchanged : IsWorldOver l t staged laid same_view
-    unchanged = record {
+    pub unchanged : staged ≡ staging → IsWorldOver l t staged laid same_view
+    unchanged same = record {
       mode = one.world.mode;
       few = one.world.few;
       threads = one.world.threads;
@@ -89,14 +102,14 @@ module _ (k : View) (t : Tables) (staging : Staged) (files : Files) (w : WorldVi
         low = one.world.counted.low;
       };
       disk_is = refl;
-      going = λ still. going_still w.over w.acts;
+      going = λ still. going_still w.over w.acts (λ goes none empty. same ∙ going_now.bare goes none empty);
       gone = λ off. no_both w.lost off one.begins.awake _;
     }
 
     -- at the same call;
-    pub still_at : AtCall l t staged laid same_view who call
-    still_at = record {
-      world = unchanged;
+    pub still_at : staged ≡ staging → AtCall l t staged laid same_view who call
+    still_at same = record {
+      world = unchanged same;
       out = one.out;
       begins = record { next = one.begins.next; going = one.begins.going; awake = one.begins.awake; idle = one.begins.idle };
       up = one.up;
@@ -132,24 +145,45 @@ module _ (k : View) (t : Tables) (staging : Staged) (files : Files) (w : WorldVi
           low = one.world.counted.low;
         };
         disk_is = refl;
-        going = λ on. going_still (Some (Over.Space needed left)) (w.acts + 1);
+        going = λ on. going_still (Some (Over.Space needed left)) (w.acts + 1) (λ goes none empty. (let never : Some (Over.Space needed left) ≡ None = goes in cc));
         gone = λ off. no_both w.lost off one.begins.awake _;
       }
 
-      pub ends_round : LacksBeside w who call needed left ⊎ LacksStaging w who call needed left → staged ≡ staging → LeavesByWrite (LacksBeside w who call needed left) call w.disk (disk_of l t staged) → (after : Supply) → is_on after ≡ true
-          → EndsRound who w over_view after needed left
-      ends_round cause same write after on = record {
+      pub ends_round : LacksBeside w who call needed left ⊎ LacksStaging w who call needed left → disk_of l t staged ≡ record w.disk { cells = l.cells } → (LacksBeside w who call needed left → disk_of l t staged ≡ w.disk)
+          → (after : Supply) → is_on after ≡ true → EndsRound who w over_view after needed left
+      ends_round cause cells_alone nothing after on = record {
         call = call;
         begins = one.begins;
         cause = cause;
         late = late;
         new_is = refl;
-        tables = sym (ap (λ (d : Disk). d.tables) one.world.disk_is);
-        staging = same ∙ sym (ap (λ (d : Disk). d.staging) one.world.disk_is);
-        write = write;
+        cells_alone = cells_alone;
+        nothing = nothing;
         stay = others_still (Some (Over.Space needed left)) (w.acts + 1);
         on = on;
       }
+
+  -- THE JOBS THAT ARE OUT LEAVE IT TOO LITTLE: the round is over, and nothing else changed.
+  module _ (needed left : ℕ) (lacks : LacksBeside w who call needed left) where
+    some_job : w.pending ≢ []
+    some_job none =
+        let less = lacks.lacks in
+        let rest = lacks.left_is in
+        let fits = lacks.fits in
+        let zero = no_needs (state_of w) w.pending none in
+        omega (arith, less, rest, fits, zero)
+
+    pub lacks_over : IsWorldOver k t staging files (record w { over = Some (Over.Space needed left); acts = w.acts + 1; disk = disk_of k t staging })
+    lacks_over = round_over k staging files refl refl going_now.ends stands_now needed left (inl some_job)
+
+    pub lacks_ends : (after : Supply) → is_on after ≡ true → EndsRound who w (record w { over = Some (Over.Space needed left); acts = w.acts + 1; disk = disk_of k t staging }) after needed left
+    lacks_ends = ends_round k staging files refl refl going_now.ends stands_now needed left (inl some_job) (inl lacks) (ap (λ (d : Disk). record d { cells = k.cells }) (sym one.world.disk_is)) (λ beside. sym one.world.disk_is)
+
+  -- where no run is out nothing is staged
+  pub bare_at_rest : staging.out ≡ [] → staging ≡ nothing_staged
+  bare_at_rest none =
+      let zero : 0 ≡ length w.claims + length w.pending = ap length (sym none) ∙ going_now.runs in
+      going_now.bare one.begins.going (no_items w.claims (omega (arith, zero))) (no_items w.pending (omega (arith, zero)))
 
   -- a run is out only beside a job or behind a call that returned
   pub late_run : staging.out ≢ [] → (w.pending ≢ []) ⊎ (w.settled < length w.history)

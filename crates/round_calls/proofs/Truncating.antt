@@ -1,6 +1,6 @@
 -- A `truncate` of a World.
-use Rattle.std.specs.Prelude.{◌≡◌, ◌≢◌, ◌≤◌, ◌+◌, ◌-◌, ◌++◌, nat_le, nat_lt, ℕ, Bool, true, false, List, [], ◌∷◌, length, map, Option, Some, None, sum_by, refl}
-use Rattle.std.proofs.Common.{arith, lit<, ap, ◌∙◌, sym, inl}
+use Rattle.std.specs.Prelude.{◌≡◌, ◌≤◌, ◌+◌, ◌-◌, ◌++◌, nat_le, nat_lt, ℕ, Bool, true, false, List, [], ◌∷◌, length, map, Option, None, refl}
+use Rattle.std.proofs.Common.{arith, lit<, ap, ◌∙◌, sym}
 use Rattle.std.proofs.lemmas.Bool.Decides.{nat_tests}
 use Rattle.map_ends.specs.block_counts.Counts.{held_by}
 use Rattle.map_ends.specs.pm_words.declared.Cell.{Cell}
@@ -19,7 +19,6 @@ use Rattle.map_ends.specs.posix_types.declared.reply.What.{What}
 use Rattle.map_ends.specs.posix_words.Open.{Tables}
 use Rattle.map_ends.specs.posix_words.Outcomes.{first, space_row, unless}
 use Rattle.map_ends.specs.posix_words.Room.{growth}
-use Rattle.map_ends.specs.posix_puts.Views.{need_of}
 use Rattle.map_ends.specs.posix_facts.RowLaws.{none_fits}
 use Rattle.map_ends.specs.posix_spec.FileRows.{content, no_blocks, truncate_rows}
 use Rattle.map_ends.specs.posix_spec.Put.{put_by}
@@ -30,18 +29,17 @@ use Rattle.map_ends.specs.crash_spec.Busy.{is_logged}
 use Rattle.round_turns.specs.round_jobs.staging_files.Keeps.{Staged}
 use Rattle.round_turns.specs.round_jobs.world_images.Promised.{IsKept}
 use Rattle.round_turns.specs.round_jobs.world_rules.Jobs.{begun_of}
-use Rattle.round_turns.specs.round_jobs.world_standing.Standing.{Pending, StandsAt}
+use Rattle.round_turns.specs.round_jobs.world_standing.Standing.{StandsAt}
 use Rattle.round_turns.specs.round_jobs.world_standing.world_promise.JobLaws.{needs}
 use Rattle.round_turns.proofs.Beginning.{lost_call, others_lost}
 use Rattle.round_turns.proofs.Losing.{lost_view}
-use Rattle.round_turns.specs.round_views.declared.over.Over.{Over}
-use Rattle.round_turns.specs.round_views.Begins.{EndsRound, LacksBeside, LosesCall}
+use Rattle.round_turns.specs.round_views.Begins.{LacksBeside, LosesCall}
 use Rattle.round_turns.specs.round_views.lost_devices.Left.{IsLeftOf}
 use Rattle.round_turns.specs.round_views.Views.{disk_of, IsWorldOver, kept_of, state_of, WorldView}
 use Rattle.round_calls.proofs.Jobs.{needs_are}
 use Rattle.round_calls.proofs.Running.{few_next, lets_now}
 use Rattle.round_calls.specs.Calls.{AtCall}
-use Rattle.round_calls.proofs.Staying.{ends_round, going_now, round_over, stands_now}
+use Rattle.round_calls.proofs.Staying.{stands_now}
 
 pub truncate_unlogged : (s : State) (who : Who) (h : Handle) (size : ℕ) → is_logged s (who, Call.Truncate h size) ≡ false
 unfolding put_by
@@ -70,10 +68,6 @@ truncate_fits s who h size none = by (nat_le size (length (content s who h))) re
   by true is = (let none_more = no_growth (length (content s who h)) size (grind (arith, nat_tests)) in omega (arith, none_more))
   by false is = last_row s (nat_le size (length (content s who h))) (growth (length (content s who h)) size) last is
 
-no_needs : (s : State) (pending : List Pending) → pending ≡ [] → sum_by (λ (p : Pending). need_of s p.who p.call) pending ≡ 0
-no_needs s [] none = refl
-no_needs s (p ∷ pending) none = cc
-
 module _ (k : View) (t : Tables) (staging : Staged) (files : Files) (w : WorldView) (who : Who) (h : Handle) (size : ℕ) (one : AtCall k t staging files w who (Call.Truncate h size)) (taken : ℕ)
     (taken_is : taken ≡ needs (state_of w) (stands_now k t staging files w who (Call.Truncate h size) one).jobs) where
   abbrev now : StandsAt w.geometry k t (kept_of w staging files) true (length w.history) (state_of w)
@@ -88,36 +82,30 @@ module _ (k : View) (t : Tables) (staging : Staged) (files : Files) (w : WorldVi
     needs_are = taken_is;
   }
 
-  -- ---- the round is over
+  -- ---- the jobs that are out leave too little, or enough
 
-  module _ (needed left : ℕ) (over : truncates.EndsRound who h size taken k t files needed left) where
-    accepted : first (truncate_rows (state_of w) who h size) ≡ None
-    accepted = over.accepted w.geometry (kept_of w staging files) (length w.history) (state_of w) finds
+  pub truncate_lacks : (needed left : ℕ) → truncates.LeavesLess who h size taken k t files needed left → LacksBeside w who (Call.Truncate h size) needed left
+  truncate_lacks needed left less =
+      let accepted = less.accepted w.geometry (kept_of w staging files) (length w.history) (state_of w) finds in
+      let needed_is = less.need_is w.geometry (kept_of w staging files) (length w.history) (state_of w) finds in
+      let fit = truncate_fits (state_of w) who h size accepted in
+      record {
+        need_is = (accepted, needed_is);
+        left_is =
+            less.left_is w.geometry (kept_of w staging files) (length w.history) (state_of w) finds
+            ∙ ap (λ n. room (state_of w) - n) (taken_is ∙ needs_are (state_of w) w.pending now.jobs now.jobs_are);
+        fits = omega (arith, fit, needed_is);
+        lacks = less.lacks;
+      }
 
-    needed_is : needed ≡ growth (length (content (state_of w) who h)) size
-    needed_is = over.need_is w.geometry (kept_of w staging files) (length w.history) (state_of w) finds
-
-    fits : needed ≤ room (state_of w)
-    fits = (let fit = truncate_fits (state_of w) who h size accepted in omega (arith, fit, needed_is))
-
-    left_is : left ≡ room (state_of w) - sum_by (λ (p : Pending). need_of (state_of w) p.who p.call) w.pending
-    left_is =
-        over.left_is w.geometry (kept_of w staging files) (length w.history) (state_of w) finds
-        ∙ ap (λ n. room (state_of w) - n) (taken_is ∙ needs_are (state_of w) w.pending now.jobs now.jobs_are)
-
-    some_out : w.pending ≢ []
-    some_out none = (
-        let lacks = over.lacks in
-        let zero = no_needs (state_of w) w.pending none in
-        omega (arith, lacks, zero, left_is, fits))
-
-    pub truncate_over : IsWorldOver k t staging files (record w { over = Some (Over.Space needed left); acts = w.acts + 1; disk = disk_of k t staging })
-    truncate_over = round_over k t staging files w who (Call.Truncate h size) one k staging files refl refl (going_now k t staging files w who (Call.Truncate h size) one).ends now needed left (inl some_out)
-
-    pub truncate_ends_round : (after : Supply) → is_on after ≡ true → EndsRound who w (record w { over = Some (Over.Space needed left); acts = w.acts + 1; disk = disk_of k t staging }) after needed left
-    truncate_ends_round =
-        ends_round k t staging files w who (Call.Truncate h size) one k staging files refl refl (going_now k t staging files w who (Call.Truncate h size) one).ends now needed left (inl some_out)
-        (inl (record { need_is = (accepted, needed_is); left_is = left_is; fits = fits; lacks = over.lacks })) refl tt
+  pub truncate_room : truncates.LeavesEnough who h size taken k t files → (need left : ℕ) → ¬ LacksBeside w who (Call.Truncate h size) need left
+  truncate_room leaves need left lacks =
+      let enough = leaves w.geometry (kept_of w staging files) (length w.history) (state_of w) finds lacks.need_is.0 in
+      let needed = lacks.need_is.1 in
+      let rest = lacks.left_is in
+      let less = lacks.lacks in
+      let taken_by = taken_is ∙ needs_are (state_of w) w.pending now.jobs now.jobs_are in
+      omega (arith, enough, needed, rest, less, taken_by)
 
   -- ---- it returned, or lost its power
 
@@ -129,16 +117,6 @@ module _ (k : View) (t : Tables) (staging : Staged) (files : Files) (w : WorldVi
     answers.outcome_is w.geometry (kept_of w staging files) (length w.history) (state_of w) finds,
     answers.names w.geometry (kept_of w staging files) (length w.history) (state_of w) finds,
   )
-
-  -- the jobs that are out left what it takes
-  pub truncate_enough : (l : View) (laid : Files) (outcome : Outcome) → truncates.Answers who h size taken k t files l laid outcome → (need left : ℕ) → ¬ LacksBeside w who (Call.Truncate h size) need left
-  truncate_enough l laid outcome answers need left lacks =
-      let enough = answers.enough w.geometry (kept_of w staging files) (length w.history) (state_of w) finds lacks.need_is.0 in
-      let needed = lacks.need_is.1 in
-      let rest = lacks.left_is in
-      let less = lacks.lacks in
-      let taken_by = taken_is ∙ needs_are (state_of w) w.pending now.jobs now.jobs_are in
-      omega (arith, enough, needed, rest, less, taken_by)
 
   module _ (l : View) (loses : truncates.Loses who h size taken k t files l) where
     left_device : IsLeftOf w.geometry k.cells l.cells

@@ -3,11 +3,11 @@
 //! Lemmas alone, over what `round_views` says that a World keeps. A World at its next call (`AtCall`): the file that an
 //! `fsync`, a `truncate` or an `open` waits for may be published first, and then the World is at the call still
 //! (`Publishing`); a call that is not logged runs over K-Split and the open files, and returned, or lost its power
-//! (`Running`); a `truncate` may end the round besides, and returns only where the jobs that are out leave what it takes
-//! (`Truncating`). `Staying` says what holds where nothing returned.
+//! (`Running`); a `truncate` finds too little room beside the jobs that are out, or returns only where these leave what
+//! it takes (`Truncating`). `Staying` says what holds where nothing returned.
 //!
 //! Stands on `round_turns`, `flight_publishes` and `flight_truncates`.
 #![tactic(auto)]
 
 pub use flight_publishes::publish_file;
-pub use flight_truncates::{Truncated, truncate_file};
+pub use flight_truncates::{Truncated, lacks_room, truncate_file};

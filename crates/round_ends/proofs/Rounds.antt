@@ -100,6 +100,7 @@ module _ (turning : StandsHome) (holding : LinesHoldOut) (gathered : StandsGathe
     stands = subst (λ (ps : List Pending). StandsAt w.geometry m t (record { staging = then; files = table; claims = []; pending = ps; first = first_by w.geometry w.first }) false (length w.history) (state_of w)) (sym ending.none_out)
         (subst (λ (x : Staged). StandsAt w.geometry m t (record { staging = x; files = table; claims = []; pending = []; first = first_by w.geometry w.first }) false (length w.history) (state_of w)) (sym nothing) stands_behind);
     runs = (let none : length then.out ≡ 0 = ap (λ (x : Staged). length x.out) nothing in omega (arith, none, ap (λ (ps : List Pending). length ps) ending.none_out));
+    bare = λ goes none empty. nothing;
     none_unfinished = going.none_unfinished;
     none_home = going.none_home;
     base = base_rose;

@@ -1,14 +1,23 @@
--- An unmount: what is left of a run keeps the promise.
-use Rattle.std.specs.Prelude.{◌≡◌, ◌*◌, ◌++◌, Bool, true, false, List, [], length, map, refl}
+-- An unmount: what is left of a run keeps the promise, and its log is empty.
+use Rattle.std.specs.Prelude.{◌≡◌, ◌*◌, ◌++◌, Bool, true, false, List, [], length, map, Option, Some, None, refl}
 use Rattle.std.proofs.Common.{arith, ◌∙◌, sym, subst}
 use Rattle.map_ends.specs.pm_words.declared.Cell.{Cell}
 use Rattle.map_ends.specs.pm_words.Cells.{AllHome}
 use Rattle.map_ends.specs.pm_words.Parts.{Part}
+use Rattle.map_ends.specs.pm_words.Words.{Words}
+use Rattle.map_ends.specs.disk_lines.declared.Draft.{Draft}
+use Rattle.map_ends.specs.disk_places.Journal.{journaled}
+use Rattle.map_ends.specs.disk_places.Places.{Geometry}
+use Rattle.map_ends.specs.disk_rules.Live.{entry_in}
+use Rattle.map_ends.specs.disk_rules.Reading.{Reads}
+use Rattle.map_ends.specs.disk_rules.Volume.{Volume, volume}
+use Rattle.map_ends.specs.volume_facts.ReadingLaws.{reads-volume}
 use Rattle.round_views.specs.crash_facts.Laws.{KeepsHome, LinesHoldOut}
 use Rattle.map_ends.specs.file_table.Files.{Files}
 use Rattle.flight_gathers.specs.Laws.{KeepsGathered, StandsGathered}
 use Rattle.round_views.specs.flight_rounds.flight_laps.staging_files.GivesUp.{nothing_staged}
 use Rattle.round_views.specs.flight_rounds.flight_laps.staging_files.Keeps.{Staged}
+use Rattle.round_views.specs.world_images.Images.{HasNoEntry, ShowsLog}
 use Rattle.round_views.specs.world_images.Promised.{KeepsPromise}
 use Rattle.round_views.specs.flight_rounds.Laws.{StandsHome}
 use Rattle.map_ends.specs.k_rules.View.{View}
@@ -22,7 +31,7 @@ use Rattle.round_views.specs.script_calls.Counts.{history_within}
 use Rattle.round_views.specs.Views.{calls_out, first_by, WorldView}
 use Rattle.round_ends.proofs.Lines.{each_claimed, each_other}
 use Rattle.round_ends.proofs.Rounds.{home_behind, home_cut, promise_cut, size_behind, size_cut, stands_behind}
-use Rattle.round_ends.specs.Laws.{EndsRunWhole, IsEnding, LosesRun, MayCrashWhole}
+use Rattle.round_ends.specs.Laws.{EndsRunEmpty, EndsRunWhole, IsEnding, LosesRun, MayCrashWhole}
 
 -- what is left on this device
 left : (k l : View) (t : Tables) (staging : Staged) (files : Files) (w : WorldView) (lines : List Part) (pm : List Cell) (unfinished : List Begun) → IsEnding k l t staging files w lines → unfinished ≡ calls_out w
@@ -49,6 +58,25 @@ ends_run_whole turning holding gathered keeps at_home k l m t staging then files
     (home_behind turning holding gathered keeps k l m t staging then files table w lines ending done)
     (at_home w.geometry m t (record { staging = nothing_staged; files = table; claims = []; pending = []; first = first_by w.geometry w.first }) (length w.history) w.start w.history []
     (stands_behind turning holding gathered keeps k l m t staging then files table w lines ending done))
+
+-- a log that shows no claim has no entry
+no_entry : (v : Volume) (f : Words) → ShowsLog v [] f → HasNoEntry v f
+no_entry v f log slot below = by (entry_in v f slot) (λ d is. (log.shows slot d).1 (below, is)) where
+  by : (o : Option Draft) → ((d : Draft) → o ≡ Some d → ⊥) → o ≡ None
+  by None none = refl
+  by (Some d) none = absurd (none d refl)
+
+-- by the volume that words read as
+read_empty : (g : Geometry) (v : Volume) (f : Words) → v.geometry ≡ g → Reads v.geometry f v → ShowsLog v [] f → HasNoEntry (volume g f) f
+read_empty g v f numbers reads log =
+    let same : volume g f ≡ v = reads-volume g f v (subst (λ (h : Geometry). Reads h f v) numbers reads) in
+    subst (λ (x : Volume). HasNoEntry x f) (sym same) (no_entry v f log)
+
+-- ALL IS PUBLISHED.
+pub ends_run_empty : StandsHome → LinesHoldOut → StandsGathered → KeepsGatheredOut → EndsRunEmpty
+ends_run_empty turning holding gathered keeps k l m t staging then files table w lines ending done image is =
+    let stands = stands_behind turning holding gathered keeps k l m t staging then files table w lines ending done in
+    read_empty w.geometry m.volume (journaled image) stands.geometry (stands.flying.device.stands.reads image is) (stands.lines.1 image is)
 
 -- THE POWER WENT.
 pub loses_run : StandsHome → LinesHoldOut → KeepsGathered → KeepsGatheredOut → LosesRun

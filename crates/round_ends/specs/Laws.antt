@@ -1,8 +1,12 @@
 -- A round of a World begins and ends, and the whole run, each law as one statement.
 use Rattle.std.specs.Prelude.{◌≡◌, ◌≤◌, ◌+◌, ◌^◌, ℕ, true, false, List, [], length, None, Ok}
 use Rattle.map_ends.specs.pm_words.Cells.{cell, is_lent}
+use Rattle.map_ends.specs.pm_words.Images.{IsImage}
 use Rattle.map_ends.specs.pm_words.Parts.{Part}
+use Rattle.map_ends.specs.pm_words.Words.{Words}
+use Rattle.map_ends.specs.disk_places.Journal.{journaled}
 use Rattle.map_ends.specs.disk_places.Places.{log_line}
+use Rattle.map_ends.specs.disk_rules.Volume.{volume}
 use Rattle.map_ends.specs.file_table.Files.{Files}
 use Rattle.round_views.specs.flight_rounds.flight_laps.k_split.Laps.{HasNextLap, HasSingleLog, IsLogWord}
 use Rattle.round_views.specs.flight_rounds.flight_laps.k_split.LogLines.{AreLogLines}
@@ -13,6 +17,7 @@ use Rattle.map_ends.specs.lines_out.Lines.{LinesComeBack}
 use Rattle.map_ends.specs.posix_words.Open.{Tables}
 use Rattle.flight_gathers.specs.standing_facts.log_checkpoint.Gathers.{file_count, IsGatherAnswer, MayGather, total_runs}
 use Rattle.round_views.specs.flight_rounds.flight_laps.staging_files.GivesUp.{AllStagedSingle}
+use Rattle.round_views.specs.world_images.Images.{HasNoEntry}
 use Rattle.round_views.specs.Lines.{HoldTheClaims}
 use Rattle.round_views.specs.Losses.{MayCrash}
 use Rattle.round_views.specs.Rounds.{IsLeft, MayCheckpoint}
@@ -119,11 +124,18 @@ LosesRoundBefore =
 
 -- ---- the end of the run
 
--- DONE: nothing is unfinished.
+-- DONE: nothing is unfinished,
 abbrev pub EndsRunWhole : Type 0
 EndsRunWhole =
     (k l m : View) (t : Tables) (staging then : Staged) (files table : Files) (w : WorldView) (lines : List Part)
     → IsEnding k l t staging files w lines → IsGatherAnswer files l then table m (Ok Commit.Done) → IsLeft w m.cells w.history []
+
+-- and all is published: by each image no slot of the log has an entry.
+abbrev pub EndsRunEmpty : Type 0
+EndsRunEmpty =
+    (k l m : View) (t : Tables) (staging then : Staged) (files table : Files) (w : WorldView) (lines : List Part)
+    → IsEnding k l t staging files w lines → IsGatherAnswer files l then table m (Ok Commit.Done)
+    → (image : Words) → IsImage m.cells image → HasNoEntry (volume w.geometry (journaled image)) (journaled image)
 
 -- THE POWER WENT.
 abbrev pub LosesRun : Type 0

@@ -4,13 +4,13 @@
 //! above may rely on this: with its lines at home a round may begin (`MayBegin`); those that hold the claims may be put back (`MayEnd`), and then all is there
 //! that a gathering asks for (`EndsReady`); done, the World goes on with the next round (`GoesIntoNextRound`), and where
 //! the power goes it is lost with the lines at home (`LosesRoundInside`, `LosesRoundBefore`); and what is left of a run
-//! that ends so keeps the promise (`EndsRunWhole`, `LosesRun`).
+//! that ends so keeps the promise (`EndsRunWhole`, `LosesRun`), with an empty log where all was done (`EndsRunEmpty`).
 //!
 //! Lemmas alone, over what `round_views` says that a World keeps. Stands on `flight_rounds`, `flight_gathers`,
 //! `standing_facts`, `map_ends`, `losing_facts` and `crash_facts`.
 #![tactic(auto)]
 
-ghost use Rattle.round_ends.specs.Laws.{EndsReady, EndsRunWhole, GoesIntoNextRound, LosesRoundBefore, LosesRoundInside, LosesRun, MayBegin, MayCrashWhole, MayEnd};
+ghost use Rattle.round_ends.specs.Laws.{EndsReady, EndsRunEmpty, EndsRunWhole, GoesIntoNextRound, LosesRoundBefore, LosesRoundInside, LosesRun, MayBegin, MayCrashWhole, MayEnd};
 
 use flight_gathers::{all_files_are_gathered, what_stands_may_be_gathered};
 use map_ends::files_end_after_changes_of_maps;
@@ -44,9 +44,10 @@ pub fn a_checkpoint_ends_a_round()
     files_end_after_changes_of_maps();
 }
 
-/// An unmount: what is left keeps the promise.
+/// An unmount: what is left keeps the promise, and where it was done the log is empty.
 pub fn an_unmount_ends_a_run()
     ensures whole { EndsRunWhole }
+    ensures empty { EndsRunEmpty }
     ensures lost { LosesRun }
     ensures crash { MayCrashWhole }
 {

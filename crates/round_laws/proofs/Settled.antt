@@ -37,7 +37,7 @@ one_need w who call need more is again = is.1 ∙ sym again.1
 
 one_staging_need : (w : WorldView) (o : Option Put) (need more : ℕ) → IsStagingNeed w o need → IsStagingNeed w o more → need ≡ more
 one_staging_need w None need more is again = absurd is
-one_staging_need w (Some put) need more is again = let same : need + 1 ≡ more + 1 = is ∙ sym again in omega (arith, same)
+one_staging_need w (Some put) need more is again = is ∙ sym again
 
 -- ---- an `fsync` that answered ok
 

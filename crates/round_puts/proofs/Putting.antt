@@ -1,6 +1,7 @@
 -- A write of a World begins.
 use Rattle.std.specs.Prelude.{◌≡◌, ◌≢◌, ◌⊎◌, ◌≤◌, ◌<◌, ◌+◌, ◌-◌, ◌++◌, ℕ, true, false, List, [], ◌∷◌, length, Option, Some, None, slice_index, sum_by, refl}
 use Rattle.std.proofs.Common.{arith, ap, ◌∙◌, sym, subst, inl, inr}
+use Rattle.std.proofs.lemmas.List.{length-append}
 use Rattle.write_begins.specs.block_counts.Counts.{blocks_for}
 use Rattle.write_begins.specs.pm_words.Powers.{is_on, Supply}
 use Rattle.write_begins.specs.disk_lines.declared.Kind.TheVariants.{File}
@@ -17,6 +18,7 @@ use Rattle.write_begins.specs.posix_words.Open.{Tables}
 use Rattle.write_begins.specs.posix_words.Outcomes.{first}
 use Rattle.write_begins.specs.posix_puts.Views.{need_of}
 use Rattle.write_begins.specs.posix_spec.FileRows.{write_rows}
+use Rattle.write_begins.specs.posix_spec.Put.{Put, put_by}
 use Rattle.write_begins.specs.posix_spec.Run.{after_call}
 use Rattle.write_begins.specs.posix_spec.State.{room, State}
 use Rattle.write_begins.specs.posix_spec.Step.{step, Stepped}
@@ -25,7 +27,7 @@ use Rattle.round_calls.proofs.round_jobs_proofs.round_facts_proofs.Counts.{few_j
 use Rattle.round_calls.specs.round_jobs.script_calls.Counters.{IsCounted}
 use Rattle.round_calls.specs.round_jobs.script_calls.Histories.{is_counted, item_with}
 use Rattle.round_calls.specs.round_jobs.staging_files.Keeps.{Staged}
-use Rattle.round_calls.specs.round_jobs.world_standing.Standing.{Pending, StandsAt}
+use Rattle.round_calls.specs.round_jobs.world_standing.Standing.{Pending, reserved_run, StandsAt}
 use Rattle.round_calls.specs.round_jobs.world_standing.world_promise.JobLaws.{needs}
 use Rattle.write_begins.specs.write_jobs.Jobs.{JobView}
 use Rattle.round_calls.proofs.round_turns_proofs.Beginning.{began, lets, lost_call, others_began, others_lost, others_returned, returned}
@@ -33,9 +35,10 @@ use Rattle.round_calls.proofs.round_turns_proofs.Ending.{no_both}
 use Rattle.round_calls.proofs.round_turns_proofs.Losing.{lost_view}
 use Rattle.round_calls.specs.round_views.declared.over.Over.{Over}
 use Rattle.round_calls.proofs.round_views_proofs.losing_facts_proofs.Homes.{has_blocks_out}
-use Rattle.round_calls.specs.round_views.Begins.{BeginsJob, EndsRound, item_of, LacksBeside, LacksStaging, LeavesByWrite, LosesCall, Returns}
+use Rattle.round_calls.specs.round_views.Begins.{BeginsJob, EndsRound, IsOfPlan, item_of, LacksBeside, LacksStaging, LosesCall, Returns}
 use Rattle.round_calls.specs.round_views.file_ends.Ends.{FilesEnd}
 use Rattle.round_calls.specs.round_views.Views.{Disk, disk_of, IsGoing, IsWorldOver, kept_of, state_of, WorldView}
+use Rattle.write_begins.proofs.Asked.{puts_of}
 use Rattle.write_begins.proofs.Begun.{need_fits}
 use Rattle.write_begins.specs.Begins as writing
 use Rattle.write_begins.specs.Begins.{BeginsWrite, Found, IsAnsweredBy, LosesWrite}
@@ -48,11 +51,6 @@ use Rattle.round_calls.proofs.Jobs.{needs_are, stands_later}
 use Rattle.round_calls.specs.Calls.{AtCall}
 use Rattle.round_calls.proofs.Running.{of_open_file}
 use Rattle.round_calls.proofs.Staying.{ends_round, few_made, going_now, late_run, round_over, stands_now, strict_now}
-
--- a write that changed cells alone
-changes_cells : (Beside : Type 0) (h : Handle) (at : Option ℕ) (x : List ℕ) (old new : Disk) → new ≡ record old { cells = new.cells } → (Beside → new ≡ old) → LeavesByWrite Beside (call_of h at x) old new
-changes_cells Beside h None x old new cells none = (cells, none)
-changes_cells Beside h (Some place) x old new cells none = (cells, none)
 
 -- where no map of a file changed, nothing lies past the end of one still
 pub ends_then : (v u : Volume) (files then : Files) → KeepsMaps v u files then → FilesEnd v files → FilesEnd u then
@@ -123,6 +121,7 @@ module _ (k : View) (t : Tables) (staging : Staged) (files : Files) (w : WorldVi
         enough = λ need left lacks. no_both (is_logged (state_of w) (who, call_of h at x)) (its_need w who h at x need lacks.need_is).0 unlogged _;
         published = no_publish who h at x w returned_view;
         of_file = of_open_file k t staging files w who (call_of h at x) one (call_of h at x);
+        staging = sym (ap (λ (d : Disk). d.staging) one.world.disk_is);
         stay = others_returned k t staging files w one.world one.begins.awake one.out who (call_of h at x) one.begins.next one.up one.none one.begins.idle k t files refl going.ends later;
         on = on;
         spent = inl (ap (λ (y : State). y.entries) (sym same_state));
@@ -171,10 +170,16 @@ module _ (k : View) (t : Tables) (staging : Staged) (files : Files) (w : WorldVi
         few : length (w.pending ++ pending_of ∷ []) ≤ 9
         few = few_jobs (w.pending ++ pending_of ∷ []) (begun.stands found_at).callers counted_who
 
+        one_more : length staged.out ≡ length staging.out + 1
+        one_more = ap length begun.out ∙ length-append staging.out (reserved_run job.draft ∷ [])
+
         pub job_begun : IsWorldOver l t staged laid job_view
         job_begun =
             began k t staging files w one.world one.begins.awake one.out who (call_of h at x) one.begins.next one.up one.none one.begins.going pending_of refl refl l staged laid keeps.base ends_now begun.ends
-            begun.runs few (begun.stands found_at)
+            one_more few (begun.stands found_at)
+
+        plan_is : first (write_rows (state_of w) who h (start_of (state_of w) who h at) x) ≡ None → IsOfPlan (put_by (state_of w) who (call_of h at x)) job.draft
+        plan_is none = subst (λ (o : Option Put). IsOfPlan o job.draft) (sym (puts_of (state_of w) who h at x none)) (begun.plan found_at)
 
         last_there : (qs : List Pending) → In pending_of (qs ++ pending_of ∷ [])
         last_there [] = inl refl
@@ -194,6 +199,8 @@ module _ (k : View) (t : Tables) (staging : Staged) (files : Files) (w : WorldVi
           call_is = refl;
           tables = sym (ap (λ (d : Disk). d.tables) one.world.disk_is);
           new_is = refl;
+          plan = plan_is (begun.accepted found_at);
+          run_is = begun.out ∙ ap (λ (d : Disk). d.staging.out ++ reserved_run job.draft ∷ []) (sym one.world.disk_is);
           out = record {
             there = last_there w.pending;
             who = begun.job_who;
@@ -205,7 +212,7 @@ module _ (k : View) (t : Tables) (staging : Staged) (files : Files) (w : WorldVi
           fresh = begun.fresh;
           stay =
               others_began k t staging files w one.world one.begins.awake one.out who (call_of h at x) one.begins.next one.up one.none one.begins.going pending_of refl refl l staged laid keeps.base ends_now begun.ends
-              begun.runs few (begun.stands found_at);
+              one_more few (begun.stands found_at);
           on = on;
         }
 
@@ -227,10 +234,9 @@ module _ (k : View) (t : Tables) (staging : Staged) (files : Files) (w : WorldVi
         write_over = round_over k t staging files w who (call_of h at x) one l staged laid over.stays.runs keeps.base ends_now (over.stays.stands found_at) needed left late
 
         pub write_ends_round : (after : Supply) → is_on after ≡ true → EndsRound who w (record w { over = Some (Over.Space needed left); acts = w.acts + 1; disk = disk_of l t staged }) after needed left
-        write_ends_round = ends_round k t staging files w who (call_of h at x) one l staged laid over.stays.runs keeps.base ends_now (over.stays.stands found_at) needed left late cause over.same
-            (changes_cells (LacksBeside w who (call_of h at x) needed left) h at x w.disk (disk_of l t staged)
+        write_ends_round = ends_round k t staging files w who (call_of h at x) one l staged laid over.stays.runs keeps.base ends_now (over.stays.stands found_at) needed left late cause
             (ap (λ (y : View). disk_of y t staged) over.cells_alone ∙ ap (λ (s : Staged). disk_of (record k { cells = l.cells }) t s) over.same ∙ ap (λ (d : Disk). record d { cells = l.cells }) (sym one.world.disk_is))
-            (λ lacks. ap (λ (y : View). disk_of y t staged) (over.nothing found_at (beside_in needed left lacks)) ∙ ap (λ (s : Staged). disk_of k t s) over.same ∙ sym one.world.disk_is))
+            (λ lacks. ap (λ (y : View). disk_of y t staged) (over.nothing found_at (beside_in needed left lacks)) ∙ ap (λ (s : Staged). disk_of k t s) over.same ∙ sym one.world.disk_is)
 
     -- ---- it lost its power
 

@@ -81,16 +81,6 @@ second_lacks staged k count left is less = by (has_empty staged) refl is where
   by true some all = inl (omega (arith, all, less))
   by false none all = inr none
 
--- the two ways to say how many blocks have to be free
-counted_as : (count out claims pending back needed : ℕ) → 2 ≤ back → out ≡ claims + pending → needed ≡ count + (out + back - 2) + 1 → needed + 1 ≡ count + claims + pending + back
-counted_as count out claims pending back needed two runs is = omega (arith, two, runs, is)
-
-counted_in : (count out claims pending back needed : ℕ) → 2 ≤ back → out ≡ claims + pending → needed + 1 ≡ count + claims + pending + back → needed ≡ count + (out + back - 2) + 1
-counted_in count out claims pending back needed two runs is = omega (arith, two, runs, is)
-
-two_back : (g : Geometry) → 2 ≤ reserve g
-two_back g = omega arith
-
 -- WHAT THE STAGING LACKS for a write that no row refuses, in its own words and in the World's.
 module _ (w : WorldView) (who : Who) (h : Handle) (at : Option ℕ) (x : List ℕ) (k : View) (t : Tables) (staged : Staged) (none : first (write_rows (state_of w) who h (start_of (state_of w) who h at) x) ≡ None) (disk : w.disk ≡ disk_of k t staged)
     (geometry : k.volume.geometry ≡ w.geometry) (runs : length staged.out ≡ length w.claims + length w.pending) where
@@ -112,18 +102,14 @@ module _ (w : WorldView) (who : Who) (h : Handle) (at : Option ℕ) (x : List �
   room_is : (if has_empty w.disk.staging then w.disk.free else 0) ≡ (if has_empty staged then free_blocks_in k else 0)
   room_is = ap (λ (d : Disk). if has_empty d.staging then d.free else 0) disk
 
-  needs_as : (needed : ℕ) → needed ≡ need staged k count → IsStagingNeed w (Some put) needed
-  needs_as needed is =
-      subst (λ (g : Geometry). needed + 1 ≡ count + length w.claims + length w.pending + reserve g) geometry
-      (counted_as count (length staged.out) (length w.claims) (length w.pending) (reserve k.volume.geometry) needed (two_back k.volume.geometry) runs is)
-
-  needs_in : (needed : ℕ) → IsStagingNeed w (Some put) needed → needed ≡ need staged k count
-  needs_in needed is =
-      counted_in count (length staged.out) (length w.claims) (length w.pending) (reserve k.volume.geometry) needed (two_back k.volume.geometry) runs
-      (subst (λ (g : Geometry). needed + 1 ≡ count + length w.claims + length w.pending + reserve g) (sym geometry) is)
-
   wanted_is : wanted staged k ≡ wanted_by w
   wanted_is = (λ i. runs i + reserve (geometry i) - 2)
+
+  needs_as : (needed : ℕ) → needed ≡ need staged k count → IsStagingNeed w (Some put) needed
+  needs_as needed is = is ∙ ap (λ n. count + n + 1) wanted_is
+
+  needs_in : (needed : ℕ) → IsStagingNeed w (Some put) needed → needed ≡ need staged k count
+  needs_in needed is = is ∙ ap (λ n. count + n + 1) (sym wanted_is)
 
   no_run_as : LacksFirstWay staged k count → HasNoRun w (Some put)
   no_run_as (inl few) = inl (subst (λ n. n < wanted_by w) (sym free_is) (subst (λ n. free_blocks_in k < n) wanted_is few))

@@ -9,7 +9,7 @@
 //! Stands on `round_turns` and `write_begins`.
 #![tactic(auto)]
 
-pub use round_calls::{Truncated, publish_file, truncate_file};
+pub use round_calls::{Truncated, lacks_room, publish_file, truncate_file};
 pub use write_begins::{
     WriteBegun, begin_write, jobs_need_what_their_calls_do, judge,
     kept_numbers_are_those_of_the_state, need_of,

@@ -160,6 +160,7 @@ module _ (ending : EndBegun) (g : Geometry) (image : Words) (k : View) (t : List
   going = record {
     stands = stands;
     runs = refl;
+    bare = λ goes none empty. refl;
     none_unfinished = refl;
     none_home = refl;
     base = refl;

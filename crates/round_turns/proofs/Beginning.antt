@@ -76,6 +76,7 @@ module _ (k : View) (t : Tables) (staging : Staged) (files : Files) (w : WorldVi
           (subst (StandsAt w.geometry l u (kept_of (return_view l u) staging laid) true (length (w.history ++ item_of w who call ∷ []))) (sym grown.run_is)
           (subst (λ n. StandsAt w.geometry l u (kept_of (return_view l u) staging laid) true n (after_call (state_of w) (who, call))) (sym grown.longer) stands));
       runs = going.runs;
+      bare = going.bare;
       none_unfinished = going.none_unfinished;
       none_home = going.none_home;
       base = going.base ∙ sym base;
@@ -138,6 +139,7 @@ module _ (k : View) (t : Tables) (staging : Staged) (files : Files) (w : WorldVi
     going3 = record {
       stands = subst (λ b. StandsAt w.geometry l t (kept_of (job_view l staged p) staged laid) b (length w.history) (state_of w)) (sym out) stands;
       runs = omega (arith, runs, going.runs, length-append w.pending (p ∷ []));
+      bare = λ goes none empty. absurd (let long = length-append w.pending (p ∷ []) in let zero = ap length empty in omega (arith, long, zero));
       none_unfinished = going.none_unfinished;
       none_home = going.none_home;
       base = going.base ∙ sym base;

@@ -144,6 +144,7 @@ module _ (k : View) (t : Tables) (staging : Staged) (files : Files) (w : WorldVi
     going2 = record {
       stands = subst (λ b. StandsAt w.geometry l u (kept_of (finish_view slot l u) staging laid) b (length (w.history ++ item_of w p.who p.call ∷ [])) (state_of (finish_view slot l u))) (sym out) stands2;
       runs = omega (arith, going.runs, one_less, length-append w.claims ((slot, p.draft) ∷ []));
+      bare = λ goes none empty. absurd (let long = length-append w.claims ((slot, p.draft) ∷ []) in let zero = ap length none in omega (arith, long, zero));
       none_unfinished = going.none_unfinished;
       none_home = going.none_home;
       base = going.base ∙ sym (ap (λ (x : View). x.volume.base) same);
@@ -206,6 +207,7 @@ module _ (k : View) (t : Tables) (staging : Staged) (files : Files) (w : WorldVi
     going3 = record {
       stands = subst (λ b. StandsAt w.geometry l t (kept_of (give_view full l given) given files) b (length w.history) (state_of w)) (sym out) leaves.stands;
       runs = omega (arith, going.runs, one_less, runs);
+      bare = λ goes none empty. absurd (let never : Some (over_by w.over full) ≡ None = goes in cc);
       none_unfinished = going.none_unfinished;
       none_home = going.none_home;
       base = going.base ∙ sym (ap (λ (x : View). x.volume.base) same);

@@ -49,6 +49,7 @@ module _ (law : StandsOut) (k l : View) (t : Tables) (staging : Staged) (files :
   going_on = record {
     stands = subst (λ (x : View). StandsAt w.geometry x t (kept_of (begun_view w l t staging first) staging files) true (length w.history) (state_of w)) (sym same) turned.now;
     runs = going.runs;
+    bare = going.bare;
     none_unfinished = going.none_unfinished;
     none_home = going.none_home;
     base = going.base ∙ sym (ap (λ (x : View). x.volume.base) same);

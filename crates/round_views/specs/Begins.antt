@@ -24,12 +24,12 @@ use Rattle.round_jobs.specs.round_facts.crash_spec.Busy.{is_busy, is_logged}
 use Rattle.round_jobs.specs.round_facts.Busy.{IsKeeping}
 use Rattle.round_jobs.specs.round_facts.script_calls.Histories.{item_with}
 use Rattle.round_jobs.specs.round_facts.staging_files.Reserves.{has_empty, HasNoFreeRun}
-use Rattle.round_jobs.specs.round_facts.world_standing.Standing.{Pending}
+use Rattle.round_jobs.specs.round_facts.world_standing.Standing.{Pending, reserved_run}
 use Rattle.round_jobs.specs.round_facts.world_standing.Jobs.{SpellCall}
 use Rattle.round_jobs.specs.round_facts.write_jobs.Jobs.{blocks_of, FilledView, JobView}
 use Rattle.crash_facts.specs.losing_facts.Blocks.{AreBlocksOut}
 use Rattle.round_views.specs.declared.over.Over.{Over}
-use Rattle.round_views.specs.Views.{Disk, files_out, inode_on, next_of, state_of, WorldView}
+use Rattle.round_views.specs.Views.{files_out, inode_on, next_of, state_of, WorldView}
 
 -- ---- jobs that are out
 
@@ -76,14 +76,14 @@ pub record LacksBeside (w : WorldView) (who : Who) (call : Call) (need left : �
   pub fits : need ≤ room (state_of w)
   pub lacks : left < need
 
--- so many blocks have to be free for the blocks of its plan, with one for each run of this lap
-abbrev pub IsStagingNeed : WorldView → Option Put → ℕ → Type 0
-IsStagingNeed w None need = ⊥
-IsStagingNeed w (Some put) need = need + 1 ≡ staged_by put + length w.claims + length w.pending + reserve w.geometry
-
--- how many of them have to be free beside those of the plan: one for each run of this lap, and the reserve less 2
+-- how many blocks have to be free beside those of the plan: one for each run of this lap, and the reserve less 2
 abbrev pub wanted_by : WorldView → ℕ
 wanted_by w = length w.claims + length w.pending + reserve w.geometry - 2
+
+-- so many have to be free where an empty staging file is to be given the blocks of the plan: these, those that are wanted beside, and one
+abbrev pub IsStagingNeed : WorldView → Option Put → ℕ → Type 0
+IsStagingNeed w None need = ⊥
+IsStagingNeed w (Some put) need = need ≡ staged_by put + wanted_by w + 1
 
 -- no run of free blocks of a staging file is as long as the plan, or too few blocks are free for the runs of this lap
 abbrev pub HasNoRun : WorldView → Option Put → Type 0
@@ -134,11 +134,18 @@ pub record Returns (who : Who) (old new : WorldView) (before after : Supply) : T
   pub enough : (need left : ℕ) → ¬ LacksBeside old who call need left
   pub published : Publishes who call old new
   pub of_file : IsOfOpenFile who call old
+  pub staging : new.disk.staging ≡ old.disk.staging
   pub stay : OthersStay old new who
   pub on : is_on after ≡ true
   pub spent : ((after_call (state_of old) (who, call)).entries ≡ (state_of old).entries) ⊎ TakesAStep before after
 
--- IT IS LOGGED, and there was room for it; a job is out, the last one; nothing has returned.
+-- the entry is of the blocks of its plan, and of no other
+abbrev pub IsOfPlan : Option Put → Draft → Type 0
+IsOfPlan None d = ⊥
+IsOfPlan (Some put) d = (d.file_block ≡ put.place / 4096) × (d.count ≡ staged_by put)
+
+-- IT IS LOGGED, and there was room for it; a job is out, the last one, with the blocks of its plan, and no other run went out; nothing
+-- has returned.
 pub record BeginsJob (who : Who) (old new : WorldView) (after : Supply) (job : JobView) : Type 0 where
   pub call : Call
   pub begins : Begins old who call
@@ -150,6 +157,8 @@ pub record BeginsJob (who : Who) (old new : WorldView) (after : Supply) (job : J
   pub call_is : pending.call ≡ call
   pub new_is : new ≡ record old { pending = old.pending ++ pending ∷ []; acts = old.acts + 1; disk = new.disk }
   pub tables : new.disk.tables ≡ old.disk.tables
+  pub plan : IsOfPlan (put_by (state_of old) who call) pending.draft
+  pub run_is : new.disk.staging.out ≡ old.disk.staging.out ++ reserved_run pending.draft ∷ []
   pub out : IsJobOut new pending job
   pub fresh : job.lost ≡ false
   pub stay : OthersStay old new who
@@ -172,24 +181,16 @@ pub record Waits (who : Who) (old new : WorldView) (before after : Supply) (ino 
 
 -- ---- the round is over
 
--- what a write changes that ends the round, in strict mode: cells alone, and nothing where only the jobs that are out are the cause
-abbrev pub LeavesByWrite : Type 0 → Call → Disk → Disk → Type 0
-LeavesByWrite Beside (Call.Write h x) old new = (new ≡ record old { cells = new.cells }) × (Beside → new ≡ old)
-LeavesByWrite Beside (Call.Pwrite h place x) old new = (new ≡ record old { cells = new.cells }) × (Beside → new ≡ old)
-LeavesByWrite Beside call old new = Unit {0}
-
--- THE ROUND ENDS for want of space, while jobs are out or after calls that returned since it began. These two numbers say why. The open files
--- and the staging are as before; a write may have changed cells, and a `truncate` may have published its file first: of its inode
--- lines and of free blocks nothing is said.
+-- THE ROUND ENDS for want of space, while jobs are out or after calls that returned since it began. These two numbers say why. Nothing else
+-- changed where only the jobs that are out are the cause; where the staging has no room, cells alone.
 pub record EndsRound (who : Who) (old new : WorldView) (after : Supply) (need left : ℕ) : Type 0 where
   pub call : Call
   pub begins : Begins old who call
   pub cause : LacksBeside old who call need left ⊎ LacksStaging old who call need left
   pub late : (old.pending ≢ []) ⊎ (old.settled < length old.history)
   pub new_is : new ≡ record old { over = Some (Over.Space need left); acts = old.acts + 1; disk = new.disk }
-  pub tables : new.disk.tables ≡ old.disk.tables
-  pub staging : new.disk.staging ≡ old.disk.staging
-  pub write : LeavesByWrite (LacksBeside old who call need left) call old.disk new.disk
+  pub cells_alone : new.disk ≡ record old.disk { cells = new.disk.cells }
+  pub nothing : LacksBeside old who call need left → new.disk ≡ old.disk
   pub stay : OthersStay old new who
   pub on : is_on after ≡ true
 

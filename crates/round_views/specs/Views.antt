@@ -27,6 +27,7 @@ use Rattle.round_jobs.specs.round_facts.posix_spec.State.{State}
 use Rattle.round_jobs.specs.round_facts.crash_spec.Busy.{Out}
 use Rattle.round_jobs.specs.round_facts.Busy.{files_by}
 use Rattle.round_jobs.specs.round_facts.k_split.MapChanges.{free_blocks_in}
+use Rattle.round_jobs.specs.round_facts.staging_files.GivesUp.{nothing_staged}
 use Rattle.round_jobs.specs.round_facts.staging_files.Keeps.{Staged}
 use Rattle.round_jobs.specs.round_facts.world_images.Images.{HasOldLines}
 use Rattle.round_jobs.specs.round_facts.world_images.Promised.{KeepsPromise}
@@ -124,11 +125,12 @@ pub record IsLogHome (k : View) (w : WorldView) : Type 0 where
   pub old : HasOldLines k.volume (words_of k.cells)
 
 -- WHILE THE POWER IS ON, K-Split and what is kept beside it stand together in the state of the history; each claim of this lap and
--- each job has a run of the staging out, and no other run is; each claim is an entry that a line can hold; and nothing of a file or of an entry
--- lies past its end.
+-- each job has a run of the staging out, and no other run is; while a round goes on with none of them, nothing is staged; each claim is an
+-- entry that a line can hold; and nothing of a file or of an entry lies past its end.
 pub record IsGoing (k : View) (t : Tables) (staging : Staged) (files : Files) (w : WorldView) : Type 0 where
   pub stands : StandsAt w.geometry k t (kept_of w staging files) w.lines_out (length w.history) (state_of w)
   pub runs : length staging.out ≡ length w.claims + length w.pending
+  pub bare : w.over ≡ None → w.claims ≡ [] → w.pending ≡ [] → staging ≡ nothing_staged
   pub none_unfinished : w.unfinished ≡ []
   pub none_home : w.home ≡ []
   pub base : w.base ≡ k.volume.base

@@ -37,6 +37,7 @@ AreFewActs v = v.acts ≤ 16 * (length v.history + 2)
 -- What a run took, as the last World says it.
 record IsTaken (v : WorldView) (before after : Supply) : Type 0 where
   pub given : after.given ≡ before.given
+  pub later : before.taken ≤ after.taken
   pub afforded : (steps : ℕ) → after.taken ≡ before.taken + steps → Afforded steps v.history v.scripts v.start.mode
   pub kept : (given : ℕ) → before.given ≡ Some given → ChangesAtMost v.start v.history given
 
@@ -52,6 +53,7 @@ module _ (w v : WorldView) (before after : Supply) (geometry : v.geometry ≡ w.
     home = left.home;
     promise = subst (λ (g : Geometry). KeepsPromise g pm w.start history unfinished) geometry (subst (λ (s : State). KeepsPromise v.geometry pm s history unfinished) start left.promise);
     given = taken.given;
+    later = taken.later;
     afforded = λ steps at. subst (λ (s : State). Afforded steps history w.scripts s.mode) start
         (subst (λ (s : Scripts). Afforded steps history s v.start.mode) scripts (subst (λ (items : List Item). Afforded steps items v.scripts v.start.mode) (sym left.history_is) (taken.afforded steps at)));
     kept = λ given some. subst (λ (s : State). ChangesAtMost s history given) start (subst (λ (items : List Item). ChangesAtMost v.start items given) (sym left.history_is) (taken.kept given some));
@@ -75,6 +77,7 @@ ran_lost affords keeps w v left before after crashed has few is = (
   taken : IsTaken v before after
   taken = record {
     given = paid.1.any.given;
+    later = paid.1.any.later;
     afforded = λ steps at. affords paid.0 v before after steps v.start.mode paid.1 few at;
     kept = λ given some. keeps before after v given (paid.1.names given some);
   }
@@ -85,6 +88,7 @@ module _ (affords : AffordsWhole) (keeps : KeepsGiven) (w v : WorldView) (left :
   taken_whole : IsTaken v before after
   taken_whole = record {
     given = steps.given ∙ has.ended.4.any.given;
+    later = (let first = has.ended.4.any.later in let then = steps.later in omega (arith, first, then));
     afforded = λ n at. affords (Who.Thread 0) v before now after n v.start.mode has.ended.4 has.ended.2 few steps at;
     kept = λ given some. keeps before now v given (has.ended.4.names given some);
   }

@@ -73,6 +73,7 @@ pub record IsRan (w : WorldView) (before after : Supply) (pm : List Cell) (histo
   pub home : AllHome pm
   pub promise : KeepsPromise w.geometry pm w.start history unfinished
   pub given : after.given ≡ before.given
+  pub later : before.taken ≤ after.taken
   pub afforded : (steps : ℕ) → after.taken ≡ before.taken + steps → Afforded steps history w.scripts w.start.mode
   pub kept : (given : ℕ) → before.given ≡ Some given → ChangesAtMost w.start history given
 

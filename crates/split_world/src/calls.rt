@@ -35,8 +35,8 @@ impl World {
     /// It answers, in this order: PowerLost; ScriptEnd; RoundOver where the round is over already; Busy; and else
     /// how the call went. A logged call becomes a job, or ends the round where only jobs that are out or runs of
     /// this lap leave too few blocks; a `truncate` that lengthens may end it too, where only jobs that are out leave
-    /// too few. A call that ends the round leaves the open files and the staging as they were; a write only cells of the
-    /// device differ, a `truncate` may have published its file. All memory of a job is taken here.
+    /// too few. Where only jobs that are out are the cause nothing else changes, and else cells of the device alone. All
+    /// memory of a job is taken here.
     ///
     /// # Errors
     ///

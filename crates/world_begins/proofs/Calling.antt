@@ -1,5 +1,5 @@
 -- A call that is not logged, at the parts of a World.
-use Rattle.std.specs.Prelude.{◌≡◌, ◌+◌, ℕ, true, false, length, Some, sum_by, refl}
+use Rattle.std.specs.Prelude.{◌≡◌, ◌+◌, ℕ, true, false, length, Option, Some, None, sum_by, refl}
 use Rattle.std.proofs.Common.{ap, ◌∙◌, sym, subst, inl}
 use Rattle.world_turns.specs.pm_words.Powers.{is_on, Supply}
 use Rattle.world_turns.specs.file_table.Files.{Files}
@@ -10,13 +10,13 @@ use Rattle.posix_types.specs.declared.handle.Handle.{Handle}
 use Rattle.posix_types.specs.declared.item.Outcome.{Outcome}
 use Rattle.world_turns.specs.round_calls.flight_truncates.Truncates as truncates
 use Rattle.world_turns.proofs.round_calls_proofs.Running.{built_beside, built_unlogged, call_loses, call_lost, item_with_outcome, ran, returns, spent_by, stands_by}
-use Rattle.world_turns.proofs.round_calls_proofs.Staying.{going_now, stands_now, strict_now}
-use Rattle.world_turns.proofs.round_calls_proofs.Truncating.{truncate_ends_round, truncate_enough, truncate_loses, truncate_lost, truncate_over, truncate_stands, truncate_unlogged}
+use Rattle.world_turns.proofs.round_calls_proofs.Staying.{going_now, lacks_ends, lacks_over, stands_now, strict_now}
+use Rattle.world_turns.proofs.round_calls_proofs.Truncating.{truncate_lacks, truncate_loses, truncate_lost, truncate_room, truncate_stands, truncate_unlogged}
 use Rattle.world_turns.specs.world_parts.round_jobs.world_standing.Standing.{Pending, StandsAt}
 use Rattle.world_turns.specs.world_parts.round_jobs.world_standing.world_promise.JobLaws.{needs}
 use Rattle.world_turns.specs.write_begins.Needs.{JobsNeed, need_by}
 use Rattle.world_turns.specs.world_parts.round_views.declared.over.Over.{Over}
-use Rattle.world_turns.specs.world_parts.round_views.Begins.{EndsRound, LosesCall, Publishes, Returns}
+use Rattle.world_turns.specs.world_parts.round_views.Begins.{EndsRound, LacksBeside, LosesCall, Publishes, Returns}
 use Rattle.world_turns.specs.world_parts.round_views.file_ends.Ends.{FilesEnd}
 use Rattle.world_turns.specs.world_parts.round_views.flight_calls.Built.{IsBuilt}
 use Rattle.world_turns.specs.world_parts.round_views.flight_names.Answers.{Answers, IsSpent, KeepsEnds, LeavesDevice, Loses}
@@ -25,6 +25,7 @@ use Rattle.world_turns.specs.world_parts.declared.parts.Parts.{Parts}
 use Rattle.world_turns.specs.world_parts.Adds.{IsAdded}
 use Rattle.world_turns.specs.world_parts.Seen.{IsKept, seen}
 use Rattle.world_turns.specs.Turns.{IsTurn}
+use Rattle.world_begins.specs.Runs.{HasRoom, IsRoomAsked}
 use Rattle.world_turns.proofs.Turning.{off_kept, off_seen, over_kept, over_seen, returned_kept, returned_seen}
 
 -- what it publishes is said of what stands below alone
@@ -82,6 +83,16 @@ module _ (p : Parts) (who : Who) (call : Call) (turn : IsTurn p who call) where
               (call_loses p.k p.files.tables p.staging p.data (seen p) who call turn.calls q.k q.files.tables q.data loses leaves after off),
         )
 
+-- ---- there is too little room for it
+
+module _ (p : Parts) (who : Who) (call : Call) (turn : IsTurn p who call) (needed left : ℕ) (lacks : LacksBeside (seen p) who call needed left) where
+  pub room_ended : (r : Parts) → r ≡ record p { over = Some (Over.Space needed left); acts = p.acts + 1 } → (after : Supply) → is_on after ≡ true → IsKept r × EndsRound who (seen p) (seen r) after needed left
+  room_ended r rest after on = (
+    over_kept p who call turn p refl r needed left rest (lacks_over p.k p.files.tables p.staging p.data (seen p) who call turn.calls needed left lacks),
+    subst (λ (v : WorldView). EndsRound who (seen p) v after needed left) (sym (over_seen p who call turn p refl r needed left rest))
+        (lacks_ends p.k p.files.tables p.staging p.data (seen p) who call turn.calls needed left lacks after on),
+  )
+
 -- ---- a `truncate`
 
 module _ (p : Parts) (who : Who) (h : Handle) (size : ℕ) (turn : IsTurn p who (Call.Truncate h size)) (law : JobsNeed) (taken : ℕ)
@@ -109,19 +120,16 @@ module _ (p : Parts) (who : Who) (h : Handle) (size : ℕ) (turn : IsTurn p who 
         returned_kept p who call turn t refl r outcome item added (ran p.k p.files.tables p.staging p.data (seen p) who call turn.calls l p.files.tables d ends.0 (ends.1 its_ends) stood.0),
         subst (λ (v : WorldView). Returns who (seen p) v before after) (sym (returned_seen p who call turn t refl r outcome item added))
             (returns p.k p.files.tables p.staging p.data (seen p) who call turn.calls l p.files.tables d ends.0 (ends.1 its_ends) stood.0 before after (truncate_unlogged (state_of (seen p)) who h size)
-            (truncate_enough p.k p.files.tables p.staging p.data (seen p) who h size turn.calls taken needs_them l d outcome answers) tt on (inl stood.2)),
+            (truncate_room p.k p.files.tables p.staging p.data (seen p) who h size turn.calls taken needs_them answers.enough) tt on (inl stood.2)),
       )
 
-  -- the round is over,
-  pub truncate_ended : l ≡ p.k → d ≡ p.data → (needed left : ℕ) → truncates.EndsRound who h size taken p.k p.files.tables p.data needed left
-      → (r : Parts) → r ≡ record t { over = Some (Over.Space needed left); acts = p.acts + 1 } → (after : Supply) → is_on after ≡ true → IsKept r × EndsRound who (seen p) (seen r) after needed left
-  truncate_ended k_same d_same needed left ends r rest after on =
-      let on_p : r ≡ record p { over = Some (Over.Space needed left); acts = p.acts + 1 } =
-      rest ∙ (λ i. record p { k = k_same i; «data» = d_same i; over = Some (Over.Space needed left); acts = p.acts + 1 }) in (
-        over_kept p who call turn p refl r needed left on_p (truncate_over p.k p.files.tables p.staging p.data (seen p) who h size turn.calls taken needs_them needed left ends),
-        subst (λ (v : WorldView). EndsRound who (seen p) v after needed left) (sym (over_seen p who call turn p refl r needed left on_p))
-            (truncate_ends_round p.k p.files.tables p.staging p.data (seen p) who h size turn.calls taken needs_them needed left ends after on),
-      )
+  -- found no room,
+  pub truncate_asked : (o : Option (ℕ × ℕ)) → truncates.IsLacking who h size taken p.k p.files.tables p.data o → IsRoomAsked (seen p) who (Call.Truncate h size) o
+  truncate_asked None enough = truncate_room p.k p.files.tables p.staging p.data (seen p) who h size turn.calls taken needs_them enough
+  truncate_asked (Some (needed, left)) less = truncate_lacks p.k p.files.tables p.staging p.data (seen p) who h size turn.calls taken needs_them needed left less
+
+  pub truncate_fits : HasRoom (seen p) who (Call.Truncate h size) → (needed left : ℕ) → truncates.LeavesLess who h size taken p.k p.files.tables p.data needed left → ⊥
+  truncate_fits fits needed left less = fits needed left (truncate_lacks p.k p.files.tables p.staging p.data (seen p) who h size turn.calls taken needs_them needed left less)
 
   -- or it lost its power.
   pub truncate_off : d ≡ p.data → truncates.Loses who h size taken p.k p.files.tables p.data l

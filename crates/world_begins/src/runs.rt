@@ -3,7 +3,7 @@ ghost use Rattle.std.specs.Prelude.{◌≡◌, ◌^◌, true, Some, Ok, if◌the
 ghost use Rattle.world_turns.specs.pm_words.Powers.{is_on, Steps};
 ghost use Rattle.world_turns.specs.posix_spec.Afforded.{moves_data};
 ghost use Rattle.posix_types.specs.declared.call.Call.{Call};
-ghost use Rattle.world_begins.specs.Runs.{IsBegunNow, PutsNothing};
+ghost use Rattle.world_begins.specs.Runs.{HasRoom, IsBegunNow, IsRoomAsked, PutsNothing};
 ghost use Rattle.world_turns.specs.world_parts.Answers.{IsBegun};
 ghost use Rattle.world_turns.specs.world_parts.round_jobs.script_calls.Costs.{most_of};
 ghost use Rattle.world_turns.specs.world_parts.round_views.Begins.{Publishes};
@@ -18,10 +18,26 @@ use posix_types::{Call, Handle, Who};
 use std::alloc::Global;
 use world_turns::{
     Begun, NoMemory, Over, Parts, Told, Truncated, add, end_round, fsync,
-    jobs_need_what_their_calls_do, lose_call, needs_now, publish_first, run_call, truncate_file,
+    jobs_need_what_their_calls_do, lacks_room, lose_call, needs_now, publish_first, run_call,
+    truncate_file,
 };
 
-// A `truncate`, of whose file nothing is staged.
+// Whether the jobs that are out leave a call that puts no bytes too little room: the blocks that it needs, and those that
+// are left. Only a `truncate` needs any.
+fn room_lacks(p: &Parts, who: Who, call: &Call) -> Option<(u64, u64)>
+    requires turn { IsTurn p.now who call.now }
+    requires plain { PutsNothing call.now }
+    ensures { IsRoomAsked (seen p.now) who call.now result }
+{
+    let Call::Truncate(handle, size) = call else {
+        return None;
+    };
+    jobs_need_what_their_calls_do();
+    let needs = needs_now(p, who, call);
+    lacks_room(&p.k, &p.files, &p.data, who, *handle, *size, needs)
+}
+
+// A `truncate`, of whose file nothing is staged, and for which there is room.
 fn run_truncate(
     p: &mut Parts,
     alloc: Global,
@@ -33,6 +49,7 @@ fn run_truncate(
     requires on { is_on power.old ≡ true }
     requires turn { IsTurn p.old who (Call.Truncate handle size) }
     requires bare { HasNothingStaged who handle p.old.files.tables p.old.data }
+    requires enough { HasRoom (seen p.old) who (Call.Truncate handle size) }
     ensures kept { p.new.usable ≡ true → IsKept p.new }
     ensures steps { Steps (2 ^ 16) power.old power.new }
     ensures begun { IsBegunNow who (seen p.old) (seen p.new) power.old power.new result }
@@ -54,10 +71,7 @@ fn run_truncate(
             add(p, who, Call::Truncate(handle, size), outcome);
             Ok(Begun::Done)
         }
-        Ok(Truncated::RoundOver { need, room }) => {
-            end_round(p, need, room);
-            Ok(Begun::RoundOver(Over::Space { need, room }))
-        }
+        Ok(Truncated::RoundOver { .. }) => unreachable!(),
         Ok(Truncated::PowerLost) => {
             lose_call(p, who, Call::Truncate(handle, size));
             Ok(Begun::PowerLost)
@@ -128,7 +142,7 @@ fn run_other(
     }
 }
 
-// A call that puts no bytes, of whose file nothing is left to be published.
+// A call that puts no bytes, of whose file nothing is left to be published, and for which there is room.
 fn run_now(
     p: &mut Parts,
     alloc: Global,
@@ -141,6 +155,7 @@ fn run_now(
     requires plain { PutsNothing call }
     requires cuts { CutsNothing call p.old.k p.old.data }
     requires bare { IsBareFor who call p.old }
+    requires enough { HasRoom (seen p.old) who call }
     requires published { Publishes who call (seen p.old) (seen p.old) }
     ensures kept { p.new.usable ≡ true → IsKept p.new }
     ensures steps { Steps (if moves_data call then 2 ^ 16 else 512) power.old power.new }
@@ -153,7 +168,7 @@ fn run_now(
     }
 }
 
-// A call that puts no bytes.
+// A call that puts no bytes. Its room is asked for before anything is done.
 pub(crate) fn run_whole(
     p: &mut Parts,
     alloc: Global,
@@ -168,6 +183,10 @@ pub(crate) fn run_whole(
     ensures steps { Steps (most_of (Some call)) power.old power.new }
     ensures begun { IsBegun who (seen p.old) (seen p.new) power.old power.new result }
 {
+    if let Some((need, room)) = room_lacks(p, who, &call) {
+        end_round(p, need, room);
+        return Ok(Begun::RoundOver(Over::Space { need, room }));
+    }
     match publish_first(p, alloc, who, call, power) {
         Ok(Some(call)) => run_now(p, alloc, who, call, power),
         Ok(None) => Ok(Begun::PowerLost),

@@ -1,10 +1,17 @@
 -- What the calls of a World answer.
-use Rattle.std.specs.Prelude.{◌≡◌, ◌≢◌, ◌⊎◌, ℕ, true, false, [], None, Result, Ok, Err}
+use Rattle.std.specs.Prelude.{◌≡◌, ◌≢◌, ◌⊎◌, ℕ, true, false, List, [], None, Result, Ok, Err}
+use Rattle.round_turns.specs.pm_words.declared.Cell.{Cell}
+use Rattle.round_turns.specs.pm_words.Images.{IsImage}
 use Rattle.round_turns.specs.pm_words.Powers.{is_on, Supply}
+use Rattle.round_turns.specs.pm_words.Words.{Words}
+use Rattle.disk_lines.specs.disk_places.Journal.{journaled}
+use Rattle.disk_lines.specs.disk_places.Places.{Geometry}
+use Rattle.round_turns.specs.disk_rules.Volume.{volume}
 use Rattle.round_turns.specs.list_facts.Members.{In}
 use Rattle.posix_types.specs.declared.call.Who.{Who}
 use Rattle.round_turns.specs.k_journal.declared.outcomes.Commit.{Commit}
 use Rattle.round_turns.specs.round_views.flight_names.declared.outcomes.NoMemory.{NoMemory}
+use Rattle.round_turns.specs.round_jobs.world_images.Images.{HasNoEntry}
 use Rattle.round_turns.specs.round_jobs.world_standing.Standing.{Pending}
 use Rattle.round_turns.specs.write_jobs.Jobs.{FilledView}
 use Rattle.round_turns.specs.round_views.Begins.{BeginsJob, IsFilledOut, IsPowerLost, IsRoundOver, MayBegin, Returns, Waits, WaitsFor, WantsMemory}
@@ -48,9 +55,13 @@ IsCheckpoint old new power (Ok Commit.Done) = IsNextRound old new power
 IsCheckpoint old new power (Ok Commit.PowerLost) = LosesRound old new power
 IsCheckpoint old new power (Err e) = WantsMemory old new power
 
--- HOW A RUN ENDS: whole, where the power is on and was not lost; else by a loss. Either way this is left.
+-- ALL IS PUBLISHED: whatever the device is found as, no slot of its log has an entry.
+abbrev pub HasEmptyLog : Geometry → List Cell → Type 0
+HasEmptyLog g pm = (image : Words) → IsImage pm image → HasNoEntry (volume g (journaled image)) (journaled image)
+
+-- HOW A RUN ENDS: whole, where the power is on and was not lost, with all published; else by a loss. Either way this is left.
 abbrev pub IsEnded : WorldView → Supply → Result Ended NoMemory → Type 0
-IsEnded w power (Ok (Ended.Whole pm history)) = (w.lost ≡ false) × (is_on power ≡ true) × IsLeft w pm history.items []
+IsEnded w power (Ok (Ended.Whole pm history)) = (w.lost ≡ false) × (is_on power ≡ true) × IsLeft w pm history.items [] × HasEmptyLog w.geometry pm
 IsEnded w power (Ok (Ended.Lost crashed)) =
     ((w.lost ≡ true) ⊎ (is_on power ≡ false)) × IsLeft w crashed.pm crashed.history.items (calls_out w) × (crashed.unfinished.items ≡ calls_out w)
 IsEnded w power (Err e) = (w.lost ≡ false) × (is_on power ≡ true)

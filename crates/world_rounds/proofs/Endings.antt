@@ -3,9 +3,11 @@ use Rattle.std.specs.Prelude.{◌≡◌, ◌≤◌, ◌+◌, false, List, length
 use Rattle.std.specs.Vec.{vec_capacity}
 use Rattle.std.proofs.Common.{arith, ap, sym, subst}
 use Rattle.world_ends.specs.pm_words.declared.Cell.{Cell}
+use Rattle.world_ends.specs.disk_places.Places.{Geometry}
 use Rattle.world_ends.specs.k_rules.View.{View}
 use Rattle.world_ends.specs.posix_spec.Run.{Begun}
 use Rattle.world_ends.specs.world_parts.round_views.Rounds.{IsLeft}
+use Rattle.world_ends.specs.world_parts.Answers.{HasEmptyLog}
 use Rattle.world_ends.specs.world_parts.declared.parts.Parts.{Parts}
 use Rattle.world_ends.specs.world_parts.Seen.{IsKept, seen, unfinished_of}
 
@@ -18,3 +20,7 @@ calls_room p kept on =
 -- what is left, by the device that was taken out
 pub left_by : (p : Parts) (m : View) (pm : List Cell) (unfinished : List Begun) → pm ≡ m.cells → IsLeft (seen p) m.cells p.history.items unfinished → IsLeft (seen p) pm p.history.items unfinished
 left_by p m pm unfinished same left = subst (λ (d : List Cell). IsLeft (seen p) d p.history.items unfinished) (sym same) left
+
+-- and its log
+pub empty_by : (g : Geometry) (m : View) (pm : List Cell) → pm ≡ m.cells → HasEmptyLog g m.cells → HasEmptyLog g pm
+empty_by g m pm same empty = subst (λ (d : List Cell). HasEmptyLog g d) (sym same) empty

@@ -11,7 +11,8 @@ use round_ends::{an_unmount_ends_a_run, the_lines_of_a_round_come_home};
 use std::alloc::Global;
 use world_ends::{Commit, Crashed, Ended, NoMemory, Parts, gather};
 
-/// The end of a run while the power is on: the lines come home, all that is staged is published, and the device is left.
+/// The end of a run while the power is on: the lines come home, all that is staged is published, and the device is left,
+/// whose log is empty where it was done.
 ///
 /// # Errors
 ///

@@ -16,7 +16,7 @@ mod turns;
 
 pub use publishing::publish_first;
 pub use puts::begin_put;
-pub use round_puts::{Truncated, jobs_need_what_their_calls_do, judge, truncate_file};
+pub use round_puts::{Truncated, jobs_need_what_their_calls_do, judge, lacks_room, truncate_file};
 pub use turns::{end_round, lose_call, needs_now};
 pub use world_parts::{
     Begun, Crashed, Ended, Finished, NoMemory, Over, Parts, Pending, Ready, Told, add, busy_on,

@@ -1,5 +1,5 @@
 -- What the beginning of a write answers, by what it asked for and how it went on.
-use Rattle.std.specs.Prelude.{◌≡◌, ◌≤◌, ◌<◌, ◌-◌, ℕ, List, [], ◌∷◌, length, Option, None, Some, refl, Result, Ok, Err}
+use Rattle.std.specs.Prelude.{◌≡◌, ◌≤◌, ◌<◌, ◌-◌, ◌/◌, ℕ, List, [], ◌∷◌, length, Option, None, Some, refl, Result, Ok, Err}
 use Rattle.std.specs.declared.alloc.AllocError.{AllocError}
 use Rattle.std.proofs.Common.{arith, ap, ◌∙◌, sym, subst, inl, inr}
 use Rattle.first_writes.specs.disk_places.Places.{data_blocks}
@@ -102,7 +102,8 @@ module _ (kept_law : StandsAsKept) (room_law : RoomIsKept) (rows : RowsAsCall) (
         blocks_are = is.blocks_are;
         fresh = is.fresh;
         ends = is.ends;
-        runs = is.runs;
+        plan = λ found. subst (λ start. (job.draft.file_block ≡ start / 4096) × (job.draft.count ≡ staged_count start (length x))) (start_there found) is.plan;
+        out = is.out;
         words = λ found. is.words (goes_on found);
         stands = λ found. is.stands (goes_on found);
       }

@@ -23,7 +23,7 @@ use Rattle.write_stages.specs.write_asks.declared.asking.Target.{Target}
 use Rattle.write_stages.specs.write_drafts.Drafts.{staged_count}
 use Rattle.write_stages.proofs.write_gaps_proofs.Lost.{left_off}
 use Rattle.write_stages.specs.Stages.{with_parts}
-use Rattle.write_begins.specs.Goes.{Goes, GoesNoFurther, HasRoom, LacksRun, LosesTarget}
+use Rattle.write_begins.specs.Goes.{Goes, GoesNoFurther, HasRoom, IsBareAtRest, LacksRun, LosesTarget}
 
 -- what the reserve answers where the power is off
 abbrev pub IsLost : ℕ → Staged → View → Staged → View → Type 0
@@ -65,8 +65,8 @@ first_fits k staging files who target x count need left law goes has some count_
     (subst (λ n. IsLacking n staging k need left) count_is lacks)
 
 -- a staging of which a run is out
-pub late_of : (old new : Staged) (owed : ℕ) → new ≡ old → owed ≡ length new.out → (owed ≡ 0 → ⊥) → old.out ≢ []
-late_of old new owed same is some none = some (is ∙ (ap (λ (s : Staged). length s.out) same ∙ ap length none))
+pub late_of : (old new : Staged) → new ≡ old → IsBareAtRest old → (new ≡ nothing_staged → ⊥) → old.out ≢ []
+late_of old new same bare staged none = staged (same ∙ bare none)
 
 pub lacks_run : (k l : View) (old new : Staged) (files : Files) (who : Who) (target : Target) (x : List ℕ) (count need left : ℕ) → count ≡ staged_count target.start (length x) → old.out ≢ []
     → IsLacking count old k need left → AreSame old new k l → LacksRun k l old new files files who target x need left

@@ -170,7 +170,10 @@ module _ (k l : View) (old new : Staged) (files : Files) (who : Who) (target : T
     blocks_are = staged.job_is.blocks_are;
     fresh = staged.job_is.fresh;
     ends = subst (λ (d : Draft). d.file_block + d.count ≤ blocks_for d.size) (sym staged.job_is.draft) (ends_of target.start (length x) target.size taken.count ((run_is count old new k l taken answer).count_is ∙ count_is));
-    runs = ap (λ (s : Staged). length s.out) staged.same ∙ (ap length (run_is count old new k l taken answer).out_is ∙ length-append old.out (taken ∷ []));
+    plan = (ap (λ (d : Draft). d.file_block) staged.job_is.draft, ap (λ (d : Draft). d.count) staged.job_is.draft ∙ ((run_is count old new k l taken answer).count_is ∙ count_is));
+    out =
+        ap (λ (s : Staged). s.out) staged.same
+        ∙ ((run_is count old new k l taken answer).out_is ∙ ap (λ (d : Draft). old.out ++ reserved_run d ∷ []) (sym staged.job_is.draft));
     words = λ goes.
         subst (λ (d : Draft). SpellCall goes.s (record { who = who; call = goes.call; draft = d; blocks = blocks }) job.words) (sym staged.job_is.draft) (is_out goes).spells;
     stands = λ goes.

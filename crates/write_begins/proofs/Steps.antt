@@ -78,7 +78,8 @@ through k l m old new files then last who target x step (Ok (WriteBegun.Job job 
   blocks_are = is.blocks_are;
   fresh = is.fresh;
   ends = is.ends;
-  runs = is.runs;
+  plan = is.plan;
+  out = is.out;
   words = λ goes. is.words (goes_then k l old old files then who target x goes (step.onward goes));
   stands = λ goes. is.stands (goes_then k l old old files then who target x goes (step.onward goes));
 }

@@ -1,5 +1,5 @@
 -- What the beginning of a write answers and leaves.
-use Rattle.std.specs.Prelude.{◌≡◌, ◌≢◌, ◌⊎◌, ◌<◌, ◌≤◌, ◌+◌, ◌-◌, ◌^◌, ℕ, true, false, List, [], ◌∷◌, ◌++◌, length, map, Option, Some, None, Result, Ok, Err}
+use Rattle.std.specs.Prelude.{◌≡◌, ◌≢◌, ◌⊎◌, ◌<◌, ◌≤◌, ◌+◌, ◌-◌, ◌/◌, ◌^◌, ℕ, true, false, List, [], ◌∷◌, ◌++◌, length, map, Option, Some, None, Result, Ok, Err}
 use Rattle.std.specs.declared.alloc.AllocError.{AllocError}
 use Rattle.block_counts.specs.Counts.{blocks_for}
 use Rattle.first_writes.specs.pm_words.declared.Cell.{Cell}
@@ -27,7 +27,7 @@ use Rattle.flight_reserves.specs.world_images.Promised.{IsKept}
 use Rattle.flight_reserves.specs.world_lent.Back.{IsPutBack}
 use Rattle.flight_reserves.specs.world_promise.JobLaws.{needs}
 use Rattle.flight_reserves.specs.world_rules.Jobs.{begun_of, Job}
-use Rattle.flight_reserves.specs.world_standing.Standing.{Kept, StandsAt}
+use Rattle.flight_reserves.specs.world_standing.Standing.{Kept, reserved_run, StandsAt}
 use Rattle.flight_reserves.specs.world_standing.Jobs.{SpellCall}
 use Rattle.flight_reserves.specs.world_steps.Steps.{LetsJobsBe}
 use Rattle.write_stages.specs.write_asks.Laws.{call_of, start_of}
@@ -77,8 +77,8 @@ pub record LacksStaging (s : State) (who : Who) (call : Call) (jobs : List Job) 
 -- ---- it is logged
 
 -- A JOB IS OUT, last of those that are out, with its entry, its blocks and the words of the call; the jobs that were out left what it
--- needs, and the staging had a run for it; the World stands together with it, in the same state; its blocks lie in the file as its
--- entry leaves it; and one run more is out.
+-- needs, and the staging had a run for it; the World stands together with it, in the same state; its blocks are those of its plan, and lie
+-- in the file as its entry leaves it; and just its run went out.
 pub record BeginsWrite (who : Who) (h : Handle) (at : Option ℕ) (x : List ℕ) (k l : View) (t : Tables)
     (old new : Staged) (files then : Files) (taken : ℕ) (job : JobView) (blocks : List ℕ) : Type 0 where
   pub accepted : IsAccepted who h at x k t old files taken
@@ -88,7 +88,9 @@ pub record BeginsWrite (who : Who) (h : Handle) (at : Option ℕ) (x : List ℕ)
   pub blocks_are : blocks_of job.loans ≡ blocks
   pub fresh : job.lost ≡ false
   pub ends : job.draft.file_block + job.draft.count ≤ blocks_for job.draft.size
-  pub runs : length new.out ≡ length old.out + 1
+  pub plan : (found : Found k t old files who (call_of h at x) taken)
+      → (job.draft.file_block ≡ start_of found.s who h at / 4096) × (job.draft.count ≡ staged_count (start_of found.s who h at) (length x))
+  pub out : new.out ≡ old.out ++ reserved_run job.draft ∷ []
   pub words : (found : Found k t old files who (call_of h at x) taken)
       → SpellCall found.s (record { who = who; call = call_of h at x; draft = job.draft; blocks = blocks }) job.words
   pub stands : (found : Found k t old files who (call_of h at x) taken)

@@ -1,5 +1,5 @@
 -- A write that no row refuses, and that finds room beside the jobs that are out, on its way.
-use Rattle.std.specs.Prelude.{◌≡◌, ◌≢◌, ◌≤◌, ◌<◌, ◌+◌, ◌^◌, ℕ, true, false, List, [], ◌∷◌, ◌++◌, length, map, Option, Some, Result, Ok, Err}
+use Rattle.std.specs.Prelude.{◌≡◌, ◌≢◌, ◌≤◌, ◌<◌, ◌+◌, ◌/◌, ◌^◌, ℕ, true, false, List, [], ◌∷◌, ◌++◌, length, map, Option, Some, Result, Ok, Err}
 use Rattle.std.specs.declared.alloc.AllocError.{AllocError}
 use Rattle.first_writes.specs.pm_words.declared.Cell.{Cell}
 use Rattle.first_writes.specs.pm_words.Words.{Words}
@@ -24,7 +24,7 @@ use Rattle.first_writes.specs.posix_spec.Put.{put_by}
 use Rattle.first_writes.specs.posix_spec.Run.{run}
 use Rattle.first_writes.specs.posix_spec.State.{room, State}
 use Rattle.flight_reserves.specs.staging_files.declared.runs.StageRun.{StageRun}
-use Rattle.flight_reserves.specs.staging_files.GivesUp.{IsGivenBack}
+use Rattle.flight_reserves.specs.staging_files.GivesUp.{IsGivenBack, nothing_staged}
 use Rattle.flight_reserves.specs.staging_files.Keeps as staging
 use Rattle.flight_reserves.specs.staging_files.Keeps.{Agrees, AreFreeSingle, IsRunSingle, IsThere, Staged}
 use Rattle.flight_reserves.specs.staging_files.Reserves.{IsLacking}
@@ -33,7 +33,7 @@ use Rattle.flight_reserves.specs.world_lent.Back.{IsPutBack}
 use Rattle.flight_reserves.specs.world_promise.JobLaws.{needs}
 use Rattle.flight_reserves.specs.world_rules.Jobs.{begun_of, Job}
 use Rattle.flight_reserves.specs.world_rules.Stands.{number}
-use Rattle.flight_reserves.specs.world_standing.Standing.{Kept, Pending, StandsAt}
+use Rattle.flight_reserves.specs.world_standing.Standing.{Kept, Pending, reserved_run, StandsAt}
 use Rattle.flight_reserves.specs.world_standing.Jobs.{SpellCall}
 use Rattle.write_stages.specs.write_asks.declared.asking.Target.{Target}
 use Rattle.write_stages.specs.write_asks.Asks.{room_in}
@@ -53,6 +53,10 @@ pub record FitsTarget (files : Files) (target : Target) (len : ℕ) : Type 0 whe
 pub record HasRoom (v : Volume) (files : Files) (target : Target) (len : ℕ) : Type 0 where
   pub ends : FilesEnd v files
   pub room : write_need Mode.Strict target.size target.start (target.start + len) ≤ room_in (data_blocks v.geometry) files
+
+-- Where no run is out nothing is staged at all: so the first write of a lap has its run.
+abbrev pub IsBareAtRest : Staged → Type 0
+IsBareAtRest s = s.out ≡ [] → s ≡ nothing_staged
 
 -- A World in which a call puts these bytes into the file of the target, at its place, and finds room beside the jobs that are out,
 -- which are of other callers and other files.
@@ -85,14 +89,15 @@ pub record KeepsMaps (v w : Volume) (files then : Files) : Type 0 where
 
 -- ---- how it went on
 
--- IT IS A JOB.
+-- IT IS A JOB, with the blocks of its plan; and just its run went out.
 pub record BecomesJob (k l : View) (old new : Staged) (files then : Files) (who : Who) (target : Target) (x : List ℕ) (job : JobView) (blocks : List ℕ) : Type 0 where
   pub run : (need left : ℕ) → ¬ IsLacking (staged_count target.start (length x)) old k need left
   pub job_who : job.who ≡ who
   pub blocks_are : blocks_of job.loans ≡ blocks
   pub fresh : job.lost ≡ false
   pub ends : job.draft.file_block + job.draft.count ≤ blocks_for job.draft.size
-  pub runs : length new.out ≡ length old.out + 1
+  pub plan : (job.draft.file_block ≡ target.start / 4096) × (job.draft.count ≡ staged_count target.start (length x))
+  pub out : new.out ≡ old.out ++ reserved_run job.draft ∷ []
   pub words : (goes : Goes k old files who target x) → SpellCall goes.s (job_of who goes.call job blocks) job.words
   pub stands : (goes : Goes k old files who target x)
       → StandsAt goes.g l goes.t (record (with_parts goes.kept new then) { pending = goes.kept.pending ++ job_of who goes.call job blocks ∷ [] }) true goes.n goes.s

@@ -4,7 +4,7 @@ ghost use Rattle.first_writes.specs.pm_words.Powers.{is_on, Steps};
 ghost use Rattle.first_writes.specs.file_ends.Ends.{FilesEnd};
 ghost use Rattle.write_stages.specs.write_asks.Laws.{call_of};
 ghost use Rattle.write_begins.specs.Begins.{Found, IsBegun, IsPaid};
-ghost use Rattle.write_begins.specs.Goes.{KeepsMaps};
+ghost use Rattle.write_begins.specs.Goes.{IsBareAtRest, KeepsMaps};
 
 use crate::rooms::begin_target;
 use first_writes::{FileTable, Job};
@@ -31,7 +31,8 @@ pub enum WriteBegun {
 
 /// Begins a write of bytes through a handle, at `offset` or where the handle stands, in strict mode, beside
 /// jobs that need `needs` blocks together. The power is on, and the World stands together, with the log's
-/// lines out; the jobs that are out are of other callers and other files; and nothing of a file lies past its end.
+/// lines out; the jobs that are out are of other callers and other files; nothing of a file lies past its end; and where
+/// no run is out nothing is staged.
 ///
 /// It answers in this order: by the row of the call that fits; RoundOver where only the jobs that are out leave
 /// too little; PowerLost where the power goes while it makes room; RoundOver where the staging has no run; else
@@ -39,8 +40,7 @@ pub enum WriteBegun {
 ///
 /// # Errors
 ///
-/// Want of memory: now, or of a write before this one in the lap, where the staging blocks of the runs that went
-/// back do not do and no run is out. No call sees a change.
+/// Want of memory: no call sees a change.
 ///
 /// # Steps
 ///
@@ -62,6 +62,7 @@ pub fn begin_write(
     requires found { Found k.old tables.now.tables staging.old files.old who
         (call_of handle offset bytes.now) needs }
     requires ends { FilesEnd k.old.volume files.old }
+    requires bare { IsBareAtRest staging.old }
     ensures steps { Steps (2 ^ 22) power.old power.new }
     ensures paid { IsPaid power.new result }
     ensures keeps { is_on power.new ≡ true

@@ -4,7 +4,7 @@ ghost use Rattle.first_writes.specs.pm_words.Powers.{is_on, Steps};
 ghost use Rattle.first_writes.specs.file_table.Files.{size_in, spare_in};
 ghost use Rattle.write_stages.specs.write_gaps.flight_zeros.Zeros.{ReadZero};
 ghost use Rattle.write_begins.specs.Begins.{IsPaid};
-ghost use Rattle.write_begins.specs.Goes.{FitsTarget, Goes, HasRoom, IsGone, IsJobBegun, KeepsMaps};
+ghost use Rattle.write_begins.specs.Goes.{FitsTarget, Goes, HasRoom, IsBareAtRest, IsGone, IsJobBegun, KeepsMaps};
 ghost use Rattle.write_stages.specs.write_drafts.Drafts.{staged_count};
 ghost use Rattle.write_stages.specs.Stages.{Ready};
 ghost use Rattle.write_stages.specs.write_gaps.Gaps.{block_start};
@@ -60,8 +60,7 @@ fn begin_job(
 }
 
 // Reserves the run of a write, and makes its job. What lies between the end of the file and the block of the
-// write reads zero, and there is room to lay the run. Where nothing is staged the staging has a run for it; where
-// it has none and no run is out, what is left of the blocks of runs that went back does not do.
+// write reads zero, and there is room to lay the run. Where nothing is staged the staging has a run for it.
 fn begin_cleared(
     alloc: Global,
     k: &mut KSplit,
@@ -76,6 +75,7 @@ fn begin_cleared(
     requires goes { Goes k.old staging.old files.now who target bytes.now }
     requires target { FitsTarget files.now target (length bytes.now) }
     requires room { HasRoom k.old.volume files.now target (length bytes.now) }
+    requires bare { IsBareAtRest staging.old }
     requires spare { 3 ≤ spare_in files.now target.ino }
     requires zero { ReadZero k.old files.now target.ino target.size (block_start target.start) }
     ensures steps { Steps (2 ^ 15) power.old power.new }
@@ -97,9 +97,6 @@ fn begin_cleared(
         Err(StageFault::NoRoom { need, room }) => {
             if staging.is_fresh() {
                 unreachable!()
-            }
-            if staging.owed() == 0 {
-                return Err(AllocError);
             }
             Ok(WriteBegun::RoundOver {
                 need: u64::from(need),
@@ -125,6 +122,7 @@ pub(crate) fn begin_target(
     requires goes { Goes k.old staging.old files.old who target bytes.now }
     requires target { FitsTarget files.old target (length bytes.now) }
     requires room { HasRoom k.old.volume files.old target (length bytes.now) }
+    requires bare { IsBareAtRest staging.old }
     ensures steps { Steps (2 ^ 22) power.old power.new }
     ensures paid { IsPaid power.new result }
     ensures keeps { is_on power.new ≡ true

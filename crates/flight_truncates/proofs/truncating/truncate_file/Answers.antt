@@ -1,14 +1,12 @@
-use Rattle.std.proofs.Common.{◌≡◌, ◌-◌, ◌≤◌, refl, ap, ◌∙◌, sym, subst}
-use Rattle.std.specs.Prelude.{None, option_map, Some}
-use Rattle.flight_cleans.specs.block_counts.Counts.{reserve_for}
+use Rattle.std.proofs.Common.{◌-◌, ◌≤◌, refl, ap, ◌∙◌, sym, subst}
+use Rattle.std.specs.Prelude.{option_map}
 use Rattle.flight_cleans.specs.disk_places.Places.{data_blocks}
 use Rattle.flight_cleans.specs.write_drafts.file_table.Files.{size_in}
 use Rattle.posix_words.specs.Room.{growth}
 use Rattle.flight_sizes.specs.flight_names.open_files.Found.{description_in}
-use Rattle.flight_cleans.specs.write_drafts.write_rows.Rows.{truncate_row_by}
 use Rattle.flight_truncates.specs.Truncates.{Answers}
 use Rattle.flight_truncates.proofs.Asked.{line_there, live_file, published, reserve_there}
-use Rattle.flight_truncates.proofs.Given.{given_ended, given_ends, refused_row, refused_unknown, round_ends}
+use Rattle.flight_truncates.proofs.Given.{given_ended, given_ends, leaves_less, refused_row, refused_unknown}
 use Rattle.flight_truncates.proofs.Rows.{room_left, room_same, row_same}
 use Rattle.flight_truncates.proofs.truncating.truncate_file.Goals as goal
 
@@ -42,7 +40,7 @@ returns-in-Full-clause-ended c =
     let blocks = c.data_blocks.ensures.number ∙ ap data_blocks c.geometry.ensures in
     let left = room_same c.args.k.now c.args.data.now c.room_by-room.result c.data_blocks.result c.held.result c.room_by-room.ensures blocks c.held.ensures in
     let same = row_same c.in-Some.opened.flags.write c.args.size c.size.result (size_in c.args.data.now c.in-Some.opened.ino) c.room_by-room.result (room_left c.args.k.now c.args.data.now) c.size.ensures.size left in (
-      round_ends c.args.who c.args.handle c.args.size c.args.needs c.args.k.now c.args.files.now.tables c.args.data.now c.kept_numbers_are_those_of_the_state.ensures.room (description_in c.in-Some.opened) known c.in-Full.need c.in-Full.left
+      leaves_less c.args.who c.args.handle c.args.size c.args.needs c.args.k.now c.args.files.now.tables c.args.data.now c.kept_numbers_are_those_of_the_state.ensures.room (description_in c.in-Some.opened) known c.in-Full.need c.in-Full.left
           (sym same ∙ c.in-Full.ensures.0) (c.in-Full.ensures.1 ∙ ap (λ m. growth m c.args.size) c.size.ensures.size) (c.in-Full.ensures.2 ∙ ap (λ m. m - c.args.needs) left) c.in-Full.ensures.3,
       refl,
       refl,

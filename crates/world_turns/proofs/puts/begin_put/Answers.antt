@@ -1,7 +1,9 @@
 use Rattle.std.proofs.Common.{◌≡◌, ◌+◌, ◌<◌, ◌^◌, Some, true, arith, inl, inr, refl, subst, sym}
 use Rattle.posix_types.specs.declared.call.Call.{Call}
+use Rattle.round_puts.proofs.round_calls_proofs.Staying.{bare_at_rest}
 use Rattle.round_puts.specs.write_begins.write_asks.Laws.{call_of}
 use Rattle.world_parts.specs.Adds.{IsAdded}
+use Rattle.world_parts.specs.Seen.{seen}
 use Rattle.world_turns.specs.Turns.{IsTurn}
 use Rattle.world_turns.proofs.Turning.{may_add, one_act}
 use Rattle.world_turns.proofs.Writing.{job_pushed, put_answered, put_began, put_ends, put_found, put_lost, put_over}
@@ -15,6 +17,10 @@ begin_write-requires-clause-found c = put_found c.args.p.now c.args.who c.args.h
 
 pub begin_write-requires-clause-ends : goal.begin_write-requires-clause-ends
 begin_write-requires-clause-ends c = put_ends c.args.p.now c.args.who c.args.handle c.args.offset c.args.data.now c.requires.turn c.jobs_need_what_their_calls_do.ensures c.needs_now-needs.result c.needs_now-needs.ensures
+
+pub begin_write-requires-clause-bare : goal.begin_write-requires-clause-bare
+begin_write-requires-clause-bare c =
+    bare_at_rest c.args.p.now.k c.args.p.now.files.tables c.args.p.now.staging c.args.p.now.data (seen c.args.p.now) c.args.who (call_of c.args.handle c.args.offset c.args.data.now) c.requires.turn.calls
 
 pub add-requires : goal.add-requires
 add-requires c = may_add c.args.p.now c.args.who (call_of c.args.handle c.args.offset c.args.data.now) c.requires.turn (record c.args.p.now { k = c.begin_write.new.k; staging = c.begin_write.new.staging; «data» = c.begin_write.new.files }) refl

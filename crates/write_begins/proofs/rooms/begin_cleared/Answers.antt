@@ -1,4 +1,4 @@
-use Rattle.std.proofs.Common.{◌∙◌, ℕ, arith, refl, subst, sym}
+use Rattle.std.proofs.Common.{◌≡◌, ◌∙◌, ℕ, arith, false, refl, subst, sym, true}
 use Rattle.first_writes.specs.disk_rules.Volume.{Volume}
 use Rattle.first_writes.specs.k_rules.View.{View}
 use Rattle.write_begins.specs.Goes.{KeepsMaps, LacksRun}
@@ -46,15 +46,15 @@ unreachable-requires c =
     first_fits c.args.k.now c.args.staging.now c.args.files.now c.args.who c.args.target c.args.bytes.now c.count_of-count.result c.in-Err-NoRoom.need c.in-Err-NoRoom.room c.the_first_write_finds_its_blocks.ensures c.requires.goes c.requires.room
     c.requires.target.some c.count_of-count.ensures.count (sym answer.1.staging ∙ c.if-is_fresh.ensures.0 refl) answer.0
 
-pub returns-else-owed-eq0-clause-keeps : goal.returns-else-owed-eq0-clause-keeps
-returns-else-owed-eq0-clause-keeps c = λ on.
+pub returns-else-is_fresh-clause-keeps : goal.returns-else-is_fresh-clause-keeps
+returns-else-is_fresh-clause-keeps c = λ on.
     let answer = rw c.in-Err-NoRoom.field-0-is at c.in-Err-NoRoom.ensures.answer in
     subst (λ (y : View). KeepsMaps c.args.k.now.volume y.volume c.args.files.now c.args.files.now) (sym answer.1.volume) (same_maps c.args.k.now.volume c.args.files.now)
 
-pub returns-else-owed-eq0-clause-gone : goal.returns-else-owed-eq0-clause-gone
-returns-else-owed-eq0-clause-gone c =
+pub returns-else-is_fresh-clause-gone : goal.returns-else-is_fresh-clause-gone
+returns-else-is_fresh-clause-gone c =
     let answer = rw c.in-Err-NoRoom.field-0-is at c.in-Err-NoRoom.ensures.answer in
     subst (λ (n : ℕ). LacksRun c.args.k.now c.reserve.new.k c.args.staging.now c.reserve.new.self c.args.files.now c.args.files.now c.args.who c.args.target c.args.bytes.now n c.from-in-Err-NoRoom.result) (sym (c.from.ensures ∙ c.in-Err-NoRoom.need-is))
     (subst (λ (m : ℕ). LacksRun c.args.k.now c.reserve.new.k c.args.staging.now c.reserve.new.self c.args.files.now c.args.files.now c.args.who c.args.target c.args.bytes.now c.in-Err-NoRoom.need m) (sym (c.from-in-Err-NoRoom.ensures ∙ c.in-Err-NoRoom.room-is))
     (lacks_run c.args.k.now c.reserve.new.k c.args.staging.now c.reserve.new.self c.args.files.now c.args.who c.args.target c.args.bytes.now c.count_of-count.result c.in-Err-NoRoom.need c.in-Err-NoRoom.room c.count_of-count.ensures.count
-    (late_of c.args.staging.now c.reserve.new.self c.owed.result answer.1.staging c.owed.ensures.count c.if-owed-eq0.false) answer.0 answer.1))
+    (late_of c.args.staging.now c.reserve.new.self answer.1.staging c.requires.bare (λ fresh. (let never : false ≡ true = c.if-is_fresh.ensures.1 fresh in cc))) answer.0 answer.1))

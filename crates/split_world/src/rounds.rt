@@ -63,7 +63,7 @@ impl World {
         end_lines(&mut self.parts, alloc, lines, power)
     }
 
-    /// Ends a run: the lines go home, all that is staged is published, and a last lap begins. No job is out, the lines
+    /// Ends a run: the lines go home, all that is staged is published, and the log is empty. No job is out, the lines
     /// are the round's and hold the claims whole, and every script has ended. Lost exactly where the power is off at
     /// the return, or was lost.
     ///

@@ -16,6 +16,13 @@ pub struct Case {
     trees: Vec<Vec<u8>>,
 }
 
+// Takes a large piece of memory and gives it back. The C library then holds what the many images of a case give back, and not
+// the system, in which such runs spent nearly half of their time.
+fn hold_memory(alloc: Global) -> Result<(), RowError> {
+    let _piece: Vec<u8> = Vec::with_capacity(alloc, 31 << 20)?;
+    Ok(())
+}
+
 // The calls of the one thread of a script.
 fn calls_of(alloc: Global, script: &str) -> Result<Vec<Call>, RowError> {
     let Ok(mut scripts) = read_script(alloc, script.as_bytes()) else {
@@ -52,6 +59,7 @@ fn add_call(alloc: Global, case: &mut Case, state: &mut State, call: Call) -> Re
 impl Case {
     /// A script on the image of `mkfs` with these numbers, parted by blanks, or on the default one where there are none.
     pub fn new(alloc: Global, numbers: &str, script: &str) -> Result<Case, RowError> {
+        hold_memory(alloc)?;
         let mut case = Case {
             image: Image::new(alloc, numbers)?,
             script: script.to_string(alloc)?,

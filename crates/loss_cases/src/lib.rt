@@ -2,12 +2,12 @@
 //!
 //! A `Case` is a script on an image of its own, with what the plain model of the calls says of it: the text of its history
 //! and the tree after each call. `runs_as_told` runs it whole by the top call. A loss is a number of steps after which the
-//! power goes, and a choice of what the medium has then; `is_permitted` and `first_forbidden` run the script with it: what
-//! is printed must be a front of the history, and a tree that `memory_runs::crash_judge::judge` permits for these calls with the next
-//! one unfinished. `Stops` says after which steps.
+//! power goes, and a choice of what the medium has then; `is_permitted` and `fault_of` run the script with it: what is
+//! printed must be a front of the history, and a tree that `memory_runs::crash_judge::judge` permits for these calls with the
+//! next one unfinished. `Stops` says after which steps: to the end of the unmount, or in one call.
 //!
 //! Nothing here is claimed by a contract: it serves programs that test. Stands on `memory_runs`, whose commands it gives,
-//! on `crash_judge`, and on the plain program of `posix_spec`.
+//! on `crash_judge`, on the plain program of `posix_spec`, and on the files of `outside`.
 #![tactic(auto)]
 
 mod cases;
@@ -17,6 +17,6 @@ mod stops;
 mod trees;
 
 pub use cases::Case;
-pub use losses::{first_forbidden, is_permitted};
+pub use losses::{fault_of, is_permitted};
 pub use memory_runs::RowError;
 pub use stops::Stops;

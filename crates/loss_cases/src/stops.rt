@@ -1,6 +1,6 @@
 //! After which steps the power goes.
 use crate::cases::Case;
-use crate::losses::outcome_at;
+use crate::losses::{image_at, outcome_at};
 use memory_runs::RowError;
 use std::alloc::Global;
 
@@ -12,36 +12,51 @@ pub struct Stops {
     pub every: u64,
 }
 
-// How many steps behind the last call are tried.
+// How many steps behind the end are tried.
 const BEHIND: u64 = 64;
 
-// Whether so many calls return in so many steps.
-fn returns(alloc: Global, case: &Case, calls: usize, steps: u64) -> Result<bool, RowError> {
-    Ok(outcome_at(alloc, case, steps, "oldest")?.returned >= calls)
+// More steps than any run has.
+const ALL: u64 = 1_000_000_000;
+
+// For what steps are sought.
+#[derive(Drop)]
+enum Sought {
+    // For so many calls to return.
+    Calls(usize),
+    // For this image, which is that of a run that loses nothing.
+    Image(Vec<u8>),
 }
 
-// A number of steps in which so many calls return.
-fn enough(alloc: Global, case: &Case, calls: usize) -> Result<u64, RowError> {
-    let mut steps: u64 = 64;
+// Whether so many steps are enough.
+fn is_enough(alloc: Global, case: &Case, sought: &Sought, steps: u64) -> Result<bool, RowError> {
+    match sought {
+        Sought::Calls(calls) => Ok(outcome_at(alloc, case, steps, "oldest")?.returned >= *calls),
+        Sought::Image(image) => Ok(image_at(alloc, case, steps)? == *image),
+    }
+}
+
+// A number of steps that is enough, above one that may be too low.
+fn enough(alloc: Global, case: &Case, sought: &Sought, low: u64) -> Result<u64, RowError> {
+    let mut more: u64 = 64;
     for _ in 0..30 {
-        if returns(alloc, case, calls, steps)? {
+        let steps = low.saturating_add(more);
+        if is_enough(alloc, case, sought, steps)? {
             return Ok(steps);
         }
-        steps = steps.saturating_mul(2);
+        more = more.saturating_mul(2);
     }
     Err(RowError::NotRun)
 }
 
-// The least number of steps in which so many calls return. More steps never return fewer calls.
-fn least(alloc: Global, case: &Case, calls: usize) -> Result<u64, RowError> {
-    let mut low: u64 = 0;
-    let mut high = enough(alloc, case, calls)?;
+// The least number of steps, from `low` on, that is enough. So are all numbers above it.
+fn least(alloc: Global, case: &Case, sought: &Sought, mut low: u64) -> Result<u64, RowError> {
+    let mut high = enough(alloc, case, sought, low)?;
     for _ in 0..64 {
         if low >= high {
             return Ok(high);
         }
         let middle = low.midpoint(high);
-        if returns(alloc, case, calls, middle)? {
+        if is_enough(alloc, case, sought, middle)? {
             high = middle;
         } else {
             low = middle.saturating_add(1);
@@ -51,16 +66,19 @@ fn least(alloc: Global, case: &Case, calls: usize) -> Result<u64, RowError> {
 }
 
 impl Stops {
-    /// From the first one to some steps behind the last call, so many apart.
+    /// From the first one to some steps behind the end of the unmount, so many apart. Its last change is that of the log's base:
+    /// from there on a loss leaves the image of a run that loses nothing, and earlier ones leave an earlier base.
     pub fn of_all(alloc: Global, case: &Case, first: u64, every: u64) -> Result<Stops, RowError> {
-        let last = least(alloc, case, case.calls())?.saturating_add(BEHIND);
+        let image = Sought::Image(image_at(alloc, case, ALL)?);
+        let last = least(alloc, case, &image, 0)?.saturating_add(BEHIND);
         Ok(Stops { first, last, every })
     }
 
     /// Each step of one call, counted from 0: from the return of the call before it to its own.
     pub fn of_call(alloc: Global, case: &Case, call: usize) -> Result<Stops, RowError> {
-        let first = least(alloc, case, call)?;
-        let last = least(alloc, case, call.saturating_add(1))?;
+        let next = call.saturating_add(1);
+        let first = least(alloc, case, &Sought::Calls(call), 0)?;
+        let last = least(alloc, case, &Sought::Calls(next), first)?;
         Ok(Stops {
             first,
             last,

@@ -12,6 +12,8 @@ pub(crate) struct Row {
     pub(crate) every: u64,
     // After how many steps the first one is.
     pub(crate) from: u64,
+    // After how many steps the last one is at most; 0 for the end of the unmount.
+    pub(crate) to: u64,
     // The calls of which each step is tried.
     pub(crate) each: Vec<u64>,
     // How often its lines stand in the script.
@@ -35,6 +37,7 @@ enum Keyword {
     Times,
     Every,
     From,
+    To,
     Each,
 }
 
@@ -44,6 +47,7 @@ fn keyword_of(word: &str) -> Option<Keyword> {
         "times" => Some(Keyword::Times),
         "every" => Some(Keyword::Every),
         "from" => Some(Keyword::From),
+        "to" => Some(Keyword::To),
         "each" => Some(Keyword::Each),
         _ => None,
     }
@@ -62,6 +66,7 @@ fn add_option(row: &mut Row, keyword: Keyword, word: &str) -> Result<(), RowErro
         Keyword::Times => row.times = number(word)?,
         Keyword::Every => row.every = number(word)?,
         Keyword::From => row.from = number(word)?,
+        Keyword::To => row.to = number(word)?,
         Keyword::Each => row.each.push(number(word)?)?,
     }
     Ok(())
@@ -74,6 +79,7 @@ fn row_of(alloc: Global, words: &str) -> Result<Row, RowError> {
         image: String::new(alloc),
         every: 0,
         from: 0,
+        to: 0,
         each: Vec::new(alloc),
         times: 1,
         script: String::new(alloc),

@@ -1,6 +1,6 @@
 //! How a row went.
 use crate::rows::{Row, read_row};
-use loss_cases::{Case, RowError, Stops, first_forbidden};
+use loss_cases::{Case, RowError, Stops, fault_of};
 use std::alloc::Global;
 
 // Whether the model prints the history of a row and its trees.
@@ -19,20 +19,32 @@ fn is_as_told(alloc: Global, row: &Row, case: &Case) -> Result<bool, RowError> {
     }
 }
 
-// The first loss of a row that leaves something forbidden.
-fn first_loss(alloc: Global, row: &Row, case: &Case) -> Result<Option<String>, RowError> {
+// The stops that are not those of single calls.
+fn stops_of(alloc: Global, row: &Row, case: &Case) -> Result<Stops, RowError> {
+    if row.to == 0 {
+        return Stops::of_all(alloc, case, row.from, row.every);
+    }
+    Ok(Stops {
+        first: row.from,
+        last: row.to,
+        every: row.every,
+    })
+}
+
+// What is wrong with the losses of a row.
+fn fault_told(alloc: Global, row: &Row, case: &Case) -> Result<Option<String>, RowError> {
     if row.every > 0 {
-        let stops = Stops::of_all(alloc, case, row.from, row.every)?;
-        let loss = first_forbidden(alloc, case, &stops)?;
-        if loss.is_some() {
-            return Ok(loss);
+        let stops = stops_of(alloc, row, case)?;
+        let fault = fault_of(alloc, case, &stops)?;
+        if fault.is_some() {
+            return Ok(fault);
         }
     }
     for call in &row.each {
         let stops = Stops::of_call(alloc, case, *call as usize)?;
-        let loss = first_forbidden(alloc, case, &stops)?;
-        if loss.is_some() {
-            return Ok(loss);
+        let fault = fault_of(alloc, case, &stops)?;
+        if fault.is_some() {
+            return Ok(fault);
         }
     }
     Ok(None)
@@ -41,11 +53,16 @@ fn first_loss(alloc: Global, row: &Row, case: &Case) -> Result<Option<String>, R
 // Which losses of a row were tried.
 fn losses_told(alloc: Global, row: &Row) -> Result<String, RowError> {
     let mut text = String::new(alloc);
-    let from = row.from;
-    let every = row.every;
+    let (every, from, to) = (row.every, row.from, row.to);
     if every > 0 {
-        let told = format!(in alloc; "; losses {every} steps apart from {from} on are permitted")?;
+        let told = format!(in alloc; "; losses {every} steps apart from {from} ")?;
         text.push_str(told.as_str())?;
+        if to > 0 {
+            let told = format!(in alloc; "to {to} are permitted")?;
+            text.push_str(told.as_str())?;
+        } else {
+            text.push_str("on are permitted")?;
+        }
     }
     for call in &row.each {
         let told = format!(in alloc; "; each loss in call {call} is permitted")?;
@@ -63,8 +80,8 @@ fn verdict(alloc: Global, row: &Row) -> Result<String, RowError> {
     if !case.runs_as_told(alloc)? {
         return Ok("the run answers otherwise".to_string(alloc)?);
     }
-    if let Some(loss) = first_loss(alloc, row, &case)? {
-        return Ok(format!(in alloc; "forbidden at {loss}")?);
+    if let Some(fault) = fault_told(alloc, row, &case)? {
+        return Ok(fault);
     }
     let calls = case.calls();
     let losses = losses_told(alloc, row)?;

@@ -1,5 +1,5 @@
 //! Scripts that fill the log, the staging files and the device.
-use crate::parts::is_permitted;
+use crate::parts::assert_row;
 use loss_rows::table_told;
 use std::test::Fail;
 
@@ -57,23 +57,22 @@ close f = ok
 tree = / dir; /f file 131172 00*100+66*131072
 ";
 
+// 16,777,216 bytes, and one byte more. The write takes the steps from 79 to 1,270.
 const LONGEST: &str = "\
-# 16,777,216 bytes, and one byte more.
-row the_longest_file on 4200 64 64 128
 open f /f rwc = fd 0
 truncate f 16777216 = ok
 truncate f 16777217 = EFBIG
-pwrite f 16777215 00 = count 1
+pwrite f 16777215 61 = count 1
 pwrite f 16777215 0000 = EFBIG
 pwrite f 16777216 61 = EFBIG
 pwrite f 16777216 - = count 0
 seek f set 16777216 = offset 16777216
 write f 61 = EFBIG
 read f 9 = data -
-pread f 16777214 9 = data 0000
+pread f 16777214 9 = data 0061
 stat /f = file 16777216
 close f = ok
-tree = / dir; /f file 16777216 00*16777216
+tree = / dir; /f file 16777216 00*16777215+61
 ";
 
 // Fifty writes: where the four lines of the log are full, all is published and the next lap begins.
@@ -130,6 +129,7 @@ pwrite f 6859 68*547 = count 547
 pwrite f 7856 69*548 = count 548
 pwrite f 853 6a*549 = count 549
 stat /f = file 8484
+pread f 0 9000 = data 61*500+00*353+6a*549+62*16+6e*16+66*16+72*16+6a*16+62*16+00*376+63*542+6f*16+67*16+73*16+6b*16+63*16+00*375+64*543+70*16+68*16+74*16+6c*16+64*16+00*374+65*544+71*16+69*16+61*16+6d*16+65*16+00*373+66*545+72*16+6a*16+62*16+6e*16+66*16+00*372+67*546+73*16+6b*16+63*16+6f*16+67*16+00*371+68*547+74*16+6c*16+64*16+70*16+68*16+00*370+69*548+61*16+6d*16+65*16+71*16+69*16
 truncate f 9 = ok
 pread f 0 9 = data 61*9
 close f = ok
@@ -167,122 +167,225 @@ fn staging_is_used_up(rt: HostRuntime) -> Result<(), Fail> {
 
 #[test]
 fn the_longest_file(rt: HostRuntime) -> Result<(), Fail> {
-    let told = table_told(rt.alloc(), LONGEST)?;
-    let want = "the_longest_file: 13 calls\n";
-    assert_eq!(rt; told.as_str(), want);
-    Ok(())
+    assert_row(
+        &rt,
+        "the_longest_file on 4200 64 64 128 every 400 from 20 to 2660",
+        LONGEST,
+    )
+}
+
+#[test]
+fn the_longest_file_is_written_0(rt: HostRuntime) -> Result<(), Fail> {
+    assert_row(
+        &rt,
+        "the_longest_file on 4200 64 64 128 every 111 from 85 to 1270",
+        LONGEST,
+    )
+}
+
+#[test]
+fn the_longest_file_is_written_1(rt: HostRuntime) -> Result<(), Fail> {
+    assert_row(
+        &rt,
+        "the_longest_file on 4200 64 64 128 every 111 from 122 to 1270",
+        LONGEST,
+    )
+}
+
+#[test]
+fn the_longest_file_is_written_2(rt: HostRuntime) -> Result<(), Fail> {
+    assert_row(
+        &rt,
+        "the_longest_file on 4200 64 64 128 every 111 from 159 to 1270",
+        LONGEST,
+    )
 }
 
 #[test]
 fn room_is_used_and_given_back_0(rt: HostRuntime) -> Result<(), Fail> {
-    assert!(rt; is_permitted(rt.alloc(), "64 4 16 16", ROOM, 3, 0)?);
-    Ok(())
+    assert_row(
+        &rt,
+        "room_is_given_back on 64 4 16 16 every 39 from 0",
+        ROOM,
+    )
 }
 
 #[test]
 fn room_is_used_and_given_back_1(rt: HostRuntime) -> Result<(), Fail> {
-    assert!(rt; is_permitted(rt.alloc(), "64 4 16 16", ROOM, 3, 1)?);
-    Ok(())
+    assert_row(
+        &rt,
+        "room_is_given_back on 64 4 16 16 every 39 from 13",
+        ROOM,
+    )
 }
 
 #[test]
 fn room_is_used_and_given_back_2(rt: HostRuntime) -> Result<(), Fail> {
-    assert!(rt; is_permitted(rt.alloc(), "64 4 16 16", ROOM, 3, 2)?);
-    Ok(())
+    assert_row(
+        &rt,
+        "room_is_given_back on 64 4 16 16 every 39 from 26",
+        ROOM,
+    )
 }
 
 #[test]
 fn fifty_writes_in_four_lines_0(rt: HostRuntime) -> Result<(), Fail> {
-    assert!(rt; is_permitted(rt.alloc(), "64 4 16 16", FIFTY, 6, 0)?);
-    Ok(())
+    assert_row(
+        &rt,
+        "fifty_writes_in_four_lines on 64 4 16 16 every 91 from 0",
+        FIFTY,
+    )
 }
 
 #[test]
 fn fifty_writes_in_four_lines_1(rt: HostRuntime) -> Result<(), Fail> {
-    assert!(rt; is_permitted(rt.alloc(), "64 4 16 16", FIFTY, 6, 1)?);
-    Ok(())
+    assert_row(
+        &rt,
+        "fifty_writes_in_four_lines on 64 4 16 16 every 91 from 13",
+        FIFTY,
+    )
 }
 
 #[test]
 fn fifty_writes_in_four_lines_2(rt: HostRuntime) -> Result<(), Fail> {
-    assert!(rt; is_permitted(rt.alloc(), "64 4 16 16", FIFTY, 6, 2)?);
-    Ok(())
+    assert_row(
+        &rt,
+        "fifty_writes_in_four_lines on 64 4 16 16 every 91 from 26",
+        FIFTY,
+    )
 }
 
 #[test]
 fn fifty_writes_in_four_lines_3(rt: HostRuntime) -> Result<(), Fail> {
-    assert!(rt; is_permitted(rt.alloc(), "64 4 16 16", FIFTY, 6, 3)?);
-    Ok(())
+    assert_row(
+        &rt,
+        "fifty_writes_in_four_lines on 64 4 16 16 every 91 from 39",
+        FIFTY,
+    )
 }
 
 #[test]
 fn fifty_writes_in_four_lines_4(rt: HostRuntime) -> Result<(), Fail> {
-    assert!(rt; is_permitted(rt.alloc(), "64 4 16 16", FIFTY, 6, 4)?);
-    Ok(())
+    assert_row(
+        &rt,
+        "fifty_writes_in_four_lines on 64 4 16 16 every 91 from 52",
+        FIFTY,
+    )
 }
 
 #[test]
 fn fifty_writes_in_four_lines_5(rt: HostRuntime) -> Result<(), Fail> {
-    assert!(rt; is_permitted(rt.alloc(), "64 4 16 16", FIFTY, 6, 5)?);
-    Ok(())
+    assert_row(
+        &rt,
+        "fifty_writes_in_four_lines on 64 4 16 16 every 91 from 65",
+        FIFTY,
+    )
+}
+
+#[test]
+fn fifty_writes_in_four_lines_6(rt: HostRuntime) -> Result<(), Fail> {
+    assert_row(
+        &rt,
+        "fifty_writes_in_four_lines on 64 4 16 16 every 91 from 78",
+        FIFTY,
+    )
 }
 
 #[test]
 fn five_writes_of_33_blocks_0(rt: HostRuntime) -> Result<(), Fail> {
-    assert!(rt; is_permitted(rt.alloc(), "96 16 16 16", FIVE, 10, 0)?);
-    Ok(())
+    assert_row(
+        &rt,
+        "five_writes_of_33_blocks on 96 16 16 16 every 143 from 0",
+        FIVE,
+    )
 }
 
 #[test]
 fn five_writes_of_33_blocks_1(rt: HostRuntime) -> Result<(), Fail> {
-    assert!(rt; is_permitted(rt.alloc(), "96 16 16 16", FIVE, 10, 1)?);
-    Ok(())
+    assert_row(
+        &rt,
+        "five_writes_of_33_blocks on 96 16 16 16 every 143 from 13",
+        FIVE,
+    )
 }
 
 #[test]
 fn five_writes_of_33_blocks_2(rt: HostRuntime) -> Result<(), Fail> {
-    assert!(rt; is_permitted(rt.alloc(), "96 16 16 16", FIVE, 10, 2)?);
-    Ok(())
+    assert_row(
+        &rt,
+        "five_writes_of_33_blocks on 96 16 16 16 every 143 from 26",
+        FIVE,
+    )
 }
 
 #[test]
 fn five_writes_of_33_blocks_3(rt: HostRuntime) -> Result<(), Fail> {
-    assert!(rt; is_permitted(rt.alloc(), "96 16 16 16", FIVE, 10, 3)?);
-    Ok(())
+    assert_row(
+        &rt,
+        "five_writes_of_33_blocks on 96 16 16 16 every 143 from 39",
+        FIVE,
+    )
 }
 
 #[test]
 fn five_writes_of_33_blocks_4(rt: HostRuntime) -> Result<(), Fail> {
-    assert!(rt; is_permitted(rt.alloc(), "96 16 16 16", FIVE, 10, 4)?);
-    Ok(())
+    assert_row(
+        &rt,
+        "five_writes_of_33_blocks on 96 16 16 16 every 143 from 52",
+        FIVE,
+    )
 }
 
 #[test]
 fn five_writes_of_33_blocks_5(rt: HostRuntime) -> Result<(), Fail> {
-    assert!(rt; is_permitted(rt.alloc(), "96 16 16 16", FIVE, 10, 5)?);
-    Ok(())
+    assert_row(
+        &rt,
+        "five_writes_of_33_blocks on 96 16 16 16 every 143 from 65",
+        FIVE,
+    )
 }
 
 #[test]
 fn five_writes_of_33_blocks_6(rt: HostRuntime) -> Result<(), Fail> {
-    assert!(rt; is_permitted(rt.alloc(), "96 16 16 16", FIVE, 10, 6)?);
-    Ok(())
+    assert_row(
+        &rt,
+        "five_writes_of_33_blocks on 96 16 16 16 every 143 from 78",
+        FIVE,
+    )
 }
 
 #[test]
 fn five_writes_of_33_blocks_7(rt: HostRuntime) -> Result<(), Fail> {
-    assert!(rt; is_permitted(rt.alloc(), "96 16 16 16", FIVE, 10, 7)?);
-    Ok(())
+    assert_row(
+        &rt,
+        "five_writes_of_33_blocks on 96 16 16 16 every 143 from 91",
+        FIVE,
+    )
 }
 
 #[test]
 fn five_writes_of_33_blocks_8(rt: HostRuntime) -> Result<(), Fail> {
-    assert!(rt; is_permitted(rt.alloc(), "96 16 16 16", FIVE, 10, 8)?);
-    Ok(())
+    assert_row(
+        &rt,
+        "five_writes_of_33_blocks on 96 16 16 16 every 143 from 104",
+        FIVE,
+    )
 }
 
 #[test]
 fn five_writes_of_33_blocks_9(rt: HostRuntime) -> Result<(), Fail> {
-    assert!(rt; is_permitted(rt.alloc(), "96 16 16 16", FIVE, 10, 9)?);
-    Ok(())
+    assert_row(
+        &rt,
+        "five_writes_of_33_blocks on 96 16 16 16 every 143 from 117",
+        FIVE,
+    )
+}
+
+#[test]
+fn five_writes_of_33_blocks_10(rt: HostRuntime) -> Result<(), Fail> {
+    assert_row(
+        &rt,
+        "five_writes_of_33_blocks on 96 16 16 16 every 143 from 130",
+        FIVE,
+    )
 }

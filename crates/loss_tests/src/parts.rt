@@ -1,22 +1,18 @@
-//! One part of the losses of a script.
-use loss_rows::{RowError, table_told};
-use std::alloc::Global;
+//! Rows of which several tests have the lines, each with a part of the losses.
+use loss_rows::table_told;
+use std::alloc::AllocGlobal;
+use std::process::Abort;
+use std::test::Fail;
 
-// Whether these lines go as they are told on an image with these numbers, and each loss of one of so many parts is
-// permitted. In all parts together the losses are 13 steps apart.
-pub(crate) fn is_permitted(
-    alloc: Global,
-    image: &str,
+// Asserts that a row goes as it is told, and that each of its losses is permitted. Its first line is `row` and the head.
+pub(crate) fn assert_row(
+    rt: &(impl Abort + AllocGlobal),
+    head: &str,
     lines: &str,
-    parts: u32,
-    part: u32,
-) -> Result<bool, RowError> {
-    let every = parts.saturating_mul(13);
-    let first = part.saturating_mul(13);
-    let row = format!(in alloc; "row lines on {image} every {every} from {first}\n{lines}")?;
+) -> Result<(), Fail> {
+    let alloc = rt.alloc();
+    let row = format!(in alloc; "row {head}\n{lines}")?;
     let told = table_told(alloc, row.as_str())?;
-    let behind = format!(in alloc;
-        "calls; losses {every} steps apart from {first} on are permitted\n"
-    )?;
-    Ok(told.ends_with(behind.as_str()))
+    assert!(rt; told.ends_with(" permitted\n"), "{told}");
+    Ok(())
 }

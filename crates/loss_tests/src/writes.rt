@@ -1,5 +1,5 @@
 //! Scripts that read, write and publish.
-use crate::parts::is_permitted;
+use crate::parts::assert_row;
 use loss_rows::table_told;
 use std::test::Fail;
 
@@ -56,8 +56,10 @@ truncate f 8191 = ok
 stat /f = file 8191
 close f = ok
 tree = / dir; /f file 8191 00*8190+63
+";
 
-# The file is written and read without its name, and is gone with the power.
+const NAMELESS: &str = "\
+# Worked by hand from the rows of docs/CALLS.md. The file is written and read without its name, and is gone with the power.
 row write_to_an_unlinked_file on 64 16 16 16 every 13
 open a /f rwc = fd 0
 tree = / dir; /f file 0
@@ -127,7 +129,9 @@ pread f 8190 4 = data 00006262
 truncate f 0 = ok
 close f = ok
 tree = / dir; /f file 0
+";
 
+const GAPS: &str = "\
 # What lies between the end of a file and a write behind it is zeros.
 row writes_with_a_gap on 64 16 16 16 every 13
 open f /f rwc = fd 0
@@ -343,10 +347,11 @@ pwrite w 0 62*131073 = EINVAL
 pwrite w 1 62 = count 1
 stat /f = file 2
 tree = / dir; /f file 2 6162
+";
 
-# Worked by hand from the rows of docs/CALLS.md, which know of no log and of no staging files.
-# 56 data blocks: 4 are the reserve and 33 hold the file, so that 19 are left.
-row no_room_for_a_second_file on 64 4 16 16 every 13
+// Worked by hand from the rows of docs/CALLS.md, which know of no log and of no staging files.
+// 56 data blocks: 4 are the reserve and 33 hold the file, so that 19 are left.
+const NO_ROOM: &str = "\
 open a /f wc = fd 0
 write a 78*131072 = count 131072
 tree = / dir; /f file 131072 78*131072
@@ -417,9 +422,8 @@ pwrite a 4095 6262 = count 2
 tree = / dir; /f file 8192 61*4095+6262+61*4095
 ";
 
+// What was cut is zeros where the file grows again.
 const TRUNCATE: &str = "\
-# What was cut is zeros where the file grows again.
-row truncate_and_grow_at_each_stop on 64 4 16 16 every 13 each 2 3
 open a /f rwc = fd 0
 write a 61*5000 = count 5000
 tree = / dir; /f file 5000 61*5000
@@ -434,33 +438,55 @@ fn bytes_are_read_back(rt: HostRuntime) -> Result<(), Fail> {
     let told = table_told(rt.alloc(), BYTES)?;
     let want = "write_then_read_back: 4 calls; losses 13 steps apart from 0 on are permitted\n\
         over_the_border_of_two_blocks: 17 calls; losses 13 steps apart from 0 on are permitted\n\
-        a_file_is_cut_and_grows: 19 calls; losses 13 steps apart from 0 on are permitted\n\
-        write_to_an_unlinked_file: 4 calls; losses 13 steps apart from 0 on are permitted\n\
+        a_file_is_cut_and_grows: 19 calls; losses 13 steps apart from 0 on are permitted\n";
+    assert_eq!(rt; told.as_str(), want);
+    Ok(())
+}
+
+#[test]
+fn files_without_a_name(rt: HostRuntime) -> Result<(), Fail> {
+    let told = table_told(rt.alloc(), NAMELESS)?;
+    let want = "write_to_an_unlinked_file: 4 calls; losses 13 steps apart from 0 on are permitted\n\
         a_file_without_a_name_is_published: 13 calls; losses 13 steps apart from 0 on are permitted\n";
     assert_eq!(rt; told.as_str(), want);
     Ok(())
 }
 
 #[test]
-fn handles_blocks_and_names(rt: HostRuntime) -> Result<(), Fail> {
+fn handles_and_blocks(rt: HostRuntime) -> Result<(), Fail> {
     let told = table_told(rt.alloc(), HANDLES)?;
     let want = "two_handles_of_one_file: 20 calls; losses 13 steps apart from 0 on are permitted\n\
-        a_read_over_all_kinds_of_blocks: 14 calls; losses 13 steps apart from 0 on are permitted\n\
-        writes_with_a_gap: 13 calls; losses 13 steps apart from 0 on are permitted\n\
+        a_read_over_all_kinds_of_blocks: 14 calls; losses 13 steps apart from 0 on are permitted\n";
+    assert_eq!(rt; told.as_str(), want);
+    Ok(())
+}
+
+#[test]
+fn gaps_and_names(rt: HostRuntime) -> Result<(), Fail> {
+    let told = table_told(rt.alloc(), GAPS)?;
+    let want = "writes_with_a_gap: 13 calls; losses 13 steps apart from 0 on are permitted\n\
         names_and_bytes: 22 calls; losses 13 steps apart from 0 on are permitted\n";
     assert_eq!(rt; told.as_str(), want);
     Ok(())
 }
 
 #[test]
-fn errors_of_handles_and_room(rt: HostRuntime) -> Result<(), Fail> {
+fn errors_of_all_handles(rt: HostRuntime) -> Result<(), Fail> {
     let told = table_told(rt.alloc(), ERRORS)?;
     let want =
         "descriptor_limits_and_errors: 69 calls; losses 13 steps apart from 0 on are permitted\n\
-        errors_of_handles: 94 calls; losses 13 steps apart from 0 on are permitted\n\
-        no_room_for_a_second_file: 3 calls; losses 13 steps apart from 0 on are permitted\n";
+        errors_of_handles: 94 calls; losses 13 steps apart from 0 on are permitted\n";
     assert_eq!(rt; told.as_str(), want);
     Ok(())
+}
+
+#[test]
+fn no_room_for_a_second_file(rt: HostRuntime) -> Result<(), Fail> {
+    assert_row(
+        &rt,
+        "no_room_for_a_second_file on 64 4 16 16 every 13",
+        NO_ROOM,
+    )
 }
 
 #[test]
@@ -484,27 +510,54 @@ fn each_step_of_an_overwrite(rt: HostRuntime) -> Result<(), Fail> {
 
 #[test]
 fn each_step_of_a_truncate(rt: HostRuntime) -> Result<(), Fail> {
-    let told = table_told(rt.alloc(), TRUNCATE)?;
-    let want =
-        "truncate_and_grow_at_each_stop: 4 calls; losses 13 steps apart from 0 on are permitted; each loss in call 2 is permitted; each loss in call 3 is permitted\n";
-    assert_eq!(rt; told.as_str(), want);
-    Ok(())
+    assert_row(
+        &rt,
+        "truncate_and_grow_at_each_stop on 64 4 16 16 each 2",
+        TRUNCATE,
+    )
+}
+
+#[test]
+fn each_step_of_growing_again(rt: HostRuntime) -> Result<(), Fail> {
+    assert_row(
+        &rt,
+        "truncate_and_grow_at_each_stop on 64 4 16 16 every 13 each 3",
+        TRUNCATE,
+    )
 }
 
 #[test]
 fn database_journal_0(rt: HostRuntime) -> Result<(), Fail> {
-    assert!(rt; is_permitted(rt.alloc(), "64 16 16 16", JOURNAL, 3, 0)?);
-    Ok(())
+    assert_row(
+        &rt,
+        "database_journal on 64 16 16 16 every 52 from 0",
+        JOURNAL,
+    )
 }
 
 #[test]
 fn database_journal_1(rt: HostRuntime) -> Result<(), Fail> {
-    assert!(rt; is_permitted(rt.alloc(), "64 16 16 16", JOURNAL, 3, 1)?);
-    Ok(())
+    assert_row(
+        &rt,
+        "database_journal on 64 16 16 16 every 52 from 13",
+        JOURNAL,
+    )
 }
 
 #[test]
 fn database_journal_2(rt: HostRuntime) -> Result<(), Fail> {
-    assert!(rt; is_permitted(rt.alloc(), "64 16 16 16", JOURNAL, 3, 2)?);
-    Ok(())
+    assert_row(
+        &rt,
+        "database_journal on 64 16 16 16 every 52 from 26",
+        JOURNAL,
+    )
+}
+
+#[test]
+fn database_journal_3(rt: HostRuntime) -> Result<(), Fail> {
+    assert_row(
+        &rt,
+        "database_journal on 64 16 16 16 every 52 from 39",
+        JOURNAL,
+    )
 }

@@ -5,7 +5,7 @@ use Rattle.std.proofs.lemmas.Bool.{cases_eq, ne_eqb, eq-eqb}
 use Rattle.std.proofs.lemmas.List.Folds.{list_any_more}
 use Rattle.block_pool.specs.FreeSets.{is_among}
 use Rattle.block_pool.specs.Bits.{is_set, IsSetBlock}
-use Rattle.extent_map.specs.extent_facts.Counts.{count_below, count_below-less}
+use Rattle.extent_map.specs.extent_model.Counts.{count_below, count_below-less}
 use Rattle.block_pool.proofs.Lowest.{fresh_at}
 
 -- the words at the start, with the first i blocks cleared, and with one more, whose bit is at `place`

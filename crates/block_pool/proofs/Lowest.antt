@@ -8,7 +8,7 @@ use Rattle.std.proofs.lemmas.List.Quantifiers.{all_pairs_push}
 use Rattle.std.proofs.lemmas.List.Folds.{list_any-append, list_any_at, list_any_none}
 use Rattle.block_pool.specs.FreeSets.{is_among}
 use Rattle.block_pool.specs.Bits.{is_set, NoneSet, IsNext, IsSetBlock, AreLowest}
-use Rattle.extent_map.specs.extent_facts.Counts.{one_if, count_below, count_below-more, count_below-none}
+use Rattle.extent_map.specs.extent_model.Counts.{one_if, count_below, count_below-more, count_below-none}
 
 -- the blocks are those of all set bits before `from`
 pub record AreAllBefore (words : List ℕ) (first count from : ℕ) (blocks : List ℕ) : Type 0 where

@@ -5,11 +5,11 @@ use Rattle.std.proofs.lemmas.Bool.{cases_lt, cases_eq, cases_Bool, lt-leb, le-le
 use Rattle.std.proofs.lemmas.Bool.Decides.{nat_tests}
 use Rattle.std.proofs.lemmas.List.{get_or_past}
 use Rattle.std.proofs.lemmas.List.FromFn.{length-map-range_with_len, get_or-map-range_with_len, sum_by-map-range_with_len_more}
-use Rattle.extent_map.specs.extent_words.declared.Extent.{Extent}
-use Rattle.extent_map.specs.extent_words.Extents.{is_within, covers}
+use Rattle.extent_map.specs.extent_model.declared.extent_words.Extent.{Extent}
+use Rattle.extent_map.specs.extent_model.Extents.{is_within, covers}
 use Rattle.block_pool.specs.FreeSets.{FreeSet, is_among, has_block, is_free_at, free_count, SameBlocks, Takes, Gives, IsUnused}
 use Rattle.block_pool.specs.Bits.{is_set, marks_of, IsSetBlock, AreLowest}
-use Rattle.extent_map.specs.extent_facts.Counts.{one_if, count_below, count_below-less}
+use Rattle.extent_map.specs.extent_model.Counts.{one_if, count_below, count_below-less}
 
 -- what contracts see of a pool
 abbrev pub seen : ℕ → ℕ → List ℕ → FreeSet

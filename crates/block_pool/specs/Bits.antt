@@ -2,7 +2,7 @@
 use Rattle.std.specs.Prelude.{◌≡◌, ℕ, ◌+◌, ◌-◌, ◌*◌, ◌/◌, ◌%◌, ◌^◌, ◌<◌, ◌≤◌, Bool, false, IsTrue, ◌==◌, List, slice_index, map, length, All, AllPairs}
 use Rattle.std.specs.List.{range_with_len}
 use Rattle.std.specs.Int.{bit_at}
-use Rattle.extent_map.specs.extent_facts.Counts.{count_below}
+use Rattle.extent_map.specs.extent_model.Counts.{count_below}
 use Rattle.block_pool.specs.FreeSets.{is_among}
 
 -- whether the bit at a place is set

@@ -4,7 +4,7 @@ use Rattle.std.specs.Prelude.{sum_by}
 use Rattle.std.proofs.lemmas.Bool.{le-leb}
 use Rattle.std.proofs.lemmas.List.{take_all}
 use Rattle.std.proofs.lemmas.List.Sums.{sum_by_more}
-use Rattle.extent_map.specs.extent_facts.Counts.{one_if, count_below, count_below-agree}
+use Rattle.extent_map.specs.extent_model.Counts.{one_if, count_below, count_below-agree}
 use Rattle.block_pool.specs.FreeSets.{FreeSet, is_free_at, free_count}
 
 -- the free marks among the first n

@@ -1,8 +1,8 @@
 -- A set of free blocks among `length marks` blocks from `first` on, and what the calls make of it.
 use Rattle.std.specs.Prelude.{◌≡◌, ℕ, ◌+◌, ◌-◌, ◌<◌, ◌≤◌, Bool, true, false, ◌&&◌, ◌==◌, not, nat_le, if◌then◌else◌, List, length, slice_index_or, All, AllPairs, count_by}
 use Rattle.std.specs.List.{list_any}
-use Rattle.extent_map.specs.extent_words.declared.Extent.{Extent}
-use Rattle.extent_map.specs.extent_words.Extents.{is_within, covers}
+use Rattle.extent_map.specs.extent_model.declared.extent_words.Extent.{Extent}
+use Rattle.extent_map.specs.extent_model.Extents.{is_within, covers}
 
 -- mark i says whether block `first + i` is free
 pub record FreeSet : Type 0 where

@@ -1,4 +1,4 @@
 pub mod Bits
 pub mod Facts
 pub mod FreeSets
-pub use Rattle.extent_map.specs.extent_words as extent_words
+pub use Rattle.extent_map.specs.extent_model as extent_model

@@ -1,7 +1,7 @@
 //! The bits of a slice of words, 64 a word.
 ghost use Rattle.std.specs.Prelude.{◌≡◌, ◌≢◌, ℕ, ◌+◌, ◌*◌, ◌<◌, ◌≤◌, ◌^◌, ◌&&◌, not, true, false, length, IfSome, IfNone};
-ghost use Rattle.extent_map.specs.extent_facts.Counts.{count_below};
-ghost use Rattle.extent_map.specs.extent_words.Extents.{is_within};
+ghost use Rattle.extent_map.specs.extent_model.Counts.{count_below};
+ghost use Rattle.extent_map.specs.extent_model.Extents.{is_within};
 ghost use Rattle.block_pool.specs.Bits.{is_set as is_set_lem, NoneSet, IsNext};
 
 // Whether the bit at a place is set.

@@ -1,7 +1,7 @@
 //! Blocks by their bits: bit i of the words is that of block `first + i`.
 ghost use Rattle.std.specs.Prelude.{◌≡◌, ℕ, ◌+◌, ◌*◌, ◌<◌, ◌≤◌, ◌^◌, ◌&&◌, not, length, All, AllPairs, IfOk};
-ghost use Rattle.extent_map.specs.extent_facts.Counts.{count_below};
-ghost use Rattle.extent_map.specs.extent_words.Extents.{covers};
+ghost use Rattle.extent_map.specs.extent_model.Counts.{count_below};
+ghost use Rattle.extent_map.specs.extent_model.Extents.{covers};
 ghost use Rattle.block_pool.specs.Bits.{is_set, IsSetBlock, AreLowest};
 ghost use Rattle.block_pool.specs.FreeSets.{is_among, LiesWithin};
 

@@ -3,23 +3,23 @@ use Rattle.std.specs.Prelude.{◌≡◌, ◌⊎◌, ◌↔◌, ℕ, Bool, true, 
 use Rattle.std.specs.List.{list_any}
 use Rattle.std.proofs.Common.{arith, ap, ◌∙◌, sym, subst, inl, inr, append_assoc}
 use Rattle.std.proofs.lemmas.List.{append-nil}
-use Rattle.posix_puts.specs.posix_types.declared.call.Mode.{Mode}
-use Rattle.posix_puts.specs.posix_types.declared.item.Item.{Item}
-use Rattle.posix_puts.specs.posix_types.declared.reply.Shape.{Shape}
-use Rattle.posix_puts.specs.posix_types.declared.tree.TreeEntry.{TreeEntry}
-use Rattle.posix_words.specs.declared.nodes.Node.{Node}
-use Rattle.posix_words.specs.Nodes.{node_at}
-use Rattle.posix_puts.specs.posix_spec.Run.{after_call, after_calls, Begun, begun, run}
-use Rattle.posix_puts.specs.posix_spec.State.{State}
-use Rattle.posix_puts.specs.posix_spec.Step.{step}
-use Rattle.posix_puts.specs.posix_spec.Tree.{start, tree}
-use Rattle.judge_bytes.specs.crash_spec.Permitted.{Permitted}
-use Rattle.judge_bytes.specs.crash_spec.Posix.{acting, ByteRule, IsLeft, KeepsFront, NodeLeft, others, OrUnfinished, Overwritten, Posix, syncs, TreeLeft}
-use Rattle.judge_bytes.specs.declared.effects.Effect.{Effect}
-use Rattle.judge_bytes.specs.Effects.{AreEffects, EffectRule}
+use Rattle.posix_laws.specs.posix_types.declared.call.Mode.{Mode}
+use Rattle.posix_laws.specs.posix_types.declared.item.Item.{Item}
+use Rattle.posix_laws.specs.posix_types.declared.reply.Shape.{Shape}
+use Rattle.posix_laws.specs.posix_types.declared.tree.TreeEntry.{TreeEntry}
+use Rattle.posix_tables.specs.declared.nodes.Node.{Node}
+use Rattle.posix_tables.specs.Nodes.{node_at}
+use Rattle.posix_laws.specs.posix_spec.Run.{after_call, after_calls, Begun, begun, run}
+use Rattle.posix_laws.specs.posix_spec.State.{State}
+use Rattle.posix_laws.specs.posix_spec.Step.{step}
+use Rattle.posix_laws.specs.posix_spec.Tree.{start, tree}
+use Rattle.crash_spec.specs.Permitted.{Permitted}
+use Rattle.crash_spec.specs.Posix.{acting, ByteRule, IsLeft, KeepsFront, NodeLeft, others, OrUnfinished, Overwritten, Posix, syncs, TreeLeft}
+use Rattle.crash_judge.specs.declared.judge_bytes.effects.Effect.{Effect}
+use Rattle.crash_judge.specs.Effects.{AreEffects, EffectRule}
 use Rattle.crash_judge.specs.Judged.{IsPermitted}
 use Rattle.crash_judge.specs.Fronts.{ActsOrNot, KeptFrom, KeptHere}
-use Rattle.judge_bytes.proofs.EffectLaws.{effect_rule, rule_effect}
+use Rattle.crash_judge.proofs.EffectLaws.{effect_rule, rule_effect}
 
 -- ---- rules that allow the same leave the same
 

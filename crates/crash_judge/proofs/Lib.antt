@@ -1,4 +1,6 @@
+pub mod WantedLaws
+pub mod EffectLaws
+pub mod NearestLaws
 pub mod FrontLaws
-pub mod ByteLaws
 pub mod Likes
 pub mod PartLaws

@@ -4,33 +4,33 @@ use Rattle.std.proofs.Common.{arith, ap, ◌∙◌, sym, subst, inl, inr}
 use Rattle.std.proofs.lemmas.Bool.Decides.{nat_tests}
 use Rattle.std.proofs.lemmas.List.{get_or-set_other, get_or-set_same, get_or_append_left, get_or_past, get_or_push, length-append, length-set}
 use Rattle.std.proofs.lemmas.List.Sums.{sum_by-cons}
-use Rattle.posix_puts.specs.block_counts.Counts.{held_by, reserve_for}
-use Rattle.posix_puts.specs.posix_types.declared.call.Call.{Call}
-use Rattle.posix_puts.specs.posix_types.declared.call.Who.{Who}
-use Rattle.posix_puts.specs.posix_types.declared.handle.Flags.{Flags}
-use Rattle.posix_puts.specs.posix_types.declared.handle.Handle.{Handle}
-use Rattle.posix_puts.specs.posix_types.declared.handle.Whence.{Whence}
-use Rattle.posix_puts.specs.posix_types.declared.item.Outcome.{Outcome}
-use Rattle.posix_puts.specs.posix_types.declared.reply.Errno.{Errno}
-use Rattle.posix_puts.specs.posix_types.declared.reply.Reply.{Reply}
-use Rattle.posix_puts.specs.posix_types.declared.reply.What.{What}
-use Rattle.posix_words.specs.declared.nodes.DirEntry.{DirEntry}
-use Rattle.posix_words.specs.declared.nodes.File.{File}
-use Rattle.posix_words.specs.declared.nodes.Node.{Node}
-use Rattle.posix_words.specs.Bytes.{longest_file, longest_write, moved_place, overwritten, resized}
-use Rattle.posix_words.specs.NameRows.{list_rows, mkdir_rows, open_rows, rename_rows, rmdir_rows, stat_rows, unlink_rows}
-use Rattle.posix_words.specs.Names.{directory_stands, exists_at, file_stands, is_named, last_name, lines_taken, longest_name, number_at, parent_at, with_entry, without_entry}
-use Rattle.posix_words.specs.Nodes.{bytes_of, is_directory, is_live, node_at, published_node, published_of}
-use Rattle.posix_words.specs.Open.{is_full, is_open, key_of, may_write, Tables, with_offset, with_opened}
-use Rattle.posix_words.specs.Outcomes.{first, idle_row, row, space_row, unless}
-use Rattle.posix_words.specs.Room.{growth, held, write_need}
-use Rattle.posix_puts.specs.posix_spec.FileRows.{appends, content, dup_rows, file_number, offset_of, seek_base, seek_rows, seek_target, truncate_rows, unknown_row, write_rows, write_start}
-use Rattle.posix_puts.specs.posix_spec.Put.{put_by, put_unless}
-use Rattle.posix_puts.specs.posix_spec.Run.{after_call, Begun}
-use Rattle.posix_puts.specs.posix_spec.State.{alone, made, room, space, State, swept, unnamed, with_file, with_node, with_published}
-use Rattle.posix_puts.specs.posix_spec.Step.{close_done, dup_done, empty_file, fsync_done, list_done, mkdir_done, moved_offset, open_done, opening, opening_number, pread_done, pwrite_done, read_done, rename_done, renamed, rmdir_done, seek_done, stat_done, step, stepped, Stepped, truncate_done, unlink_done, write_done, written}
-use Rattle.crash_judge.proofs.ByteLaws.{index-overwritten, index-resized, length-bytes_from, length-overwritten, length-resized, written_at}
-use Rattle.judge_bytes.proofs.NearestLaws.{split}
+use Rattle.posix_laws.specs.block_counts.Counts.{held_by, reserve_for}
+use Rattle.posix_laws.specs.posix_types.declared.call.Call.{Call}
+use Rattle.posix_laws.specs.posix_types.declared.call.Who.{Who}
+use Rattle.posix_laws.specs.posix_types.declared.handle.Flags.{Flags}
+use Rattle.posix_laws.specs.posix_types.declared.handle.Handle.{Handle}
+use Rattle.posix_laws.specs.posix_types.declared.handle.Whence.{Whence}
+use Rattle.posix_laws.specs.posix_types.declared.item.Outcome.{Outcome}
+use Rattle.posix_laws.specs.posix_types.declared.reply.Errno.{Errno}
+use Rattle.posix_laws.specs.posix_types.declared.reply.Reply.{Reply}
+use Rattle.posix_laws.specs.posix_types.declared.reply.What.{What}
+use Rattle.posix_tables.specs.declared.nodes.DirEntry.{DirEntry}
+use Rattle.posix_tables.specs.declared.nodes.File.{File}
+use Rattle.posix_tables.specs.declared.nodes.Node.{Node}
+use Rattle.posix_tables.specs.Bytes.{longest_file, longest_write, moved_place, overwritten, resized}
+use Rattle.posix_tables.specs.NameRows.{list_rows, mkdir_rows, open_rows, rename_rows, rmdir_rows, stat_rows, unlink_rows}
+use Rattle.posix_tables.specs.Names.{directory_stands, exists_at, file_stands, is_named, last_name, lines_taken, longest_name, number_at, parent_at, with_entry, without_entry}
+use Rattle.posix_tables.specs.Nodes.{bytes_of, is_directory, is_live, node_at, published_node, published_of}
+use Rattle.posix_tables.specs.Open.{is_full, is_open, key_of, may_write, Tables, with_offset, with_opened}
+use Rattle.posix_tables.specs.Outcomes.{first, idle_row, row, space_row, unless}
+use Rattle.posix_tables.specs.Room.{growth, held, write_need}
+use Rattle.posix_laws.specs.posix_spec.FileRows.{appends, content, dup_rows, file_number, offset_of, seek_base, seek_rows, seek_target, truncate_rows, unknown_row, write_rows, write_start}
+use Rattle.posix_laws.specs.posix_spec.Put.{put_by, put_unless}
+use Rattle.posix_laws.specs.posix_spec.Run.{after_call, Begun}
+use Rattle.posix_laws.specs.posix_spec.State.{alone, made, room, space, State, swept, unnamed, with_file, with_node, with_published}
+use Rattle.posix_laws.specs.posix_spec.Step.{close_done, dup_done, empty_file, fsync_done, list_done, mkdir_done, moved_offset, open_done, opening, opening_number, pread_done, pwrite_done, read_done, rename_done, renamed, rmdir_done, seek_done, stat_done, step, stepped, Stepped, truncate_done, unlink_done, write_done, written}
+use Rattle.posix_laws.proofs.ByteLaws.{index-overwritten, index-resized, length-bytes_from, length-overwritten, length-resized, written_at}
+use Rattle.crash_judge.proofs.NearestLaws.{split}
 
 -- what two states may have at byte i of node n, and that they may have the same
 abbrev pub ByteWise : Type 1

@@ -5,28 +5,28 @@ use Rattle.std.proofs.Common.{arith, ap, ◌∙◌, sym, subst, inl, inr}
 use Rattle.std.proofs.lemmas.Bool.Decides.{nat_tests}
 use Rattle.std.proofs.lemmas.List.{ext_get_or, get_or-set_same, get_or_default, get_or_past, length-set, set-get_or}
 use Rattle.std.proofs.lemmas.List.FromFn.{get_or-map-range_with_len, length-map-range_with_len}
-use Rattle.posix_puts.specs.posix_types.declared.item.Item.{Item}
-use Rattle.posix_puts.specs.posix_types.declared.tree.TreeEntry.{TreeEntry}
-use Rattle.posix_puts.specs.posix_types.declared.tree.TreeNode.{TreeNode}
-use Rattle.posix_words.specs.declared.nodes.DirEntry.{DirEntry}
-use Rattle.posix_words.specs.declared.nodes.File.{File}
-use Rattle.posix_words.specs.declared.nodes.Node.{Node}
-use Rattle.posix_words.specs.declared.places.Place.{Place}
-use Rattle.posix_words.specs.Nodes.{bytes_of, node_at, published_of}
-use Rattle.posix_words.specs.Places.{places, tree_entry, tree_node}
-use Rattle.posix_puts.specs.posix_spec.Put.{Put, put_by}
-use Rattle.posix_puts.specs.posix_spec.Run.{after_call, after_calls, Begun, run}
-use Rattle.posix_puts.specs.posix_spec.State.{State, with_file}
-use Rattle.posix_puts.specs.posix_spec.Tree.{tree}
-use Rattle.posix_puts.specs.PutLaws.{LeavesWhole-put}
-use Rattle.posix_puts.specs.Puts.{put_bytes}
-use Rattle.judge_bytes.specs.crash_spec.Strict.{Strict, StrictFrom}
-use Rattle.judge_bytes.specs.crash_spec.Sync.{ActsInPart, file_bytes, IsPartOf, Sync, SyncFrom, with_bytes}
+use Rattle.posix_laws.specs.posix_types.declared.item.Item.{Item}
+use Rattle.posix_laws.specs.posix_types.declared.tree.TreeEntry.{TreeEntry}
+use Rattle.posix_laws.specs.posix_types.declared.tree.TreeNode.{TreeNode}
+use Rattle.posix_tables.specs.declared.nodes.DirEntry.{DirEntry}
+use Rattle.posix_tables.specs.declared.nodes.File.{File}
+use Rattle.posix_tables.specs.declared.nodes.Node.{Node}
+use Rattle.posix_tables.specs.declared.places.Place.{Place}
+use Rattle.posix_tables.specs.Nodes.{bytes_of, node_at, published_of}
+use Rattle.posix_tables.specs.Places.{places, tree_entry, tree_node}
+use Rattle.posix_laws.specs.posix_spec.Put.{Put, put_by}
+use Rattle.posix_laws.specs.posix_spec.Run.{after_call, after_calls, Begun, run}
+use Rattle.posix_laws.specs.posix_spec.State.{State, with_file}
+use Rattle.posix_laws.specs.posix_spec.Tree.{tree}
+use Rattle.posix_laws.specs.PutLaws.{LeavesWhole-put}
+use Rattle.posix_laws.specs.Puts.{put_bytes}
+use Rattle.crash_spec.specs.Strict.{Strict, StrictFrom}
+use Rattle.crash_spec.specs.Sync.{ActsInPart, file_bytes, IsPartOf, Sync, SyncFrom, with_bytes}
 use Rattle.crash_judge.specs.Parts.{all_toward, LeadTo, PartsThen, pick, picked, put_toward, SomeLead, toward}
-use Rattle.judge_bytes.specs.Wanted.{numbers_of, wanted}
+use Rattle.crash_judge.specs.Wanted.{numbers_of, wanted}
 use Rattle.crash_judge.proofs.Likes.{AllGo-same, bytes_go, BytesGo, ByteWise, Like, Like-call, Like-file, MayBeSame, NodesGo, published_same, put_by-like}
-use Rattle.judge_bytes.proofs.NearestLaws.{split}
-use Rattle.judge_bytes.proofs.WantedLaws.{Each, Each-map, IsWanted, same_map, wanted-tree}
+use Rattle.crash_judge.proofs.NearestLaws.{split}
+use Rattle.crash_judge.proofs.WantedLaws.{Each, Each-map, IsWanted, same_map, wanted-tree}
 
 -- ---- what is picked is a part
 

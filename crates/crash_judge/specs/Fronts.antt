@@ -1,12 +1,12 @@
 -- The two ways in which POSIX mode keeps a part of what was done, each as one walk over the calls.
 use Rattle.std.specs.Prelude.{◌≡◌, ◌⊎◌, false, List, [], ◌∷◌, ◌++◌, map}
 use Rattle.std.specs.List.{list_any}
-use Rattle.posix_puts.specs.posix_types.declared.item.Item.{Item}
-use Rattle.posix_puts.specs.posix_types.declared.tree.TreeEntry.{TreeEntry}
-use Rattle.posix_puts.specs.posix_spec.Run.{after_call, Begun, begun, run}
-use Rattle.posix_puts.specs.posix_spec.State.{State}
-use Rattle.posix_puts.specs.posix_spec.Step.{step}
-use Rattle.judge_bytes.specs.crash_spec.Posix.{OrUnfinished, Overwritten, syncs, TreeLeft}
+use Rattle.posix_laws.specs.posix_types.declared.item.Item.{Item}
+use Rattle.posix_laws.specs.posix_types.declared.tree.TreeEntry.{TreeEntry}
+use Rattle.posix_laws.specs.posix_spec.Run.{after_call, Begun, begun, run}
+use Rattle.posix_laws.specs.posix_spec.State.{State}
+use Rattle.posix_laws.specs.posix_spec.Step.{step}
+use Rattle.crash_spec.specs.Posix.{OrUnfinished, Overwritten, syncs, TreeLeft}
 
 -- what was done up to a state is kept, and none of the later items is an `fsync` that returned ok
 abbrev pub KeptHere : State → List Item → List Begun → List TreeEntry → Type 0

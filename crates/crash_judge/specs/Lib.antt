@@ -1,9 +1,11 @@
+pub mod Wanted
+pub mod Effects
+pub mod Nearest
 pub mod Fronts
 pub mod Parts
 pub mod Judged
-pub use Rattle.judge_bytes.specs.crash_spec as crash_spec
-pub use Rattle.posix_puts.specs as posix_puts
-pub use Rattle.posix_puts.specs.posix_facts as posix_facts
-pub use Rattle.posix_puts.specs.posix_spec as posix_spec
-pub use Rattle.judge_bytes.specs.list_facts as list_facts
-pub use Rattle.posix_words.specs as posix_words
+pub use Rattle.crash_spec.specs as crash_spec
+pub use Rattle.crash_spec.specs.list_laws
+pub use Rattle.posix_laws.specs as posix_laws
+pub use Rattle.posix_laws.specs.posix_spec
+pub use Rattle.posix_tables.specs as posix_tables

@@ -1,12 +1,12 @@
 -- Sync mode as walks: some calls act, each whole or in part; and one way to act in part, which leads towards a tree.
 use Rattle.std.specs.Prelude.{◌≡◌, ◌⊎◌, ℕ, not, ◌&&◌, ◌==◌, nat_lt, List, [], ◌∷◌, ◌++◌, length, map, Option, Some, None, slice_index, if◌then◌else◌}
 use Rattle.std.specs.List.{range_with_len}
-use Rattle.posix_puts.specs.posix_types.declared.tree.TreeEntry.{TreeEntry}
-use Rattle.posix_puts.specs.posix_spec.Put.{Put, put_by}
-use Rattle.posix_puts.specs.posix_spec.Run.{after_call, Begun}
-use Rattle.posix_puts.specs.posix_spec.State.{State}
-use Rattle.posix_puts.specs.posix_spec.Tree.{tree}
-use Rattle.judge_bytes.specs.crash_spec.Sync.{ActsInPart, file_bytes, with_bytes}
+use Rattle.posix_laws.specs.posix_types.declared.tree.TreeEntry.{TreeEntry}
+use Rattle.posix_laws.specs.posix_spec.Put.{Put, put_by}
+use Rattle.posix_laws.specs.posix_spec.Run.{after_call, Begun}
+use Rattle.posix_laws.specs.posix_spec.State.{State}
+use Rattle.posix_laws.specs.posix_spec.Tree.{tree}
+use Rattle.crash_spec.specs.Sync.{ActsInPart, file_bytes, with_bytes}
 
 -- calls act one after the other, each whole or in part, and lead to a state of which this holds
 abbrev pub PartsThen : State → List Begun → (State → Type 0) → Type 0

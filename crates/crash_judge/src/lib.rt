@@ -1,57 +1,24 @@
-//! A judge: whether a mode permits what a power loss left.
+//! A judge for tests: whether a mode permits what a power loss left.
 //!
-//! `judge` is proved to answer true exactly where the relation of the mode holds, for every history, all
-//! unfinished calls and every tree. It is a tool for tests: plain, and quick enough for a history of a
-//! hundred calls over files of some thousand bytes. It never tries the states byte by byte: it makes one
-//! state that is nearest to the tree, in which each byte is as the tree wants it, if it may be, and the
-//! tree may be left exactly where it is that of this state (`is_left` of `judge_bytes` for POSIX mode,
-//! `parts` for sync mode, where the states that differ in bytes alone go together under every call).
+//! `judge` is proved to answer true exactly where the relation of the mode holds. It never tries
+//! states byte by byte: it makes the one state that is nearest to the tree. Nothing but tests
+//! stands on it.
 //!
-//! Stands on `crash_spec`, whose relations it decides, on `judge_bytes`, and on the plain program of
-//! `posix_spec`.
+//! - `judge_bytes`: What may be found in the bytes of files after a power loss, and what of it a
+//!   tree wants.
+//! - `judging`: A judge: whether a mode permits what a power loss left.
+//!
+//! Stands on `posix_tables`, `crash_spec`, `posix_laws`, `posix_spec` and `posix_types`.
 #![tactic(auto)]
 
-mod parts;
-mod posix;
-mod strict;
+mod judge_bytes;
+mod judging;
 
-ghost use Rattle.std.specs.Prelude.{◌↔◌, IfOk, IsTrue};
-ghost use Rattle.crash_judge.specs.Judged.{IsPermitted};
-
-use crate::parts::is_sync;
-use crate::posix::is_posix;
-use crate::strict::is_strict;
-use judge_bytes::run;
-pub use posix_puts::{Call, Item, Mode, Shape, State, Tree, Who};
-use std::alloc::{AllocError, Global};
-
-/// Whether the mode permits this tree after a power loss: of a file system of this shape that began
-/// with a tree, after a history and with these unfinished calls, in the order in which they began. The
-/// time doubles with each unfinished call.
-pub fn judge(
-    alloc: Global,
-    mode: Mode,
-    shape: Shape,
-    start: &Tree,
-    history: &[Item],
-    unfinished: &[(Who, Call)],
-    after: &Tree,
-) -> Result<bool, AllocError>
-    ensures exact { IfOk result (λ is. IsTrue is ↔
-        IsPermitted mode shape start.now history.now unfinished.now after.now) }
-{
-    let first = State::open(alloc, start, shape, mode)?;
-    match mode {
-        Mode::Strict => {
-            let done = run(first, history)?;
-            is_strict(&done, unfinished, after)
-        }
-        Mode::Sync => is_sync(alloc, &first, history, unfinished, after),
-        Mode::Posix => is_posix(alloc, &first, history, unfinished, after),
-    }
-}
-
-pub use posix_puts::{
-    Data, Flags, Handle, Name, Path, Put, Reply, TreeEntry, TreeNode, Whence, default_shape,
-    root_alone,
+pub use judge_bytes::{
+    Cut, Effect, after, after_all, byte_at, calls_of, effects_of, has_tree, is_left, numbers_of,
+    run, wanted, with_call,
+};
+pub use judging::{
+    Call, Data, Flags, Handle, Item, Mode, Name, Path, Put, Reply, Shape, State, Tree, TreeEntry,
+    TreeNode, Whence, Who, default_shape, judge, root_alone,
 };

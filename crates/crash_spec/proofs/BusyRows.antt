@@ -1,12 +1,12 @@
 -- The worked rows on who waits and what is logged, by computation.
 use Rattle.std.specs.Prelude.{refl}
-use Rattle.posix_facts.specs.posix_words.Names.{height, node_at_path, walk, with_entry}
-use Rattle.posix_facts.specs.posix_words.NameRows.{open_rows}
-use Rattle.posix_facts.specs.posix_words.Open.{binding_of, key_of, opened, with_binding, with_descriptor, with_offset, with_opened}
-use Rattle.posix_facts.specs.posix_spec.FileRows.{write_rows}
-use Rattle.posix_facts.specs.posix_spec.Put.{put_by}
-use Rattle.posix_facts.specs.posix_spec.State.{made, with_file}
-use Rattle.posix_facts.specs.posix_spec.Step.{open_done, opening, write_done, written}
+use Rattle.posix_laws.specs.posix_tables.Names.{height, node_at_path, walk, with_entry}
+use Rattle.posix_laws.specs.posix_tables.NameRows.{open_rows}
+use Rattle.posix_laws.specs.posix_tables.Open.{binding_of, key_of, opened, with_binding, with_descriptor, with_offset, with_opened}
+use Rattle.posix_laws.specs.posix_spec.FileRows.{write_rows}
+use Rattle.posix_laws.specs.posix_spec.Put.{put_by}
+use Rattle.posix_laws.specs.posix_spec.State.{made, with_file}
+use Rattle.posix_laws.specs.posix_spec.Step.{open_done, opening, write_done, written}
 use Rattle.crash_spec.specs.Busy.{is_busy, waits_for}
 use Rattle.crash_spec.specs.BusyRows.{WhatIsLogged, WhoWaits}
 

@@ -2,25 +2,25 @@
 use Rattle.std.specs.Prelude.{◌≡◌, ℕ, zero, suc, ◌<◌, Bool, true, false, List, [], ◌∷◌, ◌++◌, length, map, take, drop, slice_index, refl}
 use Rattle.std.specs.List.{list_any}
 use Rattle.std.proofs.Common.{arith, lit<, ap, ◌∙◌, sym, subst, inl, inr}
-use Rattle.posix_facts.specs.posix_types.declared.call.Call.{Call}
-use Rattle.posix_facts.specs.posix_types.declared.call.Who.{Who}
-use Rattle.posix_facts.specs.posix_types.declared.item.Item.{Item}
-use Rattle.posix_facts.specs.posix_types.declared.reply.Reply.{Reply}
-use Rattle.posix_facts.specs.posix_types.declared.tree.TreeEntry.{TreeEntry}
-use Rattle.posix_facts.specs.posix_types.declared.tree.TreeNode.{TreeNode}
-use Rattle.posix_facts.specs.posix_words.declared.nodes.File.{File}
-use Rattle.posix_facts.specs.posix_words.declared.nodes.Node.{Node}
-use Rattle.posix_facts.specs.posix_words.Nodes.{node_at}
-use Rattle.posix_facts.specs.posix_words.Names.{height, node_at_path, walk, with_entry}
-use Rattle.posix_facts.specs.posix_words.NameRows.{open_rows}
-use Rattle.posix_facts.specs.posix_words.Open.{binding_of, key_of, opened, with_binding, with_descriptor, with_offset, with_opened}
-use Rattle.posix_facts.specs.posix_words.Places.{entry_place, path_to, places, tree_entry, tree_node, with_place}
-use Rattle.posix_facts.specs.posix_spec.FileRows.{truncate_rows, write_rows}
-use Rattle.posix_facts.specs.posix_spec.Put.{put_by}
-use Rattle.posix_facts.specs.posix_spec.Run.{after_calls, begun, run}
-use Rattle.posix_facts.specs.posix_spec.State.{made, State, with_file, with_published}
-use Rattle.posix_facts.specs.posix_spec.Step.{fsync_done, open_done, opening, pwrite_done, truncate_done, write_done, written}
-use Rattle.posix_facts.specs.posix_spec.Tree.{tree}
+use Rattle.posix_laws.specs.posix_types.declared.call.Call.{Call}
+use Rattle.posix_laws.specs.posix_types.declared.call.Who.{Who}
+use Rattle.posix_laws.specs.posix_types.declared.item.Item.{Item}
+use Rattle.posix_laws.specs.posix_types.declared.reply.Reply.{Reply}
+use Rattle.posix_laws.specs.posix_types.declared.tree.TreeEntry.{TreeEntry}
+use Rattle.posix_laws.specs.posix_types.declared.tree.TreeNode.{TreeNode}
+use Rattle.posix_laws.specs.posix_tables.declared.nodes.File.{File}
+use Rattle.posix_laws.specs.posix_tables.declared.nodes.Node.{Node}
+use Rattle.posix_laws.specs.posix_tables.Nodes.{node_at}
+use Rattle.posix_laws.specs.posix_tables.Names.{height, node_at_path, walk, with_entry}
+use Rattle.posix_laws.specs.posix_tables.NameRows.{open_rows}
+use Rattle.posix_laws.specs.posix_tables.Open.{binding_of, key_of, opened, with_binding, with_descriptor, with_offset, with_opened}
+use Rattle.posix_laws.specs.posix_tables.Places.{entry_place, path_to, places, tree_entry, tree_node, with_place}
+use Rattle.posix_laws.specs.posix_spec.FileRows.{truncate_rows, write_rows}
+use Rattle.posix_laws.specs.posix_spec.Put.{put_by}
+use Rattle.posix_laws.specs.posix_spec.Run.{after_calls, begun, run}
+use Rattle.posix_laws.specs.posix_spec.State.{made, State, with_file, with_published}
+use Rattle.posix_laws.specs.posix_spec.Step.{fsync_done, open_done, opening, pwrite_done, truncate_done, write_done, written}
+use Rattle.posix_laws.specs.posix_spec.Tree.{tree}
 use Rattle.crash_spec.specs.ByteRows.{ByteRows, cut_and_written, file_of, fresh, later, one_later, synced}
 use Rattle.crash_spec.specs.Posix.{acting, ByteRule, FileLeft, IsLeft, KeepsFront, LastBeforeCut, LaterRule, NodeLeft, OrUnfinished, others, Overwritten, StrongPosix, syncs, TreeLeft}
 use Rattle.crash_spec.specs.ScheduleRows.{handle, item}

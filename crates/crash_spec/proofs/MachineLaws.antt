@@ -7,16 +7,16 @@ use Rattle.std.proofs.lemmas.Bool.Decides.{nat_tests}
 use Rattle.std.proofs.lemmas.List.{map-append}
 use Rattle.std.proofs.lemmas.List.Elements.{All-cons, All-filter, All-nil}
 use Rattle.std.proofs.lemmas.List.Kept.{AllPairs-cons}
-use Rattle.list_facts.specs.Members.{find-In, In}
-use Rattle.posix_facts.specs.posix_types.declared.call.Call.{Call}
-use Rattle.posix_facts.specs.posix_types.declared.call.Who.{Who}
-use Rattle.posix_facts.specs.posix_types.declared.item.Item.{Item}
-use Rattle.posix_facts.specs.posix_types.Scripts.{Scripts}
-use Rattle.posix_facts.specs.posix_words.Open.{same_who}
-use Rattle.posix_facts.specs.posix_spec.Run.{Begun, begun, IsLegal, IsLegal-append}
-use Rattle.posix_facts.specs.posix_spec.Scripted.{IsSetUp, Scripted, Scripted-append}
-use Rattle.posix_facts.specs.posix_spec.Unfinished.{AreUnfinished, HaveTwoCallers, IsNextCall}
-use Rattle.posix_facts.specs.UnfinishedLaws.{AreUnfinished-begun, AreUnfinished-finished, AreUnfinished-none, IsNext-item}
+use Rattle.posix_laws.specs.list_laws.Members.{find-In, In}
+use Rattle.posix_laws.specs.posix_types.declared.call.Call.{Call}
+use Rattle.posix_laws.specs.posix_types.declared.call.Who.{Who}
+use Rattle.posix_laws.specs.posix_types.declared.item.Item.{Item}
+use Rattle.posix_laws.specs.posix_types.Scripts.{Scripts}
+use Rattle.posix_laws.specs.posix_tables.Open.{same_who}
+use Rattle.posix_laws.specs.posix_spec.Run.{Begun, begun, IsLegal, IsLegal-append}
+use Rattle.posix_laws.specs.posix_spec.Scripted.{IsSetUp, Scripted, Scripted-append}
+use Rattle.posix_laws.specs.posix_spec.Unfinished.{AreUnfinished, HaveTwoCallers, IsNextCall}
+use Rattle.posix_laws.specs.UnfinishedLaws.{AreUnfinished-begun, AreUnfinished-finished, AreUnfinished-none, IsNext-item}
 use Rattle.crash_spec.specs.Busy.{is_busy}
 use Rattle.crash_spec.specs.Laws.{Follows}
 use Rattle.crash_spec.specs.Machine.{at_rest, Began, Checkpoint, Begins, Claimed, Event, Filled, FindsFull, Fills, Finishes, Goes, is_idle, begun_of, is_of, is_set_up, item_for, Job, job_of, LacksSpace, Logs, Machine, may_begin, moved_on, outs, Persisted, Persists, Returns, returned, Setting, Stage, state_of, Stored, Stores, unfinished_of, with_job, with_stage, without_job, Checks, Claims}

@@ -4,13 +4,13 @@ use Rattle.std.proofs.Common.{arith, ap, ◌∙◌, sym, subst}
 use Rattle.std.proofs.lemmas.List.{drop_all, drop_more, length-append}
 use Rattle.std.proofs.lemmas.List.Elements.{filter-append}
 use Rattle.std.proofs.lemmas.Option.{get_or_from_slice_get, slice_get_within}
-use Rattle.posix_facts.specs.posix_types.declared.call.Call.{Call}
-use Rattle.posix_facts.specs.posix_types.declared.call.Who.{Who}
-use Rattle.posix_facts.specs.posix_types.declared.item.Item.{Item}
-use Rattle.posix_facts.specs.posix_words.Open.{same_who}
-use Rattle.posix_facts.specs.posix_spec.Run.{Begun}
-use Rattle.posix_facts.specs.posix_spec.Scripted.{items_of, next_call, ScriptedAfter}
-use Rattle.posix_facts.specs.posix_spec.State.{State}
+use Rattle.posix_laws.specs.posix_types.declared.call.Call.{Call}
+use Rattle.posix_laws.specs.posix_types.declared.call.Who.{Who}
+use Rattle.posix_laws.specs.posix_types.declared.item.Item.{Item}
+use Rattle.posix_laws.specs.posix_tables.Open.{same_who}
+use Rattle.posix_laws.specs.posix_spec.Run.{Begun}
+use Rattle.posix_laws.specs.posix_spec.Scripted.{items_of, next_call, ScriptedAfter}
+use Rattle.posix_laws.specs.posix_spec.State.{State}
 use Rattle.crash_spec.specs.Laws.{on_one_thread, one_script}
 use Rattle.crash_spec.proofs.MachineLaws.{Follows-Scheduled}
 use Rattle.crash_spec.specs.Orders.{Order}

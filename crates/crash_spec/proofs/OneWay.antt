@@ -2,14 +2,14 @@
 use Rattle.std.specs.Prelude.{◌≡◌, ◌⊎◌, ℕ, ◌+◌, ◌-◌, ◌<◌, ◌≤◌, Bool, true, false, not, List, length, All, Contains, Option, Some, None, slice_get, refl}
 use Rattle.std.proofs.Common.{arith, ap, ◌∙◌, sym, subst, inl, inr}
 use Rattle.std.proofs.lemmas.Option.{get_or_from_slice_get, slice_get_within}
-use Rattle.posix_facts.specs.posix_types.declared.call.Call.{Call}
-use Rattle.posix_facts.specs.posix_types.declared.call.Who.{Who}
-use Rattle.posix_facts.specs.posix_types.declared.item.Item.{Item}
-use Rattle.posix_facts.specs.posix_types.Scripts.{Scripts}
-use Rattle.posix_facts.specs.posix_spec.Put.{put_by}
-use Rattle.posix_facts.specs.posix_spec.Scripted.{items_of, script_of}
-use Rattle.posix_facts.specs.posix_spec.State.{State}
-use Rattle.posix_facts.specs.posix_spec.Unfinished.{IsNextCall}
+use Rattle.posix_laws.specs.posix_types.declared.call.Call.{Call}
+use Rattle.posix_laws.specs.posix_types.declared.call.Who.{Who}
+use Rattle.posix_laws.specs.posix_types.declared.item.Item.{Item}
+use Rattle.posix_laws.specs.posix_types.Scripts.{Scripts}
+use Rattle.posix_laws.specs.posix_spec.Put.{put_by}
+use Rattle.posix_laws.specs.posix_spec.Scripted.{items_of, script_of}
+use Rattle.posix_laws.specs.posix_spec.State.{State}
+use Rattle.posix_laws.specs.posix_spec.Unfinished.{IsNextCall}
 use Rattle.crash_spec.specs.Machine.{Checkpoint, Event, Goes, LacksSpace, Machine, MayLackSpace, Setting, state_of, Checks as Checkpoints}
 use Rattle.crash_spec.proofs.MachineLaws.{Checkpoint-idle, IsSound, IsSound-Reaches, MayBegin-Begins}
 use Rattle.crash_spec.specs.Orders.{ArePassedOver, BehindList, ByDraw, ByList, InTurn, IsInTurn, IsLowest, Order, Picker, Picks}

@@ -1,12 +1,12 @@
 -- The stronger rule for bytes implies the rule, and so the stronger relation the relation.
 use Rattle.std.specs.Prelude.{◌≡◌, ℕ, Bool, true, false, ◌||◌, cond, Option, Some, None, List, [], ◌∷◌, map, refl}
 use Rattle.std.proofs.Common.{inl, inr, sym, ◌∙◌, subst}
-use Rattle.posix_facts.specs.posix_types.declared.item.Item.{Item}
-use Rattle.posix_facts.specs.posix_types.declared.tree.TreeEntry.{TreeEntry}
-use Rattle.posix_facts.specs.posix_words.declared.nodes.Node.{Node}
-use Rattle.posix_facts.specs.posix_words.Nodes.{node_at}
-use Rattle.posix_facts.specs.posix_spec.Run.{after_call, after_calls, Begun, begun, run}
-use Rattle.posix_facts.specs.posix_spec.State.{State}
+use Rattle.posix_laws.specs.posix_types.declared.item.Item.{Item}
+use Rattle.posix_laws.specs.posix_types.declared.tree.TreeEntry.{TreeEntry}
+use Rattle.posix_laws.specs.posix_tables.declared.nodes.Node.{Node}
+use Rattle.posix_laws.specs.posix_tables.Nodes.{node_at}
+use Rattle.posix_laws.specs.posix_spec.Run.{after_call, after_calls, Begun, begun, run}
+use Rattle.posix_laws.specs.posix_spec.State.{State}
 use Rattle.crash_spec.specs.Posix.{acting, ByteRule, IsLastOrAny, IsLeft, LastBeforeCut, NodeLeft, others, OrUnfinished, Overwritten, Posix, StrongPosix, TreeLeft}
 use Rattle.crash_spec.specs.Values.{is_shortened, IsOneOf, last_of, shortens, value_before_cut, value_put, values_put, with_value}
 

@@ -1,15 +1,15 @@
 -- The worked schedules, by computation.
 use Rattle.std.specs.Prelude.{◌≡◌, ℕ, zero, suc, List, [], ◌∷◌, ◌++◌, replicate, All, false, refl}
 use Rattle.std.proofs.lemmas.List.Elements.{All-cons, All-nil}
-use Rattle.posix_facts.specs.posix_types.declared.call.Call.{Call}
-use Rattle.posix_facts.specs.posix_types.declared.call.Who.{Who}
-use Rattle.posix_facts.specs.posix_words.Names.{height, node_at_path, walk, with_entry, without_entry}
-use Rattle.posix_facts.specs.posix_words.NameRows.{list_rows, open_rows, rename_kind_rows, rename_rows, stat_rows}
-use Rattle.posix_facts.specs.posix_words.Open.{binding_of, key_of, opened, with_binding, with_descriptor, with_offset, with_opened}
-use Rattle.posix_facts.specs.posix_spec.FileRows.{write_rows}
-use Rattle.posix_facts.specs.posix_spec.Put.{put_by}
-use Rattle.posix_facts.specs.posix_spec.State.{made, swept, unnamed, with_file}
-use Rattle.posix_facts.specs.posix_spec.Step.{list_done, open_done, opening, rename_done, renamed, stat_done, write_done, written}
+use Rattle.posix_laws.specs.posix_types.declared.call.Call.{Call}
+use Rattle.posix_laws.specs.posix_types.declared.call.Who.{Who}
+use Rattle.posix_laws.specs.posix_tables.Names.{height, node_at_path, walk, with_entry, without_entry}
+use Rattle.posix_laws.specs.posix_tables.NameRows.{list_rows, open_rows, rename_kind_rows, rename_rows, stat_rows}
+use Rattle.posix_laws.specs.posix_tables.Open.{binding_of, key_of, opened, with_binding, with_descriptor, with_offset, with_opened}
+use Rattle.posix_laws.specs.posix_spec.FileRows.{write_rows}
+use Rattle.posix_laws.specs.posix_spec.Put.{put_by}
+use Rattle.posix_laws.specs.posix_spec.State.{made, swept, unnamed, with_file}
+use Rattle.posix_laws.specs.posix_spec.Step.{list_done, open_done, opening, rename_done, renamed, stat_done, write_done, written}
 use Rattle.crash_spec.specs.Busy.{is_busy, waits_for}
 use Rattle.crash_spec.specs.Machine.{may_begin}
 use Rattle.crash_spec.specs.Orders.{draw}

@@ -5,17 +5,17 @@ use Rattle.std.specs.List.{list_any}
 use Rattle.std.proofs.Common.{ap, ◌∙◌, sym, subst, inl, inr}
 use Rattle.std.proofs.lemmas.List.{append-nil, ext_get_or, take_all}
 use Rattle.std.proofs.lemmas.List.Folds.{list_any-append}
-use Rattle.posix_facts.specs.posix_types.declared.item.Item.{Item}
-use Rattle.posix_facts.specs.posix_types.declared.tree.TreeEntry.{TreeEntry}
-use Rattle.posix_facts.specs.posix_types.declared.tree.TreeNode.{TreeNode}
-use Rattle.posix_facts.specs.posix_words.declared.nodes.File.{File}
-use Rattle.posix_facts.specs.posix_words.declared.nodes.Node.{Node}
-use Rattle.posix_facts.specs.posix_words.declared.places.Place.{Place}
-use Rattle.posix_facts.specs.posix_words.Nodes.{node_at}
-use Rattle.posix_facts.specs.posix_words.Places.{places, tree_entry, tree_node}
-use Rattle.posix_facts.specs.posix_spec.Run.{after_calls, Begun, begun, run}
-use Rattle.posix_facts.specs.posix_spec.State.{State}
-use Rattle.posix_facts.specs.posix_spec.Tree.{tree}
+use Rattle.posix_laws.specs.posix_types.declared.item.Item.{Item}
+use Rattle.posix_laws.specs.posix_types.declared.tree.TreeEntry.{TreeEntry}
+use Rattle.posix_laws.specs.posix_types.declared.tree.TreeNode.{TreeNode}
+use Rattle.posix_laws.specs.posix_tables.declared.nodes.File.{File}
+use Rattle.posix_laws.specs.posix_tables.declared.nodes.Node.{Node}
+use Rattle.posix_laws.specs.posix_tables.declared.places.Place.{Place}
+use Rattle.posix_laws.specs.posix_tables.Nodes.{node_at}
+use Rattle.posix_laws.specs.posix_tables.Places.{places, tree_entry, tree_node}
+use Rattle.posix_laws.specs.posix_spec.Run.{after_calls, Begun, begun, run}
+use Rattle.posix_laws.specs.posix_spec.State.{State}
+use Rattle.posix_laws.specs.posix_spec.Tree.{tree}
 use Rattle.crash_spec.specs.Laws.{AllPublished, IsPublished}
 use Rattle.crash_spec.specs.Posix.{acting, ByteRule, FileLeft, NodeLeft, others, OrUnfinished, Overwritten, Posix, syncs, TreeLeft}
 use Rattle.crash_spec.specs.Values.{is_shortened, values_put}

@@ -2,9 +2,9 @@
 use Rattle.std.specs.Prelude.{◌≡◌, ℕ, ◌+◌, ◌<◌, ◌≤◌, Bool, true, false, cond, not, nat_lt, List, [], find, Option, Some, None, is_none, option_map, option_and_then, refl}
 use Rattle.std.proofs.Common.{arith, ap, ◌∙◌, subst}
 use Rattle.std.proofs.lemmas.Bool.Decides.{nat_tests}
-use Rattle.posix_facts.specs.posix_types.declared.call.Call.{Call}
-use Rattle.posix_facts.specs.posix_types.declared.call.Who.{Who}
-use Rattle.posix_facts.specs.posix_spec.Unfinished.{IsNextCall}
+use Rattle.posix_laws.specs.posix_types.declared.call.Call.{Call}
+use Rattle.posix_laws.specs.posix_types.declared.call.Who.{Who}
+use Rattle.posix_laws.specs.posix_spec.Unfinished.{IsNextCall}
 use Rattle.crash_spec.specs.Busy.{is_logged, waits_for}
 use Rattle.crash_spec.specs.Machine.{Began, Begin, Begins, Checks, Claim, Claimed, Claims, Event, Fill, Filled, Fills, FindsFull, Finish, Finishes, Goes, is_of, IsAt, Job, job_of, Logs, Machine, may_begin, next_of, Persist, Persisted, Persists, returned, Returns, Setting, Stage, state_of, Store, Stored, Stores, with_job, with_stage, without_job}
 use Rattle.crash_spec.proofs.MachineLaws.{IsSound, job_next, MayBegin-Begins, next_holds}

@@ -3,10 +3,10 @@ use Rattle.std.specs.Prelude.{◌≡◌, ◌⊎◌, ℕ, zero, suc, ◌+◌, ◌
 use Rattle.std.proofs.Common.{arith, ap, ◌∙◌, sym, subst, inl, inr}
 use Rattle.std.proofs.lemmas.Bool.Decides.{nat_tests}
 use Rattle.std.proofs.lemmas.Option.{get_or_from_slice_get, slice_get_within}
-use Rattle.list_facts.specs.Members.{In, slice_get-In}
-use Rattle.posix_facts.specs.posix_types.declared.call.Who.{Who}
-use Rattle.posix_facts.specs.posix_types.declared.item.Item.{Item}
-use Rattle.posix_facts.specs.posix_spec.Run.{Begun}
+use Rattle.posix_laws.specs.list_laws.Members.{In, slice_get-In}
+use Rattle.posix_laws.specs.posix_types.declared.call.Who.{Who}
+use Rattle.posix_laws.specs.posix_types.declared.item.Item.{Item}
+use Rattle.posix_laws.specs.posix_spec.Run.{Begun}
 use Rattle.crash_spec.specs.Machine.{at_rest, have_ended, Job, Machine, Setting, unfinished_of, Checks as Checkpoints}
 use Rattle.crash_spec.specs.Orders.{ArePassedOver, BehindList, ByDraw, ByList, draw, InTurn, IsInTurn, IsLowest, Listed, none_picked, Order, Picker, Picks, Round, Seeded}
 use Rattle.crash_spec.specs.ScheduleLaws.{IsTheOnlySchedule, IsTheSchedule, NeverLacksSpace, NobodyWrites}

@@ -2,16 +2,16 @@
 use Rattle.std.specs.Prelude.{ℕ, ◌+◌, Bool, true, false, not, ◌&&◌, ◌==◌, nat_lt, List, length, Option, None, option_map, if◌then◌else◌}
 use Rattle.std.specs.List.{list_any}
 use Rattle.std.specs.Option.{option_map_or}
-use Rattle.posix_facts.specs.posix_types.declared.call.Call.{Call}
-use Rattle.posix_facts.specs.posix_types.declared.call.Mode.{Mode}
-use Rattle.posix_facts.specs.posix_types.declared.call.Who.{Who}
-use Rattle.posix_facts.specs.posix_types.declared.handle.Handle.{Handle}
-use Rattle.posix_facts.specs.posix_words.Names.{node_at_path, too_long}
-use Rattle.posix_facts.specs.posix_words.Nodes.{bytes_of, node_at}
-use Rattle.posix_facts.specs.posix_words.Open.{opened, same_who}
-use Rattle.posix_facts.specs.posix_spec.Put.{Put, put_by}
-use Rattle.posix_facts.specs.posix_spec.Run.{Begun}
-use Rattle.posix_facts.specs.posix_spec.State.{space, State}
+use Rattle.posix_laws.specs.posix_types.declared.call.Call.{Call}
+use Rattle.posix_laws.specs.posix_types.declared.call.Mode.{Mode}
+use Rattle.posix_laws.specs.posix_types.declared.call.Who.{Who}
+use Rattle.posix_laws.specs.posix_types.declared.handle.Handle.{Handle}
+use Rattle.posix_laws.specs.posix_tables.Names.{node_at_path, too_long}
+use Rattle.posix_laws.specs.posix_tables.Nodes.{bytes_of, node_at}
+use Rattle.posix_laws.specs.posix_tables.Open.{opened, same_who}
+use Rattle.posix_laws.specs.posix_spec.Put.{Put, put_by}
+use Rattle.posix_laws.specs.posix_spec.Run.{Begun}
+use Rattle.posix_laws.specs.posix_spec.State.{space, State}
 
 -- A write of at least one byte that is accepted is logged: in strict mode always, in sync mode where it reaches past the
 -- file's length, in POSIX mode never. No other call is.

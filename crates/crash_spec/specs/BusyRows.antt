@@ -1,13 +1,13 @@
 -- Worked rows, one a call: who waits while a write of another caller is out, and which writes are logged.
 use Rattle.std.specs.Prelude.{◌≡◌, ℕ, Bool, true, false, [], ◌∷◌, replicate, pos}
-use Rattle.posix_facts.specs.posix_types.declared.call.Call.{Call}
-use Rattle.posix_facts.specs.posix_types.declared.call.Mode.{Mode}
-use Rattle.posix_facts.specs.posix_types.declared.call.Who.{Who}
-use Rattle.posix_facts.specs.posix_types.declared.handle.Flags.{Flags}
-use Rattle.posix_facts.specs.posix_types.declared.handle.Whence.{Whence}
-use Rattle.posix_facts.specs.posix_spec.Run.{after_calls}
-use Rattle.posix_facts.specs.posix_spec.State.{State}
-use Rattle.posix_facts.specs.posix_spec.Tree.{default_shape, root_alone, start}
+use Rattle.posix_laws.specs.posix_types.declared.call.Call.{Call}
+use Rattle.posix_laws.specs.posix_types.declared.call.Mode.{Mode}
+use Rattle.posix_laws.specs.posix_types.declared.call.Who.{Who}
+use Rattle.posix_laws.specs.posix_types.declared.handle.Flags.{Flags}
+use Rattle.posix_laws.specs.posix_types.declared.handle.Whence.{Whence}
+use Rattle.posix_laws.specs.posix_spec.Run.{after_calls}
+use Rattle.posix_laws.specs.posix_spec.State.{State}
+use Rattle.posix_laws.specs.posix_spec.Tree.{default_shape, root_alone, start}
 use Rattle.crash_spec.specs.Busy.{is_busy, is_logged}
 use Rattle.crash_spec.specs.ScheduleRows.{handle, opens, path, writing}
 

@@ -1,15 +1,15 @@
 -- Worked rows of the two rules for bytes of POSIX mode: four bytes and an `fsync`, then the file is cut to two bytes and the
 -- other two are written again.
 use Rattle.std.specs.Prelude.{ℕ, List, [], ◌∷◌, ◌++◌}
-use Rattle.posix_facts.specs.posix_types.declared.call.Call.{Call}
-use Rattle.posix_facts.specs.posix_types.declared.call.Mode.{Mode}
-use Rattle.posix_facts.specs.posix_types.declared.call.Who.{Who}
-use Rattle.posix_facts.specs.posix_types.declared.item.Item.{Item}
-use Rattle.posix_facts.specs.posix_types.declared.reply.Reply.{Reply}
-use Rattle.posix_facts.specs.posix_types.declared.tree.TreeEntry.{TreeEntry}
-use Rattle.posix_facts.specs.posix_types.declared.tree.TreeNode.{TreeNode}
-use Rattle.posix_facts.specs.posix_spec.State.{State}
-use Rattle.posix_facts.specs.posix_spec.Tree.{default_shape, root_alone, start}
+use Rattle.posix_laws.specs.posix_types.declared.call.Call.{Call}
+use Rattle.posix_laws.specs.posix_types.declared.call.Mode.{Mode}
+use Rattle.posix_laws.specs.posix_types.declared.call.Who.{Who}
+use Rattle.posix_laws.specs.posix_types.declared.item.Item.{Item}
+use Rattle.posix_laws.specs.posix_types.declared.reply.Reply.{Reply}
+use Rattle.posix_laws.specs.posix_types.declared.tree.TreeEntry.{TreeEntry}
+use Rattle.posix_laws.specs.posix_types.declared.tree.TreeNode.{TreeNode}
+use Rattle.posix_laws.specs.posix_spec.State.{State}
+use Rattle.posix_laws.specs.posix_spec.Tree.{default_shape, root_alone, start}
 use Rattle.crash_spec.specs.Posix.{Posix, StrongPosix}
 use Rattle.crash_spec.specs.ScheduleRows.{handle, item, opens, path}
 

@@ -1,18 +1,18 @@
 -- The chief laws of what may be left, each as one statement.
 use Rattle.std.specs.Prelude.{◌≡◌, ℕ, ◌≤◌, true, false, List, [], ◌∷◌, ◌++◌, length, map}
-use Rattle.posix_facts.specs.posix_types.declared.call.Call.{Call}
-use Rattle.posix_facts.specs.posix_types.declared.call.Mode.{Mode}
-use Rattle.posix_facts.specs.posix_types.declared.call.Who.{Who}
-use Rattle.posix_facts.specs.posix_types.declared.item.Item.{Item}
-use Rattle.posix_facts.specs.posix_types.declared.tree.TreeEntry.{TreeEntry}
-use Rattle.posix_facts.specs.posix_types.Scripts.{Scripts}
-use Rattle.posix_facts.specs.posix_words.declared.nodes.Node.{Node}
-use Rattle.posix_facts.specs.posix_words.Nodes.{node_at}
-use Rattle.posix_facts.specs.posix_spec.Run.{after_call, Begun, IsAnswered, IsLegal, run}
-use Rattle.posix_facts.specs.posix_spec.Scripted.{Scripted}
-use Rattle.posix_facts.specs.posix_spec.State.{State}
-use Rattle.posix_facts.specs.posix_spec.Tree.{tree}
-use Rattle.posix_facts.specs.posix_spec.Unfinished.{AreUnfinished}
+use Rattle.posix_laws.specs.posix_types.declared.call.Call.{Call}
+use Rattle.posix_laws.specs.posix_types.declared.call.Mode.{Mode}
+use Rattle.posix_laws.specs.posix_types.declared.call.Who.{Who}
+use Rattle.posix_laws.specs.posix_types.declared.item.Item.{Item}
+use Rattle.posix_laws.specs.posix_types.declared.tree.TreeEntry.{TreeEntry}
+use Rattle.posix_laws.specs.posix_types.Scripts.{Scripts}
+use Rattle.posix_laws.specs.posix_tables.declared.nodes.Node.{Node}
+use Rattle.posix_laws.specs.posix_tables.Nodes.{node_at}
+use Rattle.posix_laws.specs.posix_spec.Run.{after_call, Begun, IsAnswered, IsLegal, run}
+use Rattle.posix_laws.specs.posix_spec.Scripted.{Scripted}
+use Rattle.posix_laws.specs.posix_spec.State.{State}
+use Rattle.posix_laws.specs.posix_spec.Tree.{tree}
+use Rattle.posix_laws.specs.posix_spec.Unfinished.{AreUnfinished}
 use Rattle.crash_spec.specs.Busy.{is_busy}
 use Rattle.crash_spec.specs.Machine.{Begins, Checkpoint, Goes, Machine, outs, Setting, state_of}
 use Rattle.crash_spec.specs.Orders.{Order}

@@ -13,6 +13,6 @@ pub mod Posix
 pub mod Strict
 pub mod Sync
 pub mod Values
-pub use Rattle.posix_facts.specs.posix_spec as posix_spec
-pub use Rattle.list_facts.specs as list_facts
-pub use Rattle.posix_facts.specs.posix_types as posix_types
+pub use Rattle.posix_laws.specs.posix_spec as posix_spec
+pub use Rattle.posix_laws.specs.list_laws as list_laws
+pub use Rattle.posix_laws.specs.posix_types as posix_types

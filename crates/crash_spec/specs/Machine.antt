@@ -3,18 +3,18 @@
 -- whether the round is over. It knows nothing of the medium.
 use Rattle.std.specs.Prelude.{◌≡◌, ◌⊎◌, ℕ, ◌+◌, ◌<◌, ◌≤◌, Bool, true, false, not, ◌&&◌, List, [], ◌∷◌, ◌++◌, length, map, filter, find, Option, Some, None, is_some, is_none, ◌==◌, if◌then◌else◌}
 use Rattle.std.specs.Option.{option_map_or}
-use Rattle.posix_facts.specs.posix_types.declared.call.Call.{Call}
-use Rattle.posix_facts.specs.posix_types.declared.call.Who.{Who}
-use Rattle.posix_facts.specs.posix_types.declared.item.Item.{Item}
-use Rattle.posix_facts.specs.posix_types.Scripts.{Scripts}
-use Rattle.posix_facts.specs.posix_words.Open.{same_who}
-use Rattle.posix_facts.specs.posix_spec.FileRows.{content, truncate_rows}
-use Rattle.posix_facts.specs.posix_words.Outcomes.{first}
-use Rattle.posix_facts.specs.posix_spec.Put.{put_by}
-use Rattle.posix_facts.specs.posix_spec.Run.{Begun, run}
-use Rattle.posix_facts.specs.posix_spec.Scripted.{call_count, items_of, next_call}
-use Rattle.posix_facts.specs.posix_spec.State.{State}
-use Rattle.posix_facts.specs.posix_spec.Step.{step}
+use Rattle.posix_laws.specs.posix_types.declared.call.Call.{Call}
+use Rattle.posix_laws.specs.posix_types.declared.call.Who.{Who}
+use Rattle.posix_laws.specs.posix_types.declared.item.Item.{Item}
+use Rattle.posix_laws.specs.posix_types.Scripts.{Scripts}
+use Rattle.posix_laws.specs.posix_tables.Open.{same_who}
+use Rattle.posix_laws.specs.posix_spec.FileRows.{content, truncate_rows}
+use Rattle.posix_laws.specs.posix_tables.Outcomes.{first}
+use Rattle.posix_laws.specs.posix_spec.Put.{put_by}
+use Rattle.posix_laws.specs.posix_spec.Run.{Begun, run}
+use Rattle.posix_laws.specs.posix_spec.Scripted.{call_count, items_of, next_call}
+use Rattle.posix_laws.specs.posix_spec.State.{State}
+use Rattle.posix_laws.specs.posix_spec.Step.{step}
 use Rattle.crash_spec.specs.Busy.{is_busy, is_logged, Out, waits_for}
 
 -- how far a logged call is

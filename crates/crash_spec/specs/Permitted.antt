@@ -1,10 +1,10 @@
 -- Which trees a power loss may leave, by the mode of the file system.
 use Rattle.std.specs.Prelude.{List}
-use Rattle.posix_facts.specs.posix_types.declared.call.Mode.{Mode}
-use Rattle.posix_facts.specs.posix_types.declared.item.Item.{Item}
-use Rattle.posix_facts.specs.posix_types.declared.tree.TreeEntry.{TreeEntry}
-use Rattle.posix_facts.specs.posix_spec.Run.{Begun}
-use Rattle.posix_facts.specs.posix_spec.State.{State}
+use Rattle.posix_laws.specs.posix_types.declared.call.Mode.{Mode}
+use Rattle.posix_laws.specs.posix_types.declared.item.Item.{Item}
+use Rattle.posix_laws.specs.posix_types.declared.tree.TreeEntry.{TreeEntry}
+use Rattle.posix_laws.specs.posix_spec.Run.{Begun}
+use Rattle.posix_laws.specs.posix_spec.State.{State}
 use Rattle.crash_spec.specs.Strict.{Strict}
 use Rattle.crash_spec.specs.Sync.{Sync}
 use Rattle.crash_spec.specs.Posix.{Posix}

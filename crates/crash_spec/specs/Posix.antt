@@ -6,16 +6,16 @@
 -- of them (its block may have been given up and the old one be found again). Unmounting publishes all at once.
 use Rattle.std.specs.Prelude.{◌≡◌, ◌⊎◌, ℕ, ◌<◌, Bool, true, false, ◌&&◌, List, [], ◌∷◌, ◌++◌, length, map, take, slice_index}
 use Rattle.std.specs.List.{list_any}
-use Rattle.posix_facts.specs.posix_types.declared.call.Call.{Call}
-use Rattle.posix_facts.specs.posix_types.declared.reply.Reply.{Reply}
-use Rattle.posix_facts.specs.posix_types.declared.item.Item.{Item}
-use Rattle.posix_facts.specs.posix_types.declared.tree.TreeEntry.{TreeEntry}
-use Rattle.posix_facts.specs.posix_words.declared.nodes.File.{File}
-use Rattle.posix_facts.specs.posix_words.declared.nodes.Node.{Node}
-use Rattle.posix_facts.specs.posix_words.Nodes.{node_at}
-use Rattle.posix_facts.specs.posix_spec.Run.{after_calls, Begun, begun, run}
-use Rattle.posix_facts.specs.posix_spec.State.{State}
-use Rattle.posix_facts.specs.posix_spec.Tree.{tree}
+use Rattle.posix_laws.specs.posix_types.declared.call.Call.{Call}
+use Rattle.posix_laws.specs.posix_types.declared.reply.Reply.{Reply}
+use Rattle.posix_laws.specs.posix_types.declared.item.Item.{Item}
+use Rattle.posix_laws.specs.posix_types.declared.tree.TreeEntry.{TreeEntry}
+use Rattle.posix_laws.specs.posix_tables.declared.nodes.File.{File}
+use Rattle.posix_laws.specs.posix_tables.declared.nodes.Node.{Node}
+use Rattle.posix_laws.specs.posix_tables.Nodes.{node_at}
+use Rattle.posix_laws.specs.posix_spec.Run.{after_calls, Begun, begun, run}
+use Rattle.posix_laws.specs.posix_spec.State.{State}
+use Rattle.posix_laws.specs.posix_spec.Tree.{tree}
 use Rattle.crash_spec.specs.Values.{is_shortened, IsOneOf, last_of, value_before_cut, values_put}
 
 -- A rule for bytes: of byte i of node n, which had value v, whether x may be found there.

@@ -2,12 +2,12 @@
 -- whole.
 use Rattle.std.specs.Prelude.{◌≡◌, ℕ, List, [], ◌∷◌, length, refl}
 use Rattle.std.proofs.Common.{inl, inr, sym}
-use Rattle.posix_facts.specs.posix_types.declared.call.Mode.{Mode}
-use Rattle.posix_facts.specs.posix_types.declared.item.Item.{Item}
-use Rattle.posix_facts.specs.posix_types.declared.tree.TreeEntry.{TreeEntry}
-use Rattle.posix_facts.specs.posix_spec.Run.{after_call, Begun, run}
-use Rattle.posix_facts.specs.posix_spec.State.{State}
-use Rattle.posix_facts.specs.posix_spec.Tree.{tree}
+use Rattle.posix_laws.specs.posix_types.declared.call.Mode.{Mode}
+use Rattle.posix_laws.specs.posix_types.declared.item.Item.{Item}
+use Rattle.posix_laws.specs.posix_types.declared.tree.TreeEntry.{TreeEntry}
+use Rattle.posix_laws.specs.posix_spec.Run.{after_call, Begun, run}
+use Rattle.posix_laws.specs.posix_spec.State.{State}
+use Rattle.posix_laws.specs.posix_spec.Tree.{tree}
 use Rattle.crash_spec.specs.Permitted.{Permitted}
 use Rattle.crash_spec.specs.Strict.{Strict, StrictFrom, Strict-none, Strict-one}
 use Rattle.crash_spec.specs.Sync.{IsPartOf, Sync, SyncFrom}

@@ -1,10 +1,10 @@
 -- The laws that leave a schedule no choice but one: where a Begin finds the round over for want of space.
 use Rattle.std.specs.Prelude.{◌≡◌, ℕ, ◌+◌, ◌-◌, ◌≤◌, Bool, true, false, List, All}
-use Rattle.posix_facts.specs.posix_types.declared.call.Call.{Call}
-use Rattle.posix_facts.specs.posix_types.declared.call.Who.{Who}
-use Rattle.posix_facts.specs.posix_types.declared.item.Item.{Item}
-use Rattle.posix_facts.specs.posix_spec.Run.{Begun}
-use Rattle.posix_facts.specs.posix_spec.Scripted.{script_of}
+use Rattle.posix_laws.specs.posix_types.declared.call.Call.{Call}
+use Rattle.posix_laws.specs.posix_types.declared.call.Who.{Who}
+use Rattle.posix_laws.specs.posix_types.declared.item.Item.{Item}
+use Rattle.posix_laws.specs.posix_spec.Run.{Begun}
+use Rattle.posix_laws.specs.posix_spec.Scripted.{script_of}
 use Rattle.crash_spec.specs.Machine.{Setting, unfinished_of}
 use Rattle.crash_spec.specs.Orders.{Order}
 use Rattle.crash_spec.specs.Schedules.{Advances, Course, Further, Reaches, Scheduled, Starts}

@@ -1,16 +1,16 @@
 -- Worked schedules, each with all that it leaves: by a list with numbers that are passed over and behind its end, by a seed,
 -- and round; with calls that wait, calls that are cut off, and a log that is found full.
 use Rattle.std.specs.Prelude.{ℕ, List, [], ◌∷◌, None, true, false}
-use Rattle.posix_facts.specs.posix_types.declared.call.Call.{Call}
-use Rattle.posix_facts.specs.posix_types.declared.call.Mode.{Mode}
-use Rattle.posix_facts.specs.posix_types.declared.call.Who.{Who}
-use Rattle.posix_facts.specs.posix_types.declared.handle.Flags.{Flags}
-use Rattle.posix_facts.specs.posix_types.declared.handle.Handle.{Handle}
-use Rattle.posix_facts.specs.posix_types.declared.item.Item.{Item}
-use Rattle.posix_facts.specs.posix_types.declared.reply.Reply.{Reply}
-use Rattle.posix_facts.specs.posix_types.declared.reply.Stat.{Stat}
-use Rattle.posix_facts.specs.posix_types.Scripts.{Scripts}
-use Rattle.posix_facts.specs.posix_spec.Tree.{default_shape, root_alone, start}
+use Rattle.posix_laws.specs.posix_types.declared.call.Call.{Call}
+use Rattle.posix_laws.specs.posix_types.declared.call.Mode.{Mode}
+use Rattle.posix_laws.specs.posix_types.declared.call.Who.{Who}
+use Rattle.posix_laws.specs.posix_types.declared.handle.Flags.{Flags}
+use Rattle.posix_laws.specs.posix_types.declared.handle.Handle.{Handle}
+use Rattle.posix_laws.specs.posix_types.declared.item.Item.{Item}
+use Rattle.posix_laws.specs.posix_types.declared.reply.Reply.{Reply}
+use Rattle.posix_laws.specs.posix_types.declared.reply.Stat.{Stat}
+use Rattle.posix_laws.specs.posix_types.Scripts.{Scripts}
+use Rattle.posix_laws.specs.posix_spec.Tree.{default_shape, root_alone, start}
 use Rattle.crash_spec.specs.Machine.{Setting}
 use Rattle.crash_spec.specs.Orders.{Listed, Round, Seeded}
 use Rattle.crash_spec.specs.ScheduleLaws.{IsTheOnlySchedule, IsTheSchedule}

@@ -1,9 +1,9 @@
 -- Schedules: which histories and unfinished calls the machine reaches, if its events come in an order.
 use Rattle.std.specs.Prelude.{◌≡◌, ℕ, ◌+◌, Bool, false, ◌||◌, List, length, filter, Option, Some, None, is_some}
 use Rattle.std.specs.List.{range_with_len}
-use Rattle.posix_facts.specs.posix_types.declared.call.Who.{Who}
-use Rattle.posix_facts.specs.posix_types.declared.item.Item.{Item}
-use Rattle.posix_facts.specs.posix_spec.Run.{Begun}
+use Rattle.posix_laws.specs.posix_types.declared.call.Who.{Who}
+use Rattle.posix_laws.specs.posix_types.declared.item.Item.{Item}
+use Rattle.posix_laws.specs.posix_spec.Run.{Begun}
 use Rattle.crash_spec.specs.Machine.{at_rest, Begin, Checkpoint, Claim, Event, Fill, Finish, Goes, have_ended, job_of, LacksSpace, Machine, may_begin, Persist, Setting, Store, unfinished_of}
 use Rattle.crash_spec.specs.Orders.{none_picked, Order, Picker, Picks}
 

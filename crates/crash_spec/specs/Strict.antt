@@ -1,11 +1,11 @@
 -- The strict crash relation: which trees a power loss may leave in strict mode.
 use Rattle.std.specs.Prelude.{◌≡◌, ◌⊎◌, List, [], ◌∷◌, refl}
 use Rattle.std.proofs.Common.{inl, inr}
-use Rattle.posix_facts.specs.posix_types.declared.item.Item.{Item}
-use Rattle.posix_facts.specs.posix_types.declared.tree.TreeEntry.{TreeEntry}
-use Rattle.posix_facts.specs.posix_spec.Tree.{tree}
-use Rattle.posix_facts.specs.posix_spec.State.{State}
-use Rattle.posix_facts.specs.posix_spec.Run.{after_call, Begun, run}
+use Rattle.posix_laws.specs.posix_types.declared.item.Item.{Item}
+use Rattle.posix_laws.specs.posix_types.declared.tree.TreeEntry.{TreeEntry}
+use Rattle.posix_laws.specs.posix_spec.Tree.{tree}
+use Rattle.posix_laws.specs.posix_spec.State.{State}
+use Rattle.posix_laws.specs.posix_spec.Run.{after_call, Begun, run}
 
 -- the tree is that of the state after some of the unfinished calls, in order: each acts whole, or not at all
 abbrev pub StrictFrom : State → List Begun → List TreeEntry → Type 0

@@ -2,13 +2,13 @@
 -- unfinished write may be there in part: bytes below the old length are written in place, and each of them may or may
 -- not have reached the medium.
 use Rattle.std.specs.Prelude.{◌≡◌, ◌⊎◌, ℕ, ◌<◌, List, [], ◌∷◌, length, Some, slice_index}
-use Rattle.posix_facts.specs.posix_types.declared.item.Item.{Item}
-use Rattle.posix_facts.specs.posix_types.declared.tree.TreeEntry.{TreeEntry}
-use Rattle.posix_facts.specs.posix_words.Nodes.{bytes_of, node_at, published_of}
-use Rattle.posix_facts.specs.posix_spec.Put.{Put, put_by}
-use Rattle.posix_facts.specs.posix_spec.Run.{after_call, Begun, run}
-use Rattle.posix_facts.specs.posix_spec.State.{State, with_file}
-use Rattle.posix_facts.specs.posix_spec.Tree.{tree}
+use Rattle.posix_laws.specs.posix_types.declared.item.Item.{Item}
+use Rattle.posix_laws.specs.posix_types.declared.tree.TreeEntry.{TreeEntry}
+use Rattle.posix_laws.specs.posix_tables.Nodes.{bytes_of, node_at, published_of}
+use Rattle.posix_laws.specs.posix_spec.Put.{Put, put_by}
+use Rattle.posix_laws.specs.posix_spec.Run.{after_call, Begun, run}
+use Rattle.posix_laws.specs.posix_spec.State.{State, with_file}
+use Rattle.posix_laws.specs.posix_spec.Tree.{tree}
 
 -- The bytes of a file after a write that was done in part: as many as after the whole write. Each is as the whole
 -- write makes it, or, below the old length, as it was. So a write within the old length leaves the length, and one past

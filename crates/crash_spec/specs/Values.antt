@@ -1,11 +1,11 @@
 -- Bytes and what calls make of them: the values that writes put at a byte of a file, in order, and whether the file was
 -- shortened to that byte or less. Files go by node numbers, which never change for a file.
 use Rattle.std.specs.Prelude.{◌≡◌, ◌⊎◌, ℕ, ◌-◌, Bool, false, ◌&&◌, ◌||◌, ◌==◌, nat_lt, nat_le, List, [], ◌∷◌, length, Option, Some, None, slice_get, if◌then◌else◌}
-use Rattle.posix_facts.specs.posix_words.declared.nodes.Node.{Node}
-use Rattle.posix_facts.specs.posix_words.Nodes.{bytes_of, node_at}
-use Rattle.posix_facts.specs.posix_spec.Put.{Put, put_by}
-use Rattle.posix_facts.specs.posix_spec.Run.{after_call, Begun}
-use Rattle.posix_facts.specs.posix_spec.State.{State}
+use Rattle.posix_laws.specs.posix_tables.declared.nodes.Node.{Node}
+use Rattle.posix_laws.specs.posix_tables.Nodes.{bytes_of, node_at}
+use Rattle.posix_laws.specs.posix_spec.Put.{Put, put_by}
+use Rattle.posix_laws.specs.posix_spec.Run.{after_call, Begun}
+use Rattle.posix_laws.specs.posix_spec.State.{State}
 
 -- the value that a put has for byte i of node n
 abbrev pub value_of : Option Put → ℕ → ℕ → Option ℕ

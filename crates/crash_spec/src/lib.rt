@@ -9,6 +9,8 @@
 //! The laws of these are clauses of the functions here (`Laws`, and for schedules `ScheduleLaws`: they
 //! have no choice but where space is wanting), and so are rows worked by hand (`ScheduleRows`,
 //! `BusyRows`, `ByteRows`). Stands on the meaning of the calls, `posix_spec`, and its facts.
+//!
+//! A call whose beginning lost the power is of a caller that has no call in flight.
 #![tactic(auto)]
 
 ghost use Rattle.crash_spec.specs.BusyRows.{WhatIsLogged, WhoWaits};
@@ -80,4 +82,5 @@ pub fn rules_for_bytes_differ()
     ensures { ByteRows }
 {}
 
-pub use posix_facts::{Call, Data, Item, Put, State, Tree, TreeEntry, TreeNode, Who};
+pub use posix_spec::{Put, State};
+pub use posix_types::{Call, Data, Item, Tree, TreeEntry, TreeNode, Who};

@@ -3,7 +3,7 @@ use Rattle.std.proofs.Common.{arith, ap, sym, ◌∙◌, ◌≡◌, ◌≤◌, �
 use Rattle.std.specs.List.{range_with_len, flat_map}
 use Rattle.std.proofs.lemmas.Grind.{flat_map-append}
 use Rattle.std.proofs.lemmas.List.{append-nil}
-use Rattle.file_overlay.specs.extent_words.declared.Extent.{Extent}
+use Rattle.file_overlay.specs.extent_model.declared.extent_words.Extent.{Extent}
 use Rattle.file_overlay.specs.declared.runs.Run.{Run}
 use Rattle.data_route.specs.declared.reads.Piece.{Piece}
 use Rattle.data_route.specs.declared.reads.Source.{Source}

@@ -2,4 +2,4 @@ pub mod Writes
 pub mod Reads
 pub mod Laws
 pub use Rattle.map_collection.specs as map_collection
-pub use Rattle.file_overlay.specs.extent_words as extent_words
+pub use Rattle.file_overlay.specs.extent_model as extent_model

@@ -1,8 +1,8 @@
 -- Where the bytes of a file lie, and the pieces of a read.
 use Rattle.std.specs.Prelude.{◌≡◌, ℕ, ◌+◌, ◌-◌, ◌/◌, ◌%◌, ◌≤◌, List, All, map, min, Option, Some, None}
 use Rattle.std.specs.List.{flat_map, range_with_len}
-use Rattle.file_overlay.specs.extent_words.declared.Extent.{Extent}
-use Rattle.file_overlay.specs.extent_words.Extents.{disk_at}
+use Rattle.file_overlay.specs.extent_model.declared.extent_words.Extent.{Extent}
+use Rattle.file_overlay.specs.extent_model.Extents.{disk_at}
 use Rattle.file_overlay.specs.declared.runs.Run.{Run}
 use Rattle.file_overlay.specs.Runs.{staged_at}
 use Rattle.data_route.specs.declared.reads.Source.{Source}

@@ -3,7 +3,7 @@
 use Rattle.std.specs.Prelude.{ℕ, ◌+◌, ◌-◌, ◌*◌, ◌/◌, ◌%◌, ◌&&◌, nat_lt, max, Bool, true, false, if◌then◌else◌, Option, Some, None}
 use Rattle.std.specs.Option.{option_map_or}
 use Rattle.block_counts.specs.Counts.{blocks_for}
-use Rattle.file_overlay.specs.extent_words.Extents.{is_between, is_within}
+use Rattle.file_overlay.specs.extent_model.Extents.{is_between, is_within}
 use Rattle.posix_types.specs.declared.call.Mode.{Mode}
 use Rattle.data_route.specs.declared.writes.WritePlan.{WritePlan}
 

@@ -12,6 +12,9 @@
 //! up to 131,072 bytes stages 1 to 33 blocks (`StagesFewBlocks`). Files have at most 16,777,216 bytes.
 //! Neither call touches a device.
 //!
+//! Sync and POSIX mode have one plan of a write; a write of no byte has a plan, which does nothing.
+//! `plan_write` waits for the modes that write in place; strict mode plans in `write_plan`.
+//!
 //! It stands on `file_overlay`, `map_collection`, `extent_map` and the modes of `posix_types`.
 #![tactic(auto)]
 

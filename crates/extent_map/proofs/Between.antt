@@ -3,10 +3,10 @@ use Rattle.std.proofs.Common.{◌≡◌, ℕ, ◌+◌, ◌<◌, ◌≤◌, true,
 use Rattle.std.proofs.lemmas.Bool.{cases_Bool, lt-ltb, le-ltb}
 use Rattle.std.proofs.lemmas.Bool.Decides.{nat_tests}
 use Rattle.std.proofs.lemmas.List.Sums.{sum_by_more, count_by_more_yes, count_by_more_no}
-use Rattle.extent_words.specs.declared.Extent.{Extent}
-use Rattle.extent_words.specs.Extents.{is_between, holds, disk_in, disk_at, IsCanonical}
+use Rattle.extent_model.specs.declared.extent_words.Extent.{Extent}
+use Rattle.extent_model.specs.Extents.{is_between, holds, disk_in, disk_at, IsCanonical}
 use Rattle.extent_map.specs.Pieces.{shared, overlaps, IsPiece, Appends, AppendsBetween}
-use Rattle.extent_facts.specs.Facts.{disk_at-take_None, disk_at-more_here, disk_at-more_away}
+use Rattle.extent_model.specs.Facts.{disk_at-take_None, disk_at-more_here, disk_at-more_away}
 
 -- nothing is taken yet
 pub between_none : (from to : ℕ) (old : List Extent) → IsCanonical old → ((b : ℕ) → from ≤ b → disk_at old b ≡ None) → AppendsBetween from to [] old old

@@ -3,10 +3,10 @@ use Rattle.std.proofs.Common.{◌≡◌, ℕ, ◌+◌, ◌-◌, ◌<◌, ◌≤�
 use Rattle.std.proofs.lemmas.Bool.{cases_lt, cases_eq}
 use Rattle.std.proofs.lemmas.Bool.Decides.{nat_tests}
 use Rattle.std.proofs.lemmas.List.{get_or_default}
-use Rattle.extent_words.specs.declared.Extent.{Extent}
-use Rattle.extent_words.specs.Extents.{holds, disk_in, disk_at, IsExtent, ComesAfter, IsCanonical}
+use Rattle.extent_model.specs.declared.extent_words.Extent.{Extent}
+use Rattle.extent_model.specs.Extents.{holds, disk_in, disk_at, IsExtent, ComesAfter, IsCanonical}
 use Rattle.extent_map.specs.Pieces.{IsBegun}
-use Rattle.extent_facts.specs.Facts.{disk_at-None, disk_at-IsSome, disk_at_is}
+use Rattle.extent_model.specs.Facts.{disk_at-None, disk_at-IsSome, disk_at_is}
 
 module _ (es : List Extent) (b n : ℕ) (c : IsCanonical es) (h : IsBegun es b n) where
   -- where none has begun, none has the block

@@ -5,11 +5,11 @@ use Rattle.std.proofs.lemmas.Bool.{cases_lt, cases_Bool, false≢true}
 use Rattle.std.proofs.lemmas.Bool.Decides.{nat_tests}
 use Rattle.std.proofs.lemmas.List.{take_more, take_more_set, length_push, take_all}
 use Rattle.std.proofs.lemmas.List.Sums.{sum_by_push, sum_by-set}
-use Rattle.extent_words.specs.declared.Extent.{Extent}
-use Rattle.extent_words.specs.Extents.{holds, disk_in, disk_at, IsExtent, Continues, IsCanonical}
-use Rattle.extent_words.specs.Maps.{Replaces}
+use Rattle.extent_model.specs.declared.extent_words.Extent.{Extent}
+use Rattle.extent_model.specs.Extents.{holds, disk_in, disk_at, IsExtent, Continues, IsCanonical}
+use Rattle.extent_model.specs.Maps.{Replaces}
 use Rattle.extent_map.specs.Pieces.{Appends}
-use Rattle.extent_facts.specs.Facts.{disk_at-append, disk_at-push_here, disk_at-push_away, disk_at-IsSome, IsCanonical-front, IsCanonical-last, IsCanonical-push}
+use Rattle.extent_model.specs.Facts.{disk_at-append, disk_at-push_here, disk_at-push_away, disk_at-IsSome, IsCanonical-front, IsCanonical-last, IsCanonical-push}
 
 -- a map in the one spelling whose blocks are all below `limit` ends there
 ends_by : (es : List Extent) (limit : ℕ) → IsCanonical es → ((b : ℕ) → limit ≤ b → disk_at es b ≡ None) → (k : ℕ) (d : Extent) → k < length es → (get_or es k d).file + (get_or es k d).count ≤ limit

@@ -5,11 +5,11 @@ use Rattle.std.proofs.lemmas.Bool.{cases_Bool, ltb-true, le-ltb}
 use Rattle.std.proofs.lemmas.Bool.Decides.{nat_tests}
 use Rattle.std.proofs.lemmas.List.{take_more, length-take-le, get_or-take, get_or_default}
 use Rattle.std.proofs.lemmas.List.Sums.{sum_by-cons, count_by-le-length}
-use Rattle.extent_words.specs.declared.Extent.{Extent}
-use Rattle.extent_words.specs.Extents.{is_between, holds, block_count, IsExtent, ComesAfter, IsCanonical}
-use Rattle.extent_words.specs.Maps.{IsPart, Replaces}
+use Rattle.extent_model.specs.declared.extent_words.Extent.{Extent}
+use Rattle.extent_model.specs.Extents.{is_between, holds, block_count, IsExtent, ComesAfter, IsCanonical}
+use Rattle.extent_model.specs.Maps.{IsPart, Replaces}
 use Rattle.extent_map.specs.Pieces.{shared, overlaps, Appends, AppendsBetween}
-use Rattle.extent_facts.specs.Facts.{disk_at-past, IsCanonical-tail, IsCanonical-push}
+use Rattle.extent_model.specs.Facts.{disk_at-past, IsCanonical-tail, IsCanonical-push}
 
 -- a front of the one spelling with the next extent, which comes after the one before it
 pub canonical_more : (es : List Extent) (i : ℕ) (d : Extent) → i < length es → IsCanonical (take i es) → IsExtent (get_or es i d) → (0 < i → ComesAfter (get_or es (i - 1) d) (get_or es i d)) → IsCanonical (take (i + 1) es)

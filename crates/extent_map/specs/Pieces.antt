@@ -1,8 +1,8 @@
 -- Parts of extents, and lists that grow by them.
 use Rattle.std.specs.Prelude.{◌≡◌, ℕ, ◌+◌, ◌-◌, ◌<◌, ◌≤◌, Bool, nat_lt, if◌then◌else◌, List, length, slice_index_or, sum_by, count_by, min, max}
-use Rattle.extent_words.specs.declared.Extent.{Extent}
-use Rattle.extent_words.specs.Extents.{is_between, disk_at, block_count, IsExtent, IsCanonical}
-use Rattle.extent_words.specs.Maps.{Replaces}
+use Rattle.extent_model.specs.declared.extent_words.Extent.{Extent}
+use Rattle.extent_model.specs.Extents.{is_between, disk_at, block_count, IsExtent, IsCanonical}
+use Rattle.extent_model.specs.Maps.{Replaces}
 
 -- where the part of an extent between two file blocks begins and ends, how many blocks it has, and whether it has any
 abbrev pub start_from : ℕ → Extent → ℕ

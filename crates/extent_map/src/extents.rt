@@ -1,9 +1,9 @@
 //! Extents, and when two of them could be one.
 ghost use Rattle.std.specs.Prelude.{◌≡◌, ℕ, ◌+◌, ◌-◌, ◌<◌, ◌≤◌, ◌^◌, ◌↔◌, IsTrue, IfSome, IfNone, min, max};
-ghost use Rattle.extent_words.specs.Extents.{IsExtent, Continues, ComesAfter};
+ghost use Rattle.extent_model.specs.Extents.{IsExtent, Continues, ComesAfter};
 ghost use Rattle.extent_map.specs.Pieces.{IsPiece};
 
-use extent_words::{Extent, FILE_BLOCKS};
+use extent_model::{Extent, FILE_BLOCKS};
 
 /// Whether the extent has a block, its file blocks are below `FILE_BLOCKS`, and its end on the disk
 /// fits 32 bits.

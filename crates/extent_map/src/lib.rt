@@ -10,17 +10,19 @@
 //! what it has afterwards and what was displaced, how many extents and blocks there are then, and
 //! from where its disk blocks come; where memory is short, the map is as before.
 //!
-//! File blocks are below 4,096, disk blocks and their ends below 2^32. It stands on `extent_words`
-//! (the words) and `extent_facts` (the laws).
+//! File blocks are below 4,096, disk blocks and their ends below 2^32. It stands on `extent_model`.
+//!
+//! `from_extents` answers None exactly where the list is no map's spelling, without memory. A run of no
+//! blocks changes nothing.
 #![tactic(auto)]
 
-ghost use Rattle.extent_facts.specs.Spelling.{HasOneSpelling};
+ghost use Rattle.extent_model.specs.Spelling.{HasOneSpelling};
 
 mod extents;
 mod map;
 mod pieces;
 
-pub use extent_words::{Extent, FILE_BLOCKS};
+pub use extent_model::{Extent, FILE_BLOCKS};
 pub use map::ExtentMap;
 
 /// Two maps that give every file block the same disk block have the same extents.

@@ -1,11 +1,11 @@
 //! The map itself.
 ghost use Rattle.std.specs.Prelude.{◌≡◌, ℕ, ◌+◌, ◌-◌, ◌<◌, ◌≤◌, ◌^◌, ◌⊎◌, [], not, length, nat_le, nat_lt, IsTrue, IsSome, IfOk, OnOk, OnErr};
 ghost use Rattle.std.specs.Option.{SomeIff};
-ghost use Rattle.extent_words.specs.Extents.{is_within, holds, holds_disk, disk_at, covers, block_count, IsCanonical};
-ghost use Rattle.extent_words.specs.Maps.{IsPart, Replaces};
+ghost use Rattle.extent_model.specs.Extents.{is_within, holds, holds_disk, disk_at, covers, block_count, IsCanonical};
+ghost use Rattle.extent_model.specs.Maps.{IsPart, Replaces};
 
 use crate::pieces::{between, disk_block, file_end, is_canonical, outside, with_run};
-use extent_words::{Extent, FILE_BLOCKS};
+use extent_model::{Extent, FILE_BLOCKS};
 use std::alloc::{AllocError, Global};
 use std::marker::Model;
 
@@ -18,8 +18,8 @@ pub struct ExtentMap {
 
 impl Model for ExtentMap {
     ghost use Rattle.std.specs.Prelude.{List};
-    ghost use Rattle.extent_words.specs.declared.Extent.{Extent};
-    ghost use Rattle.extent_words.specs.Extents.{IsCanonical};
+    ghost use Rattle.extent_model.specs.declared.extent_words.Extent.{Extent};
+    ghost use Rattle.extent_model.specs.Extents.{IsCanonical};
 
     ghost Value = { List Extent };
 

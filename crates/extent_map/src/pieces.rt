@@ -1,11 +1,11 @@
 //! Lists of extents in the one spelling, as they grow at their end.
 ghost use Rattle.std.specs.Prelude.{◌≡◌, ℕ, ◌+◌, ◌-◌, ◌<◌, ◌≤◌, ◌^◌, ◌↔◌, [], not, length, sum_by, IsTrue, IsSome, IfOk, OnOk};
-ghost use Rattle.extent_words.specs.Extents.{is_between, disk_at, block_count, IsExtent, IsCanonical};
-ghost use Rattle.extent_words.specs.Maps.{IsPart, Replaces};
+ghost use Rattle.extent_model.specs.Extents.{is_between, disk_at, block_count, IsExtent, IsCanonical};
+ghost use Rattle.extent_model.specs.Maps.{IsPart, Replaces};
 ghost use Rattle.extent_map.specs.Pieces.{shared, IsBegun, Appends, AppendsBetween};
 
 use crate::extents::{comes_after, is_continued, is_extent, piece_between};
-use extent_words::{Extent, FILE_BLOCKS};
+use extent_model::{Extent, FILE_BLOCKS};
 use std::alloc::{AllocError, Global};
 
 /// Whether the extents are the one spelling of a map.

@@ -1,3 +1,3 @@
 pub mod Runs
 pub mod Laws
-pub use Rattle.extent_words.specs as extent_words
+pub use Rattle.extent_model.specs as extent_model

@@ -1,7 +1,7 @@
 -- Runs of staged blocks, and which of them has a file block.
 use Rattle.std.specs.Prelude.{ℕ, ◌+◌, ◌-◌, ◌<◌, ◌^◌, Bool, List, reverse, find, Option}
 use Rattle.std.specs.Option.{option_map}
-use Rattle.extent_words.specs.Extents.{is_within}
+use Rattle.extent_model.specs.Extents.{is_within}
 use Rattle.file_overlay.specs.declared.runs.Run.{Run}
 
 -- what contracts see of an overlay: the runs in the order in which they were laid, and how much room is spare

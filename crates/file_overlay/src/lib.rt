@@ -10,7 +10,7 @@
 //! the one of greatest order that has the block (`LastIsGreatest`); `lay` takes no memory after
 //! `reserve`.
 //!
-//! File blocks, staging blocks and their ends are below 2^32. It stands on `extent_words` (which
+//! File blocks, staging blocks and their ends are below 2^32. It stands on `extent_model` (which
 //! blocks a run has).
 #![tactic(auto)]
 

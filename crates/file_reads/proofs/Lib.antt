@@ -1,4 +1,3 @@
 pub mod Places
-pub use Rattle.k_split.proofs.k_content_proofs as k_content_proofs
-pub use Rattle.k_split.proofs.k_plans_proofs as k_plans_proofs
 pub use Rattle.k_split.proofs.k_tables_proofs as k_tables_proofs
+pub use Rattle.k_split.proofs.k_plans_proofs as k_plans_proofs

@@ -9,12 +9,12 @@ use Rattle.std.proofs.lemmas.List.Elements.{All-get_or}
 use Rattle.std.proofs.lemmas.List.Folds.{length-flat_map-take}
 use Rattle.std.proofs.lemmas.List.FromFn.{get_or-map-range_with_len, length-map-range_with_len}
 use Rattle.std.proofs.lemmas.Simd.{map-map}
-use Rattle.k_split.specs.pm_words.declared.Cell.{Cell}
-use Rattle.k_split.specs.pm_words.Words.{byte_of, Words}
-use Rattle.data_route.specs.extent_words.declared.Extent.{Extent}
-use Rattle.data_route.specs.extent_words.Extents.{disk_at}
-use Rattle.k_split.specs.disk_rules.Content.{byte_in}
-use Rattle.k_split.specs.disk_rules.Volume.{extents, Volume}
+use Rattle.k_split.specs.pm_model.declared.Cell.{Cell}
+use Rattle.k_split.specs.pm_model.Words.{byte_of, Words}
+use Rattle.data_route.specs.extent_model.declared.extent_words.Extent.{Extent}
+use Rattle.data_route.specs.extent_model.Extents.{disk_at}
+use Rattle.k_split.specs.image_model.Content.{byte_in}
+use Rattle.k_split.specs.image_model.Volume.{extents, Volume}
 use Rattle.file_overlay.specs.declared.runs.Run.{Run}
 use Rattle.data_route.specs.declared.reads.Piece.{Piece}
 use Rattle.data_route.specs.declared.reads.Source.{Source}

@@ -1,7 +1,7 @@
 -- The bytes of a file that has nothing staged.
 use Rattle.std.specs.Prelude.{◌≡◌, ℕ, []}
-use Rattle.data_route.specs.extent_words.Extents.{disk_at}
-use Rattle.k_split.specs.disk_rules.Volume.{extents, Volume}
+use Rattle.data_route.specs.extent_model.Extents.{disk_at}
+use Rattle.k_split.specs.image_model.Volume.{extents, Volume}
 use Rattle.file_reads.specs.Reads.{block_in}
 
 -- Where nothing is staged, the map alone says which block a file block has.

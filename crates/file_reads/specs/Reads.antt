@@ -1,12 +1,12 @@
 -- The bytes of a file with staged runs, and which blocks a read looks at.
 use Rattle.std.specs.Prelude.{◌≡◌, ℕ, ◌/◌, ◌<◌, List, length, map, Option, Some, None}
 use Rattle.std.specs.List.{range_with_len}
-use Rattle.k_split.specs.pm_words.declared.Cell.{Cell}
-use Rattle.k_split.specs.pm_words.Words.{Words}
-use Rattle.data_route.specs.extent_words.Extents.{disk_at}
-use Rattle.k_split.specs.disk_rules.Content.{byte_in}
-use Rattle.k_split.specs.disk_rules.Placed.{BlockIsHome}
-use Rattle.k_split.specs.disk_rules.Volume.{extents, Volume}
+use Rattle.k_split.specs.pm_model.declared.Cell.{Cell}
+use Rattle.k_split.specs.pm_model.Words.{Words}
+use Rattle.data_route.specs.extent_model.Extents.{disk_at}
+use Rattle.k_split.specs.image_model.Content.{byte_in}
+use Rattle.k_split.specs.image_model.Placed.{BlockIsHome}
+use Rattle.k_split.specs.image_model.Volume.{extents, Volume}
 use Rattle.file_overlay.specs.declared.runs.Run.{Run}
 use Rattle.data_route.specs.declared.reads.Piece.{Piece}
 use Rattle.data_route.specs.declared.reads.Source.{Source}

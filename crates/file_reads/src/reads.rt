@@ -1,9 +1,9 @@
 //! A read, piece by piece.
 ghost use Rattle.std.specs.Prelude.{◌≡◌, ◌+◌, ◌<◌, ◌≤◌, ◌++◌, ℕ, length, replicate, slice_index, slice_range, IfOk, OnOk};
 ghost use Rattle.std.specs.Option.{ForSome};
-ghost use Rattle.k_split.specs.disk_rules.Content.{byte_in};
-ghost use Rattle.k_split.specs.disk_rules.Volume.{extents};
-ghost use Rattle.k_split.specs.pm_words.Images.{words_of};
+ghost use Rattle.k_split.specs.image_model.Content.{byte_in};
+ghost use Rattle.k_split.specs.image_model.Volume.{extents};
+ghost use Rattle.k_split.specs.pm_model.Images.{words_of};
 ghost use Rattle.data_route.specs.Reads.{read_len, FitsBlock};
 ghost use Rattle.data_route.specs.map_collection.Kept.{Agrees, KeepsOthers};
 ghost use Rattle.file_reads.specs.Reads.{block_of, bytes_in, bytes_of_piece, FileCanBeRead, IsReadable, SourceCanBeRead};
@@ -61,7 +61,7 @@ fn push_piece(bytes: &mut Vec<u8>, k: &KSplit, piece: Piece) -> Result<(), Alloc
 
 /// The bytes of a file from `offset` on, `len` of them or those up to its end, where the file has
 /// `size` bytes, at most 16,777,216, and `overlay` has its staged runs. What is kept of the inode
-/// agrees with its map, afterwards too. Nothing but want of memory stops it.
+/// agrees with its map, afterwards too. Nothing but out of memory stops it.
 pub fn read_bytes(
     alloc: Global,
     k: &KSplit,

@@ -3,7 +3,7 @@ use Rattle.std.specs.Prelude.{◌≡◌, ◌≤◌, ◌<◌, ◌+◌, ◌*◌, �
 use Rattle.std.proofs.Common.{arith, ap}
 use Rattle.std.proofs.lemmas.List.Sums.{sum_by-cons}
 use Rattle.block_counts.specs.Counts.{held_by}
-use Rattle.disk_lines.specs.Lines.{most_bytes}
+use Rattle.layout_model.specs.Lines.{most_bytes}
 use Rattle.file_overlay.specs.Runs.{Overlaid}
 use Rattle.file_table.specs.Files.{nothing_laid}
 

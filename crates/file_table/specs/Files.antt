@@ -1,7 +1,7 @@
 -- What contracts see of a file table.
 use Rattle.std.specs.Prelude.{◌≡◌, ◌≢◌, ◌≤◌, ◌^◌, ℕ, All, List, [], length, slice_index, slice_index_or, slice_set, sum_by}
 use Rattle.block_counts.specs.Counts.{held_by}
-use Rattle.disk_lines.specs.Lines.{most_bytes}
+use Rattle.layout_model.specs.Lines.{most_bytes}
 use Rattle.file_overlay.specs.declared.runs.Run.{Run}
 use Rattle.file_overlay.specs.Runs.{Overlaid}
 

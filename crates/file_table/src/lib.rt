@@ -7,6 +7,8 @@
 //! The layer above may rely on this: `held` is the sum over all sizes; a call that changes a file changes
 //! its line alone (`ChangesFile`); `lay` takes no memory after `reserve`.
 //!
+//! Room for runs stays when a file is published or cut, so that a job that is out can lay its run.
+//!
 //! Stands on `file_overlay` and `block_counts`.
 #![tactic(auto)]
 

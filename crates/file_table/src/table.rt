@@ -1,7 +1,7 @@
 //! The table of what is kept of files.
 ghost use Rattle.std.specs.Prelude.{◌≡◌, ◌≢◌, ◌≤◌, ◌<◌, ◌+◌, ◌^◌, ℕ, [], ◌∷◌, ◌++◌, length, sum_by, IfOk, OnOk};
 ghost use Rattle.block_counts.specs.Counts.{held_by};
-ghost use Rattle.disk_lines.specs.Lines.{most_bytes};
+ghost use Rattle.layout_model.specs.Lines.{most_bytes};
 ghost use Rattle.file_table.specs.Files.{runs_in, size_in, spare_in, AreEmpty, ChangesFile};
 
 use block_counts::held_by;

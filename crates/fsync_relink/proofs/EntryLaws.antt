@@ -1,25 +1,25 @@
 -- Once a file is published of which the log holds the runs, just the entries of others are live.
 use Rattle.std.proofs.Common.{◌≡◌, ◌≢◌, ◌<◌, ◌/◌, ◌↔◌, ℕ, List, [], ◌∷◌, Ok, refl, sym, ◌∙◌, ap, subst, inl, inr}
-use Rattle.world_relinks.specs.pm_words.ImageLaws.{Follows-then}
-use Rattle.world_relinks.specs.pm_words.Images.{Follows, Follows-same, Follows-weaken, Then}
-use Rattle.world_relinks.specs.pm_words.Words.{Words}
-use Rattle.world_relinks.specs.disk_lines.declared.Draft.{Draft}
-use Rattle.world_relinks.specs.disk_lines.declared.Kind.TheVariants.{File}
-use Rattle.world_relinks.specs.disk_places.Journal.{journaled}
-use Rattle.world_relinks.specs.disk_places.Places.{log_line}
-use Rattle.world_relinks.specs.disk_rules.Content.{content, disk_of, size_of}
-use Rattle.world_relinks.specs.disk_rules.Live.{live_entries}
-use Rattle.world_relinks.specs.disk_rules.Volume.{inode, Volume}
+use Rattle.relink_laws.specs.pm_model.ImageLaws.{Follows-then}
+use Rattle.relink_laws.specs.pm_model.Images.{Follows, Follows-same, Follows-weaken, Then}
+use Rattle.relink_laws.specs.pm_model.Words.{Words}
+use Rattle.relink_laws.specs.layout_model.declared.lines.Draft.{Draft}
+use Rattle.relink_laws.specs.layout_model.declared.lines.Kind.TheVariants.{File}
+use Rattle.relink_laws.specs.layout_model.Journal.{journaled}
+use Rattle.relink_laws.specs.layout_model.Places.{log_line}
+use Rattle.relink_laws.specs.image_model.Content.{content, disk_of, size_of}
+use Rattle.relink_laws.specs.image_model.Live.{live_entries}
+use Rattle.relink_laws.specs.image_model.Volume.{inode, Volume}
 use Rattle.file_overlay.specs.declared.runs.Run.{Run}
-use Rattle.world_relinks.specs.k_rules.Stands.{IsOldOrNew}
-use Rattle.world_relinks.specs.k_rules.View.{View}
-use Rattle.world_relinks.specs.k_split.MapChanges.{IsRelinkAnswer}
-use Rattle.world_relinks.specs.list_facts.Members.{In}
-use Rattle.world_relinks.specs.live_facts.Logs.{AreSound, CarriesOut, HasSameFiles}
-use Rattle.world_relinks.specs.map_rules.declared.moves.Move.{Move}
-use Rattle.world_relinks.specs.volume_facts.Footprint.{SameLog}
-use Rattle.world_relinks.specs.volume_facts.FootprintLaws.{live_entries-same}
-use Rattle.world_relinks.specs.Images.{IsCarried}
+use Rattle.relink_laws.specs.k_split_model.Stands.{IsOldOrNew}
+use Rattle.relink_laws.specs.k_split_model.View.{View}
+use Rattle.relink_laws.specs.k_split.MapChanges.{IsRelinkAnswer}
+use Rattle.relink_laws.specs.list_laws.Members.{In}
+use Rattle.relink_laws.specs.log_laws.Logs.{AreSound, CarriesOut, HasSameFiles}
+use Rattle.relink_laws.specs.k_split_model.declared.map_changes.moves.Move.{Move}
+use Rattle.relink_laws.specs.volume_laws.Footprint.{SameLog}
+use Rattle.relink_laws.specs.volume_laws.FootprintLaws.{live_entries-same}
+use Rattle.relink_laws.specs.Images.{IsCarried}
 use Rattle.fsync_relink.specs.Logged.{IsLogged, run_of}
 use Rattle.fsync_relink.specs.Others.{CarriesAllOut, GoesOn, HasPublishedLog, IsPublishedIn, KeepsRest, LeavesEntries}
 use Rattle.fsync_relink.specs.Publishes.{AreRelinked, IsResized, MayPublish, move_of, size_before}

@@ -5,5 +5,5 @@ pub mod LoggedLaws
 pub mod SizedLaws
 pub mod OtherLaws
 pub mod EntryLaws
-pub use Rattle.world_relinks.proofs as world_relinks_proofs
-pub use Rattle.world_relinks.proofs.live_facts_proofs as live_facts_proofs
+pub use Rattle.relink_laws.proofs as relink_laws_proofs
+pub use Rattle.relink_laws.proofs.log_laws_proofs as log_laws_proofs

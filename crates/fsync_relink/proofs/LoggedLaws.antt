@@ -4,39 +4,39 @@ use Rattle.std.specs.Prelude.{All, AllPairs, filter}
 use Rattle.std.specs.Option.{option_map}
 use Rattle.std.proofs.lemmas.Bool.{and_parts, both_ways, eq-eqb}
 use Rattle.std.proofs.lemmas.Bool.Decides.{Decides-eqb}
-use Rattle.world_relinks.specs.pm_words.ImageLaws.{Follows-then}
-use Rattle.world_relinks.specs.pm_words.Images.{Follows, Follows-same, Follows-weaken, Then}
-use Rattle.world_relinks.specs.pm_words.Words.{Words}
-use Rattle.world_relinks.specs.disk_lines.declared.Draft.{Draft}
-use Rattle.world_relinks.specs.disk_lines.declared.Inode.{Inode}
-use Rattle.world_relinks.specs.disk_places.Journal.{journaled}
-use Rattle.world_relinks.specs.disk_rules.Content.{content, disk_by, entry_of_block, size_by, size_of}
-use Rattle.world_relinks.specs.disk_rules.Live.{latest, live_entries}
-use Rattle.world_relinks.specs.disk_rules.Volume.{inode, Volume}
-use Rattle.file_overlay.specs.extent_words.Extents.{is_within}
+use Rattle.relink_laws.specs.pm_model.ImageLaws.{Follows-then}
+use Rattle.relink_laws.specs.pm_model.Images.{Follows, Follows-same, Follows-weaken, Then}
+use Rattle.relink_laws.specs.pm_model.Words.{Words}
+use Rattle.relink_laws.specs.layout_model.declared.lines.Draft.{Draft}
+use Rattle.relink_laws.specs.layout_model.declared.lines.Inode.{Inode}
+use Rattle.relink_laws.specs.layout_model.Journal.{journaled}
+use Rattle.relink_laws.specs.image_model.Content.{content, disk_by, entry_of_block, size_by, size_of}
+use Rattle.relink_laws.specs.image_model.Live.{latest, live_entries}
+use Rattle.relink_laws.specs.image_model.Volume.{inode, Volume}
+use Rattle.file_overlay.specs.extent_model.Extents.{is_within}
 use Rattle.file_overlay.specs.declared.runs.Run.{Run}
 use Rattle.file_overlay.specs.Laws.{IsEarlier, LastIsGreatest, NoneHasBlock}
 use Rattle.file_overlay.specs.Runs.{has_block, last_run, place_in}
-use Rattle.world_relinks.specs.k_map_plans.Plans.{MayMove}
-use Rattle.world_relinks.specs.k_plans.Whole.{IsWhole}
+use Rattle.relink_laws.specs.k_map_plans.Plans.{MayMove}
+use Rattle.relink_laws.specs.k_plans.Whole.{IsWhole}
 use Rattle.std.specs.declared.alloc.AllocError.{AllocError}
-use Rattle.world_relinks.specs.k_journal.declared.outcomes.Commit.{Commit}
-use Rattle.world_relinks.specs.k_rules.Stands.{IsOldOrNew}
-use Rattle.world_relinks.specs.k_rules.View.{View}
-use Rattle.world_relinks.specs.k_split.MapChanges.{ChangesMaps, is_free_in, IsMovedWith, IsRelinkAnswer}
-use Rattle.world_relinks.specs.k_split.Order.{IsInOrder}
-use Rattle.world_relinks.specs.k_split.declared.faults.KFault.{KFault}
-use Rattle.world_relinks.specs.list_facts.Filters.{filter-In, In-filter}
-use Rattle.world_relinks.specs.list_facts.Members.{In}
-use Rattle.world_relinks.specs.map_facts.Moves.{move_for}
-use Rattle.world_relinks.specs.map_rules.declared.moves.Move.{Move}
-use Rattle.world_relinks.specs.volume_facts.FootprintLaws.{live_entries-same}
-use Rattle.world_relinks.specs.volume_facts.Footprint.{SameLog}
-use Rattle.world_relinks.specs.world_promise.Latest.{latest-In, latest-most, latest-none}
-use Rattle.world_relinks.proofs.RelinkLaws.{geometry-same, line-file}
-use Rattle.world_relinks.proofs.WorldLaws.{keeps-content}
-use Rattle.world_relinks.specs.live_facts.Logs.{CarriesOut, IsNext}
-use Rattle.world_relinks.specs.Images.{IsCarried}
+use Rattle.relink_laws.specs.k_journal.declared.outcomes.Commit.{Commit}
+use Rattle.relink_laws.specs.k_split_model.Stands.{IsOldOrNew}
+use Rattle.relink_laws.specs.k_split_model.View.{View}
+use Rattle.relink_laws.specs.k_split.MapChanges.{ChangesMaps, is_free_in, IsMovedWith, IsRelinkAnswer}
+use Rattle.relink_laws.specs.k_split.Order.{IsInOrder}
+use Rattle.relink_laws.specs.k_split.declared.faults.KFault.{KFault}
+use Rattle.relink_laws.specs.list_laws.Filters.{filter-In, In-filter}
+use Rattle.relink_laws.specs.list_laws.Members.{In}
+use Rattle.relink_laws.specs.Moves.{move_for}
+use Rattle.relink_laws.specs.k_split_model.declared.map_changes.moves.Move.{Move}
+use Rattle.relink_laws.specs.volume_laws.FootprintLaws.{live_entries-same}
+use Rattle.relink_laws.specs.volume_laws.Footprint.{SameLog}
+use Rattle.relink_laws.specs.world_model.Latest.{latest-In, latest-most, latest-none}
+use Rattle.relink_laws.proofs.RelinkLaws.{geometry-same, line-file}
+use Rattle.relink_laws.proofs.WorldLaws.{keeps-content}
+use Rattle.relink_laws.specs.log_laws.Logs.{CarriesOut, IsNext}
+use Rattle.relink_laws.specs.Images.{IsCarried}
 use Rattle.fsync_relink.specs.Logged.{HasSameContent, IsLogged, run_of, ShowsLogged}
 use Rattle.fsync_relink.specs.Publishes.{AreRelinked, IsCarriedOut, IsPublishDone, IsPublishStopped, IsRelinkedUpTo, IsResized, MayPublish, move_of, published_at, size_before}
 use Rattle.fsync_relink.proofs.NextLaws.{may-move, next-may}
@@ -206,7 +206,7 @@ done-images ino size (run ∷ runs) k l order unbatched may (m, gave, rest) =
     then-images ino size run runs k m m.volume gave.0 order unbatched may gave.2.order.whole gave.1 gave.2.changes l
     (done-images ino size runs m l gave.2.order (gave.2.batched ∙ unbatched) (next-may ino size run runs k m order unbatched may gave) rest)
 
--- a relink that was cut off, or not made for want of memory
+-- a relink that was cut off, or not made where memory runs out
 stopped-first : (ino size : ℕ) (run : Run) (runs : List Run) (k l : View) (fault : KFault) → IsInOrder k → k.batched ≡ false → MayPublish ino size (run ∷ runs) k
     → IsRelinkAnswer (move_of ino (size_before runs size (inode k.volume ino).size) run) k l (Err fault) → Follows (HasSameContent ino size (run ∷ runs) k.volume) k.cells l.cells
 stopped-first ino size run runs k l (KFault.Refused errno) order unbatched may answer = absurd answer

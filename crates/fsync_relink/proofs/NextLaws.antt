@@ -4,26 +4,26 @@ use Rattle.std.specs.Prelude.{IsSome, if◌then◌else◌}
 use Rattle.std.proofs.lemmas.Bool.{both_ways, cases_Bool, cases_eq, eq-eqb}
 use Rattle.std.proofs.lemmas.Bool.Decides.{nat_tests}
 use Rattle.std.proofs.lemmas.Option.{same_Some}
-use Rattle.world_relinks.specs.disk_lines.Lines.{is_inode, is_inode_of_kind, most_bytes}
-use Rattle.world_relinks.specs.disk_lines.declared.Inode.{Inode}
-use Rattle.world_relinks.specs.disk_lines.declared.Kind.{Kind}
-use Rattle.world_relinks.specs.disk_lines.declared.Kind.TheVariants.{File, Staging}
-use Rattle.world_relinks.specs.disk_places.Places.{reserve}
-use Rattle.world_relinks.specs.disk_rules.Volume.{extents, inode, Volume}
-use Rattle.file_overlay.specs.extent_words.Extents.{disk_at, is_within}
+use Rattle.relink_laws.specs.layout_model.Lines.{is_inode, is_inode_of_kind, most_bytes}
+use Rattle.relink_laws.specs.layout_model.declared.lines.Inode.{Inode}
+use Rattle.relink_laws.specs.layout_model.declared.lines.Kind.{Kind}
+use Rattle.relink_laws.specs.layout_model.declared.lines.Kind.TheVariants.{File, Staging}
+use Rattle.relink_laws.specs.layout_model.Places.{reserve}
+use Rattle.relink_laws.specs.image_model.Volume.{extents, inode, Volume}
+use Rattle.file_overlay.specs.extent_model.Extents.{disk_at, is_within}
 use Rattle.file_overlay.specs.declared.runs.Run.{Run}
-use Rattle.world_relinks.specs.k_map_plans.Plans.{IsLiveFile, IsStagingFile, MayMove}
-use Rattle.world_relinks.specs.k_plans.View.{node_at}
-use Rattle.world_relinks.specs.k_plans.Whole.{IsWhole}
-use Rattle.world_relinks.specs.k_rules.Spaces.{is_free}
-use Rattle.world_relinks.specs.k_rules.View.{View}
-use Rattle.world_relinks.specs.k_split.MapChanges.{is_free_in, IsMovedSingle, IsRelinkAnswer}
-use Rattle.world_relinks.specs.k_split.Order.{IsInOrder}
-use Rattle.world_relinks.specs.map_rules.declared.moves.Move.{Move}
-use Rattle.world_relinks.proofs.k_plans_proofs.FreeCounts.{unwaiting-counted}
+use Rattle.relink_laws.specs.k_map_plans.Plans.{IsLiveFile, IsStagingFile, MayMove}
+use Rattle.relink_laws.specs.k_plans.View.{node_at}
+use Rattle.relink_laws.specs.k_plans.Whole.{IsWhole}
+use Rattle.relink_laws.specs.k_split_model.Spaces.{is_free}
+use Rattle.relink_laws.specs.k_split_model.View.{View}
+use Rattle.relink_laws.specs.k_split.MapChanges.{is_free_in, IsMovedSingle, IsRelinkAnswer}
+use Rattle.relink_laws.specs.k_split.Order.{IsInOrder}
+use Rattle.relink_laws.specs.k_split_model.declared.map_changes.moves.Move.{Move}
+use Rattle.relink_laws.proofs.k_plans_proofs.FreeCounts.{unwaiting-counted}
 use Rattle.fsync_relink.specs.Publishes.{has_staged, IsStagedRun, MayPublish, move_of, ShareNone, size_before}
-use Rattle.world_relinks.proofs.RelinkLaws.{count-same, geometry-same, kind-same, line-file, map-left, map-other}
-use Rattle.world_relinks.proofs.WorldLaws.{relink-takes_one}
+use Rattle.relink_laws.proofs.RelinkLaws.{count-same, geometry-same, kind-same, line-file, map-left, map-other}
+use Rattle.relink_laws.proofs.WorldLaws.{relink-takes_one}
 
 -- ---- what a relink asks for
 

@@ -3,23 +3,23 @@ use Rattle.std.proofs.Common.{◌≡◌, ◌≢◌, ◌≤◌, ◌+◌, ℕ, zer
 use Rattle.std.specs.Prelude.{All, IsSome}
 use Rattle.std.proofs.lemmas.Bool.{cases_Bool}
 use Rattle.std.proofs.lemmas.List.Elements.{All-head, All-tail}
-use Rattle.world_relinks.specs.disk_lines.declared.Inode.{Inode}
-use Rattle.world_relinks.specs.disk_places.Places.{reserve}
-use Rattle.world_relinks.specs.disk_rules.Volume.{extents, inode}
-use Rattle.file_overlay.specs.extent_words.Extents.{disk_at}
+use Rattle.relink_laws.specs.layout_model.declared.lines.Inode.{Inode}
+use Rattle.relink_laws.specs.layout_model.Places.{reserve}
+use Rattle.relink_laws.specs.image_model.Volume.{extents, inode}
+use Rattle.file_overlay.specs.extent_model.Extents.{disk_at}
 use Rattle.file_overlay.specs.declared.runs.Run.{Run}
-use Rattle.world_relinks.specs.k_map_plans.Plans.{IsLiveFile, IsStagingFile, MayMove}
-use Rattle.world_relinks.proofs.k_plans_proofs.FreeCounts.{unwaiting-counted}
-use Rattle.world_relinks.specs.k_rules.View.{View}
-use Rattle.world_relinks.specs.k_split.MapChanges.{free_blocks_in, is_free_in, IsRelinkAnswer, IsSizeAnswer}
-use Rattle.world_relinks.specs.map_rules.declared.moves.Move.{Move}
+use Rattle.relink_laws.specs.k_map_plans.Plans.{IsLiveFile, IsStagingFile, MayMove}
+use Rattle.relink_laws.proofs.k_plans_proofs.FreeCounts.{unwaiting-counted}
+use Rattle.relink_laws.specs.k_split_model.View.{View}
+use Rattle.relink_laws.specs.k_split.MapChanges.{free_blocks_in, is_free_in, IsRelinkAnswer, IsSizeAnswer}
+use Rattle.relink_laws.specs.k_split_model.declared.map_changes.moves.Move.{Move}
 use Rattle.fsync_relink.specs.Others.{AllApart, GoesOn, KeepsRest, LeavesOthers, LeavesRoom}
 use Rattle.fsync_relink.specs.Publishes.{AreRelinked, has_staged, IsStagedRun, MayPublish, move_of, ShareNone, size_before}
 use Rattle.fsync_relink.proofs.NextLaws.{may-move, next-may, run-stays, staged-stays}
 use Rattle.fsync_relink.proofs.PublishedLaws.{staged-goes}
 use Rattle.fsync_relink.proofs.SizedLaws.{free-more, keeps-sized, line-beside, map-beside, no-staging}
-use Rattle.world_relinks.proofs.RelinkLaws.{applied-other, base-same, count-same, geometry-same, kind-same}
-use Rattle.world_relinks.proofs.WorldLaws.{relink-takes_one}
+use Rattle.relink_laws.proofs.RelinkLaws.{applied-other, base-same, count-same, geometry-same, kind-same}
+use Rattle.relink_laws.proofs.WorldLaws.{relink-takes_one}
 
 -- ---- one relink
 

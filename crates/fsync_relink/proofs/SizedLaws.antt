@@ -4,30 +4,30 @@ use Rattle.std.specs.Prelude.{is_some, nat_lt}
 use Rattle.std.proofs.lemmas.Bool.{cases_eq, cases_lt}
 use Rattle.std.proofs.lemmas.Bool.Decides.{nat_tests}
 use Rattle.std.proofs.lemmas.List.{length-set}
-use Rattle.world_relinks.specs.block_counts.Counts.{blocks_for}
-use Rattle.world_relinks.specs.disk_lines.declared.Inode.{Inode}
-use Rattle.world_relinks.specs.disk_lines.declared.Kind.TheVariants.{File, Staging}
-use Rattle.world_relinks.specs.disk_rules.Reading.{inode_set}
-use Rattle.world_relinks.specs.disk_rules.Room.{unused_blocks}
-use Rattle.world_relinks.specs.disk_rules.Rules.{file_blocks_of}
-use Rattle.world_relinks.specs.disk_rules.Volume.{chain, extents, inode, Volume}
-use Rattle.world_relinks.specs.extent_facts.Counts.{block_count-mapped, is_mapped, one_if}
-use Rattle.file_overlay.specs.extent_words.declared.Extent.{Extent}
-use Rattle.file_overlay.specs.extent_words.Extents.{block_count, disk_at, IsCanonical}
-use Rattle.file_overlay.specs.extent_words.Maps.{IsPart}
-use Rattle.world_relinks.specs.k_map_plans.Plans.{IsLiveFile, IsStagingFile}
-use Rattle.world_relinks.proofs.k_plans_proofs.FreeCounts.{unwaiting-counted}
-use Rattle.world_relinks.specs.k_plans.Whole.{IsWhole}
-use Rattle.world_relinks.specs.k_rules.View.{View}
-use Rattle.world_relinks.specs.k_split.MapChanges.{free_blocks_in, is_free_in, IsSizeAnswer}
-use Rattle.world_relinks.specs.map_rules.Changes.{IsSized, with_size}
-use Rattle.world_relinks.specs.map_rules.Taken.{with_map}
-use Rattle.world_relinks.specs.volume_facts.Changes.{extents-set_other, inode-set_other, inode-set_same}
-use Rattle.world_relinks.specs.volume_maps.Bounds.{count_below-most}
-use Rattle.world_relinks.specs.volume_maps.Lengths.{begins, disk_before, length-begins, starts}
-use Rattle.world_relinks.specs.volume_uses.PoolLaws.{AreInData, unused-set}
+use Rattle.relink_laws.specs.block_counts.Counts.{blocks_for}
+use Rattle.relink_laws.specs.layout_model.declared.lines.Inode.{Inode}
+use Rattle.relink_laws.specs.layout_model.declared.lines.Kind.TheVariants.{File, Staging}
+use Rattle.relink_laws.specs.image_model.Reading.{inode_set}
+use Rattle.relink_laws.specs.image_model.Room.{unused_blocks}
+use Rattle.relink_laws.specs.image_model.Rules.{file_blocks_of}
+use Rattle.relink_laws.specs.image_model.Volume.{chain, extents, inode, Volume}
+use Rattle.relink_laws.specs.extent_model.Counts.{block_count-mapped, is_mapped, one_if}
+use Rattle.file_overlay.specs.extent_model.declared.extent_words.Extent.{Extent}
+use Rattle.file_overlay.specs.extent_model.Extents.{block_count, disk_at, IsCanonical}
+use Rattle.file_overlay.specs.extent_model.Maps.{IsPart}
+use Rattle.relink_laws.specs.k_map_plans.Plans.{IsLiveFile, IsStagingFile}
+use Rattle.relink_laws.proofs.k_plans_proofs.FreeCounts.{unwaiting-counted}
+use Rattle.relink_laws.specs.k_plans.Whole.{IsWhole}
+use Rattle.relink_laws.specs.k_split_model.View.{View}
+use Rattle.relink_laws.specs.k_split.MapChanges.{free_blocks_in, is_free_in, IsSizeAnswer}
+use Rattle.relink_laws.specs.k_split_model.MapChangesChanges.{IsSized, with_size}
+use Rattle.relink_laws.specs.k_split_model.Taken.{with_map}
+use Rattle.relink_laws.specs.volume_laws.Changes.{extents-set_other, inode-set_other, inode-set_same}
+use Rattle.relink_laws.specs.volume_change_laws.Bounds.{count_below-most}
+use Rattle.relink_laws.specs.volume_change_laws.Lengths.{begins, disk_before, length-begins, starts}
+use Rattle.relink_laws.specs.volume_laws.PoolLaws.{AreInData, unused-set}
 use Rattle.fsync_relink.specs.Others.{GoesOn, KeepsRest}
-use Rattle.world_relinks.proofs.RelinkLaws.{has-chain}
+use Rattle.relink_laws.proofs.RelinkLaws.{has-chain}
 
 -- ---- the front of a map
 

@@ -1,18 +1,18 @@
 -- Runs are relinked one after the other, and what is left of them.
 use Rattle.std.proofs.Common.{◌≡◌, ◌≤◌, ◌<◌, ◌+◌, ◌-◌, ◌*◌, ◌^◌, ℕ, false, List, [], ◌∷◌, length, take, drop, get_or, take_all, length-drop, None, Ok, Err, refl, sym, ◌∙◌, ap, subst, inl, inr, arith, add-one, drop-cons}
 use Rattle.std.proofs.lemmas.List.{drop_all}
-use Rattle.world_relinks.specs.pm_words.PowerLaws.{Steps-none, Steps-then}
-use Rattle.world_relinks.specs.pm_words.Powers.{Steps, Supply}
-use Rattle.world_relinks.specs.disk_rules.Volume.{inode}
+use Rattle.relink_laws.specs.pm_model.PowerLaws.{Steps-none, Steps-then}
+use Rattle.relink_laws.specs.pm_model.Powers.{Steps, Supply}
+use Rattle.relink_laws.specs.image_model.Volume.{inode}
 use Rattle.file_overlay.specs.declared.runs.Run.{Run}
-use Rattle.world_relinks.specs.k_rules.View.{View}
-use Rattle.world_relinks.specs.k_split.Answers.{IsPaid}
-use Rattle.world_relinks.specs.disk_places.Places.{reserve}
-use Rattle.world_relinks.specs.k_map_plans.Plans.{MayMove}
-use Rattle.world_relinks.specs.k_split.MapChanges.{free_blocks_in, IsMovedSingle, IsRelinkAnswer, IsSizeAnswer}
-use Rattle.world_relinks.specs.map_rules.declared.moves.Move.{Move}
-use Rattle.world_relinks.specs.k_split.Order.{IsInOrder}
-use Rattle.world_relinks.specs.k_split.declared.faults.KFault.{KFault}
+use Rattle.relink_laws.specs.k_split_model.View.{View}
+use Rattle.relink_laws.specs.k_split.Answers.{IsPaid}
+use Rattle.relink_laws.specs.layout_model.Places.{reserve}
+use Rattle.relink_laws.specs.k_map_plans.Plans.{MayMove}
+use Rattle.relink_laws.specs.k_split.MapChanges.{free_blocks_in, IsMovedSingle, IsRelinkAnswer, IsSizeAnswer}
+use Rattle.relink_laws.specs.k_split_model.declared.map_changes.moves.Move.{Move}
+use Rattle.relink_laws.specs.k_split.Order.{IsInOrder}
+use Rattle.relink_laws.specs.k_split.declared.faults.KFault.{KFault}
 use Rattle.fsync_relink.specs.Publishes.{AreRelinked, IsPublishPaid, IsRelinkedEach, IsRelinkedUpTo, IsResizedOnce, MayPublish, move_of, size_before, stopped_by}
 use Rattle.fsync_relink.proofs.NextLaws.{may-move, moved-single, next-may}
 

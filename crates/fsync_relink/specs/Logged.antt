@@ -1,17 +1,17 @@
 -- Runs that the log holds, and the content of the images of a publishing.
 use Rattle.std.specs.Prelude.{◌≡◌, ◌↔◌, ℕ, List, AllPairs}
-use Rattle.world_relinks.specs.pm_words.Words.{Words}
-use Rattle.world_relinks.specs.disk_lines.declared.Draft.{Draft}
-use Rattle.world_relinks.specs.disk_places.Journal.{journaled}
-use Rattle.world_relinks.specs.disk_rules.Content.{content, disk_of, size_of}
-use Rattle.world_relinks.specs.disk_rules.Live.{live_entries}
-use Rattle.world_relinks.specs.disk_rules.Volume.{Volume}
+use Rattle.relink_laws.specs.pm_model.Words.{Words}
+use Rattle.relink_laws.specs.layout_model.declared.lines.Draft.{Draft}
+use Rattle.relink_laws.specs.layout_model.Journal.{journaled}
+use Rattle.relink_laws.specs.image_model.Content.{content, disk_of, size_of}
+use Rattle.relink_laws.specs.image_model.Live.{live_entries}
+use Rattle.relink_laws.specs.image_model.Volume.{Volume}
 use Rattle.file_overlay.specs.declared.runs.Run.{Run}
 use Rattle.file_overlay.specs.Laws.{IsEarlier}
 use Rattle.file_overlay.specs.Runs.{staged_at}
-use Rattle.world_relinks.specs.list_facts.Members.{In}
+use Rattle.relink_laws.specs.list_laws.Members.{In}
 use Rattle.fsync_relink.specs.Publishes.{published_at}
-use Rattle.world_relinks.specs.live_facts.Logs.{AreSound}
+use Rattle.relink_laws.specs.log_laws.Logs.{AreSound}
 
 -- the run that a log entry is of
 abbrev pub run_of : Draft → Run

@@ -10,7 +10,7 @@
 //! it was. Whatever happens, each image has the content of the image before, where the log of that one holds the runs
 //! (`HasSameContent`).
 //!
-//! Stands on `k_split`, `file_overlay` and `world_relinks`.
+//! Stands on `k_split`, `file_overlay` and `relink_laws`.
 #![tactic(auto)]
 
 mod laws;

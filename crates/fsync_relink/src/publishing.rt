@@ -1,20 +1,22 @@
 //! Runs are relinked, and a file gets its length.
 ghost use Rattle.std.specs.Prelude.{◌≡◌, ◌≤◌, ◌+◌, ◌*◌, ◌^◌, true, false, length};
-ghost use Rattle.world_relinks.specs.disk_lines.Lines.{most_bytes};
-ghost use Rattle.world_relinks.specs.disk_places.Places.{reserve};
-ghost use Rattle.world_relinks.specs.disk_rules.Volume.{inode};
-ghost use Rattle.world_relinks.specs.k_map_plans.Plans.{IsLiveFile};
-ghost use Rattle.world_relinks.specs.k_split.MapChanges.{free_blocks_in};
-ghost use Rattle.world_relinks.specs.k_split.Order.{IsInOrder};
-ghost use Rattle.world_relinks.specs.pm_words.Images.{Follows};
-ghost use Rattle.world_relinks.specs.pm_words.Powers.{is_on, Steps};
+ghost use Rattle.relink_laws.specs.layout_model.Lines.{most_bytes};
+ghost use Rattle.relink_laws.specs.layout_model.Places.{reserve};
+ghost use Rattle.relink_laws.specs.image_model.Volume.{inode};
+ghost use Rattle.relink_laws.specs.k_map_plans.Plans.{IsLiveFile};
+ghost use Rattle.relink_laws.specs.k_split.MapChanges.{free_blocks_in};
+ghost use Rattle.relink_laws.specs.k_split.Order.{IsInOrder};
+ghost use Rattle.relink_laws.specs.pm_model.Images.{Follows};
+ghost use Rattle.relink_laws.specs.pm_model.Powers.{is_on, Steps};
 ghost use Rattle.fsync_relink.specs.Logged.{HasSameContent};
 ghost use Rattle.fsync_relink.specs.Publishes.{IsCarriedOut, IsPublishAnswer, IsPublishPaid, IsRelinkedEach, IsResizedOnce, MayPublish, move_of, size_before, stopped_by};
 
 use file_overlay::{Overlay, Run};
+use k_journal::Commit;
+use k_split::{KFault, KSplit};
+use k_split_model::Move;
 use pm_lines::Power;
 use std::alloc::{AllocError, Global};
-use world_relinks::{Commit, KFault, KSplit, Move};
 
 // What is answered where K-Split did not make a change.
 fn stopped_by(fault: KFault) -> Result<Commit, AllocError>
@@ -122,7 +124,7 @@ fn relink_each(
 ///
 /// # Errors
 ///
-/// Want of memory. Some first runs may be published then.
+/// Out of memory. Some first runs may be published then.
 ///
 /// # Steps
 ///
@@ -164,7 +166,7 @@ pub fn publish_runs(
 ///
 /// # Errors
 ///
-/// Want of memory. Some first runs may be published then; the overlay is as it was.
+/// Out of memory. Some first runs may be published then; the overlay is as it was.
 ///
 /// # Steps
 ///

@@ -1,3 +1,4 @@
 pub mod Numbers
-pub use Rattle.line_fields.specs.disk_places as disk_places
-pub use Rattle.line_fields.specs.pm_words as pm_words
+pub mod Puts
+pub use Rattle.layout_model.specs as layout_model
+pub use Rattle.layout_model.specs.pm_model

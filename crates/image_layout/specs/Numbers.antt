@@ -1,6 +1,6 @@
 -- The geometry that four numbers make.
 use Rattle.std.specs.Prelude.{ℕ}
-use Rattle.line_fields.specs.disk_places.Places.{Geometry}
+use Rattle.layout_model.specs.Places.{Geometry}
 
 -- a geometry of the one known version with these numbers
 abbrev pub numbered : ℕ → ℕ → ℕ → ℕ → Geometry

@@ -1,19 +1,19 @@
-//! The layout of an image: the numbers that make it, where each of its parts lies, and its
-//! superblock.
+//! The layout of an image: its geometry, the places of its parts, its superblock, and the fields of its lines.
 //!
-//! A `Geometry` always has its numbers in range. Its places are those of the definitions
-//! (`disk_places`): lines are counted from the first line of the image, 64 bytes each, blocks from
-//! its first block, 64 lines each. The parts are apart: block 0, the records of the journal, the
-//! inode lines, the name lines, the log lines and the data blocks follow one another
-//! (`regions_are_apart`). A line is read as a superblock exactly where it is the superblock of a
-//! geometry, and the first fault is named where it isn't; what `superblock` writes is read as the
-//! same geometry (`superblock_is_read_back`).
+//! A `Geometry` has its numbers in range, and its places are those of `layout_model`; a field is
+//! read and written by the place of its first byte.
 //!
-//! Stands on `pm_words`, `disk_places`, `line_fields`, `block_counts` and `posix_types`.
+//! - `layout`: The layout of an image: the numbers that make it, where each of its parts lies, and
+//!   its superblock.
+//! - `fields`: Numbers in a line of an image.
+//!
+//! Stands on `block_counts`, `posix_types` and `layout_model`.
 #![tactic(auto)]
 
-mod geometry;
-mod superblock;
+mod fields;
+mod layout;
 
-pub use geometry::{Geometry, regions_are_apart};
-pub use superblock::{SuperFault, read_superblock, superblock_is_read_back};
+pub use fields::{put_u16, put_u32, put_u64, u16_at, u32_at, u64_at};
+pub use layout::{
+    Geometry, SuperFault, read_superblock, regions_are_apart, superblock_is_read_back,
+};

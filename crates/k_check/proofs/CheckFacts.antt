@@ -1,17 +1,17 @@
 -- The rules of the log behind all others.
 use Rattle.std.proofs.Common.{◌≡◌, ℕ, ◌*◌, ◌≤◌, ◌^◌, refl, sym, ◌∙◌, ap, subst, arith, inl, inr}
-use Rattle.oplog_entry.specs.pm_words.Words.{Words}
-use Rattle.oplog_entry.specs.disk_places.Journal.{journaled}
-use Rattle.oplog_entry.specs.disk_places.Places.{Geometry, base_word}
-use Rattle.volume_check.specs.disk_rules.Broken.{at_one, Holds, HoldAll, FailsFirst, BreaksFirst, Breaks, log_rules}
-use Rattle.volume_check.specs.disk_rules.Checked.{HasHead}
-use Rattle.volume_check.specs.disk_rules.Rules.{geometry_of, CanRecover, IsChecked}
-use Rattle.volume_check.specs.disk_rules.Volume.{Volume, volume}
-use Rattle.volume_check.specs.image_facts.BrokenLaws.{HoldAll-append, BreaksFirst-behind, BreaksFirst-before}
-use Rattle.volume_check.specs.image_facts.CheckedLaws.{checked-HoldAll, checked-unbroken}
-use Rattle.volume_check.specs.volume_facts.ReadingLaws.{volume-geometry}
-use Rattle.volume_check.specs.Readings.{AreTables, front_rules}
-use Rattle.volume_check.specs.declared.reading.Tables.{Tables}
+use Rattle.oplog_entry.specs.pm_model.Words.{Words}
+use Rattle.oplog_entry.specs.layout_model.Journal.{journaled}
+use Rattle.oplog_entry.specs.layout_model.Places.{Geometry, base_word}
+use Rattle.check_image.specs.image_model.Broken.{at_one, Holds, HoldAll, FailsFirst, BreaksFirst, Breaks, log_rules}
+use Rattle.check_image.specs.image_model.Checked.{HasHead}
+use Rattle.check_image.specs.image_model.Rules.{geometry_of, CanRecover, IsChecked}
+use Rattle.check_image.specs.image_model.Volume.{Volume, volume}
+use Rattle.check_image.specs.image_laws.BrokenLaws.{HoldAll-append, BreaksFirst-behind, BreaksFirst-before}
+use Rattle.check_image.specs.image_laws.CheckedLaws.{checked-HoldAll, checked-unbroken}
+use Rattle.check_image.specs.volume_laws.ReadingLaws.{volume-geometry}
+use Rattle.check_image.specs.Readings.{AreTables, front_rules}
+use Rattle.check_image.specs.declared.reading.Tables.{Tables}
 use Rattle.k_check.specs.Slots.{later_rule}
 
 -- the volume of an image

@@ -1,17 +1,16 @@
 -- Crash images: which log lines are settled, that the image is one of the device, and that it is honest.
-use Rattle.std.proofs.Common.{◌≡◌, ◌≢◌, ℕ, ◌+◌, ◌-◌, ◌*◌, ◌/◌, ◌%◌, ◌<◌, List, Bool, true, false, refl, sym, ◌∙◌, ap, subst, arith, inl, inr}
-use Rattle.std.proofs.Common.{get_or, take, drop}
+use Rattle.std.proofs.Common.{◌≡◌, ◌≢◌, ℕ, ◌+◌, ◌-◌, ◌*◌, ◌/◌, ◌%◌, ◌<◌, List, Bool, true, false, refl, sym, ◌∙◌, ap, subst, arith, inl, inr, get_or, take, drop}
 use Rattle.std.proofs.lemmas.Bool.{cases_eq, cases_lt}
 use Rattle.std.proofs.lemmas.List.{get_or-take, get_or-drop}
-use Rattle.oplog_entry.specs.pm_words.declared.Cell.{Cell}
-use Rattle.oplog_entry.specs.pm_words.declared.Cell.TheVariants.{Single, Two, Marked, Lent}
-use Rattle.oplog_entry.specs.pm_words.Bytes.{line_bytes-same, word_at-same}
-use Rattle.oplog_entry.specs.pm_words.Cells.{cell, oldest, IsCandidate}
-use Rattle.oplog_entry.specs.pm_words.Images.{IsImage}
-use Rattle.oplog_entry.specs.pm_words.Words.{Words, word_at, line_bytes}
-use Rattle.oplog_entry.specs.disk_places.Places.{Geometry, log_line}
-use Rattle.oplog_entry.specs.disk_lines.Entries.{is_self_valid}
-use Rattle.volume_check.specs.disk_rules.Honest.{IsTorn, IsHonest}
+use Rattle.oplog_entry.specs.pm_model.declared.Cell.{Cell}
+use Rattle.oplog_entry.specs.pm_model.declared.Cell.TheVariants.{Single, Two, Marked, Lent}
+use Rattle.oplog_entry.specs.pm_model.Bytes.{line_bytes-same, word_at-same}
+use Rattle.oplog_entry.specs.pm_model.Cells.{cell, oldest, IsCandidate}
+use Rattle.oplog_entry.specs.pm_model.Images.{IsImage}
+use Rattle.oplog_entry.specs.pm_model.Words.{Words, word_at, line_bytes}
+use Rattle.oplog_entry.specs.layout_model.Places.{Geometry, log_line}
+use Rattle.oplog_entry.specs.layout_model.Entries.{is_self_valid}
+use Rattle.check_image.specs.image_model.Honest.{IsTorn, IsHonest}
 use Rattle.pm_lines.specs.Choices.{chosen}
 use Rattle.pm_lines.specs.declared.choices.Choice.{Choice}
 use Rattle.k_check.specs.Crashes.{IsChance, IsAsChosen, IsSettled, IsCrashImage}

@@ -6,14 +6,14 @@ use Rattle.std.proofs.lemmas.List.Elements.{All-filter}
 use Rattle.std.proofs.lemmas.Bool.{cases_lt}
 use Rattle.std.proofs.lemmas.List.{get_or_past}
 use Rattle.std.proofs.lemmas.List.FromFn.{length-map-range_with_len, get_or-map-range_with_len}
-use Rattle.oplog_entry.specs.pm_words.Words.{Words, line_bytes}
-use Rattle.oplog_entry.specs.disk_places.Places.{Geometry, log_line}
-use Rattle.oplog_entry.specs.disk_lines.declared.Draft.{Draft}
-use Rattle.oplog_entry.specs.disk_lines.Entries.{decode_entry, is_draft}
-use Rattle.oplog_entry.specs.disk_lines.EntryLaws.{IsEntryLine-decode_entry}
-use Rattle.volume_check.specs.disk_rules.Live.{entry_in, is_live, live_entries}
-use Rattle.volume_check.specs.disk_rules.Rules.{HasStagingBlocks, CanRecover}
-use Rattle.volume_check.specs.disk_rules.Volume.{Volume}
+use Rattle.oplog_entry.specs.pm_model.Words.{Words, line_bytes}
+use Rattle.oplog_entry.specs.layout_model.Places.{Geometry, log_line}
+use Rattle.oplog_entry.specs.layout_model.declared.lines.Draft.{Draft}
+use Rattle.oplog_entry.specs.layout_model.Entries.{decode_entry, is_draft}
+use Rattle.oplog_entry.specs.layout_model.EntryLaws.{IsEntryLine-decode_entry}
+use Rattle.check_image.specs.image_model.Live.{entry_in, is_live, live_entries}
+use Rattle.check_image.specs.image_model.Rules.{HasStagingBlocks, CanRecover}
+use Rattle.check_image.specs.image_model.Volume.{Volume}
 use Rattle.k_check.specs.Rooms.{HasRoom}
 use Rattle.k_check.specs.Slots.{slots_at, AreGoodSlots, IsDraftOrNone, AreDrafts}
 use Rattle.k_check.proofs.SlotFacts.{items_of}

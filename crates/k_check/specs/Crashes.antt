@@ -1,11 +1,11 @@
 -- The image that a crash leaves of a device, by a choice.
 use Rattle.std.specs.Prelude.{◌≡◌, ◌≢◌, ◌⊎◌, ℕ, ◌+◌, ◌*◌, ◌/◌, ◌<◌, true, List}
-use Rattle.oplog_entry.specs.pm_words.declared.Cell.{Cell}
-use Rattle.oplog_entry.specs.pm_words.Cells.{cell}
-use Rattle.oplog_entry.specs.pm_words.Words.{Words, line_bytes}
-use Rattle.oplog_entry.specs.disk_places.Places.{Geometry, log_line}
-use Rattle.oplog_entry.specs.disk_lines.Entries.{is_self_valid}
-use Rattle.volume_check.specs.disk_rules.Honest.{HasOlder, IsTorn}
+use Rattle.oplog_entry.specs.pm_model.declared.Cell.{Cell}
+use Rattle.oplog_entry.specs.pm_model.Cells.{cell}
+use Rattle.oplog_entry.specs.pm_model.Words.{Words, line_bytes}
+use Rattle.oplog_entry.specs.layout_model.Places.{Geometry, log_line}
+use Rattle.oplog_entry.specs.layout_model.Entries.{is_self_valid}
+use Rattle.check_image.specs.image_model.Honest.{HasOlder, IsTorn}
 use Rattle.pm_lines.specs.Choices.{chosen}
 use Rattle.pm_lines.specs.declared.choices.Choice.{Choice}
 

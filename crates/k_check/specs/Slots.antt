@@ -1,14 +1,14 @@
 -- The log's slots, and what is asked of two entries in them.
 use Rattle.std.specs.Prelude.{◌≡◌, ◌≢◌, ℕ, ◌+◌, ◌<◌, true, Bool, if◌then◌else◌, All, List, [], ◌∷◌, map, Option, Some, None, slice_index_or}
 use Rattle.std.specs.List.{range_with_len}
-use Rattle.oplog_entry.specs.pm_words.Words.{Words, line_bytes}
-use Rattle.oplog_entry.specs.disk_places.Places.{Geometry, log_line}
-use Rattle.oplog_entry.specs.disk_lines.declared.Draft.{Draft}
-use Rattle.oplog_entry.specs.disk_lines.Entries.{decode_entry, is_draft, is_self_valid, held_seq}
-use Rattle.volume_check.specs.disk_rules.Broken.{Rule, below}
-use Rattle.volume_check.specs.disk_rules.Live.{is_of_file, is_live}
-use Rattle.volume_check.specs.disk_rules.Rules.{AreApart, IsOfNoLater}
-use Rattle.volume_check.specs.disk_rules.Volume.{Volume}
+use Rattle.oplog_entry.specs.pm_model.Words.{Words, line_bytes}
+use Rattle.oplog_entry.specs.layout_model.Places.{Geometry, log_line}
+use Rattle.oplog_entry.specs.layout_model.declared.lines.Draft.{Draft}
+use Rattle.oplog_entry.specs.layout_model.Entries.{decode_entry, is_draft, is_self_valid, held_seq}
+use Rattle.check_image.specs.image_model.Broken.{Rule, below}
+use Rattle.check_image.specs.image_model.Live.{is_of_file, is_live}
+use Rattle.check_image.specs.image_model.Rules.{AreApart, IsOfNoLater}
+use Rattle.check_image.specs.image_model.Volume.{Volume}
 
 -- the entry that is valid in each slot of a log with this base
 abbrev pub slots_at : Geometry → ℕ → Words → List (Option Draft)

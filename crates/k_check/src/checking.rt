@@ -1,25 +1,25 @@
 //! The check of a whole image.
 ghost use Rattle.std.specs.Prelude.{◌≡◌, ◌↔◌, ◌*◌, ◌%◌, ◌<◌, ◌≤◌, ◌^◌, length, true, All, IsTrue, IfOk, OnOk};
-ghost use Rattle.oplog_entry.specs.disk_lines.Entries.{is_draft};
-ghost use Rattle.volume_check.specs.disk_rules.Broken.{Breaks};
-ghost use Rattle.volume_check.specs.disk_rules.Live.{live_entries};
-ghost use Rattle.volume_check.specs.disk_rules.Rules.{geometry_of, CanRecover, IsChecked};
-ghost use Rattle.volume_check.specs.disk_rules.Volume.{Volume};
+ghost use Rattle.oplog_entry.specs.layout_model.Entries.{is_draft};
+ghost use Rattle.check_image.specs.image_model.Broken.{Breaks};
+ghost use Rattle.check_image.specs.image_model.Live.{live_entries};
+ghost use Rattle.check_image.specs.image_model.Rules.{geometry_of, CanRecover, IsChecked};
+ghost use Rattle.check_image.specs.image_model.Volume.{Volume};
 ghost use Rattle.k_check.specs.Rooms.{HasRoom};
 ghost use Rattle.k_check.specs.Slots.{slots_at, AreDrafts};
-ghost use Rattle.oplog_entry.specs.pm_words.Cells.{AllHome};
-ghost use Rattle.oplog_entry.specs.pm_words.Images.{words_of};
-ghost use Rattle.oplog_entry.specs.pm_words.Words.{Words};
-ghost use Rattle.volume_check.specs.Answers.{IfBad};
-ghost use Rattle.volume_check.specs.Readings.{AreTables};
+ghost use Rattle.oplog_entry.specs.pm_model.Cells.{AllHome};
+ghost use Rattle.oplog_entry.specs.pm_model.Images.{words_of};
+ghost use Rattle.oplog_entry.specs.pm_model.Words.{Words};
+ghost use Rattle.check_image.specs.Answers.{IfBad};
+ghost use Rattle.check_image.specs.Readings.{AreTables};
 
 use crate::entries::{live_entries, read_slots};
 use crate::room::held_after;
 use crate::rules::{are_good_slots, are_staged, later_entry};
+use check_image::{BadImage, CheckFault, Geometry, Tables, count_unused, read_volume};
 use oplog_entry::Draft;
 use pm_lines::Pm;
 use std::alloc::{AllocError, Global};
-use volume_check::{BadImage, CheckFault, Geometry, Tables, count_unused, read_volume};
 
 // Rule 12, the parts that speak of room: whether what the files hold after recovery leaves the
 // reserve, and the blocks that nothing names are enough.
@@ -58,7 +58,7 @@ fn can_recover(tables: &Tables, slots: &[Option<Draft>], live: &[Draft]) -> bool
 /// The geometry of the device, where its image keeps all rules; else the first rule that the image
 /// breaks, in the order 1 2 3 4 11 5 6 7 8 9 10 12 13, with the lowest place at which it breaks it.
 /// A pending journal is read through: lines count as its committed records have them. Nothing is
-/// written. Want of memory is the only other answer.
+/// written. Out of memory is the only other answer.
 ///
 /// The device has whole blocks of 512 words, fewer bytes than an address can say, and nothing of it
 /// is lent; of a word with two candidates the newer counts. The work goes by the lines of the image

@@ -1,18 +1,18 @@
 //! The images that a power loss leaves.
 ghost use Rattle.std.specs.Prelude.{◌≡◌, ◌≢◌, ◌↔◌, ◌*◌, ◌+◌, ◌/◌, ◌<◌, ◌≤◌, ℕ, length, true, IsTrue, IfOk};
-ghost use Rattle.oplog_entry.specs.disk_lines.Entries.{is_self_valid};
-ghost use Rattle.volume_check.specs.disk_rules.Honest.{HasNewer, SomeHasTwo, EachHasTwo, IsTorn, IsHonest};
+ghost use Rattle.oplog_entry.specs.layout_model.Entries.{is_self_valid};
+ghost use Rattle.check_image.specs.image_model.Honest.{HasNewer, SomeHasTwo, EachHasTwo, IsTorn, IsHonest};
 ghost use Rattle.k_check.specs.Crashes.{IsChance, IsCrashImage};
 ghost use Rattle.pm_lines.specs.Choices.{chosen};
-ghost use Rattle.oplog_entry.specs.pm_words.Cells.{AllHome, cell, oldest};
-ghost use Rattle.oplog_entry.specs.pm_words.Images.{IsImageOf};
-ghost use Rattle.oplog_entry.specs.pm_words.Words.{word_at, line_bytes};
+ghost use Rattle.oplog_entry.specs.pm_model.Cells.{AllHome, cell, oldest};
+ghost use Rattle.oplog_entry.specs.pm_model.Images.{IsImageOf};
+ghost use Rattle.oplog_entry.specs.pm_model.Words.{word_at, line_bytes};
 
-use line_fields::{put_u64, u64_at};
+use check_image::Geometry;
+use image_layout::{put_u64, u64_at};
 use oplog_entry::decode;
 use pm_lines::{Choice, Pm};
 use std::alloc::{AllocError, Global};
-use volume_check::Geometry;
 
 // The word at `index` of some bytes.
 fn word_in(bytes: &[u8], index: usize) -> u64

@@ -1,20 +1,20 @@
 // The entries of the log, slot by slot, and those that recovery still has to carry out.
 ghost use Rattle.std.specs.Prelude.{◌≡◌, ◌*◌, ◌+◌, ◌<◌, ◌≤◌, ◌^◌, ◌++◌, ℕ, length, slice_index_or, filter, IfOk, OnOk};
 ghost use Rattle.std.specs.List.{filter_map};
-ghost use Rattle.oplog_entry.specs.disk_lines.Entries.{decode_entry};
-ghost use Rattle.oplog_entry.specs.disk_places.Journal.{journaled};
-ghost use Rattle.oplog_entry.specs.disk_places.Places.{log_line};
-ghost use Rattle.volume_check.specs.disk_rules.Live.{is_file, is_of_file, is_live};
-ghost use Rattle.volume_check.specs.disk_rules.Volume.{Volume, free_inode};
+ghost use Rattle.oplog_entry.specs.layout_model.Entries.{decode_entry};
+ghost use Rattle.oplog_entry.specs.layout_model.Journal.{journaled};
+ghost use Rattle.oplog_entry.specs.layout_model.Places.{log_line};
+ghost use Rattle.check_image.specs.image_model.Live.{is_file, is_of_file, is_live};
+ghost use Rattle.check_image.specs.image_model.Volume.{Volume, free_inode};
 ghost use Rattle.k_check.specs.Slots.{slots_at, passing};
-ghost use Rattle.oplog_entry.specs.pm_words.Cells.{AllHome};
-ghost use Rattle.oplog_entry.specs.pm_words.Images.{words_of};
-ghost use Rattle.oplog_entry.specs.pm_words.Words.{line_bytes};
+ghost use Rattle.oplog_entry.specs.pm_model.Cells.{AllHome};
+ghost use Rattle.oplog_entry.specs.pm_model.Images.{words_of};
+ghost use Rattle.oplog_entry.specs.pm_model.Words.{line_bytes};
 
+use check_image::{Geometry, Inode, Kind, view_line};
 use oplog_entry::{Draft, decode};
 use pm_lines::Pm;
 use std::alloc::{AllocError, Global};
-use volume_check::{Geometry, Inode, Kind, view_line};
 
 // An inode that nothing is in.
 const FREE: Inode = Inode {

@@ -1,20 +1,20 @@
 //! What recovery has to carry out of the log of a checked image.
 ghost use Rattle.std.specs.Prelude.{◌≡◌, ◌*◌, ◌%◌, ◌<◌, ◌^◌, length, IfOk};
-ghost use Rattle.oplog_entry.specs.disk_places.Journal.{journaled};
-ghost use Rattle.volume_check.specs.disk_rules.Live.{live_entries};
-ghost use Rattle.volume_check.specs.disk_rules.Rules.{geometry_of, IsChecked};
-ghost use Rattle.volume_check.specs.disk_rules.Volume.{volume};
-ghost use Rattle.oplog_entry.specs.pm_words.Cells.{AllHome};
-ghost use Rattle.oplog_entry.specs.pm_words.Images.{words_of};
+ghost use Rattle.oplog_entry.specs.layout_model.Journal.{journaled};
+ghost use Rattle.check_image.specs.image_model.Live.{live_entries};
+ghost use Rattle.check_image.specs.image_model.Rules.{geometry_of, IsChecked};
+ghost use Rattle.check_image.specs.image_model.Volume.{volume};
+ghost use Rattle.oplog_entry.specs.pm_model.Cells.{AllHome};
+ghost use Rattle.oplog_entry.specs.pm_model.Images.{words_of};
 
 use crate::entries::{live_entries, read_slots};
+use check_image::read_volume;
 use oplog_entry::Draft;
 use pm_lines::Pm;
 use std::alloc::{AllocError, Global};
-use volume_check::read_volume;
 
 /// The entries of the log of a checked image that recovery has to carry out, by rising slot: the live
-/// ones. A pending journal is read through; nothing is written. Want of memory is the only error.
+/// ones. A pending journal is read through; nothing is written. Out of memory is the only error.
 pub fn live_log(alloc: Global, pm: &Pm) -> Result<Vec<Draft>, AllocError>
     requires home { AllHome pm.now }
     requires whole { length pm.now % 512 ≡ 0 }

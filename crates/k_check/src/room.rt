@@ -1,15 +1,15 @@
 // What the files hold once recovery has carried out the live entries.
 ghost use Rattle.std.specs.Prelude.{◌≡◌, ◌+◌, ◌==◌, ◌<◌, ◌≤◌, ◌^◌, ℕ, length, filter, cond};
 ghost use Rattle.block_counts.specs.Counts.{held_by};
-ghost use Rattle.volume_check.specs.disk_rules.Content.{size_of};
-ghost use Rattle.volume_check.specs.disk_rules.Live.{latest};
-ghost use Rattle.volume_check.specs.disk_rules.Room.{is_named_file, held_after_recovery};
-ghost use Rattle.volume_check.specs.disk_rules.Volume.{Volume};
-ghost use Rattle.volume_check.specs.Readings.{AreNameMarks};
+ghost use Rattle.check_image.specs.image_model.Content.{size_of};
+ghost use Rattle.check_image.specs.image_model.Live.{latest};
+ghost use Rattle.check_image.specs.image_model.Room.{is_named_file, held_after_recovery};
+ghost use Rattle.check_image.specs.image_model.Volume.{Volume};
+ghost use Rattle.check_image.specs.Readings.{AreNameMarks};
 
 use block_counts::held_by;
+use check_image::{Inode, Kind};
 use oplog_entry::Draft;
-use volume_check::{Inode, Kind};
 
 // The entry of greatest order of the inode, the first of those of one order.
 fn latest_of(live: &[Draft], ino: u32) -> Option<Draft>

@@ -1,21 +1,21 @@
 // Rules 12 and 13: the entries of the log.
 ghost use Rattle.std.specs.Prelude.{◌≡◌, ◌↔◌, ◌*◌, ◌+◌, ◌<◌, ◌≤◌, ◌^◌, ℕ, [], length, slice_index_or, true, All, None, IsTrue, MatchOption};
-ghost use Rattle.oplog_entry.specs.disk_lines.Entries.{is_draft};
-ghost use Rattle.oplog_entry.specs.disk_places.Journal.{journaled};
-ghost use Rattle.volume_check.specs.disk_rules.Broken.{Holds, FailsFirst};
-ghost use Rattle.volume_check.specs.disk_rules.Rules.{HasStagingBlocks};
-ghost use Rattle.volume_check.specs.disk_rules.Volume.{Volume};
-ghost use Rattle.volume_check.specs.extent_words.Extents.{disk_at};
+ghost use Rattle.oplog_entry.specs.layout_model.Entries.{is_draft};
+ghost use Rattle.oplog_entry.specs.layout_model.Journal.{journaled};
+ghost use Rattle.check_image.specs.image_model.Broken.{Holds, FailsFirst};
+ghost use Rattle.check_image.specs.image_model.Rules.{HasStagingBlocks};
+ghost use Rattle.check_image.specs.image_model.Volume.{Volume};
+ghost use Rattle.check_image.specs.extent_model.Extents.{disk_at};
 ghost use Rattle.k_check.specs.Slots.{IsGoodPair, IsGoodSlot, IsGoodWithLater, AreGoodSlots, IsDraftOrNone, AreDrafts, IsNoLaterAt, later_rule};
-ghost use Rattle.oplog_entry.specs.pm_words.Cells.{AllHome};
-ghost use Rattle.oplog_entry.specs.pm_words.Images.{words_of};
+ghost use Rattle.oplog_entry.specs.pm_model.Cells.{AllHome};
+ghost use Rattle.oplog_entry.specs.pm_model.Images.{words_of};
 
 use crate::entries::{is_live, is_of_file, log_bytes};
+use check_image::{Geometry, Inode};
 use extent_map::ExtentMap;
-use line_fields::u64_at;
+use image_layout::u64_at;
 use oplog_entry::{Draft, decode};
 use pm_lines::Pm;
-use volume_check::{Geometry, Inode};
 
 // The disk block of a file block of an inode, by these maps.
 fn disk_block(maps: &[ExtentMap], ino: u32, block: u32) -> Option<u32>

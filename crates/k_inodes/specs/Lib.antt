@@ -1,3 +1,2 @@
-pub use Rattle.disk_lines.specs as disk_lines
-pub use Rattle.disk_lines.specs.disk_places as disk_places
-pub use Rattle.disk_lines.specs.pm_words as pm_words
+pub use Rattle.layout_model.specs as layout_model
+pub use Rattle.layout_model.specs.pm_model as pm_model

@@ -6,16 +6,16 @@
 //! spelling of that inode and the inode's fields are ones that its kind may have, and each inode
 //! has one spelling (`inode_lines_are_exact`). No call takes memory.
 //!
-//! Stands on `disk_places`, `disk_lines` and `line_fields`.
+//! Stands on `layout_model` and `image_layout`.
 #![tactic(auto)]
 
 ghost use Rattle.std.specs.Prelude.{◌≡◌, ◌<◌, ℕ, List, length, slice_index, true, Some};
-ghost use Rattle.disk_lines.specs.LineLaws.{FitsInode, IsInodeLine};
-ghost use Rattle.disk_lines.specs.Lines.{code_of_kind, kind_of_code, has_map_or_none, is_inode, encode_inode, decode_inode};
-ghost use Rattle.disk_lines.specs.declared.Inode.{Inode};
+ghost use Rattle.layout_model.specs.LineLaws.{FitsInode, IsInodeLine};
+ghost use Rattle.layout_model.specs.Lines.{code_of_kind, kind_of_code, has_map_or_none, is_inode, encode_inode, decode_inode};
+ghost use Rattle.layout_model.specs.declared.lines.Inode.{Inode};
 
-pub use disk_lines::{Inode, Kind};
-use line_fields::{put_u32, put_u64, u32_at, u64_at};
+use image_layout::{put_u32, put_u64, u32_at, u64_at};
+pub use layout_model::{Inode, Kind};
 
 // The longest file, in bytes.
 const MOST_BYTES: u64 = 16_777_216;
@@ -94,7 +94,7 @@ pub fn encode_inode(inode: &Inode) -> [u8; 64]
 }
 
 /// The inode that the line stands for; None exactly where it is no inode line.
-#[tactic(auto, unfolding(disk_lines::specs::Lines::decode_inode))]
+#[tactic(auto, unfolding(layout_model::specs::Lines::decode_inode))]
 pub fn decode_inode(bytes: &[u8; 64]) -> Option<Inode>
     ensures { result ≡ decode_inode bytes.now }
 {

@@ -5,7 +5,7 @@ use Rattle.std.proofs.lemmas.List.{length-set, length_push, get_or-set_same, get
 use Rattle.k_journal.specs.Batch.{no_entry, target, content, with_batch, with_line_set, IsDistinct, IsNew, IsFirstPlace}
 use Rattle.k_journal.specs.Patches.{find_target, patched-miss, patched-at}
 use Rattle.k_journal.specs.declared.batches.Entry.{Entry}
-use Rattle.pm_lines.specs.pm_words.Words.{Words, word_at, with_line}
+use Rattle.pm_lines.specs.pm_model.Words.{Words, word_at, with_line}
 
 -- ---- the exact list
 

@@ -1,18 +1,18 @@
 -- The words after some records, as a recovery makes them durable one by one.
 use Rattle.std.proofs.Common.{◌≡◌, ◌≢◌, ◌+◌, ◌*◌, ◌/◌, ◌%◌, ◌<◌, ◌≤◌, ℕ, false, List, refl, sym, ◌∙◌, ap, inl, inr, ⊎_elim, arith, lit≤}
 use Rattle.std.proofs.lemmas.Bool.{both_ways, cases_eq}
-use Rattle.image_layout.specs.disk_places.Journal.{journaled, patched, record_target, record_word}
-use Rattle.image_layout.specs.disk_places.PlaceLaws.{journaled_bounds}
-use Rattle.image_layout.specs.disk_places.Places.{Geometry, commit_word, record_line, is_journaled_line}
+use Rattle.image_layout.specs.layout_model.Journal.{journaled, patched, record_target, record_word}
+use Rattle.image_layout.specs.layout_model.PlaceLaws.{journaled_bounds}
+use Rattle.image_layout.specs.layout_model.Places.{Geometry, commit_word, record_line, is_journaled_line}
 use Rattle.k_journal.specs.Patches.{find_target, patched-miss, patched-hit, patched-same, patched-last, patched-skip}
 use Rattle.k_journal.specs.Recoveries.{KeepsView, AreApart, AreJournaled, IsReplayStage}
 use Rattle.k_journal.specs.Recoveries.IsReplayStage.{Pending, Emptied}
-use Rattle.pm_lines.specs.pm_words.declared.Cell.{Cell}
-use Rattle.pm_lines.specs.pm_words.declared.Cell.TheVariants.{Single}
-use Rattle.pm_lines.specs.pm_words.Cells.{cell, newest, AllSingle}
-use Rattle.pm_lines.specs.pm_words.ImageLaws.{image-single}
-use Rattle.pm_lines.specs.pm_words.Images.{IsImage, words_of}
-use Rattle.pm_lines.specs.pm_words.Words.{Words}
+use Rattle.pm_lines.specs.pm_model.declared.Cell.{Cell}
+use Rattle.pm_lines.specs.pm_model.declared.Cell.TheVariants.{Single}
+use Rattle.pm_lines.specs.pm_model.Cells.{cell, newest, AllSingle}
+use Rattle.pm_lines.specs.pm_model.ImageLaws.{image-single}
+use Rattle.pm_lines.specs.pm_model.Images.{IsImage, words_of}
+use Rattle.pm_lines.specs.pm_model.Words.{Words}
 use Rattle.k_journal.proofs.Views.{same_views, journaled-journal, journaled-counted, journaled-idle, not_commit_word}
 
 -- a word of the records stays

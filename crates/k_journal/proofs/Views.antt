@@ -2,20 +2,20 @@
 use Rattle.std.proofs.Common.{◌≡◌, ◌≢◌, ◌+◌, ◌*◌, ◌/◌, ◌%◌, ◌<◌, ◌≤◌, ℕ, true, false, leb, ltb, eqb, ◌&&◌, List, length, refl, sym, ◌∙◌, ap, inl, inr, ⊎_elim, arith, lit≤, lit<, if◌then◌else◌}
 use Rattle.std.proofs.Math.Path.{fun_ext}
 use Rattle.std.proofs.lemmas.Bool.{cases_Bool, cond-true, cond-false, le-leb, both_ways, false_from_ne_true, or_cases, or_parts, and_parts, eqb-true, eq-eqb, ne_eqb, leb-true, lt-leb, ltb-true, or_from, and_left}
-use Rattle.image_layout.specs.disk_places.Journal.{is_journal_word, journaled, committed, patched, record_target, record_word}
-use Rattle.image_layout.specs.disk_places.Places.{Geometry, commit_word, record_line, name_line, is_journaled_line}
+use Rattle.image_layout.specs.layout_model.Journal.{is_journal_word, journaled, committed, patched, record_target, record_word}
+use Rattle.image_layout.specs.layout_model.Places.{Geometry, commit_word, record_line, name_line, is_journaled_line}
 use Rattle.k_journal.specs.Batch.{target, content, with_batch, IsDistinct, IsNew}
 use Rattle.k_journal.specs.Commits.{MayCommit, IsBeforeOrAfter, IsAfter}
 use Rattle.k_journal.specs.Patches.{find_target, patched-none, patched-miss, patched-hit, patched-at, patched-same}
 use Rattle.k_journal.specs.Phases.{AreRecorded, AreInPlace, IsStage}
 use Rattle.k_journal.specs.Phases.IsStage.{Unbegun, Recorded, Applied}
 use Rattle.k_journal.specs.declared.batches.Entry.{Entry}
-use Rattle.pm_lines.specs.pm_words.declared.Cell.{Cell}
-use Rattle.pm_lines.specs.pm_words.declared.Cell.TheVariants.{Single}
-use Rattle.pm_lines.specs.pm_words.CellLaws.{candidate-single, candidate-settles, newest-candidate, settled-single, single-home}
-use Rattle.pm_lines.specs.pm_words.Cells.{cell, is_single, is_lent, newest, Settles}
-use Rattle.pm_lines.specs.pm_words.Images.{IsImage, ComesFrom, Follows, Follows-same, words_of}
-use Rattle.pm_lines.specs.pm_words.Words.{Words}
+use Rattle.pm_lines.specs.pm_model.declared.Cell.{Cell}
+use Rattle.pm_lines.specs.pm_model.declared.Cell.TheVariants.{Single}
+use Rattle.pm_lines.specs.pm_model.CellLaws.{candidate-single, candidate-settles, newest-candidate, settled-single, single-home}
+use Rattle.pm_lines.specs.pm_model.Cells.{cell, is_single, is_lent, newest, Settles}
+use Rattle.pm_lines.specs.pm_model.Images.{IsImage, ComesFrom, Follows, Follows-same, words_of}
+use Rattle.pm_lines.specs.pm_model.Words.{Words}
 
 -- ---- the words of the journal
 

@@ -1,8 +1,8 @@
 -- What a batch is: the lines that one transaction sets, with their content, no line twice.
 use Rattle.std.specs.Prelude.{◌≡◌, ◌≢◌, ◌≤◌, ◌<◌, ◌==◌, ℕ, Bool, true, List, [], ◌∷◌, length, slice_index_or, if◌then◌else◌}
-use Rattle.image_layout.specs.disk_places.Journal.{patched}
+use Rattle.image_layout.specs.layout_model.Journal.{patched}
 use Rattle.k_journal.specs.declared.batches.Entry.{Entry}
-use Rattle.pm_lines.specs.pm_words.Words.{Words, word_at}
+use Rattle.pm_lines.specs.pm_model.Words.{Words, word_at}
 
 abbrev pub no_entry : Entry
 no_entry = record { line = 0; bytes = [] }

@@ -1,15 +1,15 @@
 -- What a commit asks for and what it leaves.
 use Rattle.std.specs.Prelude.{◌≡◌, ◌⊎◌, ◌*◌, ◌/◌, ◌<◌, ℕ, true, false, List, length, Some}
-use Rattle.image_layout.specs.disk_places.Journal.{is_journal_word, journaled, IsSound}
-use Rattle.image_layout.specs.disk_places.Places.{Geometry, commit_word, is_journaled_line}
+use Rattle.image_layout.specs.layout_model.Journal.{is_journal_word, journaled, IsSound}
+use Rattle.image_layout.specs.layout_model.Places.{Geometry, commit_word, is_journaled_line}
 use Rattle.k_journal.specs.Batch.{target, with_batch, AllLines, IsNew}
 use Rattle.k_journal.specs.declared.batches.Entry.{Entry}
-use Rattle.pm_lines.specs.pm_words.declared.Cell.{Cell}
-use Rattle.pm_lines.specs.pm_words.declared.Cell.TheVariants.{Single}
-use Rattle.pm_lines.specs.pm_words.Cells.{cell, is_single}
-use Rattle.pm_lines.specs.pm_words.Frames.{LineIsSingle}
-use Rattle.pm_lines.specs.pm_words.Powers.{Supply}
-use Rattle.pm_lines.specs.pm_words.Words.{Words}
+use Rattle.pm_lines.specs.pm_model.declared.Cell.{Cell}
+use Rattle.pm_lines.specs.pm_model.declared.Cell.TheVariants.{Single}
+use Rattle.pm_lines.specs.pm_model.Cells.{cell, is_single}
+use Rattle.pm_lines.specs.pm_model.Frames.{LineIsSingle}
+use Rattle.pm_lines.specs.pm_model.Powers.{Supply}
+use Rattle.pm_lines.specs.pm_model.Words.{Words}
 
 -- The device has the blocks of the geometry, the batch's lines are journaled ones, the commit word is 0, and the
 -- words of blocks 0 to 4 and of the batch's lines have one candidate each.

@@ -2,8 +2,8 @@
 use Rattle.std.specs.Prelude.{◌≡◌, ◌≢◌, ◌<◌, ◌+◌, ◌/◌, ◌%◌, ◌⊎◌, ℕ, zero, suc}
 use Rattle.std.proofs.Common.{refl, sym, ◌∙◌, ap, arith, inl, inr, ⊎_elim, add-one}
 use Rattle.std.proofs.lemmas.Bool.{cases_eq, eq-eqb, ne_eqb}
-use Rattle.image_layout.specs.disk_places.Journal.{patched}
-use Rattle.pm_lines.specs.pm_words.Words.{Words}
+use Rattle.image_layout.specs.layout_model.Journal.{patched}
+use Rattle.pm_lines.specs.pm_model.Words.{Words}
 
 -- one of the first n records has the line, or none has
 pub find_target : (n : ℕ) (t : ℕ → ℕ) (line : ℕ) → ((k : ℕ) × (k < n) × (t k ≡ line)) ⊎ ((k : ℕ) → k < n → t k ≢ line)

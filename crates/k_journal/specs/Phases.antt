@@ -1,13 +1,13 @@
 -- What the phases of a commit leave in the device.
 use Rattle.std.specs.Prelude.{◌≡◌, ◌⊎◌, ◌+◌, ◌*◌, ◌/◌, ◌%◌, ◌<◌, ◌≤◌, ℕ, false, List, length}
-use Rattle.image_layout.specs.disk_places.Journal.{is_journal_word}
-use Rattle.image_layout.specs.disk_places.Places.{commit_word, state_line, inode_line, record_line}
+use Rattle.image_layout.specs.layout_model.Journal.{is_journal_word}
+use Rattle.image_layout.specs.layout_model.Places.{commit_word, state_line, inode_line, record_line}
 use Rattle.k_journal.specs.Batch.{target, content}
 use Rattle.k_journal.specs.declared.batches.Entry.{Entry}
-use Rattle.pm_lines.specs.pm_words.declared.Cell.{Cell}
-use Rattle.pm_lines.specs.pm_words.declared.Cell.TheVariants.{Single}
-use Rattle.pm_lines.specs.pm_words.Cells.{cell, Settles}
-use Rattle.pm_lines.specs.pm_words.Words.{Words}
+use Rattle.pm_lines.specs.pm_model.declared.Cell.{Cell}
+use Rattle.pm_lines.specs.pm_model.declared.Cell.TheVariants.{Single}
+use Rattle.pm_lines.specs.pm_model.Cells.{cell, Settles}
+use Rattle.pm_lines.specs.pm_model.Words.{Words}
 
 -- no entry is of a line of the journal
 abbrev pub IsApart : List Entry → Type 0

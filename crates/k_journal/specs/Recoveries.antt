@@ -1,10 +1,10 @@
 -- What a recovery answers and what it leaves.
 use Rattle.std.specs.Prelude.{◌≡◌, ◌≢◌, ◌⊎◌, ◌/◌, ◌<◌, ◌≤◌, ℕ, true, false}
-use Rattle.image_layout.specs.disk_places.Journal.{journaled, patched, record_target, record_word, is_fault, IsSound}
-use Rattle.image_layout.specs.disk_places.Places.{Geometry, commit_word, state_line, inode_line, is_journaled_line}
+use Rattle.image_layout.specs.layout_model.Journal.{journaled, patched, record_target, record_word, is_fault, IsSound}
+use Rattle.image_layout.specs.layout_model.Places.{Geometry, commit_word, state_line, inode_line, is_journaled_line}
 use Rattle.k_journal.specs.declared.outcomes.Recovered.{Recovered}
 use Rattle.k_journal.specs.declared.outcomes.Recovered.TheVariants.{Done, PowerLost, Bad}
-use Rattle.pm_lines.specs.pm_words.Words.{Words}
+use Rattle.pm_lines.specs.pm_model.Words.{Words}
 
 -- Why a journal cannot be recovered, and the number that names it.
 pub data IsFirstFault (g : Geometry) (image : Words) (index : ℕ) : Type 0 where

@@ -1,7 +1,7 @@
 //! Batches: the lines that one commit sets, each with its new bytes.
 ghost use Rattle.std.specs.Prelude.{◌≡◌, ◌+◌, ◌<◌, ◌≤◌, ◌==◌, ℕ, Bool, true, [], length, slice_index, IsOk, OnOk, OnErr, IfOk, IfErr, MatchOption};
 ghost use Rattle.k_journal.specs.Batch.{with_batch, with_line_set, AllLines, HasLine, IsDistinct, IsNew, IsFirstPlace};
-ghost use Rattle.pm_lines.specs.pm_words.Words.{Words, with_line};
+ghost use Rattle.pm_lines.specs.pm_model.Words.{Words, with_line};
 
 use std::alloc::{AllocError, Global};
 use std::marker::Model;

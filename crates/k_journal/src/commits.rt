@@ -1,17 +1,17 @@
 //! Commit: the records, the commit word, the targets, and the commit word again, with a fence
 //! behind each.
 ghost use Rattle.std.specs.Prelude.{◌≡◌, ◌⊎◌, ◌+◌, ◌*◌, ◌/◌, ◌<◌, ◌≤◌, ℕ, true, false, [], length};
-ghost use Rattle.image_layout.specs.disk_places.Journal.{is_journal_word};
-ghost use Rattle.image_layout.specs.disk_places.Places.{commit_word};
+ghost use Rattle.image_layout.specs.layout_model.Journal.{is_journal_word};
+ghost use Rattle.image_layout.specs.layout_model.Places.{commit_word};
 ghost use Rattle.k_journal.specs.Batch.{target, with_batch, IsDistinct, IsNew};
 ghost use Rattle.k_journal.specs.Commits.{MayCommit, IsBeforeOrAfter, IsAfter, TakesAStep};
 ghost use Rattle.k_journal.specs.Phases.{IsApart, AreRecorded, AreInPlace, IsStage};
-ghost use Rattle.pm_lines.specs.pm_words.declared.Cell.TheVariants.{Single};
-ghost use Rattle.pm_lines.specs.pm_words.Cells.{cell, is_single, Settles};
-ghost use Rattle.pm_lines.specs.pm_words.Frames.{SameLent, KeepsSingle, LineIsSingle};
-ghost use Rattle.pm_lines.specs.pm_words.Images.{IsImage, Follows, words_of};
-ghost use Rattle.pm_lines.specs.pm_words.Powers.{is_on, Steps};
-ghost use Rattle.pm_lines.specs.pm_words.Words.{Words};
+ghost use Rattle.pm_lines.specs.pm_model.declared.Cell.TheVariants.{Single};
+ghost use Rattle.pm_lines.specs.pm_model.Cells.{cell, is_single, Settles};
+ghost use Rattle.pm_lines.specs.pm_model.Frames.{SameLent, KeepsSingle, LineIsSingle};
+ghost use Rattle.pm_lines.specs.pm_model.Images.{IsImage, Follows, words_of};
+ghost use Rattle.pm_lines.specs.pm_model.Powers.{is_on, Steps};
+ghost use Rattle.pm_lines.specs.pm_model.Words.{Words};
 
 use crate::batches::{Batch, Entry};
 use crate::outcomes::Commit;

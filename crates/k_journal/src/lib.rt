@@ -9,7 +9,10 @@
 //! The layer above may rely on both calls for every power, whatever words are put back where words
 //! of the device are lent. Neither takes memory: `Batch::new` makes all the room.
 //!
-//! It stands on `pm_lines` (the device), `disk_places` (places and the journaled view) and
+//! Soundness after a call is an implication from the image before, since with the power off nothing is
+//! known of the device.
+//!
+//! It stands on `pm_lines` (the device), `layout_model` (places and the journaled view) and
 //! `image_layout` (the geometry).
 #![tactic(auto)]
 

@@ -3,10 +3,10 @@ ghost use Rattle.std.specs.Prelude.{◌≡◌, ◌≢◌, ◌+◌, ◌*◌, ◌/
 ghost use Rattle.k_journal.specs.Batch.{target, content, IsDistinct, IsNew};
 ghost use Rattle.k_journal.specs.Commits.{TakesAStep};
 ghost use Rattle.k_journal.specs.Phases.{IsApart, AreInPlace};
-ghost use Rattle.pm_lines.specs.pm_words.declared.Cell.TheVariants.{Single};
-ghost use Rattle.pm_lines.specs.pm_words.Cells.{cell, MayHold, Settles};
-ghost use Rattle.pm_lines.specs.pm_words.Frames.{SameLent, KeepsSingle, LineIsSingle};
-ghost use Rattle.pm_lines.specs.pm_words.Powers.{is_on, Steps};
+ghost use Rattle.pm_lines.specs.pm_model.declared.Cell.TheVariants.{Single};
+ghost use Rattle.pm_lines.specs.pm_model.Cells.{cell, MayHold, Settles};
+ghost use Rattle.pm_lines.specs.pm_model.Frames.{SameLent, KeepsSingle, LineIsSingle};
+ghost use Rattle.pm_lines.specs.pm_model.Powers.{is_on, Steps};
 
 use crate::batches::Entry;
 use pm_lines::{Pm, Power};

@@ -1,13 +1,13 @@
 //! The records of the journal.
 ghost use Rattle.std.specs.Prelude.{◌≡◌, ◌≢◌, ◌+◌, ◌*◌, ◌/◌, ◌%◌, ◌<◌, ◌≤◌, ℕ, true, length};
-ghost use Rattle.image_layout.specs.disk_places.Places.{record_line};
+ghost use Rattle.image_layout.specs.layout_model.Places.{record_line};
 ghost use Rattle.k_journal.specs.Batch.{target, content};
 ghost use Rattle.k_journal.specs.Phases.{AreRecorded};
-ghost use Rattle.pm_lines.specs.pm_words.declared.Cell.TheVariants.{Single};
-ghost use Rattle.pm_lines.specs.pm_words.Cells.{cell, is_single, fenced, Settles};
-ghost use Rattle.pm_lines.specs.pm_words.Frames.{SameLent, KeepsSingle};
-ghost use Rattle.pm_lines.specs.pm_words.Powers.{is_on, Steps};
-ghost use Rattle.pm_lines.specs.pm_words.Words.{word_at};
+ghost use Rattle.pm_lines.specs.pm_model.declared.Cell.TheVariants.{Single};
+ghost use Rattle.pm_lines.specs.pm_model.Cells.{cell, is_single, fenced, Settles};
+ghost use Rattle.pm_lines.specs.pm_model.Frames.{SameLent, KeepsSingle};
+ghost use Rattle.pm_lines.specs.pm_model.Powers.{is_on, Steps};
+ghost use Rattle.pm_lines.specs.pm_model.Words.{word_at};
 
 use crate::batches::Entry;
 use pm_lines::{Pm, Power};

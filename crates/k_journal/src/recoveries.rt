@@ -1,14 +1,14 @@
 //! Recovery: the committed records are written to their targets, and the commit word is cleared.
 ghost use Rattle.std.specs.Prelude.{◌≡◌, ◌≢◌, ◌+◌, ◌*◌, ◌/◌, ◌%◌, ◌<◌, ◌≤◌, ℕ, true, false, length, MatchOption};
-ghost use Rattle.image_layout.specs.disk_places.Journal.{is_journal_word, journaled, record_target, record_word, IsSound};
-ghost use Rattle.image_layout.specs.disk_places.Places.{commit_word, is_journaled_line};
+ghost use Rattle.image_layout.specs.layout_model.Journal.{is_journal_word, journaled, record_target, record_word, IsSound};
+ghost use Rattle.image_layout.specs.layout_model.Places.{commit_word, is_journaled_line};
 ghost use Rattle.k_journal.specs.Recoveries.{IsFirstFault, IfBad, IfNotBad, KeepsView, AreJournaled, AreWithin, AreApart, IsNoTarget, after_records, IsReplayStage};
-ghost use Rattle.pm_lines.specs.pm_words.declared.Cell.TheVariants.{Single};
-ghost use Rattle.pm_lines.specs.pm_words.Cells.{cell, AllHome, AllSingle};
-ghost use Rattle.pm_lines.specs.pm_words.Frames.{SameLent};
-ghost use Rattle.pm_lines.specs.pm_words.Images.{IsImage, words_of};
-ghost use Rattle.pm_lines.specs.pm_words.Powers.{is_on, Steps};
-ghost use Rattle.pm_lines.specs.pm_words.Words.{Words};
+ghost use Rattle.pm_lines.specs.pm_model.declared.Cell.TheVariants.{Single};
+ghost use Rattle.pm_lines.specs.pm_model.Cells.{cell, AllHome, AllSingle};
+ghost use Rattle.pm_lines.specs.pm_model.Frames.{SameLent};
+ghost use Rattle.pm_lines.specs.pm_model.Images.{IsImage, words_of};
+ghost use Rattle.pm_lines.specs.pm_model.Powers.{is_on, Steps};
+ghost use Rattle.pm_lines.specs.pm_model.Words.{Words};
 
 use crate::outcomes::Recovered;
 use crate::phases::{COMMIT_WORD, set_count};

@@ -4,28 +4,28 @@ use Rattle.std.specs.Prelude.{◌&&◌, nat_le}
 use Rattle.std.proofs.lemmas.Bool.{cases_lt}
 use Rattle.std.proofs.lemmas.Bool.Decides.{nat_tests}
 use Rattle.block_counts.specs.Counts.{chains_for}
-use Rattle.disk_lines.specs.declared.Inode.{Inode}
-use Rattle.disk_lines.specs.declared.Kind.{Kind}
-use Rattle.disk_lines.specs.declared.Kind.TheVariants.{File}
-use Rattle.disk_lines.specs.Lines.{has_map_or_none, is_inode, is_inode_of_kind, most_bytes}
-use Rattle.k_plans.specs.disk_places.Places.{is_data_block, reserve}
-use Rattle.k_plans.specs.disk_rules.Volume.{chain, extents, inode}
-use Rattle.k_relink.specs.extent_words.declared.Extent.{Extent}
+use Rattle.layout_model.specs.declared.lines.Inode.{Inode}
+use Rattle.layout_model.specs.declared.lines.Kind.{Kind}
+use Rattle.layout_model.specs.declared.lines.Kind.TheVariants.{File}
+use Rattle.layout_model.specs.Lines.{has_map_or_none, is_inode, is_inode_of_kind, most_bytes}
+use Rattle.k_plans.specs.layout_model.Places.{is_data_block, reserve}
+use Rattle.k_plans.specs.image_model.Volume.{chain, extents, inode}
+use Rattle.k_relink.specs.extent_model.declared.extent_words.Extent.{Extent}
 use Rattle.k_plans.specs.k_journal.declared.batches.Entry.{Entry}
-use Rattle.k_plans.specs.k_land.Plans.{NewChain}
+use Rattle.k_plans.specs.LandingsPlans.{NewChain}
 use Rattle.k_plans.specs.Free.{free_blocks, is_free_block}
 use Rattle.k_plans.specs.Switching.{IsSetAside, WaitOnce}
 use Rattle.k_plans.specs.View.{TablesView}
 use Rattle.k_plans.specs.Whole.{IsWhole}
-use Rattle.k_plans.specs.map_rules.Changes.{Fills, IsFilled}
-use Rattle.k_plans.specs.map_rules.Taken.{AreLowest, switched, with_map}
-use Rattle.k_plans.specs.volume_maps.Bounds.{map-bound, own-data, own-once}
-use Rattle.k_plans.specs.volume_maps.Hits.{in_chain-append}
-use Rattle.k_plans.specs.volume_maps.Switches.{unused-data, unused-owners}
-use Rattle.k_plans.specs.volume_maps.TakenLaws.{AreLowest-append, rising-once}
-use Rattle.k_plans.specs.volume_uses.OwnerLaws.{uses-le-owners}
-use Rattle.k_plans.specs.volume_uses.UseLaws.{length-uses_by}
-use Rattle.k_plans.specs.volume_uses.Uses.{in_chain, in_map}
+use Rattle.k_plans.specs.k_split_model.MapChangesChanges.{Fills, IsFilled}
+use Rattle.k_plans.specs.k_split_model.Taken.{AreLowest, switched, with_map}
+use Rattle.k_plans.specs.volume_change_laws.Bounds.{map-bound, own-data, own-once}
+use Rattle.k_plans.specs.volume_change_laws.Hits.{in_chain-append}
+use Rattle.k_plans.specs.volume_change_laws.Switches.{unused-data, unused-owners}
+use Rattle.k_plans.specs.volume_change_laws.TakenLaws.{AreLowest-append, rising-once}
+use Rattle.k_plans.specs.volume_laws.OwnerLaws.{uses-le-owners}
+use Rattle.k_plans.specs.volume_laws.UseLaws.{length-uses_by}
+use Rattle.k_plans.specs.volume_laws.Uses.{in_chain, in_map}
 use Rattle.k_map_plans.specs.Going.{HasGoneOver, MayGoOver}
 use Rattle.k_map_plans.specs.Plans.{IsLiveFile}
 use Rattle.k_map_plans.proofs.Goings.{aside-once, aside-unused, aside-volume, left-free}

@@ -7,29 +7,29 @@ use Rattle.std.proofs.lemmas.Bool.Decides.{nat_tests}
 use Rattle.std.proofs.lemmas.List.{length-set}
 use Rattle.block_counts.specs.Counts.{chains_for}
 use Rattle.k_plans.specs.block_pool.FreeSets.{is_among}
-use Rattle.disk_lines.specs.declared.Inode.{Inode}
-use Rattle.disk_lines.specs.declared.Kind.{Kind}
-use Rattle.disk_lines.specs.declared.Kind.TheVariants.{Free, Directory, File, Staging}
-use Rattle.disk_lines.specs.Lines.{has_map_or_none, is_inode, is_inode_of_kind}
-use Rattle.k_plans.specs.disk_places.Places.{is_data_block}
-use Rattle.k_plans.specs.disk_rules.Placed.{AreDistinct}
-use Rattle.k_plans.specs.disk_rules.Volume.{Volume, chain}
-use Rattle.k_relink.specs.extent_facts.Counts.{length-le}
-use Rattle.k_relink.specs.extent_words.declared.Extent.{Extent}
-use Rattle.k_relink.specs.extent_words.Extents.{IsCanonical}
+use Rattle.layout_model.specs.declared.lines.Inode.{Inode}
+use Rattle.layout_model.specs.declared.lines.Kind.{Kind}
+use Rattle.layout_model.specs.declared.lines.Kind.TheVariants.{Free, Directory, File, Staging}
+use Rattle.layout_model.specs.Lines.{has_map_or_none, is_inode, is_inode_of_kind}
+use Rattle.k_plans.specs.layout_model.Places.{is_data_block}
+use Rattle.k_plans.specs.image_model.Placed.{AreDistinct}
+use Rattle.k_plans.specs.image_model.Volume.{Volume, chain}
+use Rattle.k_relink.specs.extent_model.Counts.{length-le}
+use Rattle.k_relink.specs.extent_model.declared.extent_words.Extent.{Extent}
+use Rattle.k_relink.specs.extent_model.Extents.{IsCanonical}
 use Rattle.k_plans.specs.k_journal.declared.batches.Entry.{Entry}
-use Rattle.k_plans.specs.k_land.Plans.{NewChain, Turns, new_at}
-use Rattle.k_plans.specs.k_land.WrittenLaws.{blocks_of-one}
+use Rattle.k_plans.specs.LandingsPlans.{NewChain, Turns, new_at}
+use Rattle.k_plans.specs.WrittenLaws.{blocks_of-one}
 use Rattle.k_plans.specs.Free.{is_free_block}
 use Rattle.k_plans.specs.Switching.{IsMapPlan, IsSetAside, WaitOnce}
 use Rattle.k_plans.specs.View.{TablesView}
 use Rattle.k_plans.specs.Whole.{IsWhole}
-use Rattle.k_plans.specs.map_rules.Taken.{AreLowest, switched, with_map}
-use Rattle.k_plans.specs.volume_facts.Changes.{chain-set_same}
-use Rattle.k_plans.specs.volume_maps.Hits.{in_chain-append}
-use Rattle.k_plans.specs.volume_maps.Switches.{MaySwitch, counted-among, unused-data}
-use Rattle.k_plans.specs.volume_maps.TakenLaws.{All-at, rising-distinct, rising-once}
-use Rattle.k_plans.specs.volume_uses.Uses.{in_chain, in_map, is_unused}
+use Rattle.k_plans.specs.k_split_model.Taken.{AreLowest, switched, with_map}
+use Rattle.k_plans.specs.volume_laws.Changes.{chain-set_same}
+use Rattle.k_plans.specs.volume_change_laws.Hits.{in_chain-append}
+use Rattle.k_plans.specs.volume_change_laws.Switches.{MaySwitch, counted-among, unused-data}
+use Rattle.k_plans.specs.volume_change_laws.TakenLaws.{All-at, rising-distinct, rising-once}
+use Rattle.k_plans.specs.volume_laws.Uses.{in_chain, in_map, is_unused}
 use Rattle.k_map_plans.specs.Going.{MayGoOver}
 
 -- ---- blocks that are set aside

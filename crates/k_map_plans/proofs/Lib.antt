@@ -3,4 +3,5 @@ mod Goings
 mod Moves
 mod Sizes
 mod Stagings
+mod Resets
 pub use Rattle.k_plans.proofs as k_plans_proofs

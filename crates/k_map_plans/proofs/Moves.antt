@@ -5,35 +5,35 @@ use Rattle.std.proofs.lemmas.Bool.{both_ways, cases_lt}
 use Rattle.std.proofs.lemmas.Grind.{get_or_default_zero}
 use Rattle.std.proofs.lemmas.List.{append-nil, get_or-append_right, get_or_append_left, length-append, length-set}
 use Rattle.block_counts.specs.Counts.{chains_for}
-use Rattle.disk_lines.specs.declared.Inode.{Inode}
-use Rattle.disk_lines.specs.declared.Kind.TheVariants.{File, Staging}
-use Rattle.k_plans.specs.disk_places.Places.{is_data_block, reserve}
-use Rattle.k_plans.specs.disk_rules.Placed.{AreDistinct, block_at}
-use Rattle.k_relink.specs.extent_facts.Counts.{length-le}
-use Rattle.k_plans.specs.k_land.Maps.{AreApart}
+use Rattle.layout_model.specs.declared.lines.Inode.{Inode}
+use Rattle.layout_model.specs.declared.lines.Kind.TheVariants.{File, Staging}
+use Rattle.k_plans.specs.layout_model.Places.{is_data_block, reserve}
+use Rattle.k_plans.specs.image_model.Placed.{AreDistinct, block_at}
+use Rattle.k_relink.specs.extent_model.Counts.{length-le}
+use Rattle.k_plans.specs.Maps.{AreApart}
 use Rattle.k_plans.specs.Free.{is_free_block}
-use Rattle.k_plans.specs.disk_rules.Rules.{file_blocks_of}
-use Rattle.k_plans.specs.disk_rules.Volume.{Volume, chain, extents, inode}
-use Rattle.k_relink.specs.extent_words.Extents.{IsCanonical, disk_at, is_within}
-use Rattle.k_relink.specs.extent_words.Moves.{Moves}
+use Rattle.k_plans.specs.image_model.Rules.{file_blocks_of}
+use Rattle.k_plans.specs.image_model.Volume.{Volume, chain, extents, inode}
+use Rattle.k_relink.specs.extent_model.Extents.{IsCanonical, disk_at, is_within}
+use Rattle.k_relink.specs.extent_model.Moves.{Moves}
 use Rattle.k_plans.specs.Switching.{IsMapPlan, IsSetAside}
 use Rattle.k_plans.specs.View.{TablesView}
 use Rattle.k_plans.specs.Whole.{IsWhole}
-use Rattle.k_plans.specs.volume_facts.Changes.{chain-set_other, extents-set_other, inode-set_other}
-use Rattle.k_plans.specs.volume_maps.Bounds.{map-bound, own-data, own-once}
-use Rattle.k_plans.specs.volume_maps.Hits.{AreAt, in_chain-append, in_map-left, in_map-linked}
-use Rattle.k_plans.specs.volume_maps.Shorts.{AreBelow, length-below, mapped-below, part-below}
-use Rattle.k_plans.specs.volume_maps.Switches.{MaySwitch, StandsWith, unused-data, wait-once}
-use Rattle.k_plans.specs.volume_maps.TakenLaws.{rising-distinct, rising-once}
-use Rattle.k_plans.specs.volume_uses.OwnerLaws.{two-le-owners}
-use Rattle.k_plans.specs.volume_uses.UseLaws.{in_chain-at, length-uses_by}
-use Rattle.k_plans.specs.volume_uses.Uses.{in_chain, in_map, is_unused}
-use Rattle.k_relink.specs.extent_words.declared.Extent.{Extent}
+use Rattle.k_plans.specs.volume_laws.Changes.{chain-set_other, extents-set_other, inode-set_other}
+use Rattle.k_plans.specs.volume_change_laws.Bounds.{map-bound, own-data, own-once}
+use Rattle.k_plans.specs.volume_change_laws.Hits.{AreAt, in_chain-append, in_map-left, in_map-linked}
+use Rattle.k_plans.specs.volume_change_laws.Shorts.{AreBelow, length-below, mapped-below, part-below}
+use Rattle.k_plans.specs.volume_change_laws.Switches.{MaySwitch, StandsWith, unused-data, wait-once}
+use Rattle.k_plans.specs.volume_change_laws.TakenLaws.{rising-distinct, rising-once}
+use Rattle.k_plans.specs.volume_laws.OwnerLaws.{two-le-owners}
+use Rattle.k_plans.specs.volume_laws.UseLaws.{in_chain-at, length-uses_by}
+use Rattle.k_plans.specs.volume_laws.Uses.{in_chain, in_map, is_unused}
+use Rattle.k_relink.specs.extent_model.declared.extent_words.Extent.{Extent}
 use Rattle.k_plans.specs.k_journal.declared.batches.Entry.{Entry}
-use Rattle.k_plans.specs.k_land.Plans.{IsMapFrom, NewChain, Turns, blocks_of, new_at}
-use Rattle.k_plans.specs.map_rules.Changes.{with_length}
-use Rattle.k_plans.specs.map_rules.Taken.{AreLowest, switched, with_map}
-use Rattle.k_plans.specs.map_rules.declared.moves.Move.{Move}
+use Rattle.k_plans.specs.LandingsPlans.{IsMapFrom, NewChain, Turns, blocks_of, new_at}
+use Rattle.k_plans.specs.k_split_model.MapChangesChanges.{with_length}
+use Rattle.k_plans.specs.k_split_model.Taken.{AreLowest, switched, with_map}
+use Rattle.k_plans.specs.k_split_model.declared.map_changes.moves.Move.{Move}
 use Rattle.k_map_plans.specs.Moving.{MayGoBoth, left_volume}
 use Rattle.k_map_plans.specs.Plans.{MayMove}
 use Rattle.k_map_plans.proofs.Goings.{aside-unused, data-above, fields-fit, free-unused}

@@ -3,24 +3,24 @@ use Rattle.std.proofs.Common.{◌≡◌, ◌≤◌, ◌+◌, ◌^◌, ℕ, true,
 use Rattle.std.specs.Prelude.{All, ◌&&◌, nat_le, nat_lt}
 use Rattle.std.proofs.lemmas.Bool.Decides.{nat_tests}
 use Rattle.block_counts.specs.Counts.{blocks_for}
-use Rattle.disk_lines.specs.declared.Inode.{Inode}
-use Rattle.disk_lines.specs.declared.Kind.{Kind}
-use Rattle.disk_lines.specs.declared.Kind.TheVariants.{File}
-use Rattle.disk_lines.specs.Lines.{has_map_or_none, is_inode, is_inode_of_kind, most_bytes}
-use Rattle.k_plans.specs.disk_places.Places.{reserve}
-use Rattle.k_plans.specs.disk_rules.Rules.{file_blocks_of}
-use Rattle.k_plans.specs.disk_rules.Volume.{extents, inode}
-use Rattle.k_relink.specs.extent_words.declared.Extent.{Extent}
-use Rattle.k_relink.specs.extent_words.Extents.{IsCanonical}
-use Rattle.k_relink.specs.extent_words.Maps.{IsPart}
+use Rattle.layout_model.specs.declared.lines.Inode.{Inode}
+use Rattle.layout_model.specs.declared.lines.Kind.{Kind}
+use Rattle.layout_model.specs.declared.lines.Kind.TheVariants.{File}
+use Rattle.layout_model.specs.Lines.{has_map_or_none, is_inode, is_inode_of_kind, most_bytes}
+use Rattle.k_plans.specs.layout_model.Places.{reserve}
+use Rattle.k_plans.specs.image_model.Rules.{file_blocks_of}
+use Rattle.k_plans.specs.image_model.Volume.{extents, inode}
+use Rattle.k_relink.specs.extent_model.declared.extent_words.Extent.{Extent}
+use Rattle.k_relink.specs.extent_model.Extents.{IsCanonical}
+use Rattle.k_relink.specs.extent_model.Maps.{IsPart}
 use Rattle.k_plans.specs.Free.{free_blocks}
 use Rattle.k_plans.specs.View.{TablesView}
 use Rattle.k_plans.specs.Whole.{IsWhole}
-use Rattle.k_plans.specs.map_rules.Changes.{with_size}
-use Rattle.k_plans.specs.map_rules.Taken.{with_map}
-use Rattle.k_plans.specs.volume_maps.Bounds.{part-bound}
-use Rattle.k_plans.specs.volume_maps.Hits.{in_map-parts}
-use Rattle.k_plans.specs.volume_uses.Uses.{in_chain}
+use Rattle.k_plans.specs.k_split_model.MapChangesChanges.{with_size}
+use Rattle.k_plans.specs.k_split_model.Taken.{with_map}
+use Rattle.k_plans.specs.volume_change_laws.Bounds.{part-bound}
+use Rattle.k_plans.specs.volume_change_laws.Hits.{in_map-parts}
+use Rattle.k_plans.specs.volume_laws.Uses.{in_chain}
 use Rattle.k_map_plans.specs.Going.{MayGoOver}
 use Rattle.k_map_plans.specs.Plans.{IsLiveFile}
 

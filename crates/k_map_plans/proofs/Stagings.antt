@@ -4,31 +4,31 @@ use Rattle.std.specs.Prelude.{All, IfOk, OnOk, ◌&&◌, ◌==◌}
 use Rattle.std.specs.declared.alloc.AllocError.{AllocError}
 use Rattle.std.proofs.lemmas.Bool.Decides.{nat_tests}
 use Rattle.std.proofs.lemmas.List.Elements.{All-nil}
-use Rattle.disk_lines.specs.declared.Inode.{Inode}
-use Rattle.disk_lines.specs.declared.Kind.{Kind}
-use Rattle.disk_lines.specs.declared.Kind.TheVariants.{Staging}
-use Rattle.disk_lines.specs.Lines.{has_map_or_none, is_inode, is_inode_of_kind}
-use Rattle.k_plans.specs.disk_rules.Rules.{file_blocks_of}
-use Rattle.k_plans.specs.disk_rules.Volume.{Volume, extents, inode}
-use Rattle.k_relink.specs.extent_words.declared.Extent.{Extent}
+use Rattle.layout_model.specs.declared.lines.Inode.{Inode}
+use Rattle.layout_model.specs.declared.lines.Kind.{Kind}
+use Rattle.layout_model.specs.declared.lines.Kind.TheVariants.{Staging}
+use Rattle.layout_model.specs.Lines.{has_map_or_none, is_inode, is_inode_of_kind}
+use Rattle.k_plans.specs.image_model.Rules.{file_blocks_of}
+use Rattle.k_plans.specs.image_model.Volume.{Volume, extents, inode}
+use Rattle.k_relink.specs.extent_model.declared.extent_words.Extent.{Extent}
 use Rattle.k_plans.specs.k_journal.declared.batches.Entry.{Entry}
-use Rattle.k_plans.specs.k_land.Plans.{NewChain}
+use Rattle.k_plans.specs.LandingsPlans.{NewChain}
 use Rattle.k_plans.specs.View.{TablesView}
 use Rattle.k_plans.specs.Whole.{IsWhole}
 use Rattle.block_counts.specs.Counts.{chains_for}
 use Rattle.k_plans.specs.block_pool.FreeSets.{is_among}
-use Rattle.k_plans.specs.disk_places.Places.{reserve}
+use Rattle.k_plans.specs.layout_model.Places.{reserve}
 use Rattle.k_plans.specs.Free.{free_blocks, is_free_block}
 use Rattle.k_plans.specs.Switching.{IsMapPlan, IsSetAside, WaitOnce}
-use Rattle.k_plans.specs.map_rules.Changes.{aged, HasInOrder, IsPreallocated}
-use Rattle.k_plans.specs.map_rules.Taken.{switched, with_map}
+use Rattle.k_plans.specs.k_split_model.MapChangesChanges.{aged, HasInOrder, IsPreallocated}
+use Rattle.k_plans.specs.k_split_model.Taken.{switched, with_map}
 use Rattle.std.specs.List.{list_any}
-use Rattle.k_plans.specs.volume_maps.Bounds.{map-bound}
-use Rattle.k_plans.specs.volume_maps.Hits.{in_chain-append, in_map-in_order}
-use Rattle.k_plans.specs.volume_maps.Shorts.{in_order-below}
-use Rattle.k_plans.specs.volume_maps.Switches.{unused-data}
-use Rattle.k_plans.specs.volume_maps.TakenLaws.{AreLowest-append, rising-once}
-use Rattle.k_plans.specs.volume_uses.Uses.{in_chain, in_map, is_unused}
+use Rattle.k_plans.specs.volume_change_laws.Bounds.{map-bound}
+use Rattle.k_plans.specs.volume_change_laws.Hits.{in_chain-append, in_map-in_order}
+use Rattle.k_plans.specs.volume_change_laws.Shorts.{in_order-below}
+use Rattle.k_plans.specs.volume_change_laws.Switches.{unused-data}
+use Rattle.k_plans.specs.volume_change_laws.TakenLaws.{AreLowest-append, rising-once}
+use Rattle.k_plans.specs.volume_laws.Uses.{in_chain, in_map, is_unused}
 use Rattle.k_map_plans.specs.Going.{HasGoneOver, MayGoOver}
 use Rattle.k_map_plans.specs.Plans.{IsStagingFile}
 use Rattle.k_map_plans.proofs.Goings.{aside-once, aside-unused, aside-volume, left-free}

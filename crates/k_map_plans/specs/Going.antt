@@ -1,19 +1,19 @@
 -- One inode of the tables goes over to another map.
 use Rattle.std.specs.Prelude.{◌≡◌, ◌⊎◌, ◌<◌, ◌≤◌, ℕ, ◌+◌, All, true, List, [], ◌∷◌, length}
 use Rattle.block_counts.specs.Counts.{chains_for}
-use Rattle.k_relink.specs.extent_words.declared.Extent.{Extent}
-use Rattle.disk_lines.specs.declared.Inode.{Inode}
-use Rattle.disk_lines.specs.declared.Kind.TheVariants.{File, Staging}
-use Rattle.disk_lines.specs.Lines.{is_inode}
-use Rattle.k_plans.specs.disk_rules.Rules.{file_blocks_of}
-use Rattle.k_plans.specs.disk_rules.Volume.{chain, extents, inode}
+use Rattle.k_relink.specs.extent_model.declared.extent_words.Extent.{Extent}
+use Rattle.layout_model.specs.declared.lines.Inode.{Inode}
+use Rattle.layout_model.specs.declared.lines.Kind.TheVariants.{File, Staging}
+use Rattle.layout_model.specs.Lines.{is_inode}
+use Rattle.k_plans.specs.image_model.Rules.{file_blocks_of}
+use Rattle.k_plans.specs.image_model.Volume.{chain, extents, inode}
 use Rattle.k_plans.specs.k_journal.declared.batches.Entry.{Entry}
-use Rattle.k_plans.specs.k_land.Plans.{NewChain}
+use Rattle.k_plans.specs.LandingsPlans.{NewChain}
 use Rattle.k_plans.specs.Free.{free_blocks, is_free_block}
 use Rattle.k_plans.specs.Switching.{IsMapPlan, WaitOnce}
 use Rattle.k_plans.specs.View.{TablesView}
-use Rattle.k_plans.specs.map_rules.Taken.{AreLowest, switched, with_map}
-use Rattle.k_plans.specs.volume_uses.Uses.{in_chain, in_map}
+use Rattle.k_plans.specs.k_split_model.Taken.{AreLowest, switched, with_map}
+use Rattle.k_plans.specs.volume_laws.Uses.{in_chain, in_map}
 
 -- The inode keeps its kind, a file's or a staging file's, and may have this line with any map. What it has then and what is
 -- freed of its map is what it had, with the blocks that wait. There is room for the new chain.

@@ -1,12 +1,12 @@
 -- The two inodes of a move go over to their maps, one after the other.
 use Rattle.std.specs.Prelude.{◌<◌, ℕ, List, length}
-use Rattle.k_relink.specs.extent_words.declared.Extent.{Extent}
-use Rattle.k_plans.specs.disk_rules.Volume.{Volume, inode}
+use Rattle.k_relink.specs.extent_model.declared.extent_words.Extent.{Extent}
+use Rattle.k_plans.specs.image_model.Volume.{Volume, inode}
 use Rattle.k_plans.specs.View.{TablesView}
-use Rattle.k_plans.specs.map_rules.Changes.{with_length}
-use Rattle.k_plans.specs.map_rules.Taken.{switched}
-use Rattle.k_plans.specs.map_rules.declared.moves.Move.{Move}
-use Rattle.k_plans.specs.volume_maps.Switches.{MaySwitch}
+use Rattle.k_plans.specs.k_split_model.MapChangesChanges.{with_length}
+use Rattle.k_plans.specs.k_split_model.Taken.{switched}
+use Rattle.k_plans.specs.k_split_model.declared.map_changes.moves.Move.{Move}
+use Rattle.k_plans.specs.volume_change_laws.Switches.{MaySwitch}
 
 -- the volume without the blocks that leave the staging file, and the one with them in the file
 abbrev pub left_volume : Move → List Extent → List ℕ → Volume → Volume

@@ -1,25 +1,25 @@
 -- What the plans of changes of maps answer and leave.
 use Rattle.std.specs.Prelude.{◌≡◌, ◌≤◌, ◌<◌, ◌+◌, ◌-◌, ◌^◌, ◌==◌, nat_lt, ℕ, Bool, true, false, List, [], ◌∷◌, length, Option, None, Some, Result, Ok, Err}
 use Rattle.std.specs.declared.alloc.AllocError.{AllocError}
-use Rattle.disk_lines.specs.declared.Kind.TheVariants.{File, Staging}
-use Rattle.k_plans.specs.disk_places.Places.{reserve}
-use Rattle.k_plans.specs.disk_rules.Volume.{Volume, chain, extents, inode}
-use Rattle.k_relink.specs.extent_words.declared.Extent.{Extent}
+use Rattle.layout_model.specs.declared.lines.Kind.TheVariants.{File, Staging}
+use Rattle.k_plans.specs.layout_model.Places.{reserve}
+use Rattle.k_plans.specs.image_model.Volume.{Volume, chain, extents, inode}
+use Rattle.k_relink.specs.extent_model.declared.extent_words.Extent.{Extent}
 use Rattle.k_plans.specs.k_journal.declared.batches.Entry.{Entry}
-use Rattle.k_plans.specs.k_land.Plans.{NewChain}
+use Rattle.k_plans.specs.LandingsPlans.{NewChain}
 use Rattle.k_plans.specs.Free.{free_blocks, is_free_block}
 use Rattle.k_plans.specs.Switching.{IsMapPlan}
 use Rattle.k_plans.specs.View.{TablesView}
-use Rattle.k_plans.specs.map_rules.Changes.{given_up, holes, IsFilled, IsMoved, IsPreallocated, IsSized}
-use Rattle.k_plans.specs.map_rules.declared.moves.Move.{Move}
-use Rattle.k_relink.specs.extent_words.Moves.{IsMapped}
-use Rattle.disk_lines.specs.Lines.{most_bytes}
+use Rattle.k_plans.specs.k_split_model.MapChangesChanges.{given_up, holes, IsFilled, IsMoved, IsPreallocated, IsSized}
+use Rattle.k_plans.specs.k_split_model.declared.map_changes.moves.Move.{Move}
+use Rattle.k_relink.specs.extent_model.Moves.{IsMapped}
+use Rattle.layout_model.specs.Lines.{most_bytes}
 use Rattle.posix_types.specs.declared.item.Outcome.{Outcome}
 use Rattle.posix_types.specs.declared.reply.Errno.{Errno}
 use Rattle.posix_types.specs.declared.reply.Reply.{Reply}
 use Rattle.posix_types.specs.declared.reply.Room.{Room}
 use Rattle.posix_types.specs.declared.reply.What.{What}
-use Rattle.k_plans.specs.posix_words.Outcomes.{answer, first, idle_row, space_row}
+use Rattle.k_plans.specs.posix_tables.Outcomes.{answer, first, idle_row, space_row}
 
 -- a file in use
 pub record IsLiveFile (ino : ℕ) (v : Volume) : Type 0 where
@@ -31,7 +31,7 @@ pub record IsStagingFile (staging : ℕ) (v : Volume) : Type 0 where
   pub below : staging < length v.inodes
   pub kind : (inode v staging).kind ≡ Staging
 
--- for want of memory nothing is changed, and nothing is planned
+-- where memory runs out nothing is changed, and nothing is planned
 pub record IsNotPlanned (old new : TablesView) (b : List Entry) : Type 0 where
   pub same : new ≡ old
   pub no_lines : b ≡ []

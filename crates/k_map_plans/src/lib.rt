@@ -1,27 +1,20 @@
-//! The changes of maps, planned on the tables.
+//! Changes of maps planned on the tables: sizes, holes, staging files, relinks, and orders that count anew.
 //!
-//! A plan sets free blocks aside, lets an inode go over to its new map, and puts its line into an
-//! empty `Batch`. It changes no map before it has all memory; blocks that nothing has any longer are
-//! free at its end, so that it has to be landed before another change is planned. The layer above may
-//! rely on this: the answer is one clause by cases, over the definitions of `map_rules` (`IsSized`),
-//! and comes with the map that is to be written before the lines are landed (`IsMapPlan`); for want of
-//! memory tables and batch are as before.
+//! A plan changes nothing before it has all memory, and comes with the map that is written before
+//! its lines are landed; where memory runs out all is as before.
 //!
-//! Stands on `k_plans` (the tables), `map_rules`, `volume_maps`, `extent_map` and `k_land`.
+//! - `map_plans`: The changes of maps, planned on the tables.
+//! - `log_plans`: The plan by which the entries that a file has applied count anew.
+//!
+//! Stands on `block_counts`, `layout_model`, `extent_map`, `k_relink`, `posix_types` and `k_plans`.
 #![tactic(auto)]
 
-mod filling;
-mod going;
-mod lists;
-mod moving;
-mod sizing;
-mod staging;
+mod log_plans;
+mod map_plans;
 
-pub use filling::{may_fill, plan_fill};
-pub use k_plans::{
+pub use log_plans::plan_reset;
+pub use map_plans::{
     Batch, Commit, Geometry, Kind, NewMap, PlanFault, Recovered, Tables, fresh_image, land,
-    land_maps, read_base, read_inodes, read_maps, read_names, recover,
+    land_maps, may_fill, plan_fill, plan_give_up, plan_move, plan_preallocate, plan_size,
+    read_base, read_inodes, read_maps, read_names, recover,
 };
-pub use moving::plan_move;
-pub use sizing::plan_size;
-pub use staging::{plan_give_up, plan_preallocate};

@@ -3,10 +3,10 @@ use Rattle.std.proofs.Common.{◌≡◌, ◌≢◌, ℕ, ◌+◌, ◌<◌, ◌�
 use Rattle.std.specs.Prelude.{option_and_then}
 use Rattle.std.proofs.lemmas.Bool.{cases_order}
 use Rattle.std.proofs.lemmas.Option.{same_Some}
-use Rattle.disk_lines.specs.Names.{Rows, up, parent_of, IsBelow}
-use Rattle.disk_lines.specs.TableLaws.{up-more, up-bound}
-use Rattle.disk_lines.specs.Tables.{IsKeyed, IsAcyclic}
-use Rattle.disk_lines.specs.UpLaws.{up-past}
+use Rattle.layout_model.specs.Names.{Rows, up, parent_of, IsBelow}
+use Rattle.layout_model.specs.TableLaws.{up-more, up-bound}
+use Rattle.layout_model.specs.Tables.{IsKeyed, IsAcyclic}
+use Rattle.layout_model.specs.UpLaws.{up-past}
 
 -- n directories up from the inode one is at `at`, and has not come by the ancestor
 abbrev pub Climbs : Rows → ℕ → ℕ → ℕ → ℕ → Type 0

@@ -3,10 +3,10 @@ use Rattle.std.proofs.Common.{◌≡◌, ◌⊎◌, ℕ, ◌+◌, ◌==◌, subs
 use Rattle.std.proofs.lemmas.Bool.{cond-true, eqb-true, eq-eqb, cases_lt}
 use Rattle.std.proofs.lemmas.Option.{cond_some}
 use Rattle.std.specs.Prelude.{is_some, IsSome}
-use Rattle.disk_lines.specs.Lines.{NameRow}
-use Rattle.disk_lines.specs.Names.{Rows, row, child_of_row, child_named, walk, HasHeight}
-use Rattle.disk_lines.specs.TableLaws.{walk-step, walk-cons, walk-bound, child_named-at}
-use Rattle.disk_lines.specs.Tables.{IsKeyed, IsAcyclic}
+use Rattle.layout_model.specs.Lines.{NameRow}
+use Rattle.layout_model.specs.Names.{Rows, row, child_of_row, child_named, walk, HasHeight}
+use Rattle.layout_model.specs.TableLaws.{walk-step, walk-cons, walk-bound, child_named-at}
+use Rattle.layout_model.specs.Tables.{IsKeyed, IsAcyclic}
 use Rattle.k_names.specs.Heights.{child_below, LeadsAtMost, HasHeightWithin, HasHeightBefore}
 
 -- what an option that is there holds

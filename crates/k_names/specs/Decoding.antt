@@ -1,5 +1,5 @@
 -- What the answer of `decode_name` stands for.
-use Rattle.disk_lines.specs.Lines.{NameSlot, FreeName, Named, BadName}
+use Rattle.layout_model.specs.Lines.{NameSlot, FreeName, Named, BadName}
 use Rattle.k_names.specs.declared.line.Decoded.{Decoded}
 use Rattle.k_names.specs.declared.line.Decoded.TheVariants.{Free, Line, Bad}
 

@@ -1,7 +1,7 @@
 -- The longest path below an inode among those of at most so many names.
 use Rattle.std.specs.Prelude.{◌≡◌, ℕ, ◌+◌, ◌<◌, ◌≤◌, ◌==◌, List, length, Option, Some, None, IsSome, if◌then◌else◌}
-use Rattle.disk_lines.specs.Lines.{NameRow}
-use Rattle.disk_lines.specs.Names.{Rows, row, walk}
+use Rattle.layout_model.specs.Lines.{NameRow}
+use Rattle.layout_model.specs.Names.{Rows, row, walk}
 
 -- the child that a line names below a parent, if it does
 abbrev pub child_below : ℕ → Option NameRow → Option ℕ

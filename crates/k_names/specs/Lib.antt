@@ -1,4 +1,4 @@
 pub mod Decoding
 pub mod Finding
 pub mod Heights
-pub use Rattle.disk_lines.specs.disk_places as disk_places
+pub use Rattle.layout_model.specs as layout_model

@@ -1,10 +1,10 @@
 //! The names of a directory, in order.
 
 ghost use Rattle.std.specs.Prelude.{◌≡◌, ◌≤◌, ℕ, List, IfOk, IsSorted, IsPermutation, count_by};
-ghost use Rattle.disk_lines.specs.disk_places.Fields.{is_same};
+ghost use Rattle.layout_model.specs.Fields.{is_same};
 ghost use Rattle.std.specs.Cmp.Lexicographic.{slice_cmp};
 ghost use Rattle.std.specs.Ordering.{nat_cmp};
-ghost use Rattle.disk_lines.specs.Tables.{IsKeyed, names_below};
+ghost use Rattle.layout_model.specs.Tables.{IsKeyed, names_below};
 
 use crate::line::NameLine;
 use posix_types::Name;

@@ -10,7 +10,9 @@
 //! lowest free line, the children of a directory in the order of their bytes), and, where no path
 //! of names leads back, on the walks up and down.
 //!
-//! Stands on `posix_types`, `disk_places`, `disk_lines` and `line_fields`.
+//! `below` and `height` ask that no path leads back to its start (`IsAcyclic`).
+//!
+//! Stands on `posix_types`, `layout_model` and `image_layout`.
 #![tactic(auto)]
 
 mod children;

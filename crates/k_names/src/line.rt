@@ -1,12 +1,12 @@
 //! A name line as 64 bytes, and back.
 ghost use Rattle.std.specs.Prelude.{◌≡◌, ◌<◌, ◌≤◌, ℕ, List, length, take, drop, slice_index, true, IfOk};
 ghost use Rattle.std.specs.List.{list_all};
-ghost use Rattle.disk_lines.specs.Lines.{NameRow, FreeName, Named, line_name_bytes, is_name_byte, is_dots, is_name, encode_name, is_name_row, decode_name};
-ghost use Rattle.disk_lines.specs.NameLaws.{FitsName, IsNameLine};
-ghost use Rattle.disk_lines.specs.disk_places.Fields.{zeros};
+ghost use Rattle.layout_model.specs.Lines.{NameRow, FreeName, Named, line_name_bytes, is_name_byte, is_dots, is_name, encode_name, is_name_row, decode_name};
+ghost use Rattle.layout_model.specs.NameLaws.{FitsName, IsNameLine};
+ghost use Rattle.layout_model.specs.Fields.{zeros};
 ghost use Rattle.k_names.specs.Decoding.{slot_of};
 
-use line_fields::{put_u32, u32_at};
+use image_layout::{put_u32, u32_at};
 use posix_types::Name;
 use std::alloc::{AllocError, Global};
 use std::marker::Model;
@@ -24,7 +24,7 @@ pub struct NameLine {
 }
 
 impl Model for NameLine {
-    ghost use Rattle.disk_lines.specs.Lines.{NameRow};
+    ghost use Rattle.layout_model.specs.Lines.{NameRow};
 
     ghost Value = { NameRow };
 
@@ -109,7 +109,7 @@ pub fn encode_name(line: &NameLine) -> [u8; 64]
 
 /// What the line stands for: no name exactly where it is all zeros, a name exactly where it is that
 /// name's line.
-#[tactic(auto, unfolding(disk_lines::specs::Lines::decode_name))]
+#[tactic(auto, unfolding(layout_model::specs::Lines::decode_name))]
 pub fn decode_name(alloc: Global, bytes: &[u8; 64]) -> Result<Decoded, AllocError>
     ensures { IfOk result (λ d. slot_of d ≡ decode_name bytes.now) }
 {

@@ -1,7 +1,7 @@
 //! Look-ups in the lines of a table, the lowest line first.
 
 ghost use Rattle.std.specs.Prelude.{◌≡◌, ◌<◌, ◌^◌, ℕ, length, replicate, count_by, false, None, IfSome, IfNone, IfOk};
-ghost use Rattle.disk_lines.specs.Names.{row, is_entry, is_child, is_free_row, find_name, free_line, parent_of};
+ghost use Rattle.layout_model.specs.Names.{row, is_entry, is_child, is_free_row, find_name, free_line, parent_of};
 ghost use Rattle.k_names.specs.Finding.{IsRow};
 
 use crate::line::NameLine;

@@ -1,10 +1,10 @@
 //! The table of the names of an image.
 ghost use Rattle.std.specs.Prelude.{◌≡◌, ◌<◌, ◌≤◌, ◌↔◌, ℕ, List, length, true, false, replicate, slice_set, Some, None, IsTrue, IfSome, IfNone, IfOk, IsSorted, IsPermutation, count_by};
-ghost use Rattle.disk_lines.specs.disk_places.Fields.{is_same};
+ghost use Rattle.layout_model.specs.Fields.{is_same};
 ghost use Rattle.std.specs.Cmp.Lexicographic.{slice_cmp};
 ghost use Rattle.std.specs.Ordering.{nat_cmp};
-ghost use Rattle.disk_lines.specs.Names.{row, is_entry, is_free_row, find_name, free_line, IsBelow, HasHeight};
-ghost use Rattle.disk_lines.specs.Tables.{IsKeyed, IsAcyclic, names_below};
+ghost use Rattle.layout_model.specs.Names.{row, is_entry, is_free_row, find_name, free_line, IsBelow, HasHeight};
+ghost use Rattle.layout_model.specs.Tables.{IsKeyed, IsAcyclic, names_below};
 ghost use Rattle.k_names.specs.Finding.{IsRow};
 
 use crate::children::sorted_children;
@@ -23,8 +23,8 @@ pub struct NameTable {
 
 impl Model for NameTable {
     ghost use Rattle.std.specs.Prelude.{◌<◌, ◌^◌, length};
-    ghost use Rattle.disk_lines.specs.Names.{Rows};
-    ghost use Rattle.disk_lines.specs.Tables.{IsKeyed};
+    ghost use Rattle.layout_model.specs.Names.{Rows};
+    ghost use Rattle.layout_model.specs.Tables.{IsKeyed};
 
     ghost Value = { Rows };
 

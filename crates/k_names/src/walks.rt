@@ -1,8 +1,8 @@
 //! Walks up and down the names of a table.
 
 ghost use Rattle.std.specs.Prelude.{◌≡◌, ◌<◌, ◌≤◌, ◌^◌, ◌↔◌, length, IsTrue};
-ghost use Rattle.disk_lines.specs.Names.{IsBelow};
-ghost use Rattle.disk_lines.specs.Tables.{IsKeyed, IsAcyclic};
+ghost use Rattle.layout_model.specs.Names.{IsBelow};
+ghost use Rattle.layout_model.specs.Tables.{IsKeyed, IsAcyclic};
 ghost use Rattle.k_names.specs.Heights.{HasHeightWithin, child_below};
 
 use crate::line::NameLine;

@@ -1,15 +1,15 @@
 -- Another log base, and all else as it was.
 use Rattle.std.proofs.Common.{◌≡◌, ◌+◌, ◌<◌, ◌≤◌, ℕ, List, [], arith, length, refl, ap, subst, sym}
 use Rattle.k_reading.specs.block_pool.FreeSets.{FreeSet}
-use Rattle.k_tables.specs.disk_rules.Reading.{base_set}
-use Rattle.k_tables.specs.disk_rules.Volume.{Volume}
-use Rattle.volume_maps.specs.volume_changes.MapLaws.{base-keeps}
-use Rattle.k_land.specs.volume_uses.OwnerLaws.{owners-base}
-use Rattle.k_land.specs.k_journal.declared.batches.Entry.{Entry}
-use Rattle.k_land.specs.PlanLaws.{turns-none}
-use Rattle.k_land.specs.Plans.{NewChain, Turns}
+use Rattle.k_tables.specs.image_model.Reading.{base_set}
+use Rattle.k_tables.specs.image_model.Volume.{Volume}
+use Rattle.volume_change_laws.specs.MapLaws.{base-keeps}
+use Rattle.map_chain.specs.volume_laws.OwnerLaws.{owners-base}
+use Rattle.k_journal.specs.declared.batches.Entry.{Entry}
+use Rattle.k_plans.specs.PlanLaws.{turns-none}
+use Rattle.k_plans.specs.LandingsPlans.{NewChain, Turns}
 use Rattle.k_plans.specs.Free.{AreTables}
-use Rattle.k_plans.specs.Plans.{IsPlan}
+use Rattle.k_plans.specs.PlansPlans.{IsPlan}
 use Rattle.k_plans.specs.View.{TablesView, with_volume}
 use Rattle.k_plans.specs.Whole.{IsWhole}
 use Rattle.k_plans.proofs.Wholes.{plan-from, tables-same}

@@ -6,29 +6,29 @@ use Rattle.std.proofs.lemmas.Grind.{get_or_default_zero}
 use Rattle.std.proofs.lemmas.List.Folds.{Any-from_list_any, list_any_at}
 use Rattle.std.specs.Prelude.{◌==◌, ◌&&◌, ◌||◌, All}
 use Rattle.k_reading.specs.block_pool.FreeSets.{FreeSet, LiesWithin, has_block, is_among, is_free_at}
-use Rattle.disk_lines.specs.declared.Inode.{Inode}
-use Rattle.path_spelling.specs.disk_places.Places.{is_data_block}
-use Rattle.k_tables.specs.disk_rules.Placed.{block_at, extent_at, no_extent}
-use Rattle.k_tables.specs.disk_rules.Room.{has_none}
-use Rattle.disk_lines.specs.declared.Kind.TheVariants.{File}
-use Rattle.k_tables.specs.disk_rules.Rules.{IsInData, IsKindAt, file_blocks_of}
-use Rattle.k_tables.specs.disk_rules.Uses.{owners}
-use Rattle.k_tables.specs.disk_rules.Volume.{Volume, chain, extents, inode}
-use Rattle.k_tables.specs.extent_words.declared.Extent.{Extent}
-use Rattle.k_tables.specs.extent_words.Extents.{covers, holds_disk}
-use Rattle.k_tables.specs.k_rules.Changes.{dropped, gone_node}
-use Rattle.volume_maps.specs.volume_changes.Changes.{MayDrop}
-use Rattle.volume_maps.specs.volume_changes.CountLaws.{gone_node-fits}
-use Rattle.volume_maps.specs.volume_changes.LineLaws.{lines-inode, maps-inode}
-use Rattle.volume_maps.specs.volume_changes.MapLaws.{dropped-keeps}
-use Rattle.k_tables.specs.volume_facts.Changes.{chain-set_other, chain-set_same, extents-set_other}
-use Rattle.k_land.specs.volume_uses.OwnerLaws.{one_use, uses-le-owners}
-use Rattle.k_land.specs.volume_uses.PoolLaws.{covered-in_data, has_none-some, is_unused-given, is_unused-others}
-use Rattle.k_land.specs.volume_uses.UseLaws.{covers-in_map, in_chain-at, in_chain-some, in_chain-two, in_map-at, in_map-covers, in_map-two, length-uses_by}
-use Rattle.k_land.specs.volume_uses.Uses.{in_chain, in_map, is_unused}
+use Rattle.layout_model.specs.declared.lines.Inode.{Inode}
+use Rattle.layout_model.specs.Places.{is_data_block}
+use Rattle.k_tables.specs.image_model.Placed.{block_at, extent_at, no_extent}
+use Rattle.k_tables.specs.image_model.Room.{has_none}
+use Rattle.layout_model.specs.declared.lines.Kind.TheVariants.{File}
+use Rattle.k_tables.specs.image_model.Rules.{IsInData, IsKindAt, file_blocks_of}
+use Rattle.k_tables.specs.image_model.Uses.{owners}
+use Rattle.k_tables.specs.image_model.Volume.{Volume, chain, extents, inode}
+use Rattle.k_tables.specs.extent_model.declared.extent_words.Extent.{Extent}
+use Rattle.k_tables.specs.extent_model.Extents.{covers, holds_disk}
+use Rattle.k_tables.specs.k_split_model.ChangesChanges.{dropped, gone_node}
+use Rattle.volume_change_laws.specs.Changes.{MayDrop}
+use Rattle.volume_change_laws.specs.CountLaws.{gone_node-fits}
+use Rattle.volume_change_laws.specs.LineLaws.{lines-inode, maps-inode}
+use Rattle.volume_change_laws.specs.MapLaws.{dropped-keeps}
+use Rattle.k_tables.specs.volume_laws.Changes.{chain-set_other, chain-set_same, extents-set_other}
+use Rattle.map_chain.specs.volume_laws.OwnerLaws.{one_use, uses-le-owners}
+use Rattle.map_chain.specs.volume_laws.PoolLaws.{covered-in_data, has_none-some, is_unused-given, is_unused-others}
+use Rattle.map_chain.specs.volume_laws.UseLaws.{covers-in_map, in_chain-at, in_chain-some, in_chain-two, in_map-at, in_map-covers, in_map-two, length-uses_by}
+use Rattle.map_chain.specs.volume_laws.Uses.{in_chain, in_map, is_unused}
 use Rattle.k_plans.specs.Free.{AreTables, is_free_block}
 use Rattle.k_plans.specs.Giving.{AreGiven, MayGiveChain, MayGiveMap, is_held}
-use Rattle.k_plans.specs.Plans.{KeepsStaged}
+use Rattle.k_plans.specs.PlansPlans.{KeepsStaged}
 use Rattle.k_plans.specs.View.{TablesView, with_volume}
 use Rattle.k_plans.specs.Whole.{IsWhole}
 use Rattle.k_plans.proofs.Wholes.{inodes-set}

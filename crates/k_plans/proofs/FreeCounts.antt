@@ -6,11 +6,11 @@ use Rattle.std.specs.List.{range_with_len}
 use Rattle.std.proofs.lemmas.List.Sums.{sum_by-cons}
 use Rattle.k_reading.specs.block_pool.Facts.{free_count-counted}
 use Rattle.k_reading.specs.block_pool.FreeSets.{FreeSet, is_among, is_free_at, free_count}
-use Rattle.path_spelling.specs.disk_places.Places.{first_data, data_blocks, is_data_block}
-use Rattle.k_tables.specs.disk_rules.Room.{has_none, unused_blocks}
-use Rattle.k_tables.specs.disk_rules.Uses.{owners}
-use Rattle.k_tables.specs.extent_facts.Counts.{one_if, count_below, count_below-agree}
-use Rattle.k_tables.specs.volume_facts.Lists.{count_by-agree}
+use Rattle.layout_model.specs.Places.{first_data, data_blocks, is_data_block}
+use Rattle.k_tables.specs.image_model.Room.{has_none, unused_blocks}
+use Rattle.k_tables.specs.image_model.Uses.{owners}
+use Rattle.k_tables.specs.extent_model.Counts.{one_if, count_below, count_below-agree}
+use Rattle.k_tables.specs.volume_laws.Lists.{count_by-agree}
 use Rattle.k_plans.specs.Free.{IsPoolOf, free_blocks, is_free_block}
 use Rattle.k_plans.specs.View.{TablesView}
 

@@ -4,9 +4,9 @@ use Rattle.std.proofs.lemmas.Bool.{cases_eq, eq-eqb, ne_eqb}
 use Rattle.std.proofs.lemmas.Bool.Decides.{nat_tests}
 use Rattle.std.specs.Prelude.{◌==◌, ◌||◌, if◌then◌else◌}
 use Rattle.k_reading.specs.block_pool.FreeSets.{FreeSet, Gives, is_among, is_free_at}
-use Rattle.k_tables.specs.disk_rules.Placed.{block_at, extent_at}
-use Rattle.k_tables.specs.extent_words.declared.Extent.{Extent}
-use Rattle.k_tables.specs.extent_words.Extents.{covers, holds_disk, is_between}
+use Rattle.k_tables.specs.image_model.Placed.{block_at, extent_at}
+use Rattle.k_tables.specs.extent_model.declared.extent_words.Extent.{Extent}
+use Rattle.k_tables.specs.extent_model.Extents.{covers, holds_disk, is_between}
 use Rattle.k_plans.specs.Giving.{AreGiven}
 
 -- the first n blocks of a chain are given, and the others are not free

@@ -6,11 +6,11 @@ use Rattle.posix_types.specs.declared.item.Outcome.{Outcome}
 use Rattle.posix_types.specs.declared.reply.Reply.{Reply}
 use Rattle.posix_types.specs.declared.reply.Errno.{Errno}
 use Rattle.posix_types.specs.declared.reply.What.{What}
-use Rattle.k_tables.specs.posix_words.NameRows.{mkdir_rows, rmdir_rows, unlink_rows, walk_row}
-use Rattle.k_tables.specs.posix_words.Names.{Space, walk}
-use Rattle.k_tables.specs.posix_words.Outcomes.{first, row, space_row}
+use Rattle.k_tables.specs.posix_tables.NameRows.{mkdir_rows, rmdir_rows, unlink_rows, walk_row}
+use Rattle.k_tables.specs.posix_tables.Names.{Space, walk}
+use Rattle.k_tables.specs.posix_tables.Outcomes.{first, row, space_row}
 use Rattle.k_tables.specs.Refusals.{outcome_of}
-use Rattle.k_tables.specs.declared.refusals.Refusal.{Refusal}
+use Rattle.k_tables.specs.declared.tables.refusals.Refusal.{Refusal}
 
 -- whether an outcome is that of a call that has nothing to do
 is_ok : Reply → Bool

@@ -2,14 +2,14 @@
 use Rattle.std.proofs.Common.{◌≡◌, ◌≢◌, ℕ, zero, suc, ◌<◌, Option, Some, None, sym, ◌∙◌, ap, arith, inl, inr}
 use Rattle.std.proofs.lemmas.Bool.{cases_lt}
 use Rattle.std.proofs.lemmas.Option.{same_Some}
-use Rattle.disk_lines.specs.Names.{IsBelow, is_child, names_of, row as row_at, up}
-use Rattle.disk_lines.specs.TableLaws.{is_child-parts}
-use Rattle.k_tables.specs.disk_rules.Volume.{Volume}
-use Rattle.k_tables.specs.volume_facts.Lists.{count_by-some}
-use Rattle.k_tables.specs.name_facts.ForestLaws.{up-parent, up-top}
-use Rattle.k_tables.specs.name_facts.KeptLaws.{kept-one_name, kept-placed}
-use Rattle.k_tables.specs.name_facts.SetLaws.{parent_of-none, parent_of-one_name}
-use Rattle.volume_maps.specs.volume_changes.CallLaws.{IsKeptVolume}
+use Rattle.layout_model.specs.Names.{IsBelow, is_child, names_of, row as row_at, up}
+use Rattle.layout_model.specs.TableLaws.{is_child-parts}
+use Rattle.k_tables.specs.image_model.Volume.{Volume}
+use Rattle.k_tables.specs.volume_laws.Lists.{count_by-some}
+use Rattle.k_tables.specs.name_laws.ForestLaws.{up-parent, up-top}
+use Rattle.k_tables.specs.name_laws.KeptLaws.{kept-one_name, kept-placed}
+use Rattle.k_tables.specs.name_laws.SetLaws.{parent_of-none, parent_of-one_name}
+use Rattle.volume_change_laws.specs.CallLaws.{IsKeptVolume}
 
 none-some : (o : Option ℕ) (n : ℕ) → o ≡ None → o ≡ Some n → ⊥
 none-some o n none some = cc

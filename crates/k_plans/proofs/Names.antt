@@ -5,10 +5,10 @@ use Rattle.std.proofs.lemmas.Bool.Decides.{nat_tests}
 use Rattle.std.proofs.lemmas.List.Folds.{list_any_at}
 use Rattle.std.specs.Prelude.{nat_le, nat_lt, not, ◌&&◌}
 use Rattle.std.specs.List.{list_all, list_any}
-use Rattle.disk_lines.specs.Lines.{is_dots, is_name, is_name_byte}
-use Rattle.k_tables.specs.posix_words.Names.{is_root, last_name, longest_path, too_long}
-use Rattle.k_tables.specs.volume_names.TreeLaws.{some-names}
-use Rattle.path_spelling.specs.Spelling.{AreSpelled, is_spelled}
+use Rattle.layout_model.specs.Lines.{is_dots, is_name, is_name_byte}
+use Rattle.k_tables.specs.posix_tables.Names.{is_root, last_name, longest_path, too_long}
+use Rattle.k_tables.specs.name_laws.TreeLaws.{some-names}
+use Rattle.layout_model.specs.Spelling.{AreSpelled, is_spelled}
 
 short-name : (name : List ℕ) → is_spelled name ≡ true → nat_lt 48 (length name) ≡ false → is_name name ≡ true
 short-name name spelled short =

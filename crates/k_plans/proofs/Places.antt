@@ -3,29 +3,29 @@ use Rattle.std.proofs.Common.{◌≡◌, ◌<◌, ◌≤◌, ◌⊎◌, ℕ, Boo
 use Rattle.std.proofs.lemmas.Bool.{and_from, ne_eqb}
 use Rattle.std.specs.Prelude.{◌==◌, Some, slice_set}
 use Rattle.k_reading.specs.block_pool.FreeSets.{FreeSet}
-use Rattle.disk_lines.specs.declared.Inode.{Inode}
-use Rattle.disk_lines.specs.declared.Kind.{Kind}
-use Rattle.disk_lines.specs.declared.Kind.TheVariants.{Directory, File}
-use Rattle.disk_lines.specs.Lines.{NameRow, is_name, is_name_row}
-use Rattle.disk_lines.specs.Names.{Rows, is_entry, row}
-use Rattle.k_tables.specs.disk_rules.Reading.{node_set, row_set}
-use Rattle.k_tables.specs.disk_rules.Rules.{IsKindAt}
-use Rattle.k_tables.specs.disk_rules.Volume.{Volume, inode}
-use Rattle.k_land.specs.k_journal.declared.batches.Entry.{Entry}
-use Rattle.k_land.specs.Plans.{Turns}
-use Rattle.k_tables.specs.k_rules.Changes.{new_node}
+use Rattle.layout_model.specs.declared.lines.Inode.{Inode}
+use Rattle.layout_model.specs.declared.lines.Kind.{Kind}
+use Rattle.layout_model.specs.declared.lines.Kind.TheVariants.{Directory, File}
+use Rattle.layout_model.specs.Lines.{NameRow, is_name, is_name_row}
+use Rattle.layout_model.specs.Names.{Rows, is_entry, row}
+use Rattle.k_tables.specs.image_model.Reading.{node_set, row_set}
+use Rattle.k_tables.specs.image_model.Rules.{IsKindAt}
+use Rattle.k_tables.specs.image_model.Volume.{Volume, inode}
+use Rattle.k_journal.specs.declared.batches.Entry.{Entry}
+use Rattle.k_plans.specs.LandingsPlans.{Turns}
+use Rattle.k_tables.specs.k_split_model.ChangesChanges.{new_node}
 use Rattle.k_tables.specs.Found.{IsPlace}
-use Rattle.k_tables.specs.declared.making.Place.{Place}
-use Rattle.k_tables.specs.posix_words.Names.{last_name}
-use Rattle.volume_maps.specs.volume_changes.CallLaws.{may-make, row_to}
-use Rattle.volume_maps.specs.volume_changes.Changes.{MayMake}
-use Rattle.volume_maps.specs.volume_changes.CountLaws.{made-owners, new_node-fits}
-use Rattle.volume_maps.specs.volume_changes.FoundLaws.{IsLowestFree, free-found, make-keeps}
-use Rattle.volume_maps.specs.volume_changes.LineLaws.{lines-node, lines-row, maps-node, maps-row}
+use Rattle.k_tables.specs.declared.tables.making.Place.{Place}
+use Rattle.k_tables.specs.posix_tables.Names.{last_name}
+use Rattle.volume_change_laws.specs.CallLaws.{may-make, row_to}
+use Rattle.volume_change_laws.specs.Changes.{MayMake}
+use Rattle.volume_change_laws.specs.CountLaws.{made-owners, new_node-fits}
+use Rattle.volume_change_laws.specs.FoundLaws.{IsLowestFree, free-found, make-keeps}
+use Rattle.volume_change_laws.specs.LineLaws.{lines-node, lines-row, maps-node, maps-row}
 use Rattle.k_plans.specs.Free.{AreTables}
 use Rattle.k_plans.specs.Making.{kind_of, made_at}
-use Rattle.k_plans.specs.Plans.{IsPlan}
-use Rattle.path_spelling.specs.Spelling.{AreSpelled}
+use Rattle.k_plans.specs.PlansPlans.{IsPlan}
+use Rattle.layout_model.specs.Spelling.{AreSpelled}
 use Rattle.k_plans.specs.View.{TablesView, with_volume}
 use Rattle.k_plans.specs.Whole.{IsWhole}
 use Rattle.k_plans.proofs.Names.{last-fits}

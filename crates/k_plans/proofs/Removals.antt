@@ -2,21 +2,21 @@
 use Rattle.std.proofs.Common.{◌≡◌, ◌<◌, ◌≤◌, ℕ, List, [], length, refl, sym, ◌∙◌, ap, inl, arith, subst}
 use Rattle.std.specs.Prelude.{None, slice_set}
 use Rattle.k_reading.specs.block_pool.FreeSets.{FreeSet}
-use Rattle.disk_lines.specs.declared.Inode.{Inode}
-use Rattle.disk_lines.specs.Names.{Rows}
-use Rattle.k_tables.specs.disk_rules.Reading.{node_set, row_set}
-use Rattle.k_tables.specs.disk_rules.Volume.{Volume, inode}
-use Rattle.k_land.specs.k_journal.declared.batches.Entry.{Entry as Line}
-use Rattle.k_land.specs.Plans.{Turns}
-use Rattle.k_tables.specs.k_rules.Changes.{gone_node, removed, unnamed}
+use Rattle.layout_model.specs.declared.lines.Inode.{Inode}
+use Rattle.layout_model.specs.Names.{Rows}
+use Rattle.k_tables.specs.image_model.Reading.{node_set, row_set}
+use Rattle.k_tables.specs.image_model.Volume.{Volume, inode}
+use Rattle.k_journal.specs.declared.batches.Entry.{Entry as Line}
+use Rattle.k_plans.specs.LandingsPlans.{Turns}
+use Rattle.k_tables.specs.k_split_model.ChangesChanges.{gone_node, removed, unnamed}
 use Rattle.k_tables.specs.Found.{IsDirectoryAt, IsFileAt}
-use Rattle.k_tables.specs.declared.removing.Entry.{Entry}
-use Rattle.k_tables.specs.name_facts.KeptLaws.{node-below}
-use Rattle.volume_maps.specs.volume_changes.CountLaws.{gone_node-fits, removed-owners, unnamed-owners}
-use Rattle.volume_maps.specs.volume_changes.FoundLaws.{rmdir-keeps, unlink-keeps}
-use Rattle.volume_maps.specs.volume_changes.LineLaws.{lines-node, lines-row, maps-node, maps-row}
+use Rattle.k_tables.specs.declared.tables.removing.Entry.{Entry}
+use Rattle.k_tables.specs.name_laws.KeptLaws.{node-below}
+use Rattle.volume_change_laws.specs.CountLaws.{gone_node-fits, removed-owners, unnamed-owners}
+use Rattle.volume_change_laws.specs.FoundLaws.{rmdir-keeps, unlink-keeps}
+use Rattle.volume_change_laws.specs.LineLaws.{lines-node, lines-row, maps-node, maps-row}
 use Rattle.k_plans.specs.Free.{AreTables}
-use Rattle.k_plans.specs.Plans.{IsPlan}
+use Rattle.k_plans.specs.PlansPlans.{IsPlan}
 use Rattle.k_plans.specs.View.{TablesView, with_volume}
 use Rattle.k_plans.specs.Whole.{IsWhole}
 use Rattle.k_plans.proofs.Wholes.{IsBare, directory-bare, inodes-set, plan-from, tables-same, with_lines, with_names}

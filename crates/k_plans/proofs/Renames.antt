@@ -2,32 +2,32 @@
 use Rattle.std.proofs.Common.{◌≡◌, ◌<◌, ◌⊎◌, ℕ, true, false, not, List, length, sym, ◌∙◌, ap, inl, inr, subst}
 use Rattle.std.proofs.lemmas.Bool.{and_from}
 use Rattle.std.specs.Prelude.{◌==◌, None, Option, Some, Result, Ok, slice_set}
-use Rattle.disk_lines.specs.Lines.{NameRow, is_name, is_name_row}
-use Rattle.disk_lines.specs.Names.{Rows, find_name, is_child, is_entry, row}
-use Rattle.disk_lines.specs.TableLaws.{is_entry-own, is_entry-parts}
-use Rattle.disk_lines.specs.Tables.{IsKeyed}
-use Rattle.k_tables.specs.disk_rules.Reading.{node_set, row_set}
-use Rattle.k_tables.specs.disk_rules.Volume.{Volume, inode}
+use Rattle.layout_model.specs.Lines.{NameRow, is_name, is_name_row}
+use Rattle.layout_model.specs.Names.{Rows, find_name, is_child, is_entry, row}
+use Rattle.layout_model.specs.TableLaws.{is_entry-own, is_entry-parts}
+use Rattle.layout_model.specs.Tables.{IsKeyed}
+use Rattle.k_tables.specs.image_model.Reading.{node_set, row_set}
+use Rattle.k_tables.specs.image_model.Volume.{Volume, inode}
 use Rattle.k_tables.specs.k_names.Finding.{IsRow}
-use Rattle.k_tables.specs.k_rules.Changes.{gone_node, renamed, renamed_over_directory, renamed_over_file, unnamed}
-use Rattle.k_tables.specs.k_rules.Spaces.{is_directory_in, volume_space}
+use Rattle.k_tables.specs.k_split_model.ChangesChanges.{gone_node, renamed, renamed_over_directory, renamed_over_file, unnamed}
+use Rattle.k_tables.specs.k_split_model.Spaces.{is_directory_in, volume_space}
 use Rattle.k_tables.specs.Found.{IsEntryAt, IsMoving, IsTargetAt}
-use Rattle.k_tables.specs.declared.removing.Entry.{Entry}
-use Rattle.k_tables.specs.declared.renaming.Moving.{Moving}
-use Rattle.k_tables.specs.name_facts.KeptLaws.{kept-keyed, node-below}
-use Rattle.k_tables.specs.name_facts.RowLaws.{names_of-zero}
-use Rattle.k_tables.specs.name_facts.SetLaws.{row-freed}
+use Rattle.k_tables.specs.declared.tables.removing.Entry.{Entry}
+use Rattle.k_tables.specs.declared.tables.renaming.Moving.{Moving}
+use Rattle.k_tables.specs.name_laws.KeptLaws.{kept-keyed, node-below}
+use Rattle.k_tables.specs.name_laws.RowLaws.{names_of-zero}
+use Rattle.k_tables.specs.name_laws.SetLaws.{row-freed}
 use Rattle.posix_types.specs.declared.reply.Errno.{Errno}
-use Rattle.k_tables.specs.posix_words.NameRows.{rename_rows}
-use Rattle.k_tables.specs.posix_words.Names.{Space, child_of, last_name, walk}
-use Rattle.k_tables.specs.posix_words.Outcomes.{first}
-use Rattle.volume_maps.specs.volume_changes.CallLaws.{may-rename, row_to}
-use Rattle.volume_maps.specs.volume_changes.CountLaws.{gone_node-fits}
-use Rattle.volume_maps.specs.volume_changes.FoundLaws.{rename-keeps, rename-over_directory-keeps, rename-over_file-keeps, row-found}
-use Rattle.volume_maps.specs.volume_changes.LineLaws.{lines-node, lines-row, maps-node, maps-row}
-use Rattle.k_tables.specs.volume_names.Paths.{CanReplace, IsAt, IsNewAt, MayGo}
-use Rattle.k_tables.specs.volume_names.RenameLaws.{rename-may}
-use Rattle.path_spelling.specs.Spelling.{AreSpelled}
+use Rattle.k_tables.specs.posix_tables.NameRows.{rename_rows}
+use Rattle.k_tables.specs.posix_tables.Names.{Space, child_of, last_name, walk}
+use Rattle.k_tables.specs.posix_tables.Outcomes.{first}
+use Rattle.volume_change_laws.specs.CallLaws.{may-rename, row_to}
+use Rattle.volume_change_laws.specs.CountLaws.{gone_node-fits}
+use Rattle.volume_change_laws.specs.FoundLaws.{rename-keeps, rename-over_directory-keeps, rename-over_file-keeps, row-found}
+use Rattle.volume_change_laws.specs.LineLaws.{lines-node, lines-row, maps-node, maps-row}
+use Rattle.k_tables.specs.name_laws.Paths.{CanReplace, IsAt, IsNewAt, MayGo}
+use Rattle.k_tables.specs.name_laws.RenameLaws.{rename-may}
+use Rattle.layout_model.specs.Spelling.{AreSpelled}
 use Rattle.k_plans.specs.Whole.{IsWhole}
 use Rattle.k_plans.proofs.Names.{last-fits}
 use Rattle.k_plans.proofs.Wholes.{IsBare, directory-bare, inodes-set}

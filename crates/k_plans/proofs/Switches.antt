@@ -4,18 +4,18 @@ use Rattle.std.proofs.lemmas.Bool.{both_ways, cases_Bool, cases_eq, eqb-true}
 use Rattle.std.proofs.lemmas.List.Folds.{Any-from_list_any}
 use Rattle.std.specs.Prelude.{◌==◌, ◌&&◌, ◌||◌, All}
 use Rattle.k_reading.specs.block_pool.FreeSets.{FreeSet, Takes, is_among, is_free_at}
-use Rattle.disk_lines.specs.declared.Inode.{Inode}
-use Rattle.path_spelling.specs.disk_places.Places.{is_data_block}
-use Rattle.k_tables.specs.disk_rules.Placed.{block_at}
-use Rattle.k_tables.specs.disk_rules.Volume.{Volume, chain}
-use Rattle.k_tables.specs.extent_words.declared.Extent.{Extent}
-use Rattle.k_tables.specs.extent_words.Extents.{IsCanonical}
-use Rattle.volume_maps.specs.map_rules.Taken.{switched, with_map}
-use Rattle.volume_maps.specs.volume_changes.LineLaws.{lines-inode, maps-inode}
-use Rattle.k_tables.specs.volume_facts.Changes.{chain-set_other, chain-set_same}
-use Rattle.volume_maps.specs.Switches.{MaySwitch, StandsWith, counted-among, switched-chain, switched-free, switched-keeps, unused-data, wait-once, wait-unused, among-counted}
-use Rattle.k_land.specs.volume_uses.UseLaws.{in_chain-at, in_chain-two}
-use Rattle.k_land.specs.volume_uses.Uses.{in_chain, is_unused}
+use Rattle.layout_model.specs.declared.lines.Inode.{Inode}
+use Rattle.layout_model.specs.Places.{is_data_block}
+use Rattle.k_tables.specs.image_model.Placed.{block_at}
+use Rattle.k_tables.specs.image_model.Volume.{Volume, chain}
+use Rattle.k_tables.specs.extent_model.declared.extent_words.Extent.{Extent}
+use Rattle.k_tables.specs.extent_model.Extents.{IsCanonical}
+use Rattle.volume_change_laws.specs.k_split_model.Taken.{switched, with_map}
+use Rattle.volume_change_laws.specs.LineLaws.{lines-inode, maps-inode}
+use Rattle.k_tables.specs.volume_laws.Changes.{chain-set_other, chain-set_same}
+use Rattle.volume_change_laws.specs.Switches.{MaySwitch, StandsWith, counted-among, switched-chain, switched-free, switched-keeps, unused-data, wait-once, wait-unused, among-counted}
+use Rattle.map_chain.specs.volume_laws.UseLaws.{in_chain-at, in_chain-two}
+use Rattle.map_chain.specs.volume_laws.Uses.{in_chain, is_unused}
 use Rattle.k_plans.specs.Free.{AreTables, is_free_block}
 use Rattle.k_plans.specs.Giving.{AreGiven, MayGiveChain}
 use Rattle.k_plans.specs.Switching.{IsSetAside, WaitOnce, switched_tables, with_waiting}

@@ -3,11 +3,11 @@ use Rattle.std.proofs.Common.{◌≡◌, ℕ, true, [], arith}
 use Rattle.std.proofs.lemmas.List.Elements.{All-from_get_or}
 use Rattle.std.specs.Prelude.{All}
 use Rattle.k_reading.specs.block_pool.FreeSets.{LiesWithin}
-use Rattle.path_spelling.specs.disk_places.Places.{Geometry, IsGeometry, first_data, data_blocks, is_data_block}
-use Rattle.k_tables.specs.extent_words.declared.Extent.{Extent}
-use Rattle.k_tables.specs.disk_rules.Placed.{no_extent, extent_at}
-use Rattle.k_tables.specs.disk_rules.Rules.{IsInData, file_blocks_of}
-use Rattle.k_tables.specs.disk_rules.Volume.{Volume, inode, extents}
+use Rattle.layout_model.specs.Places.{Geometry, IsGeometry, first_data, data_blocks, is_data_block}
+use Rattle.k_tables.specs.extent_model.declared.extent_words.Extent.{Extent}
+use Rattle.k_tables.specs.image_model.Placed.{no_extent, extent_at}
+use Rattle.k_tables.specs.image_model.Rules.{IsInData, file_blocks_of}
+use Rattle.k_tables.specs.image_model.Volume.{Volume, inode, extents}
 use Rattle.k_reading.specs.Pools.{AreInData}
 use Rattle.k_plans.specs.Whole.{IsWhole}
 

@@ -4,23 +4,23 @@ use Rattle.std.proofs.lemmas.Bool.{cases_eq}
 use Rattle.std.proofs.lemmas.Bool.Decides.{nat_tests}
 use Rattle.std.specs.Prelude.{◌==◌, ◌&&◌, not}
 use Rattle.k_reading.specs.block_pool.FreeSets.{FreeSet, is_among}
-use Rattle.disk_lines.specs.declared.Inode.{Inode}
-use Rattle.disk_lines.specs.declared.Kind.{Kind}
-use Rattle.disk_lines.specs.declared.Kind.TheVariants.{Free, Directory, File, Staging}
-use Rattle.disk_lines.specs.Lines.{is_inode, is_inode_of_kind}
-use Rattle.disk_lines.specs.Names.{Rows}
-use Rattle.path_spelling.specs.disk_places.Places.{is_data_block, first_data, data_blocks}
-use Rattle.k_tables.specs.disk_rules.Live.{is_directory}
-use Rattle.k_tables.specs.disk_rules.Reading.{node_set}
-use Rattle.k_tables.specs.disk_rules.Room.{has_none}
-use Rattle.k_tables.specs.disk_rules.Uses.{owners}
-use Rattle.k_tables.specs.disk_rules.Volume.{Volume, inode}
-use Rattle.k_land.specs.k_journal.declared.batches.Entry.{Entry}
-use Rattle.k_land.specs.Plans.{Turns}
-use Rattle.k_tables.specs.volume_facts.Changes.{inode-set_same, inode-set_other}
-use Rattle.k_land.specs.volume_uses.Uses.{is_unused}
+use Rattle.layout_model.specs.declared.lines.Inode.{Inode}
+use Rattle.layout_model.specs.declared.lines.Kind.{Kind}
+use Rattle.layout_model.specs.declared.lines.Kind.TheVariants.{Free, Directory, File, Staging}
+use Rattle.layout_model.specs.Lines.{is_inode, is_inode_of_kind}
+use Rattle.layout_model.specs.Names.{Rows}
+use Rattle.layout_model.specs.Places.{is_data_block, first_data, data_blocks}
+use Rattle.k_tables.specs.image_model.Live.{is_directory}
+use Rattle.k_tables.specs.image_model.Reading.{node_set}
+use Rattle.k_tables.specs.image_model.Room.{has_none}
+use Rattle.k_tables.specs.image_model.Uses.{owners}
+use Rattle.k_tables.specs.image_model.Volume.{Volume, inode}
+use Rattle.k_journal.specs.declared.batches.Entry.{Entry}
+use Rattle.k_plans.specs.LandingsPlans.{Turns}
+use Rattle.k_tables.specs.volume_laws.Changes.{inode-set_same, inode-set_other}
+use Rattle.map_chain.specs.volume_laws.Uses.{is_unused}
 use Rattle.k_plans.specs.Free.{AreTables}
-use Rattle.k_plans.specs.Plans.{IsPlan, KeepsStaged}
+use Rattle.k_plans.specs.PlansPlans.{IsPlan, KeepsStaged}
 use Rattle.k_plans.specs.View.{TablesView, with_volume}
 use Rattle.k_plans.specs.Whole.{IsWhole}
 

@@ -2,8 +2,8 @@
 use Rattle.std.specs.Prelude.{◌≡◌, ℕ, Bool, true, not, ◌&&◌, length, count_by}
 use Rattle.std.specs.List.{range_with_len}
 use Rattle.k_reading.specs.block_pool.FreeSets.{FreeSet, is_among, is_free_at}
-use Rattle.path_spelling.specs.disk_places.Places.{data_blocks, first_data}
-use Rattle.k_land.specs.volume_uses.Uses.{is_unused}
+use Rattle.layout_model.specs.Places.{data_blocks, first_data}
+use Rattle.map_chain.specs.volume_laws.Uses.{is_unused}
 use Rattle.k_plans.specs.View.{TablesView}
 use Rattle.k_plans.specs.Whole.{IsWhole}
 

@@ -1,9 +1,9 @@
 -- Blocks that come free in a pool.
 use Rattle.std.specs.Prelude.{◌≡◌, ℕ, ◌+◌, ◌<◌, ◌^◌, Bool, true, false, ◌||◌, List, length}
 use Rattle.k_reading.specs.block_pool.FreeSets.{FreeSet, LiesWithin, SameBlocks, has_block, is_among, is_free_at}
-use Rattle.k_tables.specs.disk_rules.Placed.{AreDistinct, block_at, extent_at}
-use Rattle.k_tables.specs.extent_words.declared.Extent.{Extent}
-use Rattle.k_tables.specs.extent_words.Extents.{covers, holds_disk}
+use Rattle.k_tables.specs.image_model.Placed.{AreDistinct, block_at, extent_at}
+use Rattle.k_tables.specs.extent_model.declared.extent_words.Extent.{Extent}
+use Rattle.k_tables.specs.extent_model.Extents.{covers, holds_disk}
 
 -- a block of the chain or of the map
 abbrev pub is_held : List ℕ → List Extent → ℕ → Bool

@@ -1,19 +1,19 @@
 -- A node that is made with its name.
 use Rattle.std.specs.Prelude.{◌≡◌, ℕ, Bool, List, None, Result, Ok, Err, if◌then◌else◌}
-use Rattle.disk_lines.specs.declared.Kind.{Kind}
-use Rattle.disk_lines.specs.declared.Kind.TheVariants.{Directory, File}
-use Rattle.k_tables.specs.disk_rules.Volume.{Volume}
-use Rattle.k_land.specs.k_journal.declared.batches.Entry.{Entry}
-use Rattle.k_tables.specs.k_rules.Changes.{made}
-use Rattle.k_tables.specs.k_rules.Spaces.{volume_space}
+use Rattle.layout_model.specs.declared.lines.Kind.{Kind}
+use Rattle.layout_model.specs.declared.lines.Kind.TheVariants.{Directory, File}
+use Rattle.k_tables.specs.image_model.Volume.{Volume}
+use Rattle.k_journal.specs.declared.batches.Entry.{Entry}
+use Rattle.k_tables.specs.k_split_model.ChangesChanges.{made}
+use Rattle.k_tables.specs.k_split_model.Spaces.{volume_space}
 use Rattle.k_tables.specs.Found.{IsPlace}
-use Rattle.k_tables.specs.declared.making.Place.{Place}
-use Rattle.k_tables.specs.posix_words.NameRows.{mkdir_rows}
-use Rattle.k_tables.specs.posix_words.Outcomes.{first}
-use Rattle.volume_maps.specs.volume_changes.CallLaws.{row_to}
-use Rattle.k_plans.specs.Plans.{IsPlan, IsNotMade}
+use Rattle.k_tables.specs.declared.tables.making.Place.{Place}
+use Rattle.k_tables.specs.posix_tables.NameRows.{mkdir_rows}
+use Rattle.k_tables.specs.posix_tables.Outcomes.{first}
+use Rattle.volume_change_laws.specs.CallLaws.{row_to}
+use Rattle.k_plans.specs.PlansPlans.{IsPlan, IsNotMade}
 use Rattle.k_plans.specs.View.{TablesView}
-use Rattle.k_plans.specs.declared.faults.PlanFault.{PlanFault}
+use Rattle.k_plans.specs.declared.plans.faults.PlanFault.{PlanFault}
 
 abbrev pub kind_of : Bool → Kind
 kind_of directory = if directory then Directory else File

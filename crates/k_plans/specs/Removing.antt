@@ -1,16 +1,16 @@
 -- A name that is taken away, of a file or of a directory.
 use Rattle.std.specs.Prelude.{◌≡◌, ℕ, List, None, Result, Ok, Err}
-use Rattle.k_tables.specs.disk_rules.Volume.{Volume}
-use Rattle.k_land.specs.k_journal.declared.batches.Entry.{Entry as Line}
-use Rattle.k_tables.specs.k_rules.Changes.{removed, unnamed}
-use Rattle.k_tables.specs.k_rules.Spaces.{volume_space}
+use Rattle.k_tables.specs.image_model.Volume.{Volume}
+use Rattle.k_journal.specs.declared.batches.Entry.{Entry as Line}
+use Rattle.k_tables.specs.k_split_model.ChangesChanges.{removed, unnamed}
+use Rattle.k_tables.specs.k_split_model.Spaces.{volume_space}
 use Rattle.k_tables.specs.Found.{IsDirectoryAt, IsFileAt}
-use Rattle.k_tables.specs.declared.removing.Entry.{Entry}
-use Rattle.k_tables.specs.posix_words.NameRows.{rmdir_rows, unlink_rows}
-use Rattle.k_tables.specs.posix_words.Outcomes.{first}
-use Rattle.k_plans.specs.Plans.{IsPlan, IsNotMade}
+use Rattle.k_tables.specs.declared.tables.removing.Entry.{Entry}
+use Rattle.k_tables.specs.posix_tables.NameRows.{rmdir_rows, unlink_rows}
+use Rattle.k_tables.specs.posix_tables.Outcomes.{first}
+use Rattle.k_plans.specs.PlansPlans.{IsPlan, IsNotMade}
 use Rattle.k_plans.specs.View.{TablesView}
-use Rattle.k_plans.specs.declared.faults.PlanFault.{PlanFault}
+use Rattle.k_plans.specs.declared.plans.faults.PlanFault.{PlanFault}
 
 -- The name of a path goes; its inode, which is no directory, stays.
 pub record IsUnlinked (path : List (List ℕ)) (v w : Volume) (ino : ℕ) : Type 0 where

@@ -1,22 +1,22 @@
 -- A node that gets another path.
 use Rattle.std.specs.Prelude.{◌≡◌, ◌⊎◌, ℕ, List, [], Option, None, Some, Result, Ok, Err, if◌then◌else◌}
-use Rattle.disk_lines.specs.declared.Inode.{Inode}
-use Rattle.disk_lines.specs.Lines.{NameRow}
-use Rattle.k_tables.specs.disk_rules.Volume.{Volume}
-use Rattle.k_land.specs.k_journal.declared.batches.Entry.{Entry as Line}
-use Rattle.k_tables.specs.k_rules.Changes.{renamed, renamed_over_directory, renamed_over_file}
-use Rattle.k_tables.specs.k_rules.Spaces.{is_directory_in, volume_space}
+use Rattle.layout_model.specs.declared.lines.Inode.{Inode}
+use Rattle.layout_model.specs.Lines.{NameRow}
+use Rattle.k_tables.specs.image_model.Volume.{Volume}
+use Rattle.k_journal.specs.declared.batches.Entry.{Entry as Line}
+use Rattle.k_tables.specs.k_split_model.ChangesChanges.{renamed, renamed_over_directory, renamed_over_file}
+use Rattle.k_tables.specs.k_split_model.Spaces.{is_directory_in, volume_space}
 use Rattle.k_tables.specs.Found.{IsMoving}
-use Rattle.k_tables.specs.declared.removing.Entry.{Entry}
-use Rattle.k_tables.specs.declared.renaming.Moving.{Moving}
+use Rattle.k_tables.specs.declared.tables.removing.Entry.{Entry}
+use Rattle.k_tables.specs.declared.tables.renaming.Moving.{Moving}
 use Rattle.posix_types.specs.declared.item.Outcome.{Outcome}
 use Rattle.posix_types.specs.declared.reply.Reply.{Reply}
-use Rattle.k_tables.specs.posix_words.NameRows.{rename_rows}
-use Rattle.k_tables.specs.posix_words.Outcomes.{answer, first}
-use Rattle.volume_maps.specs.volume_changes.CallLaws.{row_to}
-use Rattle.k_plans.specs.Plans.{IsPlan, IsFaultOf, IsNotMade}
+use Rattle.k_tables.specs.posix_tables.NameRows.{rename_rows}
+use Rattle.k_tables.specs.posix_tables.Outcomes.{answer, first}
+use Rattle.volume_change_laws.specs.CallLaws.{row_to}
+use Rattle.k_plans.specs.PlansPlans.{IsPlan, IsFaultOf, IsNotMade}
 use Rattle.k_plans.specs.View.{TablesView}
-use Rattle.k_plans.specs.declared.faults.PlanFault.{PlanFault}
+use Rattle.k_plans.specs.declared.plans.faults.PlanFault.{PlanFault}
 
 -- A name line gets another row. What stood at the new path loses its name, and is gone where it is a directory.
 abbrev pub renamed_over : ℕ → NameRow → Option Entry → Volume → Volume

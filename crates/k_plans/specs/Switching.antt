@@ -1,15 +1,15 @@
 -- An inode of the tables that goes over to another map: blocks that are set aside for it, and what is planned.
 use Rattle.std.specs.Prelude.{◌≡◌, ◌<◌, ◌≤◌, ℕ, All, true, List, ◌++◌, length}
-use Rattle.path_spelling.specs.block_counts.Counts.{chains_for}
-use Rattle.k_tables.specs.disk_rules.Placed.{AreDistinct}
-use Rattle.k_tables.specs.disk_rules.Volume.{Volume}
-use Rattle.k_tables.specs.extent_words.declared.Extent.{Extent}
-use Rattle.disk_lines.specs.declared.Inode.{Inode}
-use Rattle.k_land.specs.k_journal.declared.batches.Entry.{Entry}
-use Rattle.k_land.specs.Maps.{AreApart, write_steps}
-use Rattle.k_land.specs.Plans.{NewChain, Turns, blocks_of, new_at}
-use Rattle.volume_maps.specs.map_rules.Taken.{AreLowest, switched}
-use Rattle.k_land.specs.volume_uses.Uses.{in_chain, is_unused}
+use Rattle.layout_model.specs.block_counts.Counts.{chains_for}
+use Rattle.k_tables.specs.image_model.Placed.{AreDistinct}
+use Rattle.k_tables.specs.image_model.Volume.{Volume}
+use Rattle.k_tables.specs.extent_model.declared.extent_words.Extent.{Extent}
+use Rattle.layout_model.specs.declared.lines.Inode.{Inode}
+use Rattle.k_journal.specs.declared.batches.Entry.{Entry}
+use Rattle.k_plans.specs.Maps.{AreApart, write_steps}
+use Rattle.k_plans.specs.LandingsPlans.{NewChain, Turns, blocks_of, new_at}
+use Rattle.volume_change_laws.specs.k_split_model.Taken.{AreLowest, switched}
+use Rattle.map_chain.specs.volume_laws.Uses.{in_chain, is_unused}
 use Rattle.k_plans.specs.Free.{is_free_block}
 use Rattle.k_plans.specs.View.{TablesView}
 use Rattle.k_plans.specs.Whole.{IsWhole}

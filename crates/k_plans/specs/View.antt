@@ -1,11 +1,11 @@
 -- What contracts see of the tables in memory.
 use Rattle.std.specs.Prelude.{ℕ, List, Option, Some, None, if◌then◌else◌}
-use Rattle.path_spelling.specs.disk_places.Places.{Geometry}
-use Rattle.k_tables.specs.extent_words.declared.Extent.{Extent}
-use Rattle.disk_lines.specs.declared.Inode.{Inode}
-use Rattle.disk_lines.specs.Names.{Rows}
-use Rattle.k_tables.specs.disk_rules.Volume.{Volume, inode}
-use Rattle.k_tables.specs.k_rules.Spaces.{is_free}
+use Rattle.layout_model.specs.Places.{Geometry}
+use Rattle.k_tables.specs.extent_model.declared.extent_words.Extent.{Extent}
+use Rattle.layout_model.specs.declared.lines.Inode.{Inode}
+use Rattle.layout_model.specs.Names.{Rows}
+use Rattle.k_tables.specs.image_model.Volume.{Volume, inode}
+use Rattle.k_tables.specs.k_split_model.Spaces.{is_free}
 
 -- the volume of the tables, and the blocks that wait for a commit: they came free in changes that are not on the device yet
 pub record TablesView : Type 0 where

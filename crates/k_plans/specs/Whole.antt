@@ -1,10 +1,10 @@
 -- What tables keep of their volume.
 use Rattle.std.specs.Prelude.{◌≡◌, ℕ, All, true}
-use Rattle.disk_lines.specs.Lines.{is_inode}
-use Rattle.path_spelling.specs.disk_places.Places.{is_data_block}
-use Rattle.k_tables.specs.disk_rules.Volume.{Volume, inode, chain}
-use Rattle.volume_maps.specs.volume_changes.CallLaws.{IsKeptVolume}
-use Rattle.k_land.specs.volume_uses.Uses.{HasAllMaps}
+use Rattle.layout_model.specs.Lines.{is_inode}
+use Rattle.layout_model.specs.Places.{is_data_block}
+use Rattle.k_tables.specs.image_model.Volume.{Volume, inode, chain}
+use Rattle.volume_change_laws.specs.CallLaws.{IsKeptVolume}
+use Rattle.map_chain.specs.volume_laws.Uses.{HasAllMaps}
 
 -- The volume keeps the rules, with all its lines and maps and numbers in range; each of its inodes may stand in a line, and
 -- each chain is in data blocks.

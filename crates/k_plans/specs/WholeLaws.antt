@@ -3,15 +3,15 @@ use Rattle.std.specs.Prelude.{◌≡◌, ℕ, List, [], All, true}
 use Rattle.std.proofs.Common.{arith, ap, sym, subst, inl, inr}
 use Rattle.std.proofs.lemmas.Bool.{cases_lt}
 use Rattle.std.proofs.lemmas.List.{get_or_past}
-use Rattle.path_spelling.specs.pm_words.Words.{Words, line_bytes}
-use Rattle.path_spelling.specs.disk_places.Places.{Geometry, IsGeometry, inode_line, is_data_block}
-use Rattle.disk_lines.specs.LineLaws.{IsInodeLine-decode_inode}
-use Rattle.disk_lines.specs.Lines.{is_inode}
-use Rattle.k_tables.specs.disk_rules.Kept.{AreKept}
-use Rattle.k_tables.specs.disk_rules.Reading.{Reads}
-use Rattle.k_tables.specs.disk_rules.Volume.{Volume, free_inode, inode, chain}
-use Rattle.k_tables.specs.name_facts.KeptLaws.{reads-all_lines}
-use Rattle.k_land.specs.volume_uses.PoolLaws.{reads-all_maps}
+use Rattle.layout_model.specs.pm_model.Words.{Words, line_bytes}
+use Rattle.layout_model.specs.Places.{Geometry, IsGeometry, inode_line, is_data_block}
+use Rattle.layout_model.specs.LineLaws.{IsInodeLine-decode_inode}
+use Rattle.layout_model.specs.Lines.{is_inode}
+use Rattle.k_tables.specs.image_model.Kept.{AreKept}
+use Rattle.k_tables.specs.image_model.Reading.{Reads}
+use Rattle.k_tables.specs.image_model.Volume.{Volume, free_inode, inode, chain}
+use Rattle.k_tables.specs.name_laws.KeptLaws.{reads-all_lines}
+use Rattle.map_chain.specs.volume_laws.PoolLaws.{reads-all_maps}
 use Rattle.k_plans.specs.Whole.{IsWhole}
 
 none-in_data : (g : Geometry) (blocks : List ℕ) → blocks ≡ [] → All (λ b. is_data_block g b ≡ true) blocks

@@ -1,31 +1,27 @@
-//! The tables of a volume in memory, and the changes of names and nodes planned on them.
+//! A change of names or nodes planned on the tables of a volume, and a plan landed as one transaction.
 //!
-//! `Tables` has the inodes, the names, the chains and the maps of a volume, and the blocks that are
-//! free. Contracts see the volume, and the blocks that wait for a commit (`TablesView`); the volume
-//! keeps the rules (`IsWhole`), and just those data blocks are free that nothing names.
+//! A plan takes all its memory and puts lines into a `Batch`; landed, the device stands at the new
+//! volume, and wherever the power goes at the old one or the new one. Landing takes no memory.
 //!
-//! `make`, `rmdir`, `unlink`, `rename` and `drop_node` look up, take all memory, change the tables
-//! and put the lines of the change into an empty `Batch`. The layer above may rely on this: the
-//! answer is one clause by cases; a refusal comes just where the rows of the call say, and leaves
-//! tables and batch; else the volume is changed by the definition of `k_rules`, and the batch turns
-//! the old volume into the new one (`IsPlan`), so that landing it is all that is left. Changes of
-//! maps are planned above, of three steps: `set_aside`, `switch` and `release`.
+//! - `landings`: Landing a plan: a change of the metadata as one transaction.
+//! - `plans`: The tables of a volume in memory, and the changes of names and nodes planned on them.
 //!
-//! Stands on `k_tables`, `k_reading`, `k_land`, `block_pool`, `volume_changes` and `volume_maps`.
+//! The pool has just the data blocks that nothing in the volume names and that do not wait for a commit, so
+//! no call loses a block.
+//!
+//! Stands on `pm_lines`, `extent_map`, `image_layout`, `k_inodes`, `k_names`, `map_chain`,
+//! `k_journal`, `layout_model`, `posix_types`, `volume_change_laws`, `k_reading`, `k_tables` and
+//! `k_split_model`.
 #![tactic(auto)]
 
-mod dropping;
-mod faults;
-mod giving;
-mod log_base;
-mod making;
-mod removing;
-mod renaming;
-mod switching;
-mod tables;
+mod landings;
+mod plans;
 
-pub use faults::PlanFault;
-pub use k_land::{Batch, Commit, Geometry, Kind, NewMap, Recovered, land, land_maps, recover};
-pub use k_reading::{fresh_image, read_base, read_inodes, read_maps, read_names};
-pub use tables::{Tables, nodes_are_made_behind_the_staging_files, tables_begin_with_what_is_read};
-pub use volume_maps::Move;
+pub use landings::{
+    Batch, Commit, Geometry, Kind, NewMap, Recovered, an_empty_plan_turns_nothing, clear_name,
+    land, land_maps, plans_can_be_landed, put_base, put_inode, put_name, recover,
+};
+pub use plans::{
+    Move, PlanFault, Tables, fresh_image, nodes_are_made_behind_the_staging_files, read_base,
+    read_inodes, read_maps, read_names, tables_begin_with_what_is_read,
+};

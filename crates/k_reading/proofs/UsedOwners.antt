@@ -7,18 +7,18 @@ use Rattle.std.proofs.lemmas.Grind.{get_or_default_zero}
 use Rattle.std.proofs.lemmas.List.Folds.{Any-from_list_any, list_any_at}
 use Rattle.std.proofs.lemmas.List.{get_or_default}
 use Rattle.std.proofs.lemmas.List.Sums.{sum_by-cons}
-use Rattle.block_pool.specs.extent_words.declared.Extent.{Extent}
-use Rattle.block_pool.specs.extent_words.Extents.{covers}
-use Rattle.image_layout.specs.disk_places.Places.{Geometry, is_data_block}
-use Rattle.disk_rules.specs.Placed.{block_at}
-use Rattle.disk_rules.specs.Room.{has_none}
-use Rattle.disk_rules.specs.Uses.{owners}
-use Rattle.disk_rules.specs.Volume.{Volume, chain, extents}
+use Rattle.block_pool.specs.extent_model.declared.extent_words.Extent.{Extent}
+use Rattle.block_pool.specs.extent_model.Extents.{covers}
+use Rattle.image_layout.specs.layout_model.Places.{Geometry, is_data_block}
+use Rattle.image_model.specs.Placed.{block_at}
+use Rattle.image_model.specs.Room.{has_none}
+use Rattle.image_model.specs.Uses.{owners}
+use Rattle.image_model.specs.Volume.{Volume, chain, extents}
 use Rattle.block_pool.specs.FreeSets.{FreeSet, is_among, is_free_at}
-use Rattle.volume_uses.specs.OwnerLaws.{length-owners, uses-le-owners}
-use Rattle.volume_uses.specs.PoolLaws.{has_none-some, has_none-zero}
-use Rattle.volume_uses.specs.UseLaws.{covers-in_map, in_chain-at, in_chain-some, in_map-covers, length-uses_by}
-use Rattle.volume_uses.specs.Uses.{HasAllMaps, in_chain, in_map, is_unused, uses_of}
+use Rattle.image_laws.specs.volume_laws.OwnerLaws.{length-owners, uses-le-owners}
+use Rattle.image_laws.specs.volume_laws.PoolLaws.{has_none-some, has_none-zero}
+use Rattle.image_laws.specs.volume_laws.UseLaws.{covers-in_map, in_chain-at, in_chain-some, in_map-covers, length-uses_by}
+use Rattle.image_laws.specs.volume_laws.Uses.{HasAllMaps, in_chain, in_map, is_unused, uses_of}
 use Rattle.k_reading.specs.Pools.{IsOfTables, IsPoolOf, is_named}
 
 -- a block of a chain

@@ -1,11 +1,11 @@
 -- Which data blocks are free: those that no chain and no map names.
 use Rattle.std.specs.Prelude.{◌≡◌, ℕ, Bool, true, not, ◌&&◌, ◌||◌, List, ◌++◌, length, map, flat_map, All}
 use Rattle.std.specs.List.{list_any}
-use Rattle.block_pool.specs.extent_words.declared.Extent.{Extent}
-use Rattle.block_pool.specs.extent_words.Extents.{covers}
-use Rattle.image_layout.specs.disk_places.Places.{Geometry, first_data, data_blocks, is_data_block}
-use Rattle.disk_rules.specs.Volume.{Volume}
-use Rattle.volume_uses.specs.Uses.{HasAllMaps}
+use Rattle.block_pool.specs.extent_model.declared.extent_words.Extent.{Extent}
+use Rattle.block_pool.specs.extent_model.Extents.{covers}
+use Rattle.image_layout.specs.layout_model.Places.{Geometry, first_data, data_blocks, is_data_block}
+use Rattle.image_model.specs.Volume.{Volume}
+use Rattle.image_laws.specs.volume_laws.Uses.{HasAllMaps}
 use Rattle.block_pool.specs.FreeSets.{FreeSet, is_free_at, is_among, LiesWithin}
 
 -- a chain or an extent of a map names the block

@@ -1,8 +1,8 @@
 //! The bytes of the fresh image.
 ghost use Rattle.std.specs.Prelude.{◌≡◌, ◌+◌, ◌*◌, ◌≤◌, ℕ, length, IfOk};
-ghost use Rattle.image_layout.specs.pm_words.Words.{word_at, with_line};
-ghost use Rattle.image_layout.specs.disk_places.Places.{IsGeometry};
-ghost use Rattle.k_inodes.specs.disk_lines.Fresh.{empty_inode, state_bytes, blank, staging_files, fresh};
+ghost use Rattle.image_layout.specs.pm_model.Words.{word_at, with_line};
+ghost use Rattle.image_layout.specs.layout_model.Places.{IsGeometry};
+ghost use Rattle.k_inodes.specs.layout_model.Fresh.{empty_inode, state_bytes, blank, staging_files, fresh};
 
 use image_layout::Geometry;
 use k_inodes::{Inode, Kind, encode_inode};

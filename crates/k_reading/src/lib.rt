@@ -7,11 +7,11 @@
 //! which the root stands alone: one fill with zeros, and seven lines.
 //!
 //! The layer above may rely on this: where the words read as a volume, the tables are those of that
-//! volume. Want of memory is the only error. No call writes to the device, and no later call needs
+//! volume. Out of memory is the only error. No call writes to the device, and no later call needs
 //! to read it again.
 //!
 //! Stands on `pm_lines`, `image_layout`, `k_inodes`, `k_names`, `map_chain`, `block_pool`, on the
-//! definitions of `disk_rules` and on `volume_uses`; its tests also on `image_facts`.
+//! definitions of `image_model` and on `volume_laws`; its tests also on `image_laws`.
 #![tactic(auto)]
 
 mod fresh;

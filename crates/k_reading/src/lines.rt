@@ -1,10 +1,10 @@
 //! The log base, the inodes and the names of a device.
 ghost use Rattle.std.specs.Prelude.{◌≡◌, ◌*◌, ◌<◌, length, IfOk};
-ghost use Rattle.image_layout.specs.pm_words.Cells.{AllSingle};
-ghost use Rattle.image_layout.specs.pm_words.Images.{words_of};
-ghost use Rattle.image_layout.specs.disk_places.Places.{base_word};
-ghost use Rattle.k_inodes.specs.disk_lines.Tables.{IsKeyed};
-ghost use Rattle.disk_rules.specs.Volume.{inode_or_free, row_of, name_at, volume};
+ghost use Rattle.image_layout.specs.pm_model.Cells.{AllSingle};
+ghost use Rattle.image_layout.specs.pm_model.Images.{words_of};
+ghost use Rattle.image_layout.specs.layout_model.Places.{base_word};
+ghost use Rattle.k_inodes.specs.layout_model.Tables.{IsKeyed};
+ghost use Rattle.image_model.specs.Volume.{inode_or_free, row_of, name_at, volume};
 
 use image_layout::Geometry;
 use k_inodes::{Inode, Kind, decode_inode};
@@ -48,7 +48,7 @@ fn read_inode(pm: &Pm, geometry: &Geometry, ino: u32) -> Inode
 
 /// The inodes, line by line: those of the volume of the device's words. A line that is no inode
 /// line gives a free inode.
-#[tactic(auto, unfolding(disk_rules::specs::Volume::volume))]
+#[tactic(auto, unfolding(image_model::specs::Volume::volume))]
 pub fn read_inodes(alloc: Global, pm: &Pm, geometry: &Geometry) -> Result<Vec<Inode>, AllocError>
     requires size { length pm.now ≡ 512 * geometry.now.blocks }
     requires single { AllSingle pm.now }

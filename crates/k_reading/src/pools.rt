@@ -1,9 +1,9 @@
 //! The data blocks that nothing names.
 ghost use Rattle.std.specs.Prelude.{◌≡◌, ◌++◌, ℕ, IfOk, OnOk, flat_map, map};
 ghost use Rattle.block_pool.specs.FreeSets.{is_free_at};
-ghost use Rattle.disk_rules.specs.Volume.{Volume};
+ghost use Rattle.image_model.specs.Volume.{Volume};
 ghost use Rattle.k_reading.specs.Pools.{one_block, used_extents, AreInData, IsOfTables, IsPoolOf};
-ghost use Rattle.volume_uses.specs.Uses.{is_unused};
+ghost use Rattle.image_laws.specs.volume_laws.Uses.{is_unused};
 
 use crate::maps::Blocks;
 use block_pool::Pool;

@@ -4,12 +4,12 @@ use Rattle.std.specs.Prelude.{is_some, if◌then◌else◌}
 use Rattle.std.specs.Option.{option_or}
 use Rattle.std.proofs.lemmas.Bool.{cases_lt, cases_Bool, le-leb, lt-leb}
 use Rattle.std.proofs.lemmas.Bool.Decides.{nat_tests}
-use Rattle.extent_map.specs.extent_words.declared.Extent.{Extent}
-use Rattle.extent_map.specs.extent_words.Extents.{is_within, holds, disk_in, disk_at, block_count, IsCanonical}
-use Rattle.extent_map.specs.extent_words.Maps.{IsPart, Replaces}
-use Rattle.extent_map.specs.extent_facts.Facts.{disk_at-more_here, disk_at-more_away}
-use Rattle.extent_map.specs.extent_facts.Counts.{one_if, is_mapped, block_count-balance}
-use Rattle.extent_map.specs.extent_words.Moves.{IsMapped, Moves}
+use Rattle.extent_map.specs.extent_model.declared.extent_words.Extent.{Extent}
+use Rattle.extent_map.specs.extent_model.Extents.{is_within, holds, disk_in, disk_at, block_count, IsCanonical}
+use Rattle.extent_map.specs.extent_model.Maps.{IsPart, Replaces}
+use Rattle.extent_map.specs.extent_model.Facts.{disk_at-more_here, disk_at-more_away}
+use Rattle.extent_map.specs.extent_model.Counts.{one_if, is_mapped, block_count-balance}
+use Rattle.extent_map.specs.extent_model.Moves.{IsMapped, Moves}
 use Rattle.k_relink.specs.Steps.{moved_at}
 
 -- a piece at its new place

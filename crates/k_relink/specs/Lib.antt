@@ -1,4 +1,3 @@
 pub mod Steps
 pub mod Texts
-pub use Rattle.extent_map.specs.extent_facts as extent_facts
-pub use Rattle.extent_map.specs.extent_words as extent_words
+pub use Rattle.extent_map.specs.extent_model as extent_model

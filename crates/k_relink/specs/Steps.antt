@@ -1,7 +1,7 @@
 -- Words on pieces that are laid at other file blocks.
 use Rattle.std.specs.Prelude.{ℕ, ◌+◌, ◌-◌, ◌≤◌, nat_le, if◌then◌else◌, Option, None, List}
-use Rattle.extent_map.specs.extent_words.declared.Extent.{Extent}
-use Rattle.extent_map.specs.extent_words.Extents.{disk_at}
+use Rattle.extent_map.specs.extent_model.declared.extent_words.Extent.{Extent}
+use Rattle.extent_map.specs.extent_model.Extents.{disk_at}
 
 -- the extent's file blocks are among `count` blocks from `first` on
 pub record LiesBetween (first count : ℕ) (e : Extent) : Type 0 where

@@ -1,8 +1,8 @@
 //! The call, and its two steps.
 ghost use Rattle.std.specs.Prelude.{◌≡◌, ℕ, ◌+◌, ◌<◌, ◌≤◌, ◌↔◌, All, IfSome, IfNone, IfOk, OnOk};
 ghost use Rattle.std.specs.Option.{option_or};
-ghost use Rattle.extent_map.specs.extent_words.Extents.{disk_at, IsCanonical};
-ghost use Rattle.extent_map.specs.extent_words.Moves.{IsFirstHole, IsMapped, Moves};
+ghost use Rattle.extent_map.specs.extent_model.Extents.{disk_at, IsCanonical};
+ghost use Rattle.extent_map.specs.extent_model.Moves.{IsFirstHole, IsMapped, Moves};
 ghost use Rattle.k_relink.specs.Steps.{LiesBetween, moved_at};
 
 use extent_map::{Extent, ExtentMap, FILE_BLOCKS};

@@ -4,37 +4,37 @@ use Rattle.std.specs.Prelude.{IsSome}
 use Rattle.std.proofs.lemmas.Bool.{cases_lt}
 use Rattle.std.proofs.lemmas.Bool.Decides.{nat_tests}
 use Rattle.std.proofs.lemmas.List.{get_or_past}
-use Rattle.lines_out.specs.pm_words.declared.Cell.{Cell}
-use Rattle.lines_out.specs.pm_words.declared.Cell.TheVariants.{Single}
-use Rattle.lines_out.specs.pm_words.CellLaws.{settled-single}
-use Rattle.lines_out.specs.pm_words.Cells.{cell, is_single, IsCandidate, newest, Settles}
-use Rattle.lines_out.specs.pm_words.Frames.{KeepsSingle, SameLent}
-use Rattle.lines_out.specs.pm_words.Images.{Follows, IsImage}
-use Rattle.lines_out.specs.pm_words.Words.{Words}
-use Rattle.lines_out.specs.disk_places.Journal.{is_journal_word, journaled}
-use Rattle.lines_out.specs.disk_places.Places.{commit_word, Geometry, is_data_block, is_journaled_line}
-use Rattle.lines_out.specs.extent_words.declared.Extent.{Extent}
-use Rattle.lines_out.specs.extent_words.Extents.{covers, disk_at, IsCanonical}
-use Rattle.lines_out.specs.extent_facts.Covers.{covers-disk_at}
-use Rattle.lines_out.specs.extent_facts.Facts.{disk_at-past}
-use Rattle.disk_lines.specs.declared.Kind.{Kind}
-use Rattle.disk_lines.specs.declared.Kind.TheVariants.{File, Free}
-use Rattle.lines_out.specs.disk_rules.Placed.{block_at}
-use Rattle.lines_out.specs.disk_rules.Rules.{file_blocks_of, IsKindAt, IsNamedOnce}
-use Rattle.lines_out.specs.disk_rules.Volume.{chain, extents, free_inode, inode, Volume}
-use Rattle.k_content.specs.volume_facts.ImageLaws.{journal-outside, journaled-same}
-use Rattle.k_content.specs.volume_facts.ReadingLaws.{reads-same}
-use Rattle.k_content.specs.volume_facts.SetLaws.{journaled-outside}
-use Rattle.k_log_plans.specs.volume_uses.OwnerLaws.{no_chain_has, one_owner, one_user}
-use Rattle.k_log_plans.specs.volume_uses.PoolLaws.{covered-in_data}
-use Rattle.k_log_plans.specs.volume_uses.UseLaws.{in_map-covers, length-uses_by}
-use Rattle.k_log_plans.specs.volume_uses.Uses.{uses_of}
-use Rattle.lines_out.specs.block_bytes.Overwrites.{IsBesideBlocks, IsOverwritten, IsOverwrittenWhole, MayOverwrite, StandsIn}
-use Rattle.k_log_plans.specs.k_journal.declared.batches.Entry.{Entry}
-use Rattle.k_log_plans.specs.k_plans.View.{TablesView}
-use Rattle.k_log_plans.specs.k_plans.Whole.{IsWhole}
-use Rattle.k_content.specs.k_rules.Stands.{Stands}
-use Rattle.k_content.specs.k_rules.View.{View}
+use Rattle.block_io.specs.pm_model.declared.Cell.{Cell}
+use Rattle.block_io.specs.pm_model.declared.Cell.TheVariants.{Single}
+use Rattle.block_io.specs.pm_model.CellLaws.{settled-single}
+use Rattle.block_io.specs.pm_model.Cells.{cell, is_single, IsCandidate, newest, Settles}
+use Rattle.block_io.specs.pm_model.Frames.{KeepsSingle, SameLent}
+use Rattle.block_io.specs.pm_model.Images.{Follows, IsImage}
+use Rattle.block_io.specs.pm_model.Words.{Words}
+use Rattle.block_io.specs.layout_model.Journal.{is_journal_word, journaled}
+use Rattle.block_io.specs.layout_model.Places.{commit_word, Geometry, is_data_block, is_journaled_line}
+use Rattle.block_io.specs.extent_model.declared.extent_words.Extent.{Extent}
+use Rattle.block_io.specs.extent_model.Extents.{covers, disk_at, IsCanonical}
+use Rattle.block_io.specs.extent_model.Covers.{covers-disk_at}
+use Rattle.block_io.specs.extent_model.Facts.{disk_at-past}
+use Rattle.layout_model.specs.declared.lines.Kind.{Kind}
+use Rattle.layout_model.specs.declared.lines.Kind.TheVariants.{File, Free}
+use Rattle.block_io.specs.image_model.Placed.{block_at}
+use Rattle.block_io.specs.image_model.Rules.{file_blocks_of, IsKindAt, IsNamedOnce}
+use Rattle.block_io.specs.image_model.Volume.{chain, extents, free_inode, inode, Volume}
+use Rattle.k_tables.specs.volume_laws.ImageLaws.{journal-outside, journaled-same}
+use Rattle.k_tables.specs.volume_laws.ReadingLaws.{reads-same}
+use Rattle.k_tables.specs.volume_laws.SetLaws.{journaled-outside}
+use Rattle.k_map_plans.specs.volume_laws.OwnerLaws.{no_chain_has, one_owner, one_user}
+use Rattle.k_map_plans.specs.volume_laws.PoolLaws.{covered-in_data}
+use Rattle.k_map_plans.specs.volume_laws.UseLaws.{in_map-covers, length-uses_by}
+use Rattle.k_map_plans.specs.volume_laws.Uses.{uses_of}
+use Rattle.block_io.specs.Overwrites.{IsBesideBlocks, IsOverwritten, IsOverwrittenWhole, MayOverwrite, StandsIn}
+use Rattle.k_map_plans.specs.k_journal.declared.batches.Entry.{Entry}
+use Rattle.k_map_plans.specs.k_plans.View.{TablesView}
+use Rattle.k_map_plans.specs.k_plans.Whole.{IsWhole}
+use Rattle.k_tables.specs.k_split_model.Stands.{Stands}
+use Rattle.k_tables.specs.k_split_model.View.{View}
 use Rattle.k_split.specs.Bytes.{IsOverwriteCut, IsOverwriteDone, IsWrittenOver, MayWriteBytes, Overwrites}
 use Rattle.k_split.specs.Order.{IsReady, IsUnstaged, IsUnstagedSingle, view_of}
 

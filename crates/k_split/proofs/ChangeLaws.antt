@@ -1,25 +1,25 @@
 -- What a change leaves that was planned and landed, or neither.
 use Rattle.std.proofs.Common.{◌≡◌, ℕ, Bool, true, false, List, [], length, Option, Some, None, Result, Ok, Err, refl, sym, ◌∙◌, ap, subst, arith, inl, inr}
 use Rattle.std.specs.Prelude.{◌==◌, ◌+◌, ◌*◌, ◌/◌, OnOk, OnErr}
-use Rattle.lines_out.specs.pm_words.declared.Cell.{Cell}
-use Rattle.lines_out.specs.pm_words.Frames.{KeepsSingle}
-use Rattle.lines_out.specs.pm_words.Powers.{is_on, Steps, Supply}
-use Rattle.lines_out.specs.disk_places.Places.{is_data_block}
-use Rattle.lines_out.specs.extent_words.Extents.{covers}
-use Rattle.lines_out.specs.disk_rules.Volume.{Volume}
-use Rattle.k_log_plans.specs.k_journal.declared.batches.Entry.{Entry}
-use Rattle.k_log_plans.specs.k_journal.declared.outcomes.Commit.{Commit}
-use Rattle.k_log_plans.specs.k_land.PlanLaws.{turns-none}
-use Rattle.k_log_plans.specs.k_land.Plans.{Turns}
-use Rattle.k_log_plans.specs.k_plans.Renaming.{IsRenamed, IsRenamePlan}
-use Rattle.k_content.specs.k_rules.Spaces.{volume_space}
-use Rattle.posix_words.specs.NameRows.{rename_rows}
-use Rattle.k_log_plans.specs.k_plans.Plans.{IsPlan, KeepsStaged}
-use Rattle.k_log_plans.specs.k_plans.View.{TablesView}
-use Rattle.k_content.specs.k_rules.View.{View}
+use Rattle.block_io.specs.pm_model.declared.Cell.{Cell}
+use Rattle.block_io.specs.pm_model.Frames.{KeepsSingle}
+use Rattle.block_io.specs.pm_model.Powers.{is_on, Steps, Supply}
+use Rattle.block_io.specs.layout_model.Places.{is_data_block}
+use Rattle.block_io.specs.extent_model.Extents.{covers}
+use Rattle.block_io.specs.image_model.Volume.{Volume}
+use Rattle.k_map_plans.specs.k_journal.declared.batches.Entry.{Entry}
+use Rattle.k_map_plans.specs.k_journal.declared.outcomes.Commit.{Commit}
+use Rattle.k_map_plans.specs.k_plans.PlanLaws.{turns-none}
+use Rattle.k_map_plans.specs.k_plans.LandingsPlans.{Turns}
+use Rattle.k_map_plans.specs.k_plans.Renaming.{IsRenamed, IsRenamePlan}
+use Rattle.k_tables.specs.k_split_model.Spaces.{volume_space}
+use Rattle.posix_tables.specs.NameRows.{rename_rows}
+use Rattle.k_map_plans.specs.k_plans.PlansPlans.{IsPlan, KeepsStaged}
+use Rattle.k_map_plans.specs.k_plans.View.{TablesView}
+use Rattle.k_tables.specs.k_split_model.View.{View}
 use Rattle.posix_types.specs.declared.item.Outcome.{Outcome}
 use Rattle.posix_types.specs.declared.reply.Reply.{Reply}
-use Rattle.posix_words.specs.Outcomes.{answer, first}
+use Rattle.posix_tables.specs.Outcomes.{answer, first}
 use Rattle.k_split.specs.declared.faults.KFault.{KFault}
 use Rattle.k_split.specs.Answers.{IsAnswer, IsCommitAnswer, IsPaid}
 use Rattle.k_split.specs.Landed.{IsLanded, IsLandedDone, IsLandedLost, IsPlanned}

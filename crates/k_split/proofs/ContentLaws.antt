@@ -3,33 +3,33 @@ use Rattle.std.proofs.Common.{◌≡◌, ◌≢◌, ℕ, ◌+◌, ◌*◌, ◌/�
 use Rattle.std.proofs.lemmas.Bool.{both_ways, cases_lt}
 use Rattle.std.proofs.lemmas.Bool.Decides.{nat_tests}
 use Rattle.std.proofs.lemmas.List.{get_or_past}
-use Rattle.lines_out.specs.pm_words.declared.Cell.{Cell}
-use Rattle.lines_out.specs.pm_words.CellLaws.{newest-candidate}
-use Rattle.lines_out.specs.pm_words.Cells.{cell, newest}
-use Rattle.lines_out.specs.pm_words.Images.{words_of}
-use Rattle.lines_out.specs.pm_words.Words.{Words}
-use Rattle.lines_out.specs.disk_places.Journal.{is_journal_word, journaled}
-use Rattle.lines_out.specs.disk_places.PlaceLaws.{behind_log-words, log_line-not_journaled}
-use Rattle.lines_out.specs.disk_places.Places.{commit_word, first_data, Geometry, is_data_block, is_journaled_line, log_line}
-use Rattle.lines_out.specs.extent_words.Extents.{covers}
-use Rattle.disk_lines.specs.declared.Draft.{Draft}
-use Rattle.lines_out.specs.disk_rules.Content.{content, disk_of, found}
-use Rattle.lines_out.specs.disk_rules.Kept.{AreKept}
-use Rattle.lines_out.specs.disk_rules.Live.{live_entries}
-use Rattle.lines_out.specs.disk_rules.Placed.{block_at, IsOutside}
-use Rattle.lines_out.specs.disk_rules.Reading.{Reads}
-use Rattle.lines_out.specs.disk_rules.Rules.{file_blocks_of}
-use Rattle.lines_out.specs.disk_rules.Volume.{Volume, extents, inode}
-use Rattle.k_content.specs.volume_facts.Footprint.{SameData, SameLog}
-use Rattle.k_content.specs.volume_facts.FootprintLaws.{content-own, content-read, disk_of-covered, found-same}
-use Rattle.k_content.specs.volume_facts.ImageLaws.{journaled-idle, journaled-other}
-use Rattle.k_content.specs.volume_facts.LineWords.{data_word, data_word-not_journaled}
-use Rattle.k_content.specs.volume_facts.SetLaws.{block-outside}
-use Rattle.k_log_plans.specs.volume_uses.PoolLaws.{covered-in_data, unused-uncovered}
-use Rattle.k_log_plans.specs.volume_uses.Uses.{is_unused}
-use Rattle.k_log_plans.specs.k_land.LandingLaws.{idle-image}
-use Rattle.k_log_plans.specs.k_land.WrittenLaws.{unused-apart}
-use Rattle.k_content.specs.k_rules.Stands.{IsOldOrNew, Stands}
+use Rattle.block_io.specs.pm_model.declared.Cell.{Cell}
+use Rattle.block_io.specs.pm_model.CellLaws.{newest-candidate}
+use Rattle.block_io.specs.pm_model.Cells.{cell, newest}
+use Rattle.block_io.specs.pm_model.Images.{words_of}
+use Rattle.block_io.specs.pm_model.Words.{Words}
+use Rattle.block_io.specs.layout_model.Journal.{is_journal_word, journaled}
+use Rattle.block_io.specs.layout_model.PlaceLaws.{behind_log-words, log_line-not_journaled}
+use Rattle.block_io.specs.layout_model.Places.{commit_word, first_data, Geometry, is_data_block, is_journaled_line, log_line}
+use Rattle.block_io.specs.extent_model.Extents.{covers}
+use Rattle.layout_model.specs.declared.lines.Draft.{Draft}
+use Rattle.block_io.specs.image_model.Content.{content, disk_of, found}
+use Rattle.block_io.specs.image_model.Kept.{AreKept}
+use Rattle.block_io.specs.image_model.Live.{live_entries}
+use Rattle.block_io.specs.image_model.Placed.{block_at, IsOutside}
+use Rattle.block_io.specs.image_model.Reading.{Reads}
+use Rattle.block_io.specs.image_model.Rules.{file_blocks_of}
+use Rattle.block_io.specs.image_model.Volume.{Volume, extents, inode}
+use Rattle.k_tables.specs.volume_laws.Footprint.{SameData, SameLog}
+use Rattle.k_tables.specs.volume_laws.FootprintLaws.{content-own, content-read, disk_of-covered, found-same}
+use Rattle.k_tables.specs.volume_laws.ImageLaws.{journaled-idle, journaled-other}
+use Rattle.k_tables.specs.volume_laws.LineWords.{data_word, data_word-not_journaled}
+use Rattle.k_tables.specs.volume_laws.SetLaws.{block-outside}
+use Rattle.k_map_plans.specs.volume_laws.PoolLaws.{covered-in_data, unused-uncovered}
+use Rattle.k_map_plans.specs.volume_laws.Uses.{is_unused}
+use Rattle.k_map_plans.specs.k_plans.LandingLaws.{idle-image}
+use Rattle.k_map_plans.specs.k_plans.WrittenLaws.{unused-apart}
+use Rattle.k_tables.specs.k_split_model.Stands.{IsOldOrNew, Stands}
 use Rattle.k_split.specs.Contents.{AreOwnBlocks, HasNoBlocks, HasOldOrNew, HaveOldOrNew}
 
 -- a block that a file reads is a data block

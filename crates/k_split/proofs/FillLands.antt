@@ -4,30 +4,30 @@ use Rattle.std.specs.Prelude.{All}
 use Rattle.std.proofs.lemmas.Bool.{cases_Bool}
 use Rattle.std.proofs.lemmas.Bool.Decides.{nat_tests}
 use Rattle.std.proofs.lemmas.List.{get_or_append_left, get_or-append-add}
-use Rattle.lines_out.specs.pm_words.declared.Cell.{Cell}
-use Rattle.lines_out.specs.pm_words.Cells.{cell, Settles}
-use Rattle.lines_out.specs.pm_words.Frames.{KeepsSingle, SameLent}
-use Rattle.lines_out.specs.pm_words.ImageLaws.{Follows-then}
-use Rattle.lines_out.specs.pm_words.Images.{Follows, IsImage}
-use Rattle.lines_out.specs.pm_words.Powers.{is_on, Steps, Supply}
-use Rattle.lines_out.specs.pm_words.Words.{Words}
-use Rattle.lines_out.specs.disk_places.Journal.{is_journal_word, journaled}
-use Rattle.lines_out.specs.disk_places.Places.{commit_word, Geometry, is_data_block, is_journaled_line}
-use Rattle.lines_out.specs.disk_rules.Placed.{block_at, IsOutside}
-use Rattle.lines_out.specs.disk_rules.Reading.{Reads}
-use Rattle.lines_out.specs.disk_rules.Volume.{Volume}
-use Rattle.lines_out.specs.block_bytes.Overwrites.{IsZeroed, MayZero, SameBeside}
-use Rattle.lines_out.specs.map_rules.Zeros.{ReadZeros}
-use Rattle.k_content.specs.volume_facts.ImageLaws.{journal-outside}
-use Rattle.k_content.specs.volume_facts.Reading.{AreUnchained}
-use Rattle.k_content.specs.volume_facts.ReadingLaws.{reads-one}
-use Rattle.k_content.specs.volume_facts.SetLaws.{journaled-outside}
-use Rattle.k_log_plans.specs.volume_maps.Switches.{unused-data}
-use Rattle.k_log_plans.specs.k_journal.declared.batches.Entry.{Entry}
-use Rattle.k_log_plans.specs.k_land.LandingLaws.{idle-image, idle-sound}
-use Rattle.k_log_plans.specs.k_land.Plans.{NewChain, blocks_of}
-use Rattle.k_log_plans.specs.k_land.WrittenLaws.{reads-beside, settles-then, stands-written, took-later, unused-apart}
-use Rattle.k_content.specs.k_rules.Stands.{IsOldOrNew}
+use Rattle.block_io.specs.pm_model.declared.Cell.{Cell}
+use Rattle.block_io.specs.pm_model.Cells.{cell, Settles}
+use Rattle.block_io.specs.pm_model.Frames.{KeepsSingle, SameLent}
+use Rattle.block_io.specs.pm_model.ImageLaws.{Follows-then}
+use Rattle.block_io.specs.pm_model.Images.{Follows, IsImage}
+use Rattle.block_io.specs.pm_model.Powers.{is_on, Steps, Supply}
+use Rattle.block_io.specs.pm_model.Words.{Words}
+use Rattle.block_io.specs.layout_model.Journal.{is_journal_word, journaled}
+use Rattle.block_io.specs.layout_model.Places.{commit_word, Geometry, is_data_block, is_journaled_line}
+use Rattle.block_io.specs.image_model.Placed.{block_at, IsOutside}
+use Rattle.block_io.specs.image_model.Reading.{Reads}
+use Rattle.block_io.specs.image_model.Volume.{Volume}
+use Rattle.block_io.specs.Overwrites.{IsZeroed, MayZero, SameBeside}
+use Rattle.block_io.specs.k_split_model.Zeros.{ReadZeros}
+use Rattle.k_tables.specs.volume_laws.ImageLaws.{journal-outside}
+use Rattle.k_tables.specs.volume_laws.Reading.{AreUnchained}
+use Rattle.k_tables.specs.volume_laws.ReadingLaws.{reads-one}
+use Rattle.k_tables.specs.volume_laws.SetLaws.{journaled-outside}
+use Rattle.k_map_plans.specs.volume_change_laws.Switches.{unused-data}
+use Rattle.k_map_plans.specs.k_journal.declared.batches.Entry.{Entry}
+use Rattle.k_map_plans.specs.k_plans.LandingLaws.{idle-image, idle-sound}
+use Rattle.k_map_plans.specs.k_plans.LandingsPlans.{NewChain, blocks_of}
+use Rattle.k_map_plans.specs.k_plans.WrittenLaws.{reads-beside, settles-then, stands-written, took-later, unused-apart}
+use Rattle.k_tables.specs.k_split_model.Stands.{IsOldOrNew}
 use Rattle.k_split.specs.declared.faults.KFault.{KFault}
 use Rattle.k_split.specs.Filling.{IsFillLanded, IsFillPlanned}
 use Rattle.k_split.specs.MapChanges.{ChangesMaps, IsMapLanded, IsMapPlanned}

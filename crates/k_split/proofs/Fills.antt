@@ -5,25 +5,25 @@ use Rattle.std.specs.List.{range_with_len}
 use Rattle.std.proofs.lemmas.Bool.{both_ways}
 use Rattle.std.proofs.lemmas.List.{get_or_append_left, get_or-append-add}
 use Rattle.std.proofs.lemmas.List.Elements.{filter_passes}
-use Rattle.lines_out.specs.pm_words.declared.Cell.{Cell}
-use Rattle.lines_out.specs.pm_words.Frames.{KeepsSingle}
-use Rattle.lines_out.specs.pm_words.Powers.{Supply}
-use Rattle.lines_out.specs.extent_words.Extents.{disk_at}
-use Rattle.lines_out.specs.disk_rules.Placed.{AreDistinct, block_at}
-use Rattle.lines_out.specs.disk_rules.Volume.{chain, extents, inode}
-use Rattle.k_content.specs.volume_facts.Changes.{chain-set_same, extents-set_same}
-use Rattle.lines_out.specs.map_rules.Taken.{AreLowest, with_map}
-use Rattle.lines_out.specs.map_rules.Changes.{holes}
-use Rattle.k_log_plans.specs.volume_maps.Switches.{unused-data}
-use Rattle.k_log_plans.specs.volume_uses.Uses.{is_unused}
-use Rattle.k_log_plans.specs.k_journal.declared.batches.Entry.{Entry}
-use Rattle.k_log_plans.specs.k_land.Maps.{AreApart}
-use Rattle.k_log_plans.specs.k_land.Plans.{NewChain, blocks_of}
-use Rattle.k_log_plans.specs.k_land.WrittenLaws.{blocks_of-one}
-use Rattle.k_log_plans.specs.k_map_plans.Plans.{IsFillPlan, IsLiveFile}
-use Rattle.k_log_plans.specs.k_plans.Free.{is_free_block}
-use Rattle.k_log_plans.specs.k_plans.View.{TablesView}
-use Rattle.k_content.specs.k_rules.View.{View}
+use Rattle.block_io.specs.pm_model.declared.Cell.{Cell}
+use Rattle.block_io.specs.pm_model.Frames.{KeepsSingle}
+use Rattle.block_io.specs.pm_model.Powers.{Supply}
+use Rattle.block_io.specs.extent_model.Extents.{disk_at}
+use Rattle.block_io.specs.image_model.Placed.{AreDistinct, block_at}
+use Rattle.block_io.specs.image_model.Volume.{chain, extents, inode}
+use Rattle.k_tables.specs.volume_laws.Changes.{chain-set_same, extents-set_same}
+use Rattle.block_io.specs.k_split_model.Taken.{AreLowest, with_map}
+use Rattle.block_io.specs.k_split_model.MapChangesChanges.{holes}
+use Rattle.k_map_plans.specs.volume_change_laws.Switches.{unused-data}
+use Rattle.k_map_plans.specs.volume_laws.Uses.{is_unused}
+use Rattle.k_map_plans.specs.k_journal.declared.batches.Entry.{Entry}
+use Rattle.k_map_plans.specs.k_plans.Maps.{AreApart}
+use Rattle.k_map_plans.specs.k_plans.LandingsPlans.{NewChain, blocks_of}
+use Rattle.k_map_plans.specs.k_plans.WrittenLaws.{blocks_of-one}
+use Rattle.k_map_plans.specs.Plans.{IsFillPlan, IsLiveFile}
+use Rattle.k_map_plans.specs.k_plans.Free.{is_free_block}
+use Rattle.k_map_plans.specs.k_plans.View.{TablesView}
+use Rattle.k_tables.specs.k_split_model.View.{View}
 use Rattle.posix_types.specs.declared.item.Outcome.{Outcome}
 use Rattle.k_split.specs.declared.faults.KFault.{KFault}
 use Rattle.k_split.specs.Answers.{IsPaid}

@@ -1,15 +1,15 @@
 -- A device with the fresh image can be opened, for the tests.
 use Rattle.std.proofs.Common.{◌≡◌, ℕ, ◌*◌, List, length, sym, ◌∙◌, ap, subst, arith}
 use Rattle.std.proofs.Math.Path.{fun_ext}
-use Rattle.lines_out.specs.pm_words.declared.Cell.{Cell}
-use Rattle.lines_out.specs.pm_words.declared.Cell.TheVariants.{Single}
-use Rattle.lines_out.specs.pm_words.Cells.{cell, is_single, newest}
-use Rattle.lines_out.specs.pm_words.Images.{words_of}
-use Rattle.lines_out.specs.pm_words.Words.{word_at}
-use Rattle.lines_out.specs.disk_places.Places.{commit_word, Geometry}
-use Rattle.disk_lines.specs.Fresh.{fresh}
-use Rattle.lines_out.specs.disk_rules.Rules.{geometry_of, IsChecked}
-use Rattle.k_log_plans.specs.image_facts.FreshLines.{fresh-commit}
+use Rattle.block_io.specs.pm_model.declared.Cell.{Cell}
+use Rattle.block_io.specs.pm_model.declared.Cell.TheVariants.{Single}
+use Rattle.block_io.specs.pm_model.Cells.{cell, is_single, newest}
+use Rattle.block_io.specs.pm_model.Images.{words_of}
+use Rattle.block_io.specs.pm_model.Words.{word_at}
+use Rattle.block_io.specs.layout_model.Places.{commit_word, Geometry}
+use Rattle.layout_model.specs.Fresh.{fresh}
+use Rattle.block_io.specs.image_model.Rules.{geometry_of, IsChecked}
+use Rattle.k_map_plans.specs.image_laws.FreshLines.{fresh-commit}
 use Rattle.k_split.proofs.OpenLaws.{IsOpenable}
 
 pub fresh-openable : (g : Geometry) (bytes : List ℕ) (d : List Cell) → length bytes ≡ 4096 * g.blocks → word_at bytes ≡ fresh g

@@ -1,20 +1,20 @@
 -- A plan on the tables is one that can be landed, and what its landing leaves.
 use Rattle.std.proofs.Common.{◌≡◌, ℕ, ◌+◌, ◌*◌, ◌/◌, ◌<◌, ◌≤◌, true, false, List, [], length, sym, ◌∙◌, subst, arith}
-use Rattle.lines_out.specs.pm_words.declared.Cell.{Cell}
-use Rattle.lines_out.specs.pm_words.Cells.{cell, Settles}
-use Rattle.lines_out.specs.pm_words.Frames.{KeepsSingle, SameLent}
-use Rattle.lines_out.specs.pm_words.ImageLaws.{IsImage-words_of}
-use Rattle.lines_out.specs.pm_words.Images.{Follows, words_of}
-use Rattle.lines_out.specs.pm_words.Powers.{is_on, Steps, Supply}
-use Rattle.lines_out.specs.disk_places.Journal.{journaled}
-use Rattle.lines_out.specs.disk_places.Places.{Geometry}
-use Rattle.lines_out.specs.disk_rules.Volume.{Volume}
-use Rattle.k_log_plans.specs.k_journal.Commits.{MayCommit, TakesAStep}
-use Rattle.k_log_plans.specs.k_journal.declared.batches.Entry.{Entry}
-use Rattle.k_log_plans.specs.k_land.LandingLaws.{lines-new, may-commit}
-use Rattle.k_log_plans.specs.k_land.Landings.{IsElsewhere}
-use Rattle.k_log_plans.specs.k_land.Plans.{Turns}
-use Rattle.k_content.specs.k_rules.Stands.{IsOldOrNew, Stands}
+use Rattle.block_io.specs.pm_model.declared.Cell.{Cell}
+use Rattle.block_io.specs.pm_model.Cells.{cell, Settles}
+use Rattle.block_io.specs.pm_model.Frames.{KeepsSingle, SameLent}
+use Rattle.block_io.specs.pm_model.ImageLaws.{IsImage-words_of}
+use Rattle.block_io.specs.pm_model.Images.{Follows, words_of}
+use Rattle.block_io.specs.pm_model.Powers.{is_on, Steps, Supply}
+use Rattle.block_io.specs.layout_model.Journal.{journaled}
+use Rattle.block_io.specs.layout_model.Places.{Geometry}
+use Rattle.block_io.specs.image_model.Volume.{Volume}
+use Rattle.k_map_plans.specs.k_journal.Commits.{MayCommit, TakesAStep}
+use Rattle.k_map_plans.specs.k_journal.declared.batches.Entry.{Entry}
+use Rattle.k_map_plans.specs.k_plans.LandingLaws.{lines-new, may-commit}
+use Rattle.k_map_plans.specs.k_plans.Landings.{IsElsewhere}
+use Rattle.k_map_plans.specs.k_plans.LandingsPlans.{Turns}
+use Rattle.k_tables.specs.k_split_model.Stands.{IsOldOrNew, Stands}
 use Rattle.k_split.specs.Answers.{Changes}
 use Rattle.k_split.specs.Landed.{IsLandedDone, IsLandedLost, IsPlanned}
 

@@ -16,6 +16,5 @@ mod Relinks
 mod ResetLaws
 mod StagedBytes
 mod TreeLaws
-pub use Rattle.k_content.proofs as k_content_proofs
-pub use Rattle.k_content.proofs.k_tables_proofs as k_tables_proofs
-pub use Rattle.k_log_plans.proofs.k_plans_proofs as k_plans_proofs
+pub use Rattle.k_tables.proofs as k_tables_proofs
+pub use Rattle.k_map_plans.proofs.k_plans_proofs as k_plans_proofs

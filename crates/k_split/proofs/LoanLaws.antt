@@ -5,27 +5,27 @@ use Rattle.std.proofs.lemmas.Bool.{both_ways, cases_lt}
 use Rattle.std.proofs.lemmas.Bool.Decides.{nat_tests}
 use Rattle.std.proofs.lemmas.Option.{same_Some}
 use Rattle.std.proofs.lemmas.List.{get_or_past}
-use Rattle.lines_out.specs.pm_words.declared.Cell.{Cell}
-use Rattle.lines_out.specs.pm_words.declared.Cell.TheVariants.{Lent, Marked, Single, Two}
-use Rattle.lines_out.specs.pm_words.CellLaws.{single-home}
-use Rattle.lines_out.specs.pm_words.Cells.{cell, is_lent, is_single}
-use Rattle.lines_out.specs.pm_words.Parts.{ComesBack, GoesOut}
-use Rattle.lines_out.specs.disk_places.Places.{commit_word, is_data_block, log_block}
-use Rattle.lines_out.specs.extent_words.declared.Extent.{Extent}
-use Rattle.lines_out.specs.extent_words.Extents.{covers, disk_at}
-use Rattle.lines_out.specs.extent_facts.Covers.{covers-disk_at}
-use Rattle.lines_out.specs.disk_rules.Placed.{block_at}
-use Rattle.lines_out.specs.disk_rules.Rules.{file_blocks_of}
-use Rattle.lines_out.specs.disk_rules.Volume.{chain, extents, inode, Volume}
-use Rattle.k_content.specs.volume_facts.LineWords.{data_word}
-use Rattle.k_content.specs.volume_facts.LoanLaws.{all_read-lent, all_read-settled}
-use Rattle.k_content.specs.volume_facts.Reading.{AreUnchained}
-use Rattle.k_log_plans.specs.volume_uses.OwnerLaws.{no_chain_has}
-use Rattle.k_log_plans.specs.volume_uses.PoolLaws.{covered-in_data}
-use Rattle.k_log_plans.specs.k_journal.declared.batches.Entry.{Entry}
-use Rattle.k_log_plans.specs.k_plans.View.{TablesView}
-use Rattle.k_log_plans.specs.k_plans.Whole.{IsWhole}
-use Rattle.k_content.specs.k_rules.Stands.{Stands}
+use Rattle.block_io.specs.pm_model.declared.Cell.{Cell}
+use Rattle.block_io.specs.pm_model.declared.Cell.TheVariants.{Lent, Marked, Single, Two}
+use Rattle.block_io.specs.pm_model.CellLaws.{single-home}
+use Rattle.block_io.specs.pm_model.Cells.{cell, is_lent, is_single}
+use Rattle.block_io.specs.pm_model.Parts.{ComesBack, GoesOut}
+use Rattle.block_io.specs.layout_model.Places.{commit_word, is_data_block, log_block}
+use Rattle.block_io.specs.extent_model.declared.extent_words.Extent.{Extent}
+use Rattle.block_io.specs.extent_model.Extents.{covers, disk_at}
+use Rattle.block_io.specs.extent_model.Covers.{covers-disk_at}
+use Rattle.block_io.specs.image_model.Placed.{block_at}
+use Rattle.block_io.specs.image_model.Rules.{file_blocks_of}
+use Rattle.block_io.specs.image_model.Volume.{chain, extents, inode, Volume}
+use Rattle.k_tables.specs.volume_laws.LineWords.{data_word}
+use Rattle.k_tables.specs.volume_laws.LoanLaws.{all_read-lent, all_read-settled}
+use Rattle.k_tables.specs.volume_laws.Reading.{AreUnchained}
+use Rattle.k_map_plans.specs.volume_laws.OwnerLaws.{no_chain_has}
+use Rattle.k_map_plans.specs.volume_laws.PoolLaws.{covered-in_data}
+use Rattle.k_map_plans.specs.k_journal.declared.batches.Entry.{Entry}
+use Rattle.k_map_plans.specs.k_plans.View.{TablesView}
+use Rattle.k_map_plans.specs.k_plans.Whole.{IsWhole}
+use Rattle.k_tables.specs.k_split_model.Stands.{Stands}
 use Rattle.k_split.specs.Loans.{MayLend}
 use Rattle.k_split.specs.Order.{IsReady, IsUnstagedSingle, view_of}
 use Rattle.k_split.proofs.ByteLaws.{one_of}

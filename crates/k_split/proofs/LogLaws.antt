@@ -2,24 +2,24 @@
 use Rattle.std.proofs.Common.{◌≡◌, ℕ, ◌+◌, ◌*◌, ◌/◌, ◌<◌, Bool, true, List, length, refl, ◌∙◌, ap, subst, arith}
 use Rattle.std.proofs.lemmas.Bool.{both_ways}
 use Rattle.std.proofs.lemmas.Bool.Decides.{nat_tests}
-use Rattle.lines_out.specs.pm_words.declared.Cell.{Cell}
-use Rattle.lines_out.specs.pm_words.declared.Cell.TheVariants.{Single}
-use Rattle.lines_out.specs.pm_words.CellLaws.{settled-single}
-use Rattle.lines_out.specs.pm_words.Cells.{cell, is_single, newest, Settles}
-use Rattle.lines_out.specs.pm_words.Words.{Words}
-use Rattle.lines_out.specs.disk_places.Journal.{is_journal_word, journaled}
-use Rattle.lines_out.specs.disk_places.PlaceLaws.{behind_log-not_journaled, behind_log-words}
-use Rattle.lines_out.specs.disk_places.Places.{commit_word, is_data_block, is_journaled_line, log_line}
-use Rattle.lines_out.specs.disk_rules.Placed.{block_at}
-use Rattle.lines_out.specs.disk_rules.Volume.{chain, Volume}
-use Rattle.lines_out.specs.block_bytes.Overwrites.{AreGoingToZero, AreLinesZeroed, IsInLines, SameBesideLines}
-use Rattle.lines_out.specs.pm_words.Frames.{KeepsSingle, SameLent}
-use Rattle.lines_out.specs.pm_words.Images.{Follows}
-use Rattle.k_content.specs.volume_facts.ImageLaws.{journaled-same}
-use Rattle.k_content.specs.volume_facts.ReadingLaws.{reads-same}
-use Rattle.k_log_plans.specs.k_journal.declared.batches.Entry.{Entry}
-use Rattle.k_log_plans.specs.k_plans.View.{TablesView}
-use Rattle.k_content.specs.k_rules.Stands.{Stands}
+use Rattle.block_io.specs.pm_model.declared.Cell.{Cell}
+use Rattle.block_io.specs.pm_model.declared.Cell.TheVariants.{Single}
+use Rattle.block_io.specs.pm_model.CellLaws.{settled-single}
+use Rattle.block_io.specs.pm_model.Cells.{cell, is_single, newest, Settles}
+use Rattle.block_io.specs.pm_model.Words.{Words}
+use Rattle.block_io.specs.layout_model.Journal.{is_journal_word, journaled}
+use Rattle.block_io.specs.layout_model.PlaceLaws.{behind_log-not_journaled, behind_log-words}
+use Rattle.block_io.specs.layout_model.Places.{commit_word, is_data_block, is_journaled_line, log_line}
+use Rattle.block_io.specs.image_model.Placed.{block_at}
+use Rattle.block_io.specs.image_model.Volume.{chain, Volume}
+use Rattle.block_io.specs.Overwrites.{AreGoingToZero, AreLinesZeroed, IsInLines, SameBesideLines}
+use Rattle.block_io.specs.pm_model.Frames.{KeepsSingle, SameLent}
+use Rattle.block_io.specs.pm_model.Images.{Follows}
+use Rattle.k_tables.specs.volume_laws.ImageLaws.{journaled-same}
+use Rattle.k_tables.specs.volume_laws.ReadingLaws.{reads-same}
+use Rattle.k_map_plans.specs.k_journal.declared.batches.Entry.{Entry}
+use Rattle.k_map_plans.specs.k_plans.View.{TablesView}
+use Rattle.k_tables.specs.k_split_model.Stands.{Stands}
 use Rattle.k_split.specs.Laps.{ClearsLog, IsLogWord}
 use Rattle.k_split.specs.Order.{IsReady, view_of}
 

@@ -3,23 +3,23 @@ use Rattle.std.proofs.Common.{◌≡◌, ℕ, ◌+◌, ◌*◌, ◌/◌, ◌<◌
 use Rattle.std.proofs.lemmas.Bool.{both_ways, cases_lt}
 use Rattle.std.proofs.lemmas.Bool.Decides.{nat_tests}
 use Rattle.std.proofs.lemmas.List.{get_or_past}
-use Rattle.lines_out.specs.pm_words.declared.Cell.{Cell}
-use Rattle.lines_out.specs.pm_words.CellLaws.{newest-candidate}
-use Rattle.lines_out.specs.pm_words.Cells.{cell, IsCandidate, is_lent, is_single, newest}
-use Rattle.lines_out.specs.pm_words.Images.{IsImage}
-use Rattle.lines_out.specs.pm_words.Parts.{Part}
-use Rattle.lines_out.specs.pm_words.Words.{Words}
-use Rattle.lines_out.specs.disk_places.Journal.{journaled}
-use Rattle.lines_out.specs.disk_places.Places.{commit_word, is_data_block, log_block, log_line}
-use Rattle.lines_out.specs.disk_rules.Placed.{block_at}
-use Rattle.lines_out.specs.disk_rules.Volume.{chain, Volume}
-use Rattle.lines_out.specs.block_bytes.Overwrites.{IsInLines}
-use Rattle.lines_out.specs.Lines.{LinesComeBack, LinesGoOut}
-use Rattle.k_content.specs.volume_facts.ReadingLaws.{reads-same}
-use Rattle.k_log_plans.specs.k_journal.declared.batches.Entry.{Entry}
-use Rattle.k_log_plans.specs.k_plans.View.{TablesView}
-use Rattle.k_log_plans.specs.k_plans.Whole.{IsWhole}
-use Rattle.k_content.specs.k_rules.Stands.{Stands}
+use Rattle.block_io.specs.pm_model.declared.Cell.{Cell}
+use Rattle.block_io.specs.pm_model.CellLaws.{newest-candidate}
+use Rattle.block_io.specs.pm_model.Cells.{cell, IsCandidate, is_lent, is_single, newest}
+use Rattle.block_io.specs.pm_model.Images.{IsImage}
+use Rattle.block_io.specs.pm_model.Parts.{Part}
+use Rattle.block_io.specs.pm_model.Words.{Words}
+use Rattle.block_io.specs.layout_model.Journal.{journaled}
+use Rattle.block_io.specs.layout_model.Places.{commit_word, is_data_block, log_block, log_line}
+use Rattle.block_io.specs.image_model.Placed.{block_at}
+use Rattle.block_io.specs.image_model.Volume.{chain, Volume}
+use Rattle.block_io.specs.Overwrites.{IsInLines}
+use Rattle.block_io.specs.Lines.{LinesComeBack, LinesGoOut}
+use Rattle.k_tables.specs.volume_laws.ReadingLaws.{reads-same}
+use Rattle.k_map_plans.specs.k_journal.declared.batches.Entry.{Entry}
+use Rattle.k_map_plans.specs.k_plans.View.{TablesView}
+use Rattle.k_map_plans.specs.k_plans.Whole.{IsWhole}
+use Rattle.k_tables.specs.k_split_model.Stands.{Stands}
 use Rattle.k_split.specs.Laps.{IsLogWord}
 use Rattle.k_split.specs.Order.{IsReady, view_of}
 use Rattle.k_split.proofs.LoanLaws.{is_lent-Lent}

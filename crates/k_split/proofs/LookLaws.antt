@@ -2,19 +2,19 @@
 use Rattle.std.proofs.Common.{◌≡◌, ℕ, Bool, true, false, List, [], ◌∷◌, Option, Some, None, Result, Ok, Err, refl, sym, ◌∙◌, ap, subst}
 use Rattle.std.specs.Prelude.{not}
 use Rattle.std.specs.Option.{option_map_or}
-use Rattle.disk_lines.specs.Names.{Rows}
-use Rattle.lines_out.specs.disk_rules.Volume.{Volume}
-use Rattle.lines_out.specs.pm_words.declared.Cell.{Cell}
-use Rattle.disk_lines.specs.declared.Inode.{Inode}
-use Rattle.k_log_plans.specs.k_plans.View.{TablesView}
-use Rattle.k_content.specs.k_rules.Spaces.{is_directory_in, space_of, volume_space}
-use Rattle.k_content.specs.k_rules.View.{View}
+use Rattle.layout_model.specs.Names.{Rows}
+use Rattle.block_io.specs.image_model.Volume.{Volume}
+use Rattle.block_io.specs.pm_model.declared.Cell.{Cell}
+use Rattle.layout_model.specs.declared.lines.Inode.{Inode}
+use Rattle.k_map_plans.specs.k_plans.View.{TablesView}
+use Rattle.k_tables.specs.k_split_model.Spaces.{is_directory_in, space_of, volume_space}
+use Rattle.k_tables.specs.k_split_model.View.{View}
 use Rattle.posix_types.specs.declared.item.Outcome.{Outcome}
 use Rattle.posix_types.specs.declared.reply.Errno.{Errno}
 use Rattle.posix_types.specs.declared.reply.Reply.{Reply}
-use Rattle.posix_words.specs.NameRows.{list_rows, stat_rows, too_long_row, walk_row}
-use Rattle.posix_words.specs.Names.{exists_at, file_stands, node_at_path, Space, too_long, walk}
-use Rattle.posix_words.specs.Outcomes.{answer, first, row}
+use Rattle.posix_tables.specs.NameRows.{list_rows, stat_rows, too_long_row, walk_row}
+use Rattle.posix_tables.specs.Names.{exists_at, file_stands, node_at_path, Space, too_long, walk}
+use Rattle.posix_tables.specs.Outcomes.{answer, first, row}
 use Rattle.k_split.specs.Looks.{IsDirectoryFound, IsFound, IsLed, led_rows}
 use Rattle.k_split.specs.Order.{view_of}
 

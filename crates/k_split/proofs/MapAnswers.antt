@@ -1,35 +1,35 @@
 -- What a change of maps leaves that was planned and landed.
 use Rattle.std.proofs.Common.{◌≡◌, ◌≢◌, ◌⊎◌, ℕ, ◌/◌, Bool, true, false, List, [], Some, None, Result, Ok, Err, refl, sym, ◌∙◌, ap, subst, arith, inl, inr}
 use Rattle.std.specs.Prelude.{OnErr, OnOk}
-use Rattle.lines_out.specs.pm_words.declared.Cell.{Cell}
+use Rattle.block_io.specs.pm_model.declared.Cell.{Cell}
 use Rattle.std.proofs.lemmas.Bool.{cases_Bool, cases_eq}
-use Rattle.lines_out.specs.pm_words.Cells.{cell, is_single}
-use Rattle.lines_out.specs.pm_words.Frames.{KeepsSingle}
-use Rattle.lines_out.specs.pm_words.Powers.{Supply}
-use Rattle.disk_lines.specs.declared.Inode.{Inode}
-use Rattle.disk_lines.specs.declared.Kind.TheVariants.{File}
-use Rattle.lines_out.specs.disk_places.Places.{is_data_block}
-use Rattle.lines_out.specs.disk_rules.Rules.{IsKindAt}
-use Rattle.lines_out.specs.extent_words.Extents.{covers}
-use Rattle.lines_out.specs.extent_words.declared.Extent.{Extent}
-use Rattle.k_log_plans.specs.k_map_plans.Plans.{IsLiveFile, IsStagingFile}
-use Rattle.lines_out.specs.map_rules.Changes.{given_up}
-use Rattle.lines_out.specs.map_rules.Taken.{switched, with_map}
-use Rattle.k_content.specs.volume_facts.Changes.{chain-set_same, extents-set_other}
-use Rattle.lines_out.specs.disk_rules.Volume.{Volume, chain, extents, inode}
-use Rattle.k_log_plans.specs.k_journal.declared.batches.Entry.{Entry}
-use Rattle.k_log_plans.specs.k_land.Plans.{NewChain}
-use Rattle.k_log_plans.specs.k_land.WrittenLaws.{block-among}
-use Rattle.k_log_plans.specs.k_plans.Plans.{KeepsStaged}
-use Rattle.k_log_plans.specs.k_plans.Switching.{IsMapPlan}
-use Rattle.k_log_plans.specs.k_plans.View.{TablesView}
-use Rattle.k_log_plans.specs.k_plans.Whole.{IsWhole}
-use Rattle.k_content.specs.k_rules.View.{View}
+use Rattle.block_io.specs.pm_model.Cells.{cell, is_single}
+use Rattle.block_io.specs.pm_model.Frames.{KeepsSingle}
+use Rattle.block_io.specs.pm_model.Powers.{Supply}
+use Rattle.layout_model.specs.declared.lines.Inode.{Inode}
+use Rattle.layout_model.specs.declared.lines.Kind.TheVariants.{File}
+use Rattle.block_io.specs.layout_model.Places.{is_data_block}
+use Rattle.block_io.specs.image_model.Rules.{IsKindAt}
+use Rattle.block_io.specs.extent_model.Extents.{covers}
+use Rattle.block_io.specs.extent_model.declared.extent_words.Extent.{Extent}
+use Rattle.k_map_plans.specs.Plans.{IsLiveFile, IsStagingFile}
+use Rattle.block_io.specs.k_split_model.MapChangesChanges.{given_up}
+use Rattle.block_io.specs.k_split_model.Taken.{switched, with_map}
+use Rattle.k_tables.specs.volume_laws.Changes.{chain-set_same, extents-set_other}
+use Rattle.block_io.specs.image_model.Volume.{Volume, chain, extents, inode}
+use Rattle.k_map_plans.specs.k_journal.declared.batches.Entry.{Entry}
+use Rattle.k_map_plans.specs.k_plans.LandingsPlans.{NewChain}
+use Rattle.k_map_plans.specs.k_plans.WrittenLaws.{block-among}
+use Rattle.k_map_plans.specs.k_plans.PlansPlans.{KeepsStaged}
+use Rattle.k_map_plans.specs.k_plans.Switching.{IsMapPlan}
+use Rattle.k_map_plans.specs.k_plans.View.{TablesView}
+use Rattle.k_map_plans.specs.k_plans.Whole.{IsWhole}
+use Rattle.k_tables.specs.k_split_model.View.{View}
 use Rattle.posix_types.specs.declared.reply.Reply.{Reply}
-use Rattle.posix_words.specs.Outcomes.{answer}
-use Rattle.k_log_plans.specs.volume_maps.Switches.{unused-data}
-use Rattle.k_log_plans.specs.volume_uses.PoolLaws.{unused-uncovered}
-use Rattle.k_log_plans.specs.volume_uses.Uses.{is_unused}
+use Rattle.posix_tables.specs.Outcomes.{answer}
+use Rattle.k_map_plans.specs.volume_change_laws.Switches.{unused-data}
+use Rattle.k_map_plans.specs.volume_laws.PoolLaws.{unused-uncovered}
+use Rattle.k_map_plans.specs.volume_laws.Uses.{is_unused}
 use Rattle.k_split.specs.declared.faults.KFault.{KFault}
 use Rattle.k_split.specs.Answers.{IsPaid}
 use Rattle.k_split.specs.MapChanges.{IsMapAnswer, IsMapLanded, IsMapLandedDone, IsMapPlanned, IsStagedSingle}

@@ -2,24 +2,24 @@
 use Rattle.std.proofs.Common.{◌≡◌, ℕ, ◌*◌, ◌/◌, ◌<◌, true, false, List, length, get_or, sym, ◌∙◌, subst, arith}
 use Rattle.std.specs.Prelude.{All}
 use Rattle.std.proofs.lemmas.Bool.Decides.{nat_tests}
-use Rattle.lines_out.specs.pm_words.declared.Cell.{Cell}
-use Rattle.lines_out.specs.pm_words.Cells.{cell, Settles}
-use Rattle.lines_out.specs.pm_words.Frames.{KeepsSingle, SameLent}
-use Rattle.lines_out.specs.pm_words.Images.{Follows}
-use Rattle.lines_out.specs.pm_words.Powers.{is_on, Supply}
-use Rattle.lines_out.specs.disk_places.Places.{Geometry, is_data_block}
-use Rattle.lines_out.specs.disk_rules.Placed.{AreInDevice, block_at}
-use Rattle.lines_out.specs.disk_rules.Volume.{Volume}
-use Rattle.k_log_plans.specs.k_journal.Commits.{TakesAStep}
-use Rattle.k_log_plans.specs.k_journal.declared.batches.Entry.{Entry}
-use Rattle.k_log_plans.specs.k_land.LandingLaws.{lines-new}
-use Rattle.k_log_plans.specs.k_land.Landings.{IsElsewhere}
-use Rattle.k_log_plans.specs.k_land.Maps.{MayWriteAll}
-use Rattle.k_log_plans.specs.k_land.Plans.{NewChain, Turns, blocks_of, new_at}
-use Rattle.k_log_plans.specs.k_land.WrittenLaws.{in_data-each}
-use Rattle.k_content.specs.k_rules.Stands.{IsOldOrNew, Stands}
-use Rattle.k_log_plans.specs.volume_maps.Switches.{unused-data}
-use Rattle.k_log_plans.specs.volume_uses.Uses.{is_unused}
+use Rattle.block_io.specs.pm_model.declared.Cell.{Cell}
+use Rattle.block_io.specs.pm_model.Cells.{cell, Settles}
+use Rattle.block_io.specs.pm_model.Frames.{KeepsSingle, SameLent}
+use Rattle.block_io.specs.pm_model.Images.{Follows}
+use Rattle.block_io.specs.pm_model.Powers.{is_on, Supply}
+use Rattle.block_io.specs.layout_model.Places.{Geometry, is_data_block}
+use Rattle.block_io.specs.image_model.Placed.{AreInDevice, block_at}
+use Rattle.block_io.specs.image_model.Volume.{Volume}
+use Rattle.k_map_plans.specs.k_journal.Commits.{TakesAStep}
+use Rattle.k_map_plans.specs.k_journal.declared.batches.Entry.{Entry}
+use Rattle.k_map_plans.specs.k_plans.LandingLaws.{lines-new}
+use Rattle.k_map_plans.specs.k_plans.Landings.{IsElsewhere}
+use Rattle.k_map_plans.specs.k_plans.Maps.{MayWriteAll}
+use Rattle.k_map_plans.specs.k_plans.LandingsPlans.{NewChain, Turns, blocks_of, new_at}
+use Rattle.k_map_plans.specs.k_plans.WrittenLaws.{in_data-each}
+use Rattle.k_tables.specs.k_split_model.Stands.{IsOldOrNew, Stands}
+use Rattle.k_map_plans.specs.volume_change_laws.Switches.{unused-data}
+use Rattle.k_map_plans.specs.volume_laws.Uses.{is_unused}
 use Rattle.k_split.specs.MapChanges.{ChangesMaps, IsMapLandedDone, IsMapLandedLost, IsMapPlanned}
 
 module _ (g : Geometry) (news : List NewChain) (v w : Volume) (b : List Entry) (d : List Cell) (numbers : g ≡ w.geometry)

@@ -2,39 +2,38 @@
 use Rattle.std.proofs.Common.{◌≡◌, ℕ, ◌*◌, ◌/◌, Bool, false, List, [], length, Result, Ok, Err, Vec, Global, refl, sym, ◌∙◌, ap, subst}
 use Rattle.std.specs.Prelude.{IfOk}
 use Rattle.std.specs.declared.alloc.AllocError.{AllocError}
-use Rattle.lines_out.specs.pm_words.declared.Cell.{Cell}
-use Rattle.lines_out.specs.pm_words.declared.Cell.TheVariants.{Single}
-use Rattle.lines_out.specs.pm_words.Cells.{AllSingle, cell, newest}
-use Rattle.lines_out.specs.pm_words.ImageLaws.{image-single}
-use Rattle.lines_out.specs.pm_words.Images.{words_of}
-use Rattle.lines_out.specs.pm_words.Words.{word_at, Words}
-use Rattle.lines_out.specs.disk_places.Journal.{journaled}
-use Rattle.lines_out.specs.disk_places.PlaceLaws.{journaled-words}
-use Rattle.lines_out.specs.disk_places.Places.{Geometry, IsGeometry, base_word, commit_word}
-use Rattle.lines_out.specs.extent_words.declared.Extent.{Extent}
-use Rattle.disk_lines.specs.declared.Inode.{Inode}
-use Rattle.disk_lines.specs.Names.{Rows}
-use Rattle.disk_lines.specs.Tables.{IsKeyed}
-use Rattle.lines_out.specs.disk_rules.Kept.{AreKept}
-use Rattle.lines_out.specs.disk_rules.Reading.{Reads}
-use Rattle.lines_out.specs.disk_rules.Rules.{geometry_of, IsChecked}
-use Rattle.lines_out.specs.disk_rules.Volume.{Volume, volume}
-use Rattle.k_content.specs.volume_facts.ImageLaws.{journaled-idle}
-use Rattle.lines_out.specs.disk_places.PlaceLaws.{behind_log-words}
-use Rattle.k_content.specs.volume_facts.LineWords.{data_word}
-use Rattle.k_content.specs.volume_facts.ReadingLaws.{reads-same, reads-volume}
-use Rattle.k_content.specs.name_facts.KeptLaws.{kept-keyed, reads-all_lines}
-use Rattle.k_log_plans.specs.image_facts.CheckedLaws.{kept-checked, reads-checked}
-use Rattle.k_log_plans.specs.image_facts.FreshLaws.{content-fresh, fresh-checked}
-use Rattle.k_log_plans.specs.image_facts.FreshLines.{geometry_of-fresh}
-use Rattle.disk_lines.specs.Fresh.{fresh}
-use Rattle.lines_out.specs.disk_rules.Content.{content}
-use Rattle.lines_out.specs.disk_rules.FreshVolume.{root_alone}
-use Rattle.k_log_plans.specs.k_journal.declared.batches.Entry.{Entry}
-use Rattle.k_content.specs.k_rules.Stands.{Stands}
-use Rattle.k_log_plans.specs.k_plans.View.{tables_view, TablesView}
-use Rattle.k_log_plans.specs.k_plans.Whole.{IsWhole}
-use Rattle.k_log_plans.specs.k_plans.WholeLaws.{whole-read}
+use Rattle.block_io.specs.pm_model.declared.Cell.{Cell}
+use Rattle.block_io.specs.pm_model.declared.Cell.TheVariants.{Single}
+use Rattle.block_io.specs.pm_model.Cells.{AllSingle, cell, newest}
+use Rattle.block_io.specs.pm_model.ImageLaws.{image-single}
+use Rattle.block_io.specs.pm_model.Images.{words_of}
+use Rattle.block_io.specs.pm_model.Words.{word_at, Words}
+use Rattle.block_io.specs.layout_model.Journal.{journaled}
+use Rattle.block_io.specs.layout_model.PlaceLaws.{journaled-words, behind_log-words}
+use Rattle.block_io.specs.layout_model.Places.{Geometry, IsGeometry, base_word, commit_word}
+use Rattle.block_io.specs.extent_model.declared.extent_words.Extent.{Extent}
+use Rattle.layout_model.specs.declared.lines.Inode.{Inode}
+use Rattle.layout_model.specs.Names.{Rows}
+use Rattle.layout_model.specs.Tables.{IsKeyed}
+use Rattle.block_io.specs.image_model.Kept.{AreKept}
+use Rattle.block_io.specs.image_model.Reading.{Reads}
+use Rattle.block_io.specs.image_model.Rules.{geometry_of, IsChecked}
+use Rattle.block_io.specs.image_model.Volume.{Volume, volume}
+use Rattle.k_tables.specs.volume_laws.ImageLaws.{journaled-idle}
+use Rattle.k_tables.specs.volume_laws.LineWords.{data_word}
+use Rattle.k_tables.specs.volume_laws.ReadingLaws.{reads-same, reads-volume}
+use Rattle.k_tables.specs.name_laws.KeptLaws.{kept-keyed, reads-all_lines}
+use Rattle.k_map_plans.specs.image_laws.CheckedLaws.{kept-checked, reads-checked}
+use Rattle.k_map_plans.specs.image_laws.FreshLaws.{content-fresh, fresh-checked}
+use Rattle.k_map_plans.specs.image_laws.FreshLines.{geometry_of-fresh}
+use Rattle.layout_model.specs.Fresh.{fresh}
+use Rattle.block_io.specs.image_model.Content.{content}
+use Rattle.block_io.specs.image_model.FreshVolume.{root_alone}
+use Rattle.k_map_plans.specs.k_journal.declared.batches.Entry.{Entry}
+use Rattle.k_tables.specs.k_split_model.Stands.{Stands}
+use Rattle.k_map_plans.specs.k_plans.View.{tables_view, TablesView}
+use Rattle.k_map_plans.specs.k_plans.Whole.{IsWhole}
+use Rattle.k_map_plans.specs.k_plans.WholeLaws.{whole-read}
 use Rattle.k_split.specs.Order.{view_of, IsOpened, IsReady}
 
 -- words whose journal is empty read as they do through it

@@ -2,21 +2,21 @@
 use Rattle.std.proofs.Common.{◌≡◌, ◌≢◌, ◌⊎◌, ◌≤◌, ◌/◌, ◌++◌, ◌∷◌, [], ℕ, Bool, true, List, sym, ◌∙◌, ap, inl, inr, arith, subst}
 use Rattle.std.proofs.lemmas.Bool.{both_ways, cases_Bool, cases_eq}
 use Rattle.std.proofs.lemmas.List.{append-nil}
-use Rattle.lines_out.specs.pm_words.declared.Cell.{Cell}
-use Rattle.lines_out.specs.pm_words.Cells.{cell, is_single}
-use Rattle.disk_lines.specs.declared.Kind.TheVariants.{Staging}
-use Rattle.lines_out.specs.disk_rules.Rules.{IsKindAt}
-use Rattle.lines_out.specs.disk_rules.Volume.{Volume, extents, inode}
-use Rattle.lines_out.specs.extent_facts.Covers.{covers-disk_at, disk_at-covers}
-use Rattle.lines_out.specs.extent_words.declared.Extent.{Extent}
-use Rattle.lines_out.specs.extent_words.Extents.{covers, disk_at, is_within, IsCanonical}
-use Rattle.k_log_plans.specs.k_land.Plans.{NewChain, blocks_of}
-use Rattle.k_log_plans.specs.k_map_plans.Plans.{MayMove}
-use Rattle.k_log_plans.specs.k_plans.Whole.{IsWhole}
-use Rattle.lines_out.specs.map_rules.Changes.{IsMoved, with_length}
-use Rattle.lines_out.specs.map_rules.Taken.{switched, with_map}
-use Rattle.lines_out.specs.map_rules.declared.moves.Move.{Move}
-use Rattle.k_content.specs.volume_facts.Changes.{extents-set_other, extents-set_same}
+use Rattle.block_io.specs.pm_model.declared.Cell.{Cell}
+use Rattle.block_io.specs.pm_model.Cells.{cell, is_single}
+use Rattle.layout_model.specs.declared.lines.Kind.TheVariants.{Staging}
+use Rattle.block_io.specs.image_model.Rules.{IsKindAt}
+use Rattle.block_io.specs.image_model.Volume.{Volume, extents, inode}
+use Rattle.block_io.specs.extent_model.Covers.{covers-disk_at, disk_at-covers}
+use Rattle.block_io.specs.extent_model.declared.extent_words.Extent.{Extent}
+use Rattle.block_io.specs.extent_model.Extents.{covers, disk_at, is_within, IsCanonical}
+use Rattle.k_map_plans.specs.k_plans.LandingsPlans.{NewChain, blocks_of}
+use Rattle.k_map_plans.specs.Plans.{MayMove}
+use Rattle.k_map_plans.specs.k_plans.Whole.{IsWhole}
+use Rattle.block_io.specs.k_split_model.MapChangesChanges.{IsMoved, with_length}
+use Rattle.block_io.specs.k_split_model.Taken.{switched, with_map}
+use Rattle.block_io.specs.k_split_model.declared.map_changes.moves.Move.{Move}
+use Rattle.k_tables.specs.volume_laws.Changes.{extents-set_other, extents-set_same}
 use Rattle.k_split.specs.MapChanges.{IsMovedSingle}
 use Rattle.k_split.specs.Order.{IsUnstaged}
 

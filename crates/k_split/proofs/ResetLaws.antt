@@ -2,27 +2,27 @@
 use Rattle.std.proofs.Common.{◌≡◌, ◌∙◌, ◌<◌, ◌+◌, ◌/◌, ℕ, zero, suc, true, not, List, [], length, Option, Ok, Err, Result, if◌then◌else◌, refl, sym, ap, arith, inl, inr, subst}
 use Rattle.std.specs.Prelude.{◌==◌, ◌&&◌, nat_le, ◌^◌}
 use Rattle.std.proofs.lemmas.Bool.Decides.{nat_tests}
-use Rattle.lines_out.specs.pm_words.declared.Cell.{Cell}
-use Rattle.lines_out.specs.pm_words.ImageLaws.{IsImage-words_of}
-use Rattle.lines_out.specs.pm_words.Images.{Follows, Follows-same, IsImage, words_of}
-use Rattle.lines_out.specs.pm_words.Powers.{Supply}
-use Rattle.lines_out.specs.pm_words.Words.{Words}
-use Rattle.lines_out.specs.disk_places.Journal.{journaled}
-use Rattle.disk_lines.specs.declared.Inode.{Inode}
-use Rattle.disk_lines.specs.declared.Kind.{Kind}
-use Rattle.disk_lines.specs.declared.Kind.TheVariants.{File}
-use Rattle.disk_lines.specs.Lines.{has_map_or_none, is_inode, is_inode_of_kind, most_bytes}
-use Rattle.lines_out.specs.disk_rules.Chains.{blocks_from, first_or_zero}
-use Rattle.lines_out.specs.disk_rules.Content.{Node, content, found}
-use Rattle.lines_out.specs.disk_rules.Live.{live_entries}
-use Rattle.lines_out.specs.disk_rules.Volume.{Volume, inode}
-use Rattle.k_content.specs.volume_facts.FootprintLaws.{content-own}
-use Rattle.k_log_plans.specs.k_journal.declared.batches.Entry.{Entry}
-use Rattle.k_log_plans.specs.ResetLaws.{reset-content}
-use Rattle.k_log_plans.specs.Resets.{HasNoValid, HasOwnMap, reset}
-use Rattle.k_log_plans.specs.k_map_plans.Plans.{IsLiveFile}
-use Rattle.k_log_plans.specs.k_plans.Whole.{IsWhole}
-use Rattle.k_content.specs.k_rules.Stands.{IsOldOrNew, Stands}
+use Rattle.block_io.specs.pm_model.declared.Cell.{Cell}
+use Rattle.block_io.specs.pm_model.ImageLaws.{IsImage-words_of}
+use Rattle.block_io.specs.pm_model.Images.{Follows, Follows-same, IsImage, words_of}
+use Rattle.block_io.specs.pm_model.Powers.{Supply}
+use Rattle.block_io.specs.pm_model.Words.{Words}
+use Rattle.block_io.specs.layout_model.Journal.{journaled}
+use Rattle.layout_model.specs.declared.lines.Inode.{Inode}
+use Rattle.layout_model.specs.declared.lines.Kind.{Kind}
+use Rattle.layout_model.specs.declared.lines.Kind.TheVariants.{File}
+use Rattle.layout_model.specs.Lines.{has_map_or_none, is_inode, is_inode_of_kind, most_bytes}
+use Rattle.block_io.specs.image_model.Chains.{blocks_from, first_or_zero}
+use Rattle.block_io.specs.image_model.Content.{Node, content, found}
+use Rattle.block_io.specs.image_model.Live.{live_entries}
+use Rattle.block_io.specs.image_model.Volume.{Volume, inode}
+use Rattle.k_tables.specs.volume_laws.FootprintLaws.{content-own}
+use Rattle.k_map_plans.specs.k_journal.declared.batches.Entry.{Entry}
+use Rattle.k_map_plans.specs.ResetLaws.{reset-content}
+use Rattle.k_map_plans.specs.Resets.{HasNoValid, HasOwnMap, reset}
+use Rattle.k_map_plans.specs.Plans.{IsLiveFile}
+use Rattle.k_map_plans.specs.k_plans.Whole.{IsWhole}
+use Rattle.k_tables.specs.k_split_model.Stands.{IsOldOrNew, Stands}
 use Rattle.k_split.specs.declared.faults.KFault.{KFault}
 use Rattle.k_split.specs.Contents.{HasOldOrNew}
 use Rattle.k_split.specs.Landed.{IsLanded}

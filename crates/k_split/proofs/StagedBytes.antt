@@ -3,15 +3,15 @@ use Rattle.std.proofs.Common.{◌≡◌, ℕ, ◌+◌, ◌*◌, ◌/◌, ◌<◌
 use Rattle.std.specs.Prelude.{IsSome}
 use Rattle.std.proofs.lemmas.Bool.{cases_lt}
 use Rattle.std.proofs.lemmas.Option.{same_Some}
-use Rattle.lines_out.specs.pm_words.declared.Cell.{Cell}
-use Rattle.lines_out.specs.pm_words.ImageLaws.{IsImage-words_of}
-use Rattle.lines_out.specs.pm_words.Images.{words_of}
-use Rattle.lines_out.specs.extent_words.Extents.{disk_at, IsCanonical}
-use Rattle.lines_out.specs.extent_facts.Facts.{disk_at-past}
-use Rattle.lines_out.specs.disk_rules.Volume.{extents, Volume}
-use Rattle.lines_out.specs.block_bytes.Overwrites.{MayOverwrite}
-use Rattle.k_log_plans.specs.k_plans.Whole.{IsWhole}
-use Rattle.k_content.specs.k_rules.Stands.{Stands}
+use Rattle.block_io.specs.pm_model.declared.Cell.{Cell}
+use Rattle.block_io.specs.pm_model.ImageLaws.{IsImage-words_of}
+use Rattle.block_io.specs.pm_model.Images.{words_of}
+use Rattle.block_io.specs.extent_model.Extents.{disk_at, IsCanonical}
+use Rattle.block_io.specs.extent_model.Facts.{disk_at-past}
+use Rattle.block_io.specs.image_model.Volume.{extents, Volume}
+use Rattle.block_io.specs.Overwrites.{MayOverwrite}
+use Rattle.k_map_plans.specs.k_plans.Whole.{IsWhole}
+use Rattle.k_tables.specs.k_split_model.Stands.{Stands}
 use Rattle.k_split.specs.Loans.{MayLend}
 use Rattle.k_split.proofs.ByteLaws.{may_overwrite}
 

@@ -2,25 +2,25 @@
 use Rattle.std.proofs.Common.{◌≡◌, Bool, false, List, [], Result, Ok, Err, sym, subst}
 use Rattle.std.specs.Prelude.{IfOk}
 use Rattle.std.specs.declared.alloc.AllocError.{AllocError}
-use Rattle.lines_out.specs.pm_words.declared.Cell.{Cell}
-use Rattle.lines_out.specs.pm_words.Cells.{AllHome}
-use Rattle.lines_out.specs.pm_words.Images.{words_of}
-use Rattle.lines_out.specs.disk_places.Journal.{journaled}
-use Rattle.lines_out.specs.disk_rules.Content.{content, found}
-use Rattle.lines_out.specs.disk_rules.Live.{live_entries}
-use Rattle.lines_out.specs.disk_rules.Volume.{Volume}
+use Rattle.block_io.specs.pm_model.declared.Cell.{Cell}
+use Rattle.block_io.specs.pm_model.Cells.{AllHome}
+use Rattle.block_io.specs.pm_model.Images.{words_of}
+use Rattle.block_io.specs.layout_model.Journal.{journaled}
+use Rattle.block_io.specs.image_model.Content.{content, found}
+use Rattle.block_io.specs.image_model.Live.{live_entries}
+use Rattle.block_io.specs.image_model.Volume.{Volume}
 use Rattle.posix_types.specs.declared.tree.TreeEntry.{TreeEntry}
-use Rattle.k_content.specs.posix_trees.TreeOf.{IsTreeOf}
-use Rattle.k_content.proofs.Reading.{have-trees}
-use Rattle.k_content.specs.Trees.{HasTables, HasTree, tree_content}
-use Rattle.lines_out.specs.extent_words.declared.Extent.{Extent}
-use Rattle.disk_lines.specs.declared.Inode.{Inode}
-use Rattle.disk_lines.specs.Names.{Rows}
-use Rattle.k_log_plans.specs.k_journal.declared.batches.Entry.{Entry}
-use Rattle.k_log_plans.specs.k_plans.View.{TablesView}
+use Rattle.k_tables.specs.posix_laws.TreeOf.{IsTreeOf}
+use Rattle.k_tables.proofs.Reading.{have-trees}
+use Rattle.k_tables.specs.ContentsTrees.{HasTables, HasTree, tree_content}
+use Rattle.block_io.specs.extent_model.declared.extent_words.Extent.{Extent}
+use Rattle.layout_model.specs.declared.lines.Inode.{Inode}
+use Rattle.layout_model.specs.Names.{Rows}
+use Rattle.k_map_plans.specs.k_journal.declared.batches.Entry.{Entry}
+use Rattle.k_map_plans.specs.k_plans.View.{TablesView}
 use Rattle.k_split.specs.Order.{IsInOrder, IsReady, view_of}
-use Rattle.k_content.specs.k_rules.Stands.{Stands}
-use Rattle.k_content.specs.k_rules.View.{View}
+use Rattle.k_tables.specs.k_split_model.Stands.{Stands}
+use Rattle.k_tables.specs.k_split_model.View.{View}
 use Rattle.k_split.proofs.ContentLaws.{content-words, reads-words}
 
 pub has-tree : (k : View) → k.batched ≡ false → IsInOrder k → AllHome k.cells → HasTree k.volume.inodes k.volume.names k.volume.maps k.cells

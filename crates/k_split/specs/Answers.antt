@@ -1,22 +1,22 @@
 -- What a change of K-Split answers and leaves.
 use Rattle.std.specs.Prelude.{◌≡◌, ◌⊎◌, ℕ, ◌/◌, true, false, List, [], length, Option, Some, None, Result, Ok, Err}
-use Rattle.lines_out.specs.pm_words.declared.Cell.{Cell}
-use Rattle.lines_out.specs.pm_words.Cells.{cell, Settles}
-use Rattle.lines_out.specs.pm_words.Frames.{SameLent, KeepsSingle}
-use Rattle.lines_out.specs.pm_words.Images.{Follows}
-use Rattle.lines_out.specs.pm_words.Powers.{is_on, Supply}
-use Rattle.lines_out.specs.disk_places.Journal.{is_journal_word}
-use Rattle.lines_out.specs.disk_places.Places.{is_journaled_line}
-use Rattle.lines_out.specs.disk_rules.Volume.{Volume}
-use Rattle.k_log_plans.specs.k_journal.Commits.{TakesAStep}
-use Rattle.k_log_plans.specs.k_journal.declared.outcomes.Commit.{Commit}
-use Rattle.k_log_plans.specs.k_plans.Whole.{IsWhole}
-use Rattle.k_content.specs.k_rules.Stands.{IsOldOrNew}
-use Rattle.k_content.specs.k_rules.View.{View}
+use Rattle.block_io.specs.pm_model.declared.Cell.{Cell}
+use Rattle.block_io.specs.pm_model.Cells.{cell, Settles}
+use Rattle.block_io.specs.pm_model.Frames.{SameLent, KeepsSingle}
+use Rattle.block_io.specs.pm_model.Images.{Follows}
+use Rattle.block_io.specs.pm_model.Powers.{is_on, Supply}
+use Rattle.block_io.specs.layout_model.Journal.{is_journal_word}
+use Rattle.block_io.specs.layout_model.Places.{is_journaled_line}
+use Rattle.block_io.specs.image_model.Volume.{Volume}
+use Rattle.k_map_plans.specs.k_journal.Commits.{TakesAStep}
+use Rattle.k_map_plans.specs.k_journal.declared.outcomes.Commit.{Commit}
+use Rattle.k_map_plans.specs.k_plans.Whole.{IsWhole}
+use Rattle.k_tables.specs.k_split_model.Stands.{IsOldOrNew}
+use Rattle.k_tables.specs.k_split_model.View.{View}
 use Rattle.posix_types.specs.declared.item.Outcome.{Outcome}
 use Rattle.posix_types.specs.declared.reply.Errno.{Errno}
 use Rattle.posix_types.specs.declared.reply.Reply.{Reply}
-use Rattle.posix_words.specs.Outcomes.{answer}
+use Rattle.posix_tables.specs.Outcomes.{answer}
 use Rattle.k_split.specs.declared.faults.KFault.{KFault}
 use Rattle.k_split.specs.Order.{IsInOrder}
 
@@ -48,7 +48,7 @@ abbrev pub IsOff : View → View → Type 0
 IsOff old new = new ≡ record old { lost = true }
 
 -- What a change answers and leaves, by the first of its rows that fits: done exactly where none fits, where Makes says what it
--- answers of the new volume; refused by a row with all as it was, and so where no row fits for want of memory; or cut off by
+-- answers of the new volume; refused by a row with all as it was, and so where no row fits where memory runs out; or cut off by
 -- the power.
 abbrev pub IsAnswer : {T : Type 0} → Option Outcome → (T → Volume → Type 0) → View → View → Result T KFault → Type 0
 IsAnswer {T} refused Makes old new (Ok t) = (refused ≡ None) × Makes t new.volume × IsDone old new

@@ -1,18 +1,18 @@
 -- What the calls leave that write bytes of a file over in place.
 use Rattle.std.specs.Prelude.{◌≡◌, ◌⊎◌, ◌≤◌, ◌<◌, ◌+◌, ◌-◌, ◌/◌, ◌%◌, ℕ, true, false, List, [], length, replicate, Option, Some, None, IsSome, Result, Ok, Err}
-use Rattle.lines_out.specs.pm_words.declared.Cell.{Cell}
-use Rattle.lines_out.specs.pm_words.Cells.{cell, Settles}
-use Rattle.lines_out.specs.pm_words.Frames.{KeepsSingle, SameLent}
-use Rattle.lines_out.specs.pm_words.Images.{Follows}
-use Rattle.lines_out.specs.pm_words.Powers.{is_on, Supply}
-use Rattle.lines_out.specs.pm_words.Words.{Words}
-use Rattle.lines_out.specs.disk_places.Journal.{IsSound, journaled}
-use Rattle.lines_out.specs.extent_words.Extents.{disk_at}
-use Rattle.disk_lines.specs.declared.Kind.TheVariants.{File}
-use Rattle.lines_out.specs.disk_rules.Reading.{Reads}
-use Rattle.lines_out.specs.disk_rules.Volume.{extents, inode, Volume}
-use Rattle.lines_out.specs.block_bytes.Overwrites.{IsBesideBlocks, IsOverwritten, IsOverwrittenWhole}
-use Rattle.k_content.specs.k_rules.View.{View}
+use Rattle.block_io.specs.pm_model.declared.Cell.{Cell}
+use Rattle.block_io.specs.pm_model.Cells.{cell, Settles}
+use Rattle.block_io.specs.pm_model.Frames.{KeepsSingle, SameLent}
+use Rattle.block_io.specs.pm_model.Images.{Follows}
+use Rattle.block_io.specs.pm_model.Powers.{is_on, Supply}
+use Rattle.block_io.specs.pm_model.Words.{Words}
+use Rattle.block_io.specs.layout_model.Journal.{IsSound, journaled}
+use Rattle.block_io.specs.extent_model.Extents.{disk_at}
+use Rattle.layout_model.specs.declared.lines.Kind.TheVariants.{File}
+use Rattle.block_io.specs.image_model.Reading.{Reads}
+use Rattle.block_io.specs.image_model.Volume.{extents, inode, Volume}
+use Rattle.block_io.specs.Overwrites.{IsBesideBlocks, IsOverwritten, IsOverwrittenWhole}
+use Rattle.k_tables.specs.k_split_model.View.{View}
 use Rattle.k_split.specs.declared.faults.KFault.{KFault}
 use Rattle.k_split.specs.Order.{IsInOrder}
 

@@ -1,18 +1,18 @@
 -- The content of the images of a change.
 use Rattle.std.specs.Prelude.{◌≡◌, ◌⊎◌, ◌<◌, ℕ, List, [], length, All, true, false}
-use Rattle.lines_out.specs.pm_words.declared.Cell.{Cell}
-use Rattle.lines_out.specs.pm_words.Images.{Follows}
-use Rattle.lines_out.specs.pm_words.Words.{Words}
-use Rattle.lines_out.specs.disk_places.Journal.{journaled}
-use Rattle.lines_out.specs.disk_places.Places.{Geometry}
-use Rattle.lines_out.specs.extent_words.Extents.{covers}
-use Rattle.lines_out.specs.disk_rules.Content.{content, found}
-use Rattle.lines_out.specs.disk_rules.Kept.{AreKept}
-use Rattle.lines_out.specs.disk_rules.Live.{live_entries}
-use Rattle.lines_out.specs.disk_rules.Placed.{block_at}
-use Rattle.lines_out.specs.disk_rules.Volume.{extents, Volume}
-use Rattle.k_log_plans.specs.volume_uses.Uses.{is_unused}
-use Rattle.k_content.specs.k_rules.Stands.{IsOldOrNew, Stands}
+use Rattle.block_io.specs.pm_model.declared.Cell.{Cell}
+use Rattle.block_io.specs.pm_model.Images.{Follows}
+use Rattle.block_io.specs.pm_model.Words.{Words}
+use Rattle.block_io.specs.layout_model.Journal.{journaled}
+use Rattle.block_io.specs.layout_model.Places.{Geometry}
+use Rattle.block_io.specs.extent_model.Extents.{covers}
+use Rattle.block_io.specs.image_model.Content.{content, found}
+use Rattle.block_io.specs.image_model.Kept.{AreKept}
+use Rattle.block_io.specs.image_model.Live.{live_entries}
+use Rattle.block_io.specs.image_model.Placed.{block_at}
+use Rattle.block_io.specs.image_model.Volume.{extents, Volume}
+use Rattle.k_map_plans.specs.volume_laws.Uses.{is_unused}
+use Rattle.k_tables.specs.k_split_model.Stands.{IsOldOrNew, Stands}
 
 -- The content of the image is that of the image before, or what w makes of the words before.
 abbrev pub HasOldOrNew : Geometry → Volume → Words → Words → Type 0

@@ -1,5 +1,5 @@
 -- The fault of a change that was not planned.
-use Rattle.k_log_plans.specs.k_plans.declared.faults.PlanFault.{PlanFault}
+use Rattle.k_map_plans.specs.k_plans.declared.plans.faults.PlanFault.{PlanFault}
 use Rattle.k_split.specs.declared.faults.KFault.{KFault}
 
 abbrev pub fault_of : PlanFault → KFault

@@ -1,22 +1,22 @@
 -- What the filling of holes of a file answers and leaves.
 use Rattle.std.specs.Prelude.{◌≡◌, ◌≢◌, ◌⊎◌, ℕ, true, All, List, ◌++◌, length, Option, None, Some, Result, Ok, Err}
-use Rattle.lines_out.specs.pm_words.declared.Cell.{Cell}
-use Rattle.lines_out.specs.pm_words.Powers.{Supply}
-use Rattle.lines_out.specs.disk_rules.Placed.{AreDistinct, AreSingle}
-use Rattle.lines_out.specs.disk_rules.Volume.{Volume, chain, extents}
-use Rattle.k_log_plans.specs.k_journal.declared.batches.Entry.{Entry}
-use Rattle.k_log_plans.specs.k_land.Maps.{AreApart}
-use Rattle.k_log_plans.specs.k_land.Plans.{NewChain, blocks_of}
-use Rattle.k_log_plans.specs.k_map_plans.Plans.{holes_row}
-use Rattle.lines_out.specs.disk_places.Places.{reserve}
-use Rattle.k_content.specs.k_rules.View.{View}
-use Rattle.lines_out.specs.map_rules.Changes.{holes, IsFilled}
-use Rattle.lines_out.specs.map_rules.Zeros.{ReadZeros}
+use Rattle.block_io.specs.pm_model.declared.Cell.{Cell}
+use Rattle.block_io.specs.pm_model.Powers.{Supply}
+use Rattle.block_io.specs.image_model.Placed.{AreDistinct, AreSingle}
+use Rattle.block_io.specs.image_model.Volume.{Volume, chain, extents}
+use Rattle.k_map_plans.specs.k_journal.declared.batches.Entry.{Entry}
+use Rattle.k_map_plans.specs.k_plans.Maps.{AreApart}
+use Rattle.k_map_plans.specs.k_plans.LandingsPlans.{NewChain, blocks_of}
+use Rattle.k_map_plans.specs.Plans.{holes_row}
+use Rattle.block_io.specs.layout_model.Places.{reserve}
+use Rattle.k_tables.specs.k_split_model.View.{View}
+use Rattle.block_io.specs.k_split_model.MapChangesChanges.{holes, IsFilled}
+use Rattle.block_io.specs.k_split_model.Zeros.{ReadZeros}
 use Rattle.posix_types.specs.declared.item.Outcome.{Outcome}
 use Rattle.posix_types.specs.declared.reply.Errno.{Errno}
 use Rattle.posix_types.specs.declared.reply.Reply.{Reply}
-use Rattle.posix_words.specs.Outcomes.{answer}
-use Rattle.k_log_plans.specs.volume_uses.Uses.{is_unused}
+use Rattle.posix_tables.specs.Outcomes.{answer}
+use Rattle.k_map_plans.specs.volume_laws.Uses.{is_unused}
 use Rattle.k_split.specs.declared.faults.KFault.{KFault}
 use Rattle.k_split.specs.Answers.{IsOff}
 use Rattle.k_split.specs.MapChanges.{free_blocks_in, is_free_in, IsMapAnswer, IsMapCut, IsMapLanded, IsMapPlanned}

@@ -1,13 +1,13 @@
 -- A plan on the tables, and what its landing leaves.
 use Rattle.std.specs.Prelude.{◌≡◌, ◌<◌, ◌≤◌, true, false, List, [], length, Result, Ok, Err}
-use Rattle.lines_out.specs.pm_words.declared.Cell.{Cell}
-use Rattle.lines_out.specs.pm_words.Frames.{KeepsSingle}
-use Rattle.lines_out.specs.pm_words.Powers.{is_on, Supply}
-use Rattle.lines_out.specs.disk_rules.Volume.{Volume}
-use Rattle.k_log_plans.specs.k_journal.Commits.{TakesAStep}
-use Rattle.k_log_plans.specs.k_journal.declared.batches.Entry.{Entry}
-use Rattle.k_log_plans.specs.k_land.Plans.{Turns}
-use Rattle.k_content.specs.k_rules.Stands.{Stands}
+use Rattle.block_io.specs.pm_model.declared.Cell.{Cell}
+use Rattle.block_io.specs.pm_model.Frames.{KeepsSingle}
+use Rattle.block_io.specs.pm_model.Powers.{is_on, Supply}
+use Rattle.block_io.specs.image_model.Volume.{Volume}
+use Rattle.k_map_plans.specs.k_journal.Commits.{TakesAStep}
+use Rattle.k_map_plans.specs.k_journal.declared.batches.Entry.{Entry}
+use Rattle.k_map_plans.specs.k_plans.LandingsPlans.{Turns}
+use Rattle.k_tables.specs.k_split_model.Stands.{Stands}
 use Rattle.k_split.specs.declared.faults.KFault.{KFault}
 use Rattle.k_split.specs.Answers.{Changes}
 

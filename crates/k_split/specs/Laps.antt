@@ -1,15 +1,15 @@
 -- A new lap of the log, and a log that begins anew.
 use Rattle.std.specs.Prelude.{◌≡◌, ◌⊎◌, ◌+◌, ◌≤◌, ◌^◌, ℕ, true, length, List, None, Result}
-use Rattle.lines_out.specs.pm_words.declared.Cell.{Cell}
-use Rattle.lines_out.specs.pm_words.Cells.{cell, is_single, Settles}
-use Rattle.lines_out.specs.pm_words.Frames.{KeepsSingle, SameLent}
-use Rattle.lines_out.specs.pm_words.Images.{Follows}
-use Rattle.lines_out.specs.block_bytes.Overwrites.{AreGoingToZero, AreLinesZeroed, IsInLines, SameBesideLines}
-use Rattle.lines_out.specs.disk_places.Places.{log_line}
-use Rattle.lines_out.specs.disk_rules.Reading.{base_set}
-use Rattle.lines_out.specs.disk_rules.Volume.{Volume}
-use Rattle.k_log_plans.specs.k_journal.declared.outcomes.Commit.{Commit}
-use Rattle.k_content.specs.k_rules.View.{View}
+use Rattle.block_io.specs.pm_model.declared.Cell.{Cell}
+use Rattle.block_io.specs.pm_model.Cells.{cell, is_single, Settles}
+use Rattle.block_io.specs.pm_model.Frames.{KeepsSingle, SameLent}
+use Rattle.block_io.specs.pm_model.Images.{Follows}
+use Rattle.block_io.specs.Overwrites.{AreGoingToZero, AreLinesZeroed, IsInLines, SameBesideLines}
+use Rattle.block_io.specs.layout_model.Places.{log_line}
+use Rattle.block_io.specs.image_model.Reading.{base_set}
+use Rattle.block_io.specs.image_model.Volume.{Volume}
+use Rattle.k_map_plans.specs.k_journal.declared.outcomes.Commit.{Commit}
+use Rattle.k_tables.specs.k_split_model.View.{View}
 use Rattle.k_split.specs.declared.faults.KFault.{KFault}
 use Rattle.k_split.specs.Answers.{IsAnswer, IsCut, IsDone, IsOff}
 

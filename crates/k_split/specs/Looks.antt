@@ -2,15 +2,15 @@
 use Rattle.std.specs.Prelude.{◌≡◌, ℕ, List, [], ◌∷◌, Option, Some, None, Result, Ok, Err, IsPermutation, IsSorted}
 use Rattle.std.specs.Cmp.Lexicographic.{slice_cmp}
 use Rattle.std.specs.Ordering.{nat_cmp}
-use Rattle.disk_lines.specs.Tables.{names_below}
-use Rattle.lines_out.specs.disk_rules.Volume.{Volume}
-use Rattle.k_content.specs.k_rules.Spaces.{volume_space}
+use Rattle.layout_model.specs.Tables.{names_below}
+use Rattle.block_io.specs.image_model.Volume.{Volume}
+use Rattle.k_tables.specs.k_split_model.Spaces.{volume_space}
 use Rattle.posix_types.specs.declared.item.Outcome.{Outcome}
 use Rattle.posix_types.specs.declared.reply.Errno.{Errno}
 use Rattle.posix_types.specs.declared.reply.Reply.{Reply}
-use Rattle.posix_words.specs.NameRows.{list_rows, stat_rows, too_long_row, walk_row}
-use Rattle.posix_words.specs.Names.{node_at_path, Space, walk}
-use Rattle.posix_words.specs.Outcomes.{answer, first}
+use Rattle.posix_tables.specs.NameRows.{list_rows, stat_rows, too_long_row, walk_row}
+use Rattle.posix_tables.specs.Names.{node_at_path, Space, walk}
+use Rattle.posix_tables.specs.Outcomes.{answer, first}
 use Rattle.k_split.specs.declared.faults.KFault.{KFault}
 
 -- The directory in which the last name of a path stands, or why there is none: by the two rows that every call of a path has,
@@ -39,7 +39,7 @@ pub record IsListed (v : Volume) (path : List (List ℕ)) (names : List (List �
   pub are : IsPermutation (names_below v.names ino) names
   pub sorted : IsSorted (slice_cmp nat_cmp) names
 
--- why nothing is listed: by a row; or, where no row fits, for want of memory
+-- why nothing is listed: by a row; or, where no row fits, where memory runs out
 abbrev pub IsListFault : Volume → List (List ℕ) → KFault → Type 0
 IsListFault v path (KFault.Refused errno) = IsDirectoryFound v path (Err errno)
 IsListFault v path (KFault.Room room) = ⊥

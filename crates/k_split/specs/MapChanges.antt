@@ -1,28 +1,28 @@
 -- What a change of maps answers and leaves.
 use Rattle.std.specs.Prelude.{◌≡◌, ◌⊎◌, ◌<◌, ◌&&◌, ◌/◌, not, ℕ, Bool, true, false, List, [], ◌++◌, length, Some, Result, Ok, Err}
-use Rattle.lines_out.specs.pm_words.declared.Cell.{Cell}
-use Rattle.lines_out.specs.pm_words.Cells.{cell, is_single, Settles}
-use Rattle.lines_out.specs.pm_words.Frames.{SameLent, KeepsSingle}
-use Rattle.lines_out.specs.pm_words.Images.{Follows}
-use Rattle.lines_out.specs.pm_words.Powers.{is_on, Supply}
-use Rattle.k_log_plans.specs.block_pool.FreeSets.{is_among}
-use Rattle.lines_out.specs.disk_places.Journal.{is_journal_word}
-use Rattle.lines_out.specs.disk_places.Places.{is_journaled_line}
-use Rattle.lines_out.specs.disk_rules.Placed.{AreSingle, IsOutside}
-use Rattle.lines_out.specs.disk_rules.Volume.{Volume, chain, extents}
-use Rattle.lines_out.specs.extent_words.Extents.{covers, disk_at, is_within}
-use Rattle.lines_out.specs.extent_words.declared.Extent.{Extent}
-use Rattle.k_log_plans.specs.k_journal.Commits.{TakesAStep}
-use Rattle.k_log_plans.specs.k_journal.declared.batches.Entry.{Entry}
-use Rattle.k_log_plans.specs.k_land.Plans.{NewChain, new_at}
-use Rattle.k_log_plans.specs.k_plans.Free.{free_blocks}
-use Rattle.k_log_plans.specs.k_plans.Switching.{IsMapPlan}
-use Rattle.k_log_plans.specs.k_plans.Whole.{IsWhole}
-use Rattle.k_content.specs.k_rules.Stands.{IsOldOrNew, Stands}
-use Rattle.k_content.specs.k_rules.View.{View}
-use Rattle.lines_out.specs.map_rules.Changes.{given_up, IsMoved, IsPreallocated, IsSized}
-use Rattle.lines_out.specs.map_rules.declared.moves.Move.{Move}
-use Rattle.k_log_plans.specs.volume_uses.Uses.{is_unused}
+use Rattle.block_io.specs.pm_model.declared.Cell.{Cell}
+use Rattle.block_io.specs.pm_model.Cells.{cell, is_single, Settles}
+use Rattle.block_io.specs.pm_model.Frames.{SameLent, KeepsSingle}
+use Rattle.block_io.specs.pm_model.Images.{Follows}
+use Rattle.block_io.specs.pm_model.Powers.{is_on, Supply}
+use Rattle.k_map_plans.specs.block_pool.FreeSets.{is_among}
+use Rattle.block_io.specs.layout_model.Journal.{is_journal_word}
+use Rattle.block_io.specs.layout_model.Places.{is_journaled_line}
+use Rattle.block_io.specs.image_model.Placed.{AreSingle, IsOutside}
+use Rattle.block_io.specs.image_model.Volume.{Volume, chain, extents}
+use Rattle.block_io.specs.extent_model.Extents.{covers, disk_at, is_within}
+use Rattle.block_io.specs.extent_model.declared.extent_words.Extent.{Extent}
+use Rattle.k_map_plans.specs.k_journal.Commits.{TakesAStep}
+use Rattle.k_map_plans.specs.k_journal.declared.batches.Entry.{Entry}
+use Rattle.k_map_plans.specs.k_plans.LandingsPlans.{NewChain, new_at}
+use Rattle.k_map_plans.specs.k_plans.Free.{free_blocks}
+use Rattle.k_map_plans.specs.k_plans.Switching.{IsMapPlan}
+use Rattle.k_map_plans.specs.k_plans.Whole.{IsWhole}
+use Rattle.k_tables.specs.k_split_model.Stands.{IsOldOrNew, Stands}
+use Rattle.k_tables.specs.k_split_model.View.{View}
+use Rattle.block_io.specs.k_split_model.MapChangesChanges.{given_up, IsMoved, IsPreallocated, IsSized}
+use Rattle.block_io.specs.k_split_model.declared.map_changes.moves.Move.{Move}
+use Rattle.k_map_plans.specs.volume_laws.Uses.{is_unused}
 use Rattle.k_split.specs.declared.faults.KFault.{KFault}
 use Rattle.k_split.specs.Answers.{IsOff}
 use Rattle.k_split.specs.Order.{IsInOrder}
@@ -60,7 +60,7 @@ pub record IsMapCut (blocks : List ℕ) (w : Volume) (old new : View) : Type 0 w
   pub changes : ChangesMaps blocks old.committed w old.cells new.cells
 
 -- What a change of maps answers and leaves: done, where Makes says what it makes of the volume and which blocks it writes, no
--- one of which is named before; nothing, for want of memory; or cut off by the power. It is never refused.
+-- one of which is named before; nothing, where memory runs out; or cut off by the power. It is never refused.
 abbrev pub IsMapAnswer : (Volume → List ℕ → Type 0) → View → View → Result (Unit {0}) KFault → Type 0
 IsMapAnswer Makes old new (Ok done) = (blocks : List ℕ) × Makes new.volume blocks × IsMapDone blocks old new
 IsMapAnswer Makes old new (Err (KFault.Refused errno)) = ⊥

@@ -1,15 +1,15 @@
 -- The changes of names and nodes, each by its rows and by what it makes of the volume.
 use Rattle.std.specs.Prelude.{◌≡◌, ◌⊎◌, ℕ, Bool, List, Option, None, Some, Result, Ok, Err}
-use Rattle.k_log_plans.specs.k_plans.Making.{IsMade}
-use Rattle.k_log_plans.specs.k_plans.Removing.{IsRemoved, IsUnlinked}
-use Rattle.k_log_plans.specs.k_plans.Renaming.{IsRenamed}
-use Rattle.k_content.specs.k_rules.Changes.{dropped}
-use Rattle.k_content.specs.k_rules.Spaces.{volume_space}
-use Rattle.k_content.specs.k_rules.View.{View}
+use Rattle.k_map_plans.specs.k_plans.Making.{IsMade}
+use Rattle.k_map_plans.specs.k_plans.Removing.{IsRemoved, IsUnlinked}
+use Rattle.k_map_plans.specs.k_plans.Renaming.{IsRenamed}
+use Rattle.k_tables.specs.k_split_model.ChangesChanges.{dropped}
+use Rattle.k_tables.specs.k_split_model.Spaces.{volume_space}
+use Rattle.k_tables.specs.k_split_model.View.{View}
 use Rattle.posix_types.specs.declared.item.Outcome.{Outcome}
 use Rattle.posix_types.specs.declared.reply.Reply.{Reply}
-use Rattle.posix_words.specs.NameRows.{mkdir_rows, rename_rows, rmdir_rows, unlink_rows}
-use Rattle.posix_words.specs.Outcomes.{answer, first}
+use Rattle.posix_tables.specs.NameRows.{mkdir_rows, rename_rows, rmdir_rows, unlink_rows}
+use Rattle.posix_tables.specs.Outcomes.{answer, first}
 use Rattle.k_split.specs.declared.faults.KFault.{KFault}
 use Rattle.k_split.specs.Answers.{IsAnswer}
 

@@ -1,15 +1,15 @@
 -- When K-Split is in order.
 use Rattle.std.specs.Prelude.{◌≡◌, ◌≤◌, ℕ, ◌/◌, Bool, true, false, List, []}
-use Rattle.lines_out.specs.pm_words.declared.Cell.{Cell}
-use Rattle.lines_out.specs.pm_words.Cells.{cell, is_single}
-use Rattle.lines_out.specs.disk_places.Places.{is_data_block}
-use Rattle.lines_out.specs.extent_words.Extents.{covers}
-use Rattle.lines_out.specs.disk_rules.Volume.{Volume, extents}
-use Rattle.k_log_plans.specs.k_journal.declared.batches.Entry.{Entry}
-use Rattle.k_log_plans.specs.k_plans.View.{TablesView}
-use Rattle.k_log_plans.specs.k_plans.Whole.{IsWhole}
-use Rattle.k_content.specs.k_rules.Stands.{Stands}
-use Rattle.k_content.specs.k_rules.View.{View}
+use Rattle.block_io.specs.pm_model.declared.Cell.{Cell}
+use Rattle.block_io.specs.pm_model.Cells.{cell, is_single}
+use Rattle.block_io.specs.layout_model.Places.{is_data_block}
+use Rattle.block_io.specs.extent_model.Extents.{covers}
+use Rattle.block_io.specs.image_model.Volume.{Volume, extents}
+use Rattle.k_map_plans.specs.k_journal.declared.batches.Entry.{Entry}
+use Rattle.k_map_plans.specs.k_plans.View.{TablesView}
+use Rattle.k_map_plans.specs.k_plans.Whole.{IsWhole}
+use Rattle.k_tables.specs.k_split_model.Stands.{Stands}
+use Rattle.k_tables.specs.k_split_model.View.{View}
 
 -- what contracts see of tables and a device, while each change is committed at once
 abbrev pub view_of : TablesView → List Cell → Bool → Bool → View

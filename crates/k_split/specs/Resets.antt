@@ -1,11 +1,11 @@
 -- The entries that a file has applied count anew.
 use Rattle.std.specs.Prelude.{◌≡◌, ℕ, List, None, Result}
-use Rattle.lines_out.specs.pm_words.Words.{Words}
-use Rattle.lines_out.specs.disk_places.Journal.{journaled}
-use Rattle.lines_out.specs.disk_rules.Content.{content}
-use Rattle.lines_out.specs.disk_rules.Volume.{Volume}
-use Rattle.k_log_plans.specs.Resets.{HasNoValid, reset}
-use Rattle.k_content.specs.k_rules.View.{View}
+use Rattle.block_io.specs.pm_model.Words.{Words}
+use Rattle.block_io.specs.layout_model.Journal.{journaled}
+use Rattle.block_io.specs.image_model.Content.{content}
+use Rattle.block_io.specs.image_model.Volume.{Volume}
+use Rattle.k_map_plans.specs.Resets.{HasNoValid, reset}
+use Rattle.k_tables.specs.k_split_model.View.{View}
 use Rattle.k_split.specs.declared.faults.KFault.{KFault}
 use Rattle.k_split.specs.Answers.{IsAnswer}
 

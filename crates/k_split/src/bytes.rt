@@ -1,18 +1,17 @@
 //! Bytes of a file, written over in place.
 ghost use Rattle.std.specs.Prelude.{◌≡◌, ◌+◌, ◌*◌, ◌/◌, ◌%◌, ◌^◌, ◌<◌, ◌≤◌, ℕ, true, false, length, replicate, take, IsSome};
-ghost use Rattle.lines_out.specs.block_bytes.Overwrites.{blocks_reached, MayOverwrite};
-ghost use Rattle.lines_out.specs.pm_words.Powers.{is_on, Steps};
-ghost use Rattle.lines_out.specs.extent_words.Extents.{disk_at};
-ghost use Rattle.disk_lines.specs.declared.Kind.TheVariants.{File};
-ghost use Rattle.lines_out.specs.disk_rules.Volume.{extents, inode};
-ghost use Rattle.k_split.specs.Bytes.{IsOverwriteAnswer, IsOverwritePaid, MayWriteBytes};
-ghost use Rattle.k_split.specs.Bytes.{tail_zeros, zeros_behind};
+ghost use Rattle.block_io.specs.Overwrites.{blocks_reached, MayOverwrite};
+ghost use Rattle.block_io.specs.pm_model.Powers.{is_on, Steps};
+ghost use Rattle.block_io.specs.extent_model.Extents.{disk_at};
+ghost use Rattle.layout_model.specs.declared.lines.Kind.TheVariants.{File};
+ghost use Rattle.block_io.specs.image_model.Volume.{extents, inode};
+ghost use Rattle.k_split.specs.Bytes.{IsOverwriteAnswer, IsOverwritePaid, MayWriteBytes, tail_zeros, zeros_behind};
 ghost use Rattle.k_split.specs.Loans.{MayLend};
 
 use crate::faults::KFault;
 use crate::state::KSplit;
+use block_io::write_bytes;
 use extent_map::ExtentMap;
-use lines_out::write_bytes;
 use pm_lines::Power;
 
 // How many bytes clean a file from byte `from` on: those to the end of its block, and none of a hole.

@@ -1,13 +1,13 @@
 //! The landing of a plan on the tables, and a commit of all that gathers.
 ghost use Rattle.std.specs.Prelude.{◌≡◌, ◌+◌, ◌*◌, [], length, true, false, OnOk, OnErr};
-ghost use Rattle.lines_out.specs.disk_rules.Volume.{Volume};
-ghost use Rattle.lines_out.specs.pm_words.Powers.{is_on, Steps};
+ghost use Rattle.block_io.specs.image_model.Volume.{Volume};
+ghost use Rattle.block_io.specs.pm_model.Powers.{is_on, Steps};
 ghost use Rattle.k_split.specs.Answers.{IsCommitAnswer, IsCommitPaid};
 ghost use Rattle.k_split.specs.Landed.{IsPlanned, IsLanded};
 
 use crate::faults::KFault;
 use crate::state::KSplit;
-use k_log_plans::{Batch, Commit, Tables, land};
+use k_map_plans::{Batch, Commit, Tables, land};
 use pm_lines::{Pm, Power};
 
 // Lands what is planned on the tables, and notes in `lost` that the power went.

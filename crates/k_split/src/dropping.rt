@@ -1,7 +1,7 @@
 //! Dropping a file that has no name.
 ghost use Rattle.std.specs.Prelude.{◌≡◌, ◌≢◌, true, false, None, Err};
-ghost use Rattle.lines_out.specs.pm_words.Powers.{is_on, Steps};
-ghost use Rattle.k_log_plans.specs.volume_changes.Changes.{MayDrop};
+ghost use Rattle.block_io.specs.pm_model.Powers.{is_on, Steps};
+ghost use Rattle.k_map_plans.specs.volume_change_laws.Changes.{MayDrop};
 ghost use Rattle.k_split.specs.Answers.{IsPaid};
 ghost use Rattle.k_split.specs.Names.{IsDropAnswer};
 

@@ -2,7 +2,7 @@
 ghost use Rattle.std.specs.Prelude.{◌≡◌};
 ghost use Rattle.k_split.specs.Faults.{fault_of};
 
-use k_log_plans::PlanFault;
+use k_map_plans::PlanFault;
 use posix_types::{Errno, Room};
 use thiserror::Error;
 

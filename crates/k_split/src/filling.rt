@@ -1,16 +1,16 @@
 //! Holes of a file get blocks that read zeros.
 ghost use Rattle.std.specs.Prelude.{◌≡◌, ◌≤◌, ◌+◌, ◌*◌, ◌^◌, ◌∷◌, [], length, true, false, OnOk, OnErr};
-ghost use Rattle.lines_out.specs.disk_rules.Volume.{Volume};
-ghost use Rattle.k_log_plans.specs.k_map_plans.Plans.{IsLiveFile};
-ghost use Rattle.lines_out.specs.pm_words.Powers.{is_on, Steps};
+ghost use Rattle.block_io.specs.image_model.Volume.{Volume};
+ghost use Rattle.k_map_plans.specs.Plans.{IsLiveFile};
+ghost use Rattle.block_io.specs.pm_model.Powers.{is_on, Steps};
 ghost use Rattle.k_split.specs.Answers.{IsPaid};
 ghost use Rattle.k_split.specs.Filling.{fill_row, hole_count, IsFillAnswer, IsFillLanded, IsFillPlanned};
 
 use crate::faults::KFault;
 use crate::mapping::land_maps_plan;
 use crate::state::KSplit;
-use k_log_plans::{Batch, NewMap, Tables, may_fill, plan_fill};
-use lines_out::zero_blocks;
+use block_io::zero_blocks;
+use k_map_plans::{Batch, NewMap, Tables, may_fill, plan_fill};
 use pm_lines::{Pm, Power};
 use std::alloc::Global;
 use std::slice;

@@ -1,14 +1,14 @@
 //! A new lap of the log, and a log that begins anew.
 ghost use Rattle.std.specs.Prelude.{◌≡◌, ◌≢◌, ◌+◌, ◌*◌, ◌^◌, ◌≤◌, true, false, None, Err};
-ghost use Rattle.lines_out.specs.pm_words.Powers.{is_on, Steps};
+ghost use Rattle.block_io.specs.pm_model.Powers.{is_on, Steps};
 ghost use Rattle.k_split.specs.Answers.{IsCommitPaid, IsPaid};
 ghost use Rattle.k_split.specs.Laps.{ClearsLog, HasNextLap, HasSingleLog, IsBaseAnswer, IsBaseChange, IsRestartAnswer, LosesLog, next_base};
 
 use crate::changes::land_plan;
 use crate::faults::KFault;
 use crate::state::KSplit;
-use k_log_plans::Commit;
-use lines_out::zero_lines;
+use block_io::zero_lines;
+use k_map_plans::Commit;
 use pm_lines::Power;
 
 impl KSplit {

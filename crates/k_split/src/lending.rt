@@ -1,14 +1,14 @@
 //! Blocks of staging files, lent and taken back; blocks read.
 ghost use Rattle.std.specs.Prelude.{◌≡◌, ◌+◌, ◌*◌, ◌/◌, ◌<◌, ℕ, true, false, length, slice_index, IfOk, OnErr};
-ghost use Rattle.lines_out.specs.disk_rules.Placed.{BlockIsHome};
-ghost use Rattle.lines_out.specs.pm_words.Cells.{cell, is_lent};
-ghost use Rattle.lines_out.specs.pm_words.Images.{words_of};
-ghost use Rattle.lines_out.specs.pm_words.Parts.{ComesBack, GoesOut};
-ghost use Rattle.lines_out.specs.pm_words.Words.{byte_of};
+ghost use Rattle.block_io.specs.image_model.Placed.{BlockIsHome};
+ghost use Rattle.block_io.specs.pm_model.Cells.{cell, is_lent};
+ghost use Rattle.block_io.specs.pm_model.Images.{words_of};
+ghost use Rattle.block_io.specs.pm_model.Parts.{ComesBack, GoesOut};
+ghost use Rattle.block_io.specs.pm_model.Words.{byte_of};
 ghost use Rattle.k_split.specs.Loans.{MayLend};
 
 use crate::state::KSplit;
-use lines_out::read_block;
+use block_io::read_block;
 use pm_lines::Loan;
 use std::alloc::{AllocError, Global};
 
@@ -27,7 +27,7 @@ impl KSplit {
     ///
     /// # Errors
     ///
-    /// Want of memory, and then nothing is lent.
+    /// Out of memory, and then nothing is lent.
     pub fn lend(&mut self, alloc: Global, staging: u32, block: u32) -> Result<Loan, AllocError>
         requires on { self.old.lost ≡ false }
         requires may { (b : ℕ) × MayLend self.old.volume self.old.cells staging block b }

@@ -1,7 +1,7 @@
 //! K-Split: the metadata of a file system on a persistent memory, each change one transaction.
 //!
 //! `KSplit` has the device, the tables of its volume and a batch of lines. A change computes a plan
-//! on the tables, taking all its memory, and one call lands it (`k_land`). Contracts see a `View`:
+//! on the tables, taking all its memory, and one call lands it (`k_plans`). Contracts see a `View`:
 //! the volume, the volume that was committed last, the cells, and whether the power went.
 //!
 //! The layer above may rely on this: while the power is on the device stands at the volume, which
@@ -11,8 +11,13 @@
 //! (`IsAnswer`). A K-Split that lost its power is lost: its tables mean nothing more, it answers
 //! `PowerLost`, and its device can be taken back.
 //!
-//! Stands on `k_plans` (changes of names), `k_map_plans` (of maps), `k_log_plans` (of what is applied),
-//! `lines_out`, `k_land`, `k_reading` and `k_content`.
+//! Handed no power, a change answers PowerLost at once, and K-Split is lost. `directory_of` is apart, so
+//! that ENOENT comes before EMFILE and EMFILE before ENOSPC. `fill_holes` does nothing without holes, not
+//! even a move of the chain. `restart_log` zeroes the lines durably, then sets the base by one transaction.
+//! `batched` is false by now: the batch that gathers several changes waits for POSIX mode.
+//!
+//! Stands on `k_plans` (changes of names), `k_map_plans` (of maps, and of what is applied), `block_io`, `k_reading`
+//! and `k_tables`.
 #![tactic(auto)]
 
 mod bytes;
@@ -36,12 +41,12 @@ mod staging;
 mod state;
 mod trees;
 
+pub use block_io::{Move, put_lines};
 pub use faults::KFault;
-pub use k_content::{
+pub use k_map_plans::{Commit, Geometry, Kind, Recovered, recover};
+pub use k_tables::{
     Call, Flags, Handle, Mode, Outcome, Path, Reply, Shape, Tree, TreeEntry, TreeNode, Who,
 };
-pub use k_log_plans::{Commit, Geometry, Kind, Recovered, recover};
 pub use laws::images_have_the_old_or_the_new_content;
-pub use lines_out::{Move, put_lines};
 pub use opening::mkfs;
 pub use state::KSplit;

@@ -1,13 +1,13 @@
 //! The log's lines, taken out for a lap and put back.
 ghost use Rattle.std.specs.Prelude.{◌≡◌, ◌≤◌, ℕ, true, false, length, IfOk, OnErr};
-ghost use Rattle.lines_out.specs.pm_words.Cells.{cell, is_lent, is_single};
-ghost use Rattle.lines_out.specs.disk_places.Places.{log_line};
-ghost use Rattle.lines_out.specs.Lines.{LinesComeBack, LinesGoOut};
+ghost use Rattle.block_io.specs.pm_model.Cells.{cell, is_lent, is_single};
+ghost use Rattle.block_io.specs.layout_model.Places.{log_line};
+ghost use Rattle.block_io.specs.Lines.{LinesComeBack, LinesGoOut};
 ghost use Rattle.k_split.specs.Laps.{HasSingleLog, IsLogWord};
 ghost use Rattle.k_split.specs.LogLines.{AreLogLines};
 
 use crate::state::KSplit;
-use lines_out::{put_lines, take_lines};
+use block_io::{put_lines, take_lines};
 use pm_lines::Line;
 use std::alloc::{AllocError, Global};
 
@@ -17,7 +17,7 @@ impl KSplit {
     ///
     /// # Errors
     ///
-    /// Want of memory, and then no line is out.
+    /// Out of memory, and then no line is out.
     pub fn take_log(&mut self, alloc: Global) -> Result<Vec<Line>, AllocError>
         requires on { self.old.lost ≡ false }
         requires single { HasSingleLog self.old }

@@ -1,23 +1,23 @@
 //! What stands at a path, and whether an inode has a name.
 ghost use Rattle.std.specs.Prelude.{◌≡◌, ◌<◌, ◌↔◌, false, IsTrue, Ok, IfErr, IfOk};
-ghost use Rattle.disk_lines.specs.Names.{names_of};
-ghost use Rattle.k_content.specs.k_rules.Spaces.{space_of};
+ghost use Rattle.layout_model.specs.Names.{names_of};
+ghost use Rattle.k_tables.specs.k_split_model.Spaces.{space_of};
 ghost use Rattle.k_split.specs.Looks.{IsFound, IsDirectoryFound, IsLed, IsListed, IsListFault};
-ghost use Rattle.posix_words.specs.Names.{node_at_path, walk};
+ghost use Rattle.posix_tables.specs.Names.{node_at_path, walk};
 
 use crate::faults::KFault;
 use crate::state::KSplit;
-use disk_lines::Inode;
-use k_content::{NameTable, child, is_directory, parent_of};
+use k_tables::{NameTable, child, is_directory, parent_of};
+use layout_model::Inode;
+use posix_tables::entries::{is_root, is_too_long};
 use posix_types::{Errno, Name, Path};
-use posix_words::entries::{is_root, is_too_long};
 use std::alloc::Global;
 
 // The longest name of a name line, in bytes.
 const LONGEST_NAME: usize = 48;
 
 // The inode at a path, below its directory.
-#[tactic(auto, unfolding(posix_words::specs::Names::node_at_path))]
+#[tactic(auto, unfolding(posix_tables::specs::Names::node_at_path))]
 fn node_below(inodes: &[Inode], names: &NameTable, path: &Path, parent: u32) -> Option<u32>
     requires { walk (space_of inodes.now names.now) path.now ≡ Ok parent }
     ensures { result ≡ node_at_path (space_of inodes.now names.now) path.now }

@@ -1,7 +1,7 @@
 //! Making a node.
 ghost use Rattle.std.specs.Prelude.{◌≡◌, true, false};
-ghost use Rattle.lines_out.specs.pm_words.Powers.{is_on, Steps};
-ghost use Rattle.k_log_plans.specs.path_spelling.Spelling.{AreSpelled};
+ghost use Rattle.block_io.specs.pm_model.Powers.{is_on, Steps};
+ghost use Rattle.k_map_plans.specs.layout_model.Spelling.{AreSpelled};
 ghost use Rattle.k_split.specs.Answers.{IsPaid};
 ghost use Rattle.k_split.specs.Names.{make_row, IsMakeAnswer};
 

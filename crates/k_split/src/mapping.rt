@@ -1,18 +1,18 @@
 //! Maps: what they are, the landing of a plan with new ones, and the size of a file.
 ghost use Rattle.std.specs.Prelude.{◌≡◌, ◌<◌, ◌≤◌, ◌+◌, ◌^◌, ◌↔◌, [], length, true, false, None, IfSome, IsSome, OnOk, OnErr};
-ghost use Rattle.disk_lines.specs.Lines.{most_bytes};
-ghost use Rattle.lines_out.specs.disk_places.Places.{reserve};
-ghost use Rattle.lines_out.specs.disk_rules.Volume.{Volume, extents};
-ghost use Rattle.k_log_plans.specs.k_land.Plans.{blocks_of};
-ghost use Rattle.k_log_plans.specs.k_map_plans.Plans.{IsLiveFile};
-ghost use Rattle.lines_out.specs.pm_words.Powers.{is_on, Steps};
+ghost use Rattle.layout_model.specs.Lines.{most_bytes};
+ghost use Rattle.block_io.specs.layout_model.Places.{reserve};
+ghost use Rattle.block_io.specs.image_model.Volume.{Volume, extents};
+ghost use Rattle.k_map_plans.specs.k_plans.LandingsPlans.{blocks_of};
+ghost use Rattle.k_map_plans.specs.Plans.{IsLiveFile};
+ghost use Rattle.block_io.specs.pm_model.Powers.{is_on, Steps};
 ghost use Rattle.k_split.specs.Answers.{IsPaid};
 ghost use Rattle.k_split.specs.MapChanges.{IsMapLanded, IsMapPlanned, IsSizeAnswer, free_blocks_in};
 
 use crate::faults::KFault;
 use crate::state::KSplit;
 use extent_map::ExtentMap;
-use k_log_plans::{Batch, Commit, NewMap, Tables, land_maps, plan_size};
+use k_map_plans::{Batch, Commit, NewMap, Tables, land_maps, plan_size};
 use pm_lines::{Pm, Power};
 use std::alloc::Global;
 use std::slice;

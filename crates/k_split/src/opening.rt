@@ -1,20 +1,20 @@
 //! A fresh image, and the K-Split of a device.
 ghost use Rattle.std.specs.Prelude.{◌≡◌, ◌*◌, [], false, length, IfOk};
-ghost use Rattle.lines_out.specs.disk_places.Places.{commit_word, IsGeometry};
-ghost use Rattle.lines_out.specs.disk_places.Journal.{journaled};
-ghost use Rattle.disk_lines.specs.Fresh.{fresh};
-ghost use Rattle.lines_out.specs.disk_rules.Content.{content};
-ghost use Rattle.lines_out.specs.disk_rules.FreshVolume.{root_alone};
-ghost use Rattle.lines_out.specs.disk_rules.Rules.{geometry_of, IsChecked};
-ghost use Rattle.lines_out.specs.disk_rules.Volume.{volume};
-ghost use Rattle.lines_out.specs.pm_words.Cells.{cell, AllSingle};
-ghost use Rattle.lines_out.specs.pm_words.Images.{words_of};
-ghost use Rattle.lines_out.specs.pm_words.Words.{word_at};
-ghost use Rattle.lines_out.specs.pm_words.declared.Cell.{Cell};
+ghost use Rattle.block_io.specs.layout_model.Places.{commit_word, IsGeometry};
+ghost use Rattle.block_io.specs.layout_model.Journal.{journaled};
+ghost use Rattle.layout_model.specs.Fresh.{fresh};
+ghost use Rattle.block_io.specs.image_model.Content.{content};
+ghost use Rattle.block_io.specs.image_model.FreshVolume.{root_alone};
+ghost use Rattle.block_io.specs.image_model.Rules.{geometry_of, IsChecked};
+ghost use Rattle.block_io.specs.image_model.Volume.{volume};
+ghost use Rattle.block_io.specs.pm_model.Cells.{cell, AllSingle};
+ghost use Rattle.block_io.specs.pm_model.Images.{words_of};
+ghost use Rattle.block_io.specs.pm_model.Words.{word_at};
+ghost use Rattle.block_io.specs.pm_model.declared.Cell.{Cell};
 ghost use Rattle.k_split.specs.Order.{IsOpened};
 
 use crate::state::KSplit;
-use k_log_plans::{
+use k_map_plans::{
     Batch, Geometry, Tables, fresh_image, read_base, read_inodes, read_maps, read_names,
 };
 use pm_lines::Pm;
@@ -55,7 +55,7 @@ impl KSplit {
     /// The K-Split of a device. `batched` must be false: changes do not gather yet.
     ///
     /// The device is a checked image of this geometry: nothing is lent, every word has one
-    /// candidate, and the journal is empty. Want of memory is the only error.
+    /// candidate, and the journal is empty. Out of memory is the only error.
     pub fn open(
         alloc: Global,
         pm: Pm,

@@ -1,16 +1,16 @@
 //! Blocks go from a staging file to a file, by their numbers in the two maps.
 ghost use Rattle.std.specs.Prelude.{◌≡◌, ◌≤◌, ◌+◌, ◌^◌, true, false, None};
-ghost use Rattle.lines_out.specs.disk_places.Places.{reserve};
-ghost use Rattle.k_log_plans.specs.k_map_plans.Plans.{MayMove};
-ghost use Rattle.lines_out.specs.pm_words.Powers.{is_on, Steps};
+ghost use Rattle.block_io.specs.layout_model.Places.{reserve};
+ghost use Rattle.k_map_plans.specs.Plans.{MayMove};
+ghost use Rattle.block_io.specs.pm_model.Powers.{is_on, Steps};
 ghost use Rattle.k_split.specs.Answers.{IsPaid};
 ghost use Rattle.k_split.specs.MapChanges.{IsMovedSingle, IsRelinkAnswer, free_blocks_in};
 
 use crate::faults::KFault;
 use crate::mapping::land_maps_plan;
 use crate::state::KSplit;
-use k_log_plans::plan_move;
-use lines_out::Move;
+use block_io::Move;
+use k_map_plans::plan_move;
 use pm_lines::Power;
 use std::alloc::Global;
 

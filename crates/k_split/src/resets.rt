@@ -1,15 +1,15 @@
 //! The entries that a file has applied count anew.
 ghost use Rattle.std.specs.Prelude.{◌≡◌, true, false, None};
-ghost use Rattle.lines_out.specs.pm_words.Images.{Follows};
-ghost use Rattle.lines_out.specs.pm_words.Powers.{is_on, Steps};
-ghost use Rattle.k_log_plans.specs.k_map_plans.Plans.{IsLiveFile};
+ghost use Rattle.block_io.specs.pm_model.Images.{Follows};
+ghost use Rattle.block_io.specs.pm_model.Powers.{is_on, Steps};
+ghost use Rattle.k_map_plans.specs.Plans.{IsLiveFile};
 ghost use Rattle.k_split.specs.Answers.{IsPaid};
 ghost use Rattle.k_split.specs.Resets.{IsResetAnswer, KeepsUnloggedContent};
 
 use crate::changes::land_plan;
 use crate::faults::KFault;
 use crate::state::KSplit;
-use k_log_plans::plan_reset;
+use k_map_plans::plan_reset;
 use pm_lines::Power;
 use std::alloc::Global;
 

@@ -1,16 +1,16 @@
 //! The blocks of staging files: they get them, and give them up.
 ghost use Rattle.std.specs.Prelude.{◌≡◌, ◌≤◌, ◌+◌, ◌^◌, [], true, false, None};
-ghost use Rattle.lines_out.specs.disk_places.Places.{reserve};
-ghost use Rattle.lines_out.specs.disk_rules.Volume.{extents};
-ghost use Rattle.k_log_plans.specs.k_map_plans.Plans.{IsStagingFile};
-ghost use Rattle.lines_out.specs.pm_words.Powers.{is_on, Steps};
+ghost use Rattle.block_io.specs.layout_model.Places.{reserve};
+ghost use Rattle.block_io.specs.image_model.Volume.{extents};
+ghost use Rattle.k_map_plans.specs.Plans.{IsStagingFile};
+ghost use Rattle.block_io.specs.pm_model.Powers.{is_on, Steps};
 ghost use Rattle.k_split.specs.Answers.{IsPaid};
 ghost use Rattle.k_split.specs.MapChanges.{IsGiveUpAnswer, IsPreallocateAnswer, IsStagedSingle, free_blocks_in};
 
 use crate::faults::KFault;
 use crate::mapping::land_maps_plan;
 use crate::state::KSplit;
-use k_log_plans::{plan_give_up, plan_preallocate};
+use k_map_plans::{plan_give_up, plan_preallocate};
 use pm_lines::Power;
 use std::alloc::Global;
 use std::slice;

@@ -1,11 +1,11 @@
 //! The state of K-Split, and what it is asked for without a look at a path.
 ghost use Rattle.std.specs.Prelude.{◌≡◌, false, IsTrue, ◌↔◌, ◌<◌};
-ghost use Rattle.disk_lines.specs.Names.{names_of};
-ghost use Rattle.k_log_plans.specs.k_plans.View.{node_at};
+ghost use Rattle.layout_model.specs.Names.{names_of};
+ghost use Rattle.k_map_plans.specs.k_plans.View.{node_at};
 ghost use Rattle.k_split.specs.Order.{IsInOrder};
 
-use disk_lines::Inode;
-use k_log_plans::{Batch, Geometry, Tables};
+use k_map_plans::{Batch, Geometry, Tables};
+use layout_model::Inode;
 use pm_lines::Pm;
 use std::marker::Model;
 
@@ -21,7 +21,7 @@ pub struct KSplit {
 
 impl Model for KSplit {
     ghost use Rattle.std.specs.Prelude.{◌≡◌, false};
-    ghost use Rattle.k_content.specs.k_rules.View.{View};
+    ghost use Rattle.k_tables.specs.k_split_model.View.{View};
     ghost use Rattle.k_split.specs.Order.{view_of, IsReady};
 
     ghost Value = { View };

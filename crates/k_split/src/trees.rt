@@ -1,15 +1,15 @@
 //! The tree of a K-Split.
 ghost use Rattle.std.specs.Prelude.{◌≡◌, [], false, IfOk};
-ghost use Rattle.lines_out.specs.pm_words.Cells.{AllHome};
-ghost use Rattle.lines_out.specs.pm_words.Images.{words_of};
-ghost use Rattle.lines_out.specs.disk_places.Journal.{journaled};
-ghost use Rattle.lines_out.specs.disk_rules.Content.{content, found};
-ghost use Rattle.lines_out.specs.disk_rules.Live.{live_entries};
-ghost use Rattle.k_content.specs.posix_trees.TreeOf.{IsTreeOf};
-ghost use Rattle.k_content.specs.Trees.{tree_content};
+ghost use Rattle.block_io.specs.pm_model.Cells.{AllHome};
+ghost use Rattle.block_io.specs.pm_model.Images.{words_of};
+ghost use Rattle.block_io.specs.layout_model.Journal.{journaled};
+ghost use Rattle.block_io.specs.image_model.Content.{content, found};
+ghost use Rattle.block_io.specs.image_model.Live.{live_entries};
+ghost use Rattle.k_tables.specs.posix_laws.TreeOf.{IsTreeOf};
+ghost use Rattle.k_tables.specs.ContentsTrees.{tree_content};
 
 use crate::state::KSplit;
-use k_content::content_tree;
+use k_tables::content_tree;
 use posix_types::Tree;
 use std::alloc::{AllocError, Global};
 

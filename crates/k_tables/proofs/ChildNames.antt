@@ -4,12 +4,12 @@ use Rattle.std.specs.Prelude.{◌==◌, count_by, is_some, option_and_then}
 use Rattle.std.proofs.lemmas.Bool.{both_ways, eqb-true}
 use Rattle.std.proofs.lemmas.List.Elements.{All-append}
 use Rattle.std.proofs.lemmas.List.Sums.{sum_by-append, sum_by-cons}
-use Rattle.k_names.specs.disk_places.Fields.{is_same}
-use Rattle.disk_lines.specs.Lines.{NameRow}
-use Rattle.disk_lines.specs.Names.{Rows, row, is_entry, child_named, find_name}
-use Rattle.disk_lines.specs.TableLaws.{find_name-none, is_entry-own, names_below-once, NamingLine-child_named}
-use Rattle.disk_lines.specs.Tables.{IsKeyed, NamingLine, name_below, names_below}
-use Rattle.volume_names.specs.volume_facts.Lists.{count_by-at, count_by-some}
+use Rattle.k_names.specs.layout_model.Fields.{is_same}
+use Rattle.layout_model.specs.Lines.{NameRow}
+use Rattle.layout_model.specs.Names.{Rows, row, is_entry, child_named, find_name}
+use Rattle.layout_model.specs.TableLaws.{find_name-none, is_entry-own, names_below-once, NamingLine-child_named}
+use Rattle.layout_model.specs.Tables.{IsKeyed, NamingLine, name_below, names_below}
+use Rattle.name_laws.specs.volume_laws.Lists.{count_by-at, count_by-some}
 
 count_of_row : (parent : ℕ) (name : List ℕ) (o : Option NameRow) → count_by (λ x. is_same x name) (name_below parent o) ≡ cond (is_entry parent name o) 1 0
 count_of_row parent name None = refl

@@ -3,13 +3,13 @@ use Rattle.std.proofs.Common.{◌≡◌, ℕ, suc, ◌≤◌, Bool, true, false,
 use Rattle.std.specs.Prelude.{nat_lt, ◌==◌, ◌||◌, IsSome, option_and_then}
 use Rattle.std.proofs.lemmas.Bool.{both_ways, eqb-true}
 use Rattle.std.proofs.lemmas.Bool.Decides.{nat_tests}
-use Rattle.disk_lines.specs.Lines.{NameRow}
-use Rattle.disk_lines.specs.Names.{Rows, row, is_entry, find_name, has_entries, walk, HasHeight}
-use Rattle.disk_lines.specs.TableLaws.{is_entry-own, find_name-none, walk-one, walk-step}
-use Rattle.volume_names.specs.name_facts.RowLaws.{has_entries-line}
-use Rattle.volume_names.specs.k_rules.Spaces.{entries_of}
-use Rattle.posix_words.specs.Names.{has_entries as has_entries_in}
-use Rattle.volume_names.specs.EntryLaws.{has_entries-rows}
+use Rattle.layout_model.specs.Lines.{NameRow}
+use Rattle.layout_model.specs.Names.{Rows, row, is_entry, find_name, has_entries, walk, HasHeight}
+use Rattle.layout_model.specs.TableLaws.{is_entry-own, find_name-none, walk-one, walk-step}
+use Rattle.name_laws.specs.RowLaws.{has_entries-line}
+use Rattle.name_laws.specs.k_split_model.Spaces.{entries_of}
+use Rattle.posix_tables.specs.Names.{has_entries as has_entries_in}
+use Rattle.name_laws.specs.EntryLaws.{has_entries-rows}
 
 -- a line below the parent
 pub record LineBelow (rows : Rows) (parent : ℕ) : Type 0 where

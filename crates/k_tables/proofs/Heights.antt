@@ -3,15 +3,15 @@ use Rattle.std.proofs.Common.{◌≡◌, ℕ, zero, suc, ◌+◌, ◌≤◌, max
 use Rattle.std.specs.Prelude.{nat_lt, ◌==◌, IsSome}
 use Rattle.std.proofs.lemmas.Bool.{cases_lt, eqb-true}
 use Rattle.std.proofs.lemmas.Bool.Decides.{nat_tests}
-use Rattle.disk_lines.specs.Lines.{NameRow}
-use Rattle.disk_lines.specs.Names.{Rows, row, walk, HasHeight}
-use Rattle.disk_lines.specs.TableLaws.{child_named-at, walk-cons}
-use Rattle.disk_lines.specs.Tables.{IsKeyed}
-use Rattle.volume_names.specs.name_facts.RowLaws.{row-below}
-use Rattle.volume_names.specs.k_rules.Spaces.{entries_of}
-use Rattle.posix_words.specs.declared.nodes.DirEntry.{DirEntry}
-use Rattle.posix_words.specs.Names.{entries_in, height, longest_path}
-use Rattle.volume_names.specs.HeightLaws.{height-walk}
+use Rattle.layout_model.specs.Lines.{NameRow}
+use Rattle.layout_model.specs.Names.{Rows, row, walk, HasHeight}
+use Rattle.layout_model.specs.TableLaws.{child_named-at, walk-cons}
+use Rattle.layout_model.specs.Tables.{IsKeyed}
+use Rattle.name_laws.specs.RowLaws.{row-below}
+use Rattle.name_laws.specs.k_split_model.Spaces.{entries_of}
+use Rattle.posix_tables.specs.declared.nodes.DirEntry.{DirEntry}
+use Rattle.posix_tables.specs.Names.{entries_in, height, longest_path}
+use Rattle.name_laws.specs.HeightLaws.{height-walk}
 
 abbrev greatest : (ℕ → ℕ) → ℕ → List DirEntry → ℕ
 greatest f so_far entries = fold (λ so_far entry. max so_far (f entry.child + 1)) so_far entries

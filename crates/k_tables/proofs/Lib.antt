@@ -6,3 +6,7 @@ pub mod Rooms
 pub mod RowFacts
 pub mod TreeLaws
 pub mod WalkStops
+mod ContentsContents
+mod FileBytes
+mod Listing
+pub mod Reading

@@ -5,8 +5,8 @@ use Rattle.std.specs.Cmp.Lexicographic.{bytes_decides}
 use Rattle.std.proofs.lemmas.Bool.{and_parts, and_from, both_ways}
 use Rattle.std.proofs.lemmas.Bool.Decides.{nat_tests}
 use Rattle.std.proofs.lemmas.List.{length-take-le, take_more, take_all}
-use Rattle.posix_words.specs.Names.{directory_path, is_root, last_name, same_name}
-use Rattle.k_tables.specs.Trees.{same_path}
+use Rattle.posix_tables.specs.Names.{directory_path, is_root, last_name, same_name}
+use Rattle.k_tables.specs.TablesTrees.{same_path}
 
 pub same_path-eq : (p q : List (List ℕ)) → same_path p q ≡ true → p ≡ q
 same_path-eq [] [] same = refl

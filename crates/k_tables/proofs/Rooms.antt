@@ -4,7 +4,7 @@ use Rattle.std.specs.Prelude.{◌==◌, nat_lt, position, count_by, is_some, opt
 use Rattle.std.specs.List.{prefix_len}
 use Rattle.std.proofs.lemmas.Bool.Decides.{nat_tests}
 use Rattle.std.proofs.lemmas.List.Sums.{sum_by-cons}
-use Rattle.disk_lines.specs.Names.{Rows, first_row_from, free_line, is_free_row}
+use Rattle.layout_model.specs.Names.{Rows, first_row_from, free_line, is_free_row}
 
 -- what passes none is counted as none
 none_counted : (b : Bool) (n m count : ℕ) → nat_lt n m ≡ not (count == 0)

@@ -7,11 +7,11 @@ use Rattle.posix_types.specs.declared.item.Outcome.{Outcome}
 use Rattle.posix_types.specs.declared.reply.Reply.{Reply}
 use Rattle.posix_types.specs.declared.reply.Errno.{Errno}
 use Rattle.posix_types.specs.declared.reply.What.{What}
-use Rattle.posix_words.specs.NameRows.{mkdir_rows, no_line, rename_kind_rows, rename_rows, rmdir_rows, too_long_row, unlink_rows, walk_row}
-use Rattle.posix_words.specs.Names.{Space, child_of, directory_stands, exists_at, has_entries, is_root, last_name, node_at_path, number_at}
-use Rattle.posix_words.specs.Outcomes.{answer, first, idle_row, no_space, row, space_row}
-use Rattle.volume_names.specs.Paths.{HasDirectory, IsAt}
-use Rattle.volume_names.specs.PathLaws.{node_at-path}
+use Rattle.posix_tables.specs.NameRows.{mkdir_rows, no_line, rename_kind_rows, rename_rows, rmdir_rows, too_long_row, unlink_rows, walk_row}
+use Rattle.posix_tables.specs.Names.{Space, child_of, directory_stands, exists_at, has_entries, is_root, last_name, node_at_path, number_at}
+use Rattle.posix_tables.specs.Outcomes.{answer, first, idle_row, no_space, row, space_row}
+use Rattle.name_laws.specs.Paths.{HasDirectory, IsAt}
+use Rattle.name_laws.specs.PathLaws.{node_at-path}
 use Rattle.k_tables.specs.Refusals.{directory_kind_rows, directory_rows, ends_rows, entry_rows, file_kind_rows, moving_rows, new_rows, removal_rows, room_rows, standing_rows}
 
 -- ---- lists of rows

@@ -9,13 +9,13 @@ use Rattle.std.proofs.lemmas.List.{append-nil, drop_all, take_all}
 use Rattle.std.proofs.lemmas.List.Elements.{All-append, All-map}
 use Rattle.std.proofs.lemmas.List.Sorted.{All-permutation, sum_by-IsPermutation}
 use Rattle.std.proofs.lemmas.List.Sums.{sum_by-append, sum_by-cons, sum_by_more}
-use Rattle.k_names.specs.disk_places.Fields.{is_same}
-use Rattle.disk_lines.specs.Names.{Rows, child_named, walk}
-use Rattle.disk_lines.specs.TableLaws.{walk-append}
-use Rattle.disk_lines.specs.Tables.{IsKeyed, names_below}
-use Rattle.posix_words.specs.Names.{directory_path, is_root, last_name, longest_path, same_name}
-use Rattle.k_tables.specs.declared.trees.TreePlace.{TreePlace}
-use Rattle.k_tables.specs.Trees.{child_place, children_at, has_path, is_at, same_path, tree_place, AddsChildren, AreShort, IsLevel, IsStanding}
+use Rattle.k_names.specs.layout_model.Fields.{is_same}
+use Rattle.layout_model.specs.Names.{Rows, child_named, walk}
+use Rattle.layout_model.specs.TableLaws.{walk-append}
+use Rattle.layout_model.specs.Tables.{IsKeyed, names_below}
+use Rattle.posix_tables.specs.Names.{directory_path, is_root, last_name, longest_path, same_name}
+use Rattle.k_tables.specs.declared.tables.trees.TreePlace.{TreePlace}
+use Rattle.k_tables.specs.TablesTrees.{child_place, children_at, has_path, is_at, same_path, tree_place, AddsChildren, AreShort, IsLevel, IsStanding}
 use Rattle.k_tables.proofs.ChildNames.{below-lead, count-child}
 use Rattle.k_tables.proofs.PathLists.{and_false, more-below, more-root, path-count, path-split, same_path-eq}
 

@@ -3,8 +3,8 @@ use Rattle.std.proofs.Common.{◌≡◌, ℕ, suc, ◌<◌, Bool, true, false, L
 use Rattle.std.specs.Prelude.{Result, Ok, Err, if◌then◌else◌}
 use Rattle.std.proofs.Math.Seq.{drop-cons}
 use Rattle.posix_types.specs.declared.reply.Errno.{Errno}
-use Rattle.posix_words.specs.declared.nodes.DirEntry.{DirEntry}
-use Rattle.posix_words.specs.Names.{child_of, downward, walk_from}
+use Rattle.posix_tables.specs.declared.nodes.DirEntry.{DirEntry}
+use Rattle.posix_tables.specs.Names.{child_of, downward, walk_from}
 
 stops : (directory : ℕ → Bool) (o : Option ℕ) (onward : ℕ → Result ℕ Errno) (errno : Errno)
     → Err errno ≡ downward directory o (λ node. Ok node) → Err errno ≡ downward directory o onward

@@ -1,14 +1,14 @@
 -- What the calls on names find in the tables.
 use Rattle.std.specs.Prelude.{◌≡◌, ℕ, ◌<◌, true, false, List, length, position, Option, Some, None}
-use Rattle.disk_lines.specs.declared.Inode.{Inode}
-use Rattle.disk_lines.specs.Names.{Rows, find_name, free_line}
+use Rattle.layout_model.specs.declared.lines.Inode.{Inode}
+use Rattle.layout_model.specs.Names.{Rows, find_name, free_line}
 use Rattle.k_names.specs.Finding.{IsRow}
-use Rattle.volume_names.specs.k_rules.Spaces.{entries_of, is_directory_in, is_free, space_of}
-use Rattle.posix_words.specs.Names.{child_of, has_entries, last_name}
-use Rattle.volume_names.specs.Paths.{HasDirectory, IsAt, IsNewAt}
-use Rattle.k_tables.specs.declared.making.Place.{Place}
-use Rattle.k_tables.specs.declared.removing.Entry.{Entry}
-use Rattle.k_tables.specs.declared.renaming.Moving.{Moving}
+use Rattle.name_laws.specs.k_split_model.Spaces.{entries_of, is_directory_in, is_free, space_of}
+use Rattle.posix_tables.specs.Names.{child_of, has_entries, last_name}
+use Rattle.name_laws.specs.Paths.{HasDirectory, IsAt, IsNewAt}
+use Rattle.k_tables.specs.declared.tables.making.Place.{Place}
+use Rattle.k_tables.specs.declared.tables.removing.Entry.{Entry}
+use Rattle.k_tables.specs.declared.tables.renaming.Moving.{Moving}
 
 -- the lowest free inode and the lowest free name line
 pub record HasRoomAt (inodes : List Inode) (rows : Rows) (place : Place) : Type 0 where

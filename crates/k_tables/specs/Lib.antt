@@ -1,15 +1,18 @@
 pub mod Found
 pub mod Refusals
-pub mod Trees
-pub use Rattle.volume_names.specs as volume_names
-pub use Rattle.volume_names.specs.name_facts as name_facts
+pub mod TablesTrees
+pub mod Files
+pub mod Laws
+pub mod ContentsTrees
+pub use Rattle.name_laws.specs.image_model
+pub use Rattle.name_laws.specs.extent_model
 pub use Rattle.k_names.specs as k_names
-pub use Rattle.volume_names.specs.disk_rules as disk_rules
-pub use Rattle.volume_names.specs.k_rules as k_rules
-pub use Rattle.volume_names.specs.volume_facts as volume_facts
-pub use Rattle.disk_lines.specs as disk_lines
-pub use Rattle.disk_lines.specs.disk_places as disk_places
-pub use Rattle.disk_lines.specs.pm_words as pm_words
-pub use Rattle.posix_words.specs as posix_words
-pub use Rattle.volume_names.specs.extent_facts as extent_facts
-pub use Rattle.volume_names.specs.extent_words as extent_words
+pub use Rattle.name_laws.specs.k_split_model
+pub use Rattle.layout_model.specs as layout_model
+pub use Rattle.posix_laws.specs.list_laws
+pub use Rattle.name_laws.specs as name_laws
+pub use Rattle.layout_model.specs.pm_model
+pub use Rattle.posix_laws.specs as posix_laws
+pub use Rattle.posix_laws.specs.posix_spec
+pub use Rattle.posix_tables.specs as posix_tables
+pub use Rattle.name_laws.specs.volume_laws

@@ -3,11 +3,11 @@ use Rattle.std.specs.Prelude.{ℕ, ◌+◌, Bool, false, not, ◌&&◌, ◌==◌
 use Rattle.posix_types.specs.declared.item.Outcome.{Outcome}
 use Rattle.posix_types.specs.declared.reply.Reply.{Reply}
 use Rattle.posix_types.specs.declared.reply.Errno.{Errno}
-use Rattle.posix_words.specs.NameRows.{no_line, no_node, rename_kind_rows, too_long_row, walk_row}
-use Rattle.posix_words.specs.Names.{Space, exists_at, has_entries, height, is_below, longest_path, number_at}
-use Rattle.posix_words.specs.Outcomes.{answer, first, idle_row, row}
+use Rattle.posix_tables.specs.NameRows.{no_line, no_node, rename_kind_rows, too_long_row, walk_row}
+use Rattle.posix_tables.specs.Names.{Space, exists_at, has_entries, height, is_below, longest_path, number_at}
+use Rattle.posix_tables.specs.Outcomes.{answer, first, idle_row, row}
 use Rattle.std.specs.Option.{option_map_or}
-use Rattle.k_tables.specs.declared.refusals.Refusal.{Refusal}
+use Rattle.k_tables.specs.declared.tables.refusals.Refusal.{Refusal}
 
 -- what a refused call answers
 abbrev pub outcome_of : Refusal → Outcome

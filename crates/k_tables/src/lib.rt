@@ -1,32 +1,25 @@
-//! Look-ups in the tables of a volume, and what a call on names finds there, or why it is refused.
+//! Look-ups in the tables of a volume: what a call finds or why it is refused; and the tree of a device.
 //!
-//! The tables are the inodes, a plain slice, and the names, a `NameTable`. `walk_down`, `node_at`
-//! and the other look-ups are exact over the space of the tables (`space_of`). `place_to_make`,
-//! `entry_to_unlink`, `directory_to_remove` and `entries_to_rename` answer what a call needs to
-//! make its change (`specs/Found.antt`), or the outcome of the first of the call's rows that fits
-//! (`refusal_of`). `tree_places` lists every path of at most 16 names once, in the byte order of
-//! the printed paths (`specs/Trees.antt`).
+//! Each look-up is exact over the space of the tables; a refusal is the first row of the call that
+//! fits; the tree is that of the volume's content with the device's words.
 //!
-//! The layer above may rely on this: a call on names is refused by its rows exactly, whatever
-//! stands in the tables; no call here reads the device or changes a table, and only `tree_places`
-//! takes memory.
+//! - `tables`: Look-ups in the tables of a volume, and what a call on names finds there, or why it
+//!   is refused.
+//! - `contents`: The tree of what a device holds.
 //!
-//! Stands on `k_names`, `k_rules`, `volume_names`, `posix_types` and `posix_words`.
+//! Stands on `layout_model`, `posix_types`, `posix_tables`, `k_names`, `name_laws`, `pm_lines`,
+//! `extent_map` and `posix_laws`.
 #![tactic(auto)]
 
-mod lookups;
-mod making;
-mod refusals;
-mod removing;
-mod renaming;
-mod trees;
-mod walks;
+mod contents;
+mod tables;
 
-pub use k_names::{Decoded, NameLine, NameTable, decode_name, encode_name};
-pub use lookups::{free_inode, is_directory};
-pub use making::{Place, place_to_make};
-pub use refusals::Refusal;
-pub use removing::{Entry, directory_to_remove, entry_to_unlink};
-pub use renaming::{Moving, entries_to_rename};
-pub use trees::{TreePlace, tree_places};
-pub use walks::{child, has_entries, node_at, parent_of, walk_down};
+pub use contents::{
+    Call, Flags, Handle, Mode, Outcome, Path, Reply, Shape, Tree, TreeEntry, TreeNode, Who,
+    content_tree, trees_can_be_read, trees_tell_contents,
+};
+pub use tables::{
+    Decoded, Entry, Moving, NameLine, NameTable, Place, Refusal, TreePlace, child, decode_name,
+    directory_to_remove, encode_name, entries_to_rename, entry_to_unlink, free_inode, has_entries,
+    is_directory, node_at, parent_of, place_to_make, tree_places, walk_down,
+};

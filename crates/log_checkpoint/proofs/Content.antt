@@ -1,17 +1,17 @@
 -- The content of the images while files are published, where the log of the image before holds the runs of all files.
 use Rattle.std.proofs.Common.{◌≡◌, ◌≢◌, ◌≤◌, ◌<◌, ◌⊎◌, ℕ, zero, suc, length, refl, sym, ◌∙◌, ap, subst, arith, inl, inr}
-use Rattle.file_table.specs.pm_words.Bytes.{line_bytes-same}
-use Rattle.file_table.specs.pm_words.ImageLaws.{Follows-then}
-use Rattle.file_table.specs.pm_words.Images.{Follows, Follows-same, Follows-weaken, Then}
-use Rattle.file_table.specs.pm_words.Words.{line_bytes, Words}
-use Rattle.disk_lines.specs.declared.Draft.{Draft}
-use Rattle.disk_lines.specs.Entries.{held_seq, is_self_valid}
-use Rattle.file_table.specs.disk_places.Journal.{journaled}
-use Rattle.file_table.specs.disk_places.Places.{Geometry, log_line}
-use Rattle.staging_files.specs.disk_rules.Content.{content}
-use Rattle.staging_files.specs.disk_rules.Live.{live_entries}
-use Rattle.staging_files.specs.disk_rules.Rules.{IsOfNoLater}
-use Rattle.staging_files.specs.disk_rules.Volume.{Volume}
+use Rattle.file_table.specs.pm_model.Bytes.{line_bytes-same}
+use Rattle.file_table.specs.pm_model.ImageLaws.{Follows-then}
+use Rattle.file_table.specs.pm_model.Images.{Follows, Follows-same, Follows-weaken, Then}
+use Rattle.file_table.specs.pm_model.Words.{line_bytes, Words}
+use Rattle.layout_model.specs.declared.lines.Draft.{Draft}
+use Rattle.layout_model.specs.Entries.{held_seq, is_self_valid}
+use Rattle.file_table.specs.layout_model.Journal.{journaled}
+use Rattle.file_table.specs.layout_model.Places.{Geometry, log_line}
+use Rattle.staging_files.specs.image_model.Content.{content}
+use Rattle.staging_files.specs.image_model.Live.{live_entries}
+use Rattle.staging_files.specs.image_model.Rules.{IsOfNoLater}
+use Rattle.staging_files.specs.image_model.Volume.{Volume}
 use Rattle.file_table.specs.Files.{Files, runs_in, size_in}
 use Rattle.fsync_relink.proofs.EntryLaws.{leaves-entries}
 use Rattle.fsync_relink.proofs.LoggedLaws.{halted-images}
@@ -20,11 +20,11 @@ use Rattle.fsync_relink.specs.Logged.{HasSameContent, IsLogged}
 use Rattle.fsync_relink.specs.Others.{GoesOn, HasPublishedLog, IsPublishedIn, KeepsRest}
 use Rattle.fsync_relink.specs.Publishes.{MayPublish}
 use Rattle.staging_files.specs.k_map_plans.Plans.{IsLiveFile}
-use Rattle.staging_files.specs.k_rules.View.{View}
+use Rattle.staging_files.specs.k_split_model.View.{View}
 use Rattle.staging_files.specs.k_split.declared.faults.KFault.{KFault}
-use Rattle.staging_files.specs.list_facts.Members.{In}
-use Rattle.staging_files.specs.volume_facts.Footprint.{SameLog}
-use Rattle.staging_files.specs.volume_facts.FootprintLaws.{live_entries-same}
+use Rattle.staging_files.specs.list_laws.Members.{In}
+use Rattle.staging_files.specs.volume_laws.Footprint.{SameLog}
+use Rattle.staging_files.specs.volume_laws.FootprintLaws.{live_entries-same}
 use Rattle.log_checkpoint.specs.Gathers.{AreDone, AreDoneUpTo, IsLineDone, IsLineStopped, MayGather}
 use Rattle.log_checkpoint.specs.Logged.{AreLogged}
 use Rattle.log_checkpoint.proofs.Lines.{IsOnTheWay, way-of}

@@ -4,46 +4,46 @@ use Rattle.std.proofs.Common.{◌≡◌, ◌≤◌, ◌<◌, ◌+◌, ◌^◌, �
 use Rattle.std.specs.Prelude.{is_some}
 use Rattle.std.specs.List.{range_with_len}
 use Rattle.std.specs.declared.alloc.AllocError.{AllocError}
-use Rattle.file_table.specs.pm_words.declared.Cell.{Cell}
-use Rattle.file_table.specs.pm_words.Frames.{SameLent}
-use Rattle.file_table.specs.pm_words.ImageLaws.{Follows-then}
-use Rattle.file_table.specs.pm_words.Images.{Follows, Follows-same, Follows-weaken, Then}
-use Rattle.file_table.specs.pm_words.Words.{line_bytes, Words}
-use Rattle.disk_lines.specs.declared.Draft.{Draft}
-use Rattle.disk_lines.specs.Entries.{decode_entry, held_seq, is_self_valid}
-use Rattle.disk_lines.specs.EntryLaws.{held_seq-decode_entry}
-use Rattle.file_table.specs.disk_places.Journal.{journaled}
-use Rattle.file_table.specs.disk_places.Places.{log_line}
-use Rattle.staging_files.specs.disk_rules.Content.{content, found, node_of}
-use Rattle.staging_files.specs.disk_rules.Live.{entry_in, is_live, live_entries, valid_entries}
-use Rattle.staging_files.specs.disk_rules.Reading.{base_set}
-use Rattle.staging_files.specs.disk_rules.Rules.{IsOfNoLater}
-use Rattle.staging_files.specs.disk_rules.Volume.{Volume}
+use Rattle.file_table.specs.pm_model.declared.Cell.{Cell}
+use Rattle.file_table.specs.pm_model.Frames.{SameLent}
+use Rattle.file_table.specs.pm_model.ImageLaws.{Follows-then}
+use Rattle.file_table.specs.pm_model.Images.{Follows, Follows-same, Follows-weaken, Then}
+use Rattle.file_table.specs.pm_model.Words.{line_bytes, Words}
+use Rattle.layout_model.specs.declared.lines.Draft.{Draft}
+use Rattle.layout_model.specs.Entries.{decode_entry, held_seq, is_self_valid}
+use Rattle.layout_model.specs.EntryLaws.{held_seq-decode_entry}
+use Rattle.file_table.specs.layout_model.Journal.{journaled}
+use Rattle.file_table.specs.layout_model.Places.{log_line}
+use Rattle.staging_files.specs.image_model.Content.{content, found, node_of}
+use Rattle.staging_files.specs.image_model.Live.{entry_in, is_live, live_entries, valid_entries}
+use Rattle.staging_files.specs.image_model.Reading.{base_set}
+use Rattle.staging_files.specs.image_model.Rules.{IsOfNoLater}
+use Rattle.staging_files.specs.image_model.Volume.{Volume}
 use Rattle.file_table.specs.Files.{Files}
 use Rattle.fsync_relink.specs.Others.{GoesOn, KeepsRest}
 use Rattle.staging_files.specs.k_journal.declared.outcomes.Commit.{Commit}
 use Rattle.staging_files.specs.k_map_plans.Plans.{IsStagingFile}
 use Rattle.staging_files.specs.k_plans.Whole.{IsWhole}
-use Rattle.staging_files.specs.k_rules.Stands.{IsOldOrNew, Stands}
-use Rattle.staging_files.specs.k_rules.View.{View}
+use Rattle.staging_files.specs.k_split_model.Stands.{IsOldOrNew, Stands}
+use Rattle.staging_files.specs.k_split_model.View.{View}
 use Rattle.staging_files.specs.k_split.Answers.{Changes}
 use Rattle.staging_files.specs.k_split.Contents.{AreOwnBlocks, HasOldOrNew, HaveOldOrNew}
 use Rattle.staging_files.specs.k_split.declared.faults.KFault.{KFault}
 use Rattle.staging_files.specs.k_split.Laps.{HasNextLap, IsBaseAnswer, next_base}
 use Rattle.staging_files.specs.k_split.Order.{IsInOrder}
 use Rattle.staging_files.specs.k_split.MapChanges.{ChangesMaps, IsGiveUpAnswer, IsGivenUpWith}
-use Rattle.staging_files.specs.list_facts.Filters.{filter-In, filter_map-In, range-In}
-use Rattle.staging_files.specs.list_facts.Members.{In}
-use Rattle.fsync_relink.proofs.live_facts_proofs.RestagedLaws.{keeps-files}
-use Rattle.fsync_relink.specs.live_facts.Logs.{IsDeadIn}
+use Rattle.staging_files.specs.list_laws.Filters.{filter-In, filter_map-In, range-In}
+use Rattle.staging_files.specs.list_laws.Members.{In}
+use Rattle.fsync_relink.proofs.log_laws_proofs.RestagedLaws.{keeps-files}
+use Rattle.fsync_relink.specs.log_laws.Logs.{IsDeadIn}
 use Rattle.staging_files.proofs.GiveUpLaws.{bared-volume, staging-file}
 use Rattle.staging_files.specs.GivesUp.{AreGivenUp}
 use Rattle.staging_files.specs.Keeps.{Staged}
-use Rattle.staging_files.specs.volume_facts.Footprint.{SameLog}
-use Rattle.staging_files.specs.volume_facts.FootprintLaws.{content-own, live_entries-same}
-use Rattle.fsync_relink.proofs.world_relinks_proofs.StagingLaws.{keeps-content-given_up, restages-given_up, stays-dead}
-use Rattle.fsync_relink.proofs.world_relinks_proofs.WorldLaws.{sane-in-order}
-use Rattle.fsync_relink.specs.world_relinks.Images.{IsRestaged}
+use Rattle.staging_files.specs.volume_laws.Footprint.{SameLog}
+use Rattle.staging_files.specs.volume_laws.FootprintLaws.{content-own, live_entries-same}
+use Rattle.fsync_relink.proofs.relink_laws_proofs.StagingLaws.{keeps-content-given_up, restages-given_up, stays-dead}
+use Rattle.fsync_relink.proofs.relink_laws_proofs.WorldLaws.{sane-in-order}
+use Rattle.fsync_relink.specs.relink_laws.Images.{IsRestaged}
 use Rattle.log_checkpoint.specs.Gathers.{AreAllDone, IsGatherAnswer, IsLapAnswer, MayGather}
 use Rattle.log_checkpoint.specs.Logged.{KeepsLoggedContent}
 use Rattle.log_checkpoint.proofs.Content.{all-logged, done-content, IsLoggedFrom, no-later-same, no-later-words, Shows, ShowsSame, up-to-content}

@@ -1,18 +1,18 @@
 -- The next lap begins with nothing staged: what it asks for, and what is answered.
 use Rattle.std.proofs.Common.{◌≡◌, ◌≤◌, ◌+◌, ◌/◌, ◌^◌, ℕ, zero, suc, Result, Ok, Err, sym, ◌∙◌, subst, inr}
 use Rattle.std.specs.declared.alloc.AllocError.{AllocError}
-use Rattle.staging_files.specs.disk_rules.Volume.{extents}
-use Rattle.staging_files.specs.extent_facts.Covers.{covers-disk_at, disk_at-covers}
+use Rattle.staging_files.specs.image_model.Volume.{extents}
+use Rattle.staging_files.specs.extent_model.Covers.{covers-disk_at, disk_at-covers}
 use Rattle.file_table.specs.Files.{Files}
 use Rattle.fsync_relink.specs.Others.{GoesOn, KeepsRest}
 use Rattle.staging_files.specs.k_journal.declared.outcomes.Commit.{Commit}
 use Rattle.staging_files.specs.k_map_plans.Plans.{IsStagingFile}
-use Rattle.staging_files.specs.k_rules.View.{View}
+use Rattle.staging_files.specs.k_split_model.View.{View}
 use Rattle.staging_files.specs.k_split.Laps.{HasNextLap, next_base}
 use Rattle.staging_files.proofs.GiveUpLaws.{staging-file}
 use Rattle.staging_files.specs.GivesUp.{AllStagedSingle, AreGivenUp}
 use Rattle.staging_files.specs.Keeps.{Staged}
-use Rattle.fsync_relink.proofs.world_relinks_proofs.RelinkLaws.{has-chain}
+use Rattle.fsync_relink.proofs.relink_laws_proofs.RelinkLaws.{has-chain}
 use Rattle.log_checkpoint.specs.Gathers.{AreAllDone, IsGatherAnswer, IsLapAnswer}
 
 -- ---- what it asks for, once all files are published

@@ -4,9 +4,9 @@ use Rattle.std.specs.Prelude.{if◌then◌else◌}
 use Rattle.std.specs.declared.alloc.AllocError.{AllocError}
 use Rattle.std.proofs.lemmas.Bool.{cases_eq}
 use Rattle.std.proofs.lemmas.List.{set-get_or}
-use Rattle.disk_lines.specs.declared.Kind.{Kind}
-use Rattle.file_table.specs.disk_places.Places.{reserve}
-use Rattle.staging_files.specs.disk_rules.Live.{is_file}
+use Rattle.layout_model.specs.declared.lines.Kind.{Kind}
+use Rattle.file_table.specs.layout_model.Places.{reserve}
+use Rattle.staging_files.specs.image_model.Live.{is_file}
 use Rattle.file_table.specs.file_overlay.declared.runs.Run.{Run}
 use Rattle.file_table.specs.Files.{ChangesFile, Files, runs_in, size_in}
 use Rattle.fsync_relink.proofs.OtherLaws.{keeps-same, keeps-then, leaves-others}
@@ -15,9 +15,9 @@ use Rattle.fsync_relink.specs.Others.{GoesOn, KeepsRest, LeavesRoom}
 use Rattle.fsync_relink.specs.Publishes.{IsCarriedOut, IsPublishDone, MayPublish}
 use Rattle.staging_files.specs.k_journal.declared.outcomes.Commit.{Commit}
 use Rattle.staging_files.specs.k_map_plans.Plans.{IsLiveFile}
-use Rattle.staging_files.specs.k_rules.View.{View}
+use Rattle.staging_files.specs.k_split_model.View.{View}
 use Rattle.staging_files.specs.k_split.MapChanges.{free_blocks_in}
-use Rattle.file_table.specs.pm_words.Powers.{Steps, Supply}
+use Rattle.file_table.specs.pm_model.Powers.{Steps, Supply}
 use Rattle.log_checkpoint.specs.Gathers.{AreCleared, AreDone, file_at, IsLineDone, IsPublishedLine, MayGather}
 use Rattle.log_checkpoint.proofs.Sums.{runs_from, runs-step, runs-within}
 

@@ -4,13 +4,13 @@ use Rattle.std.specs.Prelude.{count_by, sum_by, cond}
 use Rattle.std.proofs.lemmas.Bool.{cases_lt}
 use Rattle.std.proofs.lemmas.List.{drop_all, drop_more, get_or_past}
 use Rattle.std.proofs.lemmas.List.Sums.{sum_by-cons}
-use Rattle.disk_lines.specs.declared.Inode.{Inode}
-use Rattle.staging_files.specs.disk_rules.Live.{is_file}
-use Rattle.staging_files.specs.disk_rules.Volume.{free_inode, Volume}
+use Rattle.layout_model.specs.declared.lines.Inode.{Inode}
+use Rattle.staging_files.specs.image_model.Live.{is_file}
+use Rattle.staging_files.specs.image_model.Volume.{free_inode, Volume}
 use Rattle.file_table.specs.file_overlay.Runs.{Overlaid}
 use Rattle.file_table.specs.Files.{Files, nothing_laid, runs_in}
 use Rattle.log_checkpoint.specs.Gathers.{file_at, file_count, total_runs}
-use Rattle.file_table.specs.pm_words.Powers.{is_on, Steps, Supply}
+use Rattle.file_table.specs.pm_model.Powers.{is_on, Steps, Supply}
 
 -- the runs and the files of the lines from n on
 abbrev pub runs_from : ℕ → Files → ℕ

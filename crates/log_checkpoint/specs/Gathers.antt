@@ -1,17 +1,17 @@
 -- What a gathering asks for, and what it answers and leaves.
 use Rattle.std.specs.Prelude.{◌≡◌, ◌≢◌, ◌⊎◌, ◌≤◌, ◌<◌, ◌+◌, ℕ, zero, suc, [], length, sum_by, count_by, Result, Ok, Err, if◌then◌else◌}
 use Rattle.std.specs.declared.alloc.AllocError.{AllocError}
-use Rattle.disk_lines.specs.declared.Inode.{Inode}
-use Rattle.file_table.specs.disk_places.Places.{reserve}
-use Rattle.staging_files.specs.disk_rules.Live.{is_file}
-use Rattle.staging_files.specs.disk_rules.Volume.{inode, Volume}
+use Rattle.layout_model.specs.declared.lines.Inode.{Inode}
+use Rattle.file_table.specs.layout_model.Places.{reserve}
+use Rattle.staging_files.specs.image_model.Live.{is_file}
+use Rattle.staging_files.specs.image_model.Volume.{inode, Volume}
 use Rattle.file_table.specs.file_overlay.Runs.{Overlaid}
 use Rattle.file_table.specs.Files.{ChangesFile, Files, runs_in, size_in}
 use Rattle.fsync_relink.specs.Others.{AllApart, GoesOn, KeepsRest}
 use Rattle.fsync_relink.specs.Publishes.{IsPublishDone, IsPublishStopped, MayPublish}
 use Rattle.staging_files.specs.k_journal.declared.outcomes.Commit.{Commit}
 use Rattle.staging_files.specs.k_map_plans.Plans.{IsLiveFile}
-use Rattle.staging_files.specs.k_rules.View.{View}
+use Rattle.staging_files.specs.k_split_model.View.{View}
 use Rattle.staging_files.specs.k_split.declared.faults.KFault.{KFault}
 use Rattle.staging_files.specs.k_split.Laps.{IsBaseAnswer, next_base}
 use Rattle.staging_files.specs.k_split.MapChanges.{free_blocks_in}

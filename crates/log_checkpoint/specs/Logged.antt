@@ -1,16 +1,16 @@
 -- A log that holds the runs of all files, and the content of the images of a gathering.
 use Rattle.std.specs.Prelude.{◌≡◌, ◌<◌, ℕ}
-use Rattle.file_table.specs.pm_words.Words.{Words}
-use Rattle.disk_lines.specs.declared.Draft.{Draft}
-use Rattle.file_table.specs.disk_places.Journal.{journaled}
-use Rattle.staging_files.specs.disk_rules.Content.{content}
-use Rattle.staging_files.specs.disk_rules.Live.{live_entries}
-use Rattle.staging_files.specs.disk_rules.Rules.{IsOfNoLater}
-use Rattle.staging_files.specs.disk_rules.Volume.{Volume}
+use Rattle.file_table.specs.pm_model.Words.{Words}
+use Rattle.layout_model.specs.declared.lines.Draft.{Draft}
+use Rattle.file_table.specs.layout_model.Journal.{journaled}
+use Rattle.staging_files.specs.image_model.Content.{content}
+use Rattle.staging_files.specs.image_model.Live.{live_entries}
+use Rattle.staging_files.specs.image_model.Rules.{IsOfNoLater}
+use Rattle.staging_files.specs.image_model.Volume.{Volume}
 use Rattle.file_table.specs.Files.{Files, runs_in, size_in}
 use Rattle.fsync_relink.specs.Logged.{IsLogged}
 use Rattle.staging_files.specs.k_map_plans.Plans.{IsLiveFile}
-use Rattle.staging_files.specs.list_facts.Members.{In}
+use Rattle.staging_files.specs.list_laws.Members.{In}
 
 -- THE LOG HOLDS THE RUNS OF ALL FILES: of each file just its runs are live, and it has the size of the table; no entry of
 -- anything else is live; and no line is a valid entry of a lap to come.

@@ -3,8 +3,8 @@ ghost use Rattle.std.specs.Prelude.{◌≡◌, ◌+◌, ◌*◌, ◌^◌, true, 
 ghost use Rattle.fsync_relink.specs.Others.{GoesOn};
 ghost use Rattle.fsync_relink.specs.Publishes.{IsPublishPaid};
 ghost use Rattle.staging_files.specs.k_split.Laps.{HasNextLap};
-ghost use Rattle.file_table.specs.pm_words.Images.{Follows};
-ghost use Rattle.file_table.specs.pm_words.Powers.{is_on, Steps};
+ghost use Rattle.file_table.specs.pm_model.Images.{Follows};
+ghost use Rattle.file_table.specs.pm_model.Powers.{is_on, Steps};
 ghost use Rattle.staging_files.specs.GivesUp.{AllStagedSingle};
 ghost use Rattle.log_checkpoint.specs.Gathers.{IsGatherAnswer, IsLapAnswer, MayGather, file_count, total_runs};
 ghost use Rattle.log_checkpoint.specs.Logged.{KeepsLoggedContent};
@@ -46,7 +46,7 @@ fn begin_bare_lap(
 ///
 /// # Errors
 ///
-/// Want of memory. K-Split, staging and table are only to be dropped then.
+/// Out of memory. K-Split, staging and table are only to be dropped then.
 ///
 /// # Steps
 ///

@@ -4,12 +4,12 @@ ghost use Rattle.file_table.specs.Files.{runs_in, size_in};
 ghost use Rattle.fsync_relink.specs.Others.{GoesOn};
 ghost use Rattle.fsync_relink.specs.Publishes.{IsPublishPaid, MayPublish};
 ghost use Rattle.staging_files.specs.k_map_plans.Plans.{IsLiveFile};
-ghost use Rattle.file_table.specs.pm_words.Powers.{is_on, Steps};
+ghost use Rattle.file_table.specs.pm_model.Powers.{is_on, Steps};
 ghost use Rattle.log_checkpoint.specs.Gathers.{IsPublishAllAnswer, IsPublishedLine, MayGather, file_at, file_count, total_runs};
 
-use disk_lines::Kind;
 use file_table::FileTable;
 use fsync_relink::publish_runs;
+use layout_model::Kind;
 use pm_lines::Power;
 use staging_files::{Commit, KSplit};
 use std::alloc::{AllocError, Global};

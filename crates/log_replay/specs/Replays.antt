@@ -1,25 +1,25 @@
 -- What it asks for that the live entries of a log are carried out, and what that leaves.
 use Rattle.std.specs.Prelude.{◌≡◌, ◌*◌, ℕ, true, false, List, [], Result, Ok, Err, alloc_error}
 use Rattle.std.specs.declared.alloc.AllocError.{AllocError}
-use Rattle.replay_facts.specs.pm_words.Images.{words_of}
-use Rattle.replay_facts.specs.pm_words.Powers.{is_on, Supply}
-use Rattle.replay_facts.specs.pm_words.Words.{Words}
-use Rattle.disk_lines.specs.declared.Draft.{Draft}
-use Rattle.replay_facts.specs.disk_places.Journal.{journaled}
-use Rattle.replay_facts.specs.disk_places.Places.{Geometry}
-use Rattle.replay_facts.specs.disk_rules.Checked.{IsCheckedAs}
-use Rattle.replay_facts.specs.disk_rules.Content.{content}
-use Rattle.replay_facts.specs.disk_rules.Live.{live_entries}
-use Rattle.replay_facts.specs.disk_rules.Rules.{geometry_of, IsChecked}
-use Rattle.replay_facts.specs.disk_rules.Volume.{inode}
-use Rattle.k_mount.specs.k_journal.declared.outcomes.Commit.{Commit}
-use Rattle.k_mount.specs.Sheds.{IsAtRest}
-use Rattle.replay_facts.specs.k_rules.View.{View}
-use Rattle.k_mount.specs.k_split.declared.faults.KFault.{KFault}
-use Rattle.replay_facts.specs.volume_facts.Footprint.{SameLog}
-use Rattle.replay_facts.specs.live_facts.Logs.{HasSameFiles}
-use Rattle.replay_facts.specs.world_runs.Relinks.{SameLine}
-use Rattle.replay_facts.specs.Orders.{AreInOrder}
+use Rattle.relink_laws.specs.log_laws.pm_model.Images.{words_of}
+use Rattle.relink_laws.specs.log_laws.pm_model.Powers.{is_on, Supply}
+use Rattle.relink_laws.specs.log_laws.pm_model.Words.{Words}
+use Rattle.layout_model.specs.declared.lines.Draft.{Draft}
+use Rattle.relink_laws.specs.log_laws.layout_model.Journal.{journaled}
+use Rattle.relink_laws.specs.log_laws.layout_model.Places.{Geometry}
+use Rattle.relink_laws.specs.log_laws.image_model.Checked.{IsCheckedAs}
+use Rattle.relink_laws.specs.log_laws.image_model.Content.{content}
+use Rattle.relink_laws.specs.log_laws.image_model.Live.{live_entries}
+use Rattle.relink_laws.specs.log_laws.image_model.Rules.{geometry_of, IsChecked}
+use Rattle.relink_laws.specs.log_laws.image_model.Volume.{inode}
+use Rattle.k_split.specs.k_journal.declared.outcomes.Commit.{Commit}
+use Rattle.log_replay.specs.Sheds.{IsAtRest}
+use Rattle.relink_laws.specs.log_laws.k_split_model.View.{View}
+use Rattle.k_split.specs.declared.faults.KFault.{KFault}
+use Rattle.relink_laws.specs.log_laws.volume_laws.Footprint.{SameLog}
+use Rattle.relink_laws.specs.log_laws.Logs.{HasSameFiles}
+use Rattle.relink_laws.specs.log_laws.world_write_laws.Relinks.{SameLine}
+use Rattle.relink_laws.specs.log_laws.Orders.{AreInOrder}
 
 -- what K-Split's device shows through its journal, and the entries of its log that are live
 abbrev pub seen : View → Words

@@ -1,18 +1,25 @@
-//! The log after a power loss: its live entries are carried out, so that nothing that returned is lost.
+//! The mount: an image is checked, its journal recovered, its live log entries carried out, and the next lap begun.
 //!
-//! `in_order` sorts the live entries of a log, and `replay` carries them out by rising order: each is one
-//! relink of K-Split, with the file's length and the order in the same transaction. The layer above may
-//! rely on this (`IsReplayed`): then no entry is live, and each file has in its own line and map what it
-//! had by the entries; and wherever the power goes, each image has the content of the first
-//! (`ShowsTheSame`), so that a recovery that is cut off is begun again from the start.
+//! `mount` keeps the content of the image: done, nothing is staged, no line is an entry, each file
+//! has a name; cut off at any step, each honest image is checked and has that content, so that a
+//! mount may be begun again.
 //!
-//! Which entries are live is said by `disk_rules` over all slots of the log; `k_check::live_log` reads
-//! them. Stands on `k_split`, and on the laws of relinks (`world_relinks`).
+//! - `replays`: The log after a power loss: its live entries are carried out, so that nothing that
+//!   returned is lost.
+//! - `settling`: What ends a mount: nameless files go, and the log's next lap begins.
+//! - `mounting`: A device is mounted, whatever entries of its log are live.
+//!
+//! `HasOldLines`: each line that is an entry is one of an earlier lap, since the first round hands its
+//! lines out as they are.
+//!
+//! Stands on `layout_model`, `pm_lines`, `relink_laws`, `world_image_laws`, `k_split`,
+//! `block_counts`, `k_check` and `staging_files`.
 #![tactic(auto)]
 
-mod ordering;
+mod mounting;
 mod replays;
+mod settling;
 
-pub use k_mount::{a_remount_shows_the_same, settle};
-pub use ordering::in_order;
-pub use replays::replay;
+pub use mounting::{MountFault, mount};
+pub use replays::{a_remount_shows_the_same, in_order, replay, settle};
+pub use settling::{Commit, KFault, KSplit, Move, begin_lap, drop_nameless};

@@ -1,13 +1,13 @@
 -- What the extents that were listed from blocks say of the map there.
 use Rattle.std.proofs.Common.{◌≡◌, ℕ, List, length, Option, Some, None, sym, subst}
 use Rattle.std.specs.Option.{SomeIff, IfSome, IfNone}
-use Rattle.pm_lines.specs.pm_words.Words.{Words}
-use Rattle.extent_map.specs.extent_words.declared.Extent.{Extent}
-use Rattle.extent_map.specs.extent_words.Extents.{IsCanonical}
-use Rattle.chain_facts.specs.ChainLaws.{spells-stands, stands-spelled, listed-map}
-use Rattle.disk_rules.specs.Placed.{StandsIn}
-use Rattle.disk_rules.specs.Listed.{AreListed}
-use Rattle.disk_rules.specs.Standing.{IsMapIn, HasNoMap}
+use Rattle.pm_lines.specs.pm_model.Words.{Words}
+use Rattle.extent_map.specs.extent_model.declared.extent_words.Extent.{Extent}
+use Rattle.extent_map.specs.extent_model.Extents.{IsCanonical}
+use Rattle.volume_laws.specs.ChainLaws.{spells-stands, stands-spelled, listed-map}
+use Rattle.image_model.specs.Placed.{StandsIn}
+use Rattle.image_model.specs.Listed.{AreListed}
+use Rattle.image_model.specs.Standing.{IsMapIn, HasNoMap}
 
 -- they do not stand there: no map does
 pub not_spelled : (f : Words) (blocks : List ℕ) (count : ℕ) (listed : List Extent) → length listed ≡ count → AreListed f blocks listed → ¬ StandsIn f blocks listed

@@ -1,18 +1,18 @@
 -- What a chain that is written leaves: outside its blocks, and in them.
 use Rattle.std.proofs.Common.{◌≡◌, ◌≢◌, ◌⊎◌, ◌+◌, ◌*◌, ◌/◌, ◌%◌, ◌<◌, ◌≤◌, ℕ, zero, suc, List, [], ◌∷◌, length, if◌then◌else◌, ◌==◌, refl, sym, ◌∙◌, ap, arith, inl, inr, ⊎_elim}
 use Rattle.std.proofs.lemmas.Bool.{cases_eq, eq-eqb, ne_eqb, both_ways}
-use Rattle.pm_lines.specs.pm_words.declared.Cell.{Cell}
-use Rattle.pm_lines.specs.pm_words.CellLaws.{single-home, newest-candidate, candidate-settles, settled-single}
-use Rattle.pm_lines.specs.pm_words.Cells.{cell, is_lent, newest, IsCandidate, Settles}
-use Rattle.pm_lines.specs.pm_words.Frames.{KeepsSingle}
-use Rattle.pm_lines.specs.pm_words.Images.{IsImage, Follows}
-use Rattle.pm_lines.specs.pm_words.Words.{Words}
-use Rattle.extent_map.specs.extent_words.declared.Extent.{Extent}
-use Rattle.disk_rules.specs.Chains.{chain_word, SpellsChain}
-use Rattle.chain_facts.specs.ChainLaws.{spells-stands, reads_back}
-use Rattle.disk_rules.specs.Placed.{block_at, part_at, AreSingle, IsOutside}
-use Rattle.disk_rules.specs.Standing.{FitHalves}
-use Rattle.extent_map.specs.extent_words.Extents.{IsCanonical}
+use Rattle.pm_lines.specs.pm_model.declared.Cell.{Cell}
+use Rattle.pm_lines.specs.pm_model.CellLaws.{single-home, newest-candidate, candidate-settles, settled-single}
+use Rattle.pm_lines.specs.pm_model.Cells.{cell, is_lent, newest, IsCandidate, Settles}
+use Rattle.pm_lines.specs.pm_model.Frames.{KeepsSingle}
+use Rattle.pm_lines.specs.pm_model.Images.{IsImage, Follows}
+use Rattle.pm_lines.specs.pm_model.Words.{Words}
+use Rattle.extent_map.specs.extent_model.declared.extent_words.Extent.{Extent}
+use Rattle.image_model.specs.Chains.{chain_word, SpellsChain}
+use Rattle.volume_laws.specs.ChainLaws.{spells-stands, reads_back}
+use Rattle.image_model.specs.Placed.{block_at, part_at, AreSingle, IsOutside}
+use Rattle.image_model.specs.Standing.{FitHalves}
+use Rattle.extent_map.specs.extent_model.Extents.{IsCanonical}
 use Rattle.map_chain.specs.Writes.{HasChainWords, MayWrite, SameOutside, IsWritten}
 
 -- one of the blocks is b, or none is

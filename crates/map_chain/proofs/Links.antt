@@ -2,10 +2,10 @@
 use Rattle.std.proofs.Common.{◌≡◌, ◌+◌, ◌-◌, ◌/◌, ◌<◌, ◌≤◌, ℕ, suc, List, [], ◌∷◌, ◌++◌, length, refl, sym, ◌∙◌, ap, arith, append_assoc, ⊎_elim}
 use Rattle.std.proofs.lemmas.List.{get_or_at, get_or_append_left, get_or_push, length_push, append-nil}
 use Rattle.std.proofs.lemmas.Bool.{cases_lt}
-use Rattle.pm_lines.specs.pm_words.Words.{Words}
-use Rattle.disk_rules.specs.Chains.{next_block, blocks_from}
-use Rattle.chain_facts.specs.ChainLaws.{length-blocks_from}
-use Rattle.disk_rules.specs.Placed.{block_at, AreInDevice}
+use Rattle.pm_lines.specs.pm_model.Words.{Words}
+use Rattle.image_model.specs.Chains.{next_block, blocks_from}
+use Rattle.volume_laws.specs.ChainLaws.{length-blocks_from}
+use Rattle.image_model.specs.Placed.{block_at, AreInDevice}
 
 -- n blocks, the first of them and those behind it
 first_of : (f : Words) (b n m : ℕ) → n ≡ suc m → blocks_from f b n ≡ b ∷ blocks_from f (next_block f b) m

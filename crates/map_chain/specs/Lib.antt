@@ -1,3 +1,3 @@
 pub mod Writes
-pub use Rattle.chain_facts.specs as chain_facts
-pub use Rattle.disk_rules.specs as disk_rules
+pub use Rattle.volume_laws.specs as volume_laws
+pub use Rattle.image_model.specs as image_model

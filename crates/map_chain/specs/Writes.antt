@@ -1,14 +1,14 @@
 -- What it takes to write a chain, and what the images are while it is written.
 use Rattle.std.specs.Prelude.{◌≡◌, ℕ, ◌+◌, ◌/◌, ◌%◌, ◌<◌, List, length}
-use Rattle.pm_lines.specs.pm_words.declared.Cell.{Cell}
-use Rattle.pm_lines.specs.pm_words.declared.Cell.TheVariants.{Single}
-use Rattle.pm_lines.specs.pm_words.Cells.{cell}
-use Rattle.pm_lines.specs.pm_words.Words.{Words}
+use Rattle.pm_lines.specs.pm_model.declared.Cell.{Cell}
+use Rattle.pm_lines.specs.pm_model.declared.Cell.TheVariants.{Single}
+use Rattle.pm_lines.specs.pm_model.Cells.{cell}
+use Rattle.pm_lines.specs.pm_model.Words.{Words}
 use Rattle.block_counts.specs.Counts.{chains_for}
-use Rattle.extent_map.specs.extent_words.declared.Extent.{Extent}
-use Rattle.disk_rules.specs.Chains.{chain_word, first_or_zero}
-use Rattle.disk_rules.specs.Standing.{IsChain}
-use Rattle.disk_rules.specs.Placed.{block_at, part_at, AreDistinct, AreInDevice, AreSingle, IsOutside}
+use Rattle.extent_map.specs.extent_model.declared.extent_words.Extent.{Extent}
+use Rattle.image_model.specs.Chains.{chain_word, first_or_zero}
+use Rattle.image_model.specs.Standing.{IsChain}
+use Rattle.image_model.specs.Placed.{block_at, part_at, AreDistinct, AreInDevice, AreSingle, IsOutside}
 
 -- As many blocks as the extents take, no two the same, all in the device, and each of their words has one candidate.
 pub record MayWrite (es : List Extent) (blocks : List ℕ) (d : List Cell) : Type 0 where

@@ -9,13 +9,16 @@
 //! power goes, each image differs from one before at most in words of these blocks. `read` answers
 //! a map and its blocks exactly where a map of so many extents stands there, with all other words
 //! zero. That blocks and extents lie in the data region is for the layer above to test:
-//! `chain_facts` joins a chain that was read to the rule of a checked image.
+//! `volume_laws` joins a chain that was read to the rule of a checked image.
 //!
-//! It stands on `pm_lines` (the device), `extent_map` (the map), `disk_rules` (the spelling) and
+//! `write` ends in a fence, which ends marks of other words too (`ended`). `read` asks that the blocks it
+//! comes to are not lent, so others may be.
+//!
+//! It stands on `pm_lines` (the device), `extent_map` (the map), `image_model` (the spelling) and
 //! `block_counts` (how many blocks a map takes).
 #![tactic(auto)]
 
-ghost use Rattle.disk_rules.specs.Standing.{ReadsBack, HasOneChain};
+ghost use Rattle.image_model.specs.Standing.{ReadsBack, HasOneChain};
 
 mod reading;
 mod words;

@@ -1,7 +1,7 @@
 //! The words of a chain's blocks.
 ghost use Rattle.std.specs.Prelude.{◌≡◌, ◌+◌, ◌*◌, ◌/◌, ◌%◌, ◌^◌, ◌<◌, ◌≤◌, length, slice_index};
-ghost use Rattle.disk_rules.specs.Placed.{part_at};
-ghost use Rattle.disk_rules.specs.Chains.{extent_word, chain_word};
+ghost use Rattle.image_model.specs.Placed.{part_at};
+ghost use Rattle.image_model.specs.Chains.{extent_word, chain_word};
 
 use extent_map::Extent;
 
@@ -32,7 +32,7 @@ fn extent_word(extents: &[Extent], j: usize) -> u64
 }
 
 // Word `j` of the chain block with these extents and this next block.
-#[tactic(auto, unfolding(disk_rules::specs::Chains::chain_word))]
+#[tactic(auto, unfolding(image_model::specs::Chains::chain_word))]
 pub(crate) fn chain_word(next: u32, extents: &[Extent], j: usize) -> u64
     requires { length extents.now ≤ 255 }
     ensures { result ≡ chain_word next extents.now j }

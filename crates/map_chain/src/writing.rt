@@ -1,14 +1,14 @@
 //! Writing a chain.
 ghost use Rattle.std.specs.Prelude.{◌≡◌, ◌≢◌, ◌+◌, ◌*◌, ◌/◌, ◌%◌, ◌<◌, ◌≤◌, ℕ, true, false, length};
-ghost use Rattle.disk_rules.specs.Chains.{chain_word as word_of_block, SpellsChain};
-ghost use Rattle.disk_rules.specs.Placed.{block_at, part_at, AreDistinct, AreInDevice, AreSingle, IsOutside};
+ghost use Rattle.image_model.specs.Chains.{chain_word as word_of_block, SpellsChain};
+ghost use Rattle.image_model.specs.Placed.{block_at, part_at, AreDistinct, AreInDevice, AreSingle, IsOutside};
 ghost use Rattle.map_chain.specs.Writes.{HasChainWords, MayWrite, SameOutside, IsWritten};
-ghost use Rattle.pm_lines.specs.pm_words.declared.Cell.TheVariants.{Single};
-ghost use Rattle.pm_lines.specs.pm_words.Cells.{cell, is_single, fenced, Settles};
-ghost use Rattle.pm_lines.specs.pm_words.Frames.{SameLent, KeepsSingle, LineIsSingle};
-ghost use Rattle.pm_lines.specs.pm_words.Images.{IsImage, Follows};
-ghost use Rattle.pm_lines.specs.pm_words.Powers.{is_on, Steps};
-ghost use Rattle.pm_lines.specs.pm_words.Words.{Words};
+ghost use Rattle.pm_lines.specs.pm_model.declared.Cell.TheVariants.{Single};
+ghost use Rattle.pm_lines.specs.pm_model.Cells.{cell, is_single, fenced, Settles};
+ghost use Rattle.pm_lines.specs.pm_model.Frames.{SameLent, KeepsSingle, LineIsSingle};
+ghost use Rattle.pm_lines.specs.pm_model.Images.{IsImage, Follows};
+ghost use Rattle.pm_lines.specs.pm_model.Powers.{is_on, Steps};
+ghost use Rattle.pm_lines.specs.pm_model.Words.{Words};
 
 use crate::words::{chain_word, next_in, part_of};
 use extent_map::{Extent, ExtentMap};

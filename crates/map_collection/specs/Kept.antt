@@ -1,8 +1,8 @@
 -- What a collection keeps, and how it agrees with a map.
 use Rattle.std.specs.Prelude.{◌≡◌, ◌≢◌, ◌==◌, ◌&&◌, ℕ, Bool, List, find, Option, Some, None}
 use Rattle.std.specs.Option.{option_map}
-use Rattle.extent_map.specs.extent_words.declared.Extent.{Extent}
-use Rattle.extent_map.specs.extent_words.Extents.{disk_at}
+use Rattle.extent_map.specs.extent_model.declared.extent_words.Extent.{Extent}
+use Rattle.extent_map.specs.extent_model.Extents.{disk_at}
 
 -- an answer that is kept: the disk block of a file block of an inode, or that it has none
 pub record Answer : Type 0 where

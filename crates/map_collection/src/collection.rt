@@ -1,6 +1,6 @@
 //! What is kept, and the look-up.
 ghost use Rattle.std.specs.Prelude.{◌≡◌, [], IfOk, OnErr};
-ghost use Rattle.extent_map.specs.extent_words.Extents.{disk_at};
+ghost use Rattle.extent_map.specs.extent_model.Extents.{disk_at};
 ghost use Rattle.map_collection.specs.Kept.{Agrees, KeepsNothing, KeepsOthers};
 
 use extent_map::ExtentMap;
@@ -35,7 +35,7 @@ impl Collection {
     ///
     /// # Errors
     ///
-    /// Want of memory: what is kept is as before.
+    /// Out of memory: what is kept is as before.
     pub fn lookup(
         &mut self,
         ino: u32,

@@ -9,6 +9,9 @@
 //! changes a map that gave answers has to call `forget`.
 //!
 //! It asks the map each time, and keeps nothing yet. It stands on `extent_map`.
+//!
+//! Each read and write makes a new one by now: a body that keeps regions of a map comes later, under this
+//! contract.
 #![tactic(auto)]
 
 ghost use Rattle.map_collection.specs.Laws.{ForgottenAgrees};

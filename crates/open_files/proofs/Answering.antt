@@ -7,17 +7,17 @@ use Rattle.std.proofs.lemmas.List.{get_or_default}
 use Rattle.std.proofs.lemmas.List.Folds.{Any-from_list_any, list_any_at}
 use Rattle.posix_types.specs.declared.call.Who.{Who}
 use Rattle.posix_types.specs.declared.handle.Handle.{Handle}
-use Rattle.posix_words.specs.declared.open.Binding.{Binding}
-use Rattle.posix_words.specs.declared.open.Description.{Description}
-use Rattle.posix_words.specs.Open.{binding_of, describes, description_number, free_descriptor, is_open, key_of, opened, Tables}
-use Rattle.open_files.specs.declared.found.Found.{Found}
-use Rattle.open_files.specs.declared.kept.Kept.{Kept}
-use Rattle.open_files.specs.declared.kept.Reference.{Reference}
+use Rattle.posix_tables.specs.declared.open.Binding.{Binding}
+use Rattle.posix_tables.specs.declared.open.Description.{Description}
+use Rattle.posix_tables.specs.Open.{binding_of, describes, description_number, free_descriptor, is_open, key_of, opened, Tables}
+use Rattle.open_files.specs.declared.files.found.Found.{Found}
+use Rattle.open_files.specs.declared.files.kept.Kept.{Kept}
+use Rattle.open_files.specs.declared.files.kept.Reference.{Reference}
 use Rattle.open_files.specs.Found.{IsFound, NotFound, refers_to_ino}
 use Rattle.open_files.specs.Kept.{description_of, number_of, numbered, tables_of}
 use Rattle.open_files.specs.Order.{description_at}
 use Rattle.open_files.specs.State.{AreKept}
-use Rattle.open_files.proofs.Numbers.{numbered-kept}
+use Rattle.open_files.proofs.FilesNumbers.{numbered-kept}
 use Rattle.open_files.proofs.OrderLaws.{bound_in_use}
 use Rattle.open_files.proofs.Places.{flat-get_or, flat-within, free-references, get-tabulated, length-references, length-tabulated, number_at, some_of}
 

@@ -9,20 +9,20 @@ use Rattle.std.proofs.lemmas.List.{get_or-set_other, get_or-set_same, map-set}
 use Rattle.std.proofs.lemmas.List.Folds.{list_any_at}
 use Rattle.posix_types.specs.declared.call.Who.{Who}
 use Rattle.posix_types.specs.declared.handle.Handle.{Handle}
-use Rattle.posix_words.specs.declared.open.Binding.{Binding}
-use Rattle.posix_words.specs.Names.{without_place}
-use Rattle.posix_words.specs.Open.{binding_of, closed, description_number, has_key, is_binding, is_full, next_descriptor, Tables, with_binding, with_descriptor, with_offset, with_opened, without_binding, without_unused}
-use Rattle.posix_frames.specs.Handles.{closed-is, with_offset-is}
+use Rattle.posix_tables.specs.declared.open.Binding.{Binding}
+use Rattle.posix_tables.specs.Names.{without_place}
+use Rattle.posix_tables.specs.Open.{binding_of, closed, description_number, has_key, is_binding, is_full, next_descriptor, Tables, with_binding, with_descriptor, with_offset, with_opened, without_binding, without_unused}
+use Rattle.commute_laws.specs.Handles.{closed-is, with_offset-is}
 use Rattle.slab.specs.Slab.{get, Slab, Updates}
-use Rattle.open_files.specs.declared.found.Found.{Found}
-use Rattle.open_files.specs.declared.kept.Kept.{Kept}
-use Rattle.open_files.specs.declared.kept.Reference.{Reference}
+use Rattle.open_files.specs.declared.files.found.Found.{Found}
+use Rattle.open_files.specs.declared.files.kept.Kept.{Kept}
+use Rattle.open_files.specs.declared.files.kept.Reference.{Reference}
 use Rattle.open_files.specs.Found.{IsFound}
 use Rattle.open_files.specs.Kept.{description_of, number_of, numbered, refers_to, tables_of, tabulated}
 use Rattle.open_files.specs.Order.{AreInOrder, description_at}
 use Rattle.open_files.specs.State.{AreKept}
 use Rattle.open_files.proofs.Answering.{description-kept, free_is, number-found, reference_within, same_kept}
-use Rattle.open_files.proofs.Numbers.{below-changed, changes-added, changes-kept, ChangesNumber, descriptions-added, descriptions-changed, distinct-changed}
+use Rattle.open_files.proofs.FilesNumbers.{below-changed, changes-added, changes-kept, ChangesNumber, descriptions-added, descriptions-changed, distinct-changed}
 use Rattle.open_files.proofs.OrderLaws.{order-closed, order-with_descriptor, order-with_offset, order-with_opened}
 use Rattle.open_files.proofs.Places.{first_place, is_some-of, length-tabulated, number_at, used-references}
 

@@ -1,8 +1,10 @@
 pub mod Places
-pub mod Numbers
+pub mod FilesNumbers
 pub mod OrderLaws
 pub mod Answering
 pub mod Changing
 pub mod Rooms
 pub mod Starting
 pub mod TableLaws
+pub mod Changes
+pub mod Lookups

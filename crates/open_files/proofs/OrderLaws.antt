@@ -11,14 +11,14 @@ use Rattle.std.proofs.lemmas.List.Elements.{All-from_get_or, All-push, All-weake
 use Rattle.std.proofs.lemmas.List.Folds.{list_any_at}
 use Rattle.std.proofs.lemmas.List.Quantifiers.{all_pairs_push}
 use Rattle.std.proofs.lemmas.Option.{get_or_from_slice_get}
-use Rattle.posix_frames.specs.list_facts.Members.{slice_get-front, slice_get-last}
+use Rattle.commute_laws.specs.list_laws.Members.{slice_get-front, slice_get-last}
 use Rattle.posix_types.specs.declared.call.Who.{Who}
 use Rattle.posix_types.specs.declared.handle.Handle.{Handle}
-use Rattle.posix_words.specs.declared.open.Binding.{Binding}
-use Rattle.posix_words.specs.declared.open.Description.{Description}
-use Rattle.posix_words.specs.Names.{without_place}
-use Rattle.posix_words.specs.Open.{binding_of, closed, description_number, has_key, is_binding, is_full, next_descriptor, nothing_open, same_handle, same_who, Tables, with_binding, with_descriptor, with_offset, with_opened, without_binding, without_unused}
-use Rattle.posix_frames.specs.Handles.{bound_by, closed-is, same_who-is, with_offset-is}
+use Rattle.posix_tables.specs.declared.open.Binding.{Binding}
+use Rattle.posix_tables.specs.declared.open.Description.{Description}
+use Rattle.posix_tables.specs.Names.{without_place}
+use Rattle.posix_tables.specs.Open.{binding_of, closed, description_number, has_key, is_binding, is_full, next_descriptor, nothing_open, same_handle, same_who, Tables, with_binding, with_descriptor, with_offset, with_opened, without_binding, without_unused}
+use Rattle.commute_laws.specs.Handles.{bound_by, closed-is, same_who-is, with_offset-is}
 use Rattle.open_files.specs.Order.{AreApart, AreInOrder, description_at, IsBound}
 use Rattle.open_files.proofs.Places.{All-rest_places, AllPairs-rest_places, first_place, flat-get_or, flat-set_other, flat-set_same, flat-within, is_some-of, rest_place, some_of}
 

@@ -11,11 +11,11 @@ use Rattle.std.proofs.lemmas.List.Folds.{find_at}
 use Rattle.std.proofs.lemmas.List.Quantifiers.{all_pairs_remove}
 use Rattle.std.proofs.lemmas.List.Sums.{fails_before_first, passes_at_first, sum_by-cons}
 use Rattle.std.proofs.lemmas.Option.{slice_get_past}
-use Rattle.posix_frames.specs.list_facts.Members.{slice_get-front, slice_get-last}
-use Rattle.posix_words.specs.Names.{without_place}
-use Rattle.posix_words.specs.Open.{description_number, has_key}
-use Rattle.posix_frames.specs.Lists.{slice_get-set_other}
-use Rattle.open_files.specs.declared.kept.Reference.{Reference}
+use Rattle.commute_laws.specs.list_laws.Members.{slice_get-front, slice_get-last}
+use Rattle.posix_tables.specs.Names.{without_place}
+use Rattle.posix_tables.specs.Open.{description_number, has_key}
+use Rattle.commute_laws.specs.Lists.{slice_get-set_other}
+use Rattle.open_files.specs.declared.files.kept.Reference.{Reference}
 use Rattle.open_files.specs.Kept.{number_of, refers_to, tabulated}
 
 -- ---- options

@@ -2,8 +2,8 @@
 use Rattle.std.specs.Prelude.{◌≡◌, ℕ, zero, suc, [], ◌∷◌, map, replicate, Some, None, get_or, refl}
 use Rattle.std.specs.Option.{option_map}
 use Rattle.std.proofs.Common.{ap, sym, subst}
-use Rattle.posix_words.specs.Open.{nothing_open}
-use Rattle.open_files.specs.declared.kept.Reference.{Reference}
+use Rattle.posix_tables.specs.Open.{nothing_open}
+use Rattle.open_files.specs.declared.files.kept.Reference.{Reference}
 use Rattle.open_files.specs.Kept.{number_of, tables_of, tabulated}
 use Rattle.open_files.specs.Order.{AreInOrder}
 use Rattle.open_files.specs.State.{AreKept}

@@ -4,9 +4,9 @@ use Rattle.std.specs.Option.{option_and_then}
 use Rattle.std.proofs.Common.{sym, subst, inl, inr, arith}
 use Rattle.std.proofs.lemmas.Bool.{cases_lt}
 use Rattle.std.proofs.lemmas.Option.{get_or_from_slice_get, slice_get_within}
-use Rattle.posix_words.specs.declared.open.Binding.{Binding}
-use Rattle.posix_words.specs.Open.{binding_of, description_number, key_of, opened}
-use Rattle.open_files.specs.Laws.{BindingsAreApart, KnownHandlesAreOpen}
+use Rattle.posix_tables.specs.declared.open.Binding.{Binding}
+use Rattle.posix_tables.specs.Open.{binding_of, description_number, key_of, opened}
+use Rattle.open_files.specs.FilesLaws.{BindingsAreApart, KnownHandlesAreOpen}
 use Rattle.open_files.specs.Order.{AreApart, AreInOrder, description_at}
 use Rattle.open_files.proofs.OrderLaws.{bound_in_use}
 use Rattle.open_files.proofs.Places.{some_of}

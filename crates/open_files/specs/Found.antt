@@ -3,13 +3,13 @@ use Rattle.std.specs.Prelude.{◌≡◌, ℕ, ◌==◌, Bool, false, List, Optio
 use Rattle.std.specs.Option.{option_map_or}
 use Rattle.posix_types.specs.declared.call.Who.{Who}
 use Rattle.posix_types.specs.declared.handle.Handle.{Handle}
-use Rattle.posix_words.specs.declared.open.Binding.{Binding}
-use Rattle.posix_words.specs.declared.open.Description.{Description}
-use Rattle.posix_words.specs.Open.{binding_of}
-use Rattle.open_files.specs.declared.found.Found.{Found}
-use Rattle.open_files.specs.declared.kept.Kept.{Kept}
-use Rattle.open_files.specs.declared.kept.Reference.{Reference}
-use Rattle.open_files.specs.declared.opened.Opened.{Opened}
+use Rattle.posix_tables.specs.declared.open.Binding.{Binding}
+use Rattle.posix_tables.specs.declared.open.Description.{Description}
+use Rattle.posix_tables.specs.Open.{binding_of}
+use Rattle.open_files.specs.declared.files.found.Found.{Found}
+use Rattle.open_files.specs.declared.files.kept.Kept.{Kept}
+use Rattle.open_files.specs.declared.files.kept.Reference.{Reference}
+use Rattle.open_files.specs.declared.files.opened.Opened.{Opened}
 
 -- what was opened, as the tables have it
 abbrev pub description_in : Opened → Description

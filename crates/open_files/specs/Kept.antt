@@ -1,11 +1,11 @@
 -- What is kept, and the tables that it stands for.
 use Rattle.std.specs.Prelude.{ℕ, zero, suc, ◌==◌, Bool, false, List, [], ◌∷◌, ◌++◌, map, find, Option}
 use Rattle.std.specs.Option.{option_flatten, option_map, option_map_or}
-use Rattle.posix_words.specs.declared.open.Description.{Description}
-use Rattle.posix_words.specs.declared.open.Binding.{Binding}
-use Rattle.posix_words.specs.Open.{Tables}
-use Rattle.open_files.specs.declared.kept.Kept.{Kept}
-use Rattle.open_files.specs.declared.kept.Reference.{Reference}
+use Rattle.posix_tables.specs.declared.open.Description.{Description}
+use Rattle.posix_tables.specs.declared.open.Binding.{Binding}
+use Rattle.posix_tables.specs.Open.{Tables}
+use Rattle.open_files.specs.declared.files.kept.Kept.{Kept}
+use Rattle.open_files.specs.declared.files.kept.Reference.{Reference}
 
 -- what is kept of a description, as the tables have it: the inode stands in the place of the node number
 abbrev pub description_of : Kept → Description

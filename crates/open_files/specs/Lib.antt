@@ -2,11 +2,14 @@ pub mod Kept
 pub mod Order
 pub mod State
 pub mod Found
-pub mod Laws
-pub use Rattle.posix_frames.specs as posix_frames
-pub use Rattle.posix_frames.specs.crash_spec as crash_spec
-pub use Rattle.posix_frames.specs.posix_facts as posix_facts
-pub use Rattle.posix_frames.specs.posix_puts as posix_puts
-pub use Rattle.posix_frames.specs.posix_spec as posix_spec
-pub use Rattle.posix_frames.specs.list_facts as list_facts
-pub use Rattle.posix_words.specs as posix_words
+pub mod FilesLaws
+pub mod NumbersLaws
+pub mod Numbered
+pub use Rattle.posix_tables.specs.block_counts
+pub use Rattle.commute_laws.specs as commute_laws
+pub use Rattle.commute_laws.specs.crash_spec
+pub use Rattle.commute_laws.specs.list_laws
+pub use Rattle.commute_laws.specs.posix_laws
+pub use Rattle.commute_laws.specs.posix_spec
+pub use Rattle.posix_tables.specs.posix_types
+pub use Rattle.posix_tables.specs as posix_tables

@@ -1,9 +1,9 @@
 -- Tables in order: what is bound is open, what is open has a descriptor, and nothing is bound twice.
 use Rattle.std.specs.Prelude.{◌≡◌, ◌≢◌, ℕ, length, All, AllPairs, Option, Some, IsSome, slice_get}
 use Rattle.std.specs.Option.{option_flatten}
-use Rattle.posix_words.specs.declared.open.Description.{Description}
-use Rattle.posix_words.specs.declared.open.Binding.{Binding}
-use Rattle.posix_words.specs.Open.{description_number, descriptor_count, Tables}
+use Rattle.posix_tables.specs.declared.open.Description.{Description}
+use Rattle.posix_tables.specs.declared.open.Binding.{Binding}
+use Rattle.posix_tables.specs.Open.{description_number, descriptor_count, Tables}
 
 -- the description with a number
 abbrev pub description_at : Tables → ℕ → Option Description

@@ -2,12 +2,12 @@
 use Rattle.std.specs.Prelude.{◌≡◌, ℕ, ◌<◌, ◌^◌, ◌-◌, Bool, true, false, ◌&&◌, nat_lt, List, Option, Some, None, IsSome, get_or}
 use Rattle.posix_types.specs.declared.call.Who.{Who}
 use Rattle.posix_types.specs.declared.handle.Handle.{Handle}
-use Rattle.posix_words.specs.declared.open.Binding.{Binding}
-use Rattle.posix_words.specs.Open.{is_full, opened, Tables}
-use Rattle.open_files.specs.declared.faults.OpenFault.{OpenFault}
-use Rattle.open_files.specs.declared.faults.OpenFault.TheVariants.{Full, NotOpen, NoMemory}
-use Rattle.open_files.specs.declared.kept.Kept.{Kept}
-use Rattle.open_files.specs.declared.kept.Reference.{Reference}
+use Rattle.posix_tables.specs.declared.open.Binding.{Binding}
+use Rattle.posix_tables.specs.Open.{is_full, opened, Tables}
+use Rattle.open_files.specs.declared.files.faults.OpenFault.{OpenFault}
+use Rattle.open_files.specs.declared.files.faults.OpenFault.TheVariants.{Full, NotOpen, NoMemory}
+use Rattle.open_files.specs.declared.files.kept.Kept.{Kept}
+use Rattle.open_files.specs.declared.files.kept.Reference.{Reference}
 use Rattle.open_files.specs.Kept.{tables_of}
 use Rattle.open_files.specs.Order.{AreInOrder}
 

@@ -1,28 +1,21 @@
-//! Open files: descriptions, descriptors and handles.
+//! Open files: descriptions in a slab, descriptors and handles, as tables that the calls are stated by.
 //!
-//! An open description has its inode, its offset and how it was opened. It is kept in a slab, with
-//! its number: slab keys are used again, and numbers never are. Each of the 64 descriptors is free
-//! or refers to a description, and each handle of a caller is bound to a descriptor. Contracts see
-//! the tables that the calls are stated by (`Tables` of `posix_words`), in which the inode stands in
-//! the place of the node number, and whether there is room for one more.
+//! `open`, `dup`, `set_offset` and `close` change the tables just as the calls say, with inodes in
+//! the place of node numbers (`numbered_as`, whose laws are in `numbers`).
 //!
-//! The layer above may rely on this: `open`, `dup`, `set_offset` and `close` change the tables as
-//! the calls do, and a refusal leaves them; `open` and `dup` take the lowest free descriptor, and
-//! lack no memory after `reserve`; the tables are always in order (`AreInOrder`). No look-up is
-//! longer for all that was ever opened.
+//! - `files`: Open files: descriptions, descriptors and handles.
+//! - `numbers`: Open files, once with inodes and once with node numbers.
 //!
-//! Stands on `slab`, `posix_types` and `posix_words`.
+//! `new` takes memory for 64 descriptors; once room was made, one `open` or `dup` runs out of none. A
+//! description keeps its number beside its slab key; `find` answers the key for `set_offset`.
+//!
+//! Stands on `posix_types`, `posix_tables` and `commute_laws`.
 #![tactic(auto)]
 
-mod faults;
 mod files;
-mod found;
-mod kept;
-mod laws;
-mod lists;
-mod opened;
+mod numbers;
 
-pub use faults::OpenFault;
-pub use files::OpenFiles;
-pub use laws::{bindings_are_apart, known_handles_are_open};
-pub use opened::Opened;
+pub use files::{OpenFault, OpenFiles, Opened, bindings_are_apart, known_handles_are_open};
+pub use numbers::{
+    a_change_opens_its_own_node_alone, numbered_tables_change_alike, numbered_tables_say_the_same,
+};

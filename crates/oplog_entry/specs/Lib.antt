@@ -1,4 +1,7 @@
 pub mod Scans
-pub use Rattle.disk_lines.specs as disk_lines
-pub use Rattle.disk_lines.specs.disk_places as disk_places
-pub use Rattle.pm_lines.specs.pm_words as pm_words
+pub mod EntryBytes
+pub mod EntryLines
+pub mod LogLines
+pub use Rattle.image_model.specs as image_model
+pub use Rattle.layout_model.specs as layout_model
+pub use Rattle.pm_lines.specs.pm_model as pm_model

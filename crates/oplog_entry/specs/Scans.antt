@@ -1,11 +1,11 @@
 -- The entries that stand in the lines of a log.
 use Rattle.std.specs.Prelude.{ℕ, ◌+◌, List, [], length, slice_index_or, Option, option_map}
 use Rattle.std.specs.List.{filter_map, range_with_len}
-use Rattle.pm_lines.specs.pm_words.Images.{words_of}
-use Rattle.pm_lines.specs.pm_words.Parts.{Part}
-use Rattle.pm_lines.specs.pm_words.Words.{line_bytes}
-use Rattle.disk_lines.specs.declared.Draft.{Draft}
-use Rattle.disk_lines.specs.Entries.{decode_entry}
+use Rattle.pm_lines.specs.pm_model.Images.{words_of}
+use Rattle.pm_lines.specs.pm_model.Parts.{Part}
+use Rattle.pm_lines.specs.pm_model.Words.{line_bytes}
+use Rattle.layout_model.specs.declared.lines.Draft.{Draft}
+use Rattle.layout_model.specs.Entries.{decode_entry}
 
 -- the bytes of the line in a slot, of each word the newest candidate
 abbrev pub bytes_in : List Part → ℕ → List ℕ

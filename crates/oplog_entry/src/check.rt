@@ -1,6 +1,6 @@
 //! The check of an entry: FNV-1a with 32 bits.
 ghost use Rattle.std.specs.Prelude.{◌≡◌};
-ghost use Rattle.disk_lines.specs.Entries.{fnv_1a};
+ghost use Rattle.layout_model.specs.Entries.{fnv_1a};
 
 // Where the hash begins.
 const FNV_BASIS: u32 = 2_166_136_261;
@@ -10,7 +10,7 @@ const FNV_PRIME: u32 = 16_777_619;
 
 // The 32-bit FNV-1a hash of the bytes: for each byte the exclusive or with it, times the prime,
 // modulo 2^32.
-#[tactic(auto, unfolding(disk_lines::specs::Entries::fnv_1a_from))]
+#[tactic(auto, unfolding(layout_model::specs::Entries::fnv_1a_from))]
 pub(crate) fn fnv_1a(bytes: &[u8]) -> u32
     ensures { result ≡ fnv_1a bytes.now }
 {

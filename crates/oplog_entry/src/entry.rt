@@ -1,13 +1,13 @@
 //! An entry of the log as 64 bytes, and back.
 ghost use Rattle.std.specs.Prelude.{◌≡◌, ◌≢◌, ◌<◌, ◌^◌, ◌++◌, ℕ, List, true, Some, None};
-ghost use Rattle.disk_lines.specs.disk_places.Fields.{zeros};
-ghost use Rattle.disk_lines.specs.Entries.{is_draft, entry_body, encode_entry, decode_entry};
-ghost use Rattle.disk_lines.specs.EntryLaws.{FitsDraft, IsEntryLine};
-ghost use Rattle.disk_lines.specs.declared.Draft.{Draft};
+ghost use Rattle.layout_model.specs.Fields.{zeros};
+ghost use Rattle.layout_model.specs.Entries.{is_draft, entry_body, encode_entry, decode_entry};
+ghost use Rattle.layout_model.specs.EntryLaws.{FitsDraft, IsEntryLine};
+ghost use Rattle.layout_model.specs.declared.lines.Draft.{Draft};
 
 use crate::check::fnv_1a;
-use disk_lines::Draft;
-use line_fields::{put_u16, put_u32, put_u64, u16_at, u32_at, u64_at};
+use image_layout::{put_u16, put_u32, put_u64, u16_at, u32_at, u64_at};
+use layout_model::Draft;
 
 // The kind of the one sort of entry, and the version of its spelling.
 const KIND: u8 = 1;
@@ -30,7 +30,7 @@ fn is_draft(draft: &Draft) -> bool
 }
 
 // The line of an entry, its check still 0.
-#[tactic(auto, unfolding(disk_lines::specs::Entries::entry_body))]
+#[tactic(auto, unfolding(layout_model::specs::Entries::entry_body))]
 fn unchecked(draft: &Draft, seq: u64) -> [u8; 64]
     ensures { result ≡ zeros 4 ++ entry_body draft.now seq }
 {
@@ -51,7 +51,7 @@ fn unchecked(draft: &Draft, seq: u64) -> [u8; 64]
 }
 
 /// The line that stands for the draft with this sequence number.
-#[tactic(auto, unfolding(disk_lines::specs::Entries::encode_entry))]
+#[tactic(auto, unfolding(layout_model::specs::Entries::encode_entry))]
 pub fn encode(draft: &Draft, seq: u64) -> [u8; 64]
     ensures { result ≡ encode_entry draft.now seq }
 {
@@ -63,7 +63,7 @@ pub fn encode(draft: &Draft, seq: u64) -> [u8; 64]
 
 /// The draft that the line stands for with this sequence number; None exactly where it is no entry
 /// with that number.
-#[tactic(auto, unfolding(disk_lines::specs::Entries::decode_entry))]
+#[tactic(auto, unfolding(layout_model::specs::Entries::decode_entry))]
 pub fn decode(bytes: &[u8; 64], seq: u64) -> Option<Draft>
     ensures { result ≡ decode_entry bytes.now seq }
 {

@@ -11,13 +11,16 @@
 //! of the log has the number of the log's base plus the slot, so entries of an earlier lap are no
 //! entries now. Neither `encode` nor `decode` takes memory.
 //!
-//! Stands on `disk_places`, `disk_lines`, `line_fields` and, for the lines of a log, `pm_lines`.
+//! What an append leaves in its line at any moment is said here too (`Holds`), so that logs of one thread and of
+//! many speak of one thing. Stands on `layout_model`, `image_model`, `image_layout` and, for the lines of a log, `pm_lines`.
 #![tactic(auto)]
 
 mod check;
+mod claims;
 mod entry;
 mod scanning;
 
-pub use disk_lines::Draft;
+pub use claims::{Full, Mark};
 pub use entry::{decode, encode, entries_are_exact};
+pub use layout_model::Draft;
 pub use scanning::scan;

@@ -1,12 +1,12 @@
 //! The entries that are valid in the lines of a log.
 ghost use Rattle.std.specs.Prelude.{◌≡◌, ◌+◌, ◌<◌, ◌^◌, length, IfOk};
-ghost use Rattle.pm_lines.specs.pm_words.Images.{words_of};
-ghost use Rattle.pm_lines.specs.pm_words.Words.{line_bytes};
+ghost use Rattle.pm_lines.specs.pm_model.Images.{words_of};
+ghost use Rattle.pm_lines.specs.pm_model.Words.{line_bytes};
 ghost use Rattle.oplog_entry.specs.Scans.{entries_in};
 
 use crate::entry::decode;
-use disk_lines::Draft;
-use line_fields::put_u64;
+use image_layout::put_u64;
+use layout_model::Draft;
 use pm_lines::Line;
 use std::alloc::{AllocError, Global};
 

@@ -6,24 +6,25 @@ use mathlib.Core.Option.{none, some}
 use mir.Val.{bool_byte}
 use mathlib.Core.Option as maybe
 use Rattle.atomic_table.specs.Table.{Allows, gives, homes_after, Joins, keeps, Me, opening, Splits, State, step, takes}
-use Rattle.disk_rules.specs.pm_words.Parts.{Part}
-use Rattle.disk_lines.specs.declared.Draft.{Draft}
+use Rattle.image_model.specs.pm_model.Parts.{Part}
+use Rattle.layout_model.specs.declared.lines.Draft.{Draft}
 use Rattle.oplog_tail.specs.declared.views.Claim.{Claim}
 use Rattle.oplog_tail.specs.declared.views.Knows.{Knows}
-use Rattle.oplog_tail.specs.declared.views.Mark.TheVariants.{Lost, Written}
+use Rattle.oplog_entry.specs.declared.claims.Mark.TheVariants.{Lost, Written}
 use Rattle.oplog_tail.specs.declared.views.Slot.{Slot}
 use Rattle.oplog_tail.specs.declared.views.Slot.TheVariants.{Filled, Fresh}
 use Rattle.oplog_tail.specs.declared.views.Start.{Start}
-use Rattle.oplog_tail.specs.EntryLines.{Holds}
+use Rattle.oplog_entry.specs.EntryLines.{Holds}
 use Rattle.oplog_tail.specs.Views.{claims_of, fulls_of, joined, newcomer, parts_of, settled, with_full, with_held, written_of, number_of}
-use Rattle.oplog_tail.specs.Rule.{Kept, line_at, Rule}
+use Rattle.oplog_tail.specs.Rule.{Kept, Rule}
+use Rattle.oplog_entry.specs.LogLines.{line_at}
 use Rattle.oplog_tail.specs.Steps.{claimed, mark_of, marked}
 use Rattle.oplog_tail.proofs.Claiming.{below_tail, claims_full, claims_line}
 use Rattle.oplog_tail.proofs.Counts.{written_of-le, written_one}
 use Rattle.oplog_tail.proofs.Marking.{marks_line}
 use Rattle.oplog_tail.proofs.Seating.{deals, gathers}
-use Rattle.view_sums.specs.Sums.{sum_at, sum_le}
-use Rattle.view_sums.specs.Numbers.{with_of_member}
+use Rattle.list_laws.specs.Sums.{sum_at, sum_le}
+use Rattle.list_laws.specs.Numbers.{with_of_member}
 
 -- the tail is at most the number of lines and seats, so it does not wrap
 pub tail_most : (seats base : ℕ) (start : List Part) (tail marks : ℕ) (homes : List (maybe.Option Slot)) (views : List Knows) → Rule seats base start tail marks homes views → tail ≤ length start + seats

@@ -6,16 +6,17 @@ use mathlib.Core.Option.{none, some}
 use mathlib.Core.Option as maybe
 use lib.ListN.{get_elem?}
 use Rattle.atomic_table.proofs.Lists.{at_set, set_else, set_here}
-use Rattle.disk_rules.specs.pm_words.Parts.{Part}
+use Rattle.image_model.specs.pm_model.Parts.{Part}
 use Rattle.oplog_tail.specs.declared.views.Claim.{Claim}
 use Rattle.oplog_tail.specs.declared.views.Knows.{Knows}
 use Rattle.oplog_tail.specs.declared.views.Opened.{Opened}
 use Rattle.oplog_tail.specs.declared.views.Slot.{Slot}
 use Rattle.oplog_tail.specs.Views.{claims_of, claims_with, fulls_of, held_with, parts_of, times_in, with_full, with_held, written_of, number_of}
-use Rattle.oplog_tail.specs.Rule.{IsHeld, IsKept, IsView, line_at, Rule}
+use Rattle.oplog_tail.specs.Rule.{IsHeld, IsKept, IsView, Rule}
+use Rattle.oplog_entry.specs.LogLines.{line_at}
 use Rattle.oplog_tail.proofs.Counts.{claims_of-full, claims_of-held, times_in-full, times_in-held}
-use Rattle.view_sums.specs.Sums.{sum_at, sum_set}
-use Rattle.view_sums.specs.Numbers.{one_if, one_if-same, once_more, below_of_once, once_past, with_of_member}
+use Rattle.list_laws.specs.Sums.{sum_at, sum_set}
+use Rattle.list_laws.specs.Numbers.{one_if, one_if-same, once_more, below_of_once, once_past, with_of_member}
 
 -- A view stays one where the slots of its own numbers stay.
 module _ (base : ℕ) (start : List Part) (homes homes' : List (maybe.Option Slot)) (n : ℕ) (same : (k : ℕ) → k ≢ n → get_elem? homes' k ≡ get_elem? homes k) where

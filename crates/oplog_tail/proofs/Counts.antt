@@ -3,14 +3,14 @@ use Rattle.std.proofs.Common.{◌≡◌, ℕ, ◌+◌, ◌≤◌, cond, eqb, [],
 use Rattle.std.specs.Prelude.{Option, Some, None}
 use Rattle.std.proofs.lemmas.Bool.Decides.{nat_tests}
 use Rattle.std.proofs.lemmas.List.Sums.{count_by-le-length, sum_by-cons, sum_by-append}
-use Rattle.disk_rules.specs.pm_words.Parts.{Part}
-use Rattle.disk_lines.specs.declared.Draft.{Draft}
+use Rattle.image_model.specs.pm_model.Parts.{Part}
+use Rattle.layout_model.specs.declared.lines.Draft.{Draft}
 use Rattle.oplog_tail.specs.declared.views.Claim.{Claim}
 use Rattle.oplog_tail.specs.declared.views.Knows.{Knows}
-use Rattle.oplog_tail.specs.declared.views.Mark.{Mark}
+use Rattle.oplog_entry.specs.declared.claims.Mark.{Mark}
 use Rattle.oplog_tail.specs.declared.views.Opened.{Opened}
 use Rattle.oplog_tail.specs.Views.{claim, claims_of, held_count, held_with, is_written, joined, settled, times_in, with_full, with_held, written_of, number_of}
-use Rattle.view_sums.specs.Numbers.{one_if, count_with-append, count_with-one}
+use Rattle.list_laws.specs.Numbers.{one_if, count_with-append, count_with-one}
 
 -- one number more
 pub times_in-held : (x n : ℕ) (v : Knows) (line : Part) → v.held ≡ None → times_in x (with_held v n line) ≡ times_in x v + one_if n x

@@ -5,20 +5,21 @@ use Rattle.std.proofs.lemmas.Bool.{cases_lt}
 use mathlib.Core.Option.{some}
 use lib.ListN.{get_elem?}
 use Rattle.atomic_table.specs.Table.{Final, Seen, State}
-use Rattle.disk_rules.specs.pm_words.Parts.{Part}
+use Rattle.image_model.specs.pm_model.Parts.{Part}
 use Rattle.oplog_tail.specs.declared.views.Claim.{Claim}
 use Rattle.oplog_tail.specs.declared.views.Knows.{Knows}
 use Rattle.oplog_tail.specs.declared.views.Slot.{Slot}
 use Rattle.oplog_tail.specs.declared.views.Slot.TheVariants.{Filled, Fresh}
 use Rattle.oplog_tail.specs.declared.views.Start.{Start}
-use Rattle.oplog_tail.specs.EntryLines.{Holds, IsSingle}
+use Rattle.oplog_entry.specs.EntryLines.{Holds, IsSingle}
 use Rattle.oplog_tail.specs.Views.{claims_with, held_with, parts_of, times, times_in, number_of}
-use Rattle.oplog_tail.specs.Rule.{IsView, Kept, line_at, Rule}
+use Rattle.oplog_tail.specs.Rule.{IsView, Kept, Rule}
+use Rattle.oplog_entry.specs.LogLines.{line_at}
 use Rattle.oplog_tail.proofs.Allowing.{tail_most}
 use Rattle.oplog_tail.proofs.Counts.{times_in-le}
 use Rattle.oplog_tail.proofs.Slots.{within_of_at}
-use Rattle.view_sums.specs.Sums.{sum_one, sum_two}
-use Rattle.view_sums.specs.Numbers.{once_below, once_of_below, member_of_with}
+use Rattle.list_laws.specs.Sums.{sum_one, sum_two}
+use Rattle.list_laws.specs.Numbers.{once_below, once_of_below, member_of_with}
 
 -- The seat's numbers are all that were claimed. The slot of a claim has its line with its entry, and the other slots have the
 -- lines that were there at first.

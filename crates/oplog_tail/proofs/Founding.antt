@@ -5,16 +5,17 @@ use mathlib.Core.Option.{some, some-injective, some-ne-none}
 use lib.ListN.{get_elem?}
 use Rattle.atomic_table.specs.Table.{opening}
 use Rattle.atomic_table.proofs.Lists.{at_index, at_map}
-use Rattle.disk_rules.specs.pm_words.Parts.{Part}
+use Rattle.image_model.specs.pm_model.Parts.{Part}
 use Rattle.oplog_tail.specs.declared.views.Knows.{Knows}
 use Rattle.oplog_tail.specs.declared.views.Slot.{Slot}
 use Rattle.oplog_tail.specs.declared.views.Slot.TheVariants.{Fresh}
 use Rattle.oplog_tail.specs.declared.views.Start.{Start}
-use Rattle.oplog_tail.specs.EntryLines.{IsSingle}
+use Rattle.oplog_entry.specs.EntryLines.{IsSingle}
 use Rattle.oplog_tail.specs.Views.{newcomer}
-use Rattle.oplog_tail.specs.Rule.{first_view, IsView, Kept, line_at}
+use Rattle.oplog_tail.specs.Rule.{first_view, IsView, Kept}
+use Rattle.oplog_entry.specs.LogLines.{line_at}
 use Rattle.oplog_tail.proofs.Seating.{is_newcomer}
-use Rattle.view_sums.specs.Numbers.{once_past}
+use Rattle.list_laws.specs.Numbers.{once_past}
 
 pub opens_kept : (key : Start) (xs : List Slot) → xs ≡ map Fresh key.lines.value.items → key.seats ≤ 9 → length key.lines.value.items ≤ 4096
     → ((n : ℕ) → n < length key.lines.value.items → IsSingle (line_at key.lines.value.items n).cells) → Kept key (opening (0 ∷ 0 ∷ []) xs (first_view key))

@@ -9,29 +9,30 @@ use Rattle.std.proofs.lemmas.List.Elements.{Contains-append_left, Contains-appen
 use Rattle.std.proofs.lemmas.List.Sums.{get_or-le-sum_by, sum_by-cons}
 use mathlib.Core.Option.{some}
 use lib.ListN.{get_elem?}
-use Rattle.disk_rules.specs.pm_words.declared.Cell.{Cell}
-use Rattle.disk_rules.specs.pm_words.Cells.{cell}
-use Rattle.disk_rules.specs.pm_words.CellLaws.{single-newest}
-use Rattle.disk_rules.specs.pm_words.Parts.{Part}
-use Rattle.disk_lines.specs.declared.Draft.{Draft}
-use Rattle.disk_rules.specs.LogRule.{cells_of_line, HoldsClaims, HoldsEntry, IsAsAtFirst}
+use Rattle.image_model.specs.pm_model.declared.Cell.{Cell}
+use Rattle.image_model.specs.pm_model.Cells.{cell}
+use Rattle.image_model.specs.pm_model.CellLaws.{single-newest}
+use Rattle.image_model.specs.pm_model.Parts.{Part}
+use Rattle.layout_model.specs.declared.lines.Draft.{Draft}
+use Rattle.image_model.specs.LogRule.{cells_of_line, HoldsClaims, HoldsEntry, IsAsAtFirst}
 use Rattle.oplog_tail.specs.declared.views.Claim.{Claim}
-use Rattle.oplog_tail.specs.declared.views.Full.{Full}
+use Rattle.oplog_entry.specs.declared.claims.Full.{Full}
 use Rattle.oplog_tail.specs.declared.views.Knows.{Knows}
-use Rattle.oplog_tail.specs.declared.views.Mark.{Mark}
+use Rattle.oplog_entry.specs.declared.claims.Mark.{Mark}
 use Rattle.oplog_tail.specs.declared.views.Slot.{Slot}
 use Rattle.oplog_tail.specs.declared.views.Slot.TheVariants.{Filled, Fresh, Out}
 use Rattle.oplog_tail.specs.declared.views.Start.{Start}
-use Rattle.oplog_tail.specs.EntryLines.{Holds, IsSingle}
+use Rattle.oplog_entry.specs.EntryLines.{Holds, IsSingle}
 use Rattle.oplog_tail.specs.Views.{claims_with, held_with, times, number_of}
-use Rattle.oplog_tail.specs.Rule.{line_at}
+use Rattle.oplog_entry.specs.LogLines.{line_at}
 use Rattle.oplog_tail.specs.Seats.{pairs_of, SeatView}
 use Rattle.oplog_tail.specs.Logs.{capacity, LogView}
-use Rattle.oplog_tail.specs.Closing.{AllWritten, AreNumbered, cells_of, claims_of_all, first_words, full_number, HasLine, LeavesLines, line_in, seat_with, AreFirst, claim_with}
+use Rattle.oplog_tail.specs.Closing.{AllWritten, AreNumbered, claims_of_all, first_words, full_number, HasLine, LeavesLines, line_in, seat_with, AreFirst, claim_with}
+use Rattle.oplog_entry.specs.LogLines.{cells_of}
 use Rattle.oplog_tail.proofs.Ends.{IsEnd}
 use Rattle.oplog_tail.proofs.Gathering.{full_numbers}
 use Rattle.oplog_tail.proofs.Slots.{get_of_at}
-use Rattle.view_sums.specs.Numbers.{with_of_member, member_of_with, count_with-append, count_with, once_below, once_past, below_of_once}
+use Rattle.list_laws.specs.Numbers.{with_of_member, member_of_with, count_with-append, count_with, once_below, once_past, below_of_once}
 
 -- what no element has is not counted
 none_counted : {A : Type 0} (f : A → ℕ) (x : ℕ) (l : List A) → ((a : A) → Contains l a → f a ≢ x) → count_with f x l ≡ 0

@@ -3,7 +3,6 @@ mod Claiming
 mod Marking
 mod Seating
 pub mod Allowing
-pub mod EntryWords
 pub mod Resting
 pub mod Founding
 pub mod Ends

@@ -6,20 +6,21 @@ use mathlib.Core.Option.{none, some}
 use mathlib.Core.Option as maybe
 use lib.ListN.{get_elem?}
 use Rattle.atomic_table.proofs.Lists.{at_set, set_else, set_here}
-use Rattle.disk_rules.specs.pm_words.Parts.{Part}
-use Rattle.disk_lines.specs.declared.Draft.{Draft}
+use Rattle.image_model.specs.pm_model.Parts.{Part}
+use Rattle.layout_model.specs.declared.lines.Draft.{Draft}
 use Rattle.oplog_tail.specs.declared.views.Claim.{Claim}
 use Rattle.oplog_tail.specs.declared.views.Knows.{Knows}
-use Rattle.oplog_tail.specs.declared.views.Mark.{Mark}
+use Rattle.oplog_entry.specs.declared.claims.Mark.{Mark}
 use Rattle.oplog_tail.specs.declared.views.Slot.{Slot}
 use Rattle.oplog_tail.specs.declared.views.Slot.TheVariants.{Filled}
-use Rattle.oplog_tail.specs.EntryLines.{Holds}
+use Rattle.oplog_entry.specs.EntryLines.{Holds}
 use Rattle.oplog_tail.specs.Views.{claim, claims_of, claims_with, fulls_of, held_with, parts_of, settled, times_in, written_of, number_of}
-use Rattle.oplog_tail.specs.Rule.{IsHeld, IsKept, IsView, line_at, Rule}
+use Rattle.oplog_tail.specs.Rule.{IsHeld, IsKept, IsView, Rule}
+use Rattle.oplog_entry.specs.LogLines.{line_at}
 use Rattle.oplog_tail.proofs.Claiming.{below_tail, same_kept, same_view}
 use Rattle.oplog_tail.proofs.Counts.{claims_of-settled, times_in-settled, written_of-settled, written_one}
-use Rattle.view_sums.specs.Sums.{sum_at, sum_set, sum_two}
-use Rattle.view_sums.specs.Numbers.{one_if-same, once-le, with_of_member}
+use Rattle.list_laws.specs.Sums.{sum_at, sum_set, sum_two}
+use Rattle.list_laws.specs.Numbers.{one_if-same, once-le, with_of_member}
 
 pub marks_line : (seats base : ℕ) (start : List Part) (tail marks : ℕ) (homes : List (maybe.Option Slot)) (views : List Knows) (id : ℕ) (v : Knows) (n : ℕ) (before line : Part) (d : Draft) (mark : Mark)
     → Rule seats base start tail marks homes views → get_elem? views id ≡ some v → v.held ≡ Some (record { number = n; line = before })

@@ -6,11 +6,11 @@ use Rattle.std.proofs.lemmas.Bool.{cases_lt}
 use Rattle.std.proofs.lemmas.List.{get_or_append_left, map-append}
 use Rattle.std.proofs.lemmas.List.Elements.{All-map, Contains-get_or, Contains-push_cases}
 use Rattle.atomic_table.specs.Table.{Me}
-use Rattle.disk_lines.specs.declared.Draft.{Draft}
+use Rattle.layout_model.specs.declared.lines.Draft.{Draft}
 use Rattle.oplog_tail.specs.declared.views.Claim.{Claim}
-use Rattle.oplog_tail.specs.declared.views.Full.{Full}
+use Rattle.oplog_entry.specs.declared.claims.Full.{Full}
 use Rattle.oplog_tail.specs.declared.views.Knows.{Knows}
-use Rattle.oplog_tail.specs.declared.views.Mark.{Mark}
+use Rattle.oplog_entry.specs.declared.claims.Mark.{Mark}
 use Rattle.oplog_tail.specs.declared.views.Slot.{Slot}
 use Rattle.oplog_tail.specs.Seats.{AreClaims, IsResting}
 use Rattle.oplog_tail.specs.Steps.{TakesLine}

@@ -6,14 +6,14 @@ use mathlib.Core.Option.{none, some}
 use mathlib.Core.Option as maybe
 use lib.ListN.{get_elem?}
 use Rattle.atomic_table.proofs.Lists.{at_set, at_snoc, set_else}
-use Rattle.disk_rules.specs.pm_words.Parts.{Part}
+use Rattle.image_model.specs.pm_model.Parts.{Part}
 use Rattle.oplog_tail.specs.declared.views.Claim.{Claim}
 use Rattle.oplog_tail.specs.declared.views.Knows.{Knows}
 use Rattle.oplog_tail.specs.declared.views.Slot.{Slot}
 use Rattle.oplog_tail.specs.Views.{claims_of, fulls_of, joined, newcomer, parts_of, times_in, written_of}
 use Rattle.oplog_tail.specs.Rule.{IsKept, IsView, Rule}
 use Rattle.oplog_tail.proofs.Counts.{claims_of-joined, times_in-joined, written_of-joined}
-use Rattle.view_sums.specs.Sums.{sum_set, sum_split}
+use Rattle.list_laws.specs.Sums.{sum_set, sum_split}
 
 -- a seat that claimed nothing
 pub is_newcomer : (base : ℕ) (start : List Part) (homes : List (maybe.Option Slot)) (parts : ℕ) → IsView base start homes (newcomer parts)

@@ -1,11 +1,11 @@
 -- What an append answers, and what it leaves of its seat.
 use Rattle.std.specs.Prelude.{◌≡◌, ◌≤◌, ◌<◌, ℕ, true, false, None}
-use Rattle.disk_rules.specs.pm_words.Powers.{is_on, Supply}
-use Rattle.disk_lines.specs.declared.Draft.{Draft}
+use Rattle.image_model.specs.pm_model.Powers.{is_on, Supply}
+use Rattle.layout_model.specs.declared.lines.Draft.{Draft}
 use Rattle.oplog_tail.specs.declared.appends.Appended.{Appended}
 use Rattle.oplog_tail.specs.declared.appends.Appended.TheVariants.{Done, PowerLost}
 use Rattle.oplog_tail.specs.declared.appends.Appended.TheVariants as answers
-use Rattle.oplog_tail.specs.declared.views.Mark.TheVariants.{Lost, Written}
+use Rattle.oplog_entry.specs.declared.claims.Mark.TheVariants.{Lost, Written}
 use Rattle.oplog_tail.specs.Seats.{found_full, SeatView, with_claim}
 
 -- Done, where the power lasts: the seat has one claim more, the one that the receipt shows, and it is written.

@@ -1,20 +1,20 @@
 -- What the lines of a log are once it is closed, by the claims of its seats.
 use Rattle.std.specs.Prelude.{◌≡◌, ◌≤◌, ◌<◌, ℕ, ◌+◌, Contains, flat_map, List, [], ◌∷◌, length, map, sum_by, Option, Some, None}
-use Rattle.disk_rules.specs.pm_words.declared.Cell.{Cell}
-use Rattle.disk_rules.specs.pm_words.Parts.{Part}
-use Rattle.disk_rules.specs.pm_words.Words.{Words}
-use Rattle.disk_rules.specs.LogRule.{words_of_line}
+use Rattle.image_model.specs.pm_model.declared.Cell.{Cell}
+use Rattle.image_model.specs.pm_model.Parts.{Part}
+use Rattle.image_model.specs.pm_model.Words.{Words}
+use Rattle.image_model.specs.LogRule.{words_of_line}
 use Rattle.oplog_tail.specs.declared.views.Claim.{Claim}
-use Rattle.oplog_tail.specs.declared.views.Full.{Full}
-use Rattle.oplog_tail.specs.declared.views.Mark.TheVariants.{Written}
+use Rattle.oplog_entry.specs.declared.claims.Full.{Full}
+use Rattle.oplog_entry.specs.declared.claims.Mark.TheVariants.{Written}
 use Rattle.oplog_tail.specs.declared.views.Slot.{Slot}
 use Rattle.oplog_tail.specs.declared.views.Slot.TheVariants.{Filled, Fresh, Out}
-use Rattle.oplog_tail.specs.EntryLines.{Holds}
+use Rattle.oplog_entry.specs.EntryLines.{Holds}
 use Rattle.oplog_tail.specs.Views.{claims_with, times}
-use Rattle.oplog_tail.specs.Rule.{line_at}
+use Rattle.oplog_entry.specs.LogLines.{line_at}
 use Rattle.oplog_tail.specs.Seats.{SeatView}
 use Rattle.oplog_tail.specs.Logs.{capacity, LogView}
-use Rattle.view_sums.specs.Numbers.{once_below}
+use Rattle.list_laws.specs.Numbers.{once_below}
 
 -- the claims of all seats
 abbrev pub claims_of_all : List SeatView → List Claim
@@ -72,9 +72,6 @@ pub record LeavesLines (log : LogView) (claims : List Claim) (lines : List Part)
 abbrev pub AllWritten : List Claim → Type 0
 AllWritten claims = (c : Claim) → Contains claims c → c.mark ≡ Written
 
--- the cells of each line, and the words that a line had at first
-abbrev pub cells_of : List Part → List (List Cell)
-cells_of lines = map (λ line. line.cells) lines
-
+-- the words that a line had at first
 abbrev pub first_words : LogView → ℕ → Words
 first_words log n = words_of_line (line_at log.lines n).cells

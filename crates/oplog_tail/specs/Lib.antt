@@ -1,5 +1,3 @@
-pub mod EntryBytes
-pub mod EntryLines
 pub mod Views
 pub mod Rule
 pub mod Steps
@@ -7,7 +5,7 @@ pub mod Seats
 pub mod Logs
 pub mod Answers
 pub mod Closing
-pub use Rattle.disk_rules.specs as disk_rules
-pub use Rattle.disk_lines.specs as disk_lines
-pub use Rattle.disk_lines.specs.disk_places as disk_places
-pub use Rattle.pm_lines.specs.pm_words as pm_words
+pub use Rattle.image_model.specs as image_model
+pub use Rattle.layout_model.specs as layout_model
+pub use Rattle.pm_lines.specs.pm_model as pm_model
+pub use Rattle.oplog_entry.specs as oplog_entry

@@ -5,7 +5,7 @@ use Rattle.std.specs.Prelude.{◌≡◌, ◌≤◌, ◌<◌, ℕ, ◌+◌, ◌-�
 use mathlib.Core.Option.{some, none}
 use mathlib.Core.Option as maybe
 use lib.ListN.{get_elem?}
-use Rattle.disk_rules.specs.pm_words.Parts.{Part}
+use Rattle.image_model.specs.pm_model.Parts.{Part}
 use Rattle.atomic_table.specs.Table.{State}
 use Rattle.oplog_tail.specs.declared.views.Claim.{Claim}
 use Rattle.oplog_tail.specs.declared.views.Knows.{Knows}
@@ -13,13 +13,10 @@ use Rattle.oplog_tail.specs.declared.views.Opened.{Opened}
 use Rattle.oplog_tail.specs.declared.views.Slot.{Slot}
 use Rattle.oplog_tail.specs.declared.views.Slot.TheVariants.{Filled, Fresh}
 use Rattle.oplog_tail.specs.declared.views.Start.{Start}
-use Rattle.oplog_tail.specs.EntryLines.{Holds, IsSingle}
+use Rattle.oplog_entry.specs.EntryLines.{Holds, IsSingle}
+use Rattle.oplog_entry.specs.LogLines.{line_at}
 use Rattle.oplog_tail.specs.Views.{claims_of, fulls_of, newcomer, parts_of, times_in, written_of}
-use Rattle.view_sums.specs.Numbers.{once_below}
-
--- line n of those that the log was opened with
-abbrev pub line_at : List Part → ℕ → Part
-line_at lines n = slice_index_or lines n (record { place = 0; cells = [] })
+use Rattle.list_laws.specs.Numbers.{once_below}
 
 -- The line of a claim is at home, with the claim's entry, and holds what the claim's mark says.
 pub record IsKept (base : ℕ) (start : List Part) (homes : List (maybe.Option Slot)) (c : Claim) : Type 0 where

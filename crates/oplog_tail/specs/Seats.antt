@@ -3,11 +3,11 @@ use Rattle.std.specs.Prelude.{◌≡◌, ◌≤◌, ◌<◌, ℕ, Contains, List
 use Rattle.std.specs.List.Sorted.{IsStrictlyIncreasing}
 use Rattle.atomic_table.specs.Seated.{TableId}
 use Rattle.atomic_table.specs.Table.{Me}
-use Rattle.disk_lines.specs.declared.Draft.{Draft}
+use Rattle.layout_model.specs.declared.lines.Draft.{Draft}
 use Rattle.oplog_tail.specs.declared.views.Claim.{Claim}
-use Rattle.oplog_tail.specs.declared.views.Full.{Full}
+use Rattle.oplog_entry.specs.declared.claims.Full.{Full}
 use Rattle.oplog_tail.specs.declared.views.Knows.{Knows}
-use Rattle.oplog_tail.specs.declared.views.Mark.{Mark}
+use Rattle.oplog_entry.specs.declared.claims.Mark.{Mark}
 use Rattle.oplog_tail.specs.declared.views.Slot.{Slot}
 use Rattle.oplog_tail.specs.Views.{claim}
 

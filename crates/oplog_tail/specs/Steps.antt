@@ -1,14 +1,14 @@
 -- What each step of a seat tells it.
 use Rattle.std.specs.Prelude.{◌≡◌, ◌≤◌, ◌<◌, ◌==◌, ℕ, if◌then◌else◌, Contains, List, [], ◌∷◌}
-use Rattle.disk_rules.specs.pm_words.Parts.{Part}
+use Rattle.image_model.specs.pm_model.Parts.{Part}
 use Rattle.atomic_table.specs.Table.{Me, rest, Step}
 use Rattle.oplog_tail.specs.declared.views.Claim.{Claim}
 use Rattle.oplog_tail.specs.declared.views.Knows.{Knows}
-use Rattle.oplog_tail.specs.declared.views.Mark.{Mark}
-use Rattle.oplog_tail.specs.declared.views.Mark.TheVariants.{Lost, Written}
+use Rattle.oplog_entry.specs.declared.claims.Mark.{Mark}
+use Rattle.oplog_entry.specs.declared.claims.Mark.TheVariants.{Lost, Written}
 use Rattle.oplog_tail.specs.declared.views.Slot.{Slot}
 use Rattle.oplog_tail.specs.declared.views.Slot.TheVariants.{Filled, Fresh, Out}
-use Rattle.oplog_tail.specs.EntryLines.{IsSingle}
+use Rattle.oplog_entry.specs.EntryLines.{IsSingle}
 use Rattle.oplog_tail.specs.Views.{claims_of, settled, with_full, with_held}
 
 -- The number n lies below the number of lines. It is above all that the seat claimed before, of which there are no more than n,

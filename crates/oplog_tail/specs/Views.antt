@@ -1,12 +1,12 @@
 -- What seats know of the log, counted.
 use Rattle.std.specs.Prelude.{ℕ, ◌+◌, ◌==◌, Bool, true, false, if◌then◌else◌, List, [], ◌∷◌, ◌++◌, length, count_by, Option, Some, None}
-use Rattle.view_sums.specs.Numbers.{count_with}
-use Rattle.disk_rules.specs.pm_words.Parts.{Part}
-use Rattle.disk_lines.specs.declared.Draft.{Draft}
+use Rattle.list_laws.specs.Numbers.{count_with}
+use Rattle.image_model.specs.pm_model.Parts.{Part}
+use Rattle.layout_model.specs.declared.lines.Draft.{Draft}
 use Rattle.oplog_tail.specs.declared.views.Claim.{Claim}
 use Rattle.oplog_tail.specs.declared.views.Knows.{Knows}
-use Rattle.oplog_tail.specs.declared.views.Mark.{Mark}
-use Rattle.oplog_tail.specs.declared.views.Mark.TheVariants.{Lost, Written}
+use Rattle.oplog_entry.specs.declared.claims.Mark.{Mark}
+use Rattle.oplog_entry.specs.declared.claims.Mark.TheVariants.{Lost, Written}
 use Rattle.oplog_tail.specs.declared.views.Opened.{Opened}
 
 abbrev pub is_written : Mark → Bool

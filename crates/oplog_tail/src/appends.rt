@@ -2,10 +2,10 @@
 ghost use Rattle.std.specs.Prelude.{◌≡◌, ◌+◌, ◌≤◌, ◌<◌, ◌^◌, [], ◌∷◌, ℕ, if◌then◌else◌};
 ghost use mathlib.Core.Option.{none};
 ghost use Rattle.atomic_table.specs.Table.{step};
-ghost use Rattle.disk_rules.specs.pm_words.Parts.{Part};
-ghost use Rattle.disk_rules.specs.pm_words.Powers.{is_on, Steps};
+ghost use Rattle.image_model.specs.pm_model.Parts.{Part};
+ghost use Rattle.image_model.specs.pm_model.Powers.{is_on, Steps};
 ghost use Rattle.oplog_tail.specs.Answers.{Answers};
-ghost use Rattle.oplog_tail.specs.EntryLines.{IsSingle};
+ghost use Rattle.oplog_entry.specs.EntryLines.{IsSingle};
 ghost use Rattle.oplog_tail.specs.Logs.{capacity, IsSeatOf};
 ghost use Rattle.oplog_tail.specs.Steps.{claimed};
 ghost use Rattle.oplog_tail.specs.Views.{settled};
@@ -14,9 +14,10 @@ ghost use Rattle.oplog_tail.specs.declared.views.Opened.{Opened};
 use crate::logs::OpLog;
 use crate::seats::LogSeat;
 use crate::table::{Claims, LogPlace, LogShared, Marks};
-use crate::views::{Full, Mark, Slot};
+use crate::views::Slot;
 use crate::writing::write_entry;
-use disk_lines::Draft;
+use layout_model::Draft;
+use oplog_entry::{Full, Mark};
 use pm_lines::{Line, Power};
 
 /// What shows that an entry stands whole and durable in its slot. Only an append makes one.

@@ -11,7 +11,10 @@
 //! each word as at first, alone or with the entry's word as the newer candidate; and each line that
 //! nobody claimed is as at first. Where no append lost its power, the log holds its claims.
 //!
-//! Stands on `pm_lines`, `oplog_entry`, `disk_rules` and the kit's `atomic_table`.
+//! The lines that it was opened with are kept in proofs alone. A `Done` has power left, so an entry can be
+//! whole and its append still answer PowerLost.
+//!
+//! Stands on `pm_lines`, `oplog_entry`, `image_model` and the kit's `atomic_table`.
 #![tactic(auto)]
 
 mod appends;
@@ -25,8 +28,8 @@ mod writing;
 
 pub use appends::{Appended, Receipt};
 pub use closing::claims_have_the_first_numbers;
-pub use disk_lines::Draft;
+pub use layout_model::Draft;
 pub use logs::OpLog;
-pub use oplog_entry::{encode, scan};
+pub use oplog_entry::{Full, Mark, encode, scan};
 pub use seats::LogSeat;
-pub use views::{Claim, Full, Mark};
+pub use views::Claim;

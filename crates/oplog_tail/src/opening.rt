@@ -1,8 +1,8 @@
 //! How a log is opened: its lines go into the slots of a table, and its seats are dealt.
 ghost use Rattle.std.specs.Prelude.{◌≡◌, ◌≤◌, ◌<◌, ◌^◌, ℕ, [], length, map, replicate, IfOk};
-ghost use Rattle.oplog_tail.specs.EntryLines.{IsSingle};
+ghost use Rattle.oplog_entry.specs.EntryLines.{IsSingle};
 ghost use Rattle.oplog_tail.specs.Logs.{at_first, fresh_seat};
-ghost use Rattle.oplog_tail.specs.Rule.{line_at};
+ghost use Rattle.oplog_entry.specs.LogLines.{line_at};
 ghost use Rattle.oplog_tail.specs.Views.{newcomer};
 
 use crate::logs::OpLog;

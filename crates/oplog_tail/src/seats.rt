@@ -4,8 +4,8 @@ ghost use Rattle.std.specs.List.Sorted.{IsStrictlyIncreasing};
 ghost use Rattle.oplog_tail.specs.Seats.{pairs_of};
 
 use crate::table::LogPlace;
-use crate::views::Full;
-use disk_lines::Draft;
+use layout_model::Draft;
+use oplog_entry::Full;
 use std::marker::Model;
 
 /// A seat of a log. A thread appends with one of its own, and the log is closed with all of them.

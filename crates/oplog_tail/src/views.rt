@@ -1,27 +1,10 @@
 //! What seats know of a log, what its slots hold, and what a log is opened with. Of `Claim`, `Opened` and `Knows`
 //! no value is made: they are for the proofs alone.
-use disk_lines::Draft;
+use layout_model::Draft;
+use oplog_entry::Mark;
 use pm_lines::Line;
 use std::collections::LinkedList;
 use std::snapshot::Snapshot;
-
-/// What became of the line of a claim.
-#[derive(Clone, Copy, Debug, PartialEq, Eq)]
-pub enum Mark {
-    /// It holds its entry, which is durable.
-    Written,
-    /// The power was lost before the append came to its end.
-    Lost,
-}
-
-/// What an append found where the log was full.
-#[derive(Clone, Copy, Debug, PartialEq, Eq)]
-pub struct Full {
-    /// The number that it claimed, at least the capacity.
-    pub claimed: u64,
-    /// How many lines the log has.
-    pub capacity: u64,
-}
 
 /// A number that a seat claimed, below the number of lines, with its entry.
 pub struct Claim {

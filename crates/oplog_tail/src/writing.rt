@@ -1,12 +1,11 @@
 //! How an entry is written into a line.
 ghost use Rattle.std.specs.Prelude.{◌≡◌, ◌<◌, ◌^◌, true, if◌then◌else◌};
-ghost use Rattle.disk_rules.specs.pm_words.Powers.{is_on, Steps};
-ghost use Rattle.oplog_tail.specs.EntryLines.{Holds, IsSingle};
+ghost use Rattle.image_model.specs.pm_model.Powers.{is_on, Steps};
+ghost use Rattle.oplog_entry.specs.EntryLines.{Holds, IsSingle};
 
-use crate::views::Mark;
-use disk_lines::Draft;
-use line_fields::u64_at;
-use oplog_entry::encode;
+use image_layout::u64_at;
+use layout_model::Draft;
+use oplog_entry::{Mark, encode};
 use pm_lines::{Line, Power};
 
 // Stores the words of an entry into a line, and makes them durable. Without power the rest of the steps do nothing.

@@ -8,12 +8,12 @@ use Rattle.posix_types.specs.declared.handle.Flags.{Flags}
 use Rattle.posix_types.specs.declared.reply.Errno.{Errno}
 use Rattle.posix_types.specs.declared.reply.Reply.{Reply}
 use Rattle.posix_types.specs.Scripts.{Scripts}
-use Rattle.posix_words.specs.declared.nodes.Node.{Node}
-use Rattle.posix_words.specs.Names.{node_at_path, walk, with_entry, without_entry}
-use Rattle.posix_words.specs.NameRows.{open_rows, unlink_rows}
-use Rattle.posix_words.specs.Nodes.{node_at, published_of}
-use Rattle.posix_words.specs.Open.{binding_of, closed, key_of, nothing_open, opened, with_binding, with_descriptor, with_offset, with_opened, without_binding}
-use Rattle.posix_words.specs.Outcomes.{answer}
+use Rattle.posix_tables.specs.declared.nodes.Node.{Node}
+use Rattle.posix_tables.specs.Names.{node_at_path, walk, with_entry, without_entry}
+use Rattle.posix_tables.specs.NameRows.{open_rows, unlink_rows}
+use Rattle.posix_tables.specs.Nodes.{node_at, published_of}
+use Rattle.posix_tables.specs.Open.{binding_of, closed, key_of, nothing_open, opened, with_binding, with_descriptor, with_offset, with_opened, without_binding}
+use Rattle.posix_tables.specs.Outcomes.{answer}
 use Rattle.posix_spec.specs.FileRows.{write_rows}
 use Rattle.posix_spec.specs.State.{alone, Instance, made, State, swept, unnamed, with_file, with_published}
 use Rattle.posix_spec.specs.Step.{close_done, open_done, opening, pwrite_done, step, step_of, unlink_done, write_done, written}

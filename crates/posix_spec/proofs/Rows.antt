@@ -14,16 +14,16 @@ use Rattle.posix_types.specs.declared.reply.Reply.{Reply}
 use Rattle.posix_types.specs.declared.reply.What.{What}
 use Rattle.posix_types.specs.declared.tree.TreeEntry.{TreeEntry}
 use Rattle.posix_types.specs.declared.tree.TreeNode.{TreeNode}
-use Rattle.posix_words.specs.Places.{entry_place, path_to, places, with_place}
-use Rattle.posix_words.specs.Open.{binding_of, closed, key_of, opened, with_binding, with_descriptor, with_offset, with_opened, without_binding}
-use Rattle.posix_words.specs.Names.{height, node_at_path, walk, with_entry, without_entry}
+use Rattle.posix_tables.specs.Places.{entry_place, path_to, places, with_place}
+use Rattle.posix_tables.specs.Open.{binding_of, closed, key_of, opened, with_binding, with_descriptor, with_offset, with_opened, without_binding}
+use Rattle.posix_tables.specs.Names.{height, node_at_path, walk, with_entry, without_entry}
 use Rattle.posix_spec.specs.Tree.{default_shape, root_alone, start, tree}
 use Rattle.posix_spec.specs.Step.{close_done, dup_done, fsync_done, list_done, mkdir_done, open_done, opening, pread_done, pwrite_done, read_done, rename_done, renamed, rmdir_done, seek_done, stat_done, step, truncate_done, unlink_done, write_done, written}
 use Rattle.posix_spec.specs.State.{made, State, swept, unnamed, with_file, with_published}
-use Rattle.posix_words.specs.Outcomes.{answer, no_space}
-use Rattle.posix_words.specs.NameRows.{list_rows, mkdir_rows, open_rows, rename_kind_rows, rename_rows, rmdir_rows, stat_rows, unlink_rows}
+use Rattle.posix_tables.specs.Outcomes.{answer, no_space}
+use Rattle.posix_tables.specs.NameRows.{list_rows, mkdir_rows, open_rows, rename_kind_rows, rename_rows, rmdir_rows, stat_rows, unlink_rows}
 use Rattle.posix_spec.specs.FileRows.{dup_rows, seek_rows, truncate_rows, write_rows}
-use Rattle.posix_words.specs.Nodes.{node_at, published_of}
+use Rattle.posix_tables.specs.Nodes.{node_at, published_of}
 use Rattle.posix_spec.specs.Put.{Put, put_by}
 
 -- the outcomes of calls of thread 0, one after another

@@ -8,12 +8,12 @@ use Rattle.posix_types.specs.declared.handle.Whence.{Whence}
 use Rattle.posix_types.specs.declared.reply.Reply.{Reply}
 use Rattle.posix_types.specs.declared.reply.Errno.{Errno}
 use Rattle.posix_types.specs.declared.reply.What.{What}
-use Rattle.posix_words.specs.Room.{growth, write_need}
-use Rattle.posix_words.specs.Open.{is_full, may_read, may_write, opened, Tables}
-use Rattle.posix_words.specs.Nodes.{bytes_of, node_at}
+use Rattle.posix_tables.specs.Room.{growth, write_need}
+use Rattle.posix_tables.specs.Open.{is_full, may_read, may_write, opened, Tables}
+use Rattle.posix_tables.specs.Nodes.{bytes_of, node_at}
 use Rattle.posix_spec.specs.State.{room, State}
-use Rattle.posix_words.specs.Outcomes.{idle_row, row, space_row, unless}
-use Rattle.posix_words.specs.Bytes.{longest_file, longest_write, moved_place}
+use Rattle.posix_tables.specs.Outcomes.{idle_row, row, space_row, unless}
+use Rattle.posix_tables.specs.Bytes.{longest_file, longest_write, moved_place}
 
 -- The file that a handle stands for: its number, its bytes, the offset. Of an unknown handle nobody asks.
 abbrev pub file_number : Tables → Who → Handle → ℕ

@@ -9,5 +9,5 @@ pub mod Afforded
 pub mod Unfinished
 pub mod Ending
 pub use Rattle.posix_types.specs as posix_types
-pub use Rattle.posix_words.specs as posix_words
-pub use Rattle.posix_words.specs.block_counts as block_counts
+pub use Rattle.posix_tables.specs as posix_tables
+pub use Rattle.posix_tables.specs.block_counts as block_counts

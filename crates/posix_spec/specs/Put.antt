@@ -5,7 +5,7 @@ use Rattle.posix_types.specs.declared.call.Who.{Who}
 use Rattle.posix_types.specs.declared.call.Call.{Call}
 use Rattle.posix_types.specs.declared.handle.Handle.{Handle}
 use Rattle.posix_spec.specs.State.{State}
-use Rattle.posix_words.specs.Outcomes.{first}
+use Rattle.posix_tables.specs.Outcomes.{first}
 use Rattle.posix_spec.specs.FileRows.{file_number, write_rows, write_start}
 
 -- bytes that stand in the file of a node from a place on

@@ -6,7 +6,7 @@ use Rattle.posix_types.specs.declared.call.Who.{Who}
 use Rattle.posix_types.specs.declared.call.Call.{Call}
 use Rattle.posix_types.specs.declared.item.Item.{Item}
 use Rattle.posix_types.specs.Scripts.{Scripts}
-use Rattle.posix_words.specs.Open.{same_who}
+use Rattle.posix_tables.specs.Open.{same_who}
 
 -- the calls of a caller, none of a thread that is not there
 abbrev pub script_of : Scripts → Who → List Call

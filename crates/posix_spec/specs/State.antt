@@ -2,13 +2,13 @@
 use Rattle.std.specs.Prelude.{ℕ, ◌+◌, ◌-◌, ◌≤◌, Bool, false, ◌||◌, List, [], ◌∷◌, ◌++◌, length, count_by, sum_by, if◌then◌else◌, slice_set}
 use Rattle.posix_types.specs.declared.call.Mode.{Mode}
 use Rattle.posix_types.specs.declared.reply.Shape.{Shape}
-use Rattle.posix_words.specs.declared.nodes.Node.{Node}
-use Rattle.posix_words.specs.declared.nodes.DirEntry.{DirEntry}
-use Rattle.posix_words.specs.block_counts.Counts.{reserve_for}
-use Rattle.posix_words.specs.Room.{held}
-use Rattle.posix_words.specs.Open.{is_open, Tables}
-use Rattle.posix_words.specs.Names.{is_named, last_name, lines_taken, longest_name, parent_at, Space, with_entry, without_entry}
-use Rattle.posix_words.specs.Nodes.{is_directory, is_live, node_at, published_node}
+use Rattle.posix_tables.specs.declared.nodes.Node.{Node}
+use Rattle.posix_tables.specs.declared.nodes.DirEntry.{DirEntry}
+use Rattle.posix_tables.specs.block_counts.Counts.{reserve_for}
+use Rattle.posix_tables.specs.Room.{held}
+use Rattle.posix_tables.specs.Open.{is_open, Tables}
+use Rattle.posix_tables.specs.Names.{is_named, last_name, lines_taken, longest_name, parent_at, Space, with_entry, without_entry}
+use Rattle.posix_tables.specs.Nodes.{is_directory, is_live, node_at, published_node}
 
 -- Nodes stand by their numbers, so the next number is their count; one that went leaves `Gone`. Entries stand in one order.
 pub record State : Type 0 where

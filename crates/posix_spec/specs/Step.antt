@@ -8,16 +8,16 @@ use Rattle.posix_types.specs.declared.handle.Flags.{Flags}
 use Rattle.posix_types.specs.declared.handle.Whence.{Whence}
 use Rattle.posix_types.specs.declared.reply.Reply.{Reply}
 use Rattle.posix_types.specs.declared.reply.Stat.{Stat}
-use Rattle.posix_words.specs.declared.nodes.Node.{Node}
-use Rattle.posix_words.specs.declared.nodes.DirEntry.{DirEntry}
-use Rattle.posix_words.specs.declared.open.Description.{Description}
-use Rattle.posix_words.specs.Open.{closed, is_full, key_of, next_descriptor, with_descriptor, with_offset, with_opened}
-use Rattle.posix_words.specs.Nodes.{node_at, published_of}
-use Rattle.posix_words.specs.Names.{directory_stands, exists_at, file_stands, last_name, names_in, number_at, parent_at, with_entry, without_entry}
-use Rattle.posix_words.specs.Bytes.{bytes_from, overwritten, resized}
+use Rattle.posix_tables.specs.declared.nodes.Node.{Node}
+use Rattle.posix_tables.specs.declared.nodes.DirEntry.{DirEntry}
+use Rattle.posix_tables.specs.declared.open.Description.{Description}
+use Rattle.posix_tables.specs.Open.{closed, is_full, key_of, next_descriptor, with_descriptor, with_offset, with_opened}
+use Rattle.posix_tables.specs.Nodes.{node_at, published_of}
+use Rattle.posix_tables.specs.Names.{directory_stands, exists_at, file_stands, last_name, names_in, number_at, parent_at, with_entry, without_entry}
+use Rattle.posix_tables.specs.Bytes.{bytes_from, overwritten, resized}
 use Rattle.posix_spec.specs.State.{alone, Instance, made, space, State, swept, unnamed, with_file, with_node, with_published}
-use Rattle.posix_words.specs.Outcomes.{answer, first}
-use Rattle.posix_words.specs.NameRows.{list_rows, mkdir_rows, open_rows, rename_rows, rmdir_rows, stat_rows, unlink_rows}
+use Rattle.posix_tables.specs.Outcomes.{answer, first}
+use Rattle.posix_tables.specs.NameRows.{list_rows, mkdir_rows, open_rows, rename_rows, rmdir_rows, stat_rows, unlink_rows}
 use Rattle.posix_spec.specs.FileRows.{close_rows, content, dup_rows, file_number, fsync_rows, offset_of, read_rows, seek_rows, seek_target, truncate_rows, write_rows, write_start}
 
 -- the state after a call, and what the call answered

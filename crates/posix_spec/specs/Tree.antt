@@ -4,11 +4,11 @@ use Rattle.posix_types.specs.declared.call.Mode.{Mode}
 use Rattle.posix_types.specs.declared.reply.Shape.{Shape}
 use Rattle.posix_types.specs.declared.tree.TreeEntry.{TreeEntry}
 use Rattle.posix_types.specs.declared.tree.TreeNode.{TreeNode}
-use Rattle.posix_words.specs.declared.nodes.Node.{Node}
-use Rattle.posix_words.specs.Open.{nothing_open}
-use Rattle.posix_words.specs.Names.{is_root}
+use Rattle.posix_tables.specs.declared.nodes.Node.{Node}
+use Rattle.posix_tables.specs.Open.{nothing_open}
+use Rattle.posix_tables.specs.Names.{is_root}
 use Rattle.posix_spec.specs.State.{made, State}
-use Rattle.posix_words.specs.Places.{node_of, places, tree_entry}
+use Rattle.posix_tables.specs.Places.{node_of, places, tree_entry}
 
 -- The tree: all paths in byte order, each with what stands there. A node without a name is not in it.
 abbrev pub tree : State → List TreeEntry

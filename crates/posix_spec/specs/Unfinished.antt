@@ -2,7 +2,7 @@
 use Rattle.std.specs.Prelude.{◌≡◌, false, List, Some, All, AllPairs}
 use Rattle.posix_types.specs.declared.item.Item.{Item}
 use Rattle.posix_types.specs.Scripts.{Scripts}
-use Rattle.posix_words.specs.Open.{same_who}
+use Rattle.posix_tables.specs.Open.{same_who}
 use Rattle.posix_spec.specs.Run.{Begun}
 use Rattle.posix_spec.specs.Scripted.{IsSetUp, next_call}
 

@@ -4,11 +4,11 @@ ghost use Rattle.posix_spec.specs.Tree.{bare, planted, start, tree};
 ghost use Rattle.posix_spec.specs.Step.{step};
 
 use crate::state::State;
+use posix_tables::entries::is_root;
+use posix_tables::nodes::Node;
+use posix_tables::open::Tables;
+use posix_tables::places::{node_of, tree_entries};
 use posix_types::{Call, Mode, Outcome, Shape, Tree, TreeEntry, Who};
-use posix_words::entries::is_root;
-use posix_words::nodes::Node;
-use posix_words::open::Tables;
-use posix_words::places::{node_of, tree_entries};
 use std::alloc::{AllocError, Global};
 
 impl State {
@@ -27,7 +27,7 @@ impl State {
         })
     }
 
-    /// Puts an entry of a tree into the state. After want of memory the state may be changed in part.
+    /// Puts an entry of a tree into the state. Once memory ran out the state may be changed in part.
     fn plant(&mut self, entry: &TreeEntry) -> Result<(), AllocError>
         ensures { IfOk result (λ _. self.new ≡ planted self.old entry.now) }
     {
@@ -52,7 +52,7 @@ impl State {
         Ok(state)
     }
 
-    /// Makes a call: the state goes one step on, and the outcome is that of the step. Want of memory
+    /// Makes a call: the state goes one step on, and the outcome is that of the step. Out of memory
     /// leaves the state as it was.
     pub fn apply(&mut self, who: Who, call: &Call) -> Result<Outcome, AllocError>
         ensures state { OnOk result (self.new ≡ (step self.old who call.now).state) }

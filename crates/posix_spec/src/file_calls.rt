@@ -1,19 +1,19 @@
 //! The calls that take a handle: the rows of each, and what its last row does.
 ghost use Rattle.std.specs.Prelude.{◌≡◌, ◌+◌, ◌≤◌, ◌<◌, ◌^◌, false, IfOk, IfNone, OnErr, is_none, length, unwrap_or};
-ghost use Rattle.posix_words.specs.Open.{is_full, key_of, may_read, may_write, opened};
+ghost use Rattle.posix_tables.specs.Open.{is_full, key_of, may_read, may_write, opened};
 ghost use Rattle.posix_spec.specs.State.{alone};
 ghost use Rattle.posix_spec.specs.Step.{close_done, dup_done, fsync_done, Gives, moved_offset, pread_done, pwrite_done, read_done, seek_done, truncate_done, write_done, written};
-ghost use Rattle.posix_words.specs.Outcomes.{first};
+ghost use Rattle.posix_tables.specs.Outcomes.{first};
 ghost use Rattle.posix_spec.specs.FileRows.{appends, close_rows, content, dup_rows, file_number, fsync_rows, no_blocks, offset_of, read_rows, seek_base, seek_rows, seek_target, truncate_rows, write_rows, write_start};
 
 use crate::state::State;
-use posix_types::{Errno, Handle, Outcome, Reply, What, Whence, Who};
-use posix_words::bytes::{
+use posix_tables::bytes::{
     LONGEST_FILE, LONGEST_WRITE, bytes_from, is_too_far, moved_place, overwritten, resized,
 };
-use posix_words::nodes::{bytes_at, published_at};
-use posix_words::outcomes::{answer, no_space, refused};
-use posix_words::room::{growth, write_need};
+use posix_tables::nodes::{bytes_at, published_at};
+use posix_tables::outcomes::{answer, no_space, refused};
+use posix_tables::room::{growth, write_need};
+use posix_types::{Errno, Handle, Outcome, Reply, What, Whence, Who};
 use std::alloc::AllocError;
 
 impl State {

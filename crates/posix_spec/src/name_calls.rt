@@ -1,26 +1,26 @@
 //! The calls that take a path: the rows of each, and what its last row does.
 ghost use Rattle.std.specs.Prelude.{◌≡◌, ◌+◌, ◌&&◌, ◌==◌, false, IfNone, IfOk, OnErr, OnOk, if◌then◌else◌, length, nat_lt};
-ghost use Rattle.posix_words.specs.Open.{is_full};
-ghost use Rattle.posix_words.specs.Nodes.{node_at};
-ghost use Rattle.posix_words.specs.Names.{directory_stands, exists_at, has_entries, height, number_at};
+ghost use Rattle.posix_tables.specs.Open.{is_full};
+ghost use Rattle.posix_tables.specs.Nodes.{node_at};
+ghost use Rattle.posix_tables.specs.Names.{directory_stands, exists_at, has_entries, height, number_at};
 ghost use Rattle.posix_spec.specs.Step.{Gives, list_done, mkdir_done, open_done, opening, opening_number, rename_done, renamed, rmdir_done, stat_done, stat_of, unlink_done};
 ghost use Rattle.posix_spec.specs.State.{alone, space, swept, with_node};
-ghost use Rattle.posix_words.specs.Outcomes.{first};
-ghost use Rattle.posix_words.specs.NameRows.{list_rows, mkdir_rows, open_rows, rename_kind_rows, rename_rows, rmdir_rows, stat_rows, unlink_rows};
+ghost use Rattle.posix_tables.specs.Outcomes.{first};
+ghost use Rattle.posix_tables.specs.NameRows.{list_rows, mkdir_rows, open_rows, rename_kind_rows, rename_rows, rmdir_rows, stat_rows, unlink_rows};
 
 use crate::state::State;
-use posix_types::{Data, Errno, Flags, Handle, Name, Outcome, Path, Reply, Stat, Who};
-use posix_words::entries::{
+use posix_tables::entries::{
     LONGEST_PATH, has_entries, height, insert_entry, is_below, is_root, last_name, names_in,
     remove_entry,
 };
-use posix_words::nodes::{DirEntry, File, Node};
-use posix_words::open::Description;
-use posix_words::outcomes::{answer, refused};
+use posix_tables::nodes::{DirEntry, File, Node};
+use posix_tables::open::Description;
+use posix_tables::outcomes::{answer, refused};
+use posix_types::{Data, Errno, Flags, Handle, Name, Outcome, Path, Reply, Stat, Who};
 use std::alloc::{AllocError, Global};
 
 impl State {
-    #[tactic(auto, unfolding(posix_words::specs::NameRows::mkdir_rows))]
+    #[tactic(auto, unfolding(posix_tables::specs::NameRows::mkdir_rows))]
     fn mkdir_rows(&self, path: &Path) -> Option<Outcome>
         ensures { result ≡ first (mkdir_rows (space self.now) path.now) }
     {
@@ -56,7 +56,7 @@ impl State {
         Ok(answer(Reply::Ok))
     }
 
-    #[tactic(auto, unfolding(posix_words::specs::NameRows::rmdir_rows))]
+    #[tactic(auto, unfolding(posix_tables::specs::NameRows::rmdir_rows))]
     fn rmdir_rows(&self, path: &Path) -> Option<Outcome>
         ensures { result ≡ first (rmdir_rows (space self.now) path.now) }
     {
@@ -96,7 +96,7 @@ impl State {
         answer(Reply::Ok)
     }
 
-    #[tactic(auto, unfolding(posix_words::specs::NameRows::unlink_rows))]
+    #[tactic(auto, unfolding(posix_tables::specs::NameRows::unlink_rows))]
     fn unlink_rows(&self, path: &Path) -> Option<Outcome>
         ensures { result ≡ first (unlink_rows (space self.now) path.now) }
     {
@@ -150,7 +150,7 @@ impl State {
         to.names.len() > LONGEST_PATH || LONGEST_PATH - to.names.len() < below
     }
 
-    #[tactic(auto, unfolding(posix_words::specs::NameRows::rename_kind_rows))]
+    #[tactic(auto, unfolding(posix_tables::specs::NameRows::rename_kind_rows))]
     fn rename_kind_rows(&self, from: &Path, to: &Path) -> Option<Outcome>
         ensures { result ≡ first (rename_kind_rows (space self.now) from.now to.now) }
     {
@@ -182,7 +182,7 @@ impl State {
         self.exists_at(to) && self.number_at(from) == self.number_at(to)
     }
 
-    #[tactic(auto, unfolding(posix_words::specs::NameRows::rename_rows))]
+    #[tactic(auto, unfolding(posix_tables::specs::NameRows::rename_rows))]
     fn rename_rows(&self, from: &Path, to: &Path) -> Option<Outcome>
         ensures { result ≡ first (rename_rows (space self.now) from.now to.now) }
     {
@@ -211,7 +211,7 @@ impl State {
     }
 
     /// Takes the entries of both paths out, and lets the target lead to the source's node. It works on
-    /// a copy of the names, so that nothing is changed where memory wants.
+    /// a copy of the names, so that nothing is changed where memory runs out.
     #[tactic(auto, unfolding(crate::specs::Step::renamed, crate::specs::State::unnamed))]
     fn move_name(&mut self, from: &Path, to: &Path) -> Result<(), AllocError>
         ensures ok { OnOk result (self.new ≡ renamed self.old from.now to.now) }
@@ -268,7 +268,7 @@ impl State {
         Ok(answer(Reply::Ok))
     }
 
-    #[tactic(auto, unfolding(posix_words::specs::NameRows::open_rows))]
+    #[tactic(auto, unfolding(posix_tables::specs::NameRows::open_rows))]
     fn open_rows(&self, path: &Path, flags: Flags) -> Option<Outcome>
         ensures value { result ≡
             first (open_rows (space self.now) (is_full self.now.tables) false path.now flags) }
@@ -369,7 +369,7 @@ impl State {
         Ok(answer(Reply::Fd(descriptor)))
     }
 
-    #[tactic(auto, unfolding(posix_words::specs::NameRows::stat_rows))]
+    #[tactic(auto, unfolding(posix_tables::specs::NameRows::stat_rows))]
     fn stat_rows(&self, path: &Path) -> Option<Outcome>
         ensures { result ≡ first (stat_rows (space self.now) path.now) }
     {
@@ -397,7 +397,7 @@ impl State {
         }
     }
 
-    #[tactic(auto, unfolding(posix_words::specs::NameRows::list_rows))]
+    #[tactic(auto, unfolding(posix_tables::specs::NameRows::list_rows))]
     fn list_rows(&self, path: &Path) -> Option<Outcome>
         ensures { result ≡ first (list_rows (space self.now) path.now) }
     {

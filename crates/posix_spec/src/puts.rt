@@ -1,13 +1,13 @@
 //! What a call puts into a file, and what tools that judge states look at and set: the nodes, the names,
 //! the bytes of a file.
 ghost use Rattle.std.specs.Prelude.{◌≡◌, IfOk};
-ghost use Rattle.posix_words.specs.Nodes.{node_at, published_of};
+ghost use Rattle.posix_tables.specs.Nodes.{node_at, published_of};
 ghost use Rattle.posix_spec.specs.Put.{put_at, put_by};
 ghost use Rattle.posix_spec.specs.State.{with_file};
 
 use crate::state::State;
+use posix_tables::nodes::{DirEntry, Node, published_at};
 use posix_types::{Call, Data, Handle, Who};
-use posix_words::nodes::{DirEntry, Node, published_at};
 use std::alloc::AllocError;
 use std::marker::Model;
 

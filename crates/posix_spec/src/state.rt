@@ -1,19 +1,19 @@
 //! The state of a file system that the calls see.
 ghost use Rattle.std.specs.Prelude.{◌≡◌, ◌==◌, OnErr, OnOk};
-ghost use Rattle.posix_words.specs.Names.{directory_stands, exists_at, file_stands, longest_name, node_at_path, number_at, parent_at, too_long, walk};
+ghost use Rattle.posix_tables.specs.Names.{directory_stands, exists_at, file_stands, longest_name, node_at_path, number_at, parent_at, too_long, walk};
 ghost use Rattle.posix_spec.specs.State.{alone, made, room, space, swept, unnamed, with_file, with_node, with_published};
-ghost use Rattle.posix_words.specs.NameRows.{no_line, no_node};
+ghost use Rattle.posix_tables.specs.NameRows.{no_line, no_node};
 
-use posix_types::{Data, Errno, Mode, Name, Outcome, Path, Shape, What};
-use posix_words::entries::{
+use posix_tables::entries::{
     child_of, directory_names, insert_entry, is_named, is_root, is_too_long, last_name,
     remove_entry,
 };
-use posix_words::nodes::{DirEntry, File, Node, count_live, is_directory, publish, set_node};
-use posix_words::open::Tables;
-use posix_words::outcomes::no_space;
-use posix_words::room::room;
-use posix_words::walk::{lines_left, lines_taken, walk_down};
+use posix_tables::nodes::{DirEntry, File, Node, count_live, is_directory, publish, set_node};
+use posix_tables::open::Tables;
+use posix_tables::outcomes::no_space;
+use posix_tables::room::room;
+use posix_tables::walk::{lines_left, lines_taken, walk_down};
+use posix_types::{Data, Errno, Mode, Name, Outcome, Path, Shape, What};
 use std::alloc::{AllocError, Global};
 use std::marker::Model;
 
@@ -58,7 +58,7 @@ impl Clone for State {
 
 impl State {
     /// The directory of a path, or why there is none.
-    #[tactic(auto, unfolding(posix_words::specs::Names::walk))]
+    #[tactic(auto, unfolding(posix_tables::specs::Names::walk))]
     pub(crate) fn walk(&self, path: &Path) -> Result<usize, Errno>
         ensures { result ≡ walk (space self.now) path.now }
     {
@@ -76,7 +76,7 @@ impl State {
     }
 
     /// The node at a path.
-    #[tactic(auto, unfolding(posix_words::specs::Names::node_at_path))]
+    #[tactic(auto, unfolding(posix_tables::specs::Names::node_at_path))]
     pub(crate) fn node_at_path(&self, path: &Path) -> Option<usize>
         ensures { result ≡ node_at_path (space self.now) path.now }
     {

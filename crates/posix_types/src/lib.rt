@@ -1,6 +1,7 @@
-//! The values that cross the file calls of a POSIX file system: who calls, the sixteen calls with
-//! their paths, handles, flags and data, their replies, the shape of a file system, the items of a
-//! history, the scripts of a run, and the tree of a file system.
+//! The values that cross the file calls of a POSIX file system.
+//!
+//! Who calls, the sixteen calls with their paths, handles, flags and data, their replies, the shape of
+//! a file system, the items of a history, the scripts of a run, and the tree of a file system.
 //!
 //! `Name`, `Path`, `Data`, `NameList`, `CallList` and `Tree` are made of a `Vec` and give it back by
 //! their public field, without taking memory. Contracts see them as lists: a name as its bytes, a

@@ -15,7 +15,7 @@ use Rattle.posix_types.specs.declared.reply.Stat.{Stat}
 use Rattle.posix_types.specs.declared.reply.What.{What}
 use Rattle.posix_types.specs.declared.tree.TreeEntry.{TreeEntry}
 use Rattle.posix_types.specs.declared.tree.TreeNode.{TreeNode}
-use Rattle.posix_words.specs.Places.{printed}
+use Rattle.posix_tables.specs.Places.{printed}
 
 -- a byte as two hexadecimal digits, in small letters
 abbrev pub hex_digit : ℕ → ℕ

@@ -1,7 +1,7 @@
 //! Words, numbers, paths and handles, put behind a text.
 ghost use Rattle.std.specs.Prelude.{◌≡◌, ◌++◌, ◌∷◌, OnOk, decimal, flat_map};
 ghost use Rattle.std.specs.Fmt.{signed_decimal};
-ghost use Rattle.posix_words.specs.Places.{printed};
+ghost use Rattle.posix_tables.specs.Places.{printed};
 ghost use Rattle.report_text.specs.Texts.{handle_text};
 
 use itoa::Buffer;

@@ -1,7 +1,7 @@
 //! Calls, put behind a text.
 ghost use Rattle.std.specs.Prelude.{◌≡◌, ◌++◌, OnOk, codes, decimal};
 ghost use Rattle.std.specs.Fmt.{signed_decimal};
-ghost use Rattle.posix_words.specs.Places.{printed};
+ghost use Rattle.posix_tables.specs.Places.{printed};
 ghost use Rattle.report_text.specs.Texts.{call_text, data_text, flags_text, handle_text, letter_if, whence_text};
 
 use crate::bytes::{put_handle, put_number, put_path, put_signed, put_str};

@@ -6,7 +6,7 @@
 //! blank or a line end, as none of a script has. A tree is printed in its own order, and the need
 //! and the room behind a reply wherever an item has them.
 //!
-//! Stands on `posix_types` (what is printed), `posix_words` (how a path is spelled) and `itoa`
+//! Stands on `posix_types` (what is printed), `posix_tables` (how a path is spelled) and `itoa`
 //! (numbers in decimal).
 #![tactic(auto)]
 

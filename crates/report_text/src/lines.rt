@@ -100,7 +100,7 @@ fn entry_lines(alloc: Global, entries: &[TreeEntry]) -> Result<Vec<u8>, AllocErr
     Ok(text)
 }
 
-/// The text of a history: a line for each call that returned, in order. An error is want of memory,
+/// The text of a history: a line for each call that returned, in order. An error is out of memory,
 /// and leaves nothing.
 pub fn history_text(alloc: Global, history: &[Item]) -> Result<Vec<u8>, AllocError>
     ensures { IfOk result (λ text. text.items ≡ history_text history.now) }
@@ -112,7 +112,7 @@ pub fn history_text(alloc: Global, history: &[Item]) -> Result<Vec<u8>, AllocErr
     Ok(text)
 }
 
-/// The text of a tree: a line for each path, in the tree's order. An error is want of memory, and
+/// The text of a tree: a line for each path, in the tree's order. An error is out of memory, and
 /// leaves nothing.
 pub fn tree_text(alloc: Global, tree: &Tree) -> Result<Vec<u8>, AllocError>
     ensures { IfOk result (λ text. text.items ≡ tree_text tree.now) }

@@ -1,84 +1,208 @@
--- The first call of a round.
-use Rattle.std.specs.Prelude.{◌≡◌, ◌≢◌, ◌⊎◌, ◌<◌, ◌≤◌, ℕ, true, false, [], length, Some, None, refl, is_some}
+-- The World at its beginning goes on.
+use Rattle.std.specs.Prelude.{◌≡◌, ◌≤◌, ◌+◌, ◌-◌, ◌*◌, ◌/◌, ◌^◌, ℕ, true, false, List, [], refl}
 use Rattle.std.proofs.Common.{arith, ap, ◌∙◌, sym, subst, inl, inr}
-use Rattle.world_parts.specs.round_views.list_facts.Members.{In}
-use Rattle.world_parts.specs.round_views.posix_types.declared.call.Who.{Who}
-use Rattle.world_parts.specs.round_views.round_jobs.pm_words.Powers.{is_on, Supply}
-use Rattle.world_parts.specs.declared.outcomes.Begun.{Begun}
-use Rattle.world_parts.specs.round_views.declared.over.Over.{Over}
-use Rattle.world_parts.specs.round_views.Begins.{EndsRound, IsOver, IsPowerLost, IsRoundOver, Waits}
-use Rattle.world_parts.specs.round_views.Views.{Disk, WorldView}
-use Rattle.round_laws.specs.Laws.{BeginsAtFirst, CheckpointsAtFirst, FirstCallsBegin, FirstCallsGoOn, IsAtFirst, MountsAtFirst, RoundsGetFurther}
+use Rattle.std.proofs.lemmas.Bool.{both_ways, cases_lt}
+use Rattle.std.proofs.lemmas.List.{get_or-replicate}
+use Rattle.eof_laws.specs.pm_model.Bytes.{line_bytes-same}
+use Rattle.eof_laws.specs.pm_model.CellLaws.{single-home}
+use Rattle.eof_laws.specs.pm_model.Cells.{AllHome, cell, is_lent}
+use Rattle.eof_laws.specs.pm_model.ImageLaws.{IsImage-words_of}
+use Rattle.eof_laws.specs.pm_model.Images.{words_of}
+use Rattle.eof_laws.specs.pm_model.Words.{line_bytes, Words}
+use Rattle.eof_laws.specs.layout_model.declared.lines.Kind.TheVariants.{File}
+use Rattle.eof_laws.specs.layout_model.Entries.{held_seq, is_self_valid}
+use Rattle.eof_laws.specs.layout_model.Journal.{IsSound, journaled}
+use Rattle.eof_laws.specs.layout_model.PlaceLaws.{behind_log-not_journaled, behind_log-words}
+use Rattle.eof_laws.specs.layout_model.Places.{Geometry, log_line}
+use Rattle.eof_laws.specs.image_model.Checked.{IsCheckedAs}
+use Rattle.eof_laws.specs.image_model.Content.{content}
+use Rattle.eof_laws.specs.image_model.Volume.{inode, Volume, volume}
+use Rattle.world_view_laws.specs.posix_laws.Starts.{start-rising}
+use Rattle.eof_laws.specs.file_table.Files.{Files}
+use Rattle.world_view_laws.proofs.file_publish_proofs.staging_files_proofs.GiveUpLaws.{staged-nothing}
+use Rattle.world_view_laws.proofs.file_publish_proofs.staging_files_proofs.StagedLaws.{free-given}
+use Rattle.world_view_laws.specs.file_publish.staging_files.GivesUp.{nothing_staged}
+use Rattle.world_view_laws.specs.file_publish.staging_files.Keeps.{Agrees, AreFreeSingle, is_kept_free, IsStaging}
+use Rattle.eof_laws.specs.k_split_model.View.{View}
+use Rattle.log_replay.specs.Mounts.{IsMounted}
+use Rattle.eof_laws.specs.MapsLaws.{EndBegun}
+use Rattle.world_view_laws.proofs.open_files_proofs.Changes.{nothing_is_open}
+use Rattle.eof_laws.specs.posix_spec.Tree.{bare, start}
+use Rattle.eof_laws.specs.posix_types.declared.call.Mode.{Mode}
+use Rattle.eof_laws.specs.posix_types.declared.reply.Shape.{Shape}
+use Rattle.eof_laws.specs.posix_types.declared.tree.TreeEntry.{TreeEntry}
+use Rattle.eof_laws.specs.posix_types.Scripts.{Scripts}
+use Rattle.eof_laws.specs.posix_tables.Lookups.{AreDistinct}
+use Rattle.eof_laws.specs.posix_tables.Open.{is_open, nothing_open}
+use Rattle.world_view_laws.specs.Views.{AreCounted, IsGoing, IsWorldOver, kept_of}
+use Rattle.world_view_laws.specs.world_image_laws.Changed.{sound_headed}
+use Rattle.world_view_laws.specs.world_image_laws.Images.{HasOldLines, IsRunning}
+use Rattle.world_view_laws.specs.world_image_laws.Starts.{begins_running, has_setting}
+use Rattle.world_view_laws.specs.live_model.world_model.HeldLaws.{AreSizes}
+use Rattle.world_view_laws.specs.live_model.Standing.{StandsAt}
+use Rattle.world_view_laws.specs.live_model.world_image_laws.Begun.{numbers_of}
+use Rattle.world_view_laws.specs.live_model.world_model.Stands.{number}
+use Rattle.eof_laws.specs.volume_laws.ImageLaws.{journaled-other}
+use Rattle.round_laws.proofs.StartsLines.{size_is, stands_at_rest}
+use Rattle.round_laws.proofs.Trees.{fold_tables, shape_of, shown_tree}
+use Rattle.round_laws.specs.StartsLaws.{first_view, MayStart, StartsGoing}
+use Rattle.round_laws.specs.Sizes.{HasSizesOf}
 
--- ---- where it is so
+-- ---- nothing staged
 
-pub mounts_at_first : MountsAtFirst
-mounts_at_first g image mode scripts w begins = record {
-  none_out = ap (λ (v : WorldView). v.pending) begins.world_is;
-  settled = ap (λ (v : WorldView). v.settled) begins.world_is ∙ sym (ap (λ (v : WorldView). length v.history) begins.world_is);
-  going = ap (λ (v : WorldView). v.over) begins.world_is;
-  staging = begins.staging;
-}
+none_given : (x b : ℕ) → IsStaging x → is_kept_free nothing_staged x b ≡ true → ⊥
+none_given x b is free = omega (arith, free-given nothing_staged x b free, get_or-replicate {A = ℕ} 4 (x - 1) 0 0 (omega (arith, is.least, is.most)))
 
-pub checkpoints_at_first : CheckpointsAtFirst
-checkpoints_at_first old new power lines may next = record {
-  none_out = ap (λ (w : WorldView). w.pending) next.new_is ∙ may.none_out;
-  settled = ap (λ (w : WorldView). w.settled) next.new_is ∙ sym (ap (λ (w : WorldView). length w.history) next.new_is);
-  going = ap (λ (w : WorldView). w.over) next.new_is;
-  staging = next.staging;
-}
+-- the log's base is that of a next lap
+module _ (g : Geometry) (image : Words) (k : View) (mounted : IsMounted g image k) where
+  pub same_places : k.volume.geometry ≡ g
+  same_places = mounted.checked.reads.geometry ∙ mounted.numbers
 
-pub begins_at_first : BeginsAtFirst
-begins_at_first old new lines base at begun = record {
-  none_out = ap (λ (w : WorldView). w.pending) begun.new_is ∙ at.none_out;
-  settled = ap (λ (w : WorldView). w.settled) begun.new_is ∙ at.settled ∙ sym (ap (λ (w : WorldView). length w.history) begun.new_is);
-  going = ap (λ (w : WorldView). w.over) begun.new_is ∙ at.going;
-  staging = ap (λ (d : Disk). d.staging) begun.cells_alone ∙ at.staging;
-}
+  pub low_base : k.volume.base ≤ 2 ^ 62 + g.log
+  unfolding volume
+  low_base =
+      let v : Volume = volume g (journaled image) in
+      elim (cases_lt (2 ^ 62) v.base) [
+        | inl above ↦ (let one : k.volume.base ≡ 1 = mounted.base.anew above in omega arith)
+        | inr below ↦ (let next : k.volume.base ≡ v.base + g.log = mounted.base.risen below in omega arith)
+      ]
 
--- ---- what a call finds there
+module _ (ending : EndBegun) (g : Geometry) (image : Words) (k : View) (t : List TreeEntry) (shape : Shape) (scripts : Scripts) (files : Files)
+    (may : MayStart g image k t shape Mode.Strict scripts) (table : HasSizesOf k.volume files) where
+  same : k.volume.geometry ≡ g
+  same = same_places g image k may.mounted
 
-module _ (who : Who) (old new : WorldView) (before after : Supply) (at : IsAtFirst old) where
-  no_wait : (ino : ℕ) (holder : Who) → Waits who old new before after ino holder → ⊥
-  no_wait ino holder waits = absurd (subst (In waits.kept.job) at.none_out waits.kept.out)
+  -- K-SPLIT RUNS with the state of the tree.
+  running : IsRunning k.volume k.cells [] (numbers_of k.volume t) (start t shape Mode.Strict) 0
+  running =
+      (begins_running k.volume k.cells t shape Mode.Strict (stands_at_rest k may.mounted.rest) may.mounted.rest.single
+      (subst (λ (x : Geometry). IsCheckedAs (4096 * x.blocks) (words_of k.cells) k.volume) (sym same) may.mounted.checked) (may.mounted.numbers ∙ sym same) may.mounted.rest.order.whole.kept.geometry may.mounted.named may.mounted.no_entry
+      (shape_of k.volume.geometry shape may.shown.shape_is) (shown_tree (content k.volume.geometry (words_of k.cells)) t may.shown.tree_is)).0
 
-  not_over : (over : Over) → IsOver who old new before after over → ⊥
-  not_over over is = (let never : Some over ≡ None = sym is.0 ∙ at.going in cc)
+  all_home : AllHome k.cells
+  all_home i = single-home (cell k.cells i) (may.mounted.rest.single i)
 
-  no_end : (need left : ℕ) → EndsRound who old new after need left → ⊥
-  no_end need left ends = by ends.late where
-    by : (old.pending ≢ []) ⊎ (old.settled < length old.history) → ⊥
-    by (inl some) = some at.none_out
-    by (inr late) = (let settled = at.settled in omega (arith, late, settled))
+  distinct : AreDistinct (start t shape Mode.Strict).entries
+  distinct = (running.device.world (words_of k.cells) (IsImage-words_of k.cells)).valid.stands.names.distinct
 
-  no_round_over : (over : Over) → IsRoundOver who old new before after over → ⊥
-  no_round_over (Over.Lap full) is = not_over (Over.Lap full) is
-  no_round_over (Over.Space need left) (inl is) = not_over (Over.Space need left) is
-  no_round_over (Over.Space need left) (inr ends) = no_end need left ends
+  sizes : AreSizes k.volume [] files.sizes
+  sizes = record {
+    count = table.count;
+    files = λ ino file. table.sizes ino;
+    others = λ ino other. table.sizes ino ∙ (size_is k may.mounted.rest ino).none other;
+  }
 
-pub first_calls_go_on : FirstCallsGoOn
-first_calls_go_on who old new before after at = (no_wait who old new before after at, no_round_over who old new before after at)
+  agrees : Agrees nothing_staged k
+  agrees = record {
+    free = λ x b at free. absurd (none_given x b at free);
+    empty = λ x at empty. may.mounted.bare x at;
+  }
 
--- it answers that the power went only where that is so
-still_on : (who : Who) (old new : WorldView) (before after : Supply) → old.lost ≡ false → is_on after ≡ true → IsPowerLost who old new before after → ⊥
-still_on who old new before after awake on (inl was) = (let never : true ≡ false = sym was.0 ∙ awake in cc)
-still_on who old new before after awake on (inr (inl loses)) = (let never : true ≡ false = sym on ∙ loses.0.off in cc)
-still_on who old new before after awake on (inr (inr ended)) = (let never : true ≡ false = sym on ∙ ended.4 in cc)
+  none_free : AreFreeSingle nothing_staged k
+  none_free x b at free = absurd (none_given x b at free)
 
-pub first_calls_begin : FirstCallsBegin
-first_calls_begin who old new before after Begun.Done at awake next on is = inl refl
-first_calls_begin who old new before after (Begun.Job job) at awake next on is = inr (job, refl)
-first_calls_begin who old new before after (Begun.Busy ino holder) at awake next on is = absurd (no_wait who old new before after at ino holder is)
-first_calls_begin who old new before after (Begun.RoundOver over) at awake next on is = absurd (no_round_over who old new before after at over is)
-first_calls_begin who old new before after Begun.PowerLost at awake next on is = absurd (still_on who old new before after awake on is)
-first_calls_begin who old new before after Begun.ScriptEnd at awake next on is = absurd (next is.1)
+  none_open : (ino : ℕ) → is_open nothing_open ino ≡ true → (inode k.volume ino).kind ≡ File
+  none_open ino there = cc
 
-pub rounds_get_further : RoundsGetFurther
-rounds_get_further k t staging files w lines world awake may = by (world.counted.late (is_over may.over)) where
-  is_over : is_some w.over ≡ true → w.over ≢ None
-  is_over some none = (let never : is_some w.over ≡ false = ap is_some none in cc)
+  -- ALL STANDS TOGETHER.
+  stands : StandsAt k.volume.geometry k nothing_open (kept_of (first_view k t shape Mode.Strict scripts) nothing_staged files) false 0 (start t shape Mode.Strict)
+  stands = record {
+    count = 0;
+    few = omega arith;
+    numbers = numbers_of k.volume t;
+    jobs = [];
+    jobs_are = tt;
+    order = may.mounted.rest.order;
+    unbatched = may.mounted.rest.unbatched;
+    on = may.mounted.rest.on;
+    geometry = refl;
+    flying = record {
+      device = running.device;
+      whole = tt;
+      out = λ j at. absurd at;
+      home = λ i lent. absurd (both_ways (is_lent (cell k.cells i)) (all_home i) lent);
+      overlays = λ ino file. record { runs_are = table.runs ino; size_is = table.sizes ino };
+    };
+    lines = (refl, running.log);
+    quiet = λ i journal line not_lent. may.mounted.rest.single i;
+    blocks = λ p at. absurd at;
+    callers = λ i j d before below. absurd (omega (arith, below));
+    spare = λ p at. absurd at;
+    tables = fold_tables (bare shape Mode.Strict) t ∙ sym (nothing_is_open (number (numbers_of k.volume t)));
+    open_are_files = none_open;
+    ordered = (distinct, start-rising t shape Mode.Strict distinct);
+    sizes = sizes;
+    bare = λ ino other. table.runs ino;
+    staged = staged-nothing;
+    agrees = agrees;
+    free_single = none_free;
+    drafts = λ d at. absurd at;
+    low = λ ino. (let low = may.mounted.low ino in omega (arith, low));
+    claims_out = λ d at. absurd at;
+    jobs_out = λ p at. absurd at;
+    owed = omega arith;
+  }
 
-  by : (w.pending ≢ []) ⊎ (1 ≤ w.given_up) ⊎ (w.settled < length w.history) → w.settled < length w.history
-  by (inl out) = absurd (out may.none_out)
-  by (inr (inl given)) = world.counted.claimed awake (may.some (λ none. omega (arith, given, none)))
-  by (inr (inr later)) = later
+  -- each entry in the log is one of an earlier lap
+  sound : IsSound k.volume.geometry (words_of k.cells)
+  sound = sound_headed k.volume.geometry (words_of k.cells) (running.device.headed (words_of k.cells) (IsImage-words_of k.cells))
+
+  seen : (slot : ℕ) → line_bytes (words_of k.cells) (log_line k.volume.geometry slot) ≡ line_bytes (journaled (words_of k.cells)) (log_line k.volume.geometry slot)
+  seen slot = line_bytes-same (words_of k.cells) (journaled (words_of k.cells)) (log_line k.volume.geometry slot) (λ i at.
+      sym (journaled-other k.volume.geometry (words_of k.cells) i sound (behind_log-words k.volume.geometry i (omega (arith, at))) (behind_log-not_journaled k.volume.geometry (i / 8) (omega (arith, at)))))
+
+  old : HasOldLines k.volume (words_of k.cells)
+  old slot below valid =
+      let was = may.mounted.old_lines slot below (ap is_self_valid (sym (seen slot)) ∙ valid) in
+      omega (arith, was, ap held_seq (seen slot))
+
+  going : IsGoing k nothing_open nothing_staged files (first_view k t shape Mode.Strict scripts)
+  going = record {
+    stands = stands;
+    runs = refl;
+    bare = λ goes none empty. refl;
+    none_unfinished = refl;
+    none_home = refl;
+    base = refl;
+    next = λ p at. absurd at;
+    spelled = λ slot d at. absurd at;
+    ends = ending k.volume files may.mounted.short (λ ino file. table.sizes ino) table.runs;
+    drafts_end = λ p at. absurd at;
+    log_home = λ home. record { home = all_home; none = refl; old = old };
+  }
+
+  counted : AreCounted (first_view k t shape Mode.Strict scripts)
+  counted = record {
+    settled = omega arith;
+    fresh = λ over. refl;
+    out = omega arith;
+    claimed = λ on some. absurd (some refl);
+    late = λ over. absurd (over refl);
+    acts = omega arith;
+    acts_on = λ on. omega arith;
+    acts_going = λ on over. omega arith;
+    low = (let base : k.volume.base ≤ 2 ^ 62 + k.volume.geometry.log = subst (λ (h : Geometry). k.volume.base ≤ 2 ^ 62 + h.log) (sym same) (low_base g image k may.mounted) in omega (arith, base));
+  }
+
+  -- THE WORLD GOES ON.
+  pub starts : IsWorldOver k nothing_open nothing_staged files (first_view k t shape Mode.Strict scripts)
+  starts = record {
+    mode = (has_setting t shape Mode.Strict).1;
+    few = may.limits.few;
+    threads = may.limits.threads;
+    spelled = may.limits.spelled;
+    legal = tt;
+    scripted = tt;
+    counted = counted;
+    disk_is = refl;
+    going = λ on. going;
+    gone = λ off. (let never : true ≡ false = sym off in cc);
+  }
+
+strict_start : (g : Geometry) (image : Words) (k : View) (t : List TreeEntry) (shape : Shape) (mode : Mode) (scripts : Scripts) → MayStart g image k t shape mode scripts → MayStart g image k t shape Mode.Strict scripts
+strict_start g image k t shape mode scripts may = record { mounted = may.mounted; shown = may.shown; strict = refl; limits = may.limits }
+
+pub starts_going : EndBegun → StartsGoing
+starts_going ending g image k t shape mode scripts files may table =
+    subst (λ (m : Mode). IsWorldOver k nothing_open nothing_staged files (first_view k t shape m scripts)) (sym may.strict)
+    (starts ending g image k t shape scripts files (strict_start g image k t shape mode scripts may) table)

@@ -1,59 +1,23 @@
-//! What a Begin comes to, and that rounds go on.
+//! Laws of rounds: how a round, and a whole run, begins and ends.
 //!
-//! Laws alone, over what `world_parts` says that a call of a World answers and leaves. An `fsync` that answers ok is of an
-//! open file, which is published (`a_file_that_is_synced_is_published`). Where space lacks for a call, it neither returns
-//! nor becomes a job: so a Begin answers that the round is over exactly where room lacks, but where the power goes or
-//! memory wants. And the two numbers that it tells are settled by the World: first it asks for room beside the jobs that
-//! are out, and then for room in the staging (`the_end_of_a_round_is_settled`). The first call behind a mount or a
-//! checkpoint never ends the round (`the_first_call_of_a_round_goes_on`), since it finds room
-//! (`the_first_call_of_a_round_finds_room`), and in each round that comes to a checkpoint a call returned
-//! (`rounds_get_further`): so rounds end.
+//! Lines come home, all is gathered, the next lap begins; a mounted device begins a World with
+//! nothing staged; what a run leaves keeps the promise. `table_of` alone is code: the sizes of all
+//! files.
 //!
-//! Stands on `world_parts`, and on `round_puts` and `first_writes` for the first write. Nothing stands on it: it shows what the words of the layers below come to.
+//! - `ends`: How a round of the World ends, and the whole run.
+//! - `starts`: How a World begins on a device that is mounted.
+//!
+//! Stands on `file_publish`, `eof_laws`, `world_view_laws` and `log_replay`.
 #![tactic(auto)]
 
-ghost use Rattle.round_laws.specs.Laws.{BeginsAtFirst, CheckpointsAtFirst, EndsWithOnePair, FirstCallsBegin, FirstCallsGoOn, FirstCallsHaveRoom, JobsHaveRoom, MountsAtFirst, ReturnsHaveRoom, RoundsGetFurther, SyncsPublish, WaitsAlone};
+mod ends;
+mod starts;
 
-use first_writes::the_first_write_finds_its_blocks;
-use round_puts::{jobs_need_what_their_calls_do, kept_numbers_are_those_of_the_state};
-use write_stages::numbers_are_those_of_the_state;
-
-/// Where an `fsync` answered ok, its handle stands for an open file, of which all that was claimed in this lap is
-/// applied.
-pub fn a_file_that_is_synced_is_published()
-    ensures { SyncsPublish }
-{}
-
-/// What ends a round for want of space is settled by the World in which the call begins; and a call that waits there does
-/// not begin.
-pub fn the_end_of_a_round_is_settled()
-    ensures returns { ReturnsHaveRoom }
-    ensures jobs { JobsHaveRoom }
-    ensures numbers { EndsWithOnePair }
-    ensures waits { WaitsAlone }
-{}
-
-/// Where an image was mounted, or behind a checkpoint, nothing is staged, and a round begins so. Its first call neither
-/// waits nor ends the round: it returns or becomes a job, but where the power goes, memory wants or its script has ended.
-pub fn the_first_call_of_a_round_goes_on()
-    ensures mounted { MountsAtFirst }
-    ensures checkpoint { CheckpointsAtFirst }
-    ensures begun { BeginsAtFirst }
-    ensures first { FirstCallsGoOn }
-    ensures begins { FirstCallsBegin }
-{}
-
-/// At first, space lacks for no call that may begin.
-pub fn the_first_call_of_a_round_finds_room()
-    ensures { FirstCallsHaveRoom }
-{
-    the_first_write_finds_its_blocks();
-    kept_numbers_are_those_of_the_state();
-    numbers_are_those_of_the_state();
-    jobs_need_what_their_calls_do();
-}
-
-/// In each round that comes to a checkpoint, while the power was not lost, a call returned.
-pub fn rounds_get_further()
-    ensures { RoundsGetFurther }
-{}
+pub use ends::{
+    a_checkpoint_ends_a_round, an_unmount_ends_a_run, log_lines_go_out,
+    the_lines_of_a_round_come_home, the_lines_of_a_round_may_go_out,
+};
+pub use starts::{
+    Commit, FilledJob, Full, Job, KSplit, MountFault, OpenFiles, Staging, a_remount_shows_the_same,
+    a_world_begins, calls_made, mount, no_calls, script_length, table_of,
+};

@@ -5,11 +5,11 @@ use Rattle.std.proofs.lemmas.Bool.{cases_eq}
 use Rattle.std.proofs.lemmas.List.{length-map}
 use Rattle.std.proofs.Math.ListN.{get_or-map}
 use Rattle.std.proofs.lemmas.List.Elements.{Contains-append_left, Contains-push, Contains-push_cases}
-use Rattle.oplog_tail.specs.pm_words.Parts.{Part}
-use Rattle.disk_lines.specs.declared.Draft.{Draft}
-use Rattle.oplog_tail.specs.disk_rules.LogRule.{cells_of_line, HoldsEntry, IsAsAtFirst}
-use Rattle.oplog_tail.specs.Closing.{cells_of}
-use Rattle.oplog_tail.specs.Rule.{line_at}
+use Rattle.oplog_entry.specs.pm_model.Parts.{Part}
+use Rattle.layout_model.specs.declared.lines.Draft.{Draft}
+use Rattle.oplog_entry.specs.image_model.LogRule.{cells_of_line, HoldsEntry, IsAsAtFirst}
+use Rattle.oplog_entry.specs.LogLines.{cells_of}
+use Rattle.oplog_entry.specs.LogLines.{line_at}
 use Rattle.round_log.specs.Held.{ChangesTaken, ClaimsSlot, HoldsNone, IsUnclaimed, LinesHoldClaims, TakesSlot}
 use Rattle.round_log.specs.Rounds.{RoundView}
 

@@ -1,10 +1,10 @@
 -- A line into which the words of an entry are stored, and then made durable.
 use Rattle.std.proofs.Common.{◌≡◌, ℕ, Bool, true, cond, List}
-use Rattle.oplog_tail.specs.pm_words.declared.Cell.{Cell}
-use Rattle.oplog_tail.specs.pm_words.Words.{Words}
+use Rattle.oplog_entry.specs.pm_model.declared.Cell.{Cell}
+use Rattle.oplog_entry.specs.pm_model.Words.{Words}
 use Rattle.pm_lines.specs.Effects.{Fences, FlushesLine}
-use Rattle.oplog_tail.proofs.EntryWords.{finishes, IsStoring}
-use Rattle.oplog_tail.specs.declared.views.Mark.TheVariants.{Lost, Written}
+use Rattle.oplog_entry.proofs.EntryWords.{finishes, IsStoring}
+use Rattle.oplog_entry.specs.declared.claims.Mark.TheVariants.{Lost, Written}
 use Rattle.round_log.specs.Stores.{HasStored, Persists}
 
 pub stored_all : (first : List Cell) (words : Words) (on : Bool) (cells : List Cell) → IsStoring first words 8 on cells → HasStored first words on cells

@@ -1,11 +1,11 @@
 -- How the log of a round holds claims, while entries are on their way into other lines.
 use Rattle.std.specs.Prelude.{◌≡◌, ◌<◌, ◌+◌, ℕ, Contains, List, [], ◌∷◌, ◌++◌, length, Ok}
-use Rattle.oplog_tail.specs.pm_words.Parts.{Part}
-use Rattle.oplog_tail.specs.pm_words.Words.{Words}
-use Rattle.disk_lines.specs.declared.Draft.{Draft}
-use Rattle.oplog_tail.specs.disk_rules.LogRule.{HoldsClaims, HoldsEntry, IsAsAtFirst}
-use Rattle.oplog_tail.specs.Closing.{cells_of}
-use Rattle.oplog_tail.specs.Rule.{line_at}
+use Rattle.oplog_entry.specs.pm_model.Parts.{Part}
+use Rattle.oplog_entry.specs.pm_model.Words.{Words}
+use Rattle.layout_model.specs.declared.lines.Draft.{Draft}
+use Rattle.oplog_entry.specs.image_model.LogRule.{HoldsClaims, HoldsEntry, IsAsAtFirst}
+use Rattle.oplog_entry.specs.LogLines.{cells_of}
+use Rattle.oplog_entry.specs.LogLines.{line_at}
 use Rattle.round_log.specs.Rounds.{ChangesLine, IsClaimed, IsRound, RoundView}
 
 -- no claim has the slot

@@ -1,8 +1,7 @@
 pub mod Stores
 pub mod Rounds
 pub mod Held
-pub use Rattle.oplog_tail.specs as oplog_tail
-pub use Rattle.oplog_tail.specs.disk_rules as disk_rules
-pub use Rattle.disk_lines.specs as disk_lines
-pub use Rattle.disk_lines.specs.disk_places as disk_places
-pub use Rattle.pm_lines.specs.pm_words as pm_words
+pub use Rattle.oplog_entry.specs as oplog_entry
+pub use Rattle.oplog_entry.specs.image_model as image_model
+pub use Rattle.layout_model.specs as layout_model
+pub use Rattle.pm_lines.specs.pm_model as pm_model

@@ -1,8 +1,8 @@
 -- What contracts see of the log of a round.
 use Rattle.std.specs.Prelude.{◌≡◌, ◌≢◌, ◌≤◌, ◌<◌, ◌+◌, ◌^◌, ℕ, List, length, Result, Ok, Err}
-use Rattle.oplog_tail.specs.pm_words.Parts.{Part}
-use Rattle.oplog_tail.specs.declared.views.Full.{Full}
-use Rattle.oplog_tail.specs.Rule.{line_at}
+use Rattle.oplog_entry.specs.pm_model.Parts.{Part}
+use Rattle.oplog_entry.specs.declared.claims.Full.{Full}
+use Rattle.oplog_entry.specs.LogLines.{line_at}
 
 -- the lines, by rising slot; the log's base; and how many slots were claimed
 pub record RoundView : Type 0 where

@@ -1,12 +1,12 @@
 -- A line into which an entry is stored.
 use Rattle.std.specs.Prelude.{◌≡◌, ◌⊎◌, ◌<◌, ◌≤◌, ℕ, Bool, true, List}
-use Rattle.oplog_tail.specs.pm_words.declared.Cell.{Cell}
-use Rattle.oplog_tail.specs.pm_words.declared.Cell.TheVariants.{Two}
-use Rattle.oplog_tail.specs.pm_words.Cells.{cell, newest}
-use Rattle.oplog_tail.specs.pm_words.Words.{Words}
-use Rattle.disk_lines.specs.declared.Draft.{Draft}
-use Rattle.oplog_tail.specs.declared.views.Mark.{Mark}
-use Rattle.oplog_tail.specs.EntryLines.{entry_words, Holds, IsSingle}
+use Rattle.oplog_entry.specs.pm_model.declared.Cell.{Cell}
+use Rattle.oplog_entry.specs.pm_model.declared.Cell.TheVariants.{Two}
+use Rattle.oplog_entry.specs.pm_model.Cells.{cell, newest}
+use Rattle.oplog_entry.specs.pm_model.Words.{Words}
+use Rattle.layout_model.specs.declared.lines.Draft.{Draft}
+use Rattle.oplog_entry.specs.declared.claims.Mark.{Mark}
+use Rattle.oplog_entry.specs.EntryLines.{entry_words, Holds, IsSingle}
 
 -- THE WORDS ARE STORED, as many as the power lasted for: each word of the line is as it was, alone, or has the new word behind it;
 -- and where the power is on all have.

@@ -1,13 +1,13 @@
 //! An entry in its line.
 ghost use Rattle.std.specs.Prelude.{◌≡◌, ℕ, if◌then◌else◌};
-ghost use Rattle.oplog_tail.specs.pm_words.Powers.{is_on, Steps};
-ghost use Rattle.oplog_tail.specs.declared.views.Mark.TheVariants.{Lost, Written};
-ghost use Rattle.oplog_tail.specs.EntryLines.{entry_words, IsSingle};
+ghost use Rattle.oplog_entry.specs.pm_model.Powers.{is_on, Steps};
+ghost use Rattle.oplog_entry.specs.declared.claims.Mark.TheVariants.{Lost, Written};
+ghost use Rattle.oplog_entry.specs.EntryLines.{entry_words, IsSingle};
 ghost use Rattle.round_log.specs.Stores.{HasStored, Persists};
 
-use disk_lines::Draft;
-use line_fields::u64_at;
-use oplog_tail::encode;
+use image_layout::u64_at;
+use layout_model::Draft;
+use oplog_entry::encode;
 use pm_lines::{Line, Power};
 
 // Stores the words of an entry into a line. Without power the rest of the steps do nothing.

@@ -6,8 +6,8 @@
 //! slot changes; what was stored and persisted with power left holds the entry, whole and durable; and where the
 //! power went the line holds it, or each of its words is as before or has the entry's word behind it (`Holds`).
 //!
-//! It is for one thread at a time. Stands on `oplog_entry`, which spells entries, and on what `oplog_tail`
-//! says of a line into which one is written.
+//! It is for one thread at a time. Stands on `oplog_entry`, which spells entries and says what an append
+//! leaves in its line.
 #![tactic(auto)]
 
 mod entries;

@@ -1,15 +1,15 @@
 //! The log, and an append in its steps.
 ghost use Rattle.std.specs.Prelude.{◌≡◌, ◌≤◌, ◌<◌, ◌+◌, ◌^◌, length, if◌then◌else◌};
-ghost use Rattle.oplog_tail.specs.pm_words.Powers.{is_on, Steps};
-ghost use Rattle.oplog_tail.specs.declared.views.Mark.TheVariants.{Lost, Written};
-ghost use Rattle.oplog_tail.specs.EntryLines.{entry_words, IsSingle};
-ghost use Rattle.oplog_tail.specs.Rule.{line_at};
+ghost use Rattle.oplog_entry.specs.pm_model.Powers.{is_on, Steps};
+ghost use Rattle.oplog_entry.specs.declared.claims.Mark.TheVariants.{Lost, Written};
+ghost use Rattle.oplog_entry.specs.EntryLines.{entry_words, IsSingle};
+ghost use Rattle.oplog_entry.specs.LogLines.{line_at};
 ghost use Rattle.round_log.specs.Rounds.{ChangesLine, IsClaimed};
 ghost use Rattle.round_log.specs.Stores.{HasStored, Persists};
 
 use crate::entries::{persist_line, store_entry};
-use disk_lines::Draft;
-use oplog_tail::Full;
+use layout_model::Draft;
+use oplog_entry::Full;
 use pm_lines::{Line, Power};
 use std::marker::Model;
 

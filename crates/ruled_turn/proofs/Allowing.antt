@@ -7,7 +7,7 @@ use prog.Atomic.{either}
 use lib.ListN.{get_elem?}
 use Rattle.atomic_table.specs.Table.{Act, Allows, carried_after, Final, gives, homes_after, Joins, keeps, Me, opening, Seen, Splits, State, step, takes, Valid}
 use Rattle.atomic_table.proofs.Lists.{set_again}
-use Rattle.view_sums.specs.Sums.{sum_one, sum_two}
+use Rattle.list_laws.specs.Sums.{sum_one, sum_two}
 use Rattle.ruled_turn.specs.declared.views.Opening.{Opening}
 use Rattle.ruled_turn.specs.declared.views.Standing.{Standing}
 use Rattle.ruled_turn.specs.Standings.{carried_count, first_alone, holds_turn, inside_count, joined, outside, within, without_first}

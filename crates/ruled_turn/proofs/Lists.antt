@@ -2,7 +2,7 @@
 use Rattle.std.proofs.Common.{◌≡◌, ◌≢◌, ℕ, zero, suc, ◌+◌, ◌<◌, List, [], ◌∷◌, length, take, drop, set, get_or, refl, ap, arith}
 use Rattle.std.specs.Prelude.{Contains, slice_get, Some}
 use Rattle.std.specs.List.{enumerate_from}
-use Rattle.view_sums.specs.Numbers.{count_with, count_with-append, once_below, once_more}
+use Rattle.list_laws.specs.Numbers.{count_with, count_with-append, once_below, once_more}
 use Rattle.ruled_turn.specs.Standings.{number_of}
 
 module _ {A : Type 0} where

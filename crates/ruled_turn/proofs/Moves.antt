@@ -8,8 +8,8 @@ use mathlib.Core.Option.{none, some, some-injective, some-ne-none}
 use mathlib.Core.Option as maybe
 use lib.ListN.{get_elem?}
 use Rattle.atomic_table.proofs.Lists.{at_set, at_snoc, set_else}
-use Rattle.view_sums.specs.Numbers.{count_with-append, once_below, once_past, once-le, with_of_member}
-use Rattle.view_sums.specs.Sums.{sum_at, sum_set, sum_split, sum_two}
+use Rattle.list_laws.specs.Numbers.{count_with-append, once_below, once_past, once-le, with_of_member}
+use Rattle.list_laws.specs.Sums.{sum_at, sum_set, sum_split, sum_two}
 use Rattle.ruled_turn.specs.declared.views.Standing.{Standing}
 use Rattle.ruled_turn.specs.Standings.{carried_count, carried_with, first_alone, holds_turn, inside_count, joined, number_of, outside, within, without_first}
 use Rattle.ruled_turn.specs.Rule.{Fits, Rule}

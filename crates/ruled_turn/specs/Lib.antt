@@ -2,4 +2,4 @@ pub mod Standings
 pub mod Rule
 pub mod Steps
 pub mod Passes
-pub use Rattle.view_sums.specs as view_sums
+pub use Rattle.list_laws.specs as list_laws

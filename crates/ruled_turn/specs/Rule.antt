@@ -9,7 +9,7 @@ use Rattle.atomic_table.specs.Table.{State}
 use Rattle.ruled_turn.specs.declared.views.Opening.{Opening}
 use Rattle.ruled_turn.specs.declared.views.Standing.{Standing}
 use Rattle.ruled_turn.specs.Standings.{carried_count, carried_with, holds_turn, outside}
-use Rattle.view_sums.specs.Numbers.{once_below}
+use Rattle.list_laws.specs.Numbers.{once_below}
 
 module _ {T V : Type 0} (holds : T → List V → Type 0) where
   -- the passes that a seat carries have these views

@@ -1,6 +1,6 @@
 -- What a seat of the turn carries, counted.
 use Rattle.std.specs.Prelude.{ℕ, List, ◌++◌, length, take, drop, Option, Some, None}
-use Rattle.view_sums.specs.Numbers.{count_with}
+use Rattle.list_laws.specs.Numbers.{count_with}
 use Rattle.ruled_turn.specs.declared.views.Standing.{Standing}
 
 -- whether there is a value

@@ -8,7 +8,9 @@
 //!
 //! That a thread that waits is let in is not promised.
 //!
-//! Stands on `view_sums` and the kit's `atomic_table`.
+//! The word of a turn is 0 or 1, and the view of a pass is a type of the caller's protocol.
+//!
+//! Stands on `list_laws` and the kit's `atomic_table`.
 #![tactic(auto)]
 
 mod closing;

@@ -4,7 +4,7 @@ use Rattle.std.specs.Prelude.{codes, decimal, option_map}
 use Rattle.std.specs.Fmt.{signed_decimal}
 use Rattle.posix_types.specs.declared.call.Call.{Call}
 use Rattle.posix_types.specs.declared.handle.Whence.{Whence}
-use Rattle.posix_spec.specs.posix_words.Places.{printed}
+use Rattle.posix_spec.specs.posix_tables.Places.{printed}
 use Rattle.report_text.specs.Texts.{call_text, data_text, flags_text, handle_text, whence_text}
 use Rattle.script_text.specs.Calls.{all_three, both, call_in}
 use Rattle.script_text.specs.Lines.{first_word, words_from, words_of}

@@ -4,7 +4,7 @@ use Rattle.std.specs.Prelude.{◌==◌, codes, nat_le, decimal, flat_map}
 use Rattle.std.specs.List.{All, list_all}
 use Rattle.std.proofs.lemmas.Bool.{agree_below_at, and_from, and_parts, and_right, cases_Bool, cond-false, cond-true, eq-eqb, eqb-true, le-leb, leb-true, ne_eqb, or_cases}
 use Rattle.std.proofs.lemmas.List.Elements.{All-head, All-tail}
-use Rattle.path_spelling.specs.disk_places.Fields.{is_same}
+use Rattle.layout_model.specs.Fields.{is_same}
 use Rattle.report_text.specs.Texts.{are_equal, data_text, hex_byte, hex_digit, is_short}
 use Rattle.script_text.specs.Words.{data_in, hex_bytes, hex_value, is_even_count, is_hex_digit, is_repeat, most_data, number_in, repeated, repeated_in}
 use Rattle.script_text.specs.Written.{IsWrittenData}

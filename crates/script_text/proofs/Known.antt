@@ -5,7 +5,7 @@ use Rattle.std.specs.List.{All, AllByRecursion}
 use Rattle.std.proofs.lemmas.Bool.{and_parts}
 use Rattle.std.proofs.lemmas.List.Elements.{All-from_recursion}
 use Rattle.std.proofs.lemmas.Slice.Eq.{bytes_eq-Decides}
-use Rattle.path_spelling.specs.disk_places.Fields.{is_same}
+use Rattle.layout_model.specs.Fields.{is_same}
 use Rattle.posix_types.specs.declared.call.Call.{Call}
 use Rattle.script_text.specs.declared.kinds.Kind.{Kind}
 use Rattle.script_text.specs.declared.kinds.Kind.TheVariants.{Calls, Passed, SetUp, Thread, Unread}

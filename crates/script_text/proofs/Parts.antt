@@ -4,7 +4,7 @@ use Rattle.std.proofs.lemmas.Bool.{and_from, and_left, and_right, cases_lt, cond
 use Rattle.std.proofs.lemmas.List.{take_all}
 use Rattle.std.proofs.lemmas.List.Folds.{list_all-append}
 use Rattle.std.specs.List.{list_all}
-use Rattle.path_spelling.specs.Spelling.{is_spelled}
+use Rattle.layout_model.specs.Spelling.{is_spelled}
 use Rattle.script_text.specs.Words.{names_in, parts_of, with_part}
 
 inside : (b : ℕ) (text : List ℕ) → b ≢ 47 → parts_of (b ∷ text) ≡ with_part b (parts_of text)

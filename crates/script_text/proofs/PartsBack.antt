@@ -10,10 +10,10 @@ use Rattle.std.proofs.lemmas.Bool.{and_from, and_parts, cond-false, cond-true, l
 use Rattle.std.proofs.lemmas.Fmt.{decimal_digit, decimal_nonempty, digits_decimal, digits_value-decimal, first_decimal, length-decimal-le}
 use Rattle.std.proofs.lemmas.List.Elements.{All-head, All-tail}
 use Rattle.std.proofs.lemmas.List.Folds.{list_all-append}
-use Rattle.path_spelling.specs.disk_lines.Lines.{is_dots, is_name_byte}
-use Rattle.path_spelling.specs.Spelling.{AreSpelled, is_spelled}
+use Rattle.layout_model.specs.Lines.{is_dots, is_name_byte}
+use Rattle.layout_model.specs.Spelling.{AreSpelled, is_spelled}
 use Rattle.posix_types.specs.declared.handle.Handle.{Handle}
-use Rattle.posix_spec.specs.posix_words.Places.{printed}
+use Rattle.posix_spec.specs.posix_tables.Places.{printed}
 use Rattle.report_text.specs.Texts.{handle_text}
 use Rattle.script_text.specs.Words.{handle_in, is_handle, is_handle_byte, is_number, less, number_in, parts_of, path_in, signed_in, with_part}
 use Rattle.script_text.specs.Written.{distance, IsWrittenHandle}

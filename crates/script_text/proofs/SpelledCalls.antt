@@ -3,8 +3,8 @@ use Rattle.std.proofs.Common.{◌≡◌, ℕ, List, [], ◌∷◌, refl, Bool, t
 use Rattle.std.specs.Prelude.{codes, map, not, ◌&&◌, option_map, IfSome, ◌==◌}
 use Rattle.std.specs.List.{All, AllByRecursion, list_all}
 use Rattle.std.proofs.lemmas.List.Elements.{All-from_recursion, All-nil}
-use Rattle.path_spelling.specs.disk_places.Fields.{is_same}
-use Rattle.path_spelling.specs.Spelling.{AreSpelled, is_spelled}
+use Rattle.layout_model.specs.Fields.{is_same}
+use Rattle.layout_model.specs.Spelling.{AreSpelled, is_spelled}
 use Rattle.posix_types.specs.declared.call.Call.{Call}
 use Rattle.script_text.specs.declared.kinds.Kind.{Kind}
 use Rattle.script_text.specs.declared.kinds.Kind.TheVariants.{Calls, Passed, SetUp, Thread, Unread}

@@ -2,7 +2,7 @@
 use Rattle.std.proofs.Common.{append_assoc, refl, ap, sym, arith}
 use Rattle.std.proofs.lemmas.Bool.{ne_eqb}
 use Rattle.std.proofs.lemmas.List.{append-nil}
-use Rattle.path_spelling.specs.disk_places.Fields.{is_same}
+use Rattle.layout_model.specs.Fields.{is_same}
 use Rattle.std.specs.Prelude.{◌≡◌, ◌==◌, length, List, [], ◌∷◌, ◌++◌, ℕ}
 use Rattle.posix_types.specs.declared.handle.Flags.{Flags}
 use Rattle.report_text.specs.Texts.{flags_text, letter_if}

@@ -1,7 +1,7 @@
 -- The calls that lines are.
 use Rattle.std.specs.Prelude.{ℕ, List, [], ◌∷◌, codes, Bool, Option, Some, None, option_map, if◌then◌else◌}
 use Rattle.std.specs.List.{list_any}
-use Rattle.path_spelling.specs.disk_places.Fields.{is_same}
+use Rattle.layout_model.specs.Fields.{is_same}
 use Rattle.posix_types.specs.declared.call.Call.{Call}
 use Rattle.script_text.specs.Words.{data_in, flags_in, handle_in, number_in, path_in, signed_in, whence_in}
 

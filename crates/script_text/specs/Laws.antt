@@ -1,7 +1,7 @@
 -- What holds of every script.
 use Rattle.std.specs.Prelude.{◌≡◌, ℕ, ◌≤◌, ◌==◌, List, [], ◌∷◌, ◌++◌, length, flat_map, Bool, true, not, ◌&&◌, ◌||◌, if◌then◌else◌, Some, None}
 use Rattle.std.specs.List.{list_all}
-use Rattle.path_spelling.specs.Spelling.{AreSpelled}
+use Rattle.layout_model.specs.Spelling.{AreSpelled}
 use Rattle.posix_types.specs.Scripts.{Scripts}
 use Rattle.posix_spec.specs.Scripted.{call_count}
 use Rattle.script_text.specs.Lines.{Line, lines_of}

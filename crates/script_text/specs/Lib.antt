@@ -10,4 +10,4 @@ pub mod Spelled
 pub mod Words
 pub mod Written
 pub use Rattle.posix_spec.specs as posix_spec
-pub use Rattle.path_spelling.specs.disk_lines as disk_lines
+pub use Rattle.layout_model.specs as layout_model

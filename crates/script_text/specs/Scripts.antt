@@ -5,7 +5,7 @@
 -- thread. Calls before any heading are the script of thread 0.
 use Rattle.std.specs.Prelude.{ℕ, ◌+◌, List, [], ◌∷◌, length, map, take, count_by, codes, slice_index_or, Bool, true, false, not, ◌&&◌, ◌==◌, nat_le, nat_lt, position, Option, Some, None, option_map, if◌then◌else◌}
 use Rattle.std.specs.List.{list_any, range_with_len}
-use Rattle.path_spelling.specs.disk_places.Fields.{is_same}
+use Rattle.layout_model.specs.Fields.{is_same}
 use Rattle.posix_types.specs.declared.call.Call.{Call}
 use Rattle.posix_types.specs.Scripts.{Scripts}
 use Rattle.script_text.specs.Calls.{call_in, is_known}

@@ -1,6 +1,6 @@
 -- Calls whose paths are spelled as paths are.
 use Rattle.std.specs.Prelude.{All}
-use Rattle.path_spelling.specs.Spelling.{AreSpelled}
+use Rattle.layout_model.specs.Spelling.{AreSpelled}
 use Rattle.posix_types.specs.declared.call.Call.{Call}
 use Rattle.posix_types.specs.Scripts.{Scripts}
 

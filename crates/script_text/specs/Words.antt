@@ -3,8 +3,8 @@ use Rattle.std.specs.Prelude.{ℕ, zero, suc, ◌+◌, ◌*◌, ◌-◌, ◌/◌
 use Rattle.std.specs.Char.{is_ascii_digit}
 use Rattle.std.specs.List.{list_all, list_any}
 use Rattle.std.specs.Str.Parse.{digits_value}
-use Rattle.path_spelling.specs.disk_places.Fields.{is_same}
-use Rattle.path_spelling.specs.Spelling.{is_spelled}
+use Rattle.layout_model.specs.Fields.{is_same}
+use Rattle.layout_model.specs.Spelling.{is_spelled}
 use Rattle.posix_types.specs.declared.handle.Flags.{Flags}
 use Rattle.posix_types.specs.declared.handle.Handle.{Handle}
 use Rattle.posix_types.specs.declared.handle.Whence.{Whence}

@@ -1,6 +1,6 @@
 -- Calls that a script can have, by their parts.
 use Rattle.std.specs.Prelude.{◌≡◌, ℕ, ◌-◌, ◌^◌, ◌<◌, ◌≤◌, ℤ, pos, negsuc, suc, List, length, take, replicate, true, Some, All, ◌++◌}
-use Rattle.path_spelling.specs.Spelling.{AreSpelled}
+use Rattle.layout_model.specs.Spelling.{AreSpelled}
 use Rattle.posix_types.specs.declared.call.Call.{Call}
 use Rattle.posix_types.specs.declared.handle.Handle.{Handle}
 use Rattle.report_text.specs.Texts.{call_text}

@@ -1,7 +1,7 @@
 //! Handles, flags, and what a seek counts from.
 ghost use Rattle.std.specs.Prelude.{◌≡◌, ◌≤◌, ◌++◌, ◌∷◌, [], ℕ, List, length, false, MatchOption, Some, None};
 ghost use Rattle.std.specs.List.{list_all};
-ghost use Rattle.path_spelling.specs.disk_places.Fields.{is_same};
+ghost use Rattle.layout_model.specs.Fields.{is_same};
 ghost use Rattle.report_text.specs.Texts.{flags_text, letter_if};
 ghost use Rattle.script_text.specs.Words.{flags_in, handle_in, has_letter, is_handle, is_handle_byte, lettered, may_open, whence_in};
 

@@ -10,8 +10,7 @@
 //! threads and 4,096 calls, each call has a known word, and the words of what a call is printed as are
 //! read as that call (`laws`).
 //!
-//! Stands on `posix_types`, on `path_spelling` and `disk_lines` for the bytes of names, on
-//! `disk_places` for equal bytes, and on `report_text` for the texts of flags and calls.
+//! Stands on `posix_types`, on `layout_model` for the bytes of names and equal bytes, and on `report_text` for the texts of flags and calls.
 #![tactic(auto)]
 
 mod calls;

@@ -1,8 +1,8 @@
 //! Paths: the slash alone, or names that each have a slash before them.
 ghost use Rattle.std.specs.Prelude.{◌≡◌, IfOk};
 ghost use Rattle.std.specs.List.{list_all};
-ghost use Rattle.path_spelling.specs.disk_lines.Lines.{is_dots, is_name_byte};
-ghost use Rattle.path_spelling.specs.Spelling.{is_spelled};
+ghost use Rattle.layout_model.specs.Lines.{is_dots, is_name_byte};
+ghost use Rattle.layout_model.specs.Spelling.{is_spelled};
 ghost use Rattle.script_text.specs.Words.{names_in, parts_of, path_in};
 
 use crate::cuts::{behind, front, length_before};

@@ -13,7 +13,7 @@ use std::alloc::Global;
 /// The most bytes of a script.
 const LONGEST_SCRIPT: usize = 4_194_304;
 
-/// The scripts of a text, or the first line that breaks the grammar or a limit. It may want memory
+/// The scripts of a text, or the first line that breaks the grammar or a limit. It may run out of memory
 /// for either.
 #[tactic(auto, unfolding(crate::specs::Scripts::bad_line))]
 pub fn read_script(alloc: Global, bytes: &[u8]) -> Result<Scripts, ScriptFault>

@@ -1,23 +1,23 @@
 -- The next call of a caller: what it asks for once the log is out, and what its answers leave.
 use Rattle.std.specs.Prelude.{◌≡◌, ◌<◌, ◌^◌, ℕ, true, false, List, [], length, Option, Some, None, IfOk, Result, Ok, Err}
 use Rattle.std.proofs.Common.{arith, sym, subst}
-use Rattle.event_jobs.specs.pm_words.Parts.{Part}
-use Rattle.event_jobs.specs.pm_words.Powers.{is_on, Steps, Supply}
-use Rattle.event_jobs.specs.list_facts.Members.{In}
+use Rattle.run_laws.specs.pm_model.Parts.{Part}
+use Rattle.run_laws.specs.pm_model.Powers.{is_on, Steps, Supply}
+use Rattle.run_laws.specs.list_laws.Members.{In}
 use Rattle.posix_types.specs.declared.call.Who.{Who}
-use Rattle.event_jobs.specs.posix_spec.Scripted.{IsSetUp}
-use Rattle.event_jobs.proofs.event_facts_proofs.Calls.{small}
-use Rattle.event_jobs.proofs.event_facts_proofs.Names.{Steps-more}
-use Rattle.event_jobs.specs.flight_names.declared.outcomes.NoMemory.{NoMemory}
-use Rattle.event_jobs.specs.round_log.Rounds.{RoundView}
-use Rattle.event_jobs.specs.round_views.declared.over.Over.{Over}
-use Rattle.event_jobs.specs.round_views.Begins.{BeginsJob, IsPowerLost, IsRoundOver, Returns, Waits}
-use Rattle.event_jobs.specs.round_views.Rounds.{IsRoundBegun}
-use Rattle.event_jobs.specs.round_views.Views.{HasNone, next_of, WorldView}
-use Rattle.event_jobs.specs.script_calls.Costs.{most_of}
-use Rattle.event_jobs.specs.event_facts.Events.{CanAct, EndsScript, GoesOn, HasLog, LosesPower, only_log, OutView}
-use Rattle.event_jobs.specs.event_facts.Laws.{ActsEnded, ActsLost, ActsReturned, EndsTurned, GoesOnTurned, HasLogOut, HasOneLog, IsOpen, LosesTurned, opened_log, OpensLog}
-use Rattle.event_jobs.specs.write_jobs.Jobs.{JobView}
+use Rattle.run_laws.specs.posix_spec.Scripted.{IsSetUp}
+use Rattle.run_laws.proofs.Calls.{small}
+use Rattle.run_laws.proofs.Names.{Steps-more}
+use Rattle.run_laws.specs.file_calls.declared.names.outcomes.NoMemory.{NoMemory}
+use Rattle.run_laws.specs.round_log.Rounds.{RoundView}
+use Rattle.run_laws.specs.world_view_laws.declared.views.over.Over.{Over}
+use Rattle.run_laws.specs.world_view_laws.Begins.{BeginsJob, IsPowerLost, IsRoundOver, Returns, Waits}
+use Rattle.run_laws.specs.world_view_laws.Rounds.{IsRoundBegun}
+use Rattle.run_laws.specs.world_view_laws.Views.{HasNone, next_of, WorldView}
+use Rattle.run_laws.specs.in_flight.Costs.{most_of}
+use Rattle.run_laws.specs.Events.{CanAct, EndsScript, GoesOn, HasLog, LosesPower, only_log, OutView}
+use Rattle.run_laws.specs.EventsLaws.{ActsEnded, ActsLost, ActsReturned, EndsTurned, GoesOnTurned, HasLogOut, HasOneLog, IsOpen, LosesTurned, opened_log, OpensLog}
+use Rattle.run_laws.specs.write_jobs.Jobs.{JobView}
 use Rattle.split_machine.specs.declared.events.Acted.{Acted}
 use Rattle.split_machine.specs.Events.{EndsIn, IsActed, RunsJob}
 

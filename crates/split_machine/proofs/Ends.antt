@@ -1,31 +1,31 @@
 -- How a run ends.
 use Rattle.std.specs.Prelude.{◌≡◌, ◌≤◌, ◌+◌, ◌*◌, ◌^◌, ℕ, true, false, List, [], ◌++◌, length, map, Some, Ok, Err, IfOk, Result}
 use Rattle.std.proofs.Common.{arith, ap, ◌∙◌, sym, subst, inl, inr}
-use Rattle.event_jobs.specs.flight_names.declared.outcomes.NoMemory.{NoMemory}
-use Rattle.event_jobs.specs.pm_words.declared.Cell.{Cell}
-use Rattle.event_jobs.specs.pm_words.Powers.{Steps, Supply}
+use Rattle.run_laws.specs.file_calls.declared.names.outcomes.NoMemory.{NoMemory}
+use Rattle.run_laws.specs.pm_model.declared.Cell.{Cell}
+use Rattle.run_laws.specs.pm_model.Powers.{Steps, Supply}
 use Rattle.posix_types.specs.declared.call.Who.{Who}
 use Rattle.posix_types.specs.declared.item.Item.{Item}
 use Rattle.posix_types.specs.Scripts.{Scripts}
-use Rattle.event_jobs.specs.posix_facts.UnfinishedLaws.{AreUnfinished-none}
-use Rattle.event_jobs.specs.posix_spec.Afforded.{Afforded}
-use Rattle.event_jobs.specs.posix_spec.Run.{Begun, IsLegal}
-use Rattle.event_jobs.specs.posix_spec.Scripted.{IsComplete, Scripted}
-use Rattle.event_jobs.specs.posix_spec.State.{State}
-use Rattle.event_jobs.specs.posix_spec.Unfinished.{AreUnfinished}
-use Rattle.event_jobs.specs.image_layout.declared.geometry.Geometry.{Geometry}
-use Rattle.event_jobs.specs.world_images.Promised.{KeepsPromise}
-use Rattle.event_jobs.specs.world_standing.Standing.{Pending}
-use Rattle.event_jobs.specs.write_ends.Ends.{begun_by}
-use Rattle.event_jobs.specs.round_views.Rounds.{IsLeft}
-use Rattle.event_jobs.specs.round_views.Views.{calls_out, WorldView}
+use Rattle.run_laws.specs.posix_laws.UnfinishedLaws.{AreUnfinished-none}
+use Rattle.run_laws.specs.posix_spec.Afforded.{Afforded}
+use Rattle.run_laws.specs.posix_spec.Run.{Begun, IsLegal}
+use Rattle.run_laws.specs.posix_spec.Scripted.{IsComplete, Scripted}
+use Rattle.run_laws.specs.posix_spec.State.{State}
+use Rattle.run_laws.specs.posix_spec.Unfinished.{AreUnfinished}
+use Rattle.run_laws.specs.image_layout.declared.layout.geometry.Geometry.{Geometry}
+use Rattle.run_laws.specs.world_image_laws.Promised.{KeepsPromise}
+use Rattle.run_laws.specs.live_model.Standing.{Pending}
+use Rattle.run_laws.specs.write_end.Ends.{begun_by}
+use Rattle.run_laws.specs.world_view_laws.Rounds.{IsLeft}
+use Rattle.run_laws.specs.world_view_laws.Views.{calls_out, WorldView}
 use Rattle.split_world.specs.world_parts.Answers.{IsEnded}
 use Rattle.split_world.specs.world_parts.declared.outcomes.Crashed.{Crashed}
 use Rattle.split_world.specs.world_parts.declared.outcomes.Ended.{Ended}
-use Rattle.event_jobs.specs.event_facts.Changes.{ChangesAtMost}
-use Rattle.event_jobs.specs.event_facts.Events.{IsCutOff, OutView}
-use Rattle.event_jobs.specs.event_facts.Laws.{AffordsLost, AffordsWhole, KeepsGiven}
-use Rattle.event_jobs.specs.event_facts.Paid.{IsPaidOff}
+use Rattle.run_laws.specs.Changes.{ChangesAtMost}
+use Rattle.run_laws.specs.Events.{IsCutOff, OutView}
+use Rattle.run_laws.specs.EventsLaws.{AffordsLost, AffordsWhole, KeepsGiven}
+use Rattle.run_laws.specs.Paid.{IsPaidOff}
 use Rattle.split_machine.specs.Runs.{HasRun, IsRan, IsRunEnded}
 
 -- what the World counted of its acts

@@ -1,19 +1,19 @@
 -- A job of one caller: what its steps ask for, and what they leave.
 use Rattle.std.specs.Prelude.{◌≡◌, ◌≤◌, ◌<◌, ◌*◌, ◌^◌, ℕ, Bool, true, false, length, Option, Some, None, Err}
 use Rattle.std.proofs.Common.{arith, ap, ◌∙◌, sym, subst}
-use Rattle.event_jobs.specs.oplog_tail.declared.views.Full.{Full}
-use Rattle.event_jobs.specs.oplog_tail.EntryLines.{IsSingle}
-use Rattle.event_jobs.specs.oplog_tail.Rule.{line_at}
-use Rattle.event_jobs.specs.pm_words.Powers.{is_on, Steps, Supply}
-use Rattle.event_jobs.proofs.event_facts_proofs.Names.{Steps-more}
-use Rattle.event_jobs.specs.round_log.Rounds.{IsClaimed, RoundView}
-use Rattle.event_jobs.specs.round_views.Begins.{IsFilledOut}
-use Rattle.event_jobs.specs.round_views.Jobs.{Finishes, GivesUp, IsOfWorld, LosesFinish}
-use Rattle.event_jobs.specs.round_views.Views.{WorldView}
-use Rattle.event_jobs.specs.world_standing.Standing.{Pending}
-use Rattle.event_jobs.specs.event_facts.Events.{GoesOn, LosesPower, only_log, OutView}
-use Rattle.event_jobs.specs.Laws.{ActsFinished, ActsGivenUp, HasAppended, HasFilled, IsFilledHere, LosesAppend, LosesFill, NeverLosesFinish, PersistsLine, SlotIsFree, StoresEntry}
-use Rattle.event_jobs.specs.write_jobs.Jobs.{FilledView, IsCutOff, IsFilled, JobView}
+use Rattle.run_laws.specs.oplog_entry.declared.claims.Full.{Full}
+use Rattle.run_laws.specs.oplog_entry.EntryLines.{IsSingle}
+use Rattle.run_laws.specs.oplog_entry.LogLines.{line_at}
+use Rattle.run_laws.specs.pm_model.Powers.{is_on, Steps, Supply}
+use Rattle.run_laws.proofs.Names.{Steps-more}
+use Rattle.run_laws.specs.round_log.Rounds.{IsClaimed, RoundView}
+use Rattle.run_laws.specs.world_view_laws.Begins.{IsFilledOut}
+use Rattle.run_laws.specs.world_view_laws.Jobs.{Finishes, GivesUp, IsOfWorld, LosesFinish}
+use Rattle.run_laws.specs.world_view_laws.Views.{WorldView}
+use Rattle.run_laws.specs.live_model.Standing.{Pending}
+use Rattle.run_laws.specs.Events.{GoesOn, LosesPower, only_log, OutView}
+use Rattle.run_laws.specs.JobsLaws.{ActsFinished, ActsGivenUp, HasAppended, HasFilled, IsFilledHere, LosesAppend, LosesFill, NeverLosesFinish, PersistsLine, SlotIsFree, StoresEntry}
+use Rattle.run_laws.specs.write_jobs.Jobs.{FilledView, IsCutOff, IsFilled, JobView}
 use Rattle.split_machine.specs.Events.{beside_log, RunsClaimed, RunsFilled, RunsJob}
 
 -- ---- it is filled

@@ -2,19 +2,19 @@
 use Rattle.std.specs.Prelude.{◌≡◌, ◌⊎◌, ◌≤◌, ◌+◌, ◌*◌, ◌==◌, ℕ, zero, suc, Bool, true, false, cond, List, [], ◌∷◌, length, sum_by, None, Result, Ok, Err, IfOk, slice_get, slice_index_or, refl}
 use Rattle.std.proofs.Common.{arith, ap, ◌∙◌, sym, subst, inl, inr}
 use Rattle.std.proofs.lemmas.List.Sums.{sum_by-cons}
-use Rattle.event_jobs.specs.flight_names.declared.outcomes.NoMemory.{NoMemory}
-use Rattle.event_jobs.specs.pm_words.Powers.{Steps, Supply}
+use Rattle.run_laws.specs.file_calls.declared.names.outcomes.NoMemory.{NoMemory}
+use Rattle.run_laws.specs.pm_model.Powers.{Steps, Supply}
 use Rattle.posix_types.specs.declared.call.Call.{Call}
 use Rattle.posix_types.specs.declared.call.Who.{Who}
 use Rattle.posix_types.specs.declared.item.Item.{Item}
 use Rattle.posix_types.specs.Scripts.{Scripts}
-use Rattle.event_jobs.specs.posix_words.Open.{same_who}
-use Rattle.event_jobs.specs.posix_spec.Scripted.{IsComplete, IsSetUp, items_of, next_call, Scripted}
-use Rattle.event_jobs.specs.round_views.Views.{next_of, WorldView}
-use Rattle.event_jobs.specs.script_calls.Counts.{history_within, made_within}
-use Rattle.event_jobs.specs.event_facts.Changes.{ChangesAtMost}
-use Rattle.event_jobs.specs.event_facts.Events.{CanAct, EndsScript, GoesOn, IsLater, LosesPower, only_log, OutView}
-use Rattle.event_jobs.specs.event_facts.Paid.{act_steps, has_moved, IsPaid, may_move}
+use Rattle.run_laws.specs.posix_tables.Open.{same_who}
+use Rattle.run_laws.specs.posix_spec.Scripted.{IsComplete, IsSetUp, items_of, next_call, Scripted}
+use Rattle.run_laws.specs.world_view_laws.Views.{next_of, WorldView}
+use Rattle.run_laws.specs.in_flight.Counts.{history_within, made_within}
+use Rattle.run_laws.specs.Changes.{ChangesAtMost}
+use Rattle.run_laws.specs.Events.{CanAct, EndsScript, GoesOn, IsLater, LosesPower, only_log, OutView}
+use Rattle.run_laws.specs.Paid.{act_steps, has_moved, IsPaid, may_move}
 use Rattle.split_machine.specs.Runs.{HasRun, IsFirst, IsScriptRun}
 
 -- ---- one caller

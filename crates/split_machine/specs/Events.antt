@@ -1,16 +1,16 @@
 -- What the events of one call leave.
 use Rattle.std.specs.Prelude.{◌≡◌, ℕ, Ok, Option, Some, None}
-use Rattle.event_jobs.specs.pm_words.Powers.{Steps, Supply}
+use Rattle.run_laws.specs.pm_model.Powers.{Steps, Supply}
 use Rattle.posix_types.specs.declared.call.Who.{Who}
-use Rattle.event_jobs.specs.round_log.Rounds.{IsClaimed, RoundView}
-use Rattle.event_jobs.specs.round_views.declared.over.Over.{Over}
-use Rattle.event_jobs.specs.round_views.Begins.{IsRoundOver}
-use Rattle.event_jobs.specs.round_views.Views.{next_of, WorldView}
-use Rattle.event_jobs.specs.script_calls.Costs.{most_of}
-use Rattle.event_jobs.specs.write_jobs.Jobs.{FilledView, JobView}
-use Rattle.event_jobs.specs.event_facts.Events.{EndsScript, GoesOn, LosesPower, only_log, OutView}
-use Rattle.event_jobs.specs.event_facts.Laws.{HasLogOut}
-use Rattle.event_jobs.specs.Laws.{HasBegun, HasFilled}
+use Rattle.run_laws.specs.round_log.Rounds.{IsClaimed, RoundView}
+use Rattle.run_laws.specs.world_view_laws.declared.views.over.Over.{Over}
+use Rattle.run_laws.specs.world_view_laws.Begins.{IsRoundOver}
+use Rattle.run_laws.specs.world_view_laws.Views.{next_of, WorldView}
+use Rattle.run_laws.specs.in_flight.Costs.{most_of}
+use Rattle.run_laws.specs.write_jobs.Jobs.{FilledView, JobView}
+use Rattle.run_laws.specs.Events.{EndsScript, GoesOn, LosesPower, only_log, OutView}
+use Rattle.run_laws.specs.EventsLaws.{HasLogOut}
+use Rattle.run_laws.specs.JobsLaws.{HasBegun, HasFilled}
 use Rattle.split_machine.specs.declared.events.Acted.{Acted}
 
 -- WHAT ONE STRETCH OF EVENTS LEAVES, by how far the caller came.

@@ -1,21 +1,20 @@
 pub mod Events
 pub mod Runs
-pub use Rattle.split_world.specs.k_mount.Laws as MountLaws
-pub use Rattle.split_world.specs.k_mount.Sheds
-pub use Rattle.split_world.specs.log_mount.Mounts
-pub use Rattle.split_world.specs.log_mount.Resets
-pub use Rattle.split_world.specs.log_mount.Sweeps
-pub use Rattle.split_world.specs.log_mount.k_check as k_check
-pub use Rattle.event_jobs.specs.event_facts as event_facts
-pub use Rattle.event_jobs.specs.round_views as round_views
-pub use Rattle.event_jobs.specs.round_views.flight_calls.Built
-pub use Rattle.event_jobs.specs.world_images as world_images
-pub use Rattle.event_jobs.specs.world_images.image_facts as image_facts
-pub use Rattle.event_jobs.specs.world_standing.k_split.k_content as k_content
-pub use Rattle.event_jobs.specs.world_standing.world_beginning as world_beginning
-pub use Rattle.event_jobs.specs.world_standing.world_rules as world_rules
-pub use Rattle.event_jobs.specs.crash_spec as crash_spec
-pub use Rattle.event_jobs.specs.disk_rules as disk_rules
-pub use Rattle.event_jobs.specs.k_rules as k_rules
-pub use Rattle.event_jobs.specs.posix_trees as posix_trees
-pub use Rattle.event_jobs.specs.volume_facts as volume_facts
+pub use Rattle.split_world.specs.log_replay.Laws as MountLaws
+pub use Rattle.split_world.specs.log_replay.Sheds
+pub use Rattle.split_world.specs.log_replay.Mounts
+pub use Rattle.split_world.specs.log_replay.Resets
+pub use Rattle.split_world.specs.log_replay.Sweeps
+pub use Rattle.split_world.specs.log_replay.k_check as k_check
+pub use Rattle.run_laws.specs as run_laws
+pub use Rattle.run_laws.specs.world_view_laws as world_view_laws
+pub use Rattle.run_laws.specs.world_view_laws.file_calls.Built
+pub use Rattle.run_laws.specs.world_image_laws as world_image_laws
+pub use Rattle.run_laws.specs.world_image_laws.image_laws as image_laws
+pub use Rattle.run_laws.specs.live_model.k_split.k_tables as k_tables
+pub use Rattle.run_laws.specs.live_model.world_model as world_model
+pub use Rattle.run_laws.specs.crash_spec as crash_spec
+pub use Rattle.run_laws.specs.image_model as image_model
+pub use Rattle.run_laws.specs.k_split_model as k_split_model
+pub use Rattle.run_laws.specs.posix_laws as posix_laws
+pub use Rattle.run_laws.specs.volume_laws as volume_laws

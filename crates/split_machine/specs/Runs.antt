@@ -1,20 +1,20 @@
 -- What a run of the scripts of a World is.
 use Rattle.std.specs.Prelude.{◌≡◌, ◌<◌, ◌≤◌, ◌+◌, ◌*◌, ◌^◌, ℕ, Bool, true, false, List, [], length, None, Some, IsSome}
-use Rattle.event_jobs.specs.pm_words.declared.Cell.{Cell}
-use Rattle.event_jobs.specs.pm_words.Cells.{AllHome}
-use Rattle.event_jobs.specs.pm_words.Powers.{is_on, Supply}
+use Rattle.run_laws.specs.pm_model.declared.Cell.{Cell}
+use Rattle.run_laws.specs.pm_model.Cells.{AllHome}
+use Rattle.run_laws.specs.pm_model.Powers.{is_on, Supply}
 use Rattle.posix_types.specs.declared.call.Who.{Who}
 use Rattle.posix_types.specs.declared.item.Item.{Item}
-use Rattle.event_jobs.specs.posix_spec.Afforded.{Afforded}
-use Rattle.event_jobs.specs.posix_spec.Run.{Begun, IsLegal}
-use Rattle.event_jobs.specs.posix_spec.Scripted.{IsComplete, Scripted}
-use Rattle.event_jobs.specs.posix_spec.Unfinished.{AreUnfinished}
-use Rattle.event_jobs.specs.world_images.Promised.{KeepsPromise}
-use Rattle.event_jobs.specs.round_views.Views.{next_of, WorldView}
+use Rattle.run_laws.specs.posix_spec.Afforded.{Afforded}
+use Rattle.run_laws.specs.posix_spec.Run.{Begun, IsLegal}
+use Rattle.run_laws.specs.posix_spec.Scripted.{IsComplete, Scripted}
+use Rattle.run_laws.specs.posix_spec.Unfinished.{AreUnfinished}
+use Rattle.run_laws.specs.world_image_laws.Promised.{KeepsPromise}
+use Rattle.run_laws.specs.world_view_laws.Views.{next_of, WorldView}
 use Rattle.split_world.specs.world_parts.declared.outcomes.Ended.{Ended}
-use Rattle.event_jobs.specs.event_facts.Changes.{ChangesAtMost}
-use Rattle.event_jobs.specs.event_facts.Events.{CanAct, IsCutOff, IsLater, OutView}
-use Rattle.event_jobs.specs.event_facts.Paid.{IsPaid, IsPaidOff}
+use Rattle.run_laws.specs.Changes.{ChangesAtMost}
+use Rattle.run_laws.specs.Events.{CanAct, IsCutOff, IsLater, OutView}
+use Rattle.run_laws.specs.Paid.{IsPaid, IsPaidOff}
 
 -- The World as it was mounted: nothing has begun. Its scripts have one thread at most.
 pub record IsFirst (w : WorldView) : Type 0 where

@@ -1,7 +1,7 @@
 //! The events of one call.
 ghost use Rattle.std.specs.Prelude.{◌≡◌, IfOk, None};
-ghost use Rattle.event_jobs.specs.event_facts.Events.{CanAct, only_log};
-ghost use Rattle.event_jobs.specs.event_facts.Laws.{IsOpen};
+ghost use Rattle.run_laws.specs.Events.{CanAct, only_log};
+ghost use Rattle.run_laws.specs.EventsLaws.{IsOpen};
 ghost use Rattle.split_machine.specs.Events.{
   beside_log,
   EndsIn,
@@ -11,12 +11,12 @@ ghost use Rattle.split_machine.specs.Events.{
   RunsJob,
 };
 
-use event_jobs::{
+use pm_lines::Power;
+use posix_types::Who;
+use run_laws::{
     Commit, Filled, FilledJob, Job, NoMemory, RoundLog, a_call_acts, a_job_runs, a_round_begins,
     a_round_ends,
 };
-use pm_lines::Power;
-use posix_types::Who;
 use split_world::{Begun, Finished, World};
 use std::alloc::Global;
 use std::marker::Model;
@@ -31,7 +31,7 @@ pub(crate) struct Out {
 }
 
 impl Model for Out {
-    ghost use Rattle.event_jobs.specs.event_facts.Events.{OutView};
+    ghost use Rattle.run_laws.specs.Events.{OutView};
 
     ghost Value = { OutView };
 

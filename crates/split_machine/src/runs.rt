@@ -1,14 +1,14 @@
 //! A run of the scripts.
 ghost use Rattle.std.specs.Prelude.{◌≡◌, IfOk, None, true};
-ghost use Rattle.event_jobs.specs.event_facts.Events.{CanAct, lines_in, listed, only_log};
-ghost use Rattle.event_jobs.specs.round_views.Losses.{MayCrash};
-ghost use Rattle.event_jobs.specs.round_views.Rounds.{IsLeft};
+ghost use Rattle.run_laws.specs.Events.{CanAct, lines_in, listed, only_log};
+ghost use Rattle.run_laws.specs.world_view_laws.Losses.{MayCrash};
+ghost use Rattle.run_laws.specs.world_view_laws.Rounds.{IsLeft};
 ghost use Rattle.split_machine.specs.Runs.{HasRun, IsFirst, IsRunEnded, IsScriptRun};
 
 use crate::events::{Acted, Out, act, nothing_out};
-use event_jobs::{FilledJob, Job, NoMemory, RoundLog, a_round_ends, a_run_is_paid};
 use pm_lines::{Line, Power};
 use posix_types::Who;
+use run_laws::{FilledJob, Job, NoMemory, RoundLog, a_round_ends, a_run_is_paid};
 use split_world::{Crashed, Ended, World};
 use std::alloc::Global;
 
@@ -92,7 +92,7 @@ fn crash(alloc: Global, world: World, out: Out) -> Result<Crashed, NoMemory>
     Ok(world.crash(lines_of(alloc, out.log), jobs, filled))
 }
 
-/// Runs the scripts of a World that was just mounted: the set-up, and then the one thread. Want of memory drops the
+/// Runs the scripts of a World that was just mounted: the set-up, and then the one thread. Out of memory drops the
 /// World; no file of the operating system is touched.
 pub fn run(alloc: Global, world: World, power: &mut Power) -> Result<Ended, NoMemory>
     requires { IsFirst world }

@@ -1,8 +1,8 @@
 -- What the answer to a command says: where its output was put or not, where a file was not read, and where a file was not replaced.
 use Rattle.std.proofs.Common.{◌≡◌, ◌≢◌, ◌⊎◌, ◌≤◌, ℕ, List, Option, Some, None, refl, subst, inl, inr, arith}
 use Rattle.outside.specs.Outside.{AreOfFile, bytes_named, FileList, IsAbsent, Rose, Takes, TakesFront}
-use Rattle.command_words.specs.Command.{Command}
-use Rattle.exit_status.specs.declared.statuses.Status.{Status}
+use Rattle.command_line.specs.Command.{Command}
+use Rattle.command_line.specs.declared.statuses.statuses.Status.{Status}
 use Rattle.split_top.specs.Jobs.{IsAnswer, IsPutOrNot, IsUnread}
 use Rattle.split_top.specs.Top.{Completes, Does, IsCutShort, IsGiven, IsMissing, IsReplacedBy, Replaces}
 

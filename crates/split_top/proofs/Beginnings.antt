@@ -3,16 +3,16 @@ use Rattle.std.proofs.Common.{◌≡◌, ◌<◌, ◌≤◌, ◌^◌, ℕ, List,
 use Rattle.std.proofs.lemmas.Bool.{and_parts}
 use Rattle.std.proofs.lemmas.Bool.Decides.{nat_tests}
 use Rattle.std.specs.Prelude.{true}
-use Rattle.command_words.specs.pm_words.Words.{line_bytes, word_at}
-use Rattle.command_words.specs.disk_places.Fields.{is_same}
-use Rattle.command_words.specs.disk_places.Places.{Geometry, is_in_range}
-use Rattle.command_words.specs.disk_places.Superblock.{superblock}
-use Rattle.split_machine.specs.disk_rules.Rules.{geometry_of}
+use Rattle.command_line.specs.pm_model.Words.{line_bytes, word_at}
+use Rattle.command_line.specs.layout_model.Fields.{is_same}
+use Rattle.command_line.specs.layout_model.Places.{Geometry, is_in_range}
+use Rattle.command_line.specs.layout_model.Superblock.{superblock}
+use Rattle.split_machine.specs.image_model.Rules.{geometry_of}
 use Rattle.posix_types.specs.declared.call.Mode.{Mode}
 use Rattle.posix_types.specs.Scripts.{Scripts}
-use Rattle.split_machine.specs.world_beginning.Laws.{IsShapeOf}
-use Rattle.split_machine.specs.round_views.Starts.{BeginsMounted}
-use Rattle.split_machine.specs.round_views.Views.{WorldView}
+use Rattle.split_machine.specs.world_image_laws.BeginningLaws.{IsShapeOf}
+use Rattle.split_machine.specs.world_view_laws.Starts.{BeginsMounted}
+use Rattle.split_machine.specs.world_view_laws.Views.{WorldView}
 use Rattle.split_top.specs.Images.{CanOpen}
 use Rattle.split_top.specs.Worlds.{AreRunnable, BeginsOn}
 

@@ -2,28 +2,27 @@
 use Rattle.std.proofs.Common.{◌≡◌, ◌≤◌, ℕ, false, List, [], sym, ◌∙◌, ap, subst, arith, inl, inr, Option, Some, None}
 use Rattle.std.specs.Prelude.{nat_lt}
 use Rattle.std.proofs.lemmas.Bool.{true≢false, ltb-false}
-use Rattle.command_words.specs.pm_words.declared.Cell.{Cell}
-use Rattle.command_words.specs.pm_words.Powers.{is_left, is_on, Supply}
+use Rattle.command_line.specs.pm_model.declared.Cell.{Cell}
+use Rattle.command_line.specs.pm_model.Powers.{is_left, is_on, Supply}
 use Rattle.split_machine.specs.crash_spec.Permitted.{Permitted}
 use Rattle.split_machine.specs.crash_spec.Strict.{Strict}
-use Rattle.command_words.specs.disk_places.Places.{Geometry}
+use Rattle.command_line.specs.layout_model.Places.{Geometry}
 use Rattle.pm_lines.specs.declared.choices.Choice.{Choice}
 use Rattle.posix_types.specs.declared.call.Mode.{Mode}
 use Rattle.posix_types.specs.declared.item.Item.{Item}
 use Rattle.posix_types.specs.declared.reply.Shape.{Shape}
 use Rattle.posix_types.specs.declared.tree.TreeEntry.{TreeEntry}
 use Rattle.posix_types.specs.Scripts.{Scripts}
-use Rattle.command_words.specs.posix_spec.Afforded.{Afforded}
-use Rattle.command_words.specs.posix_spec.Ending.{beginning, IsWhole}
-use Rattle.command_words.specs.posix_spec.Run.{Begun, IsLegal}
-use Rattle.command_words.specs.posix_spec.Scripted.{IsComplete, Scripted}
-use Rattle.command_words.specs.posix_spec.State.{State}
-use Rattle.command_words.specs.posix_spec.Unfinished.{AreUnfinished}
-use Rattle.split_machine.specs.event_facts.Changes.{ChangesAtMost}
+use Rattle.command_line.specs.posix_spec.Afforded.{Afforded}
+use Rattle.command_line.specs.posix_spec.Ending.{beginning, IsWhole}
+use Rattle.command_line.specs.posix_spec.Run.{Begun, IsLegal}
+use Rattle.command_line.specs.posix_spec.Scripted.{IsComplete, Scripted}
+use Rattle.command_line.specs.posix_spec.State.{State}
+use Rattle.command_line.specs.posix_spec.Unfinished.{AreUnfinished}
+use Rattle.split_machine.specs.run_laws.Changes.{ChangesAtMost}
 use Rattle.split_machine.specs.Runs.{IsRan}
-use Rattle.split_machine.specs.round_views.Views.{WorldView}
-use Rattle.split_machine.specs.world_images.Starts.{has_setting}
-use Rattle.split_top.specs.Found.{IsFound}
+use Rattle.split_machine.specs.world_view_laws.Views.{WorldView}
+use Rattle.split_machine.specs.world_image_laws.Starts.{has_setting}
 use Rattle.split_top.specs.Runs.{IsRun, task_on}
 use Rattle.split_top.specs.Worlds.{IsWorldOn}
 
@@ -43,7 +42,7 @@ never_off before after start same off =
     let given : after.given ≡ None = same ∙ ap (λ p. p.given) start in
     true≢false (ap (λ g. is_left g after.taken) (sym given) ∙ off)
 
-module _ (g : Geometry) (image : List TreeEntry) (shape : Shape) (scripts : Scripts) (stop : Option ℕ) (choice : Choice) (w : WorldView) (before after : Supply) (pm : List Cell) (history : List Item) (unfinished : List Begun) (left : List TreeEntry) (on : IsWorldOn g image shape scripts w) (power : before ≡ record { given = stop; taken = 0 }) (ran : IsRan w before after pm history unfinished) (permits : Permitted w.start.mode w.start history unfinished left) (finds : IsFound g choice w.start history unfinished left) where
+module _ (g : Geometry) (image : List TreeEntry) (shape : Shape) (scripts : Scripts) (stop : Option ℕ) (w : WorldView) (before after : Supply) (pm : List Cell) (history : List Item) (unfinished : List Begun) (left : List TreeEntry) (on : IsWorldOn g image shape scripts w) (power : before ≡ record { given = stop; taken = 0 }) (ran : IsRan w before after pm history unfinished) (permits : Permitted w.start.mode w.start history unfinished left) where
   legal : IsLegal (beginning (task_on image shape scripts)) history
   legal = subst (λ s. IsLegal s history) on.start ran.legal
 
@@ -61,16 +60,13 @@ module _ (g : Geometry) (image : List TreeEntry) (shape : Shape) (scripts : Scri
   kept : (steps : ℕ) → stop ≡ Some steps → ChangesAtMost (beginning (task_on image shape scripts)) history steps
   kept steps some = subst (λ s. ChangesAtMost s history steps) on.start (ran.kept steps (ap (λ (p : Supply). p.given) power ∙ some))
 
-  found : IsFound g choice (beginning (task_on image shape scripts)) history unfinished left
-  found = subst (λ s. IsFound g choice s history unfinished left) on.start finds
-
   afforded : Afforded after.taken history scripts Mode.Strict
   afforded =
       subst (λ (m : Mode). Afforded after.taken history scripts m) (ap (λ (s : State). s.mode) on.start ∙ (has_setting image shape Mode.Strict).1)
       (subst (λ (s : Scripts). Afforded after.taken history s w.start.mode) on.scripts_are (ran.afforded after.taken (omega (arith, ap (λ (p : Supply). p.taken) power))))
 
   -- all calls returned
-  pub ran_whole : IsComplete w.scripts history → unfinished ≡ [] → IsRun g (task_on image shape scripts) stop choice history unfinished left
+  pub ran_whole : IsComplete w.scripts history → unfinished ≡ [] → IsRun (task_on image shape scripts) stop history unfinished left
   ran_whole complete none =
       let whole : IsWhole (task_on image shape scripts) history left = record {
         complete = subst (λ s. IsComplete s history) on.scripts_are complete;
@@ -79,11 +75,10 @@ module _ (g : Geometry) (image : List TreeEntry) (shape : Shape) (scripts : Scri
       record {
         ends = record { legal = legal; scripted = scripted; open_calls = open_calls; permitted = permitted; whole = λ e. whole; stopped = λ n e. inl whole };
         kept = kept;
-        found = found;
       }
 
   -- the power went
-  pub ran_lost : is_on after ≡ false → IsRun g (task_on image shape scripts) stop choice history unfinished left
+  pub ran_lost : is_on after ≡ false → IsRun (task_on image shape scripts) stop history unfinished left
   ran_lost off = record {
     ends = record {
       legal = legal;
@@ -95,5 +90,4 @@ module _ (g : Geometry) (image : List TreeEntry) (shape : Shape) (scripts : Scri
           inr (fewer n after.taken history scripts Mode.Strict (spent n before after (power ∙ ap (λ given. record { given = given; taken = 0 }) some) ran.given off) afforded);
     };
     kept = kept;
-    found = found;
   }

@@ -1,16 +1,16 @@
 -- What a run leaves on the device.
 use Rattle.std.proofs.Common.{◌≡◌, ◌*◌, List, length, subst}
-use Rattle.command_words.specs.pm_words.declared.Cell.{Cell}
-use Rattle.command_words.specs.pm_words.Powers.{Supply}
-use Rattle.command_words.specs.disk_places.Places.{Geometry}
+use Rattle.command_line.specs.pm_model.declared.Cell.{Cell}
+use Rattle.command_line.specs.pm_model.Powers.{Supply}
+use Rattle.command_line.specs.layout_model.Places.{Geometry}
 use Rattle.posix_types.specs.declared.item.Item.{Item}
 use Rattle.posix_types.specs.declared.reply.Shape.{Shape}
 use Rattle.posix_types.specs.declared.tree.TreeEntry.{TreeEntry}
 use Rattle.posix_types.specs.Scripts.{Scripts}
-use Rattle.command_words.specs.posix_spec.Run.{Begun}
-use Rattle.split_machine.specs.world_images.Promised.{KeepsPromise}
+use Rattle.command_line.specs.posix_spec.Run.{Begun}
+use Rattle.split_machine.specs.world_image_laws.Promised.{KeepsPromise}
 use Rattle.split_machine.specs.Runs.{IsRan}
-use Rattle.split_machine.specs.round_views.Views.{WorldView}
+use Rattle.split_machine.specs.world_view_laws.Views.{WorldView}
 use Rattle.split_top.specs.Found.{IsLeftAs}
 use Rattle.split_top.specs.Worlds.{IsWorldOn}
 

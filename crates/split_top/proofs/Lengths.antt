@@ -1,8 +1,8 @@
 -- An image of another length.
 use Rattle.std.proofs.Common.{◌≡◌, ◌≢◌, ◌⊎◌, ◌≤◌, ◌<◌, ◌/◌, ◌%◌, ℕ, refl, arith, inl, inr}
-use Rattle.command_words.specs.pm_words.Words.{Words}
-use Rattle.split_machine.specs.disk_rules.Broken.{at_one, Breaks, FailsFirst}
-use Rattle.split_machine.specs.disk_rules.Rules.{IsWholeBlocks}
+use Rattle.command_line.specs.pm_model.Words.{Words}
+use Rattle.split_machine.specs.image_model.Broken.{at_one, Breaks, FailsFirst}
+use Rattle.split_machine.specs.image_model.Rules.{IsWholeBlocks}
 
 -- rule 1
 pub other-length : (n : ℕ) → (n % 4096 ≢ 0) ⊎ (n / 4096 < 64) ⊎ (16384 < n / 4096) → IsWholeBlocks n → ⊥

@@ -2,29 +2,29 @@
 use Rattle.std.proofs.Common.{◌≡◌, ◌≤◌, ◌+◌, ◌*◌, ◌^◌, ℕ, List, [], length, sym, ◌∙◌, ap, subst, arith, inl, inr}
 use Rattle.std.proofs.Math.Path.{fun_ext}
 use Rattle.std.proofs.lemmas.Bool.{cases_lt}
-use Rattle.command_words.specs.pm_words.Cells.{newest}
-use Rattle.command_words.specs.pm_words.Images.{words_of}
-use Rattle.command_words.specs.pm_words.Words.{word_at, Words}
-use Rattle.command_words.specs.disk_places.Journal.{journaled}
-use Rattle.command_words.specs.disk_places.Places.{commit_word, Geometry}
-use Rattle.split_machine.specs.disk_rules.Content.{content}
-use Rattle.split_machine.specs.disk_rules.Live.{live_entries}
-use Rattle.split_machine.specs.disk_rules.Rules.{geometry_of, IsChecked}
-use Rattle.split_machine.specs.disk_rules.Volume.{Volume, volume}
-use Rattle.split_machine.specs.image_facts.CheckedLaws.{checked-parts}
-use Rattle.split_machine.specs.volume_facts.ReadingLaws.{reads-volume}
-use Rattle.split_machine.specs.k_content.Trees.{tree_content}
+use Rattle.command_line.specs.pm_model.Cells.{newest}
+use Rattle.command_line.specs.pm_model.Images.{words_of}
+use Rattle.command_line.specs.pm_model.Words.{word_at, Words}
+use Rattle.command_line.specs.layout_model.Journal.{journaled}
+use Rattle.command_line.specs.layout_model.Places.{commit_word, Geometry}
+use Rattle.split_machine.specs.image_model.Content.{content}
+use Rattle.split_machine.specs.image_model.Live.{live_entries}
+use Rattle.split_machine.specs.image_model.Rules.{geometry_of, IsChecked}
+use Rattle.split_machine.specs.image_model.Volume.{Volume, volume}
+use Rattle.split_machine.specs.image_laws.CheckedLaws.{checked-parts}
+use Rattle.split_machine.specs.volume_laws.ReadingLaws.{reads-volume}
+use Rattle.split_machine.specs.k_tables.ContentsTrees.{tree_content}
 use Rattle.split_machine.specs.MountLaws.{TreesAreOfContent}
 use Rattle.split_machine.specs.Sheds.{AllNamed}
-use Rattle.split_machine.specs.k_rules.View.{View}
+use Rattle.split_machine.specs.k_split_model.View.{View}
 use Rattle.split_machine.specs.Mounts.{IsMounted}
 use Rattle.split_machine.specs.Resets.{IsLow}
 use Rattle.split_machine.specs.Sweeps.{AreBare, EndsInTime}
-use Rattle.split_machine.specs.posix_trees.TreeOf.{IsTreeOf}
+use Rattle.split_machine.specs.posix_laws.TreeOf.{IsTreeOf}
 use Rattle.posix_types.specs.declared.tree.TreeEntry.{TreeEntry}
 use Rattle.split_machine.proofs.LapImages.{none_live}
-use Rattle.split_machine.specs.world_images.Images.{HasNoEntry}
-use Rattle.split_machine.specs.world_rules.Shown.{IsTreeOfContent}
+use Rattle.split_machine.specs.world_image_laws.Images.{HasNoEntry}
+use Rattle.split_machine.specs.world_model.Shown.{IsTreeOfContent}
 use Rattle.split_top.specs.Found.{IsFoundOn}
 use Rattle.split_top.specs.Images as images
 

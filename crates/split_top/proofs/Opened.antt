@@ -1,16 +1,16 @@
 -- An image by its device, and what is asked of one that is mounted.
 use Rattle.std.proofs.Common.{◌≡◌, ◌*◌, ℕ, true, false, None, List, length, sym, ◌∙◌, ap, subst}
-use Rattle.command_words.specs.pm_words.declared.Cell.{Cell}
-use Rattle.command_words.specs.pm_words.Images.{words_of}
-use Rattle.command_words.specs.pm_words.Powers.{is_left, is_on, Supply}
-use Rattle.command_words.specs.pm_words.Words.{word_at}
-use Rattle.command_words.specs.disk_places.Places.{Geometry}
-use Rattle.split_machine.specs.disk_rules.Broken.{Breaks}
-use Rattle.split_machine.specs.disk_rules.Content.{content}
-use Rattle.split_machine.specs.disk_rules.Rules.{geometry_of, IsChecked}
-use Rattle.split_machine.specs.image_facts.CheckedLaws.{checked-unbroken}
+use Rattle.command_line.specs.pm_model.declared.Cell.{Cell}
+use Rattle.command_line.specs.pm_model.Images.{words_of}
+use Rattle.command_line.specs.pm_model.Powers.{is_left, is_on, Supply}
+use Rattle.command_line.specs.pm_model.Words.{word_at}
+use Rattle.command_line.specs.layout_model.Places.{Geometry}
+use Rattle.split_machine.specs.image_model.Broken.{Breaks}
+use Rattle.split_machine.specs.image_model.Content.{content}
+use Rattle.split_machine.specs.image_model.Rules.{geometry_of, IsChecked}
+use Rattle.split_machine.specs.image_laws.CheckedLaws.{checked-unbroken}
 use Rattle.posix_types.specs.declared.tree.TreeEntry.{TreeEntry}
-use Rattle.split_machine.specs.world_rules.Shown.{IsTreeOfContent}
+use Rattle.split_machine.specs.world_model.Shown.{IsTreeOfContent}
 use Rattle.report_text.specs.Texts.{tree_text}
 use Rattle.split_top.specs.Images.{CanOpen, IsRefused, IsTreeText}
 

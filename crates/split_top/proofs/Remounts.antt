@@ -1,24 +1,24 @@
 -- The image that is chosen of the device that a run left can be opened again; its tree is permitted, and is what is found.
 use Rattle.std.proofs.Common.{◌≡◌, ◌*◌, ℕ, List, length, sym, ◌∙◌, ap, subst, arith}
-use Rattle.command_words.specs.pm_words.declared.Cell.{Cell}
-use Rattle.command_words.specs.pm_words.Cells.{cell}
-use Rattle.command_words.specs.pm_words.Images.{IsImageOf}
-use Rattle.command_words.specs.pm_words.Words.{word_at}
-use Rattle.command_words.specs.disk_places.Places.{Geometry}
-use Rattle.split_machine.specs.disk_rules.Content.{content}
-use Rattle.split_machine.specs.disk_rules.Honest.{IsHonest}
-use Rattle.split_machine.specs.disk_rules.Rules.{geometry_of, IsChecked}
+use Rattle.command_line.specs.pm_model.declared.Cell.{Cell}
+use Rattle.command_line.specs.pm_model.Cells.{cell}
+use Rattle.command_line.specs.pm_model.Images.{IsImageOf}
+use Rattle.command_line.specs.pm_model.Words.{word_at}
+use Rattle.command_line.specs.layout_model.Places.{Geometry}
+use Rattle.split_machine.specs.image_model.Content.{content}
+use Rattle.split_machine.specs.image_model.Honest.{IsHonest}
+use Rattle.split_machine.specs.image_model.Rules.{geometry_of, IsChecked}
 use Rattle.split_machine.specs.k_check.Crashes.{IsCrashImage}
-use Rattle.split_machine.specs.k_rules.View.{View}
+use Rattle.split_machine.specs.k_split_model.View.{View}
 use Rattle.split_machine.specs.crash_spec.Permitted.{Permitted}
 use Rattle.pm_lines.specs.declared.choices.Choice.{Choice}
 use Rattle.posix_types.specs.declared.item.Item.{Item}
 use Rattle.posix_types.specs.declared.tree.TreeEntry.{TreeEntry}
-use Rattle.command_words.specs.posix_spec.Run.{Begun}
-use Rattle.command_words.specs.posix_spec.State.{State}
-use Rattle.split_machine.specs.world_images.Promised.{IsKept}
-use Rattle.split_machine.specs.world_rules.Shown.{IsTreeOfContent}
-use Rattle.split_top.specs.Found.{IsChosenImage, IsFound, IsFoundOn, IsLeftAs}
+use Rattle.command_line.specs.posix_spec.Run.{Begun}
+use Rattle.command_line.specs.posix_spec.State.{State}
+use Rattle.split_machine.specs.world_image_laws.Promised.{IsKept}
+use Rattle.split_machine.specs.world_model.Shown.{IsTreeOfContent}
+use Rattle.split_top.specs.Found.{IsChosenImage, IsFoundBy, IsFoundOn, IsLeftAs}
 use Rattle.split_top.specs.Images.{CanOpen}
 
 -- the bytes that were chosen have an image of the device, honest, by the choice
@@ -52,5 +52,5 @@ module _ (g : Geometry) (choice : Choice) (d : List Cell) (start : State) (histo
   pub left-permitted : (k : View) (tree : List TreeEntry) → IsFoundOn (word_at given) k tree → Permitted start.mode start history unfinished tree
   left-permitted k tree found = kept.permitted tree (shown k tree found)
 
-  pub left-found : (k : View) (tree : List TreeEntry) → IsFoundOn (word_at given) k tree → IsFound g choice start history unfinished tree
-  left-found k tree found = record { device = d; is_left = left; image = word_at given; is_chosen = chosen; is_tree = shown k tree found }
+  pub left-found : (k : View) (tree : List TreeEntry) → IsFoundOn (word_at given) k tree → IsFoundBy g choice d tree
+  left-found k tree found = record { image = word_at given; is_chosen = chosen; is_tree = shown k tree found }

@@ -7,11 +7,11 @@ use Rattle.std.proofs.lemmas.List.Elements.{recursion_from_All}
 use Rattle.posix_types.specs.declared.call.Call.{Call}
 use Rattle.posix_types.specs.declared.call.Who.{Who}
 use Rattle.posix_types.specs.Scripts.{Scripts}
-use Rattle.command_words.specs.posix_spec.Scripted.{script_of}
-use Rattle.command_words.specs.script_text.Known.{OneThreadAlone}
-use Rattle.command_words.specs.script_text.Laws.{ScriptsAreSpelled, ScriptsAreWithinLimits}
-use Rattle.command_words.specs.script_text.Scripts.{bad_line, scripts_of}
-use Rattle.command_words.specs.script_text.Spelled as text
+use Rattle.command_line.specs.posix_spec.Scripted.{script_of}
+use Rattle.command_line.specs.script_text.Known.{OneThreadAlone}
+use Rattle.command_line.specs.script_text.Laws.{ScriptsAreSpelled, ScriptsAreWithinLimits}
+use Rattle.command_line.specs.script_text.Scripts.{bad_line, scripts_of}
+use Rattle.command_line.specs.script_text.Spelled as text
 use Rattle.split_machine.specs.Built.{NamesAreSpelled}
 use Rattle.split_top.specs.Worlds.{AreRunnable}
 

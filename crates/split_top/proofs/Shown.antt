@@ -1,12 +1,12 @@
 -- What an answer says where an image is refused, and of two readings of one image.
 use Rattle.std.proofs.Common.{◌≡◌, ℕ, List, Option, length, refl, sym, ◌∙◌, subst, inl, inr}
-use Rattle.command_words.specs.pm_words.Words.{word_at}
-use Rattle.split_machine.specs.disk_rules.Broken.{Breaks}
-use Rattle.split_machine.specs.image_facts.CheckedLaws.{checked-unbroken}
-use Rattle.command_words.specs.image_layout.Numbers.{default_numbers}
+use Rattle.command_line.specs.pm_model.Words.{word_at}
+use Rattle.split_machine.specs.image_model.Broken.{Breaks}
+use Rattle.split_machine.specs.image_laws.CheckedLaws.{checked-unbroken}
+use Rattle.command_line.specs.image_layout.Numbers.{default_numbers}
 use Rattle.outside.specs.Outside.{FileList, IsAbsent}
-use Rattle.command_words.specs.Command.{Command, Fresh, Image, Stored, Tree}
-use Rattle.exit_status.specs.declared.statuses.Status.{Status}
+use Rattle.command_line.specs.Command.{Command, Fresh, Image, Stored, Tree}
+use Rattle.command_line.specs.declared.statuses.statuses.Status.{Status}
 use Rattle.split_top.specs.Images.{AreOfImage, CanOpen, IsFreshImage, IsRefused}
 use Rattle.split_top.specs.Jobs.{IsAnswer, IsUnopened, IsUnread}
 use Rattle.split_top.specs.Top.{BreaksRule, Completes, IsBadImage, IsGiven, IsGivenImage, IsImageVerdict}

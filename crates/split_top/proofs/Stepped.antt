@@ -2,9 +2,9 @@
 use Rattle.std.proofs.Common.{◌≡◌, ◌⊎◌, ℕ, List, Option, Some, None, refl, sym, subst, inl, inr}
 use Rattle.std.specs.Prelude.{IsSome}
 use Rattle.outside.specs.Outside.{AreOfFile, FileList, IsAbsent}
-use Rattle.command_words.specs.Command.{Run, Step, Stored}
-use Rattle.exit_status.specs.declared.statuses.Status.{Status}
-use Rattle.command_words.specs.script_text.Scripts.{bad_line}
+use Rattle.command_line.specs.Command.{Run, Step, Stored}
+use Rattle.command_line.specs.declared.statuses.statuses.Status.{Status}
+use Rattle.command_line.specs.script_text.Scripts.{bad_line}
 use Rattle.split_top.specs.Images.{AreOfImage, CanOpen}
 use Rattle.split_top.specs.Jobs.{IsAnswer, IsUnkept, IsUnopened, IsUnread, IsUnrun}
 use Rattle.split_top.specs.Top.{CompletesStep, IsGivenImage, IsImageVerdict, IsReplacedBy, IsStepped, IsStepVerdict, Keeps}

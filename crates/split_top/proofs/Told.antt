@@ -1,10 +1,10 @@
 -- From the answer to a command to what the words say.
 use Rattle.std.proofs.Common.{◌≡◌, ◌⊎◌, ℕ, List, Option, Some, None, option_map, sym, ◌∙◌, ap, subst, inl, inr}
 use Rattle.outside.specs.Outside.{FileList}
-use Rattle.command_words.specs.declared.commands.Command as words
-use Rattle.command_words.specs.Command.{Command, command_of}
-use Rattle.command_words.specs.Seen.{seen}
-use Rattle.exit_status.specs.declared.statuses.Status.{Status}
+use Rattle.command_line.specs.declared.commands.commands.Command as words
+use Rattle.command_line.specs.Command.{Command, command_of}
+use Rattle.command_line.specs.Seen.{seen}
+use Rattle.command_line.specs.declared.statuses.statuses.Status.{Status}
 use Rattle.split_top.specs.Jobs.{IsAnswer}
 use Rattle.split_top.specs.Top.{BreaksGrammar, BreaksRule, Completes, IsCutShort, IsDone, IsMissing, IsReplacedBy, Replaces, Says}
 

@@ -1,23 +1,23 @@
 -- The device that a run leaves, and what is found on it.
 use Rattle.std.specs.Prelude.{◌≡◌, ◌*◌, List, length}
-use Rattle.command_words.specs.pm_words.declared.Cell.{Cell}
-use Rattle.command_words.specs.pm_words.Cells.{AllHome, cell}
-use Rattle.command_words.specs.pm_words.Images.{IsImage}
-use Rattle.command_words.specs.pm_words.Words.{Words}
-use Rattle.command_words.specs.disk_places.Places.{Geometry}
-use Rattle.split_machine.specs.disk_rules.Content.{content}
-use Rattle.split_machine.specs.disk_rules.Honest.{IsHonest}
-use Rattle.split_machine.specs.disk_rules.Rules.{geometry_of}
+use Rattle.command_line.specs.pm_model.declared.Cell.{Cell}
+use Rattle.command_line.specs.pm_model.Cells.{AllHome, cell}
+use Rattle.command_line.specs.pm_model.Images.{IsImage}
+use Rattle.command_line.specs.pm_model.Words.{Words}
+use Rattle.command_line.specs.layout_model.Places.{Geometry}
+use Rattle.split_machine.specs.image_model.Content.{content}
+use Rattle.split_machine.specs.image_model.Honest.{IsHonest}
+use Rattle.split_machine.specs.image_model.Rules.{geometry_of}
 use Rattle.split_machine.specs.k_check.Crashes.{IsCrashImage}
-use Rattle.split_machine.specs.k_rules.View.{View}
+use Rattle.split_machine.specs.k_split_model.View.{View}
 use Rattle.split_machine.specs.Mounts.{IsMounted}
 use Rattle.pm_lines.specs.declared.choices.Choice.{Choice}
 use Rattle.posix_types.specs.declared.item.Item.{Item}
 use Rattle.posix_types.specs.declared.tree.TreeEntry.{TreeEntry}
-use Rattle.command_words.specs.posix_spec.Run.{Begun}
-use Rattle.command_words.specs.posix_spec.State.{State}
-use Rattle.split_machine.specs.world_images.Promised.{KeepsPromise}
-use Rattle.split_machine.specs.world_rules.Shown.{IsTreeOfContent}
+use Rattle.command_line.specs.posix_spec.Run.{Begun}
+use Rattle.command_line.specs.posix_spec.State.{State}
+use Rattle.split_machine.specs.world_image_laws.Promised.{KeepsPromise}
+use Rattle.split_machine.specs.world_model.Shown.{IsTreeOfContent}
 
 -- WHAT A RUN LEAVES: a device of this geometry, of which nothing is lent, and which keeps the promise for the history and the
 -- unfinished calls.
@@ -32,12 +32,10 @@ pub record IsChosenImage (g : Geometry) (choice : Choice) (d : List Cell) (image
   pub is_honest : IsHonest g (cell d) image
   pub is_crash : IsCrashImage g choice d g.log image
 
--- WHAT IS FOUND of a run: of a device that it left the image by the choice, and the tree of that image's content.
-pub record IsFound (g : Geometry) (choice : Choice) (start : State) (history : List Item) (unfinished : List Begun) (left : List TreeEntry) : Type 0 where
-  pub device : List Cell
-  pub is_left : IsLeftAs g device start history unfinished
+-- WHAT IS FOUND on a device: the tree of the content of the image that the choice takes of it.
+pub record IsFoundBy (g : Geometry) (choice : Choice) (d : List Cell) (left : List TreeEntry) : Type 0 where
   pub image : Words
-  pub is_chosen : IsChosenImage g choice device image
+  pub is_chosen : IsChosenImage g choice d image
   pub is_tree : IsTreeOfContent (content g image) left
 
 -- WHAT IS FOUND on an image: K-Split as `mount` leaves it, and the tree of the image's content.

@@ -1,24 +1,24 @@
 -- What the bytes of an image are to the commands: the fresh image; one that can be opened; or one that is refused, by which rule.
 use Rattle.std.specs.Prelude.{◌≡◌, ◌≤◌, ◌+◌, ◌*◌, ◌^◌, ℕ, List, ◌++◌, length, Option, codes, decimal}
-use Rattle.command_words.specs.pm_words.Words.{word_at, Words}
-use Rattle.command_words.specs.disk_places.Journal.{journaled}
-use Rattle.command_words.specs.disk_places.Places.{commit_word, data_blocks, Geometry}
-use Rattle.command_words.specs.disk_lines.Fresh.{fresh}
-use Rattle.split_machine.specs.disk_rules.Broken.{Breaks}
-use Rattle.split_machine.specs.disk_rules.Content.{content}
-use Rattle.split_machine.specs.disk_rules.FreshVolume.{root_alone}
-use Rattle.split_machine.specs.disk_rules.Rules.{geometry_of, IsChecked}
-use Rattle.split_machine.specs.disk_rules.Volume.{Volume, volume}
+use Rattle.command_line.specs.pm_model.Words.{word_at, Words}
+use Rattle.command_line.specs.layout_model.Journal.{journaled}
+use Rattle.command_line.specs.layout_model.Places.{commit_word, data_blocks, Geometry}
+use Rattle.command_line.specs.layout_model.Fresh.{fresh}
+use Rattle.split_machine.specs.image_model.Broken.{Breaks}
+use Rattle.split_machine.specs.image_model.Content.{content}
+use Rattle.split_machine.specs.image_model.FreshVolume.{root_alone}
+use Rattle.split_machine.specs.image_model.Rules.{geometry_of, IsChecked}
+use Rattle.split_machine.specs.image_model.Volume.{Volume, volume}
 use Rattle.posix_types.specs.declared.tree.TreeEntry.{TreeEntry}
-use Rattle.split_machine.specs.world_rules.Shown.{IsTreeOfContent}
+use Rattle.split_machine.specs.world_model.Shown.{IsTreeOfContent}
 use Rattle.split_machine.specs.Sheds.{AllNamed}
 use Rattle.split_machine.specs.Resets.{IsLow}
 use Rattle.split_machine.specs.Sweeps.{AreBare, EndsInTime}
-use Rattle.split_machine.specs.world_images.Images.{HasNoEntry}
-use Rattle.command_words.specs.image_layout.Numbers.{default_numbers}
+use Rattle.split_machine.specs.world_image_laws.Images.{HasNoEntry}
+use Rattle.command_line.specs.image_layout.Numbers.{default_numbers}
 use Rattle.report_text.specs.Texts.{tree_text}
 use Rattle.outside.specs.Outside.{AreOfFile, FileList, IsReplaced}
-use Rattle.command_words.specs.Command.{Fresh, Image, Stored}
+use Rattle.command_line.specs.Command.{Fresh, Image, Stored}
 
 -- THE FRESH IMAGE with these numbers: a checked image whose content is the root alone.
 pub record IsFreshImage (g : Geometry) (bytes : List ℕ) : Type 0 where

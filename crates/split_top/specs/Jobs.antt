@@ -1,9 +1,9 @@
 -- What the parts of a job answer.
 use Rattle.std.specs.Prelude.{◌≡◌, ◌≢◌, ◌⊎◌, ⊤, ℕ, List, Option, Some}
 use Rattle.outside.specs.Outside.{FileList}
-use Rattle.command_words.specs.script_text.Scripts.{bad_line}
-use Rattle.command_words.specs.Command.{Command}
-use Rattle.exit_status.specs.declared.statuses.Status.{Status}
+use Rattle.command_line.specs.script_text.Scripts.{bad_line}
+use Rattle.command_line.specs.Command.{Command}
+use Rattle.command_line.specs.declared.statuses.statuses.Status.{Status}
 use Rattle.split_top.specs.Images.{IsRefused}
 use Rattle.split_top.specs.Top.{BreaksGrammar, BreaksRule, Completes, IsCutShort, IsDone, IsMissing, IsRefusal, IsReplacedBy, Replaces}
 

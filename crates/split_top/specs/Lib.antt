@@ -4,4 +4,4 @@ pub mod Jobs
 pub mod Runs
 pub mod Top
 pub mod Worlds
-pub use Rattle.command_words.specs as command_words
+pub use Rattle.command_line.specs as command_line

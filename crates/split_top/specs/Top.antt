@@ -1,23 +1,22 @@
 -- What the statuses of the top call say.
 use Rattle.std.specs.Prelude.{◌≡◌, ◌⊎◌, ⊤, ℕ, List, ◌++◌, Option, Some, None, IsSome}
 use Rattle.outside.specs.Outside.{FileList, AreOfFile, IsAbsent, IsReplaced, Takes, TakesFront, bytes_named}
-use Rattle.command_words.specs.pm_words.Words.{word_at}
-use Rattle.split_machine.specs.disk_rules.Rules.{geometry_of}
-use Rattle.command_words.specs.disk_places.Places.{Geometry}
-use Rattle.pm_lines.specs.declared.choices.Choice.{Choice}
+use Rattle.command_line.specs.pm_model.Words.{word_at}
+use Rattle.split_machine.specs.image_model.Rules.{geometry_of}
+use Rattle.command_line.specs.layout_model.Places.{Geometry}
 use Rattle.posix_types.specs.declared.item.Item.{Item}
 use Rattle.posix_types.specs.declared.reply.Shape.{Shape}
 use Rattle.posix_types.specs.declared.tree.TreeEntry.{TreeEntry}
 use Rattle.posix_types.specs.Scripts.{Scripts}
-use Rattle.command_words.specs.posix_spec.Ending.{Task}
-use Rattle.command_words.specs.posix_spec.Run.{Begun}
-use Rattle.split_machine.specs.world_beginning.Laws.{IsShapeOf}
+use Rattle.command_line.specs.posix_spec.Ending.{Task}
+use Rattle.command_line.specs.posix_spec.Run.{Begun}
+use Rattle.split_machine.specs.world_image_laws.BeginningLaws.{IsShapeOf}
 use Rattle.report_text.specs.Texts.{history_text, tree_text}
-use Rattle.command_words.specs.script_text.Scripts.{bad_line, scripts_of}
-use Rattle.command_words.specs.Command.{Command, Mkfs, Tree, Step, Image, Fresh, Stored, Run, command_of}
+use Rattle.command_line.specs.script_text.Scripts.{bad_line, scripts_of}
+use Rattle.command_line.specs.Command.{Command, Mkfs, Tree, Step, Image, Fresh, Stored, Run, command_of}
 use Rattle.split_top.specs.Images.{AreOfImage, blocks_text, CanOpen, IsMade, IsMounted, IsRefused, IsTreeText, ShowsTree}
 use Rattle.split_top.specs.Runs.{IsRun, task_on}
-use Rattle.exit_status.specs.declared.statuses.Status.{Status}
+use Rattle.command_line.specs.declared.statuses.statuses.Status.{Status}
 
 -- THE WORDS ARE A COMMAND of which this holds.
 pub record Says (words : List (List ℕ)) (Holds : Command → Type 0) : Type 0 where
@@ -28,28 +27,28 @@ pub record Says (words : List (List ℕ)) (Holds : Command → Type 0) : Type 0 
 -- ---- what is done
 -- What a run puts and leaves: the text of a history, and then that of the tree that was left; and an image with these numbers
 -- and this tree, as a mount leaves it.
-pub record IsOutcome (g : Geometry) (task : Task) (stop : Option ℕ) (choice : Choice) (output kept : List ℕ) : Type 0 where
+pub record IsOutcome (g : Geometry) (task : Task) (stop : Option ℕ) (output kept : List ℕ) : Type 0 where
   pub history : List Item
   pub unfinished : List Begun
   pub left : List TreeEntry
-  pub is_run : IsRun g task stop choice history unfinished left
+  pub is_run : IsRun task stop history unfinished left
   pub is_text : output ≡ history_text history ++ tree_text left
   pub is_kept : IsMounted kept left
   pub numbers : geometry_of (word_at kept) ≡ g
 
 -- A RUN ON AN IMAGE with these numbers: the image shows a tree, and a run of the scripts that begins with this tree puts this and
 -- leaves this image.
-pub record IsRunOn (image : List ℕ) (g : Geometry) (scripts : Scripts) (stop : Option ℕ) (choice : Choice) (output kept : List ℕ) : Type 0 where
+pub record IsRunOn (image : List ℕ) (g : Geometry) (scripts : Scripts) (stop : Option ℕ) (output kept : List ℕ) : Type 0 where
   pub tree : List TreeEntry
   pub shows : ShowsTree image tree
   pub shape : Shape
   pub is_shape : IsShapeOf g shape
-  pub outcome : IsOutcome g (task_on tree shape scripts) stop choice output kept
+  pub outcome : IsOutcome g (task_on tree shape scripts) stop output kept
 
 -- the bytes are a script, and it is run
-pub record IsScriptRunOn (image : List ℕ) (g : Geometry) (script : List ℕ) (stop : Option ℕ) (choice : Choice) (output kept : List ℕ) : Type 0 where
+pub record IsScriptRunOn (image : List ℕ) (g : Geometry) (script : List ℕ) (stop : Option ℕ) (output kept : List ℕ) : Type 0 where
   pub is_script : bad_line script ≡ None
-  pub is_run : IsRunOn image g (scripts_of script) stop choice output kept
+  pub is_run : IsRunOn image g (scripts_of script) stop output kept
 
 -- so the image and the script that the words name are run
 pub record IsStepped (files : Option FileList) (run : Run) (output kept : List ℕ) : Type 0 where
@@ -57,7 +56,7 @@ pub record IsStepped (files : Option FileList) (run : Run) (output kept : List �
   pub is_image : AreOfImage files run.image image
   pub script : List ℕ
   pub is_read : AreOfFile files run.script script
-  pub is_run : IsScriptRunOn image (geometry_of (word_at image)) script run.options.stop run.options.choice output kept
+  pub is_run : IsScriptRunOn image (geometry_of (word_at image)) script run.options.stop output kept
 
 -- the image that is left is the file of this name, and every other file is as before; or nothing is kept
 abbrev pub Keeps : Option (List ℕ) → List ℕ → Option FileList → Option FileList → Type 0

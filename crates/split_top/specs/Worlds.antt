@@ -1,17 +1,17 @@
 -- The World that a run begins with.
 use Rattle.std.specs.Prelude.{◌≡◌, ◌≤◌, ℕ, List, length, Option}
-use Rattle.command_words.specs.disk_places.Places.{Geometry}
+use Rattle.command_line.specs.layout_model.Places.{Geometry}
 use Rattle.pm_lines.specs.declared.choices.Choice.{Choice}
 use Rattle.posix_types.specs.declared.item.Item.{Item}
 use Rattle.posix_types.specs.declared.reply.Shape.{Shape}
 use Rattle.posix_types.specs.declared.tree.TreeEntry.{TreeEntry}
 use Rattle.posix_types.specs.Scripts.{Scripts}
-use Rattle.command_words.specs.posix_spec.Ending.{beginning}
-use Rattle.command_words.specs.posix_spec.Run.{Begun}
-use Rattle.split_machine.specs.round_views.Starts.{AreInLimits}
-use Rattle.split_machine.specs.round_views.Views.{WorldView}
+use Rattle.command_line.specs.posix_spec.Ending.{beginning}
+use Rattle.command_line.specs.posix_spec.Run.{Begun}
+use Rattle.split_machine.specs.world_view_laws.Starts.{AreInLimits}
+use Rattle.split_machine.specs.world_view_laws.Views.{WorldView}
 use Rattle.split_machine.specs.Runs.{IsFirst}
-use Rattle.split_machine.specs.world_beginning.Laws.{IsShapeOf}
+use Rattle.split_machine.specs.world_image_laws.BeginningLaws.{IsShapeOf}
 use Rattle.split_top.specs.Images.{ShowsTree}
 use Rattle.split_top.specs.Runs.{IsRun, task_on}
 
@@ -36,10 +36,10 @@ pub record BeginsOn (bytes : List ℕ) (g : Geometry) (scripts : Scripts) (w : W
   pub on : IsWorldOn g tree shape scripts w
 
 -- a run of scripts that began with the tree of the image had this history and left this tree
-pub record IsRanOn (bytes : List ℕ) (g : Geometry) (scripts : Scripts) (stop : Option ℕ) (choice : Choice) (history : List Item) (left : List TreeEntry) : Type 0 where
+pub record IsRanOn (bytes : List ℕ) (g : Geometry) (scripts : Scripts) (stop : Option ℕ) (history : List Item) (left : List TreeEntry) : Type 0 where
   pub tree : List TreeEntry
   pub shape : Shape
   pub shows : ShowsTree bytes tree
   pub is_shape : IsShapeOf g shape
   pub unfinished : List Begun
-  pub is_run : IsRun g (task_on tree shape scripts) stop choice history unfinished left
+  pub is_run : IsRun (task_on tree shape scripts) stop history unfinished left

@@ -1,16 +1,15 @@
 //! The image that a command names, and the tree that it shows.
 ghost use Rattle.std.specs.Prelude.{◌≡◌, ◌≤◌, List, ℕ, Err, IfErr, IfOk};
 ghost use Rattle.outside.specs.Outside.{IsAbsent, Rose};
-ghost use Rattle.command_words.specs.Command as commands;
-ghost use Rattle.command_words.specs.Seen.{seen_image};
-ghost use Rattle.command_words.specs.image_layout.Numbers.{default_numbers};
+ghost use Rattle.command_line.specs.Command as commands;
+ghost use Rattle.command_line.specs.Seen.{seen_image};
+ghost use Rattle.command_line.specs.image_layout.Numbers.{default_numbers};
 ghost use Rattle.split_top.specs.Images.{AreOfImage, IsFreshImage};
 ghost use Rattle.split_top.specs.Jobs.{IsUnread};
 
 use crate::jobs::read_file;
 use crate::making::fresh_bytes;
-use command_words::{Geometry, Image};
-use exit_status::Status;
+use command_line::{Geometry, Image, Status};
 use outside::Files;
 use std::alloc::Global;
 

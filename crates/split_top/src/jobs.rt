@@ -3,7 +3,7 @@ ghost use Rattle.std.specs.Prelude.{◌≡◌, ◌≢◌, ◌≤◌, List, ℕ, 
 ghost use Rattle.outside.specs.Outside.{AreOfFile, IsAbsent, Rose, Takes, TakesFront};
 ghost use Rattle.split_top.specs.Jobs.{IsUnread, IsPutOrNot};
 
-use exit_status::{FileName, Status};
+use command_line::{FileName, Status};
 use outside::{FileFault, Files, Sink, SinkFault};
 use std::alloc::Global;
 

@@ -6,7 +6,10 @@
 //!
 //! A script is read by `script_text`, and run by `split_machine` in a World (`split_world`) that is mounted on the image,
 //! with power for as many steps as `stop` says. What is printed comes from the device that is left: it is mounted again
-//! by `log_mount`, and the tree is that of its content, which the World's promise permits.
+//! by `log_replay`, and the tree is that of its content, which the World's promise permits.
+//!
+//! `top` takes any runtime, since it neither waits nor starts threads. `mkfs` makes image and line before
+//! it replaces the file. The output is put at once.
 #![tactic(auto)]
 
 mod images;
@@ -20,9 +23,8 @@ mod runs;
 mod showing;
 mod stepping;
 
-pub use command_words::{
+pub use command_line::{
     Call, Geometry, Item, Mode, Name, Path, Shape, State, Tree, TreeEntry, TreeNode, Who,
     default_shape, read_script, root_alone,
 };
 pub use program::top;
-pub use split_machine::judge;

@@ -1,15 +1,14 @@
 //! The command `mkfs`: a file is replaced by a fresh image, and then the room that it has is told.
 ghost use Rattle.std.specs.Prelude.{◌≡◌, IfOk};
 ghost use Rattle.outside.specs.Outside.{Rose};
-ghost use Rattle.command_words.specs.Command as commands;
+ghost use Rattle.command_line.specs.Command as commands;
 ghost use Rattle.split_top.specs.Images.{blocks_text, IsFreshImage};
 ghost use Rattle.split_top.specs.Jobs.{IsAnswer};
 
 use crate::jobs::put_output;
-use command_words::Geometry;
-use exit_status::Status;
+use command_line::{Geometry, Status};
+use k_split::mkfs;
 use outside::{FileFault, Files, Sink};
-use split_machine::mkfs;
 use std::alloc::{AllocError, Global};
 
 /// The bytes of a fresh image.

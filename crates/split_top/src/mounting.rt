@@ -1,6 +1,6 @@
 //! An image that can be opened is mounted.
 ghost use Rattle.std.specs.Prelude.{IfOk};
-ghost use Rattle.command_words.specs.pm_words.Words.{word_at};
+ghost use Rattle.command_line.specs.pm_model.Words.{word_at};
 ghost use Rattle.split_top.specs.Found.{IsFoundOn};
 ghost use Rattle.split_top.specs.Images.{CanOpen};
 

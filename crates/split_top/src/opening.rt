@@ -1,16 +1,15 @@
 //! Whether an image can be opened: its length, and the rules of a checked image.
 ghost use Rattle.std.specs.Prelude.{◌≡◌, ◌↔◌, ◌*◌, IsTrue, IfErr, IfOk, OnOk, length};
-ghost use Rattle.command_words.specs.pm_words.Cells.{AllSingle};
-ghost use Rattle.command_words.specs.pm_words.Images.{words_of};
-ghost use Rattle.command_words.specs.pm_words.Words.{word_at};
-ghost use Rattle.split_machine.specs.disk_rules.Rules.{geometry_of, IsWholeBlocks};
+ghost use Rattle.command_line.specs.pm_model.Cells.{AllSingle};
+ghost use Rattle.command_line.specs.pm_model.Images.{words_of};
+ghost use Rattle.command_line.specs.pm_model.Words.{word_at};
+ghost use Rattle.split_machine.specs.image_model.Rules.{geometry_of, IsWholeBlocks};
 ghost use Rattle.split_top.specs.Images.{CanOpen};
 ghost use Rattle.split_top.specs.Jobs.{IsUnopened};
 
-use command_words::Geometry;
-use exit_status::Status;
+use command_line::{Geometry, Status};
+use k_check::{CheckFault, check};
 use pm_lines::Pm;
-use split_machine::{CheckFault, check};
 use std::alloc::{AllocError, Global};
 
 /// Whether so many bytes are whole blocks, as many as an image may have.

@@ -2,17 +2,16 @@
 ghost use Rattle.std.specs.Prelude.{◌≡◌, ◌⊎◌, ◌↔◌, List, ℕ, Option, None, Some, map};
 ghost use Rattle.std.specs.String.{string_bytes};
 ghost use Rattle.outside.specs.Outside.{Rose};
-ghost use Rattle.command_words.specs.Command as commands;
-ghost use Rattle.command_words.specs.Command.{command_of};
-ghost use Rattle.command_words.specs.Seen.{seen};
+ghost use Rattle.command_line.specs.Command as commands;
+ghost use Rattle.command_line.specs.Command.{command_of};
+ghost use Rattle.command_line.specs.Seen.{seen};
 ghost use Rattle.split_top.specs.Jobs.{IsAnswer};
 ghost use Rattle.split_top.specs.Top.{BreaksGrammar, BreaksRule, Completes, IsCutShort, IsDone, IsMissing, IsRefusal, IsReplacedBy, Replaces, Says};
 
 use crate::making::make_image;
 use crate::showing::show;
 use crate::stepping::run_step;
-use command_words::{Command, read_command};
-use exit_status::Status;
+use command_line::{Command, Status, read_command};
 use outside::{Files, Sink};
 use std::alloc::Global;
 
@@ -74,7 +73,7 @@ pub fn top<R, F: Files, K: Sink>(
     ensures front { (result ≡ Status.WriteFault) ⊎ (result ≡ Status.NoMemory) → ((F.told files.new ≡ F.told files.old) × (K.told out.new ≡ K.told out.old)) ⊎ Says (map string_bytes words.now) (λ c. IsCutShort c (F.told files.old) (F.told files.new) (K.told out.old) (K.told out.new)) }
     ensures nothing { IsRefusal result → (F.told files.new ≡ F.told files.old) × (K.told out.new ≡ K.told out.old) }
 
-    // A command whose files are there is done, unless the rules, the grammar, a failure or want of memory forbids it.
+    // A command whose files are there is done, unless the rules, the grammar, a failure or out of memory forbids it.
     ensures complete { (c : commands.Command) → command_of (map string_bytes words.now) ≡ Some c → ¬ Rose (F.faults files.old) (F.faults files.new) → ¬ Rose (K.faults out.old) (K.faults out.new) → Completes c (F.told files.old) result }
 {
     let Some(command) = read_command(words) else {

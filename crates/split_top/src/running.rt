@@ -1,18 +1,17 @@
 //! A script is read, run on an image, and told.
 ghost use Rattle.std.specs.Prelude.{◌≡◌, IfErr, IfOk};
-ghost use Rattle.command_words.specs.pm_words.Words.{word_at};
-ghost use Rattle.split_machine.specs.disk_rules.Rules.{geometry_of};
+ghost use Rattle.command_line.specs.pm_model.Words.{word_at};
+ghost use Rattle.split_machine.specs.image_model.Rules.{geometry_of};
 ghost use Rattle.split_top.specs.Images.{CanOpen};
 ghost use Rattle.split_top.specs.Jobs.{IsUnrun};
 ghost use Rattle.split_top.specs.Top.{IsRunOn, IsScriptRunOn};
 ghost use Rattle.split_top.specs.Worlds.{AreRunnable};
 
 use crate::runs::run;
-use command_words::{
-    Geometry, ScriptFault, read_script, scripts_are_spelled, scripts_are_within_limits,
+use command_line::{
+    Geometry, ScriptFault, Status, read_script, scripts_are_spelled, scripts_are_within_limits,
     scripts_have_known_words,
 };
-use exit_status::Status;
 use pm_lines::Choice;
 use posix_types::Scripts;
 use report_text::{history_text, tree_text};
@@ -38,7 +37,7 @@ fn outcome_of(
     requires can_open { CanOpen image.now }
     requires numbers { geometry_of (word_at image.now) ≡ geometry }
     requires runnable { AreRunnable scripts }
-    ensures { IfOk result (λ o. IsRunOn image.now geometry scripts stop choice o.output.items o.image.items) }
+    ensures { IfOk result (λ o. IsRunOn image.now geometry scripts stop o.output.items o.image.items) }
 {
     let ran = run(alloc, image, geometry, scripts, stop, choice)?;
     let mut output = history_text(alloc, &ran.history)?;
@@ -61,7 +60,7 @@ pub(crate) fn run_script(
 ) -> Result<Outcome, Status>
     requires can_open { CanOpen image.now }
     requires numbers { geometry_of (word_at image.now) ≡ geometry }
-    ensures outcome { IfOk result (λ o. IsScriptRunOn image.now geometry bytes.now stop choice o.output.items o.image.items) }
+    ensures outcome { IfOk result (λ o. IsScriptRunOn image.now geometry bytes.now stop o.output.items o.image.items) }
     ensures kind { IfErr result (λ status. IsUnrun bytes.now status) }
 {
     scripts_are_spelled();

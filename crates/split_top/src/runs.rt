@@ -1,25 +1,26 @@
 //! A run of scripts: their calls in a World on an image, and what is read back of it.
 ghost use Rattle.std.specs.Prelude.{◌≡◌, List, IfOk};
-ghost use Rattle.command_words.specs.pm_words.Words.{word_at};
-ghost use Rattle.split_machine.specs.disk_rules.Rules.{geometry_of};
+ghost use Rattle.command_line.specs.pm_model.Words.{word_at};
+ghost use Rattle.split_machine.specs.image_model.Rules.{geometry_of};
 ghost use Rattle.split_machine.specs.crash_spec.Permitted.{Permitted};
-ghost use Rattle.command_words.specs.posix_spec.Run.{Begun};
-ghost use Rattle.command_words.specs.posix_spec.State.{State};
+ghost use Rattle.command_line.specs.posix_spec.Run.{Begun};
+ghost use Rattle.command_line.specs.posix_spec.State.{State};
 ghost use Rattle.posix_types.specs.Scripts as spec;
 ghost use Rattle.posix_types.specs.declared.item.Item as items;
 ghost use Rattle.posix_types.specs.declared.reply.Shape.{Shape};
 ghost use Rattle.posix_types.specs.declared.tree.TreeEntry as trees;
-ghost use Rattle.split_top.specs.Found.{IsFound, IsLeftAs};
+ghost use Rattle.split_top.specs.Found.{IsFoundBy, IsLeftAs};
 ghost use Rattle.split_top.specs.Images.{CanOpen, IsMounted};
 ghost use Rattle.split_top.specs.Runs.{IsRun, task_on};
 ghost use Rattle.split_top.specs.Worlds.{AreRunnable, BeginsOn, IsRanOn, IsWorldOn};
 
 use crate::mounting::mount_image;
 use crate::opening::device;
-use command_words::Geometry;
+use command_line::Geometry;
+use k_check::crash_image;
 use pm_lines::{Choice, Pm, Power};
 use posix_types::{Item, Mode, Scripts, Tree};
-use split_machine::{Ended, MountFault, NoMemory, World, crash_image, run as run_scripts};
+use split_machine::{Ended, MountFault, NoMemory, World, run as run_scripts};
 use std::alloc::{AllocError, Global};
 
 /// What a run leaves: the calls that returned, the tree that is found afterwards, and the image that shows it.
@@ -72,7 +73,7 @@ fn world_on(
 /// What is found on the device that a run left: the image by the choice is mounted again.
 fn left_on(alloc: Global, pm: &Pm, geometry: Geometry, choice: Choice) -> Result<Left, AllocError>
     requires { (start : State) × (history : List items.Item) × (unfinished : List Begun) × IsLeftAs geometry pm.now start history unfinished }
-    ensures found { IfOk result (λ left. (start : State) (history : List items.Item) (unfinished : List Begun) → IsLeftAs geometry pm.now start history unfinished → IsFound geometry choice start history unfinished left.tree) }
+    ensures found { IfOk result (λ left. IsFoundBy geometry choice pm.now left.tree) }
     ensures permitted { IfOk result (λ left. (start : State) (history : List items.Item) (unfinished : List Begun) → IsLeftAs geometry pm.now start history unfinished → Permitted start.mode start history unfinished left.tree) }
     ensures mounted { IfOk result (λ left. IsMounted left.image.items left.tree) }
     ensures numbers { IfOk result (λ left. geometry_of (word_at left.image.items) ≡ geometry) }
@@ -96,7 +97,7 @@ fn run_world(
     choice: Choice,
 ) -> Result<Ran, NoMemory>
     requires { (tree : List trees.TreeEntry) × (shape : Shape) × (scripts : spec.Scripts) × IsWorldOn geometry tree shape scripts world }
-    ensures ran { IfOk result (λ ran. (tree : List trees.TreeEntry) (shape : Shape) (scripts : spec.Scripts) → IsWorldOn geometry tree shape scripts world → (unfinished : List Begun) × IsRun geometry (task_on tree shape scripts) stop choice ran.history.items unfinished ran.tree) }
+    ensures ran { IfOk result (λ ran. (tree : List trees.TreeEntry) (shape : Shape) (scripts : spec.Scripts) → IsWorldOn geometry tree shape scripts world → (unfinished : List Begun) × IsRun (task_on tree shape scripts) stop ran.history.items unfinished ran.tree) }
     ensures mounted { IfOk result (λ ran. IsMounted ran.image.items ran.tree) }
     ensures numbers { IfOk result (λ ran. geometry_of (word_at ran.image.items) ≡ geometry) }
 {
@@ -133,7 +134,7 @@ pub(crate) fn run(
     requires can_open { CanOpen image.now }
     requires numbers { geometry_of (word_at image.now) ≡ geometry }
     requires runnable { AreRunnable scripts }
-    ensures ran { IfOk result (λ ran. IsRanOn image.now geometry scripts stop choice ran.history.items ran.tree) }
+    ensures ran { IfOk result (λ ran. IsRanOn image.now geometry scripts stop ran.history.items ran.tree) }
     ensures mounted { IfOk result (λ ran. IsMounted ran.image.items ran.tree) }
     ensures numbers { IfOk result (λ ran. geometry_of (word_at ran.image.items) ≡ geometry) }
 {

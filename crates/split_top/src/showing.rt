@@ -1,8 +1,8 @@
 //! The command `tree`: an image is checked and mounted, and the tree that it has is put.
 ghost use Rattle.std.specs.Prelude.{IfErr, IfOk};
 ghost use Rattle.outside.specs.Outside.{Rose};
-ghost use Rattle.command_words.specs.Command as commands;
-ghost use Rattle.command_words.specs.Seen.{seen_image};
+ghost use Rattle.command_line.specs.Command as commands;
+ghost use Rattle.command_line.specs.Seen.{seen_image};
 ghost use Rattle.split_top.specs.Images.{CanOpen, IsTreeText};
 ghost use Rattle.split_top.specs.Jobs.{IsAnswer, IsUnopened};
 
@@ -10,8 +10,7 @@ use crate::images::read_image;
 use crate::jobs::put_output;
 use crate::mounting::mount_image;
 use crate::opening::geometry_to_open;
-use command_words::Image;
-use exit_status::Status;
+use command_line::{Image, Status};
 use outside::{Files, Sink};
 use report_text::tree_text;
 use std::alloc::{AllocError, Global};

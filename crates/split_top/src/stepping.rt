@@ -1,11 +1,11 @@
 //! The command `step`: a script is read and run on an image; the image that is left is kept where a name says so, and the
 //! history and the tree that is left are put.
 ghost use Rattle.std.specs.Prelude.{◌≡◌, Err, IfErr, IsSome, OnErr, OnOk};
-ghost use Rattle.command_words.specs.pm_words.Words.{word_at};
-ghost use Rattle.split_machine.specs.disk_rules.Rules.{geometry_of};
+ghost use Rattle.command_line.specs.pm_model.Words.{word_at};
+ghost use Rattle.split_machine.specs.image_model.Rules.{geometry_of};
 ghost use Rattle.outside.specs.Outside.{Rose};
-ghost use Rattle.command_words.specs.Command as commands;
-ghost use Rattle.command_words.specs.Seen.{seen_image, seen_options};
+ghost use Rattle.command_line.specs.Command as commands;
+ghost use Rattle.command_line.specs.Seen.{seen_image, seen_options};
 ghost use Rattle.split_top.specs.Images.{AreOfImage, CanOpen};
 ghost use Rattle.split_top.specs.Jobs.{IsAnswer, IsUnkept};
 ghost use Rattle.split_top.specs.Top.{CompletesStep, IsStepped, Keeps};
@@ -14,8 +14,7 @@ use crate::images::read_image;
 use crate::jobs::{put_output, read_file};
 use crate::opening::geometry_to_open;
 use crate::running::{Outcome, run_script};
-use command_words::{Geometry, Image, Options};
-use exit_status::Status;
+use command_line::{Geometry, Image, Options, Status};
 use outside::{FileFault, Files, Sink};
 use std::alloc::Global;
 

@@ -1,2 +1,2 @@
 mod Opening
-pub use Rattle.round_starts.proofs.k_mount_proofs as k_mount_proofs
+pub use Rattle.round_laws.proofs.log_replay_proofs as log_replay_proofs

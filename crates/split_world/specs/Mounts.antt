@@ -1,15 +1,15 @@
 -- What `mount` answers.
 use Rattle.std.specs.Prelude.{◌≡◌, ◌*◌, true, List, length, Result, Ok, Err}
-use Rattle.round_starts.specs.pm_words.declared.Cell.{Cell}
-use Rattle.round_starts.specs.pm_words.Images.{words_of}
-use Rattle.round_starts.specs.pm_words.Powers.{is_on, Supply}
-use Rattle.round_starts.specs.disk_rules.Rules.{geometry_of, IsChecked}
+use Rattle.round_laws.specs.pm_model.declared.Cell.{Cell}
+use Rattle.round_laws.specs.pm_model.Images.{words_of}
+use Rattle.round_laws.specs.pm_model.Powers.{is_on, Supply}
+use Rattle.round_laws.specs.image_model.Rules.{geometry_of, IsChecked}
 use Rattle.posix_types.specs.declared.call.Mode.{Mode}
 use Rattle.posix_types.specs.Scripts.{Scripts}
-use Rattle.round_starts.specs.log_mount.declared.faults.MountFault.{MountFault}
-use Rattle.round_starts.specs.log_mount.Mounts.{IsMountAnswer}
-use Rattle.world_begins.specs.world_parts.round_views.Starts.{BeginsMounted}
-use Rattle.world_begins.specs.world_parts.round_views.Views.{WorldView}
+use Rattle.round_laws.specs.log_replay.declared.mounting.faults.MountFault.{MountFault}
+use Rattle.round_laws.specs.log_replay.Mounts.{IsMountAnswer}
+use Rattle.world_begins.specs.world_parts.world_view_laws.Starts.{BeginsMounted}
+use Rattle.world_begins.specs.world_parts.world_view_laws.Views.{WorldView}
 
 -- WHAT `mount` ANSWERS of a device: the World begins on its image, which is checked, and power is left; or why it is not mounted.
 abbrev pub IsWorldAnswer : List Cell → Mode → Scripts → Supply → Supply → Result WorldView MountFault → Type 0

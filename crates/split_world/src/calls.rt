@@ -1,18 +1,18 @@
 //! The calls of a World: whether one may begin, how it begins, and how its job ends.
 ghost use Rattle.std.specs.Prelude.{◌≡◌, ◌≤◌, ◌<◌, true};
-ghost use Rattle.round_starts.specs.pm_words.Powers.{Steps};
-ghost use Rattle.round_starts.specs.posix_spec.Scripted.{IsSetUp};
+ghost use Rattle.round_laws.specs.pm_model.Powers.{Steps};
+ghost use Rattle.round_laws.specs.posix_spec.Scripted.{IsSetUp};
 ghost use Rattle.world_begins.specs.world_parts.Answers.{IsBegun, IsFinished, IsReady};
-ghost use Rattle.world_begins.specs.world_parts.round_jobs.script_calls.Costs.{most_of};
-ghost use Rattle.world_begins.specs.world_parts.round_jobs.world_standing.Standing as standing;
-ghost use Rattle.world_begins.specs.world_parts.round_views.Begins.{IsFilledOut};
-ghost use Rattle.world_begins.specs.world_parts.round_views.Jobs.{GivesUp, IsOfWorld};
-ghost use Rattle.world_begins.specs.world_parts.round_views.Views.{next_of, HasNone};
+ghost use Rattle.world_begins.specs.world_parts.in_flight.Costs.{most_of};
+ghost use Rattle.world_begins.specs.world_parts.in_flight.live_model.Standing as standing;
+ghost use Rattle.world_begins.specs.world_parts.world_view_laws.Begins.{IsFilledOut};
+ghost use Rattle.world_begins.specs.world_parts.world_view_laws.Jobs.{GivesUp, IsOfWorld};
+ghost use Rattle.world_begins.specs.world_parts.world_view_laws.Views.{next_of, HasNone};
 
 use crate::world::World;
 use pm_lines::Power;
 use posix_types::Who;
-use round_starts::{FilledJob, Full};
+use round_laws::{FilledJob, Full};
 use std::alloc::Global;
 use world_begins::{Begun, Finished, NoMemory, Ready, begin_next, ready_of};
 use world_rounds::{finish_off, finish_on, give_up_off, give_up_on, lose_one};
@@ -40,7 +40,7 @@ impl World {
     ///
     /// # Errors
     ///
-    /// Want of memory: no call sees a change. Nothing was done, or the World is only to be dropped.
+    /// Out of memory: no call sees a change. Nothing was done, or the World is only to be dropped.
     ///
     /// # Steps
     ///

@@ -10,8 +10,8 @@
 //! and blocks leaves an image that the mode permits (`IsLost`), and a crash leaves a device that keeps the promise
 //! (`IsLeft`). So far in strict mode.
 //!
-//! Stands on `world_begins`, `world_ends` and `world_rounds`, which do the parts of its calls over all that it keeps
-//! (`world_parts`), and on `round_starts`: it begins on a device that `log_mount` mounts.
+//! Stands on `world_begins` and `world_rounds`, which do the parts of its calls over all that it keeps
+//! (`world_parts`), and on `round_laws`: it begins on a device that `log_replay` mounts.
 #![tactic(auto)]
 
 mod calls;
@@ -19,8 +19,6 @@ mod rounds;
 mod starting;
 mod world;
 
-pub use round_starts::{
-    CheckFault, MountFault, a_remount_shows_the_same, check, crash_image, mount,
-};
+pub use round_laws::{MountFault, a_remount_shows_the_same, mount};
 pub use world::World;
-pub use world_begins::{Begun, Crashed, Ended, Finished, Ready, judge};
+pub use world_begins::{Begun, Crashed, Ended, Finished, Ready};

@@ -1,13 +1,13 @@
 //! The rounds of a World: one begins, and ends at a checkpoint, with the run, or with the power.
 ghost use Rattle.std.specs.Prelude.{◌≡◌, ◌^◌, true, false, IfOk, OnErr};
-ghost use Rattle.round_starts.specs.pm_words.Powers.{Steps};
+ghost use Rattle.round_laws.specs.pm_model.Powers.{Steps};
 ghost use Rattle.world_begins.specs.world_parts.Answers.{IsCheckpoint, IsEnded};
-ghost use Rattle.world_begins.specs.world_parts.round_views.Losses.{MayCrash};
-ghost use Rattle.world_begins.specs.world_parts.round_views.Rounds.{IsLeft, IsRoundBegun, MayCheckpoint, MayUnmount};
+ghost use Rattle.world_begins.specs.world_parts.world_view_laws.Losses.{MayCrash};
+ghost use Rattle.world_begins.specs.world_parts.world_view_laws.Rounds.{IsLeft, IsRoundBegun, MayCheckpoint, MayUnmount};
 
 use crate::world::World;
 use pm_lines::{Line, Power};
-use round_starts::{Commit, FilledJob, Job};
+use round_laws::{Commit, FilledJob, Job};
 use std::alloc::Global;
 use world_begins::{Crashed, Ended, NoMemory, lose};
 use world_rounds::{
@@ -20,7 +20,7 @@ impl World {
     ///
     /// # Errors
     ///
-    /// Want of memory: nothing changed.
+    /// Out of memory: nothing changed.
     pub fn begin_round(&mut self, alloc: Global) -> Result<(Vec<Line>, u64), NoMemory>
         requires usable { self.old.usable ≡ true }
         requires home { self.old.lines_out ≡ false }
@@ -39,7 +39,7 @@ impl World {
     ///
     /// # Errors
     ///
-    /// Want of memory: the World is only to be dropped.
+    /// Out of memory: the World is only to be dropped.
     ///
     /// # Steps
     ///
@@ -69,7 +69,7 @@ impl World {
     ///
     /// # Errors
     ///
-    /// Want of memory.
+    /// Out of memory.
     ///
     /// # Steps
     ///

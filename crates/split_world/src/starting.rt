@@ -1,17 +1,17 @@
 //! How a World begins.
 ghost use Rattle.std.specs.Prelude.{◌≡◌, ◌%◌, ◌*◌, ◌<◌, ◌^◌, length, IfOk};
-ghost use Rattle.round_starts.specs.log_mount.Quiet.{IsSpent};
-ghost use Rattle.round_starts.specs.pm_words.Cells.{AllSingle};
+ghost use Rattle.round_laws.specs.log_replay.Quiet.{IsSpent};
+ghost use Rattle.round_laws.specs.pm_model.Cells.{AllSingle};
 ghost use Rattle.posix_types.specs.declared.call.Mode.{Mode};
-ghost use Rattle.round_starts.specs.Laws.{BeginsOver, WasMounted};
-ghost use Rattle.world_begins.specs.world_parts.round_views.Starts.{AreInLimits};
+ghost use Rattle.round_laws.specs.StartsLaws.{BeginsOver, WasMounted};
+ghost use Rattle.world_begins.specs.world_parts.world_view_laws.Starts.{AreInLimits};
 ghost use Rattle.split_world.specs.Mounts.{IsWorldAnswer};
 ghost use Rattle.world_begins.specs.world_parts.Seen.{seen, IsKept};
 
 use crate::world::World;
 use pm_lines::{Pm, Power};
 use posix_types::{Mode, Scripts};
-use round_starts::{
+use round_laws::{
     KSplit, MountFault, OpenFiles, Staging, a_world_begins, mount, no_calls, table_of,
 };
 use std::alloc::Global;
@@ -80,8 +80,8 @@ impl World {
     ///
     /// # Errors
     ///
-    /// Those of [`round_starts::log_mount::mount`]: `Bad` exactly where the image breaks a rule, and nothing was done; else
-    /// `PowerLost` exactly where the power is off at the return, with the device. Want of memory is the only other
+    /// Those of [`round_laws::log_mount::mount`]: `Bad` exactly where the image breaks a rule, and nothing was done; else
+    /// `PowerLost` exactly where the power is off at the return, with the device. Out of memory is the only other
     /// one: the device is dropped then, as it is with `Bad`, and the scripts with each.
     pub fn mount(
         alloc: Global,

@@ -1,11 +1,11 @@
 //! The World, and what it is asked.
 ghost use Rattle.std.specs.Prelude.{◌≡◌, ◌↔◌, ◌≤◌, ◌+◌, ◌*◌, true, IsTrue, length};
-ghost use Rattle.round_starts.specs.posix_spec.Scripted.{IsSetUp};
+ghost use Rattle.round_laws.specs.posix_spec.Scripted.{IsSetUp};
 ghost use Rattle.posix_types.specs.declared.call.Who as whos;
 
-use disk_lines::Draft;
+use layout_model::Draft;
 use posix_types::{Item, Who};
-use round_starts::{calls_made, script_length};
+use round_laws::{calls_made, script_length};
 use std::marker::Model;
 use world_begins::Parts;
 
@@ -18,7 +18,7 @@ pub struct World {
 
 impl Model for World {
     ghost use Rattle.std.specs.Prelude.{◌≡◌, true};
-    ghost use Rattle.world_begins.specs.world_parts.round_views.Views.{WorldView};
+    ghost use Rattle.world_begins.specs.world_parts.world_view_laws.Views.{WorldView};
     ghost use Rattle.world_begins.specs.world_parts.Seen.{seen, IsKept};
 
     ghost Value = { WorldView };

@@ -2,9 +2,9 @@
 #![tactic(auto)]
 
 ghost use Rattle.std.specs.Prelude.{◌≡◌};
-ghost use Rattle.exit_status.specs.Statuses as meaning;
+ghost use Rattle.command_line.specs.Statuses as meaning;
 
-use exit_status::{Status, exit_number, status_text};
+use command_line::{Status, exit_number, status_text};
 use outside::{DiskFiles, OutSink};
 use split_top::top;
 use std::io::Write;
@@ -43,7 +43,7 @@ fn end(rt: &HostRuntime, status: &Status) -> u8
 }
 
 fn main(rt: HostRuntime) -> ExitCode {
-    // Words that cannot be read are want of memory.
+    // Words that cannot be read are out of memory.
     let status = job(&rt).unwrap_or(Status::NoMemory);
     ExitCode::from(end(&rt, &status))
 }

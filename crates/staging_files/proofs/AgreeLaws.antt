@@ -7,22 +7,22 @@ use Rattle.std.proofs.lemmas.Bool.Decides.{nat_tests}
 use Rattle.std.proofs.lemmas.List.{get_or_append_left}
 use Rattle.std.proofs.lemmas.List.Edits.{get_or-remove_above, get_or-remove_below, length-remove}
 use Rattle.std.proofs.lemmas.List.Folds.{Any-from_list_any, list_any-append, list_any_at}
-use Rattle.k_split.specs.pm_words.Cells.{cell, is_single}
-use Rattle.k_split.specs.pm_words.CellLaws.{single-home}
+use Rattle.k_split.specs.pm_model.Cells.{cell, is_single}
+use Rattle.k_split.specs.pm_model.CellLaws.{single-home}
 use Rattle.k_split.specs.block_pool.FreeSets.{is_among}
-use Rattle.k_split.specs.disk_places.Places.{is_data_block}
-use Rattle.k_split.specs.disk_rules.Placed.{block_at}
-use Rattle.k_split.specs.disk_rules.Volume.{extents, inode}
-use Rattle.k_split.specs.extent_words.Extents.{covers, disk_at, is_within}
-use Rattle.k_split.specs.k_rules.View.{View}
+use Rattle.k_split.specs.layout_model.Places.{is_data_block}
+use Rattle.k_split.specs.image_model.Placed.{block_at}
+use Rattle.k_split.specs.image_model.Volume.{extents, inode}
+use Rattle.k_split.specs.extent_model.Extents.{covers, disk_at, is_within}
+use Rattle.k_split.specs.k_split_model.View.{View}
 use Rattle.k_split.specs.MapChanges.{is_free_in, IsMapDone, IsPreallocateAnswer, IsPreallocatedWith}
 use Rattle.k_split.specs.Order.{IsInOrder}
-use Rattle.k_split.specs.map_rules.Changes.{aged}
-use Rattle.k_split.specs.map_rules.Taken.{with_map}
-use Rattle.k_split.specs.volume_facts.Changes.{extents-set_other, extents-set_same}
-use Rattle.k_split.specs.volume_maps.Switches.{unused-data}
-use Rattle.k_split.specs.volume_uses.PoolLaws.{unused-uncovered}
-use Rattle.k_split.specs.volume_uses.Uses.{is_unused}
+use Rattle.k_split.specs.k_split_model.MapChangesChanges.{aged}
+use Rattle.k_split.specs.k_split_model.Taken.{with_map}
+use Rattle.k_split.specs.volume_laws.Changes.{extents-set_other, extents-set_same}
+use Rattle.k_split.specs.volume_change_laws.Switches.{unused-data}
+use Rattle.k_split.specs.volume_laws.PoolLaws.{unused-uncovered}
+use Rattle.k_split.specs.volume_laws.Uses.{is_unused}
 use Rattle.staging_files.specs.declared.runs.StageRun.{StageRun}
 use Rattle.staging_files.specs.Keeps.{Agrees, AreFreeSingle, given_to, has_block, is_kept_free, IsAtHome, IsRunSingle, IsSingleAt, IsStaged, IsStaging, IsThere, Staged}
 use Rattle.staging_files.specs.Reserves.{IsFreeRun, with_given, with_out}

@@ -3,22 +3,22 @@ use Rattle.std.proofs.Common.{◌≡◌, ◌≢◌, ◌≤◌, ◌<◌, ◌-◌,
 use Rattle.std.proofs.lemmas.Bool.{both_ways, cases_eq}
 use Rattle.std.proofs.lemmas.List.{get_or-replicate}
 use Rattle.std.specs.Prelude.{remove, slice_get, Contains}
-use Rattle.k_split.specs.pm_words.Powers.{Steps, Supply}
-use Rattle.k_split.specs.disk_lines.declared.Kind.TheVariants.{Directory, File, Free, Staging}
-use Rattle.k_split.specs.disk_lines.declared.Kind.{Kind}
-use Rattle.k_split.specs.disk_rules.Rules.{IsKindAt}
-use Rattle.k_split.specs.disk_rules.Volume.{Volume, extents, inode}
-use Rattle.k_split.specs.extent_words.Extents.{covers}
+use Rattle.k_split.specs.pm_model.Powers.{Steps, Supply}
+use Rattle.k_split.specs.layout_model.declared.lines.Kind.TheVariants.{Directory, File, Free, Staging}
+use Rattle.k_split.specs.layout_model.declared.lines.Kind.{Kind}
+use Rattle.k_split.specs.image_model.Rules.{IsKindAt}
+use Rattle.k_split.specs.image_model.Volume.{Volume, extents, inode}
+use Rattle.k_split.specs.extent_model.Extents.{covers}
 use Rattle.k_split.specs.k_map_plans.Plans.{IsStagingFile}
 use Rattle.k_split.specs.k_plans.Whole.{IsWhole}
-use Rattle.k_split.specs.k_rules.View.{View}
+use Rattle.k_split.specs.k_split_model.View.{View}
 use Rattle.k_split.specs.MapChanges.{IsGiveUpAnswer}
 use Rattle.k_split.specs.Answers.{IsPaid}
 use Rattle.k_split.specs.Order.{IsInOrder}
 use Rattle.k_split.specs.declared.faults.KFault.{KFault}
-use Rattle.k_split.specs.map_rules.Changes.{given_up}
-use Rattle.k_split.specs.map_rules.Taken.{with_map}
-use Rattle.k_split.specs.volume_facts.Changes.{extents-set_other, extents-set_same}
+use Rattle.k_split.specs.k_split_model.MapChangesChanges.{given_up}
+use Rattle.k_split.specs.k_split_model.Taken.{with_map}
+use Rattle.k_split.specs.volume_laws.Changes.{extents-set_other, extents-set_same}
 use Rattle.staging_files.specs.GivesUp.{AgreesAfterAll, AllStagedSingle, AreGivenUp, bared, IsGiveUpAllPaid, IsGivenUpEach, nothing_staged, stopped_by}
 use Rattle.staging_files.specs.declared.runs.StageRun.{StageRun}
 use Rattle.staging_files.specs.Keeps.{Agrees, given_to, IsStaged, IsStaging, Staged}

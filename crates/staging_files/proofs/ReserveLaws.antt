@@ -1,9 +1,9 @@
 -- What `reserve` answers, from what its two ways leave.
 use Rattle.std.proofs.Common.{◌≡◌, ◌≤◌, ◌<◌, ◌+◌, ℕ, false, length, None, Result, Ok, Err, refl, sym, ◌∙◌, ap, subst, inr, arith}
 use Rattle.std.specs.Prelude.{IfOk}
-use Rattle.k_split.specs.pm_words.Powers.{Steps, Supply}
-use Rattle.k_split.specs.disk_places.Places.{reserve}
-use Rattle.k_split.specs.k_rules.View.{View}
+use Rattle.k_split.specs.pm_model.Powers.{Steps, Supply}
+use Rattle.k_split.specs.layout_model.Places.{reserve}
+use Rattle.k_split.specs.k_split_model.View.{View}
 use Rattle.k_split.specs.Answers.{IsPaid}
 use Rattle.k_split.specs.MapChanges.{free_blocks_in, IsPreallocateAnswer}
 use Rattle.k_split.specs.Order.{IsInOrder}

@@ -7,26 +7,26 @@ use Rattle.std.proofs.lemmas.Bool.Decides.{nat_tests}
 use Rattle.std.proofs.lemmas.List.FromFn.{length-range_with_len}
 use Rattle.std.proofs.lemmas.List.Sums.{count_by-le-length}
 use Rattle.k_split.specs.block_pool.FreeSets.{is_among}
-use Rattle.k_split.specs.disk_places.Places.{data_blocks, first_data, is_data_block, reserve}
-use Rattle.k_split.specs.disk_lines.declared.Inode.{Inode}
-use Rattle.k_split.specs.disk_rules.Reading.{inode_set}
-use Rattle.k_split.specs.disk_rules.Room.{has_none, unused_blocks}
-use Rattle.k_split.specs.disk_rules.Rules.{file_blocks_of}
-use Rattle.k_split.specs.disk_rules.Uses.{owners}
-use Rattle.k_split.specs.disk_rules.Volume.{Volume, inode}
-use Rattle.k_split.specs.extent_facts.Counts.{block_count-mapped, count_below-agree, count_below-range, is_mapped}
-use Rattle.k_split.specs.extent_words.declared.Extent.{Extent}
-use Rattle.k_split.specs.extent_words.Extents.{block_count, is_within}
+use Rattle.k_split.specs.layout_model.Places.{data_blocks, first_data, is_data_block, reserve}
+use Rattle.k_split.specs.layout_model.declared.lines.Inode.{Inode}
+use Rattle.k_split.specs.image_model.Reading.{inode_set}
+use Rattle.k_split.specs.image_model.Room.{has_none, unused_blocks}
+use Rattle.k_split.specs.image_model.Rules.{file_blocks_of}
+use Rattle.k_split.specs.image_model.Uses.{owners}
+use Rattle.k_split.specs.image_model.Volume.{Volume, inode}
+use Rattle.k_split.specs.extent_model.Counts.{block_count-mapped, count_below-agree, count_below-range, is_mapped}
+use Rattle.k_split.specs.extent_model.declared.extent_words.Extent.{Extent}
+use Rattle.k_split.specs.extent_model.Extents.{block_count, is_within}
 use Rattle.k_split.specs.k_plans.Whole.{IsWhole}
-use Rattle.k_split.specs.k_rules.View.{View}
+use Rattle.k_split.specs.k_split_model.View.{View}
 use Rattle.k_split.specs.MapChanges.{free_blocks_in, IsMapDone, IsPreallocateAnswer, IsPreallocatedWith}
 use Rattle.k_split.specs.Order.{IsInOrder}
-use Rattle.k_split.specs.map_rules.Changes.{aged, HasInOrder, in_order}
-use Rattle.k_split.specs.map_rules.Taken.{with_map}
-use Rattle.k_split.specs.volume_facts.Lists.{count_by-agree}
-use Rattle.k_split.specs.volume_maps.Shorts.{in_order-below, length-below}
-use Rattle.k_split.specs.volume_uses.PoolLaws.{AreInData, unused-set}
-use Rattle.k_split.specs.volume_uses.Uses.{is_unused}
+use Rattle.k_split.specs.k_split_model.MapChangesChanges.{aged, HasInOrder, in_order}
+use Rattle.k_split.specs.k_split_model.Taken.{with_map}
+use Rattle.k_split.specs.volume_laws.Lists.{count_by-agree}
+use Rattle.k_split.specs.volume_change_laws.Shorts.{in_order-below, length-below}
+use Rattle.k_split.specs.volume_laws.PoolLaws.{AreInData, unused-set}
+use Rattle.k_split.specs.volume_laws.Uses.{is_unused}
 use Rattle.staging_files.specs.Keeps.{IsStaging, Staged}
 use Rattle.staging_files.specs.Reserves.{need, share, wanted}
 

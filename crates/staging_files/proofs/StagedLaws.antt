@@ -10,7 +10,7 @@ use Rattle.std.proofs.lemmas.List.Edits.{get_or-remove_above, get_or-remove_belo
 use Rattle.std.proofs.lemmas.List.Elements.{All-append}
 use Rattle.std.proofs.lemmas.List.Folds.{list_any_at, list_any_none}
 use Rattle.std.proofs.lemmas.List.Quantifiers.{all_pairs_push, all_pairs_remove}
-use Rattle.k_split.specs.extent_words.Extents.{is_within}
+use Rattle.k_split.specs.extent_model.Extents.{is_within}
 use Rattle.staging_files.specs.declared.runs.StageRun.{StageRun}
 use Rattle.staging_files.specs.Keeps.{AreApart, given_to, has_block, is_kept_free, IsKeptEmpty, IsPlaced, IsStaged, IsStaging, Staged}
 use Rattle.staging_files.specs.GivesUp.{nothing_staged}

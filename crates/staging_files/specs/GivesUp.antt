@@ -1,13 +1,13 @@
 -- Runs that are given back, and staging files that give up all their blocks.
 use Rattle.std.specs.Prelude.{◌≡◌, ◌<◌, ℕ, suc, zero, true, false, [], replicate, remove, slice_get, Some, Result, Ok, Err, alloc_error}
 use Rattle.std.specs.declared.alloc.AllocError.{AllocError}
-use Rattle.k_split.specs.pm_words.Powers.{is_on, Supply}
-use Rattle.k_split.specs.disk_rules.Volume.{Volume}
+use Rattle.k_split.specs.pm_model.Powers.{is_on, Supply}
+use Rattle.k_split.specs.image_model.Volume.{Volume}
 use Rattle.k_split.specs.k_journal.declared.outcomes.Commit.{Commit}
-use Rattle.k_split.specs.k_rules.View.{View}
+use Rattle.k_split.specs.k_split_model.View.{View}
 use Rattle.k_split.specs.MapChanges.{IsGiveUpAnswer, IsStagedSingle}
 use Rattle.k_split.specs.declared.faults.KFault.{KFault}
-use Rattle.k_split.specs.map_rules.Changes.{given_up}
+use Rattle.k_split.specs.k_split_model.MapChangesChanges.{given_up}
 use Rattle.staging_files.specs.declared.runs.StageRun.{StageRun}
 use Rattle.staging_files.specs.Keeps.{Agrees, IsStaging, Staged}
 

@@ -1,10 +1,10 @@
 -- What a staging keeps, and when it agrees with K-Split.
 use Rattle.std.specs.Prelude.{◌≡◌, ◌≤◌, ◌+◌, ◌-◌, ◌/◌, ◌==◌, ◌&&◌, not, nat_lt, ℕ, Bool, true, false, List, [], length, slice_index, All, AllPairs, Some}
 use Rattle.std.specs.List.{list_any}
-use Rattle.k_split.specs.pm_words.Cells.{cell, is_lent, is_single}
-use Rattle.k_split.specs.extent_words.Extents.{disk_at, is_within}
-use Rattle.k_split.specs.disk_rules.Volume.{extents}
-use Rattle.k_split.specs.k_rules.View.{View}
+use Rattle.k_split.specs.pm_model.Cells.{cell, is_lent, is_single}
+use Rattle.k_split.specs.extent_model.Extents.{disk_at, is_within}
+use Rattle.k_split.specs.image_model.Volume.{extents}
+use Rattle.k_split.specs.k_split_model.View.{View}
 use Rattle.staging_files.specs.declared.runs.StageRun.{StageRun}
 
 -- What contracts see of a staging: the runs that are out, in the order in which they were reserved, and how many blocks each of

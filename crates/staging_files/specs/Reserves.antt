@@ -1,10 +1,10 @@
 -- What `reserve` answers: a run by the first of two ways, or why there is none.
 use Rattle.std.specs.Prelude.{◌≡◌, ◌⊎◌, ◌≤◌, ◌<◌, ◌+◌, ◌-◌, ◌/◌, ◌==◌, ℕ, Bool, true, false, [], ◌∷◌, ◌++◌, length, slice_set, min, max, if◌then◌else◌, Result, Ok, Err}
 use Rattle.std.specs.List.{list_any}
-use Rattle.k_split.specs.pm_words.Powers.{is_on, Supply}
-use Rattle.k_split.specs.disk_places.Places.{reserve}
-use Rattle.k_split.specs.disk_rules.Volume.{inode}
-use Rattle.k_split.specs.k_rules.View.{View}
+use Rattle.k_split.specs.pm_model.Powers.{is_on, Supply}
+use Rattle.k_split.specs.layout_model.Places.{reserve}
+use Rattle.k_split.specs.image_model.Volume.{inode}
+use Rattle.k_split.specs.k_split_model.View.{View}
 use Rattle.k_split.specs.Answers.{IsSpared}
 use Rattle.k_split.specs.MapChanges.{free_blocks_in, IsPreallocateAnswer}
 use Rattle.k_split.specs.declared.faults.KFault.{KFault}

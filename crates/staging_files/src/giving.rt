@@ -1,7 +1,7 @@
 //! Runs are given back, and staging files give up their blocks.
 ghost use Rattle.std.specs.Prelude.{◌≡◌, ◌≢◌, ◌^◌, ℕ, true, false, slice_get, Contains, Some, IfNone, IfSome};
-ghost use Rattle.k_split.specs.pm_words.Powers.{is_on, Steps};
-ghost use Rattle.k_split.specs.k_rules.View.{View};
+ghost use Rattle.k_split.specs.pm_model.Powers.{is_on, Steps};
+ghost use Rattle.k_split.specs.k_split_model.View.{View};
 ghost use Rattle.staging_files.specs.GivesUp.{AgreesAfterAll, AllStagedSingle, IsGiveUpAllAnswer, IsGiveUpAllPaid, IsGivenBack, IsGivenUpEach, nothing_staged, stopped_by};
 ghost use Rattle.staging_files.specs.Keeps.{Agrees, AreFreeSingle, IsRunSingle, IsThere};
 
@@ -76,7 +76,7 @@ impl Staging {
     ///
     /// # Errors
     ///
-    /// Want of memory. Some staging files may have given up their blocks then, and what the staging
+    /// Out of memory. Some staging files may have given up their blocks then, and what the staging
     /// keeps is only to be dropped.
     ///
     /// # Steps

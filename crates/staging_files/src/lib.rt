@@ -11,6 +11,9 @@
 //! agrees with K-Split (`Agrees`) and goes on to; `give_up_all` leaves no staged block. No content
 //! changes: each step is one of K-Split's own answers.
 //!
+//! A block is free where it was given and no run that is out has it. After a failed `give_up_all` a staging
+//! is only to be dropped.
+//!
 //! Stands on `k_split`.
 #![tactic(auto)]
 
@@ -21,7 +24,7 @@ mod runs;
 mod staging;
 
 pub use k_split::{
-    Commit, Geometry, KFault, KSplit, images_have_the_old_or_the_new_content, mkfs, put_lines,
+    Commit, Geometry, KFault, KSplit, images_have_the_old_or_the_new_content, put_lines,
 };
 pub use runs::{StageFault, StageRun};
 pub use staging::Staging;

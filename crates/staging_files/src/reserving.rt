@@ -1,11 +1,11 @@
 //! Runs are reserved: the two ways, in their order.
 ghost use Rattle.std.specs.Prelude.{◌≡◌, ◌≤◌, ◌<◌, ◌+◌, ◌^◌, [], true, false, length, IfSome, IfNone, IfOk, OnErr, OnOk, if◌then◌else◌};
-ghost use Rattle.k_split.specs.disk_places.Places.{reserve};
-ghost use Rattle.k_split.specs.disk_rules.Volume.{extents};
+ghost use Rattle.k_split.specs.layout_model.Places.{reserve};
+ghost use Rattle.k_split.specs.image_model.Volume.{extents};
 ghost use Rattle.k_split.specs.k_map_plans.Plans.{IsStagingFile};
 ghost use Rattle.k_split.specs.MapChanges.{free_blocks_in};
 ghost use Rattle.k_split.specs.Order.{IsInOrder};
-ghost use Rattle.k_split.specs.pm_words.Powers.{is_on, Steps};
+ghost use Rattle.k_split.specs.pm_model.Powers.{is_on, Steps};
 ghost use Rattle.staging_files.specs.Keeps.{Agrees, AreFreeSingle, IsKeptEmpty, IsRunSingle, IsStaged, IsStaging, IsThere};
 ghost use Rattle.staging_files.specs.Reserves.{AgreesAfter, fault_of, has_empty, IsFirstWay, IsFreeRun, IsGiveAnswer, IsLowestEmpty, IsReserveAnswer, IsReservePaid, LacksFirstWay, LacksSecondWay, need, run_at, share, wanted, with_out};
 

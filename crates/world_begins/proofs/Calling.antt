@@ -1,32 +1,32 @@
 -- A call that is not logged, at the parts of a World.
 use Rattle.std.specs.Prelude.{◌≡◌, ◌+◌, ℕ, true, false, length, Option, Some, None, sum_by, refl}
 use Rattle.std.proofs.Common.{ap, ◌∙◌, sym, subst, inl}
-use Rattle.world_turns.specs.pm_words.Powers.{is_on, Supply}
-use Rattle.world_turns.specs.file_table.Files.{Files}
-use Rattle.world_turns.specs.k_rules.View.{View}
+use Rattle.pm_lines.specs.pm_model.Powers.{is_on, Supply}
+use Rattle.world_parts.specs.file_table.Files.{Files}
+use Rattle.world_parts.specs.k_split_model.View.{View}
 use Rattle.posix_types.specs.declared.call.Call.{Call}
 use Rattle.posix_types.specs.declared.call.Who.{Who}
 use Rattle.posix_types.specs.declared.handle.Handle.{Handle}
 use Rattle.posix_types.specs.declared.item.Outcome.{Outcome}
-use Rattle.world_turns.specs.round_calls.flight_truncates.Truncates as truncates
-use Rattle.world_turns.proofs.round_calls_proofs.Running.{built_beside, built_unlogged, call_loses, call_lost, item_with_outcome, ran, returns, spent_by, stands_by}
-use Rattle.world_turns.proofs.round_calls_proofs.Staying.{going_now, lacks_ends, lacks_over, stands_now, strict_now}
-use Rattle.world_turns.proofs.round_calls_proofs.Truncating.{truncate_lacks, truncate_loses, truncate_lost, truncate_room, truncate_stands, truncate_unlogged}
-use Rattle.world_turns.specs.world_parts.round_jobs.world_standing.Standing.{Pending, StandsAt}
-use Rattle.world_turns.specs.world_parts.round_jobs.world_standing.world_promise.JobLaws.{needs}
-use Rattle.world_turns.specs.write_begins.Needs.{JobsNeed, need_by}
-use Rattle.world_turns.specs.world_parts.round_views.declared.over.Over.{Over}
-use Rattle.world_turns.specs.world_parts.round_views.Begins.{EndsRound, LacksBeside, LosesCall, Publishes, Returns}
-use Rattle.world_turns.specs.world_parts.round_views.file_ends.Ends.{FilesEnd}
-use Rattle.world_turns.specs.world_parts.round_views.flight_calls.Built.{IsBuilt}
-use Rattle.world_turns.specs.world_parts.round_views.flight_names.Answers.{Answers, IsSpent, KeepsEnds, LeavesDevice, Loses}
-use Rattle.world_turns.specs.world_parts.round_views.Views.{Disk, disk_of, kept_of, state_of, WorldView}
-use Rattle.world_turns.specs.world_parts.declared.parts.Parts.{Parts}
-use Rattle.world_turns.specs.world_parts.Adds.{IsAdded}
-use Rattle.world_turns.specs.world_parts.Seen.{IsKept, seen}
-use Rattle.world_turns.specs.Turns.{IsTurn}
+use Rattle.call_laws.specs.file_truncate.Truncates as truncates
+use Rattle.call_laws.proofs.Running.{built_beside, built_unlogged, call_loses, call_lost, item_with_outcome, ran, returns, spent_by, stands_by}
+use Rattle.call_laws.proofs.Staying.{going_now, lacks_ends, lacks_over, stands_now, strict_now}
+use Rattle.call_laws.proofs.Truncating.{truncate_lacks, truncate_loses, truncate_lost, truncate_room, truncate_stands, truncate_unlogged}
+use Rattle.world_parts.specs.in_flight.live_model.Standing.{Pending, StandsAt}
+use Rattle.world_parts.specs.in_flight.live_model.world_model.JobLaws.{needs}
+use Rattle.call_laws.specs.write_begin.Needs.{JobsNeed, need_by}
+use Rattle.world_parts.specs.world_view_laws.declared.views.over.Over.{Over}
+use Rattle.world_parts.specs.world_view_laws.Begins.{EndsRound, LacksBeside, LosesCall, Publishes, Returns}
+use Rattle.world_parts.specs.world_view_laws.eof_laws.Ends.{FilesEnd}
+use Rattle.world_parts.specs.world_view_laws.file_calls.Built.{IsBuilt}
+use Rattle.world_parts.specs.world_view_laws.file_calls.Answers.{Answers, IsSpent, KeepsEnds, LeavesDevice, Loses}
+use Rattle.world_parts.specs.world_view_laws.Views.{Disk, disk_of, kept_of, state_of, WorldView}
+use Rattle.world_parts.specs.declared.parts.Parts.{Parts}
+use Rattle.world_parts.specs.Adds.{IsAdded}
+use Rattle.world_parts.specs.Seen.{IsKept, seen}
+use Rattle.world_begins.specs.Turns.{IsTurn}
 use Rattle.world_begins.specs.Runs.{HasRoom, IsRoomAsked}
-use Rattle.world_turns.proofs.Turning.{off_kept, off_seen, over_kept, over_seen, returned_kept, returned_seen}
+use Rattle.world_begins.proofs.Turning.{off_kept, off_seen, over_kept, over_seen, returned_kept, returned_seen}
 
 -- what it publishes is said of what stands below alone
 published_then : (who : Who) (call : Call) (old new then : WorldView) → then.disk ≡ new.disk → Publishes who call old new → Publishes who call old then

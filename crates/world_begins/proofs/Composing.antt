@@ -1,21 +1,21 @@
 -- What is staged of the file of a call is published, and then the call goes on: how it began, from before the publishing on.
 use Rattle.std.specs.Prelude.{◌≡◌, ℕ, true, false, IsSome, Result, Ok, Err, refl}
 use Rattle.std.proofs.Common.{arith, ap, ◌∙◌, sym, subst, inl, inr}
-use Rattle.world_turns.specs.pm_words.Powers.{Steps, Supply}
-use Rattle.world_turns.specs.k_journal.Commits.{TakesAStep}
-use Rattle.world_turns.specs.list_facts.Members.{In}
+use Rattle.pm_lines.specs.pm_model.Powers.{Steps, Supply}
+use Rattle.world_parts.specs.k_journal.Commits.{TakesAStep}
+use Rattle.world_parts.specs.list_laws.Members.{In}
 use Rattle.posix_types.specs.declared.call.Call.{Call}
 use Rattle.posix_types.specs.declared.call.Who.{Who}
 use Rattle.posix_types.specs.declared.handle.Handle.{Handle}
-use Rattle.world_turns.specs.crash_spec.Busy.{is_logged}
-use Rattle.world_turns.specs.posix_words.Open.{opened, Tables}
-use Rattle.world_turns.specs.posix_spec.Put.{put_by}
-use Rattle.world_turns.specs.posix_spec.State.{State}
-use Rattle.world_turns.specs.world_parts.round_views.Begins.{Begins, IsNeed, IsOfOpenFile, LosesCall, OthersStay, Publishes, Returns, WantsMemory}
-use Rattle.world_turns.specs.world_parts.round_views.flight_names.declared.outcomes.NoMemory.{NoMemory}
-use Rattle.world_turns.specs.world_parts.round_views.Views.{Disk, state_of, WorldView}
-use Rattle.world_turns.specs.world_parts.declared.outcomes.Begun.{Begun}
-use Rattle.world_turns.specs.world_parts.Answers.{IsBegun}
+use Rattle.world_parts.specs.crash_spec.Busy.{is_logged}
+use Rattle.world_parts.specs.posix_tables.Open.{opened, Tables}
+use Rattle.world_parts.specs.posix_spec.Put.{put_by}
+use Rattle.world_parts.specs.posix_spec.State.{State}
+use Rattle.world_parts.specs.world_view_laws.Begins.{Begins, IsNeed, IsOfOpenFile, LosesCall, OthersStay, Publishes, Returns, WantsMemory}
+use Rattle.world_parts.specs.world_view_laws.file_calls.declared.names.outcomes.NoMemory.{NoMemory}
+use Rattle.world_parts.specs.world_view_laws.Views.{Disk, state_of, WorldView}
+use Rattle.world_parts.specs.declared.outcomes.Begun.{Begun}
+use Rattle.world_parts.specs.Answers.{IsBegun}
 use Rattle.world_begins.specs.Runs.{HasRoom, IsBegunNow, PutsNothing}
 
 -- ---- a call that puts no bytes needs no room, but for a `truncate`

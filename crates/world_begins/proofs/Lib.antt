@@ -1,4 +1,8 @@
+pub mod Turning
+mod Writing
+mod Firsts
 mod Calling
 mod Composing
 mod Rooming
-pub use Rattle.world_turns.proofs.world_parts_proofs as world_parts_proofs
+pub use Rattle.call_laws.proofs as call_laws_proofs
+pub use Rattle.world_parts.proofs as world_parts_proofs

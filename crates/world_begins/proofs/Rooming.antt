@@ -1,24 +1,24 @@
 -- Room is made in the parts of a World, and a call begins there, or does not.
 use Rattle.std.specs.Prelude.{◌≡◌, ◌<◌, ◌+◌, ◌^◌, ℕ, true, false, length, Some, None, refl}
 use Rattle.std.proofs.Common.{arith, ap, ◌∙◌, sym, subst, Global, Vec}
-use Rattle.world_turns.specs.pm_words.Powers.{is_on, Supply}
-use Rattle.disk_lines.specs.declared.Draft.{Draft}
-use Rattle.world_turns.specs.crash_spec.Busy.{is_busy}
+use Rattle.pm_lines.specs.pm_model.Powers.{is_on, Supply}
+use Rattle.layout_model.specs.declared.lines.Draft.{Draft}
+use Rattle.world_parts.specs.crash_spec.Busy.{is_busy}
 use Rattle.posix_types.specs.declared.call.Call.{Call}
 use Rattle.posix_types.specs.declared.call.Who.{Who}
 use Rattle.posix_types.specs.declared.item.Item.{Item}
-use Rattle.world_turns.specs.posix_spec.Scripted.{IsSetUp}
-use Rattle.world_turns.specs.world_parts.round_jobs.script_calls.Counters.{AreCounts}
-use Rattle.world_turns.specs.world_parts.round_jobs.world_standing.Standing.{Pending}
-use Rattle.world_turns.proofs.world_parts_proofs.round_turns_proofs.Ending.{no_both}
-use Rattle.world_turns.proofs.world_parts_proofs.round_turns_proofs.Losing.{call_off}
-use Rattle.world_turns.specs.world_parts.round_views.Begins.{Begins, LosesCall}
-use Rattle.world_turns.specs.world_parts.round_views.Views.{files_out, HasNone, IsWorldOver, next_of, state_of, WorldView}
-use Rattle.world_turns.specs.world_parts.declared.parts.Parts.{Parts}
+use Rattle.world_parts.specs.posix_spec.Scripted.{IsSetUp}
+use Rattle.world_parts.specs.in_flight.Counters.{AreCounts}
+use Rattle.world_parts.specs.in_flight.live_model.Standing.{Pending}
+use Rattle.world_parts.proofs.world_view_laws_proofs.Ending.{no_both}
+use Rattle.world_parts.proofs.world_view_laws_proofs.Losing.{call_off}
+use Rattle.world_parts.specs.world_view_laws.Begins.{Begins, LosesCall}
+use Rattle.world_parts.specs.world_view_laws.Views.{files_out, HasNone, IsWorldOver, next_of, state_of, WorldView}
+use Rattle.world_parts.specs.declared.parts.Parts.{Parts}
 use Rattle.world_begins.specs.Rooms.{HasRoomInAll, KeepsItems}
-use Rattle.world_turns.specs.world_parts.Seen.{blocks_out, HasRoomForOne, IsKept, seen}
-use Rattle.world_turns.specs.Turns.{IsTurn}
-use Rattle.world_turns.proofs.world_parts_proofs.Losing.{out_within}
+use Rattle.world_parts.specs.Seen.{blocks_out, HasRoomForOne, IsKept, seen}
+use Rattle.world_begins.specs.Turns.{IsTurn}
+use Rattle.world_parts.proofs.Losing.{out_within}
 
 -- ---- room is made
 

@@ -1,11 +1,11 @@
 -- Room that is made in the lists of a World.
 use Rattle.std.specs.Prelude.{◌≡◌, ◌≤◌, ◌+◌, ℕ, length, vec_capacity, vec_len}
 use Rattle.std.proofs.Common.{Global, Vec}
-use Rattle.disk_lines.specs.declared.Draft.{Draft}
+use Rattle.layout_model.specs.declared.lines.Draft.{Draft}
 use Rattle.posix_types.specs.declared.call.Call.{Call}
 use Rattle.posix_types.specs.declared.call.Who.{Who}
 use Rattle.posix_types.specs.declared.item.Item.{Item}
-use Rattle.world_turns.specs.world_parts.round_jobs.world_standing.Standing.{Pending}
+use Rattle.world_parts.specs.in_flight.live_model.Standing.{Pending}
 
 -- the elements stay, and the capacity is no less
 pub record KeepsItems {X : Type 0} (old new : Vec X Global) : Type 0 where

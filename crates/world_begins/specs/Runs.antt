@@ -2,11 +2,11 @@
 use Rattle.std.specs.Prelude.{ℕ, Option, Some, None, Result, Ok, Err}
 use Rattle.posix_types.specs.declared.call.Call.{Call}
 use Rattle.posix_types.specs.declared.call.Who.{Who}
-use Rattle.world_turns.specs.pm_words.Powers.{Supply}
-use Rattle.world_turns.specs.world_parts.round_views.Begins.{LacksBeside, LosesCall, Returns, WantsMemory}
-use Rattle.world_turns.specs.world_parts.round_views.flight_names.declared.outcomes.NoMemory.{NoMemory}
-use Rattle.world_turns.specs.world_parts.round_views.Views.{WorldView}
-use Rattle.world_turns.specs.world_parts.declared.outcomes.Begun.{Begun}
+use Rattle.pm_lines.specs.pm_model.Powers.{Supply}
+use Rattle.world_parts.specs.world_view_laws.Begins.{LacksBeside, LosesCall, Returns, WantsMemory}
+use Rattle.world_parts.specs.world_view_laws.file_calls.declared.names.outcomes.NoMemory.{NoMemory}
+use Rattle.world_parts.specs.world_view_laws.Views.{WorldView}
+use Rattle.world_parts.specs.declared.outcomes.Begun.{Begun}
 
 -- the call puts no bytes
 abbrev pub PutsNothing : Call → Type 0
@@ -27,7 +27,7 @@ IsRoomAsked w who call (Some (need, left)) = LacksBeside w who call need left
 
 -- ---- how it went
 
--- A CALL THAT PUTS NO BYTES, and for which there is room, returned, lost its power, or wanted memory, which leaves a World only to be dropped.
+-- A CALL THAT PUTS NO BYTES, and for which there is room, returned, lost its power, or ran out of memory, which leaves a World only to be dropped.
 abbrev pub IsBegunNow : Who → WorldView → WorldView → Supply → Supply → Result Begun NoMemory → Type 0
 IsBegunNow who old new before after (Ok Begun.Done) = Returns who old new before after
 IsBegunNow who old new before after (Ok (Begun.Job job)) = ⊥

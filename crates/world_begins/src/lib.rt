@@ -1,19 +1,22 @@
-//! How the next call of a caller begins in a World whose power was not lost.
+//! How the next call of a caller begins in a World: its turn, publishing first, a write, or any other call.
 //!
-//! `begin_next` looks, in this order, at the power, the script, the round and the jobs of others; a call that nothing
-//! keeps waiting has all memory of its end taken first. A write begins as `begin_put` says; any other call has what is
-//! staged of its file published first, where it wants that, and then runs. The layer above may rely on this: the call
-//! returned, became a job, waits, or ended the round, the power went, the script has ended, or memory wanted, each with
-//! the World that then stands (`IsBegun`); all is kept as long as the World is usable; and it took at most the steps of
-//! that call (`most_of`).
+//! `begin_next` looks at the power, the script, the round and the jobs of others, in this order;
+//! its answer, and the World that then stands, is `IsBegun` of `world_parts`.
 //!
-//! Stands on `world_turns` (what a call wants first, and how a write begins) and `world_parts`.
+//! - `turns`: The turn of a call: what a World does for a call that nothing keeps waiting, before
+//!   it acts, and how a write begins.
+//! - `begins`: How the next call of a caller begins in a World whose power was not lost.
+//!
+//! Stands on `pm_lines`, `posix_types`, `call_laws`, `world_parts` and `layout_model`.
 #![tactic(auto)]
 
 mod begins;
-mod runs;
+mod turns;
 
 pub use begins::begin_next;
-pub use world_turns::{
-    Begun, Crashed, Ended, Finished, NoMemory, Parts, Ready, judge, lose, ready_of,
+pub use turns::{
+    Begun, Crashed, Ended, Finished, NoMemory, Over, Parts, Pending, Ready, Told, Truncated, add,
+    begin_put, busy_on, call_at, calls_made, end_round, fsync, jobs_need_what_their_calls_do,
+    lacks_room, lose, lose_call, lose_one, needs_now, publish_first, ready_of, run_call,
+    truncate_file,
 };

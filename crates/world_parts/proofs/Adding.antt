@@ -6,11 +6,11 @@ use Rattle.posix_types.specs.declared.call.Call.{Call}
 use Rattle.posix_types.specs.declared.call.Who.{Who}
 use Rattle.posix_types.specs.declared.item.Item.{Item}
 use Rattle.posix_types.specs.declared.item.Outcome.{Outcome}
-use Rattle.round_turns.specs.round_jobs.script_calls.Counters.{AreCounts, count_for, IsCounted}
-use Rattle.round_turns.specs.round_jobs.script_calls.Counts.{history_within}
-use Rattle.round_turns.specs.round_jobs.script_calls.Histories.{counts_more, is_counted, item_with, made_within_all}
-use Rattle.round_turns.proofs.Ending.{no_both}
-use Rattle.round_turns.specs.round_views.Views.{IsWorldOver, next_of, WorldView}
+use Rattle.world_view_laws.specs.in_flight.Counters.{AreCounts, count_for, IsCounted}
+use Rattle.world_view_laws.specs.in_flight.Counts.{history_within}
+use Rattle.world_view_laws.specs.in_flight.Histories.{counts_more, is_counted, item_with, made_within_all}
+use Rattle.world_view_laws.proofs.Ending.{no_both}
+use Rattle.world_view_laws.specs.Views.{IsWorldOver, next_of, WorldView}
 use Rattle.world_parts.specs.declared.parts.Parts.{Parts}
 use Rattle.world_parts.specs.Seen.{IsKept, seen}
 use Rattle.world_parts.specs.Adds.{IsAdded}

@@ -1,6 +1,5 @@
 pub mod Adding
 pub mod Losing
 mod Nexts
-pub use Rattle.round_turns.proofs as round_turns_proofs
-pub use Rattle.round_turns.proofs.round_jobs_proofs as round_jobs_proofs
-pub use Rattle.round_turns.proofs.round_views_proofs as round_views_proofs
+pub use Rattle.world_view_laws.proofs as world_view_laws_proofs
+pub use Rattle.world_view_laws.proofs.in_flight_proofs as in_flight_proofs

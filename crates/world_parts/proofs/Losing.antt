@@ -3,12 +3,12 @@ use Rattle.std.specs.Prelude.{◌≡◌, ◌≤◌, ◌+◌, ◌*◌, ℕ, Bool,
 use Rattle.std.proofs.Common.{arith, sym, subst, inl, inr}
 use Rattle.std.proofs.lemmas.Bool.{cases_Bool}
 use Rattle.std.proofs.lemmas.List.Sums.{count_by-le-length}
-use Rattle.round_turns.specs.pm_words.Cells.{cell, is_lent}
-use Rattle.round_turns.specs.posix_spec.Run.{Begun}
-use Rattle.round_turns.specs.round_jobs.world_standing.Standing.{Pending}
-use Rattle.round_turns.proofs.Ending.{no_both}
-use Rattle.round_turns.proofs.Losing.{lost_view, world_off, world_off_acted}
-use Rattle.round_turns.specs.round_views.Views.{disk_of, IsGoing, IsWorldOver, WorldView}
+use Rattle.world_view_laws.specs.pm_model.Cells.{cell, is_lent}
+use Rattle.world_view_laws.specs.posix_spec.Run.{Begun}
+use Rattle.world_view_laws.specs.in_flight.live_model.Standing.{Pending}
+use Rattle.world_view_laws.proofs.Ending.{no_both}
+use Rattle.world_view_laws.proofs.Losing.{lost_view, world_off, world_off_acted}
+use Rattle.world_view_laws.specs.Views.{disk_of, IsGoing, IsWorldOver, WorldView}
 use Rattle.world_parts.specs.declared.parts.Parts.{Parts}
 use Rattle.world_parts.specs.Seen.{blocks_out, IsKept, seen}
 

@@ -1,15 +1,15 @@
 -- What is seen of the parts of a World: whether a call waits, and which is the next.
 use Rattle.std.specs.Prelude.{◌≡◌, ℕ, true, false, IfNone, IfSome, length, Option, Some, None, slice_get}
 use Rattle.std.proofs.Common.{ap, ◌∙◌, refl, sym, subst}
-use Rattle.round_turns.specs.crash_spec.Busy.{is_busy}
+use Rattle.world_view_laws.specs.crash_spec.Busy.{is_busy}
 use Rattle.posix_types.specs.declared.call.Call.{Call}
 use Rattle.posix_types.specs.declared.call.Who.{Who}
-use Rattle.round_turns.specs.posix_spec.Scripted.{script_of}
-use Rattle.round_turns.specs.round_facts.Busy.{IsKept as IsKeptBusy}
-use Rattle.round_turns.specs.round_jobs.script_calls.Counters.{count_for}
-use Rattle.round_turns.specs.round_jobs.world_standing.Standing.{StandsAt}
-use Rattle.round_turns.specs.round_views.Begins.{IsKeptBy}
-use Rattle.round_turns.specs.round_views.Views.{files_out, kept_of, next_of, state_of}
+use Rattle.world_view_laws.specs.posix_spec.Scripted.{script_of}
+use Rattle.world_view_laws.specs.in_flight.Busy.{IsKept as IsKeptBusy}
+use Rattle.world_view_laws.specs.in_flight.Counters.{count_for}
+use Rattle.world_view_laws.specs.in_flight.live_model.Standing.{StandsAt}
+use Rattle.world_view_laws.specs.Begins.{IsKeptBy}
+use Rattle.world_view_laws.specs.Views.{files_out, kept_of, next_of, state_of}
 use Rattle.world_parts.specs.declared.parts.Parts.{Parts}
 use Rattle.world_parts.specs.Seen.{IsKept, seen}
 

@@ -4,8 +4,8 @@ use Rattle.std.specs.Vec.{vec_capacity}
 use Rattle.posix_types.specs.declared.call.Call.{Call}
 use Rattle.posix_types.specs.declared.call.Who.{Who}
 use Rattle.posix_types.specs.declared.item.Outcome.{Outcome}
-use Rattle.round_turns.specs.posix_words.Open.{same_who}
-use Rattle.round_turns.specs.round_jobs.script_calls.Counters.{count_for, IsCounted}
+use Rattle.world_view_laws.specs.posix_tables.Open.{same_who}
+use Rattle.world_view_laws.specs.in_flight.Counters.{count_for, IsCounted}
 use Rattle.world_parts.specs.declared.parts.Parts.{Parts}
 
 -- an item may be added

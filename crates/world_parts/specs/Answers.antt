@@ -1,30 +1,30 @@
 -- What the calls of a World answer.
 use Rattle.std.specs.Prelude.{◌≡◌, ◌≢◌, ◌⊎◌, ℕ, true, false, List, [], None, Result, Ok, Err}
-use Rattle.round_turns.specs.pm_words.declared.Cell.{Cell}
-use Rattle.round_turns.specs.pm_words.Images.{IsImage}
-use Rattle.round_turns.specs.pm_words.Powers.{is_on, Supply}
-use Rattle.round_turns.specs.pm_words.Words.{Words}
-use Rattle.disk_lines.specs.disk_places.Journal.{journaled}
-use Rattle.disk_lines.specs.disk_places.Places.{Geometry}
-use Rattle.round_turns.specs.disk_rules.Volume.{volume}
-use Rattle.round_turns.specs.list_facts.Members.{In}
+use Rattle.world_view_laws.specs.pm_model.declared.Cell.{Cell}
+use Rattle.world_view_laws.specs.pm_model.Images.{IsImage}
+use Rattle.world_view_laws.specs.pm_model.Powers.{is_on, Supply}
+use Rattle.world_view_laws.specs.pm_model.Words.{Words}
+use Rattle.layout_model.specs.Journal.{journaled}
+use Rattle.layout_model.specs.Places.{Geometry}
+use Rattle.world_view_laws.specs.image_model.Volume.{volume}
+use Rattle.world_view_laws.specs.list_laws.Members.{In}
 use Rattle.posix_types.specs.declared.call.Who.{Who}
-use Rattle.round_turns.specs.k_journal.declared.outcomes.Commit.{Commit}
-use Rattle.round_turns.specs.round_views.flight_names.declared.outcomes.NoMemory.{NoMemory}
-use Rattle.round_turns.specs.round_jobs.world_images.Images.{HasNoEntry}
-use Rattle.round_turns.specs.round_jobs.world_standing.Standing.{Pending}
-use Rattle.round_turns.specs.write_jobs.Jobs.{FilledView}
-use Rattle.round_turns.specs.round_views.Begins.{BeginsJob, IsFilledOut, IsPowerLost, IsRoundOver, MayBegin, Returns, Waits, WaitsFor, WantsMemory}
-use Rattle.round_turns.specs.round_views.Jobs.{Finishes, LosesFinish}
-use Rattle.round_turns.specs.round_views.Rounds.{IsLeft, IsNextRound, LosesRound}
-use Rattle.round_turns.specs.round_views.Views.{calls_out, HasNone, next_of, WorldView}
+use Rattle.world_view_laws.specs.k_journal.declared.outcomes.Commit.{Commit}
+use Rattle.world_view_laws.specs.file_calls.declared.names.outcomes.NoMemory.{NoMemory}
+use Rattle.world_view_laws.specs.in_flight.world_image_laws.Images.{HasNoEntry}
+use Rattle.world_view_laws.specs.in_flight.live_model.Standing.{Pending}
+use Rattle.world_view_laws.specs.write_jobs.Jobs.{FilledView}
+use Rattle.world_view_laws.specs.Begins.{BeginsJob, IsFilledOut, IsPowerLost, IsRoundOver, MayBegin, Returns, Waits, WaitsFor, WantsMemory}
+use Rattle.world_view_laws.specs.Jobs.{Finishes, LosesFinish}
+use Rattle.world_view_laws.specs.Rounds.{IsLeft, IsNextRound, LosesRound}
+use Rattle.world_view_laws.specs.Views.{calls_out, HasNone, next_of, WorldView}
 use Rattle.world_parts.specs.declared.outcomes.Begun.{Begun}
 use Rattle.world_parts.specs.declared.outcomes.Ended.{Ended}
 use Rattle.world_parts.specs.declared.outcomes.Finished.{Finished}
 use Rattle.world_parts.specs.declared.outcomes.Ready.{Ready}
 
 -- WHAT `begin` ANSWERS AND LEAVES: the call returned, became a job, waits, or found the round over; the power went; its script has
--- ended; or memory wanted, on the way, which leaves a World only to be dropped, or before anything was done.
+-- ended; or memory ran out, on the way, which leaves a World only to be dropped, or before anything was done.
 abbrev pub IsBegun : Who → WorldView → WorldView → Supply → Supply → Result Begun NoMemory → Type 0
 IsBegun who old new before after (Ok Begun.Done) = Returns who old new before after
 IsBegun who old new before after (Ok (Begun.Job job)) = BeginsJob who old new after job
@@ -49,7 +49,7 @@ abbrev pub IsFinished : FilledView → ℕ → WorldView → WorldView → Suppl
 IsFinished job slot old new power Finished.Done = (p : Pending) → IsFilledOut old p job → Finishes slot p old new power
 IsFinished job slot old new power Finished.PowerLost = (p : Pending) → IsFilledOut old p job → LosesFinish slot p old new power
 
--- WHAT `checkpoint` ANSWERS AND LEAVES. Where memory wants, the World is only to be dropped.
+-- WHAT `checkpoint` ANSWERS AND LEAVES. Where memory runs out, the World is only to be dropped.
 abbrev pub IsCheckpoint : WorldView → WorldView → Supply → Result Commit NoMemory → Type 0
 IsCheckpoint old new power (Ok Commit.Done) = IsNextRound old new power
 IsCheckpoint old new power (Ok Commit.PowerLost) = LosesRound old new power

@@ -1,13 +1,13 @@
 -- The view of a World by its parts, and what it keeps.
 use Rattle.std.specs.Prelude.{◌≡◌, ◌≤◌, ◌+◌, ◌*◌, ℕ, true, false, List, [], ◌∷◌, length, count_by, Option, Some, None, slice_index, vec_len}
 use Rattle.std.specs.Vec.{vec_capacity}
-use Rattle.round_turns.specs.pm_words.declared.Cell.{Cell}
-use Rattle.round_turns.specs.pm_words.Cells.{cell, is_lent}
-use Rattle.round_turns.specs.posix_spec.Run.{Begun}
-use Rattle.round_turns.specs.posix_spec.Tree.{start}
-use Rattle.round_turns.specs.round_jobs.script_calls.Counters.{AreCounts}
-use Rattle.round_turns.specs.round_jobs.world_standing.Standing.{Pending}
-use Rattle.round_turns.specs.round_views.Views.{disk_of, IsWorldOver, WorldView}
+use Rattle.world_view_laws.specs.pm_model.declared.Cell.{Cell}
+use Rattle.world_view_laws.specs.pm_model.Cells.{cell, is_lent}
+use Rattle.world_view_laws.specs.posix_spec.Run.{Begun}
+use Rattle.world_view_laws.specs.posix_spec.Tree.{start}
+use Rattle.world_view_laws.specs.in_flight.Counters.{AreCounts}
+use Rattle.world_view_laws.specs.in_flight.live_model.Standing.{Pending}
+use Rattle.world_view_laws.specs.Views.{disk_of, IsWorldOver, WorldView}
 use Rattle.world_parts.specs.declared.outcomes.Unfinished.{Unfinished}
 use Rattle.world_parts.specs.declared.parts.Parts.{Parts}
 

@@ -9,7 +9,9 @@
 //! (`IsReady`). What each call of a World answers and leaves is said here (`Answers`), since the crates that do their parts
 //! share it.
 //!
-//! Stands on `round_views` (the view, and what a World keeps) and `round_turns` (the laws of a job's end).
+//! Lines that come home after a loss are kept (`home`). There is always room for one unfinished call more.
+//!
+//! Stands on `world_view_laws` (the view, what a World keeps, and the laws of a job's end).
 #![tactic(auto)]
 
 mod looks;
@@ -21,7 +23,7 @@ pub use looks::{busy_on, ready_of};
 pub use losses::{lose, lose_one};
 pub use outcomes::{Begun, Crashed, Ended, Finished, Ready, Unfinished};
 pub use parts::{Parts, add};
-pub use round_turns::{
+pub use world_view_laws::{
     Commit, FileTable, FilledJob, Full, Job, NoMemory, OpenFiles, Over, Pending, Told, call_at,
     calls_made, finish_write, finished_writes_end_with_their_files, fsync, gather, give_up_write,
     put_lines, run_call, settle_blocks, take_job, waits_for, what_stands_may_be_published,

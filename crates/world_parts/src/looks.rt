@@ -1,15 +1,15 @@
 //! Whether a caller's next call may begin.
 ghost use Rattle.std.specs.Prelude.{◌≡◌, IfNone, IfSome, None, Some, true, false};
-ghost use Rattle.round_turns.specs.crash_spec.Busy.{is_busy};
-ghost use Rattle.round_turns.specs.round_views.Begins.{IsKeptBy};
-ghost use Rattle.round_turns.specs.round_views.Views.{files_out, next_of, state_of, HasNone};
+ghost use Rattle.world_view_laws.specs.crash_spec.Busy.{is_busy};
+ghost use Rattle.world_view_laws.specs.Begins.{IsKeptBy};
+ghost use Rattle.world_view_laws.specs.Views.{files_out, next_of, state_of, HasNone};
 ghost use Rattle.world_parts.specs.Answers.{IsReady};
 ghost use Rattle.world_parts.specs.Seen.{seen, IsKept};
 
 use crate::outcomes::Ready;
 use crate::parts::Parts;
 use posix_types::{Call, Who};
-use round_turns::{calls_made, keeper, next_in, place_of};
+use world_view_laws::{calls_made, keeper, next_in, place_of};
 
 /// The file that the call waits for, by its inode, and the caller of the job that is out of it. While the power is on
 /// and the lines are out.

@@ -1,7 +1,7 @@
 //! What the calls of a World answer, and the call that a power loss cut.
 use pm_lines::Pm;
 use posix_types::{Call, Item, Who};
-use round_turns::{Job, Over};
+use world_view_laws::{Job, Over};
 
 /// How a call began.
 #[derive(Debug, Drop)]

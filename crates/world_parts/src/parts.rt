@@ -1,16 +1,16 @@
 //! The parts of a World, and what is written into them where calls return.
 ghost use Rattle.std.specs.Prelude.{◌≡◌, ◌<◌, ◌+◌, ◌++◌, ◌∷◌, ◌^◌, [], false, vec_len};
 ghost use Rattle.std.specs.Vec.{vec_capacity};
-ghost use Rattle.round_turns.specs.posix_words.Open.{same_who};
+ghost use Rattle.world_view_laws.specs.posix_tables.Open.{same_who};
 ghost use Rattle.posix_types.specs.declared.call.Who.{Who};
-ghost use Rattle.round_turns.specs.round_jobs.script_calls.Counters.{count_for, IsCounted};
+ghost use Rattle.world_view_laws.specs.in_flight.Counters.{count_for, IsCounted};
 ghost use Rattle.world_parts.specs.Adds.{IsAdded, MayAdd};
 
 use crate::outcomes::Unfinished;
-use disk_lines::Draft;
+use layout_model::Draft;
 use pm_lines::Line;
 use posix_types::{Call, Item, Mode, Outcome, Scripts, Shape, Tree, Who};
-use round_turns::{
+use world_view_laws::{
     Counters, FileTable, Geometry, KSplit, OpenFiles, Over, Pending, Staging, calls_made,
     count_call,
 };
@@ -64,7 +64,7 @@ pub struct Parts {
     pub first: Vec<u64>,
     /// Whether the power was lost.
     pub lost: bool,
-    /// Whether the World may go on: no call wanted memory on the way.
+    /// Whether the World may go on: no call ran out of memory on the way.
     pub usable: bool,
 }
 

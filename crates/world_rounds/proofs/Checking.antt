@@ -1,27 +1,27 @@
 -- A checkpoint: the parts of the World once it is done, or once the power went.
 use Rattle.std.specs.Prelude.{◌≡◌, ◌≤◌, ◌<◌, ◌+◌, ◌*◌, ◌^◌, ℕ, true, false, List, [], length, None, Ok, vec_len, refl}
 use Rattle.std.proofs.Common.{arith, ap, ◌∙◌, sym, subst}
-use Rattle.world_ends.specs.pm_words.Cells.{cell, is_lent}
-use Rattle.world_ends.specs.pm_words.Parts.{Part}
-use Rattle.world_ends.specs.pm_words.Powers.{is_on, Steps, Supply}
-use Rattle.world_ends.specs.disk_lines.declared.Draft.{Draft}
-use Rattle.world_ends.specs.disk_places.Places.{Geometry, log_line}
-use Rattle.world_ends.specs.file_table.Files.{Files}
-use Rattle.world_ends.specs.k_journal.declared.outcomes.Commit.{Commit}
-use Rattle.world_ends.specs.k_rules.View.{View}
-use Rattle.world_ends.specs.lines_out.Lines.{LinesComeBack}
-use Rattle.round_ends.specs.Laws.{EndsReady, GoesIntoNextRound, IsEnding, LosesRoundBefore, LosesRoundInside, lost_round, next_view, ReadyToGather}
-use Rattle.world_ends.specs.world_parts.round_jobs.k_split.Laps.{IsLogWord}
-use Rattle.world_ends.specs.world_parts.round_jobs.k_split.Order.{IsInOrder}
-use Rattle.world_ends.specs.world_parts.round_jobs.staging_files.Keeps.{Staged}
-use Rattle.world_ends.specs.world_parts.round_jobs.world_standing.Standing.{StandsAt}
-use Rattle.world_ends.proofs.world_parts_proofs.round_turns_proofs.Ending.{no_both}
-use Rattle.world_ends.specs.world_parts.round_views.Lines.{HoldTheClaims}
-use Rattle.world_ends.specs.log_checkpoint.Gathers.{file_count, IsGatherAnswer, total_runs}
-use Rattle.world_ends.specs.world_parts.round_views.Rounds.{IsNextRound, MayCheckpoint}
-use Rattle.world_ends.specs.world_parts.round_views.Views.{Disk, disk_of, IsWorldOver, kept_of, state_of, WorldView}
-use Rattle.world_ends.specs.world_parts.declared.parts.Parts.{Parts}
-use Rattle.world_ends.specs.world_parts.Seen.{IsKept, seen}
+use Rattle.world_parts.specs.pm_model.Cells.{cell, is_lent}
+use Rattle.world_parts.specs.pm_model.Parts.{Part}
+use Rattle.world_parts.specs.pm_model.Powers.{is_on, Steps, Supply}
+use Rattle.world_parts.specs.layout_model.declared.lines.Draft.{Draft}
+use Rattle.world_parts.specs.layout_model.Places.{Geometry, log_line}
+use Rattle.world_parts.specs.file_table.Files.{Files}
+use Rattle.world_parts.specs.k_journal.declared.outcomes.Commit.{Commit}
+use Rattle.world_parts.specs.k_split_model.View.{View}
+use Rattle.world_parts.specs.block_io.Lines.{LinesComeBack}
+use Rattle.round_laws.specs.EndsLaws.{EndsReady, GoesIntoNextRound, IsEnding, LosesRoundBefore, LosesRoundInside, lost_round, next_view, ReadyToGather}
+use Rattle.world_parts.specs.in_flight.k_split.Laps.{IsLogWord}
+use Rattle.world_parts.specs.in_flight.k_split.Order.{IsInOrder}
+use Rattle.world_parts.specs.in_flight.staging_files.Keeps.{Staged}
+use Rattle.world_parts.specs.in_flight.live_model.Standing.{StandsAt}
+use Rattle.world_parts.proofs.world_view_laws_proofs.Ending.{no_both}
+use Rattle.world_parts.specs.world_view_laws.Lines.{HoldTheClaims}
+use Rattle.world_parts.specs.log_checkpoint.Gathers.{file_count, IsGatherAnswer, total_runs}
+use Rattle.world_parts.specs.world_view_laws.Rounds.{IsNextRound, MayCheckpoint}
+use Rattle.world_parts.specs.world_view_laws.Views.{Disk, disk_of, IsWorldOver, kept_of, state_of, WorldView}
+use Rattle.world_parts.specs.declared.parts.Parts.{Parts}
+use Rattle.world_parts.specs.Seen.{IsKept, seen}
 
 -- ---- steps
 

@@ -2,14 +2,14 @@
 use Rattle.std.specs.Prelude.{◌≡◌, ◌≤◌, ◌+◌, false, List, length}
 use Rattle.std.specs.Vec.{vec_capacity}
 use Rattle.std.proofs.Common.{arith, ap, sym, subst}
-use Rattle.world_ends.specs.pm_words.declared.Cell.{Cell}
-use Rattle.world_ends.specs.disk_places.Places.{Geometry}
-use Rattle.world_ends.specs.k_rules.View.{View}
-use Rattle.world_ends.specs.posix_spec.Run.{Begun}
-use Rattle.world_ends.specs.world_parts.round_views.Rounds.{IsLeft}
-use Rattle.world_ends.specs.world_parts.Answers.{HasEmptyLog}
-use Rattle.world_ends.specs.world_parts.declared.parts.Parts.{Parts}
-use Rattle.world_ends.specs.world_parts.Seen.{IsKept, seen, unfinished_of}
+use Rattle.world_parts.specs.pm_model.declared.Cell.{Cell}
+use Rattle.world_parts.specs.layout_model.Places.{Geometry}
+use Rattle.world_parts.specs.k_split_model.View.{View}
+use Rattle.world_parts.specs.posix_spec.Run.{Begun}
+use Rattle.world_parts.specs.world_view_laws.Rounds.{IsLeft}
+use Rattle.world_parts.specs.Answers.{HasEmptyLog}
+use Rattle.world_parts.specs.declared.parts.Parts.{Parts}
+use Rattle.world_parts.specs.Seen.{IsKept, seen, unfinished_of}
 
 -- there is room for the calls that had begun
 pub calls_room : (p : Parts) → IsKept p → p.lost ≡ false → length p.pending.items + length (unfinished_of p.unfinished) ≤ vec_capacity p.spare

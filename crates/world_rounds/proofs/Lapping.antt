@@ -2,23 +2,23 @@
 use Rattle.std.specs.Prelude.{◌≡◌, ◌≤◌, ◌<◌, ◌+◌, ◌-◌, ◌*◌, ◌/◌, ◌%◌, ◌&&◌, ℕ, true, false, List, length, slice_index, nat_le, nat_lt, if◌then◌else◌, refl}
 use Rattle.std.proofs.Common.{arith, ap, ◌∙◌, sym, subst}
 use Rattle.std.proofs.lemmas.Bool.Decides.{nat_tests}
-use Rattle.world_ends.specs.pm_words.Cells.{cell, newest}
-use Rattle.world_ends.specs.pm_words.Images.{words_of}
-use Rattle.world_ends.specs.pm_words.Parts.{Part}
-use Rattle.world_ends.specs.disk_places.Places.{Geometry, log_line}
-use Rattle.round_ends.specs.flight_rounds.Laws.{StandsOut}
-use Rattle.world_ends.specs.k_rules.View.{View}
-use Rattle.world_ends.specs.lines_out.Lines.{line_at, LinesGoOut}
-use Rattle.round_ends.specs.Laws.{MayBegin, MayTakeLog}
-use Rattle.world_ends.specs.world_parts.round_jobs.k_split.Laps.{IsLogWord}
-use Rattle.world_ends.specs.world_parts.round_jobs.k_split.LogLines.{AreLogLines}
-use Rattle.world_ends.specs.world_parts.round_jobs.k_split.Order.{IsInOrder}
-use Rattle.world_ends.proofs.world_parts_proofs.round_turns_proofs.Ending.{no_both}
-use Rattle.world_ends.proofs.world_parts_proofs.round_turns_proofs.Rounds.{begun_on, begun_view, round_begun}
-use Rattle.world_ends.specs.world_parts.round_views.Rounds.{IsRoundBegun}
-use Rattle.world_ends.specs.world_parts.round_views.Views.{first_by, IsWorldOver, WorldView}
-use Rattle.world_ends.specs.world_parts.declared.parts.Parts.{Parts}
-use Rattle.world_ends.specs.world_parts.Seen.{IsKept, seen}
+use Rattle.world_parts.specs.pm_model.Cells.{cell, newest}
+use Rattle.world_parts.specs.pm_model.Images.{words_of}
+use Rattle.world_parts.specs.pm_model.Parts.{Part}
+use Rattle.world_parts.specs.layout_model.Places.{Geometry, log_line}
+use Rattle.round_laws.specs.file_publish.RoundLinesLaws.{StandsOut}
+use Rattle.world_parts.specs.k_split_model.View.{View}
+use Rattle.world_parts.specs.block_io.Lines.{line_at, LinesGoOut}
+use Rattle.round_laws.specs.EndsLaws.{MayBegin, MayTakeLog}
+use Rattle.world_parts.specs.in_flight.k_split.Laps.{IsLogWord}
+use Rattle.world_parts.specs.in_flight.k_split.LogLines.{AreLogLines}
+use Rattle.world_parts.specs.in_flight.k_split.Order.{IsInOrder}
+use Rattle.world_parts.proofs.world_view_laws_proofs.Ending.{no_both}
+use Rattle.world_parts.proofs.world_view_laws_proofs.Rounds.{begun_on, begun_view, round_begun}
+use Rattle.world_parts.specs.world_view_laws.Rounds.{IsRoundBegun}
+use Rattle.world_parts.specs.world_view_laws.Views.{first_by, IsWorldOver, WorldView}
+use Rattle.world_parts.specs.declared.parts.Parts.{Parts}
+use Rattle.world_parts.specs.Seen.{IsKept, seen}
 
 -- the kept words are those of the device
 module _ (k l : View) (lines : List Part) (are : AreLogLines k.volume lines) (goes : LinesGoOut (log_line k.volume.geometry 0) k.cells l.cells lines) (words : List ℕ) (count : length words ≡ 8 * length lines)

@@ -1,5 +1,8 @@
+mod Finishes
+pub mod Lost
+mod GivesUp
 pub mod Settles
 mod Lapping
 mod Checking
 mod Endings
-pub use Rattle.world_ends.proofs as world_ends_proofs
+pub use Rattle.world_parts.proofs as world_parts_proofs

@@ -2,30 +2,30 @@
 use Rattle.std.specs.Prelude.{◌≡◌, ◌/◌, ◌++◌, ℕ, true, false, List, [], ◌∷◌, length, refl, if◌then◌else◌}
 use Rattle.std.proofs.Common.{ap, ◌∙◌, sym, subst, inl, inr}
 use Rattle.std.proofs.lemmas.List.{append-nil}
-use Rattle.world_ends.specs.pm_words.declared.Cell.{Cell}
-use Rattle.world_ends.specs.pm_words.Cells.{cell, is_lent}
-use Rattle.world_ends.specs.pm_words.Parts.{ComesBack, Part}
-use Rattle.world_ends.specs.block_bytes.Overwrites.{IsInLines}
-use Rattle.world_ends.specs.disk_places.Places.{log_line}
-use Rattle.world_ends.specs.disk_lines.declared.Draft.{Draft}
-use Rattle.world_ends.specs.lines_out.Lines.{AreFrom, LinesComeBack}
-use Rattle.world_ends.specs.list_facts.Members.{In, pushed-In}
-use Rattle.world_ends.specs.write_jobs.Jobs.{FilledView, HoldWords, JobView}
-use Rattle.world_ends.specs.world_parts.round_views.losing_facts.Blocks.{ComeHome}
-use Rattle.world_ends.specs.world_parts.round_turns.Handed.{AreOneEach, handed, HaveOtherPlaces, loans_filled, loans_out}
-use Rattle.world_ends.proofs.world_parts_proofs.round_turns_proofs.Crashing.{loans_lent}
-use Rattle.world_ends.proofs.world_parts_proofs.round_turns_proofs.Handing.{each_behind, each_front, home_more, home_one, in_behind, in_front, loans_filled_more, loans_out_more, other_places}
-use Rattle.world_ends.proofs.world_parts_proofs.round_turns_proofs.Leaving.{crash_left, handed_apart, may_put, MayPutLines}
-use Rattle.world_ends.specs.world_parts.round_views.Losses.{MayCrash}
-use Rattle.world_ends.specs.world_parts.round_views.Rounds.{IsLeft}
-use Rattle.world_ends.specs.world_parts.round_views.Begins.{IsFilledOut, IsJobOut}
-use Rattle.world_ends.specs.world_parts.round_views.Lines.{AreCrashLines}
-use Rattle.world_ends.specs.world_parts.round_views.Views.{calls_out, WorldView}
-use Rattle.world_ends.specs.world_parts.round_jobs.world_standing.Standing.{Pending}
+use Rattle.world_parts.specs.pm_model.declared.Cell.{Cell}
+use Rattle.world_parts.specs.pm_model.Cells.{cell, is_lent}
+use Rattle.world_parts.specs.pm_model.Parts.{ComesBack, Part}
+use Rattle.world_parts.specs.block_io.Overwrites.{IsInLines}
+use Rattle.world_parts.specs.layout_model.Places.{log_line}
+use Rattle.world_parts.specs.layout_model.declared.lines.Draft.{Draft}
+use Rattle.world_parts.specs.block_io.Lines.{AreFrom, LinesComeBack}
+use Rattle.world_parts.specs.list_laws.Members.{In, pushed-In}
+use Rattle.world_parts.specs.write_jobs.Jobs.{FilledView, HoldWords, JobView}
+use Rattle.world_parts.specs.world_view_laws.write_end.Blocks.{ComeHome}
+use Rattle.world_parts.specs.world_view_laws.Handed.{AreOneEach, handed, HaveOtherPlaces, loans_filled, loans_out}
+use Rattle.world_parts.proofs.world_view_laws_proofs.Crashing.{loans_lent}
+use Rattle.world_parts.proofs.world_view_laws_proofs.Handing.{each_behind, each_front, home_more, home_one, in_behind, in_front, loans_filled_more, loans_out_more, other_places}
+use Rattle.world_parts.proofs.world_view_laws_proofs.Leaving.{crash_left, handed_apart, may_put, MayPutLines}
+use Rattle.world_parts.specs.world_view_laws.Losses.{MayCrash}
+use Rattle.world_parts.specs.world_view_laws.Rounds.{IsLeft}
+use Rattle.world_parts.specs.world_view_laws.Begins.{IsFilledOut, IsJobOut}
+use Rattle.world_parts.specs.world_view_laws.Lines.{AreCrashLines}
+use Rattle.world_parts.specs.world_view_laws.Views.{calls_out, WorldView}
+use Rattle.world_parts.specs.in_flight.live_model.Standing.{Pending}
 use Rattle.posix_types.specs.declared.item.Item.{Item}
-use Rattle.world_ends.specs.posix_spec.Run.{Begun}
-use Rattle.world_ends.specs.world_parts.declared.parts.Parts.{Parts}
-use Rattle.world_ends.specs.world_parts.Seen.{IsKept, seen}
+use Rattle.world_parts.specs.posix_spec.Run.{Begun}
+use Rattle.world_parts.specs.declared.parts.Parts.{Parts}
+use Rattle.world_parts.specs.Seen.{IsKept, seen}
 
 -- each loan of these is of a block that is lent
 abbrev pub AreLent : List Part → List Cell → Type 0

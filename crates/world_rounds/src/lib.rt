@@ -1,20 +1,20 @@
-//! The rounds of a World: they begin, end at a checkpoint or with the run, or with the power.
+//! How jobs end and rounds go in a World: finish, give up, begin a round, checkpoint, unmount, crash.
 //!
-//! The layer above may rely on this: the log's lines go out with their words kept (`begin_lines`, `IsRoundBegun`); at a
-//! checkpoint they come home, all that is staged is published, and the next lap begins (`end_lines`, `IsCheckpoint`), and
-//! once the power had gone they are kept (`keep_lines`); a run ends with all published, and the device and the history
-//! are left (`end_run`, `IsEnded`); and what a World that lost its power leaves, whatever is put back of lines and blocks,
-//! keeps the promise (`crash_lost`, `IsLeft`).
+//! Each call is one definition of `world_view_laws` (`Finishes`, `GivesUp`, `IsRoundBegun`,
+//! `IsCheckpoint`, `IsEnded`, `IsLeft`), with the power on or gone.
 //!
-//! Stands on `world_parts` and `round_ends` (the laws of a round's end).
+//! - `job_ends`: A job of a World ends: it finishes, or is given up.
+//! - `rounds`: The rounds of a World: they begin, end at a checkpoint or with the run, or with the
+//!   power.
+//!
+//! Stands on `posix_types`, `posix_tables`, `world_parts`, `pm_lines` and `round_laws`.
 #![tactic(auto)]
 
-mod losses;
+mod job_ends;
 mod rounds;
-mod unmounts;
 
-pub use losses::crash_lost;
-pub use round_ends::an_unmount_ends_a_run;
-pub use rounds::{begin_lines, end_lines, keep_lines};
-pub use unmounts::end_run;
-pub use world_ends::{finish_off, finish_on, give_up_off, give_up_on, lose_one};
+pub use job_ends::{
+    Commit, Crashed, Ended, FilledJob, Job, NoMemory, Parts, Pending, Unfinished, finish_off,
+    finish_on, gather, give_up_off, give_up_on, lose_one, put_lines,
+};
+pub use rounds::{an_unmount_ends_a_run, begin_lines, crash_lost, end_lines, end_run, keep_lines};

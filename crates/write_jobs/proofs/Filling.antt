@@ -4,9 +4,9 @@ use Rattle.std.proofs.Common.{arith, sym, subst, ◌∙◌, inl, inr}
 use Rattle.std.proofs.Math.Seq.{map-set_same}
 use Rattle.std.proofs.lemmas.Bool.{cases_lt}
 use Rattle.std.proofs.lemmas.List.{get_or_default, get_or-set_other, get_or-set_same}
-use Rattle.pm_lines.specs.pm_words.declared.Cell.TheVariants.{Single}
-use Rattle.pm_lines.specs.pm_words.Cells.{cell}
-use Rattle.pm_lines.specs.pm_words.Parts.{Part}
+use Rattle.pm_lines.specs.pm_model.declared.Cell.TheVariants.{Single}
+use Rattle.pm_lines.specs.pm_model.Cells.{cell}
+use Rattle.pm_lines.specs.pm_model.Parts.{Part}
 use Rattle.write_jobs.specs.Jobs.{blocks_of, loan_at}
 
 -- the first k loans hold their words

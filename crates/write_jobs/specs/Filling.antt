@@ -1,7 +1,7 @@
 -- What `fill` answers.
-use Rattle.pm_lines.specs.pm_words.Powers.{Supply}
-use Rattle.write_jobs.specs.declared.fills.Filled.{Filled}
-use Rattle.write_jobs.specs.declared.fills.Filled.TheVariants.{PowerLost, Ready}
+use Rattle.pm_lines.specs.pm_model.Powers.{Supply}
+use Rattle.write_jobs.specs.declared.jobs.fills.Filled.{Filled}
+use Rattle.write_jobs.specs.declared.jobs.fills.Filled.TheVariants.{PowerLost, Ready}
 use Rattle.write_jobs.specs.Jobs.{IsCutOff, IsFilled, JobView}
 
 -- The job is filled, with the power on; or the power went, and is off.

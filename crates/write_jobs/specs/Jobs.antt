@@ -1,10 +1,10 @@
 -- Logged writes that have begun, with the blocks that they were lent, and what filling makes of them.
 use Rattle.std.specs.Prelude.{◌≡◌, ◌≤◌, ◌<◌, ◌+◌, ◌*◌, ℕ, Bool, true, false, List, [], length, map, slice_index, slice_index_or}
-use Rattle.pm_lines.specs.pm_words.declared.Cell.TheVariants.{Single}
-use Rattle.pm_lines.specs.pm_words.Cells.{cell, is_single}
-use Rattle.pm_lines.specs.pm_words.Parts.{Part}
-use Rattle.pm_lines.specs.pm_words.Powers.{is_on, Supply}
-use Rattle.disk_lines.specs.declared.Draft.{Draft}
+use Rattle.pm_lines.specs.pm_model.declared.Cell.TheVariants.{Single}
+use Rattle.pm_lines.specs.pm_model.Cells.{cell, is_single}
+use Rattle.pm_lines.specs.pm_model.Parts.{Part}
+use Rattle.pm_lines.specs.pm_model.Powers.{is_on, Supply}
+use Rattle.layout_model.specs.declared.lines.Draft.{Draft}
 use Rattle.posix_types.specs.declared.call.Who.{Who}
 
 -- What contracts see of a job: its caller and its entry; the blocks that it was lent, in the order of the entry's blocks; the

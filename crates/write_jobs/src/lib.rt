@@ -1,21 +1,21 @@
-//! Jobs: logged writes between their beginning and their end.
+//! Jobs: logged writes between their beginning and their end, and the blocks that they are lent.
 //!
-//! A job has the blocks that its write stages, lent by the device, and the words that they are to hold.
-//! `Job::fill` stores the words, flushes each line once and fences each block; it takes all memory at the
-//! beginning, none here, and may run beside other jobs, since it touches its own blocks alone.
+//! A `FilledJob` comes from `Job::fill` alone, each of its blocks whole and durable; blocks are
+//! lent all or none, and put back whatever they hold; the laws say what that makes of the device.
+//! `fill` takes no memory.
 //!
-//! The layer above may rely on this: a `FilledJob` comes from `fill` alone, and each of its blocks holds its
-//! words, durable (`IsFilled`, `HoldWords`); a power loss gives the job back, with the same entry and the same
-//! blocks (`IsCutOff`), exactly where the power is off at the return. At most 577 steps a block.
-//! `staged_words` gives the words of blocks in which bytes of a file are written over (`staged_bytes`).
+//! - `jobs`: Jobs: logged writes between their beginning and their end.
+//! - `job_laws`: Jobs on the device.
+//! - `loans`: The blocks of a log entry, lent by K-Split all together, and taken back.
 //!
-//! Stands on the loans of `pm_lines`.
+//! Stands on `pm_lines`, `layout_model`, `posix_types`, `posix_tables`, `world_image_laws`,
+//! `world_write_laws` and `k_split`.
 #![tactic(auto)]
 
-mod contents;
-mod fills;
+mod job_laws;
 mod jobs;
+mod loans;
 
-pub use contents::staged_words;
-pub use fills::Filled;
-pub use jobs::{FilledJob, Job};
+pub use job_laws::jobs_come_and_go_on_the_device;
+pub use jobs::{Filled, FilledJob, Job, staged_words};
+pub use loans::{KSplit, lend_blocks, loans_are_put_back, settle_blocks};

@@ -1,4 +1,4 @@
-use Rattle.posix_facts.specs.posix_spec.Run.{IsLegal-append}
+use Rattle.posix_laws.specs.posix_spec.Run.{IsLegal-append}
 use Rattle.crash_spec.specs.RelationLaws.{Permitted-none, Sync-one}
 use Rattle.crash_spec.specs.Strict.{Strict-one}
 use Rattle.crash_spec.proofs.what_returned_is_permitted.Goals as goal

@@ -1,4 +1,4 @@
-use Rattle.extent_facts.specs.Spelling.{has_one_spelling}
+use Rattle.extent_model.specs.Spelling.{has_one_spelling}
 use Rattle.extent_map.proofs.maps_have_one_spelling.Goals as goal
 
 pub returns : goal.returns

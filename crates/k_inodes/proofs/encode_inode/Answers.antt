@@ -1,7 +1,7 @@
 -- the law of the definitions, at fields of their widths
 use Rattle.std.proofs.Common.{◌∙◌, ap}
-use Rattle.disk_lines.specs.Lines.{decode_inode}
-use Rattle.disk_lines.specs.LineLaws.{decode_inode-encode_inode}
+use Rattle.layout_model.specs.Lines.{decode_inode}
+use Rattle.layout_model.specs.LineLaws.{decode_inode-encode_inode}
 use Rattle.k_inodes.proofs.encode_inode.Goals as goal
 
 pub returns-clause-read : goal.returns-clause-read

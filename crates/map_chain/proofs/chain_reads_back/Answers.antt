@@ -1,4 +1,4 @@
-use Rattle.chain_facts.specs.ChainLaws.{reads_back, has_one_chain}
+use Rattle.volume_laws.specs.ChainLaws.{reads_back, has_one_chain}
 use Rattle.map_chain.proofs.chain_reads_back.Goals as goal
 
 pub returns-clause-back : goal.returns-clause-back

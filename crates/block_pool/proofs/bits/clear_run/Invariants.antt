@@ -1,5 +1,5 @@
 use Rattle.std.proofs.Common.{◌≡◌, ℕ, ◌&&◌, not}
-use Rattle.extent_map.specs.extent_words.Extents.{is_between}
+use Rattle.extent_map.specs.extent_model.Extents.{is_between}
 use Rattle.block_pool.specs.Bits.{is_set}
 use Rattle.block_pool.proofs.bits.clear_run.Given as goal
 

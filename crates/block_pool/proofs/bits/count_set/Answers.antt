@@ -1,5 +1,5 @@
 use Rattle.std.proofs.Common.{refl, sym, ◌∙◌, ap, arith}
-use Rattle.extent_map.specs.extent_facts.Counts.{one_if, count_below, count_below-more}
+use Rattle.extent_map.specs.extent_model.Counts.{one_if, count_below, count_below-more}
 use Rattle.block_pool.specs.Bits.{is_set}
 use Rattle.block_pool.proofs.bits.count_set.Goals as goal
 use Rattle.block_pool.proofs.bits.count_set.Goals.{then-is_set, else-is_set}

@@ -1,5 +1,5 @@
 use Rattle.std.proofs.Common.{◌≡◌, ℕ, ◌+◌, ◌&&◌, not, take}
-use Rattle.extent_map.specs.extent_facts.Counts.{count_below}
+use Rattle.extent_map.specs.extent_model.Counts.{count_below}
 use Rattle.block_pool.specs.FreeSets.{is_among}
 use Rattle.block_pool.specs.Bits.{is_set}
 use Rattle.block_pool.proofs.blocks.clear_blocks.Given as goal

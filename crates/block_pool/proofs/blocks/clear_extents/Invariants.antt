@@ -1,5 +1,5 @@
 use Rattle.std.proofs.Common.{◌≡◌, ℕ, ◌+◌, ◌&&◌, not, take}
-use Rattle.extent_map.specs.extent_words.Extents.{covers}
+use Rattle.extent_map.specs.extent_model.Extents.{covers}
 use Rattle.block_pool.specs.Bits.{is_set}
 use Rattle.block_pool.proofs.blocks.clear_extents.Given as goal
 

@@ -1,8 +1,8 @@
 use Rattle.std.proofs.Common.{◌-◌, get_or, refl, sym, ◌∙◌, subst, arith}
 use Rattle.std.proofs.lemmas.Bool.{iff_false}
 use Rattle.std.proofs.lemmas.List.{get_or_default}
-use Rattle.extent_words.specs.declared.Extent.{Extent}
-use Rattle.extent_words.specs.Extents.{Continues}
+use Rattle.extent_model.specs.declared.extent_words.Extent.{Extent}
+use Rattle.extent_model.specs.Extents.{Continues}
 use Rattle.extent_map.proofs.Grown.{appends_push, appends_merged}
 use Rattle.extent_map.proofs.pieces.append.Goals as goal
 use Rattle.extent_map.proofs.pieces.append.Goals.{else-count-gt0-via-then-count-gt0+else-is_continued, else-count-gt0-via-else-count-gt0}

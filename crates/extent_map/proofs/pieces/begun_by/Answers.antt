@@ -2,7 +2,7 @@ use Rattle.std.proofs.Common.{◌≡◌, true, false, ℕ, ◌<◌, ◌≤◌, l
 use Rattle.std.proofs.lemmas.Bool.{cases_eq, leb-true, leb-false}
 use Rattle.std.specs.List.Sorted.{IsPartitionPoint}
 use Rattle.std.proofs.lemmas.List.Sorted.{IsPartitionPoint-from_clause, IsPartitionedBy-leb}
-use Rattle.extent_words.specs.declared.Extent.{Extent}
+use Rattle.extent_model.specs.declared.extent_words.Extent.{Extent}
 use Rattle.extent_map.proofs.pieces.begun_by.Goals as goal
 
 -- the extents begin one after the other, so those that have begun stand in front

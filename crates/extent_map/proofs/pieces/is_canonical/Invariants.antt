@@ -1,5 +1,5 @@
 use Rattle.std.proofs.Common.{take}
-use Rattle.extent_words.specs.Extents.{IsCanonical}
+use Rattle.extent_model.specs.Extents.{IsCanonical}
 use Rattle.extent_map.proofs.pieces.is_canonical.Given as goal
 
 -- the extents so far are the one spelling of a map

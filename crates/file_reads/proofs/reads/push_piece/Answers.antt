@@ -1,7 +1,7 @@
 use Rattle.std.proofs.Common.{◌++◌, ◌∙◌, ap, ℕ, List, Option, map}
 use Rattle.std.specs.List.{range_with_len}
-use Rattle.k_split.specs.disk_rules.Content.{byte_in}
-use Rattle.k_split.specs.pm_words.Images.{words_of}
+use Rattle.k_split.specs.image_model.Content.{byte_in}
+use Rattle.k_split.specs.pm_model.Images.{words_of}
 use Rattle.file_reads.specs.Reads.{block_of}
 use Rattle.file_reads.proofs.Places.{piece_bytes}
 use Rattle.file_reads.proofs.reads.push_piece.Goals as goal

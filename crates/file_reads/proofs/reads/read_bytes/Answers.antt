@@ -2,8 +2,8 @@ use Rattle.std.proofs.Common.{arith, ap, sym, subst, ◌∙◌, ◌≡◌, ◌<�
 use Rattle.std.specs.Prelude.{slice_index_or}
 use Rattle.std.specs.List.{flat_map}
 use Rattle.std.proofs.Math.Seq.{take-length}
-use Rattle.k_split.specs.pm_words.Images.{words_of}
-use Rattle.data_route.specs.extent_words.declared.Extent.{Extent}
+use Rattle.k_split.specs.pm_model.Images.{words_of}
+use Rattle.data_route.specs.extent_model.declared.extent_words.Extent.{Extent}
 use Rattle.data_route.specs.declared.reads.Piece.{Piece}
 use Rattle.data_route.specs.declared.reads.Source.TheVariants.{Disk}
 use Rattle.data_route.specs.Reads.{IsReadPlan}

@@ -1,6 +1,6 @@
 use Rattle.std.proofs.Common.{◌≡◌, take}
 use Rattle.std.specs.List.{flat_map}
-use Rattle.k_split.specs.pm_words.Images.{words_of}
+use Rattle.k_split.specs.pm_model.Images.{words_of}
 use Rattle.file_reads.specs.Reads.{bytes_of_piece}
 use Rattle.file_reads.proofs.reads.read_bytes.Given as goal
 

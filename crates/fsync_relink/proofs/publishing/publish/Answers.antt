@@ -1,6 +1,6 @@
 use Rattle.std.proofs.Common.{◌+◌, ◌*◌, length, refl, sym, ◌∙◌, subst, inl}
-use Rattle.world_relinks.specs.pm_words.Images.{Follows, Follows-same}
-use Rattle.world_relinks.specs.pm_words.Powers.{Steps}
+use Rattle.relink_laws.specs.pm_model.Images.{Follows, Follows-same}
+use Rattle.relink_laws.specs.pm_model.Powers.{Steps}
 use Rattle.fsync_relink.specs.Logged.{HasSameContent}
 use Rattle.fsync_relink.specs.Publishes.{MayPublish}
 use Rattle.fsync_relink.proofs.PublishedLaws.{done-answer, failed-answer, lost-answer}

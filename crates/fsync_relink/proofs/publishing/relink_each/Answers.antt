@@ -1,7 +1,7 @@
 use Rattle.std.proofs.Common.{◌+◌, ◌*◌, drop, length, Err, Ok, refl, sym, subst, arith}
 use Rattle.std.proofs.lemmas.Bool.{both_ways}
-use Rattle.world_relinks.specs.pm_words.PowerLaws.{Steps-none}
-use Rattle.world_relinks.specs.k_split.MapChanges.{IsRelinkAnswer}
+use Rattle.relink_laws.specs.pm_model.PowerLaws.{Steps-none}
+use Rattle.relink_laws.specs.k_split.MapChanges.{IsRelinkAnswer}
 use Rattle.fsync_relink.specs.Publishes.{IsPublishPaid, IsRelinkedEach}
 use Rattle.fsync_relink.proofs.WayLaws.{move-is, steps-on, steps-within, way-all, way-at, way-goes_on, way-home, way-may, way-room, way-starts, way-stops, way-stops-paid}
 use Rattle.fsync_relink.proofs.publishing.relink_each.Goals as goal

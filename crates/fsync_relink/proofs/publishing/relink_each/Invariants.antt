@@ -1,5 +1,5 @@
 use Rattle.std.proofs.Common.{◌≡◌, ◌*◌, ◌^◌, drop, true}
-use Rattle.world_relinks.specs.pm_words.Powers.{is_on, Steps}
+use Rattle.relink_laws.specs.pm_model.Powers.{is_on, Steps}
 use Rattle.fsync_relink.proofs.WayLaws.{IsOnTheWay}
 use Rattle.fsync_relink.proofs.publishing.relink_each.Given as goal
 

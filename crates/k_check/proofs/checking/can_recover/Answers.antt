@@ -1,8 +1,8 @@
 use Rattle.std.proofs.Common.{sym, ◌∙◌, subst, List, All}
 use Rattle.std.specs.Prelude.{Option}
 use Rattle.std.proofs.lemmas.Bool.{both_ways}
-use Rattle.oplog_entry.specs.disk_lines.declared.Draft.{Draft}
-use Rattle.volume_check.specs.disk_rules.Rules.{HasStagingBlocks}
+use Rattle.oplog_entry.specs.layout_model.declared.lines.Draft.{Draft}
+use Rattle.check_image.specs.image_model.Rules.{HasStagingBlocks}
 use Rattle.k_check.specs.Rooms.{HasRoom}
 use Rattle.k_check.specs.Slots.{AreGoodSlots}
 use Rattle.k_check.proofs.RecoverFacts.{pairs-held, recover-held, room-of}

@@ -1,13 +1,13 @@
 use Rattle.std.proofs.Common.{◌≡◌, ◌*◌, ap, sym, ◌∙◌, subst, List, length}
 use Rattle.std.specs.Prelude.{Option, filter}
 use Rattle.std.proofs.lemmas.Bool.{both_ways}
-use Rattle.oplog_entry.specs.disk_lines.declared.Draft.{Draft}
-use Rattle.oplog_entry.specs.disk_places.Journal.{journaled}
-use Rattle.volume_check.specs.disk_rules.Broken.{HoldAll, Holds, FailsFirst, Breaks, BreaksFirst}
-use Rattle.volume_check.specs.disk_rules.Checked.{HasHead}
-use Rattle.volume_check.specs.disk_rules.Live.{is_live}
-use Rattle.oplog_entry.specs.pm_words.Images.{words_of}
-use Rattle.volume_check.specs.Readings.{AreTables, front_rules}
+use Rattle.oplog_entry.specs.layout_model.declared.lines.Draft.{Draft}
+use Rattle.oplog_entry.specs.layout_model.Journal.{journaled}
+use Rattle.check_image.specs.image_model.Broken.{HoldAll, Holds, FailsFirst, Breaks, BreaksFirst}
+use Rattle.check_image.specs.image_model.Checked.{HasHead}
+use Rattle.check_image.specs.image_model.Live.{is_live}
+use Rattle.oplog_entry.specs.pm_model.Images.{words_of}
+use Rattle.check_image.specs.Readings.{AreTables, front_rules}
 use Rattle.k_check.specs.Slots.{slots_at, AreDrafts, later_rule}
 use Rattle.k_check.proofs.CheckFacts.{volume_of, geometry-read, size-read, base-read, breaks-front, breaks-recovery, breaks-later, all-kept}
 use Rattle.k_check.proofs.RecoverFacts.{slots-drafts, live-slots, live-drafts}

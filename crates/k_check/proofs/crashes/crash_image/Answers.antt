@@ -1,9 +1,9 @@
 use Rattle.std.proofs.Common.{◌≡◌, ℕ, List, length, sym, subst, arith}
 use Rattle.std.proofs.lemmas.List.{with_items_is}
-use Rattle.volume_check.specs.disk_rules.Honest.{IsHonest}
-use Rattle.oplog_entry.specs.pm_words.Cells.{cell, IsCandidate}
-use Rattle.oplog_entry.specs.pm_words.Images.{IsImageOf}
-use Rattle.oplog_entry.specs.pm_words.Words.{word_at}
+use Rattle.check_image.specs.image_model.Honest.{IsHonest}
+use Rattle.oplog_entry.specs.pm_model.Cells.{cell, IsCandidate}
+use Rattle.oplog_entry.specs.pm_model.Images.{IsImageOf}
+use Rattle.oplog_entry.specs.pm_model.Words.{word_at}
 use Rattle.k_check.proofs.CrashFacts.{crash-honest, crash-image}
 use Rattle.k_check.proofs.crashes.crash_image.Goals as goal
 

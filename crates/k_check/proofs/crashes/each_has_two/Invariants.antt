@@ -1,5 +1,5 @@
 use Rattle.std.proofs.Common.{◌≡◌, ◌+◌, ◌*◌, ◌<◌, ℕ, true}
-use Rattle.oplog_entry.specs.pm_words.Cells.{cell, has_two}
+use Rattle.oplog_entry.specs.pm_model.Cells.{cell, has_two}
 use Rattle.k_check.proofs.crashes.each_has_two.Given as goal
 
 -- the words so far have two candidates

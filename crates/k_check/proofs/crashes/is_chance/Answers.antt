@@ -1,7 +1,7 @@
 use Rattle.std.proofs.Common.{ap, sym, ◌∙◌}
 use Rattle.std.proofs.lemmas.Bool.{both_ways}
-use Rattle.oplog_entry.specs.disk_lines.Entries.{is_self_valid}
-use Rattle.oplog_entry.specs.pm_words.Words.{word_at}
+use Rattle.oplog_entry.specs.layout_model.Entries.{is_self_valid}
+use Rattle.oplog_entry.specs.pm_model.Words.{word_at}
 use Rattle.k_check.proofs.CrashFacts.{chance-held, chance-torn, chance-valid}
 use Rattle.k_check.proofs.crashes.is_chance.Goals as goal
 

@@ -1,6 +1,6 @@
 use Rattle.std.proofs.Common.{◌≡◌, ◌+◌, ◌*◌, ◌<◌, ℕ}
-use Rattle.oplog_entry.specs.pm_words.Cells.{cell, newest}
-use Rattle.oplog_entry.specs.pm_words.Words.{word_at}
+use Rattle.oplog_entry.specs.pm_model.Cells.{cell, newest}
+use Rattle.oplog_entry.specs.pm_model.Words.{word_at}
 use Rattle.k_check.proofs.crashes.is_newer.Given as goal
 
 -- the words so far are the newer candidates

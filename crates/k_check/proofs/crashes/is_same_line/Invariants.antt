@@ -1,5 +1,5 @@
 use Rattle.std.proofs.Common.{◌≡◌, ◌+◌, ◌*◌, ◌<◌, ℕ}
-use Rattle.oplog_entry.specs.pm_words.Words.{word_at}
+use Rattle.oplog_entry.specs.pm_model.Words.{word_at}
 use Rattle.k_check.proofs.crashes.is_same_line.Given as goal
 
 -- the words so far are the same

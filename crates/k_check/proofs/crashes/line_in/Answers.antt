@@ -2,8 +2,8 @@
 use Rattle.std.proofs.Common.{◌≡◌, ◌+◌, ◌*◌, ◌++◌, refl, sym, ◌∙◌, ap, arith, take, drop, length, length-append, length-take-le}
 use Rattle.std.specs.Int.{to_le_bytes, w64}
 use Rattle.std.proofs.lemmas.List.{take_at, take_all}
-use Rattle.oplog_entry.specs.pm_words.Bytes.{line_front-none, line_front-more, line_front-all}
-use Rattle.oplog_entry.specs.pm_words.Words.{word_at}
+use Rattle.oplog_entry.specs.pm_model.Bytes.{line_front-none, line_front-more, line_front-all}
+use Rattle.oplog_entry.specs.pm_model.Words.{word_at}
 use Rattle.k_check.proofs.crashes.line_in.Goals as goal
 
 pub loop-word-init : goal.loop-word-init

@@ -1,6 +1,6 @@
 use Rattle.std.proofs.Common.{◌≡◌, ◌*◌, length, take}
-use Rattle.oplog_entry.specs.pm_words.Bytes.{line_front}
-use Rattle.oplog_entry.specs.pm_words.Words.{word_at}
+use Rattle.oplog_entry.specs.pm_model.Bytes.{line_front}
+use Rattle.oplog_entry.specs.pm_model.Words.{word_at}
 use Rattle.k_check.proofs.crashes.line_in.Given as goal
 
 -- the words before this one stand in the front of the content

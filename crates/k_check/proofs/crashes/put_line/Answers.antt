@@ -1,7 +1,7 @@
 use Rattle.std.proofs.Common.{◌+◌, ◌-◌, ◌*◌, ◌%◌, take, drop, List, ℕ, ap, ◌∙◌, refl, arith}
-use Rattle.oplog_entry.specs.pm_words.Words.{word_at}
-use Rattle.volume_check.specs.volume_facts.LineWords.{with_line-in, with_line-out}
-use Rattle.volume_check.proofs.k_reading_proofs.LineWords.{words-put}
+use Rattle.oplog_entry.specs.pm_model.Words.{word_at}
+use Rattle.check_image.specs.volume_laws.LineWords.{with_line-in, with_line-out}
+use Rattle.check_image.proofs.k_reading_proofs.LineWords.{words-put}
 use Rattle.k_check.proofs.CrashFacts.{part-words}
 use Rattle.k_check.proofs.crashes.put_line.Goals as goal
 

@@ -1,7 +1,7 @@
 use Rattle.std.proofs.Common.{◌≡◌, ◌+◌, ◌*◌, ℕ, List, ap, sym, ◌∙◌, subst}
 use Rattle.std.proofs.lemmas.Bool.{both_ways}
 use Rattle.pm_lines.specs.Choices.{chosen}
-use Rattle.oplog_entry.specs.pm_words.Words.{word_at}
+use Rattle.oplog_entry.specs.pm_model.Words.{word_at}
 use Rattle.k_check.specs.Crashes.{IsChance, IsCrashImage}
 use Rattle.k_check.proofs.CrashFacts.{not_yet, crash-kept, crash-older}
 use Rattle.k_check.proofs.crashes.settle_log.Goals as goal

@@ -1,4 +1,4 @@
-use Rattle.oplog_entry.specs.pm_words.Words.{word_at}
+use Rattle.oplog_entry.specs.pm_model.Words.{word_at}
 use Rattle.k_check.specs.Crashes.{IsCrashImage}
 use Rattle.k_check.proofs.crashes.settle_log.Given as goal
 

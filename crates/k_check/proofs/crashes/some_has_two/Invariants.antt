@@ -1,5 +1,5 @@
 use Rattle.std.proofs.Common.{◌≡◌, ◌+◌, ◌*◌, ◌<◌, ℕ, true}
-use Rattle.oplog_entry.specs.pm_words.Cells.{cell, is_single}
+use Rattle.oplog_entry.specs.pm_model.Cells.{cell, is_single}
 use Rattle.k_check.proofs.crashes.some_has_two.Given as goal
 
 -- the words so far have one candidate

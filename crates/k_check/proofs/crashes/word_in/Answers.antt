@@ -1,5 +1,5 @@
 use Rattle.std.proofs.Common.{sym, ◌∙◌}
-use Rattle.oplog_entry.specs.pm_words.Bytes.{word_at-bytes}
+use Rattle.oplog_entry.specs.pm_model.Bytes.{word_at-bytes}
 use Rattle.k_check.proofs.crashes.word_in.Goals as goal
 
 pub returns : goal.returns

@@ -1,8 +1,8 @@
 use Rattle.std.proofs.Common.{◌<◌, length, List, ap, ◌∙◌, arith}
 use Rattle.std.specs.Prelude.{Option, filter}
 use Rattle.std.proofs.lemmas.List.{take_all}
-use Rattle.oplog_entry.specs.disk_lines.declared.Draft.{Draft}
-use Rattle.volume_check.specs.disk_rules.Live.{is_live}
+use Rattle.oplog_entry.specs.layout_model.declared.lines.Draft.{Draft}
+use Rattle.check_image.specs.image_model.Live.{is_live}
 use Rattle.k_check.proofs.SlotFacts.{items_of, passing-read}
 use Rattle.k_check.proofs.entries.live_entries.Goals as goal
 

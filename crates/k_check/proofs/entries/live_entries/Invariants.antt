@@ -1,9 +1,9 @@
 use Rattle.std.proofs.Common.{◌≡◌, take}
 use Rattle.std.specs.Prelude.{filter, Option}
 use Rattle.std.specs.List.{filter_map}
-use Rattle.oplog_entry.specs.disk_lines.declared.Draft.{Draft}
-use Rattle.volume_check.specs.disk_rules.Live.{is_live}
-use Rattle.volume_check.specs.disk_rules.Volume.{Volume}
+use Rattle.oplog_entry.specs.layout_model.declared.lines.Draft.{Draft}
+use Rattle.check_image.specs.image_model.Live.{is_live}
+use Rattle.check_image.specs.image_model.Volume.{Volume}
 use Rattle.k_check.proofs.entries.live_entries.Given as goal
 
 -- the live entries of the slots so far

@@ -1,12 +1,12 @@
 use Rattle.std.proofs.Common.{ℕ, sym, ◌∙◌, ◌∷◌, [], ◌++◌, ◌+◌, arith}
 use Rattle.std.proofs.lemmas.List.FromFn.{map-range_with_len_more}
 use Rattle.std.specs.Prelude.{Option}
-use Rattle.oplog_entry.specs.disk_lines.declared.Draft.{Draft}
-use Rattle.oplog_entry.specs.disk_lines.Entries.{decode_entry}
-use Rattle.oplog_entry.specs.disk_places.Journal.{journaled}
-use Rattle.oplog_entry.specs.disk_places.Places.{log_line}
-use Rattle.oplog_entry.specs.pm_words.Images.{words_of}
-use Rattle.oplog_entry.specs.pm_words.Words.{line_bytes}
+use Rattle.oplog_entry.specs.layout_model.declared.lines.Draft.{Draft}
+use Rattle.oplog_entry.specs.layout_model.Entries.{decode_entry}
+use Rattle.oplog_entry.specs.layout_model.Journal.{journaled}
+use Rattle.oplog_entry.specs.layout_model.Places.{log_line}
+use Rattle.oplog_entry.specs.pm_model.Images.{words_of}
+use Rattle.oplog_entry.specs.pm_model.Words.{line_bytes}
 use Rattle.k_check.proofs.entries.read_slots.Goals as goal
 
 pub loop-slot-preserved : goal.loop-slot-preserved

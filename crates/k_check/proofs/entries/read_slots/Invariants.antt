@@ -1,10 +1,10 @@
 use Rattle.std.proofs.Common.{◌≡◌, ◌+◌, map}
 use Rattle.std.specs.List.{range_with_len}
-use Rattle.oplog_entry.specs.disk_lines.Entries.{decode_entry}
-use Rattle.oplog_entry.specs.disk_places.Journal.{journaled}
-use Rattle.oplog_entry.specs.disk_places.Places.{log_line}
-use Rattle.oplog_entry.specs.pm_words.Images.{words_of}
-use Rattle.oplog_entry.specs.pm_words.Words.{line_bytes}
+use Rattle.oplog_entry.specs.layout_model.Entries.{decode_entry}
+use Rattle.oplog_entry.specs.layout_model.Journal.{journaled}
+use Rattle.oplog_entry.specs.layout_model.Places.{log_line}
+use Rattle.oplog_entry.specs.pm_model.Images.{words_of}
+use Rattle.oplog_entry.specs.pm_model.Words.{line_bytes}
 use Rattle.k_check.proofs.entries.read_slots.Given as goal
 
 -- the slots so far

@@ -1,12 +1,12 @@
 use Rattle.std.proofs.Common.{◌≡◌, ◌*◌, length, List, sym, ◌∙◌, ap}
 use Rattle.std.specs.Prelude.{filter, Option}
-use Rattle.oplog_entry.specs.disk_lines.declared.Draft.{Draft}
-use Rattle.oplog_entry.specs.disk_places.Journal.{journaled}
-use Rattle.volume_check.specs.disk_rules.Broken.{BreaksFirst}
-use Rattle.volume_check.specs.disk_rules.Checked.{HasHead}
-use Rattle.volume_check.specs.disk_rules.Live.{is_live, live_entries}
-use Rattle.oplog_entry.specs.pm_words.Images.{words_of}
-use Rattle.volume_check.specs.Readings.{AreTables, front_rules}
+use Rattle.oplog_entry.specs.layout_model.declared.lines.Draft.{Draft}
+use Rattle.oplog_entry.specs.layout_model.Journal.{journaled}
+use Rattle.check_image.specs.image_model.Broken.{BreaksFirst}
+use Rattle.check_image.specs.image_model.Checked.{HasHead}
+use Rattle.check_image.specs.image_model.Live.{is_live, live_entries}
+use Rattle.oplog_entry.specs.pm_model.Images.{words_of}
+use Rattle.check_image.specs.Readings.{AreTables, front_rules}
 use Rattle.k_check.specs.Slots.{slots_at}
 use Rattle.k_check.proofs.CheckFacts.{base-read, read-whole, size-read, volume_of}
 use Rattle.k_check.proofs.RecoverFacts.{live-slots}

@@ -2,9 +2,9 @@ use Rattle.std.proofs.Common.{ℕ, ap, ◌∙◌, sym, arith, cond, ◌+◌}
 use Rattle.std.specs.Prelude.{sum_by}
 use Rattle.std.specs.List.{range_with_len}
 use Rattle.block_counts.specs.Counts.{held_by}
-use Rattle.volume_check.specs.disk_rules.Content.{size_of}
-use Rattle.volume_check.specs.disk_rules.Room.{is_named_file}
-use Rattle.volume_check.proofs.UseFacts.{sum-more}
+use Rattle.check_image.specs.image_model.Content.{size_of}
+use Rattle.check_image.specs.image_model.Room.{is_named_file}
+use Rattle.check_image.proofs.UseFacts.{sum-more}
 use Rattle.k_check.proofs.room.held_after.Goals as goal
 
 pub loop-ino-preserved : goal.loop-ino-preserved

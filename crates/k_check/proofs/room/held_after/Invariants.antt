@@ -2,10 +2,10 @@ use Rattle.std.proofs.Common.{◌≡◌, ◌≤◌, ◌*◌, ◌^◌, cond}
 use Rattle.std.specs.Prelude.{sum_by}
 use Rattle.std.specs.List.{range_with_len}
 use Rattle.block_counts.specs.Counts.{held_by}
-use Rattle.volume_check.specs.disk_rules.Content.{size_of}
-use Rattle.volume_check.specs.disk_rules.Room.{is_named_file}
-use Rattle.volume_check.specs.disk_rules.Volume.{Volume}
-use Rattle.volume_check.specs.Readings.{AreNameMarks}
+use Rattle.check_image.specs.image_model.Content.{size_of}
+use Rattle.check_image.specs.image_model.Room.{is_named_file}
+use Rattle.check_image.specs.image_model.Volume.{Volume}
+use Rattle.check_image.specs.Readings.{AreNameMarks}
 use Rattle.k_check.proofs.room.held_after.Given as goal
 
 -- what the files so far hold

@@ -1,6 +1,6 @@
 use Rattle.std.proofs.Common.{◌≡◌, ℕ, ◌<◌, None}
 use Rattle.std.specs.Prelude.{slice_index_or}
-use Rattle.volume_check.specs.disk_rules.Volume.{Volume}
+use Rattle.check_image.specs.image_model.Volume.{Volume}
 use Rattle.k_check.specs.Slots.{IsGoodWithLater}
 use Rattle.k_check.proofs.rules.are_good_slots.Given as goal
 

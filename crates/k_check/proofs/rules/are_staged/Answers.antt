@@ -2,8 +2,8 @@ use Rattle.std.proofs.Common.{arith, subst, get_or, length, ◌<◌}
 use Rattle.std.proofs.lemmas.Bool.{both_ways}
 use Rattle.std.proofs.lemmas.List.{get_or_default}
 use borrow.Author.Count.{below_more}
-use Rattle.oplog_entry.specs.disk_lines.declared.Draft.{Draft}
-use Rattle.volume_check.specs.disk_rules.Rules.{HasStagingBlocks}
+use Rattle.oplog_entry.specs.layout_model.declared.lines.Draft.{Draft}
+use Rattle.check_image.specs.image_model.Rules.{HasStagingBlocks}
 use Rattle.k_check.proofs.rules.are_staged.Goals as goal
 
 pub returns-then-not-has_staging_blocks : goal.returns-then-not-has_staging_blocks

@@ -1,7 +1,7 @@
 use Rattle.std.proofs.Common.{◌≡◌, ℕ, ◌<◌, get_or}
-use Rattle.oplog_entry.specs.disk_lines.declared.Draft.{Draft}
-use Rattle.volume_check.specs.disk_rules.Rules.{HasStagingBlocks}
-use Rattle.volume_check.specs.disk_rules.Volume.{Volume}
+use Rattle.oplog_entry.specs.layout_model.declared.lines.Draft.{Draft}
+use Rattle.check_image.specs.image_model.Rules.{HasStagingBlocks}
+use Rattle.check_image.specs.image_model.Volume.{Volume}
 use Rattle.k_check.proofs.rules.are_staged.Given as goal
 
 -- the entries so far have them

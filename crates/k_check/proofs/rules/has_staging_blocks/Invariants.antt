@@ -1,6 +1,6 @@
 use Rattle.std.proofs.Common.{ℕ, ◌<◌, ◌+◌, []}
 use Rattle.std.specs.Prelude.{IsSome, slice_index_or}
-use Rattle.volume_check.specs.extent_words.Extents.{disk_at}
+use Rattle.check_image.specs.extent_model.Extents.{disk_at}
 use Rattle.k_check.proofs.rules.has_staging_blocks.Given as goal
 
 -- the blocks so far are there

@@ -1,6 +1,6 @@
 use Rattle.std.proofs.Common.{◌≡◌, ℕ, ◌<◌, None}
 use Rattle.std.specs.Prelude.{slice_index_or}
-use Rattle.volume_check.specs.disk_rules.Volume.{Volume}
+use Rattle.check_image.specs.image_model.Volume.{Volume}
 use Rattle.k_check.specs.Slots.{IsGoodSlot}
 use Rattle.k_check.proofs.rules.is_good_with_later.Given as goal
 

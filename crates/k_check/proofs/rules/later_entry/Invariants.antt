@@ -1,6 +1,6 @@
 use Rattle.std.proofs.Common.{ℕ, ◌<◌}
-use Rattle.oplog_entry.specs.disk_places.Journal.{journaled}
-use Rattle.oplog_entry.specs.pm_words.Images.{words_of}
+use Rattle.oplog_entry.specs.layout_model.Journal.{journaled}
+use Rattle.oplog_entry.specs.pm_model.Images.{words_of}
 use Rattle.k_check.specs.Slots.{IsNoLaterAt}
 use Rattle.k_check.proofs.rules.later_entry.Given as goal
 

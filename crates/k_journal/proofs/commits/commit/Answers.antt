@@ -1,8 +1,8 @@
 use Rattle.std.proofs.Common.{◌≡◌, true, rules}
 use Rattle.k_journal.specs.Phases.{IsStage}
-use Rattle.pm_lines.specs.pm_words.Images.{IsImage}
-use Rattle.pm_lines.specs.pm_words.Powers.{is_on}
-use Rattle.pm_lines.specs.pm_words.Words.{Words}
+use Rattle.pm_lines.specs.pm_model.Images.{IsImage}
+use Rattle.pm_lines.specs.pm_model.Powers.{is_on}
+use Rattle.pm_lines.specs.pm_model.Words.{Words}
 use Rattle.k_journal.proofs.Views.{IsFramed, follows, follows-after, follows-same, words-done}
 use Rattle.k_journal.proofs.commits.commit.Goals as goal
 

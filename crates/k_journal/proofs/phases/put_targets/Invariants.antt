@@ -1,8 +1,8 @@
 use Rattle.std.proofs.Common.{◌≡◌, ◌≢◌, ◌*◌, ◌/◌, ◌%◌, ◌<◌, ℕ, true, length}
 use Rattle.k_journal.specs.Batch.{target, content}
-use Rattle.pm_lines.specs.pm_words.declared.Cell.TheVariants.{Single}
-use Rattle.pm_lines.specs.pm_words.Cells.{cell, is_single, is_lent, fenced}
-use Rattle.pm_lines.specs.pm_words.Powers.{is_on, Steps}
+use Rattle.pm_lines.specs.pm_model.declared.Cell.TheVariants.{Single}
+use Rattle.pm_lines.specs.pm_model.Cells.{cell, is_single, is_lent, fenced}
+use Rattle.pm_lines.specs.pm_model.Powers.{is_on, Steps}
 use Rattle.k_journal.proofs.phases.put_targets.Given as goal
 
 -- the lines before the entry's are flushed, the other words are as they were

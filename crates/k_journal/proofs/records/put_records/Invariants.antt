@@ -1,9 +1,9 @@
 use Rattle.std.proofs.Common.{◌≡◌, ◌+◌, ◌*◌, ◌/◌, ◌%◌, ◌<◌, ◌≤◌, ℕ, true, length}
-use Rattle.image_layout.specs.disk_places.Places.{record_line}
+use Rattle.image_layout.specs.layout_model.Places.{record_line}
 use Rattle.k_journal.specs.Batch.{target, content}
-use Rattle.pm_lines.specs.pm_words.declared.Cell.TheVariants.{Single}
-use Rattle.pm_lines.specs.pm_words.Cells.{cell, is_single, is_lent, fenced}
-use Rattle.pm_lines.specs.pm_words.Powers.{is_on, Steps}
+use Rattle.pm_lines.specs.pm_model.declared.Cell.TheVariants.{Single}
+use Rattle.pm_lines.specs.pm_model.Cells.{cell, is_single, is_lent, fenced}
+use Rattle.pm_lines.specs.pm_model.Powers.{is_on, Steps}
 use Rattle.k_journal.proofs.records.put_records.Given as goal
 
 -- the records before `index` are flushed, the words behind them are as they were

@@ -1,5 +1,5 @@
 use Rattle.k_journal.specs.Recoveries.{AreJournaled}
-use Rattle.pm_lines.specs.pm_words.Images.{words_of}
+use Rattle.pm_lines.specs.pm_model.Images.{words_of}
 use Rattle.k_journal.proofs.recoveries.first_fault.Given as goal
 
 abbrev pub invariant-loop-index : goal.invariant-loop-index

@@ -1,5 +1,5 @@
 use Rattle.std.proofs.Common.{sym, arith}
-use Rattle.pm_lines.specs.pm_words.Images.{words_of}
+use Rattle.pm_lines.specs.pm_model.Images.{words_of}
 use Rattle.k_journal.proofs.Replays.{keeps_view}
 use Rattle.k_journal.proofs.recoveries.recover.Goals as goal
 

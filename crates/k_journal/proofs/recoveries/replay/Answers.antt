@@ -1,13 +1,13 @@
 use Rattle.std.proofs.Common.{◌≡◌, true, refl, sym, ◌∙◌, ap, arith, rules}
 use Rattle.std.proofs.lemmas.Grind.{common_steps}
-use Rattle.image_layout.specs.disk_places.Journal.{record_target, record_word}
+use Rattle.image_layout.specs.layout_model.Journal.{record_target, record_word}
 use Rattle.k_journal.specs.Patches.{patched-none}
-use Rattle.pm_lines.specs.pm_words.declared.Cell.TheVariants.{Single}
-use Rattle.pm_lines.specs.pm_words.CellLaws.{single-newest}
-use Rattle.pm_lines.specs.pm_words.Cells.{cell}
-use Rattle.pm_lines.specs.pm_words.Images.{words_of}
-use Rattle.pm_lines.specs.pm_words.PowerLaws.{Steps-none}
-use Rattle.pm_lines.specs.pm_words.Powers.{is_on}
+use Rattle.pm_lines.specs.pm_model.declared.Cell.TheVariants.{Single}
+use Rattle.pm_lines.specs.pm_model.CellLaws.{single-newest}
+use Rattle.pm_lines.specs.pm_model.Cells.{cell}
+use Rattle.pm_lines.specs.pm_model.Images.{words_of}
+use Rattle.pm_lines.specs.pm_model.PowerLaws.{Steps-none}
+use Rattle.pm_lines.specs.pm_model.Powers.{is_on}
 use Rattle.k_journal.specs.Recoveries.{AreApart}
 use Rattle.k_journal.proofs.Replays.{IsReplayed, record_target-kept, replayed-more}
 use Rattle.k_journal.proofs.recoveries.replay.Goals as goal

@@ -1,9 +1,9 @@
 use Rattle.std.proofs.Common.{◌≡◌, ◌≢◌, ◌*◌, ◌/◌, ◌<◌, ℕ, true, length}
-use Rattle.image_layout.specs.disk_places.Journal.{patched, record_target, record_word}
-use Rattle.pm_lines.specs.pm_words.declared.Cell.TheVariants.{Single}
-use Rattle.pm_lines.specs.pm_words.Cells.{cell, is_lent}
-use Rattle.pm_lines.specs.pm_words.Images.{words_of}
-use Rattle.pm_lines.specs.pm_words.Powers.{is_on, Steps}
+use Rattle.image_layout.specs.layout_model.Journal.{patched, record_target, record_word}
+use Rattle.pm_lines.specs.pm_model.declared.Cell.TheVariants.{Single}
+use Rattle.pm_lines.specs.pm_model.Cells.{cell, is_lent}
+use Rattle.pm_lines.specs.pm_model.Images.{words_of}
+use Rattle.pm_lines.specs.pm_model.Powers.{is_on, Steps}
 use Rattle.k_journal.proofs.recoveries.replay.Given as goal
 
 -- the words after the records before `index`, as long as there is power

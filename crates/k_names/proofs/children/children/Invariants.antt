@@ -1,5 +1,5 @@
 use Rattle.std.proofs.Common.{◌≡◌, take}
-use Rattle.disk_lines.specs.Tables.{names_below}
+use Rattle.layout_model.specs.Tables.{names_below}
 use Rattle.k_names.proofs.children.children.Given as goal
 
 -- the names of the lines before this one

@@ -3,8 +3,8 @@ use Rattle.std.proofs.Common.{arith, rules, is_lt, ap, cond}
 use Rattle.std.proofs.lemmas.Cmp.{nat_list_cmp_total}
 use Rattle.std.proofs.lemmas.List.Sorted.{ranks_by, answers_always, sum_by-IsPermutation}
 use Rattle.std.specs.Prelude.{count_by}
-use Rattle.disk_lines.specs.disk_places.Fields.{is_same}
-use Rattle.disk_lines.specs.TableLaws.{names_below-once}
+use Rattle.layout_model.specs.Fields.{is_same}
+use Rattle.layout_model.specs.TableLaws.{names_below-once}
 use Rattle.std.specs.Cmp.Lexicographic.{slice_cmp}
 use Rattle.std.specs.Ordering.{nat_cmp}
 use Rattle.k_names.proofs.children.sorted_children.Goals as goal

@@ -1,7 +1,7 @@
 -- the law of the definitions, at numbers of their widths
 use Rattle.std.proofs.Common.{◌≡◌, ◌∙◌, ap, rules}
-use Rattle.disk_lines.specs.Lines.{NameRow, decode_name}
-use Rattle.disk_lines.specs.NameLaws.{decode_name-encode_name}
+use Rattle.layout_model.specs.Lines.{NameRow, decode_name}
+use Rattle.layout_model.specs.NameLaws.{decode_name-encode_name}
 use Rattle.k_names.proofs.line.encode_name.Goals as goal
 
 pub returns-clause-read : goal.returns-clause-read

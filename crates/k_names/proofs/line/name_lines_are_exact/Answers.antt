@@ -1,5 +1,5 @@
 -- the laws of the definitions
-use Rattle.disk_lines.specs.NameLaws.{decode_name-encode_name, IsNameLine-decode_name, zeros-decode_name}
+use Rattle.layout_model.specs.NameLaws.{decode_name-encode_name, IsNameLine-decode_name, zeros-decode_name}
 use Rattle.k_names.proofs.line.name_lines_are_exact.Goals as goal
 
 pub returns-clause-read : goal.returns-clause-read

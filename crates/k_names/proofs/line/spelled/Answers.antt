@@ -4,8 +4,8 @@ use Rattle.std.proofs.lemmas.List.{drop-replicate}
 use Rattle.std.specs.Int.{to_le_bytes, w32}
 use Rattle.std.specs.Prelude.{slice_set}
 use borrow.Rule.Slice.PartMut.{put_mid}
-use Rattle.disk_lines.specs.disk_places.Fields.{zeros}
-use Rattle.line_fields.specs.Puts.{put_at}
+use Rattle.layout_model.specs.Fields.{zeros}
+use Rattle.image_layout.specs.Puts.{put_at}
 use Rattle.k_names.proofs.line.spelled.Goals as goal
 
 pub returns-clause-line : goal.returns-clause-line

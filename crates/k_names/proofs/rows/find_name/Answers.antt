@@ -2,8 +2,8 @@
 use Rattle.std.proofs.Common.{◌≡◌, ◌∙◌, sym, ap, None}
 use Rattle.std.proofs.lemmas.List.{at_drop_all}
 use Rattle.std.specs.Prelude.{Some, option_and_then}
-use Rattle.disk_lines.specs.Names.{is_entry, first_row_from, line_and_child}
-use Rattle.disk_lines.specs.TableLaws.{find_name-none}
+use Rattle.layout_model.specs.Names.{is_entry, first_row_from, line_and_child}
+use Rattle.layout_model.specs.TableLaws.{find_name-none}
 use Rattle.k_names.proofs.rows.find_name.Goals as goal
 
 pub returns-clause-none : goal.returns-clause-none

@@ -1,5 +1,5 @@
 use Rattle.std.proofs.Common.{◌≡◌, drop}
-use Rattle.disk_lines.specs.Names.{is_entry, first_row_from}
+use Rattle.layout_model.specs.Names.{is_entry, first_row_from}
 use Rattle.k_names.proofs.rows.find_name.Given as goal
 
 -- the lines from this one on give the answer

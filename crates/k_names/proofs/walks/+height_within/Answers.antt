@@ -1,7 +1,7 @@
 -- Each line either leads to a longer path or adds nothing.
 use Rattle.std.proofs.Common.{arith, ◌≡◌, ◌-◌, ◌∙◌, sym, None}
 use Rattle.std.proofs.lemmas.List.{get_or_read}
-use Rattle.disk_lines.specs.Names.{row}
+use Rattle.layout_model.specs.Names.{row}
 use Rattle.k_names.proofs.HeightLaws.{height_of_none, height_start, height_skip, height_take, height_end}
 use Rattle.k_names.proofs.walks.+height_within.Goals as goal
 use Rattle.k_names.proofs.walks.+height_within.Goals.{in-Some, in_default}

@@ -1,6 +1,6 @@
 use Rattle.std.proofs.Common.{◌∙◌, ap, refl}
-use Rattle.k_inodes.specs.disk_lines.Lines.{encode_inode}
-use Rattle.k_inodes.specs.disk_lines.Fresh.{fresh}
+use Rattle.k_inodes.specs.layout_model.Lines.{encode_inode}
+use Rattle.k_inodes.specs.layout_model.Fresh.{fresh}
 use Rattle.k_reading.proofs.LineWords.{set_more}
 use Rattle.k_reading.proofs.fresh.put_lines.Goals as goal
 

@@ -1,5 +1,5 @@
 use Rattle.std.proofs.Common.{◌∙◌, ap}
-use Rattle.k_inodes.specs.disk_lines.Lines.{encode_inode}
+use Rattle.k_inodes.specs.layout_model.Lines.{encode_inode}
 use Rattle.k_reading.proofs.LineWords.{set_more}
 use Rattle.k_reading.proofs.fresh.put_staging_files.Goals as goal
 

@@ -1,6 +1,6 @@
 use Rattle.std.proofs.Common.{ap, ◌∙◌}
 use Rattle.std.proofs.Math.Path.{fun_ext}
-use Rattle.image_layout.specs.pm_words.Words.{word_at}
+use Rattle.image_layout.specs.pm_model.Words.{word_at}
 use Rattle.k_reading.proofs.LineWords.{words-zeros}
 use Rattle.k_reading.proofs.fresh.zeros.Goals as goal
 

@@ -1,5 +1,5 @@
-use Rattle.image_layout.specs.pm_words.Images.{words_of}
-use Rattle.disk_rules.specs.Volume.{volume}
+use Rattle.image_layout.specs.pm_model.Images.{words_of}
+use Rattle.image_model.specs.Volume.{volume}
 use Rattle.k_reading.proofs.NameRows.{AreRead}
 use Rattle.k_reading.proofs.lines.read_names.Given as goal
 

@@ -1,5 +1,5 @@
 use Rattle.std.proofs.Common.{ℕ, ◌<◌, ◌≤◌, IsSome}
-use Rattle.extent_map.specs.extent_words.Extents.{disk_at}
+use Rattle.extent_map.specs.extent_model.Extents.{disk_at}
 use Rattle.k_relink.proofs.linking.first_hole.Given as goal
 
 -- the blocks so far have a disk block

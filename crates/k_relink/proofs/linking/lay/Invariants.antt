@@ -1,6 +1,6 @@
 use Rattle.std.proofs.Common.{◌≡◌, ℕ, take}
 use Rattle.std.specs.Option.{option_or}
-use Rattle.extent_map.specs.extent_words.Extents.{disk_at, IsCanonical}
+use Rattle.extent_map.specs.extent_model.Extents.{disk_at, IsCanonical}
 use Rattle.k_relink.specs.Steps.{moved_at}
 use Rattle.k_relink.proofs.linking.lay.Given as goal
 

@@ -1,8 +1,8 @@
 use Rattle.std.proofs.Common.{ℕ, not, subst, ◌∙◌, ap}
 use Rattle.std.specs.Option.{option_or}
-use Rattle.extent_map.specs.extent_words.Extents.{is_within, disk_at}
-use Rattle.extent_map.specs.extent_words.Maps.{IsPart}
-use Rattle.extent_map.specs.extent_facts.Covers.{IsPart-range}
+use Rattle.extent_map.specs.extent_model.Extents.{is_within, disk_at}
+use Rattle.extent_map.specs.extent_model.Maps.{IsPart}
+use Rattle.extent_map.specs.extent_model.Covers.{IsPart-range}
 use Rattle.k_relink.specs.Steps.{moved_at}
 use Rattle.k_relink.proofs.Laid.{moves}
 use Rattle.k_relink.proofs.linking.relink.Goals as goal

@@ -1,6 +1,6 @@
 use Rattle.std.proofs.Common.{◌≡◌, ◌/◌, ◌∙◌, None, Some, arith, inl, inr, sym}
 use Rattle.std.proofs.lemmas.Bool.{cases_lt}
-use Rattle.lines_out.specs.extent_facts.Facts.{disk_at-past}
+use Rattle.block_io.specs.extent_model.Facts.{disk_at-past}
 use Rattle.k_split.proofs.bytes.tail_length.Goals as goal
 
 pub returns-in-Some-clause-short : goal.returns-in-Some-clause-short

@@ -1,6 +1,6 @@
 use Rattle.std.proofs.Common.{◌≡◌, ◌∷◌, ◌+◌, ◌*◌, ◌∙◌, [], true, List, length, subst, sym}
-use Rattle.lines_out.specs.pm_words.Powers.{is_on}
-use Rattle.k_log_plans.specs.k_land.Plans.{NewChain, blocks_of}
+use Rattle.block_io.specs.pm_model.Powers.{is_on}
+use Rattle.k_map_plans.specs.k_plans.LandingsPlans.{NewChain, blocks_of}
 use Rattle.k_split.proofs.FillLands.{fill-landed, fill-lost, zero-planned}
 use Rattle.k_split.specs.MapChanges.{IsMapLanded, IsMapPlanned}
 use Rattle.k_split.proofs.filling.land_filled.Goals as goal

@@ -1,6 +1,6 @@
 use Rattle.std.proofs.Common.{[], sym, ◌∙◌, subst}
-use Rattle.lines_out.specs.disk_places.Places.{IsGeometry}
-use Rattle.k_log_plans.specs.k_plans.View.{tables_view}
+use Rattle.block_io.specs.layout_model.Places.{IsGeometry}
+use Rattle.k_map_plans.specs.k_plans.View.{tables_view}
 use Rattle.k_split.proofs.OpenLaws.{if-tables, keyed, openable, tables-read, tables-whole}
 use Rattle.k_split.proofs.opening.read_tables.Goals as goal
 

@@ -1,8 +1,8 @@
 use Rattle.std.proofs.Common.{◌≡◌, ◌<◌, ◌+◌, length, true, Ok, ◌∙◌, ap, arith}
-use Rattle.file_table.specs.disk_places.Places.{Geometry}
+use Rattle.file_table.specs.layout_model.Places.{Geometry}
 use Rattle.file_table.specs.Files.{runs_in}
 use Rattle.staging_files.specs.k_journal.declared.outcomes.Commit.{Commit}
-use Rattle.file_table.specs.pm_words.Powers.{is_on}
+use Rattle.file_table.specs.pm_model.Powers.{is_on}
 use Rattle.log_checkpoint.proofs.Lines.{table-cost, way-line}
 use Rattle.log_checkpoint.proofs.Sums.{steps-next, steps-stop}
 use Rattle.log_checkpoint.specs.Gathers.{file_at, IsPublishedLine}

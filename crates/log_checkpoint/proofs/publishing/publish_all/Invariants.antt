@@ -1,5 +1,5 @@
 use Rattle.std.proofs.Common.{◌≡◌, true}
-use Rattle.file_table.specs.pm_words.Powers.{is_on}
+use Rattle.file_table.specs.pm_model.Powers.{is_on}
 use Rattle.log_checkpoint.proofs.Lines.{IsOnTheWay}
 use Rattle.log_checkpoint.proofs.Sums.{LeavesSteps}
 use Rattle.log_checkpoint.specs.Gathers.{AreCleared}

@@ -1,6 +1,6 @@
 use Rattle.std.proofs.Common.{◌≡◌, ◌+◌, ◌*◌, ◌<◌, ℕ}
-use Rattle.disk_rules.specs.Chains.{chain_word}
-use Rattle.pm_lines.specs.pm_words.Images.{words_of}
+use Rattle.image_model.specs.Chains.{chain_word}
+use Rattle.pm_lines.specs.pm_model.Images.{words_of}
 use Rattle.map_chain.proofs.reading.is_block.Given as goal
 
 -- the words before word j are right

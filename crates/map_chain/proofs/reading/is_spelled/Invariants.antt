@@ -1,7 +1,7 @@
 use Rattle.std.proofs.Common.{◌≡◌, ◌+◌, ◌*◌, ◌<◌, ℕ}
-use Rattle.disk_rules.specs.Chains.{chain_word}
-use Rattle.disk_rules.specs.Placed.{block_at, part_at}
-use Rattle.pm_lines.specs.pm_words.Images.{words_of}
+use Rattle.image_model.specs.Chains.{chain_word}
+use Rattle.image_model.specs.Placed.{block_at, part_at}
+use Rattle.pm_lines.specs.pm_model.Images.{words_of}
 use Rattle.map_chain.proofs.reading.is_spelled.Given as goal
 
 -- the blocks before block k are right

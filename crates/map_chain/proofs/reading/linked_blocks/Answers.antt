@@ -1,6 +1,6 @@
 use Rattle.std.proofs.Common.{◌∙◌, sym, length, arith}
 use Rattle.std.proofs.lemmas.Grind.{common_steps}
-use Rattle.pm_lines.specs.pm_words.Images.{words_of}
+use Rattle.pm_lines.specs.pm_model.Images.{words_of}
 use Rattle.map_chain.proofs.Links.{linked_more, linked_all, linked_at, in_device_more}
 use Rattle.map_chain.proofs.reading.linked_blocks.Goals as goal
 

@@ -1,7 +1,7 @@
 use Rattle.std.proofs.Common.{◌≡◌, ◌++◌, ◌-◌, length}
-use Rattle.disk_rules.specs.Chains.{blocks_from}
-use Rattle.disk_rules.specs.Placed.{AreInDevice}
-use Rattle.pm_lines.specs.pm_words.Images.{words_of}
+use Rattle.image_model.specs.Chains.{blocks_from}
+use Rattle.image_model.specs.Placed.{AreInDevice}
+use Rattle.pm_lines.specs.pm_model.Images.{words_of}
 use Rattle.map_chain.proofs.reading.linked_blocks.Given as goal
 
 -- the blocks so far, and those that come from `block` on

@@ -1,6 +1,6 @@
 use Rattle.std.proofs.Common.{◌≡◌, length}
-use Rattle.disk_rules.specs.Listed.{AreListed}
-use Rattle.pm_lines.specs.pm_words.Images.{words_of}
+use Rattle.image_model.specs.Listed.{AreListed}
+use Rattle.pm_lines.specs.pm_model.Images.{words_of}
 use Rattle.map_chain.proofs.reading.listed_extents.Given as goal
 
 -- the extents before place k are listed

@@ -1,5 +1,5 @@
 use Rattle.std.proofs.Common.{sym, ◌∙◌, arith}
-use Rattle.chain_facts.specs.ChainLaws.{extent_word-even, extent_word-odd, extent_word-past}
+use Rattle.volume_laws.specs.ChainLaws.{extent_word-even, extent_word-odd, extent_word-past}
 use Rattle.map_chain.proofs.words.extent_word.Goals as goal
 
 pub returns-then-k-extents : goal.returns-then-k-extents

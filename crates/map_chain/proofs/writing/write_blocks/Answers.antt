@@ -1,10 +1,10 @@
 use Rattle.std.proofs.Common.{◌≡◌, ◌≢◌, ◌+◌, ◌%◌, sym, ◌∙◌, ap, arith, ⊎_elim}
 use Rattle.std.proofs.lemmas.Bool.{cases_eq}
 use Rattle.std.proofs.lemmas.Grind.{common_steps}
-use Rattle.disk_rules.specs.Chains.{chain_word}
-use Rattle.disk_rules.specs.Placed.{block_at, part_at}
-use Rattle.pm_lines.specs.pm_words.declared.Cell.TheVariants.{Single}
-use Rattle.pm_lines.specs.pm_words.Cells.{fenced}
+use Rattle.image_model.specs.Chains.{chain_word}
+use Rattle.image_model.specs.Placed.{block_at, part_at}
+use Rattle.pm_lines.specs.pm_model.declared.Cell.TheVariants.{Single}
+use Rattle.pm_lines.specs.pm_model.Cells.{fenced}
 use Rattle.map_chain.proofs.writing.write_blocks.Goals as goal
 
 pub loop-k-preserved : goal.loop-k-preserved

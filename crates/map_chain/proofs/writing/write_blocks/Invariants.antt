@@ -1,9 +1,9 @@
 use Rattle.std.proofs.Common.{◌≡◌, ◌≢◌, ◌+◌, ◌*◌, ◌/◌, ◌%◌, ◌<◌, ℕ, true, length}
-use Rattle.disk_rules.specs.Chains.{chain_word}
-use Rattle.disk_rules.specs.Placed.{block_at, part_at}
-use Rattle.pm_lines.specs.pm_words.declared.Cell.TheVariants.{Single}
-use Rattle.pm_lines.specs.pm_words.Cells.{cell, is_lent, fenced}
-use Rattle.pm_lines.specs.pm_words.Powers.{is_on, Steps}
+use Rattle.image_model.specs.Chains.{chain_word}
+use Rattle.image_model.specs.Placed.{block_at, part_at}
+use Rattle.pm_lines.specs.pm_model.declared.Cell.TheVariants.{Single}
+use Rattle.pm_lines.specs.pm_model.Cells.{cell, is_lent, fenced}
+use Rattle.pm_lines.specs.pm_model.Powers.{is_on, Steps}
 use Rattle.map_chain.proofs.writing.write_blocks.Given as goal
 
 -- the blocks before block k are flushed, the other words are as they were

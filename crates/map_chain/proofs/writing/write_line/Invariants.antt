@@ -1,8 +1,8 @@
 use Rattle.std.proofs.Common.{◌≡◌, ◌≢◌, ◌+◌, ◌*◌, ◌/◌, ◌%◌, ◌<◌, ◌≤◌, ℕ, true, false, length}
-use Rattle.disk_rules.specs.Chains.{chain_word}
-use Rattle.pm_lines.specs.pm_words.declared.Cell.TheVariants.{Single}
-use Rattle.pm_lines.specs.pm_words.Cells.{cell, is_lent, flushed, fenced}
-use Rattle.pm_lines.specs.pm_words.Powers.{is_on, Steps}
+use Rattle.image_model.specs.Chains.{chain_word}
+use Rattle.pm_lines.specs.pm_model.declared.Cell.TheVariants.{Single}
+use Rattle.pm_lines.specs.pm_model.Cells.{cell, is_lent, flushed, fenced}
+use Rattle.pm_lines.specs.pm_model.Powers.{is_on, Steps}
 use Rattle.map_chain.proofs.writing.write_line.Given as goal
 
 -- the words before k are stored, the others are as they were

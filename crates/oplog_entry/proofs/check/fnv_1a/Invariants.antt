@@ -1,5 +1,5 @@
 use Rattle.std.proofs.Common.{◌≡◌, drop}
-use Rattle.disk_lines.specs.Entries.{fnv_1a, fnv_1a_from}
+use Rattle.layout_model.specs.Entries.{fnv_1a, fnv_1a_from}
 use Rattle.oplog_entry.proofs.check.fnv_1a.Given as goal
 
 -- what is left of the bytes leads to the hash of all of them

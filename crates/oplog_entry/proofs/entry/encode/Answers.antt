@@ -1,8 +1,8 @@
 -- The check is that of the 60 bytes behind it, and stands in front of them.
 use Rattle.std.proofs.Common.{◌≡◌, ◌∙◌, ap, take, drop, List, ℕ}
 use Rattle.std.specs.Int.{to_le_bytes, w32}
-use Rattle.disk_lines.specs.Entries.{entry_body, encode_entry, fnv_1a}
-use Rattle.line_fields.specs.Puts.{put_at}
+use Rattle.layout_model.specs.Entries.{entry_body, encode_entry, fnv_1a}
+use Rattle.image_layout.specs.Puts.{put_at}
 use Rattle.oplog_entry.proofs.entry.encode.Goals as goal
 
 pub returns : goal.returns

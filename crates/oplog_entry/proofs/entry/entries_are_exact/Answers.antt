@@ -1,5 +1,5 @@
 -- the laws of the definitions
-use Rattle.disk_lines.specs.EntryLaws.{decode_entry-encode_entry, IsEntryLine-decode_entry, decode_entry-other_seq}
+use Rattle.layout_model.specs.EntryLaws.{decode_entry-encode_entry, IsEntryLine-decode_entry, decode_entry-other_seq}
 use Rattle.oplog_entry.proofs.entry.entries_are_exact.Goals as goal
 
 pub returns-clause-read : goal.returns-clause-read

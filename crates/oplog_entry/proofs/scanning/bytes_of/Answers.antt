@@ -2,8 +2,8 @@
 use Rattle.std.proofs.Common.{◌≡◌, ◌+◌, ◌*◌, ◌++◌, refl, sym, ◌∙◌, ap, arith, take, drop, length, length-append, length-take-le, zero-add}
 use Rattle.std.specs.Int.{to_le_bytes, w64}
 use Rattle.std.proofs.lemmas.List.{take_at, take_all}
-use Rattle.pm_lines.specs.pm_words.Bytes.{line_front-none, line_front-more, line_front-all}
-use Rattle.pm_lines.specs.pm_words.Images.{words_of}
+use Rattle.pm_lines.specs.pm_model.Bytes.{line_front-none, line_front-more, line_front-all}
+use Rattle.pm_lines.specs.pm_model.Images.{words_of}
 use Rattle.oplog_entry.proofs.scanning.bytes_of.Goals as goal
 
 pub loop-word-init : goal.loop-word-init

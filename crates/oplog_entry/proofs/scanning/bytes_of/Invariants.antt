@@ -1,6 +1,6 @@
 use Rattle.std.proofs.Common.{◌≡◌, ◌*◌, length, take}
-use Rattle.pm_lines.specs.pm_words.Bytes.{line_front}
-use Rattle.pm_lines.specs.pm_words.Images.{words_of}
+use Rattle.pm_lines.specs.pm_model.Bytes.{line_front}
+use Rattle.pm_lines.specs.pm_model.Images.{words_of}
 use Rattle.oplog_entry.proofs.scanning.bytes_of.Given as goal
 
 -- the words before this one stand in the front of the bytes

@@ -1,11 +1,11 @@
 -- The line of a slot is decoded with that slot's number.
 use Rattle.std.proofs.Common.{◌≡◌, ◌∙◌, ◌+◌, ◌∷◌, ◌++◌, [], List, ℕ, sym, ap}
 use Rattle.std.proofs.lemmas.List.{get_or_read}
-use Rattle.pm_lines.specs.pm_words.Images.{words_of}
-use Rattle.pm_lines.specs.pm_words.Parts.{Part}
-use Rattle.pm_lines.specs.pm_words.Words.{line_bytes}
-use Rattle.disk_lines.specs.declared.Draft.{Draft}
-use Rattle.disk_lines.specs.Entries.{decode_entry}
+use Rattle.pm_lines.specs.pm_model.Images.{words_of}
+use Rattle.pm_lines.specs.pm_model.Parts.{Part}
+use Rattle.pm_lines.specs.pm_model.Words.{line_bytes}
+use Rattle.layout_model.specs.declared.lines.Draft.{Draft}
+use Rattle.layout_model.specs.Entries.{decode_entry}
 use Rattle.oplog_entry.specs.Scans.{bytes_in}
 use Rattle.oplog_entry.proofs.ScanLaws.{entries_skip, entries_take}
 use Rattle.oplog_entry.proofs.scanning.scan.Goals as goal

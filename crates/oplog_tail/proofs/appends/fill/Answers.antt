@@ -2,13 +2,13 @@
 use Rattle.std.proofs.Common.{◌≡◌, ◌∙◌, ◌+◌, ◌%◌, ◌^◌, ◌≤◌, ◌∷◌, [], ℕ, cond, ap, sym, subst, arith}
 use mathlib.Core.Option.{none}
 use Rattle.atomic_table.specs.Table.{Allows, Me, step}
-use Rattle.disk_rules.specs.pm_words.Parts.{Part}
-use Rattle.oplog_tail.specs.EntryLines.{Holds}
+use Rattle.image_model.specs.pm_model.Parts.{Part}
+use Rattle.oplog_entry.specs.EntryLines.{Holds}
 use Rattle.oplog_tail.specs.Rule.{Kept}
 use Rattle.oplog_tail.specs.Steps.{mark_of, marked}
 use Rattle.oplog_tail.specs.declared.views.Knows.{Knows}
-use Rattle.oplog_tail.specs.declared.views.Mark.{Mark}
-use Rattle.oplog_tail.specs.declared.views.Mark.TheVariants.{Lost, Written}
+use Rattle.oplog_entry.specs.declared.claims.Mark.{Mark}
+use Rattle.oplog_entry.specs.declared.claims.Mark.TheVariants.{Lost, Written}
 use Rattle.oplog_tail.specs.declared.views.Slot.{Slot}
 use Rattle.oplog_tail.specs.declared.views.Slot.TheVariants.{Filled}
 use Rattle.oplog_tail.proofs.Allowing.{mark_of_bool, marks_allowed, one_of_bool, same_line}

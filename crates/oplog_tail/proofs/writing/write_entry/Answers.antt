@@ -1,12 +1,12 @@
 -- One word more is stored; and once the eight words stand, the line is flushed and fenced.
 use Rattle.std.proofs.Common.{◌≡◌, ◌∙◌, arith, subst, sym, ℕ, List, cond, Bool}
-use Rattle.disk_rules.specs.pm_words.Bytes.{word_at-bytes}
-use Rattle.disk_rules.specs.pm_words.Powers.{is_on}
-use Rattle.disk_rules.specs.pm_words.PowerLaws.{Steps-then}
-use Rattle.disk_rules.specs.pm_words.Words.{word_at}
-use Rattle.oplog_tail.specs.EntryLines.{Holds, entry_words}
-use Rattle.oplog_tail.specs.declared.views.Mark.TheVariants.{Lost, Written}
-use Rattle.oplog_tail.proofs.EntryWords.{finishes, IsStoring, stores_more}
+use Rattle.image_model.specs.pm_model.Bytes.{word_at-bytes}
+use Rattle.image_model.specs.pm_model.Powers.{is_on}
+use Rattle.image_model.specs.pm_model.PowerLaws.{Steps-then}
+use Rattle.image_model.specs.pm_model.Words.{word_at}
+use Rattle.oplog_entry.specs.EntryLines.{Holds, entry_words}
+use Rattle.oplog_entry.specs.declared.claims.Mark.TheVariants.{Lost, Written}
+use Rattle.oplog_entry.proofs.EntryWords.{finishes, IsStoring, stores_more}
 use Rattle.oplog_tail.proofs.writing.write_entry.Goals as goal
 
 pub loop-word-preserved : goal.loop-word-preserved

@@ -1,7 +1,7 @@
 use Rattle.std.proofs.Common.{◌≡◌}
-use Rattle.disk_rules.specs.pm_words.Powers.{is_on, Steps}
-use Rattle.disk_rules.specs.pm_words.Words.{word_at}
-use Rattle.oplog_tail.proofs.EntryWords.{IsStoring}
+use Rattle.image_model.specs.pm_model.Powers.{is_on, Steps}
+use Rattle.image_model.specs.pm_model.Words.{word_at}
+use Rattle.oplog_entry.proofs.EntryWords.{IsStoring}
 use Rattle.oplog_tail.proofs.writing.write_entry.Given as goal
 
 -- the words before this one were stored, as long as the power lasted

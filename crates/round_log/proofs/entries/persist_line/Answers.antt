@@ -1,6 +1,6 @@
 use Rattle.std.proofs.Common.{Bool, cond, subst, sym}
-use Rattle.oplog_tail.specs.pm_words.Powers.{is_on}
-use Rattle.oplog_tail.specs.declared.views.Mark.TheVariants.{Lost, Written}
+use Rattle.oplog_entry.specs.pm_model.Powers.{is_on}
+use Rattle.oplog_entry.specs.declared.claims.Mark.TheVariants.{Lost, Written}
 use Rattle.round_log.proofs.Storing.{persists}
 use Rattle.round_log.specs.Stores.{Persists}
 use Rattle.round_log.proofs.entries.persist_line.Goals as goal

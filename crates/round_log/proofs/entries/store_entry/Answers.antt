@@ -1,10 +1,10 @@
 use Rattle.std.proofs.Common.{◌≡◌, ◌∙◌, arith, subst, sym, ℕ, List}
-use Rattle.oplog_tail.specs.pm_words.Bytes.{word_at-bytes}
-use Rattle.oplog_tail.specs.pm_words.Powers.{is_on}
-use Rattle.oplog_tail.specs.pm_words.PowerLaws.{Steps-then}
-use Rattle.oplog_tail.specs.pm_words.Words.{word_at}
-use Rattle.oplog_tail.specs.EntryLines.{entry_words}
-use Rattle.oplog_tail.proofs.EntryWords.{IsStoring, stores_more}
+use Rattle.oplog_entry.specs.pm_model.Bytes.{word_at-bytes}
+use Rattle.oplog_entry.specs.pm_model.Powers.{is_on}
+use Rattle.oplog_entry.specs.pm_model.PowerLaws.{Steps-then}
+use Rattle.oplog_entry.specs.pm_model.Words.{word_at}
+use Rattle.oplog_entry.specs.EntryLines.{entry_words}
+use Rattle.oplog_entry.proofs.EntryWords.{IsStoring, stores_more}
 use Rattle.round_log.proofs.Storing.{stored_all}
 use Rattle.round_log.proofs.entries.store_entry.Goals as goal
 

@@ -1,5 +1,5 @@
 use Rattle.std.proofs.Common.{◌∙◌, ap, sym, []}
-use Rattle.path_spelling.specs.disk_places.Fields.{is_same}
+use Rattle.layout_model.specs.Fields.{is_same}
 use Rattle.script_text.proofs.Spelling.{behind_a, behind_c, behind_r, behind_w, behind_x, flags_text-is, is_same-nil, last_letter}
 use Rattle.script_text.proofs.handles.is_spelling.Goals as goal
 

@@ -1,6 +1,6 @@
 use Rattle.std.proofs.Common.{drop, ◌+◌, ◌≡◌, ◌∙◌, ◌++◌, ◌∷◌, [], ◌<◌, List, ℕ, ap, sym, arith, length, true, take, Some}
 use Rattle.std.specs.List.{list_all}
-use Rattle.path_spelling.specs.Spelling.{is_spelled}
+use Rattle.layout_model.specs.Spelling.{is_spelled}
 use Rattle.script_text.specs.Words.{parts_of}
 use Rattle.script_text.proofs.Parts.{bad_name, last_name, next_name, spelled_more}
 use Rattle.script_text.proofs.paths.read_names.Goals as goal

@@ -1,6 +1,6 @@
 use Rattle.std.proofs.Common.{◌≡◌, ◌++◌, true, length}
 use Rattle.std.specs.List.{list_all}
-use Rattle.path_spelling.specs.Spelling.{is_spelled}
+use Rattle.layout_model.specs.Spelling.{is_spelled}
 use Rattle.script_text.specs.Words.{parts_of}
 use Rattle.script_text.proofs.paths.read_names.Given as goal
 

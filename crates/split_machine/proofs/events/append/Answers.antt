@@ -1,9 +1,9 @@
 use Rattle.std.proofs.Common.{◌+◌, arith, subst}
-use Rattle.event_jobs.specs.oplog_tail.EntryLines.{entry_words}
-use Rattle.event_jobs.specs.oplog_tail.Rule.{line_at}
-use Rattle.event_jobs.specs.pm_words.Powers.{is_on}
-use Rattle.event_jobs.specs.round_log.Stores.{HasStored}
-use Rattle.event_jobs.specs.Laws.{PersistsLine, StoresEntry}
+use Rattle.run_laws.specs.oplog_entry.EntryLines.{entry_words}
+use Rattle.run_laws.specs.oplog_entry.LogLines.{line_at}
+use Rattle.run_laws.specs.pm_model.Powers.{is_on}
+use Rattle.run_laws.specs.round_log.Stores.{HasStored}
+use Rattle.run_laws.specs.JobsLaws.{PersistsLine, StoresEntry}
 use Rattle.split_machine.proofs.Fills.{append_lost, finished, free, here_too, never_lost, slot_within}
 use Rattle.split_machine.proofs.events.append.Goals as goal
 

@@ -1,7 +1,7 @@
 use Rattle.std.proofs.Common.{◌∙◌, ap, Ok, subst, sym}
-use Rattle.event_jobs.specs.event_facts.Events.{GoesOn, LosesPower, OutView}
-use Rattle.event_jobs.specs.round_log.Rounds.{RoundView}
-use Rattle.event_jobs.specs.round_views.Rounds.{MayCheckpoint}
+use Rattle.run_laws.specs.Events.{GoesOn, LosesPower, OutView}
+use Rattle.run_laws.specs.round_log.Rounds.{RoundView}
+use Rattle.run_laws.specs.world_view_laws.Rounds.{MayCheckpoint}
 use Rattle.split_world.specs.world_parts.Answers.{IsCheckpoint}
 use Rattle.split_machine.proofs.Fills.{closed_is, has_one, its_log}
 use Rattle.split_machine.proofs.events.end_round.Goals as goal

@@ -1,5 +1,5 @@
 use Rattle.std.proofs.Common.{◌∙◌, subst, sym}
-use Rattle.event_jobs.specs.event_facts.Events.{LosesPower, OutView}
+use Rattle.run_laws.specs.Events.{LosesPower, OutView}
 use Rattle.split_machine.specs.Events.{IsActed}
 use Rattle.split_machine.proofs.Fills.{beside_is, cut_is, fill_lost, has_one, its_log, not_lost, runs_filled}
 use Rattle.split_machine.proofs.events.run_job.Goals as goal

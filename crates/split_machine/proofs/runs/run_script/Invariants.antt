@@ -1,6 +1,6 @@
-use Rattle.event_jobs.specs.pm_words.Powers.{Supply}
-use Rattle.event_jobs.specs.event_facts.Events.{CanAct, IsLater, left_to_do}
-use Rattle.event_jobs.specs.event_facts.Paid.{IsPaid}
+use Rattle.run_laws.specs.pm_model.Powers.{Supply}
+use Rattle.run_laws.specs.Events.{CanAct, IsLater, left_to_do}
+use Rattle.run_laws.specs.Paid.{IsPaid}
 use Rattle.split_machine.proofs.runs.run_script.Given as goal
 
 -- the caller may go on from a later moment, and what was done is paid for

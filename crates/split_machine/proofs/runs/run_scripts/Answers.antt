@@ -1,6 +1,6 @@
 use Rattle.std.proofs.Common.{subst, sym}
 use Rattle.posix_types.specs.declared.call.Who.{Who}
-use Rattle.event_jobs.specs.event_facts.Events.{CanAct}
+use Rattle.run_laws.specs.Events.{CanAct}
 use Rattle.split_machine.specs.Runs.{IsScriptRun}
 use Rattle.split_machine.proofs.Scripts.{both_run_if, first_can, set_up_lost, thread_can}
 use Rattle.split_machine.proofs.runs.run_scripts.Goals as goal

@@ -1,5 +1,5 @@
 use Rattle.std.proofs.Common.{inr, sym, ◌∙◌, subst}
-use Rattle.command_words.specs.Command as commands
+use Rattle.command_line.specs.Command as commands
 use Rattle.split_top.proofs.Answered.{put-answer}
 use Rattle.split_top.proofs.making.make_image.Goals as goal
 use Rattle.split_top.specs.Images.{IsFreshImage, IsMade}

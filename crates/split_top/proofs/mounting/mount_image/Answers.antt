@@ -1,8 +1,8 @@
 use Rattle.std.proofs.Common.{Err, subst}
-use Rattle.command_words.specs.pm_words.CellLaws.{single-home}
-use Rattle.command_words.specs.pm_words.Cells.{cell}
-use Rattle.command_words.specs.pm_words.Words.{word_at}
-use Rattle.split_machine.specs.disk_rules.Rules.{geometry_of}
+use Rattle.command_line.specs.pm_model.CellLaws.{single-home}
+use Rattle.command_line.specs.pm_model.Cells.{cell}
+use Rattle.command_line.specs.pm_model.Words.{word_at}
+use Rattle.split_machine.specs.image_model.Rules.{geometry_of}
 use Rattle.split_machine.specs.Mounts.{IsMountAnswer, IsMounted}
 use Rattle.split_top.proofs.Mounted.{own-live, own-tree}
 use Rattle.split_top.proofs.Opened.{still-on, unbroken}

@@ -1,6 +1,6 @@
 use Rattle.std.proofs.Common.{◌*◌, length}
-use Rattle.command_words.specs.pm_words.Images.{words_of}
-use Rattle.split_machine.specs.disk_rules.Broken.{Breaks}
+use Rattle.command_line.specs.pm_model.Images.{words_of}
+use Rattle.split_machine.specs.image_model.Broken.{Breaks}
 use Rattle.split_top.proofs.Opened.{can-open, refused}
 use Rattle.split_top.proofs.opening.geometry_to_open.Goals as goal
 

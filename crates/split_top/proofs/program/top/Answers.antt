@@ -1,6 +1,6 @@
 use Rattle.std.proofs.Common.{map}
 use Rattle.std.specs.String.{string_bytes}
-use Rattle.command_words.specs.Seen.{seen}
+use Rattle.command_line.specs.Seen.{seen}
 use Rattle.split_top.proofs.Told.{command-is, told-bad_image, told-bad_script, told-complete, told-done, told-files, told-front, told-missing, told-usage, told-write_fault}
 use Rattle.split_top.proofs.program.top.Goals as goal
 

@@ -14,5 +14,5 @@ returns-in-Ok-outcome_of-clause-outcome c =
     let o = c.in-Ok-outcome_of.outcome in
     record {
       is_script = c.in-Ok.ensures.sound;
-      is_run = subst (λ s. IsRunOn c.args.image.now c.args.geometry s c.args.stop c.args.choice o.output.items o.image.items) c.in-Ok.ensures.ok c.in-Ok-outcome_of.ensures;
+      is_run = subst (λ s. IsRunOn c.args.image.now c.args.geometry s c.args.stop o.output.items o.image.items) c.in-Ok.ensures.ok c.in-Ok-outcome_of.ensures;
     }

@@ -1,10 +1,10 @@
 use Rattle.std.proofs.Common.{◌≡◌, ◌*◌, List, length, true, sym, subst, ◌∙◌, ap}
 use Rattle.std.proofs.Math.Path.{fun_ext}
-use Rattle.command_words.specs.pm_words.declared.Cell.{Cell}
-use Rattle.command_words.specs.pm_words.CellLaws.{single-home}
-use Rattle.command_words.specs.pm_words.Cells.{cell, is_single, newest}
-use Rattle.command_words.specs.pm_words.Images.{words_of}
-use Rattle.command_words.specs.pm_words.Words.{word_at}
+use Rattle.command_line.specs.pm_model.declared.Cell.{Cell}
+use Rattle.command_line.specs.pm_model.CellLaws.{single-home}
+use Rattle.command_line.specs.pm_model.Cells.{cell, is_single, newest}
+use Rattle.command_line.specs.pm_model.Images.{words_of}
+use Rattle.command_line.specs.pm_model.Words.{word_at}
 use Rattle.split_top.proofs.Mounted.{kept-mounted, kept-numbers}
 use Rattle.split_top.proofs.Remounts.{left-found, left-numbers, left-opens, left-permitted}
 use Rattle.split_top.proofs.runs.left_on.Goals as goal
@@ -16,8 +16,9 @@ mount_image-requires c =
     (record { image = c.in_ok-bytes.ensures.image; honest = c.in_ok-bytes.ensures.honest; crash = c.in_ok-bytes.ensures.settled }) c.deref.ensures.value
 
 pub returns-clause-found : goal.returns-clause-found
-returns-clause-found c start history unfinished left =
-    left-found c.args.geometry c.args.choice c.args.pm.now start history unfinished c.in_ok-bytes.bytes.items c.deref.result.now left
+returns-clause-found c =
+    let r = c.requires in
+    left-found c.args.geometry c.args.choice c.args.pm.now r.0 r.1 r.2 c.in_ok-bytes.bytes.items c.deref.result.now r.3
     (record { image = c.in_ok-bytes.ensures.image; honest = c.in_ok-bytes.ensures.honest; crash = c.in_ok-bytes.ensures.settled }) c.deref.ensures.value
     c.in_ok-mounted.mounted.k c.in_ok-mounted.mounted.tree c.in_ok-mounted.ensures
 

@@ -34,8 +34,8 @@ returns-in_ok-left-in-Whole-clause-ran c tree shape scripts on =
     let ended = subst (λ e. IsRunEnded w p q e) c.in-Whole.is c.in_ok-pm.ensures in
     let left = left_as c.args.geometry tree shape scripts w p q c.in-Whole.pm history [] on ended.0 in (
       [],
-      ran_whole c.args.geometry tree shape scripts c.args.stop c.args.choice w p q c.in-Whole.pm history [] found on c.power_for-power.ensures ended.0
-          (c.in_ok-left-in-Whole.ensures.permitted w.start history [] left) (c.in_ok-left-in-Whole.ensures.found w.start history [] left) ended.1 refl,
+      ran_whole c.args.geometry tree shape scripts c.args.stop w p q c.in-Whole.pm history [] found on c.power_for-power.ensures ended.0
+          (c.in_ok-left-in-Whole.ensures.permitted w.start history [] left) ended.1 refl,
     )
 
 pub returns-in_ok-left-in-Lost-clause-ran : goal.returns-in_ok-left-in-Lost-clause-ran
@@ -50,6 +50,6 @@ returns-in_ok-left-in-Lost-clause-ran c tree shape scripts on =
     let ended = subst (λ e. IsRunEnded w p q e) c.in-Lost.is c.in_ok-pm.ensures in
     let left = left_as c.args.geometry tree shape scripts w p q crashed.pm history unfinished on ended.0 in (
       unfinished,
-      ran_lost c.args.geometry tree shape scripts c.args.stop c.args.choice w p q crashed.pm history unfinished found on c.power_for-power.ensures ended.0
-          (c.in_ok-left-in-Lost.ensures.permitted w.start history unfinished left) (c.in_ok-left-in-Lost.ensures.found w.start history unfinished left) ended.1,
+      ran_lost c.args.geometry tree shape scripts c.args.stop w p q crashed.pm history unfinished found on c.power_for-power.ensures ended.0
+          (c.in_ok-left-in-Lost.ensures.permitted w.start history unfinished left) ended.1,
     )

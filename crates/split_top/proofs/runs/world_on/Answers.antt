@@ -1,8 +1,8 @@
 use Rattle.std.proofs.Common.{Err, subst}
-use Rattle.command_words.specs.pm_words.Words.{word_at}
-use Rattle.split_machine.specs.disk_rules.Rules.{geometry_of}
+use Rattle.command_line.specs.pm_model.Words.{word_at}
+use Rattle.split_machine.specs.image_model.Rules.{geometry_of}
 use Rattle.posix_types.specs.declared.call.Mode.{Mode}
-use Rattle.split_machine.specs.round_views.Starts.{BeginsMounted}
+use Rattle.split_machine.specs.world_view_laws.Starts.{BeginsMounted}
 use Rattle.split_machine.specs.Mounts.{IsMountAnswer}
 use Rattle.split_top.proofs.Beginnings.{begins-on}
 use Rattle.split_top.proofs.Opened.{still-on, unbroken}

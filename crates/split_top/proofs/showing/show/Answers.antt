@@ -1,7 +1,7 @@
 use Rattle.std.proofs.Common.{◌≡◌, ℕ, List, Err, sym, ◌∙◌, ap, subst, inl}
-use Rattle.command_words.specs.Command as commands
-use Rattle.command_words.specs.Seen.{seen_image}
-use Rattle.exit_status.specs.declared.statuses.Status.{Status}
+use Rattle.command_line.specs.Command as commands
+use Rattle.command_line.specs.Seen.{seen_image}
+use Rattle.command_line.specs.declared.statuses.statuses.Status.{Status}
 use Rattle.split_top.proofs.Answered.{put-answer, unread-answer}
 use Rattle.split_top.proofs.Shown.{given-opens, tree-unread, unopened-answer, verdict-given}
 use Rattle.split_top.specs.Images.{AreOfImage, IsTreeText}

@@ -1,7 +1,7 @@
 use Rattle.std.proofs.Common.{◌≡◌, Err, sym, ap, subst}
 use Rattle.std.specs.Prelude.{IsSome}
-use Rattle.command_words.specs.Command as commands
-use Rattle.exit_status.specs.declared.statuses.Status.{Status}
+use Rattle.command_line.specs.Command as commands
+use Rattle.command_line.specs.declared.statuses.statuses.Status.{Status}
 use Rattle.split_top.specs.Top.{IsStepped, Keeps}
 use Rattle.split_top.proofs.Answered.{put-answer}
 use Rattle.split_top.proofs.Stepped.{keeps-or, starved-step, unkept-answer}

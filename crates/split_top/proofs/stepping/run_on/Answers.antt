@@ -1,7 +1,7 @@
 use Rattle.std.proofs.Common.{◌≡◌, ℕ, List, Err, sym, ◌∙◌, ap, subst, inr, refl}
-use Rattle.command_words.specs.Command as commands
-use Rattle.command_words.specs.Seen.{seen_options}
-use Rattle.exit_status.specs.declared.statuses.Status.{Status}
+use Rattle.command_line.specs.Command as commands
+use Rattle.command_line.specs.Seen.{seen_options}
+use Rattle.command_line.specs.declared.statuses.statuses.Status.{Status}
 use Rattle.outside.specs.Outside.{AreOfFile, IsAbsent, Rose}
 use Rattle.split_top.proofs.Answered.{answer-later, rose-later, unread-answer}
 use Rattle.split_top.proofs.Stepped.{ran-step, unread-script, unrun-answer}
@@ -27,7 +27,7 @@ returns-in-Ok-run_script g c named are =
     let script : AreOfFile (told c.args.files.now) c.args.script.now c.deref.result.now = subst (AreOfFile (told c.args.files.now) c.args.script.now) (sym c.deref.ensures.value) c.in-Ok.ensures.bytes in
     let o = c.in-Ok-run_script.outcome in
     let ran = c.in-Ok-run_script.ensures.outcome in
-    let on = subst (λ h. IsScriptRunOn c.args.image.now h c.deref.result.now run.options.stop run.options.choice o.output.items o.image.items) (sym c.requires.numbers) ran in
+    let on = subst (λ h. IsScriptRunOn c.args.image.now h c.deref.result.now run.options.stop o.output.items o.image.items) (sym c.requires.numbers) ran in
     let stepped : IsStepped (told c.args.files.now) run o.output.items o.image.items = record { image = c.args.image.now; is_image = are; script = c.deref.result.now; is_read = script; is_run = on } in
     let done_is = ran-step run (told c.args.files.now) c.args.image.now are c.requires.can_open c.deref.result.now script on.is_script in
     let later = c.finish.ensures run refl

@@ -1,7 +1,7 @@
 use Rattle.std.proofs.Common.{◌≡◌, ℕ, List, Err, inl, sym, ◌∙◌, ap, subst}
-use Rattle.command_words.specs.Command as commands
-use Rattle.command_words.specs.Seen.{seen_image, seen_options}
-use Rattle.exit_status.specs.declared.statuses.Status.{Status}
+use Rattle.command_line.specs.Command as commands
+use Rattle.command_line.specs.Seen.{seen_image, seen_options}
+use Rattle.command_line.specs.declared.statuses.statuses.Status.{Status}
 use Rattle.outside.specs.Outside.{Rose}
 use Rattle.split_top.proofs.Answered.{answer-later, rose-later, unread-answer}
 use Rattle.split_top.proofs.Shown.{unopened-answer}

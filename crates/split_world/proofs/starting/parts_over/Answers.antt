@@ -1,7 +1,7 @@
 use Rattle.std.specs.Prelude.{refl}
 use Rattle.std.proofs.Common.{subst}
-use Rattle.round_starts.specs.disk_places.Places.{Geometry}
-use Rattle.round_starts.specs.Laws.{HasNumbersOf}
+use Rattle.round_laws.specs.layout_model.Places.{Geometry}
+use Rattle.round_laws.specs.StartsLaws.{HasNumbersOf}
 use Rattle.split_world.proofs.Opening.{first_begun}
 use Rattle.split_world.proofs.starting.parts_over.Goals as goal
 

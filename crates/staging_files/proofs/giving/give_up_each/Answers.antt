@@ -1,7 +1,7 @@
 use Rattle.std.proofs.Common.{◌≡◌, ◌+◌, ◌-◌, ◌*◌, suc, false, Err, Ok, sym, subst, ◌∙◌, refl, inl, arith}
 use Rattle.std.proofs.lemmas.Bool.{both_ways}
-use Rattle.k_split.specs.pm_words.Powers.{Steps}
-use Rattle.k_split.specs.pm_words.PowerLaws.{Steps-then}
+use Rattle.k_split.specs.pm_model.Powers.{Steps}
+use Rattle.k_split.specs.pm_model.PowerLaws.{Steps-then}
 use Rattle.k_split.specs.MapChanges.{IsGiveUpAnswer}
 use Rattle.staging_files.specs.GivesUp.{AgreesAfterAll, AreGivenUp, IsGiveUpAllPaid, IsGivenUpEach, nothing_staged}
 use Rattle.staging_files.proofs.GiveUpLaws.{agrees-nothing, AreBare, fewer-steps, HasGivenUp, lost-off, next-given, none-bare, staging-file, stopped-agrees, stopped-answer, stopped-paid}

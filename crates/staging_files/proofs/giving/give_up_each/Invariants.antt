@@ -1,5 +1,5 @@
 use Rattle.std.proofs.Common.{◌≡◌, ◌≤◌, ◌-◌, ◌*◌, ◌^◌, true}
-use Rattle.k_split.specs.pm_words.Powers.{is_on, Steps}
+use Rattle.k_split.specs.pm_model.Powers.{is_on, Steps}
 use Rattle.staging_files.proofs.GiveUpLaws.{HasGivenUp}
 use Rattle.staging_files.proofs.giving.give_up_each.Given as goal
 

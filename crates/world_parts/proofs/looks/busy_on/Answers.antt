@@ -1,7 +1,7 @@
 use Rattle.std.proofs.Common.{subst}
 use Rattle.std.specs.Prelude.{List}
-use Rattle.round_turns.specs.round_jobs.world_standing.Standing.{Pending}
-use Rattle.round_turns.specs.round_facts.Busy.{IsKept as IsKeptBusy}
+use Rattle.world_view_laws.specs.in_flight.live_model.Standing.{Pending}
+use Rattle.world_view_laws.specs.in_flight.Busy.{IsKept as IsKeptBusy}
 use Rattle.world_parts.proofs.Nexts.{busy_none, busy_some}
 use Rattle.world_parts.proofs.looks.busy_on.Goals as goal
 

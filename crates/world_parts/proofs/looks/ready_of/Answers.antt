@@ -1,8 +1,8 @@
 use Rattle.std.proofs.Common.{◌≡◌, ◌∙◌, ap, sym, subst}
 use Rattle.std.specs.Prelude.{List, None, Some, slice_get}
-use Rattle.round_turns.specs.list_facts.Members.{In, In-slice_get}
-use Rattle.round_turns.specs.round_jobs.world_standing.Standing.{Pending}
-use Rattle.round_turns.specs.round_views.Views.{next_of}
+use Rattle.world_view_laws.specs.list_laws.Members.{In, In-slice_get}
+use Rattle.world_view_laws.specs.in_flight.live_model.Standing.{Pending}
+use Rattle.world_view_laws.specs.Views.{next_of}
 use Rattle.world_parts.specs.Seen.{seen}
 use Rattle.world_parts.proofs.Nexts.{next_is}
 use Rattle.world_parts.proofs.looks.ready_of.Goals as goal

@@ -2,7 +2,7 @@ use Rattle.std.proofs.Common.{◌≡◌, ◌≢◌, ℕ, ◌+◌, ◌-◌, lengt
 use Rattle.std.proofs.lemmas.List.{with_items_is}
 use Rattle.block_pool.specs.FreeSets.{Gives}
 use Rattle.block_pool.specs.Bits.{is_set, IsKept}
-use Rattle.extent_map.specs.extent_facts.Counts.{count_below-le}
+use Rattle.extent_map.specs.extent_model.Counts.{count_below-le}
 use Rattle.block_pool.proofs.Marks.{seen, in_range, given_within, given_count, given}
 use Rattle.block_pool.proofs.pool.Pool.give.Goals as goal
 

@@ -1,7 +1,7 @@
 use Rattle.std.proofs.Common.{◌≡◌, ◌<◌, ◌≤◌, ◌+◌, ◌*◌, ◌&&◌, true, not, ℕ, length, sym, ◌∙◌, ap, subst, arith}
 use Rattle.std.proofs.lemmas.List.{with_items_is}
 use Rattle.std.proofs.lemmas.Grind.{common_steps}
-use Rattle.extent_map.specs.extent_words.Extents.{covers}
+use Rattle.extent_map.specs.extent_model.Extents.{covers}
 use Rattle.block_pool.specs.FreeSets.{IsUnused}
 use Rattle.block_pool.specs.Bits.{is_set}
 use Rattle.block_pool.proofs.Places.{all_set}

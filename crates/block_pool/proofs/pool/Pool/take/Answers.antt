@@ -1,7 +1,7 @@
 use Rattle.std.proofs.Common.{◌≡◌, ℕ, ◌+◌, ◌&&◌, not, length, refl, sym, ◌∙◌, ap, subst, arith}
 use Rattle.std.proofs.lemmas.List.{with_items_is}
 use Rattle.std.proofs.lemmas.Result.{err_from_is_err_and}
-use Rattle.extent_map.specs.extent_facts.Counts.{count_below}
+use Rattle.extent_map.specs.extent_model.Counts.{count_below}
 use Rattle.block_pool.specs.FreeSets.{is_among, free_count, Takes}
 use Rattle.block_pool.specs.Bits.{is_set, AreLowest}
 use Rattle.block_pool.proofs.Marks.{seen, free_count-seen, seen_takes}

@@ -1,4 +1,4 @@
-use Rattle.extent_facts.specs.Counts.{length-le}
+use Rattle.extent_model.specs.Counts.{length-le}
 use Rattle.extent_map.proofs.map.ExtentMap.extents.Goals as goal
 
 pub returns-clause-few : goal.returns-clause-few

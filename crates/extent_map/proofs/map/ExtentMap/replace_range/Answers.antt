@@ -1,5 +1,5 @@
 use Rattle.std.proofs.Common.{◌+◌, arith}
-use Rattle.extent_facts.specs.Covers.{covers-Replaces}
+use Rattle.extent_model.specs.Covers.{covers-Replaces}
 use Rattle.extent_map.proofs.Whole.{shared_sum}
 use Rattle.extent_map.proofs.map.ExtentMap.replace_range.Goals as goal
 

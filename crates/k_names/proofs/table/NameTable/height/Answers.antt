@@ -1,7 +1,7 @@
 -- As many names as the table has lines are room enough for each path.
 use Rattle.std.proofs.Common.{arith, ◌∙◌, ap, length, subst}
-use Rattle.disk_lines.specs.Names.{Rows}
-use Rattle.disk_lines.specs.Tables.{IsKeyed}
+use Rattle.layout_model.specs.Names.{Rows}
+use Rattle.layout_model.specs.Tables.{IsKeyed}
 use Rattle.k_names.specs.Heights.{HasHeightWithin}
 use Rattle.k_names.proofs.HeightLaws.{height_from_within}
 use Rattle.k_names.proofs.table.NameTable.height.Goals as goal

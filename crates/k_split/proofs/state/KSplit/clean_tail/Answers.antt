@@ -1,7 +1,7 @@
 use Rattle.std.proofs.Common.{◌≡◌, ◌∙◌, ◌/◌, ap, arith, subst}
 use Rattle.std.proofs.lemmas.List.{take-replicate}
-use Rattle.lines_out.specs.extent_words.Extents.{disk_at}
-use Rattle.k_content.specs.k_rules.View.{View}
+use Rattle.block_io.specs.extent_model.Extents.{disk_at}
+use Rattle.k_tables.specs.k_split_model.View.{View}
 use Rattle.k_split.specs.Bytes.{IsOverwriteAnswer, tail_zeros, zeros_behind}
 use Rattle.k_split.proofs.state.KSplit.clean_tail.Goals as goal
 

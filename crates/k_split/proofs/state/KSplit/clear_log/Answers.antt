@@ -1,6 +1,6 @@
 use Rattle.std.proofs.Common.{◌≡◌, true, sym, ◌∙◌, ap}
-use Rattle.lines_out.specs.pm_words.Powers.{is_on}
-use Rattle.lines_out.specs.disk_places.Places.{Geometry, log_line}
+use Rattle.block_io.specs.pm_model.Powers.{is_on}
+use Rattle.block_io.specs.layout_model.Places.{Geometry, log_line}
 use Rattle.k_split.proofs.LogLaws.{cleared, ready_cleared}
 use Rattle.k_split.proofs.state.KSplit.clear_log.Goals as goal
 

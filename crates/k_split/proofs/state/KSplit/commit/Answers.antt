@@ -1,5 +1,5 @@
 use Rattle.std.proofs.Common.{◌≡◌, true, false, sym, ◌∙◌, subst}
-use Rattle.lines_out.specs.pm_words.Powers.{is_on}
+use Rattle.block_io.specs.pm_model.Powers.{is_on}
 use Rattle.k_split.proofs.ChangeLaws.{answer-committed, answer-uncommitted, awake, few-steps-none, lost-landed, planned-none, ready-recommitted}
 use Rattle.k_split.specs.Answers.{IsCommitAnswer, IsCommitPaid}
 use Rattle.k_split.specs.Order.{view_of}

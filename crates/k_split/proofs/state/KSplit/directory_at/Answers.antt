@@ -1,6 +1,6 @@
 use Rattle.std.proofs.Common.{sym, ◌∙◌, ap}
-use Rattle.k_content.specs.k_rules.Spaces.{is_directory_in}
-use Rattle.k_content.specs.k_rules.View.{View}
+use Rattle.k_tables.specs.k_split_model.Spaces.{is_directory_in}
+use Rattle.k_tables.specs.k_split_model.View.{View}
 use Rattle.k_split.proofs.LookLaws.{listed-directory, listed-file, listed-lost}
 use Rattle.k_split.proofs.state.KSplit.directory_at.Goals as goal
 

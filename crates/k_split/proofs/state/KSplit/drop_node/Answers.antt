@@ -1,9 +1,9 @@
 use Rattle.std.proofs.Common.{◌≡◌, true, false, Option, None, refl, sym, ◌∙◌, ap, subst}
-use Rattle.lines_out.specs.pm_words.Powers.{is_on}
-use Rattle.k_log_plans.specs.k_plans.View.{TablesView}
-use Rattle.k_content.specs.k_rules.Changes.{dropped}
-use Rattle.k_content.specs.k_rules.View.{View}
-use Rattle.k_log_plans.specs.volume_changes.Changes.{MayDrop}
+use Rattle.block_io.specs.pm_model.Powers.{is_on}
+use Rattle.k_map_plans.specs.k_plans.View.{TablesView}
+use Rattle.k_tables.specs.k_split_model.ChangesChanges.{dropped}
+use Rattle.k_tables.specs.k_split_model.View.{View}
+use Rattle.k_map_plans.specs.volume_change_laws.Changes.{MayDrop}
 use Rattle.posix_types.specs.declared.item.Outcome.{Outcome}
 use Rattle.k_split.proofs.ChangeLaws.{answer-landed, awake, memory-landed, paid-landed, planned, ready-landed}
 use Rattle.k_split.proofs.state.KSplit.drop_node.Goals as goal

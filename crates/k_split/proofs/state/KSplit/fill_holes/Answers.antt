@@ -1,7 +1,7 @@
 use Rattle.std.proofs.Common.{◌≡◌, ◌∷◌, ◌∙◌, [], ℕ, None, Ok, true, false, List, ap, subst, sym}
-use Rattle.lines_out.specs.pm_words.Powers.{is_on}
-use Rattle.k_log_plans.specs.k_map_plans.Plans.{IsLiveFile, row_of}
-use Rattle.k_content.specs.k_rules.View.{View}
+use Rattle.block_io.specs.pm_model.Powers.{is_on}
+use Rattle.k_map_plans.specs.Plans.{IsLiveFile, row_of}
+use Rattle.k_tables.specs.k_split_model.View.{View}
 use Rattle.k_split.proofs.ChangeLaws.{awake}
 use Rattle.k_split.proofs.Fills.{fill-answer, fill-paid, fill-planned, fill-ready}
 use Rattle.k_split.specs.Filling.{fill_row, IsFillLanded, IsFillPlanned}

@@ -1,7 +1,6 @@
-use Rattle.std.proofs.Common.{◌<◌, ◌/◌, ℕ, IfOk, length, subst, sym}
-use Rattle.std.proofs.Common.{ap, ◌∙◌}
-use Rattle.lines_out.specs.pm_words.Parts.{GoesOut}
-use Rattle.k_content.specs.k_rules.View.{View}
+use Rattle.std.proofs.Common.{◌<◌, ◌/◌, ℕ, IfOk, length, subst, sym, ap, ◌∙◌}
+use Rattle.block_io.specs.pm_model.Parts.{GoesOut}
+use Rattle.k_tables.specs.k_split_model.View.{View}
 use Rattle.k_split.specs.Loans.{MayLend}
 use Rattle.k_split.proofs.LoanLaws.{lend_within, ready_asked, same_disk}
 use Rattle.k_split.proofs.state.KSplit.lend.Goals as goal

@@ -1,6 +1,6 @@
 use Rattle.std.proofs.Common.{◌≡◌, ℕ, true, false, sym, ◌∙◌, subst}
-use Rattle.lines_out.specs.pm_words.Powers.{is_on}
-use Rattle.k_log_plans.specs.k_plans.Making.{IsMade}
+use Rattle.block_io.specs.pm_model.Powers.{is_on}
+use Rattle.k_map_plans.specs.k_plans.Making.{IsMade}
 use Rattle.k_split.specs.Names.{IsMakeAnswer, make_row}
 use Rattle.k_split.proofs.ChangeLaws.{answer-cut, answer-done, awake, paid-cut, paid-done, planned, ready-landed}
 use Rattle.k_split.specs.Answers.{IsPaid}

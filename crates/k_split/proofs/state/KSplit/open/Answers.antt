@@ -1,5 +1,5 @@
 use Rattle.std.proofs.Common.{subst}
-use Rattle.lines_out.specs.disk_places.Places.{IsGeometry}
+use Rattle.block_io.specs.layout_model.Places.{IsGeometry}
 use Rattle.k_split.proofs.OpenLaws.{openable, opened-as, opened-ready}
 use Rattle.k_split.proofs.state.KSplit.open.Goals as goal
 

@@ -1,10 +1,10 @@
 use Rattle.std.proofs.Common.{◌≡◌, ◌<◌, ◌∙◌, ℕ, false, List, length, ap, inr, subst, sym}
-use Rattle.lines_out.specs.extent_words.declared.Extent.{Extent}
-use Rattle.lines_out.specs.block_bytes.Overwrites.{IsBesideBlocks, IsOverwritten, IsOverwrittenWhole, MayOverwrite}
-use Rattle.lines_out.specs.disk_rules.Volume.{extents}
-use Rattle.lines_out.specs.pm_words.Cells.{cell, Settles}
-use Rattle.lines_out.specs.pm_words.Images.{Follows}
-use Rattle.k_content.specs.k_rules.View.{View}
+use Rattle.block_io.specs.extent_model.declared.extent_words.Extent.{Extent}
+use Rattle.block_io.specs.Overwrites.{IsBesideBlocks, IsOverwritten, IsOverwrittenWhole, MayOverwrite}
+use Rattle.block_io.specs.image_model.Volume.{extents}
+use Rattle.block_io.specs.pm_model.Cells.{cell, Settles}
+use Rattle.block_io.specs.pm_model.Images.{Follows}
+use Rattle.k_tables.specs.k_split_model.View.{View}
 use Rattle.k_split.proofs.ByteLaws.{overwrite-cut, overwrite-done, overwrites, ready-over}
 use Rattle.k_split.proofs.state.KSplit.overwrite.Goals as goal
 

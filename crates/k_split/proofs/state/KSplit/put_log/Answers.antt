@@ -1,9 +1,9 @@
 use Rattle.std.proofs.Common.{◌≡◌, ℕ, true, false, length, sym, ◌∙◌, ap, subst}
-use Rattle.lines_out.specs.pm_words.Cells.{cell, is_lent}
-use Rattle.lines_out.specs.block_bytes.Overwrites.{IsInLines}
-use Rattle.lines_out.specs.disk_places.Places.{Geometry, log_line}
-use Rattle.lines_out.specs.Lines.{AreFrom, LinesComeBack}
-use Rattle.k_content.specs.k_rules.View.{View}
+use Rattle.block_io.specs.pm_model.Cells.{cell, is_lent}
+use Rattle.block_io.specs.Overwrites.{IsInLines}
+use Rattle.block_io.specs.layout_model.Places.{Geometry, log_line}
+use Rattle.block_io.specs.Lines.{AreFrom, LinesComeBack}
+use Rattle.k_tables.specs.k_split_model.View.{View}
 use Rattle.k_split.specs.Laps.{IsLogWord}
 use Rattle.k_split.specs.LogLines.{AreLogLines}
 use Rattle.k_split.proofs.LogOut.{comes_back, of_log, ready_beside, same_back}

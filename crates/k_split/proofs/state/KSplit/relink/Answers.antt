@@ -1,16 +1,16 @@
 use Rattle.std.proofs.Common.{◌≡◌, ◌∷◌, ◌∙◌, ◌++◌, [], true, false, List, sym, arith, subst}
-use Rattle.lines_out.specs.pm_words.declared.Cell.{Cell}
-use Rattle.lines_out.specs.pm_words.Frames.{KeepsSingle}
-use Rattle.lines_out.specs.pm_words.ImageLaws.{IsImage-words_of}
-use Rattle.lines_out.specs.pm_words.Images.{words_of}
-use Rattle.lines_out.specs.pm_words.Powers.{is_on}
-use Rattle.lines_out.specs.disk_rules.Volume.{extents}
-use Rattle.lines_out.specs.extent_words.Extents.{IsCanonical}
-use Rattle.k_log_plans.specs.k_map_plans.Plans.{MayMove}
-use Rattle.k_log_plans.specs.k_plans.Free.{is_free_block}
-use Rattle.k_log_plans.specs.k_land.Plans.{blocks_of}
-use Rattle.k_log_plans.specs.k_plans.Switching.{IsMapPlan}
-use Rattle.k_content.specs.k_rules.View.{View}
+use Rattle.block_io.specs.pm_model.declared.Cell.{Cell}
+use Rattle.block_io.specs.pm_model.Frames.{KeepsSingle}
+use Rattle.block_io.specs.pm_model.ImageLaws.{IsImage-words_of}
+use Rattle.block_io.specs.pm_model.Images.{words_of}
+use Rattle.block_io.specs.pm_model.Powers.{is_on}
+use Rattle.block_io.specs.image_model.Volume.{extents}
+use Rattle.block_io.specs.extent_model.Extents.{IsCanonical}
+use Rattle.k_map_plans.specs.Plans.{MayMove}
+use Rattle.k_map_plans.specs.k_plans.Free.{is_free_block}
+use Rattle.k_map_plans.specs.k_plans.LandingsPlans.{blocks_of}
+use Rattle.k_map_plans.specs.k_plans.Switching.{IsMapPlan}
+use Rattle.k_tables.specs.k_split_model.View.{View}
 use Rattle.k_split.proofs.ChangeLaws.{awake}
 use Rattle.k_split.proofs.MapAnswers.{map-answer, map-paid, map-planned, map-ready, unstaged-from}
 use Rattle.k_split.proofs.Relinks.{blocks_of-two, moved-unstaged}

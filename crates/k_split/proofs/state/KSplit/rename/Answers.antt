@@ -1,6 +1,6 @@
 use Rattle.std.proofs.Common.{◌≡◌, Option, ℕ, true, false, sym, ◌∙◌, subst, inr}
-use Rattle.lines_out.specs.pm_words.Powers.{is_on}
-use Rattle.k_log_plans.specs.k_plans.Renaming.{IsRenamed}
+use Rattle.block_io.specs.pm_model.Powers.{is_on}
+use Rattle.k_map_plans.specs.k_plans.Renaming.{IsRenamed}
 use Rattle.k_split.specs.Names.{IsRenameAnswer, rename_row}
 use Rattle.k_split.proofs.ChangeLaws.{answer-cut, answer-done, awake, paid-cut, paid-done, planned, ready-landed, to-do}
 use Rattle.k_split.specs.Answers.{IsPaid}

@@ -1,10 +1,10 @@
 use Rattle.std.proofs.Common.{◌≡◌, true, false, Option, None, refl, sym, ◌∙◌, ap, subst}
-use Rattle.lines_out.specs.pm_words.Images.{Follows}
-use Rattle.lines_out.specs.pm_words.Powers.{is_on}
-use Rattle.k_log_plans.specs.Resets.{reset}
-use Rattle.k_log_plans.specs.k_map_plans.Plans.{IsLiveFile}
-use Rattle.k_log_plans.specs.k_plans.View.{TablesView}
-use Rattle.k_content.specs.k_rules.View.{View}
+use Rattle.block_io.specs.pm_model.Images.{Follows}
+use Rattle.block_io.specs.pm_model.Powers.{is_on}
+use Rattle.k_map_plans.specs.Resets.{reset}
+use Rattle.k_map_plans.specs.Plans.{IsLiveFile}
+use Rattle.k_map_plans.specs.k_plans.View.{TablesView}
+use Rattle.k_tables.specs.k_split_model.View.{View}
 use Rattle.posix_types.specs.declared.item.Outcome.{Outcome}
 use Rattle.k_split.specs.Resets.{KeepsUnloggedContent}
 use Rattle.k_split.proofs.ChangeLaws.{answer-landed, awake, paid-landed, planned, ready-landed}

@@ -1,7 +1,7 @@
 use Rattle.std.proofs.Common.{◌≡◌, true, false, Option, None, refl, sym, ◌∙◌, ap}
-use Rattle.lines_out.specs.pm_words.Powers.{is_on}
-use Rattle.k_log_plans.specs.k_plans.View.{TablesView}
-use Rattle.lines_out.specs.disk_rules.Reading.{base_set}
+use Rattle.block_io.specs.pm_model.Powers.{is_on}
+use Rattle.k_map_plans.specs.k_plans.View.{TablesView}
+use Rattle.block_io.specs.image_model.Reading.{base_set}
 use Rattle.posix_types.specs.declared.item.Outcome.{Outcome}
 use Rattle.k_split.proofs.ChangeLaws.{answer-landed, awake, memory-landed, paid-landed, planned, ready-landed}
 use Rattle.k_split.proofs.state.KSplit.set_base.Goals as goal

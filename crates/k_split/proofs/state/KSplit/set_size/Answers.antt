@@ -1,14 +1,14 @@
 use Rattle.std.proofs.Common.{◌≡◌, true, false, List, sym, ◌∙◌, ap, subst}
-use Rattle.lines_out.specs.pm_words.declared.Cell.{Cell}
-use Rattle.lines_out.specs.pm_words.Frames.{KeepsSingle}
-use Rattle.lines_out.specs.pm_words.Powers.{is_on}
-use Rattle.lines_out.specs.disk_rules.Volume.{inode}
-use Rattle.k_log_plans.specs.k_land.Plans.{NewChain, blocks_of}
-use Rattle.k_log_plans.specs.k_land.WrittenLaws.{blocks_of-one}
-use Rattle.k_log_plans.specs.k_map_plans.Plans.{IsLiveFile}
-use Rattle.k_log_plans.specs.k_plans.Switching.{IsMapPlan}
-use Rattle.k_content.specs.k_rules.View.{View}
-use Rattle.lines_out.specs.map_rules.Changes.{with_size}
+use Rattle.block_io.specs.pm_model.declared.Cell.{Cell}
+use Rattle.block_io.specs.pm_model.Frames.{KeepsSingle}
+use Rattle.block_io.specs.pm_model.Powers.{is_on}
+use Rattle.block_io.specs.image_model.Volume.{inode}
+use Rattle.k_map_plans.specs.k_plans.LandingsPlans.{NewChain, blocks_of}
+use Rattle.k_map_plans.specs.k_plans.WrittenLaws.{blocks_of-one}
+use Rattle.k_map_plans.specs.Plans.{IsLiveFile}
+use Rattle.k_map_plans.specs.k_plans.Switching.{IsMapPlan}
+use Rattle.k_tables.specs.k_split_model.View.{View}
+use Rattle.block_io.specs.k_split_model.MapChangesChanges.{with_size}
 use Rattle.k_split.proofs.ChangeLaws.{awake, unstaged-kept}
 use Rattle.k_split.proofs.MapAnswers.{file-staged, map-answer, map-paid, map-planned, map-ready}
 use Rattle.k_split.specs.MapChanges.{IsMapPlanned, IsSizedWith}

@@ -1,6 +1,6 @@
 use Rattle.std.proofs.Common.{◌≡◌, ◌/◌, ℕ, subst, sym, true}
-use Rattle.lines_out.specs.pm_words.Cells.{cell, is_lent}
-use Rattle.k_content.specs.k_rules.View.{View}
+use Rattle.block_io.specs.pm_model.Cells.{cell, is_lent}
+use Rattle.k_tables.specs.k_split_model.View.{View}
 use Rattle.k_split.proofs.LoanLaws.{ready_back}
 use Rattle.k_split.proofs.state.KSplit.settle.Goals as goal
 

@@ -1,7 +1,7 @@
 use Rattle.std.proofs.Common.{◌≡◌, length, ◌∙◌, ap, subst}
-use Rattle.lines_out.specs.disk_places.Places.{Geometry, log_line}
-use Rattle.lines_out.specs.Lines.{LinesGoOut}
-use Rattle.k_content.specs.k_rules.View.{View}
+use Rattle.block_io.specs.layout_model.Places.{Geometry, log_line}
+use Rattle.block_io.specs.Lines.{LinesGoOut}
+use Rattle.k_tables.specs.k_split_model.View.{View}
 use Rattle.k_split.specs.LogLines.{AreLogLines}
 use Rattle.k_split.proofs.LogOut.{comes_out, ready_beside, same_out}
 use Rattle.k_split.proofs.state.KSplit.take_log.Goals as goal

@@ -1,11 +1,11 @@
 use Rattle.std.proofs.Common.{◌≡◌, ◌<◌, ◌∙◌, false, true, length, arith, subst, sym}
-use Rattle.lines_out.specs.pm_words.Images.{words_of}
-use Rattle.lines_out.specs.pm_words.ImageLaws.{IsImage-words_of}
-use Rattle.lines_out.specs.pm_words.Powers.{is_on}
-use Rattle.lines_out.specs.disk_rules.Volume.{extents}
-use Rattle.lines_out.specs.extent_words.Extents.{IsCanonical}
-use Rattle.lines_out.specs.block_bytes.Overwrites.{MayOverwrite}
-use Rattle.k_content.specs.k_rules.View.{View}
+use Rattle.block_io.specs.pm_model.Images.{words_of}
+use Rattle.block_io.specs.pm_model.ImageLaws.{IsImage-words_of}
+use Rattle.block_io.specs.pm_model.Powers.{is_on}
+use Rattle.block_io.specs.image_model.Volume.{extents}
+use Rattle.block_io.specs.extent_model.Extents.{IsCanonical}
+use Rattle.block_io.specs.Overwrites.{MayOverwrite}
+use Rattle.k_tables.specs.k_split_model.View.{View}
 use Rattle.k_split.proofs.ByteLaws.{asked, file_below, file_single, may_overwrite, overwrite-none, short_range}
 use Rattle.k_split.proofs.ChangeLaws.{awake}
 use Rattle.k_split.proofs.state.KSplit.write_in_place.Goals as goal

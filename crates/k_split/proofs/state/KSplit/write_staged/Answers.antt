@@ -1,8 +1,8 @@
 use Rattle.std.proofs.Common.{◌≡◌, ◌*◌, ◌+◌, ◌<◌, ◌∙◌, ℕ, false, true, length, arith, subst, sym}
-use Rattle.lines_out.specs.pm_words.Powers.{is_on}
-use Rattle.lines_out.specs.block_bytes.Overwrites.{MayOverwrite}
-use Rattle.lines_out.specs.disk_rules.Volume.{extents}
-use Rattle.k_content.specs.k_rules.View.{View}
+use Rattle.block_io.specs.pm_model.Powers.{is_on}
+use Rattle.block_io.specs.Overwrites.{MayOverwrite}
+use Rattle.block_io.specs.image_model.Volume.{extents}
+use Rattle.k_tables.specs.k_split_model.View.{View}
 use Rattle.k_split.specs.Loans.{MayLend}
 use Rattle.k_split.proofs.ChangeLaws.{awake}
 use Rattle.k_split.proofs.StagedBytes.{block_short, staged_below, staged_overwrite}

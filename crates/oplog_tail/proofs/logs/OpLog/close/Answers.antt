@@ -1,11 +1,11 @@
 -- What the place of all seats knows of the slots is said of the lines that come out of them.
 use Rattle.std.proofs.Common.{◌≡◌, ◌∙◌, ◌<◌, List, ℕ, length, refl, ap, sym, subst}
-use Rattle.disk_rules.specs.pm_words.Parts.{Part}
+use Rattle.image_model.specs.pm_model.Parts.{Part}
 use Rattle.std.specs.Mem.Slots.{slots_items}
 use Rattle.oplog_tail.specs.Closing.{AreNumbered, claims_of_all, LeavesLines}
-use Rattle.oplog_tail.specs.EntryLines.{IsSingle}
+use Rattle.oplog_entry.specs.EntryLines.{IsSingle}
 use Rattle.oplog_tail.specs.Logs.{LogView}
-use Rattle.oplog_tail.specs.Rule.{line_at}
+use Rattle.oplog_entry.specs.LogLines.{line_at}
 use Rattle.oplog_tail.specs.declared.views.Slot.{Slot}
 use Rattle.oplog_tail.proofs.Ends.{ends, IsEnd}
 use Rattle.oplog_tail.proofs.Leaving.{have_lines, holds_claims, leaves, numbered}

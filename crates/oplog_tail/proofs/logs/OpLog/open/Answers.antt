@@ -1,10 +1,9 @@
 -- The table that is opened keeps the rule.
-use Rattle.std.proofs.Common.{◌≡◌, ◌∙◌, ◌≤◌, ◌<◌, ℕ, List, length, map, ap, sym, subst}
-use Rattle.std.proofs.Common.{Vec, Global}
-use Rattle.disk_rules.specs.pm_words.Parts.{Part}
+use Rattle.std.proofs.Common.{◌≡◌, ◌∙◌, ◌≤◌, ◌<◌, ℕ, List, length, map, ap, sym, subst, Vec, Global}
+use Rattle.image_model.specs.pm_model.Parts.{Part}
 use Rattle.pm_lines.specs.declared.lines.Line.{Line}
-use Rattle.oplog_tail.specs.EntryLines.{IsSingle}
-use Rattle.oplog_tail.specs.Rule.{line_at}
+use Rattle.oplog_entry.specs.EntryLines.{IsSingle}
+use Rattle.oplog_entry.specs.LogLines.{line_at}
 use Rattle.oplog_tail.specs.declared.views.Slot.TheVariants.{Fresh}
 use Rattle.oplog_tail.specs.declared.views.Start.{Start}
 use Rattle.oplog_tail.proofs.Founding.{opens_kept}

@@ -1,5 +1,5 @@
 use Rattle.std.proofs.Common.{subst, sym}
-use Rattle.world_begins.specs.world_parts.round_views.Views.{HasNone, WorldView}
+use Rattle.world_begins.specs.world_parts.world_view_laws.Views.{HasNone, WorldView}
 use Rattle.split_world.proofs.world.World.begin.Goals as goal
 
 pub begin_next-requires-clause-none : goal.begin_next-requires-clause-none

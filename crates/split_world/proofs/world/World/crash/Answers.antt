@@ -1,7 +1,7 @@
 use Rattle.std.proofs.Common.{ap, sym, subst}
-use Rattle.world_begins.specs.world_parts.round_views.Losses.{MayCrash}
-use Rattle.world_begins.specs.world_parts.round_views.Rounds.{IsLeft}
-use Rattle.world_begins.specs.world_parts.round_views.Views.{WorldView}
+use Rattle.world_begins.specs.world_parts.world_view_laws.Losses.{MayCrash}
+use Rattle.world_begins.specs.world_parts.world_view_laws.Rounds.{IsLeft}
+use Rattle.world_begins.specs.world_parts.world_view_laws.Views.{WorldView}
 use Rattle.world_begins.specs.world_parts.Seen.{seen}
 use Rattle.world_rounds.proofs.Settles.{left_lost, may_lost}
 use Rattle.split_world.proofs.world.World.crash.Goals as goal

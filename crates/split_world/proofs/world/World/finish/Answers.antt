@@ -1,10 +1,10 @@
 use Rattle.std.proofs.Common.{◌∙◌, ap, sym, subst}
-use Rattle.world_begins.specs.world_parts.round_jobs.world_standing.Standing.{Pending}
-use Rattle.world_begins.specs.world_parts.round_views.Begins.{IsFilledOut}
-use Rattle.world_begins.specs.world_parts.round_views.Jobs.{Finishes, IsOfWorld, LosesFinish}
-use Rattle.world_begins.specs.world_parts.round_views.Views.{WorldView}
+use Rattle.world_begins.specs.world_parts.in_flight.live_model.Standing.{Pending}
+use Rattle.world_begins.specs.world_parts.world_view_laws.Begins.{IsFilledOut}
+use Rattle.world_begins.specs.world_parts.world_view_laws.Jobs.{Finishes, IsOfWorld, LosesFinish}
+use Rattle.world_begins.specs.world_parts.world_view_laws.Views.{WorldView}
 use Rattle.world_begins.specs.world_parts.Seen.{seen}
-use Rattle.world_rounds.proofs.world_ends_proofs.Lost.{loses_first, out_lost}
+use Rattle.world_rounds.proofs.Lost.{loses_first, out_lost}
 use Rattle.split_world.proofs.world.World.finish.Goals as goal
 
 pub returns-then-self-clause-finished : goal.returns-then-self-clause-finished

@@ -1,8 +1,8 @@
 use Rattle.std.proofs.Common.{subst}
-use Rattle.world_begins.specs.world_parts.round_jobs.world_standing.Standing.{Pending}
-use Rattle.world_begins.specs.world_parts.round_views.Begins.{IsFilledOut}
-use Rattle.world_begins.specs.world_parts.round_views.Jobs.{GivesUp}
-use Rattle.world_begins.specs.world_parts.round_views.Views.{WorldView}
+use Rattle.world_begins.specs.world_parts.in_flight.live_model.Standing.{Pending}
+use Rattle.world_begins.specs.world_parts.world_view_laws.Begins.{IsFilledOut}
+use Rattle.world_begins.specs.world_parts.world_view_laws.Jobs.{GivesUp}
+use Rattle.world_begins.specs.world_parts.world_view_laws.Views.{WorldView}
 use Rattle.world_begins.specs.world_parts.Seen.{seen}
 use Rattle.split_world.proofs.world.World.give_up.Goals as goal
 

@@ -1,5 +1,5 @@
 use Rattle.std.proofs.Common.{◌≡◌, ◌≤◌, ◌+◌, false, sym, subst, ◌∙◌, refl, inl}
-use Rattle.k_split.specs.disk_places.Places.{reserve}
+use Rattle.k_split.specs.layout_model.Places.{reserve}
 use Rattle.k_split.specs.MapChanges.{free_blocks_in}
 use Rattle.staging_files.specs.Keeps.{Agrees, AreFreeSingle, IsStaging}
 use Rattle.staging_files.specs.Reserves.{IsFirstWay, IsFreeRun, IsGiveAnswer, IsSecondWay, run_at, share}

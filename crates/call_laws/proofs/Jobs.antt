@@ -1,0 +1,66 @@
+-- The jobs that are out, their needs and their runs; and what stands together.
+use Rattle.std.specs.Prelude.{◌≡◌, ◌≢◌, ◌⊎◌, ◌+◌, ℕ, Bool, List, [], ◌∷◌, length, map, sum_by, refl}
+use Rattle.std.proofs.Common.{arith, ◌∙◌, sym, inl, inr}
+use Rattle.std.proofs.lemmas.List.Sums.{sum_by-cons}
+use Rattle.world_view_laws.specs.eof_laws.layout_model.Places.{Geometry}
+use Rattle.world_view_laws.specs.eof_laws.k_split_model.View.{View}
+use Rattle.world_view_laws.specs.eof_laws.posix_tables.Open.{Tables}
+use Rattle.world_view_laws.specs.eof_laws.posix_laws.Views.{need_of}
+use Rattle.world_view_laws.specs.eof_laws.posix_spec.Run.{Begun}
+use Rattle.world_view_laws.specs.eof_laws.posix_spec.State.{State}
+use Rattle.world_view_laws.specs.in_flight.world_model.Jobs.{begun_of, Job}
+use Rattle.world_view_laws.specs.in_flight.live_model.Standing.{AreJobsOf, Kept, Pending, StandsAt}
+use Rattle.world_view_laws.specs.in_flight.live_model.world_model.JobLaws.{needs}
+
+-- ---- what stands
+
+-- they stand together also where one node more may have been made
+pub stands_later : (g : Geometry) (k : View) (t : Tables) (kept : Kept) (lines : Bool) (n : ℕ) (s : State) → StandsAt g k t kept lines n s → StandsAt g k t kept lines (n + 1) s
+stands_later g k t kept lines n s stands = record {
+  count = stands.count;
+  few = (let few = stands.few in omega (arith, few));
+  numbers = stands.numbers;
+  jobs = stands.jobs;
+  jobs_are = stands.jobs_are;
+  order = stands.order;
+  unbatched = stands.unbatched;
+  on = stands.on;
+  geometry = stands.geometry;
+  flying = stands.flying;
+  lines = stands.lines;
+  quiet = stands.quiet;
+  blocks = stands.blocks;
+  callers = stands.callers;
+  spare = stands.spare;
+  tables = stands.tables;
+  open_are_files = stands.open_are_files;
+  ordered = stands.ordered;
+  sizes = stands.sizes;
+  bare = stands.bare;
+  staged = stands.staged;
+  agrees = stands.agrees;
+  free_single = stands.free_single;
+  drafts = stands.drafts;
+  low = λ ino. (let low = stands.low ino in omega (arith, low));
+  claims_out = stands.claims_out;
+  jobs_out = stands.jobs_out;
+  owed = stands.owed;
+}
+
+-- ---- the jobs that are out
+
+-- what they need is what their calls do
+pub needs_are : (s : State) (pending : List Pending) (jobs : List Job) → AreJobsOf pending jobs → needs s jobs ≡ sum_by (λ (p : Pending). need_of s p.who p.call) pending
+needs_are s [] [] are = refl
+needs_are s [] (j ∷ jobs) are = absurd are
+needs_are s (p ∷ pending) [] are = absurd are
+needs_are s (p ∷ pending) (j ∷ jobs) are =
+    sum_by-cons (λ (c : Begun). need_of s c.0 c.1) (begun_of j) (map begun_of jobs)
+    ∙ ((λ i. need_of s (are.0 i) (are.1 i) + needs_are s pending jobs are.3 i) ∙ sym (sum_by-cons (λ (q : Pending). need_of s q.who q.call) p pending))
+
+-- where some run is out, a job is out or something was claimed in this lap
+pub some_out : {A B C : Type 0} (claims : List A) (pending : List B) (out : List C) → length out ≡ length claims + length pending → out ≢ [] → (pending ≢ []) ⊎ (claims ≢ [])
+some_out claims (p ∷ pending) out count some = inl (λ none. cc)
+some_out (c ∷ claims) [] out count some = inr (λ none. cc)
+some_out [] [] [] count some = absurd (some refl)
+some_out [] [] (r ∷ out) count some = absurd (omega (arith, count))

@@ -1,9 +1,0 @@
-//! Facts of chains, the spelling of a file's map in blocks of the image.
-//!
-//! Lemmas alone, over the definitions of `disk_rules`: block by block and as a whole a chain says the
-//! same; a root and a number of extents lead to one chain and one map at most; what is written reads
-//! back; and a chain that stands in an image keeps the rule of a checked image on it, and the other way
-//! round. `map_chain` and the facts of volumes cite them.
-//!
-//! Stands on `pm_words`, `disk_places`, `disk_lines`, `extent_words` and `disk_rules`.
-#![tactic(auto)]

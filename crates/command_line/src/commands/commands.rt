@@ -1,0 +1,108 @@
+//! The words of the command line.
+ghost use Rattle.std.specs.Prelude.{◌≡◌, map, option_map};
+ghost use Rattle.std.specs.String.{string_bytes};
+ghost use Rattle.command_line.specs.Command.{command_of, image_of, mkfs_of, step_of, tree_of};
+ghost use Rattle.command_line.specs.Seen.{seen, seen_image};
+
+use crate::commands::geometries::read_geometry;
+use crate::commands::options::{Options, read_options};
+use image_layout::Geometry;
+
+/// An image.
+#[derive(Drop)]
+pub enum Image<'a> {
+    /// The fresh default image.
+    Fresh,
+    /// That of the file with this name.
+    Stored(&'a String),
+}
+
+/// A command that was read: the places of its names among the words, and its numbers and options.
+#[derive(Drop)]
+pub enum Command<'a> {
+    /// Make an image of this geometry in the file with this name.
+    Mkfs {
+        name: &'a String,
+        geometry: Geometry,
+    },
+    /// Print the tree of an image.
+    Tree(Image<'a>),
+    /// Run a script on an image.
+    Step {
+        image: Image<'a>,
+        script: &'a String,
+        options: Options<'a>,
+    },
+}
+
+/// The image that a word says.
+fn read_image(word: &String) -> Image<'_>
+    ensures { seen_image result ≡ image_of (string_bytes word.now) }
+{
+    if word.as_str() == "-" {
+        Image::Fresh
+    } else {
+        Image::Stored(word)
+    }
+}
+
+/// The words `mkfs IMAGE BLOCKS LOG INODES NAMES`.
+#[tactic(auto, unfolding(crate::specs::Command::mkfs_of))]
+fn read_mkfs(words: &[String]) -> Option<Command<'_>>
+    ensures { option_map (λ c. seen c) result ≡ mkfs_of (map string_bytes words.now) }
+{
+    if words.len() != 6 || words[0].as_str() != "mkfs" {
+        return None;
+    }
+    let Image::Stored(name) = read_image(&words[1]) else {
+        return None;
+    };
+    let geometry = read_geometry(
+        words[2].as_str(),
+        words[3].as_str(),
+        words[4].as_str(),
+        words[5].as_str(),
+    )?;
+    Some(Command::Mkfs { name, geometry })
+}
+
+/// The words `tree IMAGE`.
+#[tactic(auto, unfolding(crate::specs::Command::tree_of))]
+fn read_tree(words: &[String]) -> Option<Command<'_>>
+    ensures { option_map (λ c. seen c) result ≡ tree_of (map string_bytes words.now) }
+{
+    if words.len() != 2 || words[0].as_str() != "tree" {
+        return None;
+    }
+    Some(Command::Tree(read_image(&words[1])))
+}
+
+/// The words `step IMAGE SCRIPT strict` and options.
+#[tactic(auto, unfolding(crate::specs::Command::step_of))]
+fn read_step(words: &[String]) -> Option<Command<'_>>
+    ensures { option_map (λ c. seen c) result ≡ step_of (map string_bytes words.now) }
+{
+    if words.len() < 4 || words[0].as_str() != "step" || words[3].as_str() != "strict" {
+        return None;
+    }
+    let options = read_options(&words[4..])?;
+    Some(Command::Step {
+        image: read_image(&words[1]),
+        script: &words[2],
+        options,
+    })
+}
+
+/// The command that the words are, if they are one.
+#[tactic(auto, unfolding(crate::specs::Command::command_of))]
+pub fn read_command(words: &[String]) -> Option<Command<'_>>
+    ensures { option_map (λ c. seen c) result ≡ command_of (map string_bytes words.now) }
+{
+    if let Some(command) = read_mkfs(words) {
+        return Some(command);
+    }
+    if let Some(command) = read_tree(words) {
+        return Some(command);
+    }
+    read_step(words)
+}

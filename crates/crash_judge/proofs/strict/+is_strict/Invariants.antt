@@ -1,5 +1,0 @@
-use Rattle.std.proofs.Common.{length}
-use Rattle.crash_judge.proofs.strict.+is_strict.Given as goal
-
-abbrev pub decreases-is_strict : goal.decreases-is_strict
-decreases-is_strict l = length l.unfinished.now

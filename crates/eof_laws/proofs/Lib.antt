@@ -1,0 +1,5 @@
+pub mod Ending
+pub mod MapsMaps
+pub mod MapsFiles
+mod Finished
+pub use Rattle.k_plans.proofs as k_plans_proofs

@@ -1,2 +1,0 @@
-pub mod Jobs
-pub use Rattle.event_facts.proofs as event_facts_proofs

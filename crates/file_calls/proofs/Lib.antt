@@ -1,0 +1,21 @@
+mod CallTables
+pub mod Running
+mod NameCalls
+mod Backs
+mod Halves
+mod Paths
+pub mod OpenCalls
+mod CutCalls
+mod Ends
+mod OpenEnds
+mod Shut
+pub mod CloseCalls
+mod Lists
+mod SeekCalls
+mod Sizes
+pub mod ReadCalls
+pub use Rattle.eof_laws.proofs as eof_laws_proofs
+pub use Rattle.k_split_laws.proofs as k_split_laws_proofs
+pub use Rattle.live_step_laws.proofs.live_model_proofs
+pub use Rattle.live_step_laws.proofs as live_step_laws_proofs
+pub use Rattle.live_step_laws.proofs.open_files_proofs

@@ -1,0 +1,45 @@
+use Rattle.std.proofs.Common.{◌≡◌, sym, subst, ◌∙◌, refl}
+use Rattle.std.specs.Prelude.{true, false}
+use Rattle.posix_types.specs.declared.call.Call.{Call}
+use Rattle.file_calls.specs.Answers.{IsEnded}
+use Rattle.live_step_laws.specs.k_plans.Removing.{IsUnlinked}
+use Rattle.live_step_laws.specs.k_split.Names.{unlink_row}
+use Rattle.file_calls.proofs.Ends.{ends_then, fault_ends, unlink_ends}
+use Rattle.file_calls.proofs.Halves.{loans_done, unlink_fault, unlink_half, unlink_line, unlink_may, unlink_replies, unlink_spent}
+use Rattle.file_calls.proofs.names.names.unlink.Goals as goal
+
+pub unlink-requires : goal.unlink-requires
+unlink-requires c = record { awake = λ lost. (let never : true ≡ false = sym lost ∙ c.requires.runs.runs.on in cc) }
+
+pub sweep-requires-clause-on : goal.sweep-requires-clause-on
+sweep-requires-clause-on c = c.in-Ok.ensures.answer.2.kept_on
+
+pub sweep-requires-clause-may : goal.sweep-requires-clause-may
+sweep-requires-clause-may c = unlink_may c.args.path.now c.args.k.now c.args.files.now.tables c.args.data.now c.requires.runs c.unlink.new.self c.in-Ok.ino c.in-Ok.ensures.answer
+
+pub sweep-requires-clause-line : goal.sweep-requires-clause-line
+sweep-requires-clause-line c = unlink_line c.args.path.now c.args.k.now c.args.files.now.tables c.args.data.now c.requires.runs c.unlink.new.self c.in-Ok.ino c.in-Ok.ensures.answer
+
+pub returns-in-Ok-clause-ended : goal.returns-in-Ok-clause-ended
+returns-in-Ok-clause-ended c who =
+    let k = c.args.k.now in
+    let t = c.args.files.now.tables in
+    let f = c.args.data.now in
+    let spent = unlink_spent who c.args.path.now k t f c.unlink.new.self c.in-Ok.ino c.args.power.now c.unlink.new.power (c.in-Ok.ensures.answer, c.in-Ok.ensures.paid) in
+    c.sweep.ensures.ended who (Call.Unlink c.args.path.now) k t c.args.power.now (unlink_half who c.args.path.now k t f c.unlink.new.self c.in-Ok.ino c.in-Ok.ensures.answer)
+    (unlink_replies who c.args.path.now k t f c.unlink.new.self c.in-Ok.ino c.in-Ok.ensures.answer) spent.0 spent.1 (λ s. refl) (loans_done k c.unlink.new.self c.in-Ok.ensures.answer.2)
+
+pub returns-in-Err-clause-ended : goal.returns-in-Err-clause-ended
+returns-in-Err-clause-ended c who =
+    let t = c.args.files.now.tables in
+    let f = c.args.data.now in
+    subst (λ x. IsEnded who (Call.Unlink c.args.path.now) c.args.k.now t f c.unlink.new.self t f c.args.power.now c.unlink.new.power x) (sym c.after_fault.ensures)
+    (unlink_fault who c.args.path.now c.args.k.now t f c.unlink.new.self c.args.power.now c.unlink.new.power c.in-Err.fault (c.in-Err.ensures.answer, c.in-Err.ensures.paid))
+
+pub returns-in-Ok-clause-ends : goal.returns-in-Ok-clause-ends
+returns-in-Ok-clause-ends c =
+    ends_then c.args.k.now c.unlink.new.self c.sweep.new.k c.args.data.now c.args.data.now c.sweep.new.data c.sweep.new.power (unlink_ends c.args.path.now c.args.k.now c.unlink.new.self c.args.data.now c.in-Ok.ino c.in-Ok.ensures.answer) c.sweep.ensures.ends
+
+pub returns-in-Err-clause-ends : goal.returns-in-Err-clause-ends
+returns-in-Err-clause-ends c =
+    fault_ends (unlink_row c.args.path.now c.args.k.now) (λ ino w. IsUnlinked c.args.path.now c.args.k.now.volume w ino) c.args.k.now c.unlink.new.self c.args.data.now c.args.power.now c.unlink.new.power c.in-Err.fault (c.in-Err.ensures.answer, c.in-Err.ensures.paid)

@@ -1,0 +1,163 @@
+//! The calls that look at an open file: its bytes, its offset, its length.
+ghost use Rattle.std.specs.Prelude.{◌≡◌, ◌<◌, length, false, true, IfNone, IfOk, IfSome, Ok};
+ghost use Rattle.pm_lines.specs.pm_model.Images.{words_of};
+ghost use Rattle.pm_lines.specs.pm_model.Powers.{is_on, Supply};
+ghost use Rattle.live_step_laws.specs.data_route.Reads.{read_len};
+ghost use Rattle.live_step_laws.specs.file_reads.Reads.{bytes_in};
+ghost use Rattle.eof_laws.specs.file_table.Files.{Files, runs_in, size_in};
+ghost use Rattle.eof_laws.specs.k_split_model.View.{View};
+ghost use Rattle.posix_types.specs.declared.call.Call.{Call};
+ghost use Rattle.posix_tables.specs.Open.{may_read};
+ghost use Rattle.file_calls.specs.Answers.{IsEnded};
+ghost use Rattle.file_calls.specs.Reading.{base_by, IsReadableFile, IsReadBy};
+ghost use Rattle.file_calls.specs.Runs.{RunsInSome};
+
+use crate::names::{
+    Collection, FileTable, KSplit, NoMemory, OpenFiles, Opened, Told, answered, read_bytes,
+};
+use posix_tables::bytes::moved_place;
+use posix_types::{Data, Errno, Handle, Reply, Whence, Who};
+use std::alloc::{AllocError, Global};
+
+// The bytes of a file from a place on, `count` of them or those up to its end.
+fn bytes_at(
+    alloc: Global,
+    k: &KSplit,
+    data: &FileTable,
+    ino: u32,
+    place: u64,
+    count: u64,
+) -> Result<Vec<u8>, AllocError>
+    requires { IsReadableFile k.now data.now ino }
+    ensures { IfOk result (λ bytes. bytes.items ≡ bytes_in k.now.volume (words_of k.now.cells)
+        (runs_in data.now ino) ino place (read_len (size_in data.now ino) place count)) }
+{
+    let mut collection = Collection::new(alloc);
+    read_bytes(
+        alloc,
+        k,
+        ino,
+        data.size(ino),
+        place,
+        count,
+        data.overlay(ino),
+        &mut collection,
+    )
+}
+
+// The file of a handle, where it was opened to be read.
+fn opened_to_read(files: &OpenFiles, who: Who, handle: Handle) -> Option<Opened>
+    ensures none { IfNone result (may_read files.now.tables who handle ≡ false) }
+    ensures some { IfSome result (IsReadBy files.now.tables who handle) }
+{
+    match files.find(who, handle) {
+        Some(opened) if opened.flags.read => Some(opened),
+        _ => None,
+    }
+}
+
+/// Reads up to `count` bytes of an open file from its offset on, which rises by their number. It
+/// takes memory for what it reads, and no step.
+pub fn read(
+    alloc: Global,
+    k: &KSplit,
+    files: &mut OpenFiles,
+    data: &FileTable,
+    who: Who,
+    handle: Handle,
+    count: u64,
+) -> Result<Told, NoMemory>
+    requires { RunsInSome k.now files.old.tables data.now }
+    ensures { (power : Supply) → is_on power ≡ true
+        → IsEnded who (Call.Read handle count) k.now files.old.tables data.now k.now
+        files.new.tables data.now power power result }
+{
+    match opened_to_read(files, who, handle) {
+        None => Ok(answered(Reply::Error(Errno::EBADF))),
+        Some(opened) => {
+            let bytes = bytes_at(alloc, k, data, opened.ino, opened.offset, count)?;
+            files.set_offset(opened.key, opened.offset + bytes.len() as u64);
+            Ok(answered(Reply::Bytes(Data { bytes })))
+        }
+    }
+}
+
+/// Reads up to `count` bytes of an open file from `place` on; its offset stays. It takes memory for
+/// what it reads, and no step.
+pub fn pread(
+    alloc: Global,
+    k: &KSplit,
+    files: &OpenFiles,
+    data: &FileTable,
+    who: Who,
+    handle: Handle,
+    place: u64,
+    count: u64,
+) -> Result<Told, NoMemory>
+    requires { RunsInSome k.now files.now.tables data.now }
+    ensures { (power : Supply) → is_on power ≡ true
+        → IsEnded who (Call.Pread handle place count) k.now files.now.tables data.now k.now
+        files.now.tables data.now power power result }
+{
+    match opened_to_read(files, who, handle) {
+        None => Ok(answered(Reply::Error(Errno::EBADF))),
+        Some(opened) => {
+            let bytes = bytes_at(alloc, k, data, opened.ino, place, count)?;
+            Ok(answered(Reply::Bytes(Data { bytes })))
+        }
+    }
+}
+
+// What a seek counts from.
+fn base_of(data: &FileTable, opened: Opened, whence: Whence) -> u64
+    requires { opened.ino < length data.now.sizes }
+    ensures { result ≡ base_by opened.offset (size_in data.now opened.ino) whence }
+{
+    match whence {
+        Whence::Set => 0,
+        Whence::Cur => opened.offset,
+        Whence::End => data.size(opened.ino),
+    }
+}
+
+/// Sets the offset of an open file: it counts from the start, from the offset or from the end of
+/// the file. It takes no memory and no step.
+pub fn seek(
+    k: &KSplit,
+    files: &mut OpenFiles,
+    data: &FileTable,
+    who: Who,
+    handle: Handle,
+    whence: Whence,
+    by: i64,
+) -> Told
+    requires { RunsInSome k.now files.old.tables data.now }
+    ensures { (power : Supply) → is_on power ≡ true
+        → IsEnded who (Call.Seek handle whence by) k.now files.old.tables data.now k.now
+        files.new.tables data.now power power (Ok result) }
+{
+    let _k = k;
+    match files.find(who, handle) {
+        None => answered(Reply::Error(Errno::EBADF)),
+        Some(opened) => match moved_place(base_of(data, opened, whence), by) {
+            None => answered(Reply::Error(Errno::EINVAL)),
+            Some(place) => {
+                files.set_offset(opened.key, place);
+                answered(Reply::Offset(place))
+            }
+        },
+    }
+}
+
+/// Answers an `fsync`: no call sees what it publishes, so this takes no step. What is staged of the
+/// file the layer above has published before.
+pub fn fsync(files: &OpenFiles, who: Who, handle: Handle) -> Told
+    ensures { (k : View) (f : Files) (power : Supply) → is_on power ≡ true
+        → IsEnded who (Call.Fsync handle) k files.now.tables f k files.now.tables f power power
+        (Ok result) }
+{
+    match files.find(who, handle) {
+        None => answered(Reply::Error(Errno::EBADF)),
+        Some(_) => answered(Reply::Ok),
+    }
+}

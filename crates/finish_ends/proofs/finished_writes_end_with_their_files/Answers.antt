@@ -1,5 +1,0 @@
-use Rattle.finish_ends.proofs.Finished.{end_finished, leaves_no_shorter}
-use Rattle.finish_ends.proofs.finished_writes_end_with_their_files.Goals as goal
-
-pub returns : goal.returns
-returns c = record { longer = leaves_no_shorter; finished = end_finished }

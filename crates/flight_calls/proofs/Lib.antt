@@ -1,3 +1,0 @@
-mod SeekCalls
-mod Sizes
-pub mod ReadCalls

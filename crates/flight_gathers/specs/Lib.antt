@@ -1,3 +1,0 @@
-pub mod Laws
-pub use Rattle.flight_relinks.specs as flight_relinks
-pub use Rattle.flight_relinks.specs.standing_facts as standing_facts

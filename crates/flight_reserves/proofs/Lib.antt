@@ -1,2 +1,0 @@
-mod Restaged
-mod Reserved

@@ -1,8 +1,0 @@
-use Rattle.flight_reserves.proofs.Reserved.{keeps_reserved, stands_reserved}
-use Rattle.flight_reserves.proofs.a_run_is_reserved_in_flight.Goals as goal
-
-pub returns-clause-done : goal.returns-clause-done
-returns-clause-done c = stands_reserved
-
-pub returns-clause-cut : goal.returns-clause-cut
-returns-clause-cut c = keeps_reserved

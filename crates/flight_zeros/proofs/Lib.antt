@@ -1,5 +1,0 @@
-pub mod Reading
-pub mod Places
-pub mod Refilled
-pub mod Zeroed
-pub mod ZeroReads

@@ -1,6 +1,0 @@
--- the law of the definitions
-use Rattle.image_facts.specs.ClaimLaws.{claim-past}
-use Rattle.image_facts.proofs.claims_stand_in_lines.Goals as goal
-
-pub returns : goal.returns
-returns c = claim-past

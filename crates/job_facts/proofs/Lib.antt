@@ -1,5 +1,0 @@
-mod Blocks
-mod Bytes
-pub mod Begins
-pub mod Ends
-pub mod Staged

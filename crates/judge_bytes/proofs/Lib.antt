@@ -1,3 +1,0 @@
-pub mod WantedLaws
-pub mod EffectLaws
-pub mod NearestLaws

@@ -1,8 +1,0 @@
-use Rattle.std.proofs.Common.{◌≡◌, ◌<◌, ℕ, length, slice_index}
-use Rattle.judge_bytes.specs.Nearest.{nearest}
-use Rattle.judge_bytes.proofs.nearest.nearest_bytes.Given as goal
-
-abbrev pub invariant-loop-i : goal.invariant-loop-i
-invariant-loop-i l =
-    (length l.bytes.items ≡ l.i)
-    × ((k : ℕ) → k < l.i → slice_index l.bytes.items k ≡ nearest l.effects l.extra l.n k (slice_index l.v-items k) (slice_index l.want k))

@@ -1,6 +1,0 @@
-use Rattle.std.proofs.Common.{◌≡◌, ◌≤◌, length}
-use Rattle.k_plans.specs.map_rules.Changes.{holes}
-use Rattle.k_map_plans.proofs.filling.hole_count.Given as goal
-
-abbrev pub invariant-loop-place : goal.invariant-loop-place
-invariant-loop-place l = record { most : l.found ≤ l.place; count : l.found ≡ length (holes l.map l.first l.place) }

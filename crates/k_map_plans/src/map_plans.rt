@@ -1,0 +1,24 @@
+//! The changes of maps, planned on the tables.
+//!
+//! A plan sets free blocks aside, lets an inode go over to its new map, and puts its line into an
+//! empty `Batch`. It changes no map before it has all memory; blocks that nothing has any longer are
+//! free at its end, so that it has to be landed before another change is planned. The layer above may
+//! rely on this: the answer is one clause by cases, over the definitions of `k_split_model` (`IsSized`),
+//! and comes with the map that is to be written before the lines are landed (`IsMapPlan`); for want of
+//! memory tables and batch are as before.
+
+mod filling;
+mod going;
+mod lists;
+mod moving;
+mod sizing;
+mod staging;
+
+pub use filling::{may_fill, plan_fill};
+pub use k_plans::{
+    Batch, Commit, Geometry, Kind, NewMap, PlanFault, Recovered, Tables, fresh_image, land,
+    land_maps, read_base, read_inodes, read_maps, read_names, recover,
+};
+pub use moving::plan_move;
+pub use sizing::plan_size;
+pub use staging::{plan_give_up, plan_preallocate};

@@ -1,0 +1,48 @@
+//! One inode goes over to another map.
+ghost use Rattle.std.specs.Prelude.{◌≡◌, [], All, IfOk, OnErr};
+ghost use Rattle.k_relink.specs.extent_model.Extents.{IsExtent};
+ghost use Rattle.k_map_plans.specs.Going.{HasGoneOver, MayGoOver};
+ghost use Rattle.k_plans.specs.Switching.{WaitOnce};
+
+use crate::map_plans::lists::push_extents;
+use block_counts::chains_for;
+use extent_map::{Extent, ExtentMap};
+use k_plans::{Batch, NewMap, Tables};
+use layout_model::Inode;
+use std::alloc::{AllocError, Global};
+
+/// Sets blocks for a chain aside, gives the inode this line and this map, and plans it. The old
+/// chain and what is freed of the old map wait then. After an error blocks may be set aside, and
+/// nothing else is changed.
+pub(crate) fn go_over(
+    alloc: Global,
+    tables: &mut Tables,
+    batch: &mut Batch,
+    ino: u32,
+    inode: &Inode,
+    map: &ExtentMap,
+    freed: &[Extent],
+) -> Result<NewMap, AllocError>
+    requires empty { batch.old ≡ [] }
+    requires may { MayGoOver tables.old ino inode.now map.now freed.now }
+    requires freed { All IsExtent freed.now }
+    ensures once { WaitOnce tables.new }
+    ensures gone { IfOk result (HasGoneOver ino inode.now map.now tables.old tables.new batch.new) }
+    ensures err { OnErr result (tables.new.volume ≡ tables.old.volume) }
+    ensures no_lines { OnErr result (batch.new ≡ []) }
+{
+    let own = map.copied(alloc)?;
+    let written = map.copied(alloc)?;
+    let mut waiting = Vec::from_slice(alloc, tables.chain(ino))?;
+    push_extents(&mut waiting, freed)?;
+    let count = chains_for(map.extents().len() as u64) as u32;
+    let Some(blocks) = tables.set_aside(count)? else {
+        unreachable!()
+    };
+    let chain = Vec::from_slice(alloc, &blocks)?;
+    tables.switch(batch, ino, inode, own, chain, waiting);
+    Ok(NewMap {
+        blocks,
+        map: written,
+    })
+}

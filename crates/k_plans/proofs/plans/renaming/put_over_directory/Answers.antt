@@ -1,0 +1,14 @@
+use Rattle.std.proofs.Common.{[], subst, sym}
+use Rattle.std.specs.Prelude.{None}
+use Rattle.k_tables.specs.image_model.Reading.{node_set, row_set}
+use Rattle.k_plans.specs.LandingsPlans.{Turns}
+use Rattle.k_plans.specs.PlanLaws.{turns-none}
+use Rattle.k_plans.proofs.plans.renaming.put_over_directory.Goals as goal
+
+pub returns-clause-turns : goal.returns-clause-turns
+returns-clause-turns c = λ v root extents.
+    let without = node_set c.args.target.child c.args.gone.now v in
+    c.put_name.ensures.turns [] v (row_set c.args.target.line None without)
+    (c.clear_name.ensures.turns [] v without
+    (c.put_inode.ensures.node [] v v root extents
+    (subst (Turns c.args.geometry.now [] v v) (sym c.requires.empty) (turns-none c.args.geometry.now [] v))))

@@ -1,5 +1,0 @@
-use Rattle.k_tables.specs.name_facts.KeptLaws.{kept-acyclic}
-use Rattle.k_plans.proofs.tables.Tables.rename.Goals as goal
-
-pub entries_to_rename-requires : goal.entries_to_rename-requires
-entries_to_rename-requires c = kept-acyclic _ c.self.invariant.whole.kept.kept c.self.invariant.whole.kept.all

@@ -1,0 +1,116 @@
+-- A file without a name and a description goes beside writes in flight: what they may leave is the same.
+use Rattle.std.specs.Prelude.{◌≡◌, ◌≢◌, ◌≤◌, ◌==◌, ◌||◌, ℕ, zero, suc, Bool, true, false, List, [], ◌∷◌, map, slice_get, slice_set, Some, refl, if◌then◌else◌}
+use Rattle.std.specs.List.{list_any}
+use Rattle.std.proofs.Common.{arith, ap, ◌∙◌, sym, subst, inl, inr}
+use Rattle.world_write_laws.specs.world_step_laws.pm_model.Words.{Words}
+use Rattle.world_write_laws.specs.world_step_laws.layout_model.declared.lines.Draft.{Draft}
+use Rattle.world_write_laws.specs.world_step_laws.image_model.Volume.{Volume}
+use Rattle.world_write_laws.specs.world_step_laws.posix_types.declared.handle.Handle.{Handle}
+use Rattle.world_write_laws.specs.world_step_laws.posix_types.declared.item.Item.{Item}
+use Rattle.world_write_laws.specs.world_step_laws.posix_types.declared.tree.TreeEntry.{TreeEntry}
+use Rattle.world_write_laws.specs.world_step_laws.posix_tables.declared.nodes.Node.{Node}
+use Rattle.world_write_laws.specs.world_step_laws.posix_tables.Names.{is_named}
+use Rattle.world_write_laws.specs.world_step_laws.posix_tables.Open.{describes, is_open}
+use Rattle.world_write_laws.specs.world_step_laws.posix_spec.Run.{after_call, Begun}
+use Rattle.world_write_laws.specs.world_step_laws.posix_spec.State.{alone, room, State, swept, with_node}
+use Rattle.world_write_laws.specs.world_step_laws.posix_spec.Tree.{tree}
+use Rattle.world_write_laws.specs.world_step_laws.crash_spec.Strict.{StrictFrom}
+use Rattle.world_write_laws.specs.world_step_laws.commute_laws.Flights.{InFlight, IsHeld-put, LeavesAlone-put}
+use Rattle.world_write_laws.specs.world_step_laws.commute_laws.Handles.{slot_of}
+use Rattle.world_write_laws.specs.world_step_laws.commute_laws.Needs.{AreInFlight, AreInFlight-step, begun_of, FitsBeside-put, Flight, IsApart, LetsAllBe, needs, needs-cons, needs-step}
+use Rattle.world_write_laws.specs.world_step_laws.commute_laws.Rooms.{room-step}
+use Rattle.world_image_laws.specs.commute_laws.Acted.{acted, Change, node-acted, Touches}
+use Rattle.world_image_laws.specs.commute_laws.Orders.{AreTwoEach}
+use Rattle.world_image_laws.specs.commute_laws.Pairs.{Acts-twice, ActsTwice}
+use Rattle.world_write_laws.specs.world_step_laws.posix_laws.Views.{AreAfforded}
+use Rattle.world_write_laws.specs.world_step_laws.world_model.Jobs.{Job, live_claims}
+use Rattle.world_write_laws.specs.world_step_laws.RemoveCalls.{swept-gone}
+use Rattle.world_write_laws.specs.world_step_laws.Steps.{AreInFlight-jobs, begun-flights, flights_of}
+use Rattle.world_write_laws.specs.world_step_laws.Worlds.{IsWorld}
+use Rattle.world_image_laws.specs.Unseen.{tree-swept}
+use Rattle.k_split_laws.specs.Gone.{flying_gone, seen_gone}
+use Rattle.k_split_laws.specs.Laws.{LeadsSwept}
+
+-- ---- the change of a write
+
+any_set : {X : Type 0} (p : X → Bool) (xs : List X) (n : ℕ) (x y : X) → slice_get xs n ≡ Some x → p y ≡ p x → list_any p (slice_set xs n y) ≡ list_any p xs
+any_set p [] n x y is same = refl
+any_set p (z ∷ zs) zero x y is same = let one : z ≡ x = cc in ap (λ b. b || list_any p zs) (same ∙ ap p (sym one))
+any_set p (z ∷ zs) (suc n) x y is same = ap (λ b. p z || b) (any_set p zs n x y is same)
+
+-- opens nothing, and closes nothing
+open_acted : (s : State) (c : Begun) (h : Handle) (change : Change) (n : ℕ) → Touches s c.0 h change → is_open (acted s change).tables n ≡ is_open s.tables n
+open_acted s c h change n t =
+    any_set (describes n) s.tables.descriptions change.key (Some t.by) (Some change.to) (slot_of s.tables change.key t.by t.opens.stands) (ap (λ (k : ℕ). k == n) (t.to_node ∙ sym t.by_node))
+
+-- ---- writes in flight
+
+-- a write lets the others be
+lets_others : (s : State) (f : Flight) (flights : List Flight) → InFlight s f.begun f.node f.whole → IsApart f flights → LetsAllBe s f.begun flights
+lets_others s f [] flight apart = tt
+lets_others s f (g ∷ flights) flight apart = (
+  record { threads = apart.0.threads; aside = LeavesAlone-put s f.begun f.node g.node f.whole flight apart.0.files },
+  lets_others s f flights flight apart.1,
+)
+
+-- What is left of the others once one has acted.
+record AreLeftBy (s : State) (f : Flight) (flights : List Flight) : Type 0 where
+  on : AreInFlight (after_call s f.begun) flights
+  fits : needs (after_call s f.begun) flights ≤ room (after_call s f.begun)
+
+left_by : (s : State) (f : Flight) (flights : List Flight) → AreInFlight s (f ∷ flights) → AreTwoEach (f ∷ flights) → needs s (f ∷ flights) ≤ room s → AreLeftBy s f flights
+left_by s f flights flying two fits =
+    let sum = needs-cons s f flights in
+    let lets = lets_others s f flights flying.0 two.0 in
+    let both = FitsBeside-put s f.begun.0 f.begun.1 f.node f.whole (needs s flights) flying.0.puts (omega (arith, sum, fits)) in
+    let left_over = room-step s f.begun (needs s flights) (omega (arith, sum, fits)) both in
+    record {
+      on = AreInFlight-step s f.begun flights flying.1 lets left_over;
+      fits = omega (arith, needs-step s f.begun flights flying.1 lets, left_over);
+    }
+
+-- ---- a node goes
+
+-- it is no file of a write
+apart_from : (s : State) (n : ℕ) (f : Flight) → InFlight s f.begun f.node f.whole → is_open s.tables n ≡ false → f.node ≢ n
+apart_from s n f flight shut same =
+    let held_there = IsHeld-put s f.begun.0 f.begun.1 f.node f.whole flight.file flight.puts flight.is in
+    let never : true ≡ false = sym held_there.held_open ∙ (ap (is_open s.tables) same ∙ shut) in
+    cc
+
+strict_gone : (s : State) (n : ℕ) (flights : List Flight) (left : List TreeEntry) → n ≢ 0 → is_named s.entries n ≡ false → is_open s.tables n ≡ false → AreInFlight s flights → AreTwoEach flights → needs s flights ≤ room s
+    → StrictFrom s (map begun_of flights) left → StrictFrom (with_node s n Node.Gone) (map begun_of flights) left
+strict_gone s n [] left other unnamed shut flying two fits is = is ∙ (sym (tree-swept s n other) ∙ ap tree (swept-gone s n unnamed shut))
+strict_gone s n (f ∷ flights) left other unnamed shut flying two fits (inr idle) =
+    let sum = needs-cons s f flights in
+    inr (strict_gone s n flights left other unnamed shut flying.1 two.1 (omega (arith, sum, fits)) idle)
+strict_gone s n (f ∷ flights) left other unnamed shut flying two fits (inl acts) =
+    let seen = seen_gone s n shut f.begun f.node f.whole flying.0 in
+    let again = flying_gone s n shut (f ∷ flights) flying fits in
+    let twice : ActsTwice s (with_node s n Node.Gone) f.begun f.node = Acts-twice s (with_node s n Node.Gone) f.begun.0 f.begun.1 f.node f.whole flying.0.file flying.0.puts flying.0.is seen again.0.puts in
+    let rest = left_by s f flights flying two fits in
+    let named_then : is_named (after_call s f.begun).entries n ≡ false = ap (λ x. is_named x.entries n) twice.now.is ∙ unnamed in
+    let shut_then : is_open (after_call s f.begun).tables n ≡ false = ap (λ x. is_open x.tables n) twice.now.is ∙ (open_acted s f.begun twice.handle twice.change n twice.now.touches ∙ shut) in
+    let apart : twice.change.node ≢ n = λ same. apart_from s n f flying.0 shut (sym twice.now.node_is ∙ same) in
+    let ends : with_node (after_call s f.begun) n Node.Gone ≡ after_call (with_node s n Node.Gone) f.begun =
+    ap (λ x. with_node x n Node.Gone) twice.now.is ∙ (node-acted s twice.change n Node.Gone apart ∙ sym twice.later.is)
+    in
+    inl (subst (λ x. StrictFrom x (map begun_of flights) left) ends (strict_gone (after_call s f.begun) n flights left other named_then shut_then rest.on two.1 rest.fits acts))
+
+-- A file that goes once nobody names it and nobody has it open leaves what the writes may leave.
+strict_swept : (s : State) (n : ℕ) (flights : List Flight) (left : List TreeEntry) → n ≢ 0 → AreInFlight s flights → AreTwoEach flights → needs s flights ≤ room s
+    → StrictFrom s (map begun_of flights) left → StrictFrom (swept alone s n) (map begun_of flights) left
+unfolding swept
+strict_swept s n flights left other flying two fits is = by (is_named s.entries n) refl (is_open s.tables n) refl where
+  by : (named : Bool) → is_named s.entries n ≡ named → (there : Bool) → is_open s.tables n ≡ there
+      → StrictFrom (if is_named s.entries n || is_open s.tables n then s else with_node s n Node.Gone) (map begun_of flights) left
+  by true named there open_is = rw named is
+  by false named true open_is = rw (named, open_is) is
+  by false named false open_is = rw (named, open_is) (strict_gone s n flights left other named open_is flying two fits is)
+
+pub leads_swept : LeadsSwept
+leads_swept v claims jobs f numbers s count n start history c world other two leads left is =
+    let flying = AreInFlight-jobs v (live_claims v claims) f numbers s jobs world.valid.stands world.valid.out in
+    let begun = begun-flights numbers jobs in
+    let fits : needs s (flights_of numbers jobs) ≤ room s = subst (AreAfforded s) (sym begun) world.valid.room in
+    leads left (subst (λ cs. StrictFrom (swept alone s n) cs left) begun (strict_swept s n (flights_of numbers jobs) left other flying two fits (subst (λ cs. StrictFrom s cs left) (sym begun) is)))

@@ -1,8 +1,0 @@
-use Rattle.std.proofs.Common.{◌≡◌, ◌++◌, drop, map}
-use Rattle.k_tables.specs.Trees.{child_place}
-use Rattle.k_tables.proofs.trees.push_children.Given as goal
-
-abbrev pub invariant-loop-name : goal.invariant-loop-name
-invariant-loop-name l =
-    l.found.items ++ map (child_place l.names l.place) (drop l.name-index l.name-items)
-    ≡ l.fn.found.items ++ map (child_place l.names l.place) l.name-items

@@ -1,3 +1,0 @@
-pub mod FoundLaws
-pub mod CheckedLaws
-pub mod RestagedLaws

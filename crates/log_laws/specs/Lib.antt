@@ -1,0 +1,23 @@
+pub mod LiveLaws
+pub mod Logs
+pub mod Orders
+pub mod ReplaysLaws
+pub use Rattle.world_write_laws.specs.block_counts
+pub use Rattle.world_write_laws.specs.commute_laws
+pub use Rattle.world_write_laws.specs.crash_spec
+pub use Rattle.world_write_laws.specs.image_model
+pub use Rattle.world_write_laws.specs.extent_model
+pub use Rattle.world_image_laws.specs.image_laws
+pub use Rattle.world_write_laws.specs.k_split_model
+pub use Rattle.world_write_laws.specs.layout_model
+pub use Rattle.world_write_laws.specs.list_laws
+pub use Rattle.world_write_laws.specs.name_laws
+pub use Rattle.world_write_laws.specs.pm_model
+pub use Rattle.world_write_laws.specs.posix_laws
+pub use Rattle.world_write_laws.specs.posix_spec
+pub use Rattle.world_write_laws.specs.posix_types
+pub use Rattle.world_write_laws.specs.posix_tables
+pub use Rattle.world_write_laws.specs.volume_laws
+pub use Rattle.world_write_laws.specs.world_model
+pub use Rattle.world_write_laws.specs.world_step_laws
+pub use Rattle.world_write_laws.specs as world_write_laws

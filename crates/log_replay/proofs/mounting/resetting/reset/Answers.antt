@@ -1,0 +1,69 @@
+use Rattle.std.proofs.Common.{◌≡◌, ◌∙◌, ap, arith, sym, true}
+use Rattle.k_check.specs.layout_model.Places.{Geometry}
+use Rattle.k_check.specs.pm_model.Powers.{is_on}
+use Rattle.log_replay.proofs.Devices.{device-none, device-then}
+use Rattle.log_replay.proofs.Keeping.{images-own, shows-first}
+use Rattle.log_replay.proofs.Spending.{spent-none, spent-then}
+use Rattle.log_replay.proofs.Resets.{way-begins, way-ends, way-images, way-may, way-next}
+use Rattle.log_replay.specs.Resets.{IsResetOne}
+use Rattle.log_replay.proofs.mounting.resetting.reset.Goals as goal
+
+pub returns-then-not-on-clause-spent : goal.returns-then-not-on-clause-spent
+returns-then-not-on-clause-spent c = spent-none c.args.power.now
+
+pub loop-ino-init : goal.loop-ino-init
+loop-ino-init c = (way-begins c.args.k.now c.requires, spent-none c.args.power.now, sym c.on.ensures ∙ c.if-not-on.false, device-none c.args.k.now.cells)
+
+pub reset_one-requires-clause-may : goal.reset_one-requires-clause-may
+reset_one-requires-clause-may c = way-may c.args.k.now c.loop-ino.k c.loop-ino.ino c.loop-ino.invariant.0
+
+pub loop-ino-preserved : goal.loop-ino-preserved
+loop-ino-preserved c =
+    let one : IsResetOne c.loop-ino.ino c.loop-ino.k c.reset_one.new.k = rw c.in-Done.is at c.in_ok-commit.ensures.done in
+    let on : is_on c.reset_one.new.power ≡ true = rw c.in-Done.is at c.in_ok-commit.ensures.paid in (
+      way-next c.args.k.now c.loop-ino.k c.reset_one.new.k c.loop-ino.ino c.loop-ino.invariant.0 one,
+      spent-then c.args.power.now c.loop-ino.power c.reset_one.new.power c.loop-ino.invariant.1 c.reset_one.ensures.spent,
+      on,
+      device-then c.args.k.now.cells c.loop-ino.k.cells c.reset_one.new.k.cells c.loop-ino.invariant.3 c.reset_one.ensures.device,
+    )
+
+pub returns-in_err-commit-clause-spent : goal.returns-in_err-commit-clause-spent
+returns-in_err-commit-clause-spent c =
+    spent-then c.args.power.now c.loop-ino.power c.reset_one.new.power c.loop-ino.invariant.1 c.reset_one.ensures.spent
+
+pub returns-in-PowerLost-clause-spent : goal.returns-in-PowerLost-clause-spent
+returns-in-PowerLost-clause-spent c =
+    spent-then c.args.power.now c.loop-ino.power c.reset_one.new.power c.loop-ino.invariant.1 c.reset_one.ensures.spent
+
+pub returns-clause-done : goal.returns-clause-done
+returns-clause-done c =
+    way-ends c.args.k.now c.loop-ino.k c.loop-ino.ino c.loop-ino.invariant.0
+    (omega (arith, ap (λ (g : Geometry). g.inodes) (c.behind-k.view_is ∙ c.geometry.ensures)))
+
+pub returns-then-not-on-clause-images : goal.returns-then-not-on-clause-images
+returns-then-not-on-clause-images c = images-own c.args.k.now c.args.k.now c.requires.quiet.rest.single (shows-first c.args.k.now c.requires.quiet)
+
+pub returns-in_err-commit-clause-images : goal.returns-in_err-commit-clause-images
+returns-in_err-commit-clause-images c =
+    way-images c.args.k.now c.loop-ino.k c.loop-ino.ino c.reset_one.new.k.cells c.requires.quiet.rest.single c.loop-ino.invariant.0 c.reset_one.ensures.images
+
+pub returns-in-PowerLost-clause-images : goal.returns-in-PowerLost-clause-images
+returns-in-PowerLost-clause-images c =
+    way-images c.args.k.now c.loop-ino.k c.loop-ino.ino c.reset_one.new.k.cells c.requires.quiet.rest.single c.loop-ino.invariant.0 c.reset_one.ensures.images
+
+pub returns-clause-images : goal.returns-clause-images
+returns-clause-images c = images-own c.args.k.now c.loop-ino.k c.requires.quiet.rest.single c.loop-ino.invariant.0.shows
+
+pub returns-then-not-on-clause-device : goal.returns-then-not-on-clause-device
+returns-then-not-on-clause-device c = device-none c.args.k.now.cells
+
+pub returns-in_err-commit-clause-device : goal.returns-in_err-commit-clause-device
+returns-in_err-commit-clause-device c =
+    device-then c.args.k.now.cells c.loop-ino.k.cells c.reset_one.new.k.cells c.loop-ino.invariant.3 c.reset_one.ensures.device
+
+pub returns-in-PowerLost-clause-device : goal.returns-in-PowerLost-clause-device
+returns-in-PowerLost-clause-device c =
+    device-then c.args.k.now.cells c.loop-ino.k.cells c.reset_one.new.k.cells c.loop-ino.invariant.3 c.reset_one.ensures.device
+
+pub returns-clause-device : goal.returns-clause-device
+returns-clause-device c = c.loop-ino.invariant.3

@@ -1,9 +1,0 @@
-use Rattle.std.proofs.Common.{◌≡◌, ◌*◌, ◌^◌, drop, true}
-use Rattle.replay_facts.specs.pm_words.Powers.{is_on, Steps}
-use Rattle.k_mount.specs.Sheds.{IsSameDevice}
-use Rattle.log_replay.proofs.Steps.{IsOnTheWay}
-use Rattle.log_replay.proofs.replays.replay.Given as goal
-
-abbrev pub invariant-loop-entry : goal.invariant-loop-entry
-invariant-loop-entry l =
-    IsOnTheWay l.fn.k (drop l.entry-index l.entries) l.k × Steps (2 ^ 15 * l.entry-index) l.fn.power l.power × (is_on l.power ≡ true) × IsSameDevice l.fn.k.cells l.k.cells

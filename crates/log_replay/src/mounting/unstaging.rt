@@ -1,0 +1,32 @@
+//! Staging files give up their blocks.
+ghost use Rattle.log_replay.specs.Replays.{ShowsTheSame};
+ghost use Rattle.k_check.specs.pm_model.Images.{Follows};
+ghost use Rattle.log_replay.specs.Sheds.{IsSameDevice};
+ghost use Rattle.log_replay.specs.Quiet.{IsQuiet, IsSpent, IsSweepPaid, OnDone};
+ghost use Rattle.log_replay.specs.Sweeps.{AreUnstaged};
+
+use k_check::Commit;
+use pm_lines::Power;
+use staging_files::{KSplit, Staging};
+use std::alloc::{AllocError, Global};
+
+/// All staging files give up their blocks; no entry of the log is live. `PowerLost` comes exactly where the power
+/// is off at the return.
+///
+/// # Errors
+///
+/// Out of memory alone.
+pub(crate) fn unstage(
+    alloc: Global,
+    k: &mut KSplit,
+    power: &mut Power,
+) -> Result<Commit, AllocError>
+    requires { IsQuiet k.old }
+    ensures spent { IsSpent power.old power.new }
+    ensures paid { IsSweepPaid power.new result }
+    ensures done { OnDone result (AreUnstaged k.old k.new) }
+    ensures images { Follows (ShowsTheSame k.old.volume.geometry) k.old.cells k.new.cells }
+    ensures device { IsSameDevice k.old.cells k.new.cells }
+{
+    Staging::new(alloc).give_up_all(alloc, k, power)
+}

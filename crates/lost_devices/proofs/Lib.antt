@@ -1,2 +1,0 @@
-pub mod Cuts
-pub use Rattle.k_split.proofs as k_split_proofs

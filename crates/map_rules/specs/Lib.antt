@@ -1,9 +1,0 @@
-pub mod Changes
-pub mod Example
-pub mod Taken
-pub mod Zeros
-pub use Rattle.disk_rules.specs as disk_rules
-pub use Rattle.disk_rules.specs.block_counts as block_counts
-pub use Rattle.disk_rules.specs.disk_lines as disk_lines
-pub use Rattle.disk_rules.specs.disk_places as disk_places
-pub use Rattle.disk_rules.specs.extent_words as extent_words

@@ -1,7 +1,0 @@
-//! The changes on a small volume.
-ghost use Rattle.map_rules.specs.Example.{AreChangesOfExample};
-
-/// What the changes of maps make of a small volume.
-pub fn maps_of_a_small_volume_change()
-    ensures { AreChangesOfExample }
-{}

@@ -1,2 +1,0 @@
-pub mod Overlays
-pub use Rattle.job_facts.proofs as job_facts_proofs

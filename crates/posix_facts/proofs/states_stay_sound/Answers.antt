@@ -1,9 +1,0 @@
-use Rattle.posix_facts.specs.DistinctLaws.{AreDistinct-step_of}
-use Rattle.posix_facts.specs.FitsLaws.{Fits-step_of}
-use Rattle.posix_facts.proofs.states_stay_sound.Goals as goal
-
-pub returns-clause-fits : goal.returns-clause-fits
-returns-clause-fits c = Fits-step_of
-
-pub returns-clause-distinct : goal.returns-clause-distinct
-returns-clause-distinct c = AreDistinct-step_of

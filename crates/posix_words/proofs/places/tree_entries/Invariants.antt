@@ -1,7 +1,0 @@
-use Rattle.std.proofs.Common.{◌≡◌, ◌++◌, drop, map}
-use Rattle.posix_words.specs.Places.{tree_entry}
-use Rattle.posix_words.proofs.places.tree_entries.Given as goal
-
-abbrev pub invariant-loop-place : goal.invariant-loop-place
-invariant-loop-place l =
-    l.tree.items ++ map (tree_entry l.nodes) (drop l.place-index l.place-items) ≡ map (tree_entry l.nodes) l.place-items

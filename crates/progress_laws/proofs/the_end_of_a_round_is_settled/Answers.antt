@@ -1,0 +1,14 @@
+use Rattle.progress_laws.proofs.Settled.{ends_with_one_pair, jobs_have_room, returns_have_room, waits_alone}
+use Rattle.progress_laws.proofs.the_end_of_a_round_is_settled.Goals as goal
+
+pub returns-clause-returns : goal.returns-clause-returns
+returns-clause-returns c = returns_have_room
+
+pub returns-clause-jobs : goal.returns-clause-jobs
+returns-clause-jobs c = jobs_have_room
+
+pub returns-clause-numbers : goal.returns-clause-numbers
+returns-clause-numbers c = ends_with_one_pair
+
+pub returns-clause-waits : goal.returns-clause-waits
+returns-clause-waits c = waits_alone

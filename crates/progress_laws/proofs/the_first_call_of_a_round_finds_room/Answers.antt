@@ -1,0 +1,7 @@
+use Rattle.progress_laws.proofs.Finding.{first_calls_have_room}
+use Rattle.progress_laws.proofs.the_first_call_of_a_round_finds_room.Goals as goal
+
+pub returns : goal.returns
+returns c =
+    first_calls_have_room c.the_first_write_finds_its_blocks.ensures c.kept_numbers_are_those_of_the_state.ensures.sizes c.kept_numbers_are_those_of_the_state.ensures.room c.numbers_are_those_of_the_state.ensures.starts c.numbers_are_those_of_the_state.ensures.needs
+    c.jobs_need_what_their_calls_do.ensures

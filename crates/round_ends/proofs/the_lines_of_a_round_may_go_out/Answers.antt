@@ -1,5 +1,0 @@
-use Rattle.round_ends.proofs.Taking.{may_begin}
-use Rattle.round_ends.proofs.the_lines_of_a_round_may_go_out.Goals as goal
-
-pub returns : goal.returns
-returns c = may_begin

@@ -1,7 +1,0 @@
-use Rattle.std.proofs.Common.{◌≡◌, ℕ, ◌<◌}
-use Rattle.std.specs.Prelude.{slice_get, Some}
-use Rattle.round_facts.specs.world_standing.Standing.{Pending}
-use Rattle.round_jobs.proofs.keeping.holder_of.Given as goal
-
-abbrev pub invariant-loop-job : goal.invariant-loop-job
-invariant-loop-job l = (i : ℕ) (p : Pending) → i < l.job-index → slice_get l.pending i ≡ Some p → p.draft.ino ≡ l.ino → p.who ≡ l.who

@@ -1,0 +1,123 @@
+-- The lines of a round come home at its end.
+use Rattle.std.specs.Prelude.{◌≡◌, ◌<◌, ◌+◌, ◌-◌, ◌*◌, ◌/◌, ◌%◌, ℕ, zero, suc, Bool, true, false, Contains, List, [], ◌∷◌, length, refl}
+use Rattle.std.proofs.Common.{arith, ap, ◌∙◌, sym, subst, inl, inr}
+use Rattle.std.proofs.lemmas.List.{length-map}
+use Rattle.std.proofs.Math.ListN.{get_or-map}
+use Rattle.eof_laws.specs.pm_model.declared.Cell.{Cell}
+use Rattle.eof_laws.specs.pm_model.Cells.{AllHome, cell, is_lent}
+use Rattle.eof_laws.specs.pm_model.Parts.{Part}
+use Rattle.world_view_laws.specs.write_end.CrashesLaws.{LinesHoldOut}
+use Rattle.eof_laws.specs.layout_model.declared.lines.Draft.{Draft}
+use Rattle.eof_laws.specs.layout_model.Places.{Geometry, log_line}
+use Rattle.eof_laws.specs.image_model.LogRule.{cells_of_line, HoldsEntry, IsAsAtFirst}
+use Rattle.eof_laws.specs.image_model.Volume.{Volume}
+use Rattle.eof_laws.specs.file_table.Files.{Files}
+use Rattle.file_publish.proofs.Tables.{no-jobs}
+use Rattle.world_view_laws.specs.file_publish.live_model.Flying.{IsOut}
+use Rattle.world_view_laws.specs.file_publish.k_split.Laps.{IsLogWord}
+use Rattle.world_view_laws.specs.file_publish.k_split.Order.{IsInOrder}
+use Rattle.world_view_laws.specs.file_publish.staging_files.Keeps.{Staged}
+use Rattle.world_view_laws.specs.file_publish.live_model.Standing.{StandsAt}
+use Rattle.world_view_laws.specs.file_publish.RoundLinesLaws.{HasTurned, StandsHome}
+use Rattle.eof_laws.specs.k_split_model.View.{View}
+use Rattle.eof_laws.specs.block_io.Lines.{AreFrom, line_at}
+use Rattle.eof_laws.specs.list_laws.Members.{In}
+use Rattle.world_view_laws.specs.write_end.Lines.{HoldClaims}
+use Rattle.world_view_laws.specs.write_end.oplog_entry.LogLines.{cells_of}
+use Rattle.eof_laws.specs.posix_tables.Open.{Tables}
+use Rattle.world_view_laws.specs.Lines.{first_of, HoldTheClaims}
+use Rattle.world_view_laws.specs.Views.{first_by, IsGoing, IsWorldOver, kept_of, state_of, WorldView}
+use Rattle.round_laws.specs.EndsLaws.{IsEnding, MayEnd, MayPutLog}
+
+-- ---- lists
+
+in_contains : {X : Type 0} (xs : List X) (x : X) → In x xs → Contains xs x
+in_contains [] x is = absurd is
+in_contains (y ∷ ys) x (inl same) = (0, omega arith, same)
+in_contains (y ∷ ys) x (inr is) = let k = in_contains ys x is in (suc k.0, omega (arith, k.1), k.2)
+
+contains_in : {X : Type 0} (xs : List X) (x : X) → Contains xs x → In x xs
+contains_in [] x (k, below, is) = absurd (omega (arith, below))
+contains_in (y ∷ ys) x (zero, below, is) = inl is
+contains_in (y ∷ ys) x (suc k, below, is) = inr (contains_in ys x (k, omega (arith, below), is))
+
+pub cells_at : (lines : List Part) (n : ℕ) → cells_of_line (cells_of lines) n ≡ (line_at lines n).cells
+cells_at lines n = get_or-map (λ (line : Part). line.cells) lines n (record { place = 0; cells = [] })
+
+-- ---- they hold the claims
+
+-- claim by claim, and line by line
+pub each_claimed : (w : WorldView) (lines : List Part) → HoldTheClaims w lines → (n : ℕ) (d : Draft) → In (n, d) w.claims → (n < length lines) × HoldsEntry (line_at lines n).cells d (w.base + n)
+each_claimed w lines holds n d at =
+    let was = holds.holds.claimed n d (in_contains w.claims (n, d) at) in
+    let count : length (cells_of lines) ≡ length lines = length-map lines (λ (line : Part). line.cells) in
+    (omega (arith, was.0, count), subst (λ (cells : List Cell). HoldsEntry cells d (w.base + n)) (cells_at lines n) was.1)
+
+pub each_other : (w : WorldView) (lines : List Part) → HoldTheClaims w lines → (n : ℕ) → n < length lines → ((d : Draft) → ¬ In (n, d) w.claims) → IsAsAtFirst (line_at lines n).cells (first_of w n)
+each_other w lines holds n below free =
+    let count : length (cells_of lines) ≡ length lines = length-map lines (λ (line : Part). line.cells) in
+    subst (λ (cells : List Cell). IsAsAtFirst cells (first_of w n)) (cells_at lines n) (holds.holds.unclaimed n (omega (arith, below, count)) (λ d at. free d (contains_in w.claims (n, d) at)))
+
+-- by a volume of the geometry and the base of the World
+pub lines_hold : (v : Volume) (w : WorldView) (lines : List Part) → v.geometry ≡ w.geometry → v.base ≡ w.base → HoldTheClaims w lines → HoldClaims v (first_by w.geometry w.first) w.claims lines
+lines_hold v w lines geometry base holds = record {
+  are = record {
+    count = holds.are.count ∙ sym (ap (λ (g : Geometry). g.log) geometry);
+    places = subst (λ (g : Geometry). AreFrom (log_line g 0) lines) (sym geometry) holds.are.places;
+  };
+  claimed = λ n d at. (let was = each_claimed w lines holds n d at in (was.0, subst (λ b. HoldsEntry (line_at lines n).cells d (b + n)) (sym base) was.1));
+  others = λ n below free. subst (λ (g : Geometry). IsAsAtFirst (line_at lines n).cells (λ j. first_by w.geometry w.first (8 * log_line g n + j))) (sym geometry) (each_other w lines holds n below free);
+}
+
+-- ---- they may be put back
+
+module _ (k : View) (t : Tables) (staging : Staged) (files : Files) (w : WorldView) (lines : List Part) (world : IsWorldOver k t staging files w) (on : w.lost ≡ false) (holds : HoldTheClaims w lines) where
+  going : IsGoing k t staging files w
+  going = world.going on
+
+  standing : StandsAt w.geometry k t (kept_of w staging files) true (length w.history) (state_of w)
+  standing = subst (λ b. StandsAt w.geometry k t (kept_of w staging files) b (length w.history) (state_of w)) holds.are.out going.stands
+
+  hold_claims : HoldClaims k.volume (first_by w.geometry w.first) w.claims lines
+  hold_claims = lines_hold k.volume w lines going.stands.geometry (sym going.base) holds
+
+  lent : (i : ℕ) → IsLogWord k.volume i → is_lent (cell k.cells i) ≡ true
+  lent i at =
+      let place : 8 * log_line k.volume.geometry (i / 8 - log_line k.volume.geometry 0) + i % 8 ≡ i = omega (arith, at.from) in
+      let below : i / 8 - log_line k.volume.geometry 0 < k.volume.geometry.log = omega (arith, at.from, at.below) in
+      subst (λ m. is_lent (cell k.cells m) ≡ true) place (standing.lines.lent (i / 8 - log_line k.volume.geometry 0) (i % 8) below (omega arith))
+
+  may_put : MayPutLog k lines
+  may_put = record { lines_are = hold_claims.are; out = lent }
+
+pub may_end : MayEnd
+may_end k t staging files w lines world on holds = may_put k t staging files w lines world on holds
+
+-- ---- once they are back
+
+module _ (turning : StandsHome) (holding : LinesHoldOut) (k l : View) (t : Tables) (staging : Staged) (files : Files) (w : WorldView) (lines : List Part) (ending : IsEnding k l t staging files w lines) where
+  turned : HasTurned w.geometry k t (kept_of w staging files) (kept_of w staging files) true false (length w.history) (state_of w) l.cells (standing k t staging files w lines ending.world ending.awake ending.holds)
+  turned =
+      let claims = hold_claims k t staging files w lines ending.world ending.awake ending.holds in
+      let stands = standing k t staging files w lines ending.world ending.awake ending.holds in
+      turning w.geometry k t (kept_of w staging files) (length w.history) (state_of w) l.cells lines (cell l.cells) stands ending.none_out (subst IsInOrder ending.back.same ending.back.order) claims.are ending.back.back ending.back.home
+      (holding k.volume k.cells l.cells (first_by w.geometry w.first) w.claims lines (cell l.cells) stands.lines (ending.world.going ending.awake).spelled claims (record { back = ending.back.back; home = ending.back.home }))
+
+  -- K-SPLIT STANDS, with the lines at home.
+  pub at_home : StandsAt w.geometry l t (kept_of w staging files) false (length w.history) (state_of w)
+  at_home = subst (λ (x : View). StandsAt w.geometry x t (kept_of w staging files) false (length w.history) (state_of w)) (sym ending.back.same) turned.now
+
+  pub same_volume : l.volume ≡ k.volume
+  same_volume = ap (λ (x : View). x.volume) ending.back.same
+
+  -- nothing is lent any more
+  pub all_home : AllHome l.cells
+  all_home i = by (is_lent (cell l.cells i)) refl where
+    out_or : IsOut l.volume at_home.jobs i → is_lent (cell l.cells i) ≡ false
+    out_or (inl (slot, below, place)) =
+        ending.back.home i (subst (λ (v : Volume). IsLogWord v i) same_volume (record { from = omega (arith, place); below = omega (arith, place, below) }))
+    out_or (inr (j, at, staged)) = absurd (subst (In j) (no-jobs w.pending at_home.jobs at_home.jobs_are ending.none_out) at)
+
+    by : (b : Bool) → is_lent (cell l.cells i) ≡ b → is_lent (cell l.cells i) ≡ false
+    by false is = is
+    by true is = out_or (at_home.flying.home i is)

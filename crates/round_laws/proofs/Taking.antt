@@ -1,0 +1,43 @@
+-- With the log's lines at home a round may begin.
+use Rattle.std.specs.Prelude.{◌≡◌, ◌≤◌, ◌+◌, ◌*◌, ◌/◌, ◌^◌, false, length}
+use Rattle.std.proofs.Common.{arith, sym, subst}
+use Rattle.std.proofs.Math.Nat.{mul-le-mul}
+use Rattle.eof_laws.specs.layout_model.PlaceLaws.{behind_log-not_journaled, behind_log-words}
+use Rattle.eof_laws.specs.layout_model.Places.{Geometry}
+use Rattle.eof_laws.specs.file_table.Files.{Files}
+use Rattle.world_view_laws.specs.file_publish.k_split.Laps.{HasSingleLog}
+use Rattle.world_view_laws.specs.file_publish.staging_files.Keeps.{Staged}
+use Rattle.world_view_laws.specs.file_publish.live_model.Standing.{IsQuietBeside, StandsAt}
+use Rattle.eof_laws.specs.k_split_model.View.{View}
+use Rattle.eof_laws.specs.posix_tables.Open.{Tables}
+use Rattle.world_view_laws.specs.in_flight.Counts.{history_within}
+use Rattle.world_view_laws.specs.Views.{IsGoing, IsWorldOver, kept_of, state_of, WorldView}
+use Rattle.round_laws.specs.EndsLaws.{MayBegin, MayTakeLog}
+
+module _ (k : View) (t : Tables) (staging : Staged) (files : Files) (w : WorldView) (world : IsWorldOver k t staging files w) (on : w.lost ≡ false) (home : w.lines_out ≡ false) where
+  going : IsGoing k t staging files w
+  going = world.going on
+
+  stands : StandsAt w.geometry k t (kept_of w staging files) w.lines_out (length w.history) (state_of w)
+  stands = going.stands
+
+  -- each word of the log is alone
+  single_log : HasSingleLog k
+  single_log i at =
+      let quiet = subst (λ (g : Geometry). IsQuietBeside g k.cells) (sym stands.geometry) stands.quiet in
+      quiet i (behind_log-words k.volume.geometry i (omega (arith, at.from))) (behind_log-not_journaled k.volume.geometry (i / 8) at.from) ((going.log_home home).home i)
+
+  -- the base is low
+  low_base : w.base ≤ 2 ^ 63
+  low_base =
+      let log : w.geometry.log ≤ 1024 = subst (λ (g : Geometry). g.log ≤ 1024) stands.geometry stands.order.whole.kept.geometry.most_log in
+      let few : w.settled ≤ 4096 = omega (arith, world.counted.settled, history_within w.scripts w.history world.scripted, world.few) in
+      let more : w.settled + 1 ≤ 4097 = omega (arith, few) in
+      let laps : w.geometry.log * (w.settled + 1) ≤ 1024 * 4097 = mul-le-mul log more in
+      omega (arith, laps, world.counted.low)
+
+  may_take : MayTakeLog k w
+  may_take = record { on = stands.on; single = single_log; low = low_base }
+
+pub may_begin : MayBegin
+may_begin k t staging files w world on home = may_take k t staging files w world on home

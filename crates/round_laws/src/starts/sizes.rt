@@ -1,0 +1,38 @@
+//! The table of the sizes of all files.
+ghost use Rattle.std.specs.Prelude.{◌≡◌, ◌≤◌, IfOk};
+ghost use Rattle.eof_laws.specs.layout_model.Lines.{most_bytes};
+ghost use Rattle.eof_laws.specs.image_model.Volume.{inode};
+ghost use Rattle.log_replay.specs.Sheds.{IsAtRest};
+ghost use Rattle.round_laws.specs.Sizes.{HasSizesOf};
+
+use eof_laws::{FileTable, KSplit};
+use std::alloc::{AllocError, Global};
+
+// The size of an inode; 0 of a free one.
+fn size_at(k: &KSplit, ino: u32) -> u64
+    requires { IsAtRest k.now }
+    ensures size { result ≡ (inode k.now.volume ino).size }
+    ensures small { result ≤ most_bytes }
+{
+    match k.node(ino) {
+        Some(node) => node.size,
+        None => 0,
+    }
+}
+
+/// The table of the sizes of all inodes, of which nothing is staged.
+///
+/// # Errors
+///
+/// Out of memory.
+pub fn table_of(alloc: Global, k: &KSplit) -> Result<FileTable, AllocError>
+    requires { IsAtRest k.now }
+    ensures { IfOk result (HasSizesOf k.now.volume) }
+{
+    let count = k.geometry().inodes;
+    let mut table = FileTable::new(alloc, count)?;
+    for ino in 0..count {
+        table.resize(ino, size_at(k, ino));
+    }
+    Ok(table)
+}

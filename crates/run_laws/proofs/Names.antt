@@ -1,0 +1,165 @@
+-- A history with one more call: what it changed, moved and took.
+use Rattle.std.specs.Prelude.{◌≡◌, ◌⊎◌, ◌<◌, ◌≤◌, ◌+◌, ◌||◌, ℕ, Bool, true, false, cond, nat_lt, List, [], ◌∷◌, ◌++◌, length, map, Option, None, Some, refl}
+use Rattle.std.specs.List.{list_any}
+use Rattle.std.proofs.Common.{arith, ap, ◌∙◌, sym, subst, inl, inr}
+use Rattle.std.proofs.lemmas.List.{append-nil, map-append}
+use Rattle.std.specs.Option.{option_map_or}
+use Rattle.std.proofs.lemmas.List.Elements.{filter-append}
+use Rattle.std.proofs.lemmas.List.Folds.{list_any-append}
+use Rattle.world_view_laws.specs.k_journal.Commits.{TakesAStep}
+use Rattle.round_log.specs.pm_model.Powers.{is_left, is_on, Steps, Supply}
+use Rattle.world_view_laws.specs.posix_types.declared.call.Call.{Call}
+use Rattle.world_view_laws.specs.posix_types.declared.call.Who.{Who}
+use Rattle.world_view_laws.specs.posix_types.declared.item.Item.{Item}
+use Rattle.world_view_laws.specs.posix_types.Scripts.{Scripts}
+use Rattle.world_view_laws.specs.posix_tables.Open.{same_who}
+use Rattle.world_view_laws.specs.posix_laws.PutLaws.{LeavesWhole-put}
+use Rattle.world_view_laws.specs.posix_spec.Afforded.{moves_data}
+use Rattle.world_view_laws.specs.posix_spec.Put.{Put, put_by}
+use Rattle.world_view_laws.specs.posix_spec.Run.{after_call, run}
+use Rattle.world_view_laws.specs.posix_spec.Scripted.{IsSetUp, items_of}
+use Rattle.world_view_laws.specs.posix_spec.State.{State}
+use Rattle.world_view_laws.specs.crash_spec.Busy.{is_logged, is_logged_put}
+use Rattle.world_view_laws.specs.Views.{WorldView}
+use Rattle.run_laws.specs.Changes.{after_item, ChangesAtMost}
+use Rattle.run_laws.specs.Paid.{has_moved, KeepsNames}
+
+-- ---- changes of names
+
+pub same_names : (s : State) (items : List Item) (item : Item) (n : ℕ) → ChangesAtMost s items n → (after_item (run s items) item).entries ≡ (run s items).entries → ChangesAtMost s (items ++ item ∷ []) n
+same_names s [] item n most stays = inl (stays, tt)
+same_names s (x ∷ items) item n (inl own) stays = inl (own.0, same_names (after_item s x) items item n own.1 stays)
+same_names s (x ∷ items) item n (inr one) stays = inr (one.0, one.1, same_names (after_item s x) items item one.0 one.2 stays)
+
+pub one_change : (s : State) (items : List Item) (item : Item) (n : ℕ) → ChangesAtMost s items n → ChangesAtMost s (items ++ item ∷ []) (n + 1)
+one_change s [] item n most = inr (n, refl, tt)
+one_change s (x ∷ items) item n (inl own) = inl (own.0, one_change (after_item s x) items item n own.1)
+one_change s (x ∷ items) item n (inr one) = inr (one.0 + 1, ap (λ k. k + 1) one.1, one_change (after_item s x) items item one.0 one.2)
+
+-- ---- callers
+
+pub same_caller : (who : Who) → same_who who who ≡ true
+same_caller Who.Setup = refl
+same_caller (Who.Thread n) = grind arith
+
+pub others_more : (history : List Item) (item : Item) (who : Who) → same_who item.who who ≡ false → items_of (history ++ item ∷ []) who ≡ items_of history who
+others_more history item who other =
+    filter-append (λ i. same_who i.who who) history (item ∷ []) ∙ ap (λ b. items_of history who ++ cond b (item ∷ []) []) other ∙ append-nil (items_of history who)
+
+pub set_up_more : (scripts : Scripts) (history : List Item) (item : Item) (who : Who) → item.who ≡ who → IsSetUp scripts history who → IsSetUp scripts (history ++ item ∷ []) who
+set_up_more scripts history item Who.Setup own set_up = tt
+set_up_more scripts history item (Who.Thread n) own set_up = ap length (others_more history item Who.Setup (ap (λ w. same_who w Who.Setup) own)) ∙ set_up
+
+-- ---- moved data
+
+or_false : (a b : Bool) → (a || b) ≡ false → (a ≡ false) × (b ≡ false)
+or_false true b is = cc
+or_false false b is = (refl, is)
+
+moved_more : (history : List Item) (item : Item) → has_moved (history ++ item ∷ []) ≡ (has_moved history || (moves_data item.call || false))
+moved_more history item =
+    ap (list_any moves_data) (map-append (λ (i : Item). i.call) history (item ∷ [])) ∙ list_any-append moves_data (map (λ (i : Item). i.call) history) (item.call ∷ [])
+
+-- no call moved data, and so neither did the last one nor those before it
+pub none_moved : (history : List Item) (item : Item) → has_moved (history ++ item ∷ []) ≡ false → (has_moved history ≡ false) × (moves_data item.call ≡ false)
+none_moved history item none =
+    let both = or_false (has_moved history) (moves_data item.call || false) (sym (moved_more history item) ∙ none) in
+    (both.0, (or_false (moves_data item.call) false both.1).0)
+
+or_left : (a b : Bool) → a ≡ true → (a || b) ≡ true
+or_left true b is = refl
+or_left false b is = cc
+
+or_right : (a b : Bool) → b ≡ true → (a || b) ≡ true
+or_right true b is = refl
+or_right false b is = is
+
+-- a history in which one moved data still has it
+pub moved_still : (history : List Item) (item : Item) → has_moved history ≡ true → has_moved (history ++ item ∷ []) ≡ true
+moved_still history item is = moved_more history item ∙ or_left (has_moved history) (moves_data item.call || false) is
+
+pub moved_now : (history : List Item) (item : Item) → moves_data item.call ≡ true → has_moved (history ++ item ∷ []) ≡ true
+moved_now history item is = moved_more history item ∙ or_right (has_moved history) (moves_data item.call || false) (or_left (moves_data item.call) false is)
+
+-- a call that puts nothing is not logged
+none_logged : (s : State) (who : Who) (call : Call) → put_by s who call ≡ None → is_logged s (who, call) ≡ false
+none_logged s who call none = ap (λ (o : Option Put). option_map_or (is_logged_put s.mode s) o false) none
+
+-- one that puts bytes moves data
+pub put_moves : (s : State) (who : Who) (call : Call) (put : Put) → put_by s who call ≡ Some put → moves_data call ≡ true
+unfolding put_by
+put_moves s who (Call.Mkdir p) put is = cc
+put_moves s who (Call.Rmdir p) put is = cc
+put_moves s who (Call.Unlink p) put is = cc
+put_moves s who (Call.Rename p q) put is = cc
+put_moves s who (Call.Open h p f) put is = cc
+put_moves s who (Call.Close h) put is = cc
+put_moves s who (Call.Dup h g) put is = cc
+put_moves s who (Call.Read h n) put is = cc
+put_moves s who (Call.Pread h o n) put is = cc
+put_moves s who (Call.Write h x) put is = refl
+put_moves s who (Call.Pwrite h o x) put is = refl
+put_moves s who (Call.Seek h w by) put is = cc
+put_moves s who (Call.Truncate h n) put is = cc
+put_moves s who (Call.Fsync h) put is = cc
+put_moves s who (Call.Stat p) put is = cc
+put_moves s who (Call.List p) put is = cc
+
+pub logged_moves : (s : State) (who : Who) (call : Call) → is_logged s (who, call) ≡ true → moves_data call ≡ true
+logged_moves s who call is = by (put_by s who call) refl where
+  by : (o : Option Put) → put_by s who call ≡ o → moves_data call ≡ true
+  by None none = (let never : true ≡ false = sym is ∙ none_logged s who call none in cc)
+  by (Some put) some = put_moves s who call put some
+
+-- and leaves the names
+pub logged_keeps : (s : State) (who : Who) (call : Call) → is_logged s (who, call) ≡ true → (after_call s (who, call)).entries ≡ s.entries
+logged_keeps s who call is = by (put_by s who call) refl where
+  by : (o : Option Put) → put_by s who call ≡ o → (after_call s (who, call)).entries ≡ s.entries
+  by None none = (let never : true ≡ false = sym is ∙ none_logged s who call none in cc)
+  by (Some put) some = (LeavesWhole-put s who call put some).entries
+
+-- ---- supplies
+
+pub on_below : (given : ℕ) (p : Supply) → p.given ≡ Some given → is_on p ≡ true → p.taken < given
+on_below given p is on = below p.taken given (sym (ap (λ g. is_left g p.taken) is) ∙ on) where
+  below : (m n : ℕ) → nat_lt m n ≡ true → m < n
+  below m n is = grind arith
+
+-- at most as many steps as a greater number
+pub Steps-more : (m n : ℕ) (a b : Supply) → m ≤ n → Steps m a b → Steps n a b
+Steps-more m n a b least steps = record { given = steps.given; on_before = steps.on_before; later = steps.later; bound = omega (arith, steps.bound, least) }
+
+-- ---- kept names
+
+-- the same history, later
+pub names_later : (first now after : Supply) (w v : WorldView) (given n : ℕ) → v.start ≡ w.start → v.history ≡ w.history → Steps n now after → KeepsNames first now w given → KeepsNames first after v given
+names_later first now after w v given n start history steps kept = record {
+  changed = kept.changed;
+  fewer = omega (arith, kept.fewer, steps.later);
+  most = kept.most;
+  each = subst (λ (s : State). ChangesAtMost s v.history kept.changed) (sym start) (subst (λ (h : List Item). ChangesAtMost w.start h kept.changed) (sym history) kept.each);
+}
+
+-- one call more, which left the names or took a step
+pub names_more : (first now after : Supply) (w v : WorldView) (item : Item) (given n : ℕ) → v.start ≡ w.start → v.history ≡ w.history ++ item ∷ [] → now.given ≡ Some given → is_on after ≡ true → Steps n now after
+    → ((after_item (run w.start w.history) item).entries ≡ (run w.start w.history).entries) ⊎ TakesAStep now after → KeepsNames first now w given → KeepsNames first after v given
+names_more first now after w v item given n start history given_now on steps spent kept = by spent where
+  most : (m : ℕ) → ChangesAtMost w.start (w.history ++ item ∷ []) m → ChangesAtMost v.start v.history m
+  most m few = subst (λ (s : State). ChangesAtMost s v.history m) (sym start) (subst (λ (h : List Item). ChangesAtMost w.start h m) (sym history) few)
+
+  by : ((after_item (run w.start w.history) item).entries ≡ (run w.start w.history).entries) ⊎ TakesAStep now after → KeepsNames first after v given
+  by (inl stays) = record {
+    changed = kept.changed;
+    fewer = omega (arith, kept.fewer, steps.later);
+    most = kept.most;
+    each = most kept.changed (same_names w.start w.history item kept.changed kept.each stays);
+  }
+  by (inr takes) =
+      let more = takes given given_now in
+      let below = on_below given after (steps.given ∙ given_now) on in
+      record {
+        changed = kept.changed + 1;
+        fewer = omega (arith, kept.fewer, more);
+        most = omega (arith, kept.fewer, more, below);
+        each = most (kept.changed + 1) (one_change w.start w.history item kept.changed kept.each);
+      }

@@ -1,0 +1,30 @@
+pub mod CallLaws
+pub mod Changes
+pub mod CountLaws
+pub mod FoundLaws
+pub mod FrameLaws
+pub mod Frames
+pub mod NameChangesLaws
+pub mod LineLaws
+pub mod LookupLaws
+pub mod MapLaws
+pub mod NameLaws
+pub mod NodeLaws
+pub mod OverLaws
+pub mod Sane
+pub mod SaneLaws
+pub mod Bounds
+pub mod Hits
+pub mod Holes
+pub mod MapChangesLaws
+pub mod Lengths
+pub mod Switches
+pub mod TakenLaws
+pub mod Shorts
+pub use Rattle.name_laws.specs.volume_laws.image_model
+pub use Rattle.name_laws.specs.volume_laws.extent_model
+pub use Rattle.name_laws.specs.k_split_model
+pub use Rattle.name_laws.specs.volume_laws.layout_model
+pub use Rattle.name_laws.specs as name_laws
+pub use Rattle.name_laws.specs.volume_laws.pm_model
+pub use Rattle.name_laws.specs.volume_laws as volume_laws

@@ -1,7 +1,0 @@
-use Rattle.std.proofs.Common.{ℕ, ◌+◌, take}
-use Rattle.volume_check.specs.Marks.{AreMarks, chain_uses}
-use Rattle.volume_check.proofs.blocks.mark_chains.Given as goal
-
--- what is counted so far
-abbrev pub invariant-loop-chain : goal.invariant-loop-chain
-invariant-loop-chain l = (x : ℕ → ℕ) → AreMarks l.initial.marks x → AreMarks l.marks (λ i. x i + chain_uses (take l.chain-index l.chains) (l.first + i))

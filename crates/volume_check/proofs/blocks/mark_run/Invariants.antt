@@ -1,9 +1,0 @@
-use Rattle.std.proofs.Common.{ℕ, ◌+◌, ◌-◌}
-use Rattle.k_reading.specs.extent_facts.Counts.{one_if}
-use Rattle.k_reading.specs.extent_words.Extents.{is_within}
-use Rattle.volume_check.specs.Marks.{AreMarks}
-use Rattle.volume_check.proofs.blocks.mark_run.Given as goal
-
--- the run so far
-abbrev pub invariant-loop-place : goal.invariant-loop-place
-invariant-loop-place l = (x : ℕ → ℕ) → AreMarks l.initial.marks x → AreMarks l.marks (λ i. x i + one_if (is_within l.from (l.place - l.from) i))

@@ -1,8 +1,0 @@
-use Rattle.std.proofs.Common.{ℕ, ◌<◌, get_or}
-use Rattle.k_reading.specs.extent_words.declared.Extent.{Extent}
-use Rattle.k_reading.specs.disk_rules.Rules.{IsInData}
-use Rattle.volume_check.proofs.chains.are_in_data.Given as goal
-
--- the extents so far are in data blocks
-abbrev pub invariant-loop-extent : goal.invariant-loop-extent
-invariant-loop-extent l = (k : ℕ) (d : Extent) → k < l.extent-index → IsInData l.geometry l.limit (get_or l.extents k d)

@@ -1,8 +1,0 @@
-use Rattle.std.proofs.Common.{◌≡◌, ◌≢◌, ◌/◌, ◌<◌, ◌≤◌, ℕ}
-use Rattle.k_journal.specs.disk_places.Places.{commit_word, state_line}
-use Rattle.k_journal.specs.pm_words.Images.{words_of}
-use Rattle.volume_check.proofs.head.are_others_zero.Given as goal
-
--- the words so far are zero
-abbrev pub invariant-loop-word : goal.invariant-loop-word
-invariant-loop-word l = (w : ℕ) → 8 ≤ w → w < l.word → w ≢ commit_word → w / 8 ≢ state_line → words_of l.pm w ≡ 0

@@ -1,9 +1,0 @@
-use Rattle.std.proofs.Common.{refl}
-use Rattle.volume_check.proofs.Heads.{whole-blocks}
-use Rattle.volume_check.proofs.head.has_whole_blocks.Goals as goal
-
-pub returns : goal.returns
-returns c = (
-  λ kept. whole-blocks c.args.words c.requires c.if-blocks-lt64.false c.if-blocks-gt16384.false,
-  λ kept. refl,
-)

@@ -1,9 +1,0 @@
-use Rattle.std.proofs.Common.{◌≡◌, ◌<◌, ℕ}
-use Rattle.k_journal.specs.disk_places.Journal.{journaled}
-use Rattle.k_journal.specs.disk_places.Places.{base_word}
-use Rattle.k_journal.specs.pm_words.Images.{words_of}
-use Rattle.volume_check.proofs.head.is_state_zero.Given as goal
-
--- the words so far are zero
-abbrev pub invariant-loop-word : goal.invariant-loop-word
-invariant-loop-word l = (w : ℕ) → base_word < w → w < l.word → journaled (words_of l.pm) w ≡ 0

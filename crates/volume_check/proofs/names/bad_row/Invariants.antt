@@ -1,9 +1,0 @@
-use Rattle.std.proofs.Common.{◌≡◌, ◌<◌, ℕ}
-use Rattle.k_reading.specs.disk_lines.Names.{row}
-use Rattle.k_reading.specs.disk_rules.Rules.{IsRowPlaced}
-use Rattle.k_reading.specs.disk_rules.Volume.{Volume}
-use Rattle.volume_check.proofs.names.bad_row.Given as goal
-
--- the rows so far keep the rule
-abbrev pub invariant-loop-line : goal.invariant-loop-line
-invariant-loop-line l = (v : Volume) → v.inodes ≡ l.inodes → v.names ≡ l.names → (k : ℕ) → k < l.line → IsRowPlaced v k (row v.names k)

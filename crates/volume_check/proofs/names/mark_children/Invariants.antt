@@ -1,8 +1,0 @@
-use Rattle.std.proofs.Common.{ℕ, ◌+◌, take}
-use Rattle.k_reading.specs.disk_lines.Names.{names_of}
-use Rattle.volume_check.specs.Marks.{AreMarks}
-use Rattle.volume_check.proofs.names.mark_children.Given as goal
-
--- the names so far
-abbrev pub invariant-loop-row : goal.invariant-loop-row
-invariant-loop-row l = (x : ℕ → ℕ) → AreMarks l.initial.marks x → AreMarks l.marks (λ ino. x ino + names_of (take l.row-index l.names) ino)

@@ -1,8 +1,0 @@
-use Rattle.std.proofs.Common.{◌≡◌, ◌-◌}
-use Rattle.k_reading.specs.disk_lines.Names.{Rows, ends_at_root}
-use Rattle.volume_check.specs.Above.{IsAbove}
-use Rattle.volume_check.proofs.names.reaches_root.Given as goal
-
--- the rest of the way decides
-abbrev pub invariant-loop-step : goal.invariant-loop-step
-invariant-loop-step l = (rows : Rows) → IsAbove rows l.above → ends_at_root rows 15 l.from ≡ ends_at_root rows (15 - l._step) l.ino

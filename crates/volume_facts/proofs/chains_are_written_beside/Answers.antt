@@ -1,9 +1,0 @@
--- the laws of the definitions
-use Rattle.volume_facts.specs.SetLaws.{reads-written, reads-switched}
-use Rattle.volume_facts.proofs.chains_are_written_beside.Goals as goal
-
-pub returns-clause-free : goal.returns-clause-free
-returns-clause-free c = reads-written
-
-pub returns-clause-switched : goal.returns-clause-switched
-returns-clause-switched c = reads-switched

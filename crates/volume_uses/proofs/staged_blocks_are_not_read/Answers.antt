@@ -1,6 +1,0 @@
--- the law of the definitions
-use Rattle.volume_uses.specs.StagedLaws.{content-staged}
-use Rattle.volume_uses.proofs.staged_blocks_are_not_read.Goals as goal
-
-pub returns : goal.returns
-returns c = content-staged

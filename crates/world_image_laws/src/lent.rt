@@ -1,0 +1,22 @@
+//! The promise while log lines and data blocks are out.
+//!
+//! A write in flight has its data blocks lent and its log line out, so that the device alone says nothing of
+//! their words. What is promised is said of the images of the device with each of them put back as it was when
+//! the power went (`IsPutBack`): claimed lines whole, those of filled jobs as far as they came, and an image
+//! that is honest. The layer above may rely on this: each such image is checked, has a tree, and only trees that
+//! the mode permits with the calls of the jobs unfinished, in any of which the writes in flight are found or
+//! not; one more call that lost its power before it changed anything may be the last of them; and in strict mode
+//! so may a call of another caller whose change was on the way.
+//!
+//! Lemmas alone.
+
+ghost use Rattle.world_image_laws.specs.LentLaws.{KeepsPromiseAtBegin, KeepsPromiseBeside, KeepsPromiseInFlight, LeadsAfter, LeadsBefore};
+
+/// The promise while writes are in flight.
+pub fn writes_in_flight_keep_the_promise()
+    ensures jobs { KeepsPromiseInFlight }
+    ensures begun { KeepsPromiseAtBegin }
+    ensures beside { KeepsPromiseBeside }
+    ensures before { LeadsBefore }
+    ensures after { LeadsAfter }
+{}

@@ -1,8 +1,0 @@
-use Rattle.world_images.specs.Starts.{begins_running, has_setting}
-use Rattle.world_images.proofs.a_mounted_device_runs.Goals as goal
-
-pub returns-clause-setting : goal.returns-clause-setting
-returns-clause-setting c = has_setting
-
-pub returns-clause-running : goal.returns-clause-running
-returns-clause-running c = begins_running

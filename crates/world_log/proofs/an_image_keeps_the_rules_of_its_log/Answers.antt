@@ -1,9 +1,0 @@
-use Rattle.world_log.specs.Free.{may_recover}
-use Rattle.world_log.specs.LogRules.{keeps_log_rules}
-use Rattle.world_log.proofs.an_image_keeps_the_rules_of_its_log.Goals as goal
-
-pub returns-clause-rules : goal.returns-clause-rules
-returns-clause-rules c = keeps_log_rules
-
-pub returns-clause-recovery : goal.returns-clause-recovery
-returns-clause-recovery c = may_recover

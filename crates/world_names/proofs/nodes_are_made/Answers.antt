@@ -1,8 +1,0 @@
-use Rattle.world_names.specs.MadeCalls.{IsWorld-created, IsWorld-mkdir}
-use Rattle.world_names.proofs.nodes_are_made.Goals as goal
-
-pub returns-clause-mkdir : goal.returns-clause-mkdir
-returns-clause-mkdir c = IsWorld-mkdir
-
-pub returns-clause-created : goal.returns-clause-created
-returns-clause-created c = IsWorld-created

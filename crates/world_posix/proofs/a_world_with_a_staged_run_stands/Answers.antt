@@ -1,5 +1,0 @@
-use Rattle.world_posix.proofs.ExampleRows.{row_a}
-use Rattle.world_posix.proofs.a_world_with_a_staged_run_stands.Goals as goal
-
-pub returns : goal.returns
-returns c = row_a

@@ -1,5 +1,0 @@
-use Rattle.world_posix.specs.Steps.{tree_permitted, tree_permitted_strongly}
-use Rattle.world_posix.proofs.the_tree_of_the_medium_is_permitted.Goals as goal
-
-pub returns : goal.returns
-returns c = record { permitted = tree_permitted; strongly = tree_permitted_strongly }

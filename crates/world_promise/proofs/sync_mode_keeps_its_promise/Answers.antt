@@ -1,5 +1,0 @@
-use Rattle.world_promise.specs.Promise.{sync_promise}
-use Rattle.world_promise.proofs.sync_mode_keeps_its_promise.Goals as goal
-
-pub returns : goal.returns
-returns c = sync_promise

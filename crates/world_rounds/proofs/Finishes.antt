@@ -1,0 +1,150 @@
+-- A job of the parts of a World finishes while the power is on.
+use Rattle.std.specs.Prelude.{◌≡◌, ◌≤◌, ◌<◌, ◌+◌, ◌^◌, ◌++◌, ℕ, true, false, List, [], ◌∷◌, length, Some, AllPairs, vec_len, refl}
+use Rattle.std.specs.Vec.{vec_capacity}
+use Rattle.std.proofs.Common.{Global, Vec, arith, ap, ◌∙◌, sym, subst, length-append}
+use Rattle.world_parts.specs.layout_model.declared.lines.Draft.{Draft}
+use Rattle.world_parts.specs.file_table.Files.{Files}
+use Rattle.world_parts.specs.eof_laws.FinishesLaws.{EndFinished}
+use Rattle.world_parts.specs.k_split_model.View.{View}
+use Rattle.world_parts.specs.list_laws.Members.{In}
+use Rattle.world_parts.specs.pm_model.Powers.{is_on, Supply}
+use Rattle.posix_types.specs.declared.call.Who.{Who}
+use Rattle.posix_types.specs.declared.item.Outcome.{Outcome}
+use Rattle.posix_types.specs.declared.reply.Reply.{Reply}
+use Rattle.posix_tables.specs.Outcomes.{answer}
+use Rattle.world_parts.specs.posix_spec.Step.{step}
+use Rattle.world_parts.specs.in_flight.Counters.{count_for, IsCounted}
+use Rattle.world_parts.specs.in_flight.Histories.{item_with}
+use Rattle.world_parts.specs.in_flight.live_model.Standing.{AreOfTwoThreads, Pending}
+use Rattle.world_parts.specs.in_flight.live_model.Jobs.{without}
+use Rattle.world_parts.specs.world_view_laws.Puts.{put_bytes_of}
+use Rattle.world_parts.proofs.world_view_laws_proofs.Ending.{can_finish, finish_view, finished_on, has, has_write, others_on, without_one}
+use Rattle.world_parts.proofs.world_view_laws_proofs.Finishing.{finished_ends, job_answers, one_job}
+use Rattle.world_parts.specs.world_view_laws.file_calls.open_files.State.{OpenState}
+use Rattle.world_parts.specs.world_view_laws.write_end.Ends.{CanFinish, HasJob, HasWrite, LeavesFinished}
+use Rattle.world_parts.specs.world_view_laws.Begins.{IsFilledOut}
+use Rattle.world_parts.specs.world_view_laws.Jobs.{Finishes}
+use Rattle.world_parts.specs.world_view_laws.Views.{disk_of, IsGoing, IsWorldOver, next_of, state_of, WorldView}
+use Rattle.world_parts.specs.write_jobs.Jobs.{FilledView}
+use Rattle.world_parts.specs.declared.parts.Parts.{Parts}
+use Rattle.world_parts.specs.Seen.{IsKept, seen}
+use Rattle.world_parts.specs.Adds.{IsAdded, MayAdd}
+use Rattle.world_parts.proofs.Adding.{few_acts, added_kept, added_seen, added_view, counted_next, few_next, HasRoomForItem}
+
+-- a member is one of at least one
+pub some_in : {X : Type 0} (xs : List X) (x : X) → In x xs → 1 ≤ length xs
+some_in [] x at = absurd at
+some_in (y ∷ xs) x at = omega arith
+
+module _ (p : Parts) (kept : IsKept p) (awake : p.lost ≡ false) (out : p.lines_out ≡ true) (job : FilledView) (q : Pending) (is_out : IsFilledOut (seen p) q job) where
+  going : IsGoing p.k p.files.tables p.staging p.data (seen p)
+  going = kept.world.going awake
+
+  pub callers : AllPairs AreOfTwoThreads p.pending.items
+  callers = going.stands.callers
+
+  -- the one that is taken is the job's
+  pub taken_is : (taken : Pending) → In taken p.pending.items → taken.who ≡ job.who → taken ≡ q
+  taken_is taken there own = one_job p.pending.items taken q callers there is_out.there (own ∙ is_out.who)
+
+  pub may_finish : (taken : Pending) → taken ≡ q → CanFinish p.k job p.files.tables p.data taken.call
+  may_finish taken same =
+      subst (λ (x : Pending). CanFinish p.k job p.files.tables p.data x.call) (sym same) (can_finish p.k p.files.tables p.staging p.data (seen p) kept.world awake out q job is_out)
+
+  pub room_for_claim : vec_len p.claims < vec_capacity p.claims
+  room_for_claim = omega (arith, kept.room.claims_on awake, some_in p.pending.items q is_out.there)
+
+  pub next_job : next_of (seen p) q.who ≡ Some q.call
+  next_job = (going.next q is_out.there).0
+
+  pub room_for_item : vec_len p.history < vec_capacity p.history
+  room_for_item = omega (arith, kept.room.items awake, some_in p.pending.items q is_out.there)
+
+  pub answers_so : (step (state_of (seen p)) q.who q.call).outcome ≡ answer (Reply.Count (length (put_bytes_of q.call)))
+  answers_so = job_answers p.geometry p.k p.files.tables _ p.lines_out (length p.history.items) (state_of (seen p)) going.stands q is_out.there
+
+  -- ---- what it leaves
+
+  module _ (law : EndFinished) (slot : ℕ) (taken : Pending) (same : taken ≡ q) (outcome : Outcome) (replied : outcome ≡ answer (Reply.Count (length (put_bytes_of taken.call))))
+      (k : View) (files : OpenState) (laid : Files) (claims : Vec (ℕ × Draft) Global) (pending : Vec Pending Global) (left : pending.items ≡ without job.who p.pending.items) (k_is : k ≡ record p.k { cells = k.cells })
+      (claimed : claims.items ≡ p.claims.items ++ (slot, job.draft) ∷ []) (capacity : vec_capacity claims ≡ vec_capacity p.claims)
+      (leaves : (one : HasJob p.k job) → HasWrite p.k job p.files.tables p.data taken.call one → LeavesFinished p.k job one slot k files.tables laid) where
+    abbrev pub middle : Parts
+    middle = record p { k = k; files = files; «data» = laid; claims = claims; pending = pending }
+
+    left_so : LeavesFinished p.k job (has p.k p.files.tables p.staging p.data (seen p) kept.world awake out q job is_out) slot k files.tables laid
+    left_so =
+        leaves (has p.k p.files.tables p.staging p.data (seen p) kept.world awake out q job is_out)
+        (subst (λ (x : Pending). HasWrite p.k job p.files.tables p.data x.call (has p.k p.files.tables p.staging p.data (seen p) kept.world awake out q job is_out)) (sym same)
+        (has_write p.k p.files.tables p.staging p.data (seen p) kept.world awake out q job is_out))
+
+    abbrev then_view : WorldView
+    then_view = finish_view p.k p.files.tables p.staging p.data (seen p) kept.world awake out q job is_out slot k files.tables
+
+    world_then : IsWorldOver k files.tables p.staging laid then_view
+    world_then =
+        finished_on p.k p.files.tables p.staging p.data (seen p) kept.world awake out q job is_out slot k files.tables laid k_is left_so
+        (finished_ends law p.k p.files.tables p.staging p.data (seen p) kept.world awake out q job is_out slot k files.tables laid k_is left_so)
+
+    out_is : (step (state_of (seen p)) q.who q.call).outcome ≡ outcome
+    out_is = answers_so ∙ ap (λ (x : Pending). answer (Reply.Count (length (put_bytes_of x.call)))) (sym same) ∙ sym replied
+
+    pending_is : without q.who p.pending.items ≡ pending.items
+    pending_is = ap (λ (w : Who). without w p.pending.items) (sym is_out.who) ∙ sym left
+
+    claims_are : p.claims.items ++ (slot, q.draft) ∷ [] ≡ claims.items
+    claims_are = ap (λ (d : Draft). p.claims.items ++ (slot, d) ∷ []) (sym is_out.draft) ∙ sym claimed
+
+    -- THE VIEW IS THAT of the parts with the item.
+    same_view : then_view ≡ added_view middle taken.who taken.call outcome
+    same_view = λ i. record (seen p) {
+      history = p.history.items ++ item_with p.history.items (sym same i).who (sym same i).call (out_is i) ∷ [];
+      claims = claims_are i;
+      pending = pending_is i;
+      acts = p.acts + 1;
+      disk = (added_view middle taken.who taken.call outcome).disk;
+    }
+
+    len : vec_len claims ≡ vec_len p.claims + 1
+    len = omega (arith, claims.ok.0, p.claims.ok.0, ap length claimed, length-append p.claims.items ((slot, job.draft) ∷ []))
+
+    one_less : length pending.items + 1 ≡ length p.pending.items
+    one_less = ap (λ (xs : List Pending). length xs + 1) (sym pending_is) ∙ without_one q.who p.pending.items q callers is_out.there refl
+
+    room_then : HasRoomForItem middle
+    room_then = record {
+      on = awake;
+      items = omega (arith, kept.room.items awake, one_less);
+      claims = omega (arith, kept.room.claims_on awake, one_less, capacity, len);
+      empty = kept.room.empty;
+      calls = omega (arith, kept.room.calls, one_less);
+    }
+
+    -- AN ITEM MAY BE ADDED.
+    pub may_add : MayAdd middle taken.who
+    may_add = record {
+      caller = subst (λ (x : Pending). IsCounted x.who) (sym same) (counted_next p kept q.who q.call next_job);
+      few = subst (λ (x : Pending). count_for p.counters.setup p.counters.threads x.who + 1 < 2 ^ 32) (sym same) (few_next p kept q.who q.call next_job);
+      room = room_for_item;
+      one_act = few_acts p kept;
+    }
+
+    module _ (r : Parts) (added : IsAdded taken.who taken.call outcome middle r) where
+      pub finished_kept : IsKept r
+      finished_kept = added_kept taken.who taken.call outcome middle r added kept.counts room_then (subst (IsWorldOver k files.tables p.staging laid) same_view world_then)
+
+      seen_then : then_view ≡ seen r
+      seen_then = same_view ∙ sym (added_seen taken.who taken.call outcome middle r added kept.counts)
+
+      disk_so : disk_of k files.tables p.staging ≡ record (seen p).disk { cells = k.cells; tables = files.tables }
+      disk_so = ap (λ (x : View). disk_of x files.tables p.staging) k_is
+
+      pub finished_so : (power : Supply) → is_on power ≡ true → Finishes slot q (seen p) (seen r) power
+      finished_so power on = subst (λ (v : WorldView). Finishes slot q (seen p) v power) seen_then (record {
+        awake = awake;
+        on = on;
+        new_is = refl;
+        disk = disk_so;
+        stay = others_on p.k p.files.tables p.staging p.data (seen p) kept.world awake out q job is_out slot k files.tables laid k_is left_so
+            (finished_ends law p.k p.files.tables p.staging p.data (seen p) kept.world awake out q job is_out slot k files.tables laid k_is left_so);
+      })

@@ -1,6 +1,0 @@
-use Rattle.std.proofs.Common.{◌≡◌, ◌+◌, drop}
-use Rattle.world_turns.specs.Turns.{needs_by}
-use Rattle.world_turns.proofs.turns.needs_out.Given as goal
-
-abbrev pub invariant-loop-job : goal.invariant-loop-job
-invariant-loop-job l = l.sum + needs_by l.tables.tables l.files (drop l.job-index l.pending) ≡ needs_by l.tables.tables l.files l.pending

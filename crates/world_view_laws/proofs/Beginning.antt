@@ -1,0 +1,238 @@
+-- A call of a World begins.
+use Rattle.std.specs.Prelude.{◌≡◌, ◌≤◌, ◌+◌, ◌++◌, ℕ, true, false, List, [], ◌∷◌, length, map, Option, Some, None, refl}
+use Rattle.std.proofs.Common.{arith, ap, ◌∙◌, sym, subst, inl, inr, length-append}
+use Rattle.eof_laws.specs.pm_model.declared.Cell.{Cell}
+use Rattle.eof_laws.specs.pm_model.Words.{Words}
+use Rattle.file_calls.specs.eof_laws.Ends.{DraftEnds, FilesEnd}
+use Rattle.in_flight.specs.file_table.Files.{Files}
+use Rattle.in_flight.specs.k_split_model.View.{View}
+use Rattle.eof_laws.specs.list_laws.Members.{In, pushed-In}
+use Rattle.file_calls.specs.k_split_laws.Left.{IsLeftOf}
+use Rattle.eof_laws.specs.posix_types.declared.call.Call.{Call}
+use Rattle.eof_laws.specs.posix_types.declared.call.Who.{Who}
+use Rattle.eof_laws.specs.posix_tables.Open.{Tables}
+use Rattle.in_flight.specs.posix_spec.Run.{after_call, Begun}
+use Rattle.in_flight.specs.posix_spec.Scripted.{IsSetUp}
+use Rattle.in_flight.specs.posix_spec.State.{State}
+use Rattle.in_flight.specs.posix_spec.Step.{step}
+use Rattle.in_flight.specs.commute_laws.Frames.{AreThreads}
+use Rattle.in_flight.specs.crash_spec.Busy.{is_busy}
+use Rattle.in_flight.specs.Histories.{are_threads, Grows, grows, next_stays, set_up_stays}
+use Rattle.in_flight.specs.staging_files.Keeps.{Staged}
+use Rattle.in_flight.specs.world_image_laws.Promised.{IsKept}
+use Rattle.file_publish.specs.world_image_laws.Back.{IsPutBack}
+use Rattle.in_flight.specs.world_model.Jobs.{begun_of, Job}
+use Rattle.in_flight.specs.live_model.Standing.{AreJobsOf, Pending, StandsAt}
+use Rattle.in_flight.specs.live_model.Jobs.{SpellCall}
+use Rattle.in_flight.specs.world_step_laws.Steps.{LetsJobsBe}
+use Rattle.write_end.specs.Ends.{begun_by}
+use Rattle.write_end.specs.Blocks.{AreBlocksOut}
+use Rattle.write_end.proofs.Going.{loses_call, lost_alike}
+use Rattle.write_end.proofs.Homes.{has_blocks_out, leaves_blocks}
+use Rattle.in_flight.proofs.CountsJobs.{lets_be, words_stay}
+use Rattle.in_flight.proofs.Taking.{other_who}
+use Rattle.world_view_laws.proofs.Ending.{no_both}
+use Rattle.world_view_laws.proofs.Losing.{lost_view, size_now, world_lost}
+use Rattle.world_view_laws.specs.Begins.{item_of, OthersStay}
+use Rattle.world_view_laws.specs.Views.{Disk, disk_of, files_out, first_by, HasNone, IsGoing, IsLost, IsLostOut, IsWorldOver, kept_of, next_of, state_of, WorldView}
+
+-- the calls of the jobs
+calls_are : (pending : List Pending) (jobs : List Job) → AreJobsOf pending jobs → map begun_of jobs ≡ map begun_by pending
+calls_are [] [] are = refl
+calls_are [] (j ∷ jobs) are = absurd are
+calls_are (p ∷ pending) [] are = absurd are
+calls_are (p ∷ pending) (j ∷ jobs) are = λ i. (are.0 i, are.1 i) ∷ calls_are pending jobs are.3 i
+
+module _ (k : View) (t : Tables) (staging : Staged) (files : Files) (w : WorldView) (world : IsWorldOver k t staging files w) (on : w.lost ≡ false) (out : w.lines_out ≡ true)
+    (who : Who) (call : Call) (next : next_of w who ≡ Some call) (up : IsSetUp w.scripts w.history who) (none : HasNone w who) where
+  going : IsGoing k t staging files w
+  going = world.going on
+
+  pub standing : StandsAt w.geometry k t (kept_of w staging files) true (length w.history) (state_of w)
+  standing = subst (λ b. StandsAt w.geometry k t (kept_of w staging files) b (length w.history) (state_of w)) out going.stands
+
+  threads : (p : Pending) → In p w.pending → AreThreads p.who who
+  threads p at =
+      are_threads w.scripts w.history p.who who p.call call (other_who who p.who (λ same. none p at (sym same))) (going.next p at).0 (going.next p at).1 next up
+
+  -- A CALL THAT NO JOB KEEPS WAITING LETS ALL JOBS BE.
+  pub lets : is_busy (state_of w) (files_out w) (who, call) ≡ false → LetsJobsBe (state_of w) (who, call) standing.numbers standing.jobs
+  lets idle = lets_be w.geometry k t (kept_of w staging files) _ (length w.history) (state_of w) standing (who, call) idle threads
+
+  -- ---- it returned
+
+  abbrev pub return_view : View → Tables → WorldView
+  return_view l u = record w { history = w.history ++ item_of w who call ∷ []; acts = w.acts + 1; disk = disk_of l u staging }
+
+  grown : Grows w.start w.scripts w.history (w.history ++ item_of w who call ∷ []) who call
+  grown = grows w.start w.scripts w.history (w.history ++ item_of w who call ∷ []) who call (step (state_of w) who call).outcome world.legal world.scripted next up refl refl
+
+  module _ (idle : is_busy (state_of w) (files_out w) (who, call) ≡ false) (l : View) (u : Tables) (laid : Files) (base : l.volume.base ≡ k.volume.base) (ends : FilesEnd l.volume laid)
+      (stands : StandsAt w.geometry l u (kept_of w staging laid) true (length w.history + 1) (after_call (state_of w) (who, call))) where
+    going2 : IsGoing l u staging laid (return_view l u)
+    going2 = record {
+      stands =
+          subst (λ b. StandsAt w.geometry l u (kept_of (return_view l u) staging laid) b (length (w.history ++ item_of w who call ∷ [])) (state_of (return_view l u))) (sym out)
+          (subst (StandsAt w.geometry l u (kept_of (return_view l u) staging laid) true (length (w.history ++ item_of w who call ∷ []))) (sym grown.run_is)
+          (subst (λ n. StandsAt w.geometry l u (kept_of (return_view l u) staging laid) true n (after_call (state_of w) (who, call))) (sym grown.longer) stands));
+      runs = going.runs;
+      bare = going.bare;
+      none_unfinished = going.none_unfinished;
+      none_home = going.none_home;
+      base = going.base ∙ sym base;
+      next = λ q at. (
+        next_stays w.scripts w.history (item_of w who call) q.who (other_who who q.who (λ same. none q at (sym same))) ∙ (going.next q at).0,
+        set_up_stays w.scripts w.history (item_of w who call) q.who next (going.next q at).1,
+      );
+      spelled = going.spelled;
+      ends = ends;
+      drafts_end = going.drafts_end;
+      log_home = λ home. no_both w.lines_out out home _;
+    }
+
+    -- THE CALL RETURNED.
+    pub returned : IsWorldOver l u staging laid (return_view l u)
+    returned = record {
+      mode = world.mode;
+      few = world.few;
+      threads = world.threads;
+      spelled = world.spelled;
+      legal = grown.legal;
+      scripted = grown.scripted;
+      counted = record {
+        settled = omega (arith, world.counted.settled, grown.longer);
+        fresh = world.counted.fresh;
+        out = world.counted.out;
+        claimed = λ still some. omega (arith, world.counted.settled, grown.longer);
+        late = λ over. inr (inr (omega (arith, world.counted.settled, grown.longer)));
+        acts = omega (arith, world.counted.acts, world.counted.settled, grown.longer);
+        acts_on = λ still. omega (arith, world.counted.acts_on on, world.counted.settled, grown.longer);
+        acts_going = λ still going_on. omega (arith, world.counted.acts_going on going_on, world.counted.settled, grown.longer);
+        low = world.counted.low;
+      };
+      disk_is = refl;
+      going = λ still. going2;
+      gone = λ off. no_both w.lost off on _;
+    }
+
+    words2 : (q : Pending) (words : List ℕ) → In q w.pending → SpellCall (state_of w) q words → SpellCall (state_of (return_view l u)) q words
+    words2 q words at spells =
+        subst (λ (s : State). SpellCall s q words) (sym grown.run_is)
+        (words_stay w.geometry k t (kept_of w staging files) _ (length w.history) (state_of w) standing (who, call) (lets idle) w.geometry l u (kept_of w staging laid) _ _ stands refl q words at spells)
+
+    -- the jobs of others stay out
+    pub others_returned : OthersStay w (return_view l u) who
+    others_returned = (
+      λ q other apart is. record { there = is.there; who = is.who; draft = is.draft; blocks = is.blocks; words = words2 q other.words is.there is.words; lent = has_blocks_out w.geometry l u (kept_of w staging laid) _ _ q stands is.there },
+      λ q other apart is. record { there = is.there; who = is.who; draft = is.draft; blocks = is.blocks; words = words2 q other.words is.there is.words; lent = has_blocks_out w.geometry l u (kept_of w staging laid) _ _ q stands is.there },
+    )
+
+  -- ---- it became a job
+
+  abbrev pub job_view : View → Staged → Pending → WorldView
+  job_view l staged p = record w { pending = w.pending ++ p ∷ []; acts = w.acts + 1; disk = disk_of l t staged }
+
+  module _ (going_on : w.over ≡ None) (p : Pending) (who_is : p.who ≡ who) (call_is : p.call ≡ call) (l : View) (staged : Staged) (laid : Files) (base : l.volume.base ≡ k.volume.base) (ends : FilesEnd l.volume laid) (own_ends : DraftEnds p.draft)
+      (runs : length staged.out ≡ length staging.out + 1) (few : length (w.pending ++ p ∷ []) ≤ 9)
+      (stands : StandsAt w.geometry l t (record (kept_of w staged laid) { pending = w.pending ++ p ∷ [] }) true (length w.history) (state_of w)) where
+    going3 : IsGoing l t staged laid (job_view l staged p)
+    going3 = record {
+      stands = subst (λ b. StandsAt w.geometry l t (kept_of (job_view l staged p) staged laid) b (length w.history) (state_of w)) (sym out) stands;
+      runs = omega (arith, runs, going.runs, length-append w.pending (p ∷ []));
+      bare = λ goes none empty. absurd (let long = length-append w.pending (p ∷ []) in let zero = ap length empty in omega (arith, long, zero));
+      none_unfinished = going.none_unfinished;
+      none_home = going.none_home;
+      base = going.base ∙ sym base;
+      next = λ q at. elim (pushed-In w.pending p q at) [
+        | inl old ↦ going.next q old
+        | inr one ↦ subst (λ (x : Pending). (next_of w x.who ≡ Some x.call) × IsSetUp w.scripts w.history x.who) one (
+          ap (next_of w) who_is ∙ (next ∙ ap (λ c. Some c) (sym call_is)),
+          subst (IsSetUp w.scripts w.history) (sym who_is) up,
+        )
+      ];
+      spelled = going.spelled;
+      ends = ends;
+      drafts_end = λ q at. elim (pushed-In w.pending p q at) [
+        | inl old ↦ going.drafts_end q old
+        | inr one ↦ subst (λ (x : Pending). DraftEnds x.draft) one own_ends
+      ];
+      log_home = λ home. no_both w.lines_out out home _;
+    }
+
+    longer : length (w.pending ++ p ∷ []) ≡ length w.pending + 1
+    longer = length-append w.pending (p ∷ [])
+
+    no_given : w.given_up ≡ 0
+    no_given = world.counted.fresh going_on
+
+    -- IT BECAME A JOB.
+    pub began : IsWorldOver l t staged laid (job_view l staged p)
+    began = record {
+      mode = world.mode;
+      few = world.few;
+      threads = world.threads;
+      spelled = world.spelled;
+      legal = world.legal;
+      scripted = world.scripted;
+      counted = record {
+        settled = world.counted.settled;
+        fresh = world.counted.fresh;
+        out = omega (arith, few, no_given);
+        claimed = world.counted.claimed;
+        late = λ over. absurd (over going_on);
+        acts = omega (arith, world.counted.acts, longer);
+        acts_on = λ still. omega (arith, world.counted.acts_on on, longer);
+        acts_going = λ still never. omega (arith, world.counted.acts_going on going_on, longer);
+        low = world.counted.low;
+      };
+      disk_is = refl;
+      going = λ still. going3;
+      gone = λ off. no_both w.lost off on _;
+    }
+
+    there : (q : Pending) → In q w.pending → In q (w.pending ++ p ∷ [])
+    there q at = front w.pending at where
+      front : (xs : List Pending) → In q xs → In q (xs ++ p ∷ [])
+      front [] is = absurd is
+      front (x ∷ xs) (inl same) = inl same
+      front (x ∷ xs) (inr rest) = inr (front xs rest)
+
+    pub others_began : OthersStay w (job_view l staged p) who
+    others_began = (
+      λ q other apart is. record { there = there q is.there; who = is.who; draft = is.draft; blocks = is.blocks; words = is.words; lent = has_blocks_out w.geometry l t (kept_of (job_view l staged p) staged laid) _ _ q stands (there q is.there) },
+      λ q other apart is. record { there = there q is.there; who = is.who; draft = is.draft; blocks = is.blocks; words = is.words; lent = has_blocks_out w.geometry l t (kept_of (job_view l staged p) staged laid) _ _ q stands (there q is.there) },
+    )
+
+  -- ---- it lost its power
+
+  module _ (l : View) (u : Tables) (staged : Staged) (laid : Files) (left : IsLeftOf w.geometry k.cells l.cells)
+      (promise : (back : ℕ → Cell) (slots : List (Option ℕ)) (image : Words) → IsPutBack k.volume l.cells back (first_by w.geometry w.first) w.claims standing.jobs slots image → IsKept w.geometry w.start w.history (map begun_of standing.jobs ++ (who, call) ∷ []) image) where
+    unfinished_are : map begun_of standing.jobs ++ (who, call) ∷ [] ≡ map begun_by w.pending ++ (who, call) ∷ []
+    unfinished_are = ap (λ (calls : List Begun). calls ++ (who, call) ∷ []) (calls_are w.pending standing.jobs standing.jobs_are)
+
+    lost_out : IsLostOut staged laid (lost_view w ((who, call) ∷ []) (w.acts + 1) (disk_of l u staged))
+    lost_out = record {
+      volume = k.volume;
+      geometry = standing.geometry;
+      base = sym going.base;
+      none_home = going.none_home;
+      size = left.size ∙ size_now k t staging files w world on;
+      at = lost_alike k.volume l.cells (kept_of w staging files) (kept_of w staged laid) w.start w.history (map begun_by w.pending ++ (who, call) ∷ []) refl refl refl
+          (loses_call w.geometry k t (kept_of w staging files) (length w.history) w.start w.history (map begun_by w.pending ++ (who, call) ∷ []) l.cells standing going.spelled left
+          (λ back slots image is. subst (λ (calls : List Begun). IsKept w.geometry w.start w.history calls image) unfinished_are (promise back slots image is)));
+    }
+
+    -- IT LOST ITS POWER.
+    pub lost_call : IsWorldOver l u staged laid (lost_view w ((who, call) ∷ []) (w.acts + 1) (disk_of l u staged))
+    lost_call =
+        world_lost k l t u staging staged files laid w ((who, call) ∷ []) (w.acts + 1) world (omega (arith, world.counted.acts_on on))
+        (subst (IsLost staged laid (lost_view w ((who, call) ∷ []) (w.acts + 1) (disk_of l u staged))) (sym out) lost_out)
+
+    still_out : (q : Pending) → AreBlocksOut q.blocks w.disk.cells → AreBlocksOut q.blocks l.cells
+    still_out q was = (leaves_blocks w.geometry k.cells l.cells q.blocks left).0 (subst (AreBlocksOut q.blocks) (ap (λ (d : Disk). d.cells) world.disk_is) was)
+
+    pub others_lost : OthersStay w (lost_view w ((who, call) ∷ []) (w.acts + 1) (disk_of l u staged)) who
+    others_lost = (
+      λ q other apart is. record { there = is.there; who = is.who; draft = is.draft; blocks = is.blocks; words = is.words; lent = still_out q is.lent },
+      λ q other apart is. record { there = is.there; who = is.who; draft = is.draft; blocks = is.blocks; words = is.words; lent = still_out q is.lent },
+    )

@@ -1,0 +1,15 @@
+-- What jobs leave that end after the power went, as one statement.
+use Rattle.std.specs.Prelude.{◌≢◌, ℕ}
+use Rattle.eof_laws.specs.pm_model.Powers.{Supply}
+use Rattle.eof_laws.specs.list_laws.Members.{In}
+use Rattle.in_flight.specs.live_model.Standing.{Pending}
+use Rattle.write_end.specs.Blocks.{AreBlocksHome}
+use Rattle.world_view_laws.specs.Jobs.{LosesFinish}
+use Rattle.world_view_laws.specs.Views.{WorldView}
+
+-- TWO JOBS ENDED, one behind the other: the blocks of both are at home, as a crash asks.
+abbrev pub BothAreHome : Type 0
+BothAreHome =
+    (slot next : ℕ) (p q : Pending) (old middle new : WorldView) (power later : Supply) → p.who ≢ q.who → In p old.pending
+    → LosesFinish slot p old middle power → LosesFinish next q middle new later
+    → AreBlocksHome p.blocks new.disk.cells × AreBlocksHome q.blocks new.disk.cells

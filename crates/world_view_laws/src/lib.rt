@@ -1,0 +1,28 @@
+//! What contracts see of a World, and the laws of how it goes on, loses its power and ends its jobs.
+//!
+//! `Views`, `Begins`, `Jobs`, `Rounds` and `Losses` in specs/ are the definitions that
+//! `split_world` answers by: read them first of all crates of laws.
+//!
+//! - `views`: What contracts see of a World with logged writes out, and what its calls leave.
+//! - `turns`: How a World goes on, and how it loses its power.
+//!
+//! `Disk` shows what is free and what the staging keeps, since only these say why a round ends. Blocks that
+//! came home after a loss stay (`HomesStay`).
+//!
+//! Stands on `file_calls`, `write_end`, `file_publish`, `in_flight` and `eof_laws`.
+#![tactic(auto)]
+
+mod turns;
+mod views;
+
+pub use turns::{
+    FileTable, Geometry, Staging, finished_writes_end_with_their_files, jobs_that_ended_stay_home,
+    put_lines,
+};
+pub use views::{
+    Commit, Counters, Filled, FilledJob, Full, Job, KSplit, NoMemory, OpenFiles, Over, Pending,
+    Told, a_crash_keeps_the_promise, call_at, calls_made, count_call, finish_write, fsync, gather,
+    give_up_write, keeper, log_lines_come_home, log_lines_go_out, next_in, no_calls, place_of,
+    publishing_leaves_what_is_out, run_call, script_length, settle_blocks, take_job, waits_for,
+    what_stands_may_be_published,
+};

@@ -1,0 +1,31 @@
+pub mod Resizes
+pub mod Places
+pub mod JobsLaws
+pub mod JobSteps
+pub mod ResizeSteps
+pub mod PlaceSteps
+pub mod FinishSteps
+pub mod Relinks
+pub mod Restages
+pub mod RunsLaws
+pub mod RunSteps
+pub mod StagingSteps
+pub mod RoomLaws
+pub mod Free
+pub use Rattle.world_step_laws.specs.world_model.block_counts
+pub use Rattle.world_step_laws.specs.commute_laws
+pub use Rattle.world_step_laws.specs.world_model.crash_spec
+pub use Rattle.world_step_laws.specs.world_model.image_model
+pub use Rattle.world_step_laws.specs.world_model.extent_model
+pub use Rattle.world_step_laws.specs.k_split_model
+pub use Rattle.world_step_laws.specs.world_model.layout_model
+pub use Rattle.world_step_laws.specs.world_model.list_laws
+pub use Rattle.world_step_laws.specs.world_model.name_laws
+pub use Rattle.world_step_laws.specs.world_model.pm_model
+pub use Rattle.world_step_laws.specs.world_model.posix_laws
+pub use Rattle.world_step_laws.specs.world_model.posix_spec
+pub use Rattle.world_step_laws.specs.world_model.posix_types
+pub use Rattle.world_step_laws.specs.world_model.posix_tables
+pub use Rattle.world_step_laws.specs.world_model.volume_laws
+pub use Rattle.world_step_laws.specs.world_model as world_model
+pub use Rattle.world_step_laws.specs as world_step_laws

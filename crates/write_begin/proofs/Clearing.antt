@@ -1,0 +1,151 @@
+-- Memory for the run of a write, and zeros before it.
+use Rattle.std.specs.Prelude.{◌≡◌, ◌≢◌, ◌≤◌, ◌<◌, ◌+◌, ℕ, true, List, [], ◌∷◌, length, slice_index, refl}
+use Rattle.std.proofs.Common.{arith, ap, ◌∙◌, sym, subst, inl, inr}
+use Rattle.block_counts.specs.Counts.{blocks_for}
+use Rattle.write_plan.specs.layout_model.declared.lines.Draft.{Draft}
+use Rattle.write_plan.specs.layout_model.Places.{data_blocks}
+use Rattle.write_plan.specs.image_model.Volume.{Volume}
+use Rattle.write_plan.specs.file_table.Files.{Files, runs_in, size_in, spare_in}
+use Rattle.live_step_laws.specs.live_model.Flying.{IsFlying}
+use Rattle.live_step_laws.specs.world_model.HeldLaws.{AreSizes}
+use Rattle.write_plan.specs.k_split_model.View.{View}
+use Rattle.write_plan.specs.list_laws.Members.{In}
+use Rattle.live_step_laws.specs.live_model.Overlays.{IsOverlayOf}
+use Rattle.posix_types.specs.declared.call.Mode.{Mode}
+use Rattle.posix_types.specs.declared.call.Who.{Who}
+use Rattle.posix_tables.specs.Room.{write_need}
+use Rattle.live_step_laws.specs.staging_files.Keeps.{Staged}
+use Rattle.live_step_laws.specs.world_model.TreeRules.{used_below}
+use Rattle.live_step_laws.specs.world_model.Jobs.{Job, live_claims}
+use Rattle.live_step_laws.specs.world_model.Stands.{is_used}
+use Rattle.live_step_laws.specs.live_model.Standing.{AreJobsOf, file_state, Pending}
+use Rattle.write_plan.specs.declared.asks.asking.Target.{Target}
+use Rattle.write_plan.specs.Asks.{room_in}
+use Rattle.zero_fill.specs.Gaps.{Clears, HasFile, LosesGap}
+use Rattle.write_begin.specs.Stages.{with_parts}
+use Rattle.write_begin.specs.Goes.{Goes, HasRoom, LosesTarget}
+use Rattle.write_begin.proofs.Steps.{IsStep, Onward}
+
+-- The files are those before but for the room that is spare in one line.
+pub record SparesOthers (ino : ℕ) (files then : Files) : Type 0 where
+  pub runs : (other : ℕ) → runs_in then other ≡ runs_in files other
+  pub sizes : then.sizes ≡ files.sizes
+  pub spares : (other : ℕ) → other ≢ ino → spare_in then other ≡ spare_in files other
+
+-- the job of one that is kept as out
+pub job_of_pending : (pending : List Pending) (jobs : List Job) → AreJobsOf pending jobs → (p : Pending) → In p pending → (j : Job) × In j jobs × (j.draft ≡ p.draft) × (j.who ≡ p.who)
+job_of_pending [] jobs are p is = absurd is
+job_of_pending (q ∷ pending) [] are p is = absurd are
+job_of_pending (q ∷ pending) (j ∷ jobs) are p (inl same) = (j, inl refl, are.2 ∙ ap (λ (y : Pending). y.draft) same, are.0 ∙ ap (λ (y : Pending). y.who) same)
+job_of_pending (q ∷ pending) (j ∷ jobs) are p (inr behind) = let rest = job_of_pending pending jobs are.3 p behind in (rest.0, inr rest.1, rest.2, rest.3)
+
+-- the file has its line
+pub line_there : (k : View) (staging : Staged) (files : Files) (who : Who) (target : Target) (x : List ℕ) → Goes k staging files who target x → target.ino < length files.sizes
+line_there k staging files who target x goes =
+    let file = goes.stands.open_are_files target.ino goes.opened in
+    let below = used_below k.volume target.ino (ap is_used file) in
+    let count = goes.stands.sizes.count in
+    omega (arith, below, count)
+
+-- ---- memory
+
+module _ (k : View) (staging : Staged) (files then : Files) (who : Who) (target : Target) (x : List ℕ) (spares : SparesOthers target.ino files then) where
+  not_own : (goes : Goes k staging files who target x) → (p : Pending) → In p goes.kept.pending → p.draft.ino ≢ target.ino
+  not_own goes p is own =
+      let j = job_of_pending goes.kept.pending goes.stands.jobs goes.stands.jobs_are p is in
+      goes.others j.0 j.1 (ap (λ (d : Draft). d.ino) j.2 ∙ own)
+
+  flying : (goes : Goes k staging files who target x) → IsFlying k.volume k.cells goes.kept.claims goes.stands.jobs (file_state then) goes.stands.numbers goes.s goes.stands.count
+  flying goes = record {
+    device = goes.stands.flying.device;
+    whole = goes.stands.flying.whole;
+    out = goes.stands.flying.out;
+    home = goes.stands.flying.home;
+    overlays = λ ino file.
+        subst (λ n. IsOverlayOf k.volume (live_claims k.volume goes.kept.claims) ino (runs_in then ino) n) (ap (λ sizes. slice_index sizes ino) (sym spares.sizes))
+        (subst (λ rs. IsOverlayOf k.volume (live_claims k.volume goes.kept.claims) ino rs (size_in files ino)) (sym (spares.runs ino)) (goes.stands.flying.overlays ino file));
+  }
+
+  pub spared : (goes : Goes k staging files who target x) → Onward k k staging staging files then who target x goes
+  spared goes = record {
+    now = record {
+      count = goes.stands.count;
+      few = goes.stands.few;
+      numbers = goes.stands.numbers;
+      jobs = goes.stands.jobs;
+      jobs_are = goes.stands.jobs_are;
+      order = goes.stands.order;
+      unbatched = goes.stands.unbatched;
+      on = goes.stands.on;
+      geometry = goes.stands.geometry;
+      flying = flying goes;
+      lines = record { lent = goes.stands.lines.lent; old = goes.stands.lines.old };
+      quiet = goes.stands.quiet;
+      blocks = goes.stands.blocks;
+      callers = goes.stands.callers;
+      spare = λ p is. subst (λ n. 3 ≤ n) (sym (spares.spares p.draft.ino (not_own goes p is))) (goes.stands.spare p is);
+      tables = goes.stands.tables;
+      open_are_files = goes.stands.open_are_files;
+      ordered = goes.stands.ordered;
+      sizes = subst (AreSizes k.volume (live_claims k.volume goes.kept.claims)) (sym spares.sizes) goes.stands.sizes;
+      bare = λ ino kind. spares.runs ino ∙ goes.stands.bare ino kind;
+      staged = goes.stands.staged;
+      agrees = goes.stands.agrees;
+      free_single = goes.stands.free_single;
+      drafts = goes.stands.drafts;
+      low = goes.stands.low;
+      claims_out = goes.stands.claims_out;
+      jobs_out = goes.stands.jobs_out;
+      owed = goes.stands.owed;
+    };
+    jobs_are = refl;
+    numbers_are = refl;
+  }
+
+  pub spare_step : IsStep k k staging files then who target x
+  spare_step = record { same = refl; size = refl; lent = λ i. refl; onward = spared }
+
+-- it leaves the room that there is
+pub room_spared : (v : Volume) (files then : Files) (target : Target) (len : ℕ) → SparesOthers target.ino files then → HasRoom v files target len → HasRoom v then target len
+room_spared v files then target len spares has = record {
+  ends = record {
+    maps = λ ino block file past. has.ends.maps ino block file (subst (λ (sizes : List ℕ). blocks_for (slice_index sizes ino) ≤ block) spares.sizes past);
+    runs = λ ino run is.
+        subst (λ (sizes : List ℕ). run.file_block + run.count ≤ blocks_for (slice_index sizes ino)) (sym spares.sizes) (has.ends.runs ino run (subst (In run) (spares.runs ino) is));
+  };
+  room =
+      subst (λ n. write_need Mode.Strict target.size target.start (target.start + len) ≤ n) (ap (λ (sizes : List ℕ). room_in (data_blocks v.geometry) (record files { sizes = sizes })) (sym spares.sizes))
+      has.room;
+}
+
+-- ---- zeros
+
+-- the file of the write, in which no job that is out writes
+abbrev pub has_file : (k : View) (staging : Staged) (files : Files) (who : Who) (target : Target) (x : List ℕ) → Goes k staging files who target x → HasFile k files target.ino
+has_file k staging files who target x goes = record {
+  g = goes.g;
+  t = goes.t;
+  kept = with_parts goes.kept staging files;
+  lines = true;
+  n = goes.n;
+  s = goes.s;
+  stands = goes.stands;
+  file = goes.stands.open_are_files target.ino goes.opened;
+  others = goes.others;
+}
+
+pub cleared_step : (k l : View) (staging : Staged) (files : Files) (who : Who) (target : Target) (x : List ℕ) (to : ℕ) → Clears target.ino files k l to → IsStep k l staging files files who target x
+cleared_step k l staging files who target x to clears = record {
+  same = clears.same;
+  size = clears.size;
+  lent = clears.lent;
+  onward = λ goes.
+      let stays = clears.stays (has_file k staging files who target x goes) in
+      record { now = stays.now; jobs_are = stays.jobs_are; numbers_are = stays.numbers_are };
+}
+
+pub cleared_lost : (k l : View) (staging : Staged) (files : Files) (who : Who) (target : Target) (x : List ℕ) → LosesGap target.ino files k l → LosesTarget k l staging files who target x
+cleared_lost k l staging files who target x loses = record {
+  left = λ goes. loses.left (has_file k staging files who target x goes);
+  kept = λ goes start history same strict. loses.kept (has_file k staging files who target x goes) start history (who, goes.call) same strict;
+}

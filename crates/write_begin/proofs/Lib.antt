@@ -1,0 +1,13 @@
+pub mod Numbers
+pub mod Making
+pub mod Staged
+pub mod Steps
+pub mod Clearing
+pub mod Losses
+pub mod Runs
+pub mod Cleared
+pub mod BeginsAsked
+pub mod Begun
+pub mod JobNeeds
+pub use Rattle.write_plan.proofs as write_plan_proofs
+pub use Rattle.zero_fill.proofs as zero_fill_proofs

@@ -1,0 +1,273 @@
+-- A run is reserved for a write, and its job begins, or the run goes back.
+use Rattle.std.specs.Prelude.{◌≡◌, ◌⊎◌, ◌≤◌, ◌+◌, ◌-◌, ◌*◌, ◌/◌, ◌==◌, ℕ, true, false, Contains, List, [], ◌∷◌, ◌++◌, length, max, Some, remove, slice_get, refl, Result, Ok}
+use Rattle.std.proofs.Common.{arith, ap, ◌∙◌, sym, subst, inl, inr, eq-eqb}
+use Rattle.std.proofs.lemmas.Bool.{cases_eq}
+use Rattle.std.proofs.lemmas.Bool.Decides.{nat_tests}
+use Rattle.std.proofs.Math.Nat.{sub_self}
+use Rattle.std.proofs.lemmas.List.{append-nil, length-append}
+use Rattle.std.proofs.lemmas.Option.{get_or_from_slice_get, slice_get_within}
+use Rattle.std.proofs.Math.Seq.{get_or-append_seam}
+use Rattle.std.proofs.lemmas.List.Edits.{remove-append_right}
+use Rattle.std.proofs.lemmas.List.Folds.{list_any_at}
+use Rattle.block_counts.specs.Counts.{blocks_for}
+use Rattle.write_plan.specs.layout_model.declared.lines.Draft.{Draft}
+use Rattle.write_plan.specs.layout_model.declared.lines.Inode.{Inode}
+use Rattle.write_plan.specs.layout_model.Lines.{most_bytes}
+use Rattle.write_plan.specs.image_model.Volume.{inode}
+use Rattle.write_plan.specs.file_table.Files.{Files, spare_in}
+use Rattle.live_step_laws.specs.ReservesLaws.{StandsReserved, StandsWithRun}
+use Rattle.zero_fill.proofs.Refilled as refilling
+use Rattle.zero_fill.specs.ZerosLaws.{ReservedReadZero}
+use Rattle.zero_fill.specs.Zeros.{ReadZero}
+use Rattle.write_plan.specs.k_split_model.View.{View}
+use Rattle.write_plan.specs.list_laws.Members.{In, slice_get-push}
+use Rattle.posix_types.specs.declared.call.Who.{Who}
+use Rattle.write_plan.specs.posix_laws.Views.{need_of}
+use Rattle.write_plan.specs.posix_spec.Put.{Put}
+use Rattle.write_plan.specs.posix_spec.State.{room}
+use Rattle.live_step_laws.specs.staging_files.declared.runs.StageFault.{StageFault}
+use Rattle.live_step_laws.specs.staging_files.declared.runs.StageRun.{StageRun}
+use Rattle.live_step_laws.specs.staging_files.GivesUp.{IsGivenBack}
+use Rattle.live_step_laws.specs.staging_files.Keeps.{given_to, has_block, IsStaged, Staged}
+use Rattle.live_step_laws.specs.staging_files.Reserves.{has_empty, IsLacking, IsReserveAnswer, LacksFirstWay, LacksSecondWay, share}
+use Rattle.live_step_laws.specs.world_model.JobLaws.{needs}
+use Rattle.live_step_laws.specs.relink_laws.world_write_laws.Restages.{Restages}
+use Rattle.live_step_laws.specs.world_model.Jobs.{live_claims}
+use Rattle.live_step_laws.specs.world_model.Stands.{number}
+use Rattle.live_step_laws.specs.live_model.Standing.{Kept, reserved_run, StandsAt}
+use Rattle.write_plan.specs.declared.asks.asking.Target.{Target}
+use Rattle.write_plan.specs.Drafts.{staged_count}
+use Rattle.live_step_laws.specs.live_model.Jobs.{SpellCall}
+use Rattle.write_plan.specs.write_jobs.Jobs.{JobView}
+use Rattle.write_begin.specs.Stages.{IsStaged as IsJobStaged, Ready, with_parts}
+use Rattle.write_begin.specs.Goes.{BecomesJob, FitsTarget, Goes, GoesNoFurther, job_of, KeepsMaps, RunGivenBack, StagedAsJob}
+
+-- what the reserve answers with a run
+abbrev pub IsRun : ℕ → Staged → View → Staged → View → StageRun → Type 0
+IsRun count s k t l taken = let r : Result StageRun StageFault = Ok taken in IsReserveAnswer count s k t l r
+
+-- What it says of the run, whichever way it went.
+pub record RunIs (count : ℕ) (old new : Staged) (l : View) (taken : StageRun) : Type 0 where
+  pub count_is : taken.count ≡ count
+  pub generation : taken.generation ≡ (inode l.volume taken.staging).generation
+  pub out_is : new.out ≡ old.out ++ taken ∷ []
+
+pub run_is : (count : ℕ) (old new : Staged) (k l : View) (taken : StageRun) → IsRun count old k new l taken → RunIs count old new l taken
+run_is count old new k l taken (inl was) = record {
+  count_is = ap (λ (r : StageRun). r.count) was.run_is;
+  generation = ap (λ (r : StageRun). r.generation) was.run_is;
+  out_is = ap (λ (s : Staged). s.out) was.staged;
+}
+run_is count old new k l taken (inr given) = record {
+  count_is = ap (λ (r : StageRun). r.count) given.run_is;
+  generation = ap (λ (r : StageRun). r.generation) given.run_is;
+  out_is = ap (λ (s : Staged). s.out) given.staged;
+}
+
+-- A staging that has one lacks none.
+lacks_none : (count : ℕ) (old new : Staged) (k l : View) (taken : StageRun) → IsStaged old → IsRun count old k new l taken → (need left : ℕ) → ¬ IsLacking count old k need left
+lacks_none count old new k l taken keeps (inl was) need left lacks = by lacks.no_first where
+  by : LacksFirstWay old k count → ⊥
+  by (inl few) = let room = was.way.room in omega (arith, few, room)
+  by (inr none) = none taken.staging taken.block was.way.place.staging was.way.place.here
+lacks_none count old new k l taken keeps (inr given) need left lacks = by lacks.no_second where
+  by : LacksSecondWay old k count → ⊥
+  by (inl few) = let room = given.way.room in omega (arith, few, room)
+  by (inr none) =
+      let place = given.way.place in
+      let some : has_empty old ≡ true =
+      list_any_at (λ n. n == 0) old.given (taken.staging - 1) 0 (omega (arith, keeps.files, place.staging.least, place.staging.most)) (eq-eqb (given_to old taken.staging) 0 place.empty)
+      in
+      let never : true ≡ false = sym some ∙ none in
+      cc
+
+pub last_in : (xs : List StageRun) (x : StageRun) → Contains (xs ++ x ∷ []) x
+last_in xs x = (length xs, omega (arith, length-append xs (x ∷ [])), get_or-append_seam xs x [] x)
+
+-- the blocks of a write end with it
+ends_of : (start len size count : ℕ) → count ≡ staged_count start len → start / 4096 + count ≤ blocks_for (max size (start + len))
+ends_of start len size count is = omega (arith, is)
+
+-- a run has its first block
+has_first : (r : StageRun) → 1 ≤ r.count → has_block r.staging r.block r ≡ true
+has_first r some = grind (arith, nat_tests)
+
+contains_at : (xs : List StageRun) (i : ℕ) (x : StageRun) → slice_get xs i ≡ Some x → Contains xs x
+contains_at xs i x is = (i, slice_get_within xs i x is, get_or_from_slice_get xs i x x is)
+
+remove_last : (xs : List StageRun) (x : StageRun) → remove (xs ++ x ∷ []) (length xs) ≡ xs
+remove_last xs x = remove-append_right xs (x ∷ []) (length xs) (length xs) refl (omega arith) ∙ (ap (λ n. xs ++ remove (x ∷ []) n) (sub_self (length xs)) ∙ append-nil xs)
+
+module _ (k l : View) (old new : Staged) (files : Files) (who : Who) (target : Target) (x : List ℕ) (count : ℕ) (taken : StageRun) (law : StandsReserved) (some : 1 ≤ count) (few : count ≤ 33) (answer : IsRun count old k new l taken) where
+  abbrev pub kept_of : (goes : Goes k old files who target x) → Kept
+  kept_of goes = with_parts goes.kept old files
+
+  pub with_run : (goes : Goes k old files who target x) → StandsWithRun goes.g k l goes.t (kept_of goes) new true goes.n goes.s taken goes.stands
+  with_run goes = law goes.g k l goes.t (kept_of goes) new true goes.n goes.s count taken goes.stands some few answer
+
+  -- the same entries are live
+  same_live : (goes : Goes k old files who target x) → live_claims l.volume goes.kept.claims ≡ live_claims k.volume goes.kept.claims
+  same_live goes = by answer where
+    by : IsRun count old k new l taken → live_claims l.volume goes.kept.claims ≡ live_claims k.volume goes.kept.claims
+    by (inl was) = ap (λ (y : View). live_claims y.volume goes.kept.claims) was.same
+    by (inr given) =
+        refilling.same_live goes.g k goes.t (kept_of goes) true goes.n goes.s goes.stands taken.staging (share old k count) l.volume given.given.0 given.way.place.staging given.way.place.empty given.given.1 given.given.2.order.whole
+
+  pub claims_out : (goes : Goes k old files who target x) → (d : Draft) → In d (live_claims l.volume goes.kept.claims) → Contains old.out (reserved_run d)
+  claims_out goes d is = goes.stands.claims_out d (subst (In d) (same_live goes) is)
+
+  -- THE WRITE CAN BE STAGED
+  abbrev pub ready_of : ReservedReadZero → FitsTarget files target (length x) → target.size ≤ most_bytes → count ≡ staged_count target.start (length x) → 3 ≤ spare_in files target.ino → ReadZero k files target.ino target.size (4096 * (target.start / 4096))
+      → (goes : Goes k old files who target x) → Ready l files who target x taken
+  ready_of reads fits small count_is spare zero goes = record {
+    g = goes.g;
+    t = goes.t;
+    staging = new;
+    kept = goes.kept;
+    n = goes.n;
+    few = goes.few;
+    s = goes.s;
+    call = goes.call;
+    stands = (with_run goes).now;
+    file = (with_run goes).now.open_are_files target.ino goes.opened;
+    size_is = fits.size;
+    puts = goes.puts ∙ ap (λ (numbers : List ℕ). (let put : Put = record { node = number numbers target.ino; place = target.start; bytes = x } in Some put)) (sym (with_run goes).numbers_are);
+    fits = subst (λ js. needs goes.s js + need_of goes.s who goes.call ≤ room goes.s) (sym (with_run goes).jobs_are) goes.fits;
+    others = λ j is. goes.others j (subst (In j) (with_run goes).jobs_are is);
+    callers = goes.callers;
+    spare = spare;
+    zero = reads goes.g k l goes.t (kept_of goes) new true goes.n goes.s count taken target.ino target.size (4096 * (target.start / 4096)) goes.stands (goes.stands.open_are_files target.ino goes.opened) some few answer zero;
+    old = old.out;
+    has_run = record {
+      some = fits.some;
+      most = fits.most;
+      fits = fits.fits;
+      size = small;
+      out = subst (λ xs. Contains xs taken) (sym (run_is count old new k l taken answer).out_is) (last_in old.out taken);
+      count_is = (run_is count old new k l taken answer).count_is ∙ count_is;
+      generation = (run_is count old new k l taken answer).generation;
+    };
+    claims_out = claims_out goes;
+    jobs_out = goes.stands.jobs_out;
+    apart = (with_run goes).apart;
+    there = (with_run goes).there;
+    single = (with_run goes).single;
+    owed = (let owed = (with_run goes).owed in let same = ap length (with_run goes).jobs_are in omega (arith, owed, same));
+    free = (with_run goes).free;
+  }
+
+  pub run_out : Contains new.out taken
+  run_out = subst (λ xs. Contains xs taken) (sym (run_is count old new k l taken answer).out_is) (last_in old.out taken)
+
+  -- ---- it is a job
+
+  pub becomes_job : (m : View) (last : Staged) (job : JobView) (blocks : List ℕ) → ReservedReadZero → FitsTarget files target (length x) → target.size ≤ most_bytes → count ≡ staged_count target.start (length x)
+      → 3 ≤ spare_in files target.ino → ReadZero k files target.ino target.size (4096 * (target.start / 4096)) → Goes k old files who target x → StagedAsJob l m new last files who target x taken job blocks
+      → BecomesJob k m old last files files who target x job blocks
+  becomes_job m last job blocks reads fits small count_is spare zero goes_one staged = record {
+    run = λ need left lacks. lacks_none count old new k l taken goes_one.stands.staged answer need left (subst (λ n. IsLacking n old k need left) (sym count_is) lacks);
+    job_who = staged.job_is.who_is;
+    blocks_are = staged.job_is.blocks_are;
+    fresh = staged.job_is.fresh;
+    ends = subst (λ (d : Draft). d.file_block + d.count ≤ blocks_for d.size) (sym staged.job_is.draft) (ends_of target.start (length x) target.size taken.count ((run_is count old new k l taken answer).count_is ∙ count_is));
+    plan = (ap (λ (d : Draft). d.file_block) staged.job_is.draft, ap (λ (d : Draft). d.count) staged.job_is.draft ∙ ((run_is count old new k l taken answer).count_is ∙ count_is));
+    out =
+        ap (λ (s : Staged). s.out) staged.same
+        ∙ ((run_is count old new k l taken answer).out_is ∙ ap (λ (d : Draft). old.out ++ reserved_run d ∷ []) (sym staged.job_is.draft));
+    words = λ goes.
+        subst (λ (d : Draft). SpellCall goes.s (record { who = who; call = goes.call; draft = d; blocks = blocks }) job.words) (sym staged.job_is.draft) (is_out goes).spells;
+    stands = λ goes.
+        subst (λ s. StandsAt goes.g m goes.t (record (with_parts goes.kept s files) { pending = goes.kept.pending ++ job_of who goes.call job blocks ∷ [] }) true goes.n goes.s) (sym staged.same)
+        (subst
+        (λ (d : Draft). StandsAt goes.g m goes.t (record (with_parts goes.kept new files) { pending = goes.kept.pending ++ record { who = who; call = goes.call; draft = d; blocks = blocks } ∷ [] }) true goes.n goes.s)
+        (sym staged.job_is.draft) (is_out goes).stands);
+  } where
+    is_out : (goes : Goes k old files who target x) → IsJobStaged l m files who target x taken job.words blocks (ready_of reads fits small count_is spare zero goes)
+    is_out goes = staged.staged (ready_of reads fits small count_is spare zero goes)
+
+  -- ---- it goes back
+
+  module _ (goes_one : Goes k old files who target x) where
+    own_block : has_block taken.staging taken.block taken ≡ true
+    own_block = has_first taken (omega (arith, (run_is count old new k l taken answer).count_is, some))
+
+    -- no run that was out before is the same
+    not_before : (place : ℕ) → slice_get old.out place ≡ Some taken → ⊥
+    not_before place is =
+        let apart = (with_run goes_one).apart taken (contains_at old.out place taken is) in
+        let never : true ≡ false = sym own_block ∙ apart taken.staging taken.block own_block in
+        cc
+
+    pub out_again : (last : Staged) → IsGivenBack taken new last → last.out ≡ old.out
+    out_again last back = by (slice_get-push old.out taken back.place taken (subst (λ xs. slice_get xs back.place ≡ Some taken) (run_is count old new k l taken answer).out_is back.was)) where
+      by : (slice_get old.out back.place ≡ Some taken) ⊎ ((back.place ≡ length old.out) × (taken ≡ taken)) → last.out ≡ old.out
+      by (inl before) = absurd (not_before back.place before)
+      by (inr here) =
+          ap (λ (s : Staged). s.out) back.now
+          ∙ ((λ i. remove ((run_is count old new k l taken answer).out_is i) (here.0 i)) ∙ remove_last old.out taken)
+
+    -- the World stands together without it
+    pub goes_back : (m : View) (last : Staged) → RunGivenBack l m new last taken → GoesNoFurther k m old last files files who target x
+    goes_back m last back = record {
+      runs = ap length (out_again last back.back);
+      stands = λ goes. subst (λ y. StandsAt goes.g y goes.t (with_parts goes.kept last files) true goes.n goes.s) (sym back.same) (now goes);
+    } where
+      out_is : last.out ≡ old.out
+      out_is = out_again last back.back
+
+      now : (goes : Goes k old files who target x) → StandsAt goes.g l goes.t (with_parts goes.kept last files) true goes.n goes.s
+      now goes =
+          let was = (with_run goes).now in
+          record {
+            count = was.count;
+            few = was.few;
+            numbers = was.numbers;
+            jobs = was.jobs;
+            jobs_are = was.jobs_are;
+            order = was.order;
+            unbatched = was.unbatched;
+            on = was.on;
+            geometry = was.geometry;
+            flying = was.flying;
+            lines = record { lent = was.lines.lent; old = was.lines.old };
+            quiet = was.quiet;
+            blocks = was.blocks;
+            callers = was.callers;
+            spare = was.spare;
+            tables = was.tables;
+            open_are_files = was.open_are_files;
+            ordered = was.ordered;
+            sizes = was.sizes;
+            bare = was.bare;
+            staged = back.keeps;
+            agrees = back.agrees was.agrees (with_run goes).there;
+            free_single = back.single was.free_single (with_run goes).single;
+            drafts = was.drafts;
+            low = was.low;
+            claims_out = λ d is. subst (λ xs. Contains xs (reserved_run d)) (sym out_is) (claims_out goes d is);
+            jobs_out = λ p is. subst (λ xs. Contains xs (reserved_run p.draft)) (sym out_is) (goes.stands.jobs_out p is);
+            owed =
+                let owed = (with_run goes).owed in
+                let jobs = ap length (with_run goes).jobs_are in
+                let more = ap length (run_is count old new k l taken answer).out_is ∙ length-append old.out (taken ∷ []) in
+                let fewer = ap length out_is in
+                omega (arith, owed, jobs, more, fewer);
+          }
+
+  -- no map of a file changes
+  pub keeps_maps : (goes : Goes k old files who target x) → KeepsMaps k.volume l.volume files files
+  keeps_maps goes = by answer where
+    by : IsRun count old k new l taken → KeepsMaps k.volume l.volume files files
+    by (inl was) = subst (λ (y : View). KeepsMaps k.volume y.volume files files) (sym was.same) (record { kinds = λ ino. refl; maps = λ ino file. refl; runs = λ ino. refl; sizes = refl; base = refl })
+    by (inr given) = record {
+      kinds = λ ino. elim (cases_eq ino taken.staging) [
+        | inl own ↦ ap (λ (m : ℕ). (inode l.volume m).kind) own ∙ (restages.kind ∙ (sym restages.staging ∙ ap (λ (m : ℕ). (inode k.volume m).kind) (sym own)))
+        | inr other ↦ ap (λ (y : Inode). y.kind) (restages.others ino other)
+      ];
+      maps = λ ino file. restages.maps ino (refilling.file_other goes.g k goes.t (kept_of goes) true goes.n goes.s goes.stands taken.staging (share old k count) l.volume given.given.0 given.way.place.staging given.way.place.empty given.given.1 given.given.2.order.whole ino file);
+      runs = λ ino. refl;
+      sizes = refl;
+      base = refilling.same_base goes.g k goes.t (kept_of goes) true goes.n goes.s goes.stands taken.staging (share old k count) l.volume given.given.0 given.way.place.staging given.way.place.empty given.given.1 given.given.2.order.whole;
+    } where
+      restages : Restages k.volume l.volume taken.staging
+      restages = refilling.restages goes.g k goes.t (kept_of goes) true goes.n goes.s goes.stands taken.staging (share old k count) l.volume given.given.0 given.way.place.staging given.way.place.empty given.given.1 given.given.2.order.whole

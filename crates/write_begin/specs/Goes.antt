@@ -1,0 +1,155 @@
+-- A write that no row refuses, and that finds room beside the jobs that are out, on its way.
+use Rattle.std.specs.Prelude.{◌≡◌, ◌≢◌, ◌≤◌, ◌<◌, ◌+◌, ◌/◌, ◌^◌, ℕ, true, false, List, [], ◌∷◌, ◌++◌, length, map, Option, Some, Result, Ok, Err}
+use Rattle.std.specs.declared.alloc.AllocError.{AllocError}
+use Rattle.write_plan.specs.pm_model.declared.Cell.{Cell}
+use Rattle.write_plan.specs.pm_model.Words.{Words}
+use Rattle.block_counts.specs.Counts.{blocks_for}
+use Rattle.write_plan.specs.layout_model.declared.lines.Kind.TheVariants.{File}
+use Rattle.write_plan.specs.layout_model.Places.{data_blocks, Geometry}
+use Rattle.write_plan.specs.image_model.Volume.{extents, inode, Volume}
+use Rattle.write_plan.specs.eof_laws.Ends.{FilesEnd}
+use Rattle.write_plan.specs.file_table.Files.{Files, runs_in, size_in}
+use Rattle.write_plan.specs.k_split_model.View.{View}
+use Rattle.write_plan.specs.list_laws.Members.{In}
+use Rattle.zero_fill.specs.k_split_laws.Left.{IsLeftOf}
+use Rattle.posix_types.specs.declared.call.Call.{Call}
+use Rattle.posix_types.specs.declared.call.Mode.{Mode}
+use Rattle.posix_types.specs.declared.call.Who.{Who}
+use Rattle.posix_types.specs.declared.item.Item.{Item}
+use Rattle.posix_tables.specs.Open.{is_open, Tables}
+use Rattle.posix_tables.specs.Room.{write_need}
+use Rattle.live_step_laws.specs.commute_laws.Frames.{AreThreads}
+use Rattle.write_plan.specs.posix_laws.Views.{need_of}
+use Rattle.write_plan.specs.posix_spec.Put.{put_by}
+use Rattle.write_plan.specs.posix_spec.Run.{run}
+use Rattle.write_plan.specs.posix_spec.State.{room, State}
+use Rattle.live_step_laws.specs.staging_files.declared.runs.StageRun.{StageRun}
+use Rattle.live_step_laws.specs.staging_files.GivesUp.{IsGivenBack, nothing_staged}
+use Rattle.live_step_laws.specs.staging_files.Keeps as staging
+use Rattle.live_step_laws.specs.staging_files.Keeps.{Agrees, AreFreeSingle, IsRunSingle, IsThere, Staged}
+use Rattle.live_step_laws.specs.staging_files.Reserves.{IsLacking}
+use Rattle.live_step_laws.specs.world_image_laws.Promised.{IsKept}
+use Rattle.live_step_laws.specs.world_image_laws.Back.{IsPutBack}
+use Rattle.live_step_laws.specs.world_model.JobLaws.{needs}
+use Rattle.live_step_laws.specs.world_model.Jobs.{begun_of, Job}
+use Rattle.live_step_laws.specs.world_model.Stands.{number}
+use Rattle.live_step_laws.specs.live_model.Standing.{Kept, Pending, reserved_run, StandsAt}
+use Rattle.live_step_laws.specs.live_model.Jobs.{SpellCall}
+use Rattle.write_plan.specs.declared.asks.asking.Target.{Target}
+use Rattle.write_plan.specs.Asks.{room_in}
+use Rattle.write_plan.specs.Drafts.{staged_count}
+use Rattle.write_plan.specs.write_jobs.Jobs.{blocks_of, JobView}
+use Rattle.write_begin.specs.Stages.{IsJobOf, IsStaged, Ready, with_parts}
+use Rattle.write_begin.specs.declared.begins.beginning.WriteBegun.{WriteBegun}
+
+-- the bytes are those of a write that fits the longest file
+pub record FitsTarget (files : Files) (target : Target) (len : ℕ) : Type 0 where
+  pub some : 1 ≤ len
+  pub most : len ≤ 131072
+  pub fits : target.start + len ≤ 16777216
+  pub size : target.size ≡ size_in files target.ino
+
+-- Nothing of a file lies past its end, and all files leave the room that the write needs: so as the first of a lap it has its blocks.
+pub record HasRoom (v : Volume) (files : Files) (target : Target) (len : ℕ) : Type 0 where
+  pub ends : FilesEnd v files
+  pub room : write_need Mode.Strict target.size target.start (target.start + len) ≤ room_in (data_blocks v.geometry) files
+
+-- Where no run is out nothing is staged at all: so the first write of a lap has its run.
+abbrev pub IsBareAtRest : Staged → Type 0
+IsBareAtRest s = s.out ≡ [] → s ≡ nothing_staged
+
+-- A World in which a call puts these bytes into the file of the target, at its place, and finds room beside the jobs that are out,
+-- which are of other callers and other files.
+pub record Goes (k : View) (staging : Staged) (files : Files) (who : Who) (target : Target) (x : List ℕ) : Type 0 where
+  pub g : Geometry
+  pub t : Tables
+  pub kept : Kept
+  pub n : ℕ
+  pub few : n < 2 ^ 62
+  pub s : State
+  pub call : Call
+  pub stands : StandsAt g k t (with_parts kept staging files) true n s
+  pub opened : is_open t target.ino ≡ true
+  pub puts : put_by s who call ≡ Some (record { node = number stands.numbers target.ino; place = target.start; bytes = x })
+  pub fits : needs s stands.jobs + need_of s who call ≤ room s
+  pub others : (j : Job) → In j stands.jobs → j.draft.ino ≢ target.ino
+  pub callers : (p : Pending) → In p kept.pending → AreThreads who p.who
+
+-- the job as the World keeps it
+abbrev pub job_of : Who → Call → JobView → List ℕ → Pending
+job_of who call job blocks = record { who = who; call = call; draft = job.draft; blocks = blocks }
+
+-- No map of a file changed, nor what is staged of it and its size, nor the log's base.
+pub record KeepsMaps (v w : Volume) (files then : Files) : Type 0 where
+  pub kinds : (ino : ℕ) → (inode w ino).kind ≡ (inode v ino).kind
+  pub maps : (ino : ℕ) → (inode v ino).kind ≡ File → extents w ino ≡ extents v ino
+  pub runs : (ino : ℕ) → runs_in then ino ≡ runs_in files ino
+  pub sizes : then.sizes ≡ files.sizes
+  pub base : w.base ≡ v.base
+
+-- ---- how it went on
+
+-- IT IS A JOB, with the blocks of its plan; and just its run went out.
+pub record BecomesJob (k l : View) (old new : Staged) (files then : Files) (who : Who) (target : Target) (x : List ℕ) (job : JobView) (blocks : List ℕ) : Type 0 where
+  pub run : (need left : ℕ) → ¬ IsLacking (staged_count target.start (length x)) old k need left
+  pub job_who : job.who ≡ who
+  pub blocks_are : blocks_of job.loans ≡ blocks
+  pub fresh : job.lost ≡ false
+  pub ends : job.draft.file_block + job.draft.count ≤ blocks_for job.draft.size
+  pub plan : (job.draft.file_block ≡ target.start / 4096) × (job.draft.count ≡ staged_count target.start (length x))
+  pub out : new.out ≡ old.out ++ reserved_run job.draft ∷ []
+  pub words : (goes : Goes k old files who target x) → SpellCall goes.s (job_of who goes.call job blocks) job.words
+  pub stands : (goes : Goes k old files who target x)
+      → StandsAt goes.g l goes.t (record (with_parts goes.kept new then) { pending = goes.kept.pending ++ job_of who goes.call job blocks ∷ [] }) true goes.n goes.s
+
+-- it is none, and no call sees a change
+pub record GoesNoFurther (k l : View) (old new : Staged) (files then : Files) (who : Who) (target : Target) (x : List ℕ) : Type 0 where
+  pub runs : length new.out ≡ length old.out
+  pub stands : (goes : Goes k old files who target x) → StandsAt goes.g l goes.t (with_parts goes.kept new then) true goes.n goes.s
+
+-- the staging has no run for it, and one at least is out; only cells differ
+pub record LacksRun (k l : View) (old new : Staged) (files then : Files) (who : Who) (target : Target) (x : List ℕ) (need left : ℕ) : Type 0 where
+  pub lacks : IsLacking (staged_count target.start (length x)) old k need left
+  pub late : old.out ≢ []
+  pub same : new ≡ old
+  pub cells_alone : l ≡ record k { cells = l.cells }
+  pub stays : GoesNoFurther k l old new files then who target x
+
+-- the power went
+pub record LosesTarget (k l : View) (old : Staged) (files : Files) (who : Who) (target : Target) (x : List ℕ) : Type 0 where
+  pub left : (goes : Goes k old files who target x) → IsLeftOf goes.g k.cells l.cells
+  pub kept : (goes : Goes k old files who target x) (start : State) (history : List Item) → goes.s ≡ run start history → start.mode ≡ Mode.Strict
+      → (back : ℕ → Cell) (slots : List (Option ℕ)) (image : Words)
+      → IsPutBack k.volume l.cells back goes.kept.first goes.kept.claims goes.stands.jobs slots image
+      → IsKept goes.g start history (map begun_of goes.stands.jobs ++ (who, goes.call) ∷ []) image
+
+abbrev pub IsGone : View → View → Staged → Staged → Files → Files → Who → Target → List ℕ → Result WriteBegun AllocError → Type 0
+IsGone k l old new files then who target x (Ok (WriteBegun.Answered outcome)) = ⊥
+IsGone k l old new files then who target x (Ok (WriteBegun.Job job blocks)) = BecomesJob k l old new files then who target x job blocks.items
+IsGone k l old new files then who target x (Ok (WriteBegun.RoundOver need left)) = LacksRun k l old new files then who target x need left
+IsGone k l old new files then who target x (Ok WriteBegun.PowerLost) = LosesTarget k l old files who target x
+IsGone k l old new files then who target x (Err e) = GoesNoFurther k l old new files then who target x
+
+-- ---- with its run
+
+-- the run is a job's
+pub record StagedAsJob (k l : View) (old new : Staged) (files : Files) (who : Who) (target : Target) (x : List ℕ) (run : StageRun) (job : JobView) (blocks : List ℕ) : Type 0 where
+  pub job_is : IsJobOf k files who target (length x) run job blocks
+  pub staged : (ready : Ready k files who target x run) → IsStaged k l files who target x run job.words blocks ready
+  pub cells_alone : l ≡ record k { cells = l.cells }
+  pub same : new ≡ old
+
+-- or it is given back
+pub record RunGivenBack (k l : View) (old new : Staged) (run : StageRun) : Type 0 where
+  pub same : l ≡ k
+  pub back : IsGivenBack run old new
+  pub keeps : staging.IsStaged new
+  pub agrees : Agrees old k → IsThere k run → Agrees new k
+  pub single : AreFreeSingle old k → IsRunSingle k run → AreFreeSingle new k
+
+abbrev pub IsJobBegun : View → View → Staged → Staged → Files → Who → Target → List ℕ → StageRun → Result WriteBegun AllocError → Type 0
+IsJobBegun k l old new files who target x run (Ok (WriteBegun.Answered outcome)) = ⊥
+IsJobBegun k l old new files who target x run (Ok (WriteBegun.Job job blocks)) = StagedAsJob k l old new files who target x run job blocks.items
+IsJobBegun k l old new files who target x run (Ok (WriteBegun.RoundOver need left)) = ⊥
+IsJobBegun k l old new files who target x run (Ok WriteBegun.PowerLost) = ⊥
+IsJobBegun k l old new files who target x run (Err e) = RunGivenBack k l old new run

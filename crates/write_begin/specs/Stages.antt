@@ -1,0 +1,81 @@
+-- A logged write that has its run of staging blocks becomes a job.
+use Rattle.std.specs.Prelude.{◌≡◌, ◌≢◌, ◌≤◌, ◌<◌, ◌+◌, ◌*◌, ◌/◌, ◌^◌, ℕ, true, false, Contains, List, [], ◌∷◌, ◌++◌, length, Some}
+use Rattle.write_jobs.specs.layout_model.declared.lines.Draft.{Draft}
+use Rattle.write_jobs.specs.layout_model.declared.lines.Kind.TheVariants.{File}
+use Rattle.write_jobs.specs.layout_model.Places.{Geometry, reserve}
+use Rattle.write_jobs.specs.image_model.Room.{unused_blocks}
+use Rattle.write_jobs.specs.image_model.Volume.{inode}
+use Rattle.live_step_laws.specs.file_table.Files.{Files, size_in, spare_in}
+use Rattle.zero_fill.specs.Zeros.{ReadZero}
+use Rattle.write_jobs.specs.k_split_model.View.{View}
+use Rattle.write_plan.specs.list_laws.Members.{In}
+use Rattle.posix_types.specs.declared.call.Call.{Call}
+use Rattle.posix_types.specs.declared.call.Who.{Who}
+use Rattle.posix_tables.specs.Open.{Tables}
+use Rattle.write_jobs.specs.commute_laws.Frames.{AreThreads}
+use Rattle.posix_laws.specs.Views.{need_of}
+use Rattle.posix_laws.specs.posix_spec.Put.{put_by}
+use Rattle.posix_laws.specs.posix_spec.State.{room, State}
+use Rattle.live_step_laws.specs.staging_files.declared.runs.StageRun.{StageRun}
+use Rattle.live_step_laws.specs.staging_files.Keeps.{AreApart, IsRunSingle, IsThere, Staged}
+use Rattle.write_jobs.specs.world_model.JobLaws.{needs}
+use Rattle.write_jobs.specs.world_model.Jobs.{Job, live_claims}
+use Rattle.write_jobs.specs.world_model.Stands.{number}
+use Rattle.live_step_laws.specs.live_model.Standing.{Kept, Pending, reserved_run, StandsAt}
+use Rattle.live_step_laws.specs.live_model.Jobs.{SpellCall}
+use Rattle.write_plan.specs.declared.asks.asking.Target.{Target}
+use Rattle.write_plan.specs.Drafts.{draft_in, HasRun}
+use Rattle.write_jobs.specs.Jobs.{blocks_of, JobView}
+
+-- what the World keeps, with this staging and these files
+abbrev pub with_parts : Kept → Staged → Files → Kept
+with_parts kept staging files = record kept { staging = staging; files = files }
+
+-- THE WRITE CAN BE STAGED in this run: the World stands together; the call puts these bytes into the file of the target, at its
+-- place, and finds room beside the jobs that are out, which are of other callers and other files; the file has the size of the
+-- target, and what lies between its end and the block of the write reads zero; and the run is out, none of a live entry or of a
+-- job, its blocks are there, and those that all runs want are free.
+pub record Ready (k : View) (files : Files) (who : Who) (target : Target) (x : List ℕ) (run : StageRun) : Type 0 where
+  pub g : Geometry
+  pub t : Tables
+  pub staging : Staged
+  pub kept : Kept
+  pub n : ℕ
+  pub few : n < 2 ^ 62
+  pub s : State
+  pub call : Call
+  pub stands : StandsAt g k t (with_parts kept staging files) true n s
+  pub file : (inode k.volume target.ino).kind ≡ File
+  pub size_is : target.size ≡ size_in files target.ino
+  pub puts : put_by s who call ≡ Some (record { node = number stands.numbers target.ino; place = target.start; bytes = x })
+  pub fits : needs s stands.jobs + need_of s who call ≤ room s
+  pub others : (j : Job) → In j stands.jobs → j.draft.ino ≢ target.ino
+  pub callers : (p : Pending) → In p kept.pending → AreThreads who p.who
+  pub spare : 3 ≤ spare_in files target.ino
+  pub zero : ReadZero k files target.ino target.size (4096 * (target.start / 4096))
+  pub old : List StageRun
+  pub has_run : HasRun k.volume staging target (length x) run
+  pub claims_out : (d : Draft) → In d (live_claims k.volume kept.claims) → Contains old (reserved_run d)
+  pub jobs_out : (p : Pending) → In p kept.pending → Contains old (reserved_run p.draft)
+  pub apart : (other : StageRun) → Contains old other → AreApart other run
+  pub there : IsThere k run
+  pub single : IsRunSingle k run
+  pub owed : length (live_claims k.volume kept.claims) + length stands.jobs + 1 ≤ length staging.out
+  pub free : length staging.out + reserve k.volume.geometry ≤ unused_blocks k.volume + 3
+
+-- the job as the World keeps it
+abbrev pub pending_of : View → Files → Who → Call → Target → ℕ → StageRun → List ℕ → Pending
+pending_of k files who call target len run blocks = record { who = who; call = call; draft = draft_in k.volume files target len run; blocks = blocks }
+
+-- THE JOB IS OUT: the World stands together with it as the last one, in the same state, and its words are those of its call.
+pub record IsStaged (k l : View) (files : Files) (who : Who) (target : Target) (x : List ℕ) (run : StageRun) (words blocks : List ℕ)
+    (ready : Ready k files who target x run) : Type 0 where
+  pub stands : StandsAt ready.g l ready.t (record (with_parts ready.kept ready.staging files) { pending = ready.kept.pending ++ pending_of k files who ready.call target (length x) run blocks ∷ [] }) true ready.n ready.s
+  pub spells : SpellCall ready.s (pending_of k files who ready.call target (length x) run blocks) words
+
+-- The job has the entry of the write, and its blocks are these.
+pub record IsJobOf (k : View) (files : Files) (who : Who) (target : Target) (len : ℕ) (run : StageRun) (job : JobView) (blocks : List ℕ) : Type 0 where
+  pub who_is : job.who ≡ who
+  pub draft : job.draft ≡ draft_in k.volume files target len run
+  pub blocks_are : blocks_of job.loans ≡ blocks
+  pub fresh : job.lost ≡ false

@@ -1,0 +1,32 @@
+//! The beginning of a logged write.
+//!
+//! `begin_write` tries the rows of the call, zeroes what lies between the end of the file and a write in a later
+//! block, reserves staging blocks, reads what they are to hold already, and lends them: a job. It takes all
+//! memory of the job. The layer above may rely on this: a row that fits answers the call, and nothing changed
+//! (`IsAnsweredBy`); a write that no row refuses becomes a job, with which the World stands together
+//! (`BeginsWrite`), or ends the round for want of space (`EndsRound`). It is a job only where the jobs that are out
+//! left what it needs and the staging had a run for it; it ends the round only where one of these lacks, the jobs
+//! asked first, and only where some run is out. Where memory runs out no call sees a change (`StaysStanding`); where
+//! the power goes the promise is kept (`LosesWrite`). The first write of a lap lacks no space, as nothing of a file
+//! lies past its end.
+//! `need_of` says what a call needs; the needs of the jobs that are out are those of their calls (`JobsNeed`).
+
+ghost use Rattle.write_begin.specs.Needs.{JobsNeed};
+
+pub use crate::stages::kept_numbers_are_those_of_the_state;
+use crate::stages::numbers_are_those_of_the_state;
+
+mod beginning;
+mod needs;
+mod rooms;
+
+pub use beginning::{WriteBegun, begin_write};
+pub use needs::need_of;
+
+/// The jobs that are out need what their calls do.
+pub fn jobs_need_what_their_calls_do()
+    ensures { JobsNeed }
+{
+    numbers_are_those_of_the_state();
+    kept_numbers_are_those_of_the_state();
+}

@@ -1,0 +1,82 @@
+//! A write begins.
+ghost use Rattle.std.specs.Prelude.{◌≡◌, ◌^◌, true};
+ghost use Rattle.write_plan.specs.pm_model.Powers.{is_on, Steps};
+ghost use Rattle.write_plan.specs.eof_laws.Ends.{FilesEnd};
+ghost use Rattle.write_plan.specs.AsksLaws.{call_of};
+ghost use Rattle.write_begin.specs.Begins.{Found, IsBegun, IsPaid};
+ghost use Rattle.write_begin.specs.Goes.{IsBareAtRest, KeepsMaps};
+
+use crate::begins::rooms::begin_target;
+use crate::stages::{
+    Asked, OpenFiles, ask, kept_numbers_are_those_of_the_state, numbers_are_those_of_the_state,
+};
+use live_step_laws::{KSplit, Staging};
+use pm_lines::Power;
+use posix_types::{Data, Handle, Outcome, Who};
+use std::alloc::{AllocError, Global};
+use write_plan::{FileTable, Job};
+
+/// How a write began.
+#[derive(Debug, Drop)]
+pub enum WriteBegun {
+    /// It returned, with this outcome.
+    Answered(Outcome),
+    /// It is logged: its job, and the disk blocks that it was lent, in the order of the entry's blocks.
+    Job { job: Job, blocks: Vec<u32> },
+    /// The round is over for want of space: the blocks that are needed, and those that there are.
+    RoundOver { need: u64, room: u64 },
+    /// The power is off.
+    PowerLost,
+}
+
+/// Begins a write of bytes through a handle, at `offset` or where the handle stands, in strict mode, beside
+/// jobs that need `needs` blocks together. The power is on, and the World stands together, with the log's
+/// lines out; the jobs that are out are of other callers and other files; nothing of a file lies past its end; and where
+/// no run is out nothing is staged.
+///
+/// It answers in this order: by the row of the call that fits; RoundOver where only the jobs that are out leave
+/// too little; PowerLost where the power goes while it makes room; RoundOver where the staging has no run; else
+/// a job. RoundOver comes only where some run is out, and leaves the staging as it was.
+///
+/// # Errors
+///
+/// Out of memory: no call sees a change.
+///
+/// # Steps
+///
+/// At most 2^22.
+pub fn begin_write(
+    alloc: Global,
+    k: &mut KSplit,
+    tables: &OpenFiles,
+    staging: &mut Staging,
+    files: &mut FileTable,
+    who: Who,
+    handle: Handle,
+    offset: Option<u64>,
+    bytes: &Data,
+    needs: u64,
+    power: &mut Power,
+) -> Result<WriteBegun, AllocError>
+    requires on { is_on power.old ≡ true }
+    requires found { Found k.old tables.now.tables staging.old files.old who
+        (call_of handle offset bytes.now) needs }
+    requires ends { FilesEnd k.old.volume files.old }
+    requires bare { IsBareAtRest staging.old }
+    ensures steps { Steps (2 ^ 22) power.old power.new }
+    ensures paid { IsPaid power.new result }
+    ensures keeps { is_on power.new ≡ true
+        → KeepsMaps k.old.volume k.new.volume files.old files.new }
+    ensures begun { IsBegun who handle offset bytes.now needs k.old k.new tables.now.tables
+        staging.old staging.new files.old files.new result }
+{
+    numbers_are_those_of_the_state();
+    kept_numbers_are_those_of_the_state();
+    let blocks = k.geometry().data_blocks();
+    let new = bytes.bytes.as_slice();
+    match ask(tables, files, who, handle, offset, new.len(), blocks, needs) {
+        Asked::Answered(outcome) => Ok(WriteBegun::Answered(outcome)),
+        Asked::Full { need, left } => Ok(WriteBegun::RoundOver { need, room: left }),
+        Asked::Goes(target) => { begin_target(alloc, k, staging, files, who, target, new, power) }
+    }
+}

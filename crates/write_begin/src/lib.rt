@@ -1,0 +1,20 @@
+//! Where a write begins: rows, gap, staging, words and loans, until it is a job.
+//!
+//! `begin_write` answers a row, a job with which the World stands together, or the end of the round
+//! for want of space; where memory runs out no call sees a change.
+//!
+//! - `stages`: A logged write that has its staging blocks becomes a job.
+//! - `begins`: The beginning of a logged write.
+//!
+//! Stands on `pm_lines`, `posix_types`, `posix_laws`, `live_step_laws`, `write_jobs`, `write_plan`,
+//! `zero_fill`, `block_counts` and `posix_tables`.
+#![tactic(auto)]
+
+mod begins;
+mod stages;
+
+pub use begins::{WriteBegun, begin_write, jobs_need_what_their_calls_do, need_of};
+pub use stages::{
+    Asked, OpenFiles, Opened, StagedWrite, Target, ask, blocks_are_zeroed_in_flight, clear_gap,
+    kept_numbers_are_those_of_the_state, numbers_are_those_of_the_state, stage_write,
+};

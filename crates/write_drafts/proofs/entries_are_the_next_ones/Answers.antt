@@ -1,5 +1,0 @@
-use Rattle.write_drafts.proofs.Orders.{drafts_are_next}
-use Rattle.write_drafts.proofs.entries_are_the_next_ones.Goals as goal
-
-pub returns : goal.returns
-returns c = drafts_are_next

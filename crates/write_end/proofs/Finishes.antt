@@ -1,0 +1,242 @@
+-- A write finishes: the World stands together without it.
+use Rattle.std.proofs.Common.{◌≡◌, ◌≢◌, ◌⊎◌, ◌≤◌, ◌<◌, ◌+◌, ◌==◌, ◌++◌, ◌∷◌, [], not, cond, ℕ, Bool, true, false, List, length, refl, arith, ap, ◌∙◌, sym, subst, inl, inr}
+use Rattle.std.specs.Prelude.{Contains}
+use Rattle.std.proofs.lemmas.List.{length-append, length_push}
+use Rattle.std.proofs.lemmas.List.Kept.{AllPairs-filter}
+use Rattle.std.proofs.lemmas.Option.{same_Some}
+use Rattle.write_plan.specs.pm_model.declared.Cell.{Cell}
+use Rattle.write_plan.specs.pm_model.ImageLaws.{IsImage-words_of}
+use Rattle.write_plan.specs.pm_model.Images.{words_of}
+use Rattle.write_plan.specs.pm_model.Words.{Words}
+use Rattle.write_plan.specs.layout_model.Journal.{journaled}
+use Rattle.write_plan.specs.layout_model.Places.{Geometry}
+use Rattle.layout_model.specs.declared.lines.Draft.{Draft}
+use Rattle.layout_model.specs.declared.lines.Kind.{Kind}
+use Rattle.layout_model.specs.declared.lines.Kind.TheVariants.{Directory, File, Free, Staging}
+use Rattle.write_jobs.specs.world_image_laws.image_model.Live.{is_live}
+use Rattle.write_jobs.specs.world_image_laws.image_model.Volume.{inode, Volume}
+use Rattle.live_model.specs.posix_laws.Orders.{AreOrdered-step_of}
+use Rattle.write_plan.specs.file_table.Files.{ChangesFile, Files, runs_in, size_in}
+use Rattle.write_jobs.specs.world_image_laws.k_split_model.View.{View}
+use Rattle.write_jobs.specs.k_split.Order.{IsInOrder}
+use Rattle.write_plan.specs.list_laws.Members.{In, pushed-In}
+use Rattle.write_plan.specs.open_files.Numbered.{numbered_as}
+use Rattle.live_model.specs.Overlays.{run_of}
+use Rattle.posix_types.specs.declared.call.Call.{Call}
+use Rattle.posix_types.specs.declared.call.Who.{Who}
+use Rattle.write_plan.specs.posix_tables.declared.nodes.Node.{Node}
+use Rattle.write_plan.specs.posix_tables.Nodes.{bytes_of, node_at}
+use Rattle.write_plan.specs.posix_tables.Open.{is_open, same_who, Tables}
+use Rattle.write_plan.specs.posix_laws.Puts.{put_bytes, PutsWhole}
+use Rattle.write_plan.specs.posix_spec.Run.{after_call, Begun}
+use Rattle.write_plan.specs.posix_spec.State.{alone, State}
+use Rattle.write_jobs.specs.world_image_laws.world_model.JobLaws.{live_claims-more}
+use Rattle.write_jobs.specs.world_image_laws.world_model.TreeRules.{used_below}
+use Rattle.write_jobs.specs.world_image_laws.world_model.Jobs.{begun_of, live_claims}
+use Rattle.write_jobs.specs.world_image_laws.world_model.Stands.{entries_of, FileStands, is_used, NodeStands, number}
+use Rattle.write_jobs.specs.Jobs.{FilledView, HoldWords}
+use Rattle.write_jobs.specs.Loans.{ComeBack}
+use Rattle.live_model.specs.Flying.{IsFlying, with_entry}
+use Rattle.live_model.proofs.FlightsFlights.{flies_finished}
+use Rattle.write_jobs.specs.Blocks.{SpellWhole}
+use Rattle.live_model.specs.Standing.{AreOfTwoThreads, file_state, IsQuietBeside, IsSpellable, Pending, reserved_run, StandsAt}
+use Rattle.live_model.specs.Jobs.{SpellCall, without}
+use Rattle.write_plan.specs.Asks.{CanMoveBy, moved_by}
+use Rattle.write_plan.specs.AsksLaws.{AreOfState}
+use Rattle.write_plan.proofs.Calls.{may_move as may_move_there, moves_as_call, open_moved}
+use Rattle.write_end.specs.Ends.{finished, HasJob, LeavesFinished}
+use Rattle.write_end.proofs.Ending.{claims, flying, is_file, j, loans_count, numbers, others, put_back, spelled, split, stood, v, valid, words}
+use Rattle.write_end.proofs.Laid.{bare_still, overlays_are, sizes_are}
+use Rattle.write_end.proofs.EndsPending.{apart_of, IsJobOf, job_of, left_there, stands_of}
+use Rattle.write_end.proofs.Settled.{agrees_still, free_single_still, lines_still, quiet_still}
+
+-- ---- lists
+
+-- an entry more is at most one of a file's more
+entries_more : (ino : ℕ) (live : List Draft) (d : Draft) → length (entries_of ino (live ++ d ∷ [])) ≤ length (entries_of ino live) + 1
+entries_more ino [] d = by (d.ino == ino) where
+  by : (b : Bool) → length (cond b (d ∷ []) []) ≤ 1
+  by true = omega arith
+  by false = omega arith
+entries_more ino (x ∷ live) d = by (x.ino == ino) (entries_more ino live d) where
+  by : (b : Bool) → length (entries_of ino (live ++ d ∷ [])) ≤ length (entries_of ino live) + 1
+      → length (cond b (x ∷ entries_of ino (live ++ d ∷ [])) (entries_of ino (live ++ d ∷ []))) ≤ length (cond b (x ∷ entries_of ino live) (entries_of ino live)) + 1
+  by true rest = omega (arith, rest)
+  by false rest = rest
+
+-- ---- files of the state
+
+file_node : (v : Volume) (live : List Draft) (f : Words) (ino : ℕ) (kind : Kind) (node : Node) → kind ≡ File → NodeStands v live f ino kind node → FileStands v live f ino (bytes_of node)
+file_node v live f ino Free node file is = absurd is
+file_node v live f ino Staging node file is = absurd is
+file_node v live f ino Directory node file is = cc
+file_node v live f ino File Node.Gone file is = absurd is
+file_node v live f ino File Node.Directory file is = absurd is
+file_node v live f ino File (Node.File x) file is = is
+
+-- what a call puts is one thing
+puts_one : (s : State) (who : Who) (call : Call) (m n : ℕ) (a b : List ℕ) → PutsWhole s who call m a → PutsWhole s who call n b → a ≡ b
+puts_one s who call m n a b one two = sym one.whole_is ∙ (ap (put_bytes s) (same_Some one.put two.put (sym one.is ∙ two.is)) ∙ two.whole_is)
+
+module _ (k : View) (job : FilledView) (has : HasJob k job) where
+  length_at : (ino : ℕ) → is_open has.t ino ≡ true → length (bytes_of (node_at has.s.nodes (number (numbers k job has) ino))) ≡ size_in has.kept.files ino
+  length_at ino opened =
+      let file = has.stands.open_are_files ino opened in
+      let node = node_at has.s.nodes (number (numbers k job has) ino) in
+      let stands = file_node k.volume (live_claims k.volume (claims k job has)) (words k job has) ino (inode k.volume ino).kind node file ((valid k job has).stands.nodes.each ino (ap is_used file)) in
+      sym stands.size ∙ sym (has.stands.flying.overlays ino file).size_is
+
+  of_state : AreOfState has.s (number (numbers k job has)) has.t has.kept.files
+  of_state = record { tables = has.stands.tables; sizes = length_at }
+
+  open_below : (ino : ℕ) → is_open has.t ino ≡ true → ino < length has.kept.files.sizes
+  open_below ino opened = let below = used_below k.volume ino (ap is_used (has.stands.open_are_files ino opened)) in omega (arith, below, has.stands.sizes.count)
+
+  puts : PutsWhole has.s has.p.who has.p.call (number (numbers k job has) (j k job has).draft.ino) (j k job has).whole
+  puts =
+      subst (λ (c : Call). PutsWhole has.s has.p.who c (number (numbers k job has) (j k job has).draft.ino) (j k job has).whole) (split k job has).call
+      (subst (λ (w : Who). PutsWhole has.s w (j k job has).call (number (numbers k job has) (j k job has).draft.ino) (j k job has).whole) (split k job has).who (stood k job has).puts)
+
+  -- the offset may move
+  pub may_move : CanMoveBy has.t has.kept.files has.p.who has.p.call
+  may_move = may_move_there has.s (number (numbers k job has)) has.t has.kept.files has.p.who has.p.call puts.put of_state open_below puts.is
+
+  -- of another that is out the file is another one
+  other_file : (q : Pending) → In q (without has.p.who has.kept.pending) → q.draft.ino ≢ has.p.draft.ino
+  other_file q is same =
+      let its = job_of (without has.p.who has.kept.pending) (others k job has) q (split k job has).rest is in
+      (apart_of (j k job has) (others k job has) its.job (valid k job has).out.1 its.there).files
+      (ap (λ (d : Draft). d.ino) (split k job has).draft ∙ sym same ∙ ap (λ (d : Draft). d.ino) (sym its.draft))
+
+  module _ (e : List Cell) (u : Tables) (new : Files) (slot : ℕ) (hold : HoldWords job.loans job.words) (back : ComeBack job.loans k.cells e) (order : IsInOrder (record k { cells = e }))
+      (moved : u ≡ moved_by has.t has.kept.files has.p.who has.p.call)
+      (lays : ChangesFile has.p.draft.ino (runs_in has.kept.files has.p.draft.ino ++ run_of has.p.draft ∷ []) has.p.draft.size has.kept.files new) where
+    abbrev d : Draft
+    d = has.p.draft
+
+    abbrev next : State
+    next = after_call has.s (has.p.who, has.p.call)
+
+    abbrev claims_then : List (ℕ × Draft)
+    claims_then = has.kept.claims ++ (slot, d) ∷ []
+
+    begun_is : begun_of (j k job has) ≡ (has.p.who, has.p.call)
+    begun_is = λ i. ((split k job has).who i, (split k job has).call i)
+
+    now : IsFlying k.volume e claims_then (others k job has) (with_entry (file_state has.kept.files) d) (numbers k job has) next has.stands.count
+    now =
+        subst (λ (c : Begun). IsFlying k.volume e claims_then (others k job has) (with_entry (file_state has.kept.files) d) (numbers k job has) (after_call has.s c) has.stands.count) begun_is
+        (subst (λ (x : Draft). IsFlying k.volume e (has.kept.claims ++ (slot, x) ∷ []) (others k job has) (with_entry (file_state has.kept.files) x) (numbers k job has) (after_call has.s (begun_of (j k job has))) has.stands.count)
+        (split k job has).draft
+        (flies_finished k.volume k.cells e (claims k job has) (split k job has).a (j k job has) (split k job has).b (file_state has.kept.files) (numbers k job has) has.s has.stands.count slot job.loans job.words (flying k job has)
+        (put_back k job has e back) (loans_count k job has) hold (spelled k job has)))
+
+    alive : is_live k.volume d ≡ true
+    alive = subst (λ (x : Draft). is_live k.volume x ≡ true) (split k job has).draft (stood k job has).alive
+
+    live_is : live_claims k.volume claims_then ≡ live_claims k.volume has.kept.claims ++ d ∷ []
+    live_is = live_claims-more k.volume has.kept.claims slot d alive
+
+    file : (inode k.volume d.ino).kind ≡ File
+    file = subst (λ (x : Draft). (inode k.volume x.ino).kind ≡ File) (split k job has).draft (is_file k job has)
+
+    below : d.ino < length has.kept.files.sizes
+    below = let short = used_below k.volume d.ino (ap is_used file) in omega (arith, short, has.stands.sizes.count)
+
+    there : (q : Pending) → In q (without has.p.who has.kept.pending) → In q has.kept.pending
+    there q is = left_there has.p.who has.kept.pending q is
+
+    claim : (x : Draft) → In x (live_claims k.volume claims_then) → In x (live_claims k.volume has.kept.claims) ⊎ (d ≡ x)
+    claim x is = pushed-In (live_claims k.volume has.kept.claims) d x (subst (In x) live_is is)
+
+    tables : next.tables ≡ numbered_as (number (numbers k job has)) u
+    tables =
+        moves_as_call has.s (number (numbers k job has)) has.t has.kept.files has.p.who has.p.call puts.put of_state puts.is
+        ∙ ap (numbered_as (number (numbers k job has))) (sym moved)
+
+    -- THE WORLD STANDS TOGETHER
+    stands : StandsAt has.g (record k { cells = e }) u (finished has.kept slot has.p new) true (has.n + 1) next
+    stands = record {
+      count = has.stands.count;
+      few = omega (arith, has.stands.few);
+      numbers = numbers k job has;
+      jobs = others k job has;
+      jobs_are = (split k job has).rest;
+      order = order;
+      unbatched = has.stands.unbatched;
+      on = has.stands.on;
+      geometry = has.stands.geometry;
+      flying = record {
+        device = now.device;
+        whole = now.whole;
+        out = now.out;
+        home = now.home;
+        overlays = overlays_are d has.kept.files new lays below k.volume (live_claims k.volume claims_then) now.overlays;
+      };
+      lines = lines_still k job has e back hold (finished has.kept slot has.p new) refl has.stands.lines;
+      quiet = subst (λ (g : Geometry). IsQuietBeside g e) has.stands.geometry
+          (quiet_still k job has e back hold (subst (λ (g : Geometry). IsQuietBeside g k.cells) (sym has.stands.geometry) has.stands.quiet));
+      blocks = λ q is. has.stands.blocks q (there q is);
+      callers = AllPairs-filter AreOfTwoThreads (λ (q : Pending). not (same_who q.who has.p.who)) has.kept.pending has.stands.callers;
+      tables = tables;
+      open_are_files = λ ino is. has.stands.open_are_files ino (sym (open_moved has.t has.kept.files has.p.who has.p.call ino) ∙ (ap (λ (x : Tables). is_open x ino) (sym moved) ∙ is));
+      ordered = AreOrdered-step_of alone has.s has.p.who has.p.call has.stands.ordered;
+      sizes = sizes_are d has.kept.files new lays below k.volume (live_claims k.volume claims_then) now.overlays file (live_claims k.volume has.kept.claims) has.stands.sizes;
+      bare = bare_still d has.kept.files new lays below k.volume (live_claims k.volume claims_then) now.overlays file has.stands.bare;
+      staged = has.stands.staged;
+      agrees = agrees_still k job has e back hold (record k { cells = e }) refl has.kept.staging has.stands.agrees;
+      free_single = free_single_still k job has e back hold (record k { cells = e }) refl has.kept.staging has.stands.free_single;
+      drafts = λ x is. elim (claim x is) [
+        | inl old ↦ has.stands.drafts x old
+        | inr same ↦ subst IsSpellable ((split k job has).draft ∙ same) (record { fields = (stood k job has).draft; fits = (stood k job has).fields })
+      ];
+      low = λ ino.
+          let was = has.stands.low ino in
+          let more = entries_more ino (live_claims k.volume has.kept.claims) d in
+          omega (arith, was, more, ap (λ (live : List Draft). length (entries_of ino live)) live_is);
+      claims_out = λ x is. elim (claim x is) [
+        | inl old ↦ has.stands.claims_out x old
+        | inr same ↦ subst (λ (y : Draft). Contains has.kept.staging.out (reserved_run y)) same (has.stands.jobs_out has.p has.out.there)
+      ];
+      jobs_out = λ q is. has.stands.jobs_out q (there q is);
+      spare = λ q is. (let was = has.stands.spare q (there q is) in omega (arith, was, lays.spares q.draft.ino (other_file q is)));
+      owed =
+          let was = has.stands.owed in
+          omega (
+            arith,
+            was,
+            ap length live_is,
+            length_push (live_claims k.volume has.kept.claims) d,
+            ap length (split k job has).jobs_are,
+            length-append (split k job has).a (j k job has ∷ (split k job has).b),
+            length-append (split k job has).a (split k job has).b,
+          );
+    }
+
+    -- the others are to hold the same words
+    words_stay : (q : Pending) (ws : List ℕ) → In q (without has.p.who has.kept.pending) → SpellCall has.s q ws → SpellCall next q ws
+    words_stay q ws is spells node whole puts_now =
+        subst (SpellWhole q.draft ws) (sym same) (spells (number (numbers k job has) its.job.draft.ino) its.job.whole before) where
+          its : IsJobOf q (others k job has)
+          its = job_of (without has.p.who has.kept.pending) (others k job has) q (split k job has).rest is
+
+          of_q : (st : State) → PutsWhole st its.job.who its.job.call (number (numbers k job has) its.job.draft.ino) its.job.whole → PutsWhole st q.who q.call (number (numbers k job has) its.job.draft.ino) its.job.whole
+          of_q st p =
+              subst (λ (c : Call). PutsWhole st q.who c (number (numbers k job has) its.job.draft.ino) its.job.whole) its.call
+              (subst (λ (w : Who). PutsWhole st w its.job.call (number (numbers k job has) its.job.draft.ino) its.job.whole) its.who p)
+
+          before : PutsWhole has.s q.who q.call (number (numbers k job has) its.job.draft.ino) its.job.whole
+          before = of_q has.s (stands_of k.volume (live_claims k.volume has.kept.claims) (words k job has) (numbers k job has) has.s (others k job has) its.job (valid k job has).out.2 its.there).puts
+
+          after : PutsWhole next q.who q.call (number (numbers k job has) its.job.draft.ino) its.job.whole
+          after =
+              of_q next (stands_of k.volume (live_claims k.volume claims_then) (journaled (words_of e)) (numbers k job has) next (others k job has) its.job
+              (now.device.world (words_of e) (IsImage-words_of e)).valid.out its.there).puts
+
+          same : whole ≡ its.job.whole
+          same = puts_one next q.who q.call node (number (numbers k job has) its.job.draft.ino) whole its.job.whole puts_now after
+
+    pub leaves_finished : (l : View) → l ≡ record k { cells = e } → LeavesFinished k job has slot l u new
+    unfolding stands
+    leaves_finished l same =
+        subst (λ (w : View). LeavesFinished k job has slot w u new) (sym same) (record { stands = stands; numbers = refl; words = words_stay })

@@ -1,0 +1,18 @@
+mod Asked
+mod Ending
+mod Finishes
+mod GivesUp
+mod Laid
+mod EndsPending
+mod Settled
+pub mod LosingPending
+pub mod Jobs
+pub mod Going
+pub mod Ended
+pub mod Homes
+pub mod Stopped
+pub mod Apart
+pub mod LogLines
+pub mod Crashed
+pub use Rattle.k_split_laws.proofs.k_split_proofs
+pub use Rattle.write_jobs.proofs as write_jobs_proofs

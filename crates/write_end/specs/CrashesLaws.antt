@@ -1,0 +1,62 @@
+-- What a crash leaves of a World that lost its power, each law as one statement.
+use Rattle.std.specs.Prelude.{◌≡◌, ◌⊎◌, ◌/◌, ℕ, true, false, List, []}
+use Rattle.oplog_entry.specs.pm_model.declared.Cell.{Cell}
+use Rattle.oplog_entry.specs.pm_model.Cells.{AllHome, cell, is_lent}
+use Rattle.oplog_entry.specs.pm_model.Parts.{Part, put_back}
+use Rattle.oplog_entry.specs.pm_model.Words.{Words}
+use Rattle.oplog_entry.specs.layout_model.declared.lines.Draft.{Draft}
+use Rattle.oplog_entry.specs.layout_model.Places.{Geometry, log_line}
+use Rattle.oplog_entry.specs.image_model.Volume.{Volume}
+use Rattle.k_split_laws.specs.k_split_model.View.{View}
+use Rattle.k_split_laws.specs.k_split.Laps.{IsLogWord}
+use Rattle.k_split_laws.specs.block_io.Lines.{LinesComeBack}
+use Rattle.k_split_laws.specs.list_laws.Members.{In}
+use Rattle.k_split_laws.specs.posix_types.declared.item.Item.{Item}
+use Rattle.k_split_laws.specs.posix_tables.Open.{Tables}
+use Rattle.k_split_laws.specs.posix_spec.Run.{Begun, run}
+use Rattle.k_split_laws.specs.posix_spec.State.{State}
+use Rattle.write_jobs.specs.world_image_laws.Promised.{KeepsPromise}
+use Rattle.write_plan.specs.eof_laws.log_checkpoint.world_model.Lines.{AreLinesOut}
+use Rattle.live_model.specs.Standing.{AreLinesLent, Kept, Pending, StandsAt}
+use Rattle.write_end.specs.Ends.{IsOut}
+use Rattle.write_jobs.specs.Jobs.{FilledView, HoldWords}
+use Rattle.write_end.specs.Blocks.{AreBlocksHome, ComeHome}
+use Rattle.write_end.specs.Lines.{AreCrashLines, HoldClaims}
+use Rattle.write_end.specs.Lost.{IsLostWith}
+use Rattle.write_end.specs.LosingLaws.{AreSpelled}
+
+-- ALL THAT IS OUT IS HANDED IN, as loans of lent blocks: the blocks of each job are at home already, or among the loans; and the filled
+-- jobs are of this World, and hold their words.
+pub record AreHandedIn (d : List Cell) (kept : Kept) (s : State) (loans : List Part) (filled : List FilledView) : Type 0 where
+  pub all : (p : Pending) → In p kept.pending → AreBlocksHome p.blocks d ⊎ ((b : ℕ) → In b p.blocks → (loan : Part) × In loan loans × (loan.place ≡ b))
+  pub lent : (loan : Part) (i : ℕ) → In loan loans → loan.place ≡ i / 512 → is_lent (cell d i) ≡ true
+  pub of_world : (job : FilledView) → In job filled → (p : Pending) × IsOut kept s p job
+  pub holds : (job : FilledView) → In job filled → HoldWords job.loans job.words
+  pub there : (job : FilledView) (loan : Part) → In job filled → In loan job.loans → In loan loans
+
+-- the log lines came home, and no word of them is lent any more
+pub record LinesAreHome (v : Volume) (lines : List Part) (d e : List Cell) : Type 0 where
+  pub back : LinesComeBack (log_line v.geometry 0) lines d e
+  pub home : (i : ℕ) → IsLogWord v i → is_lent (cell e i) ≡ false
+
+-- A CRASH: the loans come home, and then the lines, of which some filled jobs claimed some. Nothing is lent any more, and the device keeps
+-- the promise for the calls that returned and the unfinished ones.
+abbrev pub KeepsCrashed : Type 0
+KeepsCrashed =
+    (v : Volume) (d middle e : List Cell) (kept : Kept) (start : State) (history : List Item) (unfinished : List Begun) (loans : List Part) (filled : List FilledView) (taken : List (ℕ × Draft)) (lines : List Part)
+    → IsLostWith v d kept start history unfinished → AreHandedIn d kept (run start history) loans filled → AreCrashLines v kept.first kept.claims filled taken lines
+    → ComeHome loans d middle → LinesAreHome v lines middle e
+    → AllHome e × KeepsPromise v.geometry e start history unfinished
+
+-- With the lines at home, and the power on still, the device keeps it with nothing unfinished.
+abbrev pub KeepsHome : Type 0
+KeepsHome =
+    (g : Geometry) (k : View) (t : Tables) (kept : Kept) (n : ℕ) (start : State) (history : List Item) (unfinished : List Begun)
+    → StandsAt g k t kept false n (run start history) → KeepsPromise g k.cells start history unfinished
+
+-- Lines that hold the claims of a lap and came home are those of a lap without jobs.
+abbrev pub LinesHoldOut : Type 0
+LinesHoldOut =
+    (v : Volume) (d e : List Cell) (first : Words) (claims : List (ℕ × Draft)) (lines : List Part) (back : ℕ → Cell)
+    → AreLinesLent v d first → AreSpelled claims → HoldClaims v first claims lines → LinesAreHome v lines d e
+    → AreLinesOut v (put_back e back) first claims [] []

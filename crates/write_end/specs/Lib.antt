@@ -1,0 +1,23 @@
+pub mod Ends
+pub mod Blocks
+pub mod Lines
+pub mod Lost
+pub mod LosingLaws
+pub mod Stops
+pub mod CrashesLaws
+pub use Rattle.k_split_laws.specs.block_io
+pub use Rattle.oplog_entry.specs.image_model
+pub use Rattle.k_split_laws.specs.k_split
+pub use Rattle.k_split_laws.specs.k_split_model
+pub use Rattle.oplog_entry.specs.layout_model
+pub use Rattle.k_split_laws.specs.list_laws
+pub use Rattle.live_model.specs as live_model
+pub use Rattle.oplog_entry.specs as oplog_entry
+pub use Rattle.oplog_entry.specs.pm_model
+pub use Rattle.k_split_laws.specs.posix_spec
+pub use Rattle.k_split_laws.specs.posix_types
+pub use Rattle.k_split_laws.specs.posix_tables
+pub use Rattle.k_split_laws.specs.volume_laws
+pub use Rattle.write_jobs.specs.world_image_laws as world_image_laws
+pub use Rattle.write_plan.specs.eof_laws.log_checkpoint.world_model
+pub use Rattle.write_jobs.specs as write_jobs

@@ -1,0 +1,59 @@
+-- A World whose power went while log lines and blocks of jobs are out.
+use Rattle.std.specs.Prelude.{◌≡◌, ◌⊎◌, ℕ, true, AllPairs, List, Option, Some, None}
+use Rattle.oplog_entry.specs.pm_model.declared.Cell.{Cell}
+use Rattle.oplog_entry.specs.pm_model.Cells.{cell, is_lent}
+use Rattle.oplog_entry.specs.pm_model.Images.{IsImage}
+use Rattle.oplog_entry.specs.pm_model.Words.{Words}
+use Rattle.oplog_entry.specs.layout_model.Journal.{IsSound, journaled}
+use Rattle.oplog_entry.specs.layout_model.declared.lines.Draft.{Draft}
+use Rattle.oplog_entry.specs.image_model.Volume.{Volume}
+use Rattle.live_model.specs.Flying.{IsOut}
+use Rattle.write_jobs.specs.Blocks.{AreOut}
+use Rattle.k_split_laws.specs.list_laws.Members.{In}
+use Rattle.k_split_laws.specs.posix_types.declared.item.Item.{Item}
+use Rattle.write_plan.specs.eof_laws.log_checkpoint.posix_laws.Puts.{PutsWhole}
+use Rattle.k_split_laws.specs.posix_spec.Run.{Begun, run}
+use Rattle.k_split_laws.specs.posix_spec.State.{State}
+use Rattle.write_jobs.specs.world_image_laws.Promised.{IsKept}
+use Rattle.write_jobs.specs.world_image_laws.Back.{IsPutBack}
+use Rattle.write_plan.specs.eof_laws.log_checkpoint.world_model.Jobs.{HoldsWhole, Job}
+use Rattle.write_plan.specs.eof_laws.log_checkpoint.world_model.Promised.{AreWhole}
+use Rattle.live_model.specs.Standing.{AreJobsOf, AreLinesLent, AreOfTwoThreads, HasItsBlocks, IsSpellable, Kept, Pending}
+use Rattle.write_plan.specs.eof_laws.log_checkpoint.world_step_laws.Worlds.{IsWorld}
+use Rattle.write_end.specs.Blocks.{AreHome}
+
+-- A job whose finish claimed a slot has its blocks at home, and whatever image is taken they hold what is found of it; any other one has
+-- them out, or at home with any words.
+abbrev pub IsLostJob : Volume → List Cell → Job → Option ℕ → Type 0
+IsLostJob v cells j (Some slot) = AreHome v j.draft cells × ((image : Words) → IsImage cells image → HoldsWhole v (journaled image) j.draft j.found)
+IsLostJob v cells j None = AreHome v j.draft cells ⊎ AreOut v j.draft cells
+
+-- THE POWER IS LOST, while the log lines are out. The jobs are those that are kept as out. Of the claims some were finished (`done`); the
+-- others are of jobs whose finish lost the power, by the inode of the file one slot each (`slot_of`). The World was valid with the claims
+-- that were finished and all these jobs, by some words: so no two jobs share a block. A word that is lent is one of a log line or of a
+-- block of a job; and the journal of each image is sound. THE PROMISE: whatever image a loss leaves once lines and blocks are put back,
+-- it is checked, and its content is one that the calls that returned and the unfinished ones permit.
+pub record IsLostWith (v : Volume) (cells : List Cell) (kept : Kept) (start : State) (history : List Item) (unfinished : List Begun) : Type 0 where
+  pub jobs : List Job
+  pub jobs_are : AreJobsOf kept.pending jobs
+  pub whole : AreWhole jobs
+  pub callers : AllPairs AreOfTwoThreads kept.pending
+  pub blocks : (p : Pending) → In p kept.pending → HasItsBlocks v p
+  pub puts : (j : Job) → In j jobs → (node : ℕ) × PutsWhole (run start history) j.who j.call node j.whole
+  pub done : List (ℕ × Draft)
+  pub slot_of : ℕ → Option ℕ
+  pub done_in : (slot : ℕ) (d : Draft) → In (slot, d) done → In (slot, d) kept.claims
+  pub slots_in : (j : Job) (slot : ℕ) → In j jobs → slot_of j.draft.ino ≡ Some slot → In (slot, j.draft) kept.claims
+  pub each_claim : (slot : ℕ) (d : Draft) → In (slot, d) kept.claims → In (slot, d) done ⊎ ((j : Job) × In j jobs × (j.draft ≡ d) × (slot_of d.ino ≡ Some slot))
+  pub spelled : (slot : ℕ) (d : Draft) → In (slot, d) done → IsSpellable d
+  pub words : Words
+  pub numbers : List ℕ
+  pub s : State
+  pub count : ℕ
+  pub world : IsWorld v done jobs words numbers s count
+  pub lines : AreLinesLent v cells kept.first
+  pub sound : (image : Words) → IsImage cells image → IsSound v.geometry image
+  pub each_job : (j : Job) → In j jobs → IsLostJob v cells j (slot_of j.draft.ino)
+  pub home : (i : ℕ) → is_lent (cell cells i) ≡ true → IsOut v jobs i
+  pub promise : (back : ℕ → Cell) (slots : List (Option ℕ)) (image : Words) → IsPutBack v cells back kept.first done jobs slots image
+      → IsKept v.geometry start history unfinished image

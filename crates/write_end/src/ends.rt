@@ -1,0 +1,18 @@
+//! The end of a logged write in strict mode.
+//!
+//! A write is out from its beginning on: its blocks are lent. `finish_write` puts them back as they were
+//! filled, moves the offset behind them, lays the run of the entry over the file, and claims the entry in
+//! its slot: its call has acted. `give_up_write` puts the blocks back and gives the staged run back: as if
+//! the call had not begun. Neither takes memory or makes a step.
+//!
+//! The layer above may rely on this: where a World stands together with the write among those that are out,
+//! it stands together without it afterwards (`LeavesFinished`, `LeavesGivenUp`); the device changes at the
+//! blocks of the write alone; and what other writes that are out are to hold stays what it was. What comes
+//! of them once the power is off is said by `losing`.
+
+mod finishing;
+mod giving_up;
+
+pub use finishing::finish_write;
+pub use giving_up::give_up_write;
+pub use write_jobs::settle_blocks;

@@ -1,0 +1,145 @@
+-- While nothing is staged, the inodes have at most the blocks that their sizes hold.
+use Rattle.std.specs.Prelude.{◌≡◌, ◌≢◌, ◌⊎◌, ◌≤◌, ◌<◌, ◌+◌, ◌-◌, ℕ, zero, suc, Bool, true, false, List, [], ◌∷◌, length, map, None, is_some, slice_index, sum_by, refl}
+use Rattle.std.specs.List.{range_with_len}
+use Rattle.std.proofs.Common.{arith, ap, ◌∙◌, sym, subst, inl, inr}
+use Rattle.std.proofs.lemmas.Bool.{cases_lt}
+use Rattle.std.proofs.lemmas.List.Sums.{sum_by-cons}
+use Rattle.eof_laws.specs.block_counts.Counts.{blocks_for, chains_for, held_by}
+use Rattle.eof_laws.specs.pm_model.ImageLaws.{IsImage-words_of}
+use Rattle.eof_laws.specs.pm_model.Images.{words_of}
+use Rattle.eof_laws.specs.layout_model.declared.lines.Draft.{Draft}
+use Rattle.eof_laws.specs.layout_model.declared.lines.Inode.{Inode}
+use Rattle.eof_laws.specs.layout_model.declared.lines.Kind.{Kind}
+use Rattle.eof_laws.specs.layout_model.declared.lines.Kind.TheVariants.{Directory, File, Free, Staging}
+use Rattle.eof_laws.specs.layout_model.Journal.{journaled}
+use Rattle.eof_laws.specs.layout_model.Places.{data_blocks, Geometry}
+use Rattle.eof_laws.specs.image_model.Live.{is_directory}
+use Rattle.eof_laws.specs.image_model.Room.{unused_blocks}
+use Rattle.eof_laws.specs.image_model.Rules.{file_blocks_of, IsKindAt}
+use Rattle.eof_laws.specs.image_model.Volume.{chain, extents, inode, Volume}
+use Rattle.eof_laws.specs.extent_model.Counts.{block_count-mapped, count_below-le, count_below-none, is_mapped}
+use Rattle.eof_laws.specs.extent_model.Facts.{IsCanonical-tail}
+use Rattle.eof_laws.specs.extent_model.declared.extent_words.Extent.{Extent}
+use Rattle.eof_laws.specs.extent_model.Extents.{block_count, disk_at, IsCanonical, IsExtent}
+use Rattle.eof_laws.specs.Ends.{FilesEnd}
+use Rattle.eof_laws.specs.file_table.Files.{size_in}
+use Rattle.eof_laws.proofs.k_plans_proofs.Wholes.{directory-bare, free-bare}
+use Rattle.eof_laws.specs.k_plans.Whole.{IsWhole}
+use Rattle.eof_laws.specs.k_split_model.Stands.{Stands}
+use Rattle.eof_laws.specs.k_split_model.View.{View}
+use Rattle.eof_laws.specs.posix_tables.Open.{Tables}
+use Rattle.relink_laws.specs.posix_spec.State.{State}
+use Rattle.eof_laws.specs.volume_laws.PoolLaws.{unused-held}
+use Rattle.eof_laws.specs.volume_laws.Uses.{blocks_held, blocks_of}
+use Rattle.relink_laws.proofs.RelinkLaws.{has-chain}
+use Rattle.live_model.specs.staging_files.GivesUp.{nothing_staged}
+use Rattle.live_model.specs.staging_files.Keeps.{IsKeptEmpty, IsStaging}
+use Rattle.live_model.specs.Standing.{Kept, StandsAt}
+
+-- ---- sums
+
+-- a sum over places is at most one over the elements there
+sum_bound : (f h : ℕ → ℕ) (a : ℕ) (xs : List ℕ) → ((i : ℕ) → i < length xs → f (a + i) ≤ h (slice_index xs i)) → sum_by f (range_with_len a (length xs)) ≤ sum_by h xs
+sum_bound f h a [] each = omega arith
+sum_bound f h a (x ∷ xs) each =
+    let first : f a ≤ h x = subst (λ m. f m ≤ h x) (at_start a) (each 0 (omega arith)) in
+    omega (
+      arith,
+      sum_by-cons f a (range_with_len (a + 1) (length xs)),
+      sum_by-cons h x xs,
+      first,
+      sum_bound f h (a + 1) xs (λ i below. subst (λ m. f m ≤ h (slice_index xs i)) (next a i) (each (suc i) (omega (arith, below)))),
+    )
+  where
+    at_start : (m : ℕ) → m + 0 ≡ m
+    at_start m = omega arith
+
+    next : (m i : ℕ) → m + suc i ≡ m + 1 + i
+    next m i = omega arith
+
+-- ---- a map
+
+extents_at_most : (es : List Extent) → IsCanonical es → length es ≤ block_count es
+extents_at_most [] c = omega arith
+extents_at_most (e ∷ es) c =
+    let ok : IsExtent e = c.each 0 e (omega arith) in
+    omega (arith, sum_by-cons (λ (x : Extent). x.count) e es, extents_at_most es (IsCanonical-tail e es c), ok.filled)
+
+-- a map that ends has at most so many blocks
+blocks_at_most : (es : List Extent) (end : ℕ) → IsCanonical es → ((b : ℕ) → end ≤ b → disk_at es b ≡ None) → block_count es ≤ end
+blocks_at_most es end c none = elim (cases_lt end 4096) [
+  | inl low ↦
+      omega (arith, block_count-mapped es c, count_below-none (λ b. is_mapped es b) end 4096 (omega (arith, low)) (λ b past below. ap is_some (none b past)), count_below-le (λ b. is_mapped es b) end)
+  | inr high ↦ omega (arith, high, block_count-mapped es c, count_below-le (λ b. is_mapped es b) 4096)
+]
+
+no_extents : (es : List Extent) → length es ≡ 0 → block_count es ≡ 0
+no_extents [] is = refl
+no_extents (e ∷ es) is = absurd (omega (arith, is))
+
+more_chains : (a b : ℕ) → a ≤ b → chains_for a ≤ chains_for b
+more_chains a b le = omega (arith, le)
+
+-- ---- the inodes
+
+module _ (g : Geometry) (k : View) (t : Tables) (kept : Kept) (lines : Bool) (n : ℕ) (s : State) (stands : StandsAt g k t kept lines n s) (fresh : kept.staging ≡ nothing_staged) (ends : FilesEnd k.volume kept.files) where
+  abbrev v : Volume
+  v = k.volume
+
+  whole : IsWhole k.volume
+  whole = stands.order.whole
+
+  -- an inode whose map has no extent has no block
+  bare_blocks : (ino : ℕ) → ino < length k.volume.inodes → length (extents k.volume ino) ≡ 0 → blocks_of k.volume ino ≡ 0
+  bare_blocks ino below is =
+      let counted = (has-chain k ino stands.order stands.unbatched below).counted in
+      let none : chains_for (length (extents v ino)) ≡ 0 = ap chains_for is in
+      omega (arith, counted, none, no_extents (extents v ino) is)
+
+  -- the line of an inode says how many
+  line_says : (ino : ℕ) → ino < length k.volume.inodes → length (extents k.volume ino) ≡ (inode k.volume ino).extents
+  line_says ino below =
+      let there : Stands k.volume.geometry k.volume k.cells = subst (λ u. Stands u.geometry u k.cells) (stands.order.settled stands.unbatched) stands.order.stands in
+      let reads = there.reads (words_of k.cells) (IsImage-words_of k.cells) in
+      (reads.chains ino (omega (arith, below, reads.inode_count))).map.counted
+
+  empty_staging : (x : ℕ) → IsStaging x → IsKeptEmpty kept.staging x
+  empty_staging x is = subst (λ st. IsKeptEmpty st x) (sym fresh) (zeros (x - 1) (omega (arith, is.most, is.least))) where
+    zeros : (i : ℕ) → i < 4 → slice_index nothing_staged.given i ≡ 0
+    zeros zero below = refl
+    zeros (suc zero) below = refl
+    zeros (suc (suc zero)) below = refl
+    zeros (suc (suc (suc zero))) below = refl
+    zeros (suc (suc (suc (suc i)))) below = absurd (omega (arith, below))
+
+  by_kind : (ino : ℕ) (kind : Kind) → (inode k.volume ino).kind ≡ kind → ino < length k.volume.inodes → blocks_of k.volume ino ≤ held_by (size_in kept.files ino)
+  by_kind ino Free is below = omega (arith, bare_blocks ino below (line_says ino below ∙ (free-bare v ino whole is).extents))
+  by_kind ino Directory is below = omega (arith, bare_blocks ino below (line_says ino below ∙ (directory-bare v ino whole (ap is_directory is)).extents))
+  by_kind ino Staging is below =
+      let at : IsKindAt ino Staging = subst (IsKindAt ino) is (whole.kept.kept.kinds ino (omega (arith, below, whole.kept.all.inode_count))) in
+      let staging : IsStaging ino = record { least = at.0; most = at.1 } in
+      omega (arith, bare_blocks ino below (ap (λ (es : List Extent). length es) (stands.agrees.empty ino staging (empty_staging ino staging))))
+  by_kind ino File is below =
+      let its = has-chain k ino stands.order stands.unbatched below in
+      let blocks = blocks_at_most (extents v ino) (blocks_for (size_in kept.files ino)) its.canonical (λ b past. ends.maps ino b is past) in
+      let few = extents_at_most (extents v ino) its.canonical in
+      let chains = more_chains (length (extents v ino)) (blocks_for (size_in kept.files ino)) (omega (arith, few, blocks)) in
+      omega (arith, blocks, chains, its.counted)
+
+  held_all : blocks_held k.volume ≤ sum_by held_by kept.files.sizes
+  held_all =
+      let count = stands.sizes.count in
+      subst (λ m. sum_by (blocks_of k.volume) (range_with_len 0 m) ≤ sum_by held_by kept.files.sizes) count
+      (sum_bound (blocks_of k.volume) held_by 0 kept.files.sizes (λ i below. subst (λ m. blocks_of k.volume m ≤ held_by (slice_index kept.files.sizes i)) (plus_zero i) (by_kind i (inode k.volume i).kind refl (omega (arith, below, count)))))
+    where
+      plus_zero : (i : ℕ) → i ≡ 0 + i
+      plus_zero i = omega arith
+
+  -- so all data blocks but what files hold are unused
+  pub unused_at_least : data_blocks k.volume.geometry ≤ unused_blocks k.volume + sum_by held_by kept.files.sizes
+  unused_at_least =
+      let all =
+      unused-held v (λ ino. file_blocks_of (inode v ino).kind)
+      (record { chains = λ ino below. whole.chains ino; files = λ ino below. whole.kept.kept.in_data ino (omega (arith, below, whole.kept.all.inode_count)) }) (λ b is. whole.kept.kept.once b is)
+      in
+      omega (arith, all, held_all)

@@ -1,0 +1,5 @@
+use Rattle.write_plan.proofs.Fits.{first_write_fits}
+use Rattle.write_plan.proofs.first_writes.the_first_write_finds_its_blocks.Goals as goal
+
+pub returns : goal.returns
+returns c = first_write_fits

@@ -1,0 +1,32 @@
+//! What a write asks for before it stages: its rows, its target, its entry, and the words of its blocks.
+//!
+//! Each answer is exact: the row that refuses it, the room it needs, the run and order of its
+//! entry, the bytes that its blocks are to hold. Nothing is changed here.
+//!
+//! - `rows`: The rows of `write`, `pwrite` and `truncate`, from numbers that are kept beside
+//!   K-Split.
+//! - `asks`: What a write in strict mode asks for, by numbers, and the offset behind it.
+//! - `drafts`: The entry of a logged write in strict mode.
+//! - `words`: What the blocks of a logged write are to hold.
+//! - `first_writes`: Room for the first write of a lap.
+//!
+//! Stands on `block_counts`, `posix_types`, `posix_tables`, `open_files`, `file_table`,
+//! `layout_model`, `file_overlay`, `live_model`, `relink_laws` and `eof_laws`.
+#![tactic(auto)]
+
+mod asks;
+mod drafts;
+mod first_writes;
+mod rows;
+mod words;
+
+pub use asks::{
+    Asked, FileTable, OpenFiles, Opened, Target, ask, move_by, numbers_are_those_of_the_state,
+};
+pub use drafts::{
+    Collection, Commit, Job, KSplit, draft_of, entries_are_the_next_ones,
+    kept_numbers_are_those_of_the_state, read_bytes, staged_words,
+};
+pub use first_writes::the_first_write_finds_its_blocks;
+pub use rows::{room_by, the_rows_are_those_of_the_calls, truncate_row, write_row};
+pub use words::{words_of_write, words_spell_the_file};

@@ -1,5 +1,0 @@
-use Rattle.write_words.proofs.Spelled.{stages_the_file, stands_readable}
-use Rattle.write_words.proofs.words_spell_the_file.Goals as goal
-
-pub returns : goal.returns
-returns c = record { readable = stands_readable; staged = stages_the_file }

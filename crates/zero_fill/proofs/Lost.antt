@@ -1,0 +1,93 @@
+-- The power goes while a block is zeroed, or before.
+use Rattle.std.specs.Prelude.{◌≡◌, ◌≢◌, ◌⊎◌, ◌≤◌, ◌/◌, ℕ, Bool, List, [], ◌∷◌, ◌++◌, map, Option, Some}
+use Rattle.std.proofs.Common.{sym, subst, inl, inr}
+use Rattle.k_split_laws.specs.pm_model.declared.Cell.{Cell}
+use Rattle.k_split_laws.specs.pm_model.Words.{Words}
+use Rattle.k_split_laws.specs.layout_model.Journal.{IsSound}
+use Rattle.k_split_laws.specs.layout_model.Places.{Geometry}
+use Rattle.write_plan.specs.file_overlay.Runs.{staged_at}
+use Rattle.write_plan.specs.live_model.file_table.Files.{Files, runs_in, size_in}
+use Rattle.zero_fill.specs.CleansLaws.{KeepsCleaned}
+use Rattle.zero_fill.specs.ZerosLaws.{KeepsZeroed}
+use Rattle.zero_fill.specs.Zeros.{staged_place}
+use Rattle.k_split_laws.specs.k_split_model.View.{View}
+use Rattle.k_split_laws.specs.k_split.Bytes.{IsOverwriteCut, tail_zeros}
+use Rattle.k_split_laws.specs.list_laws.Members.{In}
+use Rattle.k_split_laws.specs.Left.{IsLeftOf}
+use Rattle.k_split_laws.proofs.Cuts.{left_at, left_overwritten, left_same}
+use Rattle.k_split_laws.specs.posix_types.declared.call.Mode.{Mode}
+use Rattle.k_split_laws.specs.posix_types.declared.item.Item.{Item}
+use Rattle.k_split_laws.specs.posix_tables.Open.{Tables}
+use Rattle.k_split_laws.specs.posix_spec.Run.{Begun, run}
+use Rattle.k_split_laws.specs.posix_spec.State.{State}
+use Rattle.live_step_laws.specs.world_image_laws.Changed.{sound_headed}
+use Rattle.live_step_laws.specs.world_image_laws.Promised.{IsKept}
+use Rattle.live_step_laws.specs.world_image_laws.Back.{IsPutBack}
+use Rattle.live_step_laws.specs.world_image_laws.Flights.{promise_at_begin}
+use Rattle.live_step_laws.specs.world_model.Jobs.{begun_of, Job}
+use Rattle.write_plan.specs.live_model.Standing.{Kept, StandsAt}
+use Rattle.zero_fill.specs.Gaps.{LosesGap, with_files}
+
+not_posix : (m : Mode) → m ≡ Mode.Strict → m ≢ Mode.Posix
+not_posix m strict posix = cc
+
+-- nothing was changed
+pub kept_off : (g : Geometry) (k l : View) (t : Tables) (kept : Kept) (lines : Bool) (n : ℕ) (start : State) (history : List Item) (c : Begun) → start.mode ≡ Mode.Strict
+    → (stands : StandsAt g k t kept lines n (run start history)) → l.cells ≡ k.cells → (back : ℕ → Cell) (slots : List (Option ℕ)) (image : Words)
+    → IsPutBack k.volume l.cells back kept.first kept.claims stands.jobs slots image → IsKept g start history (map begun_of stands.jobs ++ c ∷ []) image
+kept_off g k l t kept lines n start history c strict stands same back slots image put =
+    subst (λ y. IsKept y start history (map begun_of stands.jobs ++ c ∷ []) image) stands.geometry
+    (promise_at_begin k.volume k.cells kept.claims stands.jobs stands.numbers start history stands.count back kept.first slots image c (not_posix start.mode strict) (λ mode. stands.flying.whole) stands.flying.device
+    (subst (λ d. IsPutBack k.volume d back kept.first kept.claims stands.jobs slots image) same put))
+
+pub left_off : (g : Geometry) (k l : View) (t : Tables) (kept : Kept) (lines : Bool) (n : ℕ) (s : State) → StandsAt g k t kept lines n s → l.cells ≡ k.cells → IsLeftOf g k.cells l.cells
+left_off g k l t kept lines n s stands same =
+    subst (IsLeftOf g k.cells) (sym same)
+    (left_same g k.cells (λ image is. subst (λ y. IsSound y image) stands.geometry (sound_headed k.volume.geometry image (stands.flying.device.headed image is))))
+
+pub left_bytes : (g : Geometry) (k l : View) (t : Tables) (kept : Kept) (lines : Bool) (n : ℕ) (s : State) (x p : ℕ) (bytes : List ℕ) → StandsAt g k t kept lines n s → IsOverwriteCut x p bytes k l → IsLeftOf g k.cells l.cells
+left_bytes g k l t kept lines n s x p bytes stands cut =
+    subst (λ y. IsLeftOf y k.cells l.cells) stands.geometry (left_at k.volume k.committed k.cells l.cells (stands.order.settled stands.unbatched) (left_overwritten x p bytes k l cut))
+
+module _ (k l : View) (files : Files) (ino from : ℕ) (behind : size_in files ino ≤ from) where
+  -- nothing was changed
+  pub loses_off : l.cells ≡ k.cells → LosesGap ino files k l
+  loses_off same = record {
+    left = λ has. left_off has.g k l has.t (with_files has.kept files) has.lines has.n has.s has.stands same;
+    kept = λ has start history c is strict.
+        subst
+        (λ y. (stands : StandsAt has.g k has.t (with_files has.kept files) has.lines has.n y) → (back : ℕ → Cell) (slots : List (Option ℕ)) (image : Words)
+        → IsPutBack k.volume l.cells back has.kept.first has.kept.claims stands.jobs slots image → IsKept has.g start history (map begun_of stands.jobs ++ c ∷ []) image)
+        (sym is) (λ stands. kept_off has.g k l has.t (with_files has.kept files) has.lines has.n start history c strict stands same) has.stands;
+  }
+
+  -- a block of its map
+  pub loses_mapped : KeepsCleaned → (l.cells ≡ k.cells) ⊎ IsOverwriteCut ino from (tail_zeros k.volume ino from) k l → LosesGap ino files k l
+  loses_mapped keeps (inl same) = loses_off same
+  loses_mapped keeps (inr cut) = record {
+    left = λ has. left_bytes has.g k l has.t (with_files has.kept files) has.lines has.n has.s ino from (tail_zeros k.volume ino from) has.stands cut;
+    kept = λ has start history c is strict.
+        subst
+        (λ y. (stands : StandsAt has.g k has.t (with_files has.kept files) has.lines has.n y) → ((j : Job) → In j stands.jobs → j.draft.ino ≢ ino) → (back : ℕ → Cell) (slots : List (Option ℕ)) (image : Words)
+        → IsPutBack k.volume l.cells back has.kept.first has.kept.claims stands.jobs slots image → IsKept has.g start history (map begun_of stands.jobs ++ c ∷ []) image)
+        (sym is)
+        (λ stands others. keeps has.g k l has.t (with_files has.kept files) has.lines has.n start history c ino from strict stands (record { file = has.file; behind = behind; others = others }) cut)
+        has.stands has.others;
+  }
+
+  -- a staged block
+  pub loses_staged : (staging block : ℕ) → KeepsZeroed → staged_at (runs_in files ino) (from / 4096) ≡ Some (staging, block)
+      → (l.cells ≡ k.cells) ⊎ IsOverwriteCut staging (staged_place block from) (tail_zeros k.volume staging (staged_place block from)) k l → LosesGap ino files k l
+  loses_staged staging block keeps at (inl same) = loses_off same
+  loses_staged staging block keeps at (inr cut) = record {
+    left = λ has. left_bytes has.g k l has.t (with_files has.kept files) has.lines has.n has.s staging (staged_place block from) (tail_zeros k.volume staging (staged_place block from)) has.stands cut;
+    kept = λ has start history c is strict.
+        subst
+        (λ y. (stands : StandsAt has.g k has.t (with_files has.kept files) has.lines has.n y) → ((j : Job) → In j stands.jobs → j.draft.ino ≢ ino) → (back : ℕ → Cell) (slots : List (Option ℕ)) (image : Words)
+        → IsPutBack k.volume l.cells back has.kept.first has.kept.claims stands.jobs slots image → IsKept has.g start history (map begun_of stands.jobs ++ c ∷ []) image)
+        (sym is)
+        (λ stands others.
+        keeps has.g k l has.t (with_files has.kept files) has.lines has.n start history c ino from staging block strict stands
+        (record { file = has.file; behind = behind; others = others; at = at }) cut)
+        has.stands has.others;
+  }

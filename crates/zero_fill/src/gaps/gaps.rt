@@ -1,0 +1,128 @@
+//! Blocks are zeroed in place.
+ghost use Rattle.std.specs.Prelude.{◌≡◌, ◌+◌, ◌*◌, ◌-◌, ◌/◌, ◌%◌, ◌^◌, ◌<◌, ◌≤◌, ℕ, true, false, length, replicate, take, IsSome};
+ghost use Rattle.k_split_laws.specs.pm_model.Powers.{is_on, Steps};
+ghost use Rattle.k_split_laws.specs.layout_model.declared.lines.Kind.TheVariants.{File};
+ghost use Rattle.k_split_laws.specs.image_model.Volume.{inode};
+ghost use Rattle.k_split_laws.specs.extent_model.Extents.{disk_at};
+ghost use Rattle.write_plan.specs.live_model.file_table.Files.{size_in};
+ghost use Rattle.k_split_laws.specs.k_split.Bytes.{zeros_behind};
+ghost use Rattle.zero_fill.specs.Zeros.{staged_place};
+ghost use Rattle.k_split_laws.specs.k_split.Loans.{MayLend};
+ghost use Rattle.zero_fill.specs.Gaps.{block_start, HasFile, IsBlockCleared, IsCleared, IsClearPaid, IsZeroed};
+
+use crate::zeros::{
+    FileTable, blocks_are_zeroed_in_flight, the_end_of_a_file_is_cleaned_in_flight,
+};
+use extent_map::ExtentMap;
+use k_journal::Commit;
+use k_split::KSplit;
+use pm_lines::Power;
+
+// How many bytes of a file there are from byte `from` to the end of its block; none of a hole.
+fn rest_length(map: &ExtentMap, from: u64) -> usize
+    requires { from < 2 ^ 24 }
+    ensures zeros { replicate result 0 ≡ zeros_behind (disk_at map.now (from / 4096)) from }
+    ensures mapped { 0 < result → IsSome (disk_at map.now (from / 4096)) }
+    ensures in_block { from % 4096 + result ≤ 4096 }
+{
+    match map.lookup((from / 4096) as u32) {
+        Some(_) => (4096 - from % 4096) as usize,
+        None => 0,
+    }
+}
+
+// The first `count` bytes.
+fn front_of(bytes: &[u8], count: usize) -> &[u8]
+    requires { count ≤ length bytes.now }
+    ensures { result.now ≡ take count bytes.now }
+{
+    &bytes[..count]
+}
+
+// Zeroes the block of a file from byte `from` on, where its map has the block.
+fn zero_mapped(k: &mut KSplit, ino: u32, from: u64, power: &mut Power) -> Commit
+    requires on { k.old.lost ≡ false }
+    requires file { (inode k.old.volume ino).kind ≡ File }
+    requires below { ino < length k.old.volume.inodes }
+    requires short { from < 2 ^ 24 }
+    ensures steps { Steps 577 power.old power.new }
+    ensures paid { IsClearPaid power.new result }
+    ensures answer { IsZeroed ino from k.old k.new result }
+{
+    let count = match k.map(ino) {
+        Some(map) => rest_length(map, from),
+        None => unreachable!(),
+    };
+    let zeros = [0; 4096];
+    match k.write_in_place(ino, from, front_of(&zeros, count), power) {
+        Ok(()) => Commit::Done,
+        Err(_) => Commit::PowerLost,
+    }
+}
+
+// Zeroes a block of a staging file from the place of byte `from` on. It has the block, which is not lent.
+fn zero_staged(k: &mut KSplit, staging: u32, block: u32, from: u64, power: &mut Power) -> Commit
+    requires on { k.old.lost ≡ false }
+    requires may { (b : ℕ) × MayLend k.old.volume k.old.cells staging block b }
+    ensures steps { Steps 577 power.old power.new }
+    ensures paid { IsClearPaid power.new result }
+    ensures answer { IsZeroed staging (staged_place block from) k.old k.new result }
+{
+    let offset = (from % 4096) as u32;
+    let zeros = [0; 4096];
+    let some = front_of(&zeros, 4096 - offset as usize);
+    match k.write_staged(staging, block, offset, some, power) {
+        Ok(()) => Commit::Done,
+        Err(_) => Commit::PowerLost,
+    }
+}
+
+// Zeroes the block of a byte behind the end of a file, from that byte on.
+fn zero_block(k: &mut KSplit, files: &FileTable, ino: u32, from: u64, power: &mut Power) -> Commit
+    requires has { HasFile k.old files.now ino }
+    requires behind { size_in files.now ino ≤ from }
+    requires short { from < 2 ^ 24 }
+    ensures steps { Steps 577 power.old power.new }
+    ensures paid { IsClearPaid power.new result }
+    ensures answer { IsBlockCleared ino files.now from k.old k.new result }
+{
+    blocks_are_zeroed_in_flight();
+    the_end_of_a_file_is_cleaned_in_flight();
+    match files.overlay(ino).find((from / 4096) as u32) {
+        Some((staging, block)) => zero_staged(k, staging, block, from, power),
+        None => zero_mapped(k, ino, from, power),
+    }
+}
+
+/// Zeroes in place what lies between the end of a file, by what is kept of it, and the block of byte
+/// `start`, at most 16,777,216. The power is on, and no job of the file is out. Nothing where the file ends
+/// in that block or behind it.
+///
+/// `PowerLost` comes exactly where the power is off at the return. It takes no memory.
+///
+/// # Steps
+///
+/// At most 577 a block in between, and so 2^22.
+pub fn clear_gap(
+    k: &mut KSplit,
+    files: &FileTable,
+    ino: u32,
+    start: u64,
+    power: &mut Power,
+) -> Commit
+    requires power { is_on power.old ≡ true }
+    requires has { HasFile k.old files.now ino }
+    requires short { start ≤ 2 ^ 24 }
+    ensures steps { Steps (577 * 4096) power.old power.new }
+    ensures paid { IsClearPaid power.new result }
+    ensures answer { IsCleared ino files.now (block_start start) k.old k.new result }
+{
+    let size = files.size(ino);
+    for block in size / 4096..start / 4096 {
+        match zero_block(k, files, ino, size.max(4096 * block), power) {
+            Commit::PowerLost => return Commit::PowerLost,
+            Commit::Done => {}
+        }
+    }
+    Commit::Done
+}

@@ -1,7 +1,7 @@
 -- What the loops over cells keep.
 use Rattle.std.proofs.Common.{◌≡◌, ◌<◌, ◌≤◌, ℕ, List}
-use Rattle.pm_words.specs.declared.Cell.{Cell}
-use Rattle.pm_words.specs.Cells.{cell}
+use Rattle.pm_model.specs.declared.Cell.{Cell}
+use Rattle.pm_model.specs.Cells.{cell}
 
 -- the cells from `first` up to `end` are changed, and no others
 pub record ChangedUpTo (change : Cell → Cell) (first end : ℕ) (old new : List Cell) : Type 0 where

@@ -1,42 +1,73 @@
 -- The images that are made of cells.
-use Rattle.std.proofs.Common.{◌≡◌, ◌≢◌, ◌+◌, ◌*◌, ◌%◌, get_or, ap, ◌<◌, ◌≤◌, ◌^◌, ◌++◌, ℕ, Bool, true, false, cond, List, length, refl, sym, ◌∙◌, arith, ⊎_elim, add-one}
-use Rattle.std.specs.Int.{to_le_bytes, w64}
+use Rattle.std.proofs.Common.{◌≡◌, ◌≢◌, ◌+◌, ◌-◌, ◌*◌, ◌%◌, get_or, ap, ◌<◌, ◌≤◌, ◌^◌, ◌++◌, [], ◌∷◌, zero, suc, lit≤, ℕ, Bool, true, false, cond, List, length, take, refl, sym, ◌∙◌, arith, ⊎_elim, add-one}
+use Rattle.std.specs.Int.{from_le_bytes, to_le_bytes, w64}
 use Rattle.std.specs.Prelude.{◌==◌}
+use Rattle.std.specs.List.{flat_map}
 use Rattle.std.proofs.lemmas.Bool.{cases_lt, eq-eqb, ne_eqb, eqb-true, eqb-false}
+use Rattle.std.proofs.lemmas.Nat.{from_le_bytes-to_le_bytes_8}
 use Rattle.std.proofs.lemmas.List.Sums.{sum_by_more}
-use Rattle.std.proofs.lemmas.List.{get_or_past}
+use Rattle.std.proofs.lemmas.List.{get_or-append_right, places, drop_at, take_at, length-take-le}
+use borrow.Rule.Slice.PartMut.{put_mid, post_of}
 use Rattle.rand_xoshiro.specs.SplitMix64.{mix_u64}
-use Rattle.pm_words.specs.declared.Cell.{Cell}
-use Rattle.pm_words.specs.declared.Cell.TheVariants.{Single, Two, Marked, Lent}
-use Rattle.pm_words.specs.Cells.{cell, has_two, newest, oldest}
-use Rattle.pm_words.specs.Bytes.{word_at-append_left, word_at-append_word, word_at-past}
-use Rattle.pm_words.specs.Words.{Words, word_at}
+use Rattle.pm_model.specs.declared.Cell.{Cell}
+use Rattle.pm_model.specs.declared.Cell.TheVariants.{Single, Two, Marked, Lent}
+use Rattle.pm_model.specs.Cells.{cell, has_two, newest, oldest}
+use Rattle.pm_model.specs.Bytes.{word_at-same, word_at-append_left, word_at-append_word}
+use Rattle.pm_model.specs.Words.{Words, word_at}
 use Rattle.pm_lines.specs.declared.choices.Choice.TheVariants.{Oldest, Newest, Even, Odd}
-use Rattle.pm_lines.specs.Choices.{chosen, by_parity, by_draws, twos_before, draws_of, state_after, is_odd_draw}
+use Rattle.pm_lines.specs.Choices.{chosen, by_parity, twos_before, draws_of, state_after, is_odd_draw}
 
--- one word more behind n words
-pub word_at-more : (f : Words) (bytes : List ℕ) (n v : ℕ) → length bytes ≡ 8 * n → v < 2 ^ 64 → v ≡ f n
-    → ((i : ℕ) → i < n → word_at bytes i ≡ f i) → (i : ℕ) → i < n + 1 → word_at (bytes ++ to_le_bytes w64 v) i ≡ f i
-word_at-more f bytes n v size small value words i below = ⊎_elim
-    (λ (h : i < n). word_at-append_left bytes (to_le_bytes w64 v) i (omega arith) ∙ words i h)
-    (λ (h : n ≤ i). let e : i ≡ n = omega arith in rw e (word_at-append_word bytes n v size small ∙ value))
-    (cases_lt i n)
+-- a word that is written among bytes, and the others
+pub word_at-put_same : (bytes eight : List ℕ) (n k v : ℕ) → eight ≡ to_le_bytes w64 v → 8 * n + 8 ≤ length bytes → v < 2 ^ 64 → word_at (put_mid (8 * n) k bytes eight) n ≡ v
+unfolding word_at
+word_at-put_same bytes eight n k v written within small =
+    let post : List ℕ = post_of (8 * n) k bytes in
+    ap (λ (xs : List ℕ). from_le_bytes w64 (take 8 xs)) (drop_at (take (8 * n) bytes) (eight ++ post) (8 * n) (length-take-le (8 * n) bytes (omega arith)))
+    ∙ rw written (ap (λ (xs : List ℕ). from_le_bytes w64 xs) (take_at (to_le_bytes w64 v) post 8 refl))
+    ∙ from_le_bytes-to_le_bytes_8 v small
 
-zero_either : (b : Bool) → cond b (newest (Single 0)) (oldest (Single 0)) ≡ 0
-zero_either true = refl
-zero_either false = refl
+pub word_at-put_other : (bytes eight : List ℕ) (n k i : ℕ) → length eight ≡ 8 → k ≡ 8 → 8 * n + 8 ≤ length bytes → i ≢ n → word_at (put_mid (8 * n) k bytes eight) i ≡ word_at bytes i
+word_at-put_other bytes eight n k i count size within other =
+    word_at-same (put_mid (8 * n) k bytes eight) bytes i i (λ j h. ⊎_elim
+    (λ (before : i < n). grind (arith, places))
+    (λ (after : n ≤ i). grind (arith, places))
+    (cases_lt i n))
 
--- past the end of the device either candidate is a 0
-pub either-past : (b : Bool) (d : List Cell) (i : ℕ) → length d ≤ i → cond b (newest (cell d i)) (oldest (cell d i)) ≡ 0
-either-past b d i past = rw (get_or_past d i (Single 0) past) (zero_either b)
+-- the words of bytes that are put behind others
+word_at-append_right : (bytes more : List ℕ) (n k : ℕ) → length bytes ≡ 8 * n → word_at (bytes ++ more) (n + k) ≡ word_at more k
+word_at-append_right bytes more n k size =
+    word_at-same (bytes ++ more) more (n + k) k (λ j h.
+    let at : 8 * (n + k) + j - 8 * n ≡ 8 * k + j = omega arith in
+    get_or-append_right bytes more (8 * n) (8 * (n + k) + j) 0 size (omega arith) ∙ ap (λ m. get_or more m 0) at)
 
--- words that are those of f as far as the bytes and the device go are so everywhere
-pub word_at-all : (f : Words) (d : List Cell) (bytes : List ℕ) → length bytes ≡ 8 * length d → ((i : ℕ) → length d ≤ i → f i ≡ 0)
-    → ((i : ℕ) → i < length d → word_at bytes i ≡ f i) → (i : ℕ) → word_at bytes i ≡ f i
-word_at-all f d bytes size past words i = ⊎_elim
-    (λ (h : i < length d). words i h)
-    (λ (h : length d ≤ i). word_at-past bytes i (omega arith) ∙ sym (past i h))
-    (cases_lt i (length d))
+-- the words of bytes that stand word by word
+pub word_at-flat : (rows : List (List ℕ)) (f : Words) → ((k : ℕ) → k < length rows → get_or rows k [] ≡ to_le_bytes w64 (f k)) → ((k : ℕ) → f k < 2 ^ 64)
+    → (k : ℕ) → k < length rows → word_at (flat_map (λ x. x) rows) k ≡ f k
+word_at-flat [] f each small k below = absurd (omega arith)
+word_at-flat (r ∷ rs) f each small zero below =
+    let first : r ≡ to_le_bytes w64 (f 0) = each 0 (omega arith) in
+    word_at-append_left r (flat_map (λ x. x) rs) 0 (rw first (lit≤ tt)) ∙ rw first (word_at-append_word [] 0 (f 0) refl (small 0))
+word_at-flat (r ∷ rs) f each small (suc k) below =
+    let first : r ≡ to_le_bytes w64 (f 0) = each 0 (omega arith) in
+    let size : length r ≡ 8 * 1 = rw first refl in
+    let at : 1 + k ≡ suc k = omega arith in
+    rw at at (word_at-append_right r (flat_map (λ x. x) rs) 1 k size)
+    ∙ word_at-flat rs (λ j. f (suc j)) (λ j h. each (suc j) (omega arith)) (λ j. small (suc j)) k (omega arith)
+
+-- one line more
+pub words-more_line : (f : Words) (bytes line : List ℕ) (n : ℕ) → length bytes ≡ 64 * n → ((k : ℕ) → k < 8 → word_at line k ≡ f (8 * n + k))
+    → ((i : ℕ) → i < 8 * n → word_at bytes i ≡ f i) → (i : ℕ) → i < 8 * (n + 1) → word_at (bytes ++ line) i ≡ f i
+words-more_line f bytes line n size last before i below = ⊎_elim
+    (λ (h : i < 8 * n). word_at-append_left bytes line i (omega arith) ∙ before i h)
+    (λ (h : 8 * n ≤ i).
+    let at : 8 * n + (i - 8 * n) ≡ i = omega arith in
+    rw at at (word_at-append_right bytes line (8 * n) (i - 8 * n) (omega arith) ∙ last (i - 8 * n) (omega arith)))
+    (cases_lt i (8 * n))
+
+-- the value of a single word is both candidates
+pub either-single : (b : Bool) (c : Cell) (w : ℕ) → c ≡ Single w → w ≡ cond b (newest c) (oldest c)
+either-single true c w is = rw is refl
+either-single false c w is = rw is refl
 
 -- The choices by parity.
 either-same : (b : Bool) (x y : ℕ) → cond (cond b false false) x y ≡ y
@@ -90,9 +121,6 @@ after-none seed = refl
 pub after-more : (seed k : ℕ) → state_after seed (k + 1) ≡ (mix_u64 (state_after seed k)).1
 unfolding state_after
 after-more seed k = rw add-one refl
-
-pub draws-past : (seed : ℕ) (d : List Cell) (i : ℕ) → length d ≤ i → by_draws seed d i ≡ 0
-draws-past seed d i past = either-past (is_odd_draw seed (twos_before d i)) d i past
 
 -- a cell with two candidates takes a draw
 pub draws_of-two : (c : Cell) → has_two c ≡ true → draws_of c ≡ 1

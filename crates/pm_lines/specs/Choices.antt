@@ -2,9 +2,9 @@
 use Rattle.std.specs.Prelude.{◌%◌, ◌==◌, ℕ, zero, suc, Bool, true, false, List, take, if◌then◌else◌}
 use Rattle.std.specs.List.{count_by}
 use Rattle.rand_xoshiro.specs.SplitMix64.{mix_u64}
-use Rattle.pm_words.specs.declared.Cell.{Cell}
-use Rattle.pm_words.specs.Cells.{cell, has_two, oldest, newest}
-use Rattle.pm_words.specs.Words.{Words}
+use Rattle.pm_model.specs.declared.Cell.{Cell}
+use Rattle.pm_model.specs.Cells.{cell, has_two, oldest, newest}
+use Rattle.pm_model.specs.Words.{Words}
 use Rattle.pm_lines.specs.declared.choices.Choice.{Choice}
 use Rattle.pm_lines.specs.declared.choices.Choice.TheVariants.{Oldest, Newest, Even, Odd, Seed}
 

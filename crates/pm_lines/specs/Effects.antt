@@ -1,8 +1,8 @@
 -- What the three steps of a memory do, for a power that is on or off before the step. Each speaks of the cells
 -- of a device, of a loan or of a line alike.
 use Rattle.std.specs.Prelude.{◌≡◌, ◌≢◌, ◌/◌, ℕ, Bool, false, List, length, if◌then◌else◌}
-use Rattle.pm_words.specs.declared.Cell.{Cell}
-use Rattle.pm_words.specs.Cells.{cell, stored, flushed, fenced}
+use Rattle.pm_model.specs.declared.Cell.{Cell}
+use Rattle.pm_model.specs.Cells.{cell, stored, flushed, fenced}
 
 -- A store: the word has the value as a second candidate.
 pub record StoresWord (on : Bool) (word value : ℕ) (old new : List Cell) : Type 0 where

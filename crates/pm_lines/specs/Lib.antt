@@ -1,5 +1,6 @@
 pub mod Choices
 pub mod Effects
-pub mod Flushed
+pub mod LentLines
+pub mod Pairs
 pub mod Wholes
-pub use Rattle.pm_words.specs as pm_words
+pub use Rattle.pm_model.specs as pm_model

@@ -1,8 +1,8 @@
-// What the steps of a memory do to its cells. A device, a loan and a line do the same, each on its own.
+// What a read gives of a cell, and what the steps of a memory do to the cells of a line that is out.
 ghost use Rattle.std.specs.Prelude.{◌≡◌, ◌≢◌, ◌/◌, ◌<◌, ℕ, true, length, slice_index, slice_set, if◌then◌else◌};
-ghost use Rattle.pm_words.specs.Cells.{cell, is_single, is_marked, newest, oldest, stored, flushed, fenced, unmarked};
+ghost use Rattle.pm_model.specs.Cells.{cell, is_single, is_marked, newest, oldest, stored, flushed, fenced, unmarked};
 
-use pm_words::Cell;
+use pm_model::Cell;
 
 // What a read gives.
 pub(crate) fn newest(cell: Cell) -> u64
@@ -81,35 +81,11 @@ pub(crate) fn flush(cells: &mut [Cell], line: usize)
     }
 }
 
-// Drops what is older than a marked candidate, in the line's words.
-fn fence_line(cells: &mut [Cell], line: usize)
-    requires { line < length cells.old / 8 }
-    ensures words { (i : ℕ) → i / 8 ≡ line → cell cells.new i ≡ fenced (cell cells.old i) }
-    ensures others { (i : ℕ) → i / 8 ≢ line → cell cells.new i ≡ cell cells.old i }
-{
-    let first = 8 * line;
-    for word in first..first + 8 {
-        cells[word] = fenced(cells[word]);
-    }
-}
-
 // Drops what is older than a marked candidate, in all words.
 pub(crate) fn fence(cells: &mut [Cell])
     ensures { (i : ℕ) → cell cells.new i ≡ fenced (cell cells.old i) }
 {
     for cell in cells.iter_mut() {
         *cell = fenced(*cell);
-    }
-}
-
-// The same as `fence`, where the lines are all those with a mark.
-pub(crate) fn fence_lines(cells: &mut [Cell], lines: &[u64])
-    requires in_range { (k : ℕ) → k < length lines.now → slice_index lines.now k < length cells.old / 8 }
-    requires marked { (i : ℕ) → is_marked (cell cells.old i) ≡ true
-        → (k : ℕ) × (k < length lines.now) × (slice_index lines.now k ≡ i / 8) }
-    ensures { (i : ℕ) → cell cells.new i ≡ fenced (cell cells.old i) }
-{
-    for line in lines {
-        fence_line(cells, *line as usize);
     }
 }

@@ -1,24 +1,24 @@
 //! The device: its words, and the stores, flushes and fences that change them.
 ghost use Rattle.std.specs.Prelude.{◌≡◌, ◌≢◌, ◌+◌, ◌*◌, ◌/◌, ◌%◌, ◌<◌, ℕ, true, false, length, IfOk, OnErr};
-ghost use Rattle.pm_words.specs.Cells.{cell, is_single, is_lent, newest, fenced, MayHold, AllHome};
-ghost use Rattle.pm_words.specs.Cells.{flushed as flushed_cell};
-ghost use Rattle.pm_words.specs.Frames.{SameLent, LineIsSingle, LineIsHome};
-ghost use Rattle.pm_words.specs.Images.{IsImageOf, words_of};
-ghost use Rattle.pm_words.specs.Parts.{GoesOut, ComesBack};
-ghost use Rattle.pm_words.specs.Powers.{is_on, stepped, Steps};
-ghost use Rattle.pm_words.specs.Words.{word_at, line_bytes};
+ghost use Rattle.pm_model.specs.Cells.{cell, is_single, is_lent, newest, fenced, MayHold, AllHome};
+ghost use Rattle.pm_model.specs.Frames.{SameLent, LineIsSingle, LineIsHome};
+ghost use Rattle.pm_model.specs.Images.{IsImageOf, words_of};
+ghost use Rattle.pm_model.specs.Parts.{GoesOut, ComesBack};
+ghost use Rattle.pm_model.specs.Powers.{is_on, stepped, Steps};
+ghost use Rattle.pm_model.specs.Words.{word_at, line_bytes};
 ghost use Rattle.pm_lines.specs.Choices.{chosen};
 ghost use Rattle.pm_lines.specs.Effects.{StoresWord, FlushesLine, Fences};
-ghost use Rattle.pm_lines.specs.Flushed.{KnowsMarks};
 
-use crate::cells::{self, is_single, newest};
+use crate::cells::{is_single, newest};
 use crate::choices::Choice;
-use crate::images::{bytes_of_line, chosen_bytes, single_cells, word_in};
+use crate::chosen::chosen_bytes;
+use crate::images::{bytes_of_line, word_in, words_of_bytes};
 use crate::lines::Line;
 use crate::loans::Loan;
-use crate::parts::{put_back, take_block, take_out};
+use crate::parts::{cells_of_line, newest_of_line, no_lines_out, note_lines, put_cells, put_words};
 use crate::powers::Power;
-use pm_words::Cell;
+use crate::words::Words;
+use pm_model::Cell;
 use std::alloc::{AllocError, Global};
 use std::marker::Model;
 
@@ -28,62 +28,65 @@ use std::marker::Model;
 /// counted from the start of the memory.
 #[derive(Debug, Drop)]
 pub struct Pm {
-    cells: Vec<Cell>,
-    // The lines that were flushed since the last fence, as far as there is room: one place a line.
-    // With no room left, any word may be marked.
-    flushed: Vec<u64>,
-    count: usize,
+    // Of a lent word the candidate that it went out with.
+    words: Words,
+    // Of each line, whether it is lent.
+    lent: Vec<bool>,
 }
 
 impl Model for Pm {
     ghost use Rattle.std.specs.Prelude.{List};
-    ghost use Rattle.pm_words.specs.declared.Cell.{Cell};
-    ghost use Rattle.pm_lines.specs.Flushed.{KnowsMarks};
+    ghost use Rattle.pm_model.specs.declared.Cell.{Cell};
+    ghost use Rattle.pm_lines.specs.LentLines.{with_lent, HasLines};
 
     ghost Value = { List Cell };
 
-    ghost view = { λ pm. pm.cells.items };
+    ghost view = { λ pm. with_lent pm.lent.items pm.words };
 
-    ghost invariant = { λ pm. KnowsMarks pm.cells.items pm.flushed.items pm.count };
-}
-
-// Marks a line's words, and notes the line where there is room. Answers how many lines are noted.
-fn flush_noted(cells: &mut [Cell], flushed: &mut [u64], count: usize, line: u64) -> usize
-    requires in_device { line < length cells.old / 8 }
-    requires known { KnowsMarks cells.old flushed.old count }
-    ensures words { (i : ℕ) → i / 8 ≡ line → cell cells.new i ≡ flushed_cell (cell cells.old i) }
-    ensures others { (i : ℕ) → i / 8 ≢ line → cell cells.new i ≡ cell cells.old i }
-    ensures known { KnowsMarks cells.new flushed.new result }
-{
-    cells::flush(cells, line as usize);
-    if count == flushed.len() {
-        return count;
-    }
-    flushed[count] = line;
-    count + 1
+    ghost invariant = { λ pm. HasLines pm.lent.items pm.words };
 }
 
 impl Pm {
+    // The word gets a second candidate.
+    fn store(&mut self, word: usize, value: u64)
+        requires in_device { word < length self.old }
+        requires single { is_single (cell self.old word) ≡ true }
+        ensures { StoresWord true word value self.old self.new }
+    {
+        self.words.store(word, value);
+    }
+
+    // Marks the present candidates of the line's words.
+    fn mark(&mut self, line: usize)
+        requires in_device { line < length self.old / 8 }
+        requires home { LineIsHome line self.old }
+        ensures { FlushesLine true line self.old self.new }
+    {
+        self.words.flush(line);
+    }
+
+    // Drops each candidate that is older than a marked one.
+    fn drop_older(&mut self)
+        ensures { Fences true self.old self.new }
+    {
+        self.words.fence();
+    }
     /// A device with the words of an image, each of them durable.
     pub fn from_image(alloc: Global, bytes: &[u8]) -> Result<Pm, AllocError>
         requires { length bytes.now % 4096 ≡ 0 }
         ensures size { IfOk result (λ pm. 8 * length pm ≡ length bytes.now) }
         ensures words { IfOk result (λ pm. (i : ℕ) → cell pm i ≡ Cell.Single (word_at bytes.now i)) }
     {
-        let cells = single_cells(alloc, bytes)?;
-        let flushed = vec![in alloc; 0; cells.len() / 8]?;
-        Ok(Pm {
-            cells,
-            flushed,
-            count: 0,
-        })
+        let words = Words::of(alloc, words_of_bytes(alloc, bytes)?)?;
+        let lent = no_lines_out(alloc, words.len() / 8)?;
+        Ok(Pm { words, lent })
     }
 
     /// How many words it has.
     pub fn words(&self) -> u64
         ensures { result ≡ length self.now }
     {
-        self.cells.len() as u64
+        self.words.len() as u64
     }
 
     /// The word's newest candidate.
@@ -92,7 +95,7 @@ impl Pm {
         requires home { is_lent (cell self.now word) ≡ false }
         ensures { result ≡ newest (cell self.now word) }
     {
-        newest(self.cells[word as usize])
+        newest(self.words.cell_of(word as usize))
     }
 
     /// Whether the word has one candidate.
@@ -101,7 +104,7 @@ impl Pm {
         requires home { is_lent (cell self.now word) ≡ false }
         ensures { result ≡ is_single (cell self.now word) }
     {
-        is_single(self.cells[word as usize])
+        is_single(self.words.cell_of(word as usize))
     }
 
     /// The 64 bytes of a line, of each word the newest candidate.
@@ -111,7 +114,7 @@ impl Pm {
         ensures bytes { result ≡ line_bytes (words_of self.now) line }
         ensures words { (i : ℕ) → i / 8 ≡ line → word_at result (i % 8) ≡ newest (cell self.now i) }
     {
-        bytes_of_line(&self.cells, line as usize)
+        bytes_of_line(&newest_of_line(&self.words, line as usize))
     }
 
     /// Adds a candidate to the word, in one step.
@@ -123,7 +126,7 @@ impl Pm {
         ensures steps { Steps 1 power.old power.new }
     {
         if power.step() {
-            cells::store(&mut self.cells, word as usize, value);
+            self.store(word as usize, value);
         }
     }
 
@@ -136,7 +139,7 @@ impl Pm {
         ensures steps { Steps 1 power.old power.new }
     {
         if power.step() {
-            self.count = flush_noted(&mut self.cells, &mut self.flushed, self.count, line);
+            self.mark(line as usize);
         }
     }
 
@@ -148,12 +151,7 @@ impl Pm {
         ensures steps { Steps 1 power.old power.new }
     {
         if power.step() {
-            if self.count < self.flushed.len() {
-                cells::fence_lines(&mut self.cells, &self.flushed[..self.count]);
-            } else {
-                cells::fence(&mut self.cells);
-            }
-            self.count = 0;
+            self.drop_older();
         }
     }
 
@@ -164,7 +162,7 @@ impl Pm {
         ensures chosen { IfOk result (λ bytes. (i : ℕ)
             → word_at bytes.items i ≡ chosen choice self.now i) }
     {
-        chosen_bytes(alloc, &self.cells, choice)
+        chosen_bytes(alloc, &self.words, choice)
     }
 
     /// Lends a block. Its words are then the loan's, until `settle`.
@@ -176,8 +174,10 @@ impl Pm {
         ensures lent { IfOk result (λ loan. GoesOut 512 block self.old self.new loan.cells) }
         ensures err { OnErr result (self.new ≡ self.old) }
     {
-        let cells = take_block(alloc, &mut self.cells, block as usize)?;
-        Ok(Loan::of(block, cells))
+        let first = 64 * block as usize;
+        let words = self.words.copy(alloc, 8 * first, 512)?;
+        note_lines(&mut self.lent, first, 64, true);
+        Ok(Loan::of(block, words))
     }
 
     /// Takes a loan back. Its marks end with it.
@@ -187,7 +187,9 @@ impl Pm {
         ensures back { ComesBack 512 loan.place loan.cells self.old self.new }
         ensures home { (i : ℕ) → i / 512 ≡ loan.place → is_lent (cell self.new i) ≡ false }
     {
-        put_back(&mut self.cells, 512, loan.block() as usize, loan.cells());
+        let first = 64 * loan.block() as usize;
+        put_words(&mut self.words, 8 * first, loan.words());
+        note_lines(&mut self.lent, first, 64, false);
     }
 
     /// Takes a line out. Its words are then those of the `Line`, until `put_line`.
@@ -198,8 +200,8 @@ impl Pm {
         ensures place { result.place ≡ line }
         ensures lent { GoesOut 8 line self.old self.new result.cells }
     {
-        let mut cells = [Cell::Lent; 8];
-        take_out(&mut self.cells, 8, line as usize, &mut cells);
+        let cells = cells_of_line(&self.words, line as usize);
+        note_lines(&mut self.lent, line as usize, 1, true);
         Line::of(line, cells)
     }
 
@@ -210,7 +212,11 @@ impl Pm {
         ensures back { ComesBack 8 line.place line.cells self.old self.new }
         ensures home { LineIsHome line.place self.new }
     {
-        put_back(&mut self.cells, 8, line.place() as usize, line.cells());
+        // It bounds the lines' numbers.
+        let _ = self.words();
+        let place = line.place() as usize;
+        put_cells(&mut self.words, 8 * place, line.cells());
+        note_lines(&mut self.lent, place, 1, false);
     }
 
     /// Stores the 64 bytes of a line and flushes it, in nine steps. The next fence makes them durable.

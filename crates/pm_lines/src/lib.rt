@@ -9,18 +9,21 @@
 //! The layer above may rely on the exact cells after every call, for every power. A block can be lent
 //! as a `Loan`, and a line taken out as a `Line`: each is a memory of its own until it is put back.
 //!
-//! It stands on `pm_words`, which has the cells and the words that the contracts cite, and on
+//! It stands on `pm_model`, which has the cells and the words that the contracts cite, and on
 //! `rand_xoshiro` for the draws of a choice by a seed.
 #![tactic(auto)]
 
 mod cells;
 mod choices;
+mod chosen;
 mod devices;
 mod images;
 mod lines;
 mod loans;
+mod pairs;
 mod parts;
 mod powers;
+mod words;
 
 pub use choices::Choice;
 pub use devices::Pm;

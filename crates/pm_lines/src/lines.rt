@@ -1,13 +1,13 @@
 //! A line that was taken out of a device, with its cells.
 ghost use Rattle.std.specs.Prelude.{◌≡◌, ◌<◌, ◌/◌, true};
-ghost use Rattle.pm_words.specs.Cells.{cell, is_single, newest};
-ghost use Rattle.pm_words.specs.Powers.{is_on, stepped, Steps};
+ghost use Rattle.pm_model.specs.Cells.{cell, is_single, newest};
+ghost use Rattle.pm_model.specs.Powers.{is_on, stepped, Steps};
 ghost use Rattle.pm_lines.specs.Effects.{StoresWord, FlushesLine, Fences};
 ghost use Rattle.pm_lines.specs.Wholes.{IsWhole};
 
 use crate::cells::{self, is_single, newest};
 use crate::powers::Power;
-use pm_words::Cell;
+use pm_model::Cell;
 use std::marker::Model;
 
 /// A line that was taken out of a device. Its words are counted from the start of the line.
@@ -18,7 +18,7 @@ pub struct Line {
 }
 
 impl Model for Line {
-    ghost use Rattle.pm_words.specs.Parts.{Part};
+    ghost use Rattle.pm_model.specs.Parts.{Part};
     ghost use Rattle.pm_lines.specs.Wholes.{IsWhole};
 
     ghost Value = { Part };

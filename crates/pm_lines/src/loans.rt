@@ -1,47 +1,46 @@
 //! A block that was lent by a device, with its cells.
-ghost use Rattle.std.specs.Prelude.{◌≡◌, ◌/◌, ◌<◌, true};
-ghost use Rattle.pm_words.specs.Cells.{cell, is_single, newest};
-ghost use Rattle.pm_words.specs.Powers.{is_on, stepped, Steps};
+ghost use Rattle.std.specs.Prelude.{◌≡◌, ◌<◌, true, length};
+ghost use Rattle.pm_model.specs.Cells.{cell, is_single, newest};
+ghost use Rattle.pm_model.specs.Powers.{is_on, stepped, Steps};
 ghost use Rattle.pm_lines.specs.Effects.{StoresWord, FlushesLine, Fences};
-ghost use Rattle.pm_lines.specs.Wholes.{IsWhole};
 
-use crate::cells::{self, is_single, newest};
+use crate::cells::{is_single, newest};
 use crate::powers::Power;
-use pm_words::Cell;
+use crate::words::Words;
 use std::marker::Model;
 
 /// A block that was lent by a device. Its words and lines are counted from the start of the block.
 #[derive(Debug, Drop)]
 pub struct Loan {
     block: u32,
-    cells: Vec<Cell>,
+    words: Words,
 }
 
 impl Model for Loan {
-    ghost use Rattle.pm_words.specs.Parts.{Part};
-    ghost use Rattle.pm_lines.specs.Wholes.{IsWhole};
+    ghost use Rattle.std.specs.Prelude.{◌≡◌, length};
+    ghost use Rattle.pm_model.specs.Parts.{Part};
 
     ghost Value = { Part };
 
-    ghost view = { λ loan. record { place = loan.block; cells = loan.cells.items } };
+    ghost view = { λ loan. record { place = loan.block; cells = loan.words } };
 
-    ghost invariant = { λ loan. IsWhole 512 loan.cells.items };
+    ghost invariant = { λ loan. length loan.words ≡ 512 };
 }
 
 impl Loan {
-    // A loan of these 512 cells.
-    pub(crate) fn of(block: u32, cells: Vec<Cell>) -> Loan
-        requires { IsWhole 512 cells.items }
-        ensures { result ≡ record { place = block; cells = cells.items } }
+    // A loan of these 512 words.
+    pub(crate) fn of(block: u32, words: Words) -> Loan
+        requires { length words ≡ 512 }
+        ensures { result ≡ record { place = block; cells = words } }
     {
-        Loan { block, cells }
+        Loan { block, words }
     }
 
-    pub(crate) fn cells(&self) -> &[Cell]
-        ensures cells { result.now ≡ self.now.cells }
-        ensures whole { IsWhole 512 result.now }
+    pub(crate) fn words(&self) -> &Words
+        ensures words { result.now ≡ self.now.cells }
+        ensures count { length result.now ≡ 512 }
     {
-        &self.cells
+        &self.words
     }
 
     /// The block's number in its device.
@@ -56,7 +55,7 @@ impl Loan {
         requires { word < 512 }
         ensures { result ≡ newest (cell self.now.cells word) }
     {
-        newest(self.cells[word as usize])
+        newest(self.words.cell_of(word as usize))
     }
 
     /// Whether the word has one candidate.
@@ -64,7 +63,7 @@ impl Loan {
         requires { word < 512 }
         ensures { result ≡ is_single (cell self.now.cells word) }
     {
-        is_single(self.cells[word as usize])
+        is_single(self.words.cell_of(word as usize))
     }
 
     /// Adds a candidate to the word, in one step.
@@ -77,7 +76,7 @@ impl Loan {
         ensures steps { Steps 1 power.old power.new }
     {
         if power.step() {
-            cells::store(&mut self.cells, word as usize, value);
+            self.words.store(word as usize, value);
         }
     }
 
@@ -90,7 +89,7 @@ impl Loan {
         ensures steps { Steps 1 power.old power.new }
     {
         if power.step() {
-            cells::flush(&mut self.cells, line as usize);
+            self.words.flush(line as usize);
         }
     }
 
@@ -102,7 +101,7 @@ impl Loan {
         ensures steps { Steps 1 power.old power.new }
     {
         if power.step() {
-            cells::fence(&mut self.cells);
+            self.words.fence();
         }
     }
 }

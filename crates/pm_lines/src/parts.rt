@@ -1,82 +1,86 @@
 // How parts of a device go out and come back.
-ghost use Rattle.std.specs.Prelude.{◌≡◌, ◌+◌, ◌-◌, ◌*◌, ◌/◌, ◌<◌, ◌≤◌, ℕ, true, false, length, IfOk, OnErr};
-ghost use Rattle.pm_words.specs.Cells.{cell, is_single, is_lent, is_marked, unmarked, AllHome};
-ghost use Rattle.pm_words.specs.Parts.{GoesOut, ComesBack};
+ghost use Rattle.std.specs.Prelude.{◌≡◌, ◌≢◌, ◌+◌, ◌*◌, ◌<◌, ◌≤◌, ℕ, true, false, length, slice_index, replicate, IfOk};
+ghost use Rattle.pm_model.specs.Cells.{cell, is_single, is_lent};
+ghost use Rattle.pm_model.specs.Cells.{newest as newest_cell};
+ghost use Rattle.pm_lines.specs.LentLines.{NotesLines, PutsPart};
 ghost use Rattle.pm_lines.specs.Wholes.{IsWhole};
 
-use crate::cells::unmarked;
-use pm_words::Cell;
+use crate::cells::newest;
+use crate::words::Words;
+use pm_model::Cell;
 use std::alloc::{AllocError, Global};
 
-// Lends `count` words from `first` on.
-fn lend(cells: &mut [Cell], first: usize, count: usize)
-    requires { first + count ≤ length cells.old }
-    ensures out { (i : ℕ) → first ≤ i → i < first + count → cell cells.new i ≡ Cell.Lent }
-    ensures below { (i : ℕ) → i < first → cell cells.new i ≡ cell cells.old i }
-    ensures above { (i : ℕ) → first + count ≤ i → cell cells.new i ≡ cell cells.old i }
+// So many lines, none of them lent.
+pub(crate) fn no_lines_out(alloc: Global, count: usize) -> Result<Vec<bool>, AllocError>
+    ensures { IfOk result (λ lent. lent.items ≡ replicate count false) }
 {
-    for word in first..first + count {
-        cells[word] = Cell::Lent;
+    vec![in alloc; false; count]
+}
+
+// Notes of lines whether they are lent.
+pub(crate) fn note_lines(lent: &mut Vec<bool>, first: usize, count: usize, out: bool)
+    requires { first + count ≤ length lent.old.items }
+    ensures { NotesLines first count out lent.old.items lent.new.items }
+{
+    for line in first..first + count {
+        lent[line] = out;
     }
 }
 
-// Puts a part back from `first` on, without its marks.
-fn settle(cells: &mut [Cell], first: usize, part: &[Cell])
-    requires { first + length part.now ≤ length cells.old }
-    ensures words { (i : ℕ) → first ≤ i → i < first + length part.now
-        → cell cells.new i ≡ unmarked (cell part.now (i - first)) }
-    ensures below { (i : ℕ) → i < first → cell cells.new i ≡ cell cells.old i }
-    ensures above { (i : ℕ) → first + length part.now ≤ i → cell cells.new i ≡ cell cells.old i }
+// The cells of a line's words.
+pub(crate) fn cells_of_line(words: &Words, line: usize) -> [Cell; 8]
+    requires { 8 * line + 8 ≤ length words.now }
+    ensures whole { IsWhole 8 result }
+    ensures cells { (k : ℕ) → k < 8 → cell result k ≡ cell words.now (8 * line + k) }
 {
+    // It bounds the words' numbers.
+    let _ = words.len();
+    let mut cells = [Cell::Single(0); 8];
+    for k in 0..8 {
+        cells[k] = words.cell_of(8 * line + k);
+    }
+    cells
+}
+
+// What a read gives of a line's words.
+pub(crate) fn newest_of_line(words: &Words, line: usize) -> [u64; 8]
+    requires { 8 * line + 8 ≤ length words.now }
+    ensures { (k : ℕ) → k < 8 → slice_index result k ≡ newest_cell (cell words.now (8 * line + k)) }
+{
+    // It bounds the words' numbers.
+    let _ = words.len();
+    let mut values = [0; 8];
+    for k in 0..8 {
+        values[k] = newest(words.cell_of(8 * line + k));
+    }
+    values
+}
+
+// Puts the words of a block back, without their marks.
+pub(crate) fn put_words(words: &mut Words, first: usize, part: &Words)
+    requires in_range { first + length part.now ≤ length words.old }
+    requires single { (i : ℕ) → first ≤ i → i < first + length part.now
+        → is_single (cell words.old i) ≡ true }
+    ensures { PutsPart first part.now words.old words.new }
+{
+    // It bounds the words' numbers.
+    let _ = words.len();
+    for k in 0..part.len() {
+        words.put(first + k, part.cell_of(k));
+    }
+}
+
+// Puts the words of a line back, without their marks.
+pub(crate) fn put_cells(words: &mut Words, first: usize, part: &[Cell])
+    requires in_range { first + length part.now ≤ length words.old }
+    requires single { (i : ℕ) → first ≤ i → i < first + length part.now
+        → is_single (cell words.old i) ≡ true }
+    requires home { (k : ℕ) → k < length part.now → is_lent (cell part.now k) ≡ false }
+    ensures { PutsPart first part.now words.old words.new }
+{
+    // It bounds the words' numbers.
+    let _ = words.len();
     for (k, cell) in part.iter().enumerate() {
-        cells[first + k] = unmarked(*cell);
+        words.put(first + k, *cell);
     }
-}
-
-// Takes out part `n` of so many words.
-pub(crate) fn take_out(cells: &mut [Cell], size: usize, n: usize, part: &mut [Cell])
-    requires some { 0 < size }
-    requires in_range { size * n + size ≤ length cells.old }
-    requires fits { length part.old ≡ size }
-    requires single { (i : ℕ) → i / size ≡ n → is_single (cell cells.old i) ≡ true }
-    ensures out { GoesOut size n cells.old cells.new part.new }
-    ensures home { AllHome part.new }
-    ensures marks { (i : ℕ) → is_marked (cell cells.new i) ≡ true
-        → is_marked (cell cells.old i) ≡ true }
-{
-    let first = size * n;
-    part.copy_from_slice(&cells[first..first + size]);
-    lend(cells, first, size);
-}
-
-// Takes out a block, where there is memory for its cells.
-pub(crate) fn take_block(
-    alloc: Global,
-    cells: &mut [Cell],
-    block: usize,
-) -> Result<Vec<Cell>, AllocError>
-    requires in_range { block < length cells.old / 512 }
-    requires single { (i : ℕ) → i / 512 ≡ block → is_single (cell cells.old i) ≡ true }
-    ensures out { IfOk result (λ part. GoesOut 512 block cells.old cells.new part.items) }
-    ensures whole { IfOk result (λ part. IsWhole 512 part.items) }
-    ensures marks { (i : ℕ) → is_marked (cell cells.new i) ≡ true
-        → is_marked (cell cells.old i) ≡ true }
-    ensures err { OnErr result (cells.new ≡ cells.old) }
-{
-    let mut part = vec![in alloc; Cell::Lent; 512]?;
-    take_out(cells, 512, block, &mut part);
-    Ok(part)
-}
-
-// Puts part `n` of so many words back.
-pub(crate) fn put_back(cells: &mut [Cell], size: usize, n: usize, part: &[Cell])
-    requires some { 0 < size }
-    requires in_range { size * n + size ≤ length cells.old }
-    requires fits { length part.now ≡ size }
-    ensures back { ComesBack size n part.now cells.old cells.new }
-    ensures home { AllHome part.now → (i : ℕ) → i / size ≡ n → is_lent (cell cells.new i) ≡ false }
-    ensures marks { (i : ℕ) → is_marked (cell cells.new i) ≡ true
-        → is_marked (cell cells.old i) ≡ true }
-{
-    settle(cells, size * n, part);
 }

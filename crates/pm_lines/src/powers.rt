@@ -1,6 +1,6 @@
 //! Power: for a number of device steps, or always.
 ghost use Rattle.std.specs.Prelude.{◌≡◌};
-ghost use Rattle.pm_words.specs.Powers.{is_on, stepped, Steps};
+ghost use Rattle.pm_model.specs.Powers.{is_on, stepped, Steps};
 
 use std::marker::Model;
 
@@ -16,7 +16,7 @@ pub struct Power {
 impl Model for Power {
     ghost use Rattle.std.specs.Prelude.{◌<◌, ◌^◌};
     ghost use Rattle.std.specs.Option.{ForSome};
-    ghost use Rattle.pm_words.specs.Powers.{Supply};
+    ghost use Rattle.pm_model.specs.Powers.{Supply};
 
     ghost Value = { Supply };
 

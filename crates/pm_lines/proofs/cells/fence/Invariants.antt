@@ -1,4 +1,4 @@
-use Rattle.pm_words.specs.Cells.{fenced}
+use Rattle.pm_model.specs.Cells.{fenced}
 use Rattle.pm_lines.proofs.cells.fence.Given as goal
 use Rattle.pm_lines.proofs.CellsLoops.{ChangedUpTo}
 

@@ -1,4 +1,4 @@
-use Rattle.pm_words.specs.Cells.{flushed}
+use Rattle.pm_model.specs.Cells.{flushed}
 use Rattle.pm_lines.proofs.cells.flush.Given as goal
 use Rattle.pm_lines.proofs.CellsLoops.{ChangedUpTo}
 

@@ -1,11 +1,6 @@
-use Rattle.std.proofs.Common.{◌≡◌, ◌+◌, ◌*◌, ◌^◌, ◌<◌, ℕ, length, take}
-use Rattle.pm_words.specs.Bytes.{line_front}
-use Rattle.pm_words.specs.Images.{words_of}
+use Rattle.std.proofs.Common.{◌≡◌, ◌<◌, ℕ, length, get_or}
+use Rattle.pm_model.specs.Words.{word_at}
 use Rattle.pm_lines.proofs.images.bytes_of_line.Given as goal
 
 abbrev pub invariant-loop-k : goal.invariant-loop-k
-invariant-loop-k l = record {
-  size : length l.bytes ≡ 64;
-  front : take (8 * l.k) l.bytes ≡ line_front (words_of l.cells) l.line l.k;
-  small : (j : ℕ) → j < l.k → words_of l.cells (8 * l.line + j) < 2 ^ 64;
-}
+invariant-loop-k l = record { size : length l.bytes ≡ 64; words : (j : ℕ) → j < l.k → word_at l.bytes j ≡ get_or l.words j 0 }

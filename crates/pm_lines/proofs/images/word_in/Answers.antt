@@ -1,5 +1,5 @@
 use Rattle.std.proofs.Common.{sym, ◌∙◌}
-use Rattle.pm_words.specs.Bytes.{word_at-bytes}
+use Rattle.pm_model.specs.Bytes.{word_at-bytes}
 use Rattle.pm_lines.proofs.images.word_in.Goals as goal
 
 pub returns : goal.returns

@@ -1,8 +1,8 @@
 use Rattle.std.proofs.Common.{◌≡◌, ◌≢◌, ◌/◌, ◌%◌, ◌<◌, ◌≤◌, ℕ, true, false, length}
-use Rattle.pm_words.specs.declared.Cell.TheVariants.{Single}
-use Rattle.pm_words.specs.Cells.{cell, is_lent, flushed, fenced, MayHold}
-use Rattle.pm_words.specs.Powers.{is_on, Steps}
-use Rattle.pm_words.specs.Words.{word_at}
+use Rattle.pm_model.specs.declared.Cell.TheVariants.{Single}
+use Rattle.pm_model.specs.Cells.{cell, is_lent, flushed, fenced, MayHold}
+use Rattle.pm_model.specs.Powers.{is_on, Steps}
+use Rattle.pm_model.specs.Words.{word_at}
 use Rattle.pm_lines.proofs.devices.Pm.write_line.Given as goal
 
 -- the words before k are stored, the others are as they were

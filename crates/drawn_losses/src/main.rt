@@ -3,15 +3,15 @@
 //! For each seed a script of 300 calls is drawn (`drawing.rt`) and run by the top call on an image with 256 blocks. What it
 //! prints, and the tree of the image that it leaves, must be what the plain model of the calls says. Then the script runs
 //! with 50 power losses, each after a drawn number of steps and with a drawn seed for what the medium has; what is left
-//! must be permitted (`loss_cases`). A line is printed for each seed.
+//! must be permitted (`loss_tables`). A line is printed for each seed.
 //!
-//! Nothing here is claimed by a contract. Stands on `loss_cases`.
+//! Nothing here is claimed by a contract. Stands on `loss_tables`.
 #![tactic(auto)]
 
 mod drawing;
 
 use crate::drawing::{Draws, drawn_script};
-use loss_cases::{Case, RowError, Stops, is_permitted};
+use loss_tables::{Case, RowError, Stops, is_permitted};
 use std::alloc::Global;
 
 const SEEDS: [u64; 2] = [20_261_128, 7];

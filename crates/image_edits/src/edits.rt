@@ -1,6 +1,6 @@
 //! Edits of files in memory, by the lines of a table.
 use crate::entries::put_entry;
-use memory_runs::RowError;
+use loss_tables::RowError;
 use outside::{Files, MemFiles};
 use std::alloc::Global;
 

@@ -4,7 +4,7 @@
 //! have six blocks each. Entries stand in any slots, each file's by rising order, with any lengths; one of a generation
 //! before is among them. What a file has is said beside them as a list of blocks that entries replace one after another.
 use crate::entries::{put_entry, put_number};
-use memory_runs::{RowError, answer};
+use loss_tables::{RowError, answer};
 use outside::{Files, MemFiles};
 use rand_core::{Rng, SeedableRng};
 use rand_xoshiro::SplitMix64;

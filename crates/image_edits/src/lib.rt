@@ -5,7 +5,7 @@
 //! plain words beside them. Places and widths are those of docs/FORMAT.md, written here anew: a table and the layers must
 //! agree on them.
 //!
-//! Nothing here is claimed by a contract: it serves programs that test. Stands on `memory_runs`.
+//! Nothing here is claimed by a contract: it serves programs that test. Stands on `loss_tables`.
 #![tactic(auto)]
 
 mod edits;
@@ -14,4 +14,4 @@ mod forging;
 
 pub use edits::{copy, set, was_edit};
 pub use forging::forged_told;
-pub use memory_runs::{RowError, answer, answer_over};
+pub use loss_tables::{RowError, answer, answer_over};

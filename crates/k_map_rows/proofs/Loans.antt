@@ -1,10 +1,10 @@
 -- A block goes out of a device that has all its words, and comes back.
 use Rattle.std.proofs.Common.{◌≡◌, ◌/◌, ◌%◌, ℕ, true, false, List, refl, sym, ◌∙◌, ap, inl, inr}
 use Rattle.std.proofs.lemmas.Bool.{both_ways, cases_eq}
-use Rattle.k_map_calls.specs.pm_words.declared.Cell.{Cell}
-use Rattle.k_map_calls.specs.pm_words.declared.Cell.TheVariants.{Single, Two, Marked, Lent}
-use Rattle.k_map_calls.specs.pm_words.Cells.{AllHome, cell, is_lent, unmarked}
-use Rattle.k_map_calls.specs.pm_words.Parts.{ComesBack, GoesOut}
+use Rattle.k_map_tests.specs.pm_model.declared.Cell.{Cell}
+use Rattle.k_map_tests.specs.pm_model.declared.Cell.TheVariants.{Single, Two, Marked, Lent}
+use Rattle.k_map_tests.specs.pm_model.Cells.{AllHome, cell, is_lent, unmarked}
+use Rattle.k_map_tests.specs.pm_model.Parts.{ComesBack, GoesOut}
 use Rattle.k_map_rows.specs.Lends.{IsOutAt}
 
 pub out-at : (old new part : List Cell) (b place : ℕ) → AllHome old → place ≡ b → GoesOut 512 b old new part → IsOutAt new place

@@ -1,16 +1,18 @@
 //! A block of a staging file that is lent, stored into and settled.
 ghost use Rattle.std.specs.Prelude.{◌≡◌, OnOk};
-ghost use Rattle.k_map_calls.specs.pm_words.Cells.{AllHome};
-ghost use Rattle.k_map_calls.specs.Calls.{IsFresh};
+ghost use Rattle.k_map_tests.specs.pm_model.Cells.{AllHome};
+ghost use Rattle.k_map_tests.specs.Calls.{IsFresh};
 ghost use Rattle.k_map_rows.specs.Lends.{IsOut};
 
 use crate::reading::number;
-use k_map_calls::{KSplit, Reply, RunError, has_block, left};
+use k_map_tests::{Reply, has_block, left};
+use k_split::KSplit;
 use pm_lines::{Loan, Power};
 use std::alloc::Global;
+use test_kit::RowError;
 
 // Lends a block of a staging file that is there.
-fn lent(k: &mut KSplit, alloc: Global, staging: u32, block: u32) -> Result<Option<Loan>, RunError>
+fn lent(k: &mut KSplit, alloc: Global, staging: u32, block: u32) -> Result<Option<Loan>, RowError>
     requires { IsFresh k.old }
     ensures { IsOut k.new.cells result }
 {
@@ -21,11 +23,11 @@ fn lent(k: &mut KSplit, alloc: Global, staging: u32, block: u32) -> Result<Optio
 }
 
 // Stores a word into a block that is lent, and makes it durable.
-fn store(loan: &mut Loan, word: u32, value: u64) -> Result<(), RunError>
+fn store(loan: &mut Loan, word: u32, value: u64) -> Result<(), RowError>
     ensures { loan.new.place ≡ loan.old.place }
 {
     if word >= 512 || !loan.single(word) {
-        return Err(RunError::Misspelled);
+        return Err(RowError::Misspelled);
     }
     let mut power = Power::always();
     loan.store_word(&mut power, word, value);
@@ -42,7 +44,7 @@ fn stored(
     block: u32,
     word: u32,
     value: u64,
-) -> Result<Reply, RunError>
+) -> Result<Reply, RowError>
     requires { IsFresh k.old }
     ensures { OnOk result (AllHome k.new.cells) }
 {
@@ -61,7 +63,7 @@ pub(crate) fn lend_and_store(
     alloc: Global,
     mut k: KSplit,
     row: &str,
-) -> Result<(Vec<u8>, Reply), RunError>
+) -> Result<(Vec<u8>, Reply), RowError>
     requires { IsFresh k }
 {
     let (staging, block) = (number(row, 1)?, number(row, 2)?);

@@ -1,32 +1,27 @@
 //! Reads a row: a call on maps.
 ghost use Rattle.std.specs.Prelude.{◌<◌, ◌^◌};
 
-use k_map_calls::{MapCall, Move, Put, RunError};
+use k_map_tests::{MapCall, Put};
+use k_split::Move;
+use test_kit::{RowError, small_number, word};
 
-// A word of a line by its place, and no text past the last one.
-pub(crate) fn word(line: &str, place: usize) -> &str {
-    line.split(' ').nth(place).unwrap_or("")
+// The number that a word of a line spells, by its place.
+pub(crate) fn number(line: &str, place: usize) -> Result<u32, RowError> {
+    small_number(word(line, place))
 }
 
-pub(crate) fn number(line: &str, place: usize) -> Result<u32, RunError> {
-    word(line, place)
-        .parse::<u32>()
-        .ok()
-        .ok_or(RunError::Misspelled)
-}
-
-fn put_at(line: &str, place: usize) -> Result<Put, RunError>
+fn put_at(line: &str, place: usize) -> Result<Put, RowError>
     requires { place < 2 ^ 32 }
 {
     let at = number(line, place)?;
     let count = number(line, place + 1)?;
     match u8::try_from(number(line, place + 2)?) {
         Ok(byte) => Ok(Put { at, count, byte }),
-        Err(_) => Err(RunError::Misspelled),
+        Err(_) => Err(RowError::Misspelled),
     }
 }
 
-fn relinked(line: &str) -> Result<Move, RunError> {
+fn relinked(line: &str) -> Result<Move, RowError> {
     Ok(Move {
         staging: number(line, 1)?,
         staging_block: number(line, 2)?,
@@ -39,7 +34,7 @@ fn relinked(line: &str) -> Result<Move, RunError> {
 }
 
 // The call of a row.
-pub(crate) fn call(row: &str) -> Result<MapCall, RunError> {
+pub(crate) fn call(row: &str) -> Result<MapCall, RowError> {
     match word(row, 0) {
         "size" => Ok(MapCall::Size {
             ino: number(row, 1)?,
@@ -71,6 +66,6 @@ pub(crate) fn call(row: &str) -> Result<MapCall, RunError> {
             ino: number(row, 1)?,
             from: number(row, 2)?,
         }),
-        _ => Err(RunError::Misspelled),
+        _ => Err(RowError::Misspelled),
     }
 }

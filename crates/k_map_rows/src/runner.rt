@@ -1,18 +1,18 @@
 //! Runs sequences, each on a device of its own, which is checked and opened anew after each call.
 ghost use Rattle.std.specs.Prelude.{IfOk, OnOk};
-ghost use Rattle.k_map_calls.specs.Calls.{IsFresh};
+ghost use Rattle.k_map_tests.specs.Calls.{IsFresh};
 
 use crate::lending::lend_and_store;
-use crate::reading::{call, number, word};
+use crate::reading::{call, number};
 use crate::shown::{bytes_text, reply_text};
 use crate::stops::{stop_bytes, stop_maps};
-use k_map_calls::{
-    KSplit, MapCall, Reply, RunError, begun, left, made, map_text, opened, reopened,
-};
+use k_map_tests::{MapCall, Reply, begun, left, made, map_text, opened, reopened};
+use k_split::KSplit;
 use std::alloc::Global;
+use test_kit::{RowError, asked, option, word};
 
 // Fills every second block of a file from block 0 on, each by a call.
-fn spread(alloc: Global, k: &mut KSplit, ino: u32, count: u32) -> Result<Reply, RunError>
+fn spread(alloc: Global, k: &mut KSplit, ino: u32, count: u32) -> Result<Reply, RowError>
     requires { IsFresh k.old }
     ensures { OnOk result (IsFresh k.new) }
 {
@@ -31,7 +31,7 @@ fn spread(alloc: Global, k: &mut KSplit, ino: u32, count: u32) -> Result<Reply, 
 }
 
 // Makes the calls that a row asks for.
-fn changed(alloc: Global, k: &mut KSplit, row: &str) -> Result<Reply, RunError>
+fn changed(alloc: Global, k: &mut KSplit, row: &str) -> Result<Reply, RowError>
     requires { IsFresh k.old }
     ensures { OnOk result (IsFresh k.new) }
 {
@@ -44,7 +44,7 @@ fn changed(alloc: Global, k: &mut KSplit, row: &str) -> Result<Reply, RunError>
 }
 
 // What a row asks to be shown; None where it asks for a change.
-fn shown(alloc: Global, k: &KSplit, row: &str) -> Result<Option<String>, RunError>
+fn shown(alloc: Global, k: &KSplit, row: &str) -> Result<Option<String>, RowError>
     requires { IsFresh k.now }
 {
     let text = match word(row, 0) {
@@ -60,21 +60,22 @@ fn shown(alloc: Global, k: &KSplit, row: &str) -> Result<Option<String>, RunErro
 }
 
 // What comes of a row that goes by images of the device; None where it is another row.
-fn on_images(alloc: Global, image: &[u8], row: &str) -> Result<String, RunError> {
+fn on_images(alloc: Global, image: &[u8], row: &str) -> Result<String, RowError> {
     let (first, rest) = row.split_once(' ').unwrap_or((row, ""));
     match first {
         "cut" => stop_maps(alloc, image, rest),
         "torn" => stop_bytes(alloc, image, rest),
-        _ => Err(RunError::Misspelled),
+        _ => Err(RowError::Misspelled),
     }
 }
 
 fn is_on_images(row: &str) -> bool {
-    row.starts_with("cut ") || row.starts_with("torn ")
+    let first = word(row, 0);
+    first == "cut" || first == "torn"
 }
 
 // The reply of a row that makes a change, and the device then.
-fn follow(alloc: Global, mut k: KSplit, row: &str) -> Result<(KSplit, String), RunError>
+fn follow(alloc: Global, mut k: KSplit, row: &str) -> Result<(KSplit, String), RowError>
     requires { IsFresh k }
     ensures { IfOk result (λ after. IsFresh after.0) }
 {
@@ -94,7 +95,7 @@ fn follow(alloc: Global, mut k: KSplit, row: &str) -> Result<(KSplit, String), R
 }
 
 // The reply of a row, and the device then.
-fn came(alloc: Global, k: KSplit, row: &str) -> Result<(KSplit, String), RunError>
+fn came(alloc: Global, k: KSplit, row: &str) -> Result<(KSplit, String), RowError>
     requires { IsFresh k }
     ensures { IfOk result (λ after. IsFresh after.0) }
 {
@@ -104,42 +105,25 @@ fn came(alloc: Global, k: KSplit, row: &str) -> Result<(KSplit, String), RunErro
     }
 }
 
-// The reply that came where a line says another one.
-fn unlike(alloc: Global, line: &str, wanted: &str, text: &str) -> Result<Option<String>, RunError> {
-    if text == wanted {
-        return Ok(None);
+// How many blocks the device has that a row begins on.
+fn blocks_of(row: &str) -> Result<u32, RowError> {
+    match option(row, "image") {
+        None => Ok(128),
+        Some(blocks) => number(blocks, 0),
     }
-    Ok(Some(format!(in alloc; "{line}, and not {text}")?))
 }
 
-// Whether a line is a row: no remark, not empty, and not the numbers of the image.
-fn is_row(line: &str) -> bool {
-    !line.starts_with('#') && !line.is_empty() && !line.starts_with("image ")
-}
-
-// How many blocks the device has that a sequence begins on.
-fn blocks_of(sequence: &str) -> Result<u32, RunError> {
-    for line in sequence.lines() {
-        if line.starts_with("image ") {
-            return number(line, 1);
-        }
-    }
-    Ok(128)
-}
-
-// The first line of a sequence that is answered otherwise, with the reply that came.
-pub(crate) fn first_difference(alloc: Global, sequence: &str) -> Result<Option<String>, RunError> {
-    let mut k = begun(alloc, blocks_of(sequence)?)?;
-    for line in sequence.lines() {
-        if is_row(line) {
-            let (row, wanted) = line.split_once(" = ").unwrap_or((line, ""));
-            let (after, text) = came(alloc, k, row)?;
+// How a row goes: `ok`, or the first line that is answered otherwise.
+pub(crate) fn told(alloc: Global, row: &str) -> Result<String, RowError> {
+    let mut k = begun(alloc, blocks_of(row)?)?;
+    for line in row.lines() {
+        if let Some((call, wanted)) = asked(line) {
+            let (after, text) = came(alloc, k, call)?;
             k = after;
-            let difference = unlike(alloc, line, wanted, &text)?;
-            if difference.is_some() {
-                return Ok(difference);
+            if text.as_str() != wanted {
+                return Ok(format!(in alloc; "{line}, and not {text}")?);
             }
         }
     }
-    Ok(None)
+    Ok("ok".to_string(alloc)?)
 }

@@ -1,9 +1,11 @@
 //! What a K-Split shows of its maps and bytes, as rows spell it.
-ghost use Rattle.k_map_calls.specs.Calls.{IsFresh};
+ghost use Rattle.k_map_tests.specs.Calls.{IsFresh};
 
-use k_map_calls::{KSplit, Reply, RunError, block_bytes, map_text};
+use k_map_tests::{Reply, block_bytes, map_text};
+use k_split::KSplit;
 use posix_types::What;
 use std::alloc::{AllocError, Global};
+use test_kit::RowError;
 
 // A reply.
 pub(crate) fn reply_text(alloc: Global, reply: Reply) -> Result<String, AllocError> {
@@ -24,7 +26,7 @@ pub(crate) fn reply_text(alloc: Global, reply: Reply) -> Result<String, AllocErr
 }
 
 // The maps of all inodes, a line each.
-pub(crate) fn all_maps(alloc: Global, k: &KSplit) -> Result<String, RunError> {
+pub(crate) fn all_maps(alloc: Global, k: &KSplit) -> Result<String, RowError> {
     let mut text = String::new(alloc);
     for ino in [1, 2, 3, 4, 5, 6] {
         text.push_str(&map_text(alloc, k, ino)?)?;
@@ -34,11 +36,11 @@ pub(crate) fn all_maps(alloc: Global, k: &KSplit) -> Result<String, RunError> {
 }
 
 // One byte of a file: 0 where its block is a hole.
-fn byte_at(k: &KSplit, ino: u32, at: u32) -> Result<u8, RunError>
+fn byte_at(k: &KSplit, ino: u32, at: u32) -> Result<u8, RowError>
     requires { IsFresh k.now }
 {
     let Some(map) = k.map(ino) else {
-        return Err(RunError::Misspelled);
+        return Err(RowError::Misspelled);
     };
     match map.lookup(at / 4096) {
         Some(block) => Ok(block_bytes(k, block)?[(at % 4096) as usize]),
@@ -53,11 +55,11 @@ pub(crate) fn bytes_text(
     ino: u32,
     at: u32,
     count: u32,
-) -> Result<String, RunError>
+) -> Result<String, RowError>
     requires { IsFresh k.now }
 {
     if at > 16_777_216 || count > 16 {
-        return Err(RunError::Misspelled);
+        return Err(RowError::Misspelled);
     }
     let mut text = String::new(alloc);
     for place in at..at + count {

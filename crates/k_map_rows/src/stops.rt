@@ -1,12 +1,13 @@
 //! A call that loses its power after every seventh number of steps: what its images show.
 ghost use Rattle.std.specs.Prelude.{IfOk, IfSome};
-ghost use Rattle.k_map_calls.specs.pm_words.Cells.{AllHome};
+ghost use Rattle.k_map_tests.specs.pm_model.Cells.{AllHome};
 
 use crate::reading::call;
 use crate::shown::all_maps;
-use k_map_calls::{MapCall, Reply, RunError, apply, left, made, opened};
+use k_map_tests::{MapCall, Reply, apply, left, made, opened};
 use pm_lines::{Choice, Pm, Power};
 use std::alloc::Global;
+use test_kit::RowError;
 
 const CHOICES: [Choice; 4] = [Choice::Oldest, Choice::Newest, Choice::Even, Choice::Odd];
 
@@ -39,7 +40,7 @@ impl Counts {
 }
 
 // The device that a call leaves which has power for so many steps; None where it was not cut off.
-fn cut(alloc: Global, image: &[u8], asked: &MapCall, steps: u64) -> Result<Option<Pm>, RunError>
+fn cut(alloc: Global, image: &[u8], asked: &MapCall, steps: u64) -> Result<Option<Pm>, RowError>
     ensures { IfOk result (λ left. IfSome left AllHome) }
 {
     let mut k = opened(alloc, image)?;
@@ -52,14 +53,14 @@ fn cut(alloc: Global, image: &[u8], asked: &MapCall, steps: u64) -> Result<Optio
 }
 
 // The image that a call leaves which has its power.
-fn done(alloc: Global, image: &[u8], asked: &MapCall) -> Result<Vec<u8>, RunError> {
+fn done(alloc: Global, image: &[u8], asked: &MapCall) -> Result<Vec<u8>, RowError> {
     let mut k = opened(alloc, image)?;
     made(alloc, &mut k, asked)?;
     left(alloc, k)
 }
 
 // The maps of an image.
-fn maps_of(alloc: Global, image: &[u8]) -> Result<String, RunError> {
+fn maps_of(alloc: Global, image: &[u8]) -> Result<String, RowError> {
     let k = opened(alloc, image)?;
     all_maps(alloc, &k)
 }
@@ -71,7 +72,7 @@ fn count_maps(
     before: &str,
     after: &str,
     counts: &mut Counts,
-) -> Result<(), RunError>
+) -> Result<(), RowError>
     requires { AllHome pm.now }
 {
     for choice in CHOICES {
@@ -83,7 +84,7 @@ fn count_maps(
 }
 
 // A call that is cut off: each image shows all maps of before, or all maps of after.
-pub(crate) fn stop_maps(alloc: Global, image: &[u8], row: &str) -> Result<String, RunError> {
+pub(crate) fn stop_maps(alloc: Global, image: &[u8], row: &str) -> Result<String, RowError> {
     let asked = call(row)?;
     let before = maps_of(alloc, image)?;
     let after = maps_of(alloc, &done(alloc, image, &asked)?)?;
@@ -124,7 +125,7 @@ fn is_between(before: &[u8], after: &[u8], came: &[u8]) -> bool {
 }
 
 // Whether each byte of the images of a device is that of before or that of after.
-fn are_between(alloc: Global, pm: &Pm, before: &[u8], after: &[u8]) -> Result<bool, RunError>
+fn are_between(alloc: Global, pm: &Pm, before: &[u8], after: &[u8]) -> Result<bool, RowError>
     requires { AllHome pm.now }
 {
     for choice in CHOICES {
@@ -137,7 +138,7 @@ fn are_between(alloc: Global, pm: &Pm, before: &[u8], after: &[u8]) -> Result<bo
 }
 
 // A call that is cut off: each byte of each image is that of before or that of after.
-pub(crate) fn stop_bytes(alloc: Global, image: &[u8], row: &str) -> Result<String, RunError> {
+pub(crate) fn stop_bytes(alloc: Global, image: &[u8], row: &str) -> Result<String, RowError> {
     let asked = call(row)?;
     let after = done(alloc, image, &asked)?;
     for stop in 0..4096u64 {
@@ -149,5 +150,5 @@ pub(crate) fn stop_bytes(alloc: Global, image: &[u8], row: &str) -> Result<Strin
             return Ok(format!(in alloc; "others at stop {stop}")?);
         }
     }
-    Err(RunError::PowerLost)
+    Err(RowError::PowerLost)
 }

@@ -4,31 +4,31 @@ use Rattle.std.proofs.Common.{ap, sym, subst, ◌∙◌, inl, inr}
 use Rattle.std.proofs.lemmas.Bool.{cases_eq, cases_lt}
 use Rattle.std.proofs.lemmas.List.{get_or-set_other, get_or-set_same, get_or_past, set_past}
 use Rattle.std.proofs.lemmas.Option.{same_Some}
-use Rattle.k_split.specs.pm_words.Cells.{AllHome}
-use Rattle.k_split.specs.pm_words.ImageLaws.{IsImage-words_of}
-use Rattle.k_split.specs.pm_words.Images.{Follows, IsImage, words_of}
-use Rattle.k_split.specs.pm_words.Powers.{is_on, Supply}
-use Rattle.k_split.specs.pm_words.Words.{Words}
-use Rattle.k_split.specs.disk_places.Journal.{journaled}
-use Rattle.k_split.specs.disk_places.Places.{Geometry, IsGeometry}
-use Rattle.disk_lines.specs.declared.Inode.{Inode}
-use Rattle.disk_lines.specs.declared.Kind.TheVariants.{File}
-use Rattle.disk_lines.specs.Names.{names_of}
-use Rattle.disk_lines.specs.Lines.{NameRow}
-use Rattle.k_split.specs.disk_rules.Reading.{node_set, Reads}
-use Rattle.k_split.specs.disk_rules.Volume.{free_inode, inode, Volume}
+use Rattle.k_split.specs.pm_model.Cells.{AllHome}
+use Rattle.k_split.specs.pm_model.ImageLaws.{IsImage-words_of}
+use Rattle.k_split.specs.pm_model.Images.{Follows, IsImage, words_of}
+use Rattle.k_split.specs.pm_model.Powers.{is_on, Supply}
+use Rattle.k_split.specs.pm_model.Words.{Words}
+use Rattle.k_split.specs.layout_model.Journal.{journaled}
+use Rattle.k_split.specs.layout_model.Places.{Geometry, IsGeometry}
+use Rattle.layout_model.specs.declared.lines.Inode.{Inode}
+use Rattle.layout_model.specs.declared.lines.Kind.TheVariants.{File}
+use Rattle.layout_model.specs.Names.{names_of}
+use Rattle.layout_model.specs.Lines.{NameRow}
+use Rattle.k_split.specs.image_model.Reading.{node_set, Reads}
+use Rattle.k_split.specs.image_model.Volume.{free_inode, inode, Volume}
 use Rattle.k_split.specs.k_plans.Making.{IsMade, kind_of}
 use Rattle.k_split.specs.k_plans.Removing.{IsRemoved, IsUnlinked}
 use Rattle.k_split.specs.k_plans.Renaming.{IsRenamed, renamed_over}
 use Rattle.k_split.specs.k_plans.View.{node_at}
 use Rattle.k_split.specs.k_plans.Whole.{IsWhole}
-use Rattle.k_split.specs.k_rules.Changes.{dropped, gone_node, new_node, renamed_over_directory, renamed_over_file}
-use Rattle.k_split.specs.k_rules.Spaces.{is_directory_in, is_free}
-use Rattle.k_split.specs.k_rules.Stands.{IsOldOrNew, Stands}
-use Rattle.k_split.specs.k_rules.View.{View}
-use Rattle.k_split.specs.volume_changes.CallLaws.{row_to}
-use Rattle.k_split.specs.volume_changes.Changes.{MayDrop}
-use Rattle.k_split.specs.k_tables.declared.removing.Entry.{Entry}
+use Rattle.k_split.specs.k_split_model.ChangesChanges.{dropped, gone_node, new_node, renamed_over_directory, renamed_over_file}
+use Rattle.k_split.specs.k_split_model.Spaces.{is_directory_in, is_free}
+use Rattle.k_split.specs.k_split_model.Stands.{IsOldOrNew, Stands}
+use Rattle.k_split.specs.k_split_model.View.{View}
+use Rattle.k_split.specs.volume_change_laws.CallLaws.{row_to}
+use Rattle.k_split.specs.volume_change_laws.Changes.{MayDrop}
+use Rattle.k_split.specs.k_tables.declared.tables.removing.Entry.{Entry}
 use Rattle.posix_types.specs.declared.item.Outcome.{Outcome}
 use Rattle.k_split.specs.declared.faults.KFault.{KFault}
 use Rattle.k_split.specs.Answers.{Changes, IsAnswer, IsCut, IsDone}

@@ -5,30 +5,30 @@ use Rattle.std.proofs.Common.{arith, ap, sym, subst, ◌∙◌, inl, inr}
 use Rattle.std.proofs.lemmas.Bool.{cond_both}
 use Rattle.std.proofs.lemmas.List.Sums.{sum_by-cons}
 use Rattle.k_split.specs.block_counts.Counts.{held_by}
-use Rattle.k_split.specs.pm_words.Bytes.{line_bytes-same}
-use Rattle.k_split.specs.pm_words.Words.{line_bytes, Words}
-use Rattle.k_split.specs.disk_places.Journal.{is_journal_word, IsSound, journaled}
-use Rattle.k_split.specs.disk_places.PlaceLaws.{behind_log-words, log_line-not_journaled}
-use Rattle.k_split.specs.disk_places.Places.{base_word, commit_word, data_blocks, first_data, Geometry, IsGeometry, is_journaled_line, log_line, state_line}
-use Rattle.k_split.specs.disk_places.Superblock.{geometry_at, has_magic, has_numbers, has_version}
-use Rattle.disk_lines.specs.Entries.{decode_entry, held_seq, is_self_valid}
-use Rattle.k_split.specs.disk_rules.Checked.{HasHead, IsLogKept}
-use Rattle.k_split.specs.disk_rules.Content.{size_of}
-use Rattle.k_split.specs.disk_rules.Kept.{AreKept}
-use Rattle.k_split.specs.disk_rules.Live.{entry_in, is_live, live_entries}
-use Rattle.k_split.specs.disk_rules.Placed.{IsOutside}
-use Rattle.k_split.specs.disk_rules.Reading.{Reads}
-use Rattle.k_split.specs.disk_rules.Room.{has_none, held_after_recovery, is_named_file, unused_blocks}
-use Rattle.k_split.specs.disk_rules.Rules.{geometry_of, HasTarget}
-use Rattle.k_split.specs.disk_rules.Uses.{owners}
-use Rattle.k_split.specs.disk_rules.Volume.{Volume}
-use Rattle.k_split.specs.volume_facts.Footprint.{SameLog}
-use Rattle.k_split.specs.volume_facts.FootprintLaws.{entry_in-same}
-use Rattle.k_split.specs.volume_facts.ImageLaws.{journaled-other}
-use Rattle.k_split.specs.volume_facts.Lists.{count_by-agree, filter_map-agree, sum_by-agree}
-use Rattle.k_split.specs.image_facts.FreshLaws.{filter_map-none, owners-none}
-use Rattle.k_split.specs.image_facts.ViewLaws.{head_word, sound-head, sound-targets}
-use Rattle.k_split.specs.k_rules.Stands.{IsOldOrNew}
+use Rattle.k_split.specs.pm_model.Bytes.{line_bytes-same}
+use Rattle.k_split.specs.pm_model.Words.{line_bytes, Words}
+use Rattle.k_split.specs.layout_model.Journal.{is_journal_word, IsSound, journaled}
+use Rattle.k_split.specs.layout_model.PlaceLaws.{behind_log-words, log_line-not_journaled}
+use Rattle.k_split.specs.layout_model.Places.{base_word, commit_word, data_blocks, first_data, Geometry, IsGeometry, is_journaled_line, log_line, state_line}
+use Rattle.k_split.specs.layout_model.Superblock.{geometry_at, has_magic, has_numbers, has_version}
+use Rattle.layout_model.specs.Entries.{decode_entry, held_seq, is_self_valid}
+use Rattle.k_split.specs.image_model.Checked.{HasHead, IsLogKept}
+use Rattle.k_split.specs.image_model.Content.{size_of}
+use Rattle.k_split.specs.image_model.Kept.{AreKept}
+use Rattle.k_split.specs.image_model.Live.{entry_in, is_live, live_entries}
+use Rattle.k_split.specs.image_model.Placed.{IsOutside}
+use Rattle.k_split.specs.image_model.Reading.{Reads}
+use Rattle.k_split.specs.image_model.Room.{has_none, held_after_recovery, is_named_file, unused_blocks}
+use Rattle.k_split.specs.image_model.Rules.{geometry_of, HasTarget}
+use Rattle.k_split.specs.image_model.Uses.{owners}
+use Rattle.k_split.specs.image_model.Volume.{Volume}
+use Rattle.k_split.specs.volume_laws.Footprint.{SameLog}
+use Rattle.k_split.specs.volume_laws.FootprintLaws.{entry_in-same}
+use Rattle.k_split.specs.volume_laws.ImageLaws.{journaled-other}
+use Rattle.k_split.specs.volume_laws.Lists.{count_by-agree, filter_map-agree, sum_by-agree}
+use Rattle.k_split.specs.image_laws.FreshLaws.{filter_map-none, owners-none}
+use Rattle.k_split.specs.image_laws.ViewLaws.{head_word, sound-head, sound-targets}
+use Rattle.k_split.specs.k_split_model.Stands.{IsOldOrNew}
 use Rattle.k_split_rows.specs.Plain.{HasBlankLog, HasNoData, IsPlainAs}
 
 -- ---- the log of a volume of names alone

@@ -3,30 +3,30 @@ use Rattle.std.specs.Prelude.{◌≡◌, ℕ, ◌+◌, ◌*◌, List, false, Res
 use Rattle.std.specs.declared.alloc.AllocError.{AllocError}
 use Rattle.std.proofs.Common.{arith, ap, sym, subst, ◌∙◌}
 use Rattle.std.proofs.Math.Path.{fun_ext}
-use Rattle.k_split.specs.pm_words.declared.Cell.{Cell}
-use Rattle.k_split.specs.pm_words.declared.Cell.TheVariants.{Single}
-use Rattle.k_split.specs.pm_words.CellLaws.{single-home}
-use Rattle.k_split.specs.pm_words.Cells.{AllHome, AllSingle, cell, newest}
-use Rattle.k_split.specs.pm_words.ImageLaws.{image-single}
-use Rattle.k_split.specs.pm_words.Images.{IsImage, words_of}
-use Rattle.k_split.specs.pm_words.Words.{word_at, Words}
-use Rattle.k_split.specs.disk_places.Journal.{IsSound, journaled}
-use Rattle.k_split.specs.disk_places.Places.{commit_word, Geometry, IsGeometry, log_line}
-use Rattle.disk_lines.specs.declared.Inode.{Inode}
-use Rattle.disk_lines.specs.Entries.{decode_entry}
-use Rattle.disk_lines.specs.Fresh.{fresh}
-use Rattle.k_split.specs.disk_rules.Checked.{IsCheckedAs}
-use Rattle.k_split.specs.disk_rules.FreshVolume.{fresh_inode, fresh_volume}
-use Rattle.k_split.specs.disk_rules.Reading.{Reads}
-use Rattle.k_split.specs.disk_rules.Rules.{geometry_of, IsChecked}
-use Rattle.k_split.specs.disk_rules.Volume.{volume, Volume}
-use Rattle.k_split.specs.volume_facts.ReadingLaws.{reads-volume}
-use Rattle.k_split.specs.image_facts.CheckedLaws.{checked-parts}
-use Rattle.k_split.specs.image_facts.FreshLaws.{chain-fresh, extents-fresh, fresh_cases, fresh-checked_as, fresh-log, inode-fresh, unset-log, zeros-no_entry}
-use Rattle.k_split.specs.image_facts.FreshLines.{fresh-commit, fresh-zeros, geometry_of-fresh, journaled-fresh}
-use Rattle.k_split.specs.image_facts.ViewLaws.{checked_as-same_view, sound-head}
+use Rattle.k_split.specs.pm_model.declared.Cell.{Cell}
+use Rattle.k_split.specs.pm_model.declared.Cell.TheVariants.{Single}
+use Rattle.k_split.specs.pm_model.CellLaws.{single-home}
+use Rattle.k_split.specs.pm_model.Cells.{AllHome, AllSingle, cell, newest}
+use Rattle.k_split.specs.pm_model.ImageLaws.{image-single}
+use Rattle.k_split.specs.pm_model.Images.{IsImage, words_of}
+use Rattle.k_split.specs.pm_model.Words.{word_at, Words}
+use Rattle.k_split.specs.layout_model.Journal.{IsSound, journaled}
+use Rattle.k_split.specs.layout_model.Places.{commit_word, Geometry, IsGeometry, log_line}
+use Rattle.layout_model.specs.declared.lines.Inode.{Inode}
+use Rattle.layout_model.specs.Entries.{decode_entry}
+use Rattle.layout_model.specs.Fresh.{fresh}
+use Rattle.k_split.specs.image_model.Checked.{IsCheckedAs}
+use Rattle.k_split.specs.image_model.FreshVolume.{fresh_inode, fresh_volume}
+use Rattle.k_split.specs.image_model.Reading.{Reads}
+use Rattle.k_split.specs.image_model.Rules.{geometry_of, IsChecked}
+use Rattle.k_split.specs.image_model.Volume.{volume, Volume}
+use Rattle.k_split.specs.volume_laws.ReadingLaws.{reads-volume}
+use Rattle.k_split.specs.image_laws.CheckedLaws.{checked-parts}
+use Rattle.k_split.specs.image_laws.FreshLaws.{chain-fresh, extents-fresh, fresh_cases, fresh-checked_as, fresh-log, inode-fresh, unset-log, zeros-no_entry}
+use Rattle.k_split.specs.image_laws.FreshLines.{fresh-commit, fresh-zeros, geometry_of-fresh, journaled-fresh}
+use Rattle.k_split.specs.image_laws.ViewLaws.{checked_as-same_view, sound-head}
 use Rattle.k_split.specs.k_journal.Recoveries.{KeepsView}
-use Rattle.k_split.specs.k_rules.View.{View}
+use Rattle.k_split.specs.k_split_model.View.{View}
 use Rattle.k_split.specs.Order.{IsOpened}
 use Rattle.k_split_rows.specs.Plain.{HasBlankLog, IsPlain, IsPlainAs}
 

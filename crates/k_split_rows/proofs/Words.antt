@@ -4,8 +4,8 @@ use Rattle.std.specs.List.{list_all}
 use Rattle.std.proofs.Common.{arith}
 use Rattle.std.proofs.lemmas.Bool.{and_from, and_parts}
 use Rattle.std.proofs.lemmas.Bool.Decides.{nat_tests}
-use Rattle.disk_lines.specs.Lines.{is_dots, is_name_byte}
-use Rattle.k_split.specs.path_spelling.Spelling.{is_spelled}
+use Rattle.layout_model.specs.Lines.{is_dots, is_name_byte}
+use Rattle.k_split.specs.layout_model.Spelling.{is_spelled}
 use Rattle.k_split_rows.specs.Rows.{is_letter, is_word}
 
 letter-named : (b : ℕ) → is_letter b ≡ true → is_name_byte b ≡ true

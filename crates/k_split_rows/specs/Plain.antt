@@ -1,16 +1,16 @@
 -- A device on which only names were changed: each image of it can be opened again.
 use Rattle.std.specs.Prelude.{◌≡◌, ℕ, ◌*◌, ◌<◌, false, List, [], length, None, Result, Ok, Err}
-use Rattle.k_split.specs.pm_words.declared.Cell.{Cell}
-use Rattle.k_split.specs.pm_words.Cells.{AllHome}
-use Rattle.k_split.specs.pm_words.Images.{IsImage}
-use Rattle.k_split.specs.pm_words.Words.{Words}
-use Rattle.k_split.specs.disk_places.Journal.{journaled}
-use Rattle.k_split.specs.disk_places.Places.{Geometry}
-use Rattle.k_split.specs.disk_rules.Checked.{IsCheckedAs}
-use Rattle.k_split.specs.disk_rules.Live.{entry_in}
-use Rattle.k_split.specs.disk_rules.Rules.{geometry_of, IsOfNoLater}
-use Rattle.k_split.specs.disk_rules.Volume.{chain, extents, inode, Volume}
-use Rattle.k_split.specs.k_rules.View.{View}
+use Rattle.k_split.specs.pm_model.declared.Cell.{Cell}
+use Rattle.k_split.specs.pm_model.Cells.{AllHome}
+use Rattle.k_split.specs.pm_model.Images.{IsImage}
+use Rattle.k_split.specs.pm_model.Words.{Words}
+use Rattle.k_split.specs.layout_model.Journal.{journaled}
+use Rattle.k_split.specs.layout_model.Places.{Geometry}
+use Rattle.k_split.specs.image_model.Checked.{IsCheckedAs}
+use Rattle.k_split.specs.image_model.Live.{entry_in}
+use Rattle.k_split.specs.image_model.Rules.{geometry_of, IsOfNoLater}
+use Rattle.k_split.specs.image_model.Volume.{chain, extents, inode, Volume}
+use Rattle.k_split.specs.k_split_model.View.{View}
 use Rattle.k_split.specs.Order.{IsInOrder}
 use Rattle.k_split.specs.declared.faults.KFault.{KFault}
 

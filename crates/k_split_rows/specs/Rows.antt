@@ -1,7 +1,7 @@
 -- What is read from a row.
 use Rattle.std.specs.Prelude.{ℕ, List, length, Bool, ◌&&◌, nat_le}
 use Rattle.std.specs.List.{list_all}
-use Rattle.k_split.specs.path_spelling.Spelling.{AreSpelled}
+use Rattle.k_split.specs.layout_model.Spelling.{AreSpelled}
 use Rattle.k_split_rows.specs.declared.reading.NameCall.{NameCall}
 
 -- a lower-case letter, and a word of such letters

@@ -1,15 +1,15 @@
 //! Devices on which only names are changed: opened, changed, and opened again.
 ghost use Rattle.std.specs.Prelude.{◌≡◌, ◌*◌, true, length, IfOk, IsTrue};
-ghost use Rattle.k_split.specs.disk_rules.Volume.{Volume};
-ghost use Rattle.k_split.specs.path_spelling.Spelling.{AreSpelled};
-ghost use Rattle.k_split.specs.pm_words.Words.{word_at};
-ghost use Rattle.k_split.specs.volume_changes.Changes.{MayDrop};
+ghost use Rattle.k_split.specs.image_model.Volume.{Volume};
+ghost use Rattle.k_split.specs.layout_model.Spelling.{AreSpelled};
+ghost use Rattle.k_split.specs.pm_model.Words.{word_at};
+ghost use Rattle.k_split.specs.volume_change_laws.Changes.{MayDrop};
 ghost use Rattle.k_split_rows.specs.Plain.{IsLeft, IsPlain, IsPlainAs};
 ghost use Rattle.k_split_rows.specs.Rows.{IsSpelledCall};
 
 use crate::reading::NameCall;
-use disk_lines::Kind;
 use k_split::{Geometry, KFault, KSplit, Recovered, mkfs, recover};
+use layout_model::Kind;
 use pm_lines::{Pm, Power};
 use posix_types::Path;
 use std::alloc::{AllocError, Global};

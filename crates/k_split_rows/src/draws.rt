@@ -1,6 +1,6 @@
 //! Calls that are drawn from a seed, answered by K-Split and by the calls' state.
 ghost use Rattle.std.specs.Prelude.{◌<◌, IfOk, OnOk};
-ghost use Rattle.k_split.specs.path_spelling.Spelling.{AreSpelled};
+ghost use Rattle.k_split.specs.layout_model.Spelling.{AreSpelled};
 ghost use Rattle.k_split_rows.specs.Plain.{IsPlain};
 ghost use Rattle.k_split_rows.specs.Rows.{IsSpelledCall};
 

@@ -1,7 +1,7 @@
 //! Reads a row: a call on names. Its names are lower-case letters, so that every path is spelled.
 ghost use Rattle.std.specs.Prelude.{◌≡◌, true, IfOk};
 ghost use Rattle.std.specs.List.{list_all};
-ghost use Rattle.k_split.specs.path_spelling.Spelling.{AreSpelled, is_spelled};
+ghost use Rattle.k_split.specs.layout_model.Spelling.{AreSpelled, is_spelled};
 ghost use Rattle.k_split_rows.specs.Rows.{is_letter, is_word, IsSpelledCall};
 
 use posix_types::{Name, Path};

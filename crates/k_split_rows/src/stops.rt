@@ -1,8 +1,8 @@
 //! A rename over a file that loses its power after each number of steps.
 ghost use Rattle.std.specs.Prelude.{◌≡◌, ◌*◌, length, IfOk, IfSome};
-ghost use Rattle.k_split.specs.disk_rules.Volume.{Volume};
-ghost use Rattle.k_split.specs.path_spelling.Spelling.{AreSpelled};
-ghost use Rattle.k_split.specs.pm_words.Words.{word_at};
+ghost use Rattle.k_split.specs.image_model.Volume.{Volume};
+ghost use Rattle.k_split.specs.layout_model.Spelling.{AreSpelled};
+ghost use Rattle.k_split.specs.pm_model.Words.{word_at};
 ghost use Rattle.k_split_rows.specs.Plain.{IsPlainAs, IsPlainDevice};
 
 use crate::devices::{fresh, renamed, reopened};

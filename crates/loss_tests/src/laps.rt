@@ -1,6 +1,6 @@
 //! Scripts that fill the log, the staging files and the device.
 use crate::parts::assert_row;
-use loss_rows::table_told;
+use loss_tables::table_told;
 use std::test::Fail;
 
 const FEW: &str = "\

@@ -1,5 +1,5 @@
 //! Scripts of calls on names.
-use loss_rows::table_told;
+use loss_tables::table_told;
 use std::test::Fail;
 
 const LINUX: &str = "\

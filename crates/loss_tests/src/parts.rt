@@ -1,5 +1,5 @@
 //! Rows of which several tests have the lines, each with a part of the losses.
-use loss_rows::table_told;
+use loss_tables::table_told;
 use std::alloc::AllocGlobal;
 use std::process::Abort;
 use std::test::Fail;

@@ -1,6 +1,6 @@
 //! Scripts that read, write and publish.
 use crate::parts::assert_row;
-use loss_rows::table_told;
+use loss_tables::table_told;
 use std::test::Fail;
 
 const BYTES: &str = "\

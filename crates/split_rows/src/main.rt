@@ -5,7 +5,7 @@
 //! the rule that refuses each or its tree (`damages.rt`). Lines that begin with `#` say where the answers come
 //! from. What has to be printed is worked out by hand from the format, rule by rule.
 //!
-//! Nothing here is claimed by a contract. Stands on `memory_runs` and `image_edits`.
+//! Nothing here is claimed by a contract. Stands on `loss_tables` and `image_edits`.
 #![tactic(auto)]
 
 mod commands;

@@ -1,9 +1,9 @@
 -- A staging stays calm.
 use Rattle.std.proofs.Common.{Result, Ok, Err, List, ℕ, sym, ◌∙◌, ap, subst, inl, inr}
-use Rattle.staging_files.specs.pm_words.Cells.{AllSingle}
+use Rattle.staging_files.specs.pm_model.Cells.{AllSingle}
 use Rattle.std.specs.declared.alloc.AllocError.{AllocError}
 use Rattle.staging_files.specs.k_journal.declared.outcomes.Commit.{Commit}
-use Rattle.staging_files.specs.k_rules.View.{View}
+use Rattle.staging_files.specs.k_split_model.View.{View}
 use Rattle.staging_files.specs.k_split.MapChanges.{IsMapDone}
 use Rattle.staging_files.specs.declared.runs.StageFault.{StageFault}
 use Rattle.staging_files.specs.declared.runs.StageRun.{StageRun}

@@ -1,2 +1,2 @@
 pub mod CalmLaws
-pub mod FreshDevices
+pub mod Homes

@@ -1,6 +1,6 @@
 use Rattle.std.proofs.Common.{◌*◌, sym, subst, ap, ◌∙◌}
-use Rattle.k_split.specs.disk_rules.Rules.{geometry_of, IsChecked}
-use Rattle.k_split.specs.pm_words.Cells.{is_single}
+use Rattle.k_split.specs.image_model.Rules.{geometry_of, IsChecked}
+use Rattle.k_split.specs.pm_model.Cells.{is_single}
 use Rattle.k_split_rows.proofs.PlainStarts.{fresh-opened, idle-fresh, if-plain, words-given}
 use Rattle.k_split_rows.proofs.devices.fresh.Goals as goal
 

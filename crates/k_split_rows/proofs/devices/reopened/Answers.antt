@@ -1,7 +1,7 @@
 use Rattle.std.proofs.Common.{refl, sym, subst, ap, arith}
-use Rattle.k_split.specs.pm_words.Cells.{is_single}
-use Rattle.k_split.specs.pm_words.ImageLaws.{IsImage-words_of}
-use Rattle.k_split.specs.pm_words.Images.{words_of}
+use Rattle.k_split.specs.pm_model.Cells.{is_single}
+use Rattle.k_split.specs.pm_model.ImageLaws.{IsImage-words_of}
+use Rattle.k_split.specs.pm_model.Images.{words_of}
 use Rattle.k_split_rows.specs.Plain.{IsPlainAs}
 use Rattle.k_split_rows.proofs.PlainStarts.{if-plain, plain-checked, plain-opened, plain-view, words-given}
 use Rattle.k_split_rows.proofs.devices.reopened.Goals as goal

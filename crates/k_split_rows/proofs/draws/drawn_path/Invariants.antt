@@ -1,4 +1,4 @@
-use Rattle.k_split.specs.path_spelling.Spelling.{AreSpelled}
+use Rattle.k_split.specs.layout_model.Spelling.{AreSpelled}
 use Rattle.k_split_rows.proofs.draws.drawn_path.Given as goal
 
 abbrev pub invariant-loop : goal.invariant-loop

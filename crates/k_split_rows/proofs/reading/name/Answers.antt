@@ -1,5 +1,5 @@
 use Rattle.std.proofs.Common.{◌≡◌, true, sym, subst, ◌∙◌}
-use Rattle.k_split.specs.path_spelling.Spelling.{is_spelled}
+use Rattle.k_split.specs.layout_model.Spelling.{is_spelled}
 use Rattle.k_split_rows.proofs.Words.{word-spelled}
 use Rattle.k_split_rows.proofs.reading.name.Goals as goal
 

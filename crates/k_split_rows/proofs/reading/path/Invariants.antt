@@ -1,4 +1,4 @@
-use Rattle.k_split.specs.path_spelling.Spelling.{AreSpelled}
+use Rattle.k_split.specs.layout_model.Spelling.{AreSpelled}
 use Rattle.k_split_rows.proofs.reading.path.Given as goal
 
 abbrev pub invariant-loop-part : goal.invariant-loop-part

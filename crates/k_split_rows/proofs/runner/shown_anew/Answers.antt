@@ -1,6 +1,6 @@
 use Rattle.std.proofs.Common.{length, sym, subst, ap, arith}
-use Rattle.k_split.specs.disk_rules.Volume.{Volume}
-use Rattle.k_split.specs.pm_words.Words.{word_at}
+use Rattle.k_split.specs.image_model.Volume.{Volume}
+use Rattle.k_split.specs.pm_model.Words.{word_at}
 use Rattle.k_split_rows.specs.Plain.{IsPlainAs}
 use Rattle.k_split_rows.proofs.runner.shown_anew.Goals as goal
 

@@ -1,5 +1,5 @@
 use Rattle.std.proofs.Common.{sym, subst, arith}
-use Rattle.k_split.specs.pm_words.Words.{word_at}
+use Rattle.k_split.specs.pm_model.Words.{word_at}
 use Rattle.k_split_rows.specs.Plain.{IsPlainDevice}
 use Rattle.k_split_rows.proofs.PlainChanges.{plain-device}
 use Rattle.k_split_rows.proofs.stops.prepared.Goals as goal

@@ -1,8 +1,0 @@
-use Rattle.k_split.specs.MapChanges.{IsMovedWith}
-use Rattle.k_map_calls.proofs.Lefts.{map-left}
-use Rattle.k_map_calls.proofs.calls.relink.Goals as goal
-
-pub returns : goal.returns
-returns c =
-    c.reply_of.ensures c.relink.new.self
-    (map-left (λ w blocks. IsMovedWith c.args.asked.now c.args.k.now w blocks) c.args.k.now c.relink.new.self c.relink.result c.relink.ensures.answer c.requires)

@@ -1,0 +1,77 @@
+//! Reads a tree as it is printed: a line for each path, `PATH dir` or `PATH file LENGTH DATA`.
+use crate::runs::{Name, Path, RowError, Tree, TreeEntry, TreeNode};
+use posix_spec::Data;
+use std::alloc::Global;
+
+// A hexadecimal digit.
+fn digit(byte: u8) -> Result<u8, RowError> {
+    match byte {
+        b'0'..=b'9' => Ok(byte - b'0'),
+        b'a'..=b'f' => Ok(byte - b'a' + 10),
+        _ => Err(RowError::Misspelled),
+    }
+}
+
+fn byte(pair: &[u8]) -> Result<u8, RowError> {
+    if pair.len() != 2 {
+        return Err(RowError::Misspelled);
+    }
+    let high = digit(pair[0])?;
+    let low = digit(pair[1])?;
+    Ok(high.wrapping_mul(16).wrapping_add(low))
+}
+
+// `HH*N` for N equal bytes, or pairs of hexadecimal digits.
+fn data(alloc: Global, text: &str) -> Result<Data, RowError> {
+    let mut bytes = Vec::new(alloc);
+    match text.split_once('*') {
+        Some((pair, count)) => {
+            let value = byte(pair.as_bytes())?;
+            let count = count.parse::<u64>().ok().ok_or(RowError::Misspelled)?;
+            for _ in 0..count {
+                bytes.push(value)?;
+            }
+        }
+        None => {
+            for pair in text.as_bytes().chunks(2) {
+                bytes.push(byte(pair)?)?;
+            }
+        }
+    }
+    Ok(Data { bytes })
+}
+
+fn path(alloc: Global, text: &str) -> Result<Path, RowError> {
+    let mut names = Vec::new(alloc);
+    for name in text.split('/') {
+        if !name.is_empty() {
+            let bytes = Vec::from_slice(alloc, name.as_bytes())?;
+            names.push(Name { bytes })?;
+        }
+    }
+    Ok(Path { names })
+}
+
+fn node(alloc: Global, kind: &str, bytes: &str) -> Result<TreeNode, RowError> {
+    if kind == "dir" {
+        return Ok(TreeNode::Directory);
+    }
+    Ok(TreeNode::File(data(alloc, bytes)?))
+}
+
+// The tree of a text.
+pub(crate) fn read_tree(alloc: Global, text: &str) -> Result<Tree, RowError> {
+    let mut entries = Vec::new(alloc);
+    for line in text.lines() {
+        let mut words = line.split(' ');
+        let place = words.next().unwrap_or("");
+        let kind = words.next().unwrap_or("");
+        let _length = words.next();
+        let bytes = words.next().unwrap_or("");
+        entries.push(TreeEntry {
+            path: path(alloc, place)?,
+            node: node(alloc, kind, bytes)?,
+        })?;
+    }
+    Ok(Tree { entries })
+}

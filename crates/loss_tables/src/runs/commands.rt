@@ -1,0 +1,62 @@
+//! The top call over files and a sink in memory.
+ghost use Rattle.std.specs.Prelude.{◌≡◌, ◌⊎◌, ◌↔◌, List, ℕ, None, Some, map};
+ghost use Rattle.std.specs.String.{string_bytes};
+ghost use Rattle.outside.specs.Outside.{Rose};
+ghost use Rattle.split_top.specs.command_line.Command as commands;
+ghost use Rattle.split_top.specs.command_line.Command.{command_of};
+ghost use Rattle.split_top.specs.Top.{BreaksGrammar, BreaksRule, Completes, IsCutShort, IsDone, IsMissing, IsRefusal, IsReplacedBy, Replaces, Says};
+
+use command_line::{Status, status_text};
+use outside::{MemFiles, MemSink};
+use split_top::top;
+use std::alloc::{AllocError, Global};
+
+/// Does the job that the words of a command line say, over these files, and puts what is to be told into the sink.
+pub fn command(alloc: Global, words: &[String], files: &mut MemFiles, out: &mut MemSink) -> Status
+    ensures usage { (result ≡ Status.Usage) ↔ (command_of (map string_bytes words.now) ≡ None) }
+    ensures no_such_file { (name : List ℕ) → result ≡ Status.NoSuchFile name → Says (map string_bytes words.now) (λ c. IsMissing c (Some files.old.files) name) × Rose files.old.misses files.new.misses }
+    ensures bad_image { (rule place : ℕ) → result ≡ Status.BadImage rule place → Says (map string_bytes words.now) (λ c. BreaksRule c (Some files.old.files) rule place) }
+    ensures bad_script { (line : ℕ) → result ≡ Status.BadScript line → Says (map string_bytes words.now) (λ c. BreaksGrammar c (Some files.old.files) line) }
+    ensures read_fault { result ≡ Status.ReadFault → Rose files.old.faults files.new.faults }
+    ensures write_fault { result ≡ Status.WriteFault → Rose out.old.faults out.new.faults ⊎ Says (map string_bytes words.now) (λ c. Replaces c × Rose files.old.faults files.new.faults) }
+    ensures done { result ≡ Status.Done → Says (map string_bytes words.now) (λ c. IsDone c (Some files.old.files) (Some files.new.files) (Some out.old.taken) (Some out.new.taken)) }
+
+    // What is left where the job is not done.
+    ensures files { (Some files.new.files ≡ Some files.old.files) ⊎ Says (map string_bytes words.now) (λ c. IsReplacedBy c (Some files.old.files) (Some files.new.files)) }
+    ensures front { (result ≡ Status.WriteFault) ⊎ (result ≡ Status.NoMemory) → ((Some files.new.files ≡ Some files.old.files) × (Some out.new.taken ≡ Some out.old.taken)) ⊎ Says (map string_bytes words.now) (λ c. IsCutShort c (Some files.old.files) (Some files.new.files) (Some out.old.taken) (Some out.new.taken)) }
+    ensures nothing { IsRefusal result → (Some files.new.files ≡ Some files.old.files) × (Some out.new.taken ≡ Some out.old.taken) }
+
+    // A command whose files are there is done, unless the rules, the grammar, a failure or out of memory forbids it.
+    ensures complete { (c : commands.Command) → command_of (map string_bytes words.now) ≡ Some c → ¬ Rose files.old.faults files.new.faults → ¬ Rose out.old.faults out.new.faults → Completes c (Some files.old.files) result }
+{
+    top(&(), alloc, words, files, out)
+}
+
+// The words of a command line.
+pub(crate) fn words_of(alloc: Global, words: &[&str]) -> Result<Vec<String>, AllocError> {
+    let mut list = Vec::new(alloc);
+    for word in words {
+        list.push(word.to_string(alloc)?)?;
+    }
+    Ok(list)
+}
+
+/// What a command puts over these files and this sink, and then the text of its status.
+pub fn answer_over(
+    alloc: Global,
+    files: &mut MemFiles,
+    mut out: MemSink,
+    words: &[&str],
+) -> Result<Vec<u8>, AllocError> {
+    let list = words_of(alloc, words)?;
+    let status = command(alloc, &list, files, &mut out);
+    let mut text = Vec::from_slice(alloc, out.bytes())?;
+    text.extend_from_slice(&status_text(alloc, &status)?)?;
+    Ok(text)
+}
+
+/// What a command puts over these files, and then the text of its status.
+pub fn answer(alloc: Global, files: &mut MemFiles, words: &[&str]) -> Result<Vec<u8>, AllocError> {
+    let out = MemSink::new(alloc, Vec::new(alloc));
+    answer_over(alloc, files, out, words)
+}

@@ -1,5 +1,0 @@
-use Rattle.staging_rows.specs.Calm.{IsCalm}
-use Rattle.staging_rows.proofs.default_rows.Given as goal
-
-abbrev pub invariant-runs : goal.invariant-runs
-invariant-runs g l = IsCalm l.staging l.k

@@ -1,0 +1,27 @@
+//! What the crates of tests share: the language of their tables, and numbers that are drawn from a seed.
+//!
+//! A table has rows with an empty line between two. A line that begins with `#` is a remark on where the answers come
+//! from. A row has a line `row NAME`, then its options, `WORD ..`, as its crate reads them, and then what is done,
+//! `CALL = REPLY`: a call as scripts spell it, and its reply as histories print it. A caller other than thread 0 stands
+//! in front, `s:` for the set-up or `1:` for a thread, and `N times` in front of all repeats the line. `tree = ..` is the
+//! tree at that place, with `; ` between two entries. Data may stand in parts with `+` between them.
+//!
+//! `table_told` tells how each row of a table went, and `assert_rows` asserts that each went `ok`. Calls are read by
+//! `read_script`, and replies and trees are printed by `history_text` and `tree_text`, which are tried so. `Draws` draws
+//! numbers from a seed. A row that gives no answer ends with a `RowError`. Nothing here is claimed by a contract, but the
+//! bound of a number that is drawn. Stands on `script_text`, `report_text` and `posix_spec`.
+#![tactic(auto)]
+
+mod calls;
+mod draws;
+mod faults;
+mod printed;
+mod tables;
+mod trees;
+
+pub use calls::{caller, read_call};
+pub use draws::Draws;
+pub use faults::RowError;
+pub use printed::{printed_call, printed_lines, shown_items, shown_tree};
+pub use tables::{asked, assert_rows, number, option, repeated, small_number, table_told, word};
+pub use trees::read_tree;

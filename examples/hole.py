@@ -21,27 +21,29 @@ FIRST_FILE, SECOND_FILE, STAGING_FILE = 5, 6, 1
 CHAIN, STAGED = 8, 9
 
 
-def fnv_1a(data):
+def fnv_1a(data: bytes) -> int:
     check = 2166136261
     for byte in data:
         check = ((check ^ byte) * 16777619) % 2**32
     return check
 
 
-def inode(kind, generation, size=0, applied=0, root=0, extents=0):
+def inode(kind: int, generation: int, size: int = 0, applied: int = 0, root: int = 0, extents: int = 0) -> bytes:
     return struct.pack("<B3xIQQII32x", kind, generation, size, applied, root, extents)
 
 
-def name(parent, child, text):
+def name(parent: int, child: int, text: bytes) -> bytes:
     return struct.pack("<IIB7x48s", parent, child, len(text), text)
 
 
-def chain(file_block, disk_block, count):
+def chain(file_block: int, disk_block: int, count: int) -> bytes:
     """A chain block with one extent."""
     return struct.pack("<II8xIII4x", 0, 1, file_block, disk_block, count)
 
 
-def entry(sequence, order, file, generation, file_block, count, staging, staging_block, staging_generation, size):
+def entry(*, sequence: int, order: int, file: int, generation: int, file_block: int, count: int, staging: int,
+          staging_block: int, staging_generation: int, size: int) -> bytes:  # fmt: skip
+    """An entry of the log, with its check in front."""
     rest = struct.pack(
         "<BBHQQIIIIIIQ8x", 1, 1, count, sequence, order, file, generation, file_block,
         staging, staging_block, staging_generation, size,
@@ -49,9 +51,9 @@ def entry(sequence, order, file, generation, file_block, count, staging, staging
     return struct.pack("<I", fnv_1a(rest)) + rest
 
 
-def main(path):
+def main(path: str) -> None:
     with open(path, "r+b") as image:
-        def put(place, data):
+        def put(place: int, data: bytes) -> None:
             image.seek(place)
             image.write(data)
 

@@ -19,7 +19,7 @@ CHOICES = ("oldest", "newest", "even", "odd", "1")
 BATCH = 1024
 
 
-class Refused(Exception):
+class RunFailed(Exception):
     """A run that did not end well: what is told of it, and the status with which the script ends. The text is empty where it
     was told already."""
 
@@ -47,7 +47,7 @@ def run_wrapper(*words: str) -> str:
     """Runs the wrapper, which builds the program where it has to, and tells on standard error what it does. Returns its output."""
     ran = subprocess.run([WRAPPER, *words], stdout=subprocess.PIPE, text=True, check=False)
     if ran.returncode:
-        raise Refused("", ran.returncode)
+        raise RunFailed("", ran.returncode)
     return ran.stdout
 
 
@@ -55,7 +55,7 @@ def run_built(*words: str) -> str:
     """Runs the program that is built, and returns its output."""
     ran = subprocess.run([BUILT, *words], capture_output=True, text=True, check=False)
     if ran.returncode:
-        raise Refused(ran.stderr.strip() or f"splitfs ended with status {ran.returncode}", ran.returncode)
+        raise RunFailed(ran.stderr.strip() or f"splitfs ended with status {ran.returncode}", ran.returncode)
     return ran.stdout
 
 

@@ -17,7 +17,7 @@ import stat
 
 from tools.convert import Converter
 from tools.model import BLOCK, File, Folder, Model, spelled
-from tools.program import Outcome, Refused, outcome_of, run_wrapper
+from tools.program import Outcome, RunFailed, outcome_of, run_wrapper
 from tools.recorded import (
     LONGEST_FILE, LONGEST_TEXT, MOST_CALLS, Call, Record, Refusal, calls_that_make, calls_that_open, check_path,
 )  # fmt: skip
@@ -209,6 +209,8 @@ def same_reply(call: str, linux: str, ours: str) -> bool:
 
 def tried(out: str, mode: str) -> tuple[int, str]:
     """Runs the script without a loss. Returns how many calls it has, and the first difference; nothing where there is none."""
+    if not os.path.exists(f"{out}/script"):
+        raise Refusal(f"there is no script in {out}: ./replay record makes it")
     image = image_of(out)
     left = outcome_of(run_wrapper("step", image, f"{out}/script", mode))
     replies = read(f"{out}/replies").splitlines()

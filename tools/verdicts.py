@@ -14,7 +14,7 @@ from dataclasses import dataclass
 
 from tools.naming import bytes_of, nodes_of
 from tools.picture import Verdict
-from tools.program import Found, Outcome, Progress, Refused
+from tools.program import Found, Outcome, Progress, RunFailed
 
 SAID = "# out: "
 
@@ -89,7 +89,7 @@ def judged(found: Found, script: str, check: Check, jobs: int) -> list[Verdict]:
     for old in glob.glob(f"{check.keep}/outcome-*/history") if check.keep else []:
         shutil.rmtree(os.path.dirname(old))
     if len(said) != len(found.whole.calls) + 1:
-        raise Refused("explore: the script changed while it was run", 1)
+        raise RunFailed("explore: the script changed while it was run", 1)
 
     def one(number: int) -> Verdict:
         outcome = found.outcomes[number]

@@ -1,4 +1,0 @@
-pub mod PlainChanges
-pub mod PlainImages
-pub mod PlainStarts
-pub mod Words

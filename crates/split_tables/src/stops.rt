@@ -1,0 +1,88 @@
+//! After which steps the power goes.
+use crate::cases::Case;
+use crate::losses::{image_at, outcome_at};
+use std::alloc::Global;
+use test_kit::RowError;
+
+/// Each number of steps from `first` to `last` that is `every` above the one before.
+#[derive(Clone, Copy, Debug)]
+pub struct Stops {
+    pub first: u64,
+    pub last: u64,
+    pub every: u64,
+}
+
+// How many steps behind the end are tried.
+const BEHIND: u64 = 64;
+
+// More steps than any run has.
+const ALL: u64 = 1_000_000_000;
+
+// For what steps are sought.
+#[derive(Drop)]
+enum Sought {
+    // For so many calls to return.
+    Calls(usize),
+    // For this image, which is that of a run that loses nothing.
+    Image(Vec<u8>),
+}
+
+// Whether so many steps are enough.
+fn is_enough(alloc: Global, case: &Case, sought: &Sought, steps: u64) -> Result<bool, RowError> {
+    match sought {
+        Sought::Calls(calls) => Ok(outcome_at(alloc, case, steps, "oldest")?.returned >= *calls),
+        Sought::Image(image) => Ok(image_at(alloc, case, steps)? == *image),
+    }
+}
+
+// A number of steps that is enough, above one that may be too low.
+fn enough(alloc: Global, case: &Case, sought: &Sought, low: u64) -> Result<u64, RowError> {
+    let mut more: u64 = 64;
+    for _ in 0..30 {
+        let steps = low.saturating_add(more);
+        if is_enough(alloc, case, sought, steps)? {
+            return Ok(steps);
+        }
+        more = more.saturating_mul(2);
+    }
+    Err(RowError::NotRun)
+}
+
+// The least number of steps, from `low` on, that is enough. So are all numbers above it.
+fn least(alloc: Global, case: &Case, sought: &Sought, mut low: u64) -> Result<u64, RowError> {
+    let mut high = enough(alloc, case, sought, low)?;
+    for _ in 0..64 {
+        if low >= high {
+            return Ok(high);
+        }
+        let middle = low.midpoint(high);
+        if is_enough(alloc, case, sought, middle)? {
+            high = middle;
+        } else {
+            low = middle.saturating_add(1);
+        }
+    }
+    Err(RowError::NotRun)
+}
+
+impl Stops {
+    /// From the first one to some steps behind the end of the unmount, so many apart. Its last change is that of the log's base:
+    /// from there on a loss leaves the image of a run that loses nothing, and earlier ones leave an earlier base.
+    pub fn of_all(alloc: Global, case: &Case, first: u64, every: u64) -> Result<Stops, RowError> {
+        let image = Sought::Image(image_at(alloc, case, ALL)?);
+        let last = least(alloc, case, &image, 0)?.saturating_add(BEHIND);
+        Ok(Stops { first, last, every })
+    }
+
+    /// Each step of one call, counted from 0: from the return of the call before it to its own.
+    pub fn of_call(alloc: Global, case: &Case, call: usize) -> Result<Stops, RowError> {
+        let next = call.saturating_add(1);
+        let first = least(alloc, case, &Sought::Calls(call), 0)?;
+        let last = least(alloc, case, &Sought::Calls(next), first)?;
+        Ok(Stops {
+            first,
+            last,
+            every: 1,
+        })
+    }
+}

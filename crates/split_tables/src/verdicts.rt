@@ -1,0 +1,77 @@
+//! How a row of a script with power losses goes.
+use crate::cases::Case;
+use crate::losses::fault_of;
+use crate::rows::{Losses, Told, losses_of, told_by};
+use crate::stops::Stops;
+use std::alloc::Global;
+use test_kit::{RowError, option};
+
+// Whether the model prints the history of a row and its trees.
+fn is_as_told(alloc: Global, told: &Told, case: &Case) -> Result<bool, RowError> {
+    for (calls, tree) in &told.trees {
+        if !case.has_tree(*calls, tree.as_str()) {
+            return Ok(false);
+        }
+    }
+    // Behind the last tree that is told nothing changes.
+    match told.trees.last() {
+        Some((_calls, tree)) if case.has_tree(case.calls(), tree.as_str()) => {
+            case.has_history(alloc, told.history.as_str())
+        }
+        _ => Ok(false),
+    }
+}
+
+// The stops that are not those of single calls.
+fn stops_of(alloc: Global, losses: &Losses, case: &Case) -> Result<Stops, RowError> {
+    if losses.to == 0 {
+        return Stops::of_all(alloc, case, losses.from, losses.every);
+    }
+    Ok(Stops {
+        first: losses.from,
+        last: losses.to,
+        every: losses.every,
+    })
+}
+
+// What is wrong with the losses of a row.
+fn fault_told(alloc: Global, losses: &Losses, case: &Case) -> Result<Option<String>, RowError> {
+    if losses.every > 0 {
+        let stops = stops_of(alloc, losses, case)?;
+        let fault = fault_of(alloc, case, &stops)?;
+        if fault.is_some() {
+            return Ok(fault);
+        }
+    }
+    for call in &losses.each {
+        let stops = Stops::of_call(alloc, case, *call as usize)?;
+        let fault = fault_of(alloc, case, &stops)?;
+        if fault.is_some() {
+            return Ok(fault);
+        }
+    }
+    Ok(None)
+}
+
+/// How a script with power losses goes: `ok`, or what is wrong. Its options are `image BLOCKS LOG INODES NAMES`, the numbers
+/// of an image of its own; `times N`, to have its lines N times; and `losses` with, as far as they are wanted, `every N`, a
+/// loss after each N steps, the first one after none or, with `from N`, so many, the last one at the end of the unmount
+/// or, with `to N`, after so many, and `each K ..`, one after each step of the calls with these numbers, from 0. The model of
+/// the calls, the run and the image that it leaves must all say what the row does, and each loss must be permitted, with
+/// five choices of what the medium has. Its losses have to lose calls, and where they are one step apart a choice has to make
+/// a difference.
+pub fn losses_told(alloc: Global, row: &str) -> Result<String, RowError> {
+    let told = told_by(alloc, row)?;
+    let image = option(row, "image").unwrap_or("");
+    let case = Case::new(alloc, image, told.script.as_str())?;
+    if !is_as_told(alloc, &told, &case)? {
+        return Ok("the model of the calls answers otherwise".to_string(alloc)?);
+    }
+    if !case.runs_as_told(alloc)? {
+        return Ok("the run answers otherwise".to_string(alloc)?);
+    }
+    match fault_told(alloc, &losses_of(alloc, row)?, &case)? {
+        Some(fault) => Ok(fault),
+        None => Ok("ok".to_string(alloc)?),
+    }
+}

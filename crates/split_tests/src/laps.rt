@@ -205,30 +205,30 @@ fn room_is_used_and_given_back_2(rt: HostRuntime) -> Result<(), Fail> {
 
 #[test]
 fn fifty_writes_in_four_lines_0(rt: HostRuntime) -> Result<(), Fail> {
-    assert_part(&rt, "losses every 57 from 0", FIFTY)
+    assert_part(&rt, "losses every 39 from 0", FIFTY)
 }
 
 #[test]
 fn fifty_writes_in_four_lines_1(rt: HostRuntime) -> Result<(), Fail> {
-    assert_part(&rt, "losses every 57 from 19", FIFTY)
+    assert_part(&rt, "losses every 39 from 13", FIFTY)
 }
 
 #[test]
 fn fifty_writes_in_four_lines_2(rt: HostRuntime) -> Result<(), Fail> {
-    assert_part(&rt, "losses every 57 from 38", FIFTY)
+    assert_part(&rt, "losses every 39 from 26", FIFTY)
 }
 
 #[test]
 fn five_writes_of_33_blocks_0(rt: HostRuntime) -> Result<(), Fail> {
-    assert_part(&rt, "losses every 87 from 0", FIVE)
+    assert_part(&rt, "losses every 39 from 0", FIVE)
 }
 
 #[test]
 fn five_writes_of_33_blocks_1(rt: HostRuntime) -> Result<(), Fail> {
-    assert_part(&rt, "losses every 87 from 29", FIVE)
+    assert_part(&rt, "losses every 39 from 13", FIVE)
 }
 
 #[test]
 fn five_writes_of_33_blocks_2(rt: HostRuntime) -> Result<(), Fail> {
-    assert_part(&rt, "losses every 87 from 58", FIVE)
+    assert_part(&rt, "losses every 39 from 26", FIVE)
 }

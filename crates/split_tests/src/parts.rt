@@ -1,12 +1,11 @@
 //! Rows of which several tests have the lines, each with a part of the losses.
 use split_tables::losses_told;
-use std::process::Abort;
 use std::test::Fail;
 use test_kit::assert_rows;
 
 // Asserts that a row goes `ok` with these losses, the last of its options.
 pub(crate) fn assert_part(
-    rt: &(impl Abort + AllocGlobal),
+    rt: &(impl Eprint + AllocGlobal),
     losses: &str,
     row: &str,
 ) -> Result<(), Fail> {

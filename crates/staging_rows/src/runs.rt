@@ -171,6 +171,43 @@ fn geometry_of(row: &str) -> Result<Geometry, RowError> {
     Geometry::checked(blocks, log, inodes, names).ok_or(RowError::Misspelled)
 }
 
+// A line that is answered otherwise, with the answer that came.
+fn difference_at(
+    staging: &mut Staging,
+    k: &mut KSplit,
+    alloc: Global,
+    line: &str,
+) -> Result<Option<String>, RowError>
+    requires { IsCalm staging.old k.old }
+    ensures { OnOk result (IsCalm staging.new k.new) }
+{
+    let Some((call, wanted)) = asked(line) else {
+        return Ok(None);
+    };
+    let text = came(staging, k, alloc, call)?;
+    if text.as_str() == wanted {
+        return Ok(None);
+    }
+    Ok(Some(format!(in alloc; "{line}, and not {text}")?))
+}
+
+// The first line of a row that is answered otherwise.
+fn first_difference(
+    staging: &mut Staging,
+    k: &mut KSplit,
+    alloc: Global,
+    row: &str,
+) -> Result<Option<String>, RowError>
+    requires { IsCalm staging.old k.old }
+{
+    for line in row.lines() {
+        if let Some(difference) = difference_at(staging, k, alloc, line)? {
+            return Ok(Some(difference));
+        }
+    }
+    Ok(None)
+}
+
 // How a row goes: `ok`, or the first line that is answered otherwise.
 fn told(alloc: Global, row: &str) -> Result<String, RowError> {
     let mut k = fresh(alloc, &geometry_of(row)?)?;
@@ -178,15 +215,10 @@ fn told(alloc: Global, row: &str) -> Result<String, RowError> {
     if !is_calm(&staging, &k) {
         return Err(RowError::Unlike);
     }
-    for line in row.lines() {
-        if let Some((call, wanted)) = asked(line) {
-            let came = came(&mut staging, &mut k, alloc, call)?;
-            if came.as_str() != wanted {
-                return Ok(format!(in alloc; "{line}, and not {came}")?);
-            }
-        }
+    match first_difference(&mut staging, &mut k, alloc, row)? {
+        Some(difference) => Ok(difference),
+        None => Ok("ok".to_string(alloc)?),
     }
-    Ok("ok".to_string(alloc)?)
 }
 
 #[test]

@@ -18,6 +18,14 @@ pub enum RowError {
     /// A command was not done.
     #[error("a script was not run")]
     NotRun,
+    /// Rows are not as they say: so many are, of so many.
+    #[error("{right} of {all} rows are ok")]
+    Differ {
+        /// How many rows went `ok`.
+        right: usize,
+        /// How many rows there are.
+        all: usize,
+    },
     /// What a layer has is not what the plain model beside it has.
     #[error("the layer has not what the model has")]
     Unlike,

@@ -1,7 +1,6 @@
 //! Tables, their rows and the lines of these.
 use crate::faults::RowError;
 use std::alloc::Global;
-use std::process::Abort;
 
 /// A word of a line by its place, and no text past the last one.
 pub fn word(line: &str, place: usize) -> &str {
@@ -69,7 +68,7 @@ pub fn table_told<F: Fn(Global, &str) -> Result<String, RowError>>(
 }
 
 /// Asserts that a table has so many rows, and that of each it is told that it went `ok`.
-pub fn assert_rows<R: Abort + AllocGlobal, F: Fn(Global, &str) -> Result<String, RowError>>(
+pub fn assert_rows<R: Eprint + AllocGlobal, F: Fn(Global, &str) -> Result<String, RowError>>(
     rt: &R,
     table: &str,
     count: usize,
@@ -80,9 +79,9 @@ pub fn assert_rows<R: Abort + AllocGlobal, F: Fn(Global, &str) -> Result<String,
     let told = table_told(rt.alloc(), table, tell)?;
     let all = told.lines().count();
     let right = told.lines().filter(|line| line.ends_with(": ok")).count();
-    assert!(rt;
-        all == count && right == count,
-        "{right} of {all} rows are ok:\n{told}"
-    );
-    Ok(())
+    if all == count && right == count {
+        return Ok(());
+    }
+    let _ = rt.eprintln(told.as_str());
+    Err(RowError::Differ { right, all })
 }

@@ -1,5 +1,5 @@
 //! Eight threads fill a log of 1,024 lines at once.
-ghost use Rattle.std.specs.Prelude.{◌≡◌, ◌≤◌, ◌<◌, ℕ, All, length, IfOk, vec_len};
+ghost use Rattle.std.specs.Prelude.{◌≡◌, All};
 ghost use Rattle.oplog_tail.specs.Logs.{IsSeatOf};
 
 use crate::lines::{draft, lines_of};

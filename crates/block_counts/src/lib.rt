@@ -14,7 +14,13 @@ ghost use Rattle.block_counts.specs.Counts.{blocks_for, chains_for, held_by, res
 /// The bytes of a block.
 pub const BLOCK: u64 = 4096;
 
-/// The blocks of the largest file.
+/// The longest file, in bytes.
+pub const LONGEST_FILE: u64 = 16_777_216;
+
+/// The most bytes that one write may have.
+pub const LONGEST_WRITE: usize = 131_072;
+
+/// The blocks of the longest file.
 const FILE_BLOCKS: u32 = 4096;
 
 /// The extents that one chain block holds.

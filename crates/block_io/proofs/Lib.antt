@@ -5,6 +5,5 @@ pub mod LinesZeroed
 pub mod Overwriting
 pub mod Reached
 pub mod ZeroCells
-pub mod Zeros
 pub mod Zeroing
 mod Steps

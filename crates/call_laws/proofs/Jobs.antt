@@ -6,10 +6,10 @@ use Rattle.world_view_laws.specs.eof_laws.layout_model.Places.{Geometry}
 use Rattle.world_view_laws.specs.eof_laws.k_split_model.View.{View}
 use Rattle.world_view_laws.specs.eof_laws.posix_tables.Open.{Tables}
 use Rattle.world_view_laws.specs.eof_laws.posix_laws.Views.{need_of}
-use Rattle.world_view_laws.specs.eof_laws.posix_spec.Run.{Begun}
+use Rattle.world_view_laws.specs.eof_laws.posix_spec.Run.{Unfinished}
 use Rattle.world_view_laws.specs.eof_laws.posix_spec.State.{State}
-use Rattle.world_view_laws.specs.in_flight.world_model.Jobs.{begun_of, Job}
-use Rattle.world_view_laws.specs.in_flight.live_model.Standing.{AreJobsOf, Kept, Pending, StandsAt}
+use Rattle.world_view_laws.specs.in_flight.world_model.Jobs.{unfinished_call, Job}
+use Rattle.world_view_laws.specs.in_flight.live_model.Standing.{AreJobsOf, Kept, JobOut, StandsAt}
 use Rattle.world_view_laws.specs.in_flight.live_model.world_model.JobLaws.{needs}
 
 -- ---- what stands
@@ -50,13 +50,13 @@ stands_later g k t kept lines n s stands = record {
 -- ---- the jobs that are out
 
 -- what they need is what their calls do
-pub needs_are : (s : State) (pending : List Pending) (jobs : List Job) → AreJobsOf pending jobs → needs s jobs ≡ sum_by (λ (p : Pending). need_of s p.who p.call) pending
+pub needs_are : (s : State) (pending : List JobOut) (jobs : List Job) → AreJobsOf pending jobs → needs s jobs ≡ sum_by (λ (p : JobOut). need_of s p.who p.call) pending
 needs_are s [] [] are = refl
 needs_are s [] (j ∷ jobs) are = absurd are
 needs_are s (p ∷ pending) [] are = absurd are
 needs_are s (p ∷ pending) (j ∷ jobs) are =
-    sum_by-cons (λ (c : Begun). need_of s c.0 c.1) (begun_of j) (map begun_of jobs)
-    ∙ ((λ i. need_of s (are.0 i) (are.1 i) + needs_are s pending jobs are.3 i) ∙ sym (sum_by-cons (λ (q : Pending). need_of s q.who q.call) p pending))
+    sum_by-cons (λ (c : Unfinished). need_of s c.0 c.1) (unfinished_call j) (map unfinished_call jobs)
+    ∙ ((λ i. need_of s (are.0 i) (are.1 i) + needs_are s pending jobs are.3 i) ∙ sym (sum_by-cons (λ (q : JobOut). need_of s q.who q.call) p pending))
 
 -- where some run is out, a job is out or something was claimed in this lap
 pub some_out : {A B C : Type 0} (claims : List A) (pending : List B) (out : List C) → length out ≡ length claims + length pending → out ≢ [] → (pending ≢ []) ⊎ (claims ≢ [])

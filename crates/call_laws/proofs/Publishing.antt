@@ -30,7 +30,7 @@ use Rattle.world_view_laws.specs.eof_laws.posix_types.declared.call.Who.{Who}
 use Rattle.world_view_laws.specs.eof_laws.posix_types.declared.handle.Handle.{Handle}
 use Rattle.world_view_laws.specs.eof_laws.posix_tables.declared.open.Description.{Description}
 use Rattle.world_view_laws.specs.eof_laws.posix_tables.Open.{opened, Tables}
-use Rattle.world_view_laws.specs.eof_laws.posix_spec.Run.{Begun}
+use Rattle.world_view_laws.specs.eof_laws.posix_spec.Run.{Unfinished}
 use Rattle.world_view_laws.specs.eof_laws.posix_spec.State.{State}
 use Rattle.world_view_laws.specs.eof_laws.crash_spec.Busy.{handle_node, path_node, waits_for}
 use Rattle.world_view_laws.proofs.in_flight_proofs.Claims.{claims_applied}
@@ -41,7 +41,7 @@ use Rattle.world_view_laws.specs.in_flight.k_split.declared.faults.KFault.{KFaul
 use Rattle.world_view_laws.specs.in_flight.staging_files.Keeps.{Staged}
 use Rattle.world_view_laws.specs.in_flight.world_image_laws.Kept.{kept_more}
 use Rattle.world_view_laws.specs.in_flight.world_image_laws.Promised.{IsKept}
-use Rattle.world_view_laws.specs.in_flight.world_model.Jobs.{begun_of, Job}
+use Rattle.world_view_laws.specs.in_flight.world_model.Jobs.{unfinished_call, Job}
 use Rattle.world_view_laws.specs.in_flight.world_model.Stands.{is_used, IsUsed, number}
 use Rattle.world_view_laws.specs.in_flight.live_model.Standing.{Kept, StandsAt}
 use Rattle.world_view_laws.specs.in_flight.live_model.world_model.Landed.{kind_file}
@@ -155,7 +155,7 @@ not_posix : (mode : Mode) → mode ≡ Mode.Strict → mode ≢ Mode.Posix
 not_posix mode strict posix = let never : Mode.Strict ≡ Mode.Posix = sym strict ∙ posix in cc
 
 -- no job is out of the file that a call waits for, as it lets all jobs be
-beside_of : (s : State) (c : Begun) (numbers : List ℕ) (ino : ℕ) (jobs : List Job) → waits_for s c ≡ Some (number numbers ino) → LetsJobsBe s c numbers jobs → AreBeside (only ino) jobs
+beside_of : (s : State) (c : Unfinished) (numbers : List ℕ) (ino : ℕ) (jobs : List Job) → waits_for s c ≡ Some (number numbers ino) → LetsJobsBe s c numbers jobs → AreBeside (only ino) jobs
 beside_of s c numbers ino [] waits lets_be = tt
 beside_of s c numbers ino (j ∷ jobs) waits lets_be = (by (j.draft.ino == ino) refl, beside_of s c numbers ino jobs waits lets_be.1) where
   by : (b : Bool) → (j.draft.ino == ino) ≡ b → b ≡ false
@@ -244,9 +244,9 @@ module _ (k : View) (t : Tables) (staging : Staged) (files : Files) (w : WorldVi
     left = leaves_stopped w.geometry k l t (kept_of w staging files) true (length w.history) (state_of w) ino (size_in files ino) (runs_in files ino) now stopped
 
     promise : (back : ℕ → Cell) (slots : List (Option ℕ)) (image : Words) → IsPutBack k.volume l.cells back (kept_of w staging files).first w.claims now.jobs slots image
-        → IsKept w.geometry w.start w.history (map begun_of now.jobs ++ (who, call) ∷ []) image
+        → IsKept w.geometry w.start w.history (map unfinished_call now.jobs ++ (who, call) ∷ []) image
     promise back slots image put =
-        kept_more w.geometry w.start w.history (map begun_of now.jobs) (who, call) image (not_posix w.start.mode one.world.mode)
+        kept_more w.geometry w.start w.history (map unfinished_call now.jobs) (who, call) image (not_posix w.start.mode one.world.mode)
         (loses w.geometry t (kept_of w staging files) true (length w.history) w.start w.history one.world.mode now beside back slots image put)
 
     abbrev pub off_view : WorldView

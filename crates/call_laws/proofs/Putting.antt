@@ -27,7 +27,7 @@ use Rattle.world_view_laws.proofs.in_flight_proofs.CountsCounts.{few_jobs}
 use Rattle.world_view_laws.specs.in_flight.Counters.{IsCounted}
 use Rattle.world_view_laws.specs.in_flight.Histories.{is_counted, item_with}
 use Rattle.world_view_laws.specs.in_flight.staging_files.Keeps.{Staged}
-use Rattle.world_view_laws.specs.in_flight.live_model.Standing.{Pending, reserved_run, StandsAt}
+use Rattle.world_view_laws.specs.in_flight.live_model.Standing.{JobOut, reserved_run, StandsAt}
 use Rattle.world_view_laws.specs.in_flight.live_model.world_model.JobLaws.{needs}
 use Rattle.write_begin.specs.write_jobs.Jobs.{JobView}
 use Rattle.world_view_laws.proofs.Beginning.{began, lets, lost_call, others_began, others_lost, others_returned, returned}
@@ -72,7 +72,7 @@ module _ (k : View) (t : Tables) (staging : Staged) (files : Files) (w : WorldVi
   pub strict : (state_of w).mode ≡ Mode.Strict
   strict = strict_now k t staging files w who (call_of h at x) one
 
-  module _ (law : JobsNeed) (taken : ℕ) (taken_is : taken ≡ sum_by (λ (p : Pending). need_by t files p.who p.call) w.pending) where
+  module _ (law : JobsNeed) (taken : ℕ) (taken_is : taken ≡ sum_by (λ (p : JobOut). need_by t files p.who p.call) w.pending) where
     -- THE WRITE IS FOUND AS IT ASKS.
     abbrev pub found_at : Found k t staging files who (call_of h at x) taken
     found_at = record {
@@ -130,7 +130,7 @@ module _ (k : View) (t : Tables) (staging : Staged) (files : Files) (w : WorldVi
     -- ---- what it lacks
 
     -- the calls of the jobs that are out leave what these jobs leave
-    left_is : room (state_of w) - needs (state_of w) at_call.jobs ≡ room (state_of w) - sum_by (λ (p : Pending). need_of (state_of w) p.who p.call) w.pending
+    left_is : room (state_of w) - needs (state_of w) at_call.jobs ≡ room (state_of w) - sum_by (λ (p : JobOut). need_of (state_of w) p.who p.call) w.pending
     left_is = ap (λ n. room (state_of w) - n) (needs_are (state_of w) w.pending at_call.jobs at_call.jobs_are)
 
     beside_in : (needed left : ℕ) → LacksBeside w who (call_of h at x) needed left → writing.LacksBeside (state_of w) who (call_of h at x) at_call.jobs needed left
@@ -155,16 +155,16 @@ module _ (k : View) (t : Tables) (staging : Staged) (files : Files) (w : WorldVi
       ends_now = ends_then k.volume l.volume files laid keeps going.ends
 
       module _ (job : JobView) (blocks : List ℕ) (begun : BeginsWrite who h at x k l t staging staged files laid taken job blocks) where
-        abbrev pub pending_of : Pending
+        abbrev pub pending_of : JobOut
         pending_of = record { who = who; call = call_of h at x; draft = job.draft; blocks = blocks }
 
         abbrev pub job_view : WorldView
         job_view = record w { pending = w.pending ++ pending_of ∷ []; acts = w.acts + 1; disk = disk_of l t staged }
 
-        counted_who : (q : Pending) → In q (w.pending ++ pending_of ∷ []) → IsCounted q.who
+        counted_who : (q : JobOut) → In q (w.pending ++ pending_of ∷ []) → IsCounted q.who
         counted_who q there = elim (pushed-In w.pending pending_of q there) [
           | inl old ↦ is_counted w.scripts w.history q.who q.call one.world.threads (going.next q old).0
-          | inr last ↦ subst (λ (y : Pending). IsCounted y.who) last (is_counted w.scripts w.history who (call_of h at x) one.world.threads one.begins.next)
+          | inr last ↦ subst (λ (y : JobOut). IsCounted y.who) last (is_counted w.scripts w.history who (call_of h at x) one.world.threads one.begins.next)
         ]
 
         few : length (w.pending ++ pending_of ∷ []) ≤ 9
@@ -181,7 +181,7 @@ module _ (k : View) (t : Tables) (staging : Staged) (files : Files) (w : WorldVi
         plan_is : first (write_rows (state_of w) who h (start_of (state_of w) who h at) x) ≡ None → IsOfPlan (put_by (state_of w) who (call_of h at x)) job.draft
         plan_is none = subst (λ (o : Option Put). IsOfPlan o job.draft) (sym (puts_of (state_of w) who h at x none)) (begun.plan found_at)
 
-        last_there : (qs : List Pending) → In pending_of (qs ++ pending_of ∷ [])
+        last_there : (qs : List JobOut) → In pending_of (qs ++ pending_of ∷ [])
         last_there [] = inl refl
         last_there (q ∷ qs) = inr (last_there qs)
 

@@ -30,7 +30,7 @@ use Rattle.world_view_laws.specs.eof_laws.crash_spec.Busy.{is_logged, is_logged_
 use Rattle.world_view_laws.specs.in_flight.Histories.{item_with}
 use Rattle.world_view_laws.specs.in_flight.staging_files.Keeps.{Staged}
 use Rattle.world_view_laws.specs.in_flight.world_image_laws.Promised.{IsKept}
-use Rattle.world_view_laws.specs.in_flight.world_model.Jobs.{begun_of}
+use Rattle.world_view_laws.specs.in_flight.world_model.Jobs.{unfinished_call}
 use Rattle.world_view_laws.specs.in_flight.world_model.Stands.{number}
 use Rattle.world_view_laws.specs.in_flight.live_model.open_files.Numbered.{described_as}
 use Rattle.world_view_laws.specs.in_flight.live_model.Standing.{StandsAt}
@@ -159,7 +159,7 @@ module _ (k : View) (t : Tables) (staging : Staged) (files : Files) (w : WorldVi
     left = leaves w.geometry (kept_of w staging files) (length w.history) (state_of w) few_next now lets_now
 
     promise : (back : ℕ → Cell) (slots : List (Option ℕ)) (image : Words) → IsPutBack k.volume l.cells back (kept_of w staging files).first w.claims now.jobs slots image
-        → IsKept w.geometry w.start w.history (map begun_of now.jobs ++ (who, call) ∷ []) image
+        → IsKept w.geometry w.start w.history (map unfinished_call now.jobs ++ (who, call) ∷ []) image
     promise = loses w.geometry (kept_of w staging files) (length w.history) w.start w.history few_next one.world.mode now lets_now
 
     abbrev pub off_view : WorldView

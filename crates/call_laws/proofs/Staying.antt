@@ -14,7 +14,7 @@ use Rattle.world_view_laws.specs.in_flight.Counts.{history_within}
 use Rattle.world_view_laws.specs.in_flight.staging_files.GivesUp.{nothing_staged}
 use Rattle.world_view_laws.specs.in_flight.staging_files.Keeps.{Staged}
 use Rattle.world_view_laws.specs.in_flight.world_image_laws.Settings.{setting_run}
-use Rattle.world_view_laws.specs.in_flight.live_model.Standing.{Pending, StandsAt}
+use Rattle.world_view_laws.specs.in_flight.live_model.Standing.{JobOut, StandsAt}
 use Rattle.world_view_laws.proofs.Beginning.{standing}
 use Rattle.world_view_laws.proofs.Ending.{no_both}
 use Rattle.world_view_laws.specs.declared.views.over.Over.{Over}
@@ -30,7 +30,7 @@ no_items [] is = refl
 no_items (x ∷ xs) is = absurd (omega (arith, is))
 
 -- no job, no needs
-no_needs : (s : State) (pending : List Pending) → pending ≡ [] → sum_by (λ (p : Pending). need_of s p.who p.call) pending ≡ 0
+no_needs : (s : State) (pending : List JobOut) → pending ≡ [] → sum_by (λ (p : JobOut). need_of s p.who p.call) pending ≡ 0
 no_needs s [] none = refl
 no_needs s (p ∷ pending) none = cc
 

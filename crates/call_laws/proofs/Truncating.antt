@@ -28,7 +28,7 @@ use Rattle.world_view_laws.specs.eof_laws.posix_spec.Step.{step}
 use Rattle.world_view_laws.specs.eof_laws.crash_spec.Busy.{is_logged}
 use Rattle.world_view_laws.specs.in_flight.staging_files.Keeps.{Staged}
 use Rattle.world_view_laws.specs.in_flight.world_image_laws.Promised.{IsKept}
-use Rattle.world_view_laws.specs.in_flight.world_model.Jobs.{begun_of}
+use Rattle.world_view_laws.specs.in_flight.world_model.Jobs.{unfinished_call}
 use Rattle.world_view_laws.specs.in_flight.live_model.Standing.{StandsAt}
 use Rattle.world_view_laws.specs.in_flight.live_model.world_model.JobLaws.{needs}
 use Rattle.world_view_laws.proofs.Beginning.{lost_call, others_lost}
@@ -123,7 +123,7 @@ module _ (k : View) (t : Tables) (staging : Staged) (files : Files) (w : WorldVi
     left_device = loses.left w.geometry (kept_of w staging files) (length w.history) (state_of w) finds
 
     promise : (back : ℕ → Cell) (slots : List (Option ℕ)) (image : Words) → IsPutBack k.volume l.cells back (kept_of w staging files).first w.claims now.jobs slots image
-        → IsKept w.geometry w.start w.history (map begun_of now.jobs ++ (who, Call.Truncate h size) ∷ []) image
+        → IsKept w.geometry w.start w.history (map unfinished_call now.jobs ++ (who, Call.Truncate h size) ∷ []) image
     promise = loses.kept w.geometry (kept_of w staging files) (length w.history) w.start w.history one.world.mode finds
 
     pub truncate_lost : IsWorldOver l t staging files (lost_view w ((who, Call.Truncate h size) ∷ []) (w.acts + 1) (disk_of l t staging))

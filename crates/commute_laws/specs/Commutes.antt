@@ -14,7 +14,8 @@ use Rattle.posix_laws.specs.posix_types.declared.reply.Errno.{Errno}
 use Rattle.posix_laws.specs.posix_types.declared.reply.Reply.{Reply}
 use Rattle.posix_laws.specs.posix_tables.declared.nodes.Node.{Node}
 use Rattle.posix_laws.specs.posix_tables.declared.open.Description.{Description}
-use Rattle.posix_laws.specs.posix_tables.Bytes.{bytes_from, longest_file, longest_write, moved_place, overwritten, resized}
+use Rattle.posix_laws.specs.posix_tables.block_counts.declared.TheConstants.{LONGEST_FILE, LONGEST_WRITE}
+use Rattle.posix_laws.specs.posix_tables.Bytes.{bytes_from, moved_place, overwritten, resized}
 use Rattle.posix_laws.specs.posix_tables.NameRows.{list_rows, mkdir_rows, open_rows, rename_rows, rmdir_rows, stat_rows, unlink_rows}
 use Rattle.posix_laws.specs.posix_tables.Names.{directory_stands, exists_at, file_stands, names_in, node_at_path, number_at}
 use Rattle.posix_laws.specs.posix_tables.Nodes.{is_directory, node_at, published_node, published_of}
@@ -22,7 +23,7 @@ use Rattle.posix_laws.specs.posix_tables.Open.{closed, is_full, key_of, next_des
 use Rattle.posix_laws.specs.posix_tables.Outcomes.{answer, first, idle_row, row, unless}
 use Rattle.posix_laws.specs.posix_tables.Room.{growth, write_need}
 use Rattle.posix_laws.specs.posix_spec.FileRows.{close_rows, content, dup_rows, file_number, fsync_rows, no_blocks, offset_of, read_rows, seek_base, seek_rows, seek_target, truncate_rows, write_rows, write_start}
-use Rattle.posix_laws.specs.posix_spec.Run.{Begun}
+use Rattle.posix_laws.specs.posix_spec.Run.{Unfinished}
 use Rattle.posix_laws.specs.posix_spec.State.{alone, room, space, State, swept, unnamed, with_file, with_node, with_published}
 use Rattle.posix_laws.specs.posix_spec.Step.{close_done, done, dup_done, fsync_done, is_busy as is_elsewhere, list_done, mkdir_done, moved_offset, open_done, opening_number, pread_done, pwrite_done, read_done, rename_done, renamed, rmdir_done, seek_done, stat_done, stat_of, step, stepped, Stepped, truncate_done, unlink_done, write_done, written}
 use Rattle.posix_laws.specs.RowLaws.{no_row, none_fits, row-none}
@@ -35,7 +36,7 @@ use Rattle.commute_laws.specs.Frames.{AreThreads, granted, IsOpened-from, known,
 use Rattle.commute_laws.specs.Handles.{key_of-Opens, keys_apart, Opens, Opens-closed, Opens-opened}
 
 -- how many blocks a call takes, if it is accepted; of an unknown handle, none
-abbrev pub takes : State → Begun → ℕ
+abbrev pub takes : State → Unfinished → ℕ
 takes s (who, Call.Write h x) = cond (is_none (opened s.tables who h)) 0 (need_of s who (Call.Write h x))
 takes s (who, Call.Pwrite h start x) = cond (is_none (opened s.tables who h)) 0 (need_of s who (Call.Pwrite h start x))
 takes s (who, Call.Truncate h n) = cond (is_none (opened s.tables who h)) 0 (growth (length (content s who h)) n)
@@ -345,9 +346,9 @@ write_rows-same s c h2 from start x who2 view begins before after =
     (λ i. no_blocks (acted s c) (write_need s.mode (long i) (begins i) (begins i + length x))) ∙ no_blocks-none (acted s c) _ after ∙ sym (no_blocks-none s _ before) in
     λ i. first (
     row (not (option_map_or (λ d. d.flags.write) (view.handle i) false)) Errno.EBADF
-    ∷ row (nat_lt longest_write (length x)) Errno.EINVAL
+    ∷ row (nat_lt LONGEST_WRITE (length x)) Errno.EINVAL
     ∷ idle_row (length x == 0) (Reply.Count 0)
-    ∷ row (nat_lt longest_file (begins i + length x)) Errno.EFBIG
+    ∷ row (nat_lt LONGEST_FILE (begins i + length x)) Errno.EFBIG
     ∷ blocks i
     ∷ []
     )
@@ -414,7 +415,7 @@ truncate_rows-same s c h2 n who2 view before after =
     ap (λ k. no_blocks (acted s c) (growth k n)) long ∙ no_blocks-none (acted s c) _ after ∙ sym (no_blocks-none s _ before) in
     λ i. first (
     row (not (option_map_or (λ d. d.flags.write) (view.handle i) false)) Errno.EBADF
-    ∷ row (nat_lt longest_file n) Errno.EFBIG
+    ∷ row (nat_lt LONGEST_FILE n) Errno.EFBIG
     ∷ unless (nat_le n (long i)) (blocks i)
     ∷ []
     )

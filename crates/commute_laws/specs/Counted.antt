@@ -19,7 +19,7 @@ use Rattle.posix_laws.specs.posix_tables.Outcomes.{answer, first, no_space}
 use Rattle.posix_laws.specs.posix_tables.Room.{growth, held, staged_below, write_need}
 use Rattle.posix_laws.specs.posix_spec.FileRows.{content, file_number, no_blocks, write_rows, write_start}
 use Rattle.posix_laws.specs.posix_spec.Put.{Put, put_at, put_by}
-use Rattle.posix_laws.specs.posix_spec.Run.{after_call, after_calls, Begun}
+use Rattle.posix_laws.specs.posix_spec.Run.{after_call, after_calls, Unfinished}
 use Rattle.posix_laws.specs.posix_spec.State.{alone, room, State}
 use Rattle.posix_laws.specs.posix_spec.Step.{pwrite_done, step, stepped, write_done}
 use Rattle.posix_laws.specs.FitsLaws.{held_by-le, length-overwritten}
@@ -29,7 +29,7 @@ use Rattle.posix_laws.specs.Puts.{LeavesWhole, put_bytes, PutsWhole, with_whole}
 use Rattle.posix_laws.specs.ViewLaws.{content-same, write_start-same}
 use Rattle.posix_laws.specs.Views.{AreAfforded, KeepsView, need_of}
 use Rattle.commute_laws.specs.Flights.{InFlight, KeepsView-call}
-use Rattle.commute_laws.specs.Needs.{AreAfforded-step, AreInFlight, begun_of, FitsBeside-put, Flight, LetsAllBe, LetsAllBe-flight, needs, needs-cons, needs-step}
+use Rattle.commute_laws.specs.Needs.{AreAfforded-step, AreInFlight, unfinished_call, FitsBeside-put, Flight, LetsAllBe, LetsAllBe-flight, needs, needs-cons, needs-step}
 use Rattle.commute_laws.specs.Commutes.{below_not}
 use Rattle.commute_laws.specs.Rooms.{weight}
 use Rattle.commute_laws.specs.Orders.{AreTwoEach}
@@ -51,13 +51,13 @@ outcome-put s who call node whole puts = let never = puts.is in cc
 -- ---- blocks
 
 -- the blocks of the file that a write stages anew, until it finishes
-abbrev pub staged_by : State → Begun → ℕ
+abbrev pub staged_by : State → Unfinished → ℕ
 staged_by s (who, Call.Write h x) = staged_below s.mode (length (content s who h)) (write_start s who h) (write_start s who h + length x)
 staged_by s (who, Call.Pwrite h start x) = staged_below s.mode (length (content s who h)) start (start + length x)
 staged_by s c = 0
 
 abbrev pub staged : State → List Flight → ℕ
-staged s flights = sum_by (λ (c : Begun). staged_by s c) (map begun_of flights)
+staged s flights = sum_by (λ (c : Unfinished). staged_by s c) (map unfinished_call flights)
 
 pub held-exact : (nodes : List Node) (n : ℕ) (node : Node) (file : File) → node_at nodes n ≡ Node.File file
     → held (slice_set nodes n node) + weight (node_at nodes n) ≡ held nodes + weight node
@@ -120,9 +120,9 @@ staged_by-kept s new who call view = refl
 
 staged-cons : (s : State) (f : Flight) (flights : List Flight)
     → staged s (f ∷ flights) ≡ staged_by s f.begun + staged s flights
-staged-cons s f flights = sum_by-cons (λ (c : Begun). staged_by s c) f.begun (map begun_of flights)
+staged-cons s f flights = sum_by-cons (λ (c : Unfinished). staged_by s c) f.begun (map unfinished_call flights)
 
-staged-step : (s : State) (d : Begun) (flights : List Flight) → AreInFlight s flights → LetsAllBe s d flights
+staged-step : (s : State) (d : Unfinished) (flights : List Flight) → AreInFlight s flights → LetsAllBe s d flights
     → staged (after_call s d) flights ≡ staged s flights
 staged-step s d [] flying lets = refl
 staged-step s d (f ∷ flights) flying lets =
@@ -132,11 +132,11 @@ staged-step s d (f ∷ flights) flying lets =
 
 -- what the files hold with the writes in flight counted, each with its new length and with its blocks staged anew added
 abbrev pub counted : State → List Flight → ℕ
-counted s flights = held (after_calls s (map begun_of flights)).nodes + staged s flights
+counted s flights = held (after_calls s (map unfinished_call flights)).nodes + staged s flights
 
 -- WHAT IS COUNTED is what the files hold and what the writes need.
 pub counted-needs : (s : State) (flights : List Flight) → AreInFlight s flights → AreTwoEach flights
-    → AreAfforded s (map begun_of flights) → counted s flights ≡ held s.nodes + needs s flights
+    → AreAfforded s (map unfinished_call flights) → counted s flights ≡ held s.nodes + needs s flights
 counted-needs s [] flying two afforded = refl
 counted-needs s (f ∷ flights) flying two afforded =
     let sum = needs-cons s f flights in
@@ -160,7 +160,7 @@ room_beside s flights = room s - needs s flights
 pub fits_beside-fits : (s : State) (flights : List Flight) (need : ℕ) → need ≤ room_beside s flights → need ≤ room s
 fits_beside-fits s flights need fits = omega (arith, fits)
 
-pub fits_beside-all : (s : State) (flights : List Flight) (need : ℕ) → AreAfforded s (map begun_of flights)
+pub fits_beside-all : (s : State) (flights : List Flight) (need : ℕ) → AreAfforded s (map unfinished_call flights)
     → need ≤ room_beside s flights → need + needs s flights ≤ room s
 fits_beside-all s flights need afforded fits = omega (arith, afforded, fits)
 

@@ -11,7 +11,7 @@ use Rattle.posix_laws.specs.posix_tables.Nodes.{node_at}
 use Rattle.posix_laws.specs.posix_tables.Open.{opened}
 use Rattle.posix_laws.specs.posix_spec.FileRows.{write_start}
 use Rattle.posix_laws.specs.posix_spec.Put.{Put, put_at, put_by}
-use Rattle.posix_laws.specs.posix_spec.Run.{after_call, Begun}
+use Rattle.posix_laws.specs.posix_spec.Run.{after_call, Unfinished}
 use Rattle.posix_laws.specs.posix_spec.State.{room, State}
 use Rattle.posix_laws.specs.RowLaws.{put_at-Some}
 use Rattle.posix_laws.specs.Puts.{PutsWhole}
@@ -57,7 +57,7 @@ KeepsView-seen s new who (Call.Pwrite h start x) node whole puts keeps = same_vi
 KeepsView-seen s new who call node whole puts keeps = tt
 
 -- A write in flight: it puts these whole bytes into this node, which is a file.
-pub record InFlight (s : State) (c : Begun) (node : ℕ) (whole : List ℕ) : Type 0 where
+pub record InFlight (s : State) (c : Unfinished) (node : ℕ) (whole : List ℕ) : Type 0 where
   pub puts : PutsWhole s c.0 c.1 node whole
   pub file : File
   pub is : node_at s.nodes node ≡ Node.File file
@@ -86,34 +86,34 @@ waits_for-put s who (Call.Pwrite h start x) node whole puts = waits_by s who h n
 waits_for-put s who call node whole puts = let never = puts.is in cc
 
 -- so it leaves every other file alone
-pub LeavesAlone-put : (s : State) (c : Begun) (node other : ℕ) (whole : List ℕ) → InFlight s c node whole
+pub LeavesAlone-put : (s : State) (c : Unfinished) (node other : ℕ) (whole : List ℕ) → InFlight s c node whole
     → node ≢ other → LeavesAlone s c other
 LeavesAlone-put s (who, call) node other whole flight apart waits =
     let both : Some node ≡ Some other = sym (waits_for-put s who call node whole flight.puts) ∙ waits in
     apart cc
 
 -- What it sees stays under a call of another thread that leaves its file alone.
-pub KeepsSeen-call : (s : State) (c d : Begun) (node : ℕ) (whole : List ℕ) → AreThreads c.0 d.0
+pub KeepsSeen-call : (s : State) (c d : Unfinished) (node : ℕ) (whole : List ℕ) → AreThreads c.0 d.0
     → InFlight s c node whole → LeavesAlone s d node → KeepsSeen s (after_call s d) c.0 node
 KeepsSeen-call s (who, call) (who2, call2) node whole threads flight aside =
     KeepsSeen-step s who who2 call2 node threads (IsHeld-put s who call node whole flight.file flight.puts flight.is) aside
 
-pub KeepsView-call : (s : State) (c d : Begun) (node : ℕ) (whole : List ℕ) → AreThreads c.0 d.0
+pub KeepsView-call : (s : State) (c d : Unfinished) (node : ℕ) (whole : List ℕ) → AreThreads c.0 d.0
     → InFlight s c node whole → LeavesAlone s d node → KeepsView s (after_call s d) c.0 c.1
 KeepsView-call s c d node whole threads flight aside = KeepsView-seen s (after_call s d) c.0 c.1 node whole flight.puts (KeepsSeen-call s c d node whole threads flight aside)
 
 -- It needs afterwards what it needed.
-pub need_of-step : (s : State) (c d : Begun) (node : ℕ) (whole : List ℕ) → AreThreads c.0 d.0
+pub need_of-step : (s : State) (c d : Unfinished) (node : ℕ) (whole : List ℕ) → AreThreads c.0 d.0
     → InFlight s c node whole → LeavesAlone s d node → need_of (after_call s d) c.0 c.1 ≡ need_of s c.0 c.1
 need_of-step s c d node whole threads flight aside = need_of-kept s (after_call s d) c.0 c.1 (KeepsView-call s c d node whole threads flight aside)
 
 -- And it puts what it would have put, if it still finds room.
-pub PutsWhole-step : (s : State) (c d : Begun) (node : ℕ) (whole : List ℕ) → AreThreads c.0 d.0
+pub PutsWhole-step : (s : State) (c d : Unfinished) (node : ℕ) (whole : List ℕ) → AreThreads c.0 d.0
     → InFlight s c node whole → LeavesAlone s d node → need_of s c.0 c.1 ≤ room (after_call s d)
     → PutsWhole (after_call s d) c.0 c.1 node whole
 PutsWhole-step s c d node whole threads flight aside fits = PutsWhole-kept s (after_call s d) c.0 c.1 node whole flight.puts (KeepsView-call s c d node whole threads flight aside) fits
 
-pub InFlight-step : (s : State) (c d : Begun) (node : ℕ) (whole : List ℕ) → AreThreads c.0 d.0
+pub InFlight-step : (s : State) (c d : Unfinished) (node : ℕ) (whole : List ℕ) → AreThreads c.0 d.0
     → InFlight s c node whole → LeavesAlone s d node → need_of s c.0 c.1 ≤ room (after_call s d)
     → InFlight (after_call s d) c node whole
 InFlight-step s c d node whole threads flight aside fits = record {

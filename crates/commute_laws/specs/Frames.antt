@@ -19,7 +19,7 @@ use Rattle.posix_laws.specs.posix_tables.Nodes.{node_at}
 use Rattle.posix_laws.specs.posix_tables.Outcomes.{first}
 use Rattle.posix_laws.specs.posix_tables.Open.{is_full, is_open, key_of, opened, same_who, Tables, with_offset}
 use Rattle.posix_laws.specs.posix_spec.FileRows.{close_rows, dup_rows, file_number, fsync_rows, read_rows, seek_rows, truncate_rows, write_start}
-use Rattle.posix_laws.specs.posix_spec.Run.{Begun}
+use Rattle.posix_laws.specs.posix_spec.Run.{Unfinished}
 use Rattle.posix_laws.specs.posix_spec.State.{alone, made, space, State, swept, with_file, with_node, with_published}
 use Rattle.posix_laws.specs.posix_spec.Step.{close_done, dup_done, empty_file, fsync_done, is_busy as is_elsewhere, list_done, moved_offset, open_done, opening, pread_done, pwrite_done, read_done, seek_done, stat_done, step, truncate_done, write_done, written}
 use Rattle.posix_laws.specs.RowLaws.{Accepts-from_rows, no_row, none_fits, stepped-keeps}
@@ -35,7 +35,7 @@ pub record KeepsSeen (s new : State) (who : Who) (node : ℕ) : Type 0 where
   pub mode : new.mode ≡ s.mode
 
 -- the call leaves the file alone: it is not the file that the call would wait for
-abbrev pub LeavesAlone : State → Begun → ℕ → Type 0
+abbrev pub LeavesAlone : State → Unfinished → ℕ → Type 0
 LeavesAlone s c node = waits_for s c ≢ Some node
 
 -- two callers, of which the second is not the set-up, nor is the first
@@ -59,7 +59,7 @@ not_and true b first second = cc
 not_and false b first second = second
 
 -- A call that does not wait while another caller's logged call is out leaves that call's file alone.
-pub LeavesAlone-idle : (s : State) (out : List Out) (c : Begun) (who : Who) (node : ℕ) → is_busy s out c ≡ false
+pub LeavesAlone-idle : (s : State) (out : List Out) (c : Unfinished) (who : Who) (node : ℕ) → is_busy s out c ≡ false
     → In (who, node) out → same_who who c.0 ≡ false → LeavesAlone s c node
 unfolding is_busy
 LeavesAlone-idle s out c who node idle is other waits =

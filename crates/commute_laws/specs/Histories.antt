@@ -3,13 +3,13 @@ use Rattle.std.specs.Prelude.{◌≡◌, false, List, [], ◌∷◌, map, refl}
 use Rattle.std.proofs.Common.{ap, ◌∙◌, inl, inr}
 use Rattle.crash_spec.specs.list_laws.Members.{In}
 use Rattle.posix_laws.specs.posix_types.declared.item.Item.{Item}
-use Rattle.posix_laws.specs.posix_spec.Run.{after_call, begun, Begun, run}
+use Rattle.posix_laws.specs.posix_spec.Run.{after_call, begun, Unfinished, run}
 use Rattle.posix_laws.specs.posix_spec.State.{State}
 use Rattle.posix_laws.specs.Views.{AreAfforded}
 use Rattle.crash_spec.specs.Busy.{is_busy, Out}
 use Rattle.commute_laws.specs.Frames.{AreThreads, LeavesAlone-idle}
 use Rattle.commute_laws.specs.Handles.{same_who-sym}
-use Rattle.commute_laws.specs.Needs.{AreAfforded-step, AreInFlight, begun_of, Flight, LetsAllBe, needs}
+use Rattle.commute_laws.specs.Needs.{AreAfforded-step, AreInFlight, unfinished_call, Flight, LetsAllBe, needs}
 use Rattle.commute_laws.specs.Rooms.{FitsBeside}
 
 -- the calls of a history let the files of the writes in flight alone, and fit beside their needs, each at its place
@@ -20,8 +20,8 @@ LetsThrough s flights (item ∷ items) = LetsAllBe s (begun item) flights × Fit
 -- Whatever calls are let through, each write in flight has at the end the effect that it had when it began, and together
 -- they find room.
 pub AreInFlight-run : (s : State) (flights : List Flight) (items : List Item) → AreInFlight s flights
-    → AreAfforded s (map begun_of flights) → LetsThrough s flights items
-    → AreInFlight (run s items) flights × AreAfforded (run s items) (map begun_of flights)
+    → AreAfforded s (map unfinished_call flights) → LetsThrough s flights items
+    → AreInFlight (run s items) flights × AreAfforded (run s items) (map unfinished_call flights)
 AreInFlight-run s flights [] flying afforded lets = (flying, afforded)
 AreInFlight-run s flights (item ∷ items) flying afforded lets =
     let after = AreAfforded-step s (begun item) flights flying lets.0 afforded lets.1 in
@@ -31,11 +31,11 @@ AreInFlight-run s flights (item ∷ items) flying afforded lets =
 abbrev pub outs : List Flight → List Out
 outs flights = map (λ (f : Flight). (f.begun.0, f.node)) flights
 
-abbrev pub AreAllThreads : Begun → List Flight → Type 0
+abbrev pub AreAllThreads : Unfinished → List Flight → Type 0
 AreAllThreads d [] = Unit {0}
 AreAllThreads d (f ∷ flights) = AreThreads f.begun.0 d.0 × AreAllThreads d flights
 
-lets_each : (s : State) (d : Begun) (all flights : List Flight)
+lets_each : (s : State) (d : Unfinished) (all flights : List Flight)
     → ((f : Flight) → In f flights → In (f.begun.0, f.node) (outs all)) → is_busy s (outs all) d ≡ false
     → AreAllThreads d flights → LetsAllBe s d flights
 lets_each s d all [] within idle threads = tt
@@ -53,6 +53,6 @@ in_outs (g ∷ flights) f (inl same) = inl (ap (λ (x : Flight). (let o : Out = 
 in_outs (g ∷ flights) f (inr i) = inr (in_outs flights f i)
 
 -- A call of another thread that the busy rule lets through lets the files of all writes that are out alone.
-pub LetsAllBe-idle : (s : State) (d : Begun) (flights : List Flight) → is_busy s (outs flights) d ≡ false
+pub LetsAllBe-idle : (s : State) (d : Unfinished) (flights : List Flight) → is_busy s (outs flights) d ≡ false
     → AreAllThreads d flights → LetsAllBe s d flights
 LetsAllBe-idle s d flights idle threads = lets_each s d flights flights (in_outs flights) idle threads

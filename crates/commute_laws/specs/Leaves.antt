@@ -11,7 +11,7 @@ use Rattle.posix_laws.specs.posix_tables.declared.nodes.Node.{Node}
 use Rattle.posix_laws.specs.posix_tables.declared.open.Description.{Description}
 use Rattle.posix_laws.specs.posix_tables.Open.{Tables}
 use Rattle.posix_laws.specs.posix_tables.Room.{held}
-use Rattle.posix_laws.specs.posix_spec.Run.{after_call, Begun}
+use Rattle.posix_laws.specs.posix_spec.Run.{after_call, Unfinished}
 use Rattle.posix_laws.specs.posix_spec.State.{Fits, room, State}
 use Rattle.posix_laws.specs.PutLaws.{LeavesWhole-step}
 use Rattle.posix_laws.specs.Puts.{LeavesWhole, PutsWhole, with_whole}
@@ -28,7 +28,7 @@ abbrev pub KeepsOthers : Tables → Tables → ℕ → Type 0
 KeepsOthers t new node = (who : Who) (h : Handle) (key : ℕ) (d : Description) → Opens t who h key d → d.node ≢ node → Opens new who h key d
 
 -- a write keeps them
-pub KeepsOthers-step : (s : State) (c : Begun) (node : ℕ) (whole : List ℕ) → InFlight s c node whole
+pub KeepsOthers-step : (s : State) (c : Unfinished) (node : ℕ) (whole : List ℕ) → InFlight s c node whole
     → KeepsOthers s.tables (after_call s c).tables node
 KeepsOthers-step s c node whole flight who h key d o other =
     let acts = Acts-now s c node whole flight in
@@ -52,7 +52,7 @@ pub KeepsView-leaves : (s new : State) (node : ℕ) (found : List ℕ) (who2 : W
 KeepsView-leaves s new node found who2 call2 node2 whole2 leaves keeps puts apart = KeepsView-seen s new who2 call2 node2 whole2 puts (KeepsSeen-leaves s new node found who2 node2 leaves keeps apart)
 
 -- what the files hold goes by the length of what is found alone
-held_leaves : (s new : State) (c : Begun) (node : ℕ) (whole found : List ℕ) → InFlight s c node whole
+held_leaves : (s new : State) (c : Unfinished) (node : ℕ) (whole found : List ℕ) → InFlight s c node whole
     → LeavesWhole s new node found → length found ≡ length whole → held new.nodes ≡ held (after_call s c).nodes
 held_leaves s new (who, call) node whole found flight leaves long =
     let whole_left = LeavesWhole-step s who call node whole flight.puts in
@@ -64,7 +64,7 @@ held_leaves s new (who, call) node whole found flight leaves long =
     omega (arith, first_one, second, a, b, size)
 
 -- The room after a write, all its bytes found or not: what was left besides its need is left.
-pub room-leaves : (s new : State) (c : Begun) (node : ℕ) (whole found : List ℕ) (k : ℕ) → InFlight s c node whole
+pub room-leaves : (s new : State) (c : Unfinished) (node : ℕ) (whole found : List ℕ) (k : ℕ) → InFlight s c node whole
     → LeavesWhole s new node found → length found ≡ length whole → need_of s c.0 c.1 + k ≤ room s → k ≤ room new
 room-leaves s new (who, call) node whole found k flight leaves long fits =
     let same = held_leaves s new (who, call) node whole found flight leaves long in
@@ -73,7 +73,7 @@ room-leaves s new (who, call) node whole found k flight leaves long fits =
     rw shape (omega (arith, same, own, fits))
 
 -- and the reserve is left
-pub Fits-leaves : (s new : State) (c : Begun) (node : ℕ) (whole found : List ℕ) → InFlight s c node whole
+pub Fits-leaves : (s new : State) (c : Unfinished) (node : ℕ) (whole found : List ℕ) → InFlight s c node whole
     → LeavesWhole s new node found → length found ≡ length whole → need_of s c.0 c.1 ≤ room s → Fits s → Fits new
 Fits-leaves s new (who, call) node whole found flight leaves long within fits =
     let same = held_leaves s new (who, call) node whole found flight leaves long in

@@ -5,7 +5,7 @@ use Rattle.std.proofs.lemmas.List.Sums.{sum_by-cons}
 use Rattle.posix_laws.specs.posix_types.declared.call.Call.{Call}
 use Rattle.posix_laws.specs.posix_types.declared.call.Who.{Who}
 use Rattle.posix_laws.specs.posix_spec.Put.{put_by}
-use Rattle.posix_laws.specs.posix_spec.Run.{after_call, Begun}
+use Rattle.posix_laws.specs.posix_spec.Run.{after_call, Unfinished}
 use Rattle.posix_laws.specs.posix_spec.State.{room, State}
 use Rattle.posix_laws.specs.Puts.{PutsWhole}
 use Rattle.posix_laws.specs.Views.{AreAfforded, need_of}
@@ -15,36 +15,36 @@ use Rattle.commute_laws.specs.Rooms.{FitsBeside, room-step}
 
 -- A logged call that is out: the call, its file, and the whole bytes that it puts.
 pub record Flight : Type 0 where
-  pub begun : Begun
+  pub begun : Unfinished
   pub node : ℕ
   pub whole : List ℕ
 
-abbrev pub begun_of : Flight → Begun
-begun_of f = f.begun
+abbrev pub unfinished_call : Flight → Unfinished
+unfinished_call f = f.begun
 
 -- what all of them need, in blocks
 abbrev pub needs : State → List Flight → ℕ
-needs s flights = sum_by (λ (c : Begun). need_of s c.0 c.1) (map begun_of flights)
+needs s flights = sum_by (λ (c : Unfinished). need_of s c.0 c.1) (map unfinished_call flights)
 
 abbrev pub AreInFlight : State → List Flight → Type 0
 AreInFlight s [] = Unit {0}
 AreInFlight s (f ∷ flights) = InFlight s f.begun f.node f.whole × AreInFlight s flights
 
 -- a call of another thread, which leaves the file of the logged call alone
-pub record LetsBe (s : State) (d : Begun) (f : Flight) : Type 0 where
+pub record LetsBe (s : State) (d : Unfinished) (f : Flight) : Type 0 where
   pub threads : AreThreads f.begun.0 d.0
   pub aside : LeavesAlone s d f.node
 
-abbrev pub LetsAllBe : State → Begun → List Flight → Type 0
+abbrev pub LetsAllBe : State → Unfinished → List Flight → Type 0
 LetsAllBe s d [] = Unit {0}
 LetsAllBe s d (f ∷ flights) = LetsBe s d f × LetsAllBe s d flights
 
 pub needs-cons : (s : State) (f : Flight) (flights : List Flight)
     → needs s (f ∷ flights) ≡ need_of s f.begun.0 f.begun.1 + needs s flights
-needs-cons s f flights = sum_by-cons (λ (c : Begun). need_of s c.0 c.1) f.begun (map begun_of flights)
+needs-cons s f flights = sum_by-cons (λ (c : Unfinished). need_of s c.0 c.1) f.begun (map unfinished_call flights)
 
 -- Together they need afterwards what they needed.
-pub needs-step : (s : State) (d : Begun) (flights : List Flight) → AreInFlight s flights → LetsAllBe s d flights
+pub needs-step : (s : State) (d : Unfinished) (flights : List Flight) → AreInFlight s flights → LetsAllBe s d flights
     → needs (after_call s d) flights ≡ needs s flights
 needs-step s d [] flying lets = refl
 needs-step s d (f ∷ flights) flying lets =
@@ -53,7 +53,7 @@ needs-step s d (f ∷ flights) flying lets =
     needs-cons (after_call s d) f flights ∙ (λ i. one i + rest i) ∙ sym (needs-cons s f flights)
 
 -- Where their needs find room, each is in flight as before.
-pub AreInFlight-step : (s : State) (d : Begun) (flights : List Flight) → AreInFlight s flights → LetsAllBe s d flights
+pub AreInFlight-step : (s : State) (d : Unfinished) (flights : List Flight) → AreInFlight s flights → LetsAllBe s d flights
     → needs s flights ≤ room (after_call s d) → AreInFlight (after_call s d) flights
 AreInFlight-step s d [] flying lets fits = tt
 AreInFlight-step s d (f ∷ flights) flying lets fits =
@@ -63,9 +63,9 @@ AreInFlight-step s d (f ∷ flights) flying lets fits =
     )
 
 -- THE NEEDS STAY WITHIN THE ROOM: under a call of others that leaves the files alone and fits beside the needs.
-pub AreAfforded-step : (s : State) (d : Begun) (flights : List Flight) → AreInFlight s flights → LetsAllBe s d flights
-    → AreAfforded s (map begun_of flights) → FitsBeside s d (needs s flights)
-    → AreInFlight (after_call s d) flights × AreAfforded (after_call s d) (map begun_of flights)
+pub AreAfforded-step : (s : State) (d : Unfinished) (flights : List Flight) → AreInFlight s flights → LetsAllBe s d flights
+    → AreAfforded s (map unfinished_call flights) → FitsBeside s d (needs s flights)
+    → AreInFlight (after_call s d) flights × AreAfforded (after_call s d) (map unfinished_call flights)
 AreAfforded-step s d flights flying lets afforded beside =
     let fits = room-step s d (needs s flights) afforded beside in
     (AreInFlight-step s d flights flying lets fits, subst (λ n. n ≤ room (after_call s d)) (sym (needs-step s d flights flying lets)) fits)
@@ -116,8 +116,8 @@ AreInFlight-between s (g ∷ before) f behind flying =
 -- When one finishes, the others are in flight as before, and find room.
 pub AreAfforded-finished : (s : State) (before : List Flight) (f : Flight) (behind : List Flight)
     → AreInFlight s (before ++ f ∷ behind) → IsApart f (before ++ behind)
-    → AreAfforded s (map begun_of (before ++ f ∷ behind))
-    → AreInFlight (after_call s f.begun) (before ++ behind) × AreAfforded (after_call s f.begun) (map begun_of (before ++ behind))
+    → AreAfforded s (map unfinished_call (before ++ f ∷ behind))
+    → AreInFlight (after_call s f.begun) (before ++ behind) × AreAfforded (after_call s f.begun) (map unfinished_call (before ++ behind))
 AreAfforded-finished s before f behind flying apart afforded =
     let parts = AreInFlight-between s before f behind flying in
     let sum = needs-between s before f behind in

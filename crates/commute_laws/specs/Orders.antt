@@ -5,7 +5,7 @@ use Rattle.posix_laws.specs.posix_types.declared.call.Call.{Call}
 use Rattle.posix_laws.specs.posix_types.declared.call.Who.{Who}
 use Rattle.posix_laws.specs.posix_types.declared.tree.TreeEntry.{TreeEntry}
 use Rattle.posix_laws.specs.posix_spec.Put.{put_by}
-use Rattle.posix_laws.specs.posix_spec.Run.{after_call, after_calls, Begun}
+use Rattle.posix_laws.specs.posix_spec.Run.{after_call, after_calls, Unfinished}
 use Rattle.posix_laws.specs.posix_spec.State.{room, State}
 use Rattle.posix_laws.specs.posix_spec.Step.{step}
 use Rattle.crash_spec.specs.Strict.{StrictFrom}
@@ -16,7 +16,7 @@ use Rattle.commute_laws.specs.Acted.{Change}
 use Rattle.commute_laws.specs.Commutes.{takes}
 use Rattle.commute_laws.specs.Flights.{InFlight, LeavesAlone-put}
 use Rattle.commute_laws.specs.Frames.{AreThreads, LeavesAlone}
-use Rattle.commute_laws.specs.Needs.{AreAfforded-step, AreInFlight, begun_of, FitsBeside-put, Flight, IsApart, LetsAllBe, LetsAllBe-flight, needs, needs-cons, needs-step}
+use Rattle.commute_laws.specs.Needs.{AreAfforded-step, AreInFlight, unfinished_call, FitsBeside-put, Flight, IsApart, LetsAllBe, LetsAllBe-flight, needs, needs-cons, needs-step}
 use Rattle.commute_laws.specs.Pairs.{Acts-now, Commute, Commute-call, takes-acted, waits_for-acted}
 use Rattle.commute_laws.specs.Rooms.{room-step}
 
@@ -34,7 +34,7 @@ takes-put s who (Call.Pwrite h start x) node whole puts = takes_at_most _ _
 takes-put s who call node whole puts = let never = puts.is in cc
 
 -- Two writes of two files that find room together commute.
-pub Commute-two : (s : State) (c d : Begun) (node node2 : ℕ) (whole whole2 : List ℕ) → InFlight s c node whole
+pub Commute-two : (s : State) (c d : Unfinished) (node node2 : ℕ) (whole whole2 : List ℕ) → InFlight s c node whole
     → InFlight s d node2 whole2 → AreThreads c.0 d.0 → node2 ≢ node
     → need_of s c.0 c.1 + need_of s d.0 d.1 ≤ room s → Commute s c d
 Commute-two s c (who, call) node node2 whole whole2 flight flight2 threads apart fits =
@@ -48,17 +48,17 @@ abbrev pub AreTwoEach : List Flight → Type 0
 AreTwoEach [] = Unit {0}
 AreTwoEach (f ∷ flights) = IsApart f flights × AreTwoEach flights
 
-lets-same : (s new : State) (d : Begun) (flights : List Flight) → waits_for new d ≡ waits_for s d
+lets-same : (s new : State) (d : Unfinished) (flights : List Flight) → waits_for new d ≡ waits_for s d
     → LetsAllBe s d flights → LetsAllBe new d flights
 lets-same s new d [] same lets = tt
 lets-same s new d (f ∷ flights) same lets = (record { threads = lets.0.threads; aside = subst (λ o. o ≢ Some f.node) (sym same) lets.0.aside }, lets-same s new d flights same lets.1)
 
 -- what a call takes and waits for stays when a write in flight acted
-record Stays (s : State) (f : Flight) (d : Begun) : Type 0 where
+record Stays (s : State) (f : Flight) (d : Unfinished) : Type 0 where
   taken : takes (after_call s f.begun) d ≡ takes s d
   waits : waits_for (after_call s f.begun) d ≡ waits_for s d
 
-stays : (s : State) (f : Flight) (d : Begun) → InFlight s f.begun f.node f.whole → LeavesAlone s d f.node → Stays s f d
+stays : (s : State) (f : Flight) (d : Unfinished) → InFlight s f.begun f.node f.whole → LeavesAlone s d f.node → Stays s f d
 stays s f d flight aside =
     let acts = Acts-now s f.begun f.node f.whole flight in
     let change : Change = acts.change in
@@ -69,13 +69,13 @@ stays s f d flight aside =
     }
 
 -- what is left for the others once one of the writes acted
-record OthersLeft (s : State) (d : Begun) (f : Flight) (flights : List Flight) : Type 0 where
+record OthersLeft (s : State) (d : Unfinished) (f : Flight) (flights : List Flight) : Type 0 where
   fits_one : takes s d + need_of s f.begun.0 f.begun.1 ≤ room s
   flying : AreInFlight (after_call s f.begun) flights
   lets : LetsAllBe (after_call s f.begun) d flights
   fits : takes (after_call s f.begun) d + needs (after_call s f.begun) flights ≤ room (after_call s f.begun)
 
-others_left : (s : State) (d : Begun) (f : Flight) (flights : List Flight) → AreInFlight s (f ∷ flights)
+others_left : (s : State) (d : Unfinished) (f : Flight) (flights : List Flight) → AreInFlight s (f ∷ flights)
     → AreTwoEach (f ∷ flights) → LetsAllBe s d (f ∷ flights) → takes s d + needs s (f ∷ flights) ≤ room s
     → OthersLeft s d f flights
 others_left s d f flights flying two lets fits =
@@ -97,9 +97,9 @@ others_left s d f flights flying two lets fits =
 
 -- A CALL OF OTHERS STANDS LAST: what power loss leaves where the call acted before the writes that were in flight, it may
 -- leave where the call is the last of the unfinished ones.
-pub StrictFrom-last : (s : State) (d : Begun) (flights : List Flight) (left : List TreeEntry) → AreInFlight s flights
+pub StrictFrom-last : (s : State) (d : Unfinished) (flights : List Flight) (left : List TreeEntry) → AreInFlight s flights
     → AreTwoEach flights → LetsAllBe s d flights → takes s d + needs s flights ≤ room s
-    → StrictFrom (after_call s d) (map begun_of flights) left → StrictFrom s (map begun_of flights ++ d ∷ []) left
+    → StrictFrom (after_call s d) (map unfinished_call flights) left → StrictFrom s (map unfinished_call flights ++ d ∷ []) left
 StrictFrom-last s d [] left flying two lets fits strict = inl strict
 StrictFrom-last s d (f ∷ flights) left flying two lets fits (inr idle) =
     let sum = needs-cons s f flights in
@@ -107,14 +107,14 @@ StrictFrom-last s d (f ∷ flights) left flying two lets fits (inr idle) =
 StrictFrom-last s d (f ∷ flights) left flying two lets fits (inl acts) =
     let after = others_left s d f flights flying two lets fits in
     let commute = Commute-call s f.begun d f.node f.whole flying.0 lets.0.threads lets.0.aside after.fits_one in
-    inl (StrictFrom-last (after_call s f.begun) d flights left after.flying two.1 after.lets after.fits (subst (λ x. StrictFrom x (map begun_of flights) left) (sym commute.states) acts))
+    inl (StrictFrom-last (after_call s f.begun) d flights left after.flying two.1 after.lets after.fits (subst (λ x. StrictFrom x (map unfinished_call flights) left) (sym commute.states) acts))
 
 -- A CALL GIVES WHAT IT GIVES once the writes in flight have finished: the same outcome, and the same state in either order.
-pub record CommuteAll (s : State) (d : Begun) (flights : List Flight) : Type 0 where
-  pub states : after_call (after_calls s (map begun_of flights)) d ≡ after_calls (after_call s d) (map begun_of flights)
-  pub outcome : (step (after_calls s (map begun_of flights)) d.0 d.1).outcome ≡ (step s d.0 d.1).outcome
+pub record CommuteAll (s : State) (d : Unfinished) (flights : List Flight) : Type 0 where
+  pub states : after_call (after_calls s (map unfinished_call flights)) d ≡ after_calls (after_call s d) (map unfinished_call flights)
+  pub outcome : (step (after_calls s (map unfinished_call flights)) d.0 d.1).outcome ≡ (step s d.0 d.1).outcome
 
-pub CommuteAll-call : (s : State) (d : Begun) (flights : List Flight) → AreInFlight s flights → AreTwoEach flights
+pub CommuteAll-call : (s : State) (d : Unfinished) (flights : List Flight) → AreInFlight s flights → AreTwoEach flights
     → LetsAllBe s d flights → takes s d + needs s flights ≤ room s → CommuteAll s d flights
 CommuteAll-call s d [] flying two lets fits = record { states = refl; outcome = refl }
 CommuteAll-call s d (f ∷ flights) flying two lets fits =
@@ -122,12 +122,12 @@ CommuteAll-call s d (f ∷ flights) flying two lets fits =
     let commute = Commute-call s f.begun d f.node f.whole flying.0 lets.0.threads lets.0.aside after.fits_one in
     let rest = CommuteAll-call (after_call s f.begun) d flights after.flying two.1 after.lets after.fits in
     record {
-      states = rest.states ∙ ap (λ x. after_calls x (map begun_of flights)) commute.states;
+      states = rest.states ∙ ap (λ x. after_calls x (map unfinished_call flights)) commute.states;
       outcome = rest.outcome ∙ commute.outcome;
     }
 
 -- and a call that changed nothing stands last too
-pub StrictFrom-idle : (s : State) (d : Begun) (unfinished : List Begun) (left : List TreeEntry)
+pub StrictFrom-idle : (s : State) (d : Unfinished) (unfinished : List Unfinished) (left : List TreeEntry)
     → StrictFrom s unfinished left → StrictFrom s (unfinished ++ d ∷ []) left
 StrictFrom-idle s d [] left strict = inr strict
 StrictFrom-idle s d (c ∷ unfinished) left (inl acts) = inl (StrictFrom-idle (after_call s c) d unfinished left acts)

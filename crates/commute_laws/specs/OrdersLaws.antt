@@ -10,7 +10,7 @@ use Rattle.posix_laws.specs.posix_tables.Open.{may_write}
 use Rattle.posix_laws.specs.posix_tables.Outcomes.{answer, first, no_space}
 use Rattle.posix_laws.specs.posix_tables.Room.{held, write_need}
 use Rattle.posix_laws.specs.posix_spec.FileRows.{content, write_rows}
-use Rattle.posix_laws.specs.posix_spec.Run.{after_call, Begun}
+use Rattle.posix_laws.specs.posix_spec.Run.{after_call, Unfinished}
 use Rattle.posix_laws.specs.posix_spec.State.{Fits, room, State}
 use Rattle.posix_laws.specs.posix_spec.Step.{step}
 use Rattle.crash_spec.specs.Strict.{StrictFrom}
@@ -22,34 +22,34 @@ use Rattle.commute_laws.specs.Counted.{counted, room_beside}
 use Rattle.commute_laws.specs.Flights.{InFlight}
 use Rattle.commute_laws.specs.Frames.{AreThreads}
 use Rattle.commute_laws.specs.Leaves.{KeepsOthers}
-use Rattle.commute_laws.specs.Needs.{AreInFlight, begun_of, Flight, LetsAllBe, needs}
+use Rattle.commute_laws.specs.Needs.{AreInFlight, unfinished_call, Flight, LetsAllBe, needs}
 use Rattle.commute_laws.specs.Orders.{AreTwoEach, CommuteAll}
 use Rattle.commute_laws.specs.Pairs.{Commute}
 
 -- two writes of two files that find room together commute
 abbrev pub WritesCommute : Type 0
 WritesCommute =
-    (s : State) (c d : Begun) (node node2 : ℕ) (whole whole2 : List ℕ) → InFlight s c node whole
+    (s : State) (c d : Unfinished) (node node2 : ℕ) (whole whole2 : List ℕ) → InFlight s c node whole
     → InFlight s d node2 whole2 → AreThreads c.0 d.0
     → node2 ≢ node → need_of s c.0 c.1 + need_of s d.0 d.1 ≤ room s → Commute s c d
 
 -- a call gives the same outcome before the writes in flight as after them, and the same state in either order
 abbrev pub CallsCommute : Type 0
 CallsCommute =
-    (s : State) (d : Begun) (flights : List Flight) → AreInFlight s flights → AreTwoEach flights → LetsAllBe s d flights
+    (s : State) (d : Unfinished) (flights : List Flight) → AreInFlight s flights → AreTwoEach flights → LetsAllBe s d flights
     → takes s d + needs s flights ≤ room s → CommuteAll s d flights
 
 -- so, where it acted before them, it may stand as the last of the unfinished calls
 abbrev pub StandsLast : Type 0
 StandsLast =
-    (s : State) (d : Begun) (flights : List Flight) (left : List TreeEntry) → AreInFlight s flights
+    (s : State) (d : Unfinished) (flights : List Flight) (left : List TreeEntry) → AreInFlight s flights
     → AreTwoEach flights → LetsAllBe s d flights
-    → takes s d + needs s flights ≤ room s → StrictFrom (after_call s d) (map begun_of flights) left
-    → StrictFrom s (map begun_of flights ++ d ∷ []) left
+    → takes s d + needs s flights ≤ room s → StrictFrom (after_call s d) (map unfinished_call flights) left
+    → StrictFrom s (map unfinished_call flights ++ d ∷ []) left
 
 -- what is counted while writes are in flight is what the files hold and what the writes need
 abbrev pub CountsNeeds : Type 0
-CountsNeeds = (s : State) (flights : List Flight) → AreInFlight s flights → AreTwoEach flights → AreAfforded s (map begun_of flights) → counted s flights ≡ held s.nodes + needs s flights
+CountsNeeds = (s : State) (flights : List Flight) → AreInFlight s flights → AreTwoEach flights → AreAfforded s (map unfinished_call flights) → counted s flights ≡ held s.nodes + needs s flights
 
 -- a write in flight answers how many bytes it puts
 abbrev pub AnswersCount : Type 0
@@ -58,7 +58,7 @@ AnswersCount = (s : State) (who : Who) (call : Call) (node : ℕ) (whole : List 
 -- a need that fits beside the writes in flight finds room together with theirs; one above the room of the state never
 -- fits beside them, and is answered with that room
 abbrev pub FitsTogether : Type 0
-FitsTogether = (s : State) (flights : List Flight) (need : ℕ) → AreAfforded s (map begun_of flights) → need ≤ room_beside s flights → need + needs s flights ≤ room s
+FitsTogether = (s : State) (flights : List Flight) (need : ℕ) → AreAfforded s (map unfinished_call flights) → need ≤ room_beside s flights → need + needs s flights ≤ room s
 
 abbrev pub NeverFits : Type 0
 NeverFits = (s : State) (flights : List Flight) (need : ℕ) → room s < need → need ≤ room_beside s flights → ⊥
@@ -78,10 +78,10 @@ KeepsOtherWrites =
 
 abbrev pub LeavesRoomInPart : Type 0
 LeavesRoomInPart =
-    (s new : State) (c : Begun) (node : ℕ) (whole found : List ℕ) (k : ℕ) → InFlight s c node whole → LeavesWhole s new node found → length found ≡ length whole
+    (s new : State) (c : Unfinished) (node : ℕ) (whole found : List ℕ) (k : ℕ) → InFlight s c node whole → LeavesWhole s new node found → length found ≡ length whole
     → need_of s c.0 c.1 + k ≤ room s → k ≤ room new
 
 abbrev pub FitsInPart : Type 0
 FitsInPart =
-    (s new : State) (c : Begun) (node : ℕ) (whole found : List ℕ) → InFlight s c node whole → LeavesWhole s new node found → length found ≡ length whole
+    (s new : State) (c : Unfinished) (node : ℕ) (whole found : List ℕ) → InFlight s c node whole → LeavesWhole s new node found → length found ≡ length whole
     → need_of s c.0 c.1 ≤ room s → Fits s → Fits new

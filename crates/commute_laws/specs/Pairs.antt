@@ -14,7 +14,7 @@ use Rattle.posix_laws.specs.posix_tables.Outcomes.{first}
 use Rattle.posix_laws.specs.posix_tables.Room.{growth}
 use Rattle.posix_laws.specs.posix_spec.FileRows.{truncate_rows, write_rows, write_start}
 use Rattle.posix_laws.specs.posix_spec.Put.{put_by}
-use Rattle.posix_laws.specs.posix_spec.Run.{after_call, Begun}
+use Rattle.posix_laws.specs.posix_spec.Run.{after_call, Unfinished}
 use Rattle.posix_laws.specs.posix_spec.State.{alone, room, State, with_file}
 use Rattle.posix_laws.specs.posix_spec.Step.{pwrite_done, step, stepped, Stepped, write_done, written}
 use Rattle.posix_laws.specs.RowLaws.{Accepts-from_rows, no_row, none_fits, put_at-Some, rows-from_Accepts}
@@ -35,7 +35,7 @@ use Rattle.commute_laws.specs.Rooms.{FitsBeside, room-step}
 -- ---- the change of a write
 
 -- a write in flight makes this change of the state
-pub record Acts (s : State) (c : Begun) (node : ℕ) (h : Handle) (change : Change) : Type 0 where
+pub record Acts (s : State) (c : Unfinished) (node : ℕ) (h : Handle) (change : Change) : Type 0 where
   pub touches : Touches s c.0 h change
   pub is : after_call s c ≡ acted s change
   pub node_is : change.node ≡ node
@@ -80,7 +80,7 @@ pwrite_tables s who h start x node whole puts none =
     ∙ (λ i. record s.tables { descriptions = sym (same_slot s.tables.descriptions puts.key (Some puts.by) (slot_of s.tables puts.key puts.by puts.opens.stands)) i })
 
 -- A write in flight makes the same change of a state in which what it sees stayed, and which has the room.
-pub record ActsTwice (s new : State) (c : Begun) (node : ℕ) : Type 0 where
+pub record ActsTwice (s new : State) (c : Unfinished) (node : ℕ) : Type 0 where
   pub handle : Handle
   pub change : Change
   pub now : Acts s c node handle change
@@ -137,7 +137,7 @@ need_of-fits s who (Call.Write h x) node whole puts = (put_at-Some s who h (writ
 need_of-fits s who (Call.Pwrite h start x) node whole puts = (put_at-Some s who h start x puts.put puts.is).0.room
 need_of-fits s who call node whole puts = let never = puts.is in cc
 
-pub Acts-now : (s : State) (c : Begun) (node : ℕ) (whole : List ℕ) → InFlight s c node whole → ActsTwice s s c node
+pub Acts-now : (s : State) (c : Unfinished) (node : ℕ) (whole : List ℕ) → InFlight s c node whole → ActsTwice s s c node
 Acts-now s (who, call) node whole flight = Acts-twice s s who call node whole flight.file flight.puts flight.is (KeepsSeen-none s who node) flight.puts
 
 -- ---- what a call of others takes
@@ -146,7 +146,7 @@ is_known : (s : State) (who : Who) (h : Handle) (e : Description) (n k left : �
     → cond (is_none (opened s.tables who h)) 0 n + k ≤ left → n + k ≤ left
 is_known s who h e n k left is fits = subst (λ (o : Option Description). cond (is_none o) 0 n + k ≤ left) is fits
 
-pub FitsBeside-takes : (s : State) (d : Begun) (k : ℕ) → takes s d + k ≤ room s → FitsBeside s d k
+pub FitsBeside-takes : (s : State) (d : Unfinished) (k : ℕ) → takes s d + k ≤ room s → FitsBeside s d k
 unfolding truncate_rows
 FitsBeside-takes s (who, Call.Write h x) k fits = λ none.
     let is = granted (λ d. d.flags.write) (opened s.tables who h) (Accepts-from_rows s who h (write_start s who h) x none).may_write in
@@ -184,7 +184,7 @@ same_taken s who h c who2 h2 n m t aside same = elim (option_either (opened s.ta
       (λ i. cond (is_none (view.handle i)) 0 (same view i))
 ]
 
-pub takes-acted : (s : State) (who : Who) (h : Handle) (c : Change) (d : Begun) → Touches s who h c
+pub takes-acted : (s : State) (who : Who) (h : Handle) (c : Change) (d : Unfinished) → Touches s who h c
     → LeavesAlone s d c.node → takes (acted s c) d ≡ takes s d
 unfolding waits_for
 takes-acted s who h c (who2, Call.Write h2 x) t aside = same_taken s who h c who2 h2 _ _ t aside (λ view. need_of-kept s (acted s c) who2 (Call.Write h2 x) view)
@@ -213,7 +213,7 @@ same_path : (s : State) (who : Who) (h : Handle) (c : Change) (p : List (List �
     → path_node (acted s c) p ≡ path_node s p
 same_path s who h c p t = ap (λ sp. cond (too_long sp.longest p) None (node_at_path sp p)) (space-acted s who h c t)
 
-pub waits_for-acted : (s : State) (who : Who) (h : Handle) (c : Change) (d : Begun) → Touches s who h c
+pub waits_for-acted : (s : State) (who : Who) (h : Handle) (c : Change) (d : Unfinished) → Touches s who h c
     → LeavesAlone s d c.node → waits_for (acted s c) d ≡ waits_for s d
 unfolding waits_for
 waits_for-acted s who h c (who2, Call.Mkdir p) t aside = refl
@@ -236,11 +236,11 @@ waits_for-acted s who h c (who2, Call.List p) t aside = refl
 -- ---- a write in flight and a call of others
 
 -- after either order the state is the same, and the call gives the same outcome before and after the write
-pub record Commute (s : State) (c d : Begun) : Type 0 where
+pub record Commute (s : State) (c d : Unfinished) : Type 0 where
   pub states : after_call (after_call s c) d ≡ after_call (after_call s d) c
   pub outcome : (step (after_call s c) d.0 d.1).outcome ≡ (step s d.0 d.1).outcome
 
-pub Commute-call : (s : State) (c d : Begun) (node : ℕ) (whole : List ℕ) → InFlight s c node whole
+pub Commute-call : (s : State) (c d : Unfinished) (node : ℕ) (whole : List ℕ) → InFlight s c node whole
     → AreThreads c.0 d.0 → LeavesAlone s d node → takes s d + need_of s c.0 c.1 ≤ room s → Commute s c d
 Commute-call s (who, call) (who2, call2) node whole flight threads aside fits =
     let new : State = after_call s (who2, call2) in

@@ -15,7 +15,7 @@ use Rattle.posix_laws.specs.posix_tables.Open.{closed, is_open}
 use Rattle.posix_laws.specs.posix_tables.Outcomes.{first}
 use Rattle.posix_laws.specs.posix_tables.Room.{growth, held}
 use Rattle.posix_laws.specs.posix_spec.FileRows.{content, file_number, truncate_rows, write_rows, write_start}
-use Rattle.posix_laws.specs.posix_spec.Run.{after_call, Begun}
+use Rattle.posix_laws.specs.posix_spec.Run.{after_call, Unfinished}
 use Rattle.posix_laws.specs.posix_spec.State.{alone, made, room, space, State, swept, unnamed, with_file, with_node, with_published}
 use Rattle.posix_laws.specs.posix_spec.Step.{close_done, dup_done, empty_file, fsync_done, list_done, mkdir_done, open_done, opening, pread_done, pwrite_done, read_done, rename_done, renamed, rmdir_done, seek_done, stat_done, truncate_done, unlink_done, write_done, written}
 use Rattle.posix_laws.specs.FitsLaws.{length-overwritten, length-resized}
@@ -23,7 +23,7 @@ use Rattle.posix_laws.specs.RowLaws.{stepped-keeps}
 use Rattle.posix_laws.specs.Views.{need_of}
 
 -- If the call is accepted, what it takes fits beside so many blocks.
-abbrev pub FitsBeside : State → Begun → ℕ → Type 0
+abbrev pub FitsBeside : State → Unfinished → ℕ → Type 0
 FitsBeside s (who, Call.Write h x) k = first (write_rows s who h (write_start s who h) x) ≡ None → need_of s who (Call.Write h x) + k ≤ room s
 FitsBeside s (who, Call.Pwrite h start x) k = first (write_rows s who h start x) ≡ None → need_of s who (Call.Pwrite h start x) + k ≤ room s
 FitsBeside s (who, Call.Truncate h n) k = first (truncate_rows s who h n) ≡ None → growth (length (content s who h)) n + k ≤ room s
@@ -159,7 +159,7 @@ left : (s : State) (k : ℕ) (new : State) → k ≤ room s → Grows s new 0 �
 left s k new fits grows = room-Grows s new 0 k grows (omega (arith, fits))
 
 -- Whatever call is made: where it fits beside so many blocks, so many are left afterwards.
-pub room-step : (s : State) (c : Begun) (k : ℕ) → k ≤ room s → FitsBeside s c k → k ≤ room (after_call s c)
+pub room-step : (s : State) (c : Unfinished) (k : ℕ) → k ≤ room s → FitsBeside s c k → k ≤ room (after_call s c)
 unfolding dup_done read_done pread_done write_done pwrite_done seek_done fsync_done stat_done list_done
 room-step s (who, Call.Mkdir p) k fits beside = stepped-keeps (λ new. k ≤ room new) s _ _ fits (λ none. left s k _ fits (grows_mkdir s p))
 room-step s (who, Call.Rmdir p) k fits beside = stepped-keeps (λ new. k ≤ room new) s _ _ fits (λ none. left s k _ fits (grows_rmdir s p))

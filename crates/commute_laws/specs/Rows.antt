@@ -9,7 +9,7 @@ use Rattle.posix_laws.specs.posix_types.declared.handle.Handle.{Handle}
 use Rattle.posix_laws.specs.posix_tables.Open.{binding_of, key_of, opened, with_binding, with_descriptor, with_opened}
 use Rattle.posix_laws.specs.posix_spec.FileRows.{write_rows}
 use Rattle.posix_laws.specs.posix_spec.Put.{put_by}
-use Rattle.posix_laws.specs.posix_spec.Run.{after_call, after_calls, Begun}
+use Rattle.posix_laws.specs.posix_spec.Run.{after_call, after_calls, Unfinished}
 use Rattle.posix_laws.specs.posix_spec.State.{made, State}
 use Rattle.posix_laws.specs.posix_spec.Step.{open_done, opening}
 use Rattle.crash_spec.specs.Busy.{waits_for}
@@ -19,7 +19,7 @@ use Rattle.posix_laws.specs.posix_spec.Tree.{bare, default_shape}
 use Rattle.posix_laws.specs.posix_tables.NameRows.{open_rows}
 use Rattle.posix_laws.specs.posix_tables.Names.{node_at_path, walk, with_entry}
 use Rattle.posix_laws.specs.Views.{AreAfforded}
-use Rattle.commute_laws.specs.Needs.{AreInFlight, begun_of, Flight, LetsAllBe}
+use Rattle.commute_laws.specs.Needs.{AreInFlight, unfinished_call, Flight, LetsAllBe}
 use Rattle.commute_laws.specs.Orders.{AreTwoEach, StrictFrom-last}
 
 -- a file each, opened by two threads in strict mode
@@ -29,7 +29,7 @@ handle = record { len = 1; bytes = 104 ∷ 0 ∷ 0 ∷ 0 ∷ 0 ∷ 0 ∷ 0 ∷ 0
 abbrev flags : Flags
 flags = record { read = true; write = true; append = false; create = true; exclusive = false; truncate = false }
 
-abbrev opens : ℕ → Begun
+abbrev opens : ℕ → Unfinished
 opens n = (Who.Thread n, Call.Open handle (((97 + n) ∷ []) ∷ []) flags)
 
 abbrev opened_both : State
@@ -50,13 +50,13 @@ both-InFlight = (
 pub both-AreTwoEach : AreTwoEach (writes 0 ∷ writes 1 ∷ [])
 both-AreTwoEach = ((record { threads = record { other = refl; thread = refl; own = refl }; files = λ same. absurd (omega (arith, same)) }, tt), (tt, tt))
 
-pub both-AreAfforded : AreAfforded opened_both (map begun_of (writes 0 ∷ writes 1 ∷ []))
+pub both-AreAfforded : AreAfforded opened_both (map unfinished_call (writes 0 ∷ writes 1 ∷ []))
 unfolding opened key_of binding_of with_binding with_descriptor with_opened open_done opening made open_rows walk node_at_path with_entry
 both-AreAfforded = lit≤ tt
 
 -- a directory that a third thread makes meanwhile takes no block and lets the files be, so the three may be left in any of
 -- the ways that the order of their beginning allows
-abbrev third : Begun
+abbrev third : Unfinished
 third = (Who.Thread 2, Call.Mkdir ((100 ∷ []) ∷ []))
 
 pub third-LetsAllBe : LetsAllBe opened_both third (writes 0 ∷ writes 1 ∷ [])
@@ -67,6 +67,6 @@ third-LetsAllBe = (
 )
 
 pub third-stands_last : (left : List TreeEntry)
-    → StrictFrom (after_call opened_both third) (map begun_of (writes 0 ∷ writes 1 ∷ [])) left
-    → StrictFrom opened_both (map begun_of (writes 0 ∷ writes 1 ∷ []) ++ third ∷ []) left
+    → StrictFrom (after_call opened_both third) (map unfinished_call (writes 0 ∷ writes 1 ∷ [])) left
+    → StrictFrom opened_both (map unfinished_call (writes 0 ∷ writes 1 ∷ []) ++ third ∷ []) left
 third-stands_last left strict = StrictFrom-last opened_both third (writes 0 ∷ writes 1 ∷ []) left both-InFlight both-AreTwoEach third-LetsAllBe (omega (arith, both-AreAfforded)) strict

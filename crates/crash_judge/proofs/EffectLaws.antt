@@ -6,7 +6,7 @@ use Rattle.std.proofs.lemmas.List.{get_or_past, take_more}
 use Rattle.posix_tables.specs.declared.nodes.Node.{Node}
 use Rattle.posix_tables.specs.Nodes.{bytes_of, node_at}
 use Rattle.crash_spec.specs.posix_spec.Put.{Put, put_by}
-use Rattle.crash_spec.specs.posix_spec.Run.{after_call, after_calls, Begun}
+use Rattle.crash_spec.specs.posix_spec.Run.{after_call, after_calls, Unfinished}
 use Rattle.crash_spec.specs.posix_spec.State.{State}
 use Rattle.crash_spec.specs.Posix.{IsLastOrAny, OrUnfinished, Overwritten}
 use Rattle.crash_spec.specs.Values.{ends_before, is_shortened, IsOneOf, last_of, shortens, value_of, value_put, values_put, with_value}
@@ -48,7 +48,7 @@ cuts_are before after cuts are n i = by (slice_get cuts n) refl where
       sym (no_byte before n i (ends_before (node_at after n) i) past)
   by (Some cut) is = ap (λ (c : Cut). in_cut (Some c) i) (are.each n cut is) ∙ cut_node (node_at before n) (node_at after n) i
 
-pub effect_is : (s next : State) (c : Begun) (e : Effect) (before after : List Node) → next ≡ after_call s c → e.put ≡ put_by s c.0 c.1 → before ≡ s.nodes → after ≡ next.nodes
+pub effect_is : (s next : State) (c : Unfinished) (e : Effect) (before after : List Node) → next ≡ after_call s c → e.put ≡ put_by s c.0 c.1 → before ≡ s.nodes → after ≡ next.nodes
     → AreCuts before after e.cuts.items → IsEffect s c e
 effect_is s next c e before after next_is put old new are = record { put = put; cuts = cuts } where
   nodes_are : AreCuts s.nodes (after_call s c).nodes e.cuts.items
@@ -59,11 +59,11 @@ effect_is s next c e before after next_is put old new are = record { put = put; 
 
 -- ---- lists of effects
 
-after_calls-push : (s : State) (calls : List Begun) (c : Begun) → after_calls s (calls ++ c ∷ []) ≡ after_call (after_calls s calls) c
+after_calls-push : (s : State) (calls : List Unfinished) (c : Unfinished) → after_calls s (calls ++ c ∷ []) ≡ after_call (after_calls s calls) c
 after_calls-push s [] c = refl
 after_calls-push s (d ∷ calls) c = after_calls-push (after_call s d) calls c
 
-pub AreEffects-push : (s : State) (calls : List Begun) (effects : List Effect) (c : Begun) (e : Effect) → AreEffects s calls effects → IsEffect (after_calls s calls) c e
+pub AreEffects-push : (s : State) (calls : List Unfinished) (effects : List Effect) (c : Unfinished) (e : Effect) → AreEffects s calls effects → IsEffect (after_calls s calls) c e
     → AreEffects s (calls ++ c ∷ []) (effects ++ e ∷ [])
 AreEffects-push s [] [] c e are is = (is, tt)
 AreEffects-push s [] (f ∷ effects) c e are is = absurd are
@@ -71,30 +71,30 @@ AreEffects-push s (d ∷ calls) [] c e are is = absurd are
 AreEffects-push s (d ∷ calls) (f ∷ effects) c e are is = (are.0, AreEffects-push (after_call s d) calls effects c e are.1 is)
 
 -- one more call of a list, with its effect
-pub effects_more : (s at next : State) (calls : List Begun) (i : ℕ) (c : Begun) (effects new : List Effect) (e : Effect) → i < length calls → c ≡ get_or calls i c
+pub effects_more : (s at next : State) (calls : List Unfinished) (i : ℕ) (c : Unfinished) (effects new : List Effect) (e : Effect) → i < length calls → c ≡ get_or calls i c
     → AreEffects s (take i calls) effects → at ≡ after_calls s (take i calls) → next ≡ after_call at c → IsEffect at c e → new ≡ effects ++ e ∷ []
     → AreEffects s (take (i + 1) calls) new × (next ≡ after_calls s (take (i + 1) calls))
 effects_more s at next calls i c effects new e below is are at_is next_is effect new_is =
-    let longer : take (i + 1) calls ≡ take i calls ++ c ∷ [] = take_more calls i c below ∙ ap (λ (d : Begun). take i calls ++ d ∷ []) (sym is) in
+    let longer : take (i + 1) calls ≡ take i calls ++ c ∷ [] = take_more calls i c below ∙ ap (λ (d : Unfinished). take i calls ++ d ∷ []) (sym is) in
     let here : IsEffect (after_calls s (take i calls)) c e = subst (λ (m : State). IsEffect m c e) at_is effect in
     let pushed = AreEffects-push s (take i calls) effects c e are here in (
-      subst (λ (xs : List Begun). AreEffects s xs new) (sym longer) (subst (λ (es : List Effect). AreEffects s (take i calls ++ c ∷ []) es) (sym new_is) pushed),
-      next_is ∙ ap (λ (m : State). after_call m c) at_is ∙ sym (after_calls-push s (take i calls) c) ∙ ap (λ (xs : List Begun). after_calls s xs) (sym longer),
+      subst (λ (xs : List Unfinished). AreEffects s xs new) (sym longer) (subst (λ (es : List Effect). AreEffects s (take i calls ++ c ∷ []) es) (sym new_is) pushed),
+      next_is ∙ ap (λ (m : State). after_call m c) at_is ∙ sym (after_calls-push s (take i calls) c) ∙ ap (λ (xs : List Unfinished). after_calls s xs) (sym longer),
     )
 
 -- a call shortens a file exactly where its effect does
-cut_same : (s : State) (calls : List Begun) (effects : List Effect) (n i : ℕ) → AreEffects s calls effects → any_cuts effects n i ≡ is_shortened s calls n i
+cut_same : (s : State) (calls : List Unfinished) (effects : List Effect) (n i : ℕ) → AreEffects s calls effects → any_cuts effects n i ≡ is_shortened s calls n i
 unfolding is_shortened
 cut_same s [] [] n i are = refl
 cut_same s [] (e ∷ effects) n i are = absurd are
 cut_same s (c ∷ calls) [] n i are = absurd are
 cut_same s (c ∷ calls) (e ∷ effects) n i are = λ k. are.0.cuts n i k || cut_same (after_call s c) calls effects n i are.1 k
 
-value_same : (s : State) (c : Begun) (e : Effect) (n i : ℕ) → IsEffect s c e → value_of e.put n i ≡ value_put s c n i
+value_same : (s : State) (c : Unfinished) (e : Effect) (n i : ℕ) → IsEffect s c e → value_of e.put n i ≡ value_put s c n i
 value_same s c e n i is = ap (λ (o : Option Put). value_of o n i) is.put
 
 -- the last value is that of the effects
-newest_same : (s : State) (calls : List Begun) (effects : List Effect) (n i v : ℕ) → AreEffects s calls effects → newest effects n i v ≡ last_of v (values_put s calls n i)
+newest_same : (s : State) (calls : List Unfinished) (effects : List Effect) (n i v : ℕ) → AreEffects s calls effects → newest effects n i v ≡ last_of v (values_put s calls n i)
 unfolding values_put
 newest_same s [] [] n i v are = refl
 newest_same s [] (e ∷ effects) n i v are = absurd are
@@ -115,7 +115,7 @@ number_same : (a b : ℕ) → b ≡ a → (a == b) ≡ true
 number_same a b is = grind (arith, nat_tests)
 
 -- a value is put exactly where an effect puts it
-put_is_one : (s : State) (calls : List Begun) (effects : List Effect) (n i x : ℕ) → AreEffects s calls effects → any_puts effects n i x ≡ true → IsOneOf (values_put s calls n i) x
+put_is_one : (s : State) (calls : List Unfinished) (effects : List Effect) (n i x : ℕ) → AreEffects s calls effects → any_puts effects n i x ≡ true → IsOneOf (values_put s calls n i) x
 unfolding values_put
 put_is_one s [] [] n i x are is = cc
 put_is_one s [] (e ∷ effects) n i x are is = absurd are
@@ -132,7 +132,7 @@ put_is_one s (c ∷ calls) (e ∷ effects) n i x are is =
       either true same rest' is'' = inl (same_number y x same)
       either false other rest' is'' = inr (rest' is'')
 
-one_is_put : (s : State) (calls : List Begun) (effects : List Effect) (n i x : ℕ) → AreEffects s calls effects → IsOneOf (values_put s calls n i) x → any_puts effects n i x ≡ true
+one_is_put : (s : State) (calls : List Unfinished) (effects : List Effect) (n i x : ℕ) → AreEffects s calls effects → IsOneOf (values_put s calls n i) x → any_puts effects n i x ≡ true
 unfolding values_put
 one_is_put s [] [] n i x are is = absurd is
 one_is_put s [] (e ∷ effects) n i x are is = absurd are
@@ -174,13 +174,13 @@ here_rule true v x put values one (inr behind) = ap (λ p. (v == x) || p) (one b
   last false = refl
 here_rule false v x put values one is = number_same (last_of v values) x is
 
-both_same : (effects : List Effect) (s : State) (calls : List Begun) (n i v x : ℕ) → AreEffects s calls effects
+both_same : (effects : List Effect) (s : State) (calls : List Unfinished) (n i v x : ℕ) → AreEffects s calls effects
     → here_may_be (any_cuts effects n i) v x (any_puts effects n i x) (newest effects n i v)
     ≡ here_may_be (is_shortened s calls n i) v x (any_puts effects n i x) (last_of v (values_put s calls n i))
 both_same effects s calls n i v x are = λ k. here_may_be (cut_same s calls effects n i are k) v x (any_puts effects n i x) (newest_same s calls effects n i v are k)
 
 -- by the effects the same may be found as by the calls
-pub effect_rule : (s u : State) (calls unfinished : List Begun) (effects extra : List Effect) → AreEffects s calls effects → AreEffects u unfinished extra → (n i v x : ℕ)
+pub effect_rule : (s u : State) (calls unfinished : List Unfinished) (effects extra : List Effect) → AreEffects s calls effects → AreEffects u unfinished extra → (n i v x : ℕ)
     → EffectRule effects extra n i v x → OrUnfinished (Overwritten s calls) u unfinished n i v x
 effect_rule s u calls unfinished effects extra are others n i v x is =
     by (here_may_be (any_cuts effects n i) v x (any_puts effects n i x) (newest effects n i v)) refl is
@@ -191,7 +191,7 @@ effect_rule s u calls unfinished effects extra are others n i v x is =
         (sym (both_same effects s calls n i v x are) ∙ here))
     by false here is' = inr (put_is_one u unfinished extra n i x others is')
 
-pub rule_effect : (s u : State) (calls unfinished : List Begun) (effects extra : List Effect) → AreEffects s calls effects → AreEffects u unfinished extra → (n i v x : ℕ)
+pub rule_effect : (s u : State) (calls unfinished : List Unfinished) (effects extra : List Effect) → AreEffects s calls effects → AreEffects u unfinished extra → (n i v x : ℕ)
     → OrUnfinished (Overwritten s calls) u unfinished n i v x → EffectRule effects extra n i v x
 rule_effect s u calls unfinished effects extra are others n i v x (inl by_rule) =
     ap (λ b. b || any_puts extra n i x)

@@ -17,7 +17,8 @@ use Rattle.posix_laws.specs.posix_types.declared.reply.What.{What}
 use Rattle.posix_tables.specs.declared.nodes.DirEntry.{DirEntry}
 use Rattle.posix_tables.specs.declared.nodes.File.{File}
 use Rattle.posix_tables.specs.declared.nodes.Node.{Node}
-use Rattle.posix_tables.specs.Bytes.{longest_file, longest_write, moved_place, overwritten, resized}
+use Rattle.posix_tables.specs.block_counts.declared.TheConstants.{LONGEST_FILE, LONGEST_WRITE}
+use Rattle.posix_tables.specs.Bytes.{moved_place, overwritten, resized}
 use Rattle.posix_tables.specs.NameRows.{list_rows, mkdir_rows, open_rows, rename_rows, rmdir_rows, stat_rows, unlink_rows}
 use Rattle.posix_tables.specs.Names.{directory_stands, exists_at, file_stands, is_named, last_name, lines_taken, longest_name, number_at, parent_at, with_entry, without_entry}
 use Rattle.posix_tables.specs.Nodes.{bytes_of, is_directory, is_live, node_at, published_node, published_of}
@@ -26,7 +27,7 @@ use Rattle.posix_tables.specs.Outcomes.{first, idle_row, row, space_row, unless}
 use Rattle.posix_tables.specs.Room.{growth, held, write_need}
 use Rattle.posix_laws.specs.posix_spec.FileRows.{appends, content, dup_rows, file_number, offset_of, seek_base, seek_rows, seek_target, truncate_rows, unknown_row, write_rows, write_start}
 use Rattle.posix_laws.specs.posix_spec.Put.{put_by, put_unless}
-use Rattle.posix_laws.specs.posix_spec.Run.{after_call, Begun}
+use Rattle.posix_laws.specs.posix_spec.Run.{after_call, Unfinished}
 use Rattle.posix_laws.specs.posix_spec.State.{alone, made, room, space, State, swept, unnamed, with_file, with_node, with_published}
 use Rattle.posix_laws.specs.posix_spec.Step.{close_done, dup_done, empty_file, fsync_done, list_done, mkdir_done, moved_offset, open_done, opening, opening_number, pread_done, pwrite_done, read_done, rename_done, renamed, rmdir_done, seek_done, stat_done, step, stepped, Stepped, truncate_done, unlink_done, write_done, written}
 use Rattle.posix_laws.proofs.ByteLaws.{index-overwritten, index-resized, length-bytes_from, length-overwritten, length-resized, written_at}
@@ -343,9 +344,9 @@ write_rows_same R same t gs who h start start2 x go begins =
     let size = (content_goes R same t gs who h go).size in
     let left = room_same R same t gs go in
     λ i. (let need : ℕ = write_need t.mode (size i) (begins i) (begins i + length x) in first (row (not (may_write t.tables who h)) Errno.EBADF
-    ∷ row (nat_lt longest_write (length x)) Errno.EINVAL
+    ∷ row (nat_lt LONGEST_WRITE (length x)) Errno.EINVAL
     ∷ idle_row (length x == 0) (Reply.Count 0)
-    ∷ row (nat_lt longest_file (begins i + length x)) Errno.EFBIG
+    ∷ row (nat_lt LONGEST_FILE (begins i + length x)) Errno.EFBIG
     ∷ space_row (nat_lt (left i) need) What.Blocks need (left i)
     ∷ []))
 
@@ -435,7 +436,7 @@ step_goes R same t gs who (Call.Truncate h n) go =
     let size = (content_goes R same t gs who h go).size in
     let left = room_same R same t gs go in
     stepped_like R t gs _ _ _ _ go
-    (λ i. (let need : ℕ = growth (size i) n in first (row (not (may_write t.tables who h)) Errno.EBADF ∷ row (nat_lt longest_file n) Errno.EFBIG ∷ unless (nat_le n (size i)) (space_row (nat_lt (left i) need) What.Blocks need (left i)) ∷ [])))
+    (λ i. (let need : ℕ = growth (size i) n in first (row (not (may_write t.tables who h)) Errno.EBADF ∷ row (nat_lt LONGEST_FILE n) Errno.EFBIG ∷ unless (nat_le n (size i)) (space_row (nat_lt (left i) need) What.Blocks need (left i)) ∷ [])))
     (Like-file R (with_nodes t gs) t (file_number t.tables who h) _ _ n n refl (BytesGo-resized R same (file_number t.tables who h) _ _ n (content_goes R same t gs who h go)) (like R t gs go))
 step_goes R same t gs who (Call.Fsync h) go = stepped_like R t gs _ _ _ _ go refl (Like-published R (with_nodes t gs) t (file_number t.tables who h) (like R t gs go))
 step_goes R same t gs who (Call.Stat p) go = stepped_like R t gs _ _ _ _ go (ap (λ sp. first (stat_rows sp p)) (space_same R t gs go)) (like R t gs go)
@@ -446,7 +447,7 @@ step_goes R same t gs who (Call.List p) go = stepped_like R t gs _ _ _ _ go (ap 
 reshaped : (R : ByteWise) (g t : State) → Like R g t → with_nodes t g.nodes ≡ g
 reshaped R g t likes = λ i. record { nodes = g.nodes; entries = sym likes.entries i; tables = sym likes.tables i; shape = sym likes.shape i; mode = sym likes.mode i }
 
-pub Like-call : (R : ByteWise) → MayBeSame R → (g t : State) (c : Begun) → Like R g t → Like R (after_call g c) (after_call t c)
+pub Like-call : (R : ByteWise) → MayBeSame R → (g t : State) (c : Unfinished) → Like R g t → Like R (after_call g c) (after_call t c)
 Like-call R same g t c likes = subst (λ (s : State). Like R (after_call s c) (after_call t c)) (reshaped R g t likes) (step_goes R same t g.nodes c.0 c.1 likes.nodes)
 
 pub put_by-like : (R : ByteWise) → MayBeSame R → (g t : State) (who : Who) (call : Call) → Like R g t → put_by g who call ≡ put_by t who call

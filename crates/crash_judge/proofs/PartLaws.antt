@@ -15,7 +15,7 @@ use Rattle.posix_tables.specs.declared.places.Place.{Place}
 use Rattle.posix_tables.specs.Nodes.{bytes_of, node_at, published_of}
 use Rattle.posix_tables.specs.Places.{places, tree_entry, tree_node}
 use Rattle.posix_laws.specs.posix_spec.Put.{Put, put_by}
-use Rattle.posix_laws.specs.posix_spec.Run.{after_call, after_calls, Begun, run}
+use Rattle.posix_laws.specs.posix_spec.Run.{after_call, after_calls, Unfinished, run}
 use Rattle.posix_laws.specs.posix_spec.State.{State, with_file}
 use Rattle.posix_laws.specs.posix_spec.Tree.{tree}
 use Rattle.posix_laws.specs.PutLaws.{LeavesWhole-put}
@@ -54,7 +54,7 @@ IsPartOf-picked old whole want = record { size = picked_size old whole want; eac
   each i below = by i _ refl (slice_index (picked old whole want) i) (picked_at old whole want i (let size = picked_size old whole want in omega (arith, size, below)))
 
 -- so what acts towards a tree acts
-toward_acts : (want : ℕ → List ℕ) (s : State) (c : Begun) (calls : List Begun) (P : State → Type 0) → PartsThen (toward want s c) calls P → PartsThen s (c ∷ calls) P
+toward_acts : (want : ℕ → List ℕ) (s : State) (c : Unfinished) (calls : List Unfinished) (P : State → Type 0) → PartsThen (toward want s c) calls P → PartsThen s (c ∷ calls) P
 toward_acts want s c calls P = by (put_by s c.0 c.1) refl where
   by : (o : Option Put) → put_by s c.0 c.1 ≡ o → PartsThen (put_toward want s (after_call s c) o) calls P → PartsThen s (c ∷ calls) P
   by None is then = inl then
@@ -70,7 +70,7 @@ toward_acts want s c calls P = by (put_by s c.0 c.1) refl where
     then,
   )
 
-pub toward_leads : (want : ℕ → List ℕ) (calls : List Begun) (s : State) (left : List TreeEntry) → left ≡ tree (all_toward want s calls) → LeadTo s calls left
+pub toward_leads : (want : ℕ → List ℕ) (calls : List Unfinished) (s : State) (left : List TreeEntry) → left ≡ tree (all_toward want s calls) → LeadTo s calls left
 toward_leads want [] s left is = is
 toward_leads want (c ∷ calls) s left is = toward_acts want s c calls (λ t. left ≡ tree t) (toward_leads want calls (toward want s c) left is)
 
@@ -91,7 +91,7 @@ file_is nodes n w is = by (split n (length nodes)) where
   by : (n < length nodes) ⊎ (length nodes ≤ n) → slice_set nodes n (Node.File f) ≡ nodes
   by either = ap (λ (x : Node). slice_set nodes n x) (here either) ∙ set-get_or nodes n (Node.File f)
 
-after_put : (s : State) (c : Begun) (put : Put) → put_by s c.0 c.1 ≡ Some put → with_bytes (after_call s c) put.node (file_bytes (after_call s c) put.node) ≡ after_call s c
+after_put : (s : State) (c : Unfinished) (put : Put) → put_by s c.0 c.1 ≡ Some put → with_bytes (after_call s c) put.node (file_bytes (after_call s c) put.node) ≡ after_call s c
 unfolding with_file
 after_put s c put is =
     let leaves = LeavesWhole-put s c.0 c.1 put is in
@@ -103,7 +103,7 @@ after_put s c put is =
     ∙ get_or-set_same s.nodes n (Node.File w) Node.Gone (let size = length-set s.nodes n (Node.File w) in let same = ap (λ (ns : List Node). length ns) leaves.nodes in omega (arith, size, same, below)) in
     λ i. record new { nodes = file_is new.nodes n w there i }
 
-whole_in_part : (s : State) (c : Begun) (put : Put) → put_by s c.0 c.1 ≡ Some put → ActsInPart s c (after_call s c)
+whole_in_part : (s : State) (c : Unfinished) (put : Put) → put_by s c.0 c.1 ≡ Some put → ActsInPart s c (after_call s c)
 whole_in_part s c put is = record {
   put = put;
   bytes = file_bytes (after_call s c) put.node;
@@ -162,7 +162,7 @@ picked_goes want n old_g whole_g old_t whole_t bytes old whole part = record { s
   at i (inr past) is = get_or_past (picked old_g whole_g (want n)) i 0 (let s = size in omega (arith, s, past)) ∙ sym (get_or_past bytes i 0 past) ∙ is
 
 -- what acts towards the wanted goes with what acts in part
-part_like : (want : ℕ → List ℕ) (g t next : State) (c : Begun) → Like (Toward want) g t → ActsInPart t c next → Like (Toward want) (toward want g c) next
+part_like : (want : ℕ → List ℕ) (g t next : State) (c : Unfinished) → Like (Toward want) g t → ActsInPart t c next → Like (Toward want) (toward want g c) next
 part_like want g t next c likes acts =
     let R = Toward want in
     let same = toward_same want in
@@ -177,7 +177,7 @@ part_like want g t next c likes acts =
     (picked_goes want n (file_bytes g n) (file_bytes new n) (file_bytes t n) (file_bytes (after_call t c) n) acts.bytes old_bytes new_bytes acts.part) both in
     subst (λ (o : Option Put). Like R (put_toward want g new o) next) (sym put) (subst (λ (m : State). Like R (put_toward want g new (Some acts.put)) m) (sym acts.next_is) here)
 
-whole_like : (want : ℕ → List ℕ) (g t : State) (c : Begun) → Like (Toward want) g t → Like (Toward want) (toward want g c) (after_call t c)
+whole_like : (want : ℕ → List ℕ) (g t : State) (c : Unfinished) → Like (Toward want) g t → Like (Toward want) (toward want g c) (after_call t c)
 whole_like want g t c likes = by (put_by t c.0 c.1) refl where
   by : (o : Option Put) → put_by t c.0 c.1 ≡ o → Like (Toward want) (toward want g c) (after_call t c)
   by None is =
@@ -186,7 +186,7 @@ whole_like want g t c likes = by (put_by t c.0 c.1) refl where
   by (Some put) is = part_like want g t (after_call t c) c likes (whole_in_part t c put is)
 
 -- and what acts whole goes with it, but for the bytes
-any_part : (w t next : State) (c : Begun) → Like Any w t → ActsInPart t c next → Like Any (after_call w c) next
+any_part : (w t next : State) (c : Unfinished) → Like Any w t → ActsInPart t c next → Like Any (after_call w c) next
 any_part w t next c likes acts =
     let n = acts.put.node in
     let both = Like-call Any any_same w t c likes in
@@ -205,7 +205,7 @@ pub record Led (want : ℕ → List ℕ) (g w : State) (left : List TreeEntry) :
   pub beside_it : Like Any w end
   pub tree_is : left ≡ tree end
 
-led : (want : ℕ → List ℕ) (calls : List Begun) (g w t : State) (left : List TreeEntry) → Like (Toward want) g t → Like Any w t → LeadTo t calls left → Led want (all_toward want g calls) (after_calls w calls) left
+led : (want : ℕ → List ℕ) (calls : List Unfinished) (g w t : State) (left : List TreeEntry) → Like (Toward want) g t → Like Any w t → LeadTo t calls left → Led want (all_toward want g calls) (after_calls w calls) left
 led want [] g w t left towards beside is = record { end = t; toward_it = towards; beside_it = beside; tree_is = is }
 led want (c ∷ calls) g w t left towards beside (inl whole) =
     led want calls (toward want g c) (after_call w c) (after_call t c) left (whole_like want g t c towards) (Like-call Any any_same w t c beside) whole
@@ -252,7 +252,7 @@ end_tree g t numbers left numbers_are is likes =
     each = Each-map (IsWanted count t.nodes numbers left) (λ place. tree_entry t.nodes place ≡ tree_entry g.nodes place) (places t.entries) at wants
 
 -- calls lead to a tree exactly where what acts towards it does
-pub LeadTo-toward : (s : State) (calls : List Begun) (numbers : List ℕ) (left : List TreeEntry) → (let w : State = after_calls s calls in numbers ≡ numbers_of (length w.nodes) w.entries)
+pub LeadTo-toward : (s : State) (calls : List Unfinished) (numbers : List ℕ) (left : List TreeEntry) → (let w : State = after_calls s calls in numbers ≡ numbers_of (length w.nodes) w.entries)
     → (left ≡ tree (all_toward (wanted numbers left) s calls)) ↔ LeadTo s calls left
 LeadTo-toward s calls numbers left numbers_are = (toward_leads (wanted numbers left) calls s left, back) where
   alike : (R : ByteWise) → MayBeSame R → Like R s s
@@ -266,37 +266,37 @@ LeadTo-toward s calls numbers left numbers_are = (toward_leads (wanted numbers l
 
 -- ---- the sync relation
 
-parts_map : (calls : List Begun) (s : State) (P Q : State → Type 0) → ((t : State) → P t → Q t) → PartsThen s calls P → PartsThen s calls Q
+parts_map : (calls : List Unfinished) (s : State) (P Q : State → Type 0) → ((t : State) → P t → Q t) → PartsThen s calls P → PartsThen s calls Q
 parts_map [] s P Q implies is = implies s is
 parts_map (c ∷ calls) s P Q implies (inl whole) = inl (parts_map calls (after_call s c) P Q implies whole)
 parts_map (c ∷ calls) s P Q implies (inr (next, acts, rest)) = inr (next, acts, parts_map calls next P Q implies rest)
 
-parts_more : (calls : List Begun) (s : State) (c : Begun) (P : State → Type 0) → PartsThen s (calls ++ c ∷ []) P → PartsThen s calls (λ t. PartsThen t (c ∷ []) P)
+parts_more : (calls : List Unfinished) (s : State) (c : Unfinished) (P : State → Type 0) → PartsThen s (calls ++ c ∷ []) P → PartsThen s calls (λ t. PartsThen t (c ∷ []) P)
 parts_more [] s c P is = is
 parts_more (d ∷ calls) s c P (inl whole) = inl (parts_more calls (after_call s d) c P whole)
 parts_more (d ∷ calls) s c P (inr (next, acts, rest)) = inr (next, acts, parts_more calls next c P rest)
 
-parts_joined : (calls : List Begun) (s : State) (c : Begun) (P : State → Type 0) → PartsThen s calls (λ t. PartsThen t (c ∷ []) P) → PartsThen s (calls ++ c ∷ []) P
+parts_joined : (calls : List Unfinished) (s : State) (c : Unfinished) (P : State → Type 0) → PartsThen s calls (λ t. PartsThen t (c ∷ []) P) → PartsThen s (calls ++ c ∷ []) P
 parts_joined [] s c P is = is
 parts_joined (d ∷ calls) s c P (inl whole) = inl (parts_joined calls (after_call s d) c P whole)
 parts_joined (d ∷ calls) s c P (inr (next, acts, rest)) = inr (next, acts, parts_joined calls next c P rest)
 
-parts_either : (calls : List Begun) (s : State) (P Q : State → Type 0) → PartsThen s calls (λ t. P t ⊎ Q t) → PartsThen s calls P ⊎ PartsThen s calls Q
+parts_either : (calls : List Unfinished) (s : State) (P Q : State → Type 0) → PartsThen s calls (λ t. P t ⊎ Q t) → PartsThen s calls P ⊎ PartsThen s calls Q
 parts_either [] s P Q is = is
 parts_either (c ∷ calls) s P Q (inl whole) = elim (parts_either calls (after_call s c) P Q whole) [ inl p ↦ inl (inl p) | inr q ↦ inr (inl q) ]
 parts_either (c ∷ calls) s P Q (inr (next, acts, rest)) = elim (parts_either calls next P Q rest) [ inl p ↦ inl (inr (next, acts, p)) | inr q ↦ inr (inr (next, acts, q)) ]
 
-one_then : (t : State) (c : Begun) (unfinished : List Begun) (left : List TreeEntry) → PartsThen t (c ∷ []) (λ u. SyncFrom u unfinished left) → SyncFrom t (c ∷ unfinished) left
+one_then : (t : State) (c : Unfinished) (unfinished : List Unfinished) (left : List TreeEntry) → PartsThen t (c ∷ []) (λ u. SyncFrom u unfinished left) → SyncFrom t (c ∷ unfinished) left
 one_then t c unfinished left (inl whole) = inl whole
 one_then t c unfinished left (inr part) = inr (inl part)
 
-then_one : (t : State) (c : Begun) (unfinished : List Begun) (left : List TreeEntry) → SyncFrom t (c ∷ unfinished) left
+then_one : (t : State) (c : Unfinished) (unfinished : List Unfinished) (left : List TreeEntry) → SyncFrom t (c ∷ unfinished) left
     → PartsThen t (c ∷ []) (λ u. SyncFrom u unfinished left) ⊎ SyncFrom t unfinished left
 then_one t c unfinished left (inl whole) = inl (inl whole)
 then_one t c unfinished left (inr (inl part)) = inl (inr part)
 then_one t c unfinished left (inr (inr idle)) = inr idle
 
-some_sync : (unfinished : List Begun) (s : State) (chosen : List Begun) (left : List TreeEntry) → SomeLead s chosen unfinished left → PartsThen s chosen (λ t. SyncFrom t unfinished left)
+some_sync : (unfinished : List Unfinished) (s : State) (chosen : List Unfinished) (left : List TreeEntry) → SomeLead s chosen unfinished left → PartsThen s chosen (λ t. SyncFrom t unfinished left)
 some_sync [] s chosen left is = is
 some_sync (c ∷ unfinished) s chosen left (inl acts) =
     parts_map chosen s (λ t. PartsThen t (c ∷ []) (λ u. SyncFrom u unfinished left)) (λ t. SyncFrom t (c ∷ unfinished) left) (λ t. one_then t c unfinished left)
@@ -304,7 +304,7 @@ some_sync (c ∷ unfinished) s chosen left (inl acts) =
 some_sync (c ∷ unfinished) s chosen left (inr idle) =
     parts_map chosen s (λ t. SyncFrom t unfinished left) (λ t. SyncFrom t (c ∷ unfinished) left) (λ t x. inr (inr x)) (some_sync unfinished s chosen left idle)
 
-sync_some : (unfinished : List Begun) (s : State) (chosen : List Begun) (left : List TreeEntry) → PartsThen s chosen (λ t. SyncFrom t unfinished left) → SomeLead s chosen unfinished left
+sync_some : (unfinished : List Unfinished) (s : State) (chosen : List Unfinished) (left : List TreeEntry) → PartsThen s chosen (λ t. SyncFrom t unfinished left) → SomeLead s chosen unfinished left
 sync_some [] s chosen left is = is
 sync_some (c ∷ unfinished) s chosen left is = by (parts_either chosen s (λ t. PartsThen t (c ∷ []) (λ u. SyncFrom u unfinished left)) (λ t. SyncFrom t unfinished left)
     (parts_map chosen s (λ t. SyncFrom t (c ∷ unfinished) left) (λ t. PartsThen t (c ∷ []) (λ u. SyncFrom u unfinished left) ⊎ SyncFrom t unfinished left) (λ t. then_one t c unfinished left) is))
@@ -317,18 +317,18 @@ sync_some (c ∷ unfinished) s chosen left is = by (parts_either chosen s (λ t.
     by (inl acts) acting idling = inl (acting (parts_joined chosen s c (λ u. SyncFrom u unfinished left) acts))
     by (inr idle) acting idling = inr (idling idle)
 
-pub SyncFrom-some : (s : State) (unfinished : List Begun) (left : List TreeEntry) → SomeLead s [] unfinished left ↔ SyncFrom s unfinished left
+pub SyncFrom-some : (s : State) (unfinished : List Unfinished) (left : List TreeEntry) → SomeLead s [] unfinished left ↔ SyncFrom s unfinished left
 SyncFrom-some s unfinished left = (some_sync unfinished s [] left, sync_some unfinished s [] left)
 
 -- ---- what the functions decide
 
-pub lead_decided : (s : State) (calls : List Begun) (numbers : List ℕ) (left : List TreeEntry) (end : State) (b : Bool) → (let w : State = after_calls s calls in numbers ≡ numbers_of (length w.nodes) w.entries)
+pub lead_decided : (s : State) (calls : List Unfinished) (numbers : List ℕ) (left : List TreeEntry) (end : State) (b : Bool) → (let w : State = after_calls s calls in numbers ≡ numbers_of (length w.nodes) w.entries)
     → end ≡ all_toward (wanted numbers left) s calls → (IsTrue b ↔ (left ≡ tree end)) → IsTrue b ↔ LeadTo s calls left
 lead_decided s calls numbers left end b numbers_are end_is is =
     let same = LeadTo-toward s calls numbers left numbers_are in
     (λ t. same.0 (is.0 t ∙ ap (λ (m : State). tree m) end_is), λ (h : LeadTo s calls left). is.1 (same.1 h ∙ sym (ap (λ (m : State). tree m) end_is)))
 
-pub sync_decided : (s done : State) (h : List Item) (unfinished : List Begun) (left : List TreeEntry) (b : Bool) → done ≡ run s h → (IsTrue b ↔ SomeLead done [] unfinished left)
+pub sync_decided : (s done : State) (h : List Item) (unfinished : List Unfinished) (left : List TreeEntry) (b : Bool) → done ≡ run s h → (IsTrue b ↔ SomeLead done [] unfinished left)
     → IsTrue b ↔ Sync s h unfinished left
 sync_decided s done h unfinished left b done_is is =
     let same = SyncFrom-some done unfinished left in (
@@ -336,6 +336,6 @@ sync_decided s done h unfinished left b done_is is =
       λ (p : Sync s h unfinished left). is.1 (same.1 (subst (λ (m : State). SyncFrom m unfinished left) (sym done_is) p)),
     )
 
-pub strict_decided : (s done : State) (h : List Item) (unfinished : List Begun) (left : List TreeEntry) (b : Bool) → done ≡ run s h → (IsTrue b ↔ StrictFrom done unfinished left)
+pub strict_decided : (s done : State) (h : List Item) (unfinished : List Unfinished) (left : List TreeEntry) (b : Bool) → done ≡ run s h → (IsTrue b ↔ StrictFrom done unfinished left)
     → IsTrue b ↔ Strict s h unfinished left
 strict_decided s done h unfinished left b done_is is = subst (λ (m : State). IsTrue b ↔ StrictFrom m unfinished left) done_is is

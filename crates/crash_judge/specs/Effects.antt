@@ -4,7 +4,7 @@ use Rattle.std.specs.List.{list_any}
 use Rattle.posix_tables.specs.declared.nodes.Node.{Node}
 use Rattle.posix_tables.specs.Nodes.{bytes_of, node_at}
 use Rattle.crash_spec.specs.posix_spec.Put.{put_by}
-use Rattle.crash_spec.specs.posix_spec.Run.{after_call, Begun}
+use Rattle.crash_spec.specs.posix_spec.Run.{after_call, Unfinished}
 use Rattle.crash_spec.specs.posix_spec.State.{State}
 use Rattle.crash_spec.specs.Posix.{ByteRule}
 use Rattle.crash_spec.specs.Values.{shortens, value_of}
@@ -35,12 +35,12 @@ pub record AreCuts (before after : List Node) (cuts : List Cut) : Type 0 where
   pub each : (n : ℕ) (cut : Cut) → slice_get cuts n ≡ Some cut → cut ≡ cut_of (node_at before n) (node_at after n)
 
 -- the effect is that of a call in a state
-pub record IsEffect (s : State) (c : Begun) (e : Effect) : Type 0 where
+pub record IsEffect (s : State) (c : Unfinished) (e : Effect) : Type 0 where
   pub put : e.put ≡ put_by s c.0 c.1
   pub cuts : (n i : ℕ) → is_cut e.cuts.items n i ≡ shortens s c n i
 
 -- the effects are those of calls, one after the other
-abbrev pub AreEffects : State → List Begun → List Effect → Type 0
+abbrev pub AreEffects : State → List Unfinished → List Effect → Type 0
 AreEffects s [] [] = Unit {0}
 AreEffects s [] (e ∷ effects) = ⊥
 AreEffects s (c ∷ calls) [] = ⊥

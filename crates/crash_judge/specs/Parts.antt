@@ -3,22 +3,22 @@ use Rattle.std.specs.Prelude.{◌≡◌, ◌⊎◌, ℕ, not, ◌&&◌, ◌==◌
 use Rattle.std.specs.List.{range_with_len}
 use Rattle.posix_laws.specs.posix_types.declared.tree.TreeEntry.{TreeEntry}
 use Rattle.posix_laws.specs.posix_spec.Put.{Put, put_by}
-use Rattle.posix_laws.specs.posix_spec.Run.{after_call, Begun}
+use Rattle.posix_laws.specs.posix_spec.Run.{after_call, Unfinished}
 use Rattle.posix_laws.specs.posix_spec.State.{State}
 use Rattle.posix_laws.specs.posix_spec.Tree.{tree}
 use Rattle.crash_spec.specs.Sync.{ActsInPart, file_bytes, with_bytes}
 
 -- calls act one after the other, each whole or in part, and lead to a state of which this holds
-abbrev pub PartsThen : State → List Begun → (State → Type 0) → Type 0
+abbrev pub PartsThen : State → List Unfinished → (State → Type 0) → Type 0
 PartsThen s [] P = P s
 PartsThen s (c ∷ calls) P = PartsThen (after_call s c) calls P ⊎ ((next : State) × ActsInPart s c next × PartsThen next calls P)
 
 -- they lead to a state with this tree
-abbrev pub LeadTo : State → List Begun → List TreeEntry → Type 0
+abbrev pub LeadTo : State → List Unfinished → List TreeEntry → Type 0
 LeadTo s calls left = PartsThen s calls (λ t. left ≡ tree t)
 
 -- the chosen calls and some of the others do
-abbrev pub SomeLead : State → List Begun → List Begun → List TreeEntry → Type 0
+abbrev pub SomeLead : State → List Unfinished → List Unfinished → List TreeEntry → Type 0
 SomeLead s chosen [] left = LeadTo s chosen left
 SomeLead s chosen (c ∷ unfinished) left = SomeLead s (chosen ++ c ∷ []) unfinished left ⊎ SomeLead s chosen unfinished left
 
@@ -34,9 +34,9 @@ abbrev pub put_toward : (ℕ → List ℕ) → State → State → Option Put �
 put_toward want s next None = next
 put_toward want s next (Some put) = with_bytes next put.node (picked (file_bytes s put.node) (file_bytes next put.node) (want put.node))
 
-abbrev pub toward : (ℕ → List ℕ) → State → Begun → State
+abbrev pub toward : (ℕ → List ℕ) → State → Unfinished → State
 toward want s c = put_toward want s (after_call s c) (put_by s c.0 c.1)
 
-abbrev pub all_toward : (ℕ → List ℕ) → State → List Begun → State
+abbrev pub all_toward : (ℕ → List ℕ) → State → List Unfinished → State
 all_toward want s [] = s
 all_toward want s (c ∷ calls) = all_toward want (toward want s c) calls

@@ -13,13 +13,13 @@ use Rattle.posix_laws.specs.posix_types.declared.call.Who.{Who}
 use Rattle.posix_laws.specs.posix_types.declared.item.Item.{Item}
 use Rattle.posix_laws.specs.posix_types.Scripts.{Scripts}
 use Rattle.posix_laws.specs.posix_tables.Open.{same_who}
-use Rattle.posix_laws.specs.posix_spec.Run.{Begun, begun, IsLegal, IsLegal-append}
+use Rattle.posix_laws.specs.posix_spec.Run.{Unfinished, begun, IsLegal, IsLegal-append}
 use Rattle.posix_laws.specs.posix_spec.Scripted.{IsSetUp, Scripted, Scripted-append}
 use Rattle.posix_laws.specs.posix_spec.Unfinished.{AreUnfinished, HaveTwoCallers, IsNextCall}
 use Rattle.posix_laws.specs.UnfinishedLaws.{AreUnfinished-begun, AreUnfinished-finished, AreUnfinished-none, IsNext-item}
 use Rattle.crash_spec.specs.Busy.{is_busy}
 use Rattle.crash_spec.specs.Laws.{Follows}
-use Rattle.crash_spec.specs.Machine.{at_rest, Began, Checkpoint, Begins, Claimed, Event, Filled, FindsFull, Fills, Finishes, Goes, is_idle, begun_of, is_of, is_set_up, item_for, Job, job_of, LacksSpace, Logs, Machine, may_begin, moved_on, outs, Persisted, Persists, Returns, returned, Setting, Stage, state_of, Stored, Stores, unfinished_of, with_job, with_stage, without_job, Checks, Claims}
+use Rattle.crash_spec.specs.Machine.{at_rest, Began, Checkpoint, Begins, Claimed, Event, Filled, FindsFull, Fills, Finishes, Goes, is_idle, unfinished_call, is_of, is_set_up, item_for, Job, job_of, LacksSpace, Logs, Machine, may_begin, moved_on, outs, Persisted, Persists, Returns, returned, Setting, Stage, state_of, Stored, Stores, unfinished_of, with_job, with_stage, without_job, Checks, Claims}
 use Rattle.crash_spec.specs.Orders.{Order}
 use Rattle.crash_spec.specs.Schedules.{Advances, Course, Further, LacksSpaceInTurn, Reaches, Runs, Scheduled, SetUp, SetUpLacksSpace, Starts, Checks as ChecksInTurn}
 
@@ -90,40 +90,40 @@ apart_back (Who.Thread m) (Who.Thread n) is = back m n is where
   back i j e = grind (arith, nat_tests)
 
 -- the call is not this caller's
-abbrev pub IsApart : Who → Begun → Type 0
+abbrev pub IsApart : Who → Unfinished → Type 0
 IsApart who c = same_who c.0 who ≡ false
 
 -- a caller without a job has no unfinished call
-no_call : (who : Who) (jobs : List Job) → is_none (find (is_of who) jobs) ≡ true → All (IsApart who) (map begun_of jobs)
+no_call : (who : Who) (jobs : List Job) → is_none (find (is_of who) jobs) ≡ true → All (IsApart who) (map unfinished_call jobs)
 no_call who [] none = All-nil (IsApart who)
 no_call who (job ∷ jobs) none = by (is_of who job) refl none (no_call who jobs) where
   by : (b : Bool) → is_of who job ≡ b → is_none (cond b (Some job) (find (is_of who) jobs)) ≡ true
-      → (is_none (find (is_of who) jobs) ≡ true → All (IsApart who) (map begun_of jobs)) → All (IsApart who) (map begun_of (job ∷ jobs))
+      → (is_none (find (is_of who) jobs) ≡ true → All (IsApart who) (map unfinished_call jobs)) → All (IsApart who) (map unfinished_call (job ∷ jobs))
   by true is none' rest = cc
-  by false is none' rest = All-cons (IsApart who) (begun_of job) (map begun_of jobs) is (rest none')
+  by false is none' rest = All-cons (IsApart who) (unfinished_call job) (map unfinished_call jobs) is (rest none')
 
 -- ---- unfinished calls
 
 -- without a caller's
-abbrev pub other_calls : Who → List Begun → List Begun
+abbrev pub other_calls : Who → List Unfinished → List Unfinished
 other_calls who cs = filter (λ c. not (same_who c.0 who)) cs
 
-calls_of_others : (who : Who) (jobs : List Job) → map begun_of (filter (λ job. not (is_of who job)) jobs) ≡ other_calls who (map begun_of jobs)
+calls_of_others : (who : Who) (jobs : List Job) → map unfinished_call (filter (λ job. not (is_of who job)) jobs) ≡ other_calls who (map unfinished_call jobs)
 calls_of_others who [] = refl
 calls_of_others who (job ∷ jobs) = by (not (is_of who job)) (calls_of_others who jobs) where
-  by : (b : Bool) → map begun_of (filter (λ j. not (is_of who j)) jobs) ≡ other_calls who (map begun_of jobs)
-      → map begun_of (cond b (job ∷ filter (λ j. not (is_of who j)) jobs) (filter (λ j. not (is_of who j)) jobs)) ≡ cond b (begun_of job ∷ other_calls who (map begun_of jobs)) (other_calls who (map begun_of jobs))
-  by true rest = ap (λ cs. begun_of job ∷ cs) rest
+  by : (b : Bool) → map unfinished_call (filter (λ j. not (is_of who j)) jobs) ≡ other_calls who (map unfinished_call jobs)
+      → map unfinished_call (cond b (job ∷ filter (λ j. not (is_of who j)) jobs) (filter (λ j. not (is_of who j)) jobs)) ≡ cond b (unfinished_call job ∷ other_calls who (map unfinished_call jobs)) (other_calls who (map unfinished_call jobs))
+  by true rest = ap (λ cs. unfinished_call job ∷ cs) rest
   by false rest = rest
 
-they_are_apart : (who : Who) (cs : List Begun) → All (IsApart who) (other_calls who cs)
+they_are_apart : (who : Who) (cs : List Unfinished) → All (IsApart who) (other_calls who cs)
 they_are_apart who [] = All-nil (IsApart who)
 they_are_apart who (c ∷ cs) = by (same_who c.0 who) refl (they_are_apart who cs) where
   by : (b : Bool) → same_who c.0 who ≡ b → All (IsApart who) (other_calls who cs) → All (IsApart who) (cond (not b) (c ∷ other_calls who cs) (other_calls who cs))
   by true is rest = rest
   by false is rest = All-cons (IsApart who) c (other_calls who cs) is rest
 
-all_pairs_filter : (p : Begun → Bool) (R : Begun → Begun → Type 0) (cs : List Begun) → AllPairs R cs → AllPairs R (filter p cs)
+all_pairs_filter : (p : Unfinished → Bool) (R : Unfinished → Unfinished → Type 0) (cs : List Unfinished) → AllPairs R cs → AllPairs R (filter p cs)
 all_pairs_filter p R [] all = all
 all_pairs_filter p R (c ∷ cs) all = by (p c) (all_pairs_filter p R cs (λ i j d before below. all (suc i) (suc j) d (omega (arith, before)) (omega (arith, below)))) where
   first : All (R c) cs
@@ -133,21 +133,21 @@ all_pairs_filter p R (c ∷ cs) all = by (p c) (all_pairs_filter p R cs (λ i j 
   by true rest = AllPairs-cons R c (filter p cs) (All-filter p (R c) cs first) rest
   by false rest = rest
 
-all_in : (P : Begun → Type 0) (cs : List Begun) (c : Begun) → All P cs → In c cs → P c
+all_in : (P : Unfinished → Type 0) (cs : List Unfinished) (c : Unfinished) → All P cs → In c cs → P c
 all_in P [] c all is = absurd is
 all_in P (d ∷ cs) c all (inl same) = subst P same (all 0 d (omega arith))
 all_in P (d ∷ cs) c all (inr behind) = all_in P cs c (λ k e below. all (suc k) e (omega (arith, below))) behind
 
-job_in : (jobs : List Job) (job : Job) → In job jobs → In (begun_of job) (map begun_of jobs)
+job_in : (jobs : List Job) (job : Job) → In job jobs → In (unfinished_call job) (map unfinished_call jobs)
 job_in [] job is = is
-job_in (j ∷ jobs) job (inl same) = inl (ap begun_of same)
+job_in (j ∷ jobs) job (inl same) = inl (ap unfinished_call same)
 job_in (j ∷ jobs) job (inr behind) = inr (job_in jobs job behind)
 
 -- a call of another caller that has begun is the next one still, when one of this caller has returned
-next_still : (scripts : Scripts) (h : List Item) (item : Item) (c : Begun) → IsNextCall scripts h (begun item) → IsNextCall scripts h c → IsApart item.who c → IsNextCall scripts (h ++ item ∷ []) c
+next_still : (scripts : Scripts) (h : List Item) (item : Item) (c : Unfinished) → IsNextCall scripts h (begun item) → IsNextCall scripts h c → IsApart item.who c → IsNextCall scripts (h ++ item ∷ []) c
 next_still scripts h item c own next apart = after.next 0 c (omega arith)
   where
-    none : (x : Begun) → AllPairs HaveTwoCallers (x ∷ [])
+    none : (x : Unfinished) → AllPairs HaveTwoCallers (x ∷ [])
     none x i j d before below = absurd (omega (arith, before, below))
 
     two : AreUnfinished scripts h (begun item ∷ c ∷ [])
@@ -160,16 +160,16 @@ next_still scripts h item c own next apart = after.next 0 c (omega arith)
     after = AreUnfinished-finished scripts h (begun item ∷ c ∷ []) 0 item (omega arith) refl two
 
 -- so, where a call returns, the calls of others are unfinished still
-AreUnfinished-returned : (scripts : Scripts) (h : List Item) (item : Item) (cs : List Begun) → IsNextCall scripts h (begun item) → AreUnfinished scripts h cs → All (IsApart item.who) cs
+AreUnfinished-returned : (scripts : Scripts) (h : List Item) (item : Item) (cs : List Unfinished) → IsNextCall scripts h (begun item) → AreUnfinished scripts h cs → All (IsApart item.who) cs
     → AreUnfinished scripts (h ++ item ∷ []) cs
 AreUnfinished-returned scripts h item cs own are apart = record {
   next = λ k d below. next_still scripts h item _ own (are.next k d below) (apart k d below);
   one_each = are.one_each;
 }
 
-AreUnfinished-others : (scripts : Scripts) (h : List Item) (who : Who) (cs : List Begun) → AreUnfinished scripts h cs → AreUnfinished scripts h (other_calls who cs)
+AreUnfinished-others : (scripts : Scripts) (h : List Item) (who : Who) (cs : List Unfinished) → AreUnfinished scripts h cs → AreUnfinished scripts h (other_calls who cs)
 AreUnfinished-others scripts h who cs are = record {
-  next = All-filter (λ (c : Begun). not (same_who c.0 who)) (IsNextCall scripts h) cs are.next;
+  next = All-filter (λ (c : Unfinished). not (same_who c.0 who)) (IsNextCall scripts h) cs are.next;
   one_each = all_pairs_filter (λ c. not (same_who c.0 who)) HaveTwoCallers cs are.one_each;
 }
 
@@ -192,13 +192,13 @@ sound_without g m who sound = record {
   claims = sound.claims;
 }
 
-same_calls : (who : Who) (stage : Stage) (jobs : List Job) → map begun_of (map (moved_on who stage) jobs) ≡ map begun_of jobs
+same_calls : (who : Who) (stage : Stage) (jobs : List Job) → map unfinished_call (map (moved_on who stage) jobs) ≡ map unfinished_call jobs
 same_calls who stage [] = refl
 same_calls who stage (job ∷ jobs) = by (is_of who job) (same_calls who stage jobs) where
-  by : (b : Bool) → map begun_of (map (moved_on who stage) jobs) ≡ map begun_of jobs
-      → begun_of (cond b (record job { stage = stage }) job) ∷ map begun_of (map (moved_on who stage) jobs) ≡ begun_of job ∷ map begun_of jobs
-  by true rest = ap (λ cs. begun_of job ∷ cs) rest
-  by false rest = ap (λ cs. begun_of job ∷ cs) rest
+  by : (b : Bool) → map unfinished_call (map (moved_on who stage) jobs) ≡ map unfinished_call jobs
+      → unfinished_call (cond b (record job { stage = stage }) job) ∷ map unfinished_call (map (moved_on who stage) jobs) ≡ unfinished_call job ∷ map unfinished_call jobs
+  by true rest = ap (λ cs. unfinished_call job ∷ cs) rest
+  by false rest = ap (λ cs. unfinished_call job ∷ cs) rest
 
 sound_stage : (g : Setting) (m : Machine) (who : Who) (stage : Stage) → IsSound g m → IsSound g (with_stage m who stage)
 sound_stage g m who stage sound = record {
@@ -208,12 +208,12 @@ sound_stage g m who stage sound = record {
   claims = sound.claims;
 }
 
-sound_logged : (g : Setting) (m : Machine) (job : Job) → IsSound g m → IsNextCall g.scripts m.history (begun_of job) → All (IsApart job.who) (unfinished_of m) → IsSound g (with_job m job)
+sound_logged : (g : Setting) (m : Machine) (job : Job) → IsSound g m → IsNextCall g.scripts m.history (unfinished_call job) → All (IsApart job.who) (unfinished_of m) → IsSound g (with_job m job)
 sound_logged g m job sound next apart = record {
   scripted = sound.scripted;
   legal = sound.legal;
-  unfinished = subst (AreUnfinished g.scripts m.history) (sym (map-append begun_of m.jobs (job ∷ [])))
-      (AreUnfinished-begun g.scripts m.history (unfinished_of m) (begun_of job) sound.unfinished next apart);
+  unfinished = subst (AreUnfinished g.scripts m.history) (sym (map-append unfinished_call m.jobs (job ∷ [])))
+      (AreUnfinished-begun g.scripts m.history (unfinished_of m) (unfinished_call job) sound.unfinished next apart);
   claims = sound.claims;
 }
 
@@ -223,7 +223,7 @@ job_next g m who job sound is =
     let found = find-In (is_of who) m.jobs job is in
     let own : job.who ≡ who = same_who-is job.who who found.1 in
     subst (λ (w : Who). IsNextCall g.scripts m.history (w, job.call)) own
-    (all_in (IsNextCall g.scripts m.history) (unfinished_of m) (begun_of job) sound.unfinished.next (job_in m.jobs job found.0))
+    (all_in (IsNextCall g.scripts m.history) (unfinished_of m) (unfinished_call job) sound.unfinished.next (job_in m.jobs job found.0))
 
 no_call_left : (m : Machine) (who : Who) → All (IsApart who) (unfinished_of (without_job m who))
 no_call_left m who = subst (All (IsApart who)) (sym (calls_of_others who m.jobs)) (they_are_apart who (unfinished_of m))
@@ -269,11 +269,11 @@ IsSound-Reaches g order events c (Further before more d next reached advances) =
 
 -- ---- what a schedule leaves
 
-pub Follows-Scheduled : (g : Setting) (order : Order) (events : ℕ) (history : List Item) (unfinished : List Begun) → Scheduled g order events history unfinished → Follows g history unfinished
+pub Follows-Scheduled : (g : Setting) (order : Order) (events : ℕ) (history : List Item) (unfinished : List Unfinished) → Scheduled g order events history unfinished → Follows g history unfinished
 Follows-Scheduled g order events history unfinished is =
     let sound = IsSound-Reaches g order events is.course is.reached in
     subst (λ (h : List Item). Follows g h unfinished) (sym is.history_is)
-    (subst (λ (cs : List Begun). Follows g is.course.machine.history cs) (sym is.unfinished_is)
+    (subst (λ (cs : List Unfinished). Follows g is.course.machine.history cs) (sym is.unfinished_is)
     (record { scripted = sound.scripted; legal = sound.legal; open_calls = sound.unfinished }))
 
 pub claims_fit : (g : Setting) (order : Order) (events : ℕ) (c : Course) → Reaches g order events c → c.machine.claims ≤ g.lines

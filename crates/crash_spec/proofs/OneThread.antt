@@ -8,7 +8,7 @@ use Rattle.posix_laws.specs.posix_types.declared.call.Call.{Call}
 use Rattle.posix_laws.specs.posix_types.declared.call.Who.{Who}
 use Rattle.posix_laws.specs.posix_types.declared.item.Item.{Item}
 use Rattle.posix_laws.specs.posix_tables.Open.{same_who}
-use Rattle.posix_laws.specs.posix_spec.Run.{Begun}
+use Rattle.posix_laws.specs.posix_spec.Run.{Unfinished}
 use Rattle.posix_laws.specs.posix_spec.Scripted.{items_of, next_call, ScriptedAfter}
 use Rattle.posix_laws.specs.posix_spec.State.{State}
 use Rattle.crash_spec.specs.Laws.{on_one_thread, one_script}
@@ -47,7 +47,7 @@ in_order calls past (item ∷ items) own scripted size =
     ∙ ap (λ (call : Call). call ∷ drop (length past + 1) calls) (sym (get_or_from_slice_get calls (length past) item.call item.call mine.1))
     ∙ sym here
 
-pub OneThread-Scheduled : (start : State) (calls : List Call) (lines : ℕ) (order : Order) (events : ℕ) (history : List Item) (unfinished : List Begun)
+pub OneThread-Scheduled : (start : State) (calls : List Call) (lines : ℕ) (order : Order) (events : ℕ) (history : List Item) (unfinished : List Unfinished)
     → Scheduled (on_one_thread start calls lines) order events history unfinished → length history ≡ length calls → map (λ (item : Item). item.call) history ≡ calls
 unfolding AreOwn
 OneThread-Scheduled start calls lines order events history unfinished is size =

@@ -5,7 +5,7 @@ use Rattle.posix_laws.specs.posix_types.declared.item.Item.{Item}
 use Rattle.posix_laws.specs.posix_types.declared.tree.TreeEntry.{TreeEntry}
 use Rattle.posix_laws.specs.posix_tables.declared.nodes.Node.{Node}
 use Rattle.posix_laws.specs.posix_tables.Nodes.{node_at}
-use Rattle.posix_laws.specs.posix_spec.Run.{after_call, after_calls, Begun, begun, run}
+use Rattle.posix_laws.specs.posix_spec.Run.{after_call, after_calls, Unfinished, begun, run}
 use Rattle.posix_laws.specs.posix_spec.State.{State}
 use Rattle.crash_spec.specs.Posix.{acting, ByteRule, IsLastOrAny, IsLeft, LastBeforeCut, NodeLeft, others, OrUnfinished, Overwritten, Posix, StrongPosix, TreeLeft}
 use Rattle.crash_spec.specs.Values.{is_shortened, IsOneOf, last_of, shortens, value_before_cut, value_put, values_put, with_value}
@@ -29,7 +29,7 @@ any_more true o values v x h = among_more o values v x h
 any_more false o values v x h = h ∙ last_more o values v
 
 -- what was put before the file was first shortened is one of the values; where it was not shortened it is the last
-before_cut : (s : State) (later : List Begun) (n i v : ℕ) → IsLastOrAny (is_shortened s later n i) v (values_put s later n i) (value_before_cut s later n i v)
+before_cut : (s : State) (later : List Unfinished) (n i v : ℕ) → IsLastOrAny (is_shortened s later n i) v (values_put s later n i) (value_before_cut s later n i v)
 unfolding is_shortened values_put value_before_cut
 before_cut s [] n i v = refl
 before_cut s (c ∷ calls) n i v = by (shortens s c n i) (before_cut (after_call s c) calls n i (last_of v (with_value (value_put s c n i) [])))
@@ -46,11 +46,11 @@ before_cut s (c ∷ calls) n i v = by (shortens s c n i) (before_cut (after_call
 abbrev pub Implies : ByteRule → ByteRule → Type 0
 Implies a b = (n i v x : ℕ) → a n i v x → b n i v x
 
-pub Overwritten-LastBeforeCut : (s : State) (later : List Begun) → Implies (LastBeforeCut s later) (Overwritten s later)
+pub Overwritten-LastBeforeCut : (s : State) (later : List Unfinished) → Implies (LastBeforeCut s later) (Overwritten s later)
 Overwritten-LastBeforeCut s later n i v x h =
     subst (λ y. IsLastOrAny (is_shortened s later n i) v (values_put s later n i) y) (sym h) (before_cut s later n i v)
 
-or_weaker : (a b : ByteRule) (s : State) (unfinished : List Begun) → Implies a b → Implies (OrUnfinished a s unfinished) (OrUnfinished b s unfinished)
+or_weaker : (a b : ByteRule) (s : State) (unfinished : List Unfinished) → Implies a b → Implies (OrUnfinished a s unfinished) (OrUnfinished b s unfinished)
 or_weaker a b s unfinished implies n i v x h = elim h [ inl by_rule ↦ inl (implies n i v x by_rule) | inr by_others ↦ inr by_others ]
 
 -- what is left by a rule is left by a weaker one
@@ -68,7 +68,7 @@ left_weaker a b implies s m h =
 tree_weaker : (a b : ByteRule) → Implies a b → (s : State) (left : List TreeEntry) → TreeLeft a s left → TreeLeft b s left
 tree_weaker a b implies s left h = (h.0, left_weaker a b implies s h.0 h.1, h.2)
 
-pub Posix-StrongPosix : (s : State) (history : List Item) (unfinished : List Begun) (left : List TreeEntry) → StrongPosix s history unfinished left → Posix s history unfinished left
+pub Posix-StrongPosix : (s : State) (history : List Item) (unfinished : List Unfinished) (left : List TreeEntry) → StrongPosix s history unfinished left → Posix s history unfinished left
 Posix-StrongPosix s history unfinished left h = elim h [
   | inl front ↦
       let a = LastBeforeCut (run s front.kept) (map begun front.later) in

@@ -13,7 +13,7 @@ use Rattle.posix_laws.specs.posix_tables.declared.nodes.Node.{Node}
 use Rattle.posix_laws.specs.posix_tables.declared.places.Place.{Place}
 use Rattle.posix_laws.specs.posix_tables.Nodes.{node_at}
 use Rattle.posix_laws.specs.posix_tables.Places.{places, tree_entry, tree_node}
-use Rattle.posix_laws.specs.posix_spec.Run.{after_calls, Begun, begun, run}
+use Rattle.posix_laws.specs.posix_spec.Run.{after_calls, Unfinished, begun, run}
 use Rattle.posix_laws.specs.posix_spec.State.{State}
 use Rattle.posix_laws.specs.posix_spec.Tree.{tree}
 use Rattle.crash_spec.specs.Laws.{AllPublished, IsPublished}
@@ -97,8 +97,8 @@ Posix-synced s front item left synced whole is = elim is [
     | inl all ↦
         let h = run s (front ++ item ∷ []) in
         let there : TreeLeft (OrUnfinished (Overwritten h []) h []) h left =
-        subst (λ (cs : List Begun). TreeLeft (OrUnfinished (Overwritten h []) h cs) h left) (none_rest all.marks)
-        (subst (λ (cs : List Begun). TreeLeft (OrUnfinished (Overwritten (after_calls h cs) []) h (others all.marks [])) (after_calls h cs) left) (none_act all.marks) all.tree_left) in
+        subst (λ (cs : List Unfinished). TreeLeft (OrUnfinished (Overwritten h []) h cs) h left) (none_rest all.marks)
+        (subst (λ (cs : List Unfinished). TreeLeft (OrUnfinished (Overwritten (after_calls h cs) []) h (others all.marks [])) (after_calls h cs) left) (none_act all.marks) all.tree_left) in
         TreeLeft-published (OrUnfinished (Overwritten h []) h []) h left (idle_rule h h) whole there
     | inr same ↦ same
   ]

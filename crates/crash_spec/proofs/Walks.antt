@@ -6,7 +6,7 @@ use Rattle.std.proofs.lemmas.Option.{get_or_from_slice_get, slice_get_within}
 use Rattle.posix_laws.specs.list_laws.Members.{In, slice_get-In}
 use Rattle.posix_laws.specs.posix_types.declared.call.Who.{Who}
 use Rattle.posix_laws.specs.posix_types.declared.item.Item.{Item}
-use Rattle.posix_laws.specs.posix_spec.Run.{Begun}
+use Rattle.posix_laws.specs.posix_spec.Run.{Unfinished}
 use Rattle.crash_spec.specs.Machine.{at_rest, have_ended, Job, Machine, Setting, unfinished_of, Checks as Checkpoints}
 use Rattle.crash_spec.specs.Orders.{ArePassedOver, BehindList, ByDraw, ByList, draw, InTurn, IsInTurn, IsLowest, Listed, none_picked, Order, Picker, Picks, Round, Seeded}
 use Rattle.crash_spec.specs.ScheduleLaws.{IsTheOnlySchedule, IsTheSchedule, NeverLacksSpace, NobodyWrites}
@@ -304,7 +304,7 @@ the_way g order turns d is = subst (λ k. Way g order k d) (let none : 0 + lengt
 
 -- what a course leaves
 abbrev pub Left : Type 0
-Left = List Item × List Begun
+Left = List Item × List Unfinished
 
 abbrev left_by : Course → Left
 left_by c = (c.machine.history, unfinished_of c.machine)
@@ -313,7 +313,7 @@ left_by c = (c.machine.history, unfinished_of c.machine)
 abbrev pub leaves : Setting → Order → List Turn → Option Left
 leaves g order turns = option_map left_by (walked g order turns started)
 
-pub the_schedule : (g : Setting) (order : Order) (turns : List Turn) (history : List Item) (unfinished : List Begun) → leaves g order turns ≡ Some (history, unfinished)
+pub the_schedule : (g : Setting) (order : Order) (turns : List Turn) (history : List Item) (unfinished : List Unfinished) → leaves g order turns ≡ Some (history, unfinished)
     → IsTheSchedule g order (length turns) history unfinished
 the_schedule g order turns history unfinished is =
     let end = mapped left_by (walked g order turns started) (history, unfinished) is in
@@ -327,7 +327,7 @@ the_schedule g order turns history unfinished is =
           (ap (λ (x : Course). x.machine.history) same ∙ items, ap (λ (x : Course). unfinished_of x.machine) same ∙ calls);
     }
 
-pub the_only_schedule : (g : Setting) (order : Order) (turns : List Turn) (history : List Item) (unfinished : List Begun) → NobodyWrites g → leaves g order turns ≡ Some (history, unfinished)
+pub the_only_schedule : (g : Setting) (order : Order) (turns : List Turn) (history : List Item) (unfinished : List Unfinished) → NobodyWrites g → leaves g order turns ≡ Some (history, unfinished)
     → IsTheOnlySchedule g order (length turns) history unfinished
 the_only_schedule g order turns history unfinished nobody is =
     let end = mapped left_by (walked g order turns started) (history, unfinished) is in

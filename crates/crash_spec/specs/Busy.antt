@@ -10,7 +10,7 @@ use Rattle.posix_laws.specs.posix_tables.Names.{node_at_path, too_long}
 use Rattle.posix_laws.specs.posix_tables.Nodes.{bytes_of, node_at}
 use Rattle.posix_laws.specs.posix_tables.Open.{opened, same_who}
 use Rattle.posix_laws.specs.posix_spec.Put.{Put, put_by}
-use Rattle.posix_laws.specs.posix_spec.Run.{Begun}
+use Rattle.posix_laws.specs.posix_spec.Run.{Unfinished}
 use Rattle.posix_laws.specs.posix_spec.State.{space, State}
 
 -- A write of at least one byte that is accepted is logged: in strict mode always, in sync mode where it reaches past the
@@ -23,7 +23,7 @@ is_logged_put Mode.Strict s put = true
 is_logged_put Mode.Sync s put = reaches_past s put
 is_logged_put Mode.Posix s put = false
 
-abbrev pub is_logged : State → Begun → Bool
+abbrev pub is_logged : State → Unfinished → Bool
 is_logged s c = option_map_or (is_logged_put s.mode s) (put_by s c.0 c.1) false
 
 -- the node of a handle's file, and the node at a path that is not too long
@@ -36,7 +36,7 @@ path_node s p = if too_long (space s).longest p then None else node_at_path (spa
 -- The file that a call waits for, if it is busy: that of its handle; for `stat`, what stands at the path; for an
 -- `open` that cuts the file, likewise, also where it would then be refused. The calls that look at names alone wait
 -- for none.
-unfoldable pub waits_for : State → Begun → Option ℕ
+unfoldable pub waits_for : State → Unfinished → Option ℕ
 waits_for s (who, Call.Mkdir p) = None
 waits_for s (who, Call.Rmdir p) = None
 waits_for s (who, Call.Unlink p) = None
@@ -63,5 +63,5 @@ abbrev pub keeps_busy : Who → ℕ → Out → Bool
 keeps_busy who node out = not (same_who out.0 who) && (out.1 == node)
 
 -- the call waits, while these are out
-unfoldable pub is_busy : State → List Out → Begun → Bool
+unfoldable pub is_busy : State → List Out → Unfinished → Bool
 is_busy s out c = option_map_or (λ node. list_any (keeps_busy c.0 node) out) (waits_for s c) false

@@ -8,7 +8,7 @@ use Rattle.posix_laws.specs.posix_types.declared.tree.TreeEntry.{TreeEntry}
 use Rattle.posix_laws.specs.posix_types.Scripts.{Scripts}
 use Rattle.posix_laws.specs.posix_tables.declared.nodes.Node.{Node}
 use Rattle.posix_laws.specs.posix_tables.Nodes.{node_at}
-use Rattle.posix_laws.specs.posix_spec.Run.{after_call, Begun, IsAnswered, IsLegal, run}
+use Rattle.posix_laws.specs.posix_spec.Run.{after_call, Unfinished, IsAnswered, IsLegal, run}
 use Rattle.posix_laws.specs.posix_spec.Scripted.{Scripted}
 use Rattle.posix_laws.specs.posix_spec.State.{State}
 use Rattle.posix_laws.specs.posix_spec.Tree.{tree}
@@ -24,14 +24,14 @@ use Rattle.crash_spec.specs.Sync.{IsPartOf, Sync}
 
 -- the tree of the history is permitted in each mode, whatever is unfinished
 abbrev pub HistoryIsPermitted : Type 0
-HistoryIsPermitted = (mode : Mode) (s : State) (history : List Item) (unfinished : List Begun) → Permitted mode s history unfinished (tree (run s history))
+HistoryIsPermitted = (mode : Mode) (s : State) (history : List Item) (unfinished : List Unfinished) → Permitted mode s history unfinished (tree (run s history))
 
 -- in strict and in sync mode, the tree after the one unfinished call, too
 abbrev pub OneMoreIsStrict : Type 0
-OneMoreIsStrict = (s : State) (history : List Item) (c : Begun) → Strict s history (c ∷ []) (tree (after_call (run s history) c))
+OneMoreIsStrict = (s : State) (history : List Item) (c : Unfinished) → Strict s history (c ∷ []) (tree (after_call (run s history) c))
 
 abbrev pub OneMoreIsSync : Type 0
-OneMoreIsSync = (s : State) (history : List Item) (c : Begun) → Sync s history (c ∷ []) (tree (after_call (run s history) c))
+OneMoreIsSync = (s : State) (history : List Item) (c : Unfinished) → Sync s history (c ∷ []) (tree (after_call (run s history) c))
 
 -- where no call is unfinished, strict and sync mode leave one tree
 abbrev pub StrictIsOneTree : Type 0
@@ -42,7 +42,7 @@ SyncIsOneTree = (s : State) (history : List Item) (left : List TreeEntry) → Sy
 
 -- what strict mode permits, sync mode permits
 abbrev pub StrictIsSync : Type 0
-StrictIsSync = (s : State) (history : List Item) (unfinished : List Begun) (left : List TreeEntry) → Strict s history unfinished left → Sync s history unfinished left
+StrictIsSync = (s : State) (history : List Item) (unfinished : List Unfinished) (left : List TreeEntry) → Strict s history unfinished left → Sync s history unfinished left
 
 -- a write that is done in part may be there whole; one that does not lengthen the file may not be there at all
 abbrev pub WholeIsPart : Type 0
@@ -53,7 +53,7 @@ NoneIsPart = (old whole : List ℕ) → length whole ≡ length old → IsPartOf
 
 -- by the stronger rule for bytes no more is permitted
 abbrev pub StrongIsPosix : Type 0
-StrongIsPosix = (s : State) (history : List Item) (unfinished : List Begun) (left : List TreeEntry) → StrongPosix s history unfinished left → Posix s history unfinished left
+StrongIsPosix = (s : State) (history : List Item) (unfinished : List Unfinished) (left : List TreeEntry) → StrongPosix s history unfinished left → Posix s history unfinished left
 
 -- a file is published whole
 abbrev pub IsPublished : Node → Type 0
@@ -77,7 +77,7 @@ abbrev pub StaysLegal : Type 0
 StaysLegal = (s : State) (history : List Item) (item : Item) → IsLegal s history → IsAnswered (run s history) item → IsLegal s (history ++ item ∷ [])
 
 -- the history is legal and follows the scripts, and the unfinished calls are the next of their callers, one each
-pub record Follows (g : Setting) (history : List Item) (unfinished : List Begun) : Type 0 where
+pub record Follows (g : Setting) (history : List Item) (unfinished : List Unfinished) : Type 0 where
   pub scripted : Scripted g.scripts history
   pub legal : IsLegal g.start history
   pub open_calls : AreUnfinished g.scripts history unfinished
@@ -85,7 +85,7 @@ pub record Follows (g : Setting) (history : List Item) (unfinished : List Begun)
 -- every schedule leaves a legal history that follows the scripts, and unfinished calls that are the next of their callers,
 -- one each
 abbrev pub SchedulesFollow : Type 0
-SchedulesFollow = (g : Setting) (order : Order) (events : ℕ) (history : List Item) (unfinished : List Begun) → Scheduled g order events history unfinished → Follows g history unfinished
+SchedulesFollow = (g : Setting) (order : Order) (events : ℕ) (history : List Item) (unfinished : List Unfinished) → Scheduled g order events history unfinished → Follows g history unfinished
 
 -- one thread, without a set-up
 abbrev pub one_script : List Call → Scripts
@@ -97,7 +97,7 @@ on_one_thread start calls lines = record { start = start; scripts = one_script c
 -- a schedule of one thread that runs to its end gives the calls of its script, in their order
 abbrev pub OneThreadInOrder : Type 0
 OneThreadInOrder =
-    (start : State) (calls : List Call) (lines : ℕ) (order : Order) (events : ℕ) (history : List Item) (unfinished : List Begun)
+    (start : State) (calls : List Call) (lines : ℕ) (order : Order) (events : ℕ) (history : List Item) (unfinished : List Unfinished)
     → Scheduled (on_one_thread start calls lines) order events history unfinished → length history ≡ length calls → map (λ (item : Item). item.call) history ≡ calls
 
 -- a lap never has more claims than the log has lines

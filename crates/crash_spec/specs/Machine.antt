@@ -11,7 +11,7 @@ use Rattle.posix_laws.specs.posix_tables.Open.{same_who}
 use Rattle.posix_laws.specs.posix_spec.FileRows.{content, truncate_rows}
 use Rattle.posix_laws.specs.posix_tables.Outcomes.{first}
 use Rattle.posix_laws.specs.posix_spec.Put.{put_by}
-use Rattle.posix_laws.specs.posix_spec.Run.{Begun, run}
+use Rattle.posix_laws.specs.posix_spec.Run.{Unfinished, run}
 use Rattle.posix_laws.specs.posix_spec.Scripted.{call_count, items_of, next_call}
 use Rattle.posix_laws.specs.posix_spec.State.{State}
 use Rattle.posix_laws.specs.posix_spec.Step.{step}
@@ -69,11 +69,11 @@ abbrev pub outs : Machine → List Out
 outs m = map (λ job. (job.who, job.node)) m.jobs
 
 -- the calls that had begun and not returned, in the order of their beginning
-abbrev pub begun_of : Job → Begun
-begun_of job = (job.who, job.call)
+abbrev pub unfinished_call : Job → Unfinished
+unfinished_call job = (job.who, job.call)
 
-abbrev pub unfinished_of : Machine → List Begun
-unfinished_of m = map begun_of m.jobs
+abbrev pub unfinished_of : Machine → List Unfinished
+unfinished_of m = map unfinished_call m.jobs
 
 -- a caller's call may come: a thread's does once all calls of the set-up have returned
 abbrev pub is_set_up : Setting → Machine → Who → Bool

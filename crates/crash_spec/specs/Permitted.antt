@@ -3,13 +3,13 @@ use Rattle.std.specs.Prelude.{List}
 use Rattle.posix_laws.specs.posix_types.declared.call.Mode.{Mode}
 use Rattle.posix_laws.specs.posix_types.declared.item.Item.{Item}
 use Rattle.posix_laws.specs.posix_types.declared.tree.TreeEntry.{TreeEntry}
-use Rattle.posix_laws.specs.posix_spec.Run.{Begun}
+use Rattle.posix_laws.specs.posix_spec.Run.{Unfinished}
 use Rattle.posix_laws.specs.posix_spec.State.{State}
 use Rattle.crash_spec.specs.Strict.{Strict}
 use Rattle.crash_spec.specs.Sync.{Sync}
 use Rattle.crash_spec.specs.Posix.{Posix}
 
-abbrev pub Permitted : Mode → State → List Item → List Begun → List TreeEntry → Type 0
+abbrev pub Permitted : Mode → State → List Item → List Unfinished → List TreeEntry → Type 0
 Permitted Mode.Strict s history unfinished left = Strict s history unfinished left
 Permitted Mode.Sync s history unfinished left = Sync s history unfinished left
 Permitted Mode.Posix s history unfinished left = Posix s history unfinished left

@@ -13,7 +13,7 @@ use Rattle.posix_laws.specs.posix_types.declared.tree.TreeEntry.{TreeEntry}
 use Rattle.posix_laws.specs.posix_tables.declared.nodes.File.{File}
 use Rattle.posix_laws.specs.posix_tables.declared.nodes.Node.{Node}
 use Rattle.posix_laws.specs.posix_tables.Nodes.{node_at}
-use Rattle.posix_laws.specs.posix_spec.Run.{after_calls, Begun, begun, run}
+use Rattle.posix_laws.specs.posix_spec.Run.{after_calls, Unfinished, begun, run}
 use Rattle.posix_laws.specs.posix_spec.State.{State}
 use Rattle.posix_laws.specs.posix_spec.Tree.{tree}
 use Rattle.crash_spec.specs.Values.{is_shortened, IsOneOf, last_of, value_before_cut, values_put}
@@ -24,7 +24,7 @@ ByteRule = (n i v x : ℕ) → Type 0
 
 -- and which rule the calls give that came later than a state
 abbrev pub LaterRule : Type 1
-LaterRule = State → List Begun → ByteRule
+LaterRule = State → List Unfinished → ByteRule
 
 -- the last of v and the later values, or any of them where the file was shortened
 abbrev pub IsLastOrAny : Bool → ℕ → List ℕ → ℕ → Type 0
@@ -41,7 +41,7 @@ abbrev pub LastBeforeCut : LaterRule
 LastBeforeCut s later n i v x = x ≡ value_before_cut s later n i v
 
 -- either rule, or a value that unfinished calls put there, which run after the history
-abbrev pub OrUnfinished : ByteRule → State → List Begun → ByteRule
+abbrev pub OrUnfinished : ByteRule → State → List Unfinished → ByteRule
 OrUnfinished rule s unfinished n i v x = rule n i v x ⊎ IsOneOf (values_put s unfinished n i) x
 
 -- a file is cut to its published length, and its bytes are by the rule
@@ -78,13 +78,13 @@ abbrev pub syncs : Item → Bool
 syncs item = is_fsync item.call && is_ok item.reply
 
 -- by their marks, the calls of a list that act, and the others, both in order; calls without a mark do not act
-abbrev pub acting : List Bool → List Begun → List Begun
+abbrev pub acting : List Bool → List Unfinished → List Unfinished
 acting [] calls = []
 acting (mark ∷ marks) [] = []
 acting (true ∷ marks) (c ∷ calls) = c ∷ acting marks calls
 acting (false ∷ marks) (c ∷ calls) = acting marks calls
 
-abbrev pub others : List Bool → List Begun → List Begun
+abbrev pub others : List Bool → List Unfinished → List Unfinished
 others [] calls = calls
 others (mark ∷ marks) [] = []
 others (true ∷ marks) (c ∷ calls) = others marks calls
@@ -92,7 +92,7 @@ others (false ∷ marks) (c ∷ calls) = c ∷ others marks calls
 
 -- A front of the history is kept, with each `fsync` that returned ok. The later writes of the history and the writes of
 -- unfinished calls may be seen in its bytes.
-pub record KeepsFront (rule : LaterRule) (s : State) (history : List Item) (unfinished : List Begun) (left : List TreeEntry) : Type 0 where
+pub record KeepsFront (rule : LaterRule) (s : State) (history : List Item) (unfinished : List Unfinished) (left : List TreeEntry) : Type 0 where
   pub kept : List Item
   pub later : List Item
   pub is : history ≡ kept ++ later
@@ -101,20 +101,20 @@ pub record KeepsFront (rule : LaterRule) (s : State) (history : List Item) (unfi
 
 -- All of the history is kept, and some of the unfinished calls, in order. The writes of the others may be seen in its
 -- bytes.
-pub record KeepsAll (rule : LaterRule) (s : State) (history : List Item) (unfinished : List Begun) (left : List TreeEntry) : Type 0 where
+pub record KeepsAll (rule : LaterRule) (s : State) (history : List Item) (unfinished : List Unfinished) (left : List TreeEntry) : Type 0 where
   pub marks : List Bool
   pub tree_left :
       TreeLeft (OrUnfinished (rule (after_calls (run s history) (acting marks unfinished)) []) (run s history) (others marks unfinished))
       (after_calls (run s history) (acting marks unfinished)) left
 
 -- or the tree is that of the whole history, as unmount publishes it, in one commit
-abbrev pub PosixBy : LaterRule → State → List Item → List Begun → List TreeEntry → Type 0
+abbrev pub PosixBy : LaterRule → State → List Item → List Unfinished → List TreeEntry → Type 0
 PosixBy rule s history unfinished left =
     KeepsFront rule s history unfinished left ⊎ KeepsAll rule s history unfinished left ⊎ (left ≡ tree (run s history))
 
-abbrev pub Posix : State → List Item → List Begun → List TreeEntry → Type 0
+abbrev pub Posix : State → List Item → List Unfinished → List TreeEntry → Type 0
 Posix s history unfinished left = PosixBy Overwritten s history unfinished left
 
 -- with the stronger rule for bytes
-abbrev pub StrongPosix : State → List Item → List Begun → List TreeEntry → Type 0
+abbrev pub StrongPosix : State → List Item → List Unfinished → List TreeEntry → Type 0
 StrongPosix s history unfinished left = PosixBy LastBeforeCut s history unfinished left

@@ -5,7 +5,7 @@ use Rattle.std.proofs.Common.{inl, inr, sym}
 use Rattle.posix_laws.specs.posix_types.declared.call.Mode.{Mode}
 use Rattle.posix_laws.specs.posix_types.declared.item.Item.{Item}
 use Rattle.posix_laws.specs.posix_types.declared.tree.TreeEntry.{TreeEntry}
-use Rattle.posix_laws.specs.posix_spec.Run.{after_call, Begun, run}
+use Rattle.posix_laws.specs.posix_spec.Run.{after_call, Unfinished, run}
 use Rattle.posix_laws.specs.posix_spec.State.{State}
 use Rattle.posix_laws.specs.posix_spec.Tree.{tree}
 use Rattle.crash_spec.specs.Permitted.{Permitted}
@@ -13,24 +13,24 @@ use Rattle.crash_spec.specs.Strict.{Strict, StrictFrom, Strict-none, Strict-one}
 use Rattle.crash_spec.specs.Sync.{IsPartOf, Sync, SyncFrom}
 
 -- what strict mode permits, sync mode permits
-SyncFrom-StrictFrom : (s : State) (unfinished : List Begun) (left : List TreeEntry) → StrictFrom s unfinished left → SyncFrom s unfinished left
+SyncFrom-StrictFrom : (s : State) (unfinished : List Unfinished) (left : List TreeEntry) → StrictFrom s unfinished left → SyncFrom s unfinished left
 SyncFrom-StrictFrom s [] left h = h
 SyncFrom-StrictFrom s (c ∷ unfinished) left h = elim h [
   | inl acts ↦ inl (SyncFrom-StrictFrom (after_call s c) unfinished left acts)
   | inr does_not ↦ inr (inr (SyncFrom-StrictFrom s unfinished left does_not))
 ]
 
-pub Sync-Strict : (s : State) (history : List Item) (unfinished : List Begun) (left : List TreeEntry) → Strict s history unfinished left → Sync s history unfinished left
+pub Sync-Strict : (s : State) (history : List Item) (unfinished : List Unfinished) (left : List TreeEntry) → Strict s history unfinished left → Sync s history unfinished left
 Sync-Strict s history unfinished left h = SyncFrom-StrictFrom (run s history) unfinished left h
 
 -- the tree of the history is permitted in each mode
-pub Permitted-none : (mode : Mode) (s : State) (history : List Item) (unfinished : List Begun) → Permitted mode s history unfinished (tree (run s history))
+pub Permitted-none : (mode : Mode) (s : State) (history : List Item) (unfinished : List Unfinished) → Permitted mode s history unfinished (tree (run s history))
 Permitted-none Mode.Strict s history unfinished = Strict-none s history unfinished
 Permitted-none Mode.Sync s history unfinished = Sync-Strict s history unfinished (tree (run s history)) (Strict-none s history unfinished)
 Permitted-none Mode.Posix s history unfinished = inr (inr refl)
 
 -- in strict and sync mode the tree after the one unfinished call, too
-pub Sync-one : (s : State) (history : List Item) (c : Begun) → Sync s history (c ∷ []) (tree (after_call (run s history) c))
+pub Sync-one : (s : State) (history : List Item) (c : Unfinished) → Sync s history (c ∷ []) (tree (after_call (run s history) c))
 Sync-one s history c = Sync-Strict s history (c ∷ []) (tree (after_call (run s history) c)) (Strict-one s history c)
 
 -- a write that is done in part may be there whole, and within the old length not at all

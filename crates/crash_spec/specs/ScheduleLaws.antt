@@ -3,7 +3,7 @@ use Rattle.std.specs.Prelude.{◌≡◌, ℕ, ◌+◌, ◌-◌, ◌≤◌, Bool,
 use Rattle.posix_laws.specs.posix_types.declared.call.Call.{Call}
 use Rattle.posix_laws.specs.posix_types.declared.call.Who.{Who}
 use Rattle.posix_laws.specs.posix_types.declared.item.Item.{Item}
-use Rattle.posix_laws.specs.posix_spec.Run.{Begun}
+use Rattle.posix_laws.specs.posix_spec.Run.{Unfinished}
 use Rattle.posix_laws.specs.posix_spec.Scripted.{script_of}
 use Rattle.crash_spec.specs.Machine.{Setting, unfinished_of}
 use Rattle.crash_spec.specs.Orders.{Order}
@@ -50,11 +50,11 @@ NoChoiceWithoutWrites =
     (g : Setting) (order : Order) (events : ℕ) (c d : Course) → NobodyWrites g → Reaches g order events c → Reaches g order events d → c ≡ d
 
 -- So many events leave this and nothing else, but for what comes of wants of space.
-pub record IsTheSchedule (g : Setting) (order : Order) (events : ℕ) (history : List Item) (unfinished : List Begun) : Type 0 where
+pub record IsTheSchedule (g : Setting) (order : Order) (events : ℕ) (history : List Item) (unfinished : List Unfinished) : Type 0 where
   pub is_scheduled : Scheduled g order events history unfinished
   pub no_other : (c : Course) (reached : Reaches g order events c) → NeverLacksSpace g order events c reached → (c.machine.history ≡ history) × (unfinished_of c.machine ≡ unfinished)
 
 -- So many events leave this and nothing else.
-pub record IsTheOnlySchedule (g : Setting) (order : Order) (events : ℕ) (history : List Item) (unfinished : List Begun) : Type 0 where
+pub record IsTheOnlySchedule (g : Setting) (order : Order) (events : ℕ) (history : List Item) (unfinished : List Unfinished) : Type 0 where
   pub is_scheduled : Scheduled g order events history unfinished
-  pub no_other : (other : List Item) (calls : List Begun) → Scheduled g order events other calls → (other ≡ history) × (calls ≡ unfinished)
+  pub no_other : (other : List Item) (calls : List Unfinished) → Scheduled g order events other calls → (other ≡ history) × (calls ≡ unfinished)

@@ -3,7 +3,7 @@ use Rattle.std.specs.Prelude.{◌≡◌, ℕ, ◌+◌, Bool, false, ◌||◌, Li
 use Rattle.std.specs.List.{range_with_len}
 use Rattle.posix_laws.specs.posix_types.declared.call.Who.{Who}
 use Rattle.posix_laws.specs.posix_types.declared.item.Item.{Item}
-use Rattle.posix_laws.specs.posix_spec.Run.{Begun}
+use Rattle.posix_laws.specs.posix_spec.Run.{Unfinished}
 use Rattle.crash_spec.specs.Machine.{at_rest, Begin, Checkpoint, Claim, Event, Fill, Finish, Goes, have_ended, job_of, LacksSpace, Machine, may_begin, Persist, Setting, Store, unfinished_of}
 use Rattle.crash_spec.specs.Orders.{none_picked, Order, Picker, Picks}
 
@@ -48,7 +48,7 @@ pub data Reaches (g : Setting) (order : Order) : ℕ → Course → Type 0 where
   Further : (events more : ℕ) (c next : Course) → Reaches g order events c → Advances g order c more next → Reaches g order (events + more) next
 
 -- SCHEDULED: so many events of the machine, in this order, leave this history and these unfinished calls.
-pub record Scheduled (g : Setting) (order : Order) (events : ℕ) (history : List Item) (unfinished : List Begun) : Type 0 where
+pub record Scheduled (g : Setting) (order : Order) (events : ℕ) (history : List Item) (unfinished : List Unfinished) : Type 0 where
   pub course : Course
   pub reached : Reaches g order events course
   pub history_is : history ≡ course.machine.history

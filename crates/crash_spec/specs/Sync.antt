@@ -6,7 +6,7 @@ use Rattle.posix_laws.specs.posix_types.declared.item.Item.{Item}
 use Rattle.posix_laws.specs.posix_types.declared.tree.TreeEntry.{TreeEntry}
 use Rattle.posix_laws.specs.posix_tables.Nodes.{bytes_of, node_at, published_of}
 use Rattle.posix_laws.specs.posix_spec.Put.{Put, put_by}
-use Rattle.posix_laws.specs.posix_spec.Run.{after_call, Begun, run}
+use Rattle.posix_laws.specs.posix_spec.Run.{after_call, Unfinished, run}
 use Rattle.posix_laws.specs.posix_spec.State.{State, with_file}
 use Rattle.posix_laws.specs.posix_spec.Tree.{tree}
 
@@ -27,7 +27,7 @@ with_bytes s n bytes = with_file s n bytes (published_of (node_at s.nodes n))
 
 -- The call is a write of at least one byte that is accepted in this state, and the next state is that after it, the
 -- offset included, but for the bytes of the file: those are written in part.
-pub record ActsInPart (s : State) (c : Begun) (next : State) : Type 0 where
+pub record ActsInPart (s : State) (c : Unfinished) (next : State) : Type 0 where
   pub put : Put
   pub bytes : List ℕ
   pub is_write : put_by s c.0 c.1 ≡ Some put
@@ -35,7 +35,7 @@ pub record ActsInPart (s : State) (c : Begun) (next : State) : Type 0 where
   pub next_is : next ≡ with_bytes (after_call s c) put.node bytes
 
 -- the tree is that of a state reached by some of the unfinished calls, in order: each acts whole, in part, or not at all
-abbrev pub SyncFrom : State → List Begun → List TreeEntry → Type 0
+abbrev pub SyncFrom : State → List Unfinished → List TreeEntry → Type 0
 SyncFrom s [] left = left ≡ tree s
 SyncFrom s (c ∷ unfinished) left =
     SyncFrom (after_call s c) unfinished left
@@ -43,5 +43,5 @@ SyncFrom s (c ∷ unfinished) left =
     ⊎ SyncFrom s unfinished left
 
 -- all calls of the history have acted, and then some of the unfinished ones
-abbrev pub Sync : State → List Item → List Begun → List TreeEntry → Type 0
+abbrev pub Sync : State → List Item → List Unfinished → List TreeEntry → Type 0
 Sync s history unfinished left = SyncFrom (run s history) unfinished left

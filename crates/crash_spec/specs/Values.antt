@@ -4,7 +4,7 @@ use Rattle.std.specs.Prelude.{◌≡◌, ◌⊎◌, ℕ, ◌-◌, Bool, false, �
 use Rattle.posix_laws.specs.posix_tables.declared.nodes.Node.{Node}
 use Rattle.posix_laws.specs.posix_tables.Nodes.{bytes_of, node_at}
 use Rattle.posix_laws.specs.posix_spec.Put.{Put, put_by}
-use Rattle.posix_laws.specs.posix_spec.Run.{after_call, Begun}
+use Rattle.posix_laws.specs.posix_spec.Run.{after_call, Unfinished}
 use Rattle.posix_laws.specs.posix_spec.State.{State}
 
 -- the value that a put has for byte i of node n
@@ -13,7 +13,7 @@ value_of None n i = None
 value_of (Some put) n i = if (put.node == n) && nat_le put.place i then slice_get put.bytes (i - put.place) else None
 
 -- the value that a call puts there: none, unless it is a write that is accepted and reaches the byte
-abbrev pub value_put : State → Begun → ℕ → ℕ → Option ℕ
+abbrev pub value_put : State → Unfinished → ℕ → ℕ → Option ℕ
 value_put s c n i = value_of (put_by s c.0 c.1) n i
 
 -- a file that is there has no byte i
@@ -23,11 +23,11 @@ ends_before Node.Directory i = false
 ends_before (Node.File file) i = nat_le (length file.bytes) i
 
 -- a call shortens the file to i bytes or less
-abbrev pub shortens : State → Begun → ℕ → ℕ → Bool
+abbrev pub shortens : State → Unfinished → ℕ → ℕ → Bool
 shortens s c n i = nat_lt i (length (bytes_of (node_at s.nodes n))) && ends_before (node_at (after_call s c).nodes n) i
 
 -- some call of a list shortens it so
-unfoldable pub is_shortened : State → List Begun → ℕ → ℕ → Bool
+unfoldable pub is_shortened : State → List Unfinished → ℕ → ℕ → Bool
 is_shortened s [] n i = false
 is_shortened s (c ∷ calls) n i = shortens s c n i || is_shortened (after_call s c) calls n i
 
@@ -37,7 +37,7 @@ with_value None values = values
 with_value (Some x) values = x ∷ values
 
 -- the values that calls put there, in order
-unfoldable pub values_put : State → List Begun → ℕ → ℕ → List ℕ
+unfoldable pub values_put : State → List Unfinished → ℕ → ℕ → List ℕ
 values_put s [] n i = []
 values_put s (c ∷ calls) n i = with_value (value_put s c n i) (values_put (after_call s c) calls n i)
 
@@ -52,7 +52,7 @@ last_of v [] = v
 last_of v (w ∷ values) = last_of w values
 
 -- the last of v and the values that are put before the file is first shortened to i bytes or less
-unfoldable pub value_before_cut : State → List Begun → ℕ → ℕ → ℕ → ℕ
+unfoldable pub value_before_cut : State → List Unfinished → ℕ → ℕ → ℕ → ℕ
 value_before_cut s [] n i v = v
 value_before_cut s (c ∷ calls) n i v =
     if shortens s c n i then v

@@ -1,4 +1,5 @@
 -- What holds of every plan of a write.
+use Rattle.block_counts.specs.declared.TheConstants.{LONGEST_FILE, LONGEST_WRITE}
 use Rattle.std.specs.Prelude.{◌≡◌, ℕ, ◌+◌, ◌<◌, ◌≤◌, true, not, Some}
 use Rattle.posix_types.specs.declared.call.Mode.{Mode}
 use Rattle.data_route.specs.Writes.{is_in_place, is_staged, plan_of}
@@ -15,5 +16,5 @@ WritesOldBytesInPlace = (mode : Mode) (size offset len i : ℕ) → is_in_place 
 
 -- A write of 1 to 131,072 bytes stages 1 to 33 blocks, which lie in the file.
 abbrev pub StagesFewBlocks : Type 0
-StagesFewBlocks = (mode : Mode) (size offset len first count : ℕ) → 1 ≤ len → len ≤ 131072 → offset + len ≤ 16777216
+StagesFewBlocks = (mode : Mode) (size offset len first count : ℕ) → 1 ≤ len → len ≤ LONGEST_WRITE → offset + len ≤ LONGEST_FILE
     → (plan_of mode size offset len).staged ≡ Some (first, count) → (1 ≤ count) × (count ≤ 33) × (first + count ≤ 4096)

@@ -1,5 +1,6 @@
 //! The pieces of a read.
 ghost use Rattle.std.specs.Prelude.{◌≡◌, ◌+◌, ◌<◌, ◌≤◌, IfOk};
+ghost use Rattle.block_counts.specs.declared.TheConstants.{LONGEST_FILE};
 ghost use Rattle.map_collection.specs.Kept.{Agrees, KeepsOthers};
 ghost use Rattle.data_route.specs.Reads.{places_from, places_in, read_len, source_of, FitsBlock, IsReadPlan};
 
@@ -42,7 +43,7 @@ pub fn plan_read(
     collection: &mut Collection,
     map: &ExtentMap,
 ) -> Result<Vec<Piece>, AllocError>
-    requires file { size ≤ 16777216 }
+    requires file { size ≤ LONGEST_FILE }
     requires agrees { Agrees collection.old ino map.now }
     ensures plan { IfOk result (λ pieces.
         IsReadPlan overlay.now.runs map.now size offset len pieces.items) }
@@ -102,7 +103,7 @@ fn piece_at(
     map: &ExtentMap,
 ) -> Result<Piece, AllocError>
     requires some { 0 < left }
-    requires file { at + left ≤ 16777216 }
+    requires file { at + left ≤ LONGEST_FILE }
     requires agrees { Agrees collection.old ino map.now }
     ensures bytes { IfOk result (λ piece. places_in piece
         ≡ places_from overlay.now.runs map.now at piece.len) }

@@ -1,5 +1,6 @@
 //! The plan of a write.
 ghost use Rattle.std.specs.Prelude.{◌≡◌, ◌+◌, ◌<◌, ◌≤◌};
+ghost use Rattle.block_counts.specs.declared.TheConstants.{LONGEST_FILE};
 ghost use Rattle.data_route.specs.Writes.{cleans, first_staged, in_place_by, plan_of, staged_by, stages};
 
 use block_counts::{BLOCK, blocks_for};
@@ -21,8 +22,8 @@ pub struct WritePlan {
 /// The plan of a write of `len` bytes from `offset` on, to a file of `size` bytes. The file is
 /// neither before nor afterwards longer than 16,777,216 bytes. A write of no byte does nothing.
 pub fn plan_write(mode: Mode, size: u64, offset: u64, len: u64) -> WritePlan
-    requires file { size ≤ 16777216 }
-    requires end { offset + len ≤ 16777216 }
+    requires file { size ≤ LONGEST_FILE }
+    requires end { offset + len ≤ LONGEST_FILE }
     ensures { result ≡ plan_of mode size offset len }
 {
     if len == 0 {
@@ -62,8 +63,8 @@ fn is_staged(mode: Mode, size: u64, end: u64) -> bool
 
 // The first block that is staged, if one is.
 fn first_block(mode: Mode, size: u64, offset: u64) -> u64
-    requires file { size ≤ 16777216 }
-    requires start { offset ≤ 16777216 }
+    requires file { size ≤ LONGEST_FILE }
+    requires start { offset ≤ LONGEST_FILE }
     ensures block { result ≡ first_staged mode size offset }
     ensures small { result ≤ 4096 }
 {
@@ -75,9 +76,9 @@ fn first_block(mode: Mode, size: u64, offset: u64) -> u64
 
 // The blocks that are staged.
 fn staged(mode: Mode, size: u64, offset: u64, end: u64) -> Option<(u32, u32)>
-    requires file { size ≤ 16777216 }
+    requires file { size ≤ LONGEST_FILE }
     requires start { offset < end }
-    requires end { end ≤ 16777216 }
+    requires end { end ≤ LONGEST_FILE }
     ensures { result ≡ staged_by mode size offset end }
 {
     if !is_staged(mode, size, end) {
@@ -89,9 +90,9 @@ fn staged(mode: Mode, size: u64, offset: u64, end: u64) -> Option<(u32, u32)>
 
 // The bytes that are written in place.
 fn in_place(mode: Mode, size: u64, offset: u64, end: u64) -> Option<(u64, u64)>
-    requires file { size ≤ 16777216 }
+    requires file { size ≤ LONGEST_FILE }
     requires start { offset < end }
-    requires end { end ≤ 16777216 }
+    requires end { end ≤ LONGEST_FILE }
     ensures { result ≡ in_place_by mode size offset end }
 {
     let until = if is_staged(mode, size, end) {

@@ -30,20 +30,20 @@ use Rattle.live_model.specs.world_model.Latest.{AreBelow-Consecutive}
 use Rattle.live_model.specs.world_model.Jobs.{Job, JobsStand, JobStands, live_claims}
 use Rattle.live_model.specs.world_model.Stands.{entries_of, FileStands, NodeStands, number}
 use Rattle.live_model.specs.world_step_laws.Worlds.{IsWorld}
-use Rattle.live_model.specs.Standing.{AreJobsOf, Kept, Pending, StandsAt}
+use Rattle.live_model.specs.Standing.{AreJobsOf, Kept, JobOut, StandsAt}
 use Rattle.eof_laws.specs.FinishesLaws.{EndFinished, LeavesNoShorter}
 
 -- ---- the job of a write that is out
 
-record IsJobOf (p : Pending) (jobs : List Job) : Type 0 where
+record IsJobOf (p : JobOut) (jobs : List Job) : Type 0 where
   job : Job
   there : In job jobs
   draft : job.draft ≡ p.draft
 
-job_of : (pending : List Pending) (jobs : List Job) (p : Pending) → AreJobsOf pending jobs → In p pending → IsJobOf p jobs
+job_of : (pending : List JobOut) (jobs : List Job) (p : JobOut) → AreJobsOf pending jobs → In p pending → IsJobOf p jobs
 job_of [] jobs p are is = absurd is
 job_of (q ∷ pending) [] p are is = absurd are
-job_of (q ∷ pending) (j ∷ jobs) p are (inl same) = record { job = j; there = inl refl; draft = are.2 ∙ ap (λ (x : Pending). x.draft) same }
+job_of (q ∷ pending) (j ∷ jobs) p are (inl same) = record { job = j; there = inl refl; draft = are.2 ∙ ap (λ (x : JobOut). x.draft) same }
 job_of (q ∷ pending) (j ∷ jobs) p are (inr rest) = let its = job_of pending jobs p are.3 rest in record { job = its.job; there = inr its.there; draft = its.draft }
 
 job_stands : (v : Volume) (live : List Draft) (f : Words) (numbers : List ℕ) (s : State) (jobs : List Job) (j : Job) → JobsStand v live f numbers s jobs → In j jobs → JobStands v live f numbers s j
@@ -62,7 +62,7 @@ file_bytes v live f ino File (Node.File x) file is = is
 more_blocks : (a b : ℕ) → a ≤ b → blocks_for a ≤ blocks_for b
 more_blocks a b le = omega (arith, le)
 
-module _ (g : Geometry) (k : View) (t : Tables) (kept : Kept) (lines : Bool) (n : ℕ) (s : State) (p : Pending) (stands : StandsAt g k t kept lines n s) (there : In p kept.pending) where
+module _ (g : Geometry) (k : View) (t : Tables) (kept : Kept) (lines : Bool) (n : ℕ) (s : State) (p : JobOut) (stands : StandsAt g k t kept lines n s) (there : In p kept.pending) where
   abbrev v : Volume
   v = k.volume
 

@@ -46,7 +46,7 @@ use Rattle.open_files.specs.posix_spec.Run.{after_call, run}
 use Rattle.open_files.specs.posix_spec.State.{alone, State, swept, unnamed as unnamed_state}
 use Rattle.open_files.specs.posix_spec.Tree.{tree}
 use Rattle.live_step_laws.specs.commute_laws.Commutes.{takes}
-use Rattle.live_step_laws.specs.world_model.Jobs.{begun_of, Job, live_claims}
+use Rattle.live_step_laws.specs.world_model.Jobs.{unfinished_call, Job, live_claims}
 use Rattle.live_step_laws.specs.world_model.Stands.{is_used, number}
 use Rattle.live_step_laws.specs.world_image_laws.Promised.{IsKept}
 use Rattle.live_step_laws.specs.world_image_laws.Back.{IsPutBack}
@@ -130,10 +130,10 @@ leads_half g v k t x n jobs start history who call ino half leads =
 half_lost : (g : Geometry) (v : Volume) (k k2 : View) (t : Tables) (x : Kept) (n : ℕ) (jobs : List Job) (start : State) (history : List Item) (who : Who) (call : Call) (ino : ℕ) → start.mode ≡ Mode.Strict
     → (half : IsHalfWay g v k t x n jobs (after_call (run start history) (who, call)) ino) → LeadsTo start history (who, call) jobs (after_call (run start history) (who, call)) → is_open t ino ≡ false
     → IsDropAnswer ino k k2 (Err KFault.PowerLost) → (back : ℕ → Cell) (slots : List (Option ℕ)) (image : Words) → IsPutBack v k2.cells back x.first x.claims jobs slots image
-    → IsKept g start history (map begun_of jobs ++ (who, call) ∷ []) image
+    → IsKept g start history (map unfinished_call jobs ++ (who, call) ∷ []) image
 half_lost g v k k2 t x n jobs start history who call ino mode half leads shut drop back slots image put =
-    subst (λ y. IsKept y start history (map begun_of jobs ++ (who, call) ∷ []) image) half.runs.geometry
-    (subst (λ js. IsKept k.volume.geometry start history (map begun_of js ++ (who, call) ∷ []) image) half.jobs_are (by drop)) where
+    subst (λ y. IsKept y start history (map unfinished_call jobs ++ (who, call) ∷ []) image) half.runs.geometry
+    (subst (λ js. IsKept k.volume.geometry start history (map unfinished_call js ++ (who, call) ∷ []) image) half.jobs_are (by drop)) where
       put_there : IsPutBack k.volume k2.cells back x.first x.claims half.runs.jobs slots image
       put_there =
           subst (λ js. IsPutBack k.volume k2.cells back x.first x.claims js slots image) (sym half.jobs_are)
@@ -145,7 +145,7 @@ half_lost g v k k2 t x n jobs start history who call ino mode half leads shut dr
       end_leads : LeadsTo start history (who, call) half.runs.jobs (after_call (run start history) (who, call))
       end_leads = subst (λ js. LeadsTo start history (who, call) js (after_call (run start history) (who, call))) (sym half.jobs_are) leads
 
-      by : IsDropAnswer ino k k2 (Err KFault.PowerLost) → IsKept k.volume.geometry start history (map begun_of half.runs.jobs ++ (who, call) ∷ []) image
+      by : IsDropAnswer ino k k2 (Err KFault.PowerLost) → IsKept k.volume.geometry start history (map unfinished_call half.runs.jobs ++ (who, call) ∷ []) image
       by (inl off) =
           keeps_image_between k k2 x.claims half.runs.jobs half.runs.numbers half.middle start history half.runs.count (who, call) back x.first slots image mode half.runs.flying.whole
           (going g k t x n half.middle half.runs) middle_leads off put_there

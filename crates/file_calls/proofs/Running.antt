@@ -27,7 +27,7 @@ use Rattle.posix_types.specs.declared.reply.Errno.{Errno}
 use Rattle.posix_types.specs.declared.reply.Reply.{Reply}
 use Rattle.open_files.specs.posix_tables.Open.{is_open, Tables}
 use Rattle.open_files.specs.posix_tables.Outcomes.{answer}
-use Rattle.open_files.specs.posix_spec.Run.{after_call, Begun, run}
+use Rattle.open_files.specs.posix_spec.Run.{after_call, Unfinished, run}
 use Rattle.open_files.specs.posix_spec.State.{alone, room, State}
 use Rattle.open_files.specs.posix_spec.Step.{step}
 use Rattle.open_files.specs.commute_laws.Frames.{AreThreads}
@@ -35,7 +35,7 @@ use Rattle.open_files.specs.commute_laws.Needs.{IsApart, needs}
 use Rattle.live_step_laws.specs.commute_laws.Commutes.{takes}
 use Rattle.live_step_laws.specs.commute_laws.Orders.{AreTwoEach}
 use Rattle.open_files.specs.posix_laws.Views.{AreAfforded}
-use Rattle.live_step_laws.specs.world_model.Jobs.{ApartFrom, begun_of, Job, JobsStand, JobStands, live_claims}
+use Rattle.live_step_laws.specs.world_model.Jobs.{ApartFrom, unfinished_call, Job, JobsStand, JobStands, live_claims}
 use Rattle.live_step_laws.specs.world_model.Stands.{number}
 use Rattle.live_step_laws.specs.world_model.JobLaws.{live_used}
 use Rattle.live_step_laws.specs.world_image_laws.Changed.{sound_headed}
@@ -49,7 +49,7 @@ use Rattle.live_step_laws.specs.world_step_laws.Worlds.{IsIdle, IsWorld}
 use Rattle.live_step_laws.specs.k_split_laws.Done.{keeps_image_cut, keeps_image_off}
 use Rattle.live_step_laws.specs.k_split_laws.Ends.{refused_by_row}
 use Rattle.live_step_laws.specs.k_split_laws.Going.{IsGoing, IsNameCall, IsStep, row_of_call}
-use Rattle.live_step_laws.specs.live_model.Standing.{AreJobsOf, AreOfTwoThreads, Kept, Pending}
+use Rattle.live_step_laws.specs.live_model.Standing.{AreJobsOf, AreOfTwoThreads, Kept, JobOut}
 use Rattle.live_step_laws.proofs.Standing.{stands_still}
 use Rattle.live_step_laws.specs.StepsLaws.{AreLeft}
 use Rattle.file_calls.specs.Answers.{Answers, IsEnded, IsSpent, LeavesDevice, Loses, told_of}
@@ -72,8 +72,8 @@ module _ (g : Geometry) (k : View) (t : Tables) (x : Kept) (n : ℕ) (s : State)
     nodes_apart i j one two files same =
         files (world.valid.stands.names.one i.draft.ino j.draft.ino (live_used k.volume i.draft one.alive) (live_used k.volume j.draft two.alive) same)
 
-    apart : (p : Pending) (i : Job) (pending : List Pending) (jobs : List Job) → i.who ≡ p.who → AreJobsOf pending jobs
-        → ((m : ℕ) (d : Pending) → m < length pending → AreOfTwoThreads p (slice_index_or pending m d))
+    apart : (p : JobOut) (i : Job) (pending : List JobOut) (jobs : List Job) → i.who ≡ p.who → AreJobsOf pending jobs
+        → ((m : ℕ) (d : JobOut) → m < length pending → AreOfTwoThreads p (slice_index_or pending m d))
         → JobStands k.volume (live_claims k.volume x.claims) (journaled (words_of k.cells)) runs.numbers s i → ApartFrom i jobs
         → JobsStand k.volume (live_claims k.volume x.claims) (journaled (words_of k.cells)) runs.numbers s jobs → IsApart (flight_of runs.numbers i) (flights_of runs.numbers jobs)
     apart p i [] [] who are each one away out = tt
@@ -87,7 +87,7 @@ module _ (g : Geometry) (k : View) (t : Tables) (x : Kept) (n : ℕ) (s : State)
       apart p i pending jobs who are.3 (λ m d below. each (suc m) d (omega (arith, below))) one away.1 out.2,
     )
 
-    all : (pending : List Pending) (jobs : List Job) → AreJobsOf pending jobs → AllPairs AreOfTwoThreads pending
+    all : (pending : List JobOut) (jobs : List Job) → AreJobsOf pending jobs → AllPairs AreOfTwoThreads pending
         → JobsStand k.volume (live_claims k.volume x.claims) (journaled (words_of k.cells)) runs.numbers s jobs → AreTwoEach (flights_of runs.numbers jobs)
     all [] [] are callers out = tt
     all [] (j ∷ jobs) are callers out = absurd are
@@ -155,13 +155,13 @@ row_refuses who call k t f o named row g x n s runs = refused_by_row k.volume k.
 -- before the change
 pub loses_off : (who : Who) (call : Call) (k k2 : View) (t : Tables) (f : Files) → IsOff k k2 → Loses who call k t f k2
 loses_off who call k k2 t f off g x n start history small mode runs lets back slots image put =
-    subst (λ z. IsKept z start history (map begun_of runs.jobs ++ (who, call) ∷ []) image) runs.geometry
+    subst (λ z. IsKept z start history (map unfinished_call runs.jobs ++ (who, call) ∷ []) image) runs.geometry
     (keeps_image_off k k2 x.claims runs.jobs runs.numbers start history runs.count (who, call) back x.first slots image mode runs.flying.whole (going g k t (with_files x f) n (run start history) runs) off put)
 
 -- and where no change comes
 pub loses_now : (who : Who) (call : Call) (k : View) (t : Tables) (f : Files) → Loses who call k t f k
 loses_now who call k t f g x n start history small mode runs lets back slots image put =
-    subst (λ z. IsKept z start history (map begun_of runs.jobs ++ (who, call) ∷ []) image) runs.geometry
+    subst (λ z. IsKept z start history (map unfinished_call runs.jobs ++ (who, call) ∷ []) image) runs.geometry
     (keeps_image_off k (record k { lost = true }) x.claims runs.jobs runs.numbers start history runs.count (who, call) back x.first slots image mode runs.flying.whole (going g k t (with_files x f) n (run start history) runs) refl put)
 
 -- a call that takes no room leads to its end
@@ -175,7 +175,7 @@ leads_end g k t x n start history who call runs lets none =
 
 -- In it: a step from the history's state to another one, whose trees are those of the history's state with the call as the last of the
 -- unfinished ones.
-pub record CutsInto (v w : Volume) (claims : List (ℕ × Draft)) (jobs : List Job) (numbers : List ℕ) (start : State) (history : List Item) (c : Begun) (count : ℕ) : Type 0 where
+pub record CutsInto (v w : Volume) (claims : List (ℕ × Draft)) (jobs : List Job) (numbers : List ℕ) (start : State) (history : List Item) (c : Unfinished) (count : ℕ) : Type 0 where
   pub touched : Option ℕ
   pub after : List ℕ
   pub next : State
@@ -189,7 +189,7 @@ pub loses_cut : (who : Who) (call : Call) (k k2 : View) (t : Tables) (f : Files)
     → Loses who call k t f k2
 loses_cut who call k k2 t f w cut into g x n start history small mode runs lets back slots image put =
     let is = into g x n start history small runs lets in
-    subst (λ z. IsKept z start history (map begun_of runs.jobs ++ (who, call) ∷ []) image) runs.geometry
+    subst (λ z. IsKept z start history (map unfinished_call runs.jobs ++ (who, call) ∷ []) image) runs.geometry
     (keeps_image_cut is.touched k k2 w x.claims runs.jobs runs.numbers is.after (run start history) is.next runs.count is.later start history (who, call) back x.first slots image mode runs.flying.whole
     (going g k t (with_files x f) n (run start history) runs) cut is.is_step (leads_before start history (who, call) runs.jobs) is.leads put)
 

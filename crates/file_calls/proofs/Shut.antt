@@ -10,7 +10,7 @@ use Rattle.posix_types.specs.declared.call.Who.{Who}
 use Rattle.posix_types.specs.declared.handle.Handle.{Handle}
 use Rattle.open_files.specs.posix_tables.declared.open.Description.{Description}
 use Rattle.open_files.specs.posix_tables.Open.{closed, opened}
-use Rattle.open_files.specs.posix_spec.Run.{Begun}
+use Rattle.open_files.specs.posix_spec.Run.{Unfinished}
 use Rattle.open_files.specs.posix_spec.State.{room, State}
 use Rattle.open_files.specs.posix_laws.ViewLaws.{need_of-kept, PutsWhole-kept}
 use Rattle.open_files.specs.posix_laws.Views.{AreAfforded, KeepsView, need_of}
@@ -19,7 +19,7 @@ use Rattle.open_files.specs.commute_laws.Frames.{KeepsSeen, other_file}
 use Rattle.open_files.specs.commute_laws.Handles.{Opens-closed}
 use Rattle.open_files.specs.commute_laws.Needs.{AreInFlight, LetsBe}
 use Rattle.open_files.specs.crash_spec.Busy.{waits_for}
-use Rattle.live_step_laws.specs.world_model.Jobs.{begun_of, Job, JobsStand, live_claims, Valid}
+use Rattle.live_step_laws.specs.world_model.Jobs.{unfinished_call, Job, JobsStand, live_claims, Valid}
 use Rattle.live_step_laws.specs.world_model.Stands.{number, Stands}
 use Rattle.live_step_laws.specs.world_step_laws.Steps.{flight_of, flights_of, GoOn, HaveSameFiles, InFlight-job, LetsJobsBe}
 
@@ -35,16 +35,16 @@ module _ (s : State) (who : Who) (h : Handle) (d : Description) (known : opened 
       let other = other_file s who h (number numbers j.draft.ino) d lets.aside known in
       record { handles = λ h2 key e o same. Opens-closed s.tables j.who who h2 h key e d lets.threads.other lets.threads.thread lets.threads.own known (λ one. other (sym same ∙ one)) o; file = refl; mode = refl }
 
-  view : (numbers : List ℕ) (j : Job) → LetsBe s (who, Call.Close h) (flight_of numbers j) → InFlight s (begun_of j) (number numbers j.draft.ino) j.whole → KeepsView s shut j.who j.call
+  view : (numbers : List ℕ) (j : Job) → LetsBe s (who, Call.Close h) (flight_of numbers j) → InFlight s (unfinished_call j) (number numbers j.draft.ino) j.whole → KeepsView s shut j.who j.call
   view numbers j lets flight = KeepsView-seen s shut j.who j.call (number numbers j.draft.ino) j.whole flight.puts (seen numbers j lets)
 
-  parts : (j : Job) (jobs : List Job) → AreAfforded s (map begun_of (j ∷ jobs)) → (need_of s j.who j.call ≤ room s) × AreAfforded s (map begun_of jobs)
+  parts : (j : Job) (jobs : List Job) → AreAfforded s (map unfinished_call (j ∷ jobs)) → (need_of s j.who j.call ≤ room s) × AreAfforded s (map unfinished_call jobs)
   parts j jobs fits =
-      let sum = sum_by-cons (λ (c : Begun). need_of s c.0 c.1) (begun_of j) (map begun_of jobs) in
+      let sum = sum_by-cons (λ (c : Unfinished). need_of s c.0 c.1) (unfinished_call j) (map unfinished_call jobs) in
       (omega (arith, sum, fits), omega (arith, sum, fits))
 
   module _ (v : Volume) (live : List Draft) (f : Words) (numbers : List ℕ) (stands : Stands v live f numbers s) where
-    flying : (jobs : List Job) → JobsStand v live f numbers s jobs → LetsJobsBe s (who, Call.Close h) numbers jobs → AreAfforded s (map begun_of jobs) → AreInFlight shut (flights_of numbers jobs)
+    flying : (jobs : List Job) → JobsStand v live f numbers s jobs → LetsJobsBe s (who, Call.Close h) numbers jobs → AreAfforded s (map unfinished_call jobs) → AreInFlight shut (flights_of numbers jobs)
     flying [] out lets fits = tt
     flying (j ∷ jobs) out lets fits =
         let flight = InFlight-job v live f numbers s j stands out.0 in
@@ -54,13 +54,13 @@ module _ (s : State) (who : Who) (h : Handle) (d : Description) (known : opened 
         )
 
     same_needs : (jobs : List Job) → JobsStand v live f numbers s jobs → LetsJobsBe s (who, Call.Close h) numbers jobs
-        → sum_by (λ (c : Begun). need_of shut c.0 c.1) (map begun_of jobs) ≡ sum_by (λ (c : Begun). need_of s c.0 c.1) (map begun_of jobs)
+        → sum_by (λ (c : Unfinished). need_of shut c.0 c.1) (map unfinished_call jobs) ≡ sum_by (λ (c : Unfinished). need_of s c.0 c.1) (map unfinished_call jobs)
     same_needs [] out lets = refl
     same_needs (j ∷ jobs) out lets =
         let one = need_of-kept s shut j.who j.call (view numbers j lets.0 (InFlight-job v live f numbers s j stands out.0)) in
         let rest = same_needs jobs out.2 lets.1 in
-        sum_by-cons (λ (c : Begun). need_of shut c.0 c.1) (begun_of j) (map begun_of jobs)
-        ∙ ((λ i. one i + rest i) ∙ sym (sum_by-cons (λ (c : Begun). need_of s c.0 c.1) (begun_of j) (map begun_of jobs)))
+        sum_by-cons (λ (c : Unfinished). need_of shut c.0 c.1) (unfinished_call j) (map unfinished_call jobs)
+        ∙ ((λ i. one i + rest i) ∙ sym (sum_by-cons (λ (c : Unfinished). need_of s c.0 c.1) (unfinished_call j) (map unfinished_call jobs)))
 
   files : (numbers : List ℕ) (jobs : List Job) → HaveSameFiles s shut numbers jobs
   files numbers [] = tt

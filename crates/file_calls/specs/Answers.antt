@@ -36,7 +36,7 @@ use Rattle.open_files.specs.posix_spec.State.{alone, State, swept}
 use Rattle.open_files.specs.posix_spec.Step.{step}
 use Rattle.open_files.specs.posix_spec.Tree.{tree}
 use Rattle.live_step_laws.specs.volume_change_laws.Changes.{MayDrop}
-use Rattle.live_step_laws.specs.world_model.Jobs.{begun_of, Job}
+use Rattle.live_step_laws.specs.world_model.Jobs.{unfinished_call, Job}
 use Rattle.live_step_laws.specs.world_model.Stands.{number}
 use Rattle.live_step_laws.specs.world_image_laws.Promised.{IsKept}
 use Rattle.live_step_laws.specs.world_image_laws.Back.{IsPutBack}
@@ -64,7 +64,7 @@ Loses who call k t f k2 =
     → LetsJobsBe (run start history) (who, call) runs.numbers runs.jobs
     → (back : ℕ → Cell) (slots : List (Option ℕ)) (image : Words)
     → IsPutBack k.volume k2.cells back x.first x.claims runs.jobs slots image
-    → IsKept g start history (map begun_of runs.jobs ++ (who, call) ∷ []) image
+    → IsKept g start history (map unfinished_call runs.jobs ++ (who, call) ∷ []) image
 
 -- The device is left of the one before: the same words are lent, and the journal of each image can be recovered.
 abbrev pub LeavesDevice : Who → Call → View → Tables → Files → View → Type 0

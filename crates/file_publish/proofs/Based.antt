@@ -21,7 +21,7 @@ use Rattle.log_checkpoint.specs.image_model.Volume.{Volume}
 use Rattle.log_checkpoint.specs.image_laws.ViewLaws.{head_word, sound-targets}
 use Rattle.log_checkpoint.specs.k_split_model.Stands.{IsOldOrNew, Stands}
 use Rattle.log_checkpoint.specs.posix_types.declared.item.Item.{Item}
-use Rattle.log_checkpoint.specs.posix_spec.Run.{Begun}
+use Rattle.log_checkpoint.specs.posix_spec.Run.{Unfinished}
 use Rattle.log_checkpoint.specs.posix_spec.State.{State}
 use Rattle.log_checkpoint.specs.posix_spec.Tree.{tree}
 use Rattle.log_checkpoint.specs.volume_laws.Footprint.{SameLog}
@@ -195,7 +195,7 @@ module _ (v : Volume) (d e : List Cell) (claims : List (ℕ × Draft)) (numbers 
   pub old-next : (image : Words) → IsImage e image → HasOldLines (base_set base v) image
   old-next image is = let from = follows image is in old-lines from.0 image from.1.is_image from.2
 
-  pub promise-next : (start : State) (history : List Item) (unfinished : List Begun) → Permitted start.mode start history unfinished (tree s) → KeepsPromise v.geometry e start history unfinished
+  pub promise-next : (start : State) (history : List Item) (unfinished : List Unfinished) → Permitted start.mode start history unfinished (tree s) → KeepsPromise v.geometry e start history unfinished
   promise-next start history unfinished permitted image is honest =
       let from = follows image is in
       elim from.2.reads [

@@ -15,7 +15,7 @@ use Rattle.live_step_laws.specs.posix_types.declared.call.Mode.{Mode}
 use Rattle.live_step_laws.specs.posix_types.declared.item.Item.{Item}
 use Rattle.live_step_laws.specs.posix_spec.Run.{run}
 use Rattle.live_step_laws.specs.posix_spec.State.{State}
-use Rattle.live_step_laws.specs.world_model.Jobs.{begun_of, Job, staged_block}
+use Rattle.live_step_laws.specs.world_model.Jobs.{unfinished_call, Job, staged_block}
 use Rattle.live_step_laws.specs.world_model.Promised.{AreWhole}
 use Rattle.live_step_laws.specs.world_model.Shown.{AreFilled, landed_pairs}
 use Rattle.live_step_laws.specs.world_step_laws.Worlds.{IsWorld}
@@ -90,14 +90,14 @@ module _ (blocks : List ℕ) (v w : Volume) (d e : List Cell) (claims : List (�
     ]
 
   module _ (start : State) (history : List Item) (mode : start.mode ≡ Mode.Strict) (is_run : s ≡ run start history) (whole : AreWhole jobs) where
-    kept : (image : Words) → ShowsWorld v claims jobs numbers s count image ⊎ ShowsWorld w claims jobs numbers s count image → IsKept v.geometry start history (map begun_of jobs) image
+    kept : (image : Words) → ShowsWorld v claims jobs numbers s count image ⊎ ShowsWorld w claims jobs numbers s count image → IsKept v.geometry start history (map unfinished_call jobs) image
     kept image (inl old) = kept_strict v claims jobs numbers count image start history mode whole (subst (λ x. ShowsWorld v claims jobs numbers x count image) is_run old)
     kept image (inr new) =
-        subst (λ g. IsKept g start history (map begun_of jobs) image) change.geometry
+        subst (λ g. IsKept g start history (map unfinished_call jobs) image) change.geometry
         (kept_strict w claims jobs numbers count image start history mode whole (subst (λ x. ShowsWorld w claims jobs numbers x count image) is_run new))
 
     pub kept-back : HaveSameBlocks v w jobs → (back : ℕ → Cell) (first : Words) (slots : List (Option ℕ)) (image : Words) → IsPutBack v e back first claims jobs slots image
-        → IsKept v.geometry start history (map begun_of jobs) image
+        → IsKept v.geometry start history (map unfinished_call jobs) image
     kept-back same back first slots image is =
         let of_device = image_of e back image is.image_is in
         let before = (from image of_device).1.is_image in
@@ -105,7 +105,7 @@ module _ (blocks : List ℕ) (v w : Volume) (d e : List Cell) (claims : List (�
         kept image (shows-put_back image of_device same shows)
 
     -- log lines at home, and no job is out
-    pub kept-home : jobs ≡ [] → HasLogHome v d claims → (image : Words) → IsImage e image → IsKept v.geometry start history (map begun_of jobs) image
+    pub kept-home : jobs ≡ [] → HasLogHome v d claims → (image : Words) → IsImage e image → IsKept v.geometry start history (map unfinished_call jobs) image
     kept-home none home image of_device =
         let log_new = keeps_log_home_with blocks v w d e claims device.headed change spare home image of_device in
         let log_old = ShowsLog-same w v claims (journaled image) (journaled image) (sym change.geometry) (sym change.base) (record { words = λ slot i below at. refl }) log_new in

@@ -31,7 +31,7 @@ use Rattle.live_step_laws.specs.world_image_laws.Running.{promise_now}
 use Rattle.live_step_laws.specs.world_image_laws.Back.{IsPutBack}
 use Rattle.live_step_laws.specs.world_image_laws.Flights.{promise_in_flight}
 use Rattle.live_step_laws.specs.world_model.Lines.{AreJobLines, AreLinesOut, HoldsWords, IsClaimedLine, IsPutOver, Spells}
-use Rattle.live_step_laws.specs.world_model.Jobs.{begun_of, Job, live_claims}
+use Rattle.live_step_laws.specs.world_model.Jobs.{unfinished_call, Job, live_claims}
 use Rattle.live_step_laws.specs.world_step_laws.Steps.{AreBeside}
 use Rattle.live_step_laws.specs.world_step_laws.Touched.{only}
 use Rattle.live_step_laws.specs.live_model.Standing.{Kept, StandsAt}
@@ -107,9 +107,9 @@ module _ (g : Geometry) (k : View) (t : Tables) (kept : Kept) (lines : Bool) (n 
   not-posix : start.mode ≢ Mode.Posix
   not-posix posix = let never : Mode.Strict ≡ Mode.Posix = sym mode ∙ posix in cc
 
-  pub kept-still : (back : ℕ → Cell) (slots : List (Option ℕ)) (image : Words) → IsPutBack k.volume k.cells back kept.first kept.claims stands.jobs slots image → IsKept g start history (map begun_of stands.jobs) image
+  pub kept-still : (back : ℕ → Cell) (slots : List (Option ℕ)) (image : Words) → IsPutBack k.volume k.cells back kept.first kept.claims stands.jobs slots image → IsKept g start history (map unfinished_call stands.jobs) image
   kept-still back slots image is =
-      subst (λ x. IsKept x start history (map begun_of stands.jobs) image) stands.geometry
+      subst (λ x. IsKept x start history (map unfinished_call stands.jobs) image) stands.geometry
       (promise_in_flight k.volume k.cells kept.claims stands.jobs stands.numbers start history stands.count back kept.first slots image not-posix (λ strict. stands.flying.whole)
       stands.flying.device is)
 
@@ -131,7 +131,7 @@ module _ (g : Geometry) (t : Tables) (n : ℕ) (start : State) (history : List I
   one-kept : (lines : Bool) (r : Run) (rest : List Run) (k l : View) (kept : Kept) (stands : StandsAt g k t kept lines n (run start history)) → runs_in kept.files ino ≡ r ∷ rest
       → MayPublish ino (size_in kept.files ino) (r ∷ rest) k → AreBeside (only ino) stands.jobs → IsRelinkAnswer (first_move kept k ino r rest) k l (Err KFault.PowerLost)
       → (back : ℕ → Cell) (slots : List (Option ℕ)) (image : Words) → IsPutBack k.volume l.cells back kept.first kept.claims stands.jobs slots image
-      → IsKept g start history (map begun_of stands.jobs) image
+      → IsKept g start history (map unfinished_call stands.jobs) image
   one-kept lines r rest k l kept stands runs_are may beside (inl off) back slots image is =
       kept-still g k t kept lines n start history mode stands back slots image (subst (λ (z : View). IsPutBack k.volume z.cells back kept.first kept.claims stands.jobs slots image) off is)
   one-kept lines r rest k l kept stands runs_are may beside (inr (w, blocks, made, cut)) back slots image is =
@@ -140,7 +140,7 @@ module _ (g : Geometry) (t : Tables) (n : ℕ) (start : State) (history : List I
   each-kept : (lines : Bool) (r : Run) (rest : List Run) (k l : View) (kept : Kept) (stands : StandsAt g k t kept lines n (run start history)) → runs_in kept.files ino ≡ r ∷ rest
       → MayPublish ino (size_in kept.files ino) (r ∷ rest) k → AreBeside (only ino) stands.jobs → IsRelinkedUpTo KFault.PowerLost ino (size_in kept.files ino) (r ∷ rest) k l
       → (back : ℕ → Cell) (slots : List (Option ℕ)) (image : Words) → IsPutBack k.volume l.cells back kept.first kept.claims stands.jobs slots image
-      → IsKept g start history (map begun_of stands.jobs) image
+      → IsKept g start history (map unfinished_call stands.jobs) image
   each-kept lines r rest k l kept stands runs_are may beside (inl answer) back slots image is = one-kept lines r rest k l kept stands runs_are may beside answer back slots image is
   each-kept lines r [] k l kept stands runs_are may beside (inr (middle, gave, never)) back slots image is = absurd never
   each-kept lines r (next ∷ rest) k l kept stands runs_are may beside (inr (middle, gave, behind)) back slots image is =
@@ -156,7 +156,7 @@ module _ (g : Geometry) (t : Tables) (n : ℕ) (start : State) (history : List I
       let same = relinking.job-block g k t kept lines n (run start history) stands ino r (next ∷ rest) runs_are may beside middle.volume gave.0 gave.1 whole in
       let is_then = put-back-on k.volume middle.volume change.geometry base l.cells back kept.first kept.claims stands.jobs slots image same is in
       let jobs = sym first.jobs_are in
-      subst (λ js. IsKept g start history (map begun_of js) image) first.jobs_are
+      subst (λ js. IsKept g start history (map unfinished_call js) image) first.jobs_are
       (each-kept lines next rest middle l (record kept { files = table }) first.now loses.runs_are
       (next-may ino (size_in kept.files ino) r (next ∷ rest) k middle stands.order stands.unbatched may gave) (subst (AreBeside (only ino)) jobs beside) behind back slots image
       (subst (λ js. IsPutBack middle.volume l.cells back kept.first kept.claims js slots image) jobs is_then))
@@ -195,7 +195,7 @@ never-resized g k l t kept lines n s ino stands none may resized =
 pub keeps-published : KeepsPublished
 keeps-published g k l t kept lines n start history ino mode stands may beside stopped back slots image is = by (runs_in kept.files ino) refl may stopped where
   by : (runs : List Run) → runs_in kept.files ino ≡ runs → MayPublish ino (size_in kept.files ino) runs k → IsPublishStopped KFault.PowerLost ino (size_in kept.files ino) runs k l
-      → IsKept g start history (map begun_of stands.jobs) image
+      → IsKept g start history (map unfinished_call stands.jobs) image
   by [] none may_be resized = absurd (never-resized g k l t kept lines n (run start history) ino stands none may_be resized)
   by (r ∷ rest) are may_be stopped_at = each-kept g t n start history mode ino lines r rest k l kept stands are may_be beside stopped_at back slots image is
 

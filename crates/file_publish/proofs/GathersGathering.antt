@@ -3,7 +3,7 @@ use Rattle.std.specs.Prelude.{◌≡◌, ◌≢◌, ◌<◌, ◌≤◌, ◌^◌,
 use Rattle.std.proofs.Common.{arith, ap, ◌∙◌, sym, subst, inl, inr}
 use Rattle.std.proofs.lemmas.Bool.{cases_eq, cases_lt}
 use Rattle.live_step_laws.specs.layout_model.declared.lines.Kind.TheVariants.{File}
-use Rattle.live_step_laws.specs.layout_model.Lines.{most_bytes}
+use Rattle.live_step_laws.specs.layout_model.block_counts.declared.TheConstants.{LONGEST_FILE}
 use Rattle.live_step_laws.specs.layout_model.Places.{Geometry}
 use Rattle.log_checkpoint.specs.image_model.Volume.{inode}
 use Rattle.log_checkpoint.specs.file_overlay.declared.runs.Run.{Run}
@@ -43,8 +43,8 @@ none-beside : (ino : ℕ) (jobs : List Job) → jobs ≡ [] → AreBeside (only 
 none-beside ino jobs none = subst (AreBeside (only ino)) (sym none) tt
 
 module _ (may : StandsToPublish) (published : StandsPublished) (g : Geometry) (k : View) (t : Tables) (kept : Kept) (n : ℕ) (s : State) (stands : StandsAt g k t kept false n s) (few : n ≤ 2 ^ 62) (small : AreSmall kept) where
-  size-small : (m : ℕ) (ino : ℕ) → ino < length kept.files.sizes → size_in (cleared m kept.files) ino ≤ most_bytes
-  size-small m ino below = subst (λ size. size ≤ most_bytes) (sym (cleared-size m kept.files ino)) (small ino 0 below)
+  size-small : (m : ℕ) (ino : ℕ) → ino < length kept.files.sizes → size_in (cleared m kept.files) ino ≤ LONGEST_FILE
+  size-small m ino below = subst (λ size. size ≤ LONGEST_FILE) (sym (cleared-size m kept.files ino)) (small ino 0 below)
 
   may-next : (m : ℕ) (l : View) → m < length kept.files.sizes → StandsThen g k l t kept (with_table kept (cleared m kept.files)) false n s stands → IsLiveFile m l.volume
       → MayPublish m (size_in (cleared m kept.files) m) (runs_in (cleared m kept.files) m) l

@@ -26,7 +26,7 @@ use Rattle.log_checkpoint.specs.list_laws.Filters.{filter-agree}
 use Rattle.log_checkpoint.specs.list_laws.Members.{In}
 use Rattle.log_checkpoint.specs.k_split_model.Taken.{with_map}
 use Rattle.log_checkpoint.specs.posix_types.declared.item.Item.{Item}
-use Rattle.log_checkpoint.specs.posix_spec.Run.{Begun}
+use Rattle.log_checkpoint.specs.posix_spec.Run.{Unfinished}
 use Rattle.log_checkpoint.specs.posix_spec.State.{State}
 use Rattle.log_checkpoint.specs.posix_spec.Tree.{tree}
 use Rattle.log_checkpoint.proofs.staging_files_proofs.GiveUpLaws.{AreBare, bare-next, none-bare, staging-file}
@@ -128,7 +128,7 @@ module _ (x : ℕ) (m : View) (w : Volume) (blocks : List ℕ) (on : GoesOn m) (
     pub running-then : Stands w.geometry w e → IsRunning w e claims numbers s count
     running-then stands = runs_on m.volume w m.cells e claims numbers numbers s s count count running change stands room takes
 
-    pub promise-then : (start : State) (history : List Item) (unfinished : List Begun) → Permitted start.mode start history unfinished (tree s) → KeepsPromise m.volume.geometry e start history unfinished
+    pub promise-then : (start : State) (history : List Item) (unfinished : List Unfinished) → Permitted start.mode start history unfinished (tree s) → KeepsPromise m.volume.geometry e start history unfinished
     promise-then start history unfinished permitted = promise_in_change m.volume w m.cells e claims numbers numbers s s count count start history unfinished running change room takes permitted permitted
 
 -- ---- one after the other
@@ -191,7 +191,7 @@ module _ (k : View) (claims : List (ℕ × Draft)) (numbers : List ℕ) (s : Sta
 
   -- the power went in the next one
   pub cut-gone : (m l : View) (x : ℕ) → IsStaging x → HasGone k m claims numbers s count → (w : Volume) (blocks : List ℕ) → IsGivenUpWith x m w blocks → IsMapCut blocks w m l
-      → (start : State) (history : List Item) (unfinished : List Begun) → Permitted start.mode start history unfinished (tree s) → KeepsPromise k.volume.geometry l.cells start history unfinished
+      → (start : State) (history : List Item) (unfinished : List Unfinished) → Permitted start.mode start history unfinished (tree s) → KeepsPromise k.volume.geometry l.cells start history unfinished
   cut-gone m l x staging gone w blocks makes cut start history unfinished permitted =
       subst (λ g. KeepsPromise g l.cells start history unfinished) gone.geometry
       (promise-then x m w blocks gone.on staging cut.whole makes claims numbers s count gone.running gone.none l.cells cut.changes start history unfinished permitted)

@@ -13,10 +13,10 @@ use Rattle.live_step_laws.specs.posix_tables.Open.{Tables}
 use Rattle.live_step_laws.specs.posix_spec.Run.{run}
 use Rattle.live_step_laws.specs.posix_spec.State.{State}
 use Rattle.live_step_laws.specs.world_image_laws.Promised.{IsKept}
-use Rattle.live_step_laws.specs.world_model.Jobs.{begun_of, Job}
+use Rattle.live_step_laws.specs.world_model.Jobs.{unfinished_call, Job}
 use Rattle.live_step_laws.specs.world_step_laws.Steps.{AreBeside}
 use Rattle.live_step_laws.specs.world_step_laws.Touched.{only}
-use Rattle.live_step_laws.specs.live_model.Standing.{AreJobsOf, Kept, Pending, StandsAt}
+use Rattle.live_step_laws.specs.live_model.Standing.{AreJobsOf, Kept, JobOut, StandsAt}
 use Rattle.live_step_laws.specs.Changes.{IsChangeWith}
 use Rattle.file_publish.specs.RelinksLaws.{first_move, KeepsRelinked, KeepsRelinkedHome}
 use Rattle.file_publish.proofs.Cut.{kept-back, kept-home}
@@ -36,14 +36,14 @@ module _ (g : Geometry) (k l : View) (t : Tables) (kept : Kept) (lines : Bool) (
 
 pub keeps-relinked : KeepsRelinked
 keeps-relinked g k l t kept lines n start history ino r rest mode stands runs_are may beside w blocks made cut back slots image is =
-    subst (λ x. IsKept x start history (map begun_of stands.jobs) image) stands.geometry
+    subst (λ x. IsKept x start history (map unfinished_call stands.jobs) image) stands.geometry
     (kept-back blocks k.volume w k.cells l.cells kept.claims stands.jobs stands.numbers (run start history) stands.count stands.flying.device
     (changed g k l t kept lines n start history stands ino r rest runs_are may beside w blocks made cut) (relinking.spare g k t kept lines n (run start history) stands ino r rest runs_are may beside w blocks made cut.whole)
     (relinking.room g k t kept lines n (run start history) stands ino r rest runs_are may beside w blocks made cut.whole) (relinking.takes g k t kept lines n (run start history) stands ino r rest runs_are may beside w blocks made cut.whole) start history mode refl stands.flying.whole (relinking.job-block g k t kept lines n (run start history) stands ino r rest runs_are may beside w blocks made cut.whole)
     back kept.first slots image is)
 
 -- with log lines at home no job is out
-pub no-jobs : (pending : List Pending) (jobs : List Job) → AreJobsOf pending jobs → pending ≡ [] → jobs ≡ []
+pub no-jobs : (pending : List JobOut) (jobs : List Job) → AreJobsOf pending jobs → pending ≡ [] → jobs ≡ []
 no-jobs [] [] are none = refl
 no-jobs [] (j ∷ jobs) are none = absurd are
 no-jobs (p ∷ pending) jobs are none = absurd (let never : p ∷ pending ≡ [] = none in cc)
@@ -52,8 +52,8 @@ pub keeps-relinked-home : KeepsRelinkedHome
 keeps-relinked-home g k l t kept n start history ino r rest mode stands runs_are may w blocks made cut image of_device honest =
     let none : stands.jobs ≡ [] = no-jobs kept.pending stands.jobs stands.jobs_are stands.lines.0 in
     let beside : AreBeside (only ino) stands.jobs = subst (AreBeside (only ino)) (sym none) tt in
-    subst (λ js. IsKept g start history (map begun_of js) image) none
-    (subst (λ x. IsKept x start history (map begun_of stands.jobs) image) stands.geometry
+    subst (λ js. IsKept g start history (map unfinished_call js) image) none
+    (subst (λ x. IsKept x start history (map unfinished_call stands.jobs) image) stands.geometry
     (kept-home blocks k.volume w k.cells l.cells kept.claims stands.jobs stands.numbers (run start history) stands.count stands.flying.device
     (changed g k l t kept false n start history stands ino r rest runs_are may beside w blocks made cut)
     (relinking.spare g k t kept false n (run start history) stands ino r rest runs_are may beside w blocks made cut.whole)

@@ -32,7 +32,7 @@ use Rattle.log_checkpoint.specs.Gathers.{IsLapAnswer, IsLapBegun}
 use Rattle.live_step_laws.specs.live_model.Overlays.{IsOverlayOf, run_of}
 use Rattle.log_checkpoint.specs.posix_types.declared.item.Item.{Item}
 use Rattle.log_checkpoint.specs.posix_tables.Open.{Tables}
-use Rattle.log_checkpoint.specs.posix_spec.Run.{Begun, run}
+use Rattle.log_checkpoint.specs.posix_spec.Run.{Unfinished, run}
 use Rattle.log_checkpoint.specs.posix_spec.State.{State}
 use Rattle.log_checkpoint.specs.posix_spec.Tree.{tree}
 use Rattle.log_checkpoint.proofs.staging_files_proofs.GiveUpLaws.{agrees-nothing, AreBare, staged-nothing}
@@ -45,7 +45,7 @@ use Rattle.live_step_laws.specs.live_model.world_image_laws.Running.{promise_now
 use Rattle.log_checkpoint.specs.world_model.JobLaws.{live_file}
 use Rattle.log_checkpoint.specs.world_model.Jobs.{Job, live_claims}
 use Rattle.log_checkpoint.specs.world_model.Stands.{entries_of}
-use Rattle.live_step_laws.specs.live_model.Standing.{AreJobsOf, Kept, Pending, StandsAt}
+use Rattle.live_step_laws.specs.live_model.Standing.{AreJobsOf, Kept, JobOut, StandsAt}
 use Rattle.file_publish.specs.LapsLaws.{HasLapped, HasNoRuns, KeepsLapped, StandsLapped}
 use Rattle.file_publish.proofs.Gone.{all-gone, cut-gone, HasGone, none-gone}
 use Rattle.file_publish.proofs.Based.{old-next, promise-next, running-next}
@@ -60,7 +60,7 @@ no-members : (ds : List Draft) → ((d : Draft) → In d ds → ⊥) → ds ≡ 
 no-members [] none = refl
 no-members (d ∷ ds) none = absurd (none d (inl refl))
 
-no-jobs : (pending : List Pending) (jobs : List Job) → AreJobsOf pending jobs → pending ≡ [] → jobs ≡ []
+no-jobs : (pending : List JobOut) (jobs : List Job) → AreJobsOf pending jobs → pending ≡ [] → jobs ≡ []
 no-jobs [] [] are none = refl
 no-jobs [] (j ∷ jobs) are none = absurd are
 no-jobs (p ∷ pending) jobs are none = absurd (let never : p ∷ pending ≡ [] = none in cc)
@@ -229,7 +229,7 @@ stands-lapped g k l t kept staging n s stands no_runs next begun = has-lapped g 
 
 -- ---- the power went
 
-module _ (g : Geometry) (k l : View) (t : Tables) (kept : Kept) (n : ℕ) (start : State) (history : List Item) (unfinished : List Begun) (stands : StandsAt g k t kept false n (run start history)) (no_runs : HasNoRuns kept) (next : HasNextLap k) where
+module _ (g : Geometry) (k l : View) (t : Tables) (kept : Kept) (n : ℕ) (start : State) (history : List Item) (unfinished : List Unfinished) (stands : StandsAt g k t kept false n (run start history)) (no_runs : HasNoRuns kept) (next : HasNextLap k) where
   abbrev s : State
   s = run start history
 

@@ -26,11 +26,11 @@ use Rattle.live_step_laws.specs.posix_spec.State.{State}
 use Rattle.log_checkpoint.specs.staging_files.Keeps.{Agrees, AreFreeSingle}
 use Rattle.live_step_laws.specs.world_image_laws.Images.{HasOldLines, StandsFor}
 use Rattle.live_step_laws.specs.world_model.Jobs.{Job}
-use Rattle.live_step_laws.specs.live_model.Standing.{AreJobsOf, AreLinesLent, IsQuietBeside, Kept, Pending, StandsAt}
+use Rattle.live_step_laws.specs.live_model.Standing.{AreJobsOf, AreLinesLent, IsQuietBeside, Kept, JobOut, StandsAt}
 use Rattle.file_publish.specs.RoundLinesLaws.{HasTurned, StandsOut, with_cells, with_first}
 use Rattle.file_publish.proofs.Beside.{ComesBeside, log-or-not, SameBeside, staged-beside, stands-beside}
 
-pub no-jobs : (pending : List Pending) (jobs : List Job) → AreJobsOf pending jobs → pending ≡ [] → jobs ≡ []
+pub no-jobs : (pending : List JobOut) (jobs : List Job) → AreJobsOf pending jobs → pending ≡ [] → jobs ≡ []
 no-jobs [] [] are none = refl
 no-jobs [] (j ∷ jobs) are none = absurd are
 no-jobs (p ∷ pending) jobs are none = absurd (let never : p ∷ pending ≡ [] = none in cc)

@@ -22,7 +22,7 @@ use Rattle.live_step_laws.specs.world_model.Jobs.{live_claims}
 use Rattle.live_step_laws.specs.world_model.Stands.{entries_of}
 use Rattle.live_step_laws.specs.world_step_laws.Steps.{AreBeside}
 use Rattle.live_step_laws.specs.world_step_laws.Touched.{only}
-use Rattle.live_step_laws.specs.live_model.Standing.{Kept, LinesStand, Pending, StandsAt}
+use Rattle.live_step_laws.specs.live_model.Standing.{Kept, LinesStand, JobOut, StandsAt}
 use Rattle.file_publish.specs.RelinksLaws.{StandsPublished, StandsThen}
 use Rattle.file_publish.proofs.Relinked.{job-beside}
 use Rattle.file_publish.proofs.RelinksStanding.{job-of, stands-relinked}
@@ -122,7 +122,7 @@ module _ (g : Geometry) (k : View) (t : Tables) (kept : Kept) (files : Files) (l
   same-lines true is = record { lent = is.lent; old = is.old }
   same-lines false is = is
 
-  other-spare : (p : Pending) → In p kept.pending → 3 ≤ spare_in files p.draft.ino
+  other-spare : (p : JobOut) → In p kept.pending → 3 ≤ spare_in files p.draft.ino
   other-spare p is =
       let job = job-of kept.pending stands.jobs p stands.jobs_are is in
       let other : p.draft.ino ≢ ino = subst (λ (d : Draft). d.ino ≢ ino) job.draft (job-beside ino stands.jobs job.job beside job.there) in

@@ -38,22 +38,22 @@ use Rattle.live_step_laws.specs.world_model.Jobs.{Job, live_claims, staged_block
 use Rattle.live_step_laws.specs.world_model.Stands.{entries_of, IsSane}
 use Rattle.live_step_laws.specs.world_step_laws.Steps.{AreBeside}
 use Rattle.live_step_laws.specs.world_step_laws.Touched.{only}
-use Rattle.live_step_laws.specs.live_model.Standing.{AreJobsOf, HasItsBlocks, Kept, LinesStand, Pending, reserved_run, StandsAt}
+use Rattle.live_step_laws.specs.live_model.Standing.{AreJobsOf, HasItsBlocks, Kept, LinesStand, JobOut, reserved_run, StandsAt}
 use Rattle.live_step_laws.specs.Changes.{IsChangeWith}
 use Rattle.live_step_laws.proofs.Devices.{changes_device_with, keeps_log_home_with}
 use Rattle.file_publish.specs.RelinksLaws.{first_move, StandsRelinked, StandsThen}
 use Rattle.file_publish.proofs.Relinked as relinking
 
 -- the job of a pending one
-pub record IsJobOf (p : Pending) (jobs : List Job) : Type 0 where
+pub record IsJobOf (p : JobOut) (jobs : List Job) : Type 0 where
   pub job : Job
   pub there : In job jobs
   pub draft : job.draft ≡ p.draft
 
-pub job-of : (pending : List Pending) (jobs : List Job) (p : Pending) → AreJobsOf pending jobs → In p pending → IsJobOf p jobs
+pub job-of : (pending : List JobOut) (jobs : List Job) (p : JobOut) → AreJobsOf pending jobs → In p pending → IsJobOf p jobs
 job-of [] jobs p are is = absurd is
 job-of (q ∷ pending) [] p are is = absurd are
-job-of (q ∷ pending) (j ∷ jobs) p are (inl same) = record { job = j; there = inl refl; draft = are.2 ∙ ap (λ (x : Pending). x.draft) same }
+job-of (q ∷ pending) (j ∷ jobs) p are (inl same) = record { job = j; there = inl refl; draft = are.2 ∙ ap (λ (x : JobOut). x.draft) same }
 job-of (q ∷ pending) (j ∷ jobs) p are (inr rest) = let its = job-of pending jobs p are.3 rest in record { job = its.job; there = inr its.there; draft = its.draft }
 
 module _ (g : Geometry) (k l : View) (t : Tables) (kept : Kept) (files : Files) (lines : Bool) (n : ℕ) (s : State) (ino : ℕ) (run : Run) (rest : List Run) (stands : StandsAt g k t kept lines n s)
@@ -212,10 +212,10 @@ module _ (g : Geometry) (k l : View) (t : Tables) (kept : Kept) (files : Files) 
 
   -- ---- jobs
 
-  job-at : (p : Pending) → In p kept.pending → IsJobOf p stands.jobs
+  job-at : (p : JobOut) → In p kept.pending → IsJobOf p stands.jobs
   job-at p is = job-of kept.pending stands.jobs p stands.jobs_are is
 
-  blocks : (p : Pending) → In p kept.pending → HasItsBlocks l.volume p
+  blocks : (p : JobOut) → In p kept.pending → HasItsBlocks l.volume p
   blocks p is =
       let its = stands.blocks p is in
       let job = job-at p is in
@@ -225,7 +225,7 @@ module _ (g : Geometry) (k l : View) (t : Tables) (kept : Kept) (files : Files) 
             subst (λ (d : Draft). i < d.count → staged_block w d i ≡ staged_block v d i) job.draft (job-block job.job job.there i) below ∙ its.each i below;
       }
 
-  spare-on : (p : Pending) → In p kept.pending → 3 ≤ spare_in files p.draft.ino
+  spare-on : (p : JobOut) → In p kept.pending → 3 ≤ spare_in files p.draft.ino
   spare-on p is =
       let job = job-at p is in
       let other : p.draft.ino ≢ ino = subst (λ (d : Draft). d.ino ≢ ino) job.draft (relinking.job-other g k t kept lines n s stands ino run rest runs_are may beside l.volume gave.0 gave.1 gave.2.order.whole job.job job.there) in

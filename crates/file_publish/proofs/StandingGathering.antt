@@ -6,7 +6,7 @@ use Rattle.std.proofs.lemmas.List.Sums.{sum_by-cons}
 use Rattle.log_checkpoint.specs.layout_model.declared.lines.Draft.{Draft}
 use Rattle.log_checkpoint.specs.layout_model.declared.lines.Kind.{Kind}
 use Rattle.log_checkpoint.specs.layout_model.declared.lines.Kind.TheVariants.{Directory, File, Free, Staging}
-use Rattle.log_checkpoint.specs.layout_model.Lines.{most_bytes}
+use Rattle.log_checkpoint.specs.layout_model.block_counts.declared.TheConstants.{LONGEST_FILE}
 use Rattle.log_checkpoint.specs.layout_model.Places.{Geometry}
 use Rattle.log_checkpoint.specs.image_model.Live.{is_file}
 use Rattle.log_checkpoint.specs.image_model.Volume.{inode}
@@ -74,7 +74,7 @@ record Own (live : List Draft) (ino : ℕ) (runs : List Run) : Type 0 where
   few : length runs ≤ length (entries_of ino live)
 
 module _ (g : Geometry) (k : View) (t : Tables) (kept : Kept) (lines : Bool) (n : ℕ) (s : State) (stands : StandsAt g k t kept lines n s) (few : n ≤ 2 ^ 62)
-    (small : All (λ size. size ≤ most_bytes) kept.files.sizes) where
+    (small : All (λ size. size ≤ LONGEST_FILE) kept.files.sizes) where
   abbrev live : List Draft
   live = live_claims k.volume kept.claims
 

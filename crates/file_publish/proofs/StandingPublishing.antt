@@ -9,7 +9,7 @@ use Rattle.log_checkpoint.specs.layout_model.Journal.{journaled}
 use Rattle.log_checkpoint.specs.layout_model.PlaceLaws.{behind_log-words}
 use Rattle.log_checkpoint.specs.layout_model.Places.{Geometry, is_data_block, is_journaled_line, log_line}
 use Rattle.log_checkpoint.specs.layout_model.declared.lines.Draft.{Draft}
-use Rattle.log_checkpoint.specs.layout_model.Lines.{most_bytes}
+use Rattle.log_checkpoint.specs.layout_model.block_counts.declared.TheConstants.{LONGEST_FILE}
 use Rattle.log_checkpoint.specs.image_model.Rules.{file_blocks_of}
 use Rattle.log_checkpoint.specs.image_model.Volume.{extents, inode, Volume}
 use Rattle.log_checkpoint.specs.extent_model.Covers.{covers-disk_at}
@@ -139,7 +139,7 @@ module _ (g : Geometry) (k : View) (t : Tables) (kept : Kept) (lines : Bool) (n 
         | inr apart ↦ elim (apart same) [ inl before ↦ omega (arith, before, d_at.1, e_at.0) | inr behind ↦ omega (arith, behind, d_at.0, e_at.1) ]
       ])
 
-  module _ (ino : ℕ) (few : n ≤ 2 ^ 62) (file : IsLiveFile ino v) (small : size_in kept.files ino ≤ most_bytes) where
+  module _ (ino : ℕ) (few : n ≤ 2 ^ 62) (file : IsLiveFile ino v) (small : size_in kept.files ino ≤ LONGEST_FILE) where
     abbrev own : List Draft
     own = entries_of ino live
 

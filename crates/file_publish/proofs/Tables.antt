@@ -12,7 +12,7 @@ use Rattle.log_checkpoint.specs.Gathers.{AreCleared}
 use Rattle.live_step_laws.specs.posix_tables.Open.{Tables}
 use Rattle.log_checkpoint.specs.posix_spec.State.{State}
 use Rattle.live_step_laws.specs.world_model.Jobs.{Job}
-use Rattle.live_step_laws.specs.live_model.Standing.{AreJobsOf, Kept, Pending, StandsAt}
+use Rattle.live_step_laws.specs.live_model.Standing.{AreJobsOf, Kept, JobOut, StandsAt}
 use Rattle.file_publish.specs.RelinksLaws.{StandsThen}
 
 -- ---- the first lines are cleared
@@ -96,7 +96,7 @@ all-cleared t u is i = elim (cases_lt i (length t.sizes)) [
 
 -- ---- a table that keeps the same, where no job is out
 
-pub no-jobs : (pending : List Pending) (jobs : List Job) → AreJobsOf pending jobs → pending ≡ [] → jobs ≡ []
+pub no-jobs : (pending : List JobOut) (jobs : List Job) → AreJobsOf pending jobs → pending ≡ [] → jobs ≡ []
 no-jobs [] [] are none = refl
 no-jobs [] (j ∷ jobs) are none = absurd are
 no-jobs (p ∷ pending) jobs are none = absurd (let never : p ∷ pending ≡ [] = none in cc)

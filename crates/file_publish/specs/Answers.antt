@@ -16,7 +16,7 @@ use Rattle.live_step_laws.specs.posix_spec.Run.{run}
 use Rattle.live_step_laws.specs.posix_spec.State.{State}
 use Rattle.live_step_laws.specs.world_image_laws.Promised.{IsKept}
 use Rattle.live_step_laws.specs.world_image_laws.Back.{IsPutBack}
-use Rattle.live_step_laws.specs.world_model.Jobs.{begun_of}
+use Rattle.live_step_laws.specs.world_model.Jobs.{unfinished_call}
 use Rattle.live_step_laws.specs.world_step_laws.Steps.{AreBeside}
 use Rattle.live_step_laws.specs.world_step_laws.Touched.{only}
 use Rattle.live_step_laws.specs.live_model.Standing.{Kept, StandsAt}
@@ -43,7 +43,7 @@ LosesFile ino k f l =
     → (stands : StandsAt g k t (with_files x f) lines n (run start history)) → AreBeside (only ino) stands.jobs
     → (back : ℕ → Cell) (slots : List (Option ℕ)) (image : Words)
     → IsPutBack k.volume l.cells back x.first x.claims stands.jobs slots image
-    → IsKept g start history (map begun_of stands.jobs) image
+    → IsKept g start history (map unfinished_call stands.jobs) image
 
 -- WHAT `publish_file` ANSWERS AND LEAVES, from the table f and k to u and l. Done: nothing is kept of the file but its
 -- size. Else the table is as it was: the power went, or memory ran out on the way.

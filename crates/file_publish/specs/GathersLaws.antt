@@ -3,7 +3,7 @@
 use Rattle.std.specs.Prelude.{◌≡◌, ◌≤◌, ◌^◌, ℕ, false, All, List, [], Ok}
 use Rattle.live_step_laws.specs.pm_model.Images.{IsImage}
 use Rattle.live_step_laws.specs.pm_model.Words.{Words}
-use Rattle.live_step_laws.specs.layout_model.Lines.{most_bytes}
+use Rattle.live_step_laws.specs.layout_model.block_counts.declared.TheConstants.{LONGEST_FILE}
 use Rattle.live_step_laws.specs.layout_model.Places.{Geometry}
 use Rattle.log_checkpoint.specs.file_table.Files.{Files}
 use Rattle.log_checkpoint.specs.k_journal.declared.outcomes.Commit.{Commit}
@@ -27,7 +27,7 @@ with_table kept files = record kept { files = files }
 
 -- no size that is kept is more than a file may have
 abbrev pub AreSmall : Kept → Type 0
-AreSmall kept = All (λ size. size ≤ most_bytes) kept.files.sizes
+AreSmall kept = All (λ size. size ≤ LONGEST_FILE) kept.files.sizes
 
 -- K-Split stands behind a gathering, in the same state and with the same nodes; and by each image no line of the log
 -- is an entry of this lap.

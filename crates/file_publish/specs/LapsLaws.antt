@@ -11,7 +11,7 @@ use Rattle.log_checkpoint.specs.k_split.Laps.{HasNextLap}
 use Rattle.log_checkpoint.specs.Gathers.{IsLapAnswer, IsLapBegun}
 use Rattle.log_checkpoint.specs.posix_types.declared.item.Item.{Item}
 use Rattle.log_checkpoint.specs.posix_tables.Open.{Tables}
-use Rattle.log_checkpoint.specs.posix_spec.Run.{Begun, run}
+use Rattle.log_checkpoint.specs.posix_spec.Run.{Unfinished, run}
 use Rattle.log_checkpoint.specs.posix_spec.State.{State}
 use Rattle.log_checkpoint.specs.staging_files.GivesUp.{nothing_staged}
 use Rattle.log_checkpoint.specs.staging_files.Keeps.{Staged}
@@ -47,7 +47,7 @@ StandsLapped =
 abbrev pub KeepsLapped : Type 0
 KeepsLapped =
     (g : Geometry) (k l : View) (t : Tables) (kept : Kept) (staging : Staged) (n : ℕ) (start : State)
-    (history : List Item) (unfinished : List Begun)
+    (history : List Item) (unfinished : List Unfinished)
     → StandsAt g k t kept false n (run start history) → HasNoRuns kept → HasNextLap k
     → IsLapAnswer k staging l (Ok Commit.PowerLost)
     → KeepsPromise g l.cells start history unfinished

@@ -18,7 +18,7 @@ use Rattle.live_step_laws.specs.posix_spec.Run.{run}
 use Rattle.live_step_laws.specs.posix_spec.State.{State}
 use Rattle.live_step_laws.specs.world_image_laws.Promised.{IsKept, KeepsPromise}
 use Rattle.live_step_laws.specs.world_image_laws.Back.{IsPutBack}
-use Rattle.live_step_laws.specs.world_model.Jobs.{begun_of}
+use Rattle.live_step_laws.specs.world_model.Jobs.{unfinished_call}
 use Rattle.live_step_laws.specs.world_step_laws.Steps.{AreBeside}
 use Rattle.live_step_laws.specs.world_step_laws.Touched.{only}
 use Rattle.live_step_laws.specs.live_model.Standing.{Kept, StandsAt}
@@ -57,7 +57,7 @@ KeepsRelinked =
     → (w : Volume) (blocks : List ℕ) → IsMovedWith (first_move kept k ino r rest) k w blocks → IsMapCut blocks w k l
     → (back : ℕ → Cell) (slots : List (Option ℕ)) (image : Words)
     → IsPutBack k.volume l.cells back kept.first kept.claims stands.jobs slots image
-    → IsKept g start history (map begun_of stands.jobs) image
+    → IsKept g start history (map unfinished_call stands.jobs) image
 
 -- and with log lines at home each image is.
 abbrev pub KeepsRelinkedHome : Type 0
@@ -93,7 +93,7 @@ KeepsPublished =
     → IsPublishStopped KFault.PowerLost ino (size_in kept.files ino) (runs_in kept.files ino) k l
     → (back : ℕ → Cell) (slots : List (Option ℕ)) (image : Words)
     → IsPutBack k.volume l.cells back kept.first kept.claims stands.jobs slots image
-    → IsKept g start history (map begun_of stands.jobs) image
+    → IsKept g start history (map unfinished_call stands.jobs) image
 
 -- and with log lines at home each image is.
 abbrev pub KeepsPublishedHome : Type 0

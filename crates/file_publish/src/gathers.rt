@@ -7,7 +7,7 @@
 
 ghost use Rattle.file_publish.specs.GathersLaws.{KeepsGathered, StandsGathered};
 
-use crate::relinks::{a_file_is_published, the_next_lap_begins, what_stands_may_be_published};
+use crate::laws;
 
 /// All that is staged is gathered: they stand together behind it, and where the power goes in it,
 /// each image is kept.
@@ -15,9 +15,9 @@ pub fn all_files_are_gathered()
     ensures done { StandsGathered }
     ensures cut { KeepsGathered }
 {
-    what_stands_may_be_published();
-    a_file_is_published();
-    the_next_lap_begins();
+    laws::what_stands_may_be_published();
+    laws::a_file_is_published();
+    laws::the_next_lap_begins();
 }
 
 pub use crate::relinks::what_stands_may_be_gathered;

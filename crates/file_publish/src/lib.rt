@@ -18,6 +18,7 @@
 
 mod gathers;
 mod laps;
+mod laws;
 mod publishes;
 mod relinks;
 mod round_lines;

@@ -13,7 +13,8 @@ ghost use Rattle.log_checkpoint.specs.fsync_relink.Others.{GoesOn};
 ghost use Rattle.log_checkpoint.specs.fsync_relink.Publishes.{IsPublishPaid, MayPublish};
 ghost use Rattle.live_step_laws.specs.pm_model.Powers.{is_on, Steps};
 
-use crate::relinks::{Commit, FileTable, KSplit, a_file_is_published, publish_runs};
+use crate::laws;
+use crate::relinks::{Commit, FileTable, KSplit, publish_runs};
 use pm_lines::Power;
 use std::alloc::{AllocError, Global};
 
@@ -44,7 +45,7 @@ pub fn publish_file(
     ensures paid { IsPublishPaid power.new result }
     ensures answer { IsFilePublished ino files.old k.old files.new k.new result }
 {
-    a_file_is_published();
+    laws::a_file_is_published();
     let size = files.size(ino);
     let commit = publish_runs(alloc, k, files.overlay(ino).runs(), ino, size, power)?;
     match commit {

@@ -1,5 +1,6 @@
 //! A read, piece by piece.
 ghost use Rattle.std.specs.Prelude.{◌≡◌, ◌+◌, ◌<◌, ◌≤◌, ◌++◌, ℕ, length, replicate, slice_index, slice_range, IfOk, OnOk};
+ghost use Rattle.data_route.specs.block_counts.declared.TheConstants.{LONGEST_FILE};
 ghost use Rattle.std.specs.Option.{ForSome};
 ghost use Rattle.k_split.specs.image_model.Content.{byte_in};
 ghost use Rattle.k_split.specs.image_model.Volume.{extents};
@@ -73,7 +74,7 @@ pub fn read_bytes(
     collection: &mut Collection,
 ) -> Result<Vec<u8>, AllocError>
     requires there { ino < length k.now.volume.inodes }
-    requires small { size ≤ 16777216 }
+    requires small { size ≤ LONGEST_FILE }
     requires readable { FileCanBeRead k.now.volume k.now.cells overlay.now.runs ino }
     requires agrees { Agrees collection.old ino (extents k.now.volume ino) }
     ensures bytes { IfOk result (λ bytes. bytes.items

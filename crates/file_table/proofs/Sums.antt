@@ -3,7 +3,7 @@ use Rattle.std.specs.Prelude.{◌≡◌, ◌≤◌, ◌<◌, ◌+◌, ◌*◌, �
 use Rattle.std.proofs.Common.{arith, ap}
 use Rattle.std.proofs.lemmas.List.Sums.{sum_by-cons}
 use Rattle.block_counts.specs.Counts.{held_by}
-use Rattle.layout_model.specs.Lines.{most_bytes}
+use Rattle.layout_model.specs.block_counts.declared.TheConstants.{LONGEST_FILE}
 use Rattle.file_overlay.specs.Runs.{Overlaid}
 use Rattle.file_table.specs.Files.{nothing_laid}
 
@@ -19,11 +19,11 @@ sum_has [] i below = absurd (omega (arith, below))
 sum_has (y ∷ ys) zero below = omega (arith, sum_by-cons held_by y ys)
 sum_has (y ∷ ys) (suc i) below = omega (arith, sum_by-cons held_by y ys, sum_has ys i (omega (arith, below)))
 
-small_held : (n : ℕ) → n ≤ most_bytes → held_by n ≤ 4113
+small_held : (n : ℕ) → n ≤ LONGEST_FILE → held_by n ≤ 4113
 small_held n small = omega (arith, small)
 
 -- and all of them no more than so many of the largest
-pub sum_small : (xs : List ℕ) → All (λ size. size ≤ most_bytes) xs → sum_by held_by xs ≤ 4113 * length xs
+pub sum_small : (xs : List ℕ) → All (λ size. size ≤ LONGEST_FILE) xs → sum_by held_by xs ≤ 4113 * length xs
 sum_small [] small = omega arith
 sum_small (y ∷ ys) small =
     omega (arith, sum_by-cons held_by y ys, small_held y (small 0 0 (omega arith)), sum_small ys (λ k d below. small (suc k) d (omega (arith, below))))
@@ -46,14 +46,14 @@ bare_pushed (p ∷ os) o none all zero = all 0
 bare_pushed (p ∷ os) o none all (suc i) = bare_pushed os o none (λ k. all (suc k)) i
 
 -- all sizes stay small
-pub small_set : (xs : List ℕ) (i x : ℕ) → x ≤ most_bytes → All (λ size. size ≤ most_bytes) xs → All (λ size. size ≤ most_bytes) (slice_set xs i x)
+pub small_set : (xs : List ℕ) (i x : ℕ) → x ≤ LONGEST_FILE → All (λ size. size ≤ LONGEST_FILE) xs → All (λ size. size ≤ LONGEST_FILE) (slice_set xs i x)
 small_set [] i x small all k d below = absurd (omega (arith, below))
 small_set (y ∷ ys) zero x small all zero d below = small
 small_set (y ∷ ys) zero x small all (suc k) d below = all (suc k) d (omega (arith, below))
 small_set (y ∷ ys) (suc i) x small all zero d below = all 0 d (omega arith)
 small_set (y ∷ ys) (suc i) x small all (suc k) d below = small_set ys i x small (λ j e within. all (suc j) e (omega (arith, within))) k d (omega (arith, below))
 
-pub small_zero : (xs : List ℕ) → ((i : ℕ) → slice_index xs i ≡ 0) → All (λ size. size ≤ most_bytes) xs
+pub small_zero : (xs : List ℕ) → ((i : ℕ) → slice_index xs i ≡ 0) → All (λ size. size ≤ LONGEST_FILE) xs
 small_zero [] none k d below = absurd (omega (arith, below))
 small_zero (y ∷ ys) none zero d below = omega (arith, none 0)
 small_zero (y ∷ ys) none (suc k) d below = small_zero ys (λ i. none (suc i)) k d (omega (arith, below))

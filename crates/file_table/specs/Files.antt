@@ -1,7 +1,7 @@
 -- What contracts see of a file table.
 use Rattle.std.specs.Prelude.{◌≡◌, ◌≢◌, ◌≤◌, ◌^◌, ℕ, All, List, [], length, slice_index, slice_index_or, slice_set, sum_by}
 use Rattle.block_counts.specs.Counts.{held_by}
-use Rattle.layout_model.specs.Lines.{most_bytes}
+use Rattle.layout_model.specs.block_counts.declared.TheConstants.{LONGEST_FILE}
 use Rattle.file_overlay.specs.declared.runs.Run.{Run}
 use Rattle.file_overlay.specs.Runs.{Overlaid}
 
@@ -29,7 +29,7 @@ size_in t ino = slice_index t.sizes ino
 pub record IsFileTable (overlays : List Overlaid) (sizes : List ℕ) (held : ℕ) : Type 0 where
   pub same : length overlays ≡ length sizes
   pub few : length sizes ≤ 2 ^ 32
-  pub small : All (λ size. size ≤ most_bytes) sizes
+  pub small : All (λ size. size ≤ LONGEST_FILE) sizes
   pub held_is : held ≡ sum_by held_by sizes
 
 -- so many lines, of which nothing is kept

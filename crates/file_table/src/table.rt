@@ -1,7 +1,7 @@
 //! The table of what is kept of files.
 ghost use Rattle.std.specs.Prelude.{◌≡◌, ◌≢◌, ◌≤◌, ◌<◌, ◌+◌, ◌^◌, ℕ, [], ◌∷◌, ◌++◌, length, sum_by, IfOk, OnOk};
 ghost use Rattle.block_counts.specs.Counts.{held_by};
-ghost use Rattle.layout_model.specs.Lines.{most_bytes};
+ghost use Rattle.layout_model.specs.block_counts.declared.TheConstants.{LONGEST_FILE};
 ghost use Rattle.file_table.specs.Files.{runs_in, size_in, spare_in, AreEmpty, ChangesFile};
 
 use block_counts::held_by;
@@ -50,7 +50,7 @@ impl FileTable {
     pub fn size(&self, ino: u32) -> u64
         requires { ino < length self.now.sizes }
         ensures size { result ≡ size_in self.now ino }
-        ensures small { result ≤ most_bytes }
+        ensures small { result ≤ LONGEST_FILE }
     {
         self.sizes[ino as usize]
     }
@@ -73,7 +73,7 @@ impl FileTable {
     /// Gives a file another size. What is staged of it stays, and its room.
     pub fn resize(&mut self, ino: u32, size: u64)
         requires below { ino < length self.old.sizes }
-        requires small { size ≤ most_bytes }
+        requires small { size ≤ LONGEST_FILE }
         ensures file { ChangesFile ino (runs_in self.old ino) size self.old self.new }
         ensures spare { spare_in self.new ino ≡ spare_in self.old ino }
     {
@@ -102,7 +102,7 @@ impl FileTable {
         requires room { 3 ≤ spare_in self.old ino }
         requires in_file { run.file_block + run.count < 2 ^ 32 }
         requires in_staging { run.staging_block + run.count < 2 ^ 32 }
-        requires small { size ≤ most_bytes }
+        requires small { size ≤ LONGEST_FILE }
         ensures { ChangesFile ino (runs_in self.old ino ++ run ∷ []) size self.old self.new }
     {
         self.overlays[ino as usize].lay(run);
@@ -112,7 +112,7 @@ impl FileTable {
     /// Takes all runs of a file away, which has this size then. Its room stays. It takes no memory.
     pub fn clear(&mut self, ino: u32, size: u64)
         requires below { ino < length self.old.sizes }
-        requires small { size ≤ most_bytes }
+        requires small { size ≤ LONGEST_FILE }
         ensures file { ChangesFile ino [] size self.old self.new }
         ensures spare { spare_in self.old ino ≤ spare_in self.new ino }
     {

@@ -10,12 +10,12 @@ use Rattle.file_calls.specs.live_step_laws.posix_tables.Room.{growth}
 use Rattle.file_calls.specs.live_step_laws.commute_laws.Needs.{needs as needs_of}
 use Rattle.file_calls.specs.live_step_laws.posix_laws.Views.{need_of}
 use Rattle.file_calls.specs.live_step_laws.posix_spec.FileRows.{content}
-use Rattle.file_calls.specs.live_step_laws.posix_spec.Run.{after_call, Begun, run}
+use Rattle.file_calls.specs.live_step_laws.posix_spec.Run.{after_call, Unfinished, run}
 use Rattle.file_calls.specs.live_step_laws.posix_spec.State.{room, State}
 use Rattle.file_calls.specs.live_step_laws.commute_laws.Commutes.{takes}
 use Rattle.file_calls.specs.live_step_laws.live_model.k_split.MapChanges.{ChangesMaps}
 use Rattle.file_calls.specs.live_step_laws.live_model.world_image_laws.Promised.{IsKept}
-use Rattle.file_calls.specs.live_step_laws.live_model.world_model.Jobs.{begun_of}
+use Rattle.file_calls.specs.live_step_laws.live_model.world_model.Jobs.{unfinished_call}
 use Rattle.file_calls.specs.live_step_laws.live_model.world_step_laws.Steps.{begun-flights, flights_of}
 use Rattle.file_calls.specs.live_step_laws.world_image_laws.Flights.{leads_after, leads_before}
 use Rattle.file_calls.specs.live_step_laws.world_image_laws.LentLaws.{GoesBeside, LeadsTo}
@@ -33,7 +33,7 @@ taken s who h size left fits = by (is_none (opened s.tables who h)) where
 
 pub keeps_sized : KeepsSized
 keeps_sized g k l t kept lines n start history who h size ino mode stands two may w blocks makes cut back slots image put =
-    subst (λ y. IsKept y start history (map begun_of stands.jobs ++ (who, Call.Truncate h size) ∷ []) image) stands.geometry
+    subst (λ y. IsKept y start history (map unfinished_call stands.jobs ++ (who, Call.Truncate h size) ∷ []) image) stands.geometry
     (kept_image blocks k.volume w k.cells l.cells kept.claims stands.jobs stands.numbers (run start history) (after_call (run start history) (who, Call.Truncate h size)) stands.count ino (size_in kept.files ino) size
     (sizing.below g k t kept lines n (run start history) stands who h size ino may w blocks makes cut.whole) stands.flying.device changed
     (sizing.spare g k t kept lines n (run start history) stands who h size ino may w blocks makes cut.whole) (sizing.room_on g k t kept lines n (run start history) stands who h size ino may w blocks makes cut.whole)
@@ -54,7 +54,7 @@ keeps_sized g k l t kept lines n start history who h size ino mode stands two ma
       two = two;
       lets = may.beside;
       fits = taken (run start history) who h size (needs_of (run start history) (flights_of stands.numbers stands.jobs))
-          (subst (λ cs. growth (length (content (run start history) who h)) size + sum_by (λ (c : Begun). need_of (run start history) c.0 c.1) cs ≤ room (run start history)) (sym (begun-flights stands.numbers stands.jobs)) may.fits);
+          (subst (λ cs. growth (length (content (run start history) who h)) size + sum_by (λ (c : Unfinished). need_of (run start history) c.0 c.1) cs ≤ room (run start history)) (sym (begun-flights stands.numbers stands.jobs)) may.fits);
     }
 
     leads : LeadsTo start history (who, Call.Truncate h size) stands.jobs (after_call (run start history) (who, Call.Truncate h size))

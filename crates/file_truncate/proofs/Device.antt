@@ -13,9 +13,9 @@ use Rattle.file_calls.specs.live_step_laws.extent_model.Extents.{disk_at}
 use Rattle.file_calls.specs.eof_laws.k_split_model.Stands.{IsOldOrNew, Stands}
 use Rattle.file_calls.specs.live_step_laws.posix_types.declared.item.Item.{Item}
 use Rattle.file_calls.specs.live_step_laws.posix_types.declared.call.Mode.{Mode}
-use Rattle.file_calls.specs.live_step_laws.posix_spec.Run.{Begun}
+use Rattle.file_calls.specs.live_step_laws.posix_spec.Run.{Unfinished}
 use Rattle.file_calls.specs.live_step_laws.posix_spec.State.{State}
-use Rattle.file_calls.specs.live_step_laws.live_model.world_model.Jobs.{begun_of, Job}
+use Rattle.file_calls.specs.live_step_laws.live_model.world_model.Jobs.{unfinished_call, Job}
 use Rattle.file_calls.specs.live_step_laws.live_model.world_model.Promised.{AreWhole}
 use Rattle.file_calls.specs.live_step_laws.live_model.world_model.Shown.{AreFilled, landed_pairs}
 use Rattle.file_calls.specs.live_step_laws.live_model.world_step_laws.Worlds.{IsWorld}
@@ -100,14 +100,14 @@ module _ (blocks : List ℕ) (v w : Volume) (d e : List Cell) (claims : List (�
   }
 
   -- CUT OFF
-  pub kept_image : (start : State) (history : List Item) (c : Begun) → start.mode ≡ Mode.Strict → AreWhole jobs → SameBlocks v w jobs → LeadsTo start history c jobs s → LeadsTo start history c jobs new
-      → (back : ℕ → Cell) (first : Words) (slots : List (Option ℕ)) (image : Words) → IsPutBack v e back first claims jobs slots image → IsKept v.geometry start history (map begun_of jobs ++ c ∷ []) image
+  pub kept_image : (start : State) (history : List Item) (c : Unfinished) → start.mode ≡ Mode.Strict → AreWhole jobs → SameBlocks v w jobs → LeadsTo start history c jobs s → LeadsTo start history c jobs new
+      → (back : ℕ → Cell) (first : Words) (slots : List (Option ℕ)) (image : Words) → IsPutBack v e back first claims jobs slots image → IsKept v.geometry start history (map unfinished_call jobs ++ c ∷ []) image
   kept_image start history c mode whole blocks_same before_leads after_leads back first slots image is =
       let of_device = image_of e back image is.image_is in
       let put = shows_back v e claims jobs back first slots image (headed image of_device) (small_lap v d claims jobs numbers s count (before image of_device).0 device (before image of_device).1.is_image) is in
       elim (shows image of_device blocks_same put) [
         | inl old ↦ kept_leading v claims jobs numbers s count image start history c mode whole before_leads old
         | inr changed ↦
-            subst (λ y. IsKept y start history (map begun_of jobs ++ c ∷ []) image) change.geometry
+            subst (λ y. IsKept y start history (map unfinished_call jobs ++ c ∷ []) image) change.geometry
             (kept_leading w claims jobs numbers new count image start history c mode whole after_leads changed)
       ]

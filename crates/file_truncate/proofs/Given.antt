@@ -45,7 +45,7 @@ use Rattle.file_calls.specs.live_step_laws.k_plans.Whole.{IsWhole}
 use Rattle.file_calls.specs.live_step_laws.world_image_laws.Promised.{IsKept}
 use Rattle.file_calls.specs.live_step_laws.world_image_laws.Back.{IsPutBack}
 use Rattle.file_calls.specs.live_step_laws.world_model.JobLaws.{needs as needs_of}
-use Rattle.file_calls.specs.live_step_laws.world_model.Jobs.{begun_of, Job}
+use Rattle.file_calls.specs.live_step_laws.world_model.Jobs.{unfinished_call, Job}
 use Rattle.file_calls.specs.live_step_laws.world_model.Stands.{number}
 use Rattle.file_calls.specs.live_step_laws.world_step_laws.Steps.{LetsJobsBe}
 use Rattle.file_calls.specs.live_step_laws.live_model.Standing.{Kept}
@@ -192,7 +192,7 @@ module _ (who : Who) (h : Handle) (size needs : ℕ) (k : View) (t : Tables) (f 
     pub loses_size : StandsCleaned → (middle l : View) → IsClean d.node (size_in f d.node) size k middle → IsSizeAnswer d.node size middle l (Err KFault.PowerLost) → Loses who h size needs k t f l
     loses_size stands_clean middle l clean (inl off) = record {
       kept = λ g x n start history mode finds back slots image put. (let now = cleaned g x n (run start history) finds stands_clean middle clean in
-          subst (λ js. IsKept g start history (map begun_of js ++ (who, Call.Truncate h size) ∷ []) image) now.1
+          subst (λ js. IsKept g start history (map unfinished_call js ++ (who, Call.Truncate h size) ∷ []) image) now.1
           (loses_off who (Call.Truncate h size) middle l t f off g x n start history finds.few mode now.0
           (may_size g x n (run start history) finds middle now.0 now.1 now.2 clean).beside back slots image
           (subst (λ js. IsPutBack middle.volume l.cells back x.first x.claims js slots image) (sym now.1)
@@ -201,7 +201,7 @@ module _ (who : Who) (h : Handle) (size needs : ℕ) (k : View) (t : Tables) (f 
     }
     loses_size stands_clean middle l clean (inr (w, blocks, makes, cut)) = record {
       kept = λ g x n start history mode finds back slots image put. (let now = cleaned g x n (run start history) finds stands_clean middle clean in
-          subst (λ js. IsKept g start history (map begun_of js ++ (who, Call.Truncate h size) ∷ []) image) now.1
+          subst (λ js. IsKept g start history (map unfinished_call js ++ (who, Call.Truncate h size) ∷ []) image) now.1
           (keeps_sized g middle l t (with_files x f) true n start history who h size d.node mode now.0 (two_each g middle t (with_files x f) n (run start history) now.0)
           (may_size g x n (run start history) finds middle now.0 now.1 now.2 clean) w blocks makes cut back slots image
           (subst (λ js. IsPutBack middle.volume l.cells back x.first x.claims js slots image) (sym now.1)

@@ -35,7 +35,7 @@ use Rattle.file_calls.specs.live_step_laws.live_model.world_image_laws.Images.{S
 use Rattle.file_calls.specs.live_step_laws.live_model.world_model.Jobs.{Job, JobsStand, JobStands, live_claims, staged_block}
 use Rattle.file_calls.specs.live_step_laws.live_model.world_model.Stands.{entries_of}
 use Rattle.file_calls.proofs.live_step_laws_proofs.live_model_proofs.staging_files_proofs.GiveUpLaws.{staging-file}
-use Rattle.file_calls.specs.live_step_laws.live_model.Standing.{AreJobsOf, HasItsBlocks, Kept, LinesStand, Pending, StandsAt}
+use Rattle.file_calls.specs.live_step_laws.live_model.Standing.{AreJobsOf, HasItsBlocks, Kept, LinesStand, JobOut, StandsAt}
 use Rattle.file_calls.specs.live_step_laws.Changes.{IsChangeWith}
 use Rattle.file_calls.proofs.live_step_laws_proofs.Devices.{keeps_log_home_with}
 use Rattle.file_truncate.specs.Sizes.{MaySize, StandsSized}
@@ -43,15 +43,15 @@ use Rattle.file_truncate.proofs.Device.{device_on}
 use Rattle.file_truncate.proofs.Sizing as sizing
 
 -- the job of a pending one
-record IsJobOf (p : Pending) (jobs : List Job) : Type 0 where
+record IsJobOf (p : JobOut) (jobs : List Job) : Type 0 where
   job : Job
   there : In job jobs
   draft : job.draft ≡ p.draft
 
-job_of : (pending : List Pending) (jobs : List Job) (p : Pending) → AreJobsOf pending jobs → In p pending → IsJobOf p jobs
+job_of : (pending : List JobOut) (jobs : List Job) (p : JobOut) → AreJobsOf pending jobs → In p pending → IsJobOf p jobs
 job_of [] jobs p are is = absurd is
 job_of (q ∷ pending) [] p are is = absurd are
-job_of (q ∷ pending) (j ∷ jobs) p are (inl same) = record { job = j; there = inl refl; draft = are.2 ∙ ap (λ (x : Pending). x.draft) same }
+job_of (q ∷ pending) (j ∷ jobs) p are (inl same) = record { job = j; there = inl refl; draft = are.2 ∙ ap (λ (x : JobOut). x.draft) same }
 job_of (q ∷ pending) (j ∷ jobs) p are (inr rest) = let its = job_of pending jobs p are.3 rest in record { job = its.job; there = inr its.there; draft = its.draft }
 
 job_stands : (v : Volume) (live : List Draft) (f : ℕ → ℕ) (numbers : List ℕ) (s : State) (jobs : List Job) (j : Job) → JobsStand v live f numbers s jobs → In j jobs → JobStands v live f numbers s j
@@ -133,7 +133,7 @@ module _ (g : Geometry) (k l : View) (t : Tables) (kept : Kept) (files : Files) 
     | inr block ↦ inr (block.0, block.1, (block.2.0, block.2.1, same_block block.0.draft (job_staging block.0 block.1) block.2.0 ∙ block.2.2))
   ]
 
-  blocks : (p : Pending) → In p kept.pending → HasItsBlocks l.volume p
+  blocks : (p : JobOut) → In p kept.pending → HasItsBlocks l.volume p
   blocks p is =
       let its = stands.blocks p is in
       let job = job_of kept.pending stands.jobs p stands.jobs_are is in

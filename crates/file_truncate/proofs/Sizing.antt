@@ -49,7 +49,7 @@ use Rattle.file_calls.specs.live_step_laws.posix_tables.Room.{growth}
 use Rattle.file_calls.specs.live_step_laws.posix_laws.FitsLaws.{length-resized}
 use Rattle.file_calls.specs.live_step_laws.commute_laws.Needs.{needs as needs_of}
 use Rattle.file_calls.specs.live_step_laws.posix_spec.FileRows.{content, file_number}
-use Rattle.file_calls.specs.live_step_laws.posix_spec.Run.{after_call, Begun}
+use Rattle.file_calls.specs.live_step_laws.posix_spec.Run.{after_call, Unfinished}
 use Rattle.file_calls.specs.live_step_laws.posix_spec.State.{room, State}
 use Rattle.file_calls.specs.live_step_laws.posix_laws.Views.{need_of}
 use Rattle.file_calls.specs.live_step_laws.crash_spec.Busy.{waits_for}
@@ -258,7 +258,7 @@ module _ (g : Geometry) (k : View) (t : Tables) (kept : Kept) (lines : Bool) (n 
       truncated v w kept.claims stands.jobs f stands.numbers s stands.count who h size ino valid may.beside (λ row. all_fit) may.accepted may.waits resizes none
       (subst (λ xs. HasAlone w f ino (resized xs size)) (sym content_is) (has f valid zeros)) where
         all_fit : growth (length (content s who h)) size + needs_of s (flights_of stands.numbers stands.jobs) ≤ room s
-        all_fit = subst (λ cs. growth (length (content s who h)) size + sum_by (λ (c : Begun). need_of s c.0 c.1) cs ≤ room s) (sym (begun-flights stands.numbers stands.jobs)) may.fits
+        all_fit = subst (λ cs. growth (length (content s who h)) size + sum_by (λ (c : Unfinished). need_of s c.0 c.1) cs ≤ room s) (sym (begun-flights stands.numbers stands.jobs)) may.fits
 
   -- ---- blocks
 

@@ -26,7 +26,7 @@ use Rattle.file_calls.specs.live_step_laws.posix_spec.FileRows.{content, truncat
 use Rattle.file_calls.specs.live_step_laws.posix_spec.Run.{after_call, run}
 use Rattle.file_calls.specs.live_step_laws.posix_spec.State.{room, State}
 use Rattle.file_calls.specs.live_step_laws.crash_spec.Busy.{waits_for}
-use Rattle.file_calls.specs.live_step_laws.live_model.world_model.Jobs.{begun_of, Job}
+use Rattle.file_calls.specs.live_step_laws.live_model.world_model.Jobs.{unfinished_call, Job}
 use Rattle.file_calls.specs.live_step_laws.live_model.world_model.Stands.{number}
 use Rattle.file_calls.specs.live_step_laws.live_model.world_model.JobLaws.{needs}
 use Rattle.file_calls.specs.live_step_laws.live_model.world_image_laws.Promised.{IsKept}
@@ -83,4 +83,4 @@ KeepsSized =
     → (w : Volume) (blocks : List ℕ) → IsSizedWith ino size k w blocks → IsMapCut blocks w k l
     → (back : ℕ → Cell) (slots : List (Option ℕ)) (image : Words)
     → IsPutBack k.volume l.cells back kept.first kept.claims stands.jobs slots image
-    → IsKept g start history (map begun_of stands.jobs ++ (who, Call.Truncate h size) ∷ []) image
+    → IsKept g start history (map unfinished_call stands.jobs ++ (who, Call.Truncate h size) ∷ []) image

@@ -1,4 +1,5 @@
 -- What a `truncate` answers and leaves.
+use Rattle.posix_tables.specs.block_counts.declared.TheConstants.{LONGEST_FILE}
 use Rattle.std.specs.Prelude.{◌≡◌, ◌⊎◌, ◌≤◌, ◌<◌, ◌+◌, ◌-◌, ◌^◌, ℕ, Bool, true, false, List, [], ◌∷◌, ◌++◌, length, map, Option, Some, None, Result, Ok, Err}
 use Rattle.zero_fill.specs.pm_model.declared.Cell.{Cell}
 use Rattle.zero_fill.specs.pm_model.Powers.{is_on, Supply}
@@ -11,7 +12,7 @@ use Rattle.file_calls.specs.live_step_laws.k_split.MapChanges.{IsSizeAnswer}
 use Rattle.file_calls.specs.live_step_laws.world_image_laws.Promised.{IsKept}
 use Rattle.file_calls.specs.live_step_laws.world_image_laws.Back.{IsPutBack}
 use Rattle.file_calls.specs.live_step_laws.world_model.JobLaws.{needs as needs_of}
-use Rattle.file_calls.specs.live_step_laws.world_model.Jobs.{begun_of}
+use Rattle.file_calls.specs.live_step_laws.world_model.Jobs.{unfinished_call}
 use Rattle.file_calls.specs.live_step_laws.world_step_laws.Steps.{LetsJobsBe}
 use Rattle.zero_fill.specs.write_plan.k_journal.declared.outcomes.Commit.{Commit}
 use Rattle.zero_fill.specs.write_plan.k_split_model.View.{View}
@@ -52,7 +53,7 @@ IsAsked may size old left needs (Asked.Answered outcome) = truncate_row_by may s
 IsAsked may size old left needs (Asked.Full need rest) =
     (truncate_row_by may size old left ≡ None) × (need ≡ growth old size) × (rest ≡ left - needs) × (rest < need)
 IsAsked may size old left needs Asked.Goes =
-    (truncate_row_by may size old left ≡ None) × (growth old size ≤ left - needs) × (size ≤ 16777216)
+    (truncate_row_by may size old left ≡ None) × (growth old size ≤ left - needs) × (size ≤ LONGEST_FILE)
 
 -- what lacks, if it is room
 abbrev pub lacking_by : Asked → Option (ℕ × ℕ)
@@ -167,7 +168,7 @@ pub record Loses (who : Who) (h : Handle) (size needs : ℕ) (k : View) (t : Tab
       → (finds : Finds g k t (with_files x f) n (run start history) who (Call.Truncate h size) needs)
       → (back : ℕ → Cell) (slots : List (Option ℕ)) (image : Words)
       → IsPutBack k.volume l.cells back x.first x.claims finds.runs.jobs slots image
-      → IsKept g start history (map begun_of finds.runs.jobs ++ (who, Call.Truncate h size) ∷ []) image
+      → IsKept g start history (map unfinished_call finds.runs.jobs ++ (who, Call.Truncate h size) ∷ []) image
   pub left : (g : Geometry) (x : Kept) (n : ℕ) (s : State)
       → Finds g k t (with_files x f) n s who (Call.Truncate h size) needs → IsLeftOf g k.cells l.cells
 

@@ -9,6 +9,7 @@
 //! Stands on `log_replay`, `file_calls`, `pm_lines`, `posix_types`, `posix_tables` and `zero_fill`.
 #![tactic(auto)]
 
+mod laws;
 mod sizes;
 mod truncates;
 

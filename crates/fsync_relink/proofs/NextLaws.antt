@@ -4,7 +4,8 @@ use Rattle.std.specs.Prelude.{IsSome, if◌then◌else◌}
 use Rattle.std.proofs.lemmas.Bool.{both_ways, cases_Bool, cases_eq, eq-eqb}
 use Rattle.std.proofs.lemmas.Bool.Decides.{nat_tests}
 use Rattle.std.proofs.lemmas.Option.{same_Some}
-use Rattle.relink_laws.specs.layout_model.Lines.{is_inode, is_inode_of_kind, most_bytes}
+use Rattle.relink_laws.specs.layout_model.block_counts.declared.TheConstants.{LONGEST_FILE}
+use Rattle.relink_laws.specs.layout_model.Lines.{is_inode, is_inode_of_kind}
 use Rattle.relink_laws.specs.layout_model.declared.lines.Inode.{Inode}
 use Rattle.relink_laws.specs.layout_model.declared.lines.Kind.{Kind}
 use Rattle.relink_laws.specs.layout_model.declared.lines.Kind.TheVariants.{File, Staging}
@@ -28,14 +29,14 @@ use Rattle.relink_laws.proofs.WorldLaws.{relink-takes_one}
 -- ---- what a relink asks for
 
 -- a file's line has a length in range
-file-size : (x : Inode) → x.kind ≡ File → is_inode x ≡ true → x.size ≤ most_bytes
+file-size : (x : Inode) → x.kind ≡ File → is_inode x ≡ true → x.size ≤ LONGEST_FILE
 file-size x file is = within (subst (λ (k : Kind). is_inode_of_kind k x ≡ true) file is) where
-  within : is_inode_of_kind File x ≡ true → x.size ≤ most_bytes
+  within : is_inode_of_kind File x ≡ true → x.size ≤ LONGEST_FILE
   within fits = grind (arith, nat_tests, fits)
 
 -- the length that a file has once a run is relinked
-pub size-fits : (runs : List Run) (size : ℕ) (v : Volume) (ino : ℕ) → IsWhole v → IsLiveFile ino v → size ≤ most_bytes
-    → size_before runs size (inode v ino).size ≤ most_bytes
+pub size-fits : (runs : List Run) (size : ℕ) (v : Volume) (ino : ℕ) → IsWhole v → IsLiveFile ino v → size ≤ LONGEST_FILE
+    → size_before runs size (inode v ino).size ≤ LONGEST_FILE
 size-fits [] size v ino whole file fits = fits
 size-fits (run ∷ runs) size v ino whole file fits = file-size (inode v ino) file.file (whole.inodes ino)
 

@@ -4,7 +4,7 @@ use Rattle.std.specs.List.{list_any}
 use Rattle.std.specs.declared.alloc.AllocError.{AllocError}
 use Rattle.relink_laws.specs.pm_model.Cells.{cell, is_single}
 use Rattle.relink_laws.specs.pm_model.Powers.{is_on, Supply}
-use Rattle.relink_laws.specs.layout_model.Lines.{most_bytes}
+use Rattle.relink_laws.specs.layout_model.block_counts.declared.TheConstants.{LONGEST_FILE}
 use Rattle.relink_laws.specs.layout_model.Places.{reserve}
 use Rattle.relink_laws.specs.image_model.Volume.{extents, inode, Volume}
 use Rattle.file_overlay.specs.extent_model.Extents.{disk_at, is_within}
@@ -43,7 +43,7 @@ pub record IsStagedRun (k : View) (run : Run) : Type 0 where
 -- file has applied; and a free block for each run beside what the first relink wants.
 pub record MayPublish (ino size : ℕ) (runs : List Run) (k : View) : Type 0 where
   pub file : IsLiveFile ino k.volume
-  pub size_fits : size ≤ most_bytes
+  pub size_fits : size ≤ LONGEST_FILE
   pub staged : All (IsStagedRun k) runs
   pub apart : AllPairs ShareNone runs
   pub rising : AllPairs IsEarlier runs

@@ -1,6 +1,6 @@
 //! Runs are relinked, and a file gets its length.
 ghost use Rattle.std.specs.Prelude.{◌≡◌, ◌≤◌, ◌+◌, ◌*◌, ◌^◌, true, false, length};
-ghost use Rattle.relink_laws.specs.layout_model.Lines.{most_bytes};
+ghost use Rattle.relink_laws.specs.layout_model.block_counts.declared.TheConstants.{LONGEST_FILE};
 ghost use Rattle.relink_laws.specs.layout_model.Places.{reserve};
 ghost use Rattle.relink_laws.specs.image_model.Volume.{inode};
 ghost use Rattle.relink_laws.specs.k_map_plans.Plans.{IsLiveFile};
@@ -77,7 +77,7 @@ fn resize(
     requires power { is_on power.old ≡ true }
     requires on { k.old.lost ≡ false }
     requires file { IsLiveFile ino k.old.volume }
-    requires size { size ≤ most_bytes }
+    requires size { size ≤ LONGEST_FILE }
     requires room { reserve k.old.volume.geometry ≤ free_blocks_in k.old + 3 }
     ensures steps { Steps (2 ^ 15) power.old power.new }
     ensures paid { IsPublishPaid power.new result }

@@ -12,7 +12,8 @@ use Rattle.live_model.specs.layout_model.declared.lines.Inode.{Inode}
 use Rattle.live_model.specs.layout_model.declared.lines.Kind.{Kind}
 use Rattle.live_model.specs.layout_model.declared.lines.Kind.TheVariants.{Directory, File, Free, Staging}
 use Rattle.live_model.specs.layout_model.Entries.{is_draft}
-use Rattle.live_model.specs.layout_model.Lines.{is_inode_of_kind, most_bytes}
+use Rattle.live_model.specs.layout_model.block_counts.declared.TheConstants.{LONGEST_FILE}
+use Rattle.live_model.specs.layout_model.Lines.{is_inode_of_kind}
 use Rattle.live_model.specs.layout_model.Places.{Geometry}
 use Rattle.live_model.specs.image_model.Content.{size_by}
 use Rattle.live_model.specs.image_model.Live.{is_file, latest}
@@ -32,7 +33,7 @@ use Rattle.live_model.specs.staging_files.Keeps.{AreApart, given_to, has_block, 
 use Rattle.live_model.specs.world_model.Latest.{latest-In}
 use Rattle.live_model.specs.world_model.Jobs.{live_claims}
 use Rattle.live_model.specs.world_model.Stands.{entries_of}
-use Rattle.live_model.specs.Standing.{AreOfTwoThreads, Kept, Pending, StandsAt}
+use Rattle.live_model.specs.Standing.{AreOfTwoThreads, Kept, JobOut, StandsAt}
 
 -- ---- things with keys of their own
 
@@ -103,10 +104,10 @@ who_apart (Who.Thread m) (Who.Thread n) one two other same =
     let never : true ≡ false = sym ((Decides-eqb m n).1 same) ∙ other in cc
 
 -- AT MOST NINE JOBS ARE OUT, of callers of their own.
-pub few_jobs : (pending : List Pending) → AllPairs AreOfTwoThreads pending → ((p : Pending) → In p pending → IsCounted p.who) → length pending ≤ 9
+pub few_jobs : (pending : List JobOut) → AllPairs AreOfTwoThreads pending → ((p : JobOut) → In p pending → IsCounted p.who) → length pending ≤ 9
 few_jobs pending two counted =
-    few_keys (λ (p : Pending). who_key p.who) 9 pending
-    (keyed_of (λ (p : Pending). who_key p.who) AreOfTwoThreads pending two (λ p q at_p at_q are. who_apart p.who q.who (counted p at_p) (counted q at_q) are.other))
+    few_keys (λ (p : JobOut). who_key p.who) 9 pending
+    (keyed_of (λ (p : JobOut). who_key p.who) AreOfTwoThreads pending two (λ p q at_p at_q are. who_apart p.who q.who (counted p at_p) (counted q at_q) are.other))
     (λ p at. who_below p.who (counted p at))
 
 -- ---- runs that are out
@@ -158,13 +159,13 @@ module _ (s : Staged) (staged : IsStaged s) where
 
 -- ---- sizes
 
-few_bytes : (kind : Kind) (x : Inode) → is_inode_of_kind kind x ≡ true → x.size ≤ most_bytes
+few_bytes : (kind : Kind) (x : Inode) → is_inode_of_kind kind x ≡ true → x.size ≤ LONGEST_FILE
 few_bytes Free x is = grind (arith, nat_tests, is)
 few_bytes Directory x is = grind (arith, nat_tests, is)
 few_bytes File x is = grind (arith, nat_tests, is)
 few_bytes Staging x is = grind (arith, nat_tests, is)
 
-draft_small : (d : Draft) → is_draft d ≡ true → d.size ≤ most_bytes
+draft_small : (d : Draft) → is_draft d ≡ true → d.size ≤ LONGEST_FILE
 draft_small d is = grind (arith, nat_tests, is)
 
 kind_cases : (x : Kind) → (x ≡ File) ⊎ (x ≢ File)
@@ -211,17 +212,17 @@ module _ (g : Geometry) (k : View) (t : Tables) (kept : Kept) (lines : Bool) (n 
   abbrev live : List Draft
   live = live_claims k.volume kept.claims
 
-  own_small : (ino : ℕ) → (inode k.volume ino).size ≤ most_bytes
+  own_small : (ino : ℕ) → (inode k.volume ino).size ≤ LONGEST_FILE
   own_small ino = few_bytes (inode k.volume ino).kind (inode k.volume ino) (stands.order.whole.inodes ino)
 
-  by_latest : (ino : ℕ) (o : Option Draft) → latest (filter (λ (d : Draft). d.ino == ino) live) ≡ o → size_by o (inode k.volume ino).size ≤ most_bytes
+  by_latest : (ino : ℕ) (o : Option Draft) → latest (filter (λ (d : Draft). d.ino == ino) live) ≡ o → size_by o (inode k.volume ino).size ≤ LONGEST_FILE
   by_latest ino None is = own_small ino
   by_latest ino (Some d) is =
       let entry = (filter-In (λ (x : Draft). x.ino == ino) live d (latest-In (filter (λ (x : Draft). x.ino == ino) live) d is)).0 in
       draft_small d (stands.drafts d entry).fields
 
   -- NO SIZE THAT IS KEPT IS MORE THAN A FILE MAY HAVE.
-  pub sizes_small : All (λ size. size ≤ most_bytes) kept.files.sizes
+  pub sizes_small : All (λ size. size ≤ LONGEST_FILE) kept.files.sizes
   sizes_small i d below = elim (kind_cases (inode k.volume i).kind) [
     | inl file ↦ (
         let size = by_latest i (latest (filter (λ (x : Draft). x.ino == i) live)) refl in

@@ -11,7 +11,7 @@ use Rattle.open_files.specs.posix_tables.declared.open.Description.{Description}
 use Rattle.open_files.specs.posix_tables.Open.{opened, Tables}
 use Rattle.open_files.specs.posix_spec.State.{State}
 use Rattle.open_files.specs.crash_spec.Busy.{handle_node, is_busy, path_node, waits_for}
-use Rattle.live_model.specs.Standing.{Pending}
+use Rattle.live_model.specs.Standing.{JobOut}
 use Rattle.in_flight.specs.Busy.{files_by, found_ino, HoldsFile, IsKeeping, IsKept, IsNodeOf, WaitsForFile}
 use Rattle.in_flight.proofs.Waiting.{handle_waits, idle_file, idle_none, kept_waiting, path_waits}
 
@@ -32,16 +32,16 @@ by_none k t who call waits g kept n s stands = waits s
 
 -- ---- whether a job keeps it waiting
 
-pub kept_none : (k : View) (t : Tables) (who : Who) (call : Call) (pending : List Pending) → WaitsForFile who call k t None → IsKept who call k t pending None
+pub kept_none : (k : View) (t : Tables) (who : Who) (call : Call) (pending : List JobOut) → WaitsForFile who call k t None → IsKept who call k t pending None
 kept_none k t who call pending waits g kept n s stands same =
-    subst (λ (ps : List Pending). is_busy s (files_by s ps) (who, call) ≡ false) same (idle_none g k t kept _ n s stands who call (waits g kept n s stands))
+    subst (λ (ps : List JobOut). is_busy s (files_by s ps) (who, call) ≡ false) same (idle_none g k t kept _ n s stands who call (waits g kept n s stands))
 
-pub kept_by_none : (k : View) (t : Tables) (who : Who) (call : Call) (pending : List Pending) (ino : ℕ) → WaitsForFile who call k t (Some ino) → HoldsFile pending ino who None → IsKept who call k t pending None
+pub kept_by_none : (k : View) (t : Tables) (who : Who) (call : Call) (pending : List JobOut) (ino : ℕ) → WaitsForFile who call k t (Some ino) → HoldsFile pending ino who None → IsKept who call k t pending None
 kept_by_none k t who call pending ino waits holds g kept n s stands same =
-    subst (λ (ps : List Pending). is_busy s (files_by s ps) (who, call) ≡ false) same
-    (idle_file g k t kept _ n s stands who call ino (waits g kept n s stands) (subst (λ (ps : List Pending). HoldsFile ps ino who None) (sym same) holds))
+    subst (λ (ps : List JobOut). is_busy s (files_by s ps) (who, call) ≡ false) same
+    (idle_file g k t kept _ n s stands who call ino (waits g kept n s stands) (subst (λ (ps : List JobOut). HoldsFile ps ino who None) (sym same) holds))
 
-pub kept_by : (k : View) (t : Tables) (who : Who) (call : Call) (pending : List Pending) (ino : ℕ) (holder : Who) → WaitsForFile who call k t (Some ino) → HoldsFile pending ino who (Some holder) → IsKept who call k t pending (Some (ino, holder))
+pub kept_by : (k : View) (t : Tables) (who : Who) (call : Call) (pending : List JobOut) (ino : ℕ) (holder : Who) → WaitsForFile who call k t (Some ino) → HoldsFile pending ino who (Some holder) → IsKept who call k t pending (Some (ino, holder))
 kept_by k t who call pending ino holder waits holds g kept n s stands same =
-    subst (λ (ps : List Pending). IsKeeping s ps who call ino holder) same
-    (kept_waiting g k t kept _ n s stands who call ino holder (waits g kept n s stands) (subst (λ (ps : List Pending). HoldsFile ps ino who (Some holder)) (sym same) holds))
+    subst (λ (ps : List JobOut). IsKeeping s ps who call ino holder) same
+    (kept_waiting g k t kept _ n s stands who call ino holder (waits g kept n s stands) (subst (λ (ps : List JobOut). HoldsFile ps ino who (Some holder)) (sym same) holds))

@@ -10,7 +10,7 @@ use Rattle.open_files.specs.posix_tables.Open.{same_who}
 use Rattle.open_files.specs.commute_laws.Handles.{same_who-is}
 use Rattle.in_flight.proofs.CountsCounts.{pairs}
 use Rattle.in_flight.proofs.CountsJobs.{same_who-refl}
-use Rattle.live_model.specs.Standing.{AreOfTwoThreads, Pending}
+use Rattle.live_model.specs.Standing.{AreOfTwoThreads, JobOut}
 use Rattle.live_model.specs.Jobs.{without}
 
 pub other_who : (a b : Who) → a ≢ b → same_who a b ≡ false
@@ -20,14 +20,14 @@ other_who a b apart = by (same_who a b) refl where
   by true is = absurd (apart (same_who-is a b is))
 
 -- where none is the caller's, all are left
-pub all_left : (who : Who) (pending : List Pending) → ((p : Pending) → In p pending → p.who ≢ who) → without who pending ≡ pending
+pub all_left : (who : Who) (pending : List JobOut) → ((p : JobOut) → In p pending → p.who ≢ who) → without who pending ≡ pending
 all_left who [] none = refl
 all_left who (p ∷ pending) none =
     ap (λ b. cond (not b) (p ∷ without who pending) (without who pending)) (other_who p.who who (none p (inl refl)))
     ∙ ap (λ ps. p ∷ ps) (all_left who pending (λ q is. none q (inr is)))
 
 -- else all but the one
-pub one_taken : (who : Who) (pending : List Pending) (i : ℕ) (p : Pending) → AllPairs AreOfTwoThreads pending → slice_get pending i ≡ Some p → p.who ≡ who → remove pending i ≡ without who pending
+pub one_taken : (who : Who) (pending : List JobOut) (i : ℕ) (p : JobOut) → AllPairs AreOfTwoThreads pending → slice_get pending i ≡ Some p → p.who ≡ who → remove pending i ≡ without who pending
 one_taken who [] i p two at own = cc
 one_taken who (x ∷ pending) zero p two at own =
     sym (all_left who pending (λ q is same. (
@@ -37,7 +37,7 @@ one_taken who (x ∷ pending) zero p two at own =
     absurd (no never))))
     ∙ sym (ap (λ b. cond (not b) (x ∷ without who pending) (without who pending)) (ap (λ w. same_who w who) here ∙ same_who-refl who)) where
       here : x.who ≡ who
-      here = ap (λ (y : Pending). y.who) (same_Some x p at) ∙ own
+      here = ap (λ (y : JobOut). y.who) (same_Some x p at) ∙ own
 
       no : true ≡ false → ⊥
       no never = let P : Bool → Type 0 = λ b. cond b (Unit {0}) ⊥ in subst P never tt
@@ -47,24 +47,24 @@ one_taken who (x ∷ pending) (suc i) p two at own =
 
 -- ---- looking
 
-pub at_index : (xs : List Pending) (i : ℕ) (p d : Pending) → slice_get xs i ≡ Some p → slice_index_or xs i d ≡ p
+pub at_index : (xs : List JobOut) (i : ℕ) (p d : JobOut) → slice_get xs i ≡ Some p → slice_index_or xs i d ≡ p
 at_index [] i p d at = cc
 at_index (x ∷ xs) zero p d at = same_Some x p at
 at_index (x ∷ xs) (suc i) p d at = at_index xs i p d at
 
-pub there : (xs : List Pending) (i : ℕ) (d : Pending) → i < length xs → In (slice_index_or xs i d) xs
+pub there : (xs : List JobOut) (i : ℕ) (d : JobOut) → i < length xs → In (slice_index_or xs i d) xs
 there [] i d below = absurd (omega (arith, below))
 there (x ∷ xs) zero d below = inl refl
 there (x ∷ xs) (suc i) d below = inr (there xs i d (omega (arith, below)))
 
-pub held : (p : Pending) (ino : ℕ) (who : Who) → (not (same_who p.who who) && (p.draft.ino == ino)) ≡ true → (p.draft.ino ≡ ino) × (p.who ≢ who)
+pub held : (p : JobOut) (ino : ℕ) (who : Who) → (not (same_who p.who who) && (p.draft.ino == ino)) ≡ true → (p.draft.ino ≡ ino) × (p.who ≢ who)
 held p ino who is = by (same_who p.who who) (p.draft.ino == ino) refl refl is where
   by : (a b : Bool) → same_who p.who who ≡ a → (p.draft.ino == ino) ≡ b → (not a && b) ≡ true → (p.draft.ino ≡ ino) × (p.who ≢ who)
   by false true one two is = ((Decides-eqb p.draft.ino ino).0 two, λ same. (let P : Bool → Type 0 = λ b. cond b (Unit {0}) ⊥ in subst P (sym (same_who-refl who) ∙ (ap (λ w. same_who w who) (sym same) ∙ one)) tt))
   by true b one two is = cc
   by false false one two is = cc
 
-pub not_held : (p : Pending) (ino : ℕ) (who : Who) → (not (same_who p.who who) && (p.draft.ino == ino)) ≡ false → p.draft.ino ≡ ino → p.who ≡ who
+pub not_held : (p : JobOut) (ino : ℕ) (who : Who) → (not (same_who p.who who) && (p.draft.ino == ino)) ≡ false → p.draft.ino ≡ ino → p.who ≡ who
 not_held p ino who is file = by (same_who p.who who) refl (ap (λ b. not (same_who p.who who) && b) (sym ((Decides-eqb p.draft.ino ino).1 file)) ∙ is) where
   by : (a : Bool) → same_who p.who who ≡ a → (not a && true) ≡ false → p.who ≡ who
   by true one is = same_who-is p.who who one

@@ -30,7 +30,7 @@ use Rattle.live_model.specs.world_step_laws.Worlds.{world_mirror}
 use Rattle.live_model.specs.world_model.JobLaws.{live_used}
 use Rattle.live_model.specs.world_model.Stands.{is_used, IsUsed, number}
 use Rattle.live_model.specs.world_step_laws.Mirrors.{Mirrors, node_at_path-same, node_at_path-used}
-use Rattle.live_model.specs.Standing.{Kept, Pending, StandsAt}
+use Rattle.live_model.specs.Standing.{Kept, JobOut, StandsAt}
 use Rattle.in_flight.specs.Busy.{file_out, files_by, found_ino, HoldsFile, IsKeeping, IsNodeOf}
 use Rattle.in_flight.proofs.CountsJobs.{its_job, same_who-refl, stood, waits_of, words_now, world_now}
 
@@ -134,20 +134,20 @@ module _ (g : Geometry) (k : View) (t : Tables) (kept : Kept) (lines : Bool) (n 
   one_file i j one two same = mirror.one i j one two same
 
   -- the file of a job is in use
-  pub job_used : (p : Pending) → In p kept.pending → IsUsed k.volume p.draft.ino
+  pub job_used : (p : JobOut) → In p kept.pending → IsUsed k.volume p.draft.ino
   job_used p is =
       let its = its_job g k t kept lines n s stands p is in
       subst (λ (d : Draft). IsUsed k.volume d.ino) its.draft (live_used k.volume its.job.draft (stood g k t kept lines n s stands its.job its.there).alive)
 
-  in_map : (xs : List Pending) (p : Pending) → In p xs → In (file_out s p) (files_by s xs)
+  in_map : (xs : List JobOut) (p : JobOut) → In p xs → In (file_out s p) (files_by s xs)
   in_map [] p is = absurd is
   in_map (x ∷ xs) p (inl same) = inl (ap (file_out s) same)
   in_map (x ∷ xs) p (inr rest) = inr (in_map xs p rest)
 
-  node_of : (p : Pending) → In p kept.pending → (file_out s p).1 ≡ number stands.numbers p.draft.ino
+  node_of : (p : JobOut) → In p kept.pending → (file_out s p).1 ≡ number stands.numbers p.draft.ino
   node_of p is = ap (λ (o : Option ℕ). unwrap_or o 0) (waits_of g k t kept lines n s stands p is)
 
-  none_keeps : (who : Who) (ino : ℕ) → IsUsed k.volume ino → (xs : List Pending) → ((p : Pending) → In p xs → In p kept.pending) → ((p : Pending) → In p xs → p.draft.ino ≡ ino → p.who ≡ who)
+  none_keeps : (who : Who) (ino : ℕ) → IsUsed k.volume ino → (xs : List JobOut) → ((p : JobOut) → In p xs → In p kept.pending) → ((p : JobOut) → In p xs → p.draft.ino ≡ ino → p.who ≡ who)
       → list_any (keeps_busy who (number stands.numbers ino)) (files_by s xs) ≡ false
   none_keeps who ino used [] there own = refl
   none_keeps who ino used (p ∷ xs) there own =

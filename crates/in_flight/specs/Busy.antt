@@ -10,13 +10,13 @@ use Rattle.live_model.specs.commute_laws.posix_tables.Open.{Tables}
 use Rattle.live_model.specs.commute_laws.posix_spec.State.{State}
 use Rattle.live_model.specs.commute_laws.crash_spec.Busy.{is_busy, Out, waits_for}
 use Rattle.live_model.specs.world_model.Stands.{IsUsed, number}
-use Rattle.live_model.specs.Standing.{Kept, Pending, StandsAt}
+use Rattle.live_model.specs.Standing.{Kept, JobOut, StandsAt}
 
 -- the files of the jobs that are out, with their callers, as calls wait for them
-abbrev pub file_out : State → Pending → Out
+abbrev pub file_out : State → JobOut → Out
 file_out s p = (p.who, unwrap_or (waits_for s (p.who, p.call)) 0)
 
-abbrev pub files_by : State → List Pending → List Out
+abbrev pub files_by : State → List JobOut → List Out
 files_by s pending = map (file_out s) pending
 
 -- the inode that a path was found at
@@ -35,13 +35,13 @@ WaitsForFile who call k t found =
     (g : Geometry) (kept : Kept) (n : ℕ) (s : State) → (stands : StandsAt g k t kept true n s) → IsNodeOf stands.numbers k found (waits_for s (who, call))
 
 -- a job of another caller is out of the file, and this is its caller; or none is
-abbrev pub HoldsFile : List Pending → ℕ → Who → Option Who → Type 0
-HoldsFile pending ino who None = (p : Pending) → In p pending → p.draft.ino ≡ ino → p.who ≡ who
-HoldsFile pending ino who (Some holder) = (p : Pending) × In p pending × (p.draft.ino ≡ ino) × (p.who ≡ holder) × (p.who ≢ who)
+abbrev pub HoldsFile : List JobOut → ℕ → Who → Option Who → Type 0
+HoldsFile pending ino who None = (p : JobOut) → In p pending → p.draft.ino ≡ ino → p.who ≡ who
+HoldsFile pending ino who (Some holder) = (p : JobOut) × In p pending × (p.draft.ino ≡ ino) × (p.who ≡ holder) × (p.who ≢ who)
 
 -- A JOB OF THIS CALLER, which is out of the file with this inode, KEEPS THE CALL WAITING.
-pub record IsKeeping (s : State) (pending : List Pending) (who : Who) (call : Call) (ino : ℕ) (holder : Who) : Type 0 where
-  pub job : Pending
+pub record IsKeeping (s : State) (pending : List JobOut) (who : Who) (call : Call) (ino : ℕ) (holder : Who) : Type 0 where
+  pub job : JobOut
   pub out : In job pending
   pub holder_is : job.who ≡ holder
   pub other : holder ≢ who
@@ -50,7 +50,7 @@ pub record IsKeeping (s : State) (pending : List Pending) (who : Who) (call : Ca
   pub busy : is_busy s (files_by s pending) (who, call) ≡ true
 
 -- whether one does, in whatever state they stand together
-abbrev pub IsKept : Who → Call → View → Tables → List Pending → Option (ℕ × Who) → Type 0
+abbrev pub IsKept : Who → Call → View → Tables → List JobOut → Option (ℕ × Who) → Type 0
 IsKept who call k t pending None =
     (g : Geometry) (kept : Kept) (n : ℕ) (s : State) → StandsAt g k t kept true n s → kept.pending ≡ pending → is_busy s (files_by s pending) (who, call) ≡ false
 IsKept who call k t pending (Some found) =

@@ -18,7 +18,7 @@ mod jobs;
 mod script_calls;
 
 pub use counts::{Commit, Filled, FilledJob, Job, KSplit};
-pub use jobs::{OpenFiles, Pending, keeper, place_of, take_job, waits_for};
+pub use jobs::{JobOut, OpenFiles, keeper, place_of, take_job, waits_for};
 pub use script_calls::{
     Counters, call_at, calls_made, count_call, next_in, no_calls, script_length,
 };

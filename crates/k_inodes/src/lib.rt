@@ -14,11 +14,9 @@ ghost use Rattle.layout_model.specs.LineLaws.{FitsInode, IsInodeLine};
 ghost use Rattle.layout_model.specs.Lines.{code_of_kind, kind_of_code, has_map_or_none, is_inode, encode_inode, decode_inode};
 ghost use Rattle.layout_model.specs.declared.lines.Inode.{Inode};
 
+use block_counts::LONGEST_FILE;
 use image_layout::{put_u32, put_u64, u32_at, u64_at};
 pub use layout_model::{Inode, Kind};
-
-// The longest file, in bytes.
-const MOST_BYTES: u64 = 16_777_216;
 
 // The greatest order of an entry of the log.
 const MOST_APPLIED: u64 = 1 << 63;
@@ -60,7 +58,7 @@ fn is_inode(inode: &Inode) -> bool
     let has_no_bytes = inode.size == 0 && inode.applied == 0;
     match inode.kind {
         Kind::Free | Kind::Directory => has_no_bytes && inode.root == 0 && inode.extents == 0,
-        Kind::File => inode.size <= MOST_BYTES
+        Kind::File => inode.size <= LONGEST_FILE
             && inode.applied <= MOST_APPLIED
             && has_map_or_none(inode),
         Kind::Staging => has_no_bytes && has_map_or_none(inode),

@@ -9,7 +9,7 @@ use Rattle.k_journal.specs.Commits.{MayCommit, IsBeforeOrAfter, IsAfter}
 use Rattle.k_journal.specs.Patches.{find_target, patched-none, patched-miss, patched-hit, patched-at, patched-same}
 use Rattle.k_journal.specs.Phases.{AreRecorded, AreInPlace, IsStage}
 use Rattle.k_journal.specs.Phases.IsStage.{Unbegun, Recorded, Applied}
-use Rattle.k_journal.specs.declared.batches.Entry.{Entry}
+use Rattle.k_journal.specs.declared.batches.Record.{Record}
 use Rattle.pm_lines.specs.pm_model.declared.Cell.{Cell}
 use Rattle.pm_lines.specs.pm_model.declared.Cell.TheVariants.{Single}
 use Rattle.pm_lines.specs.pm_model.CellLaws.{candidate-single, candidate-settles, newest-candidate, settled-single, single-home}
@@ -79,17 +79,17 @@ unfolding before
 before-other old image i other = cond-false (is_single (cell old i)) (newest (cell old i)) (image i) other
 
 -- Words outside the journal and the batch's lines only settled.
-pub record IsFramed (b : List Entry) (old new : List Cell) : Type 0 where
+pub record IsFramed (b : List Record) (old new : List Cell) : Type 0 where
   pub frame : (i : ℕ) → is_journal_word i ≡ false → IsNew b (i / 8) → Settles (cell old i) (cell new i)
 
 -- a word with several candidates is neither the journal's nor one of the batch's lines
-apart_word : (g : Geometry) (b : List Entry) (old : List Cell) (i : ℕ) → MayCommit g b old → is_single (cell old i) ≡ false → (is_journal_word i ≡ false) × IsNew b (i / 8)
+apart_word : (g : Geometry) (b : List Record) (old : List Cell) (i : ℕ) → MayCommit g b old → is_single (cell old i) ≡ false → (is_journal_word i ≡ false) × IsNew b (i / 8)
 apart_word g b old i may other = (
   false_from_ne_true (is_journal_word i) (λ journal. both_ways (is_single (cell old i)) other (may.journal i (journal_word-below i journal))),
   λ k h e. both_ways (is_single (cell old i)) other (may.targets k h i (sym e)),
 )
 
-pub comes_from : (g : Geometry) (b : List Entry) (old new : List Cell) (image : Words) → MayCommit g b old → IsFramed b old new → IsImage new image
+pub comes_from : (g : Geometry) (b : List Record) (old new : List Cell) (image : Words) → MayCommit g b old → IsFramed b old new → IsImage new image
     → ComesFrom old image (before old image)
 comes_from g b old new image may framed is = record {
   is_image = λ i. ⊎_elim
@@ -109,29 +109,29 @@ settled_word old new image i settles is = ⊎_elim
     (λ (other : is_single (cell old i) ≡ false). sym (before-other old image i other))
     (cases_Bool (is_single (cell old i)))
 
-before-count : (g : Geometry) (b : List Entry) (old : List Cell) (image : Words) → MayCommit g b old → before old image 8 ≡ 0
+before-count : (g : Geometry) (b : List Record) (old : List Cell) (image : Words) → MayCommit g b old → before old image 8 ≡ 0
 before-count g b old image may =
     let single : is_single (cell old 8) ≡ true = may.journal 8 (lit< tt) in
     before-single old image 8 single ∙ ap newest may.idle
 
 -- outside the journal the view before is the image before
-before-view : (g : Geometry) (b : List Entry) (old : List Cell) (image : Words) (w : ℕ) → MayCommit g b old → is_journal_word w ≡ false → journaled (before old image) w ≡ before old image w
+before-view : (g : Geometry) (b : List Record) (old : List Cell) (image : Words) (w : ℕ) → MayCommit g b old → is_journal_word w ≡ false → journaled (before old image) w ≡ before old image w
 before-view g b old image w may apart = journaled-idle (before old image) w (before-count g b old image may) apart
 
 -- a word of the journal is on none of the batch's lines
-journal_word-new : (g : Geometry) (b : List Entry) (old : List Cell) (w : ℕ) → MayCommit g b old → is_journal_word w ≡ true → IsNew b (w / 8)
+journal_word-new : (g : Geometry) (b : List Record) (old : List Cell) (w : ℕ) → MayCommit g b old → is_journal_word w ≡ true → IsNew b (w / 8)
 journal_word-new g b old w may journal = λ k h e.
     both_ways (is_journaled_line g (w / 8)) (journal_word-apart g w journal) (rw (← e) (may.lines k h))
 
 -- the batch's view of a word of the journal
-batch-journal : (g : Geometry) (b : List Entry) (old : List Cell) (f : Words) (w : ℕ) → MayCommit g b old → is_journal_word w ≡ true → with_batch b (journaled f) w ≡ 0
+batch-journal : (g : Geometry) (b : List Record) (old : List Cell) (f : Words) (w : ℕ) → MayCommit g b old → is_journal_word w ≡ true → with_batch b (journaled f) w ≡ 0
 batch-journal g b old f w may journal =
     patched-miss (length b) (target b) (content b) (journaled f) w (journal_word-new g b old w may journal) ∙ journaled-journal f w journal
 
 -- ---- the three stages
 
 -- no record counts and the lines are as they were
-pub old_view : (g : Geometry) (b : List Entry) (old new : List Cell) (image : Words) → MayCommit g b old → IsImage new image → image 8 ≡ 0
+pub old_view : (g : Geometry) (b : List Record) (old new : List Cell) (image : Words) → MayCommit g b old → IsImage new image → image 8 ≡ 0
     → ((i : ℕ) → is_journal_word i ≡ false → Settles (cell old i) (cell new i)) → IsBeforeOrAfter g b (before old image) image
 old_view g b old new image may is count settles = record {
   view = inl (same_views (journaled image) (journaled (before old image))
@@ -141,17 +141,17 @@ old_view g b old new image may is count settles = record {
   sound = λ _. record { count = rw count (lit≤ tt); targets = λ r h. absurd (omega (arith, count)) };
 }
 
-recorded_target : (b : List Entry) (n k : ℕ) (new : List Cell) (image : Words) → AreRecorded b n new → IsImage new image → k < n → record_target image k ≡ target b k
+recorded_target : (b : List Record) (n k : ℕ) (new : List Cell) (image : Words) → AreRecorded b n new → IsImage new image → k < n → record_target image k ≡ target b k
 recorded_target b n k new image recorded is h = rw (recorded.targets k h) at (is (8 * record_line k))
 
-recorded_word : (b : List Entry) (n k w : ℕ) (new : List Cell) (image : Words) → AreRecorded b n new → IsImage new image → k < n → record_word image k (w % 8) ≡ content b k (w % 8)
+recorded_word : (b : List Record) (n k w : ℕ) (new : List Cell) (image : Words) → AreRecorded b n new → IsImage new image → k < n → record_word image k (w % 8) ≡ content b k (w % 8)
 recorded_word b n k w new image recorded is h =
     let i : ℕ = 8 * (record_line k + 1) + w % 8 in
     let column : i % 8 ≡ w % 8 = omega arith in
     rw (recorded.contents k i h (omega arith)) at (is i) ∙ ap (content b k) column
 
 -- Words that one of the batch's lines hides, or that are as before, make the same view over either.
-same_below : (b : List Entry) (f g : Words) (w : ℕ) → (IsNew b (w / 8) → f w ≡ g w) → with_batch b f w ≡ with_batch b g w
+same_below : (b : List Record) (f g : Words) (w : ℕ) → (IsNew b (w / 8) → f w ≡ g w) → with_batch b f w ≡ with_batch b g w
 same_below b f g w same = ⊎_elim
     (λ (found : (k : ℕ) × (k < length b) × (target b k ≡ w / 8)). patched-hit (length b) (target b) (content b) f g w found.0 found.1 found.2)
     (λ (none : (k : ℕ) → k < length b → target b k ≢ w / 8).
@@ -159,7 +159,7 @@ same_below b f g w same = ⊎_elim
     (find_target (length b) (target b) (w / 8))
 
 -- the records count
-pub recorded_view : (g : Geometry) (b : List Entry) (old new : List Cell) (image : Words) → MayCommit g b old → IsFramed b old new → IsImage new image
+pub recorded_view : (g : Geometry) (b : List Record) (old new : List Cell) (image : Words) → MayCommit g b old → IsFramed b old new → IsImage new image
     → length b ≤ 128 → image 8 ≡ length b → AreRecorded b (length b) new → IsBeforeOrAfter g b (before old image) image
 recorded_view g b old new image may framed is most count recorded = record {
   view = inr (same_views (journaled image) (with_batch b (journaled (before old image)))
@@ -176,7 +176,7 @@ recorded_view g b old new image may framed is most count recorded = record {
 }
 
 -- no record counts and the lines are set
-pub new_view : (g : Geometry) (b : List Entry) (old new : List Cell) (image : Words) → MayCommit g b old → IsFramed b old new → IsImage new image
+pub new_view : (g : Geometry) (b : List Record) (old new : List Cell) (image : Words) → MayCommit g b old → IsFramed b old new → IsImage new image
     → IsDistinct b → image 8 ≡ 0 → AreInPlace b (length b) new → IsAfter g b (before old image) image
 new_view g b old new image may framed is distinct count done = record {
   view = same_views (journaled image) (with_batch b (journaled (before old image)))
@@ -194,7 +194,7 @@ new_view g b old new image may framed is distinct count done = record {
 }
 
 -- whichever stage an image shows
-pub stage_view : (g : Geometry) (b : List Entry) (old new : List Cell) (image : Words) → MayCommit g b old → IsFramed b old new → IsImage new image
+pub stage_view : (g : Geometry) (b : List Record) (old new : List Cell) (image : Words) → MayCommit g b old → IsFramed b old new → IsImage new image
     → length b ≤ 128 → IsDistinct b → IsStage b old new image → IsBeforeOrAfter g b (before old image) image
 stage_view g b old new image may framed is most distinct (Unbegun count settles) = old_view g b old new image may is count settles
 stage_view g b old new image may framed is most distinct (Recorded count recorded) = recorded_view g b old new image may framed is most count recorded
@@ -203,23 +203,23 @@ stage_view g b old new image may framed is most distinct (Applied count done) =
     record { view = inr after.view; others = after.others; sound = λ _. after.sound }
 
 -- The device after a commit, or after a part of it.
-pub follows : (g : Geometry) (b : List Entry) (old new : List Cell) → MayCommit g b old → IsFramed b old new → length b ≤ 128 → IsDistinct b
+pub follows : (g : Geometry) (b : List Record) (old new : List Cell) → MayCommit g b old → IsFramed b old new → length b ≤ 128 → IsDistinct b
     → ((image : Words) → IsImage new image → IsStage b old new image) → Follows (IsBeforeOrAfter g b) old new
 follows g b old new may framed most distinct stages image is =
     (before old image, comes_from g b old new image may framed is, stage_view g b old new image may framed is most distinct (stages image is))
 
 -- the device after a whole commit
-pub follows-after : (g : Geometry) (b : List Entry) (old new : List Cell) → MayCommit g b old → IsFramed b old new → IsDistinct b
+pub follows-after : (g : Geometry) (b : List Record) (old new : List Cell) → MayCommit g b old → IsFramed b old new → IsDistinct b
     → cell new commit_word ≡ Single 0 → AreInPlace b (length b) new → Follows (IsAfter g b) old new
 follows-after g b old new may framed distinct idle done image is =
     (before old image, comes_from g b old new image may framed is, new_view g b old new image may framed is distinct (rw idle at (is commit_word)) done)
 
 -- a device that is as it was
-pub follows-same : (g : Geometry) (b : List Entry) (d : List Cell) → Follows (IsBeforeOrAfter g b) d d
+pub follows-same : (g : Geometry) (b : List Record) (d : List Cell) → Follows (IsBeforeOrAfter g b) d d
 follows-same g b d = Follows-same (IsBeforeOrAfter g b) d (λ f. record { view = inl refl; others = λ w apart fresh. refl; sound = λ sound. sound })
 
 -- After the commit, each word of one candidate that is not the journal's is as the batch sets it.
-pub words-done : (b : List Entry) (old new : List Cell) → IsDistinct b → IsFramed b old new → AreInPlace b (length b) new
+pub words-done : (b : List Record) (old new : List Cell) → IsDistinct b → IsFramed b old new → AreInPlace b (length b) new
     → (i : ℕ) → is_journal_word i ≡ false → is_single (cell old i) ≡ true → cell new i ≡ Single (with_batch b (words_of old) i)
 words-done b old new distinct framed done i apart single = ⊎_elim
     (λ (found : (k : ℕ) × (k < length b) × (target b k ≡ i / 8)).

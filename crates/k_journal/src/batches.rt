@@ -12,7 +12,7 @@ pub const MOST_LINES: usize = 128;
 
 /// A line that a transaction sets, and the 64 bytes that it sets it to.
 #[derive(Clone, Copy, Debug, PartialEq, Eq)]
-pub struct Entry {
+pub struct Record {
     /// The line's number in the device.
     pub line: u64,
     /// Its content.
@@ -30,16 +30,16 @@ pub struct BatchFull {
 /// The lines that the next commit sets, each once. It has room for 128.
 #[derive(Debug, Drop)]
 pub struct Batch {
-    entries: Vec<Entry>,
+    entries: Vec<Record>,
 }
 
 impl Model for Batch {
     ghost use Rattle.std.specs.Prelude.{List};
     ghost use Rattle.std.specs.Vec.{vec_capacity};
-    ghost use Rattle.k_journal.specs.declared.batches.Entry.{Entry};
+    ghost use Rattle.k_journal.specs.declared.batches.Record.{Record};
     ghost use Rattle.k_journal.specs.Batch.{HasRoom};
 
-    ghost Value = { List Entry };
+    ghost Value = { List Record };
 
     ghost view = { λ batch. batch.entries.items };
 
@@ -87,7 +87,7 @@ impl Batch {
         ensures lines { (test : ℕ → Bool) → test line ≡ true
             → AllLines test self.old → AllLines test self.new }
     {
-        let entry = Entry { line, bytes };
+        let entry = Record { line, bytes };
         if let Some(place) = place_of(&self.entries, line) {
             self.entries[place] = entry;
             return Ok(());
@@ -118,7 +118,7 @@ impl Batch {
     }
 
     // Its entries, each line once.
-    pub(crate) fn entries(&self) -> &[Entry]
+    pub(crate) fn entries(&self) -> &[Record]
         ensures entries { result.now ≡ self.now }
         ensures most { length self.now ≤ 128 }
         ensures distinct { IsDistinct self.now }
@@ -135,7 +135,7 @@ impl Batch {
 }
 
 // The first place of a line among the entries.
-fn place_of(entries: &[Entry], line: u64) -> Option<usize>
+fn place_of(entries: &[Record], line: u64) -> Option<usize>
     ensures { MatchOption result (IsNew entries.now line) (IsFirstPlace entries.now line) }
 {
     for (place, entry) in entries.iter().enumerate() {

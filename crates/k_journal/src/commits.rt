@@ -13,7 +13,7 @@ ghost use Rattle.pm_lines.specs.pm_model.Images.{IsImage, Follows, words_of};
 ghost use Rattle.pm_lines.specs.pm_model.Powers.{is_on, Steps};
 ghost use Rattle.pm_lines.specs.pm_model.Words.{Words};
 
-use crate::batches::{Batch, Entry};
+use crate::batches::{Batch, Record};
 use crate::outcomes::Commit;
 use crate::phases::{put_targets, set_count};
 use crate::records::put_records;
@@ -21,7 +21,7 @@ use image_layout::Geometry;
 use pm_lines::{Pm, Power};
 
 // Makes the records durable, and then the commit word.
-fn write_journal(entries: &[Entry], pm: &mut Pm, power: &mut Power)
+fn write_journal(entries: &[Record], pm: &mut Pm, power: &mut Power)
     requires room { length entries.now ≤ 128 }
     requires device { 2560 ≤ length pm.old }
     requires idle { cell pm.old commit_word ≡ Single 0 }
@@ -45,7 +45,7 @@ fn write_journal(entries: &[Entry], pm: &mut Pm, power: &mut Power)
 }
 
 // Makes the lines durable, and then the empty journal.
-fn apply_journal(entries: &[Entry], pm: &mut Pm, power: &mut Power)
+fn apply_journal(entries: &[Record], pm: &mut Pm, power: &mut Power)
     requires room { length entries.now ≤ 128 }
     requires distinct { IsDistinct entries.now }
     requires device { 2560 ≤ length pm.old }
@@ -78,7 +78,7 @@ fn apply_journal(entries: &[Entry], pm: &mut Pm, power: &mut Power)
 }
 
 // Sets the entries' lines in one transaction.
-fn commit_entries(entries: &[Entry], pm: &mut Pm, power: &mut Power) -> Commit
+fn commit_entries(entries: &[Record], pm: &mut Pm, power: &mut Power) -> Commit
     requires room { length entries.now ≤ 128 }
     requires distinct { IsDistinct entries.now }
     requires device { 2560 ≤ length pm.old }

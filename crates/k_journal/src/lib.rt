@@ -26,6 +26,6 @@ mod recoveries;
 /// The two calls of the journal.
 pub mod journal;
 
-pub use batches::{Batch, BatchFull, Entry};
+pub use batches::{Batch, BatchFull, Record};
 pub use image_layout::{Geometry, SuperFault, read_superblock};
 pub use outcomes::{Commit, Recovered};

@@ -8,7 +8,7 @@ ghost use Rattle.pm_lines.specs.pm_model.Cells.{cell, MayHold, Settles};
 ghost use Rattle.pm_lines.specs.pm_model.Frames.{SameLent, KeepsSingle, LineIsSingle};
 ghost use Rattle.pm_lines.specs.pm_model.Powers.{is_on, Steps};
 
-use crate::batches::Entry;
+use crate::batches::Record;
 use pm_lines::{Pm, Power};
 
 // The word of the journal that says how many records count, and its line.
@@ -35,7 +35,7 @@ pub(crate) fn set_count(count: u64, pm: &mut Pm, power: &mut Power)
 }
 
 // Makes the content of the entries' lines durable.
-pub(crate) fn put_targets(entries: &[Entry], pm: &mut Pm, power: &mut Power)
+pub(crate) fn put_targets(entries: &[Record], pm: &mut Pm, power: &mut Power)
     requires distinct { IsDistinct entries.now }
     requires apart { IsApart entries.now }
     requires in_device { (k : ℕ) → k < length entries.now

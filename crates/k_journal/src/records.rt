@@ -9,7 +9,7 @@ ghost use Rattle.pm_lines.specs.pm_model.Frames.{SameLent, KeepsSingle};
 ghost use Rattle.pm_lines.specs.pm_model.Powers.{is_on, Steps};
 ghost use Rattle.pm_lines.specs.pm_model.Words.{word_at};
 
-use crate::batches::Entry;
+use crate::batches::Record;
 use pm_lines::{Pm, Power};
 
 // The line of record `index`, which holds the target; the next line holds the content.
@@ -21,7 +21,7 @@ pub(crate) fn record_line(index: u64) -> u64
 }
 
 // Stores and flushes record `index`.
-fn put_record(entry: &Entry, index: u64, pm: &mut Pm, power: &mut Power)
+fn put_record(entry: &Record, index: u64, pm: &mut Pm, power: &mut Power)
     requires index { index < 128 }
     requires device { 2560 ≤ length pm.old }
     requires single { (i : ℕ) → 512 + 16 * index ≤ i → i < 528 + 16 * index
@@ -43,7 +43,7 @@ fn put_record(entry: &Entry, index: u64, pm: &mut Pm, power: &mut Power)
 }
 
 // Makes the records of the entries durable.
-pub(crate) fn put_records(entries: &[Entry], pm: &mut Pm, power: &mut Power)
+pub(crate) fn put_records(entries: &[Record], pm: &mut Pm, power: &mut Power)
     requires room { length entries.now ≤ 128 }
     requires device { 2560 ≤ length pm.old }
     requires single { (i : ℕ) → 512 ≤ i → i < 2560 → is_single (cell pm.old i) ≡ true }

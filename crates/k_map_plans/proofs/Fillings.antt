@@ -7,11 +7,12 @@ use Rattle.block_counts.specs.Counts.{chains_for}
 use Rattle.layout_model.specs.declared.lines.Inode.{Inode}
 use Rattle.layout_model.specs.declared.lines.Kind.{Kind}
 use Rattle.layout_model.specs.declared.lines.Kind.TheVariants.{File}
-use Rattle.layout_model.specs.Lines.{has_map_or_none, is_inode, is_inode_of_kind, most_bytes}
+use Rattle.layout_model.specs.block_counts.declared.TheConstants.{LONGEST_FILE}
+use Rattle.layout_model.specs.Lines.{has_map_or_none, is_inode, is_inode_of_kind}
 use Rattle.k_plans.specs.layout_model.Places.{is_data_block, reserve}
 use Rattle.k_plans.specs.image_model.Volume.{chain, extents, inode}
 use Rattle.k_relink.specs.extent_model.declared.extent_words.Extent.{Extent}
-use Rattle.k_plans.specs.k_journal.declared.batches.Entry.{Entry}
+use Rattle.k_plans.specs.k_journal.declared.batches.Record.{Record}
 use Rattle.k_plans.specs.LandingsPlans.{NewChain}
 use Rattle.k_plans.specs.Free.{free_blocks, is_free_block}
 use Rattle.k_plans.specs.Switching.{IsSetAside, WaitOnce}
@@ -37,8 +38,8 @@ file-bare x file fits =
     subst (λ (k : Kind). is_inode_of_kind k (with_map [] [] x) ≡ true) (sym file)
     (parts (subst (λ (k : Kind). is_inode_of_kind k x ≡ true) file fits))
   where
-    parts : (nat_le x.size most_bytes && nat_le x.applied (2 ^ 63) && has_map_or_none x) ≡ true
-        → (nat_le x.size most_bytes && nat_le x.applied (2 ^ 63) && true) ≡ true
+    parts : (nat_le x.size LONGEST_FILE && nat_le x.applied (2 ^ 63) && has_map_or_none x) ≡ true
+        → (nat_le x.size LONGEST_FILE && nat_le x.applied (2 ^ 63) && true) ≡ true
     parts fits = grind (arith, nat_tests)
 
 module _ (t u : TablesView) (n ino first count : ℕ) (fresh : List ℕ) (es : List Extent) (aside : IsSetAside n fresh t u)
@@ -86,7 +87,7 @@ module _ (t u : TablesView) (n ino first count : ℕ) (fresh : List ℕ) (es : L
       })
 
 pub filled-is : (t u : TablesView) (n ino first count : ℕ) (fresh : List ℕ) (es : List Extent) → IsSetAside n fresh t u
-    → (w : TablesView) (b : List Entry) (c : NewChain) → Fills first count fresh (extents t.volume ino) es
+    → (w : TablesView) (b : List Record) (c : NewChain) → Fills first count fresh (extents t.volume ino) es
     → HasGoneOver ino (inode u.volume ino) es u w b c → 0 < n → IsFilled (is_free_block t) ino first count t.volume w.volume fresh
 filled-is t u n ino first count fresh es aside w b c fills gone some = record {
   es = es;

@@ -17,7 +17,7 @@ use Rattle.k_plans.specs.image_model.Volume.{Volume, chain}
 use Rattle.k_relink.specs.extent_model.Counts.{length-le}
 use Rattle.k_relink.specs.extent_model.declared.extent_words.Extent.{Extent}
 use Rattle.k_relink.specs.extent_model.Extents.{IsCanonical}
-use Rattle.k_plans.specs.k_journal.declared.batches.Entry.{Entry}
+use Rattle.k_plans.specs.k_journal.declared.batches.Record.{Record}
 use Rattle.k_plans.specs.LandingsPlans.{NewChain, Turns, new_at}
 use Rattle.k_plans.specs.WrittenLaws.{blocks_of-one}
 use Rattle.k_plans.specs.Free.{is_free_block}
@@ -156,7 +156,7 @@ switched-chain_is v ino x blocks es w is whole below =
     (omega (arith, below, count, length-set v.chains ino blocks, length-set v.inodes ino (with_map blocks es x)))
 
 -- a plan with one new map
-pub plan-one : (t : TablesView) (w : Volume) (b : List Entry) (c : NewChain) → IsCanonical c.extents
+pub plan-one : (t : TablesView) (w : Volume) (b : List Record) (c : NewChain) → IsCanonical c.extents
     → AreLowest (is_free_block t) (chains_for (length c.extents)) c.blocks → Turns t.volume.geometry (c ∷ []) t.volume w b
     → w.geometry ≡ t.volume.geometry → 0 < length b → length b ≤ 4 → IsWhole w → IsMapPlan (c ∷ []) t.volume w b
 plan-one t w b c canonical lowest turns geometry some most whole = record {

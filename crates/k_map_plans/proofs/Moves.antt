@@ -29,7 +29,7 @@ use Rattle.k_plans.specs.volume_laws.OwnerLaws.{two-le-owners}
 use Rattle.k_plans.specs.volume_laws.UseLaws.{in_chain-at, length-uses_by}
 use Rattle.k_plans.specs.volume_laws.Uses.{in_chain, in_map, is_unused}
 use Rattle.k_relink.specs.extent_model.declared.extent_words.Extent.{Extent}
-use Rattle.k_plans.specs.k_journal.declared.batches.Entry.{Entry}
+use Rattle.k_plans.specs.k_journal.declared.batches.Record.{Record}
 use Rattle.k_plans.specs.LandingsPlans.{IsMapFrom, NewChain, Turns, blocks_of, new_at}
 use Rattle.k_plans.specs.k_split_model.MapChangesChanges.{with_length}
 use Rattle.k_plans.specs.k_split_model.Taken.{AreLowest, switched, with_map}
@@ -43,7 +43,7 @@ use Rattle.k_map_plans.proofs.Stagings.{staging-fields}
 -- ---- lines
 
 pub both-turns : (m : Move) (t t1 w : Volume) (left linked : List Extent) (rest blocks : List ℕ) (line1 line2 : Inode) (news : List NewChain)
-    (v : Volume) (b0 b1 b2 : List Entry) → line1 ≡ inode t m.staging → line2 ≡ with_length m.size m.applied (inode t m.ino)
+    (v : Volume) (b0 b1 b2 : List Record) → line1 ≡ inode t m.staging → line2 ≡ with_length m.size m.applied (inode t m.ino)
     → t1 ≡ switched m.staging line1 rest left t
     → (IsMapFrom news t m.staging (with_map rest left line1) rest left → Turns t.geometry news v t b0 → Turns t.geometry news v t1 b1)
     → (IsMapFrom news t1 m.ino (with_map blocks linked line2) blocks linked → Turns t1.geometry news v t1 b1 → Turns t1.geometry news v w b2)
@@ -236,7 +236,7 @@ distinct-apart xs ys distinct j k below within same =
     distinct j (length xs + k) (omega arith) (omega (arith, within, length-append xs ys))
     (get_or_append_left xs ys 0 j below ∙ same ∙ sym (get_or-append_right xs ys (length xs) (length xs + k) 0 refl (omega arith) ∙ ap (block_at ys) (omega arith)))
 
-pub plan-two : (t : TablesView) (w : Volume) (b : List Entry) (file staging : NewChain) (n : ℕ) (taken : List ℕ) → IsCanonical file.extents
+pub plan-two : (t : TablesView) (w : Volume) (b : List Record) (file staging : NewChain) (n : ℕ) (taken : List ℕ) → IsCanonical file.extents
     → IsCanonical staging.extents → AreLowest (is_free_block t) n taken → taken ≡ file.blocks ++ staging.blocks
     → length file.blocks ≡ chains_for (length file.extents) → length staging.blocks ≡ chains_for (length staging.extents)
     → Turns t.volume.geometry (file ∷ staging ∷ []) t.volume w b → w.geometry ≡ t.volume.geometry → 0 < length b → length b ≤ 4 → IsWhole w

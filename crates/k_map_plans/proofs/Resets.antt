@@ -6,10 +6,11 @@ use Rattle.std.proofs.lemmas.Bool.{both_ways}
 use Rattle.layout_model.specs.declared.lines.Inode.{Inode}
 use Rattle.layout_model.specs.declared.lines.Kind.{Kind}
 use Rattle.layout_model.specs.declared.lines.Kind.TheVariants.{File}
-use Rattle.layout_model.specs.Lines.{has_map_or_none, is_inode, is_inode_of_kind, most_bytes}
+use Rattle.layout_model.specs.block_counts.declared.TheConstants.{LONGEST_FILE}
+use Rattle.layout_model.specs.Lines.{has_map_or_none, is_inode, is_inode_of_kind}
 use Rattle.k_plans.specs.image_model.Volume.{Volume, chain, extents, inode}
 use Rattle.extent_map.specs.extent_model.declared.extent_words.Extent.{Extent}
-use Rattle.k_plans.specs.k_journal.declared.batches.Entry.{Entry}
+use Rattle.k_plans.specs.k_journal.declared.batches.Record.{Record}
 use Rattle.k_plans.specs.PlanLaws.{turns-none}
 use Rattle.k_plans.specs.LandingsPlans.{Turns, IsMapFrom}
 use Rattle.k_plans.specs.LandingsPlans.IsMapFrom.{SameMap}
@@ -26,7 +27,7 @@ use Rattle.k_map_plans.specs.Resets.{HasOwnMap, reset, unapplied}
 unapplied-fields : (x : Inode) → x.kind ≡ File → is_inode x ≡ true → is_inode (unapplied x) ≡ true
 unapplied-fields x file fits =
     subst (λ (k : Kind). is_inode_of_kind k (unapplied x) ≡ true) (sym file)
-    (parts (nat_le x.size most_bytes) (nat_le x.applied (2 ^ 63)) (has_map_or_none x) (subst (λ (k : Kind). is_inode_of_kind k x ≡ true) file fits))
+    (parts (nat_le x.size LONGEST_FILE) (nat_le x.applied (2 ^ 63)) (has_map_or_none x) (subst (λ (k : Kind). is_inode_of_kind k x ≡ true) file fits))
   where
     parts : (a b c : Bool) → (a && b && c) ≡ true → (a && true && c) ≡ true
     parts true true c both = both
@@ -79,7 +80,7 @@ module _ (t : TablesView) (ino : ℕ) (blocks : List ℕ) (es : List Extent) (wa
   own-map = SameMap (ap (λ bs. (with_map bs es (unapplied (inode t.volume ino))).root) blocks-are ∙ own.root)
       (ap (λ fs. (with_map blocks fs (unapplied (inode t.volume ino))).extents) map-is ∙ own.count) blocks-are map-is
 
-  pub reset-plan : (u : TablesView) (a b : List Entry) → u ≡ switched_tables ino (unapplied (inode t.volume ino)) blocks es waiting t
+  pub reset-plan : (u : TablesView) (a b : List Record) → u ≡ switched_tables ino (unapplied (inode t.volume ino)) blocks es waiting t
       → a ≡ [] → 0 < length b → length b ≤ length a + 1 → IsWhole u.volume
       → (IsMapFrom [] t.volume ino (with_map blocks es (unapplied (inode t.volume ino))) blocks es
       → Turns t.volume.geometry [] t.volume t.volume a → Turns t.volume.geometry [] t.volume u.volume b)

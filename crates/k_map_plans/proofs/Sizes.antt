@@ -6,7 +6,8 @@ use Rattle.block_counts.specs.Counts.{blocks_for}
 use Rattle.layout_model.specs.declared.lines.Inode.{Inode}
 use Rattle.layout_model.specs.declared.lines.Kind.{Kind}
 use Rattle.layout_model.specs.declared.lines.Kind.TheVariants.{File}
-use Rattle.layout_model.specs.Lines.{has_map_or_none, is_inode, is_inode_of_kind, most_bytes}
+use Rattle.layout_model.specs.block_counts.declared.TheConstants.{LONGEST_FILE}
+use Rattle.layout_model.specs.Lines.{has_map_or_none, is_inode, is_inode_of_kind}
 use Rattle.k_plans.specs.layout_model.Places.{reserve}
 use Rattle.k_plans.specs.image_model.Rules.{file_blocks_of}
 use Rattle.k_plans.specs.image_model.Volume.{extents, inode}
@@ -30,14 +31,14 @@ use Rattle.k_map_plans.specs.Plans.{IsLiveFile}
 file-applied : (x : Inode) → x.kind ≡ File → is_inode x ≡ true → x.applied ≤ 2 ^ 63
 file-applied x file fits = parts (subst (λ (k : Kind). is_inode_of_kind k x ≡ true) file fits)
   where
-    parts : (nat_le x.size most_bytes && nat_le x.applied (2 ^ 63) && has_map_or_none x) ≡ true → x.applied ≤ 2 ^ 63
+    parts : (nat_le x.size LONGEST_FILE && nat_le x.applied (2 ^ 63) && has_map_or_none x) ≡ true → x.applied ≤ 2 ^ 63
     parts fits = grind (arith, nat_tests)
 
 -- a file's line without a map, with these numbers
-pub file-fields : (x : Inode) → x.kind ≡ File → x.size ≤ most_bytes → x.applied ≤ 2 ^ 63 → is_inode (with_map [] [] x) ≡ true
+pub file-fields : (x : Inode) → x.kind ≡ File → x.size ≤ LONGEST_FILE → x.applied ≤ 2 ^ 63 → is_inode (with_map [] [] x) ≡ true
 file-fields x file size applied = subst (λ (k : Kind). is_inode_of_kind k (with_map [] [] x) ≡ true) (sym file) fits
   where
-    fits : (nat_le x.size most_bytes && nat_le x.applied (2 ^ 63) && true) ≡ true
+    fits : (nat_le x.size LONGEST_FILE && nat_le x.applied (2 ^ 63) && true) ≡ true
     fits = grind (arith, nat_tests)
 
 -- the extents of a map are short enough for a file
@@ -56,7 +57,7 @@ other-end : (from k : ℕ) → nat_le from k ≡ not (nat_lt k from)
 other-end from k = grind (arith, nat_tests)
 
 pub size-may : (t : TablesView) (ino size : ℕ) (es freed : List Extent) → IsWhole t.volume → t.waiting ≡ [] → IsLiveFile ino t.volume
-    → size ≤ most_bytes → reserve t.volume.geometry ≤ free_blocks t + 3 → IsCanonical (extents t.volume ino)
+    → size ≤ LONGEST_FILE → reserve t.volume.geometry ≤ free_blocks t + 3 → IsCanonical (extents t.volume ino)
     → IsPart (λ b. nat_lt b (blocks_for size)) (extents t.volume ino) es → IsPart (λ b. nat_le (blocks_for size) b) (extents t.volume ino) freed
     → MayGoOver t ino (with_size size (inode t.volume ino)) es freed
 size-may t ino size es freed whole idle file few room canonical cut gone = record {

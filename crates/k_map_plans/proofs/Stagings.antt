@@ -11,7 +11,7 @@ use Rattle.layout_model.specs.Lines.{has_map_or_none, is_inode, is_inode_of_kind
 use Rattle.k_plans.specs.image_model.Rules.{file_blocks_of}
 use Rattle.k_plans.specs.image_model.Volume.{Volume, extents, inode}
 use Rattle.k_relink.specs.extent_model.declared.extent_words.Extent.{Extent}
-use Rattle.k_plans.specs.k_journal.declared.batches.Entry.{Entry}
+use Rattle.k_plans.specs.k_journal.declared.batches.Record.{Record}
 use Rattle.k_plans.specs.LandingsPlans.{NewChain}
 use Rattle.k_plans.specs.View.{TablesView}
 use Rattle.k_plans.specs.Whole.{IsWhole}
@@ -75,7 +75,7 @@ no_blocks : (xs : List ℕ) → length xs ≡ 0 → xs ≡ []
 no_blocks [] none = refl
 no_blocks (x ∷ xs) none = absurd (omega arith)
 
-pub given-ok : (staging : ℕ) (x : Inode) (t u : TablesView) (b : List Entry) (r : Result NewChain AllocError)
+pub given-ok : (staging : ℕ) (x : Inode) (t u : TablesView) (b : List Record) (r : Result NewChain AllocError)
     → IfOk r (HasGoneOver staging x [] t u b) → OnOk r (u.volume ≡ switched staging x [] [] t.volume)
 given-ok staging x t u b (Ok c) gone = gone.after ∙ ap (λ bs. switched staging x bs [] t.volume) (no_blocks c.blocks gone.lowest.count)
 given-ok staging x t u b (Err e) gone = tt
@@ -116,7 +116,7 @@ module _ (t u : TablesView) (count staging : ℕ) (fresh : List ℕ) (es : List 
         room = omega (arith, chain-room, room, left, ap free_blocks aside.after);
       })
 
-  pub filled-ok : (w : TablesView) (b : List Entry) (r : Result NewChain AllocError)
+  pub filled-ok : (w : TablesView) (b : List Record) (r : Result NewChain AllocError)
       → IfOk r (HasGoneOver staging (aged (inode u.volume staging)) es u w b)
       → OnOk r (IsPreallocated (is_free_block t) staging count t.volume w.volume)
   filled-ok w b (Ok c) gone = record {
@@ -132,7 +132,7 @@ module _ (t u : TablesView) (count staging : ℕ) (fresh : List ℕ) (es : List 
   }
   filled-ok w b (Err e) gone = tt
 
-  pub planned-ok : (x : Inode) (w : TablesView) (b : List Entry) (r : Result NewChain AllocError) → IfOk r (HasGoneOver staging x es u w b)
+  pub planned-ok : (x : Inode) (w : TablesView) (b : List Record) (r : Result NewChain AllocError) → IfOk r (HasGoneOver staging x es u w b)
       → IfOk r (λ c. IsMapPlan (c ∷ []) t.volume w.volume b)
   planned-ok x w b (Ok c) gone = subst (λ (v : Volume). IsMapPlan (c ∷ []) v w.volume b) (aside-volume t u count fresh aside) gone.plan
   planned-ok x w b (Err e) gone = tt

@@ -7,7 +7,7 @@ use Rattle.layout_model.specs.declared.lines.Kind.TheVariants.{File, Staging}
 use Rattle.layout_model.specs.Lines.{is_inode}
 use Rattle.k_plans.specs.image_model.Rules.{file_blocks_of}
 use Rattle.k_plans.specs.image_model.Volume.{chain, extents, inode}
-use Rattle.k_plans.specs.k_journal.declared.batches.Entry.{Entry}
+use Rattle.k_plans.specs.k_journal.declared.batches.Record.{Record}
 use Rattle.k_plans.specs.LandingsPlans.{NewChain}
 use Rattle.k_plans.specs.Free.{free_blocks, is_free_block}
 use Rattle.k_plans.specs.Switching.{IsMapPlan, WaitOnce}
@@ -28,7 +28,7 @@ pub record MayGoOver (t : TablesView) (ino : ℕ) (x : Inode) (es freed : List E
   pub room : chains_for (length es) ≤ free_blocks t
 
 -- It has the map, in a chain of the lowest free blocks, and is planned.
-pub record HasGoneOver (ino : ℕ) (x : Inode) (es : List Extent) (old new : TablesView) (b : List Entry) (c : NewChain) : Type 0 where
+pub record HasGoneOver (ino : ℕ) (x : Inode) (es : List Extent) (old new : TablesView) (b : List Record) (c : NewChain) : Type 0 where
   pub extents_are : c.extents ≡ es
   pub lowest : AreLowest (is_free_block old) (chains_for (length es)) c.blocks
   pub after : new.volume ≡ switched ino x c.blocks es old.volume

@@ -5,7 +5,7 @@ use Rattle.layout_model.specs.declared.lines.Kind.TheVariants.{File, Staging}
 use Rattle.k_plans.specs.layout_model.Places.{reserve}
 use Rattle.k_plans.specs.image_model.Volume.{Volume, chain, extents, inode}
 use Rattle.k_relink.specs.extent_model.declared.extent_words.Extent.{Extent}
-use Rattle.k_plans.specs.k_journal.declared.batches.Entry.{Entry}
+use Rattle.k_plans.specs.k_journal.declared.batches.Record.{Record}
 use Rattle.k_plans.specs.LandingsPlans.{NewChain}
 use Rattle.k_plans.specs.Free.{free_blocks, is_free_block}
 use Rattle.k_plans.specs.Switching.{IsMapPlan}
@@ -13,7 +13,7 @@ use Rattle.k_plans.specs.View.{TablesView}
 use Rattle.k_plans.specs.k_split_model.MapChangesChanges.{given_up, holes, IsFilled, IsMoved, IsPreallocated, IsSized}
 use Rattle.k_plans.specs.k_split_model.declared.map_changes.moves.Move.{Move}
 use Rattle.k_relink.specs.extent_model.Moves.{IsMapped}
-use Rattle.layout_model.specs.Lines.{most_bytes}
+use Rattle.layout_model.specs.block_counts.declared.TheConstants.{LONGEST_FILE}
 use Rattle.posix_types.specs.declared.item.Outcome.{Outcome}
 use Rattle.posix_types.specs.declared.reply.Errno.{Errno}
 use Rattle.posix_types.specs.declared.reply.Reply.{Reply}
@@ -32,18 +32,18 @@ pub record IsStagingFile (staging : ℕ) (v : Volume) : Type 0 where
   pub kind : (inode v staging).kind ≡ Staging
 
 -- where memory runs out nothing is changed, and nothing is planned
-pub record IsNotPlanned (old new : TablesView) (b : List Entry) : Type 0 where
+pub record IsNotPlanned (old new : TablesView) (b : List Record) : Type 0 where
   pub same : new ≡ old
   pub no_lines : b ≡ []
 
 -- a change is planned, with one new map, that of the inode
-pub record IsPlannedOne (ino : ℕ) (old new : TablesView) (b : List Entry) (c : NewChain) : Type 0 where
+pub record IsPlannedOne (ino : ℕ) (old new : TablesView) (b : List Record) (c : NewChain) : Type 0 where
   pub plan : IsMapPlan (c ∷ []) old.volume new.volume b
   pub chain_is : c.blocks ≡ chain new.volume ino
   pub waiting : new.waiting ≡ old.waiting
 
 -- a file gets a size
-abbrev pub IsSizePlan : ℕ → ℕ → TablesView → TablesView → List Entry → Result NewChain AllocError → Type 0
+abbrev pub IsSizePlan : ℕ → ℕ → TablesView → TablesView → List Record → Result NewChain AllocError → Type 0
 IsSizePlan ino size old new b (Ok c) = IsSized (is_free_block old) ino size old.volume new.volume × IsPlannedOne ino old new b c
 IsSizePlan ino size old new b (Err e) = IsNotPlanned old new b
 
@@ -71,17 +71,17 @@ pub record MayFill (ino from count : ℕ) (t : TablesView) : Type 0 where
   pub room : length (holes (extents t.volume ino) from count) + reserve t.volume.geometry ≤ free_blocks t + 2
 
 -- holes of a file get blocks: these are `fresh`, and the new map is c
-pub record IsFillPlan (ino first count : ℕ) (old new : TablesView) (b : List Entry) (fresh : List ℕ) (c : NewChain) : Type 0 where
+pub record IsFillPlan (ino first count : ℕ) (old new : TablesView) (b : List Record) (fresh : List ℕ) (c : NewChain) : Type 0 where
   pub filled : IsFilled (is_free_block old) ino first count old.volume new.volume fresh
   pub one : IsPlannedOne ino old new b c
 
 -- a staging file gives up its blocks
-abbrev pub IsGiveUpPlan : ℕ → TablesView → TablesView → List Entry → Result NewChain AllocError → Type 0
+abbrev pub IsGiveUpPlan : ℕ → TablesView → TablesView → List Record → Result NewChain AllocError → Type 0
 IsGiveUpPlan staging old new b (Ok c) = (new.volume ≡ given_up staging old.volume) × IsPlannedOne staging old new b c
 IsGiveUpPlan staging old new b (Err e) = IsNotPlanned old new b
 
 -- a staging file gets blocks
-abbrev pub IsPreallocatePlan : ℕ → ℕ → TablesView → TablesView → List Entry → Result NewChain AllocError → Type 0
+abbrev pub IsPreallocatePlan : ℕ → ℕ → TablesView → TablesView → List Record → Result NewChain AllocError → Type 0
 IsPreallocatePlan staging count old new b (Ok c) =
     IsPreallocated (is_free_block old) staging count old.volume new.volume × IsPlannedOne staging old new b c
 IsPreallocatePlan staging count old new b (Err e) = IsNotPlanned old new b
@@ -93,18 +93,18 @@ pub record MayMove (m : Move) (v : Volume) : Type 0 where
   pub some : 1 ≤ m.count
   pub there : IsMapped (extents v m.staging) m.staging_block m.count
   pub place : m.file_block + m.count ≤ 4096
-  pub size : m.size ≤ most_bytes
+  pub size : m.size ≤ LONGEST_FILE
   pub applied : m.applied ≤ 2 ^ 63
 
 -- a move is planned, with the new maps of the file and of the staging file
-pub record IsPlannedMove (m : Move) (old new : TablesView) (b : List Entry) (file staging : NewChain) : Type 0 where
+pub record IsPlannedMove (m : Move) (old new : TablesView) (b : List Record) (file staging : NewChain) : Type 0 where
   pub plan : IsMapPlan (file ∷ staging ∷ []) old.volume new.volume b
   pub file_chain : file.blocks ≡ chain new.volume m.ino
   pub staging_chain : staging.blocks ≡ chain new.volume m.staging
   pub waiting : new.waiting ≡ old.waiting
 
 -- blocks go from a staging file to a file
-abbrev pub IsMovePlan : Move → TablesView → TablesView → List Entry → Result (NewChain × NewChain) AllocError → Type 0
+abbrev pub IsMovePlan : Move → TablesView → TablesView → List Record → Result (NewChain × NewChain) AllocError → Type 0
 IsMovePlan m old new b (Ok c) =
     ((displaced : List Extent) × IsMoved (is_free_block old) m old.volume new.volume displaced) × IsPlannedMove m old new b c.0 c.1
 IsMovePlan m old new b (Err e) = IsNotPlanned old new b

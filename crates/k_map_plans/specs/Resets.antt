@@ -8,7 +8,7 @@ use Rattle.k_plans.specs.image_model.Content.{found}
 use Rattle.k_plans.specs.image_model.Live.{entry_in, live_entries}
 use Rattle.k_plans.specs.image_model.Reading.{node_set}
 use Rattle.k_plans.specs.image_model.Volume.{Volume, chain, extents, inode}
-use Rattle.k_plans.specs.k_journal.declared.batches.Entry.{Entry}
+use Rattle.k_plans.specs.k_journal.declared.batches.Record.{Record}
 use Rattle.k_map_plans.specs.Plans.{IsNotPlanned}
 use Rattle.k_plans.specs.PlansPlans.{IsPlan}
 use Rattle.k_plans.specs.View.{TablesView, with_volume}
@@ -27,7 +27,7 @@ pub record HasOwnMap (v : Volume) (ino : ℕ) : Type 0 where
   pub count : length (extents v ino) ≡ (inode v ino).extents
 
 -- a reset is planned, or nothing where memory runs out
-abbrev pub IsResetPlan : ℕ → TablesView → TablesView → List Entry → Result (Unit {0}) AllocError → Type 0
+abbrev pub IsResetPlan : ℕ → TablesView → TablesView → List Record → Result (Unit {0}) AllocError → Type 0
 IsResetPlan ino old new b (Ok done) = (new ≡ with_volume (reset ino old.volume) old) × IsPlan old new b
 IsResetPlan ino old new b (Err e) = IsNotPlanned old new b
 

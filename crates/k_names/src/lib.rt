@@ -21,5 +21,5 @@ mod rows;
 mod table;
 mod walks;
 
-pub use line::{Decoded, NameLine, decode_name, encode_name, name_lines_are_exact};
+pub use line::{Decoded, LONGEST_NAME, NameLine, decode_name, encode_name, name_lines_are_exact};
 pub use table::NameTable;

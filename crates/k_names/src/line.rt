@@ -11,8 +11,8 @@ use posix_types::Name;
 use std::alloc::{AllocError, Global};
 use std::marker::Model;
 
-// The longest name of a line, in bytes.
-const LONGEST_NAME: usize = 48;
+/// The longest name of a name line, in bytes.
+pub const LONGEST_NAME: usize = 48;
 
 /// A name of a directory: the inode of the directory, the inode that the name stands for, and the
 /// name.

@@ -1,5 +1,5 @@
 //! The table of the names of an image.
-ghost use Rattle.std.specs.Prelude.{◌≡◌, ◌<◌, ◌≤◌, ◌↔◌, ℕ, List, length, true, false, replicate, slice_set, Some, None, IsTrue, IfSome, IfNone, IfOk, IsSorted, IsPermutation, count_by};
+ghost use Rattle.std.specs.Prelude.{◌≡◌, ◌<◌, ◌≤◌, ◌↔◌, ℕ, List, length, true, false, replicate, slice_set, Some, None, IsTrue, IfSome, IfNone, IfOk, OnErr, OnOk, IsSorted, IsPermutation, count_by};
 ghost use Rattle.layout_model.specs.Fields.{is_same};
 ghost use Rattle.std.specs.Cmp.Lexicographic.{slice_cmp};
 ghost use Rattle.std.specs.Ordering.{nat_cmp};
@@ -81,17 +81,30 @@ impl NameTable {
     }
 
     /// Gives a line of the table this name, in place of the one that it has. No other line may have
-    /// the name's parent and bytes. It takes no memory.
-    pub fn set(&mut self, line: u32, value: NameLine)
+    /// the name's parent and bytes. An error, for want of memory, leaves the table as it was.
+    pub fn set(&mut self, line: u32, value: NameLine) -> Result<(), AllocError>
         requires in_table { line < length self.old }
         requires new { (k : ℕ) → is_entry value.parent value.name (row self.old k) ≡ true
             → k ≡ line }
-        ensures { self.new ≡ slice_set self.old line (Some value) }
+        ensures set { OnOk result (self.new ≡ slice_set self.old line (Some value)) }
+        ensures same { OnErr result (self.new ≡ self.old) }
     {
+        self.lines[line as usize] = Some(value);
+        Ok(())
+    }
+
+    /// Gives a line of the table the name that another line has, which is freed. It takes no memory.
+    pub fn set_over(&mut self, line: u32, value: NameLine, target: u32)
+        requires in_table { line < length self.old }
+        requires other { target < length self.old }
+        requires has_it { is_entry value.parent value.name (row self.old target) ≡ true }
+        ensures { self.new ≡ slice_set (slice_set self.old target None) line (Some value) }
+    {
+        self.lines[target as usize] = None;
         self.lines[line as usize] = Some(value);
     }
 
-    /// Frees a line of the table.
+    /// Frees a line of the table. It takes no memory.
     pub fn clear(&mut self, line: u32)
         requires { line < length self.old }
         ensures { self.new ≡ slice_set self.old line None }

@@ -5,7 +5,7 @@ use Rattle.k_tables.specs.image_model.Reading.{base_set}
 use Rattle.k_tables.specs.image_model.Volume.{Volume}
 use Rattle.volume_change_laws.specs.MapLaws.{base-keeps}
 use Rattle.map_chain.specs.volume_laws.OwnerLaws.{owners-base}
-use Rattle.k_journal.specs.declared.batches.Entry.{Entry}
+use Rattle.k_journal.specs.declared.batches.Record.{Record}
 use Rattle.k_plans.specs.PlanLaws.{turns-none}
 use Rattle.k_plans.specs.LandingsPlans.{NewChain, Turns}
 use Rattle.k_plans.specs.Free.{AreTables}
@@ -30,7 +30,7 @@ module _ (t : TablesView) (base : ℕ) where
   pub base-tables : (pool : FreeSet) → AreTables t pool → AreTables (with_volume (base_set base t.volume) t) pool
   base-tables pool are = tables-same t (base_set base t.volume) pool are (base-whole base t.volume are.whole) refl (λ b. owners-base t.volume base b)
 
-  pub base-plan : (old : TablesView) (a b : List Entry) → t ≡ old → IsWhole t.volume → a ≡ [] → 0 < length b → length b ≤ length a + 1
+  pub base-plan : (old : TablesView) (a b : List Record) → t ≡ old → IsWhole t.volume → a ≡ [] → 0 < length b → length b ≤ length a + 1
       → ((news : List NewChain) (v w : Volume) → Turns t.volume.geometry news v w a → Turns t.volume.geometry news v (base_set base w) b)
       → IsPlan old (with_volume (base_set base t.volume) t) b
   base-plan old a b same whole empty some count turns =

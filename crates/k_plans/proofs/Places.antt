@@ -11,7 +11,7 @@ use Rattle.layout_model.specs.Names.{Rows, is_entry, row}
 use Rattle.k_tables.specs.image_model.Reading.{node_set, row_set}
 use Rattle.k_tables.specs.image_model.Rules.{IsKindAt}
 use Rattle.k_tables.specs.image_model.Volume.{Volume, inode}
-use Rattle.k_journal.specs.declared.batches.Entry.{Entry}
+use Rattle.k_journal.specs.declared.batches.Record.{Record}
 use Rattle.k_plans.specs.LandingsPlans.{Turns}
 use Rattle.k_tables.specs.k_split_model.ChangesChanges.{new_node}
 use Rattle.k_tables.specs.Found.{IsPlace}
@@ -116,7 +116,7 @@ makes-tables directory path place t node r names pool are makes =
     (made-owners (kind_of directory) place.ino place.line (row_to path place.parent place.ino) t.volume))
 
 pub makes-plan : (directory : Bool) (path : List (List ℕ)) (place : Place) (t old : TablesView) (node : Inode) (r : NameRow) (names : Rows)
-    (b : List Entry) → t ≡ old → IsWhole t.volume → MakesAt directory path place t node r names
+    (b : List Record) → t ≡ old → IsWhole t.volume → MakesAt directory path place t node r names
     → (node.root ≡ (inode t.volume place.ino).root → node.extents ≡ (inode t.volume place.ino).extents
     → Turns t.volume.geometry [] t.volume (row_set place.line (Some r) (node_set place.ino node t.volume)) b)
     → 0 < length b → length b ≤ 2 → IsPlan old (with_lines place.ino node names t) b

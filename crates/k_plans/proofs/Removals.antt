@@ -6,7 +6,7 @@ use Rattle.layout_model.specs.declared.lines.Inode.{Inode}
 use Rattle.layout_model.specs.Names.{Rows}
 use Rattle.k_tables.specs.image_model.Reading.{node_set, row_set}
 use Rattle.k_tables.specs.image_model.Volume.{Volume, inode}
-use Rattle.k_journal.specs.declared.batches.Entry.{Entry as Line}
+use Rattle.k_journal.specs.declared.batches.Record.{Record}
 use Rattle.k_plans.specs.LandingsPlans.{Turns}
 use Rattle.k_tables.specs.k_split_model.ChangesChanges.{gone_node, removed, unnamed}
 use Rattle.k_tables.specs.Found.{IsDirectoryAt, IsFileAt}
@@ -52,7 +52,7 @@ unnames-tables path entry t names pool are u =
     (tables-same t (unnamed entry.line t.volume) pool are (unnamed-whole path entry t.volume are.whole u.is_file) refl
     (unnamed-owners entry.line t.volume))
 
-pub unnames-plan : (path : List (List ℕ)) (entry : Entry) (t old : TablesView) (names : Rows) (b : List Line) → t ≡ old
+pub unnames-plan : (path : List (List ℕ)) (entry : Entry) (t old : TablesView) (names : Rows) (b : List Record) → t ≡ old
     → IsWhole t.volume → Unnames path entry t names
     → Turns t.volume.geometry [] t.volume (row_set entry.line None t.volume) b → 0 < length b → length b ≤ 1
     → IsPlan old (with_names names t) b
@@ -104,7 +104,7 @@ removes-tables path entry t gone names pool are r =
     (tables-same t (removed entry.line entry.child t.volume) pool are (removed-whole path entry t.volume are.whole r.is_directory) refl
     (removed-owners entry.line entry.child t.volume))
 
-pub removes-plan : (path : List (List ℕ)) (entry : Entry) (t old : TablesView) (gone : Inode) (names : Rows) (b : List Line) → t ≡ old
+pub removes-plan : (path : List (List ℕ)) (entry : Entry) (t old : TablesView) (gone : Inode) (names : Rows) (b : List Record) → t ≡ old
     → IsWhole t.volume → Removes path entry t gone names
     → (gone.root ≡ (inode t.volume entry.child).root → gone.extents ≡ (inode t.volume entry.child).extents
     → Turns t.volume.geometry [] t.volume (row_set entry.line None (node_set entry.child gone t.volume)) b)

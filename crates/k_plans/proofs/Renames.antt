@@ -1,11 +1,10 @@
 -- A node that gets another path: the volume stays whole.
 use Rattle.std.proofs.Common.{◌≡◌, ◌<◌, ◌⊎◌, ℕ, true, false, not, List, length, sym, ◌∙◌, ap, inl, inr, subst}
 use Rattle.std.proofs.lemmas.Bool.{and_from}
-use Rattle.std.specs.Prelude.{◌==◌, None, Option, Some, Result, Ok, slice_set}
+use Rattle.std.specs.Prelude.{◌==◌, None, Option, Some, Result, Ok}
 use Rattle.layout_model.specs.Lines.{NameRow, is_name, is_name_row}
-use Rattle.layout_model.specs.Names.{Rows, find_name, is_child, is_entry, row}
-use Rattle.layout_model.specs.TableLaws.{is_entry-own, is_entry-parts}
-use Rattle.layout_model.specs.Tables.{IsKeyed}
+use Rattle.layout_model.specs.Names.{find_name, is_child, is_entry, row}
+use Rattle.layout_model.specs.TableLaws.{is_entry-own}
 use Rattle.k_tables.specs.image_model.Reading.{node_set, row_set}
 use Rattle.k_tables.specs.image_model.Volume.{Volume, inode}
 use Rattle.k_tables.specs.k_names.Finding.{IsRow}
@@ -14,9 +13,8 @@ use Rattle.k_tables.specs.k_split_model.Spaces.{is_directory_in, volume_space}
 use Rattle.k_tables.specs.Found.{IsEntryAt, IsMoving, IsTargetAt}
 use Rattle.k_tables.specs.declared.tables.removing.Entry.{Entry}
 use Rattle.k_tables.specs.declared.tables.renaming.Moving.{Moving}
-use Rattle.k_tables.specs.name_laws.KeptLaws.{kept-keyed, node-below}
+use Rattle.k_tables.specs.name_laws.KeptLaws.{node-below}
 use Rattle.k_tables.specs.name_laws.RowLaws.{names_of-zero}
-use Rattle.k_tables.specs.name_laws.SetLaws.{row-freed}
 use Rattle.posix_types.specs.declared.reply.Errno.{Errno}
 use Rattle.k_tables.specs.posix_tables.NameRows.{rename_rows}
 use Rattle.k_tables.specs.posix_tables.Names.{Space, child_of, last_name, walk}
@@ -133,23 +131,12 @@ moves-whole p q moving r v whole m none =
 
 -- ---- where another node stands there
 
--- once its line is freed, the name is in no line
-alone : (rows : Rows) (target k ino : ℕ) (r : NameRow) → IsKeyed rows → IsRow rows r.parent r.name target ino
-    → is_entry r.parent r.name (row (slice_set rows target None) k) ≡ true → ⊥
-alone rows target k ino r keyed at entry =
-    let parts = is_entry-parts r.parent r.name (row (slice_set rows target None) k) entry in
-    let was = row-freed rows target k parts.0 parts.1 in
-    let here : is_entry r.parent r.name (row rows k) ≡ true = ap (is_entry r.parent r.name) (was.1 ∙ sym parts.1) ∙ entry in
-    was.0 (keyed.one_line r.parent r.name k target here (is_entry-own (row rows target) _ at))
-
-pub over-alone : (p q : List (List ℕ)) (moving : Moving) (r : NameRow) (v : Volume) (target : Entry) (freed : Rows) → IsWhole v
-    → Moves p q moving r v → moving.target ≡ Some target → freed ≡ slice_set v.names target.line None
-    → (k : ℕ) → is_entry r.parent r.name (row freed k) ≡ true → k ≡ moving.entry.line
-over-alone p q moving r v target freed whole m some are k entry =
-    absurd (alone v.names target.line k target.child (row_to q moving.parent moving.entry.child)
-    (kept-keyed v whole.kept.kept whole.kept.all) (moves-over p q moving r v target m some).is_row
-    (ap (λ (rows : Rows). is_entry moving.parent (last_name q) (row rows k)) (sym are)
-    ∙ ap (λ (x : NameRow). is_entry x.parent x.name (row freed k)) (sym m.row_is) ∙ entry))
+-- its line has the name that the row gets
+pub over-has : (p q : List (List ℕ)) (moving : Moving) (r : NameRow) (v : Volume) (target : Entry) → Moves p q moving r v
+    → moving.target ≡ Some target → is_entry r.parent r.name (row v.names target.line) ≡ true
+over-has p q moving r v target m some =
+    ap (λ (x : NameRow). is_entry x.parent x.name (row v.names target.line)) m.row_is
+    ∙ is_entry-own (row v.names target.line) _ (moves-over p q moving r v target m some).is_row
 
 pub over_file-whole : (p q : List (List ℕ)) (moving : Moving) (r : NameRow) (v : Volume) (target : Entry) → IsWhole v
     → Moves p q moving r v → moving.target ≡ Some target → is_directory_in v.inodes target.child ≡ false

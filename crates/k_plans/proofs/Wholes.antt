@@ -15,7 +15,7 @@ use Rattle.k_tables.specs.image_model.Reading.{node_set}
 use Rattle.k_tables.specs.image_model.Room.{has_none}
 use Rattle.k_tables.specs.image_model.Uses.{owners}
 use Rattle.k_tables.specs.image_model.Volume.{Volume, inode}
-use Rattle.k_journal.specs.declared.batches.Entry.{Entry}
+use Rattle.k_journal.specs.declared.batches.Record.{Record}
 use Rattle.k_plans.specs.LandingsPlans.{Turns}
 use Rattle.k_tables.specs.volume_laws.Changes.{inode-set_same, inode-set_other}
 use Rattle.map_chain.specs.volume_laws.Uses.{is_unused}
@@ -54,7 +54,7 @@ after-tables t u w pool is are whole geometry same =
     subst (λ n. AreTables n pool) (sym is) (tables-same t w pool are whole geometry same)
 
 -- lines that turn the volume are a plan
-pub plan-from : (t old new : TablesView) (w : Volume) (b : List Entry) → t ≡ old → new ≡ with_volume w t
+pub plan-from : (t old new : TablesView) (w : Volume) (b : List Record) → t ≡ old → new ≡ with_volume w t
     → Turns t.volume.geometry [] t.volume w b → 0 < length b → length b ≤ 4 → KeepsStaged t.volume w → IsWhole w → IsPlan old new b
 plan-from t old new w b same is turns some most staged whole =
     subst (λ o. IsPlan o new b) same

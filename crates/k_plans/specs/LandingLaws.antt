@@ -17,7 +17,7 @@ use Rattle.volume_change_laws.specs.k_split_model.image_model.Reading.{Reads}
 use Rattle.volume_change_laws.specs.k_split_model.image_model.Volume.{Volume, chain}
 use Rattle.k_journal.specs.Batch.{target, with_batch, AllLines, IsNew}
 use Rattle.k_journal.specs.Commits.{MayCommit, IsBeforeOrAfter, IsAfter}
-use Rattle.k_journal.specs.declared.batches.Entry.{Entry}
+use Rattle.k_journal.specs.declared.batches.Record.{Record}
 use Rattle.volume_change_laws.specs.k_split_model.Stands.{Stands, IsOldOrNew}
 use Rattle.k_plans.specs.LandingsPlans.{NewChain, new_at, HasAllNew, IsChainFrom, Turns}
 use Rattle.k_plans.specs.LandingsPlans.IsChainFrom.{NoBlocks, OldBlocks, NewBlocks}
@@ -31,7 +31,7 @@ abbrev pub AreNewSingle : List NewChain → List Cell → Type 0
 AreNewSingle news d = (k : ℕ) → k < length news → AreSingle (new_at news k).blocks d
 
 -- what a commit of the plan asks for
-pub may-commit : (g : Geometry) (news : List NewChain) (v w : Volume) (b : List Entry) (d : List Cell)
+pub may-commit : (g : Geometry) (news : List NewChain) (v w : Volume) (b : List Record) (d : List Cell)
     → Stands g v d → Turns g news v w b → MayCommit g b d
 may-commit g news v w b d stands turns = record {
   blocks = stands.size;
@@ -49,13 +49,13 @@ pub idle-sound : (g : Geometry) (image : Words) → image commit_word ≡ 0 → 
 idle-sound g image idle = record { count = omega (arith, idle); targets = λ r below. absurd (omega (arith, idle)) }
 
 -- a word of no journaled line is in no line of the plan
-pub lines-new : (g : Geometry) (b : List Entry) (line : ℕ) → AllLines (is_journaled_line g) b → is_journaled_line g line ≡ false
+pub lines-new : (g : Geometry) (b : List Record) (line : ℕ) → AllLines (is_journaled_line g) b → is_journaled_line g line ≡ false
     → IsNew b line
 lines-new g b line lines other k below at =
     both_ways (is_journaled_line g (target b k)) (subst (λ n. is_journaled_line g n ≡ false) (sym at) other) (lines k below)
 
 -- Whatever a commit of the plan leaves, each image reads as the old volume or as the new one.
-pub each_image-committed : (g : Geometry) (news : List NewChain) (v w : Volume) (b : List Entry) (d e : List Cell)
+pub each_image-committed : (g : Geometry) (news : List NewChain) (v w : Volume) (b : List Record) (d e : List Cell)
     → Stands g v d → EachImageHas g news d → Turns g news v w b → Follows (IsBeforeOrAfter g b) d e
     → Follows (IsOldOrNew g [] v w) d e
 each_image-committed g news v w b d e stands has turns follows image is =
@@ -82,7 +82,7 @@ single-from news v blocks d old new (OldBlocks ino same) = subst (λ bs. AreSing
 single-from news v blocks d old new (NewBlocks k below same) = subst (λ bs. AreSingle bs d) (sym same) (new k below)
 
 -- After a whole commit of the plan the device stands at the new volume.
-pub stands-committed : (g : Geometry) (news : List NewChain) (v w : Volume) (b : List Entry) (d e : List Cell)
+pub stands-committed : (g : Geometry) (news : List NewChain) (v w : Volume) (b : List Record) (d e : List Cell)
     → Stands g v d → EachImageHas g news d → AreNewSingle news d → Turns g news v w b
     → length e ≡ length d → cell e commit_word ≡ Single 0 → KeepsSingle d e → Follows (IsAfter g b) d e → Stands g w e
 stands-committed g news v w b d e stands has single turns size idle keeps follows = record {

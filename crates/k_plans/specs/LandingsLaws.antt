@@ -5,7 +5,7 @@ use Rattle.k_inodes.specs.layout_model.Places.{Geometry}
 use Rattle.volume_change_laws.specs.k_split_model.image_model.Volume.{Volume}
 use Rattle.map_chain.specs.volume_laws.Uses.{is_unused}
 use Rattle.k_journal.specs.Commits.{MayCommit}
-use Rattle.k_journal.specs.declared.batches.Entry.{Entry}
+use Rattle.k_journal.specs.declared.batches.Record.{Record}
 use Rattle.volume_change_laws.specs.k_split_model.Stands.{Stands}
 use Rattle.k_plans.specs.LandingsPlans.{NewChain, new_at, blocks_of, Turns}
 
@@ -16,7 +16,7 @@ TurnsNothing = (g : Geometry) (news : List NewChain) (v : Volume) → Turns g ne
 -- a plan for the volume that the device stands at can be committed
 abbrev pub CanCommit : Type 0
 CanCommit =
-    (g : Geometry) (news : List NewChain) (v w : Volume) (b : List Entry) (d : List Cell) → Stands g v d → Turns g news v w b → MayCommit g b d
+    (g : Geometry) (news : List NewChain) (v w : Volume) (b : List Record) (d : List Cell) → Stands g v d → Turns g news v w b → MayCommit g b d
 
 -- where no inode has a block of one of the maps, none has one of all
 abbrev pub AreAllUnused : Type 0

@@ -11,7 +11,7 @@ use Rattle.volume_change_laws.specs.k_split_model.image_model.Reading.{Reads}
 use Rattle.volume_change_laws.specs.k_split_model.image_model.Standing.{IsChain}
 use Rattle.volume_change_laws.specs.k_split_model.image_model.Volume.{Volume, inode, chain, extents}
 use Rattle.k_journal.specs.Batch.{with_batch, AllLines}
-use Rattle.k_journal.specs.declared.batches.Entry.{Entry}
+use Rattle.k_journal.specs.declared.batches.Record.{Record}
 
 -- a new map, and the blocks that its chain takes
 pub record NewChain : Type 0 where
@@ -45,7 +45,7 @@ pub data IsChainFrom (news : List NewChain) (v : Volume) (blocks : List ℕ) : T
 
 -- The lines make of words that read as v, with the new maps in their blocks, words that read as w. They are journaled
 -- lines, and each chain of w is one of v's or one of a new map.
-pub record Turns (g : Geometry) (news : List NewChain) (v w : Volume) (b : List Entry) : Type 0 where
+pub record Turns (g : Geometry) (news : List NewChain) (v w : Volume) (b : List Record) : Type 0 where
   pub lines : AllLines (is_journaled_line g) b
   pub reads : (f : Words) → HasAllNew g news f → Reads g f v → Reads g (with_batch b f) w
   pub chains : (ino : ℕ) → IsChainFrom news v (chain w ino)

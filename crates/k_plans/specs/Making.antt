@@ -3,7 +3,7 @@ use Rattle.std.specs.Prelude.{◌≡◌, ℕ, Bool, List, None, Result, Ok, Err,
 use Rattle.layout_model.specs.declared.lines.Kind.{Kind}
 use Rattle.layout_model.specs.declared.lines.Kind.TheVariants.{Directory, File}
 use Rattle.k_tables.specs.image_model.Volume.{Volume}
-use Rattle.k_journal.specs.declared.batches.Entry.{Entry}
+use Rattle.k_journal.specs.declared.batches.Record.{Record}
 use Rattle.k_tables.specs.k_split_model.ChangesChanges.{made}
 use Rattle.k_tables.specs.k_split_model.Spaces.{volume_space}
 use Rattle.k_tables.specs.Found.{IsPlace}
@@ -30,7 +30,7 @@ pub record IsMade (directory : Bool) (path : List (List ℕ)) (v w : Volume) (in
   pub is_made : w ≡ made_at directory path place v
 
 -- what `make` answers and leaves
-abbrev pub IsMakePlan : Bool → List (List ℕ) → TablesView → TablesView → List Entry → Result ℕ PlanFault → Type 0
+abbrev pub IsMakePlan : Bool → List (List ℕ) → TablesView → TablesView → List Record → Result ℕ PlanFault → Type 0
 IsMakePlan directory path old new b (Ok ino) =
     (first (mkdir_rows (volume_space old.volume) path) ≡ None) × IsMade directory path old.volume new.volume ino
     × IsPlan old new b

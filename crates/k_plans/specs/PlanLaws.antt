@@ -22,21 +22,21 @@ use Rattle.map_chain.specs.volume_laws.SetLaws.{reads-stands, reads-inode, reads
 use Rattle.map_chain.specs.volume_laws.StateLaws.{reads-state}
 use Rattle.k_journal.specs.Batch.{target, content, with_batch, with_line_set, AllLines}
 use Rattle.k_journal.specs.Patches.{patched-none, patched-miss}
-use Rattle.k_journal.specs.declared.batches.Entry.{Entry}
+use Rattle.k_journal.specs.declared.batches.Record.{Record}
 use Rattle.k_plans.specs.LandingsPlans.{NewChain, new_at, HasNew, HasAllNew, IsChainFrom, Turns, IsMapFrom}
 use Rattle.k_plans.specs.LandingsPlans.IsChainFrom.{NoBlocks, OldBlocks, NewBlocks}
 use Rattle.k_plans.specs.LandingsPlans.IsMapFrom.{NoMap, SameMap, NewMap}
 
 -- the batch c sets one line more than b, or one line anew
-abbrev pub SetsOneMore : List Entry → ℕ → List ℕ → List Entry → Type 0
+abbrev pub SetsOneMore : List Record → ℕ → List ℕ → List Record → Type 0
 SetsOneMore b line bytes c = (f : Words) (i : ℕ) → with_batch c f i ≡ with_line line bytes (with_batch b f) i
 
-one_more : (b : List Entry) (line : ℕ) (bytes : List ℕ) (c : List Entry) (f : Words) → SetsOneMore b line bytes c
+one_more : (b : List Record) (line : ℕ) (bytes : List ℕ) (c : List Record) (f : Words) → SetsOneMore b line bytes c
     → with_line line bytes (with_batch b f) ≡ with_batch c f
 one_more b line bytes c f sets = fun_ext (λ i. sym (sets f i))
 
 -- a batch in which a line was set has a line
-pub length-with_line_set : (b : List Entry) (line : ℕ) (bytes : List ℕ) → 0 < length (with_line_set b line bytes)
+pub length-with_line_set : (b : List Record) (line : ℕ) (bytes : List ℕ) → 0 < length (with_line_set b line bytes)
 length-with_line_set [] line bytes = omega arith
 length-with_line_set (e ∷ es) line bytes = by (e.line == line)
   where
@@ -55,7 +55,7 @@ turns-none g news v = record {
 -- ---- a chain under the lines of a plan
 
 -- a word of a data block is in none of the lines
-with_batch-data : (g : Geometry) (b : List Entry) (f : Words) (block j : ℕ) → AllLines (is_journaled_line g) b
+with_batch-data : (g : Geometry) (b : List Record) (f : Words) (block j : ℕ) → AllLines (is_journaled_line g) b
     → is_data_block g block ≡ true → j < 512 → with_batch b f (512 * block + j) ≡ f (512 * block + j)
 with_batch-data g b f block j lines in_data word =
     patched-miss (length b) (target b) (content b) f (512 * block + j)
@@ -63,7 +63,7 @@ with_batch-data g b f block j lines in_data word =
     (subst (λ n. is_journaled_line g n ≡ false) (sym at) (data_word-not_journaled g block j in_data word)) (lines k below))
 
 -- so a new map still stands once they are set
-new-batch : (g : Geometry) (b : List Entry) (f : Words) (c : NewChain) → AllLines (is_journaled_line g) b → HasNew g f c
+new-batch : (g : Geometry) (b : List Record) (f : Words) (c : NewChain) → AllLines (is_journaled_line g) b → HasNew g f c
     → HasNew g (with_batch b f) c
 new-batch g b f c lines has = record {
   is_chain = IsChain-same f (with_batch b f) (512 * g.blocks) (first_or_zero c.blocks) (length c.extents) c.blocks c.extents
@@ -85,7 +85,7 @@ no_chain f size = record {
 }
 
 -- wherever the map of an inode comes from, it stands for the inode
-stands-from : (g : Geometry) (news : List NewChain) (w : Volume) (b : List Entry) (f : Words) (ino : ℕ) (x : Inode) (blocks : List ℕ) (es : List Extent)
+stands-from : (g : Geometry) (news : List NewChain) (w : Volume) (b : List Record) (f : Words) (ino : ℕ) (x : Inode) (blocks : List ℕ) (es : List Extent)
     → ino < g.inodes → AllLines (is_journaled_line g) b → HasAllNew g news f → Reads g (with_batch b f) w
     → IsMapFrom news w ino x blocks es → StandsFor g (with_batch b f) x blocks es
 stands-from g news w b f ino x blocks es within lines has r (NoMap root count no_blocks no_extents) =
@@ -123,7 +123,7 @@ chains-set news v w ino x blocks es from own i = elim (cases_lt ino (length w.ch
 ]
 
 -- one more inode line
-pub turns-inode : (g : Geometry) (news : List NewChain) (v w : Volume) (b c : List Entry) (ino : ℕ) (x : Inode) (blocks : List ℕ) (es : List Extent) (bytes : List ℕ)
+pub turns-inode : (g : Geometry) (news : List NewChain) (v w : Volume) (b c : List Record) (ino : ℕ) (x : Inode) (blocks : List ℕ) (es : List Extent) (bytes : List ℕ)
     → ino < g.inodes → AreBytes bytes → decode_inode bytes ≡ Some x → IsMapFrom news w ino x blocks es
     → SetsOneMore b (inode_line ino) bytes c → AllLines (is_journaled_line g) c
     → Turns g news v w b → Turns g news v (inode_set ino x blocks es w) c
@@ -138,7 +138,7 @@ turns-inode g news v w b c ino x blocks es bytes within are decoded map sets lin
 }
 
 -- one more name line
-pub turns-row : (g : Geometry) (news : List NewChain) (v w : Volume) (b c : List Entry) (k : ℕ) (o : Option NameRow) (bytes : List ℕ)
+pub turns-row : (g : Geometry) (news : List NewChain) (v w : Volume) (b c : List Record) (k : ℕ) (o : Option NameRow) (bytes : List ℕ)
     → k < g.names → AreBytes bytes → decode_name bytes ≡ slot_for o
     → SetsOneMore b (name_line g k) bytes c → AllLines (is_journaled_line g) c
     → Turns g news v w b → Turns g news v (row_set k o w) c
@@ -151,7 +151,7 @@ turns-row g news v w b c k o bytes within are decoded sets lines turns = record 
 }
 
 -- the line of the log base
-pub turns-base : (g : Geometry) (news : List NewChain) (v w : Volume) (b c : List Entry) (base : ℕ)
+pub turns-base : (g : Geometry) (news : List NewChain) (v w : Volume) (b c : List Record) (base : ℕ)
     → base < 2 ^ 64 → SetsOneMore b state_line (state_bytes base) c → AllLines (is_journaled_line g) c
     → Turns g news v w b → Turns g news v (base_set base w) c
 turns-base g news v w b c base small sets lines turns = record {

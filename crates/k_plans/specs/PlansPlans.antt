@@ -1,7 +1,7 @@
 -- What a change of the tables leaves: a plan of lines for the change, or nothing.
 use Rattle.std.specs.Prelude.{◌≡◌, ◌<◌, ◌≤◌, ℕ, List, [], length, Option, None, Some}
 use Rattle.k_tables.specs.image_model.Volume.{Volume, extents}
-use Rattle.k_journal.specs.declared.batches.Entry.{Entry}
+use Rattle.k_journal.specs.declared.batches.Record.{Record}
 use Rattle.k_plans.specs.LandingsPlans.{Turns}
 use Rattle.posix_types.specs.declared.item.Outcome.{Outcome}
 use Rattle.posix_types.specs.declared.reply.Errno.{Errno}
@@ -17,7 +17,7 @@ KeepsStaged v w = (ino : ℕ) → 1 ≤ ino → ino ≤ 4 → extents w ino ≡ 
 
 -- The batch is a plan for the change: its lines, one to four, turn the old volume into the new one, which is whole again.
 -- No other blocks wait than before, and staging files have the same maps.
-pub record IsPlan (old new : TablesView) (b : List Entry) : Type 0 where
+pub record IsPlan (old new : TablesView) (b : List Record) : Type 0 where
   pub turns : Turns old.volume.geometry [] old.volume new.volume b
   pub some : 0 < length b
   pub most : length b ≤ 4
@@ -33,7 +33,7 @@ IsFaultOf (PlanFault.Room room) o = o ≡ Some (record { reply = Reply.Error Err
 IsFaultOf PlanFault.NoMemory o = o ≡ None
 
 -- A change that is not made: the tables are as before, and nothing is planned.
-pub record IsNotMade (fault : PlanFault) (o : Option Outcome) (old new : TablesView) (b : List Entry) : Type 0 where
+pub record IsNotMade (fault : PlanFault) (o : Option Outcome) (old new : TablesView) (b : List Record) : Type 0 where
   pub fault_is : IsFaultOf fault o
   pub same : new ≡ old
   pub no_lines : b ≡ []

@@ -3,7 +3,7 @@ use Rattle.std.specs.Prelude.{◌≡◌, ◌⊎◌, ℕ, List, [], Option, None,
 use Rattle.layout_model.specs.declared.lines.Inode.{Inode}
 use Rattle.layout_model.specs.Lines.{NameRow}
 use Rattle.k_tables.specs.image_model.Volume.{Volume}
-use Rattle.k_journal.specs.declared.batches.Entry.{Entry as Line}
+use Rattle.k_journal.specs.declared.batches.Record.{Record}
 use Rattle.k_tables.specs.k_split_model.ChangesChanges.{renamed, renamed_over_directory, renamed_over_file}
 use Rattle.k_tables.specs.k_split_model.Spaces.{is_directory_in, volume_space}
 use Rattle.k_tables.specs.Found.{IsMoving}
@@ -42,14 +42,14 @@ pub record IsRenamed (p q : List (List ℕ)) (v w : Volume) (lost : Option ℕ) 
   pub is_renamed : w ≡ renamed_to q moving v
 
 -- Both paths are those of one node: there is nothing to do.
-pub record IsIdle (o : Option Outcome) (old new : TablesView) (b : List Line) (lost : Option ℕ) : Type 0 where
+pub record IsIdle (o : Option Outcome) (old new : TablesView) (b : List Record) (lost : Option ℕ) : Type 0 where
   pub idle : o ≡ Some (answer Reply.Ok)
   pub same : new ≡ old
   pub no_lines : b ≡ []
   pub none_lost : lost ≡ None
 
 -- what `rename` answers and leaves
-abbrev pub IsRenamePlan : List (List ℕ) → List (List ℕ) → TablesView → TablesView → List Line
+abbrev pub IsRenamePlan : List (List ℕ) → List (List ℕ) → TablesView → TablesView → List Record
     → Result (Option ℕ) PlanFault → Type 0
 IsRenamePlan p q old new b (Ok lost) =
     IsIdle (first (rename_rows (volume_space old.volume) p q)) old new b lost

@@ -5,7 +5,7 @@ use Rattle.k_tables.specs.image_model.Placed.{AreDistinct}
 use Rattle.k_tables.specs.image_model.Volume.{Volume}
 use Rattle.k_tables.specs.extent_model.declared.extent_words.Extent.{Extent}
 use Rattle.layout_model.specs.declared.lines.Inode.{Inode}
-use Rattle.k_journal.specs.declared.batches.Entry.{Entry}
+use Rattle.k_journal.specs.declared.batches.Record.{Record}
 use Rattle.k_plans.specs.Maps.{AreApart, write_steps}
 use Rattle.k_plans.specs.LandingsPlans.{NewChain, Turns, blocks_of, new_at}
 use Rattle.volume_change_laws.specs.k_split_model.Taken.{AreLowest, switched}
@@ -33,7 +33,7 @@ switched_tables ino x blocks es waiting t = record { volume = switched ino x blo
 
 -- The batch is a plan for a change of maps from v to w: with the new maps in free blocks its lines, one to four, turn v into
 -- w, which is whole again. The new maps may be written one after the other, within the steps of a change.
-pub record IsMapPlan (news : List NewChain) (v w : Volume) (b : List Entry) : Type 0 where
+pub record IsMapPlan (news : List NewChain) (v w : Volume) (b : List Record) : Type 0 where
   pub turns : Turns v.geometry news v w b
   pub geometry : w.geometry ≡ v.geometry
   pub some : 0 < length b

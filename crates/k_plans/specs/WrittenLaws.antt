@@ -31,7 +31,7 @@ use Rattle.map_chain.specs.volume_laws.PoolLaws.{unused-unchained}
 use Rattle.map_chain.specs.volume_laws.Uses.{is_unused}
 use Rattle.k_journal.specs.Batch.{IsNew}
 use Rattle.k_journal.specs.Commits.{MayCommit, IsBeforeOrAfter, IsAfter, TakesAStep}
-use Rattle.k_journal.specs.declared.batches.Entry.{Entry}
+use Rattle.k_journal.specs.declared.batches.Record.{Record}
 use Rattle.volume_change_laws.specs.k_split_model.Stands.{Stands, IsOldOrNew}
 use Rattle.map_chain.specs.Writes.{SameOutside, IsWritten}
 use Rattle.k_plans.specs.LandingLaws.{EachImageHas, idle-image, idle-sound, each_image-committed, stands-committed}
@@ -215,7 +215,7 @@ stands-written g v blocks d m stands free size others keeps follows = record {
 }
 
 -- and a commit may begin
-pub may-commit-written : (g : Geometry) (blocks : List ℕ) (b : List Entry) (d m : List Cell) → MayCommit g b d
+pub may-commit-written : (g : Geometry) (blocks : List ℕ) (b : List Record) (d m : List Cell) → MayCommit g b d
     → All (λ b. is_data_block g b ≡ true) blocks → length m ≡ length d
     → ((i : ℕ) → IsOutside blocks i → Settles (cell d i) (cell m i)) → KeepsSingle d m → MayCommit g b m
 may-commit-written g blocks b d m may in_data size others keeps = record {
@@ -258,7 +258,7 @@ module _ (g : Geometry) (news : List NewChain) (v : Volume) (d m : List Cell) (p
 
   -- Wherever the power goes, in the write of the maps or in the commit, each image reads as the old volume or as the
   -- new one.
-  pub each_image-landed : (w : Volume) (b : List Entry) (e : List Cell) → Turns g news v w b → (is_on q ≡ false → e ≡ m)
+  pub each_image-landed : (w : Volume) (b : List Record) (e : List Cell) → Turns g news v w b → (is_on q ≡ false → e ≡ m)
       → Follows (IsBeforeOrAfter g b) m e → Follows (IsOldOrNew g (blocks_of news) v w) d e
   each_image-landed w b e turns off follows = elim (cases_Bool (is_on q)) [
     | inl on ↦
@@ -287,7 +287,7 @@ module _ (g : Geometry) (news : List NewChain) (v : Volume) (d m : List Cell) (p
           )
 
   -- Done: the device stands at the new volume.
-  pub stands-landed : (w : Volume) (b : List Entry) (e : List Cell) → is_on q ≡ true → MayWriteAll news d → Turns g news v w b
+  pub stands-landed : (w : Volume) (b : List Record) (e : List Cell) → is_on q ≡ true → MayWriteAll news d → Turns g news v w b
       → length e ≡ length m → cell e commit_word ≡ Single 0 → KeepsSingle m e → Follows (IsAfter g b) m e → Stands g w e
   stands-landed w b e on may turns size idle keeps follows =
       stands-committed g news v w b m e (stands-beside on) (has-all on)
@@ -298,14 +298,14 @@ pub took-later : (n : ℕ) (p q r : Supply) → Steps n p q → TakesAStep q r �
 took-later n p q r steps took given of = omega (arith, steps.later, took given (steps.given ∙ of))
 
 -- What stays of images and of cells, whatever the device stands at.
-pub same_elsewhere : (g : Geometry) (news : List NewChain) (b : List Entry) (d m e : List Cell) (p q : Supply)
+pub same_elsewhere : (g : Geometry) (news : List NewChain) (b : List Record) (d m e : List Cell) (p q : Supply)
     → WritesFirst news (length news) d m p q → Follows (IsBeforeOrAfter g b) m e → Follows (SameElsewhere b (blocks_of news)) d e
 same_elsewhere g news b d m e p q first follows =
     Follows-weaken (Then (SameOutsideFirst news (length news)) (IsBeforeOrAfter g b)) (SameElsewhere b (blocks_of news)) d e
     (λ before image then i out. then.2.others i out.journal out.lines ∙ then.1 i (outside-each news i out.outside))
     (Follows-then (SameOutsideFirst news (length news)) (IsBeforeOrAfter g b) d m e (λ i lent. first.lent i ∙ lent) first.each_image follows)
 
-pub settles_elsewhere : (news : List NewChain) (b : List Entry) (d m e : List Cell) (p q : Supply)
+pub settles_elsewhere : (news : List NewChain) (b : List Record) (d m e : List Cell) (p q : Supply)
     → WritesFirst news (length news) d m p q
     → ((i : ℕ) → is_journal_word i ≡ false → IsNew b (i / 8) → Settles (cell m i) (cell e i))
     → (i : ℕ) → IsElsewhere b (blocks_of news) i → Settles (cell d i) (cell e i)

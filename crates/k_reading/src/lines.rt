@@ -92,7 +92,7 @@ pub fn read_names(alloc: Global, pm: &Pm, geometry: &Geometry) -> Result<NameTab
     let mut names = NameTable::new(alloc, geometry.names)?;
     for line in 0..geometry.names {
         if let Some(name) = read_name(alloc, pm, geometry, line)? {
-            names.set(line, name);
+            names.set(line, name)?;
         }
     }
     Ok(names)

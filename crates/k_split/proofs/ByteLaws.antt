@@ -30,7 +30,7 @@ use Rattle.k_map_plans.specs.volume_laws.PoolLaws.{covered-in_data}
 use Rattle.k_map_plans.specs.volume_laws.UseLaws.{in_map-covers, length-uses_by}
 use Rattle.k_map_plans.specs.volume_laws.Uses.{uses_of}
 use Rattle.block_io.specs.Overwrites.{IsBesideBlocks, IsOverwritten, IsOverwrittenWhole, MayOverwrite, StandsIn}
-use Rattle.k_map_plans.specs.k_journal.declared.batches.Entry.{Entry}
+use Rattle.k_map_plans.specs.k_journal.declared.batches.Record.{Record}
 use Rattle.k_map_plans.specs.k_plans.View.{TablesView}
 use Rattle.k_map_plans.specs.k_plans.Whole.{IsWhole}
 use Rattle.k_tables.specs.k_split_model.Stands.{Stands}
@@ -153,7 +153,7 @@ module _ (v : Volume) (d e : List Cell) (ino first : ℕ) (bytes : List ℕ) (wh
   }
 
 -- K-Split is ready again
-pub ready-over : (t : TablesView) (d e : List Cell) (batched lost now : Bool) (b : List Entry) (ino first : ℕ) (bytes : List ℕ) → IsReady (view_of t d batched lost) b
+pub ready-over : (t : TablesView) (d e : List Cell) (batched lost now : Bool) (b : List Record) (ino first : ℕ) (bytes : List ℕ) → IsReady (view_of t d batched lost) b
     → ino < length t.volume.inodes → Overwrites t.volume t.volume ino first bytes d e → KeepsSingle d e → IsReady (view_of t e batched now) b
 ready-over t d e batched lost now b ino first bytes ready below over singles = record {
   order = record {
@@ -173,7 +173,7 @@ pub asked : (t : TablesView) (d : List Cell) (batched lost : Bool) (k : View) (i
 asked t d batched lost k ino first count same may = subst (λ (x : View). x.lost ≡ false → MayWriteBytes x.volume ino first count) (sym same) may
 
 -- the answers
-pub overwrite-done : (t : TablesView) (d e : List Cell) (batched lost : Bool) (b : List Entry) (k : View) (ino first : ℕ) (bytes : List ℕ) → lost ≡ false → view_of t d batched lost ≡ k
+pub overwrite-done : (t : TablesView) (d e : List Cell) (batched lost : Bool) (b : List Record) (k : View) (ino first : ℕ) (bytes : List ℕ) → lost ≡ false → view_of t d batched lost ≡ k
     → IsReady (view_of t d batched lost) b → ino < length t.volume.inodes → Overwrites t.volume t.volume ino first bytes d e
     → Follows (IsOverwrittenWhole (extents t.volume ino) first bytes) d e → KeepsSingle d e → IsOverwriteDone ino first bytes k (view_of t e batched lost)
 overwrite-done t d e batched lost b k ino first bytes is same ready below over whole singles =
@@ -196,7 +196,7 @@ short_range es first count canonical some mapped = elim (cases_lt ((first + coun
   by (Some b) none there = cc
 
 -- An empty write leaves all as it was.
-pub overwrite-none : (t : TablesView) (d : List Cell) (batched lost : Bool) (b : List Entry) (k : View) (ino first : ℕ) (bytes : List ℕ) → lost ≡ false → view_of t d batched lost ≡ k
+pub overwrite-none : (t : TablesView) (d : List Cell) (batched lost : Bool) (b : List Record) (k : View) (ino first : ℕ) (bytes : List ℕ) → lost ≡ false → view_of t d batched lost ≡ k
     → IsReady (view_of t d batched lost) b → length bytes ≡ 0 → IsOverwriteDone ino first bytes k k
 overwrite-none t d batched lost b k ino first bytes is same ready empty =
     subst (λ x. IsOverwriteDone ino first bytes x x) same

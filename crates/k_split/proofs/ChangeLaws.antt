@@ -7,7 +7,7 @@ use Rattle.block_io.specs.pm_model.Powers.{is_on, Steps, Supply}
 use Rattle.block_io.specs.layout_model.Places.{is_data_block}
 use Rattle.block_io.specs.extent_model.Extents.{covers}
 use Rattle.block_io.specs.image_model.Volume.{Volume}
-use Rattle.k_map_plans.specs.k_journal.declared.batches.Entry.{Entry}
+use Rattle.k_map_plans.specs.k_journal.declared.batches.Record.{Record}
 use Rattle.k_map_plans.specs.k_journal.declared.outcomes.Commit.{Commit}
 use Rattle.k_map_plans.specs.k_plans.PlanLaws.{turns-none}
 use Rattle.k_map_plans.specs.k_plans.LandingsPlans.{Turns}
@@ -46,12 +46,12 @@ unstaged-kept v w d e geometry staged singles single i in_data free =
 
 -- ---- a plan, from the tables t to the tables u
 
-module _ (t u : TablesView) (d : List Cell) (batched lost : Bool) (c b : List Entry) (is : lost ≡ false)
+module _ (t u : TablesView) (d : List Cell) (batched lost : Bool) (c b : List Record) (is : lost ≡ false)
     (ready : lost ≡ false → IsReady (view_of t d batched lost) c) (plan : IsPlan t u b) where
   pub planned : IsPlanned t.volume u.volume b d
   planned = record { stands = (ready is).order.stands; turns = plan.turns; most = plan.most }
 
-  pub ready-done : (e : List Cell) (p q : Supply) (now : Bool) (a : List Entry) → IsLandedDone t.volume u.volume b d e p q → a ≡ []
+  pub ready-done : (e : List Cell) (p q : Supply) (now : Bool) (a : List Record) → IsLandedDone t.volume u.volume b d e p q → a ≡ []
       → IsReady (view_of u e batched now) a
   ready-done e p q now a landed none = record {
     order = record {
@@ -91,7 +91,7 @@ module _ (t u : TablesView) (d : List Cell) (batched lost : Bool) (c b : List En
       ))
 
   -- landed or cut off
-  pub ready-landed : (e : List Cell) (p q : Supply) (now : Bool) (a : List Entry) (r : Result (Unit {0}) KFault) → IsLanded t.volume u.volume b d e p q r
+  pub ready-landed : (e : List Cell) (p q : Supply) (now : Bool) (a : List Record) (r : Result (Unit {0}) KFault) → IsLanded t.volume u.volume b d e p q r
       → OnOk r (a ≡ []) → OnErr r (now ≡ true) → now ≡ false → IsReady (view_of u e batched now) a
   ready-landed e p q now a (Ok done) landed none goes off = ready-done e p q now a landed none
   ready-landed e p q now a (Err fault) landed none goes off = let never : true ≡ false = sym goes ∙ off in absurd (cc)
@@ -114,7 +114,7 @@ module _ (t u : TablesView) (d : List Cell) (batched lost : Bool) (c b : List En
   answer-landed row Makes k e p q now (Err fault) stays goes same allowed makes landed =
       answer-cut (let done : Unit {0} = tt in done) row Makes k e p q now fault goes same allowed makes landed
 
-pub paid-cut : (T : Type 0) (o : Option Outcome) (v w : Volume) (b : List Entry) (d e : List Cell) (p q : Supply) (fault : KFault)
+pub paid-cut : (T : Type 0) (o : Option Outcome) (v w : Volume) (b : List Record) (d e : List Cell) (p q : Supply) (fault : KFault)
     → IsLanded v w b d e p q (Err fault) → IsPaid {T = T} o p q (Err fault)
 paid-cut T o v w b d e p q KFault.PowerLost landed = landed.off
 paid-cut T o v w b d e p q (KFault.Refused errno) landed = absurd landed
@@ -122,11 +122,11 @@ paid-cut T o v w b d e p q (KFault.Room room) landed = absurd landed
 paid-cut T o v w b d e p q KFault.NoMemory landed = absurd landed
 
 -- a landing takes no memory
-pub memory-cut : (v w : Volume) (b : List Entry) (d e : List Cell) (p q : Supply) (fault : KFault) → IsLanded v w b d e p q (Err fault)
+pub memory-cut : (v w : Volume) (b : List Record) (d e : List Cell) (p q : Supply) (fault : KFault) → IsLanded v w b d e p q (Err fault)
     → fault ≡ KFault.NoMemory → ⊥
 memory-cut v w b d e p q fault landed is = subst (λ x. IsLanded v w b d e p q (Err x)) is landed
 
-pub memory-landed : (v w : Volume) (b : List Entry) (d e : List Cell) (p q : Supply) (r : Result (Unit {0}) KFault) → IsLanded v w b d e p q r
+pub memory-landed : (v w : Volume) (b : List Record) (d e : List Cell) (p q : Supply) (r : Result (Unit {0}) KFault) → IsLanded v w b d e p q r
     → r ≡ Err KFault.NoMemory → ⊥
 memory-landed v w b d e p q r landed is = subst (IsLanded v w b d e p q) is landed
 
@@ -139,7 +139,7 @@ fault-memory r fault is none = cc
 not_idle : (o : Option Outcome) (x : Outcome) → o ≡ None → o ≡ Some x → ⊥
 not_idle o x none some = cc
 
-pub paid-done : {T : Type 0} (made : T) (row : View → Option Outcome) (t u : TablesView) (b : List Entry) (d e : List Cell) (batched lost : Bool)
+pub paid-done : {T : Type 0} (made : T) (row : View → Option Outcome) (t u : TablesView) (b : List Record) (d e : List Cell) (batched lost : Bool)
     (k : View) (p q : Supply) → view_of t d batched lost ≡ k → row (view_of t d batched lost) ≡ None → IsPlan t u b
     → IsLandedDone t.volume u.volume b d e p q → IsPaid (row k) p q (Ok made)
 paid-done made row t u b d e batched lost k p q same allowed plan landed = (
@@ -148,7 +148,7 @@ paid-done made row t u b d e batched lost k p q same allowed plan landed = (
   λ idle. absurd (not_idle (row k) (answer Reply.Ok) (sym (ap row same) ∙ allowed) idle),
 )
 
-pub paid-landed : (row : View → Option Outcome) (t u : TablesView) (b : List Entry) (d e : List Cell) (batched lost : Bool)
+pub paid-landed : (row : View → Option Outcome) (t u : TablesView) (b : List Record) (d e : List Cell) (batched lost : Bool)
     (k : View) (p q : Supply) (r : Result (Unit {0}) KFault) → view_of t d batched lost ≡ k → row (view_of t d batched lost) ≡ None → IsPlan t u b
     → IsLanded t.volume u.volume b d e p q r → IsPaid (row k) p q r
 paid-landed row t u b d e batched lost k p q (Ok done) same allowed plan landed = paid-done done row t u b d e batched lost k p q same allowed plan landed
@@ -156,26 +156,26 @@ paid-landed row t u b d e batched lost k p q (Err fault) same allowed plan lande
 
 -- ---- a rename that has something to do
 
-pub to-do : (p q : List (List ℕ)) (t u : TablesView) (b : List Entry) (lost : Option ℕ) → IsRenamePlan p q t u b (Ok lost) → (length b == 0) ≡ false
+pub to-do : (p q : List (List ℕ)) (t u : TablesView) (b : List Record) (lost : Option ℕ) → IsRenamePlan p q t u b (Ok lost) → (length b == 0) ≡ false
     → (first (rename_rows (volume_space t.volume) p q) ≡ None) × IsRenamed p q t.volume u.volume lost × IsPlan t u b
 to-do p q t u b lost (inr planned) some = planned
 to-do p q t u b lost (inl idle) some =
-    let none : (length b == 0) ≡ true = ap (λ (l : List Entry). length l == 0) idle.no_lines in
+    let none : (length b == 0) ≡ true = ap (λ (l : List Record). length l == 0) idle.no_lines in
     let never : true ≡ false = sym none ∙ some in
     absurd (cc)
 
 -- ---- a commit, while nothing gathers
 
-module _ (t : TablesView) (d : List Cell) (batched lost : Bool) (c : List Entry) (is : lost ≡ false)
+module _ (t : TablesView) (d : List Cell) (batched lost : Bool) (c : List Record) (is : lost ≡ false)
     (ready : lost ≡ false → IsReady (view_of t d batched lost) c) where
   pub planned-none : IsPlanned t.volume t.volume c d
   planned-none = record {
     stands = (ready is).order.stands;
     turns = subst (Turns t.volume.geometry [] t.volume t.volume) (sym (ready is).no_lines) (turns-none t.volume.geometry [] t.volume);
-    most = omega (arith, ap (λ (l : List Entry). length l) (ready is).no_lines);
+    most = omega (arith, ap (λ (l : List Record). length l) (ready is).no_lines);
   }
 
-  pub ready-committed : (e : List Cell) (p q : Supply) (now : Bool) (a : List Entry) → IsLandedDone t.volume t.volume c d e p q → a ≡ []
+  pub ready-committed : (e : List Cell) (p q : Supply) (now : Bool) (a : List Record) → IsLandedDone t.volume t.volume c d e p q → a ≡ []
       → IsReady (view_of t e batched now) a
   ready-committed e p q now a landed none = record {
     order = record {
@@ -203,14 +203,14 @@ module _ (t : TablesView) (d : List Cell) (batched lost : Bool) (c : List Entry)
         },
       )
 
-  pub ready-recommitted : (e : List Cell) (p q : Supply) (now : Bool) (a : List Entry) (r : Result (Unit {0}) KFault) → IsLanded t.volume t.volume c d e p q r
+  pub ready-recommitted : (e : List Cell) (p q : Supply) (now : Bool) (a : List Record) (r : Result (Unit {0}) KFault) → IsLanded t.volume t.volume c d e p q r
       → OnOk r (a ≡ []) → OnErr r (now ≡ true) → now ≡ false → IsReady (view_of t e batched now) a
   ready-recommitted e p q now a (Ok done) landed none goes off = ready-committed e p q now a landed none
   ready-recommitted e p q now a (Err fault) landed none goes off = let never : true ≡ false = sym goes ∙ off in absurd (cc)
 
   -- no line is planned, so that it takes no steps for lines
   pub few-steps-none : (p q : Supply) → Steps (32 * length c + 16) p q → Steps 16 p q
-  few-steps-none p q steps = subst (λ (b : List Entry). Steps (32 * length b + 16) p q) (ready is).no_lines steps
+  few-steps-none p q steps = subst (λ (b : List Record). Steps (32 * length b + 16) p q) (ready is).no_lines steps
 
   pub answer-uncommitted : (k : View) (e : List Cell) (q : Supply) (now : Bool) → now ≡ true → view_of t d batched lost ≡ k
       → IsLandedLost t.volume t.volume d e q → IsCommitAnswer k (view_of t e batched now) Commit.PowerLost
@@ -219,7 +219,7 @@ module _ (t : TablesView) (d : List Cell) (batched lost : Bool) (c : List Entry)
       (inr (record { lost = goes; batched = refl; whole = (ready is).order.whole; changes = landed.changes }))
 
 -- a landing that is cut off
-pub lost-landed : (v w : Volume) (b : List Entry) (d e : List Cell) (p q : Supply) (fault : KFault) → IsLanded v w b d e p q (Err fault)
+pub lost-landed : (v w : Volume) (b : List Record) (d e : List Cell) (p q : Supply) (fault : KFault) → IsLanded v w b d e p q (Err fault)
     → IsLandedLost v w d e q
 lost-landed v w b d e p q KFault.PowerLost landed = landed
 lost-landed v w b d e p q (KFault.Refused errno) landed = absurd landed

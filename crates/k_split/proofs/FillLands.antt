@@ -23,7 +23,7 @@ use Rattle.k_tables.specs.volume_laws.Reading.{AreUnchained}
 use Rattle.k_tables.specs.volume_laws.ReadingLaws.{reads-one}
 use Rattle.k_tables.specs.volume_laws.SetLaws.{journaled-outside}
 use Rattle.k_map_plans.specs.volume_change_laws.Switches.{unused-data}
-use Rattle.k_map_plans.specs.k_journal.declared.batches.Entry.{Entry}
+use Rattle.k_map_plans.specs.k_journal.declared.batches.Record.{Record}
 use Rattle.k_map_plans.specs.k_plans.LandingLaws.{idle-image, idle-sound}
 use Rattle.k_map_plans.specs.k_plans.LandingsPlans.{NewChain, blocks_of}
 use Rattle.k_map_plans.specs.k_plans.WrittenLaws.{reads-beside, settles-then, stands-written, took-later, unused-apart}
@@ -44,7 +44,7 @@ outside-right xs ys i out k below at =
 
 -- ---- what is asked
 
-module _ (fresh : List ℕ) (news : List NewChain) (v w : Volume) (b : List Entry) (d : List Cell) (is : IsFillPlanned fresh news v w b d) where
+module _ (fresh : List ℕ) (news : List NewChain) (v w : Volume) (b : List Record) (d : List Cell) (is : IsFillPlanned fresh news v w b d) where
   in_data : All (λ k. is_data_block v.geometry k ≡ true) fresh
   in_data k e below = unused-data v (get_or fresh k e) (is.unused k e below)
 

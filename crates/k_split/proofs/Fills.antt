@@ -16,7 +16,7 @@ use Rattle.block_io.specs.k_split_model.Taken.{AreLowest, with_map}
 use Rattle.block_io.specs.k_split_model.MapChangesChanges.{holes}
 use Rattle.k_map_plans.specs.volume_change_laws.Switches.{unused-data}
 use Rattle.k_map_plans.specs.volume_laws.Uses.{is_unused}
-use Rattle.k_map_plans.specs.k_journal.declared.batches.Entry.{Entry}
+use Rattle.k_map_plans.specs.k_journal.declared.batches.Record.{Record}
 use Rattle.k_map_plans.specs.k_plans.Maps.{AreApart}
 use Rattle.k_map_plans.specs.k_plans.LandingsPlans.{NewChain, blocks_of}
 use Rattle.k_map_plans.specs.k_plans.WrittenLaws.{blocks_of-one}
@@ -70,7 +70,7 @@ module _ (t : TablesView) (n : ℕ) (fresh blocks : List ℕ) (lowest : AreLowes
 
 -- ---- the plan
 
-module _ (t u : TablesView) (d : List Cell) (batched lost : Bool) (c b : List Entry) (map : NewChain) (fresh : List ℕ) (ino from count : ℕ)
+module _ (t u : TablesView) (d : List Cell) (batched lost : Bool) (c b : List Record) (map : NewChain) (fresh : List ℕ) (ino from count : ℕ)
     (is : lost ≡ false) (ready : lost ≡ false → IsReady (view_of t d batched lost) c) (file : IsLiveFile ino t.volume)
     (planned : IsFillPlan ino from count t u b fresh map) where
   -- the file has the blocks then, and had none there
@@ -130,7 +130,7 @@ module _ (t u : TablesView) (d : List Cell) (batched lost : Bool) (c b : List En
 
   -- ---- it is landed
 
-  pub fill-ready : (e : List Cell) (p q : Supply) (now : Bool) (a : List Entry) (r : Result (Unit {0}) KFault)
+  pub fill-ready : (e : List Cell) (p q : Supply) (now : Bool) (a : List Record) (r : Result (Unit {0}) KFault)
       → IsFillLanded fresh (map ∷ []) t.volume u.volume d e p q r → OnOk r (a ≡ []) → OnErr r (now ≡ true) → now ≡ false
       → IsReady (view_of u e batched now) a
   fill-ready e p q now a r landed none goes off =

@@ -10,7 +10,7 @@ use Rattle.block_io.specs.layout_model.Journal.{journaled}
 use Rattle.block_io.specs.layout_model.Places.{Geometry}
 use Rattle.block_io.specs.image_model.Volume.{Volume}
 use Rattle.k_map_plans.specs.k_journal.Commits.{MayCommit, TakesAStep}
-use Rattle.k_map_plans.specs.k_journal.declared.batches.Entry.{Entry}
+use Rattle.k_map_plans.specs.k_journal.declared.batches.Record.{Record}
 use Rattle.k_map_plans.specs.k_plans.LandingLaws.{lines-new, may-commit}
 use Rattle.k_map_plans.specs.k_plans.Landings.{IsElsewhere}
 use Rattle.k_map_plans.specs.k_plans.LandingsPlans.{Turns}
@@ -19,11 +19,11 @@ use Rattle.k_split.specs.Answers.{Changes}
 use Rattle.k_split.specs.Landed.{IsLandedDone, IsLandedLost, IsPlanned}
 
 -- the volume of a plan has the numbers of the old one
-pub same_geometry : (v w : Volume) (b : List Entry) (d : List Cell) → IsPlanned v w b d → w.geometry ≡ v.geometry
+pub same_geometry : (v w : Volume) (b : List Record) (d : List Cell) → IsPlanned v w b d → w.geometry ≡ v.geometry
 same_geometry v w b d planned =
     (planned.turns.reads (journaled (words_of d)) (λ k below. absurd (omega arith)) (planned.stands.reads (words_of d) (IsImage-words_of d))).geometry
 
-module _ (g : Geometry) (v w : Volume) (b : List Entry) (d : List Cell) (numbers : g ≡ w.geometry) (planned : IsPlanned v w b d) where
+module _ (g : Geometry) (v w : Volume) (b : List Record) (d : List Cell) (numbers : g ≡ w.geometry) (planned : IsPlanned v w b d) where
   same : g ≡ v.geometry
   same = numbers ∙ same_geometry v w b d planned
 

@@ -22,7 +22,7 @@ use Rattle.k_tables.specs.volume_laws.LoanLaws.{all_read-lent, all_read-settled}
 use Rattle.k_tables.specs.volume_laws.Reading.{AreUnchained}
 use Rattle.k_map_plans.specs.volume_laws.OwnerLaws.{no_chain_has}
 use Rattle.k_map_plans.specs.volume_laws.PoolLaws.{covered-in_data}
-use Rattle.k_map_plans.specs.k_journal.declared.batches.Entry.{Entry}
+use Rattle.k_map_plans.specs.k_journal.declared.batches.Record.{Record}
 use Rattle.k_map_plans.specs.k_plans.View.{TablesView}
 use Rattle.k_map_plans.specs.k_plans.Whole.{IsWhole}
 use Rattle.k_tables.specs.k_split_model.Stands.{Stands}
@@ -87,7 +87,7 @@ module _ (v : Volume) (d e part : List Cell) (staging block b : ℕ) (whole : Is
       ap is_single (out.others i (λ same. both_ways (covers (extents v staging) (i / 512)) (free staging may.least may.most) (ap (covers (extents v staging)) same ∙ has)))
       ∙ single i in_it free
 
-pub ready_lent : (t : TablesView) (d e part : List Cell) (batched lost now : Bool) (c : List Entry) (staging block b : ℕ) → IsReady (view_of t d batched lost) c
+pub ready_lent : (t : TablesView) (d e part : List Cell) (batched lost now : Bool) (c : List Record) (staging block b : ℕ) → IsReady (view_of t d batched lost) c
     → MayLend t.volume d staging block b → GoesOut 512 b d e part → length e ≡ length d → IsReady (view_of t e batched now) c
 ready_lent t d e part batched lost now c staging block b ready may out size = record {
   order = record {
@@ -103,7 +103,7 @@ ready_lent t d e part batched lost now c staging block b ready may out size = re
 
 -- ---- a block comes back
 
-pub ready_back : (t : TablesView) (d e part : List Cell) (batched lost now : Bool) (c : List Entry) (n : ℕ) → IsReady (view_of t d batched lost) c
+pub ready_back : (t : TablesView) (d e part : List Cell) (batched lost now : Bool) (c : List Record) (n : ℕ) → IsReady (view_of t d batched lost) c
     → ((i : ℕ) → i / 512 ≡ n → is_lent (cell d i) ≡ true) → ComesBack 512 n part d e → length e ≡ length d → IsReady (view_of t e batched now) c
 ready_back t d e part batched lost now c n ready lent back size = record {
   order = record {
@@ -130,7 +130,7 @@ ready_back t d e part batched lost now c n ready lent back size = record {
   stays i single = ap is_single (same i single) ∙ single
 
 -- whatever the answer is
-pub ready_asked : {T E : Type 0} (cells_of : T → List Cell) (t : TablesView) (d e : List Cell) (batched lost : Bool) (c : List Entry) (staging block b : ℕ) (r : Result T E)
+pub ready_asked : {T E : Type 0} (cells_of : T → List Cell) (t : TablesView) (d e : List Cell) (batched lost : Bool) (c : List Record) (staging block b : ℕ) (r : Result T E)
     → IsReady (view_of t d batched lost) c → MayLend t.volume d staging block b → IfOk r (λ x. GoesOut 512 b d e (cells_of x)) → OnErr r (e ≡ d) → length e ≡ length d
     → IsReady (view_of t e batched lost) c
 ready_asked cells_of t d e batched lost c staging block b (Ok x) ready may out same size = ready_lent t d e (cells_of x) batched lost lost c staging block b ready may out size

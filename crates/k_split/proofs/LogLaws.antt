@@ -17,7 +17,7 @@ use Rattle.block_io.specs.pm_model.Frames.{KeepsSingle, SameLent}
 use Rattle.block_io.specs.pm_model.Images.{Follows}
 use Rattle.k_tables.specs.volume_laws.ImageLaws.{journaled-same}
 use Rattle.k_tables.specs.volume_laws.ReadingLaws.{reads-same}
-use Rattle.k_map_plans.specs.k_journal.declared.batches.Entry.{Entry}
+use Rattle.k_map_plans.specs.k_journal.declared.batches.Record.{Record}
 use Rattle.k_map_plans.specs.k_plans.View.{TablesView}
 use Rattle.k_tables.specs.k_split_model.Stands.{Stands}
 use Rattle.k_split.specs.Laps.{ClearsLog, IsLogWord}
@@ -70,7 +70,7 @@ cleared v d e first count from many size lent zeroed singles =
     record { loses = record { size = size; lent = lent; each_image = z.0; others = z.1; words = z.3 }; zero = z.2; singles = singles }
 
 -- K-Split is ready again.
-pub ready_cleared : (t : TablesView) (d e : List Cell) (batched lost now : Bool) (b : List Entry) → IsReady (view_of t d batched lost) b
+pub ready_cleared : (t : TablesView) (d e : List Cell) (batched lost now : Bool) (b : List Record) → IsReady (view_of t d batched lost) b
     → ClearsLog t.volume d e → IsReady (view_of t e batched now) b
 ready_cleared t d e batched lost now b ready clear = record {
   order = record {

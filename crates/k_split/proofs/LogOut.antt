@@ -16,7 +16,7 @@ use Rattle.block_io.specs.image_model.Volume.{chain, Volume}
 use Rattle.block_io.specs.Overwrites.{IsInLines}
 use Rattle.block_io.specs.Lines.{LinesComeBack, LinesGoOut}
 use Rattle.k_tables.specs.volume_laws.ReadingLaws.{reads-same}
-use Rattle.k_map_plans.specs.k_journal.declared.batches.Entry.{Entry}
+use Rattle.k_map_plans.specs.k_journal.declared.batches.Record.{Record}
 use Rattle.k_map_plans.specs.k_plans.View.{TablesView}
 use Rattle.k_map_plans.specs.k_plans.Whole.{IsWhole}
 use Rattle.k_tables.specs.k_split_model.Stands.{Stands}
@@ -70,7 +70,7 @@ module _ (v : Volume) (d e : List Cell) (whole : IsWhole v) (stands : Stands v.g
   }
 
 -- K-Split stays ready where words of the log alone change, and each image comes from one before.
-pub ready_beside : (t : TablesView) (d e : List Cell) (batched lost now : Bool) (b : List Entry) → IsReady (view_of t d batched lost) b → length e ≡ length d
+pub ready_beside : (t : TablesView) (d e : List Cell) (batched lost now : Bool) (b : List Record) → IsReady (view_of t d batched lost) b → length e ≡ length d
     → SameBesideLog t.volume d e → ComesBesideLog t.volume d e → IsReady (view_of t e batched now) b
 ready_beside t d e batched lost now b ready size same comes = record {
   order = record {

@@ -17,7 +17,7 @@ use Rattle.block_io.specs.k_split_model.MapChangesChanges.{given_up}
 use Rattle.block_io.specs.k_split_model.Taken.{switched, with_map}
 use Rattle.k_tables.specs.volume_laws.Changes.{chain-set_same, extents-set_other}
 use Rattle.block_io.specs.image_model.Volume.{Volume, chain, extents, inode}
-use Rattle.k_map_plans.specs.k_journal.declared.batches.Entry.{Entry}
+use Rattle.k_map_plans.specs.k_journal.declared.batches.Record.{Record}
 use Rattle.k_map_plans.specs.k_plans.LandingsPlans.{NewChain}
 use Rattle.k_map_plans.specs.k_plans.WrittenLaws.{block-among}
 use Rattle.k_map_plans.specs.k_plans.PlansPlans.{KeepsStaged}
@@ -80,7 +80,7 @@ given-chain v w staging whole is given =
     ap (λ y. chain y staging) given
     ∙ chain-set_same staging (with_map [] [] (inode v staging)) [] [] v (omega (arith, is.below, whole.maps.chain_count))
 
-module _ (t u : TablesView) (d : List Cell) (batched lost : Bool) (c b : List Entry) (news : List NewChain) (is : lost ≡ false)
+module _ (t u : TablesView) (d : List Cell) (batched lost : Bool) (c b : List Record) (news : List NewChain) (is : lost ≡ false)
     (ready : lost ≡ false → IsReady (view_of t d batched lost) c) (plan : IsMapPlan news t.volume u.volume b) where
   -- a block that nothing names is in no staging file
   pub unused-unstaged : (k : ℕ) → is_unused t.volume k ≡ true → IsUnstaged t.volume k
@@ -101,7 +101,7 @@ module _ (t u : TablesView) (d : List Cell) (batched lost : Bool) (c b : List En
   }
 
   module _ (waits : u.waiting ≡ t.waiting) (keeps : (e : List Cell) → KeepsSingle d e → IsUnstagedSingle u.volume e) (blocks : List ℕ) where
-    map-done : (e : List Cell) (p q : Supply) (now : Bool) (a : List Entry) → IsMapLandedDone blocks t.volume u.volume d e p q → a ≡ []
+    map-done : (e : List Cell) (p q : Supply) (now : Bool) (a : List Record) → IsMapLandedDone blocks t.volume u.volume d e p q → a ≡ []
         → IsReady (view_of u e batched now) a
     map-done e p q now a landed none = record {
       order = record {
@@ -115,7 +115,7 @@ module _ (t u : TablesView) (d : List Cell) (batched lost : Bool) (c b : List En
       no_lines = none;
     }
 
-    pub map-ready : (e : List Cell) (p q : Supply) (now : Bool) (a : List Entry) (r : Result (Unit {0}) KFault)
+    pub map-ready : (e : List Cell) (p q : Supply) (now : Bool) (a : List Record) (r : Result (Unit {0}) KFault)
         → IsMapLanded blocks t.volume u.volume d e p q r → OnOk r (a ≡ []) → OnErr r (now ≡ true) → now ≡ false
         → IsReady (view_of u e batched now) a
     map-ready e p q now a (Ok done) landed none goes off = map-done e p q now a landed none

@@ -11,7 +11,7 @@ use Rattle.block_io.specs.layout_model.Places.{Geometry, is_data_block}
 use Rattle.block_io.specs.image_model.Placed.{AreInDevice, block_at}
 use Rattle.block_io.specs.image_model.Volume.{Volume}
 use Rattle.k_map_plans.specs.k_journal.Commits.{TakesAStep}
-use Rattle.k_map_plans.specs.k_journal.declared.batches.Entry.{Entry}
+use Rattle.k_map_plans.specs.k_journal.declared.batches.Record.{Record}
 use Rattle.k_map_plans.specs.k_plans.LandingLaws.{lines-new}
 use Rattle.k_map_plans.specs.k_plans.Landings.{IsElsewhere}
 use Rattle.k_map_plans.specs.k_plans.Maps.{MayWriteAll}
@@ -22,7 +22,7 @@ use Rattle.k_map_plans.specs.volume_change_laws.Switches.{unused-data}
 use Rattle.k_map_plans.specs.volume_laws.Uses.{is_unused}
 use Rattle.k_split.specs.MapChanges.{ChangesMaps, IsMapLandedDone, IsMapLandedLost, IsMapPlanned}
 
-module _ (g : Geometry) (news : List NewChain) (v w : Volume) (b : List Entry) (d : List Cell) (numbers : g ≡ w.geometry)
+module _ (g : Geometry) (news : List NewChain) (v w : Volume) (b : List Record) (d : List Cell) (numbers : g ≡ w.geometry)
     (planned : IsMapPlanned news v w b d) where
   same : g ≡ v.geometry
   same = numbers ∙ planned.plan.geometry

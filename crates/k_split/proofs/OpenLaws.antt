@@ -29,7 +29,7 @@ use Rattle.k_map_plans.specs.image_laws.FreshLines.{geometry_of-fresh}
 use Rattle.layout_model.specs.Fresh.{fresh}
 use Rattle.block_io.specs.image_model.Content.{content}
 use Rattle.block_io.specs.image_model.FreshVolume.{root_alone}
-use Rattle.k_map_plans.specs.k_journal.declared.batches.Entry.{Entry}
+use Rattle.k_map_plans.specs.k_journal.declared.batches.Record.{Record}
 use Rattle.k_tables.specs.k_split_model.Stands.{Stands}
 use Rattle.k_map_plans.specs.k_plans.View.{tables_view, TablesView}
 use Rattle.k_map_plans.specs.k_plans.Whole.{IsWhole}
@@ -169,7 +169,7 @@ pub if-tables : (g : Geometry) (d : List Cell) (t : TablesView) (r : Result Tabl
 if-tables g d t (Ok x) is same = is ∙ same
 if-tables g d t (Err e) is same = tt
 
-pub opened-ready : (g : Geometry) (d : List Cell) (t : TablesView) (batched : Bool) (b : List Entry) → IsGeometry g → IsOpenable g d
+pub opened-ready : (g : Geometry) (d : List Cell) (t : TablesView) (batched : Bool) (b : List Record) → IsGeometry g → IsOpenable g d
     → t ≡ record { volume = volume g (words_of d); waiting = [] } → batched ≡ false → b ≡ [] → IsReady (view_of t d batched false) b
 opened-ready g d t batched b is open_is same unbatched none =
     subst (λ x. IsReady (view_of t d x false) b) (sym unbatched) (subst (IsReady (view_of t d false false)) (sym none) (opened g d t is open_is same).0)

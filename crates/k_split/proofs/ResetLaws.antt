@@ -11,13 +11,14 @@ use Rattle.block_io.specs.layout_model.Journal.{journaled}
 use Rattle.layout_model.specs.declared.lines.Inode.{Inode}
 use Rattle.layout_model.specs.declared.lines.Kind.{Kind}
 use Rattle.layout_model.specs.declared.lines.Kind.TheVariants.{File}
-use Rattle.layout_model.specs.Lines.{has_map_or_none, is_inode, is_inode_of_kind, most_bytes}
+use Rattle.layout_model.specs.block_counts.declared.TheConstants.{LONGEST_FILE}
+use Rattle.layout_model.specs.Lines.{has_map_or_none, is_inode, is_inode_of_kind}
 use Rattle.block_io.specs.image_model.Chains.{blocks_from, first_or_zero}
 use Rattle.block_io.specs.image_model.Content.{Node, content, found}
 use Rattle.block_io.specs.image_model.Live.{live_entries}
 use Rattle.block_io.specs.image_model.Volume.{Volume, inode}
 use Rattle.k_tables.specs.volume_laws.FootprintLaws.{content-own}
-use Rattle.k_map_plans.specs.k_journal.declared.batches.Entry.{Entry}
+use Rattle.k_map_plans.specs.k_journal.declared.batches.Record.{Record}
 use Rattle.k_map_plans.specs.ResetLaws.{reset-content}
 use Rattle.k_map_plans.specs.Resets.{HasNoValid, HasOwnMap, reset}
 use Rattle.k_map_plans.specs.Plans.{IsLiveFile}
@@ -42,7 +43,7 @@ none-root root count fits none = grind (arith, nat_tests)
 file-root : (x : Inode) → x.kind ≡ File → is_inode x ≡ true → x.extents ≡ 0 → x.root ≡ 0
 file-root x file fits none = parts (subst (λ (k : Kind). is_inode_of_kind k x ≡ true) file fits)
   where
-    parts : (nat_le x.size most_bytes && nat_le x.applied (2 ^ 63) && has_map_or_none x) ≡ true → x.root ≡ 0
+    parts : (nat_le x.size LONGEST_FILE && nat_le x.applied (2 ^ 63) && has_map_or_none x) ≡ true → x.root ≡ 0
     parts all = none-root x.root x.extents (grind (arith, nat_tests)) none
 
 pub own-map : (v : Volume) (d : List Cell) (ino : ℕ) → Stands v.geometry v d → IsWhole v → IsLiveFile ino v → HasOwnMap v ino
@@ -57,7 +58,7 @@ own-map v d ino stands whole file =
 
 -- ---- the content of the images
 
-pub landed-images : (v w : Volume) (b : List Entry) (d e : List Cell) (p q : Supply) (r : Result (Unit {0}) KFault) → IsLanded v w b d e p q r
+pub landed-images : (v w : Volume) (b : List Record) (d e : List Cell) (p q : Supply) (r : Result (Unit {0}) KFault) → IsLanded v w b d e p q r
     → Follows (IsOldOrNew v.geometry [] v w) d e
 landed-images v w b d e p q (Ok done) landed = landed.changes.each_image
 landed-images v w b d e p q (Err KFault.PowerLost) landed = landed.changes.each_image

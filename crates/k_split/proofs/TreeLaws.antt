@@ -16,7 +16,7 @@ use Rattle.k_tables.specs.ContentsTrees.{HasTables, HasTree, tree_content}
 use Rattle.block_io.specs.extent_model.declared.extent_words.Extent.{Extent}
 use Rattle.layout_model.specs.declared.lines.Inode.{Inode}
 use Rattle.layout_model.specs.Names.{Rows}
-use Rattle.k_map_plans.specs.k_journal.declared.batches.Entry.{Entry}
+use Rattle.k_map_plans.specs.k_journal.declared.batches.Record.{Record}
 use Rattle.k_map_plans.specs.k_plans.View.{TablesView}
 use Rattle.k_split.specs.Order.{IsInOrder, IsReady, view_of}
 use Rattle.k_tables.specs.k_split_model.Stands.{Stands}
@@ -41,7 +41,7 @@ tree-content k (Ok tree) unbatched order none is =
 
 -- ---- by the parts of a K-Split
 
-module _ (t : TablesView) (d : List Cell) (batched lost : Bool) (b : List Entry) (k : View) (same : view_of t d batched lost ≡ k) (on : k.lost ≡ false)
+module _ (t : TablesView) (d : List Cell) (batched lost : Bool) (b : List Record) (k : View) (same : view_of t d batched lost ≡ k) (on : k.lost ≡ false)
     (ready : lost ≡ false → IsReady (view_of t d batched lost) b) (inodes : List Inode) (rows : Rows) (maps : List (List Extent))
     (inodes_are : inodes ≡ t.volume.inodes) (rows_are : rows ≡ t.volume.names) (maps_are : maps ≡ t.volume.maps) where
   are : IsReady (view_of t d batched lost) b

@@ -4,7 +4,7 @@ use Rattle.block_io.specs.pm_model.declared.Cell.{Cell}
 use Rattle.block_io.specs.pm_model.Powers.{Supply}
 use Rattle.block_io.specs.image_model.Placed.{AreDistinct, AreSingle}
 use Rattle.block_io.specs.image_model.Volume.{Volume, chain, extents}
-use Rattle.k_map_plans.specs.k_journal.declared.batches.Entry.{Entry}
+use Rattle.k_map_plans.specs.k_journal.declared.batches.Record.{Record}
 use Rattle.k_map_plans.specs.k_plans.Maps.{AreApart}
 use Rattle.k_map_plans.specs.k_plans.LandingsPlans.{NewChain, blocks_of}
 use Rattle.k_map_plans.specs.Plans.{holes_row}
@@ -59,7 +59,7 @@ IsFillAnswer ino from count old new (Err KFault.PowerLost) =
 
 -- The plan is one for the volume of the device, which it changes. The blocks that are zeroed before are unused, and none is one
 -- of the new chains'; words of them have one candidate.
-pub record IsFillPlanned (fresh : List ℕ) (news : List NewChain) (v w : Volume) (b : List Entry) (d : List Cell) : Type 0 where
+pub record IsFillPlanned (fresh : List ℕ) (news : List NewChain) (v w : Volume) (b : List Record) (d : List Cell) : Type 0 where
   pub planned : IsMapPlanned news v w b d
   pub changed : w ≢ v
   pub unused : All (λ t. is_unused v t ≡ true) fresh

@@ -5,20 +5,20 @@ use Rattle.block_io.specs.pm_model.Frames.{KeepsSingle}
 use Rattle.block_io.specs.pm_model.Powers.{is_on, Supply}
 use Rattle.block_io.specs.image_model.Volume.{Volume}
 use Rattle.k_map_plans.specs.k_journal.Commits.{TakesAStep}
-use Rattle.k_map_plans.specs.k_journal.declared.batches.Entry.{Entry}
+use Rattle.k_map_plans.specs.k_journal.declared.batches.Record.{Record}
 use Rattle.k_map_plans.specs.k_plans.LandingsPlans.{Turns}
 use Rattle.k_tables.specs.k_split_model.Stands.{Stands}
 use Rattle.k_split.specs.declared.faults.KFault.{KFault}
 use Rattle.k_split.specs.Answers.{Changes}
 
 -- the batch turns the volume of the device into w, in four lines at most
-pub record IsPlanned (v w : Volume) (b : List Entry) (d : List Cell) : Type 0 where
+pub record IsPlanned (v w : Volume) (b : List Record) (d : List Cell) : Type 0 where
   pub stands : Stands v.geometry v d
   pub turns : Turns v.geometry [] v w b
   pub most : length b ≤ 4
 
 -- done: the device stands at w
-pub record IsLandedDone (v w : Volume) (b : List Entry) (old new : List Cell) (before after : Supply) : Type 0 where
+pub record IsLandedDone (v w : Volume) (b : List Record) (old new : List Cell) (before after : Supply) : Type 0 where
   pub changes : Changes v w old new
   pub stands : Stands w.geometry w new
   pub singles : KeepsSingle old new
@@ -30,7 +30,7 @@ pub record IsLandedLost (v w : Volume) (old new : List Cell) (after : Supply) : 
   pub changes : Changes v w old new
   pub off : is_on after ≡ false
 
-abbrev pub IsLanded : Volume → Volume → List Entry → List Cell → List Cell → Supply → Supply → Result (Unit {0}) KFault → Type 0
+abbrev pub IsLanded : Volume → Volume → List Record → List Cell → List Cell → Supply → Supply → Result (Unit {0}) KFault → Type 0
 IsLanded v w b old new before after (Ok done) = IsLandedDone v w b old new before after
 IsLanded v w b old new before after (Err KFault.PowerLost) = IsLandedLost v w old new after
 IsLanded v w b old new before after (Err (KFault.Refused errno)) = ⊥

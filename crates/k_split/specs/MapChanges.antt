@@ -13,7 +13,7 @@ use Rattle.block_io.specs.image_model.Volume.{Volume, chain, extents}
 use Rattle.block_io.specs.extent_model.Extents.{covers, disk_at, is_within}
 use Rattle.block_io.specs.extent_model.declared.extent_words.Extent.{Extent}
 use Rattle.k_map_plans.specs.k_journal.Commits.{TakesAStep}
-use Rattle.k_map_plans.specs.k_journal.declared.batches.Entry.{Entry}
+use Rattle.k_map_plans.specs.k_journal.declared.batches.Record.{Record}
 use Rattle.k_map_plans.specs.k_plans.LandingsPlans.{NewChain, new_at}
 use Rattle.k_map_plans.specs.k_plans.Free.{free_blocks}
 use Rattle.k_map_plans.specs.k_plans.Switching.{IsMapPlan}
@@ -114,7 +114,7 @@ IsMovedSingle m v d =
 -- ---- a plan with new maps, and what its landing leaves
 
 -- the plan is one for the volume of the device, and words of the new blocks have one candidate
-pub record IsMapPlanned (news : List NewChain) (v w : Volume) (b : List Entry) (d : List Cell) : Type 0 where
+pub record IsMapPlanned (news : List NewChain) (v w : Volume) (b : List Record) (d : List Cell) : Type 0 where
   pub stands : Stands v.geometry v d
   pub plan : IsMapPlan news v w b
   pub single : (k : ℕ) → k < length news → AreSingle (new_at news k).blocks d

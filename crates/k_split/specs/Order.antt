@@ -5,7 +5,7 @@ use Rattle.block_io.specs.pm_model.Cells.{cell, is_single}
 use Rattle.block_io.specs.layout_model.Places.{is_data_block}
 use Rattle.block_io.specs.extent_model.Extents.{covers}
 use Rattle.block_io.specs.image_model.Volume.{Volume, extents}
-use Rattle.k_map_plans.specs.k_journal.declared.batches.Entry.{Entry}
+use Rattle.k_map_plans.specs.k_journal.declared.batches.Record.{Record}
 use Rattle.k_map_plans.specs.k_plans.View.{TablesView}
 use Rattle.k_map_plans.specs.k_plans.Whole.{IsWhole}
 use Rattle.k_tables.specs.k_split_model.Stands.{Stands}
@@ -37,7 +37,7 @@ pub record IsInOrder (k : View) : Type 0 where
   pub unstaged : IsUnstagedSingle k.volume k.cells
 
 -- so it is between changes, which do not gather yet: no line is planned
-pub record IsReady (k : View) (b : List Entry) : Type 0 where
+pub record IsReady (k : View) (b : List Record) : Type 0 where
   pub order : IsInOrder k
   pub unbatched : k.batched ≡ false
   pub no_lines : b ≡ []

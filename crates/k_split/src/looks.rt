@@ -7,14 +7,11 @@ ghost use Rattle.posix_tables.specs.Names.{node_at_path, walk};
 
 use crate::faults::KFault;
 use crate::state::KSplit;
-use k_tables::{NameTable, child, is_directory, parent_of};
+use k_tables::{LONGEST_NAME, NameTable, child, is_directory, parent_of};
 use layout_model::Inode;
 use posix_tables::entries::{is_root, is_too_long};
 use posix_types::{Errno, Name, Path};
 use std::alloc::Global;
-
-// The longest name of a name line, in bytes.
-const LONGEST_NAME: usize = 48;
 
 // The inode at a path, below its directory.
 #[tactic(auto, unfolding(posix_tables::specs::Names::node_at_path))]

@@ -1,6 +1,6 @@
 //! Maps: what they are, the landing of a plan with new ones, and the size of a file.
 ghost use Rattle.std.specs.Prelude.{◌≡◌, ◌<◌, ◌≤◌, ◌+◌, ◌^◌, ◌↔◌, [], length, true, false, None, IfSome, IsSome, OnOk, OnErr};
-ghost use Rattle.layout_model.specs.Lines.{most_bytes};
+ghost use Rattle.layout_model.specs.block_counts.declared.TheConstants.{LONGEST_FILE};
 ghost use Rattle.block_io.specs.layout_model.Places.{reserve};
 ghost use Rattle.block_io.specs.image_model.Volume.{Volume, extents};
 ghost use Rattle.k_map_plans.specs.k_plans.LandingsPlans.{blocks_of};
@@ -86,7 +86,7 @@ impl KSplit {
     ) -> Result<(), KFault>
         requires awake { self.old.lost ≡ true → is_on power.old ≡ false }
         requires file { self.old.lost ≡ false → IsLiveFile ino self.old.volume }
-        requires size { size ≤ most_bytes }
+        requires size { size ≤ LONGEST_FILE }
         requires room { self.old.lost ≡ false
             → reserve self.old.volume.geometry ≤ free_blocks_in self.old + 3 }
         ensures steps { Steps (2 ^ 15) power.old power.new }

@@ -15,7 +15,7 @@ use Rattle.world_write_laws.specs.world_step_laws.k_split_model.View.{View}
 use Rattle.k_split.specs.Answers.{Changes}
 use Rattle.world_write_laws.specs.world_step_laws.posix_types.declared.call.Mode.{Mode}
 use Rattle.world_write_laws.specs.world_step_laws.posix_types.declared.item.Item.{Item}
-use Rattle.world_write_laws.specs.world_step_laws.posix_spec.Run.{Begun, run}
+use Rattle.world_write_laws.specs.world_step_laws.posix_spec.Run.{Unfinished, run}
 use Rattle.world_write_laws.specs.world_step_laws.posix_spec.State.{State}
 use Rattle.world_write_laws.specs.world_step_laws.world_model.Jobs.{Job, JobsStand}
 use Rattle.world_image_laws.specs.Images.{HasLogHome, IsChange, IsRunning, StandsFor}

@@ -14,14 +14,14 @@ use Rattle.world_write_laws.specs.world_step_laws.posix_tables.Open.{is_open}
 use Rattle.world_write_laws.specs.world_step_laws.posix_tables.Room.{held}
 use Rattle.world_write_laws.specs.world_step_laws.posix_laws.ViewLaws.{need_of-kept, PutsWhole-kept}
 use Rattle.world_write_laws.specs.world_step_laws.posix_laws.Views.{AreAfforded, KeepsView}
-use Rattle.world_write_laws.specs.world_step_laws.posix_spec.Run.{Begun}
+use Rattle.world_write_laws.specs.world_step_laws.posix_spec.Run.{Unfinished}
 use Rattle.world_write_laws.specs.world_step_laws.posix_spec.State.{room, State, with_node}
 use Rattle.world_write_laws.specs.world_step_laws.commute_laws.Bystanders.{IsHeld}
 use Rattle.world_write_laws.specs.world_step_laws.commute_laws.Flights.{InFlight, IsHeld-put, KeepsView-seen}
 use Rattle.world_write_laws.specs.world_step_laws.commute_laws.Frames.{KeepsSeen}
 use Rattle.world_write_laws.specs.world_step_laws.commute_laws.Needs.{AreInFlight, Flight, needs, needs-cons}
 use Rattle.world_write_laws.specs.world_step_laws.commute_laws.Needs as flying
-use Rattle.world_write_laws.specs.world_step_laws.world_model.Jobs.{begun_of, Job, live_claims, Valid}
+use Rattle.world_write_laws.specs.world_step_laws.world_model.Jobs.{unfinished_call, Job, live_claims, Valid}
 use Rattle.world_write_laws.specs.world_step_laws.world_model.Stands.{number}
 use Rattle.world_write_laws.specs.world_step_laws.Steps.{AreInFlight-jobs, begun-flights, flights_of, GoOn, HaveSameFiles}
 
@@ -43,7 +43,7 @@ module _ (s : State) (n : ℕ) (shut : is_open s.tables n ≡ false) where
   gone = with_node s n Node.Gone
 
   -- a file that a write holds is another one
-  pub seen_gone : (c : Begun) (node : ℕ) (whole : List ℕ) → InFlight s c node whole → KeepsSeen s gone c.0 node
+  pub seen_gone : (c : Unfinished) (node : ℕ) (whole : List ℕ) → InFlight s c node whole → KeepsSeen s gone c.0 node
   seen_gone c node whole flight = record { handles = λ h key d o same. o; file = get_or-set_other s.nodes n node Node.Gone Node.Gone apart; mode = refl } where
     held_there : IsHeld s node
     held_there = IsHeld-put s c.0 c.1 node whole flight.file flight.puts flight.is
@@ -51,7 +51,7 @@ module _ (s : State) (n : ℕ) (shut : is_open s.tables n ≡ false) where
     apart : node ≢ n
     apart same = let never : true ≡ false = sym held_there.held_open ∙ (ap (is_open s.tables) same ∙ shut) in cc
 
-  view : (c : Begun) (node : ℕ) (whole : List ℕ) → InFlight s c node whole → KeepsView s gone c.0 c.1
+  view : (c : Unfinished) (node : ℕ) (whole : List ℕ) → InFlight s c node whole → KeepsView s gone c.0 c.1
   view c node whole flight = KeepsView-seen s gone c.0 c.1 node whole flight.puts (seen_gone c node whole flight)
 
   pub flying_gone : (flights : List Flight) → AreInFlight s flights → needs s flights ≤ room s → AreInFlight gone flights
@@ -76,7 +76,7 @@ module _ (s : State) (n : ℕ) (shut : is_open s.tables n ≡ false) where
 
   same_files : (numbers : List ℕ) (jobs : List Job) → AreInFlight s (flights_of numbers jobs) → HaveSameFiles s gone numbers jobs
   same_files numbers [] on = tt
-  same_files numbers (j ∷ jobs) on = ((seen_gone (begun_of j) (number numbers j.draft.ino) j.whole on.0).file, same_files numbers jobs on.1)
+  same_files numbers (j ∷ jobs) on = ((seen_gone (unfinished_call j) (number numbers j.draft.ino) j.whole on.0).file, same_files numbers jobs on.1)
 
 pub GoOn-gone : (v : Volume) (claims : List (ℕ × Draft)) (jobs : List Job) (f : Words) (numbers : List ℕ) (s : State) (n : ℕ) → Valid v claims jobs f numbers s → is_open s.tables n ≡ false → GoOn s (with_node s n Node.Gone) numbers jobs
 GoOn-gone v claims jobs f numbers s n valid shut =

@@ -32,11 +32,11 @@ use Rattle.world_write_laws.specs.world_step_laws.posix_tables.NameRows.{mkdir_r
 use Rattle.world_write_laws.specs.world_step_laws.posix_tables.Names.{node_at_path}
 use Rattle.world_write_laws.specs.world_step_laws.posix_tables.Open.{is_full, is_open}
 use Rattle.world_write_laws.specs.world_step_laws.posix_tables.Outcomes.{answer, first}
-use Rattle.world_write_laws.specs.world_step_laws.posix_spec.Run.{after_call, Begun, run}
+use Rattle.world_write_laws.specs.world_step_laws.posix_spec.Run.{after_call, Unfinished, run}
 use Rattle.world_write_laws.specs.world_step_laws.posix_spec.State.{alone, State, swept, unnamed as unnamed_state}
 use Rattle.world_write_laws.specs.world_step_laws.posix_spec.Step.{is_busy, step}
 use Rattle.world_write_laws.specs.world_step_laws.posix_spec.Tree.{tree}
-use Rattle.world_write_laws.specs.world_step_laws.world_model.Jobs.{begun_of, Job, live_claims}
+use Rattle.world_write_laws.specs.world_step_laws.world_model.Jobs.{unfinished_call, Job, live_claims}
 use Rattle.world_write_laws.specs.world_step_laws.world_model.Promised.{AreWhole}
 use Rattle.world_write_laws.specs.world_step_laws.world_model.Stands.{entries_of, number}
 use Rattle.world_write_laws.specs.world_step_laws.Makers.{renumbered}
@@ -68,14 +68,14 @@ KeepsLog =
 -- keeps the promise with that call unfinished.
 abbrev pub KeepsPromiseCut : Type 0
 KeepsPromiseCut =
-    (touched : Option ℕ) (old new : View) (w : Volume) (claims : List (ℕ × Draft)) (numbers after : List ℕ) (s next : State) (count later : ℕ) (start : State) (history : List Item) (c : Begun) → start.mode ≢ Mode.Posix
+    (touched : Option ℕ) (old new : View) (w : Volume) (claims : List (ℕ × Draft)) (numbers after : List ℕ) (s next : State) (count later : ℕ) (start : State) (history : List Item) (c : Unfinished) → start.mode ≢ Mode.Posix
     → IsGoing old claims [] numbers s count → HasLogHome old.volume old.cells claims → IsCut w old new → IsStep touched old.volume w claims [] numbers after s next count later
     → IsTreeOf start history c (tree s) → IsTreeOf start history c (tree next) → KeepsPromise old.volume.geometry new.cells start history (c ∷ [])
 
 -- Where the power was off before the call began, it keeps the promise whatever is unfinished.
 abbrev pub KeepsPromiseOff : Type 0
 KeepsPromiseOff =
-    (old new : View) (claims : List (ℕ × Draft)) (numbers : List ℕ) (start : State) (history : List Item) (unfinished : List Begun) (count : ℕ) → IsGoing old claims [] numbers (run start history) count
+    (old new : View) (claims : List (ℕ × Draft)) (numbers : List ℕ) (start : State) (history : List Item) (unfinished : List Unfinished) (count : ℕ) → IsGoing old claims [] numbers (run start history) count
     → HasLogHome old.volume old.cells claims → IsOff old new → KeepsPromise old.volume.geometry new.cells start history unfinished
 
 -- With writes in flight, in strict mode: each image of the device, once log lines and blocks are put back, is kept with the calls
@@ -83,24 +83,24 @@ KeepsPromiseOff =
 -- of the history's state;
 abbrev pub KeepsImageCut : Type 0
 KeepsImageCut =
-    (touched : Option ℕ) (old new : View) (w : Volume) (claims : List (ℕ × Draft)) (jobs : List Job) (numbers after : List ℕ) (s next : State) (count later : ℕ) (start : State) (history : List Item) (c : Begun) (back : ℕ → Cell)
+    (touched : Option ℕ) (old new : View) (w : Volume) (claims : List (ℕ × Draft)) (jobs : List Job) (numbers after : List ℕ) (s next : State) (count later : ℕ) (start : State) (history : List Item) (c : Unfinished) (back : ℕ → Cell)
     (first : Words) (slots : List (Option ℕ)) (image : Words) → start.mode ≡ Mode.Strict → AreWhole jobs → IsGoing old claims jobs numbers s count → IsCut w old new
     → IsStep touched old.volume w claims jobs numbers after s next count later → LeadsTo start history c jobs s → LeadsTo start history c jobs next → IsPutBack old.volume new.cells back first claims jobs slots image
-    → IsKept old.volume.geometry start history (map begun_of jobs ++ c ∷ []) image
+    → IsKept old.volume.geometry start history (map unfinished_call jobs ++ c ∷ []) image
 
 -- and so it is where the power was off before the call began.
 abbrev pub KeepsImageOff : Type 0
 KeepsImageOff =
-    (old new : View) (claims : List (ℕ × Draft)) (jobs : List Job) (numbers : List ℕ) (start : State) (history : List Item) (count : ℕ) (c : Begun) (back : ℕ → Cell) (first : Words) (slots : List (Option ℕ))
+    (old new : View) (claims : List (ℕ × Draft)) (jobs : List Job) (numbers : List ℕ) (start : State) (history : List Item) (count : ℕ) (c : Unfinished) (back : ℕ → Cell) (first : Words) (slots : List (Option ℕ))
     (image : Words) → start.mode ≡ Mode.Strict → AreWhole jobs → IsGoing old claims jobs numbers (run start history) count → IsOff old new → IsPutBack old.volume new.cells back first claims jobs slots image
-    → IsKept old.volume.geometry start history (map begun_of jobs ++ c ∷ []) image
+    → IsKept old.volume.geometry start history (map unfinished_call jobs ++ c ∷ []) image
 
 -- and where it is off between two changes of a call.
 abbrev pub KeepsImageBetween : Type 0
 KeepsImageBetween =
-    (old new : View) (claims : List (ℕ × Draft)) (jobs : List Job) (numbers : List ℕ) (s start : State) (history : List Item) (count : ℕ) (c : Begun) (back : ℕ → Cell) (first : Words) (slots : List (Option ℕ))
+    (old new : View) (claims : List (ℕ × Draft)) (jobs : List Job) (numbers : List ℕ) (s start : State) (history : List Item) (count : ℕ) (c : Unfinished) (back : ℕ → Cell) (first : Words) (slots : List (Option ℕ))
     (image : Words) → start.mode ≡ Mode.Strict → AreWhole jobs → IsGoing old claims jobs numbers s count → LeadsTo start history c jobs s → IsOff old new
-    → IsPutBack old.volume new.cells back first claims jobs slots image → IsKept old.volume.geometry start history (map begun_of jobs ++ c ∷ []) image
+    → IsPutBack old.volume new.cells back first claims jobs slots image → IsKept old.volume.geometry start history (map unfinished_call jobs ++ c ∷ []) image
 
 -- ---- the changes, each a step of the World
 
@@ -194,7 +194,7 @@ TreeOfRename =
 -- those that they may leave before.
 abbrev pub LeadsSwept : Type 0
 LeadsSwept =
-    (v : Volume) (claims : List (ℕ × Draft)) (jobs : List Job) (f : Words) (numbers : List ℕ) (s : State) (count n : ℕ) (start : State) (history : List Item) (c : Begun) → IsWorld v claims jobs f numbers s count → n ≢ 0
+    (v : Volume) (claims : List (ℕ × Draft)) (jobs : List Job) (f : Words) (numbers : List ℕ) (s : State) (count n : ℕ) (start : State) (history : List Item) (c : Unfinished) → IsWorld v claims jobs f numbers s count → n ≢ 0
     → AreTwoEach (flights_of numbers jobs) → LeadsTo start history c jobs (swept alone s n) → LeadsTo start history c jobs s
 
 -- ---- the replies

@@ -11,13 +11,13 @@ use Rattle.world_write_laws.specs.world_step_laws.posix_types.declared.tree.Tree
 use Rattle.world_write_laws.specs.world_step_laws.posix_tables.declared.nodes.Node.{Node}
 use Rattle.world_write_laws.specs.world_step_laws.posix_tables.Names.{is_named}
 use Rattle.world_write_laws.specs.world_step_laws.posix_tables.Open.{describes, is_open}
-use Rattle.world_write_laws.specs.world_step_laws.posix_spec.Run.{after_call, Begun}
+use Rattle.world_write_laws.specs.world_step_laws.posix_spec.Run.{after_call, Unfinished}
 use Rattle.world_write_laws.specs.world_step_laws.posix_spec.State.{alone, room, State, swept, with_node}
 use Rattle.world_write_laws.specs.world_step_laws.posix_spec.Tree.{tree}
 use Rattle.world_write_laws.specs.world_step_laws.crash_spec.Strict.{StrictFrom}
 use Rattle.world_write_laws.specs.world_step_laws.commute_laws.Flights.{InFlight, IsHeld-put, LeavesAlone-put}
 use Rattle.world_write_laws.specs.world_step_laws.commute_laws.Handles.{slot_of}
-use Rattle.world_write_laws.specs.world_step_laws.commute_laws.Needs.{AreInFlight, AreInFlight-step, begun_of, FitsBeside-put, Flight, IsApart, LetsAllBe, needs, needs-cons, needs-step}
+use Rattle.world_write_laws.specs.world_step_laws.commute_laws.Needs.{AreInFlight, AreInFlight-step, unfinished_call, FitsBeside-put, Flight, IsApart, LetsAllBe, needs, needs-cons, needs-step}
 use Rattle.world_write_laws.specs.world_step_laws.commute_laws.Rooms.{room-step}
 use Rattle.world_image_laws.specs.commute_laws.Acted.{acted, Change, node-acted, Touches}
 use Rattle.world_image_laws.specs.commute_laws.Orders.{AreTwoEach}
@@ -39,7 +39,7 @@ any_set p (z ∷ zs) zero x y is same = let one : z ≡ x = cc in ap (λ b. b ||
 any_set p (z ∷ zs) (suc n) x y is same = ap (λ b. p z || b) (any_set p zs n x y is same)
 
 -- opens nothing, and closes nothing
-open_acted : (s : State) (c : Begun) (h : Handle) (change : Change) (n : ℕ) → Touches s c.0 h change → is_open (acted s change).tables n ≡ is_open s.tables n
+open_acted : (s : State) (c : Unfinished) (h : Handle) (change : Change) (n : ℕ) → Touches s c.0 h change → is_open (acted s change).tables n ≡ is_open s.tables n
 open_acted s c h change n t =
     any_set (describes n) s.tables.descriptions change.key (Some t.by) (Some change.to) (slot_of s.tables change.key t.by t.opens.stands) (ap (λ (k : ℕ). k == n) (t.to_node ∙ sym t.by_node))
 
@@ -79,7 +79,7 @@ apart_from s n f flight shut same =
     cc
 
 strict_gone : (s : State) (n : ℕ) (flights : List Flight) (left : List TreeEntry) → n ≢ 0 → is_named s.entries n ≡ false → is_open s.tables n ≡ false → AreInFlight s flights → AreTwoEach flights → needs s flights ≤ room s
-    → StrictFrom s (map begun_of flights) left → StrictFrom (with_node s n Node.Gone) (map begun_of flights) left
+    → StrictFrom s (map unfinished_call flights) left → StrictFrom (with_node s n Node.Gone) (map unfinished_call flights) left
 strict_gone s n [] left other unnamed shut flying two fits is = is ∙ (sym (tree-swept s n other) ∙ ap tree (swept-gone s n unnamed shut))
 strict_gone s n (f ∷ flights) left other unnamed shut flying two fits (inr idle) =
     let sum = needs-cons s f flights in
@@ -95,15 +95,15 @@ strict_gone s n (f ∷ flights) left other unnamed shut flying two fits (inl act
     let ends : with_node (after_call s f.begun) n Node.Gone ≡ after_call (with_node s n Node.Gone) f.begun =
     ap (λ x. with_node x n Node.Gone) twice.now.is ∙ (node-acted s twice.change n Node.Gone apart ∙ sym twice.later.is)
     in
-    inl (subst (λ x. StrictFrom x (map begun_of flights) left) ends (strict_gone (after_call s f.begun) n flights left other named_then shut_then rest.on two.1 rest.fits acts))
+    inl (subst (λ x. StrictFrom x (map unfinished_call flights) left) ends (strict_gone (after_call s f.begun) n flights left other named_then shut_then rest.on two.1 rest.fits acts))
 
 -- A file that goes once nobody names it and nobody has it open leaves what the writes may leave.
 strict_swept : (s : State) (n : ℕ) (flights : List Flight) (left : List TreeEntry) → n ≢ 0 → AreInFlight s flights → AreTwoEach flights → needs s flights ≤ room s
-    → StrictFrom s (map begun_of flights) left → StrictFrom (swept alone s n) (map begun_of flights) left
+    → StrictFrom s (map unfinished_call flights) left → StrictFrom (swept alone s n) (map unfinished_call flights) left
 unfolding swept
 strict_swept s n flights left other flying two fits is = by (is_named s.entries n) refl (is_open s.tables n) refl where
   by : (named : Bool) → is_named s.entries n ≡ named → (there : Bool) → is_open s.tables n ≡ there
-      → StrictFrom (if is_named s.entries n || is_open s.tables n then s else with_node s n Node.Gone) (map begun_of flights) left
+      → StrictFrom (if is_named s.entries n || is_open s.tables n then s else with_node s n Node.Gone) (map unfinished_call flights) left
   by true named there open_is = rw named is
   by false named true open_is = rw (named, open_is) is
   by false named false open_is = rw (named, open_is) (strict_gone s n flights left other named open_is flying two fits is)

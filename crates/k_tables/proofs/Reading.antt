@@ -14,7 +14,8 @@ use Rattle.layout_model.specs.declared.lines.Inode.{Inode}
 use Rattle.layout_model.specs.declared.lines.Kind.{Kind}
 use Rattle.layout_model.specs.declared.lines.Kind.TheVariants.{Free, Directory, File, Staging}
 use Rattle.layout_model.specs.LineLaws.{IsInodeLine-decode_inode}
-use Rattle.layout_model.specs.Lines.{NameRow, is_inode_of_kind, is_name, most_bytes}
+use Rattle.layout_model.specs.block_counts.declared.TheConstants.{LONGEST_FILE}
+use Rattle.layout_model.specs.Lines.{NameRow, is_inode_of_kind, is_name}
 use Rattle.layout_model.specs.NameLaws.{IsNameLine-decode_name}
 use Rattle.layout_model.specs.Names.{parent_of, row, up, walk}
 use Rattle.layout_model.specs.TableLaws.{NamingLine-parent_of}
@@ -39,7 +40,7 @@ root-node File at = absurd (omega (arith, at))
 root-node Staging at = absurd (omega (arith, at.0))
 
 -- an inode of a line has no more bytes than a file may have
-few-bytes : (kind : Kind) (x : Inode) → is_inode_of_kind kind x ≡ true → x.size ≤ most_bytes
+few-bytes : (kind : Kind) (x : Inode) → is_inode_of_kind kind x ≡ true → x.size ≤ LONGEST_FILE
 few-bytes Free x ok = grind (arith, nat_tests)
 few-bytes Directory x ok = grind (arith, nat_tests)
 few-bytes File x ok = grind (arith, nat_tests)
@@ -66,7 +67,7 @@ module _ (g : Geometry) (f : Words) (v : Volume) (d : List Cell) (is : IsGeometr
   same : v.geometry.inodes ≡ g.inodes
   same = ap (λ (x : Geometry). x.inodes) r.geometry
 
-  sizes : (ino : ℕ) → (inode v ino).size ≤ most_bytes
+  sizes : (ino : ℕ) → (inode v ino).size ≤ LONGEST_FILE
   sizes ino = elim (cases_lt ino g.inodes) [
     | inl below ↦ few-bytes (inode v ino).kind (inode v ino) (IsInodeLine-decode_inode (line_bytes f (inode_line ino)) (inode v ino) (r.inodes ino below)).fields
     | inr past ↦

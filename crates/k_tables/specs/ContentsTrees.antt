@@ -7,7 +7,8 @@ use Rattle.extent_map.specs.extent_model.declared.extent_words.Extent.{Extent}
 use Rattle.layout_model.specs.declared.lines.Inode.{Inode}
 use Rattle.layout_model.specs.declared.lines.Kind.{Kind}
 use Rattle.layout_model.specs.declared.lines.Kind.TheVariants.{Free, Directory, File, Staging}
-use Rattle.layout_model.specs.Lines.{NameRow, is_name, most_bytes}
+use Rattle.layout_model.specs.block_counts.declared.TheConstants.{LONGEST_FILE}
+use Rattle.layout_model.specs.Lines.{NameRow, is_name}
 use Rattle.layout_model.specs.Names.{Rows, row, walk}
 use Rattle.layout_model.specs.Tables.{IsKeyed}
 use Rattle.name_laws.specs.image_model.Content.{Node, IsDirectory, HasBytes}
@@ -55,7 +56,7 @@ pub record HasTree (inodes : List Inode) (rows : Rows) (maps : List (List Extent
   pub spelled : (k : ℕ) (r : NameRow) → row rows k ≡ Some r → is_name r.name ≡ true
   pub keyed : IsKeyed rows
   pub short : (path : List (List ℕ)) (ino : ℕ) → walk rows 0 path ≡ Some ino → length path ≤ longest_path
-  pub sizes : (ino : ℕ) → (inode_in inodes ino).size ≤ most_bytes
+  pub sizes : (ino : ℕ) → (inode_in inodes ino).size ≤ LONGEST_FILE
   pub inside : (ino : ℕ) → IsInside (map_in maps ino) d
 
 -- what an inode is in a tree, and the entry of a place

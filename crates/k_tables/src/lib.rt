@@ -19,7 +19,7 @@ pub use contents::{
     content_tree, trees_can_be_read, trees_tell_contents,
 };
 pub use tables::{
-    Decoded, Entry, Moving, NameLine, NameTable, Place, Refusal, TreePlace, child, decode_name,
-    directory_to_remove, encode_name, entries_to_rename, entry_to_unlink, free_inode, has_entries,
-    is_directory, node_at, parent_of, place_to_make, tree_places, walk_down,
+    Decoded, Entry, LONGEST_NAME, Moving, NameLine, NameTable, Place, Refusal, TreePlace, child,
+    decode_name, directory_to_remove, encode_name, entries_to_rename, entry_to_unlink, free_inode,
+    has_entries, is_directory, node_at, parent_of, place_to_make, tree_places, walk_down,
 };

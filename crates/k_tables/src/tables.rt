@@ -19,7 +19,7 @@ mod renaming;
 mod trees;
 mod walks;
 
-pub use k_names::{Decoded, NameLine, NameTable, decode_name, encode_name};
+pub use k_names::{Decoded, LONGEST_NAME, NameLine, NameTable, decode_name, encode_name};
 pub use lookups::{free_inode, is_directory};
 pub use making::{Place, place_to_make};
 pub use refusals::Refusal;

@@ -5,7 +5,7 @@ use Rattle.std.specs.Prelude.{ℕ, ◌+◌, ◌*◌, ◌%◌, ◌^◌, List, [],
 use Rattle.std.specs.Int.{to_le_bytes, w16, w32, w64}
 use Rattle.layout_model.specs.Fields.{u16_at, u32_at, u64_at, zeros, is_same}
 use Rattle.layout_model.specs.declared.lines.Draft.{Draft}
-use Rattle.layout_model.specs.Lines.{most_bytes}
+use Rattle.layout_model.specs.block_counts.declared.TheConstants.{LONGEST_FILE}
 
 -- FNV-1a with 32 bits: from the basis on, for each byte the exclusive or with it, times the prime
 abbrev pub fnv_basis : ℕ
@@ -37,7 +37,7 @@ abbrev pub is_draft : Draft → Bool
 is_draft d =
     nat_le 1 d.count && nat_le d.count 33 && nat_le 1 d.order && nat_le d.order (2 ^ 63)
     && nat_le (d.file_block + d.count) 4096 && nat_le 1 d.staging && nat_le d.staging 4
-    && nat_le (d.staging_block + d.count) 64 && nat_le d.size most_bytes
+    && nat_le (d.staging_block + d.count) 64 && nat_le d.size LONGEST_FILE
 
 abbrev pub draft_fields : List ℕ → Draft
 draft_fields bytes =

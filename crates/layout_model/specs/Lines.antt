@@ -3,14 +3,11 @@
 use Rattle.std.specs.Prelude.{ℕ, ◌-◌, ◌^◌, List, [], ◌∷◌, ◌++◌, length, take, drop, slice_index, Bool, not, ◌&&◌, ◌||◌, ◌==◌, nat_le, if◌then◌else◌, Option, Some, None, option_and_then}
 use Rattle.std.specs.List.{list_all}
 use Rattle.std.specs.Int.{to_le_bytes, w32, w64}
+use Rattle.layout_model.specs.block_counts.declared.TheConstants.{LONGEST_FILE}
 use Rattle.layout_model.specs.Fields.{u32_at, u64_at, zeros, is_same}
 use Rattle.layout_model.specs.declared.lines.Kind.{Kind}
 use Rattle.layout_model.specs.declared.lines.Kind.TheVariants.{Free, Directory, File, Staging}
 use Rattle.layout_model.specs.declared.lines.Inode.{Inode}
-
--- a file's length, in bytes, is at most this; so it has at most 4,096 blocks
-abbrev pub most_bytes : ℕ
-most_bytes = 16777216
 
 -- Inode line: 0 the kind; 4 the generation; 8 the size; 16 applied; 24 the root; 28 the number of extents.
 abbrev pub code_of_kind : Kind → ℕ
@@ -36,7 +33,7 @@ has_map_or_none x = if x.root == 0 then x.extents == 0 else not (x.extents == 0)
 abbrev pub is_inode_of_kind : Kind → Inode → Bool
 is_inode_of_kind Free x = (x.size == 0) && (x.applied == 0) && (x.root == 0) && (x.extents == 0)
 is_inode_of_kind Directory x = (x.size == 0) && (x.applied == 0) && (x.root == 0) && (x.extents == 0)
-is_inode_of_kind File x = nat_le x.size most_bytes && nat_le x.applied (2 ^ 63) && has_map_or_none x
+is_inode_of_kind File x = nat_le x.size LONGEST_FILE && nat_le x.applied (2 ^ 63) && has_map_or_none x
 is_inode_of_kind Staging x = (x.size == 0) && (x.applied == 0) && has_map_or_none x
 
 abbrev pub is_inode : Inode → Bool

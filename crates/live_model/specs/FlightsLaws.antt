@@ -17,7 +17,7 @@ use Rattle.write_jobs.specs.world_model.posix_laws.Views.{need_of}
 use Rattle.write_jobs.specs.world_model.posix_spec.Run.{after_call}
 use Rattle.write_jobs.specs.world_model.posix_spec.State.{room, State}
 use Rattle.write_jobs.specs.world_model.JobLaws.{needs}
-use Rattle.write_jobs.specs.world_model.Jobs.{AreApartJobs, begun_of, Job, JobStands, live_claims}
+use Rattle.write_jobs.specs.world_model.Jobs.{AreApartJobs, unfinished_call, Job, JobStands, live_claims}
 use Rattle.write_jobs.specs.Jobs.{HoldWords}
 use Rattle.write_jobs.specs.Blocks.{ArePutBack, GoOut, SpellWhole}
 use Rattle.live_model.specs.Flying.{AreHomeLoans, FileState, IsFlying, with_entry}
@@ -37,7 +37,7 @@ abbrev pub FliesFinished : Type 0
 FliesFinished =
     (v : Volume) (d e : List Cell) (claims : List (ℕ × Draft)) (a : List Job) (j : Job) (b : List Job) (files : ℕ → FileState) (numbers : List ℕ) (s : State) (count slot : ℕ) (loans : List Part) (words : List ℕ)
     → IsFlying v d claims (a ++ j ∷ b) files numbers s count → ArePutBack v j.draft loans d e → length loans ≡ j.draft.count → HoldWords loans words → SpellWhole j.draft words j.whole
-    → IsFlying v e (claims ++ (slot, j.draft) ∷ []) (a ++ b) (with_entry files j.draft) numbers (after_call s (begun_of j)) count
+    → IsFlying v e (claims ++ (slot, j.draft) ∷ []) (a ++ b) (with_entry files j.draft) numbers (after_call s (unfinished_call j)) count
 
 -- A JOB IS GIVEN UP: its blocks come back with whatever they hold.
 abbrev pub FliesGivenUp : Type 0

@@ -32,7 +32,7 @@ use Rattle.world_model.specs.Stands.{entries_of, number}
 
 -- A job that is out, as the World keeps it: its caller and call, its entry, and the disk blocks that it was lent, in the order of
 -- the entry's blocks.
-pub record Pending : Type 0 where
+pub record JobOut : Type 0 where
   pub who : Who
   pub call : Call
   pub draft : Draft
@@ -45,7 +45,7 @@ pub record Kept : Type 0 where
   pub staging : Staged
   pub files : Files
   pub claims : List (ℕ × Draft)
-  pub pending : List Pending
+  pub pending : List JobOut
   pub first : Words
 
 -- an entry that a log line can hold
@@ -54,19 +54,19 @@ pub record IsSpellable (d : Draft) : Type 0 where
   pub fits : FitsDraft d
 
 -- they are these jobs, in the order in which they began
-abbrev pub AreJobsOf : List Pending → List Job → Type 0
+abbrev pub AreJobsOf : List JobOut → List Job → Type 0
 AreJobsOf [] [] = Unit {0}
 AreJobsOf [] (j ∷ jobs) = ⊥
 AreJobsOf (p ∷ pending) [] = ⊥
 AreJobsOf (p ∷ pending) (j ∷ jobs) = (j.who ≡ p.who) × (j.call ≡ p.call) × (j.draft ≡ p.draft) × AreJobsOf pending jobs
 
 -- the blocks that it was lent are those of its entry
-pub record HasItsBlocks (v : Volume) (p : Pending) : Type 0 where
+pub record HasItsBlocks (v : Volume) (p : JobOut) : Type 0 where
   pub count : length p.blocks ≡ p.draft.count
   pub each : (k : ℕ) → k < p.draft.count → staged_block v p.draft k ≡ Some (slice_index p.blocks k)
 
 -- of two jobs the callers are two threads: while a job of the set-up is out, no other is
-abbrev pub AreOfTwoThreads : Pending → Pending → Type 0
+abbrev pub AreOfTwoThreads : JobOut → JobOut → Type 0
 AreOfTwoThreads p q = AreThreads q.who p.who
 
 -- the run of an entry, as it was reserved
@@ -111,9 +111,9 @@ pub record StandsAt (g : Geometry) (k : View) (t : Tables) (kept : Kept) (lines_
   pub flying : IsFlying k.volume k.cells kept.claims jobs (file_state kept.files) numbers s count
   pub lines : LinesStand lines_out k.volume k.cells kept
   pub quiet : IsQuietBeside g k.cells
-  pub blocks : (p : Pending) → In p kept.pending → HasItsBlocks k.volume p
+  pub blocks : (p : JobOut) → In p kept.pending → HasItsBlocks k.volume p
   pub callers : AllPairs AreOfTwoThreads kept.pending
-  pub spare : (p : Pending) → In p kept.pending → 3 ≤ spare_in kept.files p.draft.ino
+  pub spare : (p : JobOut) → In p kept.pending → 3 ≤ spare_in kept.files p.draft.ino
   pub tables : s.tables ≡ numbered_as (number numbers) t
   pub open_are_files : (ino : ℕ) → is_open t ino ≡ true → (inode k.volume ino).kind ≡ File
   pub ordered : AreOrdered s.entries
@@ -125,5 +125,5 @@ pub record StandsAt (g : Geometry) (k : View) (t : Tables) (kept : Kept) (lines_
   pub drafts : (d : Draft) → In d (live_claims k.volume kept.claims) → IsSpellable d
   pub low : (ino : ℕ) → (inode k.volume ino).applied + length (entries_of ino (live_claims k.volume kept.claims)) ≤ 2 ^ 62 + n
   pub claims_out : (d : Draft) → In d (live_claims k.volume kept.claims) → Contains kept.staging.out (reserved_run d)
-  pub jobs_out : (p : Pending) → In p kept.pending → Contains kept.staging.out (reserved_run p.draft)
+  pub jobs_out : (p : JobOut) → In p kept.pending → Contains kept.staging.out (reserved_run p.draft)
   pub owed : length (live_claims k.volume kept.claims) + length jobs ≤ length kept.staging.out

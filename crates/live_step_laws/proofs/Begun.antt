@@ -37,7 +37,7 @@ use Rattle.live_model.specs.volume_laws.PoolLaws.{covered-in_data}
 use Rattle.live_model.specs.world_model.Lent.{once_named}
 use Rattle.live_model.specs.world_model.Jobs.{Job, live_claims}
 use Rattle.live_model.specs.world_step_laws.Worlds.{IsWorld}
-use Rattle.live_model.specs.Standing.{AreJobsOf, AreLinesLent, AreOfTwoThreads, file_state, HasItsBlocks, Kept, Pending, reserved_run, StandsAt}
+use Rattle.live_model.specs.Standing.{AreJobsOf, AreLinesLent, AreOfTwoThreads, file_state, HasItsBlocks, Kept, JobOut, reserved_run, StandsAt}
 use Rattle.live_step_laws.specs.BeginsLaws.{MayBegin, StandsBegun, with_cells, with_job}
 
 -- a data block lies behind the log lines
@@ -50,7 +50,7 @@ within_from first count i below = grind (arith, nat_tests)
 line_place : (line j : ℕ) → j < 8 → (8 * line + j) / 8 ≡ line
 line_place line j below = omega (arith, below)
 
-pushed_jobs : (pending : List Pending) (jobs : List Job) (p : Pending) (j : Job) → AreJobsOf pending jobs → j.who ≡ p.who → j.call ≡ p.call → j.draft ≡ p.draft → AreJobsOf (pending ++ p ∷ []) (jobs ++ j ∷ [])
+pushed_jobs : (pending : List JobOut) (jobs : List Job) (p : JobOut) (j : Job) → AreJobsOf pending jobs → j.who ≡ p.who → j.call ≡ p.call → j.draft ≡ p.draft → AreJobsOf (pending ++ p ∷ []) (jobs ++ j ∷ [])
 pushed_jobs [] [] p j are who call draft = (who, call, draft, tt)
 pushed_jobs [] (i ∷ jobs) p j are who call draft = absurd are
 pushed_jobs (q ∷ pending) [] p j are who call draft = absurd are
@@ -68,7 +68,7 @@ both_true : (a b : Bool) → a ≡ true → b ≡ true → (a && b) ≡ true
 both_true true b first second = second
 both_true false b first second = cc
 
-module _ (g : Geometry) (k : View) (cells : List Cell) (t : Tables) (kept : Kept) (n : ℕ) (s : State) (p : Pending) (j : Job) (stands : StandsAt g k t kept true n s) (may : MayBegin k kept stands.jobs stands.numbers s p j)
+module _ (g : Geometry) (k : View) (cells : List Cell) (t : Tables) (kept : Kept) (n : ℕ) (s : State) (p : JobOut) (j : Job) (stands : StandsAt g k t kept true n s) (may : MayBegin k kept stands.jobs stands.numbers s p j)
     (out : GoOut k.volume p.draft k.cells cells) (order : IsInOrder (with_cells k cells)) where
   abbrev v : Volume
   v = k.volume
@@ -168,7 +168,7 @@ module _ (g : Geometry) (k : View) (cells : List Cell) (t : Tables) (kept : Kept
           ap is_single (out.beside i beside) ∙ stands.quiet i journal line (ap is_lent (sym (out.beside i beside)) ∙ home);
       blocks = λ q is. (elim (pushed-In kept.pending p q is) [ inl old ↦ stands.blocks q old | inr new ↦ subst (HasItsBlocks v) new may.blocks ]);
       callers = all_pairs_push AreOfTwoThreads kept.pending p stands.callers (λ m d below. may.caller (slice_index_or kept.pending m d) (at_In kept.pending m d below));
-      spare = λ q is. (elim (pushed-In kept.pending p q is) [ inl old ↦ stands.spare q old | inr new ↦ subst (λ (y : Pending). 3 ≤ spare_in kept.files y.draft.ino) new may.spare ]);
+      spare = λ q is. (elim (pushed-In kept.pending p q is) [ inl old ↦ stands.spare q old | inr new ↦ subst (λ (y : JobOut). 3 ≤ spare_in kept.files y.draft.ino) new may.spare ]);
       tables = stands.tables;
       open_are_files = stands.open_are_files;
       ordered = stands.ordered;
@@ -180,7 +180,7 @@ module _ (g : Geometry) (k : View) (cells : List Cell) (t : Tables) (kept : Kept
       drafts = stands.drafts;
       low = stands.low;
       claims_out = stands.claims_out;
-      jobs_out = λ q is. (elim (pushed-In kept.pending p q is) [ inl old ↦ stands.jobs_out q old | inr new ↦ subst (λ (y : Pending). Contains kept.staging.out (reserved_run y.draft)) new may.out ]);
+      jobs_out = λ q is. (elim (pushed-In kept.pending p q is) [ inl old ↦ stands.jobs_out q old | inr new ↦ subst (λ (y : JobOut). Contains kept.staging.out (reserved_run y.draft)) new may.out ]);
       owed = (let owed = may.owed in omega (arith, owed, count_jobs));
     },
     refl,

@@ -20,10 +20,10 @@ use Rattle.relink_laws.specs.world_write_laws.volume_laws.ImageLaws.{journaled-o
 use Rattle.relink_laws.specs.world_write_laws.k_split_model.Stands.{IsOldOrNew}
 use Rattle.relink_laws.specs.world_write_laws.posix_types.declared.item.Item.{Item}
 use Rattle.relink_laws.specs.world_write_laws.posix_types.declared.call.Mode.{Mode}
-use Rattle.relink_laws.specs.world_write_laws.posix_spec.Run.{Begun}
+use Rattle.relink_laws.specs.world_write_laws.posix_spec.Run.{Unfinished}
 use Rattle.relink_laws.specs.world_write_laws.posix_spec.State.{State}
 use Rattle.relink_laws.specs.world_write_laws.crash_spec.Permitted.{Permitted}
-use Rattle.relink_laws.specs.world_write_laws.world_model.Jobs.{begun_of, Job}
+use Rattle.relink_laws.specs.world_write_laws.world_model.Jobs.{unfinished_call, Job}
 use Rattle.relink_laws.specs.world_write_laws.world_model.Promised.{AreWhole}
 use Rattle.relink_laws.specs.world_write_laws.world_model.Shown.{AreFilled, landed_pairs}
 use Rattle.relink_laws.specs.world_write_laws.world_model.Lent.{in_data}
@@ -183,11 +183,11 @@ shows_with blocks v w d e claims jobs numbers after s new count later back first
   })
 
 -- an image that shows the World in such a state is kept
-pub kept_leading : (v : Volume) (claims : List (ℕ × Draft)) (jobs : List Job) (numbers : List ℕ) (s : State) (count : ℕ) (image : Words) (start : State) (history : List Item) (c : Begun) → start.mode ≡ Mode.Strict → AreWhole jobs
-    → LeadsTo start history c jobs s → ShowsWorld v claims jobs numbers s count image → IsKept v.geometry start history (map begun_of jobs ++ c ∷ []) image
+pub kept_leading : (v : Volume) (claims : List (ℕ × Draft)) (jobs : List Job) (numbers : List ℕ) (s : State) (count : ℕ) (image : Words) (start : State) (history : List Item) (c : Unfinished) → start.mode ≡ Mode.Strict → AreWhole jobs
+    → LeadsTo start history c jobs s → ShowsWorld v claims jobs numbers s count image → IsKept v.geometry start history (map unfinished_call jobs ++ c ∷ []) image
 kept_leading v claims jobs numbers s count image start history c mode whole leads is =
-    kept_by v claims jobs numbers s count image start history (map begun_of jobs ++ c ∷ []) is
-    (λ left tree_is. subst (λ m. Permitted m start history (map begun_of jobs ++ c ∷ []) left) (sym mode)
+    kept_by v claims jobs numbers s count image start history (map unfinished_call jobs ++ c ∷ []) is
+    (λ left tree_is. subst (λ m. Permitted m start history (map unfinished_call jobs ++ c ∷ []) left) (sym mode)
     (leads left (strict_promise v claims jobs (journaled image) (journaled image) numbers s [] is.landed left whole is.world.valid (shown v claims jobs numbers s count image is) tree_is)))
 
 pub promise_with : KeepsPromiseWith
@@ -195,6 +195,6 @@ promise_with blocks v w d e claims jobs numbers after s new start history count 
     elim (shows_with blocks v w d e claims jobs numbers after s new count later back first slots image device change spare same room takes is) [
       | inl old ↦ kept_leading v claims jobs numbers s count image start history c mode whole before old
       | inr changed ↦
-          subst (λ g. IsKept g start history (map begun_of jobs ++ c ∷ []) image) change.geometry
+          subst (λ g. IsKept g start history (map unfinished_call jobs ++ c ∷ []) image) change.geometry
           (kept_leading w claims jobs after new later image start history c mode whole behind changed)
     ]

@@ -30,7 +30,7 @@ use Rattle.live_model.specs.Overlays.{IsOverlayOf, run_of}
 use Rattle.relink_laws.specs.world_write_laws.posix_types.declared.call.Mode.{Mode}
 use Rattle.relink_laws.specs.world_write_laws.posix_types.declared.item.Item.{Item}
 use Rattle.relink_laws.specs.world_write_laws.posix_tables.Open.{Tables}
-use Rattle.relink_laws.specs.world_write_laws.posix_spec.Run.{Begun, run}
+use Rattle.relink_laws.specs.world_write_laws.posix_spec.Run.{Unfinished, run}
 use Rattle.relink_laws.specs.world_write_laws.posix_spec.State.{State}
 use Rattle.live_model.specs.staging_files.declared.runs.StageRun.{StageRun}
 use Rattle.live_model.specs.staging_files.Keeps.{Agrees, AreApart, AreFreeSingle, IsKeptEmpty, IsRunSingle, IsStaged, IsStaging, IsThere, Staged}
@@ -39,14 +39,14 @@ use Rattle.live_model.proofs.staging_files_proofs.AgreeLaws.{agrees-given, agree
 use Rattle.live_model.proofs.staging_files_proofs.ReserveLaws.{few-out, second-room}
 use Rattle.live_model.proofs.staging_files_proofs.RoomLaws.{share-fits, share-leaves}
 use Rattle.live_model.proofs.staging_files_proofs.StagedLaws.{apart-empty, apart-free, staged-given, staged-taken}
-use Rattle.relink_laws.specs.world_write_laws.world_model.Jobs.{begun_of, Job, live_claims, staged_block}
+use Rattle.relink_laws.specs.world_write_laws.world_model.Jobs.{unfinished_call, Job, live_claims, staged_block}
 use Rattle.relink_laws.specs.world_write_laws.world_model.Stands.{entries_of, IsSane}
 use Rattle.relink_laws.specs.world_write_laws.Restages.{Restages}
 use Rattle.k_split_laws.specs.world_image_laws.Images.{HasRoom, StandsFor}
 use Rattle.k_split_laws.specs.world_image_laws.Promised.{IsKept}
 use Rattle.k_split_laws.specs.world_image_laws.Back.{IsPutBack}
 use Rattle.k_split_laws.specs.world_image_laws.Flights.{leads_before, promise_at_begin}
-use Rattle.live_model.specs.Standing.{AreJobsOf, HasItsBlocks, Kept, LinesStand, Pending, reserved_run, StandsAt}
+use Rattle.live_model.specs.Standing.{AreJobsOf, HasItsBlocks, Kept, LinesStand, JobOut, reserved_run, StandsAt}
 use Rattle.live_step_laws.specs.Changes.{IsChangeWith}
 use Rattle.live_step_laws.proofs.Devices.{changes_device_with, keeps_log_home_with, promise_with}
 use Rattle.live_step_laws.specs.ReservesLaws.{KeepsReserved, StandsReserved, StandsWithRun, with_staging}
@@ -260,15 +260,15 @@ module _ (g : Geometry) (k l : View) (t : Tables) (kept : Kept) (lines : Bool) (
   }
   lines_on false home_is = (home_is.0, keeps_log_home_with is.given.0 v w k.cells l.cells kept.claims stands.flying.device.headed change (restaging.spare g k t kept lines n s stands x size w is.given.0 file_is is.way.place.empty made done.order.whole) home_is.1)
 
-  pending_apart : (p : Pending) → In p kept.pending → p.draft.staging ≢ x
+  pending_apart : (p : JobOut) → In p kept.pending → p.draft.staging ≢ x
   pending_apart p there = by kept.pending stands.jobs stands.jobs_are there none_out where
-    by : (pending : List Pending) (jobs : List Job) → AreJobsOf pending jobs → In p pending → ((j : Job) → In j jobs → j.draft.staging ≢ x) → p.draft.staging ≢ x
+    by : (pending : List JobOut) (jobs : List Job) → AreJobsOf pending jobs → In p pending → ((j : Job) → In j jobs → j.draft.staging ≢ x) → p.draft.staging ≢ x
     by [] jobs are is_in apart = absurd is_in
     by (q ∷ pending) [] are is_in apart = absurd are
-    by (q ∷ pending) (j ∷ jobs) are (inl same) apart = subst (λ (d : Draft). d.staging ≢ x) (are.2 ∙ ap (λ (y : Pending). y.draft) same) (apart j (inl refl))
+    by (q ∷ pending) (j ∷ jobs) are (inl same) apart = subst (λ (d : Draft). d.staging ≢ x) (are.2 ∙ ap (λ (y : JobOut). y.draft) same) (apart j (inl refl))
     by (q ∷ pending) (j ∷ jobs) are (inr behind) apart = by pending jobs are.3 behind (λ i i_is. apart i (inr i_is))
 
-  blocks_on : (p : Pending) → In p kept.pending → HasItsBlocks w p
+  blocks_on : (p : JobOut) → In p kept.pending → HasItsBlocks w p
   blocks_on p there = let its = stands.blocks p there in record { count = its.count; each = λ i below. same_block p.draft (pending_apart p there) i ∙ its.each i below }
 
   there_now : IsThere l taken
@@ -337,17 +337,17 @@ stands_reserved g k l t kept staging lines n s count taken stands some few (inr 
 not_posix : (m : Mode) → m ≡ Mode.Strict → m ≢ Mode.Posix
 not_posix m strict posix = cc
 
-module _ (g : Geometry) (k l : View) (t : Tables) (kept : Kept) (lines : Bool) (n : ℕ) (start : State) (history : List Item) (c : Begun) (strict : start.mode ≡ Mode.Strict) (stands : StandsAt g k t kept lines n (run start history))
+module _ (g : Geometry) (k l : View) (t : Tables) (kept : Kept) (lines : Bool) (n : ℕ) (start : State) (history : List Item) (c : Unfinished) (strict : start.mode ≡ Mode.Strict) (stands : StandsAt g k t kept lines n (run start history))
     (back : ℕ → Cell) (slots : List (Option ℕ)) (image : Words) (put : IsPutBack k.volume l.cells back kept.first kept.claims stands.jobs slots image) where
   -- before it changed anything
-  kept_off : l.cells ≡ k.cells → IsKept k.volume.geometry start history (map begun_of stands.jobs ++ c ∷ []) image
+  kept_off : l.cells ≡ k.cells → IsKept k.volume.geometry start history (map unfinished_call stands.jobs ++ c ∷ []) image
   kept_off same =
       promise_at_begin k.volume k.cells kept.claims stands.jobs stands.numbers start history stands.count back kept.first slots image c (not_posix start.mode strict) (λ mode. stands.flying.whole) stands.flying.device
       (subst (λ d. IsPutBack k.volume d back kept.first kept.claims stands.jobs slots image) same put)
 
   -- in the change
   kept_cut : (count x : ℕ) (w : Volume) (blocks : List ℕ) → IsStaging x → IsKeptEmpty kept.staging x → share kept.staging k count + length kept.staging.out + reserve k.volume.geometry ≤ free_blocks_in k + 1
-      → share kept.staging k count ≤ 64 → IsPreallocatedWith x (share kept.staging k count) k w blocks → IsMapCut blocks w k l → IsKept k.volume.geometry start history (map begun_of stands.jobs ++ c ∷ []) image
+      → share kept.staging k count ≤ 64 → IsPreallocatedWith x (share kept.staging k count) k w blocks → IsMapCut blocks w k l → IsKept k.volume.geometry start history (map unfinished_call stands.jobs ++ c ∷ []) image
   kept_cut count x w blocks file_is empty enough few made cut =
       promise_with blocks k.volume w k.cells l.cells kept.claims stands.jobs stands.numbers stands.numbers (run start history) (run start history) start history stands.count stands.count back kept.first slots image c strict
       stands.flying.whole stands.flying.device (leads_before start history c stands.jobs) (leads_before start history c stands.jobs) change (restaging.spare g k t kept lines n (run start history) stands x (share kept.staging k count) w blocks file_is empty made cut.whole)
@@ -369,16 +369,16 @@ module _ (g : Geometry) (k l : View) (t : Tables) (kept : Kept) (lines : Bool) (
 
 pub keeps_reserved : KeepsReserved
 keeps_reserved g k l t kept staging lines n start history c count strict stands some few (inl same) back slots image put =
-    subst (λ y. IsKept y start history (map begun_of stands.jobs ++ c ∷ []) image) stands.geometry (kept_off g k l t kept lines n start history c strict stands back slots image put (ap (λ (y : View). y.cells) same.volume))
+    subst (λ y. IsKept y start history (map unfinished_call stands.jobs ++ c ∷ []) image) stands.geometry (kept_off g k l t kept lines n start history c strict stands back slots image put (ap (λ (y : View). y.cells) same.volume))
 keeps_reserved g k l t kept staging lines n start history c count strict stands some few (inr cut) back slots image put =
-    subst (λ y. IsKept y start history (map begun_of stands.jobs ++ c ∷ []) image) stands.geometry (by cut.given) where
+    subst (λ y. IsKept y start history (map unfinished_call stands.jobs ++ c ∷ []) image) stands.geometry (by cut.given) where
       fits : (count ≤ share kept.staging k count) × (share kept.staging k count ≤ 64) × (share kept.staging k count + reserve k.volume.geometry ≤ free_blocks_in k + 1)
       fits = share-fits kept.staging k count few cut.way.room
 
       enough : share kept.staging k count + length kept.staging.out + reserve k.volume.geometry ≤ free_blocks_in k + 1
       enough = let room = cut.way.room in omega (arith, room)
 
-      by : IsOff k l ⊎ ((w : Volume) × (blocks : List ℕ) × IsPreallocatedWith cut.staging (share kept.staging k count) k w blocks × IsMapCut blocks w k l) → IsKept k.volume.geometry start history (map begun_of stands.jobs ++ c ∷ []) image
+      by : IsOff k l ⊎ ((w : Volume) × (blocks : List ℕ) × IsPreallocatedWith cut.staging (share kept.staging k count) k w blocks × IsMapCut blocks w k l) → IsKept k.volume.geometry start history (map unfinished_call stands.jobs ++ c ∷ []) image
       by (inl off) = kept_off g k l t kept lines n start history c strict stands back slots image put (ap (λ (y : View). y.cells) off)
       by (inr landed) =
           kept_cut g k l t kept lines n start history c strict stands back slots image put count cut.staging landed.0 landed.1 cut.way.place.staging cut.way.place.empty enough fits.1 landed.2 landed.3

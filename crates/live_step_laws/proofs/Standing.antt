@@ -37,7 +37,7 @@ use Rattle.k_split_laws.specs.Done.{goes_on, keeps_log}
 use Rattle.k_split_laws.specs.Going.{IsGoing, IsStep}
 use Rattle.k_split_laws.specs.Lives.{no_entries}
 use Rattle.k_split_laws.specs.world_model.JobLaws.{live_file}
-use Rattle.live_model.specs.Standing.{AreJobsOf, file_state, HasItsBlocks, Kept, LinesStand, Pending, StandsAt}
+use Rattle.live_model.specs.Standing.{AreJobsOf, file_state, HasItsBlocks, Kept, LinesStand, JobOut, StandsAt}
 use Rattle.live_step_laws.specs.StepsLaws.{AreLeft, size_now, StandsOn, StandsStill}
 use Rattle.live_step_laws.proofs.Entries.{decide, fewer_live, same_entries}
 
@@ -49,15 +49,15 @@ job_stands v live f numbers s (i ∷ jobs) j out (inl same) = subst (JobStands v
 job_stands v live f numbers s (i ∷ jobs) j out (inr behind) = job_stands v live f numbers s jobs j out.2 behind
 
 -- the job of a pending one
-record IsJobOf (p : Pending) (jobs : List Job) : Type 0 where
+record IsJobOf (p : JobOut) (jobs : List Job) : Type 0 where
   job : Job
   there : In job jobs
   draft : job.draft ≡ p.draft
 
-job_of : (pending : List Pending) (jobs : List Job) (p : Pending) → AreJobsOf pending jobs → In p pending → IsJobOf p jobs
+job_of : (pending : List JobOut) (jobs : List Job) (p : JobOut) → AreJobsOf pending jobs → In p pending → IsJobOf p jobs
 job_of [] jobs p are is = absurd is
 job_of (q ∷ pending) [] p are is = absurd are
-job_of (q ∷ pending) (j ∷ jobs) p are (inl same) = record { job = j; there = inl refl; draft = are.2 ∙ ap (λ (x : Pending). x.draft) same }
+job_of (q ∷ pending) (j ∷ jobs) p are (inl same) = record { job = j; there = inl refl; draft = are.2 ∙ ap (λ (x : JobOut). x.draft) same }
 job_of (q ∷ pending) (j ∷ jobs) p are (inr rest) = let its = job_of pending jobs p are.3 rest in record { job = its.job; there = inr its.there; draft = its.draft }
 
 -- ---- kinds
@@ -115,7 +115,7 @@ module _ (g : Geometry) (k k2 : View) (t t2 : Tables) (kept : Kept) (files : Fil
     | inr block ↦ inr (block.0, block.1, (block.2.0, block.2.1, same_block block.0.draft (job_staging block.0 block.1) block.2.0 ∙ block.2.2))
   ]
 
-  pub blocks : (p : Pending) → In p kept.pending → HasItsBlocks w p
+  pub blocks : (p : JobOut) → In p kept.pending → HasItsBlocks w p
   blocks p is =
       let its = stands.blocks p is in
       let job = job_of kept.pending stands.jobs p stands.jobs_are is in

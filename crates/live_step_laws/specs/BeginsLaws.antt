@@ -16,10 +16,10 @@ use Rattle.live_model.specs.posix_tables.Open.{Tables}
 use Rattle.live_model.specs.posix_spec.State.{room, State}
 use Rattle.live_model.specs.world_model.JobLaws.{needs}
 use Rattle.live_model.specs.world_model.Jobs.{AreApartJobs, Job, JobStands, live_claims}
-use Rattle.live_model.specs.Standing.{AreOfTwoThreads, HasItsBlocks, Kept, Pending, reserved_run, StandsAt}
+use Rattle.live_model.specs.Standing.{AreOfTwoThreads, HasItsBlocks, Kept, JobOut, reserved_run, StandsAt}
 
 -- what the World keeps, with one more job out, the last one
-abbrev pub with_job : Kept → Pending → Kept
+abbrev pub with_job : Kept → JobOut → Kept
 with_job kept p = record kept { pending = kept.pending ++ p ∷ [] }
 
 -- what K-Split is, with other cells
@@ -29,7 +29,7 @@ with_cells k cells = record k { cells = cells }
 -- THE JOB MAY BEGIN: it is the pending one; it stands by each image, apart from the others, all its bytes are found, and it finds
 -- room; its caller is another one; its blocks are those of its entry, whose run is out; one run more is out than the live entries
 -- and the jobs have; the blocks that all runs that are out want are free; and there is room to lay its run.
-pub record MayBegin (k : View) (kept : Kept) (jobs : List Job) (numbers : List ℕ) (s : State) (p : Pending)
+pub record MayBegin (k : View) (kept : Kept) (jobs : List Job) (numbers : List ℕ) (s : State) (p : JobOut)
     (j : Job) : Type 0 where
   pub who_is : j.who ≡ p.who
   pub call_is : j.call ≡ p.call
@@ -39,7 +39,7 @@ pub record MayBegin (k : View) (kept : Kept) (jobs : List Job) (numbers : List �
   pub apart : (i : Job) → In i jobs → AreApartJobs i j
   pub whole : j.found ≡ j.whole
   pub fits : needs s jobs + need_of s j.who j.call ≤ room s
-  pub caller : (q : Pending) → In q kept.pending → AreOfTwoThreads q p
+  pub caller : (q : JobOut) → In q kept.pending → AreOfTwoThreads q p
   pub blocks : HasItsBlocks k.volume p
   pub out : Contains kept.staging.out (reserved_run p.draft)
   pub owed : length (live_claims k.volume kept.claims) + length jobs + 1 ≤ length kept.staging.out
@@ -49,7 +49,7 @@ pub record MayBegin (k : View) (kept : Kept) (jobs : List Job) (numbers : List �
 -- ITS BLOCKS GO OUT: they stand together with it.
 abbrev pub StandsBegun : Type 0
 StandsBegun =
-    (g : Geometry) (k : View) (cells : List Cell) (t : Tables) (kept : Kept) (n : ℕ) (s : State) (p : Pending) (j : Job)
+    (g : Geometry) (k : View) (cells : List Cell) (t : Tables) (kept : Kept) (n : ℕ) (s : State) (p : JobOut) (j : Job)
     → (stands : StandsAt g k t kept true n s) → MayBegin k kept stands.jobs stands.numbers s p j
     → GoOut k.volume p.draft k.cells cells → IsInOrder (with_cells k cells)
     → (now : StandsAt g (with_cells k cells) t (with_job kept p) true n s) × (now.jobs ≡ stands.jobs ++ j ∷ [])

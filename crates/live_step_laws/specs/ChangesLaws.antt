@@ -8,9 +8,9 @@ use Rattle.relink_laws.specs.world_write_laws.image_model.Volume.{Volume}
 use Rattle.relink_laws.specs.world_write_laws.k_split_model.Stands.{Stands}
 use Rattle.relink_laws.specs.world_write_laws.posix_types.declared.call.Mode.{Mode}
 use Rattle.relink_laws.specs.world_write_laws.posix_types.declared.item.Item.{Item}
-use Rattle.relink_laws.specs.world_write_laws.posix_spec.Run.{Begun}
+use Rattle.relink_laws.specs.world_write_laws.posix_spec.Run.{Unfinished}
 use Rattle.relink_laws.specs.world_write_laws.posix_spec.State.{State}
-use Rattle.relink_laws.specs.world_write_laws.world_model.Jobs.{begun_of, Job}
+use Rattle.relink_laws.specs.world_write_laws.world_model.Jobs.{unfinished_call, Job}
 use Rattle.relink_laws.specs.world_write_laws.world_model.Promised.{AreWhole}
 use Rattle.k_split_laws.specs.world_image_laws.Images.{HasLogHome, HasRoom, IsHeaded, StandsFor}
 use Rattle.k_split_laws.specs.world_image_laws.ImagesLaws.{Takes}
@@ -43,9 +43,9 @@ KeepsPromiseWith =
     (blocks : List ℕ) (v w : Volume) (d e : List Cell) (claims : List (ℕ × Draft)) (jobs : List Job)
     (numbers after : List ℕ) (s new : State) (start : State) (history : List Item) (count later : ℕ) (back : ℕ → Cell)
     (first : Words)
-    (slots : List (Option ℕ)) (image : Words) (c : Begun)
+    (slots : List (Option ℕ)) (image : Words) (c : Unfinished)
     → start.mode ≡ Mode.Strict → AreWhole jobs → StandsFor v d claims jobs numbers s count
     → LeadsTo start history c jobs s → LeadsTo start history c jobs new
     → IsChangeWith blocks v w d e → AreSpare blocks v → SameBlocks v w jobs → HasRoom w claims jobs new
     → Takes v w claims jobs numbers after s new count later → IsPutBack v e back first claims jobs slots image
-    → IsKept v.geometry start history (map begun_of jobs ++ c ∷ []) image
+    → IsKept v.geometry start history (map unfinished_call jobs ++ c ∷ []) image

@@ -8,13 +8,13 @@ use Rattle.relink_laws.specs.world_write_laws.k_split_model.View.{View}
 use Rattle.relink_laws.specs.world_write_laws.posix_types.declared.call.Mode.{Mode}
 use Rattle.relink_laws.specs.world_write_laws.posix_types.declared.item.Item.{Item}
 use Rattle.relink_laws.specs.world_write_laws.posix_tables.Open.{Tables}
-use Rattle.relink_laws.specs.world_write_laws.posix_spec.Run.{Begun, run}
+use Rattle.relink_laws.specs.world_write_laws.posix_spec.Run.{Unfinished, run}
 use Rattle.relink_laws.specs.world_write_laws.posix_spec.State.{State}
 use Rattle.live_model.specs.staging_files.declared.runs.StageFault.{StageFault}
 use Rattle.live_model.specs.staging_files.declared.runs.StageRun.{StageRun}
 use Rattle.live_model.specs.staging_files.Keeps.{AreApart, IsRunSingle, IsThere, Staged}
 use Rattle.live_model.specs.staging_files.Reserves.{IsReserveAnswer}
-use Rattle.relink_laws.specs.world_write_laws.world_model.Jobs.{begun_of, live_claims}
+use Rattle.relink_laws.specs.world_write_laws.world_model.Jobs.{unfinished_call, live_claims}
 use Rattle.k_split_laws.specs.world_image_laws.Promised.{IsKept}
 use Rattle.k_split_laws.specs.world_image_laws.Back.{IsPutBack}
 use Rattle.live_model.specs.Standing.{Kept, StandsAt}
@@ -50,9 +50,9 @@ StandsReserved =
 abbrev pub KeepsReserved : Type 0
 KeepsReserved =
     (g : Geometry) (k l : View) (t : Tables) (kept : Kept) (staging : Staged) (lines : Bool) (n : ℕ) (start : State)
-    (history : List Item) (c : Begun) (count : ℕ) → start.mode ≡ Mode.Strict
+    (history : List Item) (c : Unfinished) (count : ℕ) → start.mode ≡ Mode.Strict
     → (stands : StandsAt g k t kept lines n (run start history)) → 1 ≤ count → count ≤ 33
     → (let r : Result StageRun StageFault = Err StageFault.PowerLost in IsReserveAnswer count kept.staging k staging l r)
     → (back : ℕ → Cell) (slots : List (Option ℕ)) (image : Words)
     → IsPutBack k.volume l.cells back kept.first kept.claims stands.jobs slots image
-    → IsKept g start history (map begun_of stands.jobs ++ c ∷ []) image
+    → IsKept g start history (map unfinished_call stands.jobs ++ c ∷ []) image

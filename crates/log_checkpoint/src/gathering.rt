@@ -9,10 +9,11 @@ ghost use Rattle.staging_files.specs.GivesUp.{AllStagedSingle};
 ghost use Rattle.log_checkpoint.specs.Gathers.{IsGatherAnswer, IsLapAnswer, MayGather, file_count, total_runs};
 ghost use Rattle.log_checkpoint.specs.Logged.{KeepsLoggedContent};
 
+use crate::laws;
 use crate::publishing::publish_all;
 use file_table::FileTable;
 use pm_lines::Power;
-use staging_files::{Commit, KSplit, Staging, images_have_the_old_or_the_new_content};
+use staging_files::{Commit, KSplit, Staging};
 use std::alloc::{AllocError, Global};
 
 // The staging files give up their blocks, and a new lap begins.
@@ -69,7 +70,7 @@ pub fn gather(
     ensures answer { IsGatherAnswer files.old k.old staging.new files.new k.new result }
     ensures content { Follows (KeepsLoggedContent files.old k.old.volume) k.old.cells k.new.cells }
 {
-    images_have_the_old_or_the_new_content();
+    laws::images_have_the_old_or_the_new_content();
     if k.is_lost() || !power.on() {
         return Ok(Commit::PowerLost);
     }

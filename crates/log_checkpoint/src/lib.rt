@@ -15,6 +15,7 @@
 #![tactic(auto)]
 
 mod gathering;
+mod laws;
 mod publishing;
 
 pub use file_table::FileTable;

@@ -17,7 +17,7 @@ use Rattle.layout_model.specs.declared.lines.Kind.{Kind}
 use Rattle.layout_model.specs.declared.lines.Kind.TheVariants.{File, Free, Staging}
 use Rattle.layout_model.specs.Entries.{is_draft}
 use Rattle.layout_model.specs.EntryLaws.{IsEntryLine-decode_entry}
-use Rattle.layout_model.specs.Lines.{most_bytes}
+use Rattle.layout_model.specs.block_counts.declared.TheConstants.{LONGEST_FILE}
 use Rattle.relink_laws.specs.log_laws.layout_model.Journal.{journaled}
 use Rattle.relink_laws.specs.log_laws.layout_model.Places.{Geometry, is_data_block, log_line, reserve}
 use Rattle.relink_laws.specs.log_laws.image_model.Checked.{IsCheckedAs}
@@ -156,7 +156,7 @@ module _ (k0 : View) (d : Draft) (left : List Draft) (k : View) (way : IsOnTheWa
   place : d.file_block + d.count ≤ 4096
   place = grind (arith, nat_tests, draft)
 
-  size : d.size ≤ most_bytes
+  size : d.size ≤ LONGEST_FILE
   size = grind (arith, nat_tests, draft)
 
   order : d.order ≤ 2 ^ 63

@@ -9,7 +9,8 @@ use Rattle.k_check.specs.pm_model.Cells.{AllSingle}
 use Rattle.k_check.specs.pm_model.Images.{Follows}
 use Rattle.layout_model.specs.declared.lines.Inode.{Inode}
 use Rattle.layout_model.specs.declared.lines.Kind.TheVariants.{File, Staging}
-use Rattle.layout_model.specs.Lines.{is_inode, is_inode_of_kind, most_bytes}
+use Rattle.layout_model.specs.block_counts.declared.TheConstants.{LONGEST_FILE}
+use Rattle.layout_model.specs.Lines.{is_inode, is_inode_of_kind}
 use Rattle.k_check.specs.layout_model.Places.{Geometry, reserve}
 use Rattle.k_check.specs.image_model.Live.{live_entries}
 use Rattle.k_check.specs.image_model.Reading.{inode_set}
@@ -187,9 +188,9 @@ size-images ino size k k2 r quiet live own answer = by r (subst (λ n. IsSizeAns
 
 -- ---- what a new length asks for
 
-pub size-fits : (k : View) (ino : ℕ) → IsQuiet k → IsLiveFile ino k.volume → (inode k.volume ino).size ≤ most_bytes
+pub size-fits : (k : View) (ino : ℕ) → IsQuiet k → IsLiveFile ino k.volume → (inode k.volume ino).size ≤ LONGEST_FILE
 size-fits k ino quiet live = fits (inode k.volume ino) live.file (quiet.rest.order.whole.inodes ino) where
-  fits : (x : Inode) → x.kind ≡ File → is_inode x ≡ true → x.size ≤ most_bytes
+  fits : (x : Inode) → x.kind ≡ File → is_inode x ≡ true → x.size ≤ LONGEST_FILE
   fits x file is =
       let own : is_inode_of_kind File x ≡ true = subst (λ kind. is_inode_of_kind kind x ≡ true) file is in
       grind (arith, nat_tests, own)

@@ -16,6 +16,9 @@
 //! `block_counts`, `k_check` and `staging_files`.
 #![tactic(auto)]
 
+// The lowest inode of a file: those below are of the root and of the staging files.
+pub(crate) const FIRST_FILE: u32 = 5;
+
 mod mounting;
 mod replays;
 mod settling;

@@ -4,7 +4,7 @@ ghost use Rattle.image_model.specs.Chains.{chain_word as word_of_block, SpellsCh
 ghost use Rattle.image_model.specs.Placed.{block_at, part_at, AreDistinct, AreInDevice, AreSingle, IsOutside};
 ghost use Rattle.map_chain.specs.Writes.{HasChainWords, MayWrite, SameOutside, IsWritten};
 ghost use Rattle.pm_lines.specs.pm_model.declared.Cell.TheVariants.{Single};
-ghost use Rattle.pm_lines.specs.pm_model.Cells.{cell, is_single, fenced, Settles};
+ghost use Rattle.pm_lines.specs.pm_model.Cells.{cell, is_single, flushed, fenced, Settles};
 ghost use Rattle.pm_lines.specs.pm_model.Frames.{SameLent, KeepsSingle, LineIsSingle};
 ghost use Rattle.pm_lines.specs.pm_model.Images.{IsImage, Follows};
 ghost use Rattle.pm_lines.specs.pm_model.Powers.{is_on, Steps};
@@ -14,8 +14,27 @@ use crate::words::{chain_word, next_in, part_of};
 use extent_map::{Extent, ExtentMap};
 use pm_lines::{Pm, Power};
 
-// Stores and flushes a line of the chain block with these extents and this next block. Lines are
-// counted from the start of the block.
+// Stores a word where the device holds another, and says whether it did.
+fn change_word(pm: &mut Pm, power: &mut Power, word: u64, value: u64) -> bool
+    requires in_device { word < length pm.old }
+    requires single { is_single (cell pm.old word) ≡ true }
+    ensures size { length pm.new ≡ length pm.old }
+    ensures lent { SameLent pm.old pm.new }
+    ensures steps { Steps 1 power.old power.new }
+    ensures others { (i : ℕ) → i ≢ word → cell pm.new i ≡ cell pm.old i }
+    ensures same { result ≡ false → cell pm.new word ≡ cell pm.old word }
+    ensures done { is_on power.new ≡ true → fenced (flushed (cell pm.new word)) ≡ Single value }
+{
+    if pm.read_word(word) == value {
+        return false;
+    }
+    pm.store_word(power, word, value);
+    true
+}
+
+// Stores the words of a line of the chain block with these extents and this next block that the device
+// does not hold already, and flushes the line where there were any. Lines are counted from the start of
+// the block.
 fn write_line(pm: &mut Pm, power: &mut Power, block: u32, line: u64, next: u32, extents: &[Extent])
     requires in_block { line < 64 }
     requires in_device { block < length pm.old / 512 }
@@ -31,14 +50,17 @@ fn write_line(pm: &mut Pm, power: &mut Power, block: u32, line: u64, next: u32, 
     // It bounds the words' numbers.
     let _ = pm.words();
     let line_in_device = 64 * u64::from(block) + line;
+    let mut changed = false;
     for k in 0..8 {
         let word = chain_word(next, extents, (8 * line + k) as usize);
-        pm.store_word(power, 8 * line_in_device + k, word);
+        changed |= change_word(pm, power, 8 * line_in_device + k, word);
     }
-    pm.flush(power, line_in_device);
+    if changed {
+        pm.flush(power, line_in_device);
+    }
 }
 
-// Stores and flushes the lines of the chain block with these extents and this next block.
+// Stores and flushes what differs in the chain block with these extents and this next block.
 fn write_block(pm: &mut Pm, power: &mut Power, block: u32, next: u32, extents: &[Extent])
     requires in_device { block < length pm.old / 512 }
     requires room { length extents.now ≤ 255 }
@@ -77,7 +99,8 @@ fn write_blocks(pm: &mut Pm, power: &mut Power, extents: &[Extent], blocks: &[u3
 }
 
 /// Writes the chain of a map into the blocks, in their order, and makes it durable, in at most 577
-/// steps a block and one more. It takes no memory. Without power at the call it does nothing.
+/// steps a block and one more: a word is stored where the block holds another, and a line flushed where
+/// a word of it was stored. It takes no memory. Without power at the call it does nothing.
 ///
 /// Blocks are counted from the start of the device. There are as many as the map takes
 /// (`block_counts::chains_for`), no two of them the same; their words have one candidate each, and

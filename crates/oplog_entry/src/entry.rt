@@ -6,6 +6,7 @@ ghost use Rattle.layout_model.specs.EntryLaws.{FitsDraft, IsEntryLine};
 ghost use Rattle.layout_model.specs.declared.lines.Draft.{Draft};
 
 use crate::check::fnv_1a;
+use block_counts::LONGEST_FILE;
 use image_layout::{put_u16, put_u32, put_u64, u16_at, u32_at, u64_at};
 use layout_model::Draft;
 
@@ -26,7 +27,7 @@ fn is_draft(draft: &Draft) -> bool
         && (1..=4).contains(&draft.staging)
         && draft.staging_block <= 64
         && draft.staging_block + count <= 64
-        && draft.size <= 16_777_216
+        && draft.size <= LONGEST_FILE
 }
 
 // The line of an entry, its check still 0.

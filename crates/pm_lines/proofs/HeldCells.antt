@@ -1,13 +1,14 @@
 -- What the changes of words and pairs do to the cells of a memory.
 use Rattle.std.proofs.Common.{◌≡◌, ◌≢◌, ◌+◌, ◌<◌, ◌≤◌, [], ℕ, true, false, List, length, get_or, set, get_or-set_same, get_or-set_other, refl, sym, ◌∙◌, ap, arith, ⊎_elim}
+use Rattle.std.proofs.lemmas.Bool.{cases_lt}
 use Rattle.std.proofs.lemmas.List.{length-set}
 use Rattle.pm_model.specs.declared.Cell.{Cell}
 use Rattle.pm_model.specs.declared.Cell.TheVariants.{Single}
-use Rattle.pm_model.specs.Cells.{cell, is_single, stored, flushed}
+use Rattle.pm_model.specs.Cells.{cell, is_single, stored, flushed, AllHome}
 use Rattle.pm_lines.specs.declared.pairs.Pair.{Pair}
-use Rattle.pm_lines.specs.Pairs.{pair_at, pair_cell, word_cell, cells_of, IsPlace, HasNoPair, AddsPair, SwapsPairs, IsHeld, ArePairsOf}
+use Rattle.pm_lines.specs.Pairs.{pair_at, pair_cell, word_cell, cells_of, IsPlace, HasNoPair, AddsPair, SwapsPairs, IsHeld, ArePairsOf, AreSingle, IsNextPair, IsNextTwo, CopiesNumbers}
 use Rattle.pm_lines.proofs.Room.{pairs-fewer}
-use Rattle.pm_lines.proofs.WordCells.{word_cell-pair, word_cell-none, pair_cases, length-cells_of, cell-cells_of, pair_cell-two, pair_cell-marked, pair_cell-oldest, pair_cell-newest, AddsPair-linked, AddsPair-at, AddsPair-others, SwapsPairs-linked, SwapsPairs-at, SwapsPairs-others, word_cell-same}
+use Rattle.pm_lines.proofs.WordCells.{word_cell-pair, word_cell-none, pair_cases, length-cells_of, cell-cells_of, pair_cell-two, pair_cell-marked, pair_cell-oldest, pair_cell-home, pair_apart, pair_cell-has_two, pair_cell-newest, AddsPair-linked, AddsPair-at, AddsPair-others, SwapsPairs-linked, SwapsPairs-at, SwapsPairs-others, word_cell-same}
 
 -- d is the list of the cells
 module _ (values : List ℕ) (pairs : List Pair) (marked capacity : ℕ) (d : List Cell) (held : IsHeld values pairs marked capacity) (view : cells_of values pairs marked ≡ d) where
@@ -88,6 +89,44 @@ module _ (values : List ℕ) (pairs : List Pair) (marked capacity : ℕ) (d : Li
       pub replace-others : (i : ℕ) → i ≢ word → cell (cells_of numbers pairs marked) i ≡ cell d i
       replace-others i other = rw (cell_is i) (replaced i ∙ word_cell-same values numbers pairs marked i (get_or-set_other values word i value 0 other))
 
+  -- The numbers of words with one candidate each are replaced.
+  module _ (first : ℕ) (part numbers : List ℕ) (single : (i : ℕ) → first ≤ i → i < first + length part → is_single (cell d i) ≡ true)
+      (in_range : first + length part ≤ length d) (copies : CopiesNumbers first part values numbers) where
+    outside : (k : ℕ) → k < length pairs → get_or numbers (pair_at pairs k).word 0 ≡ get_or values (pair_at pairs k).word 0
+    outside k h = ⊎_elim
+        (λ (before : (pair_at pairs k).word < first). copies.below (pair_at pairs k).word before)
+        (λ (later : first ≤ (pair_at pairs k).word). ⊎_elim
+        (λ (inside : (pair_at pairs k).word < first + length part). absurd (none_from_single (pair_at pairs k).word (single (pair_at pairs k).word later inside) k h refl))
+        (λ (past : first + length part ≤ (pair_at pairs k).word). copies.above (pair_at pairs k).word past)
+        (cases_lt (pair_at pairs k).word (first + length part)))
+        (cases_lt (pair_at pairs k).word first)
+
+    pub copy-held : IsHeld numbers pairs marked capacity
+    copy-held = record {
+      linked = record {
+        within = λ k h. rw copies.size (held.linked.within k h);
+        leads = λ k h. rw (outside k h) (held.linked.leads k h);
+      };
+      marks = held.marks;
+      room = rw copies.size held.room;
+    }
+
+    copied : (i : ℕ) → cell (cells_of numbers pairs marked) i ≡ word_cell numbers pairs marked i
+    copied i = cell-cells_of numbers pairs marked i copy-held.linked
+
+    pub copy-size : length (cells_of numbers pairs marked) ≡ length d
+    copy-size = length-cells_of numbers pairs marked ∙ copies.size ∙ sym length_is
+
+    pub copy-inside : (k : ℕ) → k < length part → cell (cells_of numbers pairs marked) (first + k) ≡ Single (get_or part k 0)
+    copy-inside k h = copied (first + k)
+        ∙ word_cell-none numbers pairs marked (first + k) (none_from_single (first + k) (single (first + k) (omega arith) (omega arith))) ∙ ap Single (copies.inside k h)
+
+    pub copy-below : (i : ℕ) → i < first → cell (cells_of numbers pairs marked) i ≡ cell d i
+    copy-below i h = rw (cell_is i) (copied i ∙ word_cell-same values numbers pairs marked i (copies.below i h))
+
+    pub copy-above : (i : ℕ) → first + length part ≤ i → cell (cells_of numbers pairs marked) i ≡ cell d i
+    copy-above i h = rw (cell_is i) (copied i ∙ word_cell-same values numbers pairs marked i (copies.above i h))
+
   -- One more mark.
   module _ (word place : ℕ) (numbers : List ℕ) (new : List Pair) (at : IsPlace pairs word place) (unmarked : marked ≤ place) (swaps : SwapsPairs place marked values pairs numbers new) where
     pub mark-held : IsHeld numbers new (marked + 1) capacity
@@ -116,17 +155,37 @@ module _ (values : List ℕ) (pairs : List Pair) (marked capacity : ℕ) (d : Li
   pub flushed-marked : (word place : ℕ) → IsPlace pairs word place → place < marked → flushed (cell d word) ≡ cell d word
   flushed-marked word place at below = rw (cell_pair word place at, pair_cell-marked marked place (pair_at pairs place) below) refl
 
+  never_lent : AllHome d
+  never_lent i = ⊎_elim
+      (λ (found : (k : ℕ) × IsPlace pairs i k). rw (cell_pair i found.0 found.1) (pair_cell-home marked found.0 (pair_at pairs found.0)))
+      (λ (none : HasNoPair pairs i). rw (cell_none i none) refl)
+      (pair_cases values pairs i held.linked)
+
   -- The pairs are those of the words with two candidates.
   pub are_pairs : ArePairsOf d pairs
   are_pairs = record {
     within = λ k h. rw length_is (held.linked.within k h);
     oldest_of = λ k h. rw (cell_pair (pair_at pairs k).word k (record { below = h; names = refl })) (pair_cell-oldest marked k (pair_at pairs k));
     newest_of = λ k h. rw (cell_pair (pair_at pairs k).word k (record { below = h; names = refl })) (pair_cell-newest marked k (pair_at pairs k));
+    distinct = pair_apart values pairs held.linked;
+    home = never_lent;
     none = none_from_single;
     some = λ i two. ⊎_elim
         (λ (found : (k : ℕ) × IsPlace pairs i k). found)
         (λ (none : HasNoPair pairs i). let no : true ≡ false = rw (cell_none i none) at two in absurd (let f : ⊥ = cc in f))
         (pair_cases values pairs i held.linked);
+  }
+
+  -- The next word with two candidates is the next with a pair.
+  pub next-none : (from : ℕ) → ((i : ℕ) → from ≤ i → i < length values → HasNoPair pairs i) → AreSingle d from (length d)
+  next-none from none i after before = rw (cell_none i (none i after (omega (arith, length_is)))) refl
+
+  pub next-some : (from w : ℕ) → IsNextPair values pairs from w → IsNextTwo d from w
+  next-some from w next = record {
+    after = next.after;
+    below = rw length_is next.below;
+    two = rw (cell_pair w next.place.0 next.place.1) (pair_cell-has_two marked next.place.0 (pair_at pairs next.place.0));
+    none = λ i after before. rw (cell_none i (next.none i after before)) refl;
   }
 
 -- the cells of words that have no pair

@@ -1,5 +1,5 @@
 -- The images that are made of cells.
-use Rattle.std.proofs.Common.{◌≡◌, ◌≢◌, ◌+◌, ◌-◌, ◌*◌, ◌%◌, get_or, ap, ◌<◌, ◌≤◌, ◌^◌, ◌++◌, [], ◌∷◌, zero, suc, lit≤, ℕ, Bool, true, false, cond, List, length, take, refl, sym, ◌∙◌, arith, ⊎_elim, add-one}
+use Rattle.std.proofs.Common.{◌≡◌, ◌≢◌, ◌+◌, ◌-◌, ◌*◌, ◌%◌, get_or, ap, ◌<◌, ◌≤◌, ◌^◌, ◌++◌, [], ◌∷◌, zero, suc, lit≤, ℕ, Bool, true, false, cond, List, length, take, refl, sym, ◌∙◌, arith, ⊎_elim, add-one, add-zero}
 use Rattle.std.specs.Int.{from_le_bytes, to_le_bytes, w64}
 use Rattle.std.specs.Prelude.{◌==◌}
 use Rattle.std.specs.List.{flat_map}
@@ -11,10 +11,11 @@ use borrow.Rule.Slice.PartMut.{put_mid, post_of}
 use Rattle.rand_xoshiro.specs.SplitMix64.{mix_u64}
 use Rattle.pm_model.specs.declared.Cell.{Cell}
 use Rattle.pm_model.specs.declared.Cell.TheVariants.{Single, Two, Marked, Lent}
-use Rattle.pm_model.specs.Cells.{cell, has_two, newest, oldest}
+use Rattle.pm_model.specs.Cells.{cell, is_single, has_two, newest, oldest}
 use Rattle.pm_model.specs.Bytes.{word_at-same, word_at-append_left, word_at-append_word}
 use Rattle.pm_model.specs.Words.{Words, word_at}
 use Rattle.pm_lines.specs.declared.choices.Choice.TheVariants.{Oldest, Newest, Even, Odd}
+use Rattle.pm_lines.specs.Pairs.{AreSingle}
 use Rattle.pm_lines.specs.Choices.{chosen, by_parity, twos_before, draws_of, state_after, is_odd_draw}
 
 -- a word that is written among bytes, and the others
@@ -54,15 +55,15 @@ word_at-flat (r ∷ rs) f each small (suc k) below =
     rw at at (word_at-append_right r (flat_map (λ x. x) rs) 1 k size)
     ∙ word_at-flat rs (λ j. f (suc j)) (λ j h. each (suc j) (omega arith)) (λ j. small (suc j)) k (omega arith)
 
--- one line more
-pub words-more_line : (f : Words) (bytes line : List ℕ) (n : ℕ) → length bytes ≡ 64 * n → ((k : ℕ) → k < 8 → word_at line k ≡ f (8 * n + k))
-    → ((i : ℕ) → i < 8 * n → word_at bytes i ≡ f i) → (i : ℕ) → i < 8 * (n + 1) → word_at (bytes ++ line) i ≡ f i
-words-more_line f bytes line n size last before i below = ⊎_elim
-    (λ (h : i < 8 * n). word_at-append_left bytes line i (omega arith) ∙ before i h)
-    (λ (h : 8 * n ≤ i).
-    let at : 8 * n + (i - 8 * n) ≡ i = omega arith in
-    rw at at (word_at-append_right bytes line (8 * n) (i - 8 * n) (omega arith) ∙ last (i - 8 * n) (omega arith)))
-    (cases_lt i (8 * n))
+-- c words more
+pub words-more : (f : Words) (bytes more : List ℕ) (n c : ℕ) → length bytes ≡ 8 * n → ((k : ℕ) → k < c → word_at more k ≡ f (n + k))
+    → ((i : ℕ) → i < n → word_at bytes i ≡ f i) → (i : ℕ) → i < n + c → word_at (bytes ++ more) i ≡ f i
+words-more f bytes more n c size last before i below = ⊎_elim
+    (λ (h : i < n). word_at-append_left bytes more i (omega arith) ∙ before i h)
+    (λ (h : n ≤ i).
+    let at : n + (i - n) ≡ i = omega arith in
+    rw at at (word_at-append_right bytes more n (i - n) size ∙ last (i - n) (omega arith)))
+    (cases_lt i n)
 
 -- the value of a single word is both candidates
 pub either-single : (b : Bool) (c : Cell) (w : ℕ) → c ≡ Single w → w ≡ cond b (newest c) (oldest c)
@@ -99,16 +100,8 @@ pub parity-odd : (d : List Cell) (i : ℕ) → by_parity false true d i ≡ chos
 parity-odd d i = ap (λ b. cond b (newest (cell d i)) (oldest (cell d i))) (odd-or_even i (i % 2 == 0) refl)
 
 -- The draws, word by word.
-pub twos-more : (d : List Cell) (n : ℕ) (c : Cell) → n < length d → twos_before d (n + 1) ≡ twos_before d n + draws_of (get_or d n c)
+twos-more : (d : List Cell) (n : ℕ) (c : Cell) → n < length d → twos_before d (n + 1) ≡ twos_before d n + draws_of (get_or d n c)
 twos-more d n c below = sum_by_more (λ (x : Cell). cond (has_two x) 1 0) d n c below
-
-pub same-either : (c : Cell) (b : Bool) → has_two c ≡ false → newest c ≡ cond b (newest c) (oldest c)
-same-either (Single a) true one = refl
-same-either (Single a) false one = refl
-same-either (Two x y) b one = cc
-same-either (Marked x y) b one = cc
-same-either Lent true one = refl
-same-either Lent false one = refl
 
 pub draw-odd : (seed k : ℕ) → is_odd_draw seed k ≡ ((mix_u64 (state_after seed k)).0 % 2 == 1)
 unfolding is_odd_draw
@@ -122,6 +115,26 @@ pub after-more : (seed k : ℕ) → state_after seed (k + 1) ≡ (mix_u64 (state
 unfolding state_after
 after-more seed k = rw add-one refl
 
--- a cell with two candidates takes a draw
-pub draws_of-two : (c : Cell) → has_two c ≡ true → draws_of c ≡ 1
-draws_of-two c two = ap (λ b. cond b 1 0) two
+-- words with one candidate take no draw
+draws_of-single : (c : Cell) → is_single c ≡ true → draws_of c ≡ 0
+draws_of-single (Single a) single = refl
+draws_of-single (Two x y) single = cc
+draws_of-single (Marked x y) single = cc
+draws_of-single Lent single = cc
+
+twos-singles : (d : List Cell) (from n : ℕ) → from + n ≤ length d → AreSingle d from (from + n) → twos_before d (from + n) ≡ twos_before d from
+twos-singles d from zero within singles = ap (twos_before d) (add-zero from)
+twos-singles d from (suc n) within singles =
+    let at : from + suc n ≡ from + n + 1 = omega arith in
+    let last : draws_of (cell d (from + n)) ≡ 0 = draws_of-single (cell d (from + n)) (singles (from + n) (omega arith) (omega arith)) in
+    ap (twos_before d) at ∙ twos-more d (from + n) (Single 0) (omega arith)
+    ∙ omega (arith, last, twos-singles d from n (omega arith) (λ i after before. singles i after (omega arith)))
+
+pub twos-same : (d : List Cell) (from n : ℕ) → from ≤ n → n ≤ length d → AreSingle d from n → twos_before d n ≡ twos_before d from
+twos-same d from n after within singles =
+    let at : from + (n - from) ≡ n = omega arith in
+    rw at at (twos-singles d from (n - from) (omega arith) (λ i h before. singles i h (omega arith)))
+
+-- a word with two candidates takes one
+pub twos-next : (d : List Cell) (n : ℕ) → n < length d → has_two (cell d n) ≡ true → twos_before d (n + 1) ≡ twos_before d n + 1
+twos-next d n below two = twos-more d n (Single 0) below ∙ ap (λ (b : Bool). twos_before d n + cond b 1 0) two

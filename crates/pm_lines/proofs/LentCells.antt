@@ -80,7 +80,7 @@ module _ (lent : List Bool) (d v : List Cell) (lines : HasLines lent d) (view : 
   -- The words change, of none that is lent.
   module _ (new : List Cell) (size : length new ≡ length d) (home : AllHome new) (same : (i : ℕ) → is_out lent i ≡ true → cell new i ≡ cell d i) where
     pub still_lines : HasLines lent new
-    still_lines = record { size = size ∙ lines.size; single = λ i out. rw (same i out) (lines.single i out); home = home }
+    still_lines = record { size = size ∙ lines.size; blocks = rw size lines.blocks; single = λ i out. rw (same i out) (lines.single i out); home = home }
 
     pub still_size : length (with_lent lent new) ≡ length v
     still_size = length-with_lent lent new ∙ size ∙ sym length_is
@@ -96,6 +96,7 @@ module _ (lent : List Bool) (d v : List Cell) (lines : HasLines lent d) (view : 
     pub out_lines : HasLines new d
     out_lines = record {
       size = rw notes.size lines.size;
+      blocks = lines.blocks;
       single = λ i out. ⊎_elim
           (λ (before : i / 8 < first). lines.single i (rw (notes.below (i / 8) before) at out))
           (λ (after : first ≤ i / 8). ⊎_elim
@@ -194,6 +195,7 @@ module _ (lent : List Bool) (d v : List Cell) (lines : HasLines lent d) (view : 
     pub back_lines : HasLines new after
     back_lines = record {
       size = rw (puts.size, notes.size) lines.size;
+      blocks = rw puts.size lines.blocks;
       single = λ i out. ⊎_elim
           (λ (before : i / 8 < first). rw (puts.below i (omega arith)) (lines.single i (rw (notes.below (i / 8) before) at out)))
           (λ (later : first ≤ i / 8). ⊎_elim
@@ -226,7 +228,7 @@ module _ (lent : List Bool) (d v : List Cell) (lines : HasLines lent d) (view : 
     back_above i h = cell-with_lent new after i back_lines.size ∙ rw (notes.above (i / 8) h, puts.above i (omega arith)) (sym (cell_is i))
 
 -- A device that is made of words with one candidate each, of which nothing is lent.
-module _ (words : List Cell) (count : ℕ) (f : Words) (size : length words ≡ 8 * count) (cells : (i : ℕ) → cell words i ≡ Single (f i)) where
+module _ (words : List Cell) (count : ℕ) (f : Words) (size : length words ≡ 8 * count) (blocks : length words % 512 ≡ 0) (cells : (i : ℕ) → cell words i ≡ Single (f i)) where
   not_out : (i : ℕ) → is_out (replicate count false) i ≡ false
   not_out i = ⊎_elim
       (λ (within : i / 8 < count). get_or-replicate count (i / 8) false false within)
@@ -236,6 +238,7 @@ module _ (words : List Cell) (count : ℕ) (f : Words) (size : length words ≡ 
   pub made_lines : HasLines (replicate count false) words
   made_lines = record {
     size = rw (length-replicate count false) size;
+    blocks = blocks;
     single = λ i out. let home : is_out (replicate count false) i ≡ false = not_out i in absurd (let f : ⊥ = cc in f);
     home = λ i. rw (cells i) refl;
   }

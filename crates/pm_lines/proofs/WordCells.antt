@@ -6,16 +6,16 @@ use Rattle.std.proofs.lemmas.Grind.{common_steps}
 use Rattle.std.proofs.lemmas.List.{get_or_past}
 use Rattle.std.proofs.lemmas.List.FromFn.{get_or-map-range_with_len, length-map-range_with_len}
 use Rattle.pm_model.specs.declared.Cell.TheVariants.{Single, Two, Marked}
-use Rattle.pm_model.specs.Cells.{cell, is_single, oldest, newest, flushed, fenced}
+use Rattle.pm_model.specs.Cells.{cell, is_single, is_lent, has_two, oldest, newest, flushed, fenced}
 use Rattle.pm_lines.specs.declared.pairs.Pair.{Pair}
-use Rattle.pm_lines.specs.Pairs.{pair_at, place_of, has_pair, pair_cell, word_cell, cells_of, IsLinked, IsPlace, HasNoPair, AddsPair, SwapsPairs, DropsPair}
+use Rattle.pm_lines.specs.Pairs.{greatest, pair_at, place_of, has_pair, pair_cell, word_cell, cells_of, IsLinked, IsPlace, HasNoPair, AddsPair, SwapsPairs, DropsPair}
 
 -- a word with a pair at place k
 pub word_cell-pair : (values : List ℕ) (pairs : List Pair) (marked i k : ℕ) → IsLinked values pairs → IsPlace pairs i k → word_cell values pairs marked i ≡ pair_cell marked k (pair_at pairs k)
 unfolding word_cell
 word_cell-pair values pairs marked i k linked place =
-    let leads : get_or values (pair_at pairs k).word 0 + k ≡ 18446744073709551615 = linked.leads k place.below in
-    let at : place_of values i ≡ k = let l : get_or values i 0 + k ≡ 18446744073709551615 = rw place.names at leads in omega arith in
+    let leads : get_or values (pair_at pairs k).word 0 + k ≡ greatest = linked.leads k place.below in
+    let at : place_of values i ≡ k = let l : get_or values i 0 + k ≡ greatest = rw place.names at leads in omega arith in
     let has : has_pair values pairs i ≡ true = grind (arith, common_steps, place.below, place.names) in
     rw (has, at) refl
 
@@ -29,8 +29,8 @@ word_cell-none values pairs marked i none =
 -- a pair of the word can only be at the place that its number leads to
 pub place-leads : (values : List ℕ) (pairs : List Pair) (i k : ℕ) → IsLinked values pairs → IsPlace pairs i k → place_of values i ≡ k
 place-leads values pairs i k linked place =
-    let leads : get_or values (pair_at pairs k).word 0 + k ≡ 18446744073709551615 = linked.leads k place.below in
-    let at : get_or values i 0 + k ≡ 18446744073709551615 = rw place.names at leads in
+    let leads : get_or values (pair_at pairs k).word 0 + k ≡ greatest = linked.leads k place.below in
+    let at : get_or values i 0 + k ≡ greatest = rw place.names at leads in
     omega arith
 
 -- two places are the same where their pairs are of the same word
@@ -140,6 +140,18 @@ pair_cell-oldest marked k p = ⊎_elim
 
 pub pair_cell-newest : (marked k : ℕ) (p : Pair) → newest (pair_cell marked k p) ≡ p.new
 pair_cell-newest marked k p = ⊎_elim
+    (λ (below : k < marked). rw (pair_cell-marked marked k p below) refl)
+    (λ (above : marked ≤ k). rw (pair_cell-unmarked marked k p above) refl)
+    (cases_lt k marked)
+
+pub pair_cell-home : (marked k : ℕ) (p : Pair) → is_lent (pair_cell marked k p) ≡ false
+pair_cell-home marked k p = ⊎_elim
+    (λ (below : k < marked). rw (pair_cell-marked marked k p below) refl)
+    (λ (above : marked ≤ k). rw (pair_cell-unmarked marked k p above) refl)
+    (cases_lt k marked)
+
+pub pair_cell-has_two : (marked k : ℕ) (p : Pair) → has_two (pair_cell marked k p) ≡ true
+pair_cell-has_two marked k p = ⊎_elim
     (λ (below : k < marked). rw (pair_cell-marked marked k p below) refl)
     (λ (above : marked ≤ k). rw (pair_cell-unmarked marked k p above) refl)
     (cases_lt k marked)

@@ -1,5 +1,5 @@
 -- A device of which some lines are lent: its words as they would be with none lent, and which lines are.
-use Rattle.std.specs.Prelude.{◌≡◌, ◌+◌, ◌*◌, ◌/◌, ◌<◌, ◌≤◌, ℕ, Bool, true, false, List, length, map, slice_index_or, if◌then◌else◌}
+use Rattle.std.specs.Prelude.{◌≡◌, ◌+◌, ◌*◌, ◌/◌, ◌%◌, ◌<◌, ◌≤◌, ℕ, Bool, true, false, List, length, map, slice_index_or, if◌then◌else◌}
 use Rattle.std.specs.List.{range_with_len}
 use Rattle.pm_model.specs.declared.Cell.{Cell}
 use Rattle.pm_model.specs.declared.Cell.TheVariants.{Lent}
@@ -12,9 +12,10 @@ is_out lent i = slice_index_or lent (i / 8) false
 unfoldable pub with_lent : List Bool → List Cell → List Cell
 with_lent lent d = map (λ i. if is_out lent i then Lent else cell d i) (range_with_len 0 (length d))
 
--- What always holds of a device: it has whole lines, and what is lent went out with one candidate.
+-- What always holds of a device: it has whole blocks, and what is lent went out with one candidate.
 pub record HasLines (lent : List Bool) (d : List Cell) : Type 0 where
   pub size : length d ≡ 8 * length lent
+  pub blocks : length d % 512 ≡ 0
   pub single : (i : ℕ) → is_out lent i ≡ true → is_single (cell d i) ≡ true
   pub home : AllHome d
 

@@ -1,4 +1,5 @@
-// What a read gives of a cell, and what the steps of a memory do to the cells of a line that is out.
+// What a read gives of a cell, and what the steps of a memory do to the cells of a line that is
+// out.
 ghost use Rattle.std.specs.Prelude.{◌≡◌, ◌≢◌, ◌/◌, ◌<◌, ℕ, true, length, slice_index, slice_set, if◌then◌else◌};
 ghost use Rattle.pm_model.specs.Cells.{cell, is_single, is_marked, newest, oldest, stored, flushed, fenced, unmarked};
 

@@ -1,10 +1,10 @@
 // The image that a choice takes from words.
-ghost use Rattle.std.specs.Prelude.{◌≡◌, ◌≢◌, ◌+◌, ◌*◌, ◌%◌, ◌^◌, ◌<◌, ◌≤◌, ◌==◌, ℕ, true, false, length, IfOk, if◌then◌else◌};
+ghost use Rattle.std.specs.Prelude.{◌≡◌, ◌≢◌, ◌+◌, ◌*◌, ◌%◌, ◌^◌, ◌<◌, ◌≤◌, ◌==◌, ℕ, true, length, IfOk, if◌then◌else◌};
 ghost use Rattle.rand_xoshiro.specs.SplitMix64.{mix_u64};
-ghost use Rattle.pm_model.specs.Cells.{cell, is_single, has_two, oldest, newest};
+ghost use Rattle.pm_model.specs.Cells.{cell, is_single, oldest, newest};
 ghost use Rattle.pm_model.specs.Images.{IsImageOf};
 ghost use Rattle.pm_model.specs.Words.{word_at};
-ghost use Rattle.pm_lines.specs.Choices.{chosen, by_parity, by_draws, state_after, is_odd_draw, draws_of};
+ghost use Rattle.pm_lines.specs.Choices.{chosen, by_parity, by_draws, state_after, is_odd_draw};
 
 use crate::cells::candidate;
 use crate::choices::Choice;
@@ -49,7 +49,7 @@ fn put_pairs(bytes: &mut [u8], words: &Words, even: bool, odd: bool)
 
 // The bytes of the newest or the oldest candidate of each word, by the parity of its number.
 fn parity_bytes(alloc: Global, words: &Words, even: bool, odd: bool) -> Result<Vec<u8>, AllocError>
-    requires { length words.now % 8 ≡ 0 }
+    requires { length words.now % 32 ≡ 0 }
     ensures size { IfOk result (λ bytes. length bytes.items ≡ 8 * length words.now) }
     ensures words { IfOk result (λ bytes. (i : ℕ)
         → word_at bytes.items i ≡ by_parity even odd words.now i) }
@@ -57,13 +57,6 @@ fn parity_bytes(alloc: Global, words: &Words, even: bool, odd: bool) -> Result<V
     let mut bytes = bytes_of_words(alloc, words.numbers())?;
     put_pairs(&mut bytes, words, even, odd);
     Ok(bytes)
-}
-
-// Whether the cell has two candidates.
-fn has_two(cell: Cell) -> bool
-    ensures { result ≡ has_two cell }
-{
-    matches!(cell, Cell::Two(_, _) | Cell::Marked(_, _))
 }
 
 // Whether the next draw is odd.
@@ -74,19 +67,16 @@ fn is_odd(draws: &mut SplitMix64) -> bool
     draws.next_word() % 2 == 1
 }
 
-// Writes the candidate of a word by the next draw, if it has two.
+// Writes the candidate of a word by the next draw.
 fn put_drawn(bytes: &mut [u8], word: usize, cell: Cell, draws: &mut SplitMix64)
-    requires room { 8 * word + 8 ≤ length bytes.old }
-    requires single { has_two cell ≡ false → word_at bytes.old word ≡ newest cell }
+    requires { 8 * word + 8 ≤ length bytes.old }
     ensures word { (k : ℕ) (seed : ℕ) → draws.old ≡ state_after seed k
         → word_at bytes.new word ≡ (if is_odd_draw seed k then newest cell else oldest cell) }
     ensures others { (i : ℕ) → i ≢ word → word_at bytes.new i ≡ word_at bytes.old i }
     ensures after { (k : ℕ) (seed : ℕ) → draws.old ≡ state_after seed k
-        → draws.new ≡ state_after seed (k + draws_of cell) }
+        → draws.new ≡ state_after seed (k + 1) }
 {
-    if has_two(cell) {
-        put_word(bytes, word, candidate(cell, is_odd(draws)));
-    }
+    put_word(bytes, word, candidate(cell, is_odd(draws)));
 }
 
 // Writes one candidate of each word that has two, by the draws from a seed.
@@ -97,14 +87,16 @@ fn put_draws(bytes: &mut [u8], words: &Words, seed: u64)
     ensures { (i : ℕ) → word_at bytes.new i ≡ by_draws seed words.now i }
 {
     let mut draws = SplitMix64::seed_from_u64(seed);
-    for word in 0..words.len() {
+    let mut from = 0;
+    while let Some(word) = words.next_two(from) {
         put_drawn(bytes, word, words.cell_of(word), &mut draws);
+        from = word + 1;
     }
 }
 
 // The bytes of one candidate of each word, by the draws from a seed.
 fn seeded_bytes(alloc: Global, words: &Words, seed: u64) -> Result<Vec<u8>, AllocError>
-    requires { length words.now % 8 ≡ 0 }
+    requires { length words.now % 32 ≡ 0 }
     ensures size { IfOk result (λ bytes. length bytes.items ≡ 8 * length words.now) }
     ensures words { IfOk result (λ bytes. (i : ℕ)
         → word_at bytes.items i ≡ by_draws seed words.now i) }
@@ -120,9 +112,10 @@ pub(crate) fn chosen_bytes(
     words: &Words,
     choice: Choice,
 ) -> Result<Vec<u8>, AllocError>
-    requires { length words.now % 8 ≡ 0 }
+    requires { length words.now % 32 ≡ 0 }
     ensures image { IfOk result (λ bytes. IsImageOf words.now bytes.items) }
-    ensures words { IfOk result (λ bytes. (i : ℕ) → word_at bytes.items i ≡ chosen choice words.now i) }
+    ensures words { IfOk result (λ bytes. (i : ℕ)
+        → word_at bytes.items i ≡ chosen choice words.now i) }
 {
     match choice {
         Choice::Oldest => parity_bytes(alloc, words, false, false),

@@ -61,29 +61,29 @@ pub(crate) fn bytes_of_line(words: &[u64; 8]) -> [u8; 64]
     bytes
 }
 
-// The bytes of each of eight words from the first on.
-fn eight_words(words: &[u64], first: usize) -> [[u8; 8]; 8]
-    requires { first + 8 ≤ length words.now }
-    ensures { (k : ℕ) → k < 8
+// The bytes of each of 32 words from the first on.
+fn bytes_of_32(words: &[u64], first: usize) -> [[u8; 8]; 32]
+    requires { first + 32 ≤ length words.now }
+    ensures { (k : ℕ) → k < 32
         → slice_index_or result k [] ≡ to_le_bytes w64 (slice_index words.now (first + k)) }
 {
-    let mut eight = [[0; 8]; 8];
-    for k in 0..8 {
-        eight[k] = words[first + k].to_le_bytes();
+    let mut each = [[0; 8]; 32];
+    for k in 0..32 {
+        each[k] = words[first + k].to_le_bytes();
     }
-    eight
+    each
 }
 
-// The bytes of words, line by line.
+// The bytes of words, 32 words at a time.
 pub(crate) fn bytes_of_words(alloc: Global, words: &[u64]) -> Result<Vec<u8>, AllocError>
-    requires { length words.now % 8 ≡ 0 }
+    requires { length words.now % 32 ≡ 0 }
     ensures size { IfOk result (λ bytes. length bytes.items ≡ 8 * length words.now) }
     ensures words { IfOk result (λ bytes. (i : ℕ)
         → word_at bytes.items i ≡ slice_index words.now i) }
 {
     let mut bytes = Vec::with_capacity(alloc, 8 * words.len())?;
-    for line in 0..words.len() / 8 {
-        bytes.extend_from_slice(eight_words(words, 8 * line).as_flattened())?;
+    for run in 0..words.len() / 32 {
+        bytes.extend_from_slice(bytes_of_32(words, 32 * run).as_flattened())?;
     }
     Ok(bytes)
 }

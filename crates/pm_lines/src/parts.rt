@@ -65,8 +65,9 @@ pub(crate) fn put_words(words: &mut Words, first: usize, part: &Words)
 {
     // It bounds the words' numbers.
     let _ = words.len();
-    for k in 0..part.len() {
-        words.put(first + k, part.cell_of(k));
+    words.replace_from(first, part.numbers());
+    for pair in part.pairs() {
+        words.put(first + pair.word, Cell::Two(pair.old, pair.new));
     }
 }
 

@@ -1,11 +1,11 @@
-// The words of a memory of which none is lent: a device's, a loan's. A store, a flush, a fence and a
-// look-up cost by the words that they touch or that are marked, never by the size.
-ghost use Rattle.std.specs.Prelude.{◌≡◌, ◌≢◌, ◌+◌, ◌-◌, ◌*◌, ◌/◌, ◌%◌, ◌<◌, ◌≤◌, ℕ, true, false, length, slice_index, vec_capacity, IfOk, OnErr};
+// The words of a memory of which none is lent: a device's, a loan's. A store, a flush, a fence and
+// a look-up cost by the words that they touch or that are marked, never by the size.
+ghost use Rattle.std.specs.Prelude.{◌≡◌, ◌≢◌, ◌+◌, ◌-◌, ◌*◌, ◌/◌, ◌%◌, ◌<◌, ◌≤◌, ℕ, true, false, length, slice_index, vec_capacity, IfOk, MatchOption};
 ghost use Rattle.pm_model.specs.Cells.{cell, is_single, is_lent, stored, unmarked};
 ghost use Rattle.pm_model.specs.Cells.{flushed as flushed_cell, fenced as fenced_cell};
-ghost use Rattle.pm_lines.specs.Pairs.{word_cell, IsLinked, ArePairsOf};
+ghost use Rattle.pm_lines.specs.Pairs.{word_cell, IsLinked, ArePairsOf, AreSingle, IsNextTwo};
 
-use crate::pairs::{Pair, add_pair, drop_pair, place_of, swap_pairs};
+use crate::pairs::{Pair, add_pair, copy_numbers, drop_pair, next_pair, place_of, swap_pairs};
 use pm_model::Cell;
 use std::alloc::{AllocError, Global};
 use std::marker::Model;
@@ -28,7 +28,8 @@ impl Model for Words {
 
     ghost view = { λ words. cells_of words.values.items words.pairs.items words.marked };
 
-    ghost invariant = { λ words. IsHeld words.values.items words.pairs.items words.marked (vec_capacity words.pairs) };
+    ghost invariant = { λ words. IsHeld words.values.items words.pairs.items words.marked
+        (vec_capacity words.pairs) };
 }
 
 // Drops what is older than a marked candidate. The first `marked` pairs are marked.
@@ -167,6 +168,20 @@ impl Words {
         self.values[word] = value;
     }
 
+    // Gives words with one candidate each others, from the first on.
+    pub(crate) fn replace_from(&mut self, first: usize, part: &[u64])
+        requires in_range { first + length part.now ≤ length self.old }
+        requires single { (i : ℕ) → first ≤ i → i < first + length part.now
+            → is_single (cell self.old i) ≡ true }
+        ensures size { length self.new ≡ length self.old }
+        ensures inside { (k : ℕ) → k < length part.now
+            → cell self.new (first + k) ≡ Cell.Single (slice_index part.now k) }
+        ensures below { (i : ℕ) → i < first → cell self.new i ≡ cell self.old i }
+        ensures above { (i : ℕ) → first + length part.now ≤ i → cell self.new i ≡ cell self.old i }
+    {
+        copy_numbers(&mut self.values, first, part);
+    }
+
     // A number for each word. Of a word with one candidate it is the candidate.
     pub(crate) fn numbers(&self) -> &[u64]
         ensures size { length result.now ≡ length self.now }
@@ -181,6 +196,14 @@ impl Words {
         ensures { ArePairsOf self.now result.now }
     {
         &self.pairs
+    }
+
+    // The next word with two candidates, from a word on.
+    pub(crate) fn next_two(&self, from: usize) -> Option<usize>
+        ensures { MatchOption result (AreSingle self.now from (length self.now))
+            (IsNextTwo self.now from) }
+    {
+        next_pair(&self.values, &self.pairs, from)
     }
 
     // A copy of so many words, each of one candidate.

@@ -5,7 +5,7 @@ use Rattle.posix_spec.specs.posix_types.declared.item.Item.{Item}
 use Rattle.posix_spec.specs.posix_types.declared.tree.TreeEntry.{TreeEntry}
 use Rattle.posix_spec.specs.Afforded.{Afforded}
 use Rattle.posix_spec.specs.Ending.{beginning, IsRunOf, IsWhole, Task}
-use Rattle.posix_spec.specs.Run.{Begun, IsLegal, run}
+use Rattle.posix_spec.specs.Run.{Unfinished, IsLegal, run}
 use Rattle.posix_spec.specs.Scripted.{IsComplete, Scripted}
 use Rattle.posix_spec.specs.State.{State}
 use Rattle.posix_spec.specs.Tree.{tree}
@@ -13,7 +13,7 @@ use Rattle.posix_laws.specs.UnfinishedLaws.{AreUnfinished-none}
 
 -- which trees a power loss may leave: of the first state, the history and the unfinished calls
 abbrev pub Relation : Type 1
-Relation = State → List Item → List Begun → List TreeEntry → Type 0
+Relation = State → List Item → List Unfinished → List TreeEntry → Type 0
 
 -- a run that lost its power before the first call, within the steps that every call affords
 pub IsRunOf-lost_at_once : (Permits : Relation) (task : Task) (steps : ℕ) → Permits (beginning task) [] [] (tree (beginning task)) → steps ≤ 512
@@ -47,6 +47,6 @@ IsRunOf-whole Permits task stop history permits legal scripted complete = record
   whole = record { complete = complete; tree = refl }
 
 -- no run ends without its last call, unless the power went
-pub IsRunOf-no_stop : (Permits : Relation) (task : Task) (history : List Item) (unfinished : List Begun) (left : List TreeEntry)
+pub IsRunOf-no_stop : (Permits : Relation) (task : Task) (history : List Item) (unfinished : List Unfinished) (left : List TreeEntry)
     → IsRunOf Permits task None history unfinished left → IsComplete task.scripts history × (left ≡ tree (run (beginning task) history))
 IsRunOf-no_stop Permits task history unfinished left is = ((is.whole refl).complete, (is.whole refl).tree)

@@ -7,7 +7,7 @@ use Rattle.posix_spec.specs.posix_types.declared.call.Who.{Who}
 use Rattle.posix_spec.specs.posix_types.declared.call.Mode.{Mode}
 use Rattle.posix_spec.specs.posix_types.declared.handle.Handle.{Handle}
 use Rattle.posix_spec.specs.posix_types.declared.item.Outcome.{Outcome}
-use Rattle.posix_spec.specs.posix_tables.Bytes.{longest_file, longest_write}
+use Rattle.posix_spec.specs.posix_tables.block_counts.declared.TheConstants.{LONGEST_FILE, LONGEST_WRITE}
 use Rattle.posix_spec.specs.posix_tables.Open.{may_write}
 use Rattle.posix_spec.specs.posix_tables.Outcomes.{first}
 use Rattle.posix_spec.specs.posix_tables.Room.{write_need}
@@ -46,9 +46,9 @@ stepped-keeps P s (Some outcome) last now acted = now
 -- mode, where the write begins, and how many blocks are left.
 pub record NoRow (may : Bool) (size : ℕ) (mode : Mode) (start : ℕ) (count : ℕ) (left : ℕ) : Type 0 where
   pub may_write : may ≡ true
-  pub short : count ≤ longest_write
+  pub short : count ≤ LONGEST_WRITE
   pub some : count ≢ 0
-  pub end : start + count ≤ longest_file
+  pub end : start + count ≤ LONGEST_FILE
   pub room : write_need mode size start (start + count) ≤ left
 
 -- the same of a state

@@ -11,7 +11,7 @@ use Rattle.posix_spec.specs.posix_types.declared.call.Who.{Who}
 use Rattle.posix_spec.specs.posix_types.declared.item.Item.{Item}
 use Rattle.posix_spec.specs.posix_types.Scripts.{Scripts}
 use Rattle.posix_spec.specs.posix_tables.Open.{same_who}
-use Rattle.posix_spec.specs.Run.{Begun, begun}
+use Rattle.posix_spec.specs.Run.{Unfinished, begun}
 use Rattle.posix_spec.specs.Scripted.{IsNext, IsSetUp, items_of, next_call, script_of}
 use Rattle.posix_spec.specs.Unfinished.{AreUnfinished, HaveTwoCallers, IsNextCall}
 
@@ -23,7 +23,7 @@ AreUnfinished-none scripts history = record {
 }
 
 -- one more began: the next call of a caller that has none
-pub AreUnfinished-begun : (scripts : Scripts) (history : List Item) (unfinished : List Begun) (c : Begun) → AreUnfinished scripts history unfinished → IsNextCall scripts history c
+pub AreUnfinished-begun : (scripts : Scripts) (history : List Item) (unfinished : List Unfinished) (c : Unfinished) → AreUnfinished scripts history unfinished → IsNextCall scripts history c
     → All (λ other. HaveTwoCallers other c) unfinished → AreUnfinished scripts history (unfinished ++ c ∷ [])
 AreUnfinished-begun scripts history unfinished c are next idle = record {
   next = All-append (IsNextCall scripts history) unfinished (c ∷ []) are.next (All-cons (IsNextCall scripts history) c [] next (All-nil (IsNextCall scripts history)));
@@ -88,7 +88,7 @@ all_but {X} P Q R x each (y ∷ ys) (suc n) within is all pairs =
     (λ i j d before below. pairs (suc i) (suc j) d (omega (arith, before)) (omega (arith, below))))
 
 -- One of them returned: the others are still the unfinished calls, of the history with its item.
-pub AreUnfinished-finished : (scripts : Scripts) (history : List Item) (unfinished : List Begun) (n : ℕ) (item : Item) → n < length unfinished
+pub AreUnfinished-finished : (scripts : Scripts) (history : List Item) (unfinished : List Unfinished) (n : ℕ) (item : Item) → n < length unfinished
     → slice_index_or unfinished n (begun item) ≡ begun item → AreUnfinished scripts history unfinished → AreUnfinished scripts (history ++ item ∷ []) (remove unfinished n)
 AreUnfinished-finished scripts history unfinished n item within is are =
     let own : IsNextCall scripts history (begun item) = subst (IsNextCall scripts history) is (are.next n (begun item) within) in

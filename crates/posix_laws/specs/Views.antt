@@ -7,7 +7,7 @@ use Rattle.posix_spec.specs.posix_tables.Nodes.{node_at}
 use Rattle.posix_spec.specs.posix_tables.Open.{opened}
 use Rattle.posix_spec.specs.posix_tables.Room.{write_need}
 use Rattle.posix_spec.specs.FileRows.{content, file_number, write_start}
-use Rattle.posix_spec.specs.Run.{Begun}
+use Rattle.posix_spec.specs.Run.{Unfinished}
 use Rattle.posix_spec.specs.State.{room, State}
 
 -- what a write needs, in blocks; other calls need none
@@ -17,8 +17,8 @@ need_of s who (Call.Pwrite h o x) = write_need s.mode (length (content s who h))
 need_of s who call = 0
 
 -- all of these together find room
-abbrev pub AreAfforded : State → List Begun → Type 0
-AreAfforded s calls = sum_by (λ (c : Begun). need_of s c.0 c.1) calls ≤ room s
+abbrev pub AreAfforded : State → List Unfinished → Type 0
+AreAfforded s calls = sum_by (λ (c : Unfinished). need_of s c.0 c.1) calls ≤ room s
 
 -- What a write through a handle looks at, besides the room, stays: what the handle stands for, its file, the mode.
 pub record SameView (s new : State) (who : Who) (h : Handle) : Type 0 where

@@ -16,7 +16,7 @@ use Rattle.world_image_laws.specs.posix_types.declared.item.Item.{Item}
 use Rattle.world_image_laws.specs.posix_types.declared.reply.Reply.{Reply}
 use Rattle.world_image_laws.specs.posix_tables.declared.nodes.Node.{Node}
 use Rattle.world_image_laws.specs.posix_tables.Open.{Tables}
-use Rattle.world_image_laws.specs.posix_spec.Run.{Begun}
+use Rattle.world_image_laws.specs.posix_spec.Run.{Unfinished}
 use Rattle.world_image_laws.specs.posix_spec.State.{State}
 use Rattle.posix_mode_laws.specs.Sides.{Sides}
 
@@ -168,7 +168,7 @@ abbrev pub world_e : Sides
 world_e = record { committed = committed_d; committed_numbers = only_5 1; batch = batch_e; numbers = only_5 1; staged = []; lengths = only_5 2 }
 
 -- ---- A write of the bytes 7 and 8 at place 1, in place, lost its power: the first is there, the second is not.
-abbrev pub lost_call : Begun
+abbrev pub lost_call : Unfinished
 lost_call = (Who.Thread 0, Call.Pwrite handle_p 1 (7 ∷ 8 ∷ []))
 
 abbrev pub lost_word : ℕ

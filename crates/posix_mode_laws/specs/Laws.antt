@@ -10,7 +10,7 @@ use Rattle.world_image_laws.specs.image_model.Volume.{Volume}
 use Rattle.world_image_laws.specs.posix_types.declared.call.Mode.{Mode}
 use Rattle.world_image_laws.specs.posix_types.declared.item.Item.{Item}
 use Rattle.world_image_laws.specs.posix_types.declared.tree.TreeEntry.{TreeEntry}
-use Rattle.world_image_laws.specs.posix_spec.Run.{Begun}
+use Rattle.world_image_laws.specs.posix_spec.Run.{Unfinished}
 use Rattle.world_image_laws.specs.posix_spec.State.{State}
 use Rattle.world_image_laws.specs.crash_spec.Posix.{LastBeforeCut, Overwritten, Posix, StrongPosix}
 use Rattle.world_image_laws.specs.world_model.Shown.{IsTreeOfContent}
@@ -36,14 +36,14 @@ StagesNoFreed = (w : Sides) (f : Words) (s : State) → UsesNoFreed w → Stands
 -- Between two calls, where no entry of the log is live, the tree of the medium is one that the relation permits;
 abbrev pub PermitsTreeOfMedium : Type 0
 PermitsTreeOfMedium =
-    (w : Sides) (f : Words) (start : State) (kept later : List Item) (unfinished : List Begun) (left : List TreeEntry)
+    (w : Sides) (f : Words) (start : State) (kept later : List Item) (unfinished : List Unfinished) (left : List TreeEntry)
     → PosixWorld Overwritten w f start kept later → live_entries w.committed f ≡ []
     → IsTreeOfContent (found w.committed (live_entries w.committed f) f) left → Posix start (kept ++ later) unfinished left
 
 -- with the stronger rule for bytes, one that the stronger relation permits.
 abbrev pub PermitsTreeStrongly : Type 0
 PermitsTreeStrongly =
-    (w : Sides) (f : Words) (start : State) (kept later : List Item) (unfinished : List Begun) (left : List TreeEntry)
+    (w : Sides) (f : Words) (start : State) (kept later : List Item) (unfinished : List Unfinished) (left : List TreeEntry)
     → PosixWorld LastBeforeCut w f start kept later → live_entries w.committed f ≡ []
     → IsTreeOfContent (found w.committed (live_entries w.committed f) f) left → StrongPosix start (kept ++ later) unfinished left
 
@@ -51,13 +51,13 @@ PermitsTreeStrongly =
 -- is permitted.
 abbrev pub PosixRunsPromised : Type 0
 PosixRunsPromised =
-    (w : Sides) (d : List Cell) (start : State) (kept later : List Item) (unfinished : List Begun)
+    (w : Sides) (d : List Cell) (start : State) (kept later : List Item) (unfinished : List Unfinished)
     → PosixRuns Overwritten w d start kept later → KeepsPromise w.committed.geometry d start (kept ++ later) unfinished
 
 -- With the stronger rule for bytes, each tree of each image is one that the stronger relation permits.
 abbrev pub PosixRunsStrongly : Type 0
 PosixRunsStrongly =
-    (w : Sides) (d : List Cell) (start : State) (kept later : List Item) (unfinished : List Begun) (image : Words) (left : List TreeEntry)
+    (w : Sides) (d : List Cell) (start : State) (kept later : List Item) (unfinished : List Unfinished) (image : Words) (left : List TreeEntry)
     → PosixRuns LastBeforeCut w d start kept later → IsImage d image → IsTreeOfContent (content w.committed.geometry image) left
     → StrongPosix start (kept ++ later) unfinished left
 

@@ -22,7 +22,7 @@ use Rattle.world_image_laws.specs.image_model.Volume.{chain, extents, inode, Vol
 use Rattle.world_image_laws.specs.posix_types.declared.item.Item.{Item}
 use Rattle.world_image_laws.specs.posix_tables.declared.nodes.Node.{Node}
 use Rattle.world_image_laws.specs.posix_tables.Nodes.{bytes_of, node_at, published_of}
-use Rattle.world_image_laws.specs.posix_spec.Run.{Begun, begun, run}
+use Rattle.world_image_laws.specs.posix_spec.Run.{Unfinished, begun, run}
 use Rattle.world_image_laws.specs.posix_spec.State.{State}
 use Rattle.world_image_laws.specs.crash_spec.Posix.{ByteRule, IsLeft, LaterRule, syncs}
 use Rattle.world_image_laws.specs.crash_spec.Values.{is_shortened, value_put}
@@ -100,7 +100,7 @@ pub record IsPublished (node : Node) (i : ℕ) : Type 0 where
   pub there : i < length (bytes_of node)
 
 -- Along later calls a byte that was published is cut off, or its file is gone, or it is published still.
-abbrev pub StillPublished : State → List Begun → State → ℕ → ℕ → Type 0
+abbrev pub StillPublished : State → List Unfinished → State → ℕ → ℕ → Type 0
 StillPublished s later now n i = (is_shortened s later n i ≡ true) ⊎ ((node_at now.nodes n ≡ Node.Gone) ⊎ IsPublished (node_at now.nodes n) i)
 
 -- THE MEDIUM has the kept front of the history, each file cut to its published length, each byte as the rule says of the later
@@ -146,7 +146,7 @@ pub record PosixWorld (rule : LaterRule) (w : Sides) (f : Words) (start : State)
 -- its file alone, as far as files of this standing have them, so that the other copy of a block, which another standing has, may
 -- change too; and each byte of the file from `first` up to `last` is the old one, or the one that the call puts there. In sync
 -- mode too, an image may have such bytes. What the relations permit of it is not proved here.
-pub record LosesInPlace (v : Volume) (live : List Draft) (numbers : List ℕ) (f g : Words) (s : State) (c : Begun) (ino first last : ℕ) : Type 0 where
+pub record LosesInPlace (v : Volume) (live : List Draft) (numbers : List ℕ) (f g : Words) (s : State) (c : Unfinished) (ino first last : ℕ) : Type 0 where
   pub file : (inode v ino).kind ≡ File
   pub others : (i block b k : ℕ) → IsUsed v i → disk_of v live i block ≡ Some b → k < 4096
       → ((p : ℕ) → first ≤ p → p < last → disk_of v live ino (p / 4096) ≡ Some b → p % 4096 ≢ k)

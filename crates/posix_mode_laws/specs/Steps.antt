@@ -17,7 +17,7 @@ use Rattle.world_image_laws.specs.posix_types.declared.item.Item.{Item}
 use Rattle.world_image_laws.specs.posix_types.declared.tree.TreeEntry.{TreeEntry}
 use Rattle.world_image_laws.specs.posix_tables.declared.nodes.Node.{Node}
 use Rattle.world_image_laws.specs.posix_tables.Nodes.{node_at}
-use Rattle.world_image_laws.specs.posix_spec.Run.{Begun, begun, run}
+use Rattle.world_image_laws.specs.posix_spec.Run.{Unfinished, begun, run}
 use Rattle.world_image_laws.specs.posix_spec.State.{State}
 use Rattle.world_image_laws.specs.posix_spec.Tree.{tree}
 use Rattle.world_image_laws.specs.posix_laws.Paths.{stands_at}
@@ -49,7 +49,7 @@ left_weaker a b weaker s m is = record { entries = is.entries; count = is.count;
 -- ---- the promise
 
 -- the tree of the medium is permitted, whatever the rule
-pub permitted_left : (rule : LaterRule) (w : Sides) (f : Words) (start : State) (kept later : List Item) (unfinished : List Begun) (left : List TreeEntry) → (world : PosixWorld rule w f start kept later) → left ≡ tree world.medium.state
+pub permitted_left : (rule : LaterRule) (w : Sides) (f : Words) (start : State) (kept later : List Item) (unfinished : List Unfinished) (left : List TreeEntry) → (world : PosixWorld rule w f start kept later) → left ≡ tree world.medium.state
     → PosixBy rule start (kept ++ later) unfinished left
 permitted_left rule w f start kept later unfinished left world is =
     let m = world.medium in

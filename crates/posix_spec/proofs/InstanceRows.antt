@@ -19,7 +19,7 @@ use Rattle.posix_spec.specs.State.{alone, Instance, made, State, swept, unnamed,
 use Rattle.posix_spec.specs.Step.{close_done, open_done, opening, pwrite_done, step, step_of, unlink_done, write_done, written}
 use Rattle.posix_spec.specs.Tree.{default_shape, root_alone, start}
 use Rattle.std.specs.Prelude.{slice_index_or}
-use Rattle.posix_spec.specs.Run.{Begun}
+use Rattle.posix_spec.specs.Run.{Unfinished}
 use Rattle.posix_spec.specs.Unfinished.{AreUnfinished, HaveTwoCallers, IsNextCall}
 
 abbrev handle_a : Handle
@@ -101,18 +101,18 @@ worked_unfinished = record {
   before_the_set_up_is_done = λ are. let never : 0 ≡ 1 = (are.next 0 (Who.Setup, open_f) (lit< tt)).set_up in omega (arith, never);
   of_the_set_up = record { next = first_alone; one_each = λ i j d before within. absurd (omega (arith, before, within)) };
 } where
-  next : (k : ℕ) (d : Begun) → k < 2 → IsNextCall threads [] (slice_index_or ((Who.Thread 1, write_hi) ∷ (Who.Thread 0, open_f) ∷ []) k d)
+  next : (k : ℕ) (d : Unfinished) → k < 2 → IsNextCall threads [] (slice_index_or ((Who.Thread 1, write_hi) ∷ (Who.Thread 0, open_f) ∷ []) k d)
   next zero d within = record { call = refl; set_up = refl }
   next (suc zero) d within = record { call = refl; set_up = refl }
   next (suc (suc k)) d within = absurd (omega (arith, within))
 
-  one_each : (i j : ℕ) (d : Begun) → i < j → j < 2
+  one_each : (i j : ℕ) (d : Unfinished) → i < j → j < 2
       → HaveTwoCallers (slice_index_or ((Who.Thread 1, write_hi) ∷ (Who.Thread 0, open_f) ∷ []) i d) (slice_index_or ((Who.Thread 1, write_hi) ∷ (Who.Thread 0, open_f) ∷ []) j d)
   one_each zero (suc zero) d before within = refl
   one_each i zero d before within = absurd (omega (arith, before))
   one_each (suc i) (suc zero) d before within = absurd (omega (arith, before))
   one_each i (suc (suc j)) d before within = absurd (omega (arith, within))
 
-  first_alone : (k : ℕ) (d : Begun) → k < 1 → IsNextCall with_setup [] (slice_index_or ((Who.Setup, open_f) ∷ []) k d)
+  first_alone : (k : ℕ) (d : Unfinished) → k < 1 → IsNextCall with_setup [] (slice_index_or ((Who.Setup, open_f) ∷ []) k d)
   first_alone zero d within = record { call = refl; set_up = tt }
   first_alone (suc k) d within = absurd (omega (arith, within))

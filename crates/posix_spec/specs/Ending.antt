@@ -6,7 +6,7 @@ use Rattle.posix_types.specs.declared.reply.Shape.{Shape}
 use Rattle.posix_types.specs.declared.tree.TreeEntry.{TreeEntry}
 use Rattle.posix_types.specs.Scripts.{Scripts}
 use Rattle.posix_spec.specs.State.{State}
-use Rattle.posix_spec.specs.Run.{Begun, run, IsLegal}
+use Rattle.posix_spec.specs.Run.{Unfinished, run, IsLegal}
 use Rattle.posix_spec.specs.Tree.{start, tree}
 use Rattle.posix_spec.specs.Scripted.{Scripted, IsComplete}
 use Rattle.posix_spec.specs.Unfinished.{AreUnfinished}
@@ -31,7 +31,7 @@ pub record IsWhole (task : Task) (history : List Item) (left : List TreeEntry) :
 -- A run with power for a number of steps, or without a limit, ended with this history and these unfinished calls, and
 -- left this tree. `Permits` says which trees the mode lets a power loss leave: of the first state, the history and the
 -- unfinished calls.
-pub record IsRunOf (Permits : State → List Item → List Begun → List TreeEntry → Type 0) (task : Task) (stop : Option ℕ) (history : List Item) (unfinished : List Begun) (left : List TreeEntry) : Type 0 where
+pub record IsRunOf (Permits : State → List Item → List Unfinished → List TreeEntry → Type 0) (task : Task) (stop : Option ℕ) (history : List Item) (unfinished : List Unfinished) (left : List TreeEntry) : Type 0 where
   pub legal : IsLegal (beginning task) history
   pub scripted : Scripted task.scripts history
   pub open_calls : AreUnfinished task.scripts history unfinished

@@ -13,7 +13,8 @@ use Rattle.posix_tables.specs.Open.{is_full, may_read, may_write, opened, Tables
 use Rattle.posix_tables.specs.Nodes.{bytes_of, node_at}
 use Rattle.posix_spec.specs.State.{room, State}
 use Rattle.posix_tables.specs.Outcomes.{idle_row, row, space_row, unless}
-use Rattle.posix_tables.specs.Bytes.{longest_file, longest_write, moved_place}
+use Rattle.posix_tables.specs.block_counts.declared.TheConstants.{LONGEST_FILE, LONGEST_WRITE}
+use Rattle.posix_tables.specs.Bytes.{moved_place}
 
 -- The file that a handle stands for: its number, its bytes, the offset. Of an unknown handle nobody asks.
 abbrev pub file_number : Tables → Who → Handle → ℕ
@@ -57,9 +58,9 @@ read_rows t who h = row (not (may_read t who h)) Errno.EBADF ∷ []
 unfoldable pub write_rows : State → Who → Handle → ℕ → List ℕ → List (Option Outcome)
 write_rows s who h start x =
     row (not (may_write s.tables who h)) Errno.EBADF
-    ∷ row (nat_lt longest_write (length x)) Errno.EINVAL
+    ∷ row (nat_lt LONGEST_WRITE (length x)) Errno.EINVAL
     ∷ idle_row (length x == 0) (Reply.Count 0)
-    ∷ row (nat_lt longest_file (start + length x)) Errno.EFBIG
+    ∷ row (nat_lt LONGEST_FILE (start + length x)) Errno.EFBIG
     ∷ no_blocks s (write_need s.mode (length (content s who h)) start (start + length x))
     ∷ []
 
@@ -82,7 +83,7 @@ seek_rows s who h w i =
 unfoldable pub truncate_rows : State → Who → Handle → ℕ → List (Option Outcome)
 truncate_rows s who h n =
     row (not (may_write s.tables who h)) Errno.EBADF
-    ∷ row (nat_lt longest_file n) Errno.EFBIG
+    ∷ row (nat_lt LONGEST_FILE n) Errno.EFBIG
     ∷ unless (nat_le n (length (content s who h))) (no_blocks s (growth (length (content s who h)) n))
     ∷ []
 

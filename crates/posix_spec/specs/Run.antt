@@ -7,16 +7,16 @@ use Rattle.posix_spec.specs.Step.{step}
 use Rattle.posix_spec.specs.State.{State}
 
 -- a call with its caller, before it has a reply
-abbrev pub Begun : Type 0
-Begun = Who × Call
+abbrev pub Unfinished : Type 0
+Unfinished = Who × Call
 
-abbrev pub begun : Item → Begun
+abbrev pub begun : Item → Unfinished
 begun item = (item.who, item.call)
 
-abbrev pub after_call : State → Begun → State
+abbrev pub after_call : State → Unfinished → State
 after_call s c = (step s c.0 c.1).state
 
-abbrev pub after_calls : State → List Begun → State
+abbrev pub after_calls : State → List Unfinished → State
 after_calls s [] = s
 after_calls s (c ∷ calls) = after_calls (after_call s c) calls
 

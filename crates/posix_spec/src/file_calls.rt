@@ -244,7 +244,7 @@ impl State {
         bytes: &[u8],
     ) -> Option<Outcome>
         ensures value { result ≡ first (write_rows self.now who handle start bytes.now) }
-        ensures fits { IfNone result (start + length bytes.now ≤ 16777216) }
+        ensures fits { IfNone result (start + length bytes.now ≤ LONGEST_FILE) }
     {
         if !self.may_write(who, handle) {
             return refused(Errno::EBADF);
@@ -377,7 +377,7 @@ impl State {
     #[tactic(auto, unfolding(crate::specs::FileRows::truncate_rows))]
     fn truncate_rows(&self, who: Who, handle: Handle, length: u64) -> Option<Outcome>
         ensures value { result ≡ first (truncate_rows self.now who handle length) }
-        ensures fits { IfNone result (length ≤ 16777216) }
+        ensures fits { IfNone result (length ≤ LONGEST_FILE) }
     {
         if !self.may_write(who, handle) {
             return refused(Errno::EBADF);

@@ -1,13 +1,7 @@
 -- The bytes of a file, and places in them. All limits and places are in bytes.
 use Rattle.std.specs.Prelude.{ℕ, ◌+◌, ◌-◌, List, ◌++◌, length, take, drop, replicate, Option, Some, None, nat_lt, ℤ, pos, negsuc, if◌then◌else◌}
 
--- the longest file, the most bytes of one write, and the furthest offset that a seek leaves
-abbrev pub longest_file : ℕ
-longest_file = 16777216
-
-abbrev pub longest_write : ℕ
-longest_write = 131072
-
+-- the furthest offset that a seek leaves
 abbrev pub furthest_offset : ℕ
 furthest_offset = 999999999999999999
 

@@ -2,14 +2,9 @@
 ghost use Rattle.std.specs.Prelude.{◌≡◌, ◌+◌, ◌<◌, ◌^◌, IfOk, drop, length, nat_lt, take};
 ghost use Rattle.posix_tables.specs.Bytes.{bytes_from, moved_place, overwritten, resized, within_limit};
 
+pub use block_counts::{LONGEST_FILE, LONGEST_WRITE};
 use posix_types::Data;
 use std::alloc::{AllocError, Global};
-
-/// The longest file, in bytes.
-pub const LONGEST_FILE: u64 = 16_777_216;
-
-/// The most bytes that one write may have.
-pub const LONGEST_WRITE: usize = 131_072;
 
 /// The furthest offset that a seek may leave, in bytes.
 pub const FURTHEST_OFFSET: u64 = 999_999_999_999_999_999;
@@ -67,7 +62,7 @@ pub fn overwritten(alloc: Global, old: &[u8], start: u64, new: &[u8]) -> Result<
 
 /// Whether a start and a length lead past the longest file.
 pub fn is_too_far(start: u64, length: u64) -> bool
-    ensures { result ≡ nat_lt 16777216 (start + length) }
+    ensures { result ≡ nat_lt LONGEST_FILE (start + length) }
 {
     LONGEST_FILE < start || LONGEST_FILE - start < length
 }

@@ -27,7 +27,7 @@ use Rattle.world_parts.specs.world_view_laws.posix_tables.Open.{Tables}
 use Rattle.world_parts.specs.world_view_laws.posix_tables.Outcomes.{first}
 use Rattle.world_parts.specs.world_view_laws.in_flight.staging_files.GivesUp.{nothing_staged}
 use Rattle.world_parts.specs.world_view_laws.in_flight.staging_files.Keeps.{Staged}
-use Rattle.world_parts.specs.world_view_laws.in_flight.live_model.Standing.{Pending}
+use Rattle.world_parts.specs.world_view_laws.in_flight.live_model.Standing.{JobOut}
 use Rattle.world_parts.specs.world_view_laws.Begins.{IsStagingNeed, LacksBeside, LacksStaging}
 use Rattle.world_parts.specs.world_view_laws.Views.{Disk, IsGoing, state_of, WorldView}
 use Rattle.world_parts.specs.world_view_laws.in_flight.staging_files.Reserves.{IsLacking}
@@ -40,7 +40,7 @@ at_least_one (suc n) some = omega arith
 -- no job is out, so none makes it need more than there is room for
 none_beside : (w : WorldView) (who : Who) (call : Call) (need left : ℕ) → w.pending ≡ [] → LacksBeside w who call need left → ⊥
 none_beside w who call need left none beside = (
-    let all = ap (λ (ps : List Pending). sum_by (λ (p : Pending). need_of (state_of w) p.who p.call) ps) none in
+    let all = ap (λ (ps : List JobOut). sum_by (λ (p : JobOut). need_of (state_of w) p.who p.call) ps) none in
     let rest = beside.left_is in
     let fits = beside.fits in
     let less = beside.lacks in
@@ -60,8 +60,8 @@ accepted_of w who h (Some place) x need is = unrefused w _ need (first (write_ro
 module _ (fits : FirstWriteFits) (kept_law : StandsAsKept) (room_law : RoomIsKept) (starts : StartsAsCall) (needs_law : NeedsAsCall) (jobs : JobsNeed) (k : View) (t : Tables) (staging : Staged) (files : Files) (w : WorldView) (who : Who) (at_first : IsAtFirst w) where
   -- a write finds a run,
   module _ (h : Handle) (at : Option ℕ) (x : List ℕ) (one : AtCall k t staging files w who (call_of h at x)) where
-    abbrev found : Found k t staging files who (call_of h at x) (sum_by (λ (p : Pending). need_by t files p.who p.call) w.pending)
-    found = found_at k t staging files w who h at x one jobs (sum_by (λ (p : Pending). need_by t files p.who p.call) w.pending) refl
+    abbrev found : Found k t staging files who (call_of h at x) (sum_by (λ (p : JobOut). need_by t files p.who p.call) w.pending)
+    found = found_at k t staging files w who h at x one jobs (sum_by (λ (p : JobOut). need_by t files p.who p.call) w.pending) refl
 
     going : IsGoing k t staging files w
     going = one.world.going one.begins.awake
@@ -73,7 +73,7 @@ module _ (fits : FirstWriteFits) (kept_law : StandsAsKept) (room_law : RoomIsKep
     put_finds_room need left lacks =
         let none = accepted_of w who h at x need lacks.need_is in
         let accepts = Accepts-from_rows (state_of w) who h (start_of (state_of w) who h at) x none in
-        let taken = sum_by (λ (p : Pending). need_by t files p.who p.call) w.pending in
+        let taken = sum_by (λ (p : JobOut). need_by t files p.who p.call) w.pending in
         let needed = need_is kept_law room_law k t staging files who h at x taken found starts needs_law none in
         let room = room_is kept_law room_law k t staging files who h at x taken found in
         let start = start_is kept_law room_law k t staging files who h at x taken found starts needs_law none in

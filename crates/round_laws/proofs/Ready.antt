@@ -15,7 +15,8 @@ use Rattle.eof_laws.specs.layout_model.declared.lines.Kind.{Kind}
 use Rattle.eof_laws.specs.layout_model.declared.lines.Kind.TheVariants.{Directory, File, Free, Staging}
 use Rattle.eof_laws.specs.layout_model.Entries.{is_draft}
 use Rattle.eof_laws.specs.layout_model.LineLaws.{IsInodeLine-decode_inode}
-use Rattle.eof_laws.specs.layout_model.Lines.{is_inode_of_kind, most_bytes}
+use Rattle.eof_laws.specs.layout_model.block_counts.declared.TheConstants.{LONGEST_FILE}
+use Rattle.eof_laws.specs.layout_model.Lines.{is_inode_of_kind}
 use Rattle.eof_laws.specs.layout_model.Journal.{journaled}
 use Rattle.eof_laws.specs.layout_model.PlaceLaws.{behind_log-not_journaled, behind_log-words}
 use Rattle.eof_laws.specs.layout_model.Places.{Geometry, inode_line, is_data_block, log_block}
@@ -47,16 +48,16 @@ use Rattle.round_laws.specs.EndsLaws.{EndsReady, IsEnding, ReadyToGather}
 
 -- ---- sizes
 
-few_bytes : (kind : Kind) (x : Inode) → is_inode_of_kind kind x ≡ true → x.size ≤ most_bytes
+few_bytes : (kind : Kind) (x : Inode) → is_inode_of_kind kind x ≡ true → x.size ≤ LONGEST_FILE
 few_bytes Free x ok = grind (arith, nat_tests)
 few_bytes Directory x ok = grind (arith, nat_tests)
 few_bytes File x ok = grind (arith, nat_tests)
 few_bytes Staging x ok = grind (arith, nat_tests)
 
-line_small : (g : Geometry) (f : Words) (v : Volume) → Reads g f v → (ino : ℕ) → ino < g.inodes → (inode v ino).size ≤ most_bytes
+line_small : (g : Geometry) (f : Words) (v : Volume) → Reads g f v → (ino : ℕ) → ino < g.inodes → (inode v ino).size ≤ LONGEST_FILE
 line_small g f v reads ino below = few_bytes (inode v ino).kind (inode v ino) (IsInodeLine-decode_inode (line_bytes f (inode_line ino)) (inode v ino) (reads.inodes ino below)).fields
 
-draft_small : (d : Draft) → is_draft d ≡ true → d.size ≤ most_bytes
+draft_small : (d : Draft) → is_draft d ≡ true → d.size ≤ LONGEST_FILE
 draft_small d is = grind (arith, nat_tests)
 
 module _ (g : Geometry) (k : View) (t : Tables) (kept : Kept) (lines : Bool) (n : ℕ) (s : State) (stands : StandsAt g k t kept lines n s) where
@@ -64,22 +65,22 @@ module _ (g : Geometry) (k : View) (t : Tables) (kept : Kept) (lines : Bool) (n 
   live = live_claims k.volume kept.claims
 
   module _ (ino : ℕ) (below : ino < length k.volume.inodes) where
-    own_small : (inode k.volume ino).size ≤ most_bytes
+    own_small : (inode k.volume ino).size ≤ LONGEST_FILE
     own_small = line_small k.volume.geometry (journaled (words_of k.cells)) k.volume (stands.flying.device.stands.reads (words_of k.cells) (IsImage-words_of k.cells)) ino (omega (arith, below, stands.order.whole.kept.all.inode_count))
 
-    by_latest : (o : Option Draft) → latest (filter (λ (d : Draft). d.ino == ino) live) ≡ o → size_by o (inode k.volume ino).size ≤ most_bytes
+    by_latest : (o : Option Draft) → latest (filter (λ (d : Draft). d.ino == ino) live) ≡ o → size_by o (inode k.volume ino).size ≤ LONGEST_FILE
     by_latest None is = own_small
     by_latest (Some d) is = draft_small d (stands.drafts d (filter-In (λ (y : Draft). y.ino == ino) live d (latest-In (filter (λ (y : Draft). y.ino == ino) live) d is)).0).fields
 
-    size_small : size_in kept.files ino ≤ most_bytes
+    size_small : size_in kept.files ino ≤ LONGEST_FILE
     size_small = elim (file_or_not (inode k.volume ino).kind) [
       | inl file ↦ (let small = by_latest (latest (filter (λ (d : Draft). d.ino == ino) live)) refl in omega (arith, small, stands.sizes.files ino file))
       | inr other ↦ omega (arith, stands.sizes.others ino other)
     ]
 
   -- NO SIZE THAT IS KEPT is more than a file may have.
-  pub small_sizes : All (λ size. size ≤ most_bytes) kept.files.sizes
-  small_sizes i d below = subst (λ size. size ≤ most_bytes) (get_or_default kept.files.sizes i 0 d below) (size_small i (omega (arith, below, stands.sizes.count)))
+  pub small_sizes : All (λ size. size ≤ LONGEST_FILE) kept.files.sizes
+  small_sizes i d below = subst (λ size. size ≤ LONGEST_FILE) (get_or_default kept.files.sizes i 0 d below) (size_small i (omega (arith, below, stands.sizes.count)))
 
 -- ---- the words of staged blocks
 
@@ -124,7 +125,7 @@ module _ (turning : StandsHome) (holding : LinesHoldOut) (k l : View) (t : Table
       let places : l.volume.geometry.log ≡ w.geometry.log = ap (λ (g : Geometry). g.log) same_places in
       omega (arith, laps, log, places, same_base, ending.world.counted.low)
 
-  pub small_enough : All (λ size. size ≤ most_bytes) files.sizes
+  pub small_enough : All (λ size. size ≤ LONGEST_FILE) files.sizes
   small_enough = small_sizes w.geometry l t (kept_of w staging files) false (length w.history) (state_of w) stands
 
   ready : StandsToGather → ReadyToGather files l

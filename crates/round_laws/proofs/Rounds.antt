@@ -19,7 +19,7 @@ use Rattle.file_publish.specs.GathersLaws.{HasGathered, KeepsGathered, StandsGat
 use Rattle.world_view_laws.specs.file_publish.staging_files.GivesUp.{nothing_staged}
 use Rattle.world_view_laws.specs.file_publish.staging_files.Keeps.{Staged}
 use Rattle.world_view_laws.specs.world_image_laws.Promised.{IsKept, KeepsPromise}
-use Rattle.world_view_laws.specs.file_publish.live_model.Standing.{Pending, StandsAt}
+use Rattle.world_view_laws.specs.file_publish.live_model.Standing.{JobOut, StandsAt}
 use Rattle.world_view_laws.specs.file_publish.RoundLinesLaws.{StandsHome}
 use Rattle.eof_laws.specs.k_journal.declared.outcomes.Commit.{Commit}
 use Rattle.eof_laws.specs.k_split_model.View.{View}
@@ -29,7 +29,7 @@ use Rattle.world_view_laws.specs.write_end.Blocks.{ComeHome}
 use Rattle.world_view_laws.specs.write_end.Lines.{AreCrashLines, HoldClaims}
 use Rattle.world_view_laws.specs.write_end.Stops.{KeepsGatheredOut, KeepsOut}
 use Rattle.eof_laws.specs.MapsLaws.{EndGathered}
-use Rattle.eof_laws.specs.posix_spec.Run.{Begun}
+use Rattle.eof_laws.specs.posix_spec.Run.{Unfinished}
 use Rattle.eof_laws.specs.posix_tables.Open.{Tables}
 use Rattle.world_view_laws.specs.declared.views.over.Over.{Over}
 use Rattle.world_view_laws.specs.eof_laws.Ends.{FilesEnd}
@@ -97,9 +97,9 @@ module _ (turning : StandsHome) (holding : LinesHoldOut) (gathered : StandsGathe
 
   next_going : EndGathered → IsGoing m t then table (next_view w (disk_of m t then))
   next_going ends = record {
-    stands = subst (λ (ps : List Pending). StandsAt w.geometry m t (record { staging = then; files = table; claims = []; pending = ps; first = first_by w.geometry w.first }) false (length w.history) (state_of w)) (sym ending.none_out)
+    stands = subst (λ (ps : List JobOut). StandsAt w.geometry m t (record { staging = then; files = table; claims = []; pending = ps; first = first_by w.geometry w.first }) false (length w.history) (state_of w)) (sym ending.none_out)
         (subst (λ (x : Staged). StandsAt w.geometry m t (record { staging = x; files = table; claims = []; pending = []; first = first_by w.geometry w.first }) false (length w.history) (state_of w)) (sym nothing) stands_behind);
-    runs = (let none : length then.out ≡ 0 = ap (λ (x : Staged). length x.out) nothing in omega (arith, none, ap (λ (ps : List Pending). length ps) ending.none_out));
+    runs = (let none : length then.out ≡ 0 = ap (λ (x : Staged). length x.out) nothing in omega (arith, none, ap (λ (ps : List JobOut). length ps) ending.none_out));
     bare = λ goes none empty. nothing;
     none_unfinished = going.none_unfinished;
     none_home = going.none_home;
@@ -126,7 +126,7 @@ module _ (turning : StandsHome) (holding : LinesHoldOut) (gathered : StandsGathe
 
   next_counted : MayCheckpoint w lines → AreCounted (next_view w (disk_of m t then))
   next_counted may =
-      let none : length w.pending ≡ 0 = ap (λ (ps : List Pending). length ps) ending.none_out in
+      let none : length w.pending ≡ 0 = ap (λ (ps : List JobOut). length ps) ending.none_out in
       let more : w.settled + 2 ≤ length w.history + 1 = omega (arith, grew may) in
       let laps : w.geometry.log * (w.settled + 2) ≤ w.geometry.log * (length w.history + 1) = mul-le-mul_left w.geometry.log more in
       record {
@@ -214,7 +214,7 @@ module _ (turning : StandsHome) (holding : LinesHoldOut) (cutting : KeepsGathere
   -- THE DEVICE KEEPS THE PROMISE.
   pub promise_cut : KeepsPromise w.geometry m.cells w.start w.history (calls_out w)
   promise_cut =
-      subst (λ (calls : List Begun). KeepsPromise w.geometry m.cells w.start w.history calls) (sym none_begun)
+      subst (λ (calls : List Unfinished). KeepsPromise w.geometry m.cells w.start w.history calls) (sym none_begun)
       (cutting w.geometry l m t (kept_of w staging files) then table (length w.history) w.start w.history ending.world.mode before (few_nodes turning holding k l t staging files w lines ending)
       (small_enough turning holding k l t staging files w lines ending) (next_lap turning holding k l t staging files w lines ending) cut)
 

@@ -23,7 +23,7 @@ use Rattle.world_view_laws.specs.file_publish.RoundLinesLaws.{StandsHome}
 use Rattle.eof_laws.specs.k_split_model.View.{View}
 use Rattle.eof_laws.specs.list_laws.Members.{In}
 use Rattle.world_view_laws.specs.write_end.Stops.{KeepsGatheredOut}
-use Rattle.eof_laws.specs.posix_spec.Run.{Begun}
+use Rattle.eof_laws.specs.posix_spec.Run.{Unfinished}
 use Rattle.eof_laws.specs.posix_tables.Open.{Tables}
 use Rattle.world_view_laws.specs.write_end.Ends.{begun_by}
 use Rattle.world_view_laws.specs.Rounds.{IsLeft}
@@ -34,7 +34,7 @@ use Rattle.round_laws.proofs.Rounds.{home_behind, home_cut, promise_cut, size_be
 use Rattle.round_laws.specs.EndsLaws.{EndsRunEmpty, EndsRunWhole, IsEnding, LosesRun, MayCrashWhole}
 
 -- what is left on this device
-left : (k l : View) (t : Tables) (staging : Staged) (files : Files) (w : WorldView) (lines : List Part) (pm : List Cell) (unfinished : List Begun) → IsEnding k l t staging files w lines → unfinished ≡ calls_out w
+left : (k l : View) (t : Tables) (staging : Staged) (files : Files) (w : WorldView) (lines : List Part) (pm : List Cell) (unfinished : List Unfinished) → IsEnding k l t staging files w lines → unfinished ≡ calls_out w
     → length pm ≡ 512 * w.geometry.blocks → AllHome pm → KeepsPromise w.geometry pm w.start w.history unfinished → IsLeft w pm w.history unfinished
 left k l t staging files w lines pm unfinished ending same size home promise = record {
   history_is = refl;

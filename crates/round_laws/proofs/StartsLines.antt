@@ -11,7 +11,8 @@ use Rattle.eof_laws.specs.layout_model.declared.lines.Inode.{Inode}
 use Rattle.eof_laws.specs.layout_model.declared.lines.Kind.{Kind}
 use Rattle.eof_laws.specs.layout_model.declared.lines.Kind.TheVariants.{Directory, File, Free, Staging}
 use Rattle.eof_laws.specs.layout_model.LineLaws.{IsInodeLine-decode_inode}
-use Rattle.eof_laws.specs.layout_model.Lines.{is_inode_of_kind, most_bytes}
+use Rattle.eof_laws.specs.layout_model.block_counts.declared.TheConstants.{LONGEST_FILE}
+use Rattle.eof_laws.specs.layout_model.Lines.{is_inode_of_kind}
 use Rattle.eof_laws.specs.layout_model.Journal.{journaled}
 use Rattle.eof_laws.specs.layout_model.Places.{Geometry, inode_line}
 use Rattle.eof_laws.specs.image_model.Reading.{Reads}
@@ -20,7 +21,7 @@ use Rattle.eof_laws.specs.k_split_model.Stands.{Stands}
 use Rattle.eof_laws.specs.k_split_model.View.{View}
 use Rattle.log_replay.specs.Sheds.{IsAtRest}
 
-few_bytes : (kind : Kind) (x : Inode) → is_inode_of_kind kind x ≡ true → x.size ≤ most_bytes
+few_bytes : (kind : Kind) (x : Inode) → is_inode_of_kind kind x ≡ true → x.size ≤ LONGEST_FILE
 few_bytes Free x ok = grind (arith, nat_tests)
 few_bytes Directory x ok = grind (arith, nat_tests)
 few_bytes File x ok = grind (arith, nat_tests)
@@ -34,7 +35,7 @@ no_bytes Staging x ok other = grind (arith, nat_tests)
 
 -- what the size of an inode is
 pub record IsSize (x : Inode) : Type 0 where
-  pub small : x.size ≤ most_bytes
+  pub small : x.size ≤ LONGEST_FILE
   pub none : x.kind ≢ File → x.size ≡ 0
 
 size_of_line : (g : Geometry) (f : Words) (v : Volume) → Reads g f v → (ino : ℕ) → ino < g.inodes → IsSize (inode v ino)

@@ -8,7 +8,7 @@ use Rattle.world_view_laws.specs.posix_types.declared.call.Who.{Who}
 use Rattle.world_view_laws.specs.posix_types.declared.item.Item.{Item}
 use Rattle.world_view_laws.specs.posix_types.Scripts.{Scripts}
 use Rattle.world_view_laws.specs.posix_spec.Afforded.{moves_data}
-use Rattle.world_view_laws.specs.posix_spec.Run.{Begun}
+use Rattle.world_view_laws.specs.posix_spec.Run.{Unfinished}
 use Rattle.world_view_laws.specs.posix_spec.Scripted.{Scripted, Scripted-append}
 use Rattle.world_view_laws.specs.posix_spec.Unfinished.{AreUnfinished, IsNextCall}
 use Rattle.world_view_laws.specs.list_laws.Members.{In}
@@ -19,7 +19,7 @@ use Rattle.world_view_laws.specs.Losses.{AreAllOut, MayCrash}
 use Rattle.world_view_laws.specs.Views.{calls_out, next_of, WorldView}
 use Rattle.world_view_laws.specs.in_flight.Costs.{most_of, most_of_call}
 use Rattle.world_view_laws.specs.in_flight.Counts.{history_within}
-use Rattle.world_view_laws.specs.live_model.Standing.{Pending}
+use Rattle.world_view_laws.specs.live_model.Standing.{JobOut}
 use Rattle.world_view_laws.specs.write_end.Ends.{begun_by}
 use Rattle.run_laws.specs.Events.{GoesOn, IsSteady, left_to_do, LosesPower, only_log, rounds_by}
 use Rattle.run_laws.specs.EventsLaws.{ActsEnded, ActsLost, ActsReturned, HasLogOut}
@@ -154,12 +154,12 @@ none_handed v none = record {
 
 -- the calls that are out, where no job is
 pub calls_alone : (v : WorldView) → v.pending ≡ [] → calls_out v ≡ v.unfinished
-calls_alone v none = ap (λ (ps : List Pending). map begun_by ps ++ v.unfinished) none
+calls_alone v none = ap (λ (ps : List JobOut). map begun_by ps ++ v.unfinished) none
 
 pub no_calls : (scripts : Scripts) (history : List Item) → AreUnfinished scripts history []
 no_calls scripts history = record { next = λ i d below. absurd (omega (arith, below)); one_each = λ i j d lt below. absurd (omega (arith, below)) }
 
-pub one_call : (scripts : Scripts) (history : List Item) (c : Begun) → IsNextCall scripts history c → AreUnfinished scripts history (c ∷ [])
+pub one_call : (scripts : Scripts) (history : List Item) (c : Unfinished) → IsNextCall scripts history c → AreUnfinished scripts history (c ∷ [])
 one_call scripts history c is = record { next = at; one_each = λ i j d lt below. absurd (omega (arith, lt, below)) } where
   at : All (IsNextCall scripts history) (c ∷ [])
   at zero d below = is
@@ -194,7 +194,7 @@ module _ (who : Who) (w new : WorldView) (log : RoundView) (before after : Suppl
         off = is.off;
         usable = steady-2.usable;
         crash = crash;
-        one = omega (arith, ap (λ (cs : List Begun). length cs) alone);
+        one = omega (arith, ap (λ (cs : List Unfinished). length cs) alone);
         open_calls = subst (AreUnfinished w.scripts w.history) (sym alone) (one_call w.scripts w.history (who, is.call) (record { call = is.next; set_up = steady-2.set_up }));
       };
       paid = λ first was. record {
@@ -228,7 +228,7 @@ module _ (who : Who) (w new : WorldView) (log : RoundView) (before after : Suppl
           lines_are = λ lines. ([], crash_lines v-3 log (log_stays w v-3 log [] (record { geometry = refl; base = refl; first = refl; lines_out = refl }) refl out.log));
           none = λ home. (let never : true ≡ false = sym out.log.fresh.are.out ∙ home in cc);
         };
-        one = omega (arith, ap (λ (cs : List Begun). length cs) alone-3);
+        one = omega (arith, ap (λ (cs : List Unfinished). length cs) alone-3);
         open_calls = subst (AreUnfinished w.scripts w.history) (sym alone-3) (no_calls w.scripts w.history);
       };
       paid = λ first was. subst (λ (p : Supply). IsPaidOff who first p v-3) (sym spared) (record {

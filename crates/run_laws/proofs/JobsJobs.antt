@@ -22,7 +22,7 @@ use Rattle.world_view_laws.specs.posix_types.declared.item.Item.{Item}
 use Rattle.world_view_laws.specs.posix_tables.Open.{same_who}
 use Rattle.world_view_laws.specs.crash_spec.Busy.{is_logged}
 use Rattle.world_view_laws.specs.posix_spec.Afforded.{moves_data}
-use Rattle.world_view_laws.specs.posix_spec.Run.{after_call, Begun}
+use Rattle.world_view_laws.specs.posix_spec.Run.{after_call, Unfinished}
 use Rattle.world_view_laws.specs.posix_spec.Scripted.{IsSetUp, Scripted, Scripted-append}
 use Rattle.world_view_laws.specs.posix_spec.Unfinished.{AreUnfinished}
 use Rattle.round_log.specs.Rounds.{IsClaimed, IsRound, RoundView}
@@ -36,7 +36,7 @@ use Rattle.world_view_laws.specs.Jobs.{Finishes, GivesUp, over_by}
 use Rattle.world_view_laws.specs.Losses.{MayCrash}
 use Rattle.world_view_laws.specs.Views.{calls_out, next_of, state_of, WorldView}
 use Rattle.world_view_laws.specs.in_flight.Counts.{history_within}
-use Rattle.world_view_laws.specs.live_model.Standing.{Pending}
+use Rattle.world_view_laws.specs.live_model.Standing.{JobOut}
 use Rattle.world_view_laws.specs.live_model.Jobs.{SpellCall, without}
 use Rattle.world_view_laws.specs.write_end.Ends.{begun_by}
 use Rattle.world_view_laws.specs.write_jobs.Jobs.{FilledView, IsCutOff, JobView}
@@ -56,7 +56,7 @@ module _ (who : Who) (w middle : WorldView) (log : RoundView) (before between : 
   abbrev pub b : BeginsJob who w middle between job
   b = begun.begins
 
-  abbrev pub p : Pending
+  abbrev pub p : JobOut
   p = b.pending
 
   -- the World with the job out
@@ -64,10 +64,10 @@ module _ (who : Who) (w middle : WorldView) (log : RoundView) (before between : 
   v = record w { pending = w.pending ++ p ∷ []; acts = w.acts + 1; disk = middle.disk }
 
   pub pending_is : v.pending ≡ p ∷ []
-  pending_is = ap (λ (ps : List Pending). ps ++ p ∷ []) steady.none_out
+  pending_is = ap (λ (ps : List JobOut). ps ++ p ∷ []) steady.none_out
 
   pub calls_are : calls_out v ≡ begun_by p ∷ []
-  calls_are = ap (λ (ps : List Pending). map begun_by ps ++ w.unfinished) pending_is ∙ ap (λ (cs : List Begun). begun_by p ∷ cs) steady.none_unfinished
+  calls_are = ap (λ (ps : List JobOut). map begun_by ps ++ w.unfinished) pending_is ∙ ap (λ (cs : List Unfinished). begun_by p ∷ cs) steady.none_unfinished
 
   pub log_out : IsLogOf v log []
   log_out = log_stays w v log [] (record { geometry = refl; base = refl; first = refl; lines_out = refl }) refl begun.out.log
@@ -75,7 +75,7 @@ module _ (who : Who) (w middle : WorldView) (log : RoundView) (before between : 
   pub there : In p v.pending
   there = subst (In p) (sym pending_is) (inl refl)
 
-  pub own : (q : Pending) → In q v.pending → p ≡ q
+  pub own : (q : JobOut) → In q v.pending → p ≡ q
   own q at = elim (subst (In q) pending_is at) [ inl same ↦ same | inr none ↦ absurd none ]
 
   pub out_v : IsJobOut v p job
@@ -97,7 +97,7 @@ module _ (who : Who) (w middle : WorldView) (log : RoundView) (before between : 
   open_calls = subst (AreUnfinished w.scripts w.history) (sym calls_are) (one_call w.scripts w.history (begun_by p) (record { call = next; set_up = set_up }))
 
   pub one : length (calls_out v) ≤ 1
-  one = omega (arith, ap (λ (cs : List Begun). length cs) calls_are)
+  one = omega (arith, ap (λ (cs : List Unfinished). length cs) calls_are)
 
   -- it was lost, with these parts out
   pub lost_with : (left : OutView) (more : ℕ) (after : Supply) → more ≤ 2 ^ 15 + 10 → Steps more between after → is_on after ≡ false → MayCrash v (lines_in left.log) (listed left.job) (listed left.filled)
@@ -135,7 +135,7 @@ module _ (who : Who) (w middle : WorldView) (log : RoundView) (before between : 
       ];
       each_filled = λ x at. absurd at;
       one_each = λ i j d lt below. absurd (omega (arith, lt, below));
-      all = λ q at. inr (inl (cut, inl refl, subst (λ (x : Pending). IsJobOut v x cut) (own q at) (cut_out cut after is)));
+      all = λ q at. inr (inl (cut, inl refl, subst (λ (x : JobOut). IsJobOut v x cut) (own q at) (cut_out cut after is)));
     };
     lines_are = λ lines. ([], crash_lines v log log_out);
     none = λ home. absurd (no_home home);
@@ -150,7 +150,7 @@ module _ (who : Who) (w middle : WorldView) (log : RoundView) (before between : 
   abbrev pub begun-2 : HasBegun who w middle log before has.begun.0 job
   begun-2 = has.begun.1
 
-  abbrev pub p-2 : Pending
+  abbrev pub p-2 : JobOut
   p-2 = p who w middle log before has.begun.0 job begun-2
 
   abbrev pub v-2 : WorldView
@@ -210,7 +210,7 @@ module _ (who : Who) (w middle : WorldView) (log last : RoundView) (before after
   abbrev pub steady-3 : IsSteady who w
   steady-3 = f.begun.1.out.steady
 
-  abbrev pub p-3 : Pending
+  abbrev pub p-3 : JobOut
   p-3 = p-2 who w middle log before has.between has.job filled f
 
   abbrev pub v-3 : WorldView
@@ -291,7 +291,7 @@ loses_append who w middle log last before after filled slot has =
         ];
         one_each = λ i j d lt below. absurd (omega (arith, lt, below));
         all = λ q at.
-            inr (inr (filled, inl refl, subst (λ (x : Pending). IsFilledOut (v-3 who w middle log last before after filled slot false has) x filled) (own who w middle log before has.is_filled.begun.0 has.job has.is_filled.begun.1 q at) out));
+            inr (inr (filled, inl refl, subst (λ (x : JobOut). IsFilledOut (v-3 who w middle log last before after filled slot false has) x filled) (own who w middle log before has.is_filled.begun.0 has.job has.is_filled.begun.1 q at) out));
       };
       lines_are = λ lines. (
         (slot, filled.draft) ∷ [],
@@ -309,7 +309,7 @@ loses_append who w middle log last before after filled slot has =
 -- ---- it finishes
 
 -- what is left of one job
-none_left : (p : Pending) (pending : List Pending) → pending ≡ p ∷ [] → without p.who pending ≡ []
+none_left : (p : JobOut) (pending : List JobOut) → pending ≡ p ∷ [] → without p.who pending ≡ []
 none_left p pending same = ap (without p.who) same ∙ ap (λ (b : Bool). if not b then p ∷ [] else []) (same_caller p.who)
 
 some_claims : (claims : List (ℕ × Draft)) (c : ℕ × Draft) → claims ++ c ∷ [] ≢ []
@@ -318,7 +318,7 @@ some_claims (x ∷ claims) c none = cc
 
 module _ (who : Who) (w middle new : WorldView) (log last : RoundView) (before after : Supply) (filled : FilledView) (slot : ℕ) (has : HasAppended who w middle log last before after filled slot true)
     (ends : Finishes slot (p-3 who w middle log last before after filled slot true has) middle new after) where
-  abbrev q : Pending
+  abbrev q : JobOut
   q = p-3 who w middle log last before after filled slot true has
 
   abbrev u : WorldView
@@ -339,7 +339,7 @@ module _ (who : Who) (w middle new : WorldView) (log last : RoundView) (before a
   abbrev z : WorldView
   z = record w { history = w.history ++ item ∷ []; claims = w.claims ++ claim ∷ []; pending = []; acts = w.acts + 2; disk = new.disk }
 
-  at : WorldView → List Pending → ℕ → WorldView
+  at : WorldView → List JobOut → ℕ → WorldView
   at m ps acts = record m { history = m.history ++ item_of m q.who q.call ∷ []; claims = m.claims ++ claim ∷ []; pending = ps; acts = acts; disk = new.disk }
 
   acts_are : w.acts + 1 + 1 ≡ w.acts + 2
@@ -439,7 +439,7 @@ never_loses_finish who w middle new log last before after filled slot has ends =
 
 module _ (who : Who) (w middle new : WorldView) (log : RoundView) (before between : Supply) (job : JobView) (filled : FilledView) (full : Full) (has : HasFilled who w middle log before between job filled)
     (claimed : IsClaimed log log (Err full)) (ends : GivesUp full (p-2 who w middle log before between job filled has) middle new) where
-  abbrev q-5 : Pending
+  abbrev q-5 : JobOut
   q-5 = p-2 who w middle log before between job filled has
 
   abbrev u-5 : WorldView
@@ -451,7 +451,7 @@ module _ (who : Who) (w middle new : WorldView) (log : RoundView) (before betwee
   abbrev z-5 : WorldView
   z-5 = record w { pending = []; over = Some (over_by w.over full); given_up = w.given_up + 1; acts = w.acts + 1; disk = new.disk }
 
-  at-5 : WorldView → List Pending → WorldView
+  at-5 : WorldView → List JobOut → WorldView
   at-5 m ps = record m { pending = ps; over = Some (over_by m.over full); given_up = m.given_up + 1; disk = new.disk }
 
   awake : middle.lost ≡ false

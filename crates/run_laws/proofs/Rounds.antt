@@ -7,7 +7,7 @@ use Rattle.world_view_laws.specs.posix_types.declared.call.Call.{Call}
 use Rattle.world_view_laws.specs.posix_types.declared.call.Who.{Who}
 use Rattle.world_view_laws.specs.posix_spec.Afforded.{moves_data}
 use Rattle.world_view_laws.specs.posix_spec.Put.{Put, put_by}
-use Rattle.world_view_laws.specs.posix_spec.Run.{Begun}
+use Rattle.world_view_laws.specs.posix_spec.Run.{Unfinished}
 use Rattle.world_view_laws.specs.posix_spec.Unfinished.{AreUnfinished}
 use Rattle.round_log.specs.Rounds.{RoundView}
 use Rattle.world_view_laws.specs.declared.views.over.Over.{Over}
@@ -170,7 +170,7 @@ module _ (who : Who) (w middle : WorldView) (log : RoundView) (before between af
         off = off;
         usable = steady.usable;
         crash = record { jobs = none_handed u steady.none_out; lines_are = λ lines. (let never : false ≡ true = lines in cc); none = λ home. refl };
-        one = omega (arith, ap (λ (cs : List Begun). length cs) alone);
+        one = omega (arith, ap (λ (cs : List Unfinished). length cs) alone);
         open_calls = subst (AreUnfinished w.scripts w.history) (sym alone) (no_calls w.scripts w.history);
       };
       paid = λ first was. record {

@@ -12,7 +12,7 @@ use Rattle.round_log.specs.Stores.{HasStored, Persists}
 use Rattle.world_view_laws.specs.Begins.{BeginsJob, IsFilledOut}
 use Rattle.world_view_laws.specs.Jobs.{Finishes, GivesUp, IsOfWorld, LosesFinish}
 use Rattle.world_view_laws.specs.Views.{WorldView}
-use Rattle.world_view_laws.specs.live_model.Standing.{Pending}
+use Rattle.world_view_laws.specs.live_model.Standing.{JobOut}
 use Rattle.world_view_laws.specs.write_jobs.Jobs.{FilledView, IsCutOff, IsFilled, JobView}
 use Rattle.run_laws.specs.Events.{GoesOn, LosesPower, only_log}
 use Rattle.run_laws.specs.EventsLaws.{HasLogOut}
@@ -80,17 +80,17 @@ LosesAppend =
 abbrev pub ActsFinished : Type 0
 ActsFinished =
     (who : Who) (w middle new : WorldView) (log last : RoundView) (before after : Supply) (filled : FilledView) (slot : ℕ) → HasAppended who w middle log last before after filled slot true
-    → ((p : Pending) → IsFilledOut middle p filled → Finishes slot p middle new after) → GoesOn who w new (only_log (Some last)) before after
+    → ((p : JobOut) → IsFilledOut middle p filled → Finishes slot p middle new after) → GoesOn who w new (only_log (Some last)) before after
 
 -- It finishes then, since the power is on.
 abbrev pub NeverLosesFinish : Type 0
 NeverLosesFinish =
     (who : Who) (w middle new : WorldView) (log last : RoundView) (before after : Supply) (filled : FilledView) (slot : ℕ) → HasAppended who w middle log last before after filled slot true
-    → ((p : Pending) → IsFilledOut middle p filled → LosesFinish slot p middle new after) → ⊥
+    → ((p : JobOut) → IsFilledOut middle p filled → LosesFinish slot p middle new after) → ⊥
 
 -- NO SLOT IS LEFT: the job is given up, and the round is over.
 abbrev pub ActsGivenUp : Type 0
 ActsGivenUp =
     (who : Who) (w middle new : WorldView) (log claimed : RoundView) (before between : Supply) (job : JobView) (filled : FilledView) (full : Full) → HasFilled who w middle log before between job filled
-    → IsClaimed log claimed (Err full) → ((p : Pending) → IsFilledOut middle p filled → GivesUp full p middle new)
+    → IsClaimed log claimed (Err full) → ((p : JobOut) → IsFilledOut middle p filled → GivesUp full p middle new)
     → GoesOn who w new (only_log (Some claimed)) before between

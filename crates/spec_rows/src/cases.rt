@@ -3,7 +3,7 @@ use crash_judge::judge;
 use posix_spec::{Call, Item, Mode, Shape, State, Tree, Who, default_shape, root_alone};
 use std::alloc::{AllocError, Global};
 use test_kit::{
-    RowError, asked, caller, option, printed_call, printed_lines, read_call, read_tree, repeated,
+    RowError, asked, caller, option, printed_call, printed_lines, read_call, read_tree,
     shown_items, shown_tree, small_number, word,
 };
 
@@ -141,13 +141,10 @@ fn followed(alloc: Global, case: &mut Case, line: &str) -> Result<Option<Answer>
 pub(crate) fn told(alloc: Global, row: &str) -> Result<String, RowError> {
     let mut case = case_of(alloc, row)?;
     for line in row.lines() {
-        let (times, line) = repeated(line)?;
-        for _time in 0..times {
-            if let Some(answer) = followed(alloc, &mut case, line)? {
-                if answer.wanted != answer.came {
-                    let came = answer.came.as_str();
-                    return Ok(format!(in alloc; "{line}, and not {came}")?);
-                }
+        if let Some(answer) = followed(alloc, &mut case, line)? {
+            if answer.wanted != answer.came {
+                let came = answer.came.as_str();
+                return Ok(format!(in alloc; "{line}, and not {came}")?);
             }
         }
     }

@@ -203,7 +203,7 @@ mode posix
 open f /f wc = fd 0
 write f 61*3000 = count 3000
 fsync f = ok
-97 times pwrite f 0 62*3000 = count 3000
+for 1 to 97: pwrite f 0 62*3000 = count 3000
 left = / dir; /f file 3000 62*3000
 never = / dir; /f file 3000 61*3000
 never = / dir; /f file 2999 62*2999

@@ -9,13 +9,13 @@ use Rattle.posix_types.specs.declared.item.Item.{Item}
 use Rattle.posix_types.specs.Scripts.{Scripts}
 use Rattle.run_laws.specs.posix_laws.UnfinishedLaws.{AreUnfinished-none}
 use Rattle.run_laws.specs.posix_spec.Afforded.{Afforded}
-use Rattle.run_laws.specs.posix_spec.Run.{Begun, IsLegal}
+use Rattle.run_laws.specs.posix_spec.Run.{Unfinished, IsLegal}
 use Rattle.run_laws.specs.posix_spec.Scripted.{IsComplete, Scripted}
 use Rattle.run_laws.specs.posix_spec.State.{State}
 use Rattle.run_laws.specs.posix_spec.Unfinished.{AreUnfinished}
 use Rattle.run_laws.specs.image_layout.declared.layout.geometry.Geometry.{Geometry}
 use Rattle.run_laws.specs.world_image_laws.Promised.{KeepsPromise}
-use Rattle.run_laws.specs.live_model.Standing.{Pending}
+use Rattle.run_laws.specs.live_model.Standing.{JobOut}
 use Rattle.run_laws.specs.write_end.Ends.{begun_by}
 use Rattle.run_laws.specs.world_view_laws.Rounds.{IsLeft}
 use Rattle.run_laws.specs.world_view_laws.Views.{calls_out, WorldView}
@@ -42,7 +42,7 @@ record IsTaken (v : WorldView) (before after : Supply) : Type 0 where
   pub kept : (given : ℕ) → before.given ≡ Some given → ChangesAtMost v.start v.history given
 
 module _ (w v : WorldView) (before after : Supply) (geometry : v.geometry ≡ w.geometry) (start : v.start ≡ w.start) (scripts : v.scripts ≡ w.scripts) where
-  ran : (pm : List Cell) (history : List Item) (unfinished : List Begun) → IsLeft v pm history unfinished → IsTaken v before after → length unfinished ≤ 1 → AreUnfinished v.scripts v.history unfinished
+  ran : (pm : List Cell) (history : List Item) (unfinished : List Unfinished) → IsLeft v pm history unfinished → IsTaken v before after → length unfinished ≤ 1 → AreUnfinished v.scripts v.history unfinished
       → IsRan w before after pm history unfinished
   ran pm history unfinished left taken one open_calls = record {
     legal = subst (λ (s : State). IsLegal s history) start left.legal;
@@ -64,7 +64,7 @@ module _ (w v : WorldView) (before after : Supply) (geometry : v.geometry ≡ w.
 pub ran_lost : AffordsLost → KeepsGiven → (w v : WorldView) (left : OutView) (before after : Supply) (crashed : Crashed) → HasRun w v left before after false → AreFewActs v
     → IsLeft v crashed.pm crashed.history.items crashed.unfinished.items → IsRunEnded w before after (Ended.Lost crashed)
 ran_lost affords keeps w v left before after crashed has few is = (
-  ran w v before after has.geometry has.start has.scripts crashed.pm crashed.history.items crashed.unfinished.items is taken (subst (λ (cs : List Begun). length cs ≤ 1) (sym is.unfinished_is) cut.one)
+  ran w v before after has.geometry has.start has.scripts crashed.pm crashed.history.items crashed.unfinished.items is taken (subst (λ (cs : List Unfinished). length cs ≤ 1) (sym is.unfinished_is) cut.one)
       (subst (AreUnfinished v.scripts v.history) (sym is.unfinished_is) cut.open_calls),
   cut.off,
 ) where
@@ -95,7 +95,7 @@ module _ (affords : AffordsWhole) (keeps : KeepsGiven) (w v : WorldView) (left :
 
   -- no call is out
   none_left : calls_out v ≡ []
-  none_left = ap (λ (ps : List Pending). map begun_by ps ++ v.unfinished) has.ended.0.steady.none_out ∙ has.ended.0.steady.none_unfinished
+  none_left = ap (λ (ps : List JobOut). map begun_by ps ++ v.unfinished) has.ended.0.steady.none_out ∙ has.ended.0.steady.none_unfinished
 
   never_lost : {X : Type 0} → v.lost ≡ true → X
   never_lost lost = let both : true ≡ false = sym lost ∙ has.ended.0.steady.awake in cc
@@ -110,7 +110,7 @@ module _ (affords : AffordsWhole) (keeps : KeepsGiven) (w v : WorldView) (left :
     | inl lost ↦ never_lost lost
     | inr off ↦ (
       ran w v before after has.geometry has.start has.scripts crashed.pm crashed.history.items crashed.unfinished.items (subst (IsLeft v crashed.pm crashed.history.items) (sym is.2) is.1) taken_whole
-          (omega (arith, ap (λ (cs : List Begun). length cs) (is.2 ∙ none_left))) (subst (AreUnfinished v.scripts v.history) (sym (is.2 ∙ none_left)) (AreUnfinished-none v.scripts v.history)),
+          (omega (arith, ap (λ (cs : List Unfinished). length cs) (is.2 ∙ none_left))) (subst (AreUnfinished v.scripts v.history) (sym (is.2 ∙ none_left)) (AreUnfinished-none v.scripts v.history)),
       off,
     )
   ]

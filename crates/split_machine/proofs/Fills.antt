@@ -10,7 +10,7 @@ use Rattle.run_laws.specs.round_log.Rounds.{IsClaimed, RoundView}
 use Rattle.run_laws.specs.world_view_laws.Begins.{IsFilledOut}
 use Rattle.run_laws.specs.world_view_laws.Jobs.{Finishes, GivesUp, IsOfWorld, LosesFinish}
 use Rattle.run_laws.specs.world_view_laws.Views.{WorldView}
-use Rattle.run_laws.specs.live_model.Standing.{Pending}
+use Rattle.run_laws.specs.live_model.Standing.{JobOut}
 use Rattle.run_laws.specs.Events.{GoesOn, LosesPower, only_log, OutView}
 use Rattle.run_laws.specs.JobsLaws.{ActsFinished, ActsGivenUp, HasAppended, HasFilled, IsFilledHere, LosesAppend, LosesFill, NeverLosesFinish, PersistsLine, SlotIsFree, StoresEntry}
 use Rattle.run_laws.specs.write_jobs.Jobs.{FilledView, IsCutOff, IsFilled, JobView}
@@ -72,7 +72,7 @@ module _ (middle : WorldView) (log : RoundView) (between : Supply) (filled : Fil
     pub all_claimed : full.capacity ≤ full.claimed
     all_claimed = omega (arith, is.0, is.1, is.2)
 
-    pub given_up : ActsGivenUp → (new : WorldView) → ((p : Pending) → IsFilledOut middle p filled → GivesUp full p middle new) → GoesOn runs.who runs.start new (beside_log claimed None) runs.before between
+    pub given_up : ActsGivenUp → (new : WorldView) → ((p : JobOut) → IsFilledOut middle p filled → GivesUp full p middle new) → GoesOn runs.who runs.start new (beside_log claimed None) runs.before between
     given_up law new ends = law runs.who runs.start middle new log claimed runs.before between runs.job filled full runs.has is ends
 
 -- ---- its entry is written
@@ -105,13 +105,13 @@ module _ (middle : WorldView) (claimed : RoundView) (between : Supply) (filled :
     append_lost law persists = law r.runs.who r.runs.start middle r.log last r.runs.before after filled slot (appended false persists)
 
     module _ (persists : PersistsLine stored last slot true middle_on after) (new : WorldView) (final : Supply) (spared : final ≡ after) where
-      pub finished : ActsFinished → ((p : Pending) → IsFilledOut middle p filled → Finishes slot p middle new final) → GoesOn r.runs.who r.runs.start new (beside_log last None) r.runs.before final
+      pub finished : ActsFinished → ((p : JobOut) → IsFilledOut middle p filled → Finishes slot p middle new final) → GoesOn r.runs.who r.runs.start new (beside_log last None) r.runs.before final
       finished law ends =
           subst (λ (p : Supply). GoesOn r.runs.who r.runs.start new (beside_log last None) r.runs.before p) (sym spared)
           (law r.runs.who r.runs.start middle new r.log last r.runs.before after filled slot (appended true persists)
           (λ p is. subst (λ (x : Supply). Finishes slot p middle new x) spared (ends p is)))
 
-      pub never_lost : NeverLosesFinish → ((p : Pending) → IsFilledOut middle p filled → LosesFinish slot p middle new final) → ⊥
+      pub never_lost : NeverLosesFinish → ((p : JobOut) → IsFilledOut middle p filled → LosesFinish slot p middle new final) → ⊥
       never_lost law ends =
           law r.runs.who r.runs.start middle new r.log last r.runs.before after filled slot (appended true persists)
           (λ p is. subst (λ (x : Supply). LosesFinish slot p middle new x) spared (ends p is))

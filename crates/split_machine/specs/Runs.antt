@@ -6,7 +6,7 @@ use Rattle.run_laws.specs.pm_model.Powers.{is_on, Supply}
 use Rattle.posix_types.specs.declared.call.Who.{Who}
 use Rattle.posix_types.specs.declared.item.Item.{Item}
 use Rattle.run_laws.specs.posix_spec.Afforded.{Afforded}
-use Rattle.run_laws.specs.posix_spec.Run.{Begun, IsLegal}
+use Rattle.run_laws.specs.posix_spec.Run.{Unfinished, IsLegal}
 use Rattle.run_laws.specs.posix_spec.Scripted.{IsComplete, Scripted}
 use Rattle.run_laws.specs.posix_spec.Unfinished.{AreUnfinished}
 use Rattle.run_laws.specs.world_image_laws.Promised.{KeepsPromise}
@@ -64,7 +64,7 @@ pub record HasRun (old new : WorldView) (left : OutView) (before after : Supply)
 -- WHAT A RUN LEFT: its history is legal and follows the scripts; one call at most is unfinished, and it is a next call; nothing of the
 -- device is lent, and it keeps the promise. It took steps that are afforded; and where the power was for a number of steps, at most so
 -- many calls changed the names.
-pub record IsRan (w : WorldView) (before after : Supply) (pm : List Cell) (history : List Item) (unfinished : List Begun) : Type 0 where
+pub record IsRan (w : WorldView) (before after : Supply) (pm : List Cell) (history : List Item) (unfinished : List Unfinished) : Type 0 where
   pub legal : IsLegal w.start history
   pub scripted : Scripted w.scripts history
   pub open_calls : AreUnfinished w.scripts history unfinished

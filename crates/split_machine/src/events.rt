@@ -11,12 +11,10 @@ ghost use Rattle.split_machine.specs.Events.{
   RunsJob,
 };
 
+use crate::laws;
 use pm_lines::Power;
 use posix_types::Who;
-use run_laws::{
-    Commit, Filled, FilledJob, Job, NoMemory, RoundLog, a_call_acts, a_job_runs, a_round_begins,
-    a_round_ends,
-};
+use run_laws::{Commit, Filled, FilledJob, Job, NoMemory, RoundLog};
 use split_world::{Begun, Finished, World};
 use std::alloc::Global;
 use std::marker::Model;
@@ -63,7 +61,7 @@ fn open_round(world: &mut World, alloc: Global, out: &mut Out, who: Who) -> Resu
     requires { CanAct who world.old out.old }
     ensures { IfOk result (λ done. IsOpen who world.old world.new out.new) }
 {
-    a_round_begins();
+    laws::a_round_begins();
     let _who = who;
     if out.log.is_some() {
         return Ok(());
@@ -86,7 +84,7 @@ fn append(
     ensures { (runs : RunsClaimed world.old log.old power.old job slot)
         → IsActed runs.runs.who runs.runs.start world.new (beside_log log.new result.1) runs.runs.before power.new result.0 }
 {
-    a_job_runs();
+    laws::a_job_runs();
     log.store(slot, job.draft(), power);
     if !log.persist(slot, power) {
         return (Acted::PowerLost, Some(job));
@@ -108,7 +106,7 @@ fn run_filled(
     ensures { (runs : RunsFilled world.old log.old power.old filled)
         → IsActed runs.who runs.start world.new (beside_log log.new result.1) runs.before power.new result.0 }
 {
-    a_job_runs();
+    laws::a_job_runs();
     match log.claim() {
         Ok(slot) => append(world, log, filled, slot, power),
         Err(full) => {
@@ -124,7 +122,7 @@ fn run_job(world: &mut World, out: &mut Out, job: Job, power: &mut Power) -> Act
     ensures { (runs : RunsJob world.old out.old power.old job)
         → IsActed runs.who runs.start world.new out.new runs.before power.new result }
 {
-    a_job_runs();
+    laws::a_job_runs();
     let Some(log) = &mut out.log else {
         unreachable!()
     };
@@ -153,7 +151,7 @@ fn end_round(
     ensures { IfOk result (λ acted. (ends : EndsIn world.old out.old power.old)
         → IsActed ends.who ends.start world.new out.new ends.before power.new acted) }
 {
-    a_round_ends();
+    laws::a_round_ends();
     let Some(log) = out.log.take() else {
         unreachable!()
     };
@@ -175,10 +173,10 @@ pub(crate) fn act(
     requires { CanAct who world.old out.old }
     ensures { IfOk result (IsActed who world.old world.new out.new power.old power.new) }
 {
-    a_round_begins();
-    a_call_acts();
-    a_round_ends();
-    a_job_runs();
+    laws::a_round_begins();
+    laws::a_call_acts();
+    laws::a_round_ends();
+    laws::a_job_runs();
     open_round(world, alloc, out, who)?;
     match world.begin(alloc, who, power)? {
         Begun::Done => Ok(Acted::On),

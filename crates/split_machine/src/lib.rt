@@ -15,6 +15,7 @@
 #![tactic(auto)]
 
 mod events;
+mod laws;
 mod runs;
 
 pub use run_laws::{KSplit, NoMemory};

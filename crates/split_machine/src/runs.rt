@@ -6,9 +6,10 @@ ghost use Rattle.run_laws.specs.world_view_laws.Rounds.{IsLeft};
 ghost use Rattle.split_machine.specs.Runs.{HasRun, IsFirst, IsRunEnded, IsScriptRun};
 
 use crate::events::{Acted, Out, act, nothing_out};
+use crate::laws;
 use pm_lines::{Line, Power};
 use posix_types::Who;
-use run_laws::{FilledJob, Job, NoMemory, RoundLog, a_round_ends, a_run_is_paid};
+use run_laws::{FilledJob, Job, NoMemory, RoundLog};
 use split_world::{Crashed, Ended, World};
 use std::alloc::Global;
 
@@ -98,8 +99,8 @@ pub fn run(alloc: Global, world: World, power: &mut Power) -> Result<Ended, NoMe
     requires { IsFirst world }
     ensures { IfOk result (IsRunEnded world power.old power.new) }
 {
-    a_round_ends();
-    a_run_is_paid();
+    laws::a_round_ends();
+    laws::a_run_is_paid();
     let mut world = world;
     let mut out = nothing_out();
     let lasted = run_scripts(&mut world, alloc, &mut out, power)?;

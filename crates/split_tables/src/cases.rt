@@ -1,14 +1,16 @@
 //! A script of one thread on an image, in the plain model of the calls and through the top call.
 use crate::images::Image;
+use crate::modes::mode_of;
 use crate::scripts::kept;
 use posix_spec::{Call, Item, Mode, State, Who, root_alone};
 use script_text::read_script;
 use std::alloc::Global;
 use test_kit::{RowError, shown_items, shown_tree};
 
-/// A script of one thread on a fresh image, and what the model says of it.
+/// A script of one thread on a fresh image in a mode, and what the model says of it.
 #[derive(Drop)]
 pub struct Case {
+    pub(crate) mode: Mode,
     pub(crate) image: Image,
     pub(crate) script: String,
     pub(crate) items: Vec<Item>,
@@ -59,10 +61,12 @@ fn add_call(alloc: Global, case: &mut Case, state: &mut State, call: Call) -> Re
 }
 
 impl Case {
-    /// A script on the image of `mkfs` with these numbers, parted by blanks, or on the default one where there are none.
-    pub fn new(alloc: Global, numbers: &str, script: &str) -> Result<Case, RowError> {
+    /// A script in the mode of this word, on the image of `mkfs` with these numbers, parted by blanks, or on the default one
+    /// where there are none.
+    pub fn new(alloc: Global, mode: &str, numbers: &str, script: &str) -> Result<Case, RowError> {
         hold_memory(alloc)?;
         let mut case = Case {
+            mode: mode_of(mode)?,
             image: Image::new(alloc, numbers)?,
             script: script.to_string(alloc)?,
             items: Vec::new(alloc),
@@ -70,7 +74,7 @@ impl Case {
             trees: Vec::new(alloc),
         };
         let root = root_alone(alloc)?;
-        let mut state = State::open(alloc, &root, case.image.shape, Mode::Strict)?;
+        let mut state = State::open(alloc, &root, case.image.shape, case.mode)?;
         case.trees.push(shown_tree(alloc, &root)?)?;
         for call in calls_of(alloc, script)? {
             add_call(alloc, &mut case, &mut state, call)?;
@@ -110,7 +114,7 @@ impl Case {
         let Some(last) = self.trees.last() else {
             return Ok(false);
         };
-        let (output, tree) = kept(alloc, self.image.bytes(), self.script.as_str())?;
+        let (output, tree) = kept(alloc, self)?;
         let mut text = self.history(alloc)?;
         text.push_str(last.as_str())?;
         Ok(output.as_slice() == text.as_bytes() && tree.as_slice() == last.as_bytes())

@@ -2,7 +2,7 @@
 //!
 //! - `commands`, `scripts`: the top call over files and a sink in memory, and what tests put together of it.
 //! - `sessions`, with `edits`, `entries` and `forging`: commands over the same files, and edits of these between them.
-//! - `rows`, `verdicts`, with `cases`, `images`, `losses` and `stops`: scripts of one thread that lose their power.
+//! - `rows`, `verdicts`, with `cases`, `images`, `losses`, `modes` and `stops`: scripts of one thread that lose their power.
 //!
 //! A script with losses is run by the plain model of the calls and through the top call. A loss is a number of steps after
 //! which the power goes, and a choice of what the medium has then: what is printed must be a front of the history, and a
@@ -19,6 +19,7 @@ mod entries;
 mod forging;
 mod images;
 mod losses;
+mod modes;
 mod rows;
 mod scripts;
 mod sessions;

@@ -1,11 +1,9 @@
 //! A script with a power loss, and whether the mode permits what is left.
 use crate::cases::Case;
-use crate::commands::answer;
-use crate::scripts::{files_of, printed};
+use crate::scripts::printed;
 use crate::stops::Stops;
 use crash_judge::judge;
-use outside::MemFiles;
-use posix_spec::{Mode, Who, root_alone};
+use posix_spec::{Who, root_alone};
 use std::alloc::Global;
 use std::str::from_utf8;
 use test_kit::{RowError, read_tree};
@@ -43,40 +41,10 @@ pub(crate) fn outcome_at(
 ) -> Result<Outcome, RowError> {
     let steps = format!(in alloc; "{steps}")?;
     let options = ["stop", steps.as_str(), "choose", choice];
-    let output = printed(alloc, case.image.bytes(), case.script.as_str(), &options)?;
+    let output = printed(alloc, case, &options)?;
     let (returned, rest) = front(case, &output);
     let rest = Vec::from_slice(alloc, rest)?;
     Ok(Outcome { returned, rest })
-}
-
-// The bytes of the image that was kept under the name `H`.
-fn kept_in(alloc: Global, files: &MemFiles) -> Result<Vec<u8>, RowError> {
-    match files.bytes("H") {
-        Some(bytes) => Ok(Vec::from_slice(alloc, bytes)?),
-        None => Err(RowError::NotRun),
-    }
-}
-
-// Runs the script on the image of this name, which is kept as `H`; the power goes after so many steps.
-fn keep_at(alloc: Global, files: &mut MemFiles, name: &str, steps: &str) -> Result<(), RowError> {
-    let words = [
-        "step", name, "S", "strict", "stop", steps, "choose", "oldest", "keep", "H",
-    ];
-    let _output = answer(alloc, files, &words)?;
-    Ok(())
-}
-
-// The image that is kept where the power goes after so many steps, and the medium has what is oldest.
-pub(crate) fn image_at(alloc: Global, case: &Case, steps: u64) -> Result<Vec<u8>, RowError> {
-    let image = case.image.bytes();
-    let mut files = files_of(alloc, image, case.script.as_str())?;
-    let steps = format!(in alloc; "{steps}")?;
-    if image.is_some() {
-        keep_at(alloc, &mut files, "I", steps.as_str())?;
-    } else {
-        keep_at(alloc, &mut files, "-", steps.as_str())?;
-    }
-    kept_in(alloc, &files)
 }
 
 // Whether what is left is a tree that is permitted after the calls that returned, with the next one unfinished.
@@ -95,7 +63,7 @@ fn is_judged(alloc: Global, case: &Case, found: &Outcome) -> Result<bool, RowErr
     let start = root_alone(alloc)?;
     Ok(judge(
         alloc,
-        Mode::Strict,
+        case.mode,
         case.image.shape,
         &start,
         history,
@@ -104,7 +72,7 @@ fn is_judged(alloc: Global, case: &Case, found: &Outcome) -> Result<bool, RowErr
     )?)
 }
 
-/// Whether strict mode permits what is left where the power goes after so many steps, and the medium has this choice.
+/// Whether the mode permits what is left where the power goes after so many steps, and the medium has this choice.
 pub fn is_permitted(
     alloc: Global,
     case: &Case,

@@ -1,6 +1,6 @@
 //! What a row of a script with power losses says.
 use std::alloc::Global;
-use test_kit::{RowError, asked, number, option, printed_call, printed_lines, repeated};
+use test_kit::{RowError, asked, number, option, printed_call, printed_lines, spelled};
 
 // A script, and what it is to print.
 #[derive(Drop)]
@@ -77,7 +77,7 @@ pub(crate) fn losses_of(alloc: Global, row: &str) -> Result<Losses, RowError> {
 
 // Adds a call with its reply.
 fn add_call(alloc: Global, told: &mut Told, call: &str, line: &str) -> Result<(), RowError> {
-    told.script.push_str(call)?;
+    told.script.push_str(spelled(alloc, call)?.as_str())?;
     told.script.push('\n')?;
     let place = u32::try_from(told.calls).unwrap_or(u32::MAX);
     told.history
@@ -86,24 +86,7 @@ fn add_call(alloc: Global, told: &mut Told, call: &str, line: &str) -> Result<()
     Ok(())
 }
 
-// Adds a line, so often as it says.
-fn add_line(alloc: Global, told: &mut Told, line: &str) -> Result<(), RowError> {
-    let (times, line) = repeated(line)?;
-    match asked(line) {
-        None => {}
-        Some(("tree", entries)) => told
-            .trees
-            .push((told.calls, printed_lines(alloc, entries)?))?,
-        Some((call, _reply)) => {
-            for _time in 0..times {
-                add_call(alloc, told, call, line)?;
-            }
-        }
-    }
-    Ok(())
-}
-
-// What the lines of a row say: once, or so often as the option `times` says.
+// What the lines of a row say.
 pub(crate) fn told_by(alloc: Global, row: &str) -> Result<Told, RowError> {
     let mut told = Told {
         script: String::new(alloc),
@@ -111,9 +94,13 @@ pub(crate) fn told_by(alloc: Global, row: &str) -> Result<Told, RowError> {
         trees: Vec::new(alloc),
         calls: 0,
     };
-    for _time in 0..number(option(row, "times").unwrap_or("1"))? {
-        for line in row.lines() {
-            add_line(alloc, &mut told, line)?;
+    for line in row.lines() {
+        match asked(line) {
+            None => {}
+            Some(("tree", entries)) => told
+                .trees
+                .push((told.calls, printed_lines(alloc, entries)?))?,
+            Some((call, _reply)) => add_call(alloc, &mut told, call, line)?,
         }
     }
     Ok(told)

@@ -1,5 +1,7 @@
 //! Images and scripts through the top call, in memory.
+use crate::cases::Case;
 use crate::commands::{command, words_of};
+use crate::modes::word_of;
 use command_line::Status;
 use outside::{Files, MemFiles, MemSink};
 use std::alloc::{AllocError, Global};
@@ -26,11 +28,7 @@ pub fn fresh(alloc: Global, numbers: &str) -> Result<Vec<u8>, RowError> {
 }
 
 // The script under the name `S`, and the image, if it is one of its own, under the name `I`.
-pub(crate) fn files_of(
-    alloc: Global,
-    image: Option<&[u8]>,
-    script: &str,
-) -> Result<MemFiles, AllocError> {
+fn files_of(alloc: Global, image: Option<&[u8]>, script: &str) -> Result<MemFiles, AllocError> {
     let mut list = Vec::new(alloc);
     let bytes = Vec::from_slice(alloc, script.as_bytes())?;
     list.push(("S".to_string(alloc)?, bytes))?;
@@ -40,42 +38,46 @@ pub(crate) fn files_of(
     Ok(MemFiles::new(alloc, list, Vec::new(alloc)))
 }
 
-// The words `step IMAGE S strict` with these options behind them.
-fn step_words(
-    alloc: Global,
-    image: Option<&[u8]>,
-    options: &[&str],
-) -> Result<Vec<String>, AllocError> {
-    let name = if image.is_some() { "I" } else { "-" };
-    let mut words = words_of(alloc, &["step", name, "S", "strict"])?;
+// The words `step IMAGE S MODE` of a case, with these options behind them.
+fn step_words(alloc: Global, case: &Case, options: &[&str]) -> Result<Vec<String>, AllocError> {
+    let name = if case.image.bytes().is_some() {
+        "I"
+    } else {
+        "-"
+    };
+    let mut words = words_of(alloc, &["step", name, "S", word_of(case.mode)])?;
     for word in options {
         words.push(word.to_string(alloc)?)?;
     }
     Ok(words)
 }
 
-/// What a script prints in strict mode with these options, on an image or on the fresh default one.
-pub fn printed(
-    alloc: Global,
-    image: Option<&[u8]>,
-    script: &str,
-    options: &[&str],
-) -> Result<Vec<u8>, RowError> {
-    let words = step_words(alloc, image, options)?;
-    let mut files = files_of(alloc, image, script)?;
-    output_of(alloc, &mut files, &words)
+// What the script of a case prints with these options, and the files that it leaves.
+fn ran(alloc: Global, case: &Case, options: &[&str]) -> Result<(Vec<u8>, MemFiles), RowError> {
+    let words = step_words(alloc, case, options)?;
+    let mut files = files_of(alloc, case.image.bytes(), case.script.as_str())?;
+    let output = output_of(alloc, &mut files, &words)?;
+    Ok((output, files))
 }
 
-/// What a script prints in strict mode, and then the tree of the image that it leaves.
-pub fn kept(
-    alloc: Global,
-    image: Option<&[u8]>,
-    script: &str,
-) -> Result<(Vec<u8>, Vec<u8>), RowError> {
-    let words = step_words(alloc, image, &["keep", "H"])?;
-    let mut files = files_of(alloc, image, script)?;
-    let output = output_of(alloc, &mut files, &words)?;
+/// What the script of a case prints with these options.
+pub(crate) fn printed(alloc: Global, case: &Case, options: &[&str]) -> Result<Vec<u8>, RowError> {
+    let (output, _files) = ran(alloc, case, options)?;
+    Ok(output)
+}
+
+/// What the script of a case prints, and then the tree of the image that it leaves.
+pub(crate) fn kept(alloc: Global, case: &Case) -> Result<(Vec<u8>, Vec<u8>), RowError> {
+    let (output, mut files) = ran(alloc, case, &["keep", "H"])?;
     let words = words_of(alloc, &["tree", "H"])?;
     let tree = output_of(alloc, &mut files, &words)?;
     Ok((output, tree))
+}
+
+/// The image that is kept where the power goes after so many steps, and the medium has what is oldest.
+pub(crate) fn image_at(alloc: Global, case: &Case, steps: u64) -> Result<Vec<u8>, RowError> {
+    let steps = format!(in alloc; "{steps}")?;
+    let options = ["stop", steps.as_str(), "choose", "oldest", "keep", "H"];
+    let (_output, mut files) = ran(alloc, case, &options)?;
+    Ok(files.read(alloc, "H")?)
 }

@@ -1,6 +1,7 @@
 //! After which steps the power goes.
 use crate::cases::Case;
-use crate::losses::{image_at, outcome_at};
+use crate::losses::outcome_at;
+use crate::scripts::image_at;
 use std::alloc::Global;
 use test_kit::RowError;
 

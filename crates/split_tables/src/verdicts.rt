@@ -53,25 +53,33 @@ fn fault_told(alloc: Global, losses: &Losses, case: &Case) -> Result<Option<Stri
     Ok(None)
 }
 
-/// How a script with power losses goes: `ok`, or what is wrong. Its options are `image BLOCKS LOG INODES NAMES`, the numbers
-/// of an image of its own; `times N`, to have its lines N times; and `losses` with, as far as they are wanted, `every N`, a
-/// loss after each N steps, the first one after none or, with `from N`, so many, the last one at the end of the unmount
-/// or, with `to N`, after so many, and `each K ..`, one after each step of the calls with these numbers, from 0. The model of
-/// the calls, the run and the image that it leaves must all say what the row does, and each loss must be permitted, with
-/// five choices of what the medium has. Its losses have to lose calls, and where they are one step apart a choice has to make
-/// a difference.
-pub fn losses_told(alloc: Global, row: &str) -> Result<String, RowError> {
-    let told = told_by(alloc, row)?;
+// What is wrong with a script in the mode of a word: the model, the run, or a loss.
+fn fault_in(alloc: Global, mode: &str, row: &str, told: &Told) -> Result<Option<String>, RowError> {
     let image = option(row, "image").unwrap_or("");
-    let case = Case::new(alloc, image, told.script.as_str())?;
-    if !is_as_told(alloc, &told, &case)? {
-        return Ok("the model of the calls answers otherwise".to_string(alloc)?);
+    let case = Case::new(alloc, mode, image, told.script.as_str())?;
+    if !is_as_told(alloc, told, &case)? {
+        let text = "the model of the calls answers otherwise";
+        return Ok(Some(text.to_string(alloc)?));
     }
     if !case.runs_as_told(alloc)? {
-        return Ok("the run answers otherwise".to_string(alloc)?);
+        return Ok(Some("the run answers otherwise".to_string(alloc)?));
     }
-    match fault_told(alloc, &losses_of(alloc, row)?, &case)? {
-        Some(fault) => Ok(fault),
-        None => Ok("ok".to_string(alloc)?),
+    fault_told(alloc, &losses_of(alloc, row)?, &case)
+}
+
+/// How a script with power losses goes: `ok`, or what is wrong. Its options are `modes MODE ..`, the modes in which it is run,
+/// one after another (`strict` where none is named); `image BLOCKS LOG INODES NAMES`, the numbers of an image of its own; and
+/// `losses` with, as far as they are wanted, `every N`, a loss after each N steps, the first one after none or, with `from N`,
+/// so many, the last one at the end of the unmount or, with `to N`, after so many, and `each K ..`, one after each step of the
+/// calls with these numbers, from 0. The model of the calls, the run and the image that it leaves must all say what the row
+/// does, and each loss must be permitted, with five choices of what the medium has. Its losses have to lose calls, and where
+/// they are one step apart a choice has to make a difference.
+pub fn losses_told(alloc: Global, row: &str) -> Result<String, RowError> {
+    let told = told_by(alloc, row)?;
+    for mode in option(row, "modes").unwrap_or("strict").split(' ') {
+        if let Some(fault) = fault_in(alloc, mode, row, &told)? {
+            return Ok(format!(in alloc; "{mode}: {fault}")?);
+        }
     }
+    Ok("ok".to_string(alloc)?)
 }

@@ -95,41 +95,14 @@ tree = / dir; /aaaaaaaaaaaaaaaaaaaaaaaaaaaaaaaaaaaaaaaaaaaaaaaa dir; /aaaaaaaaaa
 rmdir /aaaaaaaaaaaaaaaaaaaaaaaaaaaaaaaaaaaaaaaaaaaaaaaaa = ENAMETOOLONG
 unlink /aaaaaaaaaaaaaaaaaaaaaaaaaaaaaaaaaaaaaaaaaaaaaaaaa = ENAMETOOLONG
 
+lines a_file_made
+open h /# wcx = fd 0
+close h = ok
+
 # Name lines used up, and given back: 16 of them.
 row name_lines_used_up
 image 64 4 64 16
-open h /a wcx = fd 0
-close h = ok
-open h /b wcx = fd 0
-close h = ok
-open h /c wcx = fd 0
-close h = ok
-open h /d wcx = fd 0
-close h = ok
-open h /e wcx = fd 0
-close h = ok
-open h /f wcx = fd 0
-close h = ok
-open h /g wcx = fd 0
-close h = ok
-open h /h wcx = fd 0
-close h = ok
-open h /i wcx = fd 0
-close h = ok
-open h /j wcx = fd 0
-close h = ok
-open h /k wcx = fd 0
-close h = ok
-open h /l wcx = fd 0
-close h = ok
-open h /m wcx = fd 0
-close h = ok
-open h /n wcx = fd 0
-close h = ok
-open h /o wcx = fd 0
-close h = ok
-open h /p wcx = fd 0
-close h = ok
+for a b c d e f g h i j k l m n o p: do a_file_made
 open h /q wcx = ENOSPC names 1 0
 mkdir /q = ENOSPC names 1 0
 rename /a /q = ok
@@ -145,17 +118,7 @@ tree = / dir; /a file 0; /b file 0; /c file 0; /d file 0; /e file 0; /f file 0; 
 # Nodes used up, and given back: 11 beside the root.
 row nodes_used_up
 image 64 4 16 64
-mkdir /a = ok
-mkdir /b = ok
-mkdir /c = ok
-mkdir /d = ok
-mkdir /e = ok
-mkdir /f = ok
-mkdir /g = ok
-mkdir /h = ok
-mkdir /i = ok
-mkdir /j = ok
-mkdir /k = ok
+for a b c d e f g h i j k: mkdir /# = ok
 mkdir /l = ENOSPC nodes 1 0
 open h /l wcx = ENOSPC nodes 1 0
 mkdir /a = EEXIST

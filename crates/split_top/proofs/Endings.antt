@@ -15,7 +15,7 @@ use Rattle.posix_types.specs.declared.tree.TreeEntry.{TreeEntry}
 use Rattle.posix_types.specs.Scripts.{Scripts}
 use Rattle.command_line.specs.posix_spec.Afforded.{Afforded}
 use Rattle.command_line.specs.posix_spec.Ending.{beginning, IsWhole}
-use Rattle.command_line.specs.posix_spec.Run.{Begun, IsLegal}
+use Rattle.command_line.specs.posix_spec.Run.{Unfinished, IsLegal}
 use Rattle.command_line.specs.posix_spec.Scripted.{IsComplete, Scripted}
 use Rattle.command_line.specs.posix_spec.State.{State}
 use Rattle.command_line.specs.posix_spec.Unfinished.{AreUnfinished}
@@ -42,7 +42,7 @@ never_off before after start same off =
     let given : after.given ≡ None = same ∙ ap (λ p. p.given) start in
     true≢false (ap (λ g. is_left g after.taken) (sym given) ∙ off)
 
-module _ (g : Geometry) (image : List TreeEntry) (shape : Shape) (scripts : Scripts) (stop : Option ℕ) (w : WorldView) (before after : Supply) (pm : List Cell) (history : List Item) (unfinished : List Begun) (left : List TreeEntry) (on : IsWorldOn g image shape scripts w) (power : before ≡ record { given = stop; taken = 0 }) (ran : IsRan w before after pm history unfinished) (permits : Permitted w.start.mode w.start history unfinished left) where
+module _ (g : Geometry) (image : List TreeEntry) (shape : Shape) (scripts : Scripts) (stop : Option ℕ) (w : WorldView) (before after : Supply) (pm : List Cell) (history : List Item) (unfinished : List Unfinished) (left : List TreeEntry) (on : IsWorldOn g image shape scripts w) (power : before ≡ record { given = stop; taken = 0 }) (ran : IsRan w before after pm history unfinished) (permits : Permitted w.start.mode w.start history unfinished left) where
   legal : IsLegal (beginning (task_on image shape scripts)) history
   legal = subst (λ s. IsLegal s history) on.start ran.legal
 

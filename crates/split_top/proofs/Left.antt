@@ -7,14 +7,14 @@ use Rattle.posix_types.specs.declared.item.Item.{Item}
 use Rattle.posix_types.specs.declared.reply.Shape.{Shape}
 use Rattle.posix_types.specs.declared.tree.TreeEntry.{TreeEntry}
 use Rattle.posix_types.specs.Scripts.{Scripts}
-use Rattle.command_line.specs.posix_spec.Run.{Begun}
+use Rattle.command_line.specs.posix_spec.Run.{Unfinished}
 use Rattle.split_machine.specs.world_image_laws.Promised.{KeepsPromise}
 use Rattle.split_machine.specs.Runs.{IsRan}
 use Rattle.split_machine.specs.world_view_laws.Views.{WorldView}
 use Rattle.split_top.specs.Found.{IsLeftAs}
 use Rattle.split_top.specs.Worlds.{IsWorldOn}
 
-pub left_as : (g : Geometry) (tree : List TreeEntry) (shape : Shape) (scripts : Scripts) (w : WorldView) (before after : Supply) (pm : List Cell) (history : List Item) (unfinished : List Begun)
+pub left_as : (g : Geometry) (tree : List TreeEntry) (shape : Shape) (scripts : Scripts) (w : WorldView) (before after : Supply) (pm : List Cell) (history : List Item) (unfinished : List Unfinished)
     → IsWorldOn g tree shape scripts w → IsRan w before after pm history unfinished → IsLeftAs g pm w.start history unfinished
 left_as g tree shape scripts w before after pm history unfinished on ran = record {
   size = subst (λ (h : Geometry). length pm ≡ 512 * h.blocks) on.geometry ran.size;

@@ -14,7 +14,7 @@ use Rattle.split_machine.specs.crash_spec.Permitted.{Permitted}
 use Rattle.pm_lines.specs.declared.choices.Choice.{Choice}
 use Rattle.posix_types.specs.declared.item.Item.{Item}
 use Rattle.posix_types.specs.declared.tree.TreeEntry.{TreeEntry}
-use Rattle.command_line.specs.posix_spec.Run.{Begun}
+use Rattle.command_line.specs.posix_spec.Run.{Unfinished}
 use Rattle.command_line.specs.posix_spec.State.{State}
 use Rattle.split_machine.specs.world_image_laws.Promised.{IsKept}
 use Rattle.split_machine.specs.world_model.Shown.{IsTreeOfContent}
@@ -27,7 +27,7 @@ pub record IsTaken (g : Geometry) (choice : Choice) (d : List Cell) (bytes : Lis
   pub honest : IsHonest g (cell d) (word_at bytes)
   pub crash : IsCrashImage g choice d g.log (word_at bytes)
 
-module _ (g : Geometry) (choice : Choice) (d : List Cell) (start : State) (history : List Item) (unfinished : List Begun) (bytes given : List ℕ) (left : IsLeftAs g d start history unfinished) (taken : IsTaken g choice d bytes) (same : given ≡ bytes) where
+module _ (g : Geometry) (choice : Choice) (d : List Cell) (start : State) (history : List Item) (unfinished : List Unfinished) (bytes given : List ℕ) (left : IsLeftAs g d start history unfinished) (taken : IsTaken g choice d bytes) (same : given ≡ bytes) where
   chosen : IsChosenImage g choice d (word_at given)
   chosen = subst (λ b. IsChosenImage g choice d (word_at b)) (sym same) (record { is_image = taken.image.words; is_honest = taken.honest; is_crash = taken.crash })
 

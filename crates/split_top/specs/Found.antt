@@ -14,14 +14,14 @@ use Rattle.split_machine.specs.Mounts.{IsMounted}
 use Rattle.pm_lines.specs.declared.choices.Choice.{Choice}
 use Rattle.posix_types.specs.declared.item.Item.{Item}
 use Rattle.posix_types.specs.declared.tree.TreeEntry.{TreeEntry}
-use Rattle.command_line.specs.posix_spec.Run.{Begun}
+use Rattle.command_line.specs.posix_spec.Run.{Unfinished}
 use Rattle.command_line.specs.posix_spec.State.{State}
 use Rattle.split_machine.specs.world_image_laws.Promised.{KeepsPromise}
 use Rattle.split_machine.specs.world_model.Shown.{IsTreeOfContent}
 
 -- WHAT A RUN LEAVES: a device of this geometry, of which nothing is lent, and which keeps the promise for the history and the
 -- unfinished calls.
-pub record IsLeftAs (g : Geometry) (d : List Cell) (start : State) (history : List Item) (unfinished : List Begun) : Type 0 where
+pub record IsLeftAs (g : Geometry) (d : List Cell) (start : State) (history : List Item) (unfinished : List Unfinished) : Type 0 where
   pub size : length d ≡ 512 * g.blocks
   pub home : AllHome d
   pub promise : KeepsPromise g d start history unfinished

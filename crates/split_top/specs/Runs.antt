@@ -5,7 +5,7 @@ use Rattle.posix_types.specs.declared.item.Item.{Item}
 use Rattle.posix_types.specs.declared.reply.Shape.{Shape}
 use Rattle.posix_types.specs.declared.tree.TreeEntry.{TreeEntry}
 use Rattle.posix_types.specs.Scripts.{Scripts}
-use Rattle.command_line.specs.posix_spec.Run.{Begun}
+use Rattle.command_line.specs.posix_spec.Run.{Unfinished}
 use Rattle.command_line.specs.posix_spec.Ending.{beginning, IsRunOf, Task}
 use Rattle.split_machine.specs.crash_spec.Strict.{Strict}
 use Rattle.split_machine.specs.run_laws.Changes.{ChangesAtMost}
@@ -16,6 +16,6 @@ task_on tree shape scripts = record { image = tree; shape = shape; scripts = scr
 
 -- A RUN with power for a number of steps, or without a limit, ended with this history and these unfinished calls, and this tree was
 -- left, which strict mode permits; and at most so many calls made, removed or moved a name as there were steps.
-pub record IsRun (task : Task) (stop : Option ℕ) (history : List Item) (unfinished : List Begun) (left : List TreeEntry) : Type 0 where
+pub record IsRun (task : Task) (stop : Option ℕ) (history : List Item) (unfinished : List Unfinished) (left : List TreeEntry) : Type 0 where
   pub ends : IsRunOf Strict task stop history unfinished left
   pub kept : (steps : ℕ) → stop ≡ Some steps → ChangesAtMost (beginning task) history steps

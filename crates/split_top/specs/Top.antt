@@ -9,7 +9,7 @@ use Rattle.posix_types.specs.declared.reply.Shape.{Shape}
 use Rattle.posix_types.specs.declared.tree.TreeEntry.{TreeEntry}
 use Rattle.posix_types.specs.Scripts.{Scripts}
 use Rattle.command_line.specs.posix_spec.Ending.{Task}
-use Rattle.command_line.specs.posix_spec.Run.{Begun}
+use Rattle.command_line.specs.posix_spec.Run.{Unfinished}
 use Rattle.split_machine.specs.world_image_laws.BeginningLaws.{IsShapeOf}
 use Rattle.report_text.specs.Texts.{history_text, tree_text}
 use Rattle.command_line.specs.script_text.Scripts.{bad_line, scripts_of}
@@ -29,7 +29,7 @@ pub record Says (words : List (List ℕ)) (Holds : Command → Type 0) : Type 0 
 -- and this tree, as a mount leaves it.
 pub record IsOutcome (g : Geometry) (task : Task) (stop : Option ℕ) (output kept : List ℕ) : Type 0 where
   pub history : List Item
-  pub unfinished : List Begun
+  pub unfinished : List Unfinished
   pub left : List TreeEntry
   pub is_run : IsRun task stop history unfinished left
   pub is_text : output ≡ history_text history ++ tree_text left

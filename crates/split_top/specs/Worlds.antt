@@ -7,7 +7,7 @@ use Rattle.posix_types.specs.declared.reply.Shape.{Shape}
 use Rattle.posix_types.specs.declared.tree.TreeEntry.{TreeEntry}
 use Rattle.posix_types.specs.Scripts.{Scripts}
 use Rattle.command_line.specs.posix_spec.Ending.{beginning}
-use Rattle.command_line.specs.posix_spec.Run.{Begun}
+use Rattle.command_line.specs.posix_spec.Run.{Unfinished}
 use Rattle.split_machine.specs.world_view_laws.Starts.{AreInLimits}
 use Rattle.split_machine.specs.world_view_laws.Views.{WorldView}
 use Rattle.split_machine.specs.Runs.{IsFirst}
@@ -41,5 +41,5 @@ pub record IsRanOn (bytes : List ℕ) (g : Geometry) (scripts : Scripts) (stop :
   pub shape : Shape
   pub shows : ShowsTree bytes tree
   pub is_shape : IsShapeOf g shape
-  pub unfinished : List Begun
+  pub unfinished : List Unfinished
   pub is_run : IsRun (task_on tree shape scripts) stop history unfinished left

@@ -14,6 +14,7 @@
 
 mod images;
 mod jobs;
+mod laws;
 mod making;
 mod mounting;
 mod opening;

@@ -4,10 +4,11 @@ ghost use Rattle.command_line.specs.pm_model.Words.{word_at};
 ghost use Rattle.split_top.specs.Found.{IsFoundOn};
 ghost use Rattle.split_top.specs.Images.{CanOpen};
 
+use crate::laws;
 use crate::opening::device;
 use pm_lines::Power;
 use posix_types::Tree;
-use split_machine::{KSplit, MountFault, a_remount_shows_the_same, mount};
+use split_machine::{KSplit, MountFault, mount};
 use std::alloc::{AllocError, Global};
 
 /// K-Split on an image, and the tree that is found there.
@@ -22,7 +23,7 @@ pub(crate) fn mount_image(alloc: Global, bytes: &[u8]) -> Result<Mounted, AllocE
     requires { CanOpen bytes.now }
     ensures { IfOk result (λ m. IsFoundOn (word_at bytes.now) m.k m.tree) }
 {
-    a_remount_shows_the_same();
+    laws::a_remount_shows_the_same();
     let pm = device(alloc, bytes)?;
     let mut power = Power::always();
     match mount(alloc, pm, false, &mut power) {

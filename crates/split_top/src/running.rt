@@ -7,11 +7,9 @@ ghost use Rattle.split_top.specs.Jobs.{IsUnrun};
 ghost use Rattle.split_top.specs.Top.{IsRunOn, IsScriptRunOn};
 ghost use Rattle.split_top.specs.Worlds.{AreRunnable};
 
+use crate::laws;
 use crate::runs::run;
-use command_line::{
-    Geometry, ScriptFault, Status, read_script, scripts_are_spelled, scripts_are_within_limits,
-    scripts_have_known_words,
-};
+use command_line::{Geometry, ScriptFault, Status, read_script};
 use pm_lines::Choice;
 use posix_types::Scripts;
 use report_text::{history_text, tree_text};
@@ -63,9 +61,9 @@ pub(crate) fn run_script(
     ensures outcome { IfOk result (λ o. IsScriptRunOn image.now geometry bytes.now stop o.output.items o.image.items) }
     ensures kind { IfErr result (λ status. IsUnrun bytes.now status) }
 {
-    scripts_are_spelled();
-    scripts_are_within_limits();
-    scripts_have_known_words();
+    laws::scripts_are_spelled();
+    laws::scripts_are_within_limits();
+    laws::scripts_have_known_words();
     match read_script(alloc, bytes) {
         Ok(scripts) => match outcome_of(alloc, image, geometry, scripts, stop, choice) {
             Ok(outcome) => Ok(outcome),

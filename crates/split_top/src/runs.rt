@@ -3,7 +3,7 @@ ghost use Rattle.std.specs.Prelude.{◌≡◌, List, IfOk};
 ghost use Rattle.command_line.specs.pm_model.Words.{word_at};
 ghost use Rattle.split_machine.specs.image_model.Rules.{geometry_of};
 ghost use Rattle.split_machine.specs.crash_spec.Permitted.{Permitted};
-ghost use Rattle.command_line.specs.posix_spec.Run.{Begun};
+ghost use Rattle.command_line.specs.posix_spec.Run.{Unfinished};
 ghost use Rattle.command_line.specs.posix_spec.State.{State};
 ghost use Rattle.posix_types.specs.Scripts as spec;
 ghost use Rattle.posix_types.specs.declared.item.Item as items;
@@ -72,9 +72,9 @@ fn world_on(
 
 /// What is found on the device that a run left: the image by the choice is mounted again.
 fn left_on(alloc: Global, pm: &Pm, geometry: Geometry, choice: Choice) -> Result<Left, AllocError>
-    requires { (start : State) × (history : List items.Item) × (unfinished : List Begun) × IsLeftAs geometry pm.now start history unfinished }
+    requires { (start : State) × (history : List items.Item) × (unfinished : List Unfinished) × IsLeftAs geometry pm.now start history unfinished }
     ensures found { IfOk result (λ left. IsFoundBy geometry choice pm.now left.tree) }
-    ensures permitted { IfOk result (λ left. (start : State) (history : List items.Item) (unfinished : List Begun) → IsLeftAs geometry pm.now start history unfinished → Permitted start.mode start history unfinished left.tree) }
+    ensures permitted { IfOk result (λ left. (start : State) (history : List items.Item) (unfinished : List Unfinished) → IsLeftAs geometry pm.now start history unfinished → Permitted start.mode start history unfinished left.tree) }
     ensures mounted { IfOk result (λ left. IsMounted left.image.items left.tree) }
     ensures numbers { IfOk result (λ left. geometry_of (word_at left.image.items) ≡ geometry) }
 {
@@ -97,7 +97,7 @@ fn run_world(
     choice: Choice,
 ) -> Result<Ran, NoMemory>
     requires { (tree : List trees.TreeEntry) × (shape : Shape) × (scripts : spec.Scripts) × IsWorldOn geometry tree shape scripts world }
-    ensures ran { IfOk result (λ ran. (tree : List trees.TreeEntry) (shape : Shape) (scripts : spec.Scripts) → IsWorldOn geometry tree shape scripts world → (unfinished : List Begun) × IsRun (task_on tree shape scripts) stop ran.history.items unfinished ran.tree) }
+    ensures ran { IfOk result (λ ran. (tree : List trees.TreeEntry) (shape : Shape) (scripts : spec.Scripts) → IsWorldOn geometry tree shape scripts world → (unfinished : List Unfinished) × IsRun (task_on tree shape scripts) stop ran.history.items unfinished ran.tree) }
     ensures mounted { IfOk result (λ ran. IsMounted ran.image.items ran.tree) }
     ensures numbers { IfOk result (λ ran. geometry_of (word_at ran.image.items) ≡ geometry) }
 {

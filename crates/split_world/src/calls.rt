@@ -94,7 +94,7 @@ impl World {
         requires job { IsOfWorld self.old job }
         requires full { full.capacity ≤ full.claimed }
         requires capacity { full.capacity ≡ self.old.geometry.log }
-        ensures given { (p : standing.Pending) → IsFilledOut self.old p job → GivesUp full p self.old self.new }
+        ensures given { (p : standing.JobOut) → IsFilledOut self.old p job → GivesUp full p self.old self.new }
     {
         if self.parts.lost {
             give_up_off(&mut self.parts, job, full);

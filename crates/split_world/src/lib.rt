@@ -15,6 +15,7 @@
 #![tactic(auto)]
 
 mod calls;
+mod laws;
 mod rounds;
 mod starting;
 mod world;

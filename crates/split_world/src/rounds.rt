@@ -5,14 +5,13 @@ ghost use Rattle.world_begins.specs.world_parts.Answers.{IsCheckpoint, IsEnded};
 ghost use Rattle.world_begins.specs.world_parts.world_view_laws.Losses.{MayCrash};
 ghost use Rattle.world_begins.specs.world_parts.world_view_laws.Rounds.{IsLeft, IsRoundBegun, MayCheckpoint, MayUnmount};
 
+use crate::laws;
 use crate::world::World;
 use pm_lines::{Line, Power};
 use round_laws::{Commit, FilledJob, Job};
 use std::alloc::Global;
 use world_begins::{Crashed, Ended, NoMemory, lose};
-use world_rounds::{
-    an_unmount_ends_a_run, begin_lines, crash_lost, end_lines, end_run, keep_lines,
-};
+use world_rounds::{begin_lines, crash_lost, end_lines, end_run, keep_lines};
 
 impl World {
     /// Begins a round: the log's lines, by rising slot, all words of them single, and the base of their sequence
@@ -85,7 +84,7 @@ impl World {
         ensures steps { Steps (2 ^ 26) power.old power.new }
         ensures ended { IsEnded self power.new result }
     {
-        an_unmount_ends_a_run();
+        laws::an_unmount_ends_a_run();
         let parts = self.parts;
         if parts.lost {
             return Ok(Ended::Lost(crash_lost(parts, lines, Vec::new(alloc), Vec::new(alloc))));

@@ -8,12 +8,11 @@ ghost use Rattle.world_begins.specs.world_parts.world_view_laws.Starts.{AreInLim
 ghost use Rattle.split_world.specs.Mounts.{IsWorldAnswer};
 ghost use Rattle.world_begins.specs.world_parts.Seen.{seen, IsKept};
 
+use crate::laws;
 use crate::world::World;
 use pm_lines::{Pm, Power};
 use posix_types::{Mode, Scripts};
-use round_laws::{
-    KSplit, MountFault, OpenFiles, Staging, a_world_begins, mount, no_calls, table_of,
-};
+use round_laws::{KSplit, MountFault, OpenFiles, Staging, mount, no_calls, table_of};
 use std::alloc::Global;
 use world_begins::{NoMemory, Parts};
 
@@ -24,7 +23,7 @@ fn parts_over(alloc: Global, k: KSplit, mode: Mode, scripts: Scripts) -> Result<
     requires limits { AreInLimits scripts }
     ensures { IfOk result (λ p. IsKept p × BeginsOver k mode scripts (seen p)) }
 {
-    a_world_begins();
+    laws::a_world_begins();
     let tree = k.tree(alloc)?;
     let geometry = *k.geometry();
     let base = k.log_base();
@@ -98,7 +97,7 @@ impl World {
         ensures spent { IsSpent power.old power.new }
         ensures answer { IsWorldAnswer pm mode scripts power.old power.new result }
     {
-        a_world_begins();
+        laws::a_world_begins();
         let k = mount(alloc, pm, false, power)?;
         match World::over(alloc, k, mode, scripts) {
             Ok(world) => Ok(world),

@@ -1,5 +1,6 @@
 //! Reads the calls of rows.
 use crate::faults::RowError;
+use crate::printed::spelled;
 use posix_spec::{Call, Who};
 use script_text::{ScriptFault, read_script};
 use std::alloc::{AllocError, Global};
@@ -16,9 +17,9 @@ pub fn caller(line: &str) -> Result<(Who, &str), RowError> {
     }
 }
 
-/// The call that a line of a script spells.
+/// The call that a line of a row spells.
 pub fn read_call(alloc: Global, line: &str) -> Result<Call, RowError> {
-    match read_script(alloc, line.as_bytes()) {
+    match read_script(alloc, spelled(alloc, line)?.as_bytes()) {
         Ok(mut scripts) => match scripts.threads.pop() {
             Some(mut list) => list.calls.pop().ok_or(RowError::Misspelled),
             None => Err(RowError::Misspelled),

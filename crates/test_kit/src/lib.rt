@@ -3,8 +3,10 @@
 //! A table has rows with an empty line between two. A line that begins with `#` is a remark on where the answers come
 //! from. A row has a line `row NAME`, then its options, `WORD ..`, as its crate reads them, and then what is done,
 //! `CALL = REPLY`: a call as scripts spell it, and its reply as histories print it. A caller other than thread 0 stands
-//! in front, `s:` for the set-up or `1:` for a thread, and `N times` in front of all repeats the line. `tree = ..` is the
-//! tree at that place, with `; ` between two entries. Data may stand in parts with `+` between them.
+//! in front, `s:` for the set-up or `1:` for a thread. `tree = ..` is the tree at that place, with `; ` between two entries.
+//! Data may stand in parts with `+` between them. Lines that several rows share stand in the table once, below `lines NAME`
+//! and between empty lines: `do NAME` stands for them. `for WORD ..: LINE` stands for that line, or for the lines of `do
+//! NAME`, with each of the words in the place of `#`, and `for N to M: ..` likewise with numbers.
 //!
 //! `table_told` tells how each row of a table went, and `assert_rows` asserts that each went `ok`. Calls are read by
 //! `read_script`, and replies and trees are printed by `history_text` and `tree_text`, which are tried so. `Draws` draws
@@ -18,10 +20,11 @@ mod faults;
 mod printed;
 mod tables;
 mod trees;
+mod unfolding;
 
 pub use calls::{caller, read_call};
 pub use draws::Draws;
 pub use faults::RowError;
-pub use printed::{printed_call, printed_lines, shown_items, shown_tree};
-pub use tables::{asked, assert_rows, number, option, repeated, small_number, table_told, word};
+pub use printed::{printed_call, printed_lines, shown_items, shown_tree, spelled};
+pub use tables::{asked, assert_rows, number, option, small_number, table_told, word};
 pub use trees::read_tree;

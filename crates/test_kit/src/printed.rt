@@ -31,26 +31,34 @@ fn add_word(text: &mut String, word: &str) -> Result<(), RowError> {
     Ok(())
 }
 
-// Adds a line as it is printed: the last word may be data in parts.
-fn add_line(text: &mut String, line: &str) -> Result<(), RowError> {
-    match line.rsplit_once(' ') {
-        None => add_word(text, line)?,
+// Adds words of which the last one may be data in parts.
+fn add_words(text: &mut String, words: &str) -> Result<(), RowError> {
+    match words.rsplit_once(' ') {
+        None => add_word(text, words),
         Some((before, last)) => {
             text.push_str(before)?;
             text.push(' ')?;
-            add_word(text, last)?;
+            add_word(text, last)
         }
     }
-    text.push('\n')?;
-    Ok(())
+}
+
+/// A call or a reply as it is spelled in scripts and histories, where the row has the data of its last word in parts.
+pub fn spelled(alloc: Global, words: &str) -> Result<String, RowError> {
+    let mut text = String::new(alloc);
+    add_words(&mut text, words)?;
+    Ok(text)
 }
 
 /// The line `CALL = REPLY` as a history prints it, of the call of this number.
 pub fn printed_call(alloc: Global, number: u32, line: &str) -> Result<String, RowError> {
-    let (caller, call) = line.split_once(": ").unwrap_or(("0", line));
-    let line = format!(in alloc; "{caller}.{number} {call}")?;
-    let mut text = String::new(alloc);
-    add_line(&mut text, line.as_str())?;
+    let (caller, line) = line.split_once(": ").unwrap_or(("0", line));
+    let (call, reply) = line.split_once(" = ").ok_or(RowError::Misspelled)?;
+    let mut text = format!(in alloc; "{caller}.{number} ")?;
+    add_words(&mut text, call)?;
+    text.push_str(" = ")?;
+    add_words(&mut text, reply)?;
+    text.push('\n')?;
     Ok(text)
 }
 
@@ -58,7 +66,8 @@ pub fn printed_call(alloc: Global, number: u32, line: &str) -> Result<String, Ro
 pub fn printed_lines(alloc: Global, lines: &str) -> Result<String, RowError> {
     let mut text = String::new(alloc);
     for line in lines.split("; ") {
-        add_line(&mut text, line)?;
+        add_words(&mut text, line)?;
+        text.push('\n')?;
     }
     Ok(text)
 }

@@ -1,5 +1,6 @@
 //! Tables, their rows and the lines of these.
 use crate::faults::RowError;
+use crate::unfolding::unfolded;
 use std::alloc::Global;
 
 /// A word of a line by its place, and no text past the last one.
@@ -40,14 +41,6 @@ pub fn asked(line: &str) -> Option<(&str, &str)> {
     }
 }
 
-/// How often a line is done, and the line without that.
-pub fn repeated(line: &str) -> Result<(u64, &str), RowError> {
-    match line.split_once(" times ") {
-        None => Ok((1, line)),
-        Some((times, line)) => Ok((number(times)?, line)),
-    }
-}
-
 /// How the rows of a table went: for each its name and what is told of it, on a line.
 pub fn table_told<F: Fn(Global, &str) -> Result<String, RowError>>(
     alloc: Global,
@@ -59,7 +52,7 @@ pub fn table_told<F: Fn(Global, &str) -> Result<String, RowError>>(
     let mut text = String::new(alloc);
     for row in table.split("\n\n") {
         if let Some(name) = option(row, "row") {
-            let told = tell(alloc, row)?;
+            let told = tell(alloc, unfolded(alloc, table, row)?.as_str())?;
             let line = format!(in alloc; "{name}: {told}\n")?;
             text.push_str(line.as_str())?;
         }

@@ -12,7 +12,7 @@ use Rattle.call_laws.specs.file_truncate.Truncates as truncates
 use Rattle.call_laws.proofs.Running.{built_beside, built_unlogged, call_loses, call_lost, item_with_outcome, ran, returns, spent_by, stands_by}
 use Rattle.call_laws.proofs.Staying.{going_now, lacks_ends, lacks_over, stands_now, strict_now}
 use Rattle.call_laws.proofs.Truncating.{truncate_lacks, truncate_loses, truncate_lost, truncate_room, truncate_stands, truncate_unlogged}
-use Rattle.world_parts.specs.in_flight.live_model.Standing.{Pending, StandsAt}
+use Rattle.world_parts.specs.in_flight.live_model.Standing.{JobOut, StandsAt}
 use Rattle.world_parts.specs.in_flight.live_model.world_model.JobLaws.{needs}
 use Rattle.call_laws.specs.write_begin.Needs.{JobsNeed, need_by}
 use Rattle.world_parts.specs.world_view_laws.declared.views.over.Over.{Over}
@@ -96,7 +96,7 @@ module _ (p : Parts) (who : Who) (call : Call) (turn : IsTurn p who call) (neede
 -- ---- a `truncate`
 
 module _ (p : Parts) (who : Who) (h : Handle) (size : ℕ) (turn : IsTurn p who (Call.Truncate h size)) (law : JobsNeed) (taken : ℕ)
-    (taken_is : taken ≡ sum_by (λ (q : Pending). need_by p.files.tables p.data q.who q.call) p.pending.items) (l : View) (d : Files) where
+    (taken_is : taken ≡ sum_by (λ (q : JobOut). need_by p.files.tables p.data q.who q.call) p.pending.items) (l : View) (d : Files) where
   abbrev call : Call
   call = Call.Truncate h size
 

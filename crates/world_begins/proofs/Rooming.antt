@@ -9,7 +9,7 @@ use Rattle.posix_types.specs.declared.call.Who.{Who}
 use Rattle.posix_types.specs.declared.item.Item.{Item}
 use Rattle.world_parts.specs.posix_spec.Scripted.{IsSetUp}
 use Rattle.world_parts.specs.in_flight.Counters.{AreCounts}
-use Rattle.world_parts.specs.in_flight.live_model.Standing.{Pending}
+use Rattle.world_parts.specs.in_flight.live_model.Standing.{JobOut}
 use Rattle.world_parts.proofs.world_view_laws_proofs.Ending.{no_both}
 use Rattle.world_parts.proofs.world_view_laws_proofs.Losing.{call_off}
 use Rattle.world_parts.specs.world_view_laws.Begins.{Begins, LosesCall}
@@ -22,7 +22,7 @@ use Rattle.world_parts.proofs.Losing.{out_within}
 
 -- ---- room is made
 
-module _ (p : Parts) (kept : IsKept p) (history : Vec Item Global) (claims : Vec (ℕ × Draft) Global) (pending : Vec Pending Global) (spare : Vec (Who × Call) Global)
+module _ (p : Parts) (kept : IsKept p) (history : Vec Item Global) (claims : Vec (ℕ × Draft) Global) (pending : Vec JobOut Global) (spare : Vec (Who × Call) Global)
     (items : KeepsItems p.history history) (entries : KeepsItems p.claims claims) (jobs : KeepsItems p.pending pending) (calls : KeepsItems p.spare spare) where
   abbrev pub roomy : Parts
   roomy = record p { history = history; claims = claims; pending = pending; spare = spare }

@@ -17,7 +17,7 @@ use Rattle.call_laws.specs.write_begin.Needs.{JobsNeed}
 use Rattle.call_laws.specs.write_begin.write_plan.Asks.{HaveLines, room_in}
 use Rattle.call_laws.specs.write_begin.write_plan.Numbers.{OpenHaveLines, RoomIsKept}
 use Rattle.world_parts.specs.in_flight.Histories.{item_with}
-use Rattle.world_parts.specs.in_flight.live_model.Standing.{Pending, StandsAt}
+use Rattle.world_parts.specs.in_flight.live_model.Standing.{JobOut, StandsAt}
 use Rattle.world_parts.proofs.world_view_laws_proofs.Ending.{no_both}
 use Rattle.world_parts.specs.world_view_laws.declared.views.over.Over.{Over}
 use Rattle.world_parts.specs.world_view_laws.Begins.{item_of}
@@ -107,7 +107,7 @@ module _ (p : Parts) (who : Who) (call : Call) (turn : IsTurn p who call) where
 
     -- ---- it became a job
 
-    module _ (r : Parts) (one : Pending) (rest : r ≡ record moved { pending = r.pending; acts = p.acts + 1 }) (pushed : r.pending.items ≡ p.pending.items ++ one ∷ []) where
+    module _ (r : Parts) (one : JobOut) (rest : r ≡ record moved { pending = r.pending; acts = p.acts + 1 }) (pushed : r.pending.items ≡ p.pending.items ++ one ∷ []) where
       abbrev pub job_view : WorldView
       job_view = record moved_view { pending = p.pending.items ++ one ∷ []; acts = p.acts + 1 }
 
@@ -115,7 +115,7 @@ module _ (p : Parts) (who : Who) (call : Call) (turn : IsTurn p who call) where
       with_job = record moved { pending = r.pending; acts = p.acts + 1 }
 
       with_view : seen with_job ≡ job_view
-      with_view = ap (λ (jobs : List Pending). (let v : WorldView = record moved_view { pending = jobs; acts = p.acts + 1 } in v)) pushed
+      with_view = ap (λ (jobs : List JobOut). (let v : WorldView = record moved_view { pending = jobs; acts = p.acts + 1 } in v)) pushed
 
       pub job_seen : seen r ≡ job_view
       job_seen = ap seen rest ∙ with_view
@@ -174,7 +174,7 @@ module _ (p : Parts) (who : Who) (call : Call) (turn : IsTurn p who call) where
       off_seen = ap seen is_off
 
       few_out : blocks_out q.k.cells p.pending.items ≤ length p.pending.items
-      few_out = count_by-le-length (λ (x : Pending). is_lent (cell q.k.cells (512 * slice_index x.blocks 0))) p.pending.items
+      few_out = count_by-le-length (λ (x : JobOut). is_lent (cell q.k.cells (512 * slice_index x.blocks 0))) p.pending.items
 
       pub off_kept : IsWorldOver q.k q.files.tables q.staging q.data off_view → IsKept r
       off_kept world = subst IsKept (sym is_off) (record {

@@ -10,7 +10,7 @@ use Rattle.posix_types.specs.declared.call.Who.{Who}
 use Rattle.posix_types.specs.declared.handle.Handle.{Handle}
 use Rattle.posix_types.specs.declared.item.Outcome.{Outcome}
 use Rattle.world_parts.specs.in_flight.staging_files.Keeps.{Staged}
-use Rattle.world_parts.specs.in_flight.live_model.Standing.{Pending}
+use Rattle.world_parts.specs.in_flight.live_model.Standing.{JobOut}
 use Rattle.call_laws.proofs.Putting.{answered, answers, begins_job, found_at, item_is, job_begun, loses_call, power_lost, write_ends_round, write_over}
 use Rattle.call_laws.specs.write_begin.Begins as writing
 use Rattle.call_laws.specs.write_begin.Begins.{BeginsWrite, Found, IsAnsweredBy, LosesWrite}
@@ -30,13 +30,13 @@ use Rattle.world_begins.specs.Turns.{IsTurn}
 use Rattle.world_begins.proofs.Turning.{job_kept, job_seen, off_kept, off_seen, over_kept, over_seen, returned_kept, returned_seen}
 
 -- a job is pushed, with its call and its entry by other names
-pub job_pushed : (old new : List Pending) (who : Who) (call other : Call) (draft its : Draft) (blocks : List ℕ) → call ≡ other → draft ≡ its
+pub job_pushed : (old new : List JobOut) (who : Who) (call other : Call) (draft its : Draft) (blocks : List ℕ) → call ≡ other → draft ≡ its
     → new ≡ old ++ record { who = who; call = call; draft = draft; blocks = blocks } ∷ [] → new ≡ old ++ record { who = who; call = other; draft = its; blocks = blocks } ∷ []
 job_pushed old new who call other draft its blocks call_is draft_is pushed =
-    pushed ∙ (λ i. (let one : Pending = record { who = who; call = call_is i; draft = draft_is i; blocks = blocks } in old ++ one ∷ []))
+    pushed ∙ (λ i. (let one : JobOut = record { who = who; call = call_is i; draft = draft_is i; blocks = blocks } in old ++ one ∷ []))
 
 module _ (p : Parts) (who : Who) (h : Handle) (at : Option ℕ) (x : List ℕ) (turn : IsTurn p who (call_of h at x)) (law : JobsNeed) (taken : ℕ)
-    (taken_is : taken ≡ sum_by (λ (q : Pending). need_by p.files.tables p.data q.who q.call) p.pending.items) where
+    (taken_is : taken ≡ sum_by (λ (q : JobOut). need_by p.files.tables p.data q.who q.call) p.pending.items) where
   -- WHAT IT ASKS
   abbrev pub put_found : Found p.k p.files.tables p.staging p.data who (call_of h at x) taken
   put_found = found_at p.k p.files.tables p.staging p.data (seen p) who h at x turn.calls law taken taken_is
@@ -66,7 +66,7 @@ module _ (p : Parts) (who : Who) (h : Handle) (at : Option ℕ) (x : List ℕ) (
         → r.pending.items ≡ p.pending.items ++ record { who = who; call = call_of h at x; draft = job.draft; blocks = blocks } ∷ []
         → (after : Supply) → is_on after ≡ true → IsKept r × BeginsJob who (seen p) (seen r) after job
     put_began keeps job blocks begun r rest pushed after on =
-        let one : Pending = record { who = who; call = call_of h at x; draft = job.draft; blocks = blocks } in (
+        let one : JobOut = record { who = who; call = call_of h at x; draft = job.draft; blocks = blocks } in (
           job_kept p who (call_of h at x) turn q refl r one rest pushed (job_begun p.k p.files.tables p.staging p.data (seen p) who h at x turn.calls law taken taken_is l s d keeps job blocks begun),
           subst (λ (v : WorldView). BeginsJob who (seen p) v after job) (sym (job_seen p who (call_of h at x) turn q refl r one rest pushed))
               (begins_job p.k p.files.tables p.staging p.data (seen p) who h at x turn.calls law taken taken_is l s d keeps job blocks begun after on),

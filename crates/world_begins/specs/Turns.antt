@@ -9,7 +9,7 @@ use Rattle.call_laws.specs.Calls.{AtCall}
 use Rattle.world_parts.specs.in_flight.Busy.{WaitsForFile}
 use Rattle.call_laws.specs.file_truncate.Truncates.{HasNothingStaged}
 use Rattle.world_parts.specs.in_flight.Counters.{AreCounts}
-use Rattle.world_parts.specs.in_flight.live_model.Standing.{Pending}
+use Rattle.world_parts.specs.in_flight.live_model.Standing.{JobOut}
 use Rattle.call_laws.specs.write_begin.Needs.{need_by}
 use Rattle.world_parts.specs.world_view_laws.Begins.{LosesCall, OthersStay, Publishes, WantsMemory}
 use Rattle.world_parts.specs.world_view_laws.file_calls.Built.{CutsNothing}
@@ -18,8 +18,8 @@ use Rattle.world_parts.specs.Seen.{HasRoomForOne, IsKept, seen}
 use Rattle.world_parts.specs.declared.parts.Parts.{Parts}
 
 -- how many blocks the jobs that are out need together
-abbrev pub needs_by : Tables → Files → List Pending → ℕ
-needs_by t files pending = sum_by (λ (p : Pending). need_by t files p.who p.call) pending
+abbrev pub needs_by : Tables → Files → List JobOut → ℕ
+needs_by t files pending = sum_by (λ (p : JobOut). need_by t files p.who p.call) pending
 
 -- ---- what is published before a call
 

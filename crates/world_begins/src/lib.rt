@@ -11,11 +11,12 @@
 #![tactic(auto)]
 
 mod begins;
+mod laws;
 mod turns;
 
 pub use begins::begin_next;
 pub use turns::{
-    Begun, Crashed, Ended, Finished, NoMemory, Over, Parts, Pending, Ready, Told, Truncated, add,
+    Begun, Crashed, Ended, Finished, JobOut, NoMemory, Over, Parts, Ready, Told, Truncated, add,
     begin_put, busy_on, call_at, calls_made, end_round, fsync, jobs_need_what_their_calls_do,
     lacks_room, lose, lose_call, lose_one, needs_now, publish_first, ready_of, run_call,
     truncate_file,

@@ -16,6 +16,6 @@ pub use publishing::publish_first;
 pub use puts::begin_put;
 pub use turns::{end_round, lose_call, needs_now};
 pub use world_parts::{
-    Begun, Crashed, Ended, Finished, NoMemory, Over, Parts, Pending, Ready, Told, add, busy_on,
+    Begun, Crashed, Ended, Finished, JobOut, NoMemory, Over, Parts, Ready, Told, add, busy_on,
     call_at, calls_made, fsync, lose, lose_one, ready_of, run_call,
 };

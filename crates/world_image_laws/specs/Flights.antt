@@ -20,12 +20,12 @@ use Rattle.world_step_laws.specs.world_model.volume_laws.ImageLaws.{journaled-ot
 use Rattle.world_step_laws.specs.k_split_model.Stands.{IsOldOrNew}
 use Rattle.world_step_laws.specs.commute_laws.posix_types.declared.call.Mode.{Mode}
 use Rattle.world_step_laws.specs.commute_laws.posix_types.declared.item.Item.{Item}
-use Rattle.world_step_laws.specs.commute_laws.posix_spec.Run.{after_call, Begun, run}
+use Rattle.world_step_laws.specs.commute_laws.posix_spec.Run.{after_call, Unfinished, run}
 use Rattle.world_step_laws.specs.commute_laws.posix_spec.State.{State}
 use Rattle.world_step_laws.specs.commute_laws.crash_spec.Permitted.{Permitted}
 use Rattle.world_step_laws.specs.commute_laws.crash_spec.Strict.{StrictFrom}
 use Rattle.world_step_laws.specs.commute_laws.Orders.{StrictFrom-last}
-use Rattle.world_step_laws.specs.world_model.Jobs.{begun_of, Job, live_claims}
+use Rattle.world_step_laws.specs.world_model.Jobs.{unfinished_call, Job, live_claims}
 use Rattle.world_step_laws.specs.world_model.Promised.{AreWhole}
 use Rattle.world_step_laws.specs.world_model.Shown.{AreFilled, landed_pairs, SameButLent}
 use Rattle.world_step_laws.specs.world_model.Ends.{StrictFrom-lost}
@@ -135,7 +135,7 @@ small_lap v d claims jobs numbers s count image device is =
     small_base v.base (journaled image base_word) v.geometry.log v.geometry.blocks (sym (device.stands.reads image is).base) (device.headed image is).head.state.most_base (device.world image is).geometry.most_log
 
 kept_mode : (mode : Mode) (v : Volume) (claims : List (ℕ × Draft)) (jobs : List Job) (numbers : List ℕ) (count : ℕ) (image : Words) (start : State) (history : List Item) → start.mode ≡ mode → mode ≢ Mode.Posix → AreFound start jobs
-    → ShowsWorld v claims jobs numbers (run start history) count image → IsKept v.geometry start history (map begun_of jobs) image
+    → ShowsWorld v claims jobs numbers (run start history) count image → IsKept v.geometry start history (map unfinished_call jobs) image
 kept_mode Mode.Strict v claims jobs numbers count image start history is other found shows = kept_strict v claims jobs numbers count image start history is (found is) shows
 kept_mode Mode.Sync v claims jobs numbers count image start history is other found shows = kept_sync v claims jobs numbers count image start history is shows
 kept_mode Mode.Posix v claims jobs numbers count image start history is other found shows = absurd (other refl)
@@ -148,7 +148,7 @@ promise_in_flight v d claims jobs numbers start history count back first slots i
 
 pub promise_at_begin : KeepsPromiseAtBegin
 promise_at_begin v d claims jobs numbers start history count back first slots image c mode found device is =
-    kept_more v.geometry start history (map begun_of jobs) c image mode
+    kept_more v.geometry start history (map unfinished_call jobs) c image mode
     (promise_in_flight v d claims jobs numbers start history count back first slots image mode found device is)
 
 -- ---- within a change
@@ -206,7 +206,7 @@ shows_beside v w d e claims jobs numbers after s new count later back first slot
 
 -- the call may not have acted, or acted before the jobs
 pub leads_before : LeadsBefore
-leads_before start history c jobs left is = StrictFrom-lost (run start history) (map begun_of jobs) c left is
+leads_before start history c jobs left is = StrictFrom-lost (run start history) (map unfinished_call jobs) c left is
 
 pub leads_after : LeadsAfter
 leads_after v claims jobs f numbers start history count c world beside left is =
@@ -219,11 +219,11 @@ leads_after v claims jobs f numbers start history count c world beside left is =
     subst (λ cs. StrictFrom s (cs ++ c ∷ []) left) same last
 
 -- an image that shows the World in such a state is kept
-kept_leading : (v : Volume) (claims : List (ℕ × Draft)) (jobs : List Job) (numbers : List ℕ) (s : State) (count : ℕ) (image : Words) (start : State) (history : List Item) (c : Begun) → start.mode ≡ Mode.Strict → AreWhole jobs
-    → LeadsTo start history c jobs s → ShowsWorld v claims jobs numbers s count image → IsKept v.geometry start history (map begun_of jobs ++ c ∷ []) image
+kept_leading : (v : Volume) (claims : List (ℕ × Draft)) (jobs : List Job) (numbers : List ℕ) (s : State) (count : ℕ) (image : Words) (start : State) (history : List Item) (c : Unfinished) → start.mode ≡ Mode.Strict → AreWhole jobs
+    → LeadsTo start history c jobs s → ShowsWorld v claims jobs numbers s count image → IsKept v.geometry start history (map unfinished_call jobs ++ c ∷ []) image
 kept_leading v claims jobs numbers s count image start history c mode whole leads is =
-    kept_by v claims jobs numbers s count image start history (map begun_of jobs ++ c ∷ []) is
-    (λ left tree_is. subst (λ m. Permitted m start history (map begun_of jobs ++ c ∷ []) left) (sym mode)
+    kept_by v claims jobs numbers s count image start history (map unfinished_call jobs ++ c ∷ []) is
+    (λ left tree_is. subst (λ m. Permitted m start history (map unfinished_call jobs ++ c ∷ []) left) (sym mode)
     (leads left (strict_promise v claims jobs (journaled image) (journaled image) numbers s [] is.landed left whole is.world.valid (shown v claims jobs numbers s count image is) tree_is)))
 
 pub promise_beside : KeepsPromiseBeside
@@ -231,7 +231,7 @@ promise_beside v w d e claims jobs numbers after s new start history count later
     elim (shows_beside v w d e claims jobs numbers after s new count later back first slots image device change blocks room takes is) [
       | inl old ↦ kept_leading v claims jobs numbers s count image start history c mode whole before old
       | inr changed ↦
-          subst (λ g. IsKept g start history (map begun_of jobs ++ c ∷ []) image) change.geometry
+          subst (λ g. IsKept g start history (map unfinished_call jobs ++ c ∷ []) image) change.geometry
           (kept_leading w claims jobs after new later image start history c mode whole behind changed)
     ]
 

@@ -30,12 +30,12 @@ use Rattle.world_step_laws.specs.world_model.posix_tables.Names.{directory_stand
 use Rattle.world_step_laws.specs.world_model.posix_tables.Nodes.{is_directory}
 use Rattle.world_step_laws.specs.world_model.posix_tables.Outcomes.{first}
 use Rattle.world_step_laws.specs.world_model.posix_spec.FileRows.{file_number}
-use Rattle.world_step_laws.specs.world_model.posix_spec.Run.{after_call, Begun, run}
+use Rattle.world_step_laws.specs.world_model.posix_spec.Run.{after_call, Unfinished, run}
 use Rattle.world_step_laws.specs.world_model.posix_spec.State.{space, State, unnamed as unnamed_state}
 use Rattle.world_step_laws.specs.world_model.posix_spec.Step.{renamed as renamed_state}
 use Rattle.world_step_laws.specs.world_model.posix_spec.Tree.{start, tree}
 use Rattle.world_step_laws.specs.world_model.crash_spec.Permitted.{Permitted}
-use Rattle.world_step_laws.specs.world_model.Jobs.{begun_of, Job}
+use Rattle.world_step_laws.specs.world_model.Jobs.{unfinished_call, Job}
 use Rattle.world_step_laws.specs.world_model.Promised.{AreWhole}
 use Rattle.world_step_laws.specs.world_model.Shown.{IsTreeOfContent}
 use Rattle.world_image_laws.specs.Begun.{numbers_of}
@@ -51,7 +51,7 @@ use Rattle.world_image_laws.specs.Settings.{KeepsSetting}
 -- A device on which the World runs keeps the promise: the tree of the history is left, whatever calls are unfinished.
 abbrev pub RunsPromised : Type 0
 RunsPromised =
-    (v : Volume) (d : List Cell) (claims : List (ℕ × Draft)) (numbers : List ℕ) (start : State) (history : List Item) (unfinished : List Begun) (count : ℕ)
+    (v : Volume) (d : List Cell) (claims : List (ℕ × Draft)) (numbers : List ℕ) (start : State) (history : List Item) (unfinished : List Unfinished) (count : ℕ)
     → IsRunning v d claims numbers (run start history) count → KeepsPromise v.geometry d start history unfinished
 
 -- With writes in flight, an image that shows the World is kept: in strict mode where each of them is found whole, in sync mode
@@ -59,17 +59,17 @@ RunsPromised =
 abbrev pub KeepsStrictImage : Type 0
 KeepsStrictImage =
     (v : Volume) (claims : List (ℕ × Draft)) (jobs : List Job) (numbers : List ℕ) (count : ℕ) (image : Words) (start : State) (history : List Item) → start.mode ≡ Mode.Strict → AreWhole jobs
-    → ShowsWorld v claims jobs numbers (run start history) count image → IsKept v.geometry start history (map begun_of jobs) image
+    → ShowsWorld v claims jobs numbers (run start history) count image → IsKept v.geometry start history (map unfinished_call jobs) image
 
 abbrev pub KeepsSyncImage : Type 0
 KeepsSyncImage =
     (v : Volume) (claims : List (ℕ × Draft)) (jobs : List Job) (numbers : List ℕ) (count : ℕ) (image : Words) (start : State) (history : List Item) → start.mode ≡ Mode.Sync
-    → ShowsWorld v claims jobs numbers (run start history) count image → IsKept v.geometry start history (map begun_of jobs) image
+    → ShowsWorld v claims jobs numbers (run start history) count image → IsKept v.geometry start history (map unfinished_call jobs) image
 
 -- and is kept with one more call that lost its power before it acted
 abbrev pub MayBeLostLast : Type 0
 MayBeLostLast =
-    (g : Geometry) (start : State) (history : List Item) (unfinished : List Begun) (c : Begun) (image : Words) → start.mode ≢ Mode.Posix → IsKept g start history unfinished image
+    (g : Geometry) (start : State) (history : List Item) (unfinished : List Unfinished) (c : Unfinished) (image : Words) → start.mode ≢ Mode.Posix → IsKept g start history unfinished image
     → IsKept g start history (unfinished ++ c ∷ []) image
 
 -- ---- a change of the volume
@@ -105,25 +105,25 @@ StaysRunning =
 -- The change cut off: the promise is kept where the trees before and after it are permitted.
 abbrev pub KeepsPromiseInChange : Type 0
 KeepsPromiseInChange =
-    (v w : Volume) (d e : List Cell) (claims : List (ℕ × Draft)) (numbers after : List ℕ) (s new : State) (count later : ℕ) (start : State) (history : List Item) (unfinished : List Begun)
+    (v w : Volume) (d e : List Cell) (claims : List (ℕ × Draft)) (numbers after : List ℕ) (s new : State) (count later : ℕ) (start : State) (history : List Item) (unfinished : List Unfinished)
     → IsRunning v d claims numbers s count → IsChange v w d e → HasRoom w claims [] new → Takes v w claims [] numbers after s new count later
     → Permitted start.mode start history unfinished (tree s) → Permitted start.mode start history unfinished (tree new) → KeepsPromise v.geometry e start history unfinished
 
 -- the tree of the history, or that of the history and one more call
-abbrev pub IsTreeOf : State → List Item → Begun → List TreeEntry → Type 0
+abbrev pub IsTreeOf : State → List Item → Unfinished → List TreeEntry → Type 0
 IsTreeOf start history c t = (t ≡ tree (run start history)) ⊎ (t ≡ tree (after_call (run start history) c))
 
 -- So in strict and in sync mode within each change of one call, the first or a later one.
 abbrev pub KeepsPromiseOfCall : Type 0
 KeepsPromiseOfCall =
-    (v w : Volume) (d e : List Cell) (claims : List (ℕ × Draft)) (numbers after : List ℕ) (s new : State) (count later : ℕ) (start : State) (history : List Item) (c : Begun) → start.mode ≢ Mode.Posix
+    (v w : Volume) (d e : List Cell) (claims : List (ℕ × Draft)) (numbers after : List ℕ) (s new : State) (count later : ℕ) (start : State) (history : List Item) (c : Unfinished) → start.mode ≢ Mode.Posix
     → IsRunning v d claims numbers s count → IsChange v w d e → HasRoom w claims [] new → Takes v w claims [] numbers after s new count later
     → IsTreeOf start history c (tree s) → IsTreeOf start history c (tree new) → KeepsPromise v.geometry e start history (c ∷ [])
 
 -- And between two changes of one call.
 abbrev pub KeepsPromiseBetween : Type 0
 KeepsPromiseBetween =
-    (v : Volume) (d : List Cell) (claims : List (ℕ × Draft)) (numbers : List ℕ) (s : State) (count : ℕ) (start : State) (history : List Item) (c : Begun) → start.mode ≢ Mode.Posix
+    (v : Volume) (d : List Cell) (claims : List (ℕ × Draft)) (numbers : List ℕ) (s : State) (count : ℕ) (start : State) (history : List Item) (c : Unfinished) → start.mode ≢ Mode.Posix
     → IsRunning v d claims numbers s count → IsTreeOf start history c (tree s) → KeepsPromise v.geometry d start history (c ∷ [])
 
 -- ---- the room
@@ -167,7 +167,7 @@ KeepsRoomDropped =
 
 -- No call changes the shape or the mode.
 abbrev pub KeepsSettings : Type 0
-KeepsSettings = (s : State) (c : Begun) → KeepsSetting s (after_call s c)
+KeepsSettings = (s : State) (c : Unfinished) → KeepsSetting s (after_call s c)
 
 -- Where the root is a directory: once the name is gone, the tree is that of the end of the `unlink`, whether the file goes or
 -- stays;

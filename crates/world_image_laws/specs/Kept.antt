@@ -15,11 +15,11 @@ use Rattle.image_laws.specs.CheckedLaws.{checked-parts}
 use Rattle.world_step_laws.specs.world_model.posix_types.declared.call.Mode.{Mode}
 use Rattle.world_step_laws.specs.world_model.posix_types.declared.item.Item.{Item}
 use Rattle.world_step_laws.specs.world_model.posix_types.declared.tree.TreeEntry.{TreeEntry}
-use Rattle.world_step_laws.specs.world_model.posix_spec.Run.{Begun, run}
+use Rattle.world_step_laws.specs.world_model.posix_spec.Run.{Unfinished, run}
 use Rattle.world_step_laws.specs.world_model.posix_spec.State.{State}
 use Rattle.world_step_laws.specs.world_model.posix_spec.Tree.{tree}
 use Rattle.world_step_laws.specs.world_model.crash_spec.Permitted.{Permitted}
-use Rattle.world_step_laws.specs.world_model.Jobs.{begun_of, Job}
+use Rattle.world_step_laws.specs.world_model.Jobs.{unfinished_call, Job}
 use Rattle.world_step_laws.specs.world_model.Promised.{AreWhole, content_shown, IsShown}
 use Rattle.world_step_laws.specs.world_model.Shown.{IsTreeOfContent}
 use Rattle.world_step_laws.specs.world_model.Promise.{has_tree, may_be_lost, may_be_lost_in_sync, strict_promise, sync_promise}
@@ -51,7 +51,7 @@ content_is : (v : Volume) (claims : List (ℕ × Draft)) (jobs : List Job) (numb
 content_is v claims jobs numbers s count image is = content-own v.geometry v (journaled image) is.reads
 
 -- So it is kept, where its trees are permitted.
-pub kept_by : (v : Volume) (claims : List (ℕ × Draft)) (jobs : List Job) (numbers : List ℕ) (s : State) (count : ℕ) (image : Words) (start : State) (history : List Item) (unfinished : List Begun)
+pub kept_by : (v : Volume) (claims : List (ℕ × Draft)) (jobs : List Job) (numbers : List ℕ) (s : State) (count : ℕ) (image : Words) (start : State) (history : List Item) (unfinished : List Unfinished)
     → ShowsWorld v claims jobs numbers s count image
     → ((left : List TreeEntry) → IsTreeOfContent (content_shown v (journaled image)) left → Permitted start.mode start history unfinished left) → IsKept v.geometry start history unfinished image
 kept_by v claims jobs numbers s count image start history unfinished is permitted = record {
@@ -68,17 +68,17 @@ kept_by v claims jobs numbers s count image start history unfinished is permitte
 
 -- With writes in flight: in strict mode each of them whole, in sync mode as it is found.
 pub kept_strict : (v : Volume) (claims : List (ℕ × Draft)) (jobs : List Job) (numbers : List ℕ) (count : ℕ) (image : Words) (start : State) (history : List Item) → start.mode ≡ Mode.Strict → AreWhole jobs
-    → ShowsWorld v claims jobs numbers (run start history) count image → IsKept v.geometry start history (map begun_of jobs) image
+    → ShowsWorld v claims jobs numbers (run start history) count image → IsKept v.geometry start history (map unfinished_call jobs) image
 kept_strict v claims jobs numbers count image start history mode whole is =
-    kept_by v claims jobs numbers (run start history) count image start history (map begun_of jobs) is
-    (λ left tree_is. subst (λ m. Permitted m start history (map begun_of jobs) left) (sym mode)
+    kept_by v claims jobs numbers (run start history) count image start history (map unfinished_call jobs) is
+    (λ left tree_is. subst (λ m. Permitted m start history (map unfinished_call jobs) left) (sym mode)
     (strict_promise v claims jobs (journaled image) (journaled image) numbers start history is.landed left whole is.world.valid (shown v claims jobs numbers (run start history) count image is) tree_is))
 
 pub kept_sync : (v : Volume) (claims : List (ℕ × Draft)) (jobs : List Job) (numbers : List ℕ) (count : ℕ) (image : Words) (start : State) (history : List Item) → start.mode ≡ Mode.Sync
-    → ShowsWorld v claims jobs numbers (run start history) count image → IsKept v.geometry start history (map begun_of jobs) image
+    → ShowsWorld v claims jobs numbers (run start history) count image → IsKept v.geometry start history (map unfinished_call jobs) image
 kept_sync v claims jobs numbers count image start history mode is =
-    kept_by v claims jobs numbers (run start history) count image start history (map begun_of jobs) is
-    (λ left tree_is. subst (λ m. Permitted m start history (map begun_of jobs) left) (sym mode)
+    kept_by v claims jobs numbers (run start history) count image start history (map unfinished_call jobs) is
+    (λ left tree_is. subst (λ m. Permitted m start history (map unfinished_call jobs) left) (sym mode)
     (sync_promise v claims jobs (journaled image) (journaled image) numbers start history is.landed left is.world.valid (shown v claims jobs numbers (run start history) count image is) tree_is))
 
 -- With no write in flight its one tree is that of the state, in each mode.
@@ -87,14 +87,14 @@ pub one_tree : (v : Volume) (claims : List (ℕ × Draft)) (numbers : List ℕ) 
 one_tree v claims numbers s count image left is tree_is =
     strict_promise v claims [] (journaled image) (journaled image) numbers s [] is.landed left tt is.world.valid (shown v claims [] numbers s count image is) tree_is
 
-pub kept_one : (v : Volume) (claims : List (ℕ × Draft)) (numbers : List ℕ) (s : State) (count : ℕ) (image : Words) (start : State) (history : List Item) (unfinished : List Begun)
+pub kept_one : (v : Volume) (claims : List (ℕ × Draft)) (numbers : List ℕ) (s : State) (count : ℕ) (image : Words) (start : State) (history : List Item) (unfinished : List Unfinished)
     → ShowsWorld v claims [] numbers s count image → Permitted start.mode start history unfinished (tree s) → IsKept v.geometry start history unfinished image
 kept_one v claims numbers s count image start history unfinished is permitted =
     kept_by v claims [] numbers s count image start history unfinished is
     (λ left tree_is. subst (Permitted start.mode start history unfinished) (sym (one_tree v claims numbers s count image left is tree_is)) permitted)
 
 -- One more call is unfinished, which lost its power before it acted.
-pub kept_more : (g : Geometry) (start : State) (history : List Item) (unfinished : List Begun) (c : Begun) (image : Words) → start.mode ≢ Mode.Posix → IsKept g start history unfinished image
+pub kept_more : (g : Geometry) (start : State) (history : List Item) (unfinished : List Unfinished) (c : Unfinished) (image : Words) → start.mode ≢ Mode.Posix → IsKept g start history unfinished image
     → IsKept g start history (unfinished ++ c ∷ []) image
 kept_more g start history unfinished c image mode is =
     record { checked = is.checked; geometry = is.geometry; tree = is.tree; permitted = λ left tree_is. by start.mode mode left (is.permitted left tree_is) } where

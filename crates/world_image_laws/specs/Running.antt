@@ -13,7 +13,7 @@ use Rattle.world_step_laws.specs.k_split_model.Stands.{IsOldOrNew}
 use Rattle.world_step_laws.specs.world_model.posix_types.declared.call.Mode.{Mode}
 use Rattle.world_step_laws.specs.world_model.posix_types.declared.item.Item.{Item}
 use Rattle.world_step_laws.specs.world_model.posix_types.declared.tree.TreeEntry.{TreeEntry}
-use Rattle.world_step_laws.specs.world_model.posix_spec.Run.{Begun, run}
+use Rattle.world_step_laws.specs.world_model.posix_spec.Run.{Unfinished, run}
 use Rattle.world_step_laws.specs.world_model.posix_spec.State.{State}
 use Rattle.world_step_laws.specs.world_model.posix_spec.Tree.{tree}
 use Rattle.world_step_laws.specs.world_model.crash_spec.Permitted.{Permitted}
@@ -140,7 +140,7 @@ promise_in_change v w d e claims numbers after s new count later start history u
     ]
 
 -- and so within a change of one call
-permitted_one : (mode : Mode) (start : State) (history : List Item) (c : Begun) (t : List TreeEntry) → mode ≢ Mode.Posix → IsTreeOf start history c t → Permitted mode start history (c ∷ []) t
+permitted_one : (mode : Mode) (start : State) (history : List Item) (c : Unfinished) (t : List TreeEntry) → mode ≢ Mode.Posix → IsTreeOf start history c t → Permitted mode start history (c ∷ []) t
 permitted_one mode start history c t other (inl before) = subst (Permitted mode start history (c ∷ [])) (sym before) (Permitted-none mode start history (c ∷ []))
 permitted_one Mode.Strict start history c t other (inr behind) = subst (Permitted Mode.Strict start history (c ∷ [])) (sym behind) (Strict-one start history c)
 permitted_one Mode.Sync start history c t other (inr behind) = subst (Permitted Mode.Sync start history (c ∷ [])) (sym behind) (Sync-one start history c)

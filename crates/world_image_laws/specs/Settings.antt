@@ -12,7 +12,7 @@ use Rattle.world_step_laws.specs.world_model.posix_tables.Names.{directory_stand
 use Rattle.world_step_laws.specs.world_model.posix_tables.Open.{closed, is_full, is_open}
 use Rattle.world_step_laws.specs.world_model.posix_tables.Outcomes.{first}
 use Rattle.world_step_laws.specs.world_model.posix_spec.FileRows.{close_rows, dup_rows, file_number, fsync_rows, read_rows, seek_rows, truncate_rows, write_rows, write_start}
-use Rattle.world_step_laws.specs.world_model.posix_spec.Run.{after_call, Begun, run}
+use Rattle.world_step_laws.specs.world_model.posix_spec.Run.{after_call, Unfinished, run}
 use Rattle.world_step_laws.specs.world_model.posix_spec.State.{alone, made, space, State, swept, unnamed, with_file, with_node, with_published}
 use Rattle.world_step_laws.specs.world_model.posix_spec.Step.{close_done, dup_done, empty_file, fsync_done, is_busy, list_done, mkdir_done, open_done, opening, pread_done, pwrite_done, read_done, rename_done, renamed, rmdir_done, seek_done, stat_done, step, truncate_done, unlink_done, write_done, written}
 use Rattle.world_step_laws.specs.world_model.posix_laws.RowLaws.{stepped-keeps}
@@ -72,7 +72,7 @@ keeps_close s who h =
     keeps_swept s (record (with_published s (file_number s.tables who h)) { tables = closed s.tables who h }) (file_number s.tables who h) (record { shape = refl; mode = refl })
 
 -- EACH CALL keeps shape and mode.
-pub keeps_setting : (s : State) (c : Begun) → KeepsSetting s (after_call s c)
+pub keeps_setting : (s : State) (c : Unfinished) → KeepsSetting s (after_call s c)
 unfolding dup_done read_done pread_done write_done pwrite_done written seek_done truncate_done fsync_done stat_done list_done with_file with_published
 keeps_setting s (who, Call.Mkdir p) = stepped-keeps (KeepsSetting s) s (first (mkdir_rows (space s) p)) (mkdir_done s p) (same s) (λ none. keeps_mkdir s p)
 keeps_setting s (who, Call.Rmdir p) = stepped-keeps (KeepsSetting s) s (first (rmdir_rows (space s) p)) (rmdir_done s p) (same s) (λ none. keeps_rmdir s p)

@@ -18,7 +18,7 @@ use Rattle.posix_laws.specs.posix_tables.Outcomes.{first}
 use Rattle.posix_laws.specs.posix_tables.Room.{growth, held, staged_below}
 use Rattle.posix_laws.specs.posix_spec.FileRows.{content, file_number, write_rows, write_start}
 use Rattle.posix_laws.specs.posix_spec.Put.{put_at, put_by}
-use Rattle.posix_laws.specs.posix_spec.Run.{after_call, Begun}
+use Rattle.posix_laws.specs.posix_spec.Run.{after_call, Unfinished}
 use Rattle.posix_laws.specs.posix_spec.State.{alone, Fits, room, State, with_file}
 use Rattle.posix_laws.specs.posix_spec.Step.{pwrite_done, step, stepped, write_done, written}
 use Rattle.posix_laws.specs.FitsLaws.{length-overwritten}
@@ -118,7 +118,7 @@ set_twice (x ∷ xs) zero a b = refl
 set_twice (x ∷ xs) (suc n) a b = ap (λ l. x ∷ l) (set_twice xs n a b)
 
 -- it leaves just those
-pub LeavesWhole-bytes : (s : State) (c : Begun) (node : ℕ) (whole bytes : List ℕ) → PutsWhole s c.0 c.1 node whole → node < length s.nodes → LeavesWhole s (with_bytes (after_call s c) node bytes) node bytes
+pub LeavesWhole-bytes : (s : State) (c : Unfinished) (node : ℕ) (whole bytes : List ℕ) → PutsWhole s c.0 c.1 node whole → node < length s.nodes → LeavesWhole s (with_bytes (after_call s c) node bytes) node bytes
 unfolding with_file
 LeavesWhole-bytes s c node whole bytes puts there =
     let leaves = LeavesWhole-step s c.0 c.1 node whole puts in
@@ -134,7 +134,7 @@ LeavesWhole-bytes s c node whole bytes puts there =
     }
 
 -- with the whole bytes it is the state after the call
-pub with_bytes-whole : (s : State) (c : Begun) (node : ℕ) (whole : List ℕ) → PutsWhole s c.0 c.1 node whole → node < length s.nodes → with_bytes (after_call s c) node whole ≡ after_call s c
+pub with_bytes-whole : (s : State) (c : Unfinished) (node : ℕ) (whole : List ℕ) → PutsWhole s c.0 c.1 node whole → node < length s.nodes → with_bytes (after_call s c) node whole ≡ after_call s c
 unfolding with_file
 with_bytes-whole s c node whole puts there =
     let after = LeavesWhole-step s c.0 c.1 node whole puts in
@@ -142,12 +142,12 @@ with_bytes-whole s c node whole puts there =
     λ i. record (after_call s c) { nodes = (again.nodes ∙ sym after.nodes) i }
 
 -- the file has the whole bytes after the call
-pub bytes-after : (s : State) (c : Begun) (node : ℕ) (whole : List ℕ) → PutsWhole s c.0 c.1 node whole → node < length s.nodes → bytes_of (node_at (after_call s c).nodes node) ≡ whole
+pub bytes-after : (s : State) (c : Unfinished) (node : ℕ) (whole : List ℕ) → PutsWhole s c.0 c.1 node whole → node < length s.nodes → bytes_of (node_at (after_call s c).nodes node) ≡ whole
 bytes-after s c node whole puts there =
     let leaves = LeavesWhole-step s c.0 c.1 node whole puts in
     ap bytes_of (ap (λ nodes. node_at nodes node) leaves.nodes ∙ get_or-set_same s.nodes node (with_whole s node whole) Node.Gone there)
 
-same_view : (s : State) (c : Begun) (node : ℕ) (whole bytes : List ℕ) (who2 : Who) (h : Handle) (node2 : ℕ) → PutsWhole s c.0 c.1 node whole → node < length s.nodes → IsPutThrough s who2 h node2 → node2 ≢ node
+same_view : (s : State) (c : Unfinished) (node : ℕ) (whole bytes : List ℕ) (who2 : Who) (h : Handle) (node2 : ℕ) → PutsWhole s c.0 c.1 node whole → node < length s.nodes → IsPutThrough s who2 h node2 → node2 ≢ node
     → SameView s (with_bytes (after_call s c) node bytes) who2 h
 unfolding with_file
 same_view s c node whole bytes who2 h node2 puts there through other =
@@ -162,7 +162,7 @@ same_view s c node whole bytes who2 h node2 puts there through other =
     }
 
 -- A write of another file looks at the same.
-pub KeepsView-other : (s : State) (c : Begun) (node : ℕ) (whole bytes : List ℕ) (who2 : Who) (call2 : Call) (node2 : ℕ) (whole2 : List ℕ)
+pub KeepsView-other : (s : State) (c : Unfinished) (node : ℕ) (whole bytes : List ℕ) (who2 : Who) (call2 : Call) (node2 : ℕ) (whole2 : List ℕ)
     → PutsWhole s c.0 c.1 node whole → node < length s.nodes → PutsWhole s who2 call2 node2 whole2 → node2 ≢ node → KeepsView s (with_bytes (after_call s c) node bytes) who2 call2
 unfolding put_by with_file
 KeepsView-other s c node whole bytes who2 (Call.Write h x) node2 whole2 puts there puts2 other =
@@ -207,20 +207,20 @@ held_set [] n node most le = omega arith
 held_set (x ∷ xs) zero node most le = omega (arith, sum_by-cons weight x xs, sum_by-cons weight node xs, le)
 held_set (x ∷ xs) (suc n) node most le = omega (arith, sum_by-cons weight x xs, sum_by-cons weight x (slice_set xs n node), held_set xs n node most le)
 
-held_after : (s next : State) (c : Begun) (node : ℕ) (whole bytes : List ℕ) → PutsWhole s c.0 c.1 node whole → LeavesWhole s next node bytes → length bytes ≡ length whole
+held_after : (s next : State) (c : Unfinished) (node : ℕ) (whole bytes : List ℕ) → PutsWhole s c.0 c.1 node whole → LeavesWhole s next node bytes → length bytes ≡ length whole
     → held next.nodes ≤ held s.nodes + need_of s c.0 c.1
 held_after s next c node whole bytes puts leaves long =
     let le = subst (λ n. held_by n ≤ weight (node_at s.nodes node) + need_of s c.0 c.1) (sym long) (grows s c.0 c.1 node whole puts) in
     subst (λ nodes. held nodes ≤ held s.nodes + need_of s c.0 c.1) (sym leaves.nodes) (held_set s.nodes node (with_whole s node bytes) (need_of s c.0 c.1) le)
 
 -- So what was left besides the need is left, and the files fit.
-pub room-after : (s next : State) (c : Begun) (node : ℕ) (whole bytes : List ℕ) (k : ℕ) → PutsWhole s c.0 c.1 node whole → LeavesWhole s next node bytes → length bytes ≡ length whole
+pub room-after : (s next : State) (c : Unfinished) (node : ℕ) (whole bytes : List ℕ) (k : ℕ) → PutsWhole s c.0 c.1 node whole → LeavesWhole s next node bytes → length bytes ≡ length whole
     → need_of s c.0 c.1 + k ≤ room s → k ≤ room next
 room-after s next c node whole bytes k puts leaves long fits =
     let most = held_after s next c node whole bytes puts leaves long in
     subst (λ (shape : Shape). k ≤ shape.data_blocks - reserve_for shape.data_blocks - held next.nodes) (sym leaves.shape) (omega (arith, most, fits))
 
-pub Fits-after : (s next : State) (c : Begun) (node : ℕ) (whole bytes : List ℕ) → PutsWhole s c.0 c.1 node whole → LeavesWhole s next node bytes → length bytes ≡ length whole
+pub Fits-after : (s next : State) (c : Unfinished) (node : ℕ) (whole bytes : List ℕ) → PutsWhole s c.0 c.1 node whole → LeavesWhole s next node bytes → length bytes ≡ length whole
     → need_of s c.0 c.1 ≤ room s → Fits s → Fits next
 Fits-after s next c node whole bytes puts leaves long fits all =
     let most = held_after s next c node whole bytes puts leaves long in

@@ -9,7 +9,7 @@ use Rattle.name_laws.specs.image_model.Content.{found}
 use Rattle.name_laws.specs.image_model.Live.{entry_in, is_live, live_entries, valid_entries}
 use Rattle.name_laws.specs.image_model.Volume.{Volume}
 use Rattle.posix_laws.specs.posix_types.declared.tree.TreeEntry.{TreeEntry}
-use Rattle.posix_laws.specs.posix_spec.Run.{after_call, Begun}
+use Rattle.posix_laws.specs.posix_spec.Run.{after_call, Unfinished}
 use Rattle.posix_laws.specs.posix_spec.State.{State}
 use Rattle.posix_laws.specs.posix_spec.Tree.{tree}
 use Rattle.crash_spec.specs.Strict.{StrictFrom}
@@ -18,7 +18,7 @@ use Rattle.crash_spec.specs.list_laws.Filters.{filter-In, filter_map-In, In-filt
 use Rattle.crash_spec.specs.list_laws.Members.{In}
 use Rattle.posix_laws.specs.Entries.{IsTreeLike}
 use Rattle.posix_laws.specs.Paths.{stands_at}
-use Rattle.world_model.specs.Jobs.{begun_of, Job, live_claims, Valid}
+use Rattle.world_model.specs.Jobs.{unfinished_call, Job, live_claims, Valid}
 use Rattle.world_model.specs.Promised.{AreWhole, LeftBy}
 use Rattle.world_model.specs.Shown.{AreFilled, landed_pairs, shown_as, ShowsClaims}
 use Rattle.world_model.specs.Stands.{entries_of}
@@ -103,41 +103,41 @@ ends v (j ∷ jobs) (Some slot ∷ landed) claims image numbers s valid filled s
 -- What the jobs leave is permitted.
 
 -- in strict mode
-pub Strict-LeftBy : (s : State) (jobs : List Job) (left : List TreeEntry) → AreWhole jobs → LeftBy s jobs left → StrictFrom s (map begun_of jobs) left
+pub Strict-LeftBy : (s : State) (jobs : List Job) (left : List TreeEntry) → AreWhole jobs → LeftBy s jobs left → StrictFrom s (map unfinished_call jobs) left
 Strict-LeftBy s [] left whole is = is
 Strict-LeftBy s (j ∷ jobs) left whole (inr rest) = inr (Strict-LeftBy s jobs left whole.1 rest)
 Strict-LeftBy s (j ∷ jobs) left whole (inl (next, acts, rest)) =
-    let same = acts.next_is ∙ (ap (with_bytes (after_call s (begun_of j)) acts.node) whole.0 ∙ with_bytes-whole s (begun_of j) acts.node j.whole acts.puts acts.there) in
-    inl (subst (λ (x : State). StrictFrom x (map begun_of jobs) left) same (Strict-LeftBy next jobs left whole.1 rest))
+    let same = acts.next_is ∙ (ap (with_bytes (after_call s (unfinished_call j)) acts.node) whole.0 ∙ with_bytes-whole s (unfinished_call j) acts.node j.whole acts.puts acts.there) in
+    inl (subst (λ (x : State). StrictFrom x (map unfinished_call jobs) left) same (Strict-LeftBy next jobs left whole.1 rest))
 
 -- and in sync mode
-pub Sync-LeftBy : (s : State) (jobs : List Job) (left : List TreeEntry) → LeftBy s jobs left → SyncFrom s (map begun_of jobs) left
+pub Sync-LeftBy : (s : State) (jobs : List Job) (left : List TreeEntry) → LeftBy s jobs left → SyncFrom s (map unfinished_call jobs) left
 Sync-LeftBy s [] left is = is
 Sync-LeftBy s (j ∷ jobs) left (inr rest) = inr (inr (Sync-LeftBy s jobs left rest))
 Sync-LeftBy s (j ∷ jobs) left (inl (next, acts, rest)) =
     let put = acts.puts.put in
     let node : put.node ≡ acts.node = acts.puts.node_is in
-    let after : file_bytes (after_call s (begun_of j)) acts.node ≡ j.whole = bytes-after s (begun_of j) acts.node j.whole acts.puts acts.there in
+    let after : file_bytes (after_call s (unfinished_call j)) acts.node ≡ j.whole = bytes-after s (unfinished_call j) acts.node j.whole acts.puts acts.there in
     inr (inl (
       next,
       record {
         put = put;
         bytes = j.found;
         is_write = acts.puts.is;
-        part = subst (λ n. IsPartOf (file_bytes s n) (file_bytes (after_call s (begun_of j)) n) j.found) (sym node) (subst (λ bytes. IsPartOf (file_bytes s acts.node) bytes j.found) (sym after) acts.part);
-        next_is = acts.next_is ∙ ap (λ n. with_bytes (after_call s (begun_of j)) n j.found) (sym node);
+        part = subst (λ n. IsPartOf (file_bytes s n) (file_bytes (after_call s (unfinished_call j)) n) j.found) (sym node) (subst (λ bytes. IsPartOf (file_bytes s acts.node) bytes j.found) (sym after) acts.part);
+        next_is = acts.next_is ∙ ap (λ n. with_bytes (after_call s (unfinished_call j)) n j.found) (sym node);
       },
       Sync-LeftBy next jobs left rest,
     ))
 
 -- A call that lost its power before it acted is the last of the unfinished ones.
 
-pub StrictFrom-lost : (s : State) (unfinished : List Begun) (c : Begun) (left : List TreeEntry) → StrictFrom s unfinished left → StrictFrom s (unfinished ++ c ∷ []) left
+pub StrictFrom-lost : (s : State) (unfinished : List Unfinished) (c : Unfinished) (left : List TreeEntry) → StrictFrom s unfinished left → StrictFrom s (unfinished ++ c ∷ []) left
 StrictFrom-lost s [] c left is = inr is
 StrictFrom-lost s (d ∷ unfinished) c left (inl acted_it) = inl (StrictFrom-lost (after_call s d) unfinished c left acted_it)
 StrictFrom-lost s (d ∷ unfinished) c left (inr dropped) = inr (StrictFrom-lost s unfinished c left dropped)
 
-pub SyncFrom-lost : (s : State) (unfinished : List Begun) (c : Begun) (left : List TreeEntry) → SyncFrom s unfinished left → SyncFrom s (unfinished ++ c ∷ []) left
+pub SyncFrom-lost : (s : State) (unfinished : List Unfinished) (c : Unfinished) (left : List TreeEntry) → SyncFrom s unfinished left → SyncFrom s (unfinished ++ c ∷ []) left
 SyncFrom-lost s [] c left is = inr (inr is)
 SyncFrom-lost s (d ∷ unfinished) c left (inl acted_it) = inl (SyncFrom-lost (after_call s d) unfinished c left acted_it)
 SyncFrom-lost s (d ∷ unfinished) c left (inr (inl part)) = inr (inl (part.0, part.1, SyncFrom-lost part.0 unfinished c left part.2))

@@ -26,7 +26,7 @@ use Rattle.posix_laws.specs.posix_spec.Put.{put_by}
 use Rattle.crash_spec.specs.list_laws.Members.{In}
 use Rattle.posix_laws.specs.Puts.{PutsWhole}
 use Rattle.posix_laws.specs.Views.{AreAfforded}
-use Rattle.world_model.specs.Jobs.{begun_of, live_claims}
+use Rattle.world_model.specs.Jobs.{unfinished_call, live_claims}
 use Rattle.world_model.specs.Stands.{Consecutive, entries_of, FileStands, IsSane, IsUsed, LogStands, NamesStand, NodesStand, NodeStands, number}
 use Rattle.world_model.specs.Example.{claims_a, entry_a, job_a, numbers_a, one_entry, staged_at, staged_extent, state_a, volume_a, words_a}
 use Rattle.posix_laws.specs.posix_spec.State.{Fits}
@@ -210,7 +210,7 @@ pub puts : PutsWhole state_a job_a.who job_a.call 1 (1 ∷ 9 ∷ 3 ∷ [])
 unfolding put_by write_rows opened key_of binding_of
 puts = record { put = record { node = 1; place = 1; bytes = 9 ∷ [] }; is = refl; node_is = refl; whole_is = refl }
 
-pub afforded : AreAfforded state_a (begun_of job_a ∷ [])
+pub afforded : AreAfforded state_a (unfinished_call job_a ∷ [])
 unfolding opened key_of binding_of
 afforded = omega arith
 

@@ -13,7 +13,7 @@ use Rattle.name_laws.specs.image_model.Rules.{AreApart}
 use Rattle.name_laws.specs.image_model.Volume.{inode, Volume}
 use Rattle.posix_laws.specs.posix_tables.declared.nodes.Node.{Node}
 use Rattle.posix_laws.specs.posix_tables.Nodes.{bytes_of, node_at}
-use Rattle.posix_laws.specs.posix_spec.Run.{after_call, Begun}
+use Rattle.posix_laws.specs.posix_spec.Run.{after_call, Unfinished}
 use Rattle.posix_laws.specs.posix_spec.State.{room, State}
 use Rattle.crash_spec.specs.Sync.{IsPartOf, with_bytes}
 use Rattle.crash_spec.specs.list_laws.Filters.{filter-more}
@@ -21,7 +21,7 @@ use Rattle.crash_spec.specs.list_laws.Members.{pushed-In}
 use Rattle.posix_laws.specs.Puts.{LeavesWhole, with_whole}
 use Rattle.posix_laws.specs.ViewLaws.{need_of-kept, PutsWhole-kept}
 use Rattle.posix_laws.specs.Views.{KeepsView, need_of}
-use Rattle.world_model.specs.Jobs.{ApartFrom, AreApartJobs, begun_of, HoldsWhole, Job, JobsStand, JobStands, live_claims, Valid}
+use Rattle.world_model.specs.Jobs.{ApartFrom, AreApartJobs, unfinished_call, HoldsWhole, Job, JobsStand, JobStands, live_claims, Valid}
 use Rattle.world_model.specs.Promised.{Acts}
 use Rattle.world_model.specs.Stands.{is_used, IsUsed, number, Stands}
 use Rattle.world_model.specs.Beside.{Fits-after, KeepsView-other, LeavesWhole-bytes, room-after}
@@ -29,7 +29,7 @@ use Rattle.world_model.specs.Landed.{CanLand, disk-other, entries-other, kind_fi
 
 -- the state in which a job has acted, with the bytes that are found of it
 abbrev pub acted : List ℕ → State → Job → State
-acted numbers s j = with_bytes (after_call s (begun_of j)) (number numbers j.draft.ino) j.found
+acted numbers s j = with_bytes (after_call s (unfinished_call j)) (number numbers j.draft.ino) j.found
 
 -- an entry that is live is one of a file
 pub live_file : (v : Volume) (d : Draft) → is_live v d ≡ true → (inode v d.ino).kind ≡ File
@@ -70,7 +70,7 @@ Acts-job v live f numbers s j stands job = record {
 pub LeavesWhole-acted : (v : Volume) (live : List Draft) (f : Words) (numbers : List ℕ) (s : State) (j : Job) → Stands v live f numbers s → JobStands v live f numbers s j
     → LeavesWhole s (acted numbers s j) (number numbers j.draft.ino) j.found
 LeavesWhole-acted v live f numbers s j stands job =
-    LeavesWhole-bytes s (begun_of j) (number numbers j.draft.ino) j.whole j.found job.puts (stands.names.within j.draft.ino (live_used v j.draft job.alive))
+    LeavesWhole-bytes s (unfinished_call j) (number numbers j.draft.ino) j.whole j.found job.puts (stands.names.within j.draft.ino (live_used v j.draft job.alive))
 
 -- Another job.
 
@@ -82,7 +82,7 @@ apart_nodes v live f numbers s i j stands first second other same =
 view : (v : Volume) (live : List Draft) (f : Words) (numbers : List ℕ) (s : State) (i j : Job) → Stands v live f numbers s → JobStands v live f numbers s i → JobStands v live f numbers s j
     → i.draft.ino ≢ j.draft.ino → KeepsView s (acted numbers s i) j.who j.call
 view v live f numbers s i j stands first second other =
-    KeepsView-other s (begun_of i) (number numbers i.draft.ino) i.whole i.found j.who j.call (number numbers j.draft.ino) j.whole first.puts
+    KeepsView-other s (unfinished_call i) (number numbers i.draft.ino) i.whole i.found j.who j.call (number numbers j.draft.ino) j.whole first.puts
     (stands.names.within i.draft.ino (live_used v i.draft first.alive)) second.puts (apart_nodes v live f numbers s i j stands first second other)
 
 -- stands as before, where one of another file has landed
@@ -109,10 +109,10 @@ JobStands-beside v live f numbers s i j stands first second apart fits = record 
 
 -- what some jobs need together
 abbrev pub needs : State → List Job → ℕ
-needs s jobs = sum_by (λ (c : Begun). need_of s c.0 c.1) (map begun_of jobs)
+needs s jobs = sum_by (λ (c : Unfinished). need_of s c.0 c.1) (map unfinished_call jobs)
 
 needs-cons : (s : State) (j : Job) (jobs : List Job) → needs s (j ∷ jobs) ≡ need_of s j.who j.call + needs s jobs
-needs-cons s j jobs = sum_by-cons (λ (c : Begun). need_of s c.0 c.1) (begun_of j) (map begun_of jobs)
+needs-cons s j jobs = sum_by-cons (λ (c : Unfinished). need_of s c.0 c.1) (unfinished_call j) (map unfinished_call jobs)
 
 JobsStand-beside : (v : Volume) (live : List Draft) (f : Words) (numbers : List ℕ) (s : State) (i : Job) (jobs : List Job) → Stands v live f numbers s → JobStands v live f numbers s i → ApartFrom i jobs
     → JobsStand v live f numbers s jobs → needs s jobs ≤ room (acted numbers s i) → JobsStand v (live ++ i.draft ∷ []) f numbers (acted numbers s i) jobs
@@ -142,11 +142,11 @@ Valid-landed v claims j jobs f numbers s slot valid holds =
     let left = LeavesWhole-acted v live f numbers s j valid.stands job in
     let more = live_claims-more v claims slot j.draft job.alive in
     let all : need_of s j.who j.call + needs s jobs ≤ room s = omega (arith, valid.room, needs-cons s j jobs) in
-    let fits : needs s jobs ≤ room next = room-after s next (begun_of j) node j.whole j.found (needs s jobs) job.puts left job.part.size all in
+    let fits : needs s jobs ≤ room next = room-after s next (unfinished_call j) node j.whole j.found (needs s jobs) job.puts left job.part.size all in
     record {
       stands = subst (λ es. Stands v es f numbers next) (sym more) (Stands-landed v live f numbers s next j.draft j.found valid.stands (can_land v live f numbers s j job) holds left);
       out = subst (λ es. JobsStand v es f numbers next jobs) (sym more) (JobsStand-beside v live f numbers s j jobs valid.stands job valid.out.1 valid.out.2 fits);
-      fits = Fits-after s next (begun_of j) node j.whole j.found job.puts left job.part.size (omega (arith, all)) valid.fits;
+      fits = Fits-after s next (unfinished_call j) node j.whole j.found job.puts left job.part.size (omega (arith, all)) valid.fits;
       room = omega (arith, fits, needs-beside v live f numbers s j jobs valid.stands job valid.out.1 valid.out.2);
     }
 

@@ -13,7 +13,7 @@ use Rattle.name_laws.specs.volume_laws.image_model.Volume.{extents, inode, Volum
 use Rattle.posix_laws.specs.posix_types.declared.call.Call.{Call}
 use Rattle.posix_laws.specs.posix_types.declared.call.Who.{Who}
 use Rattle.posix_laws.specs.posix_tables.Nodes.{bytes_of, node_at}
-use Rattle.posix_laws.specs.posix_spec.Run.{Begun}
+use Rattle.posix_laws.specs.posix_spec.Run.{Unfinished}
 use Rattle.posix_laws.specs.posix_spec.State.{Fits, State}
 use Rattle.crash_spec.specs.Sync.{IsPartOf}
 use Rattle.crash_spec.specs.list_laws.Members.{In}
@@ -31,8 +31,8 @@ pub record Job : Type 0 where
   pub whole : List ℕ
   pub found : List ℕ
 
-abbrev pub begun_of : Job → Begun
-begun_of j = (j.who, j.call)
+abbrev pub unfinished_call : Job → Unfinished
+unfinished_call j = (j.who, j.call)
 
 -- the disk block of block k of an entry; the block is one of those of the entry
 abbrev pub staged_block : Volume → Draft → ℕ → Option ℕ
@@ -86,4 +86,4 @@ pub record Valid (v : Volume) (claims : List (ℕ × Draft)) (jobs : List Job) (
   pub stands : Stands v (live_claims v claims) f numbers s
   pub out : JobsStand v (live_claims v claims) f numbers s jobs
   pub fits : Fits s
-  pub room : AreAfforded s (map begun_of jobs)
+  pub room : AreAfforded s (map unfinished_call jobs)

@@ -5,11 +5,11 @@ use Rattle.name_laws.specs.layout_model.declared.lines.Draft.{Draft}
 use Rattle.name_laws.specs.image_model.Volume.{Volume}
 use Rattle.posix_laws.specs.posix_types.declared.item.Item.{Item}
 use Rattle.posix_laws.specs.posix_types.declared.tree.TreeEntry.{TreeEntry}
-use Rattle.posix_laws.specs.posix_spec.Run.{Begun, run}
+use Rattle.posix_laws.specs.posix_spec.Run.{Unfinished, run}
 use Rattle.posix_laws.specs.posix_spec.State.{State}
 use Rattle.crash_spec.specs.Strict.{Strict}
 use Rattle.crash_spec.specs.Sync.{Sync}
-use Rattle.world_model.specs.Jobs.{begun_of, Job, Valid}
+use Rattle.world_model.specs.Jobs.{unfinished_call, Job, Valid}
 use Rattle.world_model.specs.Promised.{AreWhole, content_shown, IsShown}
 use Rattle.world_model.specs.Shown.{IsTreeOfContent}
 
@@ -19,13 +19,13 @@ abbrev pub KeepsStrictPromise : Type 0
 KeepsStrictPromise =
     (v : Volume) (claims : List (ℕ × Draft)) (jobs : List Job) (kept image : Words) (numbers : List ℕ) (start : State) (history : List Item) (landed : List (Option ℕ)) (left : List TreeEntry)
     → AreWhole jobs → Valid v claims jobs kept numbers (run start history) → IsShown v claims jobs kept image landed → IsTreeOfContent (content_shown v image) left
-    → Strict start history (map begun_of jobs) left
+    → Strict start history (map unfinished_call jobs) left
 
 abbrev pub KeepsSyncPromise : Type 0
 KeepsSyncPromise =
     (v : Volume) (claims : List (ℕ × Draft)) (jobs : List Job) (kept image : Words) (numbers : List ℕ) (start : State) (history : List Item) (landed : List (Option ℕ)) (left : List TreeEntry)
     → Valid v claims jobs kept numbers (run start history) → IsShown v claims jobs kept image landed → IsTreeOfContent (content_shown v image) left
-    → Sync start history (map begun_of jobs) left
+    → Sync start history (map unfinished_call jobs) left
 
 -- The content of each such image has a tree, so that the promise is not empty.
 abbrev pub HasTree : Type 0
@@ -35,7 +35,7 @@ HasTree =
 
 -- A call that lost its power before it acted may stand last among the unfinished ones.
 abbrev pub MayBeLost : Type 0
-MayBeLost = (start : State) (history : List Item) (unfinished : List Begun) (c : Begun) (left : List TreeEntry) → Strict start history unfinished left → Strict start history (unfinished ++ c ∷ []) left
+MayBeLost = (start : State) (history : List Item) (unfinished : List Unfinished) (c : Unfinished) (left : List TreeEntry) → Strict start history unfinished left → Strict start history (unfinished ++ c ∷ []) left
 
 abbrev pub MayBeLostInSync : Type 0
-MayBeLostInSync = (start : State) (history : List Item) (unfinished : List Begun) (c : Begun) (left : List TreeEntry) → Sync start history unfinished left → Sync start history (unfinished ++ c ∷ []) left
+MayBeLostInSync = (start : State) (history : List Item) (unfinished : List Unfinished) (c : Unfinished) (left : List TreeEntry) → Sync start history unfinished left → Sync start history (unfinished ++ c ∷ []) left

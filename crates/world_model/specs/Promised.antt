@@ -12,7 +12,7 @@ use Rattle.posix_laws.specs.posix_spec.State.{State}
 use Rattle.posix_laws.specs.posix_spec.Tree.{tree}
 use Rattle.crash_spec.specs.Sync.{IsPartOf, with_bytes}
 use Rattle.posix_laws.specs.Puts.{PutsWhole}
-use Rattle.world_model.specs.Jobs.{begun_of, Job}
+use Rattle.world_model.specs.Jobs.{unfinished_call, Job}
 use Rattle.world_model.specs.Shown.{AreFilled, landed_pairs, SameButLent, ShowsClaims}
 
 -- a job acts: its call puts whole bytes into a file that is there, and the next state has of them what is found
@@ -21,7 +21,7 @@ pub record Acts (s : State) (j : Job) (next : State) : Type 0 where
   pub there : node < length s.nodes
   pub puts : PutsWhole s j.who j.call node j.whole
   pub part : IsPartOf (bytes_of (node_at s.nodes node)) j.whole j.found
-  pub next_is : next ≡ with_bytes (after_call s (begun_of j)) node j.found
+  pub next_is : next ≡ with_bytes (after_call s (unfinished_call j)) node j.found
 
 -- the tree is that of the state after some of the jobs, in order, by what is found of each
 abbrev pub LeftBy : State → List Job → List TreeEntry → Type 0

@@ -4,8 +4,8 @@ use Rattle.std.proofs.Common.{arith, sym, subst, inl, inr}
 use Rattle.std.proofs.lemmas.Bool.{cases_Bool}
 use Rattle.std.proofs.lemmas.List.Sums.{count_by-le-length}
 use Rattle.world_view_laws.specs.pm_model.Cells.{cell, is_lent}
-use Rattle.world_view_laws.specs.posix_spec.Run.{Begun}
-use Rattle.world_view_laws.specs.in_flight.live_model.Standing.{Pending}
+use Rattle.world_view_laws.specs.posix_spec.Run.{Unfinished}
+use Rattle.world_view_laws.specs.in_flight.live_model.Standing.{JobOut}
 use Rattle.world_view_laws.proofs.Ending.{no_both}
 use Rattle.world_view_laws.proofs.Losing.{lost_view, world_off, world_off_acted}
 use Rattle.world_view_laws.specs.Views.{disk_of, IsGoing, IsWorldOver, WorldView}
@@ -17,11 +17,11 @@ module _ (p : Parts) (kept : IsKept p) (awake : p.lost ≡ false) where
   going = kept.world.going awake
 
   pub out_within : blocks_out p.k.cells p.pending.items ≤ length p.pending.items
-  out_within = count_by-le-length (λ (q : Pending). is_lent (cell p.k.cells (512 * slice_index q.blocks 0))) p.pending.items
+  out_within = count_by-le-length (λ (q : JobOut). is_lent (cell p.k.cells (512 * slice_index q.blocks 0))) p.pending.items
 
   lost_at : (acts : ℕ) → IsWorldOver p.k p.files.tables p.staging p.data (lost_view (seen p) [] acts (disk_of p.k p.files.tables p.staging)) → IsKept (record p { acts = acts; lost = true })
   lost_at acts world = record {
-    world = subst (λ (u : List Begun). (let v : WorldView = record (seen p) { unfinished = u; acts = acts; lost = true } in IsWorldOver p.k p.files.tables p.staging p.data v)) (sym going.none_unfinished) world;
+    world = subst (λ (u : List Unfinished). (let v : WorldView = record (seen p) { unfinished = u; acts = acts; lost = true } in IsWorldOver p.k p.files.tables p.staging p.data v)) (sym going.none_unfinished) world;
     counts = kept.counts;
     room = record {
       items = λ on. no_both true refl on _;

@@ -12,7 +12,7 @@ use Rattle.posix_types.specs.declared.call.Who.{Who}
 use Rattle.world_view_laws.specs.k_journal.declared.outcomes.Commit.{Commit}
 use Rattle.world_view_laws.specs.file_calls.declared.names.outcomes.NoMemory.{NoMemory}
 use Rattle.world_view_laws.specs.in_flight.world_image_laws.Images.{HasNoEntry}
-use Rattle.world_view_laws.specs.in_flight.live_model.Standing.{Pending}
+use Rattle.world_view_laws.specs.in_flight.live_model.Standing.{JobOut}
 use Rattle.world_view_laws.specs.write_jobs.Jobs.{FilledView}
 use Rattle.world_view_laws.specs.Begins.{BeginsJob, IsFilledOut, IsPowerLost, IsRoundOver, MayBegin, Returns, Waits, WaitsFor, WantsMemory}
 use Rattle.world_view_laws.specs.Jobs.{Finishes, LosesFinish}
@@ -38,7 +38,7 @@ IsBegun who old new before after (Err e) = WantsMemory old new after ⊎ ((old.l
 -- WHAT `ready` ANSWERS, in this order: the caller has a job out; its script has ended; the round is over; its next call waits; or it
 -- may begin. Once the power went nothing waits.
 abbrev pub IsReady : WorldView → Who → Ready → Type 0
-IsReady w who Ready.Out = (p : Pending) × In p w.pending × (p.who ≡ who)
+IsReady w who Ready.Out = (p : JobOut) × In p w.pending × (p.who ≡ who)
 IsReady w who Ready.ScriptEnd = HasNone w who × (next_of w who ≡ None)
 IsReady w who Ready.RoundOver = HasNone w who × (next_of w who ≢ None) × (w.over ≢ None)
 IsReady w who (Ready.Busy ino holder) = HasNone w who × (w.over ≡ None) × (w.lost ≡ false) × WaitsFor w who ino holder
@@ -46,8 +46,8 @@ IsReady w who Ready.Yes = HasNone w who × (w.over ≡ None) × (next_of w who �
 
 -- WHAT `finish` ANSWERS AND LEAVES, whichever job of this World it is
 abbrev pub IsFinished : FilledView → ℕ → WorldView → WorldView → Supply → Finished → Type 0
-IsFinished job slot old new power Finished.Done = (p : Pending) → IsFilledOut old p job → Finishes slot p old new power
-IsFinished job slot old new power Finished.PowerLost = (p : Pending) → IsFilledOut old p job → LosesFinish slot p old new power
+IsFinished job slot old new power Finished.Done = (p : JobOut) → IsFilledOut old p job → Finishes slot p old new power
+IsFinished job slot old new power Finished.PowerLost = (p : JobOut) → IsFilledOut old p job → LosesFinish slot p old new power
 
 -- WHAT `checkpoint` ANSWERS AND LEAVES. Where memory runs out, the World is only to be dropped.
 abbrev pub IsCheckpoint : WorldView → WorldView → Supply → Result Commit NoMemory → Type 0

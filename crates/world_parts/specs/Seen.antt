@@ -3,15 +3,15 @@ use Rattle.std.specs.Prelude.{◌≡◌, ◌≤◌, ◌+◌, ◌*◌, ℕ, true,
 use Rattle.std.specs.Vec.{vec_capacity}
 use Rattle.world_view_laws.specs.pm_model.declared.Cell.{Cell}
 use Rattle.world_view_laws.specs.pm_model.Cells.{cell, is_lent}
-use Rattle.world_view_laws.specs.posix_spec.Run.{Begun}
+use Rattle.world_view_laws.specs.posix_spec.Run.{Unfinished}
 use Rattle.world_view_laws.specs.posix_spec.Tree.{start}
 use Rattle.world_view_laws.specs.in_flight.Counters.{AreCounts}
-use Rattle.world_view_laws.specs.in_flight.live_model.Standing.{Pending}
+use Rattle.world_view_laws.specs.in_flight.live_model.Standing.{JobOut}
 use Rattle.world_view_laws.specs.Views.{disk_of, IsWorldOver, WorldView}
-use Rattle.world_parts.specs.declared.outcomes.Unfinished.{Unfinished}
+use Rattle.world_parts.specs.declared.outcomes.Unfinished.{Unfinished as LostCall}
 use Rattle.world_parts.specs.declared.parts.Parts.{Parts}
 
-abbrev pub unfinished_of : Option Unfinished → List Begun
+abbrev pub unfinished_of : Option LostCall → List Unfinished
 unfinished_of None = []
 unfinished_of (Some u) = (u.who, u.call) ∷ []
 
@@ -38,8 +38,8 @@ seen p = record {
 }
 
 -- how many of these jobs have their blocks out: the first word of the first block is lent
-abbrev pub blocks_out : List Cell → List Pending → ℕ
-blocks_out cells pending = count_by (λ (p : Pending). is_lent (cell cells (512 * slice_index p.blocks 0))) pending
+abbrev pub blocks_out : List Cell → List JobOut → ℕ
+blocks_out cells pending = count_by (λ (p : JobOut). is_lent (cell cells (512 * slice_index p.blocks 0))) pending
 
 -- THERE IS ROOM for what the ends of jobs add: an item and a claim for each job while the power is on, a claim for each whose blocks
 -- are out once it went; and for the calls of the jobs and

@@ -11,8 +11,7 @@ use layout_model::Draft;
 use pm_lines::Line;
 use posix_types::{Call, Item, Mode, Outcome, Scripts, Shape, Tree, Who};
 use world_view_laws::{
-    Counters, FileTable, Geometry, KSplit, OpenFiles, Over, Pending, Staging, calls_made,
-    count_call,
+    Counters, FileTable, Geometry, JobOut, KSplit, OpenFiles, Over, Staging, calls_made, count_call,
 };
 
 /// All that a World keeps. Between its calls it is `IsKept`, while it is usable.
@@ -45,7 +44,7 @@ pub struct Parts {
     /// The pairs of slot and entry that were given to `finish` in this lap.
     pub claims: Vec<(u64, Draft)>,
     /// The jobs that are out, in the order of their beginning.
-    pub pending: Vec<Pending>,
+    pub pending: Vec<JobOut>,
     /// The call that lost its power in `begin`.
     pub unfinished: Option<Unfinished>,
     /// Room for the calls that a power loss leaves unfinished, kept empty.

@@ -5,7 +5,7 @@ use Rattle.std.proofs.Common.{arith, ap, sym, subst}
 use Rattle.world_parts.specs.pm_model.declared.Cell.{Cell}
 use Rattle.world_parts.specs.layout_model.Places.{Geometry}
 use Rattle.world_parts.specs.k_split_model.View.{View}
-use Rattle.world_parts.specs.posix_spec.Run.{Begun}
+use Rattle.world_parts.specs.posix_spec.Run.{Unfinished}
 use Rattle.world_parts.specs.world_view_laws.Rounds.{IsLeft}
 use Rattle.world_parts.specs.Answers.{HasEmptyLog}
 use Rattle.world_parts.specs.declared.parts.Parts.{Parts}
@@ -18,7 +18,7 @@ calls_room p kept on =
     omega (arith, none, kept.room.calls)
 
 -- what is left, by the device that was taken out
-pub left_by : (p : Parts) (m : View) (pm : List Cell) (unfinished : List Begun) → pm ≡ m.cells → IsLeft (seen p) m.cells p.history.items unfinished → IsLeft (seen p) pm p.history.items unfinished
+pub left_by : (p : Parts) (m : View) (pm : List Cell) (unfinished : List Unfinished) → pm ≡ m.cells → IsLeft (seen p) m.cells p.history.items unfinished → IsLeft (seen p) pm p.history.items unfinished
 left_by p m pm unfinished same left = subst (λ (d : List Cell). IsLeft (seen p) d p.history.items unfinished) (sym same) left
 
 -- and its log

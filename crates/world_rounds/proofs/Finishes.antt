@@ -15,7 +15,7 @@ use Rattle.posix_tables.specs.Outcomes.{answer}
 use Rattle.world_parts.specs.posix_spec.Step.{step}
 use Rattle.world_parts.specs.in_flight.Counters.{count_for, IsCounted}
 use Rattle.world_parts.specs.in_flight.Histories.{item_with}
-use Rattle.world_parts.specs.in_flight.live_model.Standing.{AreOfTwoThreads, Pending}
+use Rattle.world_parts.specs.in_flight.live_model.Standing.{AreOfTwoThreads, JobOut}
 use Rattle.world_parts.specs.in_flight.live_model.Jobs.{without}
 use Rattle.world_parts.specs.world_view_laws.Puts.{put_bytes_of}
 use Rattle.world_parts.proofs.world_view_laws_proofs.Ending.{can_finish, finish_view, finished_on, has, has_write, others_on, without_one}
@@ -36,7 +36,7 @@ pub some_in : {X : Type 0} (xs : List X) (x : X) → In x xs → 1 ≤ length xs
 some_in [] x at = absurd at
 some_in (y ∷ xs) x at = omega arith
 
-module _ (p : Parts) (kept : IsKept p) (awake : p.lost ≡ false) (out : p.lines_out ≡ true) (job : FilledView) (q : Pending) (is_out : IsFilledOut (seen p) q job) where
+module _ (p : Parts) (kept : IsKept p) (awake : p.lost ≡ false) (out : p.lines_out ≡ true) (job : FilledView) (q : JobOut) (is_out : IsFilledOut (seen p) q job) where
   going : IsGoing p.k p.files.tables p.staging p.data (seen p)
   going = kept.world.going awake
 
@@ -44,12 +44,12 @@ module _ (p : Parts) (kept : IsKept p) (awake : p.lost ≡ false) (out : p.lines
   callers = going.stands.callers
 
   -- the one that is taken is the job's
-  pub taken_is : (taken : Pending) → In taken p.pending.items → taken.who ≡ job.who → taken ≡ q
+  pub taken_is : (taken : JobOut) → In taken p.pending.items → taken.who ≡ job.who → taken ≡ q
   taken_is taken there own = one_job p.pending.items taken q callers there is_out.there (own ∙ is_out.who)
 
-  pub may_finish : (taken : Pending) → taken ≡ q → CanFinish p.k job p.files.tables p.data taken.call
+  pub may_finish : (taken : JobOut) → taken ≡ q → CanFinish p.k job p.files.tables p.data taken.call
   may_finish taken same =
-      subst (λ (x : Pending). CanFinish p.k job p.files.tables p.data x.call) (sym same) (can_finish p.k p.files.tables p.staging p.data (seen p) kept.world awake out q job is_out)
+      subst (λ (x : JobOut). CanFinish p.k job p.files.tables p.data x.call) (sym same) (can_finish p.k p.files.tables p.staging p.data (seen p) kept.world awake out q job is_out)
 
   pub room_for_claim : vec_len p.claims < vec_capacity p.claims
   room_for_claim = omega (arith, kept.room.claims_on awake, some_in p.pending.items q is_out.there)
@@ -65,8 +65,8 @@ module _ (p : Parts) (kept : IsKept p) (awake : p.lost ≡ false) (out : p.lines
 
   -- ---- what it leaves
 
-  module _ (law : EndFinished) (slot : ℕ) (taken : Pending) (same : taken ≡ q) (outcome : Outcome) (replied : outcome ≡ answer (Reply.Count (length (put_bytes_of taken.call))))
-      (k : View) (files : OpenState) (laid : Files) (claims : Vec (ℕ × Draft) Global) (pending : Vec Pending Global) (left : pending.items ≡ without job.who p.pending.items) (k_is : k ≡ record p.k { cells = k.cells })
+  module _ (law : EndFinished) (slot : ℕ) (taken : JobOut) (same : taken ≡ q) (outcome : Outcome) (replied : outcome ≡ answer (Reply.Count (length (put_bytes_of taken.call))))
+      (k : View) (files : OpenState) (laid : Files) (claims : Vec (ℕ × Draft) Global) (pending : Vec JobOut Global) (left : pending.items ≡ without job.who p.pending.items) (k_is : k ≡ record p.k { cells = k.cells })
       (claimed : claims.items ≡ p.claims.items ++ (slot, job.draft) ∷ []) (capacity : vec_capacity claims ≡ vec_capacity p.claims)
       (leaves : (one : HasJob p.k job) → HasWrite p.k job p.files.tables p.data taken.call one → LeavesFinished p.k job one slot k files.tables laid) where
     abbrev pub middle : Parts
@@ -75,7 +75,7 @@ module _ (p : Parts) (kept : IsKept p) (awake : p.lost ≡ false) (out : p.lines
     left_so : LeavesFinished p.k job (has p.k p.files.tables p.staging p.data (seen p) kept.world awake out q job is_out) slot k files.tables laid
     left_so =
         leaves (has p.k p.files.tables p.staging p.data (seen p) kept.world awake out q job is_out)
-        (subst (λ (x : Pending). HasWrite p.k job p.files.tables p.data x.call (has p.k p.files.tables p.staging p.data (seen p) kept.world awake out q job is_out)) (sym same)
+        (subst (λ (x : JobOut). HasWrite p.k job p.files.tables p.data x.call (has p.k p.files.tables p.staging p.data (seen p) kept.world awake out q job is_out)) (sym same)
         (has_write p.k p.files.tables p.staging p.data (seen p) kept.world awake out q job is_out))
 
     abbrev then_view : WorldView
@@ -87,7 +87,7 @@ module _ (p : Parts) (kept : IsKept p) (awake : p.lost ≡ false) (out : p.lines
         (finished_ends law p.k p.files.tables p.staging p.data (seen p) kept.world awake out q job is_out slot k files.tables laid k_is left_so)
 
     out_is : (step (state_of (seen p)) q.who q.call).outcome ≡ outcome
-    out_is = answers_so ∙ ap (λ (x : Pending). answer (Reply.Count (length (put_bytes_of x.call)))) (sym same) ∙ sym replied
+    out_is = answers_so ∙ ap (λ (x : JobOut). answer (Reply.Count (length (put_bytes_of x.call)))) (sym same) ∙ sym replied
 
     pending_is : without q.who p.pending.items ≡ pending.items
     pending_is = ap (λ (w : Who). without w p.pending.items) (sym is_out.who) ∙ sym left
@@ -109,7 +109,7 @@ module _ (p : Parts) (kept : IsKept p) (awake : p.lost ≡ false) (out : p.lines
     len = omega (arith, claims.ok.0, p.claims.ok.0, ap length claimed, length-append p.claims.items ((slot, job.draft) ∷ []))
 
     one_less : length pending.items + 1 ≡ length p.pending.items
-    one_less = ap (λ (xs : List Pending). length xs + 1) (sym pending_is) ∙ without_one q.who p.pending.items q callers is_out.there refl
+    one_less = ap (λ (xs : List JobOut). length xs + 1) (sym pending_is) ∙ without_one q.who p.pending.items q callers is_out.there refl
 
     room_then : HasRoomForItem middle
     room_then = record {
@@ -123,8 +123,8 @@ module _ (p : Parts) (kept : IsKept p) (awake : p.lost ≡ false) (out : p.lines
     -- AN ITEM MAY BE ADDED.
     pub may_add : MayAdd middle taken.who
     may_add = record {
-      caller = subst (λ (x : Pending). IsCounted x.who) (sym same) (counted_next p kept q.who q.call next_job);
-      few = subst (λ (x : Pending). count_for p.counters.setup p.counters.threads x.who + 1 < 2 ^ 32) (sym same) (few_next p kept q.who q.call next_job);
+      caller = subst (λ (x : JobOut). IsCounted x.who) (sym same) (counted_next p kept q.who q.call next_job);
+      few = subst (λ (x : JobOut). count_for p.counters.setup p.counters.threads x.who + 1 < 2 ^ 32) (sym same) (few_next p kept q.who q.call next_job);
       room = room_for_item;
       one_act = few_acts p kept;
     }

@@ -13,7 +13,7 @@ use Rattle.world_parts.specs.world_view_laws.oplog_entry.declared.claims.Full.{F
 use Rattle.posix_types.specs.declared.call.Who.{Who}
 use Rattle.world_parts.specs.in_flight.staging_files.Keeps.{Staged}
 use Rattle.world_parts.specs.in_flight.world_model.Jobs.{IsStagedIn, Job}
-use Rattle.world_parts.specs.in_flight.live_model.Standing.{Pending, StandsAt}
+use Rattle.world_parts.specs.in_flight.live_model.Standing.{JobOut, StandsAt}
 use Rattle.world_parts.proofs.in_flight_proofs.CountsJobs.{its_job, stood, world_now}
 use Rattle.world_parts.specs.in_flight.live_model.Jobs.{without}
 use Rattle.world_parts.proofs.world_view_laws_proofs.Ending.{can_give_up, give_view, given_on, has, homes_on, left_of, no_both, others_given_on, standing, without_one}
@@ -31,14 +31,14 @@ use Rattle.world_parts.specs.declared.parts.Parts.{Parts}
 use Rattle.world_parts.specs.Seen.{IsKept, seen}
 use Rattle.world_rounds.proofs.Finishes.{callers}
 
-module _ (p : Parts) (kept : IsKept p) (awake : p.lost ≡ false) (out : p.lines_out ≡ true) (job : FilledView) (q : Pending) (is_out : IsFilledOut (seen p) q job) where
+module _ (p : Parts) (kept : IsKept p) (awake : p.lost ≡ false) (out : p.lines_out ≡ true) (job : FilledView) (q : JobOut) (is_out : IsFilledOut (seen p) q job) where
   pub may_give_up : CanGiveUp p.k job p.staging
   may_give_up = can_give_up p.k p.files.tables p.staging p.data (seen p) kept.world awake out q job is_out
 
   pub few_given : p.given_up + 1 < 2 ^ 32
   few_given = let most = kept.world.counted.out in omega (arith, most)
 
-  module _ (full : Full) (over : Over) (over_is : over ≡ over_by p.over full) (k : View) (staging : Staged) (pending : Vec Pending Global) (left : pending.items ≡ without job.who p.pending.items) (k_is : k ≡ record p.k { cells = k.cells }) (runs : length staging.out + 1 ≡ length p.staging.out)
+  module _ (full : Full) (over : Over) (over_is : over ≡ over_by p.over full) (k : View) (staging : Staged) (pending : Vec JobOut Global) (left : pending.items ≡ without job.who p.pending.items) (k_is : k ≡ record p.k { cells = k.cells }) (runs : length staging.out + 1 ≡ length p.staging.out)
       (leaves : (one : HasJob p.k job) → one.kept.staging ≡ p.staging → LeavesGivenUp p.k job one k staging) where
     abbrev pub given_parts : Parts
     given_parts = record p { k = k; staging = staging; pending = pending; over = Some over; given_up = p.given_up + 1 }
@@ -53,7 +53,7 @@ module _ (p : Parts) (kept : IsKept p) (awake : p.lost ≡ false) (out : p.lines
     view_is = λ i. record (seen given_parts) { pending = pending_is i; over = Some (sym over_is i) }
 
     one_less : length pending.items + 1 ≡ length p.pending.items
-    one_less = ap (λ (xs : List Pending). length xs + 1) (sym pending_is) ∙ without_one q.who p.pending.items q (callers p kept awake out job q is_out) is_out.there refl
+    one_less = ap (λ (xs : List JobOut). length xs + 1) (sym pending_is) ∙ without_one q.who p.pending.items q (callers p kept awake out job q is_out) is_out.there refl
 
     pub given_kept : IsKept given_parts
     given_kept = record {

@@ -12,7 +12,7 @@ use Rattle.world_parts.specs.layout_model.declared.lines.Draft.{Draft}
 use Rattle.world_parts.specs.k_split_model.View.{View}
 use Rattle.world_parts.specs.list_laws.Members.{In}
 use Rattle.world_parts.specs.world_view_laws.oplog_entry.declared.claims.Full.{Full}
-use Rattle.world_parts.specs.in_flight.live_model.Standing.{Pending}
+use Rattle.world_parts.specs.in_flight.live_model.Standing.{JobOut}
 use Rattle.world_parts.specs.write_jobs.Jobs.{FilledView, HoldWords, loan_at}
 use Rattle.world_parts.specs.world_view_laws.write_jobs.Loans.{AreApart, ComeBack}
 use Rattle.world_parts.specs.world_view_laws.write_end.Blocks.{AreBlocksHome}
@@ -73,7 +73,7 @@ loan_in (x ∷ loans) (suc n) below = inr (loan_in loans n (omega (arith, below)
 
 -- ---- a job ends after it
 
-module _ (p : Parts) (kept : IsKept p) (off : p.lost ≡ true) (out : p.lines_out ≡ true) (q : Pending) (job : FilledView) (is_out : IsFilledOut (seen p) q job) where
+module _ (p : Parts) (kept : IsKept p) (off : p.lost ≡ true) (out : p.lines_out ≡ true) (q : JobOut) (job : FilledView) (is_out : IsFilledOut (seen p) q job) where
   gone : IsLostOut p.staging p.data (seen p)
   gone = subst (IsLost p.staging p.data (seen p)) out (kept.world.gone off)
 
@@ -98,7 +98,7 @@ module _ (p : Parts) (kept : IsKept p) (off : p.lost ≡ true) (out : p.lines_ou
 
   pub room_for_claim : vec_len p.claims < vec_capacity p.claims
   room_for_claim =
-      let one = fewer (λ (x : Pending). is_lent (cell p.k.cells (512 * slice_index x.blocks 0))) (λ (x : Pending). false) p.pending.items (λ x at never. no_both true refl (sym never) _) q is_out.there (is_out.lent (512 * first) first_there) refl in
+      let one = fewer (λ (x : JobOut). is_lent (cell p.k.cells (512 * slice_index x.blocks 0))) (λ (x : JobOut). false) p.pending.items (λ x at never. no_both true refl (sym never) _) q is_out.there (is_out.lent (512 * first) first_there) refl in
       omega (arith, kept.room.claims_off off out, one)
 
   module _ (l : View) (holds : HoldWords job.loans job.words) (back : ComeBack job.loans p.k.cells l.cells) where
@@ -107,7 +107,7 @@ module _ (p : Parts) (kept : IsKept p) (off : p.lost ≡ true) (out : p.lines_ou
 
     one_fewer : blocks_out l.cells p.pending.items + 1 ≤ blocks_out p.k.cells p.pending.items
     one_fewer =
-        fewer (λ (x : Pending). is_lent (cell p.k.cells (512 * slice_index x.blocks 0))) (λ (x : Pending). is_lent (cell l.cells (512 * slice_index x.blocks 0))) p.pending.items
+        fewer (λ (x : JobOut). is_lent (cell p.k.cells (512 * slice_index x.blocks 0))) (λ (x : JobOut). is_lent (cell l.cells (512 * slice_index x.blocks 0))) p.pending.items
         (λ x at lent. lent_before job.loans job.words p.k.cells l.cells holds back (512 * slice_index x.blocks 0) lent) q is_out.there (is_out.lent (512 * first) first_there) (home_now (512 * first) first_there)
 
     -- it finished
@@ -173,7 +173,7 @@ module _ (p : Parts) (kept : IsKept p) (off : p.lost ≡ true) (out : p.lines_ou
     }
 
 -- the power went just before
-module _ (p : Parts) (awake : p.lost ≡ false) (slot : ℕ) (q : Pending) (job : FilledView) where
+module _ (p : Parts) (awake : p.lost ≡ false) (slot : ℕ) (q : JobOut) (job : FilledView) where
   abbrev lost_parts : Parts
   lost_parts = record p { acts = p.acts + 1; lost = true }
 

@@ -21,9 +21,9 @@ use Rattle.world_parts.specs.world_view_laws.Rounds.{IsLeft}
 use Rattle.world_parts.specs.world_view_laws.Begins.{IsFilledOut, IsJobOut}
 use Rattle.world_parts.specs.world_view_laws.Lines.{AreCrashLines}
 use Rattle.world_parts.specs.world_view_laws.Views.{calls_out, WorldView}
-use Rattle.world_parts.specs.in_flight.live_model.Standing.{Pending}
+use Rattle.world_parts.specs.in_flight.live_model.Standing.{JobOut}
 use Rattle.posix_types.specs.declared.item.Item.{Item}
-use Rattle.world_parts.specs.posix_spec.Run.{Begun}
+use Rattle.world_parts.specs.posix_spec.Run.{Unfinished}
 use Rattle.world_parts.specs.declared.parts.Parts.{Parts}
 use Rattle.world_parts.specs.Seen.{IsKept, seen}
 
@@ -171,10 +171,10 @@ module _ (w : WorldView) (lines : List Part) (out : List JobView) (filled : List
   abbrev lost : WorldView
   lost = record w { lost = true }
 
-  job_lost : (p : Pending) (job : JobView) → IsJobOut w p job → IsJobOut lost p job
+  job_lost : (p : JobOut) (job : JobView) → IsJobOut w p job → IsJobOut lost p job
   job_lost p job is = record { there = is.there; who = is.who; draft = is.draft; blocks = is.blocks; words = is.words; lent = is.lent }
 
-  filled_lost : (p : Pending) (job : FilledView) → IsFilledOut w p job → IsFilledOut lost p job
+  filled_lost : (p : JobOut) (job : FilledView) → IsFilledOut w p job → IsFilledOut lost p job
   filled_lost p job is = record { there = is.there; who = is.who; draft = is.draft; blocks = is.blocks; words = is.words; lent = is.lent }
 
   lines_lost : (taken : List (ℕ × Draft)) → AreCrashLines w filled taken lines → AreCrashLines lost filled taken lines
@@ -202,7 +202,7 @@ module _ (w : WorldView) (lines : List Part) (out : List JobView) (filled : List
     none = may.none;
   }
 
-  pub left_lost : (pm : List Cell) (history : List Item) (calls : List Begun) → IsLeft lost pm history calls → IsLeft w pm history calls
+  pub left_lost : (pm : List Cell) (history : List Item) (calls : List Unfinished) → IsLeft lost pm history calls → IsLeft w pm history calls
   left_lost pm history calls is = record {
     history_is = is.history_is;
     unfinished_is = is.unfinished_is;

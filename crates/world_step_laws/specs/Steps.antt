@@ -18,7 +18,7 @@ use Rattle.commute_laws.specs.posix_tables.declared.nodes.DirEntry.{DirEntry}
 use Rattle.commute_laws.specs.posix_tables.declared.nodes.File.{File as FileNode}
 use Rattle.commute_laws.specs.posix_tables.declared.nodes.Node.{Node}
 use Rattle.commute_laws.specs.posix_tables.Nodes.{bytes_of, node_at}
-use Rattle.commute_laws.specs.posix_spec.Run.{after_call, Begun}
+use Rattle.commute_laws.specs.posix_spec.Run.{after_call, Unfinished}
 use Rattle.commute_laws.specs.posix_spec.State.{alone, Fits, room, State}
 use Rattle.commute_laws.specs.posix_laws.FitsLaws.{Fits-step_of}
 use Rattle.commute_laws.specs.crash_spec.Sync.{IsPartOf}
@@ -32,7 +32,7 @@ use Rattle.commute_laws.specs.Needs.{AreAfforded-step, AreInFlight, Flight, Lets
 use Rattle.commute_laws.specs.Needs as flying
 use Rattle.commute_laws.specs.Rooms.{FitsBeside}
 use Rattle.world_model.specs.Claims.{ClaimsStand}
-use Rattle.world_model.specs.Jobs.{begun_of, Job, JobsStand, JobStands, live_claims, Valid}
+use Rattle.world_model.specs.Jobs.{unfinished_call, Job, JobsStand, JobStands, live_claims, Valid}
 use Rattle.world_model.specs.Stands.{is_used, IsSane, IsUsed, NamesStand, NodeStands, number, Stands}
 use Rattle.world_model.specs.JobLaws.{live_file, live_used}
 use Rattle.world_model.specs.Landed.{NodeStands-same}
@@ -46,13 +46,13 @@ shown_node (Node.File file) = Node.File (record { bytes = file.bytes; published 
 
 -- the jobs as writes in flight
 abbrev pub flight_of : List ℕ → Job → Flight
-flight_of numbers j = record { begun = begun_of j; node = number numbers j.draft.ino; whole = j.whole }
+flight_of numbers j = record { begun = unfinished_call j; node = number numbers j.draft.ino; whole = j.whole }
 
 abbrev pub flights_of : List ℕ → List Job → List Flight
 flights_of numbers jobs = map (flight_of numbers) jobs
 
 -- the call is another caller's than those of the jobs, and leaves their files alone
-abbrev pub LetsJobsBe : State → Begun → List ℕ → List Job → Type 0
+abbrev pub LetsJobsBe : State → Unfinished → List ℕ → List Job → Type 0
 LetsJobsBe s c numbers jobs = LetsAllBe s c (flights_of numbers jobs)
 
 -- no job is of a touched inode
@@ -211,7 +211,7 @@ file_node v live f ino File (Node.File file) is stands = (file, refl)
 
 -- jobs are writes in flight
 pub InFlight-job : (v : Volume) (live : List Draft) (f : Words) (numbers : List ℕ) (s : State) (j : Job) → Stands v live f numbers s → JobStands v live f numbers s j
-    → InFlight s (begun_of j) (number numbers j.draft.ino) j.whole
+    → InFlight s (unfinished_call j) (number numbers j.draft.ino) j.whole
 InFlight-job v live f numbers s j stands job =
     let file = file_node v live f j.draft.ino (inode v j.draft.ino).kind (node_at s.nodes (number numbers j.draft.ino)) (live_file v j.draft job.alive) (stands.nodes.each j.draft.ino (live_used v j.draft job.alive)) in
     record { puts = job.puts; file = file.0; is = file.1 }
@@ -221,13 +221,13 @@ pub AreInFlight-jobs : (v : Volume) (live : List Draft) (f : Words) (numbers : L
 AreInFlight-jobs v live f numbers s [] stands out = tt
 AreInFlight-jobs v live f numbers s (j ∷ jobs) stands out = (InFlight-job v live f numbers s j stands out.0, AreInFlight-jobs v live f numbers s jobs stands out.2)
 
-pub begun-flights : (numbers : List ℕ) (jobs : List Job) → map flying.begun_of (flights_of numbers jobs) ≡ map begun_of jobs
+pub begun-flights : (numbers : List ℕ) (jobs : List Job) → map flying.unfinished_call (flights_of numbers jobs) ≡ map unfinished_call jobs
 begun-flights numbers [] = refl
-begun-flights numbers (j ∷ jobs) = ap (λ xs. begun_of j ∷ xs) (begun-flights numbers jobs)
+begun-flights numbers (j ∷ jobs) = ap (λ xs. unfinished_call j ∷ xs) (begun-flights numbers jobs)
 
 -- a job after the call
 job_left : (touched : ℕ → Bool) (v w : Volume) (claims : List (ℕ × Draft)) (f : Words) (numbers after : List ℕ) (s new : State) (j : Job) → Steps touched v w claims f numbers after s new
-    → Stands v (live_claims v claims) f numbers s → JobStands v (live_claims v claims) f numbers s j → touched j.draft.ino ≡ false → InFlight new (begun_of j) (number numbers j.draft.ino) j.whole
+    → Stands v (live_claims v claims) f numbers s → JobStands v (live_claims v claims) f numbers s j → touched j.draft.ino ≡ false → InFlight new (unfinished_call j) (number numbers j.draft.ino) j.whole
     → node_at new.nodes (number numbers j.draft.ino) ≡ node_at s.nodes (number numbers j.draft.ino) → JobStands w (beside touched (live_claims v claims)) f after new j
 job_left touched v w claims f numbers after s new j steps stands job out flight node =
     let live = live_claims v claims in
@@ -257,7 +257,7 @@ pub record GoOn (s new : State) (numbers : List ℕ) (jobs : List Job) : Type 0 
   pub flying_on : AreInFlight new (flights_of numbers jobs)
   pub files : HaveSameFiles s new numbers jobs
   pub fits : Fits new
-  pub room : AreAfforded new (map begun_of jobs)
+  pub room : AreAfforded new (map unfinished_call jobs)
 
 jobs_left : (touched : ℕ → Bool) (v w : Volume) (claims : List (ℕ × Draft)) (f : Words) (numbers after : List ℕ) (s new : State) (jobs : List Job) → Steps touched v w claims f numbers after s new
     → Stands v (live_claims v claims) f numbers s → JobsStand v (live_claims v claims) f numbers s jobs → AreBeside touched jobs → AreInFlight new (flights_of numbers jobs) → HaveSameFiles s new numbers jobs
@@ -279,15 +279,15 @@ Valid-left touched v w claims jobs f numbers after s new valid off on steps =
     }
 
 -- Jobs go on under a call of another caller that leaves their files alone and fits beside them.
-same_files : (v : Volume) (live : List Draft) (f : Words) (numbers : List ℕ) (s : State) (c : Begun) (jobs : List Job) → Stands v live f numbers s → JobsStand v live f numbers s jobs → LetsJobsBe s c numbers jobs
+same_files : (v : Volume) (live : List Draft) (f : Words) (numbers : List ℕ) (s : State) (c : Unfinished) (jobs : List Job) → Stands v live f numbers s → JobsStand v live f numbers s jobs → LetsJobsBe s c numbers jobs
     → HaveSameFiles s (after_call s c) numbers jobs
 same_files v live f numbers s c [] stands out lets = tt
 same_files v live f numbers s c (j ∷ jobs) stands out lets = (
-  (KeepsSeen-call s (begun_of j) c (number numbers j.draft.ino) j.whole lets.0.threads (InFlight-job v live f numbers s j stands out.0) lets.0.aside).file,
+  (KeepsSeen-call s (unfinished_call j) c (number numbers j.draft.ino) j.whole lets.0.threads (InFlight-job v live f numbers s j stands out.0) lets.0.aside).file,
   same_files v live f numbers s c jobs stands out.2 lets.1,
 )
 
-pub GoOn-call : (v : Volume) (claims : List (ℕ × Draft)) (jobs : List Job) (f : Words) (numbers : List ℕ) (s : State) (c : Begun) → Valid v claims jobs f numbers s → LetsJobsBe s c numbers jobs
+pub GoOn-call : (v : Volume) (claims : List (ℕ × Draft)) (jobs : List Job) (f : Words) (numbers : List ℕ) (s : State) (c : Unfinished) → Valid v claims jobs f numbers s → LetsJobsBe s c numbers jobs
     → FitsBeside s c (needs s (flights_of numbers jobs)) → GoOn s (after_call s c) numbers jobs
 GoOn-call v claims jobs f numbers s c valid lets fits =
     let live = live_claims v claims in
@@ -308,13 +308,13 @@ same_view s entries who (Call.Write h x) = record { handle = refl; node = refl; 
 same_view s entries who (Call.Pwrite h o x) = record { handle = refl; node = refl; mode = refl }
 same_view s entries who call = tt
 
-room_one : (s : State) (j : Job) (jobs : List Job) → AreAfforded s (map begun_of (j ∷ jobs)) → (need_of s j.who j.call ≤ room s) × AreAfforded s (map begun_of jobs)
+room_one : (s : State) (j : Job) (jobs : List Job) → AreAfforded s (map unfinished_call (j ∷ jobs)) → (need_of s j.who j.call ≤ room s) × AreAfforded s (map unfinished_call jobs)
 room_one s j jobs fits =
-    let sum = sum_by-cons (λ (c : Begun). need_of s c.0 c.1) (begun_of j) (map begun_of jobs) in
+    let sum = sum_by-cons (λ (c : Unfinished). need_of s c.0 c.1) (unfinished_call j) (map unfinished_call jobs) in
     (omega (arith, sum, fits), omega (arith, sum, fits))
 
 flying_entries : (v : Volume) (live : List Draft) (f : Words) (numbers : List ℕ) (s : State) (entries : List DirEntry) (jobs : List Job) → Stands v live f numbers s → JobsStand v live f numbers s jobs
-    → AreAfforded s (map begun_of jobs) → AreInFlight (record s { entries = entries }) (flights_of numbers jobs)
+    → AreAfforded s (map unfinished_call jobs) → AreInFlight (record s { entries = entries }) (flights_of numbers jobs)
 flying_entries v live f numbers s entries [] stands out room = tt
 flying_entries v live f numbers s entries (j ∷ jobs) stands out room =
     let flight = InFlight-job v live f numbers s j stands out.0 in
@@ -327,14 +327,14 @@ flying_entries v live f numbers s entries (j ∷ jobs) stands out room =
       flying_entries v live f numbers s entries jobs stands out.2 parts.1,
     )
 
-needs_entries : (s : State) (entries : List DirEntry) (jobs : List Job) → AreAfforded s (map begun_of jobs) → AreAfforded (record s { entries = entries }) (map begun_of jobs)
+needs_entries : (s : State) (entries : List DirEntry) (jobs : List Job) → AreAfforded s (map unfinished_call jobs) → AreAfforded (record s { entries = entries }) (map unfinished_call jobs)
 needs_entries s entries jobs fits = subst (λ n. n ≤ room s) (sym (same jobs)) fits where
-  same : (js : List Job) → sum_by (λ (c : Begun). need_of (record s { entries = entries }) c.0 c.1) (map begun_of js) ≡ sum_by (λ (c : Begun). need_of s c.0 c.1) (map begun_of js)
+  same : (js : List Job) → sum_by (λ (c : Unfinished). need_of (record s { entries = entries }) c.0 c.1) (map unfinished_call js) ≡ sum_by (λ (c : Unfinished). need_of s c.0 c.1) (map unfinished_call js)
   same [] = refl
   same (j ∷ js) =
       let one = need_of-kept s (record s { entries = entries }) j.who j.call (same_view s entries j.who j.call) in
-      sum_by-cons (λ (c : Begun). need_of (record s { entries = entries }) c.0 c.1) (begun_of j) (map begun_of js)
-      ∙ ((λ i. one i + same js i) ∙ sym (sum_by-cons (λ (c : Begun). need_of s c.0 c.1) (begun_of j) (map begun_of js)))
+      sum_by-cons (λ (c : Unfinished). need_of (record s { entries = entries }) c.0 c.1) (unfinished_call j) (map unfinished_call js)
+      ∙ ((λ i. one i + same js i) ∙ sym (sum_by-cons (λ (c : Unfinished). need_of s c.0 c.1) (unfinished_call j) (map unfinished_call js)))
 
 all_files : (s : State) (entries : List DirEntry) (numbers : List ℕ) (jobs : List Job) → HaveSameFiles s (record s { entries = entries }) numbers jobs
 all_files s entries numbers [] = tt

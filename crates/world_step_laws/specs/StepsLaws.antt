@@ -13,7 +13,7 @@ use Rattle.volume_change_laws.specs.image_model.Volume.{inode, Volume}
 use Rattle.volume_change_laws.specs.k_split_model.ChangesChanges.{made}
 use Rattle.volume_change_laws.specs.LookupLaws.{leads_nowhere, leads_to}
 use Rattle.commute_laws.specs.posix_tables.Names.{with_entry, without_entry}
-use Rattle.commute_laws.specs.posix_spec.Run.{after_call, Begun}
+use Rattle.commute_laws.specs.posix_spec.Run.{after_call, Unfinished}
 use Rattle.commute_laws.specs.posix_spec.State.{State}
 use Rattle.commute_laws.specs.list_laws.Members.{In}
 use Rattle.commute_laws.specs.Needs.{needs}
@@ -44,7 +44,7 @@ LeavesLive =
 -- jobs go on under a call of another caller that leaves their files alone and fits beside them
 abbrev pub LetsJobsGoOn : Type 0
 LetsJobsGoOn =
-    (v : Volume) (claims : List (ℕ × Draft)) (jobs : List Job) (f : Words) (numbers : List ℕ) (s : State) (c : Begun)
+    (v : Volume) (claims : List (ℕ × Draft)) (jobs : List Job) (f : Words) (numbers : List ℕ) (s : State) (c : Unfinished)
     → Valid v claims jobs f numbers s → LetsJobsBe s c numbers jobs
     → FitsBeside s c (needs s (flights_of numbers jobs)) → GoOn s (after_call s c) numbers jobs
 

@@ -11,7 +11,7 @@ use Rattle.file_calls.specs.k_split_laws.Left.{IsLeftOf}
 use Rattle.eof_laws.specs.posix_types.declared.call.Call.{Call}
 use Rattle.eof_laws.specs.posix_types.declared.call.Who.{Who}
 use Rattle.eof_laws.specs.posix_tables.Open.{Tables}
-use Rattle.in_flight.specs.posix_spec.Run.{after_call, Begun}
+use Rattle.in_flight.specs.posix_spec.Run.{after_call, Unfinished}
 use Rattle.in_flight.specs.posix_spec.Scripted.{IsSetUp}
 use Rattle.in_flight.specs.posix_spec.State.{State}
 use Rattle.in_flight.specs.posix_spec.Step.{step}
@@ -21,8 +21,8 @@ use Rattle.in_flight.specs.Histories.{are_threads, Grows, grows, next_stays, set
 use Rattle.in_flight.specs.staging_files.Keeps.{Staged}
 use Rattle.in_flight.specs.world_image_laws.Promised.{IsKept}
 use Rattle.file_publish.specs.world_image_laws.Back.{IsPutBack}
-use Rattle.in_flight.specs.world_model.Jobs.{begun_of, Job}
-use Rattle.in_flight.specs.live_model.Standing.{AreJobsOf, Pending, StandsAt}
+use Rattle.in_flight.specs.world_model.Jobs.{unfinished_call, Job}
+use Rattle.in_flight.specs.live_model.Standing.{AreJobsOf, JobOut, StandsAt}
 use Rattle.in_flight.specs.live_model.Jobs.{SpellCall}
 use Rattle.in_flight.specs.world_step_laws.Steps.{LetsJobsBe}
 use Rattle.write_end.specs.Ends.{begun_by}
@@ -37,7 +37,7 @@ use Rattle.world_view_laws.specs.Begins.{item_of, OthersStay}
 use Rattle.world_view_laws.specs.Views.{Disk, disk_of, files_out, first_by, HasNone, IsGoing, IsLost, IsLostOut, IsWorldOver, kept_of, next_of, state_of, WorldView}
 
 -- the calls of the jobs
-calls_are : (pending : List Pending) (jobs : List Job) → AreJobsOf pending jobs → map begun_of jobs ≡ map begun_by pending
+calls_are : (pending : List JobOut) (jobs : List Job) → AreJobsOf pending jobs → map unfinished_call jobs ≡ map begun_by pending
 calls_are [] [] are = refl
 calls_are [] (j ∷ jobs) are = absurd are
 calls_are (p ∷ pending) [] are = absurd are
@@ -51,7 +51,7 @@ module _ (k : View) (t : Tables) (staging : Staged) (files : Files) (w : WorldVi
   pub standing : StandsAt w.geometry k t (kept_of w staging files) true (length w.history) (state_of w)
   standing = subst (λ b. StandsAt w.geometry k t (kept_of w staging files) b (length w.history) (state_of w)) out going.stands
 
-  threads : (p : Pending) → In p w.pending → AreThreads p.who who
+  threads : (p : JobOut) → In p w.pending → AreThreads p.who who
   threads p at =
       are_threads w.scripts w.history p.who who p.call call (other_who who p.who (λ same. none p at (sym same))) (going.next p at).0 (going.next p at).1 next up
 
@@ -115,7 +115,7 @@ module _ (k : View) (t : Tables) (staging : Staged) (files : Files) (w : WorldVi
       gone = λ off. no_both w.lost off on _;
     }
 
-    words2 : (q : Pending) (words : List ℕ) → In q w.pending → SpellCall (state_of w) q words → SpellCall (state_of (return_view l u)) q words
+    words2 : (q : JobOut) (words : List ℕ) → In q w.pending → SpellCall (state_of w) q words → SpellCall (state_of (return_view l u)) q words
     words2 q words at spells =
         subst (λ (s : State). SpellCall s q words) (sym grown.run_is)
         (words_stay w.geometry k t (kept_of w staging files) _ (length w.history) (state_of w) standing (who, call) (lets idle) w.geometry l u (kept_of w staging laid) _ _ stands refl q words at spells)
@@ -129,10 +129,10 @@ module _ (k : View) (t : Tables) (staging : Staged) (files : Files) (w : WorldVi
 
   -- ---- it became a job
 
-  abbrev pub job_view : View → Staged → Pending → WorldView
+  abbrev pub job_view : View → Staged → JobOut → WorldView
   job_view l staged p = record w { pending = w.pending ++ p ∷ []; acts = w.acts + 1; disk = disk_of l t staged }
 
-  module _ (going_on : w.over ≡ None) (p : Pending) (who_is : p.who ≡ who) (call_is : p.call ≡ call) (l : View) (staged : Staged) (laid : Files) (base : l.volume.base ≡ k.volume.base) (ends : FilesEnd l.volume laid) (own_ends : DraftEnds p.draft)
+  module _ (going_on : w.over ≡ None) (p : JobOut) (who_is : p.who ≡ who) (call_is : p.call ≡ call) (l : View) (staged : Staged) (laid : Files) (base : l.volume.base ≡ k.volume.base) (ends : FilesEnd l.volume laid) (own_ends : DraftEnds p.draft)
       (runs : length staged.out ≡ length staging.out + 1) (few : length (w.pending ++ p ∷ []) ≤ 9)
       (stands : StandsAt w.geometry l t (record (kept_of w staged laid) { pending = w.pending ++ p ∷ [] }) true (length w.history) (state_of w)) where
     going3 : IsGoing l t staged laid (job_view l staged p)
@@ -145,7 +145,7 @@ module _ (k : View) (t : Tables) (staging : Staged) (files : Files) (w : WorldVi
       base = going.base ∙ sym base;
       next = λ q at. elim (pushed-In w.pending p q at) [
         | inl old ↦ going.next q old
-        | inr one ↦ subst (λ (x : Pending). (next_of w x.who ≡ Some x.call) × IsSetUp w.scripts w.history x.who) one (
+        | inr one ↦ subst (λ (x : JobOut). (next_of w x.who ≡ Some x.call) × IsSetUp w.scripts w.history x.who) one (
           ap (next_of w) who_is ∙ (next ∙ ap (λ c. Some c) (sym call_is)),
           subst (IsSetUp w.scripts w.history) (sym who_is) up,
         )
@@ -154,7 +154,7 @@ module _ (k : View) (t : Tables) (staging : Staged) (files : Files) (w : WorldVi
       ends = ends;
       drafts_end = λ q at. elim (pushed-In w.pending p q at) [
         | inl old ↦ going.drafts_end q old
-        | inr one ↦ subst (λ (x : Pending). DraftEnds x.draft) one own_ends
+        | inr one ↦ subst (λ (x : JobOut). DraftEnds x.draft) one own_ends
       ];
       log_home = λ home. no_both w.lines_out out home _;
     }
@@ -190,9 +190,9 @@ module _ (k : View) (t : Tables) (staging : Staged) (files : Files) (w : WorldVi
       gone = λ off. no_both w.lost off on _;
     }
 
-    there : (q : Pending) → In q w.pending → In q (w.pending ++ p ∷ [])
+    there : (q : JobOut) → In q w.pending → In q (w.pending ++ p ∷ [])
     there q at = front w.pending at where
-      front : (xs : List Pending) → In q xs → In q (xs ++ p ∷ [])
+      front : (xs : List JobOut) → In q xs → In q (xs ++ p ∷ [])
       front [] is = absurd is
       front (x ∷ xs) (inl same) = inl same
       front (x ∷ xs) (inr rest) = inr (front xs rest)
@@ -206,9 +206,9 @@ module _ (k : View) (t : Tables) (staging : Staged) (files : Files) (w : WorldVi
   -- ---- it lost its power
 
   module _ (l : View) (u : Tables) (staged : Staged) (laid : Files) (left : IsLeftOf w.geometry k.cells l.cells)
-      (promise : (back : ℕ → Cell) (slots : List (Option ℕ)) (image : Words) → IsPutBack k.volume l.cells back (first_by w.geometry w.first) w.claims standing.jobs slots image → IsKept w.geometry w.start w.history (map begun_of standing.jobs ++ (who, call) ∷ []) image) where
-    unfinished_are : map begun_of standing.jobs ++ (who, call) ∷ [] ≡ map begun_by w.pending ++ (who, call) ∷ []
-    unfinished_are = ap (λ (calls : List Begun). calls ++ (who, call) ∷ []) (calls_are w.pending standing.jobs standing.jobs_are)
+      (promise : (back : ℕ → Cell) (slots : List (Option ℕ)) (image : Words) → IsPutBack k.volume l.cells back (first_by w.geometry w.first) w.claims standing.jobs slots image → IsKept w.geometry w.start w.history (map unfinished_call standing.jobs ++ (who, call) ∷ []) image) where
+    unfinished_are : map unfinished_call standing.jobs ++ (who, call) ∷ [] ≡ map begun_by w.pending ++ (who, call) ∷ []
+    unfinished_are = ap (λ (calls : List Unfinished). calls ++ (who, call) ∷ []) (calls_are w.pending standing.jobs standing.jobs_are)
 
     lost_out : IsLostOut staged laid (lost_view w ((who, call) ∷ []) (w.acts + 1) (disk_of l u staged))
     lost_out = record {
@@ -219,7 +219,7 @@ module _ (k : View) (t : Tables) (staging : Staged) (files : Files) (w : WorldVi
       size = left.size ∙ size_now k t staging files w world on;
       at = lost_alike k.volume l.cells (kept_of w staging files) (kept_of w staged laid) w.start w.history (map begun_by w.pending ++ (who, call) ∷ []) refl refl refl
           (loses_call w.geometry k t (kept_of w staging files) (length w.history) w.start w.history (map begun_by w.pending ++ (who, call) ∷ []) l.cells standing going.spelled left
-          (λ back slots image is. subst (λ (calls : List Begun). IsKept w.geometry w.start w.history calls image) unfinished_are (promise back slots image is)));
+          (λ back slots image is. subst (λ (calls : List Unfinished). IsKept w.geometry w.start w.history calls image) unfinished_are (promise back slots image is)));
     }
 
     -- IT LOST ITS POWER.
@@ -228,7 +228,7 @@ module _ (k : View) (t : Tables) (staging : Staged) (files : Files) (w : WorldVi
         world_lost k l t u staging staged files laid w ((who, call) ∷ []) (w.acts + 1) world (omega (arith, world.counted.acts_on on))
         (subst (IsLost staged laid (lost_view w ((who, call) ∷ []) (w.acts + 1) (disk_of l u staged))) (sym out) lost_out)
 
-    still_out : (q : Pending) → AreBlocksOut q.blocks w.disk.cells → AreBlocksOut q.blocks l.cells
+    still_out : (q : JobOut) → AreBlocksOut q.blocks w.disk.cells → AreBlocksOut q.blocks l.cells
     still_out q was = (leaves_blocks w.geometry k.cells l.cells q.blocks left).0 (subst (AreBlocksOut q.blocks) (ap (λ (d : Disk). d.cells) world.disk_is) was)
 
     pub others_lost : OthersStay w (lost_view w ((who, call) ∷ []) (w.acts + 1) (disk_of l u staged)) who

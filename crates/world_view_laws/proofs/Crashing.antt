@@ -19,7 +19,7 @@ use Rattle.eof_laws.specs.posix_tables.Open.{Tables}
 use Rattle.in_flight.specs.Counts.{history_within}
 use Rattle.in_flight.specs.staging_files.Keeps.{Staged}
 use Rattle.in_flight.specs.world_image_laws.Promised.{KeepsPromise}
-use Rattle.in_flight.specs.live_model.Standing.{Pending}
+use Rattle.in_flight.specs.live_model.Standing.{JobOut}
 use Rattle.in_flight.specs.write_jobs.Jobs.{blocks_of, FilledView, HoldWords, JobView}
 use Rattle.write_end.specs.Blocks.{AreBlocksOut, ComeHome}
 use Rattle.write_end.specs.CrashesLaws.{AreHandedIn}
@@ -88,7 +88,7 @@ module _ (w : WorldView) (staging : Staged) (files : Files) (out : List JobView)
         lent_of is.0.blocks its.0.loans w.disk.cells loan i is.1.blocks is.1.lent its.2 place)
   ]
 
-  block_handed : (p : Pending) → ((job : JobView) × In job out × IsJobOut w p job) ⊎ ((job : FilledView) × In job filled × IsFilledOut w p job) → (b : ℕ) → In b p.blocks → (loan : Part) × In loan (handed out filled) × (loan.place ≡ b)
+  block_handed : (p : JobOut) → ((job : JobView) × In job out × IsJobOut w p job) ⊎ ((job : FilledView) × In job filled × IsFilledOut w p job) → (b : ℕ) → In b p.blocks → (loan : Part) × In loan (handed out filled) × (loan.place ≡ b)
   block_handed p (inl (job, at, is)) b there =
       let its = loan_of job.loans b (subst (In b) (sym is.blocks) there) in
       (its.0, in_front (loans_out out) (loans_filled filled) its.0 (out_there out job its.0 at its.1), its.2)

@@ -16,7 +16,7 @@ use Rattle.in_flight.specs.posix_spec.State.{State}
 use Rattle.in_flight.specs.posix_spec.Step.{step}
 use Rattle.in_flight.specs.Histories.{Grows, grows, next_stays, set_up_stays}
 use Rattle.in_flight.specs.staging_files.Keeps.{Staged}
-use Rattle.in_flight.specs.live_model.Standing.{AreOfTwoThreads, IsSpellable, Pending, StandsAt}
+use Rattle.in_flight.specs.live_model.Standing.{AreOfTwoThreads, IsSpellable, JobOut, StandsAt}
 use Rattle.in_flight.specs.live_model.Jobs.{SpellCall, without}
 use Rattle.write_end.specs.Ends.{CanFinish, CanGiveUp, HasJob, HasWrite, LeavesFinished, LeavesGivenUp}
 use Rattle.in_flight.specs.write_jobs.Jobs.{FilledView}
@@ -39,10 +39,10 @@ no_both b one two X = absurd (subst P (sym one ∙ two) tt) where
   P false = ⊥
 
 -- one less is left
-pub without_one : (who : Who) (pending : List Pending) (p : Pending) → AllPairs AreOfTwoThreads pending → In p pending → p.who ≡ who → length (without who pending) + 1 ≡ length pending
+pub without_one : (who : Who) (pending : List JobOut) (p : JobOut) → AllPairs AreOfTwoThreads pending → In p pending → p.who ≡ who → length (without who pending) + 1 ≡ length pending
 without_one who [] p two at own = absurd at
 without_one who (x ∷ pending) p two (inl same) own =
-    let here : x.who ≡ who = ap (λ (y : Pending). y.who) same ∙ own in
+    let here : x.who ≡ who = ap (λ (y : JobOut). y.who) same ∙ own in
     let drop : length (cond (not (same_who x.who who)) (x ∷ without who pending) (without who pending)) ≡ length (without who pending) = ap (λ b. length (cond (not b) (x ∷ without who pending) (without who pending))) (ap (λ v. same_who v who) here ∙ same_who-refl who) in
     let rest : length (without who pending) ≡ length pending =
     ap length (all_left who pending (λ q is equal. no_both (same_who x.who q.who) (ap (λ v. same_who v q.who) (here ∙ sym equal) ∙ same_who-refl q.who) (pairs AreOfTwoThreads x pending two q is).other ⊥))
@@ -55,19 +55,19 @@ without_one who (x ∷ pending) p two (inr at) own =
     let rest = without_one who pending p (λ m n d before below. two (suc m) (suc n) d (omega (arith, before)) (omega (arith, below))) at own in
     omega (arith, keep, rest)
 
-left_test : (who : Who) (q : Pending) → not (same_who q.who who) ≡ true → q.who ≢ who
+left_test : (who : Who) (q : JobOut) → not (same_who q.who who) ≡ true → q.who ≢ who
 left_test who q is same = no_both (not (same_who q.who who)) is (ap not (ap (λ v. same_who v who) same ∙ same_who-refl who)) ⊥
 
-pub left_of : (who : Who) (pending : List Pending) (q : Pending) → In q (without who pending) → In q pending × (q.who ≢ who)
-left_of who pending q at = let is = filter-In (λ (p : Pending). not (same_who p.who who)) pending q at in (is.0, left_test who q is.1)
+pub left_of : (who : Who) (pending : List JobOut) (q : JobOut) → In q (without who pending) → In q pending × (q.who ≢ who)
+left_of who pending q at = let is = filter-In (λ (p : JobOut). not (same_who p.who who)) pending q at in (is.0, left_test who q is.1)
 
-pub stays_in : (who : Who) (pending : List Pending) (q : Pending) → In q pending → q.who ≢ who → In q (without who pending)
-stays_in who pending q at other = In-filter (λ (p : Pending). not (same_who p.who who)) pending q at (ap not (other_who q.who who other))
+pub stays_in : (who : Who) (pending : List JobOut) (q : JobOut) → In q pending → q.who ≢ who → In q (without who pending)
+stays_in who pending q at other = In-filter (λ (p : JobOut). not (same_who p.who who)) pending q at (ap not (other_who q.who who other))
 
 -- ---- the World of a job that is out
 
 module _ (k : View) (t : Tables) (staging : Staged) (files : Files) (w : WorldView) (world : IsWorldOver k t staging files w) (on : w.lost ≡ false) (out : w.lines_out ≡ true)
-    (p : Pending) (job : FilledView) (is_out : IsFilledOut w p job) where
+    (p : JobOut) (job : FilledView) (is_out : IsFilledOut w p job) where
   going : IsGoing k t staging files w
   going = world.going on
 
@@ -183,7 +183,7 @@ module _ (k : View) (t : Tables) (staging : Staged) (files : Files) (w : WorldVi
       gone = λ off. no_both w.lost off on _;
     }
 
-    words2 : (q : Pending) (words : List ℕ) → In q (without p.who w.pending) → SpellCall (state_of w) q words → SpellCall (state_of (finish_view slot l u)) q words
+    words2 : (q : JobOut) (words : List ℕ) → In q (without p.who w.pending) → SpellCall (state_of w) q words → SpellCall (state_of (finish_view slot l u)) q words
     words2 q words at spells = subst (λ (s : State). SpellCall s q words) (sym grown.run_is) (leaves.words q words at spells)
 
     -- the jobs of others stay out

@@ -20,7 +20,7 @@ use Rattle.file_publish.specs.world_image_laws.commute_laws.Counted.{outcome-put
 use Rattle.in_flight.proofs.CountsCounts.{pairs}
 use Rattle.in_flight.proofs.CountsJobs.{puts_of, same_who-refl}
 use Rattle.in_flight.specs.staging_files.Keeps.{Staged}
-use Rattle.in_flight.specs.live_model.Standing.{AreOfTwoThreads, Kept, Pending, StandsAt}
+use Rattle.in_flight.specs.live_model.Standing.{AreOfTwoThreads, Kept, JobOut, StandsAt}
 use Rattle.file_calls.specs.eof_laws.Ends.{FilesEnd}
 use Rattle.write_end.specs.Ends.{LeavesFinished}
 use Rattle.in_flight.specs.write_jobs.Jobs.{FilledView}
@@ -30,13 +30,13 @@ use Rattle.world_view_laws.specs.Begins.{IsFilledOut}
 use Rattle.world_view_laws.specs.Views.{IsWorldOver, kept_of, state_of, WorldView}
 
 -- two jobs of one caller are one
-pub one_job : (pending : List Pending) (a b : Pending) → AllPairs AreOfTwoThreads pending → In a pending → In b pending → a.who ≡ b.who → a ≡ b
+pub one_job : (pending : List JobOut) (a b : JobOut) → AllPairs AreOfTwoThreads pending → In a pending → In b pending → a.who ≡ b.who → a ≡ b
 one_job [] a b two first second same = absurd first
 one_job (x ∷ pending) a b two (inl one) (inl other) same = sym one ∙ other
 one_job (x ∷ pending) a b two (inl one) (inr at) same =
-    no_both (same_who x.who b.who) (ap (λ v. same_who v b.who) (ap (λ (y : Pending). y.who) one ∙ same) ∙ same_who-refl b.who) (pairs AreOfTwoThreads x pending two b at).other _
+    no_both (same_who x.who b.who) (ap (λ v. same_who v b.who) (ap (λ (y : JobOut). y.who) one ∙ same) ∙ same_who-refl b.who) (pairs AreOfTwoThreads x pending two b at).other _
 one_job (x ∷ pending) a b two (inr at) (inl other) same =
-    no_both (same_who x.who a.who) (ap (λ v. same_who v a.who) (ap (λ (y : Pending). y.who) other ∙ sym same) ∙ same_who-refl a.who) (pairs AreOfTwoThreads x pending two a at).other _
+    no_both (same_who x.who a.who) (ap (λ v. same_who v a.who) (ap (λ (y : JobOut). y.who) other ∙ sym same) ∙ same_who-refl a.who) (pairs AreOfTwoThreads x pending two a at).other _
 one_job (x ∷ pending) a b two (inr first) (inr second) same = one_job pending a b (λ m n d before below. two (suc m) (suc n) d (omega (arith, before)) (omega (arith, below))) first second same
 
 -- ---- the reply
@@ -48,7 +48,7 @@ put_bytes_are s who (Call.Pwrite h start x) put is = sym (ap (λ (p : Put). p.by
 put_bytes_are s who call put is = let never = is in cc
 
 -- A JOB ANSWERS how many bytes its call puts.
-pub job_answers : (g : Geometry) (k : View) (t : Tables) (kept : Kept) (lines : Bool) (n : ℕ) (s : State) → StandsAt g k t kept lines n s → (p : Pending) → In p kept.pending
+pub job_answers : (g : Geometry) (k : View) (t : Tables) (kept : Kept) (lines : Bool) (n : ℕ) (s : State) → StandsAt g k t kept lines n s → (p : JobOut) → In p kept.pending
     → (step s p.who p.call).outcome ≡ answer (Reply.Count (length (put_bytes_of p.call)))
 job_answers g k t kept lines n s stands p there =
     let puts = puts_of g k t kept lines n s stands p there in
@@ -57,7 +57,7 @@ job_answers g k t kept lines n s stands p there =
 -- ---- the ends of files
 
 module _ (law : EndFinished) (k : View) (t : Tables) (staging : Staged) (files : Files) (w : WorldView) (world : IsWorldOver k t staging files w) (on : w.lost ≡ false) (out : w.lines_out ≡ true)
-    (p : Pending) (job : FilledView) (is_out : IsFilledOut w p job) (slot : ℕ) (l : View) (u : Tables) (laid : Files) (same : l ≡ record k { cells = l.cells })
+    (p : JobOut) (job : FilledView) (is_out : IsFilledOut w p job) (slot : ℕ) (l : View) (u : Tables) (laid : Files) (same : l ≡ record k { cells = l.cells })
     (leaves : LeavesFinished k job (has k t staging files w world on out p job is_out) slot l u laid) where
   -- NOTHING LIES PAST THE END of a file once it finished.
   pub finished_ends : FilesEnd l.volume laid

@@ -18,7 +18,7 @@ use Rattle.eof_laws.specs.list_laws.Members.{In}
 use Rattle.eof_laws.specs.posix_types.declared.call.Who.{Who}
 use Rattle.eof_laws.specs.posix_tables.Open.{Tables}
 use Rattle.in_flight.specs.staging_files.Keeps.{Staged}
-use Rattle.in_flight.specs.live_model.Standing.{Pending}
+use Rattle.in_flight.specs.live_model.Standing.{JobOut}
 use Rattle.in_flight.specs.write_jobs.Jobs.{blocks_of, FilledView, HoldWords, JobView}
 use Rattle.write_end.specs.Blocks.{ComeHome}
 use Rattle.write_end.proofs.Apart.{has_loans_apart}
@@ -32,8 +32,8 @@ use Rattle.world_view_laws.specs.Rounds.{IsLeft}
 use Rattle.world_view_laws.specs.Views.{calls_out, IsLost, IsLostOut, IsWorldOver, kept_of, WorldView}
 
 -- the loans of a job that is out
-record IsOwned (pending : List Pending) (who : Who) (loans : List Part) : Type 0 where
-  pub p : Pending
+record IsOwned (pending : List JobOut) (who : Who) (loans : List Part) : Type 0 where
+  pub p : JobOut
   pub there : In p pending
   pub who_is : who ≡ p.who
   pub blocks : blocks_of loans ≡ p.blocks

@@ -14,10 +14,10 @@ use Rattle.in_flight.specs.k_split_model.View.{View}
 use Rattle.in_flight.specs.block_io.Lines.{LinesComeBack}
 use Rattle.eof_laws.specs.list_laws.Members.{In}
 use Rattle.eof_laws.specs.posix_tables.Open.{Tables}
-use Rattle.in_flight.specs.posix_spec.Run.{Begun}
+use Rattle.in_flight.specs.posix_spec.Run.{Unfinished}
 use Rattle.in_flight.specs.staging_files.Keeps.{Staged}
 use Rattle.in_flight.specs.world_image_laws.Promised.{IsKept}
-use Rattle.in_flight.specs.live_model.Standing.{Pending, StandsAt}
+use Rattle.in_flight.specs.live_model.Standing.{JobOut, StandsAt}
 use Rattle.write_end.specs.Ends.{begun_by}
 use Rattle.in_flight.specs.write_jobs.Jobs.{FilledView, HoldWords}
 use Rattle.write_end.specs.write_jobs.Loans.{ComeBack}
@@ -34,7 +34,7 @@ use Rattle.world_view_laws.specs.Views.{AreCounted, calls_out, Disk, disk_of, Is
 -- ---- what a loss makes of the view
 
 -- the World once it lost its power, with these calls unfinished beside the jobs
-abbrev pub lost_view : WorldView → List Begun → ℕ → Disk → WorldView
+abbrev pub lost_view : WorldView → List Unfinished → ℕ → Disk → WorldView
 lost_view w unfinished acts disk = record w { unfinished = unfinished; acts = acts; disk = disk; lost = true }
 
 never : true ≡ false → (X : Type 0) → X
@@ -43,7 +43,7 @@ never is X = let P : Bool → Type 0 = pick in absurd (subst P is tt) where
   pick true = Unit {0}
   pick false = ⊥
 
-counted_lost : (w : WorldView) (unfinished : List Begun) (acts : ℕ) (disk : Disk) → AreCounted w → acts ≤ most_acts w + 2 → AreCounted (lost_view w unfinished acts disk)
+counted_lost : (w : WorldView) (unfinished : List Unfinished) (acts : ℕ) (disk : Disk) → AreCounted w → acts ≤ most_acts w + 2 → AreCounted (lost_view w unfinished acts disk)
 counted_lost w unfinished acts disk counted few = record {
   settled = counted.settled;
   fresh = counted.fresh;
@@ -56,7 +56,7 @@ counted_lost w unfinished acts disk counted few = record {
   low = counted.low;
 }
 
-pub world_lost : (k l : View) (t u : Tables) (staging staged : Staged) (files filed : Files) (w : WorldView) (unfinished : List Begun) (acts : ℕ) → IsWorldOver k t staging files w → acts ≤ most_acts w + 2
+pub world_lost : (k l : View) (t u : Tables) (staging staged : Staged) (files filed : Files) (w : WorldView) (unfinished : List Unfinished) (acts : ℕ) → IsWorldOver k t staging files w → acts ≤ most_acts w + 2
     → IsLost staged filed (lost_view w unfinished acts (disk_of l u staged)) w.lines_out → IsWorldOver l u staged filed (lost_view w unfinished acts (disk_of l u staged))
 world_lost k l t u staging staged files filed w unfinished acts world few lost = record {
   mode = world.mode;
@@ -87,7 +87,7 @@ module _ (k : View) (t : Tables) (staging : Staged) (files : Files) (w : WorldVi
   stands_as lines out = subst (λ b. StandsAt w.geometry k t (kept_of w staging files) b (length w.history) (state_of w)) out going.stands
 
   -- with the log's lines out, and no call beside the jobs, or one
-  off_out : (unfinished : List Begun) (acts : ℕ) → IsLostWith k.volume k.cells (kept_of w staging files) w.start w.history (map begun_by w.pending ++ unfinished) → IsLostOut staging files (lost_view w unfinished acts (disk_of k t staging))
+  off_out : (unfinished : List Unfinished) (acts : ℕ) → IsLostWith k.volume k.cells (kept_of w staging files) w.start w.history (map begun_by w.pending ++ unfinished) → IsLostOut staging files (lost_view w unfinished acts (disk_of k t staging))
   off_out unfinished acts lost = record {
     volume = k.volume;
     geometry = going.stands.geometry;
@@ -99,10 +99,10 @@ module _ (k : View) (t : Tables) (staging : Staged) (files : Files) (w : WorldVi
 
   pub off_none : (acts : ℕ) → w.lines_out ≡ true → IsLostOut staging files (lost_view w [] acts (disk_of k t staging))
   off_none acts out =
-      off_out [] acts (subst (λ (calls : List Begun). IsLostWith k.volume k.cells (kept_of w staging files) w.start w.history calls) (sym (append-nil (map begun_by w.pending)))
+      off_out [] acts (subst (λ (calls : List Unfinished). IsLostWith k.volume k.cells (kept_of w staging files) w.start w.history calls) (sym (append-nil (map begun_by w.pending)))
       (found_lost w.geometry k t (kept_of w staging files) (length w.history) w.start w.history world.mode (stands_as true out) going.spelled))
 
-  pub off_call : (acts : ℕ) (c : Begun) → w.lines_out ≡ true → IsLostOut staging files (lost_view w (c ∷ []) acts (disk_of k t staging))
+  pub off_call : (acts : ℕ) (c : Unfinished) → w.lines_out ≡ true → IsLostOut staging files (lost_view w (c ∷ []) acts (disk_of k t staging))
   off_call acts c out = off_out (c ∷ []) acts (found_at_call w.geometry k t (kept_of w staging files) (length w.history) w.start w.history c world.mode (stands_as true out) going.spelled)
 
   -- with them at home
@@ -112,7 +112,7 @@ module _ (k : View) (t : Tables) (staging : Staged) (files : Files) (w : WorldVi
   same_cells : (e : List Cell) → LinesComeBack (log_line w.geometry 0) w.home k.cells e → cell k.cells ≡ cell e
   same_cells e comes = fun_ext (λ i. sym (comes.others i (λ within. omega (arith, within, empty))))
 
-  pub off_home : (unfinished : List Begun) (acts : ℕ) → w.lines_out ≡ false → IsLostHome (lost_view w unfinished acts (disk_of k t staging))
+  pub off_home : (unfinished : List Unfinished) (acts : ℕ) → w.lines_out ≡ false → IsLostHome (lost_view w unfinished acts (disk_of k t staging))
   off_home unfinished acts home = record {
     none = (stands_as false home).lines.0;
     size = size_now;
@@ -144,18 +144,18 @@ module _ (k : View) (t : Tables) (staging : Staged) (files : Files) (w : WorldVi
   pub world_off_acted : IsWorldOver k t staging files (lost_view w [] (w.acts + 1) (disk_of k t staging))
   world_off_acted = off_at (w.acts + 1) (omega (arith, world.counted.acts_on on))
 
-  call_by : (c : Begun) (lines : Bool) → w.lines_out ≡ lines → IsLost staging files (lost_view w (c ∷ []) (w.acts + 1) (disk_of k t staging)) lines
+  call_by : (c : Unfinished) (lines : Bool) → w.lines_out ≡ lines → IsLost staging files (lost_view w (c ∷ []) (w.acts + 1) (disk_of k t staging)) lines
   call_by c true out = off_call (w.acts + 1) c out
   call_by c false home = off_home (c ∷ []) (w.acts + 1) home
 
   -- or it is, where a call begins.
-  pub call_off : (c : Begun) → IsWorldOver k t staging files (lost_view w (c ∷ []) (w.acts + 1) (disk_of k t staging))
+  pub call_off : (c : Unfinished) → IsWorldOver k t staging files (lost_view w (c ∷ []) (w.acts + 1) (disk_of k t staging))
   call_off c = world_lost k k t t staging staging files files w (c ∷ []) (w.acts + 1) world (omega (arith, world.counted.acts_on on)) (call_by c w.lines_out refl)
 
 -- ---- jobs end after it
 
 module _ (k l : View) (t : Tables) (staging : Staged) (files : Files) (w : WorldView) (world : IsWorldOver k t staging files w) (off : w.lost ≡ true) (out : w.lines_out ≡ true)
-    (p : Pending) (job : FilledView) (is_out : IsFilledOut w p job) (holds : HoldWords job.loans job.words) (back : ComeBack job.loans w.disk.cells l.cells) where
+    (p : JobOut) (job : FilledView) (is_out : IsFilledOut w p job) (holds : HoldWords job.loans job.words) (back : ComeBack job.loans w.disk.cells l.cells) where
   gone : IsLostOut staging files w
   gone = subst (IsLost staging files w) out (world.gone off)
 
@@ -167,18 +167,18 @@ module _ (k l : View) (t : Tables) (staging : Staged) (files : Files) (w : World
     back = back;
   }
 
-  alone : AreBlocksHome p.blocks l.cells × ((q : Pending) (i : ℕ) → In q w.pending → q.who ≢ p.who → In (i / 512) q.blocks → cell l.cells i ≡ cell w.disk.cells i)
+  alone : AreBlocksHome p.blocks l.cells × ((q : JobOut) (i : ℕ) → In q w.pending → q.who ≢ p.who → In (i / 512) q.blocks → cell l.cells i ≡ cell w.disk.cells i)
   alone = comes_home_alone gone.volume w.disk.cells l.cells (kept_of w staging files) w.start w.history (calls_out w) p job gone.at comes
 
   -- the blocks of the job are at home
   pub blocks_home : AreBlocksHome p.blocks l.cells
   blocks_home = alone.0
 
-  pub blocks_stay : (q : Pending) → In q w.pending → q.who ≢ p.who → AreBlocksOut q.blocks w.disk.cells → AreBlocksOut q.blocks l.cells
+  pub blocks_stay : (q : JobOut) → In q w.pending → q.who ≢ p.who → AreBlocksOut q.blocks w.disk.cells → AreBlocksOut q.blocks l.cells
   blocks_stay q there other was i block = ap is_lent (alone.1 q i there other block) ∙ was i block
 
   -- those of others that are at home stay there
-  pub homes_stay : (q : Pending) → In q w.pending → q.who ≢ p.who → AreBlocksHome q.blocks w.disk.cells → AreBlocksHome q.blocks l.cells
+  pub homes_stay : (q : JobOut) → In q w.pending → q.who ≢ p.who → AreBlocksHome q.blocks w.disk.cells → AreBlocksHome q.blocks l.cells
   homes_stay q there other home i block = ap is_lent (alone.1 q i there other block) ∙ home i block
 
   -- what the World is once the job finished, after these acts

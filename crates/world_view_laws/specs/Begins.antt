@@ -24,7 +24,7 @@ use Rattle.in_flight.specs.crash_spec.Busy.{is_busy, is_logged}
 use Rattle.in_flight.specs.Busy.{IsKeeping}
 use Rattle.in_flight.specs.Histories.{item_with}
 use Rattle.in_flight.specs.staging_files.Reserves.{has_empty, HasNoFreeRun}
-use Rattle.in_flight.specs.live_model.Standing.{Pending, reserved_run}
+use Rattle.in_flight.specs.live_model.Standing.{JobOut, reserved_run}
 use Rattle.in_flight.specs.live_model.Jobs.{SpellCall}
 use Rattle.in_flight.specs.write_jobs.Jobs.{blocks_of, FilledView, JobView}
 use Rattle.write_end.specs.Blocks.{AreBlocksOut}
@@ -35,7 +35,7 @@ use Rattle.world_view_laws.specs.Views.{files_out, inode_on, next_of, state_of, 
 
 -- THE JOB IS ONE OF THIS WORLD, OUT: it has the caller, the entry and the blocks of one that is out, which are lent still, and the words
 -- of its call.
-pub record IsJobOut (w : WorldView) (p : Pending) (job : JobView) : Type 0 where
+pub record IsJobOut (w : WorldView) (p : JobOut) (job : JobView) : Type 0 where
   pub there : In p w.pending
   pub who : job.who ≡ p.who
   pub draft : job.draft ≡ p.draft
@@ -44,7 +44,7 @@ pub record IsJobOut (w : WorldView) (p : Pending) (job : JobView) : Type 0 where
   pub lent : AreBlocksOut p.blocks w.disk.cells
 
 -- so is a filled one
-pub record IsFilledOut (w : WorldView) (p : Pending) (job : FilledView) : Type 0 where
+pub record IsFilledOut (w : WorldView) (p : JobOut) (job : FilledView) : Type 0 where
   pub there : In p w.pending
   pub who : job.who ≡ p.who
   pub draft : job.draft ≡ p.draft
@@ -55,8 +55,8 @@ pub record IsFilledOut (w : WorldView) (p : Pending) (job : FilledView) : Type 0
 -- The jobs of other callers that are out stay so.
 abbrev pub OthersStay : WorldView → WorldView → Who → Type 0
 OthersStay old new who =
-    ((p : Pending) (job : JobView) → p.who ≢ who → IsJobOut old p job → IsJobOut new p job)
-    × ((p : Pending) (job : FilledView) → p.who ≢ who → IsFilledOut old p job → IsFilledOut new p job)
+    ((p : JobOut) (job : JobView) → p.who ≢ who → IsJobOut old p job → IsJobOut new p job)
+    × ((p : JobOut) (job : FilledView) → p.who ≢ who → IsFilledOut old p job → IsFilledOut new p job)
 
 -- ---- what a call needs, and what there is
 
@@ -72,7 +72,7 @@ IsNeed w who call need = (is_logged (state_of w) (who, call) ≡ true) × (need 
 -- Only the jobs that are out make the call need more than there is room for.
 pub record LacksBeside (w : WorldView) (who : Who) (call : Call) (need left : ℕ) : Type 0 where
   pub need_is : IsNeed w who call need
-  pub left_is : left ≡ room (state_of w) - sum_by (λ (p : Pending). need_of (state_of w) p.who p.call) w.pending
+  pub left_is : left ≡ room (state_of w) - sum_by (λ (p : JobOut). need_of (state_of w) p.who p.call) w.pending
   pub fits : need ≤ room (state_of w)
   pub lacks : left < need
 
@@ -152,7 +152,7 @@ pub record BeginsJob (who : Who) (old new : WorldView) (after : Supply) (job : J
   pub logged : is_logged (state_of old) (who, call) ≡ true
   pub enough : (need left : ℕ) → ¬ LacksBeside old who call need left
   pub run : (need left : ℕ) → ¬ LacksStaging old who call need left
-  pub pending : Pending
+  pub pending : JobOut
   pub who_is : pending.who ≡ who
   pub call_is : pending.call ≡ call
   pub new_is : new ≡ record old { pending = old.pending ++ pending ∷ []; acts = old.acts + 1; disk = new.disk }

@@ -3,7 +3,7 @@ use Rattle.std.specs.Prelude.{◌≡◌, ◌≢◌, ◌⊎◌, ◌+◌, ℕ, tru
 use Rattle.in_flight.specs.pm_model.Powers.{is_on, Supply}
 use Rattle.write_end.specs.oplog_entry.declared.claims.Full.{Full}
 use Rattle.in_flight.specs.list_laws.Members.{In}
-use Rattle.in_flight.specs.live_model.Standing.{Pending}
+use Rattle.in_flight.specs.live_model.Standing.{JobOut}
 use Rattle.in_flight.specs.live_model.Jobs.{without}
 use Rattle.in_flight.specs.write_jobs.Jobs.{FilledView}
 use Rattle.write_end.specs.Blocks.{AreBlocksHome}
@@ -13,10 +13,10 @@ use Rattle.world_view_laws.specs.Views.{WorldView}
 
 -- the job is one of this World, out
 abbrev pub IsOfWorld : WorldView → FilledView → Type 0
-IsOfWorld w job = (p : Pending) × IsFilledOut w p job
+IsOfWorld w job = (p : JobOut) × IsFilledOut w p job
 
 -- IT FINISHES: its item stands at the end of the history, its pair of slot and entry among the claims, and it is out no more.
-pub record Finishes (slot : ℕ) (p : Pending) (old new : WorldView) (power : Supply) : Type 0 where
+pub record Finishes (slot : ℕ) (p : JobOut) (old new : WorldView) (power : Supply) : Type 0 where
   pub awake : old.lost ≡ false
   pub on : is_on power ≡ true
   pub new_is : new ≡ record old {
@@ -30,12 +30,12 @@ pub record Finishes (slot : ℕ) (p : Pending) (old new : WorldView) (power : Su
   pub stay : OthersStay old new p.who
 
 -- the blocks of other jobs that are at home stay there
-abbrev pub HomesStay : Pending → WorldView → WorldView → Type 0
+abbrev pub HomesStay : JobOut → WorldView → WorldView → Type 0
 HomesStay p old new =
-    (q : Pending) → In q old.pending → q.who ≢ p.who → AreBlocksHome q.blocks old.disk.cells → AreBlocksHome q.blocks new.disk.cells
+    (q : JobOut) → In q old.pending → q.who ≢ p.who → AreBlocksHome q.blocks old.disk.cells → AreBlocksHome q.blocks new.disk.cells
 
 -- ITS POWER WENT: its blocks are at home, its claim counts, and it stays out as an unfinished call.
-pub record LosesFinish (slot : ℕ) (p : Pending) (old new : WorldView) (power : Supply) : Type 0 where
+pub record LosesFinish (slot : ℕ) (p : JobOut) (old new : WorldView) (power : Supply) : Type 0 where
   pub off : (old.lost ≡ true) ⊎ (is_on power ≡ false)
   pub new_is : new ≡ record old { claims = old.claims ++ (slot, p.draft) ∷ []; acts = new.acts; disk = new.disk; lost = true }
   pub first_one : old.lost ≡ false → new.acts ≡ old.acts + 1
@@ -51,7 +51,7 @@ over_by (Some over) full = over
 
 -- IT IS GIVEN UP: the call is back at its start, and the round is over, with what ended it first. Once the power went it stays out,
 -- with its blocks at home.
-pub record GivesUp (full : Full) (p : Pending) (old new : WorldView) : Type 0 where
+pub record GivesUp (full : Full) (p : JobOut) (old new : WorldView) : Type 0 where
   pub going : old.lost ≡ false → new ≡ record old { pending = without p.who old.pending; over = Some (over_by old.over full); given_up = old.given_up + 1; disk = new.disk }
   pub gone : old.lost ≡ true → new ≡ record old { disk = new.disk }
   pub disk : old.lost ≡ false → new.disk ≡ record old.disk { cells = new.disk.cells; staging = new.disk.staging }

@@ -2,7 +2,7 @@
 use Rattle.std.specs.Prelude.{◌≢◌, ℕ}
 use Rattle.eof_laws.specs.pm_model.Powers.{Supply}
 use Rattle.eof_laws.specs.list_laws.Members.{In}
-use Rattle.in_flight.specs.live_model.Standing.{Pending}
+use Rattle.in_flight.specs.live_model.Standing.{JobOut}
 use Rattle.write_end.specs.Blocks.{AreBlocksHome}
 use Rattle.world_view_laws.specs.Jobs.{LosesFinish}
 use Rattle.world_view_laws.specs.Views.{WorldView}
@@ -10,6 +10,6 @@ use Rattle.world_view_laws.specs.Views.{WorldView}
 -- TWO JOBS ENDED, one behind the other: the blocks of both are at home, as a crash asks.
 abbrev pub BothAreHome : Type 0
 BothAreHome =
-    (slot next : ℕ) (p q : Pending) (old middle new : WorldView) (power later : Supply) → p.who ≢ q.who → In p old.pending
+    (slot next : ℕ) (p q : JobOut) (old middle new : WorldView) (power later : Supply) → p.who ≢ q.who → In p old.pending
     → LosesFinish slot p old middle power → LosesFinish next q middle new later
     → AreBlocksHome p.blocks new.disk.cells × AreBlocksHome q.blocks new.disk.cells

@@ -5,7 +5,7 @@ use Rattle.in_flight.specs.pm_model.Cells.{AllHome}
 use Rattle.in_flight.specs.pm_model.Parts.{Part}
 use Rattle.in_flight.specs.pm_model.Powers.{is_on, Supply}
 use Rattle.in_flight.specs.posix_types.declared.item.Item.{Item}
-use Rattle.in_flight.specs.posix_spec.Run.{Begun, IsLegal}
+use Rattle.in_flight.specs.posix_spec.Run.{Unfinished, IsLegal}
 use Rattle.in_flight.specs.layout_model.Places.{log_line}
 use Rattle.in_flight.specs.block_io.Lines.{LinesGoOut}
 use Rattle.in_flight.specs.posix_spec.Scripted.{call_count, IsComplete, Scripted}
@@ -63,7 +63,7 @@ pub record LosesRound (old new : WorldView) (power : Supply) : Type 0 where
 
 -- WHAT IS LEFT OF A RUN: the calls that returned, of which the history is legal and follows the scripts; the device, of which nothing
 -- is lent, and which keeps the promise for them and the calls that did not.
-pub record IsLeft (w : WorldView) (pm : List Cell) (history : List Item) (unfinished : List Begun) : Type 0 where
+pub record IsLeft (w : WorldView) (pm : List Cell) (history : List Item) (unfinished : List Unfinished) : Type 0 where
   pub history_is : history ≡ w.history
   pub unfinished_is : unfinished ≡ calls_out w
   pub legal : IsLegal w.start history

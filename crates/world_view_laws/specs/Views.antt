@@ -21,7 +21,7 @@ use Rattle.in_flight.specs.posix_types.declared.call.Who.{Who}
 use Rattle.in_flight.specs.posix_types.declared.item.Item.{Item}
 use Rattle.in_flight.specs.posix_types.Scripts.{Scripts}
 use Rattle.in_flight.specs.posix_tables.Open.{Tables}
-use Rattle.in_flight.specs.posix_spec.Run.{Begun, IsLegal, run}
+use Rattle.in_flight.specs.posix_spec.Run.{Unfinished, IsLegal, run}
 use Rattle.in_flight.specs.posix_spec.Scripted.{call_count, IsSetUp, next_call, script_of, Scripted}
 use Rattle.in_flight.specs.posix_spec.State.{State}
 use Rattle.in_flight.specs.crash_spec.Busy.{Out}
@@ -31,7 +31,7 @@ use Rattle.in_flight.specs.staging_files.GivesUp.{nothing_staged}
 use Rattle.in_flight.specs.staging_files.Keeps.{Staged}
 use Rattle.in_flight.specs.world_image_laws.Images.{HasOldLines}
 use Rattle.in_flight.specs.world_image_laws.Promised.{KeepsPromise}
-use Rattle.in_flight.specs.live_model.Standing.{Kept, Pending, StandsAt}
+use Rattle.in_flight.specs.live_model.Standing.{Kept, JobOut, StandsAt}
 use Rattle.file_calls.specs.Built.{NamesAreSpelled}
 use Rattle.write_end.specs.Ends.{begun_by}
 use Rattle.write_end.specs.LosingLaws.{AreSpelled}
@@ -68,8 +68,8 @@ pub record WorldView : Type 0 where
   pub history : List Item
   pub settled : ℕ
   pub claims : List (ℕ × Draft)
-  pub pending : List Pending
-  pub unfinished : List Begun
+  pub pending : List JobOut
+  pub unfinished : List Unfinished
   pub over : Option Over
   pub given_up : ℕ
   pub acts : ℕ
@@ -89,7 +89,7 @@ abbrev pub next_of : WorldView → Who → Option Call
 next_of w who = next_call w.scripts w.history who
 
 -- THE CALLS THAT HAVE BEGUN AND NOT RETURNED, in the order of their beginning: those of jobs, and the one that lost its power.
-abbrev pub calls_out : WorldView → List Begun
+abbrev pub calls_out : WorldView → List Unfinished
 calls_out w = map begun_by w.pending ++ w.unfinished
 
 -- the files of the jobs that are out, with their callers, as calls wait for them
@@ -98,7 +98,7 @@ files_out w = files_by (state_of w) w.pending
 
 -- the caller has no job out
 abbrev pub HasNone : WorldView → Who → Type 0
-HasNone w who = (p : Pending) → In p w.pending → p.who ≢ who
+HasNone w who = (p : JobOut) → In p w.pending → p.who ≢ who
 
 -- word i of the device in its log lines, of which these are all words; other words are 0
 abbrev pub first_by : Geometry → List ℕ → Words
@@ -116,7 +116,7 @@ AreSpelledCalls scripts = (who : Who) (i : ℕ) (call : Call) → slice_get (scr
 
 -- each job is of the next call of its caller, which may begin
 abbrev pub AreNextCalls : WorldView → Type 0
-AreNextCalls w = (p : Pending) → In p w.pending → (next_of w p.who ≡ Some p.call) × IsSetUp w.scripts w.history p.who
+AreNextCalls w = (p : JobOut) → In p w.pending → (next_of w p.who ≡ Some p.call) × IsSetUp w.scripts w.history p.who
 
 -- With the log's lines at home nothing is lent or claimed, and each line that is an entry is one of an earlier lap.
 pub record IsLogHome (k : View) (w : WorldView) : Type 0 where
@@ -137,7 +137,7 @@ pub record IsGoing (k : View) (t : Tables) (staging : Staged) (files : Files) (w
   pub next : AreNextCalls w
   pub spelled : AreSpelled w.claims
   pub ends : FilesEnd k.volume files
-  pub drafts_end : (p : Pending) → In p w.pending → DraftEnds p.draft
+  pub drafts_end : (p : JobOut) → In p w.pending → DraftEnds p.draft
   pub log_home : w.lines_out ≡ false → IsLogHome k w
 
 -- ONCE IT WENT. With the log's lines out: with the volume that stood before the last change, the promise over all that may be put back.

@@ -13,7 +13,7 @@ pub fn jobs_that_ended_stay_home()
 {}
 
 pub use crate::views::{
-    Counters, Full, NoMemory, OpenFiles, Over, Pending, Told, call_at, calls_made, count_call,
+    Counters, Full, JobOut, NoMemory, OpenFiles, Over, Told, call_at, calls_made, count_call,
     finish_write, fsync, gather, give_up_write, keeper, next_in, place_of, run_call, settle_blocks,
     take_job, waits_for, what_stands_may_be_published,
 };

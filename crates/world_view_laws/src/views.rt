@@ -16,7 +16,7 @@ pub use file_publish::{
     gather, log_lines_come_home, log_lines_go_out, what_stands_may_be_published,
 };
 pub use in_flight::{
-    Commit, Counters, Filled, FilledJob, Job, KSplit, OpenFiles, Pending, call_at, calls_made,
+    Commit, Counters, Filled, FilledJob, Job, JobOut, KSplit, OpenFiles, call_at, calls_made,
     count_call, keeper, next_in, no_calls, place_of, script_length, take_job, waits_for,
 };
 pub use over::Over;

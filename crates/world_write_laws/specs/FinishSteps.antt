@@ -9,14 +9,14 @@ use Rattle.world_step_laws.specs.world_model.layout_model.declared.lines.Draft.{
 use Rattle.world_step_laws.specs.world_model.image_model.Volume.{Volume}
 use Rattle.world_step_laws.specs.world_model.posix_tables.declared.nodes.Node.{Node}
 use Rattle.world_step_laws.specs.world_model.posix_tables.Nodes.{node_at, published_of}
-use Rattle.world_step_laws.specs.world_model.posix_spec.Run.{after_call, Begun}
+use Rattle.world_step_laws.specs.world_model.posix_spec.Run.{after_call, Unfinished}
 use Rattle.world_step_laws.specs.world_model.posix_spec.State.{room, State}
 use Rattle.world_step_laws.specs.world_model.posix_laws.Puts.{LeavesWhole, with_whole}
 use Rattle.world_step_laws.specs.world_model.posix_laws.ViewLaws.{need_of-kept, PutsWhole-kept}
 use Rattle.world_step_laws.specs.world_model.posix_laws.Views.{KeepsView, need_of}
 use Rattle.world_step_laws.specs.commute_laws.Needs.{AreInFlight}
 use Rattle.world_step_laws.specs.world_model.crash_spec.Sync.{with_bytes}
-use Rattle.world_step_laws.specs.world_model.Jobs.{ApartFrom, begun_of, Job, JobsStand, JobStands, live_claims}
+use Rattle.world_step_laws.specs.world_model.Jobs.{ApartFrom, unfinished_call, Job, JobsStand, JobStands, live_claims}
 use Rattle.world_step_laws.specs.world_model.Stands.{number, Stands}
 use Rattle.world_step_laws.specs.world_model.Beside.{Fits-after, KeepsView-other, LeavesWhole-bytes, room-after, with_bytes-whole}
 use Rattle.world_step_laws.specs.world_model.JobLaws.{acted, live_used, needs}
@@ -29,12 +29,12 @@ use Rattle.world_write_laws.specs.PlaceSteps.{in_place}
 
 -- the state in which the job has acted, with these bytes
 abbrev left_with : List ℕ → State → Job → List ℕ → State
-left_with numbers s j bytes = with_bytes (after_call s (begun_of j)) (number numbers j.draft.ino) bytes
+left_with numbers s j bytes = with_bytes (after_call s (unfinished_call j)) (number numbers j.draft.ino) bytes
 
 leaves_with : (v : Volume) (live : List Draft) (f : Words) (numbers : List ℕ) (s : State) (j : Job) (bytes : List ℕ) → Stands v live f numbers s → JobStands v live f numbers s j
     → LeavesWhole s (left_with numbers s j bytes) (number numbers j.draft.ino) bytes
 leaves_with v live f numbers s j bytes stands job =
-    LeavesWhole-bytes s (begun_of j) (number numbers j.draft.ino) j.whole bytes job.puts (stands.names.within j.draft.ino (live_used v j.draft job.alive))
+    LeavesWhole-bytes s (unfinished_call j) (number numbers j.draft.ino) j.whole bytes job.puts (stands.names.within j.draft.ino (live_used v j.draft job.alive))
 
 other_number : (v : Volume) (live : List Draft) (f : Words) (numbers : List ℕ) (s : State) (j k : Job) → Stands v live f numbers s → JobStands v live f numbers s j → JobStands v live f numbers s k → j.draft.ino ≢ k.draft.ino
     → number numbers k.draft.ino ≢ number numbers j.draft.ino
@@ -49,11 +49,11 @@ other_node v live f numbers s j k bytes stands first second other =
 view : (v : Volume) (live : List Draft) (f : Words) (numbers : List ℕ) (s : State) (j k : Job) (bytes : List ℕ) → Stands v live f numbers s → JobStands v live f numbers s j → JobStands v live f numbers s k → j.draft.ino ≢ k.draft.ino
     → KeepsView s (left_with numbers s j bytes) k.who k.call
 view v live f numbers s j k bytes stands first second other =
-    KeepsView-other s (begun_of j) (number numbers j.draft.ino) j.whole bytes k.who k.call (number numbers k.draft.ino) k.whole first.puts (stands.names.within j.draft.ino (live_used v j.draft first.alive)) second.puts
+    KeepsView-other s (unfinished_call j) (number numbers j.draft.ino) j.whole bytes k.who k.call (number numbers k.draft.ino) k.whole first.puts (stands.names.within j.draft.ino (live_used v j.draft first.alive)) second.puts
     (other_number v live f numbers s j k stands first second other)
 
 needs_cons : (s : State) (j : Job) (jobs : List Job) → needs s (j ∷ jobs) ≡ need_of s j.who j.call + needs s jobs
-needs_cons s j jobs = sum_by-cons (λ (c : Begun). need_of s c.0 c.1) (begun_of j) (map begun_of jobs)
+needs_cons s j jobs = sum_by-cons (λ (c : Unfinished). need_of s c.0 c.1) (unfinished_call j) (map unfinished_call jobs)
 
 -- the other jobs go on
 flying_with : (v : Volume) (live : List Draft) (f : Words) (numbers : List ℕ) (s : State) (j : Job) (bytes : List ℕ) (jobs : List Job) → Stands v live f numbers s → JobStands v live f numbers s j → ApartFrom j jobs
@@ -97,19 +97,19 @@ finished_in_place v claims a j b f g numbers s count slot world holds writes =
     let valid = Valid-front v claims a j b f numbers s world.valid in
     let job = valid.out.0 in
     let after : State = left_with numbers s j j.whole in
-    let same : after ≡ after_call s (begun_of j) = with_bytes-whole s (begun_of j) n j.whole job.puts (valid.stands.names.within j.draft.ino (live_used v j.draft job.alive)) in
+    let same : after ≡ after_call s (unfinished_call j) = with_bytes-whole s (unfinished_call j) n j.whole job.puts (valid.stands.names.within j.draft.ino (live_used v j.draft job.alive)) in
     let first = leaves_with v live f numbers s j j.found valid.stands job in
     let last = leaves_with v live f numbers s j j.whole valid.stands job in
     let sum = needs_cons s j (a ++ b) in
     let all : need_of s j.who j.call + needs s (a ++ b) ≤ room s = omega (arith, valid.room, sum) in
-    let fits : needs s (a ++ b) ≤ room after = room-after s after (begun_of j) n j.whole j.whole (needs s (a ++ b)) job.puts last refl all in
+    let fits : needs s (a ++ b) ≤ room after = room-after s after (unfinished_call j) n j.whole j.whole (needs s (a ++ b)) job.puts last refl all in
     subst (λ x. IsWorld v (claims ++ (slot, j.draft) ∷ []) (a ++ b) g numbers x count) same
     (in_place v (claims ++ (slot, j.draft) ∷ []) (a ++ b) f g numbers (acted numbers s j) after count j.draft.ino j.whole (published_of (node_at s.nodes n))
     (landed v claims a j b f numbers s count slot world holds) writes (beside_apart j (a ++ b) valid.out.1)
     (record {
       flying_on = flying_with v live f numbers s j j.whole (a ++ b) valid.stands job valid.out.1 valid.out.2 fits;
       files = files_with v live f numbers s j j.found j.whole (a ++ b) valid.stands job valid.out.1 valid.out.2;
-      fits = Fits-after s after (begun_of j) n j.whole j.whole job.puts last refl (omega (arith, all)) valid.fits;
+      fits = Fits-after s after (unfinished_call j) n j.whole j.whole job.puts last refl (omega (arith, all)) valid.fits;
       room = omega (arith, fits, needs_with v live f numbers s j j.whole (a ++ b) valid.stands job valid.out.1 valid.out.2);
     })
     (last.entries ∙ sym first.entries) (last.shape ∙ sym first.shape)

@@ -14,12 +14,12 @@ use Rattle.world_step_laws.specs.world_model.image_model.Reading.{base_set}
 use Rattle.world_step_laws.specs.world_model.image_model.Volume.{inode, Volume}
 use Rattle.world_step_laws.specs.volume_change_laws.MapLaws.{base-keeps}
 use Rattle.world_step_laws.specs.world_model.posix_tables.Nodes.{node_at}
-use Rattle.world_step_laws.specs.world_model.posix_spec.Run.{after_call, Begun}
+use Rattle.world_step_laws.specs.world_model.posix_spec.Run.{after_call, Unfinished}
 use Rattle.world_step_laws.specs.world_model.posix_spec.State.{room, State}
 use Rattle.world_step_laws.specs.world_model.list_laws.Members.{In}
 use Rattle.world_step_laws.specs.world_model.posix_laws.Views.{need_of}
 use Rattle.world_step_laws.specs.world_model.crash_spec.Sync.{with_bytes}
-use Rattle.world_step_laws.specs.world_model.Jobs.{ApartFrom, AreApartJobs, begun_of, Job, JobsStand, JobStands, live_claims, Valid}
+use Rattle.world_step_laws.specs.world_model.Jobs.{ApartFrom, AreApartJobs, unfinished_call, Job, JobsStand, JobStands, live_claims, Valid}
 use Rattle.world_step_laws.specs.world_model.Stands.{IsSane, number, Stands}
 use Rattle.world_step_laws.specs.world_model.Beside.{with_bytes-whole}
 use Rattle.world_step_laws.specs.world_model.JobLaws.{acted, LeavesWhole-acted, live_file, live_used, needs, Valid-dropped, Valid-landed}
@@ -55,14 +55,14 @@ front v live f numbers s (i ∷ a) j b out =
 needs_front : (s : State) (a : List Job) (j : Job) (b : List Job) → needs s (a ++ j ∷ b) ≡ needs s (j ∷ (a ++ b))
 needs_front s [] j b = refl
 needs_front s (i ∷ a) j b =
-    let w : Begun → ℕ = λ (c : Begun). need_of s c.0 c.1 in
+    let w : Unfinished → ℕ = λ (c : Unfinished). need_of s c.0 c.1 in
     omega (
       arith,
-      sum_by-cons w (begun_of i) (map begun_of (a ++ j ∷ b)),
+      sum_by-cons w (unfinished_call i) (map unfinished_call (a ++ j ∷ b)),
       needs_front s a j b,
-      sum_by-cons w (begun_of j) (map begun_of (a ++ b)),
-      sum_by-cons w (begun_of j) (map begun_of (i ∷ (a ++ b))),
-      sum_by-cons w (begun_of i) (map begun_of (a ++ b)),
+      sum_by-cons w (unfinished_call j) (map unfinished_call (a ++ b)),
+      sum_by-cons w (unfinished_call j) (map unfinished_call (i ∷ (a ++ b))),
+      sum_by-cons w (unfinished_call i) (map unfinished_call (a ++ b)),
     )
 
 pub Valid-front : (v : Volume) (claims : List (ℕ × Draft)) (a : List Job) (j : Job) (b : List Job) (f : Words) (numbers : List ℕ) (s : State) → Valid v claims (a ++ j ∷ b) f numbers s → Valid v claims (j ∷ (a ++ b)) f numbers s
@@ -86,10 +86,10 @@ pushed v live f numbers s [] j out own apart = (own, tt, tt)
 pushed v live f numbers s (i ∷ jobs) j out own apart = (out.0, pushed_apart i j jobs out.1 (apart i (inl refl)), pushed v live f numbers s jobs j out.2 own (λ k is. apart k (inr is)))
 
 needs_pushed : (s : State) (jobs : List Job) (j : Job) → needs s (jobs ++ j ∷ []) ≡ needs s jobs + need_of s j.who j.call
-needs_pushed s [] j = let w : Begun → ℕ = λ (c : Begun). need_of s c.0 c.1 in omega (arith, sum_by-cons w (begun_of j) [])
+needs_pushed s [] j = let w : Unfinished → ℕ = λ (c : Unfinished). need_of s c.0 c.1 in omega (arith, sum_by-cons w (unfinished_call j) [])
 needs_pushed s (i ∷ jobs) j =
-    let w : Begun → ℕ = λ (c : Begun). need_of s c.0 c.1 in
-    omega (arith, sum_by-cons w (begun_of i) (map begun_of (jobs ++ j ∷ [])), needs_pushed s jobs j, sum_by-cons w (begun_of i) (map begun_of jobs))
+    let w : Unfinished → ℕ = λ (c : Unfinished). need_of s c.0 c.1 in
+    omega (arith, sum_by-cons w (unfinished_call i) (map unfinished_call (jobs ++ j ∷ [])), needs_pushed s jobs j, sum_by-cons w (unfinished_call i) (map unfinished_call jobs))
 
 pub begun : KeepsBegun
 begun v claims jobs j f numbers s count world own apart fits = record {
@@ -182,9 +182,9 @@ pub finished : KeepsFinished
 finished v claims a j b f numbers s count slot world holds whole =
     let valid = Valid-front v claims a j b f numbers s world.valid in
     let job = valid.out.0 in
-    let same : acted numbers s j ≡ after_call s (begun_of j) =
-    ap (with_bytes (after_call s (begun_of j)) (number numbers j.draft.ino)) whole
-    ∙ with_bytes-whole s (begun_of j) (number numbers j.draft.ino) j.whole job.puts (valid.stands.names.within j.draft.ino (live_used v j.draft job.alive))
+    let same : acted numbers s j ≡ after_call s (unfinished_call j) =
+    ap (with_bytes (after_call s (unfinished_call j)) (number numbers j.draft.ino)) whole
+    ∙ with_bytes-whole s (unfinished_call j) (number numbers j.draft.ino) j.whole job.puts (valid.stands.names.within j.draft.ino (live_used v j.draft job.alive))
     in
     subst (λ x. IsWorld v (claims ++ (slot, j.draft) ∷ []) (a ++ b) f numbers x count) same (landed v claims a j b f numbers s count slot world holds)
 

@@ -23,7 +23,7 @@ use Rattle.world_step_laws.specs.commute_laws.Needs.{needs as needs_of}
 use Rattle.world_step_laws.specs.commute_laws.Rooms.{FitsBeside}
 use Rattle.world_step_laws.specs.world_model.list_laws.Members.{In}
 use Rattle.world_step_laws.specs.world_model.posix_laws.Views.{need_of}
-use Rattle.world_step_laws.specs.world_model.Jobs.{AreApartJobs, begun_of, HoldsWhole, Job, JobStands, live_claims}
+use Rattle.world_step_laws.specs.world_model.Jobs.{AreApartJobs, unfinished_call, HoldsWhole, Job, JobStands, live_claims}
 use Rattle.world_step_laws.specs.world_model.Shown.{SameButLent}
 use Rattle.world_step_laws.specs.world_model.Stands.{entries_of, number}
 use Rattle.world_step_laws.specs.world_model.JobLaws.{acted, needs}
@@ -64,7 +64,7 @@ KeepsFinished =
     (v : Volume) (claims : List (ℕ × Draft)) (a : List Job) (j : Job) (b : List Job) (f : Words) (numbers : List ℕ)
     (s : State) (count slot : ℕ)
     → IsWorld v claims (a ++ j ∷ b) f numbers s count → HoldsWhole v f j.draft j.found → j.found ≡ j.whole
-    → IsWorld v (claims ++ (slot, j.draft) ∷ []) (a ++ b) f numbers (after_call s (begun_of j)) count
+    → IsWorld v (claims ++ (slot, j.draft) ∷ []) (a ++ b) f numbers (after_call s (unfinished_call j)) count
 
 -- any of the jobs is given up
 abbrev pub KeepsGivenUp : Type 0
@@ -126,4 +126,4 @@ KeepsFinishedInPlace =
     (s : State) (count slot : ℕ)
     → IsWorld v claims (a ++ j ∷ b) f numbers s count → HoldsWhole v f j.draft j.found
     → WritesInPlace v (live_claims v (claims ++ (slot, j.draft) ∷ [])) f g j.draft.ino j.whole
-    → IsWorld v (claims ++ (slot, j.draft) ∷ []) (a ++ b) g numbers (after_call s (begun_of j)) count
+    → IsWorld v (claims ++ (slot, j.draft) ∷ []) (a ++ b) g numbers (after_call s (unfinished_call j)) count

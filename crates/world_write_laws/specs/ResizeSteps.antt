@@ -21,7 +21,7 @@ use Rattle.world_step_laws.specs.world_model.posix_tables.Names.{exists_at, node
 use Rattle.world_step_laws.specs.world_model.posix_tables.Nodes.{node_at}
 use Rattle.world_step_laws.specs.world_model.posix_tables.Open.{opened}
 use Rattle.world_step_laws.specs.world_model.posix_spec.FileRows.{content, file_number}
-use Rattle.world_step_laws.specs.world_model.posix_spec.Run.{after_call, Begun}
+use Rattle.world_step_laws.specs.world_model.posix_spec.Run.{after_call, Unfinished}
 use Rattle.world_step_laws.specs.world_model.posix_spec.State.{made, space, State, with_file, with_node}
 use Rattle.world_step_laws.specs.world_model.posix_spec.Step.{empty_file, open_done, opening, stepped, truncate_done}
 use Rattle.world_step_laws.specs.world_model.list_laws.Filters.{filter-In, In-filter}
@@ -56,7 +56,7 @@ stands_alone w live f ino bytes none has = record {
 }
 
 -- a job that a call would wait for is of another file
-beside_waiting : (s : State) (c : Begun) (numbers : List ℕ) (jobs : List Job) (ino : ℕ) → LetsJobsBe s c numbers jobs → waits_for s c ≡ Some (number numbers ino) → AreBeside (only ino) jobs
+beside_waiting : (s : State) (c : Unfinished) (numbers : List ℕ) (jobs : List Job) (ino : ℕ) → LetsJobsBe s c numbers jobs → waits_for s c ≡ Some (number numbers ino) → AreBeside (only ino) jobs
 beside_waiting s c numbers [] ino lets waits = tt
 beside_waiting s c numbers (j ∷ jobs) ino lets waits =
     (ne_eqb j.draft.ino ino (λ same. lets.0.aside (waits ∙ ap (λ n. Some (number numbers n)) (sym same))), beside_waiting s c numbers jobs ino lets.1 waits)

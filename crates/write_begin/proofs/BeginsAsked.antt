@@ -26,7 +26,7 @@ use Rattle.live_step_laws.specs.commute_laws.Handles.{same_who-sym}
 use Rattle.write_plan.specs.posix_laws.Views.{need_of}
 use Rattle.write_plan.specs.posix_spec.FileRows.{file_number, write_rows, write_start}
 use Rattle.write_plan.specs.posix_spec.Put.{Put, put_by, put_unless}
-use Rattle.write_plan.specs.posix_spec.Run.{Begun}
+use Rattle.write_plan.specs.posix_spec.Run.{Unfinished}
 use Rattle.write_plan.specs.posix_spec.State.{room, State}
 use Rattle.live_step_laws.specs.staging_files.Keeps.{Staged}
 use Rattle.live_step_laws.specs.world_model.JobLaws.{needs}
@@ -46,7 +46,7 @@ use Rattle.write_begin.proofs.Clearing.{job_of_pending}
 -- ---- jobs that are out
 
 -- the call lets each of them be
-pub lets_one : (s : State) (c : Begun) (numbers : List ℕ) (jobs : List Job) → LetsJobsBe s c numbers jobs → (j : Job) → In j jobs → AreThreads j.who c.0 × LeavesAlone s c (number numbers j.draft.ino)
+pub lets_one : (s : State) (c : Unfinished) (numbers : List ℕ) (jobs : List Job) → LetsJobsBe s c numbers jobs → (j : Job) → In j jobs → AreThreads j.who c.0 × LeavesAlone s c (number numbers j.draft.ino)
 lets_one s c numbers [] lets j is = absurd is
 lets_one s c numbers (i ∷ jobs) lets j (inl same) =
     subst (λ (y : Job). AreThreads y.who c.0 × LeavesAlone s c (number numbers y.draft.ino)) same (lets.0.threads, lets.0.aside)

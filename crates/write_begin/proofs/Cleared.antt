@@ -3,7 +3,7 @@ use Rattle.std.specs.Prelude.{◌≡◌, ◌≤◌, ◌*◌, ◌/◌, ℕ, true,
 use Rattle.std.specs.declared.alloc.AllocError.{AllocError}
 use Rattle.std.proofs.Common.{ap, ◌∙◌}
 use Rattle.write_plan.specs.pm_model.Powers.{is_on, Supply}
-use Rattle.write_plan.specs.layout_model.Lines.{most_bytes}
+use Rattle.write_plan.specs.layout_model.block_counts.declared.TheConstants.{LONGEST_FILE}
 use Rattle.write_plan.specs.image_model.Volume.{Volume}
 use Rattle.write_plan.specs.file_table.Files.{Files, spare_in}
 use Rattle.live_step_laws.specs.ReservesLaws.{StandsReserved}
@@ -22,7 +22,7 @@ use Rattle.write_begin.proofs.Runs.{becomes_job, goes_back, IsRun}
 
 -- with its run it is a job, or the run goes back
 pub gone_ok : (k l m : View) (old new last : Staged) (files : Files) (who : Who) (target : Target) (x : List ℕ) (count : ℕ) (taken : StageRun) → StandsReserved → ReservedReadZero → 1 ≤ count → count ≤ 33 → IsRun count old k new l taken
-    → FitsTarget files target (length x) → target.size ≤ most_bytes → count ≡ staged_count target.start (length x) → 3 ≤ spare_in files target.ino → ReadZero k files target.ino target.size (4096 * (target.start / 4096))
+    → FitsTarget files target (length x) → target.size ≤ LONGEST_FILE → count ≡ staged_count target.start (length x) → 3 ≤ spare_in files target.ino → ReadZero k files target.ino target.size (4096 * (target.start / 4096))
     → Goes k old files who target x → (result : Result WriteBegun AllocError) → IsJobBegun l m new last files who target x taken result → IsGone k m old last files files who target x result
 gone_ok k l m old new last files who target x count taken law reads some few answer fits small count_is spare zero goes (Ok (WriteBegun.Answered outcome)) is = absurd is
 gone_ok k l m old new last files who target x count taken law reads some few answer fits small count_is spare zero goes (Ok (WriteBegun.Job job blocks)) is =

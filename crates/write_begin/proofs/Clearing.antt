@@ -18,7 +18,7 @@ use Rattle.live_step_laws.specs.staging_files.Keeps.{Staged}
 use Rattle.live_step_laws.specs.world_model.TreeRules.{used_below}
 use Rattle.live_step_laws.specs.world_model.Jobs.{Job, live_claims}
 use Rattle.live_step_laws.specs.world_model.Stands.{is_used}
-use Rattle.live_step_laws.specs.live_model.Standing.{AreJobsOf, file_state, Pending}
+use Rattle.live_step_laws.specs.live_model.Standing.{AreJobsOf, file_state, JobOut}
 use Rattle.write_plan.specs.declared.asks.asking.Target.{Target}
 use Rattle.write_plan.specs.Asks.{room_in}
 use Rattle.zero_fill.specs.Gaps.{Clears, HasFile, LosesGap}
@@ -33,10 +33,10 @@ pub record SparesOthers (ino : ℕ) (files then : Files) : Type 0 where
   pub spares : (other : ℕ) → other ≢ ino → spare_in then other ≡ spare_in files other
 
 -- the job of one that is kept as out
-pub job_of_pending : (pending : List Pending) (jobs : List Job) → AreJobsOf pending jobs → (p : Pending) → In p pending → (j : Job) × In j jobs × (j.draft ≡ p.draft) × (j.who ≡ p.who)
+pub job_of_pending : (pending : List JobOut) (jobs : List Job) → AreJobsOf pending jobs → (p : JobOut) → In p pending → (j : Job) × In j jobs × (j.draft ≡ p.draft) × (j.who ≡ p.who)
 job_of_pending [] jobs are p is = absurd is
 job_of_pending (q ∷ pending) [] are p is = absurd are
-job_of_pending (q ∷ pending) (j ∷ jobs) are p (inl same) = (j, inl refl, are.2 ∙ ap (λ (y : Pending). y.draft) same, are.0 ∙ ap (λ (y : Pending). y.who) same)
+job_of_pending (q ∷ pending) (j ∷ jobs) are p (inl same) = (j, inl refl, are.2 ∙ ap (λ (y : JobOut). y.draft) same, are.0 ∙ ap (λ (y : JobOut). y.who) same)
 job_of_pending (q ∷ pending) (j ∷ jobs) are p (inr behind) = let rest = job_of_pending pending jobs are.3 p behind in (rest.0, inr rest.1, rest.2, rest.3)
 
 -- the file has its line
@@ -50,7 +50,7 @@ line_there k staging files who target x goes =
 -- ---- memory
 
 module _ (k : View) (staging : Staged) (files then : Files) (who : Who) (target : Target) (x : List ℕ) (spares : SparesOthers target.ino files then) where
-  not_own : (goes : Goes k staging files who target x) → (p : Pending) → In p goes.kept.pending → p.draft.ino ≢ target.ino
+  not_own : (goes : Goes k staging files who target x) → (p : JobOut) → In p goes.kept.pending → p.draft.ino ≢ target.ino
   not_own goes p is own =
       let j = job_of_pending goes.kept.pending goes.stands.jobs goes.stands.jobs_are p is in
       goes.others j.0 j.1 (ap (λ (d : Draft). d.ino) j.2 ∙ own)

@@ -18,18 +18,18 @@ use Rattle.posix_types.specs.declared.call.Mode.{Mode}
 use Rattle.posix_types.specs.declared.call.Who.{Who}
 use Rattle.posix_types.specs.declared.handle.Handle.{Handle}
 use Rattle.posix_tables.specs.declared.open.Description.{Description}
-use Rattle.posix_tables.specs.Bytes.{longest_file}
+use Rattle.posix_tables.specs.block_counts.declared.TheConstants.{LONGEST_FILE}
 use Rattle.posix_tables.specs.Open.{may_write, opened, Tables}
 use Rattle.write_plan.specs.posix_laws.RowLaws.{Accepts, put_at-Some}
 use Rattle.write_plan.specs.posix_laws.Views.{need_of}
 use Rattle.write_plan.specs.posix_spec.FileRows.{write_start}
 use Rattle.write_plan.specs.posix_spec.Put.{Put, put_by}
-use Rattle.write_plan.specs.posix_spec.Run.{Begun}
+use Rattle.write_plan.specs.posix_spec.Run.{Unfinished}
 use Rattle.write_plan.specs.posix_spec.State.{State}
 use Rattle.live_step_laws.specs.world_model.JobLaws.{needs}
-use Rattle.live_step_laws.specs.world_model.Jobs.{begun_of, Job, JobsStand, live_claims}
+use Rattle.live_step_laws.specs.world_model.Jobs.{unfinished_call, Job, JobsStand, live_claims}
 use Rattle.live_step_laws.specs.world_model.Stands.{number}
-use Rattle.live_step_laws.specs.live_model.Standing.{AreJobsOf, Pending}
+use Rattle.live_step_laws.specs.live_model.Standing.{AreJobsOf, JobOut}
 use Rattle.write_plan.specs.Asks.{need_in, start_at}
 use Rattle.write_plan.specs.AsksLaws.{AreOfState, call_of, NeedsAsCall, start_of, StartsAsCall}
 use Rattle.write_plan.specs.Numbers.{StandsAsKept}
@@ -52,8 +52,8 @@ module _ (starts : StartsAsCall) (needs_law : NeedsAsCall) (s : State) (f : ℕ 
       let may : may_write t who h ≡ true = sym (ap (λ y. may_write y who h) of_state.tables ∙ (ap (λ (o : Option Description). option_map_or (λ d. d.flags.write) o false) (same_opened f t who h) ∙ same_may f (opened t who h))) ∙ accepts.may_write in
       let start = starts s f t files who h at of_state accepts.may_write in
       let end = accepts.end in
-      taken_then (may_write t who h) (nat_le (start_at t files who h at + length x) longest_file) (need_in t files who h at (length x)) may
-      (le_is (start_at t files who h at + length x) longest_file (omega (arith, start, end)))
+      taken_then (may_write t who h) (nat_le (start_at t files who h at + length x) LONGEST_FILE) (need_in t files who h at (length x)) may
+      (le_is (start_at t files who h at + length x) LONGEST_FILE (omega (arith, start, end)))
       ∙ sym (needs_law s f t files who h at x of_state strict accepts.may_write)
 
   -- a call that puts something needs what it does by numbers
@@ -63,16 +63,16 @@ module _ (starts : StartsAsCall) (needs_law : NeedsAsCall) (s : State) (f : ℕ 
   one who (Call.Pwrite h place x) p is = through who h (Some place) x (put_at-Some s who h place x p is).0
   one who call p is = cc
 
-  all : (v : Volume) (live : List Draft) (g : Words) (numbers : List ℕ) (pending : List Pending) (jobs : List Job) → AreJobsOf pending jobs → JobsStand v live g numbers s jobs
-      → sum_by (λ (p : Pending). need_by t files p.who p.call) pending ≡ needs s jobs
+  all : (v : Volume) (live : List Draft) (g : Words) (numbers : List ℕ) (pending : List JobOut) (jobs : List Job) → AreJobsOf pending jobs → JobsStand v live g numbers s jobs
+      → sum_by (λ (p : JobOut). need_by t files p.who p.call) pending ≡ needs s jobs
   all v live g numbers [] [] are out = refl
   all v live g numbers [] (j ∷ jobs) are out = absurd are
   all v live g numbers (p ∷ pending) [] are out = absurd are
   all v live g numbers (p ∷ pending) (j ∷ jobs) are out =
       let own : need_by t files p.who p.call ≡ need_of s j.who j.call = (λ i. need_by t files (sym are.0 i) (sym are.1 i)) ∙ one j.who j.call out.0.puts.put out.0.puts.is in
       let rest = all v live g numbers pending jobs are.3 out.2 in
-      sum_by-cons (λ (q : Pending). need_by t files q.who q.call) p pending
-      ∙ ((λ i. own i + rest i) ∙ sym (sum_by-cons (λ (c : Begun). need_of s c.0 c.1) (begun_of j) (map begun_of jobs)))
+      sum_by-cons (λ (q : JobOut). need_by t files q.who q.call) p pending
+      ∙ ((λ i. own i + rest i) ∙ sym (sum_by-cons (λ (c : Unfinished). need_of s c.0 c.1) (unfinished_call j) (map unfinished_call jobs)))
 
 pub jobs_need : StartsAsCall → NeedsAsCall → StandsAsKept → JobsNeed
 jobs_need starts needs_law kept_law g k t kept lines n s stands strict =

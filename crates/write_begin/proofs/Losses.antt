@@ -17,7 +17,7 @@ use Rattle.live_step_laws.specs.staging_files.Keeps.{Staged}
 use Rattle.live_step_laws.specs.staging_files.Reserves.{AreSame, IsLacking, IsReserveAnswer}
 use Rattle.live_step_laws.specs.world_image_laws.Promised.{IsKept}
 use Rattle.live_step_laws.specs.world_image_laws.Back.{IsPutBack}
-use Rattle.live_step_laws.specs.world_model.Jobs.{begun_of}
+use Rattle.live_step_laws.specs.world_model.Jobs.{unfinished_call}
 use Rattle.live_step_laws.specs.live_model.Standing.{StandsAt}
 use Rattle.write_plan.specs.declared.asks.asking.Target.{Target}
 use Rattle.write_plan.specs.Drafts.{staged_count}
@@ -35,7 +35,7 @@ loses_run k l old new files who target x count law some few answer = record {
   kept = λ goes start history same strict.
       subst
       (λ y. (stands : StandsAt goes.g k goes.t (with_parts goes.kept old files) true goes.n y) → (back : ℕ → Cell) (slots : List (Option ℕ)) (image : Words)
-      → IsPutBack k.volume l.cells back goes.kept.first goes.kept.claims stands.jobs slots image → IsKept goes.g start history (map begun_of stands.jobs ++ (who, goes.call) ∷ []) image)
+      → IsPutBack k.volume l.cells back goes.kept.first goes.kept.claims stands.jobs slots image → IsKept goes.g start history (map unfinished_call stands.jobs ++ (who, goes.call) ∷ []) image)
       (sym same)
       (λ stands. law goes.g k l goes.t (with_parts goes.kept old files) new true goes.n start history (who, goes.call) count strict stands some few answer)
       goes.stands;

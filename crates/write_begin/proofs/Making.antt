@@ -10,7 +10,7 @@ use Rattle.write_jobs.specs.pm_model.Images.{words_of}
 use Rattle.write_jobs.specs.pm_model.Parts.{Part}
 use Rattle.write_jobs.specs.layout_model.Journal.{journaled}
 use Rattle.write_jobs.specs.layout_model.declared.lines.Draft.{Draft}
-use Rattle.write_jobs.specs.layout_model.Lines.{most_bytes}
+use Rattle.write_jobs.specs.layout_model.block_counts.declared.TheConstants.{LONGEST_FILE}
 use Rattle.write_jobs.specs.image_model.Volume.{extents, inode, Volume}
 use Rattle.write_jobs.specs.extent_model.Extents.{disk_at, is_within}
 use Rattle.live_step_laws.specs.file_reads.Reads.{FileCanBeRead}
@@ -45,7 +45,7 @@ within_from first count i below = grind (arith, nat_tests)
 few_staged : (start len : ℕ) → 1 ≤ len → len ≤ 131072 → (1 ≤ staged_count start len) × (staged_count start len ≤ 33) × (start + len ≤ 4096 * (start / 4096 + staged_count start len))
 few_staged start len some most = (omega (arith, some), omega (arith, most), omega (arith, some))
 
-small_start : (start len : ℕ) → start + len ≤ most_bytes → start + len ≤ 16777216
+small_start : (start len : ℕ) → start + len ≤ LONGEST_FILE → start + len ≤ 16777216
 small_start start len fits = omega (arith, fits)
 
 module _ (k : View) (files : Files) (who : Who) (target : Target) (x : List ℕ) (run : StageRun) (ready : Ready k files who target x run) where

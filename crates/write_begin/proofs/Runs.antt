@@ -12,7 +12,7 @@ use Rattle.std.proofs.lemmas.List.Folds.{list_any_at}
 use Rattle.block_counts.specs.Counts.{blocks_for}
 use Rattle.write_plan.specs.layout_model.declared.lines.Draft.{Draft}
 use Rattle.write_plan.specs.layout_model.declared.lines.Inode.{Inode}
-use Rattle.write_plan.specs.layout_model.Lines.{most_bytes}
+use Rattle.write_plan.specs.layout_model.block_counts.declared.TheConstants.{LONGEST_FILE}
 use Rattle.write_plan.specs.image_model.Volume.{inode}
 use Rattle.write_plan.specs.file_table.Files.{Files, spare_in}
 use Rattle.live_step_laws.specs.ReservesLaws.{StandsReserved, StandsWithRun}
@@ -117,7 +117,7 @@ module _ (k l : View) (old new : Staged) (files : Files) (who : Who) (target : T
   claims_out goes d is = goes.stands.claims_out d (subst (In d) (same_live goes) is)
 
   -- THE WRITE CAN BE STAGED
-  abbrev pub ready_of : ReservedReadZero → FitsTarget files target (length x) → target.size ≤ most_bytes → count ≡ staged_count target.start (length x) → 3 ≤ spare_in files target.ino → ReadZero k files target.ino target.size (4096 * (target.start / 4096))
+  abbrev pub ready_of : ReservedReadZero → FitsTarget files target (length x) → target.size ≤ LONGEST_FILE → count ≡ staged_count target.start (length x) → 3 ≤ spare_in files target.ino → ReadZero k files target.ino target.size (4096 * (target.start / 4096))
       → (goes : Goes k old files who target x) → Ready l files who target x taken
   ready_of reads fits small count_is spare zero goes = record {
     g = goes.g;
@@ -161,7 +161,7 @@ module _ (k l : View) (old new : Staged) (files : Files) (who : Who) (target : T
 
   -- ---- it is a job
 
-  pub becomes_job : (m : View) (last : Staged) (job : JobView) (blocks : List ℕ) → ReservedReadZero → FitsTarget files target (length x) → target.size ≤ most_bytes → count ≡ staged_count target.start (length x)
+  pub becomes_job : (m : View) (last : Staged) (job : JobView) (blocks : List ℕ) → ReservedReadZero → FitsTarget files target (length x) → target.size ≤ LONGEST_FILE → count ≡ staged_count target.start (length x)
       → 3 ≤ spare_in files target.ino → ReadZero k files target.ino target.size (4096 * (target.start / 4096)) → Goes k old files who target x → StagedAsJob l m new last files who target x taken job blocks
       → BecomesJob k m old last files files who target x job blocks
   becomes_job m last job blocks reads fits small count_is spare zero goes_one staged = record {

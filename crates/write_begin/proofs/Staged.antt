@@ -39,7 +39,7 @@ use Rattle.posix_laws.specs.posix_spec.State.{State}
 use Rattle.live_step_laws.specs.staging_files.declared.runs.StageRun.{StageRun}
 use Rattle.write_jobs.specs.world_model.Jobs.{AreApartJobs, Job, JobsStand, JobStands, live_claims, staged_block, Valid}
 use Rattle.write_jobs.specs.world_model.Stands.{FileStands, is_used, number, Stands}
-use Rattle.live_step_laws.specs.live_model.Standing.{AreJobsOf, HasItsBlocks, Kept, Pending, reserved_run, StandsAt}
+use Rattle.live_step_laws.specs.live_model.Standing.{AreJobsOf, HasItsBlocks, Kept, JobOut, reserved_run, StandsAt}
 use Rattle.live_step_laws.specs.live_model.Jobs.{SpellCall}
 use Rattle.write_jobs.specs.Loans.{AreLentBy, AreLoansOf}
 use Rattle.write_plan.specs.declared.asks.asking.Target.{Target}
@@ -62,7 +62,7 @@ within_from : (first count i : ℕ) → i < count → is_within first count (fir
 within_from first count i below = grind (arith, nat_tests)
 
 -- what is kept of a job that is out
-pending_of_job : (pending : List Pending) (jobs : List Job) → AreJobsOf pending jobs → (i : Job) → In i jobs → (p : Pending) × In p pending × (i.draft ≡ p.draft)
+pending_of_job : (pending : List JobOut) (jobs : List Job) → AreJobsOf pending jobs → (i : Job) → In i jobs → (p : JobOut) × In p pending × (i.draft ≡ p.draft)
 pending_of_job [] [] are i is = absurd is
 pending_of_job [] (j ∷ jobs) are i is = absurd are
 pending_of_job (p ∷ pending) [] are i is = absurd is
@@ -175,7 +175,7 @@ module _ (k : View) (files : Files) (who : Who) (target : Target) (x : List ℕ)
         }
 
     module _ (loans : List Part) (blocks : List ℕ) (blocks_are : blocks ≡ blocks_of loans) (are : AreLoansOf k.volume d k.cells run.count loans) where
-      abbrev p : Pending
+      abbrev p : JobOut
       p = pending_of k files who ready.call target (length x) run blocks
 
       has_blocks : HasItsBlocks k.volume p
@@ -217,7 +217,7 @@ pub is_staged : DraftsAreNext → StagesTheFile → StandsBegun → (k l : View)
     → (ready : Ready k files who target x run) → FitsDraft (draft k files who target x run ready) → blocks ≡ blocks_of loans → AreLentBy k.volume (draft k files who target x run ready) k.cells l.cells loans → l ≡ record k { cells = l.cells } → IsInOrder l
     → SpellBytes words (staged_in k files target.ino target.start run.count x) → IsStaged k l files who target x run words blocks ready
 is_staged next_law words_law begun k l files who target x run words blocks loans ready fields blocks_are lent same order spell =
-    let p : Pending = pending_of k files who ready.call target (length x) run blocks in
+    let p : JobOut = pending_of k files who ready.call target (length x) run blocks in
     record {
       stands = subst (λ y. StandsAt ready.g y ready.t (with_job (kept_is k files who target x run ready) p) true ready.n ready.s) (sym same)
           (begun ready.g k l.cells ready.t (kept_is k files who target x run ready) ready.n ready.s p (job k files who target x run ready) ready.stands

@@ -18,7 +18,7 @@ use Rattle.live_step_laws.specs.staging_files.Reserves.{IsLacking}
 use Rattle.live_step_laws.specs.world_image_laws.Promised.{IsKept}
 use Rattle.live_step_laws.specs.world_image_laws.Back.{IsPutBack}
 use Rattle.live_step_laws.specs.world_model.JobLaws.{needs}
-use Rattle.live_step_laws.specs.world_model.Jobs.{begun_of}
+use Rattle.live_step_laws.specs.world_model.Jobs.{unfinished_call}
 use Rattle.live_step_laws.specs.world_model.Stands.{number}
 use Rattle.live_step_laws.specs.live_model.Standing.{StandsAt}
 use Rattle.write_plan.specs.declared.asks.asking.Target.{Target}
@@ -97,7 +97,7 @@ through k l m old new files then last who target x step (Ok WriteBegun.PowerLost
   left = λ goes. left_through goes.g k.cells l.cells m.cells step.size step.lent (is.left (goes_then k l old old files then who target x goes (step.onward goes)));
   kept = λ goes start history same strict back slots image put.
       let on = step.onward goes in
-      subst (λ js. IsKept goes.g start history (map begun_of js ++ (who, goes.call) ∷ []) image) on.jobs_are
+      subst (λ js. IsKept goes.g start history (map unfinished_call js ++ (who, goes.call) ∷ []) image) on.jobs_are
       (is.kept (goes_then k l old old files then who target x goes on) start history same strict back slots image
       (subst (λ (v : Volume). IsPutBack v m.cells back goes.kept.first goes.kept.claims on.now.jobs slots image) (sym (ap (λ (y : View). y.volume) step.same))
       (subst (λ js. IsPutBack k.volume m.cells back goes.kept.first goes.kept.claims js slots image) (sym on.jobs_are) put)));

@@ -26,7 +26,7 @@ use Rattle.live_step_laws.specs.staging_files.Reserves.{IsLacking}
 use Rattle.live_step_laws.specs.world_image_laws.Promised.{IsKept}
 use Rattle.live_step_laws.specs.world_image_laws.Back.{IsPutBack}
 use Rattle.live_step_laws.specs.world_model.JobLaws.{needs}
-use Rattle.live_step_laws.specs.world_model.Jobs.{begun_of, Job}
+use Rattle.live_step_laws.specs.world_model.Jobs.{unfinished_call, Job}
 use Rattle.live_step_laws.specs.live_model.Standing.{Kept, reserved_run, StandsAt}
 use Rattle.live_step_laws.specs.live_model.Jobs.{SpellCall}
 use Rattle.live_step_laws.specs.world_step_laws.Steps.{LetsJobsBe}
@@ -128,7 +128,7 @@ pub record LosesWrite (who : Who) (call : Call) (k l : View) (t : Tables) (stagi
   pub kept : (found : Found k t staging files who call taken) (start : State) (history : List Item) → found.s ≡ run start history → start.mode ≡ Mode.Strict
       → (back : ℕ → Cell) (slots : List (Option ℕ)) (image : Words)
       → IsPutBack k.volume l.cells back found.kept.first found.kept.claims found.stands.jobs slots image
-      → IsKept found.g start history (map begun_of found.stands.jobs ++ (who, call) ∷ []) image
+      → IsKept found.g start history (map unfinished_call found.stands.jobs ++ (who, call) ∷ []) image
 
 -- ---- all of it
 

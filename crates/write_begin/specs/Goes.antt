@@ -1,4 +1,5 @@
 -- A write that no row refuses, and that finds room beside the jobs that are out, on its way.
+use Rattle.block_counts.specs.declared.TheConstants.{LONGEST_FILE, LONGEST_WRITE}
 use Rattle.std.specs.Prelude.{◌≡◌, ◌≢◌, ◌≤◌, ◌<◌, ◌+◌, ◌/◌, ◌^◌, ℕ, true, false, List, [], ◌∷◌, ◌++◌, length, map, Option, Some, Result, Ok, Err}
 use Rattle.std.specs.declared.alloc.AllocError.{AllocError}
 use Rattle.write_plan.specs.pm_model.declared.Cell.{Cell}
@@ -31,9 +32,9 @@ use Rattle.live_step_laws.specs.staging_files.Reserves.{IsLacking}
 use Rattle.live_step_laws.specs.world_image_laws.Promised.{IsKept}
 use Rattle.live_step_laws.specs.world_image_laws.Back.{IsPutBack}
 use Rattle.live_step_laws.specs.world_model.JobLaws.{needs}
-use Rattle.live_step_laws.specs.world_model.Jobs.{begun_of, Job}
+use Rattle.live_step_laws.specs.world_model.Jobs.{unfinished_call, Job}
 use Rattle.live_step_laws.specs.world_model.Stands.{number}
-use Rattle.live_step_laws.specs.live_model.Standing.{Kept, Pending, reserved_run, StandsAt}
+use Rattle.live_step_laws.specs.live_model.Standing.{Kept, JobOut, reserved_run, StandsAt}
 use Rattle.live_step_laws.specs.live_model.Jobs.{SpellCall}
 use Rattle.write_plan.specs.declared.asks.asking.Target.{Target}
 use Rattle.write_plan.specs.Asks.{room_in}
@@ -45,8 +46,8 @@ use Rattle.write_begin.specs.declared.begins.beginning.WriteBegun.{WriteBegun}
 -- the bytes are those of a write that fits the longest file
 pub record FitsTarget (files : Files) (target : Target) (len : ℕ) : Type 0 where
   pub some : 1 ≤ len
-  pub most : len ≤ 131072
-  pub fits : target.start + len ≤ 16777216
+  pub most : len ≤ LONGEST_WRITE
+  pub fits : target.start + len ≤ LONGEST_FILE
   pub size : target.size ≡ size_in files target.ino
 
 -- Nothing of a file lies past its end, and all files leave the room that the write needs: so as the first of a lap it has its blocks.
@@ -73,10 +74,10 @@ pub record Goes (k : View) (staging : Staged) (files : Files) (who : Who) (targe
   pub puts : put_by s who call ≡ Some (record { node = number stands.numbers target.ino; place = target.start; bytes = x })
   pub fits : needs s stands.jobs + need_of s who call ≤ room s
   pub others : (j : Job) → In j stands.jobs → j.draft.ino ≢ target.ino
-  pub callers : (p : Pending) → In p kept.pending → AreThreads who p.who
+  pub callers : (p : JobOut) → In p kept.pending → AreThreads who p.who
 
 -- the job as the World keeps it
-abbrev pub job_of : Who → Call → JobView → List ℕ → Pending
+abbrev pub job_of : Who → Call → JobView → List ℕ → JobOut
 job_of who call job blocks = record { who = who; call = call; draft = job.draft; blocks = blocks }
 
 -- No map of a file changed, nor what is staged of it and its size, nor the log's base.
@@ -121,7 +122,7 @@ pub record LosesTarget (k l : View) (old : Staged) (files : Files) (who : Who) (
   pub kept : (goes : Goes k old files who target x) (start : State) (history : List Item) → goes.s ≡ run start history → start.mode ≡ Mode.Strict
       → (back : ℕ → Cell) (slots : List (Option ℕ)) (image : Words)
       → IsPutBack k.volume l.cells back goes.kept.first goes.kept.claims goes.stands.jobs slots image
-      → IsKept goes.g start history (map begun_of goes.stands.jobs ++ (who, goes.call) ∷ []) image
+      → IsKept goes.g start history (map unfinished_call goes.stands.jobs ++ (who, goes.call) ∷ []) image
 
 abbrev pub IsGone : View → View → Staged → Staged → Files → Files → Who → Target → List ℕ → Result WriteBegun AllocError → Type 0
 IsGone k l old new files then who target x (Ok (WriteBegun.Answered outcome)) = ⊥

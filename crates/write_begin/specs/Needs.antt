@@ -8,11 +8,11 @@ use Rattle.posix_types.specs.declared.call.Call.{Call}
 use Rattle.posix_types.specs.declared.call.Mode.{Mode}
 use Rattle.posix_types.specs.declared.call.Who.{Who}
 use Rattle.posix_types.specs.declared.handle.Handle.{Handle}
-use Rattle.posix_tables.specs.Bytes.{longest_file}
+use Rattle.posix_tables.specs.block_counts.declared.TheConstants.{LONGEST_FILE}
 use Rattle.posix_tables.specs.Open.{may_write, Tables}
 use Rattle.write_plan.specs.posix_spec.State.{State}
 use Rattle.live_step_laws.specs.world_model.JobLaws.{needs}
-use Rattle.live_step_laws.specs.live_model.Standing.{Kept, Pending, StandsAt}
+use Rattle.live_step_laws.specs.live_model.Standing.{Kept, JobOut, StandsAt}
 use Rattle.write_plan.specs.Asks.{need_in, start_at}
 
 -- where a write through a handle begins, by what it stands for and the size of its file
@@ -23,7 +23,7 @@ start_from o size (Some place) = place
 -- what a write of so many bytes needs through a handle: nothing where it may not write, or would end behind the longest file
 abbrev pub need_through : Tables → Files → Who → Handle → Option ℕ → ℕ → ℕ
 need_through t files who h at len =
-    if may_write t who h && nat_le (start_at t files who h at + len) longest_file then need_in t files who h at len else 0
+    if may_write t who h && nat_le (start_at t files who h at + len) LONGEST_FILE then need_in t files who h at len else 0
 
 -- other calls need nothing
 abbrev pub need_by : Tables → Files → Who → Call → ℕ
@@ -35,4 +35,4 @@ need_by t files who call = 0
 abbrev pub JobsNeed : Type 0
 JobsNeed =
     (g : Geometry) (k : View) (t : Tables) (kept : Kept) (lines : Bool) (n : ℕ) (s : State) → (stands : StandsAt g k t kept lines n s) → s.mode ≡ Mode.Strict
-    → sum_by (λ (p : Pending). need_by t kept.files p.who p.call) kept.pending ≡ needs s stands.jobs
+    → sum_by (λ (p : JobOut). need_by t kept.files p.who p.call) kept.pending ≡ needs s stands.jobs

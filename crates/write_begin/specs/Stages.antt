@@ -21,7 +21,7 @@ use Rattle.live_step_laws.specs.staging_files.Keeps.{AreApart, IsRunSingle, IsTh
 use Rattle.write_jobs.specs.world_model.JobLaws.{needs}
 use Rattle.write_jobs.specs.world_model.Jobs.{Job, live_claims}
 use Rattle.write_jobs.specs.world_model.Stands.{number}
-use Rattle.live_step_laws.specs.live_model.Standing.{Kept, Pending, reserved_run, StandsAt}
+use Rattle.live_step_laws.specs.live_model.Standing.{Kept, JobOut, reserved_run, StandsAt}
 use Rattle.live_step_laws.specs.live_model.Jobs.{SpellCall}
 use Rattle.write_plan.specs.declared.asks.asking.Target.{Target}
 use Rattle.write_plan.specs.Drafts.{draft_in, HasRun}
@@ -50,13 +50,13 @@ pub record Ready (k : View) (files : Files) (who : Who) (target : Target) (x : L
   pub puts : put_by s who call ≡ Some (record { node = number stands.numbers target.ino; place = target.start; bytes = x })
   pub fits : needs s stands.jobs + need_of s who call ≤ room s
   pub others : (j : Job) → In j stands.jobs → j.draft.ino ≢ target.ino
-  pub callers : (p : Pending) → In p kept.pending → AreThreads who p.who
+  pub callers : (p : JobOut) → In p kept.pending → AreThreads who p.who
   pub spare : 3 ≤ spare_in files target.ino
   pub zero : ReadZero k files target.ino target.size (4096 * (target.start / 4096))
   pub old : List StageRun
   pub has_run : HasRun k.volume staging target (length x) run
   pub claims_out : (d : Draft) → In d (live_claims k.volume kept.claims) → Contains old (reserved_run d)
-  pub jobs_out : (p : Pending) → In p kept.pending → Contains old (reserved_run p.draft)
+  pub jobs_out : (p : JobOut) → In p kept.pending → Contains old (reserved_run p.draft)
   pub apart : (other : StageRun) → Contains old other → AreApart other run
   pub there : IsThere k run
   pub single : IsRunSingle k run
@@ -64,7 +64,7 @@ pub record Ready (k : View) (files : Files) (who : Who) (target : Target) (x : L
   pub free : length staging.out + reserve k.volume.geometry ≤ unused_blocks k.volume + 3
 
 -- the job as the World keeps it
-abbrev pub pending_of : View → Files → Who → Call → Target → ℕ → StageRun → List ℕ → Pending
+abbrev pub pending_of : View → Files → Who → Call → Target → ℕ → StageRun → List ℕ → JobOut
 pending_of k files who call target len run blocks = record { who = who; call = call; draft = draft_in k.volume files target len run; blocks = blocks }
 
 -- THE JOB IS OUT: the World stands together with it as the last one, in the same state, and its words are those of its call.

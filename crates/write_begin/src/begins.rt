@@ -13,8 +13,8 @@
 
 ghost use Rattle.write_begin.specs.Needs.{JobsNeed};
 
+use crate::laws;
 pub use crate::stages::kept_numbers_are_those_of_the_state;
-use crate::stages::numbers_are_those_of_the_state;
 
 mod beginning;
 mod needs;
@@ -27,6 +27,6 @@ pub use needs::need_of;
 pub fn jobs_need_what_their_calls_do()
     ensures { JobsNeed }
 {
-    numbers_are_those_of_the_state();
+    laws::numbers_are_those_of_the_state();
     kept_numbers_are_those_of_the_state();
 }

@@ -11,6 +11,7 @@
 #![tactic(auto)]
 
 mod begins;
+mod laws;
 mod stages;
 
 pub use begins::{WriteBegun, begin_write, jobs_need_what_their_calls_do, need_of};

@@ -15,7 +15,7 @@ use Rattle.k_split_laws.specs.volume_laws.OwnerLaws.{IsOnePlace, one_owner}
 use Rattle.write_plan.specs.eof_laws.log_checkpoint.world_model.Lent.{once_named}
 use Rattle.write_plan.specs.eof_laws.log_checkpoint.world_model.Jobs.{AreApartJobs, IsStagedIn, Job, JobsStand, JobStands, live_claims, staged_block}
 use Rattle.write_plan.specs.eof_laws.log_checkpoint.world_model.Stands.{IsSane}
-use Rattle.live_model.specs.Standing.{AreJobsOf, HasItsBlocks, Pending}
+use Rattle.live_model.specs.Standing.{AreJobsOf, HasItsBlocks, JobOut}
 use Rattle.write_jobs.specs.Jobs.{blocks_of, FilledView, loan_at}
 use Rattle.write_end.specs.LosingLaws.{HasLoansApart, SharesNone, StandsApart}
 use Rattle.write_end.proofs.Jobs.{none_common, staged_of}
@@ -38,15 +38,15 @@ once v draft m n b sane staging first second =
     in
     omega (arith, one.place)
 
-module _ (v : Volume) (live : List Draft) (f : Words) (numbers : List ℕ) (s : State) (pending : List Pending) (jobs : List Job) (are : AreJobsOf pending jobs) (blocks : (p : Pending) → In p pending → HasItsBlocks v p) (sane : IsSane v)
+module _ (v : Volume) (live : List Draft) (f : Words) (numbers : List ℕ) (s : State) (pending : List JobOut) (jobs : List Job) (are : AreJobsOf pending jobs) (blocks : (p : JobOut) → In p pending → HasItsBlocks v p) (sane : IsSane v)
     (out : JobsStand v live f numbers s jobs) where
-  its_job : (p : Pending) → In p pending → IsJobOf p jobs
+  its_job : (p : JobOut) → In p pending → IsJobOf p jobs
   its_job p there = job_of pending jobs p are there
 
-  stood : (p : Pending) (there : In p pending) → JobStands v live f numbers s (its_job p there).job
+  stood : (p : JobOut) (there : In p pending) → JobStands v live f numbers s (its_job p there).job
   stood p there = stands_of v live f numbers s jobs (its_job p there).job out (its_job p there).there
 
-  pub loans_apart : (p : Pending) (loans : List Part) → In p pending → blocks_of loans ≡ p.blocks → AreApart loans
+  pub loans_apart : (p : JobOut) (loans : List Part) → In p pending → blocks_of loans ≡ p.blocks → AreApart loans
   loans_apart p loans there same m n first second equal =
       let its = its_job p there in
       let job : FilledView = record { who = p.who; draft = p.draft; loans = loans; words = [] } in
@@ -54,7 +54,7 @@ module _ (v : Volume) (live : List Draft) (f : Words) (numbers : List ℕ) (s : 
       let at = places_of_entry v p its.job job (blocks p there) same its.draft in
       once v its.job.draft m n (loan_at loans m).place sane (stood p there).staging (at m (omega (arith, first, count))) (at n (omega (arith, second, count)) ∙ ap (λ b. Some b) (sym equal))
 
-  pub none_shared : (p : Pending) → In p pending → SharesNone pending p
+  pub none_shared : (p : JobOut) → In p pending → SharesNone pending p
   none_shared p there q b at other first second =
       let its_p = its_job p there in
       let its_q = its_job q at in

@@ -3,7 +3,7 @@ use Rattle.std.proofs.Common.{◌≡◌, ◌≤◌, ◌<◌, ◌+◌, ◌^◌, �
 use Rattle.std.proofs.lemmas.Bool.Decides.{nat_tests}
 use Rattle.layout_model.specs.declared.lines.Draft.{Draft}
 use Rattle.layout_model.specs.Entries.{is_draft}
-use Rattle.layout_model.specs.Lines.{most_bytes}
+use Rattle.layout_model.specs.block_counts.declared.TheConstants.{LONGEST_FILE}
 use Rattle.write_plan.specs.file_table.Files.{ChangesFile, Files, runs_in, spare_in}
 use Rattle.write_jobs.specs.world_image_laws.k_split_model.View.{View}
 use Rattle.write_jobs.specs.k_split.Order.{IsInOrder}
@@ -22,7 +22,7 @@ use Rattle.write_end.proofs.Finishes.{leaves_finished, may_move}
 record Ranges (d : Draft) : Type 0 where
   in_file : d.file_block + d.count ≤ 4096
   in_staging : d.staging_block + d.count ≤ 64
-  size : d.size ≤ most_bytes
+  size : d.size ≤ LONGEST_FILE
 
 ranges : (d : Draft) → is_draft d ≡ true → Ranges d
 ranges d is = record { in_file = grind (arith, nat_tests, is); in_staging = grind (arith, nat_tests, is); size = grind (arith, nat_tests, is) }
@@ -33,7 +33,7 @@ pub record MayLay (d : Draft) (files : Files) : Type 0 where
   pub room : 3 ≤ spare_in files d.ino
   pub in_file : d.file_block + d.count < 2 ^ 32
   pub in_staging : d.staging_block + d.count < 2 ^ 32
-  pub small : d.size ≤ most_bytes
+  pub small : d.size ≤ LONGEST_FILE
 
 pub may_lay : (k : View) (job : FilledView) (has : HasJob k job) (files : Files) → has.kept.files ≡ files → MayLay job.draft files
 may_lay k job has files files_are =

@@ -17,7 +17,7 @@ use Rattle.oplog_entry.specs.image_model.Volume.{Volume}
 use Rattle.k_split_laws.proofs.k_split_proofs.LogLaws.{data_beside}
 use Rattle.k_split_laws.specs.k_split.Laps.{IsLogWord}
 use Rattle.k_split_laws.specs.list_laws.Members.{In}
-use Rattle.k_split_laws.specs.posix_spec.Run.{Begun, run}
+use Rattle.k_split_laws.specs.posix_spec.Run.{Unfinished, run}
 use Rattle.k_split_laws.specs.posix_spec.State.{State}
 use Rattle.k_split_laws.specs.posix_types.declared.item.Item.{Item}
 use Rattle.k_split_laws.specs.volume_laws.ImageLaws.{journaled-other}
@@ -28,7 +28,7 @@ use Rattle.write_jobs.specs.world_image_laws.Running.{promise_now}
 use Rattle.write_plan.specs.eof_laws.log_checkpoint.world_model.Lines.{AreJobLines, AreLinesOut, IsJobLine, IsTaken}
 use Rattle.write_plan.specs.eof_laws.log_checkpoint.world_model.Jobs.{HoldsWhole, IsStagedIn, Job, staged_block}
 use Rattle.write_plan.specs.eof_laws.log_checkpoint.world_model.Shown.{AreFilled}
-use Rattle.live_model.specs.Standing.{AreJobsOf, IsSpellable, Kept, Pending}
+use Rattle.live_model.specs.Standing.{AreJobsOf, IsSpellable, Kept, JobOut}
 use Rattle.write_end.proofs.LosingPending.{IsJobOf, loans_of_entry, places_of_entry}
 use Rattle.write_end.specs.Ends.{IsOut}
 use Rattle.write_jobs.specs.Jobs.{FilledView, loan_at}
@@ -114,7 +114,7 @@ log_or_not v i = elim (cases_lt (i / 8) (log_line v.geometry 0)) [
 
 -- ---- the crash
 
-module _ (v : Volume) (d middle e : List Cell) (kept : Kept) (start : State) (history : List Item) (unfinished : List Begun) (loans : List Part) (filled : List FilledView) (taken : List (ℕ × Draft)) (lines : List Part)
+module _ (v : Volume) (d middle e : List Cell) (kept : Kept) (start : State) (history : List Item) (unfinished : List Unfinished) (loans : List Part) (filled : List FilledView) (taken : List (ℕ × Draft)) (lines : List Part)
     (lost : IsLostWith v d kept start history unfinished) (handed : AreHandedIn d kept (run start history) loans filled) (crash : AreCrashLines v kept.first kept.claims filled taken lines) (comes : ComeHome loans d middle)
     (lines_home : LinesAreHome v lines middle e) where
   -- ---- words
@@ -179,9 +179,9 @@ module _ (v : Volume) (d middle e : List Cell) (kept : Kept) (start : State) (hi
 
   -- the job is that of a filled one
   abbrev IsFilledJob : Job → Type 0
-  IsFilledJob j = (job : FilledView) × In job filled × ((p : Pending) × IsOut kept (run start history) p job × ((its : IsJobOf p lost.jobs) × (its.job ≡ j)))
+  IsFilledJob j = (job : FilledView) × In job filled × ((p : JobOut) × IsOut kept (run start history) p job × ((its : IsJobOf p lost.jobs) × (its.job ≡ j)))
 
-  blocks_lent : (job : FilledView) (p : Pending) → In job filled → IsOut kept (run start history) p job → AreBlocksOut p.blocks d
+  blocks_lent : (job : FilledView) (p : JobOut) → In job filled → IsOut kept (run start history) p job → AreBlocksOut p.blocks d
   blocks_lent job p at out i block = let its = of_block job.loans (i / 512) (subst (In (i / 512)) (sym out.blocks) block) in handed.lent its.0 i (handed.there job its.0 at its.1) its.2 where
     of_block : (xs : List Part) (b : ℕ) → In b (map (λ (loan : Part). loan.place) xs) → (loan : Part) × In loan xs × (loan.place ≡ b)
     of_block [] b is = absurd is
@@ -357,7 +357,7 @@ keeps_crashed v d middle e kept start history unfinished loans filled taken line
 
 -- ---- with the lines at home
 
-no_jobs : (pending : List Pending) (jobs : List Job) → AreJobsOf pending jobs → pending ≡ [] → jobs ≡ []
+no_jobs : (pending : List JobOut) (jobs : List Job) → AreJobsOf pending jobs → pending ≡ [] → jobs ≡ []
 no_jobs [] [] are none = refl
 no_jobs [] (j ∷ jobs) are none = absurd are
 no_jobs (p ∷ pending) jobs are none = cc

@@ -20,7 +20,7 @@ use Rattle.live_model.specs.Flying.{IsOut as IsOutWord}
 use Rattle.write_jobs.specs.Blocks.{ArePutBack, SpellWhole}
 use Rattle.k_split_laws.specs.list_laws.Members.{In, pushed-In}
 use Rattle.write_plan.specs.eof_laws.log_checkpoint.posix_laws.Puts.{PutsWhole}
-use Rattle.k_split_laws.specs.posix_spec.Run.{Begun, run}
+use Rattle.k_split_laws.specs.posix_spec.Run.{Unfinished, run}
 use Rattle.k_split_laws.specs.posix_types.declared.call.Call.{Call}
 use Rattle.k_split_laws.specs.posix_types.declared.call.Who.{Who}
 use Rattle.k_split_laws.specs.posix_types.declared.item.Item.{Item}
@@ -35,7 +35,7 @@ use Rattle.write_jobs.specs.world_image_laws.Back.{IsPutBack}
 use Rattle.write_plan.specs.eof_laws.log_checkpoint.world_model.Lines.{AreLinesOut}
 use Rattle.write_plan.specs.eof_laws.log_checkpoint.world_model.Jobs.{AreApartJobs, HoldsWhole, IsStagedIn, Job, JobStands, live_claims, staged_block, Valid}
 use Rattle.write_plan.specs.eof_laws.log_checkpoint.world_model.Promised.{AreWhole}
-use Rattle.live_model.specs.Standing.{AreLinesLent, Kept, Pending}
+use Rattle.live_model.specs.Standing.{AreLinesLent, Kept, JobOut}
 use Rattle.write_plan.specs.eof_laws.log_checkpoint.world_step_laws.Worlds.{IsWorld}
 use Rattle.write_end.proofs.LosingPending.{IsSplit, apart_of, loans_of_entry, places_of_entry, split_in, split_of}
 use Rattle.write_end.specs.Ends.{IsOut}
@@ -72,7 +72,7 @@ own_job (x ∷ a) j b = inr (own_job a j b)
 -- ---- words of a job in its blocks
 
 -- The words that a job is to hold spell its whole bytes.
-pub spells_job : (s : State) (p : Pending) (j : Job) (job : FilledView) (kept : Kept) → IsOut kept s p job → j.who ≡ p.who → j.call ≡ p.call → j.draft ≡ p.draft → (node : ℕ) × PutsWhole s j.who j.call node j.whole → SpellWhole j.draft job.words j.whole
+pub spells_job : (s : State) (p : JobOut) (j : Job) (job : FilledView) (kept : Kept) → IsOut kept s p job → j.who ≡ p.who → j.call ≡ p.call → j.draft ≡ p.draft → (node : ℕ) × PutsWhole s j.who j.call node j.whole → SpellWhole j.draft job.words j.whole
 spells_job s p j job kept out who call draft puts =
     let of_p =
     subst (λ (c : Call). PutsWhole s p.who c puts.0 j.whole) call
@@ -93,7 +93,7 @@ holds_spelled v image draft words whole has spelled n block i below at within =
 
 -- ---- the job
 
-module _ (v : Volume) (d e : List Cell) (kept : Kept) (start : State) (history : List Item) (unfinished : List Begun) (p : Pending) (job : FilledView) (lost : IsLostWith v d kept start history unfinished)
+module _ (v : Volume) (d e : List Cell) (kept : Kept) (start : State) (history : List Item) (unfinished : List Unfinished) (p : JobOut) (job : FilledView) (lost : IsLostWith v d kept start history unfinished)
     (is : ComesHome d e kept (run start history) p job) where
   split : IsSplit kept.pending lost.jobs p
   split = split_of kept.pending lost.jobs p lost.jobs_are is.out.there lost.callers
@@ -233,7 +233,7 @@ module _ (v : Volume) (d e : List Cell) (kept : Kept) (start : State) (history :
   pub home_then : AreBlocksHome p.blocks e
   home_then = blocks_home v p j.draft e (lost.blocks p is.out.there) split.draft own_home
 
-  pub others_words : (q : Pending) (i : ℕ) → In q kept.pending → q.who ≢ p.who → In (i / 512) q.blocks → cell e i ≡ cell d i
+  pub others_words : (q : JobOut) (i : ℕ) → In q kept.pending → q.who ≢ p.who → In (i / 512) q.blocks → cell e i ≡ cell d i
   others_words q i at other block =
       let its = its_job v d kept start history unfinished lost q at in
       let staged = subst (λ (x : Draft). IsStagedIn v x (i / 512)) (sym its.draft) (staged_of v q (i / 512) (lost.blocks q at) block) in

@@ -32,7 +32,7 @@ use Rattle.write_jobs.specs.Loans.{AreApart, ComeBack}
 use Rattle.write_jobs.proofs.SettleLaws.{puts_back}
 use Rattle.live_model.specs.Flying.{IsFlying}
 use Rattle.write_jobs.specs.Blocks.{AreOut, ArePutBack, SpellWhole}
-use Rattle.live_model.specs.Standing.{file_state, HasItsBlocks, Pending}
+use Rattle.live_model.specs.Standing.{file_state, HasItsBlocks, JobOut}
 use Rattle.write_end.specs.Ends.{HasJob}
 use Rattle.write_end.proofs.EndsPending.{IsSplit, split_of}
 
@@ -60,7 +60,7 @@ module _ (v : Volume) (draft : Draft) (sane : IsSane v) (staging : (inode v draf
       omega (arith, one.place)
 
 -- the loans of a job are of the blocks of its entry
-module _ (v : Volume) (p : Pending) (j : Job) (job : FilledView) (its : HasItsBlocks v p) (blocks : blocks_of job.loans ≡ p.blocks) (draft : j.draft ≡ p.draft) where
+module _ (v : Volume) (p : JobOut) (j : Job) (job : FilledView) (its : HasItsBlocks v p) (blocks : blocks_of job.loans ≡ p.blocks) (draft : j.draft ≡ p.draft) where
   pub loans_of_entry : length job.loans ≡ j.draft.count
   loans_of_entry = sym (length-map job.loans (λ (x : Part). x.place)) ∙ ap length blocks ∙ its.count ∙ ap (λ (d : Draft). d.count) (sym draft)
 

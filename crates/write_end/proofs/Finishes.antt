@@ -28,18 +28,18 @@ use Rattle.write_plan.specs.posix_tables.declared.nodes.Node.{Node}
 use Rattle.write_plan.specs.posix_tables.Nodes.{bytes_of, node_at}
 use Rattle.write_plan.specs.posix_tables.Open.{is_open, same_who, Tables}
 use Rattle.write_plan.specs.posix_laws.Puts.{put_bytes, PutsWhole}
-use Rattle.write_plan.specs.posix_spec.Run.{after_call, Begun}
+use Rattle.write_plan.specs.posix_spec.Run.{after_call, Unfinished}
 use Rattle.write_plan.specs.posix_spec.State.{alone, State}
 use Rattle.write_jobs.specs.world_image_laws.world_model.JobLaws.{live_claims-more}
 use Rattle.write_jobs.specs.world_image_laws.world_model.TreeRules.{used_below}
-use Rattle.write_jobs.specs.world_image_laws.world_model.Jobs.{begun_of, live_claims}
+use Rattle.write_jobs.specs.world_image_laws.world_model.Jobs.{unfinished_call, live_claims}
 use Rattle.write_jobs.specs.world_image_laws.world_model.Stands.{entries_of, FileStands, is_used, NodeStands, number}
 use Rattle.write_jobs.specs.Jobs.{FilledView, HoldWords}
 use Rattle.write_jobs.specs.Loans.{ComeBack}
 use Rattle.live_model.specs.Flying.{IsFlying, with_entry}
 use Rattle.live_model.proofs.FlightsFlights.{flies_finished}
 use Rattle.write_jobs.specs.Blocks.{SpellWhole}
-use Rattle.live_model.specs.Standing.{AreOfTwoThreads, file_state, IsQuietBeside, IsSpellable, Pending, reserved_run, StandsAt}
+use Rattle.live_model.specs.Standing.{AreOfTwoThreads, file_state, IsQuietBeside, IsSpellable, JobOut, reserved_run, StandsAt}
 use Rattle.live_model.specs.Jobs.{SpellCall, without}
 use Rattle.write_plan.specs.Asks.{CanMoveBy, moved_by}
 use Rattle.write_plan.specs.AsksLaws.{AreOfState}
@@ -102,7 +102,7 @@ module _ (k : View) (job : FilledView) (has : HasJob k job) where
   may_move = may_move_there has.s (number (numbers k job has)) has.t has.kept.files has.p.who has.p.call puts.put of_state open_below puts.is
 
   -- of another that is out the file is another one
-  other_file : (q : Pending) → In q (without has.p.who has.kept.pending) → q.draft.ino ≢ has.p.draft.ino
+  other_file : (q : JobOut) → In q (without has.p.who has.kept.pending) → q.draft.ino ≢ has.p.draft.ino
   other_file q is same =
       let its = job_of (without has.p.who has.kept.pending) (others k job has) q (split k job has).rest is in
       (apart_of (j k job has) (others k job has) its.job (valid k job has).out.1 its.there).files
@@ -120,13 +120,13 @@ module _ (k : View) (job : FilledView) (has : HasJob k job) where
     abbrev claims_then : List (ℕ × Draft)
     claims_then = has.kept.claims ++ (slot, d) ∷ []
 
-    begun_is : begun_of (j k job has) ≡ (has.p.who, has.p.call)
+    begun_is : unfinished_call (j k job has) ≡ (has.p.who, has.p.call)
     begun_is = λ i. ((split k job has).who i, (split k job has).call i)
 
     now : IsFlying k.volume e claims_then (others k job has) (with_entry (file_state has.kept.files) d) (numbers k job has) next has.stands.count
     now =
-        subst (λ (c : Begun). IsFlying k.volume e claims_then (others k job has) (with_entry (file_state has.kept.files) d) (numbers k job has) (after_call has.s c) has.stands.count) begun_is
-        (subst (λ (x : Draft). IsFlying k.volume e (has.kept.claims ++ (slot, x) ∷ []) (others k job has) (with_entry (file_state has.kept.files) x) (numbers k job has) (after_call has.s (begun_of (j k job has))) has.stands.count)
+        subst (λ (c : Unfinished). IsFlying k.volume e claims_then (others k job has) (with_entry (file_state has.kept.files) d) (numbers k job has) (after_call has.s c) has.stands.count) begun_is
+        (subst (λ (x : Draft). IsFlying k.volume e (has.kept.claims ++ (slot, x) ∷ []) (others k job has) (with_entry (file_state has.kept.files) x) (numbers k job has) (after_call has.s (unfinished_call (j k job has))) has.stands.count)
         (split k job has).draft
         (flies_finished k.volume k.cells e (claims k job has) (split k job has).a (j k job has) (split k job has).b (file_state has.kept.files) (numbers k job has) has.s has.stands.count slot job.loans job.words (flying k job has)
         (put_back k job has e back) (loans_count k job has) hold (spelled k job has)))
@@ -143,7 +143,7 @@ module _ (k : View) (job : FilledView) (has : HasJob k job) where
     below : d.ino < length has.kept.files.sizes
     below = let short = used_below k.volume d.ino (ap is_used file) in omega (arith, short, has.stands.sizes.count)
 
-    there : (q : Pending) → In q (without has.p.who has.kept.pending) → In q has.kept.pending
+    there : (q : JobOut) → In q (without has.p.who has.kept.pending) → In q has.kept.pending
     there q is = left_there has.p.who has.kept.pending q is
 
     claim : (x : Draft) → In x (live_claims k.volume claims_then) → In x (live_claims k.volume has.kept.claims) ⊎ (d ≡ x)
@@ -177,7 +177,7 @@ module _ (k : View) (job : FilledView) (has : HasJob k job) where
       quiet = subst (λ (g : Geometry). IsQuietBeside g e) has.stands.geometry
           (quiet_still k job has e back hold (subst (λ (g : Geometry). IsQuietBeside g k.cells) (sym has.stands.geometry) has.stands.quiet));
       blocks = λ q is. has.stands.blocks q (there q is);
-      callers = AllPairs-filter AreOfTwoThreads (λ (q : Pending). not (same_who q.who has.p.who)) has.kept.pending has.stands.callers;
+      callers = AllPairs-filter AreOfTwoThreads (λ (q : JobOut). not (same_who q.who has.p.who)) has.kept.pending has.stands.callers;
       tables = tables;
       open_are_files = λ ino is. has.stands.open_are_files ino (sym (open_moved has.t has.kept.files has.p.who has.p.call ino) ∙ (ap (λ (x : Tables). is_open x ino) (sym moved) ∙ is));
       ordered = AreOrdered-step_of alone has.s has.p.who has.p.call has.stands.ordered;
@@ -214,7 +214,7 @@ module _ (k : View) (job : FilledView) (has : HasJob k job) where
     }
 
     -- the others are to hold the same words
-    words_stay : (q : Pending) (ws : List ℕ) → In q (without has.p.who has.kept.pending) → SpellCall has.s q ws → SpellCall next q ws
+    words_stay : (q : JobOut) (ws : List ℕ) → In q (without has.p.who has.kept.pending) → SpellCall has.s q ws → SpellCall next q ws
     words_stay q ws is spells node whole puts_now =
         subst (SpellWhole q.draft ws) (sym same) (spells (number (numbers k job has) its.job.draft.ino) its.job.whole before) where
           its : IsJobOf q (others k job has)

@@ -28,7 +28,7 @@ use Rattle.write_jobs.specs.Loans.{ComeBack}
 use Rattle.live_model.specs.Flying.{IsFlying}
 use Rattle.live_model.proofs.FlightsFlights.{others_home, others_out}
 use Rattle.write_jobs.proofs.Ends.{gives_up_job}
-use Rattle.live_model.specs.Standing.{AreOfTwoThreads, file_state, IsQuietBeside, Pending, reserved_run, StandsAt}
+use Rattle.live_model.specs.Standing.{AreOfTwoThreads, file_state, IsQuietBeside, JobOut, reserved_run, StandsAt}
 use Rattle.live_model.specs.Jobs.{without}
 use Rattle.write_end.specs.Ends.{given_up, HasJob, LeavesGivenUp}
 use Rattle.write_end.proofs.Ending.{claims, flying, j, loans_count, numbers, others, out, places, put_back, split, stood, valid, draft_is}
@@ -122,7 +122,7 @@ module _ (k : View) (job : FilledView) (has : HasJob k job) where
       of_claim : (d : Draft) → In d (live_claims k.volume has.kept.claims) → reserved_run job.draft ≢ reserved_run d
       of_claim d is = two_runs job.draft d (apart_back d job.draft (subst (AreApart d) (draft_is k job has) ((stood k job has).apart d is))) draft_ok
 
-      of_other : (q : Pending) → In q (without has.p.who has.kept.pending) → reserved_run job.draft ≢ reserved_run q.draft
+      of_other : (q : JobOut) → In q (without has.p.who has.kept.pending) → reserved_run job.draft ≢ reserved_run q.draft
       of_other q is =
           let its = job_of (without has.p.who has.kept.pending) (others k job has) q (split k job has).rest is in
           let apart = (apart_of (j k job has) (others k job has) its.job (valid k job has).out.1 its.there).staging in
@@ -138,7 +138,7 @@ module _ (k : View) (job : FilledView) (has : HasJob k job) where
         overlays = (flying k job has).overlays;
       }
 
-      there_still : (q : Pending) → In q (without has.p.who has.kept.pending) → In q has.kept.pending
+      there_still : (q : JobOut) → In q (without has.p.who has.kept.pending) → In q has.kept.pending
       there_still q is = left_there has.p.who has.kept.pending q is
 
       -- THE WORLD STANDS TOGETHER
@@ -158,7 +158,7 @@ module _ (k : View) (job : FilledView) (has : HasJob k job) where
         quiet = subst (λ (g : Geometry). IsQuietBeside g e) has.stands.geometry
             (quiet_still k job has e back hold (subst (λ (g : Geometry). IsQuietBeside g k.cells) (sym has.stands.geometry) has.stands.quiet));
         blocks = λ q is. has.stands.blocks q (there_still q is);
-        callers = AllPairs-filter AreOfTwoThreads (λ (q : Pending). not (same_who q.who has.p.who)) has.kept.pending has.stands.callers;
+        callers = AllPairs-filter AreOfTwoThreads (λ (q : JobOut). not (same_who q.who has.p.who)) has.kept.pending has.stands.callers;
         tables = has.stands.tables;
         open_are_files = has.stands.open_are_files;
         ordered = has.stands.ordered;

@@ -11,14 +11,14 @@ use Rattle.k_split_laws.specs.list_laws.Members.{In}
 use Rattle.k_split_laws.proofs.Cuts.{left_same}
 use Rattle.k_split_laws.specs.Left.{IsLeftOf}
 use Rattle.k_split_laws.specs.posix_types.declared.call.Mode.{Mode}
-use Rattle.k_split_laws.specs.posix_spec.Run.{Begun, run}
+use Rattle.k_split_laws.specs.posix_spec.Run.{Unfinished, run}
 use Rattle.write_jobs.specs.world_image_laws.Changed.{sound_headed}
 use Rattle.write_jobs.specs.world_image_laws.Kept.{kept_more}
 use Rattle.write_jobs.specs.world_image_laws.Promised.{IsKept}
 use Rattle.write_jobs.specs.world_image_laws.Flights.{promise_in_flight}
-use Rattle.write_plan.specs.eof_laws.log_checkpoint.world_model.Jobs.{begun_of, Job, JobStands, live_claims}
+use Rattle.write_plan.specs.eof_laws.log_checkpoint.world_model.Jobs.{unfinished_call, Job, JobStands, live_claims}
 use Rattle.write_plan.specs.eof_laws.log_checkpoint.world_model.Stands.{number}
-use Rattle.live_model.specs.Standing.{AreJobsOf, Pending}
+use Rattle.live_model.specs.Standing.{AreJobsOf, JobOut}
 use Rattle.write_end.specs.Ends.{begun_by}
 use Rattle.write_end.proofs.LosingPending.{stands_of}
 use Rattle.write_end.specs.LosingLaws.{IsFoundAtCall, IsFoundLost, IsLostAlike, LosesCall}
@@ -54,7 +54,7 @@ loses_call g k t kept n start history unfinished e stands spelled left keeps = r
       stands_of k.volume (live_claims k.volume kept.claims) (journaled (words_of k.cells)) stands.numbers (run start history) stands.jobs j
       (stands.flying.device.world (words_of k.cells) (IsImage-words_of k.cells)).valid.out is
 
-calls_are : (pending : List Pending) (jobs : List Job) → AreJobsOf pending jobs → map begun_of jobs ≡ map begun_by pending
+calls_are : (pending : List JobOut) (jobs : List Job) → AreJobsOf pending jobs → map unfinished_call jobs ≡ map begun_by pending
 calls_are [] [] are = refl
 calls_are [] (j ∷ jobs) are = absurd are
 calls_are (p ∷ pending) [] are = absurd are
@@ -67,7 +67,7 @@ found_lost g k t kept n start history strict stands spelled =
     (left_same k.volume.geometry k.cells (λ image is. sound_headed k.volume.geometry image (stands.flying.device.headed image is))))
     (λ back slots image is.
     subst (λ (x : Geometry). IsKept x start history (map begun_by kept.pending) image) stands.geometry
-    (subst (λ (cs : List Begun). IsKept k.volume.geometry start history cs image) (calls_are kept.pending stands.jobs stands.jobs_are)
+    (subst (λ (cs : List Unfinished). IsKept k.volume.geometry start history cs image) (calls_are kept.pending stands.jobs stands.jobs_are)
     (promise_in_flight k.volume k.cells kept.claims stands.jobs stands.numbers start history stands.count back kept.first slots image not_posix (λ same. stands.flying.whole) stands.flying.device is)))
   where
     not_posix : start.mode ≢ Mode.Posix
@@ -81,7 +81,7 @@ found_at_call g k t kept n start history c strict stands spelled =
     (λ back slots image is.
     kept_more g start history (map begun_by kept.pending) c image not_posix
     (subst (λ (x : Geometry). IsKept x start history (map begun_by kept.pending) image) stands.geometry
-    (subst (λ (cs : List Begun). IsKept k.volume.geometry start history cs image) (calls_are kept.pending stands.jobs stands.jobs_are)
+    (subst (λ (cs : List Unfinished). IsKept k.volume.geometry start history cs image) (calls_are kept.pending stands.jobs stands.jobs_are)
     (promise_in_flight k.volume k.cells kept.claims stands.jobs stands.numbers start history stands.count back kept.first slots image not_posix (λ same. stands.flying.whole) stands.flying.device is))))
   where
     not_posix : start.mode ≢ Mode.Posix
@@ -91,7 +91,7 @@ pub lost_alike : IsLostAlike
 lost_alike v d kept then start history unfinished pending claims first lost =
     subst (λ (xs : Words). IsLostWith v d (record then { first = xs }) start history unfinished) (sym first)
     (subst (λ (xs : List (ℕ × Draft)). IsLostWith v d (record then { first = kept.first; claims = xs }) start history unfinished) (sym claims)
-    (subst (λ (xs : List Pending). IsLostWith v d (record then { first = kept.first; claims = kept.claims; pending = xs }) start history unfinished) (sym pending) (record {
+    (subst (λ (xs : List JobOut). IsLostWith v d (record then { first = kept.first; claims = kept.claims; pending = xs }) start history unfinished) (sym pending) (record {
       jobs = lost.jobs;
       jobs_are = lost.jobs_are;
       whole = lost.whole;

@@ -18,14 +18,14 @@ use Rattle.k_split_laws.specs.extent_model.Covers.{covers-disk_at}
 use Rattle.write_jobs.specs.Blocks.{AreOut}
 use Rattle.k_split_laws.specs.list_laws.Members.{In}
 use Rattle.k_split_laws.specs.posix_types.declared.item.Item.{Item}
-use Rattle.k_split_laws.specs.posix_spec.Run.{Begun}
+use Rattle.k_split_laws.specs.posix_spec.Run.{Unfinished}
 use Rattle.k_split_laws.specs.posix_spec.State.{State}
 use Rattle.k_split_laws.specs.volume_laws.OwnerLaws.{IsOnePlace, one_owner}
 use Rattle.k_split_laws.specs.volume_laws.PoolLaws.{covered-in_data}
 use Rattle.write_plan.specs.eof_laws.log_checkpoint.world_model.Lent.{once_named}
 use Rattle.write_plan.specs.eof_laws.log_checkpoint.world_model.Jobs.{IsStagedIn, Job, JobsStand, JobStands, live_claims, staged_block}
 use Rattle.write_plan.specs.eof_laws.log_checkpoint.world_model.Stands.{IsSane}
-use Rattle.live_model.specs.Standing.{AreJobsOf, HasItsBlocks, Kept, Pending}
+use Rattle.live_model.specs.Standing.{AreJobsOf, HasItsBlocks, Kept, JobOut}
 use Rattle.write_end.proofs.LosingPending.{IsJobOf, apart_of, job_of, staging_below, stands_of}
 use Rattle.write_end.specs.Blocks.{AreBlocksHome, AreBlocksOut, AreHome}
 use Rattle.write_end.specs.Lost.{IsLostJob, IsLostWith}
@@ -41,7 +41,7 @@ in_list (x ∷ xs) zero below = inl refl
 in_list (x ∷ xs) (suc k) below = inr (in_list xs k (omega (arith, below)))
 
 -- a block of an entry is among those that its job was lent
-pub block_of : (v : Volume) (p : Pending) (b : ℕ) → HasItsBlocks v p → IsStagedIn v p.draft b → In b p.blocks
+pub block_of : (v : Volume) (p : JobOut) (b : ℕ) → HasItsBlocks v p → IsStagedIn v p.draft b → In b p.blocks
 block_of v p b its staged =
     let same : slice_index p.blocks staged.0 ≡ b = same_Some (slice_index p.blocks staged.0) b (sym (its.each staged.0 staged.1) ∙ staged.2) in
     subst (λ (x : ℕ). In x p.blocks) same (in_list p.blocks staged.0 (omega (arith, staged.1, its.count)))
@@ -52,22 +52,22 @@ place_in (y ∷ xs) x (inl same) = (0, omega arith, same)
 place_in (y ∷ xs) x (inr rest) = let its = place_in xs x rest in (suc its.0, omega (arith, its.1), its.2)
 
 -- and the other way round
-pub staged_of : (v : Volume) (p : Pending) (b : ℕ) → HasItsBlocks v p → In b p.blocks → IsStagedIn v p.draft b
+pub staged_of : (v : Volume) (p : JobOut) (b : ℕ) → HasItsBlocks v p → In b p.blocks → IsStagedIn v p.draft b
 staged_of v p b its at =
     let place = place_in p.blocks b at in
     let below : place.0 < p.draft.count = omega (arith, place.1, its.count) in
     (place.0, below, its.each place.0 below ∙ ap (λ x. Some x) place.2)
 
-pub blocks_out : (v : Volume) (p : Pending) (draft : Draft) (d : List Cell) → HasItsBlocks v p → draft ≡ p.draft → AreOut v draft d → AreBlocksOut p.blocks d
+pub blocks_out : (v : Volume) (p : JobOut) (draft : Draft) (d : List Cell) → HasItsBlocks v p → draft ≡ p.draft → AreOut v draft d → AreBlocksOut p.blocks d
 blocks_out v p draft d its same out i at =
     let staged = subst (λ (x : Draft). IsStagedIn v x (i / 512)) (sym same) (staged_of v p (i / 512) its at) in
     out staged.0 (i / 512) i staged.1 staged.2 refl
 
-pub blocks_home : (v : Volume) (p : Pending) (draft : Draft) (d : List Cell) → HasItsBlocks v p → draft ≡ p.draft → AreHome v draft d → AreBlocksHome p.blocks d
+pub blocks_home : (v : Volume) (p : JobOut) (draft : Draft) (d : List Cell) → HasItsBlocks v p → draft ≡ p.draft → AreHome v draft d → AreBlocksHome p.blocks d
 blocks_home v p draft d its same home i at = home i (subst (λ (x : Draft). IsStagedIn v x (i / 512)) (sym same) (staged_of v p (i / 512) its at))
 
 -- the blocks are not out and at home
-pub not_both : (v : Volume) (draft : Draft) (d : List Cell) (p : Pending) → draft ≡ p.draft → is_draft draft ≡ true → HasItsBlocks v p → AreHome v draft d → AreBlocksOut p.blocks d → ⊥
+pub not_both : (v : Volume) (draft : Draft) (d : List Cell) (p : JobOut) → draft ≡ p.draft → is_draft draft ≡ true → HasItsBlocks v p → AreHome v draft d → AreBlocksOut p.blocks d → ⊥
 not_both v draft d p same fields its home out =
     let some : 0 < p.draft.count = subst (λ (x : Draft). 0 < x.count) same (some_blocks draft fields) in
     let b : ℕ = slice_index p.blocks 0 in
@@ -116,7 +116,7 @@ one_job v live f numbers s (x ∷ jobs) i j out (inr a) (inl b) same = absurd ((
 one_job v live f numbers s (x ∷ jobs) i j out (inr a) (inr b) same = one_job v live f numbers s jobs i j out.2 a b same
 
 -- the one that is kept as out of a job
-pub pending_of : (pending : List Pending) (jobs : List Job) (j : Job) → AreJobsOf pending jobs → In j jobs → (p : Pending) × In p pending × (j.draft ≡ p.draft)
+pub pending_of : (pending : List JobOut) (jobs : List Job) (j : Job) → AreJobsOf pending jobs → In j jobs → (p : JobOut) × In p pending × (j.draft ≡ p.draft)
 pending_of [] [] j are is = absurd is
 pending_of [] (x ∷ jobs) j are is = absurd are
 pending_of (p ∷ pending) [] j are is = absurd is
@@ -125,7 +125,7 @@ pending_of (p ∷ pending) (x ∷ jobs) j are (inr rest) = let its = pending_of 
 
 -- ---- in a World that lost its power
 
-module _ (v : Volume) (d : List Cell) (kept : Kept) (start : State) (history : List Item) (unfinished : List Begun) (lost : IsLostWith v d kept start history unfinished) where
+module _ (v : Volume) (d : List Cell) (kept : Kept) (start : State) (history : List Item) (unfinished : List Unfinished) (lost : IsLostWith v d kept start history unfinished) where
   pub sane : IsSane v
   sane = lost.world.valid.stands.sane
 
@@ -135,11 +135,11 @@ module _ (v : Volume) (d : List Cell) (kept : Kept) (start : State) (history : L
   pub same_job : (i j : Job) → In i lost.jobs → In j lost.jobs → i.draft.ino ≡ j.draft.ino → i ≡ j
   same_job i j at_i at_j same = one_job v (live_claims v lost.done) lost.words lost.numbers lost.s lost.jobs i j lost.world.valid.out at_i at_j same
 
-  pub its_job : (p : Pending) → In p kept.pending → IsJobOf p lost.jobs
+  pub its_job : (p : JobOut) → In p kept.pending → IsJobOf p lost.jobs
   its_job p is = job_of kept.pending lost.jobs p lost.jobs_are is
 
   -- a job whose blocks are lent claimed no slot
-  pub no_slot : (p : Pending) (j : Job) → In p kept.pending → In j lost.jobs → j.draft ≡ p.draft → AreBlocksOut p.blocks d → lost.slot_of j.draft.ino ≡ None
+  pub no_slot : (p : JobOut) (j : Job) → In p kept.pending → In j lost.jobs → j.draft ≡ p.draft → AreBlocksOut p.blocks d → lost.slot_of j.draft.ino ≡ None
   no_slot p j there is same out = by (lost.slot_of j.draft.ino) refl where
     by : (o : Option ℕ) → lost.slot_of j.draft.ino ≡ o → o ≡ None
     by None at = refl

@@ -13,28 +13,28 @@ use Rattle.std.proofs.lemmas.Bool.{cases_lt}
 use Rattle.std.proofs.lemmas.List.{get_or_past, length-map}
 use Rattle.std.specs.Prelude.{AllPairs, slice_index, slice_index_or}
 use Rattle.write_jobs.specs.world_image_laws.world_model.Jobs.{ApartFrom, AreApartJobs, Job, JobStands, JobsStand, staged_block}
-use Rattle.live_model.specs.Standing.{AreJobsOf, AreOfTwoThreads, HasItsBlocks, Pending}
+use Rattle.live_model.specs.Standing.{AreJobsOf, AreOfTwoThreads, HasItsBlocks, JobOut}
 use Rattle.live_model.specs.Jobs.{without}
 use Rattle.write_plan.specs.eof_laws.log_checkpoint.commute_laws.Handles.{same_who-sym}
 use Rattle.write_jobs.specs.Jobs.{FilledView, blocks_of, loan_at}
 
 -- the first one and those behind it
-two_of : (p : Pending) (pending : List Pending) (q : Pending) → AllPairs AreOfTwoThreads (p ∷ pending) → In q pending → AreOfTwoThreads p q
+two_of : (p : JobOut) (pending : List JobOut) (q : JobOut) → AllPairs AreOfTwoThreads (p ∷ pending) → In q pending → AreOfTwoThreads p q
 two_of p [] q two is = absurd is
 two_of p (x ∷ pending) q two (inl same) = subst (AreOfTwoThreads p) same (two 0 1 p (omega arith) (omega arith))
 two_of p (x ∷ pending) q two (inr behind) =
     two_of p pending q (λ i j d before below. by i j d before below) behind where
-      by : (i j : ℕ) (d : Pending) → i < j → j < length (p ∷ pending) → AreOfTwoThreads (slice_index_or (p ∷ pending) i d) (slice_index_or (p ∷ pending) j d)
+      by : (i j : ℕ) (d : JobOut) → i < j → j < length (p ∷ pending) → AreOfTwoThreads (slice_index_or (p ∷ pending) i d) (slice_index_or (p ∷ pending) j d)
       by zero zero d before below = absurd (omega (arith, before))
       by zero (suc j) d before below = two 0 (suc (suc j)) d (omega arith) (omega (arith, below))
       by (suc i) zero d before below = absurd (omega (arith, before))
       by (suc i) (suc j) d before below = two (suc (suc i)) (suc (suc j)) d (omega (arith, before)) (omega (arith, below))
 
-rest_two : (p : Pending) (pending : List Pending) → AllPairs AreOfTwoThreads (p ∷ pending) → AllPairs AreOfTwoThreads pending
+rest_two : (p : JobOut) (pending : List JobOut) → AllPairs AreOfTwoThreads (p ∷ pending) → AllPairs AreOfTwoThreads pending
 rest_two p pending two i j d before below = two (suc i) (suc j) d (omega (arith, before)) (omega (arith, below))
 
 -- all are of other callers
-all_other : (who : Who) (pending : List Pending) → ((q : Pending) → In q pending → same_who q.who who ≡ false) → without who pending ≡ pending
+all_other : (who : Who) (pending : List JobOut) → ((q : JobOut) → In q pending → same_who q.who who ≡ false) → without who pending ≡ pending
 all_other who [] other = refl
 all_other who (q ∷ pending) other =
     ap (λ b. cond (not b) (q ∷ without who pending) (without who pending)) (other q (inl refl))
@@ -45,7 +45,7 @@ same_who-refl Who.Setup = refl
 same_who-refl (Who.Thread n) = grind (arith)
 
 -- THE JOB THAT ENDS, and those before and behind it
-pub record IsSplit (pending : List Pending) (jobs : List Job) (p : Pending) : Type 0 where
+pub record IsSplit (pending : List JobOut) (jobs : List Job) (p : JobOut) : Type 0 where
   pub a : List Job
   pub j : Job
   pub b : List Job
@@ -56,7 +56,7 @@ pub record IsSplit (pending : List Pending) (jobs : List Job) (p : Pending) : Ty
   pub draft : j.draft ≡ p.draft
 
 -- with one more in front
-split_behind : (q : Pending) (pending : List Pending) (j : Job) (jobs : List Job) (p : Pending) → AreJobsOf (q ∷ pending) (j ∷ jobs) → AreOfTwoThreads q p → IsSplit pending jobs p → IsSplit (q ∷ pending) (j ∷ jobs) p
+split_behind : (q : JobOut) (pending : List JobOut) (j : Job) (jobs : List Job) (p : JobOut) → AreJobsOf (q ∷ pending) (j ∷ jobs) → AreOfTwoThreads q p → IsSplit pending jobs p → IsSplit (q ∷ pending) (j ∷ jobs) p
 split_behind q pending j jobs p are two its = record {
   a = j ∷ its.a;
   j = its.j;
@@ -70,7 +70,7 @@ split_behind q pending j jobs p are two its = record {
   kept : without p.who (q ∷ pending) ≡ q ∷ without p.who pending
   kept = ap (λ b. cond (not b) (q ∷ without p.who pending) (without p.who pending)) two.other
 
-pub split_of : (pending : List Pending) (jobs : List Job) (p : Pending) → AreJobsOf pending jobs → In p pending → AllPairs AreOfTwoThreads pending → IsSplit pending jobs p
+pub split_of : (pending : List JobOut) (jobs : List Job) (p : JobOut) → AreJobsOf pending jobs → In p pending → AllPairs AreOfTwoThreads pending → IsSplit pending jobs p
 split_of [] jobs p are is two = absurd is
 split_of (q ∷ pending) [] p are is two = absurd are
 split_of (q ∷ pending) (j ∷ jobs) p are (inl same) two = record {
@@ -79,23 +79,23 @@ split_of (q ∷ pending) (j ∷ jobs) p are (inl same) two = record {
   b = jobs;
   jobs_are = refl;
   rest = subst (λ xs. AreJobsOf xs jobs) (sym gone) are.3;
-  who = are.0 ∙ ap (λ (x : Pending). x.who) same;
-  call = are.1 ∙ ap (λ (x : Pending). x.call) same;
-  draft = are.2 ∙ ap (λ (x : Pending). x.draft) same;
+  who = are.0 ∙ ap (λ (x : JobOut). x.who) same;
+  call = are.1 ∙ ap (λ (x : JobOut). x.call) same;
+  draft = are.2 ∙ ap (λ (x : JobOut). x.draft) same;
 } where
   own : same_who q.who p.who ≡ true
-  own = ap (same_who q.who) (sym (ap (λ (x : Pending). x.who) same)) ∙ same_who-refl q.who
+  own = ap (same_who q.who) (sym (ap (λ (x : JobOut). x.who) same)) ∙ same_who-refl q.who
 
   gone : without p.who (q ∷ pending) ≡ pending
   gone =
       ap (λ b. cond (not b) (q ∷ without p.who pending) (without p.who pending)) own
       ∙ all_other p.who pending (λ x there.
-      ap (same_who x.who) (sym (ap (λ (y : Pending). y.who) same)) ∙ same_who-sym x.who q.who ∙ (two_of q pending x two there).other)
+      ap (same_who x.who) (sym (ap (λ (y : JobOut). y.who) same)) ∙ same_who-sym x.who q.who ∙ (two_of q pending x two there).other)
 split_of (q ∷ pending) (j ∷ jobs) p are (inr behind) two =
     split_behind q pending j jobs p are (two_of q pending p two behind) (split_of pending jobs p are.3 behind (rest_two q pending two))
 
 -- one that is left was there
-pub left_there : (who : Who) (pending : List Pending) (q : Pending) → In q (without who pending) → In q pending
+pub left_there : (who : Who) (pending : List JobOut) (q : JobOut) → In q (without who pending) → In q pending
 left_there who [] q is = is
 left_there who (x ∷ pending) q is = by (same_who x.who who) is (left_there who pending q) where
   by : (c : Bool) → In q (cond (not c) (x ∷ without who pending) (without who pending)) → (In q (without who pending) → In q pending) → In q (x ∷ pending)
@@ -104,22 +104,22 @@ left_there who (x ∷ pending) q is = by (same_who x.who who) is (left_there who
   by false (inr there) rest = inr (rest there)
 
 -- the job of one that is out
-pub record IsJobOf (p : Pending) (jobs : List Job) : Type 0 where
+pub record IsJobOf (p : JobOut) (jobs : List Job) : Type 0 where
   pub job : Job
   pub there : In job jobs
   pub who : job.who ≡ p.who
   pub call : job.call ≡ p.call
   pub draft : job.draft ≡ p.draft
 
-pub job_of : (pending : List Pending) (jobs : List Job) (p : Pending) → AreJobsOf pending jobs → In p pending → IsJobOf p jobs
+pub job_of : (pending : List JobOut) (jobs : List Job) (p : JobOut) → AreJobsOf pending jobs → In p pending → IsJobOf p jobs
 job_of [] jobs p are is = absurd is
 job_of (q ∷ pending) [] p are is = absurd are
 job_of (q ∷ pending) (j ∷ jobs) p are (inl same) = record {
   job = j;
   there = inl refl;
-  who = are.0 ∙ ap (λ (x : Pending). x.who) same;
-  call = are.1 ∙ ap (λ (x : Pending). x.call) same;
-  draft = are.2 ∙ ap (λ (x : Pending). x.draft) same;
+  who = are.0 ∙ ap (λ (x : JobOut). x.who) same;
+  call = are.1 ∙ ap (λ (x : JobOut). x.call) same;
+  draft = are.2 ∙ ap (λ (x : JobOut). x.draft) same;
 }
 job_of (q ∷ pending) (j ∷ jobs) p are (inr rest) =
     let its = job_of pending jobs p are.3 rest in
@@ -155,7 +155,7 @@ place_of (x ∷ loans) zero = refl
 place_of (x ∷ loans) (suc n) = place_of loans n
 
 -- the loans of a job are of the blocks of its entry
-module _ (v : Volume) (p : Pending) (j : Job) (job : FilledView) (its : HasItsBlocks v p) (blocks : blocks_of job.loans ≡ p.blocks) (draft : j.draft ≡ p.draft) where
+module _ (v : Volume) (p : JobOut) (j : Job) (job : FilledView) (its : HasItsBlocks v p) (blocks : blocks_of job.loans ≡ p.blocks) (draft : j.draft ≡ p.draft) where
   pub loans_of_entry : length job.loans ≡ j.draft.count
   loans_of_entry = sym (length-map job.loans (λ (x : Part). x.place)) ∙ ap length blocks ∙ its.count ∙ ap (λ (d : Draft). d.count) (sym draft)
 

@@ -13,11 +13,11 @@ use Rattle.k_split_laws.specs.block_io.Lines.{LinesComeBack}
 use Rattle.k_split_laws.specs.list_laws.Members.{In}
 use Rattle.k_split_laws.specs.posix_types.declared.item.Item.{Item}
 use Rattle.k_split_laws.specs.posix_tables.Open.{Tables}
-use Rattle.k_split_laws.specs.posix_spec.Run.{Begun, run}
+use Rattle.k_split_laws.specs.posix_spec.Run.{Unfinished, run}
 use Rattle.k_split_laws.specs.posix_spec.State.{State}
 use Rattle.write_jobs.specs.world_image_laws.Promised.{KeepsPromise}
 use Rattle.write_plan.specs.eof_laws.log_checkpoint.world_model.Lines.{AreLinesOut}
-use Rattle.live_model.specs.Standing.{AreLinesLent, Kept, Pending, StandsAt}
+use Rattle.live_model.specs.Standing.{AreLinesLent, Kept, JobOut, StandsAt}
 use Rattle.write_end.specs.Ends.{IsOut}
 use Rattle.write_jobs.specs.Jobs.{FilledView, HoldWords}
 use Rattle.write_end.specs.Blocks.{AreBlocksHome, ComeHome}
@@ -28,9 +28,9 @@ use Rattle.write_end.specs.LosingLaws.{AreSpelled}
 -- ALL THAT IS OUT IS HANDED IN, as loans of lent blocks: the blocks of each job are at home already, or among the loans; and the filled
 -- jobs are of this World, and hold their words.
 pub record AreHandedIn (d : List Cell) (kept : Kept) (s : State) (loans : List Part) (filled : List FilledView) : Type 0 where
-  pub all : (p : Pending) → In p kept.pending → AreBlocksHome p.blocks d ⊎ ((b : ℕ) → In b p.blocks → (loan : Part) × In loan loans × (loan.place ≡ b))
+  pub all : (p : JobOut) → In p kept.pending → AreBlocksHome p.blocks d ⊎ ((b : ℕ) → In b p.blocks → (loan : Part) × In loan loans × (loan.place ≡ b))
   pub lent : (loan : Part) (i : ℕ) → In loan loans → loan.place ≡ i / 512 → is_lent (cell d i) ≡ true
-  pub of_world : (job : FilledView) → In job filled → (p : Pending) × IsOut kept s p job
+  pub of_world : (job : FilledView) → In job filled → (p : JobOut) × IsOut kept s p job
   pub holds : (job : FilledView) → In job filled → HoldWords job.loans job.words
   pub there : (job : FilledView) (loan : Part) → In job filled → In loan job.loans → In loan loans
 
@@ -43,7 +43,7 @@ pub record LinesAreHome (v : Volume) (lines : List Part) (d e : List Cell) : Typ
 -- the promise for the calls that returned and the unfinished ones.
 abbrev pub KeepsCrashed : Type 0
 KeepsCrashed =
-    (v : Volume) (d middle e : List Cell) (kept : Kept) (start : State) (history : List Item) (unfinished : List Begun) (loans : List Part) (filled : List FilledView) (taken : List (ℕ × Draft)) (lines : List Part)
+    (v : Volume) (d middle e : List Cell) (kept : Kept) (start : State) (history : List Item) (unfinished : List Unfinished) (loans : List Part) (filled : List FilledView) (taken : List (ℕ × Draft)) (lines : List Part)
     → IsLostWith v d kept start history unfinished → AreHandedIn d kept (run start history) loans filled → AreCrashLines v kept.first kept.claims filled taken lines
     → ComeHome loans d middle → LinesAreHome v lines middle e
     → AllHome e × KeepsPromise v.geometry e start history unfinished
@@ -51,7 +51,7 @@ KeepsCrashed =
 -- With the lines at home, and the power on still, the device keeps it with nothing unfinished.
 abbrev pub KeepsHome : Type 0
 KeepsHome =
-    (g : Geometry) (k : View) (t : Tables) (kept : Kept) (n : ℕ) (start : State) (history : List Item) (unfinished : List Begun)
+    (g : Geometry) (k : View) (t : Tables) (kept : Kept) (n : ℕ) (start : State) (history : List Item) (unfinished : List Unfinished)
     → StandsAt g k t kept false n (run start history) → KeepsPromise g k.cells start history unfinished
 
 -- Lines that hold the claims of a lap and came home are those of a lap without jobs.

@@ -6,15 +6,15 @@ use Rattle.write_jobs.specs.world_image_laws.k_split_model.View.{View}
 use Rattle.write_plan.specs.list_laws.Members.{In}
 use Rattle.posix_types.specs.declared.call.Call.{Call}
 use Rattle.write_plan.specs.posix_tables.Open.{Tables}
-use Rattle.write_plan.specs.posix_spec.Run.{after_call, Begun}
+use Rattle.write_plan.specs.posix_spec.Run.{after_call, Unfinished}
 use Rattle.write_plan.specs.posix_spec.State.{State}
 use Rattle.live_model.specs.staging_files.Keeps.{Staged}
 use Rattle.write_jobs.specs.Jobs.{blocks_of, FilledView}
-use Rattle.live_model.specs.Standing.{Kept, Pending, StandsAt}
+use Rattle.live_model.specs.Standing.{Kept, JobOut, StandsAt}
 use Rattle.live_model.specs.Jobs.{SpellCall, without}
 
 -- THE JOB IS OUT: it is that of one that is kept as out, with its entry, its blocks and the words of its call.
-pub record IsOut (kept : Kept) (s : State) (p : Pending) (job : FilledView) : Type 0 where
+pub record IsOut (kept : Kept) (s : State) (p : JobOut) (job : FilledView) : Type 0 where
   pub there : In p kept.pending
   pub who : job.who ≡ p.who
   pub draft : job.draft ≡ p.draft
@@ -28,16 +28,16 @@ pub record HasJob (k : View) (job : FilledView) : Type 0 where
   pub kept : Kept
   pub n : ℕ
   pub s : State
-  pub p : Pending
+  pub p : JobOut
   pub stands : StandsAt g k t kept true n s
   pub out : IsOut kept s p job
 
 -- the call of one that is out
-abbrev pub begun_by : Pending → Begun
+abbrev pub begun_by : JobOut → Unfinished
 begun_by p = (p.who, p.call)
 
 -- the call of the job
-abbrev pub call_out : (k : View) (job : FilledView) → HasJob k job → Begun
+abbrev pub call_out : (k : View) (job : FilledView) → HasJob k job → Unfinished
 call_out k job has = (has.p.who, has.p.call)
 
 -- ---- it finishes
@@ -52,7 +52,7 @@ abbrev pub CanFinish : View → FilledView → Tables → Files → Call → Typ
 CanFinish k job t files call = (has : HasJob k job) × HasWrite k job t files call has
 
 -- what is kept then
-abbrev pub finished : Kept → ℕ → Pending → Files → Kept
+abbrev pub finished : Kept → ℕ → JobOut → Files → Kept
 finished kept slot p files = record kept { files = files; claims = kept.claims ++ (slot, p.draft) ∷ []; pending = without p.who kept.pending }
 
 -- THE WRITE IS FINISHED: its call has acted, its entry is claimed in the slot, and the World stands together without the job, by
@@ -60,14 +60,14 @@ finished kept slot p files = record kept { files = files; claims = kept.claims +
 pub record LeavesFinished (k : View) (job : FilledView) (has : HasJob k job) (slot : ℕ) (l : View) (u : Tables) (files : Files) : Type 0 where
   pub stands : StandsAt has.g l u (finished has.kept slot has.p files) true (has.n + 1) (after_call has.s (call_out k job has))
   pub numbers : stands.numbers ≡ has.stands.numbers
-  pub words : (q : Pending) (words : List ℕ) → In q (without has.p.who has.kept.pending) → SpellCall has.s q words → SpellCall (after_call has.s (call_out k job has)) q words
+  pub words : (q : JobOut) (words : List ℕ) → In q (without has.p.who has.kept.pending) → SpellCall has.s q words → SpellCall (after_call has.s (call_out k job has)) q words
 
 -- ---- it is given up
 
 abbrev pub CanGiveUp : View → FilledView → Staged → Type 0
 CanGiveUp k job staging = (has : HasJob k job) × (has.kept.staging ≡ staging)
 
-abbrev pub given_up : Kept → Pending → Staged → Kept
+abbrev pub given_up : Kept → JobOut → Staged → Kept
 given_up kept p staging = record kept { staging = staging; pending = without p.who kept.pending }
 
 -- THE WRITE IS GIVEN UP: the World stands together without the job, in the state before its call, by the same numbers.

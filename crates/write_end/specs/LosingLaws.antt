@@ -14,11 +14,11 @@ use Rattle.k_split_laws.specs.Left.{IsLeftOf}
 use Rattle.k_split_laws.specs.posix_types.declared.call.Mode.{Mode}
 use Rattle.k_split_laws.specs.posix_types.declared.item.Item.{Item}
 use Rattle.k_split_laws.specs.posix_tables.Open.{Tables}
-use Rattle.k_split_laws.specs.posix_spec.Run.{Begun, run}
+use Rattle.k_split_laws.specs.posix_spec.Run.{Unfinished, run}
 use Rattle.k_split_laws.specs.posix_spec.State.{State}
 use Rattle.write_jobs.specs.world_image_laws.Promised.{IsKept}
 use Rattle.write_jobs.specs.world_image_laws.Back.{IsPutBack}
-use Rattle.live_model.specs.Standing.{IsSpellable, Kept, Pending, StandsAt}
+use Rattle.live_model.specs.Standing.{IsSpellable, Kept, JobOut, StandsAt}
 use Rattle.write_end.specs.Ends.{IsOut, begun_by}
 use Rattle.write_jobs.specs.Jobs.{FilledView, HoldWords, blocks_of}
 use Rattle.write_end.specs.Blocks.{AreBlocksHome, AreBlocksOut, ComeHome}
@@ -32,7 +32,7 @@ AreSpelled claims = (slot : ℕ) (d : Draft) → In (slot, d) claims → IsSpell
 -- put back, is kept with these calls unfinished.
 abbrev pub LosesCall : Type 0
 LosesCall =
-    (g : Geometry) (k : View) (t : Tables) (kept : Kept) (n : ℕ) (start : State) (history : List Item) (unfinished : List Begun) (e : List Cell)
+    (g : Geometry) (k : View) (t : Tables) (kept : Kept) (n : ℕ) (start : State) (history : List Item) (unfinished : List Unfinished) (e : List Cell)
     → (stands : StandsAt g k t kept true n (run start history)) → AreSpelled kept.claims → IsLeftOf g k.cells e
     → ((back : ℕ → Cell) (slots : List (Option ℕ)) (image : Words) → IsPutBack k.volume e back kept.first kept.claims stands.jobs slots image → IsKept g start history unfinished image)
     → IsLostWith k.volume e kept start history unfinished
@@ -47,21 +47,21 @@ IsFoundLost =
 -- So it is with one call more, which found the power off before it did anything.
 abbrev pub IsFoundAtCall : Type 0
 IsFoundAtCall =
-    (g : Geometry) (k : View) (t : Tables) (kept : Kept) (n : ℕ) (start : State) (history : List Item) (c : Begun) → start.mode ≡ Mode.Strict
+    (g : Geometry) (k : View) (t : Tables) (kept : Kept) (n : ℕ) (start : State) (history : List Item) (c : Unfinished) → start.mode ≡ Mode.Strict
     → StandsAt g k t kept true n (run start history) → AreSpelled kept.claims
     → IsLostWith k.volume k.cells kept start history (map begun_by kept.pending ++ c ∷ [])
 
 -- Of what is kept only the jobs, the claims and the first words count then.
 abbrev pub IsLostAlike : Type 0
 IsLostAlike =
-    (v : Volume) (d : List Cell) (kept then : Kept) (start : State) (history : List Item) (unfinished : List Begun) → then.pending ≡ kept.pending → then.claims ≡ kept.claims → then.first ≡ kept.first
+    (v : Volume) (d : List Cell) (kept then : Kept) (start : State) (history : List Item) (unfinished : List Unfinished) → then.pending ≡ kept.pending → then.claims ≡ kept.claims → then.first ≡ kept.first
     → IsLostWith v d kept start history unfinished → IsLostWith v d then start history unfinished
 
 -- ---- the blocks of jobs
 
 -- While they stand together the blocks of each job that is out are lent.
 abbrev pub HasBlocksOut : Type 0
-HasBlocksOut = (g : Geometry) (k : View) (t : Tables) (kept : Kept) (n : ℕ) (s : State) (p : Pending) → StandsAt g k t kept true n s → In p kept.pending → AreBlocksOut p.blocks k.cells
+HasBlocksOut = (g : Geometry) (k : View) (t : Tables) (kept : Kept) (n : ℕ) (s : State) (p : JobOut) → StandsAt g k t kept true n s → In p kept.pending → AreBlocksOut p.blocks k.cells
 
 -- A device that is left of another has the same blocks out, and at home.
 abbrev pub LeavesBlocks : Type 0
@@ -70,52 +70,52 @@ LeavesBlocks =
     → (AreBlocksOut blocks d → AreBlocksOut blocks e) × (AreBlocksHome blocks d → AreBlocksHome blocks e)
 
 -- The loans of a job are of one block each, and share none with the job of another caller; so they can be taken back all together.
-abbrev pub SharesNone : List Pending → Pending → Type 0
-SharesNone pending p = (q : Pending) (b : ℕ) → In q pending → q.who ≢ p.who → In b p.blocks → In b q.blocks → ⊥
+abbrev pub SharesNone : List JobOut → JobOut → Type 0
+SharesNone pending p = (q : JobOut) (b : ℕ) → In q pending → q.who ≢ p.who → In b p.blocks → In b q.blocks → ⊥
 
 abbrev pub HasLoansApart : Type 0
 HasLoansApart =
-    (v : Volume) (d : List Cell) (kept : Kept) (start : State) (history : List Item) (unfinished : List Begun) (p : Pending) (loans : List Part)
+    (v : Volume) (d : List Cell) (kept : Kept) (start : State) (history : List Item) (unfinished : List Unfinished) (p : JobOut) (loans : List Part)
     → IsLostWith v d kept start history unfinished → In p kept.pending → blocks_of loans ≡ p.blocks → AreApart loans × SharesNone kept.pending p
 
 -- so it is while they stand together
 abbrev pub StandsApart : Type 0
 StandsApart =
-    (g : Geometry) (k : View) (t : Tables) (kept : Kept) (lines : Bool) (n : ℕ) (s : State) (p : Pending) (loans : List Part)
+    (g : Geometry) (k : View) (t : Tables) (kept : Kept) (lines : Bool) (n : ℕ) (s : State) (p : JobOut) (loans : List Part)
     → StandsAt g k t kept lines n s → In p kept.pending → blocks_of loans ≡ p.blocks → AreApart loans × SharesNone kept.pending p
 
 -- ---- jobs end
 
 -- The job of a World that lost its power is out: its blocks are lent, and these loans of them, which hold its words, came back.
-pub record ComesHome (d e : List Cell) (kept : Kept) (s : State) (p : Pending) (job : FilledView) : Type 0 where
+pub record ComesHome (d e : List Cell) (kept : Kept) (s : State) (p : JobOut) (job : FilledView) : Type 0 where
   pub out : IsOut kept s p job
   pub lent : AreBlocksOut p.blocks d
   pub holds : HoldWords job.loans job.words
   pub back : ComeBack job.loans d e
 
 -- what the World keeps, with a claim more
-abbrev pub claimed_by : Kept → ℕ → Pending → Kept
+abbrev pub claimed_by : Kept → ℕ → JobOut → Kept
 claimed_by kept slot p = record kept { claims = kept.claims ++ (slot, p.draft) ∷ [] }
 
 -- A JOB FINISHES after the loss: its claim counts, and its call stays unfinished.
 abbrev pub FinishesLost : Type 0
 FinishesLost =
-    (v : Volume) (d e : List Cell) (kept : Kept) (start : State) (history : List Item) (unfinished : List Begun) (p : Pending) (job : FilledView) (slot : ℕ)
+    (v : Volume) (d e : List Cell) (kept : Kept) (start : State) (history : List Item) (unfinished : List Unfinished) (p : JobOut) (job : FilledView) (slot : ℕ)
     → IsLostWith v d kept start history unfinished → ComesHome d e kept (run start history) p job → IsLostWith v e (claimed_by kept slot p) start history unfinished
 
 -- IT IS GIVEN UP after the loss: its call stays unfinished too.
 abbrev pub GivesUpLost : Type 0
 GivesUpLost =
-    (v : Volume) (d e : List Cell) (kept : Kept) (start : State) (history : List Item) (unfinished : List Begun) (p : Pending) (job : FilledView)
+    (v : Volume) (d e : List Cell) (kept : Kept) (start : State) (history : List Item) (unfinished : List Unfinished) (p : JobOut) (job : FilledView)
     → IsLostWith v d kept start history unfinished → ComesHome d e kept (run start history) p job → IsLostWith v e kept start history unfinished
 
 -- Then its blocks are at home; and each word of the blocks of a job of another caller is as it was.
 abbrev pub ComesHomeAlone : Type 0
 ComesHomeAlone =
-    (v : Volume) (d e : List Cell) (kept : Kept) (start : State) (history : List Item) (unfinished : List Begun) (p : Pending) (job : FilledView)
+    (v : Volume) (d e : List Cell) (kept : Kept) (start : State) (history : List Item) (unfinished : List Unfinished) (p : JobOut) (job : FilledView)
     → IsLostWith v d kept start history unfinished → ComesHome d e kept (run start history) p job
     → AreBlocksHome p.blocks e
-    × ((q : Pending) (i : ℕ) → In q kept.pending → q.who ≢ p.who → In (i / 512) q.blocks → cell e i ≡ cell d i)
+    × ((q : JobOut) (i : ℕ) → In q kept.pending → q.who ≢ p.who → In (i / 512) q.blocks → cell e i ≡ cell d i)
 
 -- ---- loans one after the other
 

@@ -12,13 +12,13 @@ use Rattle.write_jobs.specs.Blocks.{AreOut}
 use Rattle.k_split_laws.specs.list_laws.Members.{In}
 use Rattle.k_split_laws.specs.posix_types.declared.item.Item.{Item}
 use Rattle.write_plan.specs.eof_laws.log_checkpoint.posix_laws.Puts.{PutsWhole}
-use Rattle.k_split_laws.specs.posix_spec.Run.{Begun, run}
+use Rattle.k_split_laws.specs.posix_spec.Run.{Unfinished, run}
 use Rattle.k_split_laws.specs.posix_spec.State.{State}
 use Rattle.write_jobs.specs.world_image_laws.Promised.{IsKept}
 use Rattle.write_jobs.specs.world_image_laws.Back.{IsPutBack}
 use Rattle.write_plan.specs.eof_laws.log_checkpoint.world_model.Jobs.{HoldsWhole, Job}
 use Rattle.write_plan.specs.eof_laws.log_checkpoint.world_model.Promised.{AreWhole}
-use Rattle.live_model.specs.Standing.{AreJobsOf, AreLinesLent, AreOfTwoThreads, HasItsBlocks, IsSpellable, Kept, Pending}
+use Rattle.live_model.specs.Standing.{AreJobsOf, AreLinesLent, AreOfTwoThreads, HasItsBlocks, IsSpellable, Kept, JobOut}
 use Rattle.write_plan.specs.eof_laws.log_checkpoint.world_step_laws.Worlds.{IsWorld}
 use Rattle.write_end.specs.Blocks.{AreHome}
 
@@ -33,12 +33,12 @@ IsLostJob v cells j None = AreHome v j.draft cells ⊎ AreOut v j.draft cells
 -- that were finished and all these jobs, by some words: so no two jobs share a block. A word that is lent is one of a log line or of a
 -- block of a job; and the journal of each image is sound. THE PROMISE: whatever image a loss leaves once lines and blocks are put back,
 -- it is checked, and its content is one that the calls that returned and the unfinished ones permit.
-pub record IsLostWith (v : Volume) (cells : List Cell) (kept : Kept) (start : State) (history : List Item) (unfinished : List Begun) : Type 0 where
+pub record IsLostWith (v : Volume) (cells : List Cell) (kept : Kept) (start : State) (history : List Item) (unfinished : List Unfinished) : Type 0 where
   pub jobs : List Job
   pub jobs_are : AreJobsOf kept.pending jobs
   pub whole : AreWhole jobs
   pub callers : AllPairs AreOfTwoThreads kept.pending
-  pub blocks : (p : Pending) → In p kept.pending → HasItsBlocks v p
+  pub blocks : (p : JobOut) → In p kept.pending → HasItsBlocks v p
   pub puts : (j : Job) → In j jobs → (node : ℕ) × PutsWhole (run start history) j.who j.call node j.whole
   pub done : List (ℕ × Draft)
   pub slot_of : ℕ → Option ℕ

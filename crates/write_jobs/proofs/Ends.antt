@@ -25,7 +25,7 @@ use Rattle.world_image_laws.specs.Images.{StandsFor}
 use Rattle.world_image_laws.specs.Settings.{keeps_setting}
 use Rattle.world_write_laws.specs.JobSteps.{finished, given_up, Valid-front}
 use Rattle.world_write_laws.specs.Free.{stays_free_finished, stays_free_given_up}
-use Rattle.world_write_laws.specs.world_model.Jobs.{begun_of, HoldsWhole, Job, JobStands, live_claims}
+use Rattle.world_write_laws.specs.world_model.Jobs.{unfinished_call, HoldsWhole, Job, JobStands, live_claims}
 use Rattle.world_write_laws.specs.world_step_laws.Worlds.{IsWorld}
 use Rattle.write_jobs.specs.Jobs.{HoldWords, loan_at}
 use Rattle.write_jobs.specs.Blocks.{AreOut, ArePutBack, SpellWhole}
@@ -90,7 +90,7 @@ module _ (v : Volume) (d e : List Cell) (claims : List (ℕ × Draft)) (a : List
 
   -- THE JOB FINISHES
   pub job_finishes : (slot : ℕ) (words : List ℕ) → length loans ≡ j.draft.count → HoldWords loans words → SpellWhole j.draft words j.whole → j.found ≡ j.whole
-      → StandsFor v e (claims ++ (slot, j.draft) ∷ []) (a ++ b) numbers (after_call s (begun_of j)) count
+      → StandsFor v e (claims ++ (slot, j.draft) ∷ []) (a ++ b) numbers (after_call s (unfinished_call j)) count
   job_finishes slot words size hold spell whole = record {
     stands = stands_before v j.draft loans d e out back v.geometry device.stands;
     headed = λ image is. device.headed image (image_before v j.draft loans d e out back image is);
@@ -99,7 +99,7 @@ module _ (v : Volume) (d e : List Cell) (claims : List (ℕ × Draft)) (a : List
         (subst (HoldsWhole v (journaled image) j.draft) (sym whole) (holds words j.whole size hold spell image is)) whole;
     room = record {
       free = stays_free_finished v claims a j b slot device.room.free alive;
-      blocks = ap (λ x. x.data_blocks) (keeps_setting s (begun_of j)).shape ∙ device.room.blocks;
+      blocks = ap (λ x. x.data_blocks) (keeps_setting s (unfinished_call j)).shape ∙ device.room.blocks;
     };
   } where
     alive : is_live v j.draft ≡ true

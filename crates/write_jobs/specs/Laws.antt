@@ -17,7 +17,7 @@ use Rattle.world_write_laws.specs.posix_spec.State.{room, State}
 use Rattle.world_write_laws.specs.posix_laws.Views.{need_of}
 use Rattle.world_image_laws.specs.Images.{StandsFor}
 use Rattle.world_write_laws.specs.world_model.JobLaws.{needs}
-use Rattle.world_write_laws.specs.world_model.Jobs.{AreApartJobs, begun_of, Job, JobStands, live_claims}
+use Rattle.world_write_laws.specs.world_model.Jobs.{AreApartJobs, unfinished_call, Job, JobStands, live_claims}
 use Rattle.write_jobs.specs.Contents.{SpellBytes, staged_bytes}
 use Rattle.write_jobs.specs.Jobs.{HoldWords}
 use Rattle.write_jobs.specs.Blocks.{AreOut, ArePutBack, GoOut, SpellWhole}
@@ -40,7 +40,7 @@ FinishesJob =
     (v : Volume) (d e : List Cell) (claims : List (ℕ × Draft)) (a : List Job) (j : Job) (b : List Job) (numbers : List ℕ) (s : State) (count slot : ℕ) (loans : List Part) (words : List ℕ)
     → StandsFor v d claims (a ++ j ∷ b) numbers s count → AreOut v j.draft d → ArePutBack v j.draft loans d e
     → length loans ≡ j.draft.count → HoldWords loans words → SpellWhole j.draft words j.whole → j.found ≡ j.whole
-    → StandsFor v e (claims ++ (slot, j.draft) ∷ []) (a ++ b) numbers (after_call s (begun_of j)) count
+    → StandsFor v e (claims ++ (slot, j.draft) ∷ []) (a ++ b) numbers (after_call s (unfinished_call j)) count
 
 -- A JOB IS GIVEN UP: its blocks come back with whatever they hold.
 abbrev pub GivesUpJob : Type 0

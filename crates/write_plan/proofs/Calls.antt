@@ -20,7 +20,7 @@ use Rattle.posix_types.specs.declared.reply.Reply.{Reply}
 use Rattle.posix_tables.specs.declared.open.Description.{Description}
 use Rattle.posix_tables.specs.Nodes.{bytes_of, node_at}
 use Rattle.posix_tables.specs.Open.{describes, is_open, key_of, may_write, opened, Tables, with_offset}
-use Rattle.posix_tables.specs.Bytes.{longest_file, longest_write}
+use Rattle.posix_tables.specs.block_counts.declared.TheConstants.{LONGEST_FILE, LONGEST_WRITE}
 use Rattle.posix_tables.specs.Outcomes.{first, idle_row, row}
 use Rattle.posix_tables.specs.Room.{write_need}
 use Rattle.open_files.specs.posix_spec.FileRows.{appends, content, file_number, no_blocks, offset_of, write_rows, write_start}
@@ -127,8 +127,8 @@ needs_as_call s f t files who h (Some place) x of_state strict may =
 by_row : WritesByRow
 unfolding write_rows
 by_row s who h start x strict =
-    ap (λ (m : Mode). first (row (not (may_write s.tables who h)) Errno.EBADF ∷ row (nat_lt longest_write (length x)) Errno.EINVAL ∷ idle_row (length x == 0) (Reply.Count 0)
-    ∷ row (nat_lt longest_file (start + length x)) Errno.EFBIG ∷ no_blocks s (write_need m (length (content s who h)) start (start + length x)) ∷ [])) strict
+    ap (λ (m : Mode). first (row (not (may_write s.tables who h)) Errno.EBADF ∷ row (nat_lt LONGEST_WRITE (length x)) Errno.EINVAL ∷ idle_row (length x == 0) (Reply.Count 0)
+    ∷ row (nat_lt LONGEST_FILE (start + length x)) Errno.EFBIG ∷ no_blocks s (write_need m (length (content s who h)) start (start + length x)) ∷ [])) strict
 
 -- a handle that may not write
 shut_row : (may : Bool) (start len size left start2 size2 left2 : ℕ) → may ≡ false → write_row_by may start len size left ≡ write_row_by may start2 len size2 left2

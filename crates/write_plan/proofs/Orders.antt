@@ -7,7 +7,7 @@ use Rattle.file_table.specs.pm_model.Images.{words_of}
 use Rattle.layout_model.specs.declared.lines.Draft.{Draft}
 use Rattle.layout_model.specs.declared.lines.Kind.TheVariants.{File}
 use Rattle.layout_model.specs.Entries.{is_draft}
-use Rattle.layout_model.specs.Lines.{most_bytes}
+use Rattle.layout_model.specs.block_counts.declared.TheConstants.{LONGEST_FILE}
 use Rattle.live_model.specs.image_model.Live.{is_file, is_live}
 use Rattle.live_model.specs.image_model.Volume.{inode, Volume}
 use Rattle.file_overlay.specs.declared.runs.Run.{Run}
@@ -36,12 +36,12 @@ behind_entries last (d ∷ entries) go =
 
 -- the numbers of the entry are in range
 in_range : (count order file_block staging staging_block size ino generation staging_generation : ℕ) → 1 ≤ count → count ≤ 33 → 1 ≤ order → order ≤ 2 ^ 63 → file_block + count ≤ 4096 → 1 ≤ staging → staging ≤ 4
-    → staging_block + count ≤ 64 → size ≤ most_bytes
+    → staging_block + count ≤ 64 → size ≤ LONGEST_FILE
     → is_draft (record { count = count; order = order; ino = ino; generation = generation; file_block = file_block; staging = staging; staging_block = staging_block; staging_generation = staging_generation; size = size }) ≡ true
 in_range count order file_block staging staging_block size ino generation staging_generation a b c d e f g h i = grind (arith, nat_tests)
 
 -- how many blocks are staged
-few_staged : (start len : ℕ) → 1 ≤ len → len ≤ 131072 → start + len ≤ most_bytes → (1 ≤ staged_count start len) × (staged_count start len ≤ 33) × (start / 4096 + staged_count start len ≤ 4096)
+few_staged : (start len : ℕ) → 1 ≤ len → len ≤ 131072 → start + len ≤ LONGEST_FILE → (1 ≤ staged_count start len) × (staged_count start len ≤ 33) × (start / 4096 + staged_count start len ≤ 4096)
 few_staged start len some most fits = (omega (arith, some), omega (arith, most), omega (arith, fits, some))
 
 -- a run that is out is in its place

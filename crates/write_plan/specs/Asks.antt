@@ -1,4 +1,5 @@
 -- Where a write begins, what it finds, and the offset behind it, by the tables of open files and what is kept of files.
+use Rattle.block_counts.specs.declared.TheConstants.{LONGEST_FILE, LONGEST_WRITE}
 use Rattle.std.specs.Prelude.{◌≡◌, ◌≤◌, ◌<◌, ◌+◌, ◌-◌, ◌^◌, ℕ, length, Option, Some, None, sum_by, unwrap_or, if◌then◌else◌}
 use Rattle.open_files.specs.block_counts.Counts.{held_by, reserve_for}
 use Rattle.file_table.specs.Files.{Files, size_in}
@@ -76,8 +77,8 @@ pub record IsTarget (t : Tables) (files : Files) (who : Who) (h : Handle) (at : 
   pub start_is : target.start ≡ start_at t files who h at
   pub size_is : target.size ≡ size_in files target.ino
   pub some : 1 ≤ len
-  pub most : len ≤ 131072
-  pub fits : target.start + len ≤ 16777216
+  pub most : len ≤ LONGEST_WRITE
+  pub fits : target.start + len ≤ LONGEST_FILE
 
 -- the room that other writes leave, and the target
 abbrev pub IsBeside : Target → ℕ → ℕ → ℕ → Asked → Type 0

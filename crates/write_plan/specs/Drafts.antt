@@ -1,11 +1,12 @@
 -- The entry of a logged write in strict mode.
+use Rattle.block_counts.specs.declared.TheConstants.{LONGEST_WRITE}
 use Rattle.std.specs.Prelude.{◌≡◌, ◌≤◌, ◌<◌, ◌+◌, ◌-◌, ◌/◌, ◌^◌, ℕ, Bool, true, Contains, List, [], ◌∷◌, length, max}
 use Rattle.posix_tables.specs.block_counts.Counts.{blocks_for}
 use Rattle.file_table.specs.layout_model.Places.{Geometry}
 use Rattle.layout_model.specs.declared.lines.Draft.{Draft}
 use Rattle.layout_model.specs.declared.lines.Kind.TheVariants.{File}
 use Rattle.layout_model.specs.Entries.{is_draft}
-use Rattle.layout_model.specs.Lines.{most_bytes}
+use Rattle.layout_model.specs.block_counts.declared.TheConstants.{LONGEST_FILE}
 use Rattle.live_model.specs.image_model.Live.{is_live}
 use Rattle.live_model.specs.image_model.Volume.{inode, Volume}
 use Rattle.file_overlay.specs.declared.runs.Run.{Run}
@@ -49,9 +50,9 @@ draft_in v files target len run =
 -- and of the generation that its staging file has.
 pub record HasRun (v : Volume) (staging : Staged) (target : Target) (len : ℕ) (run : StageRun) : Type 0 where
   pub some : 1 ≤ len
-  pub most : len ≤ 131072
-  pub fits : target.start + len ≤ most_bytes
-  pub size : target.size ≤ most_bytes
+  pub most : len ≤ LONGEST_WRITE
+  pub fits : target.start + len ≤ LONGEST_FILE
+  pub size : target.size ≤ LONGEST_FILE
   pub out : Contains staging.out run
   pub count_is : run.count ≡ staged_count target.start len
   pub generation : run.generation ≡ (inode v run.staging).generation

@@ -7,7 +7,7 @@ use Rattle.posix_types.specs.declared.item.Outcome.{Outcome}
 use Rattle.posix_types.specs.declared.reply.Errno.{Errno}
 use Rattle.posix_types.specs.declared.reply.Reply.{Reply}
 use Rattle.posix_types.specs.declared.reply.What.{What}
-use Rattle.posix_tables.specs.Bytes.{longest_file, longest_write}
+use Rattle.posix_tables.specs.block_counts.declared.TheConstants.{LONGEST_FILE, LONGEST_WRITE}
 use Rattle.posix_tables.specs.Open.{may_write}
 use Rattle.posix_tables.specs.Outcomes.{first, idle_row, row, space_row, unless}
 use Rattle.posix_tables.specs.Room.{growth, write_need}
@@ -21,13 +21,13 @@ blocks_row_by need left = space_row (nat_lt left need) What.Blocks need left
 -- a write of so many bytes from a start on, in strict mode, to a file of a size
 abbrev pub write_row_by : Bool → ℕ → ℕ → ℕ → ℕ → Option Outcome
 write_row_by may start len size left =
-    first (row (not may) Errno.EBADF ∷ row (nat_lt longest_write len) Errno.EINVAL ∷ idle_row (len == 0) (Reply.Count 0) ∷ row (nat_lt longest_file (start + len)) Errno.EFBIG
+    first (row (not may) Errno.EBADF ∷ row (nat_lt LONGEST_WRITE len) Errno.EINVAL ∷ idle_row (len == 0) (Reply.Count 0) ∷ row (nat_lt LONGEST_FILE (start + len)) Errno.EFBIG
     ∷ blocks_row_by (write_need Mode.Strict size start (start + len)) left ∷ [])
 
 -- a `truncate` to so many bytes
 abbrev pub truncate_row_by : Bool → ℕ → ℕ → ℕ → Option Outcome
 truncate_row_by may len size left =
-    first (row (not may) Errno.EBADF ∷ row (nat_lt longest_file len) Errno.EFBIG ∷ unless (nat_le len size) (blocks_row_by (growth size len) left) ∷ [])
+    first (row (not may) Errno.EBADF ∷ row (nat_lt LONGEST_FILE len) Errno.EFBIG ∷ unless (nat_le len size) (blocks_row_by (growth size len) left) ∷ [])
 
 -- They are the rows of the calls.
 abbrev pub WritesByRow : Type 0

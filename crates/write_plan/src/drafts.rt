@@ -10,7 +10,7 @@
 ghost use Rattle.write_plan.specs.Drafts.{DraftsAreNext};
 ghost use Rattle.write_plan.specs.Numbers.{OpenHaveLines, RoomIsKept, StandsAsKept};
 
-use live_model::what_files_hold_is_the_sum;
+use crate::laws;
 
 mod drafts;
 
@@ -27,7 +27,7 @@ pub fn kept_numbers_are_those_of_the_state()
     ensures lines { OpenHaveLines }
     ensures room { RoomIsKept }
 {
-    what_files_hold_is_the_sum();
+    laws::what_files_hold_is_the_sum();
 }
 
 pub use crate::asks::{

@@ -17,6 +17,7 @@
 mod asks;
 mod drafts;
 mod first_writes;
+mod laws;
 mod rows;
 mod words;
 

@@ -11,7 +11,7 @@ use Rattle.k_split_laws.specs.list_laws.Members.{In}
 use Rattle.k_split_laws.proofs.Cuts.{left_through}
 use Rattle.live_step_laws.specs.world_image_laws.Promised.{IsKept}
 use Rattle.live_step_laws.specs.world_image_laws.Back.{IsPutBack}
-use Rattle.live_step_laws.specs.world_model.Jobs.{begun_of}
+use Rattle.live_step_laws.specs.world_model.Jobs.{unfinished_call}
 use Rattle.zero_fill.specs.Gaps.{Clears, HasFile, LosesGap}
 
 -- nothing lies between the end and a byte that is not behind it
@@ -72,7 +72,7 @@ module _ (k l m : View) (files : Files) (ino from : ℕ) (first : Clears ino fil
   loses_then loses = record {
     left = λ has. left_through has.g k.cells l.cells m.cells first.size first.lent (loses.left (then_has has));
     kept = λ has start history c is strict back slots image put.
-        subst (λ js. IsKept has.g start history (map begun_of js ++ c ∷ []) image) (first.stays has).jobs_are
+        subst (λ js. IsKept has.g start history (map unfinished_call js ++ c ∷ []) image) (first.stays has).jobs_are
         (loses.kept (then_has has) start history c is strict back slots image
         (subst (λ (v : Volume). IsPutBack v m.cells back has.kept.first has.kept.claims (first.stays has).now.jobs slots image) (sym same_volume)
         (subst (λ js. IsPutBack k.volume m.cells back has.kept.first has.kept.claims js slots image) (sym (first.stays has).jobs_are) put)));

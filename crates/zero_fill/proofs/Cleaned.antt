@@ -20,7 +20,7 @@ use Rattle.live_step_laws.specs.posix_spec.Run.{run}
 use Rattle.live_step_laws.specs.posix_spec.State.{State}
 use Rattle.write_plan.specs.live_model.staging_files.Keeps.{Agrees}
 use Rattle.live_step_laws.specs.world_model.TreeRules.{used_below}
-use Rattle.live_step_laws.specs.world_model.Jobs.{begun_of, live_claims}
+use Rattle.live_step_laws.specs.world_model.Jobs.{unfinished_call, live_claims}
 use Rattle.live_step_laws.specs.world_model.Stands.{is_used}
 use Rattle.live_step_laws.specs.world_step_laws.Worlds.{IsWorld}
 use Rattle.live_step_laws.specs.world_image_laws.Changed.{ShowsLog-same, sound_headed}
@@ -156,7 +156,7 @@ stands_cleaned g k l t kept lines n s ino from stands may done =
 
 pub keeps_cleaned : KeepsCleaned
 keeps_cleaned g k l t kept lines n start history c ino from strict stands may cut back slots image put =
-    subst (λ y. IsKept y start history (map begun_of stands.jobs ++ c ∷ []) image) stands.geometry
+    subst (λ y. IsKept y start history (map unfinished_call stands.jobs ++ c ∷ []) image) stands.geometry
     (kept_leading k.volume kept.claims stands.jobs stands.numbers (run start history) stands.count image start history c strict stands.flying.whole (leads_before start history c stands.jobs) shows)
   where
     is_image : IsImage l.cells image

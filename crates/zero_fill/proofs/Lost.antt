@@ -18,13 +18,13 @@ use Rattle.k_split_laws.proofs.Cuts.{left_at, left_overwritten, left_same}
 use Rattle.k_split_laws.specs.posix_types.declared.call.Mode.{Mode}
 use Rattle.k_split_laws.specs.posix_types.declared.item.Item.{Item}
 use Rattle.k_split_laws.specs.posix_tables.Open.{Tables}
-use Rattle.k_split_laws.specs.posix_spec.Run.{Begun, run}
+use Rattle.k_split_laws.specs.posix_spec.Run.{Unfinished, run}
 use Rattle.k_split_laws.specs.posix_spec.State.{State}
 use Rattle.live_step_laws.specs.world_image_laws.Changed.{sound_headed}
 use Rattle.live_step_laws.specs.world_image_laws.Promised.{IsKept}
 use Rattle.live_step_laws.specs.world_image_laws.Back.{IsPutBack}
 use Rattle.live_step_laws.specs.world_image_laws.Flights.{promise_at_begin}
-use Rattle.live_step_laws.specs.world_model.Jobs.{begun_of, Job}
+use Rattle.live_step_laws.specs.world_model.Jobs.{unfinished_call, Job}
 use Rattle.write_plan.specs.live_model.Standing.{Kept, StandsAt}
 use Rattle.zero_fill.specs.Gaps.{LosesGap, with_files}
 
@@ -32,11 +32,11 @@ not_posix : (m : Mode) → m ≡ Mode.Strict → m ≢ Mode.Posix
 not_posix m strict posix = cc
 
 -- nothing was changed
-pub kept_off : (g : Geometry) (k l : View) (t : Tables) (kept : Kept) (lines : Bool) (n : ℕ) (start : State) (history : List Item) (c : Begun) → start.mode ≡ Mode.Strict
+pub kept_off : (g : Geometry) (k l : View) (t : Tables) (kept : Kept) (lines : Bool) (n : ℕ) (start : State) (history : List Item) (c : Unfinished) → start.mode ≡ Mode.Strict
     → (stands : StandsAt g k t kept lines n (run start history)) → l.cells ≡ k.cells → (back : ℕ → Cell) (slots : List (Option ℕ)) (image : Words)
-    → IsPutBack k.volume l.cells back kept.first kept.claims stands.jobs slots image → IsKept g start history (map begun_of stands.jobs ++ c ∷ []) image
+    → IsPutBack k.volume l.cells back kept.first kept.claims stands.jobs slots image → IsKept g start history (map unfinished_call stands.jobs ++ c ∷ []) image
 kept_off g k l t kept lines n start history c strict stands same back slots image put =
-    subst (λ y. IsKept y start history (map begun_of stands.jobs ++ c ∷ []) image) stands.geometry
+    subst (λ y. IsKept y start history (map unfinished_call stands.jobs ++ c ∷ []) image) stands.geometry
     (promise_at_begin k.volume k.cells kept.claims stands.jobs stands.numbers start history stands.count back kept.first slots image c (not_posix start.mode strict) (λ mode. stands.flying.whole) stands.flying.device
     (subst (λ d. IsPutBack k.volume d back kept.first kept.claims stands.jobs slots image) same put))
 
@@ -57,7 +57,7 @@ module _ (k l : View) (files : Files) (ino from : ℕ) (behind : size_in files i
     kept = λ has start history c is strict.
         subst
         (λ y. (stands : StandsAt has.g k has.t (with_files has.kept files) has.lines has.n y) → (back : ℕ → Cell) (slots : List (Option ℕ)) (image : Words)
-        → IsPutBack k.volume l.cells back has.kept.first has.kept.claims stands.jobs slots image → IsKept has.g start history (map begun_of stands.jobs ++ c ∷ []) image)
+        → IsPutBack k.volume l.cells back has.kept.first has.kept.claims stands.jobs slots image → IsKept has.g start history (map unfinished_call stands.jobs ++ c ∷ []) image)
         (sym is) (λ stands. kept_off has.g k l has.t (with_files has.kept files) has.lines has.n start history c strict stands same) has.stands;
   }
 
@@ -69,7 +69,7 @@ module _ (k l : View) (files : Files) (ino from : ℕ) (behind : size_in files i
     kept = λ has start history c is strict.
         subst
         (λ y. (stands : StandsAt has.g k has.t (with_files has.kept files) has.lines has.n y) → ((j : Job) → In j stands.jobs → j.draft.ino ≢ ino) → (back : ℕ → Cell) (slots : List (Option ℕ)) (image : Words)
-        → IsPutBack k.volume l.cells back has.kept.first has.kept.claims stands.jobs slots image → IsKept has.g start history (map begun_of stands.jobs ++ c ∷ []) image)
+        → IsPutBack k.volume l.cells back has.kept.first has.kept.claims stands.jobs slots image → IsKept has.g start history (map unfinished_call stands.jobs ++ c ∷ []) image)
         (sym is)
         (λ stands others. keeps has.g k l has.t (with_files has.kept files) has.lines has.n start history c ino from strict stands (record { file = has.file; behind = behind; others = others }) cut)
         has.stands has.others;
@@ -84,7 +84,7 @@ module _ (k l : View) (files : Files) (ino from : ℕ) (behind : size_in files i
     kept = λ has start history c is strict.
         subst
         (λ y. (stands : StandsAt has.g k has.t (with_files has.kept files) has.lines has.n y) → ((j : Job) → In j stands.jobs → j.draft.ino ≢ ino) → (back : ℕ → Cell) (slots : List (Option ℕ)) (image : Words)
-        → IsPutBack k.volume l.cells back has.kept.first has.kept.claims stands.jobs slots image → IsKept has.g start history (map begun_of stands.jobs ++ c ∷ []) image)
+        → IsPutBack k.volume l.cells back has.kept.first has.kept.claims stands.jobs slots image → IsKept has.g start history (map unfinished_call stands.jobs ++ c ∷ []) image)
         (sym is)
         (λ stands others.
         keeps has.g k l has.t (with_files has.kept files) has.lines has.n start history c ino from staging block strict stands

@@ -40,7 +40,7 @@ use Rattle.live_step_laws.specs.volume_laws.LineWords.{data_word, data_word-not_
 use Rattle.live_step_laws.specs.world_write_laws.PlaceSteps.{staging_below}
 use Rattle.live_step_laws.specs.world_model.Latest.{latest-In}
 use Rattle.live_step_laws.specs.world_model.Lent.{in_data}
-use Rattle.live_step_laws.specs.world_model.Jobs.{begun_of, live_claims}
+use Rattle.live_step_laws.specs.world_model.Jobs.{unfinished_call, live_claims}
 use Rattle.live_step_laws.specs.world_step_laws.Worlds.{IsWorld}
 use Rattle.live_step_laws.specs.world_image_laws.Changed.{ShowsLog-same, sound_headed}
 use Rattle.live_step_laws.specs.world_image_laws.Images.{HasLogHome, IsHeaded, ShowsWorld}
@@ -287,7 +287,7 @@ stands_zeroed g k l t kept lines n s ino from staging block stands may done =
 
 pub keeps_zeroed : KeepsZeroed
 keeps_zeroed g k l t kept lines n start history c ino from staging block strict stands may cut back slots image put =
-    subst (λ y. IsKept y start history (map begun_of stands.jobs ++ c ∷ []) image) stands.geometry
+    subst (λ y. IsKept y start history (map unfinished_call stands.jobs ++ c ∷ []) image) stands.geometry
     (kept_leading k.volume kept.claims stands.jobs stands.numbers (run start history) stands.count image start history c strict stands.flying.whole (leads_before start history c stands.jobs) shows)
   where
     is_image : IsImage l.cells image

@@ -12,9 +12,9 @@ use Rattle.live_step_laws.specs.list_laws.Members.{In}
 use Rattle.live_step_laws.specs.posix_types.declared.call.Mode.{Mode}
 use Rattle.live_step_laws.specs.posix_types.declared.item.Item.{Item}
 use Rattle.live_step_laws.specs.posix_tables.Open.{Tables}
-use Rattle.live_step_laws.specs.posix_spec.Run.{Begun, run}
+use Rattle.live_step_laws.specs.posix_spec.Run.{Unfinished, run}
 use Rattle.live_step_laws.specs.posix_spec.State.{State}
-use Rattle.live_step_laws.specs.world_model.Jobs.{begun_of, Job}
+use Rattle.live_step_laws.specs.world_model.Jobs.{unfinished_call, Job}
 use Rattle.live_step_laws.specs.world_image_laws.Promised.{IsKept}
 use Rattle.live_step_laws.specs.world_image_laws.Back.{IsPutBack}
 use Rattle.write_plan.specs.live_model.Standing.{Kept, StandsAt}
@@ -38,9 +38,9 @@ StandsCleaned =
 abbrev pub KeepsCleaned : Type 0
 KeepsCleaned =
     (g : Geometry) (k l : View) (t : Tables) (kept : Kept) (lines : Bool) (n : ℕ) (start : State) (history : List Item)
-    (c : Begun) (ino from : ℕ) → start.mode ≡ Mode.Strict
+    (c : Unfinished) (ino from : ℕ) → start.mode ≡ Mode.Strict
     → (stands : StandsAt g k t kept lines n (run start history)) → MayClean k kept stands.jobs ino from
     → IsOverwriteCut ino from (tail_zeros k.volume ino from) k l
     → (back : ℕ → Cell) (slots : List (Option ℕ)) (image : Words)
     → IsPutBack k.volume l.cells back kept.first kept.claims stands.jobs slots image
-    → IsKept g start history (map begun_of stands.jobs ++ c ∷ []) image
+    → IsKept g start history (map unfinished_call stands.jobs ++ c ∷ []) image

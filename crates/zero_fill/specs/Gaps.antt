@@ -17,11 +17,11 @@ use Rattle.k_split_laws.specs.Left.{IsLeftOf}
 use Rattle.k_split_laws.specs.posix_types.declared.call.Mode.{Mode}
 use Rattle.k_split_laws.specs.posix_types.declared.item.Item.{Item}
 use Rattle.k_split_laws.specs.posix_tables.Open.{Tables}
-use Rattle.k_split_laws.specs.posix_spec.Run.{Begun, run}
+use Rattle.k_split_laws.specs.posix_spec.Run.{Unfinished, run}
 use Rattle.k_split_laws.specs.posix_spec.State.{State}
 use Rattle.live_step_laws.specs.world_image_laws.Promised.{IsKept}
 use Rattle.live_step_laws.specs.world_image_laws.Back.{IsPutBack}
-use Rattle.live_step_laws.specs.world_model.Jobs.{begun_of, Job}
+use Rattle.live_step_laws.specs.world_model.Jobs.{unfinished_call, Job}
 use Rattle.write_plan.specs.live_model.Standing.{Kept, StandsAt}
 
 -- what the World keeps, with these files
@@ -59,10 +59,10 @@ pub record Clears (ino : ℕ) (files : Files) (k l : View) (to : ℕ) : Type 0 w
 -- put back, is kept with the calls of the jobs unfinished, and this one as the last.
 pub record LosesGap (ino : ℕ) (files : Files) (k l : View) : Type 0 where
   pub left : (has : HasFile k files ino) → IsLeftOf has.g k.cells l.cells
-  pub kept : (has : HasFile k files ino) (start : State) (history : List Item) (c : Begun) → has.s ≡ run start history → start.mode ≡ Mode.Strict
+  pub kept : (has : HasFile k files ino) (start : State) (history : List Item) (c : Unfinished) → has.s ≡ run start history → start.mode ≡ Mode.Strict
       → (back : ℕ → Cell) (slots : List (Option ℕ)) (image : Words)
       → IsPutBack k.volume l.cells back has.kept.first has.kept.claims has.stands.jobs slots image
-      → IsKept has.g start history (map begun_of has.stands.jobs ++ c ∷ []) image
+      → IsKept has.g start history (map unfinished_call has.stands.jobs ++ c ∷ []) image
 
 abbrev pub IsCleared : ℕ → Files → ℕ → View → View → Commit → Type 0
 IsCleared ino files to k l Commit.Done = Clears ino files k l to

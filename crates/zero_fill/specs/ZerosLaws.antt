@@ -14,13 +14,13 @@ use Rattle.relink_laws.specs.k_split.Loans.{MayLend}
 use Rattle.relink_laws.specs.posix_types.declared.call.Mode.{Mode}
 use Rattle.relink_laws.specs.posix_types.declared.item.Item.{Item}
 use Rattle.relink_laws.specs.posix_tables.Open.{Tables}
-use Rattle.live_step_laws.specs.posix_spec.Run.{Begun, run}
+use Rattle.live_step_laws.specs.posix_spec.Run.{Unfinished, run}
 use Rattle.live_step_laws.specs.posix_spec.State.{State}
 use Rattle.write_plan.specs.live_model.staging_files.declared.runs.StageFault.{StageFault}
 use Rattle.write_plan.specs.live_model.staging_files.declared.runs.StageRun.{StageRun}
 use Rattle.write_plan.specs.live_model.staging_files.Keeps.{Staged}
 use Rattle.write_plan.specs.live_model.staging_files.Reserves.{IsReserveAnswer}
-use Rattle.live_step_laws.specs.world_model.Jobs.{begun_of}
+use Rattle.live_step_laws.specs.world_model.Jobs.{unfinished_call}
 use Rattle.live_step_laws.specs.world_image_laws.Promised.{IsKept}
 use Rattle.live_step_laws.specs.world_image_laws.Back.{IsPutBack}
 use Rattle.write_plan.specs.live_model.Standing.{Kept, StandsAt}
@@ -48,12 +48,12 @@ StandsZeroed =
 abbrev pub KeepsZeroed : Type 0
 KeepsZeroed =
     (g : Geometry) (k l : View) (t : Tables) (kept : Kept) (lines : Bool) (n : ℕ) (start : State) (history : List Item)
-    (c : Begun) (ino from staging block : ℕ) → start.mode ≡ Mode.Strict
+    (c : Unfinished) (ino from staging block : ℕ) → start.mode ≡ Mode.Strict
     → (stands : StandsAt g k t kept lines n (run start history)) → MayZero k kept stands.jobs ino from staging block
     → IsOverwriteCut staging (staged_place block from) (tail_zeros k.volume staging (staged_place block from)) k l
     → (back : ℕ → Cell) (slots : List (Option ℕ)) (image : Words)
     → IsPutBack k.volume l.cells back kept.first kept.claims stands.jobs slots image
-    → IsKept g start history (map begun_of stands.jobs ++ c ∷ []) image
+    → IsKept g start history (map unfinished_call stands.jobs ++ c ∷ []) image
 
 -- ---- what reads zero
 

@@ -15,6 +15,7 @@
 
 mod cleans;
 mod gaps;
+mod laws;
 mod zeros;
 
 pub use cleans::{

@@ -9,11 +9,11 @@ ghost use Rattle.pm_lines.specs.pm_model.Powers.{is_on, Steps};
 ghost use Rattle.pm_lines.specs.pm_model.Words.{byte_of};
 ghost use Rattle.block_io.specs.Overwrites.{IsZeroed, MayZero, SameBeside};
 
-use crate::block_bytes::pieces::store_piece;
+use crate::block_bytes::lines::clear_lines;
 use pm_lines::{Pm, Power};
 
-// Stores and flushes zeros into a block.
-fn store_zeros(pm: &mut Pm, power: &mut Power, block: u32)
+// Stores and flushes zeros in a block, where it has other words.
+fn clear_block(pm: &mut Pm, power: &mut Power, block: u32)
     requires in_device { block < length pm.old / 512 }
     requires single { (i : ℕ) → i / 512 ≡ block → is_single (cell pm.old i) ≡ true }
     ensures size { length pm.new ≡ length pm.old }
@@ -23,11 +23,13 @@ fn store_zeros(pm: &mut Pm, power: &mut Power, block: u32)
     ensures done { is_on power.new ≡ true → (i : ℕ) → i / 512 ≡ block
         → fenced (cell pm.new i) ≡ Single 0 }
 {
-    store_piece(pm, power, block, 0, &[0; 4096]);
+    // It bounds the lines' numbers.
+    let _ = pm.words();
+    clear_lines(pm, power, 64 * u64::from(block), 64);
 }
 
-// Stores and flushes zeros into the blocks.
-fn store_all(pm: &mut Pm, power: &mut Power, blocks: &[u32])
+// Stores and flushes zeros in the blocks, where they have other words.
+fn clear_all(pm: &mut Pm, power: &mut Power, blocks: &[u32])
     requires may { MayZero blocks.now pm.old }
     ensures size { length pm.new ≡ length pm.old }
     ensures lent { SameLent pm.old pm.new }
@@ -37,13 +39,13 @@ fn store_all(pm: &mut Pm, power: &mut Power, blocks: &[u32])
         → i / 512 ≡ block_at blocks.now k → fenced (cell pm.new i) ≡ Single 0 }
 {
     for block in blocks {
-        store_zeros(pm, power, *block);
+        clear_block(pm, power, *block);
     }
 }
 
 /// Sets blocks to zero and makes that durable, with one fence. Nothing is wanted of them any more. It
 /// takes no memory; without power at the call it does nothing. It takes at most 576 steps a block, and
-/// one more.
+/// one more: a word that is not zero is stored, and a line flushed where it had one.
 ///
 /// Blocks are counted from the start of the device. No two are the same, and each of their words has one
 /// candidate.
@@ -65,7 +67,7 @@ pub fn zero_blocks(pm: &mut Pm, power: &mut Power, blocks: &[u32])
     if !power.on() {
         return;
     }
-    store_all(pm, power, blocks);
+    clear_all(pm, power, blocks);
     pm.fence(power);
 }
 

@@ -1,7 +1,7 @@
 //! Lines set to zero.
 ghost use Rattle.std.specs.Prelude.{◌≡◌, ◌≢◌, ◌+◌, ◌*◌, ◌/◌, ◌^◌, ◌≤◌, ◌<◌, ℕ, true, false, length};
 ghost use Rattle.pm_lines.specs.pm_model.declared.Cell.TheVariants.{Single};
-ghost use Rattle.pm_lines.specs.pm_model.Cells.{cell, fenced, Settles};
+ghost use Rattle.pm_lines.specs.pm_model.Cells.{cell, fenced, flushed, is_single, Settles};
 ghost use Rattle.pm_lines.specs.pm_model.Frames.{KeepsSingle, LineIsSingle, SameLent};
 ghost use Rattle.pm_lines.specs.pm_model.Images.{Follows};
 ghost use Rattle.pm_lines.specs.pm_model.Powers.{is_on, Steps};
@@ -9,8 +9,28 @@ ghost use Rattle.block_io.specs.Overwrites.{AreGoingToZero, AreLinesZeroed, Goes
 
 use pm_lines::{Pm, Power};
 
-// Stores zeros into the words of a line, and flushes it. The next fence makes them durable.
-fn store_line(pm: &mut Pm, power: &mut Power, line: u64)
+// Stores zero into a word that is none, and says whether it was none.
+fn clear_word(pm: &mut Pm, power: &mut Power, word: u64) -> bool
+    requires in_device { word < length pm.old }
+    requires single { is_single (cell pm.old word) ≡ true }
+    ensures size { length pm.new ≡ length pm.old }
+    ensures lent { SameLent pm.old pm.new }
+    ensures steps { Steps 1 power.old power.new }
+    ensures others { (i : ℕ) → i ≢ word → cell pm.new i ≡ cell pm.old i }
+    ensures same { result ≡ false → cell pm.new word ≡ cell pm.old word }
+    ensures going { GoesToZero (cell pm.old word) (cell pm.new word) }
+    ensures done { is_on power.new ≡ true → fenced (flushed (cell pm.new word)) ≡ Single 0 }
+{
+    if pm.read_word(word) == 0 {
+        return false;
+    }
+    pm.store_word(power, word, 0);
+    true
+}
+
+// Stores zeros into the words of a line that are none, and flushes the line where there were any. The
+// next fence makes them durable.
+fn clear_line(pm: &mut Pm, power: &mut Power, line: u64)
     requires in_device { line < length pm.old / 8 }
     requires single { LineIsSingle line pm.old }
     ensures size { length pm.new ≡ length pm.old }
@@ -23,14 +43,17 @@ fn store_line(pm: &mut Pm, power: &mut Power, line: u64)
 {
     // It bounds the words' numbers.
     let _ = pm.words();
+    let mut changed = false;
     for k in 0..8 {
-        pm.store_word(power, 8 * line + k, 0);
+        changed |= clear_word(pm, power, 8 * line + k);
     }
-    pm.flush(power, line);
+    if changed {
+        pm.flush(power, line);
+    }
 }
 
-// Stores and flushes zeros into the lines.
-fn store_lines(pm: &mut Pm, power: &mut Power, first: u64, count: u64)
+// Stores and flushes zeros in the lines, where they have other words.
+pub(crate) fn clear_lines(pm: &mut Pm, power: &mut Power, first: u64, count: u64)
     requires small { first + count < 2 ^ 60 }
     requires may { MayZeroLines first count pm.old }
     ensures size { length pm.new ≡ length pm.old }
@@ -42,13 +65,14 @@ fn store_lines(pm: &mut Pm, power: &mut Power, first: u64, count: u64)
         → fenced (cell pm.new i) ≡ Single 0 }
 {
     for line in first..first + count {
-        store_line(pm, power, line);
+        clear_line(pm, power, line);
     }
 }
 
 /// Sets `count` lines from line `first` on to zero and makes that durable, with one fence. Nothing is
 /// wanted of them any more. It takes no memory; without power at the call it does nothing. It takes at
-/// most 9 steps a line, and one more.
+/// most 9 steps a line, and one more: a word that is not zero is stored, and a line flushed where it
+/// had one.
 ///
 /// Lines are counted from the start of the device. Each of their words has one candidate.
 pub fn zero_lines(pm: &mut Pm, power: &mut Power, first: u64, count: u64)
@@ -73,6 +97,6 @@ pub fn zero_lines(pm: &mut Pm, power: &mut Power, first: u64, count: u64)
     if !power.on() {
         return;
     }
-    store_lines(pm, power, first, count);
+    clear_lines(pm, power, first, count);
     pm.fence(power);
 }

@@ -1,5 +1,6 @@
 //! The changes of K-Split that a `truncate` makes.
 ghost use Rattle.std.specs.Prelude.{◌≡◌, ◌≤◌, ◌<◌, ◌+◌, ◌^◌, false, length, true};
+ghost use Rattle.posix_tables.specs.block_counts.declared.TheConstants.{LONGEST_FILE};
 ghost use Rattle.zero_fill.specs.layout_model.Places.{reserve};
 ghost use Rattle.zero_fill.specs.write_plan.image_model.Volume.{inode};
 ghost use Rattle.zero_fill.specs.write_plan.file_table.Files.{size_in};
@@ -47,7 +48,7 @@ fn set_now(
 ) -> Result<Truncated, NoMemory>
     requires on { k.old.lost ≡ false }
     requires file { IsLiveFile ino k.old.volume }
-    requires size { size ≤ 16777216 }
+    requires size { size ≤ LONGEST_FILE }
     requires room { reserve k.old.volume.geometry ≤ free_blocks_in k.old + 3 }
     requires line { ino < length data.old.sizes }
     ensures steps { Steps (2 ^ 15) power.old power.new }
@@ -76,7 +77,7 @@ pub(crate) fn give_size(
     requires on { k.old.lost ≡ false }
     requires power { is_on power.old ≡ true }
     requires file { IsLiveFile ino k.old.volume }
-    requires size { size ≤ 16777216 }
+    requires size { size ≤ LONGEST_FILE }
     requires room { reserve k.old.volume.geometry ≤ free_blocks_in k.old + 3 }
     requires line { ino < length data.old.sizes }
     requires published { (inode k.old.volume ino).size ≡ size_in data.old ino }

@@ -6,6 +6,7 @@ ghost use Rattle.file_calls.specs.Runs.{RunsInSome};
 ghost use Rattle.zero_fill.specs.pm_model.Powers.{is_on, Steps};
 ghost use Rattle.file_truncate.specs.Truncates.{HasNothingStaged, IsLacking, IsTruncated};
 
+use crate::laws;
 use crate::sizes::{KSplit, NoMemory, OpenFiles};
 use crate::truncates::asking::{Asked, ask, lacking};
 use crate::truncates::outcomes::Truncated;
@@ -14,9 +15,7 @@ use pm_lines::Power;
 use posix_tables::outcomes::answer;
 use posix_types::{Errno, Handle, Reply, Who};
 use std::alloc::Global;
-use zero_fill::{
-    FileTable, kept_numbers_are_those_of_the_state, room_by, the_end_of_a_file_is_cleaned_in_flight,
-};
+use zero_fill::{FileTable, room_by};
 
 /// Whether writes of other callers that are out, and need `needs` blocks together, leave too little room for a `truncate`
 /// that no row refuses: the blocks that it takes, and those that are left. Something may be staged of the file still.
@@ -32,7 +31,7 @@ pub fn lacks_room(
     requires runs { RunsInSome k.now files.now.tables data.now }
     ensures { IsLacking who handle size needs k.now files.now.tables data.now result }
 {
-    kept_numbers_are_those_of_the_state();
+    laws::kept_numbers_are_those_of_the_state();
     let Some(file) = files.find(who, handle) else {
         return None;
     };
@@ -71,8 +70,8 @@ pub fn truncate_file(
         power.old power.new result }
     ensures ends { KeepsEnds k.old data.old k.new data.new power.new }
 {
-    the_end_of_a_file_is_cleaned_in_flight();
-    kept_numbers_are_those_of_the_state();
+    laws::the_end_of_a_file_is_cleaned_in_flight();
+    laws::kept_numbers_are_those_of_the_state();
     let Some(opened) = files.find(who, handle) else {
         return Ok(Truncated::Answered(answer(Reply::Error(Errno::EBADF))));
     };

@@ -7,7 +7,7 @@ ghost use Rattle.open_files.specs.posix_tables.Open.{opened, same_who};
 ghost use Rattle.in_flight.specs.Busy.{found_ino, HoldsFile, IsKept, WaitsForFile};
 
 use crate::counts::KSplit;
-use crate::jobs::pending::{Pending, is_same};
+use crate::jobs::pending::{JobOut, is_same};
 use open_files::OpenFiles;
 use posix_types::{Call, Handle, Path, Who};
 
@@ -62,14 +62,14 @@ pub fn waits_for(k: &KSplit, files: &OpenFiles, who: Who, call: &Call) -> Option
 }
 
 // Whether a job is another caller's, out of this file.
-fn is_held(job: &Pending, ino: u32, who: Who) -> bool
+fn is_held(job: &JobOut, ino: u32, who: Who) -> bool
     ensures { result ≡ (not (same_who job.now.who who) && (job.now.draft.ino == ino)) }
 {
     !is_same(job.who, who) && job.draft.ino == ino
 }
 
 // The caller of a job that is out of a file, but for one caller.
-fn holder_of(pending: &[Pending], ino: u32, who: Who) -> Option<Who>
+fn holder_of(pending: &[JobOut], ino: u32, who: Who) -> Option<Who>
     ensures { HoldsFile pending.now ino who result }
 {
     for job in pending {
@@ -85,7 +85,7 @@ fn holder_of(pending: &[Pending], ino: u32, who: Who) -> Option<Who>
 pub fn keeper(
     k: &KSplit,
     files: &OpenFiles,
-    pending: &[Pending],
+    pending: &[JobOut],
     who: Who,
     call: &Call,
 ) -> Option<(u32, Who)>

@@ -12,17 +12,17 @@ use std::marker::Model;
 /// A job that is out: its caller and call, its entry, and the disk blocks that it was lent, in the order of the
 /// entry's blocks.
 #[derive(Debug, Drop)]
-pub struct Pending {
+pub struct JobOut {
     pub who: Who,
     pub call: Call,
     pub draft: Draft,
     pub blocks: Vec<u32>,
 }
 
-impl Model for Pending {
+impl Model for JobOut {
     ghost use Rattle.live_model.specs.Standing as standing;
 
-    ghost Value = { standing.Pending };
+    ghost Value = { standing.JobOut };
 
     ghost view = { λ p. record { who = p.who; call = p.call; draft = p.draft; blocks = p.blocks.items } };
 }
@@ -35,7 +35,7 @@ pub(crate) fn is_same(one: Who, other: Who) -> bool
 }
 
 /// The place of the job of a caller.
-pub fn place_of(pending: &[Pending], who: Who) -> Option<usize>
+pub fn place_of(pending: &[JobOut], who: Who) -> Option<usize>
     ensures some { IfSome result (λ place. (p : _) × (slice_get pending.now place ≡ Some p) × (p.who ≡ who)) }
     ensures none { IfNone result ((p : _) → In p pending.now → p.who ≢ who) }
 {
@@ -48,7 +48,7 @@ pub fn place_of(pending: &[Pending], who: Who) -> Option<usize>
 }
 
 /// Takes the job of a caller out; no two are of one caller.
-pub fn take_job(pending: &mut Vec<Pending>, who: Who) -> Option<Pending>
+pub fn take_job(pending: &mut Vec<JobOut>, who: Who) -> Option<JobOut>
     requires { AllPairs AreOfTwoThreads pending.old.items }
     ensures left { pending.new.items ≡ without who pending.old.items }
     ensures some { IfSome result (λ p. In p pending.old.items × (p.who ≡ who)) }

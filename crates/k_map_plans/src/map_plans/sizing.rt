@@ -1,6 +1,6 @@
 //! The size of a file.
 ghost use Rattle.std.specs.Prelude.{◌≡◌, ◌≤◌, ◌+◌, ◌∷◌, [], IfOk, OnErr, OnOk};
-ghost use Rattle.layout_model.specs.Lines.{most_bytes};
+ghost use Rattle.layout_model.specs.block_counts.declared.TheConstants.{LONGEST_FILE};
 ghost use Rattle.k_plans.specs.layout_model.Places.{reserve};
 ghost use Rattle.k_plans.specs.image_model.Volume.{chain};
 ghost use Rattle.k_map_plans.specs.Plans.{IsLiveFile, IsSizePlan};
@@ -26,7 +26,7 @@ fn cut_map(
     requires empty { batch.old ≡ [] }
     requires idle { tables.old.waiting ≡ [] }
     requires file { IsLiveFile ino tables.old.volume }
-    requires size { size ≤ most_bytes }
+    requires size { size ≤ LONGEST_FILE }
     requires room { reserve tables.old.volume.geometry ≤ free_blocks tables.old + 3 }
     ensures once { WaitOnce tables.new }
     ensures sized { OnOk result
@@ -59,7 +59,7 @@ pub fn plan_size(
     requires empty { batch.old ≡ [] }
     requires idle { tables.old.waiting ≡ [] }
     requires file { IsLiveFile ino tables.old.volume }
-    requires size { size ≤ most_bytes }
+    requires size { size ≤ LONGEST_FILE }
     requires room { reserve tables.old.volume.geometry ≤ free_blocks tables.old + 3 }
     ensures { IsSizePlan ino size tables.old tables.new batch.new result }
 {

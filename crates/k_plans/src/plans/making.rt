@@ -1,6 +1,7 @@
 //! Making a node with its name.
-ghost use Rattle.std.specs.Prelude.{◌≡◌, ◌<◌, ◌≤◌, [], length, true, false, Some, IfOk};
+ghost use Rattle.std.specs.Prelude.{◌≡◌, ◌<◌, ◌≤◌, ℕ, [], length, slice_set, true, false, Some, IfOk, OnErr, OnOk};
 ghost use Rattle.layout_model.specs.Lines.{is_inode, is_name_row};
+ghost use Rattle.layout_model.specs.Names.{is_entry, row};
 ghost use Rattle.k_tables.specs.image_model.Reading.{node_set, row_set};
 ghost use Rattle.k_tables.specs.image_model.Volume.{Volume, inode as inode_of};
 ghost use Rattle.k_plans.specs.LandingsPlans.{Turns};
@@ -16,7 +17,7 @@ ghost use Rattle.volume_change_laws.specs.CallLaws.{row_to};
 use crate::landings::{Batch, Geometry, put_inode, put_name};
 use crate::plans::faults::{PlanFault, fault_of};
 use crate::plans::tables::Tables;
-use k_tables::{NameLine, Place, place_to_make};
+use k_tables::{NameLine, NameTable, Place, place_to_make};
 use layout_model::{Inode, Kind};
 use posix_types::{Name, Path};
 use std::alloc::{AllocError, Global};
@@ -60,6 +61,27 @@ pub(crate) fn name_line(
     })
 }
 
+// Gives a name line of the tables its name. Where memory runs out the plan is given up.
+pub(crate) fn set_name(
+    names: &mut NameTable,
+    batch: &mut Batch,
+    line: u32,
+    name: NameLine,
+) -> Result<(), AllocError>
+    requires in_table { line < length names.old }
+    requires new { (k : ℕ) → is_entry name.parent name.name (row names.old k) ≡ true → k ≡ line }
+    ensures set { OnOk result (names.new ≡ slice_set names.old line (Some name)) }
+    ensures planned { OnOk result (batch.new ≡ batch.old) }
+    ensures same { OnErr result (names.new ≡ names.old) }
+    ensures no_lines { OnErr result (batch.new ≡ []) }
+{
+    let done = names.set(line, name);
+    if done.is_err() {
+        batch.clear();
+    }
+    done
+}
+
 // Plans a node with its name.
 fn put_node(batch: &mut Batch, geometry: &Geometry, place: Place, inode: &Inode, name: &NameLine)
     requires empty { batch.old ≡ [] }
@@ -78,7 +100,7 @@ fn put_node(batch: &mut Batch, geometry: &Geometry, place: Place, inode: &Inode,
 }
 
 impl Tables {
-    // Makes a node in its place, with that name.
+    // Makes a node in its place, with that name. An error leaves tables and batch as they were.
     fn make_at(
         &mut self,
         batch: &mut Batch,
@@ -86,19 +108,22 @@ impl Tables {
         directory: bool,
         place: Place,
         name: NameLine,
-    )
+    ) -> Result<(), AllocError>
         requires empty { batch.old ≡ [] }
         requires spelled { AreSpelled path.now }
         requires place { IsPlace self.old.volume.inodes self.old.volume.names path.now place }
         requires name { name ≡ row_to path.now place.parent place.ino }
-        ensures made { self.new
-            ≡ with_volume (made_at directory path.now place self.old.volume) self.old }
-        ensures plan { IsPlan self.old self.new batch.new }
+        ensures made { OnOk result (self.new
+            ≡ with_volume (made_at directory path.now place self.old.volume) self.old) }
+        ensures plan { OnOk result (IsPlan self.old self.new batch.new) }
+        ensures same { OnErr result (self.new ≡ self.old) }
+        ensures no_lines { OnErr result (batch.new ≡ []) }
     {
         let inode = new_node(directory, self.inodes[place.ino as usize]);
         put_node(batch, &self.geometry, place, &inode, &name);
+        set_name(&mut self.names, batch, place.line, name)?;
         self.inodes[place.ino as usize] = inode;
-        self.names.set(place.line, name);
+        Ok(())
     }
 
     /// Makes a directory or a file, and plans its inode and its name. It answers the inode. The
@@ -121,10 +146,10 @@ impl Tables {
             Err(refusal) => Err(fault_of(refusal)),
             Ok(place) => match name_line(alloc, place.parent, place.ino, path) {
                 Err(_) => Err(PlanFault::NoMemory),
-                Ok(name) => {
-                    self.make_at(batch, path, directory, place, name);
-                    Ok(place.ino)
-                }
+                Ok(name) => match self.make_at(batch, path, directory, place, name) {
+                    Err(_) => Err(PlanFault::NoMemory),
+                    Ok(()) => Ok(place.ino),
+                },
             },
         }
     }

@@ -1,5 +1,5 @@
 //! Giving a node another path.
-ghost use Rattle.std.specs.Prelude.{◌≡◌, ◌<◌, ◌≤◌, [], length, true, false, None, Some};
+ghost use Rattle.std.specs.Prelude.{◌≡◌, ◌<◌, ◌≤◌, [], length, true, false, None, Some, IfOk, OnErr, OnOk};
 ghost use Rattle.layout_model.specs.Lines.{is_inode, is_name_row};
 ghost use Rattle.k_tables.specs.image_model.Reading.{node_set, row_set};
 ghost use Rattle.k_tables.specs.image_model.Volume.{Volume, inode as inode_of};
@@ -18,13 +18,13 @@ ghost use Rattle.volume_change_laws.specs.CallLaws.{row_to};
 
 use crate::landings::{Batch, Geometry, clear_name, put_inode, put_name};
 use crate::plans::faults::{PlanFault, fault_of};
-use crate::plans::making::name_line;
+use crate::plans::making::{name_line, set_name};
 use crate::plans::removing::gone_node;
 use crate::plans::tables::Tables;
 use k_tables::{Entry, Moving, NameLine, Refusal, entries_to_rename, is_directory};
 use layout_model::Inode;
 use posix_types::Path;
-use std::alloc::Global;
+use std::alloc::{AllocError, Global};
 
 // What a refused rename answers.
 fn unmoved(refusal: Refusal) -> Result<Option<u32>, PlanFault>
@@ -79,7 +79,7 @@ fn put_over_directory(
 }
 
 impl Tables {
-    // Gives a node a path where nothing stands.
+    // Gives a node a path where nothing stands. An error leaves tables and batch as they were.
     fn move_new(
         &mut self,
         batch: &mut Batch,
@@ -87,7 +87,7 @@ impl Tables {
         to: &Path,
         moving: Moving,
         name: NameLine,
-    )
+    ) -> Result<(), AllocError>
         requires empty { batch.old ≡ [] }
         requires spelled { AreSpelled to.now }
         requires rows { first (rename_rows (volume_space self.old.volume) path.now to.now) ≡ None }
@@ -95,12 +95,15 @@ impl Tables {
             path.now to.now moving }
         requires name { name ≡ row_to to.now moving.parent moving.entry.child }
         requires target { moving.target ≡ None }
-        ensures renamed { self.new
-            ≡ with_volume (renamed moving.entry.line name self.old.volume) self.old }
-        ensures plan { IsPlan self.old self.new batch.new }
+        ensures renamed { OnOk result (self.new
+            ≡ with_volume (renamed moving.entry.line name self.old.volume) self.old) }
+        ensures plan { OnOk result (IsPlan self.old self.new batch.new) }
+        ensures same { OnErr result (self.new ≡ self.old) }
+        ensures no_lines { OnErr result (batch.new ≡ []) }
     {
         put_name(batch, &self.geometry, moving.entry.line, &name);
-        self.names.set(moving.entry.line, name);
+        set_name(&mut self.names, batch, moving.entry.line, name)?;
+        Ok(())
     }
 
     // Gives a file the path of another one.
@@ -126,8 +129,7 @@ impl Tables {
         ensures plan { IsPlan self.old self.new batch.new }
     {
         put_over_file(batch, &self.geometry, moving.entry.line, &name, target.line);
-        self.names.clear(target.line);
-        self.names.set(moving.entry.line, name);
+        self.names.set_over(moving.entry.line, name, target.line);
     }
 
     // Gives a directory the path of an empty one.
@@ -162,11 +164,11 @@ impl Tables {
             &gone,
         );
         self.inodes[target.child as usize] = gone;
-        self.names.clear(target.line);
-        self.names.set(moving.entry.line, name);
+        self.names.set_over(moving.entry.line, name, target.line);
     }
 
-    // Gives a node its new path, and answers the file that loses its name.
+    // Gives a node its new path, and answers the file that loses its name. An error leaves tables and
+    // batch as they were.
     fn move_to(
         &mut self,
         batch: &mut Batch,
@@ -174,30 +176,33 @@ impl Tables {
         to: &Path,
         moving: Moving,
         name: NameLine,
-    ) -> Option<u32>
+    ) -> Result<Option<u32>, AllocError>
         requires empty { batch.old ≡ [] }
         requires spelled { AreSpelled to.now }
         requires rows { first (rename_rows (volume_space self.old.volume) path.now to.now) ≡ None }
         requires moving { IsMoving self.old.volume.inodes self.old.volume.names
             path.now to.now moving }
         requires name { name ≡ row_to to.now moving.parent moving.entry.child }
-        ensures lost { result ≡ file_over self.old.volume.inodes moving.target }
-        ensures renamed { self.new
-            ≡ with_volume (renamed_to to.now moving self.old.volume) self.old }
-        ensures plan { IsPlan self.old self.new batch.new }
+        ensures lost { IfOk result (λ lost.
+            lost ≡ file_over self.old.volume.inodes moving.target) }
+        ensures renamed { OnOk result (self.new
+            ≡ with_volume (renamed_to to.now moving self.old.volume) self.old) }
+        ensures plan { OnOk result (IsPlan self.old self.new batch.new) }
+        ensures same { OnErr result (self.new ≡ self.old) }
+        ensures no_lines { OnErr result (batch.new ≡ []) }
     {
         match moving.target {
             None => {
-                self.move_new(batch, path, to, moving, name);
-                None
+                self.move_new(batch, path, to, moving, name)?;
+                Ok(None)
             }
             Some(target) => {
                 if is_directory(&self.inodes, target.child) {
                     self.move_over_directory(batch, path, to, moving, name, target);
-                    None
+                    Ok(None)
                 } else {
                     self.move_over_file(batch, path, to, moving, name, target);
-                    Some(target.child)
+                    Ok(Some(target.child))
                 }
             }
         }
@@ -224,7 +229,10 @@ impl Tables {
             Err(refusal) => unmoved(refusal),
             Ok(moving) => match name_line(alloc, moving.parent, moving.entry.child, to) {
                 Err(_) => Err(PlanFault::NoMemory),
-                Ok(name) => Ok(self.move_to(batch, path, to, moving, name)),
+                Ok(name) => match self.move_to(batch, path, to, moving, name) {
+                    Err(_) => Err(PlanFault::NoMemory),
+                    Ok(lost) => Ok(lost),
+                },
             },
         }
     }

@@ -1,5 +1,6 @@
 //! The bytes of a file, line by line.
 ghost use Rattle.std.specs.Prelude.{◌≡◌, ◌+◌, ◌*◌, ◌≤◌, ◌<◌, length, IfOk, OnOk};
+ghost use Rattle.posix_tables.specs.block_counts.declared.TheConstants.{LONGEST_FILE};
 ghost use Rattle.std.specs.Option.{ForSome};
 ghost use Rattle.pm_lines.specs.pm_model.Cells.{AllHome};
 ghost use Rattle.pm_lines.specs.pm_model.Images.{words_of};
@@ -52,7 +53,7 @@ pub(crate) fn read_file(
 ) -> Result<Data, AllocError>
     requires home { AllHome pm.now }
     requires inside { IsInside map.now pm.now }
-    requires small { size ≤ 16777216 }
+    requires small { size ≤ LONGEST_FILE }
     ensures { IfOk result (λ bytes. bytes ≡ first_bytes map.now (words_of pm.now) size) }
 {
     let mut bytes = Vec::with_capacity(alloc, size as usize)?;

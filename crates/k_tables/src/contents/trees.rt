@@ -1,5 +1,6 @@
 //! The tree of tables and a device.
 ghost use Rattle.std.specs.Prelude.{◌≡◌, ◌≤◌, ◌<◌, [], length, IfOk};
+ghost use Rattle.posix_tables.specs.block_counts.declared.TheConstants.{LONGEST_FILE};
 ghost use Rattle.pm_lines.specs.pm_model.Cells.{AllHome};
 ghost use Rattle.pm_lines.specs.pm_model.Images.{words_of};
 ghost use Rattle.name_laws.specs.image_model.Content.{found};
@@ -20,7 +21,7 @@ use std::alloc::{AllocError, Global};
 fn node_in(alloc: Global, pm: &Pm, inode: &Inode, map: &ExtentMap) -> Result<TreeNode, AllocError>
     requires home { AllHome pm.now }
     requires inside { IsInside map.now pm.now }
-    requires small { inode.now.size ≤ 16777216 }
+    requires small { inode.now.size ≤ LONGEST_FILE }
     ensures { IfOk result (λ node. node ≡ node_in inode.now map.now (words_of pm.now)) }
 {
     match inode.kind {

@@ -8,13 +8,10 @@ ghost use Rattle.posix_tables.specs.Outcomes.{first};
 ghost use Rattle.name_laws.specs.Paths.{HasDirectory};
 
 use crate::tables::walks::parent_of;
-use k_names::NameTable;
+use k_names::{LONGEST_NAME, NameTable};
 use layout_model::Inode;
 use posix_tables::entries::is_too_long;
 use posix_types::{Errno, Path, Room};
-
-// The longest name of a name line, in bytes.
-pub(crate) const LONGEST_NAME: usize = 48;
 
 /// Why a call changes nothing.
 #[derive(Clone, Copy, Debug, PartialEq, Eq)]

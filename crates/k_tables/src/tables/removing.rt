@@ -11,9 +11,9 @@ ghost use Rattle.posix_tables.specs.Outcomes.{first};
 ghost use Rattle.name_laws.specs.Paths.{HasDirectory};
 
 use crate::tables::lookups::is_directory;
-use crate::tables::refusals::{LONGEST_NAME, Refusal, walk_to};
+use crate::tables::refusals::{Refusal, walk_to};
 use crate::tables::walks::{has_entries, last};
-use k_names::NameTable;
+use k_names::{LONGEST_NAME, NameTable};
 use layout_model::Inode;
 use posix_tables::entries::{is_root, is_too_long};
 use posix_types::{Errno, Path};

@@ -11,10 +11,10 @@ ghost use Rattle.posix_tables.specs.Outcomes.{first};
 ghost use Rattle.name_laws.specs.Paths.{HasDirectory};
 
 use crate::tables::lookups::is_directory;
-use crate::tables::refusals::{LONGEST_NAME, Refusal, walk_to};
+use crate::tables::refusals::{Refusal, walk_to};
 use crate::tables::removing::{Entry, entry_below, entry_in};
 use crate::tables::walks::has_entries;
-use k_names::NameTable;
+use k_names::{LONGEST_NAME, NameTable};
 use layout_model::Inode;
 use posix_tables::entries::{LONGEST_PATH, is_below, is_root, is_too_long};
 use posix_types::{Errno, Path};

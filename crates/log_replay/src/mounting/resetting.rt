@@ -8,13 +8,11 @@ ghost use Rattle.log_replay.specs.Sheds.{IsSameDevice};
 ghost use Rattle.log_replay.specs.Quiet.{IsQuiet, IsSpent, IsSweepPaid, OnDone};
 ghost use Rattle.log_replay.specs.Resets.{AreReset, IsResetOne, MayReset};
 
+use crate::FIRST_FILE;
 use k_check::Commit;
 use pm_lines::Power;
 use staging_files::{KFault, KSplit};
 use std::alloc::{AllocError, Global};
-
-// The inodes below are those of the root and of the staging files.
-const FIRST_FILE: u32 = 5;
 
 // The highest order that a file may have applied.
 const MOST_APPLIED: u64 = 1 << 62;

@@ -10,15 +10,13 @@ ghost use Rattle.log_replay.specs.Sheds.{IsSameDevice};
 ghost use Rattle.log_replay.specs.Quiet.{IsQuiet, IsSpent, IsSweepPaid, OnDone};
 ghost use Rattle.log_replay.specs.Sweeps.{AreTrimmed, EndsInTime, IsTrimmedOne};
 
+use crate::FIRST_FILE;
 use block_counts::blocks_for;
 use k_check::Commit;
 use layout_model::Kind;
 use pm_lines::Power;
 use staging_files::{KFault, KSplit};
 use std::alloc::{AllocError, Global};
-
-// The inodes below are those of the root and of the staging files.
-const FIRST_FILE: u32 = 5;
 
 // The length of a file whose map goes past its end.
 fn length_passed(k: &KSplit, ino: u32) -> Option<u64>

@@ -5,11 +5,9 @@ ghost use Rattle.world_image_laws.specs.pm_model.Powers.{is_on, Steps};
 ghost use Rattle.k_split.specs.Answers.{IsCommitPaid};
 ghost use Rattle.log_replay.specs.Sheds.{IsAtRest, IsNameless, IsSameDevice, IsShedCut, IsShedOne, LosesNameless, MaySettle, OnCommit, OnLost, StillShows};
 
+use crate::FIRST_FILE;
 use k_split::{Commit, KFault, KSplit, Kind};
 use pm_lines::Power;
-
-// The inodes below are those of the root and of the staging files.
-const FIRST_FILE: u32 = 5;
 
 // Whether an inode is a file to which no name leads.
 fn is_nameless(k: &KSplit, ino: u32) -> bool

@@ -1,6 +1,6 @@
 //! The table of the sizes of all files.
 ghost use Rattle.std.specs.Prelude.{◌≡◌, ◌≤◌, IfOk};
-ghost use Rattle.eof_laws.specs.layout_model.Lines.{most_bytes};
+ghost use Rattle.eof_laws.specs.layout_model.block_counts.declared.TheConstants.{LONGEST_FILE};
 ghost use Rattle.eof_laws.specs.image_model.Volume.{inode};
 ghost use Rattle.log_replay.specs.Sheds.{IsAtRest};
 ghost use Rattle.round_laws.specs.Sizes.{HasSizesOf};
@@ -12,7 +12,7 @@ use std::alloc::{AllocError, Global};
 fn size_at(k: &KSplit, ino: u32) -> u64
     requires { IsAtRest k.now }
     ensures size { result ≡ (inode k.now.volume ino).size }
-    ensures small { result ≤ most_bytes }
+    ensures small { result ≤ LONGEST_FILE }
 {
     match k.node(ino) {
         Some(node) => node.size,

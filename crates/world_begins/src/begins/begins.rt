@@ -13,7 +13,7 @@ ghost use Rattle.world_begins.specs.Turns.{IsTurn};
 
 use crate::begins::runs::run_whole;
 use crate::turns::{
-    Begun, NoMemory, Parts, Pending, begin_put, busy_on, call_at, calls_made, lose_call, lose_one,
+    Begun, JobOut, NoMemory, Parts, begin_put, busy_on, call_at, calls_made, lose_call, lose_one,
 };
 use layout_model::Draft;
 use pm_lines::Power;
@@ -61,7 +61,7 @@ fn begin_call(
 fn reserve_one(
     history: &mut Vec<Item>,
     claims: &mut Vec<(u64, Draft)>,
-    pending: &mut Vec<Pending>,
+    pending: &mut Vec<JobOut>,
     spare: &mut Vec<(Who, Call)>,
 ) -> Result<(), NoMemory>
     requires few { length pending.old.items + 2 < 2 ^ 32 }

@@ -13,10 +13,10 @@ ghost use Rattle.world_parts.specs.Seen.{seen, IsKept};
 ghost use Rattle.call_laws.specs.file_truncate.Truncates.{HasNothingStaged};
 ghost use Rattle.world_begins.specs.Turns.{IsBareFor, IsTurn};
 
+use crate::laws;
 use crate::turns::{
-    Begun, NoMemory, Over, Parts, Told, Truncated, add, end_round, fsync,
-    jobs_need_what_their_calls_do, lacks_room, lose_call, needs_now, publish_first, run_call,
-    truncate_file,
+    Begun, NoMemory, Over, Parts, Told, Truncated, add, end_round, fsync, lacks_room, lose_call,
+    needs_now, publish_first, run_call, truncate_file,
 };
 use pm_lines::Power;
 use posix_types::{Call, Handle, Who};
@@ -32,7 +32,7 @@ fn room_lacks(p: &Parts, who: Who, call: &Call) -> Option<(u64, u64)>
     let Call::Truncate(handle, size) = call else {
         return None;
     };
-    jobs_need_what_their_calls_do();
+    laws::jobs_need_what_their_calls_do();
     let needs = needs_now(p, who, call);
     lacks_room(&p.k, &p.files, &p.data, who, *handle, *size, needs)
 }
@@ -54,7 +54,7 @@ fn run_truncate(
     ensures steps { Steps (2 ^ 16) power.old power.new }
     ensures begun { IsBegunNow who (seen p.old) (seen p.new) power.old power.new result }
 {
-    jobs_need_what_their_calls_do();
+    laws::jobs_need_what_their_calls_do();
     let needs = needs_now(p, who, &Call::Truncate(handle, size));
     match truncate_file(
         alloc,

@@ -3,12 +3,13 @@ ghost use Rattle.std.specs.Prelude.{◌≡◌, ◌+◌, ◌^◌, true, if◌then
 ghost use Rattle.world_parts.specs.pm_model.Powers.{is_on, Steps};
 ghost use Rattle.world_begins.specs.Turns.{publishes_by, IsPublishedFirst, IsToPublish, IsTurn};
 
+use crate::laws;
 use crate::turns::turns::lose_call;
 use call_laws::publish_file;
 use pm_lines::Power;
 use posix_types::{Call, Who};
 use std::alloc::Global;
-use world_parts::{Commit, NoMemory, Parts, waits_for, what_stands_may_be_published};
+use world_parts::{Commit, NoMemory, Parts, waits_for};
 
 // Whether what is staged of its file has to be published before the call: that of an `fsync`, of a `truncate`, and of
 // an `open` that cuts.
@@ -64,7 +65,7 @@ pub fn publish_first(
     ensures steps { Steps (if publishes_by call then 2 ^ 25 + 2 ^ 15 else 0) power.old power.new }
     ensures first { IsPublishedFirst who call p.old p.new power.new result }
 {
-    what_stands_may_be_published();
+    laws::what_stands_may_be_published();
     let Some(ino) = file_to_publish(p, who, &call) else {
         return Ok(Some(call));
     };

@@ -6,12 +6,13 @@ ghost use Rattle.world_parts.specs.Answers.{IsBegun};
 ghost use Rattle.world_parts.specs.Seen.{seen, IsKept};
 ghost use Rattle.world_begins.specs.Turns.{IsTurn};
 
+use crate::laws;
 use crate::turns::turns::{end_round, lose_call, needs_now};
-use call_laws::{WriteBegun, begin_write, jobs_need_what_their_calls_do};
+use call_laws::{WriteBegun, begin_write};
 use pm_lines::Power;
 use posix_types::{Call, Data, Handle, Who};
 use std::alloc::Global;
-use world_parts::{Begun, NoMemory, Over, Parts, Pending, add};
+use world_parts::{Begun, JobOut, NoMemory, Over, Parts, add};
 
 /// A write begins, with this copy of itself: it returns, becomes a job, ends the round, or loses its power. All memory of
 /// a job is taken here.
@@ -40,7 +41,7 @@ pub fn begin_put(
     ensures steps { Steps (2 ^ 22) power.old power.new }
     ensures begun { IsBegun who (seen p.old) (seen p.new) power.old power.new result }
 {
-    jobs_need_what_their_calls_do();
+    laws::jobs_need_what_their_calls_do();
     let needs = needs_now(p, who, &call);
     match begin_write(
         alloc,
@@ -61,7 +62,7 @@ pub fn begin_put(
         }
         Ok(WriteBegun::Job { job, blocks }) => {
             let draft = *job.draft();
-            p.pending.push_reserved(Pending {
+            p.pending.push_reserved(JobOut {
                 who,
                 call,
                 draft,

@@ -3,12 +3,13 @@ ghost use Rattle.std.specs.Prelude.{◌≡◌, ◌<◌, ◌+◌, ◌^◌, true, 
 ghost use Rattle.call_laws.specs.write_begin.write_plan.Asks.{HaveLines};
 ghost use Rattle.world_begins.specs.Turns.{IsTurn, needs_by};
 
-use call_laws::{jobs_need_what_their_calls_do, kept_numbers_are_those_of_the_state, need_of};
+use crate::laws;
+use call_laws::need_of;
 use posix_types::{Call, Who};
-use world_parts::{FileTable, OpenFiles, Over, Parts, Pending, Unfinished};
+use world_parts::{FileTable, JobOut, OpenFiles, Over, Parts, Unfinished};
 
 // How many blocks the jobs that are out need together.
-fn needs_out(tables: &OpenFiles, files: &FileTable, pending: &[Pending]) -> u64
+fn needs_out(tables: &OpenFiles, files: &FileTable, pending: &[JobOut]) -> u64
     requires lines { HaveLines tables.now.tables files.now }
     requires small { needs_by tables.now.tables files.now pending.now < 2 ^ 64 }
     ensures { result ≡ needs_by tables.now.tables files.now pending.now }
@@ -25,8 +26,8 @@ pub fn needs_now(p: &Parts, who: Who, call: &Call) -> u64
     requires { IsTurn p.now who call.now }
     ensures { result ≡ needs_by p.now.files.tables p.now.data p.now.pending.items }
 {
-    jobs_need_what_their_calls_do();
-    kept_numbers_are_those_of_the_state();
+    laws::jobs_need_what_their_calls_do();
+    laws::kept_numbers_are_those_of_the_state();
     needs_out(&p.files, &p.data, &p.pending)
 }
 

@@ -7,11 +7,11 @@ ghost use Rattle.world_parts.specs.world_view_laws.Begins.{IsFilledOut};
 ghost use Rattle.world_parts.specs.world_view_laws.Jobs.{over_by, Finishes, GivesUp, IsOfWorld, LosesFinish};
 ghost use Rattle.world_parts.specs.Seen.{seen, IsKept};
 
+use crate::laws;
 use posix_tables::outcomes::answer;
 use posix_types::{Call, Reply};
 use world_parts::{
-    FilledJob, Full, Over, Parts, add, finish_write, finished_writes_end_with_their_files,
-    give_up_write, settle_blocks, take_job,
+    FilledJob, Full, Over, Parts, add, finish_write, give_up_write, settle_blocks, take_job,
 };
 
 // How many bytes a write puts.
@@ -31,10 +31,10 @@ pub fn finish_on(p: &mut Parts, job: FilledJob, slot: u32)
     requires out { p.old.lines_out ≡ true }
     requires job { IsOfWorld (seen p.old) job }
     ensures kept { IsKept p.new }
-    ensures finished { (q : standing.Pending) → IsFilledOut (seen p.old) q job
+    ensures finished { (q : standing.JobOut) → IsFilledOut (seen p.old) q job
         → (power : Supply) → is_on power ≡ true → Finishes slot q (seen p.old) (seen p.new) power }
 {
-    finished_writes_end_with_their_files();
+    laws::finished_writes_end_with_their_files();
     let Some(pending) = take_job(&mut p.pending, job.who()) else {
         unreachable!()
     };
@@ -59,7 +59,7 @@ pub fn finish_off(p: &mut Parts, job: FilledJob, slot: u32)
     requires job { IsOfWorld (seen p.old) job }
     ensures kept { IsKept p.new }
     ensures acts { p.new.acts ≡ p.old.acts }
-    ensures finished { (q : standing.Pending) → IsFilledOut (seen p.old) q job
+    ensures finished { (q : standing.JobOut) → IsFilledOut (seen p.old) q job
         → (power : Supply) → LosesFinish slot q (seen p.old) (seen p.new) power }
 {
     let draft = *job.draft();
@@ -85,7 +85,7 @@ pub fn give_up_on(p: &mut Parts, job: FilledJob, full: Full)
     requires out { p.old.lines_out ≡ true }
     requires job { IsOfWorld (seen p.old) job }
     ensures kept { IsKept p.new }
-    ensures given { (q : standing.Pending) → IsFilledOut (seen p.old) q job
+    ensures given { (q : standing.JobOut) → IsFilledOut (seen p.old) q job
         → GivesUp full q (seen p.old) (seen p.new) }
 {
     let _job = take_job(&mut p.pending, job.who());
@@ -101,7 +101,7 @@ pub fn give_up_off(p: &mut Parts, job: FilledJob, full: Full)
     requires out { p.old.lines_out ≡ true }
     requires job { IsOfWorld (seen p.old) job }
     ensures kept { IsKept p.new }
-    ensures given { (q : standing.Pending) → IsFilledOut (seen p.old) q job
+    ensures given { (q : standing.JobOut) → IsFilledOut (seen p.old) q job
         → GivesUp full q (seen p.old) (seen p.new) }
 {
     let _full = full;

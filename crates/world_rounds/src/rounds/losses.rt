@@ -11,7 +11,7 @@ ghost use Rattle.world_parts.specs.world_view_laws.write_end.Ends.{begun_by};
 ghost use Rattle.world_parts.specs.Seen.{seen, unfinished_of, IsKept};
 ghost use Rattle.world_parts.specs.write_jobs.Jobs.{FilledView, HoldWords};
 
-use crate::job_ends::{Crashed, FilledJob, Job, Parts, Pending, Unfinished, put_lines};
+use crate::job_ends::{Crashed, FilledJob, Job, JobOut, Parts, Unfinished, put_lines};
 use pm_lines::{Line, Loan, Pm};
 use posix_types::{Call, Who};
 
@@ -55,7 +55,7 @@ fn settle_filled(pm: &mut Pm, jobs: Vec<FilledJob>)
 // The calls that had begun and did not return, in the order of their beginning. There is room for them.
 pub(crate) fn calls_of(
     spare: Vec<(Who, Call)>,
-    pending: Vec<Pending>,
+    pending: Vec<JobOut>,
     last: Option<Unfinished>,
 ) -> Vec<(Who, Call)>
     requires empty { spare.items ≡ [] }

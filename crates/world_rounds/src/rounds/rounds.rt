@@ -9,11 +9,8 @@ ghost use Rattle.world_parts.specs.world_view_laws.Rounds.{IsRoundBegun, MayChec
 ghost use Rattle.world_parts.specs.Seen.{seen, IsKept};
 
 use crate::job_ends::{Commit, NoMemory, Parts, gather};
+use crate::laws;
 use pm_lines::{Line, Power};
-use round_laws::{
-    a_checkpoint_ends_a_round, log_lines_go_out, the_lines_of_a_round_come_home,
-    the_lines_of_a_round_may_go_out,
-};
 use std::alloc::Global;
 
 // The words of the lines, line after line, eight each. There is room for them.
@@ -62,8 +59,8 @@ pub fn begin_lines(p: &mut Parts, alloc: Global) -> Result<(Vec<Line>, u64), NoM
     ensures begun { IfOk result (λ out. IsRoundBegun (seen p.old) (seen p.new) out.0.items out.1) }
     ensures err { OnErr result (seen p.new ≡ seen p.old) }
 {
-    log_lines_go_out();
-    the_lines_of_a_round_may_go_out();
+    laws::log_lines_go_out();
+    laws::the_lines_of_a_round_may_go_out();
     let count = log_lines(p);
     let room = Vec::with_capacity(alloc, 8 * count)?;
     let lines = p.k.take_log(alloc)?;
@@ -120,8 +117,8 @@ pub fn end_lines(
     ensures steps { Steps (2 ^ 26) power.old power.new }
     ensures answer { IsCheckpoint (seen p.old) (seen p.new) power.new result }
 {
-    the_lines_of_a_round_come_home();
-    a_checkpoint_ends_a_round();
+    laws::the_lines_of_a_round_come_home();
+    laws::a_checkpoint_ends_a_round();
     p.k.put_log(lines);
     let _lost = p.k.is_lost();
     match gather(alloc, &mut p.k, &mut p.staging, &mut p.data, power) {
@@ -159,6 +156,6 @@ pub fn keep_lines(p: &mut Parts, lines: Vec<Line>)
     ensures kept { IsKept p.new }
     ensures answer { seen p.new ≡ record (seen p.old) { lines_out = false; home = lines.items } }
 {
-    a_checkpoint_ends_a_round();
+    laws::a_checkpoint_ends_a_round();
     keep_home(p, lines);
 }

@@ -6,9 +6,9 @@ ghost use Rattle.world_parts.specs.world_view_laws.Rounds.{MayUnmount};
 ghost use Rattle.world_parts.specs.Seen.{seen, IsKept};
 
 use crate::job_ends::{Commit, Crashed, Ended, NoMemory, Parts, gather};
+use crate::laws;
 use crate::rounds::losses::calls_of;
 use pm_lines::{Line, Power};
-use round_laws::{an_unmount_ends_a_run, the_lines_of_a_round_come_home};
 use std::alloc::Global;
 
 /// The end of a run while the power is on: the lines come home, all that is staged is published, and the device is left,
@@ -33,8 +33,8 @@ pub fn end_run(
     ensures steps { Steps (2 ^ 26) power.old power.new }
     ensures ended { IsEnded (seen p) power.new result }
 {
-    the_lines_of_a_round_come_home();
-    an_unmount_ends_a_run();
+    laws::the_lines_of_a_round_come_home();
+    laws::an_unmount_ends_a_run();
     let mut p = p;
     p.k.put_log(lines);
     let _lost = p.k.is_lost();

@@ -7,9 +7,8 @@ ghost use Rattle.write_begin.specs.Begins.{Found, IsBegun, IsPaid};
 ghost use Rattle.write_begin.specs.Goes.{IsBareAtRest, KeepsMaps};
 
 use crate::begins::rooms::begin_target;
-use crate::stages::{
-    Asked, OpenFiles, ask, kept_numbers_are_those_of_the_state, numbers_are_those_of_the_state,
-};
+use crate::laws;
+use crate::stages::{Asked, OpenFiles, ask};
 use live_step_laws::{KSplit, Staging};
 use pm_lines::Power;
 use posix_types::{Data, Handle, Outcome, Who};
@@ -70,8 +69,8 @@ pub fn begin_write(
     ensures begun { IsBegun who handle offset bytes.now needs k.old k.new tables.now.tables
         staging.old staging.new files.old files.new result }
 {
-    numbers_are_those_of_the_state();
-    kept_numbers_are_those_of_the_state();
+    laws::numbers_are_those_of_the_state();
+    laws::kept_numbers_are_those_of_the_state();
     let blocks = k.geometry().data_blocks();
     let new = bytes.bytes.as_slice();
     match ask(tables, files, who, handle, offset, new.len(), blocks, needs) {

@@ -1,5 +1,6 @@
 //! Room for a write, and its job.
 ghost use Rattle.std.specs.Prelude.{◌≡◌, ◌+◌, ◌*◌, ◌≤◌, ◌^◌, true, length, Contains};
+ghost use Rattle.block_counts.specs.declared.TheConstants.{LONGEST_FILE, LONGEST_WRITE};
 ghost use Rattle.write_plan.specs.pm_model.Powers.{is_on, Steps};
 ghost use Rattle.write_plan.specs.file_table.Files.{size_in, spare_in};
 ghost use Rattle.zero_fill.specs.Zeros.{ReadZero};
@@ -10,19 +11,20 @@ ghost use Rattle.write_begin.specs.Stages.{Ready};
 ghost use Rattle.zero_fill.specs.Gaps.{block_start};
 
 use crate::begins::beginning::WriteBegun;
-use crate::stages::{Target, blocks_are_zeroed_in_flight, clear_gap, stage_write};
+use crate::laws;
+use crate::stages::{Target, clear_gap, stage_write};
 use block_counts::blocks_for;
-use live_step_laws::{KSplit, StageFault, StageRun, Staging, a_run_is_reserved_in_flight};
+use live_step_laws::{KSplit, StageFault, StageRun, Staging};
 use pm_lines::Power;
 use posix_types::Who;
 use std::alloc::{AllocError, Global};
-use write_plan::{Commit, FileTable, the_first_write_finds_its_blocks};
+use write_plan::{Commit, FileTable};
 
 // How many blocks a write of `len` bytes stages.
 fn count_of(target: Target, len: usize) -> u32
     requires some { 1 ≤ len }
-    requires most { len ≤ 131072 }
-    requires fits { target.start + len ≤ 16777216 }
+    requires most { len ≤ LONGEST_WRITE }
+    requires fits { target.start + len ≤ LONGEST_FILE }
     ensures count { result ≡ staged_count target.start len }
     ensures least { 1 ≤ result }
     ensures most { result ≤ 33 }
@@ -85,9 +87,9 @@ fn begin_cleared(
     ensures gone { IsGone k.old k.new staging.old staging.new files.now files.now who target
         bytes.now result }
 {
-    a_run_is_reserved_in_flight();
-    blocks_are_zeroed_in_flight();
-    the_first_write_finds_its_blocks();
+    laws::a_run_is_reserved_in_flight();
+    laws::blocks_are_zeroed_in_flight();
+    laws::the_first_write_finds_its_blocks();
     let _size = files.size(target.ino);
     let count = count_of(target, bytes.len());
     match staging.reserve(alloc, k, count, power) {

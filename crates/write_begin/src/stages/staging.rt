@@ -3,14 +3,13 @@ ghost use Rattle.std.specs.Prelude.{◌≡◌, ◌<◌, ◌+◌, ◌^◌, ◌≤
 ghost use Rattle.write_jobs.specs.Jobs.{blocks_of};
 ghost use Rattle.write_begin.specs.Stages.{IsJobOf, IsStaged, Ready};
 
-use live_step_laws::{Collection, FileTable, StageRun, a_job_begins_in_flight};
+use crate::laws;
+use live_step_laws::{Collection, FileTable, StageRun};
 use pm_lines::Loan;
 use posix_types::Who;
 use std::alloc::{AllocError, Global};
 use write_jobs::{Job, KSplit, lend_blocks};
-use write_plan::{
-    Target, draft_of, entries_are_the_next_ones, words_of_write, words_spell_the_file,
-};
+use write_plan::{Target, draft_of, words_of_write};
 
 /// A write that is staged: its job, and the disk blocks that it was lent, in the order of the entry's blocks.
 #[derive(Debug, Drop)]
@@ -54,9 +53,9 @@ pub fn stage_write(
     ensures same { k.new ≡ record k.old { cells = k.new.cells } }
     ensures err { OnErr result (k.new ≡ k.old) }
 {
-    a_job_begins_in_flight();
-    entries_are_the_next_ones();
-    words_spell_the_file();
+    laws::a_job_begins_in_flight();
+    laws::entries_are_the_next_ones();
+    laws::words_spell_the_file();
     let mut blocks = Vec::with_capacity(alloc, run.count as usize)?;
     let draft = draft_of(k, files, target, bytes.len() as u32, &run);
     let mut collection = Collection::new(alloc);

@@ -1,5 +1,6 @@
 //! How a write goes.
 ghost use Rattle.std.specs.Prelude.{◌≡◌, ◌≤◌, ◌<◌, ◌+◌, length};
+ghost use Rattle.block_counts.specs.declared.TheConstants.{LONGEST_FILE};
 ghost use Rattle.file_table.specs.Files.{size_in};
 ghost use Rattle.write_plan.specs.Asks.{HaveLines, IsAsked, IsBeside, start_by};
 
@@ -41,7 +42,7 @@ fn target_of(files: &FileTable, opened: &Opened, at: Option<u64>) -> Target
     ensures ino { result.ino ≡ opened.now.ino }
     ensures start { result.start ≡ start_by files.now opened.now at }
     ensures size { result.size ≡ size_in files.now opened.now.ino }
-    ensures small { result.size ≤ 16777216 }
+    ensures small { result.size ≤ LONGEST_FILE }
 {
     let start = match at {
         Some(place) => place,
@@ -56,8 +57,8 @@ fn target_of(files: &FileTable, opened: &Opened, at: Option<u64>) -> Target
 
 // Whether the writes that are out leave room for one that no row refuses.
 fn beside(target: Target, len: usize, room: u64, needs: u64) -> Asked
-    requires size { target.size ≤ 16777216 }
-    requires end { target.start + len ≤ 16777216 }
+    requires size { target.size ≤ LONGEST_FILE }
+    requires end { target.start + len ≤ LONGEST_FILE }
     ensures { IsBeside target len room needs result }
 {
     let need = write_need(

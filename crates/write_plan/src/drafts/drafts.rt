@@ -1,5 +1,6 @@
 //! The entry that a line is to hold.
 ghost use Rattle.std.specs.Prelude.{◌≡◌, ◌≤◌, ◌<◌, ◌+◌, ◌^◌, length};
+ghost use Rattle.block_counts.specs.declared.TheConstants.{LONGEST_FILE};
 ghost use Rattle.layout_model.specs.declared.lines.Kind.TheVariants.{File};
 ghost use Rattle.layout_model.specs.EntryLaws.{FitsDraft};
 ghost use Rattle.live_model.specs.image_model.Volume.{inode};
@@ -28,7 +29,7 @@ fn order_behind(applied: u64, runs: &[Run]) -> u64
 pub fn draft_of(k: &KSplit, files: &FileTable, target: Target, len: u32, run: &StageRun) -> Draft
     requires file { (inode k.now.volume target.ino).kind ≡ File }
     requires below { target.ino < length files.now.sizes }
-    requires fits { target.start + len ≤ 16777216 }
+    requires fits { target.start + len ≤ LONGEST_FILE }
     requires few { run.now.count ≤ 33 }
     requires order { order_behind (inode k.now.volume target.ino).applied
         (runs_in files.now target.ino) < 2 ^ 64 }

@@ -33,9 +33,9 @@ fn blocks_row(need: u64, room: u64) -> Option<Outcome>
 /// where it is done. `may` says whether the handle may write; the file has `size` bytes, 16,777,216 at
 /// most, and `room` blocks are left.
 pub fn write_row(may: bool, start: u64, len: usize, size: u64, room: u64) -> Option<Outcome>
-    requires { size ≤ 16777216 }
+    requires { size ≤ LONGEST_FILE }
     ensures row { result ≡ write_row_by may start len size room }
-    ensures fits { IfNone result (start + len ≤ 16777216) }
+    ensures fits { IfNone result (start + len ≤ LONGEST_FILE) }
 {
     if !may {
         return refused(Errno::EBADF);
@@ -58,7 +58,7 @@ pub fn write_row(may: bool, start: u64, len: usize, size: u64, room: u64) -> Opt
 /// The outcome of a `truncate` to `len` bytes that a row refuses; None where it is done.
 pub fn truncate_row(may: bool, len: u64, size: u64, room: u64) -> Option<Outcome>
     ensures row { result ≡ truncate_row_by may len size room }
-    ensures fits { IfNone result (len ≤ 16777216) }
+    ensures fits { IfNone result (len ≤ LONGEST_FILE) }
 {
     if !may {
         return refused(Errno::EBADF);

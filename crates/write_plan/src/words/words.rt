@@ -1,5 +1,6 @@
 //! The words of a write.
 ghost use Rattle.std.specs.Prelude.{◌≡◌, ◌≤◌, ◌<◌, ◌+◌, ◌*◌, ◌/◌, length, IfOk};
+ghost use Rattle.block_counts.specs.declared.TheConstants.{LONGEST_FILE};
 ghost use Rattle.live_model.specs.image_model.Volume.{extents};
 ghost use Rattle.live_model.specs.file_reads.Reads.{FileCanBeRead};
 ghost use Rattle.file_table.specs.Files.{runs_in, size_in};
@@ -24,7 +25,7 @@ pub fn words_of_write(
     requires there { target.ino < length k.now.volume.inodes }
     requires below { target.ino < length files.now.sizes }
     requires size { target.size ≡ size_in files.now target.ino }
-    requires start { target.start ≤ 16777216 }
+    requires start { target.start ≤ LONGEST_FILE }
     requires few { count ≤ 33 }
     requires fits { target.start + length new.now ≤ 4096 * (target.start / 4096 + count) }
     requires readable { FileCanBeRead k.now.volume k.now.cells (runs_in files.now target.ino)

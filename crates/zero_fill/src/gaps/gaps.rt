@@ -10,9 +10,8 @@ ghost use Rattle.zero_fill.specs.Zeros.{staged_place};
 ghost use Rattle.k_split_laws.specs.k_split.Loans.{MayLend};
 ghost use Rattle.zero_fill.specs.Gaps.{block_start, HasFile, IsBlockCleared, IsCleared, IsClearPaid, IsZeroed};
 
-use crate::zeros::{
-    FileTable, blocks_are_zeroed_in_flight, the_end_of_a_file_is_cleaned_in_flight,
-};
+use crate::laws;
+use crate::zeros::FileTable;
 use extent_map::ExtentMap;
 use k_journal::Commit;
 use k_split::KSplit;
@@ -86,8 +85,8 @@ fn zero_block(k: &mut KSplit, files: &FileTable, ino: u32, from: u64, power: &mu
     ensures paid { IsClearPaid power.new result }
     ensures answer { IsBlockCleared ino files.now from k.old k.new result }
 {
-    blocks_are_zeroed_in_flight();
-    the_end_of_a_file_is_cleaned_in_flight();
+    laws::blocks_are_zeroed_in_flight();
+    laws::the_end_of_a_file_is_cleaned_in_flight();
     match files.overlay(ino).find((from / 4096) as u32) {
         Some((staging, block)) => zero_staged(k, staging, block, from, power),
         None => zero_mapped(k, ino, from, power),

@@ -5,7 +5,7 @@ use Rattle.image_model.specs.Volume.{volume}
 use Rattle.image_layout.specs.pm_model.Images.{words_of}
 use Rattle.k_reading.proofs.NameRows.{AreRead, row-volume, count-volume, read-none, read-name, read-free, read-all, name-new}
 use Rattle.k_reading.proofs.lines.read_names.Goals as goal
-use Rattle.k_reading.proofs.lines.read_names.Goals.{in-Some, in_default}
+use Rattle.k_reading.proofs.lines.read_names.Goals.{in-Some+in_ok-set, in_default}
 
 pub loop-line-init : goal.loop-line-init
 loop-line-init c =
@@ -31,9 +31,9 @@ loop-line-preserved c =
     let below : c.loop-line.line < g.names = omega (arith, c.loop-line-test.true, names) in
     let read = c.in_ok-name.ensures ∙ sym (row-volume g f c.loop-line.line below) in
     elim c.match-branch-3.branch [
-      | in-Some w ↦
+      | in-Some+in_ok-set w ↦
           read-name c.loop-line.names (volume g f).names c.match-branch-3.names c.loop-line.line w.in-Some.name
-          c.loop-line.invariant (omega (arith, below, count-volume g f)) (sym w.in-Some.is ∙ read) (w.names-is ∙ w.set.ensures)
+          c.loop-line.invariant (omega (arith, below, count-volume g f)) (sym w.in-Some.is ∙ read) (w.names-is ∙ w.in_ok-set.ensures.set)
       | in_default w ↦
           subst (λ (rows : Rows). AreRead rows (volume g f).names (c.loop-line.line + 1)) (sym w.names-is)
           (read-free c.loop-line.names (volume g f).names c.loop-line.line c.loop-line.invariant (sym w.in_default.is ∙ read))

@@ -5,7 +5,7 @@ use Rattle.pm_lines.specs.pm_model.Cells.{cell, is_lent, flushed, fenced}
 use Rattle.pm_lines.specs.pm_model.Powers.{is_on, Steps}
 use Rattle.map_chain.proofs.writing.write_line.Given as goal
 
--- the words before k are stored, the others are as they were
+-- the words before k are stored where they differ, the others are as they were; where none was stored none has changed
 abbrev pub invariant-loop-k : goal.invariant-loop-k
 invariant-loop-k l = record {
   size : length l.pm ≡ length l.fn.pm;
@@ -14,5 +14,6 @@ invariant-loop-k l = record {
   later : (i : ℕ) → i / 8 ≡ 64 * l.block + l.line → l.k ≤ i % 8 → cell l.pm i ≡ cell l.fn.pm i;
   lent : (i : ℕ) → is_lent (cell l.pm i) ≡ is_lent (cell l.fn.pm i);
   home : (i : ℕ) → i / 8 ≡ 64 * l.block + l.line → is_lent (cell l.pm i) ≡ false;
+  same : l.changed ≡ false → (i : ℕ) → i / 8 ≡ 64 * l.block + l.line → cell l.pm i ≡ cell l.fn.pm i;
   done : is_on l.power ≡ true → (i : ℕ) → i / 8 ≡ 64 * l.block + l.line → i % 8 < l.k → fenced (flushed (cell l.pm i)) ≡ Single (chain_word l.next l.extents (i % 512));
 }

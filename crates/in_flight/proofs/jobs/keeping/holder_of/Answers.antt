@@ -4,14 +4,14 @@ use Rattle.open_files.specs.posix_tables.Open.{same_who}
 use Rattle.std.proofs.lemmas.Bool.{cases_lt}
 use Rattle.std.proofs.lemmas.Option.{slice_get_within}
 use Rattle.open_files.specs.list_laws.Members.{In, slice_get-In}
-use Rattle.live_model.specs.Standing.{Pending}
+use Rattle.live_model.specs.Standing.{JobOut}
 use Rattle.in_flight.proofs.Taking.{at_index, held, not_held, there}
 use Rattle.in_flight.proofs.jobs.keeping.holder_of.Goals as goal
 
 pub returns-then-is_held : goal.returns-then-is_held
 returns-then-is_held c =
     let parts = held c.job-item.result c.args.ino c.args.who (sym c.is_held.ensures ∙ c.if-is_held.true) in
-    (c.job-item.result, subst (λ (p : Pending). In p c.args.pending.now) (sym c.job-item.is) (there c.args.pending.now c.loop-job.job-index c.job-item.result (omega (arith, c.loop-job-test.true))), parts.0, sym (ap (λ (p : Pending). p.who) c.job.view_is), parts.1)
+    (c.job-item.result, subst (λ (p : JobOut). In p c.args.pending.now) (sym c.job-item.is) (there c.args.pending.now c.loop-job.job-index c.job-item.result (omega (arith, c.loop-job-test.true))), parts.0, sym (ap (λ (p : JobOut). p.who) c.job.view_is), parts.1)
 
 pub loop-job-preserved : goal.loop-job-preserved
 loop-job-preserved c i p below at file = elim (cases_lt i c.loop-job.job-index) [
@@ -19,7 +19,7 @@ loop-job-preserved c i p below at file = elim (cases_lt i c.loop-job.job-index) 
   | inr from ↦
       let index : i ≡ c.loop-job.job-index = omega (arith, below, from) in
       let item : c.job-item.result ≡ p = c.job-item.is ∙ at_index c.args.pending.now c.loop-job.job-index p c.job-item.result (subst (λ (n : ℕ). slice_get c.args.pending.now n ≡ Some p) index at) in
-      not_held p c.args.ino c.args.who (subst (λ (q : Pending). (not (same_who q.who c.args.who) && (q.draft.ino == c.args.ino)) ≡ false) item (sym c.is_held.ensures ∙ c.if-is_held.false)) file
+      not_held p c.args.ino c.args.who (subst (λ (q : JobOut). (not (same_who q.who c.args.who) && (q.draft.ino == c.args.ino)) ≡ false) item (sym c.is_held.ensures ∙ c.if-is_held.false)) file
 ]
 
 pub returns : goal.returns

@@ -5,7 +5,7 @@ use Rattle.k_plans.specs.image_model.Volume.{Volume, chain}
 use Rattle.k_relink.specs.extent_model.Extents.{IsCanonical}
 use Rattle.k_relink.specs.extent_model.declared.extent_words.Extent.{Extent}
 use Rattle.k_plans.specs.PlanLaws.{turns-none}
-use Rattle.k_plans.specs.k_journal.declared.batches.Entry.{Entry}
+use Rattle.k_plans.specs.k_journal.declared.batches.Record.{Record}
 use Rattle.k_plans.specs.LandingsPlans.{NewChain, Turns}
 use Rattle.k_plans.specs.LandingsPlans.IsMapFrom.{NewMap}
 use Rattle.k_plans.specs.Free.{is_free_block}
@@ -84,6 +84,6 @@ returns-clause-gone c =
           (subst (λ (y : Volume). Turns y.geometry (new ∷ []) t.volume c.switch.new.self.volume c.switch.new.batch) vol turns)
           (ap (λ (x : TablesView). x.volume.geometry) c.switch.ensures.switched ∙ ap (λ (y : Volume). y.geometry) vol)
           c.switch.ensures.some
-          (omega (arith, c.switch.ensures.count, ap (λ (b : List Entry). length b) c.requires.empty))
+          (omega (arith, c.switch.ensures.count, ap (λ (b : List Record). length b) c.requires.empty))
           c.switch.ensures.whole;
     }

@@ -2,7 +2,7 @@ use Rattle.std.proofs.Common.{List, ap, subst, sym}
 use Rattle.std.specs.Prelude.{slice_index_or}
 use Rattle.layout_model.specs.declared.lines.Inode.{Inode}
 use Rattle.k_plans.specs.image_model.Volume.{free_inode}
-use Rattle.k_plans.specs.k_journal.declared.batches.Entry.{Entry}
+use Rattle.k_plans.specs.k_journal.declared.batches.Record.{Record}
 use Rattle.k_plans.specs.LandingsPlans.{Turns}
 use Rattle.k_plans.specs.View.{TablesView}
 use Rattle.k_plans.specs.k_split_model.MapChangesChanges.{with_length}
@@ -23,4 +23,4 @@ returns-clause-turns c news v from1 from2 turns =
     (c.switch.ensures.turns news v)
     (c.switch-2.ensures.turns news v)
     from1 from2
-    (subst (λ (b : List Entry). Turns t.geometry news v t b) (sym c.requires.empty) turns)
+    (subst (λ (b : List Record). Turns t.geometry news v t b) (sym c.requires.empty) turns)

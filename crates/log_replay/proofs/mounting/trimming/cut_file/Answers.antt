@@ -1,12 +1,12 @@
 use Rattle.std.proofs.Common.{subst, sym, ◌≤◌}
-use Rattle.layout_model.specs.Lines.{most_bytes}
+use Rattle.layout_model.specs.block_counts.declared.TheConstants.{LONGEST_FILE}
 use Rattle.staging_files.specs.k_split.MapChanges.{IsSizedWith}
 use Rattle.log_replay.proofs.Devices.{device-mapped}
 use Rattle.log_replay.proofs.Trims.{room-there, size-fits, size-images}
 use Rattle.log_replay.proofs.mounting.trimming.cut_file.Goals as goal
 
 pub set_size-requires-clause-size : goal.set_size-requires-clause-size
-set_size-requires-clause-size c = subst (λ n. n ≤ most_bytes) (sym c.requires.own) (size-fits c.args.k.now c.args.ino c.requires.quiet c.requires.file)
+set_size-requires-clause-size c = subst (λ n. n ≤ LONGEST_FILE) (sym c.requires.own) (size-fits c.args.k.now c.args.ino c.requires.quiet c.requires.file)
 
 pub set_size-requires-clause-room : goal.set_size-requires-clause-room
 set_size-requires-clause-room c on = room-there c.args.k.now c.requires.quiet

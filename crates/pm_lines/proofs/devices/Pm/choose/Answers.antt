@@ -3,7 +3,7 @@ use Rattle.pm_lines.proofs.LentCells.{all_home}
 use Rattle.pm_lines.proofs.devices.Pm.choose.Goals as goal
 
 pub chosen_bytes-requires : goal.chosen_bytes-requires
-chosen_bytes-requires c = omega (arith, c.self.invariant.size)
+chosen_bytes-requires c = omega (arith, c.self.invariant.blocks)
 
 pub returns-clause-image : goal.returns-clause-image
 returns-clause-image c =

@@ -14,10 +14,10 @@ cells : (c : goal.In_ok-lent) (i : ℕ) → cell c.in_ok-words.words i ≡ Singl
 cells c i = c.in_ok-words.ensures.cells i ∙ ap Single (ap (λ (xs : List ℕ). get_or xs i 0) c.in_ok-words_of_bytes.ensures ∙ image_word c.args.bytes.now i (omega arith))
 
 pub invariant_of-result : goal.invariant_of-result
-invariant_of-result c = rw c.in_ok-lent.ensures (made_lines _ _ (word_at c.args.bytes.now) (omega (arith, sized c, c.len.ensures)) (cells c))
+invariant_of-result c = rw c.in_ok-lent.ensures (made_lines _ _ (word_at c.args.bytes.now) (omega (arith, sized c, c.len.ensures)) (omega (arith, sized c)) (cells c))
 
 pub returns-clause-size : goal.returns-clause-size
 returns-clause-size c = rw (length-with_lent c.in_ok-lent.lent.items c.in_ok-words.words) (omega (arith, sized c))
 
 pub returns-clause-words : goal.returns-clause-words
-returns-clause-words c i = rw c.in_ok-lent.ensures (made_cells _ _ (word_at c.args.bytes.now) (omega (arith, sized c, c.len.ensures)) (cells c) i)
+returns-clause-words c i = rw c.in_ok-lent.ensures (made_cells _ _ (word_at c.args.bytes.now) (omega (arith, sized c, c.len.ensures)) (omega (arith, sized c)) (cells c) i)

@@ -1,5 +1,5 @@
 use Rattle.std.proofs.Common.{◌∙◌, ap, sym, subst}
-use Rattle.world_begins.specs.world_parts.in_flight.live_model.Standing.{Pending}
+use Rattle.world_begins.specs.world_parts.in_flight.live_model.Standing.{JobOut}
 use Rattle.world_begins.specs.world_parts.world_view_laws.Begins.{IsFilledOut}
 use Rattle.world_begins.specs.world_parts.world_view_laws.Jobs.{Finishes, IsOfWorld, LosesFinish}
 use Rattle.world_begins.specs.world_parts.world_view_laws.Views.{WorldView}
@@ -9,7 +9,7 @@ use Rattle.split_world.proofs.world.World.finish.Goals as goal
 
 pub returns-then-self-clause-finished : goal.returns-then-self-clause-finished
 returns-then-self-clause-finished c =
-    subst (λ (w : WorldView). (q : Pending) → IsFilledOut w q c.args.job → LosesFinish c.args.slot q w (seen c.finish_off.new.p) c.args.power.now) c.self.view_is
+    subst (λ (w : WorldView). (q : JobOut) → IsFilledOut w q c.args.job → LosesFinish c.args.slot q w (seen c.finish_off.new.p) c.args.power.now) c.self.view_is
     (λ q is. c.finish_off.ensures.finished q is c.args.power.now)
 
 pub finish_off-requires-then-not-on-clause-job : goal.finish_off-requires-then-not-on-clause-job
@@ -19,7 +19,7 @@ finish_off-requires-then-not-on-clause-job c =
 
 pub returns-then-not-on-clause-finished : goal.returns-then-not-on-clause-finished
 returns-then-not-on-clause-finished c =
-    subst (λ (w : WorldView). (q : Pending) → IsFilledOut w q c.args.job → LosesFinish c.args.slot q w (seen c.finish_off-then-not-on.new.p) c.args.power.now) c.self.view_is
+    subst (λ (w : WorldView). (q : JobOut) → IsFilledOut w q c.args.job → LosesFinish c.args.slot q w (seen c.finish_off-then-not-on.new.p) c.args.power.now) c.self.view_is
     (λ q is. loses_first c.self.inside.parts c.if-self.false c.args.slot q c.args.job c.finish_off-then-not-on.new.p c.args.power.now (sym c.on.ensures ∙ c.if-not-on.true)
     (c.finish_off-then-not-on.ensures.acts ∙ ap (λ p. p.acts) c.lose_one.ensures.lost)
     (subst (λ (w : WorldView). LosesFinish c.args.slot q w (seen c.finish_off-then-not-on.new.p) c.args.power.now) (ap seen c.lose_one.ensures.lost)
@@ -27,5 +27,5 @@ returns-then-not-on-clause-finished c =
 
 pub returns-clause-finished : goal.returns-clause-finished
 returns-clause-finished c =
-    subst (λ (w : WorldView). (q : Pending) → IsFilledOut w q c.args.job → Finishes c.args.slot q w (seen c.finish_on.new.p) c.args.power.now) c.self.view_is
+    subst (λ (w : WorldView). (q : JobOut) → IsFilledOut w q c.args.job → Finishes c.args.slot q w (seen c.finish_on.new.p) c.args.power.now) c.self.view_is
     (λ q is. c.finish_on.ensures.finished q is c.args.power.now (sym c.on.ensures ∙ c.if-not-on.false))

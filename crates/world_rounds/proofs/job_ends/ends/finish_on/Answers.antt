@@ -2,7 +2,7 @@ use Rattle.std.proofs.Common.{◌≡◌, ◌∙◌, ap, ℕ, sym}
 use Rattle.posix_types.specs.declared.call.Who.{Who}
 use Rattle.posix_types.specs.declared.reply.Reply.{Reply}
 use Rattle.posix_tables.specs.Outcomes.{answer}
-use Rattle.world_parts.specs.in_flight.live_model.Standing.{Pending}
+use Rattle.world_parts.specs.in_flight.live_model.Standing.{JobOut}
 use Rattle.world_parts.specs.in_flight.live_model.Jobs.{without}
 use Rattle.world_rounds.proofs.Finishes.{callers, finished_kept, finished_so, may_add, may_finish, room_for_claim, taken_is}
 use Rattle.world_rounds.proofs.job_ends.ends.finish_on.Goals as goal
@@ -16,14 +16,14 @@ unreachable-requires c = c.in_default.ensures.none c.requires.job.0 c.requires.j
 pub finish_write-requires-clause-job : goal.finish_write-requires-clause-job
 finish_write-requires-clause-job c =
     let taken = c.in-Some.ensures.some in
-    let view : Pending = record { who = c.pending.inside.who; call = c.pending.inside.call; draft = c.pending.inside.draft; blocks = c.pending.inside.blocks.items } in
+    let view : JobOut = record { who = c.pending.inside.who; call = c.pending.inside.call; draft = c.pending.inside.draft; blocks = c.pending.inside.blocks.items } in
     may_finish c.args.p.now c.requires.kept c.requires.awake c.requires.out c.args.job c.requires.job.0 c.requires.job.1 view
     (c.pending.view_is ∙ taken_is c.args.p.now c.requires.kept c.requires.awake c.requires.out c.args.job c.requires.job.0 c.requires.job.1 c.in-Some.pending taken.0 (taken.1 ∙ c.who.ensures))
 
 pub add-requires : goal.add-requires
 add-requires c =
     let taken = c.in-Some.ensures.some in
-    let view : Pending = record { who = c.pending.inside.who; call = c.pending.inside.call; draft = c.pending.inside.draft; blocks = c.pending.inside.blocks.items } in
+    let view : JobOut = record { who = c.pending.inside.who; call = c.pending.inside.call; draft = c.pending.inside.draft; blocks = c.pending.inside.blocks.items } in
     let same : view ≡ c.requires.job.0 = c.pending.view_is ∙ taken_is c.args.p.now c.requires.kept c.requires.awake c.requires.out c.args.job c.requires.job.0 c.requires.job.1 c.in-Some.pending taken.0 (taken.1 ∙ c.who.ensures) in
     let left = c.in-Some.ensures.left ∙ ap (λ (w : Who). without w c.args.p.now.pending.items) c.who.ensures in
     let replied = c.answer-outcome.ensures ∙ ap (λ (n : ℕ). answer (Reply.Count n)) c.put_count.ensures in
@@ -32,7 +32,7 @@ add-requires c =
 pub returns-clause-kept : goal.returns-clause-kept
 returns-clause-kept c =
     let taken = c.in-Some.ensures.some in
-    let view : Pending = record { who = c.pending.inside.who; call = c.pending.inside.call; draft = c.pending.inside.draft; blocks = c.pending.inside.blocks.items } in
+    let view : JobOut = record { who = c.pending.inside.who; call = c.pending.inside.call; draft = c.pending.inside.draft; blocks = c.pending.inside.blocks.items } in
     let same : view ≡ c.requires.job.0 = c.pending.view_is ∙ taken_is c.args.p.now c.requires.kept c.requires.awake c.requires.out c.args.job c.requires.job.0 c.requires.job.1 c.in-Some.pending taken.0 (taken.1 ∙ c.who.ensures) in
     let left = c.in-Some.ensures.left ∙ ap (λ (w : Who). without w c.args.p.now.pending.items) c.who.ensures in
     let replied = c.answer-outcome.ensures ∙ ap (λ (n : ℕ). answer (Reply.Count n)) c.put_count.ensures in
@@ -41,7 +41,7 @@ returns-clause-kept c =
 pub returns-clause-finished : goal.returns-clause-finished
 returns-clause-finished c q is power on =
     let taken = c.in-Some.ensures.some in
-    let view : Pending = record { who = c.pending.inside.who; call = c.pending.inside.call; draft = c.pending.inside.draft; blocks = c.pending.inside.blocks.items } in
+    let view : JobOut = record { who = c.pending.inside.who; call = c.pending.inside.call; draft = c.pending.inside.draft; blocks = c.pending.inside.blocks.items } in
     let same : view ≡ q = c.pending.view_is ∙ taken_is c.args.p.now c.requires.kept c.requires.awake c.requires.out c.args.job q is c.in-Some.pending taken.0 (taken.1 ∙ c.who.ensures) in
     let left = c.in-Some.ensures.left ∙ ap (λ (w : Who). without w c.args.p.now.pending.items) c.who.ensures in
     let replied = c.answer-outcome.ensures ∙ ap (λ (n : ℕ). answer (Reply.Count n)) c.put_count.ensures in

@@ -1,6 +1,6 @@
 use Rattle.std.proofs.Common.{List, sym, subst}
 use Rattle.world_parts.specs.pm_model.declared.Cell.{Cell}
-use Rattle.world_parts.specs.posix_spec.Run.{Begun}
+use Rattle.world_parts.specs.posix_spec.Run.{Unfinished}
 use Rattle.world_parts.specs.world_view_laws.Handed.{loans_out}
 use Rattle.world_parts.specs.world_view_laws.write_end.Blocks.{ComeHome}
 use Rattle.world_parts.specs.world_view_laws.Rounds.{IsLeft}
@@ -39,7 +39,7 @@ put_lines-requires-clause-out c =
 
 pub returns : goal.returns
 returns c =
-    subst (λ (calls : List Begun). IsLeft (seen c.args.p) c.put_lines.new.pm c.args.p.history.items calls) (sym c.calls_of.ensures)
+    subst (λ (calls : List Unfinished). IsLeft (seen c.args.p) c.put_lines.new.pm c.args.p.history.items calls) (sym c.calls_of.ensures)
     (left_now c.args.p c.requires.kept c.requires.gone c.args.lines.items c.args.out.items c.args.filled.items c.requires.may c.settle_out.new.pm
     (subst (λ (d : List Cell). ComeHome (loans_out c.args.out.items) d c.settle_out.new.pm) c.into_pm-pm.ensures c.settle_out.ensures) c.settle_filled.new.pm c.settle_filled.ensures.home
     c.lines_back.result.items c.lines_back.ensures c.log_line-first.result c.log_line-first.ensures c.settle_filled.ensures.holds c.put_lines.new.pm c.put_lines.ensures.size c.put_lines.ensures.back c.put_lines.ensures.home)

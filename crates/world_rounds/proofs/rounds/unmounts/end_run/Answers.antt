@@ -9,6 +9,10 @@ use Rattle.world_parts.specs.world_view_laws.Views.{calls_out}
 use Rattle.world_parts.specs.Seen.{seen}
 use Rattle.world_rounds.proofs.rounds.unmounts.end_run.Goals as goal
 
+pub put_log-requires-clause-lines : goal.put_log-requires-clause-lines
+put_log-requires-clause-lines c =
+    (c.the_lines_of_a_round_come_home.ensures.may c.args.p.k c.args.p.files.tables c.args.p.staging c.args.p.data (seen c.args.p) c.args.lines.items c.requires.kept.world c.requires.awake c.requires.may.lines_are).lines_are
+
 pub put_log-requires-clause-out : goal.put_log-requires-clause-out
 put_log-requires-clause-out c =
     (c.the_lines_of_a_round_come_home.ensures.may c.args.p.k c.args.p.files.tables c.args.p.staging c.args.p.data (seen c.args.p) c.args.lines.items c.requires.kept.world c.requires.awake c.requires.may.lines_are).out

@@ -2,7 +2,7 @@ use Rattle.std.proofs.Common.{◌≡◌, ◌<◌, ◌≤◌, ◌+◌, ◌/◌, �
 use Rattle.write_plan.specs.pm_model.Cells.{cell, is_lent}
 use Rattle.write_plan.specs.pm_model.Parts.{Part}
 use Rattle.layout_model.specs.declared.lines.Draft.{Draft}
-use Rattle.layout_model.specs.Lines.{most_bytes}
+use Rattle.layout_model.specs.block_counts.declared.TheConstants.{LONGEST_FILE}
 use Rattle.file_overlay.specs.declared.runs.Run.{Run}
 use Rattle.write_plan.specs.file_table.Files.{ChangesFile, runs_in}
 use Rattle.write_jobs.specs.world_image_laws.k_split_model.View.{View}
@@ -54,7 +54,7 @@ lay-requires-clause-in_staging c =
 pub lay-requires-clause-small : goal.lay-requires-clause-small
 lay-requires-clause-small c =
     let may = may_lay c.args.k.now c.args.job c.requires.job.0 c.args.files.now c.requires.job.1.files_are in
-    subst (λ (d : Draft). d.size ≤ most_bytes) (sym c.draft.ensures.draft) may.small
+    subst (λ (d : Draft). d.size ≤ LONGEST_FILE) (sym c.draft.ensures.draft) may.small
 
 pub returns-clause-leaves : goal.returns-clause-leaves
 returns-clause-leaves c = λ has write.

@@ -7,7 +7,7 @@ use Rattle.k_tables.specs.image_model.Volume.{chain, extents, free_inode, inode}
 use Rattle.k_tables.specs.extent_model.declared.extent_words.Extent.{Extent}
 use Rattle.k_tables.specs.extent_model.Extents.{holds_disk}
 use Rattle.k_tables.specs.image_model.Placed.{extent_at}
-use Rattle.k_journal.specs.declared.batches.Entry.{Entry}
+use Rattle.k_journal.specs.declared.batches.Record.{Record}
 use Rattle.k_plans.specs.LandingsPlans.{Turns}
 use Rattle.k_plans.specs.LandingsPlans.IsMapFrom.{NoMap}
 use Rattle.k_plans.specs.PlanLaws.{turns-none}
@@ -106,6 +106,6 @@ returns-clause-plan c =
     (c.put_inode.ensures.turns [] v v [] []
     (NoMap (ap (λ (x : Inode). x.root) (gone_is c)) (ap (λ (x : Inode). x.extents) (gone_is c)) refl refl)
     (subst (Turns c.self.inside.geometry [] v v) (sym c.requires.empty) (turns-none c.self.inside.geometry [] v))))
-    c.put_inode.ensures.some (omega (arith, c.put_inode.ensures.count, ap (λ (b : List Entry). length b) c.requires.empty))
+    c.put_inode.ensures.some (omega (arith, c.put_inode.ensures.count, ap (λ (b : List Record). length b) c.requires.empty))
     (dropped-staged v c.args.ino c.self.invariant.whole (may c))
     (dropped-whole v c.args.ino c.self.invariant.whole (may c))

@@ -1,4 +1,3 @@
-use Rattle.std.proofs.Common.{◌≡◌}
 use Rattle.k_plans.specs.contracts.plans.tables.Tables.{the_view}
 use Rattle.k_plans.proofs.Bases.{base-plan, base-tables}
 use Rattle.k_plans.proofs.plans.tables.Tables.set_base.Goals as goal

@@ -1,5 +1,5 @@
 use Rattle.std.proofs.Common.{List, [], length, ap, arith, subst, sym}
-use Rattle.k_journal.specs.declared.batches.Entry.{Entry}
+use Rattle.k_journal.specs.declared.batches.Record.{Record}
 use Rattle.k_plans.specs.LandingsPlans.{Turns}
 use Rattle.k_plans.specs.PlanLaws.{turns-none}
 use Rattle.k_plans.specs.contracts.plans.tables.Tables.{the_view}
@@ -27,4 +27,4 @@ returns-clause-plan c =
     unnames-plan c.args.path.now c.args.entry (before c) c.args.self.now c.clear.new.self c.clear_name.new.batch c.self.view_is c.self.invariant.whole (unnames c)
     (c.clear_name.ensures.turns [] (before c).volume (before c).volume
     (subst (Turns c.self.inside.geometry [] (before c).volume (before c).volume) (sym c.requires.empty) (turns-none c.self.inside.geometry [] (before c).volume)))
-    c.clear_name.ensures.some (omega (arith, c.clear_name.ensures.count, ap (λ (b : List Entry). length b) c.requires.empty))
+    c.clear_name.ensures.some (omega (arith, c.clear_name.ensures.count, ap (λ (b : List Record). length b) c.requires.empty))

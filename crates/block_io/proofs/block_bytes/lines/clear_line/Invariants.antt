@@ -3,9 +3,9 @@ use Rattle.pm_lines.specs.pm_model.declared.Cell.TheVariants.{Single}
 use Rattle.pm_lines.specs.pm_model.Cells.{cell, is_lent, flushed, fenced}
 use Rattle.pm_lines.specs.pm_model.Powers.{is_on, Steps}
 use Rattle.block_io.specs.Overwrites.{GoesToZero}
-use Rattle.block_io.proofs.block_bytes.lines.store_line.Given as goal
+use Rattle.block_io.proofs.block_bytes.lines.clear_line.Given as goal
 
--- the words before k are stored, the others are as they were
+-- the words before k are zero, or going there, the others are as they were; where none was stored none has changed
 abbrev pub invariant-loop-k : goal.invariant-loop-k
 invariant-loop-k l = record {
   size : length l.pm ≡ length l.fn.pm;
@@ -15,5 +15,6 @@ invariant-loop-k l = record {
   lent : (i : ℕ) → is_lent (cell l.pm i) ≡ is_lent (cell l.fn.pm i);
   home : (i : ℕ) → i / 8 ≡ l.line → is_lent (cell l.pm i) ≡ false;
   going : (i : ℕ) → i / 8 ≡ l.line → GoesToZero (cell l.fn.pm i) (cell l.pm i);
+  same : l.changed ≡ false → (i : ℕ) → i / 8 ≡ l.line → cell l.pm i ≡ cell l.fn.pm i;
   done : is_on l.power ≡ true → (i : ℕ) → i / 8 ≡ l.line → i % 8 < l.k → fenced (flushed (cell l.pm i)) ≡ Single 0;
 }

@@ -3,7 +3,7 @@ use Rattle.k_split_model.specs.image_model.Placed.{block_at}
 use Rattle.pm_lines.specs.pm_model.declared.Cell.TheVariants.{Single}
 use Rattle.pm_lines.specs.pm_model.Cells.{cell, is_lent, fenced}
 use Rattle.pm_lines.specs.pm_model.Powers.{is_on, Steps}
-use Rattle.block_io.proofs.block_bytes.blocks.store_all.Given as goal
+use Rattle.block_io.proofs.block_bytes.blocks.clear_all.Given as goal
 
 -- the blocks so far are flushed, the other words are as they were
 abbrev pub invariant-loop-block : goal.invariant-loop-block

@@ -34,7 +34,7 @@ fn assert_seed(rt: &(impl Abort + AllocGlobal), seed: u64) -> Result<(), RowErro
     let alloc = rt.alloc();
     let mut draws = Draws::new(seed);
     let script = drawn_script(alloc, &mut draws, CALLS)?;
-    let case = Case::new(alloc, "256 64 64 128", script.as_str())?;
+    let case = Case::new(alloc, "strict", "256 64 64 128", script.as_str())?;
     assert!(rt;
         case.runs_as_told(alloc)?,
         "the run answers otherwise than the model"
@@ -61,7 +61,7 @@ fn losses_of_another_drawn_script(rt: HostRuntime) -> Result<(), Fail> {
 fn drawn_changes_of_names(rt: HostRuntime) -> Result<(), Fail> {
     let alloc = rt.alloc();
     let script = drawn_changes(alloc, &mut Draws::new(20_261_127), 1000)?;
-    let case = Case::new(alloc, "64 4 64 128", script.as_str())?;
+    let case = Case::new(alloc, "strict", "64 4 64 128", script.as_str())?;
     assert!(rt;
         case.runs_as_told(alloc)?,
         "the run answers otherwise than the model"

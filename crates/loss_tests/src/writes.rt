@@ -201,69 +201,7 @@ row descriptor_limits_and_errors
 losses every 13
 open a /f rwc = fd 0
 read b 1 = EBADF
-open h1 /f rwc = fd 1
-open h2 /f rwc = fd 2
-open h3 /f rwc = fd 3
-open h4 /f rwc = fd 4
-open h5 /f rwc = fd 5
-open h6 /f rwc = fd 6
-open h7 /f rwc = fd 7
-open h8 /f rwc = fd 8
-open h9 /f rwc = fd 9
-open h10 /f rwc = fd 10
-open h11 /f rwc = fd 11
-open h12 /f rwc = fd 12
-open h13 /f rwc = fd 13
-open h14 /f rwc = fd 14
-open h15 /f rwc = fd 15
-open h16 /f rwc = fd 16
-open h17 /f rwc = fd 17
-open h18 /f rwc = fd 18
-open h19 /f rwc = fd 19
-open h20 /f rwc = fd 20
-open h21 /f rwc = fd 21
-open h22 /f rwc = fd 22
-open h23 /f rwc = fd 23
-open h24 /f rwc = fd 24
-open h25 /f rwc = fd 25
-open h26 /f rwc = fd 26
-open h27 /f rwc = fd 27
-open h28 /f rwc = fd 28
-open h29 /f rwc = fd 29
-open h30 /f rwc = fd 30
-open h31 /f rwc = fd 31
-open h32 /f rwc = fd 32
-open h33 /f rwc = fd 33
-open h34 /f rwc = fd 34
-open h35 /f rwc = fd 35
-open h36 /f rwc = fd 36
-open h37 /f rwc = fd 37
-open h38 /f rwc = fd 38
-open h39 /f rwc = fd 39
-open h40 /f rwc = fd 40
-open h41 /f rwc = fd 41
-open h42 /f rwc = fd 42
-open h43 /f rwc = fd 43
-open h44 /f rwc = fd 44
-open h45 /f rwc = fd 45
-open h46 /f rwc = fd 46
-open h47 /f rwc = fd 47
-open h48 /f rwc = fd 48
-open h49 /f rwc = fd 49
-open h50 /f rwc = fd 50
-open h51 /f rwc = fd 51
-open h52 /f rwc = fd 52
-open h53 /f rwc = fd 53
-open h54 /f rwc = fd 54
-open h55 /f rwc = fd 55
-open h56 /f rwc = fd 56
-open h57 /f rwc = fd 57
-open h58 /f rwc = fd 58
-open h59 /f rwc = fd 59
-open h60 /f rwc = fd 60
-open h61 /f rwc = fd 61
-open h62 /f rwc = fd 62
-open h63 /f rwc = fd 63
+for 1 to 63: open h# /f rwc = fd #
 open last /f rwc = EMFILE
 truncate a 16777217 = EFBIG
 write a 61*131073 = EINVAL
@@ -274,84 +212,21 @@ tree = / dir; /f file 0
 row errors_of_handles
 image 64 16 16 16
 losses every 13
-open a0 /f rwc = fd 0
-open a1 /f rwc = fd 1
-open a2 /f rwc = fd 2
-open a3 /f rwc = fd 3
-open a4 /f rwc = fd 4
-open a5 /f rwc = fd 5
-open a6 /f rwc = fd 6
-open a7 /f rwc = fd 7
-open b0 /f rwc = fd 8
-open b1 /f rwc = fd 9
-open b2 /f rwc = fd 10
-open b3 /f rwc = fd 11
-open b4 /f rwc = fd 12
-open b5 /f rwc = fd 13
-open b6 /f rwc = fd 14
-open b7 /f rwc = fd 15
-open c0 /f rwc = fd 16
-open c1 /f rwc = fd 17
-open c2 /f rwc = fd 18
-open c3 /f rwc = fd 19
-open c4 /f rwc = fd 20
-open c5 /f rwc = fd 21
-open c6 /f rwc = fd 22
-open c7 /f rwc = fd 23
-open d0 /f rwc = fd 24
-open d1 /f rwc = fd 25
-open d2 /f rwc = fd 26
-open d3 /f rwc = fd 27
-open d4 /f rwc = fd 28
-open d5 /f rwc = fd 29
-open d6 /f rwc = fd 30
-open d7 /f rwc = fd 31
-open e0 /f rwc = fd 32
-open e1 /f rwc = fd 33
-open e2 /f rwc = fd 34
-open e3 /f rwc = fd 35
-open e4 /f rwc = fd 36
-open e5 /f rwc = fd 37
-open e6 /f rwc = fd 38
-open e7 /f rwc = fd 39
-open f0 /f rwc = fd 40
-open f1 /f rwc = fd 41
-open f2 /f rwc = fd 42
-open f3 /f rwc = fd 43
-open f4 /f rwc = fd 44
-open f5 /f rwc = fd 45
-open f6 /f rwc = fd 46
-open f7 /f rwc = fd 47
-open g0 /f rwc = fd 48
-open g1 /f rwc = fd 49
-open g2 /f rwc = fd 50
-open g3 /f rwc = fd 51
-open g4 /f rwc = fd 52
-open g5 /f rwc = fd 53
-open g6 /f rwc = fd 54
-open g7 /f rwc = fd 55
-open h0 /f rwc = fd 56
-open h1 /f rwc = fd 57
-open h2 /f rwc = fd 58
-open h3 /f rwc = fd 59
-open h4 /f rwc = fd 60
-open h5 /f rwc = fd 61
-open h6 /f rwc = fd 62
-open h7 /f rwc = fd 63
+for 0 to 63: open h# /f rwc = fd #
 open z /f r = EMFILE
 open z /g rwc = EMFILE
-dup a0 z = EMFILE
-close b3 = ok
-dup a0 z = fd 11
+dup h0 z = EMFILE
+close h11 = ok
+dup h0 z = fd 11
 write z 61 = count 1
-read a1 1 = data 61
-close b3 = EBADF
-write b3 61 = EBADF
-read b3 1 = EBADF
-seek b3 set 0 = EBADF
-truncate b3 1 = EBADF
-fsync b3 = EBADF
-close h7 = ok
+read h1 1 = data 61
+close h11 = EBADF
+write h11 61 = EBADF
+read h11 1 = EBADF
+seek h11 set 0 = EBADF
+truncate h11 1 = EBADF
+fsync h11 = EBADF
+close h63 = ok
 open r /f r = fd 63
 write r 61 = EBADF
 truncate r 0 = EBADF
@@ -360,7 +235,7 @@ seek r set -1 = EINVAL
 seek r end -2 = EINVAL
 seek r end -1 = offset 0
 fsync r = ok
-close h6 = ok
+close h62 = ok
 open w /f w = fd 62
 read w 1 = EBADF
 pread w 0 1 = EBADF
@@ -382,64 +257,6 @@ write a 78*131072 = count 131072
 tree = / dir; /f file 131072 78*131072
 write a 78*131072 = ENOSPC blocks 32 19
 tree = / dir; /f file 131072 78*131072
-";
-
-const DATABASES: &str = "\
-# examples/rollback_journal.txt: where the journal stands, the page is taken back from it.
-row a_database_with_a_rollback_journal
-image 64 16 16 16
-losses every 13
-open db /db rwc = fd 0
-write db 61*8192 = count 8192
-open journal /journal rwcx = fd 1
-write journal 0101010101010101 = count 8
-write journal 61*4096 = count 4096
-fsync journal = ok
-pwrite db 4096 62*4096 = count 4096
-fsync db = ok
-close journal = ok
-unlink /journal = ok
-read db 0 = data -
-close db = ok
-tree = / dir; /db file 8192 61*4096+62*4096
-
-# examples/key_value_log.txt: each record is there whole as soon as its write returned.
-row a_key_value_log
-image 64 16 16 16
-losses every 13
-open log /log rwac = fd 0
-write log 70757420613d310a = count 8
-write log 70757420623d320a = count 8
-write log 64656c20610a = count 6
-fsync log = ok
-read log 64 = data -
-open new /log.new wc = fd 1
-write new 70757420623d320a = count 8
-fsync new = ok
-rename /log.new /log = ok
-close new = ok
-close log = ok
-tree = / dir; /log file 8 70757420623d320a
-";
-
-const JOURNAL: &str = "\
-# A database writes a journal behind the name of its old one.
-row database_journal
-image 64 16 16 16
-mkdir /db = ok
-open o /db/old wc = fd 0
-write o 6f*100 = count 100
-tree = / dir; /db dir; /db/old file 100 6f*100
-close o = ok
-open j /db/new wc = fd 0
-tree = / dir; /db dir; /db/new file 0; /db/old file 100 6f*100
-40 times write j 6a*512 = count 512
-fsync j = ok
-tree = / dir; /db dir; /db/new file 20480 6a*20480; /db/old file 100 6f*100
-rename /db/new /db/journal = ok
-tree = / dir; /db dir; /db/journal file 20480 6a*20480; /db/old file 100 6f*100
-unlink /db/old = ok
-tree = / dir; /db dir; /db/journal file 20480 6a*20480
 ";
 
 const OVERWRITE: &str = "\
@@ -505,12 +322,6 @@ fn no_room_for_a_second_file(rt: HostRuntime) -> Result<(), Fail> {
 }
 
 #[test]
-fn databases(rt: HostRuntime) -> Result<(), Fail> {
-    assert_rows(&rt, DATABASES, 2, &losses_told)?;
-    Ok(())
-}
-
-#[test]
 fn each_step_of_an_overwrite(rt: HostRuntime) -> Result<(), Fail> {
     assert_rows(&rt, OVERWRITE, 1, &losses_told)?;
     Ok(())
@@ -524,19 +335,4 @@ fn each_step_of_a_truncate(rt: HostRuntime) -> Result<(), Fail> {
 #[test]
 fn each_step_of_growing_again(rt: HostRuntime) -> Result<(), Fail> {
     assert_part(&rt, "losses every 13 each 3", TRUNCATE)
-}
-
-#[test]
-fn database_journal_0(rt: HostRuntime) -> Result<(), Fail> {
-    assert_part(&rt, "losses every 39 from 0", JOURNAL)
-}
-
-#[test]
-fn database_journal_1(rt: HostRuntime) -> Result<(), Fail> {
-    assert_part(&rt, "losses every 39 from 13", JOURNAL)
-}
-
-#[test]
-fn database_journal_2(rt: HostRuntime) -> Result<(), Fail> {
-    assert_part(&rt, "losses every 39 from 26", JOURNAL)
 }

@@ -3,7 +3,7 @@ use Rattle.pm_lines.specs.pm_model.declared.Cell.TheVariants.{Single}
 use Rattle.pm_lines.specs.pm_model.Cells.{cell, is_lent, fenced}
 use Rattle.pm_lines.specs.pm_model.Powers.{is_on, Steps}
 use Rattle.block_io.specs.Overwrites.{GoesToZero}
-use Rattle.block_io.proofs.block_bytes.lines.store_lines.Given as goal
+use Rattle.block_io.proofs.block_bytes.lines.clear_lines.Given as goal
 
 -- the lines so far are flushed, the other words are as they were
 abbrev pub invariant-loop-line : goal.invariant-loop-line

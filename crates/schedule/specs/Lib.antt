@@ -1,0 +1,2 @@
+pub mod Seen
+pub use Rattle.crash_spec.specs as crash_spec

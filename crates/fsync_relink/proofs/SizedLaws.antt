@@ -114,7 +114,7 @@ module _ (ino size : ℕ) (k l : View) (on : GoesOn k) (file : IsLiveFile ino k.
       let had = has-chain k ino on.order on.unbatched file.below in
       let fewer = fewer-blocks (blocks_for size) (extents k.volume ino) sized.es had.canonical sized.cut in
       let extents_few = fewer-extents (blocks_for size) (extents k.volume ino) sized.es had.canonical sized.cut in
-      let chains : length sized.blocks ≤ length (chain k.volume ino) = omega (arith, sized.taken.count, had.counted, extents_few) in
+      let chains : length sized.blocks ≤ length (chain k.volume ino) = omega (arith, sized.count, had.counted, extents_few) in
       omega (arith, set, same, fewer, chains)
 
   pub free-more : free_blocks_in k ≤ free_blocks_in l

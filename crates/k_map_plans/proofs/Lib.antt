@@ -1,5 +1,6 @@
 mod Fillings
 mod Goings
+mod Keeps
 mod Moves
 mod Sizes
 mod Stagings

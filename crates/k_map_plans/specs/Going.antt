@@ -1,4 +1,4 @@
--- One inode of the tables goes over to another map.
+-- One inode of the tables goes over to another map, or keeps its own with another line.
 use Rattle.std.specs.Prelude.{◌≡◌, ◌⊎◌, ◌<◌, ◌≤◌, ℕ, ◌+◌, All, true, List, [], ◌∷◌, length}
 use Rattle.block_counts.specs.Counts.{chains_for}
 use Rattle.k_relink.specs.extent_model.declared.extent_words.Extent.{Extent}
@@ -6,12 +6,14 @@ use Rattle.layout_model.specs.declared.lines.Inode.{Inode}
 use Rattle.layout_model.specs.declared.lines.Kind.TheVariants.{File, Staging}
 use Rattle.layout_model.specs.Lines.{is_inode}
 use Rattle.k_plans.specs.image_model.Rules.{file_blocks_of}
-use Rattle.k_plans.specs.image_model.Volume.{chain, extents, inode}
+use Rattle.k_plans.specs.image_model.Chains.{first_or_zero}
+use Rattle.k_plans.specs.image_model.Volume.{Volume, chain, extents, inode}
 use Rattle.k_plans.specs.k_journal.declared.batches.Record.{Record}
 use Rattle.k_plans.specs.LandingsPlans.{NewChain}
 use Rattle.k_plans.specs.Free.{free_blocks, is_free_block}
 use Rattle.k_plans.specs.Switching.{IsMapPlan, WaitOnce}
 use Rattle.k_plans.specs.View.{TablesView}
+use Rattle.k_plans.specs.Whole.{IsWhole}
 use Rattle.k_plans.specs.k_split_model.Taken.{AreLowest, switched, with_map}
 use Rattle.k_plans.specs.volume_laws.Uses.{in_chain, in_map}
 
@@ -34,3 +36,25 @@ pub record HasGoneOver (ino : ℕ) (x : Inode) (es : List Extent) (old new : Tab
   pub after : new.volume ≡ switched ino x c.blocks es old.volume
   pub chain_is : c.blocks ≡ chain new.volume ino
   pub plan : IsMapPlan (c ∷ []) old.volume new.volume b
+
+-- ---- its map stays
+
+-- The line has the first block of the inode's chain, 0 for none, and the number of its map's extents; and the chain has as many
+-- blocks as they take.
+pub record HasOwnMap (v : Volume) (ino : ℕ) : Type 0 where
+  pub root : first_or_zero (chain v ino) ≡ (inode v ino).root
+  pub count : length (extents v ino) ≡ (inode v ino).extents
+  pub blocks : length (chain v ino) ≡ chains_for (length (extents v ino))
+
+-- the volume with another line of the inode, which has the chain and the map that it had
+abbrev pub kept_map : ℕ → Inode → Volume → Volume
+kept_map ino x v = switched ino x (chain v ino) (extents v ino) v
+
+-- The inode keeps its kind, and may have this line with the map that it has, as it has its own in a volume that is whole.
+-- Nothing waits.
+pub record MayKeep (t : TablesView) (ino : ℕ) (x : Inode) : Type 0 where
+  pub below : ino < length t.volume.inodes
+  pub kind : x.kind ≡ (inode t.volume ino).kind
+  pub own : HasOwnMap t.volume ino
+  pub fields : IsWhole t.volume → is_inode (with_map (chain t.volume ino) (extents t.volume ino) x) ≡ true
+  pub idle : t.waiting ≡ []

@@ -6,11 +6,11 @@ use Rattle.k_plans.specs.layout_model.Places.{reserve}
 use Rattle.k_plans.specs.image_model.Volume.{Volume, chain, extents, inode}
 use Rattle.k_relink.specs.extent_model.declared.extent_words.Extent.{Extent}
 use Rattle.k_plans.specs.k_journal.declared.batches.Record.{Record}
-use Rattle.k_plans.specs.LandingsPlans.{NewChain}
+use Rattle.k_plans.specs.LandingsPlans.{NewChain, blocks_of}
 use Rattle.k_plans.specs.Free.{free_blocks, is_free_block}
 use Rattle.k_plans.specs.Switching.{IsMapPlan}
 use Rattle.k_plans.specs.View.{TablesView}
-use Rattle.k_plans.specs.k_split_model.MapChangesChanges.{given_up, holes, IsFilled, IsMoved, IsPreallocated, IsSized}
+use Rattle.k_plans.specs.k_split_model.MapChangesChanges.{given_up, holes, IsFilled, IsMoved, IsPreallocated, IsSized, WritesChain}
 use Rattle.k_plans.specs.k_split_model.declared.map_changes.moves.Move.{Move}
 use Rattle.k_relink.specs.extent_model.Moves.{IsMapped}
 use Rattle.layout_model.specs.block_counts.declared.TheConstants.{LONGEST_FILE}
@@ -42,9 +42,20 @@ pub record IsPlannedOne (ino : ℕ) (old new : TablesView) (b : List Record) (c 
   pub chain_is : c.blocks ≡ chain new.volume ino
   pub waiting : new.waiting ≡ old.waiting
 
+-- the new maps of a plan that may need none
+abbrev pub listed : Option NewChain → List NewChain
+listed None = []
+listed (Some c) = c ∷ []
+
+-- a change is planned, with a new map of the inode where its map changes, and else with none
+pub record IsPlannedChange (ino : ℕ) (old new : TablesView) (b : List Record) (o : Option NewChain) : Type 0 where
+  pub plan : IsMapPlan (listed o) old.volume new.volume b
+  pub written : WritesChain ino old.volume new.volume (blocks_of (listed o))
+  pub waiting : new.waiting ≡ old.waiting
+
 -- a file gets a size
-abbrev pub IsSizePlan : ℕ → ℕ → TablesView → TablesView → List Record → Result NewChain AllocError → Type 0
-IsSizePlan ino size old new b (Ok c) = IsSized (is_free_block old) ino size old.volume new.volume × IsPlannedOne ino old new b c
+abbrev pub IsSizePlan : ℕ → ℕ → TablesView → TablesView → List Record → Result (Option NewChain) AllocError → Type 0
+IsSizePlan ino size old new b (Ok o) = IsSized (is_free_block old) ino size old.volume new.volume × IsPlannedChange ino old new b o
 IsSizePlan ino size old new b (Err e) = IsNotPlanned old new b
 
 -- What stands against filling so many holes: nothing is to be done where there is none, and ENOSPC where fewer blocks are free

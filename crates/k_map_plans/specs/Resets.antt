@@ -3,11 +3,10 @@ use Rattle.std.specs.Prelude.{◌≡◌, ◌<◌, ℕ, List, length, None, Resul
 use Rattle.std.specs.declared.alloc.AllocError.{AllocError}
 use Rattle.layout_model.specs.pm_model.Words.{Words}
 use Rattle.layout_model.specs.declared.lines.Inode.{Inode}
-use Rattle.k_plans.specs.image_model.Chains.{first_or_zero}
 use Rattle.k_plans.specs.image_model.Content.{found}
 use Rattle.k_plans.specs.image_model.Live.{entry_in, live_entries}
 use Rattle.k_plans.specs.image_model.Reading.{node_set}
-use Rattle.k_plans.specs.image_model.Volume.{Volume, chain, extents, inode}
+use Rattle.k_plans.specs.image_model.Volume.{Volume, inode}
 use Rattle.k_plans.specs.k_journal.declared.batches.Record.{Record}
 use Rattle.k_map_plans.specs.Plans.{IsNotPlanned}
 use Rattle.k_plans.specs.PlansPlans.{IsPlan}
@@ -20,11 +19,6 @@ unapplied x = record x { applied = 0 }
 -- The file has applied no entry; all else is as before.
 abbrev pub reset : ℕ → Volume → Volume
 reset ino v = node_set ino (unapplied (inode v ino)) v
-
--- the line has the first block of the inode's chain, 0 for none, and the number of its map's extents
-pub record HasOwnMap (v : Volume) (ino : ℕ) : Type 0 where
-  pub root : first_or_zero (chain v ino) ≡ (inode v ino).root
-  pub count : length (extents v ino) ≡ (inode v ino).extents
 
 -- a reset is planned, or nothing where memory runs out
 abbrev pub IsResetPlan : ℕ → TablesView → TablesView → List Record → Result (Unit {0}) AllocError → Type 0

@@ -9,9 +9,11 @@
 //! is the same before and after (the law `reset-content`).
 
 ghost use Rattle.std.specs.Prelude.{◌≡◌, []};
-ghost use Rattle.k_map_plans.specs.Resets.{HasOwnMap, IsResetPlan};
+ghost use Rattle.k_map_plans.specs.Going.{HasOwnMap};
 ghost use Rattle.k_map_plans.specs.Plans.{IsLiveFile};
+ghost use Rattle.k_map_plans.specs.Resets.{IsResetPlan};
 
+use crate::map_plans::keep_map;
 pub use crate::map_plans::{Batch, Tables};
 use layout_model::Inode;
 use std::alloc::{AllocError, Global};
@@ -31,14 +33,11 @@ pub fn plan_reset(
     requires own { HasOwnMap tables.old.volume ino }
     ensures { IsResetPlan ino tables.old tables.new batch.new result }
 {
-    let map = tables.map_copied(alloc, ino)?;
-    let blocks = Vec::from_slice(alloc, tables.chain(ino))?;
     let line = Inode {
         applied: 0,
         ..tables.inodes()[ino as usize]
     };
-    tables.switch(batch, ino, &line, map, blocks, Vec::new(alloc));
-    Ok(())
+    keep_map(alloc, tables, batch, ino, &line)
 }
 
 pub use crate::map_plans::{

@@ -15,6 +15,7 @@ mod sizing;
 mod staging;
 
 pub use filling::{may_fill, plan_fill};
+pub(crate) use going::keep_map;
 pub use k_plans::{
     Batch, Commit, Geometry, Kind, NewMap, PlanFault, Recovered, Tables, fresh_image, land,
     land_maps, read_base, read_inodes, read_maps, read_names, recover,

@@ -25,13 +25,13 @@ map 5 = size 8192 applied 0 root 10 0:8x2
 write 5 4094 4 7 = ok
 bytes 5 4093 6 = 0 7 7 7 7 0
 write 5 8190 4 7 = unfit
-# Down and up again: what lay past the end is dropped, and the new block reads zeros.
+# Down and up again: what lay past the end is dropped, up the map stays where it is, and the new block reads zeros.
 size 5 4096 = ok
 map 5 = size 4096 applied 0 root 11 0:8x1
 size 5 8192 = ok
-map 5 = size 8192 applied 0 root 9 0:8x1
+map 5 = size 8192 applied 0 root 11 0:8x1
 fill 5 1 1 = ok
-map 5 = size 8192 applied 0 root 11 0:8x1 1:10x1
+map 5 = size 8192 applied 0 root 10 0:8x2
 bytes 5 4093 6 = 0 7 7 0 0 0
 
 # The size stays, and blocks past the end are dropped.

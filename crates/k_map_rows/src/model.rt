@@ -245,15 +245,18 @@ impl Model {
 
     fn size(&mut self, alloc: Global, ino: u32, size: u32) -> Result<Reply, RowError> {
         let (before, applied) = self.map_of(ino)?;
-        let mut after = before;
+        let (mut after, mut is_cut) = (before, false);
         for (place, block) in after.iter_mut().enumerate() {
             if blocks_for(u64::from(size)) <= place as u64 {
+                is_cut = is_cut || block.is_some();
                 *block = None;
             }
         }
-        let chain = self.switch(alloc, ino, &after)?;
-        self.free_all(&chain);
-        self.free_gone(&before, &after);
+        if is_cut {
+            let chain = self.switch(alloc, ino, &after)?;
+            self.free_all(&chain);
+            self.free_gone(&before, &after);
+        }
         self.set_line(ino, u64::from(size), applied);
         Ok(Reply::Done)
     }

@@ -17,10 +17,12 @@ use Rattle.block_io.specs.image_model.Chains.{blocks_from, first_or_zero}
 use Rattle.block_io.specs.image_model.Content.{Node, content, found}
 use Rattle.block_io.specs.image_model.Live.{live_entries}
 use Rattle.block_io.specs.image_model.Volume.{Volume, inode}
+use Rattle.k_tables.specs.volume_laws.ChainLaws.{length-blocks_from}
 use Rattle.k_tables.specs.volume_laws.FootprintLaws.{content-own}
 use Rattle.k_map_plans.specs.k_journal.declared.batches.Record.{Record}
 use Rattle.k_map_plans.specs.ResetLaws.{reset-content}
-use Rattle.k_map_plans.specs.Resets.{HasNoValid, HasOwnMap, reset}
+use Rattle.k_map_plans.specs.Going.{HasOwnMap}
+use Rattle.k_map_plans.specs.Resets.{HasNoValid, reset}
 use Rattle.k_map_plans.specs.Plans.{IsLiveFile}
 use Rattle.k_map_plans.specs.k_plans.Whole.{IsWhole}
 use Rattle.k_tables.specs.k_split_model.Stands.{IsOldOrNew, Stands}
@@ -54,6 +56,9 @@ own-map v d ino stands whole file =
           ∙ from-root (journaled (words_of d)) (inode v ino).root (((inode v ino).extents + 254) / 255) (λ none.
           file-root (inode v ino) file.file (whole.inodes ino) (omega (arith, none)));
       count = is.map.counted;
+      blocks = ap length is.linked
+          ∙ length-blocks_from (journaled (words_of d)) (inode v ino).root (((inode v ino).extents + 254) / 255)
+          ∙ ap (λ n. (n + 254) / 255) (sym is.map.counted);
     }
 
 -- ---- the content of the images

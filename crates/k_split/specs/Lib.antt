@@ -9,6 +9,7 @@ pub mod Loans
 pub mod LogLines
 pub mod Looks
 pub mod MapChanges
+pub mod SizeLaws
 pub mod Names
 pub mod Order
 pub mod Resets

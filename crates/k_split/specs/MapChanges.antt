@@ -20,7 +20,7 @@ use Rattle.k_map_plans.specs.k_plans.Switching.{IsMapPlan}
 use Rattle.k_map_plans.specs.k_plans.Whole.{IsWhole}
 use Rattle.k_tables.specs.k_split_model.Stands.{IsOldOrNew, Stands}
 use Rattle.k_tables.specs.k_split_model.View.{View}
-use Rattle.block_io.specs.k_split_model.MapChangesChanges.{given_up, IsMoved, IsPreallocated, IsSized}
+use Rattle.block_io.specs.k_split_model.MapChangesChanges.{given_up, IsMoved, IsPreallocated, IsSized, WritesChain}
 use Rattle.block_io.specs.k_split_model.declared.map_changes.moves.Move.{Move}
 use Rattle.k_map_plans.specs.volume_laws.Uses.{is_unused}
 use Rattle.k_split.specs.declared.faults.KFault.{KFault}
@@ -69,10 +69,10 @@ IsMapAnswer Makes old new (Err KFault.NoMemory) = new ≡ old
 IsMapAnswer Makes old new (Err KFault.PowerLost) =
     IsOff old new ⊎ ((w : Volume) × (blocks : List ℕ) × Makes w blocks × IsMapCut blocks w old new)
 
--- a file gets a size: the blocks of its new chain are written
+-- a file gets a size: the blocks of its new chain are written, where its map changes
 pub record IsSizedWith (ino size : ℕ) (old : View) (w : Volume) (blocks : List ℕ) : Type 0 where
   pub sized : IsSized (is_free_in old) ino size old.volume w
-  pub written : blocks ≡ chain w ino
+  pub written : WritesChain ino old.volume w blocks
 
 abbrev pub IsSizeAnswer : ℕ → ℕ → View → View → Result (Unit {0}) KFault → Type 0
 IsSizeAnswer ino size old new result = IsMapAnswer (IsSizedWith ino size old) old new result

@@ -4,7 +4,7 @@ ghost use Rattle.layout_model.specs.block_counts.declared.TheConstants.{LONGEST_
 ghost use Rattle.block_io.specs.layout_model.Places.{reserve};
 ghost use Rattle.block_io.specs.image_model.Volume.{Volume, extents};
 ghost use Rattle.k_map_plans.specs.k_plans.LandingsPlans.{blocks_of};
-ghost use Rattle.k_map_plans.specs.Plans.{IsLiveFile};
+ghost use Rattle.k_map_plans.specs.Plans.{IsLiveFile, listed};
 ghost use Rattle.block_io.specs.pm_model.Powers.{is_on, Steps};
 ghost use Rattle.k_split.specs.Answers.{IsPaid};
 ghost use Rattle.k_split.specs.MapChanges.{IsMapLanded, IsMapPlanned, IsSizeAnswer, free_blocks_in};
@@ -45,6 +45,16 @@ pub(crate) fn land_maps_plan(
     }
 }
 
+// The new maps of a plan that may need none.
+fn listed(map: &Option<NewMap>) -> &[NewMap]
+    ensures { result.now ≡ listed map.now }
+{
+    match map {
+        Some(map) => slice::from_ref(map),
+        None => &[],
+    }
+}
+
 impl KSplit {
     /// The map of the inode of this number; None exactly past the last line.
     pub fn map(&self, ino: u32) -> Option<&ExtentMap>
@@ -63,8 +73,9 @@ impl KSplit {
     }
 
     /// Gives a file a size of at most 16,777,216 bytes, as one transaction; what its map has past
-    /// the new end is dropped, also where the size stays. Its map is written anew, into the lowest
-    /// free blocks, of which `reserve - 3` are there; the blocks that it has no longer are free.
+    /// the new end is dropped, also where the size stays. A map that is cut is written anew, into the
+    /// lowest free blocks, of which `reserve - 3` are there; the blocks that it has no longer are free.
+    /// Where nothing is cut off the file's line alone changes, and no block is written.
     ///
     /// A file counts by its size against the blocks of the image, holes too: a checked image has room
     /// for all files with no hole. No test is made here, so the layer above asks for no size that
@@ -102,7 +113,7 @@ impl KSplit {
             Err(_) => return Err(KFault::NoMemory),
         };
         land_maps_plan(
-            slice::from_ref(&map),
+            listed(&map),
             &mut self.batch,
             &mut self.pm,
             &self.tables,

@@ -138,6 +138,15 @@ cut = record {
       far-none (run 0 12 1) b (omega arith) past ∙ sym (rw (not_below 1 b (omega arith) past) refl));
 }
 
+-- all of the map lies before block 3
+all_left : IsPart (λ b. nat_lt b 3) old old
+all_left = record {
+  canonical = map-two (run 0 12 1) (run 2 14 1) (extent (run 0 12 1) (omega arith) (omega arith) (omega arith))
+      (extent (run 2 14 1) (omega arith) (omega arith) (omega arith)) (inl (omega arith));
+  blocks = each (λ b. disk_at old b ≡ (if nat_lt b 3 then disk_at old b else None)) refl refl refl refl (λ b past.
+      far-two (run 0 12 1) (run 2 14 1) b (omega arith) (omega arith) past ∙ sym (rw (not_below 3 b (omega arith) past) refl));
+}
+
 fills : Fills 0 3 (13 ∷ []) old (run 0 12 3 ∷ [])
 fills = record {
   canonical = map-one (run 0 12 3) (extent (run 0 12 3) (omega arith) (omega arith) (omega arith));
@@ -183,7 +192,15 @@ moves = record {
 
 pub rows : AreChangesOfExample
 rows = record {
-  sized = record { es = run 0 12 1 ∷ []; blocks = 13 ∷ []; cut = cut; taken = lowest-1; is_sized = refl };
+  sized = record {
+    es = run 0 12 1 ∷ [];
+    blocks = 13 ∷ [];
+    cut = cut;
+    count = refl;
+    taken = inr (λ same. omega (arith, ap (λ (es : List Extent). length es) same), lowest-1);
+    is_sized = refl;
+  };
+  shortened = record { es = old; blocks = 9 ∷ []; cut = all_left; count = refl; taken = inl (refl, refl); is_sized = refl };
   filled = record { es = run 0 12 3 ∷ []; blocks = 15 ∷ []; some = omega arith; fills = fills; taken = lowest-2; is_filled = refl };
   preallocated = record {
     fresh = 13 ∷ 15 ∷ 16 ∷ [];

@@ -1,5 +1,5 @@
 -- What the changes of maps make of a volume: the size of a file, its holes, a staging file, and blocks that move.
-use Rattle.std.specs.Prelude.{◌≡◌, ℕ, ◌+◌, ◌%◌, ◌^◌, ◌<◌, ◌==◌, nat_lt, Bool, false, if◌then◌else◌, List, [], ◌++◌, length, filter, Option, Some, None, is_none, slice_index}
+use Rattle.std.specs.Prelude.{◌≡◌, ◌≢◌, ◌⊎◌, ℕ, ◌+◌, ◌%◌, ◌^◌, ◌<◌, ◌==◌, nat_lt, Bool, false, if◌then◌else◌, List, [], ◌++◌, length, filter, Option, Some, None, is_none, slice_index}
 use Rattle.std.specs.List.{list_any, range_with_len}
 use Rattle.image_model.specs.block_counts.Counts.{blocks_for, chains_for}
 use Rattle.image_model.specs.extent_model.declared.extent_words.Extent.{Extent}
@@ -8,7 +8,7 @@ use Rattle.image_model.specs.extent_model.Maps.{IsPart}
 use Rattle.image_model.specs.extent_model.Moves.{Moves}
 use Rattle.image_model.specs.layout_model.declared.lines.Inode.{Inode}
 use Rattle.image_model.specs.Placed.{block_at}
-use Rattle.image_model.specs.Volume.{Volume, extents, inode}
+use Rattle.image_model.specs.Volume.{Volume, chain, extents, inode}
 use Rattle.k_split_model.specs.declared.map_changes.moves.Move.{Move}
 use Rattle.k_split_model.specs.Taken.{AreLowest, switched}
 
@@ -17,13 +17,25 @@ use Rattle.k_split_model.specs.Taken.{AreLowest, switched}
 abbrev pub with_size : ℕ → Inode → Inode
 with_size size x = record x { size = size }
 
--- The file has the size and keeps of its map what lies before its end, also where the size stays.
+-- The chain of a map that may have changed: where the map stays its chain does, else the chain has the lowest free blocks.
+abbrev pub TakesChain : (ℕ → Bool) → List Extent → List Extent → List ℕ → List ℕ → Type 0
+TakesChain free old new chain blocks =
+    ((new ≡ old) × (blocks ≡ chain)) ⊎ ((new ≢ old) × AreLowest free (chains_for (length new)) blocks)
+
+-- The file has the size and keeps of its map what lies before its end, also where the size stays. Where that is all of its
+-- map, its line alone changes.
 pub record IsSized (free : ℕ → Bool) (ino size : ℕ) (v w : Volume) : Type 0 where
   pub es : List Extent
   pub blocks : List ℕ
   pub cut : IsPart (λ b. nat_lt b (blocks_for size)) (extents v ino) es
-  pub taken : AreLowest free (chains_for (length es)) blocks
+  pub count : length blocks ≡ chains_for (length es)
+  pub taken : TakesChain free (extents v ino) es (chain v ino) blocks
   pub is_sized : w ≡ switched ino (with_size size (inode v ino)) blocks es v
+
+-- the blocks that are written: those of the chain where the map changes, else none
+abbrev pub WritesChain : ℕ → Volume → Volume → List ℕ → Type 0
+WritesChain ino v w blocks =
+    ((extents w ino ≡ extents v ino) × (blocks ≡ [])) ⊎ ((extents w ino ≢ extents v ino) × (blocks ≡ chain w ino))
 
 -- ---- the holes of a file
 

@@ -56,6 +56,11 @@ pub record AreChangesOfExample : Type 0 where
       IsSized is_free 5 100 small_volume
       (volume_with staged (8 ∷ []) (run 0 10 2 ∷ []) (empty_inode Staging 4) [] []
       (record { kind = File; generation = 7; size = 100; applied = 2; root = 13; extents = 1 }) (13 ∷ []) (run 0 12 1 ∷ []))
+  -- a size of 9,000 bytes: both extents are left, so that the map stays where it is
+  pub shortened :
+      IsSized is_free 5 9000 small_volume
+      (volume_with staged (8 ∷ []) (run 0 10 2 ∷ []) (empty_inode Staging 4) [] []
+      (record { kind = File; generation = 7; size = 9000; applied = 2; root = 9; extents = 2 }) (9 ∷ []) (run 0 12 1 ∷ run 2 14 1 ∷ []))
   -- file blocks 0 to 2: the hole has block 13, with which the three are one extent
   pub filled :
       IsFilled is_free 5 0 3 small_volume

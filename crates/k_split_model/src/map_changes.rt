@@ -2,7 +2,8 @@
 //!
 //! A change writes a map whole into free blocks, the lowest first, and switches its inode over to it
 //! (`switched`); the blocks that the inode had before and has no longer are free then. There are five:
-//! a file gets a size and loses what lies past it (`IsSized`), the holes of a range of a file get
+//! a file gets a size and loses what lies past it (`IsSized`; where nothing does, its line alone
+//! changes), the holes of a range of a file get
 //! blocks (`IsFilled`), a staging file gets blocks (`IsPreallocated`) or gives up all of its own
 //! (`given_up`), and blocks go from a staging file to a file (`IsMoved`). Each says the inode's line,
 //! its map file block by file block, and just which free blocks are taken; all else of the volume is

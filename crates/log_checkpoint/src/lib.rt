@@ -9,7 +9,7 @@
 //! number of log lines, and K-Split goes on. Whatever happens, each image has the content of the image
 //! before, where the log of that one holds the runs of all files (`KeepsLoggedContent`).
 //!
-//! At most 1,024 runs of at most 1,019 files are gathered, so at most 2^26 steps.
+//! At most 256 runs of at most 1,019 files are gathered, so at most 2^26 steps.
 //!
 //! Stands on `fsync_relink`, `file_table` and `staging_files`.
 #![tactic(auto)]

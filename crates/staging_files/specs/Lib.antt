@@ -1,6 +1,7 @@
 pub mod Keeps
 pub mod Reserves
 pub mod GivesUp
+pub mod FewRuns
 pub use Rattle.k_split.specs as k_split
 pub use Rattle.k_split.specs.image_laws as image_laws
 pub use Rattle.k_split.specs.k_plans as k_plans

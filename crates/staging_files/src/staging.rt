@@ -1,5 +1,5 @@
 //! What a staging keeps.
-ghost use Rattle.std.specs.Prelude.{◌≡◌, ◌↔◌, IsTrue, length};
+ghost use Rattle.std.specs.Prelude.{◌≡◌, ◌≤◌, ◌↔◌, IsTrue, length};
 ghost use Rattle.staging_files.specs.GivesUp.{nothing_staged};
 ghost use Rattle.staging_files.specs.Keeps.{IsStaged};
 
@@ -36,9 +36,10 @@ impl Staging {
     }
 
     /// How many runs are out: those reserved since `new` or the last `give_up_all`, but for those
-    /// given back.
+    /// given back. At most 256 are, since each has a block of its own.
     pub fn owed(&self) -> u32
         ensures count { result ≡ length self.now.out }
+        ensures few { result ≤ 256 }
         ensures keeps { IsStaged self.now }
     {
         self.out.len() as u32

@@ -1,8 +1,9 @@
-//! One inode goes over to another map.
-ghost use Rattle.std.specs.Prelude.{◌≡◌, [], All, IfOk, OnErr};
+//! One inode goes over to another map, or keeps its own with another line.
+ghost use Rattle.std.specs.Prelude.{◌≡◌, [], All, IfOk, OnErr, OnOk};
 ghost use Rattle.k_relink.specs.extent_model.Extents.{IsExtent};
-ghost use Rattle.k_map_plans.specs.Going.{HasGoneOver, MayGoOver};
-ghost use Rattle.k_plans.specs.Switching.{WaitOnce};
+ghost use Rattle.k_map_plans.specs.Going.{HasGoneOver, MayGoOver, MayKeep, kept_map};
+ghost use Rattle.k_plans.specs.Switching.{IsMapPlan, WaitOnce};
+ghost use Rattle.k_plans.specs.View.{with_volume};
 
 use crate::map_plans::lists::push_extents;
 use block_counts::chains_for;
@@ -45,4 +46,28 @@ pub(crate) fn go_over(
         blocks,
         map: written,
     })
+}
+
+/// Gives the inode this line, with the chain and the map that it has, and plans it. An error leaves
+/// tables and batch as they were.
+pub(crate) fn keep_map(
+    alloc: Global,
+    tables: &mut Tables,
+    batch: &mut Batch,
+    ino: u32,
+    inode: &Inode,
+) -> Result<(), AllocError>
+    requires empty { batch.old ≡ [] }
+    requires may { MayKeep tables.old ino inode.now }
+    ensures kept { OnOk result
+        (tables.new ≡ with_volume (kept_map ino inode.now tables.old.volume) tables.old) }
+    ensures plan { OnOk result
+        (IsMapPlan [] tables.old.volume tables.new.volume batch.new) }
+    ensures same { OnErr result (tables.new ≡ tables.old) }
+    ensures no_lines { OnErr result (batch.new ≡ []) }
+{
+    let map = tables.map_copied(alloc, ino)?;
+    let blocks = Vec::from_slice(alloc, tables.chain(ino))?;
+    tables.switch(batch, ino, inode, map, blocks, Vec::new(alloc));
+    Ok(())
 }

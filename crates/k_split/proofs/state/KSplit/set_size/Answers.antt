@@ -4,16 +4,27 @@ use Rattle.block_io.specs.pm_model.Frames.{KeepsSingle}
 use Rattle.block_io.specs.pm_model.Powers.{is_on}
 use Rattle.block_io.specs.image_model.Volume.{inode}
 use Rattle.k_map_plans.specs.k_plans.LandingsPlans.{NewChain, blocks_of}
-use Rattle.k_map_plans.specs.k_plans.WrittenLaws.{blocks_of-one}
 use Rattle.k_map_plans.specs.Plans.{IsLiveFile}
 use Rattle.k_map_plans.specs.k_plans.Switching.{IsMapPlan}
 use Rattle.k_tables.specs.k_split_model.View.{View}
-use Rattle.block_io.specs.k_split_model.MapChangesChanges.{with_size}
+use Rattle.block_io.specs.k_split_model.MapChangesChanges.{with_size, WritesChain}
 use Rattle.k_split.proofs.ChangeLaws.{awake, unstaged-kept}
 use Rattle.k_split.proofs.MapAnswers.{file-staged, map-answer, map-paid, map-planned, map-ready}
+use Rattle.k_split.proofs.ResetLaws.{own-map}
 use Rattle.k_split.specs.MapChanges.{IsMapPlanned, IsSizedWith}
 use Rattle.k_split.specs.Order.{IsUnstagedSingle}
 use Rattle.k_split.proofs.state.KSplit.set_size.Goals as goal
+
+pub plan_size-requires-clause-own : goal.plan_size-requires-clause-own
+plan_size-requires-clause-own c =
+    let k = c.self.inside in
+    let on : is_on c.args.power.now ≡ true = sym c.on.ensures ∙ c.if-not-on.false in
+    let is : k.lost ≡ false = awake k.tables k.pm k.batched k.lost c.args.self.now c.args.power.now c.self.view_is c.requires.awake on in
+    let order = (c.self.invariant is).order in
+    let file : IsLiveFile c.args.ino k.tables.volume =
+    subst (λ (x : View). x.lost ≡ false → IsLiveFile c.args.ino x.volume) (sym c.self.view_is) c.requires.file is
+    in
+    own-map k.tables.volume k.pm c.args.ino order.stands order.whole file
 
 pub land_maps_plan-requires : goal.land_maps_plan-requires
 land_maps_plan-requires c =
@@ -22,11 +33,11 @@ land_maps_plan-requires c =
     let on : is_on c.args.power.now ≡ true = sym c.on.ensures ∙ c.if-not-on.false in
     let is : k.lost ≡ false = awake k.tables k.pm k.batched k.lost c.args.self.now c.args.power.now c.self.view_is c.requires.awake on in
     let planned = c.in-Ok.ensures in
-    let plan : IsMapPlan c.from_ref.result.now k.tables.volume u.volume c.plan_size.new.batch =
-    subst (λ (ns : List NewChain). IsMapPlan ns k.tables.volume u.volume c.plan_size.new.batch) (sym c.from_ref.ensures.value) planned.1.plan
+    let plan : IsMapPlan c.listed.result.now k.tables.volume u.volume c.plan_size.new.batch =
+    subst (λ (ns : List NewChain). IsMapPlan ns k.tables.volume u.volume c.plan_size.new.batch) (sym c.listed.ensures) planned.1.plan
     in
-    let ready : IsMapPlanned c.from_ref.result.now k.tables.volume u.volume c.plan_size.new.batch k.pm =
-    map-planned k.tables u k.pm k.batched k.lost k.batch c.plan_size.new.batch c.from_ref.result.now is c.self.invariant plan
+    let ready : IsMapPlanned c.listed.result.now k.tables.volume u.volume c.plan_size.new.batch k.pm =
+    map-planned k.tables u k.pm k.batched k.lost k.batch c.plan_size.new.batch c.listed.result.now is c.self.invariant plan
     in
     (k.tables.volume, ready)
 
@@ -37,11 +48,11 @@ invariant_of-self-2 c off =
     let on : is_on c.args.power.now ≡ true = sym c.on.ensures ∙ c.if-not-on.false in
     let is : k.lost ≡ false = awake k.tables k.pm k.batched k.lost c.args.self.now c.args.power.now c.self.view_is c.requires.awake on in
     let planned = c.in-Ok.ensures in
-    let plan : IsMapPlan c.from_ref.result.now k.tables.volume u.volume c.plan_size.new.batch =
-    subst (λ (ns : List NewChain). IsMapPlan ns k.tables.volume u.volume c.plan_size.new.batch) (sym c.from_ref.ensures.value) planned.1.plan
+    let plan : IsMapPlan c.listed.result.now k.tables.volume u.volume c.plan_size.new.batch =
+    subst (λ (ns : List NewChain). IsMapPlan ns k.tables.volume u.volume c.plan_size.new.batch) (sym c.listed.ensures) planned.1.plan
     in
-    let ready : IsMapPlanned c.from_ref.result.now k.tables.volume u.volume c.plan_size.new.batch k.pm =
-    map-planned k.tables u k.pm k.batched k.lost k.batch c.plan_size.new.batch c.from_ref.result.now is c.self.invariant plan
+    let ready : IsMapPlanned c.listed.result.now k.tables.volume u.volume c.plan_size.new.batch k.pm =
+    map-planned k.tables u k.pm k.batched k.lost k.batch c.plan_size.new.batch c.listed.result.now is c.self.invariant plan
     in
     let file : IsLiveFile c.args.ino k.tables.volume =
     subst (λ (x : View). x.lost ≡ false → IsLiveFile c.args.ino x.volume) (sym c.self.view_is) c.requires.file is
@@ -54,8 +65,8 @@ invariant_of-self-2 c off =
     singles order.unstaged
     in
     let landed = c.land_maps_plan.ensures.landed k.tables.volume ready in
-    map-ready k.tables u k.pm k.batched k.lost k.batch c.plan_size.new.batch c.from_ref.result.now is c.self.invariant plan planned.1.waiting keeps
-    (blocks_of c.from_ref.result.now)
+    map-ready k.tables u k.pm k.batched k.lost k.batch c.plan_size.new.batch c.listed.result.now is c.self.invariant plan planned.1.waiting keeps
+    (blocks_of c.listed.result.now)
     c.land_maps_plan.new.pm c.args.power.now c.land_maps_plan.new.power c.land_maps_plan.new.lost c.land_maps_plan.new.batch c.land_maps_plan.result landed
     c.land_maps_plan.ensures.no_lines c.land_maps_plan.ensures.noted off
 
@@ -66,14 +77,14 @@ returns-clause-paid c =
     let on : is_on c.args.power.now ≡ true = sym c.on.ensures ∙ c.if-not-on.false in
     let is : k.lost ≡ false = awake k.tables k.pm k.batched k.lost c.args.self.now c.args.power.now c.self.view_is c.requires.awake on in
     let planned = c.in-Ok.ensures in
-    let plan : IsMapPlan c.from_ref.result.now k.tables.volume u.volume c.plan_size.new.batch =
-    subst (λ (ns : List NewChain). IsMapPlan ns k.tables.volume u.volume c.plan_size.new.batch) (sym c.from_ref.ensures.value) planned.1.plan
+    let plan : IsMapPlan c.listed.result.now k.tables.volume u.volume c.plan_size.new.batch =
+    subst (λ (ns : List NewChain). IsMapPlan ns k.tables.volume u.volume c.plan_size.new.batch) (sym c.listed.ensures) planned.1.plan
     in
-    let ready : IsMapPlanned c.from_ref.result.now k.tables.volume u.volume c.plan_size.new.batch k.pm =
-    map-planned k.tables u k.pm k.batched k.lost k.batch c.plan_size.new.batch c.from_ref.result.now is c.self.invariant plan
+    let ready : IsMapPlanned c.listed.result.now k.tables.volume u.volume c.plan_size.new.batch k.pm =
+    map-planned k.tables u k.pm k.batched k.lost k.batch c.plan_size.new.batch c.listed.result.now is c.self.invariant plan
     in
     let landed = c.land_maps_plan.ensures.landed k.tables.volume ready in
-    map-paid (blocks_of c.from_ref.result.now) k.tables.volume u.volume k.pm c.land_maps_plan.new.pm c.args.power.now c.land_maps_plan.new.power c.land_maps_plan.result landed
+    map-paid (blocks_of c.listed.result.now) k.tables.volume u.volume k.pm c.land_maps_plan.new.pm c.args.power.now c.land_maps_plan.new.power c.land_maps_plan.result landed
 
 pub returns-clause-answer : goal.returns-clause-answer
 returns-clause-answer c =
@@ -82,11 +93,11 @@ returns-clause-answer c =
     let on : is_on c.args.power.now ≡ true = sym c.on.ensures ∙ c.if-not-on.false in
     let is : k.lost ≡ false = awake k.tables k.pm k.batched k.lost c.args.self.now c.args.power.now c.self.view_is c.requires.awake on in
     let planned = c.in-Ok.ensures in
-    let plan : IsMapPlan c.from_ref.result.now k.tables.volume u.volume c.plan_size.new.batch =
-    subst (λ (ns : List NewChain). IsMapPlan ns k.tables.volume u.volume c.plan_size.new.batch) (sym c.from_ref.ensures.value) planned.1.plan
+    let plan : IsMapPlan c.listed.result.now k.tables.volume u.volume c.plan_size.new.batch =
+    subst (λ (ns : List NewChain). IsMapPlan ns k.tables.volume u.volume c.plan_size.new.batch) (sym c.listed.ensures) planned.1.plan
     in
-    let ready : IsMapPlanned c.from_ref.result.now k.tables.volume u.volume c.plan_size.new.batch k.pm =
-    map-planned k.tables u k.pm k.batched k.lost k.batch c.plan_size.new.batch c.from_ref.result.now is c.self.invariant plan
+    let ready : IsMapPlanned c.listed.result.now k.tables.volume u.volume c.plan_size.new.batch k.pm =
+    map-planned k.tables u k.pm k.batched k.lost k.batch c.plan_size.new.batch c.listed.result.now is c.self.invariant plan
     in
     let file : IsLiveFile c.args.ino k.tables.volume =
     subst (λ (x : View). x.lost ≡ false → IsLiveFile c.args.ino x.volume) (sym c.self.view_is) c.requires.file is
@@ -99,8 +110,8 @@ returns-clause-answer c =
     singles order.unstaged
     in
     let landed = c.land_maps_plan.ensures.landed k.tables.volume ready in
-    map-answer k.tables u k.pm k.batched k.lost k.batch c.plan_size.new.batch c.from_ref.result.now is c.self.invariant plan planned.1.waiting keeps
-    (blocks_of c.from_ref.result.now)
+    map-answer k.tables u k.pm k.batched k.lost k.batch c.plan_size.new.batch c.listed.result.now is c.self.invariant plan planned.1.waiting keeps
+    (blocks_of c.listed.result.now)
     (λ x w blocks. IsSizedWith c.args.ino c.args.size x w blocks) c.args.self.now c.land_maps_plan.new.pm c.args.power.now c.land_maps_plan.new.power
     c.land_maps_plan.new.lost c.land_maps_plan.result c.land_maps_plan.ensures.same c.land_maps_plan.ensures.noted c.self.view_is
-    (record { sized = planned.0; written = ap blocks_of c.from_ref.ensures.value ∙ blocks_of-one c.in-Ok.map ∙ planned.1.chain_is }) landed
+    (record { sized = planned.0; written = subst (WritesChain c.args.ino k.tables.volume u.volume) (ap blocks_of (sym c.listed.ensures)) planned.1.written }) landed

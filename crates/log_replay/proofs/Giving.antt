@@ -33,7 +33,7 @@ use Rattle.staging_files.specs.volume_laws.PoolLaws.{unused-set}
 use Rattle.log_replay.specs.Replays.{seen, ShowsTheSame}
 use Rattle.log_replay.proofs.Keeping.{images-next, images-off, images-own, images-then, shows-first, shows-next}
 use Rattle.log_replay.proofs.Lines.{applied-set, in-data, KeepsBytes, KeepsLines, lines-set, live-kept}
-use Rattle.log_replay.specs.Quiet.{IsQuiet, IsSweepPaid, OnDone, ShowsAsBefore}
+use Rattle.log_replay.specs.Quiet.{IsQuiet, IsSweepPaid, left, OnDone, ShowsAsBefore}
 use Rattle.log_replay.specs.Sweeps.{AreUnstaged}
 
 -- the first n staging files have no blocks
@@ -127,14 +127,14 @@ way-each zero k0 k few quiet gave = subst (IsOnTheWay 0 k0) (sym gave) (way-begi
 way-each (suc n) k0 k few quiet (middle, before, last) =
     way-next n k0 middle k (omega (arith, few)) (way-each n k0 middle (omega (arith, few)) quiet before) last
 
-pub unstaged-done : (s t : Staged) (k k2 : View) (r : Result Commit AllocError) → IsQuiet k → IsGiveUpAllAnswer s k t k2 r → OnDone r (AreUnstaged k k2)
+pub unstaged-done : (s t : Staged) (k k2 : View) (r : Result Commit AllocError) → IsQuiet k → IsGiveUpAllAnswer s k t k2 r → OnDone (left r) (AreUnstaged k k2)
 unstaged-done s t k k2 (Ok Commit.Done) quiet answer =
     let way = way-each 4 k k2 (omega arith) quiet answer.2 in
     record { shows = way.shows; bare = λ x is. way.bare x is is.most }
 unstaged-done s t k k2 (Ok Commit.PowerLost) quiet answer = tt
 unstaged-done s t k k2 (Err e) quiet answer = tt
 
-pub unstaged-paid : (p : Supply) (r : Result Commit AllocError) → IsGiveUpAllPaid p r → IsSweepPaid p r
+pub unstaged-paid : (p : Supply) (r : Result Commit AllocError) → IsGiveUpAllPaid p r → IsSweepPaid p (left r)
 unstaged-paid p (Ok Commit.Done) paid = paid
 unstaged-paid p (Ok Commit.PowerLost) paid = paid
 unstaged-paid p (Err e) paid = paid

@@ -1,6 +1,5 @@
 -- A device is opened, the live entries of its log are carried out, it is swept, and it is settled.
 use Rattle.std.proofs.Common.{◌≡◌, ◌≤◌, ◌<◌, ◌+◌, ◌*◌, ◌^◌, ◌⊎◌, ℕ, false, List, [], length, Result, Ok, Err, refl, sym, ◌∙◌, ap, subst, arith, inl, inr}
-use Rattle.std.specs.declared.alloc.AllocError.{AllocError}
 use Rattle.k_check.specs.pm_model.declared.Cell.{Cell}
 use Rattle.k_check.specs.pm_model.Cells.{AllSingle}
 use Rattle.k_check.specs.pm_model.ImageLaws.{image-single, IsImage-words_of}
@@ -21,7 +20,6 @@ use Rattle.k_check.specs.image_model.Volume.{extents, Volume, volume}
 use Rattle.k_check.specs.extent_model.Extents.{disk_at}
 use Rattle.block_counts.specs.Counts.{blocks_for}
 use Rattle.staging_files.specs.image_laws.CheckedLaws.{checked-parts, head-checked, parts-checked}
-use Rattle.k_check.specs.k_journal.declared.outcomes.Commit.{Commit}
 use Rattle.log_replay.proofs.LapImages.{none_live}
 use Rattle.log_replay.proofs.Recovered.{recovers_checked}
 use Rattle.log_replay.specs.Laws.{IsCheckedToo, IsRecovered}
@@ -39,6 +37,7 @@ use Rattle.log_replay.specs.declared.mounting.faults.MountFault.{MountFault}
 use Rattle.log_replay.proofs.Showing.{left-opened, left-recovered}
 use Rattle.log_replay.specs.Mounts.{IsLeft, IsMountAnswer, IsMounted, IsOpenAnswer}
 use Rattle.log_replay.specs.Resets.{AreReset, IsClosed, MayReset}
+use Rattle.log_replay.specs.declared.stops.Stop.{Stop}
 use Rattle.log_replay.specs.Quiet.{IsQuiet, OnDone}
 use Rattle.log_replay.specs.Sweeps.{AreSwept, AreTrimmed, AreUnstaged, EndsInTime}
 
@@ -103,9 +102,8 @@ swept a b c first second = record {
   short = second.short;
 }
 
-pub swept-done : (a b c : View) (r : Result Commit AllocError) → AreUnstaged a b → OnDone r (AreTrimmed b c) → OnDone r (AreSwept a c)
-swept-done a b c (Ok Commit.Done) first second = swept a b c first second
-swept-done a b c (Ok Commit.PowerLost) first second = tt
+pub swept-done : (a b c : View) (r : Result (Unit {0}) Stop) → AreUnstaged a b → OnDone r (AreTrimmed b c) → OnDone r (AreSwept a c)
+swept-done a b c (Ok done_is) first second = swept a b c first second
 swept-done a b c (Err e) first second = tt
 
 -- ---- settled
@@ -134,10 +132,9 @@ may-reset k2 k3 is = record {
   same : k3.volume.geometry ≡ k2.volume.geometry
   same = is.checked.reads.geometry ∙ is.numbers
 
-pub closed-done : (k2 k3 k4 : View) (r : Result Commit AllocError) → IsSettled k2.volume.geometry (words_of k2.cells) k3 → OnDone r (AreReset k3 k4)
+pub closed-done : (k2 k3 k4 : View) (r : Result (Unit {0}) Stop) → IsSettled k2.volume.geometry (words_of k2.cells) k3 → OnDone r (AreReset k3 k4)
     → OnDone r (IsClosed k2 k4)
-closed-done k2 k3 k4 (Ok Commit.Done) settled is = record { middle = k3; settled = settled; reset = is }
-closed-done k2 k3 k4 (Ok Commit.PowerLost) settled is = tt
+closed-done k2 k3 k4 (Ok done_is) settled is = record { middle = k3; settled = settled; reset = is }
 closed-done k2 k3 k4 (Err e) settled is = tt
 
 module _ (k k2 k4 : View) (quiet : IsQuiet k) (swept_is : AreSwept k k2) (closed : IsClosed k2 k4) where
@@ -208,10 +205,9 @@ module _ (k k2 k4 : View) (quiet : IsQuiet k) (swept_is : AreSwept k k2) (closed
   mounted-swept =
       mounted-before k k2 k4 quiet.numbers quiet.checked swept_is.shows.quiet swept_is.shows.geometry swept_is.shows.base swept_is.shows.names swept_is.shows.same here
 
-pub finish-done : (k k2 k4 : View) (r : Result Commit AllocError) → IsQuiet k → AreSwept k k2 → OnDone r (IsClosed k2 k4)
+pub finish-done : (k k2 k4 : View) (r : Result (Unit {0}) Stop) → IsQuiet k → AreSwept k k2 → OnDone r (IsClosed k2 k4)
     → OnDone r (IsMounted k.volume.geometry (words_of k.cells) k4)
-finish-done k k2 k4 (Ok Commit.Done) quiet swept_is closed = mounted-swept k k2 k4 quiet swept_is closed
-finish-done k k2 k4 (Ok Commit.PowerLost) quiet swept_is closed = tt
+finish-done k k2 k4 (Ok done_is) quiet swept_is closed = mounted-swept k k2 k4 quiet swept_is closed
 finish-done k k2 k4 (Err e) quiet swept_is closed = tt
 
 -- ---- carried out
@@ -234,11 +230,10 @@ mounted-replayed ds k k1 k3 may done images is =
         let from = images (words_of k1.cells) (IsImage-words_of k1.cells) in
         subst (λ before. content k.volume.geometry (words_of k1.cells) ≡ content k.volume.geometry before) (image-single k.cells from.0 may.rest.single from.1.is_image) from.2.same
 
-pub recover-done : (ds : List Draft) (k k1 k3 : View) (r : Result Commit AllocError) → MayReplay k ds → IsReplayed k k1
+pub recover-done : (ds : List Draft) (k k1 k3 : View) (r : Result (Unit {0}) Stop) → MayReplay k ds → IsReplayed k k1
     → Follows (ShowsTheSame k.volume.geometry) k.cells k1.cells → OnDone r (IsMounted k1.volume.geometry (words_of k1.cells) k3)
     → OnDone r (IsMounted k.volume.geometry (words_of k.cells) k3)
-recover-done ds k k1 k3 (Ok Commit.Done) may done images is = mounted-replayed ds k k1 k3 may done images is
-recover-done ds k k1 k3 (Ok Commit.PowerLost) may done images is = tt
+recover-done ds k k1 k3 (Ok done_is) may done images is = mounted-replayed ds k k1 k3 may done images is
 recover-done ds k k1 k3 (Err e) may done images is = tt
 
 -- ---- opened

@@ -25,13 +25,14 @@ use Rattle.k_split.specs.k_map_plans.Plans.{IsLiveFile}
 use Rattle.k_split.specs.k_plans.Whole.{IsWhole}
 use Rattle.staging_files.specs.k_split_model.View.{View}
 use Rattle.staging_files.specs.k_split.declared.faults.KFault.{KFault}
+use Rattle.staging_files.specs.k_split.SizeLaws.{sized-free}
 use Rattle.staging_files.specs.k_split.MapChanges.{ChangesMaps, free_blocks_in, is_free_in, IsSizeAnswer, IsSizedWith}
 use Rattle.staging_files.specs.k_split_model.MapChangesChanges.{IsSized, with_size}
 use Rattle.staging_files.specs.k_split_model.Taken.{switched, with_map}
 use Rattle.staging_files.proofs.GiveUpLaws.{staging-file}
 use Rattle.staging_files.proofs.RoomLaws.{free-unused}
 use Rattle.staging_files.specs.Keeps.{IsStaging}
-use Rattle.k_check.specs.volume_laws.Changes.{chain-set_same, extents-set_other, extents-set_same}
+use Rattle.k_check.specs.volume_laws.Changes.{extents-set_other, extents-set_same}
 use Rattle.staging_files.specs.volume_change_laws.Bounds.{count_below-most}
 use Rattle.staging_files.specs.volume_change_laws.Lengths.{begins, disk_before, length-begins, starts}
 use Rattle.staging_files.specs.volume_laws.PoolLaws.{unused-set}
@@ -109,11 +110,6 @@ module _ (ino : ℕ) (k : View) (w : Volume) (blocks : List ℕ) (quiet : IsQuie
   map-other : (i : ℕ) → i ≢ ino → extents w i ≡ extents k.volume i
   map-other i other = ap (λ v. extents v i) given ∙ extents-set_other ino (with_map sized.blocks sized.es line) sized.blocks sized.es k.volume i other
 
-  chain-own : chain w ino ≡ sized.blocks
-  chain-own =
-      ap (λ v. chain v ino) given
-      ∙ chain-set_same ino (with_map sized.blocks sized.es line) sized.blocks sized.es k.volume (omega (arith, live.below, whole.maps.chain_count))
-
   bytes : KeepsBytes k.volume w
   bytes i block file within = elim (cases_eq i ino) [
     | inl own ↦
@@ -130,7 +126,7 @@ module _ (ino : ℕ) (k : View) (w : Volume) (blocks : List ℕ) (quiet : IsQuie
   none = live-kept k.volume w lines (seen k) applied ∙ quiet.none
 
   free : All (λ b. is_free_in k b ≡ true) blocks
-  free = subst (All (λ b. is_free_in k b ≡ true)) (sym (makes.written ∙ chain-own)) sized.taken.were_free
+  free = sized-free ino size k w blocks live.below whole.maps makes
 
   freed : unused_blocks k.volume ≤ unused_blocks w
   freed =
@@ -144,7 +140,7 @@ module _ (ino : ℕ) (k : View) (w : Volume) (blocks : List ℕ) (quiet : IsQuie
       let canonical : IsCanonical (extents k.volume ino) = map-canonical k ino quiet.rest.order quiet.rest.unbatched live.below in
       let fewer = fewer-blocks (blocks_for size) (extents k.volume ino) sized.es canonical sized.cut in
       let extents_few = fewer-extents (blocks_for size) (extents k.volume ino) sized.es canonical sized.cut in
-      let chains : length sized.blocks ≤ length (chain k.volume ino) = omega (arith, sized.taken.count, chain-counted k ino quiet.rest.order quiet.rest.unbatched live.below, extents_few) in
+      let chains : length sized.blocks ≤ length (chain k.volume ino) = omega (arith, sized.count, chain-counted k ino quiet.rest.order quiet.rest.unbatched live.below, extents_few) in
       omega (arith, set, same, fewer, chains)
 
   trimmed-own : EndsInTime w ino

@@ -7,6 +7,7 @@ use Rattle.k_check.specs.image_model.Checked.{IsCheckedAs}
 use Rattle.k_check.specs.image_model.Content.{content}
 use Rattle.k_check.specs.image_model.Rules.{geometry_of}
 use Rattle.k_check.specs.k_journal.declared.outcomes.Commit.{Commit}
+use Rattle.log_replay.specs.declared.stops.Stop.{Stop}
 use Rattle.log_replay.specs.Sheds.{IsAtRest}
 use Rattle.staging_files.specs.k_split_model.View.{View}
 use Rattle.log_replay.specs.Replays.{live_in, seen}
@@ -29,16 +30,21 @@ pub record ShowsAsBefore (old new : View) : Type 0 where
   pub same : content old.volume.geometry (words_of new.cells) ≡ content old.volume.geometry (words_of old.cells)
 
 -- where it is done
-abbrev pub OnDone : Result Commit AllocError → Type 0 → Type 0
-OnDone (Ok Commit.Done) P = P
-OnDone (Ok Commit.PowerLost) P = Unit {0}
-OnDone (Err e) P = Unit {0}
+abbrev pub OnDone : Result (Unit {0}) Stop → Type 0 → Type 0
+OnDone (Ok done) P = P
+OnDone (Err stop) P = Unit {0}
 
--- what it takes of the power: all that is left exactly where it answers `PowerLost`
-abbrev pub IsSweepPaid : Supply → Result Commit AllocError → Type 0
-IsSweepPaid new (Ok Commit.Done) = is_on new ≡ true
-IsSweepPaid new (Ok Commit.PowerLost) = is_on new ≡ false
-IsSweepPaid new (Err e) = is_on new ≡ true
+-- a part goes on where a change was done, and is left where the power or the memory did not suffice
+abbrev pub left : Result Commit AllocError → Result (Unit {0}) Stop
+left (Ok Commit.Done) = Ok tt
+left (Ok Commit.PowerLost) = Err Stop.PowerLost
+left (Err e) = Err Stop.NoMemory
+
+-- what it takes of the power: all that is left exactly where it is stopped so
+abbrev pub IsSweepPaid : Supply → Result (Unit {0}) Stop → Type 0
+IsSweepPaid new (Ok done) = is_on new ≡ true
+IsSweepPaid new (Err Stop.PowerLost) = is_on new ≡ false
+IsSweepPaid new (Err Stop.NoMemory) = is_on new ≡ true
 
 -- what is taken of the power: it was made with as many steps, no fewer are taken, and a power that is on was on before
 pub record IsSpent (old new : Supply) : Type 0 where

@@ -22,6 +22,7 @@ pub(crate) const FIRST_FILE: u32 = 5;
 mod mounting;
 mod replays;
 mod settling;
+mod stops;
 
 pub use mounting::{MountFault, mount};
 pub use replays::{a_remount_shows_the_same, in_order, replay, settle};

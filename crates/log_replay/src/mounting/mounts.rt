@@ -23,6 +23,7 @@ use crate::mounting::resetting::reset;
 use crate::mounting::trimming::trim;
 use crate::mounting::unstaging::unstage;
 use crate::replays::{in_order, replay, settle};
+use crate::stops::{Stop, left};
 use k_check::{CheckFault, Commit, Geometry, Recovered, check, live_log, recover};
 use layout_model::Draft;
 use pm_lines::{Pm, Power};
@@ -30,7 +31,7 @@ use staging_files::KSplit;
 use std::alloc::{AllocError, Global};
 
 // Nothing is staged any more, and no map goes past the end of its file.
-fn sweep(alloc: Global, k: &mut KSplit, power: &mut Power) -> Result<Commit, AllocError>
+fn sweep(alloc: Global, k: &mut KSplit, power: &mut Power) -> Result<(), Stop>
     requires { IsQuiet k.old }
     ensures spent { IsSpent power.old power.new }
     ensures paid { IsSweepPaid power.new result }
@@ -38,15 +39,12 @@ fn sweep(alloc: Global, k: &mut KSplit, power: &mut Power) -> Result<Commit, All
     ensures images { Follows (ShowsTheSame k.old.volume.geometry) k.old.cells k.new.cells }
     ensures device { IsSameDevice k.old.cells k.new.cells }
 {
-    let commit = unstage(alloc, k, power)?;
-    match commit {
-        Commit::PowerLost => Ok(Commit::PowerLost),
-        Commit::Done => trim(alloc, k, power),
-    }
+    unstage(alloc, k, power)?;
+    trim(alloc, k, power)
 }
 
 // A device is settled, and then no file has applied a high order.
-fn close(alloc: Global, k: &mut KSplit, power: &mut Power) -> Result<Commit, AllocError>
+fn close(alloc: Global, k: &mut KSplit, power: &mut Power) -> Result<(), Stop>
     requires { MaySettle k.old }
     ensures spent { IsSpent power.old power.new }
     ensures paid { IsSweepPaid power.new result }
@@ -54,14 +52,12 @@ fn close(alloc: Global, k: &mut KSplit, power: &mut Power) -> Result<Commit, All
     ensures images { StaysShown k.old.volume.geometry (words_of k.old.cells) k.new.cells }
     ensures device { IsSameDevice k.old.cells k.new.cells }
 {
-    match settle(k, power) {
-        Commit::PowerLost => Ok(Commit::PowerLost),
-        Commit::Done => reset(alloc, k, power),
-    }
+    left(Ok(settle(k, power)))?;
+    reset(alloc, k, power)
 }
 
 // A device of whose log no entry is live is put in order.
-fn finish(alloc: Global, k: &mut KSplit, power: &mut Power) -> Result<Commit, AllocError>
+fn finish(alloc: Global, k: &mut KSplit, power: &mut Power) -> Result<(), Stop>
     requires { IsQuiet k.old }
     ensures spent { IsSpent power.old power.new }
     ensures paid { IsSweepPaid power.new result }
@@ -70,11 +66,8 @@ fn finish(alloc: Global, k: &mut KSplit, power: &mut Power) -> Result<Commit, Al
     ensures images { StaysShown k.old.volume.geometry (words_of k.old.cells) k.new.cells }
     ensures device { IsSameDevice k.old.cells k.new.cells }
 {
-    let commit = sweep(alloc, k, power)?;
-    match commit {
-        Commit::PowerLost => Ok(Commit::PowerLost),
-        Commit::Done => close(alloc, k, power),
-    }
+    sweep(alloc, k, power)?;
+    close(alloc, k, power)
 }
 
 // The live entries are carried out, and the device is put in order.
@@ -83,7 +76,7 @@ fn recover_log(
     k: &mut KSplit,
     entries: &[Draft],
     power: &mut Power,
-) -> Result<Commit, AllocError>
+) -> Result<(), Stop>
     requires { MayReplay k.old entries.now }
     ensures spent { IsSpent power.old power.new }
     ensures paid { IsSweepPaid power.new result }
@@ -92,11 +85,8 @@ fn recover_log(
     ensures images { StaysShown k.old.volume.geometry (words_of k.old.cells) k.new.cells }
     ensures device { IsSameDevice k.old.cells k.new.cells }
 {
-    let commit = replay(alloc, k, entries, power)?;
-    match commit {
-        Commit::PowerLost => Ok(Commit::PowerLost),
-        Commit::Done => finish(alloc, k, power),
-    }
+    left(replay(alloc, k, entries, power))?;
+    finish(alloc, k, power)
 }
 
 // The live entries of the log of a checked device, in the order in which they are carried out.
@@ -152,10 +142,10 @@ fn mount_recovered(
     ensures answer { IsOpenAnswer geometry (words_of pm) power.new result }
 {
     let mut k = KSplit::open(alloc, pm, geometry, batched)?;
-    let commit = recover_log(alloc, &mut k, entries, power)?;
-    match commit {
-        Commit::Done => Ok(k),
-        Commit::PowerLost => Err(MountFault::PowerLost(k.into_pm())),
+    match recover_log(alloc, &mut k, entries, power) {
+        Ok(()) => Ok(k),
+        Err(Stop::PowerLost) => Err(MountFault::PowerLost(k.into_pm())),
+        Err(Stop::NoMemory) => Err(MountFault::NoMemory),
     }
 }
 

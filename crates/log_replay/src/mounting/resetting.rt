@@ -9,10 +9,10 @@ ghost use Rattle.log_replay.specs.Quiet.{IsQuiet, IsSpent, IsSweepPaid, OnDone};
 ghost use Rattle.log_replay.specs.Resets.{AreReset, IsResetOne, MayReset};
 
 use crate::FIRST_FILE;
-use k_check::Commit;
+use crate::stops::Stop;
 use pm_lines::Power;
 use staging_files::{KFault, KSplit};
-use std::alloc::{AllocError, Global};
+use std::alloc::Global;
 
 // The highest order that a file may have applied.
 const MOST_APPLIED: u64 = 1 << 62;
@@ -29,12 +29,7 @@ fn is_high(k: &KSplit, ino: u32) -> bool
 }
 
 // An inode has applied nothing where it was of a high order.
-fn reset_one(
-    alloc: Global,
-    k: &mut KSplit,
-    ino: u32,
-    power: &mut Power,
-) -> Result<Commit, AllocError>
+fn reset_one(alloc: Global, k: &mut KSplit, ino: u32, power: &mut Power) -> Result<(), Stop>
     requires on { is_on power.old ≡ true }
     requires may { MayReset k.old }
     ensures spent { IsSpent power.old power.new }
@@ -44,24 +39,22 @@ fn reset_one(
     ensures device { IsSameDevice k.old.cells k.new.cells }
 {
     if !is_high(k, ino) {
-        return Ok(Commit::Done);
+        return Ok(());
     }
     match k.reset_applied(alloc, ino, power) {
-        Ok(()) => Ok(Commit::Done),
-        Err(KFault::PowerLost) => Ok(Commit::PowerLost),
-        Err(KFault::NoMemory) => Err(AllocError),
+        Ok(()) => Ok(()),
+        Err(KFault::PowerLost) => Err(Stop::PowerLost),
+        Err(KFault::NoMemory) => Err(Stop::NoMemory),
         Err(_) => unreachable!(),
     }
 }
 
 /// Each file of which the last entry that it has applied is of an order above 2^62 has applied none then, by a
-/// change of its own; no line of the log is an entry. `PowerLost` comes exactly where the power is off at the
-/// return.
-///
+/// change of its own; no line of the log is an entry.
 /// # Errors
 ///
-/// Out of memory alone.
-pub(crate) fn reset(alloc: Global, k: &mut KSplit, power: &mut Power) -> Result<Commit, AllocError>
+/// `PowerLost` exactly where the power is off at the return; else `NoMemory` alone.
+pub(crate) fn reset(alloc: Global, k: &mut KSplit, power: &mut Power) -> Result<(), Stop>
     requires { MayReset k.old }
     ensures spent { IsSpent power.old power.new }
     ensures paid { IsSweepPaid power.new result }
@@ -70,15 +63,11 @@ pub(crate) fn reset(alloc: Global, k: &mut KSplit, power: &mut Power) -> Result<
     ensures device { IsSameDevice k.old.cells k.new.cells }
 {
     if !power.on() {
-        return Ok(Commit::PowerLost);
+        return Err(Stop::PowerLost);
     }
     let end = k.geometry().inodes;
     for ino in FIRST_FILE..end {
-        let commit = reset_one(alloc, k, ino, power)?;
-        match commit {
-            Commit::Done => {}
-            Commit::PowerLost => return Ok(Commit::PowerLost),
-        }
+        reset_one(alloc, k, ino, power)?;
     }
-    Ok(Commit::Done)
+    Ok(())
 }

@@ -11,12 +11,12 @@ ghost use Rattle.log_replay.specs.Quiet.{IsQuiet, IsSpent, IsSweepPaid, OnDone};
 ghost use Rattle.log_replay.specs.Sweeps.{AreTrimmed, EndsInTime, IsTrimmedOne};
 
 use crate::FIRST_FILE;
+use crate::stops::Stop;
 use block_counts::blocks_for;
-use k_check::Commit;
 use layout_model::Kind;
 use pm_lines::Power;
 use staging_files::{KFault, KSplit};
-use std::alloc::{AllocError, Global};
+use std::alloc::Global;
 
 // The length of a file whose map goes past its end.
 fn length_passed(k: &KSplit, ino: u32) -> Option<u64>
@@ -44,7 +44,7 @@ fn cut_file(
     ino: u32,
     size: u64,
     power: &mut Power,
-) -> Result<Commit, AllocError>
+) -> Result<(), Stop>
     requires quiet { IsQuiet k.old }
     requires file { IsLiveFile ino k.old.volume }
     requires own { size ≡ (inode k.old.volume ino).size }
@@ -55,20 +55,15 @@ fn cut_file(
     ensures device { IsSameDevice k.old.cells k.new.cells }
 {
     match k.set_size(alloc, ino, size, power) {
-        Ok(()) => Ok(Commit::Done),
-        Err(KFault::PowerLost) => Ok(Commit::PowerLost),
-        Err(KFault::NoMemory) => Err(AllocError),
+        Ok(()) => Ok(()),
+        Err(KFault::PowerLost) => Err(Stop::PowerLost),
+        Err(KFault::NoMemory) => Err(Stop::NoMemory),
         Err(_) => unreachable!(),
     }
 }
 
 // The map of an inode loses what it has past the end of a file.
-fn trim_one(
-    alloc: Global,
-    k: &mut KSplit,
-    ino: u32,
-    power: &mut Power,
-) -> Result<Commit, AllocError>
+fn trim_one(alloc: Global, k: &mut KSplit, ino: u32, power: &mut Power) -> Result<(), Stop>
     requires on { is_on power.old ≡ true }
     requires quiet { IsQuiet k.old }
     ensures spent { IsSpent power.old power.new }
@@ -78,18 +73,18 @@ fn trim_one(
     ensures device { IsSameDevice k.old.cells k.new.cells }
 {
     match length_passed(k, ino) {
-        None => Ok(Commit::Done),
+        None => Ok(()),
         Some(size) => cut_file(alloc, k, ino, size, power),
     }
 }
 
 /// The maps of all files lose what they have past the ends, each by a change of its own; no entry of the log is
-/// live. `PowerLost` comes exactly where the power is off at the return.
+/// live.
 ///
 /// # Errors
 ///
-/// Out of memory alone.
-pub(crate) fn trim(alloc: Global, k: &mut KSplit, power: &mut Power) -> Result<Commit, AllocError>
+/// `PowerLost` exactly where the power is off at the return; else `NoMemory` alone.
+pub(crate) fn trim(alloc: Global, k: &mut KSplit, power: &mut Power) -> Result<(), Stop>
     requires { IsQuiet k.old }
     ensures spent { IsSpent power.old power.new }
     ensures paid { IsSweepPaid power.new result }
@@ -98,15 +93,11 @@ pub(crate) fn trim(alloc: Global, k: &mut KSplit, power: &mut Power) -> Result<C
     ensures device { IsSameDevice k.old.cells k.new.cells }
 {
     if !power.on() {
-        return Ok(Commit::PowerLost);
+        return Err(Stop::PowerLost);
     }
     let end = k.geometry().inodes;
     for ino in FIRST_FILE..end {
-        let commit = trim_one(alloc, k, ino, power)?;
-        match commit {
-            Commit::Done => {}
-            Commit::PowerLost => return Ok(Commit::PowerLost),
-        }
+        trim_one(alloc, k, ino, power)?;
     }
-    Ok(Commit::Done)
+    Ok(())
 }

@@ -5,22 +5,17 @@ ghost use Rattle.log_replay.specs.Sheds.{IsSameDevice};
 ghost use Rattle.log_replay.specs.Quiet.{IsQuiet, IsSpent, IsSweepPaid, OnDone};
 ghost use Rattle.log_replay.specs.Sweeps.{AreUnstaged};
 
-use k_check::Commit;
+use crate::stops::{Stop, left};
 use pm_lines::Power;
 use staging_files::{KSplit, Staging};
-use std::alloc::{AllocError, Global};
+use std::alloc::Global;
 
-/// All staging files give up their blocks; no entry of the log is live. `PowerLost` comes exactly where the power
-/// is off at the return.
+/// All staging files give up their blocks; no entry of the log is live.
 ///
 /// # Errors
 ///
-/// Out of memory alone.
-pub(crate) fn unstage(
-    alloc: Global,
-    k: &mut KSplit,
-    power: &mut Power,
-) -> Result<Commit, AllocError>
+/// `PowerLost` exactly where the power is off at the return; else `NoMemory` alone.
+pub(crate) fn unstage(alloc: Global, k: &mut KSplit, power: &mut Power) -> Result<(), Stop>
     requires { IsQuiet k.old }
     ensures spent { IsSpent power.old power.new }
     ensures paid { IsSweepPaid power.new result }
@@ -28,5 +23,5 @@ pub(crate) fn unstage(
     ensures images { Follows (ShowsTheSame k.old.volume.geometry) k.old.cells k.new.cells }
     ensures device { IsSameDevice k.old.cells k.new.cells }
 {
-    Staging::new(alloc).give_up_all(alloc, k, power)
+    left(Staging::new(alloc).give_up_all(alloc, k, power))
 }

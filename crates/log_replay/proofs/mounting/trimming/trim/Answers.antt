@@ -16,20 +16,16 @@ loop-ino-init c = (way-begins c.args.k.now c.requires, spent-none c.args.power.n
 
 pub loop-ino-preserved : goal.loop-ino-preserved
 loop-ino-preserved c =
-    let one : IsTrimmedOne c.loop-ino.ino c.loop-ino.k c.trim_one.new.k = rw c.in-Done.is at c.in_ok-commit.ensures.done in
-    let on : is_on c.trim_one.new.power ≡ true = rw c.in-Done.is at c.in_ok-commit.ensures.paid in (
+    let one : IsTrimmedOne c.loop-ino.ino c.loop-ino.k c.trim_one.new.k = c.in_ok-trim_one.ensures.done in
+    let on : is_on c.trim_one.new.power ≡ true = c.in_ok-trim_one.ensures.paid in (
       way-next c.args.k.now c.loop-ino.k c.trim_one.new.k c.loop-ino.ino c.loop-ino.invariant.0 one,
       spent-then c.args.power.now c.loop-ino.power c.trim_one.new.power c.loop-ino.invariant.1 c.trim_one.ensures.spent,
       on,
       device-then c.args.k.now.cells c.loop-ino.k.cells c.trim_one.new.k.cells c.loop-ino.invariant.3 c.trim_one.ensures.device,
     )
 
-pub returns-in_err-commit-clause-spent : goal.returns-in_err-commit-clause-spent
-returns-in_err-commit-clause-spent c =
-    spent-then c.args.power.now c.loop-ino.power c.trim_one.new.power c.loop-ino.invariant.1 c.trim_one.ensures.spent
-
-pub returns-in-PowerLost-clause-spent : goal.returns-in-PowerLost-clause-spent
-returns-in-PowerLost-clause-spent c =
+pub returns-in_err-trim_one-clause-spent : goal.returns-in_err-trim_one-clause-spent
+returns-in_err-trim_one-clause-spent c =
     spent-then c.args.power.now c.loop-ino.power c.trim_one.new.power c.loop-ino.invariant.1 c.trim_one.ensures.spent
 
 pub returns-clause-done : goal.returns-clause-done
@@ -40,12 +36,8 @@ returns-clause-done c =
 pub returns-then-not-on-clause-images : goal.returns-then-not-on-clause-images
 returns-then-not-on-clause-images c = images-own c.args.k.now c.args.k.now c.requires.rest.single (shows-first c.args.k.now c.requires)
 
-pub returns-in_err-commit-clause-images : goal.returns-in_err-commit-clause-images
-returns-in_err-commit-clause-images c =
-    way-images c.args.k.now c.loop-ino.k c.loop-ino.ino c.trim_one.new.k.cells c.requires.rest.single c.loop-ino.invariant.0 c.trim_one.ensures.images
-
-pub returns-in-PowerLost-clause-images : goal.returns-in-PowerLost-clause-images
-returns-in-PowerLost-clause-images c =
+pub returns-in_err-trim_one-clause-images : goal.returns-in_err-trim_one-clause-images
+returns-in_err-trim_one-clause-images c =
     way-images c.args.k.now c.loop-ino.k c.loop-ino.ino c.trim_one.new.k.cells c.requires.rest.single c.loop-ino.invariant.0 c.trim_one.ensures.images
 
 pub returns-clause-images : goal.returns-clause-images
@@ -54,12 +46,8 @@ returns-clause-images c = images-own c.args.k.now c.loop-ino.k c.requires.rest.s
 pub returns-then-not-on-clause-device : goal.returns-then-not-on-clause-device
 returns-then-not-on-clause-device c = device-none c.args.k.now.cells
 
-pub returns-in_err-commit-clause-device : goal.returns-in_err-commit-clause-device
-returns-in_err-commit-clause-device c =
-    device-then c.args.k.now.cells c.loop-ino.k.cells c.trim_one.new.k.cells c.loop-ino.invariant.3 c.trim_one.ensures.device
-
-pub returns-in-PowerLost-clause-device : goal.returns-in-PowerLost-clause-device
-returns-in-PowerLost-clause-device c =
+pub returns-in_err-trim_one-clause-device : goal.returns-in_err-trim_one-clause-device
+returns-in_err-trim_one-clause-device c =
     device-then c.args.k.now.cells c.loop-ino.k.cells c.trim_one.new.k.cells c.loop-ino.invariant.3 c.trim_one.ensures.device
 
 pub returns-clause-device : goal.returns-clause-device

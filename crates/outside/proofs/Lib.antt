@@ -1,1 +1,2 @@
 pub mod KnownBytesMore
+pub mod Replaced

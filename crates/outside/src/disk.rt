@@ -1,23 +1,22 @@
 //! The real files and the real output. They tell no contents, and count their failures. A file is
 //! replaced by a new one that is on the disk before it takes the name, so that no failure leaves a
 //! file in part.
-ghost use Rattle.std.specs.Prelude.{◌≡◌, ◌≢◌, ◌≤◌, ◌<◌, ◌↔◌, ◌++◌, ℕ, List, Option, None, length, OnOk, OnErr, IfOk, IfErr, IfSome, IsErrOf, IsErrAnd};
+ghost use Rattle.std.specs.Prelude.{◌≡◌, ◌≢◌, ◌≤◌, ◌<◌, ◌↔◌, ℕ, List, Option, None, length, OnOk, OnErr, IfOk, IfErr, IfSome, IsErrOf, IsErrAnd, ⊤};
 ghost use Rattle.std.specs.Io.KnownBytes.{Appends};
 ghost use Rattle.std.specs.IoError.{error_kind};
-ghost use Rattle.std.specs.String.{string_bytes};
 ghost use Rattle.outside.specs.Outside.{Rose, Takes, TakesFront};
 
 use crate::faults::{FileFault, Files, Sink, SinkFault};
-use std::alloc::{AllocError, Global};
-use std::fs::OpenFile;
+use crate::folder::Folder;
+use crate::replace::{replace_whole, working_fault};
+use crate::written::{Named, Written};
+use std::alloc::Global;
+use std::fs::{Metadata, OpenFile, Permissions};
 use std::io::{ErrorKind, Read, Write};
 use std::{fs, io, rt};
 
 /// The longest file that is read, in bytes: 64 MiB more than the largest image, which has 64 MiB.
 pub const LONGEST_READ: usize = 128 << 20;
-
-// What stands behind the name of a file in the name of the new file that is to take its place.
-const BESIDE: &str = ".splitfs-new";
 
 /// The files of a runtime. A count stands still at 2^64 - 1.
 #[derive(Drop)]
@@ -35,7 +34,7 @@ pub struct OutSink<W: Write + Drop> {
 }
 
 // Why a reader was not read whole.
-#[derive(Clone, Copy, Debug, PartialEq, Eq)]
+#[derive(Clone, Copy)]
 pub(crate) enum ReadFault {
     // It gives more than `LONGEST_READ` bytes.
     TooLong,
@@ -52,18 +51,6 @@ fn opening_fault(kind: ErrorKind) -> FileFault
         FileFault::Missing
     } else {
         working_fault(kind)
-    }
-}
-
-// The fault of an error where a file is read or written, which is there.
-fn working_fault(kind: ErrorKind) -> FileFault
-    ensures memory { (result ≡ FileFault.NoMemory) ↔ (kind ≡ ErrorKind.OutOfMemory) }
-    ensures failed { (result ≡ FileFault.Failed) ↔ (kind ≢ ErrorKind.OutOfMemory) }
-{
-    if kind == ErrorKind::OutOfMemory {
-        FileFault::NoMemory
-    } else {
-        FileFault::Failed
     }
 }
 
@@ -162,105 +149,6 @@ fn read_opened<F: Read + Drop>(alloc: Global, opened: io::Result<F>) -> Result<V
     }
 }
 
-// The file that was made or emptied, with all of the bytes written behind those that it has.
-fn write_opened<F: Write + Drop>(opened: io::Result<F>, bytes: &[u8]) -> Result<F, FileFault>
-    ensures appended { IfOk opened (λ made. IfOk result (λ file.
-        Appends (F.contents made) (F.contents file) bytes.now)) }
-    ensures never_missing { IsErrOf result FileFault.Missing → ⊥ }
-{
-    match opened {
-        Ok(mut file) => match write_whole(&mut file, bytes) {
-            Ok(()) => Ok(file),
-            Err(error) => Err(working_fault(error.kind())),
-        },
-        Err(error) => Err(working_fault(error.kind())),
-    }
-}
-
-// The name of the new file beside a file.
-fn name_beside(alloc: Global, name: &str) -> Result<String, AllocError>
-    ensures { IfOk result (λ beside. string_bytes beside ≡ name.now ++ BESIDE.now) }
-{
-    let mut beside = String::from_str(alloc, name)?;
-    beside.push_str(BESIDE)?;
-    Ok(beside)
-}
-
-// Makes the new file beside a file, with the permissions of the file where it is there; one that
-// was left there is emptied. A file that nobody may write, and what is no file, is not to be
-// replaced.
-fn create_beside<R: rt::Files>(files: &R, name: &str, beside: &str) -> io::Result<R::File> {
-    match fs::metadata(files, name) {
-        Ok(found) => {
-            if !found.is_file() || found.permissions().readonly() {
-                return Err(io::Error::from(ErrorKind::PermissionDenied));
-            }
-            let file = fs::create(files, beside)?;
-            file.set_permissions(found.permissions())?;
-            Ok(file)
-        }
-        Err(error) => {
-            if error.kind() == ErrorKind::NotFound {
-                fs::create(files, beside)
-            } else {
-                Err(error)
-            }
-        }
-    }
-}
-
-// Writes all of the bytes into the new file, until they are on the disk.
-fn write_beside<R: rt::Files>(
-    files: &R,
-    name: &str,
-    beside: &str,
-    bytes: &[u8],
-) -> Result<(), FileFault>
-    ensures never_missing { IsErrOf result FileFault.Missing → ⊥ }
-{
-    let file = write_opened(create_beside(files, name, beside), bytes)?;
-    match file.sync_all() {
-        Ok(()) => Ok(()),
-        Err(error) => Err(working_fault(error.kind())),
-    }
-}
-
-// Writes the new file, and gives it the name of the file.
-fn put_in_place<R: rt::Files>(
-    files: &R,
-    name: &str,
-    beside: &str,
-    bytes: &[u8],
-) -> Result<(), FileFault>
-    ensures never_missing { IsErrOf result FileFault.Missing → ⊥ }
-{
-    write_beside(files, name, beside, bytes)?;
-    match fs::rename(files, beside, name) {
-        Ok(()) => Ok(()),
-        Err(error) => Err(working_fault(error.kind())),
-    }
-}
-
-// Replaces a file by a new one of these bytes. Where that fails the new one is taken away again, as
-// far as that goes.
-fn replace_whole<R: rt::Files>(
-    alloc: Global,
-    files: &R,
-    name: &str,
-    bytes: &[u8],
-) -> Result<(), FileFault>
-    ensures never_missing { IsErrOf result FileFault.Missing → ⊥ }
-{
-    let Ok(beside) = name_beside(alloc, name) else {
-        return Err(FileFault::NoMemory);
-    };
-    let result = put_in_place(files, name, &beside, bytes);
-    if result.is_err() {
-        let _left = fs::remove_file(files, &beside);
-    }
-    result
-}
-
 impl<R: rt::Files + Drop> DiskFiles<R> {
     /// The files that the runtime reaches.
     pub fn new(files: R) -> DiskFiles<R>
@@ -272,6 +160,69 @@ impl<R: rt::Files + Drop> DiskFiles<R> {
             faults: 0,
             misses: 0,
         }
+    }
+}
+
+// Each step is a call of the operating system, which tells nothing. Only what a file tells that it
+// holds is known.
+impl<R: rt::Files + Drop> Folder for DiskFiles<R> {
+    type New = R::File;
+
+    type Written = Written<R::File>;
+
+    type Named = Named;
+
+    ghost has_failed = { λ _. ⊤ };
+
+    ghost is_found = { λ _ _. ⊤ };
+
+    ghost is_missing = { λ _. ⊤ };
+
+    ghost is_made = { λ _ _. ⊤ };
+
+    ghost has_permissions = { λ _ _. ⊤ };
+
+    ghost is_filled = { λ made bytes new.
+        Appends (R.File.contents made) (R.File.contents new) bytes };
+
+    ghost is_on_disk = { λ _ _. ⊤ };
+
+    ghost is_renamed = { λ _ _ _ _. ⊤ };
+
+    ghost is_sync_asked = { λ _ _. ⊤ };
+
+    ghost is_removal_asked = { λ _. ⊤ };
+
+    fn metadata(&self, name: &str) -> io::Result<Metadata> {
+        fs::metadata(&self.files, name)
+    }
+
+    fn create(&self, name: &str) -> io::Result<R::File> {
+        fs::create(&self.files, name)
+    }
+
+    fn set_permissions(&self, new: &R::File, permissions: Permissions) -> io::Result<()> {
+        new.set_permissions(permissions)
+    }
+
+    fn fill(&self, new: &mut R::File, bytes: &[u8]) -> io::Result<()> {
+        write_whole(new, bytes)
+    }
+
+    fn sync(&self, new: R::File) -> io::Result<Written<R::File>> {
+        Written::sync(new)
+    }
+
+    fn rename(&self, written: Written<R::File>, from: &str, to: &str) -> io::Result<Named> {
+        written.rename(&self.files, from, to)
+    }
+
+    fn sync_folder(&self, _named: &Named, folder: &str) -> io::Result<()> {
+        fs::open(&self.files, folder)?.sync_all()
+    }
+
+    fn remove(&self, name: &str) -> io::Result<()> {
+        fs::remove_file(&self.files, name)
     }
 }
 
@@ -295,12 +246,17 @@ impl<R: rt::Files + AllocGlobal + Drop> Files for DiskFiles<R> {
     /// Writes the bytes into a new file beside the file, its name with `.splitfs-new` behind it,
     /// waits until they are on the disk, and then gives the new file the name, in one step of the
     /// operating system. So whenever the process, the host or the disk fails, the name has the old
-    /// bytes or all of the new ones. Until the operating system has put the folder on the disk, a
-    /// crash of the host may bring the old ones back.
+    /// bytes or all of the new ones.
+    ///
+    /// Then it waits until the folder is on the disk too. Where that fails, also where the folder
+    /// cannot be opened, the answer is Ok all the same: the name has the new bytes, and an error
+    /// has to leave the old ones. All that is lost is that a crash of the host may still bring the
+    /// old ones back.
     ///
     /// A failure leaves the file as it was, and takes the new file away as far as that goes; a
     /// process that is ended, or a crash, may leave the new file, which the next replace
-    /// overwrites. A file that was there under the name with `.splitfs-new` behind it is lost.
+    /// overwrites. A file that was there under the name with `.splitfs-new` behind it is lost; a
+    /// symbolic link of that name is followed, and then takes the name.
     ///
     /// It is answered as Failed also where the folder may not be written, where the last part of
     /// the name gets longer than the file system allows (255 bytes on most), where nobody may write
@@ -312,7 +268,7 @@ impl<R: rt::Files + AllocGlobal + Drop> Files for DiskFiles<R> {
     /// NoMemory comes where no memory is left for the name of the new file, and where the operating
     /// system has none.
     fn replace(&mut self, name: &str, bytes: &[u8]) -> Result<(), FileFault> {
-        match replace_whole(self.files.alloc(), &self.files, name, bytes) {
+        match replace_whole(self.files.alloc(), &*self, name, bytes) {
             Ok(()) => Ok(()),
             Err(fault) => {
                 if fault == FileFault::Failed {

@@ -7,17 +7,21 @@
 //! tell it, and fail at just the calls that they are given. `DiskFiles` and `OutSink` are the real
 //! ones: they tell nothing, since no contract can say what a disk holds, and count their failures
 //! from 0. `OutSink::put` says what its writer has taken, where the writer tells it. `DiskFiles`
-//! puts a new file, once it is on the disk, in the place of the one that it replaces. That it reads
-//! and replaces the right bytes, and that `OutSink` flushes, is tested.
+//! gives a new file the name of another only once it has all of the bytes and is on the disk:
+//! proved over any folder, from what its steps tell. That the real steps do so, that the right
+//! bytes are read, and that `OutSink` flushes, is tested.
 //!
 //! Stands on std and `thiserror`.
 #![tactic(auto)]
 
 mod disk;
 mod faults;
+mod folder;
 mod memory;
+mod replace;
 #[cfg(test)]
 mod tests;
+mod written;
 
 pub use disk::{DiskFiles, OutSink};
 pub use faults::{FileFault, Files, Sink, SinkFault};

@@ -1,11 +1,12 @@
 //! That each call succeeds with ample memory, the real files, and readers and writers that are
 //! interrupted, that fail, and that hold what is not flushed.
 use crate::disk::{ReadFault, read_whole};
+use crate::replace::folder_of;
 use crate::{DiskFiles, FileFault, Files, MemFiles, MemSink, OutSink, Sink};
 use std::alloc::Global;
 use std::fs::Permissions;
 use std::io::{ErrorKind, Read, Write};
-use std::os::unix::fs::PermissionsExt;
+use std::os::unix::fs::{PermissionsExt, symlink};
 use std::test::Fail;
 use std::{fs, io};
 
@@ -24,73 +25,158 @@ fn a_sink_in_memory(rt: HostRuntime) {
     assert_eq!(rt; sink.put(b"/ dir\n"), Ok(()));
 }
 
+// What the files hold before a replace and after it.
+const OLD: &[u8] = b"the old bytes";
+
+const NEW: &[u8] = b"new";
+
 // A name of this process alone.
 fn own_name(rt: &HostRuntime, what: &str) -> Result<String, Fail> {
     let number = std::process::id(rt.process());
     Ok(format!(in rt.alloc(); "/tmp/splitfs-outside-{number}-{what}")?)
 }
 
-#[test]
-fn real_files(rt: HostRuntime) -> Result<(), Fail> {
-    let name = own_name(&rt, "real")?;
-    let alloc = rt.alloc();
-    let mut long = vec![in alloc; 7; 10_000]?;
-    long[9_999] = 8;
+// What a replace answers, and a read after it.
+#[derive(Drop)]
+struct Seen {
+    answer: Result<(), FileFault>,
+    read: Result<Vec<u8>, FileFault>,
+}
+
+fn replaced(rt: &HostRuntime, name: &str, bytes: &[u8]) -> Result<Seen, Fail> {
     let mut files = DiskFiles::new(rt.clone()?);
-    assert_eq!(rt; files.read(alloc, &name).err(), Some(FileFault::Missing));
-    assert_eq!(rt; files.replace(&name, &long), Ok(()));
-    let read = files.read(alloc, &name).expect(&rt, "the file");
-    assert_eq!(rt; read.as_slice(), long.as_slice());
-    assert_eq!(rt; files.read(alloc, "/tmp").err(), Some(FileFault::Failed));
-    assert_eq!(rt; files.replace("/tmp", &long), Err(FileFault::Failed));
+    let answer = files.replace(name, bytes);
+    let read = files.read(rt.alloc(), name);
+    Ok(Seen { answer, read })
+}
+
+fn is_read_as(read: &Result<Vec<u8>, FileFault>, bytes: &[u8]) -> bool {
+    match read {
+        Ok(found) => found.as_slice() == bytes,
+        Err(_) => false,
+    }
+}
+
+// A file of several pieces.
+#[test]
+fn a_long_file(rt: HostRuntime) -> Result<(), Fail> {
+    let name = own_name(&rt, "long")?;
+    let mut bytes = vec![in rt.alloc(); 7; 10_000]?;
+    bytes[9_999] = 8;
+    let seen = replaced(&rt, &name, &bytes)?;
+    assert_eq!(rt; seen.answer, Ok(()));
+    assert!(rt; is_read_as(&seen.read, &bytes));
     fs::remove_file(&rt, &name)?;
     Ok(())
 }
 
-// A file that is replaced has the new bytes alone, and the permissions that it had. The new file
-// beside it is gone, also where one had been left.
+// A folder, and a name in a folder that is missing, which is not made.
 #[test]
-fn a_real_file_is_replaced(rt: HostRuntime) -> Result<(), Fail> {
-    let name = own_name(&rt, "replaced")?;
-    let beside = own_name(&rt, "replaced.splitfs-new")?;
-    let alloc = rt.alloc();
-    let mut files = DiskFiles::new(rt.clone()?);
-    assert_eq!(rt; files.replace(&name, b"the old bytes"), Ok(()));
-    fs::set_permissions(&rt, &name, Permissions::from_mode(0o600))?;
-    fs::write(&rt, &beside, b"what an end in between has left")?;
-    assert_eq!(rt; files.replace(&name, b"new"), Ok(()));
-    let read = files.read(alloc, &name).expect(&rt, "the file");
-    assert_eq!(rt; read.as_slice(), b"new".as_slice());
-    let mode = fs::metadata(&rt, &name)?.permissions().mode();
-    assert_eq!(rt; mode & 0o777, 0o600);
-    assert!(rt; !fs::exists(&rt, &beside)?);
-    fs::remove_file(&rt, &name)?;
+fn names_of_no_file(rt: HostRuntime) -> Result<(), Fail> {
+    for (name, fault) in [
+        ("/tmp", FileFault::Failed),
+        ("/tmp/splitfs-outside-nowhere/image", FileFault::Missing),
+    ] {
+        let seen = replaced(&rt, name, NEW)?;
+        assert_eq!(rt; seen.answer, Err(FileFault::Failed), "{name}");
+        assert_eq!(rt; seen.read.err(), Some(fault), "{name}");
+    }
+    assert!(rt; !fs::exists(&rt, "/tmp/splitfs-outside-nowhere")?);
     Ok(())
 }
 
-// A replace that fails is answered as Failed, and leaves the file as it was: where the new file
-// cannot be made, where nobody may write the file, and where there is no such folder, in which none
-// is made.
+// What stands under a name, and under the name of the new file beside it, before a replace.
+#[derive(Clone, Copy, Debug)]
+enum Scene {
+    // Nothing.
+    Nothing,
+    // A file that its owner alone may read and write, and nothing.
+    Old,
+    // Such a file, and a new file that an end in between has left.
+    LeftBeside,
+    // Such a file, and a folder.
+    FolderBeside,
+    // Such a file, and a link to a device that is full.
+    FullBeside,
+    // A file that nobody may write, and nothing.
+    Locked,
+}
+
+fn write_old(rt: &HostRuntime, name: &str, mode: u32) -> io::Result<()> {
+    fs::write(rt, name, OLD)?;
+    fs::set_permissions(rt, name, Permissions::from_mode(mode))
+}
+
+fn set_beside(rt: &HostRuntime, scene: Scene, beside: &str) -> io::Result<()> {
+    match scene {
+        Scene::LeftBeside => fs::write(rt, beside, OLD),
+        Scene::FolderBeside => fs::create_dir(rt, beside),
+        Scene::FullBeside => symlink(rt, "/dev/full", beside),
+        Scene::Nothing | Scene::Old | Scene::Locked => Ok(()),
+    }
+}
+
+fn set_scene(rt: &HostRuntime, scene: Scene, name: &str, beside: &str) -> io::Result<()> {
+    match scene {
+        Scene::Nothing => Ok(()),
+        Scene::Locked => write_old(rt, name, 0o400),
+        _ => {
+            write_old(rt, name, 0o600)?;
+            set_beside(rt, scene, beside)
+        }
+    }
+}
+
+fn mode_of(rt: &HostRuntime, name: &str) -> Option<u32> {
+    match fs::metadata(rt, name) {
+        Ok(found) => Some(found.permissions().mode()),
+        Err(_) => None,
+    }
+}
+
+// Whether a replace is answered so, and leaves the new bytes or the old ones, the permissions that
+// were there, and nothing beside, of which a folder that stood there is taken away first.
+fn ends_so(
+    rt: &HostRuntime,
+    name: &str,
+    beside: &str,
+    answer: Result<(), FileFault>,
+) -> Result<bool, Fail> {
+    let mode = mode_of(rt, name);
+    let bytes = if answer.is_ok() { NEW } else { OLD };
+    let seen = replaced(rt, name, NEW)?;
+    let _folder = fs::remove_dir(rt, beside);
+    let is_clean = fs::symlink_metadata(rt, beside).is_err();
+    let is_kept = mode.is_none() || mode_of(rt, name) == mode;
+    Ok(is_clean && is_kept && seen.answer == answer && is_read_as(&seen.read, bytes))
+}
+
 #[test]
-fn a_real_file_is_not_replaced(rt: HostRuntime) -> Result<(), Fail> {
-    let name = own_name(&rt, "kept")?;
-    let beside = own_name(&rt, "kept.splitfs-new")?;
-    let nowhere = own_name(&rt, "nowhere")?;
-    let inside = own_name(&rt, "nowhere/image")?;
-    let alloc = rt.alloc();
-    let mut files = DiskFiles::new(rt.clone()?);
-    assert_eq!(rt; files.replace(&name, b"the old bytes"), Ok(()));
-    fs::create_dir(&rt, &beside)?;
-    assert_eq!(rt; files.replace(&name, b"new"), Err(FileFault::Failed));
-    fs::remove_dir(&rt, &beside)?;
-    fs::set_permissions(&rt, &name, Permissions::from_mode(0o400))?;
-    assert_eq!(rt; files.replace(&name, b"new"), Err(FileFault::Failed));
-    let read = files.read(alloc, &name).expect(&rt, "the file");
-    assert_eq!(rt; read.as_slice(), b"the old bytes".as_slice());
-    assert!(rt; !fs::exists(&rt, &beside)?);
-    assert_eq!(rt; files.replace(&inside, b"new"), Err(FileFault::Failed));
-    assert!(rt; !fs::exists(&rt, &nowhere)?);
-    fs::remove_file(&rt, &name)?;
+fn replaces(rt: HostRuntime) -> Result<(), Fail> {
+    let name = own_name(&rt, "image")?;
+    let beside = own_name(&rt, "image.splitfs-new")?;
+    for (scene, answer) in [
+        (Scene::Nothing, Ok(())),
+        (Scene::Old, Ok(())),
+        (Scene::LeftBeside, Ok(())),
+        (Scene::FolderBeside, Err(FileFault::Failed)),
+        (Scene::FullBeside, Err(FileFault::Failed)),
+        (Scene::Locked, Err(FileFault::Failed)),
+    ] {
+        set_scene(&rt, scene, &name, &beside)?;
+        assert!(rt; ends_so(&rt, &name, &beside, answer)?, "{scene:?}");
+        fs::remove_file(&rt, &name)?;
+    }
+    Ok(())
+}
+
+// The folders of names, and that the operating system puts a folder on the disk.
+#[test]
+fn folders(rt: HostRuntime) -> Result<(), Fail> {
+    for (name, folder) in [("a", "."), ("b/a", "b"), ("/b/c/a", "/b/c"), ("/a", "/")] {
+        assert_eq!(rt; folder_of(name), folder, "{name}");
+    }
+    fs::open(&rt, "/tmp")?.sync_all()?;
     Ok(())
 }
 
@@ -141,23 +227,32 @@ impl Read for RoughReader {
     }
 }
 
-// How many bytes a reader of three gives, one of whose calls fails.
-fn rough_read(alloc: Global, fails_at: u8, kind: ErrorKind) -> Result<usize, ReadFault> {
+// How many bytes a reader of three gives, one of whose calls fails, or the kind of its failure.
+fn rough_read(alloc: Global, fails_at: u8, kind: ErrorKind) -> Result<usize, ErrorKind> {
     let mut reader = RoughReader {
         left: 3,
         rough: Rough::new(fails_at, kind),
     };
-    Ok(read_whole(alloc, &mut reader)?.len())
+    match read_whole(alloc, &mut reader) {
+        Ok(bytes) => Ok(bytes.len()),
+        Err(ReadFault::Broken(kind)) => Err(kind),
+        Err(ReadFault::TooLong) => Err(ErrorKind::FileTooLarge),
+    }
 }
 
 #[test]
 fn readers_that_fail_once(rt: HostRuntime) {
     for fails_at in 1..5 {
-        let broken = Err(ReadFault::Broken(ErrorKind::TimedOut));
-        let interrupted = rough_read(rt.alloc(), fails_at, ErrorKind::Interrupted);
-        assert_eq!(rt; interrupted, Ok(3), "call {fails_at}");
-        let failed = rough_read(rt.alloc(), fails_at, ErrorKind::TimedOut);
-        assert_eq!(rt; failed, broken, "call {fails_at}");
+        for (kind, wanted) in [
+            (ErrorKind::Interrupted, Ok(3)),
+            (ErrorKind::TimedOut, Err(ErrorKind::TimedOut)),
+        ] {
+            assert_eq!(rt;
+                rough_read(rt.alloc(), fails_at, kind),
+                wanted,
+                "call {fails_at}"
+            );
+        }
     }
 }
 

@@ -2,7 +2,6 @@ pub mod RowLaws
 pub mod DistinctLaws
 pub mod FitsLaws
 pub mod UnfinishedLaws
-pub mod EndingLaws
 pub mod FactsLaws
 pub mod Puts
 pub mod PutLaws

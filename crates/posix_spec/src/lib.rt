@@ -5,8 +5,7 @@
 //! first that fits answers and changes nothing, and else what the call does. `step_of` is the step of
 //! one of several instances, and `step` that of the only one. Runs and legal histories (`Run`), the
 //! tree of a state and the state of a tree (`Tree`), what a write puts (`Put`), histories that follow
-//! scripts (`Scripted`), unfinished calls (`Unfinished`), the bounds on steps (`Afforded`) and how a
-//! run ends, under any rule for what a power loss leaves (`Ending`), stand on it.
+//! scripts (`Scripted`), unfinished calls (`Unfinished`) and the bounds on steps (`Afforded`) stand on it.
 //!
 //! The layer above may rely on this: `State::open` is `start`, `State::apply` is `step` or is refused
 //! memory and leaves the state as it was, `State::tree` is `tree`, and `State::put_by` is `put_by`. It

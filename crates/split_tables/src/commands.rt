@@ -4,7 +4,7 @@ ghost use Rattle.std.specs.String.{string_bytes};
 ghost use Rattle.outside.specs.Outside.{Rose};
 ghost use Rattle.split_top.specs.command_line.Command as commands;
 ghost use Rattle.split_top.specs.command_line.Command.{command_of};
-ghost use Rattle.split_top.specs.Top.{BreaksGrammar, BreaksRule, Completes, IsCutShort, IsDone, IsMissing, IsRefusal, IsReplacedBy, Replaces, Says};
+ghost use Rattle.split_top.specs.Top.{BreaksGrammar, BreaksRule, Completes, IsCutShort, IsDone, IsMissing, IsRefusal, IsReplacedBy, MayFail, Replaces, Says};
 
 use command_line::{Status, status_text};
 use outside::{MemFiles, MemSink};
@@ -17,7 +17,7 @@ pub fn command(alloc: Global, words: &[String], files: &mut MemFiles, out: &mut 
     ensures no_such_file { (name : List ℕ) → result ≡ Status.NoSuchFile name → Says (map string_bytes words.now) (λ c. IsMissing c (Some files.old.files) name) × Rose files.old.misses files.new.misses }
     ensures bad_image { (rule place : ℕ) → result ≡ Status.BadImage rule place → Says (map string_bytes words.now) (λ c. BreaksRule c (Some files.old.files) rule place) }
     ensures bad_script { (line : ℕ) → result ≡ Status.BadScript line → Says (map string_bytes words.now) (λ c. BreaksGrammar c (Some files.old.files) line) }
-    ensures read_fault { result ≡ Status.ReadFault → Rose files.old.faults files.new.faults }
+    ensures read_fault { result ≡ Status.ReadFault → Says (map string_bytes words.now) (λ c. MayFail c (Some files.old.files)) × Rose files.old.faults files.new.faults }
     ensures write_fault { result ≡ Status.WriteFault → Rose out.old.faults out.new.faults ⊎ Says (map string_bytes words.now) (λ c. Replaces c × Rose files.old.faults files.new.faults) }
     ensures done { result ≡ Status.Done → Says (map string_bytes words.now) (λ c. IsDone c (Some files.old.files) (Some files.new.files) (Some out.old.taken) (Some out.new.taken)) }
 

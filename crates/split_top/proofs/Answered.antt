@@ -4,7 +4,7 @@ use Rattle.outside.specs.Outside.{AreOfFile, bytes_named, FileList, IsAbsent, Ro
 use Rattle.command_line.specs.Command.{Command}
 use Rattle.command_line.specs.declared.statuses.statuses.Status.{Status}
 use Rattle.split_top.specs.Jobs.{IsAnswer, IsPutOrNot, IsUnread}
-use Rattle.split_top.specs.Top.{Completes, Does, IsCutShort, IsGiven, IsMissing, IsReplacedBy, Replaces}
+use Rattle.split_top.specs.Top.{Completes, Does, IsCutShort, IsGiven, IsMissing, IsReplacedBy, MayFail, Replaces}
 
 -- a count that rose after it had risen or stood
 pub rose-later : (a b c : ℕ) → a ≤ b → Rose b c → Rose a c
@@ -68,7 +68,7 @@ module _ (c : Command) (files left : Option FileList) (old new : Option (List �
 -- ---- nothing was put, and the files are as before
 module _ (c : Command) (files left : Option FileList) (old : Option (List ℕ)) (Missed Failed Refused : Type 0) (kept : left ≡ files) where
   -- a file was not read
-  pub unread-answer : (status : Status) → IsUnread status → ((name : List ℕ) → status ≡ Status.NoSuchFile name → IsMissing c files name × Missed) → (status ≡ Status.ReadFault → Failed) → (¬ Failed → Completes c files status) → IsAnswer c files left old old Missed Failed Refused status
+  pub unread-answer : (status : Status) → IsUnread status → ((name : List ℕ) → status ≡ Status.NoSuchFile name → IsMissing c files name × Missed) → (status ≡ Status.ReadFault → MayFail c files × Failed) → (¬ Failed → Completes c files status) → IsAnswer c files left old old Missed Failed Refused status
   unread-answer (Status.NoSuchFile name) kind missing failed complete =
       record {
         usage = λ e. cc;
@@ -158,7 +158,7 @@ answer-later c files left old new Missed Failed Refused Missed' Failed' status m
   no_such_file = λ n e. ((a.no_such_file n e).0, more_missed (a.no_such_file n e).1);
   bad_image = a.bad_image;
   bad_script = a.bad_script;
-  read_fault = λ e. more_failed (a.read_fault e);
+  read_fault = λ e. ((a.read_fault e).0, more_failed (a.read_fault e).1);
   write_fault = λ e. elim (a.write_fault e) [ inl x ↦ inl x | inr x ↦ inr (x.0, more_failed x.1) ];
   done = a.done;
   kept = a.kept;

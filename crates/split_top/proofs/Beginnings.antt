@@ -3,7 +3,9 @@ use Rattle.std.proofs.Common.{◌≡◌, ◌<◌, ◌≤◌, ◌^◌, ℕ, List,
 use Rattle.std.proofs.lemmas.Bool.{and_parts}
 use Rattle.std.proofs.lemmas.Bool.Decides.{nat_tests}
 use Rattle.std.specs.Prelude.{true}
-use Rattle.command_line.specs.pm_model.Words.{line_bytes, word_at}
+use Rattle.command_line.specs.pm_model.declared.Cell.{Cell}
+use Rattle.command_line.specs.pm_model.Images.{words_of}
+use Rattle.command_line.specs.pm_model.Words.{line_bytes}
 use Rattle.command_line.specs.layout_model.Fields.{is_same}
 use Rattle.command_line.specs.layout_model.Places.{Geometry, is_in_range}
 use Rattle.command_line.specs.layout_model.Superblock.{superblock}
@@ -13,7 +15,7 @@ use Rattle.posix_types.specs.Scripts.{Scripts}
 use Rattle.split_machine.specs.world_image_laws.BeginningLaws.{IsShapeOf}
 use Rattle.split_machine.specs.world_view_laws.Starts.{BeginsMounted}
 use Rattle.split_machine.specs.world_view_laws.Views.{WorldView}
-use Rattle.split_top.specs.Images.{CanOpen}
+use Rattle.split_top.specs.Devices.{CanMount}
 use Rattle.split_top.specs.Worlds.{AreRunnable, BeginsOn}
 
 -- the log of a checked image has lines, and few
@@ -23,7 +25,7 @@ has_lines g within = grind (arith, nat_tests)
 has_few_lines : (g : Geometry) → is_in_range g ≡ true → g.log < 2 ^ 32
 has_few_lines g within = grind (arith, nat_tests)
 
-module _ (bytes : List ℕ) (g : Geometry) (can : CanOpen bytes) (numbers : geometry_of (word_at bytes) ≡ g) (scripts : Scripts) (w : WorldView) (runnable : AreRunnable scripts) (begins : BeginsMounted (geometry_of (word_at bytes)) (word_at bytes) Mode.Strict scripts w) where
+module _ (g : Geometry) (d : List Cell) (mounts : CanMount g d) (scripts : Scripts) (w : WorldView) (mode : Mode) (strict : mode ≡ Mode.Strict) (runnable : AreRunnable scripts) (begins : BeginsMounted (geometry_of (words_of d)) (words_of d) mode scripts w) where
   scripts_are : w.scripts ≡ scripts
   scripts_are = ap (λ (v : WorldView). v.scripts) begins.world_is
 
@@ -31,14 +33,14 @@ module _ (bytes : List ℕ) (g : Geometry) (can : CanOpen bytes) (numbers : geom
   in_range : is_in_range w.geometry ≡ true
   in_range =
       subst (λ (h : Geometry). is_in_range h ≡ true) (sym (ap (λ (v : WorldView). v.geometry) begins.world_is))
-      (and_parts (is_in_range (geometry_of (word_at bytes))) (is_same (line_bytes (word_at bytes) 0) (superblock (geometry_of (word_at bytes)))) can.rule_4.numbers).0
+      (and_parts (is_in_range (geometry_of (words_of d))) (is_same (line_bytes (words_of d) 0) (superblock (geometry_of (words_of d)))) mounts.checked.rule_4.numbers).0
 
-  pub begins-on : BeginsOn bytes g scripts w
+  pub begins-on : BeginsOn (words_of d) g scripts mode w
   begins-on = record {
     tree = begins.tree;
     shape = begins.shape;
-    shows = record { can_open = can; is_tree = begins.tree_is };
-    is_shape = subst (λ h. IsShapeOf h begins.shape) numbers begins.shape_is;
+    is_tree = begins.tree_is;
+    is_shape = subst (λ h. IsShapeOf h begins.shape) mounts.numbers begins.shape_is;
     on = record {
       first = record {
         history = ap (λ (v : WorldView). v.history) begins.world_is;
@@ -56,8 +58,9 @@ module _ (bytes : List ℕ) (g : Geometry) (can : CanOpen bytes) (numbers : geom
         on = ap (λ (v : WorldView). v.lost) begins.world_is;
         one = subst (λ (s : Scripts). length s.threads ≤ 1) (sym scripts_are) runnable.one;
       };
-      geometry = ap (λ (v : WorldView). v.geometry) begins.world_is ∙ numbers;
+      geometry = ap (λ (v : WorldView). v.geometry) begins.world_is ∙ mounts.numbers;
       start = ap (λ (v : WorldView). v.start) begins.world_is;
       scripts_are = scripts_are;
+      strict = strict;
     };
   }

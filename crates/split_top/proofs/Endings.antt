@@ -1,5 +1,5 @@
 -- A run as a whole: what the machine says of it, and what was found on the device.
-use Rattle.std.proofs.Common.{◌≡◌, ◌≤◌, ℕ, false, List, [], sym, ◌∙◌, ap, subst, arith, inl, inr, Option, Some, None}
+use Rattle.std.proofs.Common.{◌≡◌, ◌≢◌, ◌⊎◌, ◌≤◌, ℕ, false, List, [], refl, sym, ◌∙◌, ap, subst, arith, inl, inr, Option, Some, None}
 use Rattle.std.specs.Prelude.{nat_lt}
 use Rattle.std.proofs.lemmas.Bool.{true≢false, ltb-false}
 use Rattle.command_line.specs.pm_model.declared.Cell.{Cell}
@@ -7,14 +7,12 @@ use Rattle.command_line.specs.pm_model.Powers.{is_left, is_on, Supply}
 use Rattle.split_machine.specs.crash_spec.Permitted.{Permitted}
 use Rattle.split_machine.specs.crash_spec.Strict.{Strict}
 use Rattle.command_line.specs.layout_model.Places.{Geometry}
-use Rattle.pm_lines.specs.declared.choices.Choice.{Choice}
 use Rattle.posix_types.specs.declared.call.Mode.{Mode}
 use Rattle.posix_types.specs.declared.item.Item.{Item}
-use Rattle.posix_types.specs.declared.reply.Shape.{Shape}
 use Rattle.posix_types.specs.declared.tree.TreeEntry.{TreeEntry}
 use Rattle.posix_types.specs.Scripts.{Scripts}
 use Rattle.command_line.specs.posix_spec.Afforded.{Afforded}
-use Rattle.command_line.specs.posix_spec.Ending.{beginning, IsWhole}
+use Rattle.command_line.specs.Command.{Options}
 use Rattle.command_line.specs.posix_spec.Run.{Unfinished, IsLegal}
 use Rattle.command_line.specs.posix_spec.Scripted.{IsComplete, Scripted}
 use Rattle.command_line.specs.posix_spec.State.{State}
@@ -23,7 +21,7 @@ use Rattle.split_machine.specs.run_laws.Changes.{ChangesAtMost}
 use Rattle.split_machine.specs.Runs.{IsRan}
 use Rattle.split_machine.specs.world_view_laws.Views.{WorldView}
 use Rattle.split_machine.specs.world_image_laws.Starts.{has_setting}
-use Rattle.split_top.specs.Runs.{IsRun, task_on}
+use Rattle.split_top.specs.Runs.{beginning, IsRun, IsStopped, IsWhole, Task}
 use Rattle.split_top.specs.Worlds.{IsWorldOn}
 
 -- a power that went had no more steps than were taken
@@ -42,52 +40,50 @@ never_off before after start same off =
     let given : after.given ≡ None = same ∙ ap (λ p. p.given) start in
     true≢false (ap (λ g. is_left g after.taken) (sym given) ∙ off)
 
-module _ (g : Geometry) (image : List TreeEntry) (shape : Shape) (scripts : Scripts) (stop : Option ℕ) (w : WorldView) (before after : Supply) (pm : List Cell) (history : List Item) (unfinished : List Unfinished) (left : List TreeEntry) (on : IsWorldOn g image shape scripts w) (power : before ≡ record { given = stop; taken = 0 }) (ran : IsRan w before after pm history unfinished) (permits : Permitted w.start.mode w.start history unfinished left) where
-  legal : IsLegal (beginning (task_on image shape scripts)) history
+module _ (g : Geometry) (task : Task) (options : Options) (w : WorldView) (before after : Supply) (pm : List Cell) (history : List Item) (unfinished : List Unfinished) (left : List TreeEntry) (on : IsWorldOn g task w) (power : before ≡ record { given = options.stop; taken = 0 }) (ran : IsRan w before after pm history unfinished) (permits : Permitted w.start.mode w.start history unfinished left) where
+  legal : IsLegal (beginning task) history
   legal = subst (λ s. IsLegal s history) on.start ran.legal
 
-  scripted : Scripted scripts history
+  scripted : Scripted task.scripts history
   scripted = subst (λ s. Scripted s history) on.scripts_are ran.scripted
 
-  open_calls : AreUnfinished scripts history unfinished
+  open_calls : AreUnfinished task.scripts history unfinished
   open_calls = subst (λ s. AreUnfinished s history unfinished) on.scripts_are ran.open_calls
 
-  permitted : Strict (beginning (task_on image shape scripts)) history unfinished left
+  -- the state that it begins in has the mode of the task
+  same_mode : (beginning task).mode ≡ task.mode
+  same_mode = (has_setting task.image task.shape task.mode).1
+
+  permitted : Permitted task.mode (beginning task) history unfinished left
   permitted =
-      subst (λ (m : Mode). Permitted m (beginning (task_on image shape scripts)) history unfinished left) (has_setting image shape Mode.Strict).1
+      subst (λ (m : Mode). Permitted m (beginning task) history unfinished left) same_mode
       (subst (λ (s : State). Permitted s.mode s history unfinished left) on.start permits)
 
-  kept : (steps : ℕ) → stop ≡ Some steps → ChangesAtMost (beginning (task_on image shape scripts)) history steps
-  kept steps some = subst (λ s. ChangesAtMost s history steps) on.start (ran.kept steps (ap (λ (p : Supply). p.given) power ∙ some))
+  kept : task.mode ≢ Mode.Posix → (steps : ℕ) → options.stop ≡ Some steps → ChangesAtMost (beginning task) history steps
+  kept other steps some = subst (λ s. ChangesAtMost s history steps) on.start (ran.kept steps (ap (λ (p : Supply). p.given) power ∙ some))
 
-  afforded : Afforded after.taken history scripts Mode.Strict
+  afforded : Afforded after.taken history task.scripts task.mode
   afforded =
-      subst (λ (m : Mode). Afforded after.taken history scripts m) (ap (λ (s : State). s.mode) on.start ∙ (has_setting image shape Mode.Strict).1)
+      subst (λ (m : Mode). Afforded after.taken history task.scripts m) (ap (λ (s : State). s.mode) on.start ∙ same_mode)
       (subst (λ (s : Scripts). Afforded after.taken history s w.start.mode) on.scripts_are (ran.afforded after.taken (omega (arith, ap (λ (p : Supply). p.taken) power))))
 
+  ended_so : IsWhole task history left ⊎ IsStopped task options history → IsRun task options history unfinished left
+  ended_so ended = record { legal = legal; scripted = scripted; open_calls = open_calls; permitted = permitted; ended = ended; kept = kept }
+
   -- all calls returned
-  pub ran_whole : IsComplete w.scripts history → unfinished ≡ [] → IsRun (task_on image shape scripts) stop history unfinished left
-  ran_whole complete none =
-      let whole : IsWhole (task_on image shape scripts) history left = record {
-        complete = subst (λ s. IsComplete s history) on.scripts_are complete;
-        tree = subst (λ calls. Strict (beginning (task_on image shape scripts)) history calls left) none permitted;
-      } in
-      record {
-        ends = record { legal = legal; scripted = scripted; open_calls = open_calls; permitted = permitted; whole = λ e. whole; stopped = λ n e. inl whole };
-        kept = kept;
-      }
+  pub ran_whole : IsComplete w.scripts history → unfinished ≡ [] → IsRun task options history unfinished left
+  ran_whole complete none = ended_so (inl (record {
+    complete = subst (λ s. IsComplete s history) on.scripts_are complete;
+    tree = subst (λ calls. Strict (beginning task) history calls left) none (subst (λ (m : Mode). Permitted m (beginning task) history unfinished left) on.strict permitted);
+  }))
 
   -- the power went
-  pub ran_lost : is_on after ≡ false → IsRun (task_on image shape scripts) stop history unfinished left
-  ran_lost off = record {
-    ends = record {
-      legal = legal;
-      scripted = scripted;
-      open_calls = open_calls;
-      permitted = permitted;
-      whole = λ always. absurd (never_off before after (power ∙ ap (λ given. record { given = given; taken = 0 }) always) ran.given off);
-      stopped = λ n some.
-          inr (fewer n after.taken history scripts Mode.Strict (spent n before after (power ∙ ap (λ given. record { given = given; taken = 0 }) some) ran.given off) afforded);
-    };
-    kept = kept;
-  }
+  pub ran_lost : is_on after ≡ false → IsRun task options history unfinished left
+  ran_lost off = by options.stop refl where
+    by : (stop : Option ℕ) → options.stop ≡ stop → IsRun task options history unfinished left
+    by None always = absurd (never_off before after (power ∙ ap (λ given. record { given = given; taken = 0 }) always) ran.given off)
+    by (Some steps) some = ended_so (inr (record {
+      steps = steps;
+      given = some;
+      afforded = fewer steps after.taken history task.scripts task.mode (spent steps before after (power ∙ ap (λ given. record { given = given; taken = 0 }) some) ran.given off) afforded;
+    }))

@@ -4,19 +4,17 @@ use Rattle.command_line.specs.pm_model.declared.Cell.{Cell}
 use Rattle.command_line.specs.pm_model.Powers.{Supply}
 use Rattle.command_line.specs.layout_model.Places.{Geometry}
 use Rattle.posix_types.specs.declared.item.Item.{Item}
-use Rattle.posix_types.specs.declared.reply.Shape.{Shape}
-use Rattle.posix_types.specs.declared.tree.TreeEntry.{TreeEntry}
-use Rattle.posix_types.specs.Scripts.{Scripts}
 use Rattle.command_line.specs.posix_spec.Run.{Unfinished}
 use Rattle.split_machine.specs.world_image_laws.Promised.{KeepsPromise}
 use Rattle.split_machine.specs.Runs.{IsRan}
 use Rattle.split_machine.specs.world_view_laws.Views.{WorldView}
 use Rattle.split_top.specs.Found.{IsLeftAs}
+use Rattle.split_top.specs.Runs.{Task}
 use Rattle.split_top.specs.Worlds.{IsWorldOn}
 
-pub left_as : (g : Geometry) (tree : List TreeEntry) (shape : Shape) (scripts : Scripts) (w : WorldView) (before after : Supply) (pm : List Cell) (history : List Item) (unfinished : List Unfinished)
-    → IsWorldOn g tree shape scripts w → IsRan w before after pm history unfinished → IsLeftAs g pm w.start history unfinished
-left_as g tree shape scripts w before after pm history unfinished on ran = record {
+pub left_as : (g : Geometry) (task : Task) (w : WorldView) (before after : Supply) (pm : List Cell) (history : List Item) (unfinished : List Unfinished)
+    → IsWorldOn g task w → IsRan w before after pm history unfinished → IsLeftAs g pm w.start history unfinished
+left_as g task w before after pm history unfinished on ran = record {
   size = subst (λ (h : Geometry). length pm ≡ 512 * h.blocks) on.geometry ran.size;
   home = ran.home;
   promise = subst (λ h. KeepsPromise h pm w.start history unfinished) on.geometry ran.promise;

@@ -1,4 +1,4 @@
--- An image by its device, and what is asked of one that is mounted.
+-- What the device of an image says of its bytes, and what is asked of one that is mounted.
 use Rattle.std.proofs.Common.{◌≡◌, ◌*◌, ℕ, true, false, None, List, length, sym, ◌∙◌, ap, subst}
 use Rattle.command_line.specs.pm_model.declared.Cell.{Cell}
 use Rattle.command_line.specs.pm_model.Images.{words_of}
@@ -11,23 +11,26 @@ use Rattle.split_machine.specs.image_model.Rules.{geometry_of, IsChecked}
 use Rattle.split_machine.specs.image_laws.CheckedLaws.{checked-unbroken}
 use Rattle.posix_types.specs.declared.tree.TreeEntry.{TreeEntry}
 use Rattle.split_machine.specs.world_model.Shown.{IsTreeOfContent}
-use Rattle.report_text.specs.Texts.{tree_text}
-use Rattle.split_top.specs.Images.{CanOpen, IsRefused, IsTreeText}
+use Rattle.split_top.specs.Devices.{IsDeviceOf}
+use Rattle.split_top.specs.Images.{CanOpen, IsRefused, ShowsTree}
 
--- the bytes of an image, and the device that has its words
-module _ (bytes : List ℕ) (d : List Cell) (size : 8 * length d ≡ length bytes) (words : words_of d ≡ word_at bytes) where
+-- the bytes of an image, and its device
+module _ (bytes : List ℕ) (d : List Cell) (is : IsDeviceOf bytes d) where
   pub can-open : IsChecked (8 * length d) (words_of d) → CanOpen bytes
-  can-open checked = subst (IsChecked (length bytes)) words (subst (λ n. IsChecked n (words_of d)) size checked)
+  can-open checked = subst (IsChecked (length bytes)) is.words (subst (λ n. IsChecked n (words_of d)) is.size checked)
 
   pub refused : (rule place : ℕ) → Breaks (8 * length d) (words_of d) rule place → IsRefused bytes rule place
-  refused rule place breaks = subst (λ f. Breaks (length bytes) f rule place) words (subst (λ n. Breaks n (words_of d) rule place) size breaks)
+  refused rule place breaks = subst (λ f. Breaks (length bytes) f rule place) is.words (subst (λ n. Breaks n (words_of d) rule place) is.size breaks)
 
-  pub same-geometry : (g : Geometry) → g ≡ geometry_of (words_of d) → geometry_of (word_at bytes) ≡ g
-  same-geometry g is = sym (is ∙ ap geometry_of words)
+  pub shows-tree : (tree : List TreeEntry) → IsChecked (8 * length d) (words_of d) → IsTreeOfContent (content (geometry_of (words_of d)) (words_of d)) tree → ShowsTree bytes tree
+  shows-tree tree checked is_tree = record { can_open = can-open checked; is_tree = subst (λ f. IsTreeOfContent (content (geometry_of f) f) tree) is.words is_tree }
 
-  -- its device breaks no rule
-  pub unbroken : CanOpen bytes → (rule place : ℕ) → Breaks (8 * length d) (words_of d) rule place → ⊥
-  unbroken can rule place breaks = checked-unbroken (length bytes) (word_at bytes) rule place can (refused rule place breaks)
+  pub same-numbers : (g : Geometry) → geometry_of (words_of d) ≡ g → g ≡ geometry_of (word_at bytes)
+  same-numbers g numbers = sym numbers ∙ ap geometry_of is.words
+
+-- a device that can be mounted breaks no rule
+pub unbroken : (d : List Cell) → IsChecked (8 * length d) (words_of d) → (rule place : ℕ) → Breaks (8 * length d) (words_of d) rule place → ⊥
+unbroken d checked rule place breaks = checked-unbroken (8 * length d) (words_of d) rule place checked breaks
 
 -- a power that always lasts is on
 pub still-on : (before after : Supply) → before ≡ record { given = None; taken = 0 } → after.given ≡ before.given → is_on after ≡ false → ⊥
@@ -36,10 +39,3 @@ still-on before after always same off =
     let on : is_on after ≡ true = ap (λ g. is_left g after.taken) lasts in
     let f : ⊥ = cc (on, off) in
     f
-
--- an image that can be opened, with its geometry
-pub open-size : (bytes : List ℕ) (g : Geometry) → CanOpen bytes → geometry_of (word_at bytes) ≡ g → length bytes ≡ 4096 * g.blocks
-open-size bytes g can numbers = can.rule_4.whole ∙ ap (λ (h : Geometry). 4096 * h.blocks) numbers
-
-pub open-text : (bytes : List ℕ) (left : List TreeEntry) (output : List ℕ) → CanOpen bytes → IsTreeOfContent (content (geometry_of (word_at bytes)) (word_at bytes)) left → output ≡ tree_text left → IsTreeText bytes output
-open-text bytes left output can tree text = record { tree = left; shows = record { can_open = can; is_tree = tree }; is_text = text }

@@ -3,7 +3,7 @@ use Rattle.std.proofs.Common.{◌≡◌, ◌*◌, ℕ, List, length, sym, ◌∙
 use Rattle.command_line.specs.pm_model.declared.Cell.{Cell}
 use Rattle.command_line.specs.pm_model.Cells.{cell}
 use Rattle.command_line.specs.pm_model.Images.{IsImageOf}
-use Rattle.command_line.specs.pm_model.Words.{word_at}
+use Rattle.command_line.specs.pm_model.Words.{word_at, Words}
 use Rattle.command_line.specs.layout_model.Places.{Geometry}
 use Rattle.split_machine.specs.image_model.Content.{content}
 use Rattle.split_machine.specs.image_model.Honest.{IsHonest}
@@ -19,7 +19,6 @@ use Rattle.command_line.specs.posix_spec.State.{State}
 use Rattle.split_machine.specs.world_image_laws.Promised.{IsKept}
 use Rattle.split_machine.specs.world_model.Shown.{IsTreeOfContent}
 use Rattle.split_top.specs.Found.{IsChosenImage, IsFoundBy, IsFoundOn, IsLeftAs}
-use Rattle.split_top.specs.Images.{CanOpen}
 
 -- the bytes that were chosen have an image of the device, honest, by the choice
 pub record IsTaken (g : Geometry) (choice : Choice) (d : List Cell) (bytes : List ℕ) : Type 0 where
@@ -27,30 +26,31 @@ pub record IsTaken (g : Geometry) (choice : Choice) (d : List Cell) (bytes : Lis
   pub honest : IsHonest g (cell d) (word_at bytes)
   pub crash : IsCrashImage g choice d g.log (word_at bytes)
 
-module _ (g : Geometry) (choice : Choice) (d : List Cell) (start : State) (history : List Item) (unfinished : List Unfinished) (bytes given : List ℕ) (left : IsLeftAs g d start history unfinished) (taken : IsTaken g choice d bytes) (same : given ≡ bytes) where
-  chosen : IsChosenImage g choice d (word_at given)
-  chosen = subst (λ b. IsChosenImage g choice d (word_at b)) (sym same) (record { is_image = taken.image.words; is_honest = taken.honest; is_crash = taken.crash })
+module _ (g : Geometry) (choice : Choice) (d : List Cell) (start : State) (history : List Item) (unfinished : List Unfinished) (bytes : List ℕ) (left : IsLeftAs g d start history unfinished) (taken : IsTaken g choice d bytes) where
+  chosen : IsChosenImage g choice d (word_at bytes)
+  chosen = record { is_image = taken.image.words; is_honest = taken.honest; is_crash = taken.crash }
 
-  kept : IsKept g start history unfinished (word_at given)
-  kept = left.promise (word_at given) chosen.is_image chosen.is_honest
+  kept : IsKept g start history unfinished (word_at bytes)
+  kept = left.promise (word_at bytes) chosen.is_image chosen.is_honest
 
-  pub left-numbers : geometry_of (word_at given) ≡ g
-  left-numbers = kept.geometry
-
-  pub left-opens : CanOpen given
-  left-opens = subst (λ n. IsChecked n (word_at given)) (sym long) kept.checked where
-    long : length given ≡ 4096 * g.blocks
+  pub left-checked : IsChecked (length bytes) (word_at bytes)
+  left-checked = subst (λ n. IsChecked n (word_at bytes)) (sym long) kept.checked where
+    long : length bytes ≡ 4096 * g.blocks
     long =
         let bytes_long : length bytes ≡ 8 * length d = taken.image.size in
         let wide : length d ≡ 512 * g.blocks = left.size in
-        let all : length bytes ≡ 4096 * g.blocks = omega arith in
-        ap length same ∙ all
+        omega arith
 
-  shown : (k : View) (tree : List TreeEntry) → IsFoundOn (word_at given) k tree → IsTreeOfContent (content g (word_at given)) tree
-  shown k tree found = subst (λ h. IsTreeOfContent (content h (word_at given)) tree) left-numbers found.is_tree
+  -- the device of these bytes has their words
+  module _ (image : Words) (same : image ≡ word_at bytes) where
+    pub left-numbers : geometry_of image ≡ g
+    left-numbers = ap geometry_of same ∙ kept.geometry
 
-  pub left-permitted : (k : View) (tree : List TreeEntry) → IsFoundOn (word_at given) k tree → Permitted start.mode start history unfinished tree
-  left-permitted k tree found = kept.permitted tree (shown k tree found)
+    shown : (k : View) (tree : List TreeEntry) → IsFoundOn image k tree → IsTreeOfContent (content g (word_at bytes)) tree
+    shown k tree found = subst (λ f. IsTreeOfContent (content g f) tree) same (subst (λ h. IsTreeOfContent (content h image) tree) left-numbers found.is_tree)
 
-  pub left-found : (k : View) (tree : List TreeEntry) → IsFoundOn (word_at given) k tree → IsFoundBy g choice d tree
-  left-found k tree found = record { image = word_at given; is_chosen = chosen; is_tree = shown k tree found }
+    pub left-permitted : (k : View) (tree : List TreeEntry) → IsFoundOn image k tree → Permitted start.mode start history unfinished tree
+    left-permitted k tree found = kept.permitted tree (shown k tree found)
+
+    pub left-found : (k : View) (tree : List TreeEntry) → IsFoundOn image k tree → IsFoundBy g choice d tree
+    left-found k tree found = record { image = word_at bytes; is_chosen = chosen; is_tree = shown k tree found }

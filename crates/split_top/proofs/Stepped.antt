@@ -70,7 +70,7 @@ module _ (run : Run) (files : Option FileList) (read : List ℕ) (are : AreOfIma
           usage = λ e. cc;
           no_such_file = λ n e. absurd (let f : ⊥ = cc in f);
           bad_image = λ r p e. absurd (let f : ⊥ = cc in f);
-          bad_script = λ l e. record { image = read; is_image = are; can_open = can; bytes = bytes; is_read = are_script; is_bad = subst (λ s. IsUnrun bytes s) e bad };
+          bad_script = λ l e. record { opens = record { image = read; is_image = are; can_open = can }; bytes = bytes; is_read = are_script; is_bad = subst (λ s. IsUnrun bytes s) e bad };
           read_fault = λ e. absurd (let f : ⊥ = cc in f);
           write_fault = λ e. absurd (let f : ⊥ = cc in f);
           done = λ e. absurd (let f : ⊥ = cc in f);

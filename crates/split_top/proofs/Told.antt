@@ -6,7 +6,7 @@ use Rattle.command_line.specs.Command.{Command, command_of}
 use Rattle.command_line.specs.Seen.{seen}
 use Rattle.command_line.specs.declared.statuses.statuses.Status.{Status}
 use Rattle.split_top.specs.Jobs.{IsAnswer}
-use Rattle.split_top.specs.Top.{BreaksGrammar, BreaksRule, Completes, IsCutShort, IsDone, IsMissing, IsReplacedBy, Replaces, Says}
+use Rattle.split_top.specs.Top.{BreaksGrammar, BreaksRule, Completes, IsCutShort, IsDone, IsMissing, IsReplacedBy, MayFail, Replaces, Says}
 
 -- the command that was read
 pub command-is : (line : List (List ℕ)) (r : Option words.Command) (x : words.Command) → option_map (λ (c : words.Command). seen c) r ≡ command_of line → r ≡ Some x → command_of line ≡ Some (seen x)
@@ -24,6 +24,9 @@ module _ (line : List (List ℕ)) (c : Command) (is : command_of line ≡ Some c
 
   pub told-bad_script : (n : ℕ) → status ≡ Status.BadScript n → Says line (λ d. BreaksGrammar d files n)
   told-bad_script n e = record { command = c; is_command = is; holds = a.bad_script n e }
+
+  pub told-read_fault : status ≡ Status.ReadFault → Says line (λ d. MayFail d files) × Failed
+  told-read_fault e = (record { command = c; is_command = is; holds = (a.read_fault e).0 }, (a.read_fault e).1)
 
   pub told-write_fault : status ≡ Status.WriteFault → Refused ⊎ Says line (λ d. Replaces d × Failed)
   told-write_fault e = elim (a.write_fault e) [ inl refused ↦ inl refused | inr x ↦ inr (record { command = c; is_command = is; holds = x }) ]

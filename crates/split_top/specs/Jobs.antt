@@ -5,7 +5,7 @@ use Rattle.command_line.specs.script_text.Scripts.{bad_line}
 use Rattle.command_line.specs.Command.{Command}
 use Rattle.command_line.specs.declared.statuses.statuses.Status.{Status}
 use Rattle.split_top.specs.Images.{IsRefused}
-use Rattle.split_top.specs.Top.{BreaksGrammar, BreaksRule, Completes, IsCutShort, IsDone, IsMissing, IsRefusal, IsReplacedBy, Replaces}
+use Rattle.split_top.specs.Top.{BreaksGrammar, BreaksRule, Completes, IsCutShort, IsDone, IsMissing, IsRefusal, IsReplacedBy, MayFail, Replaces}
 
 -- a file was not read
 abbrev pub IsUnread : Status → Type 0
@@ -46,7 +46,7 @@ pub record IsAnswer (c : Command) (files left : Option FileList) (old new : Opti
   pub no_such_file : (name : List ℕ) → status ≡ Status.NoSuchFile name → IsMissing c files name × Missed
   pub bad_image : (rule place : ℕ) → status ≡ Status.BadImage rule place → BreaksRule c files rule place
   pub bad_script : (line : ℕ) → status ≡ Status.BadScript line → BreaksGrammar c files line
-  pub read_fault : status ≡ Status.ReadFault → Failed
+  pub read_fault : status ≡ Status.ReadFault → MayFail c files × Failed
   pub write_fault : status ≡ Status.WriteFault → Refused ⊎ (Replaces c × Failed)
   pub done : status ≡ Status.Done → IsDone c files left old new
   pub kept : (left ≡ files) ⊎ IsReplacedBy c files left

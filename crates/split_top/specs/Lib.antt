@@ -1,3 +1,4 @@
+pub mod Devices
 pub mod Found
 pub mod Images
 pub mod Jobs

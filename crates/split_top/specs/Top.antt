@@ -8,14 +8,13 @@ use Rattle.posix_types.specs.declared.item.Item.{Item}
 use Rattle.posix_types.specs.declared.reply.Shape.{Shape}
 use Rattle.posix_types.specs.declared.tree.TreeEntry.{TreeEntry}
 use Rattle.posix_types.specs.Scripts.{Scripts}
-use Rattle.command_line.specs.posix_spec.Ending.{Task}
 use Rattle.command_line.specs.posix_spec.Run.{Unfinished}
 use Rattle.split_machine.specs.world_image_laws.BeginningLaws.{IsShapeOf}
 use Rattle.report_text.specs.Texts.{history_text, tree_text}
 use Rattle.command_line.specs.script_text.Scripts.{bad_line, scripts_of}
-use Rattle.command_line.specs.Command.{Command, Mkfs, Tree, Step, Image, Fresh, Stored, Run, command_of}
+use Rattle.command_line.specs.Command.{Command, Mkfs, Tree, Step, Image, Fresh, Options, Stored, Run, command_of}
 use Rattle.split_top.specs.Images.{AreOfImage, blocks_text, CanOpen, IsMade, IsMounted, IsRefused, IsTreeText, ShowsTree}
-use Rattle.split_top.specs.Runs.{IsRun, task_on}
+use Rattle.split_top.specs.Runs.{IsRun, Task, task_on}
 use Rattle.command_line.specs.declared.statuses.statuses.Status.{Status}
 
 -- THE WORDS ARE A COMMAND of which this holds.
@@ -25,30 +24,41 @@ pub record Says (words : List (List ℕ)) (Holds : Command → Type 0) : Type 0 
   pub holds : Holds command
 
 -- ---- what is done
--- What a run puts and leaves: the text of a history, and then that of the tree that was left; and an image with these numbers
--- and this tree, as a mount leaves it.
-pub record IsOutcome (g : Geometry) (task : Task) (stop : Option ℕ) (output kept : List ℕ) : Type 0 where
+-- how a run is told: of its history, and of the tree that was left
+abbrev pub Printer : Type 0
+Printer = List Item → List TreeEntry → List ℕ
+
+-- `step` tells the history, and then the tree
+abbrev pub step_text : Printer
+step_text history left = history_text history ++ tree_text left
+
+-- WHAT A RUN PUTS AND LEAVES: what its printer tells, and an image with these numbers and the tree that was left, as a
+-- mount leaves it.
+pub record IsOutcome (g : Geometry) (task : Task) (options : Options) (print : Printer)
+    (output kept : List ℕ) : Type 0 where
   pub history : List Item
   pub unfinished : List Unfinished
   pub left : List TreeEntry
-  pub is_run : IsRun task stop history unfinished left
-  pub is_text : output ≡ history_text history ++ tree_text left
+  pub is_run : IsRun task options history unfinished left
+  pub is_text : output ≡ print history left
   pub is_kept : IsMounted kept left
   pub numbers : geometry_of (word_at kept) ≡ g
 
 -- A RUN ON AN IMAGE with these numbers: the image shows a tree, and a run of the scripts that begins with this tree puts this and
 -- leaves this image.
-pub record IsRunOn (image : List ℕ) (g : Geometry) (scripts : Scripts) (stop : Option ℕ) (output kept : List ℕ) : Type 0 where
+pub record IsRunOn (image : List ℕ) (g : Geometry) (scripts : Scripts) (options : Options) (print : Printer)
+    (output kept : List ℕ) : Type 0 where
   pub tree : List TreeEntry
   pub shows : ShowsTree image tree
   pub shape : Shape
   pub is_shape : IsShapeOf g shape
-  pub outcome : IsOutcome g (task_on tree shape scripts) stop output kept
+  pub outcome : IsOutcome g (task_on tree shape scripts options.mode) options print output kept
 
 -- the bytes are a script, and it is run
-pub record IsScriptRunOn (image : List ℕ) (g : Geometry) (script : List ℕ) (stop : Option ℕ) (output kept : List ℕ) : Type 0 where
+pub record IsScriptRunOn (image : List ℕ) (g : Geometry) (script : List ℕ) (options : Options)
+    (output kept : List ℕ) : Type 0 where
   pub is_script : bad_line script ≡ None
-  pub is_run : IsRunOn image g (scripts_of script) stop output kept
+  pub is_run : IsRunOn image g (scripts_of script) options step_text output kept
 
 -- so the image and the script that the words name are run
 pub record IsStepped (files : Option FileList) (run : Run) (output kept : List ℕ) : Type 0 where
@@ -56,7 +66,7 @@ pub record IsStepped (files : Option FileList) (run : Run) (output kept : List �
   pub is_image : AreOfImage files run.image image
   pub script : List ℕ
   pub is_read : AreOfFile files run.script script
-  pub is_run : IsScriptRunOn image (geometry_of (word_at image)) script run.options.stop output kept
+  pub is_run : IsScriptRunOn image (geometry_of (word_at image)) script run.options output kept
 
 -- the image that is left is the file of this name, and every other file is as before; or nothing is kept
 abbrev pub Keeps : Option (List ℕ) → List ℕ → Option FileList → Option FileList → Type 0
@@ -113,16 +123,39 @@ pub record IsCutShort (c : Command) (files left : Option FileList) (old new : Op
   pub is_front : TakesFront old new output
 
 -- ---- why it was refused
--- which files a command reads
-abbrev pub Reads : Command → List ℕ → Type 0
-Reads (Mkfs stored geometry) name = ⊥
-Reads (Tree image) name = image ≡ Stored name
-Reads (Step run) name = (run.image ≡ Stored name) ⊎ (name ≡ run.script)
+-- the image is that of a file
+abbrev pub IsStored : Image → Type 0
+IsStored Fresh = ⊥
+IsStored (Stored name) = ⊤
 
--- the file that it reads has this name, and is not there, as far as the files are told
-pub record IsMissing (c : Command) (files : Option FileList) (name : List ℕ) : Type 0 where
-  pub is_read : Reads c name
+-- the image that the words name can be opened
+pub record OpensImage (run : Run) (files : Option FileList) : Type 0 where
+  pub image : List ℕ
+  pub is_image : AreOfImage files run.image image
+  pub can_open : CanOpen image
+
+-- the file of the image has this name, and is not there, as far as the files are told
+pub record IsMissingImage (image : Image) (files : Option FileList) (name : List ℕ) : Type 0 where
+  pub is_named : image ≡ Stored name
   pub is_absent : IsAbsent files name
+
+-- the image can be opened, and the script has this name, and is not there
+pub record IsMissingScript (run : Run) (files : Option FileList) (name : List ℕ) : Type 0 where
+  pub opens : OpensImage run files
+  pub is_named : run.script ≡ name
+  pub is_absent : IsAbsent files name
+
+-- of an image and a script that are both missing the image is named
+abbrev pub IsMissing : Command → Option FileList → List ℕ → Type 0
+IsMissing (Mkfs stored geometry) files name = ⊥
+IsMissing (Tree image) files name = IsMissingImage image files name
+IsMissing (Step run) files name = IsMissingImage run.image files name ⊎ IsMissingScript run files name
+
+-- a read may fail: that of the image; or that of the script, behind an image that can be opened
+abbrev pub MayFail : Command → Option FileList → Type 0
+MayFail (Mkfs stored geometry) files = ⊥
+MayFail (Tree image) files = IsStored image
+MayFail (Step run) files = IsStored run.image ⊎ OpensImage run files
 
 -- the bytes of the image are refused, by this rule at this place
 pub record IsBadImage (image : Image) (files : Option FileList) (rule place : ℕ) : Type 0 where
@@ -137,9 +170,7 @@ BreaksRule (Step run) files rule place = IsBadImage run.image files rule place
 
 -- the image can be opened, and this line of the script is the first that breaks the grammar
 pub record IsBadScript (run : Run) (files : Option FileList) (line : ℕ) : Type 0 where
-  pub image : List ℕ
-  pub is_image : AreOfImage files run.image image
-  pub can_open : CanOpen image
+  pub opens : OpensImage run files
   pub bytes : List ℕ
   pub is_read : AreOfFile files run.script bytes
   pub is_bad : bad_line bytes ≡ Some line

@@ -6,6 +6,7 @@ ghost use Rattle.command_line.specs.Seen.{seen_image};
 ghost use Rattle.command_line.specs.image_layout.Numbers.{default_numbers};
 ghost use Rattle.split_top.specs.Images.{AreOfImage, IsFreshImage};
 ghost use Rattle.split_top.specs.Jobs.{IsUnread};
+ghost use Rattle.split_top.specs.Top.{IsStored};
 
 use crate::jobs::read_file;
 use crate::making::fresh_bytes;
@@ -36,7 +37,8 @@ pub(crate) fn read_image<F: Files>(
     ensures faults { F.faults files.old ≤ F.faults files.new }
     ensures kind { IfErr result IsUnread }
     ensures missing { (found : List ℕ) → result ≡ Err (Status.NoSuchFile found) → (seen_image image.now ≡ commands.Stored found) × IsAbsent (F.told files.old) found × Rose (F.misses files.old) (F.misses files.new) }
-    ensures failed { result ≡ Err Status.ReadFault → Rose (F.faults files.old) (F.faults files.new) }
+    ensures failed { result ≡ Err Status.ReadFault → IsStored (seen_image image.now)
+        × Rose (F.faults files.old) (F.faults files.new) }
 {
     match image {
         Image::Fresh => default_bytes(alloc),

@@ -1,12 +1,12 @@
-//! An image that can be opened is mounted.
-ghost use Rattle.std.specs.Prelude.{IfOk};
-ghost use Rattle.command_line.specs.pm_model.Words.{word_at};
+//! The device of an image is mounted.
+ghost use Rattle.std.specs.Prelude.{◌*◌, IfOk, length};
+ghost use Rattle.command_line.specs.pm_model.Cells.{AllSingle};
+ghost use Rattle.command_line.specs.pm_model.Images.{words_of};
+ghost use Rattle.split_machine.specs.image_model.Rules.{IsChecked};
 ghost use Rattle.split_top.specs.Found.{IsFoundOn};
-ghost use Rattle.split_top.specs.Images.{CanOpen};
 
 use crate::laws;
-use crate::opening::device;
-use pm_lines::Power;
+use pm_lines::{Pm, Power};
 use posix_types::Tree;
 use split_machine::{KSplit, MountFault, mount};
 use std::alloc::{AllocError, Global};
@@ -18,13 +18,13 @@ pub(crate) struct Mounted {
     pub tree: Tree,
 }
 
-/// Mounts an image that can be opened, with power for all of it, and reads its tree.
-pub(crate) fn mount_image(alloc: Global, bytes: &[u8]) -> Result<Mounted, AllocError>
-    requires { CanOpen bytes.now }
-    ensures { IfOk result (λ m. IsFoundOn (word_at bytes.now) m.k m.tree) }
+/// Mounts the device of a checked image, with power for all of it, and reads its tree.
+pub(crate) fn mount_image(alloc: Global, pm: Pm) -> Result<Mounted, AllocError>
+    requires checked { IsChecked (8 * length pm) (words_of pm) }
+    requires single { AllSingle pm }
+    ensures { IfOk result (λ m. IsFoundOn (words_of pm) m.k m.tree) }
 {
     laws::a_remount_shows_the_same();
-    let pm = device(alloc, bytes)?;
     let mut power = Power::always();
     match mount(alloc, pm, false, &mut power) {
         Ok(k) => {

@@ -1,16 +1,21 @@
-//! Whether an image can be opened: its length, and the rules of a checked image.
-ghost use Rattle.std.specs.Prelude.{◌≡◌, ◌↔◌, ◌*◌, IsTrue, IfErr, IfOk, OnOk, length};
-ghost use Rattle.command_line.specs.pm_model.Cells.{AllSingle};
-ghost use Rattle.command_line.specs.pm_model.Images.{words_of};
-ghost use Rattle.command_line.specs.pm_model.Words.{word_at};
-ghost use Rattle.split_machine.specs.image_model.Rules.{geometry_of, IsWholeBlocks};
-ghost use Rattle.split_top.specs.Images.{CanOpen};
+//! An image is opened: its length is tried on its bytes, and the rules of a checked image on the device that they become.
+//! The bytes go with it. The one device is then mounted.
+ghost use Rattle.std.specs.Prelude.{◌↔◌, IsTrue, IfErr, IfOk, length};
+ghost use Rattle.split_machine.specs.image_model.Rules.{IsWholeBlocks};
+ghost use Rattle.split_top.specs.Devices.{IsDeviceOf, IsOpened};
 ghost use Rattle.split_top.specs.Jobs.{IsUnopened};
 
 use command_line::{Geometry, Status};
 use k_check::{CheckFault, check};
 use pm_lines::Pm;
 use std::alloc::{AllocError, Global};
+
+/// The device of an image that can be opened, and its numbers.
+#[derive(Drop)]
+pub(crate) struct Opened {
+    pub pm: Pm,
+    pub geometry: Geometry,
+}
 
 /// Whether so many bytes are whole blocks, as many as an image may have.
 fn is_whole(bytes: usize) -> bool
@@ -26,21 +31,18 @@ fn is_whole(bytes: usize) -> bool
     true
 }
 
-/// The device of an image.
-pub(crate) fn device(alloc: Global, bytes: &[u8]) -> Result<Pm, AllocError>
-    requires { IsWholeBlocks (length bytes.now) }
-    ensures size { IfOk result (λ pm. 8 * length pm ≡ length bytes.now) }
-    ensures single { IfOk result (λ pm. AllSingle pm) }
-    ensures words { IfOk result (λ pm. words_of pm ≡ word_at bytes.now) }
+/// The device of an image, in place of its bytes.
+pub(crate) fn device(alloc: Global, bytes: Vec<u8>) -> Result<Pm, AllocError>
+    requires { IsWholeBlocks (length bytes.items) }
+    ensures { IfOk result (IsDeviceOf bytes.items) }
 {
-    Pm::from_image(alloc, bytes)
+    Pm::from_image(alloc, &bytes)
 }
 
-/// The geometry of an image that can be opened, or why it is refused.
-pub(crate) fn geometry_to_open(alloc: Global, bytes: &[u8]) -> Result<Geometry, Status>
-    ensures can_open { OnOk result (CanOpen bytes.now) }
-    ensures numbers { IfOk result (λ g. geometry_of (word_at bytes.now) ≡ g) }
-    ensures kind { IfErr result (IsUnopened bytes.now) }
+/// The device of an image that can be opened, or why it is refused.
+pub(crate) fn open_image(alloc: Global, bytes: Vec<u8>) -> Result<Opened, Status>
+    ensures opened { IfOk result (λ opened. IsOpened bytes.items opened.geometry opened.pm) }
+    ensures kind { IfErr result (IsUnopened bytes.items) }
 {
     if !is_whole(bytes.len()) {
         return Err(Status::BadImage {
@@ -52,7 +54,7 @@ pub(crate) fn geometry_to_open(alloc: Global, bytes: &[u8]) -> Result<Geometry, 
         return Err(Status::NoMemory);
     };
     match check(alloc, &pm) {
-        Ok(geometry) => Ok(geometry),
+        Ok(geometry) => Ok(Opened { pm, geometry }),
         Err(CheckFault::Bad(bad)) => Err(Status::BadImage {
             rule: bad.rule,
             place: bad.place,

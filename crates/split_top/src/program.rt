@@ -4,9 +4,9 @@ ghost use Rattle.std.specs.String.{string_bytes};
 ghost use Rattle.outside.specs.Outside.{Rose};
 ghost use Rattle.command_line.specs.Command as commands;
 ghost use Rattle.command_line.specs.Command.{command_of};
-ghost use Rattle.command_line.specs.Seen.{seen};
+ghost use Rattle.command_line.specs.Seen.{IsBuilt, seen};
 ghost use Rattle.split_top.specs.Jobs.{IsAnswer};
-ghost use Rattle.split_top.specs.Top.{BreaksGrammar, BreaksRule, Completes, IsCutShort, IsDone, IsMissing, IsRefusal, IsReplacedBy, Replaces, Says};
+ghost use Rattle.split_top.specs.Top.{BreaksGrammar, BreaksRule, Completes, IsCutShort, IsDone, IsMissing, IsRefusal, IsReplacedBy, MayFail, Replaces, Says};
 
 use crate::making::make_image;
 use crate::showing::show;
@@ -22,6 +22,7 @@ fn do_command<F: Files, K: Sink>(
     files: &mut F,
     out: &mut K,
 ) -> Status
+    requires { IsBuilt command.now }
     ensures { IsAnswer (seen command.now) (F.told files.old) (F.told files.new) (K.told out.old) (K.told out.new) (Rose (F.misses files.old) (F.misses files.new)) (Rose (F.faults files.old) (F.faults files.new)) (Rose (K.faults out.old) (K.faults out.new)) result }
 {
     match command {
@@ -42,7 +43,7 @@ fn do_command<F: Files, K: Sink>(
 /// - `tree IMAGE`: the image is read, checked and mounted, and its tree is put. `-` is the fresh default image. Live
 ///   entries of the log count: the tree is the one that they leave.
 /// - `step IMAGE S strict`, then the options `stop N`, `choose C` and `keep NAME`: the image is read, checked and mounted
-///   (`-` is the fresh default one); the script S is read, checked and run on it in strict mode; the file NAME is
+///   (`-` is the fresh default one); then the script S is read, checked and run on it in strict mode; the file NAME is
 ///   replaced by the image that is left; then the history of the calls and the tree that is left are put at once. With
 ///   `stop N` the power goes after N device steps; a word that is not durable is what `choose C` says (`oldest`,
 ///   `newest`, `even`, `odd`, or a number for draws from it as a seed); and the image that is left is mounted again.
@@ -61,7 +62,8 @@ pub fn top<R, F: Files, K: Sink>(
     ensures no_such_file { (name : List ℕ) → result ≡ Status.NoSuchFile name → Says (map string_bytes words.now) (λ c. IsMissing c (F.told files.old) name) × Rose (F.misses files.old) (F.misses files.new) }
     ensures bad_image { (rule place : ℕ) → result ≡ Status.BadImage rule place → Says (map string_bytes words.now) (λ c. BreaksRule c (F.told files.old) rule place) }
     ensures bad_script { (line : ℕ) → result ≡ Status.BadScript line → Says (map string_bytes words.now) (λ c. BreaksGrammar c (F.told files.old) line) }
-    ensures read_fault { result ≡ Status.ReadFault → Rose (F.faults files.old) (F.faults files.new) }
+    ensures read_fault { result ≡ Status.ReadFault → Says (map string_bytes words.now) (λ c. MayFail c (F.told files.old))
+        × Rose (F.faults files.old) (F.faults files.new) }
     ensures write_fault { result ≡ Status.WriteFault → Rose (K.faults out.old) (K.faults out.new) ⊎ Says (map string_bytes words.now) (λ c. Replaces c × Rose (F.faults files.old) (F.faults files.new)) }
 
     // The promise: a fresh image; the tree of an image; a history and a tree that are permitted; and nothing else is

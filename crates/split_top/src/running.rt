@@ -1,16 +1,16 @@
 //! A script is read, run on an image, and told.
-ghost use Rattle.std.specs.Prelude.{◌≡◌, IfErr, IfOk};
-ghost use Rattle.command_line.specs.pm_model.Words.{word_at};
-ghost use Rattle.split_machine.specs.image_model.Rules.{geometry_of};
-ghost use Rattle.split_top.specs.Images.{CanOpen};
+ghost use Rattle.std.specs.Prelude.{◌≡◌, List, ℕ, IfErr, IfOk};
+ghost use Rattle.command_line.specs.Seen.{seen_options};
+ghost use Rattle.posix_types.specs.declared.call.Mode.{Mode};
+ghost use Rattle.split_top.specs.Devices.{CanMount, IsDeviceOf};
 ghost use Rattle.split_top.specs.Jobs.{IsUnrun};
-ghost use Rattle.split_top.specs.Top.{IsRunOn, IsScriptRunOn};
+ghost use Rattle.split_top.specs.Top.{IsRunOn, IsScriptRunOn, step_text};
 ghost use Rattle.split_top.specs.Worlds.{AreRunnable};
 
 use crate::laws;
+use crate::opening::Opened;
 use crate::runs::run;
-use command_line::{Geometry, ScriptFault, Status, read_script};
-use pm_lines::Choice;
+use command_line::{Options, ScriptFault, Status, read_script};
 use posix_types::Scripts;
 use report_text::{history_text, tree_text};
 use split_machine::NoMemory;
@@ -23,21 +23,20 @@ pub(crate) struct Outcome {
     pub image: Vec<u8>,
 }
 
-/// Runs scripts on an image that can be opened.
+/// Runs scripts on the device of an image.
 fn outcome_of(
     alloc: Global,
-    image: &[u8],
-    geometry: Geometry,
+    opened: Opened,
     scripts: Scripts,
-    stop: Option<u64>,
-    choice: Choice,
+    options: &Options<'_>,
 ) -> Result<Outcome, NoMemory>
-    requires can_open { CanOpen image.now }
-    requires numbers { geometry_of (word_at image.now) ≡ geometry }
+    requires mounts { CanMount opened.geometry opened.pm }
     requires runnable { AreRunnable scripts }
-    ensures { IfOk result (λ o. IsRunOn image.now geometry scripts stop o.output.items o.image.items) }
+    requires strict { options.now.mode ≡ Mode.Strict }
+    ensures { IfOk result (λ o. (image : List ℕ) → IsDeviceOf image opened.pm
+        → IsRunOn image opened.geometry scripts (seen_options options.now) step_text o.output.items o.image.items) }
 {
-    let ran = run(alloc, image, geometry, scripts, stop, choice)?;
+    let ran = run(alloc, opened, scripts, options)?;
     let mut output = history_text(alloc, &ran.history)?;
     let tree = tree_text(alloc, &ran.tree)?;
     output.extend_from_slice(&tree)?;
@@ -47,25 +46,24 @@ fn outcome_of(
     })
 }
 
-/// Reads a script and runs it on an image that can be opened.
+/// Reads a script and runs it on the device of an image.
 pub(crate) fn run_script(
     alloc: Global,
-    image: &[u8],
-    geometry: Geometry,
+    opened: Opened,
     bytes: &[u8],
-    stop: Option<u64>,
-    choice: Choice,
+    options: &Options<'_>,
 ) -> Result<Outcome, Status>
-    requires can_open { CanOpen image.now }
-    requires numbers { geometry_of (word_at image.now) ≡ geometry }
-    ensures outcome { IfOk result (λ o. IsScriptRunOn image.now geometry bytes.now stop o.output.items o.image.items) }
+    requires mounts { CanMount opened.geometry opened.pm }
+    requires strict { options.now.mode ≡ Mode.Strict }
+    ensures outcome { IfOk result (λ o. (image : List ℕ) → IsDeviceOf image opened.pm
+        → IsScriptRunOn image opened.geometry bytes.now (seen_options options.now) o.output.items o.image.items) }
     ensures kind { IfErr result (λ status. IsUnrun bytes.now status) }
 {
     laws::scripts_are_spelled();
     laws::scripts_are_within_limits();
     laws::scripts_have_known_words();
     match read_script(alloc, bytes) {
-        Ok(scripts) => match outcome_of(alloc, image, geometry, scripts, stop, choice) {
+        Ok(scripts) => match outcome_of(alloc, opened, scripts, options) {
             Ok(outcome) => Ok(outcome),
             Err(_) => Err(Status::NoMemory),
         },

@@ -1,22 +1,22 @@
 //! A run of scripts: their calls in a World on an image, and what is read back of it.
 ghost use Rattle.std.specs.Prelude.{◌≡◌, List, IfOk};
+ghost use Rattle.command_line.specs.pm_model.Images.{words_of};
 ghost use Rattle.command_line.specs.pm_model.Words.{word_at};
+ghost use Rattle.command_line.specs.Seen.{seen_options};
 ghost use Rattle.split_machine.specs.image_model.Rules.{geometry_of};
 ghost use Rattle.split_machine.specs.crash_spec.Permitted.{Permitted};
 ghost use Rattle.command_line.specs.posix_spec.Run.{Unfinished};
 ghost use Rattle.command_line.specs.posix_spec.State.{State};
-ghost use Rattle.posix_types.specs.Scripts as spec;
 ghost use Rattle.posix_types.specs.declared.item.Item as items;
-ghost use Rattle.posix_types.specs.declared.reply.Shape.{Shape};
-ghost use Rattle.posix_types.specs.declared.tree.TreeEntry as trees;
+ghost use Rattle.split_top.specs.Devices.{CanMount};
 ghost use Rattle.split_top.specs.Found.{IsFoundBy, IsLeftAs};
-ghost use Rattle.split_top.specs.Images.{CanOpen, IsMounted};
-ghost use Rattle.split_top.specs.Runs.{IsRun, task_on};
+ghost use Rattle.split_top.specs.Images.{IsMounted};
+ghost use Rattle.split_top.specs.Runs.{IsRun, Task};
 ghost use Rattle.split_top.specs.Worlds.{AreRunnable, BeginsOn, IsRanOn, IsWorldOn};
 
 use crate::mounting::mount_image;
-use crate::opening::device;
-use command_line::Geometry;
+use crate::opening::{Opened, device};
+use command_line::{Geometry, Options};
 use k_check::crash_image;
 use pm_lines::{Choice, Pm, Power};
 use posix_types::{Item, Mode, Scripts, Tree};
@@ -48,21 +48,15 @@ fn power_for(stop: Option<u64>) -> Power
     }
 }
 
-/// The World of scripts on an image that can be opened.
-fn world_on(
-    alloc: Global,
-    image: &[u8],
-    geometry: Geometry,
-    scripts: Scripts,
-) -> Result<World, NoMemory>
-    requires can_open { CanOpen image.now }
-    requires numbers { geometry_of (word_at image.now) ≡ geometry }
+/// The World of scripts on the device of an image.
+fn world_on(alloc: Global, opened: Opened, scripts: Scripts, mode: Mode) -> Result<World, NoMemory>
+    requires mounts { CanMount opened.geometry opened.pm }
     requires runnable { AreRunnable scripts }
-    ensures { IfOk result (BeginsOn image.now geometry scripts) }
+    requires strict { mode ≡ Mode.Strict }
+    ensures { IfOk result (BeginsOn (words_of opened.pm) opened.geometry scripts mode) }
 {
-    let pm = device(alloc, image)?;
     let mut power = Power::always();
-    match World::mount(alloc, pm, Mode::Strict, scripts, &mut power) {
+    match World::mount(alloc, opened.pm, mode, scripts, &mut power) {
         Ok(world) => Ok(world),
         Err(MountFault::NoMemory) => Err(NoMemory {}),
         Err(MountFault::Bad(_)) => unreachable!(),
@@ -79,9 +73,10 @@ fn left_on(alloc: Global, pm: &Pm, geometry: Geometry, choice: Choice) -> Result
     ensures numbers { IfOk result (λ left. geometry_of (word_at left.image.items) ≡ geometry) }
 {
     let bytes = crash_image(alloc, pm, &geometry, choice)?;
-    let mounted = mount_image(alloc, &bytes)?;
-    let device = mounted.k.into_pm();
-    let image = device.choose(alloc, Choice::Newest)?;
+    let crashed = device(alloc, bytes)?;
+    let mounted = mount_image(alloc, crashed)?;
+    let remounted = mounted.k.into_pm();
+    let image = remounted.choose(alloc, Choice::Newest)?;
     Ok(Left {
         tree: mounted.tree,
         image,
@@ -93,18 +88,18 @@ fn run_world(
     alloc: Global,
     world: World,
     geometry: Geometry,
-    stop: Option<u64>,
-    choice: Choice,
+    options: &Options<'_>,
 ) -> Result<Ran, NoMemory>
-    requires { (tree : List trees.TreeEntry) × (shape : Shape) × (scripts : spec.Scripts) × IsWorldOn geometry tree shape scripts world }
-    ensures ran { IfOk result (λ ran. (tree : List trees.TreeEntry) (shape : Shape) (scripts : spec.Scripts) → IsWorldOn geometry tree shape scripts world → (unfinished : List Unfinished) × IsRun (task_on tree shape scripts) stop ran.history.items unfinished ran.tree) }
+    requires { (task : Task) × IsWorldOn geometry task world }
+    ensures ran { IfOk result (λ ran. (task : Task) → IsWorldOn geometry task world
+        → (unfinished : List Unfinished) × IsRun task (seen_options options.now) ran.history.items unfinished ran.tree) }
     ensures mounted { IfOk result (λ ran. IsMounted ran.image.items ran.tree) }
     ensures numbers { IfOk result (λ ran. geometry_of (word_at ran.image.items) ≡ geometry) }
 {
-    let mut power = power_for(stop);
+    let mut power = power_for(options.stop);
     match run_scripts(alloc, world, &mut power)? {
         Ended::Whole { pm, history } => {
-            let left = left_on(alloc, &pm, geometry, choice)?;
+            let left = left_on(alloc, &pm, geometry, options.choice)?;
             Ok(Ran {
                 history,
                 tree: left.tree,
@@ -112,7 +107,7 @@ fn run_world(
             })
         }
         Ended::Lost(crashed) => {
-            let left = left_on(alloc, &crashed.pm, geometry, choice)?;
+            let left = left_on(alloc, &crashed.pm, geometry, options.choice)?;
             Ok(Ran {
                 history: crashed.history,
                 tree: left.tree,
@@ -122,22 +117,22 @@ fn run_world(
     }
 }
 
-/// Runs scripts on an image that can be opened, and reads back what is left.
+/// Runs scripts on the device of an image, and reads back what is left.
 pub(crate) fn run(
     alloc: Global,
-    image: &[u8],
-    geometry: Geometry,
+    opened: Opened,
     scripts: Scripts,
-    stop: Option<u64>,
-    choice: Choice,
+    options: &Options<'_>,
 ) -> Result<Ran, NoMemory>
-    requires can_open { CanOpen image.now }
-    requires numbers { geometry_of (word_at image.now) ≡ geometry }
+    requires mounts { CanMount opened.geometry opened.pm }
     requires runnable { AreRunnable scripts }
-    ensures ran { IfOk result (λ ran. IsRanOn image.now geometry scripts stop ran.history.items ran.tree) }
+    requires strict { options.now.mode ≡ Mode.Strict }
+    ensures ran { IfOk result (λ ran.
+        IsRanOn (words_of opened.pm) opened.geometry scripts (seen_options options.now) ran.history.items ran.tree) }
     ensures mounted { IfOk result (λ ran. IsMounted ran.image.items ran.tree) }
-    ensures numbers { IfOk result (λ ran. geometry_of (word_at ran.image.items) ≡ geometry) }
+    ensures numbers { IfOk result (λ ran. geometry_of (word_at ran.image.items) ≡ opened.geometry) }
 {
-    let world = world_on(alloc, image, geometry, scripts)?;
-    run_world(alloc, world, geometry, stop, choice)
+    let geometry = opened.geometry;
+    let world = world_on(alloc, opened, scripts, options.mode)?;
+    run_world(alloc, world, geometry, options)
 }

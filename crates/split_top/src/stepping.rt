@@ -1,20 +1,20 @@
 //! The command `step`: a script is read and run on an image; the image that is left is kept where a name says so, and the
 //! history and the tree that is left are put.
-ghost use Rattle.std.specs.Prelude.{◌≡◌, Err, IfErr, IsSome, OnErr, OnOk};
-ghost use Rattle.command_line.specs.pm_model.Words.{word_at};
-ghost use Rattle.split_machine.specs.image_model.Rules.{geometry_of};
+ghost use Rattle.std.specs.Prelude.{◌≡◌, List, ℕ, Err, IfErr, IsSome, OnErr, OnOk};
 ghost use Rattle.outside.specs.Outside.{Rose};
 ghost use Rattle.command_line.specs.Command as commands;
 ghost use Rattle.command_line.specs.Seen.{seen_image, seen_options};
-ghost use Rattle.split_top.specs.Images.{AreOfImage, CanOpen};
+ghost use Rattle.posix_types.specs.declared.call.Mode.{Mode};
+ghost use Rattle.split_top.specs.Devices.{CanMount, IsDeviceOf};
+ghost use Rattle.split_top.specs.Images.{AreOfImage};
 ghost use Rattle.split_top.specs.Jobs.{IsAnswer, IsUnkept};
 ghost use Rattle.split_top.specs.Top.{CompletesStep, IsStepped, Keeps};
 
 use crate::images::read_image;
 use crate::jobs::{put_output, read_file};
-use crate::opening::geometry_to_open;
+use crate::opening::{Opened, open_image};
 use crate::running::{Outcome, run_script};
-use command_line::{Geometry, Image, Options, Status};
+use command_line::{Image, Options, Status};
 use outside::{FileFault, Files, Sink};
 use std::alloc::Global;
 
@@ -60,23 +60,23 @@ fn finish<F: Files, K: Sink>(
 /// Reads the script of this name, runs it on the image, keeps the image that is left, and puts the output.
 fn run_on<F: Files, K: Sink>(
     alloc: Global,
-    image: &[u8],
-    geometry: Geometry,
+    opened: Opened,
     script: &str,
     options: &Options<'_>,
     files: &mut F,
     out: &mut K,
 ) -> Status
-    requires can_open { CanOpen image.now }
-    requires numbers { geometry_of (word_at image.now) ≡ geometry }
-    ensures { (named : commands.Image) → AreOfImage (F.told files.old) named image.now
+    requires mounts { CanMount opened.geometry opened.pm }
+    requires strict { options.now.mode ≡ Mode.Strict }
+    ensures { (named : commands.Image) (image : List ℕ) → AreOfImage (F.told files.old) named image
+        → IsDeviceOf image opened.pm
         → IsAnswer (commands.Step (record { image = named; script = script.now; options = seen_options options.now })) (F.told files.old) (F.told files.new) (K.told out.old) (K.told out.new) (Rose (F.misses files.old) (F.misses files.new)) (Rose (F.faults files.old) (F.faults files.new)) (Rose (K.faults out.old) (K.faults out.new)) result }
 {
     let bytes = match read_file(alloc, files, script) {
         Ok(bytes) => bytes,
         Err(status) => return status,
     };
-    match run_script(alloc, image, geometry, &bytes, options.stop, options.choice) {
+    match run_script(alloc, opened, &bytes, options) {
         Ok(outcome) => finish(options, &outcome, files, out),
         Err(status) => status,
     }
@@ -91,14 +91,15 @@ pub(crate) fn run_step<F: Files, K: Sink>(
     files: &mut F,
     out: &mut K,
 ) -> Status
+    requires { options.now.mode ≡ Mode.Strict }
     ensures { IsAnswer (commands.Step (record { image = seen_image image.now; script = script.now; options = seen_options options.now })) (F.told files.old) (F.told files.new) (K.told out.old) (K.told out.new) (Rose (F.misses files.old) (F.misses files.new)) (Rose (F.faults files.old) (F.faults files.new)) (Rose (K.faults out.old) (K.faults out.new)) result }
 {
     let bytes = match read_image(alloc, image, files) {
         Ok(bytes) => bytes,
         Err(status) => return status,
     };
-    match geometry_to_open(alloc, &bytes) {
-        Ok(geometry) => run_on(alloc, &bytes, geometry, script, options, files, out),
+    match open_image(alloc, bytes) {
+        Ok(opened) => run_on(alloc, opened, script, options, files, out),
         Err(status) => status,
     }
 }

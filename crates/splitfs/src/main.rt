@@ -1,17 +1,18 @@
 //! The program `splitfs`: the real files, the real output and the words of the command line for the top call.
 #![tactic(auto)]
 
-ghost use Rattle.std.specs.Prelude.{◌≡◌};
+ghost use Rattle.std.specs.Prelude.{◌≡◌, ◌≢◌};
 ghost use Rattle.command_line.specs.Statuses as meaning;
 
 use command_line::{Status, exit_number, status_text};
 use outside::{DiskFiles, OutSink};
 use split_top::top;
-use std::io::Write;
+use std::io::{ErrorKind, Write};
 use std::process::ExitCode;
 use std::{env, io};
 
-/// The words after the program's name.
+/// The words after the program's name. An error of the kind `OutOfMemory` says that memory ran out, and any other one
+/// that a word is not UTF-8.
 fn words(rt: &HostRuntime) -> io::Result<Vec<String>> {
     let mut words = Vec::new(rt.alloc());
     for word in env::args(rt)?.skip(1) {
@@ -26,6 +27,18 @@ fn job(rt: &HostRuntime) -> io::Result<Status> {
     let mut files = DiskFiles::new(rt.clone()?);
     let mut out = OutSink::new(rt.stdout());
     Ok(top(rt, rt.alloc(), &words, &mut files, &mut out))
+}
+
+/// The status where the words were not read: a word that is not UTF-8 is no word of a command.
+fn unread(kind: ErrorKind) -> Status
+    ensures memory { kind ≡ ErrorKind.OutOfMemory → result ≡ Status.NoMemory }
+    ensures usage { kind ≢ ErrorKind.OutOfMemory → result ≡ Status.Usage }
+{
+    if kind == ErrorKind::OutOfMemory {
+        Status::NoMemory
+    } else {
+        Status::Usage
+    }
 }
 
 /// Tells the status on standard error.
@@ -43,7 +56,9 @@ fn end(rt: &HostRuntime, status: &Status) -> u8
 }
 
 fn main(rt: HostRuntime) -> ExitCode {
-    // Words that cannot be read are out of memory.
-    let status = job(&rt).unwrap_or(Status::NoMemory);
+    let status = match job(&rt) {
+        Ok(status) => status,
+        Err(error) => unread(error.kind()),
+    };
     ExitCode::from(end(&rt, &status))
 }

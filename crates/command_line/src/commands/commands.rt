@@ -1,11 +1,11 @@
 //! The words of the command line.
-ghost use Rattle.std.specs.Prelude.{◌≡◌, map, option_map};
+ghost use Rattle.std.specs.Prelude.{◌≡◌, IfSome, map, option_map};
 ghost use Rattle.std.specs.String.{string_bytes};
 ghost use Rattle.command_line.specs.Command.{command_of, image_of, mkfs_of, step_of, tree_of};
-ghost use Rattle.command_line.specs.Seen.{seen, seen_image};
+ghost use Rattle.command_line.specs.Seen.{IsBuilt, seen, seen_image};
 
 use crate::commands::geometries::read_geometry;
-use crate::commands::options::{Options, read_options};
+use crate::commands::options::{Options, read_mode, read_options};
 use image_layout::Geometry;
 
 /// An image.
@@ -49,7 +49,8 @@ fn read_image(word: &String) -> Image<'_>
 /// The words `mkfs IMAGE BLOCKS LOG INODES NAMES`.
 #[tactic(auto, unfolding(crate::specs::Command::mkfs_of))]
 fn read_mkfs(words: &[String]) -> Option<Command<'_>>
-    ensures { option_map (λ c. seen c) result ≡ mkfs_of (map string_bytes words.now) }
+    ensures command { option_map (λ c. seen c) result ≡ mkfs_of (map string_bytes words.now) }
+    ensures built { IfSome result IsBuilt }
 {
     if words.len() != 6 || words[0].as_str() != "mkfs" {
         return None;
@@ -69,7 +70,8 @@ fn read_mkfs(words: &[String]) -> Option<Command<'_>>
 /// The words `tree IMAGE`.
 #[tactic(auto, unfolding(crate::specs::Command::tree_of))]
 fn read_tree(words: &[String]) -> Option<Command<'_>>
-    ensures { option_map (λ c. seen c) result ≡ tree_of (map string_bytes words.now) }
+    ensures command { option_map (λ c. seen c) result ≡ tree_of (map string_bytes words.now) }
+    ensures built { IfSome result IsBuilt }
 {
     if words.len() != 2 || words[0].as_str() != "tree" {
         return None;
@@ -77,15 +79,17 @@ fn read_tree(words: &[String]) -> Option<Command<'_>>
     Some(Command::Tree(read_image(&words[1])))
 }
 
-/// The words `step IMAGE SCRIPT strict` and options.
+/// The words `step IMAGE SCRIPT MODE` and options.
 #[tactic(auto, unfolding(crate::specs::Command::step_of))]
 fn read_step(words: &[String]) -> Option<Command<'_>>
-    ensures { option_map (λ c. seen c) result ≡ step_of (map string_bytes words.now) }
+    ensures command { option_map (λ c. seen c) result ≡ step_of (map string_bytes words.now) }
+    ensures built { IfSome result IsBuilt }
 {
-    if words.len() < 4 || words[0].as_str() != "step" || words[3].as_str() != "strict" {
+    if words.len() < 4 || words[0].as_str() != "step" {
         return None;
     }
-    let options = read_options(&words[4..])?;
+    let mode = read_mode(words[3].as_str())?;
+    let options = read_options(mode, &words[4..])?;
     Some(Command::Step {
         image: read_image(&words[1]),
         script: &words[2],
@@ -96,7 +100,8 @@ fn read_step(words: &[String]) -> Option<Command<'_>>
 /// The command that the words are, if they are one.
 #[tactic(auto, unfolding(crate::specs::Command::command_of))]
 pub fn read_command(words: &[String]) -> Option<Command<'_>>
-    ensures { option_map (λ c. seen c) result ≡ command_of (map string_bytes words.now) }
+    ensures built { IfSome result IsBuilt }
+    ensures command { option_map (λ c. seen c) result ≡ command_of (map string_bytes words.now) }
 {
     if let Some(command) = read_mkfs(words) {
         return Some(command);

@@ -1,15 +1,17 @@
 //! The options of a run.
-ghost use Rattle.std.specs.Prelude.{◌≡◌, map, option_map};
+ghost use Rattle.std.specs.Prelude.{◌≡◌, IfSome, map, option_map};
 ghost use Rattle.std.specs.String.{string_bytes};
-ghost use Rattle.command_line.specs.Command.{choice_of, options_of, with_choice, with_keep};
+ghost use Rattle.command_line.specs.Command.{choice_of, mode_of, options_in, with_choice, with_keep, with_stop};
 ghost use Rattle.command_line.specs.Seen.{seen_options};
 
 use pm_lines::Choice;
-use script_text::read_number;
+use script_text::{Mode, read_number};
 
 /// The options of a run.
 #[derive(Drop)]
 pub struct Options<'a> {
+    /// What a power loss may leave.
+    pub mode: Mode,
     /// After how many device steps the power goes.
     pub stop: Option<u64>,
     /// Which candidates of words that are not durable a power loss leaves.
@@ -31,48 +33,71 @@ fn read_choice(word: &str) -> Option<Choice>
     }
 }
 
-/// The option `keep NAME`, or no more words.
+/// The mode that a word says, of those that are built.
+pub(crate) fn read_mode(word: &str) -> Option<Mode>
+    ensures mode { result ≡ mode_of word.now }
+    ensures built { IfSome result (λ mode. mode ≡ Mode.Strict) }
+{
+    match word {
+        "strict" => Some(Mode::Strict),
+        _ => None,
+    }
+}
+
+/// The option `keep NAME` beside these, or no more words.
 #[tactic(auto, unfolding(crate::specs::Command::with_keep))]
-fn with_keep(stop: Option<u64>, choice: Choice, words: &[String]) -> Option<Options<'_>>
-    ensures { option_map (λ o. seen_options o) result ≡ with_keep stop choice (map string_bytes words.now) }
+fn with_keep<'a>(options: Options<'a>, words: &'a [String]) -> Option<Options<'a>>
+    ensures options { option_map (λ o. seen_options o) result ≡ with_keep (seen_options options.entry) (map string_bytes words.now) }
+    ensures mode { IfSome result (λ o. o.mode ≡ options.entry.mode) }
 {
     if words.is_empty() {
-        return Some(Options {
-            stop,
-            choice,
-            keep: None,
-        });
+        return Some(options);
     }
     if words.len() != 2 || words[0].as_str() != "keep" {
         return None;
     }
     Some(Options {
-        stop,
-        choice,
         keep: Some(&words[1]),
+        ..options
     })
 }
 
-/// The option `choose C`, if it is there, and then the other.
+/// The option `choose C` beside these, if it is there, and then the other.
 #[tactic(auto, unfolding(crate::specs::Command::with_choice))]
-fn with_choice(stop: Option<u64>, words: &[String]) -> Option<Options<'_>>
-    ensures { option_map (λ o. seen_options o) result ≡ with_choice stop (map string_bytes words.now) }
+fn with_choice<'a>(options: Options<'a>, words: &'a [String]) -> Option<Options<'a>>
+    ensures options { option_map (λ o. seen_options o) result ≡ with_choice (seen_options options.entry) (map string_bytes words.now) }
+    ensures mode { IfSome result (λ o. o.mode ≡ options.entry.mode) }
 {
     if words.len() < 2 || words[0].as_str() != "choose" {
-        return with_keep(stop, Choice::Oldest, words);
+        return with_keep(options, words);
     }
     let choice = read_choice(words[1].as_str())?;
-    with_keep(stop, choice, &words[2..])
+    with_keep(Options { choice, ..options }, &words[2..])
 }
 
-/// The options that the words are: first `stop N`, if it is there, and then the others.
-#[tactic(auto, unfolding(crate::specs::Command::options_of))]
-pub(crate) fn read_options(words: &[String]) -> Option<Options<'_>>
-    ensures { option_map (λ o. seen_options o) result ≡ options_of (map string_bytes words.now) }
+/// The option `stop N` beside these, if it is there, and then the others.
+#[tactic(auto, unfolding(crate::specs::Command::with_stop))]
+fn with_stop<'a>(options: Options<'a>, words: &'a [String]) -> Option<Options<'a>>
+    ensures options { option_map (λ o. seen_options o) result ≡ with_stop (seen_options options.entry) (map string_bytes words.now) }
+    ensures mode { IfSome result (λ o. o.mode ≡ options.entry.mode) }
 {
     if words.len() < 2 || words[0].as_str() != "stop" {
-        return with_choice(None, words);
+        return with_choice(options, words);
     }
-    let steps = read_number(words[1].as_bytes())?;
-    with_choice(Some(steps), &words[2..])
+    let stop = Some(read_number(words[1].as_bytes())?);
+    with_choice(Options { stop, ..options }, &words[2..])
+}
+
+/// The options of a run in a mode that the words are.
+pub(crate) fn read_options(mode: Mode, words: &[String]) -> Option<Options<'_>>
+    ensures options { option_map (λ o. seen_options o) result ≡ with_stop (options_in mode) (map string_bytes words.now) }
+    ensures mode { IfSome result (λ o. o.mode ≡ mode) }
+{
+    let options = Options {
+        mode,
+        stop: None,
+        choice: Choice::Oldest,
+        keep: None,
+    };
+    with_stop(options, words)
 }

@@ -1,13 +1,14 @@
 use Rattle.std.proofs.Common.{◌++◌, ◌∙◌, ap}
 use Rattle.report_text.specs.Texts.{history_text}
+use Rattle.split_top.proofs.Opened.{shows-tree}
 use Rattle.split_top.proofs.running.outcome_of.Goals as goal
 
 pub returns : goal.returns
-returns c =
+returns c image device =
     let ran = c.in_ok-ran.ensures.ran in
     record {
       tree = ran.tree;
-      shows = ran.shows;
+      shows = shows-tree image c.args.opened.pm device ran.tree c.requires.mounts.checked ran.is_tree;
       shape = ran.shape;
       is_shape = ran.is_shape;
       outcome = record {

@@ -5,47 +5,58 @@ use Rattle.command_line.specs.pm_model.CellLaws.{single-home}
 use Rattle.command_line.specs.pm_model.Cells.{cell, is_single, newest}
 use Rattle.command_line.specs.pm_model.Images.{words_of}
 use Rattle.command_line.specs.pm_model.Words.{word_at}
+use Rattle.split_machine.specs.image_model.Rules.{IsChecked}
 use Rattle.split_top.proofs.Mounted.{kept-mounted, kept-numbers}
-use Rattle.split_top.proofs.Remounts.{left-found, left-numbers, left-opens, left-permitted}
+use Rattle.split_top.proofs.Remounts.{left-checked, left-found, left-numbers, left-permitted}
 use Rattle.split_top.proofs.runs.left_on.Goals as goal
 
-pub mount_image-requires : goal.mount_image-requires
-mount_image-requires c =
+pub device-requires : goal.device-requires
+device-requires c =
     let r = c.requires in
-    left-opens c.args.geometry c.args.choice c.args.pm.now r.0 r.1 r.2 c.in_ok-bytes.bytes.items c.deref.result.now r.3
-    (record { image = c.in_ok-bytes.ensures.image; honest = c.in_ok-bytes.ensures.honest; crash = c.in_ok-bytes.ensures.settled }) c.deref.ensures.value
+    (left-checked c.args.geometry c.args.choice c.args.pm.now r.0 r.1 r.2 c.in_ok-bytes.bytes.items r.3
+    (record { image = c.in_ok-bytes.ensures.image; honest = c.in_ok-bytes.ensures.honest; crash = c.in_ok-bytes.ensures.settled })).rule_1
+
+pub mount_image-requires-clause-checked : goal.mount_image-requires-clause-checked
+mount_image-requires-clause-checked c =
+    let r = c.requires in
+    let left = c.in_ok-crashed.ensures in
+    let d = c.in_ok-crashed.crashed in
+    let checked = left-checked c.args.geometry c.args.choice c.args.pm.now r.0 r.1 r.2 c.in_ok-bytes.bytes.items r.3
+    (record { image = c.in_ok-bytes.ensures.image; honest = c.in_ok-bytes.ensures.honest; crash = c.in_ok-bytes.ensures.settled }) in
+    subst (λ n. IsChecked n (words_of d)) (sym left.size) (subst (IsChecked (length c.in_ok-bytes.bytes.items)) (sym left.words) checked)
 
 pub returns-clause-found : goal.returns-clause-found
 returns-clause-found c =
     let r = c.requires in
-    left-found c.args.geometry c.args.choice c.args.pm.now r.0 r.1 r.2 c.in_ok-bytes.bytes.items c.deref.result.now r.3
-    (record { image = c.in_ok-bytes.ensures.image; honest = c.in_ok-bytes.ensures.honest; crash = c.in_ok-bytes.ensures.settled }) c.deref.ensures.value
-    c.in_ok-mounted.mounted.k c.in_ok-mounted.mounted.tree c.in_ok-mounted.ensures
+    left-found c.args.geometry c.args.choice c.args.pm.now r.0 r.1 r.2 c.in_ok-bytes.bytes.items r.3
+    (record { image = c.in_ok-bytes.ensures.image; honest = c.in_ok-bytes.ensures.honest; crash = c.in_ok-bytes.ensures.settled })
+    (words_of c.in_ok-crashed.crashed) c.in_ok-crashed.ensures.words c.in_ok-mounted.mounted.k c.in_ok-mounted.mounted.tree c.in_ok-mounted.ensures
 
 pub returns-clause-permitted : goal.returns-clause-permitted
 returns-clause-permitted c start history unfinished left =
-    left-permitted c.args.geometry c.args.choice c.args.pm.now start history unfinished c.in_ok-bytes.bytes.items c.deref.result.now left
-    (record { image = c.in_ok-bytes.ensures.image; honest = c.in_ok-bytes.ensures.honest; crash = c.in_ok-bytes.ensures.settled }) c.deref.ensures.value
-    c.in_ok-mounted.mounted.k c.in_ok-mounted.mounted.tree c.in_ok-mounted.ensures
+    left-permitted c.args.geometry c.args.choice c.args.pm.now start history unfinished c.in_ok-bytes.bytes.items left
+    (record { image = c.in_ok-bytes.ensures.image; honest = c.in_ok-bytes.ensures.honest; crash = c.in_ok-bytes.ensures.settled })
+    (words_of c.in_ok-crashed.crashed) c.in_ok-crashed.ensures.words c.in_ok-mounted.mounted.k c.in_ok-mounted.mounted.tree c.in_ok-mounted.ensures
 
 pub choose-requires : goal.choose-requires
 choose-requires c i =
-    single-home (cell c.into_pm-device.result i)
-    (subst (λ (d : List Cell). is_single (cell d i) ≡ true) (sym c.into_pm-device.ensures) (c.in_ok-mounted.ensures.mounted.rest.single i))
+    single-home (cell c.into_pm-remounted.result i)
+    (subst (λ (d : List Cell). is_single (cell d i) ≡ true) (sym c.into_pm-remounted.ensures) (c.in_ok-mounted.ensures.mounted.rest.single i))
 
 pub returns-clause-mounted : goal.returns-clause-mounted
 returns-clause-mounted c =
     let k = c.in_ok-mounted.mounted.k in
-    let size : length c.in_ok-image.image.items ≡ 8 * length k.cells = c.in_ok-image.ensures.image.size ∙ ap (λ (d : List Cell). 8 * length d) c.into_pm-device.ensures in
-    let words : word_at c.in_ok-image.image.items ≡ words_of k.cells = fun_ext (λ i. c.in_ok-image.ensures.chosen i ∙ ap (λ (d : List Cell). newest (cell d i)) c.into_pm-device.ensures) in
-    kept-mounted (word_at c.deref.result.now) k c.in_ok-mounted.mounted.tree c.in_ok-image.image.items c.in_ok-mounted.ensures size words
+    let size : length c.in_ok-image.image.items ≡ 8 * length k.cells = c.in_ok-image.ensures.image.size ∙ ap (λ (d : List Cell). 8 * length d) c.into_pm-remounted.ensures in
+    let words : word_at c.in_ok-image.image.items ≡ words_of k.cells = fun_ext (λ i. c.in_ok-image.ensures.chosen i ∙ ap (λ (d : List Cell). newest (cell d i)) c.into_pm-remounted.ensures) in
+    kept-mounted (words_of c.in_ok-crashed.crashed) k c.in_ok-mounted.mounted.tree c.in_ok-image.image.items c.in_ok-mounted.ensures size words
 
 pub returns-clause-numbers : goal.returns-clause-numbers
 returns-clause-numbers c =
     let k = c.in_ok-mounted.mounted.k in
     let r = c.requires in
-    let size : length c.in_ok-image.image.items ≡ 8 * length k.cells = c.in_ok-image.ensures.image.size ∙ ap (λ (d : List Cell). 8 * length d) c.into_pm-device.ensures in
-    let words : word_at c.in_ok-image.image.items ≡ words_of k.cells = fun_ext (λ i. c.in_ok-image.ensures.chosen i ∙ ap (λ (d : List Cell). newest (cell d i)) c.into_pm-device.ensures) in
-    kept-numbers (word_at c.deref.result.now) k c.in_ok-mounted.mounted.tree c.in_ok-image.image.items c.in_ok-mounted.ensures size words
-    ∙ left-numbers c.args.geometry c.args.choice c.args.pm.now r.0 r.1 r.2 c.in_ok-bytes.bytes.items c.deref.result.now r.3
-    (record { image = c.in_ok-bytes.ensures.image; honest = c.in_ok-bytes.ensures.honest; crash = c.in_ok-bytes.ensures.settled }) c.deref.ensures.value
+    let size : length c.in_ok-image.image.items ≡ 8 * length k.cells = c.in_ok-image.ensures.image.size ∙ ap (λ (d : List Cell). 8 * length d) c.into_pm-remounted.ensures in
+    let words : word_at c.in_ok-image.image.items ≡ words_of k.cells = fun_ext (λ i. c.in_ok-image.ensures.chosen i ∙ ap (λ (d : List Cell). newest (cell d i)) c.into_pm-remounted.ensures) in
+    kept-numbers (words_of c.in_ok-crashed.crashed) k c.in_ok-mounted.mounted.tree c.in_ok-image.image.items c.in_ok-mounted.ensures size words
+    ∙ left-numbers c.args.geometry c.args.choice c.args.pm.now r.0 r.1 r.2 c.in_ok-bytes.bytes.items r.3
+    (record { image = c.in_ok-bytes.ensures.image; honest = c.in_ok-bytes.ensures.honest; crash = c.in_ok-bytes.ensures.settled })
+    (words_of c.in_ok-crashed.crashed) c.in_ok-crashed.ensures.words

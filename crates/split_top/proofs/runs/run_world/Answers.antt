@@ -1,4 +1,5 @@
 use Rattle.std.proofs.Common.{[], subst, refl}
+use Rattle.command_line.specs.Seen.{seen_options}
 use Rattle.split_machine.specs.Runs.{IsRunEnded}
 use Rattle.split_top.proofs.Endings.{ran_lost, ran_whole}
 use Rattle.split_top.proofs.Left.{left_as}
@@ -10,8 +11,7 @@ left_on-requires c =
     let p = c.power_for-power.result in
     let q = c.run.new.power in
     let ended = subst (λ e. IsRunEnded w p q e) c.in-Whole.is c.in_ok-pm.ensures in
-    let on = c.requires.3 in
-    (w.start, c.in-Whole.history.items, [], left_as c.args.geometry c.requires.0 c.requires.1 c.requires.2 w p q c.in-Whole.pm c.in-Whole.history.items [] on ended.0)
+    (w.start, c.in-Whole.history.items, [], left_as c.args.geometry c.requires.0 w p q c.in-Whole.pm c.in-Whole.history.items [] c.requires.1 ended.0)
 
 pub left_on-requires-in-Lost : goal.left_on-requires-in-Lost
 left_on-requires-in-Lost c =
@@ -21,25 +21,24 @@ left_on-requires-in-Lost c =
     let crashed = c.in-Lost.crashed in
     let unfinished = crashed.unfinished.items in
     let ended = subst (λ e. IsRunEnded w p q e) c.in-Lost.is c.in_ok-pm.ensures in
-    let on = c.requires.3 in
-    (w.start, crashed.history.items, unfinished, left_as c.args.geometry c.requires.0 c.requires.1 c.requires.2 w p q crashed.pm crashed.history.items unfinished on ended.0)
+    (w.start, crashed.history.items, unfinished, left_as c.args.geometry c.requires.0 w p q crashed.pm crashed.history.items unfinished c.requires.1 ended.0)
 
 pub returns-in_ok-left-in-Whole-clause-ran : goal.returns-in_ok-left-in-Whole-clause-ran
-returns-in_ok-left-in-Whole-clause-ran c tree shape scripts on =
+returns-in_ok-left-in-Whole-clause-ran c task on =
     let w = c.args.world in
     let p = c.power_for-power.result in
     let q = c.run.new.power in
     let history = c.in-Whole.history.items in
     let found = c.in_ok-left-in-Whole.left.tree in
     let ended = subst (λ e. IsRunEnded w p q e) c.in-Whole.is c.in_ok-pm.ensures in
-    let left = left_as c.args.geometry tree shape scripts w p q c.in-Whole.pm history [] on ended.0 in (
+    let left = left_as c.args.geometry task w p q c.in-Whole.pm history [] on ended.0 in (
       [],
-      ran_whole c.args.geometry tree shape scripts c.args.stop w p q c.in-Whole.pm history [] found on c.power_for-power.ensures ended.0
+      ran_whole c.args.geometry task (seen_options c.args.options.now) w p q c.in-Whole.pm history [] found on c.power_for-power.ensures ended.0
           (c.in_ok-left-in-Whole.ensures.permitted w.start history [] left) ended.1 refl,
     )
 
 pub returns-in_ok-left-in-Lost-clause-ran : goal.returns-in_ok-left-in-Lost-clause-ran
-returns-in_ok-left-in-Lost-clause-ran c tree shape scripts on =
+returns-in_ok-left-in-Lost-clause-ran c task on =
     let w = c.args.world in
     let p = c.power_for-power.result in
     let q = c.run.new.power in
@@ -48,8 +47,8 @@ returns-in_ok-left-in-Lost-clause-ran c tree shape scripts on =
     let unfinished = crashed.unfinished.items in
     let found = c.in_ok-left-in-Lost.left.tree in
     let ended = subst (λ e. IsRunEnded w p q e) c.in-Lost.is c.in_ok-pm.ensures in
-    let left = left_as c.args.geometry tree shape scripts w p q crashed.pm history unfinished on ended.0 in (
+    let left = left_as c.args.geometry task w p q crashed.pm history unfinished on ended.0 in (
       unfinished,
-      ran_lost c.args.geometry tree shape scripts c.args.stop w p q crashed.pm history unfinished found on c.power_for-power.ensures ended.0
+      ran_lost c.args.geometry task (seen_options c.args.options.now) w p q crashed.pm history unfinished found on c.power_for-power.ensures ended.0
           (c.in_ok-left-in-Lost.ensures.permitted w.start history unfinished left) ended.1,
     )

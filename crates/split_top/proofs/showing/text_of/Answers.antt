@@ -1,8 +1,10 @@
-use Rattle.split_top.proofs.Opened.{open-text}
+use Rattle.split_top.proofs.Opened.{shows-tree}
 use Rattle.split_top.proofs.Results.{follows}
 use Rattle.split_top.proofs.showing.text_of.Goals as goal
 
 pub returns : goal.returns
 returns c =
-    follows c.tree_text.result _ _ (λ text is. open-text c.args.bytes.now c.in_ok-mounted.mounted.tree text.items c.requires c.in_ok-mounted.ensures.is_tree is)
+    let tree = c.in_ok-mounted.mounted.tree in
+    follows c.tree_text.result _ _
+    (λ text is bytes device. record { tree = tree; shows = shows-tree bytes c.args.opened.pm device tree c.requires.checked c.in_ok-mounted.ensures.is_tree; is_text = is })
     c.tree_text.ensures

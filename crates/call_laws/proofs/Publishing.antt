@@ -1,11 +1,9 @@
 -- The file of a call is published before the call.
-use Rattle.std.specs.Prelude.{◌≡◌, ◌≢◌, ◌≤◌, ◌<◌, ◌+◌, ◌^◌, ◌++◌, ◌==◌, ℕ, Bool, true, false, List, [], ◌∷◌, length, map, Option, Some, None, if◌then◌else◌, refl, Ok}
+use Rattle.std.specs.Prelude.{◌≡◌, ◌≢◌, ◌≤◌, ◌<◌, ◌+◌, ◌^◌, ◌==◌, ℕ, Bool, true, false, List, [], ◌∷◌, length, Some, None, if◌then◌else◌, refl, Ok}
 use Rattle.std.proofs.Common.{arith, ap, ◌∙◌, sym, subst}
 use Rattle.std.proofs.lemmas.Bool.Decides.{Decides-eqb}
 use Rattle.std.proofs.lemmas.Option.{same_Some}
-use Rattle.world_view_laws.specs.eof_laws.pm_model.declared.Cell.{Cell}
 use Rattle.world_view_laws.specs.eof_laws.pm_model.Powers.{is_on, Supply}
-use Rattle.world_view_laws.specs.eof_laws.pm_model.Words.{Words}
 use Rattle.world_view_laws.specs.eof_laws.layout_model.declared.lines.Draft.{Draft}
 use Rattle.world_view_laws.specs.eof_laws.layout_model.declared.lines.Inode.{Inode}
 use Rattle.world_view_laws.specs.eof_laws.layout_model.declared.lines.Kind.TheVariants.{File}
@@ -20,12 +18,10 @@ use Rattle.file_publish.specs.fsync_relink.Others.{GoesOn}
 use Rattle.file_publish.specs.fsync_relink.Publishes.{IsPublishDone, IsPublishStopped, MayPublish}
 use Rattle.file_publish.specs.RelinksLaws.{StandsThen}
 use Rattle.file_publish.specs.world_model.TreeRules.{used_below}
-use Rattle.world_view_laws.specs.file_publish.world_image_laws.Back.{IsPutBack}
 use Rattle.world_view_laws.specs.eof_laws.k_split_model.View.{View}
 use Rattle.world_view_laws.specs.eof_laws.list_laws.Members.{In}
 use Rattle.file_truncate.proofs.file_calls_proofs.eof_laws_proofs.MapsFiles.{end_published}
 use Rattle.world_view_laws.specs.eof_laws.posix_types.declared.call.Call.{Call}
-use Rattle.world_view_laws.specs.eof_laws.posix_types.declared.call.Mode.{Mode}
 use Rattle.world_view_laws.specs.eof_laws.posix_types.declared.call.Who.{Who}
 use Rattle.world_view_laws.specs.eof_laws.posix_types.declared.handle.Handle.{Handle}
 use Rattle.world_view_laws.specs.eof_laws.posix_tables.declared.open.Description.{Description}
@@ -39,10 +35,10 @@ use Rattle.world_view_laws.proofs.in_flight_proofs.Waiting.{handle_waits, one_fi
 use Rattle.world_view_laws.specs.in_flight.Busy.{IsNodeOf, WaitsForFile}
 use Rattle.world_view_laws.specs.in_flight.k_split.declared.faults.KFault.{KFault}
 use Rattle.world_view_laws.specs.in_flight.staging_files.Keeps.{Staged}
-use Rattle.world_view_laws.specs.in_flight.world_image_laws.Kept.{kept_more}
-use Rattle.world_view_laws.specs.in_flight.world_image_laws.Promised.{IsKept}
-use Rattle.world_view_laws.specs.in_flight.world_model.Jobs.{unfinished_call, Job}
+use Rattle.world_view_laws.specs.in_flight.world_image_laws.InLog.{kept_back_more}
+use Rattle.world_view_laws.specs.in_flight.world_model.Jobs.{Job}
 use Rattle.world_view_laws.specs.in_flight.world_model.Stands.{is_used, IsUsed, number}
+use Rattle.world_view_laws.specs.in_flight.live_model.Losses.{KeepsWhenLost}
 use Rattle.world_view_laws.specs.in_flight.live_model.Standing.{Kept, StandsAt}
 use Rattle.world_view_laws.specs.in_flight.live_model.world_model.Landed.{kind_file}
 use Rattle.world_view_laws.specs.in_flight.world_step_laws.Steps.{AreBeside, LetsJobsBe}
@@ -151,9 +147,6 @@ module _ (k : View) (t : Tables) (staging : Staged) (files : Files) (w : WorldVi
 
 -- ---- publishing
 
-not_posix : (mode : Mode) → mode ≡ Mode.Strict → mode ≢ Mode.Posix
-not_posix mode strict posix = let never : Mode.Strict ≡ Mode.Posix = sym strict ∙ posix in cc
-
 -- no job is out of the file that a call waits for, as it lets all jobs be
 beside_of : (s : State) (c : Unfinished) (numbers : List ℕ) (ino : ℕ) (jobs : List Job) → waits_for s c ≡ Some (number numbers ino) → LetsJobsBe s c numbers jobs → AreBeside (only ino) jobs
 beside_of s c numbers ino [] waits lets_be = tt
@@ -243,11 +236,10 @@ module _ (k : View) (t : Tables) (staging : Staged) (files : Files) (w : WorldVi
     left : IsLeftOf w.geometry k.cells l.cells
     left = leaves_stopped w.geometry k l t (kept_of w staging files) true (length w.history) (state_of w) ino (size_in files ino) (runs_in files ino) now stopped
 
-    promise : (back : ℕ → Cell) (slots : List (Option ℕ)) (image : Words) → IsPutBack k.volume l.cells back (kept_of w staging files).first w.claims now.jobs slots image
-        → IsKept w.geometry w.start w.history (map unfinished_call now.jobs ++ (who, call) ∷ []) image
-    promise back slots image put =
-        kept_more w.geometry w.start w.history (map unfinished_call now.jobs) (who, call) image (not_posix w.start.mode one.world.mode)
-        (loses w.geometry t (kept_of w staging files) true (length w.history) w.start w.history one.world.mode now beside back slots image put)
+    promise : KeepsWhenLost k.volume l.cells (kept_of w staging files) now.jobs w.start w.history ((who, call) ∷ [])
+    promise mode =
+        kept_back_more k.volume l.cells (kept_of w staging files).first w.claims now.jobs w.start w.history (who, call) mode
+        (loses w.geometry t (kept_of w staging files) true (length w.history) w.start w.history now beside mode)
 
     abbrev pub off_view : WorldView
     off_view = lost_view w ((who, call) ∷ []) (w.acts + 1) (disk_of l t staging)

@@ -247,7 +247,7 @@ module _ (k : View) (t : Tables) (staging : Staged) (files : Files) (w : WorldVi
       pub power_lost : IsWorldOver l t staged laid off_view
       power_lost =
           lost_call k t staging files w one.world one.begins.awake one.out who (call_of h at x) one.begins.next one.up one.none l t staged laid (loses.left found_at)
-          (loses.kept found_at w.start w.history refl one.world.mode)
+          (loses.kept found_at w.start w.history refl)
 
       pub loses_call : (after : Supply) → is_on after ≡ false → LosesCall who w off_view after
       loses_call after off = record {
@@ -257,6 +257,6 @@ module _ (k : View) (t : Tables) (staging : Staged) (files : Files) (w : WorldVi
         new_is = refl;
         stay =
             others_lost k t staging files w one.world one.begins.awake one.out who (call_of h at x) one.begins.next one.up one.none l t staged laid (loses.left found_at)
-            (loses.kept found_at w.start w.history refl one.world.mode);
+            (loses.kept found_at w.start w.history refl);
         off = off;
       }

@@ -1,15 +1,12 @@
 -- A call that is not logged runs to its end.
-use Rattle.std.specs.Prelude.{◌≡◌, ◌⊎◌, ◌<◌, ◌+◌, ◌^◌, ◌++◌, ℕ, true, false, List, [], ◌∷◌, length, map, Option, Some, None, is_none, is_some, option_map, refl}
+use Rattle.std.specs.Prelude.{◌≡◌, ◌⊎◌, ◌<◌, ◌+◌, ◌^◌, ◌++◌, ℕ, true, false, List, [], ◌∷◌, length, Option, Some, None, is_none, is_some, option_map, refl}
 use Rattle.std.specs.Option.{option_map_or}
 use Rattle.std.proofs.Common.{arith, ap, ◌∙◌, sym, subst}
-use Rattle.world_view_laws.specs.eof_laws.pm_model.declared.Cell.{Cell}
 use Rattle.world_view_laws.specs.eof_laws.pm_model.Powers.{is_on, Supply}
-use Rattle.world_view_laws.specs.eof_laws.pm_model.Words.{Words}
 use Rattle.world_view_laws.specs.eof_laws.file_table.Files.{Files}
 use Rattle.world_view_laws.specs.file_calls.Built.{IsBuilt, NamesAreSpelled}
 use Rattle.world_view_laws.specs.file_calls.Answers.{Answers, IsSpent, LeavesDevice, Loses}
 use Rattle.world_view_laws.specs.file_calls.Runs.{RunsInSome}
-use Rattle.world_view_laws.specs.file_publish.world_image_laws.Back.{IsPutBack}
 use Rattle.world_view_laws.specs.eof_laws.k_journal.Commits.{TakesAStep}
 use Rattle.world_view_laws.specs.eof_laws.k_split_model.View.{View}
 use Rattle.world_view_laws.specs.eof_laws.posix_types.declared.call.Call.{Call}
@@ -29,10 +26,9 @@ use Rattle.world_view_laws.specs.eof_laws.posix_spec.Step.{fsync_done, step, ste
 use Rattle.world_view_laws.specs.eof_laws.crash_spec.Busy.{is_logged, is_logged_put}
 use Rattle.world_view_laws.specs.in_flight.Histories.{item_with}
 use Rattle.world_view_laws.specs.in_flight.staging_files.Keeps.{Staged}
-use Rattle.world_view_laws.specs.in_flight.world_image_laws.Promised.{IsKept}
-use Rattle.world_view_laws.specs.in_flight.world_model.Jobs.{unfinished_call}
 use Rattle.world_view_laws.specs.in_flight.world_model.Stands.{number}
 use Rattle.world_view_laws.specs.in_flight.live_model.open_files.Numbered.{described_as}
+use Rattle.world_view_laws.specs.in_flight.live_model.Losses.{KeepsWhenLost}
 use Rattle.world_view_laws.specs.in_flight.live_model.Standing.{StandsAt}
 use Rattle.world_view_laws.specs.in_flight.world_step_laws.Steps.{LetsJobsBe}
 use Rattle.world_view_laws.proofs.Beginning.{lets, lost_call, others_lost, others_returned, returned}
@@ -158,9 +154,8 @@ module _ (k : View) (t : Tables) (staging : Staged) (files : Files) (w : WorldVi
     left : IsLeftOf w.geometry k.cells l.cells
     left = leaves w.geometry (kept_of w staging files) (length w.history) (state_of w) few_next now lets_now
 
-    promise : (back : ℕ → Cell) (slots : List (Option ℕ)) (image : Words) → IsPutBack k.volume l.cells back (kept_of w staging files).first w.claims now.jobs slots image
-        → IsKept w.geometry w.start w.history (map unfinished_call now.jobs ++ (who, call) ∷ []) image
-    promise = loses w.geometry (kept_of w staging files) (length w.history) w.start w.history few_next one.world.mode now lets_now
+    promise : KeepsWhenLost k.volume l.cells (kept_of w staging files) now.jobs w.start w.history ((who, call) ∷ [])
+    promise = loses w.geometry (kept_of w staging files) (length w.history) w.start w.history few_next now lets_now
 
     abbrev pub off_view : WorldView
     off_view = lost_view w ((who, call) ∷ []) (w.acts + 1) (disk_of l u staging)

@@ -1,15 +1,12 @@
 -- A `truncate` of a World.
-use Rattle.std.specs.Prelude.{◌≡◌, ◌≤◌, ◌+◌, ◌-◌, ◌++◌, nat_le, nat_lt, ℕ, Bool, true, false, List, [], ◌∷◌, length, map, Option, None, refl}
+use Rattle.std.specs.Prelude.{◌≡◌, ◌≤◌, ◌+◌, ◌-◌, nat_le, nat_lt, ℕ, Bool, true, false, [], ◌∷◌, length, None, refl}
 use Rattle.std.proofs.Common.{arith, lit<, ap, ◌∙◌, sym}
 use Rattle.std.proofs.lemmas.Bool.Decides.{nat_tests}
 use Rattle.world_view_laws.specs.eof_laws.block_counts.Counts.{held_by}
-use Rattle.world_view_laws.specs.eof_laws.pm_model.declared.Cell.{Cell}
 use Rattle.world_view_laws.specs.eof_laws.pm_model.Powers.{is_on, Supply}
-use Rattle.world_view_laws.specs.eof_laws.pm_model.Words.{Words}
 use Rattle.world_view_laws.specs.eof_laws.file_table.Files.{Files}
 use Rattle.file_truncate.specs.Truncates as truncates
 use Rattle.file_truncate.specs.Truncates.{Finds}
-use Rattle.world_view_laws.specs.file_publish.world_image_laws.Back.{IsPutBack}
 use Rattle.world_view_laws.specs.eof_laws.k_split_model.View.{View}
 use Rattle.world_view_laws.specs.eof_laws.posix_types.declared.call.Call.{Call}
 use Rattle.world_view_laws.specs.eof_laws.posix_types.declared.call.Who.{Who}
@@ -27,8 +24,7 @@ use Rattle.world_view_laws.specs.eof_laws.posix_spec.State.{room, State}
 use Rattle.world_view_laws.specs.eof_laws.posix_spec.Step.{step}
 use Rattle.world_view_laws.specs.eof_laws.crash_spec.Busy.{is_logged}
 use Rattle.world_view_laws.specs.in_flight.staging_files.Keeps.{Staged}
-use Rattle.world_view_laws.specs.in_flight.world_image_laws.Promised.{IsKept}
-use Rattle.world_view_laws.specs.in_flight.world_model.Jobs.{unfinished_call}
+use Rattle.world_view_laws.specs.in_flight.live_model.Losses.{KeepsWhenLost}
 use Rattle.world_view_laws.specs.in_flight.live_model.Standing.{StandsAt}
 use Rattle.world_view_laws.specs.in_flight.live_model.world_model.JobLaws.{needs}
 use Rattle.world_view_laws.proofs.Beginning.{lost_call, others_lost}
@@ -122,9 +118,8 @@ module _ (k : View) (t : Tables) (staging : Staged) (files : Files) (w : WorldVi
     left_device : IsLeftOf w.geometry k.cells l.cells
     left_device = loses.left w.geometry (kept_of w staging files) (length w.history) (state_of w) finds
 
-    promise : (back : ℕ → Cell) (slots : List (Option ℕ)) (image : Words) → IsPutBack k.volume l.cells back (kept_of w staging files).first w.claims now.jobs slots image
-        → IsKept w.geometry w.start w.history (map unfinished_call now.jobs ++ (who, Call.Truncate h size) ∷ []) image
-    promise = loses.kept w.geometry (kept_of w staging files) (length w.history) w.start w.history one.world.mode finds
+    promise : KeepsWhenLost k.volume l.cells (kept_of w staging files) now.jobs w.start w.history ((who, Call.Truncate h size) ∷ [])
+    promise = loses.kept w.geometry (kept_of w staging files) (length w.history) w.start w.history finds
 
     pub truncate_lost : IsWorldOver l t staging files (lost_view w ((who, Call.Truncate h size) ∷ []) (w.acts + 1) (disk_of l t staging))
     truncate_lost = lost_call k t staging files w one.world one.begins.awake one.out who (Call.Truncate h size) one.begins.next one.up one.none l t staging files left_device promise

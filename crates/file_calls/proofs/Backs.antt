@@ -1,6 +1,6 @@
 -- Lines and blocks of jobs are put back alike after a change that leaves the geometry, the lap and the maps of staging files.
-use Rattle.std.specs.Prelude.{◌≡◌, ℕ, List, [], ◌∷◌, Option, Some, None}
-use Rattle.std.proofs.Common.{◌∙◌, sym, subst}
+use Rattle.std.specs.Prelude.{◌≡◌, ℕ, List, [], ◌∷◌, ◌++◌, Option, Some, None}
+use Rattle.std.proofs.Common.{sym, subst}
 use Rattle.eof_laws.specs.pm_model.declared.Cell.{Cell}
 use Rattle.eof_laws.specs.pm_model.Parts.{put_back}
 use Rattle.eof_laws.specs.pm_model.Words.{Words}
@@ -9,11 +9,15 @@ use Rattle.eof_laws.specs.layout_model.Places.{Geometry}
 use Rattle.layout_model.specs.declared.lines.Draft.{Draft}
 use Rattle.eof_laws.specs.image_model.Honest.{IsHonestWith}
 use Rattle.eof_laws.specs.image_model.Volume.{Volume}
+use Rattle.posix_types.specs.declared.item.Item.{Item}
+use Rattle.open_files.specs.posix_spec.Run.{Unfinished}
+use Rattle.open_files.specs.posix_spec.State.{State}
 use Rattle.live_step_laws.specs.world_model.Lines.{AreJobLines, AreLinesOut, IsClaimedLine, IsJobLine, Spells}
 use Rattle.live_step_laws.specs.world_model.Jobs.{Job}
-use Rattle.live_step_laws.specs.world_model.Shown.{AreFilled}
-use Rattle.live_step_laws.specs.world_image_laws.Back.{IsPutBack}
+use Rattle.live_step_laws.specs.world_image_laws.Back.{calls_in_log, IsKeptBack, IsPutBack}
+use Rattle.live_step_laws.specs.world_image_laws.Flights.{filled_same}
 use Rattle.live_step_laws.specs.world_image_laws.LentLaws.{SameBlocks}
+use Rattle.live_step_laws.specs.world_image_laws.Promised.{IsKept}
 
 -- (first over a volume with the places of the first one)
 module _ (v w : Volume) (cells : ℕ → Cell) (first : Words) where
@@ -48,16 +52,7 @@ module _ (v w : Volume) (cells : ℕ → Cell) (first : Words) where
     there : u ≡ w
     there = λ i. record w { geometry = sym geometry i; base = sym base i }
 
-filled_same : (v w : Volume) (f : Words) (jobs : List Job) (slots : List (Option ℕ)) → SameBlocks v w jobs → AreFilled v f jobs slots → AreFilled w f jobs slots
-filled_same v w f [] slots same filled = tt
-filled_same v w f (j ∷ jobs) [] same filled = tt
-filled_same v w f (j ∷ jobs) (None ∷ slots) same filled = filled_same v w f jobs slots same.1 filled
-filled_same v w f (j ∷ jobs) (Some slot ∷ slots) same filled = (
-  λ k b i below at i_below. filled.0 k b i below (sym (same.0 k) ∙ at) i_below,
-  filled_same v w f jobs slots same.1 filled.1,
-)
-
-pub same_put : (v w : Volume) (d : List Cell) (back : ℕ → Cell) (first : Words) (claims : List (ℕ × Draft)) (jobs : List Job) (slots : List (Option ℕ)) (image : Words) → w.geometry ≡ v.geometry → w.base ≡ v.base → SameBlocks v w jobs
+same_put : (v w : Volume) (d : List Cell) (back : ℕ → Cell) (first : Words) (claims : List (ℕ × Draft)) (jobs : List Job) (slots : List (Option ℕ)) (image : Words) → w.geometry ≡ v.geometry → w.base ≡ v.base → SameBlocks v w jobs
     → IsPutBack v d back first claims jobs slots image → IsPutBack w d back first claims jobs slots image
 same_put v w d back first claims jobs slots image geometry base blocks is = record {
   lines = lines_same v w (put_back d back) first claims jobs slots geometry base is.lines;
@@ -65,3 +60,9 @@ same_put v w d back first claims jobs slots image geometry base blocks is = reco
   honest = subst (λ (g : Geometry). IsHonestWith g d back image) (sym geometry) is.honest;
   filled = filled_same v w (journaled image) jobs slots blocks is.filled;
 }
+
+-- So what is kept over the one volume is kept over the other.
+pub kept_over : (v w : Volume) (d : List Cell) (first : Words) (claims : List (ℕ × Draft)) (jobs : List Job) (start : State) (history : List Item) (last : List Unfinished) → w.geometry ≡ v.geometry → w.base ≡ v.base → SameBlocks v w jobs
+    → IsKeptBack w d first claims jobs start history last → IsKeptBack v d first claims jobs start history last
+kept_over v w d first claims jobs start history last geometry base blocks kept back slots image put =
+    subst (λ g. IsKept g start history (calls_in_log slots jobs ++ last) image) geometry (kept back slots image (same_put v w d back first claims jobs slots image geometry base blocks put))

@@ -48,8 +48,7 @@ use Rattle.open_files.specs.posix_spec.Tree.{tree}
 use Rattle.live_step_laws.specs.commute_laws.Commutes.{takes}
 use Rattle.live_step_laws.specs.world_model.Jobs.{unfinished_call, Job, live_claims}
 use Rattle.live_step_laws.specs.world_model.Stands.{is_used, number}
-use Rattle.live_step_laws.specs.world_image_laws.Promised.{IsKept}
-use Rattle.live_step_laws.specs.world_image_laws.Back.{IsPutBack}
+use Rattle.live_step_laws.specs.world_image_laws.Back.{IsKeptBack}
 use Rattle.live_step_laws.specs.world_image_laws.LentLaws.{LeadsTo}
 use Rattle.live_step_laws.specs.world_step_laws.RemoveCalls.{swept-open}
 use Rattle.live_step_laws.specs.k_split_laws.Done.{keeps_image_between, keeps_image_cut, same_blocks}
@@ -58,6 +57,7 @@ use Rattle.live_step_laws.specs.k_split_laws.Going.{gone_by, IsStep, moved_so_fa
 use Rattle.live_step_laws.specs.k_split_laws.Moves.{steps_rename}
 use Rattle.live_step_laws.specs.k_split_laws.Steps.{state_unlink, steps_dropped, steps_unlinked, unlinks_file}
 use Rattle.live_step_laws.specs.k_split_laws.Sweeps.{leads_swept}
+use Rattle.live_step_laws.specs.live_model.Losses.{KeepsWhenLost}
 use Rattle.live_step_laws.specs.live_model.Standing.{Kept, StandsAt}
 use Rattle.live_step_laws.specs.world_step_laws.Steps.{LetsJobsBe}
 use Rattle.live_step_laws.specs.world_step_laws.Worlds.{IsWorld}
@@ -67,7 +67,7 @@ use Rattle.live_step_laws.specs.StepsLaws.{AreLeft}
 use Rattle.file_calls.specs.Answers.{ComesHalfWay, HasSameLoans, IsEnded, IsHalfWay, IsReplyOf, IsSpent, told_of}
 use Rattle.file_calls.specs.Runs.{RunsAs, RunsInSome, with_files}
 use Rattle.file_calls.specs.declared.names.outcomes.Told.{Told}
-use Rattle.file_calls.proofs.Backs.{same_put}
+use Rattle.file_calls.proofs.Backs.{kept_over}
 use Rattle.file_calls.proofs.CallTables.{swept_entries, swept_tables}
 use Rattle.file_calls.proofs.NameCalls.{files_renamed, renamed_left, reply_ok, took}
 use Rattle.file_calls.proofs.Running.{fault_ended, going, leads_end, leaves_cut, leaves_off, left_alone, loses_cut, row_refuses, two_each, world}
@@ -127,32 +127,26 @@ leads_half g v k t x n jobs start history who call ino half leads =
     (subst (LeadsTo start history (who, call) half.runs.jobs) half.ends (subst (λ js. LeadsTo start history (who, call) js (after_call (run start history) (who, call))) (sym half.jobs_are) leads))
 
 -- the power went in between, or in the second change
-half_lost : (g : Geometry) (v : Volume) (k k2 : View) (t : Tables) (x : Kept) (n : ℕ) (jobs : List Job) (start : State) (history : List Item) (who : Who) (call : Call) (ino : ℕ) → start.mode ≡ Mode.Strict
+half_lost : (g : Geometry) (v : Volume) (k k2 : View) (t : Tables) (x : Kept) (n : ℕ) (jobs : List Job) (start : State) (history : List Item) (who : Who) (call : Call) (ino : ℕ)
     → (half : IsHalfWay g v k t x n jobs (after_call (run start history) (who, call)) ino) → LeadsTo start history (who, call) jobs (after_call (run start history) (who, call)) → is_open t ino ≡ false
-    → IsDropAnswer ino k k2 (Err KFault.PowerLost) → (back : ℕ → Cell) (slots : List (Option ℕ)) (image : Words) → IsPutBack v k2.cells back x.first x.claims jobs slots image
-    → IsKept g start history (map unfinished_call jobs ++ (who, call) ∷ []) image
-half_lost g v k k2 t x n jobs start history who call ino mode half leads shut drop back slots image put =
-    subst (λ y. IsKept y start history (map unfinished_call jobs ++ (who, call) ∷ []) image) half.runs.geometry
-    (subst (λ js. IsKept k.volume.geometry start history (map unfinished_call js ++ (who, call) ∷ []) image) half.jobs_are (by drop)) where
-      put_there : IsPutBack k.volume k2.cells back x.first x.claims half.runs.jobs slots image
-      put_there =
-          subst (λ js. IsPutBack k.volume k2.cells back x.first x.claims js slots image) (sym half.jobs_are)
-          (same_put v k.volume k2.cells back x.first x.claims jobs slots image half.geometry half.base half.blocks put)
-
+    → IsDropAnswer ino k k2 (Err KFault.PowerLost) → KeepsWhenLost v k2.cells x jobs start history ((who, call) ∷ [])
+half_lost g v k k2 t x n jobs start history who call ino half leads shut drop mode =
+    kept_over v k.volume k2.cells x.first x.claims jobs start history ((who, call) ∷ []) half.geometry half.base half.blocks
+    (subst (λ js. IsKeptBack k.volume k2.cells x.first x.claims js start history ((who, call) ∷ [])) half.jobs_are (by drop)) where
       middle_leads : LeadsTo start history (who, call) half.runs.jobs half.middle
       middle_leads = leads_half g v k t x n jobs start history who call ino half leads
 
       end_leads : LeadsTo start history (who, call) half.runs.jobs (after_call (run start history) (who, call))
       end_leads = subst (λ js. LeadsTo start history (who, call) js (after_call (run start history) (who, call))) (sym half.jobs_are) leads
 
-      by : IsDropAnswer ino k k2 (Err KFault.PowerLost) → IsKept k.volume.geometry start history (map unfinished_call half.runs.jobs ++ (who, call) ∷ []) image
+      by : IsDropAnswer ino k k2 (Err KFault.PowerLost) → IsKeptBack k.volume k2.cells x.first x.claims half.runs.jobs start history ((who, call) ∷ [])
       by (inl off) =
-          keeps_image_between k k2 x.claims half.runs.jobs half.runs.numbers half.middle start history half.runs.count (who, call) back x.first slots image mode half.runs.flying.whole
-          (going g k t x n half.middle half.runs) middle_leads off put_there
+          keeps_image_between k k2 x.claims half.runs.jobs half.runs.numbers half.middle start history half.runs.count (who, call) x.first mode (λ strict. half.runs.flying.whole)
+          (going g k t x n half.middle half.runs) middle_leads off
       by (inr cut) =
-          keeps_image_cut (Some ino) k k2 cut.1.1 x.claims half.runs.jobs half.runs.numbers half.runs.numbers half.middle (after_call (run start history) (who, call)) half.runs.count half.runs.count start history (who, call) back x.first slots image mode
-          half.runs.flying.whole (going g k t x n half.middle half.runs) cut.1.3
-          (drop_step g v k t x n jobs (after_call (run start history) (who, call)) ino cut.1.1 half shut cut.1.2) middle_leads end_leads put_there
+          keeps_image_cut (Some ino) k k2 cut.1.1 x.claims half.runs.jobs half.runs.numbers half.runs.numbers half.middle (after_call (run start history) (who, call)) half.runs.count half.runs.count start history (who, call) x.first mode
+          (λ strict. half.runs.flying.whole) (going g k t x n half.middle half.runs) cut.1.3
+          (drop_step g v k t x n jobs (after_call (run start history) (who, call)) ino cut.1.1 half shut cut.1.2) middle_leads end_leads
 
 -- ---- the ends of a call that came half way, in whatever state it began
 
@@ -186,9 +180,9 @@ module _ (who : Who) (call : Call) (k k1 : View) (t t1 : Tables) (f : Files) (o 
   pub goes_lost : (k2 : View) (t2 : Tables) (f2 : Files) (new : Supply) → is_open t1 ino ≡ false → (let r : Result (Unit {0}) KFault = Err KFault.PowerLost in IsDropAnswer ino k1 k2 r × IsPaid None middle new r)
       → IsEnded who call k t f k2 t2 f2 old new (Ok Told.PowerLost)
   goes_lost k2 t2 f2 new shut is = (
-    λ g x n start history small mode runs lets back slots image put.
-        half_lost g k.volume k1 k2 t1 (with_files x f) (n + 1) runs.jobs start history who call ino mode (half g x n (run start history) small runs lets)
-        (leads_end g k t (with_files x f) n start history who call runs lets (no_room (run start history))) shut is.0 back slots image put,
+    λ g x n start history small runs lets.
+        half_lost g k.volume k1 k2 t1 (with_files x f) (n + 1) runs.jobs start history who call ino (half g x n (run start history) small runs lets)
+        (leads_end g k t (with_files x f) n start history who call runs lets (no_room (run start history))) shut is.0,
     λ g x n s small runs lets. (let there = half g x n s small runs lets in left_through g k.cells k1.cells k2.cells loans.size loans.lent (leaves g x n there.middle there.runs is.0)),
     is.1,
   ) where

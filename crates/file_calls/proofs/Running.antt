@@ -39,7 +39,6 @@ use Rattle.live_step_laws.specs.world_model.Jobs.{ApartFrom, unfinished_call, Jo
 use Rattle.live_step_laws.specs.world_model.Stands.{number}
 use Rattle.live_step_laws.specs.world_model.JobLaws.{live_used}
 use Rattle.live_step_laws.specs.world_image_laws.Changed.{sound_headed}
-use Rattle.live_step_laws.specs.world_image_laws.Promised.{IsKept}
 use Rattle.live_step_laws.specs.world_image_laws.Settings.{keeps_setting}
 use Rattle.live_step_laws.specs.world_step_laws.OtherCalls.{IsWorld-idle}
 use Rattle.live_step_laws.specs.world_image_laws.Flights.{leads_after, leads_before}
@@ -154,15 +153,13 @@ row_refuses who call k t f o named row g x n s runs = refused_by_row k.volume k.
 
 -- before the change
 pub loses_off : (who : Who) (call : Call) (k k2 : View) (t : Tables) (f : Files) → IsOff k k2 → Loses who call k t f k2
-loses_off who call k k2 t f off g x n start history small mode runs lets back slots image put =
-    subst (λ z. IsKept z start history (map unfinished_call runs.jobs ++ (who, call) ∷ []) image) runs.geometry
-    (keeps_image_off k k2 x.claims runs.jobs runs.numbers start history runs.count (who, call) back x.first slots image mode runs.flying.whole (going g k t (with_files x f) n (run start history) runs) off put)
+loses_off who call k k2 t f off g x n start history small runs lets mode =
+    keeps_image_off k k2 x.claims runs.jobs runs.numbers start history runs.count (who, call) x.first mode (λ strict. runs.flying.whole) (going g k t (with_files x f) n (run start history) runs) off
 
 -- and where no change comes
 pub loses_now : (who : Who) (call : Call) (k : View) (t : Tables) (f : Files) → Loses who call k t f k
-loses_now who call k t f g x n start history small mode runs lets back slots image put =
-    subst (λ z. IsKept z start history (map unfinished_call runs.jobs ++ (who, call) ∷ []) image) runs.geometry
-    (keeps_image_off k (record k { lost = true }) x.claims runs.jobs runs.numbers start history runs.count (who, call) back x.first slots image mode runs.flying.whole (going g k t (with_files x f) n (run start history) runs) refl put)
+loses_now who call k t f g x n start history small runs lets mode =
+    keeps_image_off k (record k { lost = true }) x.claims runs.jobs runs.numbers start history runs.count (who, call) x.first mode (λ strict. runs.flying.whole) (going g k t (with_files x f) n (run start history) runs) refl
 
 -- a call that takes no room leads to its end
 pub leads_end : (g : Geometry) (k : View) (t : Tables) (x : Kept) (n : ℕ) (start : State) (history : List Item) (who : Who) (call : Call) → (runs : RunsAs g k t x n (run start history))
@@ -187,11 +184,10 @@ pub loses_cut : (who : Who) (call : Call) (k k2 : View) (t : Tables) (f : Files)
     → ((g : Geometry) (x : Kept) (n : ℕ) (start : State) (history : List Item) → n + 1 < 2 ^ 31 → (runs : RunsAs g k t (with_files x f) n (run start history)) → LetsJobsBe (run start history) (who, call) runs.numbers runs.jobs
     → CutsInto k.volume w x.claims runs.jobs runs.numbers start history (who, call) runs.count)
     → Loses who call k t f k2
-loses_cut who call k k2 t f w cut into g x n start history small mode runs lets back slots image put =
+loses_cut who call k k2 t f w cut into g x n start history small runs lets mode =
     let is = into g x n start history small runs lets in
-    subst (λ z. IsKept z start history (map unfinished_call runs.jobs ++ (who, call) ∷ []) image) runs.geometry
-    (keeps_image_cut is.touched k k2 w x.claims runs.jobs runs.numbers is.after (run start history) is.next runs.count is.later start history (who, call) back x.first slots image mode runs.flying.whole
-    (going g k t (with_files x f) n (run start history) runs) cut is.is_step (leads_before start history (who, call) runs.jobs) is.leads put)
+    keeps_image_cut is.touched k k2 w x.claims runs.jobs runs.numbers is.after (run start history) is.next runs.count is.later start history (who, call) x.first mode (λ strict. runs.flying.whole)
+    (going g k t (with_files x f) n (run start history) runs) cut is.is_step (leads_before start history (who, call) runs.jobs) is.leads
 
 -- ---- what it leaves of the device
 

@@ -1,9 +1,7 @@
 -- What a call over K-Split and the open files answers and leaves.
-use Rattle.std.specs.Prelude.{◌≡◌, ◌⊎◌, ◌<◌, ◌+◌, ◌^◌, ℕ, true, false, List, [], ◌∷◌, ◌++◌, length, map, Option, Some, None, Result, Ok, Err, if◌then◌else◌}
-use Rattle.eof_laws.specs.pm_model.declared.Cell.{Cell}
+use Rattle.std.specs.Prelude.{◌≡◌, ◌⊎◌, ◌<◌, ◌+◌, ◌^◌, ℕ, true, false, List, [], ◌∷◌, length, Option, Some, None, Result, Ok, Err, if◌then◌else◌}
 use Rattle.eof_laws.specs.pm_model.Frames.{SameLent}
 use Rattle.eof_laws.specs.pm_model.Powers.{is_on, Supply}
-use Rattle.eof_laws.specs.pm_model.Words.{Words}
 use Rattle.eof_laws.specs.layout_model.Places.{Geometry}
 use Rattle.layout_model.specs.declared.lines.Kind.{Kind}
 use Rattle.layout_model.specs.declared.lines.Kind.TheVariants.{Directory, File, Free, Staging}
@@ -18,7 +16,6 @@ use Rattle.live_step_laws.specs.k_split.Looks.{IsFound}
 use Rattle.k_split_laws.specs.Left.{IsLeftOf}
 use Rattle.open_files.specs.declared.files.faults.OpenFault.{OpenFault}
 use Rattle.posix_types.specs.declared.call.Call.{Call}
-use Rattle.posix_types.specs.declared.call.Mode.{Mode}
 use Rattle.posix_types.specs.declared.call.Who.{Who}
 use Rattle.posix_types.specs.declared.handle.Flags.{Flags}
 use Rattle.posix_types.specs.declared.item.Item.{Item}
@@ -36,11 +33,10 @@ use Rattle.open_files.specs.posix_spec.State.{alone, State, swept}
 use Rattle.open_files.specs.posix_spec.Step.{step}
 use Rattle.open_files.specs.posix_spec.Tree.{tree}
 use Rattle.live_step_laws.specs.volume_change_laws.Changes.{MayDrop}
-use Rattle.live_step_laws.specs.world_model.Jobs.{unfinished_call, Job}
+use Rattle.live_step_laws.specs.world_model.Jobs.{Job}
 use Rattle.live_step_laws.specs.world_model.Stands.{number}
-use Rattle.live_step_laws.specs.world_image_laws.Promised.{IsKept}
-use Rattle.live_step_laws.specs.world_image_laws.Back.{IsPutBack}
 use Rattle.live_step_laws.specs.world_image_laws.LentLaws.{SameBlocks}
+use Rattle.live_step_laws.specs.live_model.Losses.{KeepsWhenLost}
 use Rattle.live_step_laws.specs.live_model.Standing.{Kept}
 use Rattle.live_step_laws.specs.world_step_laws.Steps.{LetsJobsBe}
 use Rattle.file_calls.specs.declared.names.outcomes.NoMemory.{NoMemory}
@@ -55,16 +51,13 @@ Answers who call k t f k2 t2 f2 outcome =
     → LetsJobsBe s (who, call) runs.numbers runs.jobs
     → RunsAs g k2 t2 (with_files x f2) (n + 1) (after_call s (who, call)) × ((step s who call).outcome ≡ outcome)
 
--- The power went, in strict mode: whatever history led there, each image, once log lines and blocks of jobs are put back, is kept
--- with the calls of the jobs unfinished, and this one as the last.
+-- The power went in it, whatever history led there.
 abbrev pub Loses : Who → Call → View → Tables → Files → View → Type 0
 Loses who call k t f k2 =
-    (g : Geometry) (x : Kept) (n : ℕ) (start : State) (history : List Item) → n + 1 < 2 ^ 31 → start.mode ≡ Mode.Strict
+    (g : Geometry) (x : Kept) (n : ℕ) (start : State) (history : List Item) → n + 1 < 2 ^ 31
     → (runs : RunsAs g k t (with_files x f) n (run start history))
     → LetsJobsBe (run start history) (who, call) runs.numbers runs.jobs
-    → (back : ℕ → Cell) (slots : List (Option ℕ)) (image : Words)
-    → IsPutBack k.volume k2.cells back x.first x.claims runs.jobs slots image
-    → IsKept g start history (map unfinished_call runs.jobs ++ (who, call) ∷ []) image
+    → KeepsWhenLost k.volume k2.cells x runs.jobs start history ((who, call) ∷ [])
 
 -- The device is left of the one before: the same words are lent, and the journal of each image can be recovered.
 abbrev pub LeavesDevice : Who → Call → View → Tables → Files → View → Type 0

@@ -1,5 +1,5 @@
 -- A change that leaves the state is cut off: each image is kept.
-use Rattle.std.specs.Prelude.{◌≡◌, ◌⊎◌, ◌<◌, ℕ, List, [], ◌∷◌, ◌++◌, map, Option, Some, None, refl}
+use Rattle.std.specs.Prelude.{◌≡◌, ◌≢◌, ◌⊎◌, ◌<◌, ℕ, List, [], ◌∷◌, ◌++◌, Option, Some, None, refl}
 use Rattle.std.proofs.Common.{◌∙◌, sym, subst, inl, inr}
 use Rattle.std.proofs.lemmas.List.{append-nil}
 use Rattle.live_step_laws.specs.pm_model.declared.Cell.{Cell}
@@ -15,19 +15,19 @@ use Rattle.live_step_laws.specs.posix_types.declared.call.Mode.{Mode}
 use Rattle.live_step_laws.specs.posix_types.declared.item.Item.{Item}
 use Rattle.live_step_laws.specs.posix_spec.Run.{run}
 use Rattle.live_step_laws.specs.posix_spec.State.{State}
-use Rattle.live_step_laws.specs.world_model.Jobs.{unfinished_call, Job, staged_block}
-use Rattle.live_step_laws.specs.world_model.Promised.{AreWhole}
+use Rattle.live_step_laws.specs.world_model.Jobs.{Job, staged_block}
 use Rattle.live_step_laws.specs.world_model.Shown.{AreFilled, landed_pairs}
 use Rattle.live_step_laws.specs.world_step_laws.Worlds.{IsWorld}
 use Rattle.live_step_laws.specs.world_image_laws.Changed.{ShowsLog-same, sound_headed}
 use Rattle.live_step_laws.specs.world_image_laws.Images.{HasLogHome, HasRoom, IsHeaded, ShowsLog, ShowsWorld, StandsFor}
-use Rattle.live_step_laws.specs.world_image_laws.Kept.{kept_strict}
 use Rattle.live_step_laws.specs.world_image_laws.ImagesLaws.{Takes}
+use Rattle.live_step_laws.specs.world_image_laws.LentLaws.{AreFound}
 use Rattle.live_step_laws.specs.world_image_laws.Promised.{IsKept}
-use Rattle.live_step_laws.specs.world_image_laws.Back.{IsPutBack}
-use Rattle.live_step_laws.specs.world_image_laws.Flights.{ShowsBack}
+use Rattle.live_step_laws.specs.world_image_laws.Back.{calls_in_log, IsKeptBack, jobs_in_log}
+use Rattle.live_step_laws.specs.world_image_laws.Flights.{image_of, kept_mode, shows_back, shows_in_log, ShowsBack, small_lap}
+use Rattle.live_step_laws.specs.world_image_laws.InLog.{put_in_log, slots_in_log, whole_in_log}
 use Rattle.live_step_laws.specs.Changes.{AreSpare, IsChangeWith}
-use Rattle.live_step_laws.proofs.Devices.{image_of, keeps_log_home_with, named_same, shows_back, small_lap}
+use Rattle.live_step_laws.proofs.Devices.{keeps_log_home_with, named_same}
 use Rattle.live_step_laws.proofs.Named.{world_named}
 use Rattle.live_step_laws.proofs.Words.{headed_changed}
 
@@ -44,6 +44,13 @@ filled-same v w f (j ∷ jobs) (Some slot ∷ slots) same filled = (
   λ i b x below at x_below. filled.0 i b x below (sym (same j (inl refl) i below) ∙ at) x_below,
   filled-same v w f jobs slots (λ i is. same i (inr is)) filled.1,
 )
+
+in-log : (slots : List (Option ℕ)) (jobs : List Job) (j : Job) → In j (jobs_in_log slots jobs) → In j jobs
+in-log [] jobs j is = absurd is
+in-log (o ∷ slots) [] j is = absurd is
+in-log (None ∷ slots) (i ∷ jobs) j is = inr (in-log slots jobs j is)
+in-log (Some slot ∷ slots) (i ∷ jobs) j (inl same) = inl same
+in-log (Some slot ∷ slots) (i ∷ jobs) j (inr rest) = inr (in-log slots jobs j rest)
 
 module _ (blocks : List ℕ) (v w : Volume) (d e : List Cell) (claims : List (ℕ × Draft)) (jobs : List Job) (numbers : List ℕ) (s : State) (count : ℕ) (device : StandsFor v d claims jobs numbers s count)
     (change : IsChangeWith blocks v w d e) (spare : AreSpare blocks v) (room : HasRoom w claims jobs s) (takes : Takes v w claims jobs numbers numbers s s count count) where
@@ -64,52 +71,43 @@ module _ (blocks : List ℕ) (v w : Volume) (d e : List Cell) (claims : List (�
     world : IsWorld v claims jobs (journaled image) numbers s count
     world = world_named v claims jobs (journaled from.0) (journaled image) numbers s count (named_same blocks v w claims jobs numbers s count from.0 image was sound from.2 spare) was
 
-    shows-old : Reads v.geometry (journaled image) v → (landed : List (Option ℕ)) → AreFilled v (journaled image) jobs landed → ShowsLog v (claims ++ landed_pairs jobs landed) (journaled image)
-        → ShowsWorld v claims jobs numbers s count image
-    shows-old reads landed filled log = record { headed = headed; reads = reads; world = world; room = device.room; landed = landed; filled = filled; log = log }
-
-    shows-new : Reads v.geometry (journaled image) w → (landed : List (Option ℕ)) → AreFilled w (journaled image) jobs landed → ShowsLog w (claims ++ landed_pairs jobs landed) (journaled image)
-        → ShowsWorld w claims jobs numbers s count image
-    shows-new reads landed filled log = record {
-      headed = subst (λ g. IsHeaded g image) (sym change.geometry) headed;
-      reads = subst (λ g. Reads g (journaled image) w) (sym change.geometry) reads;
-      world = takes (journaled image) world;
-      room = room;
-      landed = landed;
-      filled = filled;
-      log = log;
-    }
-
     -- log lines and blocks of jobs were put back
-    shows-put_back : HaveSameBlocks v w jobs → ShowsBack v claims jobs image → ShowsWorld v claims jobs numbers s count image ⊎ ShowsWorld w claims jobs numbers s count image
-    shows-put_back same shows = elim from.2.reads [
-      | inl reads ↦ inl (shows-old reads shows.landed shows.filled shows.log)
+    shows-put_back : (slots : List (Option ℕ)) → HaveSameBlocks v w jobs → ShowsBack v claims (jobs_in_log slots jobs) image
+        → ShowsWorld v claims (jobs_in_log slots jobs) numbers s count image ⊎ ShowsWorld w claims (jobs_in_log slots jobs) numbers s count image
+    shows-put_back slots same shows = elim from.2.reads [
+      | inl reads ↦ inl (shows_in_log v claims jobs slots numbers s count image headed reads world device.room shows)
       | inr reads ↦
-          inr (shows-new reads shows.landed (filled-same v w (journaled image) jobs shows.landed same shows.filled)
-          (ShowsLog-same v w (claims ++ landed_pairs jobs shows.landed) (journaled image) (journaled image) change.geometry change.base (record { words = λ slot i below at. refl }) shows.log))
+          inr (shows_in_log w claims jobs slots numbers s count image (subst (λ g. IsHeaded g image) (sym change.geometry) headed) (subst (λ g. Reads g (journaled image) w) (sym change.geometry) reads) (takes (journaled image) world) room
+          (record {
+            landed = shows.landed;
+            filled = filled-same v w (journaled image) (jobs_in_log slots jobs) shows.landed (λ j is. same j (in-log slots jobs j is)) shows.filled;
+            log = ShowsLog-same v w (claims ++ landed_pairs (jobs_in_log slots jobs) shows.landed) (journaled image) (journaled image) change.geometry change.base (record { words = λ slot i below at. refl }) shows.log;
+          }))
     ]
 
-  module _ (start : State) (history : List Item) (mode : start.mode ≡ Mode.Strict) (is_run : s ≡ run start history) (whole : AreWhole jobs) where
-    kept : (image : Words) → ShowsWorld v claims jobs numbers s count image ⊎ ShowsWorld w claims jobs numbers s count image → IsKept v.geometry start history (map unfinished_call jobs) image
-    kept image (inl old) = kept_strict v claims jobs numbers count image start history mode whole (subst (λ x. ShowsWorld v claims jobs numbers x count image) is_run old)
-    kept image (inr new) =
-        subst (λ g. IsKept g start history (map unfinished_call jobs) image) change.geometry
-        (kept_strict w claims jobs numbers count image start history mode whole (subst (λ x. ShowsWorld w claims jobs numbers x count image) is_run new))
+  module _ (start : State) (history : List Item) (mode : start.mode ≢ Mode.Posix) (is_run : s ≡ run start history) (found : AreFound start jobs) where
+    kept : (slots : List (Option ℕ)) (image : Words) → ShowsWorld v claims (jobs_in_log slots jobs) numbers s count image ⊎ ShowsWorld w claims (jobs_in_log slots jobs) numbers s count image
+        → IsKept v.geometry start history (calls_in_log slots jobs) image
+    kept slots image (inl old) =
+        kept_mode start.mode v claims (jobs_in_log slots jobs) numbers count image start history refl mode (λ strict. whole_in_log slots jobs (found strict)) (subst (λ x. ShowsWorld v claims (jobs_in_log slots jobs) numbers x count image) is_run old)
+    kept slots image (inr new) =
+        subst (λ g. IsKept g start history (calls_in_log slots jobs) image) change.geometry
+        (kept_mode start.mode w claims (jobs_in_log slots jobs) numbers count image start history refl mode (λ strict. whole_in_log slots jobs (found strict)) (subst (λ x. ShowsWorld w claims (jobs_in_log slots jobs) numbers x count image) is_run new))
 
-    pub kept-back : HaveSameBlocks v w jobs → (back : ℕ → Cell) (first : Words) (slots : List (Option ℕ)) (image : Words) → IsPutBack v e back first claims jobs slots image
-        → IsKept v.geometry start history (map unfinished_call jobs) image
-    kept-back same back first slots image is =
+    pub kept-back : HaveSameBlocks v w jobs → (first : Words) → IsKeptBack v e first claims jobs start history []
+    kept-back same first back slots image is =
         let of_device = image_of e back image is.image_is in
         let before = (from image of_device).1.is_image in
-        let shows = shows_back v e claims jobs back first slots image (headed image of_device) (small_lap v d claims jobs numbers s count (from image of_device).0 device before) is in
-        kept image (shows-put_back image of_device same shows)
+        let shows =
+        shows_back v e claims (jobs_in_log slots jobs) back first (slots_in_log slots jobs) image (headed image of_device) (small_lap v d claims jobs numbers s count (from image of_device).0 device before)
+        (put_in_log v e back first claims jobs slots image is)
+        in
+        subst (λ cs. IsKept v.geometry start history cs image) (sym (append-nil (calls_in_log slots jobs))) (kept slots image (shows-put_back image of_device slots same shows))
 
-    -- log lines at home, and no job is out
-    pub kept-home : jobs ≡ [] → HasLogHome v d claims → (image : Words) → IsImage e image → IsKept v.geometry start history (map unfinished_call jobs) image
-    kept-home none home image of_device =
+    -- log lines at home: nothing of a job is there
+    pub kept-home : HaveSameBlocks v w jobs → HasLogHome v d claims → (image : Words) → IsImage e image → IsKept v.geometry start history [] image
+    kept-home same home image of_device =
         let log_new = keeps_log_home_with blocks v w d e claims device.headed change spare home image of_device in
         let log_old = ShowsLog-same w v claims (journaled image) (journaled image) (sym change.geometry) (sym change.base) (record { words = λ slot i below at. refl }) log_new in
-        let shows : ShowsBack v claims jobs image =
-        subst (λ js. ShowsBack v claims js image) (sym none) (record { landed = []; filled = tt; log = subst (λ cs. ShowsLog v cs (journaled image)) (sym (append-nil claims)) log_old })
-        in
-        kept image (shows-put_back image of_device (λ j is. absurd (subst (In j) none is)) shows)
+        let shows : ShowsBack v claims [] image = record { landed = []; filled = tt; log = subst (λ cs. ShowsLog v cs (journaled image)) (sym (append-nil claims)) log_old } in
+        kept [] image (shows-put_back image of_device [] same shows)

@@ -1,5 +1,5 @@
 -- The power went while runs of a file were relinked: each image is kept.
-use Rattle.std.specs.Prelude.{◌≡◌, ◌≢◌, ◌⊎◌, ◌<◌, ◌+◌, ℕ, Bool, false, List, [], ◌∷◌, map, Option, None, Some, Err, refl}
+use Rattle.std.specs.Prelude.{◌≡◌, ◌≢◌, ◌⊎◌, ◌<◌, ◌+◌, ℕ, Bool, false, List, [], ◌∷◌, ◌++◌, Option, None, Some, Err, refl}
 use Rattle.std.proofs.Common.{arith, ap, ◌∙◌, sym, subst, inl, inr}
 use Rattle.live_step_laws.specs.pm_model.declared.Cell.{Cell}
 use Rattle.live_step_laws.specs.pm_model.Images.{IsImage}
@@ -23,15 +23,15 @@ use Rattle.live_step_laws.specs.live_model.Overlays.{IsOverlayOf}
 use Rattle.live_step_laws.specs.posix_types.declared.call.Mode.{Mode}
 use Rattle.live_step_laws.specs.posix_types.declared.item.Item.{Item}
 use Rattle.live_step_laws.specs.posix_tables.Open.{Tables}
-use Rattle.live_step_laws.specs.posix_spec.Run.{run}
+use Rattle.live_step_laws.specs.posix_spec.Run.{Unfinished, run}
 use Rattle.live_step_laws.specs.posix_spec.State.{State}
 use Rattle.live_step_laws.specs.world_image_laws.Images.{StandsFor}
 use Rattle.live_step_laws.specs.world_image_laws.Promised.{IsKept, KeepsPromise}
 use Rattle.live_step_laws.specs.world_image_laws.Running.{promise_now}
-use Rattle.live_step_laws.specs.world_image_laws.Back.{IsPutBack}
+use Rattle.live_step_laws.specs.world_image_laws.Back.{calls_in_log, IsKeptBack, IsPutBack}
 use Rattle.live_step_laws.specs.world_image_laws.Flights.{promise_in_flight}
 use Rattle.live_step_laws.specs.world_model.Lines.{AreJobLines, AreLinesOut, HoldsWords, IsClaimedLine, IsPutOver, Spells}
-use Rattle.live_step_laws.specs.world_model.Jobs.{unfinished_call, Job, live_claims}
+use Rattle.live_step_laws.specs.world_model.Jobs.{Job, live_claims}
 use Rattle.live_step_laws.specs.world_step_laws.Steps.{AreBeside}
 use Rattle.live_step_laws.specs.world_step_laws.Touched.{only}
 use Rattle.live_step_laws.specs.live_model.Standing.{Kept, StandsAt}
@@ -101,17 +101,17 @@ module _ (v w : Volume) (geometry : w.geometry ≡ v.geometry) (base : w.base �
     filled = filled-same v w (journaled image) jobs slots same is.filled;
   }
 
+  -- so what is kept over the one is kept over the other
+  kept-over : (d : List Cell) (first : Words) (claims : List (ℕ × Draft)) (jobs : List Job) (start : State) (history : List Item) (last : List Unfinished) → HaveSameBlocks v w jobs
+      → IsKeptBack w d first claims jobs start history last → IsKeptBack v d first claims jobs start history last
+  kept-over d first claims jobs start history last same kept back slots image is =
+      subst (λ g. IsKept g start history (calls_in_log slots jobs ++ last) image) geometry (kept back slots image (put-back-on d back first claims jobs slots image same is))
+
 -- ---- nothing was changed
 
-module _ (g : Geometry) (k : View) (t : Tables) (kept : Kept) (lines : Bool) (n : ℕ) (start : State) (history : List Item) (mode : start.mode ≡ Mode.Strict) (stands : StandsAt g k t kept lines n (run start history)) where
-  not-posix : start.mode ≢ Mode.Posix
-  not-posix posix = let never : Mode.Strict ≡ Mode.Posix = sym mode ∙ posix in cc
-
-  pub kept-still : (back : ℕ → Cell) (slots : List (Option ℕ)) (image : Words) → IsPutBack k.volume k.cells back kept.first kept.claims stands.jobs slots image → IsKept g start history (map unfinished_call stands.jobs) image
-  kept-still back slots image is =
-      subst (λ x. IsKept x start history (map unfinished_call stands.jobs) image) stands.geometry
-      (promise_in_flight k.volume k.cells kept.claims stands.jobs stands.numbers start history stands.count back kept.first slots image not-posix (λ strict. stands.flying.whole)
-      stands.flying.device is)
+module _ (g : Geometry) (k : View) (t : Tables) (kept : Kept) (lines : Bool) (n : ℕ) (start : State) (history : List Item) (mode : start.mode ≢ Mode.Posix) (stands : StandsAt g k t kept lines n (run start history)) where
+  pub kept-still : IsKeptBack k.volume k.cells kept.first kept.claims stands.jobs start history []
+  kept-still = promise_in_flight k.volume k.cells kept.claims stands.jobs stands.numbers start history stands.count kept.first mode (λ strict. stands.flying.whole) stands.flying.device
 
 pub home-still : (g : Geometry) (k : View) (t : Tables) (kept : Kept) (n : ℕ) (start : State) (history : List Item) → StandsAt g k t kept false n (run start history)
     → (image : Words) → IsImage k.cells image → IsHonest g (λ i. cell k.cells i) image → IsKept g start history [] image
@@ -127,23 +127,21 @@ home-still g k t kept n start history stands image is honest =
 -- ---- some first runs were relinked, and the next one was cut off
 
 -- a relink that the power cut off, or that it was off before
-module _ (g : Geometry) (t : Tables) (n : ℕ) (start : State) (history : List Item) (mode : start.mode ≡ Mode.Strict) (ino : ℕ) where
+module _ (g : Geometry) (t : Tables) (n : ℕ) (start : State) (history : List Item) (mode : start.mode ≢ Mode.Posix) (ino : ℕ) where
   one-kept : (lines : Bool) (r : Run) (rest : List Run) (k l : View) (kept : Kept) (stands : StandsAt g k t kept lines n (run start history)) → runs_in kept.files ino ≡ r ∷ rest
       → MayPublish ino (size_in kept.files ino) (r ∷ rest) k → AreBeside (only ino) stands.jobs → IsRelinkAnswer (first_move kept k ino r rest) k l (Err KFault.PowerLost)
-      → (back : ℕ → Cell) (slots : List (Option ℕ)) (image : Words) → IsPutBack k.volume l.cells back kept.first kept.claims stands.jobs slots image
-      → IsKept g start history (map unfinished_call stands.jobs) image
-  one-kept lines r rest k l kept stands runs_are may beside (inl off) back slots image is =
-      kept-still g k t kept lines n start history mode stands back slots image (subst (λ (z : View). IsPutBack k.volume z.cells back kept.first kept.claims stands.jobs slots image) off is)
-  one-kept lines r rest k l kept stands runs_are may beside (inr (w, blocks, made, cut)) back slots image is =
-      keeps-relinked g k l t kept lines n start history ino r rest mode stands runs_are may beside w blocks made cut back slots image is
+      → IsKeptBack k.volume l.cells kept.first kept.claims stands.jobs start history []
+  one-kept lines r rest k l kept stands runs_are may beside (inl off) =
+      subst (λ (z : View). IsKeptBack k.volume z.cells kept.first kept.claims stands.jobs start history []) (sym off) (kept-still g k t kept lines n start history mode stands)
+  one-kept lines r rest k l kept stands runs_are may beside (inr (w, blocks, made, cut)) =
+      keeps-relinked g k l t kept lines n start history ino r rest stands runs_are may beside w blocks made cut mode
 
   each-kept : (lines : Bool) (r : Run) (rest : List Run) (k l : View) (kept : Kept) (stands : StandsAt g k t kept lines n (run start history)) → runs_in kept.files ino ≡ r ∷ rest
       → MayPublish ino (size_in kept.files ino) (r ∷ rest) k → AreBeside (only ino) stands.jobs → IsRelinkedUpTo KFault.PowerLost ino (size_in kept.files ino) (r ∷ rest) k l
-      → (back : ℕ → Cell) (slots : List (Option ℕ)) (image : Words) → IsPutBack k.volume l.cells back kept.first kept.claims stands.jobs slots image
-      → IsKept g start history (map unfinished_call stands.jobs) image
-  each-kept lines r rest k l kept stands runs_are may beside (inl answer) back slots image is = one-kept lines r rest k l kept stands runs_are may beside answer back slots image is
-  each-kept lines r [] k l kept stands runs_are may beside (inr (middle, gave, never)) back slots image is = absurd never
-  each-kept lines r (next ∷ rest) k l kept stands runs_are may beside (inr (middle, gave, behind)) back slots image is =
+      → IsKeptBack k.volume l.cells kept.first kept.claims stands.jobs start history []
+  each-kept lines r rest k l kept stands runs_are may beside (inl answer) = one-kept lines r rest k l kept stands runs_are may beside answer
+  each-kept lines r [] k l kept stands runs_are may beside (inr (middle, gave, never)) = absurd never
+  each-kept lines r (next ∷ rest) k l kept stands runs_are may beside (inr (middle, gave, behind)) =
       let below = has-overlay kept.files ino r (next ∷ rest) runs_are in
       let table : Files = with-runs ino (next ∷ rest) kept.files in
       let loses = loses-runs kept.files ino (next ∷ rest) below in
@@ -154,12 +152,10 @@ module _ (g : Geometry) (t : Tables) (n : ℕ) (start : State) (history : List I
       let change = relinking.change g k t kept lines n (run start history) stands ino r (next ∷ rest) runs_are may beside middle.volume gave.0 gave.1 whole in
       let base = relinking.same-base g k t kept lines n (run start history) stands ino r (next ∷ rest) runs_are may beside middle.volume gave.0 gave.1 whole in
       let same = relinking.job-block g k t kept lines n (run start history) stands ino r (next ∷ rest) runs_are may beside middle.volume gave.0 gave.1 whole in
-      let is_then = put-back-on k.volume middle.volume change.geometry base l.cells back kept.first kept.claims stands.jobs slots image same is in
-      let jobs = sym first.jobs_are in
-      subst (λ js. IsKept g start history (map unfinished_call js) image) first.jobs_are
+      kept-over k.volume middle.volume change.geometry base l.cells kept.first kept.claims stands.jobs start history [] same
+      (subst (λ js. IsKeptBack middle.volume l.cells kept.first kept.claims js start history []) first.jobs_are
       (each-kept lines next rest middle l (record kept { files = table }) first.now loses.runs_are
-      (next-may ino (size_in kept.files ino) r (next ∷ rest) k middle stands.order stands.unbatched may gave) (subst (AreBeside (only ino)) jobs beside) behind back slots image
-      (subst (λ js. IsPutBack middle.volume l.cells back kept.first kept.claims js slots image) jobs is_then))
+      (next-may ino (size_in kept.files ino) r (next ∷ rest) k middle stands.order stands.unbatched may gave) (subst (AreBeside (only ino)) (sym first.jobs_are) beside) behind))
 
   -- with log lines at home
   one-home : (r : Run) (rest : List Run) (k l : View) (kept : Kept) → StandsAt g k t kept false n (run start history) → runs_in kept.files ino ≡ r ∷ rest
@@ -193,11 +189,11 @@ never-resized g k l t kept lines n s ino stands none may resized =
     (subst (λ rs. IsOverlayOf k.volume (live_claims k.volume kept.claims) ino rs (size_in kept.files ino)) none (stands.flying.overlays ino may.file.file))))
 
 pub keeps-published : KeepsPublished
-keeps-published g k l t kept lines n start history ino mode stands may beside stopped back slots image is = by (runs_in kept.files ino) refl may stopped where
+keeps-published g k l t kept lines n start history ino stands may beside stopped mode = by (runs_in kept.files ino) refl may stopped where
   by : (runs : List Run) → runs_in kept.files ino ≡ runs → MayPublish ino (size_in kept.files ino) runs k → IsPublishStopped KFault.PowerLost ino (size_in kept.files ino) runs k l
-      → IsKept g start history (map unfinished_call stands.jobs) image
+      → IsKeptBack k.volume l.cells kept.first kept.claims stands.jobs start history []
   by [] none may_be resized = absurd (never-resized g k l t kept lines n (run start history) ino stands none may_be resized)
-  by (r ∷ rest) are may_be stopped_at = each-kept g t n start history mode ino lines r rest k l kept stands are may_be beside stopped_at back slots image is
+  by (r ∷ rest) are may_be stopped_at = each-kept g t n start history mode ino lines r rest k l kept stands are may_be beside stopped_at
 
 pub keeps-published-home : KeepsPublishedHome
 keeps-published-home g k l t kept n start history ino mode stands may stopped = by (runs_in kept.files ino) refl may stopped where

@@ -30,4 +30,4 @@ module _ (ino size : ℕ) (runs : List Run) (f : Files) (k l : View) (runs_are :
   file-lost keeps may carried =
       let of_runs : IsPublishStopped KFault.PowerLost ino size (runs_in f ino) k l = subst (λ (rs : List Run). IsPublishStopped KFault.PowerLost ino size rs k l) runs_are carried in
       let stopped : IsPublishStopped KFault.PowerLost ino (size_in f ino) (runs_in f ino) k l = subst (λ m. IsPublishStopped KFault.PowerLost ino m (runs_in f ino) k l) size_is of_runs in
-      (refl, stopped, λ g t x lines n start history strict stands beside back slots image put. keeps g k l t (with_files x f) lines n start history ino strict stands may beside stopped back slots image put)
+      (refl, stopped, λ g t x lines n start history stands beside. keeps g k l t (with_files x f) lines n start history ino stands may beside stopped)

@@ -122,7 +122,7 @@ stands-gathered may published lapping g k l t kept staging files n s stands few 
 -- ---- the power went
 
 module _ (may : StandsToPublish) (published : StandsPublished) (stopped : KeepsPublishedHome) (cutting : KeepsLapped) (g : Geometry) (k l : View) (t : Tables) (kept : Kept) (n : ℕ) (start : State)
-    (history : List Item) (strict : start.mode ≡ Mode.Strict) (stands : StandsAt g k t kept false n (run start history)) (few : n ≤ 2 ^ 62) (small : AreSmall kept) where
+    (history : List Item) (mode : start.mode ≢ Mode.Posix) (stands : StandsAt g k t kept false n (run start history)) (few : n ≤ 2 ^ 62) (small : AreSmall kept) where
   abbrev s : State
   s = run start history
 
@@ -148,7 +148,7 @@ module _ (may : StandsToPublish) (published : StandsPublished) (stopped : KeepsP
       let of_runs : IsPublishStopped KFault.PowerLost m (size_in (cleared m kept.files) m) (runs_in (cleared m kept.files) m) middle l =
       subst (λ (rs : List Run). IsPublishStopped KFault.PowerLost m (size_in (cleared m kept.files) m) rs middle l) (sym (left-runs m kept.files m (omega arith))) of_size
       in
-      stopped g middle l t (with_table kept (cleared m kept.files)) n start history m strict at.now (may-next may published g k t kept n s stands few small m middle inside at file) of_runs
+      stopped g middle l t (with_table kept (cleared m kept.files)) n start history m mode at.now (may-next may published g k t kept n s stands few small m middle inside at file) of_runs
 
   up-to-kept : AreDoneUpTo KFault.PowerLost kept.files k l → KeepsPromise g l.cells start history []
   up-to-kept is = elim is.stopped [
@@ -162,7 +162,7 @@ module _ (may : StandsToPublish) (published : StandsPublished) (stopped : KeepsP
       (still-next k middle done.rest next) answer
 
 pub keeps-gathered : StandsToPublish → StandsPublished → KeepsPublishedHome → KeepsLapped → KeepsGathered
-keeps-gathered may published stopped cutting g k l t kept staging files n start history strict stands few small next (inl up_to) =
-    up-to-kept may published stopped cutting g k l t kept n start history strict stands few small up_to
-keeps-gathered may published stopped cutting g k l t kept staging files n start history strict stands few small next (inr gathered) =
-    lap-kept may published stopped cutting g k l t kept n start history strict stands few small staging files next gathered
+keeps-gathered may published stopped cutting g k l t kept staging files n start history mode stands few small next (inl up_to) =
+    up-to-kept may published stopped cutting g k l t kept n start history mode stands few small up_to
+keeps-gathered may published stopped cutting g k l t kept staging files n start history mode stands few small next (inr gathered) =
+    lap-kept may published stopped cutting g k l t kept n start history mode stands few small staging files next gathered

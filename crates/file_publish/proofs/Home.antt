@@ -1,12 +1,12 @@
 -- The log lines come home.
-use Rattle.std.specs.Prelude.{◌≡◌, ◌≢◌, ◌⊎◌, ◌≤◌, ◌<◌, ◌+◌, ◌-◌, ◌*◌, ◌/◌, ◌%◌, ℕ, Bool, true, false, List, [], ◌∷◌, length, Option, refl, if◌then◌else◌}
+use Rattle.std.specs.Prelude.{◌≡◌, ◌≢◌, ◌⊎◌, ◌<◌, ◌+◌, ◌-◌, ◌*◌, ◌/◌, ◌%◌, ℕ, Bool, true, false, List, [], ◌∷◌, refl, if◌then◌else◌}
 use Rattle.std.proofs.Common.{append-nil, arith, ap, ◌∙◌, sym, subst, inl, inr}
 use Rattle.std.proofs.lemmas.Bool.{both_ways, cases_eq}
 use Rattle.live_step_laws.specs.pm_model.declared.Cell.{Cell}
 use Rattle.live_step_laws.specs.pm_model.declared.Cell.TheVariants.{Single}
 use Rattle.live_step_laws.specs.pm_model.Cells.{cell, has_two, is_lent, is_single, IsCandidate}
 use Rattle.live_step_laws.specs.pm_model.Images.{IsImage}
-use Rattle.live_step_laws.specs.pm_model.Parts.{IsImageWith, Part, put_back}
+use Rattle.live_step_laws.specs.pm_model.Parts.{Part, put_back}
 use Rattle.live_step_laws.specs.pm_model.Words.{Words}
 use Rattle.live_step_laws.specs.layout_model.declared.lines.Draft.{Draft}
 use Rattle.live_step_laws.specs.layout_model.Journal.{journaled}
@@ -28,8 +28,8 @@ use Rattle.log_checkpoint.specs.staging_files.Keeps.{Agrees, AreFreeSingle}
 use Rattle.live_step_laws.specs.world_image_laws.Images.{HasLogHome, ShowsLog, StandsFor}
 use Rattle.live_step_laws.specs.world_image_laws.Back.{IsPutBack}
 use Rattle.live_step_laws.specs.world_model.Lines.{AreLinesOut, HoldsWords}
-use Rattle.live_step_laws.specs.live_model.Standing.{AreLinesLent, IsQuietBeside, Kept, StandsAt}
-use Rattle.live_step_laws.proofs.Devices.{shows_back, small_lap}
+use Rattle.live_step_laws.specs.live_model.Standing.{IsQuietBeside, Kept, StandsAt}
+use Rattle.live_step_laws.specs.world_image_laws.Flights.{shows_back, small_lap}
 use Rattle.file_publish.specs.RoundLinesLaws.{HasTurned, StandsHome, with_cells}
 use Rattle.file_publish.proofs.Beside.{ComesBeside, log-or-not, SameBeside, staged-beside, stands-beside}
 use Rattle.file_publish.proofs.Out.{no-jobs}

@@ -1,5 +1,5 @@
 -- The power went while the first run of a file was relinked: each image is kept.
-use Rattle.std.specs.Prelude.{◌≡◌, ℕ, Bool, false, List, [], ◌∷◌, map, refl}
+use Rattle.std.specs.Prelude.{◌≡◌, ℕ, Bool, false, List, [], ◌∷◌, refl}
 use Rattle.std.proofs.Common.{sym, subst}
 use Rattle.live_step_laws.specs.layout_model.Places.{Geometry}
 use Rattle.live_step_laws.specs.image_model.Volume.{Volume}
@@ -13,7 +13,7 @@ use Rattle.live_step_laws.specs.posix_tables.Open.{Tables}
 use Rattle.live_step_laws.specs.posix_spec.Run.{run}
 use Rattle.live_step_laws.specs.posix_spec.State.{State}
 use Rattle.live_step_laws.specs.world_image_laws.Promised.{IsKept}
-use Rattle.live_step_laws.specs.world_model.Jobs.{unfinished_call, Job}
+use Rattle.live_step_laws.specs.world_model.Jobs.{Job}
 use Rattle.live_step_laws.specs.world_step_laws.Steps.{AreBeside}
 use Rattle.live_step_laws.specs.world_step_laws.Touched.{only}
 use Rattle.live_step_laws.specs.live_model.Standing.{AreJobsOf, Kept, JobOut, StandsAt}
@@ -35,12 +35,10 @@ module _ (g : Geometry) (k l : View) (t : Tables) (kept : Kept) (lines : Bool) (
       }
 
 pub keeps-relinked : KeepsRelinked
-keeps-relinked g k l t kept lines n start history ino r rest mode stands runs_are may beside w blocks made cut back slots image is =
-    subst (λ x. IsKept x start history (map unfinished_call stands.jobs) image) stands.geometry
-    (kept-back blocks k.volume w k.cells l.cells kept.claims stands.jobs stands.numbers (run start history) stands.count stands.flying.device
+keeps-relinked g k l t kept lines n start history ino r rest stands runs_are may beside w blocks made cut mode =
+    kept-back blocks k.volume w k.cells l.cells kept.claims stands.jobs stands.numbers (run start history) stands.count stands.flying.device
     (changed g k l t kept lines n start history stands ino r rest runs_are may beside w blocks made cut) (relinking.spare g k t kept lines n (run start history) stands ino r rest runs_are may beside w blocks made cut.whole)
-    (relinking.room g k t kept lines n (run start history) stands ino r rest runs_are may beside w blocks made cut.whole) (relinking.takes g k t kept lines n (run start history) stands ino r rest runs_are may beside w blocks made cut.whole) start history mode refl stands.flying.whole (relinking.job-block g k t kept lines n (run start history) stands ino r rest runs_are may beside w blocks made cut.whole)
-    back kept.first slots image is)
+    (relinking.room g k t kept lines n (run start history) stands ino r rest runs_are may beside w blocks made cut.whole) (relinking.takes g k t kept lines n (run start history) stands ino r rest runs_are may beside w blocks made cut.whole) start history mode refl (λ strict. stands.flying.whole) (relinking.job-block g k t kept lines n (run start history) stands ino r rest runs_are may beside w blocks made cut.whole) kept.first
 
 -- with log lines at home no job is out
 pub no-jobs : (pending : List JobOut) (jobs : List Job) → AreJobsOf pending jobs → pending ≡ [] → jobs ≡ []
@@ -52,11 +50,12 @@ pub keeps-relinked-home : KeepsRelinkedHome
 keeps-relinked-home g k l t kept n start history ino r rest mode stands runs_are may w blocks made cut image of_device honest =
     let none : stands.jobs ≡ [] = no-jobs kept.pending stands.jobs stands.jobs_are stands.lines.0 in
     let beside : AreBeside (only ino) stands.jobs = subst (AreBeside (only ino)) (sym none) tt in
-    subst (λ js. IsKept g start history (map unfinished_call js) image) none
-    (subst (λ x. IsKept x start history (map unfinished_call stands.jobs) image) stands.geometry
+    subst (λ x. IsKept x start history [] image) stands.geometry
     (kept-home blocks k.volume w k.cells l.cells kept.claims stands.jobs stands.numbers (run start history) stands.count stands.flying.device
     (changed g k l t kept false n start history stands ino r rest runs_are may beside w blocks made cut)
     (relinking.spare g k t kept false n (run start history) stands ino r rest runs_are may beside w blocks made cut.whole)
     (relinking.room g k t kept false n (run start history) stands ino r rest runs_are may beside w blocks made cut.whole)
     (relinking.takes g k t kept false n (run start history) stands ino r rest runs_are may beside w blocks made cut.whole)
-    start history mode refl stands.flying.whole none stands.lines.1 image of_device))
+    start history mode refl (λ strict. stands.flying.whole)
+    (relinking.job-block g k t kept false n (run start history) stands ino r rest runs_are may beside w blocks made cut.whole)
+    stands.lines.1 image of_device)

@@ -1,24 +1,19 @@
 -- What the publishing of a file answers and leaves of a World with writes in flight.
-use Rattle.std.specs.Prelude.{◌≡◌, ℕ, Bool, List, [], map, Option, Result, Ok, Err}
+use Rattle.std.specs.Prelude.{◌≡◌, ℕ, Bool, List, [], Result, Ok, Err}
 use Rattle.std.specs.declared.alloc.AllocError.{AllocError}
-use Rattle.live_step_laws.specs.pm_model.declared.Cell.{Cell}
-use Rattle.live_step_laws.specs.pm_model.Words.{Words}
 use Rattle.live_step_laws.specs.layout_model.Places.{Geometry}
 use Rattle.live_step_laws.specs.live_model.file_table.Files.{ChangesFile, Files, runs_in, size_in}
 use Rattle.log_checkpoint.specs.fsync_relink.Publishes.{IsPublishDone, IsPublishStopped}
 use Rattle.log_checkpoint.specs.fsync_relink.k_journal.declared.outcomes.Commit.{Commit}
 use Rattle.live_step_laws.specs.k_split_model.View.{View}
 use Rattle.log_checkpoint.specs.fsync_relink.k_split.declared.faults.KFault.{KFault}
-use Rattle.live_step_laws.specs.posix_types.declared.call.Mode.{Mode}
 use Rattle.live_step_laws.specs.posix_types.declared.item.Item.{Item}
 use Rattle.live_step_laws.specs.posix_tables.Open.{Tables}
 use Rattle.live_step_laws.specs.posix_spec.Run.{run}
 use Rattle.live_step_laws.specs.posix_spec.State.{State}
-use Rattle.live_step_laws.specs.world_image_laws.Promised.{IsKept}
-use Rattle.live_step_laws.specs.world_image_laws.Back.{IsPutBack}
-use Rattle.live_step_laws.specs.world_model.Jobs.{unfinished_call}
 use Rattle.live_step_laws.specs.world_step_laws.Steps.{AreBeside}
 use Rattle.live_step_laws.specs.world_step_laws.Touched.{only}
+use Rattle.live_step_laws.specs.live_model.Losses.{KeepsWhenLost}
 use Rattle.live_step_laws.specs.live_model.Standing.{Kept, StandsAt}
 use Rattle.file_publish.specs.RelinksLaws.{StandsThen}
 
@@ -34,16 +29,12 @@ PublishesFile ino k f l u =
     → (stands : StandsAt g k t (with_files x f) lines n s) → AreBeside (only ino) stands.jobs
     → StandsThen g k l t (with_files x f) (with_files x u) lines n s stands
 
--- THE POWER WENT in it, or before, in strict mode: each image, once log lines and blocks of jobs are put back, is kept
--- with the calls of the jobs unfinished.
+-- THE POWER WENT in it, or before: the promise is kept with the calls of the jobs unfinished.
 abbrev pub LosesFile : ℕ → View → Files → View → Type 0
 LosesFile ino k f l =
     (g : Geometry) (t : Tables) (x : Kept) (lines : Bool) (n : ℕ) (start : State) (history : List Item)
-    → start.mode ≡ Mode.Strict
     → (stands : StandsAt g k t (with_files x f) lines n (run start history)) → AreBeside (only ino) stands.jobs
-    → (back : ℕ → Cell) (slots : List (Option ℕ)) (image : Words)
-    → IsPutBack k.volume l.cells back x.first x.claims stands.jobs slots image
-    → IsKept g start history (map unfinished_call stands.jobs) image
+    → KeepsWhenLost k.volume l.cells x stands.jobs start history []
 
 -- WHAT `publish_file` ANSWERS AND LEAVES, from the table f and k to u and l. Done: nothing is kept of the file but its
 -- size. Else the table is as it was: the power went, or memory ran out on the way.

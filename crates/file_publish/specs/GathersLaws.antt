@@ -1,6 +1,6 @@
 -- A gathering of all that is staged, in a World with its log lines at home and no write in flight: each law as one
 -- statement.
-use Rattle.std.specs.Prelude.{◌≡◌, ◌≤◌, ◌^◌, ℕ, false, All, List, [], Ok}
+use Rattle.std.specs.Prelude.{◌≡◌, ◌≢◌, ◌≤◌, ◌^◌, ℕ, false, All, List, [], Ok}
 use Rattle.live_step_laws.specs.pm_model.Images.{IsImage}
 use Rattle.live_step_laws.specs.pm_model.Words.{Words}
 use Rattle.live_step_laws.specs.layout_model.block_counts.declared.TheConstants.{LONGEST_FILE}
@@ -50,7 +50,7 @@ StandsGathered =
 abbrev pub KeepsGathered : Type 0
 KeepsGathered =
     (g : Geometry) (k l : View) (t : Tables) (kept : Kept) (staging : Staged) (files : Files) (n : ℕ) (start : State)
-    (history : List Item) → start.mode ≡ Mode.Strict
+    (history : List Item) → start.mode ≢ Mode.Posix
     → StandsAt g k t kept false n (run start history) → n ≤ 2 ^ 62 → AreSmall kept → HasNextLap k
     → IsGatherAnswer kept.files k staging files l (Ok Commit.PowerLost)
     → KeepsPromise g l.cells start history []

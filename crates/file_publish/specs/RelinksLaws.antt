@@ -1,7 +1,5 @@
 -- What a relink leaves of a World with writes in flight, each law as one statement.
-use Rattle.std.specs.Prelude.{◌≡◌, ℕ, Bool, false, List, [], ◌∷◌, map, Option, Ok}
-use Rattle.live_step_laws.specs.pm_model.declared.Cell.{Cell}
-use Rattle.live_step_laws.specs.pm_model.Words.{Words}
+use Rattle.std.specs.Prelude.{◌≡◌, ◌≢◌, ℕ, Bool, false, List, [], ◌∷◌, Ok}
 use Rattle.live_step_laws.specs.layout_model.Places.{Geometry}
 use Rattle.live_step_laws.specs.image_model.Volume.{inode, Volume}
 use Rattle.log_checkpoint.specs.file_overlay.declared.runs.Run.{Run}
@@ -16,11 +14,10 @@ use Rattle.live_step_laws.specs.posix_types.declared.item.Item.{Item}
 use Rattle.live_step_laws.specs.posix_tables.Open.{Tables}
 use Rattle.live_step_laws.specs.posix_spec.Run.{run}
 use Rattle.live_step_laws.specs.posix_spec.State.{State}
-use Rattle.live_step_laws.specs.world_image_laws.Promised.{IsKept, KeepsPromise}
-use Rattle.live_step_laws.specs.world_image_laws.Back.{IsPutBack}
-use Rattle.live_step_laws.specs.world_model.Jobs.{unfinished_call}
+use Rattle.live_step_laws.specs.world_image_laws.Promised.{KeepsPromise}
 use Rattle.live_step_laws.specs.world_step_laws.Steps.{AreBeside}
 use Rattle.live_step_laws.specs.world_step_laws.Touched.{only}
+use Rattle.live_step_laws.specs.live_model.Losses.{KeepsWhenLost}
 use Rattle.live_step_laws.specs.live_model.Standing.{Kept, StandsAt}
 
 -- the relink of a file's first run, behind which these are left
@@ -46,24 +43,21 @@ StandsRelinked =
     → IsRelinkAnswer (first_move kept k ino r rest) k l (Ok tt)
     → StandsThen g k l t kept (record kept { files = files }) lines n s stands
 
--- THE POWER WENT in it, or before: each image, once log lines and blocks of jobs are put back, is kept with the calls
--- of the jobs unfinished;
+-- THE POWER WENT in it, or before: the promise is kept with the calls of the jobs unfinished;
 abbrev pub KeepsRelinked : Type 0
 KeepsRelinked =
     (g : Geometry) (k l : View) (t : Tables) (kept : Kept) (lines : Bool) (n : ℕ) (start : State)
-    (history : List Item) (ino : ℕ) (r : Run) (rest : List Run) → start.mode ≡ Mode.Strict
+    (history : List Item) (ino : ℕ) (r : Run) (rest : List Run)
     → (stands : StandsAt g k t kept lines n (run start history)) → runs_in kept.files ino ≡ r ∷ rest
     → MayPublish ino (size_in kept.files ino) (r ∷ rest) k → AreBeside (only ino) stands.jobs
     → (w : Volume) (blocks : List ℕ) → IsMovedWith (first_move kept k ino r rest) k w blocks → IsMapCut blocks w k l
-    → (back : ℕ → Cell) (slots : List (Option ℕ)) (image : Words)
-    → IsPutBack k.volume l.cells back kept.first kept.claims stands.jobs slots image
-    → IsKept g start history (map unfinished_call stands.jobs) image
+    → KeepsWhenLost k.volume l.cells kept stands.jobs start history []
 
 -- and with log lines at home each image is.
 abbrev pub KeepsRelinkedHome : Type 0
 KeepsRelinkedHome =
     (g : Geometry) (k l : View) (t : Tables) (kept : Kept) (n : ℕ) (start : State) (history : List Item) (ino : ℕ)
-    (r : Run) (rest : List Run) → start.mode ≡ Mode.Strict
+    (r : Run) (rest : List Run) → start.mode ≢ Mode.Posix
     → StandsAt g k t kept false n (run start history) → runs_in kept.files ino ≡ r ∷ rest
     → MayPublish ino (size_in kept.files ino) (r ∷ rest) k
     → (w : Volume) (blocks : List ℕ) → IsMovedWith (first_move kept k ino r rest) k w blocks → IsMapCut blocks w k l
@@ -82,24 +76,21 @@ StandsPublished =
     → IsPublishDone ino (size_in kept.files ino) (runs_in kept.files ino) k l
     → StandsThen g k l t kept (record kept { files = files }) lines n s stands
 
--- THE POWER WENT in it, or before: each image, once log lines and blocks of jobs are put back, is kept with the calls
--- of the jobs unfinished;
+-- THE POWER WENT in it, or before: the promise is kept with the calls of the jobs unfinished;
 abbrev pub KeepsPublished : Type 0
 KeepsPublished =
     (g : Geometry) (k l : View) (t : Tables) (kept : Kept) (lines : Bool) (n : ℕ) (start : State)
-    (history : List Item) (ino : ℕ) → start.mode ≡ Mode.Strict
+    (history : List Item) (ino : ℕ)
     → (stands : StandsAt g k t kept lines n (run start history)) → MayPublish ino (size_in kept.files ino)
     (runs_in kept.files ino) k → AreBeside (only ino) stands.jobs
     → IsPublishStopped KFault.PowerLost ino (size_in kept.files ino) (runs_in kept.files ino) k l
-    → (back : ℕ → Cell) (slots : List (Option ℕ)) (image : Words)
-    → IsPutBack k.volume l.cells back kept.first kept.claims stands.jobs slots image
-    → IsKept g start history (map unfinished_call stands.jobs) image
+    → KeepsWhenLost k.volume l.cells kept stands.jobs start history []
 
 -- and with log lines at home each image is.
 abbrev pub KeepsPublishedHome : Type 0
 KeepsPublishedHome =
     (g : Geometry) (k l : View) (t : Tables) (kept : Kept) (n : ℕ) (start : State) (history : List Item) (ino : ℕ)
-    → start.mode ≡ Mode.Strict
+    → start.mode ≢ Mode.Posix
     → StandsAt g k t kept false n (run start history) → MayPublish ino (size_in kept.files ino)
     (runs_in kept.files ino) k
     → IsPublishStopped KFault.PowerLost ino (size_in kept.files ino) (runs_in kept.files ino) k l

@@ -1,5 +1,5 @@
 -- The power goes while a file gets another size: each image is kept.
-use Rattle.std.specs.Prelude.{◌≤◌, ◌+◌, ℕ, cond, Bool, true, false, [], ◌∷◌, ◌++◌, length, map, is_none, sum_by}
+use Rattle.std.specs.Prelude.{◌≤◌, ◌+◌, ℕ, cond, Bool, true, false, length, is_none, sum_by}
 use Rattle.std.proofs.Common.{arith, sym, subst}
 use Rattle.file_calls.specs.eof_laws.file_table.Files.{size_in}
 use Rattle.file_calls.specs.live_step_laws.posix_types.declared.call.Call.{Call}
@@ -14,8 +14,6 @@ use Rattle.file_calls.specs.live_step_laws.posix_spec.Run.{after_call, Unfinishe
 use Rattle.file_calls.specs.live_step_laws.posix_spec.State.{room, State}
 use Rattle.file_calls.specs.live_step_laws.commute_laws.Commutes.{takes}
 use Rattle.file_calls.specs.live_step_laws.live_model.k_split.MapChanges.{ChangesMaps}
-use Rattle.file_calls.specs.live_step_laws.live_model.world_image_laws.Promised.{IsKept}
-use Rattle.file_calls.specs.live_step_laws.live_model.world_model.Jobs.{unfinished_call}
 use Rattle.file_calls.specs.live_step_laws.live_model.world_step_laws.Steps.{begun-flights, flights_of}
 use Rattle.file_calls.specs.live_step_laws.world_image_laws.Flights.{leads_after, leads_before}
 use Rattle.file_calls.specs.live_step_laws.world_image_laws.LentLaws.{GoesBeside, LeadsTo}
@@ -32,13 +30,12 @@ taken s who h size left fits = by (is_none (opened s.tables who h)) where
   by false = fits
 
 pub keeps_sized : KeepsSized
-keeps_sized g k l t kept lines n start history who h size ino mode stands two may w blocks makes cut back slots image put =
-    subst (λ y. IsKept y start history (map unfinished_call stands.jobs ++ (who, Call.Truncate h size) ∷ []) image) stands.geometry
-    (kept_image blocks k.volume w k.cells l.cells kept.claims stands.jobs stands.numbers (run start history) (after_call (run start history) (who, Call.Truncate h size)) stands.count ino (size_in kept.files ino) size
+keeps_sized g k l t kept lines n start history who h size ino stands two may w blocks makes cut mode =
+    kept_image blocks k.volume w k.cells l.cells kept.claims stands.jobs stands.numbers (run start history) (after_call (run start history) (who, Call.Truncate h size)) stands.count ino (size_in kept.files ino) size
     (sizing.below g k t kept lines n (run start history) stands who h size ino may w blocks makes cut.whole) stands.flying.device changed
     (sizing.spare g k t kept lines n (run start history) stands who h size ino may w blocks makes cut.whole) (sizing.room_on g k t kept lines n (run start history) stands who h size ino may w blocks makes cut.whole)
-    (sizing.takes_zeros g k t kept lines n (run start history) stands who h size ino may w blocks makes cut.whole) may.zeros start history (who, Call.Truncate h size) mode stands.flying.whole
-    (sizing.same_blocks g k t kept lines n (run start history) stands who h size ino may w blocks makes cut.whole) (leads_before start history (who, Call.Truncate h size) stands.jobs) leads back kept.first slots image put)
+    (sizing.takes_zeros g k t kept lines n (run start history) stands who h size ino may w blocks makes cut.whole) may.zeros start history (who, Call.Truncate h size) mode (λ strict. stands.flying.whole)
+    (sizing.same_blocks g k t kept lines n (run start history) stands who h size ino may w blocks makes cut.whole) (leads_before start history (who, Call.Truncate h size) stands.jobs) leads kept.first
   where
     changed : IsChangeWith blocks k.volume w k.cells l.cells
     changed =

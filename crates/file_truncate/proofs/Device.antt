@@ -1,5 +1,5 @@
 -- A change that writes spare blocks, of a device whose images have zeros behind the end of a file: done and cut off.
-use Rattle.std.specs.Prelude.{◌≡◌, ◌⊎◌, ◌<◌, ◌/◌, ◌%◌, ℕ, List, [], ◌∷◌, ◌++◌, length, map, Option, Some, None, refl}
+use Rattle.std.specs.Prelude.{◌≡◌, ◌≢◌, ◌⊎◌, ◌<◌, ◌/◌, ◌%◌, ℕ, List, [], ◌∷◌, ◌++◌, length, Option, Some, None, refl}
 use Rattle.std.proofs.Common.{arith, ◌∙◌, subst, sym, inl, inr}
 use Rattle.file_calls.specs.live_step_laws.pm_model.declared.Cell.{Cell}
 use Rattle.file_calls.specs.live_step_laws.pm_model.Images.{ComesFrom, IsImage}
@@ -15,18 +15,17 @@ use Rattle.file_calls.specs.live_step_laws.posix_types.declared.item.Item.{Item}
 use Rattle.file_calls.specs.live_step_laws.posix_types.declared.call.Mode.{Mode}
 use Rattle.file_calls.specs.live_step_laws.posix_spec.Run.{Unfinished}
 use Rattle.file_calls.specs.live_step_laws.posix_spec.State.{State}
-use Rattle.file_calls.specs.live_step_laws.live_model.world_model.Jobs.{unfinished_call, Job}
-use Rattle.file_calls.specs.live_step_laws.live_model.world_model.Promised.{AreWhole}
-use Rattle.file_calls.specs.live_step_laws.live_model.world_model.Shown.{AreFilled, landed_pairs}
+use Rattle.file_calls.specs.live_step_laws.live_model.world_model.Jobs.{Job}
 use Rattle.file_calls.specs.live_step_laws.live_model.world_step_laws.Worlds.{IsWorld}
-use Rattle.file_calls.specs.live_step_laws.live_model.world_image_laws.Changed.{ShowsLog-same, sound_headed}
+use Rattle.file_calls.specs.live_step_laws.live_model.world_image_laws.Changed.{sound_headed}
 use Rattle.file_calls.specs.live_step_laws.live_model.world_image_laws.Images.{HasRoom, IsHeaded, ShowsWorld, StandsFor}
 use Rattle.file_calls.specs.live_step_laws.live_model.world_image_laws.Promised.{IsKept}
-use Rattle.file_calls.specs.live_step_laws.world_image_laws.Back.{IsPutBack}
-use Rattle.file_calls.specs.live_step_laws.world_image_laws.Flights.{ShowsBack}
-use Rattle.file_calls.specs.live_step_laws.world_image_laws.LentLaws.{LeadsTo, SameBlocks}
+use Rattle.file_calls.specs.live_step_laws.world_image_laws.Back.{calls_in_log, IsKeptBack, jobs_in_log}
+use Rattle.file_calls.specs.live_step_laws.world_image_laws.Flights.{image_of, kept_leading, shows_back, shows_changed, shows_in_log, ShowsBack, small_lap}
+use Rattle.file_calls.specs.live_step_laws.world_image_laws.InLog.{put_in_log, slots_in_log}
+use Rattle.file_calls.specs.live_step_laws.world_image_laws.LentLaws.{AreFound, LeadsTo, SameBlocks}
 use Rattle.file_calls.specs.live_step_laws.Changes.{AreSpare, IsChangeWith}
-use Rattle.file_calls.proofs.live_step_laws_proofs.Devices.{image_of, kept_leading, named_same, shows_back, small_lap}
+use Rattle.file_calls.proofs.live_step_laws_proofs.Devices.{named_same}
 use Rattle.file_calls.proofs.live_step_laws_proofs.Named.{SameNamed, world_named}
 use Rattle.file_calls.proofs.live_step_laws_proofs.Words.{headed_changed}
 use Rattle.file_truncate.specs.Sizes.{AreZeros}
@@ -39,15 +38,6 @@ zeros_named v ino from to f g below same zeros i least most = by (disk_at (exten
   by (Some b) at =
       let was : byte_in f (Some b) i ≡ 0 = subst (λ o. byte_in f o i ≡ 0) at (zeros i least most) in
       subst (λ o. byte_in g o i ≡ 0) (sym at) (same.each ino (i / 4096) b (i % 4096) below at (omega arith) ∙ was)
-
-filled_same : (v w : Volume) (f : Words) (jobs : List Job) (slots : List (Option ℕ)) → SameBlocks v w jobs → AreFilled v f jobs slots → AreFilled w f jobs slots
-filled_same v w f [] slots same filled = tt
-filled_same v w f (j ∷ jobs) [] same filled = tt
-filled_same v w f (j ∷ jobs) (None ∷ slots) same filled = filled_same v w f jobs slots same.1 filled
-filled_same v w f (j ∷ jobs) (Some slot ∷ slots) same filled = (
-  λ k b i below at i_below. filled.0 k b i below (sym (same.0 k) ∙ at) i_below,
-  filled_same v w f jobs slots same.1 filled.1,
-)
 
 module _ (blocks : List ℕ) (v w : Volume) (d e : List Cell) (claims : List (ℕ × Draft)) (jobs : List Job) (numbers : List ℕ) (s new : State) (count : ℕ) (ino from to : ℕ) (below : ino < length v.inodes)
     (device : StandsFor v d claims jobs numbers s count) (change : IsChangeWith blocks v w d e) (spare : AreSpare blocks v) (room : HasRoom w claims jobs new)
@@ -75,19 +65,13 @@ module _ (blocks : List ℕ) (v w : Volume) (d e : List Cell) (claims : List (�
     pub world_new : IsWorld w claims jobs (journaled image) numbers new count
     world_new = takes (journaled image) world_old (zeros_named v ino from to (journaled before.0) (journaled image) below same (zeros before.0 before.1.is_image))
 
-    shows : SameBlocks v w jobs → ShowsBack v claims jobs image → ShowsWorld v claims jobs numbers s count image ⊎ ShowsWorld w claims jobs numbers new count image
-    shows blocks_same back = elim before.2.reads [
-      | inl old ↦ inl (record { headed = headed; reads = old; world = world_old; room = device.room; landed = back.landed; filled = back.filled; log = back.log })
+    shows : (slots : List (Option ℕ)) → SameBlocks v w jobs → ShowsBack v claims (jobs_in_log slots jobs) image
+        → ShowsWorld v claims (jobs_in_log slots jobs) numbers s count image ⊎ ShowsWorld w claims (jobs_in_log slots jobs) numbers new count image
+    shows slots blocks_same back = elim before.2.reads [
+      | inl old ↦ inl (shows_in_log v claims jobs slots numbers s count image headed old world_old device.room back)
       | inr new_one ↦
-          inr (record {
-            headed = subst (λ y. IsHeaded y image) (sym change.geometry) headed;
-            reads = subst (λ y. Reads y (journaled image) w) (sym change.geometry) new_one;
-            world = world_new;
-            room = room;
-            landed = back.landed;
-            filled = filled_same v w (journaled image) jobs back.landed blocks_same back.filled;
-            log = ShowsLog-same v w (claims ++ landed_pairs jobs back.landed) (journaled image) (journaled image) change.geometry change.base (record { words = λ slot i lower at. refl }) back.log;
-          })
+          inr (shows_in_log w claims jobs slots numbers new count image (subst (λ y. IsHeaded y image) (sym change.geometry) headed) (subst (λ y. Reads y (journaled image) w) (sym change.geometry) new_one) world_new room
+          (shows_changed v w claims jobs slots image change.geometry change.base blocks_same back))
     ]
 
   -- DONE
@@ -100,14 +84,17 @@ module _ (blocks : List ℕ) (v w : Volume) (d e : List Cell) (claims : List (�
   }
 
   -- CUT OFF
-  pub kept_image : (start : State) (history : List Item) (c : Unfinished) → start.mode ≡ Mode.Strict → AreWhole jobs → SameBlocks v w jobs → LeadsTo start history c jobs s → LeadsTo start history c jobs new
-      → (back : ℕ → Cell) (first : Words) (slots : List (Option ℕ)) (image : Words) → IsPutBack v e back first claims jobs slots image → IsKept v.geometry start history (map unfinished_call jobs ++ c ∷ []) image
-  kept_image start history c mode whole blocks_same before_leads after_leads back first slots image is =
+  pub kept_image : (start : State) (history : List Item) (c : Unfinished) → start.mode ≢ Mode.Posix → AreFound start jobs → SameBlocks v w jobs → LeadsTo start history c jobs s → LeadsTo start history c jobs new
+      → (first : Words) → IsKeptBack v e first claims jobs start history (c ∷ [])
+  kept_image start history c mode found blocks_same before_leads after_leads first back slots image is =
       let of_device = image_of e back image is.image_is in
-      let put = shows_back v e claims jobs back first slots image (headed image of_device) (small_lap v d claims jobs numbers s count (before image of_device).0 device (before image of_device).1.is_image) is in
-      elim (shows image of_device blocks_same put) [
-        | inl old ↦ kept_leading v claims jobs numbers s count image start history c mode whole before_leads old
+      let put =
+      shows_back v e claims (jobs_in_log slots jobs) back first (slots_in_log slots jobs) image (headed image of_device) (small_lap v d claims jobs numbers s count (before image of_device).0 device (before image of_device).1.is_image)
+      (put_in_log v e back first claims jobs slots image is)
+      in
+      elim (shows image of_device slots blocks_same put) [
+        | inl old ↦ kept_leading v claims jobs slots numbers s count image start history c mode found before_leads old
         | inr changed ↦
-            subst (λ y. IsKept y start history (map unfinished_call jobs ++ c ∷ []) image) change.geometry
-            (kept_leading w claims jobs numbers new count image start history c mode whole after_leads changed)
+            subst (λ y. IsKept y start history (calls_in_log slots jobs ++ c ∷ []) image) change.geometry
+            (kept_leading w claims jobs slots numbers new count image start history c mode found after_leads changed)
       ]

@@ -1,5 +1,5 @@
 -- What a `truncate` answers and leaves, each answer.
-use Rattle.std.specs.Prelude.{◌≡◌, ◌≢◌, ◌≤◌, ◌<◌, ◌+◌, ◌-◌, ℕ, true, false, List, [], ◌∷◌, ◌++◌, length, map, Some, None, Result, Ok, Err, refl}
+use Rattle.std.specs.Prelude.{◌≡◌, ◌≢◌, ◌≤◌, ◌<◌, ◌+◌, ◌-◌, ℕ, true, false, List, [], ◌∷◌, length, Some, None, Result, Ok, Err, refl}
 use Rattle.std.proofs.Common.{arith, ap, ◌∙◌, sym, subst, inl, inr}
 use Rattle.zero_fill.specs.pm_model.declared.Cell.{Cell}
 use Rattle.zero_fill.specs.pm_model.Images.{IsImage}
@@ -20,6 +20,7 @@ use Rattle.file_calls.specs.k_split_laws.Left.{IsLeftOf}
 use Rattle.posix_types.specs.declared.call.Call.{Call}
 use Rattle.posix_types.specs.declared.call.Who.{Who}
 use Rattle.posix_types.specs.declared.handle.Handle.{Handle}
+use Rattle.posix_types.specs.declared.item.Item.{Item}
 use Rattle.posix_types.specs.declared.item.Outcome.{Outcome}
 use Rattle.posix_types.specs.declared.reply.Errno.{Errno}
 use Rattle.posix_types.specs.declared.reply.Reply.{Reply}
@@ -42,12 +43,11 @@ use Rattle.file_calls.specs.live_step_laws.k_split.Bytes.{tail_zeros}
 use Rattle.file_calls.specs.live_step_laws.k_split.declared.faults.KFault.{KFault}
 use Rattle.file_calls.specs.live_step_laws.k_split.MapChanges.{IsSizeAnswer}
 use Rattle.file_calls.specs.live_step_laws.k_plans.Whole.{IsWhole}
-use Rattle.file_calls.specs.live_step_laws.world_image_laws.Promised.{IsKept}
-use Rattle.file_calls.specs.live_step_laws.world_image_laws.Back.{IsPutBack}
 use Rattle.file_calls.specs.live_step_laws.world_model.JobLaws.{needs as needs_of}
-use Rattle.file_calls.specs.live_step_laws.world_model.Jobs.{unfinished_call, Job}
+use Rattle.file_calls.specs.live_step_laws.world_model.Jobs.{Job}
 use Rattle.file_calls.specs.live_step_laws.world_model.Stands.{number}
 use Rattle.file_calls.specs.live_step_laws.world_step_laws.Steps.{LetsJobsBe}
+use Rattle.file_calls.specs.live_step_laws.live_model.Losses.{KeepsWhenLost}
 use Rattle.file_calls.specs.live_step_laws.live_model.Standing.{Kept}
 use Rattle.file_calls.specs.declared.names.outcomes.NoMemory.{NoMemory}
 use Rattle.file_calls.specs.Runs.{RunsAs, with_files}
@@ -170,12 +170,12 @@ module _ (who : Who) (h : Handle) (size needs : ℕ) (k : View) (t : Tables) (f 
     -- THE POWER WENT in the cleaning
     pub loses_clean : KeepsCleaned → (l : View) → IsCleanAnswer d.node (size_in f d.node) size k l Commit.PowerLost → Loses who h size needs k t f l
     loses_clean keeps l (inl off) = record {
-      kept = λ g x n start history mode finds back slots image put. loses_off who (Call.Truncate h size) k l t f off g x n start history finds.few mode finds.runs finds.beside back slots image put;
+      kept = λ g x n start history finds. loses_off who (Call.Truncate h size) k l t f off g x n start history finds.few finds.runs finds.beside;
       left = λ g x n s finds. leaves_off g k l t (with_files x f) n s finds.runs off;
     }
     loses_clean keeps l (inr cut) = record {
-      kept = λ g x n start history mode finds back slots image put.
-          keeps g k l t (with_files x f) true n start history (who, Call.Truncate h size) d.node (size_in f d.node) mode finds.runs (clean_may g x n (run start history) finds) cut back slots image put;
+      kept = λ g x n start history finds.
+          keeps g k l t (with_files x f) true n start history (who, Call.Truncate h size) d.node (size_in f d.node) finds.runs (clean_may g x n (run start history) finds) cut;
       left = λ g x n s finds. (let whole = left_at k.volume k.committed k.cells l.cells (finds.runs.order.settled finds.runs.unbatched) (left_overwritten d.node (size_in f d.node) (tail_zeros k.volume d.node (size_in f d.node)) k l cut) in
           subst (λ y. IsLeftOf y k.cells l.cells) finds.runs.geometry whole);
     }
@@ -185,27 +185,29 @@ module _ (who : Who) (h : Handle) (size needs : ℕ) (k : View) (t : Tables) (f 
     same_volume middle (inl same) = ap (λ y. y.volume) same.1
     same_volume middle (inr done) = ap (λ y. y.volume) done.1.same
 
+    -- what is kept beside the jobs in the middle is kept beside those at the start
+    lost_in_middle : (middle l : View) → IsClean d.node (size_in f d.node) size k middle → (x : Kept) (now jobs : List Job) (start : State) (history : List Item) → now ≡ jobs
+        → KeepsWhenLost middle.volume l.cells x now start history ((who, Call.Truncate h size) ∷ []) → KeepsWhenLost k.volume l.cells x jobs start history ((who, Call.Truncate h size) ∷ [])
+    lost_in_middle middle l clean x now jobs start history same kept =
+        subst (λ v. KeepsWhenLost v l.cells x jobs start history ((who, Call.Truncate h size) ∷ [])) (same_volume middle clean)
+        (subst (λ js. KeepsWhenLost middle.volume l.cells x js start history ((who, Call.Truncate h size) ∷ [])) same kept)
+
     lent_middle : (g : Geometry) (middle : View) (e : List Cell) → IsClean d.node (size_in f d.node) size k middle → IsLeftOf g middle.cells e → IsLeftOf g k.cells e
     lent_middle g middle e (inl same) is = subst (λ y. IsLeftOf g y e) (ap (λ y. y.cells) same.1) is
     lent_middle g middle e (inr done) is = left_through g k.cells middle.cells e done.1.over.size done.1.over.lent is
 
     pub loses_size : StandsCleaned → (middle l : View) → IsClean d.node (size_in f d.node) size k middle → IsSizeAnswer d.node size middle l (Err KFault.PowerLost) → Loses who h size needs k t f l
     loses_size stands_clean middle l clean (inl off) = record {
-      kept = λ g x n start history mode finds back slots image put. (let now = cleaned g x n (run start history) finds stands_clean middle clean in
-          subst (λ js. IsKept g start history (map unfinished_call js ++ (who, Call.Truncate h size) ∷ []) image) now.1
-          (loses_off who (Call.Truncate h size) middle l t f off g x n start history finds.few mode now.0
-          (may_size g x n (run start history) finds middle now.0 now.1 now.2 clean).beside back slots image
-          (subst (λ js. IsPutBack middle.volume l.cells back x.first x.claims js slots image) (sym now.1)
-          (subst (λ v. IsPutBack v l.cells back x.first x.claims finds.runs.jobs slots image) (sym (same_volume middle clean)) put))));
+      kept = λ g x n start history finds. (let now = cleaned g x n (run start history) finds stands_clean middle clean in
+          lost_in_middle middle l clean x now.0.jobs finds.runs.jobs start history now.1
+          (loses_off who (Call.Truncate h size) middle l t f off g x n start history finds.few now.0 (may_size g x n (run start history) finds middle now.0 now.1 now.2 clean).beside));
       left = λ g x n s finds. (let now = cleaned g x n s finds stands_clean middle clean in lent_middle g middle l.cells clean (leaves_off g middle l t (with_files x f) n s now.0 off));
     }
     loses_size stands_clean middle l clean (inr (w, blocks, makes, cut)) = record {
-      kept = λ g x n start history mode finds back slots image put. (let now = cleaned g x n (run start history) finds stands_clean middle clean in
-          subst (λ js. IsKept g start history (map unfinished_call js ++ (who, Call.Truncate h size) ∷ []) image) now.1
-          (keeps_sized g middle l t (with_files x f) true n start history who h size d.node mode now.0 (two_each g middle t (with_files x f) n (run start history) now.0)
-          (may_size g x n (run start history) finds middle now.0 now.1 now.2 clean) w blocks makes cut back slots image
-          (subst (λ js. IsPutBack middle.volume l.cells back x.first x.claims js slots image) (sym now.1)
-          (subst (λ v. IsPutBack v l.cells back x.first x.claims finds.runs.jobs slots image) (sym (same_volume middle clean)) put))));
+      kept = λ g x n start history finds. (let now = cleaned g x n (run start history) finds stands_clean middle clean in
+          lost_in_middle middle l clean x now.0.jobs finds.runs.jobs start history now.1
+          (keeps_sized g middle l t (with_files x f) true n start history who h size d.node now.0 (two_each g middle t (with_files x f) n (run start history) now.0)
+          (may_size g x n (run start history) finds middle now.0 now.1 now.2 clean) w blocks makes cut));
       left = λ g x n s finds. (let now = cleaned g x n s finds stands_clean middle clean in
           lent_middle g middle l.cells clean
           (subst (λ y. IsLeftOf y middle.cells l.cells) now.0.geometry (left_at middle.volume middle.committed middle.cells l.cells (now.0.order.settled now.0.unbatched) (left_map_cut blocks w middle l cut))));

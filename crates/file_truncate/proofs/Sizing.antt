@@ -32,9 +32,10 @@ use Rattle.log_replay.proofs.Trims.{fewer-blocks, fewer-extents}
 use Rattle.log_replay.proofs.Passed.{chain-counted, map-canonical}
 use Rattle.file_calls.specs.eof_laws.k_split_model.MapChangesChanges.{IsSized, with_size}
 use Rattle.file_calls.specs.eof_laws.k_split_model.Taken.{with_map}
-use Rattle.file_calls.specs.eof_laws.volume_laws.Changes.{chain-set_same, extents-set_other, extents-set_same, inode-set_other, inode-set_same}
+use Rattle.file_calls.specs.eof_laws.volume_laws.Changes.{extents-set_other, extents-set_same, inode-set_other, inode-set_same}
 use Rattle.file_calls.specs.live_step_laws.volume_laws.PoolLaws.{AreInData, unused-set}
 use Rattle.file_calls.specs.live_step_laws.k_plans.Whole.{IsWhole}
+use Rattle.file_calls.specs.live_step_laws.live_model.k_split.SizeLaws.{sized-free}
 use Rattle.file_calls.specs.live_step_laws.live_model.k_split.MapChanges.{is_free_in, IsSizedWith}
 use Rattle.log_replay.proofs.relink_laws_proofs.WorldLaws.{free-in_data, free-unmapped}
 use Rattle.file_calls.specs.live_step_laws.posix_types.declared.call.Call.{Call}
@@ -154,9 +155,6 @@ module _ (g : Geometry) (k : View) (t : Tables) (kept : Kept) (lines : Bool) (n 
   own_map : extents w ino ≡ is.es
   own_map = ap (λ x. extents x ino) given ∙ extents-set_same ino line is.blocks is.es v (omega (arith, below, whole.maps.map_count))
 
-  own_chain : chain w ino ≡ is.blocks
-  own_chain = ap (λ x. chain x ino) given ∙ chain-set_same ino line is.blocks is.es v (omega (arith, below, whole.maps.chain_count))
-
   pub same_geometry : w.geometry ≡ k.volume.geometry
   same_geometry = ap (λ x. x.geometry) given
 
@@ -263,7 +261,7 @@ module _ (g : Geometry) (k : View) (t : Tables) (kept : Kept) (lines : Bool) (n 
   -- ---- blocks
 
   free : All (λ b. is_free_in k b ≡ true) blocks
-  free = subst (All (λ b. is_free_in k b ≡ true)) (sym (makes.written ∙ own_chain)) is.taken.were_free
+  free = sized-free ino size k w blocks below whole.maps makes
 
   pub spare : AreSpare blocks k.volume
   spare = record {
@@ -285,7 +283,7 @@ module _ (g : Geometry) (k : View) (t : Tables) (kept : Kept) (lines : Bool) (n 
       let same : unused_blocks w ≡ unused_blocks u = ap unused_blocks given in
       let fewer = fewer-blocks (blocks_for size) (extents v ino) is.es canonical is.cut in
       let few = fewer-extents (blocks_for size) (extents v ino) is.es canonical is.cut in
-      let chains : length is.blocks ≤ length (chain v ino) = omega (arith, is.taken.count, chain-counted k ino stands.order stands.unbatched below, few) in
+      let chains : length is.blocks ≤ length (chain v ino) = omega (arith, is.count, chain-counted k ino stands.order stands.unbatched below, few) in
       omega (arith, set, same, fewer, chains)
 
   pub room_on : HasRoom w kept.claims stands.jobs (after_call s (who, Call.Truncate h size))

@@ -1,6 +1,5 @@
 -- A file gets another size, each law as one statement.
-use Rattle.std.specs.Prelude.{◌≡◌, ◌≤◌, ◌<◌, ◌+◌, ◌/◌, ℕ, Bool, List, [], ◌∷◌, ◌++◌, length, map, None, Option, Some, Ok}
-use Rattle.file_calls.specs.live_step_laws.pm_model.declared.Cell.{Cell}
+use Rattle.std.specs.Prelude.{◌≡◌, ◌≤◌, ◌<◌, ◌+◌, ◌/◌, ℕ, Bool, List, [], ◌∷◌, length, None, Some, Ok}
 use Rattle.file_calls.specs.live_step_laws.pm_model.Images.{IsImage}
 use Rattle.file_calls.specs.live_step_laws.pm_model.Words.{Words}
 use Rattle.file_calls.specs.live_step_laws.layout_model.declared.lines.Kind.TheVariants.{File}
@@ -15,7 +14,6 @@ use Rattle.file_calls.specs.eof_laws.k_split_model.View.{View}
 use Rattle.file_calls.specs.live_step_laws.live_model.k_split.Bytes.{IsOverwriteDone, tail_zeros}
 use Rattle.file_calls.specs.live_step_laws.live_model.k_split.MapChanges.{IsMapCut, IsSizeAnswer, IsSizedWith}
 use Rattle.file_calls.specs.live_step_laws.posix_types.declared.call.Call.{Call}
-use Rattle.file_calls.specs.live_step_laws.posix_types.declared.call.Mode.{Mode}
 use Rattle.file_calls.specs.live_step_laws.posix_types.declared.call.Who.{Who}
 use Rattle.file_calls.specs.live_step_laws.posix_types.declared.handle.Handle.{Handle}
 use Rattle.file_calls.specs.live_step_laws.posix_types.declared.item.Item.{Item}
@@ -26,13 +24,12 @@ use Rattle.file_calls.specs.live_step_laws.posix_spec.FileRows.{content, truncat
 use Rattle.file_calls.specs.live_step_laws.posix_spec.Run.{after_call, run}
 use Rattle.file_calls.specs.live_step_laws.posix_spec.State.{room, State}
 use Rattle.file_calls.specs.live_step_laws.crash_spec.Busy.{waits_for}
-use Rattle.file_calls.specs.live_step_laws.live_model.world_model.Jobs.{unfinished_call, Job}
+use Rattle.file_calls.specs.live_step_laws.live_model.world_model.Jobs.{Job}
 use Rattle.file_calls.specs.live_step_laws.live_model.world_model.Stands.{number}
 use Rattle.file_calls.specs.live_step_laws.live_model.world_model.JobLaws.{needs}
-use Rattle.file_calls.specs.live_step_laws.live_model.world_image_laws.Promised.{IsKept}
 use Rattle.file_calls.specs.live_step_laws.live_model.world_step_laws.Steps.{flights_of, LetsJobsBe}
 use Rattle.file_calls.specs.live_step_laws.commute_laws.Orders.{AreTwoEach}
-use Rattle.file_calls.specs.live_step_laws.world_image_laws.Back.{IsPutBack}
+use Rattle.file_calls.specs.live_step_laws.live_model.Losses.{KeepsWhenLost}
 use Rattle.file_calls.specs.live_step_laws.live_model.Standing.{Kept, StandsAt}
 
 -- by these words the bytes of the map of a file are zero, from one place on and before another
@@ -71,16 +68,13 @@ StandsSized =
     → (now : StandsAt g l t (record kept { files = files }) lines m (after_call s (who, Call.Truncate h size)))
     × (now.jobs ≡ stands.jobs) × (now.numbers ≡ stands.numbers)
 
--- THE POWER WENT in it, while the jobs that are out are of two threads and two files each: each image, once log lines and blocks
--- of jobs are put back, is kept with the calls of the jobs unfinished, and this one as the last.
+-- THE POWER WENT in it, while the jobs that are out are of two threads and two files each.
 abbrev pub KeepsSized : Type 0
 KeepsSized =
     (g : Geometry) (k l : View) (t : Tables) (kept : Kept) (lines : Bool) (n : ℕ) (start : State) (history : List Item)
-    (who : Who) (h : Handle) (size ino : ℕ) → start.mode ≡ Mode.Strict
+    (who : Who) (h : Handle) (size ino : ℕ)
     → (stands : StandsAt g k t kept lines n (run start history))
     → AreTwoEach (flights_of stands.numbers stands.jobs)
     → MaySize k kept stands.jobs stands.numbers (run start history) who h size ino
     → (w : Volume) (blocks : List ℕ) → IsSizedWith ino size k w blocks → IsMapCut blocks w k l
-    → (back : ℕ → Cell) (slots : List (Option ℕ)) (image : Words)
-    → IsPutBack k.volume l.cells back kept.first kept.claims stands.jobs slots image
-    → IsKept g start history (map unfinished_call stands.jobs ++ (who, Call.Truncate h size) ∷ []) image
+    → KeepsWhenLost k.volume l.cells kept stands.jobs start history ((who, Call.Truncate h size) ∷ [])

@@ -1,24 +1,18 @@
 -- What a `truncate` answers and leaves.
 use Rattle.posix_tables.specs.block_counts.declared.TheConstants.{LONGEST_FILE}
-use Rattle.std.specs.Prelude.{◌≡◌, ◌⊎◌, ◌≤◌, ◌<◌, ◌+◌, ◌-◌, ◌^◌, ℕ, Bool, true, false, List, [], ◌∷◌, ◌++◌, length, map, Option, Some, None, Result, Ok, Err}
-use Rattle.zero_fill.specs.pm_model.declared.Cell.{Cell}
+use Rattle.std.specs.Prelude.{◌≡◌, ◌⊎◌, ◌≤◌, ◌<◌, ◌+◌, ◌-◌, ◌^◌, ℕ, Bool, true, false, List, [], ◌∷◌, length, Option, Some, None, Result, Ok, Err}
 use Rattle.zero_fill.specs.pm_model.Powers.{is_on, Supply}
-use Rattle.zero_fill.specs.pm_model.Words.{Words}
 use Rattle.zero_fill.specs.layout_model.Places.{Geometry}
 use Rattle.zero_fill.specs.write_plan.file_table.Files.{ChangesFile, Files, runs_in, spare_in}
 use Rattle.file_calls.specs.live_step_laws.k_split.Bytes.{IsOverwriteCut, IsOverwriteDone, tail_zeros}
 use Rattle.file_calls.specs.live_step_laws.k_split.declared.faults.KFault.{KFault}
 use Rattle.file_calls.specs.live_step_laws.k_split.MapChanges.{IsSizeAnswer}
-use Rattle.file_calls.specs.live_step_laws.world_image_laws.Promised.{IsKept}
-use Rattle.file_calls.specs.live_step_laws.world_image_laws.Back.{IsPutBack}
 use Rattle.file_calls.specs.live_step_laws.world_model.JobLaws.{needs as needs_of}
-use Rattle.file_calls.specs.live_step_laws.world_model.Jobs.{unfinished_call}
 use Rattle.file_calls.specs.live_step_laws.world_step_laws.Steps.{LetsJobsBe}
 use Rattle.zero_fill.specs.write_plan.k_journal.declared.outcomes.Commit.{Commit}
 use Rattle.zero_fill.specs.write_plan.k_split_model.View.{View}
 use Rattle.file_calls.specs.k_split_laws.Left.{IsLeftOf}
 use Rattle.posix_types.specs.declared.call.Call.{Call}
-use Rattle.posix_types.specs.declared.call.Mode.{Mode}
 use Rattle.posix_types.specs.declared.call.Who.{Who}
 use Rattle.posix_types.specs.declared.handle.Handle.{Handle}
 use Rattle.posix_types.specs.declared.item.Item.{Item}
@@ -33,6 +27,7 @@ use Rattle.zero_fill.specs.write_plan.posix_spec.Run.{after_call, run}
 use Rattle.zero_fill.specs.write_plan.posix_spec.State.{room, State}
 use Rattle.zero_fill.specs.write_plan.posix_spec.Step.{step}
 use Rattle.zero_fill.specs.write_plan.Rows.{truncate_row_by}
+use Rattle.file_calls.specs.live_step_laws.live_model.Losses.{KeepsWhenLost}
 use Rattle.file_calls.specs.live_step_laws.live_model.Standing.{Kept}
 use Rattle.file_calls.specs.declared.names.outcomes.NoMemory.{NoMemory}
 use Rattle.file_calls.specs.Runs.{RunsAs, with_files}
@@ -161,14 +156,11 @@ pub record Answers (who : Who) (h : Handle) (size needs : ℕ) (k : View) (t : T
       → Finds g k t (with_files x f) n s who (Call.Truncate h size) needs
       → (after_call s (who, Call.Truncate h size)).entries ≡ s.entries
 
--- THE POWER WENT, in strict mode: each image, once log lines and blocks of jobs are put back, is kept with the calls of the jobs
--- unfinished, and this one as the last; and the device is left of the one before.
+-- THE POWER WENT in it; and the device is left of the one before.
 pub record Loses (who : Who) (h : Handle) (size needs : ℕ) (k : View) (t : Tables) (f : Files) (l : View) : Type 0 where
-  pub kept : (g : Geometry) (x : Kept) (n : ℕ) (start : State) (history : List Item) → start.mode ≡ Mode.Strict
+  pub kept : (g : Geometry) (x : Kept) (n : ℕ) (start : State) (history : List Item)
       → (finds : Finds g k t (with_files x f) n (run start history) who (Call.Truncate h size) needs)
-      → (back : ℕ → Cell) (slots : List (Option ℕ)) (image : Words)
-      → IsPutBack k.volume l.cells back x.first x.claims finds.runs.jobs slots image
-      → IsKept g start history (map unfinished_call finds.runs.jobs ++ (who, Call.Truncate h size) ∷ []) image
+      → KeepsWhenLost k.volume l.cells x finds.runs.jobs start history ((who, Call.Truncate h size) ∷ [])
   pub left : (g : Geometry) (x : Kept) (n : ℕ) (s : State)
       → Finds g k t (with_files x f) n s who (Call.Truncate h size) needs → IsLeftOf g k.cells l.cells
 

@@ -21,7 +21,7 @@ use Rattle.world_write_laws.specs.world_step_laws.image_model.Volume.{chain, ext
 use Rattle.world_write_laws.specs.world_step_laws.volume_laws.Changes.{chain-set_same, extents-set_other, inode-set_other, inode-set_same}
 use Rattle.world_write_laws.specs.world_step_laws.volume_laws.PoolLaws.{held-set, unused-held}
 use Rattle.world_write_laws.specs.world_step_laws.volume_laws.Uses.{blocks_held, HasAllMaps}
-use Rattle.k_split.specs.k_split_model.MapChangesChanges.{IsSized, with_size}
+use Rattle.k_split.specs.k_split_model.MapChangesChanges.{IsSized, with_size, WritesChain}
 use Rattle.k_split.specs.k_split_model.Taken.{switched, with_map}
 use Rattle.world_write_laws.specs.world_step_laws.k_split_model.Spaces.{volume_space}
 use Rattle.world_write_laws.specs.world_step_laws.k_split_model.View.{View}
@@ -76,7 +76,7 @@ sized_to_nothing free ino v w is = is.is_sized ∙ (λ i. switched ino (with_siz
   empty = no_extent is.es is.cut.canonical (λ b. is.cut.blocks b ∙ ap (λ t. if t then disk_at (extents v ino) b else None) (before_none b))
 
   no_blocks : is.blocks ≡ []
-  no_blocks = no_block is.blocks (is.taken.count ∙ ap (λ es. (length es + 254) / 255) empty)
+  no_blocks = no_block is.blocks (is.count ∙ ap (λ es. (length es + 254) / 255) empty)
 
 -- no word is in no block
 outside_none : (i : ℕ) → IsOutside [] i
@@ -111,9 +111,14 @@ cut_of w old new is = record {
 
 -- the chain that it writes has no block
 none_written : (ino : ℕ) (old : View) (w : Volume) (blocks : List ℕ) → HasAllMaps old.volume → ino < length old.volume.inodes → IsSizedWith ino 0 old w blocks → (w ≡ cut_to_nothing ino old.volume) × (blocks ≡ [])
-none_written ino old w blocks all below is = (made, is.written ∙ (ap (λ x. chain x ino) made ∙ chain-set_same ino (with_map [] [] (with_size 0 (inode old.volume ino))) [] [] old.volume (omega (arith, below, all.chain_count)))) where
+none_written ino old w blocks all below is = (made, by is.written) where
   made : w ≡ cut_to_nothing ino old.volume
   made = sized_to_nothing _ ino old.volume w is.sized
+
+  by : WritesChain ino old.volume w blocks → blocks ≡ []
+  by (inl kept) = kept.1
+  by (inr changed) =
+      changed.1 ∙ (ap (λ x. chain x ino) made ∙ chain-set_same ino (with_map [] [] (with_size 0 (inode old.volume ino))) [] [] old.volume (omega (arith, below, all.chain_count)))
 
 pub cuts_as_answer : CutsAsAnswer
 cuts_as_answer ino old new result all below is = by result is where

@@ -1,5 +1,5 @@
 -- A step of K-Split that is done, one that is cut off, and a call after the power went.
-use Rattle.std.specs.Prelude.{◌≡◌, ◌≢◌, ◌+◌, ℕ, false, List, [], ◌∷◌, ◌++◌, map, Option}
+use Rattle.std.specs.Prelude.{◌≡◌, ◌≢◌, ◌+◌, ℕ, false, List, [], ◌∷◌, Option}
 use Rattle.std.proofs.Common.{ap, ◌∙◌, sym, subst}
 use Rattle.world_write_laws.specs.world_step_laws.pm_model.declared.Cell.{Cell}
 use Rattle.world_write_laws.specs.world_step_laws.pm_model.ImageLaws.{IsImage-words_of}
@@ -12,16 +12,15 @@ use Rattle.world_write_laws.specs.world_step_laws.image_model.Volume.{extents, i
 use Rattle.world_write_laws.specs.world_step_laws.extent_model.Extents.{disk_at}
 use Rattle.world_write_laws.specs.world_step_laws.k_split_model.Stands.{Stands}
 use Rattle.world_write_laws.specs.world_step_laws.k_split_model.View.{View}
-use Rattle.k_split.specs.Answers.{Changes}
-use Rattle.world_write_laws.specs.world_step_laws.posix_types.declared.call.Mode.{Mode}
+use Rattle.k_split.specs.Answers.{Changes, IsOff}
 use Rattle.world_write_laws.specs.world_step_laws.posix_types.declared.item.Item.{Item}
 use Rattle.world_write_laws.specs.world_step_laws.posix_spec.Run.{Unfinished, run}
 use Rattle.world_write_laws.specs.world_step_laws.posix_spec.State.{State}
 use Rattle.world_write_laws.specs.world_step_laws.world_model.Jobs.{Job, JobsStand}
 use Rattle.world_image_laws.specs.Images.{HasLogHome, IsChange, IsRunning, StandsFor}
-use Rattle.world_image_laws.specs.Promised.{IsKept, KeepsPromise}
+use Rattle.world_image_laws.specs.Promised.{KeepsPromise}
 use Rattle.world_image_laws.specs.Running.{changes_device, keeps_log_home, promise_now, promise_of_call}
-use Rattle.world_image_laws.specs.Back.{IsPutBack}
+use Rattle.world_image_laws.specs.Back.{IsKeptBack}
 use Rattle.world_image_laws.specs.Flights.{promise_at_begin, promise_beside, promise_between}
 use Rattle.world_image_laws.specs.LentLaws.{SameBlocks}
 use Rattle.k_split_laws.specs.Going.{IsGoing}
@@ -78,21 +77,23 @@ same_blocks v w live f numbers s (j ∷ jobs) staging stand = (
 )
 
 pub keeps_image_cut : KeepsImageCut
-keeps_image_cut touched old new w claims jobs numbers after s next count later start history c back first slots image mode whole going cut step before behind put =
-    promise_beside old.volume w old.cells new.cells claims jobs numbers after s next start history count later back first slots image c mode whole going.device before behind
+keeps_image_cut touched old new w claims jobs numbers after s next count later start history c first mode found going cut step before behind =
+    promise_beside old.volume w old.cells new.cells claims jobs numbers after s next start history count later first c mode found going.device before behind
     (change_of old.volume old.committed w old.cells new.cells (going.order.settled going.unbatched) cut.changes step.geometry step.base)
     (same_blocks old.volume w _ (journaled (words_of old.cells)) numbers s jobs step.staging (going.device.world (words_of old.cells) (IsImage-words_of old.cells)).valid.out)
-    step.room step.takes put
+    step.room step.takes
 
-not_posix : (m : Mode) → m ≡ Mode.Strict → m ≢ Mode.Posix
-not_posix m strict posix = cc
+-- a device that the power left as it was keeps what it kept
+kept_off : (old new : View) (first : Words) (claims : List (ℕ × Draft)) (jobs : List Job) (start : State) (history : List Item) (last : List Unfinished) → IsOff old new
+    → IsKeptBack old.volume old.cells first claims jobs start history last → IsKeptBack old.volume new.cells first claims jobs start history last
+kept_off old new first claims jobs start history last off kept = subst (λ d. IsKeptBack old.volume d first claims jobs start history last) (sym (ap (λ (k : View). k.cells) off)) kept
 
 pub keeps_image_off : KeepsImageOff
-keeps_image_off old new claims jobs numbers start history count c back first slots image mode whole going off put =
-    promise_at_begin old.volume old.cells claims jobs numbers start history count back first slots image c (not_posix start.mode mode) (λ strict. whole) going.device
-    (subst (λ d. IsPutBack old.volume d back first claims jobs slots image) (ap (λ (k : View). k.cells) off) put)
+keeps_image_off old new claims jobs numbers start history count c first mode found going off =
+    kept_off old new first claims jobs start history (c ∷ []) off
+    (promise_at_begin old.volume old.cells claims jobs numbers start history count first c mode found going.device)
 
 pub keeps_image_between : KeepsImageBetween
-keeps_image_between old new claims jobs numbers s start history count c back first slots image mode whole going leads off put =
-    promise_between old.volume old.cells claims jobs numbers s start history count back first slots image c mode whole going.device leads
-    (subst (λ d. IsPutBack old.volume d back first claims jobs slots image) (ap (λ (k : View). k.cells) off) put)
+keeps_image_between old new claims jobs numbers s start history count c first mode found going leads off =
+    kept_off old new first claims jobs start history (c ∷ []) off
+    (promise_between old.volume old.cells claims jobs numbers s start history count first c mode found going.device leads)

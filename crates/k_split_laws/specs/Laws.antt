@@ -1,5 +1,5 @@
 -- The laws of the World's exits, each as one statement.
-use Rattle.std.specs.Prelude.{◌≡◌, ◌≢◌, ◌<◌, ◌+◌, ◌^◌, ℕ, true, false, length, Option, None, Some, List, [], ◌∷◌, ◌++◌, map, Result}
+use Rattle.std.specs.Prelude.{◌≡◌, ◌≢◌, ◌<◌, ◌+◌, ◌^◌, ℕ, true, false, length, Option, None, Some, List, [], ◌∷◌, Result}
 use Rattle.world_write_laws.specs.world_step_laws.pm_model.declared.Cell.{Cell}
 use Rattle.world_write_laws.specs.world_step_laws.pm_model.Words.{Words}
 use Rattle.world_write_laws.specs.world_step_laws.layout_model.declared.lines.Draft.{Draft}
@@ -36,8 +36,7 @@ use Rattle.world_write_laws.specs.world_step_laws.posix_spec.Run.{after_call, Un
 use Rattle.world_write_laws.specs.world_step_laws.posix_spec.State.{alone, State, swept, unnamed as unnamed_state}
 use Rattle.world_write_laws.specs.world_step_laws.posix_spec.Step.{is_busy, step}
 use Rattle.world_write_laws.specs.world_step_laws.posix_spec.Tree.{tree}
-use Rattle.world_write_laws.specs.world_step_laws.world_model.Jobs.{unfinished_call, Job, live_claims}
-use Rattle.world_write_laws.specs.world_step_laws.world_model.Promised.{AreWhole}
+use Rattle.world_write_laws.specs.world_step_laws.world_model.Jobs.{Job, live_claims}
 use Rattle.world_write_laws.specs.world_step_laws.world_model.Stands.{entries_of, number}
 use Rattle.world_write_laws.specs.world_step_laws.Makers.{renumbered}
 use Rattle.world_image_laws.specs.commute_laws.Orders.{AreTwoEach}
@@ -45,9 +44,9 @@ use Rattle.world_write_laws.specs.world_step_laws.Steps.{flights_of, LetsJobsBe}
 use Rattle.world_write_laws.specs.world_step_laws.Worlds.{IsWorld}
 use Rattle.world_image_laws.specs.Images.{HasLogHome, StandsFor}
 use Rattle.world_image_laws.specs.ImagesLaws.{IsTreeOf}
-use Rattle.world_image_laws.specs.Promised.{IsKept, KeepsPromise}
-use Rattle.world_image_laws.specs.Back.{IsPutBack}
-use Rattle.world_image_laws.specs.LentLaws.{LeadsTo}
+use Rattle.world_image_laws.specs.Promised.{KeepsPromise}
+use Rattle.world_image_laws.specs.Back.{IsKeptBack}
+use Rattle.world_image_laws.specs.LentLaws.{AreFound, LeadsTo}
 use Rattle.k_split_laws.specs.Going.{gone_by, IsGoing, IsNameCall, IsStep, moved_so_far, row_of_call}
 
 -- ---- a change of K-Split
@@ -78,29 +77,28 @@ KeepsPromiseOff =
     (old new : View) (claims : List (ℕ × Draft)) (numbers : List ℕ) (start : State) (history : List Item) (unfinished : List Unfinished) (count : ℕ) → IsGoing old claims [] numbers (run start history) count
     → HasLogHome old.volume old.cells claims → IsOff old new → KeepsPromise old.volume.geometry new.cells start history unfinished
 
--- With writes in flight, in strict mode: each image of the device, once log lines and blocks are put back, is kept with the calls
--- of the jobs unfinished and this one as the last, where the trees that the jobs may leave before and after the change are trees
--- of the history's state;
+-- With writes in flight, in strict and in sync mode, the promise is kept of the device once all is put back, with this call as the last, where
+-- the trees that the jobs may leave before and after the change are trees of the history's state;
 abbrev pub KeepsImageCut : Type 0
 KeepsImageCut =
-    (touched : Option ℕ) (old new : View) (w : Volume) (claims : List (ℕ × Draft)) (jobs : List Job) (numbers after : List ℕ) (s next : State) (count later : ℕ) (start : State) (history : List Item) (c : Unfinished) (back : ℕ → Cell)
-    (first : Words) (slots : List (Option ℕ)) (image : Words) → start.mode ≡ Mode.Strict → AreWhole jobs → IsGoing old claims jobs numbers s count → IsCut w old new
-    → IsStep touched old.volume w claims jobs numbers after s next count later → LeadsTo start history c jobs s → LeadsTo start history c jobs next → IsPutBack old.volume new.cells back first claims jobs slots image
-    → IsKept old.volume.geometry start history (map unfinished_call jobs ++ c ∷ []) image
+    (touched : Option ℕ) (old new : View) (w : Volume) (claims : List (ℕ × Draft)) (jobs : List Job) (numbers after : List ℕ) (s next : State) (count later : ℕ) (start : State) (history : List Item) (c : Unfinished)
+    (first : Words) → start.mode ≢ Mode.Posix → AreFound start jobs → IsGoing old claims jobs numbers s count → IsCut w old new
+    → IsStep touched old.volume w claims jobs numbers after s next count later → LeadsTo start history c jobs s → LeadsTo start history c jobs next
+    → IsKeptBack old.volume new.cells first claims jobs start history (c ∷ [])
 
 -- and so it is where the power was off before the call began.
 abbrev pub KeepsImageOff : Type 0
 KeepsImageOff =
-    (old new : View) (claims : List (ℕ × Draft)) (jobs : List Job) (numbers : List ℕ) (start : State) (history : List Item) (count : ℕ) (c : Unfinished) (back : ℕ → Cell) (first : Words) (slots : List (Option ℕ))
-    (image : Words) → start.mode ≡ Mode.Strict → AreWhole jobs → IsGoing old claims jobs numbers (run start history) count → IsOff old new → IsPutBack old.volume new.cells back first claims jobs slots image
-    → IsKept old.volume.geometry start history (map unfinished_call jobs ++ c ∷ []) image
+    (old new : View) (claims : List (ℕ × Draft)) (jobs : List Job) (numbers : List ℕ) (start : State) (history : List Item) (count : ℕ) (c : Unfinished) (first : Words)
+    → start.mode ≢ Mode.Posix → AreFound start jobs → IsGoing old claims jobs numbers (run start history) count → IsOff old new
+    → IsKeptBack old.volume new.cells first claims jobs start history (c ∷ [])
 
 -- and where it is off between two changes of a call.
 abbrev pub KeepsImageBetween : Type 0
 KeepsImageBetween =
-    (old new : View) (claims : List (ℕ × Draft)) (jobs : List Job) (numbers : List ℕ) (s start : State) (history : List Item) (count : ℕ) (c : Unfinished) (back : ℕ → Cell) (first : Words) (slots : List (Option ℕ))
-    (image : Words) → start.mode ≡ Mode.Strict → AreWhole jobs → IsGoing old claims jobs numbers s count → LeadsTo start history c jobs s → IsOff old new
-    → IsPutBack old.volume new.cells back first claims jobs slots image → IsKept old.volume.geometry start history (map unfinished_call jobs ++ c ∷ []) image
+    (old new : View) (claims : List (ℕ × Draft)) (jobs : List Job) (numbers : List ℕ) (s start : State) (history : List Item) (count : ℕ) (c : Unfinished) (first : Words)
+    → start.mode ≢ Mode.Posix → AreFound start jobs → IsGoing old claims jobs numbers s count → LeadsTo start history c jobs s → IsOff old new
+    → IsKeptBack old.volume new.cells first claims jobs start history (c ∷ [])
 
 -- ---- the changes, each a step of the World
 

@@ -1,6 +1,6 @@
 //! The World's exits: what each answer of K-Split makes of the World.
 //!
-//! Definitions and lemmas, no code. They hold in strict mode beside any claims in the log and any writes in
+//! Definitions and lemmas, no code. They hold in strict and in sync mode beside any claims in the log and any writes in
 //! flight, whatever is in the log lines. The layer above may rely on this: where the World goes on over
 //! K-Split (`IsGoing`), the changes of `mkdir`, `rmdir`, `unlink`, `rename` and of an `open` that makes its
 //! file or cuts it are steps of it (`IsStep`); a step that is done leaves a World that goes on (`GoesOn`);

@@ -1,6 +1,6 @@
 //! Laws of K-Split's answers: each is a step of the World, or leaves a device that keeps the promise.
 //!
-//! They hold in strict mode beside any claims and writes in flight, with log lines at home or out;
+//! They hold in strict and in sync mode beside any claims and writes in flight, with log lines at home or out;
 //! a device that the power left within a change has its size, its lent words and a sound journal.
 //!
 //! - `exits`: The World's exits: what each answer of K-Split makes of the World.

@@ -3,6 +3,7 @@ pub mod OverlaysLaws
 pub mod Flying
 pub mod FlightsLaws
 pub mod Standing
+pub mod Losses
 pub mod Jobs
 pub use Rattle.staging_files.specs.block_io as block_io
 pub use Rattle.write_jobs.specs.commute_laws

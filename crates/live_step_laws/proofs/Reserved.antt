@@ -27,7 +27,6 @@ use Rattle.relink_laws.specs.k_split.Answers.{IsOff}
 use Rattle.relink_laws.specs.k_split.MapChanges.{ChangesMaps, free_blocks_in, IsMapCut, IsMapDone, IsPreallocatedWith}
 use Rattle.relink_laws.specs.world_write_laws.list_laws.Members.{In}
 use Rattle.live_model.specs.Overlays.{IsOverlayOf, run_of}
-use Rattle.relink_laws.specs.world_write_laws.posix_types.declared.call.Mode.{Mode}
 use Rattle.relink_laws.specs.world_write_laws.posix_types.declared.item.Item.{Item}
 use Rattle.relink_laws.specs.world_write_laws.posix_tables.Open.{Tables}
 use Rattle.relink_laws.specs.world_write_laws.posix_spec.Run.{Unfinished, run}
@@ -43,9 +42,9 @@ use Rattle.relink_laws.specs.world_write_laws.world_model.Jobs.{unfinished_call,
 use Rattle.relink_laws.specs.world_write_laws.world_model.Stands.{entries_of, IsSane}
 use Rattle.relink_laws.specs.world_write_laws.Restages.{Restages}
 use Rattle.k_split_laws.specs.world_image_laws.Images.{HasRoom, StandsFor}
-use Rattle.k_split_laws.specs.world_image_laws.Promised.{IsKept}
-use Rattle.k_split_laws.specs.world_image_laws.Back.{IsPutBack}
+use Rattle.k_split_laws.specs.world_image_laws.Back.{IsKeptBack}
 use Rattle.k_split_laws.specs.world_image_laws.Flights.{leads_before, promise_at_begin}
+use Rattle.live_model.specs.Losses.{KeepsWhenLost}
 use Rattle.live_model.specs.Standing.{AreJobsOf, HasItsBlocks, Kept, LinesStand, JobOut, reserved_run, StandsAt}
 use Rattle.live_step_laws.specs.Changes.{IsChangeWith}
 use Rattle.live_step_laws.proofs.Devices.{changes_device_with, keeps_log_home_with, promise_with}
@@ -334,24 +333,20 @@ stands_reserved g k l t kept staging lines n s count taken stands some few (inr 
 
 -- ---- the power went
 
-not_posix : (m : Mode) → m ≡ Mode.Strict → m ≢ Mode.Posix
-not_posix m strict posix = cc
-
-module _ (g : Geometry) (k l : View) (t : Tables) (kept : Kept) (lines : Bool) (n : ℕ) (start : State) (history : List Item) (c : Unfinished) (strict : start.mode ≡ Mode.Strict) (stands : StandsAt g k t kept lines n (run start history))
-    (back : ℕ → Cell) (slots : List (Option ℕ)) (image : Words) (put : IsPutBack k.volume l.cells back kept.first kept.claims stands.jobs slots image) where
+module _ (g : Geometry) (k l : View) (t : Tables) (kept : Kept) (lines : Bool) (n : ℕ) (start : State) (history : List Item) (c : Unfinished) (stands : StandsAt g k t kept lines n (run start history)) where
   -- before it changed anything
-  kept_off : l.cells ≡ k.cells → IsKept k.volume.geometry start history (map unfinished_call stands.jobs ++ c ∷ []) image
-  kept_off same =
-      promise_at_begin k.volume k.cells kept.claims stands.jobs stands.numbers start history stands.count back kept.first slots image c (not_posix start.mode strict) (λ mode. stands.flying.whole) stands.flying.device
-      (subst (λ d. IsPutBack k.volume d back kept.first kept.claims stands.jobs slots image) same put)
+  kept_off : l.cells ≡ k.cells → KeepsWhenLost k.volume l.cells kept stands.jobs start history (c ∷ [])
+  kept_off same mode =
+      subst (λ d. IsKeptBack k.volume d kept.first kept.claims stands.jobs start history (c ∷ [])) (sym same)
+      (promise_at_begin k.volume k.cells kept.claims stands.jobs stands.numbers start history stands.count kept.first c mode (λ strict. stands.flying.whole) stands.flying.device)
 
   -- in the change
   kept_cut : (count x : ℕ) (w : Volume) (blocks : List ℕ) → IsStaging x → IsKeptEmpty kept.staging x → share kept.staging k count + length kept.staging.out + reserve k.volume.geometry ≤ free_blocks_in k + 1
-      → share kept.staging k count ≤ 64 → IsPreallocatedWith x (share kept.staging k count) k w blocks → IsMapCut blocks w k l → IsKept k.volume.geometry start history (map unfinished_call stands.jobs ++ c ∷ []) image
-  kept_cut count x w blocks file_is empty enough few made cut =
-      promise_with blocks k.volume w k.cells l.cells kept.claims stands.jobs stands.numbers stands.numbers (run start history) (run start history) start history stands.count stands.count back kept.first slots image c strict
-      stands.flying.whole stands.flying.device (leads_before start history c stands.jobs) (leads_before start history c stands.jobs) change (restaging.spare g k t kept lines n (run start history) stands x (share kept.staging k count) w blocks file_is empty made cut.whole)
-      (restaging.same_blocks g k t kept lines n (run start history) stands x (share kept.staging k count) w blocks file_is empty made cut.whole stands.jobs (restaging.none_out g k t kept lines n (run start history) stands x (share kept.staging k count) w blocks file_is empty made cut.whole)) room (restaging.takes g k t kept lines n (run start history) stands x (share kept.staging k count) w blocks file_is empty made cut.whole) put
+      → share kept.staging k count ≤ 64 → IsPreallocatedWith x (share kept.staging k count) k w blocks → IsMapCut blocks w k l → KeepsWhenLost k.volume l.cells kept stands.jobs start history (c ∷ [])
+  kept_cut count x w blocks file_is empty enough few made cut mode =
+      promise_with blocks k.volume w k.cells l.cells kept.claims stands.jobs stands.numbers stands.numbers (run start history) (run start history) start history stands.count stands.count kept.first c mode
+      (λ strict. stands.flying.whole) stands.flying.device (leads_before start history c stands.jobs) (leads_before start history c stands.jobs) change (restaging.spare g k t kept lines n (run start history) stands x (share kept.staging k count) w blocks file_is empty made cut.whole)
+      (restaging.same_blocks g k t kept lines n (run start history) stands x (share kept.staging k count) w blocks file_is empty made cut.whole stands.jobs (restaging.none_out g k t kept lines n (run start history) stands x (share kept.staging k count) w blocks file_is empty made cut.whole)) room (restaging.takes g k t kept lines n (run start history) stands x (share kept.staging k count) w blocks file_is empty made cut.whole)
     where
       change : IsChangeWith blocks k.volume w k.cells l.cells
       change =
@@ -368,17 +363,15 @@ module _ (g : Geometry) (k l : View) (t : Tables) (kept : Kept) (lines : Bool) (
           restaging.room g k t kept lines n (run start history) stands x (share kept.staging k count) w blocks file_is empty made cut.whole (omega (arith, owed, less, enough, counted))
 
 pub keeps_reserved : KeepsReserved
-keeps_reserved g k l t kept staging lines n start history c count strict stands some few (inl same) back slots image put =
-    subst (λ y. IsKept y start history (map unfinished_call stands.jobs ++ c ∷ []) image) stands.geometry (kept_off g k l t kept lines n start history c strict stands back slots image put (ap (λ (y : View). y.cells) same.volume))
-keeps_reserved g k l t kept staging lines n start history c count strict stands some few (inr cut) back slots image put =
-    subst (λ y. IsKept y start history (map unfinished_call stands.jobs ++ c ∷ []) image) stands.geometry (by cut.given) where
-      fits : (count ≤ share kept.staging k count) × (share kept.staging k count ≤ 64) × (share kept.staging k count + reserve k.volume.geometry ≤ free_blocks_in k + 1)
-      fits = share-fits kept.staging k count few cut.way.room
+keeps_reserved g k l t kept staging lines n start history c count stands some few (inl same) = kept_off g k l t kept lines n start history c stands (ap (λ (y : View). y.cells) same.volume)
+keeps_reserved g k l t kept staging lines n start history c count stands some few (inr cut) = by cut.given where
+  fits : (count ≤ share kept.staging k count) × (share kept.staging k count ≤ 64) × (share kept.staging k count + reserve k.volume.geometry ≤ free_blocks_in k + 1)
+  fits = share-fits kept.staging k count few cut.way.room
 
-      enough : share kept.staging k count + length kept.staging.out + reserve k.volume.geometry ≤ free_blocks_in k + 1
-      enough = let room = cut.way.room in omega (arith, room)
+  enough : share kept.staging k count + length kept.staging.out + reserve k.volume.geometry ≤ free_blocks_in k + 1
+  enough = let room = cut.way.room in omega (arith, room)
 
-      by : IsOff k l ⊎ ((w : Volume) × (blocks : List ℕ) × IsPreallocatedWith cut.staging (share kept.staging k count) k w blocks × IsMapCut blocks w k l) → IsKept k.volume.geometry start history (map unfinished_call stands.jobs ++ c ∷ []) image
-      by (inl off) = kept_off g k l t kept lines n start history c strict stands back slots image put (ap (λ (y : View). y.cells) off)
-      by (inr landed) =
-          kept_cut g k l t kept lines n start history c strict stands back slots image put count cut.staging landed.0 landed.1 cut.way.place.staging cut.way.place.empty enough fits.1 landed.2 landed.3
+  by : IsOff k l ⊎ ((w : Volume) × (blocks : List ℕ) × IsPreallocatedWith cut.staging (share kept.staging k count) k w blocks × IsMapCut blocks w k l) → KeepsWhenLost k.volume l.cells kept stands.jobs start history (c ∷ [])
+  by (inl off) = kept_off g k l t kept lines n start history c stands (ap (λ (y : View). y.cells) off)
+  by (inr landed) =
+      kept_cut g k l t kept lines n start history c stands count cut.staging landed.0 landed.1 cut.way.place.staging cut.way.place.empty enough fits.1 landed.2 landed.3

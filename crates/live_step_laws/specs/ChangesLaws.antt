@@ -1,5 +1,5 @@
 -- Changes that write spare blocks, each law as one statement.
-use Rattle.std.specs.Prelude.{◌≡◌, ℕ, List, [], ◌∷◌, ◌++◌, map, Option}
+use Rattle.std.specs.Prelude.{◌≢◌, ℕ, List, [], ◌∷◌}
 use Rattle.relink_laws.specs.world_write_laws.pm_model.declared.Cell.{Cell}
 use Rattle.relink_laws.specs.world_write_laws.pm_model.Images.{IsImage}
 use Rattle.relink_laws.specs.world_write_laws.pm_model.Words.{Words}
@@ -10,13 +10,11 @@ use Rattle.relink_laws.specs.world_write_laws.posix_types.declared.call.Mode.{Mo
 use Rattle.relink_laws.specs.world_write_laws.posix_types.declared.item.Item.{Item}
 use Rattle.relink_laws.specs.world_write_laws.posix_spec.Run.{Unfinished}
 use Rattle.relink_laws.specs.world_write_laws.posix_spec.State.{State}
-use Rattle.relink_laws.specs.world_write_laws.world_model.Jobs.{unfinished_call, Job}
-use Rattle.relink_laws.specs.world_write_laws.world_model.Promised.{AreWhole}
+use Rattle.relink_laws.specs.world_write_laws.world_model.Jobs.{Job}
 use Rattle.k_split_laws.specs.world_image_laws.Images.{HasLogHome, HasRoom, IsHeaded, StandsFor}
 use Rattle.k_split_laws.specs.world_image_laws.ImagesLaws.{Takes}
-use Rattle.k_split_laws.specs.world_image_laws.Promised.{IsKept}
-use Rattle.k_split_laws.specs.world_image_laws.Back.{IsPutBack}
-use Rattle.k_split_laws.specs.world_image_laws.LentLaws.{LeadsTo, SameBlocks}
+use Rattle.k_split_laws.specs.world_image_laws.Back.{IsKeptBack}
+use Rattle.k_split_laws.specs.world_image_laws.LentLaws.{AreFound, LeadsTo, SameBlocks}
 use Rattle.live_step_laws.specs.Changes.{AreSpare, IsChangeWith}
 
 -- DONE: the device stands for the state after the change.
@@ -36,16 +34,15 @@ KeepsLogHomeWith =
     → HasLogHome v d claims
     → HasLogHome w e claims
 
--- CUT OFF, in strict mode, in the first change of a call or a later one: whether the change is on the medium or not, the call may
+-- CUT OFF, in the first change of a call or a later one: whether the change is on the medium or not, the call may
 -- stand as the last of the unfinished ones.
 abbrev pub KeepsPromiseWith : Type 0
 KeepsPromiseWith =
     (blocks : List ℕ) (v w : Volume) (d e : List Cell) (claims : List (ℕ × Draft)) (jobs : List Job)
-    (numbers after : List ℕ) (s new : State) (start : State) (history : List Item) (count later : ℕ) (back : ℕ → Cell)
-    (first : Words)
-    (slots : List (Option ℕ)) (image : Words) (c : Unfinished)
-    → start.mode ≡ Mode.Strict → AreWhole jobs → StandsFor v d claims jobs numbers s count
+    (numbers after : List ℕ) (s new : State) (start : State) (history : List Item) (count later : ℕ)
+    (first : Words) (c : Unfinished)
+    → start.mode ≢ Mode.Posix → AreFound start jobs → StandsFor v d claims jobs numbers s count
     → LeadsTo start history c jobs s → LeadsTo start history c jobs new
     → IsChangeWith blocks v w d e → AreSpare blocks v → SameBlocks v w jobs → HasRoom w claims jobs new
-    → Takes v w claims jobs numbers after s new count later → IsPutBack v e back first claims jobs slots image
-    → IsKept v.geometry start history (map unfinished_call jobs ++ c ∷ []) image
+    → Takes v w claims jobs numbers after s new count later
+    → IsKeptBack v e first claims jobs start history (c ∷ [])

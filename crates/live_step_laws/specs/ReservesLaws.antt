@@ -1,11 +1,8 @@
 -- What reserving a run leaves of a World with writes in flight, each law as one statement.
-use Rattle.std.specs.Prelude.{◌≡◌, ◌≤◌, ◌+◌, ℕ, Bool, Contains, List, [], ◌∷◌, ◌++◌, length, map, Option, Result, Ok, Err}
-use Rattle.relink_laws.specs.world_write_laws.pm_model.declared.Cell.{Cell}
-use Rattle.relink_laws.specs.world_write_laws.pm_model.Words.{Words}
+use Rattle.std.specs.Prelude.{◌≡◌, ◌≤◌, ◌+◌, ℕ, Bool, Contains, List, [], ◌∷◌, length, Result, Ok, Err}
 use Rattle.relink_laws.specs.world_write_laws.layout_model.Places.{Geometry, reserve}
 use Rattle.relink_laws.specs.world_write_laws.image_model.Room.{unused_blocks}
 use Rattle.relink_laws.specs.world_write_laws.k_split_model.View.{View}
-use Rattle.relink_laws.specs.world_write_laws.posix_types.declared.call.Mode.{Mode}
 use Rattle.relink_laws.specs.world_write_laws.posix_types.declared.item.Item.{Item}
 use Rattle.relink_laws.specs.world_write_laws.posix_tables.Open.{Tables}
 use Rattle.relink_laws.specs.world_write_laws.posix_spec.Run.{Unfinished, run}
@@ -14,9 +11,8 @@ use Rattle.live_model.specs.staging_files.declared.runs.StageFault.{StageFault}
 use Rattle.live_model.specs.staging_files.declared.runs.StageRun.{StageRun}
 use Rattle.live_model.specs.staging_files.Keeps.{AreApart, IsRunSingle, IsThere, Staged}
 use Rattle.live_model.specs.staging_files.Reserves.{IsReserveAnswer}
-use Rattle.relink_laws.specs.world_write_laws.world_model.Jobs.{unfinished_call, live_claims}
-use Rattle.k_split_laws.specs.world_image_laws.Promised.{IsKept}
-use Rattle.k_split_laws.specs.world_image_laws.Back.{IsPutBack}
+use Rattle.relink_laws.specs.world_write_laws.world_model.Jobs.{live_claims}
+use Rattle.live_model.specs.Losses.{KeepsWhenLost}
 use Rattle.live_model.specs.Standing.{Kept, StandsAt}
 
 -- what the World keeps, with this staging
@@ -45,14 +41,11 @@ StandsReserved =
     → (let r : Result StageRun StageFault = Ok taken in IsReserveAnswer count kept.staging k staging l r)
     → StandsWithRun g k l t kept staging lines n s taken stands
 
--- THE POWER WENT in it: each image, once log lines and blocks of jobs are put back, is kept with the calls of the jobs unfinished,
--- and this one as the last.
+-- THE POWER WENT in it, in the call c.
 abbrev pub KeepsReserved : Type 0
 KeepsReserved =
     (g : Geometry) (k l : View) (t : Tables) (kept : Kept) (staging : Staged) (lines : Bool) (n : ℕ) (start : State)
-    (history : List Item) (c : Unfinished) (count : ℕ) → start.mode ≡ Mode.Strict
+    (history : List Item) (c : Unfinished) (count : ℕ)
     → (stands : StandsAt g k t kept lines n (run start history)) → 1 ≤ count → count ≤ 33
     → (let r : Result StageRun StageFault = Err StageFault.PowerLost in IsReserveAnswer count kept.staging k staging l r)
-    → (back : ℕ → Cell) (slots : List (Option ℕ)) (image : Words)
-    → IsPutBack k.volume l.cells back kept.first kept.claims stands.jobs slots image
-    → IsKept g start history (map unfinished_call stands.jobs ++ c ∷ []) image
+    → KeepsWhenLost k.volume l.cells kept stands.jobs start history (c ∷ [])

@@ -1,6 +1,6 @@
 -- The lines of a round come home at its end.
 use Rattle.std.specs.Prelude.{◌≡◌, ◌<◌, ◌+◌, ◌-◌, ◌*◌, ◌/◌, ◌%◌, ℕ, zero, suc, Bool, true, false, Contains, List, [], ◌∷◌, length, refl}
-use Rattle.std.proofs.Common.{arith, ap, ◌∙◌, sym, subst, inl, inr}
+use Rattle.std.proofs.Common.{arith, ap, sym, subst, inl, inr}
 use Rattle.std.proofs.lemmas.List.{length-map}
 use Rattle.std.proofs.Math.ListN.{get_or-map}
 use Rattle.eof_laws.specs.pm_model.declared.Cell.{Cell}
@@ -20,12 +20,12 @@ use Rattle.world_view_laws.specs.file_publish.staging_files.Keeps.{Staged}
 use Rattle.world_view_laws.specs.file_publish.live_model.Standing.{StandsAt}
 use Rattle.world_view_laws.specs.file_publish.RoundLinesLaws.{HasTurned, StandsHome}
 use Rattle.eof_laws.specs.k_split_model.View.{View}
-use Rattle.eof_laws.specs.block_io.Lines.{AreFrom, line_at}
+use Rattle.eof_laws.specs.block_io.Lines.{line_at}
 use Rattle.eof_laws.specs.list_laws.Members.{In}
-use Rattle.world_view_laws.specs.write_end.Lines.{HoldClaims}
+use Rattle.world_view_laws.specs.write_end.Lines as ended
 use Rattle.world_view_laws.specs.write_end.oplog_entry.LogLines.{cells_of}
 use Rattle.eof_laws.specs.posix_tables.Open.{Tables}
-use Rattle.world_view_laws.specs.Lines.{first_of, HoldTheClaims}
+use Rattle.world_view_laws.specs.Lines.{AreCrashLines, first_of, HoldTheClaims}
 use Rattle.world_view_laws.specs.Views.{first_by, IsGoing, IsWorldOver, kept_of, state_of, WorldView}
 use Rattle.round_laws.specs.EndsLaws.{IsEnding, MayEnd, MayPutLog}
 
@@ -58,16 +58,23 @@ each_other w lines holds n below free =
     let count : length (cells_of lines) ≡ length lines = length-map lines (λ (line : Part). line.cells) in
     subst (λ (cells : List Cell). IsAsAtFirst cells (first_of w n)) (cells_at lines n) (holds.holds.unclaimed n (omega (arith, below, count)) (λ d at. free d (contains_in w.claims (n, d) at)))
 
--- by a volume of the geometry and the base of the World
-pub lines_hold : (v : Volume) (w : WorldView) (lines : List Part) → v.geometry ≡ w.geometry → v.base ≡ w.base → HoldTheClaims w lines → HoldClaims v (first_by w.geometry w.first) w.claims lines
-lines_hold v w lines geometry base holds = record {
-  are = record {
-    count = holds.are.count ∙ sym (ap (λ (g : Geometry). g.log) geometry);
-    places = subst (λ (g : Geometry). AreFrom (log_line g 0) lines) (sym geometry) holds.are.places;
-  };
-  claimed = λ n d at. (let was = each_claimed w lines holds n d at in (was.0, subst (λ b. HoldsEntry (line_at lines n).cells d (b + n)) (sym base) was.1));
-  others = λ n below free. subst (λ (g : Geometry). IsAsAtFirst (line_at lines n).cells (λ j. first_by w.geometry w.first (8 * log_line g n + j))) (sym geometry) (each_other w lines holds n below free);
+-- they are those of a crash with no filled job
+pub lines_of_round : (w : WorldView) (lines : List Part) → HoldTheClaims w lines → AreCrashLines w [] [] lines
+lines_of_round w lines holds = record {
+  are = record { count = holds.are.count; places = holds.are.places };
+  claimed = each_claimed w lines holds;
+  of_jobs = λ n d at. absurd at;
+  one_each = λ m n d at other. absurd at;
+  entries = λ n d at. absurd at;
+  others = λ n below unclaimed untaken. each_other w lines holds n below unclaimed;
 }
+
+-- by a volume of the geometry and the base of the World
+pub lines_hold : (v : Volume) (w : WorldView) (lines : List Part) → v.geometry ≡ w.geometry → v.base ≡ w.base → HoldTheClaims w lines
+    → ended.AreCrashLines v.geometry v.base (first_by w.geometry w.first) w.claims [] [] lines
+lines_hold v w lines geometry base holds =
+    subst (λ (g : Geometry). ended.AreCrashLines g v.base (first_by w.geometry w.first) w.claims [] [] lines) (sym geometry)
+    (subst (λ (b : ℕ). ended.AreCrashLines w.geometry b (first_by w.geometry w.first) w.claims [] [] lines) (sym base) (lines_of_round w lines holds))
 
 -- ---- they may be put back
 
@@ -78,7 +85,7 @@ module _ (k : View) (t : Tables) (staging : Staged) (files : Files) (w : WorldVi
   standing : StandsAt w.geometry k t (kept_of w staging files) true (length w.history) (state_of w)
   standing = subst (λ b. StandsAt w.geometry k t (kept_of w staging files) b (length w.history) (state_of w)) holds.are.out going.stands
 
-  hold_claims : HoldClaims k.volume (first_by w.geometry w.first) w.claims lines
+  hold_claims : ended.AreCrashLines k.volume.geometry k.volume.base (first_by w.geometry w.first) w.claims [] [] lines
   hold_claims = lines_hold k.volume w lines going.stands.geometry (sym going.base) holds
 
   lent : (i : ℕ) → IsLogWord k.volume i → is_lent (cell k.cells i) ≡ true
@@ -88,7 +95,7 @@ module _ (k : View) (t : Tables) (staging : Staged) (files : Files) (w : WorldVi
       subst (λ m. is_lent (cell k.cells m) ≡ true) place (standing.lines.lent (i / 8 - log_line k.volume.geometry 0) (i % 8) below (omega arith))
 
   may_put : MayPutLog k lines
-  may_put = record { lines_are = hold_claims.are; out = lent }
+  may_put = record { lines_are = record { count = hold_claims.are.count; places = hold_claims.are.places }; out = lent }
 
 pub may_end : MayEnd
 may_end k t staging files w lines world on holds = may_put k t staging files w lines world on holds
@@ -100,7 +107,8 @@ module _ (turning : StandsHome) (holding : LinesHoldOut) (k l : View) (t : Table
   turned =
       let claims = hold_claims k t staging files w lines ending.world ending.awake ending.holds in
       let stands = standing k t staging files w lines ending.world ending.awake ending.holds in
-      turning w.geometry k t (kept_of w staging files) (length w.history) (state_of w) l.cells lines (cell l.cells) stands ending.none_out (subst IsInOrder ending.back.same ending.back.order) claims.are ending.back.back ending.back.home
+      turning w.geometry k t (kept_of w staging files) (length w.history) (state_of w) l.cells lines (cell l.cells) stands ending.none_out (subst IsInOrder ending.back.same ending.back.order)
+      (may_put k t staging files w lines ending.world ending.awake ending.holds).lines_are ending.back.back ending.back.home
       (holding k.volume k.cells l.cells (first_by w.geometry w.first) w.claims lines (cell l.cells) stands.lines (ending.world.going ending.awake).spelled claims (record { back = ending.back.back; home = ending.back.home }))
 
   -- K-SPLIT STANDS, with the lines at home.

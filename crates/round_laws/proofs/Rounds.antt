@@ -18,6 +18,7 @@ use Rattle.eof_laws.specs.file_table.Files.{Files}
 use Rattle.file_publish.specs.GathersLaws.{HasGathered, KeepsGathered, StandsGathered}
 use Rattle.world_view_laws.specs.file_publish.staging_files.GivesUp.{nothing_staged}
 use Rattle.world_view_laws.specs.file_publish.staging_files.Keeps.{Staged}
+use Rattle.world_view_laws.specs.world_image_laws.InLog.{not_posix}
 use Rattle.world_view_laws.specs.world_image_laws.Promised.{IsKept, KeepsPromise}
 use Rattle.world_view_laws.specs.file_publish.live_model.Standing.{JobOut, StandsAt}
 use Rattle.world_view_laws.specs.file_publish.RoundLinesLaws.{StandsHome}
@@ -26,7 +27,7 @@ use Rattle.eof_laws.specs.k_split_model.View.{View}
 use Rattle.eof_laws.specs.block_io.Lines.{LinesComeBack}
 use Rattle.eof_laws.specs.list_laws.Members.{In}
 use Rattle.world_view_laws.specs.write_end.Blocks.{ComeHome}
-use Rattle.world_view_laws.specs.write_end.Lines.{AreCrashLines, HoldClaims}
+use Rattle.world_view_laws.specs.write_end.Lines.{AreCrashLines}
 use Rattle.world_view_laws.specs.write_end.Stops.{KeepsGatheredOut, KeepsOut}
 use Rattle.eof_laws.specs.MapsLaws.{EndGathered}
 use Rattle.eof_laws.specs.posix_spec.Run.{Unfinished}
@@ -215,7 +216,7 @@ module _ (turning : StandsHome) (holding : LinesHoldOut) (cutting : KeepsGathere
   pub promise_cut : KeepsPromise w.geometry m.cells w.start w.history (calls_out w)
   promise_cut =
       subst (λ (calls : List Unfinished). KeepsPromise w.geometry m.cells w.start w.history calls) (sym none_begun)
-      (cutting w.geometry l m t (kept_of w staging files) then table (length w.history) w.start w.history ending.world.mode before (few_nodes turning holding k l t staging files w lines ending)
+      (cutting w.geometry l m t (kept_of w staging files) then table (length w.history) w.start w.history (not_posix w.start.mode ending.world.mode) before (few_nodes turning holding k l t staging files w lines ending)
       (small_enough turning holding k l t staging files w lines ending) (next_lap turning holding k l t staging files w lines ending) cut)
 
   empty : length w.home ≡ 0
@@ -250,18 +251,8 @@ module _ (crashed : KeepsCrashed) (k : View) (t : Tables) (staging : Staged) (fi
   gone : IsLostOut staging files w
   gone = subst (IsLost staging files w) holds.are.out (world.gone off)
 
-  hold : HoldClaims gone.volume (first_by w.geometry w.first) w.claims lines
-  hold = lines_hold gone.volume w lines gone.geometry gone.base holds
-
-  crash_lines : AreCrashLines gone.volume (first_by w.geometry w.first) w.claims [] [] lines
-  crash_lines = record {
-    are = hold.are;
-    claimed = hold.claimed;
-    of_jobs = λ n d at. absurd at;
-    one_each = λ m n d at other. absurd at;
-    entries = λ n d at. absurd at;
-    others = λ n below unclaimed untaken. hold.others n below unclaimed;
-  }
+  crash_lines : AreCrashLines gone.volume.geometry gone.volume.base (first_by w.geometry w.first) w.claims [] [] lines
+  crash_lines = lines_hold gone.volume w lines gone.geometry gone.base holds
 
   lent : (i : ℕ) → IsInLines (log_line w.geometry 0) (length lines) i → is_lent (cell w.disk.cells i) ≡ true
   lent i at =
@@ -276,7 +267,7 @@ module _ (crashed : KeepsCrashed) (k : View) (t : Tables) (staging : Staged) (fi
   kept_home : (e : List Cell) → ComesHomeTo (lost_round w w.acts w.disk lines) e → AllHome e × KeepsPromise w.geometry e w.start w.history (calls_out w)
   kept_home e comes =
       subst (λ (g : Geometry). AllHome e × KeepsPromise g e w.start w.history (calls_out w)) gone.geometry
-      (crashed gone.volume w.disk.cells w.disk.cells e (kept_of w staging files) w.start w.history (calls_out w) [] [] [] lines gone.at
+      (crashed gone.volume w.disk.cells w.disk.cells e (kept_of w staging files) w.start w.history w.unfinished [] [] [] lines gone.at
       (record {
         all = λ p at. absurd (subst (In p) none_out at);
         lent = λ loan i at. absurd at;

@@ -29,7 +29,7 @@ use Rattle.world_view_laws.specs.write_end.Ends.{begun_by}
 use Rattle.world_view_laws.specs.Rounds.{IsLeft}
 use Rattle.world_view_laws.specs.in_flight.Counts.{history_within}
 use Rattle.world_view_laws.specs.Views.{calls_out, first_by, WorldView}
-use Rattle.round_laws.proofs.EndsLines.{each_claimed, each_other}
+use Rattle.round_laws.proofs.EndsLines.{lines_of_round}
 use Rattle.round_laws.proofs.Rounds.{home_behind, home_cut, promise_cut, size_behind, size_cut, stands_behind}
 use Rattle.round_laws.specs.EndsLaws.{EndsRunEmpty, EndsRunWhole, IsEnding, LosesRun, MayCrashWhole}
 
@@ -95,17 +95,7 @@ may_crash_whole w lines none_out holds = record {
     one_each = λ m n d before below. absurd (omega (arith, below));
     all = λ p at. absurd (subst (In p) none_out at);
   };
-  lines_are = λ out. (
-    [],
-    record {
-      are = holds.are;
-      claimed = each_claimed w lines holds;
-      of_jobs = λ n d at. absurd at;
-      one_each = λ m n d at other. absurd at;
-      entries = λ n d at. absurd at;
-      others = λ n below unclaimed untaken. each_other w lines holds n below unclaimed;
-    },
-  );
+  lines_are = λ out. ([], lines_of_round w lines holds);
   none = λ home. absurd (both w.lines_out holds.are.out home);
 } where
   both : (b : Bool) → b ≡ true → b ≡ false → ⊥

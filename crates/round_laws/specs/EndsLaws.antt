@@ -75,7 +75,7 @@ pub record ReadyToGather (files : Files) (l : View) : Type 0 where
   pub may : MayGather files l
   pub single : AllStagedSingle l
   pub next : HasNextLap l
-  pub few : total_runs files + file_count l.volume ≤ 2043
+  pub few : total_runs files + file_count l.volume ≤ 1275
 
 abbrev pub EndsReady : Type 0
 EndsReady =

@@ -454,13 +454,10 @@ module _ (who : Who) (w middle new : WorldView) (log : RoundView) (before betwee
   at-5 : WorldView → List JobOut → WorldView
   at-5 m ps = record m { pending = ps; over = Some (over_by m.over full); given_up = m.given_up + 1; disk = new.disk }
 
-  awake : middle.lost ≡ false
-  awake = ap (λ (x : WorldView). x.lost) has.begun.1.begins.new_is ∙ s-5.awake
-
   new_is-5 : new ≡ z-5
   unfolding at-5
   new_is-5 =
-      ends.going awake ∙ (λ i. at-5 (has.begun.1.begins.new_is i) (without q-5.who (has.begun.1.begins.new_is i).pending))
+      ends.new_is ∙ (λ i. at-5 (has.begun.1.begins.new_is i) (without q-5.who (has.begun.1.begins.new_is i).pending))
       ∙ (λ i. at-5 u-5 (none_left q-5 u-5.pending (pending_is who w middle log before has.begun.0 job has.begun.1) i))
 
   -- all lines were claimed, and so something was

@@ -104,7 +104,7 @@ none_in n at = absurd (omega (arith, at.1))
 
 pub crash_lines : (w : WorldView) (log : RoundView) → IsLogOf w log [] → AreCrashLines w [] [] log.lines
 crash_lines w log is = record {
-  are = log_lines w log [] is;
+  are = record { count = log_count w log [] is; places = (log_lines w log [] is).places };
   claimed = log_claimed w log [] is;
   of_jobs = λ n d at. absurd at;
   one_each = λ m n d at other. absurd at;
@@ -116,7 +116,7 @@ crash_lines w log is = record {
 pub crash_lines_with : (w : WorldView) (log : RoundView) (slot : ℕ) (filled : FilledView) → IsLogOf w log (slot ∷ []) → slot < length log.lines
     → IsJobLine (line_at log.lines slot).cells (first_of w slot) filled.draft (w.base + slot) → AreCrashLines w (filled ∷ []) ((slot, filled.draft) ∷ []) log.lines
 crash_lines_with w log slot filled is below line = record {
-  are = log_lines w log (slot ∷ []) is;
+  are = record { count = log_count w log (slot ∷ []) is; places = (log_lines w log (slot ∷ []) is).places };
   claimed = log_claimed w log (slot ∷ []) is;
   of_jobs = λ n d at. elim at [
     | inl same ↦ (filled, inl refl, ap (λ (c : ℕ × Draft). c.1) same)

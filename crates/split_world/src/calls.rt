@@ -87,7 +87,7 @@ impl World {
     }
 
     /// Gives a job up whose claim found no line left: its call is back at its start, and the round is over, with what
-    /// ended it first. It takes no memory and no step. Once the power went the call stays unfinished.
+    /// ended it first, also once the power went. It takes no memory and no step.
     pub fn give_up(&mut self, job: FilledJob, full: Full)
         requires usable { self.old.usable ≡ true }
         requires out { self.old.lines_out ≡ true }

@@ -1,6 +1,6 @@
 -- The images of a device whose log lines and data blocks are out: those that a power loss may leave once each of them is put
--- back as it was at that moment.
-use Rattle.std.specs.Prelude.{ℕ, List, Option}
+-- back as it was at that moment; and the promise for all of them.
+use Rattle.std.specs.Prelude.{ℕ, List, [], ◌∷◌, ◌++◌, map, Option, None, Some}
 use Rattle.image_laws.specs.pm_model.declared.Cell.{Cell}
 use Rattle.image_laws.specs.pm_model.Parts.{IsImageWith, put_back}
 use Rattle.image_laws.specs.pm_model.Words.{Words}
@@ -8,9 +8,13 @@ use Rattle.image_laws.specs.layout_model.Journal.{journaled}
 use Rattle.image_laws.specs.layout_model.declared.lines.Draft.{Draft}
 use Rattle.image_laws.specs.image_model.Honest.{IsHonestWith}
 use Rattle.image_laws.specs.image_model.Volume.{Volume}
-use Rattle.world_step_laws.specs.world_model.Jobs.{Job}
+use Rattle.world_step_laws.specs.commute_laws.posix_types.declared.item.Item.{Item}
+use Rattle.world_step_laws.specs.commute_laws.posix_spec.Run.{Unfinished}
+use Rattle.world_step_laws.specs.commute_laws.posix_spec.State.{State}
+use Rattle.world_step_laws.specs.world_model.Jobs.{unfinished_call, Job}
 use Rattle.world_step_laws.specs.world_model.Shown.{AreFilled}
 use Rattle.world_step_laws.specs.world_model.Lines.{AreLinesOut}
+use Rattle.world_image_laws.specs.Promised.{IsKept}
 
 -- The cells that are put back are `back`. The lines hold the claims, and the entries of filled jobs as far as they came, over
 -- the words that they had when the lap began (`first`); `slots` says of each job which line it claimed, if it is filled and
@@ -21,3 +25,20 @@ pub record IsPutBack (v : Volume) (d : List Cell) (back : ℕ → Cell) (first :
   pub image_is : IsImageWith d back image
   pub honest : IsHonestWith v.geometry d back image
   pub filled : AreFilled v (journaled image) jobs slots
+
+-- The jobs whose entry may stand in the log: those that have a slot, in their order; and their calls.
+abbrev pub jobs_in_log : List (Option ℕ) → List Job → List Job
+jobs_in_log [] jobs = []
+jobs_in_log (o ∷ slots) [] = []
+jobs_in_log (None ∷ slots) (j ∷ jobs) = jobs_in_log slots jobs
+jobs_in_log (Some slot ∷ slots) (j ∷ jobs) = j ∷ jobs_in_log slots jobs
+
+abbrev pub calls_in_log : List (Option ℕ) → List Job → List Unfinished
+calls_in_log slots jobs = map unfinished_call (jobs_in_log slots jobs)
+
+-- THE PROMISE ONCE ALL IS PUT BACK, after the history: each such image is kept with the calls of just those jobs unfinished whose
+-- entry may stand in the log, and behind them the last ones.
+abbrev pub IsKeptBack : Volume → List Cell → Words → List (ℕ × Draft) → List Job → State → List Item → List Unfinished → Type 0
+IsKeptBack v d first claims jobs start history last =
+    (back : ℕ → Cell) (slots : List (Option ℕ)) (image : Words) → IsPutBack v d back first claims jobs slots image
+    → IsKept v.geometry start history (calls_in_log slots jobs ++ last) image

@@ -15,6 +15,8 @@ pub mod Settings
 pub mod Starts
 pub mod Unseen
 pub mod Back
+pub mod InLog
+pub mod PartOrders
 pub mod Flights
 pub mod LentLaws
 pub use Rattle.image_laws.specs.block_counts

@@ -4,9 +4,9 @@
 //! their words. What is promised is said of the images of the device with each of them put back as it was when
 //! the power went (`IsPutBack`): claimed lines whole, those of filled jobs as far as they came, and an image
 //! that is honest. The layer above may rely on this: each such image is checked, has a tree, and only trees that
-//! the mode permits with the calls of the jobs unfinished, in any of which the writes in flight are found or
-//! not; one more call that lost its power before it changed anything may be the last of them; and in strict mode
-//! so may a call of another caller whose change was on the way.
+//! the mode permits with the calls of just those jobs unfinished whose entry may stand in the log (`IsKeptBack`), in
+//! any of which the writes in flight are found or not; one more call that lost its power before it changed anything
+//! may be the last of them, and so may a call of another caller whose change was on the way.
 //!
 //! Lemmas alone.
 

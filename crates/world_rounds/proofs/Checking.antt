@@ -28,7 +28,7 @@ use Rattle.world_parts.specs.Seen.{IsKept, seen}
 pub steps_within : (m n : ℕ) (old new : Supply) → m ≤ n → Steps m old new → Steps n old new
 steps_within m n old new few steps = record { given = steps.given; on_before = steps.on_before; later = steps.later; bound = omega (arith, steps.bound, few) }
 
-pub gather_steps : (runs files : ℕ) (old new : Supply) → runs + files ≤ 2043 → Steps (2 ^ 15 * (runs + files + 5)) old new → Steps (2 ^ 26) old new
+pub gather_steps : (runs files : ℕ) (old new : Supply) → runs + files ≤ 1275 → Steps (2 ^ 15 * (runs + files + 5)) old new → Steps (2 ^ 26) old new
 gather_steps runs files old new few steps = steps_within (2 ^ 15 * (runs + files + 5)) (2 ^ 26) old new (omega (arith, few)) steps
 
 -- ---- the lines come home

@@ -105,8 +105,7 @@ module _ (p : Parts) (kept : IsKept p) (awake : p.lost ≡ false) (out : p.lines
 
     pub given_so : GivesUp full q (seen p) (seen given_parts)
     given_so = record {
-      going = λ on. sym view_is;
-      gone = λ off. no_both p.lost off awake _;
+      new_is = sym view_is;
       disk = λ on. ap (λ (x : View). disk_of x p.files.tables staging) k_is;
       back = home_now;
       homes = homes_on p.k p.files.tables p.staging p.data (seen p) kept.world awake out q job is_out (seen given_parts);

@@ -1,5 +1,5 @@
 -- The parts of a World lose their power, and jobs end after it.
-use Rattle.std.specs.Prelude.{◌≡◌, ◌≤◌, ◌<◌, ◌+◌, ◌*◌, ◌/◌, ◌%◌, ◌++◌, ℕ, zero, suc, Bool, true, false, cond, List, [], ◌∷◌, count_by, length, slice_index, vec_len, refl}
+use Rattle.std.specs.Prelude.{◌≡◌, ◌≤◌, ◌<◌, ◌+◌, ◌*◌, ◌/◌, ◌%◌, ◌++◌, ℕ, zero, suc, Bool, true, false, not, cond, AllPairs, List, [], ◌∷◌, count_by, filter, length, slice_index, Some, vec_len, refl}
 use Rattle.std.specs.Vec.{vec_capacity}
 use Rattle.std.proofs.Common.{Global, Vec, arith, ap, ◌∙◌, sym, subst, inl, inr, length-append}
 use Rattle.std.proofs.lemmas.List.Sums.{sum_by-cons}
@@ -12,7 +12,10 @@ use Rattle.world_parts.specs.layout_model.declared.lines.Draft.{Draft}
 use Rattle.world_parts.specs.k_split_model.View.{View}
 use Rattle.world_parts.specs.list_laws.Members.{In}
 use Rattle.world_parts.specs.world_view_laws.oplog_entry.declared.claims.Full.{Full}
-use Rattle.world_parts.specs.in_flight.live_model.Standing.{JobOut}
+use Rattle.posix_types.specs.declared.call.Who.{Who}
+use Rattle.posix_tables.specs.Open.{same_who}
+use Rattle.world_parts.specs.in_flight.live_model.Jobs.{without}
+use Rattle.world_parts.specs.in_flight.live_model.Standing.{AreOfTwoThreads, JobOut}
 use Rattle.world_parts.specs.write_jobs.Jobs.{FilledView, HoldWords, loan_at}
 use Rattle.world_parts.specs.world_view_laws.write_jobs.Loans.{AreApart, ComeBack}
 use Rattle.world_parts.specs.world_view_laws.write_end.Blocks.{AreBlocksHome}
@@ -20,10 +23,11 @@ use Rattle.world_parts.proofs.world_view_laws_proofs.write_end_proofs.Apart.{has
 use Rattle.world_parts.proofs.world_view_laws_proofs.write_end_proofs.Jobs.{block_of, its_job, some_blocks, stood}
 use Rattle.world_parts.proofs.world_view_laws_proofs.Crashing.{place_in}
 use Rattle.world_parts.proofs.world_view_laws_proofs.Ending.{no_both}
-use Rattle.world_parts.proofs.world_view_laws_proofs.Losing.{blocks_home, finished_lost, given_lost, homes_stay, others_finished, others_given}
+use Rattle.world_parts.proofs.world_view_laws_proofs.Losing.{blocks_home, finished_lost, given_lost, given_view, homes_stay, one_less, others_finished, others_given}
 use Rattle.world_parts.specs.world_view_laws.Begins.{IsFilledOut, OthersStay}
-use Rattle.world_parts.specs.world_view_laws.Jobs.{GivesUp, LosesFinish}
-use Rattle.world_parts.specs.world_view_laws.Views.{calls_out, disk_of, IsLost, IsLostOut, IsWorldOver, kept_of, WorldView}
+use Rattle.world_parts.specs.world_view_laws.declared.views.over.Over.{Over}
+use Rattle.world_parts.specs.world_view_laws.Jobs.{GivesUp, LosesFinish, over_by}
+use Rattle.world_parts.specs.world_view_laws.Views.{disk_of, IsLost, IsLostOut, IsWorldOver, kept_of, WorldView}
 use Rattle.world_parts.specs.declared.parts.Parts.{Parts}
 use Rattle.world_parts.specs.Seen.{blocks_out, IsKept, seen}
 
@@ -52,6 +56,14 @@ module _ {X : Type 0} (f g : X → Bool) where
       let rest = fewer xs (λ y there. passes y (inr there)) q at was now in
       let own = no_more (x ∷ []) (λ y there. elim there [ inl same ↦ passes y (inl same) | inr never ↦ absurd never ]) in
       omega (arith, rest, own, sum_by-cons (λ y. cond (g y) 1 0) x xs, sum_by-cons (λ y. cond (f y) 1 0) x xs, sum_by-cons (λ y. cond (g y) 1 0) x [], sum_by-cons (λ y. cond (f y) 1 0) x [])
+
+-- of those that are left no more pass
+pub no_more_left : {X : Type 0} (f keep : X → Bool) (xs : List X) → count_by f (filter keep xs) ≤ count_by f xs
+no_more_left f keep [] = omega arith
+no_more_left f keep (x ∷ xs) = by (keep x) (no_more_left f keep xs) where
+  by : (b : Bool) → count_by f (filter keep xs) ≤ count_by f xs → count_by f (cond b (x ∷ filter keep xs) (filter keep xs)) ≤ count_by f (x ∷ xs)
+  by true rest = omega (arith, rest, sum_by-cons (λ y. cond (f y) 1 0) x (filter keep xs), sum_by-cons (λ y. cond (f y) 1 0) x xs)
+  by false rest = omega (arith, rest, sum_by-cons (λ y. cond (f y) 1 0) x xs)
 
 -- ---- words that come back
 
@@ -82,7 +94,10 @@ module _ (p : Parts) (kept : IsKept p) (off : p.lost ≡ true) (out : p.lines_ou
       is_out.lent i (subst (λ b. In b q.blocks) (sym place) (subst (In (loan_at job.loans n).place) is_out.blocks (place_in job.loans (loan_at job.loans n) (loan_in job.loans n below))))
 
   pub loans_apart_now : AreApart job.loans
-  loans_apart_now = (has_loans_apart gone.volume p.k.cells (kept_of (seen p) p.staging p.data) (seen p).start p.history.items (calls_out (seen p)) q job.loans gone.at is_out.there is_out.blocks).0
+  loans_apart_now = (has_loans_apart gone.volume p.k.cells (kept_of (seen p) p.staging p.data) (seen p).start p.history.items (seen p).unfinished q job.loans gone.at is_out.there is_out.blocks).0
+
+  pub callers_now : AllPairs AreOfTwoThreads p.pending.items
+  callers_now = gone.at.callers
 
   -- its first block
   abbrev first : ℕ
@@ -90,8 +105,8 @@ module _ (p : Parts) (kept : IsKept p) (off : p.lost ≡ true) (out : p.lines_ou
 
   first_there : In (512 * first / 512) q.blocks
   first_there =
-      let its = its_job gone.volume p.k.cells (kept_of (seen p) p.staging p.data) (seen p).start p.history.items (calls_out (seen p)) gone.at q is_out.there in
-      let stands = stood gone.volume p.k.cells (kept_of (seen p) p.staging p.data) (seen p).start p.history.items (calls_out (seen p)) gone.at its.job its.there in
+      let its = its_job gone.volume p.k.cells (kept_of (seen p) p.staging p.data) (seen p).start p.history.items (seen p).unfinished gone.at q is_out.there in
+      let stands = stood gone.volume p.k.cells (kept_of (seen p) p.staging p.data) (seen p).start p.history.items (seen p).unfinished gone.at its.job its.there in
       let some : 0 < q.draft.count = subst (λ (d : Draft). 0 < d.count) its.draft (some_blocks its.job.draft stands.draft) in
       let blocks = gone.at.blocks q is_out.there in
       subst (λ b. In b q.blocks) (omega arith) (block_of gone.volume q first blocks (0, some, blocks.each 0 some))
@@ -149,28 +164,45 @@ module _ (p : Parts) (kept : IsKept p) (off : p.lost ≡ true) (out : p.lines_ou
       }
 
     -- or it was given up
-    pub give_kept : IsKept (record p { k = l })
-    give_kept = record {
-      world = given_lost p.k l p.files.tables p.staging p.data (seen p) kept.world off out q job is_out holds back;
-      counts = kept.counts;
-      room = record {
-        items = λ on. no_both p.lost off on _;
-        claims_on = λ on. no_both p.lost off on _;
-        claims_off = λ lost lines. omega (arith, kept.room.claims_off off out, one_fewer);
-        empty = kept.room.empty;
-        calls = kept.room.calls;
-      };
-    }
+    module _ (full : Full) (over : Over) (over_is : over ≡ over_by p.over full) (pending : Vec JobOut Global) (left : pending.items ≡ without job.who p.pending.items) where
+      abbrev pub given_parts : Parts
+      given_parts = record p { k = l; pending = pending; over = Some over; given_up = p.given_up + 1 }
 
-    pub give_so : (full : Full) → GivesUp full q (seen p) (seen (record p { k = l }))
-    give_so full = record {
-      going = λ on. no_both p.lost off on _;
-      gone = λ lost. refl;
-      disk = λ on. no_both p.lost off on _;
-      back = home_now;
-      homes = homes_stay p.k l p.files.tables p.staging p.data (seen p) kept.world off out q job is_out holds back;
-      stay = others_given p.k l p.files.tables p.staging p.data (seen p) kept.world off out q job is_out holds back;
-    }
+      pending_is : without q.who p.pending.items ≡ pending.items
+      pending_is = ap (λ (w : Who). without w p.pending.items) (sym is_out.who) ∙ sym left
+
+      given_view_is : given_view p.k l p.files.tables p.staging p.data (seen p) kept.world off out q job is_out holds back full ≡ seen given_parts
+      given_view_is = λ i. record (seen given_parts) { pending = pending_is i; over = Some (sym over_is i) }
+
+      one_gone : length pending.items + 1 ≡ length p.pending.items
+      one_gone = ap (λ (xs : List JobOut). length xs + 1) (sym pending_is) ∙ one_less p.k l p.files.tables p.staging p.data (seen p) kept.world off out q job is_out holds back
+
+      fewer_out : blocks_out l.cells pending.items ≤ blocks_out l.cells p.pending.items
+      fewer_out =
+          subst (λ (xs : List JobOut). blocks_out l.cells xs ≤ blocks_out l.cells p.pending.items) pending_is
+          (no_more_left (λ (x : JobOut). is_lent (cell l.cells (512 * slice_index x.blocks 0))) (λ (x : JobOut). not (same_who x.who q.who)) p.pending.items)
+
+      pub give_kept : IsKept given_parts
+      give_kept = record {
+        world = subst (IsWorldOver l p.files.tables p.staging p.data) given_view_is (given_lost p.k l p.files.tables p.staging p.data (seen p) kept.world off out q job is_out holds back full);
+        counts = kept.counts;
+        room = record {
+          items = λ on. no_both p.lost off on _;
+          claims_on = λ on. no_both p.lost off on _;
+          claims_off = λ lost lines. omega (arith, kept.room.claims_off off out, one_fewer, fewer_out);
+          empty = kept.room.empty;
+          calls = omega (arith, kept.room.calls, one_gone);
+        };
+      }
+
+      pub give_so : GivesUp full q (seen p) (seen given_parts)
+      give_so = record {
+        new_is = sym given_view_is;
+        disk = λ on. no_both p.lost off on _;
+        back = home_now;
+        homes = homes_stay p.k l p.files.tables p.staging p.data (seen p) kept.world off out q job is_out holds back;
+        stay = subst (λ (v : WorldView). OthersStay (seen p) v q.who) given_view_is (others_given p.k l p.files.tables p.staging p.data (seen p) kept.world off out q job is_out holds back full);
+      }
 
 -- the power went just before
 module _ (p : Parts) (awake : p.lost ≡ false) (slot : ℕ) (q : JobOut) (job : FilledView) where

@@ -7,7 +7,6 @@ use Rattle.world_parts.specs.pm_model.Cells.{cell, is_lent}
 use Rattle.world_parts.specs.pm_model.Parts.{ComesBack, Part}
 use Rattle.world_parts.specs.block_io.Overwrites.{IsInLines}
 use Rattle.world_parts.specs.layout_model.Places.{log_line}
-use Rattle.world_parts.specs.layout_model.declared.lines.Draft.{Draft}
 use Rattle.world_parts.specs.block_io.Lines.{AreFrom, LinesComeBack}
 use Rattle.world_parts.specs.list_laws.Members.{In, pushed-In}
 use Rattle.world_parts.specs.write_jobs.Jobs.{FilledView, HoldWords, JobView}
@@ -19,7 +18,6 @@ use Rattle.world_parts.proofs.world_view_laws_proofs.Leaving.{crash_left, handed
 use Rattle.world_parts.specs.world_view_laws.Losses.{MayCrash}
 use Rattle.world_parts.specs.world_view_laws.Rounds.{IsLeft}
 use Rattle.world_parts.specs.world_view_laws.Begins.{IsFilledOut, IsJobOut}
-use Rattle.world_parts.specs.world_view_laws.Lines.{AreCrashLines}
 use Rattle.world_parts.specs.world_view_laws.Views.{calls_out, WorldView}
 use Rattle.world_parts.specs.in_flight.live_model.Standing.{JobOut}
 use Rattle.posix_types.specs.declared.item.Item.{Item}
@@ -177,16 +175,6 @@ module _ (w : WorldView) (lines : List Part) (out : List JobView) (filled : List
   filled_lost : (p : JobOut) (job : FilledView) → IsFilledOut w p job → IsFilledOut lost p job
   filled_lost p job is = record { there = is.there; who = is.who; draft = is.draft; blocks = is.blocks; words = is.words; lent = is.lent }
 
-  lines_lost : (taken : List (ℕ × Draft)) → AreCrashLines w filled taken lines → AreCrashLines lost filled taken lines
-  lines_lost taken is = record {
-    are = record { out = is.are.out; count = is.are.count; places = is.are.places };
-    claimed = is.claimed;
-    of_jobs = is.of_jobs;
-    one_each = is.one_each;
-    entries = is.entries;
-    others = is.others;
-  }
-
   pub may_lost : MayCrash w lines out filled → MayCrash lost lines out filled
   may_lost may = record {
     jobs = record {
@@ -198,7 +186,7 @@ module _ (w : WorldView) (lines : List Part) (out : List JobView) (filled : List
         | inr here ↦ inr (elim here [ inl one ↦ inl (one.0, one.1, job_lost p one.0 one.2) | inr two ↦ inr (two.0, two.1, filled_lost p two.0 two.2) ])
       ];
     };
-    lines_are = λ is_out. (let is = may.lines_are is_out in (is.0, lines_lost is.0 is.1));
+    lines_are = may.lines_are;
     none = may.none;
   }
 

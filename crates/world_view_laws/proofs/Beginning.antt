@@ -1,8 +1,6 @@
 -- A call of a World begins.
-use Rattle.std.specs.Prelude.{◌≡◌, ◌≤◌, ◌+◌, ◌++◌, ℕ, true, false, List, [], ◌∷◌, length, map, Option, Some, None, refl}
+use Rattle.std.specs.Prelude.{◌≡◌, ◌≤◌, ◌+◌, ◌++◌, ℕ, true, false, List, [], ◌∷◌, length, Some, None, refl}
 use Rattle.std.proofs.Common.{arith, ap, ◌∙◌, sym, subst, inl, inr, length-append}
-use Rattle.eof_laws.specs.pm_model.declared.Cell.{Cell}
-use Rattle.eof_laws.specs.pm_model.Words.{Words}
 use Rattle.file_calls.specs.eof_laws.Ends.{DraftEnds, FilesEnd}
 use Rattle.in_flight.specs.file_table.Files.{Files}
 use Rattle.in_flight.specs.k_split_model.View.{View}
@@ -11,7 +9,7 @@ use Rattle.file_calls.specs.k_split_laws.Left.{IsLeftOf}
 use Rattle.eof_laws.specs.posix_types.declared.call.Call.{Call}
 use Rattle.eof_laws.specs.posix_types.declared.call.Who.{Who}
 use Rattle.eof_laws.specs.posix_tables.Open.{Tables}
-use Rattle.in_flight.specs.posix_spec.Run.{after_call, Unfinished}
+use Rattle.in_flight.specs.posix_spec.Run.{after_call}
 use Rattle.in_flight.specs.posix_spec.Scripted.{IsSetUp}
 use Rattle.in_flight.specs.posix_spec.State.{State}
 use Rattle.in_flight.specs.posix_spec.Step.{step}
@@ -19,13 +17,11 @@ use Rattle.in_flight.specs.commute_laws.Frames.{AreThreads}
 use Rattle.in_flight.specs.crash_spec.Busy.{is_busy}
 use Rattle.in_flight.specs.Histories.{are_threads, Grows, grows, next_stays, set_up_stays}
 use Rattle.in_flight.specs.staging_files.Keeps.{Staged}
-use Rattle.in_flight.specs.world_image_laws.Promised.{IsKept}
-use Rattle.file_publish.specs.world_image_laws.Back.{IsPutBack}
-use Rattle.in_flight.specs.world_model.Jobs.{unfinished_call, Job}
-use Rattle.in_flight.specs.live_model.Standing.{AreJobsOf, JobOut, StandsAt}
+use Rattle.in_flight.specs.live_model.Losses.{KeepsWhenLost}
+use Rattle.in_flight.specs.world_image_laws.InLog.{not_posix}
+use Rattle.in_flight.specs.live_model.Standing.{JobOut, StandsAt}
 use Rattle.in_flight.specs.live_model.Jobs.{SpellCall}
 use Rattle.in_flight.specs.world_step_laws.Steps.{LetsJobsBe}
-use Rattle.write_end.specs.Ends.{begun_by}
 use Rattle.write_end.specs.Blocks.{AreBlocksOut}
 use Rattle.write_end.proofs.Going.{loses_call, lost_alike}
 use Rattle.write_end.proofs.Homes.{has_blocks_out, leaves_blocks}
@@ -34,14 +30,7 @@ use Rattle.in_flight.proofs.Taking.{other_who}
 use Rattle.world_view_laws.proofs.Ending.{no_both}
 use Rattle.world_view_laws.proofs.Losing.{lost_view, size_now, world_lost}
 use Rattle.world_view_laws.specs.Begins.{item_of, OthersStay}
-use Rattle.world_view_laws.specs.Views.{Disk, disk_of, files_out, first_by, HasNone, IsGoing, IsLost, IsLostOut, IsWorldOver, kept_of, next_of, state_of, WorldView}
-
--- the calls of the jobs
-calls_are : (pending : List JobOut) (jobs : List Job) → AreJobsOf pending jobs → map unfinished_call jobs ≡ map begun_by pending
-calls_are [] [] are = refl
-calls_are [] (j ∷ jobs) are = absurd are
-calls_are (p ∷ pending) [] are = absurd are
-calls_are (p ∷ pending) (j ∷ jobs) are = λ i. (are.0 i, are.1 i) ∷ calls_are pending jobs are.3 i
+use Rattle.world_view_laws.specs.Views.{Disk, disk_of, files_out, HasNone, IsGoing, IsLost, IsLostOut, IsWorldOver, kept_of, next_of, state_of, WorldView}
 
 module _ (k : View) (t : Tables) (staging : Staged) (files : Files) (w : WorldView) (world : IsWorldOver k t staging files w) (on : w.lost ≡ false) (out : w.lines_out ≡ true)
     (who : Who) (call : Call) (next : next_of w who ≡ Some call) (up : IsSetUp w.scripts w.history who) (none : HasNone w who) where
@@ -206,10 +195,7 @@ module _ (k : View) (t : Tables) (staging : Staged) (files : Files) (w : WorldVi
   -- ---- it lost its power
 
   module _ (l : View) (u : Tables) (staged : Staged) (laid : Files) (left : IsLeftOf w.geometry k.cells l.cells)
-      (promise : (back : ℕ → Cell) (slots : List (Option ℕ)) (image : Words) → IsPutBack k.volume l.cells back (first_by w.geometry w.first) w.claims standing.jobs slots image → IsKept w.geometry w.start w.history (map unfinished_call standing.jobs ++ (who, call) ∷ []) image) where
-    unfinished_are : map unfinished_call standing.jobs ++ (who, call) ∷ [] ≡ map begun_by w.pending ++ (who, call) ∷ []
-    unfinished_are = ap (λ (calls : List Unfinished). calls ++ (who, call) ∷ []) (calls_are w.pending standing.jobs standing.jobs_are)
-
+      (promise : KeepsWhenLost k.volume l.cells (kept_of w staging files) standing.jobs w.start w.history ((who, call) ∷ [])) where
     lost_out : IsLostOut staged laid (lost_view w ((who, call) ∷ []) (w.acts + 1) (disk_of l u staged))
     lost_out = record {
       volume = k.volume;
@@ -217,9 +203,8 @@ module _ (k : View) (t : Tables) (staging : Staged) (files : Files) (w : WorldVi
       base = sym going.base;
       none_home = going.none_home;
       size = left.size ∙ size_now k t staging files w world on;
-      at = lost_alike k.volume l.cells (kept_of w staging files) (kept_of w staged laid) w.start w.history (map begun_by w.pending ++ (who, call) ∷ []) refl refl refl
-          (loses_call w.geometry k t (kept_of w staging files) (length w.history) w.start w.history (map begun_by w.pending ++ (who, call) ∷ []) l.cells standing going.spelled left
-          (λ back slots image is. subst (λ (calls : List Unfinished). IsKept w.geometry w.start w.history calls image) unfinished_are (promise back slots image is)));
+      at = lost_alike k.volume l.cells (kept_of w staging files) (kept_of w staged laid) w.start w.history ((who, call) ∷ []) refl refl refl
+          (loses_call w.geometry k t (kept_of w staging files) (length w.history) w.start w.history ((who, call) ∷ []) l.cells (not_posix w.start.mode world.mode) standing going.spelled left promise);
     }
 
     -- IT LOST ITS POWER.

@@ -1,19 +1,16 @@
 -- A crash: all that is out comes back, and what is left of the run.
 use Rattle.std.specs.Prelude.{◌≡◌, ◌⊎◌, ◌≤◌, ◌<◌, ◌+◌, ◌*◌, ◌/◌, ℕ, true, false, List, [], ◌∷◌, length, refl}
 use Rattle.std.proofs.Common.{ap, ◌∙◌, sym, subst, inl, inr}
-use Rattle.std.proofs.Math.Path.{fun_ext}
 use Rattle.eof_laws.specs.pm_model.declared.Cell.{Cell}
 use Rattle.eof_laws.specs.pm_model.Cells.{AllHome, cell, is_lent}
 use Rattle.eof_laws.specs.pm_model.Parts.{Part}
-use Rattle.eof_laws.specs.pm_model.Words.{Words}
 use Rattle.in_flight.specs.block_io.Overwrites.{IsInLines}
 use Rattle.eof_laws.specs.layout_model.declared.lines.Draft.{Draft}
 use Rattle.eof_laws.specs.layout_model.Places.{Geometry, log_line}
-use Rattle.in_flight.specs.image_model.LogRule.{HoldsEntry, IsAsAtFirst}
 use Rattle.in_flight.specs.image_model.Volume.{Volume}
 use Rattle.in_flight.specs.file_table.Files.{Files}
 use Rattle.in_flight.specs.k_split_model.View.{View}
-use Rattle.in_flight.specs.block_io.Lines.{AreFrom, line_at, LinesComeBack}
+use Rattle.in_flight.specs.block_io.Lines.{LinesComeBack}
 use Rattle.eof_laws.specs.list_laws.Members.{In}
 use Rattle.eof_laws.specs.posix_tables.Open.{Tables}
 use Rattle.in_flight.specs.Counts.{history_within}
@@ -28,7 +25,7 @@ use Rattle.write_end.proofs.Crashed.{keeps_crashed}
 use Rattle.world_view_laws.specs.Handed.{handed, loans_filled, loans_out}
 use Rattle.world_view_laws.proofs.Handing.{in_behind, in_either, in_front}
 use Rattle.world_view_laws.specs.Begins.{IsFilledOut, IsJobOut}
-use Rattle.world_view_laws.specs.Lines.{AreCrashLines, first_of}
+use Rattle.world_view_laws.specs.Lines.{AreCrashLines}
 use Rattle.world_view_laws.specs.Losses.{AreAllOut, MayCrash}
 use Rattle.world_view_laws.specs.Rounds.{IsLeft}
 use Rattle.world_view_laws.specs.Views.{calls_out, first_by, IsLost, IsLostHome, IsLostOut, IsWorldOver, kept_of, state_of, WorldView}
@@ -117,27 +114,10 @@ none_handed w out filled jobs none loan at = elim (in_either (loans_out out) (lo
 
 -- the lines of a crash, by the volume that stood before the loss
 crash_lines : (v : Volume) (w : WorldView) (filled : List FilledView) (taken : List (ℕ × Draft)) (lines : List Part) → v.geometry ≡ w.geometry → v.base ≡ w.base → AreCrashLines w filled taken lines
-    → crashed.AreCrashLines v (first_by w.geometry w.first) w.claims filled taken lines
-crash_lines v w filled taken lines geometry base is = record {
-  are = record {
-    count = is.are.count ∙ sym (ap (λ (g : Geometry). g.log) geometry);
-    places = subst (λ (g : Geometry). AreFrom (log_line g 0) lines) (sym geometry) is.are.places;
-  };
-  claimed = λ n d at. (let was = is.claimed n d at in (was.0, subst (λ b. HoldsEntry (line_at lines n).cells d (b + n)) (sym base) was.1));
-  of_jobs = is.of_jobs;
-  one_each = is.one_each;
-  entries = λ n d at. (
-      let was = is.entries n d at in (
-        was.0,
-        subst (λ b. crashed.IsJobLine (line_at lines n).cells (crashed.first_at v (first_by w.geometry w.first) n) d (b + n)) (sym base)
-            (subst (λ (f : Words). crashed.IsJobLine (line_at lines n).cells f d (w.base + n)) (firsts n) was.1),
-      ));
-  others = λ n below unclaimed untaken. subst (IsAsAtFirst (line_at lines n).cells) (firsts n) (is.others n below unclaimed untaken);
-} where
-  firsts : (n : ℕ) → first_of w n ≡ crashed.first_at v (first_by w.geometry w.first) n
-  firsts n = fun_ext (λ j. ap (first_by w.geometry w.first) (place n j)) where
-    place : (n j : ℕ) → 8 * log_line w.geometry n + j ≡ 8 * log_line v.geometry n + j
-    place n j = ap (λ (g : Geometry). 8 * log_line g n + j) (sym geometry)
+    → crashed.AreCrashLines v.geometry v.base (first_by w.geometry w.first) w.claims filled taken lines
+crash_lines v w filled taken lines geometry base is =
+    subst (λ (g : Geometry). crashed.AreCrashLines g v.base (first_by w.geometry w.first) w.claims filled taken lines) (sym geometry)
+    (subst (λ (b : ℕ). crashed.AreCrashLines w.geometry b (first_by w.geometry w.first) w.claims filled taken lines) (sym base) is)
 
 -- ---- what is left
 
@@ -161,7 +141,7 @@ module _ (k : View) (t : Tables) (staging : Staged) (files : Files) (w : WorldVi
   crashed_out lines_out back lines_home =
       left (size ∙ home.size ∙ gone.size)
       (subst (λ (g : Geometry). AllHome e × KeepsPromise g e w.start w.history (calls_out w)) gone.geometry
-      (keeps_crashed gone.volume w.disk.cells middle e (kept_of w staging files) w.start w.history (calls_out w) (handed out filled) filled (may.lines_are lines_out).0 lines gone.at
+      (keeps_crashed gone.volume w.disk.cells middle e (kept_of w staging files) w.start w.history w.unfinished (handed out filled) filled (may.lines_are lines_out).0 lines gone.at
       (handed_in w staging files out filled may.jobs holds)
       (crash_lines gone.volume w filled (may.lines_are lines_out).0 lines gone.geometry gone.base (may.lines_are lines_out).1) home
       (record {

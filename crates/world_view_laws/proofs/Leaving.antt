@@ -53,11 +53,11 @@ who_out job = job.who
 module _ (w : WorldView) (staging : Staged) (files : Files) (gone : IsLostOut staging files w) where
   own_each : (who : Who) (loans : List Part) → IsOwned w.pending who loans → AreOneEach loans
   own_each who loans own =
-      each_apart loans (has_loans_apart gone.volume w.disk.cells (kept_of w staging files) w.start w.history (calls_out w) own.p loans gone.at own.there own.blocks).0
+      each_apart loans (has_loans_apart gone.volume w.disk.cells (kept_of w staging files) w.start w.history w.unfinished own.p loans gone.at own.there own.blocks).0
 
   two_apart : (one two : Who) (xs ys : List Part) → IsOwned w.pending one xs → IsOwned w.pending two ys → one ≢ two → HaveOtherPlaces xs ys
   two_apart one two xs ys own other differ loan loan2 at there same =
-      (has_loans_apart gone.volume w.disk.cells (kept_of w staging files) w.start w.history (calls_out w) own.p xs gone.at own.there own.blocks).1
+      (has_loans_apart gone.volume w.disk.cells (kept_of w staging files) w.start w.history w.unfinished own.p xs gone.at own.there own.blocks).1
       other.p loan.place other.there (λ equal. differ (own.who_is ∙ (sym equal ∙ sym other.who_is)))
       (subst (In loan.place) own.blocks (place_in xs loan at))
       (subst (λ b. In b other.p.blocks) (sym same) (subst (In loan2.place) other.blocks (place_in ys loan2 there)))
@@ -120,10 +120,10 @@ module _ (w : WorldView) (staging : Staged) (files : Files) (gone : IsLostOut st
     owned_beside : (who : Who) (loans : List Part) (loan : Part) (i : ℕ) → IsOwned w.pending who loans → In loan loans → IsLogWord gone.volume i → i / 512 ≢ loan.place
     owned_beside who loans loan i own at log same =
         let v : Volume = gone.volume in
-        let its = its_job v w.disk.cells (kept_of w staging files) w.start w.history (calls_out w) gone.at own.p own.there in
+        let its = its_job v w.disk.cells (kept_of w staging files) w.start w.history w.unfinished gone.at own.p own.there in
         let staged = staged_of v own.p loan.place (gone.at.blocks own.p own.there) (subst (In loan.place) own.blocks (place_in loans loan at)) in
-        let kind = subst (λ (d : Draft). (inode v d.staging).kind ≡ Staging) its.draft (stood v w.disk.cells (kept_of w staging files) w.start w.history (calls_out w) gone.at its.job its.there).staging in
-        let in_data = in_data_block v (sane v w.disk.cells (kept_of w staging files) w.start w.history (calls_out w) gone.at) own.p.draft staged.0 loan.place kind staged.2 in
+        let kind = subst (λ (d : Draft). (inode v d.staging).kind ≡ Staging) its.draft (stood v w.disk.cells (kept_of w staging files) w.start w.history w.unfinished gone.at its.job its.there).staging in
+        let in_data = in_data_block v (sane v w.disk.cells (kept_of w staging files) w.start w.history w.unfinished gone.at) own.p.draft staged.0 loan.place kind staged.2 in
         data_beside v loan.place (i % 512) in_data (omega arith) (subst (IsLogWord v) (omega (arith, same)) log)
 
     loan_beside : (loan : Part) (i : ℕ) → In loan (handed out filled) → IsLogWord gone.volume i → i / 512 ≢ loan.place

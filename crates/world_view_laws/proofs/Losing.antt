@@ -1,8 +1,7 @@
 -- The power of a World goes.
-use Rattle.std.specs.Prelude.{◌≡◌, ◌≢◌, ◌≤◌, ◌+◌, ◌*◌, ◌/◌, ◌++◌, ℕ, Bool, true, false, List, [], ◌∷◌, length, map, refl}
-use Rattle.std.proofs.Common.{arith, ap, ◌∙◌, sym, subst}
+use Rattle.std.specs.Prelude.{◌≡◌, ◌≢◌, ◌≤◌, ◌+◌, ◌*◌, ◌/◌, ◌++◌, ℕ, Bool, true, false, List, [], ◌∷◌, length, map, Some, None, refl}
+use Rattle.std.proofs.Common.{arith, ap, ◌∙◌, sym, subst, inl, inr}
 use Rattle.std.proofs.Math.Path.{fun_ext}
-use Rattle.std.proofs.lemmas.List.{append-nil}
 use Rattle.eof_laws.specs.pm_model.declared.Cell.{Cell}
 use Rattle.eof_laws.specs.pm_model.Cells.{cell, is_lent, IsCandidate}
 use Rattle.eof_laws.specs.pm_model.Words.{Words}
@@ -17,19 +16,24 @@ use Rattle.eof_laws.specs.posix_tables.Open.{Tables}
 use Rattle.in_flight.specs.posix_spec.Run.{Unfinished}
 use Rattle.in_flight.specs.staging_files.Keeps.{Staged}
 use Rattle.in_flight.specs.world_image_laws.Promised.{IsKept}
+use Rattle.in_flight.specs.world_image_laws.InLog.{not_posix}
+use Rattle.in_flight.specs.live_model.Jobs.{without}
 use Rattle.in_flight.specs.live_model.Standing.{JobOut, StandsAt}
+use Rattle.write_end.specs.oplog_entry.declared.claims.Full.{Full}
 use Rattle.write_end.specs.Ends.{begun_by}
 use Rattle.in_flight.specs.write_jobs.Jobs.{FilledView, HoldWords}
 use Rattle.write_end.specs.write_jobs.Loans.{ComeBack}
 use Rattle.write_end.specs.Blocks.{AreBlocksHome, AreBlocksOut}
 use Rattle.write_end.specs.LosingLaws.{ComesHome}
 use Rattle.write_end.specs.Lost.{IsLostWith}
+use Rattle.world_view_laws.proofs.Ending.{stays_in, without_one}
 use Rattle.write_end.proofs.Crashed.{keeps_home}
 use Rattle.write_end.proofs.Ended.{comes_home_alone, finishes_lost, gives_up_lost}
 use Rattle.write_end.proofs.Going.{found_at_call, found_lost}
 use Rattle.world_view_laws.specs.Laws.{BothAreHome}
 use Rattle.world_view_laws.specs.Begins.{IsFilledOut, OthersStay}
-use Rattle.world_view_laws.specs.Views.{AreCounted, calls_out, Disk, disk_of, IsGoing, IsLost, IsLostHome, IsLostOut, IsWorldOver, kept_of, most_acts, state_of, WorldView}
+use Rattle.world_view_laws.specs.Jobs.{over_by}
+use Rattle.world_view_laws.specs.Views.{AreCounted, Disk, disk_of, IsGoing, IsLost, IsLostHome, IsLostOut, IsWorldOver, kept_of, most_acts, state_of, WorldView}
 
 -- ---- what a loss makes of the view
 
@@ -87,7 +91,7 @@ module _ (k : View) (t : Tables) (staging : Staged) (files : Files) (w : WorldVi
   stands_as lines out = subst (λ b. StandsAt w.geometry k t (kept_of w staging files) b (length w.history) (state_of w)) out going.stands
 
   -- with the log's lines out, and no call beside the jobs, or one
-  off_out : (unfinished : List Unfinished) (acts : ℕ) → IsLostWith k.volume k.cells (kept_of w staging files) w.start w.history (map begun_by w.pending ++ unfinished) → IsLostOut staging files (lost_view w unfinished acts (disk_of k t staging))
+  off_out : (unfinished : List Unfinished) (acts : ℕ) → IsLostWith k.volume k.cells (kept_of w staging files) w.start w.history unfinished → IsLostOut staging files (lost_view w unfinished acts (disk_of k t staging))
   off_out unfinished acts lost = record {
     volume = k.volume;
     geometry = going.stands.geometry;
@@ -99,11 +103,10 @@ module _ (k : View) (t : Tables) (staging : Staged) (files : Files) (w : WorldVi
 
   pub off_none : (acts : ℕ) → w.lines_out ≡ true → IsLostOut staging files (lost_view w [] acts (disk_of k t staging))
   off_none acts out =
-      off_out [] acts (subst (λ (calls : List Unfinished). IsLostWith k.volume k.cells (kept_of w staging files) w.start w.history calls) (sym (append-nil (map begun_by w.pending)))
-      (found_lost w.geometry k t (kept_of w staging files) (length w.history) w.start w.history world.mode (stands_as true out) going.spelled))
+      off_out [] acts (found_lost w.geometry k t (kept_of w staging files) (length w.history) w.start w.history (not_posix w.start.mode world.mode) (stands_as true out) going.spelled)
 
   pub off_call : (acts : ℕ) (c : Unfinished) → w.lines_out ≡ true → IsLostOut staging files (lost_view w (c ∷ []) acts (disk_of k t staging))
-  off_call acts c out = off_out (c ∷ []) acts (found_at_call w.geometry k t (kept_of w staging files) (length w.history) w.start w.history c world.mode (stands_as true out) going.spelled)
+  off_call acts c out = off_out (c ∷ []) acts (found_at_call w.geometry k t (kept_of w staging files) (length w.history) w.start w.history c (not_posix w.start.mode world.mode) (stands_as true out) going.spelled)
 
   -- with them at home
   empty : length w.home ≡ 0
@@ -168,7 +171,7 @@ module _ (k l : View) (t : Tables) (staging : Staged) (files : Files) (w : World
   }
 
   alone : AreBlocksHome p.blocks l.cells × ((q : JobOut) (i : ℕ) → In q w.pending → q.who ≢ p.who → In (i / 512) q.blocks → cell l.cells i ≡ cell w.disk.cells i)
-  alone = comes_home_alone gone.volume w.disk.cells l.cells (kept_of w staging files) w.start w.history (calls_out w) p job gone.at comes
+  alone = comes_home_alone gone.volume w.disk.cells l.cells (kept_of w staging files) w.start w.history w.unfinished p job gone.at comes
 
   -- the blocks of the job are at home
   pub blocks_home : AreBlocksHome p.blocks l.cells
@@ -192,7 +195,7 @@ module _ (k l : View) (t : Tables) (staging : Staged) (files : Files) (w : World
     base = gone.base;
     none_home = gone.none_home;
     size = back.size ∙ gone.size;
-    at = finishes_lost gone.volume w.disk.cells l.cells (kept_of w staging files) w.start w.history (calls_out w) p job slot gone.at comes;
+    at = finishes_lost gone.volume w.disk.cells l.cells (kept_of w staging files) w.start w.history w.unfinished p job slot gone.at comes;
   }
 
   counted_finished : (slot acts : ℕ) → acts ≤ most_acts w + 2 → AreCounted (finished_view slot acts)
@@ -231,49 +234,56 @@ module _ (k l : View) (t : Tables) (staging : Staged) (files : Files) (w : World
   )
 
   -- what it is once the job was given up
-  abbrev pub given_view : WorldView
-  given_view = record w { disk = disk_of l t staging }
+  abbrev pub given_view : Full → WorldView
+  given_view full = record w { pending = without p.who w.pending; over = Some (over_by w.over full); given_up = w.given_up + 1; disk = disk_of l t staging }
 
-  given_out : IsLostOut staging files given_view
-  given_out = record {
-    volume = gone.volume;
-    geometry = gone.geometry;
-    base = gone.base;
-    none_home = gone.none_home;
-    size = back.size ∙ gone.size;
-    at = gives_up_lost gone.volume w.disk.cells l.cells (kept_of w staging files) w.start w.history (calls_out w) p job gone.at comes;
-  }
+  pub one_less : length (without p.who w.pending) + 1 ≡ length w.pending
+  one_less = without_one p.who w.pending p gone.at.callers is_out.there refl
 
-  -- OR IT WAS GIVEN UP.
-  pub given_lost : IsWorldOver l t staging files given_view
-  given_lost = record {
-    mode = world.mode;
-    few = world.few;
-    threads = world.threads;
-    spelled = world.spelled;
-    legal = world.legal;
-    scripted = world.scripted;
-    counted = record {
+  module _ (full : Full) where
+    given_out : IsLostOut staging files (given_view full)
+    given_out = record {
+      volume = gone.volume;
+      geometry = gone.geometry;
+      base = gone.base;
+      none_home = gone.none_home;
+      size = back.size ∙ gone.size;
+      at = gives_up_lost gone.volume w.disk.cells l.cells (kept_of w staging files) w.start w.history w.unfinished p job gone.at comes;
+    }
+
+    counted_given : AreCounted (given_view full)
+    counted_given = record {
       settled = world.counted.settled;
-      fresh = world.counted.fresh;
-      out = world.counted.out;
-      claimed = world.counted.claimed;
-      late = world.counted.late;
-      acts = world.counted.acts;
-      acts_on = world.counted.acts_on;
-      acts_going = world.counted.acts_going;
+      fresh = λ none. absurd (let no_cause : Some (over_by w.over full) ≡ None = none in cc);
+      out = omega (arith, world.counted.out, one_less);
+      claimed = λ on. never (sym off ∙ on) _;
+      late = λ over. inr (inl (omega arith));
+      acts = omega (arith, world.counted.acts, one_less);
+      acts_on = λ on. never (sym off ∙ on) _;
+      acts_going = λ on. never (sym off ∙ on) _;
       low = world.counted.low;
-    };
-    disk_is = refl;
-    going = λ on. never (sym off ∙ on) _;
-    gone = λ lost. subst (IsLost staging files given_view) (sym out) given_out;
-  }
+    }
 
-  pub others_given : OthersStay w given_view p.who
-  others_given = (
-    λ q other apart is. record { there = is.there; who = is.who; draft = is.draft; blocks = is.blocks; words = is.words; lent = blocks_stay q is.there apart is.lent },
-    λ q other apart is. record { there = is.there; who = is.who; draft = is.draft; blocks = is.blocks; words = is.words; lent = blocks_stay q is.there apart is.lent },
-  )
+    -- OR IT WAS GIVEN UP.
+    pub given_lost : IsWorldOver l t staging files (given_view full)
+    given_lost = record {
+      mode = world.mode;
+      few = world.few;
+      threads = world.threads;
+      spelled = world.spelled;
+      legal = world.legal;
+      scripted = world.scripted;
+      counted = counted_given;
+      disk_is = refl;
+      going = λ on. never (sym off ∙ on) _;
+      gone = λ lost. subst (IsLost staging files (given_view full)) (sym out) given_out;
+    }
+
+    pub others_given : OthersStay w (given_view full) p.who
+    others_given = (
+      λ q other apart is. record { there = stays_in p.who w.pending q is.there apart; who = is.who; draft = is.draft; blocks = is.blocks; words = is.words; lent = blocks_stay q is.there apart is.lent },
+      λ q other apart is. record { there = stays_in p.who w.pending q is.there apart; who = is.who; draft = is.draft; blocks = is.blocks; words = is.words; lent = blocks_stay q is.there apart is.lent },
+    )
 
 -- ---- two jobs end, one behind the other
 

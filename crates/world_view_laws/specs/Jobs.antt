@@ -49,11 +49,10 @@ abbrev pub over_by : Option Over → Full → Over
 over_by None full = Over.Lap full
 over_by (Some over) full = over
 
--- IT IS GIVEN UP: the call is back at its start, and the round is over, with what ended it first. Once the power went it stays out,
--- with its blocks at home.
+-- IT IS GIVEN UP: the call is back at its start, and the round is over, with what ended it first; also where the power went before.
+-- Its blocks are at home.
 pub record GivesUp (full : Full) (p : JobOut) (old new : WorldView) : Type 0 where
-  pub going : old.lost ≡ false → new ≡ record old { pending = without p.who old.pending; over = Some (over_by old.over full); given_up = old.given_up + 1; disk = new.disk }
-  pub gone : old.lost ≡ true → new ≡ record old { disk = new.disk }
+  pub new_is : new ≡ record old { pending = without p.who old.pending; over = Some (over_by old.over full); given_up = old.given_up + 1; disk = new.disk }
   pub disk : old.lost ≡ false → new.disk ≡ record old.disk { cells = new.disk.cells; staging = new.disk.staging }
   pub back : AreBlocksHome p.blocks new.disk.cells
   pub homes : HomesStay p old new

@@ -4,12 +4,11 @@ use Rattle.in_flight.specs.pm_model.Parts.{Part}
 use Rattle.in_flight.specs.pm_model.Words.{Words}
 use Rattle.in_flight.specs.layout_model.declared.lines.Draft.{Draft}
 use Rattle.in_flight.specs.layout_model.Places.{log_line}
-use Rattle.in_flight.specs.image_model.LogRule.{HoldsClaims, HoldsEntry, IsAsAtFirst}
+use Rattle.in_flight.specs.image_model.LogRule.{HoldsClaims, IsAsAtFirst}
 use Rattle.in_flight.specs.block_io.Lines.{AreFrom, line_at}
-use Rattle.in_flight.specs.list_laws.Members.{In}
 use Rattle.write_end.specs.oplog_entry.LogLines.{cells_of}
 use Rattle.in_flight.specs.write_jobs.Jobs.{FilledView}
-use Rattle.write_end.specs.Lines.{IsJobLine}
+use Rattle.write_end.specs.Lines as ended
 use Rattle.world_view_laws.specs.Views.{first_by, WorldView}
 
 -- the words that line n of the log had when the lap began
@@ -32,12 +31,6 @@ pub record HoldTheClaims (w : WorldView) (lines : List Part) : Type 0 where
   pub are : AreRoundLines w lines
   pub holds : HoldsClaims w.base (cells_of lines) w.claims (first_of w)
 
--- THE LINES OF A CRASH: each claim stands whole in its line; `taken` has the slots that filled jobs claimed, at most one each, with
--- their entries, which stand there as far as they came; all other lines are as at the beginning of the lap.
-pub record AreCrashLines (w : WorldView) (filled : List FilledView) (taken : List (ℕ × Draft)) (lines : List Part) : Type 0 where
-  pub are : AreRoundLines w lines
-  pub claimed : (n : ℕ) (d : Draft) → In (n, d) w.claims → (n < length lines) × HoldsEntry (line_at lines n).cells d (w.base + n)
-  pub of_jobs : (n : ℕ) (d : Draft) → In (n, d) taken → (job : FilledView) × In job filled × (job.draft ≡ d)
-  pub one_each : (m n : ℕ) (d : Draft) → In (m, d) taken → In (n, d) taken → m ≡ n
-  pub entries : (n : ℕ) (d : Draft) → In (n, d) taken → (n < length lines) × IsJobLine (line_at lines n).cells (first_of w n) d (w.base + n)
-  pub others : (n : ℕ) → n < length lines → ((d : Draft) → ¬ In (n, d) w.claims) → ((d : Draft) → ¬ In (n, d) taken) → IsAsAtFirst (line_at lines n).cells (first_of w n)
+-- the lines of a crash, in this lap
+abbrev pub AreCrashLines : WorldView → List FilledView → List (ℕ × Draft) → List Part → Type 0
+AreCrashLines w filled taken lines = ended.AreCrashLines w.geometry w.base (first_by w.geometry w.first) w.claims filled taken lines

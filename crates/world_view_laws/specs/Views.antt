@@ -147,7 +147,7 @@ pub record IsLostOut (staging : Staged) (files : Files) (w : WorldView) : Type 0
   pub base : volume.base ≡ w.base
   pub none_home : w.home ≡ []
   pub size : length w.disk.cells ≡ 512 * w.geometry.blocks
-  pub at : IsLostWith volume w.disk.cells (kept_of w staging files) w.start w.history (calls_out w)
+  pub at : IsLostWith volume w.disk.cells (kept_of w staging files) w.start w.history w.unfinished
 
 -- The lines that came home come back into the device
 pub record ComesHomeTo (w : WorldView) (e : List Cell) : Type 0 where

@@ -147,5 +147,5 @@ cleared_step k l staging files who target x to clears = record {
 pub cleared_lost : (k l : View) (staging : Staged) (files : Files) (who : Who) (target : Target) (x : List ℕ) → LosesGap target.ino files k l → LosesTarget k l staging files who target x
 cleared_lost k l staging files who target x loses = record {
   left = λ goes. loses.left (has_file k staging files who target x goes);
-  kept = λ goes start history same strict. loses.kept (has_file k staging files who target x goes) start history (who, goes.call) same strict;
+  kept = λ goes start history same. loses.kept (has_file k staging files who target x goes) start history (who, goes.call) same;
 }

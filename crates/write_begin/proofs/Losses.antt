@@ -1,8 +1,6 @@
 -- No run is reserved for a write: the power goes, or there is none.
-use Rattle.std.specs.Prelude.{◌≡◌, ◌≢◌, ◌≤◌, ◌++◌, ◌∷◌, [], ℕ, true, List, length, map, Option, Result, Err}
+use Rattle.std.specs.Prelude.{◌≡◌, ◌≢◌, ◌≤◌, ◌∷◌, [], ℕ, true, List, length, Result, Err}
 use Rattle.std.proofs.Common.{ap, ◌∙◌, sym, subst, inl, inr}
-use Rattle.write_plan.specs.pm_model.declared.Cell.{Cell}
-use Rattle.write_plan.specs.pm_model.Words.{Words}
 use Rattle.write_plan.specs.file_table.Files.{Files}
 use Rattle.write_plan.specs.FirstWritesLaws.{FirstWriteFits}
 use Rattle.live_step_laws.specs.ReservesLaws.{KeepsReserved}
@@ -15,9 +13,7 @@ use Rattle.live_step_laws.specs.staging_files.declared.runs.StageRun.{StageRun}
 use Rattle.live_step_laws.specs.staging_files.GivesUp.{nothing_staged}
 use Rattle.live_step_laws.specs.staging_files.Keeps.{Staged}
 use Rattle.live_step_laws.specs.staging_files.Reserves.{AreSame, IsLacking, IsReserveAnswer}
-use Rattle.live_step_laws.specs.world_image_laws.Promised.{IsKept}
-use Rattle.live_step_laws.specs.world_image_laws.Back.{IsPutBack}
-use Rattle.live_step_laws.specs.world_model.Jobs.{unfinished_call}
+use Rattle.live_step_laws.specs.live_model.Losses.{KeepsWhenLost}
 use Rattle.live_step_laws.specs.live_model.Standing.{StandsAt}
 use Rattle.write_plan.specs.declared.asks.asking.Target.{Target}
 use Rattle.write_plan.specs.Drafts.{staged_count}
@@ -32,12 +28,11 @@ IsLost count s k t l = let r : Result StageRun StageFault = Err StageFault.Power
 pub loses_run : (k l : View) (old new : Staged) (files : Files) (who : Who) (target : Target) (x : List ℕ) (count : ℕ) → KeepsReserved → 1 ≤ count → count ≤ 33 → IsLost count old k new l → LosesTarget k l old files who target x
 loses_run k l old new files who target x count law some few answer = record {
   left = λ goes. left goes answer;
-  kept = λ goes start history same strict.
+  kept = λ goes start history same.
       subst
-      (λ y. (stands : StandsAt goes.g k goes.t (with_parts goes.kept old files) true goes.n y) → (back : ℕ → Cell) (slots : List (Option ℕ)) (image : Words)
-      → IsPutBack k.volume l.cells back goes.kept.first goes.kept.claims stands.jobs slots image → IsKept goes.g start history (map unfinished_call stands.jobs ++ (who, goes.call) ∷ []) image)
+      (λ y. (stands : StandsAt goes.g k goes.t (with_parts goes.kept old files) true goes.n y) → KeepsWhenLost k.volume l.cells goes.kept stands.jobs start history ((who, goes.call) ∷ []))
       (sym same)
-      (λ stands. law goes.g k l goes.t (with_parts goes.kept old files) new true goes.n start history (who, goes.call) count strict stands some few answer)
+      (λ stands. law goes.g k l goes.t (with_parts goes.kept old files) new true goes.n start history (who, goes.call) count stands some few answer)
       goes.stands;
 } where
   left : (goes : Goes k old files who target x) → IsLost count old k new l → IsLeftOf goes.g k.cells l.cells

@@ -1,5 +1,5 @@
 -- A write goes on behind a step that no call sees.
-use Rattle.std.specs.Prelude.{◌≡◌, ◌≤◌, ◌+◌, ℕ, true, List, [], ◌∷◌, ◌++◌, length, map, Some, Result, Ok, Err}
+use Rattle.std.specs.Prelude.{◌≡◌, ◌≤◌, ◌+◌, ℕ, true, List, [], ◌∷◌, length, Some, Result, Ok, Err}
 use Rattle.std.specs.declared.alloc.AllocError.{AllocError}
 use Rattle.std.proofs.Common.{ap, ◌∙◌, sym, subst}
 use Rattle.write_plan.specs.pm_model.declared.Cell.{Cell}
@@ -15,11 +15,9 @@ use Rattle.write_plan.specs.posix_spec.Put.{Put}
 use Rattle.write_plan.specs.posix_spec.State.{room}
 use Rattle.live_step_laws.specs.staging_files.Keeps.{Staged}
 use Rattle.live_step_laws.specs.staging_files.Reserves.{IsLacking}
-use Rattle.live_step_laws.specs.world_image_laws.Promised.{IsKept}
-use Rattle.live_step_laws.specs.world_image_laws.Back.{IsPutBack}
 use Rattle.live_step_laws.specs.world_model.JobLaws.{needs}
-use Rattle.live_step_laws.specs.world_model.Jobs.{unfinished_call}
 use Rattle.live_step_laws.specs.world_model.Stands.{number}
+use Rattle.live_step_laws.specs.live_model.Losses.{KeepsWhenLost}
 use Rattle.live_step_laws.specs.live_model.Standing.{StandsAt}
 use Rattle.write_plan.specs.declared.asks.asking.Target.{Target}
 use Rattle.write_plan.specs.Drafts.{staged_count}
@@ -95,12 +93,11 @@ through k l m old new files then last who target x step (Ok (WriteBegun.RoundOve
 }
 through k l m old new files then last who target x step (Ok WriteBegun.PowerLost) is = record {
   left = λ goes. left_through goes.g k.cells l.cells m.cells step.size step.lent (is.left (goes_then k l old old files then who target x goes (step.onward goes)));
-  kept = λ goes start history same strict back slots image put.
+  kept = λ goes start history same.
       let on = step.onward goes in
-      subst (λ js. IsKept goes.g start history (map unfinished_call js ++ (who, goes.call) ∷ []) image) on.jobs_are
-      (is.kept (goes_then k l old old files then who target x goes on) start history same strict back slots image
-      (subst (λ (v : Volume). IsPutBack v m.cells back goes.kept.first goes.kept.claims on.now.jobs slots image) (sym (ap (λ (y : View). y.volume) step.same))
-      (subst (λ js. IsPutBack k.volume m.cells back goes.kept.first goes.kept.claims js slots image) (sym on.jobs_are) put)));
+      subst (λ js. KeepsWhenLost k.volume m.cells goes.kept js start history ((who, goes.call) ∷ [])) on.jobs_are
+      (subst (λ (v : Volume). KeepsWhenLost v m.cells goes.kept on.now.jobs start history ((who, goes.call) ∷ [])) (ap (λ (y : View). y.volume) step.same)
+      (is.kept (goes_then k l old old files then who target x goes on) start history same));
 }
 through k l m old new files then last who target x step (Err e) is = record {
   runs = is.runs;

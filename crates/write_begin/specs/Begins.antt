@@ -1,10 +1,8 @@
 -- What the beginning of a write answers and leaves.
-use Rattle.std.specs.Prelude.{◌≡◌, ◌≢◌, ◌⊎◌, ◌<◌, ◌≤◌, ◌+◌, ◌-◌, ◌/◌, ◌^◌, ℕ, true, false, List, [], ◌∷◌, ◌++◌, length, map, Option, Some, None, Result, Ok, Err}
+use Rattle.std.specs.Prelude.{◌≡◌, ◌≢◌, ◌⊎◌, ◌<◌, ◌≤◌, ◌+◌, ◌-◌, ◌/◌, ◌^◌, ℕ, true, false, List, [], ◌∷◌, ◌++◌, length, Option, Some, None, Result, Ok, Err}
 use Rattle.std.specs.declared.alloc.AllocError.{AllocError}
 use Rattle.block_counts.specs.Counts.{blocks_for}
-use Rattle.write_plan.specs.pm_model.declared.Cell.{Cell}
 use Rattle.write_plan.specs.pm_model.Powers.{is_on, Supply}
-use Rattle.write_plan.specs.pm_model.Words.{Words}
 use Rattle.write_plan.specs.layout_model.Places.{Geometry}
 use Rattle.write_plan.specs.file_table.Files.{Files}
 use Rattle.write_plan.specs.k_split_model.View.{View}
@@ -23,10 +21,9 @@ use Rattle.write_plan.specs.posix_spec.Run.{run}
 use Rattle.write_plan.specs.posix_spec.State.{room, State}
 use Rattle.live_step_laws.specs.staging_files.Keeps.{Staged}
 use Rattle.live_step_laws.specs.staging_files.Reserves.{IsLacking}
-use Rattle.live_step_laws.specs.world_image_laws.Promised.{IsKept}
-use Rattle.live_step_laws.specs.world_image_laws.Back.{IsPutBack}
 use Rattle.live_step_laws.specs.world_model.JobLaws.{needs}
-use Rattle.live_step_laws.specs.world_model.Jobs.{unfinished_call, Job}
+use Rattle.live_step_laws.specs.world_model.Jobs.{Job}
+use Rattle.live_step_laws.specs.live_model.Losses.{KeepsWhenLost}
 use Rattle.live_step_laws.specs.live_model.Standing.{Kept, reserved_run, StandsAt}
 use Rattle.live_step_laws.specs.live_model.Jobs.{SpellCall}
 use Rattle.live_step_laws.specs.world_step_laws.Steps.{LetsJobsBe}
@@ -121,14 +118,11 @@ pub record EndsRound (who : Who) (h : Handle) (at : Option ℕ) (x : List ℕ) (
 
 -- ---- the power
 
--- THE POWER WENT: the device is left of the one before, and each image, once log lines and blocks of jobs are put back, is kept
--- with the calls of the jobs unfinished, and this one as the last.
+-- THE POWER WENT in it, and the device is left of the one before.
 pub record LosesWrite (who : Who) (call : Call) (k l : View) (t : Tables) (staging : Staged) (files : Files) (taken : ℕ) : Type 0 where
   pub left : (found : Found k t staging files who call taken) → IsLeftOf found.g k.cells l.cells
-  pub kept : (found : Found k t staging files who call taken) (start : State) (history : List Item) → found.s ≡ run start history → start.mode ≡ Mode.Strict
-      → (back : ℕ → Cell) (slots : List (Option ℕ)) (image : Words)
-      → IsPutBack k.volume l.cells back found.kept.first found.kept.claims found.stands.jobs slots image
-      → IsKept found.g start history (map unfinished_call found.stands.jobs ++ (who, call) ∷ []) image
+  pub kept : (found : Found k t staging files who call taken) (start : State) (history : List Item) → found.s ≡ run start history
+      → KeepsWhenLost k.volume l.cells found.kept found.stands.jobs start history ((who, call) ∷ [])
 
 -- ---- all of it
 

@@ -1,9 +1,7 @@
 -- A write that no row refuses, and that finds room beside the jobs that are out, on its way.
 use Rattle.block_counts.specs.declared.TheConstants.{LONGEST_FILE, LONGEST_WRITE}
-use Rattle.std.specs.Prelude.{◌≡◌, ◌≢◌, ◌≤◌, ◌<◌, ◌+◌, ◌/◌, ◌^◌, ℕ, true, false, List, [], ◌∷◌, ◌++◌, length, map, Option, Some, Result, Ok, Err}
+use Rattle.std.specs.Prelude.{◌≡◌, ◌≢◌, ◌≤◌, ◌<◌, ◌+◌, ◌/◌, ◌^◌, ℕ, true, false, List, [], ◌∷◌, ◌++◌, length, Some, Result, Ok, Err}
 use Rattle.std.specs.declared.alloc.AllocError.{AllocError}
-use Rattle.write_plan.specs.pm_model.declared.Cell.{Cell}
-use Rattle.write_plan.specs.pm_model.Words.{Words}
 use Rattle.block_counts.specs.Counts.{blocks_for}
 use Rattle.write_plan.specs.layout_model.declared.lines.Kind.TheVariants.{File}
 use Rattle.write_plan.specs.layout_model.Places.{data_blocks, Geometry}
@@ -29,11 +27,10 @@ use Rattle.live_step_laws.specs.staging_files.GivesUp.{IsGivenBack, nothing_stag
 use Rattle.live_step_laws.specs.staging_files.Keeps as staging
 use Rattle.live_step_laws.specs.staging_files.Keeps.{Agrees, AreFreeSingle, IsRunSingle, IsThere, Staged}
 use Rattle.live_step_laws.specs.staging_files.Reserves.{IsLacking}
-use Rattle.live_step_laws.specs.world_image_laws.Promised.{IsKept}
-use Rattle.live_step_laws.specs.world_image_laws.Back.{IsPutBack}
 use Rattle.live_step_laws.specs.world_model.JobLaws.{needs}
-use Rattle.live_step_laws.specs.world_model.Jobs.{unfinished_call, Job}
+use Rattle.live_step_laws.specs.world_model.Jobs.{Job}
 use Rattle.live_step_laws.specs.world_model.Stands.{number}
+use Rattle.live_step_laws.specs.live_model.Losses.{KeepsWhenLost}
 use Rattle.live_step_laws.specs.live_model.Standing.{Kept, JobOut, reserved_run, StandsAt}
 use Rattle.live_step_laws.specs.live_model.Jobs.{SpellCall}
 use Rattle.write_plan.specs.declared.asks.asking.Target.{Target}
@@ -119,10 +116,8 @@ pub record LacksRun (k l : View) (old new : Staged) (files then : Files) (who : 
 -- the power went
 pub record LosesTarget (k l : View) (old : Staged) (files : Files) (who : Who) (target : Target) (x : List ℕ) : Type 0 where
   pub left : (goes : Goes k old files who target x) → IsLeftOf goes.g k.cells l.cells
-  pub kept : (goes : Goes k old files who target x) (start : State) (history : List Item) → goes.s ≡ run start history → start.mode ≡ Mode.Strict
-      → (back : ℕ → Cell) (slots : List (Option ℕ)) (image : Words)
-      → IsPutBack k.volume l.cells back goes.kept.first goes.kept.claims goes.stands.jobs slots image
-      → IsKept goes.g start history (map unfinished_call goes.stands.jobs ++ (who, goes.call) ∷ []) image
+  pub kept : (goes : Goes k old files who target x) (start : State) (history : List Item) → goes.s ≡ run start history
+      → KeepsWhenLost k.volume l.cells goes.kept goes.stands.jobs start history ((who, goes.call) ∷ [])
 
 abbrev pub IsGone : View → View → Staged → Staged → Files → Files → Who → Target → List ℕ → Result WriteBegun AllocError → Type 0
 IsGone k l old new files then who target x (Ok (WriteBegun.Answered outcome)) = ⊥

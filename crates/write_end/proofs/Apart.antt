@@ -1,5 +1,5 @@
 -- The loans of jobs are apart.
-use Rattle.std.proofs.Common.{◌≡◌, ◌≢◌, ◌⊎◌, ◌<◌, ◌+◌, ◌∷◌, [], ℕ, List, length, Some, refl, arith, ap, ◌∙◌, sym, subst, inl, inr}
+use Rattle.std.proofs.Common.{◌≡◌, ◌⊎◌, ◌+◌, ◌∷◌, [], ℕ, List, length, Some, arith, ap, ◌∙◌, sym, subst, inl, inr}
 use Rattle.oplog_entry.specs.pm_model.ImageLaws.{IsImage-words_of}
 use Rattle.oplog_entry.specs.pm_model.Images.{words_of}
 use Rattle.oplog_entry.specs.pm_model.Parts.{Part}
@@ -69,7 +69,7 @@ module _ (v : Volume) (live : List Draft) (f : Words) (numbers : List ℕ) (s : 
       ]
 
 pub has_loans_apart : HasLoansApart
-has_loans_apart v d kept start history unfinished p loans lost there same =
+has_loans_apart v d kept start history last p loans lost there same =
     let sane = lost.world.valid.stands.sane in
     let out = lost.world.valid.out in (
       loans_apart v (live_claims v lost.done) lost.words lost.numbers lost.s kept.pending lost.jobs lost.jobs_are lost.blocks sane out p loans there same,

@@ -1,5 +1,5 @@
 -- All that was out is handed in and put back: the device keeps the promise.
-use Rattle.std.proofs.Common.{◌≡◌, ◌≢◌, ◌⊎◌, ◌<◌, ◌+◌, ◌*◌, ◌-◌, ◌/◌, ◌%◌, ◌∷◌, [], ◌==◌, ℕ, zero, suc, Bool, true, false, cond, List, length, Option, Some, None, refl, arith, ap, ◌∙◌, sym, subst, inl, inr}
+use Rattle.std.proofs.Common.{◌≡◌, ◌≢◌, ◌⊎◌, ◌<◌, ◌+◌, ◌++◌, ◌*◌, ◌-◌, ◌/◌, ◌%◌, ◌∷◌, [], ◌==◌, ℕ, zero, suc, Bool, true, false, cond, List, length, Option, Some, None, refl, arith, ap, ◌∙◌, sym, subst, inl, inr}
 use Rattle.std.specs.Prelude.{if◌then◌else◌, map, slice_index}
 use Rattle.std.proofs.lemmas.Bool.{both_ways, cases_eq, cases_lt, eq-eqb, ne_eqb}
 use Rattle.std.proofs.lemmas.Option.{same_Some}
@@ -24,19 +24,22 @@ use Rattle.k_split_laws.specs.volume_laws.ImageLaws.{journaled-other}
 use Rattle.k_split_laws.specs.volume_laws.LineWords.{data_word}
 use Rattle.write_jobs.specs.world_image_laws.Images.{StandsFor}
 use Rattle.write_jobs.specs.world_image_laws.Promised.{IsKept, KeepsPromise}
+use Rattle.write_jobs.specs.world_image_laws.Back.{IsPutBack}
+use Rattle.write_jobs.specs.world_image_laws.InLog.{kept_of_all}
 use Rattle.write_jobs.specs.world_image_laws.Running.{promise_now}
 use Rattle.write_plan.specs.eof_laws.log_checkpoint.world_model.Lines.{AreJobLines, AreLinesOut, IsJobLine, IsTaken}
 use Rattle.write_plan.specs.eof_laws.log_checkpoint.world_model.Jobs.{HoldsWhole, IsStagedIn, Job, staged_block}
 use Rattle.write_plan.specs.eof_laws.log_checkpoint.world_model.Shown.{AreFilled}
 use Rattle.live_model.specs.Standing.{AreJobsOf, IsSpellable, Kept, JobOut}
 use Rattle.write_end.proofs.LosingPending.{IsJobOf, loans_of_entry, places_of_entry}
-use Rattle.write_end.specs.Ends.{IsOut}
+use Rattle.write_end.specs.Ends.{begun_by, IsOut}
 use Rattle.write_jobs.specs.Jobs.{FilledView, loan_at}
 use Rattle.write_end.specs.Blocks.{AreBlocksOut, ComeHome}
 use Rattle.write_end.specs.CrashesLaws.{AreHandedIn, KeepsCrashed, KeepsHome, LinesAreHome}
 use Rattle.write_end.specs.Lines.{AreCrashLines}
 use Rattle.write_end.specs.Lost.{IsLostJob, IsLostWith}
 use Rattle.write_end.proofs.Ended.{holds_spelled, single_word, spells_job, whole_of}
+use Rattle.write_end.proofs.Going.{calls_are}
 use Rattle.write_end.proofs.Jobs.{block_of, in_data_block, its_job, lent_any, no_slot, pending_of, same_job, sane, stood}
 use Rattle.write_end.proofs.LogLines.{claimed_line, first_line, job_line, stand_again, StandAgain}
 
@@ -114,8 +117,8 @@ log_or_not v i = elim (cases_lt (i / 8) (log_line v.geometry 0)) [
 
 -- ---- the crash
 
-module _ (v : Volume) (d middle e : List Cell) (kept : Kept) (start : State) (history : List Item) (unfinished : List Unfinished) (loans : List Part) (filled : List FilledView) (taken : List (ℕ × Draft)) (lines : List Part)
-    (lost : IsLostWith v d kept start history unfinished) (handed : AreHandedIn d kept (run start history) loans filled) (crash : AreCrashLines v kept.first kept.claims filled taken lines) (comes : ComeHome loans d middle)
+module _ (v : Volume) (d middle e : List Cell) (kept : Kept) (start : State) (history : List Item) (last : List Unfinished) (loans : List Part) (filled : List FilledView) (taken : List (ℕ × Draft)) (lines : List Part)
+    (lost : IsLostWith v d kept start history last) (handed : AreHandedIn d kept (run start history) loans filled) (crash : AreCrashLines v.geometry v.base kept.first kept.claims filled taken lines) (comes : ComeHome loans d middle)
     (lines_home : LinesAreHome v lines middle e) where
   -- ---- words
 
@@ -193,12 +196,12 @@ module _ (v : Volume) (d middle e : List Cell) (kept : Kept) (start : State) (hi
   taken_job n draft at =
       let of_it = crash.of_jobs n draft at in
       let world = handed.of_world of_it.0 of_it.1 in
-      let its = its_job v d kept start history unfinished lost world.0 world.1.there in
+      let its = its_job v d kept start history last lost world.0 world.1.there in
       (its.job, its.there, its.draft ∙ sym world.1.draft ∙ of_it.2, (of_it.0, of_it.1, (world.0, world.1, (its, refl))))
 
   -- it claimed none before
   none_before : (j : Job) → In j lost.jobs → IsFilledJob j → lost.slot_of j.draft.ino ≡ None
-  none_before j at (job, there, (p, out, (its, same))) = no_slot v d kept start history unfinished lost p j out.there at (ap (λ (y : Job). y.draft) (sym same) ∙ its.draft) (blocks_lent job p there out)
+  none_before j at (job, there, (p, out, (its, same))) = no_slot v d kept start history last lost p j out.there at (ap (λ (y : Job). y.draft) (sym same) ∙ its.draft) (blocks_lent job p there out)
 
   -- a job that has a slot claimed it in a finish, or is filled
   abbrev Claims : Job → ℕ → Type 0
@@ -212,11 +215,11 @@ module _ (v : Volume) (d middle e : List Cell) (kept : Kept) (start : State) (hi
     by None none same =
         let its = slot_by-In taken j.draft.ino slot same in
         let owner = taken_job slot its.0 its.1 in
-        let one : owner.0 ≡ j = same_job v d kept start history unfinished lost owner.0 j owner.1 at (ap (λ (y : Draft). y.ino) owner.2 ∙ its.2) in
+        let one : owner.0 ≡ j = same_job v d kept start history last lost owner.0 j owner.1 at (ap (λ (y : Draft). y.ino) owner.2 ∙ its.2) in
         inr (subst (λ (y : Draft). In (slot, y) taken) (sym owner.2 ∙ ap (λ (y : Job). y.draft) one) its.1, subst IsFilledJob one owner.3)
 
   spelled_job : (j : Job) → In j lost.jobs → IsSpellable j.draft
-  spelled_job j at = let is = stood v d kept start history unfinished lost j at in record { fields = is.draft; fits = is.fields }
+  spelled_job j at = let is = stood v d kept start history last lost j at in record { fields = is.draft; fits = is.fields }
 
   -- ---- the lines
 
@@ -268,7 +271,7 @@ module _ (v : Volume) (d middle e : List Cell) (kept : Kept) (start : State) (hi
       let found = slot_by-In taken draft.ino some.0 some.1 in
       let other = taken_job some.0 found.0 found.1 in
       let one : other.0 ≡ owner.0 =
-      same_job v d kept start history unfinished lost other.0 owner.0 other.1 owner.1 (ap (λ (y : Draft). y.ino) other.2 ∙ found.2 ∙ sym (ap (λ (y : Draft). y.ino) owner.2))
+      same_job v d kept start history last lost other.0 owner.0 other.1 owner.1 (ap (λ (y : Draft). y.ino) other.2 ∙ found.2 ∙ sym (ap (λ (y : Draft). y.ino) owner.2))
       in
       let draft_is : found.0 ≡ draft = sym other.2 ∙ ap (λ (y : Job). y.draft) one ∙ owner.2 in
       let slot_is : some.0 ≡ slot = crash.one_each some.0 slot draft (subst (λ (y : Draft). In (some.0, y) taken) draft_is found.1) is in (
@@ -315,7 +318,7 @@ module _ (v : Volume) (d middle e : List Cell) (kept : Kept) (start : State) (hi
 
         has : (n b : ℕ) → n < j.draft.count → staged_block v j.draft n ≡ Some b → (w : ℕ) → w / 512 ≡ b → journaled image w ≡ slice_index job.words (512 * n + w % 512)
         has n b below is w word =
-            let in_data = in_data_block v (sane v d kept start history unfinished lost) j.draft n b (stood v d kept start history unfinished lost j at).staging is in
+            let in_data = in_data_block v (sane v d kept start history last lost) j.draft n b (stood v d kept start history last lost j at).staging is in
             let behind = data_word v.geometry b (w % 512) in_data (omega arith) in
             let read : journaled image w ≡ image w =
             journaled-other v.geometry image w (lost.sound image (image_before image image_is)) (behind_log-words v.geometry w (omega (arith, word, behind))) (behind_log-not_journaled v.geometry (w / 8) (omega (arith, word, behind)))
@@ -341,18 +344,23 @@ module _ (v : Volume) (d middle e : List Cell) (kept : Kept) (start : State) (hi
       by None at rest = rest
       by (Some slot) at rest = (own_holds j slot (there j (inl refl)) (claims_of j slot (there j (inl refl)) at), rest)
 
-    pub keeps_image : IsHonest v.geometry (cell e) image → IsKept v.geometry start history unfinished image
-    keeps_image honest = lost.promise (cell e) (map slot_of lost.jobs) image (record {
+    put_back_now : IsHonest v.geometry (cell e) image → IsPutBack v d (cell e) kept.first lost.done lost.jobs (map slot_of lost.jobs) image
+    put_back_now honest = record {
       lines = subst (λ c. AreLinesOut v c kept.first lost.done lost.jobs (map slot_of lost.jobs)) (sym is_back) lines_out;
       image_is = subst (λ (c : ℕ → Cell). (i : ℕ) → IsCandidate (c i) (image i)) (sym is_back) image_is;
       honest = subst (λ c. IsHonest v.geometry c image) (sym is_back) honest;
       filled = are_filled lost.jobs (λ j is. is);
-    })
+    }
+
+    pub keeps_image : IsHonest v.geometry (cell e) image → IsKept v.geometry start history (map begun_by kept.pending ++ last) image
+    keeps_image honest =
+        subst (λ (calls : List Unfinished). IsKept v.geometry start history (calls ++ last) image) (calls_are kept.pending lost.jobs lost.jobs_are)
+        (kept_of_all v.geometry start history (map slot_of lost.jobs) lost.jobs last image lost.mode (lost.promise (cell e) (map slot_of lost.jobs) image (put_back_now honest)))
 
 pub keeps_crashed : KeepsCrashed
-keeps_crashed v d middle e kept start history unfinished loans filled taken lines lost handed crash comes home = (
-  all_home v d middle e kept start history unfinished loans filled taken lines lost handed crash comes home,
-  λ image is honest. keeps_image v d middle e kept start history unfinished loans filled taken lines lost handed crash comes home image is honest,
+keeps_crashed v d middle e kept start history last loans filled taken lines lost handed crash comes home = (
+  all_home v d middle e kept start history last loans filled taken lines lost handed crash comes home,
+  λ image is honest. keeps_image v d middle e kept start history last loans filled taken lines lost handed crash comes home image is honest,
 )
 
 -- ---- with the lines at home

@@ -1,7 +1,8 @@
 -- A job ends after the power went: its blocks come home.
 use Rattle.std.proofs.Common.{◌≡◌, ◌≢◌, ◌⊎◌, ◌<◌, ◌+◌, ◌*◌, ◌/◌, ◌%◌, ◌^◌, ◌++◌, ◌∷◌, [], ◌==◌, ℕ, Bool, true, false, cond, List, length, Option, Some, None, refl, arith, ap, ◌∙◌, sym, subst, inl, inr}
-use Rattle.std.specs.Prelude.{if◌then◌else◌, slice_index}
+use Rattle.std.specs.Prelude.{if◌then◌else◌, not, slice_index}
 use Rattle.std.proofs.lemmas.Bool.{both_ways, cases_eq, eq-eqb, ne_eqb}
+use Rattle.std.proofs.lemmas.List.Kept.{AllPairs-filter}
 use Rattle.std.proofs.lemmas.Option.{same_Some}
 use Rattle.oplog_entry.specs.pm_model.declared.Cell.{Cell}
 use Rattle.oplog_entry.specs.pm_model.declared.Cell.TheVariants.{Single}
@@ -24,25 +25,28 @@ use Rattle.k_split_laws.specs.posix_spec.Run.{Unfinished, run}
 use Rattle.k_split_laws.specs.posix_types.declared.call.Call.{Call}
 use Rattle.k_split_laws.specs.posix_types.declared.call.Who.{Who}
 use Rattle.k_split_laws.specs.posix_types.declared.item.Item.{Item}
+use Rattle.write_plan.specs.posix_tables.Open.{same_who}
 use Rattle.k_split_laws.specs.posix_spec.State.{State}
 use Rattle.k_split_laws.specs.volume_laws.ImageLaws.{journaled-other}
 use Rattle.k_split_laws.specs.volume_laws.LineWords.{data_word}
 use Rattle.k_split_laws.proofs.k_split_proofs.LogLaws.{data_beside}
 use Rattle.k_split_laws.specs.k_split.Laps.{IsLogWord}
-use Rattle.write_jobs.specs.world_image_laws.Promised.{IsKept}
 use Rattle.write_plan.specs.eof_laws.log_checkpoint.world_write_laws.JobSteps.{Valid-front}
-use Rattle.write_jobs.specs.world_image_laws.Back.{IsPutBack}
+use Rattle.write_jobs.specs.world_image_laws.Back.{IsKeptBack}
 use Rattle.write_plan.specs.eof_laws.log_checkpoint.world_model.Lines.{AreLinesOut}
+use Rattle.write_plan.specs.eof_laws.log_checkpoint.world_model.JobLaws.{Valid-dropped}
 use Rattle.write_plan.specs.eof_laws.log_checkpoint.world_model.Jobs.{AreApartJobs, HoldsWhole, IsStagedIn, Job, JobStands, live_claims, staged_block, Valid}
 use Rattle.write_plan.specs.eof_laws.log_checkpoint.world_model.Promised.{AreWhole}
-use Rattle.live_model.specs.Standing.{AreLinesLent, Kept, JobOut}
+use Rattle.live_model.specs.Standing.{AreLinesLent, AreOfTwoThreads, Kept, JobOut}
 use Rattle.write_plan.specs.eof_laws.log_checkpoint.world_step_laws.Worlds.{IsWorld}
-use Rattle.write_end.proofs.LosingPending.{IsSplit, apart_of, loans_of_entry, places_of_entry, split_in, split_of}
+use Rattle.write_end.proofs.LosingPending.{IsSplit, apart_of, left_there, loans_of_entry, places_of_entry, split_in, split_of}
 use Rattle.write_end.specs.Ends.{IsOut}
 use Rattle.write_jobs.specs.Jobs.{FilledView, loan_at}
 use Rattle.write_end.specs.Blocks.{AreBlocksHome, AreHome}
-use Rattle.write_end.specs.LosingLaws.{claimed_by, ComesHome, ComesHomeAlone, FinishesLost, GivesUpLost}
+use Rattle.write_end.specs.LosingLaws.{claimed_by, ComesHome, ComesHomeAlone, FinishesLost, GivesUpLost, without_job}
 use Rattle.write_end.specs.Lost.{IsLostJob, IsLostWith}
+use Rattle.write_end.proofs.Dropped.{kept_without, left_in}
+use Rattle.write_end.proofs.GivesUp.{whole_rest}
 use Rattle.write_end.proofs.Jobs.{block_of, blocks_home, in_data_block, its_job, lent_any, no_slot, none_common, same_job, sane, staged_of, stood}
 
 pub single_word : (c : Cell) (w x : ℕ) → c ≡ Single w → IsCandidate (unmarked c) x → x ≡ w
@@ -93,7 +97,7 @@ holds_spelled v image draft words whole has spelled n block i below at within =
 
 -- ---- the job
 
-module _ (v : Volume) (d e : List Cell) (kept : Kept) (start : State) (history : List Item) (unfinished : List Unfinished) (p : JobOut) (job : FilledView) (lost : IsLostWith v d kept start history unfinished)
+module _ (v : Volume) (d e : List Cell) (kept : Kept) (start : State) (history : List Item) (last : List Unfinished) (p : JobOut) (job : FilledView) (lost : IsLostWith v d kept start history last)
     (is : ComesHome d e kept (run start history) p job) where
   split : IsSplit kept.pending lost.jobs p
   split = split_of kept.pending lost.jobs p lost.jobs_are is.out.there lost.callers
@@ -111,7 +115,7 @@ module _ (v : Volume) (d e : List Cell) (kept : Kept) (start : State) (history :
   there = subst (In j) (sym split.jobs_are) (own_job split.a j split.b)
 
   abbrev stands_j : JobStands v (live_claims v lost.done) lost.words lost.numbers lost.s j
-  stands_j = stood v d kept start history unfinished lost j there
+  stands_j = stood v d kept start history last lost j there
 
   size : length job.loans ≡ j.draft.count
   size = loans_of_entry v p j job (lost.blocks p is.out.there) is.out.blocks split.draft
@@ -124,7 +128,7 @@ module _ (v : Volume) (d e : List Cell) (kept : Kept) (start : State) (history :
   staged_lent i staged = is.lent i (block_of v p (i / 512) (lost.blocks p is.out.there) (subst (λ (x : Draft). IsStagedIn v x (i / 512)) split.draft staged))
 
   no_slot_yet : lost.slot_of j.draft.ino ≡ None
-  no_slot_yet = no_slot v d kept start history unfinished lost p j is.out.there there split.draft is.lent
+  no_slot_yet = no_slot v d kept start history last lost p j is.out.there there split.draft is.lent
 
   back : ArePutBack v j.draft job.loans d e
   back = puts_back v j.draft job.loans d e size places is.back
@@ -156,7 +160,7 @@ module _ (v : Volume) (d e : List Cell) (kept : Kept) (start : State) (history :
   others_still : (x : Job) → In x lost.jobs → In x (split.a ++ split.b) → (i : ℕ) → IsStagedIn v x.draft (i / 512) → cell e i ≡ cell d i
   others_still x at other i staged =
       back.beside i (λ m c m_below m_at word.
-      none_common v (sane v d kept start history unfinished lost) j.draft x.draft c m staged.0 stands_j.staging (stood v d kept start history unfinished lost x at).staging (apart x other).staging m_below staged.1 m_at (staged.2 ∙ ap (λ b. Some b) word))
+      none_common v (sane v d kept start history last lost) j.draft x.draft c m staged.0 stands_j.staging (stood v d kept start history last lost x at).staging (apart x other).staging m_below staged.1 m_at (staged.2 ∙ ap (λ b. Some b) word))
 
   others_lost : (x : Job) → In x lost.jobs → In x (split.a ++ split.b) → (o : Option ℕ) → IsLostJob v d x o → IsLostJob v e x o
   others_lost x at other (Some slot) was = (
@@ -174,7 +178,7 @@ module _ (v : Volume) (d e : List Cell) (kept : Kept) (start : State) (history :
   lines_still : (i : ℕ) → IsLogWord v i → cell e i ≡ cell d i
   lines_still i log = is.back.beside i (λ n below at.
       let short : n < j.draft.count = omega (arith, below, size) in
-      let in_data = in_data_block v (sane v d kept start history unfinished lost) j.draft n (loan_at job.loans n).place stands_j.staging (places n short) in
+      let in_data = in_data_block v (sane v d kept start history last lost) j.draft n (loan_at job.loans n).place stands_j.staging (places n short) in
       let block : ℕ = (loan_at job.loans n).place in
       let word : 512 * block + i % 512 ≡ i = omega (arith, at) in
       data_beside v block (i % 512) in_data (omega arith) (subst (IsLogWord v) (sym word) log))
@@ -201,7 +205,7 @@ module _ (v : Volume) (d e : List Cell) (kept : Kept) (start : State) (history :
   held image image_is = subst (HoldsWhole v (journaled image) j.draft) (sym (whole_of lost.jobs j lost.whole there)) (holds_spelled v image j.draft job.words j.whole has spelled) where
     has : (n b : ℕ) → n < j.draft.count → staged_block v j.draft n ≡ Some b → (w : ℕ) → w / 512 ≡ b → journaled image w ≡ slice_index job.words (512 * n + w % 512)
     has n b below at w word =
-        let in_data = in_data_block v (sane v d kept start history unfinished lost) j.draft n b stands_j.staging at in
+        let in_data = in_data_block v (sane v d kept start history last lost) j.draft n b stands_j.staging at in
         let behind = data_word v.geometry b (w % 512) in_data (omega arith) in
         let read : journaled image w ≡ image w =
         journaled-other v.geometry image w (lost.sound image (image_before image image_is)) (behind_log-words v.geometry w (omega (arith, word, behind))) (behind_log-not_journaled v.geometry (w / 8) (omega (arith, word, behind)))
@@ -220,7 +224,7 @@ module _ (v : Volume) (d e : List Cell) (kept : Kept) (start : State) (history :
         ap (λ b. cond b (put_back e cells i) (cell d i)) home_i
         ∙ (sym (still i home_i) ∙ sym (ap (λ b. cond b (cells i) (cell e i)) (ap is_lent (still i home_i) ∙ home_i)))
 
-  promise : (cells : ℕ → Cell) (slots : List (Option ℕ)) (image : Words) → IsPutBack v e cells kept.first lost.done lost.jobs slots image → IsKept v.geometry start history unfinished image
+  promise : IsKeptBack v e kept.first lost.done lost.jobs start history last
   promise cells slots image put = lost.promise (put_back e cells) slots image (record {
     lines = subst (λ c. AreLinesOut v c kept.first lost.done lost.jobs slots) (sym (same_cells cells)) put.lines;
     image_is = subst (λ (c : ℕ → Cell). (i : ℕ) → IsCandidate (c i) (image i)) (sym (same_cells cells)) put.image_is;
@@ -235,7 +239,7 @@ module _ (v : Volume) (d e : List Cell) (kept : Kept) (start : State) (history :
 
   pub others_words : (q : JobOut) (i : ℕ) → In q kept.pending → q.who ≢ p.who → In (i / 512) q.blocks → cell e i ≡ cell d i
   others_words q i at other block =
-      let its = its_job v d kept start history unfinished lost q at in
+      let its = its_job v d kept start history last lost q at in
       let staged = subst (λ (x : Draft). IsStagedIn v x (i / 512)) (sym its.draft) (staged_of v q (i / 512) (lost.blocks q at) block) in
       elim (each_job its.job its.there) [
         | inl own ↦ absurd (other (sym its.who ∙ ap (λ (y : Job). y.who) (sym own) ∙ split.who))
@@ -244,33 +248,58 @@ module _ (v : Volume) (d e : List Cell) (kept : Kept) (start : State) (history :
 
   -- ---- it is given up
 
-  pub given_up : IsLostWith v e kept start history unfinished
+  left_job : (x : Job) → In x (split.a ++ split.b) → In x lost.jobs
+  left_job x at = subst (In x) (sym split.jobs_are) (left_in split.a j split.b x at)
+
+  home_left : (i : ℕ) → is_lent (cell e i) ≡ true → IsOutWord v (split.a ++ split.b) i
+  home_left i lent = elim (home i lent) [
+    | inl line ↦ inl line
+    | inr (x, at, staged) ↦ elim (each_job x at) [
+      | inl own ↦ absurd (both_ways (is_lent (cell e i)) (own_home i (subst (λ (y : Job). IsStagedIn v y.draft (i / 512)) (sym own) staged)) lent)
+      | inr other ↦ inr (x, other, staged)
+    ]
+  ]
+
+  -- a claim that is not finished is of another job
+  claim_left : (slot : ℕ) (draft : Draft) → (x : Job) × In x lost.jobs × (x.draft ≡ draft) × (lost.slot_of draft.ino ≡ Some slot) → (x : Job) × In x (split.a ++ split.b) × (x.draft ≡ draft) × (lost.slot_of draft.ino ≡ Some slot)
+  claim_left slot draft (x, at, same, had) = elim (each_job x at) [
+    | inl own ↦ (let never : None ≡ Some slot = sym no_slot_yet ∙ (ap (λ (y : Job). lost.slot_of y.draft.ino) own ∙ (ap (λ (y : Draft). lost.slot_of y.ino) same ∙ had)) in cc)
+    | inr other ↦ (x, other, same, had)
+  ]
+
+  pub given_up : IsLostWith v e (without_job kept p) start history last
   given_up = record {
-    jobs = lost.jobs;
-    jobs_are = lost.jobs_are;
-    whole = lost.whole;
-    callers = lost.callers;
-    blocks = lost.blocks;
-    puts = lost.puts;
+    mode = lost.mode;
+    jobs = split.a ++ split.b;
+    jobs_are = split.rest;
+    whole = whole_rest split.a j split.b (subst AreWhole split.jobs_are lost.whole);
+    callers = AllPairs-filter AreOfTwoThreads (λ (q : JobOut). not (same_who q.who p.who)) kept.pending lost.callers;
+    blocks = λ q at. lost.blocks q (left_there p.who kept.pending q at);
+    puts = λ x at. lost.puts x (left_job x at);
     done = lost.done;
     slot_of = lost.slot_of;
     done_in = lost.done_in;
-    slots_in = lost.slots_in;
-    each_claim = lost.each_claim;
+    slots_in = λ x slot at had. lost.slots_in x slot (left_job x at) had;
+    each_claim = λ slot draft at. elim (lost.each_claim slot draft at) [ inl done ↦ inl done | inr of_job ↦ inr (claim_left slot draft of_job) ];
     spelled = lost.spelled;
     words = lost.words;
     numbers = lost.numbers;
     s = lost.s;
     count = lost.count;
-    world = lost.world;
+    world = record {
+      valid = Valid-dropped v lost.done j (split.a ++ split.b) lost.words lost.numbers lost.s valid;
+      claims_stand = lost.world.claims_stand;
+      aged = lost.world.aged;
+      shape = lost.world.shape;
+      geometry = lost.world.geometry;
+    };
     lines = still_lent;
     sound = λ image at. lost.sound image (image_before image at);
-    each_job = λ x at. elim (each_job x at) [
-      | inl own ↦ subst (IsLostJob v e x) (sym (sym (ap (λ (y : Job). lost.slot_of y.draft.ino) own) ∙ no_slot_yet)) (inl (subst (λ (y : Job). AreHome v y.draft e) own own_home))
-      | inr other ↦ others_lost x at other (lost.slot_of x.draft.ino) (lost.each_job x at)
-    ];
-    home = home;
-    promise = promise;
+    each_job = λ x at. others_lost x (left_job x at) at (lost.slot_of x.draft.ino) (lost.each_job x (left_job x at));
+    home = home_left;
+    promise =
+        kept_without v e kept.first lost.done split.a j split.b start history last
+        (subst (λ jobs. IsKeptBack v e kept.first lost.done jobs start history last) split.jobs_are promise);
   }
 
   -- ---- it finishes
@@ -297,7 +326,7 @@ module _ (v : Volume) (d e : List Cell) (kept : Kept) (start : State) (history :
     slots_in : (x : Job) (n : ℕ) → In x lost.jobs → slots x.draft.ino ≡ Some n → In (n, x.draft) (kept.claims ++ claim ∷ [])
     slots_in x n at had = elim (cases_eq x.draft.ino j.draft.ino) [
       | inl same ↦
-          let own : x ≡ j = same_job v d kept start history unfinished lost x j at there same in
+          let own : x ≡ j = same_job v d kept start history last lost x j at there same in
           let slot_is : slot ≡ n = same_Some slot n (sym (own_slot x.draft.ino same) ∙ had) in
           subst (λ (y : ℕ × Draft). In y (kept.claims ++ claim ∷ [])) (λ i. (slot_is i, (sym split.draft ∙ sym (ap (λ (y : Job). y.draft) own)) i)) (in_last kept.claims claim)
       | inr other ↦ in_front kept.claims claim (n, x.draft) (lost.slots_in x n at (sym (other_slot x.draft.ino other) ∙ had))
@@ -315,8 +344,9 @@ module _ (v : Volume) (d e : List Cell) (kept : Kept) (start : State) (history :
           inr (j, there, split.draft ∙ same, own_slot draft.ino (ap (λ (y : Draft). y.ino) (sym (split.draft ∙ same))) ∙ ap (λ m. Some m) slot_is)
     ]
 
-    pub finished : IsLostWith v e (claimed_by kept slot p) start history unfinished
+    pub finished : IsLostWith v e (claimed_by kept slot p) start history last
     finished = record {
+      mode = lost.mode;
       jobs = lost.jobs;
       jobs_are = lost.jobs_are;
       whole = lost.whole;
@@ -349,11 +379,11 @@ module _ (v : Volume) (d e : List Cell) (kept : Kept) (start : State) (history :
     }
 
 pub finishes_lost : FinishesLost
-finishes_lost v d e kept start history unfinished p job slot lost is = finished v d e kept start history unfinished p job lost is slot
+finishes_lost v d e kept start history last p job slot lost is = finished v d e kept start history last p job lost is slot
 
 pub comes_home_alone : ComesHomeAlone
-comes_home_alone v d e kept start history unfinished p job lost is =
-    (home_then v d e kept start history unfinished p job lost is, others_words v d e kept start history unfinished p job lost is)
+comes_home_alone v d e kept start history last p job lost is =
+    (home_then v d e kept start history last p job lost is, others_words v d e kept start history last p job lost is)
 
 pub gives_up_lost : GivesUpLost
-gives_up_lost v d e kept start history unfinished p job lost is = given_up v d e kept start history unfinished p job lost is
+gives_up_lost v d e kept start history last p job lost is = given_up v d e kept start history last p job lost is

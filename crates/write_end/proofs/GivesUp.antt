@@ -63,7 +63,7 @@ two_runs d e apart draft same = elim (apart (ap (λ (r : StageRun). r.staging) s
 apart_back : (d e : Draft) → AreApart d e → AreApart e d
 apart_back d e apart same = elim (apart (sym same)) [ inl before ↦ inr before | inr behind ↦ inl behind ]
 
-whole_rest : (a : List Job) (j : Job) (b : List Job) → AreWhole (a ++ j ∷ b) → AreWhole (a ++ b)
+pub whole_rest : (a : List Job) (j : Job) (b : List Job) → AreWhole (a ++ j ∷ b) → AreWhole (a ++ b)
 whole_rest [] j b whole = whole.1
 whole_rest (x ∷ a) j b whole = (whole.0, whole_rest a j b whole.1)
 

@@ -1,5 +1,5 @@
 -- The power goes in a call of a World that stood together, or is found off.
-use Rattle.std.proofs.Common.{◌≡◌, ◌≢◌, ◌∷◌, ◌++◌, [], ℕ, List, None, refl, ◌∙◌, sym, subst, inl, inr}
+use Rattle.std.proofs.Common.{◌≡◌, ◌≢◌, ◌∷◌, [], ℕ, true, List, None, refl, ◌∙◌, sym, subst, inl, inr}
 use Rattle.std.specs.Prelude.{map}
 use Rattle.oplog_entry.specs.pm_model.ImageLaws.{IsImage-words_of}
 use Rattle.oplog_entry.specs.pm_model.Images.{words_of}
@@ -11,21 +11,26 @@ use Rattle.k_split_laws.specs.list_laws.Members.{In}
 use Rattle.k_split_laws.proofs.Cuts.{left_same}
 use Rattle.k_split_laws.specs.Left.{IsLeftOf}
 use Rattle.k_split_laws.specs.posix_types.declared.call.Mode.{Mode}
-use Rattle.k_split_laws.specs.posix_spec.Run.{Unfinished, run}
+use Rattle.k_split_laws.specs.k_split_model.View.{View}
+use Rattle.k_split_laws.specs.posix_types.declared.item.Item.{Item}
+use Rattle.k_split_laws.specs.posix_tables.Open.{Tables}
+use Rattle.k_split_laws.specs.posix_spec.Run.{run}
+use Rattle.k_split_laws.specs.posix_spec.State.{State}
 use Rattle.write_jobs.specs.world_image_laws.Changed.{sound_headed}
-use Rattle.write_jobs.specs.world_image_laws.Kept.{kept_more}
-use Rattle.write_jobs.specs.world_image_laws.Promised.{IsKept}
+use Rattle.write_jobs.specs.world_image_laws.Back.{IsKeptBack}
+use Rattle.write_jobs.specs.world_image_laws.InLog.{kept_back_more}
 use Rattle.write_jobs.specs.world_image_laws.Flights.{promise_in_flight}
 use Rattle.write_plan.specs.eof_laws.log_checkpoint.world_model.Jobs.{unfinished_call, Job, JobStands, live_claims}
 use Rattle.write_plan.specs.eof_laws.log_checkpoint.world_model.Stands.{number}
-use Rattle.live_model.specs.Standing.{AreJobsOf, JobOut}
+use Rattle.live_model.specs.Standing.{AreJobsOf, Kept, JobOut, StandsAt}
 use Rattle.write_end.specs.Ends.{begun_by}
 use Rattle.write_end.proofs.LosingPending.{stands_of}
 use Rattle.write_end.specs.LosingLaws.{IsFoundAtCall, IsFoundLost, IsLostAlike, LosesCall}
 use Rattle.write_end.specs.Lost.{IsLostWith}
 
 pub loses_call : LosesCall
-loses_call g k t kept n start history unfinished e stands spelled left keeps = record {
+loses_call g k t kept n start history last e mode stands spelled left keeps = record {
+  mode = mode;
   jobs = stands.jobs;
   jobs_are = stands.jobs_are;
   whole = stands.flying.whole;
@@ -47,51 +52,45 @@ loses_call g k t kept n start history unfinished e stands spelled left keeps = r
   sound = λ image is. subst (λ (x : Geometry). IsSound x image) (sym stands.geometry) (left.sound image is);
   each_job = λ j is. inr (λ m b i below at word. left.lent i ∙ stands.flying.out j is m b i below at word);
   home = λ i lent. stands.flying.home i (sym (left.lent i) ∙ lent);
-  promise = λ back slots image is. subst (λ (x : Geometry). IsKept x start history unfinished image) (sym stands.geometry) (keeps back slots image is);
+  promise = keeps mode;
 } where
   stood : (j : Job) → In j stands.jobs → JobStands k.volume (live_claims k.volume kept.claims) (journaled (words_of k.cells)) stands.numbers (run start history) j
   stood j is =
       stands_of k.volume (live_claims k.volume kept.claims) (journaled (words_of k.cells)) stands.numbers (run start history) stands.jobs j
       (stands.flying.device.world (words_of k.cells) (IsImage-words_of k.cells)).valid.out is
 
-calls_are : (pending : List JobOut) (jobs : List Job) → AreJobsOf pending jobs → map unfinished_call jobs ≡ map begun_by pending
+pub calls_are : (pending : List JobOut) (jobs : List Job) → AreJobsOf pending jobs → map unfinished_call jobs ≡ map begun_by pending
 calls_are [] [] are = refl
 calls_are [] (j ∷ jobs) are = absurd are
 calls_are (p ∷ pending) [] are = absurd are
 calls_are (p ∷ pending) (j ∷ jobs) are = λ i. (are.0 i, are.1 i) ∷ calls_are pending jobs are.3 i
 
+module _ (g : Geometry) (k : View) (t : Tables) (kept : Kept) (n : ℕ) (start : State) (history : List Item) (mode : start.mode ≢ Mode.Posix) (stands : StandsAt g k t kept true n (run start history)) where
+  still_left : IsLeftOf g k.cells k.cells
+  still_left =
+      subst (λ (x : Geometry). IsLeftOf x k.cells k.cells) stands.geometry
+      (left_same k.volume.geometry k.cells (λ image is. sound_headed k.volume.geometry image (stands.flying.device.headed image is)))
+
+  still_kept : IsKeptBack k.volume k.cells kept.first kept.claims stands.jobs start history []
+  still_kept =
+      promise_in_flight k.volume k.cells kept.claims stands.jobs stands.numbers start history stands.count kept.first mode (λ same. stands.flying.whole) stands.flying.device
+
 pub found_lost : IsFoundLost
-found_lost g k t kept n start history strict stands spelled =
-    loses_call g k t kept n start history (map begun_by kept.pending) k.cells stands spelled
-    (subst (λ (x : Geometry). IsLeftOf x k.cells k.cells) stands.geometry
-    (left_same k.volume.geometry k.cells (λ image is. sound_headed k.volume.geometry image (stands.flying.device.headed image is))))
-    (λ back slots image is.
-    subst (λ (x : Geometry). IsKept x start history (map begun_by kept.pending) image) stands.geometry
-    (subst (λ (cs : List Unfinished). IsKept k.volume.geometry start history cs image) (calls_are kept.pending stands.jobs stands.jobs_are)
-    (promise_in_flight k.volume k.cells kept.claims stands.jobs stands.numbers start history stands.count back kept.first slots image not_posix (λ same. stands.flying.whole) stands.flying.device is)))
-  where
-    not_posix : start.mode ≢ Mode.Posix
-    not_posix posix = let never : Mode.Strict ≡ Mode.Posix = sym strict ∙ posix in cc
+found_lost g k t kept n start history mode stands spelled =
+    loses_call g k t kept n start history [] k.cells mode stands spelled (still_left g k t kept n start history mode stands) (λ same. still_kept g k t kept n start history mode stands)
 
 pub found_at_call : IsFoundAtCall
-found_at_call g k t kept n start history c strict stands spelled =
-    loses_call g k t kept n start history (map begun_by kept.pending ++ c ∷ []) k.cells stands spelled
-    (subst (λ (x : Geometry). IsLeftOf x k.cells k.cells) stands.geometry
-    (left_same k.volume.geometry k.cells (λ image is. sound_headed k.volume.geometry image (stands.flying.device.headed image is))))
-    (λ back slots image is.
-    kept_more g start history (map begun_by kept.pending) c image not_posix
-    (subst (λ (x : Geometry). IsKept x start history (map begun_by kept.pending) image) stands.geometry
-    (subst (λ (cs : List Unfinished). IsKept k.volume.geometry start history cs image) (calls_are kept.pending stands.jobs stands.jobs_are)
-    (promise_in_flight k.volume k.cells kept.claims stands.jobs stands.numbers start history stands.count back kept.first slots image not_posix (λ same. stands.flying.whole) stands.flying.device is))))
-  where
-    not_posix : start.mode ≢ Mode.Posix
-    not_posix posix = let never : Mode.Strict ≡ Mode.Posix = sym strict ∙ posix in cc
+found_at_call g k t kept n start history c mode stands spelled =
+    loses_call g k t kept n start history (c ∷ []) k.cells mode stands spelled (still_left g k t kept n start history mode stands)
+    (λ same.
+    kept_back_more k.volume k.cells kept.first kept.claims stands.jobs start history c mode (still_kept g k t kept n start history mode stands))
 
 pub lost_alike : IsLostAlike
-lost_alike v d kept then start history unfinished pending claims first lost =
-    subst (λ (xs : Words). IsLostWith v d (record then { first = xs }) start history unfinished) (sym first)
-    (subst (λ (xs : List (ℕ × Draft)). IsLostWith v d (record then { first = kept.first; claims = xs }) start history unfinished) (sym claims)
-    (subst (λ (xs : List JobOut). IsLostWith v d (record then { first = kept.first; claims = kept.claims; pending = xs }) start history unfinished) (sym pending) (record {
+lost_alike v d kept then start history last pending claims first lost =
+    subst (λ (xs : Words). IsLostWith v d (record then { first = xs }) start history last) (sym first)
+    (subst (λ (xs : List (ℕ × Draft)). IsLostWith v d (record then { first = kept.first; claims = xs }) start history last) (sym claims)
+    (subst (λ (xs : List JobOut). IsLostWith v d (record then { first = kept.first; claims = kept.claims; pending = xs }) start history last) (sym pending) (record {
+      mode = lost.mode;
       jobs = lost.jobs;
       jobs_are = lost.jobs_are;
       whole = lost.whole;

@@ -125,7 +125,7 @@ pending_of (p ∷ pending) (x ∷ jobs) j are (inr rest) = let its = pending_of 
 
 -- ---- in a World that lost its power
 
-module _ (v : Volume) (d : List Cell) (kept : Kept) (start : State) (history : List Item) (unfinished : List Unfinished) (lost : IsLostWith v d kept start history unfinished) where
+module _ (v : Volume) (d : List Cell) (kept : Kept) (start : State) (history : List Item) (last : List Unfinished) (lost : IsLostWith v d kept start history last) where
   pub sane : IsSane v
   sane = lost.world.valid.stands.sane
 

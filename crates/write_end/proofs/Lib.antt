@@ -8,6 +8,7 @@ mod Settled
 pub mod LosingPending
 pub mod Jobs
 pub mod Going
+mod Dropped
 pub mod Ended
 pub mod Homes
 pub mod Stopped

@@ -13,15 +13,14 @@ use Rattle.oplog_entry.specs.layout_model.Places.{log_line}
 use Rattle.oplog_entry.specs.image_model.LogRule.{HoldsEntry, IsAsAtFirst, words_of_line}
 use Rattle.oplog_entry.specs.image_model.Volume.{Volume}
 use Rattle.k_split_laws.specs.k_split.Laps.{IsLogWord}
-use Rattle.k_split_laws.specs.k_split.LogLines.{AreLogLines}
 use Rattle.k_split_laws.specs.block_io.Lines.{line_at}
 use Rattle.oplog_entry.specs.EntryBytes.{encode_entry-small, length-encode_entry}
 use Rattle.oplog_entry.specs.EntryLines.{entry_words}
 use Rattle.write_plan.specs.eof_laws.log_checkpoint.world_model.Lines as lined
-use Rattle.write_plan.specs.eof_laws.log_checkpoint.world_model.Lines.{AreLinesOut, HoldsWords, IsClaimedLine, Spells}
+use Rattle.write_plan.specs.eof_laws.log_checkpoint.world_model.Lines.{HoldsWords, IsClaimedLine, Spells}
 use Rattle.live_model.specs.Standing.{IsSpellable}
 use Rattle.write_end.specs.CrashesLaws.{LinesAreHome, LinesHoldOut}
-use Rattle.write_end.specs.Lines.{first_at, IsJobLine}
+use Rattle.write_end.specs.Lines.{AreLinesOf, first_at, IsJobLine}
 
 -- ---- one cell without its mark
 
@@ -119,7 +118,7 @@ module _ (v : Volume) (first : Words) (lines : List Part) (cells : ℕ → Cell)
     holds = holds-again cells (line_at lines slot).cells (log_line v.geometry slot) (at slot below) holds.single;
   }
 
-  pub job_line : (slot : ℕ) (d : Draft) → slot < v.geometry.log → IsSpellable d → IsJobLine (line_at lines slot).cells (first_at v first slot) d (v.base + slot) → lined.IsJobLine v cells first slot d
+  pub job_line : (slot : ℕ) (d : Draft) → slot < v.geometry.log → IsSpellable d → IsJobLine (line_at lines slot).cells (first_at v.geometry first slot) d (v.base + slot) → lined.IsJobLine v cells first slot d
   job_line slot d below is (inl whole) =
       let line = claimed_line slot d below is whole in
       record { below = below; entry = line.entry; spells = line.spells; holds = inl line.holds }
@@ -137,11 +136,11 @@ module _ (v : Volume) (first : Words) (lines : List Part) (cells : ℕ → Cell)
     });
   }
 
-  pub first_line : (slot : ℕ) → slot < v.geometry.log → IsAsAtFirst (line_at lines slot).cells (first_at v first slot) → HoldsWords cells first (log_line v.geometry slot)
+  pub first_line : (slot : ℕ) → slot < v.geometry.log → IsAsAtFirst (line_at lines slot).cells (first_at v.geometry first slot) → HoldsWords cells first (log_line v.geometry slot)
   first_line slot below same j within = at slot below j within ∙ ap unmarked (same j within)
 
 -- lines that came home stand in the log again
-pub stand_again : (v : Volume) (lines : List Part) (d e : List Cell) → AreLogLines v lines → LinesAreHome v lines d e → StandAgain v lines (cell e)
+pub stand_again : (v : Volume) (lines : List Part) (d e : List Cell) → AreLinesOf v.geometry lines → LinesAreHome v lines d e → StandAgain v lines (cell e)
 stand_again v lines d e are home n j below within =
     subst (λ (i : ℕ). cell e i ≡ unmarked (cell (line_at lines n).cells j)) place (home.back.words n j (omega (arith, below, are.count)) within)
   where
@@ -160,7 +159,7 @@ lines_hold_out v d e first claims lines back lent spelled holds home = record {
       let held = holds.claimed slot draft is in
       claimed_line v first lines (put_back e back) again slot draft (omega (arith, held.0, holds.are.count)) (spelled slot draft is) held.1;
   out = tt;
-  others = λ slot below free taken. first_line v first lines (put_back e back) again slot below (holds.others slot (omega (arith, below, holds.are.count)) free);
+  others = λ slot below free taken. first_line v first lines (put_back e back) again slot below (holds.others slot (omega (arith, below, holds.are.count)) free (λ draft none. none));
   old = lent.old;
 } where
   again : StandAgain v lines (put_back e back)

@@ -1,5 +1,5 @@
 -- What a crash leaves of a World that lost its power, each law as one statement.
-use Rattle.std.specs.Prelude.{◌≡◌, ◌⊎◌, ◌/◌, ℕ, true, false, List, []}
+use Rattle.std.specs.Prelude.{◌≡◌, ◌⊎◌, ◌/◌, ◌++◌, ℕ, true, false, List, [], map}
 use Rattle.oplog_entry.specs.pm_model.declared.Cell.{Cell}
 use Rattle.oplog_entry.specs.pm_model.Cells.{AllHome, cell, is_lent}
 use Rattle.oplog_entry.specs.pm_model.Parts.{Part, put_back}
@@ -18,10 +18,10 @@ use Rattle.k_split_laws.specs.posix_spec.State.{State}
 use Rattle.write_jobs.specs.world_image_laws.Promised.{KeepsPromise}
 use Rattle.write_plan.specs.eof_laws.log_checkpoint.world_model.Lines.{AreLinesOut}
 use Rattle.live_model.specs.Standing.{AreLinesLent, Kept, JobOut, StandsAt}
-use Rattle.write_end.specs.Ends.{IsOut}
+use Rattle.write_end.specs.Ends.{begun_by, IsOut}
 use Rattle.write_jobs.specs.Jobs.{FilledView, HoldWords}
 use Rattle.write_end.specs.Blocks.{AreBlocksHome, ComeHome}
-use Rattle.write_end.specs.Lines.{AreCrashLines, HoldClaims}
+use Rattle.write_end.specs.Lines.{AreCrashLines}
 use Rattle.write_end.specs.Lost.{IsLostWith}
 use Rattle.write_end.specs.LosingLaws.{AreSpelled}
 
@@ -43,10 +43,10 @@ pub record LinesAreHome (v : Volume) (lines : List Part) (d e : List Cell) : Typ
 -- the promise for the calls that returned and the unfinished ones.
 abbrev pub KeepsCrashed : Type 0
 KeepsCrashed =
-    (v : Volume) (d middle e : List Cell) (kept : Kept) (start : State) (history : List Item) (unfinished : List Unfinished) (loans : List Part) (filled : List FilledView) (taken : List (ℕ × Draft)) (lines : List Part)
-    → IsLostWith v d kept start history unfinished → AreHandedIn d kept (run start history) loans filled → AreCrashLines v kept.first kept.claims filled taken lines
+    (v : Volume) (d middle e : List Cell) (kept : Kept) (start : State) (history : List Item) (last : List Unfinished) (loans : List Part) (filled : List FilledView) (taken : List (ℕ × Draft)) (lines : List Part)
+    → IsLostWith v d kept start history last → AreHandedIn d kept (run start history) loans filled → AreCrashLines v.geometry v.base kept.first kept.claims filled taken lines
     → ComeHome loans d middle → LinesAreHome v lines middle e
-    → AllHome e × KeepsPromise v.geometry e start history unfinished
+    → AllHome e × KeepsPromise v.geometry e start history (map begun_by kept.pending ++ last)
 
 -- With the lines at home, and the power on still, the device keeps it with nothing unfinished.
 abbrev pub KeepsHome : Type 0
@@ -58,5 +58,5 @@ KeepsHome =
 abbrev pub LinesHoldOut : Type 0
 LinesHoldOut =
     (v : Volume) (d e : List Cell) (first : Words) (claims : List (ℕ × Draft)) (lines : List Part) (back : ℕ → Cell)
-    → AreLinesLent v d first → AreSpelled claims → HoldClaims v first claims lines → LinesAreHome v lines d e
+    → AreLinesLent v d first → AreSpelled claims → AreCrashLines v.geometry v.base first claims [] [] lines → LinesAreHome v lines d e
     → AreLinesOut v (put_back e back) first claims [] []

@@ -1,9 +1,8 @@
 -- How a World that lost its power goes on, each law as one statement.
-use Rattle.std.specs.Prelude.{◌≡◌, ◌≢◌, ◌/◌, ℕ, true, false, List, [], ◌∷◌, ◌++◌, map, Option, Bool}
+use Rattle.std.specs.Prelude.{◌≡◌, ◌≢◌, ◌/◌, ℕ, true, false, List, [], ◌∷◌, ◌++◌, Bool}
 use Rattle.oplog_entry.specs.pm_model.declared.Cell.{Cell}
 use Rattle.oplog_entry.specs.pm_model.Cells.{cell, is_lent}
 use Rattle.oplog_entry.specs.pm_model.Parts.{Part}
-use Rattle.oplog_entry.specs.pm_model.Words.{Words}
 use Rattle.write_jobs.specs.Loans.{AreApart, ComeBack}
 use Rattle.oplog_entry.specs.layout_model.declared.lines.Draft.{Draft}
 use Rattle.oplog_entry.specs.layout_model.Places.{Geometry}
@@ -16,10 +15,10 @@ use Rattle.k_split_laws.specs.posix_types.declared.item.Item.{Item}
 use Rattle.k_split_laws.specs.posix_tables.Open.{Tables}
 use Rattle.k_split_laws.specs.posix_spec.Run.{Unfinished, run}
 use Rattle.k_split_laws.specs.posix_spec.State.{State}
-use Rattle.write_jobs.specs.world_image_laws.Promised.{IsKept}
-use Rattle.write_jobs.specs.world_image_laws.Back.{IsPutBack}
+use Rattle.live_model.specs.Losses.{KeepsWhenLost}
+use Rattle.live_model.specs.Jobs.{without}
 use Rattle.live_model.specs.Standing.{IsSpellable, Kept, JobOut, StandsAt}
-use Rattle.write_end.specs.Ends.{IsOut, begun_by}
+use Rattle.write_end.specs.Ends.{IsOut}
 use Rattle.write_jobs.specs.Jobs.{FilledView, HoldWords, blocks_of}
 use Rattle.write_end.specs.Blocks.{AreBlocksHome, AreBlocksOut, ComeHome}
 use Rattle.write_end.specs.Lost.{IsLostWith}
@@ -28,34 +27,32 @@ use Rattle.write_end.specs.Lost.{IsLostWith}
 abbrev pub AreSpelled : List (ℕ × Draft) → Type 0
 AreSpelled claims = (slot : ℕ) (d : Draft) → In (slot, d) claims → IsSpellable d
 
--- THE POWER WENT in a call of a World that stood together: its device is left of that before, and each image, once lines and blocks are
--- put back, is kept with these calls unfinished.
+-- THE POWER WENT in a call of a World that stood together, in strict or in sync mode: its device is left of that before, and the promise is kept.
 abbrev pub LosesCall : Type 0
 LosesCall =
-    (g : Geometry) (k : View) (t : Tables) (kept : Kept) (n : ℕ) (start : State) (history : List Item) (unfinished : List Unfinished) (e : List Cell)
-    → (stands : StandsAt g k t kept true n (run start history)) → AreSpelled kept.claims → IsLeftOf g k.cells e
-    → ((back : ℕ → Cell) (slots : List (Option ℕ)) (image : Words) → IsPutBack k.volume e back kept.first kept.claims stands.jobs slots image → IsKept g start history unfinished image)
-    → IsLostWith k.volume e kept start history unfinished
+    (g : Geometry) (k : View) (t : Tables) (kept : Kept) (n : ℕ) (start : State) (history : List Item) (last : List Unfinished) (e : List Cell) → start.mode ≢ Mode.Posix
+    → (stands : StandsAt g k t kept true n (run start history)) → AreSpelled kept.claims → IsLeftOf g k.cells e → KeepsWhenLost k.volume e kept stands.jobs start history last
+    → IsLostWith k.volume e kept start history last
 
 -- It was found off, or lost elsewhere: the jobs that are out are the unfinished calls.
 abbrev pub IsFoundLost : Type 0
 IsFoundLost =
-    (g : Geometry) (k : View) (t : Tables) (kept : Kept) (n : ℕ) (start : State) (history : List Item) → start.mode ≡ Mode.Strict
+    (g : Geometry) (k : View) (t : Tables) (kept : Kept) (n : ℕ) (start : State) (history : List Item) → start.mode ≢ Mode.Posix
     → StandsAt g k t kept true n (run start history) → AreSpelled kept.claims
-    → IsLostWith k.volume k.cells kept start history (map begun_by kept.pending)
+    → IsLostWith k.volume k.cells kept start history []
 
 -- So it is with one call more, which found the power off before it did anything.
 abbrev pub IsFoundAtCall : Type 0
 IsFoundAtCall =
-    (g : Geometry) (k : View) (t : Tables) (kept : Kept) (n : ℕ) (start : State) (history : List Item) (c : Unfinished) → start.mode ≡ Mode.Strict
+    (g : Geometry) (k : View) (t : Tables) (kept : Kept) (n : ℕ) (start : State) (history : List Item) (c : Unfinished) → start.mode ≢ Mode.Posix
     → StandsAt g k t kept true n (run start history) → AreSpelled kept.claims
-    → IsLostWith k.volume k.cells kept start history (map begun_by kept.pending ++ c ∷ [])
+    → IsLostWith k.volume k.cells kept start history (c ∷ [])
 
 -- Of what is kept only the jobs, the claims and the first words count then.
 abbrev pub IsLostAlike : Type 0
 IsLostAlike =
-    (v : Volume) (d : List Cell) (kept then : Kept) (start : State) (history : List Item) (unfinished : List Unfinished) → then.pending ≡ kept.pending → then.claims ≡ kept.claims → then.first ≡ kept.first
-    → IsLostWith v d kept start history unfinished → IsLostWith v d then start history unfinished
+    (v : Volume) (d : List Cell) (kept then : Kept) (start : State) (history : List Item) (last : List Unfinished) → then.pending ≡ kept.pending → then.claims ≡ kept.claims → then.first ≡ kept.first
+    → IsLostWith v d kept start history last → IsLostWith v d then start history last
 
 -- ---- the blocks of jobs
 
@@ -75,8 +72,8 @@ SharesNone pending p = (q : JobOut) (b : ℕ) → In q pending → q.who ≢ p.w
 
 abbrev pub HasLoansApart : Type 0
 HasLoansApart =
-    (v : Volume) (d : List Cell) (kept : Kept) (start : State) (history : List Item) (unfinished : List Unfinished) (p : JobOut) (loans : List Part)
-    → IsLostWith v d kept start history unfinished → In p kept.pending → blocks_of loans ≡ p.blocks → AreApart loans × SharesNone kept.pending p
+    (v : Volume) (d : List Cell) (kept : Kept) (start : State) (history : List Item) (last : List Unfinished) (p : JobOut) (loans : List Part)
+    → IsLostWith v d kept start history last → In p kept.pending → blocks_of loans ≡ p.blocks → AreApart loans × SharesNone kept.pending p
 
 -- so it is while they stand together
 abbrev pub StandsApart : Type 0
@@ -100,20 +97,24 @@ claimed_by kept slot p = record kept { claims = kept.claims ++ (slot, p.draft) �
 -- A JOB FINISHES after the loss: its claim counts, and its call stays unfinished.
 abbrev pub FinishesLost : Type 0
 FinishesLost =
-    (v : Volume) (d e : List Cell) (kept : Kept) (start : State) (history : List Item) (unfinished : List Unfinished) (p : JobOut) (job : FilledView) (slot : ℕ)
-    → IsLostWith v d kept start history unfinished → ComesHome d e kept (run start history) p job → IsLostWith v e (claimed_by kept slot p) start history unfinished
+    (v : Volume) (d e : List Cell) (kept : Kept) (start : State) (history : List Item) (last : List Unfinished) (p : JobOut) (job : FilledView) (slot : ℕ)
+    → IsLostWith v d kept start history last → ComesHome d e kept (run start history) p job → IsLostWith v e (claimed_by kept slot p) start history last
 
--- IT IS GIVEN UP after the loss: its call stays unfinished too.
+-- what the World keeps, without the job
+abbrev pub without_job : Kept → JobOut → Kept
+without_job kept p = record kept { pending = without p.who kept.pending }
+
+-- IT IS GIVEN UP after the loss: it is out no more, and its call was not begun.
 abbrev pub GivesUpLost : Type 0
 GivesUpLost =
-    (v : Volume) (d e : List Cell) (kept : Kept) (start : State) (history : List Item) (unfinished : List Unfinished) (p : JobOut) (job : FilledView)
-    → IsLostWith v d kept start history unfinished → ComesHome d e kept (run start history) p job → IsLostWith v e kept start history unfinished
+    (v : Volume) (d e : List Cell) (kept : Kept) (start : State) (history : List Item) (last : List Unfinished) (p : JobOut) (job : FilledView)
+    → IsLostWith v d kept start history last → ComesHome d e kept (run start history) p job → IsLostWith v e (without_job kept p) start history last
 
 -- Then its blocks are at home; and each word of the blocks of a job of another caller is as it was.
 abbrev pub ComesHomeAlone : Type 0
 ComesHomeAlone =
-    (v : Volume) (d e : List Cell) (kept : Kept) (start : State) (history : List Item) (unfinished : List Unfinished) (p : JobOut) (job : FilledView)
-    → IsLostWith v d kept start history unfinished → ComesHome d e kept (run start history) p job
+    (v : Volume) (d e : List Cell) (kept : Kept) (start : State) (history : List Item) (last : List Unfinished) (p : JobOut) (job : FilledView)
+    → IsLostWith v d kept start history last → ComesHome d e kept (run start history) p job
     → AreBlocksHome p.blocks e
     × ((q : JobOut) (i : ℕ) → In q kept.pending → q.who ≢ p.who → In (i / 512) q.blocks → cell e i ≡ cell d i)
 

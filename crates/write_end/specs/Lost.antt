@@ -1,5 +1,5 @@
 -- A World whose power went while log lines and blocks of jobs are out.
-use Rattle.std.specs.Prelude.{◌≡◌, ◌⊎◌, ℕ, true, AllPairs, List, Option, Some, None}
+use Rattle.std.specs.Prelude.{◌≡◌, ◌≢◌, ◌⊎◌, ℕ, true, AllPairs, List, Option, Some, None}
 use Rattle.oplog_entry.specs.pm_model.declared.Cell.{Cell}
 use Rattle.oplog_entry.specs.pm_model.Cells.{cell, is_lent}
 use Rattle.oplog_entry.specs.pm_model.Images.{IsImage}
@@ -10,12 +10,12 @@ use Rattle.oplog_entry.specs.image_model.Volume.{Volume}
 use Rattle.live_model.specs.Flying.{IsOut}
 use Rattle.write_jobs.specs.Blocks.{AreOut}
 use Rattle.k_split_laws.specs.list_laws.Members.{In}
+use Rattle.k_split_laws.specs.posix_types.declared.call.Mode.{Mode}
 use Rattle.k_split_laws.specs.posix_types.declared.item.Item.{Item}
 use Rattle.write_plan.specs.eof_laws.log_checkpoint.posix_laws.Puts.{PutsWhole}
 use Rattle.k_split_laws.specs.posix_spec.Run.{Unfinished, run}
 use Rattle.k_split_laws.specs.posix_spec.State.{State}
-use Rattle.write_jobs.specs.world_image_laws.Promised.{IsKept}
-use Rattle.write_jobs.specs.world_image_laws.Back.{IsPutBack}
+use Rattle.write_jobs.specs.world_image_laws.Back.{IsKeptBack}
 use Rattle.write_plan.specs.eof_laws.log_checkpoint.world_model.Jobs.{HoldsWhole, Job}
 use Rattle.write_plan.specs.eof_laws.log_checkpoint.world_model.Promised.{AreWhole}
 use Rattle.live_model.specs.Standing.{AreJobsOf, AreLinesLent, AreOfTwoThreads, HasItsBlocks, IsSpellable, Kept, JobOut}
@@ -31,9 +31,10 @@ IsLostJob v cells j None = AreHome v j.draft cells ⊎ AreOut v j.draft cells
 -- THE POWER IS LOST, while the log lines are out. The jobs are those that are kept as out. Of the claims some were finished (`done`); the
 -- others are of jobs whose finish lost the power, by the inode of the file one slot each (`slot_of`). The World was valid with the claims
 -- that were finished and all these jobs, by some words: so no two jobs share a block. A word that is lent is one of a log line or of a
--- block of a job; and the journal of each image is sound. THE PROMISE: whatever image a loss leaves once lines and blocks are put back,
--- it is checked, and its content is one that the calls that returned and the unfinished ones permit.
-pub record IsLostWith (v : Volume) (cells : List Cell) (kept : Kept) (start : State) (history : List Item) (unfinished : List Unfinished) : Type 0 where
+-- block of a job; and the journal of each image is sound. THE PROMISE is kept with the calls of the jobs unfinished, and behind them the
+-- last ones: the call that lost the power, if one did.
+pub record IsLostWith (v : Volume) (cells : List Cell) (kept : Kept) (start : State) (history : List Item) (last : List Unfinished) : Type 0 where
+  pub mode : start.mode ≢ Mode.Posix
   pub jobs : List Job
   pub jobs_are : AreJobsOf kept.pending jobs
   pub whole : AreWhole jobs
@@ -55,5 +56,4 @@ pub record IsLostWith (v : Volume) (cells : List Cell) (kept : Kept) (start : St
   pub sound : (image : Words) → IsImage cells image → IsSound v.geometry image
   pub each_job : (j : Job) → In j jobs → IsLostJob v cells j (slot_of j.draft.ino)
   pub home : (i : ℕ) → is_lent (cell cells i) ≡ true → IsOut v jobs i
-  pub promise : (back : ℕ → Cell) (slots : List (Option ℕ)) (image : Words) → IsPutBack v cells back kept.first done jobs slots image
-      → IsKept v.geometry start history unfinished image
+  pub promise : IsKeptBack v cells kept.first done jobs start history last

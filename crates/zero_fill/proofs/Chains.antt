@@ -1,5 +1,5 @@
 -- Blocks are zeroed one after the other.
-use Rattle.std.specs.Prelude.{◌≡◌, ◌≤◌, ◌+◌, ◌*◌, ◌/◌, ℕ, [], ◌∷◌, ◌++◌, map, max, refl}
+use Rattle.std.specs.Prelude.{◌≡◌, ◌≤◌, ◌+◌, ◌*◌, ◌/◌, ℕ, [], ◌∷◌, max, refl}
 use Rattle.std.proofs.Common.{arith, ap, ◌∙◌, sym, subst}
 use Rattle.k_split_laws.specs.layout_model.declared.lines.Kind.TheVariants.{File}
 use Rattle.k_split_laws.specs.image_model.Volume.{inode, Volume}
@@ -9,9 +9,7 @@ use Rattle.zero_fill.specs.Zeros.{block_end, ReadZero}
 use Rattle.k_split_laws.specs.k_split_model.View.{View}
 use Rattle.k_split_laws.specs.list_laws.Members.{In}
 use Rattle.k_split_laws.proofs.Cuts.{left_through}
-use Rattle.live_step_laws.specs.world_image_laws.Promised.{IsKept}
-use Rattle.live_step_laws.specs.world_image_laws.Back.{IsPutBack}
-use Rattle.live_step_laws.specs.world_model.Jobs.{unfinished_call}
+use Rattle.write_plan.specs.live_model.Losses.{KeepsWhenLost}
 use Rattle.zero_fill.specs.Gaps.{Clears, HasFile, LosesGap}
 
 -- nothing lies between the end and a byte that is not behind it
@@ -71,11 +69,9 @@ module _ (k l m : View) (files : Files) (ino from : ℕ) (first : Clears ino fil
   pub loses_then : LosesGap ino files l m → LosesGap ino files k m
   loses_then loses = record {
     left = λ has. left_through has.g k.cells l.cells m.cells first.size first.lent (loses.left (then_has has));
-    kept = λ has start history c is strict back slots image put.
-        subst (λ js. IsKept has.g start history (map unfinished_call js ++ c ∷ []) image) (first.stays has).jobs_are
-        (loses.kept (then_has has) start history c is strict back slots image
-        (subst (λ (v : Volume). IsPutBack v m.cells back has.kept.first has.kept.claims (first.stays has).now.jobs slots image) (sym same_volume)
-        (subst (λ js. IsPutBack k.volume m.cells back has.kept.first has.kept.claims js slots image) (sym (first.stays has).jobs_are) put)));
+    kept = λ has start history c is.
+        subst (λ js. KeepsWhenLost k.volume m.cells has.kept js start history (c ∷ [])) (first.stays has).jobs_are
+        (subst (λ (v : Volume). KeepsWhenLost v m.cells has.kept (first.stays has).now.jobs start history (c ∷ [])) same_volume (loses.kept (then_has has) start history c is));
   }
 
 -- the steps of the blocks so far, and of one more

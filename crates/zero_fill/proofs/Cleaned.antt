@@ -20,15 +20,15 @@ use Rattle.live_step_laws.specs.posix_spec.Run.{run}
 use Rattle.live_step_laws.specs.posix_spec.State.{State}
 use Rattle.write_plan.specs.live_model.staging_files.Keeps.{Agrees}
 use Rattle.live_step_laws.specs.world_model.TreeRules.{used_below}
-use Rattle.live_step_laws.specs.world_model.Jobs.{unfinished_call, live_claims}
+use Rattle.live_step_laws.specs.world_model.Jobs.{live_claims}
 use Rattle.live_step_laws.specs.world_model.Stands.{is_used}
 use Rattle.live_step_laws.specs.world_step_laws.Worlds.{IsWorld}
 use Rattle.live_step_laws.specs.world_image_laws.Changed.{ShowsLog-same, sound_headed}
 use Rattle.live_step_laws.specs.world_image_laws.Images.{HasLogHome, IsHeaded, ShowsWorld}
-use Rattle.live_step_laws.specs.world_image_laws.Promised.{IsKept}
-use Rattle.live_step_laws.specs.world_image_laws.Flights.{leads_before, ShowsBack}
+use Rattle.live_step_laws.specs.world_image_laws.Back.{jobs_in_log}
+use Rattle.live_step_laws.specs.world_image_laws.Flights.{image_of, kept_leading, leads_before, shows_back, shows_in_log, small_lap}
+use Rattle.live_step_laws.specs.world_image_laws.InLog.{put_in_log, slots_in_log}
 use Rattle.write_plan.specs.live_model.Standing.{file_state, Kept, LinesStand, StandsAt}
-use Rattle.live_step_laws.proofs.Devices.{image_of, kept_leading, shows_back, small_lap}
 use Rattle.live_step_laws.proofs.Words.{headed_changed, same_log}
 use Rattle.zero_fill.specs.CleansLaws.{KeepsCleaned, MayClean, StandsCleaned}
 use Rattle.zero_fill.proofs.CleansReading.{world_before}
@@ -155,9 +155,8 @@ stands_cleaned g k l t kept lines n s ino from stands may done =
 -- ---- cut off
 
 pub keeps_cleaned : KeepsCleaned
-keeps_cleaned g k l t kept lines n start history c ino from strict stands may cut back slots image put =
-    subst (λ y. IsKept y start history (map unfinished_call stands.jobs ++ c ∷ []) image) stands.geometry
-    (kept_leading k.volume kept.claims stands.jobs stands.numbers (run start history) stands.count image start history c strict stands.flying.whole (leads_before start history c stands.jobs) shows)
+keeps_cleaned g k l t kept lines n start history c ino from stands may cut mode back slots image put =
+    kept_leading k.volume kept.claims stands.jobs slots stands.numbers (run start history) stands.count image start history c mode (λ strict. stands.flying.whole) (leads_before start history c stands.jobs) shows
   where
     is_image : IsImage l.cells image
     is_image = image_of l.cells back image put.image_is
@@ -168,18 +167,10 @@ keeps_cleaned g k l t kept lines n start history c ino from strict stands may cu
     headed_is : IsHeaded k.volume.geometry image
     headed_is = headed g k l.cells t kept lines n (run start history) ino from stands may cut.over image is_image
 
-    back_shows : ShowsBack k.volume kept.claims stands.jobs image
-    back_shows =
-        shows_back k.volume l.cells kept.claims stands.jobs back kept.first slots image headed_is
-        (small_lap k.volume k.cells kept.claims stands.jobs stands.numbers (run start history) stands.count from_one.0 stands.flying.device from_one.1.is_image) put
-
-    shows : ShowsWorld k.volume kept.claims stands.jobs stands.numbers (run start history) stands.count image
-    shows = record {
-      headed = headed_is;
-      reads = from_one.2.reads;
-      world = world g k l.cells t kept lines n (run start history) ino from stands may cut.over image is_image;
-      room = stands.flying.device.room;
-      landed = back_shows.landed;
-      filled = back_shows.filled;
-      log = back_shows.log;
-    }
+    shows : ShowsWorld k.volume kept.claims (jobs_in_log slots stands.jobs) stands.numbers (run start history) stands.count image
+    shows =
+        shows_in_log k.volume kept.claims stands.jobs slots stands.numbers (run start history) stands.count image headed_is from_one.2.reads
+        (world g k l.cells t kept lines n (run start history) ino from stands may cut.over image is_image) stands.flying.device.room
+        (shows_back k.volume l.cells kept.claims (jobs_in_log slots stands.jobs) back kept.first (slots_in_log slots stands.jobs) image headed_is
+        (small_lap k.volume k.cells kept.claims stands.jobs stands.numbers (run start history) stands.count from_one.0 stands.flying.device from_one.1.is_image)
+        (put_in_log k.volume l.cells back kept.first kept.claims stands.jobs slots image put))

@@ -1,8 +1,6 @@
 -- The power goes while a block is zeroed, or before.
-use Rattle.std.specs.Prelude.{◌≡◌, ◌≢◌, ◌⊎◌, ◌≤◌, ◌/◌, ℕ, Bool, List, [], ◌∷◌, ◌++◌, map, Option, Some}
+use Rattle.std.specs.Prelude.{◌≡◌, ◌≢◌, ◌⊎◌, ◌≤◌, ◌/◌, ℕ, Bool, List, [], ◌∷◌, Some}
 use Rattle.std.proofs.Common.{sym, subst, inl, inr}
-use Rattle.k_split_laws.specs.pm_model.declared.Cell.{Cell}
-use Rattle.k_split_laws.specs.pm_model.Words.{Words}
 use Rattle.k_split_laws.specs.layout_model.Journal.{IsSound}
 use Rattle.k_split_laws.specs.layout_model.Places.{Geometry}
 use Rattle.write_plan.specs.file_overlay.Runs.{staged_at}
@@ -15,30 +13,24 @@ use Rattle.k_split_laws.specs.k_split.Bytes.{IsOverwriteCut, tail_zeros}
 use Rattle.k_split_laws.specs.list_laws.Members.{In}
 use Rattle.k_split_laws.specs.Left.{IsLeftOf}
 use Rattle.k_split_laws.proofs.Cuts.{left_at, left_overwritten, left_same}
-use Rattle.k_split_laws.specs.posix_types.declared.call.Mode.{Mode}
 use Rattle.k_split_laws.specs.posix_types.declared.item.Item.{Item}
 use Rattle.k_split_laws.specs.posix_tables.Open.{Tables}
 use Rattle.k_split_laws.specs.posix_spec.Run.{Unfinished, run}
 use Rattle.k_split_laws.specs.posix_spec.State.{State}
 use Rattle.live_step_laws.specs.world_image_laws.Changed.{sound_headed}
-use Rattle.live_step_laws.specs.world_image_laws.Promised.{IsKept}
-use Rattle.live_step_laws.specs.world_image_laws.Back.{IsPutBack}
+use Rattle.live_step_laws.specs.world_image_laws.Back.{IsKeptBack}
 use Rattle.live_step_laws.specs.world_image_laws.Flights.{promise_at_begin}
-use Rattle.live_step_laws.specs.world_model.Jobs.{unfinished_call, Job}
+use Rattle.live_step_laws.specs.world_model.Jobs.{Job}
+use Rattle.write_plan.specs.live_model.Losses.{KeepsWhenLost}
 use Rattle.write_plan.specs.live_model.Standing.{Kept, StandsAt}
 use Rattle.zero_fill.specs.Gaps.{LosesGap, with_files}
 
-not_posix : (m : Mode) → m ≡ Mode.Strict → m ≢ Mode.Posix
-not_posix m strict posix = cc
-
 -- nothing was changed
-pub kept_off : (g : Geometry) (k l : View) (t : Tables) (kept : Kept) (lines : Bool) (n : ℕ) (start : State) (history : List Item) (c : Unfinished) → start.mode ≡ Mode.Strict
-    → (stands : StandsAt g k t kept lines n (run start history)) → l.cells ≡ k.cells → (back : ℕ → Cell) (slots : List (Option ℕ)) (image : Words)
-    → IsPutBack k.volume l.cells back kept.first kept.claims stands.jobs slots image → IsKept g start history (map unfinished_call stands.jobs ++ c ∷ []) image
-kept_off g k l t kept lines n start history c strict stands same back slots image put =
-    subst (λ y. IsKept y start history (map unfinished_call stands.jobs ++ c ∷ []) image) stands.geometry
-    (promise_at_begin k.volume k.cells kept.claims stands.jobs stands.numbers start history stands.count back kept.first slots image c (not_posix start.mode strict) (λ mode. stands.flying.whole) stands.flying.device
-    (subst (λ d. IsPutBack k.volume d back kept.first kept.claims stands.jobs slots image) same put))
+pub kept_off : (g : Geometry) (k l : View) (t : Tables) (kept : Kept) (lines : Bool) (n : ℕ) (start : State) (history : List Item) (c : Unfinished)
+    → (stands : StandsAt g k t kept lines n (run start history)) → l.cells ≡ k.cells → KeepsWhenLost k.volume l.cells kept stands.jobs start history (c ∷ [])
+kept_off g k l t kept lines n start history c stands same mode =
+    subst (λ d. IsKeptBack k.volume d kept.first kept.claims stands.jobs start history (c ∷ [])) (sym same)
+    (promise_at_begin k.volume k.cells kept.claims stands.jobs stands.numbers start history stands.count kept.first c mode (λ strict. stands.flying.whole) stands.flying.device)
 
 pub left_off : (g : Geometry) (k l : View) (t : Tables) (kept : Kept) (lines : Bool) (n : ℕ) (s : State) → StandsAt g k t kept lines n s → l.cells ≡ k.cells → IsLeftOf g k.cells l.cells
 left_off g k l t kept lines n s stands same =
@@ -54,11 +46,9 @@ module _ (k l : View) (files : Files) (ino from : ℕ) (behind : size_in files i
   pub loses_off : l.cells ≡ k.cells → LosesGap ino files k l
   loses_off same = record {
     left = λ has. left_off has.g k l has.t (with_files has.kept files) has.lines has.n has.s has.stands same;
-    kept = λ has start history c is strict.
-        subst
-        (λ y. (stands : StandsAt has.g k has.t (with_files has.kept files) has.lines has.n y) → (back : ℕ → Cell) (slots : List (Option ℕ)) (image : Words)
-        → IsPutBack k.volume l.cells back has.kept.first has.kept.claims stands.jobs slots image → IsKept has.g start history (map unfinished_call stands.jobs ++ c ∷ []) image)
-        (sym is) (λ stands. kept_off has.g k l has.t (with_files has.kept files) has.lines has.n start history c strict stands same) has.stands;
+    kept = λ has start history c is.
+        subst (λ y. (stands : StandsAt has.g k has.t (with_files has.kept files) has.lines has.n y) → KeepsWhenLost k.volume l.cells has.kept stands.jobs start history (c ∷ [])) (sym is)
+        (λ stands. kept_off has.g k l has.t (with_files has.kept files) has.lines has.n start history c stands same) has.stands;
   }
 
   -- a block of its map
@@ -66,12 +56,12 @@ module _ (k l : View) (files : Files) (ino from : ℕ) (behind : size_in files i
   loses_mapped keeps (inl same) = loses_off same
   loses_mapped keeps (inr cut) = record {
     left = λ has. left_bytes has.g k l has.t (with_files has.kept files) has.lines has.n has.s ino from (tail_zeros k.volume ino from) has.stands cut;
-    kept = λ has start history c is strict.
+    kept = λ has start history c is.
         subst
-        (λ y. (stands : StandsAt has.g k has.t (with_files has.kept files) has.lines has.n y) → ((j : Job) → In j stands.jobs → j.draft.ino ≢ ino) → (back : ℕ → Cell) (slots : List (Option ℕ)) (image : Words)
-        → IsPutBack k.volume l.cells back has.kept.first has.kept.claims stands.jobs slots image → IsKept has.g start history (map unfinished_call stands.jobs ++ c ∷ []) image)
+        (λ y. (stands : StandsAt has.g k has.t (with_files has.kept files) has.lines has.n y) → ((j : Job) → In j stands.jobs → j.draft.ino ≢ ino)
+        → KeepsWhenLost k.volume l.cells has.kept stands.jobs start history (c ∷ []))
         (sym is)
-        (λ stands others. keeps has.g k l has.t (with_files has.kept files) has.lines has.n start history c ino from strict stands (record { file = has.file; behind = behind; others = others }) cut)
+        (λ stands others. keeps has.g k l has.t (with_files has.kept files) has.lines has.n start history c ino from stands (record { file = has.file; behind = behind; others = others }) cut)
         has.stands has.others;
   }
 
@@ -81,13 +71,13 @@ module _ (k l : View) (files : Files) (ino from : ℕ) (behind : size_in files i
   loses_staged staging block keeps at (inl same) = loses_off same
   loses_staged staging block keeps at (inr cut) = record {
     left = λ has. left_bytes has.g k l has.t (with_files has.kept files) has.lines has.n has.s staging (staged_place block from) (tail_zeros k.volume staging (staged_place block from)) has.stands cut;
-    kept = λ has start history c is strict.
+    kept = λ has start history c is.
         subst
-        (λ y. (stands : StandsAt has.g k has.t (with_files has.kept files) has.lines has.n y) → ((j : Job) → In j stands.jobs → j.draft.ino ≢ ino) → (back : ℕ → Cell) (slots : List (Option ℕ)) (image : Words)
-        → IsPutBack k.volume l.cells back has.kept.first has.kept.claims stands.jobs slots image → IsKept has.g start history (map unfinished_call stands.jobs ++ c ∷ []) image)
+        (λ y. (stands : StandsAt has.g k has.t (with_files has.kept files) has.lines has.n y) → ((j : Job) → In j stands.jobs → j.draft.ino ≢ ino)
+        → KeepsWhenLost k.volume l.cells has.kept stands.jobs start history (c ∷ []))
         (sym is)
         (λ stands others.
-        keeps has.g k l has.t (with_files has.kept files) has.lines has.n start history c ino from staging block strict stands
+        keeps has.g k l has.t (with_files has.kept files) has.lines has.n start history c ino from staging block stands
         (record { file = has.file; behind = behind; others = others; at = at }) cut)
         has.stands has.others;
   }

@@ -1,7 +1,5 @@
 -- The end of a file is cleaned, each law as one statement.
-use Rattle.std.specs.Prelude.{◌≡◌, ◌≢◌, ◌≤◌, ℕ, Bool, List, [], ◌∷◌, ◌++◌, map, Option}
-use Rattle.live_step_laws.specs.pm_model.declared.Cell.{Cell}
-use Rattle.live_step_laws.specs.pm_model.Words.{Words}
+use Rattle.std.specs.Prelude.{◌≡◌, ◌≢◌, ◌≤◌, ℕ, Bool, List, [], ◌∷◌}
 use Rattle.live_step_laws.specs.layout_model.declared.lines.Kind.TheVariants.{File}
 use Rattle.live_step_laws.specs.layout_model.Places.{Geometry}
 use Rattle.live_step_laws.specs.image_model.Volume.{inode}
@@ -9,14 +7,12 @@ use Rattle.write_plan.specs.live_model.file_table.Files.{size_in}
 use Rattle.live_step_laws.specs.k_split_model.View.{View}
 use Rattle.write_plan.specs.live_model.k_split.Bytes.{IsOverwriteCut, IsOverwriteDone, tail_zeros}
 use Rattle.live_step_laws.specs.list_laws.Members.{In}
-use Rattle.live_step_laws.specs.posix_types.declared.call.Mode.{Mode}
 use Rattle.live_step_laws.specs.posix_types.declared.item.Item.{Item}
 use Rattle.live_step_laws.specs.posix_tables.Open.{Tables}
 use Rattle.live_step_laws.specs.posix_spec.Run.{Unfinished, run}
 use Rattle.live_step_laws.specs.posix_spec.State.{State}
-use Rattle.live_step_laws.specs.world_model.Jobs.{unfinished_call, Job}
-use Rattle.live_step_laws.specs.world_image_laws.Promised.{IsKept}
-use Rattle.live_step_laws.specs.world_image_laws.Back.{IsPutBack}
+use Rattle.live_step_laws.specs.world_model.Jobs.{Job}
+use Rattle.write_plan.specs.live_model.Losses.{KeepsWhenLost}
 use Rattle.write_plan.specs.live_model.Standing.{Kept, StandsAt}
 
 -- A FILE MAY BE CLEANED from a place on: the file ends there or before, by what is kept of it, and no job that is out is of it.
@@ -33,14 +29,11 @@ StandsCleaned =
     → IsOverwriteDone ino from (tail_zeros k.volume ino from) k l
     → (now : StandsAt g l t kept lines n s) × (now.jobs ≡ stands.jobs) × (now.numbers ≡ stands.numbers)
 
--- THE POWER WENT in it: each image, once log lines and blocks of jobs are put back, is kept with the calls of the jobs
--- unfinished, and this one as the last.
+-- THE POWER WENT in it, in the call c.
 abbrev pub KeepsCleaned : Type 0
 KeepsCleaned =
     (g : Geometry) (k l : View) (t : Tables) (kept : Kept) (lines : Bool) (n : ℕ) (start : State) (history : List Item)
-    (c : Unfinished) (ino from : ℕ) → start.mode ≡ Mode.Strict
+    (c : Unfinished) (ino from : ℕ)
     → (stands : StandsAt g k t kept lines n (run start history)) → MayClean k kept stands.jobs ino from
     → IsOverwriteCut ino from (tail_zeros k.volume ino from) k l
-    → (back : ℕ → Cell) (slots : List (Option ℕ)) (image : Words)
-    → IsPutBack k.volume l.cells back kept.first kept.claims stands.jobs slots image
-    → IsKept g start history (map unfinished_call stands.jobs ++ c ∷ []) image
+    → KeepsWhenLost k.volume l.cells kept stands.jobs start history (c ∷ [])

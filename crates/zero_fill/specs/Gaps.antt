@@ -1,9 +1,7 @@
 -- What zeroing the bytes between the end of a file and a write in a later block leaves.
-use Rattle.std.specs.Prelude.{◌≡◌, ◌≢◌, ◌⊎◌, ◌*◌, ◌/◌, ℕ, Bool, true, false, List, [], ◌∷◌, ◌++◌, length, map, Option}
-use Rattle.k_split_laws.specs.pm_model.declared.Cell.{Cell}
+use Rattle.std.specs.Prelude.{◌≡◌, ◌≢◌, ◌⊎◌, ◌*◌, ◌/◌, ℕ, Bool, true, false, List, [], ◌∷◌, length}
 use Rattle.k_split_laws.specs.pm_model.Frames.{SameLent}
 use Rattle.k_split_laws.specs.pm_model.Powers.{is_on, Supply}
-use Rattle.k_split_laws.specs.pm_model.Words.{Words}
 use Rattle.k_split_laws.specs.layout_model.declared.lines.Kind.TheVariants.{File}
 use Rattle.k_split_laws.specs.layout_model.Places.{Geometry}
 use Rattle.k_split_laws.specs.image_model.Volume.{inode}
@@ -14,14 +12,12 @@ use Rattle.k_split_laws.specs.k_split_model.View.{View}
 use Rattle.k_split_laws.specs.k_split.Bytes.{IsOverwriteCut, IsOverwriteDone, tail_zeros}
 use Rattle.k_split_laws.specs.list_laws.Members.{In}
 use Rattle.k_split_laws.specs.Left.{IsLeftOf}
-use Rattle.k_split_laws.specs.posix_types.declared.call.Mode.{Mode}
 use Rattle.k_split_laws.specs.posix_types.declared.item.Item.{Item}
 use Rattle.k_split_laws.specs.posix_tables.Open.{Tables}
 use Rattle.k_split_laws.specs.posix_spec.Run.{Unfinished, run}
 use Rattle.k_split_laws.specs.posix_spec.State.{State}
-use Rattle.live_step_laws.specs.world_image_laws.Promised.{IsKept}
-use Rattle.live_step_laws.specs.world_image_laws.Back.{IsPutBack}
-use Rattle.live_step_laws.specs.world_model.Jobs.{unfinished_call, Job}
+use Rattle.live_step_laws.specs.world_model.Jobs.{Job}
+use Rattle.write_plan.specs.live_model.Losses.{KeepsWhenLost}
 use Rattle.write_plan.specs.live_model.Standing.{Kept, StandsAt}
 
 -- what the World keeps, with these files
@@ -55,14 +51,11 @@ pub record Clears (ino : ℕ) (files : Files) (k l : View) (to : ℕ) : Type 0 w
   pub stays : (has : HasFile k files ino) → Stays k files ino has l
   pub zero : ReadZero l files ino (size_in files ino) to
 
--- THE POWER WENT in it, in strict mode: the device is left of the one before; and each image, once log lines and blocks of jobs are
--- put back, is kept with the calls of the jobs unfinished, and this one as the last.
+-- THE POWER WENT in it, in whatever call: the device is left of the one before.
 pub record LosesGap (ino : ℕ) (files : Files) (k l : View) : Type 0 where
   pub left : (has : HasFile k files ino) → IsLeftOf has.g k.cells l.cells
-  pub kept : (has : HasFile k files ino) (start : State) (history : List Item) (c : Unfinished) → has.s ≡ run start history → start.mode ≡ Mode.Strict
-      → (back : ℕ → Cell) (slots : List (Option ℕ)) (image : Words)
-      → IsPutBack k.volume l.cells back has.kept.first has.kept.claims has.stands.jobs slots image
-      → IsKept has.g start history (map unfinished_call has.stands.jobs ++ c ∷ []) image
+  pub kept : (has : HasFile k files ino) (start : State) (history : List Item) (c : Unfinished) → has.s ≡ run start history
+      → KeepsWhenLost k.volume l.cells has.kept has.stands.jobs start history (c ∷ [])
 
 abbrev pub IsCleared : ℕ → Files → ℕ → View → View → Commit → Type 0
 IsCleared ino files to k l Commit.Done = Clears ino files k l to

@@ -1,7 +1,5 @@
 -- Blocks behind the end of a file are zeroed while writes are in flight, each law as one statement.
-use Rattle.std.specs.Prelude.{◌≡◌, ◌≤◌, ◌<◌, ◌/◌, ◌%◌, ℕ, Bool, List, [], ◌∷◌, ◌++◌, length, map, Option, Result, Ok}
-use Rattle.relink_laws.specs.pm_model.declared.Cell.{Cell}
-use Rattle.relink_laws.specs.pm_model.Words.{Words}
+use Rattle.std.specs.Prelude.{◌≡◌, ◌≤◌, ◌<◌, ◌/◌, ◌%◌, ℕ, Bool, List, [], ◌∷◌, length, Result, Ok}
 use Rattle.relink_laws.specs.layout_model.declared.lines.Kind.TheVariants.{File}
 use Rattle.relink_laws.specs.layout_model.Places.{Geometry}
 use Rattle.live_step_laws.specs.image_model.Volume.{extents, inode}
@@ -11,7 +9,6 @@ use Rattle.write_plan.specs.live_model.file_table.Files.{runs_in}
 use Rattle.live_step_laws.specs.k_split_model.View.{View}
 use Rattle.relink_laws.specs.k_split.Bytes.{IsOverwriteCut, IsOverwriteDone, tail_zeros}
 use Rattle.relink_laws.specs.k_split.Loans.{MayLend}
-use Rattle.relink_laws.specs.posix_types.declared.call.Mode.{Mode}
 use Rattle.relink_laws.specs.posix_types.declared.item.Item.{Item}
 use Rattle.relink_laws.specs.posix_tables.Open.{Tables}
 use Rattle.live_step_laws.specs.posix_spec.Run.{Unfinished, run}
@@ -20,9 +17,7 @@ use Rattle.write_plan.specs.live_model.staging_files.declared.runs.StageFault.{S
 use Rattle.write_plan.specs.live_model.staging_files.declared.runs.StageRun.{StageRun}
 use Rattle.write_plan.specs.live_model.staging_files.Keeps.{Staged}
 use Rattle.write_plan.specs.live_model.staging_files.Reserves.{IsReserveAnswer}
-use Rattle.live_step_laws.specs.world_model.Jobs.{unfinished_call}
-use Rattle.live_step_laws.specs.world_image_laws.Promised.{IsKept}
-use Rattle.live_step_laws.specs.world_image_laws.Back.{IsPutBack}
+use Rattle.write_plan.specs.live_model.Losses.{KeepsWhenLost}
 use Rattle.write_plan.specs.live_model.Standing.{Kept, StandsAt}
 use Rattle.zero_fill.specs.Zeros.{block_end, MayZero, ReadZero, staged_place}
 
@@ -43,17 +38,14 @@ StandsZeroed =
     → IsOverwriteDone staging (staged_place block from) (tail_zeros k.volume staging (staged_place block from)) k l
     → (now : StandsAt g l t kept lines n s) × (now.jobs ≡ stands.jobs) × (now.numbers ≡ stands.numbers)
 
--- THE POWER WENT in it: each image, once log lines and blocks of jobs are put back, is kept with the calls of the jobs
--- unfinished, and this one as the last.
+-- THE POWER WENT in it, in the call c.
 abbrev pub KeepsZeroed : Type 0
 KeepsZeroed =
     (g : Geometry) (k l : View) (t : Tables) (kept : Kept) (lines : Bool) (n : ℕ) (start : State) (history : List Item)
-    (c : Unfinished) (ino from staging block : ℕ) → start.mode ≡ Mode.Strict
+    (c : Unfinished) (ino from staging block : ℕ)
     → (stands : StandsAt g k t kept lines n (run start history)) → MayZero k kept stands.jobs ino from staging block
     → IsOverwriteCut staging (staged_place block from) (tail_zeros k.volume staging (staged_place block from)) k l
-    → (back : ℕ → Cell) (slots : List (Option ℕ)) (image : Words)
-    → IsPutBack k.volume l.cells back kept.first kept.claims stands.jobs slots image
-    → IsKept g start history (map unfinished_call stands.jobs ++ c ∷ []) image
+    → KeepsWhenLost k.volume l.cells kept stands.jobs start history (c ∷ [])
 
 -- ---- what reads zero
 

@@ -94,7 +94,8 @@ pub fn give_up_on(p: &mut Parts, job: FilledJob, full: Full)
     p.given_up += 1;
 }
 
-/// A job is given up once the power went: its blocks come back, and it stays out.
+/// A job is given up once the power went: its blocks come back, its call is back at its start, and the round is over, with
+/// what ended it first.
 pub fn give_up_off(p: &mut Parts, job: FilledJob, full: Full)
     requires kept { IsKept p.old }
     requires gone { p.old.lost ≡ true }
@@ -104,6 +105,9 @@ pub fn give_up_off(p: &mut Parts, job: FilledJob, full: Full)
     ensures given { (q : standing.JobOut) → IsFilledOut (seen p.old) q job
         → GivesUp full q (seen p.old) (seen p.new) }
 {
-    let _full = full;
+    let _job = take_job(&mut p.pending, job.who());
     settle_blocks(&mut p.k, job.into_loans());
+    let ended = ended_by(p.over, full);
+    p.over = Some(ended);
+    p.given_up += 1;
 }

@@ -6,6 +6,10 @@ use Rattle.world_rounds.proofs.Checking.{ending_of, gathers_within, inside_kept,
 use Rattle.world_parts.specs.Seen.{seen}
 use Rattle.world_rounds.proofs.rounds.rounds.end_lines.Goals as goal
 
+pub put_log-requires-clause-lines : goal.put_log-requires-clause-lines
+put_log-requires-clause-lines c =
+    (c.the_lines_of_a_round_come_home.ensures.may c.args.p.now.k c.args.p.now.files.tables c.args.p.now.staging c.args.p.now.data (seen c.args.p.now) c.args.lines.items c.requires.kept.world c.requires.awake c.requires.may.lines_are).lines_are
+
 pub put_log-requires-clause-out : goal.put_log-requires-clause-out
 put_log-requires-clause-out c =
     (c.the_lines_of_a_round_come_home.ensures.may c.args.p.now.k c.args.p.now.files.tables c.args.p.now.staging c.args.p.now.data (seen c.args.p.now) c.args.lines.items c.requires.kept.world c.requires.awake c.requires.may.lines_are).out

@@ -29,34 +29,34 @@ fn block_of(k: &KSplit, source: Source) -> Option<u32>
     }
 }
 
-// The bytes of a disk block, zeros of a hole.
-fn whole_block(k: &KSplit, block: Option<u32>) -> [u8; 4096]
+// Reads a disk block into a buffer, zeros of a hole.
+fn read_whole(k: &KSplit, block: Option<u32>, buffer: &mut [u8; 4096])
     requires { ForSome block (IsReadable k.now.cells) }
-    ensures count { length result ≡ 4096 }
-    ensures bytes { (i : ℕ) → i < 4096
-        → slice_index result i ≡ byte_in (words_of k.now.cells) block i }
+    ensures { (i : ℕ) → i < 4096
+        → slice_index buffer.new i ≡ byte_in (words_of k.now.cells) block i }
 {
     match block {
-        Some(block) => {
-            let mut bytes = [0; 4096];
-            k.read_block(block, &mut bytes);
-            bytes
-        }
-        None => [0; 4096],
+        Some(block) => k.read_block(block, buffer),
+        None => *buffer = [0; 4096],
     }
 }
 
-// Puts the bytes of a piece behind those before it.
-fn push_piece(bytes: &mut Vec<u8>, k: &KSplit, piece: Piece) -> Result<(), AllocError>
+// Puts the bytes of a piece behind those before it. Its block is read into the buffer.
+fn push_piece(
+    bytes: &mut Vec<u8>,
+    k: &KSplit,
+    piece: Piece,
+    buffer: &mut [u8; 4096],
+) -> Result<(), AllocError>
     requires fits { FitsBlock piece }
     requires readable { SourceCanBeRead k.now.volume k.now.cells piece.source }
     ensures { OnOk result (bytes.new.items ≡ bytes.old.items
         ++ bytes_of_piece k.now.volume (words_of k.now.cells) piece) }
 {
-    let block = whole_block(k, block_of(k, piece.source));
+    read_whole(k, block_of(k, piece.source), buffer);
     let from = piece.at as usize;
     let to = from + piece.len as usize;
-    bytes.extend_from_slice(&block[from..to])?;
+    bytes.extend_from_slice(&buffer[from..to])?;
     Ok(())
 }
 
@@ -87,9 +87,10 @@ pub fn read_bytes(
         unreachable!();
     };
     let pieces = plan_read(alloc, ino, size, offset, len, overlay, collection, map)?;
-    let mut bytes = Vec::new(alloc);
+    let mut bytes = Vec::with_capacity(alloc, len.min(size.saturating_sub(offset)) as usize)?;
+    let mut buffer = [0; 4096];
     for piece in &pieces {
-        push_piece(&mut bytes, k, *piece)?;
+        push_piece(&mut bytes, k, *piece, &mut buffer)?;
     }
     Ok(bytes)
 }

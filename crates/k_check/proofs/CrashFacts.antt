@@ -10,7 +10,7 @@ use Rattle.oplog_entry.specs.pm_model.Images.{IsImage}
 use Rattle.oplog_entry.specs.pm_model.Words.{Words, word_at, line_bytes}
 use Rattle.oplog_entry.specs.layout_model.Places.{Geometry, log_line}
 use Rattle.oplog_entry.specs.layout_model.Entries.{is_self_valid}
-use Rattle.check_image.specs.image_model.Honest.{IsTorn, IsHonest}
+use Rattle.check_image.specs.image_model.Honest.{IsTorn, IsHonest, SomeHasTwo}
 use Rattle.pm_lines.specs.Choices.{chosen}
 use Rattle.pm_lines.specs.declared.choices.Choice.{Choice}
 use Rattle.k_check.specs.Crashes.{IsChance, IsAsChosen, IsSettled, IsCrashImage}
@@ -62,6 +62,14 @@ not_yet g choice d n f image j below = image.others (8 * log_line g n + j) (λ s
 
 pub crash-none : (g : Geometry) (choice : Choice) (d : List Cell) (f : Words) → ((i : ℕ) → f i ≡ chosen choice d i) → IsCrashImage g choice d 0 f
 crash-none g choice d f same = record { lines = λ slot below. absurd (omega arith); others = λ i none. same i }
+
+-- where no word of the log has two candidates the image is as the choice takes it
+pub crash-quiet : (g : Geometry) (choice : Choice) (d : List Cell) (f : Words) → ((i : ℕ) → f i ≡ chosen choice d i)
+    → ((slot : ℕ) → slot < g.log → ¬ SomeHasTwo (cell d) (log_line g slot)) → IsCrashImage g choice d g.log f
+crash-quiet g choice d f same none = record {
+  lines = λ slot below. inr ((λ chance. none slot below chance.torn.some), λ j inside. same (8 * log_line g slot + j));
+  others = λ i past. same i;
+}
 
 pub crash-kept : (g : Geometry) (choice : Choice) (d : List Cell) (n : ℕ) (f : Words) → IsCrashImage g choice d n f → ¬ IsChance choice d (log_line g n)
     → IsCrashImage g choice d (n + 1) f

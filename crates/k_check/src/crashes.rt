@@ -1,6 +1,7 @@
 //! The images that a power loss leaves.
-ghost use Rattle.std.specs.Prelude.{◌≡◌, ◌≢◌, ◌↔◌, ◌*◌, ◌+◌, ◌/◌, ◌<◌, ◌≤◌, ℕ, length, true, IsTrue, IfOk};
+ghost use Rattle.std.specs.Prelude.{◌≡◌, ◌≢◌, ◌↔◌, ◌*◌, ◌+◌, ◌/◌, ◌<◌, ◌≤◌, ℕ, length, true, false, IsTrue, IfOk, OnOk};
 ghost use Rattle.oplog_entry.specs.layout_model.Entries.{is_self_valid};
+ghost use Rattle.oplog_entry.specs.layout_model.Places.{log_line};
 ghost use Rattle.check_image.specs.image_model.Honest.{HasNewer, SomeHasTwo, EachHasTwo, IsTorn, IsHonest};
 ghost use Rattle.k_check.specs.Crashes.{IsChance, IsCrashImage};
 ghost use Rattle.pm_lines.specs.Choices.{chosen};
@@ -171,11 +172,51 @@ fn settle_log(pm: &Pm, geometry: &Geometry, choice: Choice, bytes: &mut [u8], ol
     }
 }
 
+// Whether some word of the log has two candidates.
+fn log_has_two(pm: &Pm, geometry: &Geometry) -> bool
+    requires device { length pm.now ≡ 512 * geometry.now.blocks }
+    requires home { AllHome pm.now }
+    ensures { result ≡ false → (slot : ℕ) → slot < geometry.now.log
+        → ¬ SomeHasTwo (cell pm.now) (log_line geometry.now slot) }
+{
+    let slots = geometry.log;
+    for slot in 0..slots {
+        if some_has_two(pm, geometry.log_line(slot)) {
+            return true;
+        }
+    }
+    false
+}
+
+// Gives each log line that would pass its check by chance its older candidates. Where no word of the log
+// has two candidates it takes no memory.
+fn settle(
+    alloc: Global,
+    pm: &Pm,
+    geometry: &Geometry,
+    choice: Choice,
+    bytes: &mut [u8],
+) -> Result<(), AllocError>
+    requires device { length pm.now ≡ 512 * geometry.now.blocks }
+    requires size { length bytes.old ≡ 8 * length pm.now }
+    requires chosen { (i : ℕ) → word_at bytes.old i ≡ chosen choice pm.now i }
+    requires home { AllHome pm.now }
+    ensures { OnOk result (IsCrashImage geometry.now choice pm.now geometry.now.log (word_at bytes.new)) }
+{
+    if !log_has_two(pm, geometry) {
+        return Ok(());
+    }
+    let older = pm.choose(alloc, Choice::Oldest)?;
+    settle_log(pm, geometry, choice, bytes, &older);
+    Ok(())
+}
+
 /// The bytes of the image that a power loss leaves by the choice, in which no log line passes its
 /// check by chance: a line that the choice tears, and that is an entry for the sequence number that
 /// it holds, has its older candidates. So the image is honest.
 ///
-/// No word of the device is lent. It takes memory for the image twice.
+/// No word of the device is lent. It takes memory for the image, and for a second one where a word of the
+/// log has two candidates.
 pub fn crash_image(
     alloc: Global,
     pm: &Pm,
@@ -190,7 +231,6 @@ pub fn crash_image(
         IsCrashImage geometry.now choice pm.now geometry.now.log (word_at bytes.items)) }
 {
     let mut bytes = pm.choose(alloc, choice)?;
-    let older = pm.choose(alloc, Choice::Oldest)?;
-    settle_log(pm, geometry, choice, &mut bytes, &older);
+    settle(alloc, pm, geometry, choice, &mut bytes)?;
     Ok(bytes)
 }

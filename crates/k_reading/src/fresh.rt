@@ -8,13 +8,16 @@ use image_layout::Geometry;
 use k_inodes::{Inode, Kind, encode_inode};
 use std::alloc::{AllocError, Global};
 
-// So many blocks of zeros.
+// So many blocks of zeros, 256 bytes at a time.
 fn zeros(alloc: Global, blocks: u32) -> Result<Vec<u8>, AllocError>
     requires { blocks ≤ 16384 }
     ensures size { IfOk result (λ bytes. length bytes.items ≡ 4096 * blocks) }
     ensures words { IfOk result (λ bytes. word_at bytes.items ≡ blank) }
 {
-    let bytes = vec![in alloc; 0u8; 4096 * blocks as usize]?;
+    let mut bytes = Vec::with_capacity(alloc, 4096 * blocks as usize)?;
+    for part in 0..16 * blocks {
+        bytes.extend_from_slice(&[0; 256])?;
+    }
     Ok(bytes)
 }
 

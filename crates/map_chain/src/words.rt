@@ -1,5 +1,5 @@
 //! The words of a chain's blocks.
-ghost use Rattle.std.specs.Prelude.{◌≡◌, ◌+◌, ◌*◌, ◌/◌, ◌%◌, ◌^◌, ◌<◌, ◌≤◌, length, slice_index};
+ghost use Rattle.std.specs.Prelude.{◌≡◌, ◌+◌, ◌*◌, ◌/◌, ◌%◌, ◌^◌, ◌<◌, ◌≤◌, ℕ, length, slice_index};
 ghost use Rattle.image_model.specs.Placed.{part_at};
 ghost use Rattle.image_model.specs.Chains.{extent_word, chain_word};
 
@@ -44,6 +44,23 @@ pub(crate) fn chain_word(next: u32, extents: &[Extent], j: usize) -> u64
     } else {
         extent_word(extents, j - 2)
     }
+}
+
+// The words of a line of the chain block with these extents and this next block. Behind the extents
+// all are zero.
+pub(crate) fn line_words(next: u32, extents: &[Extent], line: usize) -> [u64; 8]
+    requires room { length extents.now ≤ 255 }
+    requires in_block { line < 64 }
+    ensures { (k : ℕ) → k < 8 → slice_index result k ≡ chain_word next extents.now (8 * line + k) }
+{
+    let mut words = [0; 8];
+    if 2 * extents.len() + 2 <= 8 * line {
+        return words;
+    }
+    for k in 0..8 {
+        words[k] = chain_word(next, extents, 8 * line + k);
+    }
+    words
 }
 
 // The block behind block `k` of a chain, 0 behind the last.

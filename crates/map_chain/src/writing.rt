@@ -1,5 +1,5 @@
 //! Writing a chain.
-ghost use Rattle.std.specs.Prelude.{◌≡◌, ◌≢◌, ◌+◌, ◌*◌, ◌/◌, ◌%◌, ◌<◌, ◌≤◌, ℕ, true, false, length};
+ghost use Rattle.std.specs.Prelude.{◌≡◌, ◌≢◌, ◌+◌, ◌*◌, ◌/◌, ◌%◌, ◌<◌, ◌≤◌, ℕ, true, false, length, slice_index};
 ghost use Rattle.image_model.specs.Chains.{chain_word as word_of_block, SpellsChain};
 ghost use Rattle.image_model.specs.Placed.{block_at, part_at, AreDistinct, AreInDevice, AreSingle, IsOutside};
 ghost use Rattle.map_chain.specs.Writes.{HasChainWords, MayWrite, SameOutside, IsWritten};
@@ -10,30 +10,64 @@ ghost use Rattle.pm_lines.specs.pm_model.Images.{IsImage, Follows};
 ghost use Rattle.pm_lines.specs.pm_model.Powers.{is_on, Steps};
 ghost use Rattle.pm_lines.specs.pm_model.Words.{Words};
 
-use crate::words::{chain_word, next_in, part_of};
+use crate::words::{line_words, next_in, part_of};
 use extent_map::{Extent, ExtentMap};
 use pm_lines::{Pm, Power};
 
-// Stores a word where the device holds another, and says whether it did.
-fn change_word(pm: &mut Pm, power: &mut Power, word: u64, value: u64) -> bool
+// Stores a word where the device holds another.
+fn change_word(pm: &mut Pm, power: &mut Power, word: u64, value: u64)
     requires in_device { word < length pm.old }
     requires single { is_single (cell pm.old word) ≡ true }
     ensures size { length pm.new ≡ length pm.old }
     ensures lent { SameLent pm.old pm.new }
     ensures steps { Steps 1 power.old power.new }
     ensures others { (i : ℕ) → i ≢ word → cell pm.new i ≡ cell pm.old i }
-    ensures same { result ≡ false → cell pm.new word ≡ cell pm.old word }
     ensures done { is_on power.new ≡ true → fenced (flushed (cell pm.new word)) ≡ Single value }
 {
     if pm.read_word(word) == value {
-        return false;
+        return;
     }
     pm.store_word(power, word, value);
+}
+
+// Whether the device holds these words in a line.
+fn is_held(pm: &Pm, line: u64, words: &[u64; 8]) -> bool
+    requires in_device { line < length pm.now / 8 }
+    requires single { LineIsSingle line pm.now }
+    ensures { result ≡ true → (i : ℕ) → i / 8 ≡ line
+        → cell pm.now i ≡ Single (slice_index words.now (i % 8)) }
+{
+    // It bounds the words' numbers.
+    let _ = pm.words();
+    for k in 0..8 {
+        if pm.read_word(8 * line + k as u64) != words[k] {
+            return false;
+        }
+    }
     true
 }
 
+// Stores the words of a line that the device does not hold already, and flushes the line.
+fn store_line(pm: &mut Pm, power: &mut Power, line: u64, words: &[u64; 8])
+    requires in_device { line < length pm.old / 8 }
+    requires single { LineIsSingle line pm.old }
+    ensures size { length pm.new ≡ length pm.old }
+    ensures lent { SameLent pm.old pm.new }
+    ensures steps { Steps 9 power.old power.new }
+    ensures others { (i : ℕ) → i / 8 ≢ line → cell pm.new i ≡ cell pm.old i }
+    ensures done { is_on power.new ≡ true → (i : ℕ) → i / 8 ≡ line
+        → fenced (cell pm.new i) ≡ Single (slice_index words.now (i % 8)) }
+{
+    // It bounds the words' numbers.
+    let _ = pm.words();
+    for k in 0..8 {
+        change_word(pm, power, 8 * line + k as u64, words[k]);
+    }
+    pm.flush(power, line);
+}
+
 // Stores the words of a line of the chain block with these extents and this next block that the device
-// does not hold already, and flushes the line where there were any. Lines are counted from the start of
+// does not hold already, and flushes the line where there are any. Lines are counted from the start of
 // the block.
 fn write_line(pm: &mut Pm, power: &mut Power, block: u32, line: u64, next: u32, extents: &[Extent])
     requires in_block { line < 64 }
@@ -47,17 +81,12 @@ fn write_line(pm: &mut Pm, power: &mut Power, block: u32, line: u64, next: u32, 
     ensures done { is_on power.new ≡ true → (i : ℕ) → i / 8 ≡ 64 * block + line
         → fenced (cell pm.new i) ≡ Single (word_of_block next extents.now (i % 512)) }
 {
-    // It bounds the words' numbers.
-    let _ = pm.words();
     let line_in_device = 64 * u64::from(block) + line;
-    let mut changed = false;
-    for k in 0..8 {
-        let word = chain_word(next, extents, (8 * line + k) as usize);
-        changed |= change_word(pm, power, 8 * line_in_device + k, word);
+    let words = line_words(next, extents, line as usize);
+    if is_held(pm, line_in_device, &words) {
+        return;
     }
-    if changed {
-        pm.flush(power, line_in_device);
-    }
+    store_line(pm, power, line_in_device, &words);
 }
 
 // Stores and flushes what differs in the chain block with these extents and this next block.

@@ -1,6 +1,8 @@
 //! Power: for a number of device steps, or always.
-ghost use Rattle.std.specs.Prelude.{◌≡◌};
+ghost use Rattle.std.specs.Prelude.{◌≡◌, ◌<◌, true};
+ghost use Rattle.std.specs.Bool.{OnFalse, OnTrue};
 ghost use Rattle.pm_model.specs.Powers.{is_on, stepped, Steps};
+ghost use Rattle.pm_lines.specs.Effects.{stepped_by};
 
 use std::marker::Model;
 
@@ -67,6 +69,24 @@ impl Power {
         };
         if self.taken < given {
             self.taken += 1;
+            true
+        } else {
+            false
+        }
+    }
+
+    // Takes so many steps at once, if they are left, and answers whether they were.
+    pub(crate) fn step_by(&mut self, steps: u64) -> bool
+        requires { 0 < steps }
+        ensures was_on { OnTrue result (is_on self.old ≡ true) }
+        ensures after { OnTrue result (self.new ≡ stepped_by steps self.old) }
+        ensures none { OnFalse result (self.new ≡ self.old) }
+    {
+        let Some(given) = self.given else {
+            return true;
+        };
+        if self.taken < given && steps <= given - self.taken {
+            self.taken += steps;
             true
         } else {
             false

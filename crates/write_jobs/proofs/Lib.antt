@@ -4,6 +4,7 @@ mod Blocks
 mod Bytes
 pub mod Begins
 pub mod Ends
+pub mod Framed
 pub mod Staged
 mod LendLaws
 pub mod SettleLaws

@@ -1,5 +1,5 @@
 -- Bytes as the words of whole blocks.
-use Rattle.std.specs.Prelude.{◌≡◌, ◌<◌, ◌*◌, ◌/◌, ◌%◌, ◌^◌, ℕ, List, length, slice_index}
+use Rattle.std.specs.Prelude.{◌≡◌, ◌<◌, ◌*◌, ◌/◌, ◌%◌, ◌^◌, ℕ, List, ◌++◌, length, slice_index}
 use Rattle.posix_tables.specs.Bytes.{overwritten, resized}
 
 -- The words spell the bytes, eight of them each, the first one lowest.
@@ -10,3 +10,11 @@ pub record SpellBytes (words bytes : List ℕ) : Type 0 where
 -- What so many blocks hold of a file: its old bytes there, with others over them from a place on, and zeros behind.
 abbrev pub staged_bytes : List ℕ → ℕ → List ℕ → ℕ → List ℕ
 staged_bytes old at new count = resized (overwritten old at new) (4096 * count)
+
+-- New bytes from a place on, behind the bytes that stand before it, and before others.
+abbrev pub framed : List ℕ → ℕ → List ℕ → List ℕ → List ℕ
+framed front at new back = resized front at ++ new ++ back
+
+-- So many blocks of them, with zeros behind.
+abbrev pub framed_bytes : List ℕ → ℕ → List ℕ → List ℕ → ℕ → List ℕ
+framed_bytes front at new back count = resized (framed front at new back) (4096 * count)

@@ -7,7 +7,7 @@
 //! The layer above may rely on this: a `FilledJob` comes from `fill` alone, and each of its blocks holds its
 //! words, durable (`IsFilled`, `HoldWords`); a power loss gives the job back, with the same entry and the same
 //! blocks (`IsCutOff`), exactly where the power is off at the return. At most 577 steps a block.
-//! `staged_words` gives the words of blocks in which bytes of a file are written over (`staged_bytes`).
+//! `staged_words` gives the words of blocks with new bytes between old ones (`framed_bytes`), in one pass.
 
 mod contents;
 mod fills;

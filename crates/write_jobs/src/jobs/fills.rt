@@ -1,10 +1,8 @@
 //! Filling a job: its words stored into its blocks and made durable.
-ghost use Rattle.std.specs.Prelude.{◌≡◌, ◌≢◌, ◌≤◌, ◌<◌, ◌+◌, ◌*◌, ◌/◌, ℕ, true, false, length, slice_index, MatchOption};
-ghost use Rattle.pm_lines.specs.pm_model.declared.Cell.TheVariants.{Single};
-ghost use Rattle.pm_lines.specs.pm_model.Cells.{cell, fenced, is_single};
+ghost use Rattle.std.specs.Prelude.{◌≡◌, ◌≤◌, ◌*◌, true, false, length};
 ghost use Rattle.pm_lines.specs.pm_model.Powers.{is_on, Steps};
 ghost use Rattle.write_jobs.specs.Filling.{IsFilledBy};
-ghost use Rattle.write_jobs.specs.Jobs.{blocks_of, loan_at, AreSingle, HoldWords};
+ghost use Rattle.write_jobs.specs.Jobs.{blocks_of, AreSingle, HoldWords};
 
 use crate::jobs::jobs::{FilledJob, Job};
 use pm_lines::{Loan, Power};
@@ -14,39 +12,6 @@ use pm_lines::{Loan, Power};
 pub enum Filled {
     Ready(FilledJob),
     PowerLost(Job),
-}
-
-// Stores the words of a line of a block, and flushes the line.
-fn store_line(loan: &mut Loan, power: &mut Power, line: u32, words: &[u64])
-    requires line { line < 64 }
-    requires words { length words.now ≡ 512 }
-    requires single { (j : ℕ) → j / 8 ≡ line → is_single (cell loan.old.cells j) ≡ true }
-    ensures place { loan.new.place ≡ loan.old.place }
-    ensures steps { Steps 9 power.old power.new }
-    ensures others { (j : ℕ) → j / 8 ≢ line → cell loan.new.cells j ≡ cell loan.old.cells j }
-    ensures done { is_on power.new ≡ true → (j : ℕ) → j / 8 ≡ line
-        → fenced (cell loan.new.cells j) ≡ Single (slice_index words.now j) }
-{
-    for k in 0..8 {
-        let word = 8 * line + k;
-        loan.store_word(power, word, words[word as usize]);
-    }
-    loan.flush(power, line);
-}
-
-// Stores the words of a block, and makes them durable.
-fn fill_block(loan: &mut Loan, power: &mut Power, words: &[u64])
-    requires words { length words.now ≡ 512 }
-    requires single { (j : ℕ) → j < 512 → is_single (cell loan.old.cells j) ≡ true }
-    ensures place { loan.new.place ≡ loan.old.place }
-    ensures steps { Steps 577 power.old power.new }
-    ensures done { is_on power.new ≡ true → (j : ℕ) → j < 512
-        → cell loan.new.cells j ≡ Single (slice_index words.now j) }
-{
-    for line in 0..64 {
-        store_line(loan, power, line, words);
-    }
-    loan.fence(power);
 }
 
 // Stores the words of each block, and makes them durable.
@@ -60,7 +25,7 @@ fn fill_blocks(loans: &mut Vec<Loan>, power: &mut Power, words: &[u64])
     ensures done { is_on power.new ≡ true → HoldWords loans.new.items words.now }
 {
     for k in 0..loans.len() {
-        fill_block(&mut loans[k], power, &words[512 * k..512 * k + 512]);
+        loans[k].write_block(power, &words[512 * k..512 * k + 512]);
     }
 }
 

@@ -67,7 +67,7 @@ use Rattle.live_step_laws.specs.StepsLaws.{AreLeft}
 use Rattle.file_calls.specs.Answers.{ComesHalfWay, HasSameLoans, IsEnded, IsHalfWay, IsReplyOf, IsSpent, told_of}
 use Rattle.file_calls.specs.Runs.{RunsAs, RunsInSome, with_files}
 use Rattle.file_calls.specs.declared.names.outcomes.Told.{Told}
-use Rattle.file_calls.proofs.Backs.{kept_over}
+use Rattle.live_step_laws.proofs.Backs.{kept_over}
 use Rattle.file_calls.proofs.CallTables.{swept_entries, swept_tables}
 use Rattle.file_calls.proofs.NameCalls.{files_renamed, renamed_left, reply_ok, took}
 use Rattle.file_calls.proofs.Running.{fault_ended, going, leads_end, leaves_cut, leaves_off, left_alone, loses_cut, row_refuses, two_each, world}

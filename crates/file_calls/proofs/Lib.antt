@@ -1,7 +1,6 @@
 mod CallTables
 pub mod Running
 mod NameCalls
-mod Backs
 mod Halves
 mod Paths
 pub mod OpenCalls

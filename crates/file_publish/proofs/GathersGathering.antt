@@ -117,7 +117,7 @@ stands-gathered may published lapping g k l t kept staging files n s stands few 
     let then = lapping g middle l t (with_table kept files) staging n s (at-table may published g k t kept n s stands few small files middle done) (no-runs-left may published g k t kept n s stands few small files middle done)
     (still-next k middle done.rest next) begun
     in
-    record { now = then.now; numbers_are = then.numbers_are ∙ numbers-at may published g k t kept n s stands few small files middle done; old = then.old }
+    record { now = then.now; numbers_are = then.numbers_are ∙ numbers-at may published g k t kept n s stands few small files middle done; applied = then.applied; old = then.old }
 
 -- ---- the power went
 

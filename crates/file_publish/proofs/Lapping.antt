@@ -1,5 +1,5 @@
 -- K-Split and the World stand together in the next lap; or the power goes on the way to it.
-use Rattle.std.specs.Prelude.{◌≡◌, ◌⊎◌, ◌≤◌, ◌<◌, ◌+◌, ◌-◌, ◌==◌, ℕ, suc, true, false, List, [], ◌∷◌, length, map, Ok, refl}
+use Rattle.std.specs.Prelude.{◌≡◌, ◌⊎◌, ◌≤◌, ◌<◌, ◌+◌, ◌-◌, ◌==◌, ◌&&◌, ℕ, suc, true, false, List, [], ◌∷◌, length, map, Ok, refl}
 use Rattle.std.proofs.Common.{arith, ap, ◌∙◌, sym, subst, inl, inr}
 use Rattle.std.proofs.lemmas.List.{get_or-replicate}
 use Rattle.std.proofs.lemmas.Bool.{eq-eqb}
@@ -11,9 +11,10 @@ use Rattle.log_checkpoint.specs.crash_spec.Permitted.{Permitted}
 use Rattle.log_checkpoint.specs.crash_spec.RelationLaws.{Permitted-none}
 use Rattle.log_checkpoint.specs.layout_model.Places.{Geometry, log_line}
 use Rattle.log_checkpoint.specs.layout_model.declared.lines.Draft.{Draft}
+use Rattle.log_checkpoint.specs.layout_model.declared.lines.Inode.{Inode}
 use Rattle.log_checkpoint.specs.layout_model.declared.lines.Kind.TheVariants.{File}
 use Rattle.log_checkpoint.specs.image_model.Content.{size_by}
-use Rattle.log_checkpoint.specs.image_model.Live.{is_live, latest}
+use Rattle.log_checkpoint.specs.image_model.Live.{is_file, is_live, is_of_file, latest}
 use Rattle.log_checkpoint.specs.image_model.Reading.{base_set}
 use Rattle.log_checkpoint.specs.image_model.Volume.{extents, inode, Volume}
 use Rattle.log_checkpoint.specs.file_table.Files.{runs_in, size_in}
@@ -46,7 +47,7 @@ use Rattle.log_checkpoint.specs.world_model.JobLaws.{live_file}
 use Rattle.log_checkpoint.specs.world_model.Jobs.{Job, live_claims}
 use Rattle.log_checkpoint.specs.world_model.Stands.{entries_of}
 use Rattle.live_step_laws.specs.live_model.Standing.{AreJobsOf, Kept, JobOut, StandsAt}
-use Rattle.file_publish.specs.LapsLaws.{HasLapped, HasNoRuns, KeepsLapped, StandsLapped}
+use Rattle.file_publish.specs.LapsLaws.{AreApplied, HasLapped, HasNoRuns, KeepsLapped, StandsLapped}
 use Rattle.file_publish.proofs.Gone.{all-gone, cut-gone, HasGone, none-gone}
 use Rattle.file_publish.proofs.Based.{old-next, promise-next, running-next}
 
@@ -59,6 +60,11 @@ mapped-empty (d ∷ ds) is = absurd (let never : [] ≡ run_of d ∷ map run_of 
 no-members : (ds : List Draft) → ((d : Draft) → In d ds → ⊥) → ds ≡ []
 no-members [] none = refl
 no-members (d ∷ ds) none = absurd (none d (inl refl))
+
+entry_of : (claims : List (ℕ × Draft)) (slot : ℕ) (d : Draft) → In (slot, d) claims → In d (map (λ (c : ℕ × Draft). c.1) claims)
+entry_of [] slot d is = absurd is
+entry_of (c ∷ claims) slot d (inl same) = inl (ap (λ (x : ℕ × Draft). x.1) same)
+entry_of (c ∷ claims) slot d (inr rest) = inr (entry_of claims slot d rest)
 
 no-jobs : (pending : List JobOut) (jobs : List Job) → AreJobsOf pending jobs → pending ≡ [] → jobs ≡ []
 no-jobs [] [] are none = refl
@@ -163,6 +169,18 @@ module _ (g : Geometry) (k : View) (t : Tables) (kept : Kept) (n : ℕ) (s : Sta
           size_is = was.size_is ∙ (λ i. size_by (latest (entries_of ino (none-live i))) (sym line i).size);
         }
 
+    -- a claim of a file that is there is applied, since it is not live
+    claims_applied : AreApplied l.volume kept.claims
+    claims_applied slot d there file generation =
+        let was : (inode k.volume d.ino).kind ≡ File = sym (kinds d.ino) ∙ file in
+        let line : inode l.volume d.ino ≡ inode k.volume d.ino = line-same d.ino ∙ gone.files d.ino was in
+        let age : ((inode k.volume d.ino).generation == d.generation) ≡ true = eq-eqb (inode k.volume d.ino).generation d.generation (sym (generation ∙ ap (λ (x : Inode). x.generation) line)) in
+        let of_file : is_of_file k.volume d ≡ true = (λ i. is_file (was i) && age i) in
+        elim ((running.device.world (words_of k.cells) (IsImage-words_of k.cells)).claims_stand.settled slot d there of_file) [
+          | inl applied ↦ subst (λ (n : ℕ). d.order ≤ n) (sym (ap (λ (x : Inode). x.applied) line)) applied
+          | inr lives ↦ absurd (subst (In d) none-live (In-filter (is_live k.volume) (map (λ (c : ℕ × Draft). c.1) kept.claims) d (entry_of kept.claims slot d there) lives))
+        ]
+
     lines-same : length k.volume.inodes ≡ length l.volume.inodes
     lines-same =
         let before = (running.device.world (words_of k.cells) (IsImage-words_of k.cells)).valid.stands.sane.inode_count in
@@ -221,6 +239,7 @@ module _ (g : Geometry) (k : View) (t : Tables) (kept : Kept) (n : ℕ) (s : Sta
         owed = omega arith;
       };
       numbers_are = refl;
+      applied = claims_applied;
       old = old;
     }
 

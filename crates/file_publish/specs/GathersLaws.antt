@@ -18,7 +18,7 @@ use Rattle.log_checkpoint.specs.posix_spec.State.{State}
 use Rattle.live_step_laws.specs.live_model.staging_files.Keeps.{Staged}
 use Rattle.live_step_laws.specs.world_image_laws.Promised.{KeepsPromise}
 use Rattle.live_step_laws.specs.live_model.Standing.{Kept, StandsAt}
-use Rattle.file_publish.specs.LapsLaws.{lapped}
+use Rattle.file_publish.specs.LapsLaws.{AreApplied, lapped}
 use Rattle.live_step_laws.specs.world_image_laws.Images.{HasOldLines}
 
 -- what the World keeps, with this table
@@ -29,12 +29,13 @@ with_table kept files = record kept { files = files }
 abbrev pub AreSmall : Kept → Type 0
 AreSmall kept = All (λ size. size ≤ LONGEST_FILE) kept.files.sizes
 
--- K-Split stands behind a gathering, in the same state and with the same nodes; and by each image no line of the log
--- is an entry of this lap.
+-- K-Split stands behind a gathering, in the same state and with the same nodes; each claim of the lap before is applied
+-- by its file; and by each image no line of the log is an entry of this lap.
 pub record HasGathered (g : Geometry) (k l : View) (t : Tables) (kept : Kept) (files : Files) (n : ℕ) (s : State)
     (stands : StandsAt g k t kept false n s) : Type 0 where
   pub now : StandsAt g l t (lapped (with_table kept files)) false n s
   pub numbers_are : now.numbers ≡ stands.numbers
+  pub applied : AreApplied l.volume kept.claims
   pub old : (image : Words) → IsImage l.cells image → HasOldLines l.volume image
 
 -- ALL FILES ARE PUBLISHED, THE STAGING FILES GAVE UP THEIR BLOCKS, AND THE NEXT LAP BEGAN: they stand together in the

@@ -1,14 +1,17 @@
 -- The next lap of the log, in a World with its log lines at home and no write in flight: each law as one statement.
-use Rattle.std.specs.Prelude.{◌≡◌, ℕ, false, List, [], Ok}
+use Rattle.std.specs.Prelude.{◌≡◌, ◌≤◌, ℕ, false, List, [], Ok}
 use Rattle.log_checkpoint.specs.pm_model.Images.{IsImage}
 use Rattle.log_checkpoint.specs.pm_model.Words.{Words}
+use Rattle.log_checkpoint.specs.layout_model.declared.lines.Draft.{Draft}
+use Rattle.log_checkpoint.specs.layout_model.declared.lines.Kind.TheVariants.{File}
 use Rattle.log_checkpoint.specs.layout_model.Places.{Geometry}
-use Rattle.log_checkpoint.specs.image_model.Volume.{Volume}
+use Rattle.log_checkpoint.specs.image_model.Volume.{inode, Volume}
 use Rattle.log_checkpoint.specs.file_table.Files.{runs_in}
 use Rattle.log_checkpoint.specs.k_journal.declared.outcomes.Commit.{Commit}
 use Rattle.log_checkpoint.specs.k_split_model.View.{View}
 use Rattle.log_checkpoint.specs.k_split.Laps.{HasNextLap}
 use Rattle.log_checkpoint.specs.Gathers.{IsLapAnswer, IsLapBegun}
+use Rattle.log_checkpoint.specs.list_laws.Members.{In}
 use Rattle.log_checkpoint.specs.posix_types.declared.item.Item.{Item}
 use Rattle.log_checkpoint.specs.posix_tables.Open.{Tables}
 use Rattle.log_checkpoint.specs.posix_spec.Run.{Unfinished, run}
@@ -27,12 +30,19 @@ lapped kept = record kept { staging = nothing_staged; claims = []; pending = [] 
 abbrev pub HasNoRuns : Kept → Type 0
 HasNoRuns kept = (ino : ℕ) → runs_in kept.files ino ≡ []
 
--- K-Split stands at the beginning of a lap, in the same state and with the same nodes; and by each image no line of
--- the log is an entry of this lap.
+-- each claim of a file that is there was applied by it
+abbrev pub AreApplied : Volume → List (ℕ × Draft) → Type 0
+AreApplied v claims =
+    (slot : ℕ) (d : Draft) → In (slot, d) claims → (inode v d.ino).kind ≡ File → d.generation ≡ (inode v d.ino).generation
+    → d.order ≤ (inode v d.ino).applied
+
+-- K-Split stands at the beginning of a lap, in the same state and with the same nodes; each claim of the lap before is
+-- applied; and by each image no line of the log is an entry of this lap.
 pub record HasLapped (g : Geometry) (k l : View) (t : Tables) (kept : Kept) (n : ℕ) (s : State)
     (stands : StandsAt g k t kept false n s) : Type 0 where
   pub now : StandsAt g l t (lapped kept) false n s
   pub numbers_are : now.numbers ≡ stands.numbers
+  pub applied : AreApplied l.volume kept.claims
   pub old : (image : Words) → IsImage l.cells image → HasOldLines l.volume image
 
 -- THE STAGING FILES GAVE UP THEIR BLOCKS AND THE NEXT LAP BEGAN, once no run is kept of any file: they stand together

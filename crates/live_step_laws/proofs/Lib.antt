@@ -1,3 +1,4 @@
+pub mod Backs
 pub mod Named
 pub mod Words
 pub mod Devices
@@ -5,7 +6,7 @@ pub mod Cleared
 mod Entries
 pub mod Standing
 mod Begun
-mod Restaged
+pub mod Restaged
 mod Reserved
 pub use Rattle.k_split_laws.proofs.k_plans_proofs as k_plans_proofs
 pub use Rattle.k_split_laws.proofs.k_tables_proofs as k_tables_proofs

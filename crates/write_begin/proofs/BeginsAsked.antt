@@ -41,7 +41,7 @@ use Rattle.write_plan.specs.Numbers.{RoomIsKept, StandsAsKept}
 use Rattle.write_begin.specs.Stages.{with_parts}
 use Rattle.write_begin.specs.Begins.{Found}
 use Rattle.write_begin.specs.Goes.{FitsTarget, Goes, HasRoom}
-use Rattle.write_begin.proofs.Clearing.{job_of_pending}
+use Rattle.write_begin.proofs.Spared.{job_of_pending}
 
 -- ---- jobs that are out
 
@@ -66,11 +66,11 @@ module _ (t : Tables) (files : Files) (who : Who) (h : Handle) (at : Option ℕ)
   own_size : target.size ≡ size_in files (file_number t who h)
   own_size = is.size_is ∙ ap (size_in files) (is.ino_is ∙ sym (ap (λ (o : Option Description). option_map_or (λ d. d.node) o 0) is.known))
 
-  own_need : write_need Mode.Strict target.size target.start (target.start + len) ≡ need_in t files who h at len
+  own_need : write_need Mode.Strict target.size target.start (target.start + len) ≡ need_in Mode.Strict t files who h at len
   own_need = (λ i. write_need Mode.Strict (own_size i) (is.start_is i) (is.start_is i + len))
 
   -- the target finds room, as all files leave it
-  pub has_room : (v : Volume) (taken : ℕ) → FilesEnd v files → need_in t files who h at len ≤ room_in (data_blocks v.geometry) files - taken → HasRoom v files target len
+  pub has_room : (v : Volume) (taken : ℕ) → FilesEnd v files → need_in Mode.Strict t files who h at len ≤ room_in (data_blocks v.geometry) files - taken → HasRoom v files target len
   has_room v taken ends fits = record { ends = ends; room = subst (λ n. n ≤ room_in (data_blocks v.geometry) files) (sym own_need) (omega (arith, fits)) }
 
 -- ---- the call
@@ -95,8 +95,9 @@ module _ (kept_law : StandsAsKept) (room_law : RoomIsKept) (k : View) (t : Table
   room_is = room_law found.g k t (with_parts found.kept staging files) true found.n found.s found.stands
 
   -- the row that fits the call
-  pub row_is : RowsAsCall → first (write_rows found.s who h (start_of found.s who h at) x) ≡ row_in t files who h at (length x) (data_blocks k.volume.geometry)
-  row_is law = law found.s (number found.stands.numbers) t files who h at x (data_blocks k.volume.geometry) of_state found.strict room_is
+  pub row_is : RowsAsCall → first (write_rows found.s who h (start_of found.s who h at) x) ≡ row_in Mode.Strict t files who h at (length x) (data_blocks k.volume.geometry)
+  row_is law = law found.s (number found.stands.numbers) t files who h at x (data_blocks k.volume.geometry) of_state room_is
+      ∙ ap (λ (m : Mode). row_in m t files who h at (length x) (data_blocks k.volume.geometry)) found.strict
 
   -- all jobs find room
   pub afforded : needs found.s found.stands.jobs ≤ room found.s
@@ -106,8 +107,8 @@ module _ (kept_law : StandsAsKept) (room_law : RoomIsKept) (k : View) (t : Table
     pub may : may_write found.s.tables who h ≡ true
     may = (Accepts-from_rows found.s who h (start_of found.s who h at) x none).may_write
 
-    pub need_is : need_of found.s who (call_of h at x) ≡ need_in t files who h at (length x)
-    need_is = needs_law found.s (number found.stands.numbers) t files who h at x of_state found.strict may
+    pub need_is : need_of found.s who (call_of h at x) ≡ need_in Mode.Strict t files who h at (length x)
+    need_is = needs_law found.s (number found.stands.numbers) t files who h at x of_state may ∙ ap (λ (m : Mode). need_in m t files who h at (length x)) found.strict
 
     pub start_is : start_of found.s who h at ≡ start_at t files who h at
     start_is = starts found.s (number found.stands.numbers) t files who h at of_state may
@@ -122,7 +123,7 @@ module _ (kept_law : StandsAsKept) (room_law : RoomIsKept) (k : View) (t : Table
       pub node_is : handle_node found.s who h ≡ Some (number found.stands.numbers target.ino)
       node_is = ap (λ (o : Option Description). option_map (λ d. d.node) o) opened_is ∙ ap (λ n. Some (number found.stands.numbers n)) (sym is.ino_is)
 
-      abbrev pub goes_of : need_in t files who h at (length x) ≤ room_in (data_blocks k.volume.geometry) files - taken → Goes k staging files who target x
+      abbrev pub goes_of : need_in Mode.Strict t files who h at (length x) ≤ room_in (data_blocks k.volume.geometry) files - taken → Goes k staging files who target x
       goes_of fits = record {
         g = found.g;
         t = t;

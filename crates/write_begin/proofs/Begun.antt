@@ -2,6 +2,7 @@
 use Rattle.std.specs.Prelude.{◌≡◌, ◌≤◌, ◌<◌, ◌-◌, ◌/◌, ℕ, List, [], ◌∷◌, length, Option, None, Some, refl, Result, Ok, Err}
 use Rattle.std.specs.declared.alloc.AllocError.{AllocError}
 use Rattle.std.proofs.Common.{arith, ap, ◌∙◌, sym, subst, inl, inr}
+use Rattle.posix_types.specs.declared.call.Mode.{Mode}
 use Rattle.write_plan.specs.layout_model.Places.{data_blocks}
 use Rattle.write_plan.specs.file_table.Files.{Files}
 use Rattle.write_plan.specs.k_split_model.View.{View}
@@ -38,18 +39,18 @@ no_jobs s (j ∷ jobs) few = absurd (omega (arith, few))
 
 module _ (kept_law : StandsAsKept) (room_law : RoomIsKept) (rows : RowsAsCall) (starts : StartsAsCall) (needs_law : NeedsAsCall) (k : View) (t : Tables) (old : Staged) (files : Files) (who : Who) (h : Handle) (at : Option ℕ) (x : List ℕ)
     (taken : ℕ) where
-  pub answered_by : (outcome : Outcome) → row_in t files who h at (length x) (data_blocks k.volume.geometry) ≡ Some outcome → IsAnsweredBy who h at x k t old files taken outcome
+  pub answered_by : (outcome : Outcome) → row_in Mode.Strict t files who h at (length x) (data_blocks k.volume.geometry) ≡ Some outcome → IsAnsweredBy who h at x k t old files taken outcome
   answered_by outcome is found = row_is kept_law room_law k t old files who h at x taken found rows ∙ is
 
-  pub accepted_by : row_in t files who h at (length x) (data_blocks k.volume.geometry) ≡ None → IsAccepted who h at x k t old files taken
+  pub accepted_by : row_in Mode.Strict t files who h at (length x) (data_blocks k.volume.geometry) ≡ None → IsAccepted who h at x k t old files taken
   accepted_by is found = row_is kept_law room_law k t old files who h at x taken found rows ∙ is
 
-  module _ (none : row_in t files who h at (length x) (data_blocks k.volume.geometry) ≡ None) where
-    same_need : (found : Found k t old files who (call_of h at x) taken) → need_of found.s who (call_of h at x) ≡ need_in t files who h at (length x)
+  module _ (none : row_in Mode.Strict t files who h at (length x) (data_blocks k.volume.geometry) ≡ None) where
+    same_need : (found : Found k t old files who (call_of h at x) taken) → need_of found.s who (call_of h at x) ≡ need_in Mode.Strict t files who h at (length x)
     same_need found = need_is kept_law room_law k t old files who h at x taken found starts needs_law (accepted_by none found)
 
     -- the jobs that are out leave too little
-    pub ends_beside : (need left : ℕ) → Found k t old files who (call_of h at x) taken → need ≡ need_in t files who h at (length x) → left ≡ room_in (data_blocks k.volume.geometry) files - taken → left < need
+    pub ends_beside : (need left : ℕ) → Found k t old files who (call_of h at x) taken → need ≡ need_in Mode.Strict t files who h at (length x) → left ≡ room_in (data_blocks k.volume.geometry) files - taken → left < need
         → EndsRound who h at x k k t old old files files taken need left
     ends_beside need left one need_is_it left_is lacks = record {
       accepted = accepted_by none;
@@ -68,13 +69,12 @@ module _ (kept_law : StandsAsKept) (room_law : RoomIsKept) (rows : RowsAsCall) (
           let taken_is = one.taken_is in
           omega (arith, jobs, fits, same, room_same, taken_is, need_is_it, left_is, lacks));
       same = refl;
-      cells_alone = refl;
-      nothing = λ found lacks. refl;
+      nothing = refl;
       stays = record { runs = refl; stands = λ found. found.stands };
     }
 
     -- it went to its target
-    module _ (target : Target) (is_target : IsTarget t files who h at (length x) target) (fits : need_in t files who h at (length x) ≤ room_in (data_blocks k.volume.geometry) files - taken) where
+    module _ (target : Target) (is_target : IsTarget t files who h at (length x) target) (fits : need_in Mode.Strict t files who h at (length x) ≤ room_in (data_blocks k.volume.geometry) files - taken) where
       abbrev pub goes_on : Found k t old files who (call_of h at x) taken → Goes k old files who target x
       goes_on found = goes_of kept_law room_law k t old files who h at x taken found starts needs_law (accepted_by none found) target is_target fits
 
@@ -97,23 +97,22 @@ module _ (kept_law : StandsAsKept) (room_law : RoomIsKept) (rows : RowsAsCall) (
       begun_by l new then (Ok (WriteBegun.Job job blocks)) is = record {
         accepted = accepted_by none;
         enough = leave_enough;
-        run = λ found need left lacks. is.run need left (subst (λ start. IsLacking (staged_count start (length x)) old k need left) (sym (start_there found)) lacks);
+        run = λ found need left lacks. is.run need left (subst (λ start. IsLacking (staged_count Mode.Strict 0 start (length x)) old k need left) (sym (start_there found)) lacks);
         job_who = is.job_who;
         blocks_are = is.blocks_are;
         fresh = is.fresh;
         ends = is.ends;
-        plan = λ found. subst (λ start. (job.draft.file_block ≡ start / 4096) × (job.draft.count ≡ staged_count start (length x))) (start_there found) is.plan;
+        plan = λ found. subst (λ start. (job.draft.file_block ≡ start / 4096) × (job.draft.count ≡ staged_count Mode.Strict 0 start (length x))) (start_there found) is.plan;
         out = is.out;
         words = λ found. is.words (goes_on found);
         stands = λ found. is.stands (goes_on found);
       }
       begun_by l new then (Ok (WriteBegun.RoundOver need left)) is = record {
         accepted = accepted_by none;
-        cause = λ found. inr (record { beside = leave_enough found; lacks = subst (λ start. IsLacking (staged_count start (length x)) old k need left) (start_there found) is.lacks });
+        cause = λ found. inr (record { beside = leave_enough found; lacks = subst (λ start. IsLacking (staged_count Mode.Strict 0 start (length x)) old k need left) (start_there found) is.lacks });
         late = is.late;
         same = is.same;
-        cells_alone = is.cells_alone;
-        nothing = λ found lacks. absurd (leave_enough found need left lacks);
+        nothing = is.nothing;
         stays = record { runs = is.stays.runs; stands = λ found. is.stays.stands (goes_on found) };
       }
       begun_by l new then (Ok WriteBegun.PowerLost) is = record { left = λ found. is.left (goes_on found); kept = λ found. is.kept (goes_on found) }

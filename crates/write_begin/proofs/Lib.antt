@@ -1,8 +1,9 @@
 pub mod Numbers
+pub mod Plans
 pub mod Making
 pub mod Staged
 pub mod Steps
-pub mod Clearing
+pub mod Spared
 pub mod Losses
 pub mod Runs
 pub mod Cleared

@@ -1,6 +1,7 @@
 -- No run is reserved for a write: the power goes, or there is none.
 use Rattle.std.specs.Prelude.{◌≡◌, ◌≢◌, ◌≤◌, ◌∷◌, [], ℕ, true, List, length, Result, Err}
 use Rattle.std.proofs.Common.{ap, ◌∙◌, sym, subst, inl, inr}
+use Rattle.posix_types.specs.declared.call.Mode.{Mode}
 use Rattle.write_plan.specs.file_table.Files.{Files}
 use Rattle.write_plan.specs.FirstWritesLaws.{FirstWriteFits}
 use Rattle.live_step_laws.specs.ReservesLaws.{KeepsReserved}
@@ -54,7 +55,7 @@ goes_same k l old new files who target x same = record {
 
 -- where nothing is staged, there is one
 pub first_fits : (k : View) (staging : Staged) (files : Files) (who : Who) (target : Target) (x : List ℕ) (count need left : ℕ) → FirstWriteFits → Goes k staging files who target x → HasRoom k.volume files target (length x) → 1 ≤ length x
-    → count ≡ staged_count target.start (length x) → staging ≡ nothing_staged → IsLacking count staging k need left → ⊥
+    → count ≡ staged_count Mode.Strict target.size target.start (length x) → staging ≡ nothing_staged → IsLacking count staging k need left → ⊥
 first_fits k staging files who target x count need left law goes has some count_is fresh lacks =
     law goes.g k goes.t (with_parts goes.kept staging files) true goes.n goes.s target.size target.start (length x) need left goes.stands fresh has.ends some has.room
     (subst (λ n. IsLacking n staging k need left) count_is lacks)
@@ -63,12 +64,12 @@ first_fits k staging files who target x count need left law goes has some count_
 pub late_of : (old new : Staged) → new ≡ old → IsBareAtRest old → (new ≡ nothing_staged → ⊥) → old.out ≢ []
 late_of old new same bare staged none = staged (same ∙ bare none)
 
-pub lacks_run : (k l : View) (old new : Staged) (files : Files) (who : Who) (target : Target) (x : List ℕ) (count need left : ℕ) → count ≡ staged_count target.start (length x) → old.out ≢ []
+pub lacks_run : (k l : View) (old new : Staged) (files : Files) (who : Who) (target : Target) (x : List ℕ) (count need left : ℕ) → count ≡ staged_count Mode.Strict target.size target.start (length x) → old.out ≢ []
     → IsLacking count old k need left → AreSame old new k l → LacksRun k l old new files files who target x need left
 lacks_run k l old new files who target x count need left count_is late lacks same = record {
   lacks = subst (λ n. IsLacking n old k need left) count_is lacks;
   late = late;
   same = same.staging;
-  cells_alone = same.volume ∙ ap (λ (y : View). record k { cells = y.cells }) (sym same.volume);
+  nothing = same.volume;
   stays = goes_same k l old new files who target x same;
 }

@@ -3,6 +3,7 @@ use Rattle.std.specs.Prelude.{◌≡◌, ◌≢◌, ◌⊎◌, ◌≤◌, ◌<�
 use Rattle.std.proofs.Common.{arith, ap, ◌∙◌, sym, inl, inr}
 use Rattle.std.proofs.lemmas.Bool.{cases_lt}
 use Rattle.std.proofs.lemmas.Bool.Decides.{nat_tests}
+use Rattle.posix_types.specs.declared.call.Mode.{Mode}
 use Rattle.write_jobs.specs.extent_model.Extents.{is_within}
 use Rattle.posix_laws.proofs.ByteLaws.{index-overwritten}
 use Rattle.posix_tables.specs.Bytes.{overwritten}
@@ -19,19 +20,19 @@ not_below : (i m : ℕ) → m ≤ i → nat_lt i m ≡ false
 not_below i m past = grind (arith, nat_tests)
 
 -- the new bytes lie in the blocks
-in_blocks : (start len i : ℕ) → 1 ≤ len → start ≤ i → i < start + len → i / 4096 < start / 4096 + staged_count start len
+in_blocks : (start len i : ℕ) → 1 ≤ len → start ≤ i → i < start + len → i / 4096 < start / 4096 + staged_count Mode.Strict 0 start len
 in_blocks start len i some high low = omega (arith, some, high, low)
 
 within_is : (first count b : ℕ) → first ≤ b → b < first + count → is_within first count b ≡ true
 within_is first count b high low = grind (arith, nat_tests)
 
 -- a byte in none of them is before the write or behind it
-pub beside_write : (start len i : ℕ) → 1 ≤ len → is_within (start / 4096) (staged_count start len) (i / 4096) ≡ false → (i < start) ⊎ (start + len ≤ i)
+pub beside_write : (start len i : ℕ) → 1 ≤ len → is_within (start / 4096) (staged_count Mode.Strict 0 start len) (i / 4096) ≡ false → (i < start) ⊎ (start + len ≤ i)
 beside_write start len i some outside = elim (cases_lt i start) [
   | inl low ↦ inl low
   | inr high ↦ elim (cases_lt i (start + len)) [
     | inl below ↦ (
-        let inside = within_is (start / 4096) (staged_count start len) (i / 4096) (omega (arith, high)) (in_blocks start len i some high below) in
+        let inside = within_is (start / 4096) (staged_count Mode.Strict 0 start len) (i / 4096) (omega (arith, high)) (in_blocks start len i some high below) in
         let never : true ≡ false = sym inside ∙ outside in
         cc)
     | inr past ↦ inr past
@@ -39,13 +40,13 @@ beside_write start len i some outside = elim (cases_lt i start) [
 ]
 
 -- and if it is before, its block is before that of the first byte
-pub before_write : (start len i : ℕ) → 1 ≤ len → is_within (start / 4096) (staged_count start len) (i / 4096) ≡ false → i < start → i < 4096 * (start / 4096)
+pub before_write : (start len i : ℕ) → 1 ≤ len → is_within (start / 4096) (staged_count Mode.Strict 0 start len) (i / 4096) ≡ false → i < start → i < 4096 * (start / 4096)
 before_write start len i some outside low = elim (cases_lt i (4096 * (start / 4096))) [
   | inl early ↦ early
   | inr late ↦ (
       let one : i / 4096 ≡ start / 4096 = omega (arith, late, low) in
       let first = in_blocks start len start some (omega arith) (omega (arith, some)) in
-      let inside = within_is (start / 4096) (staged_count start len) (i / 4096) (omega (arith, one)) (omega (arith, one, first)) in
+      let inside = within_is (start / 4096) (staged_count Mode.Strict 0 start len) (i / 4096) (omega (arith, one)) (omega (arith, one, first)) in
       let never : true ≡ false = sym inside ∙ outside in
       cc)
 ]

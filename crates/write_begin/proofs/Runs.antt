@@ -1,5 +1,5 @@
 -- A run is reserved for a write, and its job begins, or the run goes back.
-use Rattle.std.specs.Prelude.{◌≡◌, ◌⊎◌, ◌≤◌, ◌+◌, ◌-◌, ◌*◌, ◌/◌, ◌==◌, ℕ, true, false, Contains, List, [], ◌∷◌, ◌++◌, length, max, Some, remove, slice_get, refl, Result, Ok}
+use Rattle.std.specs.Prelude.{◌≡◌, ◌⊎◌, ◌≤◌, ◌+◌, ◌-◌, ◌/◌, ◌==◌, ℕ, true, false, Contains, List, [], ◌∷◌, ◌++◌, length, max, Some, remove, slice_get, refl, Result, Ok}
 use Rattle.std.proofs.Common.{arith, ap, ◌∙◌, sym, subst, inl, inr, eq-eqb}
 use Rattle.std.proofs.lemmas.Bool.{cases_eq}
 use Rattle.std.proofs.lemmas.Bool.Decides.{nat_tests}
@@ -9,26 +9,37 @@ use Rattle.std.proofs.lemmas.Option.{get_or_from_slice_get, slice_get_within}
 use Rattle.std.proofs.Math.Seq.{get_or-append_seam}
 use Rattle.std.proofs.lemmas.List.Edits.{remove-append_right}
 use Rattle.std.proofs.lemmas.List.Folds.{list_any_at}
+use Rattle.posix_types.specs.declared.call.Mode.{Mode}
 use Rattle.block_counts.specs.Counts.{blocks_for}
 use Rattle.write_plan.specs.layout_model.declared.lines.Draft.{Draft}
 use Rattle.write_plan.specs.layout_model.declared.lines.Inode.{Inode}
 use Rattle.write_plan.specs.layout_model.block_counts.declared.TheConstants.{LONGEST_FILE}
-use Rattle.write_plan.specs.image_model.Volume.{inode}
+use Rattle.write_plan.specs.pm_model.declared.Cell.{Cell}
+use Rattle.write_plan.specs.pm_model.Cells.{cell, is_lent}
+use Rattle.write_plan.specs.pm_model.Frames.{SameLent}
+use Rattle.write_plan.specs.layout_model.Places.{reserve}
+use Rattle.write_plan.specs.image_model.Room.{unused_blocks}
+use Rattle.write_plan.specs.image_model.Volume.{extents, inode, Volume}
+use Rattle.write_plan.specs.extent_model.Extents.{disk_at}
+use Rattle.posix_types.specs.declared.item.Item.{Item}
+use Rattle.live_step_laws.specs.world_image_laws.Back.{IsKeptBack}
 use Rattle.write_plan.specs.file_table.Files.{Files, spare_in}
 use Rattle.live_step_laws.specs.ReservesLaws.{StandsReserved, StandsWithRun}
-use Rattle.zero_fill.proofs.Refilled as refilling
-use Rattle.zero_fill.specs.ZerosLaws.{ReservedReadZero}
+use Rattle.live_step_laws.proofs.Restaged as restaging
+use Rattle.live_step_laws.proofs.Backs.{kept_over}
+use Rattle.zero_fill.specs.Gaps.{block_start, Clears, HasFile, LosesGap, Stays}
 use Rattle.zero_fill.specs.Zeros.{ReadZero}
+use Rattle.zero_fill.proofs.k_split_laws_proofs.Cuts.{left_through}
 use Rattle.write_plan.specs.k_split_model.View.{View}
 use Rattle.write_plan.specs.list_laws.Members.{In, slice_get-push}
 use Rattle.posix_types.specs.declared.call.Who.{Who}
 use Rattle.write_plan.specs.posix_laws.Views.{need_of}
 use Rattle.write_plan.specs.posix_spec.Put.{Put}
-use Rattle.write_plan.specs.posix_spec.State.{room}
+use Rattle.write_plan.specs.posix_spec.State.{room, State}
 use Rattle.live_step_laws.specs.staging_files.declared.runs.StageFault.{StageFault}
 use Rattle.live_step_laws.specs.staging_files.declared.runs.StageRun.{StageRun}
 use Rattle.live_step_laws.specs.staging_files.GivesUp.{IsGivenBack}
-use Rattle.live_step_laws.specs.staging_files.Keeps.{given_to, has_block, IsStaged, Staged}
+use Rattle.live_step_laws.specs.staging_files.Keeps.{given_to, has_block, IsRunSingle, IsStaged, IsThere, Staged}
 use Rattle.live_step_laws.specs.staging_files.Reserves.{has_empty, IsLacking, IsReserveAnswer, LacksFirstWay, LacksSecondWay, share}
 use Rattle.live_step_laws.specs.world_model.JobLaws.{needs}
 use Rattle.live_step_laws.specs.relink_laws.world_write_laws.Restages.{Restages}
@@ -40,7 +51,7 @@ use Rattle.write_plan.specs.Drafts.{staged_count}
 use Rattle.live_step_laws.specs.live_model.Jobs.{SpellCall}
 use Rattle.write_plan.specs.write_jobs.Jobs.{JobView}
 use Rattle.write_begin.specs.Stages.{IsStaged as IsJobStaged, Ready, with_parts}
-use Rattle.write_begin.specs.Goes.{BecomesJob, FitsTarget, Goes, GoesNoFurther, job_of, KeepsMaps, RunGivenBack, StagedAsJob}
+use Rattle.write_begin.specs.Goes.{BecomesJob, FitsTarget, Goes, GoesNoFurther, job_of, KeepsMaps, LosesTarget, RunGivenBack, StagedAsJob}
 
 -- what the reserve answers with a run
 abbrev pub IsRun : ℕ → Staged → View → Staged → View → StageRun → Type 0
@@ -85,7 +96,7 @@ pub last_in : (xs : List StageRun) (x : StageRun) → Contains (xs ++ x ∷ []) 
 last_in xs x = (length xs, omega (arith, length-append xs (x ∷ [])), get_or-append_seam xs x [] x)
 
 -- the blocks of a write end with it
-ends_of : (start len size count : ℕ) → count ≡ staged_count start len → start / 4096 + count ≤ blocks_for (max size (start + len))
+ends_of : (start len size count : ℕ) → count ≡ staged_count Mode.Strict 0 start len → start / 4096 + count ≤ blocks_for (max size (start + len))
 ends_of start len size count is = omega (arith, is)
 
 -- a run has its first block
@@ -111,148 +122,199 @@ module _ (k l : View) (old new : Staged) (files : Files) (who : Who) (target : T
     by : IsRun count old k new l taken → live_claims l.volume goes.kept.claims ≡ live_claims k.volume goes.kept.claims
     by (inl was) = ap (λ (y : View). live_claims y.volume goes.kept.claims) was.same
     by (inr given) =
-        refilling.same_live goes.g k goes.t (kept_of goes) true goes.n goes.s goes.stands taken.staging (share old k count) l.volume given.given.0 given.way.place.staging given.way.place.empty given.given.1 given.given.2.order.whole
+        restaging.same_live goes.g k goes.t (kept_of goes) true goes.n goes.s goes.stands taken.staging (share old k count) l.volume given.given.0 given.way.place.staging given.way.place.empty given.given.1 given.given.2.order.whole
 
   pub claims_out : (goes : Goes k old files who target x) → (d : Draft) → In d (live_claims l.volume goes.kept.claims) → Contains old.out (reserved_run d)
   claims_out goes d is = goes.stands.claims_out d (subst (In d) (same_live goes) is)
 
-  -- THE WRITE CAN BE STAGED
-  abbrev pub ready_of : ReservedReadZero → FitsTarget files target (length x) → target.size ≤ LONGEST_FILE → count ≡ staged_count target.start (length x) → 3 ≤ spare_in files target.ino → ReadZero k files target.ino target.size (4096 * (target.start / 4096))
-      → (goes : Goes k old files who target x) → Ready l files who target x taken
-  ready_of reads fits small count_is spare zero goes = record {
+  -- the file of the write, with the run out
+  abbrev pub has_file : (goes : Goes k old files who target x) → HasFile l files target.ino
+  has_file goes = record {
     g = goes.g;
     t = goes.t;
-    staging = new;
-    kept = goes.kept;
+    kept = with_parts goes.kept new files;
+    lines = true;
     n = goes.n;
-    few = goes.few;
     s = goes.s;
-    call = goes.call;
     stands = (with_run goes).now;
     file = (with_run goes).now.open_are_files target.ino goes.opened;
-    size_is = fits.size;
-    puts = goes.puts ∙ ap (λ (numbers : List ℕ). (let put : Put = record { node = number numbers target.ino; place = target.start; bytes = x } in Some put)) (sym (with_run goes).numbers_are);
-    fits = subst (λ js. needs goes.s js + need_of goes.s who goes.call ≤ room goes.s) (sym (with_run goes).jobs_are) goes.fits;
     others = λ j is. goes.others j (subst (In j) (with_run goes).jobs_are is);
-    callers = goes.callers;
-    spare = spare;
-    zero = reads goes.g k l goes.t (kept_of goes) new true goes.n goes.s count taken target.ino target.size (4096 * (target.start / 4096)) goes.stands (goes.stands.open_are_files target.ino goes.opened) some few answer zero;
-    old = old.out;
-    has_run = record {
-      some = fits.some;
-      most = fits.most;
-      fits = fits.fits;
-      size = small;
-      out = subst (λ xs. Contains xs taken) (sym (run_is count old new k l taken answer).out_is) (last_in old.out taken);
-      count_is = (run_is count old new k l taken answer).count_is ∙ count_is;
-      generation = (run_is count old new k l taken answer).generation;
-    };
-    claims_out = claims_out goes;
-    jobs_out = goes.stands.jobs_out;
-    apart = (with_run goes).apart;
-    there = (with_run goes).there;
-    single = (with_run goes).single;
-    owed = (let owed = (with_run goes).owed in let same = ap length (with_run goes).jobs_are in omega (arith, owed, same));
-    free = (with_run goes).free;
   }
 
   pub run_out : Contains new.out taken
   run_out = subst (λ xs. Contains xs taken) (sym (run_is count old new k l taken answer).out_is) (last_in old.out taken)
 
-  -- ---- it is a job
+  -- ---- the bytes behind the end of the file are zeroed
 
-  pub becomes_job : (m : View) (last : Staged) (job : JobView) (blocks : List ℕ) → ReservedReadZero → FitsTarget files target (length x) → target.size ≤ LONGEST_FILE → count ≡ staged_count target.start (length x)
-      → 3 ≤ spare_in files target.ino → ReadZero k files target.ino target.size (4096 * (target.start / 4096)) → Goes k old files who target x → StagedAsJob l m new last files who target x taken job blocks
-      → BecomesJob k m old last files files who target x job blocks
-  becomes_job m last job blocks reads fits small count_is spare zero goes_one staged = record {
-    run = λ need left lacks. lacks_none count old new k l taken goes_one.stands.staged answer need left (subst (λ n. IsLacking n old k need left) (sym count_is) lacks);
-    job_who = staged.job_is.who_is;
-    blocks_are = staged.job_is.blocks_are;
-    fresh = staged.job_is.fresh;
-    ends = subst (λ (d : Draft). d.file_block + d.count ≤ blocks_for d.size) (sym staged.job_is.draft) (ends_of target.start (length x) target.size taken.count ((run_is count old new k l taken answer).count_is ∙ count_is));
-    plan = (ap (λ (d : Draft). d.file_block) staged.job_is.draft, ap (λ (d : Draft). d.count) staged.job_is.draft ∙ ((run_is count old new k l taken answer).count_is ∙ count_is));
-    out =
-        ap (λ (s : Staged). s.out) staged.same
-        ∙ ((run_is count old new k l taken answer).out_is ∙ ap (λ (d : Draft). old.out ++ reserved_run d ∷ []) (sym staged.job_is.draft));
-    words = λ goes.
-        subst (λ (d : Draft). SpellCall goes.s (record { who = who; call = goes.call; draft = d; blocks = blocks }) job.words) (sym staged.job_is.draft) (is_out goes).spells;
-    stands = λ goes.
-        subst (λ s. StandsAt goes.g m goes.t (record (with_parts goes.kept s files) { pending = goes.kept.pending ++ job_of who goes.call job blocks ∷ [] }) true goes.n goes.s) (sym staged.same)
-        (subst
-        (λ (d : Draft). StandsAt goes.g m goes.t (record (with_parts goes.kept new files) { pending = goes.kept.pending ++ record { who = who; call = goes.call; draft = d; blocks = blocks } ∷ [] }) true goes.n goes.s)
-        (sym staged.job_is.draft) (is_out goes).stands);
-  } where
-    is_out : (goes : Goes k old files who target x) → IsJobStaged l m files who target x taken job.words blocks (ready_of reads fits small count_is spare zero goes)
-    is_out goes = staged.staged (ready_of reads fits small count_is spare zero goes)
+  module _ (m : View) (clears : Clears target.ino files l m (block_start target.start)) where
+    abbrev pub onward : (goes : Goes k old files who target x) → Stays l files target.ino (has_file goes) m
+    onward goes = clears.stays (has_file goes)
 
-  -- ---- it goes back
+    pub jobs_are : (goes : Goes k old files who target x) → (onward goes).now.jobs ≡ goes.stands.jobs
+    jobs_are goes = (onward goes).jobs_are ∙ (with_run goes).jobs_are
 
-  module _ (goes_one : Goes k old files who target x) where
-    own_block : has_block taken.staging taken.block taken ≡ true
-    own_block = has_first taken (omega (arith, (run_is count old new k l taken answer).count_is, some))
+    pub numbers_are : (goes : Goes k old files who target x) → (onward goes).now.numbers ≡ goes.stands.numbers
+    numbers_are goes = (onward goes).numbers_are ∙ (with_run goes).numbers_are
 
-    -- no run that was out before is the same
-    not_before : (place : ℕ) → slice_get old.out place ≡ Some taken → ⊥
-    not_before place is =
-        let apart = (with_run goes_one).apart taken (contains_at old.out place taken is) in
-        let never : true ≡ false = sym own_block ∙ apart taken.staging taken.block own_block in
-        cc
+    pub volume_is : m.volume ≡ l.volume
+    volume_is = ap (λ (y : View). y.volume) clears.same
 
-    pub out_again : (last : Staged) → IsGivenBack taken new last → last.out ≡ old.out
-    out_again last back = by (slice_get-push old.out taken back.place taken (subst (λ xs. slice_get xs back.place ≡ Some taken) (run_is count old new k l taken answer).out_is back.was)) where
-      by : (slice_get old.out back.place ≡ Some taken) ⊎ ((back.place ≡ length old.out) × (taken ≡ taken)) → last.out ≡ old.out
-      by (inl before) = absurd (not_before back.place before)
-      by (inr here) =
-          ap (λ (s : Staged). s.out) back.now
-          ∙ ((λ i. remove ((run_is count old new k l taken answer).out_is i) (here.0 i)) ∙ remove_last old.out taken)
+    pub claims_then : (goes : Goes k old files who target x) → (d : Draft) → In d (live_claims m.volume goes.kept.claims) → Contains old.out (reserved_run d)
+    claims_then goes d is = claims_out goes d (subst (λ (v : Volume). In d (live_claims v goes.kept.claims)) volume_is is)
 
-    -- the World stands together without it
-    pub goes_back : (m : View) (last : Staged) → RunGivenBack l m new last taken → GoesNoFurther k m old last files files who target x
-    goes_back m last back = record {
-      runs = ap length (out_again last back.back);
-      stands = λ goes. subst (λ y. StandsAt goes.g y goes.t (with_parts goes.kept last files) true goes.n goes.s) (sym back.same) (now goes);
+    pub there : (goes : Goes k old files who target x) → IsThere m taken
+    there goes b is =
+        let home = (with_run goes).there b is in
+        record {
+          disk = home.disk;
+          at = ap (λ (v : Volume). disk_at (extents v taken.staging) b) volume_is ∙ home.at;
+          home = λ i word. clears.lent i ∙ home.home i word;
+        }
+
+    pub single : (goes : Goes k old files who target x) → IsRunSingle m taken
+    single goes b is disk i at word =
+        clears.singles i ((with_run goes).single b is disk i (sym (ap (λ (v : Volume). disk_at (extents v taken.staging) b) volume_is) ∙ at) word)
+
+    pub owed_then : (goes : Goes k old files who target x) → length (live_claims m.volume goes.kept.claims) + length (onward goes).now.jobs + 1 ≤ length new.out
+    owed_then goes =
+        let owed = (with_run goes).owed in
+        let jobs = ap length (jobs_are goes) in
+        let live = ap (λ (v : Volume). length (live_claims v goes.kept.claims)) volume_is in
+        omega (arith, owed, jobs, live)
+
+    -- THE WRITE CAN BE STAGED
+    abbrev pub ready_of : FitsTarget files target (length x) → target.size ≤ LONGEST_FILE → count ≡ staged_count Mode.Strict target.size target.start (length x) → 3 ≤ spare_in files target.ino
+        → (goes : Goes k old files who target x) → Ready m files who target x taken
+    ready_of fits small count_is spare goes = record {
+      g = goes.g;
+      t = goes.t;
+      staging = new;
+      kept = goes.kept;
+      n = goes.n;
+      few = goes.few;
+      s = goes.s;
+      call = goes.call;
+      stands = (onward goes).now;
+      file = (onward goes).now.open_are_files target.ino goes.opened;
+      size_is = fits.size;
+      puts = goes.puts ∙ ap (λ (numbers : List ℕ). (let put : Put = record { node = number numbers target.ino; place = target.start; bytes = x } in Some put)) (sym (numbers_are goes));
+      fits = subst (λ js. needs goes.s js + need_of goes.s who goes.call ≤ room goes.s) (sym (jobs_are goes)) goes.fits;
+      others = λ j is. goes.others j (subst (In j) (jobs_are goes) is);
+      callers = goes.callers;
+      spare = spare;
+      zero = subst (λ n. ReadZero m files target.ino n (block_start target.start)) (sym fits.size) clears.zero;
+      old = old.out;
+      has_run = record {
+        some = fits.some;
+        most = fits.most;
+        fits = fits.fits;
+        size = small;
+        out = run_out;
+        count_is = (run_is count old new k l taken answer).count_is ∙ count_is;
+        generation = (run_is count old new k l taken answer).generation ∙ sym (ap (λ (v : Volume). (inode v taken.staging).generation) volume_is);
+      };
+      claims_out = claims_then goes;
+      jobs_out = goes.stands.jobs_out;
+      apart = (with_run goes).apart;
+      there = there goes;
+      single = single goes;
+      owed = owed_then goes;
+      free = subst (λ (v : Volume). length new.out + reserve v.geometry ≤ unused_blocks v + 3) (sym volume_is) (with_run goes).free;
+    }
+
+    -- ---- it is a job
+
+    pub becomes_job : (p : View) (last : Staged) (job : JobView) (blocks : List ℕ) → FitsTarget files target (length x) → target.size ≤ LONGEST_FILE → count ≡ staged_count Mode.Strict target.size target.start (length x)
+        → 3 ≤ spare_in files target.ino → Goes k old files who target x → StagedAsJob m p new last files who target x taken job blocks
+        → BecomesJob k p old last files files who target x job blocks
+    becomes_job p last job blocks fits small count_is spare goes_one staged = record {
+      run = λ need left lacks. lacks_none count old new k l taken goes_one.stands.staged answer need left (subst (λ n. IsLacking n old k need left) (sym count_is) lacks);
+      job_who = staged.job_is.who_is;
+      blocks_are = staged.job_is.blocks_are;
+      fresh = staged.job_is.fresh;
+      ends = subst (λ (d : Draft). d.file_block + d.count ≤ blocks_for d.size) (sym staged.job_is.draft) (ends_of target.start (length x) target.size taken.count ((run_is count old new k l taken answer).count_is ∙ count_is));
+      plan = (ap (λ (d : Draft). d.file_block) staged.job_is.draft, ap (λ (d : Draft). d.count) staged.job_is.draft ∙ ((run_is count old new k l taken answer).count_is ∙ count_is));
+      out =
+          ap (λ (s : Staged). s.out) staged.same
+          ∙ ((run_is count old new k l taken answer).out_is ∙ ap (λ (d : Draft). old.out ++ reserved_run d ∷ []) (sym staged.job_is.draft));
+      words = λ goes.
+          subst (λ (d : Draft). SpellCall goes.s (record { who = who; call = goes.call; draft = d; blocks = blocks }) job.words) (sym staged.job_is.draft) (is_out goes).spells;
+      stands = λ goes.
+          subst (λ s. StandsAt goes.g p goes.t (record (with_parts goes.kept s files) { pending = goes.kept.pending ++ job_of who goes.call job blocks ∷ [] }) true goes.n goes.s) (sym staged.same)
+          (subst
+          (λ (d : Draft). StandsAt goes.g p goes.t (record (with_parts goes.kept new files) { pending = goes.kept.pending ++ record { who = who; call = goes.call; draft = d; blocks = blocks } ∷ [] }) true goes.n goes.s)
+          (sym staged.job_is.draft) (is_out goes).stands);
     } where
-      out_is : last.out ≡ old.out
-      out_is = out_again last back.back
+      is_out : (goes : Goes k old files who target x) → IsJobStaged m p files who target x taken job.words blocks (ready_of fits small count_is spare goes)
+      is_out goes = staged.staged (ready_of fits small count_is spare goes)
 
-      now : (goes : Goes k old files who target x) → StandsAt goes.g l goes.t (with_parts goes.kept last files) true goes.n goes.s
-      now goes =
-          let was = (with_run goes).now in
-          record {
-            count = was.count;
-            few = was.few;
-            numbers = was.numbers;
-            jobs = was.jobs;
-            jobs_are = was.jobs_are;
-            order = was.order;
-            unbatched = was.unbatched;
-            on = was.on;
-            geometry = was.geometry;
-            flying = was.flying;
-            lines = record { lent = was.lines.lent; old = was.lines.old };
-            quiet = was.quiet;
-            blocks = was.blocks;
-            callers = was.callers;
-            spare = was.spare;
-            tables = was.tables;
-            open_are_files = was.open_are_files;
-            ordered = was.ordered;
-            sizes = was.sizes;
-            bare = was.bare;
-            staged = back.keeps;
-            agrees = back.agrees was.agrees (with_run goes).there;
-            free_single = back.single was.free_single (with_run goes).single;
-            drafts = was.drafts;
-            low = was.low;
-            claims_out = λ d is. subst (λ xs. Contains xs (reserved_run d)) (sym out_is) (claims_out goes d is);
-            jobs_out = λ p is. subst (λ xs. Contains xs (reserved_run p.draft)) (sym out_is) (goes.stands.jobs_out p is);
-            owed =
-                let owed = (with_run goes).owed in
-                let jobs = ap length (with_run goes).jobs_are in
-                let more = ap length (run_is count old new k l taken answer).out_is ∙ length-append old.out (taken ∷ []) in
-                let fewer = ap length out_is in
-                omega (arith, owed, jobs, more, fewer);
-          }
+    -- ---- it goes back
+
+    module _ (goes_one : Goes k old files who target x) where
+      own_block : has_block taken.staging taken.block taken ≡ true
+      own_block = has_first taken (omega (arith, (run_is count old new k l taken answer).count_is, some))
+
+      -- no run that was out before is the same
+      not_before : (place : ℕ) → slice_get old.out place ≡ Some taken → ⊥
+      not_before place is =
+          let apart = (with_run goes_one).apart taken (contains_at old.out place taken is) in
+          let never : true ≡ false = sym own_block ∙ apart taken.staging taken.block own_block in
+          cc
+
+      pub out_again : (last : Staged) → IsGivenBack taken new last → last.out ≡ old.out
+      out_again last back = by (slice_get-push old.out taken back.place taken (subst (λ xs. slice_get xs back.place ≡ Some taken) (run_is count old new k l taken answer).out_is back.was)) where
+        by : (slice_get old.out back.place ≡ Some taken) ⊎ ((back.place ≡ length old.out) × (taken ≡ taken)) → last.out ≡ old.out
+        by (inl before) = absurd (not_before back.place before)
+        by (inr here) =
+            ap (λ (s : Staged). s.out) back.now
+            ∙ ((λ i. remove ((run_is count old new k l taken answer).out_is i) (here.0 i)) ∙ remove_last old.out taken)
+
+      -- the World stands together without it
+      pub goes_back : (p : View) (last : Staged) → RunGivenBack m p new last taken → GoesNoFurther k p old last files files who target x
+      goes_back p last back = record {
+        runs = ap length (out_again last back.back);
+        stands = λ goes. subst (λ y. StandsAt goes.g y goes.t (with_parts goes.kept last files) true goes.n goes.s) (sym back.same) (now goes);
+      } where
+        out_is : last.out ≡ old.out
+        out_is = out_again last back.back
+
+        now : (goes : Goes k old files who target x) → StandsAt goes.g m goes.t (with_parts goes.kept last files) true goes.n goes.s
+        now goes =
+            let was = (onward goes).now in
+            record {
+              count = was.count;
+              few = was.few;
+              numbers = was.numbers;
+              jobs = was.jobs;
+              jobs_are = was.jobs_are;
+              order = was.order;
+              unbatched = was.unbatched;
+              on = was.on;
+              geometry = was.geometry;
+              flying = was.flying;
+              lines = record { lent = was.lines.lent; old = was.lines.old };
+              quiet = was.quiet;
+              blocks = was.blocks;
+              callers = was.callers;
+              spare = was.spare;
+              tables = was.tables;
+              open_are_files = was.open_are_files;
+              ordered = was.ordered;
+              sizes = was.sizes;
+              bare = was.bare;
+              staged = back.keeps;
+              agrees = back.agrees was.agrees (there goes);
+              free_single = back.single was.free_single (single goes);
+              drafts = was.drafts;
+              low = was.low;
+              claims_out = λ d is. subst (λ xs. Contains xs (reserved_run d)) (sym out_is) (claims_then goes d is);
+              jobs_out = λ p is. subst (λ xs. Contains xs (reserved_run p.draft)) (sym out_is) (goes.stands.jobs_out p is);
+              owed =
+                  let owed = owed_then goes in
+                  let more = ap length (run_is count old new k l taken answer).out_is ∙ length-append old.out (taken ∷ []) in
+                  let fewer = ap length out_is in
+                  omega (arith, owed, more, fewer);
+            }
 
   -- no map of a file changes
   pub keeps_maps : (goes : Goes k old files who target x) → KeepsMaps k.volume l.volume files files
@@ -264,10 +326,49 @@ module _ (k l : View) (old new : Staged) (files : Files) (who : Who) (target : T
         | inl own ↦ ap (λ (m : ℕ). (inode l.volume m).kind) own ∙ (restages.kind ∙ (sym restages.staging ∙ ap (λ (m : ℕ). (inode k.volume m).kind) (sym own)))
         | inr other ↦ ap (λ (y : Inode). y.kind) (restages.others ino other)
       ];
-      maps = λ ino file. restages.maps ino (refilling.file_other goes.g k goes.t (kept_of goes) true goes.n goes.s goes.stands taken.staging (share old k count) l.volume given.given.0 given.way.place.staging given.way.place.empty given.given.1 given.given.2.order.whole ino file);
+      maps = λ ino file. restages.maps ino (restaging.file_other goes.g k goes.t (kept_of goes) true goes.n goes.s goes.stands taken.staging (share old k count) l.volume given.given.0 given.way.place.staging given.way.place.empty given.given.1 given.given.2.order.whole ino file);
       runs = λ ino. refl;
       sizes = refl;
-      base = refilling.same_base goes.g k goes.t (kept_of goes) true goes.n goes.s goes.stands taken.staging (share old k count) l.volume given.given.0 given.way.place.staging given.way.place.empty given.given.1 given.given.2.order.whole;
+      base = restaging.same_base goes.g k goes.t (kept_of goes) true goes.n goes.s goes.stands taken.staging (share old k count) l.volume given.given.0 given.way.place.staging given.way.place.empty given.given.1 given.given.2.order.whole;
     } where
       restages : Restages k.volume l.volume taken.staging
-      restages = refilling.restages goes.g k goes.t (kept_of goes) true goes.n goes.s goes.stands taken.staging (share old k count) l.volume given.given.0 given.way.place.staging given.way.place.empty given.given.1 given.given.2.order.whole
+      restages = restaging.restages goes.g k goes.t (kept_of goes) true goes.n goes.s goes.stands taken.staging (share old k count) l.volume given.given.0 given.way.place.staging given.way.place.empty given.given.1 given.given.2.order.whole
+
+  -- ---- the power goes while they are zeroed
+
+  size_then : length l.cells ≡ length k.cells
+  size_then = by answer where
+    by : IsRun count old k new l taken → length l.cells ≡ length k.cells
+    by (inl was) = ap (λ (y : View). length y.cells) was.same
+    by (inr given) = given.given.2.changes.size
+
+  lent_then : SameLent k.cells l.cells
+  lent_then = by answer where
+    by : IsRun count old k new l taken → SameLent k.cells l.cells
+    by (inl was) = λ i. ap (λ (y : View). is_lent (cell y.cells i)) was.same
+    by (inr given) = given.given.2.changes.lent
+
+  -- what is kept over the volume with the run is kept over the one before
+  kept_before : (goes : Goes k old files who target x) (cells : List Cell) (start : State) (history : List Item)
+      → IsKeptBack l.volume cells goes.kept.first goes.kept.claims goes.stands.jobs start history ((who, goes.call) ∷ [])
+      → IsKeptBack k.volume cells goes.kept.first goes.kept.claims goes.stands.jobs start history ((who, goes.call) ∷ [])
+  kept_before goes cells start history kept = by answer where
+    by : IsRun count old k new l taken → IsKeptBack k.volume cells goes.kept.first goes.kept.claims goes.stands.jobs start history ((who, goes.call) ∷ [])
+    by (inl was) = subst (λ (y : View). IsKeptBack y.volume cells goes.kept.first goes.kept.claims goes.stands.jobs start history ((who, goes.call) ∷ [])) was.same kept
+    by (inr given) =
+        kept_over k.volume l.volume cells goes.kept.first goes.kept.claims goes.stands.jobs start history ((who, goes.call) ∷ [])
+        (restaging.restages goes.g k goes.t (kept_of goes) true goes.n goes.s goes.stands taken.staging (share old k count) l.volume given.given.0 given.way.place.staging given.way.place.empty given.given.1 given.given.2.order.whole).geometry
+        (restaging.same_base goes.g k goes.t (kept_of goes) true goes.n goes.s goes.stands taken.staging (share old k count) l.volume given.given.0 given.way.place.staging given.way.place.empty given.given.1 given.given.2.order.whole)
+        (restaging.same_blocks goes.g k goes.t (kept_of goes) true goes.n goes.s goes.stands taken.staging (share old k count) l.volume given.given.0 given.way.place.staging given.way.place.empty given.given.1 given.given.2.order.whole
+        goes.stands.jobs
+        (restaging.none_out goes.g k goes.t (kept_of goes) true goes.n goes.s goes.stands taken.staging (share old k count) l.volume given.given.0 given.way.place.staging given.way.place.empty given.given.1 given.given.2.order.whole))
+        kept
+
+  pub loses_gap : (m : View) → LosesGap target.ino files l m → LosesTarget k m old files who target x
+  loses_gap m loses = record {
+    left = λ goes. left_through goes.g k.cells l.cells m.cells size_then lent_then (loses.left (has_file goes));
+    kept = λ goes start history same mode.
+        kept_before goes m.cells start history
+        (subst (λ js. IsKeptBack l.volume m.cells goes.kept.first goes.kept.claims js start history ((who, goes.call) ∷ [])) (with_run goes).jobs_are
+        (loses.kept (has_file goes) start history (who, goes.call) same mode));
+  }

@@ -6,6 +6,7 @@ use Rattle.std.proofs.lemmas.Bool.{cases_lt}
 use Rattle.std.proofs.lemmas.Bool.Decides.{nat_tests}
 use Rattle.std.proofs.lemmas.List.{get_or_past, length-map}
 use Rattle.std.proofs.lemmas.Option.{same_Some}
+use Rattle.posix_types.specs.declared.call.Mode.{Mode}
 use Rattle.write_jobs.specs.pm_model.declared.Cell.{Cell}
 use Rattle.write_jobs.specs.pm_model.ImageLaws.{IsImage-words_of}
 use Rattle.write_jobs.specs.pm_model.Images.{IsImage, words_of}
@@ -123,7 +124,7 @@ module _ (k : View) (files : Files) (who : Who) (target : Target) (x : List ℕ)
         sym (ap (λ o. byte_in (journaled image) o i) (block_by_log image is (i / 4096)))
         ∙ (ready.zero image is i (omega (arith, past, size_old)) early ∙ sym (same_beside old x target.start i beside ∙ get_or_past old i 0 past)))
   ] where
-    out : is_within (target.start / 4096) (staged_count target.start (length x)) (i / 4096) ≡ false
+    out : is_within (target.start / 4096) (staged_count Mode.Strict target.size target.start (length x)) (i / 4096) ≡ false
     out = subst (λ n. is_within (target.start / 4096) n (i / 4096) ≡ false) (count_is k files who target x run ready) outside
 
     beside : (i < target.start) ⊎ (target.start + length x ≤ i)

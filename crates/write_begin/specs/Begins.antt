@@ -16,7 +16,7 @@ use Rattle.posix_types.specs.declared.item.Outcome.{Outcome}
 use Rattle.posix_tables.specs.Open.{Tables}
 use Rattle.posix_tables.specs.Outcomes.{first}
 use Rattle.write_plan.specs.posix_laws.Views.{need_of}
-use Rattle.write_plan.specs.posix_spec.FileRows.{write_rows}
+use Rattle.write_plan.specs.posix_spec.FileRows.{content, write_rows}
 use Rattle.write_plan.specs.posix_spec.Run.{run}
 use Rattle.write_plan.specs.posix_spec.State.{room, State}
 use Rattle.live_step_laws.specs.staging_files.Keeps.{Staged}
@@ -80,13 +80,13 @@ pub record BeginsWrite (who : Who) (h : Handle) (at : Option ℕ) (x : List ℕ)
     (old new : Staged) (files then : Files) (taken : ℕ) (job : JobView) (blocks : List ℕ) : Type 0 where
   pub accepted : IsAccepted who h at x k t old files taken
   pub enough : (found : Found k t old files who (call_of h at x) taken) (need left : ℕ) → ¬ LacksBeside found.s who (call_of h at x) found.stands.jobs need left
-  pub run : (found : Found k t old files who (call_of h at x) taken) (need left : ℕ) → ¬ IsLacking (staged_count (start_of found.s who h at) (length x)) old k need left
+  pub run : (found : Found k t old files who (call_of h at x) taken) (need left : ℕ) → ¬ IsLacking (staged_count Mode.Strict (length (content found.s who h)) (start_of found.s who h at) (length x)) old k need left
   pub job_who : job.who ≡ who
   pub blocks_are : blocks_of job.loans ≡ blocks
   pub fresh : job.lost ≡ false
   pub ends : job.draft.file_block + job.draft.count ≤ blocks_for job.draft.size
   pub plan : (found : Found k t old files who (call_of h at x) taken)
-      → (job.draft.file_block ≡ start_of found.s who h at / 4096) × (job.draft.count ≡ staged_count (start_of found.s who h at) (length x))
+      → (job.draft.file_block ≡ start_of found.s who h at / 4096) × (job.draft.count ≡ staged_count Mode.Strict (length (content found.s who h)) (start_of found.s who h at) (length x))
   pub out : new.out ≡ old.out ++ reserved_run job.draft ∷ []
   pub words : (found : Found k t old files who (call_of h at x) taken)
       → SpellCall found.s (record { who = who; call = call_of h at x; draft = job.draft; blocks = blocks }) job.words
@@ -102,18 +102,17 @@ pub record StaysStanding (who : Who) (call : Call) (k l : View) (t : Tables) (ol
   pub stands : (found : Found k t old files who call taken) → StandsAt found.g l t (with_parts found.kept new then) true found.n found.s
 
 -- THE ROUND IS OVER for want of space, and these two numbers say why: what the call needs and what the jobs that are out leave; or
--- what the staging needs free for the blocks of its plan, and has. Some run is out: of a job, or of an earlier write of this lap. The
--- staging is as it was, and of K-Split only cells differ; none, where only the jobs that are out are the cause.
+-- what the staging needs free for the blocks of its plan, and has. Some run is out: of a job, or of an earlier write of this lap. K-Split
+-- and the staging are as they were.
 pub record EndsRound (who : Who) (h : Handle) (at : Option ℕ) (x : List ℕ) (k l : View) (t : Tables)
     (old new : Staged) (files then : Files) (taken need left : ℕ) : Type 0 where
   pub accepted : IsAccepted who h at x k t old files taken
   pub cause : (found : Found k t old files who (call_of h at x) taken)
       → LacksBeside found.s who (call_of h at x) found.stands.jobs need left
-      ⊎ LacksStaging found.s who (call_of h at x) found.stands.jobs (staged_count (start_of found.s who h at) (length x)) old k need left
+      ⊎ LacksStaging found.s who (call_of h at x) found.stands.jobs (staged_count Mode.Strict (length (content found.s who h)) (start_of found.s who h at) (length x)) old k need left
   pub late : old.out ≢ []
   pub same : new ≡ old
-  pub cells_alone : l ≡ record k { cells = l.cells }
-  pub nothing : (found : Found k t old files who (call_of h at x) taken) → LacksBeside found.s who (call_of h at x) found.stands.jobs need left → l ≡ k
+  pub nothing : l ≡ k
   pub stays : StaysStanding who (call_of h at x) k l t old new files then taken
 
 -- ---- the power

@@ -89,12 +89,12 @@ pub record KeepsMaps (v w : Volume) (files then : Files) : Type 0 where
 
 -- IT IS A JOB, with the blocks of its plan; and just its run went out.
 pub record BecomesJob (k l : View) (old new : Staged) (files then : Files) (who : Who) (target : Target) (x : List ℕ) (job : JobView) (blocks : List ℕ) : Type 0 where
-  pub run : (need left : ℕ) → ¬ IsLacking (staged_count target.start (length x)) old k need left
+  pub run : (need left : ℕ) → ¬ IsLacking (staged_count Mode.Strict target.size target.start (length x)) old k need left
   pub job_who : job.who ≡ who
   pub blocks_are : blocks_of job.loans ≡ blocks
   pub fresh : job.lost ≡ false
   pub ends : job.draft.file_block + job.draft.count ≤ blocks_for job.draft.size
-  pub plan : (job.draft.file_block ≡ target.start / 4096) × (job.draft.count ≡ staged_count target.start (length x))
+  pub plan : (job.draft.file_block ≡ target.start / 4096) × (job.draft.count ≡ staged_count Mode.Strict target.size target.start (length x))
   pub out : new.out ≡ old.out ++ reserved_run job.draft ∷ []
   pub words : (goes : Goes k old files who target x) → SpellCall goes.s (job_of who goes.call job blocks) job.words
   pub stands : (goes : Goes k old files who target x)
@@ -105,12 +105,12 @@ pub record GoesNoFurther (k l : View) (old new : Staged) (files then : Files) (w
   pub runs : length new.out ≡ length old.out
   pub stands : (goes : Goes k old files who target x) → StandsAt goes.g l goes.t (with_parts goes.kept new then) true goes.n goes.s
 
--- the staging has no run for it, and one at least is out; only cells differ
+-- the staging has no run for it, and one at least is out; K-Split and the staging are as they were
 pub record LacksRun (k l : View) (old new : Staged) (files then : Files) (who : Who) (target : Target) (x : List ℕ) (need left : ℕ) : Type 0 where
-  pub lacks : IsLacking (staged_count target.start (length x)) old k need left
+  pub lacks : IsLacking (staged_count Mode.Strict target.size target.start (length x)) old k need left
   pub late : old.out ≢ []
   pub same : new ≡ old
-  pub cells_alone : l ≡ record k { cells = l.cells }
+  pub nothing : l ≡ k
   pub stays : GoesNoFurther k l old new files then who target x
 
 -- the power went

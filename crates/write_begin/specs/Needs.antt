@@ -21,18 +21,18 @@ start_from o size None = if o.flags.append then size else o.offset
 start_from o size (Some place) = place
 
 -- what a write of so many bytes needs through a handle: nothing where it may not write, or would end behind the longest file
-abbrev pub need_through : Tables → Files → Who → Handle → Option ℕ → ℕ → ℕ
-need_through t files who h at len =
-    if may_write t who h && nat_le (start_at t files who h at + len) LONGEST_FILE then need_in t files who h at len else 0
+abbrev pub need_through : Mode → Tables → Files → Who → Handle → Option ℕ → ℕ → ℕ
+need_through mode t files who h at len =
+    if may_write t who h && nat_le (start_at t files who h at + len) LONGEST_FILE then need_in mode t files who h at len else 0
 
 -- other calls need nothing
-abbrev pub need_by : Tables → Files → Who → Call → ℕ
-need_by t files who (Call.Write h x) = need_through t files who h None (length x)
-need_by t files who (Call.Pwrite h place x) = need_through t files who h (Some place) (length x)
-need_by t files who call = 0
+abbrev pub need_by : Mode → Tables → Files → Who → Call → ℕ
+need_by mode t files who (Call.Write h x) = need_through mode t files who h None (length x)
+need_by mode t files who (Call.Pwrite h place x) = need_through mode t files who h (Some place) (length x)
+need_by mode t files who call = 0
 
 -- THE JOBS THAT ARE OUT need together what their calls do.
 abbrev pub JobsNeed : Type 0
 JobsNeed =
-    (g : Geometry) (k : View) (t : Tables) (kept : Kept) (lines : Bool) (n : ℕ) (s : State) → (stands : StandsAt g k t kept lines n s) → s.mode ≡ Mode.Strict
-    → sum_by (λ (p : JobOut). need_by t kept.files p.who p.call) kept.pending ≡ needs s stands.jobs
+    (g : Geometry) (k : View) (t : Tables) (kept : Kept) (lines : Bool) (n : ℕ) (s : State) → (stands : StandsAt g k t kept lines n s)
+    → sum_by (λ (p : JobOut). need_by s.mode t kept.files p.who p.call) kept.pending ≡ needs s stands.jobs

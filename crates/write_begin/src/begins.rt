@@ -1,7 +1,7 @@
 //! The beginning of a logged write.
 //!
-//! `begin_write` tries the rows of the call, zeroes what lies between the end of the file and a write in a later
-//! block, reserves staging blocks, reads what they are to hold already, and lends them: a job. It takes all
+//! `begin_write` tries the rows of the call, reserves staging blocks, zeroes what lies between the end of the file and a
+//! write in a later block, reads what the blocks are to hold already, and lends them: a job. It takes all
 //! memory of the job. The layer above may rely on this: a row that fits answers the call, and nothing changed
 //! (`IsAnsweredBy`); a write that no row refuses becomes a job, with which the World stands together
 //! (`BeginsWrite`), or ends the round for want of space (`EndsRound`). It is a job only where the jobs that are out

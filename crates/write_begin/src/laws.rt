@@ -1,8 +1,7 @@
 //! The laws that the bodies here rest on, so that a call of one is seen to be no deed.
 
 pub(crate) use crate::stages::{
-    blocks_are_zeroed_in_flight, kept_numbers_are_those_of_the_state,
-    numbers_are_those_of_the_state,
+    kept_numbers_are_those_of_the_state, numbers_are_those_of_the_state,
 };
 pub(crate) use live_step_laws::{a_job_begins_in_flight, a_run_is_reserved_in_flight};
 pub(crate) use write_plan::{

@@ -16,6 +16,6 @@ mod stages;
 
 pub use begins::{WriteBegun, begin_write, jobs_need_what_their_calls_do, need_of};
 pub use stages::{
-    Asked, OpenFiles, Opened, StagedWrite, Target, ask, blocks_are_zeroed_in_flight, clear_gap,
+    Asked, OpenFiles, Opened, StagedWrite, Target, ask, clear_gap,
     kept_numbers_are_those_of_the_state, numbers_are_those_of_the_state, stage_write,
 };

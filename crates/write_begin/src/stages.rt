@@ -13,4 +13,4 @@ pub use write_plan::{
     Asked, OpenFiles, Opened, Target, ask, kept_numbers_are_those_of_the_state,
     numbers_are_those_of_the_state,
 };
-pub use zero_fill::{blocks_are_zeroed_in_flight, clear_gap};
+pub use zero_fill::clear_gap;

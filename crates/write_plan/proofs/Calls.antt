@@ -1,6 +1,6 @@
 -- What a write asks for by numbers is what its call does.
-use Rattle.std.proofs.Common.{◌≡◌, ◌+◌, ◌==◌, ◌||◌, not, ◌∷◌, [], ℕ, zero, suc, Bool, true, false, List, length, Option, Some, None, refl, arith, ap, ◌∙◌, sym}
-use Rattle.std.specs.Prelude.{if◌then◌else◌, nat_lt, option_map, slice_get, slice_set, unwrap_or}
+use Rattle.std.proofs.Common.{◌≡◌, ◌+◌, ◌||◌, not, ◌∷◌, [], ℕ, zero, suc, Bool, true, false, List, length, Option, Some, None, refl, arith, ap, ◌∙◌, sym}
+use Rattle.std.specs.Prelude.{if◌then◌else◌, option_map, slice_get, slice_set, unwrap_or}
 use Rattle.std.specs.List.{list_any}
 use Rattle.std.specs.Option.{option_flatten, option_map_or}
 use Rattle.file_table.specs.Files.{Files, size_in}
@@ -15,15 +15,12 @@ use Rattle.posix_types.specs.declared.call.Mode.{Mode}
 use Rattle.posix_types.specs.declared.call.Who.{Who}
 use Rattle.posix_types.specs.declared.handle.Handle.{Handle}
 use Rattle.posix_types.specs.declared.item.Outcome.{Outcome}
-use Rattle.posix_types.specs.declared.reply.Errno.{Errno}
-use Rattle.posix_types.specs.declared.reply.Reply.{Reply}
 use Rattle.posix_tables.specs.declared.open.Description.{Description}
 use Rattle.posix_tables.specs.Nodes.{bytes_of, node_at}
 use Rattle.posix_tables.specs.Open.{describes, is_open, key_of, may_write, opened, Tables, with_offset}
-use Rattle.posix_tables.specs.block_counts.declared.TheConstants.{LONGEST_FILE, LONGEST_WRITE}
-use Rattle.posix_tables.specs.Outcomes.{first, idle_row, row}
+use Rattle.posix_tables.specs.Outcomes.{first}
 use Rattle.posix_tables.specs.Room.{write_need}
-use Rattle.open_files.specs.posix_spec.FileRows.{appends, content, file_number, no_blocks, offset_of, write_rows, write_start}
+use Rattle.open_files.specs.posix_spec.FileRows.{appends, content, file_number, offset_of, write_rows, write_start}
 use Rattle.open_files.specs.posix_spec.Put.{put_by}
 use Rattle.open_files.specs.posix_spec.State.{alone, room, State, with_file}
 use Rattle.open_files.specs.posix_spec.Step.{pwrite_done, stepped, write_done, written}
@@ -116,41 +113,39 @@ starts_as_call s f t files who h None of_state may = let d = known s f t files o
 starts_as_call s f t files who h (Some place) of_state may = refl
 
 pub needs_as_call : NeedsAsCall
-needs_as_call s f t files who h None x of_state strict may =
+needs_as_call s f t files who h None x of_state may =
     let d = known s f t files of_state who h may in
-    λ i. write_need (strict i) (length_is s f t files of_state who h d.0 d.1 i) (start_is s f t files of_state who h d.0 d.1 i) (start_is s f t files of_state who h d.0 d.1 i + length x)
-needs_as_call s f t files who h (Some place) x of_state strict may =
+    λ i. write_need s.mode (length_is s f t files of_state who h d.0 d.1 i) (start_is s f t files of_state who h d.0 d.1 i) (start_is s f t files of_state who h d.0 d.1 i + length x)
+needs_as_call s f t files who h (Some place) x of_state may =
     let d = known s f t files of_state who h may in
-    λ i. write_need (strict i) (length_is s f t files of_state who h d.0 d.1 i) place (place + length x)
+    λ i. write_need s.mode (length_is s f t files of_state who h d.0 d.1 i) place (place + length x)
 
 -- the rows of the call, by numbers
 by_row : WritesByRow
 unfolding write_rows
-by_row s who h start x strict =
-    ap (λ (m : Mode). first (row (not (may_write s.tables who h)) Errno.EBADF ∷ row (nat_lt LONGEST_WRITE (length x)) Errno.EINVAL ∷ idle_row (length x == 0) (Reply.Count 0)
-    ∷ row (nat_lt LONGEST_FILE (start + length x)) Errno.EFBIG ∷ no_blocks s (write_need m (length (content s who h)) start (start + length x)) ∷ [])) strict
+by_row s who h start x = refl
 
 -- a handle that may not write
-shut_row : (may : Bool) (start len size left start2 size2 left2 : ℕ) → may ≡ false → write_row_by may start len size left ≡ write_row_by may start2 len size2 left2
-shut_row true start len size left start2 size2 left2 shut = cc
-shut_row false start len size left start2 size2 left2 shut = refl
+shut_row : (mode : Mode) (may : Bool) (start len size left start2 size2 left2 : ℕ) → may ≡ false → write_row_by mode may start len size left ≡ write_row_by mode may start2 len size2 left2
+shut_row mode true start len size left start2 size2 left2 shut = cc
+shut_row mode false start len size left start2 size2 left2 shut = refl
 
 pub rows_as_call : RowsAsCall
-rows_as_call s f t files who h at x data_blocks of_state strict left = by_row s who h (start_of s who h at) x strict ∙ by (may_write s.tables who h) refl where
+rows_as_call s f t files who h at x data_blocks of_state left = by_row s who h (start_of s who h at) x ∙ by (may_write s.tables who h) refl where
   may_is : may_write s.tables who h ≡ may_write t who h
   may_is = ap (λ (o : Option Description). option_map_or (λ (d : Description). d.flags.write) o false) (there s f t files of_state who h) ∙ same (opened t who h) where
     same : (o : Option Description) → option_map_or (λ (d : Description). d.flags.write) (option_map (described_as f) o) false ≡ option_map_or (λ (d : Description). d.flags.write) o false
     same None = refl
     same (Some d) = refl
 
-  by : (b : Bool) → may_write s.tables who h ≡ b → write_row_by (may_write s.tables who h) (start_of s who h at) (length x) (length (content s who h)) (room s) ≡ row_in t files who h at (length x) data_blocks
+  by : (b : Bool) → may_write s.tables who h ≡ b → write_row_by s.mode (may_write s.tables who h) (start_of s who h at) (length x) (length (content s who h)) (room s) ≡ row_in s.mode t files who h at (length x) data_blocks
   by true may =
       let d = known s f t files of_state who h may in
       let start = starts_as_call s f t files who h at of_state may in
-      λ i. write_row_by (may_is i) (start i) (length x) (length_is s f t files of_state who h d.0 d.1 i) (left i)
+      λ i. write_row_by s.mode (may_is i) (start i) (length x) (length_is s f t files of_state who h d.0 d.1 i) (left i)
   by false shut =
-      shut_row (may_write s.tables who h) (start_of s who h at) (length x) (length (content s who h)) (room s) (start_at t files who h at) (size_in files (file_number t who h)) (room_in data_blocks files) shut
-      ∙ ap (λ b. write_row_by b (start_at t files who h at) (length x) (size_in files (file_number t who h)) (room_in data_blocks files)) may_is
+      shut_row s.mode (may_write s.tables who h) (start_of s who h at) (length x) (length (content s who h)) (room s) (start_at t files who h at) (size_in files (file_number t who h)) (room_in data_blocks files) shut
+      ∙ ap (λ b. write_row_by s.mode b (start_at t files who h at) (length x) (size_in files (file_number t who h)) (room_in data_blocks files)) may_is
 
 pub moves_as_call : MovesAsCall
 unfolding put_by

@@ -30,7 +30,7 @@ growth_blocks from to le = omega (arith, blocks_grow from to le, chains_grow (bl
 by_end : (x y z first grown : ℕ) → x - z ≤ grown → z ≤ y → x ≤ y → y - z ≤ grown → x - first ≤ min x z - first + grown
 by_end x y z first grown some low high more = omega (arith, some)
 
-needs_staged : (size start len : ℕ) → staged_count start len ≤ write_need Mode.Strict size start (start + len)
+needs_staged : (size start len : ℕ) → staged_count Mode.Strict size start len ≤ write_need Mode.Strict size start (start + len)
 needs_staged size start len =
     let grown = growth_blocks size (max size (start + len)) (omega arith) in
     let more = blocks_grow (start + len) (max size (start + len)) (omega arith) in
@@ -41,30 +41,30 @@ needs_staged size start len =
 leaves_reserve : (all kept_back held count : ℕ) → 1 ≤ count → count ≤ all - kept_back - held → count + kept_back + held ≤ all
 leaves_reserve all kept_back held count some le = omega (arith, some, le)
 
-some_staged : (start len : ℕ) → 1 ≤ len → 1 ≤ staged_count start len
+some_staged : (start len : ℕ) → 1 ≤ len → 1 ≤ staged_count Mode.Strict 0 start len
 some_staged start len some = omega (arith, some)
 
 pub first_write_fits : FirstWriteFits
 first_write_fits g k t kept lines n s size start len wanted_is has stands fresh ends some room lacks = by lacks.no_second where
   count : ℕ
-  count = staged_count start len
+  count = staged_count Mode.Strict size start len
 
-  fits : staged_count start len + reserve_for (data_blocks k.volume.geometry) + sum_by held_by kept.files.sizes ≤ data_blocks k.volume.geometry
+  fits : staged_count Mode.Strict size start len + reserve_for (data_blocks k.volume.geometry) + sum_by held_by kept.files.sizes ≤ data_blocks k.volume.geometry
   fits =
-      leaves_reserve (data_blocks k.volume.geometry) (reserve_for (data_blocks k.volume.geometry)) (sum_by held_by kept.files.sizes) (staged_count start len) (some_staged start len some)
+      leaves_reserve (data_blocks k.volume.geometry) (reserve_for (data_blocks k.volume.geometry)) (sum_by held_by kept.files.sizes) (staged_count Mode.Strict size start len) (some_staged start len some)
       (omega (arith, needs_staged size start len, room))
 
-  free : staged_count start len + reserve_for (data_blocks k.volume.geometry) ≤ free_blocks_in k
+  free : staged_count Mode.Strict size start len + reserve_for (data_blocks k.volume.geometry) ≤ free_blocks_in k
   free =
       let unused = unused_at_least g k t kept lines n s stands fresh ends in
       let unwaiting = unwaiting-counted (record { volume = k.volume; waiting = k.waiting }) (stands.order.none_waits stands.unbatched) in
       omega (arith, unused, fits, unwaiting)
 
-  needed : need kept.staging k (staged_count start len) ≤ free_blocks_in k
+  needed : need kept.staging k (staged_count Mode.Strict size start len) ≤ free_blocks_in k
   needed =
       let out : length kept.staging.out ≡ 0 = ap (λ (st : Staged). length st.out) fresh in
       omega (arith, free, out)
 
-  by : LacksSecondWay kept.staging k (staged_count start len) → ⊥
+  by : LacksSecondWay kept.staging k (staged_count Mode.Strict size start len) → ⊥
   by (inl short) = omega (arith, short, needed)
   by (inr none) = let never : true ≡ false = sym (ap has_empty fresh) ∙ none in cc

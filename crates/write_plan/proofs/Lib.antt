@@ -2,6 +2,7 @@ pub mod Calls
 pub mod Numbers
 pub mod Orders
 pub mod Spelled
+mod Beside
 mod Fits
 mod Held
 pub use Rattle.live_model.proofs as live_model_proofs

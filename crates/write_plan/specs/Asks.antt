@@ -62,12 +62,12 @@ abbrev pub room_in : ℕ → Files → ℕ
 room_in data_blocks files = data_blocks - reserve_for data_blocks - sum_by held_by files.sizes
 
 -- the row that fits a write of so many bytes
-abbrev pub row_in : Tables → Files → Who → Handle → Option ℕ → ℕ → ℕ → Option Outcome
-row_in t files who h at len data_blocks = write_row_by (may_write t who h) (start_at t files who h at) len (size_in files (file_number t who h)) (room_in data_blocks files)
+abbrev pub row_in : Mode → Tables → Files → Who → Handle → Option ℕ → ℕ → ℕ → Option Outcome
+row_in mode t files who h at len data_blocks = write_row_by mode (may_write t who h) (start_at t files who h at) len (size_in files (file_number t who h)) (room_in data_blocks files)
 
 -- the blocks that it needs
-abbrev pub need_in : Tables → Files → Who → Handle → Option ℕ → ℕ → ℕ
-need_in t files who h at len = write_need Mode.Strict (size_in files (file_number t who h)) (start_at t files who h at) (start_at t files who h at + len)
+abbrev pub need_in : Mode → Tables → Files → Who → Handle → Option ℕ → ℕ → ℕ
+need_in mode t files who h at len = write_need mode (size_in files (file_number t who h)) (start_at t files who h at) (start_at t files who h at + len)
 
 -- It is the file of the handle, with its size by what is staged, and the write begins there; the bytes end within the longest file.
 pub record IsTarget (t : Tables) (files : Files) (who : Who) (h : Handle) (at : Option ℕ) (len : ℕ) (target : Target) : Type 0 where
@@ -81,16 +81,16 @@ pub record IsTarget (t : Tables) (files : Files) (who : Who) (h : Handle) (at : 
   pub fits : target.start + len ≤ LONGEST_FILE
 
 -- the room that other writes leave, and the target
-abbrev pub IsBeside : Target → ℕ → ℕ → ℕ → Asked → Type 0
-IsBeside target len room needs (Asked.Answered outcome) = ⊥
-IsBeside target len room needs (Asked.Full need left) = (need ≡ write_need Mode.Strict target.size target.start (target.start + len)) × (left ≡ room - needs) × (left < need)
-IsBeside target len room needs (Asked.Goes goal) = (write_need Mode.Strict target.size target.start (target.start + len) ≤ room - needs) × (goal ≡ target)
+abbrev pub IsBeside : Mode → Target → ℕ → ℕ → ℕ → Asked → Type 0
+IsBeside mode target len room needs (Asked.Answered outcome) = ⊥
+IsBeside mode target len room needs (Asked.Full need left) = (need ≡ write_need mode target.size target.start (target.start + len)) × (left ≡ room - needs) × (left < need)
+IsBeside mode target len room needs (Asked.Goes goal) = (write_need mode target.size target.start (target.start + len) ≤ room - needs) × (goal ≡ target)
 
 -- WHAT A WRITE ASKS FOR, beside writes that are out and need so many blocks: the row that fits answers it; or no row fits, and the
 -- others leave less than it needs; or it goes on to its target.
-abbrev pub IsAsked : Tables → Files → Who → Handle → Option ℕ → ℕ → ℕ → ℕ → Asked → Type 0
-IsAsked t files who h at len data_blocks needs (Asked.Answered outcome) = row_in t files who h at len data_blocks ≡ Some outcome
-IsAsked t files who h at len data_blocks needs (Asked.Full need left) =
-    (row_in t files who h at len data_blocks ≡ None) × (need ≡ need_in t files who h at len) × (left ≡ room_in data_blocks files - needs) × (left < need)
-IsAsked t files who h at len data_blocks needs (Asked.Goes target) =
-    (row_in t files who h at len data_blocks ≡ None) × (need_in t files who h at len ≤ room_in data_blocks files - needs) × IsTarget t files who h at len target
+abbrev pub IsAsked : Mode → Tables → Files → Who → Handle → Option ℕ → ℕ → ℕ → ℕ → Asked → Type 0
+IsAsked mode t files who h at len data_blocks needs (Asked.Answered outcome) = row_in mode t files who h at len data_blocks ≡ Some outcome
+IsAsked mode t files who h at len data_blocks needs (Asked.Full need left) =
+    (row_in mode t files who h at len data_blocks ≡ None) × (need ≡ need_in mode t files who h at len) × (left ≡ room_in data_blocks files - needs) × (left < need)
+IsAsked mode t files who h at len data_blocks needs (Asked.Goes target) =
+    (row_in mode t files who h at len data_blocks ≡ None) × (need_in mode t files who h at len ≤ room_in data_blocks files - needs) × IsTarget t files who h at len target

@@ -3,7 +3,6 @@ use Rattle.std.specs.Prelude.{◌≡◌, ◌<◌, ℕ, true, List, length, Optio
 use Rattle.file_table.specs.Files.{Files, size_in}
 use Rattle.open_files.specs.Numbered.{numbered_as}
 use Rattle.posix_types.specs.declared.call.Call.{Call}
-use Rattle.posix_types.specs.declared.call.Mode.{Mode}
 use Rattle.posix_types.specs.declared.call.Who.{Who}
 use Rattle.posix_types.specs.declared.handle.Handle.{Handle}
 use Rattle.posix_tables.specs.Nodes.{bytes_of, node_at}
@@ -40,14 +39,14 @@ StartsAsCall =
 -- the row is the one that fits the call, whatever the handle stands for, where the room is that of the state;
 abbrev pub RowsAsCall : Type 0
 RowsAsCall =
-    (s : State) (f : ℕ → ℕ) (t : Tables) (files : Files) (who : Who) (h : Handle) (at : Option ℕ) (x : List ℕ) (data_blocks : ℕ) → AreOfState s f t files → s.mode ≡ Mode.Strict → room s ≡ room_in data_blocks files
-    → first (write_rows s who h (start_of s who h at) x) ≡ row_in t files who h at (length x) data_blocks
+    (s : State) (f : ℕ → ℕ) (t : Tables) (files : Files) (who : Who) (h : Handle) (at : Option ℕ) (x : List ℕ) (data_blocks : ℕ) → AreOfState s f t files → room s ≡ room_in data_blocks files
+    → first (write_rows s who h (start_of s who h at) x) ≡ row_in s.mode t files who h at (length x) data_blocks
 
 -- it needs what the call needs;
 abbrev pub NeedsAsCall : Type 0
 NeedsAsCall =
-    (s : State) (f : ℕ → ℕ) (t : Tables) (files : Files) (who : Who) (h : Handle) (at : Option ℕ) (x : List ℕ) → AreOfState s f t files → s.mode ≡ Mode.Strict → may_write s.tables who h ≡ true
-    → need_of s who (call_of h at x) ≡ need_in t files who h at (length x)
+    (s : State) (f : ℕ → ℕ) (t : Tables) (files : Files) (who : Who) (h : Handle) (at : Option ℕ) (x : List ℕ) → AreOfState s f t files → may_write s.tables who h ≡ true
+    → need_of s who (call_of h at x) ≡ need_in s.mode t files who h at (length x)
 
 -- and where the call puts something, the tables behind it are those with the moved offset, which may be moved.
 abbrev pub MovesAsCall : Type 0

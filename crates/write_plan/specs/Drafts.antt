@@ -1,17 +1,19 @@
 -- The entry of a logged write in strict mode.
 use Rattle.block_counts.specs.declared.TheConstants.{LONGEST_WRITE}
-use Rattle.std.specs.Prelude.{◌≡◌, ◌≤◌, ◌<◌, ◌+◌, ◌-◌, ◌/◌, ◌^◌, ℕ, Bool, true, Contains, List, [], ◌∷◌, length, max}
-use Rattle.posix_tables.specs.block_counts.Counts.{blocks_for}
+use Rattle.std.specs.Option.{option_map_or}
+use Rattle.std.specs.Prelude.{◌≡◌, ◌≤◌, ◌<◌, ◌+◌, ◌/◌, ◌^◌, ℕ, Bool, true, Contains, List, [], ◌∷◌, length, max}
 use Rattle.file_table.specs.layout_model.Places.{Geometry}
 use Rattle.layout_model.specs.declared.lines.Draft.{Draft}
 use Rattle.layout_model.specs.declared.lines.Kind.TheVariants.{File}
 use Rattle.layout_model.specs.Entries.{is_draft}
 use Rattle.layout_model.specs.block_counts.declared.TheConstants.{LONGEST_FILE}
+use Rattle.live_model.specs.data_route.Writes.{staged_by}
 use Rattle.live_model.specs.image_model.Live.{is_live}
 use Rattle.live_model.specs.image_model.Volume.{inode, Volume}
 use Rattle.file_overlay.specs.declared.runs.Run.{Run}
 use Rattle.file_table.specs.Files.{Files, runs_in}
 use Rattle.live_model.specs.k_split_model.View.{View}
+use Rattle.posix_types.specs.declared.call.Mode.{Mode}
 use Rattle.posix_tables.specs.Open.{Tables}
 use Rattle.open_files.specs.posix_spec.State.{State}
 use Rattle.live_model.specs.staging_files.declared.runs.StageRun.{StageRun}
@@ -26,9 +28,9 @@ abbrev pub order_behind : ℕ → List Run → ℕ
 order_behind applied [] = applied + 1
 order_behind applied (run ∷ runs) = order_behind run.order runs
 
--- how many blocks a write stages: whole ones, from that of its first byte to that of its last one
-abbrev pub staged_count : ℕ → ℕ → ℕ
-staged_count start len = blocks_for (start + len) - start / 4096
+-- how many blocks a write of some bytes stages, by the plan of its mode
+abbrev pub staged_count : Mode → ℕ → ℕ → ℕ → ℕ
+staged_count mode size start len = option_map_or (λ (run : ℕ × ℕ). run.1) (staged_by mode size start (start + len)) 0
 
 -- THE ENTRY of a write of so many bytes that has this run: the blocks from that of its first byte on, behind all entries of the
 -- file; and the file ends where it did, or behind the bytes.
@@ -54,7 +56,7 @@ pub record HasRun (v : Volume) (staging : Staged) (target : Target) (len : ℕ) 
   pub fits : target.start + len ≤ LONGEST_FILE
   pub size : target.size ≤ LONGEST_FILE
   pub out : Contains staging.out run
-  pub count_is : run.count ≡ staged_count target.start len
+  pub count_is : run.count ≡ staged_count Mode.Strict target.size target.start len
   pub generation : run.generation ≡ (inode v run.staging).generation
 
 -- The entry is one that a line can hold, it is live, and its order is the next one of its file.

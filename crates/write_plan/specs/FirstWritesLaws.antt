@@ -20,4 +20,4 @@ FirstWriteFits =
     (g : Geometry) (k : View) (t : Tables) (kept : Kept) (lines : Bool) (n : ℕ) (s : State) (size start len need has : ℕ)
     → StandsAt g k t kept lines n s → kept.staging ≡ nothing_staged → FilesEnd k.volume kept.files
     → 1 ≤ len → write_need Mode.Strict size start (start + len) ≤ room_in (data_blocks k.volume.geometry) kept.files
-    → ¬ IsLacking (staged_count start len) kept.staging k need has
+    → ¬ IsLacking (staged_count Mode.Strict size start len) kept.staging k need has

@@ -18,11 +18,11 @@ use Rattle.open_files.specs.posix_spec.State.{room, State}
 abbrev pub blocks_row_by : ℕ → ℕ → Option Outcome
 blocks_row_by need left = space_row (nat_lt left need) What.Blocks need left
 
--- a write of so many bytes from a start on, in strict mode, to a file of a size
-abbrev pub write_row_by : Bool → ℕ → ℕ → ℕ → ℕ → Option Outcome
-write_row_by may start len size left =
+-- a write of so many bytes from a start on, to a file of a size
+abbrev pub write_row_by : Mode → Bool → ℕ → ℕ → ℕ → ℕ → Option Outcome
+write_row_by mode may start len size left =
     first (row (not may) Errno.EBADF ∷ row (nat_lt LONGEST_WRITE len) Errno.EINVAL ∷ idle_row (len == 0) (Reply.Count 0) ∷ row (nat_lt LONGEST_FILE (start + len)) Errno.EFBIG
-    ∷ blocks_row_by (write_need Mode.Strict size start (start + len)) left ∷ [])
+    ∷ blocks_row_by (write_need mode size start (start + len)) left ∷ [])
 
 -- a `truncate` to so many bytes
 abbrev pub truncate_row_by : Bool → ℕ → ℕ → ℕ → Option Outcome
@@ -32,8 +32,8 @@ truncate_row_by may len size left =
 -- They are the rows of the calls.
 abbrev pub WritesByRow : Type 0
 WritesByRow =
-    (s : State) (who : Who) (h : Handle) (start : ℕ) (x : List ℕ) → s.mode ≡ Mode.Strict
-    → first (write_rows s who h start x) ≡ write_row_by (may_write s.tables who h) start (length x) (length (content s who h)) (room s)
+    (s : State) (who : Who) (h : Handle) (start : ℕ) (x : List ℕ)
+    → first (write_rows s who h start x) ≡ write_row_by s.mode (may_write s.tables who h) start (length x) (length (content s who h)) (room s)
 
 abbrev pub TruncatesByRow : Type 0
 TruncatesByRow =

@@ -1,4 +1,4 @@
-//! What a write in strict mode asks for, by numbers, and the offset behind it.
+//! What a write asks for by its mode and numbers, and the offset behind it.
 //!
 //! The World keeps tables of open files and the size of each file by what is staged of it. From these
 //! alone `ask` says how a write goes: by which row it is answered at once, whether the writes that are out

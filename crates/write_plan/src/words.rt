@@ -1,7 +1,7 @@
 //! What the blocks of a logged write are to hold.
 //!
-//! `words_of_write` reads what a file has in the blocks of a write and puts the new bytes over it. The layer
-//! above may rely on this: where a World stands together, each file can be read (`StandsReadable`), and the
+//! `words_of_write` reads what a file has beside the new bytes in the blocks of a write, which is nothing where
+//! these are covered whole, and puts the new bytes between. The layer above may rely on this: where a World stands together, each file can be read (`StandsReadable`), and the
 //! words spell the file with the write done (`StagesTheFile`), whatever is staged of it. It takes memory, and
 //! changes nothing.
 

@@ -43,6 +43,7 @@ module _ (k l : View) (files : Files) (ino from : ℕ) (some : HasFile k files i
     same = done.same;
     size = done.over.size;
     lent = done.over.lent;
+    singles = done.singles;
     stays = λ has.
         let r = cleaned has.g k l has.t (with_files has.kept files) has.lines has.n has.s ino from has.stands (record { file = has.file; behind = behind; others = has.others }) done in
         record { now = r.0; jobs_are = r.1; numbers_are = r.2 };
@@ -58,6 +59,7 @@ module _ (k l : View) (files : Files) (ino from : ℕ) (some : HasFile k files i
     same = done.same;
     size = done.over.size;
     lent = done.over.lent;
+    singles = done.singles;
     stays = λ has.
         let r = stands has.g k l has.t (with_files has.kept files) has.lines has.n has.s ino from staging block has.stands (may_zero staging block at has) done in
         record { now = r.0; jobs_are = r.1; numbers_are = r.2 };

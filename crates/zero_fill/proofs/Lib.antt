@@ -3,14 +3,13 @@ mod CleansReading
 mod Tails
 pub mod ZerosReading
 pub mod Places
-pub mod Refilled
 pub mod Zeroed
 pub mod ZeroReads
 pub mod Writes
 pub mod Lost
 pub mod Blocks
 pub mod Answered
-pub mod Chains
+pub mod Past
 pub use Rattle.k_split_laws.proofs as k_split_laws_proofs
 pub use Rattle.write_plan.proofs.live_model_proofs
 pub use Rattle.live_step_laws.proofs as live_step_laws_proofs

@@ -1,12 +1,12 @@
--- What zeroing the bytes between the end of a file and a write in a later block leaves.
+-- What zeroing the bytes behind the end of a file, in its last block, leaves, where a write begins in a later one.
 use Rattle.std.specs.Prelude.{◌≡◌, ◌≢◌, ◌⊎◌, ◌*◌, ◌/◌, ℕ, Bool, true, false, List, [], ◌∷◌, length}
-use Rattle.k_split_laws.specs.pm_model.Frames.{SameLent}
+use Rattle.k_split_laws.specs.pm_model.Frames.{KeepsSingle, SameLent}
 use Rattle.k_split_laws.specs.pm_model.Powers.{is_on, Supply}
 use Rattle.k_split_laws.specs.layout_model.declared.lines.Kind.TheVariants.{File}
 use Rattle.k_split_laws.specs.layout_model.Places.{Geometry}
 use Rattle.k_split_laws.specs.image_model.Volume.{inode}
 use Rattle.write_plan.specs.live_model.file_table.Files.{Files, size_in}
-use Rattle.zero_fill.specs.Zeros.{block_end, ReadZero}
+use Rattle.zero_fill.specs.Zeros.{ReadZero}
 use Rattle.k_split_laws.specs.k_journal.declared.outcomes.Commit.{Commit}
 use Rattle.k_split_laws.specs.k_split_model.View.{View}
 use Rattle.k_split_laws.specs.k_split.Bytes.{IsOverwriteCut, IsOverwriteDone, tail_zeros}
@@ -43,11 +43,12 @@ pub record Stays (k : View) (files : Files) (ino : ℕ) (has : HasFile k files i
   pub numbers_are : now.numbers ≡ has.stands.numbers
 
 -- THE BYTES FROM THE END OF THE FILE ON, UP TO THIS ONE, READ ZERO, and no call sees a change: cells alone are others, with the same
--- words lent.
+-- words lent, and each word of one candidate has one again.
 pub record Clears (ino : ℕ) (files : Files) (k l : View) (to : ℕ) : Type 0 where
   pub same : l ≡ record k { cells = l.cells }
   pub size : length l.cells ≡ length k.cells
   pub lent : SameLent k.cells l.cells
+  pub singles : KeepsSingle k.cells l.cells
   pub stays : (has : HasFile k files ino) → Stays k files ino has l
   pub zero : ReadZero l files ino (size_in files ino) to
 
@@ -60,11 +61,6 @@ pub record LosesGap (ino : ℕ) (files : Files) (k l : View) : Type 0 where
 abbrev pub IsCleared : ℕ → Files → ℕ → View → View → Commit → Type 0
 IsCleared ino files to k l Commit.Done = Clears ino files k l to
 IsCleared ino files to k l Commit.PowerLost = LosesGap ino files k l
-
--- of one block: what read zero up to a byte does so up to the end of its block
-abbrev pub IsBlockCleared : ℕ → Files → ℕ → View → View → Commit → Type 0
-IsBlockCleared ino files from k l Commit.Done = ReadZero k files ino (size_in files ino) from → Clears ino files k l (block_end from)
-IsBlockCleared ino files from k l Commit.PowerLost = LosesGap ino files k l
 
 -- what writing zeros over the bytes from one on, to the end of their block, leaves
 abbrev pub IsZeroed : ℕ → ℕ → View → View → Commit → Type 0

@@ -1,5 +1,5 @@
 -- Blocks behind the end of a file are zeroed while writes are in flight, each law as one statement.
-use Rattle.std.specs.Prelude.{◌≡◌, ◌≤◌, ◌<◌, ◌/◌, ◌%◌, ℕ, Bool, List, [], ◌∷◌, length, Result, Ok}
+use Rattle.std.specs.Prelude.{◌≡◌, ◌<◌, ◌/◌, ◌%◌, ℕ, Bool, List, [], ◌∷◌, length}
 use Rattle.relink_laws.specs.layout_model.declared.lines.Kind.TheVariants.{File}
 use Rattle.relink_laws.specs.layout_model.Places.{Geometry}
 use Rattle.live_step_laws.specs.image_model.Volume.{extents, inode}
@@ -13,10 +13,6 @@ use Rattle.relink_laws.specs.posix_types.declared.item.Item.{Item}
 use Rattle.relink_laws.specs.posix_tables.Open.{Tables}
 use Rattle.live_step_laws.specs.posix_spec.Run.{Unfinished, run}
 use Rattle.live_step_laws.specs.posix_spec.State.{State}
-use Rattle.write_plan.specs.live_model.staging_files.declared.runs.StageFault.{StageFault}
-use Rattle.write_plan.specs.live_model.staging_files.declared.runs.StageRun.{StageRun}
-use Rattle.write_plan.specs.live_model.staging_files.Keeps.{Staged}
-use Rattle.write_plan.specs.live_model.staging_files.Reserves.{IsReserveAnswer}
 use Rattle.write_plan.specs.live_model.Losses.{KeepsWhenLost}
 use Rattle.write_plan.specs.live_model.Standing.{Kept, StandsAt}
 use Rattle.zero_fill.specs.Zeros.{block_end, MayZero, ReadZero, staged_place}
@@ -49,7 +45,7 @@ KeepsZeroed =
 
 -- ---- what reads zero
 
--- The block that was zeroed does, of the file itself or of a staging file, and so does a hole;
+-- The block that was zeroed does, of the file itself or of a staging file, and so does a hole.
 abbrev pub ZeroedReadZero : Type 0
 ZeroedReadZero =
     (g : Geometry) (k l : View) (t : Tables) (kept : Kept) (lines : Bool) (n : ℕ) (s : State) (ino a from x p : ℕ)
@@ -57,11 +53,3 @@ ZeroedReadZero =
     → disk_at (extents k.volume x) (p / 4096) ≡ block_in k.volume (runs_in kept.files ino) ino (from / 4096)
     → p % 4096 ≡ from % 4096 → IsOverwriteDone x p (tail_zeros k.volume x p) k l
     → ReadZero k kept.files ino a from → ReadZero l kept.files ino a (block_end from)
-
--- and what reads zero does so where a run is reserved.
-abbrev pub ReservedReadZero : Type 0
-ReservedReadZero =
-    (g : Geometry) (k l : View) (t : Tables) (kept : Kept) (staging : Staged) (lines : Bool) (n : ℕ) (s : State)
-    (count : ℕ) (taken : StageRun) (ino a b : ℕ) → StandsAt g k t kept lines n s → (inode k.volume ino).kind ≡ File
-    → 1 ≤ count → count ≤ 33 → (let r : Result StageRun StageFault = Ok taken in IsReserveAnswer count kept.staging k staging l r)
-    → ReadZero k kept.files ino a b → ReadZero l kept.files ino a b

@@ -1,7 +1,7 @@
 //! Zeros between the end of a file and a write behind it, put in place and durable.
 //!
-//! `clear_gap` zeroes what lies there in maps and staged blocks; then it reads zero in each image,
-//! and no call sees a change. It takes no memory.
+//! `clear_gap` zeroes what lies there, which is in the block of the end alone, mapped or staged; then
+//! all between reads zero in each image, and no call sees a change. It takes no memory.
 //!
 //! - `cleans`: The end of a file is cleaned while writes are in flight.
 //! - `zeros`: Bytes behind the end of a file are zeroed in place while writes are in flight.

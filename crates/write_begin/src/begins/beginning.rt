@@ -11,7 +11,7 @@ use crate::laws;
 use crate::stages::{Asked, OpenFiles, ask};
 use live_step_laws::{KSplit, Staging};
 use pm_lines::Power;
-use posix_types::{Data, Handle, Outcome, Who};
+use posix_types::{Data, Handle, Mode, Outcome, Who};
 use std::alloc::{AllocError, Global};
 use write_plan::{FileTable, Job};
 
@@ -34,8 +34,8 @@ pub enum WriteBegun {
 /// no run is out nothing is staged.
 ///
 /// It answers in this order: by the row of the call that fits; RoundOver where only the jobs that are out leave
-/// too little; PowerLost where the power goes while it makes room; RoundOver where the staging has no run; else
-/// a job. RoundOver comes only where some run is out, and leaves the staging as it was.
+/// too little; RoundOver where the staging has no run; PowerLost where the power goes while it makes room; else
+/// a job. RoundOver comes only where some run is out, and leaves K-Split and the staging as they were.
 ///
 /// # Errors
 ///
@@ -43,7 +43,7 @@ pub enum WriteBegun {
 ///
 /// # Steps
 ///
-/// At most 2^22.
+/// At most 2^16.
 pub fn begin_write(
     alloc: Global,
     k: &mut KSplit,
@@ -51,6 +51,7 @@ pub fn begin_write(
     staging: &mut Staging,
     files: &mut FileTable,
     who: Who,
+    mode: Mode,
     handle: Handle,
     offset: Option<u64>,
     bytes: &Data,
@@ -58,11 +59,12 @@ pub fn begin_write(
     power: &mut Power,
 ) -> Result<WriteBegun, AllocError>
     requires on { is_on power.old ≡ true }
+    requires strict { mode ≡ Mode.Strict }
     requires found { Found k.old tables.now.tables staging.old files.old who
         (call_of handle offset bytes.now) needs }
     requires ends { FilesEnd k.old.volume files.old }
     requires bare { IsBareAtRest staging.old }
-    ensures steps { Steps (2 ^ 22) power.old power.new }
+    ensures steps { Steps (2 ^ 16) power.old power.new }
     ensures paid { IsPaid power.new result }
     ensures keeps { is_on power.new ≡ true
         → KeepsMaps k.old.volume k.new.volume files.old files.new }
@@ -73,9 +75,21 @@ pub fn begin_write(
     laws::kept_numbers_are_those_of_the_state();
     let blocks = k.geometry().data_blocks();
     let new = bytes.bytes.as_slice();
-    match ask(tables, files, who, handle, offset, new.len(), blocks, needs) {
+    match ask(
+        mode,
+        tables,
+        files,
+        who,
+        handle,
+        offset,
+        new.len(),
+        blocks,
+        needs,
+    ) {
         Asked::Answered(outcome) => Ok(WriteBegun::Answered(outcome)),
         Asked::Full { need, left } => Ok(WriteBegun::RoundOver { need, room: left }),
-        Asked::Goes(target) => { begin_target(alloc, k, staging, files, who, target, new, power) }
+        Asked::Goes(target) => begin_target(
+            alloc, k, staging, files, who, mode, target, new, power,
+        ),
     }
 }

@@ -27,6 +27,7 @@ fn start_of(opened: &Opened, size: u64, at: Option<u64>) -> u64
 
 // What a write of `len` bytes needs, at `at` or where its handle stands.
 fn need_through(
+    mode: Mode,
     tables: &OpenFiles,
     files: &FileTable,
     who: Who,
@@ -35,7 +36,7 @@ fn need_through(
     len: usize,
 ) -> u64
     requires { HaveLines tables.now.tables files.now }
-    ensures { result ≡ need_through tables.now.tables files.now who handle at len }
+    ensures { result ≡ need_through mode tables.now.tables files.now who handle at len }
 {
     let Some(opened) = tables.find(who, handle) else {
         return 0;
@@ -45,21 +46,22 @@ fn need_through(
     if !opened.flags.write || is_too_far(start, len as u64) {
         return 0;
     }
-    write_need(Mode::Strict, size, start, start + len as u64)
+    write_need(mode, size, start, start + len as u64)
 }
 
-/// What a call needs, in blocks, in strict mode: a write what it stages anew and what its file grows by; nothing
+/// What a call needs, in blocks: a write what its mode stages anew and what its file grows by; nothing
 /// where its handle may not write or it would end behind the longest file; other calls nothing. Each open file
 /// has its line.
-pub fn need_of(tables: &OpenFiles, files: &FileTable, who: Who, call: &Call) -> u64
+pub fn need_of(mode: Mode, tables: &OpenFiles, files: &FileTable, who: Who, call: &Call) -> u64
     requires { HaveLines tables.now.tables files.now }
-    ensures { result ≡ need_by tables.now.tables files.now who call.now }
+    ensures { result ≡ need_by mode tables.now.tables files.now who call.now }
 {
     match call {
         Call::Write(handle, data) => {
-            need_through(tables, files, who, *handle, None, data.bytes.len())
+            need_through(mode, tables, files, who, *handle, None, data.bytes.len())
         }
         Call::Pwrite(handle, offset, data) => need_through(
+            mode,
             tables,
             files,
             who,

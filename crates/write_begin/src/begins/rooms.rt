@@ -1,35 +1,38 @@
 //! Room for a write, and its job.
-ghost use Rattle.std.specs.Prelude.{◌≡◌, ◌+◌, ◌*◌, ◌≤◌, ◌^◌, true, length, Contains};
+ghost use Rattle.std.specs.Prelude.{◌≡◌, ◌+◌, ◌≤◌, ◌^◌, true, length, Contains};
 ghost use Rattle.block_counts.specs.declared.TheConstants.{LONGEST_FILE, LONGEST_WRITE};
 ghost use Rattle.write_plan.specs.pm_model.Powers.{is_on, Steps};
 ghost use Rattle.write_plan.specs.file_table.Files.{size_in, spare_in};
-ghost use Rattle.zero_fill.specs.Zeros.{ReadZero};
 ghost use Rattle.write_begin.specs.Begins.{IsPaid};
 ghost use Rattle.write_begin.specs.Goes.{FitsTarget, Goes, HasRoom, IsBareAtRest, IsGone, IsJobBegun, KeepsMaps};
+ghost use Rattle.data_route.specs.Writes.{plan_of};
 ghost use Rattle.write_plan.specs.Drafts.{staged_count};
 ghost use Rattle.write_begin.specs.Stages.{Ready};
-ghost use Rattle.zero_fill.specs.Gaps.{block_start};
 
 use crate::begins::beginning::WriteBegun;
 use crate::laws;
 use crate::stages::{Target, clear_gap, stage_write};
-use block_counts::blocks_for;
+use data_route::{WritePlan, plan_write};
 use live_step_laws::{KSplit, StageFault, StageRun, Staging};
 use pm_lines::Power;
-use posix_types::Who;
+use posix_types::{Mode, Who};
 use std::alloc::{AllocError, Global};
 use write_plan::{Commit, FileTable};
 
-// How many blocks a write of `len` bytes stages.
-fn count_of(target: Target, len: usize) -> u32
+// How many blocks the plan of a write of `len` bytes stages.
+fn count_of(plan: WritePlan, target: Target, len: usize) -> u32
+    requires plan { plan ≡ plan_of Mode.Strict target.size target.start len }
     requires some { 1 ≤ len }
     requires most { len ≤ LONGEST_WRITE }
     requires fits { target.start + len ≤ LONGEST_FILE }
-    ensures count { result ≡ staged_count target.start len }
+    ensures count { result ≡ staged_count Mode.Strict target.size target.start len }
     ensures least { 1 ≤ result }
     ensures most { result ≤ 33 }
 {
-    (blocks_for(target.start + len as u64) - target.start / 4096) as u32
+    match plan.staged {
+        Some((_, count)) => count,
+        None => 0,
+    }
 }
 
 // Makes the job of a write that has its run; where memory runs out the run goes back.
@@ -61,26 +64,28 @@ fn begin_job(
     }
 }
 
-// Reserves the run of a write, and makes its job. What lies between the end of the file and the block of the
-// write reads zero, and there is room to lay the run. Where nothing is staged the staging has a run for it.
-fn begin_cleared(
+// Reserves the run of a write by its plan, zeroes what lies between the end of the file and the block of the write, and makes its
+// job. There is room to lay the run; where nothing is staged the staging has a run for it. Where the power goes the run
+// stays out.
+fn begin_reserved(
     alloc: Global,
     k: &mut KSplit,
     staging: &mut Staging,
     files: &FileTable,
     who: Who,
+    mode: Mode,
     target: Target,
     bytes: &[u8],
     power: &mut Power,
 ) -> Result<WriteBegun, AllocError>
     requires on { is_on power.old ≡ true }
+    requires strict { mode ≡ Mode.Strict }
     requires goes { Goes k.old staging.old files.now who target bytes.now }
     requires target { FitsTarget files.now target (length bytes.now) }
     requires room { HasRoom k.old.volume files.now target (length bytes.now) }
     requires bare { IsBareAtRest staging.old }
     requires spare { 3 ≤ spare_in files.now target.ino }
-    requires zero { ReadZero k.old files.now target.ino target.size (block_start target.start) }
-    ensures steps { Steps (2 ^ 15) power.old power.new }
+    ensures steps { Steps (2 ^ 16) power.old power.new }
     ensures paid { IsPaid power.new result }
     ensures keeps { is_on power.new ≡ true
         → KeepsMaps k.old.volume k.new.volume files.now files.now }
@@ -88,12 +93,17 @@ fn begin_cleared(
         bytes.now result }
 {
     laws::a_run_is_reserved_in_flight();
-    laws::blocks_are_zeroed_in_flight();
     laws::the_first_write_finds_its_blocks();
-    let _size = files.size(target.ino);
-    let count = count_of(target, bytes.len());
+    let size = files.size(target.ino);
+    let plan = plan_write(mode, size, target.start, bytes.len() as u64);
+    let count = count_of(plan, target, bytes.len());
     match staging.reserve(alloc, k, count, power) {
-        Ok(run) => begin_job(alloc, k, staging, files, who, target, bytes, run),
+        Ok(run) => {
+            match clear_gap(k, files, target.ino, target.start, plan.clean_tail, power) {
+                Commit::PowerLost => Ok(WriteBegun::PowerLost),
+                Commit::Done => begin_job(alloc, k, staging, files, who, target, bytes, run),
+            }
+        }
         Err(StageFault::PowerLost) => Ok(WriteBegun::PowerLost),
         Err(StageFault::NoMemory) => Err(AllocError),
         Err(StageFault::NoRoom { need, room }) => {
@@ -108,24 +118,26 @@ fn begin_cleared(
     }
 }
 
-/// Makes room for a write that goes on to its target, and its job: memory for its run in the file table, zeros
-/// between the end of the file and the block of the write, and a run of staging blocks.
+/// Makes room for a write that goes on to its target, and its job: memory for its run in the file table, a run of
+/// staging blocks, and zeros between the end of the file and the block of the write.
 pub(crate) fn begin_target(
     alloc: Global,
     k: &mut KSplit,
     staging: &mut Staging,
     files: &mut FileTable,
     who: Who,
+    mode: Mode,
     target: Target,
     bytes: &[u8],
     power: &mut Power,
 ) -> Result<WriteBegun, AllocError>
     requires on { is_on power.old ≡ true }
+    requires strict { mode ≡ Mode.Strict }
     requires goes { Goes k.old staging.old files.old who target bytes.now }
     requires target { FitsTarget files.old target (length bytes.now) }
     requires room { HasRoom k.old.volume files.old target (length bytes.now) }
     requires bare { IsBareAtRest staging.old }
-    ensures steps { Steps (2 ^ 22) power.old power.new }
+    ensures steps { Steps (2 ^ 16) power.old power.new }
     ensures paid { IsPaid power.new result }
     ensures keeps { is_on power.new ≡ true
         → KeepsMaps k.old.volume k.new.volume files.old files.new }
@@ -134,9 +146,6 @@ pub(crate) fn begin_target(
 {
     match files.reserve(target.ino) {
         Err(error) => Err(error),
-        Ok(()) => match clear_gap(k, files, target.ino, target.start, power) {
-            Commit::PowerLost => Ok(WriteBegun::PowerLost),
-            Commit::Done => begin_cleared(alloc, k, staging, files, who, target, bytes, power),
-        },
+        Ok(()) => begin_reserved(alloc, k, staging, files, who, mode, target, bytes, power),
     }
 }

@@ -1,6 +1,7 @@
 //! A logged write is given up.
 ghost use Rattle.std.specs.Prelude.{◌≡◌, ◌+◌, length};
 ghost use Rattle.write_jobs.specs.Loans.{ComeBack};
+ghost use Rattle.live_model.specs.staging_files.GivesUp.{IsGivenBack};
 ghost use Rattle.live_model.specs.Standing.{reserved_run};
 ghost use Rattle.write_end.specs.Ends.{CanGiveUp, HasJob, LeavesGivenUp};
 
@@ -27,6 +28,7 @@ pub fn give_up_write(k: &mut KSplit, staging: &mut Staging, job: FilledJob)
     ensures back { ComeBack job.loans k.old.cells k.new.cells }
     ensures same { k.new ≡ record k.old { cells = k.new.cells } }
     ensures runs { length staging.new.out + 1 ≡ length staging.old.out }
+    ensures run_back { IsGivenBack (reserved_run job.draft) staging.old staging.new }
     ensures leaves { (has : HasJob k.old job) → has.kept.staging ≡ staging.old
         → LeavesGivenUp k.old job has k.new staging.new }
 {

@@ -56,17 +56,13 @@ fn target_of(files: &FileTable, opened: &Opened, at: Option<u64>) -> Target
 }
 
 // Whether the writes that are out leave room for one that no row refuses.
-fn beside(target: Target, len: usize, room: u64, needs: u64) -> Asked
+fn beside(mode: Mode, target: Target, len: usize, room: u64, needs: u64) -> Asked
     requires size { target.size ≤ LONGEST_FILE }
     requires end { target.start + len ≤ LONGEST_FILE }
-    ensures { IsBeside target len room needs result }
+    ensures { IsBeside mode target len room needs result }
 {
-    let need = write_need(
-        Mode::Strict,
-        target.size,
-        target.start,
-        target.start + len as u64,
-    );
+    let end = target.start + len as u64;
+    let need = write_need(mode, target.size, target.start, end);
     let left = room.saturating_sub(needs);
     if left < need {
         Asked::Full { need, left }
@@ -78,6 +74,7 @@ fn beside(target: Target, len: usize, room: u64, needs: u64) -> Asked
 /// How a write of `len` bytes goes, at `at` or where its handle stands: in an image of so many data
 /// blocks, beside writes that are out and need `needs` blocks together. Each open file has its line.
 pub fn ask(
+    mode: Mode,
     tables: &OpenFiles,
     files: &FileTable,
     who: Who,
@@ -88,15 +85,22 @@ pub fn ask(
     needs: u64,
 ) -> Asked
     requires { HaveLines tables.now.tables files.now }
-    ensures { IsAsked tables.now.tables files.now who handle at len data_blocks needs result }
+    ensures { IsAsked mode tables.now.tables files.now who handle at len data_blocks needs result }
 {
     let Some(opened) = tables.find(who, handle) else {
         return Asked::Answered(answer(Reply::Error(Errno::EBADF)));
     };
     let target = target_of(files, &opened, at);
     let room = room_by(data_blocks, files.held());
-    match write_row(opened.flags.write, target.start, len, target.size, room) {
+    match write_row(
+        mode,
+        opened.flags.write,
+        target.start,
+        len,
+        target.size,
+        room,
+    ) {
         Some(outcome) => Asked::Answered(outcome),
-        None => beside(target, len, room, needs),
+        None => beside(mode, target, len, room, needs),
     }
 }

@@ -32,9 +32,16 @@ fn blocks_row(need: u64, room: u64) -> Option<Outcome>
 /// The outcome of a write of `len` bytes from `start` on that a row refuses, or that has no bytes; None
 /// where it is done. `may` says whether the handle may write; the file has `size` bytes, 16,777,216 at
 /// most, and `room` blocks are left.
-pub fn write_row(may: bool, start: u64, len: usize, size: u64, room: u64) -> Option<Outcome>
+pub fn write_row(
+    mode: Mode,
+    may: bool,
+    start: u64,
+    len: usize,
+    size: u64,
+    room: u64,
+) -> Option<Outcome>
     requires { size ≤ LONGEST_FILE }
-    ensures row { result ≡ write_row_by may start len size room }
+    ensures row { result ≡ write_row_by mode may start len size room }
     ensures fits { IfNone result (start + len ≤ LONGEST_FILE) }
 {
     if !may {
@@ -49,10 +56,7 @@ pub fn write_row(may: bool, start: u64, len: usize, size: u64, room: u64) -> Opt
     if is_too_far(start, len as u64) {
         return refused(Errno::EFBIG);
     }
-    blocks_row(
-        write_need(Mode::Strict, size, start, start + len as u64),
-        room,
-    )
+    blocks_row(write_need(mode, size, start, start + len as u64), room)
 }
 
 /// The outcome of a `truncate` to `len` bytes that a row refuses; None where it is done.

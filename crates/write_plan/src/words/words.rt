@@ -12,7 +12,8 @@ use crate::drafts::{Collection, FileTable, KSplit, Target, read_bytes, staged_wo
 use std::alloc::{AllocError, Global};
 
 /// The words that `count` blocks are to hold, from that of the target's first byte on: what the file has
-/// there, with the new bytes over it, and zeros behind both. The new bytes lie in these blocks.
+/// there, with the new bytes over it, and zeros behind both. The new bytes lie in these blocks; of the file
+/// only what lies beside them there is read.
 pub fn words_of_write(
     alloc: Global,
     k: &KSplit,
@@ -36,16 +37,21 @@ pub fn words_of_write(
     ensures agrees { Agrees collection.new target.ino (extents k.now.volume target.ino) }
     ensures others { KeepsOthers target.ino collection.old collection.new }
 {
-    let first = target.start / 4096 * 4096;
-    let old = read_bytes(
+    let size = files.size(target.ino);
+    let overlay = files.overlay(target.ino);
+    let at = target.start % 4096;
+    let end = target.start + new.len() as u64;
+    let rest = 4096 * u64::from(count) - at - new.len() as u64;
+    let front = read_bytes(
         alloc,
         k,
         target.ino,
-        files.size(target.ino),
-        first,
-        4096 * u64::from(count),
-        files.overlay(target.ino),
+        size,
+        target.start - at,
+        at,
+        overlay,
         collection,
     )?;
-    staged_words(alloc, &old, target.start - first, new, count)
+    let back = read_bytes(alloc, k, target.ino, size, end, rest, overlay, collection)?;
+    staged_words(alloc, &front, at as usize, new, &back, count)
 }

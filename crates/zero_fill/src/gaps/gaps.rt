@@ -1,14 +1,16 @@
-//! Blocks are zeroed in place.
-ghost use Rattle.std.specs.Prelude.{◌≡◌, ◌+◌, ◌*◌, ◌-◌, ◌/◌, ◌%◌, ◌^◌, ◌<◌, ◌≤◌, ℕ, true, false, length, replicate, take, IsSome};
+//! The end of a file is zeroed in place.
+ghost use Rattle.std.specs.Prelude.{◌≡◌, ◌+◌, ◌/◌, ◌%◌, ◌^◌, ◌<◌, ◌≤◌, ℕ, true, false, length, replicate, take, IsSome};
 ghost use Rattle.k_split_laws.specs.pm_model.Powers.{is_on, Steps};
 ghost use Rattle.k_split_laws.specs.layout_model.declared.lines.Kind.TheVariants.{File};
 ghost use Rattle.k_split_laws.specs.image_model.Volume.{inode};
 ghost use Rattle.k_split_laws.specs.extent_model.Extents.{disk_at};
 ghost use Rattle.write_plan.specs.live_model.file_table.Files.{size_in};
 ghost use Rattle.k_split_laws.specs.k_split.Bytes.{zeros_behind};
-ghost use Rattle.zero_fill.specs.Zeros.{staged_place};
+ghost use Rattle.write_plan.specs.eof_laws.Ends.{FilesEnd};
+ghost use Rattle.write_plan.specs.live_model.data_route.Writes.{cleans};
+ghost use Rattle.zero_fill.specs.Zeros.{block_end, staged_place};
 ghost use Rattle.k_split_laws.specs.k_split.Loans.{MayLend};
-ghost use Rattle.zero_fill.specs.Gaps.{block_start, HasFile, IsBlockCleared, IsCleared, IsClearPaid, IsZeroed};
+ghost use Rattle.zero_fill.specs.Gaps.{block_start, HasFile, IsCleared, IsClearPaid, IsZeroed};
 
 use crate::laws;
 use crate::zeros::FileTable;
@@ -76,52 +78,53 @@ fn zero_staged(k: &mut KSplit, staging: u32, block: u32, from: u64, power: &mut 
     }
 }
 
-// Zeroes the block of a byte behind the end of a file, from that byte on.
-fn zero_block(k: &mut KSplit, files: &FileTable, ino: u32, from: u64, power: &mut Power) -> Commit
+// Zeroes what lies behind the end of a file, in the block of this end.
+fn zero_tail(k: &mut KSplit, files: &FileTable, ino: u32, end: u64, power: &mut Power) -> Commit
     requires has { HasFile k.old files.now ino }
-    requires behind { size_in files.now ino ≤ from }
-    requires short { from < 2 ^ 24 }
+    requires end { end ≡ size_in files.now ino }
+    requires short { end < 2 ^ 24 }
     ensures steps { Steps 577 power.old power.new }
     ensures paid { IsClearPaid power.new result }
-    ensures answer { IsBlockCleared ino files.now from k.old k.new result }
+    ensures answer { IsCleared ino files.now (block_end end) k.old k.new result }
 {
     laws::blocks_are_zeroed_in_flight();
     laws::the_end_of_a_file_is_cleaned_in_flight();
-    match files.overlay(ino).find((from / 4096) as u32) {
-        Some((staging, block)) => zero_staged(k, staging, block, from, power),
-        None => zero_mapped(k, ino, from, power),
+    match files.overlay(ino).find((end / 4096) as u32) {
+        Some((staging, block)) => zero_staged(k, staging, block, end, power),
+        None => zero_mapped(k, ino, end, power),
     }
 }
 
 /// Zeroes in place what lies between the end of a file, by what is kept of it, and the block of byte
-/// `start`, at most 16,777,216. The power is on, and no job of the file is out. Nothing where the file ends
-/// in that block or behind it.
+/// `start`, if the plan of a write there says so: as nothing lies past the ends of files, that is in the block
+/// of the end alone. The power is on, and no job of the file is out. Nothing where the file ends with a block,
+/// or in that of `start` or behind it.
 ///
 /// `PowerLost` comes exactly where the power is off at the return. It takes no memory.
 ///
 /// # Steps
 ///
-/// At most 577 a block in between, and so 2^22.
+/// At most 577.
 pub fn clear_gap(
     k: &mut KSplit,
     files: &FileTable,
     ino: u32,
     start: u64,
+    clean_tail: bool,
     power: &mut Power,
 ) -> Commit
     requires power { is_on power.old ≡ true }
+    requires plan { clean_tail ≡ cleans (size_in files.now ino) start }
     requires has { HasFile k.old files.now ino }
-    requires short { start ≤ 2 ^ 24 }
-    ensures steps { Steps (577 * 4096) power.old power.new }
+    requires ends { FilesEnd k.old.volume files.now }
+    ensures steps { Steps 577 power.old power.new }
     ensures paid { IsClearPaid power.new result }
     ensures answer { IsCleared ino files.now (block_start start) k.old k.new result }
 {
     let size = files.size(ino);
-    for block in size / 4096..start / 4096 {
-        match zero_block(k, files, ino, size.max(4096 * block), power) {
-            Commit::PowerLost => return Commit::PowerLost,
-            Commit::Done => {}
-        }
+    if clean_tail {
+        zero_tail(k, files, ino, size, power)
+    } else {
+        Commit::Done
     }
-    Commit::Done
 }

@@ -1,4 +1,4 @@
-use Rattle.zero_fill.proofs.ZeroReads.{reserved_read_zero, zeroed_read_zero}
+use Rattle.zero_fill.proofs.ZeroReads.{zeroed_read_zero}
 use Rattle.zero_fill.proofs.Zeroed.{keeps_zeroed, stands_to_zero, stands_zeroed}
 use Rattle.zero_fill.proofs.zeros.blocks_are_zeroed_in_flight.Goals as goal
 
@@ -13,6 +13,3 @@ returns-clause-cut c = keeps_zeroed
 
 pub returns-clause-zeroed : goal.returns-clause-zeroed
 returns-clause-zeroed c = zeroed_read_zero
-
-pub returns-clause-reserved : goal.returns-clause-reserved
-returns-clause-reserved c = reserved_read_zero

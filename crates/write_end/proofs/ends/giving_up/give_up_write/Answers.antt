@@ -4,6 +4,7 @@ use Rattle.write_plan.specs.pm_model.Cells.{cell, is_lent}
 use Rattle.write_plan.specs.pm_model.Parts.{Part}
 use Rattle.write_jobs.specs.world_image_laws.k_split_model.View.{View}
 use Rattle.live_model.specs.staging_files.declared.runs.StageRun.{StageRun}
+use Rattle.live_model.specs.staging_files.GivesUp.{IsGivenBack}
 use Rattle.live_model.specs.staging_files.Keeps.{Staged}
 use Rattle.write_jobs.specs.Jobs.{loan_at}
 use Rattle.write_jobs.specs.Loans.{AreApart, ComeBack}
@@ -29,6 +30,10 @@ pub returns-clause-runs : goal.returns-clause-runs
 returns-clause-runs c =
     let back = c.give_back.ensures.back in
     ap (λ (s : Staged). length s.out + 1) back.now ∙ one_fewer c.args.staging.now.out back.place c.stage_run_of.result back.was
+
+pub returns-clause-run_back : goal.returns-clause-run_back
+returns-clause-run_back c =
+    subst (λ (run : StageRun). IsGivenBack run c.args.staging.now c.give_back.new.self) (c.stage_run_of.ensures ∙ ap reserved_run c.draft.ensures.draft) c.give_back.ensures.back
 
 pub returns-clause-leaves : goal.returns-clause-leaves
 returns-clause-leaves c = λ has staging.

@@ -1,5 +1,5 @@
--- Memory for the run of a write, and zeros before it.
-use Rattle.std.specs.Prelude.{◌≡◌, ◌≢◌, ◌≤◌, ◌<◌, ◌+◌, ℕ, true, List, [], ◌∷◌, length, slice_index, refl}
+-- Memory for the run of a write.
+use Rattle.std.specs.Prelude.{◌≡◌, ◌≢◌, ◌≤◌, ◌<◌, ◌+◌, ℕ, List, [], ◌∷◌, length, slice_index, refl}
 use Rattle.std.proofs.Common.{arith, ap, ◌∙◌, sym, subst, inl, inr}
 use Rattle.block_counts.specs.Counts.{blocks_for}
 use Rattle.write_plan.specs.layout_model.declared.lines.Draft.{Draft}
@@ -21,10 +21,8 @@ use Rattle.live_step_laws.specs.world_model.Stands.{is_used}
 use Rattle.live_step_laws.specs.live_model.Standing.{AreJobsOf, file_state, JobOut}
 use Rattle.write_plan.specs.declared.asks.asking.Target.{Target}
 use Rattle.write_plan.specs.Asks.{room_in}
-use Rattle.zero_fill.specs.Gaps.{Clears, HasFile, LosesGap}
-use Rattle.write_begin.specs.Stages.{with_parts}
-use Rattle.write_begin.specs.Goes.{Goes, HasRoom, LosesTarget}
-use Rattle.write_begin.proofs.Steps.{IsStep, Onward}
+use Rattle.write_begin.specs.Goes.{Goes, HasRoom}
+use Rattle.write_begin.proofs.Steps.{Onward}
 
 -- The files are those before but for the room that is spare in one line.
 pub record SparesOthers (ino : ℕ) (files then : Files) : Type 0 where
@@ -102,9 +100,6 @@ module _ (k : View) (staging : Staged) (files then : Files) (who : Who) (target 
     numbers_are = refl;
   }
 
-  pub spare_step : IsStep k k staging files then who target x
-  spare_step = record { same = refl; size = refl; lent = λ i. refl; onward = spared }
-
 -- it leaves the room that there is
 pub room_spared : (v : Volume) (files then : Files) (target : Target) (len : ℕ) → SparesOthers target.ino files then → HasRoom v files target len → HasRoom v then target len
 room_spared v files then target len spares has = record {
@@ -116,36 +111,4 @@ room_spared v files then target len spares has = record {
   room =
       subst (λ n. write_need Mode.Strict target.size target.start (target.start + len) ≤ n) (ap (λ (sizes : List ℕ). room_in (data_blocks v.geometry) (record files { sizes = sizes })) (sym spares.sizes))
       has.room;
-}
-
--- ---- zeros
-
--- the file of the write, in which no job that is out writes
-abbrev pub has_file : (k : View) (staging : Staged) (files : Files) (who : Who) (target : Target) (x : List ℕ) → Goes k staging files who target x → HasFile k files target.ino
-has_file k staging files who target x goes = record {
-  g = goes.g;
-  t = goes.t;
-  kept = with_parts goes.kept staging files;
-  lines = true;
-  n = goes.n;
-  s = goes.s;
-  stands = goes.stands;
-  file = goes.stands.open_are_files target.ino goes.opened;
-  others = goes.others;
-}
-
-pub cleared_step : (k l : View) (staging : Staged) (files : Files) (who : Who) (target : Target) (x : List ℕ) (to : ℕ) → Clears target.ino files k l to → IsStep k l staging files files who target x
-cleared_step k l staging files who target x to clears = record {
-  same = clears.same;
-  size = clears.size;
-  lent = clears.lent;
-  onward = λ goes.
-      let stays = clears.stays (has_file k staging files who target x goes) in
-      record { now = stays.now; jobs_are = stays.jobs_are; numbers_are = stays.numbers_are };
-}
-
-pub cleared_lost : (k l : View) (staging : Staged) (files : Files) (who : Who) (target : Target) (x : List ℕ) → LosesGap target.ino files k l → LosesTarget k l staging files who target x
-cleared_lost k l staging files who target x loses = record {
-  left = λ goes. loses.left (has_file k staging files who target x goes);
-  kept = λ goes start history same. loses.kept (has_file k staging files who target x goes) start history (who, goes.call) same;
 }

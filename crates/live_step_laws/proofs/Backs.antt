@@ -1,23 +1,23 @@
 -- Lines and blocks of jobs are put back alike after a change that leaves the geometry, the lap and the maps of staging files.
 use Rattle.std.specs.Prelude.{◌≡◌, ℕ, List, [], ◌∷◌, ◌++◌, Option, Some, None}
 use Rattle.std.proofs.Common.{sym, subst}
-use Rattle.eof_laws.specs.pm_model.declared.Cell.{Cell}
-use Rattle.eof_laws.specs.pm_model.Parts.{put_back}
-use Rattle.eof_laws.specs.pm_model.Words.{Words}
-use Rattle.eof_laws.specs.layout_model.Journal.{journaled}
-use Rattle.eof_laws.specs.layout_model.Places.{Geometry}
-use Rattle.layout_model.specs.declared.lines.Draft.{Draft}
-use Rattle.eof_laws.specs.image_model.Honest.{IsHonestWith}
-use Rattle.eof_laws.specs.image_model.Volume.{Volume}
-use Rattle.posix_types.specs.declared.item.Item.{Item}
-use Rattle.open_files.specs.posix_spec.Run.{Unfinished}
-use Rattle.open_files.specs.posix_spec.State.{State}
-use Rattle.live_step_laws.specs.world_model.Lines.{AreJobLines, AreLinesOut, IsClaimedLine, IsJobLine, Spells}
-use Rattle.live_step_laws.specs.world_model.Jobs.{Job}
-use Rattle.live_step_laws.specs.world_image_laws.Back.{calls_in_log, IsKeptBack, IsPutBack}
-use Rattle.live_step_laws.specs.world_image_laws.Flights.{filled_same}
-use Rattle.live_step_laws.specs.world_image_laws.LentLaws.{SameBlocks}
-use Rattle.live_step_laws.specs.world_image_laws.Promised.{IsKept}
+use Rattle.relink_laws.specs.world_write_laws.pm_model.declared.Cell.{Cell}
+use Rattle.relink_laws.specs.world_write_laws.pm_model.Parts.{put_back}
+use Rattle.relink_laws.specs.world_write_laws.pm_model.Words.{Words}
+use Rattle.relink_laws.specs.world_write_laws.layout_model.Journal.{journaled}
+use Rattle.relink_laws.specs.world_write_laws.layout_model.Places.{Geometry}
+use Rattle.relink_laws.specs.world_write_laws.layout_model.declared.lines.Draft.{Draft}
+use Rattle.relink_laws.specs.world_write_laws.image_model.Honest.{IsHonestWith}
+use Rattle.relink_laws.specs.world_write_laws.image_model.Volume.{Volume}
+use Rattle.relink_laws.specs.world_write_laws.posix_types.declared.item.Item.{Item}
+use Rattle.relink_laws.specs.world_write_laws.posix_spec.Run.{Unfinished}
+use Rattle.relink_laws.specs.world_write_laws.posix_spec.State.{State}
+use Rattle.relink_laws.specs.world_write_laws.world_model.Lines.{AreJobLines, AreLinesOut, IsClaimedLine, IsJobLine, Spells}
+use Rattle.relink_laws.specs.world_write_laws.world_model.Jobs.{Job}
+use Rattle.k_split_laws.specs.world_image_laws.Back.{calls_in_log, IsKeptBack, IsPutBack}
+use Rattle.k_split_laws.specs.world_image_laws.Flights.{filled_same}
+use Rattle.k_split_laws.specs.world_image_laws.LentLaws.{SameBlocks}
+use Rattle.k_split_laws.specs.world_image_laws.Promised.{IsKept}
 
 -- (first over a volume with the places of the first one)
 module _ (v w : Volume) (cells : ℕ → Cell) (first : Words) where

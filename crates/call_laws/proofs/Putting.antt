@@ -31,7 +31,9 @@ use Rattle.world_view_laws.specs.in_flight.live_model.Standing.{JobOut, reserved
 use Rattle.world_view_laws.specs.in_flight.live_model.world_model.JobLaws.{needs}
 use Rattle.write_begin.specs.write_jobs.Jobs.{JobView}
 use Rattle.world_view_laws.proofs.Beginning.{began, lets, lost_call, others_began, others_lost, others_returned, returned}
+use Rattle.world_view_laws.proofs.OpenCalls.{next_of_job}
 use Rattle.world_view_laws.proofs.Ending.{no_both}
+use Rattle.world_view_laws.proofs.Handing.{in_front}
 use Rattle.world_view_laws.proofs.Losing.{lost_view}
 use Rattle.world_view_laws.specs.declared.views.over.Over.{Over}
 use Rattle.world_view_laws.proofs.write_end_proofs.Homes.{has_blocks_out}
@@ -47,7 +49,7 @@ use Rattle.write_begin.specs.Needs.{JobsNeed, need_by}
 use Rattle.write_begin.specs.write_plan.AsksLaws.{call_of, start_of}
 use Rattle.write_begin.specs.posix_laws.RowLaws.{Accepts-from_rows}
 use Rattle.call_laws.proofs.Rows.{accepted_logged, is_its_need, its_need, lacks_in, lacks_staging, no_publish, refused_step, refused_unlogged}
-use Rattle.call_laws.proofs.Jobs.{needs_are, stands_later}
+use Rattle.call_laws.proofs.Jobs.{drafts_differ, needs_are, stands_later}
 use Rattle.call_laws.specs.Calls.{AtCall}
 use Rattle.call_laws.proofs.Running.{of_open_file}
 use Rattle.call_laws.proofs.Staying.{ends_round, few_made, going_now, late_run, round_over, stands_now, strict_now}
@@ -72,7 +74,7 @@ module _ (k : View) (t : Tables) (staging : Staged) (files : Files) (w : WorldVi
   pub strict : (state_of w).mode ≡ Mode.Strict
   strict = strict_now k t staging files w who (call_of h at x) one
 
-  module _ (law : JobsNeed) (taken : ℕ) (taken_is : taken ≡ sum_by (λ (p : JobOut). need_by t files p.who p.call) w.pending) where
+  module _ (law : JobsNeed) (taken : ℕ) (taken_is : taken ≡ sum_by (λ (p : JobOut). need_by Mode.Strict t files p.who p.call) w.pending) where
     -- THE WRITE IS FOUND AS IT ASKS.
     abbrev pub found_at : Found k t staging files who (call_of h at x) taken
     found_at = record {
@@ -84,7 +86,10 @@ module _ (k : View) (t : Tables) (staging : Staged) (files : Files) (w : WorldVi
       stands = at_call;
       strict = strict;
       beside = lets k t staging files w one.world one.begins.awake one.out who (call_of h at x) one.begins.next one.up one.none one.begins.idle;
-      taken_is = taken_is ∙ law w.geometry k t (kept_of w staging files) true (length w.history) (state_of w) at_call strict;
+      taken_is =
+          taken_is
+          ∙ (ap (λ (mode : Mode). sum_by (λ (p : JobOut). need_by mode t files p.who p.call) w.pending) (sym strict)
+          ∙ law w.geometry k t (kept_of w staging files) true (length w.history) (state_of w) at_call);
     }
 
     -- ---- it returned
@@ -163,7 +168,7 @@ module _ (k : View) (t : Tables) (staging : Staged) (files : Files) (w : WorldVi
 
         counted_who : (q : JobOut) → In q (w.pending ++ pending_of ∷ []) → IsCounted q.who
         counted_who q there = elim (pushed-In w.pending pending_of q there) [
-          | inl old ↦ is_counted w.scripts w.history q.who q.call one.world.threads (going.next q old).0
+          | inl old ↦ is_counted w.scripts w.history q.who q.call one.world.threads (next_of_job w.scripts w.history w.pending w.unfinished one.world.open_calls q old).call
           | inr last ↦ subst (λ (y : JobOut). IsCounted y.who) last (is_counted w.scripts w.history who (call_of h at x) one.world.threads one.begins.next)
         ]
 
@@ -197,6 +202,9 @@ module _ (k : View) (t : Tables) (staging : Staged) (files : Files) (w : WorldVi
           pending = pending_of;
           who_is = refl;
           call_is = refl;
+          apart = λ q there.
+              drafts_differ w.geometry l t (kept_of job_view staged laid) true (length w.history) (state_of w) (begun.stands found_at) pending_of q (last_there w.pending)
+              (in_front w.pending (pending_of ∷ []) q there) (one.none q there);
           tables = sym (ap (λ (d : Disk). d.tables) one.world.disk_is);
           new_is = refl;
           plan = plan_is (begun.accepted found_at);
@@ -235,8 +243,7 @@ module _ (k : View) (t : Tables) (staging : Staged) (files : Files) (w : WorldVi
 
         pub write_ends_round : (after : Supply) → is_on after ≡ true → EndsRound who w (record w { over = Some (Over.Space needed left); acts = w.acts + 1; disk = disk_of l t staged }) after needed left
         write_ends_round = ends_round k t staging files w who (call_of h at x) one l staged laid over.stays.runs keeps.base ends_now (over.stays.stands found_at) needed left late cause
-            (ap (λ (y : View). disk_of y t staged) over.cells_alone ∙ ap (λ (s : Staged). disk_of (record k { cells = l.cells }) t s) over.same ∙ ap (λ (d : Disk). record d { cells = l.cells }) (sym one.world.disk_is))
-            (λ lacks. ap (λ (y : View). disk_of y t staged) (over.nothing found_at (beside_in needed left lacks)) ∙ ap (λ (s : Staged). disk_of k t s) over.same ∙ sym one.world.disk_is)
+            (ap (λ (y : View). disk_of y t staged) over.nothing ∙ ap (λ (s : Staged). disk_of k t s) over.same ∙ sym one.world.disk_is)
 
     -- ---- it lost its power
 

@@ -85,7 +85,7 @@ second_lacks staged k count left is less = by (has_empty staged) refl is where
 module _ (w : WorldView) (who : Who) (h : Handle) (at : Option ℕ) (x : List ℕ) (k : View) (t : Tables) (staged : Staged) (none : first (write_rows (state_of w) who h (start_of (state_of w) who h at) x) ≡ None) (disk : w.disk ≡ disk_of k t staged)
     (geometry : k.volume.geometry ≡ w.geometry) (runs : length staged.out ≡ length w.claims + length w.pending) where
   abbrev count : ℕ
-  count = staged_count (start_of (state_of w) who h at) (length x)
+  count = staged_count Mode.Strict 0 (start_of (state_of w) who h at) (length x)
 
   abbrev put : Put
   put = record { node = file_number (state_of w).tables who h; place = start_of (state_of w) who h at; bytes = x }

@@ -21,7 +21,7 @@ use Rattle.world_view_laws.specs.declared.views.over.Over.{Over}
 use Rattle.world_view_laws.proofs.write_end_proofs.Homes.{has_blocks_out}
 use Rattle.world_view_laws.specs.Begins.{EndsRound, LacksBeside, LacksStaging, OthersStay}
 use Rattle.world_view_laws.specs.eof_laws.Ends.{FilesEnd}
-use Rattle.world_view_laws.specs.Views.{Disk, disk_of, IsGoing, IsWorldOver, kept_of, state_of, WorldView}
+use Rattle.world_view_laws.specs.Views.{disk_of, IsGoing, IsWorldOver, kept_of, state_of, WorldView}
 use Rattle.call_laws.specs.Calls.{AtCall}
 use Rattle.call_laws.proofs.Jobs.{some_out}
 
@@ -64,7 +64,6 @@ module _ (k : View) (t : Tables) (staging : Staged) (files : Files) (w : WorldVi
       none_unfinished = going_now.none_unfinished;
       none_home = going_now.none_home;
       base = going_now.base ∙ sym base;
-      next = going_now.next;
       spelled = going_now.spelled;
       ends = ends;
       drafts_end = going_now.drafts_end;
@@ -90,6 +89,7 @@ module _ (k : View) (t : Tables) (staging : Staged) (files : Files) (w : WorldVi
       spelled = one.world.spelled;
       legal = one.world.legal;
       scripted = one.world.scripted;
+      open_calls = one.world.open_calls;
       counted = record {
         settled = one.world.counted.settled;
         fresh = one.world.counted.fresh;
@@ -133,6 +133,7 @@ module _ (k : View) (t : Tables) (staging : Staged) (files : Files) (w : WorldVi
         spelled = one.world.spelled;
         legal = one.world.legal;
         scripted = one.world.scripted;
+        open_calls = one.world.open_calls;
         counted = record {
           settled = one.world.counted.settled;
           fresh = λ never. one.world.counted.fresh one.begins.going;
@@ -149,15 +150,14 @@ module _ (k : View) (t : Tables) (staging : Staged) (files : Files) (w : WorldVi
         gone = λ off. no_both w.lost off one.begins.awake _;
       }
 
-      pub ends_round : LacksBeside w who call needed left ⊎ LacksStaging w who call needed left → disk_of l t staged ≡ record w.disk { cells = l.cells } → (LacksBeside w who call needed left → disk_of l t staged ≡ w.disk)
+      pub ends_round : LacksBeside w who call needed left ⊎ LacksStaging w who call needed left → disk_of l t staged ≡ w.disk
           → (after : Supply) → is_on after ≡ true → EndsRound who w over_view after needed left
-      ends_round cause cells_alone nothing after on = record {
+      ends_round cause nothing after on = record {
         call = call;
         begins = one.begins;
         cause = cause;
         late = late;
         new_is = refl;
-        cells_alone = cells_alone;
         nothing = nothing;
         stay = others_still (Some (Over.Space needed left)) (w.acts + 1);
         on = on;
@@ -177,7 +177,7 @@ module _ (k : View) (t : Tables) (staging : Staged) (files : Files) (w : WorldVi
     lacks_over = round_over k staging files refl refl going_now.ends stands_now needed left (inl some_job)
 
     pub lacks_ends : (after : Supply) → is_on after ≡ true → EndsRound who w (record w { over = Some (Over.Space needed left); acts = w.acts + 1; disk = disk_of k t staging }) after needed left
-    lacks_ends = ends_round k staging files refl refl going_now.ends stands_now needed left (inl some_job) (inl lacks) (ap (λ (d : Disk). record d { cells = k.cells }) (sym one.world.disk_is)) (λ beside. sym one.world.disk_is)
+    lacks_ends = ends_round k staging files refl refl going_now.ends stands_now needed left (inl some_job) (inl lacks) (sym one.world.disk_is)
 
   -- where no run is out nothing is staged
   pub bare_at_rest : staging.out ≡ [] → staging ≡ nothing_staged

@@ -1,5 +1,5 @@
 -- A history has no more calls than its scripts.
-use Rattle.std.specs.Prelude.{◌≡◌, ◌≢◌, ◌⊎◌, ◌≤◌, ◌<◌, ◌+◌, ◌-◌, ◌==◌, ℕ, suc, Bool, true, false, cond, nat_le, List, [], ◌∷◌, ◌++◌, length, count_by, sum_by, slice_index_or, refl}
+use Rattle.std.specs.Prelude.{◌≡◌, ◌≢◌, ◌⊎◌, ◌≤◌, ◌<◌, ◌+◌, ◌-◌, ◌==◌, ℕ, zero, suc, Bool, true, false, cond, nat_le, List, [], ◌∷◌, ◌++◌, length, count_by, sum_by, slice_get, slice_index_or, None, refl}
 use Rattle.std.proofs.Common.{arith, ap, ◌∙◌, sym, subst, append_assoc, length-append, inl, inr}
 use Rattle.std.proofs.lemmas.Bool.{cases_lt, eq-eqb}
 use Rattle.std.proofs.lemmas.Bool.Decides.{eqb_tells, leb_tells}
@@ -13,7 +13,7 @@ use Rattle.posix_types.specs.declared.item.Item.{Item}
 use Rattle.posix_types.specs.Scripts.{Scripts}
 use Rattle.live_model.specs.commute_laws.posix_tables.Open.{same_who}
 use Rattle.live_model.specs.commute_laws.Handles.{same_who-is}
-use Rattle.live_model.specs.commute_laws.posix_spec.Scripted.{call_count, items_of, script_of, Scripted, ScriptedAfter}
+use Rattle.live_model.specs.commute_laws.posix_spec.Scripted.{call_count, items_of, next_call, script_of, Scripted, ScriptedAfter}
 
 -- ---- each caller
 
@@ -145,3 +145,31 @@ history_within scripts history scripted =
 
       each : (n : ℕ) → own (Who.Thread (0 + n)) history ≤ length (slice_index_or scripts.threads n [])
       each n = subst (λ k. own (Who.Thread k) history ≤ length (slice_index_or scripts.threads n [])) (omega arith) (within (Who.Thread n))
+
+-- ---- all of them
+
+all_past : {X : Type 0} (xs : List X) (n : ℕ) → slice_get xs n ≡ None → length xs ≤ n
+all_past [] n none = omega arith
+all_past (x ∷ xs) zero none = cc
+all_past (x ∷ xs) (suc n) none = omega (arith, all_past xs n none)
+
+threads_all : (threads : List (List Call)) (low : ℕ) (items : List Item) → ((n : ℕ) → length (slice_index_or threads n []) ≤ own (Who.Thread (low + n)) items) → sum_by (λ (calls : List Call). length calls) threads ≤ others low items
+unfolding own others
+threads_all [] low items each = omega arith
+threads_all (calls ∷ threads) low items each =
+    let first : length calls ≤ own (Who.Thread low) items = subst (λ k. length calls ≤ own (Who.Thread k) items) (omega arith) (each 0) in
+    let rest : sum_by (λ (cs : List Call). length cs) threads ≤ others (low + 1) items =
+    threads_all threads (low + 1) items (λ n. subst (λ k. length (slice_index_or threads n []) ≤ own (Who.Thread k) items) (omega arith) (each (suc n)))
+    in
+    omega (arith, split low items, first, rest, sum_by-cons (λ (cs : List Call). length cs) calls threads)
+
+-- WHERE NO CALLER HAS A NEXT CALL, the history has all calls.
+pub history_complete : (scripts : Scripts) (history : List Item) → ((who : Who) → next_call scripts history who ≡ None) → call_count scripts ≤ length history
+unfolding own
+history_complete scripts history none =
+    omega (arith, all_of history, made Who.Setup, threads_all scripts.threads 0 history each) where
+      made : (who : Who) → length (script_of scripts who) ≤ own who history
+      made who = subst (λ n. length (script_of scripts who) ≤ n) (length-filter (λ (i : Item). same_who i.who who) history) (all_past (script_of scripts who) (length (items_of history who)) (none who))
+
+      each : (n : ℕ) → length (slice_index_or scripts.threads n []) ≤ own (Who.Thread (0 + n)) history
+      each n = subst (λ k. length (slice_index_or scripts.threads n []) ≤ own (Who.Thread k) history) (omega arith) (made (Who.Thread n))

@@ -1,6 +1,7 @@
 -- The first call of a round finds room.
 use Rattle.std.specs.Prelude.{◌≡◌, ◌≢◌, ◌≤◌, ◌-◌, ℕ, true, List, [], length, Option, Some, None, sum_by, refl}
 use Rattle.std.proofs.Common.{arith, ap, ◌∙◌, sym, subst, inl, inr, suc, zero}
+use Rattle.world_parts.specs.world_view_laws.posix_types.declared.call.Mode.{Mode}
 use Rattle.call_laws.proofs.Putting.{found_at}
 use Rattle.call_laws.proofs.Rows.{lacks_in}
 use Rattle.call_laws.specs.Calls.{AtCall}
@@ -60,8 +61,8 @@ accepted_of w who h (Some place) x need is = unrefused w _ need (first (write_ro
 module _ (fits : FirstWriteFits) (kept_law : StandsAsKept) (room_law : RoomIsKept) (starts : StartsAsCall) (needs_law : NeedsAsCall) (jobs : JobsNeed) (k : View) (t : Tables) (staging : Staged) (files : Files) (w : WorldView) (who : Who) (at_first : IsAtFirst w) where
   -- a write finds a run,
   module _ (h : Handle) (at : Option ℕ) (x : List ℕ) (one : AtCall k t staging files w who (call_of h at x)) where
-    abbrev found : Found k t staging files who (call_of h at x) (sum_by (λ (p : JobOut). need_by t files p.who p.call) w.pending)
-    found = found_at k t staging files w who h at x one jobs (sum_by (λ (p : JobOut). need_by t files p.who p.call) w.pending) refl
+    abbrev found : Found k t staging files who (call_of h at x) (sum_by (λ (p : JobOut). need_by Mode.Strict t files p.who p.call) w.pending)
+    found = found_at k t staging files w who h at x one jobs (sum_by (λ (p : JobOut). need_by Mode.Strict t files p.who p.call) w.pending) refl
 
     going : IsGoing k t staging files w
     going = one.world.going one.begins.awake
@@ -73,13 +74,13 @@ module _ (fits : FirstWriteFits) (kept_law : StandsAsKept) (room_law : RoomIsKep
     put_finds_room need left lacks =
         let none = accepted_of w who h at x need lacks.need_is in
         let accepts = Accepts-from_rows (state_of w) who h (start_of (state_of w) who h at) x none in
-        let taken = sum_by (λ (p : JobOut). need_by t files p.who p.call) w.pending in
+        let taken = sum_by (λ (p : JobOut). need_by Mode.Strict t files p.who p.call) w.pending in
         let needed = need_is kept_law room_law k t staging files who h at x taken found starts needs_law none in
         let room = room_is kept_law room_law k t staging files who h at x taken found in
         let start = start_is kept_law room_law k t staging files who h at x taken found starts needs_law none in
         let enough = need_fits (state_of w) who h at x accepts in
         fits w.geometry k t found.kept true (length w.history) (state_of w) (size_in files (file_number t who h)) (start_at t files who h at) (length x) need left found.stands fresh going.ends (at_least_one (length x) accepts.some) (omega (arith, needed, room, enough))
-        (subst (λ n. IsLacking (staged_count n (length x)) staging k need left) start
+        (subst (λ n. IsLacking (staged_count Mode.Strict 0 n (length x)) staging k need left) start
         (lacks_in w who h at x k t staging none one.world.disk_is found.stands.geometry going.runs need left lacks))
 
   -- and no other call stages blocks.

@@ -18,6 +18,7 @@ use Rattle.eof_laws.specs.image_model.Checked.{IsCheckedAs}
 use Rattle.eof_laws.specs.image_model.Content.{content}
 use Rattle.eof_laws.specs.image_model.Volume.{inode, Volume, volume}
 use Rattle.world_view_laws.specs.posix_laws.Starts.{start-rising}
+use Rattle.world_view_laws.specs.posix_laws.UnfinishedLaws.{AreUnfinished-none}
 use Rattle.eof_laws.specs.file_table.Files.{Files}
 use Rattle.world_view_laws.proofs.file_publish_proofs.staging_files_proofs.GiveUpLaws.{staged-nothing}
 use Rattle.world_view_laws.proofs.file_publish_proofs.staging_files_proofs.StagedLaws.{free-given}
@@ -164,7 +165,6 @@ module _ (ending : EndBegun) (g : Geometry) (image : Words) (k : View) (t : List
     none_unfinished = refl;
     none_home = refl;
     base = refl;
-    next = λ p at. absurd at;
     spelled = λ slot d at. absurd at;
     ends = ending k.volume files may.mounted.short (λ ino file. table.sizes ino) table.runs;
     drafts_end = λ p at. absurd at;
@@ -193,6 +193,7 @@ module _ (ending : EndBegun) (g : Geometry) (image : Words) (k : View) (t : List
     spelled = may.limits.spelled;
     legal = tt;
     scripted = tt;
+    open_calls = AreUnfinished-none scripts [];
     counted = counted;
     disk_is = refl;
     going = λ on. going;

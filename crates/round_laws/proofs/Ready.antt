@@ -119,9 +119,10 @@ module _ (turning : StandsHome) (holding : LinesHoldOut) (k l : View) (t : Table
   -- so many laps began
   pub next_lap : HasNextLap l
   next_lap =
-      let log : w.geometry.log ≤ 1024 = subst (λ (g : Geometry). g.log ≤ 1024) same_places stands.order.whole.kept.geometry.most_log in
+      let most = stands.order.whole.kept.geometry.most_log in
+      let log : w.geometry.log ≤ 4096 = omega (arith, most, ap (λ (g : Geometry). g.log) same_places) in
       let more : w.settled + 1 ≤ 4097 = omega (arith, ending.world.counted.settled, few_calls) in
-      let laps : w.geometry.log * (w.settled + 1) ≤ 1024 * 4097 = mul-le-mul log more in
+      let laps : w.geometry.log * (w.settled + 1) ≤ 4096 * 4097 = mul-le-mul log more in
       let places : l.volume.geometry.log ≡ w.geometry.log = ap (λ (g : Geometry). g.log) same_places in
       omega (arith, laps, log, places, same_base, ending.world.counted.low)
 

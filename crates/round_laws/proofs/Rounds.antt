@@ -41,7 +41,7 @@ use Rattle.world_view_laws.specs.Views.{AreCounted, calls_out, ComesHomeTo, Disk
 use Rattle.file_publish.specs.log_checkpoint.Gathers.{IsGatherAnswer}
 use Rattle.round_laws.proofs.EndsLines.{all_home, at_home, lines_hold, same_volume}
 use Rattle.round_laws.proofs.Ready.{few_nodes, next_lap, small_enough}
-use Rattle.round_laws.specs.EndsLaws.{GoesIntoNextRound, IsEnding, LosesRoundBefore, LosesRoundInside, lost_round, next_view}
+use Rattle.round_laws.specs.EndsLaws.{AppliesClaims, GoesIntoNextRound, IsEnding, LosesRoundBefore, LosesRoundInside, lost_round, next_view}
 
 never : true ≡ false → (X : Type 0) → X
 never is X = absurd (subst P is tt) where
@@ -105,7 +105,6 @@ module _ (turning : StandsHome) (holding : LinesHoldOut) (gathered : StandsGathe
     none_unfinished = going.none_unfinished;
     none_home = going.none_home;
     base = base_rose;
-    next = λ p at. absurd (subst (In p) ending.none_out at);
     spelled = λ slot d at. absurd at;
     ends = ends l m then files table done (subst (λ (v : Volume). FilesEnd v files) (sym (same_volume turning holding k l t staging files w lines ending)) going.ends);
     drafts_end = λ p at. absurd (subst (In p) ending.none_out at);
@@ -151,6 +150,7 @@ module _ (turning : StandsHome) (holding : LinesHoldOut) (gathered : StandsGathe
     spelled = ending.world.spelled;
     legal = ending.world.legal;
     scripted = ending.world.scripted;
+    open_calls = ending.world.open_calls;
     counted = next_counted may;
     disk_is = refl;
     going = λ still. next_going ends;
@@ -159,6 +159,10 @@ module _ (turning : StandsHome) (holding : LinesHoldOut) (gathered : StandsGathe
 
 pub goes_into_next_round : StandsHome → LinesHoldOut → StandsGathered → KeepsGatheredOut → EndGathered → GoesIntoNextRound
 goes_into_next_round turning holding gathered keeps ends k l m t staging then files table w lines ending may done = next_round turning holding gathered keeps k l m t staging then files table w lines ending done ends may
+
+-- each claim of the lap is applied by its file
+pub applies_claims : StandsHome → LinesHoldOut → StandsGathered → KeepsGatheredOut → AppliesClaims
+applies_claims turning holding gathered keeps k l m t staging then files table w lines ending done = (behind turning holding gathered keeps k l m t staging then files table w lines ending done).applied
 
 -- ---- the power went
 
@@ -184,6 +188,7 @@ world_lost k m t staging then files table w acts home world few lost = record {
   spelled = world.spelled;
   legal = world.legal;
   scripted = world.scripted;
+  open_calls = world.open_calls;
   counted = counted_lost w acts (disk_of m t then) home world.counted few;
   disk_is = refl;
   going = λ on. never on _;

@@ -24,6 +24,7 @@ use Rattle.eof_laws.specs.k_split_model.View.{View}
 use Rattle.eof_laws.specs.list_laws.Members.{In}
 use Rattle.world_view_laws.specs.write_end.Stops.{KeepsGatheredOut}
 use Rattle.eof_laws.specs.posix_spec.Run.{Unfinished}
+use Rattle.eof_laws.specs.posix_spec.Unfinished.{AreUnfinished}
 use Rattle.eof_laws.specs.posix_tables.Open.{Tables}
 use Rattle.world_view_laws.specs.write_end.Ends.{begun_by}
 use Rattle.world_view_laws.specs.Rounds.{IsLeft}
@@ -41,6 +42,7 @@ left k l t staging files w lines pm unfinished ending same size home promise = r
   unfinished_is = same;
   legal = ending.world.legal;
   scripted = ending.world.scripted;
+  open_calls = subst (AreUnfinished w.scripts w.history) (sym same) ending.world.open_calls;
   within = history_within w.scripts w.history ending.world.scripted;
   size = size;
   home = home;

@@ -1,6 +1,6 @@
 -- With the log's lines at home a round may begin.
 use Rattle.std.specs.Prelude.{◌≡◌, ◌≤◌, ◌+◌, ◌*◌, ◌/◌, ◌^◌, false, length}
-use Rattle.std.proofs.Common.{arith, sym, subst}
+use Rattle.std.proofs.Common.{arith, ap, sym, subst}
 use Rattle.std.proofs.Math.Nat.{mul-le-mul}
 use Rattle.eof_laws.specs.layout_model.PlaceLaws.{behind_log-not_journaled, behind_log-words}
 use Rattle.eof_laws.specs.layout_model.Places.{Geometry}
@@ -27,17 +27,20 @@ module _ (k : View) (t : Tables) (staging : Staged) (files : Files) (w : WorldVi
       let quiet = subst (λ (g : Geometry). IsQuietBeside g k.cells) (sym stands.geometry) stands.quiet in
       quiet i (behind_log-words k.volume.geometry i (omega (arith, at.from))) (behind_log-not_journaled k.volume.geometry (i / 8) at.from) ((going.log_home home).home i)
 
+  -- the log has few lines
+  few_lines : w.geometry.log ≤ 4096
+  few_lines = let most = stands.order.whole.kept.geometry.most_log in omega (arith, most, ap (λ (g : Geometry). g.log) stands.geometry)
+
   -- the base is low
   low_base : w.base ≤ 2 ^ 63
   low_base =
-      let log : w.geometry.log ≤ 1024 = subst (λ (g : Geometry). g.log ≤ 1024) stands.geometry stands.order.whole.kept.geometry.most_log in
       let few : w.settled ≤ 4096 = omega (arith, world.counted.settled, history_within w.scripts w.history world.scripted, world.few) in
       let more : w.settled + 1 ≤ 4097 = omega (arith, few) in
-      let laps : w.geometry.log * (w.settled + 1) ≤ 1024 * 4097 = mul-le-mul log more in
+      let laps : w.geometry.log * (w.settled + 1) ≤ 4096 * 4097 = mul-le-mul few_lines more in
       omega (arith, laps, world.counted.low)
 
   may_take : MayTakeLog k w
-  may_take = record { on = stands.on; single = single_log; low = low_base }
+  may_take = record { on = stands.on; single = single_log; low = low_base; few = few_lines }
 
 pub may_begin : MayBegin
 may_begin k t staging files w world on home = may_take k t staging files w world on home

@@ -20,17 +20,18 @@ use Rattle.world_view_laws.specs.file_publish.staging_files.GivesUp.{AllStagedSi
 use Rattle.world_view_laws.specs.world_image_laws.Images.{HasNoEntry}
 use Rattle.world_view_laws.specs.Lines.{HoldTheClaims}
 use Rattle.world_view_laws.specs.Losses.{MayCrash}
-use Rattle.world_view_laws.specs.Rounds.{IsLeft, MayCheckpoint}
+use Rattle.world_view_laws.specs.Rounds.{AreClaimsApplied, IsLeft, MayCheckpoint}
 use Rattle.world_view_laws.specs.Views.{calls_out, Disk, disk_of, IsWorldOver, WorldView}
 use Rattle.world_view_laws.specs.file_publish.staging_files.Keeps.{Staged}
 
 -- ---- the log's lines go out
 
--- WHAT TAKING THE LOG'S LINES ASKS FOR, and what a round says of its base
+-- WHAT TAKING THE LOG'S LINES ASKS FOR, and what a round says of its base and of how many lines there are
 pub record MayTakeLog (k : View) (w : WorldView) : Type 0 where
   pub on : k.lost ≡ false
   pub single : HasSingleLog k
   pub low : w.base ≤ 2 ^ 63
+  pub few : w.geometry.log ≤ 4096
 
 -- With the lines at home a round may begin, while the power is on.
 abbrev pub MayBegin : Type 0
@@ -107,6 +108,13 @@ GoesIntoNextRound =
     (k l m : View) (t : Tables) (staging then : Staged) (files table : Files) (w : WorldView) (lines : List Part)
     → IsEnding k l t staging files w lines → MayCheckpoint w lines → IsGatherAnswer files l then table m (Ok Commit.Done)
     → IsWorldOver m t then table (next_view w (disk_of m t then))
+
+-- Each claim of the lap is applied by its file.
+abbrev pub AppliesClaims : Type 0
+AppliesClaims =
+    (k l m : View) (t : Tables) (staging then : Staged) (files table : Files) (w : WorldView) (lines : List Part)
+    → IsEnding k l t staging files w lines → IsGatherAnswer files l then table m (Ok Commit.Done)
+    → AreClaimsApplied w.claims (disk_of m t then)
 
 -- THE POWER WENT in it: the World is lost, with the lines at home.
 abbrev pub LosesRoundInside : Type 0

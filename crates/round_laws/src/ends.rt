@@ -2,13 +2,14 @@
 //!
 //! A round ends at a checkpoint: its lines come home, all that is staged is gathered, and the next lap begins. The layer
 //! above may rely on this: with its lines at home a round may begin (`MayBegin`); those that hold the claims may be put back (`MayEnd`), and then all is there
-//! that a gathering asks for (`EndsReady`); done, the World goes on with the next round (`GoesIntoNextRound`), and where
+//! that a gathering asks for (`EndsReady`); done, the World goes on with the next round (`GoesIntoNextRound`), with each
+//! claim of the lap applied by its file (`AppliesClaims`), and where
 //! the power goes it is lost with the lines at home (`LosesRoundInside`, `LosesRoundBefore`); and what is left of a run
 //! that ends so keeps the promise (`EndsRunWhole`, `LosesRun`), with an empty log where all was done (`EndsRunEmpty`).
 //!
 //! Lemmas alone, over what `world_view_laws` says that a World keeps.
 
-ghost use Rattle.round_laws.specs.EndsLaws.{EndsReady, EndsRunEmpty, EndsRunWhole, GoesIntoNextRound, LosesRoundBefore, LosesRoundInside, LosesRun, MayBegin, MayCrashWhole, MayEnd};
+ghost use Rattle.round_laws.specs.EndsLaws.{AppliesClaims, EndsReady, EndsRunEmpty, EndsRunWhole, GoesIntoNextRound, LosesRoundBefore, LosesRoundInside, LosesRun, MayBegin, MayCrashWhole, MayEnd};
 
 use eof_laws::files_end_after_changes_of_maps;
 use file_publish::{all_files_are_gathered, what_stands_may_be_gathered};
@@ -31,9 +32,10 @@ pub fn the_lines_of_a_round_come_home()
     what_stands_may_be_gathered();
 }
 
-/// A checkpoint: the World goes on, or is lost.
+/// A checkpoint: the World goes on, with each claim applied, or is lost.
 pub fn a_checkpoint_ends_a_round()
     ensures done { GoesIntoNextRound }
+    ensures applied { AppliesClaims }
     ensures inside { LosesRoundInside }
     ensures before { LosesRoundBefore }
 {

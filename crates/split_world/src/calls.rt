@@ -18,12 +18,11 @@ use world_begins::{Begun, Finished, NoMemory, Ready, begin_next, ready_of};
 use world_rounds::{finish_off, finish_on, give_up_off, give_up_on, lose_one};
 
 impl World {
-    /// Whether a caller can begin its next call, while the log's lines are out. It looks, in this order, at its job,
-    /// its script, the round and the jobs of others; once the power went no call waits, since each answers
-    /// PowerLost.
+    /// Whether a caller can begin its next call. It looks, in this order, at its job, its script, the round and the
+    /// jobs of others; once the power went no call waits, since each answers PowerLost. With the log's lines at home no
+    /// job is out, so none waits: a round begins before the call does.
     pub fn ready(&self, who: Who) -> Ready
         requires usable { self.now.usable ≡ true }
-        requires out { self.now.lines_out ≡ true }
         ensures { IsReady self.now who result }
     {
         ready_of(&self.parts, who)

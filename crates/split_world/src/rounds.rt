@@ -1,5 +1,5 @@
 //! The rounds of a World: one begins, and ends at a checkpoint, with the run, or with the power.
-ghost use Rattle.std.specs.Prelude.{◌≡◌, ◌^◌, true, false, IfOk, OnErr};
+ghost use Rattle.std.specs.Prelude.{◌≡◌, ◌^◌, true, false, [], IfOk, OnErr};
 ghost use Rattle.round_laws.specs.pm_model.Powers.{Steps};
 ghost use Rattle.world_begins.specs.world_parts.Answers.{IsCheckpoint, IsEnded};
 ghost use Rattle.world_begins.specs.world_parts.world_view_laws.Losses.{MayCrash};
@@ -14,8 +14,8 @@ use world_begins::{Crashed, Ended, NoMemory, lose};
 use world_rounds::{begin_lines, crash_lost, end_lines, end_run, keep_lines};
 
 impl World {
-    /// Begins a round: the log's lines, by rising slot, all words of them single, and the base of their sequence
-    /// numbers, at most 2^63. They are at home, and the power was not lost.
+    /// Begins a round: the log's lines, by rising slot, at most 4,096, all words of them single, and the base of their
+    /// sequence numbers, at most 2^63. They are at home. Once the power was lost they stay there: no line is answered.
     ///
     /// # Errors
     ///
@@ -23,18 +23,26 @@ impl World {
     pub fn begin_round(&mut self, alloc: Global) -> Result<(Vec<Line>, u64), NoMemory>
         requires usable { self.old.usable ≡ true }
         requires home { self.old.lines_out ≡ false }
-        requires awake { self.old.lost ≡ false }
-        ensures begun { IfOk result (λ out. IsRoundBegun self.old self.new out.0.items out.1) }
+        ensures begun { self.old.lost ≡ false
+            → IfOk result (λ out. IsRoundBegun self.old self.new out.0.items out.1) }
+        ensures gone { self.old.lost ≡ true
+            → IfOk result (λ out. (out.0.items ≡ []) × (out.1 ≡ self.old.base) × (self.new ≡ self.old)) }
         ensures err { OnErr result (self.new ≡ self.old) }
     {
+        if self.parts.lost {
+            return Ok((Vec::new(alloc), self.parts.base));
+        }
         begin_lines(&mut self.parts, alloc)
     }
 
-    /// Ends a round that is over: the lines go home, all that is staged is published, and the next lap of the log
-    /// begins. No job is out, and the lines are the round's and hold the claims whole; where a job was given up there
-    /// is a claim.
+    /// Ends a round that is over: the lines go home, all that is staged is published, so that each claim of the lap is
+    /// applied by its file, and the next lap of the log begins. No job is out, and the lines are the round's and hold
+    /// the claims whole; where a job was given up there is a claim.
     ///
-    /// `PowerLost` comes exactly where the power is off at the return, or was lost.
+    /// `PowerLost` comes exactly where the power is off at the return, or was lost. The lines are at home then, so a
+    /// crash asks for none; the history, the claims and what ended the round stay. Of the device no more is said than
+    /// what `crash` says of it: it keeps the promise for the history, and the call that had lost the power before, if
+    /// one had.
     ///
     /// # Errors
     ///

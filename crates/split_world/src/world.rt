@@ -1,6 +1,7 @@
 //! The World, and what it is asked.
 ghost use Rattle.std.specs.Prelude.{◌≡◌, ◌↔◌, ◌≤◌, ◌+◌, ◌*◌, true, IsTrue, length};
-ghost use Rattle.round_laws.specs.posix_spec.Scripted.{IsSetUp};
+ghost use Rattle.round_laws.specs.posix_spec.Run.{IsLegal};
+ghost use Rattle.round_laws.specs.posix_spec.Scripted.{IsSetUp, Scripted};
 ghost use Rattle.posix_types.specs.declared.call.Who as whos;
 
 use layout_model::Draft;
@@ -29,9 +30,13 @@ impl Model for World {
 }
 
 impl World {
-    /// The calls that returned.
+    /// The calls that returned. While the World is usable, they are a legal history that follows the scripts, and as
+    /// many of them as `settled` had returned when this lap began.
     pub fn history(&self) -> &[Item]
-        ensures { result.now ≡ self.now.history }
+        ensures items { result.now ≡ self.now.history }
+        ensures legal { self.now.usable ≡ true → IsLegal self.now.start self.now.history }
+        ensures scripted { self.now.usable ≡ true → Scripted self.now.scripts self.now.history }
+        ensures settled { self.now.usable ≡ true → self.now.settled ≤ length self.now.history }
     {
         &self.parts.history
     }
@@ -70,6 +75,13 @@ impl World {
         ensures most { result ≤ 8 }
     {
         self.parts.scripts.threads.len() as u32
+    }
+
+    /// Whether the power was lost: a call found it off, or `lose` was called.
+    pub fn is_lost(&self) -> bool
+        ensures { result ≡ self.now.lost }
+    {
+        self.parts.lost
     }
 
     /// The power is lost from now on, as its caller found out: `begin`, `finish` and `checkpoint` answer

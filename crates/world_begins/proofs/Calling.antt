@@ -10,7 +10,7 @@ use Rattle.posix_types.specs.declared.handle.Handle.{Handle}
 use Rattle.posix_types.specs.declared.item.Outcome.{Outcome}
 use Rattle.call_laws.specs.file_truncate.Truncates as truncates
 use Rattle.call_laws.proofs.Running.{built_beside, built_unlogged, call_loses, call_lost, item_with_outcome, ran, returns, spent_by, stands_by}
-use Rattle.call_laws.proofs.Staying.{going_now, lacks_ends, lacks_over, stands_now, strict_now}
+use Rattle.call_laws.proofs.Staying.{going_now, lacks_ends, lacks_over, stands_now}
 use Rattle.call_laws.proofs.Truncating.{truncate_lacks, truncate_loses, truncate_lost, truncate_room, truncate_stands, truncate_unlogged}
 use Rattle.world_parts.specs.in_flight.live_model.Standing.{JobOut, StandsAt}
 use Rattle.world_parts.specs.in_flight.live_model.world_model.JobLaws.{needs}
@@ -26,7 +26,7 @@ use Rattle.world_parts.specs.Adds.{IsAdded}
 use Rattle.world_parts.specs.Seen.{IsKept, seen}
 use Rattle.world_begins.specs.Turns.{IsTurn}
 use Rattle.world_begins.specs.Runs.{HasRoom, IsRoomAsked}
-use Rattle.world_begins.proofs.Turning.{off_kept, off_seen, over_kept, over_seen, returned_kept, returned_seen}
+use Rattle.world_begins.proofs.Turning.{needs_are, off_kept, off_seen, over_kept, over_seen, returned_kept, returned_seen}
 
 -- what it publishes is said of what stands below alone
 published_then : (who : Who) (call : Call) (old new then : WorldView) → then.disk ≡ new.disk → Publishes who call old new → Publishes who call old then
@@ -96,7 +96,7 @@ module _ (p : Parts) (who : Who) (call : Call) (turn : IsTurn p who call) (neede
 -- ---- a `truncate`
 
 module _ (p : Parts) (who : Who) (h : Handle) (size : ℕ) (turn : IsTurn p who (Call.Truncate h size)) (law : JobsNeed) (taken : ℕ)
-    (taken_is : taken ≡ sum_by (λ (q : JobOut). need_by p.files.tables p.data q.who q.call) p.pending.items) (l : View) (d : Files) where
+    (taken_is : taken ≡ sum_by (λ (q : JobOut). need_by p.mode p.files.tables p.data q.who q.call) p.pending.items) (l : View) (d : Files) where
   abbrev call : Call
   call = Call.Truncate h size
 
@@ -104,7 +104,7 @@ module _ (p : Parts) (who : Who) (h : Handle) (size : ℕ) (turn : IsTurn p who 
   now = stands_now p.k p.files.tables p.staging p.data (seen p) who call turn.calls
 
   needs_them : taken ≡ needs (state_of (seen p)) now.jobs
-  needs_them = taken_is ∙ law (seen p).geometry p.k p.files.tables (kept_of (seen p) p.staging p.data) true (length (seen p).history) (state_of (seen p)) now (strict_now p.k p.files.tables p.staging p.data (seen p) who call turn.calls)
+  needs_them = taken_is ∙ needs_are p who call turn law
 
   abbrev t : Parts
   t = record p { k = l; «data» = d }

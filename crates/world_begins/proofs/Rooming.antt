@@ -12,6 +12,7 @@ use Rattle.world_parts.specs.in_flight.Counters.{AreCounts}
 use Rattle.world_parts.specs.in_flight.live_model.Standing.{JobOut}
 use Rattle.world_parts.proofs.world_view_laws_proofs.Ending.{no_both}
 use Rattle.world_parts.proofs.world_view_laws_proofs.Losing.{call_off}
+use Rattle.world_parts.proofs.world_view_laws_proofs.OpenCalls.{open_called}
 use Rattle.world_parts.specs.world_view_laws.Begins.{Begins, LosesCall}
 use Rattle.world_parts.specs.world_view_laws.Views.{files_out, HasNone, IsWorldOver, next_of, state_of, WorldView}
 use Rattle.world_parts.specs.declared.parts.Parts.{Parts}
@@ -80,9 +81,10 @@ module _ (p : Parts) (kept : IsKept p) (awake : p.lost ≡ false) (who : Who) (c
   abbrev pub off_parts : Parts
   off_parts = record p { unfinished = Some (record { who = who; call = call }); acts = p.acts + 1; lost = true }
 
-  pub off_kept : IsKept off_parts
-  off_kept = record {
-    world = call_off p.k p.files.tables p.staging p.data (seen p) kept.world awake (who, call);
+  pub off_kept : next_of (seen p) who ≡ Some call → HasNone (seen p) who → IsSetUp p.scripts p.history.items who → IsKept off_parts
+  off_kept next none up = record {
+    world = call_off p.k p.files.tables p.staging p.data (seen p) kept.world awake (who, call)
+        (open_called p.scripts p.history.items p.pending.items (seen p).unfinished (who, call) (kept.world.going awake).none_unfinished (record { call = next; set_up = up }) none kept.world.open_calls);
     counts = kept.counts;
     room = record {
       items = λ on. no_both true refl on _;

@@ -2,6 +2,7 @@
 use Rattle.std.specs.Prelude.{◌≡◌, ◌≤◌, ◌<◌, ◌+◌, ◌^◌, ◌++◌, ℕ, true, false, List, [], ◌∷◌, length, Some, refl, slice_index, ◌*◌}
 use Rattle.std.proofs.Common.{arith, ap, ◌∙◌, sym, subst, length-append}
 use Rattle.posix_types.specs.declared.call.Call.{Call}
+use Rattle.posix_types.specs.declared.call.Mode.{Mode}
 use Rattle.posix_types.specs.declared.call.Who.{Who}
 use Rattle.posix_types.specs.declared.item.Item.{Item}
 use Rattle.posix_types.specs.declared.item.Outcome.{Outcome}
@@ -11,6 +12,7 @@ use Rattle.world_parts.specs.layout_model.Places.{data_blocks}
 use Rattle.world_parts.specs.pm_model.ImageLaws.{IsImage-words_of}
 use Rattle.world_parts.specs.pm_model.Images.{words_of}
 use Rattle.world_parts.specs.posix_spec.State.{room}
+use Rattle.world_parts.specs.world_view_laws.world_image_laws.Starts.{has_setting}
 use Rattle.call_laws.proofs.Staying.{stands_now, strict_now}
 use Rattle.world_parts.specs.in_flight.live_model.world_model.JobLaws.{needs}
 use Rattle.call_laws.specs.write_begin.Needs.{JobsNeed}
@@ -51,12 +53,23 @@ module _ (p : Parts) (who : Who) (call : Call) (turn : IsTurn p who call) where
   abbrev now : StandsAt (seen p).geometry p.k p.files.tables (kept_of (seen p) p.staging p.data) true (length (seen p).history) (state_of (seen p))
   now = stands_now p.k p.files.tables p.staging p.data (seen p) who call turn.calls
 
-  -- the needs of the jobs that are out are few
-  pub few_needs : JobsNeed → RoomIsKept → needs_by p.files.tables p.data p.pending.items < 2 ^ 64
+  -- its mode is strict, and that of its state
+  pub strict_parts : p.mode ≡ Mode.Strict
+  strict_parts = sym (has_setting p.tree p.shape p.mode).1 ∙ turn.calls.world.mode
+
+  pub mode_now : p.mode ≡ (state_of (seen p)).mode
+  mode_now = strict_parts ∙ sym (strict_now p.k p.files.tables p.staging p.data (seen p) who call turn.calls)
+
+  -- the jobs that are out need what their calls do
+  pub needs_are : JobsNeed → needs_by p.mode p.files.tables p.data p.pending.items ≡ needs (state_of (seen p)) now.jobs
+  needs_are law =
+      ap (λ (mode : Mode). needs_by mode p.files.tables p.data p.pending.items) mode_now
+      ∙ law (seen p).geometry p.k p.files.tables (kept_of (seen p) p.staging p.data) true (length (seen p).history) (state_of (seen p)) now
+
+  -- these needs are few
+  pub few_needs : JobsNeed → RoomIsKept → needs_by p.mode p.files.tables p.data p.pending.items < 2 ^ 64
   few_needs law numbers =
-      let all : needs_by p.files.tables p.data p.pending.items ≡ needs (state_of (seen p)) now.jobs =
-      law (seen p).geometry p.k p.files.tables (kept_of (seen p) p.staging p.data) true (length (seen p).history) (state_of (seen p)) now (strict_now p.k p.files.tables p.staging p.data (seen p) who call turn.calls)
-      in
+      let all = needs_are law in
       let fits : needs (state_of (seen p)) now.jobs ≤ room (state_of (seen p)) = (now.flying.device.world (words_of p.k.cells) (IsImage-words_of p.k.cells)).valid.room in
       let kept : room (state_of (seen p)) ≡ room_in (data_blocks p.k.volume.geometry) p.data = numbers (seen p).geometry p.k p.files.tables (kept_of (seen p) p.staging p.data) true (length (seen p).history) (state_of (seen p)) now in
       let most = now.order.whole.kept.geometry.most_blocks in

@@ -2,6 +2,7 @@
 use Rattle.std.specs.Prelude.{◌≡◌, ◌≢◌, ◌⊎◌, ℕ, Bool, true, false, List, [], sum_by, Option, Some, None, Result, Ok, Err}
 use Rattle.world_parts.specs.file_table.Files.{Files, runs_in}
 use Rattle.posix_types.specs.declared.call.Call.{Call}
+use Rattle.posix_types.specs.declared.call.Mode.{Mode}
 use Rattle.posix_types.specs.declared.call.Who.{Who}
 use Rattle.world_parts.specs.pm_model.Powers.{is_on, Supply}
 use Rattle.world_parts.specs.posix_tables.Open.{Tables}
@@ -18,8 +19,8 @@ use Rattle.world_parts.specs.Seen.{HasRoomForOne, IsKept, seen}
 use Rattle.world_parts.specs.declared.parts.Parts.{Parts}
 
 -- how many blocks the jobs that are out need together
-abbrev pub needs_by : Tables → Files → List JobOut → ℕ
-needs_by t files pending = sum_by (λ (p : JobOut). need_by t files p.who p.call) pending
+abbrev pub needs_by : Mode → Tables → Files → List JobOut → ℕ
+needs_by mode t files pending = sum_by (λ (p : JobOut). need_by mode t files p.who p.call) pending
 
 -- ---- what is published before a call
 

@@ -13,7 +13,7 @@ mod turns;
 
 pub use call_laws::{Truncated, jobs_need_what_their_calls_do, lacks_room, truncate_file};
 pub use publishing::publish_first;
-pub use puts::begin_put;
+pub use puts::{Put, begin_put, put_of};
 pub use turns::{end_round, lose_call, needs_now};
 pub use world_parts::{
     Begun, Crashed, Ended, Finished, JobOut, NoMemory, Over, Parts, Ready, Told, add, busy_on,

@@ -35,8 +35,8 @@ IsBegun who old new before after (Ok Begun.ScriptEnd) =
     (old.lost ≡ false) × (next_of old who ≡ None) × (new ≡ old) × (after ≡ before) × (is_on after ≡ true)
 IsBegun who old new before after (Err e) = WantsMemory old new after ⊎ ((old.lost ≡ false) × (new ≡ old) × (after ≡ before))
 
--- WHAT `ready` ANSWERS, in this order: the caller has a job out; its script has ended; the round is over; its next call waits; or it
--- may begin. Once the power went nothing waits.
+-- WHAT `ready` ANSWERS, in this order: the caller has a job out; its script has ended; the round is over; its next call waits, just where
+-- a job of another caller is out of its file; or it may begin. Once the power went nothing waits.
 abbrev pub IsReady : WorldView → Who → Ready → Type 0
 IsReady w who Ready.Out = (p : JobOut) × In p w.pending × (p.who ≡ who)
 IsReady w who Ready.ScriptEnd = HasNone w who × (next_of w who ≡ None)

@@ -11,22 +11,23 @@ use crate::parts::Parts;
 use posix_types::{Call, Who};
 use world_view_laws::{calls_made, keeper, next_in, place_of};
 
-/// The file that the call waits for, by its inode, and the caller of the job that is out of it. While the power is on
-/// and the lines are out.
+/// The file that the call waits for, by its inode, and the caller of the job that is out of it, while the power is
+/// on. With the log's lines at home no job is out.
 pub fn busy_on(p: &Parts, who: Who, call: &Call) -> Option<(u32, Who)>
     requires kept { IsKept p.now }
     requires awake { p.now.lost ≡ false }
-    requires out { p.now.lines_out ≡ true }
     ensures none { IfNone result (is_busy (state_of (seen p.now)) (files_out (seen p.now)) (who, call.now) ≡ false) }
     ensures some { IfSome result (λ found. IsKeptBy (seen p.now) who call.now found.0 found.1) }
 {
+    if !p.lines_out {
+        return None;
+    }
     keeper(&p.k, &p.files, &p.pending, who, call)
 }
 
 // Whether a caller can begin its next call, this one, while the round goes on and it has no job out.
 fn ready_for(p: &Parts, who: Who, call: &Call) -> Ready
     requires kept { IsKept p.now }
-    requires out { p.now.lines_out ≡ true }
     requires none { HasNone (seen p.now) who }
     requires next { next_of (seen p.now) who ≡ Some call.now }
     requires going { p.now.over ≡ None }
@@ -41,10 +42,9 @@ fn ready_for(p: &Parts, who: Who, call: &Call) -> Ready
     }
 }
 
-/// Whether a caller can begin its next call, while the lines are out.
+/// Whether a caller can begin its next call.
 pub fn ready_of(p: &Parts, who: Who) -> Ready
     requires kept { IsKept p.now }
-    requires out { p.now.lines_out ≡ true }
     ensures { IsReady (seen p.now) who result }
 {
     match place_of(&p.pending, who) {

@@ -10,7 +10,7 @@ use Rattle.world_parts.specs.file_table.Files.{Files}
 use Rattle.world_parts.specs.k_journal.declared.outcomes.Commit.{Commit}
 use Rattle.world_parts.specs.k_split_model.View.{View}
 use Rattle.world_parts.specs.block_io.Lines.{LinesComeBack}
-use Rattle.round_laws.specs.EndsLaws.{EndsReady, GoesIntoNextRound, IsEnding, LosesRoundBefore, LosesRoundInside, lost_round, next_view, ReadyToGather}
+use Rattle.round_laws.specs.EndsLaws.{AppliesClaims, EndsReady, GoesIntoNextRound, IsEnding, LosesRoundBefore, LosesRoundInside, lost_round, next_view, ReadyToGather}
 use Rattle.world_parts.specs.in_flight.k_split.Laps.{IsLogWord}
 use Rattle.world_parts.specs.in_flight.k_split.Order.{IsInOrder}
 use Rattle.world_parts.specs.in_flight.staging_files.Keeps.{Staged}
@@ -18,7 +18,7 @@ use Rattle.world_parts.specs.in_flight.live_model.Standing.{StandsAt}
 use Rattle.world_parts.proofs.world_view_laws_proofs.Ending.{no_both}
 use Rattle.world_parts.specs.world_view_laws.Lines.{HoldTheClaims}
 use Rattle.world_parts.specs.log_checkpoint.Gathers.{file_count, IsGatherAnswer, total_runs}
-use Rattle.world_parts.specs.world_view_laws.Rounds.{IsNextRound, MayCheckpoint}
+use Rattle.world_parts.specs.world_view_laws.Rounds.{AreClaimsApplied, IsNextRound, MayCheckpoint}
 use Rattle.world_parts.specs.world_view_laws.Views.{Disk, disk_of, IsWorldOver, kept_of, state_of, WorldView}
 use Rattle.world_parts.specs.declared.parts.Parts.{Parts}
 use Rattle.world_parts.specs.Seen.{IsKept, seen}
@@ -63,7 +63,7 @@ module _ (ready : EndsReady) (p : Parts) (l : View) (lines : List Part) (kept : 
 
 -- ---- done
 
-module _ (law : GoesIntoNextRound) (p q : Parts) (l m : View) (then : Staged) (table : Files) (lines : List Part) (kept : IsKept p) (may : MayCheckpoint (seen p) lines)
+module _ (law : GoesIntoNextRound) (applies : AppliesClaims) (p q : Parts) (l m : View) (then : Staged) (table : Files) (lines : List Part) (kept : IsKept p) (may : MayCheckpoint (seen p) lines)
     (ending : IsEnding p.k l p.files.tables p.staging p.data (seen p) lines) (done : IsGatherAnswer p.data l then table m (Ok Commit.Done)) (claims : q.claims.items ≡ []) (no_claim : vec_len q.claims ≡ 0)
     (is : q ≡ record p {
       k = m;
@@ -122,6 +122,7 @@ module _ (law : GoesIntoNextRound) (p q : Parts) (l m : View) (then : Staged) (t
     awake = ending.awake;
     on = on;
     new_is = ap seen is ∙ (next_seen ∙ ap (next_view (seen p)) (sym disk_is));
+    applied = subst (AreClaimsApplied p.claims.items) (sym disk_is) (applies p.k l m p.files.tables p.staging then p.data table (seen p) lines ending done);
     staging = ap (λ (d : Disk). d.staging) disk_is ∙ done.2.staging;
     tables = ap (λ (d : Disk). d.tables) disk_is;
   }

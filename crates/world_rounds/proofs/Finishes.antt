@@ -19,6 +19,7 @@ use Rattle.world_parts.specs.in_flight.live_model.Standing.{AreOfTwoThreads, Job
 use Rattle.world_parts.specs.in_flight.live_model.Jobs.{without}
 use Rattle.world_parts.specs.world_view_laws.Puts.{put_bytes_of}
 use Rattle.world_parts.proofs.world_view_laws_proofs.Ending.{can_finish, finish_view, finished_on, has, has_write, others_on, without_one}
+use Rattle.world_parts.proofs.world_view_laws_proofs.OpenCalls.{next_of_job}
 use Rattle.world_parts.proofs.world_view_laws_proofs.Finishing.{finished_ends, job_answers, one_job}
 use Rattle.world_parts.specs.world_view_laws.file_calls.open_files.State.{OpenState}
 use Rattle.world_parts.specs.world_view_laws.write_end.Ends.{CanFinish, HasJob, HasWrite, LeavesFinished}
@@ -55,7 +56,7 @@ module _ (p : Parts) (kept : IsKept p) (awake : p.lost ≡ false) (out : p.lines
   room_for_claim = omega (arith, kept.room.claims_on awake, some_in p.pending.items q is_out.there)
 
   pub next_job : next_of (seen p) q.who ≡ Some q.call
-  next_job = (going.next q is_out.there).0
+  next_job = (next_of_job p.scripts p.history.items p.pending.items (seen p).unfinished kept.world.open_calls q is_out.there).call
 
   pub room_for_item : vec_len p.history < vec_capacity p.history
   room_for_item = omega (arith, kept.room.items awake, some_in p.pending.items q is_out.there)

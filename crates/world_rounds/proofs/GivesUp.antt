@@ -11,9 +11,10 @@ use Rattle.world_parts.specs.list_laws.Members.{In}
 use Rattle.world_parts.specs.k_split_model.View.{View}
 use Rattle.world_parts.specs.world_view_laws.oplog_entry.declared.claims.Full.{Full}
 use Rattle.posix_types.specs.declared.call.Who.{Who}
+use Rattle.world_parts.specs.in_flight.staging_files.GivesUp.{IsGivenBack}
 use Rattle.world_parts.specs.in_flight.staging_files.Keeps.{Staged}
 use Rattle.world_parts.specs.in_flight.world_model.Jobs.{IsStagedIn, Job}
-use Rattle.world_parts.specs.in_flight.live_model.Standing.{JobOut, StandsAt}
+use Rattle.world_parts.specs.in_flight.live_model.Standing.{JobOut, reserved_run, StandsAt}
 use Rattle.world_parts.proofs.in_flight_proofs.CountsJobs.{its_job, stood, world_now}
 use Rattle.world_parts.specs.in_flight.live_model.Jobs.{without}
 use Rattle.world_parts.proofs.world_view_laws_proofs.Ending.{can_give_up, give_view, given_on, has, homes_on, left_of, no_both, others_given_on, standing, without_one}
@@ -38,7 +39,7 @@ module _ (p : Parts) (kept : IsKept p) (awake : p.lost ≡ false) (out : p.lines
   pub few_given : p.given_up + 1 < 2 ^ 32
   few_given = let most = kept.world.counted.out in omega (arith, most)
 
-  module _ (full : Full) (over : Over) (over_is : over ≡ over_by p.over full) (k : View) (staging : Staged) (pending : Vec JobOut Global) (left : pending.items ≡ without job.who p.pending.items) (k_is : k ≡ record p.k { cells = k.cells }) (runs : length staging.out + 1 ≡ length p.staging.out)
+  module _ (full : Full) (over : Over) (over_is : over ≡ over_by p.over full) (k : View) (staging : Staged) (pending : Vec JobOut Global) (left : pending.items ≡ without job.who p.pending.items) (k_is : k ≡ record p.k { cells = k.cells }) (runs : length staging.out + 1 ≡ length p.staging.out) (run_back : IsGivenBack (reserved_run job.draft) p.staging staging)
       (leaves : (one : HasJob p.k job) → one.kept.staging ≡ p.staging → LeavesGivenUp p.k job one k staging) where
     abbrev pub given_parts : Parts
     given_parts = record p { k = k; staging = staging; pending = pending; over = Some over; given_up = p.given_up + 1 }
@@ -107,6 +108,7 @@ module _ (p : Parts) (kept : IsKept p) (awake : p.lost ≡ false) (out : p.lines
     given_so = record {
       new_is = sym view_is;
       disk = λ on. ap (λ (x : View). disk_of x p.files.tables staging) k_is;
+      run_back = λ on. subst (λ (d : Draft). IsGivenBack (reserved_run d) p.staging staging) is_out.draft run_back;
       back = home_now;
       homes = homes_on p.k p.files.tables p.staging p.data (seen p) kept.world awake out q job is_out (seen given_parts);
       stay = subst (λ (v : WorldView). OthersStay (seen p) v q.who) view_is (others_given_on p.k p.files.tables p.staging p.data (seen p) kept.world awake out q job is_out full k staging k_is runs left_so);

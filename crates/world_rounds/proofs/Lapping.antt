@@ -82,4 +82,4 @@ module _ (law : StandsOut) (may : MayBegin) (p q : Parts) (l : View) (lines : Li
   begun_round =
       subst (λ (x : Parts). IsRoundBegun (seen p) (seen x) lines x.base) (sym is)
       (subst (λ (w : WorldView). IsRoundBegun (seen p) w lines p.base) rest_seen
-      (round_begun law p.k l p.files.tables p.staging p.data (seen p) kept.world on home lines ws same order taken.single are goes words p.base refl taken.low))
+      (round_begun law p.k l p.files.tables p.staging p.data (seen p) kept.world on home lines ws same order taken.single are goes words p.base refl taken.low taken.few))

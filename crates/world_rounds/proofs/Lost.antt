@@ -199,6 +199,7 @@ module _ (p : Parts) (kept : IsKept p) (off : p.lost ≡ true) (out : p.lines_ou
       give_so = record {
         new_is = sym given_view_is;
         disk = λ on. no_both p.lost off on _;
+        run_back = λ on. no_both p.lost off on _;
         back = home_now;
         homes = homes_stay p.k l p.files.tables p.staging p.data (seen p) kept.world off out q job is_out holds back;
         stay = subst (λ (v : WorldView). OthersStay (seen p) v q.who) given_view_is (others_given p.k l p.files.tables p.staging p.data (seen p) kept.world off out q job is_out holds back full);

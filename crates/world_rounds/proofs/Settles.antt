@@ -196,6 +196,7 @@ module _ (w : WorldView) (lines : List Part) (out : List JobView) (filled : List
     unfinished_is = is.unfinished_is;
     legal = is.legal;
     scripted = is.scripted;
+    open_calls = is.open_calls;
     within = is.within;
     size = is.size;
     home = is.home;

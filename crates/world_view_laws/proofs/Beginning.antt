@@ -13,9 +13,10 @@ use Rattle.in_flight.specs.posix_spec.Run.{after_call}
 use Rattle.in_flight.specs.posix_spec.Scripted.{IsSetUp}
 use Rattle.in_flight.specs.posix_spec.State.{State}
 use Rattle.in_flight.specs.posix_spec.Step.{step}
+use Rattle.in_flight.specs.posix_spec.Unfinished.{IsNextCall}
 use Rattle.in_flight.specs.commute_laws.Frames.{AreThreads}
 use Rattle.in_flight.specs.crash_spec.Busy.{is_busy}
-use Rattle.in_flight.specs.Histories.{are_threads, Grows, grows, next_stays, set_up_stays}
+use Rattle.in_flight.specs.Histories.{are_threads, Grows, grows}
 use Rattle.in_flight.specs.staging_files.Keeps.{Staged}
 use Rattle.in_flight.specs.live_model.Losses.{KeepsWhenLost}
 use Rattle.in_flight.specs.world_image_laws.InLog.{not_posix}
@@ -23,12 +24,14 @@ use Rattle.in_flight.specs.live_model.Standing.{JobOut, StandsAt}
 use Rattle.in_flight.specs.live_model.Jobs.{SpellCall}
 use Rattle.in_flight.specs.world_step_laws.Steps.{LetsJobsBe}
 use Rattle.write_end.specs.Blocks.{AreBlocksOut}
+use Rattle.write_end.specs.Ends.{begun_by}
 use Rattle.write_end.proofs.Going.{loses_call, lost_alike}
 use Rattle.write_end.proofs.Homes.{has_blocks_out, leaves_blocks}
 use Rattle.in_flight.proofs.CountsJobs.{lets_be, words_stay}
 use Rattle.in_flight.proofs.Taking.{other_who}
 use Rattle.world_view_laws.proofs.Ending.{no_both}
 use Rattle.world_view_laws.proofs.Losing.{lost_view, size_now, world_lost}
+use Rattle.world_view_laws.proofs.OpenCalls.{next_of_job, open_began, open_called, open_returned}
 use Rattle.world_view_laws.specs.Begins.{item_of, OthersStay}
 use Rattle.world_view_laws.specs.Views.{Disk, disk_of, files_out, HasNone, IsGoing, IsLost, IsLostOut, IsWorldOver, kept_of, next_of, state_of, WorldView}
 
@@ -40,9 +43,15 @@ module _ (k : View) (t : Tables) (staging : Staged) (files : Files) (w : WorldVi
   pub standing : StandsAt w.geometry k t (kept_of w staging files) true (length w.history) (state_of w)
   standing = subst (λ b. StandsAt w.geometry k t (kept_of w staging files) b (length w.history) (state_of w)) out going.stands
 
+  next_out : (p : JobOut) → In p w.pending → IsNextCall w.scripts w.history (begun_by p)
+  next_out p at = next_of_job w.scripts w.history w.pending w.unfinished world.open_calls p at
+
+  own_next : IsNextCall w.scripts w.history (who, call)
+  own_next = record { call = next; set_up = up }
+
   threads : (p : JobOut) → In p w.pending → AreThreads p.who who
   threads p at =
-      are_threads w.scripts w.history p.who who p.call call (other_who who p.who (λ same. none p at (sym same))) (going.next p at).0 (going.next p at).1 next up
+      are_threads w.scripts w.history p.who who p.call call (other_who who p.who (λ same. none p at (sym same))) (next_out p at).call (next_out p at).set_up next up
 
   -- A CALL THAT NO JOB KEEPS WAITING LETS ALL JOBS BE.
   pub lets : is_busy (state_of w) (files_out w) (who, call) ≡ false → LetsJobsBe (state_of w) (who, call) standing.numbers standing.jobs
@@ -69,10 +78,6 @@ module _ (k : View) (t : Tables) (staging : Staged) (files : Files) (w : WorldVi
       none_unfinished = going.none_unfinished;
       none_home = going.none_home;
       base = going.base ∙ sym base;
-      next = λ q at. (
-        next_stays w.scripts w.history (item_of w who call) q.who (other_who who q.who (λ same. none q at (sym same))) ∙ (going.next q at).0,
-        set_up_stays w.scripts w.history (item_of w who call) q.who next (going.next q at).1,
-      );
       spelled = going.spelled;
       ends = ends;
       drafts_end = going.drafts_end;
@@ -88,6 +93,7 @@ module _ (k : View) (t : Tables) (staging : Staged) (files : Files) (w : WorldVi
       spelled = world.spelled;
       legal = grown.legal;
       scripted = grown.scripted;
+      open_calls = open_returned w.scripts w.history w.pending w.unfinished (item_of w who call) going.none_unfinished next none world.open_calls;
       counted = record {
         settled = omega (arith, world.counted.settled, grown.longer);
         fresh = world.counted.fresh;
@@ -132,13 +138,6 @@ module _ (k : View) (t : Tables) (staging : Staged) (files : Files) (w : WorldVi
       none_unfinished = going.none_unfinished;
       none_home = going.none_home;
       base = going.base ∙ sym base;
-      next = λ q at. elim (pushed-In w.pending p q at) [
-        | inl old ↦ going.next q old
-        | inr one ↦ subst (λ (x : JobOut). (next_of w x.who ≡ Some x.call) × IsSetUp w.scripts w.history x.who) one (
-          ap (next_of w) who_is ∙ (next ∙ ap (λ c. Some c) (sym call_is)),
-          subst (IsSetUp w.scripts w.history) (sym who_is) up,
-        )
-      ];
       spelled = going.spelled;
       ends = ends;
       drafts_end = λ q at. elim (pushed-In w.pending p q at) [
@@ -146,6 +145,12 @@ module _ (k : View) (t : Tables) (staging : Staged) (files : Files) (w : WorldVi
         | inr one ↦ subst (λ (x : JobOut). DraftEnds x.draft) one own_ends
       ];
       log_home = λ home. no_both w.lines_out out home _;
+    }
+
+    job_next : IsNextCall w.scripts w.history (begun_by p)
+    job_next = record {
+      call = ap (next_of w) who_is ∙ (next ∙ ap (λ c. Some c) (sym call_is));
+      set_up = subst (IsSetUp w.scripts w.history) (sym who_is) up;
     }
 
     longer : length (w.pending ++ p ∷ []) ≡ length w.pending + 1
@@ -163,6 +168,7 @@ module _ (k : View) (t : Tables) (staging : Staged) (files : Files) (w : WorldVi
       spelled = world.spelled;
       legal = world.legal;
       scripted = world.scripted;
+      open_calls = open_began w.scripts w.history w.pending w.unfinished p going.none_unfinished job_next (λ q at same. none q at (same ∙ who_is)) world.open_calls;
       counted = record {
         settled = world.counted.settled;
         fresh = world.counted.fresh;
@@ -211,6 +217,7 @@ module _ (k : View) (t : Tables) (staging : Staged) (files : Files) (w : WorldVi
     pub lost_call : IsWorldOver l u staged laid (lost_view w ((who, call) ∷ []) (w.acts + 1) (disk_of l u staged))
     lost_call =
         world_lost k l t u staging staged files laid w ((who, call) ∷ []) (w.acts + 1) world (omega (arith, world.counted.acts_on on))
+        (open_called w.scripts w.history w.pending w.unfinished (who, call) going.none_unfinished own_next none world.open_calls)
         (subst (IsLost staged laid (lost_view w ((who, call) ∷ []) (w.acts + 1) (disk_of l u staged))) (sym out) lost_out)
 
     still_out : (q : JobOut) → AreBlocksOut q.blocks w.disk.cells → AreBlocksOut q.blocks l.cells

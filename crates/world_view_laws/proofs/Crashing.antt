@@ -130,6 +130,7 @@ module _ (k : View) (t : Tables) (staging : Staged) (files : Files) (w : WorldVi
     unfinished_is = refl;
     legal = world.legal;
     scripted = world.scripted;
+    open_calls = world.open_calls;
     within = history_within w.scripts w.history world.scripted;
     size = long;
     home = is.0;

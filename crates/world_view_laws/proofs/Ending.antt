@@ -1,5 +1,5 @@
 -- A job of a World ends while the power is on.
-use Rattle.std.specs.Prelude.{◌≡◌, ◌≢◌, ◌+◌, ◌++◌, not, ℕ, suc, Bool, true, false, cond, List, [], ◌∷◌, length, Option, Some, None, AllPairs, refl}
+use Rattle.std.specs.Prelude.{◌≡◌, ◌≢◌, ◌+◌, ◌++◌, not, ℕ, suc, Bool, true, false, cond, List, [], ◌∷◌, length, map, Option, Some, None, AllPairs, refl}
 use Rattle.std.proofs.Common.{arith, ap, ◌∙◌, sym, subst, inl, inr, length-append}
 use Rattle.eof_laws.specs.pm_model.Cells.{cell, is_lent}
 use Rattle.eof_laws.specs.layout_model.declared.lines.Draft.{Draft}
@@ -14,11 +14,12 @@ use Rattle.eof_laws.specs.posix_tables.Open.{same_who, Tables}
 use Rattle.in_flight.specs.posix_spec.Run.{after_call}
 use Rattle.in_flight.specs.posix_spec.State.{State}
 use Rattle.in_flight.specs.posix_spec.Step.{step}
-use Rattle.in_flight.specs.Histories.{Grows, grows, next_stays, set_up_stays}
+use Rattle.in_flight.specs.posix_spec.Unfinished.{AreUnfinished, IsNextCall}
+use Rattle.in_flight.specs.Histories.{Grows, grows}
 use Rattle.in_flight.specs.staging_files.Keeps.{Staged}
 use Rattle.in_flight.specs.live_model.Standing.{AreOfTwoThreads, IsSpellable, JobOut, StandsAt}
 use Rattle.in_flight.specs.live_model.Jobs.{SpellCall, without}
-use Rattle.write_end.specs.Ends.{CanFinish, CanGiveUp, HasJob, HasWrite, LeavesFinished, LeavesGivenUp}
+use Rattle.write_end.specs.Ends.{begun_by, CanFinish, CanGiveUp, HasJob, HasWrite, LeavesFinished, LeavesGivenUp}
 use Rattle.in_flight.specs.write_jobs.Jobs.{FilledView}
 use Rattle.write_end.proofs.Homes.{has_blocks_out}
 use Rattle.in_flight.proofs.CountsCounts.{pairs}
@@ -28,7 +29,8 @@ use Rattle.world_view_laws.specs.declared.views.over.Over.{Over}
 use Rattle.write_end.specs.oplog_entry.declared.claims.Full.{Full}
 use Rattle.world_view_laws.specs.Begins.{IsFilledOut, item_of, OthersStay}
 use Rattle.world_view_laws.specs.Jobs.{HomesStay, over_by}
-use Rattle.world_view_laws.specs.Views.{AreCounted, AreNextCalls, Disk, disk_of, IsGoing, IsWorldOver, kept_of, state_of, WorldView}
+use Rattle.world_view_laws.proofs.OpenCalls.{next_of_job, open_returned, open_without}
+use Rattle.world_view_laws.specs.Views.{AreCounted, Disk, disk_of, IsGoing, IsWorldOver, kept_of, state_of, WorldView}
 
 -- ---- the jobs that are left
 
@@ -119,8 +121,11 @@ module _ (k : View) (t : Tables) (staging : Staged) (files : Files) (w : WorldVi
     disk = disk_of l u staging;
   }
 
+  own_next : IsNextCall w.scripts w.history (begun_by p)
+  own_next = next_of_job w.scripts w.history w.pending w.unfinished world.open_calls p is_out.there
+
   grown : Grows w.start w.scripts w.history (w.history ++ item_of w p.who p.call ∷ []) p.who p.call
-  grown = grows w.start w.scripts w.history (w.history ++ item_of w p.who p.call ∷ []) p.who p.call (step (state_of w) p.who p.call).outcome world.legal world.scripted (going.next p is_out.there).0 (going.next p is_out.there).1 refl refl
+  grown = grows w.start w.scripts w.history (w.history ++ item_of w p.who p.call ∷ []) p.who p.call (step (state_of w) p.who p.call).outcome world.legal world.scripted own_next.call own_next.set_up refl refl
 
   module _ (slot : ℕ) (l : View) (u : Tables) (laid : Files) (same : l ≡ record k { cells = l.cells }) (leaves : LeavesFinished k job has slot l u laid) (ends : FilesEnd l.volume laid) where
     stands2 : StandsAt w.geometry l u (kept_of (finish_view slot l u) staging laid) true (length (w.history ++ item_of w p.who p.call ∷ [])) (state_of (finish_view slot l u))
@@ -128,11 +133,10 @@ module _ (k : View) (t : Tables) (staging : Staged) (files : Files) (w : WorldVi
         subst (StandsAt w.geometry l u (kept_of (finish_view slot l u) staging laid) true (length (w.history ++ item_of w p.who p.call ∷ []))) (sym grown.run_is)
         (subst (λ n. StandsAt w.geometry l u (kept_of (finish_view slot l u) staging laid) true n (after_call (state_of w) (p.who, p.call))) (sym grown.longer) leaves.stands)
 
-    next2 : AreNextCalls (finish_view slot l u)
-    next2 q at =
-        let was = left_of p.who w.pending q at in
-        let apart : same_who p.who q.who ≡ false = other_who p.who q.who (λ equal. was.1 (sym equal)) in
-        (next_stays w.scripts w.history (item_of w p.who p.call) q.who apart ∙ (going.next q was.0).0, set_up_stays w.scripts w.history (item_of w p.who p.call) q.who (going.next p is_out.there).0 (going.next q was.0).1)
+    open2 : AreUnfinished w.scripts (w.history ++ item_of w p.who p.call ∷ []) (map begun_by (without p.who w.pending) ++ w.unfinished)
+    open2 =
+        open_returned w.scripts w.history (without p.who w.pending) w.unfinished (item_of w p.who p.call) going.none_unfinished own_next.call (λ q at. (left_of p.who w.pending q at).1)
+        (open_without w.scripts w.history p.who w.pending w.unfinished world.open_calls)
 
     spelled2 : (s : ℕ) (d : Draft) → In (s, d) (w.claims ++ (slot, p.draft) ∷ []) → IsSpellable d
     spelled2 s d at = elim (pushed-In w.claims (slot, p.draft) (s, d) at) [
@@ -148,7 +152,6 @@ module _ (k : View) (t : Tables) (staging : Staged) (files : Files) (w : WorldVi
       none_unfinished = going.none_unfinished;
       none_home = going.none_home;
       base = going.base ∙ sym (ap (λ (x : View). x.volume.base) same);
-      next = next2;
       spelled = spelled2;
       ends = ends;
       drafts_end = λ q at. going.drafts_end q (left_of p.who w.pending q at).0;
@@ -177,6 +180,7 @@ module _ (k : View) (t : Tables) (staging : Staged) (files : Files) (w : WorldVi
       spelled = world.spelled;
       legal = grown.legal;
       scripted = grown.scripted;
+      open_calls = open2;
       counted = counted2;
       disk_is = refl;
       going = λ still. going2;
@@ -211,7 +215,6 @@ module _ (k : View) (t : Tables) (staging : Staged) (files : Files) (w : WorldVi
       none_unfinished = going.none_unfinished;
       none_home = going.none_home;
       base = going.base ∙ sym (ap (λ (x : View). x.volume.base) same);
-      next = λ q at. going.next q (left_of p.who w.pending q at).0;
       spelled = going.spelled;
       ends = subst (λ (v : Volume). FilesEnd v files) (sym (ap (λ (x : View). x.volume) same)) going.ends;
       drafts_end = λ q at. going.drafts_end q (left_of p.who w.pending q at).0;
@@ -245,6 +248,7 @@ module _ (k : View) (t : Tables) (staging : Staged) (files : Files) (w : WorldVi
       spelled = world.spelled;
       legal = world.legal;
       scripted = world.scripted;
+      open_calls = open_without w.scripts w.history p.who w.pending w.unfinished world.open_calls;
       counted = counted3;
       disk_is = refl;
       going = λ still. going3;

@@ -1,3 +1,4 @@
+pub mod OpenCalls
 pub mod Losing
 pub mod Ending
 pub mod Finishing

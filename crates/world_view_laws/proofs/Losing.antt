@@ -14,6 +14,7 @@ use Rattle.in_flight.specs.block_io.Lines.{LinesComeBack}
 use Rattle.eof_laws.specs.list_laws.Members.{In}
 use Rattle.eof_laws.specs.posix_tables.Open.{Tables}
 use Rattle.in_flight.specs.posix_spec.Run.{Unfinished}
+use Rattle.in_flight.specs.posix_spec.Unfinished.{AreUnfinished}
 use Rattle.in_flight.specs.staging_files.Keeps.{Staged}
 use Rattle.in_flight.specs.world_image_laws.Promised.{IsKept}
 use Rattle.in_flight.specs.world_image_laws.InLog.{not_posix}
@@ -27,6 +28,7 @@ use Rattle.write_end.specs.Blocks.{AreBlocksHome, AreBlocksOut}
 use Rattle.write_end.specs.LosingLaws.{ComesHome}
 use Rattle.write_end.specs.Lost.{IsLostWith}
 use Rattle.world_view_laws.proofs.Ending.{stays_in, without_one}
+use Rattle.world_view_laws.proofs.OpenCalls.{open_without}
 use Rattle.write_end.proofs.Crashed.{keeps_home}
 use Rattle.write_end.proofs.Ended.{comes_home_alone, finishes_lost, gives_up_lost}
 use Rattle.write_end.proofs.Going.{found_at_call, found_lost}
@@ -61,14 +63,16 @@ counted_lost w unfinished acts disk counted few = record {
 }
 
 pub world_lost : (k l : View) (t u : Tables) (staging staged : Staged) (files filed : Files) (w : WorldView) (unfinished : List Unfinished) (acts : ℕ) → IsWorldOver k t staging files w → acts ≤ most_acts w + 2
+    → AreUnfinished w.scripts w.history (map begun_by w.pending ++ unfinished)
     → IsLost staged filed (lost_view w unfinished acts (disk_of l u staged)) w.lines_out → IsWorldOver l u staged filed (lost_view w unfinished acts (disk_of l u staged))
-world_lost k l t u staging staged files filed w unfinished acts world few lost = record {
+world_lost k l t u staging staged files filed w unfinished acts world few opens lost = record {
   mode = world.mode;
   few = world.few;
   threads = world.threads;
   spelled = world.spelled;
   legal = world.legal;
   scripted = world.scripted;
+  open_calls = opens;
   counted = counted_lost w unfinished acts (disk_of l u staged) world.counted few;
   disk_is = refl;
   going = λ on. never on _;
@@ -137,7 +141,9 @@ module _ (k : View) (t : Tables) (staging : Staged) (files : Files) (w : WorldVi
   off_by acts false home = off_home [] acts home
 
   off_at : (acts : ℕ) → acts ≤ most_acts w + 2 → IsWorldOver k t staging files (lost_view w [] acts (disk_of k t staging))
-  off_at acts few = world_lost k k t t staging staging files files w [] acts world few (off_by acts w.lines_out refl)
+  off_at acts few =
+      world_lost k k t t staging staging files files w [] acts world few
+      (subst (λ (cs : List Unfinished). AreUnfinished w.scripts w.history (map begun_by w.pending ++ cs)) going.none_unfinished world.open_calls) (off_by acts w.lines_out refl)
 
   -- THE POWER IS FOUND OFF, or lost elsewhere,
   pub world_off : IsWorldOver k t staging files (lost_view w [] w.acts (disk_of k t staging))
@@ -152,8 +158,8 @@ module _ (k : View) (t : Tables) (staging : Staged) (files : Files) (w : WorldVi
   call_by c false home = off_home (c ∷ []) (w.acts + 1) home
 
   -- or it is, where a call begins.
-  pub call_off : (c : Unfinished) → IsWorldOver k t staging files (lost_view w (c ∷ []) (w.acts + 1) (disk_of k t staging))
-  call_off c = world_lost k k t t staging staging files files w (c ∷ []) (w.acts + 1) world (omega (arith, world.counted.acts_on on)) (call_by c w.lines_out refl)
+  pub call_off : (c : Unfinished) → AreUnfinished w.scripts w.history (map begun_by w.pending ++ c ∷ []) → IsWorldOver k t staging files (lost_view w (c ∷ []) (w.acts + 1) (disk_of k t staging))
+  call_off c opens = world_lost k k t t staging staging files files w (c ∷ []) (w.acts + 1) world (omega (arith, world.counted.acts_on on)) opens (call_by c w.lines_out refl)
 
 -- ---- jobs end after it
 
@@ -220,6 +226,7 @@ module _ (k l : View) (t : Tables) (staging : Staged) (files : Files) (w : World
     spelled = world.spelled;
     legal = world.legal;
     scripted = world.scripted;
+    open_calls = world.open_calls;
     counted = counted_finished slot acts few;
     disk_is = refl;
     going = λ on. never on _;
@@ -273,6 +280,7 @@ module _ (k l : View) (t : Tables) (staging : Staged) (files : Files) (w : World
       spelled = world.spelled;
       legal = world.legal;
       scripted = world.scripted;
+      open_calls = open_without w.scripts w.history p.who w.pending w.unfinished world.open_calls;
       counted = counted_given;
       disk_is = refl;
       going = λ on. never (sym off ∙ on) _;

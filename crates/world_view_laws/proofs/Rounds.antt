@@ -53,7 +53,6 @@ module _ (law : StandsOut) (k l : View) (t : Tables) (staging : Staged) (files :
     none_unfinished = going.none_unfinished;
     none_home = going.none_home;
     base = going.base ∙ sym (ap (λ (x : View). x.volume.base) same);
-    next = going.next;
     spelled = going.spelled;
     ends = subst (λ (v : Volume). FilesEnd v files) (sym (ap (λ (x : View). x.volume) same)) going.ends;
     drafts_end = going.drafts_end;
@@ -69,6 +68,7 @@ module _ (law : StandsOut) (k l : View) (t : Tables) (staging : Staged) (files :
     spelled = world.spelled;
     legal = world.legal;
     scripted = world.scripted;
+    open_calls = world.open_calls;
     counted = record {
       settled = world.counted.settled;
       fresh = world.counted.fresh;
@@ -96,8 +96,8 @@ module _ (law : StandsOut) (k l : View) (t : Tables) (staging : Staged) (files :
       ∙ ap (λ x. Single x) (sym (words i at) ∙ ap (λ (g : Geometry). first_by w.geometry first (8 * (log_line g 0 + n) + j)) same_places)
 
   -- WHAT IT ANSWERS
-  pub round_begun : (base : ℕ) → base ≡ w.base → base ≤ 2 ^ 63 → IsRoundBegun w (begun_view w l t staging first) lines base
-  round_begun base is most = record {
+  pub round_begun : (base : ℕ) → base ≡ w.base → base ≤ 2 ^ 63 → w.geometry.log ≤ 4096 → IsRoundBegun w (begun_view w l t staging first) lines base
+  round_begun base is most few = record {
     new_is = refl;
     out = subst (λ (g : Geometry). LinesGoOut (log_line g 0) w.disk.cells l.cells lines) same_places
         (subst (λ (cs : List Cell). LinesGoOut (log_line k.volume.geometry 0) cs l.cells lines) (sym (ap (λ (d : Disk). d.cells) world.disk_is)) goes);
@@ -110,6 +110,7 @@ module _ (law : StandsOut) (k l : View) (t : Tables) (staging : Staged) (files :
       };
       words = λ n below j word. word_at_first n j below word ∙ ap (λ i. Single (first_by w.geometry first i)) (line_place n j);
     };
+    few = omega (arith, are.count, ap (λ (g : Geometry). g.log) same_places, few);
     base_is = is;
     most = most;
   } where

@@ -144,8 +144,8 @@ abbrev pub IsOfPlan : Option Put → Draft → Type 0
 IsOfPlan None d = ⊥
 IsOfPlan (Some put) d = (d.file_block ≡ put.place / 4096) × (d.count ≡ staged_by put)
 
--- IT IS LOGGED, and there was room for it; a job is out, the last one, with the blocks of its plan, and no other run went out; nothing
--- has returned.
+-- IT IS LOGGED, and there was room for it; a job is out, the last one, with the blocks of its plan, and no other run went out; its entry
+-- is that of no other job; nothing has returned.
 pub record BeginsJob (who : Who) (old new : WorldView) (after : Supply) (job : JobView) : Type 0 where
   pub call : Call
   pub begins : Begins old who call
@@ -155,6 +155,7 @@ pub record BeginsJob (who : Who) (old new : WorldView) (after : Supply) (job : J
   pub pending : JobOut
   pub who_is : pending.who ≡ who
   pub call_is : pending.call ≡ call
+  pub apart : (q : JobOut) → In q old.pending → q.draft ≢ pending.draft
   pub new_is : new ≡ record old { pending = old.pending ++ pending ∷ []; acts = old.acts + 1; disk = new.disk }
   pub tables : new.disk.tables ≡ old.disk.tables
   pub plan : IsOfPlan (put_by (state_of old) who call) pending.draft
@@ -182,15 +183,14 @@ pub record Waits (who : Who) (old new : WorldView) (before after : Supply) (ino 
 -- ---- the round is over
 
 -- THE ROUND ENDS for want of space, while jobs are out or after calls that returned since it began. These two numbers say why. Nothing else
--- changed where only the jobs that are out are the cause; where the staging has no room, cells alone.
+-- changed.
 pub record EndsRound (who : Who) (old new : WorldView) (after : Supply) (need left : ℕ) : Type 0 where
   pub call : Call
   pub begins : Begins old who call
   pub cause : LacksBeside old who call need left ⊎ LacksStaging old who call need left
   pub late : (old.pending ≢ []) ⊎ (old.settled < length old.history)
   pub new_is : new ≡ record old { over = Some (Over.Space need left); acts = old.acts + 1; disk = new.disk }
-  pub cells_alone : new.disk ≡ record old.disk { cells = new.disk.cells }
-  pub nothing : LacksBeside old who call need left → new.disk ≡ old.disk
+  pub nothing : new.disk ≡ old.disk
   pub stay : OthersStay old new who
   pub on : is_on after ≡ true
 

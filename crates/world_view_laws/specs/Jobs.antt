@@ -3,7 +3,8 @@ use Rattle.std.specs.Prelude.{◌≡◌, ◌≢◌, ◌⊎◌, ◌+◌, ℕ, tru
 use Rattle.in_flight.specs.pm_model.Powers.{is_on, Supply}
 use Rattle.write_end.specs.oplog_entry.declared.claims.Full.{Full}
 use Rattle.in_flight.specs.list_laws.Members.{In}
-use Rattle.in_flight.specs.live_model.Standing.{JobOut}
+use Rattle.in_flight.specs.staging_files.GivesUp.{IsGivenBack}
+use Rattle.in_flight.specs.live_model.Standing.{JobOut, reserved_run}
 use Rattle.in_flight.specs.live_model.Jobs.{without}
 use Rattle.in_flight.specs.write_jobs.Jobs.{FilledView}
 use Rattle.write_end.specs.Blocks.{AreBlocksHome}
@@ -50,10 +51,11 @@ over_by None full = Over.Lap full
 over_by (Some over) full = over
 
 -- IT IS GIVEN UP: the call is back at its start, and the round is over, with what ended it first; also where the power went before.
--- Its blocks are at home.
+-- Its blocks are at home, and while the power is on its run goes back to the staging, and no other.
 pub record GivesUp (full : Full) (p : JobOut) (old new : WorldView) : Type 0 where
   pub new_is : new ≡ record old { pending = without p.who old.pending; over = Some (over_by old.over full); given_up = old.given_up + 1; disk = new.disk }
   pub disk : old.lost ≡ false → new.disk ≡ record old.disk { cells = new.disk.cells; staging = new.disk.staging }
+  pub run_back : old.lost ≡ false → IsGivenBack (reserved_run p.draft) old.disk.staging new.disk.staging
   pub back : AreBlocksHome p.blocks new.disk.cells
   pub homes : HomesStay p old new
   pub stay : OthersStay old new p.who

@@ -6,21 +6,26 @@ use Rattle.in_flight.specs.pm_model.Parts.{Part}
 use Rattle.in_flight.specs.pm_model.Powers.{is_on, Supply}
 use Rattle.in_flight.specs.posix_types.declared.item.Item.{Item}
 use Rattle.in_flight.specs.posix_spec.Run.{Unfinished, IsLegal}
+use Rattle.in_flight.specs.layout_model.declared.lines.Draft.{Draft}
+use Rattle.in_flight.specs.layout_model.declared.lines.Kind.TheVariants.{File}
 use Rattle.in_flight.specs.layout_model.Places.{log_line}
+use Rattle.in_flight.specs.list_laws.Members.{In}
 use Rattle.in_flight.specs.block_io.Lines.{LinesGoOut}
 use Rattle.in_flight.specs.posix_spec.Scripted.{call_count, IsComplete, Scripted}
+use Rattle.in_flight.specs.posix_spec.Unfinished.{AreUnfinished}
 use Rattle.in_flight.specs.staging_files.GivesUp.{nothing_staged}
 use Rattle.in_flight.specs.world_image_laws.Promised.{KeepsPromise}
 use Rattle.world_view_laws.specs.Lines.{AreFresh, HoldTheClaims}
-use Rattle.world_view_laws.specs.Views.{calls_out, WorldView}
+use Rattle.world_view_laws.specs.Views.{calls_out, Disk, inode_on, WorldView}
 
--- A ROUND BEGINS: the log's lines are out, by rising slot, with the words that they had, each alone; the base is that of the lap. Of what
--- stands below the calls only cells differ: those of the lines, which are out.
+-- A ROUND BEGINS: the log's lines are out, by rising slot, with the words that they had, each alone, and few enough for a log that threads
+-- share; the base is that of the lap. Of what stands below the calls only cells differ: those of the lines, which are out.
 pub record IsRoundBegun (old new : WorldView) (lines : List Part) (base : ℕ) : Type 0 where
   pub new_is : new ≡ record old { disk = new.disk; lines_out = true; first = new.first }
   pub cells_alone : new.disk ≡ record old.disk { cells = new.disk.cells }
   pub out : LinesGoOut (log_line old.geometry 0) old.disk.cells new.disk.cells lines
   pub lines_are : AreFresh new lines
+  pub few : length lines ≤ 4096
   pub base_is : base ≡ old.base
   pub most : base ≤ 2 ^ 63
 
@@ -34,8 +39,14 @@ pub record MayCheckpoint (w : WorldView) (lines : List Part) : Type 0 where
   pub lines_are : HoldTheClaims w lines
   pub some : (w.given_up ≡ 0 → ⊥) → w.claims ≢ []
 
--- DONE: all that was staged is published, so nothing is staged, and the open files are as before; and the next lap began, with the lines at
--- home and nothing claimed.
+-- a file that is there has applied each of these claims that is of it
+abbrev pub AreClaimsApplied : List (ℕ × Draft) → Disk → Type 0
+AreClaimsApplied claims disk =
+    (slot : ℕ) (d : Draft) → In (slot, d) claims → (inode_on disk d.ino).kind ≡ File → d.generation ≡ (inode_on disk d.ino).generation
+    → d.order ≤ (inode_on disk d.ino).applied
+
+-- DONE: all that was staged is published, so that each claim of the lap is applied by its file and nothing is staged, and the open files
+-- are as before; and the next lap began, with the lines at home and nothing claimed.
 pub record IsNextRound (old new : WorldView) (power : Supply) : Type 0 where
   pub awake : old.lost ≡ false
   pub on : is_on power ≡ true
@@ -49,6 +60,7 @@ pub record IsNextRound (old new : WorldView) (power : Supply) : Type 0 where
     disk = new.disk;
     lines_out = false;
   }
+  pub applied : AreClaimsApplied old.claims new.disk
   pub staging : new.disk.staging ≡ nothing_staged
   pub tables : new.disk.tables ≡ old.disk.tables
 
@@ -61,13 +73,15 @@ pub record LosesRound (old new : WorldView) (power : Supply) : Type 0 where
 
 -- ---- the end of the run
 
--- WHAT IS LEFT OF A RUN: the calls that returned, of which the history is legal and follows the scripts; the device, of which nothing
--- is lent, and which keeps the promise for them and the calls that did not.
+-- WHAT IS LEFT OF A RUN: the calls that returned, of which the history is legal and follows the scripts; the calls that did not, at most
+-- one for each caller, the next of its script, none of a thread before the set-up is done; and the device, of which nothing is lent, and
+-- which keeps the promise for both.
 pub record IsLeft (w : WorldView) (pm : List Cell) (history : List Item) (unfinished : List Unfinished) : Type 0 where
   pub history_is : history ≡ w.history
   pub unfinished_is : unfinished ≡ calls_out w
   pub legal : IsLegal w.start history
   pub scripted : Scripted w.scripts history
+  pub open_calls : AreUnfinished w.scripts history unfinished
   pub within : length history ≤ call_count w.scripts
   pub size : length pm ≡ 512 * w.geometry.blocks
   pub home : AllHome pm

@@ -22,8 +22,9 @@ use Rattle.in_flight.specs.posix_types.declared.item.Item.{Item}
 use Rattle.in_flight.specs.posix_types.Scripts.{Scripts}
 use Rattle.in_flight.specs.posix_tables.Open.{Tables}
 use Rattle.in_flight.specs.posix_spec.Run.{Unfinished, IsLegal, run}
-use Rattle.in_flight.specs.posix_spec.Scripted.{call_count, IsSetUp, next_call, script_of, Scripted}
+use Rattle.in_flight.specs.posix_spec.Scripted.{call_count, next_call, script_of, Scripted}
 use Rattle.in_flight.specs.posix_spec.State.{State}
+use Rattle.in_flight.specs.posix_spec.Unfinished.{AreUnfinished}
 use Rattle.in_flight.specs.crash_spec.Busy.{Out}
 use Rattle.in_flight.specs.Busy.{files_by}
 use Rattle.in_flight.specs.k_split.MapChanges.{free_blocks_in}
@@ -114,10 +115,6 @@ kept_of w staging files = record { staging = staging; files = files; claims = w.
 abbrev pub AreSpelledCalls : Scripts → Type 0
 AreSpelledCalls scripts = (who : Who) (i : ℕ) (call : Call) → slice_get (script_of scripts who) i ≡ Some call → NamesAreSpelled call
 
--- each job is of the next call of its caller, which may begin
-abbrev pub AreNextCalls : WorldView → Type 0
-AreNextCalls w = (p : JobOut) → In p w.pending → (next_of w p.who ≡ Some p.call) × IsSetUp w.scripts w.history p.who
-
 -- With the log's lines at home nothing is lent or claimed, and each line that is an entry is one of an earlier lap.
 pub record IsLogHome (k : View) (w : WorldView) : Type 0 where
   pub home : AllHome k.cells
@@ -134,7 +131,6 @@ pub record IsGoing (k : View) (t : Tables) (staging : Staged) (files : Files) (w
   pub none_unfinished : w.unfinished ≡ []
   pub none_home : w.home ≡ []
   pub base : w.base ≡ k.volume.base
-  pub next : AreNextCalls w
   pub spelled : AreSpelled w.claims
   pub ends : FilesEnd k.volume files
   pub drafts_end : (p : JobOut) → In p w.pending → DraftEnds p.draft
@@ -188,7 +184,8 @@ pub record AreCounted (w : WorldView) : Type 0 where
   pub acts_going : w.lost ≡ false → w.over ≡ None → w.acts ≤ most_acts w
   pub low : w.base ≤ 2 ^ 62 + w.geometry.log * (w.settled + 1)
 
--- THE WORLD. The mode is strict; the history is legal and follows the scripts; and it goes on, or the power went.
+-- THE WORLD. The mode is strict; the history is legal and follows the scripts; of the calls that have begun and not returned each is
+-- the next of its caller's script, which has no other; and it goes on, or the power went.
 pub record IsWorldOver (k : View) (t : Tables) (staging : Staged) (files : Files) (w : WorldView) : Type 0 where
   pub mode : w.start.mode ≡ Mode.Strict
   pub few : call_count w.scripts ≤ 4096
@@ -196,6 +193,7 @@ pub record IsWorldOver (k : View) (t : Tables) (staging : Staged) (files : Files
   pub spelled : AreSpelledCalls w.scripts
   pub legal : IsLegal w.start w.history
   pub scripted : Scripted w.scripts w.history
+  pub open_calls : AreUnfinished w.scripts w.history (calls_out w)
   pub counted : AreCounted w
   pub disk_is : w.disk ≡ disk_of k t staging
   pub going : w.lost ≡ false → IsGoing k t staging files w

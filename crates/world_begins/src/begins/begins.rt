@@ -14,6 +14,7 @@ ghost use Rattle.world_begins.specs.Turns.{IsTurn};
 use crate::begins::runs::run_whole;
 use crate::turns::{
     Begun, JobOut, NoMemory, Parts, begin_put, busy_on, call_at, calls_made, lose_call, lose_one,
+    put_of,
 };
 use layout_model::Draft;
 use pm_lines::Power;
@@ -34,26 +35,9 @@ fn begin_call(
     ensures steps { Steps (most_of (Some call)) power.old power.new }
     ensures begun { IsBegun who (seen p.old) (seen p.new) power.old power.new result }
 {
-    match call {
-        Call::Write(handle, data) => {
-            let copy = data.clone()?;
-            begin_put(
-                p,
-                alloc,
-                who,
-                Call::Write(handle, copy),
-                handle,
-                None,
-                &data,
-                power,
-            )
-        }
-        Call::Pwrite(handle, offset, data) => {
-            let copy = data.clone()?;
-            let call = Call::Pwrite(handle, offset, copy);
-            begin_put(p, alloc, who, call, handle, Some(offset), &data, power)
-        }
-        other => run_whole(p, alloc, who, other, power),
+    match put_of(&call) {
+        Some(_put) => begin_put(p, alloc, who, call, power),
+        None => run_whole(p, alloc, who, call, power),
     }
 }
 
@@ -151,6 +135,8 @@ fn begin_off(p: &mut Parts, who: Who, call: Call)
     requires kept { IsKept p.old }
     requires awake { p.old.lost ≡ false }
     requires next { next_of (seen p.old) who ≡ Some call }
+    requires none { HasNone (seen p.old) who }
+    requires set_up { IsSetUp p.old.scripts p.old.history.items who }
     ensures kept { IsKept p.new }
     ensures loses { (power : Supply) → is_on power ≡ false
         → LosesCall who (seen p.old) (seen p.new) power }

@@ -1,9 +1,10 @@
 //! A write begins.
-ghost use Rattle.std.specs.Prelude.{◌≡◌, ◌^◌, true};
+ghost use Rattle.std.specs.Prelude.{◌≡◌, ◌^◌, true, MatchOption};
 ghost use Rattle.world_parts.specs.pm_model.Powers.{is_on, Steps};
 ghost use Rattle.call_laws.specs.write_begin.write_plan.AsksLaws.{call_of};
 ghost use Rattle.world_parts.specs.Answers.{IsBegun};
 ghost use Rattle.world_parts.specs.Seen.{seen, IsKept};
+ghost use Rattle.world_begins.specs.Runs.{PutsNothing};
 ghost use Rattle.world_begins.specs.Turns.{IsTurn};
 
 use crate::laws;
@@ -14,8 +15,52 @@ use posix_types::{Call, Data, Handle, Who};
 use std::alloc::Global;
 use world_parts::{Begun, JobOut, NoMemory, Over, Parts, add};
 
-/// A write begins, with this copy of itself: it returns, becomes a job, ends the round, or loses its power. All memory of
-/// a job is taken here.
+/// A write, as its call says it.
+#[derive(Clone, Copy)]
+pub struct Put<'a> {
+    /// The handle.
+    pub handle: Handle,
+    /// The place of the first byte, if the call gives one; else it is where the handle stands.
+    pub at: Option<u64>,
+    /// The bytes, which are the call's own.
+    pub bytes: &'a Data,
+}
+
+/// The write of a call; none, if the call puts no bytes.
+pub fn put_of(call: &Call) -> Option<Put<'_>>
+    ensures { MatchOption result (PutsNothing call.now)
+        (λ put. call.now ≡ call_of put.handle put.at put.bytes.now) }
+{
+    match call {
+        Call::Write(handle, bytes) => Some(Put {
+            handle: *handle,
+            at: None,
+            bytes,
+        }),
+        Call::Pwrite(handle, offset, bytes) => Some(Put {
+            handle: *handle,
+            at: Some(*offset),
+            bytes,
+        }),
+        Call::Mkdir(_)
+        | Call::Rmdir(_)
+        | Call::Unlink(_)
+        | Call::Rename(_, _)
+        | Call::Open(_, _, _)
+        | Call::Close(_)
+        | Call::Dup(_, _)
+        | Call::Read(_, _)
+        | Call::Pread(_, _, _)
+        | Call::Seek(_, _, _)
+        | Call::Truncate(_, _)
+        | Call::Fsync(_)
+        | Call::Stat(_)
+        | Call::List(_) => None,
+    }
+}
+
+/// A write begins: it returns, becomes a job, ends the round, or loses its power. Its bytes are not copied but into the words
+/// of its job. All memory of a job is taken here.
 ///
 /// # Errors
 ///
@@ -23,26 +68,26 @@ use world_parts::{Begun, JobOut, NoMemory, Over, Parts, add};
 ///
 /// # Steps
 ///
-/// At most 2^22.
+/// At most 2^16.
 pub fn begin_put(
     p: &mut Parts,
     alloc: Global,
     who: Who,
     call: Call,
-    handle: Handle,
-    offset: Option<u64>,
-    data: &Data,
     power: &mut Power,
 ) -> Result<Begun, NoMemory>
     requires on { is_on power.old ≡ true }
-    requires turn { IsTurn p.old who (call_of handle offset data.now) }
-    requires call { call ≡ call_of handle offset data.now }
+    requires turn { IsTurn p.old who call }
+    requires puts { PutsNothing call → ⊥ }
     ensures kept { p.new.usable ≡ true → IsKept p.new }
-    ensures steps { Steps (2 ^ 22) power.old power.new }
+    ensures steps { Steps (2 ^ 16) power.old power.new }
     ensures begun { IsBegun who (seen p.old) (seen p.new) power.old power.new result }
 {
     laws::jobs_need_what_their_calls_do();
     let needs = needs_now(p, who, &call);
+    let Some(put) = put_of(&call) else {
+        unreachable!();
+    };
     match begin_write(
         alloc,
         &mut p.k,
@@ -50,9 +95,10 @@ pub fn begin_put(
         &mut p.staging,
         &mut p.data,
         who,
-        handle,
-        offset,
-        data,
+        p.mode,
+        put.handle,
+        put.at,
+        put.bytes,
         needs,
         power,
     ) {

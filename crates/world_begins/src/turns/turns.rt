@@ -5,18 +5,18 @@ ghost use Rattle.world_begins.specs.Turns.{IsTurn, needs_by};
 
 use crate::laws;
 use call_laws::need_of;
-use posix_types::{Call, Who};
+use posix_types::{Call, Mode, Who};
 use world_parts::{FileTable, JobOut, OpenFiles, Over, Parts, Unfinished};
 
 // How many blocks the jobs that are out need together.
-fn needs_out(tables: &OpenFiles, files: &FileTable, pending: &[JobOut]) -> u64
+fn needs_out(mode: Mode, tables: &OpenFiles, files: &FileTable, pending: &[JobOut]) -> u64
     requires lines { HaveLines tables.now.tables files.now }
-    requires small { needs_by tables.now.tables files.now pending.now < 2 ^ 64 }
-    ensures { result ≡ needs_by tables.now.tables files.now pending.now }
+    requires small { needs_by mode tables.now.tables files.now pending.now < 2 ^ 64 }
+    ensures { result ≡ needs_by mode tables.now.tables files.now pending.now }
 {
     let mut sum = 0;
     for job in pending {
-        sum += need_of(tables, files, job.who, &job.call);
+        sum += need_of(mode, tables, files, job.who, &job.call);
     }
     sum
 }
@@ -24,11 +24,11 @@ fn needs_out(tables: &OpenFiles, files: &FileTable, pending: &[JobOut]) -> u64
 /// How many blocks the jobs that are out need, at the turn of a call.
 pub fn needs_now(p: &Parts, who: Who, call: &Call) -> u64
     requires { IsTurn p.now who call.now }
-    ensures { result ≡ needs_by p.now.files.tables p.now.data p.now.pending.items }
+    ensures { result ≡ needs_by p.now.mode p.now.files.tables p.now.data p.now.pending.items }
 {
     laws::jobs_need_what_their_calls_do();
     laws::kept_numbers_are_those_of_the_state();
-    needs_out(&p.files, &p.data, &p.pending)
+    needs_out(p.mode, &p.files, &p.data, &p.pending)
 }
 
 /// The call lost its power: it is the unfinished one, and that is one act.

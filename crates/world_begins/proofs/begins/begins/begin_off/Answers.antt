@@ -10,7 +10,7 @@ pub lose_call-requires : goal.lose_call-requires
 lose_call-requires c = few_acts c.args.p.now c.requires.kept
 
 pub returns-clause-kept : goal.returns-clause-kept
-returns-clause-kept c = subst IsKept (sym c.lose_call.ensures) (off_kept c.args.p.now c.requires.kept c.requires.awake c.args.who c.args.call)
+returns-clause-kept c = subst IsKept (sym c.lose_call.ensures) (off_kept c.args.p.now c.requires.kept c.requires.awake c.args.who c.args.call c.requires.next c.requires.none c.requires.set_up)
 
 pub returns-clause-loses : goal.returns-clause-loses
 returns-clause-loses c power off =

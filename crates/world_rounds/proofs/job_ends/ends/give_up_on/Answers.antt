@@ -14,9 +14,9 @@ give_up_write-requires c = may_give_up c.args.p.now c.requires.kept c.requires.a
 pub returns-clause-kept : goal.returns-clause-kept
 returns-clause-kept c =
     given_kept c.args.p.now c.requires.kept c.requires.awake c.requires.out c.args.job c.requires.job.0 c.requires.job.1 c.args.full c.ended_by.result c.ended_by.ensures c.give_up_write.new.k c.give_up_write.new.staging c.take_job-job.new.pending
-    (c.take_job-job.ensures.left ∙ ap (λ (w : Who). without w c.args.p.now.pending.items) c.who.ensures) c.give_up_write.ensures.same c.give_up_write.ensures.runs c.give_up_write.ensures.leaves
+    (c.take_job-job.ensures.left ∙ ap (λ (w : Who). without w c.args.p.now.pending.items) c.who.ensures) c.give_up_write.ensures.same c.give_up_write.ensures.runs c.give_up_write.ensures.run_back c.give_up_write.ensures.leaves
 
 pub returns-clause-given : goal.returns-clause-given
 returns-clause-given c q is =
     given_so c.args.p.now c.requires.kept c.requires.awake c.requires.out c.args.job q is c.args.full c.ended_by.result c.ended_by.ensures c.give_up_write.new.k c.give_up_write.new.staging c.take_job-job.new.pending
-    (c.take_job-job.ensures.left ∙ ap (λ (w : Who). without w c.args.p.now.pending.items) c.who.ensures) c.give_up_write.ensures.same c.give_up_write.ensures.runs c.give_up_write.ensures.leaves
+    (c.take_job-job.ensures.left ∙ ap (λ (w : Who). without w c.args.p.now.pending.items) c.who.ensures) c.give_up_write.ensures.same c.give_up_write.ensures.runs c.give_up_write.ensures.run_back c.give_up_write.ensures.leaves

@@ -59,7 +59,7 @@ returns-in-Ok-PowerLost-clause-kept c usable =
 
 pub returns-in-Ok-Done-clause-kept : goal.returns-in-Ok-Done-clause-kept
 returns-in-Ok-Done-clause-kept c usable =
-    next_kept c.a_checkpoint_ends_a_round.ensures.done c.args.p.now c.go_on.new.p c.put_log.new.self c.gather.new.k c.gather.new.staging c.gather.new.files c.args.lines.items c.requires.kept c.requires.may
+    next_kept c.a_checkpoint_ends_a_round.ensures.done c.a_checkpoint_ends_a_round.ensures.applied c.args.p.now c.go_on.new.p c.put_log.new.self c.gather.new.k c.gather.new.staging c.gather.new.files c.args.lines.items c.requires.kept c.requires.may
     (ending_of c.the_lines_of_a_round_come_home.ensures.ready c.args.p.now c.put_log.new.self c.args.lines.items c.requires.kept c.requires.awake c.requires.may.none_out c.requires.may.lines_are c.put_log.ensures.same c.is_lost-lost.ensures.order c.put_log.ensures.back c.put_log.ensures.home)
     (subst (λ (commit : Commit). IsGatherAnswer c.args.p.now.data c.put_log.new.self c.gather.new.staging c.gather.new.files c.gather.new.k (Ok commit)) c.in-Ok-Done.field-0-is c.in-Ok-Done.ensures.answer)
     c.go_on.ensures.claims c.go_on.ensures.none c.go_on.ensures.next
@@ -67,7 +67,7 @@ returns-in-Ok-Done-clause-kept c usable =
 pub returns-in-Ok-Done-clause-answer : goal.returns-in-Ok-Done-clause-answer
 returns-in-Ok-Done-clause-answer c =
     let paid = rw c.in-Ok-Done.field-0-is at c.in-Ok-Done.ensures.paid in
-    next_answer c.a_checkpoint_ends_a_round.ensures.done c.args.p.now c.go_on.new.p c.put_log.new.self c.gather.new.k c.gather.new.staging c.gather.new.files c.args.lines.items c.requires.kept c.requires.may
+    next_answer c.a_checkpoint_ends_a_round.ensures.done c.a_checkpoint_ends_a_round.ensures.applied c.args.p.now c.go_on.new.p c.put_log.new.self c.gather.new.k c.gather.new.staging c.gather.new.files c.args.lines.items c.requires.kept c.requires.may
     (ending_of c.the_lines_of_a_round_come_home.ensures.ready c.args.p.now c.put_log.new.self c.args.lines.items c.requires.kept c.requires.awake c.requires.may.none_out c.requires.may.lines_are c.put_log.ensures.same c.is_lost-lost.ensures.order c.put_log.ensures.back c.put_log.ensures.home)
     (subst (λ (commit : Commit). IsGatherAnswer c.args.p.now.data c.put_log.new.self c.gather.new.staging c.gather.new.files c.gather.new.k (Ok commit)) c.in-Ok-Done.field-0-is c.in-Ok-Done.ensures.answer)
     c.go_on.ensures.claims c.go_on.ensures.none c.go_on.ensures.next c.gather.new.power paid

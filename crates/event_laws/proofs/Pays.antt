@@ -1,0 +1,71 @@
+-- What events take of the power is paid for.
+use Rattle.std.specs.Prelude.{◌≡◌, ◌≤◌, ◌+◌, ◌*◌, ◌^◌, ℕ, Bool, true, false, List, Option, Some, None, if◌then◌else◌, refl}
+use Rattle.std.proofs.Common.{arith, ap, ◌∙◌, sym}
+use Rattle.round_log.specs.pm_model.Powers.{Steps, Supply}
+use Rattle.world_view_laws.specs.in_flight.Costs.{most_of, most_of_call}
+use Rattle.world_view_laws.specs.posix_types.declared.call.Call.{Call}
+use Rattle.world_view_laws.specs.posix_spec.Afforded.{moves_data}
+use Rattle.world_view_laws.specs.Views.{WorldView}
+use Rattle.run_laws.proofs.Names.{names_later}
+use Rattle.event_laws.specs.declared.held.Held.{Held}
+use Rattle.event_laws.specs.Paid.{act_steps, IsPaid, IsPaidOff, moves_now, steps_ahead}
+
+-- ---- supplies
+
+pub no_steps : (p : Supply) → Steps 0 p p
+no_steps p = record { given = refl; on_before = λ on. on; later = omega arith; bound = omega arith }
+
+small_call : (call : Call) → most_of_call call ≤ 2 ^ 26
+small_call call = by (moves_data call) where
+  by : (b : Bool) → (if b then 2 ^ 26 else 512) ≤ 2 ^ 26
+  by true = omega arith
+  by false = omega arith
+
+pub small : (o : Option Call) → most_of o ≤ 2 ^ 26
+small None = omega arith
+small (Some call) = small_call call
+
+-- a call that moves no data
+pub quiet_call : (call : Call) → moves_data call ≡ false → most_of_call call ≡ 512
+quiet_call call none = ap (λ (b : Bool). if b then 2 ^ 26 else 512) none
+
+-- ---- so many steps more
+
+pub record IsPaidAny (first now : Supply) (w : WorldView) (jobs : List Held) : Type 0 where
+  pub any : Steps (act_steps * w.acts) first now
+  pub ahead : now.taken + steps_ahead jobs ≤ first.taken + act_steps * w.acts
+
+pub pays : (first before after : Supply) (w v : WorldView) (jobs left : List Held) (n : ℕ) → IsPaid first before w jobs → Steps n before after → n + steps_ahead left + act_steps * w.acts ≤ steps_ahead jobs + act_steps * v.acts
+    → IsPaidAny first after v left
+pays first before after w v jobs left n was steps enough = record {
+  any = record {
+    given = steps.given ∙ was.any.given;
+    on_before = λ on. was.any.on_before (steps.on_before on);
+    later = omega (arith, was.any.later, steps.later);
+    bound = omega (arith, was.ahead, steps.bound, enough);
+  };
+  ahead = omega (arith, was.ahead, steps.bound, enough);
+}
+
+-- an event that takes steps of a job, while a call may move data
+pub pays_on : (first before after : Supply) (w : WorldView) (jobs left : List Held) (n : ℕ) → moves_now w ≡ true → Steps n before after → n + steps_ahead left ≤ steps_ahead jobs → IsPaid first before w jobs → IsPaid first after w left
+pays_on first before after w jobs left n moves steps enough was = record {
+  any = both.any;
+  ahead = both.ahead;
+  quiet = λ quiet. (let never : true ≡ false = sym moves ∙ quiet in cc);
+  names = λ given some. names_later first before after w w given n refl refl steps (was.names given some);
+} where
+  both : IsPaidAny first after w left
+  both = pays first before after w w jobs left n was steps (omega (arith, enough))
+
+pub pays_off : (first before after : Supply) (w : WorldView) (jobs : List Held) (n : ℕ) → moves_now w ≡ true → Steps n before after → n ≤ steps_ahead jobs → IsPaid first before w jobs → IsPaidOff first after w
+pays_off first before after w jobs n moves steps enough was = record {
+  any = record {
+    given = steps.given ∙ was.any.given;
+    on_before = λ on. was.any.on_before (steps.on_before on);
+    later = omega (arith, was.any.later, steps.later);
+    bound = omega (arith, was.ahead, steps.bound, enough);
+  };
+  quiet = λ quiet. (let never : true ≡ false = sym moves ∙ quiet in cc);
+  names = λ given some. names_later first before after w w given n refl refl steps (was.names given some);
+}

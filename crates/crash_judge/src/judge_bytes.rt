@@ -15,5 +15,5 @@ mod wanting;
 
 pub use effects::{Cut, Effect, calls_of, effects_of, with_call};
 pub use nearest::is_left;
-pub use runs::{after, after_all, has_tree, run};
+pub use runs::{after, after_all, after_item, has_tree, run};
 pub use wanting::{byte_at, numbers_of, wanted};

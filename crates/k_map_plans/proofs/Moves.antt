@@ -217,6 +217,16 @@ module _ (v : Volume) (m : Move) (left linked displaced : List Extent) (moved : 
           file_below = omega (arith, may.file.below, ap (λ (y : Volume). length y.inodes) same);
         }
 
+-- the same with equal maps and chains
+pub go-both-as : (m : Move) (u : TablesView) (left left1 : List Extent) (rest rest1 gone : List ℕ) (linked linked1 : List Extent)
+    (blocks blocks1 freed : List ℕ) → left1 ≡ left → rest1 ≡ rest → linked1 ≡ linked → blocks1 ≡ blocks
+    → MayGoBoth m u left rest gone linked blocks freed → MayGoBoth m u left1 rest1 gone linked1 blocks1 freed
+go-both-as m u left left1 rest rest1 gone linked linked1 blocks blocks1 freed left_is rest_is linked_is blocks_is may =
+    subst (λ x. MayGoBoth m u x rest1 gone linked1 blocks1 freed) (sym left_is)
+    (subst (λ x. MayGoBoth m u left x gone linked1 blocks1 freed) (sym rest_is)
+    (subst (λ x. MayGoBoth m u left rest gone x blocks1 freed) (sym linked_is)
+    (subst (λ x. MayGoBoth m u left rest gone linked x freed) (sym blocks_is) may)))
+
 -- ---- a plan with two new maps
 
 distinct-left : (xs ys : List ℕ) → AreDistinct (xs ++ ys) → AreDistinct xs

@@ -58,7 +58,17 @@ fn stored(
     }
 }
 
-// The row `lend STAGING BLOCK WORD VALUE`: its reply, and the image that is left.
+// The row `lend STAGING BLOCK WORD VALUE`.
+fn stored_as_asked(k: &mut KSplit, alloc: Global, row: &str) -> Result<Reply, RowError>
+    requires { IsFresh k.old }
+    ensures { OnOk result (AllHome k.new.cells) }
+{
+    let (staging, block) = (number(row, 1)?, number(row, 2)?);
+    let (word, value) = (number(row, 3)?, number(row, 4)?);
+    stored(k, alloc, staging, block, word, u64::from(value))
+}
+
+// The reply of such a row, and the image that is left.
 pub(crate) fn lend_and_store(
     alloc: Global,
     mut k: KSplit,
@@ -66,8 +76,6 @@ pub(crate) fn lend_and_store(
 ) -> Result<(Vec<u8>, Reply), RowError>
     requires { IsFresh k }
 {
-    let (staging, block) = (number(row, 1)?, number(row, 2)?);
-    let (word, value) = (number(row, 3)?, number(row, 4)?);
-    let reply = stored(&mut k, alloc, staging, block, word, u64::from(value))?;
+    let reply = stored_as_asked(&mut k, alloc, row)?;
     Ok((left(alloc, k)?, reply))
 }

@@ -43,6 +43,15 @@ fn changed(alloc: Global, k: &mut KSplit, row: &str) -> Result<Reply, RowError>
     }
 }
 
+// The same, with the reply told.
+fn change_told(alloc: Global, k: &mut KSplit, row: &str) -> Result<String, RowError>
+    requires { IsFresh k.old }
+    ensures { OnOk result (IsFresh k.new) }
+{
+    let reply = changed(alloc, k, row)?;
+    Ok(reply_text(alloc, reply)?)
+}
+
 // What a row asks to be shown; None where it asks for a change.
 fn shown(alloc: Global, k: &KSplit, row: &str) -> Result<Option<String>, RowError>
     requires { IsFresh k.now }
@@ -89,8 +98,7 @@ fn follow(alloc: Global, mut k: KSplit, row: &str) -> Result<(KSplit, String), R
         let text = reply_text(alloc, reply)?;
         return Ok((opened(alloc, &image)?, text));
     }
-    let reply = changed(alloc, &mut k, row)?;
-    let text = reply_text(alloc, reply)?;
+    let text = change_told(alloc, &mut k, row)?;
     Ok((reopened(alloc, k)?, text))
 }
 
@@ -113,17 +121,37 @@ fn blocks_of(row: &str) -> Result<u32, RowError> {
     }
 }
 
+// A line that is answered otherwise, with the answer that came.
+fn unlike(alloc: Global, line: &str, text: &str, wanted: &str) -> Result<Option<String>, RowError> {
+    if text == wanted {
+        return Ok(None);
+    }
+    Ok(Some(format!(in alloc; "{line}, and not {text}")?))
+}
+
+// The same of a line of a row, and the device then.
+fn difference_at(alloc: Global, k: KSplit, line: &str) -> Result<(KSplit, Option<String>), RowError>
+    requires { IsFresh k }
+    ensures { IfOk result (λ after. IsFresh after.0) }
+{
+    let Some((call, wanted)) = asked(line) else {
+        return Ok((k, None));
+    };
+    let (after, text) = came(alloc, k, call)?;
+    let difference = unlike(alloc, line, text.as_str(), wanted)?;
+    Ok((after, difference))
+}
+
 // How a row goes: `ok`, or the first line that is answered otherwise.
 pub(crate) fn told(alloc: Global, row: &str) -> Result<String, RowError> {
+    let right = "ok".to_string(alloc)?;
     let mut k = begun(alloc, blocks_of(row)?)?;
     for line in row.lines() {
-        if let Some((call, wanted)) = asked(line) {
-            let (after, text) = came(alloc, k, call)?;
-            k = after;
-            if text.as_str() != wanted {
-                return Ok(format!(in alloc; "{line}, and not {text}")?);
-            }
+        let (after, difference) = difference_at(alloc, k, line)?;
+        k = after;
+        if let Some(text) = difference {
+            return Ok(text);
         }
     }
-    Ok("ok".to_string(alloc)?)
+    Ok(right)
 }

@@ -43,7 +43,10 @@ fn byte_at(k: &KSplit, ino: u32, at: u32) -> Result<u8, RowError>
         return Err(RowError::Misspelled);
     };
     match map.lookup(at / 4096) {
-        Some(block) => Ok(block_bytes(k, block)?[(at % 4096) as usize]),
+        Some(block) => {
+            let bytes = block_bytes(k, block)?;
+            Ok(bytes[(at % 4096) as usize])
+        }
         None => Ok(0),
     }
 }

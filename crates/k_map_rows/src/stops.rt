@@ -46,10 +46,11 @@ fn cut(alloc: Global, image: &[u8], asked: &MapCall, steps: u64) -> Result<Optio
     let mut k = opened(alloc, image)?;
     let mut power = Power::after(steps);
     let reply = apply(&mut k, alloc, asked, &mut power)?;
-    if reply != Reply::Lost {
-        return Ok(None);
+    let pm = k.into_pm();
+    match reply {
+        Reply::Lost => Ok(Some(pm)),
+        Reply::Done | Reply::Room(_) | Reply::Unfit => Ok(None),
     }
-    Ok(Some(k.into_pm()))
 }
 
 // The image that a call leaves which has its power.
@@ -83,18 +84,26 @@ fn count_maps(
     Ok(())
 }
 
-// A call that is cut off: each image shows all maps of before, or all maps of after.
-pub(crate) fn stop_maps(alloc: Global, image: &[u8], row: &str) -> Result<String, RowError> {
-    let asked = call(row)?;
-    let before = maps_of(alloc, image)?;
-    let after = maps_of(alloc, &done(alloc, image, &asked)?)?;
+// Counts the maps of the images of the devices that a call leaves which is cut off.
+fn count_stops(
+    alloc: Global,
+    image: &[u8],
+    asked: &MapCall,
+    before: &str,
+    after: &str,
+) -> Result<Counts, RowError> {
     let mut counts = Counts::none();
     for stop in 0..4096u64 {
-        match cut(alloc, image, &asked, 7 * stop)? {
-            Some(pm) => count_maps(alloc, &pm, &before, &after, &mut counts)?,
-            None => break,
+        match cut(alloc, image, asked, 7 * stop)? {
+            Some(pm) => count_maps(alloc, &pm, before, after, &mut counts)?,
+            None => return Ok(counts),
         }
     }
+    Ok(counts)
+}
+
+// What was counted.
+fn counts_text(alloc: Global, counts: Counts) -> Result<String, RowError> {
     if 0 < counts.old && 0 < counts.new && counts.others == 0 {
         return Ok(format!(in alloc; "old or new")?);
     }
@@ -102,13 +111,29 @@ pub(crate) fn stop_maps(alloc: Global, image: &[u8], row: &str) -> Result<String
     Ok(format!(in alloc; "{old} old, {new} new, {others} others")?)
 }
 
+// The maps once a call is made.
+fn maps_after(alloc: Global, image: &[u8], asked: &MapCall) -> Result<String, RowError> {
+    let after = done(alloc, image, asked)?;
+    maps_of(alloc, &after)
+}
+
+// A call that is cut off: each image shows all maps of before, or all maps of after.
+pub(crate) fn stop_maps(alloc: Global, image: &[u8], row: &str) -> Result<String, RowError> {
+    let asked = call(row)?;
+    let before = maps_of(alloc, image)?;
+    let after = maps_after(alloc, image, &asked)?;
+    counts_text(alloc, count_stops(alloc, image, &asked, &before, &after)?)
+}
+
 // How many bytes differ.
-fn difference_count(before: &[u8], after: &[u8]) -> usize {
-    before
-        .iter()
-        .zip(after)
-        .filter(|(old, new)| **old != **new)
-        .count()
+fn difference_count(before: &[u8], after: &[u8]) -> u64 {
+    let mut count: u64 = 0;
+    for (place, old) in before.iter().enumerate() {
+        if place < after.len() && *old != after[place] {
+            count = count.saturating_add(1);
+        }
+    }
+    count
 }
 
 // Whether each byte is that of before or that of after.
@@ -137,18 +162,33 @@ fn are_between(alloc: Global, pm: &Pm, before: &[u8], after: &[u8]) -> Result<bo
     Ok(true)
 }
 
+// The first number of steps after which a call is not cut off, or has an image with other bytes.
+fn first_end(
+    alloc: Global,
+    image: &[u8],
+    after: &[u8],
+    asked: &MapCall,
+) -> Result<(u64, bool), RowError> {
+    for stop in 0..4096u64 {
+        let Some(pm) = cut(alloc, image, asked, 7 * stop)? else {
+            return Ok((stop, true));
+        };
+        if !are_between(alloc, &pm, image, after)? {
+            return Ok((stop, false));
+        }
+    }
+    Err(RowError::PowerLost)
+}
+
 // A call that is cut off: each byte of each image is that of before or that of after.
 pub(crate) fn stop_bytes(alloc: Global, image: &[u8], row: &str) -> Result<String, RowError> {
     let asked = call(row)?;
     let after = done(alloc, image, &asked)?;
-    for stop in 0..4096u64 {
-        let Some(pm) = cut(alloc, image, &asked, 7 * stop)? else {
-            let count = difference_count(image, &after);
-            return Ok(format!(in alloc; "{count} bytes, old or new")?);
-        };
-        if !are_between(alloc, &pm, image, &after)? {
-            return Ok(format!(in alloc; "others at stop {stop}")?);
-        }
+    let (stop, is_done) = first_end(alloc, image, &after, &asked)?;
+    let count = difference_count(image, &after);
+    if is_done {
+        Ok(format!(in alloc; "{count} bytes, old or new")?)
+    } else {
+        Ok(format!(in alloc; "others at stop {stop}")?)
     }
-    Err(RowError::PowerLost)
 }

@@ -1,2 +1,3 @@
 pub mod KnownBytesMore
 pub mod Replaced
+mod Folders

@@ -33,12 +33,12 @@ pub struct OutSink<W: Write + Drop> {
     faults: u64,
 }
 
-// Why a reader was not read whole.
+/// Why a reader was not read whole.
 #[derive(Clone, Copy)]
-pub(crate) enum ReadFault {
-    // It gives more than `LONGEST_READ` bytes.
+pub enum ReadFault {
+    /// It gives more than `LONGEST_READ` bytes.
     TooLong,
-    // It failed with an error of this kind, or no memory was left.
+    /// It failed with an error of this kind, or no memory was left.
     Broken(ErrorKind),
 }
 
@@ -67,8 +67,9 @@ fn reading_fault(fault: ReadFault) -> FileFault
     }
 }
 
-// All bytes that a reader still gives. A read that was interrupted is tried again.
-pub(crate) fn read_whole<R: Read>(alloc: Global, reader: &mut R) -> Result<Vec<u8>, ReadFault>
+/// All bytes that a reader still gives, where it gives at most `LONGEST_READ`. A read that was
+/// interrupted is tried again.
+pub fn read_whole<R: Read>(alloc: Global, reader: &mut R) -> Result<Vec<u8>, ReadFault>
     ensures whole { IfOk result (λ bytes.
         IfSome (R.remaining reader.old) (λ left. bytes.items ≡ left)) }
     ensures within { IfOk result (λ bytes. length bytes.items ≤ LONGEST_READ) }

@@ -19,10 +19,8 @@ mod faults;
 mod folder;
 mod memory;
 mod replace;
-#[cfg(test)]
-mod tests;
 mod written;
 
-pub use disk::{DiskFiles, OutSink};
+pub use disk::{DiskFiles, LONGEST_READ, OutSink, ReadFault, read_whole};
 pub use faults::{FileFault, Files, Sink, SinkFault};
 pub use memory::{MemFiles, MemSink};

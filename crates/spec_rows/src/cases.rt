@@ -79,13 +79,22 @@ fn begin(alloc: Global, case: &mut Case, call: &str) -> Result<(), RowError> {
 
 // The tree of the state, taken from a copy of it, so that copies are tried too.
 fn tree_of(state: &State) -> Result<Tree, AllocError> {
-    state.clone()?.tree()?.clone()
+    let copy = state.clone()?;
+    let tree = copy.tree();
+    drop(copy);
+    tree?.clone()
+}
+
+// What is printed of it.
+fn tree_told(alloc: Global, state: &State) -> Result<String, RowError> {
+    let tree = tree_of(state)?;
+    shown_tree(alloc, &tree)
 }
 
 // Whether the mode permits a tree.
 fn is_permitted(alloc: Global, case: &Case, entries: &str) -> Result<bool, RowError> {
     let left = read_tree(alloc, &printed_lines(alloc, entries)?)?;
-    Ok(judge(
+    let is = judge(
         alloc,
         case.mode,
         case.shape,
@@ -93,7 +102,9 @@ fn is_permitted(alloc: Global, case: &Case, entries: &str) -> Result<bool, RowEr
         &case.history,
         &case.begun,
         &left,
-    )?)
+    );
+    drop(left);
+    Ok(is?)
 }
 
 // What was wanted, and what came.
@@ -119,7 +130,7 @@ fn followed(alloc: Global, case: &mut Case, line: &str) -> Result<Option<Answer>
     match what {
         "tree" => Ok(Some(Answer {
             wanted: printed_lines(alloc, wanted)?,
-            came: shown_tree(alloc, &tree_of(&case.state)?)?,
+            came: tree_told(alloc, &case.state)?,
         })),
         "begun" => {
             begin(alloc, case, wanted)?;
@@ -137,16 +148,30 @@ fn followed(alloc: Global, case: &mut Case, line: &str) -> Result<Option<Answer>
     }
 }
 
-// How a row goes: `ok`, or the first line that is answered otherwise.
-pub(crate) fn told(alloc: Global, row: &str) -> Result<String, RowError> {
-    let mut case = case_of(alloc, row)?;
+// A line that is answered otherwise, with the answer that came.
+fn difference_at(alloc: Global, case: &mut Case, line: &str) -> Result<Option<String>, RowError> {
+    let Some(answer) = followed(alloc, case, line)? else {
+        return Ok(None);
+    };
+    if answer.wanted == answer.came {
+        return Ok(None);
+    }
+    let came = answer.came.as_str();
+    Ok(Some(format!(in alloc; "{line}, and not {came}")?))
+}
+
+// How the lines of a row go: `ok`, or the first one that is answered otherwise.
+fn told_of(alloc: Global, case: &mut Case, row: &str) -> Result<String, RowError> {
     for line in row.lines() {
-        if let Some(answer) = followed(alloc, &mut case, line)? {
-            if answer.wanted != answer.came {
-                let came = answer.came.as_str();
-                return Ok(format!(in alloc; "{line}, and not {came}")?);
-            }
+        if let Some(difference) = difference_at(alloc, case, line)? {
+            return Ok(difference);
         }
     }
     Ok("ok".to_string(alloc)?)
+}
+
+// The same on a fresh file system.
+pub(crate) fn told(alloc: Global, row: &str) -> Result<String, RowError> {
+    let mut case = case_of(alloc, row)?;
+    told_of(alloc, &mut case, row)
 }

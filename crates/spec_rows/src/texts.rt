@@ -29,28 +29,39 @@ fn line_with_path(alloc: Global, path: u32) -> Result<Vec<u8>, AllocError> {
     Ok(line)
 }
 
+// How long a text is that stands so often, and its first bad line.
+fn repeated_told(alloc: Global, text: &[u8], count: u32) -> Result<(usize, Option<u32>), Fail> {
+    let bytes = repeated(alloc, text, count)?;
+    let bad = first_bad(alloc, &bytes)?;
+    Ok((bytes.len(), bad))
+}
+
+// The same of 4,096 lines with a path of 1,017 bytes, with so many blanks behind them.
+fn largest_told(alloc: Global, blanks: u32) -> Result<(usize, Option<u32>), Fail> {
+    let line = line_with_path(alloc, 1017)?;
+    let mut bytes = repeated(alloc, &line, 4096)?;
+    bytes.extend_from_slice(&repeated(alloc, b" ", blanks)?)?;
+    let bad = first_bad(alloc, &bytes)?;
+    Ok((bytes.len(), bad))
+}
+
+// The same of one line with a path of so many bytes.
+fn line_told(alloc: Global, path: u32) -> Result<(usize, Option<u32>), Fail> {
+    let line = line_with_path(alloc, path)?;
+    repeated_told(alloc, &line, 1)
+}
+
 // 4,096 calls in 4,194,304 bytes, one byte more, and as many empty lines; a line of 400,000 bytes, and one more; a call too many.
 #[test]
 fn the_largest_scripts_are_read(rt: HostRuntime) -> Result<(), Fail> {
     let alloc = rt.alloc();
-    let mut largest = repeated(alloc, &line_with_path(alloc, 1017)?, 4096)?;
-    assert_eq!(rt; largest.len(), 4_194_304);
-    assert_eq!(rt; first_bad(alloc, &largest)?, None);
-    largest.push(b' ')?;
-    assert_eq!(rt; first_bad(alloc, &largest)?, Some(0));
-    let empty = repeated(alloc, b"\n", 4_194_304)?;
-    assert_eq!(rt; first_bad(alloc, &empty)?, None);
-
-    let longest = line_with_path(alloc, 399_994)?;
-    assert_eq!(rt; longest.len(), 400_001);
-    assert_eq!(rt; first_bad(alloc, &longest)?, None);
-    let longer = line_with_path(alloc, 399_995)?;
-    assert_eq!(rt; first_bad(alloc, &longer)?, Some(1));
-
-    let most = repeated(alloc, b"#\nlist /\n", 4096)?;
-    assert_eq!(rt; first_bad(alloc, &most)?, None);
-    let more = repeated(alloc, b"#\nlist /\n", 4097)?;
-    assert_eq!(rt; first_bad(alloc, &more)?, Some(8194));
+    assert_eq!(rt; largest_told(alloc, 0)?, (4_194_304, None));
+    assert_eq!(rt; largest_told(alloc, 1)?, (4_194_305, Some(0)));
+    assert_eq!(rt; repeated_told(alloc, b"\n", 4_194_304)?, (4_194_304, None));
+    assert_eq!(rt; line_told(alloc, 399_994)?, (400_001, None));
+    assert_eq!(rt; line_told(alloc, 399_995)?, (400_002, Some(1)));
+    assert_eq!(rt; repeated_told(alloc, b"#\nlist /\n", 4096)?.1, None);
+    assert_eq!(rt; repeated_told(alloc, b"#\nlist /\n", 4097)?.1, Some(8194));
     Ok(())
 }
 

@@ -75,9 +75,11 @@ pub(crate) fn cut(
 {
     let mut k = opened(alloc, image)?;
     let mut power = Power::after(steps);
-    match published(alloc, &mut k, three, &mut power)? {
+    let commit = published(alloc, &mut k, three, &mut power)?;
+    let pm = k.into_pm();
+    match commit {
         Commit::Done => Ok(None),
-        Commit::PowerLost => Ok(Some(k.into_pm())),
+        Commit::PowerLost => Ok(Some(pm)),
     }
 }
 
@@ -87,8 +89,10 @@ pub(crate) fn done(alloc: Global, image: &[u8], three: &Three) -> Result<Pm, Row
 {
     let mut k = opened(alloc, image)?;
     let mut power = Power::always();
-    match published(alloc, &mut k, three, &mut power)? {
-        Commit::Done => Ok(k.into_pm()),
+    let commit = published(alloc, &mut k, three, &mut power)?;
+    let pm = k.into_pm();
+    match commit {
+        Commit::Done => Ok(pm),
         Commit::PowerLost => Err(RowError::PowerLost),
     }
 }

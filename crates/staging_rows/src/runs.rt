@@ -208,17 +208,24 @@ fn first_difference(
     Ok(None)
 }
 
-// How a row goes: `ok`, or the first line that is answered otherwise.
-fn told(alloc: Global, row: &str) -> Result<String, RowError> {
-    let mut k = fresh(alloc, &geometry_of(row)?)?;
+// How a row goes on a fresh device: `ok`, or the first line that is answered otherwise.
+fn told_of(k: &mut KSplit, alloc: Global, row: &str) -> Result<String, RowError>
+    requires { IsFresh k.old }
+{
     let mut staging = Staging::new(alloc);
-    if !is_calm(&staging, &k) {
+    if !is_calm(&staging, k) {
         return Err(RowError::Unlike);
     }
-    match first_difference(&mut staging, &mut k, alloc, row)? {
+    match first_difference(&mut staging, k, alloc, row)? {
         Some(difference) => Ok(difference),
         None => Ok("ok".to_string(alloc)?),
     }
+}
+
+// The same on the device that the row begins on.
+fn told(alloc: Global, row: &str) -> Result<String, RowError> {
+    let mut k = fresh(alloc, &geometry_of(row)?)?;
+    told_of(&mut k, alloc, row)
 }
 
 #[test]

@@ -1,5 +1,5 @@
 //! The image that a publishing begins with.
-ghost use Rattle.std.specs.Prelude.{OnOk};
+ghost use Rattle.std.specs.Prelude.{IfOk, OnOk};
 ghost use Rattle.k_map_tests.specs.Calls.{IsFresh};
 
 use crate::publishing::Three;
@@ -160,17 +160,36 @@ fn enter(image: &mut [u8], geometry: &Geometry, slot: u32, draft: &Draft) -> Res
     Ok(())
 }
 
-// The image: slot 1 has the first run, slot 3 the second, slot 0 the third, and slot 2 is a hole.
-pub(crate) fn staged(alloc: Global, three: &Three) -> Result<Vec<u8>, RowError> {
+// The device on which the calls were made.
+fn prepared(alloc: Global) -> Result<KSplit, RowError>
+    ensures { IfOk result IsFresh }
+{
     let mut k = begun(alloc, 64)?;
     make_all(alloc, &mut k, &calls())?;
+    Ok(k)
+}
+
+// The entries of the three runs.
+fn drafts(k: &KSplit, three: &Three) -> Result<[Draft; 3], RowError> {
+    let first = draft(k, &three.first, 16384)?;
+    let second = draft(k, &three.second, three.size)?;
+    let third = draft(k, &three.third, three.size)?;
+    Ok([first, second, third])
+}
+
+// Puts the first run into slot 1, the second into slot 3, the third into slot 0; slot 2 is a hole.
+fn enter_all(image: &mut [u8], geometry: &Geometry, entries: &[Draft; 3]) -> Result<(), RowError> {
+    enter(image, geometry, 1, &entries[0])?;
+    enter(image, geometry, 3, &entries[1])?;
+    enter(image, geometry, 0, &entries[2])
+}
+
+// The image with the entries of the three runs.
+pub(crate) fn staged(alloc: Global, three: &Three) -> Result<Vec<u8>, RowError> {
+    let k = prepared(alloc)?;
     let geometry = *k.geometry();
-    let first = draft(&k, &three.first, 16384)?;
-    let second = draft(&k, &three.second, three.size)?;
-    let third = draft(&k, &three.third, three.size)?;
+    let entries = drafts(&k, three)?;
     let mut image = left(alloc, k)?;
-    enter(&mut image, &geometry, 1, &first)?;
-    enter(&mut image, &geometry, 3, &second)?;
-    enter(&mut image, &geometry, 0, &third)?;
+    enter_all(&mut image, &geometry, &entries)?;
     Ok(image)
 }

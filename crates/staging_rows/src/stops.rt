@@ -1,10 +1,12 @@
 //! A publishing that loses its power after every seventh number of steps: what its images read.
 ghost use Rattle.k_map_tests.specs.pm_model.Cells.{AllHome};
+ghost use Rattle.k_map_tests.specs.Calls.{IsFresh};
 
 use crate::contents::{Content, applied, content_of, mapped};
 use crate::publishing::{Three, cut, done};
 use crate::staged::{OTHER, staged, three_runs};
 use k_map_tests::{map_text, opened};
+use k_split::KSplit;
 use pm_lines::{Choice, Pm};
 use std::alloc::Global;
 use std::test::Fail;
@@ -19,14 +21,21 @@ struct Contents {
     other: Content,
 }
 
-// How many runs are published, and what the files read, on an image that breaks no rule.
+// How many runs are published, and what the files read.
+fn contents_of(alloc: Global, k: &KSplit, three: &Three) -> Result<(u64, Contents), RowError>
+    requires { IsFresh k.now }
+{
+    let contents = Contents {
+        file: content_of(alloc, k, three)?,
+        other: mapped(alloc, k, OTHER)?,
+    };
+    Ok((applied(k, three.ino), contents))
+}
+
+// The same on an image that breaks no rule.
 fn read(alloc: Global, image: &[u8], three: &Three) -> Result<(u64, Contents), RowError> {
     let k = opened(alloc, image)?;
-    let contents = Contents {
-        file: content_of(alloc, &k, three)?,
-        other: mapped(alloc, &k, OTHER)?,
-    };
-    Ok((applied(&k, three.ino), contents))
+    contents_of(alloc, &k, three)
 }
 
 // Whether the image reads as before; it counts among those with as many runs published.
@@ -101,7 +110,7 @@ fn all_are_same(alloc: Global, image: &[u8], three: &Three) -> Result<bool, RowE
     let (_, before) = read(alloc, image, three)?;
     let mut seen = [false; 4];
     let stops = stopped(alloc, image, three, &before, &mut seen)?;
-    Ok(0 < stops && seen.iter().all(|is_seen| *is_seen))
+    Ok(0 < stops && seen[0] && seen[1] && seen[2] && seen[3])
 }
 
 // The image once the publishing is done, which reads as before.

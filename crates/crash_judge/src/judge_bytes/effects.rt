@@ -1,5 +1,5 @@
 //! What calls do to bytes, kept as plain data: what each puts, and how far each shortens the files.
-ghost use Rattle.std.specs.Prelude.{◌≡◌, [], ◌∷◌, ◌++◌, IfOk, length, map};
+ghost use Rattle.std.specs.Prelude.{◌≡◌, [], ◌∷◌, ◌++◌, IfOk, OnOk, length, map};
 ghost use Rattle.posix_tables.specs.Nodes.{node_at};
 ghost use Rattle.crash_spec.specs.posix_spec.Run.{after_call, begun};
 ghost use Rattle.crash_spec.specs.Values.{value_of};
@@ -138,6 +138,17 @@ fn effect_of(
     Ok(Effect { put, cuts })
 }
 
+/// The effect of a call; the state becomes the one after it.
+fn effect_on(alloc: Global, at: &mut State, c: &(Who, Call)) -> Result<Effect, AllocError>
+    ensures next { OnOk result (at.new ≡ after_call at.old c.now) }
+    ensures effect { IfOk result (λ e. IsEffect at.old c.now e) }
+{
+    let next = after(at, c)?;
+    let effect = effect_of(alloc, at, c, &next);
+    *at = next;
+    effect
+}
+
 /// The effects of calls, one after the other, from a state on.
 pub fn effects_of(
     alloc: Global,
@@ -149,9 +160,8 @@ pub fn effects_of(
     let mut effects = Vec::new(alloc);
     let mut at = state.clone()?;
     for c in calls {
-        let next = after(&at, c)?;
-        effects.push(effect_of(alloc, &at, c, &next)?)?;
-        at = next;
+        let effect = effect_on(alloc, &mut at, c)?;
+        effects.push(effect)?;
     }
     Ok(effects)
 }
@@ -167,6 +177,15 @@ pub fn calls_of(alloc: Global, items: &[Item]) -> Result<Vec<(Who, Call)>, Alloc
     Ok(calls)
 }
 
+/// Adds a copy of a call.
+fn add_copy(calls: &mut Vec<(Who, Call)>, c: &(Who, Call)) -> Result<(), AllocError>
+    ensures { OnOk result (calls.new.items ≡ calls.old.items ++ c.now ∷ []) }
+{
+    let copy = c.1.clone()?;
+    calls.push((c.0, copy))?;
+    Ok(())
+}
+
 /// Calls with one more.
 pub fn with_call(
     alloc: Global,
@@ -177,8 +196,8 @@ pub fn with_call(
 {
     let mut all = Vec::new(alloc);
     for call in calls {
-        all.push((call.0, call.1.clone()?))?;
+        add_copy(&mut all, call)?;
     }
-    all.push((c.0, c.1.clone()?))?;
+    add_copy(&mut all, c)?;
     Ok(all)
 }

@@ -1,6 +1,7 @@
 //! The state after calls, and whether it has a tree.
 ghost use Rattle.std.specs.Prelude.{◌≡◌, ◌↔◌, IfOk, IsTrue};
 ghost use Rattle.crash_spec.specs.posix_spec.Run.{after_call, after_calls, run};
+ghost use Rattle.crash_spec.specs.posix_spec.Step.{step};
 ghost use Rattle.crash_spec.specs.posix_spec.Tree.{tree};
 
 use crash_spec::{Call, Item, State, Tree, Who};
@@ -22,6 +23,15 @@ pub fn after(state: &State, c: &(Who, Call)) -> Result<State, AllocError>
 {
     let mut next = state.clone()?;
     next.apply(c.0, &c.1)?;
+    Ok(next)
+}
+
+/// The state after a call of a history; the given one stays.
+pub fn after_item(state: &State, item: &Item) -> Result<State, AllocError>
+    ensures { IfOk result (λ s. s ≡ (step state.now item.now.who item.now.call).state) }
+{
+    let mut next = state.clone()?;
+    next.apply(item.who, &item.call)?;
     Ok(next)
 }
 

@@ -3,7 +3,7 @@ ghost use Rattle.std.specs.Prelude.{◌≡◌, ◌↔◌, [], IfOk, IsTrue, leng
 ghost use Rattle.posix_laws.specs.posix_spec.Run.{after_calls};
 ghost use Rattle.crash_spec.specs.Sync.{Sync};
 ghost use Rattle.crash_judge.specs.Parts.{all_toward, LeadTo, pick, picked, SomeLead, toward};
-ghost use Rattle.crash_judge.specs.Wanted.{wanted};
+ghost use Rattle.crash_judge.specs.Wanted.{numbers_of, wanted};
 
 use crate::judge_bytes::{after, after_all, byte_at, has_tree, numbers_of, run, wanted, with_call};
 use posix_spec::State;
@@ -71,6 +71,19 @@ fn all_toward(
     Ok(at)
 }
 
+/// The numbers of the nodes that the places lead to, once calls have acted.
+fn numbers_after(
+    alloc: Global,
+    state: &State,
+    calls: &[(Who, Call)],
+) -> Result<Vec<usize>, AllocError>
+    ensures { IfOk result (λ numbers. let whole = after_calls state.now calls.now in
+        numbers.items ≡ numbers_of (length whole.nodes) whole.entries) }
+{
+    let whole = after_all(state, calls)?;
+    numbers_of(alloc, whole.nodes().len(), whole.entries())
+}
+
 /// Whether calls lead to a tree, each acting whole or in part.
 fn lead_to(
     alloc: Global,
@@ -80,8 +93,7 @@ fn lead_to(
 ) -> Result<bool, AllocError>
     ensures { IfOk result (λ is. IsTrue is ↔ LeadTo state.now calls.now left.now) }
 {
-    let whole = after_all(state, calls)?;
-    let numbers = numbers_of(alloc, whole.nodes().len(), whole.entries())?;
+    let numbers = numbers_after(alloc, state, calls)?;
     let end = all_toward(alloc, state, calls, &numbers, &left.entries)?;
     has_tree(&end, left)
 }

@@ -7,7 +7,9 @@ ghost use Rattle.crash_spec.specs.Posix.{Posix, syncs};
 ghost use Rattle.crash_judge.specs.Effects.{AreEffects};
 ghost use Rattle.crash_judge.specs.Fronts.{ActsOrNot, KeptFrom, KeptHere};
 
-use crate::judge_bytes::{Effect, after, calls_of, effects_of, has_tree, is_left, run, with_call};
+use crate::judge_bytes::{
+    Effect, after, after_item, calls_of, effects_of, has_tree, is_left, run, with_call,
+};
 use posix_spec::State;
 use posix_types::{Call, Item, Reply, Tree, Who};
 use std::alloc::{AllocError, Global};
@@ -67,8 +69,7 @@ fn is_kept_from(
     }
     match (later.split_first(), effects.split_first()) {
         (Some((item, later)), Some((_, effects))) => {
-            let mut next = state.clone()?;
-            next.apply(item.who, &item.call)?;
+            let next = after_item(state, item)?;
             is_kept_from(alloc, &next, later, effects, unfinished, extra, left)
         }
         _ => Ok(false),
@@ -94,13 +95,54 @@ fn is_kept_whole(
         }
         Some((c, rest)) => {
             let acted = after(acting, c)?;
-            if is_kept_whole(alloc, history, &acted, idle, rest, left)? {
+            let found = is_kept_whole(alloc, history, &acted, idle, rest, left);
+            drop(acted);
+            if found? {
                 return Ok(true);
             }
             let longer = with_call(alloc, idle, c)?;
             is_kept_whole(alloc, history, acting, &longer, rest, left)
         }
     }
+}
+
+/// Whether a front of a history may be kept, which led to a state.
+fn is_front_kept(
+    alloc: Global,
+    start: &State,
+    done: &State,
+    history: &[Item],
+    unfinished: &[(Who, Call)],
+    left: &Tree,
+) -> Result<bool, AllocError>
+    requires { done.now ≡ run start.now history.now }
+    ensures { IfOk result (λ is. IsTrue is ↔ KeptFrom start.now history.now unfinished.now left.now) }
+{
+    let calls = calls_of(alloc, history)?;
+    let effects = effects_of(alloc, start, &calls)?;
+    let extra = effects_of(alloc, done, unfinished)?;
+    is_kept_from(alloc, start, history, &effects, unfinished, &extra, left)
+}
+
+/// Whether POSIX mode permits this tree after a history, which led to a state.
+fn is_posix_after(
+    alloc: Global,
+    start: &State,
+    done: &State,
+    history: &[Item],
+    unfinished: &[(Who, Call)],
+    left: &Tree,
+) -> Result<bool, AllocError>
+    requires { done.now ≡ run start.now history.now }
+    ensures { IfOk result (λ is. IsTrue is ↔ Posix start.now history.now unfinished.now left.now) }
+{
+    if has_tree(done, left)? {
+        return Ok(true);
+    }
+    if is_front_kept(alloc, start, done, history, unfinished, left)? {
+        return Ok(true);
+    }
+    is_kept_whole(alloc, done, done, &[], unfinished, left)
 }
 
 /// Whether POSIX mode permits this tree.
@@ -114,14 +156,5 @@ pub(crate) fn is_posix(
     ensures { IfOk result (λ is. IsTrue is ↔ Posix start.now history.now unfinished.now left.now) }
 {
     let done = run(start.clone()?, history)?;
-    if has_tree(&done, left)? {
-        return Ok(true);
-    }
-    let calls = calls_of(alloc, history)?;
-    let effects = effects_of(alloc, start, &calls)?;
-    let extra = effects_of(alloc, &done, unfinished)?;
-    if is_kept_from(alloc, start, history, &effects, unfinished, &extra, left)? {
-        return Ok(true);
-    }
-    is_kept_whole(alloc, &done, &done, &[], unfinished, left)
+    is_posix_after(alloc, start, &done, history, unfinished, left)
 }

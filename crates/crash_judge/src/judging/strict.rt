@@ -19,7 +19,9 @@ pub(crate) fn is_strict(
         None => has_tree(state, left),
         Some((c, rest)) => {
             let acted = after(state, c)?;
-            if is_strict(&acted, rest, left)? {
+            let found = is_strict(&acted, rest, left);
+            drop(acted);
+            if found? {
                 return Ok(true);
             }
             is_strict(state, rest, left)

@@ -1,15 +1,17 @@
 //! Blocks go from a staging file to a file.
-ghost use Rattle.std.specs.Prelude.{◌≡◌, ◌<◌, ◌≤◌, ◌+◌, ◌^◌, ◌∷◌, [], ℕ, List, length, IfOk, OnErr, OnOk};
+ghost use Rattle.std.specs.Prelude.{◌≡◌, ◌<◌, ◌≤◌, ◌+◌, ◌++◌, ◌^◌, ◌∷◌, [], ℕ, All, List, length, IfOk, OnErr, OnOk};
+ghost use Rattle.block_counts.specs.Counts.{chains_for};
 ghost use Rattle.k_plans.specs.layout_model.Places.{reserve};
 ghost use Rattle.k_plans.specs.image_model.Volume.{Volume, chain, extents, inode};
-ghost use Rattle.k_relink.specs.extent_model.Extents.{IsCanonical};
+ghost use Rattle.k_relink.specs.extent_model.Extents.{IsCanonical, IsExtent};
 ghost use Rattle.k_relink.specs.extent_model.declared.extent_words.Extent.{Extent};
 ghost use Rattle.k_relink.specs.extent_model.Moves.{IsMapped, Moves};
 ghost use Rattle.k_plans.specs.LandingsPlans.{IsMapFrom, NewChain, Turns};
 ghost use Rattle.k_map_plans.specs.Moving.{MayGoBoth, moved_volume};
 ghost use Rattle.k_map_plans.specs.Plans.{IsMovePlan, MayMove};
 ghost use Rattle.k_plans.specs.Free.{free_blocks, is_free_block};
-ghost use Rattle.k_plans.specs.Switching.{IsMapPlan, WaitOnce};
+ghost use Rattle.k_plans.specs.Switching.{IsMapPlan, IsSetAside, WaitOnce};
+ghost use Rattle.k_plans.specs.volume_laws.Uses.{in_chain, in_map};
 ghost use Rattle.k_plans.specs.Whole.{IsWhole};
 ghost use Rattle.k_plans.specs.k_split_model.MapChangesChanges.{IsMoved, with_length};
 ghost use Rattle.k_plans.specs.k_split_model.Taken.{switched, with_map};
@@ -17,7 +19,7 @@ ghost use Rattle.k_plans.specs.volume_change_laws.Hits.{AreAt};
 
 use crate::map_plans::lists::push_extents;
 use block_counts::chains_for;
-use extent_map::ExtentMap;
+use extent_map::{Extent, ExtentMap};
 use k_plans::{Batch, Move, NewMap, Tables};
 use k_relink::{RelinkFault, Relinked, relink};
 use layout_model::Inode;
@@ -39,28 +41,156 @@ fn blocks_at(alloc: Global, map: &ExtentMap, from: u32, count: u32) -> Result<Ve
     Ok(blocks)
 }
 
-// The two inodes of a move go over to their maps, and are planned.
-fn switch_both(
-    tables: &mut Tables,
-    batch: &mut Batch,
-    asked: &Move,
+// The new maps of a move, for whose chains blocks are set aside, and what the file had in the range.
+#[derive(Drop)]
+struct Placed {
+    file: NewMap,
+    staging: NewMap,
+    displaced: Vec<Extent>,
+}
+
+// What the tables take in a move: the map and the chain of the staging file and of the file, and the
+// blocks that wait behind each.
+#[derive(Drop)]
+struct Going {
     left: ExtentMap,
     rest: Vec<u32>,
     gone: Vec<u32>,
     linked: ExtentMap,
     blocks: Vec<u32>,
     freed: Vec<u32>,
-)
+}
+
+// Sets blocks aside for the chains of both maps, those of the file's first.
+fn set_both_aside(tables: &mut Tables, linked: Relinked) -> Result<Placed, AllocError>
+    requires idle { tables.old.waiting ≡ [] }
+    requires room { chains_for (length linked.dst) + chains_for (length linked.src)
+        ≤ free_blocks tables.old }
+    ensures once { WaitOnce tables.new }
+    ensures volume { tables.new.volume ≡ tables.old.volume }
+    ensures file_map { IfOk result (λ placed. placed.file.extents ≡ linked.dst) }
+    ensures staging_map { IfOk result (λ placed. placed.staging.extents ≡ linked.src) }
+    ensures displaced { IfOk result (λ placed. placed.displaced.items ≡ linked.freed.items) }
+    ensures file_size { IfOk result (λ placed.
+        length placed.file.blocks ≡ chains_for (length linked.dst)) }
+    ensures staging_size { IfOk result (λ placed.
+        length placed.staging.blocks ≡ chains_for (length linked.src)) }
+    ensures taken { IfOk result (λ placed.
+        IsSetAside (chains_for (length linked.dst) + chains_for (length linked.src))
+        (placed.file.blocks ++ placed.staging.blocks) tables.old tables.new) }
+{
+    let Relinked {
+        src,
+        dst,
+        freed: displaced,
+    } = linked;
+    let count = chains_for(dst.extents().len() as u64) as u32;
+    let rest_count = chains_for(src.extents().len() as u64) as u32;
+    let Some(mut blocks) = tables.set_aside(count + rest_count)? else {
+        unreachable!()
+    };
+    let rest = blocks.split_off(count as usize)?;
+    Ok(Placed {
+        file: NewMap { blocks, map: dst },
+        staging: NewMap {
+            blocks: rest,
+            map: src,
+        },
+        displaced,
+    })
+}
+
+// The blocks of three lists.
+fn joined(
+    alloc: Global,
+    first: &[u32],
+    second: &[u32],
+    third: &[u32],
+) -> Result<Vec<u32>, AllocError>
+    ensures { IfOk result (λ all. all.items ≡ first.now ++ second.now ++ third.now) }
+{
+    let mut all = Vec::from_slice(alloc, first)?;
+    all.extend_from_slice(second)?;
+    all.extend_from_slice(third)?;
+    Ok(all)
+}
+
+// The blocks of two lists, and those of extents.
+fn joined_with(
+    alloc: Global,
+    first: &[u32],
+    second: &[u32],
+    displaced: &[Extent],
+) -> Result<Vec<u32>, AllocError>
+    requires { All IsExtent displaced.now }
+    ensures { IfOk result (λ all. (b : ℕ) →
+        in_chain all.items b ≡ in_chain (first.now ++ second.now) b + in_map displaced.now b) }
+{
+    let mut all = Vec::from_slice(alloc, first)?;
+    all.extend_from_slice(second)?;
+    push_extents(&mut all, displaced)?;
+    Ok(all)
+}
+
+// What the tables take for these new maps.
+fn taken_by(
+    alloc: Global,
+    tables: &Tables,
+    asked: &Move,
+    moved: &[u32],
+    placed: &Placed,
+) -> Result<Going, AllocError>
+    requires staging { asked.now.staging < length tables.now.volume.inodes }
+    requires file { asked.now.ino < length tables.now.volume.inodes }
+    requires extents { All IsExtent placed.now.displaced.items }
+    ensures left { IfOk result (λ going. going.left ≡ placed.now.staging.extents) }
+    ensures rest { IfOk result (λ going. going.rest.items ≡ placed.now.staging.blocks) }
+    ensures linked { IfOk result (λ going. going.linked ≡ placed.now.file.extents) }
+    ensures blocks { IfOk result (λ going. going.blocks.items ≡ placed.now.file.blocks) }
+    ensures gone { IfOk result (λ going. going.gone.items
+        ≡ chain tables.now.volume asked.now.staging ++ moved.now ++ placed.now.file.blocks) }
+    ensures freed { IfOk result (λ going. (b : ℕ) → in_chain going.freed.items b
+        ≡ in_chain (chain tables.now.volume asked.now.staging
+        ++ chain tables.now.volume asked.now.ino) b + in_map placed.now.displaced.items b) }
+{
+    let gone = joined(
+        alloc,
+        tables.chain(asked.staging),
+        moved,
+        &placed.file.blocks,
+    )?;
+    let freed = joined_with(
+        alloc,
+        tables.chain(asked.staging),
+        tables.chain(asked.ino),
+        &placed.displaced,
+    )?;
+    let left = placed.staging.map.copied(alloc)?;
+    let rest = Vec::from_slice(alloc, &placed.staging.blocks)?;
+    let linked = placed.file.map.copied(alloc)?;
+    let blocks = Vec::from_slice(alloc, &placed.file.blocks)?;
+    Ok(Going {
+        left,
+        rest,
+        gone,
+        linked,
+        blocks,
+        freed,
+    })
+}
+
+// The two inodes of a move go over to their maps, and are planned.
+fn switch_both(tables: &mut Tables, batch: &mut Batch, asked: &Move, going: Going)
     requires empty { batch.old ≡ [] }
-    requires may { MayGoBoth asked.now tables.old left rest.items gone.items linked blocks.items freed.items }
+    requires may { MayGoBoth asked.now tables.old going.left going.rest.items going.gone.items going.linked going.blocks.items going.freed.items }
     ensures once { WaitOnce tables.new }
     ensures whole { IsWhole tables.new.volume }
-    ensures moved { tables.new.volume ≡ moved_volume asked.now left rest.items linked blocks.items tables.old.volume }
+    ensures moved { tables.new.volume ≡ moved_volume asked.now going.left going.rest.items going.linked going.blocks.items tables.old.volume }
     ensures turns { (news : List NewChain) (v : Volume)
         → IsMapFrom news tables.old.volume asked.now.staging
-        (with_map rest.items left (inode tables.old.volume asked.now.staging)) rest.items left
-        → IsMapFrom news (switched asked.now.staging (inode tables.old.volume asked.now.staging) rest.items left tables.old.volume) asked.now.ino
-        (with_map blocks.items linked (with_length asked.now.size asked.now.applied (inode tables.old.volume asked.now.ino))) blocks.items linked
+        (with_map going.rest.items going.left (inode tables.old.volume asked.now.staging)) going.rest.items going.left
+        → IsMapFrom news (switched asked.now.staging (inode tables.old.volume asked.now.staging) going.rest.items going.left tables.old.volume) asked.now.ino
+        (with_map going.blocks.items going.linked (with_length asked.now.size asked.now.applied (inode tables.old.volume asked.now.ino))) going.blocks.items going.linked
         → Turns tables.old.volume.geometry news v tables.old.volume []
         → Turns tables.old.volume.geometry news v tables.new.volume batch.new }
     ensures some { 0 < length batch.new }
@@ -72,6 +202,14 @@ fn switch_both(
         applied: asked.applied,
         ..tables.inodes()[asked.ino as usize]
     };
+    let Going {
+        left,
+        rest,
+        gone,
+        linked,
+        blocks,
+        freed,
+    } = going;
     tables.switch(batch, asked.staging, &staging_line, left, rest, gone);
     tables.switch(batch, asked.ino, &line, linked, blocks, freed);
 }
@@ -109,47 +247,10 @@ fn place_both(
     ensures err { OnErr result (tables.new.volume ≡ tables.old.volume) }
     ensures no_lines { OnErr result (batch.new ≡ []) }
 {
-    let Relinked {
-        src,
-        dst,
-        freed: displaced,
-    } = linked;
-    let left = src.copied(alloc)?;
-    let map = dst.copied(alloc)?;
-    let mut gone = Vec::from_slice(alloc, tables.chain(asked.staging))?;
-    gone.extend_from_slice(moved)?;
-    let mut freed = Vec::from_slice(alloc, tables.chain(asked.staging))?;
-    freed.extend_from_slice(tables.chain(asked.ino))?;
-    push_extents(&mut freed, &displaced)?;
-    let count = chains_for(dst.extents().len() as u64) as u32;
-    let rest_count = chains_for(src.extents().len() as u64) as u32;
-    let Some(taken) = tables.set_aside(count + rest_count)? else {
-        unreachable!()
-    };
-    let (first, last) = taken.split_at(count as usize);
-    gone.extend_from_slice(first)?;
-    let blocks = Vec::from_slice(alloc, first)?;
-    let file_chain = Vec::from_slice(alloc, first)?;
-    let rest = Vec::from_slice(alloc, last)?;
-    let staging_chain = Vec::from_slice(alloc, last)?;
-    switch_both(
-        tables,
-        batch,
-        asked,
-        left,
-        staging_chain,
-        gone,
-        map,
-        file_chain,
-        freed,
-    );
-    Ok((
-        NewMap { blocks, map: dst },
-        NewMap {
-            blocks: rest,
-            map: src,
-        },
-    ))
+    let placed = set_both_aside(tables, linked)?;
+    let going = taken_by(alloc, tables, asked, moved, &placed)?;
+    switch_both(tables, batch, asked, going);
+    Ok((placed.file, placed.staging))
 }
 
 // Moves the blocks on the tables. What the file had in their place waits then. After an error

@@ -13,7 +13,7 @@ pub returns-clause-turns : goal.returns-clause-turns
 returns-clause-turns c news v from1 from2 turns =
     let m = c.args.asked.now in
     let t = c.args.tables.now.volume in
-    both-turns m t c.switch.new.self.volume c.switch-2.new.self.volume c.args.left c.args.linked c.args.rest.items c.args.blocks.items
+    both-turns m t c.switch.new.self.volume c.switch-2.new.self.volume c.args.going.left c.args.going.linked c.args.going.rest.items c.args.going.blocks.items
     (slice_index_or c.inodes.result.now m.staging free_inode)
     (with_length m.size m.applied (slice_index_or c.inodes-2.result.now m.ino free_inode))
     news v c.args.batch.now c.switch.new.batch c.switch-2.new.batch

@@ -120,7 +120,13 @@ impl Model {
     }
 
     pub(crate) fn free_blocks(&self) -> u64 {
-        self.free.iter().filter(|is_free| **is_free).count() as u64
+        let mut count: u64 = 0;
+        for is_free in &self.free {
+            if *is_free {
+                count = count.saturating_add(1);
+            }
+        }
+        count
     }
 
     pub(crate) fn file(&self, ino: u32) -> Option<&ModelFile> {
@@ -135,16 +141,20 @@ impl Model {
         }
     }
 
-    // The map of an inode, and the order of its last entry.
-    fn map_of(&self, ino: u32) -> Result<(Blocks, u64), RowError> {
+    // The map of an inode.
+    fn blocks(&self, ino: u32) -> Result<Blocks, RowError> {
         match self.files.get(ino as usize) {
-            Some(file) => Ok((file.blocks, file.applied)),
+            Some(file) => Ok(file.blocks),
             None => Err(RowError::Misspelled),
         }
     }
 
-    fn blocks(&self, ino: u32) -> Result<Blocks, RowError> {
-        Ok(self.map_of(ino)?.0)
+    // The order of the last entry of an inode.
+    fn applied(&self, ino: u32) -> u64 {
+        match self.files.get(ino as usize) {
+            Some(file) => file.applied,
+            None => 0,
+        }
     }
 
     // Takes the lowest free block.
@@ -236,15 +246,16 @@ impl Model {
 
     // Zeroes the disk blocks of what was a hole.
     fn zero_new(&mut self, before: &Blocks, after: &Blocks) {
-        for (old, new) in before.iter().zip(after) {
-            if let (None, Some(block)) = (old, new) {
-                self.set_block(*block, &[0; 4096]);
+        for place in 0..PLACES {
+            if let (None, Some(block)) = (before[place], after[place]) {
+                self.set_block(block, &[0; 4096]);
             }
         }
     }
 
     fn size(&mut self, alloc: Global, ino: u32, size: u32) -> Result<Reply, RowError> {
-        let (before, applied) = self.map_of(ino)?;
+        let before = self.blocks(ino)?;
+        let applied = self.applied(ino);
         let (mut after, mut is_cut) = (before, false);
         for (place, block) in after.iter_mut().enumerate() {
             if blocks_for(u64::from(size)) <= place as u64 {
@@ -263,10 +274,10 @@ impl Model {
 
     // Frees the disk blocks of the places that have another one, or none.
     fn free_gone(&mut self, before: &Blocks, after: &Blocks) {
-        for (old, new) in before.iter().zip(after) {
-            if let Some(block) = old {
-                if *old != *new {
-                    self.free_one(*block);
+        for place in 0..PLACES {
+            if let Some(block) = before[place] {
+                if after[place] != Some(block) {
+                    self.free_one(block);
                 }
             }
         }

@@ -191,17 +191,16 @@ fn step(
 // Makes so many calls on both, and answers how many it made: fewer where too few of those that are
 // drawn may be made.
 fn run_both(alloc: Global) -> Result<u32, RowError> {
-    let mut k = begun(alloc, BLOCKS)?;
     let mut model = Model::new(alloc)?;
     let mut draws = Draws::new(SEED);
+    let mut k = begun(alloc, BLOCKS)?;
     let mut count: u32 = 0;
     for _ in 0..20 * CALLS {
-        if count >= CALLS {
-            return Ok(count);
+        if count < CALLS {
+            let (after, is_made) = step(alloc, k, &mut model, &mut draws)?;
+            k = after;
+            count = count.saturating_add(u32::from(is_made));
         }
-        let (after, is_made) = step(alloc, k, &mut model, &mut draws)?;
-        k = after;
-        count = count.saturating_add(u32::from(is_made));
     }
     Ok(count)
 }

@@ -1,1 +1,2 @@
 mod LastRuns
+mod Laying

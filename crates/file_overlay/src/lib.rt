@@ -5,6 +5,10 @@
 //! room is spare (`Overlaid`), and read it block by block: `staged_at runs b` is the staging file and
 //! the block in it that the last run laid there gives file block b.
 //!
+//! Beside the runs it keeps pieces: what the runs leave of each other, in the order of the file, no two
+//! with one block. A look-up halves them, so it costs by the number's logarithm; a run that is laid goes
+//! through them once. No clause shows the pieces.
+//!
 //! The layer above may rely on this: `find` is `staged_at`; a run that is laid hides the blocks of
 //! older runs that it covers, and no other (`LaidHides`); where orders rise, the run that is found is
 //! the one of greatest order that has the block (`LastIsGreatest`); `lay` takes no memory after
@@ -17,6 +21,7 @@
 ghost use Rattle.file_overlay.specs.Laws.{LaidHides, LastIsGreatest, NoneHasBlock};
 
 mod overlay;
+mod pieces;
 mod runs;
 
 pub use overlay::Overlay;

@@ -2,9 +2,11 @@
 ghost use Rattle.std.specs.Prelude.{◌≡◌, ◌+◌, ◌<◌, ◌≤◌, ◌^◌, [], ◌∷◌, ◌++◌, All, OnOk};
 ghost use Rattle.file_overlay.specs.Runs.{staged_at, FitsRun};
 
+use crate::pieces::{begun, lay_over};
 use crate::runs::Run;
 use std::alloc::{AllocError, Global};
 use std::marker::Model;
+use std::mem;
 
 /// How many places `lay` may take.
 const PLACES: usize = 3;
@@ -13,20 +15,27 @@ const PLACES: usize = 3;
 #[derive(Debug, Drop)]
 pub struct Overlay {
     runs: Vec<Run>,
+    // What the runs leave of each other, in the order of the file.
+    pieces: Vec<Run>,
+    // Where the pieces are made with a run over them.
+    room: Vec<Run>,
 }
 
 impl Model for Overlay {
-    ghost use Rattle.std.specs.Prelude.{◌-◌, All, vec_capacity, vec_len};
+    ghost use Rattle.std.specs.Prelude.{◌-◌, All, min, vec_capacity, vec_len};
+    ghost use Rattle.file_overlay.specs.Pieces.{ArePieces};
     ghost use Rattle.file_overlay.specs.Runs.{FitsRun, Overlaid};
 
     ghost Value = { Overlaid };
 
     ghost view = { λ o. record {
       runs = o.runs.items;
-      spare = vec_capacity o.runs - vec_len o.runs;
+      spare = min (vec_capacity o.runs - vec_len o.runs)
+          (min (vec_capacity o.pieces) (vec_capacity o.room) - vec_len o.pieces);
     } };
 
-    ghost invariant = { λ o. All FitsRun o.runs.items };
+    ghost invariant = { λ o.
+        All FitsRun o.runs.items × ArePieces o.runs.items o.pieces.items };
 }
 
 impl Overlay {
@@ -36,6 +45,8 @@ impl Overlay {
     {
         Overlay {
             runs: Vec::new(alloc),
+            pieces: Vec::new(alloc),
+            room: Vec::new(alloc),
         }
     }
 
@@ -45,7 +56,10 @@ impl Overlay {
         ensures runs { self.new.runs ≡ self.old.runs }
         ensures spare { self.old.spare ≤ self.new.spare }
     {
-        self.runs.reserve(PLACES)
+        self.runs.reserve(PLACES)?;
+        self.pieces.reserve(PLACES)?;
+        self.room.clear();
+        self.room.reserve(self.pieces.len() + PLACES)
     }
 
     /// Lays a run over those that are there. Its ends, in the file and in the staging file, fit 32
@@ -57,6 +71,8 @@ impl Overlay {
         ensures runs { self.new.runs ≡ self.old.runs ++ run ∷ [] }
         ensures spare { self.old.spare ≤ self.new.spare + 3 }
     {
+        lay_over(&self.pieces, &mut self.room, run);
+        mem::swap(&mut self.pieces, &mut self.room);
         self.runs.push_reserved(run);
     }
 
@@ -64,9 +80,15 @@ impl Overlay {
     pub fn find(&self, block: u32) -> Option<(u32, u32)>
         ensures { result ≡ staged_at self.now.runs block }
     {
-        match self.runs.iter().rev().find(|run| run.has(block)) {
-            Some(run) => Some(run.place_of(block)),
-            None => None,
+        let begun = begun(&self.pieces, u64::from(block) + 1);
+        if begun == 0 {
+            return None;
+        }
+        let piece = self.pieces[begun - 1];
+        if piece.has(block) {
+            Some(piece.place_of(block))
+        } else {
+            None
         }
     }
 
@@ -84,5 +106,6 @@ impl Overlay {
         ensures spare { self.old.spare ≤ self.new.spare }
     {
         self.runs.clear();
+        self.pieces.clear();
     }
 }

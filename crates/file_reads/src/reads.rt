@@ -41,19 +41,16 @@ fn read_whole(k: &KSplit, block: Option<u32>, buffer: &mut [u8; 4096])
     }
 }
 
-// Puts the bytes of a piece behind those before it. Its block is read into the buffer.
-fn push_piece(
-    bytes: &mut Vec<u8>,
-    k: &KSplit,
-    piece: Piece,
-    buffer: &mut [u8; 4096],
-) -> Result<(), AllocError>
+// Puts the bytes of a piece behind those before it. The buffer for its block is made here, so that a
+// read of nothing sets none to zero.
+fn push_piece(bytes: &mut Vec<u8>, k: &KSplit, piece: Piece) -> Result<(), AllocError>
     requires fits { FitsBlock piece }
     requires readable { SourceCanBeRead k.now.volume k.now.cells piece.source }
     ensures { OnOk result (bytes.new.items ≡ bytes.old.items
         ++ bytes_of_piece k.now.volume (words_of k.now.cells) piece) }
 {
-    read_whole(k, block_of(k, piece.source), buffer);
+    let mut buffer = [0; 4096];
+    read_whole(k, block_of(k, piece.source), &mut buffer);
     let from = piece.at as usize;
     let to = from + piece.len as usize;
     bytes.extend_from_slice(&buffer[from..to])?;
@@ -88,9 +85,8 @@ pub fn read_bytes(
     };
     let pieces = plan_read(alloc, ino, size, offset, len, overlay, collection, map)?;
     let mut bytes = Vec::with_capacity(alloc, len.min(size.saturating_sub(offset)) as usize)?;
-    let mut buffer = [0; 4096];
     for piece in &pieces {
-        push_piece(&mut bytes, k, *piece, &mut buffer)?;
+        push_piece(&mut bytes, k, *piece)?;
     }
     Ok(bytes)
 }

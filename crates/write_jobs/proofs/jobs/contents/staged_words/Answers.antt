@@ -4,6 +4,6 @@ use Rattle.write_jobs.proofs.jobs.contents.staged_words.Goals as goal
 
 pub returns : goal.returns
 returns c =
-    let count = c.loop-i.invariant.count in
-    let all : length c.loop-i.words.items ≡ 512 * c.args.count = omega (arith, count) in
-    spell_framed c.args.front.now c.args.at c.args.new.now c.args.back.now c.loop-i.words.items c.args.count all (λ k low. c.loop-i.invariant.each k (omega (arith, low)))
+    let count = c.loop-line.invariant.count in
+    let all : length c.loop-line.words.items ≡ 512 * c.args.count = omega (arith, count) in
+    spell_framed c.args.front.now c.args.at c.args.new.now c.args.back.now c.loop-line.words.items c.args.count all (λ k low. c.loop-line.invariant.each k (omega (arith, low)))

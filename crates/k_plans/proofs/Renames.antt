@@ -148,7 +148,7 @@ over_file-whole p q moving r v target whole m some file =
     subst (λ x. IsWhole (renamed_over_file moving.entry.line x target.line v)) (sym m.row_is) (record {
       kept = record {
         kept = rename-over_file-keeps v p q moving.entry.parent moving.entry.child moving.parent moving.entry.line target.child target.line whole.kept
-            may m.is_moving.is_entry.line over.at over.line can (sym can.same ∙ file);
+            may m.is_moving.is_entry.line over.line can (sym can.same ∙ file);
         all = lines-row moving.entry.line _ (unnamed target.line v) (lines-row target.line None v whole.kept.all);
         geometry = whole.kept.geometry;
       };
@@ -176,7 +176,7 @@ over_directory-whole p q moving r v target whole m some directory =
     subst (λ x. IsWhole (renamed_over_directory moving.entry.line x target.line target.child v)) (sym m.row_is) (record {
       kept = record {
         kept = rename-over_directory-keeps v p q moving.entry.parent moving.entry.child moving.parent moving.entry.line target.child target.line
-            whole.kept may m.is_moving.is_entry.line over.at over.line can (sym can.same ∙ directory);
+            whole.kept may m.is_moving.is_entry.line over.line can (sym can.same ∙ directory);
         all = lines-row moving.entry.line _ (row_set target.line None without)
             (lines-row target.line None without (lines-node target.child gone v whole.kept.all));
         geometry = whole.kept.geometry;

@@ -11,9 +11,8 @@ use Rattle.world_write_laws.specs.world_step_laws.layout_model.declared.lines.Dr
 use Rattle.world_write_laws.specs.world_step_laws.image_model.Live.{is_directory}
 use Rattle.world_write_laws.specs.world_step_laws.image_model.Volume.{inode, Volume}
 use Rattle.world_write_laws.specs.world_step_laws.name_laws.Paths.{CanReplace}
-use Rattle.world_write_laws.specs.world_step_laws.volume_change_laws.CallLaws.{root-directory, row_to}
+use Rattle.world_write_laws.specs.world_step_laws.volume_change_laws.CallLaws.{IsRowFound, root-directory, row_to}
 use Rattle.world_write_laws.specs.world_step_laws.volume_change_laws.Changes.{MayDrop}
-use Rattle.world_write_laws.specs.world_step_laws.volume_change_laws.FoundLaws.{IsRowFound}
 use Rattle.world_write_laws.specs.world_step_laws.k_split_model.ChangesChanges.{renamed_over_directory, renamed_over_file}
 use Rattle.world_write_laws.specs.world_step_laws.k_split_model.Spaces.{is_directory_in, volume_space}
 use Rattle.k_split.specs.k_tables.Found.{IsTargetAt}
@@ -33,7 +32,7 @@ use Rattle.world_write_laws.specs.world_step_laws.posix_spec.Step.{mkdir_done, r
 use Rattle.world_write_laws.specs.world_step_laws.posix_spec.Tree.{tree}
 use Rattle.world_write_laws.specs.world_step_laws.world_model.Jobs.{Job}
 use Rattle.world_write_laws.specs.world_step_laws.world_model.Stands.{IsUsed, number}
-use Rattle.world_write_laws.specs.world_step_laws.world_model.TreeRules.{used_below}
+use Rattle.world_write_laws.specs.world_step_laws.world_model.TreeRules.{one_name, used_below}
 use Rattle.world_write_laws.specs.world_step_laws.Mirrors.{Mirrors}
 use Rattle.world_write_laws.specs.world_step_laws.Rows.{HaveSameRows, HaveSameRows-Mirrors}
 use Rattle.world_write_laws.specs.world_step_laws.Nameless.{IsNameless, nameless-count, nameless-moved_over}
@@ -138,7 +137,7 @@ renames_over_file v d claims jobs numbers s count who p q w ino device none is =
   nameless : IsNameless (slice_set (slice_set v.names o.target.line None) moving.entry.line (Some (row_to q moving.parent moving.entry.child))) o.target.child
   nameless =
       subst (IsNameless (slice_set (slice_set v.names o.target.line None) moving.entry.line (Some (row_to q moving.parent moving.entry.child)))) u.child_is
-      (nameless-moved_over v moving.entry.line r.at (row_to q moving.parent moving.entry.child) o.target.line u.at world.valid.stands.sane r.is u.is (sym r.child_is) (λ one. can.apart (sym u.child_is ∙ (one ∙ r.child_is))))
+      (nameless-moved_over v moving.entry.line r.at (row_to q moving.parent moving.entry.child) o.target.line u.at (one_name v world.valid.stands.sane u.at.child) r.is u.is (sym r.child_is) (λ one. can.apart (sym u.child_is ∙ (one ∙ r.child_is))))
 
   may : MayDrop o.target.child (renamed_over_file moving.entry.line (row_to q moving.parent moving.entry.child) o.target.line v)
   may = record {

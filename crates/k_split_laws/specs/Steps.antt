@@ -14,9 +14,9 @@ use Rattle.world_write_laws.specs.world_step_laws.image_model.Live.{is_directory
 use Rattle.world_write_laws.specs.world_step_laws.image_model.Reading.{node_set}
 use Rattle.world_write_laws.specs.world_step_laws.image_model.Volume.{inode, Volume}
 use Rattle.world_write_laws.specs.world_step_laws.volume_laws.Uses.{HasAllMaps}
-use Rattle.world_write_laws.specs.world_step_laws.volume_change_laws.CallLaws.{row_to}
+use Rattle.world_write_laws.specs.world_step_laws.volume_change_laws.CallLaws.{IsRowFound, row_to}
 use Rattle.world_write_laws.specs.world_step_laws.volume_change_laws.Changes.{MayDrop}
-use Rattle.world_write_laws.specs.world_step_laws.volume_change_laws.FoundLaws.{free-found, IsLowestFree, IsRowFound}
+use Rattle.world_write_laws.specs.world_step_laws.volume_change_laws.FoundLaws.{free-found, IsLowestFree}
 use Rattle.world_write_laws.specs.world_step_laws.volume_change_laws.FrameLaws.{dropped-others}
 use Rattle.world_write_laws.specs.world_step_laws.k_split_model.ChangesChanges.{dropped, gone_node, made, unnamed}
 use Rattle.world_write_laws.specs.world_step_laws.k_split_model.Spaces.{volume_space}
@@ -32,7 +32,7 @@ use Rattle.world_write_laws.specs.world_step_laws.posix_spec.State.{alone, space
 use Rattle.world_write_laws.specs.world_step_laws.posix_spec.Step.{stepped, unlink_done}
 use Rattle.world_write_laws.specs.world_step_laws.world_model.Jobs.{Job}
 use Rattle.world_write_laws.specs.world_step_laws.world_model.Stands.{is_used, IsUsed, number}
-use Rattle.world_write_laws.specs.world_step_laws.world_model.TreeRules.{used_below}
+use Rattle.world_write_laws.specs.world_step_laws.world_model.TreeRules.{one_name, used_below}
 use Rattle.world_write_laws.specs.world_step_laws.Mirrors.{Mirrors}
 use Rattle.world_write_laws.specs.world_step_laws.Rows.{HaveSameRows-Mirrors}
 use Rattle.world_write_laws.specs.world_step_laws.GoneCalls.{IsWorld-dropped}
@@ -171,7 +171,7 @@ unlinks_file v d claims jobs numbers s count p w ino device is =
       r = row_of v p is.entry.parent is.entry.line is.entry.child found
 
       nameless : IsNameless (slice_set v.names is.entry.line None) is.entry.child
-      nameless = subst (IsNameless (slice_set v.names is.entry.line None)) r.child_is (nameless-freed v is.entry.line r.at world.valid.stands.sane r.is)
+      nameless = subst (IsNameless (slice_set v.names is.entry.line None)) r.child_is (nameless-freed v is.entry.line r.at (one_name v world.valid.stands.sane r.at.child) r.is)
 
       may : MayDrop is.entry.child (unnamed is.entry.line v)
       may = record {

@@ -24,8 +24,9 @@ use Rattle.name_laws.specs.image_model.Live.{is_directory}
 use Rattle.name_laws.specs.image_model.Reading.{Reads, slot_for}
 use Rattle.name_laws.specs.image_model.Rules.{IsInData, IsKindAt, file_blocks_of}
 use Rattle.name_laws.specs.image_model.Volume.{Volume, extents, free_inode, inode}
+use Rattle.name_laws.specs.k_split_model.Spaces.{is_directory_in}
 use Rattle.name_laws.specs.ForestLaws.{up-parent, up-top}
-use Rattle.name_laws.specs.KeptLaws.{HasAllLines, kept-forest, kept-keyed, kept-named, kept-placed, reads-all_lines}
+use Rattle.name_laws.specs.KeptLaws.{HasAllLines, kept-forest, kept-keyed, kept-named, kept-one_name, kept-placed, reads-all_lines}
 use Rattle.name_laws.specs.RowLaws.{row-below}
 use Rattle.posix_laws.specs.posix_tables.Names.{longest_path}
 use Rattle.name_laws.specs.TreeLaws.{one-depth, up-of_walk}
@@ -97,7 +98,7 @@ module _ (g : Geometry) (f : Words) (v : Volume) (d : List Cell) (is : IsGeometr
   short (name ∷ names) ino leads = by (parent_of v.names ino) refl
     where
       back : up v.names (suc (length names)) ino ≡ Some 0
-      back = up-of_walk v.names 0 (name ∷ names) ino (kept-forest v kept all) leads
+      back = up-of_walk (is_directory_in v.inodes) v.names 0 (name ∷ names) ino (kept-forest v kept all) (kept-one_name v kept all ino) leads
 
       by : (o : Option ℕ) → parent_of v.names ino ≡ o → suc (length names) ≤ longest_path
       by None none = absurd (none-some (up v.names (suc (length names)) ino) 0 (up-top v.names (length names) ino none) back)
@@ -106,7 +107,7 @@ module _ (g : Geometry) (f : Words) (v : Volume) (d : List Cell) (is : IsGeometr
           let steps : (n : ℕ) × (n < 16) × (up v.names n named.1.at.parent ≡ Some 0) = (kept-placed v named.1.line named.1.at kept all named.1.is).steps in
           let at_p : up v.names steps.0 p ≡ Some 0 = ap (up v.names steps.0) (sym named.1.parent_is) ∙ steps.2 in
           let depth : suc (length names) ≡ suc steps.0 =
-          one-depth v.names (suc (length names)) (suc steps.0) ino 0 (kept-forest v kept all) back (up-parent v.names steps.0 ino p above ∙ at_p) in
+          one-depth (is_directory_in v.inodes) v.names (suc (length names)) (suc steps.0) ino 0 (kept-forest v kept all) back (up-parent v.names steps.0 ino p above ∙ at_p) in
           omega (arith, depth, steps.1)
 
   pub has-tree : length d ≡ 512 * g.blocks → AllHome d → HasTree v.inodes v.names v.maps d

@@ -1,29 +1,49 @@
 -- Laws of going up, and of trees of names, where one line is taken, freed or moved.
-use Rattle.std.specs.Prelude.{◌≡◌, ◌≢◌, ◌⊎◌, ℕ, zero, suc, ◌+◌, ◌<◌, ◌≤◌, length, true, false, slice_set, Option, Some, None, option_and_then, refl}
+use Rattle.std.specs.Prelude.{◌≡◌, ◌≢◌, ◌⊎◌, ℕ, zero, suc, ◌+◌, ◌<◌, Bool, length, true, false, slice_set, Option, Some, None, option_and_then, refl}
 use Rattle.std.proofs.Common.{arith, ap, sym, ◌∙◌, subst, inl, inr}
-use Rattle.std.proofs.lemmas.Bool.{both_ways, cases_eq, eq-eqb, ne_eqb}
+use Rattle.std.proofs.lemmas.Bool.{both_ways, cases_Bool, cases_eq, eq-eqb, ne_eqb}
 use Rattle.std.proofs.lemmas.Option.{option_and_then_some, same_Some}
 use Rattle.volume_laws.specs.layout_model.Lines.{NameRow}
-use Rattle.volume_laws.specs.layout_model.Names.{Rows, row, is_entry, is_child, names_of, has_entries, parent_of, up}
+use Rattle.volume_laws.specs.layout_model.Names.{Rows, row, is_below_parent, is_entry, is_child, names_of, has_entries, parent_of, up}
 use Rattle.volume_laws.specs.layout_model.TableLaws.{NamingLine-parent_of}
 use Rattle.volume_laws.specs.layout_model.Tables.{IsAcyclic}
 use Rattle.volume_laws.specs.layout_model.UpLaws.{HasOneNameEach, up-add, IsAcyclic-from_up}
 use Rattle.name_laws.specs.Forests.{EndsUpwards, IsForest, SameAbove, DoesNotMeet, MeetsFirst}
-use Rattle.name_laws.specs.RowLaws.{has_entries-line, names_of-one_line}
-use Rattle.name_laws.specs.SetLaws.{keyed-set, keyed-freed, names_of-taken, names_of-freed, names_of-moved, has_entries-taken_other, has_entries-freed_other, parent_of-taken_other, parent_of-freed_other, parent_of-moved_other, parent_of-taken, parent_of-moved}
+use Rattle.name_laws.specs.RowLaws.{has_entries-line, has_entries-none, names_of-one_line}
+use Rattle.name_laws.specs.SetLaws.{row-cases, row-freed, keyed-set, keyed-freed, names_of-taken, names_of-freed, names_of-moved, has_entries-taken_other, has_entries-freed_other, parent_of-taken_other, parent_of-freed_other, parent_of-moved_other, parent_of-taken, parent_of-moved}
 use Rattle.volume_laws.specs.Lists.{one_if}
 
 -- ---- a tree of names is what a table of names asks for
 
-pub forest-one_name_each : (rows : Rows) → ((ino : ℕ) → names_of rows ino ≤ 1) → HasOneNameEach rows
-forest-one_name_each rows few = record {
+-- what is no directory has no entries
+pub forest-plain : (directory : ℕ → Bool) (rows : Rows) (ino : ℕ) → IsForest directory rows → directory ino ≡ false
+    → has_entries rows ino ≡ false
+forest-plain directory rows ino forest plain = has_entries-none rows ino (λ k. by k (row rows k) refl)
+  where
+    by : (k : ℕ) (o : Option NameRow) → row rows k ≡ o → is_below_parent ino (row rows k) ≡ false
+    by k None is = ap (is_below_parent ino) is
+    by k (Some r) is =
+        ap (is_below_parent ino) is
+        ∙ ne_eqb r.parent ino (λ e. both_ways (directory ino) plain (sym (ap directory e) ∙ forest.parents k r is))
+
+-- what has entries is a directory
+pub forest-directory : (directory : ℕ → Bool) (rows : Rows) (ino : ℕ) → IsForest directory rows → has_entries rows ino ≡ true
+    → directory ino ≡ true
+forest-directory directory rows ino forest some = elim (cases_Bool (directory ino)) [
+  | inl is ↦ is
+  | inr plain ↦ absurd (both_ways (has_entries rows ino) (forest-plain directory rows ino forest plain) some)
+]
+
+pub forest-one_name_each : (directory : ℕ → Bool) (rows : Rows) → IsForest directory rows → HasOneNameEach rows
+forest-one_name_each directory rows forest = record {
   one_line = λ j k r s is_r is_s same entries.
-      names_of-one_line rows s.child j k (few s.child) (ap (is_child s.child) is_r ∙ eq-eqb r.child s.child same)
-      (ap (is_child s.child) is_s ∙ eq-eqb s.child s.child refl);
+      let some : has_entries rows s.child ≡ true = sym (ap (has_entries rows) same) ∙ entries in
+      names_of-one_line rows s.child j k (forest.one_name s.child (forest-directory directory rows s.child forest some))
+      (ap (is_child s.child) is_r ∙ eq-eqb r.child s.child same) (ap (is_child s.child) is_s ∙ eq-eqb s.child s.child refl);
 }
 
-pub forest-acyclic : (rows : Rows) → IsForest rows → IsAcyclic rows
-forest-acyclic rows forest = IsAcyclic-from_up rows (forest-one_name_each rows forest.one_name) forest.ends
+pub forest-acyclic : (directory : ℕ → Bool) (rows : Rows) → IsForest directory rows → IsAcyclic rows
+forest-acyclic directory rows forest = IsAcyclic-from_up rows (forest-one_name_each directory rows forest) forest.ends
 
 -- ---- going up
 
@@ -168,17 +188,24 @@ ends-moved rows others child p same is outside ends ino =
 
 -- ---- trees
 
--- A line is taken for a child without names and entries.
-pub forest-taken : (rows : Rows) (line : ℕ) (r : NameRow) → line < length rows → row rows line ≡ None
-    → ((k : ℕ) → is_entry r.parent r.name (row rows k) ≡ false)
-    → names_of rows r.child ≡ 0 → has_entries rows r.child ≡ false → r.parent ≢ r.child → IsForest rows
-    → IsForest (slice_set rows line (Some r))
-forest-taken rows line r within free new unnamed empty apart forest = record {
+-- A line is taken in a directory for a child without entries, which has no name yet if it is a directory.
+pub forest-taken : (directory : ℕ → Bool) (rows : Rows) (line : ℕ) (r : NameRow) → line < length rows → row rows line ≡ None
+    → ((k : ℕ) → is_entry r.parent r.name (row rows k) ≡ false) → directory r.parent ≡ true
+    → (directory r.child ≡ true → names_of rows r.child ≡ 0) → has_entries rows r.child ≡ false → r.parent ≢ r.child
+    → IsForest directory rows → IsForest directory (slice_set rows line (Some r))
+forest-taken directory rows line r within free new above unnamed empty apart forest = record {
   keyed = keyed-set rows line r forest.keyed
       (λ k entry. absurd (both_ways (is_entry r.parent r.name (row rows k)) (new k) entry));
-  one_name = λ ino. elim (cases_eq r.child ino) [
-    | inl same ↦ omega (arith, names_of-taken rows line r ino within free, ap (names_of rows) same, unnamed, ap one_if (eq-eqb r.child ino same))
-    | inr other ↦ omega (arith, names_of-taken rows line r ino within free, forest.one_name ino, ap one_if (ne_eqb r.child ino other))
+  parents = λ k t is. elim (row-cases rows line r k t within is) [
+    | inl same ↦ ap (λ (x : NameRow). directory x.parent) (sym same) ∙ above
+    | inr other ↦ forest.parents k t other.1
+  ];
+  one_name = λ ino is. elim (cases_eq r.child ino) [
+    | inl same ↦
+        let none : names_of rows r.child ≡ 0 = unnamed (ap directory same ∙ is) in
+        omega (arith, names_of-taken rows line r ino within free, ap (names_of rows) same, none, ap one_if (eq-eqb r.child ino same))
+    | inr other ↦
+        omega (arith, names_of-taken rows line r ino within free, forest.one_name ino is, ap one_if (ne_eqb r.child ino other))
   ];
   ends = ends-empty rows (slice_set rows line (Some r)) r.child
       (λ ino other. parent_of-taken_other rows line r ino free (λ e. other (sym e))) empty
@@ -186,28 +213,53 @@ forest-taken rows line r within free new unnamed empty apart forest = record {
 }
 
 -- A line is freed of a child without entries.
-pub forest-freed : (rows : Rows) (line : ℕ) (r : NameRow) → line < length rows → row rows line ≡ Some r
-    → has_entries rows r.child ≡ false → IsForest rows → IsForest (slice_set rows line None)
-forest-freed rows line r within is empty forest =
+pub forest-freed : (directory : ℕ → Bool) (rows : Rows) (line : ℕ) (r : NameRow) → line < length rows → row rows line ≡ Some r
+    → has_entries rows r.child ≡ false → IsForest directory rows → IsForest directory (slice_set rows line None)
+forest-freed directory rows line r within is empty forest =
     let apart : r.parent ≢ r.child = λ e. both_ways (has_entries rows r.child) empty (has_entries-line rows r.child line r is e) in
     record {
       keyed = keyed-freed rows line forest.keyed;
-      one_name = λ ino. omega (arith, names_of-freed rows line r ino within is, forest.one_name ino);
+      parents = λ k t there. forest.parents k t (row-freed rows line k t there).1;
+      one_name = λ ino its. omega (arith, names_of-freed rows line r ino within is, forest.one_name ino its);
       ends = ends-empty rows (slice_set rows line None) r.child
           (λ ino other. parent_of-freed_other rows line r ino is (λ e. other (sym e))) empty
           (has_entries-freed_other rows line r r.child is apart ∙ empty) forest.ends;
     }
 
--- A line goes over to another parent or name of its child, to no directory below the child.
-pub forest-moved : (rows : Rows) (line : ℕ) (r s : NameRow) → line < length rows → row rows line ≡ Some r
-    → s.child ≡ r.child → ((k : ℕ) → is_entry s.parent s.name (row rows k) ≡ true → k ≡ line)
-    → ((m : ℕ) → up rows m s.parent ≢ Some r.child) → IsForest rows → IsForest (slice_set rows line (Some s))
-forest-moved rows line r s within is same new outside forest = record {
+-- A line goes over to another parent or name of its child, to a directory that is not below the child.
+pub forest-moved : (directory : ℕ → Bool) (rows : Rows) (line : ℕ) (r s : NameRow) → line < length rows → row rows line ≡ Some r
+    → s.child ≡ r.child → ((k : ℕ) → is_entry s.parent s.name (row rows k) ≡ true → k ≡ line) → directory s.parent ≡ true
+    → ((m : ℕ) → up rows m s.parent ≢ Some r.child) → IsForest directory rows → IsForest directory (slice_set rows line (Some s))
+forest-moved directory rows line r s within is same new above outside forest = record {
   keyed = keyed-set rows line s forest.keyed new;
-  one_name = λ ino. omega (arith, names_of-moved rows line r s ino within is same, forest.one_name ino);
-  ends = ends-moved rows (slice_set rows line (Some s)) r.child s.parent
-      (λ ino other. parent_of-moved_other rows line r s ino is same (λ e. other (sym e)))
-      (ap (parent_of (slice_set rows line (Some s))) (sym same)
-      ∙ parent_of-moved rows line r s within is same (forest.one_name r.child))
-      outside forest.ends;
+  parents = parents;
+  one_name = λ ino its. omega (arith, names_of-moved rows line r s ino within is same, forest.one_name ino its);
+  ends = elim (cases_Bool (directory r.child)) [
+    | inl its ↦
+        ends-moved rows moved r.child s.parent above_same
+        (ap (parent_of moved) (sym same) ∙ parent_of-moved rows line r s within is same (forest.one_name r.child its))
+        outside forest.ends
+    | inr plain ↦
+        ends-empty rows moved r.child above_same (forest-plain directory rows r.child forest plain)
+        (has_entries-none moved r.child (λ k. by k (row moved k) refl plain)) forest.ends
+  ];
 }
+  where
+    moved : Rows
+    moved = slice_set rows line (Some s)
+
+    above_same : SameAbove r.child rows moved
+    above_same ino other = parent_of-moved_other rows line r s ino is same (λ e. other (sym e))
+
+    parents : (k : ℕ) (t : NameRow) → row moved k ≡ Some t → directory t.parent ≡ true
+    parents k t there = elim (row-cases rows line s k t within there) [
+      | inl own ↦ ap (λ (x : NameRow). directory x.parent) (sym own) ∙ above
+      | inr other ↦ forest.parents k t other.1
+    ]
+
+    -- nothing is below what is no directory
+    by : (k : ℕ) (o : Option NameRow) → row moved k ≡ o → directory r.child ≡ false → is_below_parent r.child (row moved k) ≡ false
+    by k None there plain = ap (is_below_parent r.child) there
+    by k (Some t) there plain =
+        ap (is_below_parent r.child) there
+        ∙ ne_eqb t.parent r.child (λ e. both_ways (directory r.child) plain (sym (ap directory e) ∙ parents k t there))

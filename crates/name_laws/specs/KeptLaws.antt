@@ -15,6 +15,7 @@ use Rattle.volume_laws.specs.image_model.Live.{is_file, is_directory}
 use Rattle.volume_laws.specs.image_model.Reading.{Reads}
 use Rattle.volume_laws.specs.image_model.Rules.{IsNamed, IsPlaced, IsRowPlaced}
 use Rattle.volume_laws.specs.image_model.Volume.{Volume, free_inode, inode}
+use Rattle.k_split_model.specs.Spaces.{is_directory_in}
 use Rattle.name_laws.specs.Forests.{EndsUpwards, IsForest}
 use Rattle.name_laws.specs.ForestLaws.{forest-acyclic, up-parent, up-top}
 use Rattle.name_laws.specs.RowLaws.{row-below, names_of-none}
@@ -105,9 +106,13 @@ kept-ends v kept all ino = by (parent_of v.names ino) refl
               ∙ up-past v.names steps.0 (suc steps.0) p 0 at_p top (omega arith),
         )
 
-pub kept-forest : (v : Volume) → AreKept v → HasAllLines v → IsForest v.names
-kept-forest v kept all =
-    record { keyed = kept-keyed v kept all; one_name = kept-one_name v kept all; ends = kept-ends v kept all }
+pub kept-forest : (v : Volume) → AreKept v → HasAllLines v → IsForest (is_directory_in v.inodes) v.names
+kept-forest v kept all = record {
+  keyed = kept-keyed v kept all;
+  parents = λ line r is. (kept-placed v line r kept all is).parent;
+  one_name = λ ino directory. kept-one_name v kept all ino;
+  ends = kept-ends v kept all;
+}
 
 pub kept-acyclic : (v : Volume) → AreKept v → HasAllLines v → IsAcyclic v.names
-kept-acyclic v kept all = forest-acyclic v.names (kept-forest v kept all)
+kept-acyclic v kept all = forest-acyclic (is_directory_in v.inodes) v.names (kept-forest v kept all)

@@ -1,21 +1,22 @@
 -- The chief laws of tables of names, each as one statement.
-use Rattle.std.specs.Prelude.{◌≡◌, ◌≢◌, ◌⊎◌, ℕ, suc, ◌+◌, ◌<◌, ◌≤◌, ◌==◌, List, length, true, false, cond, slice_set, Option, Some, None}
+use Rattle.std.specs.Prelude.{◌≡◌, ◌≢◌, ◌⊎◌, ℕ, suc, ◌+◌, ◌<◌, ◌≤◌, ◌==◌, Bool, List, length, true, false, cond, slice_set, Option, Some, None}
 use Rattle.std.specs.List.{count_by}
 use Rattle.volume_laws.specs.layout_model.Lines.{NameRow}
 use Rattle.volume_laws.specs.layout_model.Names.{Rows, row, is_entry, is_free_row, find_name, child_named, names_of, has_entries, parent_of, up, walk}
 use Rattle.volume_laws.specs.layout_model.Tables.{IsKeyed, IsAcyclic}
 use Rattle.volume_laws.specs.image_model.Kept.{AreKept}
 use Rattle.volume_laws.specs.image_model.Volume.{Volume}
+use Rattle.k_split_model.specs.Spaces.{is_directory_in}
 use Rattle.name_laws.specs.Forests.{IsForest, SameAbove, MeetsFirst}
 use Rattle.name_laws.specs.KeptLaws.{HasAllLines}
 use Rattle.volume_laws.specs.Lists.{one_if}
 
 -- the names of a sane volume are what a table of names asks for
 abbrev pub AreTrees : Type 0
-AreTrees = (v : Volume) → AreKept v → HasAllLines v → IsForest v.names
+AreTrees = (v : Volume) → AreKept v → HasAllLines v → IsForest (is_directory_in v.inodes) v.names
 
 abbrev pub HaveNoWayBack : Type 0
-HaveNoWayBack = (rows : Rows) → IsForest rows → IsAcyclic rows
+HaveNoWayBack = (directory : ℕ → Bool) (rows : Rows) → IsForest directory rows → IsAcyclic rows
 
 -- ---- a line that was free is taken, for a name that is new
 
@@ -45,12 +46,13 @@ LiesAbove =
     (rows : Rows) (line : ℕ) (r : NameRow) → line < length rows → row rows line ≡ None → names_of rows r.child ≡ 0
     → parent_of (slice_set rows line (Some r)) r.child ≡ Some r.parent
 
+-- of what is no directory the forest may have more names
 abbrev pub StaysForestTaken : Type 0
 StaysForestTaken =
-    (rows : Rows) (line : ℕ) (r : NameRow) → line < length rows → row rows line ≡ None
-    → ((k : ℕ) → is_entry r.parent r.name (row rows k) ≡ false)
-    → names_of rows r.child ≡ 0 → has_entries rows r.child ≡ false → r.parent ≢ r.child → IsForest rows
-    → IsForest (slice_set rows line (Some r))
+    (directory : ℕ → Bool) (rows : Rows) (line : ℕ) (r : NameRow) → line < length rows → row rows line ≡ None
+    → ((k : ℕ) → is_entry r.parent r.name (row rows k) ≡ false) → directory r.parent ≡ true
+    → (directory r.child ≡ true → names_of rows r.child ≡ 0) → has_entries rows r.child ≡ false → r.parent ≢ r.child
+    → IsForest directory rows → IsForest directory (slice_set rows line (Some r))
 
 -- ---- a line is freed
 
@@ -71,9 +73,9 @@ HasNoneAbove =
 
 abbrev pub StaysForestFreed : Type 0
 StaysForestFreed =
-    (rows : Rows) (line : ℕ) (r : NameRow) → line < length rows → row rows line ≡ Some r
-    → has_entries rows r.child ≡ false → IsForest rows
-    → IsForest (slice_set rows line None)
+    (directory : ℕ → Bool) (rows : Rows) (line : ℕ) (r : NameRow) → line < length rows → row rows line ≡ Some r
+    → has_entries rows r.child ≡ false → IsForest directory rows
+    → IsForest directory (slice_set rows line None)
 
 -- ---- elsewhere
 
@@ -126,9 +128,10 @@ GoesUpThrough =
 -- a directory may move to any that is not below it
 abbrev pub StaysForestMoved : Type 0
 StaysForestMoved =
-    (rows : Rows) (line : ℕ) (r s : NameRow) → line < length rows → row rows line ≡ Some r → s.child ≡ r.child
-    → ((k : ℕ) → is_entry s.parent s.name (row rows k) ≡ true → k ≡ line) → ((m : ℕ) → up rows m s.parent ≢ Some r.child)
-    → IsForest rows → IsForest (slice_set rows line (Some s))
+    (directory : ℕ → Bool) (rows : Rows) (line : ℕ) (r s : NameRow) → line < length rows → row rows line ≡ Some r
+    → s.child ≡ r.child → ((k : ℕ) → is_entry s.parent s.name (row rows k) ≡ true → k ≡ line)
+    → directory s.parent ≡ true → ((m : ℕ) → up rows m s.parent ≢ Some r.child)
+    → IsForest directory rows → IsForest directory (slice_set rows line (Some s))
 
 -- one free line less where one is taken
 abbrev pub CountsFreeLines : Type 0

@@ -1,5 +1,5 @@
 -- What the look-ups of a table find after one line was taken, which was free, or freed; and what they find elsewhere.
-use Rattle.std.specs.Prelude.{◌≡◌, ◌≢◌, ℕ, ◌+◌, ◌<◌, ◌≤◌, ◌==◌, List, length, true, false, cond, slice_set, Option, Some, None, option_and_then, refl}
+use Rattle.std.specs.Prelude.{◌≡◌, ◌≢◌, ◌⊎◌, ℕ, ◌+◌, ◌<◌, ◌≤◌, ◌==◌, List, length, true, false, cond, slice_set, Option, Some, None, option_and_then, refl}
 use Rattle.std.specs.List.{count_by}
 use Rattle.std.proofs.Common.{arith, ap, sym, ◌∙◌, inl, inr}
 use Rattle.std.proofs.lemmas.Bool.{cases_eq, cases_lt, cases_Bool, cond-true, cond-false, eq-eqb, ne_eqb, false_from_ne_true}
@@ -64,6 +64,19 @@ keyed-set rows line r keyed new = record { one_line = one }
         | inr k_apart ↦ keyed.one_line parent name j k (was parent name j j_apart first) (was parent name k k_apart second)
       ]
     ]
+
+-- a row of a table in which a line was set is the one that was set, or one of another line
+pub row-cases : (rows : Rows) (line : ℕ) (s : NameRow) (k : ℕ) (t : NameRow) → line < length rows
+    → row (slice_set rows line (Some s)) k ≡ Some t → (s ≡ t) ⊎ ((k ≢ line) × (row rows k ≡ Some t))
+row-cases rows line s k t within is = elim (cases_eq k line) [
+  | inl here ↦
+      let own : row (slice_set rows line (Some s)) k ≡ Some s =
+      ap (row (slice_set rows line (Some s))) here ∙ row-set_same rows line (Some s) within
+      in
+      let both : Some s ≡ Some t = sym own ∙ is in
+      inl cc
+  | inr apart ↦ inr (apart, sym (row-set_other rows line (Some s) k apart) ∙ is)
+]
 
 -- where a line is freed each line of the table is one of before
 pub row-freed : (rows : Rows) (line k : ℕ) (r : NameRow) → row (slice_set rows line None) k ≡ Some r

@@ -1,6 +1,6 @@
 -- The chief laws of the space of a volume, each as one statement.
 use Rattle.std.specs.Prelude.{◌≡◌, ◌≢◌, ◌<◌, ◌≤◌, ℕ, ◌+◌, List, [], ◌∷◌, ◌++◌, length, Bool, true, false, Some, None, Ok}
-use Rattle.k_split_model.specs.layout_model.Names.{Rows, child_named, up, walk, has_entries as has_rows}
+use Rattle.k_split_model.specs.layout_model.Names.{Rows, child_named, names_of, up, walk, has_entries as has_rows}
 use Rattle.k_split_model.specs.Spaces.{entries_of}
 use Rattle.name_laws.specs.Forests.{IsForest}
 use Rattle.k_split_model.specs.posix_types.declared.reply.What.{What}
@@ -42,17 +42,18 @@ BoundsPaths =
 
 -- ---- trees
 
--- from one inode to another there is one path
+-- from one inode to another that has at most one name, as each directory has, there is one path
 abbrev pub HasOnePath : Type 0
 HasOnePath =
-    (rows : Rows) (ino : ℕ) (xs ys : List (List ℕ)) (end : ℕ) → IsForest rows → walk rows ino xs ≡ Some end
-    → walk rows ino ys ≡ Some end
+    (directory : ℕ → Bool) (rows : Rows) (ino : ℕ) (xs ys : List (List ℕ)) (end : ℕ) → IsForest directory rows
+    → names_of rows end ≤ 1 → walk rows ino xs ≡ Some end → walk rows ino ys ≡ Some end
     → xs ≡ ys
 
--- a path whose end lies below an inode begins with the path of that inode
+-- a path whose end, with at most one name, lies below an inode begins with the path of that inode
 abbrev pub BeginsWithPath : Type 0
 BeginsWithPath =
-    (rows : Rows) (p q : List (List ℕ)) (name : List ℕ) (child end m : ℕ) → IsForest rows → walk rows 0 p ≡ Some child
+    (directory : ℕ → Bool) (rows : Rows) (p q : List (List ℕ)) (name : List ℕ) (child end m : ℕ) → IsForest directory rows
+    → names_of rows end ≤ 1 → walk rows 0 p ≡ Some child
     → walk rows 0 q ≡ Some end → up rows m end ≡ Some child → is_below (q ++ (name ∷ [])) p ≡ true
 
 -- ---- where no row fits

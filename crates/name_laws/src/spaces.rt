@@ -21,7 +21,7 @@ pub fn entries_are_rows()
     ensures heights { BoundsPaths }
 {}
 
-/// Each inode of a tree has one path.
+/// Each directory of a tree has one path, and so has each other inode of one name.
 pub fn trees_have_one_path()
     ensures one { HasOnePath }
     ensures begins { BeginsWithPath }

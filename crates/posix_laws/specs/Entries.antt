@@ -3,6 +3,7 @@ use Rattle.std.specs.Prelude.{◌≡◌, ◌≢◌, ◌⊎◌, ◌≤◌, ℕ, z
 use Rattle.std.specs.Option.{option_map_or}
 use Rattle.std.proofs.Common.{arith, ap, ◌∙◌, sym, subst, inl, inr, le_refl}
 use Rattle.std.proofs.lemmas.Bool.Decides.{Decides-eqb}
+use Rattle.std.proofs.lemmas.List.{same_from_push}
 use Rattle.std.proofs.lemmas.Option.{same_Some}
 use Rattle.posix_spec.specs.posix_tables.declared.nodes.DirEntry.{DirEntry}
 use Rattle.posix_spec.specs.posix_tables.Lookups.{AreDistinct, entry_of, none_mapped}
@@ -17,12 +18,23 @@ abbrev pub IsDeep : List DirEntry → ℕ → ℕ → Type 0
 IsDeep entries zero d = d ≡ 0
 IsDeep entries (suc n) d = (e : DirEntry) × In e entries × (e.child ≡ d) × IsDeep entries n e.parent
 
+-- an entry stands in the directory
+pub record HoldsEntry (entries : List DirEntry) (d : ℕ) : Type 0 where
+  pub entry : DirEntry
+  pub is : In entry entries
+  pub parent_is : entry.parent ≡ d
+
+-- so one does in the directory of an entry
+holds_own : (entries : List DirEntry) (e : DirEntry) → In e entries → HoldsEntry entries e.parent
+holds_own entries e is = record { entry = e; is = is; parent_is = refl }
+
 -- The entries are those of a tree: no two have one directory and one name, none leads to the root, no two lead to one
--- node, going up from each comes to the root, and names are plain.
+-- directory in which an entry stands, going up from each comes to the root, and names are plain. Files may have several
+-- entries.
 pub record IsTreeLike (entries : List DirEntry) : Type 0 where
   pub distinct : AreDistinct entries
   pub root : (e : DirEntry) → In e entries → e.child ≢ 0
-  pub one : (a b : DirEntry) → In a entries → In b entries → a.child ≡ b.child → a ≡ b
+  pub one : (d : ℕ) (a b : DirEntry) → HoldsEntry entries d → In a entries → In b entries → a.child ≡ d → b.child ≡ d → a ≡ b
   pub deep : (e : DirEntry) → In e entries → (n : ℕ) × IsDeep entries n e.parent
   pub names : (e : DirEntry) → In e entries → IsPlainName e.name
 
@@ -57,13 +69,13 @@ few (x ∷ xs) ys different among =
 
 -- Ways up.
 
-pub deep_same : (entries : List DirEntry) → IsTreeLike entries → (n m d : ℕ) → IsDeep entries n d → IsDeep entries m d → n ≡ m
-deep_same entries like zero zero d first second = refl
-deep_same entries like zero (suc m) d first second = absurd (like.root second.0 second.1 (second.2 ∙ first))
-deep_same entries like (suc n) zero d first second = absurd (like.root first.0 first.1 (first.2 ∙ second))
-deep_same entries like (suc n) (suc m) d first second =
-    let same : second.0 ≡ first.0 = like.one second.0 first.0 second.1 first.1 (second.2 ∙ sym first.2) in
-    ap suc (deep_same entries like n m first.0.parent first.3 (subst (λ (e : DirEntry). IsDeep entries m e.parent) same second.3))
+pub deep_same : (entries : List DirEntry) → IsTreeLike entries → (n m d : ℕ) → HoldsEntry entries d → IsDeep entries n d → IsDeep entries m d → n ≡ m
+deep_same entries like zero zero d holds first second = refl
+deep_same entries like zero (suc m) d holds first second = absurd (like.root second.0 second.1 (second.2 ∙ first))
+deep_same entries like (suc n) zero d holds first second = absurd (like.root first.0 first.1 (first.2 ∙ second))
+deep_same entries like (suc n) (suc m) d holds first second =
+    let same : second.0 ≡ first.0 = like.one d second.0 first.0 holds second.1 first.1 second.2 first.2 in
+    ap suc (deep_same entries like n m first.0.parent (holds_own entries first.0 first.1) first.3 (subst (λ (e : DirEntry). IsDeep entries m e.parent) same second.3))
 
 -- going up one meets an entry once
 deep_within : (entries : List DirEntry) → IsTreeLike entries → (n d : ℕ) (seen : List DirEntry) → IsDeep entries n d → AreDifferent seen
@@ -74,7 +86,7 @@ deep_within entries like (suc n) d seen deep different among above =
       new : In deep.0 seen → ⊥
       new is =
           let its = above deep.0 is in
-          omega (arith, its.1, deep_same entries like its.0 n deep.0.parent its.2 deep.3)
+          omega (arith, its.1, deep_same entries like its.0 n deep.0.parent (holds_own entries deep.0 deep.1) its.2 deep.3)
 
       among_more : (x : DirEntry) → In x (deep.0 ∷ seen) → In x entries
       among_more x (inl same) = subst (λ (y : DirEntry). In y entries) same deep.1
@@ -122,14 +134,14 @@ Leads-child_of entries parent name child leads = by (find (is_entry parent name)
       let key = entry_of parent name e it.1 in
       record { entry = e; is = it.0; parent_is = key.0; name_is = key.1; child_is = same_Some e.child child is }
 
--- the entry of a child
-find_own : (entries : List DirEntry) → IsTreeLike entries → (d : ℕ) (e : DirEntry) → In e entries → e.child ≡ d → find (λ (x : DirEntry). x.child == d) entries ≡ Some e
-find_own entries like d e there is = by (find (λ (x : DirEntry). x.child == d) entries) refl where
+-- the entry of a directory
+find_own : (entries : List DirEntry) → IsTreeLike entries → (d : ℕ) (e : DirEntry) → HoldsEntry entries d → In e entries → e.child ≡ d → find (λ (x : DirEntry). x.child == d) entries ≡ Some e
+find_own entries like d e holds there is = by (find (λ (x : DirEntry). x.child == d) entries) refl where
   by : (o : Option DirEntry) → find (λ (x : DirEntry). x.child == d) entries ≡ o → o ≡ Some e
   by None none = absurd (find-none (λ (x : DirEntry). x.child == d) entries e none there ((Decides-eqb e.child d).1 is))
   by (Some x) found =
       let it = find-In (λ (y : DirEntry). y.child == d) entries x found in
-      ap Some (like.one x e it.0 there ((Decides-eqb x.child d).0 it.1 ∙ sym is))
+      ap Some (like.one d x e holds it.0 there ((Decides-eqb x.child d).0 it.1) is)
 
 find_root : (entries : List DirEntry) → IsTreeLike entries → (d : ℕ) → d ≡ 0 → find (λ (x : DirEntry). x.child == d) entries ≡ None
 find_root entries like d root = by (find (λ (x : DirEntry). x.child == d) entries) refl where
@@ -147,21 +159,21 @@ path_to-root entries like zero d root = refl
 path_to-root entries like (suc most) d root =
     ap (λ o. option_map_or (λ (entry : DirEntry). path_to entries most entry.parent ++ entry.name ∷ []) o []) (find_root entries like d root)
 
-path_to-below : (entries : List DirEntry) → IsTreeLike entries → (most d : ℕ) (e : DirEntry) → In e entries → e.child ≡ d → path_to entries (suc most) d ≡ path_to entries most e.parent ++ e.name ∷ []
+path_to-below : (entries : List DirEntry) → IsTreeLike entries → (most d : ℕ) (e : DirEntry) → HoldsEntry entries d → In e entries → e.child ≡ d → path_to entries (suc most) d ≡ path_to entries most e.parent ++ e.name ∷ []
 unfolding path_to
-path_to-below entries like most d e there is =
-    ap (λ o. option_map_or (λ (entry : DirEntry). path_to entries most entry.parent ++ entry.name ∷ []) o []) (find_own entries like d e there is)
+path_to-below entries like most d e holds there is =
+    ap (λ o. option_map_or (λ (entry : DirEntry). path_to entries most entry.parent ++ entry.name ∷ []) o []) (find_own entries like d e holds there is)
 
 -- The path of a directory leads to it,
-pub walk_down-path_to : (entries : List DirEntry) → IsTreeLike entries → (n most d : ℕ) → IsDeep entries n d → n ≤ most → walk_down entries 0 (path_to entries most d) ≡ Some d
-walk_down-path_to entries like zero most d deep within =
+pub walk_down-path_to : (entries : List DirEntry) → IsTreeLike entries → (n most d : ℕ) → HoldsEntry entries d → IsDeep entries n d → n ≤ most → walk_down entries 0 (path_to entries most d) ≡ Some d
+walk_down-path_to entries like zero most d holds deep within =
     ap (walk_down entries 0) (path_to-root entries like most d deep) ∙ (walk_down-nil entries 0 ∙ ap Some (sym deep))
-walk_down-path_to entries like (suc n) zero d deep within = absurd (omega (arith, within))
-walk_down-path_to entries like (suc n) (suc most) d deep within =
+walk_down-path_to entries like (suc n) zero d holds deep within = absurd (omega (arith, within))
+walk_down-path_to entries like (suc n) (suc most) d holds deep within =
     let e = deep.0 in
-    ap (walk_down entries 0) (path_to-below entries like most d e deep.1 deep.2)
+    ap (walk_down entries 0) (path_to-below entries like most d e holds deep.1 deep.2)
     ∙ (walk_down-append entries 0 (path_to entries most e.parent) e.name
-    ∙ (ap (λ o. option_and_then (λ at. child_of entries at e.name) o) (walk_down-path_to entries like n most e.parent deep.3 (omega (arith, within)))
+    ∙ (ap (λ o. option_and_then (λ at. child_of entries at e.name) o) (walk_down-path_to entries like n most e.parent (holds_own entries e deep.1) deep.3 (omega (arith, within)))
     ∙ (child_of-In entries e like.distinct deep.1 ∙ ap Some deep.2)))
 
 -- a path that leads to the root, and one that leads to the child of an entry
@@ -182,28 +194,28 @@ led_by entries p q x d more leads =
     record { entry = its.entry; is = its.is; led = ends.led ∙ ap Some (sym its.parent_is); name_is = its.name_is; child_is = its.child_is }
 
 -- and is the only one that does.
-pub path_to-walk_down : (entries : List DirEntry) → IsTreeLike entries → (n most d : ℕ) (p : List (List ℕ)) → IsDeep entries n d → n ≤ most → walk_down entries 0 p ≡ Some d → path_to entries most d ≡ p
-path_to-walk_down entries like zero most d p deep within leads = elim (by_last p) [
+pub path_to-walk_down : (entries : List DirEntry) → IsTreeLike entries → (n most d : ℕ) (p : List (List ℕ)) → HoldsEntry entries d → IsDeep entries n d → n ≤ most → walk_down entries 0 p ≡ Some d → path_to entries most d ≡ p
+path_to-walk_down entries like zero most d p holds deep within leads = elim (by_last p) [
   | inl none ↦ path_to-root entries like most d deep ∙ sym none
   | inr more ↦ let its = led_by entries p more.0 more.1 d more.2 leads in absurd (like.root its.entry its.is (its.child_is ∙ deep))
 ]
-path_to-walk_down entries like (suc n) zero d p deep within leads = absurd (omega (arith, within))
-path_to-walk_down entries like (suc n) (suc most) d p deep within leads = elim (by_last p) [
+path_to-walk_down entries like (suc n) zero d p holds deep within leads = absurd (omega (arith, within))
+path_to-walk_down entries like (suc n) (suc most) d p holds deep within leads = elim (by_last p) [
   | inl none ↦ path_to-root entries like (suc most) d (sym (led_nowhere entries p d none leads)) ∙ sym none
   | inr more ↦
       let its = led_by entries p more.0 more.1 d more.2 leads in
-      let same : deep.0 ≡ its.entry = like.one deep.0 its.entry deep.1 its.is (deep.2 ∙ sym its.child_is) in
-      let above = path_to-walk_down entries like n most its.entry.parent more.0 (subst (λ (e : DirEntry). IsDeep entries n e.parent) same deep.3) (omega (arith, within)) its.led in
-      path_to-below entries like most d its.entry its.is its.child_is ∙ ((λ i. above i ++ its.name_is i ∷ []) ∙ sym more.2)
+      let same : deep.0 ≡ its.entry = like.one d deep.0 its.entry holds deep.1 its.is deep.2 its.child_is in
+      let above = path_to-walk_down entries like n most its.entry.parent more.0 (holds_own entries its.entry its.is) (subst (λ (e : DirEntry). IsDeep entries n e.parent) same deep.3) (omega (arith, within)) its.led in
+      path_to-below entries like most d its.entry holds its.is its.child_is ∙ ((λ i. above i ++ its.name_is i ∷ []) ∙ sym more.2)
 ]
 
 -- its names are plain
-pub path_to-plain : (entries : List DirEntry) → IsTreeLike entries → (n most d : ℕ) → IsDeep entries n d → n ≤ most → ArePlainNames (path_to entries most d)
-path_to-plain entries like zero most d deep within = subst ArePlainNames (sym (path_to-root entries like most d deep)) tt
-path_to-plain entries like (suc n) zero d deep within = absurd (omega (arith, within))
-path_to-plain entries like (suc n) (suc most) d deep within =
-    subst ArePlainNames (sym (path_to-below entries like most d deep.0 deep.1 deep.2))
-    (ArePlainNames-push (path_to entries most deep.0.parent) deep.0.name (path_to-plain entries like n most deep.0.parent deep.3 (omega (arith, within))) (like.names deep.0 deep.1))
+pub path_to-plain : (entries : List DirEntry) → IsTreeLike entries → (n most d : ℕ) → HoldsEntry entries d → IsDeep entries n d → n ≤ most → ArePlainNames (path_to entries most d)
+path_to-plain entries like zero most d holds deep within = subst ArePlainNames (sym (path_to-root entries like most d deep)) tt
+path_to-plain entries like (suc n) zero d holds deep within = absurd (omega (arith, within))
+path_to-plain entries like (suc n) (suc most) d holds deep within =
+    subst ArePlainNames (sym (path_to-below entries like most d deep.0 holds deep.1 deep.2))
+    (ArePlainNames-push (path_to entries most deep.0.parent) deep.0.name (path_to-plain entries like n most deep.0.parent (holds_own entries deep.0 deep.1) deep.3 (omega (arith, within))) (like.names deep.0 deep.1))
 
 -- The path of an entry.
 
@@ -214,14 +226,25 @@ pub walk_down-path_of : (entries : List DirEntry) (e : DirEntry) → IsTreeLike 
 walk_down-path_of entries e like is =
     let deep = like.deep e is in
     walk_down-append entries 0 (path_to entries (length entries) e.parent) e.name
-    ∙ (ap (λ o. option_and_then (λ at. child_of entries at e.name) o) (walk_down-path_to entries like deep.0 (length entries) e.parent deep.1 (deep_bound entries like deep.0 e.parent deep.1))
+    ∙ (ap (λ o. option_and_then (λ at. child_of entries at e.name) o) (walk_down-path_to entries like deep.0 (length entries) e.parent (holds_own entries e is) deep.1 (deep_bound entries like deep.0 e.parent deep.1))
     ∙ child_of-In entries e like.distinct is)
 
 pub path_of-plain : (entries : List DirEntry) (e : DirEntry) → IsTreeLike entries → In e entries → ArePlainNames (path_of entries e)
 path_of-plain entries e like is =
     let deep = like.deep e is in
     ArePlainNames-push (path_to entries (length entries) e.parent) e.name
-    (path_to-plain entries like deep.0 (length entries) e.parent deep.1 (deep_bound entries like deep.0 e.parent deep.1)) (like.names e is)
+    (path_to-plain entries like deep.0 (length entries) e.parent (holds_own entries e is) deep.1 (deep_bound entries like deep.0 e.parent deep.1)) (like.names e is)
+
+-- An entry is known by its path.
+pub path_of-own : (entries : List DirEntry) (a b : DirEntry) → IsTreeLike entries → In a entries → In b entries → path_of entries a ≡ path_of entries b
+    → (a.parent ≡ b.parent) × (a.name ≡ b.name)
+path_of-own entries a b like a_is b_is same =
+    let ends = same_from_push (path_to entries (length entries) a.parent) (path_to entries (length entries) b.parent) a.name b.name same in
+    let a_deep = like.deep a a_is in
+    let b_deep = like.deep b b_is in
+    let to_a = walk_down-path_to entries like a_deep.0 (length entries) a.parent (holds_own entries a a_is) a_deep.1 (deep_bound entries like a_deep.0 a.parent a_deep.1) in
+    let to_b = walk_down-path_to entries like b_deep.0 (length entries) b.parent (holds_own entries b b_is) b_deep.1 (deep_bound entries like b_deep.0 b.parent b_deep.1) in
+    (same_Some a.parent b.parent (sym to_a ∙ (ap (walk_down entries 0) ends.0 ∙ to_b)), ends.1)
 
 -- A path that leads to a node is the root's, or that of an entry.
 pub led_where : (entries : List DirEntry) (p : List (List ℕ)) (d : ℕ) → IsTreeLike entries → walk_down entries 0 p ≡ Some d
@@ -231,6 +254,6 @@ led_where entries p d like leads = elim (by_last p) [
   | inr more ↦
       let its = led_by entries p more.0 more.1 d more.2 leads in
       let deep = like.deep its.entry its.is in
-      let above = path_to-walk_down entries like deep.0 (length entries) its.entry.parent more.0 deep.1 (deep_bound entries like deep.0 its.entry.parent deep.1) its.led in
+      let above = path_to-walk_down entries like deep.0 (length entries) its.entry.parent more.0 (holds_own entries its.entry its.is) deep.1 (deep_bound entries like deep.0 its.entry.parent deep.1) its.led in
       inr (its.entry, its.is, (λ i. above i ++ its.name_is i ∷ []) ∙ sym more.2, its.child_is)
 ]

@@ -15,7 +15,7 @@ use Rattle.posix_spec.specs.State.{State}
 use Rattle.posix_spec.specs.Tree.{tree}
 use Rattle.list_laws.specs.Filters.{In-map, map-In}
 use Rattle.list_laws.specs.Members.{find-none, In}
-use Rattle.posix_laws.specs.Entries.{IsTreeLike, led_where, path_of, path_of-plain, walk_down-path_of}
+use Rattle.posix_laws.specs.Entries.{IsTreeLike, led_where, path_of, path_of-own, path_of-plain, walk_down-path_of}
 use Rattle.posix_laws.specs.Order.{Rising-same, RisingBy}
 use Rattle.posix_laws.specs.Paths.{printed_same, stands_at, walk_down, walk_down-nil}
 use Rattle.posix_laws.specs.TreeLaws.{HaveOwnTexts, In-put_all, put_all-In, Rising-put_all, text_of}
@@ -56,21 +56,22 @@ entry_place-is : (entries : List DirEntry) (e : DirEntry) → entry_place entrie
 unfolding entry_place
 entry_place-is entries e = refl
 
--- two entries have two texts
-other_text : (entries : List DirEntry) → IsTreeLike entries → (a b : DirEntry) → In a entries → In b entries → (entry_place entries a).text ≡ (entry_place entries b).text → a ≡ b
+-- two entries of one text have one directory and one name
+other_text : (entries : List DirEntry) → IsTreeLike entries → (a b : DirEntry) → In a entries → In b entries → (entry_place entries a).text ≡ (entry_place entries b).text
+    → (a.parent ≡ b.parent) × (a.name ≡ b.name)
 other_text entries like a b a_is b_is same =
     let texts : printed (path_of entries a) ≡ printed (path_of entries b) = sym (ap text_of (entry_place-is entries a)) ∙ (same ∙ ap text_of (entry_place-is entries b)) in
     let paths = printed_same (path_of entries a) (path_of entries b) (path_of-plain entries a like a_is) (path_of-plain entries b like b_is) texts in
-    like.one a b a_is b_is (same_Some a.child b.child (sym (walk_down-path_of entries a like a_is) ∙ (ap (walk_down entries 0) paths ∙ walk_down-path_of entries b like b_is)))
+    path_of-own entries a b like a_is b_is paths
 
 own_texts : (entries : List DirEntry) → IsTreeLike entries → (es : List DirEntry) → AreDistinct es → ((e : DirEntry) → In e es → In e entries) → HaveOwnTexts (entry_place entries) es
 own_texts entries like [] distinct among = tt
 own_texts entries like (e ∷ es) distinct among = (head, own_texts entries like es distinct.1 (λ x is. among x (inr is))) where
   head : (other : DirEntry) → In other es → (entry_place entries e).text ≢ (entry_place entries other).text
   head other is same =
-      let one : e ≡ other = other_text entries like e other (among e (inl refl)) (among other (inr is)) same in
+      let one = other_text entries like e other (among e (inl refl)) (among other (inr is)) same in
       find-none (is_entry e.parent e.name) es other (none_mapped _ distinct.0) is
-      (own_entry other e.parent e.name (ap (λ (x : DirEntry). x.parent) (sym one)) (ap (λ (x : DirEntry). x.name) (sym one)))
+      (own_entry other e.parent e.name (sym one.0) (sym one.1))
 
 -- no entry has the text of the root
 root_apart : (entries : List DirEntry) → IsTreeLike entries → (e : DirEntry) → In e entries → printed [] ≢ (entry_place entries e).text

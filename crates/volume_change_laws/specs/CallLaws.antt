@@ -1,23 +1,21 @@
 -- What the rows of a call leave is what its change asks for: where none of them fits the change keeps the rules.
 use Rattle.std.specs.Prelude.{◌≡◌, ◌⊎◌, ℕ, ◌+◌, ◌<◌, List, [], ◌∷◌, ◌++◌, length, true, false, Some, option_and_then, refl}
 use Rattle.std.proofs.Common.{arith, ap, sym, ◌∙◌, inl, inr}
-use Rattle.std.proofs.lemmas.Bool.{both_ways, cases_Bool, eq-eqb}
+use Rattle.std.proofs.lemmas.Bool.{both_ways, cases_Bool}
 use Rattle.std.proofs.lemmas.List.{length-append}
-use Rattle.std.proofs.lemmas.Option.{same_Some}
 use Rattle.name_laws.specs.volume_laws.layout_model.Places.{IsGeometry}
 use Rattle.name_laws.specs.volume_laws.layout_model.declared.lines.Kind.{Kind}
 use Rattle.name_laws.specs.volume_laws.layout_model.declared.lines.Kind.TheVariants.{Free, Directory, File, Staging}
 use Rattle.name_laws.specs.volume_laws.layout_model.Lines.{NameRow}
-use Rattle.name_laws.specs.volume_laws.layout_model.Names.{row, is_child, is_entry, child_named, free_line, up, walk}
-use Rattle.name_laws.specs.volume_laws.layout_model.TableLaws.{NamingLine-child_named, child_named-at, free_line-some, walk-append, walk-one, walk-up}
-use Rattle.name_laws.specs.volume_laws.layout_model.Tables.{NamingLine}
+use Rattle.name_laws.specs.volume_laws.layout_model.Names.{Rows, row, is_entry, child_named, free_line, up, walk}
+use Rattle.name_laws.specs.volume_laws.layout_model.TableLaws.{child_named-at, free_line-some, walk-append, walk-one, walk-up}
 use Rattle.name_laws.specs.volume_laws.image_model.Kept.{AreKept}
 use Rattle.name_laws.specs.volume_laws.image_model.Live.{is_directory}
 use Rattle.name_laws.specs.volume_laws.image_model.Rules.{IsKindAt}
 use Rattle.name_laws.specs.volume_laws.image_model.Volume.{Volume, inode}
 use Rattle.name_laws.specs.k_split_model.Spaces.{is_directory_in, volume_space}
 use Rattle.name_laws.specs.KeptLaws.{HasAllLines}
-use Rattle.name_laws.specs.RowLaws.{names_of-one_line, row-below}
+use Rattle.name_laws.specs.RowLaws.{row-below}
 use Rattle.name_laws.specs.SetLaws.{child_named-none}
 use Rattle.name_laws.specs.WalkLaws.{walk-empty}
 use Rattle.name_laws.specs.posix_tables.Names.{directory_path, is_below, last_name, longest_path, has_entries as has_entries_in, walk as walk_to}
@@ -59,21 +57,26 @@ pub directory-at : (v : Volume) (p : List (List ℕ)) (parent : ℕ) → IsKeptV
 unfolding walk_to
 directory-at v p parent k d =
     let leads = walk_from-rows (is_directory_in v.inodes) v.names 0 (directory_path p) parent d.leads in
+    let is = leads.is_directory (root-directory v k) in
+    let forest = (sane-kept v k.kept k.all).forest in
     record {
       path = leads.path;
-      is = leads.is_directory (root-directory v k);
-      way = up-of_walk v.names 0 (directory_path p) parent (sane-kept v k.kept k.all).forest leads.path;
+      is = is;
+      way = up-of_walk (is_directory_in v.inodes) v.names 0 (directory_path p) parent forest (forest.one_name parent is) leads.path;
       short = omega (arith, length-directory p d.below, few-names 48 p d.short);
     }
 
 -- ---- the line of a path
 
--- the line that names the child, and the path of the child
-pub line-at : (v : Volume) (p : List (List ℕ)) (parent child : ℕ) → IsAt (volume_space v) p parent child
-    → NamingLine v.names parent (last_name p) child
-line-at v p parent child at =
-    NamingLine-child_named v.names parent (last_name p) child (sym (child_of-rows v.names parent (last_name p)) ∙ at.is)
+-- the row of a line that a look-up found
+pub record IsRowFound (rows : Rows) (parent : ℕ) (name : List ℕ) (line child : ℕ) : Type 0 where
+  pub at : NameRow
+  pub is : row rows line ≡ Some at
+  pub parent_is : at.parent ≡ parent
+  pub name_is : at.name ≡ name
+  pub child_is : at.child ≡ child
 
+-- the path of the child
 pub path-at : (v : Volume) (p : List (List ℕ)) (parent child : ℕ) → IsKeptVolume v
     → IsAt (volume_space v) p parent child → walk v.names 0 p ≡ Some child
 path-at v p parent child k at =
@@ -84,20 +87,6 @@ path-at v p parent child k at =
     ∙ walk-append v.names 0 (directory_path p) (last_name p ∷ [])
     ∙ ap (option_and_then (λ c. walk v.names c (last_name p ∷ []))) (directory-at v p parent k at.directory).path
     ∙ walk-one v.names parent (last_name p) child named
-
--- a child has one line: where a row has the child, it is that one
-pub row-at : (v : Volume) (p : List (List ℕ)) (parent child line : ℕ) (r : NameRow) → IsKeptVolume v
-    → IsAt (volume_space v) p parent child
-    → row v.names line ≡ Some r → r.child ≡ child → (r.parent ≡ parent) × (r.name ≡ last_name p)
-row-at v p parent child line r k at is child_is =
-    let named = line-at v p parent child at in
-    let one : line ≡ named.line =
-    names_of-one_line v.names child line named.line ((sane-kept v k.kept k.all).forest.one_name child)
-    (ap (is_child child) is ∙ eq-eqb r.child child child_is)
-    (ap (is_child child) named.is ∙ eq-eqb named.at.child child named.child_is)
-    in
-    let same : r ≡ named.at = same_Some r named.at (sym is ∙ ap (row v.names) one ∙ named.is) in
-    (ap (λ (x : NameRow). x.parent) same ∙ named.parent_is, ap (λ (x : NameRow). x.name) same ∙ named.name_is)
 
 -- a name that is not there is in no line
 new-name : (v : Volume) (p : List (List ℕ)) (parent : ℕ) → IsNewAt (volume_space v) p parent → (k : ℕ)
@@ -181,7 +170,8 @@ has-place v p q from child to r k may child_is = record {
         → (is_directory (inode v child).kind ≡ true) ⊎ (is_directory (inode v child).kind ≡ false) → ⊥
     outside m meets (inl directory) =
         let below =
-        below-path v.names p (directory_path q) (last_name q) child to m sane.forest
+        below-path (is_directory_in v.inodes) v.names p (directory_path q) (last_name q) child to m sane.forest
+        (sane.forest.one_name to d.is)
         (path-at v p from child k may.old) d.path meets
         in
         both_ways (is_below q p) (may.outside directory)
@@ -206,7 +196,7 @@ has-place v p q from child to r k may child_is = record {
         (omega (arith, most, length-directory q may.directory.below))
         in
         omega (arith, high, most, down.1, length-append down.0 (t.name ∷ []), length-directory q may.directory.below)
-    deep line m t is meets (inr plain) = absurd (plain-below m t.parent plain (sane.parents line t is) meets)
+    deep line m t is meets (inr plain) = absurd (plain-below m t.parent plain (sane.forest.parents line t is) meets)
 
 -- nothing stands at the new path
 pub may-rename : (v : Volume) (p q : List (List ℕ)) (from child to line : ℕ) (r : NameRow) → IsKeptVolume v
@@ -219,43 +209,40 @@ may-rename v p q from child to line r k may new is child_is = record {
   place = has-place v p q from child to r k may child_is;
 }
 
--- a node stands there, which the child may replace
-may-rename-over : (v : Volume) (p q : List (List ℕ)) (from child to line : ℕ) (r : NameRow) (ino target : ℕ) (t : NameRow)
-    → IsKeptVolume v
-    → MayGo (volume_space v) p q from child to → IsAt (volume_space v) q to ino → CanReplace (volume_space v) child ino
-    → row v.names line ≡ Some r → r.child ≡ child → row v.names target ≡ Some t → t.child ≡ ino
-    → MayRenameOver line r (row_to q to child) (length (directory_path q)) target t v
-may-rename-over v p q from child to line r ino target t k may at can is child_is target_is ino_is =
-    let there = row-at v q to ino target t k at target_is ino_is in
-    record {
-      is = is;
-      target_is = target_is;
-      apart = λ e. can.apart (sym ino_is ∙ e ∙ child_is);
-      same_parent = there.0;
-      same_name = there.1;
-      place = has-place v p q from child to r k may child_is;
-    }
-
-pub may-rename-over_file : (v : Volume) (p q : List (List ℕ)) (from child to line : ℕ) (r : NameRow) (ino target : ℕ) (t : NameRow)
-    → IsKeptVolume v
-    → MayGo (volume_space v) p q from child to → IsAt (volume_space v) q to ino → CanReplace (volume_space v) child ino
-    → row v.names line ≡ Some r → r.child ≡ child → row v.names target ≡ Some t → t.child ≡ ino
-    → (volume_space v).directory child ≡ false
-    → MayRenameOverFile line r (row_to q to child) (length (directory_path q)) target t v
-may-rename-over_file v p q from child to line r ino target t k may at can is child_is target_is ino_is plain = record {
-  over = may-rename-over v p q from child to line r ino target t k may at can is child_is target_is ino_is;
-  no_directory = ap (λ i. is_directory (inode v i).kind) ino_is ∙ can.same ∙ plain;
+-- a node stands there, which the child may replace: its line is the one that the path names
+may-rename-over : (v : Volume) (p q : List (List ℕ)) (from child to line : ℕ) (r : NameRow) (ino target : ℕ) → IsKeptVolume v
+    → MayGo (volume_space v) p q from child to → CanReplace (volume_space v) child ino
+    → row v.names line ≡ Some r → r.child ≡ child → (there : IsRowFound v.names to (last_name q) target ino)
+    → MayRenameOver line r (row_to q to child) (length (directory_path q)) target there.at v
+may-rename-over v p q from child to line r ino target k may can is child_is there = record {
+  is = is;
+  target_is = there.is;
+  apart = λ e. can.apart (sym there.child_is ∙ e ∙ child_is);
+  same_parent = there.parent_is;
+  same_name = there.name_is;
+  place = has-place v p q from child to r k may child_is;
 }
 
-pub may-rename-over_directory : (v : Volume) (p q : List (List ℕ)) (from child to line : ℕ) (r : NameRow) (ino target : ℕ) (t : NameRow)
+pub may-rename-over_file : (v : Volume) (p q : List (List ℕ)) (from child to line : ℕ) (r : NameRow) (ino target : ℕ)
     → IsKeptVolume v
-    → MayGo (volume_space v) p q from child to → IsAt (volume_space v) q to ino → CanReplace (volume_space v) child ino
-    → row v.names line ≡ Some r → r.child ≡ child → row v.names target ≡ Some t → t.child ≡ ino
+    → MayGo (volume_space v) p q from child to → CanReplace (volume_space v) child ino
+    → row v.names line ≡ Some r → r.child ≡ child → (there : IsRowFound v.names to (last_name q) target ino)
+    → (volume_space v).directory child ≡ false
+    → MayRenameOverFile line r (row_to q to child) (length (directory_path q)) target there.at v
+may-rename-over_file v p q from child to line r ino target k may can is child_is there plain = record {
+  over = may-rename-over v p q from child to line r ino target k may can is child_is there;
+  no_directory = ap (λ i. is_directory (inode v i).kind) there.child_is ∙ can.same ∙ plain;
+}
+
+pub may-rename-over_directory : (v : Volume) (p q : List (List ℕ)) (from child to line : ℕ) (r : NameRow) (ino target : ℕ)
+    → IsKeptVolume v
+    → MayGo (volume_space v) p q from child to → CanReplace (volume_space v) child ino
+    → row v.names line ≡ Some r → r.child ≡ child → (there : IsRowFound v.names to (last_name q) target ino)
     → (volume_space v).directory child ≡ true
-    → MayRenameOverDirectory line r (row_to q to child) (length (directory_path q)) target ino t v
-may-rename-over_directory v p q from child to line r ino target t k may at can is child_is target_is ino_is directory = record {
-  over = may-rename-over v p q from child to line r ino target t k may at can is child_is target_is ino_is;
-  child_is = ino_is;
+    → MayRenameOverDirectory line r (row_to q to child) (length (directory_path q)) target ino there.at v
+may-rename-over_directory v p q from child to line r ino target k may can is child_is there directory = record {
+  over = may-rename-over v p q from child to line r ino target k may can is child_is there;
+  child_is = there.child_is;
   directory = can.same ∙ directory;
   empty = sym (has_entries-rows v.names ino) ∙ can.empty directory;
 }

@@ -16,20 +16,12 @@ use Rattle.name_laws.specs.volume_laws.image_model.Volume.{Volume, free_inode}
 use Rattle.name_laws.specs.k_split_model.ChangesChanges.{made, unnamed, removed, renamed, renamed_over_file, renamed_over_directory}
 use Rattle.name_laws.specs.k_split_model.Spaces.{is_free, volume_space}
 use Rattle.name_laws.specs.posix_tables.Names.{directory_path, last_name, has_entries as has_entries_in}
-use Rattle.volume_change_laws.specs.CallLaws.{IsKeptVolume, row_to, may-make, may-unname, may-remove, may-rename, may-rename-over_file, may-rename-over_directory}
+use Rattle.volume_change_laws.specs.CallLaws.{IsKeptVolume, IsRowFound, row_to, may-make, may-unname, may-remove, may-rename, may-rename-over_file, may-rename-over_directory}
 use Rattle.volume_change_laws.specs.NameLaws.{made-keeps, unnamed-keeps, removed-keeps, renamed-keeps}
 use Rattle.volume_change_laws.specs.OverLaws.{renamed_over_file-keeps, renamed_over_directory-keeps}
-use Rattle.name_laws.specs.Paths.{IsAt, IsNewAt, CanReplace, MayGo}
+use Rattle.name_laws.specs.Paths.{IsNewAt, CanReplace, MayGo}
 
 -- ---- what is found
-
--- the row of a line that a look-up found
-pub record IsRowFound (rows : Rows) (parent : ℕ) (name : List ℕ) (line child : ℕ) : Type 0 where
-  pub at : NameRow
-  pub is : row rows line ≡ Some at
-  pub parent_is : at.parent ≡ parent
-  pub name_is : at.name ≡ name
-  pub child_is : at.child ≡ child
 
 pub row-found : (rows : Rows) (parent : ℕ) (name : List ℕ) (line child : ℕ)
     → find_name rows parent name ≡ Some (line, child)
@@ -109,24 +101,24 @@ rename-keeps v p q from child to line k may found new =
 
 pub rename-over_file-keeps : (v : Volume) (p q : List (List ℕ)) (from child to line ino target : ℕ) → IsKeptVolume v
     → MayGo (volume_space v) p q from child to → find_name v.names from (last_name p) ≡ Some (line, child)
-    → IsAt (volume_space v) q to ino → find_name v.names to (last_name q) ≡ Some (target, ino)
+    → find_name v.names to (last_name q) ≡ Some (target, ino)
     → CanReplace (volume_space v) child ino
     → (volume_space v).directory child ≡ false → AreKept (renamed_over_file line (row_to q to child) target v)
-rename-over_file-keeps v p q from child to line ino target k may found there found_there can plain =
+rename-over_file-keeps v p q from child to line ino target k may found found_there can plain =
     let at = row-found v.names from (last_name p) line child found in
     let over = row-found v.names to (last_name q) target ino found_there in
     renamed_over_file-keeps line at.at (row_to q to child) (length (directory_path q)) target over.at v k.kept k.all
-    (may-rename-over_file v p q from child to line at.at ino target over.at k may there can at.is at.child_is over.is over.child_is plain)
+    (may-rename-over_file v p q from child to line at.at ino target k may can at.is at.child_is over plain)
 
 pub rename-over_directory-keeps : (v : Volume) (p q : List (List ℕ)) (from child to line ino target : ℕ)
     → IsKeptVolume v
     → MayGo (volume_space v) p q from child to → find_name v.names from (last_name p) ≡ Some (line, child)
-    → IsAt (volume_space v) q to ino → find_name v.names to (last_name q) ≡ Some (target, ino)
+    → find_name v.names to (last_name q) ≡ Some (target, ino)
     → CanReplace (volume_space v) child ino
     → (volume_space v).directory child ≡ true → AreKept (renamed_over_directory line (row_to q to child) target ino v)
-rename-over_directory-keeps v p q from child to line ino target k may found there found_there can directory =
+rename-over_directory-keeps v p q from child to line ino target k may found found_there can directory =
     let at = row-found v.names from (last_name p) line child found in
     let over = row-found v.names to (last_name q) target ino found_there in
     renamed_over_directory-keeps line at.at (row_to q to child)
     (length (directory_path q)) target ino over.at v k.kept k.all
-    (may-rename-over_directory v p q from child to line at.at ino target over.at k may there can at.is at.child_is over.is over.child_is directory)
+    (may-rename-over_directory v p q from child to line at.at ino target k may can at.is at.child_is over directory)

@@ -35,7 +35,7 @@ dropped-keeps ino v kept all maps may =
     kept-sane (dropped ino v)
     (sane-nodes v (slice_set v.inodes ino x) (slice_set v.chains ino []) (slice_set v.maps ino []) sane
     (λ k t is. set-other v ino x t.child (λ e. both_ways (is_child ino (row v.names k)) (names_of-zero v.names ino may.unnamed k) (ap (is_child ino) is ∙ eq-eqb t.child ino e)))
-    (λ k t is. set-other v ino x t.parent (λ e. both_ways (is_directory (inode v ino).kind) plain (ap (λ i. is_directory (inode v i).kind) (sym e) ∙ sane.parents k t is))))
+    (λ k t is. set-other v ino x t.parent (λ e. both_ways (is_directory (inode v ino).kind) plain (ap (λ i. is_directory (inode v i).kind) (sym e) ∙ sane.forest.parents k t is))))
     (λ i own directory. elim (cases_eq i ino) [
       | inl here ↦
           let gone : is_directory (slice_index_or (slice_set v.inodes ino x) i free_inode).kind ≡ false =
@@ -76,7 +76,7 @@ tree-keeps v base inodes chains maps kept all same in_data once =
   where
     sane-base : (u : Volume) (b : ℕ) → AreSane u → AreSane (record u { base = b })
     sane-base u b sane =
-        record { named = sane.named; parents = sane.parents; ways = sane.ways; forest = sane.forest; root = sane.root }
+        record { named = sane.named; ways = sane.ways; forest = sane.forest; one_name = sane.one_name; root = sane.root }
 
 -- an inode with another size or another count of what is applied
 pub node-keeps : (ino : ℕ) (x : Inode) (v : Volume) → AreKept v → HasAllLines v → ino < length v.inodes

@@ -31,7 +31,7 @@ made-sane kind ino line r v sane kinds all may =
     sane-taken (node_set ino (new_node kind (inode v ino)) v) line r
     (sane-nodes v (slice_set v.inodes ino (new_node kind (inode v ino))) v.chains v.maps sane
     (λ k t is. set-other v ino (new_node kind (inode v ino)) t.child (λ e. named-used v k t sane is (ap (λ i. (inode v i).kind) e ∙ may.ino_free)))
-    (λ k t is. set-other v ino (new_node kind (inode v ino)) t.parent (other_parent t.parent (sane.parents k t is))))
+    (λ k t is. set-other v ino (new_node kind (inode v ino)) t.parent (other_parent t.parent (sane.forest.parents k t is))))
     (record {
       within = may.line_below;
       free = may.line_free;
@@ -106,7 +106,7 @@ removed-keeps line ino r v kept all may =
     kept-sane (removed line ino v)
     (sane-nodes (row_set line None v) (slice_set v.inodes ino x) v.chains v.maps
     (sane-freed v line r sane (record { is = may.is; empty = ap (has_entries v.names) may.child_is ∙ may.empty }))
-    (λ k t is. set-other v ino x t.child (λ e. other_line k t (row-freed v.names line k t is).0 (row-freed v.names line k t is).1 (sane.forest.one_name r.child) e))
+    (λ k t is. set-other v ino x t.child (λ e. other_line k t (row-freed v.names line k t is).0 (row-freed v.names line k t is).1 (sane.forest.one_name r.child (ap (λ i. is_directory (inode v i).kind) may.child_is ∙ may.directory)) e))
     (λ k t is. set-other v ino x t.parent (has_entries-parent v.names ino k t may.empty (row-freed v.names line k t is).1)))
     (λ i own directory. elim (cases_eq i ino) [
       | inl here ↦

@@ -41,7 +41,7 @@ plain-empty v ino sane plain = has_entries-none v.names ino (λ k. by k (row v.n
     by k None is = refl
     by k (Some r) is =
         ne_eqb r.parent ino
-        (λ e. both_ways (is_directory (inode v ino).kind) plain (ap (λ i. is_directory (inode v i).kind) (sym e) ∙ sane.parents k r is))
+        (λ e. both_ways (is_directory (inode v ino).kind) plain (ap (λ i. is_directory (inode v i).kind) (sym e) ∙ sane.forest.parents k r is))
 
 -- a free inode is one from 5 on, and so is a file, and each directory but the root
 pub free-number : (kind : Kind) (ino : ℕ) → kind ≡ Free → IsKindAt ino kind → 5 ≤ ino

@@ -9,20 +9,21 @@ use Rattle.name_laws.specs.volume_laws.image_model.Live.{is_directory}
 use Rattle.name_laws.specs.volume_laws.image_model.Rules.{IsKindAt, IsNamed, IsNamedOnce, IsInData, IsRowPlaced, file_blocks_of}
 use Rattle.name_laws.specs.volume_laws.image_model.Volume.{Volume, inode, extents}
 use Rattle.name_laws.specs.volume_laws.layout_model.Places.{is_data_block}
+use Rattle.name_laws.specs.k_split_model.Spaces.{is_directory_in}
 use Rattle.name_laws.specs.Forests.{IsForest}
-use Rattle.name_laws.specs.KeptLaws.{HasAllLines, kept-placed, kept-named, kept-keyed, kept-one_name, kept-ends}
+use Rattle.name_laws.specs.KeptLaws.{HasAllLines, kept-forest, kept-placed, kept-named, kept-one_name}
 
 -- going up from the inode one comes to the root in less than 16 steps
 abbrev pub HasWayUp : Rows → ℕ → Type 0
 HasWayUp rows ino = (n : ℕ) × (n < 16) × (up rows n ino ≡ Some 0)
 
--- Each row names a node, in a directory from which going up comes to the root; no two have one parent and name; no
--- node has two names, and the root has none.
+-- Each row names a node, in a directory from which going up comes to the root; the names are trees, in which no two rows
+-- have one parent and name; no node has two names, and the root has none.
 pub record AreSane (v : Volume) : Type 0 where
   pub named : (k : ℕ) (r : NameRow) → row v.names k ≡ Some r → IsNamed v r
-  pub parents : (k : ℕ) (r : NameRow) → row v.names k ≡ Some r → is_directory (inode v r.parent).kind ≡ true
   pub ways : (k : ℕ) (r : NameRow) → row v.names k ≡ Some r → HasWayUp v.names r.parent
-  pub forest : IsForest v.names
+  pub forest : IsForest (is_directory_in v.inodes) v.names
+  pub one_name : (ino : ℕ) → names_of v.names ino ≤ 1
   pub root : names_of v.names 0 ≡ 0
 
 -- every directory but the root has a name
@@ -44,9 +45,9 @@ HasBlocksOnce v = (b : ℕ) → is_data_block v.geometry b ≡ true → IsNamedO
 pub sane-kept : (v : Volume) → AreKept v → HasAllLines v → AreSane v
 sane-kept v kept all = record {
   named = λ k r is. kept-named v k r kept all is;
-  parents = λ k r is. (kept-placed v k r kept all is).parent;
   ways = λ k r is. (kept-placed v k r kept all is).steps;
-  forest = record { keyed = kept-keyed v kept all; one_name = kept-one_name v kept all; ends = kept-ends v kept all };
+  forest = kept-forest v kept all;
+  one_name = kept-one_name v kept all;
   root = kept.directories.root;
 }
 
@@ -59,7 +60,7 @@ kept-sane v sane each kinds in_data once = record {
   once = once;
   placed = λ k below. its_place k (row v.names k) refl;
   directories = record { each = each; root = sane.root };
-  one_name = λ ino below. sane.forest.one_name ino;
+  one_name = λ ino below. sane.one_name ino;
 }
   where
     its_name : (k : ℕ) (o : Option NameRow) → row v.names k ≡ o → IsNamedRow v o
@@ -69,7 +70,7 @@ kept-sane v sane each kinds in_data once = record {
     its_place : (k : ℕ) (o : Option NameRow) → row v.names k ≡ o → IsRowPlaced v k o
     its_place k None is = tt
     its_place k (Some r) is = record {
-      parent = sane.parents k r is;
+      parent = sane.forest.parents k r is;
       only = λ later s behind is_s same_parent same_name.
           let entry = is_entry-own (row v.names k) r is in
           let other = subst (λ n. is_entry r.parent n (row v.names later) ≡ true) same_name

@@ -1,7 +1,7 @@
 -- Names stay sane where a line is taken, freed or moved, and where nodes change that no row names.
-use Rattle.std.specs.Prelude.{◌≡◌, ◌≢◌, ◌⊎◌, ℕ, suc, ◌+◌, ◌<◌, List, length, true, false, slice_set, slice_index_or, Some, None}
+use Rattle.std.specs.Prelude.{◌≡◌, ◌≢◌, ◌⊎◌, ℕ, suc, ◌+◌, ◌<◌, ◌≤◌, List, length, true, false, slice_set, slice_index_or, Some, None}
 use Rattle.std.proofs.Common.{arith, ap, sym, ◌∙◌, subst, inl, inr}
-use Rattle.std.proofs.lemmas.Bool.{cases_eq, ne_eqb}
+use Rattle.std.proofs.lemmas.Bool.{cases_eq, eq-eqb, ne_eqb}
 use Rattle.name_laws.specs.volume_laws.extent_model.declared.extent_words.Extent.{Extent}
 use Rattle.name_laws.specs.volume_laws.layout_model.declared.lines.Inode.{Inode}
 use Rattle.name_laws.specs.volume_laws.layout_model.Lines.{NameRow}
@@ -10,26 +10,13 @@ use Rattle.name_laws.specs.volume_laws.image_model.Live.{is_directory, is_file}
 use Rattle.name_laws.specs.volume_laws.image_model.Reading.{row_set}
 use Rattle.name_laws.specs.volume_laws.image_model.Rules.{IsNamed}
 use Rattle.name_laws.specs.volume_laws.image_model.Volume.{Volume, inode, free_inode}
+use Rattle.name_laws.specs.k_split_model.Spaces.{is_directory_in}
 use Rattle.name_laws.specs.Forests.{SameAbove}
 use Rattle.name_laws.specs.ForestLaws.{up-unmoved, up-moved, up-taken, up-freed, meets-or_not, forest-taken, forest-freed, forest-moved}
 use Rattle.name_laws.specs.RowLaws.{row-below, has_entries-parent}
-use Rattle.name_laws.specs.SetLaws.{row-freed, names_of-taken, names_of-freed, names_of-moved, parent_of-moved, parent_of-moved_other}
+use Rattle.name_laws.specs.SetLaws.{row-cases, row-freed, names_of-taken, names_of-freed, names_of-moved, parent_of-moved, parent_of-moved_other}
 use Rattle.volume_change_laws.specs.Sane.{AreSane, HasWayUp}
-use Rattle.name_laws.specs.volume_laws.Changes.{row-set_same, row-set_other}
 use Rattle.name_laws.specs.volume_laws.Lists.{one_if}
-
--- a row of a table in which a line was set is the one that was set, or one of another line
-row-cases : (rows : Rows) (line : ℕ) (s : NameRow) (k : ℕ) (t : NameRow) → line < length rows
-    → row (slice_set rows line (Some s)) k ≡ Some t → (s ≡ t) ⊎ ((k ≢ line) × (row rows k ≡ Some t))
-row-cases rows line s k t within is = elim (cases_eq k line) [
-  | inl here ↦
-      let own : row (slice_set rows line (Some s)) k ≡ Some s =
-      ap (row (slice_set rows line (Some s))) here ∙ row-set_same rows line (Some s) within
-      in
-      let both : Some s ≡ Some t = sym own ∙ is in
-      inl cc
-  | inr apart ↦ inr (apart, sym (row-set_other rows line (Some s) k apart) ∙ is)
-]
 
 -- ---- a free line is taken
 
@@ -54,16 +41,18 @@ sane-taken v line r sane may = record {
     | inl same ↦ subst (IsNamed v) same may.named
     | inr other ↦ sane.named k t other.1
   ];
-  parents = λ k t is. elim (row-cases v.names line r k t may.within is) [
-    | inl same ↦ subst (λ (x : NameRow). is_directory (inode v x.parent).kind ≡ true) same may.parent
-    | inr other ↦ sane.parents k t other.1
-  ];
   ways = λ k t is. elim (row-cases v.names line r k t may.within is) [
     | inl same ↦
         subst (λ (x : NameRow). HasWayUp (slice_set v.names line (Some r)) x.parent) same (still r.parent may.apart may.way)
     | inr other ↦ still t.parent (has_entries-parent v.names r.child k t may.empty other.1) (sane.ways k t other.1)
   ];
-  forest = forest-taken v.names line r may.within may.free may.is_new may.unnamed may.empty may.apart sane.forest;
+  forest =
+      forest-taken (is_directory_in v.inodes) v.names line r may.within may.free may.is_new may.parent (λ directory. may.unnamed)
+      may.empty may.apart sane.forest;
+  one_name = λ ino. elim (cases_eq r.child ino) [
+    | inl same ↦ omega (arith, names_of-taken v.names line r ino may.within may.free, ap (names_of v.names) same, may.unnamed, ap one_if (eq-eqb r.child ino same))
+    | inr other ↦ omega (arith, names_of-taken v.names line r ino may.within may.free, sane.one_name ino, ap one_if (ne_eqb r.child ino other))
+  ];
   root = omega (arith, names_of-taken v.names line r 0 may.within may.free, sane.root, ap one_if (ne_eqb r.child 0 may.own));
 }
   where
@@ -85,12 +74,12 @@ way-freed v line r n ino may apart = up-freed v.names line r n ino may.is may.em
 pub sane-freed : (v : Volume) (line : ℕ) (r : NameRow) → AreSane v → MayFree v line r → AreSane (row_set line None v)
 sane-freed v line r sane may = record {
   named = λ k t is. sane.named k t (row-freed v.names line k t is).1;
-  parents = λ k t is. sane.parents k t (row-freed v.names line k t is).1;
   ways = λ k t is.
       let was = (row-freed v.names line k t is).1 in
       let way : HasWayUp v.names t.parent = sane.ways k t was in
       (way.0, way.1, way-freed v line r way.0 t.parent may (has_entries-parent v.names r.child k t may.empty was) ∙ way.2);
-  forest = forest-freed v.names line r (row-below v.names line r may.is) may.is may.empty sane.forest;
+  forest = forest-freed (is_directory_in v.inodes) v.names line r (row-below v.names line r may.is) may.is may.empty sane.forest;
+  one_name = λ ino. omega (arith, names_of-freed v.names line r ino (row-below v.names line r may.is) may.is, sane.one_name ino);
   root = omega (arith, names_of-freed v.names line r 0 (row-below v.names line r may.is) may.is, sane.root);
 }
 
@@ -120,7 +109,7 @@ way-moved v line r s high ino sane is same way outside deep own = elim (meets-or
   | inl met ↦
       let its_parent : parent_of moved r.child ≡ Some s.parent =
       ap (parent_of moved) (sym same)
-      ∙ parent_of-moved v.names line r s (row-below v.names line r is) is same (sane.forest.one_name r.child)
+      ∙ parent_of-moved v.names line r s (row-below v.names line r is) is same (sane.one_name r.child)
       in
       let low : high + 1 + met.0 < 16 = deep met.0 met.2.at in
       let top : up moved high s.parent ≡ Some 0 =
@@ -143,17 +132,15 @@ sane-moved v line r s high sane may = record {
     | inl same ↦ subst (IsNamed v) same its_name
     | inr other ↦ sane.named k t other.1
   ];
-  parents = λ k t is. elim (row-cases v.names line s k t below is) [
-    | inl same ↦ subst (λ (x : NameRow). is_directory (inode v x.parent).kind ≡ true) same may.parent
-    | inr other ↦ sane.parents k t other.1
-  ];
   ways = λ k t is. elim (row-cases v.names line s k t below is) [
     | inl same ↦ subst (λ (x : NameRow). HasWayUp moved x.parent) same (high, may.short, top)
     | inr other ↦
         way-moved v line r s high t.parent sane may.is may.same may.way may.outside
         (λ m meets. may.deep k m t other.1 meets) (sane.ways k t other.1)
   ];
-  forest = forest-moved v.names line r s below may.is may.same may.is_new may.outside sane.forest;
+  forest =
+      forest-moved (is_directory_in v.inodes) v.names line r s below may.is may.same may.is_new may.parent may.outside sane.forest;
+  one_name = λ ino. omega (arith, names_of-moved v.names line r s ino below may.is may.same, sane.one_name ino);
   root = names_of-moved v.names line r s 0 below may.is may.same ∙ sane.root;
 }
   where
@@ -185,8 +172,13 @@ sane-nodes v inodes chains maps sane children parents = record {
   named = λ k r is.
       let old : IsNamed v r = sane.named k r is in
       (subst (λ kind. (is_directory kind ≡ true) ⊎ (is_file kind ≡ true)) (sym (children k r is)) old.0, old.1);
-  parents = λ k r is. subst (λ kind. is_directory kind ≡ true) (sym (parents k r is)) (sane.parents k r is);
   ways = sane.ways;
-  forest = sane.forest;
+  forest = record {
+    keyed = sane.forest.keyed;
+    parents = λ k r is. subst (λ kind. is_directory kind ≡ true) (sym (parents k r is)) (sane.forest.parents k r is);
+    one_name = λ ino directory. sane.one_name ino;
+    ends = sane.forest.ends;
+  };
+  one_name = sane.one_name;
   root = sane.root;
 }

@@ -1,10 +1,10 @@
 -- The laws of the beginning, each as one statement.
-use Rattle.std.specs.Prelude.{◌≡◌, ◌≤◌, ◌+◌, ℕ, List, []}
+use Rattle.std.specs.Prelude.{◌≡◌, ◌≢◌, ◌≤◌, ◌+◌, ℕ, List, [], Some}
 use Rattle.world_step_laws.specs.pm_model.Words.{Words}
 use Rattle.world_step_laws.specs.layout_model.Places.{data_blocks, Geometry, IsGeometry, reserve}
 use Rattle.world_step_laws.specs.layout_model.declared.lines.Draft.{Draft}
 use Rattle.world_step_laws.specs.layout_model.declared.lines.Kind.TheVariants.{File}
-use Rattle.world_step_laws.specs.layout_model.Names.{names_of}
+use Rattle.world_step_laws.specs.layout_model.Names.{names_of, walk}
 use Rattle.world_step_laws.specs.image_model.Content.{found}
 use Rattle.world_step_laws.specs.image_model.Kept.{AreKept}
 use Rattle.world_step_laws.specs.image_model.Reading.{Reads}
@@ -20,6 +20,8 @@ use Rattle.world_step_laws.specs.posix_laws.Begins.{IsTree}
 use Rattle.world_step_laws.specs.world_model.Shown.{IsTreeOfContent}
 use Rattle.world_step_laws.specs.Worlds.{IsWorld}
 use Rattle.world_image_laws.specs.Begun.{numbers_of}
+use Rattle.world_step_laws.specs.world_model.Stands.{IsUsed}
+use Rattle.world_image_laws.specs.FirstPaths.{first_path, IsFirstPath}
 use Rattle.world_image_laws.specs.Mounted.{IsMounted}
 
 -- A shape has the numbers of a geometry: its data blocks, a node for each inode but those of the four staging files, and its
@@ -57,3 +59,15 @@ MountsReads =
     (g : Geometry) (j : Words) (v : Volume) → Reads g j v → AreKept v → IsGeometry g
     → ((ino : ℕ) → (inode v ino).kind ≡ File → 1 ≤ names_of v.names ino)
     → IsMounted v
+
+-- each inode in use but the root has a first path: no path that leads there is printed before it
+abbrev pub HasFirstPath : Type 0
+HasFirstPath =
+    (v : Volume) → IsMounted v → (ino : ℕ) → IsUsed v ino → ino ≢ 0
+    → (p : List (List ℕ)) × (first_path v.names ino ≡ Some p) × IsFirstPath v.names ino p
+
+-- where an inode has one name it is the path that leads there
+abbrev pub HasOwnFirstPath : Type 0
+HasOwnFirstPath =
+    (v : Volume) → IsMounted v → (ino : ℕ) → IsUsed v ino → ino ≢ 0 → names_of v.names ino ≤ 1 → (q : List (List ℕ))
+    → walk v.names 0 q ≡ Some ino → first_path v.names ino ≡ Some q

@@ -31,7 +31,7 @@ use Rattle.world_step_laws.specs.posix_laws.Order.{rising_place}
 use Rattle.world_step_laws.specs.world_model.Shown.{IsTreeOfContent, shown_as}
 use Rattle.world_step_laws.specs.world_model.Stands.{is_used, IsUsed, NamesStand, NodesStand, NodeStands, number}
 use Rattle.world_step_laws.specs.world_model.TreeRules.{child_used, used_below}
-use Rattle.world_image_laws.specs.Mounted.{found_at, IsMounted, last_step, led_used, one_path, path_of_used, same_shown, shows}
+use Rattle.world_image_laws.specs.Mounted.{found_at, IsMounted, last_step, led_used, only_path, path_of_used, same_shown, shows}
 
 -- ---- the numbers
 
@@ -108,7 +108,7 @@ owned v live f t n e m is at =
       ino = c.0;
       led = c.1;
       used = used;
-      number_own = rising_place (λ (x : TreeEntry). printed x.path) t is.rising (number (numbers_of v t) c.0) n its.entry e its.at at (ap printed (one_path v m its.entry.path e.path c.0 its.led c.1));
+      number_own = rising_place (λ (x : TreeEntry). printed x.path) t is.rising (number (numbers_of v t) c.0) n its.entry e its.at at (ap printed (only_path v m its.entry.path e.path c.0 its.led c.1));
     }
 
 within_get : (t : List TreeEntry) (n : ℕ) (e : TreeEntry) → slice_get t n ≡ Some e → n < length t
@@ -183,7 +183,7 @@ names_begun v live f t nodes entries m is begun distinct p name used = by (child
   from_volume : (c : ℕ) → child_named v.names p name ≡ Some c → child_of entries (number numbers p) name ≡ Some (number numbers c)
   from_volume c named =
       let its = placed v live f t c m is (child_used v m.sane p name c named) in
-      let path : its.entry.path ≡ mine.entry.path ++ name ∷ [] = one_path v m its.entry.path (mine.entry.path ++ name ∷ []) c its.led (longer_path c named) in
+      let path : its.entry.path ≡ mine.entry.path ++ name ∷ [] = only_path v m its.entry.path (mine.entry.path ++ name ∷ []) c its.led (longer_path c named) in
       elim (begun.all (number numbers c) its.entry its.at) [
         | inl zeroth ↦
             absurd (not_root mine.entry.path name (sym path ∙ (ap (λ (x : TreeEntry). x.path) (one_element t (number numbers c) 0 its.entry begun.root its.at begun.root_is zeroth) ∙ begun.root_path)))

@@ -1,4 +1,5 @@
 pub mod Mounted
+pub mod FirstPaths
 pub mod Trees
 pub mod Begun
 pub mod BeginningRooms

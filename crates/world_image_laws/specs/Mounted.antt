@@ -15,6 +15,7 @@ use Rattle.world_step_laws.specs.image_model.Content as shown
 use Rattle.world_step_laws.specs.image_model.Content.{bytes_of_file, found, HasBytes, IsDirectory, node_by, node_of}
 use Rattle.world_step_laws.specs.image_model.Live.{is_directory}
 use Rattle.world_step_laws.specs.image_model.Volume.{inode, Volume}
+use Rattle.world_step_laws.specs.name_laws.k_split_model.Spaces.{is_directory_in}
 use Rattle.world_step_laws.specs.name_laws.Forests.{IsForest}
 use Rattle.world_step_laws.specs.name_laws.KeptLaws.{kept-forest, kept-keyed, kept-placed}
 use Rattle.world_step_laws.specs.name_laws.RowLaws.{row-below}
@@ -27,7 +28,7 @@ use Rattle.world_step_laws.specs.posix_laws.Order.{not_before_itself}
 use Rattle.world_step_laws.specs.posix_laws.Paths.{by_last, IsFilled}
 use Rattle.world_step_laws.specs.world_model.Shown.{shown_as}
 use Rattle.world_step_laws.specs.world_model.Stands.{is_used, IsSane, IsUsed}
-use Rattle.world_step_laws.specs.world_model.TreeRules.{all_lines, child_used}
+use Rattle.world_step_laws.specs.world_model.TreeRules.{all_lines, child_used, one_name}
 
 -- What a mount leaves: a sane volume in which each file has a name.
 pub record IsMounted (v : Volume) : Type 0 where
@@ -35,13 +36,13 @@ pub record IsMounted (v : Volume) : Type 0 where
   pub root : (inode v 0).kind ≡ Directory
   pub named : (ino : ℕ) → (inode v ino).kind ≡ File → 1 ≤ names_of v.names ino
 
-forest : (v : Volume) → IsSane v → IsForest v.names
+forest : (v : Volume) → IsSane v → IsForest (is_directory_in v.inodes) v.names
 forest v sane = kept-forest v sane.kept (all_lines v sane)
 
 -- ---- paths of inodes
 
 -- a path with one more name
-walk_more : (rows : Rows) (q : List (List ℕ)) (x : List ℕ) (p c : ℕ) → walk rows 0 q ≡ Some p → child_named rows p x ≡ Some c → walk rows 0 (q ++ x ∷ []) ≡ Some c
+pub walk_more : (rows : Rows) (q : List (List ℕ)) (x : List ℕ) (p c : ℕ) → walk rows 0 q ≡ Some p → child_named rows p x ≡ Some c → walk rows 0 (q ++ x ∷ []) ≡ Some c
 walk_more rows q x p c led named = walk-append rows 0 q (x ∷ []) ∙ (ap (option_and_then (λ n. walk rows n (x ∷ []))) led ∙ walk-one rows p x c named)
 
 pub record LastStep (rows : Rows) (q : List (List ℕ)) (x : List ℕ) (c : ℕ) : Type 0 where
@@ -97,8 +98,14 @@ led_used v m path c led = elim (by_last path) [
       child_used v m.sane last.above more.1 c last.named
 ]
 
-pub one_path : (v : Volume) → IsMounted v → (p q : List (List ℕ)) (c : ℕ) → walk v.names 0 p ≡ Some c → walk v.names 0 q ≡ Some c → p ≡ q
-one_path v m p q c first second = one-path v.names 0 p q c (forest v m.sane) first second
+-- a directory has one path,
+pub one_path : (v : Volume) → IsMounted v → (p q : List (List ℕ)) (c : ℕ) → is_directory (inode v c).kind ≡ true → walk v.names 0 p ≡ Some c → walk v.names 0 q ≡ Some c → p ≡ q
+one_path v m p q c directory first second =
+    one-path (is_directory_in v.inodes) v.names 0 p q c (forest v m.sane) ((forest v m.sane).one_name c directory) first second
+
+-- and so has a file, while no node has two names
+pub only_path : (v : Volume) → IsMounted v → (p q : List (List ℕ)) (c : ℕ) → walk v.names 0 p ≡ Some c → walk v.names 0 q ≡ Some c → p ≡ q
+only_path v m p q c first second = one-path (is_directory_in v.inodes) v.names 0 p q c (forest v m.sane) (one_name v m.sane c) first second
 
 -- ---- the content
 

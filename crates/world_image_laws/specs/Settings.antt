@@ -28,7 +28,7 @@ either : (s a b : State) (test : Bool) → KeepsSetting s a → KeepsSetting s b
 either s a b true first second = first
 either s a b false first second = second
 
-keeps_swept : (s m : State) (n : ℕ) → KeepsSetting s m → KeepsSetting s (swept alone m n)
+pub keeps_swept : (s m : State) (n : ℕ) → KeepsSetting s m → KeepsSetting s (swept alone m n)
 unfolding swept
 keeps_swept s m n keeps = either s m (with_node m n Node.Gone) (is_named m.entries n || is_open m.tables n) keeps (record { shape = keeps.shape; mode = keeps.mode })
 

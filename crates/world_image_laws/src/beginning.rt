@@ -8,7 +8,7 @@
 //! (`Begins`). `Mounted` has paths and content, `Trees` the tree, `Begun` the numbers and what stands,
 //! `Rooms` the room, `Laws` the laws, each as one statement.
 
-ghost use Rattle.world_image_laws.specs.BeginningLaws.{BeginsMounted, HasTreeMounted, MountsReads};
+ghost use Rattle.world_image_laws.specs.BeginningLaws.{BeginsMounted, HasFirstPath, HasOwnFirstPath, HasTreeMounted, MountsReads};
 
 /// A mounted volume begins as the tree of its content.
 pub fn a_mounted_volume_begins()
@@ -23,4 +23,10 @@ pub fn a_content_is_a_tree()
 /// Words that read as a volume that keeps the rules are mounted, once each file has a name.
 pub fn words_are_mounted()
     ensures { MountsReads }
+{}
+
+/// Each inode in use but the root has a first path, in the order in which paths are printed.
+pub fn an_inode_has_a_first_path()
+    ensures first { HasFirstPath }
+    ensures own { HasOwnFirstPath }
 {}

@@ -15,7 +15,9 @@ mod beginning;
 mod images;
 mod lent;
 
-pub use beginning::{a_content_is_a_tree, a_mounted_volume_begins, words_are_mounted};
+pub use beginning::{
+    a_content_is_a_tree, a_mounted_volume_begins, an_inode_has_a_first_path, words_are_mounted,
+};
 pub use images::{
     a_change_is_cut_off, a_change_is_done, a_mounted_device_runs,
     a_node_without_a_name_is_in_no_tree, a_running_world_keeps_its_promise, the_room_is_kept,

@@ -1,5 +1,5 @@
 -- Whether a node has a name in the state, by the name lines of its inode; and rows of a table from which lines went.
-use Rattle.std.specs.Prelude.{◌≡◌, ◌≢◌, ℕ, Bool, true, false, ◌==◌, ◌||◌, List, [], ◌∷◌, slice_set, Option, Some, None, option_map, refl}
+use Rattle.std.specs.Prelude.{◌≡◌, ◌≢◌, ◌≤◌, ℕ, Bool, true, false, ◌==◌, ◌||◌, List, [], ◌∷◌, slice_set, Option, Some, None, option_map, refl}
 use Rattle.std.proofs.Common.{ap, ◌∙◌, sym, inl, inr}
 use Rattle.std.proofs.lemmas.Bool.{cases_eq, eq-eqb, ne_eqb}
 use Rattle.std.proofs.lemmas.Bool.Decides.{Decides-eqb}
@@ -8,7 +8,7 @@ use Rattle.volume_change_laws.specs.layout_model.Lines.{NameRow}
 use Rattle.volume_change_laws.specs.layout_model.Names.{child_named, is_child, names_of, row, Rows}
 use Rattle.volume_change_laws.specs.layout_model.TableLaws.{child_named-at, NamingLine-child_named}
 use Rattle.volume_change_laws.specs.image_model.Volume.{Volume}
-use Rattle.world_model.specs.name_laws.KeptLaws.{kept-keyed, kept-one_name}
+use Rattle.world_model.specs.name_laws.KeptLaws.{kept-keyed}
 use Rattle.world_model.specs.name_laws.RowLaws.{names_of-none, names_of-one_line, names_of-zero, row-below}
 use Rattle.world_model.specs.name_laws.SetLaws.{row-freed}
 use Rattle.volume_change_laws.specs.volume_laws.Changes.{row-set_other, row-set_same}
@@ -78,20 +78,21 @@ count-nameless rows c zeroth k r is same =
     let never : true ≡ false = sym (ap (is_child c) is ∙ eq-eqb r.child c same) ∙ names_of-zero rows c zeroth k in
     cc
 
--- two rows of one child are one
-one_row : (v : Volume) → IsSane v → (j k : ℕ) (r t : NameRow) → row v.names j ≡ Some r → row v.names k ≡ Some t → r.child ≡ t.child → j ≡ k
-one_row v sane j k r t first second same =
-    names_of-one_line v.names t.child j k (kept-one_name v sane.kept (all_lines v sane) t.child) (ap (is_child t.child) first ∙ eq-eqb r.child t.child same) (ap (is_child t.child) second ∙ eq-eqb t.child t.child refl)
+-- two rows of a child that has one name are one
+one_row : (rows : Rows) (j k : ℕ) (r t : NameRow) → names_of rows t.child ≤ 1 → row rows j ≡ Some r → row rows k ≡ Some t → r.child ≡ t.child → j ≡ k
+one_row rows j k r t few first second same =
+    names_of-one_line rows t.child j k few (ap (is_child t.child) first ∙ eq-eqb r.child t.child same) (ap (is_child t.child) second ∙ eq-eqb t.child t.child refl)
 
--- where the line of a child is freed it has no row, and where another row stands in the place of a third one
-pub nameless-freed : (v : Volume) (line : ℕ) (r : NameRow) → IsSane v → row v.names line ≡ Some r → IsNameless (slice_set v.names line None) r.child
-nameless-freed v line r sane is k t there same =
+-- Where the line of a child that has one name is freed it has no row, and where another row stands in the place of a third
+-- one. That it has one name is asked: no node has two today.
+pub nameless-freed : (v : Volume) (line : ℕ) (r : NameRow) → names_of v.names r.child ≤ 1 → row v.names line ≡ Some r → IsNameless (slice_set v.names line None) r.child
+nameless-freed v line r few is k t there same =
     let was = row-freed v.names line k t there in
-    was.0 (one_row v sane k line t r was.1 is same)
+    was.0 (one_row v.names k line t r few was.1 is same)
 
-pub nameless-moved_over : (v : Volume) (line : ℕ) (r new : NameRow) (target : ℕ) (t : NameRow) → IsSane v → row v.names line ≡ Some r → row v.names target ≡ Some t → new.child ≡ r.child → t.child ≢ r.child
+pub nameless-moved_over : (v : Volume) (line : ℕ) (r new : NameRow) (target : ℕ) (t : NameRow) → names_of v.names t.child ≤ 1 → row v.names line ≡ Some r → row v.names target ≡ Some t → new.child ≡ r.child → t.child ≢ r.child
     → IsNameless (slice_set (slice_set v.names target None) line (Some new)) t.child
-nameless-moved_over v line r new target t sane is target_is same_child apart k q there same = elim (cases_eq k line) [
+nameless-moved_over v line r new target t few is target_is same_child apart k q there same = elim (cases_eq k line) [
   | inl own ↦
       let freed_at : row (slice_set v.names target None) line ≡ Some r = row-set_other v.names target None line (λ one. apart (sym (ap (λ (x : NameRow). x.child) (same_Some r t (sym is ∙ (ap (row v.names) one ∙ target_is)))))) ∙ is in
       let set_row = row-set_same (slice_set v.names target None) line (Some new) (row-below (slice_set v.names target None) line r freed_at) in
@@ -99,5 +100,5 @@ nameless-moved_over v line r new target t sane is target_is same_child apart k q
       apart (sym same ∙ (ap (λ (x : NameRow). x.child) (sym it) ∙ same_child))
   | inr other ↦
       let was = row-freed v.names target k q (sym (row-set_other (slice_set v.names target None) line (Some new) k other) ∙ there) in
-      was.0 (one_row v sane k target q t was.1 target_is same)
+      was.0 (one_row v.names k target q t few was.1 target_is same)
 ]

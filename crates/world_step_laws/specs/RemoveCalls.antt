@@ -15,8 +15,8 @@ use Rattle.volume_change_laws.specs.k_split_model.ChangesChanges.{dropped, gone_
 use Rattle.volume_change_laws.specs.k_split_model.Spaces.{volume_space}
 use Rattle.world_model.specs.name_laws.RowLaws.{has_entries-parent}
 use Rattle.world_model.specs.name_laws.SetLaws.{row-freed}
-use Rattle.volume_change_laws.specs.CallLaws.{may-remove, may-unname}
-use Rattle.volume_change_laws.specs.FoundLaws.{IsRowFound, row-found}
+use Rattle.volume_change_laws.specs.CallLaws.{IsRowFound, may-remove, may-unname}
+use Rattle.volume_change_laws.specs.FoundLaws.{row-found}
 use Rattle.volume_change_laws.specs.FrameLaws.{removed-inode, removed-others}
 use Rattle.volume_change_laws.specs.NameLaws.{removed-keeps}
 use Rattle.commute_laws.specs.posix_types.declared.call.Call.{Call}
@@ -31,7 +31,7 @@ use Rattle.commute_laws.specs.posix_spec.State.{alone, space, State, swept, unna
 use Rattle.commute_laws.specs.posix_spec.Step.{rmdir_done, stepped, unlink_done}
 use Rattle.world_model.specs.Jobs.{Job, live_claims}
 use Rattle.world_model.specs.Stands.{is_used, IsSane, IsUsed, number}
-use Rattle.world_model.specs.TreeRules.{all_lines, used_below}
+use Rattle.world_model.specs.TreeRules.{all_lines, one_name, used_below}
 use Rattle.world_step_laws.specs.Rows.{HaveSameRows-Mirrors}
 use Rattle.world_step_laws.specs.GoneCalls.{IsWorld-dropped, IsWorld-gone, IsWorld-unnamed}
 use Rattle.world_step_laws.specs.MadeCalls.{beside-no_file}
@@ -113,7 +113,7 @@ IsWorld-unlink_closed v claims jobs f numbers s count who p parent line child wo
     let sane = world.valid.stands.sane in
     let middle = IsWorld-unlink_midway v claims jobs f numbers s count p parent line child world found plain in
     let used : IsUsed v child = subst (IsUsed v) r.child_is (row_used v line r.at sane r.is).1 in
-    let nameless : IsNameless (slice_set v.names line None) child = subst (IsNameless (slice_set v.names line None)) r.child_is (nameless-freed v line r.at sane r.is) in
+    let nameless : IsNameless (slice_set v.names line None) child = subst (IsNameless (slice_set v.names line None)) r.child_is (nameless-freed v line r.at (one_name v sane r.at.child) r.is) in
     let unnamed_there = is_named-nameless (unnamed line v) numbers (unnamed_state s p) child middle.valid.stands.sane middle.valid.stands.names used nameless in
     let same = unlink_state v claims jobs f numbers s count who p parent line child world found none ∙ swept-gone (unnamed_state s p) (number numbers child) unnamed_there shut in
     let on = subst (λ x. GoOn s x numbers jobs) same (GoOn-call v claims jobs f numbers s (who, Call.Unlink p) world.valid lets tt) in

@@ -36,7 +36,7 @@ use Rattle.commute_laws.specs.posix_spec.State.{alone, space, State, swept, unna
 use Rattle.commute_laws.specs.posix_spec.Step.{rename_done, renamed as renamed_state, stepped}
 use Rattle.world_model.specs.Jobs.{Job, live_claims}
 use Rattle.world_model.specs.Stands.{is_used, IsSane, IsUsed, number}
-use Rattle.world_model.specs.TreeRules.{all_lines, used_below}
+use Rattle.world_model.specs.TreeRules.{all_lines, one_name, used_below}
 use Rattle.world_step_laws.specs.Mirrors.{node_at_path-same}
 use Rattle.world_step_laws.specs.Rows.{HaveSameRows-Mirrors}
 use Rattle.world_step_laws.specs.GoneCalls.{IsSane-rows, IsWorld-dropped, IsWorld-gone, IsWorld-rows}
@@ -157,7 +157,7 @@ IsWorld-renamed_over v claims jobs f numbers s count p q from line child to targ
     let t : NameRow = row_to q to child in
     let sane = world.valid.stands.sane in
     let change =
-    may-rename-over_file v p q from child to line r.at ino target u.at (world_volume v claims jobs f numbers s count world) may there.at can r.is r.child_is u.is u.child_is plain
+    may-rename-over_file v p q from child to line r.at ino target (world_volume v claims jobs f numbers s count world) may can r.is r.child_is u plain
     in
     let tables = over v line r.at t (length (directory_path q)) target u.at sane (sym r.child_is) change.over in
     let above = parent_number v numbers s q to (world_mirror v claims jobs f numbers s count world) may.directory in
@@ -215,7 +215,7 @@ IsWorld-rename_closed v claims jobs f numbers s count who p q from line child to
     let w : Volume = renamed_over_file line (row_to q to child) target v in
     let half = IsWorld-rename_midway v claims jobs f numbers s count p q from line child to target ino world found may there can plain spelled in
     let nameless : IsNameless w.names ino =
-    subst (IsNameless w.names) u.child_is (nameless-moved_over v line r.at (row_to q to child) target u.at sane r.is u.is (sym r.child_is) (λ one. can.apart (sym u.child_is ∙ (one ∙ r.child_is))))
+    subst (IsNameless w.names) u.child_is (nameless-moved_over v line r.at (row_to q to child) target u.at (one_name v sane u.at.child) r.is u.is (sym r.child_is) (λ one. can.apart (sym u.child_is ∙ (one ∙ r.child_is))))
     in
     let same =
     over_state v claims jobs f numbers s count who p q to target ino world none there used (can.same ∙ plain)
@@ -239,7 +239,7 @@ IsWorld-rename_directory v claims jobs f numbers s count who p q from line child
     let used = target_used v q to target ino sane there in
     let is : is_directory (inode v ino).kind ≡ true = can.same ∙ directory in
     let change =
-    may-rename-over_directory v p q from child to line r.at ino target u.at (world_volume v claims jobs f numbers s count world) may there.at can r.is r.child_is u.is u.child_is directory
+    may-rename-over_directory v p q from child to line r.at ino target (world_volume v claims jobs f numbers s count world) may can r.is r.child_is u directory
     in
     let tables = over v line r.at t (length (directory_path q)) target u.at sane (sym r.child_is) change.over in
     let above = parent_number v numbers s q to mirror may.directory in

@@ -240,6 +240,7 @@ job_left touched v w claims f numbers after s new j steps stands job out flight 
       order = job.order ∙ (λ i. (sym same i).applied + length (sym (entries-beside touched live j.draft.ino out) i) + 1);
       size = job.size;
       rest = λ i below past. ap (λ b. byte_in f b i) (disk_of-left touched v w live j.draft.ino (i / 4096) steps.leaves stands.log out) ∙ job.rest i below past;
+      within = job.within;
       staging = staging-left touched v w j.draft steps.leaves job.staging;
       staged = staged-left touched v w j.draft steps.leaves job.staging job.staged;
       apart = λ d is. job.apart d (beside-In touched live d is);

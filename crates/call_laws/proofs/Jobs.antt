@@ -1,5 +1,5 @@
 -- The jobs that are out, their needs and their runs; and what stands together.
-use Rattle.std.specs.Prelude.{◌≡◌, ◌≢◌, ◌⊎◌, ◌+◌, ℕ, Bool, List, [], ◌∷◌, length, map, sum_by, refl}
+use Rattle.std.specs.Prelude.{◌≡◌, ◌≢◌, ◌⊎◌, ◌+◌, ℕ, Bool, List, [], ◌∷◌, map, sum_by, refl}
 use Rattle.std.proofs.Common.{arith, ap, ◌∙◌, sym, inl, inr}
 use Rattle.std.proofs.lemmas.List.Sums.{sum_by-cons}
 use Rattle.world_view_laws.specs.eof_laws.layout_model.declared.lines.Draft.{Draft}
@@ -82,10 +82,3 @@ drafts_differ g k t kept lines n s stands p q there at other same =
       | inl one ↦ other (sym its.who ∙ (ap (λ (y : Job). y.who) one ∙ own.who))
       | inr apart ↦ apart (ap (λ (d : Draft). d.ino) (its.draft ∙ (same ∙ sym own.draft)))
     ]
-
--- where some run is out, a job is out or something was claimed in this lap
-pub some_out : {A B C : Type 0} (claims : List A) (pending : List B) (out : List C) → length out ≡ length claims + length pending → out ≢ [] → (pending ≢ []) ⊎ (claims ≢ [])
-some_out claims (p ∷ pending) out count some = inl (λ none. cc)
-some_out (c ∷ claims) [] out count some = inr (λ none. cc)
-some_out [] [] [] count some = absurd (some refl)
-some_out [] [] (r ∷ out) count some = absurd (omega (arith, count))

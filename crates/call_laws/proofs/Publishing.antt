@@ -138,7 +138,7 @@ module _ (k : View) (t : Tables) (staging : Staged) (files : Files) (w : WorldVi
   bare_truncates h size has = nothing_staged_of w.geometry k t (kept_of w staging files) true (length w.history) (state_of w) has.stands who h size has.bare
 
   -- and an `fsync` that leaves all as it is has published its file.
-  pub bare_publishes : (h : Handle) (old new : WorldView) → HasBareFile k t staging files w who (Call.Fsync h) → old.claims ≡ w.claims → old.disk.tables ≡ t → new.disk ≡ disk_of k t staging → Publishes who (Call.Fsync h) old new
+  pub bare_publishes : (h : Handle) (old new : WorldView) → HasBareFile k t staging files w who (Call.Fsync h) → old.claims ≡ w.claims → old.disk.tables ≡ t → new.disk ≡ disk_of k t staging files → Publishes who (Call.Fsync h) old new
   bare_publishes h old new has claims tables disk file slot d is there own generation =
       let same : inode_on new.disk file.node ≡ inode k.volume file.node = ap (λ (e : Disk). inode_on e file.node) disk in
       subst (λ (i : Inode). d.order ≤ i.applied) (sym same)
@@ -209,10 +209,10 @@ module _ (k : View) (t : Tables) (staging : Staged) (files : Files) (w : WorldVi
     ends_now = end_published ino k l files laid done clears (going_now k t staging files w who call one).ends
 
     -- THE WORLD IS AT THE CALL STILL,
-    pub published_at : AtCall l t staging laid (record w { disk = disk_of l t staging }) who call
+    pub published_at : AtCall l t staging laid (record w { disk = disk_of l t staging laid }) who call
     published_at = still_at k t staging files w who call one l staging laid refl base_now ends_now stood.now refl
 
-    pub others_published : OthersStay w (record w { disk = disk_of l t staging }) who
+    pub others_published : OthersStay w (record w { disk = disk_of l t staging laid }) who
     others_published = others_still k t staging files w who call one l staging laid refl base_now ends_now stood.now w.over w.acts
 
     -- and nothing is staged of its file.
@@ -224,7 +224,7 @@ module _ (k : View) (t : Tables) (staging : Staged) (files : Files) (w : WorldVi
         kind_of [] is published = absurd (is refl)
         kind_of (r ∷ runs) is published = published.0.kind
 
-    pub bare_published : HasBareFile l t staging laid (record w { disk = disk_of l t staging }) who call
+    pub bare_published : HasBareFile l t staging laid (record w { disk = disk_of l t staging laid }) who call
     bare_published = record {
       stands = stood.now;
       bare = bare_some w.geometry l t (kept_of w staging laid) true (length w.history) (state_of w) stood.now who call ino node_then clears.runs_are;
@@ -242,7 +242,7 @@ module _ (k : View) (t : Tables) (staging : Staged) (files : Files) (w : WorldVi
         (loses w.geometry t (kept_of w staging files) true (length w.history) w.start w.history now beside mode)
 
     abbrev pub off_view : WorldView
-    off_view = lost_view w ((who, call) ∷ []) (w.acts + 1) (disk_of l t staging)
+    off_view = lost_view w ((who, call) ∷ []) (w.acts + 1) (disk_of l t staging files)
 
     pub publish_lost : IsWorldOver l t staging files off_view
     publish_lost = lost_call k t staging files w one.world one.begins.awake one.out who call one.begins.next one.up one.none l t staging files left promise

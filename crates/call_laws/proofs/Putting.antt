@@ -1,6 +1,8 @@
 -- A write of a World begins.
-use Rattle.std.specs.Prelude.{◌≡◌, ◌≢◌, ◌⊎◌, ◌≤◌, ◌<◌, ◌+◌, ◌-◌, ◌++◌, ℕ, true, false, List, [], ◌∷◌, length, Option, Some, None, slice_index, sum_by, refl}
+use Rattle.std.specs.Prelude.{◌≡◌, ◌≢◌, ◌⊎◌, ◌≤◌, ◌<◌, ◌+◌, ◌-◌, ◌++◌, ℕ, true, false, List, [], ◌∷◌, length, map, Option, Some, None, slice_index, sum_by, refl}
+use Rattle.std.specs.List.{range_with_len}
 use Rattle.std.proofs.Common.{arith, ap, ◌∙◌, sym, subst, inl, inr}
+use Rattle.std.proofs.Math.Path.{fun_ext}
 use Rattle.std.proofs.lemmas.List.{length-append}
 use Rattle.write_begin.specs.block_counts.Counts.{blocks_for}
 use Rattle.write_begin.specs.pm_model.Powers.{is_on, Supply}
@@ -37,6 +39,7 @@ use Rattle.world_view_laws.proofs.Handing.{in_front}
 use Rattle.world_view_laws.proofs.Losing.{lost_view}
 use Rattle.world_view_laws.specs.declared.views.over.Over.{Over}
 use Rattle.world_view_laws.proofs.write_end_proofs.Homes.{has_blocks_out}
+use Rattle.world_view_laws.proofs.Holes.{no_holes, none_filled}
 use Rattle.world_view_laws.specs.Begins.{BeginsJob, EndsRound, IsOfPlan, item_of, LacksBeside, LacksStaging, LosesCall, Returns}
 use Rattle.world_view_laws.specs.eof_laws.Ends.{FilesEnd}
 use Rattle.world_view_laws.specs.Views.{Disk, disk_of, IsGoing, IsWorldOver, kept_of, state_of, WorldView}
@@ -63,6 +66,10 @@ ends_then v u files then keeps ends = record {
   runs = λ ino run is.
       subst (λ (sizes : List ℕ). run.file_block + run.count ≤ blocks_for (slice_index sizes ino)) (sym keeps.sizes) (ends.runs ino run (subst (In run) (keeps.runs ino) is));
 }
+
+-- nor does what is shown of the files
+files_same : {v u : Volume} (l : View) (t : Tables) (staged : Staged) (files laid : Files) → KeepsMaps v u files laid → disk_of l t staged laid ≡ disk_of l t staged files
+files_same l t staged files laid keeps = λ i. record (disk_of l t staged files) { overlays = map (fun_ext keeps.runs i) (range_with_len 0 (length (keeps.sizes i))); sizes = keeps.sizes i }
 
 module _ (k : View) (t : Tables) (staging : Staged) (files : Files) (w : WorldView) (who : Who) (h : Handle) (at : Option ℕ) (x : List ℕ) (one : AtCall k t staging files w who (call_of h at x)) where
   abbrev at_call : StandsAt w.geometry k t (kept_of w staging files) true (length w.history) (state_of w)
@@ -95,7 +102,7 @@ module _ (k : View) (t : Tables) (staging : Staged) (files : Files) (w : WorldVi
     -- ---- it returned
 
     abbrev pub returned_view : WorldView
-    returned_view = record w { history = w.history ++ item_of w who (call_of h at x) ∷ []; acts = w.acts + 1; disk = disk_of k t staging }
+    returned_view = record w { history = w.history ++ item_of w who (call_of h at x) ∷ []; acts = w.acts + 1; disk = disk_of k t staging files }
 
     module _ (outcome : Outcome) (answer : IsAnsweredBy who h at x k t staging files taken outcome) where
       same_step : (let same : Stepped = record { state = state_of w; outcome = outcome } in step (state_of w) who (call_of h at x) ≡ same)
@@ -124,9 +131,10 @@ module _ (k : View) (t : Tables) (staging : Staged) (files : Files) (w : WorldVi
         unlogged = unlogged;
         new_is = refl;
         enough = λ need left lacks. no_both (is_logged (state_of w) (who, call_of h at x)) (its_need w who h at x need lacks.need_is).0 unlogged _;
+        holes = no_holes w one.world.mode who (call_of h at x);
         published = no_publish who h at x w returned_view;
         of_file = of_open_file k t staging files w who (call_of h at x) one (call_of h at x);
-        staging = sym (ap (λ (d : Disk). d.staging) one.world.disk_is);
+        staging = λ mode. sym (ap (λ (d : Disk). d.staging) one.world.disk_is);
         stay = others_returned k t staging files w one.world one.begins.awake one.out who (call_of h at x) one.begins.next one.up one.none one.begins.idle k t files refl going.ends later;
         on = on;
         spent = inl (ap (λ (y : State). y.entries) (sym same_state));
@@ -164,7 +172,7 @@ module _ (k : View) (t : Tables) (staging : Staged) (files : Files) (w : WorldVi
         pending_of = record { who = who; call = call_of h at x; draft = job.draft; blocks = blocks }
 
         abbrev pub job_view : WorldView
-        job_view = record w { pending = w.pending ++ pending_of ∷ []; acts = w.acts + 1; disk = disk_of l t staged }
+        job_view = record w { pending = w.pending ++ pending_of ∷ []; acts = w.acts + 1; disk = disk_of l t staged laid }
 
         counted_who : (q : JobOut) → In q (w.pending ++ pending_of ∷ []) → IsCounted q.who
         counted_who q there = elim (pushed-In w.pending pending_of q there) [
@@ -196,9 +204,12 @@ module _ (k : View) (t : Tables) (staging : Staged) (files : Files) (w : WorldVi
           begins = one.begins;
           logged = accepted_logged (state_of w) who h at x strict (begun.accepted found_at);
           enough = λ need left lacks. begun.enough found_at need left (beside_in need left lacks);
+          holes = no_holes w one.world.mode who (call_of h at x);
+          middle = w.disk;
+          filled = none_filled w;
           run = λ need left lacks.
               begun.run found_at need left
-              (lacks_in w who h at x k t staging (begun.accepted found_at) one.world.disk_is at_call.geometry going.runs need left lacks);
+              (lacks_in w who h at x k t staging files (begun.accepted found_at) one.world.disk_is at_call.geometry need left lacks);
           pending = pending_of;
           who_is = refl;
           call_is = refl;
@@ -234,22 +245,22 @@ module _ (k : View) (t : Tables) (staging : Staged) (files : Files) (w : WorldVi
         cause = elim (over.cause found_at) [
           | inl is ↦ inl (beside_as (over.accepted found_at) needed left is)
           | inr is ↦ inr
-              (lacks_staging w who h at x k t staging (over.accepted found_at) one.world.disk_is at_call.geometry going.runs needed left
+              (lacks_staging w who h at x k t staging files (over.accepted found_at) one.world.disk_is at_call.geometry needed left
               (λ n m lacks. is.beside n m (beside_in n m lacks)) is.lacks)
         ]
 
-        pub write_over : IsWorldOver l t staged laid (record w { over = Some (Over.Space needed left); acts = w.acts + 1; disk = disk_of l t staged })
+        pub write_over : IsWorldOver l t staged laid (record w { over = Some (Over.Space needed left); acts = w.acts + 1; disk = disk_of l t staged laid })
         write_over = round_over k t staging files w who (call_of h at x) one l staged laid over.stays.runs keeps.base ends_now (over.stays.stands found_at) needed left late
 
-        pub write_ends_round : (after : Supply) → is_on after ≡ true → EndsRound who w (record w { over = Some (Over.Space needed left); acts = w.acts + 1; disk = disk_of l t staged }) after needed left
+        pub write_ends_round : (after : Supply) → is_on after ≡ true → EndsRound who w (record w { over = Some (Over.Space needed left); acts = w.acts + 1; disk = disk_of l t staged laid }) after needed left
         write_ends_round = ends_round k t staging files w who (call_of h at x) one l staged laid over.stays.runs keeps.base ends_now (over.stays.stands found_at) needed left late cause
-            (ap (λ (y : View). disk_of y t staged) over.nothing ∙ ap (λ (s : Staged). disk_of k t s) over.same ∙ sym one.world.disk_is)
+            (files_same l t staged files laid keeps ∙ ap (λ (y : View). disk_of y t staged files) over.nothing ∙ ap (λ (s : Staged). disk_of k t s files) over.same ∙ sym one.world.disk_is)
 
     -- ---- it lost its power
 
     module _ (l : View) (staged : Staged) (laid : Files) (loses : LosesWrite who (call_of h at x) k l t staging files taken) where
       abbrev pub off_view : WorldView
-      off_view = lost_view w ((who, call_of h at x) ∷ []) (w.acts + 1) (disk_of l t staged)
+      off_view = lost_view w ((who, call_of h at x) ∷ []) (w.acts + 1) (disk_of l t staged laid)
 
       pub power_lost : IsWorldOver l t staged laid off_view
       power_lost =

@@ -3,6 +3,7 @@ use Rattle.std.specs.Prelude.{◌≡◌, ◌≤◌, ◌<◌, ◌+◌, ◌-◌, �
 use Rattle.std.specs.Option.{option_map_or}
 use Rattle.std.proofs.Common.{arith, ap, ◌∙◌, sym, subst, inl, inr}
 use Rattle.write_begin.specs.layout_model.Places.{Geometry, reserve}
+use Rattle.write_begin.specs.file_table.Files.{Files}
 use Rattle.write_begin.specs.k_split_model.View.{View}
 use Rattle.write_begin.specs.posix_types.declared.call.Mode.{Mode}
 use Rattle.write_begin.specs.posix_types.declared.call.Who.{Who}
@@ -82,8 +83,8 @@ second_lacks staged k count left is less = by (has_empty staged) refl is where
   by false none all = inr none
 
 -- WHAT THE STAGING LACKS for a write that no row refuses, in its own words and in the World's.
-module _ (w : WorldView) (who : Who) (h : Handle) (at : Option ℕ) (x : List ℕ) (k : View) (t : Tables) (staged : Staged) (none : first (write_rows (state_of w) who h (start_of (state_of w) who h at) x) ≡ None) (disk : w.disk ≡ disk_of k t staged)
-    (geometry : k.volume.geometry ≡ w.geometry) (runs : length staged.out ≡ length w.claims + length w.pending) where
+module _ (w : WorldView) (who : Who) (h : Handle) (at : Option ℕ) (x : List ℕ) (k : View) (t : Tables) (staged : Staged) (filed : Files) (none : first (write_rows (state_of w) who h (start_of (state_of w) who h at) x) ≡ None) (disk : w.disk ≡ disk_of k t staged filed)
+    (geometry : k.volume.geometry ≡ w.geometry) where
   abbrev count : ℕ
   count = staged_count Mode.Strict 0 (start_of (state_of w) who h at) (length x)
 
@@ -103,7 +104,7 @@ module _ (w : WorldView) (who : Who) (h : Handle) (at : Option ℕ) (x : List �
   room_is = ap (λ (d : Disk). if has_empty d.staging then d.free else 0) disk
 
   wanted_is : wanted staged k ≡ wanted_by w
-  wanted_is = (λ i. runs i + reserve (geometry i) - 2)
+  wanted_is = (λ i. length (sym staging_is i).out + reserve (geometry i) - 2)
 
   needs_as : (needed : ℕ) → needed ≡ need staged k count → IsStagingNeed w (Some put) needed
   needs_as needed is = is ∙ ap (λ n. count + n + 1) wanted_is

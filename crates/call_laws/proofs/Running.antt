@@ -35,6 +35,7 @@ use Rattle.world_view_laws.proofs.Beginning.{lets, lost_call, others_lost, other
 use Rattle.world_view_laws.proofs.Ending.{no_both}
 use Rattle.world_view_laws.proofs.Losing.{lost_view}
 use Rattle.world_view_laws.proofs.open_files_proofs.Lookups.{same_opened}
+use Rattle.world_view_laws.proofs.Holes.{no_holes}
 use Rattle.world_view_laws.specs.Begins.{IsNeed, IsOfOpenFile, item_of, LacksBeside, LosesCall, Publishes, Returns}
 use Rattle.world_view_laws.specs.eof_laws.Ends.{FilesEnd}
 use Rattle.world_view_laws.specs.k_split_laws.Left.{IsLeftOf}
@@ -115,7 +116,7 @@ module _ (k : View) (t : Tables) (staging : Staged) (files : Files) (w : WorldVi
 
   module _ (l : View) (u : Tables) (laid : Files) (base : l.volume.base ≡ k.volume.base) (ends : FilesEnd l.volume laid) (stands : StandsAt w.geometry l u (kept_of w staging laid) true (length w.history + 1) (after_call (state_of w) (who, call))) where
     abbrev pub return_view : WorldView
-    return_view = record w { history = w.history ++ item_of w who call ∷ []; acts = w.acts + 1; disk = disk_of l u staging }
+    return_view = record w { history = w.history ++ item_of w who call ∷ []; acts = w.acts + 1; disk = disk_of l u staging laid }
 
     pub ran : IsWorldOver l u staging laid return_view
     ran = returned k t staging files w one.world one.begins.awake one.out who call one.begins.next one.up one.none one.begins.idle l u laid base ends stands
@@ -128,9 +129,10 @@ module _ (k : View) (t : Tables) (staging : Staged) (files : Files) (w : WorldVi
       unlogged = unlogged;
       new_is = refl;
       enough = enough;
+      holes = no_holes w one.world.mode who call;
       published = published;
       of_file = of_open_file call;
-      staging = sym (ap (λ (d : Disk). d.staging) one.world.disk_is);
+      staging = λ mode. sym (ap (λ (d : Disk). d.staging) one.world.disk_is);
       stay = others_returned k t staging files w one.world one.begins.awake one.out who call one.begins.next one.up one.none one.begins.idle l u laid base ends stands;
       on = on;
       spent = spent;
@@ -158,7 +160,7 @@ module _ (k : View) (t : Tables) (staging : Staged) (files : Files) (w : WorldVi
     promise = loses w.geometry (kept_of w staging files) (length w.history) w.start w.history few_next now lets_now
 
     abbrev pub off_view : WorldView
-    off_view = lost_view w ((who, call) ∷ []) (w.acts + 1) (disk_of l u staging)
+    off_view = lost_view w ((who, call) ∷ []) (w.acts + 1) (disk_of l u staging laid)
 
     pub call_lost : IsWorldOver l u staging laid off_view
     call_lost = lost_call k t staging files w one.world one.begins.awake one.out who call one.begins.next one.up one.none l u staging laid left promise

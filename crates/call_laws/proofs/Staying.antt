@@ -1,6 +1,7 @@
 -- A World at its next call, and how it stays where the call is not begun.
 use Rattle.std.specs.Prelude.{◌≡◌, ◌≢◌, ◌⊎◌, ◌≤◌, ◌<◌, ◌+◌, ◌-◌, ◌^◌, ℕ, true, List, [], ◌∷◌, length, Option, Some, None, sum_by, refl}
 use Rattle.std.proofs.Common.{arith, ap, ◌∙◌, sym, subst, inl, inr}
+use Rattle.std.proofs.lemmas.Bool.{cases_lt}
 use Rattle.world_view_laws.specs.eof_laws.pm_model.Powers.{is_on, Supply}
 use Rattle.world_view_laws.specs.eof_laws.file_table.Files.{Files}
 use Rattle.world_view_laws.specs.eof_laws.k_split_model.View.{View}
@@ -19,11 +20,11 @@ use Rattle.world_view_laws.proofs.Beginning.{standing}
 use Rattle.world_view_laws.proofs.Ending.{no_both}
 use Rattle.world_view_laws.specs.declared.views.over.Over.{Over}
 use Rattle.world_view_laws.proofs.write_end_proofs.Homes.{has_blocks_out}
-use Rattle.world_view_laws.specs.Begins.{EndsRound, LacksBeside, LacksStaging, OthersStay}
+use Rattle.world_view_laws.proofs.Holes.{none_filled}
+use Rattle.world_view_laws.specs.Begins.{EndsRound, HasFilled, LacksBeside, LacksStaging, OthersStay, with_disk}
 use Rattle.world_view_laws.specs.eof_laws.Ends.{FilesEnd}
-use Rattle.world_view_laws.specs.Views.{disk_of, IsGoing, IsWorldOver, kept_of, state_of, WorldView}
+use Rattle.world_view_laws.specs.Views.{Disk, disk_of, IsGoing, IsWorldOver, kept_of, state_of, WorldView}
 use Rattle.call_laws.specs.Calls.{AtCall}
-use Rattle.call_laws.proofs.Jobs.{some_out}
 
 no_items : {X : Type 0} → (xs : List X) → length xs ≡ 0 → xs ≡ []
 no_items [] is = refl
@@ -56,10 +57,11 @@ module _ (k : View) (t : Tables) (staging : Staged) (files : Files) (w : WorldVi
   -- THEY STAND TOGETHER STILL, in the same state, over another K-Split.
   module _ (l : View) (staged : Staged) (laid : Files) (runs : length staged.out ≡ length staging.out) (base : l.volume.base ≡ k.volume.base) (ends : FilesEnd l.volume laid)
       (stands : StandsAt w.geometry l t (kept_of w staged laid) true (length w.history) (state_of w)) where
-    going_still : (over : Option Over) (acts : ℕ) → (over ≡ None → w.claims ≡ [] → w.pending ≡ [] → staged ≡ nothing_staged) → IsGoing l t staged laid (record w { over = over; acts = acts; disk = disk_of l t staged })
+    going_still : (over : Option Over) (acts : ℕ) → (over ≡ None → staged.out ≡ [] → staged ≡ nothing_staged) → IsGoing l t staged laid (record w { over = over; acts = acts; disk = disk_of l t staged laid })
     going_still over acts bare = record {
       stands = subst (λ b. StandsAt w.geometry l t (kept_of w staged laid) b (length w.history) (state_of w)) (sym one.out) stands;
-      runs = runs ∙ going_now.runs;
+      counted = λ mode. runs ∙ going_now.counted mode;
+      runs = λ settled. runs ∙ going_now.runs settled;
       bare = bare;
       none_unfinished = going_now.none_unfinished;
       none_home = going_now.none_home;
@@ -71,14 +73,14 @@ module _ (k : View) (t : Tables) (staging : Staged) (files : Files) (w : WorldVi
     }
 
     -- the jobs of others stay out
-    pub others_still : (over : Option Over) (acts : ℕ) → OthersStay w (record w { over = over; acts = acts; disk = disk_of l t staged }) who
+    pub others_still : (over : Option Over) (acts : ℕ) → OthersStay w (record w { over = over; acts = acts; disk = disk_of l t staged laid }) who
     others_still over acts = (
       λ q other apart is. record { there = is.there; who = is.who; draft = is.draft; blocks = is.blocks; words = is.words; lent = has_blocks_out w.geometry l t (kept_of w staged laid) (length w.history) (state_of w) q stands is.there },
       λ q other apart is. record { there = is.there; who = is.who; draft = is.draft; blocks = is.blocks; words = is.words; lent = has_blocks_out w.geometry l t (kept_of w staged laid) (length w.history) (state_of w) q stands is.there },
     )
 
     abbrev pub same_view : WorldView
-    same_view = record w { disk = disk_of l t staged }
+    same_view = record w { disk = disk_of l t staged laid }
 
     -- The World stands as before,
     pub unchanged : staged ≡ staging → IsWorldOver l t staged laid same_view
@@ -102,7 +104,7 @@ module _ (k : View) (t : Tables) (staging : Staged) (files : Files) (w : WorldVi
         low = one.world.counted.low;
       };
       disk_is = refl;
-      going = λ still. going_still w.over w.acts (λ goes none empty. same ∙ going_now.bare goes none empty);
+      going = λ still. going_still w.over w.acts (λ goes none. same ∙ going_now.bare goes (ap (λ (s : Staged). s.out) (sym same) ∙ none));
       gone = λ off. no_both w.lost off one.begins.awake _;
     }
 
@@ -119,7 +121,7 @@ module _ (k : View) (t : Tables) (staging : Staged) (files : Files) (w : WorldVi
     -- THE ROUND IS OVER for want of space.
     module _ (needed left : ℕ) (late : (w.pending ≢ []) ⊎ (w.settled < length w.history)) where
       abbrev pub over_view : WorldView
-      over_view = record w { over = Some (Over.Space needed left); acts = w.acts + 1; disk = disk_of l t staged }
+      over_view = record w { over = Some (Over.Space needed left); acts = w.acts + 1; disk = disk_of l t staged laid }
 
       late_world : (w.pending ≢ []) ⊎ (w.settled < length w.history) → (w.pending ≢ []) ⊎ (1 ≤ w.given_up) ⊎ (w.settled < length w.history)
       late_world (inl job) = inl job
@@ -146,19 +148,23 @@ module _ (k : View) (t : Tables) (staging : Staged) (files : Files) (w : WorldVi
           low = one.world.counted.low;
         };
         disk_is = refl;
-        going = λ on. going_still (Some (Over.Space needed left)) (w.acts + 1) (λ goes none empty. (let never : Some (Over.Space needed left) ≡ None = goes in cc));
+        going = λ on. going_still (Some (Over.Space needed left)) (w.acts + 1) (λ goes none. (let never : Some (Over.Space needed left) ≡ None = goes in cc));
         gone = λ off. no_both w.lost off one.begins.awake _;
       }
 
-      pub ends_round : LacksBeside w who call needed left ⊎ LacksStaging w who call needed left → disk_of l t staged ≡ w.disk
+      pub ends_round : LacksBeside w who call needed left ⊎ LacksStaging w who call needed left → disk_of l t staged laid ≡ w.disk
           → (after : Supply) → is_on after ≡ true → EndsRound who w over_view after needed left
       ends_round cause nothing after on = record {
         call = call;
         begins = one.begins;
-        cause = cause;
+        cause = elim cause [
+          | inl beside ↦ inl beside
+          | inr lacks ↦ inr (inr (subst (λ (d : Disk). LacksStaging (with_disk w d) who call needed left) (sym nothing) lacks))
+        ];
         late = late;
         new_is = refl;
-        nothing = nothing;
+        filled = subst (HasFilled w) (sym nothing) (none_filled w);
+        nothing = λ refused. nothing;
         stay = others_still (Some (Over.Space needed left)) (w.acts + 1);
         on = on;
       }
@@ -173,21 +179,21 @@ module _ (k : View) (t : Tables) (staging : Staged) (files : Files) (w : WorldVi
         let zero = no_needs (state_of w) w.pending none in
         omega (arith, less, rest, fits, zero)
 
-    pub lacks_over : IsWorldOver k t staging files (record w { over = Some (Over.Space needed left); acts = w.acts + 1; disk = disk_of k t staging })
+    pub lacks_over : IsWorldOver k t staging files (record w { over = Some (Over.Space needed left); acts = w.acts + 1; disk = disk_of k t staging files })
     lacks_over = round_over k staging files refl refl going_now.ends stands_now needed left (inl some_job)
 
-    pub lacks_ends : (after : Supply) → is_on after ≡ true → EndsRound who w (record w { over = Some (Over.Space needed left); acts = w.acts + 1; disk = disk_of k t staging }) after needed left
+    pub lacks_ends : (after : Supply) → is_on after ≡ true → EndsRound who w (record w { over = Some (Over.Space needed left); acts = w.acts + 1; disk = disk_of k t staging files }) after needed left
     lacks_ends = ends_round k staging files refl refl going_now.ends stands_now needed left (inl some_job) (inl lacks) (sym one.world.disk_is)
 
   -- where no run is out nothing is staged
   pub bare_at_rest : staging.out ≡ [] → staging ≡ nothing_staged
-  bare_at_rest none =
-      let zero : 0 ≡ length w.claims + length w.pending = ap length (sym none) ∙ going_now.runs in
-      going_now.bare one.begins.going (no_items w.claims (omega (arith, zero))) (no_items w.pending (omega (arith, zero)))
+  bare_at_rest none = going_now.bare one.begins.going none
 
   -- a run is out only beside a job or behind a call that returned
   pub late_run : staging.out ≢ [] → (w.pending ≢ []) ⊎ (w.settled < length w.history)
-  late_run some = elim (some_out w.claims w.pending staging.out going_now.runs some) [
-    | inl job ↦ inl job
-    | inr claim ↦ inr (one.world.counted.claimed one.begins.awake claim)
+  late_run some = elim (cases_lt w.settled (length w.history)) [
+    | inl below ↦ inr below
+    | inr past ↦
+        let settled : w.settled ≡ length w.history = omega (arith, past, one.world.counted.settled) in
+        inl (λ none. some (no_items staging.out (going_now.runs settled ∙ ap (λ (ps : List JobOut). length ps) none)))
   ]

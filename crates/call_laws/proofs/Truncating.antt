@@ -121,10 +121,10 @@ module _ (k : View) (t : Tables) (staging : Staged) (files : Files) (w : WorldVi
     promise : KeepsWhenLost k.volume l.cells (kept_of w staging files) now.jobs w.start w.history ((who, Call.Truncate h size) ∷ [])
     promise = loses.kept w.geometry (kept_of w staging files) (length w.history) w.start w.history finds
 
-    pub truncate_lost : IsWorldOver l t staging files (lost_view w ((who, Call.Truncate h size) ∷ []) (w.acts + 1) (disk_of l t staging))
+    pub truncate_lost : IsWorldOver l t staging files (lost_view w ((who, Call.Truncate h size) ∷ []) (w.acts + 1) (disk_of l t staging files))
     truncate_lost = lost_call k t staging files w one.world one.begins.awake one.out who (Call.Truncate h size) one.begins.next one.up one.none l t staging files left_device promise
 
-    pub truncate_loses : (after : Supply) → is_on after ≡ false → LosesCall who w (lost_view w ((who, Call.Truncate h size) ∷ []) (w.acts + 1) (disk_of l t staging)) after
+    pub truncate_loses : (after : Supply) → is_on after ≡ false → LosesCall who w (lost_view w ((who, Call.Truncate h size) ∷ []) (w.acts + 1) (disk_of l t staging files)) after
     truncate_loses after off = record {
       call = Call.Truncate h size;
       next = one.begins.next;

@@ -7,13 +7,11 @@ use Rattle.eof_laws.specs.pm_model.Powers.{is_on, Supply}
 use Rattle.eof_laws.specs.layout_model.Journal.{journaled}
 use Rattle.eof_laws.specs.layout_model.Places.{Geometry}
 use Rattle.layout_model.specs.declared.lines.Kind.TheVariants.{File}
-use Rattle.layout_model.specs.Names.{is_child, names_of, row as row_at}
-use Rattle.layout_model.specs.TableLaws.{is_child-parts}
+use Rattle.layout_model.specs.Names.{names_of}
 use Rattle.eof_laws.specs.image_model.Live.{is_directory}
 use Rattle.eof_laws.specs.image_model.Volume.{inode, Volume}
 use Rattle.eof_laws.specs.file_table.Files.{Files}
 use Rattle.live_step_laws.specs.posix_laws.Orders.{AreOrdered-step_of}
-use Rattle.eof_laws.specs.volume_laws.Lists.{count_by-some}
 use Rattle.live_step_laws.specs.volume_change_laws.Changes.{MayDrop}
 use Rattle.eof_laws.specs.k_split_model.View.{View}
 use Rattle.live_step_laws.specs.open_files.Numbered.{described_as, numbered_as}
@@ -43,7 +41,7 @@ use Rattle.live_step_laws.specs.world_image_laws.Settings.{keeps_setting}
 use Rattle.live_step_laws.specs.world_image_laws.Unseen.{tree-swept}
 use Rattle.live_step_laws.specs.world_step_laws.OtherCalls.{IsWorld-closed, IsWorld-same}
 use Rattle.live_step_laws.specs.world_step_laws.RemoveCalls.{swept-gone}
-use Rattle.live_step_laws.specs.world_step_laws.Nameless.{count-nameless, is_named-nameless, named-row}
+use Rattle.live_step_laws.specs.world_step_laws.Nameless.{count-nameless, is_named-nameless}
 use Rattle.live_step_laws.specs.world_step_laws.Steps.{LetsJobsBe}
 use Rattle.live_step_laws.specs.world_step_laws.Worlds.{IsWorld}
 use Rattle.live_step_laws.specs.world_model.Jobs.{Job}
@@ -55,6 +53,7 @@ use Rattle.file_calls.specs.Answers.{ComesHalfWay, IsEnded, IsReplyOf, IsSpent}
 use Rattle.file_calls.specs.Runs.{RunsAs, with_files}
 use Rattle.file_calls.specs.declared.names.outcomes.Told.{Told}
 use Rattle.file_calls.proofs.CallTables.{swept_entries, swept_tables}
+use Rattle.file_calls.proofs.Halves.{named_there}
 use Rattle.file_calls.proofs.Running.{runs_still, world}
 use Rattle.file_calls.proofs.Shut.{GoOn-shut}
 
@@ -81,14 +80,6 @@ handle_open t who h d is = let o = Opens-opened t who h d is in is_open-Opens t 
 -- a file that may be dropped, where it has no name
 pub may_drop : (v : Volume) (ino : ℕ) → (inode v ino).kind ≡ File → names_of v.names ino ≡ 0 → MayDrop ino v
 may_drop v ino file none = record { below = used_below v ino (ap is_used file); file = file; unnamed = none }
-
--- a name of the volume is one of the state
-named_there : (g : Geometry) (k : View) (t : Tables) (x : Kept) (n : ℕ) (s : State) (runs : RunsAs g k t x n s) (ino : ℕ) → 0 < names_of k.volume.names ino → is_named s.entries (number runs.numbers ino) ≡ true
-named_there g k t x n s runs ino some =
-    let found = count_by-some (is_child ino) k.volume.names None some in
-    let child = is_child-parts ino (row_at k.volume.names found.0) found.2 in
-    let here = world g k t x n s runs in
-    subst (λ i. is_named s.entries (number runs.numbers i) ≡ true) child.2 (named-row k.volume runs.numbers s found.0 child.0 here.valid.stands.sane here.valid.stands.names child.1)
 
 set_twice : (xs : List Node) (n : ℕ) (a b : Node) → slice_set (slice_set xs n a) n b ≡ slice_set xs n b
 set_twice [] n a b = refl
@@ -152,7 +143,7 @@ module _ (who : Who) (h : Handle) (k : View) (t t2 : Tables) (fs : Files) (d : D
     runs_middle : LetsJobsBe s (who, Call.Close h) runs.numbers runs.jobs → (now : StandsAt g k t2 (with_files x fs) true (n + 1) (middle who h s)) × (now.jobs ≡ runs.jobs) × (now.numbers ≡ runs.numbers)
     unfolding middle
     runs_middle lets =
-        stands_still g k t t2 (with_files x fs) true n s (middle who h s) runs refl
+        stands_still g k t t2 (with_files x fs) true n s (middle who h s) runs refl refl
         (λ f valid.
         IsWorld-same k.volume x.claims runs.jobs f runs.numbers s (middle who h s) runs.count valid (GoOn-shut s who h (described_as (number runs.numbers) d) there k.volume x.claims runs.jobs f runs.numbers valid.valid lets)
         (record { entries = refl; count = refl; nodes = λ m. refl; shape = refl })) tables_closed files_closed runs.ordered
@@ -161,7 +152,7 @@ module _ (who : Who) (h : Handle) (k : View) (t t2 : Tables) (fs : Files) (d : D
     stays_on : LetsJobsBe s (who, Call.Close h) runs.numbers runs.jobs → (is_named s.entries (file_number s.tables who h) ≡ true) ⊎ (is_open (closed s.tables who h) (file_number s.tables who h) ≡ true)
         → RunsAs g k t2 (with_files x fs) (n + 1) (after_call s (who, Call.Close h))
     stays_on lets stays =
-        runs_still g k t t2 (with_files x fs) n s (after_call s (who, Call.Close h)) runs (keeps_setting s (who, Call.Close h)).shape
+        runs_still g k t t2 (with_files x fs) n s (after_call s (who, Call.Close h)) runs (keeps_setting s (who, Call.Close h)).shape (keeps_setting s (who, Call.Close h)).mode
         (λ f valid. IsWorld-closed k.volume x.claims runs.jobs f runs.numbers s runs.count who h valid lets no_row stays)
         (close_tables ∙ tables_closed) files_closed (AreOrdered-step_of alone s who (Call.Close h) runs.ordered)
 
@@ -213,7 +204,7 @@ module _ (who : Who) (h : Handle) (k : View) (t t2 : Tables) (fs : Files) (d : D
         middle = middle who h s;
         runs = now.0;
         jobs_are = now.1;
-        may = may_drop k.volume d.node (file_kind g x n s runs) none;
+        file = record { below = used_below k.volume d.node (ap is_used (file_kind g x n s runs)); is_file = file_kind g x n s runs };
         ends = subst (λ ns. after_call s (who, Call.Close h) ≡ swept alone (middle who h s) (number ns d.node)) (sym now.2) end;
         tree_is = sym (ap tree end ∙ tree-swept (middle who h s) (number runs.numbers d.node) (other g x n s runs));
       }

@@ -1,6 +1,7 @@
 -- An `open` that cuts the file that is there, of which nothing is staged.
 use Rattle.std.specs.Prelude.{◌≡◌, ◌≤◌, ◌<◌, ◌+◌, ℕ, true, false, List, [], ◌∷◌, length, map, Some, None, Result, Ok, Err, refl}
 use Rattle.std.proofs.Common.{arith, ap, ◌∙◌, sym, inr}
+use Rattle.live_step_laws.specs.world_image_laws.Settings.{keeps_setting}
 use Rattle.eof_laws.specs.pm_model.Powers.{Supply}
 use Rattle.layout_model.specs.declared.lines.Draft.{Draft}
 use Rattle.eof_laws.specs.layout_model.Places.{Geometry, reserve}
@@ -98,7 +99,7 @@ module _ (who : Who) (h : Handle) (p : List (List ℕ)) (f : Flags) (k : View) (
     answers : Answers who (Call.Open h p f) k t fs k2 t2 f2 (answer (Reply.Fd fd))
     answers g x n s small runs lets = (
       (stands_on g k k2 t t2 (with_files x fs) f2 true n (n + 1) s (after_call s (who, Call.Open h p f)) runs.numbers runs.count (Some ino) runs cut_is.1
-          (cut_step k2.volume cut_is.1.order.whole cut_is.0 g x n s runs lets) (omega (arith, runs.few)) (omega arith) (opened_tables who h p f k t fs ino found t2 none t2_is g x n s runs)
+          (cut_step k2.volume cut_is.1.order.whole cut_is.0 g x n s runs lets) (keeps_setting s (who, Call.Open h p f)).mode (omega (arith, runs.few)) (omega arith) (opened_tables who h p f k t fs ino found t2 none t2_is g x n s runs)
           (files_opened k2 t t2 who h ino f t2_is (λ i there. same_kind k2.volume cut_is.0 i (runs.open_are_files i there)) (same_kind k2.volume cut_is.0 ino file)) (AreOrdered-step_of alone s who (Call.Open h p f) runs.ordered)
           (left_cleared k2.volume ino fs f2 cleared spare (omega (arith, below, lines)) (empty k2.volume cut_is.0))).0,
       ap (λ y. y.outcome) (open_step who h p f k t none g (with_files x fs) n s runs) ∙ ap (λ i. answer (Reply.Fd i)) (next_there g k t (with_files x fs) n s runs fd free),

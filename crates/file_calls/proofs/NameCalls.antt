@@ -1,6 +1,7 @@
 -- `mkdir` and `rmdir`, and the first changes of `unlink` and `rename`.
 use Rattle.std.specs.Prelude.{◌≡◌, ◌≢◌, ◌<◌, ◌+◌, ◌^◌, ℕ, Bool, true, false, List, [], length, Option, Some, None, Result, Ok, Err, refl, if◌then◌else◌}
 use Rattle.std.proofs.Common.{arith, ap, ◌∙◌, sym, subst, inl, inr}
+use Rattle.live_step_laws.specs.world_image_laws.Settings.{keeps_setting}
 use Rattle.eof_laws.specs.pm_model.Powers.{is_on, Supply}
 use Rattle.eof_laws.specs.layout_model.Places.{Geometry}
 use Rattle.layout_model.specs.declared.lines.Kind.{Kind}
@@ -194,7 +195,7 @@ module _ (who : Who) (p : List (List ℕ)) (k k2 : View) (t : Tables) (f : Files
     answers g x n s small runs lets =
         let a_step = made_step k2.volume ino is.0.0 is.0.1 g (with_files x f) n s small runs lets in
         let files = files_made true p k.volume k2.volume ino t is.0.1 runs.open_are_files in (
-          (stands_on g k k2 t t (with_files x f) f true n (n + 1) s (after_call s (who, Call.Mkdir p)) (renumbered runs.numbers ino (length s.nodes)) (runs.count + 1) (Some ino) runs is.0.2 a_step (omega (arith, runs.few)) (omega arith)
+          (stands_on g k k2 t t (with_files x f) f true n (n + 1) s (after_call s (who, Call.Mkdir p)) (renumbered runs.numbers ino (length s.nodes)) (runs.count + 1) (Some ino) runs is.0.2 a_step (keeps_setting s (who, Call.Mkdir p)).mode (omega (arith, runs.few)) (omega arith)
               (tables_mkdir s who p ∙ runs.tables ∙ tables_renumbered runs.numbers t ino (length s.nodes) files.0) files.1 (AreOrdered-step_of alone s who (Call.Mkdir p) runs.ordered)
               (made_left true p g k t (with_files x f) n s runs k2.volume ino is.0.1)).0,
           reply_ok who (Call.Mkdir p) k t g (with_files x f) n s tt is.0.0 runs,
@@ -227,7 +228,7 @@ module _ (who : Who) (p : List (List ℕ)) (k k2 : View) (t : Tables) (f : Files
     answers : Answers who (Call.Rmdir p) k t f k2 t f (answer Reply.Ok)
     answers g x n s small runs lets = (
       (stands_on g k k2 t t (with_files x f) f true n (n + 1) s (after_call s (who, Call.Rmdir p)) runs.numbers runs.count (Some is.0.1.entry.child) runs is.0.2
-          (removed_step k2.volume is.0.0 is.0.1 g (with_files x f) n s runs lets) (omega (arith, runs.few)) (omega arith) (tables_rmdir s who p ∙ runs.tables)
+          (removed_step k2.volume is.0.0 is.0.1 g (with_files x f) n s runs lets) (keeps_setting s (who, Call.Rmdir p)).mode (omega (arith, runs.few)) (omega arith) (tables_rmdir s who p ∙ runs.tables)
           (files_removed p k.volume k2.volume t is.0.1 runs.open_are_files) (AreOrdered-step_of alone s who (Call.Rmdir p) runs.ordered)
           (removed_left p g k t (with_files x f) n s runs k2.volume is.0.1)).0,
       reply_ok who (Call.Rmdir p) k t g (with_files x f) n s tt is.0.0 runs,
@@ -260,7 +261,7 @@ module _ (who : Who) (p q : List (List ℕ)) (k k2 : View) (t : Tables) (f : Fil
     answers : Answers who (Call.Rename p q) k t f k2 t f (answer Reply.Ok)
     answers g x n s small runs lets = (
       (stands_on g k k2 t t (with_files x f) f true n (n + 1) s (after_call s (who, Call.Rename p q)) runs.numbers runs.count (gone_by k.volume is.0.1.moving.target) runs is.0.2
-          (steps_rename k.volume k.cells x.claims runs.jobs runs.numbers s runs.count who p q k2.volume None runs.flying.device lets is.0.0 spelled is.0.1) (omega (arith, runs.few)) (omega arith) (tables_rename s who p q ∙ runs.tables)
+          (steps_rename k.volume k.cells x.claims runs.jobs runs.numbers s runs.count who p q k2.volume None runs.flying.device lets is.0.0 spelled is.0.1) (keeps_setting s (who, Call.Rename p q)).mode (omega (arith, runs.few)) (omega arith) (tables_rename s who p q ∙ runs.tables)
           (files_renamed p q k.volume k2.volume None t is.0.1 runs.open_are_files) (AreOrdered-step_of alone s who (Call.Rename p q) runs.ordered)
           (renamed_left p q g k t (with_files x f) n s runs k2.volume None is.0.1)).0,
       reply_ok who (Call.Rename p q) k t g (with_files x f) n s tt is.0.0 runs,

@@ -272,7 +272,7 @@ module _ (who : Who) (h : Handle) (p : List (List ℕ)) (f : Flags) (k : View) (
   opened_ended t2 fd old new none free t2_is on = (answers, on, λ g x n s runs. inl (opened_shown none g x n s runs).entries) where
     answers : Answers who (Call.Open h p f) k t fs k t2 fs (answer (Reply.Fd fd))
     answers g x n s small runs lets = (
-      runs_still g k t t2 (with_files x fs) n s (after_call s (who, Call.Open h p f)) runs (keeps_setting s (who, Call.Open h p f)).shape
+      runs_still g k t t2 (with_files x fs) n s (after_call s (who, Call.Open h p f)) runs (keeps_setting s (who, Call.Open h p f)).shape (keeps_setting s (who, Call.Open h p f)).mode
           (λ w valid. IsWorld-same k.volume x.claims runs.jobs w runs.numbers s (after_call s (who, Call.Open h p f)) runs.count valid
           (GoOn-call k.volume x.claims runs.jobs w runs.numbers s (who, Call.Open h p f) valid.valid lets tt) (opened_shown none g x n s runs)) (opened_tables who h p f k t fs ino found t2 none t2_is g x n s runs)
           (files_opened k t t2 who h ino f t2_is runs.open_are_files file) (AreOrdered-step_of alone s who (Call.Open h p f) runs.ordered),
@@ -315,7 +315,7 @@ module _ (who : Who) (h : Handle) (p : List (List ℕ)) (f : Flags) (k : View) (
     answers : Answers who (Call.Open h p f) k t fs k2 t2 fs (answer (Reply.Fd fd))
     answers g x n s small runs lets = (
       (stands_on g k k2 t t2 (with_files x fs) fs true n (n + 1) s (after_call s (who, Call.Open h p f)) (renumbered runs.numbers ino (length s.nodes)) (runs.count + 1) (Some ino) runs is.0.2
-          (created_step k2.volume ino is.0.0 is.0.1 g (with_files x fs) n s small runs lets) (omega (arith, runs.few)) (omega arith) (created_tables k2 t2 ino is.0.0 is.0.1 t2_is g (with_files x fs) n s runs)
+          (created_step k2.volume ino is.0.0 is.0.1 g (with_files x fs) n s small runs lets) (keeps_setting s (who, Call.Open h p f)).mode (omega (arith, runs.few)) (omega arith) (created_tables k2 t2 ino is.0.0 is.0.1 t2_is g (with_files x fs) n s runs)
           (files_opened k2 t t2 who h ino f t2_is (files_made false p k.volume k2.volume ino t is.0.1 runs.open_are_files).1 (new_kind k2.volume ino is.0.1)) (AreOrdered-step_of alone s who (Call.Open h p f) runs.ordered)
           (made_left false p g k t (with_files x fs) n s runs k2.volume ino is.0.1)).0,
       ap (λ y. y.outcome) (open_step who h p f k t (same_rows ∙ is.0.0) g (with_files x fs) n s runs) ∙ ap (λ i. answer (Reply.Fd i)) (next_there g k t (with_files x fs) n s runs fd free),

@@ -1,6 +1,6 @@
 -- One change of K-Split in a call: done, refused, or cut off, beside jobs that are out.
 use Rattle.std.specs.Prelude.{◌≡◌, ◌≢◌, ◌⊎◌, ◌≤◌, ◌<◌, ◌+◌, ◌^◌, ℕ, suc, true, AllPairs, length, slice_index_or, List, [], ◌∷◌, ◌++◌, map, Option, Some, None, Result, Err, refl}
-use Rattle.std.proofs.Common.{arith, ap, sym, subst, inl, inr}
+use Rattle.std.proofs.Common.{arith, ap, ◌∙◌, sym, subst, inl, inr}
 use Rattle.eof_laws.specs.pm_model.ImageLaws.{IsImage-words_of}
 use Rattle.eof_laws.specs.pm_model.Images.{words_of}
 use Rattle.eof_laws.specs.pm_model.Powers.{is_on, Supply}
@@ -39,7 +39,7 @@ use Rattle.live_step_laws.specs.world_model.Jobs.{ApartFrom, unfinished_call, Jo
 use Rattle.live_step_laws.specs.world_model.Stands.{number}
 use Rattle.live_step_laws.specs.world_model.JobLaws.{live_used}
 use Rattle.live_step_laws.specs.world_image_laws.Changed.{sound_headed}
-use Rattle.live_step_laws.specs.world_image_laws.Settings.{keeps_setting}
+use Rattle.live_step_laws.specs.world_image_laws.Settings.{keeps_setting, setting_run}
 use Rattle.live_step_laws.specs.world_step_laws.OtherCalls.{IsWorld-idle}
 use Rattle.live_step_laws.specs.world_image_laws.Flights.{leads_after, leads_before}
 use Rattle.live_step_laws.specs.world_image_laws.LentLaws.{LeadsTo}
@@ -98,19 +98,19 @@ module _ (g : Geometry) (k : View) (t : Tables) (x : Kept) (n : ℕ) (s : State)
 
 -- with one node more that may have been made
 pub runs_later : (g : Geometry) (k : View) (t : Tables) (x : Kept) (n : ℕ) (s : State) → RunsAs g k t x n s → RunsAs g k t x (n + 1) s
-runs_later g k t x n s runs = (stands_still g k t t x true n s s runs refl (λ f valid. valid) runs.tables runs.open_are_files runs.ordered).0
+runs_later g k t x n s runs = (stands_still g k t t x true n s s runs refl refl (λ f valid. valid) runs.tables runs.open_are_files runs.ordered).0
 
 -- a call that leaves K-Split as it is
-pub runs_still : (g : Geometry) (k : View) (t t2 : Tables) (x : Kept) (n : ℕ) (s next : State) (runs : RunsAs g k t x n s) → next.shape ≡ s.shape
+pub runs_still : (g : Geometry) (k : View) (t t2 : Tables) (x : Kept) (n : ℕ) (s next : State) (runs : RunsAs g k t x n s) → next.shape ≡ s.shape → next.mode ≡ s.mode
     → ((f : Words) → IsWorld k.volume x.claims runs.jobs f runs.numbers s runs.count → IsWorld k.volume x.claims runs.jobs f runs.numbers next runs.count)
     → next.tables ≡ numbered_as (number runs.numbers) t2 → ((ino : ℕ) → is_open t2 ino ≡ true → (inode k.volume ino).kind ≡ File) → AreOrdered next.entries → RunsAs g k t2 x (n + 1) next
-runs_still g k t t2 x n s next runs shape takes_on tables files ordered = (stands_still g k t t2 x true n s next runs shape takes_on tables files ordered).0
+runs_still g k t t2 x n s next runs shape mode takes_on tables files ordered = (stands_still g k t t2 x true n s next runs shape mode takes_on tables files ordered).0
 
 -- A call that changes tables and published lengths alone.
 pub idle_on : (g : Geometry) (k : View) (t t2 : Tables) (x : Kept) (n : ℕ) (s : State) (who : Who) (call : Call) (runs : RunsAs g k t x n s) → IsIdle call → LetsJobsBe s (who, call) runs.numbers runs.jobs
     → (after_call s (who, call)).tables ≡ numbered_as (number runs.numbers) t2 → ((ino : ℕ) → is_open t2 ino ≡ true → (inode k.volume ino).kind ≡ File) → RunsAs g k t2 x (n + 1) (after_call s (who, call))
 idle_on g k t t2 x n s who call runs idle lets tables files =
-    runs_still g k t t2 x n s (after_call s (who, call)) runs (keeps_setting s (who, call)).shape
+    runs_still g k t t2 x n s (after_call s (who, call)) runs (keeps_setting s (who, call)).shape (keeps_setting s (who, call)).mode
     (λ f valid. IsWorld-idle k.volume x.claims runs.jobs f runs.numbers s runs.count who call valid lets idle) tables files (AreOrdered-step_of alone s who call runs.ordered)
 
 -- a step that touches no file leaves what is kept of files
@@ -154,12 +154,12 @@ row_refuses who call k t f o named row g x n s runs = refused_by_row k.volume k.
 -- before the change
 pub loses_off : (who : Who) (call : Call) (k k2 : View) (t : Tables) (f : Files) → IsOff k k2 → Loses who call k t f k2
 loses_off who call k k2 t f off g x n start history small runs lets mode =
-    keeps_image_off k k2 x.claims runs.jobs runs.numbers start history runs.count (who, call) x.first mode (λ strict. runs.flying.whole) (going g k t (with_files x f) n (run start history) runs) off
+    keeps_image_off k k2 x.claims runs.jobs runs.numbers start history runs.count (who, call) x.first mode (λ strict. runs.flying.whole ((setting_run start history).mode ∙ strict)) (going g k t (with_files x f) n (run start history) runs) off
 
 -- and where no change comes
 pub loses_now : (who : Who) (call : Call) (k : View) (t : Tables) (f : Files) → Loses who call k t f k
 loses_now who call k t f g x n start history small runs lets mode =
-    keeps_image_off k (record k { lost = true }) x.claims runs.jobs runs.numbers start history runs.count (who, call) x.first mode (λ strict. runs.flying.whole) (going g k t (with_files x f) n (run start history) runs) refl
+    keeps_image_off k (record k { lost = true }) x.claims runs.jobs runs.numbers start history runs.count (who, call) x.first mode (λ strict. runs.flying.whole ((setting_run start history).mode ∙ strict)) (going g k t (with_files x f) n (run start history) runs) refl
 
 -- a call that takes no room leads to its end
 pub leads_end : (g : Geometry) (k : View) (t : Tables) (x : Kept) (n : ℕ) (start : State) (history : List Item) (who : Who) (call : Call) → (runs : RunsAs g k t x n (run start history))
@@ -186,7 +186,7 @@ pub loses_cut : (who : Who) (call : Call) (k k2 : View) (t : Tables) (f : Files)
     → Loses who call k t f k2
 loses_cut who call k k2 t f w cut into g x n start history small runs lets mode =
     let is = into g x n start history small runs lets in
-    keeps_image_cut is.touched k k2 w x.claims runs.jobs runs.numbers is.after (run start history) is.next runs.count is.later start history (who, call) x.first mode (λ strict. runs.flying.whole)
+    keeps_image_cut is.touched k k2 w x.claims runs.jobs runs.numbers is.after (run start history) is.next runs.count is.later start history (who, call) x.first mode (λ strict. runs.flying.whole ((setting_run start history).mode ∙ strict))
     (going g k t (with_files x f) n (run start history) runs) cut is.is_step (leads_before start history (who, call) runs.jobs) is.leads
 
 -- ---- what it leaves of the device

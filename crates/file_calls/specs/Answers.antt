@@ -5,7 +5,7 @@ use Rattle.eof_laws.specs.pm_model.Powers.{is_on, Supply}
 use Rattle.eof_laws.specs.layout_model.Places.{Geometry}
 use Rattle.layout_model.specs.declared.lines.Kind.{Kind}
 use Rattle.layout_model.specs.declared.lines.Kind.TheVariants.{Directory, File, Free, Staging}
-use Rattle.eof_laws.specs.image_model.Volume.{Volume}
+use Rattle.eof_laws.specs.image_model.Volume.{inode, Volume}
 use Rattle.eof_laws.specs.Ends.{FilesEnd}
 use Rattle.eof_laws.specs.file_table.Files.{Files, runs_in}
 use Rattle.eof_laws.specs.k_journal.Commits.{TakesAStep}
@@ -32,7 +32,6 @@ use Rattle.open_files.specs.posix_spec.Run.{after_call, run}
 use Rattle.open_files.specs.posix_spec.State.{alone, State, swept}
 use Rattle.open_files.specs.posix_spec.Step.{step}
 use Rattle.open_files.specs.posix_spec.Tree.{tree}
-use Rattle.live_step_laws.specs.volume_change_laws.Changes.{MayDrop}
 use Rattle.live_step_laws.specs.world_model.Jobs.{Job}
 use Rattle.live_step_laws.specs.world_model.Stands.{number}
 use Rattle.live_step_laws.specs.world_image_laws.LentLaws.{SameBlocks}
@@ -89,9 +88,14 @@ pub record HasSameLoans (old new : View) : Type 0 where
   pub size : length new.cells ≡ length old.cells
   pub lent : SameLent old.cells new.cells
 
--- HALF WAY through a call of two changes: they run in a state whose tree is that of the call's end, beside the same jobs; a file
--- may be dropped; and the end is this state with the file swept. Of the volume v, in which the call began, the lap and the
--- blocks of the jobs stay.
+-- the inode is that of a file
+pub record IsFileOf (ino : ℕ) (v : Volume) : Type 0 where
+  pub below : ino < length v.inodes
+  pub is_file : (inode v ino).kind ≡ File
+
+-- HALF WAY through a call of two changes: they run in a state whose tree is that of the call's end, beside the same jobs; and the
+-- end is this state with the file swept, which goes if it has no name and nobody has it open. Of the volume v, in which the call
+-- began, the lap and the blocks of the jobs stay.
 pub record IsHalfWay (g : Geometry) (v : Volume) (k : View) (t : Tables) (x : Kept) (n : ℕ) (jobs : List Job)
     (end : State) (ino : ℕ) : Type 0 where
   pub geometry : k.volume.geometry ≡ v.geometry
@@ -100,7 +104,7 @@ pub record IsHalfWay (g : Geometry) (v : Volume) (k : View) (t : Tables) (x : Ke
   pub middle : State
   pub runs : RunsAs g k t x n middle
   pub jobs_are : runs.jobs ≡ jobs
-  pub may : MayDrop ino k.volume
+  pub file : IsFileOf ino k.volume
   pub ends : end ≡ swept alone middle (number runs.numbers ino)
   pub tree_is : tree middle ≡ tree end
 

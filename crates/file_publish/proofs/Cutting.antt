@@ -1,6 +1,7 @@
 -- The power went while runs of a file were relinked: each image is kept.
 use Rattle.std.specs.Prelude.{◌≡◌, ◌≢◌, ◌⊎◌, ◌<◌, ◌+◌, ℕ, Bool, false, List, [], ◌∷◌, ◌++◌, Option, None, Some, Err, refl}
 use Rattle.std.proofs.Common.{arith, ap, ◌∙◌, sym, subst, inl, inr}
+use Rattle.live_step_laws.specs.world_image_laws.Settings.{setting_run}
 use Rattle.live_step_laws.specs.pm_model.declared.Cell.{Cell}
 use Rattle.live_step_laws.specs.pm_model.Images.{IsImage}
 use Rattle.live_step_laws.specs.pm_model.Parts.{put_back}
@@ -111,7 +112,7 @@ module _ (v w : Volume) (geometry : w.geometry ≡ v.geometry) (base : w.base �
 
 module _ (g : Geometry) (k : View) (t : Tables) (kept : Kept) (lines : Bool) (n : ℕ) (start : State) (history : List Item) (mode : start.mode ≢ Mode.Posix) (stands : StandsAt g k t kept lines n (run start history)) where
   pub kept-still : IsKeptBack k.volume k.cells kept.first kept.claims stands.jobs start history []
-  kept-still = promise_in_flight k.volume k.cells kept.claims stands.jobs stands.numbers start history stands.count kept.first mode (λ strict. stands.flying.whole) stands.flying.device
+  kept-still = promise_in_flight k.volume k.cells kept.claims stands.jobs stands.numbers start history stands.count kept.first mode (λ strict. stands.flying.whole ((setting_run start history).mode ∙ strict)) stands.flying.device
 
 pub home-still : (g : Geometry) (k : View) (t : Tables) (kept : Kept) (n : ℕ) (start : State) (history : List Item) → StandsAt g k t kept false n (run start history)
     → (image : Words) → IsImage k.cells image → IsHonest g (λ i. cell k.cells i) image → IsKept g start history [] image

@@ -1,6 +1,7 @@
 -- The power went while the first run of a file was relinked: each image is kept.
 use Rattle.std.specs.Prelude.{◌≡◌, ℕ, Bool, false, List, [], ◌∷◌, refl}
-use Rattle.std.proofs.Common.{sym, subst}
+use Rattle.std.proofs.Common.{◌∙◌, sym, subst}
+use Rattle.live_step_laws.specs.world_image_laws.Settings.{setting_run}
 use Rattle.live_step_laws.specs.layout_model.Places.{Geometry}
 use Rattle.live_step_laws.specs.image_model.Volume.{Volume}
 use Rattle.log_checkpoint.specs.file_overlay.declared.runs.Run.{Run}
@@ -38,7 +39,7 @@ pub keeps-relinked : KeepsRelinked
 keeps-relinked g k l t kept lines n start history ino r rest stands runs_are may beside w blocks made cut mode =
     kept-back blocks k.volume w k.cells l.cells kept.claims stands.jobs stands.numbers (run start history) stands.count stands.flying.device
     (changed g k l t kept lines n start history stands ino r rest runs_are may beside w blocks made cut) (relinking.spare g k t kept lines n (run start history) stands ino r rest runs_are may beside w blocks made cut.whole)
-    (relinking.room g k t kept lines n (run start history) stands ino r rest runs_are may beside w blocks made cut.whole) (relinking.takes g k t kept lines n (run start history) stands ino r rest runs_are may beside w blocks made cut.whole) start history mode refl (λ strict. stands.flying.whole) (relinking.job-block g k t kept lines n (run start history) stands ino r rest runs_are may beside w blocks made cut.whole) kept.first
+    (relinking.room g k t kept lines n (run start history) stands ino r rest runs_are may beside w blocks made cut.whole) (relinking.takes g k t kept lines n (run start history) stands ino r rest runs_are may beside w blocks made cut.whole) start history mode refl (λ strict. stands.flying.whole ((setting_run start history).mode ∙ strict)) (relinking.job-block g k t kept lines n (run start history) stands ino r rest runs_are may beside w blocks made cut.whole) kept.first
 
 -- with log lines at home no job is out
 pub no-jobs : (pending : List JobOut) (jobs : List Job) → AreJobsOf pending jobs → pending ≡ [] → jobs ≡ []
@@ -56,6 +57,6 @@ keeps-relinked-home g k l t kept n start history ino r rest mode stands runs_are
     (relinking.spare g k t kept false n (run start history) stands ino r rest runs_are may beside w blocks made cut.whole)
     (relinking.room g k t kept false n (run start history) stands ino r rest runs_are may beside w blocks made cut.whole)
     (relinking.takes g k t kept false n (run start history) stands ino r rest runs_are may beside w blocks made cut.whole)
-    start history mode refl (λ strict. stands.flying.whole)
+    start history mode refl (λ strict. stands.flying.whole ((setting_run start history).mode ∙ strict))
     (relinking.job-block g k t kept false n (run start history) stands ino r rest runs_are may beside w blocks made cut.whole)
     stands.lines.1 image of_device)

@@ -218,7 +218,7 @@ module _ (g : Geometry) (k : View) (t : Tables) (kept : Kept) (n : ℕ) (s : Sta
         unbatched = begun.goes_on.unbatched;
         on = begun.goes_on.on;
         geometry = geometry ∙ stands.geometry;
-        flying = record { device = running-then.device; whole = tt; out = λ j is. absurd is; home = home; overlays = overlay };
+        flying = record { device = running-then.device; whole = λ strict. tt; out = λ j is. absurd is; home = home; overlays = overlay };
         lines = (refl, running-then.log);
         quiet = λ i journal line not_lent. done.singles i (gone.singles i (stands.quiet i journal line (sym (same-lent i) ∙ not_lent)));
         blocks = λ p is. absurd is;

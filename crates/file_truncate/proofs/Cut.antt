@@ -1,6 +1,7 @@
 -- The power goes while a file gets another size: each image is kept.
 use Rattle.std.specs.Prelude.{◌≤◌, ◌+◌, ℕ, cond, Bool, true, false, length, is_none, sum_by}
-use Rattle.std.proofs.Common.{arith, sym, subst}
+use Rattle.std.proofs.Common.{arith, ◌∙◌, sym, subst}
+use Rattle.file_calls.specs.live_step_laws.world_image_laws.Settings.{setting_run}
 use Rattle.file_calls.specs.eof_laws.file_table.Files.{size_in}
 use Rattle.file_calls.specs.live_step_laws.posix_types.declared.call.Call.{Call}
 use Rattle.file_calls.specs.live_step_laws.posix_types.declared.call.Who.{Who}
@@ -34,7 +35,7 @@ keeps_sized g k l t kept lines n start history who h size ino stands two may w b
     kept_image blocks k.volume w k.cells l.cells kept.claims stands.jobs stands.numbers (run start history) (after_call (run start history) (who, Call.Truncate h size)) stands.count ino (size_in kept.files ino) size
     (sizing.below g k t kept lines n (run start history) stands who h size ino may w blocks makes cut.whole) stands.flying.device changed
     (sizing.spare g k t kept lines n (run start history) stands who h size ino may w blocks makes cut.whole) (sizing.room_on g k t kept lines n (run start history) stands who h size ino may w blocks makes cut.whole)
-    (sizing.takes_zeros g k t kept lines n (run start history) stands who h size ino may w blocks makes cut.whole) may.zeros start history (who, Call.Truncate h size) mode (λ strict. stands.flying.whole)
+    (sizing.takes_zeros g k t kept lines n (run start history) stands who h size ino may w blocks makes cut.whole) may.zeros start history (who, Call.Truncate h size) mode (λ strict. stands.flying.whole ((setting_run start history).mode ∙ strict))
     (sizing.same_blocks g k t kept lines n (run start history) stands who h size ino may w blocks makes cut.whole) (leads_before start history (who, Call.Truncate h size) stands.jobs) leads kept.first
   where
     changed : IsChangeWith blocks k.volume w k.cells l.cells

@@ -3,6 +3,7 @@ use Rattle.std.specs.Prelude.{◌≡◌, ◌≢◌, ◌≤◌, ◌<◌, ◌+◌,
 use Rattle.std.proofs.Common.{arith, ap, ◌∙◌, sym, subst, inl, inr}
 use Rattle.std.proofs.lemmas.Bool.{cases_eq}
 use Rattle.std.proofs.lemmas.List.{get_or-set_other, get_or-set_same, length-set}
+use Rattle.file_calls.specs.live_step_laws.live_model.world_image_laws.Settings.{keeps_setting}
 use Rattle.file_calls.specs.live_step_laws.pm_model.Cells.{cell, is_lent}
 use Rattle.file_calls.specs.live_step_laws.pm_model.Words.{line_bytes}
 use Rattle.file_calls.specs.live_step_laws.layout_model.Places.{Geometry, log_line}
@@ -250,7 +251,7 @@ module _ (g : Geometry) (k l : View) (t : Tables) (kept : Kept) (files : Files) 
       unbatched = off;
       on = done.kept_on;
       geometry = geometry ∙ stands.geometry;
-      flying = record { device = device; whole = stands.flying.whole; out = out; home = home; overlays = overlay };
+      flying = record { device = device; whole = λ strict. stands.flying.whole (sym (keeps_setting s (who, Call.Truncate h size)).mode ∙ strict); out = out; home = home; overlays = overlay };
       lines = lines_on lines stands.lines;
       quiet = λ i journal line not_lent. done.singles i (stands.quiet i journal line (sym (same_lent i) ∙ not_lent));
       blocks = blocks;

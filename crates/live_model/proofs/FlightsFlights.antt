@@ -100,9 +100,9 @@ laid v live d files overlays above log ino file = by (ino == d.ino) refl where
   by false is = lays_beside v live d ino (files ino).runs (files ino).size (other_ino ino d.ino is) (overlays ino file)
 
 pub flies_finished : FliesFinished
-flies_finished v d e claims a j b files numbers s count slot loans words fly back size hold spell = record {
-  device = finishes_job v d e claims a j b numbers s count slot loans words fly.device (fly.out j (own a j b)) back size hold spell (whole_own a j b fly.whole);
-  whole = whole_others a j b fly.whole;
+flies_finished v d e claims a j b files numbers s count slot loans words fly strict back size hold spell = record {
+  device = finishes_job v d e claims a j b numbers s count slot loans words fly.device (fly.out j (own a j b)) back size hold spell (whole_own a j b (fly.whole strict));
+  whole = λ again. whole_others a j b (fly.whole strict);
   out = others_out v d e claims a j b files numbers s count loans fly back;
   home = others_home v d e claims a j b files numbers s count loans fly back (λ k n below within. ap is_lent (hold k n (omega (arith, below, size)) within));
   overlays = λ ino file.
@@ -115,7 +115,7 @@ flies_finished v d e claims a j b files numbers s count slot loans words fly bac
 pub flies_given_up : FliesGivenUp
 flies_given_up v d e claims a j b files numbers s count loans fly back home = record {
   device = gives_up_job v d e claims a j b numbers s count loans fly.device (fly.out j (own a j b)) back;
-  whole = whole_others a j b fly.whole;
+  whole = λ strict. whole_others a j b (fly.whole strict);
   out = others_out v d e claims a j b files numbers s count loans fly back;
   home = others_home v d e claims a j b files numbers s count loans fly back (λ k n below within. home k n);
   overlays = fly.overlays;
@@ -126,7 +126,7 @@ flies_given_up v d e claims a j b files numbers s count loans fly back home = re
 pub flies_begun : FliesBegun
 flies_begun v d e claims jobs j files numbers s count fly stands apart fits free found goes now = record {
   device = begins_job v d e claims jobs j numbers s count fly.device stands apart fits free goes now;
-  whole = whole_pushed jobs j fly.whole found;
+  whole = λ strict. whole_pushed jobs j (fly.whole strict) (found strict);
   out = λ x is. elim (pushed-In jobs j x is) [ inl old ↦ still_out x old | inr same ↦ subst (λ (y : Job). AreOut v y.draft e) same goes.out ];
   home = λ i lent. by i lent (is_lent (cell d i)) refl;
   overlays = fly.overlays;

@@ -14,6 +14,7 @@ use Rattle.file_reads.specs.Reads.{FileCanBeRead}
 use Rattle.file_reads.specs.k_split_model.Stands.{Stands}
 use Rattle.write_jobs.specs.list_laws.Members.{In}
 use Rattle.write_jobs.specs.world_model.posix_laws.Views.{need_of}
+use Rattle.write_jobs.specs.commute_laws.posix_types.declared.call.Mode.{Mode}
 use Rattle.write_jobs.specs.world_model.posix_spec.Run.{after_call}
 use Rattle.write_jobs.specs.world_model.posix_spec.State.{room, State}
 use Rattle.write_jobs.specs.world_model.JobLaws.{needs}
@@ -29,14 +30,14 @@ FliesBegun =
     → IsFlying v d claims jobs files numbers s count → ((image : Words) → IsImage d image → JobStands v (live_claims v claims) (journaled image) numbers s j)
     → ((i : Job) → In i jobs → AreApartJobs i j) → needs s jobs + need_of s j.who j.call ≤ room s
     → length (live_claims v claims) + length jobs + reserve v.geometry ≤ unused_blocks v + 2
-    → j.found ≡ j.whole → GoOut v j.draft d e → Stands v.geometry v e
+    → (s.mode ≡ Mode.Strict → j.found ≡ j.whole) → GoOut v j.draft d e → Stands v.geometry v e
     → IsFlying v e claims (jobs ++ j ∷ []) files numbers s count
 
--- A JOB FINISHES: its blocks come back with its words, its entry is claimed, its run is laid, and its call has acted.
+-- A JOB FINISHES, in strict mode: its blocks come back with its words, its entry is claimed, its run is laid, and its call has acted.
 abbrev pub FliesFinished : Type 0
 FliesFinished =
     (v : Volume) (d e : List Cell) (claims : List (ℕ × Draft)) (a : List Job) (j : Job) (b : List Job) (files : ℕ → FileState) (numbers : List ℕ) (s : State) (count slot : ℕ) (loans : List Part) (words : List ℕ)
-    → IsFlying v d claims (a ++ j ∷ b) files numbers s count → ArePutBack v j.draft loans d e → length loans ≡ j.draft.count → HoldWords loans words → SpellWhole j.draft words j.whole
+    → IsFlying v d claims (a ++ j ∷ b) files numbers s count → s.mode ≡ Mode.Strict → ArePutBack v j.draft loans d e → length loans ≡ j.draft.count → HoldWords loans words → SpellWhole j.draft words j.whole
     → IsFlying v e (claims ++ (slot, j.draft) ∷ []) (a ++ b) (with_entry files j.draft) numbers (after_call s (unfinished_call j)) count
 
 -- A JOB IS GIVEN UP: its blocks come back with whatever they hold.

@@ -1,5 +1,5 @@
 -- When K-Split, the open files, the staging files, what is kept of files, and the jobs that are out stand together in a state of
--- the calls, in strict mode.
+-- the calls.
 use Rattle.std.specs.Prelude.{◌≡◌, ◌≢◌, ◌≤◌, ◌<◌, ◌+◌, ◌*◌, ◌/◌, ◌^◌, ℕ, Bool, true, false, Contains, AllPairs, List, [], ◌∷◌, length, Some, slice_index}
 use Rattle.file_table.specs.pm_model.declared.Cell.{Cell}
 use Rattle.file_table.specs.pm_model.Cells.{cell, is_lent, is_single}

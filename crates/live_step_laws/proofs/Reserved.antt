@@ -3,6 +3,7 @@ use Rattle.std.specs.Prelude.{◌≡◌, ◌≢◌, ◌⊎◌, ◌≤◌, ◌<�
 use Rattle.std.proofs.Common.{arith, ap, ◌∙◌, sym, subst, inl, inr}
 use Rattle.std.proofs.lemmas.List.{length-append}
 use Rattle.std.proofs.lemmas.List.Elements.{Contains-append_left}
+use Rattle.k_split_laws.specs.world_image_laws.Settings.{setting_run}
 use Rattle.relink_laws.specs.world_write_laws.pm_model.declared.Cell.{Cell}
 use Rattle.relink_laws.specs.world_write_laws.pm_model.Cells.{cell, is_lent}
 use Rattle.relink_laws.specs.world_write_laws.pm_model.ImageLaws.{IsImage-words_of}
@@ -35,7 +36,6 @@ use Rattle.live_model.specs.staging_files.declared.runs.StageRun.{StageRun}
 use Rattle.live_model.specs.staging_files.Keeps.{Agrees, AreApart, AreFreeSingle, IsKeptEmpty, IsRunSingle, IsStaged, IsStaging, IsThere, Staged}
 use Rattle.live_model.specs.staging_files.Reserves.{IsFreeRun, IsGiven, IsTaken, share, wanted, with_out}
 use Rattle.live_model.proofs.staging_files_proofs.AgreeLaws.{agrees-given, agrees-taken, run-single-given, run-single-taken, single-given, single-taken, there-given, there-taken}
-use Rattle.live_model.proofs.staging_files_proofs.ReserveLaws.{few-out, second-room}
 use Rattle.live_model.proofs.staging_files_proofs.RoomLaws.{share-fits, share-leaves}
 use Rattle.live_model.proofs.staging_files_proofs.StagedLaws.{apart-empty, apart-free, staged-given, staged-taken}
 use Rattle.relink_laws.specs.world_write_laws.world_model.Jobs.{unfinished_call, Job, live_claims, staged_block}
@@ -110,7 +110,7 @@ module _ (g : Geometry) (k : View) (t : Tables) (kept : Kept) (lines : Bool) (n 
         ordered = stands.ordered;
         sizes = stands.sizes;
         bare = stands.bare;
-        staged = staged-taken kept.staging taken stands.staged is.way.place.staging (omega (arith, some, count_is)) free_run (few-out kept.staging k stands.order is.way.room);
+        staged = staged-taken kept.staging taken stands.staged is.way.place.staging (omega (arith, some, count_is)) free_run;
         agrees = agrees-taken kept.staging k taken stands.agrees;
         free_single = single-taken kept.staging k taken stands.free_single;
         drafts = stands.drafts;
@@ -303,8 +303,7 @@ module _ (g : Geometry) (k l : View) (t : Tables) (kept : Kept) (lines : Bool) (
     bare = λ ino none. stands.bare ino (λ file. none (kinds ino ∙ file));
     staged =
         subst IsStaged (sym is.staged)
-        (staged-given kept.staging taken size stands.staged file_is (omega (arith, some, count_is)) block_is (omega (arith, fits.0, count_is)) fits.1 is.way.place.empty
-        (few-out kept.staging k stands.order (second-room kept.staging k count is.way.room)));
+        (staged-given kept.staging taken size stands.staged file_is (omega (arith, some, count_is)) block_is (omega (arith, fits.0, count_is)) fits.1 is.way.place.empty);
     agrees = subst (λ y. Agrees y l) (sym is.staged) (agrees-given x size k l stands.order file_is is.given kept.staging taken stands.staged refl (omega (arith, some, fits.0)) stands.agrees);
     free_single = subst (λ y. AreFreeSingle y l) (sym is.staged) (single-given x size k l stands.order file_is is.given kept.staging taken stands.staged refl stands.free_single);
     drafts = λ d is_live. stands.drafts d (subst (In d) same_live is_live);
@@ -338,14 +337,14 @@ module _ (g : Geometry) (k l : View) (t : Tables) (kept : Kept) (lines : Bool) (
   kept_off : l.cells ≡ k.cells → KeepsWhenLost k.volume l.cells kept stands.jobs start history (c ∷ [])
   kept_off same mode =
       subst (λ d. IsKeptBack k.volume d kept.first kept.claims stands.jobs start history (c ∷ [])) (sym same)
-      (promise_at_begin k.volume k.cells kept.claims stands.jobs stands.numbers start history stands.count kept.first c mode (λ strict. stands.flying.whole) stands.flying.device)
+      (promise_at_begin k.volume k.cells kept.claims stands.jobs stands.numbers start history stands.count kept.first c mode (λ strict. stands.flying.whole ((setting_run start history).mode ∙ strict)) stands.flying.device)
 
   -- in the change
   kept_cut : (count x : ℕ) (w : Volume) (blocks : List ℕ) → IsStaging x → IsKeptEmpty kept.staging x → share kept.staging k count + length kept.staging.out + reserve k.volume.geometry ≤ free_blocks_in k + 1
       → share kept.staging k count ≤ 64 → IsPreallocatedWith x (share kept.staging k count) k w blocks → IsMapCut blocks w k l → KeepsWhenLost k.volume l.cells kept stands.jobs start history (c ∷ [])
   kept_cut count x w blocks file_is empty enough few made cut mode =
       promise_with blocks k.volume w k.cells l.cells kept.claims stands.jobs stands.numbers stands.numbers (run start history) (run start history) start history stands.count stands.count kept.first c mode
-      (λ strict. stands.flying.whole) stands.flying.device (leads_before start history c stands.jobs) (leads_before start history c stands.jobs) change (restaging.spare g k t kept lines n (run start history) stands x (share kept.staging k count) w blocks file_is empty made cut.whole)
+      (λ strict. stands.flying.whole ((setting_run start history).mode ∙ strict)) stands.flying.device (leads_before start history c stands.jobs) (leads_before start history c stands.jobs) change (restaging.spare g k t kept lines n (run start history) stands x (share kept.staging k count) w blocks file_is empty made cut.whole)
       (restaging.same_blocks g k t kept lines n (run start history) stands x (share kept.staging k count) w blocks file_is empty made cut.whole stands.jobs (restaging.none_out g k t kept lines n (run start history) stands x (share kept.staging k count) w blocks file_is empty made cut.whole)) room (restaging.takes g k t kept lines n (run start history) stands x (share kept.staging k count) w blocks file_is empty made cut.whole)
     where
       change : IsChangeWith blocks k.volume w k.cells l.cells

@@ -222,9 +222,9 @@ module _ (g : Geometry) (k k2 : View) (t t2 : Tables) (kept : Kept) (files : Fil
       let fewer = fewer_entries ino (decide touched ino) in
       omega (arith, was, applied, fewer, more)
 
-  pub still_standing : later ≤ m → n ≤ m → next.tables ≡ numbered_as (number after) t2 → ((ino : ℕ) → is_open t2 ino ≡ true → (inode k2.volume ino).kind ≡ File) → AreOrdered next.entries
+  pub still_standing : next.mode ≡ s.mode → later ≤ m → n ≤ m → next.tables ≡ numbered_as (number after) t2 → ((ino : ℕ) → is_open t2 ino ≡ true → (inode k2.volume ino).kind ≡ File) → AreOrdered next.entries
       → (x : StandsAt g k2 t2 (record kept { files = files }) lines m next) × (x.jobs ≡ stands.jobs) × (x.numbers ≡ after)
-  still_standing few more tables open_files ordered = (
+  still_standing mode few more tables open_files ordered = (
     record {
       count = later;
       few = few;
@@ -235,7 +235,7 @@ module _ (g : Geometry) (k k2 : View) (t t2 : Tables) (kept : Kept) (files : Fil
       unbatched = now.unbatched;
       on = now.on;
       geometry = step.geometry ∙ stands.geometry;
-      flying = record { device = now.device; whole = stands.flying.whole; out = out; home = home; overlays = overlays };
+      flying = record { device = now.device; whole = λ strict. stands.flying.whole (sym mode ∙ strict); out = out; home = home; overlays = overlays };
       lines = lines_on lines stands.lines;
       quiet = λ i journal line not_lent. done.singles i (stands.quiet i journal line (sym (same_lent i) ∙ not_lent));
       blocks = blocks;
@@ -260,11 +260,11 @@ module _ (g : Geometry) (k k2 : View) (t t2 : Tables) (kept : Kept) (files : Fil
   )
 
 pub stands_on : StandsOn
-stands_on g k k2 t t2 kept files lines n m s next after later touched stands done step few more tables open_files ordered left =
-    still_standing g k k2 t t2 kept files lines n m s next after later touched stands done step left few more tables open_files ordered
+stands_on g k k2 t t2 kept files lines n m s next after later touched stands done step mode few more tables open_files ordered left =
+    still_standing g k k2 t t2 kept files lines n m s next after later touched stands done step left mode few more tables open_files ordered
 
 pub stands_still : StandsStill
-stands_still g k t t2 kept lines n s next stands shape takes tables open_files ordered = (
+stands_still g k t t2 kept lines n s next stands shape mode takes tables open_files ordered = (
   record {
     count = stands.count;
     few = omega (arith, stands.few);
@@ -282,7 +282,7 @@ stands_still g k t t2 kept lines n s next stands shape takes tables open_files o
         world = λ image is. takes (journaled image) (stands.flying.device.world image is);
         room = record { free = stands.flying.device.room.free; blocks = ap (λ x. x.data_blocks) shape ∙ stands.flying.device.room.blocks };
       };
-      whole = stands.flying.whole;
+      whole = λ strict. stands.flying.whole (sym mode ∙ strict);
       out = stands.flying.out;
       home = stands.flying.home;
       overlays = stands.flying.overlays;

@@ -12,6 +12,7 @@ use Rattle.live_model.specs.k_split_model.View.{View}
 use Rattle.live_model.specs.k_split.Order.{IsInOrder}
 use Rattle.live_model.specs.list_laws.Members.{In}
 use Rattle.live_model.specs.posix_laws.Views.{need_of}
+use Rattle.live_model.specs.commute_laws.posix_types.declared.call.Mode.{Mode}
 use Rattle.live_model.specs.posix_tables.Open.{Tables}
 use Rattle.live_model.specs.posix_spec.State.{room, State}
 use Rattle.live_model.specs.world_model.JobLaws.{needs}
@@ -26,8 +27,8 @@ with_job kept p = record kept { pending = kept.pending ++ p ∷ [] }
 abbrev pub with_cells : View → List Cell → View
 with_cells k cells = record k { cells = cells }
 
--- THE JOB MAY BEGIN: it is the pending one; it stands by each image, apart from the others, all its bytes are found, and it finds
--- room; its caller is another one; its blocks are those of its entry, whose run is out; one run more is out than the live entries
+-- THE JOB MAY BEGIN: it is the pending one; it stands by each image, apart from the others, in strict mode all its bytes are found, and
+-- it finds room; its caller is another one; its blocks are those of its entry, whose run is out; one run more is out than the live entries
 -- and the jobs have; the blocks that all runs that are out want are free; and there is room to lay its run.
 pub record MayBegin (k : View) (kept : Kept) (jobs : List Job) (numbers : List ℕ) (s : State) (p : JobOut)
     (j : Job) : Type 0 where
@@ -37,7 +38,7 @@ pub record MayBegin (k : View) (kept : Kept) (jobs : List Job) (numbers : List �
   pub stands : (image : Words) → IsImage k.cells image
       → JobStands k.volume (live_claims k.volume kept.claims) (journaled image) numbers s j
   pub apart : (i : Job) → In i jobs → AreApartJobs i j
-  pub whole : j.found ≡ j.whole
+  pub whole : s.mode ≡ Mode.Strict → j.found ≡ j.whole
   pub fits : needs s jobs + need_of s j.who j.call ≤ room s
   pub caller : (q : JobOut) → In q kept.pending → AreOfTwoThreads q p
   pub blocks : HasItsBlocks k.volume p

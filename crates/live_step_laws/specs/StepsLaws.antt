@@ -38,7 +38,7 @@ StandsOn =
     (g : Geometry) (k k2 : View) (t t2 : Tables) (kept : Kept) (files : Files) (lines : Bool) (n m : ℕ) (s next : State)
     (after : List ℕ) (later : ℕ) (touched : Option ℕ) → (stands : StandsAt g k t kept lines n s) → IsDone k k2
     → IsStep touched k.volume k2.volume kept.claims stands.jobs stands.numbers after s next stands.count later
-    → later ≤ m → n ≤ m → next.tables ≡ numbered_as (number after) t2
+    → next.mode ≡ s.mode → later ≤ m → n ≤ m → next.tables ≡ numbered_as (number after) t2
     → ((ino : ℕ) → is_open t2 ino ≡ true → (inode k2.volume ino).kind ≡ File) → AreOrdered next.entries
     → AreLeft touched k2.volume kept.files files
     → (now : StandsAt g k2 t2 (record kept { files = files }) lines m next) × (now.jobs ≡ stands.jobs)
@@ -54,7 +54,7 @@ LeavesCleared = (w : Volume) (ino : ℕ) (old new : Files) → ChangesFile ino [
 abbrev pub StandsStill : Type 0
 StandsStill =
     (g : Geometry) (k : View) (t t2 : Tables) (kept : Kept) (lines : Bool) (n : ℕ) (s next : State)
-    → (stands : StandsAt g k t kept lines n s) → next.shape ≡ s.shape
+    → (stands : StandsAt g k t kept lines n s) → next.shape ≡ s.shape → next.mode ≡ s.mode
     → ((f : Words) → IsWorld k.volume kept.claims stands.jobs f stands.numbers s stands.count
     → IsWorld k.volume kept.claims stands.jobs f stands.numbers next stands.count)
     → next.tables ≡ numbered_as (number stands.numbers) t2

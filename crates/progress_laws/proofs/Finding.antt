@@ -29,6 +29,7 @@ use Rattle.world_parts.specs.world_view_laws.posix_tables.Outcomes.{first}
 use Rattle.world_parts.specs.world_view_laws.in_flight.staging_files.GivesUp.{nothing_staged}
 use Rattle.world_parts.specs.world_view_laws.in_flight.staging_files.Keeps.{Staged}
 use Rattle.world_parts.specs.world_view_laws.in_flight.live_model.Standing.{JobOut}
+use Rattle.world_parts.proofs.world_view_laws_proofs.Holes.{no_holes}
 use Rattle.world_parts.specs.world_view_laws.Begins.{IsStagingNeed, LacksBeside, LacksStaging}
 use Rattle.world_parts.specs.world_view_laws.Views.{Disk, IsGoing, state_of, WorldView}
 use Rattle.world_parts.specs.world_view_laws.in_flight.staging_files.Reserves.{IsLacking}
@@ -81,7 +82,7 @@ module _ (fits : FirstWriteFits) (kept_law : StandsAsKept) (room_law : RoomIsKep
         let enough = need_fits (state_of w) who h at x accepts in
         fits w.geometry k t found.kept true (length w.history) (state_of w) (size_in files (file_number t who h)) (start_at t files who h at) (length x) need left found.stands fresh going.ends (at_least_one (length x) accepts.some) (omega (arith, needed, room, enough))
         (subst (λ n. IsLacking (staged_count Mode.Strict 0 n (length x)) staging k need left) start
-        (lacks_in w who h at x k t staging none one.world.disk_is found.stands.geometry going.runs need left lacks))
+        (lacks_in w who h at x k t staging files none one.world.disk_is found.stands.geometry need left lacks))
 
   -- and no other call stages blocks.
   finds_run : (call : Call) (need left : ℕ) → AtCall k t staging files w who call → LacksStaging w who call need left → ⊥
@@ -92,4 +93,5 @@ module _ (fits : FirstWriteFits) (kept_law : StandsAsKept) (room_law : RoomIsKep
 
 pub first_calls_have_room : FirstWriteFits → StandsAsKept → RoomIsKept → StartsAsCall → NeedsAsCall → JobsNeed → FirstCallsHaveRoom
 first_calls_have_room fits kept_law room_law starts needs_law jobs k t staging files w who call need left one at (inl beside) = none_beside w who call need left at.none_out beside
-first_calls_have_room fits kept_law room_law starts needs_law jobs k t staging files w who call need left one at (inr lacks) = finds_run fits kept_law room_law starts needs_law jobs k t staging files w who at call need left one lacks
+first_calls_have_room fits kept_law room_law starts needs_law jobs k t staging files w who call need left one at (inr (inl holes)) = no_holes w one.world.mode who call need left holes
+first_calls_have_room fits kept_law room_law starts needs_law jobs k t staging files w who call need left one at (inr (inr lacks)) = finds_run fits kept_law room_law starts needs_law jobs k t staging files w who at call need left one lacks

@@ -12,8 +12,9 @@ use Rattle.world_parts.specs.world_view_laws.posix_spec.Put.{Put, put_by}
 use Rattle.world_parts.specs.world_view_laws.posix_spec.State.{State}
 use Rattle.world_parts.specs.world_view_laws.crash_spec.Busy.{is_busy, is_logged, is_logged_put}
 use Rattle.world_parts.specs.world_view_laws.world_image_laws.Settings.{setting_run}
-use Rattle.world_parts.specs.world_view_laws.Begins.{Begins, IsNeed, IsOfOpenFile, IsStagingNeed, LacksBeside, LacksStaging, Publishes}
-use Rattle.world_parts.specs.world_view_laws.Views.{files_out, state_of, WorldView}
+use Rattle.world_parts.proofs.world_view_laws_proofs.Holes.{no_holes}
+use Rattle.world_parts.specs.world_view_laws.Begins.{Begins, HasFilled, IsNeed, IsOfOpenFile, IsStagingNeed, LacksSpace, Publishes}
+use Rattle.world_parts.specs.world_view_laws.Views.{Disk, files_out, state_of, WorldView}
 use Rattle.progress_laws.specs.Laws.{EndsWithOnePair, HasApplied, JobsHaveRoom, ReturnsHaveRoom, SyncsPublish, WaitsAlone}
 
 -- a World has one next call of a caller
@@ -55,14 +56,16 @@ syncs_publish who h old new before after returned is ok =
 
 pub returns_have_room : ReturnsHaveRoom
 returns_have_room who old new before after need left strict returned (inl beside) = returned.enough need left beside
-returns_have_room who old new before after need left strict returned (inr staging) =
+returns_have_room who old new before after need left strict returned (inr (inl holes)) = returned.holes need left holes
+returns_have_room who old new before after need left strict returned (inr (inr staging)) =
     let logged = staged_logged old who returned.call need ((setting_run old.start old.history).mode ∙ strict) staging.need_is in
     let never : false ≡ true = sym returned.unlogged ∙ logged in
     cc
 
 pub jobs_have_room : JobsHaveRoom
 jobs_have_room who old new after job need left begun (inl beside) = begun.enough need left beside
-jobs_have_room who old new after job need left begun (inr staging) = begun.run need left staging
+jobs_have_room who old new after job need left begun (inr (inl holes)) = begun.holes need left holes
+jobs_have_room who old new after job need left begun (inr (inr staging)) = begun.run need left staging
 
 pub waits_alone : WaitsAlone
 waits_alone who call old new before after ino holder waits begins =
@@ -72,14 +75,22 @@ waits_alone who call old new before after ino holder waits begins =
     cc
 
 -- two causes of one call tell one pair
-one_pair : (w : WorldView) (who : Who) (call : Call) (need left more less : ℕ) → LacksBeside w who call need left ⊎ LacksStaging w who call need left → LacksBeside w who call more less ⊎ LacksStaging w who call more less
+one_pair : (w : WorldView) (who : Who) (call : Call) (need left more less : ℕ) → w.start.mode ≡ Mode.Strict → LacksSpace w w.disk who call need left → LacksSpace w w.disk who call more less
     → (need ≡ more) × (left ≡ less)
-one_pair w who call need left more less (inl is) (inl again) = (one_need w who call need more is.need_is again.need_is, is.left_is ∙ sym again.left_is)
-one_pair w who call need left more less (inl is) (inr again) = absurd (again.beside need left is)
-one_pair w who call need left more less (inr is) (inl again) = absurd (is.beside more less again)
-one_pair w who call need left more less (inr is) (inr again) = (one_staging_need w (put_by (state_of w) who call) need more is.need_is again.need_is, is.left_is ∙ sym again.left_is)
+one_pair w who call need left more less strict (inl is) (inl again) = (one_need w who call need more is.need_is again.need_is, is.left_is ∙ sym again.left_is)
+one_pair w who call need left more less strict (inl is) (inr (inr again)) = absurd (again.beside need left is)
+one_pair w who call need left more less strict (inl is) (inr (inl again)) = absurd (no_holes w strict who call more less again)
+one_pair w who call need left more less strict (inr (inr is)) (inl again) = absurd (is.beside more less again)
+one_pair w who call need left more less strict (inr (inr is)) (inr (inr again)) = (one_staging_need w (put_by (state_of w) who call) need more is.need_is again.need_is, is.left_is ∙ sym again.left_is)
+one_pair w who call need left more less strict (inr (inr is)) (inr (inl again)) = absurd (no_holes w strict who call more less again)
+one_pair w who call need left more less strict (inr (inl is)) again = absurd (no_holes w strict who call need left is)
+
+-- with nothing filled
+as_it_was : (w : WorldView) (d : Disk) (who : Who) (call : Call) (need left : ℕ) → w.start.mode ≡ Mode.Strict → HasFilled w d → LacksSpace w d who call need left → LacksSpace w w.disk who call need left
+as_it_was w d who call need left strict filled lacks = subst (λ (e : Disk). LacksSpace w e who call need left) (filled.none strict) lacks
 
 pub ends_with_one_pair : EndsWithOnePair
-ends_with_one_pair who old new other after later need left more less one two =
+ends_with_one_pair who old new other after later need left more less strict one two =
     let same = one_call old who two.call one.call two.begins one.begins in
-    one_pair old who one.call need left more less one.cause (subst (λ (c : Call). LacksBeside old who c more less ⊎ LacksStaging old who c more less) same two.cause)
+    one_pair old who one.call need left more less strict (as_it_was old new.disk who one.call need left strict one.filled one.cause)
+    (subst (λ (c : Call). LacksSpace old old.disk who c more less) same (as_it_was old other.disk who two.call more less strict two.filled two.cause))

@@ -24,7 +24,7 @@ use Rattle.world_parts.specs.declared.outcomes.Begun.{Begun}
 use Rattle.world_parts.specs.k_split_model.View.{View}
 use Rattle.world_parts.specs.file_table.Files.{Files}
 use Rattle.world_parts.specs.world_view_laws.declared.views.over.Over.{Over}
-use Rattle.world_parts.specs.world_view_laws.Begins.{Begins, BeginsJob, EndsRound, IsRoundOver, LacksBeside, LacksStaging, Returns, Waits}
+use Rattle.world_parts.specs.world_view_laws.Begins.{Begins, BeginsJob, EndsRound, IsRoundOver, LacksSpace, Returns, Waits}
 use Rattle.world_parts.specs.world_view_laws.Rounds.{IsNextRound, IsRoundBegun, MayCheckpoint}
 use Rattle.world_parts.specs.world_view_laws.Starts.{BeginsMounted}
 use Rattle.world_parts.specs.world_view_laws.Views.{inode_on, IsWorldOver, next_of, state_of, WorldView}
@@ -46,27 +46,23 @@ SyncsPublish =
 
 -- ---- the round is over
 
--- why a call of this World ends the round for want of space
-abbrev pub LacksSpace : WorldView → Who → Call → ℕ → ℕ → Type 0
-LacksSpace w who call need left = LacksBeside w who call need left ⊎ LacksStaging w who call need left
-
 -- WHERE A CALL RETURNED, space did not lack, in strict mode.
 abbrev pub ReturnsHaveRoom : Type 0
 ReturnsHaveRoom =
     (who : Who) (old new : WorldView) (before after : Supply) (need left : ℕ) → old.start.mode ≡ Mode.Strict
-    → (returned : Returns who old new before after) → ¬ LacksSpace old who returned.call need left
+    → (returned : Returns who old new before after) → ¬ LacksSpace old old.disk who returned.call need left
 
 -- WHERE IT BECAME A JOB, neither.
 abbrev pub JobsHaveRoom : Type 0
 JobsHaveRoom =
     (who : Who) (old new : WorldView) (after : Supply) (job : JobView) (need left : ℕ)
-    → (begun : BeginsJob who old new after job) → ¬ LacksSpace old who begun.call need left
+    → (begun : BeginsJob who old new after job) → ¬ LacksSpace old begun.middle who begun.call need left
 
--- AND AN END OF THE ROUND tells one pair of numbers.
+-- AND AN END OF THE ROUND tells one pair of numbers, in strict mode.
 abbrev pub EndsWithOnePair : Type 0
 EndsWithOnePair =
     (who : Who) (old new other : WorldView) (after later : Supply) (need left more less : ℕ)
-    → EndsRound who old new after need left → EndsRound who old other later more less → (need ≡ more) × (left ≡ less)
+    → old.start.mode ≡ Mode.Strict → EndsRound who old new after need left → EndsRound who old other later more less → (need ≡ more) × (left ≡ less)
 
 -- WHERE A CALL WAITS, it does not begin, whatever else is answered from the same World.
 abbrev pub WaitsAlone : Type 0
@@ -105,7 +101,7 @@ FirstCallsGoOn =
 abbrev pub FirstCallsHaveRoom : Type 0
 FirstCallsHaveRoom =
     (k : View) (t : Tables) (staging : Staged) (files : Files) (w : WorldView) (who : Who) (call : Call) (need left : ℕ)
-    → AtCall k t staging files w who call → IsAtFirst w → ¬ LacksSpace w who call need left
+    → AtCall k t staging files w who call → IsAtFirst w → ¬ LacksSpace w w.disk who call need left
 
 -- so while the power stays it returns, or becomes a job.
 abbrev pub FirstCallsBegin : Type 0

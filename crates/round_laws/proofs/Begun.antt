@@ -6,6 +6,7 @@ use Rattle.eof_laws.specs.pm_model.Images.{words_of}
 use Rattle.eof_laws.specs.pm_model.Words.{Words}
 use Rattle.eof_laws.specs.layout_model.Places.{Geometry}
 use Rattle.eof_laws.specs.image_model.Content.{content}
+use Rattle.eof_laws.specs.file_table.Files.{Files}
 use Rattle.world_view_laws.specs.file_publish.staging_files.GivesUp.{nothing_staged}
 use Rattle.eof_laws.specs.k_split_model.View.{View}
 use Rattle.log_replay.specs.Mounts.{IsMounted}
@@ -23,11 +24,11 @@ use Rattle.round_laws.proofs.Going.{low_base, same_places}
 use Rattle.round_laws.proofs.Trees.{shape_of, shown_tree}
 use Rattle.round_laws.specs.StartsLaws.{first_view, ShowsAs, StartsMounted}
 
-module _ (g : Geometry) (image : Words) (k : View) (mode : Mode) (scripts : Scripts) (mounted : IsMounted g image k) (t : List TreeEntry) (shape : Shape) (shown : ShowsAs k t shape) where
+module _ (g : Geometry) (image : Words) (k : View) (mode : Mode) (scripts : Scripts) (mounted : IsMounted g image k) (t : List TreeEntry) (shape : Shape) (files : Files) (shown : ShowsAs k t shape) where
   content_is : content k.volume.geometry (words_of k.cells) ≡ content g image
   content_is = ap (λ (h : Geometry). content h (words_of k.cells)) (same_places g image k mounted) ∙ fun_ext mounted.shows
 
-  begun : BeginsMounted g image mode scripts (first_view k t shape mode scripts)
+  begun : BeginsMounted g image mode scripts (first_view k files t shape mode scripts)
   begun = record {
     tree = t;
     shape = shape;
@@ -51,7 +52,7 @@ module _ (g : Geometry) (image : Words) (k : View) (mode : Mode) (scripts : Scri
       over = None;
       given_up = 0;
       acts = 0;
-      disk = disk_of k nothing_open nothing_staged;
+      disk = disk_of k nothing_open nothing_staged files;
       lines_out = false;
       home = [];
       first = [];
@@ -61,4 +62,4 @@ module _ (g : Geometry) (image : Words) (k : View) (mode : Mode) (scripts : Scri
   }
 
 pub starts_mounted : StartsMounted
-starts_mounted g image k mode scripts w mounted over = subst (BeginsMounted g image mode scripts) (sym over.world_is) (begun g image k mode scripts mounted over.tree over.shape over.shown)
+starts_mounted g image k mode scripts w mounted over = subst (BeginsMounted g image mode scripts) (sym over.world_is) (begun g image k mode scripts mounted over.tree over.shape over.files over.shown)

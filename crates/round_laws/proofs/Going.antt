@@ -106,7 +106,7 @@ module _ (ending : EndBegun) (g : Geometry) (image : Words) (k : View) (t : List
   none_open ino there = cc
 
   -- ALL STANDS TOGETHER.
-  stands : StandsAt k.volume.geometry k nothing_open (kept_of (first_view k t shape Mode.Strict scripts) nothing_staged files) false 0 (start t shape Mode.Strict)
+  stands : StandsAt k.volume.geometry k nothing_open (kept_of (first_view k files t shape Mode.Strict scripts) nothing_staged files) false 0 (start t shape Mode.Strict)
   stands = record {
     count = 0;
     few = omega arith;
@@ -119,7 +119,7 @@ module _ (ending : EndBegun) (g : Geometry) (image : Words) (k : View) (t : List
     geometry = refl;
     flying = record {
       device = running.device;
-      whole = tt;
+      whole = λ strict. tt;
       out = λ j at. absurd at;
       home = λ i lent. absurd (both_ways (is_lent (cell k.cells i)) (all_home i) lent);
       overlays = λ ino file. record { runs_are = table.runs ino; size_is = table.sizes ino };
@@ -157,11 +157,12 @@ module _ (ending : EndBegun) (g : Geometry) (image : Words) (k : View) (t : List
       let was = may.mounted.old_lines slot below (ap is_self_valid (sym (seen slot)) ∙ valid) in
       omega (arith, was, ap held_seq (seen slot))
 
-  going : IsGoing k nothing_open nothing_staged files (first_view k t shape Mode.Strict scripts)
+  going : IsGoing k nothing_open nothing_staged files (first_view k files t shape Mode.Strict scripts)
   going = record {
     stands = stands;
-    runs = refl;
-    bare = λ goes none empty. refl;
+    counted = λ mode. refl;
+    runs = λ settled. refl;
+    bare = λ goes none. refl;
     none_unfinished = refl;
     none_home = refl;
     base = refl;
@@ -171,7 +172,7 @@ module _ (ending : EndBegun) (g : Geometry) (image : Words) (k : View) (t : List
     log_home = λ home. record { home = all_home; none = refl; old = old };
   }
 
-  counted : AreCounted (first_view k t shape Mode.Strict scripts)
+  counted : AreCounted (first_view k files t shape Mode.Strict scripts)
   counted = record {
     settled = omega arith;
     fresh = λ over. refl;
@@ -185,7 +186,7 @@ module _ (ending : EndBegun) (g : Geometry) (image : Words) (k : View) (t : List
   }
 
   -- THE WORLD GOES ON.
-  pub starts : IsWorldOver k nothing_open nothing_staged files (first_view k t shape Mode.Strict scripts)
+  pub starts : IsWorldOver k nothing_open nothing_staged files (first_view k files t shape Mode.Strict scripts)
   starts = record {
     mode = (has_setting t shape Mode.Strict).1;
     few = may.limits.few;
@@ -205,5 +206,5 @@ strict_start g image k t shape mode scripts may = record { mounted = may.mounted
 
 pub starts_going : EndBegun → StartsGoing
 starts_going ending g image k t shape mode scripts files may table =
-    subst (λ (m : Mode). IsWorldOver k nothing_open nothing_staged files (first_view k t shape m scripts)) (sym may.strict)
+    subst (λ (m : Mode). IsWorldOver k nothing_open nothing_staged files (first_view k files t shape m scripts)) (sym may.strict)
     (starts ending g image k t shape scripts files (strict_start g image k t shape mode scripts may) table)

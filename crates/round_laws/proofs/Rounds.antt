@@ -96,12 +96,13 @@ module _ (turning : StandsHome) (holding : LinesHoldOut) (gathered : StandsGathe
       let log : done.0.volume.geometry.log ≡ l.volume.geometry.log = ap (λ (g : Geometry). g.log) done.1.rest.numbers in
       omega (arith, was, rose, kept, log, same_log)
 
-  next_going : EndGathered → IsGoing m t then table (next_view w (disk_of m t then))
+  next_going : EndGathered → IsGoing m t then table (next_view w (disk_of m t then table))
   next_going ends = record {
     stands = subst (λ (ps : List JobOut). StandsAt w.geometry m t (record { staging = then; files = table; claims = []; pending = ps; first = first_by w.geometry w.first }) false (length w.history) (state_of w)) (sym ending.none_out)
         (subst (λ (x : Staged). StandsAt w.geometry m t (record { staging = x; files = table; claims = []; pending = []; first = first_by w.geometry w.first }) false (length w.history) (state_of w)) (sym nothing) stands_behind);
-    runs = (let none : length then.out ≡ 0 = ap (λ (x : Staged). length x.out) nothing in omega (arith, none, ap (λ (ps : List JobOut). length ps) ending.none_out));
-    bare = λ goes none empty. nothing;
+    counted = λ mode. (let none : length then.out ≡ 0 = ap (λ (x : Staged). length x.out) nothing in omega (arith, none, ap (λ (ps : List JobOut). length ps) ending.none_out));
+    runs = λ settled. (let none : length then.out ≡ 0 = ap (λ (x : Staged). length x.out) nothing in omega (arith, none, ap (λ (ps : List JobOut). length ps) ending.none_out));
+    bare = λ goes none. nothing;
     none_unfinished = going.none_unfinished;
     none_home = going.none_home;
     base = base_rose;
@@ -124,7 +125,7 @@ module _ (turning : StandsHome) (holding : LinesHoldOut) (gathered : StandsGathe
     over_some None is none = never (sym is) ⊥
     over_some (Some over) is none = cc
 
-  next_counted : MayCheckpoint w lines → AreCounted (next_view w (disk_of m t then))
+  next_counted : MayCheckpoint w lines → AreCounted (next_view w (disk_of m t then table))
   next_counted may =
       let none : length w.pending ≡ 0 = ap (λ (ps : List JobOut). length ps) ending.none_out in
       let more : w.settled + 2 ≤ length w.history + 1 = omega (arith, grew may) in
@@ -142,7 +143,7 @@ module _ (turning : StandsHome) (holding : LinesHoldOut) (gathered : StandsGathe
       }
 
   -- THE NEXT ROUND MAY BEGIN.
-  pub next_round : EndGathered → MayCheckpoint w lines → IsWorldOver m t then table (next_view w (disk_of m t then))
+  pub next_round : EndGathered → MayCheckpoint w lines → IsWorldOver m t then table (next_view w (disk_of m t then table))
   next_round ends may = record {
     mode = ending.world.mode;
     few = ending.world.few;
@@ -180,7 +181,7 @@ counted_lost w acts disk home counted few = record {
 }
 
 world_lost : (k m : View) (t : Tables) (staging then : Staged) (files table : Files) (w : WorldView) (acts : ℕ) (home : List Part) → IsWorldOver k t staging files w → acts ≤ most_acts w + 2
-    → IsLostHome (lost_round w acts (disk_of m t then) home) → IsWorldOver m t then table (lost_round w acts (disk_of m t then) home)
+    → IsLostHome (lost_round w acts (disk_of m t then table) home) → IsWorldOver m t then table (lost_round w acts (disk_of m t then table) home)
 world_lost k m t staging then files table w acts home world few lost = record {
   mode = world.mode;
   few = world.few;
@@ -189,7 +190,7 @@ world_lost k m t staging then files table w acts home world few lost = record {
   legal = world.legal;
   scripted = world.scripted;
   open_calls = world.open_calls;
-  counted = counted_lost w acts (disk_of m t then) home world.counted few;
+  counted = counted_lost w acts (disk_of m t then table) home world.counted few;
   disk_is = refl;
   going = λ on. never on _;
   gone = λ off. lost;
@@ -230,7 +231,7 @@ module _ (turning : StandsHome) (holding : LinesHoldOut) (cutting : KeepsGathere
   same_cells : (e : List Cell) → LinesComeBack (log_line w.geometry 0) w.home m.cells e → cell m.cells ≡ cell e
   same_cells e comes = fun_ext (λ i. sym (comes.others i (λ within. omega (arith, within.from, within.below, empty))))
 
-  lost_inside : (acts : ℕ) → IsLostHome (lost_round w acts (disk_of m t then) w.home)
+  lost_inside : (acts : ℕ) → IsLostHome (lost_round w acts (disk_of m t then table) w.home)
   lost_inside acts = record {
     none = ending.none_out;
     size = size_cut;
@@ -244,7 +245,7 @@ module _ (turning : StandsHome) (holding : LinesHoldOut) (cutting : KeepsGathere
   }
 
   -- THE POWER WENT in it.
-  pub round_lost : IsWorldOver m t then table (lost_round w (w.acts + 1) (disk_of m t then) w.home)
+  pub round_lost : IsWorldOver m t then table (lost_round w (w.acts + 1) (disk_of m t then table) w.home)
   round_lost = world_lost k m t staging then files table w (w.acts + 1) w.home ending.world (omega (arith, ending.world.counted.acts_on ending.awake)) (lost_inside (w.acts + 1))
 
 pub loses_round_inside : StandsHome → LinesHoldOut → KeepsGathered → KeepsGatheredOut → LosesRoundInside
@@ -300,7 +301,7 @@ module _ (crashed : KeepsCrashed) (k : View) (t : Tables) (staging : Staged) (fi
   }
 
   -- THE POWER HAD GONE.
-  pub round_lost_before : IsWorldOver k t staging files (lost_round w w.acts (disk_of k t staging) lines)
+  pub round_lost_before : IsWorldOver k t staging files (lost_round w w.acts (disk_of k t staging files) lines)
   round_lost_before = world_lost k k t staging staging files files w w.acts lines world world.counted.acts (subst (λ (d : Disk). IsLostHome (lost_round w w.acts d lines)) world.disk_is lost_before)
 
 pub loses_round_before : KeepsCrashed → LosesRoundBefore

@@ -107,28 +107,28 @@ abbrev pub GoesIntoNextRound : Type 0
 GoesIntoNextRound =
     (k l m : View) (t : Tables) (staging then : Staged) (files table : Files) (w : WorldView) (lines : List Part)
     → IsEnding k l t staging files w lines → MayCheckpoint w lines → IsGatherAnswer files l then table m (Ok Commit.Done)
-    → IsWorldOver m t then table (next_view w (disk_of m t then))
+    → IsWorldOver m t then table (next_view w (disk_of m t then table))
 
 -- Each claim of the lap is applied by its file.
 abbrev pub AppliesClaims : Type 0
 AppliesClaims =
     (k l m : View) (t : Tables) (staging then : Staged) (files table : Files) (w : WorldView) (lines : List Part)
     → IsEnding k l t staging files w lines → IsGatherAnswer files l then table m (Ok Commit.Done)
-    → AreClaimsApplied w.claims (disk_of m t then)
+    → AreClaimsApplied w.claims (disk_of m t then table)
 
 -- THE POWER WENT in it: the World is lost, with the lines at home.
 abbrev pub LosesRoundInside : Type 0
 LosesRoundInside =
     (k l m : View) (t : Tables) (staging then : Staged) (files table : Files) (w : WorldView) (lines : List Part)
     → IsEnding k l t staging files w lines → IsGatherAnswer files l then table m (Ok Commit.PowerLost)
-    → IsWorldOver m t then table (lost_round w (w.acts + 1) (disk_of m t then) w.home)
+    → IsWorldOver m t then table (lost_round w (w.acts + 1) (disk_of m t then table) w.home)
 
 -- It had gone: the lines are kept.
 abbrev pub LosesRoundBefore : Type 0
 LosesRoundBefore =
     (k : View) (t : Tables) (staging : Staged) (files : Files) (w : WorldView) (lines : List Part)
     → IsWorldOver k t staging files w → w.lost ≡ true → w.pending ≡ [] → HoldTheClaims w lines
-    → IsWorldOver k t staging files (lost_round w w.acts (disk_of k t staging) lines)
+    → IsWorldOver k t staging files (lost_round w w.acts (disk_of k t staging files) lines)
 
 -- ---- the end of the run
 

@@ -1,3 +1,4 @@
+pub mod ActsLaws
 pub mod EndsLaws
 pub mod Sizes
 pub mod StartsLaws

@@ -56,8 +56,8 @@ pub record MayStart (g : Geometry) (image : Words) (k : View) (tree : List TreeE
   pub limits : AreInLimits scripts
 
 -- the World with nothing done: its start is the state of the tree
-abbrev pub first_view : View → List TreeEntry → Shape → Mode → Scripts → WorldView
-first_view k tree shape mode scripts = record {
+abbrev pub first_view : View → Files → List TreeEntry → Shape → Mode → Scripts → WorldView
+first_view k files tree shape mode scripts = record {
   geometry = k.volume.geometry;
   base = k.volume.base;
   start = start tree shape mode;
@@ -70,7 +70,7 @@ first_view k tree shape mode scripts = record {
   over = None;
   given_up = 0;
   acts = 0;
-  disk = disk_of k nothing_open nothing_staged;
+  disk = disk_of k nothing_open nothing_staged files;
   lines_out = false;
   home = [];
   first = [];
@@ -82,15 +82,16 @@ first_view k tree shape mode scripts = record {
 pub record BeginsOver (k : View) (mode : Mode) (scripts : Scripts) (w : WorldView) : Type 0 where
   pub tree : List TreeEntry
   pub shape : Shape
+  pub files : Files
   pub shown : ShowsAs k tree shape
-  pub world_is : w ≡ first_view k tree shape mode scripts
+  pub world_is : w ≡ first_view k files tree shape mode scripts
 
 -- IT IS ONE THAT GOES ON, with nothing staged,
 abbrev pub StartsGoing : Type 0
 StartsGoing =
     (g : Geometry) (image : Words) (k : View) (tree : List TreeEntry) (shape : Shape) (mode : Mode) (scripts : Scripts) (files : Files)
     → MayStart g image k tree shape mode scripts → HasSizesOf k.volume files
-    → IsWorldOver k nothing_open nothing_staged files (first_view k tree shape mode scripts)
+    → IsWorldOver k nothing_open nothing_staged files (first_view k files tree shape mode scripts)
 
 -- and begins on the image that was mounted.
 abbrev pub StartsMounted : Type 0

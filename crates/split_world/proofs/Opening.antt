@@ -42,7 +42,7 @@ pub record IsFirst (p : Parts) : Type 0 where
   pub one : 1 ≤ vec_capacity p.spare
 
 module _ (p : Parts) (is : IsFirst p) where
-  first_seen : seen p ≡ first_view p.k p.tree p.shape p.mode p.scripts
+  first_seen : seen p ≡ first_view p.k p.data p.tree p.shape p.mode p.scripts
   first_seen = λ i. record {
     geometry = is.geometry i;
     base = is.base i;
@@ -56,7 +56,7 @@ module _ (p : Parts) (is : IsFirst p) where
     over = is.over i;
     given_up = is.given_up i;
     acts = is.acts i;
-    disk = disk_of p.k (is.tables i) (is.staging i);
+    disk = disk_of p.k (is.tables i) (is.staging i) p.data;
     lines_out = is.lines_out i;
     home = is.home i;
     first = is.first i;
@@ -83,12 +83,12 @@ module _ (p : Parts) (is : IsFirst p) where
       let going = law was.0 was.1 p.k p.tree p.shape p.mode p.scripts p.data may sizes in
       record {
         world = subst (λ (w : WorldView). IsWorldOver p.k p.files.tables p.staging p.data w) (sym first_seen)
-            (subst (λ (x : Staged). IsWorldOver p.k p.files.tables x p.data (first_view p.k p.tree p.shape p.mode p.scripts)) (sym is.staging)
-            (subst (λ (t : Tables). IsWorldOver p.k t nothing_staged p.data (first_view p.k p.tree p.shape p.mode p.scripts)) (sym is.tables) going));
+            (subst (λ (x : Staged). IsWorldOver p.k p.files.tables x p.data (first_view p.k p.data p.tree p.shape p.mode p.scripts)) (sym is.staging)
+            (subst (λ (t : Tables). IsWorldOver p.k t nothing_staged p.data (first_view p.k p.data p.tree p.shape p.mode p.scripts)) (sym is.tables) going));
         counts = subst (AreCounts p.counters.setup p.counters.threads) (sym is.history) is.counts;
         room = first_room;
       }
 
   -- and begins over the device
   pub first_begun : StartsGoing → WasMounted p.k → p.mode ≡ Mode.Strict → AreInLimits p.scripts → ShowsAs p.k p.tree p.shape → HasSizesOf p.k.volume p.data → IsKept p × BeginsOver p.k p.mode p.scripts (seen p)
-  first_begun law was strict limits shown sizes = (first_kept law was strict limits shown sizes, record { tree = p.tree; shape = p.shape; shown = shown; world_is = first_seen })
+  first_begun law was strict limits shown sizes = (first_kept law was strict limits shown sizes, record { tree = p.tree; shape = p.shape; files = p.data; shown = shown; world_is = first_seen })

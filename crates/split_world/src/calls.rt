@@ -1,5 +1,6 @@
 //! The calls of a World: whether one may begin, how it begins, and how its job ends.
-ghost use Rattle.std.specs.Prelude.{◌≡◌, ◌≤◌, ◌<◌, true};
+ghost use Rattle.std.specs.Prelude.{◌≡◌, ◌≤◌, ◌<◌, ◌^◌, true};
+ghost use Rattle.posix_types.specs.declared.call.Mode.{Mode};
 ghost use Rattle.round_laws.specs.pm_model.Powers.{Steps};
 ghost use Rattle.round_laws.specs.posix_spec.Scripted.{IsSetUp};
 ghost use Rattle.world_begins.specs.world_parts.Answers.{IsBegun, IsFinished, IsReady};
@@ -34,7 +35,7 @@ impl World {
     /// It answers, in this order: PowerLost; ScriptEnd; RoundOver where the round is over already; Busy; and else
     /// how the call went. A logged call becomes a job, or ends the round where only jobs that are out or runs of
     /// this lap leave too few blocks; a `truncate` that lengthens may end it too, where only jobs that are out leave
-    /// too few. Where only jobs that are out are the cause nothing else changes, and else cells of the device alone. All
+    /// too few. Where only jobs that are out are the cause nothing else changes, nor does it in strict mode. All
     /// memory of a job is taken here.
     ///
     /// # Errors
@@ -60,16 +61,21 @@ impl World {
     }
 
     /// Finishes a job whose entry stands in the slot of the log: its call has acted, and its item stands at the end of
-    /// the history. The job is one of this World, out, and the slot one that it claimed. It takes no memory and no
-    /// step.
+    /// the history. The job is one of this World, out, and the slot one that it claimed. It takes no memory.
     ///
     /// `PowerLost` comes exactly where the power is off, or was lost: the claim counts, and the call stays unfinished.
+    ///
+    /// # Steps
+    ///
+    /// At most 2^26; none in strict mode, nor once the power was lost.
     pub fn finish(&mut self, job: FilledJob, slot: u32, power: &mut Power) -> Finished
         requires usable { self.old.usable ≡ true }
         requires out { self.old.lines_out ≡ true }
         requires job { IsOfWorld self.old job }
         requires slot { slot < self.old.geometry.log }
-        ensures spared { power.new ≡ power.old }
+        ensures steps { Steps (2 ^ 26) power.old power.new }
+        ensures spared { self.old.start.mode ≡ Mode.Strict → power.new ≡ power.old }
+        ensures off { self.old.lost ≡ true → power.new ≡ power.old }
         ensures finished { IsFinished job slot self.old self.new power.new result }
     {
         if self.parts.lost {

@@ -94,7 +94,6 @@ staged-nothing = record {
   most = λ k d below. subst (λ n. n ≤ 64) (sym (get_or-replicate {A = ℕ} 4 k 0 d below)) (omega arith);
   placed = λ k d below. absurd (omega (arith, below));
   apart = λ i j d before below. absurd (omega (arith, below));
-  few = omega arith;
 }
 
 -- ---- one after the other

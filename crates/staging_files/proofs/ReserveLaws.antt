@@ -1,5 +1,5 @@
 -- What `reserve` answers, from what its two ways leave.
-use Rattle.std.proofs.Common.{◌≡◌, ◌≤◌, ◌<◌, ◌+◌, ℕ, false, length, None, Result, Ok, Err, refl, sym, ◌∙◌, ap, subst, inr, arith}
+use Rattle.std.proofs.Common.{◌≡◌, ◌≤◌, ◌+◌, ℕ, false, None, Result, Ok, Err, refl, sym, ◌∙◌, ap, subst, inr, arith}
 use Rattle.std.specs.Prelude.{IfOk}
 use Rattle.k_split.specs.pm_model.Powers.{Steps, Supply}
 use Rattle.k_split.specs.layout_model.Places.{reserve}
@@ -11,16 +11,9 @@ use Rattle.k_split.specs.declared.faults.KFault.{KFault}
 use Rattle.staging_files.specs.declared.runs.StageFault.{StageFault}
 use Rattle.staging_files.specs.declared.runs.StageRun.{StageRun}
 use Rattle.staging_files.specs.Keeps.{Agrees, AreFreeSingle, IsRunSingle, IsStaged, IsThere, Staged}
-use Rattle.staging_files.specs.Reserves.{AgreesAfter, fault_of, IsGiveAnswer, IsGiven, IsReserveAnswer, IsReservePaid, IsSecondWay, need, run_at, share, wanted, with_given, with_out}
+use Rattle.staging_files.specs.Reserves.{AgreesAfter, fault_of, IsGiveAnswer, IsGiven, IsReserveAnswer, IsReservePaid, IsSecondWay, run_at, share, wanted, with_given, with_out}
 use Rattle.staging_files.proofs.AgreeLaws.{agrees-given, run-single-given, single-given, there-given}
-use Rattle.staging_files.proofs.RoomLaws.{free-most, share-fits, share-leaves}
-
--- so few runs are out where enough blocks are free for them
-pub few-out : (s : Staged) (k : View) → IsInOrder k → wanted s k ≤ free_blocks_in k → length s.out < 16384
-few-out s k order room = omega (arith, free-most k order, room)
-
-pub second-room : (s : Staged) (k : View) (count : ℕ) → need s k count ≤ free_blocks_in k → wanted s k ≤ free_blocks_in k
-second-room s k count room = omega (arith, room)
+use Rattle.staging_files.proofs.RoomLaws.{share-fits, share-leaves}
 
 -- ---- K-Split did not give the blocks
 

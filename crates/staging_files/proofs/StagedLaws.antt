@@ -1,18 +1,18 @@
 -- Runs go out and come back: they share no block, and lie in the staging files.
-use Rattle.std.proofs.Common.{◌≡◌, ◌≢◌, ◌≤◌, ◌<◌, ◌+◌, ◌-◌, ◌==◌, ◌&&◌, not, ℕ, Bool, true, false, List, [], ◌∷◌, length, refl, sym, ◌∙◌, ap, subst, inl, inr, arith, get_or, length-append}
-use Rattle.std.specs.Prelude.{nat_lt, slice_set, All, remove}
+use Rattle.std.proofs.Common.{◌≡◌, ◌≢◌, ◌≤◌, ◌<◌, ◌+◌, ◌-◌, ◌==◌, ◌&&◌, not, ℕ, Bool, true, false, List, [], ◌∷◌, length, refl, sym, ◌∙◌, ap, subst, inl, inr, arith, get_or}
+use Rattle.std.specs.Prelude.{nat_lt, replicate, slice_set, All, remove}
 use Rattle.std.specs.List.{list_any}
 use Rattle.std.proofs.lemmas.Bool.{and_parts, both_ways, cases_eq, cases_lt, eq-eqb, eqb-true, false_from_ne_true, ne_eqb}
 use Rattle.std.proofs.lemmas.Bool.Decides.{nat_tests}
 use Rattle.std.proofs.lemmas.Grind.{get_or_default_zero}
-use Rattle.std.proofs.lemmas.List.{get_or-set_other, get_or-set_same, length-set}
+use Rattle.std.proofs.lemmas.List.{get_or-replicate, get_or-set_other, get_or-set_same, length-set}
 use Rattle.std.proofs.lemmas.List.Edits.{get_or-remove_above, get_or-remove_below, length-remove}
 use Rattle.std.proofs.lemmas.List.Elements.{All-append}
 use Rattle.std.proofs.lemmas.List.Folds.{list_any_at, list_any_none}
 use Rattle.std.proofs.lemmas.List.Quantifiers.{all_pairs_push, all_pairs_remove}
 use Rattle.k_split.specs.extent_model.Extents.{is_within}
 use Rattle.staging_files.specs.declared.runs.StageRun.{StageRun}
-use Rattle.staging_files.specs.Keeps.{AreApart, given_to, has_block, is_kept_free, IsKeptEmpty, IsPlaced, IsStaged, IsStaging, Staged}
+use Rattle.staging_files.specs.Keeps.{AreApart, AreTaken, given_to, has_block, is_kept_free, IsKeptEmpty, IsPlaced, IsStaged, IsStaging, Staged}
 use Rattle.staging_files.specs.GivesUp.{nothing_staged}
 use Rattle.staging_files.specs.Reserves.{has_empty, IsFreeRun, with_given, with_out}
 
@@ -56,13 +56,12 @@ apart-empty s run keeps empty k d below y c has = false_from_ne_true (has_block 
 -- ---- a run goes out
 
 -- by the first way
-pub staged-taken : (s : Staged) (run : StageRun) → IsStaged s → IsStaging run.staging → 1 ≤ run.count → IsFreeRun s run.count run.staging run.block → length s.out < 16384 → IsStaged (with_out run s)
-staged-taken s run keeps staging some free few = record {
+pub staged-taken : (s : Staged) (run : StageRun) → IsStaged s → IsStaging run.staging → 1 ≤ run.count → IsFreeRun s run.count run.staging run.block → IsStaged (with_out run s)
+staged-taken s run keeps staging some free = record {
   files = keeps.files;
   most = keeps.most;
   placed = All-append (IsPlaced (with_out run s)) s.out (run ∷ []) (λ k d below. let was = keeps.placed k d below in record { staging = was.staging; some = was.some; inside = was.inside }) (λ k d below. one k d below);
   apart = all_pairs_push AreApart s.out run keeps.apart (apart-free s run free);
-  few = omega (arith, length-append s.out (run ∷ []), few);
 }
   where
     last : run.block + run.count ≤ given_to s run.staging
@@ -84,13 +83,12 @@ given_to-other s x n y first second other =
 
 -- by the second way
 pub staged-given : (s : Staged) (run : StageRun) (n : ℕ) → IsStaged s → IsStaging run.staging → 1 ≤ run.count → run.block ≡ 0 → run.count ≤ n → n ≤ 64
-    → IsKeptEmpty s run.staging → length s.out < 16384 → IsStaged (with_out run (with_given run.staging n s))
-staged-given s run n keeps staging some first fits most empty few = record {
+    → IsKeptEmpty s run.staging → IsStaged (with_out run (with_given run.staging n s))
+staged-given s run n keeps staging some first fits most empty = record {
   files = length-set s.given (run.staging - 1) n ∙ keeps.files;
   most = All-set (λ m. m ≤ 64) s.given (run.staging - 1) n keeps.most most;
   placed = All-append (IsPlaced t) s.out (run ∷ []) old one;
   apart = all_pairs_push AreApart s.out run keeps.apart (apart-empty s run keeps empty);
-  few = omega (arith, length-append s.out (run ∷ []), few);
 }
   where
     t : Staged
@@ -145,7 +143,6 @@ staged-back s place keeps inside = record {
       subst (IsPlaced (record s { out = remove s.out place })) (sym stays.2)
       (let was = keeps.placed stays.0 d stays.1 in record { staging = was.staging; some = was.some; inside = was.inside });
   apart = all_pairs_remove AreApart s.out place inside keeps.apart;
-  few = omega (arith, length-remove s.out place inside, keeps.few);
 }
 
 -- ---- looks
@@ -179,3 +176,9 @@ four_zeros (x ∷ y ∷ z ∷ w ∷ u ∷ xs) four a b c d = absurd (omega (arit
 
 pub fresh_is : (s : Staged) → IsStaged s → s.out ≡ [] → given_to s 1 ≡ 0 → given_to s 2 ≡ 0 → given_to s 3 ≡ 0 → given_to s 4 ≡ 0 → s ≡ nothing_staged
 fresh_is s keeps none a b c d = λ i. record { out = none i; given = four_zeros s.given keeps.files a b c d i }
+
+-- ---- marks of blocks
+
+-- no run, no mark
+pub none_taken : (x : ℕ) → AreTaken [] x (replicate 64 false)
+none_taken x = record { count = refl; each = λ b low. get_or-replicate 64 b false false low }

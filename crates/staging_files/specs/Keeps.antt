@@ -1,5 +1,5 @@
 -- What a staging keeps, and when it agrees with K-Split.
-use Rattle.std.specs.Prelude.{◌≡◌, ◌≤◌, ◌+◌, ◌-◌, ◌/◌, ◌==◌, ◌&&◌, not, nat_lt, ℕ, Bool, true, false, List, [], length, slice_index, All, AllPairs, Some}
+use Rattle.std.specs.Prelude.{◌≡◌, ◌≤◌, ◌<◌, ◌+◌, ◌-◌, ◌/◌, ◌==◌, ◌&&◌, not, nat_lt, ℕ, Bool, true, false, List, [], length, slice_index, slice_index_or, All, AllPairs, Some}
 use Rattle.std.specs.List.{list_any}
 use Rattle.k_split.specs.pm_model.Cells.{cell, is_lent, is_single}
 use Rattle.k_split.specs.extent_model.Extents.{disk_at, is_within}
@@ -33,6 +33,11 @@ has_block x b run = (run.staging == x) && is_within run.block run.count b
 abbrev pub is_kept_free : Staged → ℕ → ℕ → Bool
 is_kept_free s x b = nat_lt b (given_to s x) && not (list_any (has_block x b) s.out)
 
+-- these marks say which blocks of the staging file the runs have
+pub record AreTaken (runs : List StageRun) (x : ℕ) (marks : List Bool) : Type 0 where
+  pub count : length marks ≡ 64
+  pub each : (b : ℕ) → b < 64 → slice_index_or marks b false ≡ list_any (has_block x b) runs
+
 -- two runs share no block
 abbrev pub AreApart : StageRun → StageRun → Type 0
 AreApart run other = (x b : ℕ) → has_block x b run ≡ true → has_block x b other ≡ false
@@ -44,13 +49,12 @@ pub record IsPlaced (s : Staged) (run : StageRun) : Type 0 where
   pub inside : run.block + run.count ≤ given_to s run.staging
 
 -- WHAT A STAGING KEEPS: four staging files were given at most 64 blocks each, and the runs that are out lie in them and share
--- no block. No more are out than an image has blocks.
+-- no block; so at most 256 are out (`few_runs`).
 pub record IsStaged (s : Staged) : Type 0 where
   pub files : length s.given ≡ 4
   pub most : All (λ n. n ≤ 64) s.given
   pub placed : All (IsPlaced s) s.out
   pub apart : AllPairs AreApart s.out
-  pub few : length s.out ≤ 16384
 
 -- ---- agreement with K-Split
 

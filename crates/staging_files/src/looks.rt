@@ -1,7 +1,7 @@
 //! Where blocks lie that are kept as free, and which staging file is kept as empty.
-ghost use Rattle.std.specs.Prelude.{◌≡◌, ◌≤◌, ◌<◌, ◌+◌, ◌↔◌, ℕ, true, false, IsTrue, IfSome, IfNone};
-ghost use Rattle.std.specs.List.{list_any};
-ghost use Rattle.staging_files.specs.Keeps.{has_block, is_kept_free, IsStaging};
+ghost use Rattle.std.specs.Prelude.{◌≡◌, ◌≤◌, ◌<◌, ◌+◌, ◌||◌, ℕ, true, false, slice_index_or, IfSome, IfNone};
+ghost use Rattle.k_split.specs.extent_model.Extents.{is_within};
+ghost use Rattle.staging_files.specs.Keeps.{AreTaken, is_kept_free, IsStaging};
 ghost use Rattle.staging_files.specs.Reserves.{has_empty, HasNoFreeRun, IsFreeRun, IsLowestEmpty, IsLowestRun};
 
 use crate::staging::Staging;
@@ -16,31 +16,50 @@ pub(crate) struct Place {
     pub(crate) block: u32,
 }
 
+// Marks blocks of a staging file as taken.
+fn mark(taken: &mut [bool; 64], first: u32, count: u32)
+    requires { first + count ≤ 64 }
+    ensures { (b : ℕ) → b < 64 → slice_index_or taken.new b false
+        ≡ (slice_index_or taken.old b false || is_within first count b) }
+{
+    for b in first..first + count {
+        taken[b as usize] = true;
+    }
+}
+
 impl Staging {
-    // Whether a run that is out has the block of the staging file.
-    fn is_out(&self, staging: u32, block: u32) -> bool
-        ensures { result ≡ list_any (has_block staging block) self.now.out }
+    // Which blocks of the staging file runs that are out have.
+    fn taken_in(&self, staging: u32) -> [bool; 64]
+        ensures { AreTaken self.now.out staging result }
     {
-        self.out.iter().any(|run| run.has(staging, block))
+        let mut taken = [false; 64];
+        for run in &self.out {
+            if run.staging == staging {
+                mark(&mut taken, run.block, run.count);
+            }
+        }
+        taken
     }
 
     // Whether the block of the staging file is kept as free.
-    fn keeps_free(&self, staging: u32, block: u32) -> bool
-        requires { IsStaging staging }
+    fn keeps_free(&self, taken: &[bool; 64], staging: u32, block: u32) -> bool
+        requires staging { IsStaging staging }
+        requires taken { AreTaken self.now.out staging taken.now }
         ensures { result ≡ is_kept_free self.now staging block }
     {
-        block < self.given[staging as usize - 1] && !self.is_out(staging, block)
+        block < self.given[staging as usize - 1] && !taken[block as usize]
     }
 
     // Whether `count` blocks of the staging file, from `block` on, are kept as free.
-    fn has_free_run(&self, count: u32, staging: u32, block: u32) -> bool
+    fn has_free_run(&self, taken: &[bool; 64], count: u32, staging: u32, block: u32) -> bool
         requires staging { IsStaging staging }
+        requires taken { AreTaken self.now.out staging taken.now }
         requires fits { block + count < 1000 }
         ensures yes { result ≡ true → IsFreeRun self.now count staging block }
         ensures no { result ≡ false → ¬ IsFreeRun self.now count staging block }
     {
         for b in block..block + count {
-            if !self.keeps_free(staging, b) {
+            if !self.keeps_free(taken, staging, b) {
                 return false;
             }
         }
@@ -58,8 +77,9 @@ impl Staging {
         ensures none { IfNone result ((c : ℕ) → ¬ IsFreeRun self.now count staging c) }
     {
         let _ = &self.out;
+        let taken = self.taken_in(staging);
         for block in 0..MOST {
-            if self.has_free_run(count, staging, block) {
+            if self.has_free_run(&taken, count, staging, block) {
                 return Some(block);
             }
         }

@@ -116,7 +116,6 @@ impl Staging {
         requires staging { IsStaging run.staging }
         requires some { 1 ≤ run.count }
         requires free { IsFreeRun self.old run.count run.staging run.block }
-        requires few { length self.old.out < 16384 }
         ensures ok { OnOk result (self.new ≡ with_out run self.old) }
         ensures err { OnErr result (self.new ≡ self.old) }
     {
@@ -144,7 +143,6 @@ impl Staging {
         requires fits { count ≤ share }
         requires most { share ≤ 64 }
         requires room { share + reserve k.old.volume.geometry ≤ free_blocks_in k.old + 1 }
-        requires few { length self.old.out < 16384 }
         ensures steps { Steps (2 ^ 15) power.old power.new }
         ensures paid { IsReservePaid power.old power.new result }
         ensures answer { IsGiveAnswer staging count share self.old k.old self.new k.new result }

@@ -1,6 +1,5 @@
 //! A run of staging blocks that is handed out, and why none is.
 ghost use Rattle.std.specs.Prelude.{◌≡◌, ◌↔◌, IsTrue};
-ghost use Rattle.staging_files.specs.Keeps.{has_block};
 
 use thiserror::Error;
 
@@ -18,13 +17,6 @@ pub struct StageRun {
 }
 
 impl StageRun {
-    // Whether the run has the block of the staging file.
-    pub(crate) fn has(&self, staging: u32, block: u32) -> bool
-        ensures { result ≡ has_block staging block self.now }
-    {
-        self.staging == staging && self.block <= block && block - self.block < self.count
-    }
-
     // Whether both are the same run.
     pub(crate) fn is_same(&self, other: &StageRun) -> bool
         ensures { IsTrue result ↔ (self.now ≡ other.now) }

@@ -58,7 +58,7 @@ module _ (p : Parts) (who : Who) (call : Call) (turn : IsTurn p who call) where
     -- IT RETURNED,
     pub call_answered : (outcome : Outcome) → IsBuilt call → Answers who call p.k p.files.tables p.data q.k q.files.tables q.data outcome
         → (before after : Supply) → KeepsEnds p.k p.data q.k q.data after → IsSpent who call p.k p.files.tables p.data before after
-        → Publishes who call (seen p) (record (seen p) { disk = disk_of q.k q.files.tables p.staging }) → is_on after ≡ true
+        → Publishes who call (seen p) (record (seen p) { disk = disk_of q.k q.files.tables p.staging q.data }) → is_on after ≡ true
         → (r : Parts) → IsAdded who call outcome q r → IsKept r × Returns who (seen p) (seen r) before after
     call_answered outcome built answers before after keeps spent published on r added =
         let stood = stands_by p.k p.files.tables p.staging p.data (seen p) who call turn.calls q.k q.files.tables q.data outcome answers in
@@ -67,7 +67,7 @@ module _ (p : Parts) (who : Who) (call : Call) (turn : IsTurn p who call) where
         let ends = keeps on in (
           returned_kept p who call turn m refl r outcome item on_m (ran p.k p.files.tables p.staging p.data (seen p) who call turn.calls q.k q.files.tables q.data ends.0 (ends.1 going_ends) stood.0),
           subst (λ (v : WorldView). Returns who (seen p) v before after) (sym (returned_seen p who call turn m refl r outcome item on_m))
-              (returns p.k p.files.tables p.staging p.data (seen p) who call turn.calls q.k q.files.tables q.data ends.0 (ends.1 going_ends) stood.0 before after (built_unlogged (state_of (seen p)) who call built) (built_beside (seen p) who call built) (published_then who call (seen p) (record (seen p) { disk = disk_of q.k q.files.tables p.staging }) _ refl published) on
+              (returns p.k p.files.tables p.staging p.data (seen p) who call turn.calls q.k q.files.tables q.data ends.0 (ends.1 going_ends) stood.0 before after (built_unlogged (state_of (seen p)) who call built) (built_beside (seen p) who call built) (published_then who call (seen p) (record (seen p) { disk = disk_of q.k q.files.tables p.staging q.data }) _ refl published) on
               (spent_by p.k p.files.tables p.staging p.data (seen p) who call turn.calls before after spent)),
         )
 

@@ -1,22 +1,29 @@
 -- What is staged of the file of a call is published, and then the call goes on: how it began, from before the publishing on.
-use Rattle.std.specs.Prelude.{◌≡◌, ℕ, true, false, IsSome, Result, Ok, Err, refl}
+use Rattle.std.specs.Prelude.{◌≡◌, ◌≤◌, ◌+◌, ◌^◌, ℕ, Bool, true, false, if◌then◌else◌, List, Option, None, Some, IsSome, Result, Ok, Err, refl}
 use Rattle.std.proofs.Common.{arith, ap, ◌∙◌, sym, subst, inl, inr}
+use Rattle.pm_lines.specs.pm_model.PowerLaws.{Steps-then}
 use Rattle.pm_lines.specs.pm_model.Powers.{Steps, Supply}
 use Rattle.world_parts.specs.k_journal.Commits.{TakesAStep}
 use Rattle.world_parts.specs.list_laws.Members.{In}
 use Rattle.posix_types.specs.declared.call.Call.{Call}
+use Rattle.posix_types.specs.declared.call.Mode.{Mode}
 use Rattle.posix_types.specs.declared.call.Who.{Who}
 use Rattle.posix_types.specs.declared.handle.Handle.{Handle}
 use Rattle.world_parts.specs.crash_spec.Busy.{is_logged}
 use Rattle.world_parts.specs.posix_tables.Open.{opened, Tables}
+use Rattle.world_parts.specs.in_flight.Costs.{most_of_call}
+use Rattle.world_parts.specs.posix_spec.Afforded.{moves_data}
 use Rattle.world_parts.specs.posix_spec.Put.{put_by}
 use Rattle.world_parts.specs.posix_spec.State.{State}
+use Rattle.world_parts.proofs.world_view_laws_proofs.Holes.{no_holes}
+use Rattle.call_laws.specs.write_begin.write_plan.AsksLaws.{call_of}
 use Rattle.world_parts.specs.world_view_laws.Begins.{Begins, IsNeed, IsOfOpenFile, LosesCall, OthersStay, Publishes, Returns, WantsMemory}
 use Rattle.world_parts.specs.world_view_laws.file_calls.declared.names.outcomes.NoMemory.{NoMemory}
 use Rattle.world_parts.specs.world_view_laws.Views.{Disk, state_of, WorldView}
 use Rattle.world_parts.specs.declared.outcomes.Begun.{Begun}
 use Rattle.world_parts.specs.Answers.{IsBegun}
 use Rattle.world_begins.specs.Runs.{HasRoom, IsBegunNow, PutsNothing}
+use Rattle.world_begins.specs.Turns.{publishes_by}
 
 -- ---- a call that puts no bytes needs no room, but for a `truncate`
 
@@ -68,7 +75,7 @@ room_then w v who call same room = subst (λ (x : WorldView). HasRoom x who call
 
 -- ---- how it began
 
-module _ (w : WorldView) (d : Disk) (who : Who) (call : Call) (tables : d.tables ≡ w.disk.tables) (staging : d.staging ≡ w.disk.staging) where
+module _ (w : WorldView) (strict : w.start.mode ≡ Mode.Strict) (d : Disk) (who : Who) (call : Call) (tables : d.tables ≡ w.disk.tables) (staging : d.staging ≡ w.disk.staging) where
   abbrev pub middle : WorldView
   middle = record w { disk = d }
 
@@ -77,7 +84,7 @@ module _ (w : WorldView) (d : Disk) (who : Who) (call : Call) (tables : d.tables
 
   module _ (new : WorldView) (stay : OthersStay w middle who) where
     stay_back : OthersStay middle new who → OthersStay w new who
-    stay_back then = (λ q job apart is. then.0 q job apart (stay.0 q job apart is), λ q job apart is. then.1 q job apart (stay.1 q job apart is))
+    stay_back rest = (λ q job apart is. rest.0 q job apart (stay.0 q job apart is), λ q job apart is. rest.1 q job apart (stay.1 q job apart is))
 
     returns_back : (first before after : Supply) → (TakesAStep before after → TakesAStep first after) → Returns who middle new before after → Returns who w new first after
     returns_back first before after steps is = record {
@@ -86,9 +93,10 @@ module _ (w : WorldView) (d : Disk) (who : Who) (call : Call) (tables : d.tables
       unlogged = is.unlogged;
       new_is = is.new_is;
       enough = room_on w d w.disk who is.call is.enough;
+      holes = no_holes w strict who is.call;
       published = published_from w middle new who is.call tables refl is.published;
       of_file = of_file_from w d who is.call tables is.of_file;
-      staging = is.staging ∙ staging;
+      staging = λ mode. is.staging mode ∙ staging;
       stay = stay_back is.stay;
       on = is.on;
       spent = elim is.spent [ inl same ↦ inl same | inr step ↦ inr (steps step) ];
@@ -111,10 +119,10 @@ module _ (w : WorldView) (d : Disk) (who : Who) (call : Call) (tables : d.tables
     begun_back begins first before after steps (Err e) is = inl (wants_back after is)
 
 -- so it is at any view that differs in what stands below alone
-pub begun_first : (w v new : WorldView) (who : Who) (call : Call) → Begins w who call → v ≡ record w { disk = v.disk } → v.disk.tables ≡ w.disk.tables → v.disk.staging ≡ w.disk.staging → OthersStay w v who
+pub begun_first : (w v new : WorldView) (who : Who) (call : Call) → w.start.mode ≡ Mode.Strict → Begins w who call → v ≡ record w { disk = v.disk } → v.disk.tables ≡ w.disk.tables → v.disk.staging ≡ w.disk.staging → OthersStay w v who
     → (first before after : Supply) → (TakesAStep before after → TakesAStep first after) → (r : Result Begun NoMemory) → IsBegunNow who v new before after r → IsBegun who w new first after r
-begun_first w v new who call begins same tables staging stay first before after steps r is =
-    begun_back w v.disk who call tables staging new (subst (λ (x : WorldView). OthersStay w x who) same stay) begins first before after steps r (subst (λ (x : WorldView). IsBegunNow who x new before after r) same is)
+begun_first w v new who call strict begins same tables staging stay first before after steps r is =
+    begun_back w strict v.disk who call tables staging new (subst (λ (x : WorldView). OthersStay w x who) same stay) begins first before after steps r (subst (λ (x : WorldView). IsBegunNow who x new before after r) same is)
 
 -- ---- a World to be dropped, and steps
 
@@ -125,3 +133,46 @@ dropped old new after wants usable X = (let never : true ≡ false = sym usable 
 -- a step behind some steps
 pub later_step : (n : ℕ) (first before after : Supply) → Steps n first before → TakesAStep before after → TakesAStep first after
 later_step n first before after steps step given is = (let later = step given (steps.given ∙ is) in omega (arith, later, steps.later))
+
+-- ---- the steps of both
+
+-- a call that publishes first moves data
+publishing_moves : (call : Call) → publishes_by call ≡ true → moves_data call ≡ true
+publishing_moves (Call.Fsync h) is = refl
+publishing_moves (Call.Truncate h size) is = refl
+publishing_moves (Call.Open h path flags) is = is
+publishing_moves call is = (let never : false ≡ true = is in cc)
+
+both_fit : (p m : Bool) → (p ≡ true → m ≡ true) → (if p then 2 ^ 25 + 2 ^ 15 else 0) + (if m then 2 ^ 16 else 512) ≤ (if m then 2 ^ 26 else 512)
+both_fit true true moves = omega arith
+both_fit false true moves = omega arith
+both_fit false false moves = omega arith
+both_fit true false moves = (let never : false ≡ true = moves refl in cc)
+
+fits : (call : Call) → (if publishes_by call then 2 ^ 25 + 2 ^ 15 else 0) + (if moves_data call then 2 ^ 16 else 512) ≤ most_of_call call
+fits call = both_fit (publishes_by call) (moves_data call) (publishing_moves call)
+
+pub both_steps : (call same : Call) (first before after : Supply) → same ≡ call → Steps (if publishes_by call then 2 ^ 25 + 2 ^ 15 else 0) first before
+    → Steps (if moves_data same then 2 ^ 16 else 512) before after → Steps (most_of_call call) first after
+both_steps call same first before after is published ran =
+    let next : Steps (if moves_data call then 2 ^ 16 else 512) before after = subst (λ (c : Call). Steps (if moves_data c then 2 ^ 16 else 512) before after) is ran in
+    let both = Steps-then (if publishes_by call then 2 ^ 25 + 2 ^ 15 else 0) (if moves_data call then 2 ^ 16 else 512) first before after published next in
+    let most = fits call in
+    record { given = both.given; on_before = both.on_before; later = both.later; bound = omega (arith, both.bound, most) }
+
+pub first_steps : (call : Call) (first after : Supply) → Steps (if publishes_by call then 2 ^ 25 + 2 ^ 15 else 0) first after → Steps (most_of_call call) first after
+first_steps call first after published =
+    let most = fits call in
+    record { given = published.given; on_before = published.on_before; later = published.later; bound = omega (arith, published.bound, most) }
+
+-- ---- the steps of a write
+
+put_moves : (h : Handle) (at : Option ℕ) (x : List ℕ) → moves_data (call_of h at x) ≡ true
+put_moves h None x = refl
+put_moves h (Some place) x = refl
+
+pub put_steps : (h : Handle) (at : Option ℕ) (x : List ℕ) (call : Call) (before after : Supply) → call ≡ call_of h at x → Steps (2 ^ 16) before after → Steps (most_of_call call) before after
+put_steps h at x call before after is steps =
+    let moves : moves_data call ≡ true = ap moves_data is ∙ put_moves h at x in
+    let most : most_of_call call ≡ 2 ^ 26 = ap (λ (b : Bool). if b then 2 ^ 26 else 512) moves in
+    record { given = steps.given; on_before = steps.on_before; later = steps.later; bound = omega (arith, steps.bound, most) }

@@ -84,7 +84,7 @@ module _ (p : Parts) (who : Who) (call : Call) (turn : IsTurn p who call) where
     moved = record p { k = q.k; files = q.files; staging = q.staging; «data» = q.data }
 
     abbrev pub moved_view : WorldView
-    moved_view = record (seen p) { disk = disk_of q.k q.files.tables q.staging }
+    moved_view = record (seen p) { disk = disk_of q.k q.files.tables q.staging q.data }
 
     -- an item may be added;
     pub may_add : MayAdd q who

@@ -23,6 +23,7 @@ JobStands-a puts = record {
   order = refl;
   size = refl;
   rest = rest;
+  within = λ i inside. refl;
   staging = refl;
   staged = staged_at 1 2 refl;
   apart = λ d is. subst (λ x. AreApart x (entry_a 1 2)) (one_entry d is) (λ same. inl (omega arith));

@@ -1,10 +1,12 @@
 -- A job that lands, or does not: the world of the other jobs is valid.
-use Rattle.std.specs.Prelude.{◌≡◌, ◌≢◌, ◌≤◌, ℕ, ◌+◌, ◌/◌, ◌==◌, ◌&&◌, nat_lt, true, List, [], ◌∷◌, ◌++◌, length, map, filter, sum_by, refl}
+use Rattle.std.specs.Prelude.{◌≡◌, ◌≢◌, ◌≤◌, ◌<◌, ℕ, ◌+◌, ◌*◌, ◌/◌, ◌==◌, ◌&&◌, nat_lt, true, List, [], ◌∷◌, ◌++◌, length, map, filter, sum_by, refl}
 use Rattle.std.proofs.Common.{arith, ap, ◌∙◌, sym, subst, inl, inr}
 use Rattle.std.proofs.lemmas.Bool.{and_parts}
+use Rattle.std.proofs.lemmas.Bool.Decides.{nat_tests}
 use Rattle.std.proofs.lemmas.List.{get_or-set_other, map-append}
 use Rattle.std.proofs.lemmas.List.Sums.{sum_by-cons}
 use Rattle.name_laws.specs.pm_model.Words.{Words}
+use Rattle.name_laws.specs.volume_laws.image_model.extent_model.Extents.{is_within}
 use Rattle.name_laws.specs.layout_model.declared.lines.Draft.{Draft}
 use Rattle.name_laws.specs.layout_model.declared.lines.Kind.TheVariants.{File}
 use Rattle.name_laws.specs.image_model.Content.{byte_in}
@@ -58,6 +60,18 @@ can_land v live f numbers s j job = record {
   apart = job.apart;
 }
 
+inside : (first count k i : ℕ) → k < count → i < 4096 → is_within first count ((4096 * (first + k) + i) / 4096) ≡ true
+inside first count k i below short =
+    let block : (4096 * (first + k) + i) / 4096 ≡ first + k = omega (arith, short) in
+    subst (λ (b : ℕ). is_within first count b ≡ true) (sym block) (at (first + k) (omega arith) (omega (arith, below))) where
+      at : (b : ℕ) → first ≤ b → b < first + count → is_within first count b ≡ true
+      at b least most = grind (arith, nat_tests)
+
+-- The blocks of a job that hold its whole bytes hold what is found of it.
+pub HoldsWhole-found : (v : Volume) (live : List Draft) (f g : Words) (numbers : List ℕ) (s : State) (j : Job) → JobStands v live f numbers s j → HoldsWhole v g j.draft j.whole → HoldsWhole v g j.draft j.found
+HoldsWhole-found v live f g numbers s j job holds k b i below at short =
+    holds k b i below at short ∙ sym (job.within (4096 * (j.draft.file_block + k) + i) (inside j.draft.file_block j.draft.count k i below short))
+
 pub Acts-job : (v : Volume) (live : List Draft) (f : Words) (numbers : List ℕ) (s : State) (j : Job) → Stands v live f numbers s → JobStands v live f numbers s j → Acts s j (acted numbers s j)
 Acts-job v live f numbers s j stands job = record {
   node = number numbers j.draft.ino;
@@ -95,6 +109,7 @@ JobStands-beside v live f numbers s i j stands first second apart fits = record 
   order = second.order ∙ ap (λ (es : List Draft). (inode v j.draft.ino).applied + length es + 1) (sym (entries-other live i.draft j.draft.ino apart.files));
   size = second.size;
   rest = λ k below beside. ap (λ b. byte_in f b k) (disk-other v live i.draft j.draft.ino (k / 4096) apart.files) ∙ second.rest k below beside;
+  within = second.within;
   staging = second.staging;
   staged = second.staged;
   apart = λ d is. elim (pushed-In live i.draft d is) [ inl old ↦ second.apart d old | inr new ↦ subst (λ x. AreApart x j.draft) new apart.staging ];

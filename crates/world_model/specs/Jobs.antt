@@ -51,8 +51,8 @@ abbrev pub live_claims : Volume → List (ℕ × Draft) → List Draft
 live_claims v claims = filter (is_live v) (map (λ (c : ℕ × Draft). c.1) claims)
 
 -- A job stands: its entry is one that a log line can hold; it would be the next live one of its file, with the size of what is found; outside the entry's
--- blocks the file has what is found already; its blocks are in a staging file, apart from those of live entries; and its
--- call puts its whole bytes, of which what is found is a part.
+-- blocks the file has what is found already, and within them what is found is the whole bytes; its blocks are in a staging file, apart from those of live
+-- entries; and its call puts its whole bytes, of which what is found is a part.
 pub record JobStands (v : Volume) (live : List Draft) (f : Words) (numbers : List ℕ) (s : State) (j : Job) : Type 0 where
   pub draft : is_draft j.draft ≡ true
   pub fields : FitsDraft j.draft
@@ -60,6 +60,7 @@ pub record JobStands (v : Volume) (live : List Draft) (f : Words) (numbers : Lis
   pub order : j.draft.order ≡ (inode v j.draft.ino).applied + length (entries_of j.draft.ino live) + 1
   pub size : j.draft.size ≡ length j.found
   pub rest : (i : ℕ) → i < length j.found → is_within j.draft.file_block j.draft.count (i / 4096) ≡ false → byte_in f (disk_of v live j.draft.ino (i / 4096)) i ≡ slice_index j.found i
+  pub within : (i : ℕ) → is_within j.draft.file_block j.draft.count (i / 4096) ≡ true → slice_index j.found i ≡ slice_index j.whole i
   pub staging : (inode v j.draft.staging).kind ≡ Staging
   pub staged : HasStagingBlocks v j.draft
   pub apart : (d : Draft) → In d live → AreApart d j.draft

@@ -136,6 +136,7 @@ JobsStand-bytes v live f g numbers s (j ∷ jobs) keeps out = (
     order = out.0.order;
     size = out.0.size;
     rest = λ i below beside. keeps.each j.draft.ino (i / 4096) i (live_used v j.draft out.0.alive) ∙ out.0.rest i below beside;
+    within = out.0.within;
     staging = out.0.staging;
     staged = out.0.staged;
     apart = out.0.apart;

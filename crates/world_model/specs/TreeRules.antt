@@ -1,5 +1,5 @@
 -- The names of a sane volume are those of a tree, and so are the entries of a state for which it stands.
-use Rattle.std.specs.Prelude.{◌≡◌, ◌≢◌, ◌⊎◌, ◌<◌, ℕ, zero, suc, ◌==◌, not, ◌&&◌, nat_le, true, false, List, [], ◌∷◌, length, Option, Some, None, option_and_then, option_map, refl}
+use Rattle.std.specs.Prelude.{◌≡◌, ◌≢◌, ◌⊎◌, ◌<◌, ◌≤◌, ℕ, zero, suc, ◌==◌, not, ◌&&◌, nat_le, true, false, List, [], ◌∷◌, length, Option, Some, None, option_and_then, option_map, refl}
 use Rattle.std.specs.List.{list_all}
 use Rattle.std.proofs.Common.{ap, ◌∙◌, sym, subst, inl, inr}
 use Rattle.std.proofs.lemmas.Bool.{and_parts, cases_lt}
@@ -9,23 +9,28 @@ use Rattle.std.proofs.lemmas.Option.{same_Some}
 use Rattle.name_laws.specs.layout_model.declared.lines.Kind.{Kind}
 use Rattle.name_laws.specs.layout_model.declared.lines.Kind.TheVariants.{Free, Directory, File, Staging}
 use Rattle.name_laws.specs.layout_model.Lines.{is_dots, is_name, is_name_byte, line_name_bytes, NameRow}
-use Rattle.name_laws.specs.layout_model.Names.{child_named, is_child, parent_of, row, up}
+use Rattle.name_laws.specs.layout_model.Names.{child_named, is_child, names_of, parent_of, row, up}
 use Rattle.name_laws.specs.layout_model.TableLaws.{child_named-NamingLine, NamingLine-child_named, NamingLine-parent_of}
 use Rattle.name_laws.specs.layout_model.Tables.{NamingLine}
 use Rattle.name_laws.specs.image_model.Live.{is_directory, is_file}
 use Rattle.name_laws.specs.image_model.Volume.{free_inode, inode, Volume}
-use Rattle.name_laws.specs.KeptLaws.{HasAllLines, kept-keyed, kept-named, kept-one_name, kept-placed}
+use Rattle.name_laws.specs.k_split_model.Spaces.{is_directory_in}
+use Rattle.name_laws.specs.KeptLaws.{HasAllLines, kept-forest, kept-keyed, kept-named, kept-one_name, kept-placed}
 use Rattle.name_laws.specs.RowLaws.{names_of-one_line, names_of-zero}
 use Rattle.posix_laws.specs.posix_tables.declared.nodes.DirEntry.{DirEntry}
 use Rattle.posix_laws.specs.posix_tables.Names.{child_of}
 use Rattle.posix_laws.specs.posix_spec.State.{State}
 use Rattle.crash_spec.specs.list_laws.Members.{In}
-use Rattle.posix_laws.specs.Entries.{child_of-In, IsDeep, IsTreeLike, Leads-child_of}
+use Rattle.posix_laws.specs.Entries.{child_of-In, HoldsEntry, IsDeep, IsTreeLike, Leads-child_of}
 use Rattle.posix_laws.specs.Paths.{HasNoSlash, IsFilled, IsPlainName}
 use Rattle.world_model.specs.Stands.{is_used, IsSane, IsUsed, NamesStand, number}
 
 pub all_lines : (v : Volume) → IsSane v → HasAllLines v
 all_lines v sane = record { inode_count = sane.inode_count; name_count = sane.name_count }
+
+-- no node has two names
+pub one_name : (v : Volume) → IsSane v → (ino : ℕ) → names_of v.names ino ≤ 1
+one_name v sane ino = kept-one_name v sane.kept (all_lines v sane) ino
 
 -- Inodes in use.
 
@@ -137,14 +142,21 @@ IsTreeLike-names v numbers s sane names = record { distinct = names.distinct; ro
       let never : true ≡ false = sym there ∙ names_of-zero v.names 0 sane.kept.directories.root its.line.line in
       cc
 
-  one : (a b : DirEntry) → In a s.entries → In b s.entries → a.child ≡ b.child → a ≡ b
-  one a b a_is b_is same =
+  -- a directory in which an entry stands has one line
+  one : (d : ℕ) (a b : DirEntry) → HoldsEntry s.entries d → In a s.entries → In b s.entries → a.child ≡ d → b.child ≡ d → a ≡ b
+  one d a b holds a_is b_is first second =
       let its = line_of a a_is in
       let other = line_of b b_is in
+      let below = line_of holds.entry holds.is in
+      let forest = kept-forest v sane.kept (all_lines v sane) in
+      let same : a.child ≡ b.child = first ∙ sym second in
       let child : other.child ≡ its.child = names.one other.child its.child other.child_used its.child_used (other.child_is ∙ (sym same ∙ sym its.child_is)) in
+      let it : its.child ≡ below.parent = names.one its.child below.parent its.child_used below.parent_used (its.child_is ∙ (first ∙ (sym holds.parent_is ∙ sym below.parent_is))) in
+      let directory : is_directory_in v.inodes its.child ≡ true =
+      ap (is_directory_in v.inodes) (it ∙ sym below.line.parent_is) ∙ forest.parents below.line.line below.line.at below.line.is in
       let there = subst (λ c. is_child c (row v.names other.line.line) ≡ true) child (child_at v.names other.parent other.child b.name other.line) in
       let line : its.line.line ≡ other.line.line =
-      names_of-one_line v.names its.child its.line.line other.line.line (kept-one_name v sane.kept (all_lines v sane) its.child)
+      names_of-one_line v.names its.child its.line.line other.line.line (forest.one_name its.child directory)
       (child_at v.names its.parent its.child a.name its.line) there in
       let at : its.line.at ≡ other.line.at = same_Some its.line.at other.line.at (sym its.line.is ∙ (ap (row v.names) line ∙ other.line.is)) in
       let name : a.name ≡ b.name = sym its.line.name_is ∙ (ap (λ (r : NameRow). r.name) at ∙ other.line.name_is) in

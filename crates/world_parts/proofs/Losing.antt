@@ -19,7 +19,7 @@ module _ (p : Parts) (kept : IsKept p) (awake : p.lost ≡ false) where
   pub out_within : blocks_out p.k.cells p.pending.items ≤ length p.pending.items
   out_within = count_by-le-length (λ (q : JobOut). is_lent (cell p.k.cells (512 * slice_index q.blocks 0))) p.pending.items
 
-  lost_at : (acts : ℕ) → IsWorldOver p.k p.files.tables p.staging p.data (lost_view (seen p) [] acts (disk_of p.k p.files.tables p.staging)) → IsKept (record p { acts = acts; lost = true })
+  lost_at : (acts : ℕ) → IsWorldOver p.k p.files.tables p.staging p.data (lost_view (seen p) [] acts (disk_of p.k p.files.tables p.staging p.data)) → IsKept (record p { acts = acts; lost = true })
   lost_at acts world = record {
     world = subst (λ (u : List Unfinished). (let v : WorldView = record (seen p) { unfinished = u; acts = acts; lost = true } in IsWorldOver p.k p.files.tables p.staging p.data v)) (sym going.none_unfinished) world;
     counts = kept.counts;

@@ -1,23 +1,29 @@
 -- What the calls of a World answer.
 use Rattle.std.specs.Prelude.{◌≡◌, ◌≢◌, ◌⊎◌, ℕ, true, false, List, [], None, Result, Ok, Err}
 use Rattle.world_view_laws.specs.pm_model.declared.Cell.{Cell}
+use Rattle.world_view_laws.specs.pm_model.Cells.{cell}
 use Rattle.world_view_laws.specs.pm_model.Images.{IsImage}
 use Rattle.world_view_laws.specs.pm_model.Powers.{is_on, Supply}
 use Rattle.world_view_laws.specs.pm_model.Words.{Words}
 use Rattle.layout_model.specs.Journal.{journaled}
 use Rattle.layout_model.specs.Places.{Geometry}
+use Rattle.world_view_laws.specs.image_model.Content.{content}
+use Rattle.world_view_laws.specs.image_model.Honest.{IsHonest}
 use Rattle.world_view_laws.specs.image_model.Volume.{volume}
 use Rattle.world_view_laws.specs.list_laws.Members.{In}
 use Rattle.posix_types.specs.declared.call.Who.{Who}
+use Rattle.posix_types.specs.declared.tree.TreeEntry.{TreeEntry}
+use Rattle.world_view_laws.specs.posix_spec.Tree.{tree}
 use Rattle.world_view_laws.specs.k_journal.declared.outcomes.Commit.{Commit}
 use Rattle.world_view_laws.specs.file_calls.declared.names.outcomes.NoMemory.{NoMemory}
 use Rattle.world_view_laws.specs.in_flight.world_image_laws.Images.{HasNoEntry}
 use Rattle.world_view_laws.specs.in_flight.live_model.Standing.{JobOut}
+use Rattle.world_view_laws.specs.in_flight.world_model.Shown.{IsTreeOfContent}
 use Rattle.world_view_laws.specs.write_jobs.Jobs.{FilledView}
 use Rattle.world_view_laws.specs.Begins.{BeginsJob, IsFilledOut, IsPowerLost, IsRoundOver, MayBegin, Returns, Waits, WaitsFor, WantsMemory}
 use Rattle.world_view_laws.specs.Jobs.{Finishes, LosesFinish}
 use Rattle.world_view_laws.specs.Rounds.{IsLeft, IsNextRound, LosesRound}
-use Rattle.world_view_laws.specs.Views.{calls_out, HasNone, next_of, WorldView}
+use Rattle.world_view_laws.specs.Views.{calls_out, HasNone, next_of, state_of, WorldView}
 use Rattle.world_parts.specs.declared.outcomes.Begun.{Begun}
 use Rattle.world_parts.specs.declared.outcomes.Ended.{Ended}
 use Rattle.world_parts.specs.declared.outcomes.Finished.{Finished}
@@ -59,9 +65,16 @@ IsCheckpoint old new power (Err e) = WantsMemory old new power
 abbrev pub HasEmptyLog : Geometry → List Cell → Type 0
 HasEmptyLog g pm = (image : Words) → IsImage pm image → HasNoEntry (volume g (journaled image)) (journaled image)
 
--- HOW A RUN ENDS: whole, where the power is on and was not lost, with all published; else by a loss. Either way this is left.
+-- THE TREE IS THAT OF THE HISTORY, in every mode: whatever the device is found as, its content has no other.
+abbrev pub HasTreeOf : WorldView → List Cell → Type 0
+HasTreeOf w pm =
+    (image : Words) → IsImage pm image → IsHonest w.geometry (cell pm) image
+    → (left : List TreeEntry) → IsTreeOfContent (content w.geometry image) left → left ≡ tree (state_of w)
+
+-- HOW A RUN ENDS: whole, where the power is on and was not lost, with all published, and with just the tree of the history; else by a loss.
+-- Either way this is left.
 abbrev pub IsEnded : WorldView → Supply → Result Ended NoMemory → Type 0
-IsEnded w power (Ok (Ended.Whole pm history)) = (w.lost ≡ false) × (is_on power ≡ true) × IsLeft w pm history.items [] × HasEmptyLog w.geometry pm
+IsEnded w power (Ok (Ended.Whole pm history)) = (w.lost ≡ false) × (is_on power ≡ true) × IsLeft w pm history.items [] × HasEmptyLog w.geometry pm × HasTreeOf w pm
 IsEnded w power (Ok (Ended.Lost crashed)) =
     ((w.lost ≡ true) ⊎ (is_on power ≡ false)) × IsLeft w crashed.pm crashed.history.items (calls_out w) × (crashed.unfinished.items ≡ calls_out w)
 IsEnded w power (Err e) = (w.lost ≡ false) × (is_on power ≡ true)

@@ -91,8 +91,8 @@ module _ (law : GoesIntoNextRound) (applies : AppliesClaims) (p q : Parts) (l m 
     lines_out = false;
   }
 
-  next_seen : seen rest ≡ next_view (seen p) (disk_of m p.files.tables then)
-  next_seen = ap (λ (cs : List (ℕ × Draft)). (let v : WorldView = record (next_view (seen p) (disk_of m p.files.tables then)) { claims = cs } in v)) claims
+  next_seen : seen rest ≡ next_view (seen p) (disk_of m p.files.tables then table)
+  next_seen = ap (λ (cs : List (ℕ × Draft)). (let v : WorldView = record (next_view (seen p) (disk_of m p.files.tables then table)) { claims = cs } in v)) claims
 
   none_out : length p.pending.items ≡ 0
   none_out = ap (λ xs. length xs) ending.none_out
@@ -113,7 +113,7 @@ module _ (law : GoesIntoNextRound) (applies : AppliesClaims) (p q : Parts) (l m 
   pub next_kept : IsKept q
   next_kept = subst IsKept (sym is) rest_kept
 
-  disk_is : (seen q).disk ≡ disk_of m p.files.tables then
+  disk_is : (seen q).disk ≡ disk_of m p.files.tables then table
   disk_is = ap (λ (x : Parts). (seen x).disk) is
 
   -- WHAT IT ANSWERS: nothing is staged any more
@@ -150,11 +150,11 @@ module _ (law : LosesRoundBefore) (p q : Parts) (lines : List Part) (kept : IsKe
   abbrev kept_rest : Parts
   kept_rest = record p { home = q.home; lines_out = false }
 
-  view_before : seen kept_rest ≡ record (lost_round (seen p) p.acts (disk_of p.k p.files.tables p.staging) lines) { lost = p.lost }
+  view_before : seen kept_rest ≡ record (lost_round (seen p) p.acts (disk_of p.k p.files.tables p.staging p.data) lines) { lost = p.lost }
   view_before = ap (λ (xs : List Part). (let v : WorldView = record (seen p) { lines_out = false; home = xs } in v)) home
 
-  lost_before : record (lost_round (seen p) p.acts (disk_of p.k p.files.tables p.staging) lines) { lost = p.lost } ≡ lost_round (seen p) p.acts (disk_of p.k p.files.tables p.staging) lines
-  lost_before = ap (λ b. (let v : WorldView = record (lost_round (seen p) p.acts (disk_of p.k p.files.tables p.staging) lines) { lost = b } in v)) off
+  lost_before : record (lost_round (seen p) p.acts (disk_of p.k p.files.tables p.staging p.data) lines) { lost = p.lost } ≡ lost_round (seen p) p.acts (disk_of p.k p.files.tables p.staging p.data) lines
+  lost_before = ap (λ b. (let v : WorldView = record (lost_round (seen p) p.acts (disk_of p.k p.files.tables p.staging p.data) lines) { lost = b } in v)) off
 
   kept_rest_kept : IsKept kept_rest
   kept_rest_kept = record {

@@ -25,7 +25,7 @@ use Rattle.world_parts.specs.world_view_laws.file_calls.open_files.State.{OpenSt
 use Rattle.world_parts.specs.world_view_laws.write_end.Ends.{CanFinish, HasJob, HasWrite, LeavesFinished}
 use Rattle.world_parts.specs.world_view_laws.Begins.{IsFilledOut}
 use Rattle.world_parts.specs.world_view_laws.Jobs.{Finishes}
-use Rattle.world_parts.specs.world_view_laws.Views.{disk_of, IsGoing, IsWorldOver, next_of, state_of, WorldView}
+use Rattle.world_parts.specs.world_view_laws.Views.{disk_of, IsGoing, IsWorldOver, next_of, overlays_of, state_of, WorldView}
 use Rattle.world_parts.specs.write_jobs.Jobs.{FilledView}
 use Rattle.world_parts.specs.declared.parts.Parts.{Parts}
 use Rattle.world_parts.specs.Seen.{IsKept, seen}
@@ -80,7 +80,7 @@ module _ (p : Parts) (kept : IsKept p) (awake : p.lost ≡ false) (out : p.lines
         (has_write p.k p.files.tables p.staging p.data (seen p) kept.world awake out q job is_out))
 
     abbrev then_view : WorldView
-    then_view = finish_view p.k p.files.tables p.staging p.data (seen p) kept.world awake out q job is_out slot k files.tables
+    then_view = finish_view p.k p.files.tables p.staging p.data (seen p) kept.world awake out q job is_out slot k files.tables laid
 
     world_then : IsWorldOver k files.tables p.staging laid then_view
     world_then =
@@ -137,13 +137,14 @@ module _ (p : Parts) (kept : IsKept p) (awake : p.lost ≡ false) (out : p.lines
       seen_then : then_view ≡ seen r
       seen_then = same_view ∙ sym (added_seen taken.who taken.call outcome middle r added kept.counts)
 
-      disk_so : disk_of k files.tables p.staging ≡ record (seen p).disk { cells = k.cells; tables = files.tables }
-      disk_so = ap (λ (x : View). disk_of x files.tables p.staging) k_is
+      disk_so : disk_of k files.tables p.staging laid ≡ record (seen p).disk { cells = k.cells; tables = files.tables; overlays = overlays_of laid; sizes = laid.sizes }
+      disk_so = ap (λ (x : View). disk_of x files.tables p.staging laid) k_is
 
       pub finished_so : (power : Supply) → is_on power ≡ true → Finishes slot q (seen p) (seen r) power
       finished_so power on = subst (λ (v : WorldView). Finishes slot q (seen p) v power) seen_then (record {
         awake = awake;
         on = on;
+        next = next_job;
         new_is = refl;
         disk = disk_so;
         stay = others_on p.k p.files.tables p.staging p.data (seen p) kept.world awake out q job is_out slot k files.tables laid k_is left_so

@@ -107,7 +107,7 @@ module _ (p : Parts) (kept : IsKept p) (awake : p.lost ≡ false) (out : p.lines
     pub given_so : GivesUp full q (seen p) (seen given_parts)
     given_so = record {
       new_is = sym view_is;
-      disk = λ on. ap (λ (x : View). disk_of x p.files.tables staging) k_is;
+      disk = λ on. ap (λ (x : View). disk_of x p.files.tables staging p.data) k_is;
       run_back = λ on. subst (λ (d : Draft). IsGivenBack (reserved_run d) p.staging staging) is_out.draft run_back;
       back = home_now;
       homes = homes_on p.k p.files.tables p.staging p.data (seen p) kept.world awake out q job is_out (seen given_parts);

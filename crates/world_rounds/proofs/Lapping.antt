@@ -58,8 +58,8 @@ module _ (law : StandsOut) (may : MayBegin) (p q : Parts) (l : View) (lines : Li
   abbrev rest : Parts
   rest = record p { k = l; first = q.first; lines_out = true }
 
-  rest_seen : begun_view (seen p) l p.files.tables p.staging ws ≡ seen rest
-  rest_seen = ap (λ (xs : List ℕ). begun_view (seen p) l p.files.tables p.staging xs) (sym first)
+  rest_seen : begun_view (seen p) l p.files.tables p.staging p.data ws ≡ seen rest
+  rest_seen = ap (λ (xs : List ℕ). begun_view (seen p) l p.files.tables p.staging p.data xs) (sym first)
 
   rest_kept : IsKept rest
   rest_kept = record {

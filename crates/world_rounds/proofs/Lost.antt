@@ -133,8 +133,8 @@ module _ (p : Parts) (kept : IsKept p) (off : p.lost ≡ true) (out : p.lines_ou
       claims_are : p.claims.items ++ (slot, q.draft) ∷ [] ≡ claims.items
       claims_are = ap (λ (d : Draft). p.claims.items ++ (slot, d) ∷ []) (sym is_out.draft) ∙ sym claimed
 
-      view_is : (let v : WorldView = record (seen p) { claims = p.claims.items ++ (slot, q.draft) ∷ []; acts = p.acts; disk = disk_of l p.files.tables p.staging; lost = true } in v ≡ seen then_parts)
-      view_is = λ i. record (seen p) { claims = claims_are i; acts = p.acts; disk = disk_of l p.files.tables p.staging; lost = sym off i }
+      view_is : (let v : WorldView = record (seen p) { claims = p.claims.items ++ (slot, q.draft) ∷ []; acts = p.acts; disk = disk_of l p.files.tables p.staging p.data; lost = true } in v ≡ seen then_parts)
+      view_is = λ i. record (seen p) { claims = claims_are i; acts = p.acts; disk = disk_of l p.files.tables p.staging p.data; lost = sym off i }
 
       len : vec_len claims ≡ vec_len p.claims + 1
       len = omega (arith, claims.ok.0, p.claims.ok.0, ap length claimed, length-append p.claims.items ((slot, job.draft) ∷ []))

@@ -59,21 +59,22 @@ module _ (k : View) (t : Tables) (staging : Staged) (files : Files) (w : WorldVi
 
   -- ---- it returned
 
-  abbrev pub return_view : View → Tables → WorldView
-  return_view l u = record w { history = w.history ++ item_of w who call ∷ []; acts = w.acts + 1; disk = disk_of l u staging }
+  abbrev pub return_view : View → Tables → Files → WorldView
+  return_view l u laid = record w { history = w.history ++ item_of w who call ∷ []; acts = w.acts + 1; disk = disk_of l u staging laid }
 
   grown : Grows w.start w.scripts w.history (w.history ++ item_of w who call ∷ []) who call
   grown = grows w.start w.scripts w.history (w.history ++ item_of w who call ∷ []) who call (step (state_of w) who call).outcome world.legal world.scripted next up refl refl
 
   module _ (idle : is_busy (state_of w) (files_out w) (who, call) ≡ false) (l : View) (u : Tables) (laid : Files) (base : l.volume.base ≡ k.volume.base) (ends : FilesEnd l.volume laid)
       (stands : StandsAt w.geometry l u (kept_of w staging laid) true (length w.history + 1) (after_call (state_of w) (who, call))) where
-    going2 : IsGoing l u staging laid (return_view l u)
+    going2 : IsGoing l u staging laid (return_view l u laid)
     going2 = record {
       stands =
-          subst (λ b. StandsAt w.geometry l u (kept_of (return_view l u) staging laid) b (length (w.history ++ item_of w who call ∷ [])) (state_of (return_view l u))) (sym out)
-          (subst (StandsAt w.geometry l u (kept_of (return_view l u) staging laid) true (length (w.history ++ item_of w who call ∷ []))) (sym grown.run_is)
-          (subst (λ n. StandsAt w.geometry l u (kept_of (return_view l u) staging laid) true n (after_call (state_of w) (who, call))) (sym grown.longer) stands));
-      runs = going.runs;
+          subst (λ b. StandsAt w.geometry l u (kept_of (return_view l u laid) staging laid) b (length (w.history ++ item_of w who call ∷ [])) (state_of (return_view l u laid))) (sym out)
+          (subst (StandsAt w.geometry l u (kept_of (return_view l u laid) staging laid) true (length (w.history ++ item_of w who call ∷ []))) (sym grown.run_is)
+          (subst (λ n. StandsAt w.geometry l u (kept_of (return_view l u laid) staging laid) true n (after_call (state_of w) (who, call))) (sym grown.longer) stands));
+      counted = going.counted;
+      runs = λ settled. absurd (omega (arith, settled, world.counted.settled, grown.longer));
       bare = going.bare;
       none_unfinished = going.none_unfinished;
       none_home = going.none_home;
@@ -85,7 +86,7 @@ module _ (k : View) (t : Tables) (staging : Staged) (files : Files) (w : WorldVi
     }
 
     -- THE CALL RETURNED.
-    pub returned : IsWorldOver l u staging laid (return_view l u)
+    pub returned : IsWorldOver l u staging laid (return_view l u laid)
     returned = record {
       mode = world.mode;
       few = world.few;
@@ -110,13 +111,13 @@ module _ (k : View) (t : Tables) (staging : Staged) (files : Files) (w : WorldVi
       gone = λ off. no_both w.lost off on _;
     }
 
-    words2 : (q : JobOut) (words : List ℕ) → In q w.pending → SpellCall (state_of w) q words → SpellCall (state_of (return_view l u)) q words
+    words2 : (q : JobOut) (words : List ℕ) → In q w.pending → SpellCall (state_of w) q words → SpellCall (state_of (return_view l u laid)) q words
     words2 q words at spells =
         subst (λ (s : State). SpellCall s q words) (sym grown.run_is)
         (words_stay w.geometry k t (kept_of w staging files) _ (length w.history) (state_of w) standing (who, call) (lets idle) w.geometry l u (kept_of w staging laid) _ _ stands refl q words at spells)
 
     -- the jobs of others stay out
-    pub others_returned : OthersStay w (return_view l u) who
+    pub others_returned : OthersStay w (return_view l u laid) who
     others_returned = (
       λ q other apart is. record { there = is.there; who = is.who; draft = is.draft; blocks = is.blocks; words = words2 q other.words is.there is.words; lent = has_blocks_out w.geometry l u (kept_of w staging laid) _ _ q stands is.there },
       λ q other apart is. record { there = is.there; who = is.who; draft = is.draft; blocks = is.blocks; words = words2 q other.words is.there is.words; lent = has_blocks_out w.geometry l u (kept_of w staging laid) _ _ q stands is.there },
@@ -124,17 +125,18 @@ module _ (k : View) (t : Tables) (staging : Staged) (files : Files) (w : WorldVi
 
   -- ---- it became a job
 
-  abbrev pub job_view : View → Staged → JobOut → WorldView
-  job_view l staged p = record w { pending = w.pending ++ p ∷ []; acts = w.acts + 1; disk = disk_of l t staged }
+  abbrev pub job_view : View → Staged → Files → JobOut → WorldView
+  job_view l staged laid p = record w { pending = w.pending ++ p ∷ []; acts = w.acts + 1; disk = disk_of l t staged laid }
 
   module _ (going_on : w.over ≡ None) (p : JobOut) (who_is : p.who ≡ who) (call_is : p.call ≡ call) (l : View) (staged : Staged) (laid : Files) (base : l.volume.base ≡ k.volume.base) (ends : FilesEnd l.volume laid) (own_ends : DraftEnds p.draft)
       (runs : length staged.out ≡ length staging.out + 1) (few : length (w.pending ++ p ∷ []) ≤ 9)
       (stands : StandsAt w.geometry l t (record (kept_of w staged laid) { pending = w.pending ++ p ∷ [] }) true (length w.history) (state_of w)) where
-    going3 : IsGoing l t staged laid (job_view l staged p)
+    going3 : IsGoing l t staged laid (job_view l staged laid p)
     going3 = record {
-      stands = subst (λ b. StandsAt w.geometry l t (kept_of (job_view l staged p) staged laid) b (length w.history) (state_of w)) (sym out) stands;
-      runs = omega (arith, runs, going.runs, length-append w.pending (p ∷ []));
-      bare = λ goes none empty. absurd (let long = length-append w.pending (p ∷ []) in let zero = ap length empty in omega (arith, long, zero));
+      stands = subst (λ b. StandsAt w.geometry l t (kept_of (job_view l staged laid p) staged laid) b (length w.history) (state_of w)) (sym out) stands;
+      counted = λ mode. (let was = going.counted mode in omega (arith, runs, was, length-append w.pending (p ∷ [])));
+      runs = λ settled. (let was = going.runs settled in omega (arith, runs, was, length-append w.pending (p ∷ [])));
+      bare = λ goes none. absurd (let zero = ap length none in omega (arith, runs, zero));
       none_unfinished = going.none_unfinished;
       none_home = going.none_home;
       base = going.base ∙ sym base;
@@ -160,7 +162,7 @@ module _ (k : View) (t : Tables) (staging : Staged) (files : Files) (w : WorldVi
     no_given = world.counted.fresh going_on
 
     -- IT BECAME A JOB.
-    pub began : IsWorldOver l t staged laid (job_view l staged p)
+    pub began : IsWorldOver l t staged laid (job_view l staged laid p)
     began = record {
       mode = world.mode;
       few = world.few;
@@ -192,17 +194,17 @@ module _ (k : View) (t : Tables) (staging : Staged) (files : Files) (w : WorldVi
       front (x ∷ xs) (inl same) = inl same
       front (x ∷ xs) (inr rest) = inr (front xs rest)
 
-    pub others_began : OthersStay w (job_view l staged p) who
+    pub others_began : OthersStay w (job_view l staged laid p) who
     others_began = (
-      λ q other apart is. record { there = there q is.there; who = is.who; draft = is.draft; blocks = is.blocks; words = is.words; lent = has_blocks_out w.geometry l t (kept_of (job_view l staged p) staged laid) _ _ q stands (there q is.there) },
-      λ q other apart is. record { there = there q is.there; who = is.who; draft = is.draft; blocks = is.blocks; words = is.words; lent = has_blocks_out w.geometry l t (kept_of (job_view l staged p) staged laid) _ _ q stands (there q is.there) },
+      λ q other apart is. record { there = there q is.there; who = is.who; draft = is.draft; blocks = is.blocks; words = is.words; lent = has_blocks_out w.geometry l t (kept_of (job_view l staged laid p) staged laid) _ _ q stands (there q is.there) },
+      λ q other apart is. record { there = there q is.there; who = is.who; draft = is.draft; blocks = is.blocks; words = is.words; lent = has_blocks_out w.geometry l t (kept_of (job_view l staged laid p) staged laid) _ _ q stands (there q is.there) },
     )
 
   -- ---- it lost its power
 
   module _ (l : View) (u : Tables) (staged : Staged) (laid : Files) (left : IsLeftOf w.geometry k.cells l.cells)
       (promise : KeepsWhenLost k.volume l.cells (kept_of w staging files) standing.jobs w.start w.history ((who, call) ∷ [])) where
-    lost_out : IsLostOut staged laid (lost_view w ((who, call) ∷ []) (w.acts + 1) (disk_of l u staged))
+    lost_out : IsLostOut staged laid (lost_view w ((who, call) ∷ []) (w.acts + 1) (disk_of l u staged laid))
     lost_out = record {
       volume = k.volume;
       geometry = standing.geometry;
@@ -214,16 +216,16 @@ module _ (k : View) (t : Tables) (staging : Staged) (files : Files) (w : WorldVi
     }
 
     -- IT LOST ITS POWER.
-    pub lost_call : IsWorldOver l u staged laid (lost_view w ((who, call) ∷ []) (w.acts + 1) (disk_of l u staged))
+    pub lost_call : IsWorldOver l u staged laid (lost_view w ((who, call) ∷ []) (w.acts + 1) (disk_of l u staged laid))
     lost_call =
         world_lost k l t u staging staged files laid w ((who, call) ∷ []) (w.acts + 1) world (omega (arith, world.counted.acts_on on))
         (open_called w.scripts w.history w.pending w.unfinished (who, call) going.none_unfinished own_next none world.open_calls)
-        (subst (IsLost staged laid (lost_view w ((who, call) ∷ []) (w.acts + 1) (disk_of l u staged))) (sym out) lost_out)
+        (subst (IsLost staged laid (lost_view w ((who, call) ∷ []) (w.acts + 1) (disk_of l u staged laid))) (sym out) lost_out)
 
     still_out : (q : JobOut) → AreBlocksOut q.blocks w.disk.cells → AreBlocksOut q.blocks l.cells
     still_out q was = (leaves_blocks w.geometry k.cells l.cells q.blocks left).0 (subst (AreBlocksOut q.blocks) (ap (λ (d : Disk). d.cells) world.disk_is) was)
 
-    pub others_lost : OthersStay w (lost_view w ((who, call) ∷ []) (w.acts + 1) (disk_of l u staged)) who
+    pub others_lost : OthersStay w (lost_view w ((who, call) ∷ []) (w.acts + 1) (disk_of l u staged laid)) who
     others_lost = (
       λ q other apart is. record { there = is.there; who = is.who; draft = is.draft; blocks = is.blocks; words = is.words; lent = still_out q is.lent },
       λ q other apart is. record { there = is.there; who = is.who; draft = is.draft; blocks = is.blocks; words = is.words; lent = still_out q is.lent },

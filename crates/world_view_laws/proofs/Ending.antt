@@ -17,6 +17,7 @@ use Rattle.in_flight.specs.posix_spec.Step.{step}
 use Rattle.in_flight.specs.posix_spec.Unfinished.{AreUnfinished, IsNextCall}
 use Rattle.in_flight.specs.Histories.{Grows, grows}
 use Rattle.in_flight.specs.staging_files.Keeps.{Staged}
+use Rattle.in_flight.specs.world_image_laws.Settings.{setting_run}
 use Rattle.in_flight.specs.live_model.Standing.{AreOfTwoThreads, IsSpellable, JobOut, StandsAt}
 use Rattle.in_flight.specs.live_model.Jobs.{SpellCall, without}
 use Rattle.write_end.specs.Ends.{begun_by, CanFinish, CanGiveUp, HasJob, HasWrite, LeavesFinished, LeavesGivenUp}
@@ -90,7 +91,7 @@ module _ (k : View) (t : Tables) (staging : Staged) (files : Files) (w : WorldVi
   }
 
   pub has_write : HasWrite k job t files p.call has
-  has_write = record { tables = refl; files_are = refl; call_is = refl }
+  has_write = record { tables = refl; files_are = refl; call_is = refl; strict = (setting_run w.start w.history).mode ∙ world.mode }
 
   pub can_finish : CanFinish k job t files p.call
   can_finish = (has, has_write)
@@ -112,13 +113,13 @@ module _ (k : View) (t : Tables) (staging : Staged) (files : Files) (w : WorldVi
 
   -- ---- it finishes
 
-  abbrev pub finish_view : ℕ → View → Tables → WorldView
-  finish_view slot l u = record w {
+  abbrev pub finish_view : ℕ → View → Tables → Files → WorldView
+  finish_view slot l u laid = record w {
     history = w.history ++ item_of w p.who p.call ∷ [];
     claims = w.claims ++ (slot, p.draft) ∷ [];
     pending = without p.who w.pending;
     acts = w.acts + 1;
-    disk = disk_of l u staging;
+    disk = disk_of l u staging laid;
   }
 
   own_next : IsNextCall w.scripts w.history (begun_by p)
@@ -128,10 +129,10 @@ module _ (k : View) (t : Tables) (staging : Staged) (files : Files) (w : WorldVi
   grown = grows w.start w.scripts w.history (w.history ++ item_of w p.who p.call ∷ []) p.who p.call (step (state_of w) p.who p.call).outcome world.legal world.scripted own_next.call own_next.set_up refl refl
 
   module _ (slot : ℕ) (l : View) (u : Tables) (laid : Files) (same : l ≡ record k { cells = l.cells }) (leaves : LeavesFinished k job has slot l u laid) (ends : FilesEnd l.volume laid) where
-    stands2 : StandsAt w.geometry l u (kept_of (finish_view slot l u) staging laid) true (length (w.history ++ item_of w p.who p.call ∷ [])) (state_of (finish_view slot l u))
+    stands2 : StandsAt w.geometry l u (kept_of (finish_view slot l u laid) staging laid) true (length (w.history ++ item_of w p.who p.call ∷ [])) (state_of (finish_view slot l u laid))
     stands2 =
-        subst (StandsAt w.geometry l u (kept_of (finish_view slot l u) staging laid) true (length (w.history ++ item_of w p.who p.call ∷ []))) (sym grown.run_is)
-        (subst (λ n. StandsAt w.geometry l u (kept_of (finish_view slot l u) staging laid) true n (after_call (state_of w) (p.who, p.call))) (sym grown.longer) leaves.stands)
+        subst (StandsAt w.geometry l u (kept_of (finish_view slot l u laid) staging laid) true (length (w.history ++ item_of w p.who p.call ∷ []))) (sym grown.run_is)
+        (subst (λ n. StandsAt w.geometry l u (kept_of (finish_view slot l u laid) staging laid) true n (after_call (state_of w) (p.who, p.call))) (sym grown.longer) leaves.stands)
 
     open2 : AreUnfinished w.scripts (w.history ++ item_of w p.who p.call ∷ []) (map begun_by (without p.who w.pending) ++ w.unfinished)
     open2 =
@@ -144,11 +145,12 @@ module _ (k : View) (t : Tables) (staging : Staged) (files : Files) (w : WorldVi
       | inr one ↦ subst IsSpellable (ap (λ (c : ℕ × Draft). c.1) one) (spellable w.geometry k t (kept_of w staging files) _ (length w.history) (state_of w) standing p is_out.there)
     ]
 
-    going2 : IsGoing l u staging laid (finish_view slot l u)
+    going2 : IsGoing l u staging laid (finish_view slot l u laid)
     going2 = record {
-      stands = subst (λ b. StandsAt w.geometry l u (kept_of (finish_view slot l u) staging laid) b (length (w.history ++ item_of w p.who p.call ∷ [])) (state_of (finish_view slot l u))) (sym out) stands2;
-      runs = omega (arith, going.runs, one_less, length-append w.claims ((slot, p.draft) ∷ []));
-      bare = λ goes none empty. absurd (let long = length-append w.claims ((slot, p.draft) ∷ []) in let zero = ap length none in omega (arith, long, zero));
+      stands = subst (λ b. StandsAt w.geometry l u (kept_of (finish_view slot l u laid) staging laid) b (length (w.history ++ item_of w p.who p.call ∷ [])) (state_of (finish_view slot l u laid))) (sym out) stands2;
+      counted = λ mode. (let was = going.counted mode in omega (arith, was, one_less, length-append w.claims ((slot, p.draft) ∷ [])));
+      runs = λ settled. absurd (omega (arith, settled, world.counted.settled, grown.longer));
+      bare = going.bare;
       none_unfinished = going.none_unfinished;
       none_home = going.none_home;
       base = going.base ∙ sym (ap (λ (x : View). x.volume.base) same);
@@ -158,7 +160,7 @@ module _ (k : View) (t : Tables) (staging : Staged) (files : Files) (w : WorldVi
       log_home = λ home. no_both w.lines_out out home _;
     }
 
-    counted2 : AreCounted (finish_view slot l u)
+    counted2 : AreCounted (finish_view slot l u laid)
     counted2 = record {
       settled = omega (arith, world.counted.settled, grown.longer);
       fresh = world.counted.fresh;
@@ -172,7 +174,7 @@ module _ (k : View) (t : Tables) (staging : Staged) (files : Files) (w : WorldVi
     }
 
     -- A JOB FINISHED.
-    pub finished_on : IsWorldOver l u staging laid (finish_view slot l u)
+    pub finished_on : IsWorldOver l u staging laid (finish_view slot l u laid)
     finished_on = record {
       mode = world.mode;
       few = world.few;
@@ -187,31 +189,32 @@ module _ (k : View) (t : Tables) (staging : Staged) (files : Files) (w : WorldVi
       gone = λ off. no_both w.lost off on _;
     }
 
-    words2 : (q : JobOut) (words : List ℕ) → In q (without p.who w.pending) → SpellCall (state_of w) q words → SpellCall (state_of (finish_view slot l u)) q words
+    words2 : (q : JobOut) (words : List ℕ) → In q (without p.who w.pending) → SpellCall (state_of w) q words → SpellCall (state_of (finish_view slot l u laid)) q words
     words2 q words at spells = subst (λ (s : State). SpellCall s q words) (sym grown.run_is) (leaves.words q words at spells)
 
     -- the jobs of others stay out
-    pub others_on : OthersStay w (finish_view slot l u) p.who
+    pub others_on : OthersStay w (finish_view slot l u laid) p.who
     others_on = (
       λ q other apart is. (
           let at = stays_in p.who w.pending q is.there apart in
-          record { there = at; who = is.who; draft = is.draft; blocks = is.blocks; words = words2 q other.words at is.words; lent = has_blocks_out w.geometry l u (kept_of (finish_view slot l u) staging laid) _ _ q stands2 at }),
+          record { there = at; who = is.who; draft = is.draft; blocks = is.blocks; words = words2 q other.words at is.words; lent = has_blocks_out w.geometry l u (kept_of (finish_view slot l u laid) staging laid) _ _ q stands2 at }),
       λ q other apart is. (
           let at = stays_in p.who w.pending q is.there apart in
-          record { there = at; who = is.who; draft = is.draft; blocks = is.blocks; words = words2 q other.words at is.words; lent = has_blocks_out w.geometry l u (kept_of (finish_view slot l u) staging laid) _ _ q stands2 at }),
+          record { there = at; who = is.who; draft = is.draft; blocks = is.blocks; words = words2 q other.words at is.words; lent = has_blocks_out w.geometry l u (kept_of (finish_view slot l u laid) staging laid) _ _ q stands2 at }),
     )
 
   -- ---- it is given up
 
   abbrev pub give_view : Full → View → Staged → WorldView
-  give_view full l given = record w { pending = without p.who w.pending; over = Some (over_by w.over full); given_up = w.given_up + 1; disk = disk_of l t given }
+  give_view full l given = record w { pending = without p.who w.pending; over = Some (over_by w.over full); given_up = w.given_up + 1; disk = disk_of l t given files }
 
   module _ (full : Full) (l : View) (given : Staged) (same : l ≡ record k { cells = l.cells }) (runs : length given.out + 1 ≡ length staging.out) (leaves : LeavesGivenUp k job has l given) where
     going3 : IsGoing l t given files (give_view full l given)
     going3 = record {
       stands = subst (λ b. StandsAt w.geometry l t (kept_of (give_view full l given) given files) b (length w.history) (state_of w)) (sym out) leaves.stands;
-      runs = omega (arith, going.runs, one_less, runs);
-      bare = λ goes none empty. absurd (let never : Some (over_by w.over full) ≡ None = goes in cc);
+      counted = λ mode. (let was = going.counted mode in omega (arith, was, one_less, runs));
+      runs = λ settled. (let was = going.runs settled in omega (arith, was, one_less, runs));
+      bare = λ goes none. absurd (let never : Some (over_by w.over full) ≡ None = goes in cc);
       none_unfinished = going.none_unfinished;
       none_home = going.none_home;
       base = going.base ∙ sym (ap (λ (x : View). x.volume.base) same);

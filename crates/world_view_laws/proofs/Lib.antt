@@ -7,6 +7,7 @@ pub mod Handing
 pub mod Crashing
 pub mod Leaving
 pub mod Beginning
+pub mod Holes
 pub use Rattle.write_end.proofs as write_end_proofs
 pub use Rattle.file_publish.proofs as file_publish_proofs
 pub use Rattle.in_flight.proofs.open_files_proofs as open_files_proofs

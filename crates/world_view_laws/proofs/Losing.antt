@@ -64,7 +64,7 @@ counted_lost w unfinished acts disk counted few = record {
 
 pub world_lost : (k l : View) (t u : Tables) (staging staged : Staged) (files filed : Files) (w : WorldView) (unfinished : List Unfinished) (acts : ℕ) → IsWorldOver k t staging files w → acts ≤ most_acts w + 2
     → AreUnfinished w.scripts w.history (map begun_by w.pending ++ unfinished)
-    → IsLost staged filed (lost_view w unfinished acts (disk_of l u staged)) w.lines_out → IsWorldOver l u staged filed (lost_view w unfinished acts (disk_of l u staged))
+    → IsLost staged filed (lost_view w unfinished acts (disk_of l u staged filed)) w.lines_out → IsWorldOver l u staged filed (lost_view w unfinished acts (disk_of l u staged filed))
 world_lost k l t u staging staged files filed w unfinished acts world few opens lost = record {
   mode = world.mode;
   few = world.few;
@@ -73,7 +73,7 @@ world_lost k l t u staging staged files filed w unfinished acts world few opens 
   legal = world.legal;
   scripted = world.scripted;
   open_calls = opens;
-  counted = counted_lost w unfinished acts (disk_of l u staged) world.counted few;
+  counted = counted_lost w unfinished acts (disk_of l u staged filed) world.counted few;
   disk_is = refl;
   going = λ on. never on _;
   gone = λ off. lost;
@@ -95,7 +95,7 @@ module _ (k : View) (t : Tables) (staging : Staged) (files : Files) (w : WorldVi
   stands_as lines out = subst (λ b. StandsAt w.geometry k t (kept_of w staging files) b (length w.history) (state_of w)) out going.stands
 
   -- with the log's lines out, and no call beside the jobs, or one
-  off_out : (unfinished : List Unfinished) (acts : ℕ) → IsLostWith k.volume k.cells (kept_of w staging files) w.start w.history unfinished → IsLostOut staging files (lost_view w unfinished acts (disk_of k t staging))
+  off_out : (unfinished : List Unfinished) (acts : ℕ) → IsLostWith k.volume k.cells (kept_of w staging files) w.start w.history unfinished → IsLostOut staging files (lost_view w unfinished acts (disk_of k t staging files))
   off_out unfinished acts lost = record {
     volume = k.volume;
     geometry = going.stands.geometry;
@@ -105,11 +105,11 @@ module _ (k : View) (t : Tables) (staging : Staged) (files : Files) (w : WorldVi
     at = lost;
   }
 
-  pub off_none : (acts : ℕ) → w.lines_out ≡ true → IsLostOut staging files (lost_view w [] acts (disk_of k t staging))
+  pub off_none : (acts : ℕ) → w.lines_out ≡ true → IsLostOut staging files (lost_view w [] acts (disk_of k t staging files))
   off_none acts out =
       off_out [] acts (found_lost w.geometry k t (kept_of w staging files) (length w.history) w.start w.history (not_posix w.start.mode world.mode) (stands_as true out) going.spelled)
 
-  pub off_call : (acts : ℕ) (c : Unfinished) → w.lines_out ≡ true → IsLostOut staging files (lost_view w (c ∷ []) acts (disk_of k t staging))
+  pub off_call : (acts : ℕ) (c : Unfinished) → w.lines_out ≡ true → IsLostOut staging files (lost_view w (c ∷ []) acts (disk_of k t staging files))
   off_call acts c out = off_out (c ∷ []) acts (found_at_call w.geometry k t (kept_of w staging files) (length w.history) w.start w.history c (not_posix w.start.mode world.mode) (stands_as true out) going.spelled)
 
   -- with them at home
@@ -119,7 +119,7 @@ module _ (k : View) (t : Tables) (staging : Staged) (files : Files) (w : WorldVi
   same_cells : (e : List Cell) → LinesComeBack (log_line w.geometry 0) w.home k.cells e → cell k.cells ≡ cell e
   same_cells e comes = fun_ext (λ i. sym (comes.others i (λ within. omega (arith, within, empty))))
 
-  pub off_home : (unfinished : List Unfinished) (acts : ℕ) → w.lines_out ≡ false → IsLostHome (lost_view w unfinished acts (disk_of k t staging))
+  pub off_home : (unfinished : List Unfinished) (acts : ℕ) → w.lines_out ≡ false → IsLostHome (lost_view w unfinished acts (disk_of k t staging files))
   off_home unfinished acts home = record {
     none = (stands_as false home).lines.0;
     size = size_now;
@@ -136,29 +136,29 @@ module _ (k : View) (t : Tables) (staging : Staged) (files : Files) (w : WorldVi
   few_acts : w.acts ≤ most_acts w + 2
   few_acts = world.counted.acts
 
-  off_by : (acts : ℕ) (lines : Bool) → w.lines_out ≡ lines → IsLost staging files (lost_view w [] acts (disk_of k t staging)) lines
+  off_by : (acts : ℕ) (lines : Bool) → w.lines_out ≡ lines → IsLost staging files (lost_view w [] acts (disk_of k t staging files)) lines
   off_by acts true out = off_none acts out
   off_by acts false home = off_home [] acts home
 
-  off_at : (acts : ℕ) → acts ≤ most_acts w + 2 → IsWorldOver k t staging files (lost_view w [] acts (disk_of k t staging))
+  off_at : (acts : ℕ) → acts ≤ most_acts w + 2 → IsWorldOver k t staging files (lost_view w [] acts (disk_of k t staging files))
   off_at acts few =
       world_lost k k t t staging staging files files w [] acts world few
       (subst (λ (cs : List Unfinished). AreUnfinished w.scripts w.history (map begun_by w.pending ++ cs)) going.none_unfinished world.open_calls) (off_by acts w.lines_out refl)
 
   -- THE POWER IS FOUND OFF, or lost elsewhere,
-  pub world_off : IsWorldOver k t staging files (lost_view w [] w.acts (disk_of k t staging))
+  pub world_off : IsWorldOver k t staging files (lost_view w [] w.acts (disk_of k t staging files))
   world_off = off_at w.acts few_acts
 
   -- or it is found off where a job ends: that is one act.
-  pub world_off_acted : IsWorldOver k t staging files (lost_view w [] (w.acts + 1) (disk_of k t staging))
+  pub world_off_acted : IsWorldOver k t staging files (lost_view w [] (w.acts + 1) (disk_of k t staging files))
   world_off_acted = off_at (w.acts + 1) (omega (arith, world.counted.acts_on on))
 
-  call_by : (c : Unfinished) (lines : Bool) → w.lines_out ≡ lines → IsLost staging files (lost_view w (c ∷ []) (w.acts + 1) (disk_of k t staging)) lines
+  call_by : (c : Unfinished) (lines : Bool) → w.lines_out ≡ lines → IsLost staging files (lost_view w (c ∷ []) (w.acts + 1) (disk_of k t staging files)) lines
   call_by c true out = off_call (w.acts + 1) c out
   call_by c false home = off_home (c ∷ []) (w.acts + 1) home
 
   -- or it is, where a call begins.
-  pub call_off : (c : Unfinished) → AreUnfinished w.scripts w.history (map begun_by w.pending ++ c ∷ []) → IsWorldOver k t staging files (lost_view w (c ∷ []) (w.acts + 1) (disk_of k t staging))
+  pub call_off : (c : Unfinished) → AreUnfinished w.scripts w.history (map begun_by w.pending ++ c ∷ []) → IsWorldOver k t staging files (lost_view w (c ∷ []) (w.acts + 1) (disk_of k t staging files))
   call_off c opens = world_lost k k t t staging staging files files w (c ∷ []) (w.acts + 1) world (omega (arith, world.counted.acts_on on)) opens (call_by c w.lines_out refl)
 
 -- ---- jobs end after it
@@ -192,7 +192,7 @@ module _ (k l : View) (t : Tables) (staging : Staged) (files : Files) (w : World
 
   -- what the World is once the job finished, after these acts
   abbrev pub finished_view : ℕ → ℕ → WorldView
-  finished_view slot acts = record w { claims = w.claims ++ (slot, p.draft) ∷ []; acts = acts; disk = disk_of l t staging; lost = true }
+  finished_view slot acts = record w { claims = w.claims ++ (slot, p.draft) ∷ []; acts = acts; disk = disk_of l t staging files; lost = true }
 
   finished_out : (slot acts : ℕ) → IsLostOut staging files (finished_view slot acts)
   finished_out slot acts = record {
@@ -242,7 +242,7 @@ module _ (k l : View) (t : Tables) (staging : Staged) (files : Files) (w : World
 
   -- what it is once the job was given up
   abbrev pub given_view : Full → WorldView
-  given_view full = record w { pending = without p.who w.pending; over = Some (over_by w.over full); given_up = w.given_up + 1; disk = disk_of l t staging }
+  given_view full = record w { pending = without p.who w.pending; over = Some (over_by w.over full); given_up = w.given_up + 1; disk = disk_of l t staging files }
 
   pub one_less : length (without p.who w.pending) + 1 ≡ length w.pending
   one_less = without_one p.who w.pending p gone.at.callers is_out.there refl

@@ -1,5 +1,5 @@
 -- The calls that have begun and not returned: at most one for each caller, the next of its script.
-use Rattle.std.specs.Prelude.{◌≡◌, ◌≢◌, ◌++◌, ℕ, suc, Bool, true, false, cond, not, List, [], ◌∷◌, map, Some, All, AllPairs, refl}
+use Rattle.std.specs.Prelude.{◌≡◌, ◌≢◌, ◌++◌, suc, Bool, true, false, cond, not, List, [], ◌∷◌, map, Some, All, AllPairs, refl}
 use Rattle.std.proofs.Common.{arith, ap, ◌∙◌, sym, subst, inl, inr}
 use Rattle.std.proofs.lemmas.List.{append-nil, map-append}
 use Rattle.std.proofs.lemmas.List.Elements.{All-cons, All-nil}

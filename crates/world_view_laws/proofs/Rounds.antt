@@ -30,8 +30,8 @@ single_of c (Marked a b) same single = cc
 single_of c Lent same single = cc
 
 -- THE LOG'S LINES GO OUT, of which these words are kept.
-abbrev pub begun_view : WorldView → View → Tables → Staged → List ℕ → WorldView
-begun_view w l t staging first = record w { disk = disk_of l t staging; lines_out = true; first = first }
+abbrev pub begun_view : WorldView → View → Tables → Staged → Files → List ℕ → WorldView
+begun_view w l t staging files first = record w { disk = disk_of l t staging files; lines_out = true; first = first }
 
 module _ (law : StandsOut) (k l : View) (t : Tables) (staging : Staged) (files : Files) (w : WorldView) (world : IsWorldOver k t staging files w) (on : w.lost ≡ false) (home : w.lines_out ≡ false)
     (lines : List Part) (first : List ℕ) (same : l ≡ record k { cells = l.cells }) (order : IsInOrder l) (single : HasSingleLog k) (are : AreLogLines k.volume lines)
@@ -45,9 +45,10 @@ module _ (law : StandsOut) (k l : View) (t : Tables) (staging : Staged) (files :
   turned : HasTurned w.geometry k t (kept_of w staging files) (with_first (kept_of w staging files) (first_by w.geometry first)) false true (length w.history) (state_of w) l.cells standing
   turned = law w.geometry k t (kept_of w staging files) (length w.history) (state_of w) l.cells lines (first_by w.geometry first) words standing (going.log_home home).old (subst IsInOrder same order) are goes
 
-  going_on : IsGoing l t staging files (begun_view w l t staging first)
+  going_on : IsGoing l t staging files (begun_view w l t staging files first)
   going_on = record {
-    stands = subst (λ (x : View). StandsAt w.geometry x t (kept_of (begun_view w l t staging first) staging files) true (length w.history) (state_of w)) (sym same) turned.now;
+    stands = subst (λ (x : View). StandsAt w.geometry x t (kept_of (begun_view w l t staging files first) staging files) true (length w.history) (state_of w)) (sym same) turned.now;
+    counted = going.counted;
     runs = going.runs;
     bare = going.bare;
     none_unfinished = going.none_unfinished;
@@ -60,7 +61,7 @@ module _ (law : StandsOut) (k l : View) (t : Tables) (staging : Staged) (files :
   }
 
   -- A ROUND BEGINS.
-  pub begun_on : IsWorldOver l t staging files (begun_view w l t staging first)
+  pub begun_on : IsWorldOver l t staging files (begun_view w l t staging files first)
   begun_on = record {
     mode = world.mode;
     few = world.few;
@@ -96,12 +97,12 @@ module _ (law : StandsOut) (k l : View) (t : Tables) (staging : Staged) (files :
       ∙ ap (λ x. Single x) (sym (words i at) ∙ ap (λ (g : Geometry). first_by w.geometry first (8 * (log_line g 0 + n) + j)) same_places)
 
   -- WHAT IT ANSWERS
-  pub round_begun : (base : ℕ) → base ≡ w.base → base ≤ 2 ^ 63 → w.geometry.log ≤ 4096 → IsRoundBegun w (begun_view w l t staging first) lines base
+  pub round_begun : (base : ℕ) → base ≡ w.base → base ≤ 2 ^ 63 → w.geometry.log ≤ 4096 → IsRoundBegun w (begun_view w l t staging files first) lines base
   round_begun base is most few = record {
     new_is = refl;
     out = subst (λ (g : Geometry). LinesGoOut (log_line g 0) w.disk.cells l.cells lines) same_places
         (subst (λ (cs : List Cell). LinesGoOut (log_line k.volume.geometry 0) cs l.cells lines) (sym (ap (λ (d : Disk). d.cells) world.disk_is)) goes);
-    cells_alone = ap (λ (x : View). disk_of x t staging) same ∙ ap (λ (d : Disk). record d { cells = l.cells }) (sym world.disk_is);
+    cells_alone = ap (λ (x : View). disk_of x t staging files) same ∙ ap (λ (d : Disk). record d { cells = l.cells }) (sym world.disk_is);
     lines_are = record {
       are = record {
         out = refl;

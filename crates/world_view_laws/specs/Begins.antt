@@ -6,6 +6,7 @@ use Rattle.in_flight.specs.layout_model.Places.{reserve}
 use Rattle.in_flight.specs.k_journal.Commits.{TakesAStep}
 use Rattle.in_flight.specs.list_laws.Members.{In}
 use Rattle.in_flight.specs.posix_types.declared.call.Call.{Call}
+use Rattle.in_flight.specs.posix_types.declared.call.Mode.{Mode}
 use Rattle.in_flight.specs.posix_types.declared.call.Who.{Who}
 use Rattle.in_flight.specs.posix_types.declared.item.Item.{Item}
 use Rattle.in_flight.specs.posix_types.declared.reply.Reply.{Reply}
@@ -29,7 +30,8 @@ use Rattle.in_flight.specs.live_model.Jobs.{SpellCall}
 use Rattle.in_flight.specs.write_jobs.Jobs.{blocks_of, FilledView, JobView}
 use Rattle.write_end.specs.Blocks.{AreBlocksOut}
 use Rattle.world_view_laws.specs.declared.views.over.Over.{Over}
-use Rattle.world_view_laws.specs.Views.{files_out, inode_on, next_of, state_of, WorldView}
+use Rattle.world_view_laws.specs.Holes.{holes_of}
+use Rattle.world_view_laws.specs.Views.{Disk, files_out, inode_on, next_of, state_of, WorldView}
 
 -- ---- jobs that are out
 
@@ -69,23 +71,24 @@ abbrev pub IsNeed : WorldView → Who → Call → ℕ → Type 0
 IsNeed w who (Call.Truncate h size) need = (first (truncate_rows (state_of w) who h size) ≡ None) × (need ≡ growth (length (content (state_of w) who h)) size)
 IsNeed w who call need = (is_logged (state_of w) (who, call) ≡ true) × (need ≡ need_of (state_of w) who call)
 
--- Only the jobs that are out make the call need more than there is room for.
+-- Only the jobs that are out make the call need more than there is room for. (`write_begin` and `file_truncate` say it, as they do the next
+-- ones, of a state and of jobs of K-Split: there is no World below this crate.)
 pub record LacksBeside (w : WorldView) (who : Who) (call : Call) (need left : ℕ) : Type 0 where
   pub need_is : IsNeed w who call need
   pub left_is : left ≡ room (state_of w) - sum_by (λ (p : JobOut). need_of (state_of w) p.who p.call) w.pending
   pub fits : need ≤ room (state_of w)
   pub lacks : left < need
 
--- how many blocks have to be free beside those of the plan: one for each run of this lap, and the reserve less 2
+-- how many blocks have to be free beside those of the plan: one for each run that is out, and the reserve less 2
 abbrev pub wanted_by : WorldView → ℕ
-wanted_by w = length w.claims + length w.pending + reserve w.geometry - 2
+wanted_by w = length w.disk.staging.out + reserve w.geometry - 2
 
 -- so many have to be free where an empty staging file is to be given the blocks of the plan: these, those that are wanted beside, and one
 abbrev pub IsStagingNeed : WorldView → Option Put → ℕ → Type 0
 IsStagingNeed w None need = ⊥
 IsStagingNeed w (Some put) need = need ≡ staged_by put + wanted_by w + 1
 
--- no run of free blocks of a staging file is as long as the plan, or too few blocks are free for the runs of this lap
+-- no run of free blocks of a staging file is as long as the plan, or too few blocks are free for the runs that are out
 abbrev pub HasNoRun : WorldView → Option Put → Type 0
 HasNoRun w None = ⊥
 HasNoRun w (Some put) = (w.disk.free < wanted_by w) ⊎ HasNoFreeRun w.disk.staging (staged_by put)
@@ -98,6 +101,31 @@ pub record LacksStaging (w : WorldView) (who : Who) (call : Call) (need left : �
   pub no_run : HasNoRun w (put_by (state_of w) who call)
   pub left_is : left ≡ (if has_empty w.disk.staging then w.disk.free else 0)
   pub lacks : left < need
+
+-- ---- holes
+
+-- Or the holes of what it writes in place are more than may be filled: of the free blocks those that are wanted beside have to stay.
+pub record LacksHoles (w : WorldView) (who : Who) (call : Call) (need left : ℕ) : Type 0 where
+  pub beside : (n m : ℕ) → ¬ LacksBeside w who call n m
+  pub some : 1 ≤ holes_of w who call
+  pub need_is : need ≡ holes_of w who call + wanted_by w
+  pub left_is : left ≡ w.disk.free
+  pub lacks : left < need
+
+-- THE HOLES OF ITS FILE ARE FILLED, if its mode writes in place: only cells, maps with the lines of their inodes, and what is free differ
+-- from what the World has. Strict mode fills none.
+pub record HasFilled (w : WorldView) (disk : Disk) : Type 0 where
+  pub rest : disk ≡ record w.disk { cells = disk.cells; inodes = disk.inodes; maps = disk.maps; free = disk.free }
+  pub none : w.start.mode ≡ Mode.Strict → disk ≡ w.disk
+
+-- the World with this below the calls
+abbrev pub with_disk : WorldView → Disk → WorldView
+with_disk w disk = record w { disk = disk }
+
+-- WHY IT FINDS NO SPACE: only the jobs that are out leave too little; or its holes cannot be filled; or with its holes filled the staging has
+-- no room.
+abbrev pub LacksSpace : WorldView → Disk → Who → Call → ℕ → ℕ → Type 0
+LacksSpace w filled who call need left = LacksBeside w who call need left ⊎ (LacksHoles w who call need left ⊎ LacksStaging (with_disk w filled) who call need left)
 
 -- ---- the next call
 
@@ -124,17 +152,18 @@ abbrev pub IsOfOpenFile : Who → Call → WorldView → Type 0
 IsOfOpenFile who (Call.Fsync h) w = (step (state_of w) who (Call.Fsync h)).outcome.reply ≡ Reply.Ok → IsSome (opened w.disk.tables who h)
 IsOfOpenFile who call w = Unit {0}
 
--- IT RETURNED: it is not logged, the jobs that are out left what it needs, and its item stands at the end of the history. It made, removed or
--- moved no name, or took a step.
+-- IT RETURNED: it is not logged, the jobs that are out left what it needs, its holes could be filled, and its item stands at the end of the
+-- history. But in POSIX mode nothing was staged for it. It made, removed or moved no name, or took a step.
 pub record Returns (who : Who) (old new : WorldView) (before after : Supply) : Type 0 where
   pub call : Call
   pub begins : Begins old who call
   pub unlogged : is_logged (state_of old) (who, call) ≡ false
   pub new_is : new ≡ record old { history = old.history ++ item_of old who call ∷ []; acts = old.acts + 1; disk = new.disk }
   pub enough : (need left : ℕ) → ¬ LacksBeside old who call need left
+  pub holes : (need left : ℕ) → ¬ LacksHoles old who call need left
   pub published : Publishes who call old new
   pub of_file : IsOfOpenFile who call old
-  pub staging : new.disk.staging ≡ old.disk.staging
+  pub staging : old.start.mode ≢ Mode.Posix → new.disk.staging ≡ old.disk.staging
   pub stay : OthersStay old new who
   pub on : is_on after ≡ true
   pub spent : ((after_call (state_of old) (who, call)).entries ≡ (state_of old).entries) ⊎ TakesAStep before after
@@ -144,14 +173,17 @@ abbrev pub IsOfPlan : Option Put → Draft → Type 0
 IsOfPlan None d = ⊥
 IsOfPlan (Some put) d = (d.file_block ≡ put.place / 4096) × (d.count ≡ staged_by put)
 
--- IT IS LOGGED, and there was room for it; a job is out, the last one, with the blocks of its plan, and no other run went out; its entry
--- is that of no other job; nothing has returned.
+-- IT IS LOGGED, and there was room for it, with its holes filled; a job is out, the last one, with the blocks of its plan, and no other run
+-- went out; its entry is that of no other job; nothing has returned.
 pub record BeginsJob (who : Who) (old new : WorldView) (after : Supply) (job : JobView) : Type 0 where
   pub call : Call
   pub begins : Begins old who call
   pub logged : is_logged (state_of old) (who, call) ≡ true
   pub enough : (need left : ℕ) → ¬ LacksBeside old who call need left
-  pub run : (need left : ℕ) → ¬ LacksStaging old who call need left
+  pub holes : (need left : ℕ) → ¬ LacksHoles old who call need left
+  pub middle : Disk
+  pub filled : HasFilled old middle
+  pub run : (need left : ℕ) → ¬ LacksStaging (with_disk old middle) who call need left
   pub pending : JobOut
   pub who_is : pending.who ≡ who
   pub call_is : pending.call ≡ call
@@ -182,15 +214,16 @@ pub record Waits (who : Who) (old new : WorldView) (before after : Supply) (ino 
 
 -- ---- the round is over
 
--- THE ROUND ENDS for want of space, while jobs are out or after calls that returned since it began. These two numbers say why. Nothing else
--- changed.
+-- THE ROUND ENDS for want of space, while jobs are out or after calls that returned since it began. These two numbers say why. Its holes
+-- are filled where only the staging has no room, and nothing else changed.
 pub record EndsRound (who : Who) (old new : WorldView) (after : Supply) (need left : ℕ) : Type 0 where
   pub call : Call
   pub begins : Begins old who call
-  pub cause : LacksBeside old who call need left ⊎ LacksStaging old who call need left
+  pub cause : LacksSpace old new.disk who call need left
   pub late : (old.pending ≢ []) ⊎ (old.settled < length old.history)
   pub new_is : new ≡ record old { over = Some (Over.Space need left); acts = old.acts + 1; disk = new.disk }
-  pub nothing : new.disk ≡ old.disk
+  pub filled : HasFilled old new.disk
+  pub nothing : LacksBeside old who call need left ⊎ LacksHoles old who call need left → new.disk ≡ old.disk
   pub stay : OthersStay old new who
   pub on : is_on after ≡ true
 

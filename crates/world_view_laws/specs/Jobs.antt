@@ -10,16 +10,18 @@ use Rattle.in_flight.specs.write_jobs.Jobs.{FilledView}
 use Rattle.write_end.specs.Blocks.{AreBlocksHome}
 use Rattle.world_view_laws.specs.declared.views.over.Over.{Over}
 use Rattle.world_view_laws.specs.Begins.{IsFilledOut, item_of, OthersStay}
-use Rattle.world_view_laws.specs.Views.{WorldView}
+use Rattle.world_view_laws.specs.Views.{next_of, WorldView}
 
 -- the job is one of this World, out
 abbrev pub IsOfWorld : WorldView → FilledView → Type 0
 IsOfWorld w job = (p : JobOut) × IsFilledOut w p job
 
--- IT FINISHES: its item stands at the end of the history, its pair of slot and entry among the claims, and it is out no more.
+-- IT FINISHES: its call was the next of its caller; its item stands at the end of the history, its pair of slot and entry among the claims,
+-- and it is out no more.
 pub record Finishes (slot : ℕ) (p : JobOut) (old new : WorldView) (power : Supply) : Type 0 where
   pub awake : old.lost ≡ false
   pub on : is_on power ≡ true
+  pub next : next_of old p.who ≡ Some p.call
   pub new_is : new ≡ record old {
     history = old.history ++ item_of old p.who p.call ∷ [];
     claims = old.claims ++ (slot, p.draft) ∷ [];
@@ -27,7 +29,7 @@ pub record Finishes (slot : ℕ) (p : JobOut) (old new : WorldView) (power : Sup
     acts = old.acts + 1;
     disk = new.disk;
   }
-  pub disk : new.disk ≡ record old.disk { cells = new.disk.cells; tables = new.disk.tables }
+  pub disk : new.disk ≡ record old.disk { cells = new.disk.cells; tables = new.disk.tables; overlays = new.disk.overlays; sizes = new.disk.sizes }
   pub stay : OthersStay old new p.who
 
 -- the blocks of other jobs that are at home stay there

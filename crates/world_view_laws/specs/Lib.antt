@@ -1,9 +1,11 @@
 pub mod Views
 pub mod Lines
+pub mod Holes
 pub mod Begins
 pub mod Rounds
 pub mod Jobs
 pub mod Losses
+pub mod Acts
 pub mod Starts
 pub mod Handed
 pub mod Laws

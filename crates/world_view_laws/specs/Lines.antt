@@ -26,7 +26,9 @@ pub record AreFresh (w : WorldView) (lines : List Part) : Type 0 where
   pub are : AreRoundLines w lines
   pub words : (n : ℕ) → n < length lines → IsAsAtFirst (line_at lines n).cells (first_of w n)
 
--- THEY HOLD THE CLAIMS: each claim stands whole in the line of its number, and the other lines are as at the beginning of the lap.
+-- THEY HOLD THE CLAIMS: each claim stands whole in the line of its number, and the other lines are as at the beginning of the lap. This is
+-- `HoldsClaims`, which speaks of the cells of any lines, of the lines of this World; `HoldsRound` is another fact: it speaks of a log that is
+-- open, with entries on their way into other lines.
 pub record HoldTheClaims (w : WorldView) (lines : List Part) : Type 0 where
   pub are : AreRoundLines w lines
   pub holds : HoldsClaims w.base (cells_of lines) w.claims (first_of w)

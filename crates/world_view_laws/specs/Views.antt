@@ -1,17 +1,20 @@
 -- What contracts see of a World, and what it keeps.
 use Rattle.std.specs.Prelude.{◌≡◌, ◌≢◌, ◌⊎◌, ◌<◌, ◌≤◌, ◌+◌, ◌*◌, ◌-◌, ◌^◌, ℕ, Bool, true, false, List, [], ◌++◌, length, map, Option, Some, None, slice_get, slice_index, slice_index_or, nat_le, nat_lt, ◌&&◌, if◌then◌else◌}
+use Rattle.std.specs.List.{range_with_len}
 use Rattle.in_flight.specs.pm_model.declared.Cell.{Cell}
 use Rattle.in_flight.specs.pm_model.Cells.{AllHome, cell, is_lent}
 use Rattle.in_flight.specs.pm_model.Images.{words_of}
 use Rattle.in_flight.specs.pm_model.Parts.{Part}
 use Rattle.in_flight.specs.pm_model.Words.{Words}
 use Rattle.in_flight.specs.block_io.Overwrites.{IsInLines}
+use Rattle.file_calls.specs.extent_model.declared.extent_words.Extent.{Extent}
+use Rattle.file_calls.specs.file_overlay.declared.runs.Run.{Run}
 use Rattle.in_flight.specs.layout_model.declared.lines.Draft.{Draft}
 use Rattle.in_flight.specs.layout_model.declared.lines.Inode.{Inode}
 use Rattle.in_flight.specs.layout_model.Places.{Geometry, log_line}
 use Rattle.in_flight.specs.image_model.Volume.{free_inode, Volume}
 use Rattle.file_calls.specs.eof_laws.Ends.{DraftEnds, FilesEnd}
-use Rattle.in_flight.specs.file_table.Files.{Files}
+use Rattle.in_flight.specs.file_table.Files.{Files, runs_in}
 use Rattle.in_flight.specs.k_split_model.View.{View}
 use Rattle.in_flight.specs.block_io.Lines.{AreFrom, LinesComeBack}
 use Rattle.in_flight.specs.list_laws.Members.{In}
@@ -39,21 +42,44 @@ use Rattle.write_end.specs.LosingLaws.{AreSpelled}
 use Rattle.write_end.specs.Lost.{IsLostWith}
 use Rattle.world_view_laws.specs.declared.views.over.Over.{Over}
 
--- What stands below the calls: the cells of the device; the tables of the open files, whose nodes are inodes; the inode lines; how many
--- blocks are free; and what the staging keeps.
+-- What stands below the calls: the cells of the device; the tables of the open files, whose nodes are inodes; the inode lines, and the map of
+-- each; how many blocks are free; what the staging keeps; and of each inode the runs that are staged, and the size with them.
 pub record Disk : Type 0 where
   pub cells : List Cell
   pub tables : Tables
   pub inodes : List Inode
+  pub maps : List (List Extent)
   pub free : ℕ
   pub staging : Staged
+  pub overlays : List (List Run)
+  pub sizes : List ℕ
 
-abbrev pub disk_of : View → Tables → Staged → Disk
-disk_of k t staging = record { cells = k.cells; tables = t; inodes = k.volume.inodes; free = free_blocks_in k; staging = staging }
+-- the runs that are staged, inode by inode
+abbrev pub overlays_of : Files → List (List Run)
+overlays_of files = map (runs_in files) (range_with_len 0 (length files.sizes))
+
+abbrev pub disk_of : View → Tables → Staged → Files → Disk
+disk_of k t staging files = record {
+  cells = k.cells;
+  tables = t;
+  inodes = k.volume.inodes;
+  maps = k.volume.maps;
+  free = free_blocks_in k;
+  staging = staging;
+  overlays = overlays_of files;
+  sizes = files.sizes;
+}
 
 -- the inode line of this number
 abbrev pub inode_on : Disk → ℕ → Inode
 inode_on d ino = slice_index_or d.inodes ino free_inode
+
+-- the map of this number, and the runs that are staged of it
+abbrev pub map_on : Disk → ℕ → List Extent
+map_on d ino = slice_index_or d.maps ino []
+
+abbrev pub runs_on : Disk → ℕ → List Run
+runs_on d ino = slice_index_or d.overlays ino []
 
 -- THE WORLD as contracts see it: the geometry; the log's base; the state at the start and the scripts; the calls that returned, and
 -- how many of them had at the last mount or checkpoint; the pairs of slot and entry that were given to `finish` in this lap; the
@@ -121,13 +147,15 @@ pub record IsLogHome (k : View) (w : WorldView) : Type 0 where
   pub none : w.claims ≡ []
   pub old : HasOldLines k.volume (words_of k.cells)
 
--- WHILE THE POWER IS ON, K-Split and what is kept beside it stand together in the state of the history; each claim of this lap and
--- each job has a run of the staging out, and no other run is; while a round goes on with none of them, nothing is staged; each claim is an
--- entry that a line can hold; and nothing of a file or of an entry lies past its end.
+-- WHILE THE POWER IS ON, K-Split and what is kept beside it stand together in the state of the history; the runs of the staging that are
+-- out are those of the jobs, and outside POSIX mode of the claims of this lap, one each, and no other; in POSIX mode just those of the jobs
+-- until a call returned in the round. While the round goes on with none out, nothing is staged; each claim is an entry that a line can
+-- hold; and nothing of a file or of an entry lies past its end.
 pub record IsGoing (k : View) (t : Tables) (staging : Staged) (files : Files) (w : WorldView) : Type 0 where
   pub stands : StandsAt w.geometry k t (kept_of w staging files) w.lines_out (length w.history) (state_of w)
-  pub runs : length staging.out ≡ length w.claims + length w.pending
-  pub bare : w.over ≡ None → w.claims ≡ [] → w.pending ≡ [] → staging ≡ nothing_staged
+  pub counted : w.start.mode ≢ Mode.Posix → length staging.out ≡ length w.claims + length w.pending
+  pub runs : w.settled ≡ length w.history → length staging.out ≡ length w.pending
+  pub bare : w.over ≡ None → staging.out ≡ [] → staging ≡ nothing_staged
   pub none_unfinished : w.unfinished ≡ []
   pub none_home : w.home ≡ []
   pub base : w.base ≡ k.volume.base
@@ -195,6 +223,6 @@ pub record IsWorldOver (k : View) (t : Tables) (staging : Staged) (files : Files
   pub scripted : Scripted w.scripts w.history
   pub open_calls : AreUnfinished w.scripts w.history (calls_out w)
   pub counted : AreCounted w
-  pub disk_is : w.disk ≡ disk_of k t staging
+  pub disk_is : w.disk ≡ disk_of k t staging files
   pub going : w.lost ≡ false → IsGoing k t staging files w
   pub gone : w.lost ≡ true → IsLost staging files w w.lines_out

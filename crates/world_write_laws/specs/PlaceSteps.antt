@@ -110,6 +110,7 @@ jobs_in_place v live f g numbers s new ino bytes sane log writes (j ∷ jobs) of
         order = job.order;
         size = job.size;
         rest = λ i below past. other_bytes v live f g ino bytes sane log writes j.draft.ino (i / 4096) i (live_used v j.draft job.alive) other ∙ job.rest i below past;
+        within = job.within;
         staging = job.staging;
         staged = job.staged;
         apart = job.apart;

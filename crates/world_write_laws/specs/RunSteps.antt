@@ -317,6 +317,7 @@ relinked_jobs v w live f numbers s d displaced rest run (j ∷ jobs) off out =
         order = job.order ∙ (λ i. sym applied i + length (sym (entries_left_other live d j.draft.ino other) i) + 1);
         size = job.size;
         rest = λ i below past. ap (λ b. byte_in f b i) (disk_other v w live d displaced rest run j.draft.ino (i / 4096) used other) ∙ job.rest i below past;
+        within = job.within;
         staging = (run.change.same j.draft.staging).kind ∙ job.staging;
         staged = λ k below. subst IsSome (sym (staged k below)) (job.staged k below);
         apart = λ e is. job.apart e (filter-In (is_left d) live e is).0;

@@ -154,6 +154,7 @@ restaged v w claims jobs f numbers s count x world change none_live none_out = r
           order = job.order ∙ (λ i. (sym line i).applied + length (entries_of j.draft.ino live) + 1);
           size = job.size;
           rest = λ i below past. ap (λ b. byte_in f b i) (disk_same j.draft.ino (i / 4096) used) ∙ job.rest i below past;
+          within = job.within;
           staging = kinds j.draft.staging (inr there) ∙ job.staging;
           staged = λ k below. subst (λ es. IsSome (disk_at es (j.draft.staging_block + k))) (sym (change.maps j.draft.staging there)) (job.staged k below);
           apart = job.apart;

@@ -159,6 +159,7 @@ module _ (k : View) (files : Files) (who : Who) (target : Target) (x : List ℕ)
       order = next_is.order;
       size = size_whole;
       rest = rest image is;
+      within = λ i inside. refl;
       staging = (staging_file k files who target x run ready).kind;
       staged = staged;
       apart = λ e there. apart_of e (some_blocks e (ready.stands.drafts e there).fields) (ready.claims_out e there);
@@ -196,7 +197,7 @@ module _ (k : View) (files : Files) (who : Who) (target : Target) (x : List ℕ)
         draft_is = refl;
         stands = stands_at;
         apart = apart_jobs;
-        whole = refl;
+        whole = λ strict. refl;
         fits = ready.fits;
         caller = ready.callers;
         blocks = has_blocks;

@@ -64,4 +64,4 @@ finish_leaves k l job t u files new call slot hold back same order moved lays ha
     (moved ∙ (λ i. moved_by (sym write.tables i) (sym write.files_are i) (has.out.who i) (sym write.call_is i)))
     (subst (λ (d : Draft). ChangesFile d.ino (runs_in has.kept.files d.ino ++ run_of d ∷ []) d.size has.kept.files new) has.out.draft
     (subst (λ (f : Files). ChangesFile job.draft.ino (runs_in f job.draft.ino ++ run_of job.draft ∷ []) job.draft.size f new) (sym write.files_are) lays))
-    l same
+    write.strict l same

@@ -28,7 +28,8 @@ use Rattle.write_jobs.specs.world_image_laws.Back.{IsPutBack}
 use Rattle.write_jobs.specs.world_image_laws.InLog.{kept_of_all}
 use Rattle.write_jobs.specs.world_image_laws.Running.{promise_now}
 use Rattle.write_plan.specs.eof_laws.log_checkpoint.world_model.Lines.{AreJobLines, AreLinesOut, IsJobLine, IsTaken}
-use Rattle.write_plan.specs.eof_laws.log_checkpoint.world_model.Jobs.{HoldsWhole, IsStagedIn, Job, staged_block}
+use Rattle.write_plan.specs.eof_laws.log_checkpoint.world_model.JobLaws.{HoldsWhole-found}
+use Rattle.write_plan.specs.eof_laws.log_checkpoint.world_model.Jobs.{HoldsWhole, IsStagedIn, Job, live_claims, staged_block}
 use Rattle.write_plan.specs.eof_laws.log_checkpoint.world_model.Shown.{AreFilled}
 use Rattle.live_model.specs.Standing.{AreJobsOf, IsSpellable, Kept, JobOut}
 use Rattle.write_end.proofs.LosingPending.{IsJobOf, loans_of_entry, places_of_entry}
@@ -38,7 +39,7 @@ use Rattle.write_end.specs.Blocks.{AreBlocksOut, ComeHome}
 use Rattle.write_end.specs.CrashesLaws.{AreHandedIn, KeepsCrashed, KeepsHome, LinesAreHome}
 use Rattle.write_end.specs.Lines.{AreCrashLines}
 use Rattle.write_end.specs.Lost.{IsLostJob, IsLostWith}
-use Rattle.write_end.proofs.Ended.{holds_spelled, single_word, spells_job, whole_of}
+use Rattle.write_end.proofs.Ended.{holds_spelled, single_word, spells_job}
 use Rattle.write_end.proofs.Going.{calls_are}
 use Rattle.write_end.proofs.Jobs.{block_of, in_data_block, its_job, lent_any, no_slot, pending_of, same_job, sane, stood}
 use Rattle.write_end.proofs.LogLines.{claimed_line, first_line, job_line, stand_again, StandAgain}
@@ -301,7 +302,7 @@ module _ (v : Volume) (d middle e : List Cell) (kept : Kept) (start : State) (hi
   module _ (image : Words) (image_is : IsImage e image) where
     filled_holds : (j : Job) → In j lost.jobs → IsFilledJob j → HoldsWhole v (journaled image) j.draft j.found
     filled_holds j at (job, there, (p, out, (its, same))) =
-        subst (HoldsWhole v (journaled image) j.draft) (sym (whole_of lost.jobs j lost.whole at))
+        HoldsWhole-found v (live_claims v lost.done) lost.words (journaled image) lost.numbers lost.s j (stood v d kept start history last lost j at)
         (holds_spelled v image j.draft job.words j.whole has (spells_job (run start history) p j job kept out who call draft (lost.puts j at)))
       where
         draft : j.draft ≡ p.draft

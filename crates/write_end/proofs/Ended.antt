@@ -34,7 +34,7 @@ use Rattle.k_split_laws.specs.k_split.Laps.{IsLogWord}
 use Rattle.write_plan.specs.eof_laws.log_checkpoint.world_write_laws.JobSteps.{Valid-front}
 use Rattle.write_jobs.specs.world_image_laws.Back.{IsKeptBack}
 use Rattle.write_plan.specs.eof_laws.log_checkpoint.world_model.Lines.{AreLinesOut}
-use Rattle.write_plan.specs.eof_laws.log_checkpoint.world_model.JobLaws.{Valid-dropped}
+use Rattle.write_plan.specs.eof_laws.log_checkpoint.world_model.JobLaws.{HoldsWhole-found, Valid-dropped}
 use Rattle.write_plan.specs.eof_laws.log_checkpoint.world_model.Jobs.{AreApartJobs, HoldsWhole, IsStagedIn, Job, JobStands, live_claims, staged_block, Valid}
 use Rattle.write_plan.specs.eof_laws.log_checkpoint.world_model.Promised.{AreWhole}
 use Rattle.live_model.specs.Standing.{AreLinesLent, AreOfTwoThreads, Kept, JobOut}
@@ -54,11 +54,6 @@ single_word c w x is candidate = subst (λ y. IsCandidate (unmarked y) x) is can
 
 pub single_home : (c : Cell) (w : ℕ) → c ≡ Single w → is_lent (unmarked c) ≡ false
 single_home c w is = ap (λ y. is_lent (unmarked y)) is
-
-pub whole_of : (jobs : List Job) (j : Job) → AreWhole jobs → In j jobs → j.found ≡ j.whole
-whole_of [] j whole is = absurd is
-whole_of (x ∷ jobs) j whole (inl same) = subst (λ (y : Job). y.found ≡ y.whole) same whole.0
-whole_of (x ∷ jobs) j whole (inr rest) = whole_of jobs j whole.1 rest
 
 in_front : (xs : List (ℕ × Draft)) (y x : ℕ × Draft) → In x xs → In x (xs ++ y ∷ [])
 in_front [] y x is = absurd is
@@ -202,7 +197,7 @@ module _ (v : Volume) (d e : List Cell) (kept : Kept) (start : State) (history :
   spelled = spells_job (run start history) p j job kept is.out split.who split.call split.draft (lost.puts j there)
 
   held : (image : Words) → IsImage e image → HoldsWhole v (journaled image) j.draft j.found
-  held image image_is = subst (HoldsWhole v (journaled image) j.draft) (sym (whole_of lost.jobs j lost.whole there)) (holds_spelled v image j.draft job.words j.whole has spelled) where
+  held image image_is = HoldsWhole-found v (live_claims v lost.done) lost.words (journaled image) lost.numbers lost.s j stands_j (holds_spelled v image j.draft job.words j.whole has spelled) where
     has : (n b : ℕ) → n < j.draft.count → staged_block v j.draft n ≡ Some b → (w : ℕ) → w / 512 ≡ b → journaled image w ≡ slice_index job.words (512 * n + w % 512)
     has n b below at w word =
         let in_data = in_data_block v (sane v d kept start history last lost) j.draft n b stands_j.staging at in
@@ -272,7 +267,7 @@ module _ (v : Volume) (d e : List Cell) (kept : Kept) (start : State) (history :
     mode = lost.mode;
     jobs = split.a ++ split.b;
     jobs_are = split.rest;
-    whole = whole_rest split.a j split.b (subst AreWhole split.jobs_are lost.whole);
+    whole = λ strict. whole_rest split.a j split.b (subst AreWhole split.jobs_are (lost.whole strict));
     callers = AllPairs-filter AreOfTwoThreads (λ (q : JobOut). not (same_who q.who p.who)) kept.pending lost.callers;
     blocks = λ q at. lost.blocks q (left_there p.who kept.pending q at);
     puts = λ x at. lost.puts x (left_job x at);

@@ -4,6 +4,7 @@ use Rattle.std.specs.Prelude.{Contains}
 use Rattle.std.proofs.lemmas.List.{length-append, length_push}
 use Rattle.std.proofs.lemmas.List.Kept.{AllPairs-filter}
 use Rattle.std.proofs.lemmas.Option.{same_Some}
+use Rattle.posix_types.specs.declared.call.Mode.{Mode}
 use Rattle.write_plan.specs.pm_model.declared.Cell.{Cell}
 use Rattle.write_plan.specs.pm_model.ImageLaws.{IsImage-words_of}
 use Rattle.write_plan.specs.pm_model.Images.{words_of}
@@ -110,7 +111,7 @@ module _ (k : View) (job : FilledView) (has : HasJob k job) where
 
   module _ (e : List Cell) (u : Tables) (new : Files) (slot : ℕ) (hold : HoldWords job.loans job.words) (back : ComeBack job.loans k.cells e) (order : IsInOrder (record k { cells = e }))
       (moved : u ≡ moved_by has.t has.kept.files has.p.who has.p.call)
-      (lays : ChangesFile has.p.draft.ino (runs_in has.kept.files has.p.draft.ino ++ run_of has.p.draft ∷ []) has.p.draft.size has.kept.files new) where
+      (lays : ChangesFile has.p.draft.ino (runs_in has.kept.files has.p.draft.ino ++ run_of has.p.draft ∷ []) has.p.draft.size has.kept.files new) (strict : has.s.mode ≡ Mode.Strict) where
     abbrev d : Draft
     d = has.p.draft
 
@@ -128,7 +129,7 @@ module _ (k : View) (job : FilledView) (has : HasJob k job) where
         subst (λ (c : Unfinished). IsFlying k.volume e claims_then (others k job has) (with_entry (file_state has.kept.files) d) (numbers k job has) (after_call has.s c) has.stands.count) begun_is
         (subst (λ (x : Draft). IsFlying k.volume e (has.kept.claims ++ (slot, x) ∷ []) (others k job has) (with_entry (file_state has.kept.files) x) (numbers k job has) (after_call has.s (unfinished_call (j k job has))) has.stands.count)
         (split k job has).draft
-        (flies_finished k.volume k.cells e (claims k job has) (split k job has).a (j k job has) (split k job has).b (file_state has.kept.files) (numbers k job has) has.s has.stands.count slot job.loans job.words (flying k job has)
+        (flies_finished k.volume k.cells e (claims k job has) (split k job has).a (j k job has) (split k job has).b (file_state has.kept.files) (numbers k job has) has.s has.stands.count slot job.loans job.words (flying k job has) strict
         (put_back k job has e back) (loans_count k job has) hold (spelled k job has)))
 
     alive : is_live k.volume d ≡ true

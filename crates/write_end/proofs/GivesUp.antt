@@ -131,7 +131,7 @@ module _ (k : View) (job : FilledView) (has : HasJob k job) where
       now : IsFlying k.volume e has.kept.claims (others k job has) (file_state has.kept.files) (numbers k job has) has.s has.stands.count
       now = record {
         device = gives_up_job k.volume k.cells e (claims k job has) (split k job has).a (j k job has) (split k job has).b (numbers k job has) has.s has.stands.count job.loans (flying k job has).device (out k job has) (put_back k job has e back);
-        whole = whole_rest (split k job has).a (j k job has) (split k job has).b (flying k job has).whole;
+        whole = λ strict. whole_rest (split k job has).a (j k job has) (split k job has).b ((flying k job has).whole strict);
         out = others_out k.volume k.cells e (claims k job has) (split k job has).a (j k job has) (split k job has).b (file_state has.kept.files) (numbers k job has) has.s has.stands.count job.loans (flying k job has) (put_back k job has e back);
         home = others_home k.volume k.cells e (claims k job has) (split k job has).a (j k job has) (split k job has).b (file_state has.kept.files) (numbers k job has) has.s has.stands.count job.loans (flying k job has) (put_back k job has e back)
             (λ n w below within. ap is_lent (hold n w (omega (arith, below, loans_count k job has)) within));

@@ -1,6 +1,7 @@
 -- The power goes in a call of a World that stood together, or is found off.
 use Rattle.std.proofs.Common.{◌≡◌, ◌≢◌, ◌∷◌, [], ℕ, true, List, None, refl, ◌∙◌, sym, subst, inl, inr}
 use Rattle.std.specs.Prelude.{map}
+use Rattle.write_jobs.specs.world_image_laws.Settings.{setting_run}
 use Rattle.oplog_entry.specs.pm_model.ImageLaws.{IsImage-words_of}
 use Rattle.oplog_entry.specs.pm_model.Images.{words_of}
 use Rattle.oplog_entry.specs.pm_model.Words.{Words}
@@ -33,7 +34,7 @@ loses_call g k t kept n start history last e mode stands spelled left keeps = re
   mode = mode;
   jobs = stands.jobs;
   jobs_are = stands.jobs_are;
-  whole = stands.flying.whole;
+  whole = λ strict. stands.flying.whole ((setting_run start history).mode ∙ strict);
   callers = stands.callers;
   blocks = stands.blocks;
   puts = λ j is. (number stands.numbers j.draft.ino, (stood j is).puts);
@@ -73,7 +74,7 @@ module _ (g : Geometry) (k : View) (t : Tables) (kept : Kept) (n : ℕ) (start :
 
   still_kept : IsKeptBack k.volume k.cells kept.first kept.claims stands.jobs start history []
   still_kept =
-      promise_in_flight k.volume k.cells kept.claims stands.jobs stands.numbers start history stands.count kept.first mode (λ same. stands.flying.whole) stands.flying.device
+      promise_in_flight k.volume k.cells kept.claims stands.jobs stands.numbers start history stands.count kept.first mode (λ strict. stands.flying.whole ((setting_run start history).mode ∙ strict)) stands.flying.device
 
 pub found_lost : IsFoundLost
 found_lost g k t kept n start history mode stands spelled =

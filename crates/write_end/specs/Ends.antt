@@ -5,6 +5,7 @@ use Rattle.write_plan.specs.file_table.Files.{Files}
 use Rattle.write_jobs.specs.world_image_laws.k_split_model.View.{View}
 use Rattle.write_plan.specs.list_laws.Members.{In}
 use Rattle.posix_types.specs.declared.call.Call.{Call}
+use Rattle.posix_types.specs.declared.call.Mode.{Mode}
 use Rattle.write_plan.specs.posix_tables.Open.{Tables}
 use Rattle.write_plan.specs.posix_spec.Run.{after_call, Unfinished}
 use Rattle.write_plan.specs.posix_spec.State.{State}
@@ -42,11 +43,12 @@ call_out k job has = (has.p.who, has.p.call)
 
 -- ---- it finishes
 
--- It has these tables and this file table, and the job is of this call.
+-- It has these tables and this file table, the job is of this call, and the mode is strict.
 pub record HasWrite (k : View) (job : FilledView) (t : Tables) (files : Files) (call : Call) (has : HasJob k job) : Type 0 where
   pub tables : has.t ≡ t
   pub files_are : has.kept.files ≡ files
   pub call_is : has.p.call ≡ call
+  pub strict : has.s.mode ≡ Mode.Strict
 
 abbrev pub CanFinish : View → FilledView → Tables → Files → Call → Type 0
 CanFinish k job t files call = (has : HasJob k job) × HasWrite k job t files call has

@@ -17,7 +17,7 @@ use Rattle.k_split_laws.specs.posix_spec.Run.{Unfinished, run}
 use Rattle.k_split_laws.specs.posix_spec.State.{State}
 use Rattle.write_jobs.specs.world_image_laws.Back.{IsKeptBack}
 use Rattle.write_plan.specs.eof_laws.log_checkpoint.world_model.Jobs.{HoldsWhole, Job}
-use Rattle.write_plan.specs.eof_laws.log_checkpoint.world_model.Promised.{AreWhole}
+use Rattle.write_jobs.specs.world_image_laws.LentLaws.{AreFound}
 use Rattle.live_model.specs.Standing.{AreJobsOf, AreLinesLent, AreOfTwoThreads, HasItsBlocks, IsSpellable, Kept, JobOut}
 use Rattle.write_plan.specs.eof_laws.log_checkpoint.world_step_laws.Worlds.{IsWorld}
 use Rattle.write_end.specs.Blocks.{AreHome}
@@ -28,16 +28,17 @@ abbrev pub IsLostJob : Volume → List Cell → Job → Option ℕ → Type 0
 IsLostJob v cells j (Some slot) = AreHome v j.draft cells × ((image : Words) → IsImage cells image → HoldsWhole v (journaled image) j.draft j.found)
 IsLostJob v cells j None = AreHome v j.draft cells ⊎ AreOut v j.draft cells
 
--- THE POWER IS LOST, while the log lines are out. The jobs are those that are kept as out. Of the claims some were finished (`done`); the
+-- THE POWER IS LOST, while the log lines are out. The jobs are those that are kept as out, of each of which all bytes are found in strict
+-- mode. Of the claims some were finished (`done`); the
 -- others are of jobs whose finish lost the power, by the inode of the file one slot each (`slot_of`). The World was valid with the claims
 -- that were finished and all these jobs, by some words: so no two jobs share a block. A word that is lent is one of a log line or of a
--- block of a job; and the journal of each image is sound. THE PROMISE is kept with the calls of the jobs unfinished, and behind them the
+-- block of a job; and the journal of each image is sound. THE PROMISE is kept with the calls of the jobs that may have a line unfinished, and behind them the
 -- last ones: the call that lost the power, if one did.
 pub record IsLostWith (v : Volume) (cells : List Cell) (kept : Kept) (start : State) (history : List Item) (last : List Unfinished) : Type 0 where
   pub mode : start.mode ≢ Mode.Posix
   pub jobs : List Job
   pub jobs_are : AreJobsOf kept.pending jobs
-  pub whole : AreWhole jobs
+  pub whole : AreFound start jobs
   pub callers : AllPairs AreOfTwoThreads kept.pending
   pub blocks : (p : JobOut) → In p kept.pending → HasItsBlocks v p
   pub puts : (j : Job) → In j jobs → (node : ℕ) × PutsWhole (run start history) j.who j.call node j.whole

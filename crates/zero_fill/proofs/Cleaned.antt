@@ -1,6 +1,7 @@
 -- The end of a file is cleaned in flight, done and cut off.
 use Rattle.std.specs.Prelude.{◌≡◌, ◌≤◌, ◌<◌, ◌+◌, ◌*◌, ◌/◌, ℕ, Bool, true, false, List, [], ◌∷◌, ◌++◌, length, map, refl}
 use Rattle.std.proofs.Common.{arith, ap, ◌∙◌, sym, subst}
+use Rattle.live_step_laws.specs.world_image_laws.Settings.{setting_run}
 use Rattle.live_step_laws.specs.pm_model.declared.Cell.{Cell}
 use Rattle.live_step_laws.specs.pm_model.Cells.{cell, is_single}
 use Rattle.live_step_laws.specs.pm_model.Images.{ComesFrom, IsImage}
@@ -156,7 +157,7 @@ stands_cleaned g k l t kept lines n s ino from stands may done =
 
 pub keeps_cleaned : KeepsCleaned
 keeps_cleaned g k l t kept lines n start history c ino from stands may cut mode back slots image put =
-    kept_leading k.volume kept.claims stands.jobs slots stands.numbers (run start history) stands.count image start history c mode (λ strict. stands.flying.whole) (leads_before start history c stands.jobs) shows
+    kept_leading k.volume kept.claims stands.jobs slots stands.numbers (run start history) stands.count image start history c mode (λ strict. stands.flying.whole ((setting_run start history).mode ∙ strict)) (leads_before start history c stands.jobs) shows
   where
     is_image : IsImage l.cells image
     is_image = image_of l.cells back image put.image_is

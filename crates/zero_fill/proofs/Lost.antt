@@ -1,6 +1,7 @@
 -- The power goes while a block is zeroed, or before.
 use Rattle.std.specs.Prelude.{◌≡◌, ◌≢◌, ◌⊎◌, ◌≤◌, ◌/◌, ℕ, Bool, List, [], ◌∷◌, Some}
-use Rattle.std.proofs.Common.{sym, subst, inl, inr}
+use Rattle.std.proofs.Common.{sym, subst, inl, inr, ◌∙◌}
+use Rattle.live_step_laws.specs.world_image_laws.Settings.{setting_run}
 use Rattle.k_split_laws.specs.layout_model.Journal.{IsSound}
 use Rattle.k_split_laws.specs.layout_model.Places.{Geometry}
 use Rattle.write_plan.specs.file_overlay.Runs.{staged_at}
@@ -30,7 +31,7 @@ pub kept_off : (g : Geometry) (k l : View) (t : Tables) (kept : Kept) (lines : B
     → (stands : StandsAt g k t kept lines n (run start history)) → l.cells ≡ k.cells → KeepsWhenLost k.volume l.cells kept stands.jobs start history (c ∷ [])
 kept_off g k l t kept lines n start history c stands same mode =
     subst (λ d. IsKeptBack k.volume d kept.first kept.claims stands.jobs start history (c ∷ [])) (sym same)
-    (promise_at_begin k.volume k.cells kept.claims stands.jobs stands.numbers start history stands.count kept.first c mode (λ strict. stands.flying.whole) stands.flying.device)
+    (promise_at_begin k.volume k.cells kept.claims stands.jobs stands.numbers start history stands.count kept.first c mode (λ strict. stands.flying.whole ((setting_run start history).mode ∙ strict)) stands.flying.device)
 
 pub left_off : (g : Geometry) (k l : View) (t : Tables) (kept : Kept) (lines : Bool) (n : ℕ) (s : State) → StandsAt g k t kept lines n s → l.cells ≡ k.cells → IsLeftOf g k.cells l.cells
 left_off g k l t kept lines n s stands same =

@@ -3,6 +3,7 @@ use Rattle.std.specs.Prelude.{◌≡◌, ◌≤◌, ◌<◌, ◌+◌, ◌*◌, �
 use Rattle.std.proofs.Common.{arith, ap, ◌∙◌, sym, subst}
 use Rattle.std.proofs.lemmas.Bool.{and_parts}
 use Rattle.std.proofs.lemmas.Bool.Decides.{Decides-eqb, nat_tests}
+use Rattle.live_step_laws.specs.world_image_laws.Settings.{setting_run}
 use Rattle.relink_laws.specs.pm_model.declared.Cell.{Cell}
 use Rattle.relink_laws.specs.pm_model.Cells.{cell, is_lent, is_single}
 use Rattle.relink_laws.specs.pm_model.ImageLaws.{IsImage-words_of}
@@ -287,7 +288,7 @@ stands_zeroed g k l t kept lines n s ino from staging block stands may done =
 
 pub keeps_zeroed : KeepsZeroed
 keeps_zeroed g k l t kept lines n start history c ino from staging block stands may cut mode back slots image put =
-    kept_leading k.volume kept.claims stands.jobs slots stands.numbers (run start history) stands.count image start history c mode (λ strict. stands.flying.whole) (leads_before start history c stands.jobs) shows
+    kept_leading k.volume kept.claims stands.jobs slots stands.numbers (run start history) stands.count image start history c mode (λ strict. stands.flying.whole ((setting_run start history).mode ∙ strict)) (leads_before start history c stands.jobs) shows
   where
     is_image : IsImage l.cells image
     is_image = image_of l.cells back image put.image_is

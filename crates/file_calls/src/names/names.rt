@@ -10,8 +10,7 @@ ghost use Rattle.open_files.specs.posix_tables.Open.{Tables};
 ghost use Rattle.open_files.specs.posix_tables.Outcomes.{answer};
 ghost use Rattle.live_step_laws.specs.commute_laws.Commutes.{takes};
 ghost use Rattle.open_files.specs.posix_spec.State.{State};
-ghost use Rattle.live_step_laws.specs.volume_change_laws.Changes.{MayDrop};
-ghost use Rattle.file_calls.specs.Answers.{ComesHalfWay, HasSameLoans, IsEnded, IsReplyOf, IsSpent, KeepsEnds};
+ghost use Rattle.file_calls.specs.Answers.{ComesHalfWay, HasSameLoans, IsEnded, IsFileOf, IsReplyOf, IsSpent, KeepsEnds};
 ghost use Rattle.file_calls.specs.Runs.{RunsInSome};
 
 use crate::names::outcomes::{NoMemory, Told, after_fault, answered};
@@ -57,8 +56,8 @@ pub fn rmdir(k: &mut KSplit, path: &Path, power: &mut Power) -> Result<Told, NoM
     }
 }
 
-// The second change of a call after which a file has no name and maybe no descriptor: the file
-// goes, and what is kept of it, where nobody has it open.
+// The second change of a call after which a file has maybe no name and maybe no descriptor: the
+// file goes, and what is kept of it, where it has no name left and nobody has it open.
 pub(crate) fn sweep(
     k: &mut KSplit,
     files: &OpenFiles,
@@ -68,7 +67,7 @@ pub(crate) fn sweep(
     power: &mut Power,
 ) -> Told
     requires on { k.old.lost ≡ false }
-    requires may { MayDrop ino k.old.volume }
+    requires file { IsFileOf ino k.old.volume }
     requires line { ino < length data.old.sizes }
     ensures steps { Steps 256 power.old power.new }
     ensures ended { (who : Who) (call : Call) (before : View) (t : Tables) (entry : Supply)
@@ -80,6 +79,9 @@ pub(crate) fn sweep(
         (Ok result) }
     ensures ends { KeepsEnds k.old data.old k.new data.new power.new }
 {
+    if k.named(ino) {
+        return answered(reply);
+    }
     if files.is_open(ino) {
         return answered(reply);
     }

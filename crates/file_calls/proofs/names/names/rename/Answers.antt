@@ -8,7 +8,7 @@ use Rattle.file_calls.specs.Answers.{IsEnded}
 use Rattle.live_step_laws.specs.k_plans.Renaming.{IsRenamed}
 use Rattle.file_calls.proofs.Ends.{ends_then, fault_ends, rename_ends}
 use Rattle.file_calls.proofs.NameCalls.{rename_done, took}
-use Rattle.file_calls.proofs.Halves.{loans_done, over_file, rename_fault, rename_half, rename_line, rename_may, rename_replies}
+use Rattle.file_calls.proofs.Halves.{loans_done, over_file, rename_fault, rename_half, rename_line, rename_file, rename_replies}
 use Rattle.file_calls.proofs.names.names.rename.Goals as goal
 
 pub returns-in-Ok-None-clause-ended : goal.returns-in-Ok-None-clause-ended
@@ -22,12 +22,12 @@ returns-in-Ok-None-clause-ended c who =
     subst (λ x. IsEnded who (Call.Rename p q) c.args.k.now t f c.rename.new.self t f c.args.power.now c.rename.new.power (Ok x)) (sym c.answered.ensures)
     (rename_done who p q c.args.k.now c.rename.new.self t f c.args.power.now c.rename.new.power c.requires.spelled (answer_is, paid))
 
-pub sweep-requires-clause-may : goal.sweep-requires-clause-may
-sweep-requires-clause-may c =
+pub sweep-requires-clause-file : goal.sweep-requires-clause-file
+sweep-requires-clause-file c =
     let p = c.args.path.now in
     let q = c.args.to.now in
     let answer_is = subst (λ o. (let r : Result (Option ℕ) KFault = Ok o in IsRenameAnswer p q c.args.k.now c.rename.new.self r)) c.in-Ok-Some.field-0-is c.in-Ok-Some.ensures.answer in
-    rename_may p q c.args.k.now c.args.files.now.tables c.args.data.now c.requires.runs c.rename.new.self c.in-Ok-Some.ino answer_is
+    rename_file p q c.args.k.now c.args.files.now.tables c.args.data.now c.requires.runs c.rename.new.self c.in-Ok-Some.ino answer_is
 
 pub sweep-requires-clause-line : goal.sweep-requires-clause-line
 sweep-requires-clause-line c =

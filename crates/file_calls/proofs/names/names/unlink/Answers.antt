@@ -5,7 +5,7 @@ use Rattle.file_calls.specs.Answers.{IsEnded}
 use Rattle.live_step_laws.specs.k_plans.Removing.{IsUnlinked}
 use Rattle.live_step_laws.specs.k_split.Names.{unlink_row}
 use Rattle.file_calls.proofs.Ends.{ends_then, fault_ends, unlink_ends}
-use Rattle.file_calls.proofs.Halves.{loans_done, unlink_fault, unlink_half, unlink_line, unlink_may, unlink_replies, unlink_spent}
+use Rattle.file_calls.proofs.Halves.{loans_done, unlink_fault, unlink_half, unlink_line, unlink_file, unlink_replies, unlink_spent}
 use Rattle.file_calls.proofs.names.names.unlink.Goals as goal
 
 pub unlink-requires : goal.unlink-requires
@@ -14,8 +14,8 @@ unlink-requires c = record { awake = λ lost. (let never : true ≡ false = sym 
 pub sweep-requires-clause-on : goal.sweep-requires-clause-on
 sweep-requires-clause-on c = c.in-Ok.ensures.answer.2.kept_on
 
-pub sweep-requires-clause-may : goal.sweep-requires-clause-may
-sweep-requires-clause-may c = unlink_may c.args.path.now c.args.k.now c.args.files.now.tables c.args.data.now c.requires.runs c.unlink.new.self c.in-Ok.ino c.in-Ok.ensures.answer
+pub sweep-requires-clause-file : goal.sweep-requires-clause-file
+sweep-requires-clause-file c = unlink_file c.args.path.now c.args.k.now c.args.files.now.tables c.args.data.now c.requires.runs c.unlink.new.self c.in-Ok.ino c.in-Ok.ensures.answer
 
 pub sweep-requires-clause-line : goal.sweep-requires-clause-line
 sweep-requires-clause-line c = unlink_line c.args.path.now c.args.k.now c.args.files.now.tables c.args.data.now c.requires.runs c.unlink.new.self c.in-Ok.ino c.in-Ok.ensures.answer

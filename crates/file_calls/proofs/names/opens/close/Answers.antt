@@ -1,5 +1,5 @@
-use Rattle.std.proofs.Common.{◌≡◌, ◌<◌, ℕ, Bool, sym, subst, ap, ◌∙◌, refl, inl, inr, arith}
-use Rattle.std.specs.Prelude.{Ok, true, false, option_map, IsTrue, ◌↔◌}
+use Rattle.std.proofs.Common.{◌≡◌, sym, subst, ap, ◌∙◌, refl, inl, inr, arith}
+use Rattle.std.specs.Prelude.{Ok, true, false, option_map}
 use Rattle.layout_model.specs.declared.lines.Kind.TheVariants.{File}
 use Rattle.eof_laws.specs.image_model.Volume.{inode}
 use Rattle.posix_types.specs.declared.call.Call.{Call}
@@ -12,15 +12,9 @@ use Rattle.live_step_laws.specs.world_model.Stands.{is_used}
 use Rattle.file_calls.specs.Answers.{IsEnded}
 use Rattle.file_calls.proofs.Ends.{drop_ends, off_on}
 use Rattle.file_calls.proofs.CloseCalls.{close_half, close_refused, close_replies, close_spent, close_stays, handle_open, may_drop}
-use Rattle.file_calls.proofs.Halves.{drop_fault, goes_lost, goes_too, loans_same}
+use Rattle.file_calls.proofs.Halves.{drop_fault, goes_lost, goes_too, loans_same, no_name}
 use Rattle.file_calls.proofs.Running.{nothing_ended}
 use Rattle.file_calls.proofs.names.opens.close.Goals as goal
-
-no_name : (b : Bool) (n : ℕ) → (IsTrue b ↔ (0 < n)) → b ≡ false → n ≡ 0
-no_name true n says is = cc
-no_name false n says is = by_order n says where
-  by_order : (m : ℕ) → (IsTrue false ↔ (0 < m)) → m ≡ 0
-  by_order m says = grind arith
 
 pub returns-in-None-clause-ended : goal.returns-in-None-clause-ended
 returns-in-None-clause-ended c =
@@ -77,7 +71,7 @@ returns-in-Ok-clause-ended c =
     (goes_too c.args.who (Call.Close c.args.handle) k k t t2 f (answer Reply.Ok) c.in-Some.opened.ino c.args.power.now c.args.power.now half
     (close_replies c.args.who c.args.handle k t t2 f (description_in c.in-Some.opened) known c.close.ensures.tables)
     (close_spent c.args.who c.args.handle k t t2 f (description_in c.in-Some.opened) known c.close.ensures.tables c.args.power.now c.args.power.now) c.requires.power (λ s. refl) (loans_same k) c.drop_node.new.self c.clear.new.self c.drop_node.new.power
-    shut c.clear.ensures.file c.clear.ensures.spare c.drop_node.ensures.steps (c.in-Ok.ensures.answer, c.in-Ok.ensures.paid))
+    (no_name c.named.result _ c.named.ensures c.if-named.false) shut c.clear.ensures.file c.clear.ensures.spare c.drop_node.ensures.steps (c.in-Ok.ensures.answer, c.in-Ok.ensures.paid))
 
 pub returns-in-Err-clause-ended : goal.returns-in-Err-clause-ended
 returns-in-Err-clause-ended c =
@@ -91,7 +85,8 @@ returns-in-Err-clause-ended c =
     let fault = drop_fault k c.drop_node.new.self c.in-Some.opened.ino c.args.power.now c.drop_node.new.power c.in-Err.field-0 c.in-Err.ensures.memory (c.in-Err.ensures.answer, c.in-Err.ensures.paid) in
     goes_lost c.args.who (Call.Close c.args.handle) k k t t2 f (answer Reply.Ok) c.in-Some.opened.ino c.args.power.now c.args.power.now half
     (close_replies c.args.who c.args.handle k t t2 f (description_in c.in-Some.opened) known c.close.ensures.tables)
-    (close_spent c.args.who c.args.handle k t t2 f (description_in c.in-Some.opened) known c.close.ensures.tables c.args.power.now c.args.power.now) c.requires.power (λ s. refl) (loans_same k) c.drop_node.new.self t2 f c.drop_node.new.power shut fault
+    (close_spent c.args.who c.args.handle k t t2 f (description_in c.in-Some.opened) known c.close.ensures.tables c.args.power.now c.args.power.now) c.requires.power (λ s. refl) (loans_same k) c.drop_node.new.self t2 f c.drop_node.new.power
+    (no_name c.named.result _ c.named.ensures c.if-named.false) shut fault
 
 pub returns-in-Ok-clause-ends : goal.returns-in-Ok-clause-ends
 returns-in-Ok-clause-ends c =

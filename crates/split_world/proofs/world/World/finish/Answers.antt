@@ -1,4 +1,6 @@
-use Rattle.std.proofs.Common.{◌∙◌, ap, sym, subst}
+use Rattle.std.specs.Prelude.{◌^◌, ℕ, refl}
+use Rattle.std.proofs.Common.{◌∙◌, ap, sym, subst, arith}
+use Rattle.round_laws.specs.pm_model.Powers.{Steps, Supply}
 use Rattle.world_begins.specs.world_parts.in_flight.live_model.Standing.{JobOut}
 use Rattle.world_begins.specs.world_parts.world_view_laws.Begins.{IsFilledOut}
 use Rattle.world_begins.specs.world_parts.world_view_laws.Jobs.{Finishes, IsOfWorld, LosesFinish}
@@ -6,6 +8,18 @@ use Rattle.world_begins.specs.world_parts.world_view_laws.Views.{WorldView}
 use Rattle.world_begins.specs.world_parts.Seen.{seen}
 use Rattle.world_rounds.proofs.Lost.{loses_first, out_lost}
 use Rattle.split_world.proofs.world.World.finish.Goals as goal
+
+none : (n : ℕ) (power : Supply) → Steps n power power
+none n power = record { given = refl; on_before = λ on. on; later = omega arith; bound = omega arith }
+
+pub returns-then-self-clause-steps : goal.returns-then-self-clause-steps
+returns-then-self-clause-steps c = none (2 ^ 26) c.args.power.now
+
+pub returns-then-not-on-clause-steps : goal.returns-then-not-on-clause-steps
+returns-then-not-on-clause-steps c = none (2 ^ 26) c.args.power.now
+
+pub returns-clause-steps : goal.returns-clause-steps
+returns-clause-steps c = none (2 ^ 26) c.args.power.now
 
 pub returns-then-self-clause-finished : goal.returns-then-self-clause-finished
 returns-then-self-clause-finished c =

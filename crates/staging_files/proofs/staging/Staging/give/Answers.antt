@@ -1,4 +1,4 @@
-use Rattle.std.proofs.Common.{◌<◌, ◌-◌, ◌∷◌, ◌++◌, [], Err, length, ap, sym, subst, ◌∙◌, refl}
+use Rattle.std.proofs.Common.{◌-◌, ◌∷◌, ◌++◌, [], Err, ap, sym, subst, ◌∙◌, refl}
 use Rattle.std.specs.Prelude.{slice_set}
 use Rattle.std.proofs.lemmas.Bool.{both_ways}
 use Rattle.staging_files.specs.Keeps.{IsKeptEmpty, IsStaged, Staged}
@@ -44,8 +44,7 @@ invariant_of-self-in-Ok c =
     subst (λ xs. IsStaged (record { out = xs; given = slice_set s.given (c.args.staging - 1) c.args.share }))
     (sym (c.push_reserved.ensures.items ∙ (λ i. c.reserve.ensures.items i ++ (c.run_at-run.ensures i ∷ []))))
     (staged-given (record { out = s.out.items; given = s.given }) (run_at c.preallocate.new.self c.args.count c.args.staging 0) c.args.share c.self.invariant c.requires.staging
-    c.requires.some refl c.requires.fits c.requires.most (subst (λ v. IsKeptEmpty v c.args.staging) (sym c.self.view_is) c.requires.empty)
-    (subst (λ v. length v.out < 16384) (sym c.self.view_is) c.requires.few))
+    c.requires.some refl c.requires.fits c.requires.most (subst (λ v. IsKeptEmpty v c.args.staging) (sym c.self.view_is) c.requires.empty))
 
 pub returns-in-Ok-clause-answer : goal.returns-in-Ok-clause-answer
 returns-in-Ok-clause-answer c = (

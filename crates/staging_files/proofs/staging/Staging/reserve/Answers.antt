@@ -5,10 +5,9 @@ use Rattle.staging_files.specs.Keeps.{Agrees, AreFreeSingle, IsStaging}
 use Rattle.staging_files.specs.Reserves.{IsFirstWay, IsFreeRun, IsGiveAnswer, IsSecondWay, run_at, share}
 use Rattle.staging_files.proofs.AgreeLaws.{agrees-taken, run-single-taken, single-taken, there-taken}
 use Rattle.staging_files.proofs.GiveUpLaws.{staging-file}
-use Rattle.staging_files.proofs.ReserveLaws.{few-out, given-agrees, given-answer, given-leaves, given-single, given-there, no-steps, second-room}
+use Rattle.staging_files.proofs.ReserveLaws.{given-agrees, given-answer, given-leaves, given-single, given-there, no-steps}
 use Rattle.staging_files.proofs.RoomLaws.{share-fits}
 use Rattle.staging_files.proofs.staging.Staging.reserve.Goals as goal
-use Rattle.staging_files.proofs.staging.Staging.reserve.Goals.{then-is_lost-via-then-is_lost, then-is_lost-via-else-is_lost+then-not-on}
 
 pub returns-then-is_lost-clause-steps : goal.returns-then-is_lost-clause-steps
 returns-then-is_lost-clause-steps c = no-steps 32768 c.args.power.now
@@ -29,11 +28,6 @@ take-requires-clause-some c = subst (λ x. 1 ≤ x.count) (sym c.run_at-run.ensu
 
 pub take-requires-clause-free : goal.take-requires-clause-free
 take-requires-clause-free c = subst (λ x. IsFreeRun c.args.self.now x.count x.staging x.block) (sym c.run_at-run.ensures) c.in-Some.ensures.found.place.here
-
-pub take-requires-clause-few : goal.take-requires-clause-few
-take-requires-clause-few c =
-    let on : c.args.k.now.lost ≡ false = sym c.is_lost.ensures.lost ∙ c.if-is_lost.false in
-    few-out c.args.self.now c.args.k.now (c.is_lost.ensures.order on) c.in-Some.ensures.found.room
 
 pub returns-in-Ok-clause-steps : goal.returns-in-Ok-clause-steps
 returns-in-Ok-clause-steps c = no-steps 32768 c.args.power.now
@@ -117,11 +111,6 @@ pub give-requires-clause-room : goal.give-requires-clause-room
 give-requires-clause-room c =
     subst (λ n. n + reserve c.args.k.now.volume.geometry ≤ free_blocks_in c.args.k.now + 1) (sym c.share-share.ensures)
     (share-fits c.args.self.now c.args.k.now c.args.count c.requires.most c.in-Some-second_way.ensures.room).2
-
-pub give-requires-clause-few : goal.give-requires-clause-few
-give-requires-clause-few c =
-    let on : c.args.k.now.lost ≡ false = sym c.is_lost.ensures.lost ∙ c.if-is_lost.false in
-    few-out c.args.self.now c.args.k.now (c.is_lost.ensures.order on) (second-room c.args.self.now c.args.k.now c.args.count c.in-Some-second_way.ensures.room)
 
 pub returns-in-Some-second_way-clause-steps : goal.returns-in-Some-second_way-clause-steps
 returns-in-Some-second_way-clause-steps c = c.give.ensures.steps

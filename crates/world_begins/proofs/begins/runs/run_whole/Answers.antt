@@ -8,7 +8,7 @@ use Rattle.world_begins.specs.Turns.{IsPublishedFirst}
 use Rattle.world_begins.proofs.Turning.{one_act}
 use Rattle.world_begins.specs.Runs.{HasRoom}
 use Rattle.world_begins.proofs.Calling.{room_ended}
-use Rattle.world_begins.proofs.Composing.{begun_first, dropped, later_step, published_again, room_then}
+use Rattle.world_begins.proofs.Composing.{begun_first, both_steps, dropped, first_steps, later_step, published_again, room_then}
 use Rattle.world_begins.proofs.begins.runs.run_whole.Goals as goal
 
 pub end_round-requires : goal.end_round-requires
@@ -37,8 +37,16 @@ run_now-requires-clause-published c =
 pub returns-in-Ok-Some-clause-begun : goal.returns-in-Ok-Some-clause-begun
 returns-in-Ok-Some-clause-begun c =
     let first = subst (λ (o : Option Call). IsPublishedFirst c.args.who c.args.call c.args.p.now c.publish_first.new.p c.publish_first.new.power (Ok o)) c.in-Ok-Some.field-0-is c.in-Ok-Some.ensures.first in
-    begun_first (seen c.args.p.now) (seen c.publish_first.new.p) (seen c.run_now.new.p) c.args.who c.args.call c.requires.turn.calls.begins first.1.view_is first.1.tables first.1.staging first.1.stay
+    begun_first (seen c.args.p.now) (seen c.publish_first.new.p) (seen c.run_now.new.p) c.args.who c.args.call c.requires.turn.calls.world.mode c.requires.turn.calls.begins first.1.view_is first.1.tables first.1.staging first.1.stay
     c.args.power.now c.publish_first.new.power c.run_now.new.power (later_step _ c.args.power.now c.publish_first.new.power c.run_now.new.power c.publish_first.ensures.steps) c.run_now.result c.run_now.ensures.begun
 
 pub returns-in-Err-clause-kept : goal.returns-in-Err-clause-kept
 returns-in-Err-clause-kept c usable = dropped (seen c.args.p.now) (seen c.publish_first.new.p) c.publish_first.new.power c.in-Err.ensures.first usable _
+
+pub returns-in-Ok-Some-clause-steps : goal.returns-in-Ok-Some-clause-steps
+returns-in-Ok-Some-clause-steps c =
+    let first = subst (λ (o : Option Call). IsPublishedFirst c.args.who c.args.call c.args.p.now c.publish_first.new.p c.publish_first.new.power (Ok o)) c.in-Ok-Some.field-0-is c.in-Ok-Some.ensures.first in
+    both_steps c.args.call _ c.args.power.now c.publish_first.new.power c.run_now.new.power first.0 c.publish_first.ensures.steps c.run_now.ensures.steps
+
+pub returns-in-Ok-None-clause-steps : goal.returns-in-Ok-None-clause-steps
+returns-in-Ok-None-clause-steps c = first_steps c.args.call c.args.power.now c.publish_first.new.power c.publish_first.ensures.steps

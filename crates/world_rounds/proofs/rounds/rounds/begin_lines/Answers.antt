@@ -1,8 +1,10 @@
-use Rattle.std.proofs.Common.{◌≡◌, ◌<◌, ◌*◌, ◌/◌, ◌%◌, ℕ, List, length, subst}
+use Rattle.std.proofs.Common.{◌≡◌, ◌<◌, ◌*◌, ◌/◌, ◌%◌, ℕ, List, length, subst, sym}
 use Rattle.std.specs.Prelude.{slice_index}
 use Rattle.world_parts.specs.block_io.Lines.{line_at}
 use Rattle.world_parts.specs.pm_model.Cells.{cell, newest}
 use Rattle.world_parts.specs.pm_model.Parts.{Part}
+use Rattle.world_parts.specs.k_split_model.View.{View}
+use Rattle.world_parts.specs.Seen.{IsKept}
 use Rattle.world_rounds.proofs.Lapping.{begun_kept, begun_round}
 use Rattle.world_rounds.proofs.rounds.rounds.begin_lines.Goals as goal
 
@@ -21,3 +23,6 @@ returns-clause-begun c =
     (subst (λ (ls : List Part). length c.words_of-words.result.items ≡ 8 * length ls) c.deref.ensures.value c.words_of-words.ensures.count)
     (subst (λ (ls : List Part). (i : ℕ) → i < 8 * length ls → slice_index c.words_of-words.result.items i ≡ newest (cell (line_at ls (i / 8)).cells (i % 8))) c.deref.ensures.value c.words_of-words.ensures.words)
     c.keep_words.ensures.first c.keep_words.ensures.rest
+
+pub returns-in_err-lines-clause-kept : goal.returns-in_err-lines-clause-kept
+returns-in_err-lines-clause-kept c = subst (λ (k : View). IsKept (record c.args.p.now { k = k })) (sym c.in_err-lines.ensures.err) c.requires.kept

@@ -1,0 +1,75 @@
+-- What one call leaves of a World, whoever makes it and whatever it answers; and what a World shows a caller.
+use Rattle.std.specs.Prelude.{◌≡◌, ◌≢◌, ◌⊎◌, ◌+◌, ◌-◌, ◌*◌, ◌^◌, ◌==◌, ◌&&◌, ◌||◌, not, ℕ, Bool, true, [], ◌∷◌, ◌++◌, length, Option, Some, is_none}
+use Rattle.in_flight.specs.pm_model.Powers.{Steps, Supply}
+use Rattle.in_flight.specs.list_laws.Members.{In}
+use Rattle.in_flight.specs.posix_types.declared.call.Call.{Call}
+use Rattle.in_flight.specs.posix_types.declared.call.Who.{Who}
+use Rattle.in_flight.specs.posix_tables.Open.{same_who}
+use Rattle.in_flight.specs.posix_spec.Scripted.{IsSetUp, items_of}
+use Rattle.in_flight.specs.live_model.Standing.{JobOut}
+use Rattle.world_view_laws.specs.declared.views.over.Over.{Over}
+use Rattle.world_view_laws.specs.Begins.{item_of, OthersStay}
+use Rattle.world_view_laws.specs.Views.{next_of, WorldView}
+
+-- at most one item is added, that of the caller's next call
+abbrev pub AddsOne : Who → WorldView → WorldView → Type 0
+AddsOne who old new =
+    (new.history ≡ old.history) ⊎ ((call : Call) × (next_of old who ≡ Some call) × (new.history ≡ old.history ++ item_of old who call ∷ []))
+
+-- and at most one pair is claimed, with the entry of a job of the caller that was out
+abbrev pub ClaimsOne : Who → WorldView → WorldView → Type 0
+ClaimsOne who old new =
+    (new.claims ≡ old.claims) ⊎ ((slot : ℕ) × (p : JobOut) × In p old.pending × (p.who ≡ who) × (new.claims ≡ old.claims ++ (slot, p.draft) ∷ []))
+
+-- the jobs of other callers are the same
+abbrev pub KeepsOthers : Who → WorldView → WorldView → Type 0
+KeepsOthers who old new = (q : JobOut) → q.who ≢ who → (In q old.pending → In q new.pending) × (In q new.pending → In q old.pending)
+
+-- The lap is the same: the numbers of the log, its base, the words that its lines had when it began, whether they are out, and how many calls
+-- had returned then.
+pub record IsSameLap (old new : WorldView) : Type 0 where
+  pub geometry : new.geometry ≡ old.geometry
+  pub base : new.base ≡ old.base
+  pub first : new.first ≡ old.first
+  pub lines_out : new.lines_out ≡ old.lines_out
+  pub settled : new.settled ≡ old.settled
+
+-- ONE CALL OF A CALLER, within a round, that did not run out of memory: at most one item and one pair are added, both of the caller; what
+-- others have out stays; so do the start, the scripts and the lap, a set-up that is done, the cause of a round that is over, and a loss of
+-- the power. It is one act, or none, with at most 2^26 steps for the act.
+pub record IsAct (who : Who) (old new : WorldView) (before after : Supply) : Type 0 where
+  pub start : new.start ≡ old.start
+  pub scripts : new.scripts ≡ old.scripts
+  pub lap : IsSameLap old new
+  pub item : AddsOne who old new
+  pub pair : ClaimsOne who old new
+  pub jobs : KeepsOthers who old new
+  pub stay : OthersStay old new who
+  pub set_up : (other : Who) → IsSetUp old.scripts old.history other → IsSetUp new.scripts new.history other
+  pub over : (over : Over) → old.over ≡ Some over → new.over ≡ Some over
+  pub lost : old.lost ≡ true → new.lost ≡ true
+  pub usable : new.usable ≡ old.usable
+  pub acts : (new.acts ≡ old.acts) ⊎ (new.acts ≡ old.acts + 1)
+  pub steps : Steps (2 ^ 26 * (new.acts - old.acts)) before after
+
+-- ---- what a caller is shown
+
+-- WHAT A WORLD SHOWS A CALLER, each of which stays once it is so: whether its script has ended, what ended the round, whether the power was
+-- lost, and whether the set-up is done.
+pub record Last : Type 0 where
+  pub ended : Bool
+  pub over : Option Over
+  pub lost : Bool
+  pub set_up : Bool
+
+abbrev pub shows : WorldView → Who → Last
+shows w who = record {
+  ended = is_none (next_of w who);
+  over = w.over;
+  lost = w.lost;
+  set_up = length (items_of w.history Who.Setup) == length w.scripts.setup;
+}
+
+-- none of these keeps the caller from its next call; a job of another may
+abbrev pub may_go_on : Who → Last → Bool
+may_go_on who last = not last.ended && is_none last.over && not last.lost && (same_who who Who.Setup || last.set_up)

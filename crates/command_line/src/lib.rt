@@ -7,15 +7,16 @@
 //! - `statuses`: How the program ends: the statuses of its top call, their numbers and their texts
 //!   on standard error.
 //!
-//! Stands on `script_text`, `pm_lines` and `image_layout`.
+//! Stands on `script_text`, on `schedule` for the order of threads, and on `pm_lines` and `image_layout`.
 #![tactic(auto)]
 
 mod commands;
 mod statuses;
 
 pub use commands::{
-    Call, Command, Geometry, Image, Item, Mode, Name, Options, Path, ScriptFault, Shape, State,
-    Tree, TreeEntry, TreeNode, Who, default_shape, read_command, read_script, root_alone,
-    scripts_are_spelled, scripts_are_within_limits, scripts_have_known_words,
+    Call, Command, Geometry, Image, Item, Mode, Name, Options, Order, OrderWords, Path,
+    ScriptFault, Shape, State, Tree, TreeEntry, TreeNode, Who, default_shape, plain_options,
+    read_command, read_order, read_script, root_alone, scripts_are_spelled,
+    scripts_are_within_limits, scripts_have_known_words,
 };
 pub use statuses::{FileName, Status, exit_number, status_text};

@@ -1,9 +1,8 @@
 -- What is left of a run: who has a next call, and when nobody can run.
-use Rattle.std.specs.Prelude.{◌≡◌, ◌≢◌, ◌⊎◌, ◌<◌, ◌≤◌, ◌+◌, ◌++◌, ℕ, zero, suc, List, [], ◌∷◌, length, Option, Some, None, slice_get, slice_index_or, refl}
-use Rattle.std.proofs.Common.{arith, ap, ◌∙◌, sym, subst, inl, inr}
+use Rattle.std.specs.Prelude.{◌≡◌, ◌≢◌, ◌<◌, ◌≤◌, ◌++◌, ℕ, zero, suc, List, [], ◌∷◌, length, Option, Some, None, slice_get, refl}
+use Rattle.std.proofs.Common.{arith, ap, subst, inl, inr}
 use Rattle.std.proofs.lemmas.Bool.{cases_eq, cases_lt}
 use Rattle.std.proofs.lemmas.List.{get_or_past}
-use Rattle.std.proofs.lemmas.Option.{slice_get_within}
 use Rattle.world_view_laws.specs.in_flight.Counts.{history_complete, history_within, made_within}
 use Rattle.world_view_laws.specs.list_laws.Members.{In}
 use Rattle.world_view_laws.specs.live_model.Standing.{JobOut}
@@ -11,14 +10,11 @@ use Rattle.world_view_laws.specs.posix_types.declared.call.Call.{Call}
 use Rattle.world_view_laws.specs.posix_types.declared.call.Who.{Who}
 use Rattle.world_view_laws.specs.posix_types.declared.item.Item.{Item}
 use Rattle.world_view_laws.specs.posix_types.Scripts.{Scripts}
-use Rattle.world_view_laws.specs.posix_spec.Scripted.{call_count, IsComplete, IsSetUp, items_of, next_call, script_of, Scripted, Scripted-append}
+use Rattle.world_view_laws.specs.posix_spec.Scripted.{call_count, IsSetUp, items_of, next_call, script_of, Scripted, Scripted-append}
 use Rattle.world_view_laws.specs.Begins.{item_of}
-use Rattle.world_view_laws.specs.Views.{HasNone, next_of, WorldView}
-use Rattle.event_laws.specs.declared.held.Held.{Held}
-use Rattle.event_laws.specs.Between.{Between}
-use Rattle.event_laws.specs.Held.{OutView}
+use Rattle.world_view_laws.specs.Views.{next_of, WorldView}
 use Rattle.event_laws.proofs.Begins.{one_longer}
-use Rattle.course_laws.specs.CourseLaws.{AllReturn, IsKeptFrom, IsSettingUp, MustCheck, NobodyRuns, SetUpGoesOn}
+use Rattle.course_laws.specs.CourseLaws.{AllReturn, NobodyRuns, SetUpGoesOn}
 
 -- ---- lists
 

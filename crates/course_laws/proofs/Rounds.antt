@@ -30,15 +30,16 @@ use Rattle.world_view_laws.specs.posix_spec.State.{State}
 use Rattle.run_laws.specs.Changes.{ChangesAtMost}
 use Rattle.world_view_laws.specs.write_end.Ends.{begun_by}
 use Rattle.world_view_laws.specs.write_jobs.Jobs.{FilledView}
-use Rattle.world_view_laws.specs.Begins.{IsFilledOut, IsNeed, IsStagingNeed, item_of, LacksBeside, LacksStaging}
+use Rattle.world_view_laws.specs.Begins.{IsFilledOut, IsNeed, IsStagingNeed, item_of, LacksSpace, with_disk}
+use Rattle.world_view_laws.specs.Holes.{file_of, holes_at}
 use Rattle.world_view_laws.specs.Jobs.{Finishes, GivesUp, over_by}
 use Rattle.world_view_laws.specs.declared.views.over.Over.{Over}
-use Rattle.world_view_laws.specs.Views.{state_of, WorldView}
+use Rattle.world_view_laws.specs.Views.{Disk, state_of, WorldView}
 use Rattle.event_laws.specs.declared.held.Held.{Held}
 use Rattle.event_laws.specs.declared.held.Work.{Work}
 use Rattle.event_laws.specs.Between.{Between}
 use Rattle.course_laws.specs.Course.{Acts, claims_in, ComesBy, EndsForSpace, FindsOver, HaveOwnFiles, IsCourse, IsJobBeside, Opens, setting_of, Starts as StartsHere}
-use Rattle.course_laws.specs.CourseLaws.{AreScheduled, CallsAreOut, ChecksBeside, FindsFullBeside, FinishesBeside, GoesBeside, HasBegun, IdleBegins, IdleCanRun, IsKeptFrom, IsNobodys, JobCanRun, LacksSpaceBeside, LeadsReaches, LosesBeside, OpensBeside, OthersCannot, RunStarts}
+use Rattle.course_laws.specs.CourseLaws.{AreScheduled, CallsAreOut, ChecksBeside, FindsFullBeside, FinishesBeside, GoesBeside, IdleBegins, IdleCanRun, IsKeptFrom, IsNobodys, JobCanRun, LacksSpaceBeside, LeadsReaches, LosesBeside, OpensBeside, OthersCannot, RunStarts}
 use Rattle.event_laws.specs.EventsLaws.{held, opened_log, IsHeldAt, with_log, without_job}
 use Rattle.event_laws.specs.Held.{HasLog, IsLogOf, nothing_out, OutView}
 use Rattle.course_laws.proofs.Beside.{IsBesideHere, its_job, its_stage}
@@ -282,13 +283,19 @@ module _ (who : Who) (w : WorldView) where
   beside_kind (Call.Truncate h size) need left is lacks = inr (is.0, grows (length (content (state_of w) who h)) size need is.1 (omega (arith, lacks)))
   beside_kind call need left is lacks = inl (logged_puts call is.0)
 
-  staging_kind : (call : Call) (need : ℕ) (o : Option Put) → put_by (state_of w) who call ≡ o → IsStagingNeed w o need → is_some (put_by (state_of w) who call) ≡ true
-  staging_kind call need None at is = absurd is
-  staging_kind call need (Some put) at is = ap is_some at
+  staging_kind : (v : WorldView) (call : Call) (need : ℕ) (o : Option Put) → put_by (state_of w) who call ≡ o → IsStagingNeed v o need → is_some (put_by (state_of w) who call) ≡ true
+  staging_kind v call need None at is = absurd is
+  staging_kind v call need (Some put) at is = ap is_some at
 
-  pub space_kind : (call : Call) (need left : ℕ) → LacksBeside w who call need left ⊎ LacksStaging w who call need left → MayLackSpace (state_of w) who call
-  space_kind call need left (inl beside) = beside_kind call need left beside.need_is beside.lacks
-  space_kind call need left (inr staging) = inl (staging_kind call need (put_by (state_of w) who call) refl staging.need_is)
+  holes_kind : (call : Call) (ino : Option ℕ) (o : Option Put) → put_by (state_of w) who call ≡ o → 1 ≤ holes_at w ino o → is_some (put_by (state_of w) who call) ≡ true
+  holes_kind call ino (Some put) at some = ap is_some at
+  holes_kind call (Some ino) None at some = absurd (omega (arith, some))
+  holes_kind call None None at some = absurd (omega (arith, some))
+
+  pub space_kind : (filled : Disk) (call : Call) (need left : ℕ) → LacksSpace w filled who call need left → MayLackSpace (state_of w) who call
+  space_kind filled call need left (inl beside) = beside_kind call need left beside.need_is beside.lacks
+  space_kind filled call need left (inr (inl holes)) = inl (holes_kind call (file_of w who call) (put_by (state_of w) who call) refl holes.some)
+  space_kind filled call need left (inr (inr staging)) = inl (staging_kind (with_disk w filled) call need (put_by (state_of w) who call) refl staging.need_is)
 
 pub lacks_space_beside : LacksSpaceBeside
 lacks_space_beside who w new out after need left g m can is course = (
@@ -296,7 +303,7 @@ lacks_space_beside who w new out after need left g m can is course = (
   record {
     call = is.call;
     may = begins_now g w out m course can.between.held.count can.between who is.call can.none can.set_up is.begins;
-    kind = subst (λ (s : State). MayLackSpace s who is.call) (sym (state_is g w out m course)) (space_kind who w is.call need left is.cause);
+    kind = subst (λ (s : State). MayLackSpace s who is.call) (sym (state_is g w out m course)) (space_kind who w new.disk is.call need left is.cause);
     begun = course.begun is.late;
     next_is = refl;
   },

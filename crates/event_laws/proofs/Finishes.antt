@@ -1,5 +1,5 @@
 -- A job finishes, or is given up.
-use Rattle.std.specs.Prelude.{◌≡◌, ◌<◌, ◌≤◌, ◌+◌, ◌-◌, ◌^◌, ℕ, Bool, true, false, List, [], ◌∷◌, ◌++◌, length, Option, Some, None, Err, slice_get, nat_lt, if◌then◌else◌, refl}
+use Rattle.std.specs.Prelude.{◌≡◌, ◌<◌, ◌≤◌, ◌+◌, ◌^◌, ℕ, Bool, true, false, List, [], ◌∷◌, ◌++◌, length, Option, Some, None, Err, slice_get, nat_lt, if◌then◌else◌, refl}
 use Rattle.std.specs.List.{remove}
 use Rattle.std.proofs.Common.{arith, ap, ◌∙◌, sym, subst, inl, inr}
 use Rattle.std.proofs.lemmas.Option.{slice_get_within}
@@ -35,7 +35,7 @@ use Rattle.event_laws.proofs.Begins.{few_ends, few_idle, left_of, one_longer}
 use Rattle.event_laws.proofs.Crashes.{may_crash}
 use Rattle.event_laws.proofs.Few.{without_place}
 use Rattle.event_laws.proofs.Lines.{log_finished, log_later, log_without, slot_below}
-use Rattle.event_laws.proofs.Moves.{moves_more, quiet_before}
+use Rattle.event_laws.proofs.Moves.{moves_more}
 use Rattle.event_laws.proofs.Pays.{IsPaidAny, no_steps, pays}
 use Rattle.event_laws.proofs.Places.{In_at, sum_taken}
 use Rattle.event_laws.proofs.Slots.{slot_there}

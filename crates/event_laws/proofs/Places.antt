@@ -1,5 +1,5 @@
 -- Lists by places: one element is another, one is added at the end, one is taken out.
-use Rattle.std.specs.Prelude.{◌≡◌, ◌≢◌, ◌⊎◌, ◌<◌, ◌+◌, ◌-◌, ℕ, zero, suc, List, [], ◌∷◌, ◌++◌, length, map, Option, Some, None, All, AllPairs, slice_get, slice_index_or, slice_set, sum_by, refl}
+use Rattle.std.specs.Prelude.{◌≡◌, ◌≢◌, ◌⊎◌, ◌<◌, ◌+◌, ℕ, zero, suc, List, [], ◌∷◌, ◌++◌, length, map, Option, Some, None, All, AllPairs, slice_get, slice_index_or, slice_set, sum_by, refl}
 use Rattle.std.specs.List.{cons_option, filter_map, insert, remove}
 use Rattle.std.proofs.Common.{arith, ap, ◌∙◌, sym, inl, inr}
 use Rattle.std.proofs.lemmas.Bool.{cases_eq}

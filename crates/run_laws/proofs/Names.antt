@@ -1,28 +1,25 @@
 -- A history with one more call: what it changed, moved and took.
-use Rattle.std.specs.Prelude.{◌≡◌, ◌⊎◌, ◌<◌, ◌≤◌, ◌+◌, ◌||◌, ℕ, Bool, true, false, cond, nat_lt, List, [], ◌∷◌, ◌++◌, length, map, Option, None, Some, refl}
+use Rattle.std.specs.Prelude.{◌≡◌, ◌⊎◌, ◌<◌, ◌≤◌, ◌+◌, ◌-◌, ◌||◌, ℕ, Bool, true, false, nat_lt, List, [], ◌∷◌, ◌++◌, map, Option, None, Some, refl}
 use Rattle.std.specs.List.{list_any}
 use Rattle.std.proofs.Common.{arith, ap, ◌∙◌, sym, subst, inl, inr}
-use Rattle.std.proofs.lemmas.List.{append-nil, map-append}
+use Rattle.std.proofs.lemmas.List.{map-append}
 use Rattle.std.specs.Option.{option_map_or}
-use Rattle.std.proofs.lemmas.List.Elements.{filter-append}
 use Rattle.std.proofs.lemmas.List.Folds.{list_any-append}
 use Rattle.world_view_laws.specs.k_journal.Commits.{TakesAStep}
 use Rattle.round_log.specs.pm_model.Powers.{is_left, is_on, Steps, Supply}
 use Rattle.world_view_laws.specs.posix_types.declared.call.Call.{Call}
 use Rattle.world_view_laws.specs.posix_types.declared.call.Who.{Who}
 use Rattle.world_view_laws.specs.posix_types.declared.item.Item.{Item}
-use Rattle.world_view_laws.specs.posix_types.Scripts.{Scripts}
 use Rattle.world_view_laws.specs.posix_tables.Open.{same_who}
 use Rattle.world_view_laws.specs.posix_laws.PutLaws.{LeavesWhole-put}
 use Rattle.world_view_laws.specs.posix_spec.Afforded.{moves_data}
 use Rattle.world_view_laws.specs.posix_spec.Put.{Put, put_by}
 use Rattle.world_view_laws.specs.posix_spec.Run.{after_call, run}
-use Rattle.world_view_laws.specs.posix_spec.Scripted.{IsSetUp, items_of}
 use Rattle.world_view_laws.specs.posix_spec.State.{State}
 use Rattle.world_view_laws.specs.crash_spec.Busy.{is_logged, is_logged_put}
 use Rattle.world_view_laws.specs.Views.{WorldView}
 use Rattle.run_laws.specs.Changes.{after_item, ChangesAtMost}
-use Rattle.run_laws.specs.Paid.{has_moved, KeepsNames}
+use Rattle.run_laws.specs.Paid.{has_moved, KeepsGiven, KeepsNames}
 
 -- ---- changes of names
 
@@ -41,14 +38,6 @@ one_change s (x ∷ items) item n (inr one) = inr (one.0 + 1, ap (λ k. k + 1) o
 pub same_caller : (who : Who) → same_who who who ≡ true
 same_caller Who.Setup = refl
 same_caller (Who.Thread n) = grind arith
-
-pub others_more : (history : List Item) (item : Item) (who : Who) → same_who item.who who ≡ false → items_of (history ++ item ∷ []) who ≡ items_of history who
-others_more history item who other =
-    filter-append (λ i. same_who i.who who) history (item ∷ []) ∙ ap (λ b. items_of history who ++ cond b (item ∷ []) []) other ∙ append-nil (items_of history who)
-
-pub set_up_more : (scripts : Scripts) (history : List Item) (item : Item) (who : Who) → item.who ≡ who → IsSetUp scripts history who → IsSetUp scripts (history ++ item ∷ []) who
-set_up_more scripts history item Who.Setup own set_up = tt
-set_up_more scripts history item (Who.Thread n) own set_up = ap length (others_more history item Who.Setup (ap (λ w. same_who w Who.Setup) own)) ∙ set_up
 
 -- ---- moved data
 
@@ -163,3 +152,13 @@ names_more first now after w v item given n start history given_now on steps spe
         most = omega (arith, kept.fewer, more, below);
         each = most (kept.changed + 1) (one_change w.start w.history item kept.changed kept.each);
       }
+
+-- ---- a given number of steps
+
+weaker : (s : State) (items : List Item) (n k : ℕ) → ChangesAtMost s items n → n ≤ k → ChangesAtMost s items k
+weaker s [] n k most least = tt
+weaker s (x ∷ items) n k (inl own) least = inl (own.0, weaker (after_item s x) items n k own.1 least)
+weaker s (x ∷ items) n k (inr one) least = inr (k - 1, omega (arith, one.1, least), weaker (after_item s x) items one.0 (k - 1) one.2 (omega (arith, one.1, least)))
+
+pub keeps_given : KeepsGiven
+keeps_given first now w given kept = weaker w.start w.history kept.changed given kept.each kept.most

@@ -1,8 +1,5 @@
 pub mod Changes
 pub mod Paid
-pub mod Events
-pub mod EventsLaws
-pub mod JobsLaws
 pub use Rattle.world_view_laws.specs.crash_spec
 pub use Rattle.round_log.specs.image_model
 pub use Rattle.world_view_laws.specs.file_calls as file_calls

@@ -1,19 +1,16 @@
-//! Laws of a run of one caller, event by event: calls, jobs, rounds, and what they cost in steps.
+//! What a history adds up to: the calls that changed the names and those that moved data, and the log of a round
+//! beside them.
 //!
-//! From a moment between two calls each event leads to such a moment again with less left to do, to
-//! the end of the script, or to what a crash asks for; and it is paid for.
+//! The layer above may rely on this: at most so many calls changed the names as steps were given (`KeepsGiven`).
+//! Its lemmas say what one call more adds, and that a round's log holds the claims.
 //!
-//! - `events`: Facts of the events of one caller.
-//! - `jobs`: Facts of the job of one caller.
+//! - `laws`: How many calls of a run changed the names.
 //!
-//! Stands on `round_log` and `world_view_laws`.
+//! Stands on `round_log` and `world_view_laws`. Lemmas alone.
 #![tactic(auto)]
 
-mod events;
-mod jobs;
+mod laws;
 
-pub use events::{
-    Commit, Filled, FilledJob, Job, KSplit, NoMemory, RoundLog, a_call_acts, a_round_begins,
-    a_round_ends, a_run_is_paid,
-};
-pub use jobs::a_job_runs;
+pub use laws::names_stay_within_the_steps;
+pub use round_log::RoundLog;
+pub use world_view_laws::{Commit, Filled, FilledJob, Job, KSplit, NoMemory};

@@ -23,10 +23,10 @@ pub record IsSoFar (picker : Picker) (order : meaning.Order) (far : meaning.Pick
 abbrev pub PicksNext : List ℕ → Picker → Picker → ℕ → Type 0
 PicksNext numbers old new n = (order : meaning.Order) (far : meaning.Picker) → IsSoFar old order far → (next : meaning.Picker) × Picks numbers far order n next × IsSoFar new order next
 
--- the first place of a list, from one on, with a number that is among these
-abbrev pub IsPlace : List ℕ → List ℕ → ℕ → Option ℕ → Type 0
+-- the first place of a list, from one on, with a number that is among these, and the number
+abbrev pub IsPlace : List ℕ → List ℕ → ℕ → Option (ℕ × ℕ) → Type 0
 IsPlace list numbers from None = ArePassedOver list numbers from (length list)
-IsPlace list numbers from (Some k) = (from ≤ k) × ((n : ℕ) × (slice_get list k ≡ Some n) × Contains numbers n) × ArePassedOver list numbers from k
+IsPlace list numbers from (Some (k, n)) = (from ≤ k) × (slice_get list k ≡ Some n) × Contains numbers n × ArePassedOver list numbers from k
 
 -- the lowest of some numbers that is not below one
 abbrev pub IsLowestFrom : List ℕ → ℕ → Option ℕ → Type 0

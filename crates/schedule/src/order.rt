@@ -5,7 +5,7 @@
 pub enum Order {
     /// By these numbers of threads, one after another; one that cannot run is passed over. Behind the list it goes
     /// round.
-    List(Vec<u32>),
+    List(Vec<u64>),
     /// By draws of SplitMix64 from this seed.
     Seed(u64),
     /// The next higher thread behind the one that was picked last, or else the lowest.

@@ -1,5 +1,5 @@
 //! Picks: which thread comes next, of those that can run.
-ghost use Rattle.std.specs.Prelude.{◌≡◌, ◌≢◌, ◌%◌, ◌++◌, ◌↔◌, ◌∷◌, ℕ, List, [], length, Some, Contains, IsTrue, false, slice_get, true};
+ghost use Rattle.std.specs.Prelude.{◌≡◌, ◌≢◌, ◌%◌, ◌++◌, ◌∷◌, ℕ, List, [], length, None, Some, Contains, IfSome, false, slice_get, true};
 ghost use Rattle.rand_xoshiro.specs.SplitMix64.{mix_u64};
 ghost use Rattle.crash_spec.specs.Orders.{IsInTurn, none_picked};
 ghost use Rattle.schedule.specs.Picking.{GoesTo, IsListed, IsLower, IsLowestFrom, IsNotLower, IsPlace, IsSoFar, PicksNext};
@@ -13,7 +13,7 @@ use rand_xoshiro::SplitMix64;
 /// What an order takes its picks from.
 #[derive(Debug, Drop)]
 pub enum Source {
-    List(Vec<u32>),
+    List(Vec<u64>),
     Seed(SplitMix64),
     Round,
 }
@@ -27,25 +27,26 @@ pub struct Picker {
     last: Option<u32>,
 }
 
-// Whether a number is among these.
-fn is_among(numbers: &[u32], n: u32) -> bool
-    ensures { IsTrue result ↔ Contains numbers.now n }
+// A number, where it is among these.
+fn among(numbers: &[u32], n: u64) -> Option<u32>
+    ensures there { IfSome result (λ m. (m ≡ n) × Contains numbers.now n) }
+    ensures absent { result ≡ None → ¬ Contains numbers.now n }
 {
     for other in numbers {
-        if *other == n {
-            return true;
+        if u64::from(*other) == n {
+            return Some(*other);
         }
     }
-    false
+    None
 }
 
-// The first place of a list, from one on, with a number that is among these.
-fn place_among(list: &[u32], from: usize, numbers: &[u32]) -> Option<usize>
+// The first place of a list, from one on, with a number that is among these, and the number.
+fn place_among(list: &[u64], from: usize, numbers: &[u32]) -> Option<(usize, u32)>
     ensures { IsPlace list.now numbers.now from result }
 {
     for k in from..list.len() {
-        if is_among(numbers, list[k]) {
-            return Some(k);
+        if let Some(n) = among(numbers, list[k]) {
+            return Some((k, n));
         }
     }
     None
@@ -122,14 +123,14 @@ fn in_turn(last: Option<u32>, numbers: &[u32]) -> u32
 }
 
 // The next number of a list that is among these, and those before it are passed over; behind the list, round.
-fn by_list(list: &[u32], place: &mut usize, last: Option<u32>, numbers: &[u32]) -> u32
+fn by_list(list: &[u64], place: &mut usize, last: Option<u32>, numbers: &[u32]) -> u32
     requires { numbers.now ≢ [] }
     ensures { IsListed list.now numbers.now last place.old place.new result }
 {
     match place_among(list, *place, numbers) {
-        Some(k) => {
+        Some((k, n)) => {
             *place = k + 1;
-            list[k]
+            n
         }
         None => {
             *place = list.len();

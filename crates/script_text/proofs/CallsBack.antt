@@ -21,7 +21,7 @@ whence-back Whence.Set = refl
 whence-back Whence.Cur = refl
 whence-back Whence.End = refl
 
-whence-word : (w : Whence) → IsWord (whence_text w)
+pub whence-word : (w : Whence) → IsWord (whence_text w)
 whence-word Whence.Set = record { solid = refl; some = refl }
 whence-word Whence.Cur = record { solid = refl; some = refl }
 whence-word Whence.End = record { solid = refl; some = refl }

@@ -12,7 +12,7 @@ use Rattle.script_text.proofs.PartsBack.{above_blank, all_weaker, number-back, n
 use Rattle.script_text.proofs.WordsBack.{is_solid_byte, IsWord}
 
 -- ---- digits
-digit_is : (d : ℕ) → d < 16 → is_hex_digit (hex_digit d) ≡ true
+pub digit_is : (d : ℕ) → d < 16 → is_hex_digit (hex_digit d) ≡ true
 digit_is d small = agree_below_at (λ d. is_hex_digit (hex_digit d)) (λ d. true) 16 d refl small
 
 digit_value-back : (d : ℕ) → d < 16 → hex_value (hex_digit d) ≡ d
@@ -42,7 +42,7 @@ pairs-back (b ∷ x) h =
     ap (λ (v : ℕ). v ∷ hex_bytes (flat_map hex_byte x)) (byte-back b (All-head (λ (byte : ℕ). byte < 256) b x h))
     ∙ ap (λ (l : List ℕ). b ∷ l) (pairs-back x (All-tail (λ (byte : ℕ). byte < 256) b x h))
 
-pairs_are : (x : List ℕ) → All (λ byte. byte < 256) x → list_all is_hex_digit (flat_map hex_byte x) ≡ true
+pub pairs_are : (x : List ℕ) → All (λ byte. byte < 256) x → list_all is_hex_digit (flat_map hex_byte x) ≡ true
 pairs_are [] h = refl
 pairs_are (b ∷ x) h =
     let small = All-head (λ (byte : ℕ). byte < 256) b x h in
@@ -83,7 +83,7 @@ all_the_same b (y ∷ x) h =
     ap (λ (v : ℕ). v ∷ x) (eqb-true y b parts.0) ∙ ap (λ (l : List ℕ). b ∷ l) (all_the_same b x parts.1)
 
 -- the text of a byte and how often
-abbrev repeat_text : ℕ → ℕ → List ℕ
+abbrev pub repeat_text : ℕ → ℕ → List ℕ
 repeat_text b n = hex_digit (b / 16) ∷ hex_digit (b % 16) ∷ 42 ∷ decimal n
 
 repeat_is : (b n : ℕ) → b < 256 → is_repeat (repeat_text b n) ≡ true
@@ -106,12 +106,12 @@ data-repeat b n small some few =
     ∙ repeated-back b n small some few
 
 -- ---- data
-data_text-short : (b : ℕ) (x : List ℕ) → is_short (b ∷ x) ≡ true → data_text (b ∷ x) ≡ repeat_text b (length (b ∷ x))
+pub data_text-short : (b : ℕ) (x : List ℕ) → is_short (b ∷ x) ≡ true → data_text (b ∷ x) ≡ repeat_text b (length (b ∷ x))
 unfolding data_text
 data_text-short b x short =
     cond-false (length (b ∷ x) == 0) (codes "-") _ (ne_eqb (length (b ∷ x)) 0 (λ e. omega arith)) ∙ cond-true (is_short (b ∷ x)) (repeat_text b (length (b ∷ x))) (flat_map hex_byte (b ∷ x)) short
 
-data_text-pairs : (b : ℕ) (x : List ℕ) → is_short (b ∷ x) ≡ false → data_text (b ∷ x) ≡ flat_map hex_byte (b ∷ x)
+pub data_text-pairs : (b : ℕ) (x : List ℕ) → is_short (b ∷ x) ≡ false → data_text (b ∷ x) ≡ flat_map hex_byte (b ∷ x)
 unfolding data_text
 data_text-pairs b x long =
     cond-false (length (b ∷ x) == 0) (codes "-") _ (ne_eqb (length (b ∷ x)) 0 (λ e. omega arith)) ∙ cond-false (is_short (b ∷ x)) (repeat_text b (length (b ∷ x))) (flat_map hex_byte (b ∷ x)) long

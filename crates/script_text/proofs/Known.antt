@@ -10,7 +10,7 @@ use Rattle.posix_types.specs.declared.call.Call.{Call}
 use Rattle.script_text.specs.declared.kinds.Kind.{Kind}
 use Rattle.script_text.specs.declared.kinds.Kind.TheVariants.{Calls, Passed, SetUp, Thread, Unread}
 use Rattle.script_text.specs.Calls.{all_three, both, call_in, is_known, one_word_call, three_word_call, two_word_call}
-use Rattle.script_text.specs.Known.{AreKnownCalls, IsKnownCall, IsOneScript, KnownCallsAlone, OneThreadAlone}
+use Rattle.script_text.specs.Known.{AreKnownCalls, IsKnownCall, KnownCallsAlone}
 use Rattle.script_text.specs.Lines.{is_text, Line, lines_of, text_of, words_of}
 use Rattle.script_text.specs.Scripts.{all_threads, begins_with_call, call_kind, calls_before, is_comment, kind_of, kinds_of, scripts_in, scripts_of, set_up_of, text_kind, threads_of, words_kind}
 use Rattle.script_text.specs.Words.{data_in, flags_in, handle_in, number_in, path_in, signed_in, whence_in}
@@ -161,41 +161,4 @@ known_calls_alone bytes =
     record {
       setup = All-from_recursion IsKnownCall (set_up_of kinds) (set_up-known kinds all);
       threads = All-from_recursion AllKnown (all_threads kinds) (first-known (begins_with_call kinds) (calls_before kinds) (threads_of kinds) (before-known kinds all) (threads-known kinds all));
-    }
-
--- ---- headings
-module _ (no_set_up : is_known (codes "setup") ≡ false) (no_thread : is_known (codes "thread") ≡ false) where
-  never : (word : List ℕ) → is_known word ≡ false → is_known word ≡ true → ⊥
-  never word absent there = (let both : false ≡ true = sym absent ∙ there in cc)
-
-  no_threads : (kinds : List Kind) → AllByRecursion IsOfTable kinds → threads_of kinds ≡ []
-  unfolding threads_of
-  no_threads [] h = refl
-  no_threads (Passed ∷ kinds) h = no_threads kinds h.1
-  no_threads (SetUp ∷ kinds) h = no_threads kinds h.1
-  no_threads (Thread ∷ kinds) h = absurd (never (codes "thread") no_thread h.0)
-  no_threads (Calls call ∷ kinds) h = no_threads kinds h.1
-  no_threads (Unread ∷ kinds) h = no_threads kinds h.1
-
-  none_set_up : (kinds : List Kind) → AllByRecursion IsOfTable kinds → set_up_of kinds ≡ []
-  unfolding set_up_of
-  none_set_up [] h = refl
-  none_set_up (Passed ∷ kinds) h = none_set_up kinds h.1
-  none_set_up (SetUp ∷ kinds) h = absurd (never (codes "setup") no_set_up h.0)
-  none_set_up (Thread ∷ kinds) h = none_set_up kinds h.1
-  none_set_up (Calls call ∷ kinds) h = none_set_up kinds h.1
-  none_set_up (Unread ∷ kinds) h = none_set_up kinds h.1
-
-one_at_most : {A : Type 0} (begins : Bool) (xs : A) → length (cond begins (xs ∷ []) []) ≤ 1
-one_at_most true xs = omega arith
-one_at_most false xs = omega arith
-
-pub one_thread_alone : OneThreadAlone
-unfolding scripts_in
-one_thread_alone bytes no_set_up no_thread =
-    let all = lines-known (lines_of bytes) in
-    let kinds = kinds_of bytes in
-    record {
-      setup = none_set_up no_set_up no_thread kinds all;
-      threads = subst (λ (threads : List (List Call)). length (cond (begins_with_call kinds) (calls_before kinds ∷ threads) threads) ≤ 1) (sym (no_threads no_set_up no_thread kinds all)) (one_at_most (begins_with_call kinds) (calls_before kinds));
     }

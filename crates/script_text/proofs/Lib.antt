@@ -13,8 +13,12 @@ pub mod LinesRead
 pub mod Lists
 pub mod Pairs
 pub mod Parts
+pub mod ScriptsBack
 pub mod SpelledCalls
 pub mod PartsBack
+pub mod NumberLists
+pub mod NumbersFit
 pub mod Spelling
 pub mod Steps
+pub mod TextsBack
 pub mod WordsBack

@@ -5,40 +5,40 @@ use Rattle.std.proofs.lemmas.List.{take_all}
 use Rattle.std.proofs.lemmas.List.Folds.{list_all-append}
 use Rattle.std.specs.List.{list_all}
 use Rattle.layout_model.specs.Spelling.{is_spelled}
-use Rattle.script_text.specs.Words.{names_in, parts_of, with_part}
+use Rattle.script_text.specs.Words.{names_in, parts_by, with_part}
 
-inside : (b : ℕ) (text : List ℕ) → b ≢ 47 → parts_of (b ∷ text) ≡ with_part b (parts_of text)
-unfolding parts_of
-inside b text ne = rw (ne_eqb b 47 ne) refl
+inside : (s b : ℕ) (text : List ℕ) → b ≢ s → parts_by s (b ∷ text) ≡ with_part b (parts_by s text)
+unfolding parts_by
+inside s b text ne = rw (ne_eqb b s ne) refl
 
--- no slash, one part
-pub one_part : (text : List ℕ) → ((k : ℕ) → k < length text → get_or text k 0 ≢ 47) → parts_of text ≡ text ∷ []
-unfolding parts_of
-one_part [] none = refl
-one_part (b ∷ text) none = inside b text (none 0 (omega arith)) ∙ ap (with_part b) (one_part text (λ k lt. none (suc k) (omega arith)))
+-- no such byte, one part
+pub one_part : (s : ℕ) (text : List ℕ) → ((k : ℕ) → k < length text → get_or text k 0 ≢ s) → parts_by s text ≡ text ∷ []
+unfolding parts_by
+one_part s [] none = refl
+one_part s (b ∷ text) none = inside s b text (none 0 (omega arith)) ∙ ap (with_part b) (one_part s text (λ k lt. none (suc k) (omega arith)))
 
--- the part before the first slash, and the parts behind it
-pub first_part : (text : List ℕ) (n : ℕ) → n < length text → ((k : ℕ) → k < n → get_or text k 0 ≢ 47) → get_or text n 0 ≡ 47 → parts_of text ≡ take n text ∷ parts_of (drop (n + 1) text)
-unfolding parts_of
-first_part [] n within none slash = absurd (omega arith)
-first_part (b ∷ text) zero within none slash = rw (eq-eqb b 47 slash) refl
-first_part (b ∷ text) (suc n) within none slash =
-    inside b text (none 0 (omega arith))
-    ∙ ap (with_part b) (first_part text n (omega arith) (λ k lt. none (suc k) (omega arith)) slash)
+-- the part before the first such byte, and the parts behind it
+pub first_part : (s : ℕ) (text : List ℕ) (n : ℕ) → n < length text → ((k : ℕ) → k < n → get_or text k 0 ≢ s) → get_or text n 0 ≡ s → parts_by s text ≡ take n text ∷ parts_by s (drop (n + 1) text)
+unfolding parts_by
+first_part s [] n within none stop = absurd (omega arith)
+first_part s (b ∷ text) zero within none stop = rw (eq-eqb b s stop) refl
+first_part s (b ∷ text) (suc n) within none stop =
+    inside s b text (none 0 (omega arith))
+    ∙ ap (with_part b) (first_part s text n (omega arith) (λ k lt. none (suc k) (omega arith)) stop)
     ∙ (rw (add-one, add-one) refl)
 
--- the part before the first slash, or all of the text
-pub one_more_part : (text : List ℕ) (n : ℕ) → n ≤ length text → ((k : ℕ) → k < n → get_or text k 0 ≢ 47) → (n < length text → get_or text n 0 ≡ 47) → (more : List (List ℕ)) × (parts_of text ≡ take n text ∷ more)
-one_more_part text n within none stops =
+-- the part before the first such byte, or all of the text
+pub one_more_part : (s : ℕ) (text : List ℕ) (n : ℕ) → n ≤ length text → ((k : ℕ) → k < n → get_or text k 0 ≢ s) → (n < length text → get_or text n 0 ≡ s) → (more : List (List ℕ)) × (parts_by s text ≡ take n text ∷ more)
+one_more_part s text n within none stops =
     elim (cases_lt n (length text)) [
-      | inl lt ↦ (parts_of (drop (n + 1) text), first_part text n lt none (stops lt))
-      | inr ge ↦ ([], one_part text (λ k lt. none k (omega arith)) ∙ ap (λ (part : List ℕ). part ∷ []) (sym (take_all n text ge)))
+      | inl lt ↦ (parts_by s (drop (n + 1) text), first_part s text n lt none (stops lt))
+      | inr ge ↦ ([], one_part s text (λ k lt. none k (omega arith)) ∙ ap (λ (part : List ℕ). part ∷ []) (sym (take_all n text ge)))
     ]
 
 -- ---- the names of a path, part by part: these are read, and the rest is cut at its first slash
-pub bad_name : (text rest : List ℕ) (read : List (List ℕ)) (n : ℕ) → parts_of text ≡ read ++ parts_of rest → n ≤ length rest → ((k : ℕ) → k < n → get_or rest k 0 ≢ 47) → (n < length rest → get_or rest n 0 ≡ 47) → is_spelled (take n rest) ≡ false → None ≡ names_in (parts_of text)
+pub bad_name : (text rest : List ℕ) (read : List (List ℕ)) (n : ℕ) → parts_by 47 text ≡ read ++ parts_by 47 rest → n ≤ length rest → ((k : ℕ) → k < n → get_or rest k 0 ≢ 47) → (n < length rest → get_or rest n 0 ≡ 47) → is_spelled (take n rest) ≡ false → None ≡ names_in (parts_by 47 text)
 bad_name text rest read n parts within none stops bad =
-    let cut = one_more_part rest n within none stops in
+    let cut = one_more_part 47 rest n within none stops in
     let all : list_all is_spelled (read ++ take n rest ∷ cut.0) ≡ false =
     list_all-append is_spelled read (take n rest ∷ cut.0) ∙ and_right (list_all is_spelled read) (list_all is_spelled (take n rest ∷ cut.0)) (and_left (is_spelled (take n rest)) (list_all is_spelled cut.0) bad) in
     sym (ap names_in (parts ∙ ap (λ (more : List (List ℕ)). read ++ more) cut.1) ∙ cond-false (list_all is_spelled (read ++ take n rest ∷ cut.0)) (Some (read ++ take n rest ∷ cut.0)) None all)
@@ -47,12 +47,12 @@ bad_name text rest read n parts within none stops bad =
 pub spelled_more : (read : List (List ℕ)) (name : List ℕ) → list_all is_spelled read ≡ true → is_spelled name ≡ true → list_all is_spelled (read ++ name ∷ []) ≡ true
 spelled_more read name before spelled = list_all-append is_spelled read (name ∷ []) ∙ and_from (list_all is_spelled read) (list_all is_spelled (name ∷ [])) before (and_from (is_spelled name) true spelled refl)
 
-pub last_name : (text rest : List ℕ) (read : List (List ℕ)) (n : ℕ) → parts_of text ≡ read ++ parts_of rest → n ≡ length rest → ((k : ℕ) → k < n → get_or rest k 0 ≢ 47) → list_all is_spelled (read ++ take n rest ∷ []) ≡ true → Some (read ++ take n rest ∷ []) ≡ names_in (parts_of text)
+pub last_name : (text rest : List ℕ) (read : List (List ℕ)) (n : ℕ) → parts_by 47 text ≡ read ++ parts_by 47 rest → n ≡ length rest → ((k : ℕ) → k < n → get_or rest k 0 ≢ 47) → list_all is_spelled (read ++ take n rest ∷ []) ≡ true → Some (read ++ take n rest ∷ []) ≡ names_in (parts_by 47 text)
 last_name text rest read n parts whole none spelled =
-    let one : parts_of rest ≡ take n rest ∷ [] =
-    one_part rest (λ k lt. none k (omega arith)) ∙ ap (λ (part : List ℕ). part ∷ []) (sym (take_all n rest (omega arith))) in
+    let one : parts_by 47 rest ≡ take n rest ∷ [] =
+    one_part 47 rest (λ k lt. none k (omega arith)) ∙ ap (λ (part : List ℕ). part ∷ []) (sym (take_all n rest (omega arith))) in
     sym (ap names_in (parts ∙ ap (λ (more : List (List ℕ)). read ++ more) one) ∙ cond-true (list_all is_spelled (read ++ take n rest ∷ [])) (Some (read ++ take n rest ∷ [])) None spelled)
 
-pub next_name : (text rest : List ℕ) (read : List (List ℕ)) (n : ℕ) → parts_of text ≡ read ++ parts_of rest → n < length rest → ((k : ℕ) → k < n → get_or rest k 0 ≢ 47) → get_or rest n 0 ≡ 47 → parts_of text ≡ (read ++ take n rest ∷ []) ++ parts_of (drop (n + 1) rest)
+pub next_name : (text rest : List ℕ) (read : List (List ℕ)) (n : ℕ) → parts_by 47 text ≡ read ++ parts_by 47 rest → n < length rest → ((k : ℕ) → k < n → get_or rest k 0 ≢ 47) → get_or rest n 0 ≡ 47 → parts_by 47 text ≡ (read ++ take n rest ∷ []) ++ parts_by 47 (drop (n + 1) rest)
 next_name text rest read n parts within none slash =
-    parts ∙ ap (λ (more : List (List ℕ)). read ++ more) (first_part rest n within none slash) ∙ sym (append_assoc read (take n rest ∷ []) (parts_of (drop (n + 1) rest)))
+    parts ∙ ap (λ (more : List (List ℕ)). read ++ more) (first_part 47 rest n within none slash) ∙ sym (append_assoc read (take n rest ∷ []) (parts_by 47 (drop (n + 1) rest)))

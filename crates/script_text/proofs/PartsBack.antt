@@ -15,7 +15,7 @@ use Rattle.layout_model.specs.Spelling.{AreSpelled, is_spelled}
 use Rattle.posix_types.specs.declared.handle.Handle.{Handle}
 use Rattle.posix_spec.specs.posix_tables.Places.{printed}
 use Rattle.report_text.specs.Texts.{handle_text}
-use Rattle.script_text.specs.Words.{handle_in, is_handle, is_handle_byte, is_number, less, number_in, parts_of, path_in, signed_in, with_part}
+use Rattle.script_text.specs.Words.{handle_in, is_handle, is_handle_byte, is_number, less, number_in, parts_by, path_in, signed_in, with_part}
 use Rattle.script_text.specs.Written.{distance, IsWrittenHandle}
 use Rattle.script_text.proofs.Digits.{own, signed_in-minus, signed_in-plain}
 use Rattle.script_text.proofs.Lists.{passes_at}
@@ -40,37 +40,37 @@ name_byte_solid b h =
 no_slash : (b : ℕ) → is_name_byte b ≡ true → (b == 47) ≡ false
 no_slash b h = not-true (b == 47) (and_parts (nat_le 33 b && nat_le b 126) (not (b == 47)) h).1
 
-spelled_bytes : (name : List ℕ) → is_spelled name ≡ true → list_all is_name_byte name ≡ true
+pub spelled_bytes : (name : List ℕ) → is_spelled name ≡ true → list_all is_name_byte name ≡ true
 spelled_bytes name h = (and_parts (list_all is_name_byte name) (nat_le 1 (length name)) (and_parts (list_all is_name_byte name && nat_le 1 (length name)) (not (is_dots name)) h).0).0
 
 spelled_some : (name : List ℕ) → is_spelled name ≡ true → 1 ≤ length name
 spelled_some name h = leb-true 1 (length name) (and_parts (list_all is_name_byte name) (nat_le 1 (length name)) (and_parts (list_all is_name_byte name && nat_le 1 (length name)) (not (is_dots name)) h).0).1
 
 -- the names, each behind a slash
-abbrev behind_slashes : List (List ℕ) → List ℕ
+abbrev pub behind_slashes : List (List ℕ) → List ℕ
 behind_slashes names = flat_map (λ name. 47 ∷ name) names
 
-part-slash : (name rest : List ℕ) → list_all is_name_byte name ≡ true → parts_of (name ++ 47 ∷ rest) ≡ name ∷ parts_of rest
-unfolding parts_of
+part-slash : (name rest : List ℕ) → list_all is_name_byte name ≡ true → parts_by 47 (name ++ 47 ∷ rest) ≡ name ∷ parts_by 47 rest
+unfolding parts_by
 part-slash [] rest all = refl
 part-slash (b ∷ name) rest all =
     let parts = and_parts (is_name_byte b) (list_all is_name_byte name) all in
     rw (no_slash b parts.0) (ap (with_part b) (part-slash name rest parts.1))
 
-part-end : (name : List ℕ) → list_all is_name_byte name ≡ true → parts_of name ≡ name ∷ []
-unfolding parts_of
+part-end : (name : List ℕ) → list_all is_name_byte name ≡ true → parts_by 47 name ≡ name ∷ []
+unfolding parts_by
 part-end [] all = refl
 part-end (b ∷ name) all =
     let parts = and_parts (is_name_byte b) (list_all is_name_byte name) all in
     rw (no_slash b parts.0) (ap (with_part b) (part-end name parts.1))
 
-parts-back : (name : List ℕ) (names : List (List ℕ)) → is_spelled name ≡ true → list_all is_spelled names ≡ true → parts_of (name ++ behind_slashes names) ≡ name ∷ names
-parts-back name [] h all = ap parts_of (append-nil name) ∙ part-end name (spelled_bytes name h)
+parts-back : (name : List ℕ) (names : List (List ℕ)) → is_spelled name ≡ true → list_all is_spelled names ≡ true → parts_by 47 (name ++ behind_slashes names) ≡ name ∷ names
+parts-back name [] h all = ap (parts_by 47) (append-nil name) ∙ part-end name (spelled_bytes name h)
 parts-back name (next ∷ names) h all =
     let parts = and_parts (is_spelled next) (list_all is_spelled names) all in
     part-slash name (next ++ behind_slashes names) (spelled_bytes name h) ∙ ap (λ (more : List (List ℕ)). name ∷ more) (parts-back next names parts.0 parts.1)
 
-all_spelled : (path : List (List ℕ)) → AreSpelled path → list_all is_spelled path ≡ true
+pub all_spelled : (path : List (List ℕ)) → AreSpelled path → list_all is_spelled path ≡ true
 all_spelled [] h = refl
 all_spelled (name ∷ path) h =
     and_from (is_spelled name) (list_all is_spelled path) (All-head (λ (n : List ℕ). is_spelled n ≡ true) name path h) (all_spelled path (All-tail (λ (n : List ℕ). is_spelled n ≡ true) name path h))
@@ -79,7 +79,7 @@ some_length : (name rest : List ℕ) → 1 ≤ length name → (length (name ++ 
 some_length [] rest some = absurd (omega arith)
 some_length (b ∷ name) rest some = ne_eqb (length (b ∷ (name ++ rest))) 0 (λ e. omega arith)
 
-printed-cons : (name : List ℕ) (path : List (List ℕ)) → printed (name ∷ path) ≡ 47 ∷ (name ++ behind_slashes path)
+pub printed-cons : (name : List ℕ) (path : List (List ℕ)) → printed (name ∷ path) ≡ 47 ∷ (name ++ behind_slashes path)
 printed-cons name path = cond-false (length (name ∷ path) == 0) (47 ∷ []) (47 ∷ (name ++ behind_slashes path)) (ne_eqb (length (name ∷ path)) 0 (λ e. omega arith))
 
 names-back : (name : List ℕ) (path : List (List ℕ)) → list_all is_spelled (name ∷ path) ≡ true → path_in (47 ∷ (name ++ behind_slashes path)) ≡ Some (name ∷ path)
@@ -141,7 +141,7 @@ each_digit (c ∷ cs) h =
     let parts = and_parts (is_ascii_digit c) (all_ascii_digits cs) h in
     and_from (is_ascii_digit c) (list_all is_ascii_digit cs) parts.0 (each_digit cs parts.1)
 
-decimal-digits : (n : ℕ) → n < 10 ^ 18 → list_all is_ascii_digit (decimal n) ≡ true
+pub decimal-digits : (n : ℕ) → n < 10 ^ 18 → list_all is_ascii_digit (decimal n) ≡ true
 decimal-digits n small = each_digit (decimal n) (digits_decimal own n (omega arith))
 
 decimal-front : (n : ℕ) → n < 10 ^ 18 → ((length (decimal n) == 1) || not (slice_index (decimal n) 0 == 48)) ≡ true

@@ -12,7 +12,7 @@ use Rattle.script_text.specs.Calls.{all_three, both, call_in, is_known, one_word
 use Rattle.script_text.specs.Lines.{is_text, Line, lines_of, text_of, words_of}
 use Rattle.script_text.specs.Scripts.{all_threads, begins_with_call, call_kind, calls_before, is_comment, kind_of, kinds_of, scripts_in, scripts_of, set_up_of, text_kind, threads_of, words_kind}
 use Rattle.script_text.specs.Spelled.{AreSpelledCalls, IsSpelledCall}
-use Rattle.script_text.specs.Words.{data_in, flags_in, handle_in, names_in, number_in, parts_of, path_in, signed_in, whence_in}
+use Rattle.script_text.specs.Words.{data_in, flags_in, handle_in, names_in, number_in, parts_by, path_in, signed_in, whence_in}
 use Rattle.script_text.proofs.Lists.{passes_at}
 
 -- ---- values that a test chooses
@@ -35,8 +35,8 @@ path-spelled : (word : List ℕ) → IfSome (path_in word) AreSpelled
 unfolding path_in
 path-spelled [] = tt
 path-spelled (b ∷ text) =
-    some_chosen AreSpelled (b == 47) (cond (length text == 0) (Some []) (names_in (parts_of text))) None
-    (some_chosen AreSpelled (length text == 0) (Some []) (names_in (parts_of text)) (All-nil (λ name. is_spelled name ≡ true)) (names-spelled (parts_of text)))
+    some_chosen AreSpelled (b == 47) (cond (length text == 0) (Some []) (names_in (parts_by 47 text))) None
+    (some_chosen AreSpelled (length text == 0) (Some []) (names_in (parts_by 47 text)) (All-nil (λ name. is_spelled name ≡ true)) (names-spelled (parts_by 47 text)))
     tt
 
 pub path_in-spelled : (word : List ℕ) (path : List (List ℕ)) → path_in word ≡ Some path → AreSpelled path

@@ -10,7 +10,7 @@ abbrev pub known_words : List (List ℕ)
 known_words =
     codes "mkdir" ∷ codes "rmdir" ∷ codes "unlink" ∷ codes "rename" ∷ codes "open" ∷ codes "close" ∷ codes "dup"
     ∷ codes "read" ∷ codes "pread" ∷ codes "write" ∷ codes "pwrite" ∷ codes "seek" ∷ codes "truncate" ∷ codes "fsync" ∷ codes "stat"
-    ∷ codes "list" ∷ []
+    ∷ codes "list" ∷ codes "setup" ∷ codes "thread" ∷ []
 
 abbrev pub is_known : List ℕ → Bool
 is_known word = list_any (is_same word) known_words

@@ -1,5 +1,5 @@
 -- What holds of every script by the table of the words that the program runs.
-use Rattle.std.specs.Prelude.{◌≡◌, ℕ, ◌≤◌, List, [], length, codes, All, true, false}
+use Rattle.std.specs.Prelude.{◌≡◌, ℕ, List, codes, All, true}
 use Rattle.posix_types.specs.declared.call.Call.{Call}
 use Rattle.posix_types.specs.Scripts.{Scripts}
 use Rattle.script_text.specs.Calls.{is_known}
@@ -34,11 +34,3 @@ pub record AreKnownCalls (scripts : Scripts) : Type 0 where
 
 abbrev pub KnownCallsAlone : Type 0
 KnownCallsAlone = (bytes : List ℕ) → AreKnownCalls (scripts_of bytes)
-
--- Where the table has no heading, there is no set-up, and one thread at most.
-pub record IsOneScript (scripts : Scripts) : Type 0 where
-  pub setup : scripts.setup ≡ []
-  pub threads : length scripts.threads ≤ 1
-
-abbrev pub OneThreadAlone : Type 0
-OneThreadAlone = (bytes : List ℕ) → is_known (codes "setup") ≡ false → is_known (codes "thread") ≡ false → IsOneScript (scripts_of bytes)

@@ -1,5 +1,5 @@
 -- The words of a call: how paths, handles, flags, numbers and data are spelled.
-use Rattle.std.specs.Prelude.{ℕ, zero, suc, ◌+◌, ◌*◌, ◌-◌, ◌/◌, List, [], ◌∷◌, ◌++◌, length, take, drop, codes, slice_index, replicate, Bool, not, ◌&&◌, ◌||◌, ◌==◌, nat_le, Option, Some, None, option_map, ℤ, pos, negsuc, if◌then◌else◌}
+use Rattle.std.specs.Prelude.{ℕ, zero, suc, ◌+◌, ◌*◌, ◌-◌, ◌/◌, List, [], ◌∷◌, ◌++◌, length, take, drop, codes, slice_index, replicate, Bool, false, not, ◌&&◌, ◌||◌, ◌==◌, nat_le, Option, Some, None, option_and_then, option_map, ℤ, pos, negsuc, if◌then◌else◌}
 use Rattle.std.specs.Char.{is_ascii_digit}
 use Rattle.std.specs.List.{list_all, list_any}
 use Rattle.std.specs.Str.Parse.{digits_value}
@@ -9,6 +9,16 @@ use Rattle.posix_types.specs.declared.handle.Flags.{Flags}
 use Rattle.posix_types.specs.declared.handle.Handle.{Handle}
 use Rattle.posix_types.specs.declared.handle.Whence.{Whence}
 use Rattle.report_text.specs.Texts.{flags_text}
+
+-- ---- parts
+-- the parts of a text, which a byte parts wherever it stands
+abbrev pub with_part : ℕ → List (List ℕ) → List (List ℕ)
+with_part b [] = (b ∷ []) ∷ []
+with_part b (part ∷ parts) = (b ∷ part) ∷ parts
+
+unfoldable pub parts_by : ℕ → List ℕ → List (List ℕ)
+parts_by s [] = [] ∷ []
+parts_by s (b ∷ text) = if b == s then [] ∷ parts_by s text else with_part b (parts_by s text)
 
 -- ---- numbers
 -- a number is 1 to 18 decimal digits, and begins with 0 only where it is 0
@@ -28,23 +38,30 @@ unfoldable pub signed_in : List ℕ → Option ℤ
 signed_in [] = None
 signed_in (b ∷ word) = if b == 45 then option_map less (number_in word) else option_map (λ n. pos n) (number_in (b ∷ word))
 
+-- numbers with commas between them: each part is one
+unfoldable pub numbers_of : List (List ℕ) → Option (List ℕ)
+numbers_of [] = Some []
+numbers_of (word ∷ words) = option_and_then (λ n. option_map (λ ns. n ∷ ns) (numbers_of words)) (number_in word)
+
+abbrev pub numbers_in : List ℕ → Option (List ℕ)
+numbers_in word = numbers_of (parts_by 44 word)
+
+-- at most so many numbers, none of them higher than one
+abbrev pub are_within : ℕ → ℕ → List ℕ → Bool
+are_within most highest numbers = nat_le (length numbers) most && list_all (λ n. nat_le n highest) numbers
+
+abbrev pub fits : ℕ → ℕ → Option (List ℕ) → Bool
+fits most highest None = false
+fits most highest (Some numbers) = are_within most highest numbers
+
 -- ---- paths
--- the parts of a text, which slashes part
-abbrev pub with_part : ℕ → List (List ℕ) → List (List ℕ)
-with_part b [] = (b ∷ []) ∷ []
-with_part b (part ∷ parts) = (b ∷ part) ∷ parts
-
-unfoldable pub parts_of : List ℕ → List (List ℕ)
-parts_of [] = [] ∷ []
-parts_of (b ∷ text) = if b == 47 then [] ∷ parts_of text else with_part b (parts_of text)
-
 abbrev pub names_in : List (List ℕ) → Option (List (List ℕ))
 names_in names = if list_all is_spelled names then Some names else None
 
 -- a path: the slash alone, or names that each have a slash before them
 unfoldable pub path_in : List ℕ → Option (List (List ℕ))
 path_in [] = None
-path_in (b ∷ text) = if b == 47 then (if length text == 0 then Some [] else names_in (parts_of text)) else None
+path_in (b ∷ text) = if b == 47 then (if length text == 0 then Some [] else names_in (parts_by 47 text)) else None
 
 -- ---- handles
 abbrev pub is_handle_byte : ℕ → Bool

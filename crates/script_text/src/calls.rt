@@ -33,6 +33,8 @@ pub(crate) fn is_known(word: &[u8]) -> bool
         || word == b"fsync".as_slice()
         || word == b"stat".as_slice()
         || word == b"list".as_slice()
+        || word == b"setup".as_slice()
+        || word == b"thread".as_slice()
 }
 
 /// A call with one word behind the first.

@@ -1,7 +1,7 @@
 //! Laws of scripts, for the layer that runs them.
-ghost use Rattle.script_text.specs.Known.{KnownCallsAlone, OneThreadAlone};
+ghost use Rattle.script_text.specs.Known.{KnownCallsAlone};
 ghost use Rattle.script_text.specs.Laws.{LinesAreCut, PathsAreSpelled, ScriptsAreSpelled, ScriptsAreWithinLimits};
-ghost use Rattle.script_text.specs.Written.{CallsAreReadBack};
+ghost use Rattle.script_text.specs.Written.{CallsAreReadBack, ScriptsAreReadBack};
 
 /// The names of a path that a word spells are spelled.
 pub fn paths_are_spelled()
@@ -23,14 +23,18 @@ pub fn calls_are_read_back()
     ensures { CallsAreReadBack }
 {}
 
+/// What scripts are printed as is read as these scripts, where their calls are such as a script can have, within the
+/// limits.
+pub fn scripts_are_read_back()
+    ensures { ScriptsAreReadBack }
+{}
+
 /// The lines of a script, joined by their ends, are its bytes; they are cut at each byte 10.
 pub fn lines_are_cut()
     ensures { LinesAreCut }
 {}
 
-/// The calls of a script are those of the table of known words. Where it has neither heading, there is no
-/// set-up, and one thread at most.
+/// The calls of a script are those of the table of known words.
 pub fn scripts_have_known_words()
-    ensures calls { KnownCallsAlone }
-    ensures headings { OneThreadAlone }
+    ensures { KnownCallsAlone }
 {}

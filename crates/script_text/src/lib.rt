@@ -29,10 +29,10 @@ mod scripts;
 
 pub use faults::ScriptFault;
 pub use laws::{
-    calls_are_read_back, lines_are_cut, paths_are_spelled, scripts_are_spelled,
-    scripts_are_within_limits, scripts_have_known_words,
+    calls_are_read_back, lines_are_cut, paths_are_spelled, scripts_are_read_back,
+    scripts_are_spelled, scripts_are_within_limits, scripts_have_known_words,
 };
-pub use numbers::read_number;
+pub use numbers::{read_number, read_numbers, spells_numbers};
 pub use posix_spec::{
     Call, Item, Mode, Name, Path, Shape, State, Tree, TreeEntry, TreeNode, Who, default_shape,
     root_alone,

@@ -1,11 +1,12 @@
-//! Numbers: decimal digits, and a minus sign before them where a call takes one.
-ghost use Rattle.std.specs.Prelude.{◌≡◌, ◌≤◌, ◌<◌, ◌^◌, length, true, IfSome};
+//! Numbers: decimal digits, and a minus sign before them where a call takes one; and lists of them.
+ghost use Rattle.std.specs.Prelude.{◌≡◌, ◌≤◌, ◌<◌, ◌^◌, length, option_map, true, IfOk, IfSome};
 ghost use Rattle.std.specs.Char.{is_ascii_digit};
 ghost use Rattle.std.specs.List.{list_all};
 ghost use Rattle.std.specs.Str.Parse.{digits_value};
-ghost use Rattle.script_text.specs.Words.{is_number, less, number_in, signed_in};
+ghost use Rattle.script_text.specs.Words.{fits, is_number, less, number_in, numbers_in, signed_in};
 
-use crate::cuts::behind;
+use crate::cuts::{behind, front, length_before};
+use std::alloc::{AllocError, Global};
 
 /// Whether all bytes are decimal digits.
 fn are_digits(word: &[u8]) -> bool
@@ -73,4 +74,49 @@ pub(crate) fn read_signed(word: &[u8]) -> Option<i64>
     }
     let number = read_number(word)?;
     Some(number as i64)
+}
+
+/// Whether a word spells numbers with commas between them, at most so many and none of them higher than one. It takes
+/// no memory.
+pub fn spells_numbers(word: &[u8], most: usize, highest: u64) -> bool
+    ensures { result ≡ fits most highest (numbers_in word.now) }
+{
+    let mut count = 0;
+    let mut rest = word;
+    loop {
+        let end = length_before(rest, b',');
+        let Some(number) = read_number(front(rest, end)) else {
+            return false;
+        };
+        if number > highest {
+            return false;
+        }
+        if count == most {
+            return false;
+        }
+        count += 1;
+        if end == rest.len() {
+            return true;
+        }
+        rest = behind(rest, end + 1);
+    }
+}
+
+/// The numbers that a word spells, if it spells some: one or more, with commas between them.
+pub fn read_numbers(alloc: Global, word: &[u8]) -> Result<Option<Vec<u64>>, AllocError>
+    ensures { IfOk result (λ numbers. option_map (λ all. all.items) numbers ≡ numbers_in word.now) }
+{
+    let mut numbers = Vec::new(alloc);
+    let mut rest = word;
+    loop {
+        let end = length_before(rest, b',');
+        let Some(number) = read_number(front(rest, end)) else {
+            return Ok(None);
+        };
+        numbers.push(number)?;
+        if end == rest.len() {
+            return Ok(Some(numbers));
+        }
+        rest = behind(rest, end + 1);
+    }
 }

@@ -3,7 +3,7 @@ ghost use Rattle.std.specs.Prelude.{◌≡◌, IfOk};
 ghost use Rattle.std.specs.List.{list_all};
 ghost use Rattle.layout_model.specs.Lines.{is_dots, is_name_byte};
 ghost use Rattle.layout_model.specs.Spelling.{is_spelled};
-ghost use Rattle.script_text.specs.Words.{names_in, parts_of, path_in};
+ghost use Rattle.script_text.specs.Words.{names_in, parts_by, path_in};
 
 use crate::cuts::{behind, front, length_before};
 use posix_types::{Name, Path};
@@ -33,7 +33,7 @@ fn is_spelled(name: &[u8]) -> bool
 
 /// The names of a path, from what stands behind its first slash.
 fn read_names(alloc: Global, text: &[u8]) -> Result<Option<Path>, AllocError>
-    ensures { IfOk result (λ path. path ≡ names_in (parts_of text.now)) }
+    ensures { IfOk result (λ path. path ≡ names_in (parts_by 47 text.now)) }
 {
     let mut names = Vec::new(alloc);
     let mut rest = text;

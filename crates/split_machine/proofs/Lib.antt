@@ -1,6 +1,10 @@
-pub mod Scripts
+pub mod Jobs
+pub mod Parted
+pub mod Found
+pub mod Begins
+pub mod Steps
 pub mod Ends
-pub mod Acts
-pub mod Fills
-mod Lines
+pub mod Opened
+pub mod Looks
+pub mod Loop
 pub use Rattle.split_world.proofs.log_replay_proofs.LapImages

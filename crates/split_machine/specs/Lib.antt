@@ -1,3 +1,4 @@
+pub mod Works
 pub mod Events
 pub mod Runs
 pub use Rattle.split_world.specs.log_replay.Laws as MountLaws
@@ -6,6 +7,7 @@ pub use Rattle.split_world.specs.log_replay.Mounts
 pub use Rattle.split_world.specs.log_replay.Resets
 pub use Rattle.split_world.specs.log_replay.Sweeps
 pub use Rattle.split_world.specs.log_replay.k_check as k_check
+pub use Rattle.course_laws.specs as course_laws
 pub use Rattle.run_laws.specs as run_laws
 pub use Rattle.run_laws.specs.world_view_laws as world_view_laws
 pub use Rattle.run_laws.specs.world_view_laws.file_calls.Built

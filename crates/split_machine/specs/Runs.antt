@@ -1,83 +1,112 @@
--- What a run of the scripts of a World is.
-use Rattle.std.specs.Prelude.{◌≡◌, ◌<◌, ◌≤◌, ◌+◌, ◌*◌, ◌^◌, ℕ, Bool, true, false, List, [], length, None, Some, IsSome}
-use Rattle.run_laws.specs.pm_model.declared.Cell.{Cell}
-use Rattle.run_laws.specs.pm_model.Cells.{AllHome}
-use Rattle.run_laws.specs.pm_model.Powers.{is_on, Supply}
-use Rattle.posix_types.specs.declared.call.Who.{Who}
-use Rattle.posix_types.specs.declared.item.Item.{Item}
-use Rattle.run_laws.specs.posix_spec.Afforded.{Afforded}
-use Rattle.run_laws.specs.posix_spec.Run.{Unfinished, IsLegal}
-use Rattle.run_laws.specs.posix_spec.Scripted.{IsComplete, Scripted}
-use Rattle.run_laws.specs.posix_spec.Unfinished.{AreUnfinished}
-use Rattle.run_laws.specs.world_image_laws.Promised.{KeepsPromise}
-use Rattle.run_laws.specs.world_view_laws.Views.{next_of, WorldView}
+-- How a run goes, and how it ends.
+use Rattle.std.specs.Prelude.{◌≡◌, ◌≢◌, ◌+◌, ◌^◌, ℕ, true, false, [], Option, Some, None, IsSome, Ok}
+use Rattle.crash_spec.specs.Orders.{Order}
+use Rattle.schedule.specs.declared.picks.Picker.{Picker}
+use Rattle.run_laws.specs.pm_model.Powers.{is_on, Steps, Supply}
+use Rattle.run_laws.specs.posix_spec.Scripted.{IsComplete}
+use Rattle.run_laws.specs.world_view_laws.Rounds.{IsLeft, MayUnmount}
+use Rattle.run_laws.specs.world_view_laws.Views.{calls_out, WorldView}
+use Rattle.event_laws.specs.Between.{Between, CanCrash, IsLater, lines_in}
+use Rattle.event_laws.specs.Held.{OutView}
+use Rattle.event_laws.specs.Paid.{IsPaid, IsPaidOff}
+use Rattle.course_laws.specs.Course.{setting_of}
+use Rattle.course_laws.specs.Runs.{AreLeft, IsBelow, IsLostRun, IsWholeRun}
+use Rattle.split_machine.specs.declared.outstanding.Acted.{Acted}
+use Rattle.split_machine.specs.declared.runs.End.{End}
+use Rattle.split_machine.specs.Events.{IsOnCourse}
+use Rattle.split_world.specs.world_parts.Answers.{IsEnded}
 use Rattle.split_world.specs.world_parts.declared.outcomes.Ended.{Ended}
-use Rattle.run_laws.specs.Changes.{ChangesAtMost}
-use Rattle.run_laws.specs.Events.{CanAct, IsCutOff, IsLater, OutView}
-use Rattle.run_laws.specs.Paid.{IsPaid, IsPaidOff}
 
--- The World as it was mounted: nothing has begun. Its scripts have one thread at most.
-pub record IsFirst (w : WorldView) : Type 0 where
-  pub history : w.history ≡ []
-  pub claims : w.claims ≡ []
-  pub pending : w.pending ≡ []
-  pub unfinished : w.unfinished ≡ []
-  pub over : w.over ≡ None
-  pub given_up : w.given_up ≡ 0
-  pub settled : w.settled ≡ 0
-  pub acts : w.acts ≡ 0
-  pub lines : w.lines_out ≡ false
-  pub on : w.lost ≡ false
-  pub usable : w.usable ≡ true
-  pub log : 1 ≤ w.geometry.log
-  pub few : w.geometry.log < 2 ^ 32
-  pub one : length w.scripts.threads ≤ 1
+-- so many events are left until the cut
+abbrev pub IsUntil : Option ℕ → Option ℕ → ℕ → Type 0
+IsUntil None None events = Unit {0}
+IsUntil None (Some left) events = ⊥
+IsUntil (Some cut) None events = ⊥
+IsUntil (Some cut) (Some left) events = cut ≡ events + left
 
--- ---- the calls of one caller
+-- with one event less
+abbrev pub IsOneLess : Option ℕ → Option ℕ → Type 0
+IsOneLess None less = less ≡ None
+IsOneLess (Some left) less = (n : ℕ) × (less ≡ Some n) × (left ≡ n + 1)
 
--- All of them returned, and the log is out; or the power went.
-abbrev pub IsScriptRun : Who → WorldView → WorldView → OutView → Supply → Supply → Bool → Type 0
-IsScriptRun who old new left before after true =
-    IsLater who old new × CanAct who new left × IsSome left.log × (next_of new who ≡ None) × (is_on after ≡ true)
-    × ((first : Supply) → IsPaid who first before old → IsPaid who first after new)
-IsScriptRun who old new left before after false =
-    IsLater who old new × IsCutOff new left after × ((first : Supply) → IsPaid who first before old → IsPaidOff who first after new)
+-- behind a step: the end of a round for want of space is no event
+abbrev pub IsLeftAfter : Option ℕ → Acted → Option ℕ → Type 0
+IsLeftAfter left Acted.Event less = IsOneLess left less
+IsLeftAfter left Acted.RoundOver less = less ≡ left
+IsLeftAfter left Acted.PowerLost less = less ≡ left
 
--- ---- both scripts
+-- ---- what the events of a run leave
 
--- All calls returned, and the log is out; or the power went, in a call of some caller.
-abbrev pub HasEnded : WorldView → OutView → Supply → Supply → Bool → Type 0
-HasEnded w left before after true =
-    CanAct (Who.Thread 0) w left × IsSome left.log × IsComplete w.scripts w.history × (is_on after ≡ true) × IsPaid (Who.Thread 0) before after w
-HasEnded w left before after false = IsCutOff w left after × ((who : Who) × IsPaidOff who before after w)
+-- A moment of a run, between two events: where a job is out the power is on; and what was done is paid for.
+pub record IsReached (first : WorldView) (w : WorldView) (out : OutView) (before now : Supply) : Type 0 where
+  pub later : IsLater first w
+  pub between : Between w out
+  pub on : out.jobs ≢ [] → is_on now ≡ true
+  pub paid : IsPaid before now w out.jobs
 
--- WHAT BOTH SCRIPTS LEAVE: the same scripts on the same start, and how they ended.
-pub record HasRun (old new : WorldView) (left : OutView) (before after : Supply) (all : Bool) : Type 0 where
-  pub geometry : new.geometry ≡ old.geometry
-  pub start : new.start ≡ old.start
-  pub scripts : new.scripts ≡ old.scripts
-  pub usable : new.usable ≡ true
-  pub ended : HasEnded new left before after all
+-- so many events led to it, and fewer are left until the cut
+pub record IsLed (first : WorldView) (order : Order) (cut left : Option ℕ) (w : WorldView) (out : OutView) (picker : Picker) : Type 0 where
+  pub events : ℕ
+  pub course : IsOnCourse first order events w out picker
+  pub until : IsUntil cut left events
 
--- ---- the run
+-- all calls returned, with fewer events than the cut's
+pub record HasAll (first : WorldView) (order : Order) (cut : Option ℕ) (w : WorldView) (out : OutView) (before now : Supply) : Type 0 where
+  pub events : ℕ
+  pub picker : Picker
+  pub course : IsOnCourse first order events w out picker
+  pub below : IsBelow events cut
 
--- WHAT A RUN LEFT: its history is legal and follows the scripts; one call at most is unfinished, and it is a next call; nothing of the
--- device is lent, and it keeps the promise. It took steps that are afforded; and where the power was for a number of steps, at most so
--- many calls changed the names.
-pub record IsRan (w : WorldView) (before after : Supply) (pm : List Cell) (history : List Item) (unfinished : List Unfinished) : Type 0 where
-  pub legal : IsLegal w.start history
-  pub scripted : Scripted w.scripts history
-  pub open_calls : AreUnfinished w.scripts history unfinished
-  pub one : length unfinished ≤ 1
-  pub size : length pm ≡ 512 * w.geometry.blocks
-  pub home : AllHome pm
-  pub promise : KeepsPromise w.geometry pm w.start history unfinished
-  pub given : after.given ≡ before.given
-  pub later : before.taken ≤ after.taken
-  pub afforded : (steps : ℕ) → after.taken ≡ before.taken + steps → Afforded steps history w.scripts w.start.mode
-  pub kept : (given : ℕ) → before.given ≡ Some given → ChangesAtMost w.start history given
+-- exactly so many events as the cut's
+pub record IsCutAt (first : WorldView) (order : Order) (cut : Option ℕ) (w : WorldView) (out : OutView) (before now : Supply) : Type 0 where
+  pub events : ℕ
+  pub picker : Picker
+  pub course : IsOnCourse first order events w out picker
+  pub cut_is : cut ≡ Some events
+
+-- the power went in the next event, behind fewer than the cut's: nothing returned since, and one call more may have begun
+pub record HasLost (first : WorldView) (order : Order) (cut : Option ℕ) (w : WorldView) (out : OutView) (before now : Supply) : Type 0 where
+  pub was : WorldView
+  pub out_was : OutView
+  pub events : ℕ
+  pub picker : Picker
+  pub between : Between was out_was
+  pub course : IsOnCourse first order events was out_was picker
+  pub below : IsBelow events cut
+  pub history : w.history ≡ was.history
+  pub left : AreLeft (setting_of first) order course.course (calls_out w)
+
+-- how it came, in this order
+abbrev pub HasCome : WorldView → Order → Option ℕ → WorldView → OutView → Supply → Supply → End → Type 0
+HasCome first order cut w out before now End.All = HasAll first order cut w out before now
+HasCome first order cut w out before now End.Cut = IsCutAt first order cut w out before now
+HasCome first order cut w out before now End.PowerLost = HasLost first order cut w out before now
+
+-- WHERE THE EVENTS OF A RUN END, whatever the order was: all calls returned; the cut is reached; or the power went.
+abbrev pub IsAtEnd : WorldView → WorldView → OutView → Supply → Supply → End → Type 0
+IsAtEnd first w out before now End.All = IsReached first w out before now × IsSome out.log × IsComplete w.scripts w.history
+IsAtEnd first w out before now End.Cut = IsReached first w out before now
+IsAtEnd first w out before now End.PowerLost = IsLater first w × CanCrash w out × (is_on now ≡ false) × IsPaidOff before now w
+
+-- ---- the end
+
+-- what the end asks for
+abbrev pub CanEnd : WorldView → OutView → End → Type 0
+CanEnd w out End.All = (w.usable ≡ true) × MayUnmount w (lines_in out.log)
+CanEnd w out End.Cut = CanCrash w out
+CanEnd w out End.PowerLost = CanCrash w out
+
+-- a crash leaves this
+abbrev pub IsCrashed : WorldView → Supply → Supply → Ended → Type 0
+IsCrashed w before after (Ended.Whole pm history) = ⊥
+IsCrashed w before after (Ended.Lost crashed) = IsLeft w crashed.pm crashed.history.items crashed.unfinished.items × (after ≡ before)
+
+abbrev pub IsEndedBy : WorldView → Supply → Supply → End → Ended → Type 0
+IsEndedBy w before after End.All ended = Steps (2 ^ 26) before after × IsEnded w after (Ok ended)
+IsEndedBy w before after End.Cut ended = IsCrashed w before after ended
+IsEndedBy w before after End.PowerLost ended = IsCrashed w before after ended
 
 -- HOW A RUN ENDS: with all calls, and the power on; or by a power loss.
-abbrev pub IsRunEnded : WorldView → Supply → Supply → Ended → Type 0
-IsRunEnded w before after (Ended.Whole pm history) = IsRan w before after pm history.items [] × IsComplete w.scripts history.items × (is_on after ≡ true)
-IsRunEnded w before after (Ended.Lost crashed) = IsRan w before after crashed.pm crashed.history.items crashed.unfinished.items × (is_on after ≡ false)
+abbrev pub IsRunEnded : WorldView → Order → Option ℕ → Supply → Supply → Ended → Type 0
+IsRunEnded w order cut before after (Ended.Whole pm history) = IsWholeRun w order cut before after pm history.items
+IsRunEnded w order cut before after (Ended.Lost crashed) = IsLostRun w order cut before after crashed.pm crashed.history.items crashed.unfinished.items

@@ -1,112 +1,141 @@
 //! A run of the scripts.
-ghost use Rattle.std.specs.Prelude.{◌≡◌, IfOk, None, true};
-ghost use Rattle.run_laws.specs.Events.{CanAct, lines_in, listed, only_log};
-ghost use Rattle.run_laws.specs.world_view_laws.Losses.{MayCrash};
-ghost use Rattle.run_laws.specs.world_view_laws.Rounds.{IsLeft};
-ghost use Rattle.split_machine.specs.Runs.{HasRun, IsFirst, IsRunEnded, IsScriptRun};
+ghost use Rattle.std.specs.Prelude.{◌≡◌, ◌≢◌, IfOk, Some, false, true};
+ghost use Rattle.crash_spec.specs.Orders.{none_picked, Order as MeantOrder};
+ghost use Rattle.schedule.specs.Picking.{IsSoFar};
+ghost use Rattle.schedule.specs.Seen.{seen_order};
+ghost use Rattle.course_laws.specs.Runs.{IsFirst};
+ghost use Rattle.event_laws.specs.Between.{CanCrash};
+ghost use Rattle.event_laws.specs.Held as holding;
+ghost use Rattle.split_machine.specs.declared.outstanding.Acted as done;
+ghost use Rattle.split_machine.specs.Events.{seen};
+ghost use Rattle.split_machine.specs.Runs.{CanEnd, HasCome, IsAtEnd, IsCrashed, IsEndedBy, IsLeftAfter, IsRunEnded};
 
-use crate::events::{Acted, Out, act, nothing_out};
-use crate::laws;
-use pm_lines::{Line, Power};
-use posix_types::Who;
-use run_laws::{FilledJob, Job, NoMemory, RoundLog};
-use split_world::{Crashed, Ended, World};
+use crate::outstanding::{Acted, Out, lines_of, parted};
+use crate::picks::step;
+use crate::rounds::open_round;
+use pm_lines::Power;
+use run_laws::NoMemory;
+use schedule::{Order, Picker};
+use split_world::{Ended, World};
 use std::alloc::Global;
 
-// Runs the calls of one caller, until all have returned. Answers whether the power lasted.
-fn run_script(
-    world: &mut World,
-    alloc: Global,
-    out: &mut Out,
-    who: Who,
-    power: &mut Power,
-) -> Result<bool, NoMemory>
-    requires { CanAct who world.old out.old }
-    ensures { IfOk result (IsScriptRun who world.old world.new out.new power.old power.new) }
+/// How the events of a run end: all calls have returned; the cut is reached; or the power went.
+#[derive(Clone, Copy, Debug, PartialEq, Eq)]
+pub(crate) enum End {
+    All,
+    Cut,
+    PowerLost,
+}
+
+// Whether no event is left until a cut.
+fn is_cut(left: Option<u64>) -> bool
+    ensures cut { result ≡ true → left ≡ Some 0 }
+    ensures more { result ≡ false → left ≢ Some 0 }
 {
-    'turns: loop {
-        match act(world, alloc, out, who, power)? {
-            Acted::On => {}
-            Acted::ScriptEnd => return Ok(true),
-            Acted::PowerLost => return Ok(false),
-        }
+    match left {
+        Some(left) => left == 0,
+        None => false,
     }
 }
 
-// Runs the calls of the set-up, and then those of the one thread. Answers whether the power lasted.
-fn run_scripts(
+// How many events are left until a cut behind a step: one less behind an event.
+fn left_after(left: Option<u64>, acted: Acted) -> Option<u64>
+    requires { left ≢ Some 0 }
+    ensures { IsLeftAfter left acted result }
+{
+    match (left, acted) {
+        (Some(left), Acted::Event) => Some(left - 1),
+        (left, _) => left,
+    }
+}
+
+// Whether the power went.
+fn has_lost(acted: Acted) -> bool
+    ensures yes { result ≡ true → acted ≡ done.Acted.PowerLost }
+    ensures no { result ≡ false → acted ≢ done.Acted.PowerLost }
+{
+    match acted {
+        Acted::PowerLost => true,
+        Acted::Event | Acted::RoundOver => false,
+    }
+}
+
+// The events of a run, one after another, up to its cut.
+fn run_events(
     world: &mut World,
     alloc: Global,
     out: &mut Out,
+    picker: &mut Picker,
+    cut: Option<u64>,
     power: &mut Power,
-) -> Result<bool, NoMemory>
+) -> Result<End, NoMemory>
     requires first { IsFirst world.old }
-    requires none { out.old ≡ only_log None }
-    ensures { IfOk result (HasRun world.old world.new out.new power.old power.new) }
+    requires none { seen out.old ≡ holding.nothing_out }
+    ensures ends { IfOk result (IsAtEnd world.old world.new (seen out.new) power.old power.new) }
+    ensures comes { (order : MeantOrder) → IsSoFar picker.old order none_picked
+        → IfOk result (HasCome world.old order cut world.new (seen out.new) power.old power.new) }
 {
-    if !run_script(world, alloc, out, Who::Setup, power)? {
-        return Ok(false);
+    let mut left = cut;
+    'events: loop {
+        if is_cut(left) {
+            return Ok(End::Cut);
+        }
+        open_round(world, alloc, out)?;
+        let Some(acted) = step(world, alloc, out, picker, power)? else {
+            return Ok(End::All);
+        };
+        if has_lost(acted) {
+            return Ok(End::PowerLost);
+        }
+        left = left_after(left, acted);
     }
-    run_script(world, alloc, out, Who::Thread(0), power)
-}
-
-// The lines that are out, if a round goes on.
-fn lines_of(alloc: Global, log: Option<RoundLog>) -> Vec<Line>
-    ensures { result.items ≡ lines_in log }
-{
-    match log {
-        Some(log) => log.close(),
-        None => Vec::new(alloc),
-    }
-}
-
-// The job that is out, if one is.
-fn jobs_of(alloc: Global, job: Option<Job>) -> Result<Vec<Job>, NoMemory>
-    ensures { IfOk result (λ jobs. jobs.items ≡ listed job) }
-{
-    let mut jobs = Vec::with_capacity(alloc, 1)?;
-    if let Some(job) = job {
-        jobs.push_reserved(job);
-    }
-    Ok(jobs)
-}
-
-// The filled job that is out, if one is.
-fn filled_of(alloc: Global, job: Option<FilledJob>) -> Result<Vec<FilledJob>, NoMemory>
-    ensures { IfOk result (λ jobs. jobs.items ≡ listed job) }
-{
-    let mut jobs = Vec::with_capacity(alloc, 1)?;
-    if let Some(job) = job {
-        jobs.push_reserved(job);
-    }
-    Ok(jobs)
 }
 
 // What a power loss leaves of a World with what is out of it.
-fn crash(alloc: Global, world: World, out: Out) -> Result<Crashed, NoMemory>
-    requires usable { world.usable ≡ true }
-    requires may { MayCrash world (lines_in out.log) (listed out.job) (listed out.filled) }
-    ensures { IfOk result (λ left. IsLeft world left.pm left.history.items left.unfinished.items) }
+fn crash(alloc: Global, world: World, out: Out, power: &Power) -> Result<Ended, NoMemory>
+    requires { CanCrash world (seen out) }
+    ensures { IfOk result (IsCrashed world power.now power.now) }
 {
-    let jobs = jobs_of(alloc, out.job)?;
-    let filled = filled_of(alloc, out.filled)?;
-    Ok(world.crash(lines_of(alloc, out.log), jobs, filled))
+    let _power = power;
+    let (jobs, filled) = parted(alloc, out.jobs)?;
+    Ok(Ended::Lost(world.crash(lines_of(alloc, out.log), jobs, filled)))
 }
 
-/// Runs the scripts of a World that was just mounted: the set-up, and then the one thread. Out of memory drops the
-/// World; no file of the operating system is touched.
-pub fn run(alloc: Global, world: World, power: &mut Power) -> Result<Ended, NoMemory>
-    requires { IsFirst world }
-    ensures { IfOk result (IsRunEnded world power.old power.new) }
+// The end of a run: an unmount, or a power loss.
+fn end_run(
+    alloc: Global,
+    world: World,
+    out: Out,
+    end: End,
+    power: &mut Power,
+) -> Result<Ended, NoMemory>
+    requires { CanEnd world (seen out) end }
+    ensures { IfOk result (IsEndedBy world power.old power.new end) }
 {
-    laws::a_round_ends();
-    laws::a_run_is_paid();
-    let mut world = world;
-    let mut out = nothing_out();
-    let lasted = run_scripts(&mut world, alloc, &mut out, power)?;
-    let _acts = world.acts();
-    if !lasted {
-        return Ok(Ended::Lost(crash(alloc, world, out)?));
+    match end {
+        End::All => world.unmount(alloc, lines_of(alloc, out.log), power),
+        End::Cut | End::PowerLost => crash(alloc, world, out, power),
     }
-    world.unmount(alloc, lines_of(alloc, out.log), power)
+}
+
+/// Runs the scripts of a World that was just mounted, event by event: those of the set-up, and then those of the
+/// threads, in an order. With a cut the power is lost behind so many events, before the unmount. Out of memory drops
+/// the World; no file of the operating system is touched.
+pub fn run(
+    alloc: Global,
+    world: World,
+    order: Order,
+    cut: Option<u64>,
+    power: &mut Power,
+) -> Result<Ended, NoMemory>
+    requires { IsFirst world }
+    ensures { IfOk result (IsRunEnded world (seen_order order) cut power.old power.new) }
+{
+    let mut world = world;
+    let jobs = Vec::with_capacity(alloc, 9)?;
+    let mut out = Out { log: None, jobs };
+    let mut picker = Picker::new(order);
+    let end = run_events(&mut world, alloc, &mut out, &mut picker, cut, power)?;
+    let _acts = world.acts();
+    end_run(alloc, world, out, end, power)
 }

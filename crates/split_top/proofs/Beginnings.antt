@@ -1,5 +1,5 @@
 -- The World of an image that was mounted begins as the run of the scripts does.
-use Rattle.std.proofs.Common.{◌≡◌, ◌<◌, ◌≤◌, ◌^◌, ℕ, List, length, sym, ◌∙◌, ap, subst, arith}
+use Rattle.std.proofs.Common.{◌≡◌, ◌<◌, ◌≤◌, ◌^◌, ℕ, List, length, refl, sym, ◌∙◌, ap, subst, arith}
 use Rattle.std.proofs.lemmas.Bool.{and_parts}
 use Rattle.std.proofs.lemmas.Bool.Decides.{nat_tests}
 use Rattle.std.specs.Prelude.{true}
@@ -13,10 +13,10 @@ use Rattle.split_machine.specs.image_model.Rules.{geometry_of}
 use Rattle.posix_types.specs.declared.call.Mode.{Mode}
 use Rattle.posix_types.specs.Scripts.{Scripts}
 use Rattle.split_machine.specs.world_image_laws.BeginningLaws.{IsShapeOf}
-use Rattle.split_machine.specs.world_view_laws.Starts.{BeginsMounted}
+use Rattle.split_machine.specs.world_view_laws.Starts.{AreInLimits, BeginsMounted}
 use Rattle.split_machine.specs.world_view_laws.Views.{WorldView}
 use Rattle.split_top.specs.Devices.{CanMount}
-use Rattle.split_top.specs.Worlds.{AreRunnable, BeginsOn}
+use Rattle.split_top.specs.Worlds.{BeginsOn}
 
 -- the log of a checked image has lines, and few
 has_lines : (g : Geometry) → is_in_range g ≡ true → 1 ≤ g.log
@@ -25,7 +25,7 @@ has_lines g within = grind (arith, nat_tests)
 has_few_lines : (g : Geometry) → is_in_range g ≡ true → g.log < 2 ^ 32
 has_few_lines g within = grind (arith, nat_tests)
 
-module _ (g : Geometry) (d : List Cell) (mounts : CanMount g d) (scripts : Scripts) (w : WorldView) (mode : Mode) (strict : mode ≡ Mode.Strict) (runnable : AreRunnable scripts) (begins : BeginsMounted (geometry_of (words_of d)) (words_of d) mode scripts w) where
+module _ (g : Geometry) (d : List Cell) (mounts : CanMount g d) (scripts : Scripts) (w : WorldView) (mode : Mode) (strict : mode ≡ Mode.Strict) (limits : AreInLimits scripts) (begins : BeginsMounted (geometry_of (words_of d)) (words_of d) mode scripts w) where
   scripts_are : w.scripts ≡ scripts
   scripts_are = ap (λ (v : WorldView). v.scripts) begins.world_is
 
@@ -51,14 +51,15 @@ module _ (g : Geometry) (d : List Cell) (mounts : CanMount g d) (scripts : Scrip
         given_up = ap (λ (v : WorldView). v.given_up) begins.world_is;
         settled = ap (λ (v : WorldView). v.settled) begins.world_is;
         acts = ap (λ (v : WorldView). v.acts) begins.world_is;
-        lines = ap (λ (v : WorldView). v.lines_out) begins.world_is;
+        lines_out = ap (λ (v : WorldView). v.lines_out) begins.world_is;
         usable = ap (λ (v : WorldView). v.usable) begins.world_is;
-        log = has_lines w.geometry in_range;
+        lines = has_lines w.geometry in_range;
         few = has_few_lines w.geometry in_range;
         on = ap (λ (v : WorldView). v.lost) begins.world_is;
-        one = subst (λ (s : Scripts). length s.threads ≤ 1) (sym scripts_are) runnable.one;
+        threads = omega (arith, limits.threads, ap (λ (s : Scripts). length s.threads) scripts_are);
       };
       geometry = ap (λ (v : WorldView). v.geometry) begins.world_is ∙ mounts.numbers;
+      lines = refl;
       start = ap (λ (v : WorldView). v.start) begins.world_is;
       scripts_are = scripts_are;
       strict = strict;

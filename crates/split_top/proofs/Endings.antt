@@ -1,6 +1,6 @@
 -- A run as a whole: what the machine says of it, and what was found on the device.
 use Rattle.std.proofs.Common.{◌≡◌, ◌≢◌, ◌⊎◌, ◌≤◌, ℕ, false, List, [], refl, sym, ◌∙◌, ap, subst, arith, inl, inr, Option, Some, None}
-use Rattle.std.specs.Prelude.{nat_lt}
+use Rattle.std.specs.Prelude.{nat_lt, ◌++◌, ◌∷◌, IsSome}
 use Rattle.std.proofs.lemmas.Bool.{true≢false, ltb-false}
 use Rattle.command_line.specs.pm_model.declared.Cell.{Cell}
 use Rattle.command_line.specs.pm_model.Powers.{is_left, is_on, Supply}
@@ -18,10 +18,13 @@ use Rattle.command_line.specs.posix_spec.Scripted.{IsComplete, Scripted}
 use Rattle.command_line.specs.posix_spec.State.{State}
 use Rattle.command_line.specs.posix_spec.Unfinished.{AreUnfinished}
 use Rattle.split_machine.specs.run_laws.Changes.{ChangesAtMost}
-use Rattle.split_machine.specs.Runs.{IsRan}
+use Rattle.split_machine.specs.course_laws.Course.{setting_of}
+use Rattle.split_machine.specs.course_laws.CourseLaws.{LeadsReaches}
+use Rattle.split_machine.specs.course_laws.Runs as machine
+use Rattle.split_machine.specs.crash_spec.Schedules.{Reaches, Scheduled}
 use Rattle.split_machine.specs.world_view_laws.Views.{WorldView}
 use Rattle.split_machine.specs.world_image_laws.Starts.{has_setting}
-use Rattle.split_top.specs.Runs.{beginning, IsRun, IsStopped, IsWhole, Task}
+use Rattle.split_top.specs.Runs.{AreWithin, beginning, HasBegun, IsCut, IsRun, IsScheduled, IsStopped, IsWhole, setting, Task}
 use Rattle.split_top.specs.Worlds.{IsWorldOn}
 
 -- a power that went had no more steps than were taken
@@ -40,7 +43,20 @@ never_off before after start same off =
     let given : after.given ≡ None = same ∙ ap (λ p. p.given) start in
     true≢false (ap (λ g. is_left g after.taken) (sym given) ∙ off)
 
-module _ (g : Geometry) (task : Task) (options : Options) (w : WorldView) (before after : Supply) (pm : List Cell) (history : List Item) (unfinished : List Unfinished) (left : List TreeEntry) (on : IsWorldOn g task w) (power : before ≡ record { given = options.stop; taken = 0 }) (ran : IsRan w before after pm history unfinished) (permits : Permitted w.start.mode w.start history unfinished left) where
+-- fewer events than a cut are not more
+within_cut : (events : ℕ) (cut : Option ℕ) → machine.IsBelow events cut → AreWithin events cut
+within_cut events None below = tt
+within_cut events (Some most) below = omega (arith, below)
+
+just_cut : (events : ℕ) (cut : Option ℕ) → cut ≡ Some events → AreWithin events cut
+just_cut events cut is = subst (λ (c : Option ℕ). AreWithin events c) (sym is) (omega arith)
+
+-- a power that went was for a number of steps
+has_stop : (stop : Option ℕ) (before after : Supply) → before ≡ record { given = stop; taken = 0 } → after.given ≡ before.given → is_on after ≡ false → IsSome stop
+has_stop None before after start same off = absurd (never_off before after start same off)
+has_stop (Some steps) before after start same off = refl
+
+module _ (g : Geometry) (task : Task) (options : Options) (w : WorldView) (before after : Supply) (pm : List Cell) (history : List Item) (unfinished : List Unfinished) (left : List TreeEntry) (on : IsWorldOn g task w) (power : before ≡ record { given = options.stop; taken = 0 }) (all : LeadsReaches) (ran : machine.IsRan w before after pm history unfinished) (permits : Permitted w.start.mode w.start history unfinished left) where
   legal : IsLegal (beginning task) history
   legal = subst (λ s. IsLegal s history) on.start ran.legal
 
@@ -67,23 +83,62 @@ module _ (g : Geometry) (task : Task) (options : Options) (w : WorldView) (befor
       subst (λ (m : Mode). Afforded after.taken history task.scripts m) (ap (λ (s : State). s.mode) on.start ∙ same_mode)
       (subst (λ (s : Scripts). Afforded after.taken history s w.start.mode) on.scripts_are (ran.afforded after.taken (omega (arith, ap (λ (p : Supply). p.taken) power))))
 
-  ended_so : IsWhole task history left ⊎ IsStopped task options history → IsRun task options history unfinished left
-  ended_so ended = record { legal = legal; scripted = scripted; open_calls = open_calls; permitted = permitted; ended = ended; kept = kept }
+  -- ---- its events
+  same_setting : setting_of w ≡ setting task
+  same_setting = λ i. record { start = on.start i; scripts = on.scripts_are i; lines = (ap (λ (h : Geometry). h.log) on.geometry ∙ sym on.lines) i }
+
+  abbrev scheduled : (events : ℕ) (calls : List Unfinished) → machine.IsScheduled w options.order events history calls → Scheduled (setting task) options.order events history calls
+  scheduled events calls is = record {
+    course = is.course;
+    reached = subst (λ s. Reaches s options.order events is.course) same_setting (all options.order w is.last events is.out is.course is.leads);
+    history_is = is.history_is;
+    unfinished_is = is.calls_are;
+  }
+
+  -- the calls that are out, or one more that began
+  left_so : (off : machine.IsPowerOff w options.order options.cut after history unfinished) → (unfinished ≡ off.calls) ⊎ HasBegun task options off.scheduled.course unfinished
+  left_so off = elim off.left [
+    | inl same ↦ inl (same ∙ sym off.scheduled.calls_are)
+    | inr begun ↦ inr (record {
+      stops = has_stop options.stop before after power ran.given off.off;
+      begun = subst (λ s. machine.IsBegun s options.order off.scheduled.course unfinished) same_setting begun;
+    })
+  ]
+
+  ended_so : (course : IsScheduled task options history unfinished) → IsWhole task history unfinished left ⊎ (IsStopped task options history ⊎ IsCut options course.events course.calls unfinished) → IsRun task options history unfinished left
+  ended_so course ended = record { legal = legal; scripted = scripted; open_calls = open_calls; permitted = permitted; course = course; ended = ended; kept = kept }
 
   -- all calls returned
-  pub ran_whole : IsComplete w.scripts history → unfinished ≡ [] → IsRun task options history unfinished left
-  ran_whole complete none = ended_so (inl (record {
-    complete = subst (λ s. IsComplete s history) on.scripts_are complete;
-    tree = subst (λ calls. Strict (beginning task) history calls left) none (subst (λ (m : Mode). Permitted m (beginning task) history unfinished left) on.strict permitted);
-  }))
+  pub ran_whole : IsComplete w.scripts history → unfinished ≡ [] → (events : ℕ) → machine.IsBelow events options.cut → machine.IsScheduled w options.order events history [] → IsRun task options history unfinished left
+  ran_whole complete none events below is =
+      ended_so (record { events = events; calls = []; scheduled = scheduled events [] is; within = within_cut events options.cut below; are_left = inl none }) (inl (record {
+        complete = subst (λ s. IsComplete s history) on.scripts_are complete;
+        none_left = none;
+        tree = subst (λ calls. Strict (beginning task) history calls left) none (subst (λ (m : Mode). Permitted m (beginning task) history unfinished left) on.strict permitted);
+      }))
 
   -- the power went
-  pub ran_lost : is_on after ≡ false → IsRun task options history unfinished left
-  ran_lost off = by options.stop refl where
-    by : (stop : Option ℕ) → options.stop ≡ stop → IsRun task options history unfinished left
+  stopped : is_on after ≡ false → IsStopped task options history
+  stopped off = by options.stop refl where
+    by : (stop : Option ℕ) → options.stop ≡ stop → IsStopped task options history
     by None always = absurd (never_off before after (power ∙ ap (λ given. record { given = given; taken = 0 }) always) ran.given off)
-    by (Some steps) some = ended_so (inr (record {
+    by (Some steps) some = record {
       steps = steps;
       given = some;
       afforded = fewer steps after.taken history task.scripts task.mode (spent steps before after (power ∙ ap (λ given. record { given = given; taken = 0 }) some) ran.given off) afforded;
-    }))
+    }
+
+  ran_off : machine.IsPowerOff w options.order options.cut after history unfinished → IsRun task options history unfinished left
+  ran_off off =
+      ended_so (record { events = off.events; calls = off.calls; scheduled = scheduled off.events off.calls off.scheduled; within = within_cut off.events options.cut off.below; are_left = left_so off })
+      (inr (inl (stopped off.off)))
+
+  -- it was cut
+  ran_cut : machine.IsCut w options.order options.cut history unfinished → IsRun task options history unfinished left
+  ran_cut cut =
+      ended_so (record { events = cut.events; calls = unfinished; scheduled = scheduled cut.events unfinished cut.scheduled; within = just_cut cut.events options.cut cut.cut_is; are_left = inl refl })
+      (inr (inr (record { cut_is = cut.cut_is; none_began = refl })))
+
+  pub ran_lost : machine.IsPowerOff w options.order options.cut after history unfinished ⊎ machine.IsCut w options.order options.cut history unfinished → IsRun task options history unfinished left
+  ran_lost (inl off) = ran_off off
+  ran_lost (inr cut) = ran_cut cut

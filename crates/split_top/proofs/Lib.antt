@@ -1,12 +1,15 @@
 pub mod Answered
 pub mod Beginnings
+pub mod DeviceImages
 pub mod Endings
 pub mod Left
+pub mod Loads
 pub mod Lengths
 pub mod Mounted
 pub mod Opened
 pub mod Remounts
 pub mod Results
+pub mod RunEnds
 pub mod Runnable
 pub mod Shown
 pub mod Stepped

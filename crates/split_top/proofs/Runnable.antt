@@ -1,19 +1,17 @@
--- The scripts of a text without a bad line can be run: the paths of each call are spelled, no line begins a set-up or a thread, and
--- the limits are kept.
+-- The scripts of a text without a bad line can be run: the paths of each call are spelled, and the limits are kept.
 use Rattle.std.proofs.Common.{◌≡◌, ℕ, zero, suc, List, [], ◌∷◌, Some, None, subst}
-use Rattle.std.specs.Prelude.{refl, slice_get, slice_index_or}
+use Rattle.std.specs.Prelude.{slice_get, slice_index_or}
 use Rattle.std.specs.List.{All, AllByRecursion}
 use Rattle.std.proofs.lemmas.List.Elements.{recursion_from_All}
 use Rattle.posix_types.specs.declared.call.Call.{Call}
 use Rattle.posix_types.specs.declared.call.Who.{Who}
 use Rattle.posix_types.specs.Scripts.{Scripts}
 use Rattle.command_line.specs.posix_spec.Scripted.{script_of}
-use Rattle.command_line.specs.script_text.Known.{OneThreadAlone}
 use Rattle.command_line.specs.script_text.Laws.{ScriptsAreSpelled, ScriptsAreWithinLimits}
 use Rattle.command_line.specs.script_text.Scripts.{bad_line, scripts_of}
 use Rattle.command_line.specs.script_text.Spelled as text
 use Rattle.split_machine.specs.Built.{NamesAreSpelled}
-use Rattle.split_top.specs.Worlds.{AreRunnable}
+use Rattle.split_machine.specs.world_view_laws.Starts.{AreInLimits}
 
 -- ---- lists
 at : {A : Type 0} (P : A → Type 0) (xs : List A) (i : ℕ) (x : A) → AllByRecursion P xs → slice_get xs i ≡ Some x → P x
@@ -51,14 +49,11 @@ calls-spelled scripts h Who.Setup = recursion_from_All text.IsSpelledCall script
 calls-spelled scripts h (Who.Thread n) = each_of text.IsSpelledCall scripts.threads n (recursion_from_All (λ calls. All text.IsSpelledCall calls) scripts.threads h.threads)
 
 -- THE SCRIPTS OF A TEXT without a bad line can be run.
-pub scripts_are_runnable : ScriptsAreSpelled → ScriptsAreWithinLimits → OneThreadAlone → (bytes : List ℕ) → bad_line bytes ≡ None → AreRunnable (scripts_of bytes)
-scripts_are_runnable spelled_all within alone bytes good =
+pub scripts_are_runnable : ScriptsAreSpelled → ScriptsAreWithinLimits → (bytes : List ℕ) → bad_line bytes ≡ None → AreInLimits (scripts_of bytes)
+scripts_are_runnable spelled_all within bytes good =
     let limits = within bytes good in
     record {
-      limits = record {
-        few = limits.calls;
-        threads = limits.threads;
-        spelled = λ who i call is. spelled call (at text.IsSpelledCall (script_of (scripts_of bytes) who) i call (calls-spelled (scripts_of bytes) (spelled_all bytes) who) is);
-      };
-      one = (alone bytes refl refl).threads;
+      few = limits.calls;
+      threads = limits.threads;
+      spelled = λ who i call is. spelled call (at text.IsSpelledCall (script_of (scripts_of bytes) who) i call (calls-spelled (scripts_of bytes) (spelled_all bytes) who) is);
     }

@@ -4,8 +4,11 @@ use Rattle.outside.specs.Outside.{FileList}
 use Rattle.command_line.specs.script_text.Scripts.{bad_line}
 use Rattle.command_line.specs.Command.{Command}
 use Rattle.command_line.specs.declared.statuses.statuses.Status.{Status}
-use Rattle.split_top.specs.Images.{IsRefused}
-use Rattle.split_top.specs.Top.{BreaksGrammar, BreaksRule, Completes, IsCutShort, IsDone, IsMissing, IsRefusal, IsReplacedBy, MayFail, Replaces}
+use Rattle.command_line.specs.pm_model.declared.Cell.{Cell}
+use Rattle.split_top.specs.declared.opening.Opened.{Opened}
+use Rattle.split_top.specs.Devices.{CanMount, IsDeviceOf}
+use Rattle.split_top.specs.Images.{IsFreshImage, IsRefused}
+use Rattle.split_top.specs.Top.{BreaksGrammar, BreaksRule, Completes, IsCutShort, IsDone, IsMissing, IsRefusal, IsReplacedBy, Keeps, load_numbers, MayFail, Replaces}
 
 -- a file was not read
 abbrev pub IsUnread : Status → Type 0
@@ -26,11 +29,25 @@ IsUnopened bytes (Status.BadImage rule place) = IsRefused bytes rule place
 IsUnopened bytes Status.NoMemory = ⊤
 IsUnopened bytes status = ⊥
 
+-- the fresh image of a load became this device
+pub record IsOpenedFresh (opened : Opened) : Type 0 where
+  pub image : List ℕ
+  pub is_fresh : IsFreshImage load_numbers image
+  pub device : IsDeviceOf image opened.pm
+  pub numbers : opened.geometry ≡ load_numbers
+  pub mounts : CanMount opened.geometry opened.pm
+
 -- an image was not kept
 abbrev pub IsUnkept : Status → Type 0
 IsUnkept Status.WriteFault = ⊤
 IsUnkept Status.NoMemory = ⊤
 IsUnkept status = ⊥
+
+-- the image of the device that was left is the file of this name, where a name is given, and every other file is as before
+pub record IsKept (name : Option (List ℕ)) (d : List Cell) (old new : Option FileList) : Type 0 where
+  pub kept : List ℕ
+  pub is_image : IsDeviceOf kept d
+  pub keeps : Keeps name kept old new
 
 -- an output was put, or not
 abbrev pub IsPutOrNot : Status → Type 0

@@ -12,8 +12,11 @@ use Rattle.command_line.specs.posix_spec.Run.{Unfinished}
 use Rattle.split_machine.specs.world_image_laws.BeginningLaws.{IsShapeOf}
 use Rattle.report_text.specs.Texts.{history_text, tree_text}
 use Rattle.command_line.specs.script_text.Scripts.{bad_line, scripts_of}
-use Rattle.command_line.specs.Command.{Command, Mkfs, Tree, Step, Image, Fresh, Options, Stored, Run, command_of}
-use Rattle.split_top.specs.Images.{AreOfImage, blocks_text, CanOpen, IsMade, IsMounted, IsRefused, IsTreeText, ShowsTree}
+use Rattle.command_line.specs.Command.{Command, Mkfs, Tree, Step, Load, Loading, Image, Fresh, Options, options_in, Stored, Run, command_of}
+use Rattle.command_line.specs.image_layout.Numbers.{numbered}
+use Rattle.split_cases.specs.Load.{load_scripts}
+use Rattle.split_cases.specs.Summary.{summary_text}
+use Rattle.split_top.specs.Images.{AreOfImage, blocks_text, CanOpen, IsFreshImage, IsMade, IsMounted, IsRefused, IsTreeText, ShowsTree}
 use Rattle.split_top.specs.Runs.{IsRun, Task, task_on}
 use Rattle.command_line.specs.declared.statuses.statuses.Status.{Status}
 
@@ -52,7 +55,7 @@ pub record IsRunOn (image : List ℕ) (g : Geometry) (scripts : Scripts) (option
   pub shows : ShowsTree image tree
   pub shape : Shape
   pub is_shape : IsShapeOf g shape
-  pub outcome : IsOutcome g (task_on tree shape scripts options.mode) options print output kept
+  pub outcome : IsOutcome g (task_on tree shape g.log scripts options.mode) options print output kept
 
 -- the bytes are a script, and it is run
 pub record IsScriptRunOn (image : List ℕ) (g : Geometry) (script : List ℕ) (options : Options)
@@ -91,17 +94,35 @@ pub record IsMkfsDone (name : List ℕ) (g : Geometry) (old new : Option FileLis
   pub made : IsMade name g old new
   pub is_line : output ≡ blocks_text g
 
+-- the numbers of the image on which a load runs
+abbrev pub load_numbers : Geometry
+load_numbers = numbered 4096 256 64 128
+
+-- a load is a run of its scripts on a fresh image, its threads in turn, and tells the sums of its history and its tree
+pub record IsLoaded (loading : Loading) (output : List ℕ) : Type 0 where
+  pub image : List ℕ
+  pub is_fresh : IsFreshImage load_numbers image
+  pub kept : List ℕ
+  pub is_run : IsRunOn image load_numbers (load_scripts loading.calls loading.threads) (options_in loading.mode) summary_text output kept
+
+-- `load`: its scripts are run, and no file changes
+pub record IsLoadDone (loading : Loading) (old new : Option FileList) (output : List ℕ) : Type 0 where
+  pub loaded : IsLoaded loading output
+  pub is_left : new ≡ old
+
 -- WHAT A COMMAND DOES: what it leaves of the files, and what it puts
 abbrev pub Does : Command → Option FileList → Option FileList → List ℕ → Type 0
 Does (Mkfs name geometry) old new output = IsMkfsDone name geometry old new output
 Does (Tree image) old new output = IsTreeDone image old new output
 Does (Step run) old new output = IsStepDone run old new output
+Does (Load loading) old new output = IsLoadDone loading old new output
 
 -- `mkfs` replaces a file, and `step` where it keeps the image
 abbrev pub Replaces : Command → Type 0
 Replaces (Mkfs name geometry) = ⊤
 Replaces (Tree image) = ⊥
 Replaces (Step run) = IsSome run.options.keep
+Replaces (Load loading) = ⊥
 
 -- a command that replaces a file left the files as it does where it is done
 pub record IsReplacedBy (c : Command) (files left : Option FileList) : Type 0 where
@@ -150,12 +171,14 @@ abbrev pub IsMissing : Command → Option FileList → List ℕ → Type 0
 IsMissing (Mkfs stored geometry) files name = ⊥
 IsMissing (Tree image) files name = IsMissingImage image files name
 IsMissing (Step run) files name = IsMissingImage run.image files name ⊎ IsMissingScript run files name
+IsMissing (Load loading) files name = ⊥
 
 -- a read may fail: that of the image; or that of the script, behind an image that can be opened
 abbrev pub MayFail : Command → Option FileList → Type 0
 MayFail (Mkfs stored geometry) files = ⊥
 MayFail (Tree image) files = IsStored image
 MayFail (Step run) files = IsStored run.image ⊎ OpensImage run files
+MayFail (Load loading) files = ⊥
 
 -- the bytes of the image are refused, by this rule at this place
 pub record IsBadImage (image : Image) (files : Option FileList) (rule place : ℕ) : Type 0 where
@@ -167,6 +190,7 @@ abbrev pub BreaksRule : Command → Option FileList → ℕ → ℕ → Type 0
 BreaksRule (Mkfs name geometry) files rule place = ⊥
 BreaksRule (Tree image) files rule place = IsBadImage image files rule place
 BreaksRule (Step run) files rule place = IsBadImage run.image files rule place
+BreaksRule (Load loading) files rule place = ⊥
 
 -- the image can be opened, and this line of the script is the first that breaks the grammar
 pub record IsBadScript (run : Run) (files : Option FileList) (line : ℕ) : Type 0 where
@@ -179,6 +203,7 @@ abbrev pub BreaksGrammar : Command → Option FileList → ℕ → Type 0
 BreaksGrammar (Mkfs name geometry) files line = ⊥
 BreaksGrammar (Tree image) files line = ⊥
 BreaksGrammar (Step run) files line = IsBadScript run files line
+BreaksGrammar (Load loading) files line = ⊥
 
 -- nothing is put, and no file is replaced
 abbrev pub IsRefusal : Status → Type 0
@@ -216,7 +241,7 @@ IsImageVerdict bytes (Status.BadImage rule place) = IsRefused bytes rule place
 IsImageVerdict bytes Status.NoMemory = ⊤
 IsImageVerdict bytes status = ⊥
 
--- to make an image nothing is needed but memory
+-- to make an image, or for a load, nothing is needed but memory
 abbrev pub IsDoneOrNot : Status → Type 0
 IsDoneOrNot Status.Done = ⊤
 IsDoneOrNot Status.NoMemory = ⊤
@@ -231,3 +256,4 @@ abbrev pub Completes : Command → Option FileList → Status → Type 0
 Completes (Mkfs name geometry) files status = IsDoneOrNot status
 Completes (Tree image) files status = (bytes : List ℕ) → IsGivenImage files image bytes → IsImageVerdict bytes status
 Completes (Step run) files status = CompletesStep run files status
+Completes (Load loading) files status = IsDoneOrNot status

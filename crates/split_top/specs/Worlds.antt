@@ -1,5 +1,5 @@
 -- The World that a run begins with.
-use Rattle.std.specs.Prelude.{◌≡◌, ◌≤◌, List, length}
+use Rattle.std.specs.Prelude.{◌≡◌, List}
 use Rattle.command_line.specs.layout_model.Places.{Geometry}
 use Rattle.command_line.specs.pm_model.Words.{Words}
 use Rattle.split_machine.specs.image_model.Content.{content}
@@ -12,22 +12,17 @@ use Rattle.posix_types.specs.declared.tree.TreeEntry.{TreeEntry}
 use Rattle.posix_types.specs.Scripts.{Scripts}
 use Rattle.command_line.specs.Command.{Options}
 use Rattle.command_line.specs.posix_spec.Run.{Unfinished}
-use Rattle.split_machine.specs.world_view_laws.Starts.{AreInLimits}
 use Rattle.split_machine.specs.world_view_laws.Views.{WorldView}
-use Rattle.split_machine.specs.Runs.{IsFirst}
+use Rattle.split_machine.specs.course_laws.Runs.{IsFirst}
 use Rattle.split_machine.specs.world_image_laws.BeginningLaws.{IsShapeOf}
 use Rattle.split_top.specs.Runs.{beginning, IsRun, Task, task_on}
-
--- The scripts can be run: they are within the limits, and have one thread at most.
-pub record AreRunnable (scripts : Scripts) : Type 0 where
-  pub limits : AreInLimits scripts
-  pub one : length scripts.threads ≤ 1
 
 -- The World of a task on a device with these numbers: nothing has begun. It is in strict mode, the one that a World has
 -- by now.
 pub record IsWorldOn (g : Geometry) (task : Task) (w : WorldView) : Type 0 where
   pub first : IsFirst w
   pub geometry : w.geometry ≡ g
+  pub lines : task.lines ≡ g.log
   pub start : w.start ≡ beginning task
   pub scripts_are : w.scripts ≡ task.scripts
   pub strict : task.mode ≡ Mode.Strict
@@ -38,7 +33,7 @@ pub record BeginsOn (image : Words) (g : Geometry) (scripts : Scripts) (mode : M
   pub shape : Shape
   pub is_tree : IsTreeOfContent (content (geometry_of image) image) tree
   pub is_shape : IsShapeOf g shape
-  pub on : IsWorldOn g (task_on tree shape scripts mode) w
+  pub on : IsWorldOn g (task_on tree shape g.log scripts mode) w
 
 -- a run of scripts that began with the tree of the image had this history and left this tree
 pub record IsRanOn (image : Words) (g : Geometry) (scripts : Scripts) (options : Options)
@@ -48,4 +43,4 @@ pub record IsRanOn (image : Words) (g : Geometry) (scripts : Scripts) (options :
   pub is_tree : IsTreeOfContent (content (geometry_of image) image) tree
   pub is_shape : IsShapeOf g shape
   pub unfinished : List Unfinished
-  pub is_run : IsRun (task_on tree shape scripts options.mode) options history unfinished left
+  pub is_run : IsRun (task_on tree shape g.log scripts options.mode) options history unfinished left

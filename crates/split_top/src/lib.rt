@@ -12,9 +12,11 @@
 //! it replaces the file. The output is put at once.
 #![tactic(auto)]
 
+mod device_images;
 mod images;
 mod jobs;
 mod laws;
+mod loading;
 mod making;
 mod mounting;
 mod opening;
@@ -28,4 +30,5 @@ pub use command_line::{
     Call, Geometry, Item, Mode, Name, Path, Shape, State, Tree, TreeEntry, TreeNode, Who,
     default_shape, read_script, root_alone,
 };
+pub use laws::{runs_are_cut, runs_are_whole};
 pub use program::top;

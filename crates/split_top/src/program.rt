@@ -8,6 +8,7 @@ ghost use Rattle.command_line.specs.Seen.{IsBuilt, seen};
 ghost use Rattle.split_top.specs.Jobs.{IsAnswer};
 ghost use Rattle.split_top.specs.Top.{BreaksGrammar, BreaksRule, Completes, IsCutShort, IsDone, IsMissing, IsRefusal, IsReplacedBy, MayFail, Replaces, Says};
 
+use crate::loading::run_load;
 use crate::making::make_image;
 use crate::showing::show;
 use crate::stepping::run_step;
@@ -33,6 +34,11 @@ fn do_command<F: Files, K: Sink>(
             script,
             options,
         } => run_step(alloc, image, script.as_str(), options, files, out),
+        Command::Load {
+            calls,
+            threads,
+            mode,
+        } => run_load(alloc, *calls, *threads, *mode, files, out),
     }
 }
 
@@ -42,15 +48,21 @@ fn do_command<F: Files, K: Sink>(
 ///   the line `D data blocks` is put.
 /// - `tree IMAGE`: the image is read, checked and mounted, and its tree is put. `-` is the fresh default image. Live
 ///   entries of the log count: the tree is the one that they leave.
-/// - `step IMAGE S strict`, then the options `stop N`, `choose C` and `keep NAME`: the image is read, checked and mounted
-///   (`-` is the fresh default one); then the script S is read, checked and run on it in strict mode; the file NAME is
-///   replaced by the image that is left; then the history of the calls and the tree that is left are put at once. With
-///   `stop N` the power goes after N device steps; a word that is not durable is what `choose C` says (`oldest`,
-///   `newest`, `even`, `odd`, or a number for draws from it as a seed); and the image that is left is mounted again.
+/// - `step IMAGE S strict`, then the options `order LIST` or `seed N`, `cut E`, `stop N`, `choose C` and `keep NAME`: the
+///   image is read, checked and mounted (`-` is the fresh default one); then the script S is read, checked and run on it
+///   in strict mode, the set-up first, then its threads picked by the numbers of LIST (1 to 65,536 of them, below 8), behind which they
+///   come in turn, by draws from N, or in turn; the file NAME is replaced by
+///   the image that is left; then the history of the calls and the tree that is left are put at once. With `cut E` the
+///   power goes behind E events, with `stop N` after N device steps; a word that is not durable is what `choose C` says
+///   (`oldest`, `newest`, `even`, `odd`, or a number for draws from it as a seed); and the image that is left is mounted
+///   again.
+/// - `load N T strict`: the scripts of a load of N calls, at most 500, for each of T threads, 1 to 8, are run on a fresh
+///   image of 4,096 blocks, 256 log lines, 64 inode lines and 128 name lines, the threads in turn; then five sums of the
+///   history and the tree are put: `calls`, `refused`, `written`, `files` and `bytes`.
 ///
 /// A number has at most 18 decimal digits. No file but that of `mkfs` or `keep` is changed, and that one only once all
-/// that is to be told is made. Nothing is put unless the job is done, but where the sink refuses: then it has a front of
-/// the output.
+/// that is to be told is made. Nothing is put unless the job is done, but where the sink refuses, or memory runs out in
+/// putting: then it has a front of the output.
 pub fn top<R, F: Files, K: Sink>(
     _rt: &R,
     alloc: Global,
@@ -66,8 +78,8 @@ pub fn top<R, F: Files, K: Sink>(
         × Rose (F.faults files.old) (F.faults files.new) }
     ensures write_fault { result ≡ Status.WriteFault → Rose (K.faults out.old) (K.faults out.new) ⊎ Says (map string_bytes words.now) (λ c. Replaces c × Rose (F.faults files.old) (F.faults files.new)) }
 
-    // The promise: a fresh image; the tree of an image; a history and a tree that are permitted; and nothing else is
-    // printed or replaced.
+    // The promise: a fresh image; the tree of an image; a history and a tree that are permitted, or the five sums of
+    // such a run; and nothing else is printed or replaced.
     ensures done { result ≡ Status.Done → Says (map string_bytes words.now) (λ c. IsDone c (F.told files.old) (F.told files.new) (K.told out.old) (K.told out.new)) }
 
     // What is left where the job is not done.

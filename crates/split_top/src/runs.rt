@@ -1,5 +1,6 @@
 //! A run of scripts: their calls in a World on an image, and what is read back of it.
-ghost use Rattle.std.specs.Prelude.{◌≡◌, List, IfOk};
+ghost use Rattle.std.specs.Prelude.{◌≡◌, List, ℕ, IfOk};
+ghost use Rattle.command_line.specs.pm_model.Cells.{AllSingle};
 ghost use Rattle.command_line.specs.pm_model.Images.{words_of};
 ghost use Rattle.command_line.specs.pm_model.Words.{word_at};
 ghost use Rattle.command_line.specs.Seen.{seen_options};
@@ -8,34 +9,37 @@ ghost use Rattle.split_machine.specs.crash_spec.Permitted.{Permitted};
 ghost use Rattle.command_line.specs.posix_spec.Run.{Unfinished};
 ghost use Rattle.command_line.specs.posix_spec.State.{State};
 ghost use Rattle.posix_types.specs.declared.item.Item as items;
-ghost use Rattle.split_top.specs.Devices.{CanMount};
+ghost use Rattle.split_top.specs.Devices.{CanMount, IsDeviceOf};
 ghost use Rattle.split_top.specs.Found.{IsFoundBy, IsLeftAs};
 ghost use Rattle.split_top.specs.Images.{IsMounted};
 ghost use Rattle.split_top.specs.Runs.{IsRun, Task};
-ghost use Rattle.split_top.specs.Worlds.{AreRunnable, BeginsOn, IsRanOn, IsWorldOn};
+ghost use Rattle.split_machine.specs.world_view_laws.Starts.{AreInLimits};
+ghost use Rattle.split_top.specs.Worlds.{BeginsOn, IsRanOn, IsWorldOn};
 
+use crate::laws;
 use crate::mounting::mount_image;
 use crate::opening::{Opened, device};
-use command_line::{Geometry, Options};
+use command_line::{Geometry, Options, read_order};
 use k_check::crash_image;
 use pm_lines::{Choice, Pm, Power};
 use posix_types::{Item, Mode, Scripts, Tree};
 use split_machine::{Ended, MountFault, NoMemory, World, run as run_scripts};
 use std::alloc::{AllocError, Global};
 
-/// What a run leaves: the calls that returned, the tree that is found afterwards, and the image that shows it.
+/// What a run leaves: the calls that returned, the tree that is found afterwards, and the device of the image that
+/// shows it.
 #[derive(Drop)]
 pub(crate) struct Ran {
     pub history: Vec<Item>,
     pub tree: Tree,
-    pub image: Vec<u8>,
+    pub pm: Pm,
 }
 
-/// What is found on a device: the tree, and the image that is mounted with it.
+/// What is found on a device: the tree, and the device as the mount leaves it.
 #[derive(Drop)]
 struct Left {
     tree: Tree,
-    image: Vec<u8>,
+    pm: Pm,
 }
 
 /// The power of a run: for so many steps, or always.
@@ -51,7 +55,7 @@ fn power_for(stop: Option<u64>) -> Power
 /// The World of scripts on the device of an image.
 fn world_on(alloc: Global, opened: Opened, scripts: Scripts, mode: Mode) -> Result<World, NoMemory>
     requires mounts { CanMount opened.geometry opened.pm }
-    requires runnable { AreRunnable scripts }
+    requires limits { AreInLimits scripts }
     requires strict { mode ≡ Mode.Strict }
     ensures { IfOk result (BeginsOn (words_of opened.pm) opened.geometry scripts mode) }
 {
@@ -69,17 +73,17 @@ fn left_on(alloc: Global, pm: &Pm, geometry: Geometry, choice: Choice) -> Result
     requires { (start : State) × (history : List items.Item) × (unfinished : List Unfinished) × IsLeftAs geometry pm.now start history unfinished }
     ensures found { IfOk result (λ left. IsFoundBy geometry choice pm.now left.tree) }
     ensures permitted { IfOk result (λ left. (start : State) (history : List items.Item) (unfinished : List Unfinished) → IsLeftAs geometry pm.now start history unfinished → Permitted start.mode start history unfinished left.tree) }
-    ensures mounted { IfOk result (λ left. IsMounted left.image.items left.tree) }
-    ensures numbers { IfOk result (λ left. geometry_of (word_at left.image.items) ≡ geometry) }
+    ensures single { IfOk result (λ left. AllSingle left.pm) }
+    ensures mounted { IfOk result (λ left. (kept : List ℕ) → IsDeviceOf kept left.pm → IsMounted kept left.tree) }
+    ensures numbers { IfOk result (λ left. (kept : List ℕ) → IsDeviceOf kept left.pm → geometry_of (word_at kept) ≡ geometry) }
 {
     let bytes = crash_image(alloc, pm, &geometry, choice)?;
     let crashed = device(alloc, bytes)?;
     let mounted = mount_image(alloc, crashed)?;
     let remounted = mounted.k.into_pm();
-    let image = remounted.choose(alloc, Choice::Newest)?;
     Ok(Left {
         tree: mounted.tree,
-        image,
+        pm: remounted,
     })
 }
 
@@ -93,17 +97,20 @@ fn run_world(
     requires { (task : Task) × IsWorldOn geometry task world }
     ensures ran { IfOk result (λ ran. (task : Task) → IsWorldOn geometry task world
         → (unfinished : List Unfinished) × IsRun task (seen_options options.now) ran.history.items unfinished ran.tree) }
-    ensures mounted { IfOk result (λ ran. IsMounted ran.image.items ran.tree) }
-    ensures numbers { IfOk result (λ ran. geometry_of (word_at ran.image.items) ≡ geometry) }
+    ensures single { IfOk result (λ ran. AllSingle ran.pm) }
+    ensures mounted { IfOk result (λ ran. (kept : List ℕ) → IsDeviceOf kept ran.pm → IsMounted kept ran.tree) }
+    ensures numbers { IfOk result (λ ran. (kept : List ℕ) → IsDeviceOf kept ran.pm → geometry_of (word_at kept) ≡ geometry) }
 {
+    laws::a_round_goes_beside();
+    let order = read_order(alloc, &options.order)?;
     let mut power = power_for(options.stop);
-    match run_scripts(alloc, world, &mut power)? {
+    match run_scripts(alloc, world, order, options.cut, &mut power)? {
         Ended::Whole { pm, history } => {
             let left = left_on(alloc, &pm, geometry, options.choice)?;
             Ok(Ran {
                 history,
                 tree: left.tree,
-                image: left.image,
+                pm: left.pm,
             })
         }
         Ended::Lost(crashed) => {
@@ -111,7 +118,7 @@ fn run_world(
             Ok(Ran {
                 history: crashed.history,
                 tree: left.tree,
-                image: left.image,
+                pm: left.pm,
             })
         }
     }
@@ -125,12 +132,14 @@ pub(crate) fn run(
     options: &Options<'_>,
 ) -> Result<Ran, NoMemory>
     requires mounts { CanMount opened.geometry opened.pm }
-    requires runnable { AreRunnable scripts }
+    requires limits { AreInLimits scripts }
     requires strict { options.now.mode ≡ Mode.Strict }
     ensures ran { IfOk result (λ ran.
         IsRanOn (words_of opened.pm) opened.geometry scripts (seen_options options.now) ran.history.items ran.tree) }
-    ensures mounted { IfOk result (λ ran. IsMounted ran.image.items ran.tree) }
-    ensures numbers { IfOk result (λ ran. geometry_of (word_at ran.image.items) ≡ opened.geometry) }
+    ensures single { IfOk result (λ ran. AllSingle ran.pm) }
+    ensures mounted { IfOk result (λ ran. (kept : List ℕ) → IsDeviceOf kept ran.pm → IsMounted kept ran.tree) }
+    ensures numbers { IfOk result (λ ran. (kept : List ℕ) → IsDeviceOf kept ran.pm
+        → geometry_of (word_at kept) ≡ opened.geometry) }
 {
     let geometry = opened.geometry;
     let world = world_on(alloc, opened, scripts, options.mode)?;

@@ -1,12 +1,13 @@
 //! The words of the command line.
-ghost use Rattle.std.specs.Prelude.{◌≡◌, IfSome, map, option_map};
+ghost use Rattle.std.specs.Prelude.{◌≡◌, ◌≤◌, IfSome, map, option_map};
 ghost use Rattle.std.specs.String.{string_bytes};
-ghost use Rattle.command_line.specs.Command.{command_of, image_of, mkfs_of, step_of, tree_of};
+ghost use Rattle.command_line.specs.Command.{command_of, image_of, load_of, mkfs_of, number_within, step_of, tree_of};
 ghost use Rattle.command_line.specs.Seen.{IsBuilt, seen, seen_image};
 
 use crate::commands::geometries::read_geometry;
 use crate::commands::options::{Options, read_mode, read_options};
 use image_layout::Geometry;
+use script_text::{Mode, read_number};
 
 /// An image.
 #[derive(Drop)]
@@ -32,6 +33,12 @@ pub enum Command<'a> {
         image: Image<'a>,
         script: &'a String,
         options: Options<'a>,
+    },
+    /// Run the scripts of a load on a fresh image: so many calls, at most 500, for each of so many threads, 1 to 8.
+    Load {
+        calls: u32,
+        threads: u32,
+        mode: Mode,
     },
 }
 
@@ -97,6 +104,37 @@ fn read_step(words: &[String]) -> Option<Command<'_>>
     })
 }
 
+/// The number that a word spells, where it lies between two.
+fn read_within(word: &str, low: u32, high: u32) -> Option<u32>
+    ensures number { result ≡ number_within low high word.now }
+    ensures within { IfSome result (λ n. n ≤ high) }
+{
+    let n = read_number(word.as_bytes())?;
+    if n < u64::from(low) || n > u64::from(high) {
+        return None;
+    }
+    Some(n as u32)
+}
+
+/// The words `load N T MODE`.
+#[tactic(auto, unfolding(crate::specs::Command::load_of))]
+fn read_load(words: &[String]) -> Option<Command<'_>>
+    ensures command { option_map (λ c. seen c) result ≡ load_of (map string_bytes words.now) }
+    ensures built { IfSome result IsBuilt }
+{
+    if words.len() != 4 || words[0].as_str() != "load" {
+        return None;
+    }
+    let calls = read_within(words[1].as_str(), 0, 500)?;
+    let threads = read_within(words[2].as_str(), 1, 8)?;
+    let mode = read_mode(words[3].as_str())?;
+    Some(Command::Load {
+        calls,
+        threads,
+        mode,
+    })
+}
+
 /// The command that the words are, if they are one.
 #[tactic(auto, unfolding(crate::specs::Command::command_of))]
 pub fn read_command(words: &[String]) -> Option<Command<'_>>
@@ -109,5 +147,8 @@ pub fn read_command(words: &[String]) -> Option<Command<'_>>
     if let Some(command) = read_tree(words) {
         return Some(command);
     }
-    read_step(words)
+    if let Some(command) = read_step(words) {
+        return Some(command);
+    }
+    read_load(words)
 }

@@ -1,17 +1,28 @@
 //! The options of a run.
 ghost use Rattle.std.specs.Prelude.{◌≡◌, IfSome, map, option_map};
 ghost use Rattle.std.specs.String.{string_bytes};
-ghost use Rattle.command_line.specs.Command.{choice_of, mode_of, options_in, with_choice, with_keep, with_stop};
+ghost use Rattle.command_line.specs.Command.{choice_of, mode_of, options_in, with_choice, with_cut, with_keep, with_order, with_seed, with_stop};
 ghost use Rattle.command_line.specs.Seen.{seen_options};
 
+use crate::commands::orders::OrderWords;
 use pm_lines::Choice;
-use script_text::{Mode, read_number};
+use script_text::{Mode, read_number, spells_numbers};
+
+/// The most picks of a list.
+const MOST_PICKS: usize = 65_536;
+
+/// The highest number of a thread.
+const HIGHEST_THREAD: u64 = 7;
 
 /// The options of a run.
 #[derive(Drop)]
 pub struct Options<'a> {
     /// What a power loss may leave.
     pub mode: Mode,
+    /// In which order the threads of the script are picked.
+    pub order: OrderWords<'a>,
+    /// After how many events the power goes.
+    pub cut: Option<u64>,
     /// After how many device steps the power goes.
     pub stop: Option<u64>,
     /// Which candidates of words that are not durable a power loss leaves.
@@ -88,16 +99,67 @@ fn with_stop<'a>(options: Options<'a>, words: &'a [String]) -> Option<Options<'a
     with_choice(Options { stop, ..options }, &words[2..])
 }
 
-/// The options of a run in a mode that the words are.
-pub(crate) fn read_options(mode: Mode, words: &[String]) -> Option<Options<'_>>
-    ensures options { option_map (λ o. seen_options o) result ≡ with_stop (options_in mode) (map string_bytes words.now) }
-    ensures mode { IfSome result (λ o. o.mode ≡ mode) }
+/// The option `cut E` beside these, if it is there, and then the others.
+#[tactic(auto, unfolding(crate::specs::Command::with_cut))]
+fn with_cut<'a>(options: Options<'a>, words: &'a [String]) -> Option<Options<'a>>
+    ensures options { option_map (λ o. seen_options o) result ≡ with_cut (seen_options options.entry) (map string_bytes words.now) }
+    ensures mode { IfSome result (λ o. o.mode ≡ options.entry.mode) }
 {
-    let options = Options {
+    if words.len() < 2 || words[0].as_str() != "cut" {
+        return with_stop(options, words);
+    }
+    let cut = Some(read_number(words[1].as_bytes())?);
+    with_stop(Options { cut, ..options }, &words[2..])
+}
+
+/// The option `seed N` beside these, if it is there, and then the others.
+#[tactic(auto, unfolding(crate::specs::Command::with_seed))]
+fn with_seed<'a>(options: Options<'a>, words: &'a [String]) -> Option<Options<'a>>
+    ensures options { option_map (λ o. seen_options o) result ≡ with_seed (seen_options options.entry) (map string_bytes words.now) }
+    ensures mode { IfSome result (λ o. o.mode ≡ options.entry.mode) }
+{
+    if words.len() < 2 || words[0].as_str() != "seed" {
+        return with_cut(options, words);
+    }
+    let order = OrderWords::Seed(read_number(words[1].as_bytes())?);
+    with_cut(Options { order, ..options }, &words[2..])
+}
+
+/// The options `order LIST` or `seed N` beside these, if one is there, and then the others.
+#[tactic(auto, unfolding(crate::specs::Command::with_order))]
+fn with_order<'a>(options: Options<'a>, words: &'a [String]) -> Option<Options<'a>>
+    ensures options { option_map (λ o. seen_options o) result ≡ with_order (seen_options options.entry) (map string_bytes words.now) }
+    ensures mode { IfSome result (λ o. o.mode ≡ options.entry.mode) }
+{
+    if words.len() < 2 || words[0].as_str() != "order" {
+        return with_seed(options, words);
+    }
+    if !spells_numbers(words[1].as_bytes(), MOST_PICKS, HIGHEST_THREAD) {
+        return None;
+    }
+    let order = OrderWords::List(&words[1]);
+    with_cut(Options { order, ..options }, &words[2..])
+}
+
+/// The options of a run in a mode that names none.
+pub fn plain_options(mode: Mode) -> Options<'static>
+    ensures options { seen_options result ≡ options_in mode }
+    ensures mode { result.mode ≡ mode }
+{
+    Options {
         mode,
+        order: OrderWords::Round,
+        cut: None,
         stop: None,
         choice: Choice::Oldest,
         keep: None,
-    };
-    with_stop(options, words)
+    }
+}
+
+/// The options of a run in a mode that the words are.
+pub(crate) fn read_options(mode: Mode, words: &[String]) -> Option<Options<'_>>
+    ensures options { option_map (λ o. seen_options o) result ≡ with_order (options_in mode) (map string_bytes words.now) }
+    ensures mode { IfSome result (λ o. o.mode ≡ mode) }
+{
+    with_order(plain_options(mode), words)
 }

@@ -1,5 +1,5 @@
-use Rattle.script_text.proofs.Known.{known_calls_alone, one_thread_alone}
+use Rattle.script_text.proofs.Known.{known_calls_alone}
 use Rattle.script_text.proofs.laws.scripts_have_known_words.Goals as goal
 
 pub returns : goal.returns
-returns c = record { calls = known_calls_alone; headings = one_thread_alone }
+returns c = known_calls_alone

@@ -1,7 +1,7 @@
 use Rattle.std.proofs.Common.{drop, ◌+◌, ◌≡◌, ◌∙◌, ◌++◌, ◌∷◌, [], ◌<◌, List, ℕ, ap, sym, arith, length, true, take, Some}
 use Rattle.std.specs.List.{list_all}
 use Rattle.layout_model.specs.Spelling.{is_spelled}
-use Rattle.script_text.specs.Words.{parts_of}
+use Rattle.script_text.specs.Words.{parts_by}
 use Rattle.script_text.proofs.Parts.{bad_name, last_name, next_name, spelled_more}
 use Rattle.script_text.proofs.paths.read_names.Goals as goal
 
@@ -30,7 +30,7 @@ loop-rest-preserved c =
     record {
       parts =
           next_name c.args.text.now c.loop-rest.rest.now c.loop-rest.names.items c.length_before-end.result c.loop-rest.invariant.parts lt c.length_before-end.ensures.before (c.length_before-end.ensures.stops lt)
-          ∙ ap (λ (n : List (List ℕ)). n ++ parts_of (drop (c.length_before-end.result + 1) c.loop-rest.rest.now)) (sym items)
-          ∙ ap (λ (n : List ℕ). c.push.new.self.items ++ parts_of n) (sym c.behind-rest.ensures);
+          ∙ ap (λ (n : List (List ℕ)). n ++ parts_by 47 (drop (c.length_before-end.result + 1) c.loop-rest.rest.now)) (sym items)
+          ∙ ap (λ (n : List ℕ). c.push.new.self.items ++ parts_by 47 n) (sym c.behind-rest.ensures);
       spelled = ap (list_all is_spelled) items ∙ spelled_more c.loop-rest.names.items _ c.loop-rest.invariant.spelled spelled;
     }

@@ -1,24 +1,21 @@
-use Rattle.std.proofs.Common.{◌≡◌, arith, subst}
-use Rattle.run_laws.specs.Events.{OutView, lines_in}
-use Rattle.split_machine.specs.Runs.{HasRun}
-use Rattle.split_machine.proofs.Ends.{AreFewActs, ran_lost, ran_whole}
-use Rattle.split_machine.proofs.Lines.{may_unmount}
+use Rattle.std.specs.Prelude.{None}
+use Rattle.std.proofs.Common.{arith}
+use Rattle.schedule.specs.Seen.{seen_order}
+use Rattle.split_machine.specs.Events.{seen}
+use Rattle.split_machine.proofs.Ends.{AreFewActs, can_end, run_ended_ok, usable_at}
 use Rattle.split_machine.proofs.runs.run.Goals as goal
 
-pub unmount-requires-clause-may : goal.unmount-requires-clause-may
-unmount-requires-clause-may c =
-    let has = subst (HasRun c.args.world c.run_scripts.new.world c.run_scripts.new.out c.args.power.now c.run_scripts.new.power) c.if-not-lasted.false c.in_ok-lasted.ensures in
-    may_unmount c.a_round_ends.ensures.holds c.run_scripts.new.world c.run_scripts.new.out.log c.lines_of.result.items has.ended.0.steady.none_out has.ended.0.log has.ended.1 has.ended.2
-    (subst (λ (o : OutView). c.lines_of.result.items ≡ lines_in o.log) c.out.view_is c.lines_of.ensures)
+pub run_events-requires : goal.run_events-requires
+run_events-requires c = record { first = c.requires; none = λ k. record { log = None; jobs = c.in_ok-jobs.ensures.items k } }
 
-pub returns-then-not-lasted : goal.returns-then-not-lasted
-returns-then-not-lasted c =
-    let has = subst (HasRun c.args.world c.run_scripts.new.world c.run_scripts.new.out c.args.power.now c.run_scripts.new.power) c.if-not-lasted.true c.in_ok-lasted.ensures in
-    let few : AreFewActs c.run_scripts.new.world = omega (arith, c.acts-acts.ensures.acts, c.acts-acts.ensures.most) in
-    ran_lost c.a_run_is_paid.ensures.lost c.a_run_is_paid.ensures.names c.args.world c.run_scripts.new.world c.run_scripts.new.out c.args.power.now c.run_scripts.new.power c.in_ok-crash.field-0 has few c.in_ok-crash.ensures
+pub acts-acts-requires : goal.acts-acts-requires
+acts-acts-requires c = usable_at c.args.world c.run_events.new.world (seen c.run_events.new.out) c.args.power.now c.run_events.new.power c.in_ok-end.end c.in_ok-end.ensures.ends
+
+pub end_run-requires : goal.end_run-requires
+end_run-requires c = can_end c.args.world c.run_events.new.world (seen c.run_events.new.out) c.args.power.now c.run_events.new.power c.in_ok-end.end c.in_ok-end.ensures.ends
 
 pub returns : goal.returns
 returns c =
-    let has = subst (HasRun c.args.world c.run_scripts.new.world c.run_scripts.new.out c.args.power.now c.run_scripts.new.power) c.if-not-lasted.false c.in_ok-lasted.ensures in
-    let few : AreFewActs c.run_scripts.new.world = omega (arith, c.acts-acts.ensures.acts, c.acts-acts.ensures.most) in
-    ran_whole c.a_run_is_paid.ensures.whole c.a_run_is_paid.ensures.names c.args.world c.run_scripts.new.world c.run_scripts.new.out c.args.power.now c.run_scripts.new.power c.unmount.new.power has few c.unmount.ensures.steps c.unmount.result c.unmount.ensures.ended
+    let few : AreFewActs c.run_events.new.world = omega (arith, c.acts-acts.ensures.acts, c.acts-acts.ensures.most) in
+    run_ended_ok c.args.world (seen_order c.args.order) c.args.cut c.run_events.new.world (seen c.run_events.new.out) c.args.power.now c.run_events.new.power c.end_run.new.power few c.in_ok-end.end c.in_ok-end.ensures.ends
+    (c.in_ok-end.ensures.comes (seen_order c.args.order) c.new-picker.ensures) c.end_run.result c.end_run.ensures

@@ -3,8 +3,8 @@ use Rattle.report_text.specs.Texts.{history_text}
 use Rattle.split_top.proofs.Opened.{shows-tree}
 use Rattle.split_top.proofs.running.outcome_of.Goals as goal
 
-pub returns : goal.returns
-returns c image device =
+pub returns-clause-ran : goal.returns-clause-ran
+returns-clause-ran c image device kept is =
     let ran = c.in_ok-ran.ensures.ran in
     record {
       tree = ran.tree;
@@ -18,7 +18,7 @@ returns c image device =
         is_run = ran.is_run;
         is_text = c.in_ok-extend_from_slice.ensures.items
             ∙ (λ i. (c.in_ok-output.ensures ∙ ap history_text c.deref.ensures.value) i ++ (c.deref-2.ensures.value ∙ c.in_ok-tree.ensures) i);
-        is_kept = c.in_ok-ran.ensures.mounted;
-        numbers = c.in_ok-ran.ensures.numbers;
+        is_kept = c.in_ok-ran.ensures.mounted kept is;
+        numbers = c.in_ok-ran.ensures.numbers kept is;
       };
     }

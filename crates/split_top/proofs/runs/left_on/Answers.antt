@@ -1,8 +1,6 @@
 use Rattle.std.proofs.Common.{◌≡◌, ◌*◌, List, length, true, sym, subst, ◌∙◌, ap}
-use Rattle.std.proofs.Math.Path.{fun_ext}
 use Rattle.command_line.specs.pm_model.declared.Cell.{Cell}
-use Rattle.command_line.specs.pm_model.CellLaws.{single-home}
-use Rattle.command_line.specs.pm_model.Cells.{cell, is_single, newest}
+use Rattle.command_line.specs.pm_model.Cells.{cell, is_single}
 use Rattle.command_line.specs.pm_model.Images.{words_of}
 use Rattle.command_line.specs.pm_model.Words.{word_at}
 use Rattle.split_machine.specs.image_model.Rules.{IsChecked}
@@ -38,25 +36,24 @@ returns-clause-permitted c start history unfinished left =
     (record { image = c.in_ok-bytes.ensures.image; honest = c.in_ok-bytes.ensures.honest; crash = c.in_ok-bytes.ensures.settled })
     (words_of c.in_ok-crashed.crashed) c.in_ok-crashed.ensures.words c.in_ok-mounted.mounted.k c.in_ok-mounted.mounted.tree c.in_ok-mounted.ensures
 
-pub choose-requires : goal.choose-requires
-choose-requires c i =
-    single-home (cell c.into_pm-remounted.result i)
-    (subst (λ (d : List Cell). is_single (cell d i) ≡ true) (sym c.into_pm-remounted.ensures) (c.in_ok-mounted.ensures.mounted.rest.single i))
+pub returns-clause-single : goal.returns-clause-single
+returns-clause-single c i =
+    subst (λ (d : List Cell). is_single (cell d i) ≡ true) (sym c.into_pm-remounted.ensures) (c.in_ok-mounted.ensures.mounted.rest.single i)
 
 pub returns-clause-mounted : goal.returns-clause-mounted
-returns-clause-mounted c =
+returns-clause-mounted c kept is =
     let k = c.in_ok-mounted.mounted.k in
-    let size : length c.in_ok-image.image.items ≡ 8 * length k.cells = c.in_ok-image.ensures.image.size ∙ ap (λ (d : List Cell). 8 * length d) c.into_pm-remounted.ensures in
-    let words : word_at c.in_ok-image.image.items ≡ words_of k.cells = fun_ext (λ i. c.in_ok-image.ensures.chosen i ∙ ap (λ (d : List Cell). newest (cell d i)) c.into_pm-remounted.ensures) in
-    kept-mounted (words_of c.in_ok-crashed.crashed) k c.in_ok-mounted.mounted.tree c.in_ok-image.image.items c.in_ok-mounted.ensures size words
+    let size : length kept ≡ 8 * length k.cells = sym is.size ∙ ap (λ (d : List Cell). 8 * length d) c.into_pm-remounted.ensures in
+    let words : word_at kept ≡ words_of k.cells = sym is.words ∙ ap words_of c.into_pm-remounted.ensures in
+    kept-mounted (words_of c.in_ok-crashed.crashed) k c.in_ok-mounted.mounted.tree kept c.in_ok-mounted.ensures size words
 
 pub returns-clause-numbers : goal.returns-clause-numbers
-returns-clause-numbers c =
+returns-clause-numbers c kept is =
     let k = c.in_ok-mounted.mounted.k in
     let r = c.requires in
-    let size : length c.in_ok-image.image.items ≡ 8 * length k.cells = c.in_ok-image.ensures.image.size ∙ ap (λ (d : List Cell). 8 * length d) c.into_pm-remounted.ensures in
-    let words : word_at c.in_ok-image.image.items ≡ words_of k.cells = fun_ext (λ i. c.in_ok-image.ensures.chosen i ∙ ap (λ (d : List Cell). newest (cell d i)) c.into_pm-remounted.ensures) in
-    kept-numbers (words_of c.in_ok-crashed.crashed) k c.in_ok-mounted.mounted.tree c.in_ok-image.image.items c.in_ok-mounted.ensures size words
+    let size : length kept ≡ 8 * length k.cells = sym is.size ∙ ap (λ (d : List Cell). 8 * length d) c.into_pm-remounted.ensures in
+    let words : word_at kept ≡ words_of k.cells = sym is.words ∙ ap words_of c.into_pm-remounted.ensures in
+    kept-numbers (words_of c.in_ok-crashed.crashed) k c.in_ok-mounted.mounted.tree kept c.in_ok-mounted.ensures size words
     ∙ left-numbers c.args.geometry c.args.choice c.args.pm.now r.0 r.1 r.2 c.in_ok-bytes.bytes.items r.3
     (record { image = c.in_ok-bytes.ensures.image; honest = c.in_ok-bytes.ensures.honest; crash = c.in_ok-bytes.ensures.settled })
     (words_of c.in_ok-crashed.crashed) c.in_ok-crashed.ensures.words

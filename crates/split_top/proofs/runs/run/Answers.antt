@@ -5,13 +5,13 @@ use Rattle.split_top.proofs.runs.run.Goals as goal
 pub run_world-requires : goal.run_world-requires
 run_world-requires c =
     let b = c.in_ok-world.ensures in
-    (task_on b.tree b.shape c.args.scripts c.args.options.now.mode, b.on)
+    (task_on b.tree b.shape c.args.opened.geometry.log c.args.scripts c.args.options.now.mode, b.on)
 
 pub returns-clause-ran : goal.returns-clause-ran
 returns-clause-ran c =
     let b = c.in_ok-world.ensures in
     follows c.run_world.result _ _
     (λ ran ensures.
-    let x = ensures (task_on b.tree b.shape c.args.scripts c.args.options.now.mode) b.on in
+    let x = ensures (task_on b.tree b.shape c.args.opened.geometry.log c.args.scripts c.args.options.now.mode) b.on in
     record { tree = b.tree; shape = b.shape; is_tree = b.is_tree; is_shape = b.is_shape; unfinished = x.0; is_run = x.1 })
     c.run_world.ensures.ran

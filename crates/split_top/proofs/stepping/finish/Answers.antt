@@ -10,10 +10,11 @@ use Rattle.split_top.proofs.stepping.finish.Goals as goal
 pub returns-in-Ok : goal.returns-in-Ok
 returns-in-Ok g c run options stepped done_is =
     let told = g.F.Files.told c.args.files.now in
-    let image = c.args.outcome.now.image.items in
+    let was = c.in-Ok.ensures.kept in
+    let image = was.kept in
     let kept : Keeps run.options.keep image told (g.F.Files.told c.keep_image.new.files) =
-    subst (λ (o : commands.Options). Keeps o.keep image told (g.F.Files.told c.keep_image.new.files)) (sym options) c.in-Ok.ensures.kept in
-    let does : IsStepped told run c.deref.result.now image = subst (λ output. IsStepped told run output image) (sym c.deref.ensures.value) stepped in
+    subst (λ (o : commands.Options). Keeps o.keep image told (g.F.Files.told c.keep_image.new.files)) (sym options) was.keeps in
+    let does : IsStepped told run c.deref.result.now image = subst (λ output. IsStepped told run output image) (sym c.deref.ensures.value) (stepped image was.is_image) in
     put-answer (commands.Step run) told _ _ _ _ _ _ c.deref.result.now
     (record { kept = image; stepped = does; is_left = kept })
     (keeps-or run told _ c.deref.result.now image does kept)

@@ -6,6 +6,7 @@ use Rattle.outside.specs.Outside.{AreOfFile, IsAbsent, Rose}
 use Rattle.split_top.proofs.Answered.{answer-later, rose-later, unread-answer}
 use Rattle.split_top.proofs.Opened.{can-open, same-numbers}
 use Rattle.split_top.proofs.Stepped.{ran-step, unread-script, unrun-answer}
+use Rattle.split_top.specs.Devices.{IsDeviceOf}
 use Rattle.split_top.specs.Jobs.{IsAnswer}
 use Rattle.split_top.specs.Top.{CompletesStep, IsScriptRunOn, IsStepped, OpensImage}
 use Rattle.split_top.proofs.stepping.run_on.Goals as goal
@@ -28,12 +29,13 @@ returns-in-Ok-run_script g c named image are device =
     let run : commands.Run = record { image = named; script = c.args.script.now; options = seen_options c.args.options.now } in
     let script : AreOfFile (told c.args.files.now) c.args.script.now c.deref.result.now = subst (AreOfFile (told c.args.files.now) c.args.script.now) (sym c.deref.ensures.value) c.in-Ok.ensures.bytes in
     let o = c.in-Ok-run_script.outcome in
-    let ran = c.in-Ok-run_script.ensures.outcome image device in
-    let on = subst (λ h. IsScriptRunOn image h c.deref.result.now run.options o.output.items o.image.items) (same-numbers image c.args.opened.pm device c.args.opened.geometry c.requires.mounts.numbers) ran in
-    let stepped : IsStepped (told c.args.files.now) run o.output.items o.image.items = record { image = image; is_image = are; script = c.deref.result.now; is_read = script; is_run = on } in
-    let done_is = ran-step run (told c.args.files.now) image are (can-open image c.args.opened.pm device c.requires.mounts.checked) c.deref.result.now script on.is_script in
+    let ran = c.in-Ok-run_script.ensures in
+    let stepped = λ (kept : List ℕ) (is : IsDeviceOf kept o.pm).
+    let on = subst (λ h. IsScriptRunOn image h c.deref.result.now run.options o.output.items kept) (same-numbers image c.args.opened.pm device c.args.opened.geometry c.requires.mounts.numbers) (ran.outcome image device kept is) in
+    let r : IsStepped (told c.args.files.now) run o.output.items kept = record { image = image; is_image = are; script = c.deref.result.now; is_read = script; is_run = on } in r in
+    let done_is = ran-step run (told c.args.files.now) image are (can-open image c.args.opened.pm device c.requires.mounts.checked) c.deref.result.now script ran.script in
     let later = c.finish.ensures run refl
-    (subst (λ f. IsStepped f run o.output.items o.image.items) (sym c.read_file.ensures.told) stepped)
+    (λ kept is. subst (λ f. IsStepped f run o.output.items kept) (sym c.read_file.ensures.told) (stepped kept is))
     (subst (λ f. CompletesStep run f Status.Done) (sym c.read_file.ensures.told) done_is) in
     answer-later (commands.Step run) (told c.args.files.now) _ _ _ _ _ _ _ _ c.finish.result (rose-later _ _ _ c.read_file.ensures.misses) (rose-later _ _ _ c.read_file.ensures.faults)
     (subst (λ f. IsAnswer (commands.Step run) f (told c.finish.new.files) (g.K.Sink.told c.args.out.now) (g.K.Sink.told c.finish.new.out) (Rose (g.F.Files.misses c.read_file.new.files) (g.F.Files.misses c.finish.new.files)) (Rose (g.F.Files.faults c.read_file.new.files) (g.F.Files.faults c.finish.new.files)) (Rose (g.K.Sink.faults c.args.out.now) (g.K.Sink.faults c.finish.new.out)) c.finish.result) c.read_file.ensures.told later)

@@ -1,0 +1,27 @@
+use Rattle.std.proofs.Common.{◌∙◌, ap}
+use Rattle.split_cases.specs.Summary.{summary_text}
+use Rattle.split_top.proofs.Opened.{shows-tree}
+use Rattle.split_top.proofs.loading.sums_of.Goals as goal
+
+pub returns : goal.returns
+returns c image device =
+    let ran = c.in_ok-ran.ensures.ran in
+    let kept = c.has_image.ensures.0 in
+    let is = c.has_image.ensures.1 in (
+      kept,
+      record {
+        tree = ran.tree;
+        shows = shows-tree image c.args.opened.pm device ran.tree c.requires.mounts.checked ran.is_tree;
+        shape = ran.shape;
+        is_shape = ran.is_shape;
+        outcome = record {
+          history = c.in_ok-ran.ran.history.items;
+          unfinished = ran.unfinished;
+          left = c.in_ok-ran.ran.tree;
+          is_run = ran.is_run;
+          is_text = c.in_ok-text.ensures ∙ ap (λ history. summary_text history c.in_ok-ran.ran.tree) c.deref.ensures.value;
+          is_kept = c.in_ok-ran.ensures.mounted kept is;
+          numbers = c.in_ok-ran.ensures.numbers kept is;
+        };
+      },
+    )

@@ -2,9 +2,11 @@
 
 from __future__ import annotations
 
+import copy
+import itertools
 import re
 
-from tools.model import File, Folder, Model
+from tools.model import Differs, File, Folder, Model
 from tools.program import CHOICES, Found
 
 QUIET = {"stat", "list", "read", "pread", "seek", "dup", "close"}
@@ -18,6 +20,20 @@ def cut(text: str, width: int) -> str:
 def call_of(line: str) -> str:
     """Returns the call of a line of the history, without its number and its reply."""
     return line.split(" ", 1)[1].rsplit(" = ", 1)[0]
+
+
+def caller_of(line: str) -> str:
+    """Returns who made the call of a line of the history: `s` for the set-up, or the number of a thread."""
+    return line.split(".", 1)[0]
+
+
+def said_calls(found: Found) -> list[str]:
+    """Returns the calls of the whole run as they are told: with their callers in front, as `1: write y 62`, where these are
+    several."""
+    lines = found.whole.calls
+    if len({caller_of(line) for line in lines}) < 2:
+        return [call_of(line) for line in lines]
+    return [f"{caller_of(line)}: {call_of(line)}" for line in lines]
 
 
 def nodes_of(tree: tuple[str, ...]) -> dict[str, tuple[int, str] | None]:
@@ -70,28 +86,59 @@ def model_of_tree(tree: tuple[str, ...]) -> Model:
     return model
 
 
-def trees_of_history(found: Found) -> dict[int, tuple[str, ...]]:
-    """Returns the trees that the calls make without a loss, by the number of calls, for those numbers that outcomes have, and for
-    one more."""
-    counts = {len(outcome.calls) + more for outcome in found.outcomes for more in (0, 1)}
-    model, trees = model_of_tree(found.begin), {}
+def succeeded(line: str) -> bool:
+    return not re.fullmatch(r"E[A-Z]+", line.rsplit(" = ", 1)[1].split(" ")[0])
+
+
+def models_of_history(found: Found) -> dict[int, Model]:
+    """Returns what the calls make without a loss, by the number of calls, for those numbers that outcomes have."""
+    counts = {len(outcome.calls) for outcome in found.outcomes}
+    model, models = model_of_tree(found.begin), {}
     for count, line in enumerate(["", *found.whole.calls]):
-        if count and not re.fullmatch(r"E[A-Z]+", line.rsplit(" = ", 1)[1].split(" ")[0]):
+        if count and succeeded(line):
             model.apply(call_of(line))
         if count in counts:
-            trees[count] = tuple(model.tree())
-    return trees
+            models[count] = copy.deepcopy(model)
+    return models
+
+
+def next_places(found: Found, count: int) -> list[int]:
+    """Returns the places in the whole history of the calls that come next behind so many: one of each caller at most, and none of
+    a thread before the set-up is done."""
+    places: dict[str, int] = {}
+    for place in range(count, len(found.whole.calls)):
+        places.setdefault(caller_of(found.whole.calls[place]), place)
+    return [count] if places.get("s") == count else sorted(places.values())
+
+
+def unfinished_of(found: Found, model: Model, count: int, tree: tuple[str, ...]) -> list[int] | None:
+    """Returns the fewest unfinished calls behind so many, by their places in the whole history, that make this tree; None where
+    none do."""
+    places = [it for it in next_places(found, count) if succeeded(found.whole.calls[it])]
+    for many in range(1, len(places) + 1):
+        for some in itertools.combinations(places, many):
+            made = copy.deepcopy(model)
+            try:
+                for place in some:
+                    made.apply(call_of(found.whole.calls[place]))
+            except Differs:
+                continue
+            if tuple(made.tree()) == tree:
+                return list(some)
+    return None
 
 
 def loud(calls: list[str]) -> list[str]:
     """Returns the calls but those that only ask, or all where they all do."""
-    return [call for call in calls if call.split(" ")[0] not in QUIET] or calls
+    return [call for call in calls if call.split(": ", 1)[-1].split(" ")[0] not in QUIET] or calls
 
 
 def what_happened(found: Found) -> list[str]:
-    """Returns a name for each outcome: the last call that returned, and what changed since the outcome with fewer calls; or the call
-    that comes next, where the tree has it already. Where the tree is neither, what differs from that of the history is told."""
-    trees, calls = trees_of_history(found), ["", *map(call_of, found.whole.calls)]
+    """Returns a name for each outcome: the last call that returned, and what changed since the outcome with fewer calls; or the
+    unfinished calls, of those that come next, which the tree has already. Where the tree is neither, what differs from that of the
+    history is told."""
+    models, calls = models_of_history(found), ["", *said_calls(found)]
+    trees = {count: tuple(model.tree()) for count, model in models.items()}
     counts = {len(outcome.calls) for outcome in found.outcomes}
     names = []
     for outcome in found.outcomes:
@@ -102,10 +149,13 @@ def what_happened(found: Found) -> list[str]:
         if outcome.tree == trees[count]:
             changed = difference(trees[before], trees[count])
             names.append(last + (f": {cut(changed, 70)}" if changed else ""))
-        elif outcome.tree == trees.get(count + 1):
-            names.append(f"{cut(calls[count + 1], 40)} unfinished: {cut(difference(trees[count], outcome.tree), 70)}")
+            continue
+        changed = cut(difference(trees[count], outcome.tree), 70)
+        unfinished = unfinished_of(found, models[count], count, outcome.tree)
+        if unfinished is None:
+            names.append(f"{last}, but {changed}")
         else:
-            names.append(f"{last}, but {cut(difference(trees[count], outcome.tree), 70)}")
+            names.append(f"{cut('; '.join(calls[place + 1] for place in unfinished), 60)} unfinished: {changed}")
     return names
 
 

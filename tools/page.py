@@ -6,7 +6,7 @@ import html
 import json
 import re
 
-from tools.naming import shown, what_happened
+from tools.naming import next_places, shown, what_happened
 from tools.picture import Verdict, picture
 from tools.program import Found
 
@@ -44,7 +44,7 @@ function show(span) {
   part("history").textContent = calls.slice(0, outcome.returned).join("\\n");
   const next = document.createElement("span");
   next.className = "unfinished";
-  next.textContent = outcome.returned < calls.length ? "\\n" + calls[outcome.returned].replace(/ = .*/, "") + "   (not returned)" : "";
+  next.textContent = outcome.next.map(it => "\\n" + it + "   (not returned)").join("");
   part("history").append(next);
   part("tree").textContent = outcome.tree.join("\\n");
   part("verdict").textContent = outcome.verdict;
@@ -68,11 +68,12 @@ def as_script(value: object) -> str:
 
 def page(found: Found, title: str, verdicts: list[Verdict] | None) -> str:
     """Returns the page. It is one file, and asks nothing of the network."""
-    outcomes = []
+    outcomes, lines = [], found.whole.calls
     for number, (outcome, name) in enumerate(zip(found.outcomes, what_happened(found))):
         said = "" if verdicts is None else f"verdict: {verdicts[number].why}\n{verdicts[number].output[-2000:]}"
         tree = [shown(line, 400) for line in outcome.tree]
-        outcomes.append({"name": name, "returned": len(outcome.calls), "tree": tree, "verdict": said})
+        begun = [shown(lines[place].rsplit(" = ", 1)[0], 400) for place in next_places(found, len(outcome.calls))]
+        outcomes.append({"name": name, "returned": len(outcome.calls), "next": begun, "tree": tree, "verdict": said})
     parts = {
         "@TITLE@": html.escape(title),
         "@PICTURE@": picture(found, title, verdicts),

@@ -1,11 +1,12 @@
-"""Draws the outcomes of a script as an SVG: steps along, choices down, and a legend that says what happened."""
+"""Draws the outcomes of a script as an SVG: steps along, choices down, and a legend that says what happened. Where several threads
+call, each return is marked with its caller, as `1: write y 62`."""
 
 from __future__ import annotations
 
 import html
 from dataclasses import dataclass
 
-from tools.naming import call_of, cut, loud, named, shown, what_happened
+from tools.naming import cut, loud, named, said_calls, shown, what_happened
 from tools.program import CHOICES, Found
 
 LEFT, WIDTH, ROW, LANE, LETTER = 80, 900, 26, 12, 5.3
@@ -58,7 +59,8 @@ def returns(found: Found) -> list[tuple[int, list[int]]]:
 
 def label(found: Found, calls: list[int], width: int) -> str:
     """Returns the label of calls that return together: their words, or their numbers where there are many."""
-    words = loud([call_of(found.whole.calls[call]) for call in calls])
+    said = said_calls(found)
+    words = loud([said[call] for call in calls])
     if width < SHORTEST or len(words) > 3:
         return str(calls[0] + 1) if len(calls) == 1 else f"{calls[0] + 1} to {calls[-1] + 1}"
     return cut("; ".join(cut(word, width) for word in words), LONGEST)

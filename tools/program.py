@@ -84,10 +84,11 @@ class Progress:
 
 
 class Script:
-    """A script that is run on an image in a mode, again and again."""
+    """A script that is run on an image in a mode, again and again; the order of its threads is that of the words, `order LIST` or
+    `seed N`, or in turn where there are none."""
 
-    def __init__(self, image: str, script: str, mode: str, jobs: int):
-        self.words = ("step", image, script, mode)
+    def __init__(self, image: str, script: str, mode: str, jobs: int, order: tuple[str, ...] = ()):
+        self.words = ("step", image, script, mode, *order)
         self.pool = concurrent.futures.ThreadPoolExecutor(jobs)
         self.whole = outcome_of(run_wrapper(*self.words))
         self.begin = outcome_of(run_built("tree", image)).tree

@@ -48,7 +48,7 @@ def said_by_then(script: str) -> list[str]:
             line = line.rstrip("\r\n").lstrip()
             if line.startswith(SAID):
                 said += codecs.decode(line[len(SAID) :], "unicode_escape")
-            elif line and not line.startswith("#"):
+            elif line and not line.startswith("#") and line not in ("setup", "thread"):
                 texts.append(said)
     return [*texts, said]
 

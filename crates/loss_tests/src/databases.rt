@@ -1,8 +1,6 @@
 //! Scripts of databases.
-use crate::parts::assert_part;
-use split_tables::losses_told;
+use crate::parts::{assert_losses, assert_part};
 use std::test::Fail;
-use test_kit::assert_rows;
 
 const DATABASES: &str = "\
 # examples/rollback_journal.txt: where the journal stands, the page is taken back from it.
@@ -124,14 +122,12 @@ tree = / dir; /bank.db file 1536 53514c69746520666f726d6174203300020001010040202
 
 #[test]
 fn databases(rt: HostRuntime) -> Result<(), Fail> {
-    assert_rows(&rt, DATABASES, 2, &losses_told)?;
-    Ok(())
+    assert_losses(&rt, DATABASES, 2)
 }
 
 #[test]
 fn sqlite_behind_a_rollback_journal(rt: HostRuntime) -> Result<(), Fail> {
-    assert_rows(&rt, SQLITE, 1, &losses_told)?;
-    Ok(())
+    assert_losses(&rt, SQLITE, 1)
 }
 
 #[test]

@@ -1,8 +1,6 @@
 //! Scripts that fill the log, the staging files and the device.
-use crate::parts::assert_part;
-use split_tables::losses_told;
+use crate::parts::{assert_losses, assert_part};
 use std::test::Fail;
-use test_kit::assert_rows;
 
 const FEW: &str = "\
 # The log has four lines: the fifth write begins a new lap.
@@ -163,14 +161,12 @@ tree = / dir; /f file 131172 00*100+65*131072
 
 #[test]
 fn the_fifth_write_begins_a_lap(rt: HostRuntime) -> Result<(), Fail> {
-    assert_rows(&rt, FEW, 1, &losses_told)?;
-    Ok(())
+    assert_losses(&rt, FEW, 1)
 }
 
 #[test]
 fn staging_is_used_up(rt: HostRuntime) -> Result<(), Fail> {
-    assert_rows(&rt, STAGING, 1, &losses_told)?;
-    Ok(())
+    assert_losses(&rt, STAGING, 1)
 }
 
 #[test]

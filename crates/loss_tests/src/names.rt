@@ -1,7 +1,6 @@
 //! Calls on names, with a loss after each step.
-use split_tables::losses_told;
+use crate::parts::assert_losses;
 use std::test::Fail;
-use test_kit::assert_rows;
 
 const LINUX: &str = "\
 # Answered by Linux 6.18: each row was run in a fresh directory of an ext4 file system by mkdir(2),
@@ -61,6 +60,5 @@ close a = ok
 
 #[test]
 fn each_step_of_calls_on_names(rt: HostRuntime) -> Result<(), Fail> {
-    assert_rows(&rt, LINUX, 4, &losses_told)?;
-    Ok(())
+    assert_losses(&rt, LINUX, 4)
 }

@@ -1,8 +1,6 @@
 //! Scripts that read, write and publish.
-use crate::parts::assert_part;
-use split_tables::losses_told;
+use crate::parts::{assert_losses, assert_part};
 use std::test::Fail;
-use test_kit::assert_rows;
 
 const BYTES: &str = "\
 # Worked by hand from the rows of docs/CALLS.md. Bytes that were written are read back.
@@ -287,44 +285,37 @@ tree = / dir; /f file 5000 61*10+00*4990
 
 #[test]
 fn bytes_are_read_back(rt: HostRuntime) -> Result<(), Fail> {
-    assert_rows(&rt, BYTES, 3, &losses_told)?;
-    Ok(())
+    assert_losses(&rt, BYTES, 3)
 }
 
 #[test]
 fn files_without_a_name(rt: HostRuntime) -> Result<(), Fail> {
-    assert_rows(&rt, NAMELESS, 2, &losses_told)?;
-    Ok(())
+    assert_losses(&rt, NAMELESS, 2)
 }
 
 #[test]
 fn handles_and_blocks(rt: HostRuntime) -> Result<(), Fail> {
-    assert_rows(&rt, HANDLES, 2, &losses_told)?;
-    Ok(())
+    assert_losses(&rt, HANDLES, 2)
 }
 
 #[test]
 fn gaps_and_names(rt: HostRuntime) -> Result<(), Fail> {
-    assert_rows(&rt, GAPS, 2, &losses_told)?;
-    Ok(())
+    assert_losses(&rt, GAPS, 2)
 }
 
 #[test]
 fn errors_of_all_handles(rt: HostRuntime) -> Result<(), Fail> {
-    assert_rows(&rt, ERRORS, 2, &losses_told)?;
-    Ok(())
+    assert_losses(&rt, ERRORS, 2)
 }
 
 #[test]
 fn no_room_for_a_second_file(rt: HostRuntime) -> Result<(), Fail> {
-    assert_rows(&rt, NO_ROOM, 1, &losses_told)?;
-    Ok(())
+    assert_losses(&rt, NO_ROOM, 1)
 }
 
 #[test]
 fn each_step_of_an_overwrite(rt: HostRuntime) -> Result<(), Fail> {
-    assert_rows(&rt, OVERWRITE, 1, &losses_told)?;
-    Ok(())
+    assert_losses(&rt, OVERWRITE, 1)
 }
 
 #[test]

@@ -1,18 +1,21 @@
-//! A script of one thread on an image, in the plain model of the calls and through the top call.
+//! A script on an image, in the plain model of the calls and through the top call.
 use crate::images::Image;
 use crate::modes::mode_of;
-use crate::scripts::kept;
-use posix_spec::{Call, Item, Mode, State, Who, root_alone};
-use script_text::read_script;
+use crate::scripts::{kept, printed};
+use posix_spec::{Call, Item, Mode, Scripts, State, Tree, Who, root_alone};
 use std::alloc::Global;
-use test_kit::{RowError, shown_items, shown_tree};
+use std::str::from_utf8;
+use test_kit::{RowError, count_of, next_calls, read_history, scripts_of, shown_items, shown_tree};
 
-/// A script of one thread on a fresh image in a mode, and what the model says of it.
+/// A script on a fresh image in a mode, and what the model says of its calls in the order in which they return.
 #[derive(Drop)]
 pub struct Case {
     pub(crate) mode: Mode,
     pub(crate) image: Image,
     pub(crate) script: String,
+    // The words `order LIST` or `seed N` of a script of several threads, or none.
+    pub(crate) order: String,
+    scripts: Scripts,
     pub(crate) items: Vec<Item>,
     // The text of each item.
     pub(crate) lines: Vec<String>,
@@ -28,21 +31,38 @@ fn hold_memory(alloc: Global) -> Result<(), RowError> {
 }
 
 // The calls of the one thread of a script.
-fn calls_of(alloc: Global, script: &str) -> Result<Vec<Call>, RowError> {
-    let Ok(mut scripts) = read_script(alloc, script.as_bytes()) else {
-        return Err(RowError::Misspelled);
-    };
-    match scripts.threads.pop() {
-        Some(list) => Ok(list.calls),
-        None => Ok(Vec::new(alloc)),
+fn calls_of(alloc: Global, scripts: &Scripts) -> Result<Vec<(Who, Call)>, RowError> {
+    let mut calls = Vec::new(alloc);
+    for list in &scripts.threads {
+        for call in &list.calls {
+            calls.push((Who::Thread(0), call.clone()?))?;
+        }
+    }
+    Ok(calls)
+}
+
+// The calls of a case in the order in which they return: that of the script of one thread, and else that which is printed.
+fn course_of(alloc: Global, case: &Case) -> Result<Vec<(Who, Call)>, RowError> {
+    if case.scripts.setup.calls.is_empty() && case.scripts.threads.len() <= 1 {
+        return calls_of(alloc, &case.scripts);
+    }
+    let output = printed(alloc, case, &[])?;
+    match from_utf8(&output) {
+        Ok(text) => read_history(alloc, &case.scripts, text),
+        Err(_) => Err(RowError::Misspelled),
     }
 }
 
 // Does a call of the model, and adds its item and its texts.
-fn add_call(alloc: Global, case: &mut Case, state: &mut State, call: Call) -> Result<(), RowError> {
-    let who = Who::Thread(0);
+fn add_call(
+    alloc: Global,
+    case: &mut Case,
+    state: &mut State,
+    who: Who,
+    call: Call,
+) -> Result<(), RowError> {
     let outcome = state.apply(who, &call)?;
-    let index = u32::try_from(case.items.len()).unwrap_or(u32::MAX);
+    let index = count_of(&case.items, who);
     let item = Item {
         who,
         index,
@@ -60,26 +80,74 @@ fn add_call(alloc: Global, case: &mut Case, state: &mut State, call: Call) -> Re
     Ok(())
 }
 
+// A script of which nothing is said yet.
+fn untold(
+    alloc: Global,
+    mode: &str,
+    numbers: &str,
+    script: &str,
+    order: &str,
+) -> Result<Case, RowError> {
+    Ok(Case {
+        mode: mode_of(mode)?,
+        image: Image::new(alloc, numbers)?,
+        script: script.to_string(alloc)?,
+        order: order.to_string(alloc)?,
+        scripts: scripts_of(alloc, script)?,
+        items: Vec::new(alloc),
+        lines: Vec::new(alloc),
+        trees: Vec::new(alloc),
+    })
+}
+
+// Does calls of the model, one after another, and adds their items and texts.
+fn add_calls(
+    alloc: Global,
+    case: &mut Case,
+    state: &mut State,
+    calls: Vec<(Who, Call)>,
+) -> Result<(), RowError> {
+    for (who, call) in calls {
+        add_call(alloc, case, state, who, call)?;
+    }
+    Ok(())
+}
+
+// Says what the model says of the script, from this tree on.
+fn tell_from(alloc: Global, case: &mut Case, root: &Tree) -> Result<(), RowError> {
+    case.trees.push(shown_tree(alloc, root)?)?;
+    let calls = course_of(alloc, case)?;
+    let mut state = State::open(alloc, root, case.image.shape, case.mode)?;
+    add_calls(alloc, case, &mut state, calls)
+}
+
 impl Case {
     /// A script in the mode of this word, on the image of `mkfs` with these numbers, parted by blanks, or on the default one
     /// where there are none.
     pub fn new(alloc: Global, mode: &str, numbers: &str, script: &str) -> Result<Case, RowError> {
+        Case::ordered(alloc, mode, numbers, script, "")
+    }
+
+    /// Likewise a script of several threads with an order, `order LIST` or `seed N`, or in turn where it is empty. The model does
+    /// the calls in the order in which a whole run prints them.
+    pub fn ordered(
+        alloc: Global,
+        mode: &str,
+        numbers: &str,
+        script: &str,
+        order: &str,
+    ) -> Result<Case, RowError> {
         hold_memory(alloc)?;
-        let mut case = Case {
-            mode: mode_of(mode)?,
-            image: Image::new(alloc, numbers)?,
-            script: script.to_string(alloc)?,
-            items: Vec::new(alloc),
-            lines: Vec::new(alloc),
-            trees: Vec::new(alloc),
-        };
         let root = root_alone(alloc)?;
-        let mut state = State::open(alloc, &root, case.image.shape, case.mode)?;
-        case.trees.push(shown_tree(alloc, &root)?)?;
-        for call in calls_of(alloc, script)? {
-            add_call(alloc, &mut case, &mut state, call)?;
-        }
+        let mut case = untold(alloc, mode, numbers, script, order)?;
+        tell_from(alloc, &mut case, &root)?;
         Ok(case)
+    }
+
+    // The next call of each caller behind so many calls.
+    pub(crate) fn next(&self, alloc: Global, calls: usize) -> Result<Vec<(Who, Call)>, RowError> {
+        let history = self.items.get(..calls).unwrap_or(&[]);
+        Ok(next_calls(alloc, &self.scripts, history)?)
     }
 
     /// How many calls it has.

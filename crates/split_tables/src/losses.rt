@@ -1,9 +1,9 @@
 //! A script with a power loss, and whether the mode permits what is left.
 use crate::cases::Case;
 use crate::scripts::printed;
-use crate::stops::Stops;
+use crate::stops::{Stops, Unit};
 use crash_judge::judge;
-use posix_spec::{Who, root_alone};
+use posix_spec::{Call, Tree, Who, root_alone};
 use std::alloc::Global;
 use std::str::from_utf8;
 use test_kit::{RowError, read_tree};
@@ -16,7 +16,7 @@ pub(crate) struct Outcome {
 }
 
 // What the medium has after a loss: four simple choices, and one that is drawn from a seed.
-const CHOICES: [&str; 5] = ["oldest", "newest", "even", "odd", "7"];
+pub const CHOICES: [&str; 5] = ["oldest", "newest", "even", "odd", "7"];
 
 // How many lines of the history an output begins with, and what follows them.
 fn front<'a>(case: &Case, output: &'a [u8]) -> (usize, &'a [u8]) {
@@ -32,22 +32,77 @@ fn front<'a>(case: &Case, output: &'a [u8]) -> (usize, &'a [u8]) {
     (count, rest)
 }
 
-// What is printed where the power goes after so many steps.
+// What is printed where the power goes after so many steps or events.
 pub(crate) fn outcome_at(
     alloc: Global,
     case: &Case,
-    steps: u64,
+    unit: Unit,
+    count: u64,
     choice: &str,
 ) -> Result<Outcome, RowError> {
-    let steps = format!(in alloc; "{steps}")?;
-    let options = ["stop", steps.as_str(), "choose", choice];
-    let output = printed(alloc, case, &options)?;
+    let count = format!(in alloc; "{count}")?;
+    let output = match unit {
+        Unit::Step => printed(alloc, case, &["stop", count.as_str(), "choose", choice])?,
+        Unit::Event => printed(alloc, case, &["cut", count.as_str(), "choose", choice])?,
+    };
     let (returned, rest) = front(case, &output);
     let rest = Vec::from_slice(alloc, rest)?;
     Ok(Outcome { returned, rest })
 }
 
-// Whether what is left is a tree that is permitted after the calls that returned, with the next one unfinished.
+// Whether a tree is permitted after so many calls, with these unfinished.
+fn is_left(
+    alloc: Global,
+    case: &Case,
+    returned: usize,
+    unfinished: &[(Who, Call)],
+    after: &Tree,
+) -> Result<bool, RowError> {
+    let history = case.items.get(..returned).unwrap_or(&[]);
+    let start = root_alone(alloc)?;
+    let (mode, shape) = (case.mode, case.image.shape);
+    Ok(judge(alloc, mode, shape, &start, history, unfinished, after)?)
+}
+
+// Whether a call is logged where it is not refused. Such calls of several callers may be in flight at once.
+fn is_logged(call: &Call) -> bool {
+    matches!(call, Call::Write(..) | Call::Pwrite(..))
+}
+
+// Of the next calls those that are logged and, of the others, the one at this place.
+fn unfinished_with(
+    alloc: Global,
+    next: &[(Who, Call)],
+    other: usize,
+) -> Result<Vec<(Who, Call)>, RowError> {
+    let mut calls = Vec::new(alloc);
+    for (place, (who, call)) in next.iter().enumerate() {
+        if place == other || is_logged(call) {
+            calls.push((*who, call.clone()?))?;
+        }
+    }
+    Ok(calls)
+}
+
+// Whether a tree is permitted after so many calls. Unfinished may be the next call of each caller: those that are logged, in
+// flight at once, and one of the others, which lost its power as it began.
+fn is_left_of(alloc: Global, case: &Case, returned: usize, after: &Tree) -> Result<bool, RowError> {
+    let next = case.next(alloc, returned)?;
+    let mut others: usize = 0;
+    for (place, (_who, call)) in next.iter().enumerate() {
+        if !is_logged(call) {
+            others = others.saturating_add(1);
+            let unfinished = unfinished_with(alloc, &next, place)?;
+            if is_left(alloc, case, returned, &unfinished, after)? {
+                return Ok(true);
+            }
+        }
+    }
+    // Where one of the others was tried, so was none of them.
+    Ok(others == 0 && is_left(alloc, case, returned, &next, after)?)
+}
+
+// Whether what is left is a tree that is permitted after the calls that returned.
 fn is_judged(alloc: Global, case: &Case, found: &Outcome) -> Result<bool, RowError> {
     let Ok(text) = from_utf8(&found.rest) else {
         return Ok(false);
@@ -55,21 +110,7 @@ fn is_judged(alloc: Global, case: &Case, found: &Outcome) -> Result<bool, RowErr
     let Ok(after) = read_tree(alloc, text) else {
         return Ok(false);
     };
-    let mut unfinished = Vec::new(alloc);
-    if let Some(item) = case.items.get(found.returned) {
-        unfinished.push((Who::Thread(0), item.call.clone()?))?;
-    }
-    let history = case.items.get(..found.returned).unwrap_or(&[]);
-    let start = root_alone(alloc)?;
-    Ok(judge(
-        alloc,
-        case.mode,
-        case.image.shape,
-        &start,
-        history,
-        &unfinished,
-        &after,
-    )?)
+    is_left_of(alloc, case, found.returned, &after)
 }
 
 /// Whether the mode permits what is left where the power goes after so many steps, and the medium has this choice.
@@ -79,8 +120,24 @@ pub fn is_permitted(
     steps: u64,
     choice: &str,
 ) -> Result<bool, RowError> {
-    let found = outcome_at(alloc, case, steps, choice)?;
+    let found = outcome_at(alloc, case, Unit::Step, steps, choice)?;
     is_judged(alloc, case, &found)
+}
+
+/// How many calls are printed where the power goes behind so many events, and the tree, where the mode permits them.
+pub fn left_by_cut(
+    alloc: Global,
+    case: &Case,
+    events: u64,
+    choice: &str,
+) -> Result<Option<(usize, String)>, RowError> {
+    let found = outcome_at(alloc, case, Unit::Event, events, choice)?;
+    match from_utf8(&found.rest) {
+        Ok(tree) if is_judged(alloc, case, &found)? => {
+            Ok(Some((found.returned, tree.to_string(alloc)?)))
+        }
+        _ => Ok(None),
+    }
 }
 
 // What the losses of a script showed so far.
@@ -117,11 +174,12 @@ fn forbidden_choice(
     alloc: Global,
     case: &Case,
     tried: &mut Tried,
-    steps: u64,
+    unit: Unit,
+    count: u64,
 ) -> Result<Option<&'static str>, RowError> {
     let mut oldest = 0;
     for choice in CHOICES {
-        let found = outcome_at(alloc, case, steps, choice)?;
+        let found = outcome_at(alloc, case, unit, count, choice)?;
         let Some(place) = place_of(alloc, case, &mut tried.known, found)? else {
             return Ok(Some(choice));
         };
@@ -136,7 +194,7 @@ fn forbidden_choice(
 
 // Whether a loss before the first step leaves no call, and one of the losses that were tried fewer calls than there are.
 fn loses_calls(alloc: Global, case: &Case, tried: &Tried) -> Result<bool, RowError> {
-    let first = outcome_at(alloc, case, 0, "oldest")?;
+    let first = outcome_at(alloc, case, Unit::Step, 0, "oldest")?;
     let mut fewer = false;
     for outcome in &tried.known {
         fewer = fewer || outcome.returned < case.calls();
@@ -163,10 +221,34 @@ pub fn fault_of(alloc: Global, case: &Case, stops: &Stops) -> Result<Option<Stri
             }
             return Ok(None);
         }
-        if let Some(choice) = forbidden_choice(alloc, case, &mut tried, steps)? {
-            return Ok(Some(format!(in alloc; "forbidden at stop {steps} choose {choice}")?));
+        if let Some(choice) = forbidden_choice(alloc, case, &mut tried, stops.unit, steps)? {
+            let word = stops.unit.word();
+            return Ok(Some(format!(in alloc; "forbidden at {word} {steps} choose {choice}")?));
         }
         steps = steps.saturating_add(stops.every);
+    }
+    Err(RowError::NotRun)
+}
+
+/// The first of these stops that leaves something forbidden, each with one of the choices in turn.
+pub fn forbidden_in_turn(
+    alloc: Global,
+    case: &Case,
+    stops: &Stops,
+) -> Result<Option<String>, RowError> {
+    let mut known = Vec::new(alloc);
+    let mut count = stops.first;
+    for turn in 0..1_000_000_usize {
+        let choice = CHOICES[turn % CHOICES.len()];
+        if count > stops.last {
+            return Ok(None);
+        }
+        let found = outcome_at(alloc, case, stops.unit, count, choice)?;
+        if place_of(alloc, case, &mut known, found)?.is_none() {
+            let word = stops.unit.word();
+            return Ok(Some(format!(in alloc; "forbidden at {word} {count} choose {choice}")?));
+        }
+        count = count.saturating_add(stops.every);
     }
     Err(RowError::NotRun)
 }

@@ -1,6 +1,7 @@
 //! What a row of a script with power losses says.
+use posix_spec::Who;
 use std::alloc::Global;
-use test_kit::{RowError, asked, number, option, printed_call, printed_lines, spelled};
+use test_kit::{RowError, asked, caller, number, option, printed_call, printed_lines, spelled};
 
 // A script, and what it is to print.
 #[derive(Drop)]
@@ -10,6 +11,15 @@ pub(crate) struct Told {
     // The text of the tree after so many calls.
     pub(crate) trees: Vec<(usize, String)>,
     calls: usize,
+    setup: Part,
+    threads: Vec<Part>,
+}
+
+// The lines of one caller, and how many they are.
+#[derive(Drop)]
+struct Part {
+    lines: String,
+    count: u32,
 }
 
 // After how many steps the power goes.
@@ -23,6 +33,8 @@ pub(crate) struct Losses {
     pub(crate) to: u64,
     // The calls of which each step is tried.
     pub(crate) each: Vec<u64>,
+    // Behind how many events one more loss is, each; 0 for none.
+    pub(crate) cuts: u64,
 }
 
 // What the numbers behind a word of the option are.
@@ -32,6 +44,7 @@ enum Kind {
     From,
     To,
     Each,
+    Cuts,
 }
 
 fn kind_of(word: &str) -> Option<Kind> {
@@ -40,6 +53,7 @@ fn kind_of(word: &str) -> Option<Kind> {
         "from" => Some(Kind::From),
         "to" => Some(Kind::To),
         "each" => Some(Kind::Each),
+        "cuts" => Some(Kind::Cuts),
         _ => None,
     }
 }
@@ -50,17 +64,19 @@ fn add_number(losses: &mut Losses, kind: Kind, number: u64) -> Result<(), RowErr
         Kind::From => losses.from = number,
         Kind::To => losses.to = number,
         Kind::Each => losses.each.push(number)?,
+        Kind::Cuts => losses.cuts = number,
     }
     Ok(())
 }
 
-// The losses of a row: `losses every N from N to N each K ..`, as far as they are wanted.
+// The losses of a row: `losses every N from N to N each K .. cuts N`, as far as they are wanted.
 pub(crate) fn losses_of(alloc: Global, row: &str) -> Result<Losses, RowError> {
     let mut losses = Losses {
         every: 0,
         from: 0,
         to: 0,
         each: Vec::new(alloc),
+        cuts: 0,
     };
     let Some(words) = option(row, "losses") else {
         return Ok(losses);
@@ -75,14 +91,63 @@ pub(crate) fn losses_of(alloc: Global, row: &str) -> Result<Losses, RowError> {
     Ok(losses)
 }
 
+fn no_lines(alloc: Global) -> Part {
+    Part {
+        lines: String::new(alloc),
+        count: 0,
+    }
+}
+
+// Adds a call to the lines of a caller, and tells its number.
+fn add_line(part: &mut Part, call: &str) -> Result<u32, RowError> {
+    let place = part.count;
+    part.lines.push_str(call)?;
+    part.lines.push('\n')?;
+    part.count = place.saturating_add(1);
+    Ok(place)
+}
+
+// Adds a call to the lines of its caller, and tells its number.
+fn add_to(alloc: Global, told: &mut Told, who: Who, call: &str) -> Result<u32, RowError> {
+    match who {
+        Who::Setup => add_line(&mut told.setup, call),
+        Who::Thread(thread) => {
+            let thread = thread as usize;
+            for _more in told.threads.len()..thread.saturating_add(1) {
+                told.threads.push(no_lines(alloc))?;
+            }
+            match told.threads.get_mut(thread) {
+                Some(part) => add_line(part, call),
+                None => Err(RowError::Misspelled),
+            }
+        }
+    }
+}
+
 // Adds a call with its reply.
 fn add_call(alloc: Global, told: &mut Told, call: &str, line: &str) -> Result<(), RowError> {
-    told.script.push_str(spelled(alloc, call)?.as_str())?;
-    told.script.push('\n')?;
-    let place = u32::try_from(told.calls).unwrap_or(u32::MAX);
+    let (who, call) = caller(call)?;
+    let call = spelled(alloc, call)?;
+    let place = add_to(alloc, told, who, call.as_str())?;
     told.history
         .push_str(printed_call(alloc, place, line)?.as_str())?;
     told.calls = told.calls.saturating_add(1);
+    Ok(())
+}
+
+// Puts the script together: the lines of the one thread, or those of each caller below a heading.
+fn add_script(told: &mut Told) -> Result<(), RowError> {
+    let is_headed = told.setup.count > 0 || told.threads.len() > 1;
+    if is_headed {
+        told.script.push_str("setup\n")?;
+        told.script.push_str(told.setup.lines.as_str())?;
+    }
+    for part in &told.threads {
+        if is_headed {
+            told.script.push_str("thread\n")?;
+        }
+        told.script.push_str(part.lines.as_str())?;
+    }
     Ok(())
 }
 
@@ -93,6 +158,8 @@ pub(crate) fn told_by(alloc: Global, row: &str) -> Result<Told, RowError> {
         history: String::new(alloc),
         trees: Vec::new(alloc),
         calls: 0,
+        setup: no_lines(alloc),
+        threads: Vec::new(alloc),
     };
     for line in row.lines() {
         match asked(line) {
@@ -103,5 +170,6 @@ pub(crate) fn told_by(alloc: Global, row: &str) -> Result<Told, RowError> {
             Some((call, _reply)) => add_call(alloc, &mut told, call, line)?,
         }
     }
+    add_script(&mut told)?;
     Ok(told)
 }

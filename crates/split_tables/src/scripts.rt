@@ -46,6 +46,11 @@ fn step_words(alloc: Global, case: &Case, options: &[&str]) -> Result<Vec<String
         "-"
     };
     let mut words = words_of(alloc, &["step", name, "S", word_of(case.mode)])?;
+    for word in case.order.split(' ') {
+        if !word.is_empty() {
+            words.push(word.to_string(alloc)?)?;
+        }
+    }
     for word in options {
         words.push(word.to_string(alloc)?)?;
     }

@@ -26,25 +26,42 @@ fn numbers(alloc: Global, word: &str) -> Result<Vec<u64>, RowError> {
     Ok(list)
 }
 
+// A file `S` with these bytes, alone, where these calls fail.
+fn alone(alloc: Global, bytes: &[u8], failing: &str) -> Result<MemFiles, RowError> {
+    let mut list = Vec::new(alloc);
+    list.push(("S".to_string(alloc)?, Vec::from_slice(alloc, bytes)?))?;
+    Ok(MemFiles::new(alloc, list, numbers(alloc, failing)?))
+}
+
+// What a command puts over these files and a sink of which these calls fail.
+fn told_over(
+    alloc: Global,
+    files: &mut MemFiles,
+    puts: &str,
+    command: &str,
+) -> Result<Vec<u8>, RowError> {
+    let words = words_of(alloc, command)?;
+    let out = MemSink::new(alloc, numbers(alloc, puts)?);
+    Ok(answer_over(alloc, files, out, &words)?)
+}
+
+// What became of the file `S`, which had these bytes.
+fn end_told(alloc: Global, files: &MemFiles, before: &[u8]) -> Result<String, RowError> {
+    let after = files.bytes("S").unwrap_or(b"");
+    let length = after.len();
+    let kept = if after == before { "kept" } else { "replaced" };
+    Ok(format!(in alloc; "S is {kept}, {length} bytes\n")?)
+}
+
 // `FILES PUTS WORDS`: the command with these words over a file `S` alone, where these calls of the files and of the sink
 // fail, counted from 0. What is told ends with what became of `S`.
 fn told_of_failing(alloc: Global, files: &mut MemFiles, line: &str) -> Result<Vec<u8>, RowError> {
     let (file_calls, rest) = line.split_once(' ').ok_or(RowError::Misspelled)?;
     let (puts, command) = rest.split_once(' ').ok_or(RowError::Misspelled)?;
     let before = files.read(alloc, "S")?;
-    let mut list = Vec::new(alloc);
-    list.push(("S".to_string(alloc)?, Vec::from_slice(alloc, &before)?))?;
-    let mut alone = MemFiles::new(alloc, list, numbers(alloc, file_calls)?);
-    let out = MemSink::new(alloc, numbers(alloc, puts)?);
-    let mut text = answer_over(alloc, &mut alone, out, &words_of(alloc, command)?)?;
-    let after = alone.bytes("S").unwrap_or(b"");
-    let length = after.len();
-    let kept = if after == before.as_slice() {
-        "kept"
-    } else {
-        "replaced"
-    };
-    let told = format!(in alloc; "S is {kept}, {length} bytes\n")?;
+    let mut files = alone(alloc, &before, file_calls)?;
+    let mut text = told_over(alloc, &mut files, puts, command)?;
+    let told = end_told(alloc, &files, &before)?;
     text.extend_from_slice(told.as_bytes())?;
     Ok(text)
 }

@@ -1,13 +1,33 @@
-//! After which steps the power goes.
+//! After which steps, or behind which events, the power goes.
 use crate::cases::Case;
 use crate::losses::outcome_at;
 use crate::scripts::image_at;
 use std::alloc::Global;
 use test_kit::RowError;
 
-/// Each number of steps from `first` to `last` that is `every` above the one before.
+/// What is counted until the power goes.
+#[derive(Clone, Copy, Debug)]
+pub enum Unit {
+    /// Device steps.
+    Step,
+    /// Events of the threads.
+    Event,
+}
+
+impl Unit {
+    /// The option of a command line that says it.
+    pub fn word(self) -> &'static str {
+        match self {
+            Unit::Step => "stop",
+            Unit::Event => "cut",
+        }
+    }
+}
+
+/// Each number of steps, or of events, from `first` to `last` that is `every` above the one before.
 #[derive(Clone, Copy, Debug)]
 pub struct Stops {
+    pub unit: Unit,
     pub first: u64,
     pub last: u64,
     pub every: u64,
@@ -31,7 +51,9 @@ enum Sought {
 // Whether so many steps are enough.
 fn is_enough(alloc: Global, case: &Case, sought: &Sought, steps: u64) -> Result<bool, RowError> {
     match sought {
-        Sought::Calls(calls) => Ok(outcome_at(alloc, case, steps, "oldest")?.returned >= *calls),
+        Sought::Calls(calls) => Ok(
+            outcome_at(alloc, case, Unit::Step, steps, "oldest")?.returned >= *calls,
+        ),
         Sought::Image(image) => Ok(image_at(alloc, case, steps)? == *image),
     }
 }
@@ -72,7 +94,12 @@ impl Stops {
     pub fn of_all(alloc: Global, case: &Case, first: u64, every: u64) -> Result<Stops, RowError> {
         let image = Sought::Image(image_at(alloc, case, ALL)?);
         let last = least(alloc, case, &image, 0)?.saturating_add(BEHIND);
-        Ok(Stops { first, last, every })
+        Ok(Stops {
+            unit: Unit::Step,
+            first,
+            last,
+            every,
+        })
     }
 
     /// Each step of one call, counted from 0: from the return of the call before it to its own.
@@ -81,9 +108,20 @@ impl Stops {
         let first = least(alloc, case, &Sought::Calls(call), 0)?;
         let last = least(alloc, case, &Sought::Calls(next), first)?;
         Ok(Stops {
+            unit: Unit::Step,
             first,
             last,
             every: 1,
         })
+    }
+
+    /// Behind each event from the first one to the last.
+    pub fn of_events(first: u64, last: u64) -> Stops {
+        Stops {
+            unit: Unit::Event,
+            first,
+            last,
+            every: 1,
+        }
     }
 }

@@ -2,7 +2,7 @@
 use crate::cases::Case;
 use crate::losses::fault_of;
 use crate::rows::{Losses, Told, losses_of, told_by};
-use crate::stops::Stops;
+use crate::stops::{Stops, Unit};
 use std::alloc::Global;
 use test_kit::{RowError, option};
 
@@ -28,6 +28,7 @@ fn stops_of(alloc: Global, losses: &Losses, case: &Case) -> Result<Stops, RowErr
         return Stops::of_all(alloc, case, losses.from, losses.every);
     }
     Ok(Stops {
+        unit: Unit::Step,
         first: losses.from,
         last: losses.to,
         every: losses.every,
@@ -43,6 +44,12 @@ fn fault_told(alloc: Global, losses: &Losses, case: &Case) -> Result<Option<Stri
             return Ok(fault);
         }
     }
+    if losses.cuts > 0 {
+        let fault = fault_of(alloc, case, &Stops::of_events(0, losses.cuts))?;
+        if fault.is_some() {
+            return Ok(fault);
+        }
+    }
     for call in &losses.each {
         let stops = Stops::of_call(alloc, case, *call as usize)?;
         let fault = fault_of(alloc, case, &stops)?;
@@ -53,10 +60,21 @@ fn fault_told(alloc: Global, losses: &Losses, case: &Case) -> Result<Option<Stri
     Ok(None)
 }
 
+// The words of a command line that say in which order the threads of a row are picked.
+fn order_of(alloc: Global, row: &str) -> Result<String, RowError> {
+    for word in ["order", "seed"] {
+        if let Some(words) = option(row, word) {
+            return Ok(format!(in alloc; "{word} {words}")?);
+        }
+    }
+    Ok(String::new(alloc))
+}
+
 // What is wrong with a script in the mode of a word: the model, the run, or a loss.
 fn fault_in(alloc: Global, mode: &str, row: &str, told: &Told) -> Result<Option<String>, RowError> {
     let image = option(row, "image").unwrap_or("");
-    let case = Case::new(alloc, mode, image, told.script.as_str())?;
+    let order = order_of(alloc, row)?;
+    let case = Case::ordered(alloc, mode, image, told.script.as_str(), order.as_str())?;
     if !is_as_told(alloc, told, &case)? {
         let text = "the model of the calls answers otherwise";
         return Ok(Some(text.to_string(alloc)?));
@@ -71,7 +89,9 @@ fn fault_in(alloc: Global, mode: &str, row: &str, told: &Told) -> Result<Option<
 /// one after another (`strict` where none is named); `image BLOCKS LOG INODES NAMES`, the numbers of an image of its own; and
 /// `losses` with, as far as they are wanted, `every N`, a loss after each N steps, the first one after none or, with `from N`,
 /// so many, the last one at the end of the unmount or, with `to N`, after so many, and `each K ..`, one after each step of the
-/// calls with these numbers, from 0. The model of the calls, the run and the image that it leaves must all say what the row
+/// calls with these numbers, from 0; with `cuts N`, one behind each of so many events. A script of several threads has their calls
+/// in the order in which they return, each with its caller in front, and the option `order LIST` or `seed N`, or none for turns.
+/// The model of the calls, the run and the image that it leaves must all say what the row
 /// does, and each loss must be permitted, with five choices of what the medium has. Its losses have to lose calls, and where
 /// they are one step apart a choice has to make a difference.
 pub fn losses_told(alloc: Global, row: &str) -> Result<String, RowError> {

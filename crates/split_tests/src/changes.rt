@@ -1,7 +1,6 @@
 //! Names that are changed, and their limits.
-use split_tables::losses_told;
+use crate::asserting::assert_losses;
 use std::test::Fail;
-use test_kit::assert_rows;
 
 const CHANGES: &str = "\
 # Worked by hand from the rows of the calls.
@@ -144,6 +143,5 @@ tree = / dir; /a dir; /a! file 0; /a/b file 0
 
 #[test]
 fn names_are_changed(rt: HostRuntime) -> Result<(), Fail> {
-    assert_rows(&rt, CHANGES, 7, &losses_told)?;
-    Ok(())
+    assert_losses(&rt, CHANGES, 7)
 }

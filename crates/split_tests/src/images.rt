@@ -1,7 +1,6 @@
 //! Images that are made, damaged and shown, with the rule that refuses each or its tree.
-use split_tables::session_told;
+use crate::asserting::assert_sessions;
 use std::test::Fail;
-use test_kit::assert_rows;
 
 const IMAGES: &str = "\
 # Images that are made, damaged and shown. The image g has 64 blocks: inode lines from byte 20480 on, name lines from 24576,
@@ -549,18 +548,15 @@ tree g = / dir; /d dir; /f file 0
 
 #[test]
 fn bad_images(rt: HostRuntime) -> Result<(), Fail> {
-    assert_rows(&rt, IMAGES, 1, &session_told)?;
-    Ok(())
+    assert_sessions(&rt, IMAGES, 1)
 }
 
 #[test]
 fn each_damaged_field(rt: HostRuntime) -> Result<(), Fail> {
-    assert_rows(&rt, DAMAGES, 1, &session_told)?;
-    Ok(())
+    assert_sessions(&rt, DAMAGES, 1)
 }
 
 #[test]
 fn images_of_each_limit(rt: HostRuntime) -> Result<(), Fail> {
-    assert_rows(&rt, LIMITS, 1, &session_told)?;
-    Ok(())
+    assert_sessions(&rt, LIMITS, 1)
 }

@@ -2,18 +2,24 @@
 //!
 //! Each table is in the language of `test_kit`, run by `split_tables`: the replies and the trees are known from elsewhere, as its
 //! remarks say. `names` and `changes` have scripts of calls on names; `images`, `runs` and `replays` have sessions of commands on
-//! images that are made, damaged, run and kept. Scripts that lose their power stand in `loss_tests`.
+//! images that are made, damaged, run and kept; `schedules` has scripts of several threads, `loads` the scripts and the sums of loads. Scripts that lose their power stand in `loss_tests`.
 //!
 //! What is tested is shown alone. Stands on `split_tables` and `test_kit`.
 #![tactic(auto)]
 
 #[cfg(test)]
+mod asserting;
+#[cfg(test)]
 mod changes;
 #[cfg(test)]
 mod images;
+#[cfg(test)]
+mod loads;
 #[cfg(test)]
 mod names;
 #[cfg(test)]
 mod replays;
 #[cfg(test)]
 mod runs;
+#[cfg(test)]
+mod schedules;

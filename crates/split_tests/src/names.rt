@@ -1,7 +1,6 @@
 //! Scripts of calls on names.
-use split_tables::losses_told;
+use crate::asserting::assert_losses;
 use std::test::Fail;
-use test_kit::assert_rows;
 
 const LINUX: &str = "\
 # Answered by Linux 6.18: each row was run in a fresh directory of an ext4 file system by mkdir(2),
@@ -160,12 +159,10 @@ open b /f r = fd 2
 
 #[test]
 fn answered_by_linux(rt: HostRuntime) -> Result<(), Fail> {
-    assert_rows(&rt, LINUX, 10, &losses_told)?;
-    Ok(())
+    assert_losses(&rt, LINUX, 10)
 }
 
 #[test]
 fn worked_by_hand(rt: HostRuntime) -> Result<(), Fail> {
-    assert_rows(&rt, WORKED, 4, &losses_told)?;
-    Ok(())
+    assert_losses(&rt, WORKED, 4)
 }

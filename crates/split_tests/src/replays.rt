@@ -1,7 +1,6 @@
 //! Images with live entries in their logs.
-use split_tables::session_told;
+use crate::asserting::assert_sessions;
 use std::test::Fail;
-use test_kit::assert_rows;
 
 const REPLAYS: &str = "\
 # Images of whose logs entries are live, worked out by hand from docs/FORMAT.md. A line `entry FILE PLACE NUMBER ..` makes the
@@ -152,6 +151,5 @@ forged 20261128 100 = 100 forged images with 613 live entries: 100 are kept
 
 #[test]
 fn live_entries(rt: HostRuntime) -> Result<(), Fail> {
-    assert_rows(&rt, REPLAYS, 1, &session_told)?;
-    Ok(())
+    assert_sessions(&rt, REPLAYS, 1)
 }

@@ -1,7 +1,6 @@
 //! Runs on images: what they put, and what is kept of them.
-use split_tables::session_told;
+use crate::asserting::assert_sessions;
 use std::test::Fail;
-use test_kit::assert_rows;
 
 const SESSIONS: &str = "\
 # Runs on image files, and what is kept of them. `file NAME LINES` gives a file lines, parted by `; `.
@@ -198,24 +197,20 @@ step g S strict stop 72 choose 7 = 0.0 mkdir /a = ok; / dir; /a dir; /b dir
 
 #[test]
 fn images_that_are_kept(rt: HostRuntime) -> Result<(), Fail> {
-    assert_rows(&rt, SESSIONS, 1, &session_told)?;
-    Ok(())
+    assert_sessions(&rt, SESSIONS, 1)
 }
 
 #[test]
 fn nodes_and_names_run_out(rt: HostRuntime) -> Result<(), Fail> {
-    assert_rows(&rt, SMALL, 1, &session_told)?;
-    Ok(())
+    assert_sessions(&rt, SMALL, 1)
 }
 
 #[test]
 fn statuses_of_refusals(rt: HostRuntime) -> Result<(), Fail> {
-    assert_rows(&rt, REFUSALS, 1, &session_told)?;
-    Ok(())
+    assert_sessions(&rt, REFUSALS, 1)
 }
 
 #[test]
 fn choices_of_words(rt: HostRuntime) -> Result<(), Fail> {
-    assert_rows(&rt, CHOICES, 1, &session_told)?;
-    Ok(())
+    assert_sessions(&rt, CHOICES, 1)
 }

@@ -1,0 +1,22 @@
+//! Scripts of several threads by schedules, that lose their power.
+//!
+//! `beside` has tables in the language of `test_kit`, run by `split_tables`, with two and three calls in flight at each step,
+//! and rounds that end while calls are in flight. `interleavings` has all orders of two threads that write, each cut behind every
+//! event. `seeds` has eight threads by forty seeds, and `many` the longest script. What is left by a loss is judged, and where the
+//! events say what has to be left, it has to be that.
+//!
+//! What is tested is shown alone. Stands on `split_tables` and `test_kit`.
+#![tactic(auto)]
+
+#[cfg(test)]
+mod beside;
+#[cfg(test)]
+mod interleavings;
+#[cfg(test)]
+mod many;
+#[cfg(test)]
+mod rounds;
+#[cfg(test)]
+mod seeds;
+#[cfg(test)]
+mod telling;

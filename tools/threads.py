@@ -18,7 +18,7 @@ import tempfile
 
 sys.dont_write_bytecode = True
 
-from tools.model import Model
+from tools.model import Differs, Model
 from tools.naming import call_of, caller_of, model_of_tree, succeeded
 from tools.program import CHOICES, TOP, Outcome, Progress, Script, outcome_of, run_built
 
@@ -50,6 +50,21 @@ class Judge:
                 made.apply(call_of(line))
         return made
 
+    @staticmethod
+    def begun(model: Model, lines: list[str]) -> Model:
+        """As `done`, of calls that are unfinished: one that would be refused by now, before what came before it in the whole run,
+        changes nothing."""
+        made = copy.deepcopy(model)
+        for line in lines:
+            if succeeded(line):
+                tried = copy.deepcopy(made)
+                try:
+                    tried.apply(call_of(line))
+                except Differs:
+                    continue
+                made = tried
+        return made
+
     def next(self, count: int) -> list[str]:
         lines: dict[str, str] = {}
         for line in self.whole[count:]:
@@ -63,7 +78,7 @@ class Judge:
         for many in range(len(some) + 1):
             for lines in itertools.combinations(some, many):
                 if sum(call_of(line).split(" ")[0] not in LOGGED for line in lines) < 2:
-                    trees.add(tuple(self.done(self.models[count], list(lines)).tree()))
+                    trees.add(tuple(self.begun(self.models[count], list(lines)).tree()))
         return frozenset(trees)
 
     def permits(self, outcome: Outcome) -> bool:

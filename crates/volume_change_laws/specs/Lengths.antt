@@ -1,16 +1,20 @@
 -- How many extents a map has, counted file block by file block; and maps that grow by few of them.
-use Rattle.std.specs.Prelude.{◌≡◌, ◌≢◌, ℕ, zero, suc, ◌+◌, ◌-◌, ◌<◌, ◌≤◌, ◌==◌, not, Bool, true, false, List, [], ◌∷◌, length, Option, Some, None, refl}
-use Rattle.std.proofs.Common.{arith, ap, sym, ◌∙◌, inl, inr, get_or, subst}
+use Rattle.std.specs.Prelude.{◌≡◌, ◌≢◌, ℕ, zero, suc, ◌+◌, ◌-◌, ◌<◌, ◌≤◌, ◌==◌, ◌&&◌, ◌||◌, not, Bool, true, false, cond, List, [], ◌∷◌, filter, length, slice_index, Option, Some, None, is_none, is_some, refl}
+use Rattle.std.specs.List.{list_any, range_with_len}
+use Rattle.std.proofs.Common.{arith, ap, sym, ◌∙◌, inl, inr, get_or, length-append, subst}
 use Rattle.std.proofs.lemmas.Bool.{cases_Bool, cases_eq, cases_lt, eq-eqb, ne_eqb}
-use Rattle.std.proofs.lemmas.Bool.Decides.{nat_tests}
+use Rattle.std.proofs.lemmas.Bool.Decides.{Decides-eqb, nat_tests}
 use Rattle.k_split_model.specs.block_counts.Counts.{chains_for}
 use Rattle.k_split_model.specs.image_model.Placed.{no_extent}
 use Rattle.k_split_model.specs.extent_model.declared.extent_words.Extent.{Extent}
-use Rattle.k_split_model.specs.extent_model.Extents.{ComesAfter, disk_at, disk_in, holds, is_within, IsCanonical, IsExtent}
+use Rattle.k_split_model.specs.image_model.Placed.{block_at}
+use Rattle.k_split_model.specs.extent_model.Extents.{block_count, ComesAfter, disk_at, disk_in, holds, is_within, IsCanonical, IsExtent}
 use Rattle.k_split_model.specs.extent_model.Maps.{IsPart}
 use Rattle.k_split_model.specs.extent_model.Moves.{Moves}
-use Rattle.name_laws.specs.volume_laws.extent_model.Counts.{count_below, count_below-balance, count_below-more, count_below-range, count_below-zero, one_if}
+use Rattle.name_laws.specs.volume_laws.extent_model.Counts.{block_count-mapped, count_below, count_below-balance, count_below-more, count_below-none, count_below-range, count_below-zero, is_mapped, one_if}
 use Rattle.name_laws.specs.volume_laws.extent_model.Facts.{disk_at_found, IsCanonical-tail}
+use Rattle.k_split_model.specs.MapChangesChanges.{Fills, holes}
+use Rattle.volume_change_laws.specs.Holes.{holes-more, holes-same}
 use Rattle.volume_change_laws.specs.Shorts.{AreBelow, length-below, part-below}
 
 -- ---- where an extent begins
@@ -229,6 +233,47 @@ pub chain-linked : (from to count : ℕ) (src dst left linked displaced : List E
 chain-linked from to count src dst left linked displaced c moves fits few =
     omega (arith, length-linked from to count src dst left linked displaced c moves fits)
 
+-- A file block outside a range is none of its holes.
+none-with : (b : Bool) (a k : ℕ) (left : List ℕ) → (a == k) ≡ false → list_any (λ hole. hole == k) left ≡ false
+    → list_any (λ hole. hole == k) (cond b (a ∷ left) left) ≡ false
+none-with true a k left away rest = rw away rest
+none-with false a k left away rest = rest
+
+none-in : (p : ℕ → Bool) (a n k : ℕ) → is_within a n k ≡ false → list_any (λ hole. hole == k) (filter p (range_with_len a n)) ≡ false
+none-in p a zero k out = refl
+none-in p a (suc n) k out =
+    none-with (p a) a k (filter p (range_with_len (a + 1) n)) (grind (arith, nat_tests, out)) (none-in p (a + 1) n k (grind (arith, nat_tests, out)))
+
+-- A map whose holes in a range of `count` file blocks get blocks has at most `count` extents more, and one.
+pub length-filled : (first count : ℕ) (fresh : List ℕ) (old new : List Extent) → IsCanonical old → Fills first count fresh old new → first + count ≤ 4096
+    → length new ≤ length old + count + 1
+length-filled first count fresh old new c fills fits =
+    omega (
+      arith,
+      length-begins new fills.canonical,
+      length-begins old c,
+      count_below-sum (begins new) (begins old) (λ k. is_within first (count + 1) k) 4096 each,
+      count_below-more (λ k. is_within first (count + 1) k) 4096,
+      count_below-range first (count + 1) 4097 (omega (arith, fits)),
+    )
+  where
+    outside-is : (k : ℕ) → is_within first count k ≡ false → disk_at new k ≡ disk_at old k
+    outside-is k out = fills.others k (none-in (λ b. is_none (disk_at old b)) first count k out)
+
+    each : (k : ℕ) → one_if (begins new k) ≤ one_if (begins old k) + one_if (is_within first (count + 1) k)
+    each k = elim (cases_Bool (is_within first (count + 1) k)) [
+      | inl inside ↦ omega (arith, ap one_if inside, one-most (begins new k))
+      | inr outside ↦
+          let out : is_within first count k ≡ false = grind (arith, nat_tests, outside) in
+          let before : disk_before new k ≡ disk_before old k = by k outside in
+          let same : begins new k ≡ begins old k = λ i. starts (before i) (outside-is k out i) in
+          omega (arith, ap one_if same)
+    ]
+      where
+        by : (k : ℕ) → is_within first (count + 1) k ≡ false → disk_before new k ≡ disk_before old k
+        by zero outside = refl
+        by (suc k) outside = let out : is_within first count k ≡ false = grind (arith, nat_tests, outside) in outside-is k out
+
 -- and that of a staging file does not grow
 pub chain-left : (chosen : ℕ → Bool) (src left : List Extent) → IsCanonical src → AreBelow 64 src → IsPart chosen src left
     → chains_for (length left) ≤ chains_for (length src)
@@ -239,3 +284,117 @@ chain-left chosen src left c below is = by src below is
         omega (arith, length-below left 0 part.canonical (part-below chosen [] left 0 part (λ k d within. absurd (omega arith))))
     by (e ∷ es) low part =
         omega (arith, length-below left 64 part.canonical (part-below chosen (e ∷ es) left 64 part low))
+
+-- ---- how many blocks it has more
+
+-- a file block is a hole of the range
+abbrev pub is_hole : List Extent → ℕ → ℕ → ℕ → Bool
+is_hole es first count k = is_within first count k && is_none (disk_at es k)
+
+-- just those stand in the list of holes
+pub any-hole : (p : ℕ → Bool) (a n k : ℕ) → list_any (λ hole. hole == k) (filter p (range_with_len a n)) ≡ (is_within a n k && p k)
+any-hole p a zero k = sym (ap (λ b. b && p k) none) where
+  none : is_within a zero k ≡ false
+  none = grind (arith, nat_tests)
+any-hole p a (suc n) k = step (p a) refl (any-hole p (a + 1) n k) where
+  step : (b : Bool) → p a ≡ b → list_any (λ hole. hole == k) (filter p (range_with_len (a + 1) n)) ≡ (is_within (a + 1) n k && p k)
+      → list_any (λ hole. hole == k) (cond b (a ∷ filter p (range_with_len (a + 1) n)) (filter p (range_with_len (a + 1) n))) ≡ (is_within a (suc n) k && p k)
+  step b is rest = elim (cases_eq a k) [
+    | inl same ↦
+        let test : (a == k) ≡ true = eq-eqb a k same in
+        let inside : is_within a (suc n) k ≡ true = grind (arith, nat_tests, same) in
+        let outside : is_within (a + 1) n k ≡ false = grind (arith, nat_tests, same) in
+        own b test (rest ∙ ap (λ c. c && p k) outside) ∙ (sym is ∙ ap p same) ∙ sym (ap (λ c. c && p k) inside)
+    | inr other ↦
+        let test : (a == k) ≡ false = ne_eqb a k other in
+        let same : is_within a (suc n) k ≡ is_within (a + 1) n k = grind (arith, nat_tests, other) in
+        past b test ∙ rest ∙ sym (ap (λ c. c && p k) same)
+  ] where
+    own : (b : Bool) → (a == k) ≡ true → list_any (λ hole. hole == k) (filter p (range_with_len (a + 1) n)) ≡ false
+        → list_any (λ hole. hole == k) (cond b (a ∷ filter p (range_with_len (a + 1) n)) (filter p (range_with_len (a + 1) n))) ≡ b
+    own true test rest = ap (λ c. c || list_any (λ hole. hole == k) (filter p (range_with_len (a + 1) n))) test
+    own false test rest = rest
+
+    past : (b : Bool) → (a == k) ≡ false
+        → list_any (λ hole. hole == k) (cond b (a ∷ filter p (range_with_len (a + 1) n)) (filter p (range_with_len (a + 1) n))) ≡ list_any (λ hole. hole == k) (filter p (range_with_len (a + 1) n))
+    past true test = ap (λ c. c || list_any (λ hole. hole == k) (filter p (range_with_len (a + 1) n))) test
+    past false test = refl
+
+-- a hole that is found has a place
+pub any-at : (xs : List ℕ) (k : ℕ) → list_any (λ hole. hole == k) xs ≡ true → (i : ℕ) × (i < length xs) × (slice_index xs i ≡ k)
+any-at [] k found = cc
+any-at (x ∷ xs) k found = by (x == k) refl found (any-at xs k) where
+  by : (b : Bool) → (x == k) ≡ b → (b || list_any (λ hole. hole == k) xs) ≡ true → (list_any (λ hole. hole == k) xs ≡ true → (i : ℕ) × (i < length xs) × (slice_index xs i ≡ k))
+      → (i : ℕ) × (i < length (x ∷ xs)) × (slice_index (x ∷ xs) i ≡ k)
+  by true is found rest = (0, omega arith, (Decides-eqb x k).0 is)
+  by false is found rest = let at = rest found in (suc at.0, omega (arith, at.1), at.2)
+
+count_none : (f : ℕ → Bool) → count_below f 0 ≡ 0
+unfolding count_below
+count_none f = refl
+
+holes-counted : (es : List Extent) (first count n : ℕ) → n ≤ count → count_below (is_hole es first count) (first + n) ≡ length (holes es first n)
+holes-counted es first count zero le =
+    ap (count_below (is_hole es first count)) {x = first + 0} {y = first} (omega arith)
+    ∙ count_below-none (is_hole es first count) 0 first (omega arith) (λ b low high. (let out : is_within first count b ≡ false = grind (arith, nat_tests, high) in ap (λ c. c && is_none (disk_at es b)) out))
+    ∙ count_none (is_hole es first count)
+holes-counted es first count (suc n) le =
+    let before = holes-counted es first count n (omega (arith, le)) in
+    let one = count_below-more (is_hole es first count) (first + n) in
+    let same : count_below (is_hole es first count) (first + suc n) ≡ count_below (is_hole es first count) (first + n + 1) = ap (count_below (is_hole es first count)) {x = first + suc n} {y = first + n + 1} (omega arith) in
+    let more : length (holes es first (suc n)) ≡ length (holes es first (n + 1)) = ap (λ m. length (holes es first m)) {x = suc n} {y = n + 1} (omega arith) in
+    let inside : is_within first count (first + n) ≡ true = grind (arith, nat_tests, le) in
+    elim (cases_Bool (is_none (disk_at es (first + n)))) [
+      | inl hole ↦
+          let test : is_hole es first count (first + n) ≡ true = ap (λ c. c && is_none (disk_at es (first + n))) inside ∙ hole in
+          let grows = holes-more es first n (none_is (disk_at es (first + n)) hole) in
+          omega (arith, before, one, same, more, ap one_if test, ap length grows, length-append (holes es first n) ((first + n) ∷ []))
+      | inr mapped ↦
+          let test : is_hole es first count (first + n) ≡ false = ap (λ c. c && is_none (disk_at es (first + n))) inside ∙ mapped in
+          let stays = holes-same es first n mapped in
+          omega (arith, before, one, same, more, ap one_if test, ap length stays)
+    ]
+  where
+    none_is : (o : Option ℕ) → is_none o ≡ true → o ≡ None
+    none_is None is = refl
+    none_is (Some x) is = cc
+
+-- A map whose holes in a range get blocks has as many blocks more as those are.
+pub blocks-filled : (first count : ℕ) (fresh : List ℕ) (old new : List Extent) → IsCanonical old → Fills first count fresh old new → first + count ≤ 4096
+    → block_count new ≡ block_count old + length fresh
+blocks-filled first count fresh old new c fills fits =
+    omega (
+      arith,
+      block_count-mapped new fills.canonical,
+      block_count-mapped old c,
+      count_below-balance (is_mapped new) (λ b. false) (is_mapped old) (is_hole old first count) 4096 each,
+      count_below-zero (λ b. false) 4096 (λ b. refl),
+      count_below-none (is_hole old first count) (first + count) 4096 fits (λ b low high. (let out : is_within first count b ≡ false = grind (arith, nat_tests, low) in ap (λ x. x && is_none (disk_at old b)) out)),
+      holes-counted old first count count (omega arith),
+      fills.each,
+    )
+  where
+    is_there : (o : Option ℕ) (b : ℕ) → o ≡ Some b → is_some o ≡ true
+    is_there o b is = ap is_some is
+
+    none_there : (o : Option ℕ) → is_none o ≡ true → is_some o ≡ false
+    none_there None is = refl
+    none_there (Some x) is = cc
+
+    second : (a b : Bool) → (a && b) ≡ true → b ≡ true
+    second true b both = both
+    second false b both = cc
+
+    each : (k : ℕ) → one_if (is_mapped new k) + one_if false ≡ one_if (is_mapped old k) + one_if (is_hole old first count k)
+    each k = elim (cases_Bool (is_hole old first count k)) [
+      | inl hole ↦
+          let at = any-at (holes old first count) k (any-hole (λ b. is_none (disk_at old b)) first count k ∙ hole) in
+          let put = fills.filled at.0 (omega (arith, at.1, fills.each)) in
+          let new_is : is_mapped new k ≡ true = is_there (disk_at new k) (block_at fresh at.0) (ap (disk_at new) (sym at.2) ∙ put) in
+          let old_is : is_mapped old k ≡ false = none_there (disk_at old k) (second (is_within first count k) (is_none (disk_at old k)) hole) in
+          omega (arith, ap one_if new_is, ap one_if old_is, ap one_if hole)
+      | inr none ↦
+          let same = fills.others k (any-hole (λ b. is_none (disk_at old b)) first count k ∙ none) in
+          let one : is_mapped new k ≡ is_mapped old k = ap is_some same in
+          omega (arith, ap one_if one, ap one_if none)
+    ]

@@ -7,6 +7,7 @@ pub mod SpacesLaws
 pub mod Spaces
 pub mod Touched
 pub mod Steps
+pub mod Parts
 pub mod NameTables
 pub mod Ages
 pub mod Makers

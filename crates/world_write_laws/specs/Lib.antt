@@ -4,6 +4,8 @@ pub mod JobsLaws
 pub mod JobSteps
 pub mod ResizeSteps
 pub mod PlaceSteps
+pub mod HolesLaws
+pub mod HolesSteps
 pub mod FinishSteps
 pub mod Relinks
 pub mod Restages

@@ -4,6 +4,7 @@
 //! be relinked; staging files change where nothing of them is live; and free blocks suffice for all
 //! of it.
 //!
+//! - `holes`: Holes of a file get blocks that read zero.
 //! - `jobs`: The steps of a logged write keep the World valid, and so do the end of a lap, resized
 //!   files of which nothing is live, and bytes that are written in place.
 //! - `runs`: What is staged is carried out: runs are relinked, and staging files are given up and
@@ -14,10 +15,12 @@
 //! Stands on `world_step_laws`.
 #![tactic(auto)]
 
+mod holes;
 mod jobs;
 mod room;
 mod runs;
 
+pub use holes::holes_get_blocks;
 pub use jobs::{files_are_changed, jobs_come_and_go};
 pub use room::{changes_leave_free_blocks, jobs_leave_free_blocks, runs_find_free_blocks};
 pub use runs::{runs_are_carried_out, staging_files_change};

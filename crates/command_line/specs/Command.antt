@@ -1,7 +1,7 @@
 -- The words of the command line. The usage lines, each option at most once and in this order:
 --   mkfs IMAGE BLOCKS LOG INODES NAMES
 --   tree IMAGE
---   step IMAGE SCRIPT MODE [order LIST | seed N] [cut E] [stop N] [choose C] [keep NAME]
+--   step IMAGE SCRIPT MODE [order LIST | seed N] [cut E] [stop N] [again NUMBERS] [choose C] [keep NAME]
 --   load N T MODE
 -- IMAGE is the name of a file, or `-` for the fresh default image, which `mkfs` does not make. MODE is `strict`, the one
 -- that is built. LIST is 1 to 65,536 numbers below 8 with commas between; a number has 1 to 18 digits. C is `oldest`, `newest`, `even`,
@@ -21,12 +21,14 @@ pub data Image : Type 0 where
   Stored : List ℕ → Image
 
 -- The options of a run: its mode, the order in which its threads are picked, the events and the steps after which the power
--- goes, which candidates it leaves, and the name under which the image that is left is kept.
+-- goes, the steps of each mount behind it but the last, which candidates a power loss leaves, and the name under which the image
+-- that is left is kept.
 pub record Options : Type 0 where
   pub mode : Mode
   pub order : Order
   pub cut : Option ℕ
   pub stop : Option ℕ
+  pub again : List ℕ
   pub choice : Choice
   pub keep : Option (List ℕ)
 
@@ -76,6 +78,14 @@ listed (Some numbers) = Listed numbers
 abbrev pub order_in : List ℕ → Option Order
 order_in word = if fits 65536 7 (numbers_in word) then Some (listed (numbers_in word)) else None
 
+-- the steps of a list, which are few enough
+abbrev pub few_steps : Option (List ℕ) → List ℕ
+few_steps None = []
+few_steps (Some numbers) = numbers
+
+abbrev pub again_in : List ℕ → Option (List ℕ)
+again_in word = if fits 8 999999999999999999 (numbers_in word) then Some (few_steps (numbers_in word)) else None
+
 -- Each of these puts its own option into those that were read before it, where its word is there, and leaves the words
 -- behind it to the next.
 unfoldable pub with_keep : Options → List (List ℕ) → Option Options
@@ -90,11 +100,17 @@ with_choice options words =
     then option_and_then (λ choice. with_keep (record options { choice = choice }) (drop 2 words)) (choice_of (word_at words 1))
     else with_keep options words
 
+unfoldable pub with_again : Options → List (List ℕ) → Option Options
+with_again options words =
+    if nat_le 2 (length words) && is_same (word_at words 0) (codes "again")
+    then option_and_then (λ again. with_choice (record options { again = again }) (drop 2 words)) (again_in (word_at words 1))
+    else with_choice options words
+
 unfoldable pub with_stop : Options → List (List ℕ) → Option Options
 with_stop options words =
     if nat_le 2 (length words) && is_same (word_at words 0) (codes "stop")
-    then option_and_then (λ steps. with_choice (record options { stop = Some steps }) (drop 2 words)) (number_in (word_at words 1))
-    else with_choice options words
+    then option_and_then (λ steps. with_again (record options { stop = Some steps }) (drop 2 words)) (number_in (word_at words 1))
+    else with_again options words
 
 unfoldable pub with_cut : Options → List (List ℕ) → Option Options
 with_cut options words =
@@ -117,7 +133,7 @@ with_order options words =
 
 -- the options of a run that names none
 abbrev pub options_in : Mode → Options
-options_in mode = record { mode = mode; order = Round; cut = None; stop = None; choice = Choice.Oldest; keep = None }
+options_in mode = record { mode = mode; order = Round; cut = None; stop = None; again = []; choice = Choice.Oldest; keep = None }
 
 unfoldable pub step_of : List (List ℕ) → Option Command
 step_of words =

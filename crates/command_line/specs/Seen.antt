@@ -1,5 +1,5 @@
 -- What clauses see of the values of the program.
-use Rattle.std.specs.Prelude.{◌≡◌, ◌≤◌, ⊤, option_map}
+use Rattle.std.specs.Prelude.{◌≡◌, ◌≤◌, ⊤, option_and_then, option_map}
 use Rattle.std.specs.String.{string_bytes}
 use Rattle.command_line.specs.declared.commands.commands.Command.{Command}
 use Rattle.command_line.specs.declared.commands.commands.Image.{Image}
@@ -26,6 +26,7 @@ seen_options options =
       order = seen_order options.order;
       cut = options.cut;
       stop = options.stop;
+      again = meaning.few_steps (option_and_then (λ word. numbers_in (string_bytes word.now)) options.again);
       choice = options.choice;
       keep = option_map (λ name. string_bytes name.now) options.keep;
     }

@@ -12,7 +12,7 @@ mod orders;
 
 pub use commands::{Command, Image, read_command};
 pub use image_layout::Geometry;
-pub use options::{Options, plain_options};
+pub use options::{Options, plain_options, read_again};
 pub use orders::{OrderWords, read_order};
 pub use schedule::Order;
 pub use script_text::{

@@ -16,7 +16,7 @@ mod statuses;
 pub use commands::{
     Call, Command, Geometry, Image, Item, Mode, Name, Options, Order, OrderWords, Path,
     ScriptFault, Shape, State, Tree, TreeEntry, TreeNode, Who, default_shape, plain_options,
-    read_command, read_order, read_script, root_alone, scripts_are_spelled,
+    read_again, read_command, read_order, read_script, root_alone, scripts_are_spelled,
     scripts_are_within_limits, scripts_have_known_words,
 };
 pub use statuses::{FileName, Status, exit_number, status_text};

@@ -40,7 +40,8 @@ use Rattle.log_replay.proofs.Passed.{chain-counted, map-canonical}
 use Rattle.log_replay.specs.Replays.{seen, ShowsTheSame}
 use Rattle.log_replay.proofs.Keeping.{images-next, images-off, images-own, images-then, shows-first, shows-next}
 use Rattle.log_replay.proofs.Lines.{applied-set, in-data, KeepsBytes, KeepsLines, lines-set, live-kept, low-file, used-below}
-use Rattle.log_replay.specs.Quiet.{IsQuiet, ShowsAsBefore}
+use Rattle.log_replay.specs.declared.stops.Stop.{Stop}
+use Rattle.log_replay.specs.Quiet.{IsQuiet, OnDone, ShowsAsBefore}
 use Rattle.log_replay.specs.Sweeps.{AreTrimmed, EndsInTime, IsTrimmedOne}
 
 -- ---- the front of a map
@@ -220,11 +221,11 @@ way-next k0 k k2 ino way (inl kept) = subst (λ z. IsOnTheWay k0 z (ino + 1)) (s
   ];
 })
 way-next k0 k k2 ino way (inr cut) = record {
-  shows = shows-trimmed ino k0 k k2 way.shows cut.0 cut.1;
-  staged = λ x is. trimmed-staged ino k k2.volume cut.1.0 way.shows.quiet cut.0 cut.1.1 cut.1.2.order.whole x is ∙ way.staged x is;
+  shows = shows-trimmed ino k0 k k2 way.shows cut.1 cut.2;
+  staged = λ x is. trimmed-staged ino k k2.volume cut.2.0 way.shows.quiet cut.1 cut.2.1 cut.2.2.order.whole x is ∙ way.staged x is;
   short = λ i below. elim (cases_eq i ino) [
-    | inl same ↦ subst (EndsInTime k2.volume) (sym same) (trimmed-own ino k k2.volume cut.1.0 way.shows.quiet cut.0 cut.1.1 cut.1.2.order.whole)
-    | inr other ↦ trimmed-other ino k k2.volume cut.1.0 way.shows.quiet cut.0 cut.1.1 cut.1.2.order.whole i other (way.short i (omega (arith, below, other)))
+    | inl same ↦ subst (EndsInTime k2.volume) (sym same) (trimmed-own ino k k2.volume cut.2.0 way.shows.quiet cut.1 cut.2.1 cut.2.2.order.whole)
+    | inr other ↦ trimmed-other ino k k2.volume cut.2.0 way.shows.quiet cut.1 cut.2.1 cut.2.2.order.whole i other (way.short i (omega (arith, below, other)))
   ];
 }
 
@@ -237,6 +238,12 @@ way-ends k0 k ino way all = record {
 } where
   inodes : k.volume.geometry.inodes ≡ k0.volume.geometry.inodes
   inodes = ap (λ (g : Geometry). g.inodes) way.shows.geometry
+
+-- a file that did not end in time got its own length again, where it is done
+pub trimmed-one : (ino size : ℕ) (k k2 : View) (r : Result (Unit {0}) Stop) → size ≡ (inode k.volume ino).size → (¬ EndsInTime k.volume ino) → IsLiveFile ino k.volume
+    → OnDone r (IsSizeAnswer ino size k k2 (Ok tt)) → OnDone r (IsTrimmedOne ino k k2)
+trimmed-one ino size k k2 (Ok done_is) own late live sized = inr (late, live, subst (λ n. IsSizeAnswer ino n k k2 (Ok tt)) own sized)
+trimmed-one ino size k k2 (Err e) own late live sized = tt
 
 -- images beside those of the beginning
 pub way-images : (k0 k : View) (ino : ℕ) (d : List Cell) → AllSingle k0.cells → IsOnTheWay k0 k ino → Follows (ShowsTheSame k.volume.geometry) k.cells d

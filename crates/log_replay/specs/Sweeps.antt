@@ -33,11 +33,11 @@ pub record AreTrimmed (old new : View) : Type 0 where
   pub staged : (x : ℕ) → IsStaging x → extents new.volume x ≡ extents old.volume x
   pub short : (ino : ℕ) → EndsInTime new.volume ino
 
--- one file: it ended in time, and nothing was done; or it got its own length again
+-- one file: it ended in time, and nothing was done; or it did not, and got its own length again
 abbrev pub IsTrimmedOne : ℕ → View → View → Type 0
 IsTrimmedOne ino old new =
     (EndsInTime old.volume ino × (new ≡ old))
-    ⊎ (IsLiveFile ino old.volume × IsSizeAnswer ino (inode old.volume ino).size old new (Ok tt))
+    ⊎ ((¬ EndsInTime old.volume ino) × IsLiveFile ino old.volume × IsSizeAnswer ino (inode old.volume ino).size old new (Ok tt))
 
 -- ---- both
 

@@ -14,3 +14,4 @@ pub mod Runnable
 pub mod Shown
 pub mod Stepped
 pub mod Told
+pub mod TrialLaws

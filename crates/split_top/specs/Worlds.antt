@@ -35,12 +35,11 @@ pub record BeginsOn (image : Words) (g : Geometry) (scripts : Scripts) (mode : M
   pub is_shape : IsShapeOf g shape
   pub on : IsWorldOn g (task_on tree shape g.log scripts mode) w
 
--- a run of scripts that began with the tree of the image had this history and left this tree
+-- a run of scripts that began with the tree of the image had this history, left these calls unfinished, and left this tree
 pub record IsRanOn (image : Words) (g : Geometry) (scripts : Scripts) (options : Options)
-    (history : List Item) (left : List TreeEntry) : Type 0 where
+    (history : List Item) (unfinished : List Unfinished) (left : List TreeEntry) : Type 0 where
   pub tree : List TreeEntry
   pub shape : Shape
   pub is_tree : IsTreeOfContent (content (geometry_of image) image) tree
   pub is_shape : IsShapeOf g shape
-  pub unfinished : List Unfinished
   pub is_run : IsRun (task_on tree shape g.log scripts options.mode) options history unfinished left

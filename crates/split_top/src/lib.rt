@@ -6,7 +6,9 @@
 //!
 //! A script is read by `script_text`, and run by `split_machine` in a World (`split_world`) that is mounted on the image,
 //! with power for as many steps as `stop` says. What is printed comes from the device that is left: it is mounted again
-//! by `log_replay`, and the tree is that of its content, which the World's promise permits.
+//! by `log_replay`, first with power for as many steps as each number of `again` says (`remounting`), then with power for
+//! all of it, and the tree is that of its content, which the World's promise permits: no mount changes the content,
+//! wherever its power goes.
 //!
 //! `top` takes any runtime, since it neither waits nor starts threads. `mkfs` makes image and line before
 //! it replaces the file. The output is put at once.
@@ -21,10 +23,12 @@ mod making;
 mod mounting;
 mod opening;
 mod program;
+mod remounting;
 mod running;
 mod runs;
 mod showing;
 mod stepping;
+mod trials;
 
 pub use command_line::{
     Call, Geometry, Item, Mode, Name, Path, Shape, State, Tree, TreeEntry, TreeNode, Who,
@@ -32,3 +36,5 @@ pub use command_line::{
 };
 pub use laws::{runs_are_cut, runs_are_whole};
 pub use program::top;
+pub use runs::Ran;
+pub use trials::{remount_image, run_image};

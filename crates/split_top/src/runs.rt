@@ -18,19 +18,20 @@ ghost use Rattle.split_top.specs.Worlds.{BeginsOn, IsRanOn, IsWorldOn};
 
 use crate::laws;
 use crate::mounting::mount_image;
-use crate::opening::{Opened, device};
+use crate::opening::Opened;
+use crate::remounting::{crashed_device, remounted};
 use command_line::{Geometry, Options, read_order};
-use k_check::crash_image;
-use pm_lines::{Choice, Pm, Power};
-use posix_types::{Item, Mode, Scripts, Tree};
+use pm_lines::{Pm, Power};
+use posix_types::{Call, Item, Mode, Scripts, Tree, Who};
 use split_machine::{Ended, MountFault, NoMemory, World, run as run_scripts};
 use std::alloc::{AllocError, Global};
 
-/// What a run leaves: the calls that returned, the tree that is found afterwards, and the device of the image that
-/// shows it.
+/// What a run leaves: the calls that returned, those that had begun and did not, the tree that is found afterwards, and the
+/// device of the image that shows it.
 #[derive(Drop)]
-pub(crate) struct Ran {
+pub struct Ran {
     pub history: Vec<Item>,
+    pub unfinished: Vec<(Who, Call)>,
     pub tree: Tree,
     pub pm: Pm,
 }
@@ -68,22 +69,28 @@ fn world_on(alloc: Global, opened: Opened, scripts: Scripts, mode: Mode) -> Resu
     }
 }
 
-/// What is found on the device that a run left: the image by the choice is mounted again.
-fn left_on(alloc: Global, pm: &Pm, geometry: Geometry, choice: Choice) -> Result<Left, AllocError>
-    requires { (start : State) × (history : List items.Item) × (unfinished : List Unfinished) × IsLeftAs geometry pm.now start history unfinished }
-    ensures found { IfOk result (λ left. IsFoundBy geometry choice pm.now left.tree) }
-    ensures permitted { IfOk result (λ left. (start : State) (history : List items.Item) (unfinished : List Unfinished) → IsLeftAs geometry pm.now start history unfinished → Permitted start.mode start history unfinished left.tree) }
+/// What is found on the device that a run left: the choice is applied to it, and the device of that image is mounted
+/// again, once for each number of `again` and then with power for all of it.
+fn left_on(
+    alloc: Global,
+    pm: &Pm,
+    geometry: &Geometry,
+    options: &Options<'_>,
+) -> Result<Left, AllocError>
+    requires { (start : State) × (history : List items.Item) × (unfinished : List Unfinished) × IsLeftAs geometry.now pm.now start history unfinished }
+    ensures found { IfOk result (λ left. IsFoundBy geometry.now options.now.choice (seen_options options.now).again pm.now left.tree) }
+    ensures permitted { IfOk result (λ left. (start : State) (history : List items.Item) (unfinished : List Unfinished) → IsLeftAs geometry.now pm.now start history unfinished → Permitted start.mode start history unfinished left.tree) }
     ensures single { IfOk result (λ left. AllSingle left.pm) }
     ensures mounted { IfOk result (λ left. (kept : List ℕ) → IsDeviceOf kept left.pm → IsMounted kept left.tree) }
-    ensures numbers { IfOk result (λ left. (kept : List ℕ) → IsDeviceOf kept left.pm → geometry_of (word_at kept) ≡ geometry) }
+    ensures numbers { IfOk result (λ left. (kept : List ℕ) → IsDeviceOf kept left.pm → geometry_of (word_at kept) ≡ geometry.now) }
 {
-    let bytes = crash_image(alloc, pm, &geometry, choice)?;
-    let crashed = device(alloc, bytes)?;
-    let mounted = mount_image(alloc, crashed)?;
-    let remounted = mounted.k.into_pm();
+    let crashed = crashed_device(alloc, pm, geometry, options.choice)?;
+    let last = remounted(alloc, crashed, geometry, options)?;
+    let mounted = mount_image(alloc, last)?;
+    let kept = mounted.k.into_pm();
     Ok(Left {
         tree: mounted.tree,
-        pm: remounted,
+        pm: kept,
     })
 }
 
@@ -96,7 +103,7 @@ fn run_world(
 ) -> Result<Ran, NoMemory>
     requires { (task : Task) × IsWorldOn geometry task world }
     ensures ran { IfOk result (λ ran. (task : Task) → IsWorldOn geometry task world
-        → (unfinished : List Unfinished) × IsRun task (seen_options options.now) ran.history.items unfinished ran.tree) }
+        → IsRun task (seen_options options.now) ran.history.items ran.unfinished.items ran.tree) }
     ensures single { IfOk result (λ ran. AllSingle ran.pm) }
     ensures mounted { IfOk result (λ ran. (kept : List ℕ) → IsDeviceOf kept ran.pm → IsMounted kept ran.tree) }
     ensures numbers { IfOk result (λ ran. (kept : List ℕ) → IsDeviceOf kept ran.pm → geometry_of (word_at kept) ≡ geometry) }
@@ -106,17 +113,19 @@ fn run_world(
     let mut power = power_for(options.stop);
     match run_scripts(alloc, world, order, options.cut, &mut power)? {
         Ended::Whole { pm, history } => {
-            let left = left_on(alloc, &pm, geometry, options.choice)?;
+            let left = left_on(alloc, &pm, &geometry, options)?;
             Ok(Ran {
                 history,
+                unfinished: Vec::new(alloc),
                 tree: left.tree,
                 pm: left.pm,
             })
         }
         Ended::Lost(crashed) => {
-            let left = left_on(alloc, &crashed.pm, geometry, options.choice)?;
+            let left = left_on(alloc, &crashed.pm, &geometry, options)?;
             Ok(Ran {
                 history: crashed.history,
+                unfinished: crashed.unfinished,
                 tree: left.tree,
                 pm: left.pm,
             })
@@ -135,7 +144,7 @@ pub(crate) fn run(
     requires limits { AreInLimits scripts }
     requires strict { options.now.mode ≡ Mode.Strict }
     ensures ran { IfOk result (λ ran.
-        IsRanOn (words_of opened.pm) opened.geometry scripts (seen_options options.now) ran.history.items ran.tree) }
+        IsRanOn (words_of opened.pm) opened.geometry scripts (seen_options options.now) ran.history.items ran.unfinished.items ran.tree) }
     ensures single { IfOk result (λ ran. AllSingle ran.pm) }
     ensures mounted { IfOk result (λ ran. (kept : List ℕ) → IsDeviceOf kept ran.pm → IsMounted kept ran.tree) }
     ensures numbers { IfOk result (λ ran. (kept : List ℕ) → IsDeviceOf kept ran.pm

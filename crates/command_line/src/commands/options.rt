@@ -1,18 +1,25 @@
 //! The options of a run.
-ghost use Rattle.std.specs.Prelude.{◌≡◌, IfSome, map, option_map};
+ghost use Rattle.std.specs.Prelude.{◌≡◌, IfOk, IfSome, map, option_map};
 ghost use Rattle.std.specs.String.{string_bytes};
-ghost use Rattle.command_line.specs.Command.{choice_of, mode_of, options_in, with_choice, with_cut, with_keep, with_order, with_seed, with_stop};
+ghost use Rattle.command_line.specs.Command.{choice_of, mode_of, options_in, with_again, with_choice, with_cut, with_keep, with_order, with_seed, with_stop};
 ghost use Rattle.command_line.specs.Seen.{seen_options};
 
 use crate::commands::orders::OrderWords;
 use pm_lines::Choice;
-use script_text::{Mode, read_number, spells_numbers};
+use script_text::{Mode, read_number, read_numbers, spells_numbers};
+use std::alloc::{AllocError, Global};
 
 /// The most picks of a list.
 const MOST_PICKS: usize = 65_536;
 
 /// The highest number of a thread.
 const HIGHEST_THREAD: u64 = 7;
+
+/// The most mounts before the last one.
+const MOST_MOUNTS: usize = 8;
+
+/// The highest number that 18 digits spell.
+const HIGHEST_NUMBER: u64 = 999_999_999_999_999_999;
 
 /// The options of a run.
 #[derive(Drop)]
@@ -25,6 +32,8 @@ pub struct Options<'a> {
     pub cut: Option<u64>,
     /// After how many device steps the power goes.
     pub stop: Option<u64>,
+    /// After how many device steps the power goes in each mount behind the run but the last: at most 8 numbers, of this word.
+    pub again: Option<&'a String>,
     /// Which candidates of words that are not durable a power loss leaves.
     pub choice: Choice,
     /// The name under which the image that is left is kept.
@@ -86,6 +95,22 @@ fn with_choice<'a>(options: Options<'a>, words: &'a [String]) -> Option<Options<
     with_keep(Options { choice, ..options }, &words[2..])
 }
 
+/// The option `again NUMBERS` beside these, if it is there, and then the others.
+#[tactic(auto, unfolding(crate::specs::Command::with_again))]
+fn with_again<'a>(options: Options<'a>, words: &'a [String]) -> Option<Options<'a>>
+    ensures options { option_map (λ o. seen_options o) result ≡ with_again (seen_options options.entry) (map string_bytes words.now) }
+    ensures mode { IfSome result (λ o. o.mode ≡ options.entry.mode) }
+{
+    if words.len() < 2 || words[0].as_str() != "again" {
+        return with_choice(options, words);
+    }
+    if !spells_numbers(words[1].as_bytes(), MOST_MOUNTS, HIGHEST_NUMBER) {
+        return None;
+    }
+    let again = Some(&words[1]);
+    with_choice(Options { again, ..options }, &words[2..])
+}
+
 /// The option `stop N` beside these, if it is there, and then the others.
 #[tactic(auto, unfolding(crate::specs::Command::with_stop))]
 fn with_stop<'a>(options: Options<'a>, words: &'a [String]) -> Option<Options<'a>>
@@ -93,10 +118,10 @@ fn with_stop<'a>(options: Options<'a>, words: &'a [String]) -> Option<Options<'a
     ensures mode { IfSome result (λ o. o.mode ≡ options.entry.mode) }
 {
     if words.len() < 2 || words[0].as_str() != "stop" {
-        return with_choice(options, words);
+        return with_again(options, words);
     }
     let stop = Some(read_number(words[1].as_bytes())?);
-    with_choice(Options { stop, ..options }, &words[2..])
+    with_again(Options { stop, ..options }, &words[2..])
 }
 
 /// The option `cut E` beside these, if it is there, and then the others.
@@ -151,6 +176,7 @@ pub fn plain_options(mode: Mode) -> Options<'static>
         order: OrderWords::Round,
         cut: None,
         stop: None,
+        again: None,
         choice: Choice::Oldest,
         keep: None,
     }
@@ -162,4 +188,17 @@ pub(crate) fn read_options(mode: Mode, words: &[String]) -> Option<Options<'_>>
     ensures mode { IfSome result (λ o. o.mode ≡ mode) }
 {
     with_order(plain_options(mode), words)
+}
+
+/// The steps of each mount behind a run but the last.
+pub fn read_again(alloc: Global, options: &Options<'_>) -> Result<Vec<u64>, AllocError>
+    ensures { IfOk result (λ steps. steps.items ≡ (seen_options options.now).again) }
+{
+    let Some(word) = options.again else {
+        return Ok(Vec::new(alloc));
+    };
+    match read_numbers(alloc, word.as_bytes())? {
+        Some(numbers) => Ok(numbers),
+        None => Ok(Vec::new(alloc)),
+    }
 }

@@ -18,10 +18,10 @@ use pm_lines::Power;
 use staging_files::{KFault, KSplit};
 use std::alloc::Global;
 
-// The length of a file whose map goes past its end.
+// The length of a file whose map goes past its end; none of one that ends in time.
 fn length_passed(k: &KSplit, ino: u32) -> Option<u64>
     ensures some { IfSome result
-        (λ size. IsLiveFile ino k.now.volume × (size ≡ (inode k.now.volume ino).size)) }
+        (λ size. IsLiveFile ino k.now.volume × (size ≡ (inode k.now.volume ino).size) × ¬ EndsInTime k.now.volume ino) }
     ensures none { IfNone result (EndsInTime k.now.volume ino) }
 {
     let Some(node) = k.node(ino) else {
@@ -78,8 +78,8 @@ fn trim_one(alloc: Global, k: &mut KSplit, ino: u32, power: &mut Power) -> Resul
     }
 }
 
-/// The maps of all files lose what they have past the ends, each by a change of its own; no entry of the log is
-/// live.
+/// The maps of all files lose what they have past the ends, each by a change of its own; of a file that ends in time
+/// nothing is written. No entry of the log is live.
 ///
 /// # Errors
 ///

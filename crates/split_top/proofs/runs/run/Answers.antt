@@ -13,5 +13,5 @@ returns-clause-ran c =
     follows c.run_world.result _ _
     (λ ran ensures.
     let x = ensures (task_on b.tree b.shape c.args.opened.geometry.log c.args.scripts c.args.options.now.mode) b.on in
-    record { tree = b.tree; shape = b.shape; is_tree = b.is_tree; is_shape = b.is_shape; unfinished = x.0; is_run = x.1 })
+    record { tree = b.tree; shape = b.shape; is_tree = b.is_tree; is_shape = b.is_shape; is_run = x })
     c.run_world.ensures.ran

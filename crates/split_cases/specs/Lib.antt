@@ -1,3 +1,4 @@
 pub mod Drawn
 pub mod Load
 pub mod Summary
+pub mod Rows

@@ -6,6 +6,7 @@
 //!
 //! - `load`: The scripts of a load, drawn call by call.
 //! - `sums`: The sums of a run.
+//! - `worked`: The scripts of the worked runs, which tests run.
 //!
 //! Stands on `script_text`, for what scripts are printed and read as, and on `crash_spec` and `rand_xoshiro` for the
 //! draws.
@@ -15,7 +16,9 @@ mod calls;
 mod laws;
 mod load;
 mod sums;
+mod worked;
 
 pub use laws::load_is_a_script;
 pub use load::{load_script, load_scripts};
 pub use sums::summary;
+pub use worked::rows;

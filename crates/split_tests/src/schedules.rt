@@ -65,6 +65,31 @@ file S open a /f wc; write a 61; write a 61; write a 61; write a 61; write a 61
 step g S strict cut 35 = 0.0 open a /f wc = fd 0; 0.1 write a 61 = count 1; 0.2 write a 61 = count 1; 0.3 write a 61 = count 1; 0.4 write a 61 = count 1; 0.5 write a 61 = count 1; / dir; /f file 5 6161616161
 step g S strict cut 34 = 0.0 open a /f wc = fd 0; 0.1 write a 61 = count 1; 0.2 write a 61 = count 1; 0.3 write a 61 = count 1; 0.4 write a 61 = count 1; / dir; /f file 5 6161616161
 step g S strict cut 29 = 0.0 open a /f wc = fd 0; 0.1 write a 61 = count 1; 0.2 write a 61 = count 1; 0.3 write a 61 = count 1; 0.4 write a 61 = count 1; / dir; /f file 4 61616161
+
+# The mounts behind the loss lose their power too, at their first steps, behind their last one, and eight of them: the tree is the same.
+row mounts_that_lose_their_power
+mkfs g 64 4 16 16 = 56 data blocks
+file S setup; open x /x wc; open y /y wc; thread; write x 61; thread; write y 62
+step g S strict order 0,0,0,1,1,1,1,1,1 cut 11 again 0 = s.0 open x /x wc = fd 0; s.1 open y /y wc = fd 1; 1.0 write y 62 = count 1; / dir; /x file 0; /y file 1 62
+step g S strict order 0,0,0,1,1,1,1,1,1 cut 11 again 1 = s.0 open x /x wc = fd 0; s.1 open y /y wc = fd 1; 1.0 write y 62 = count 1; / dir; /x file 0; /y file 1 62
+step g S strict order 0,0,0,1,1,1,1,1,1 cut 11 again 5 = s.0 open x /x wc = fd 0; s.1 open y /y wc = fd 1; 1.0 write y 62 = count 1; / dir; /x file 0; /y file 1 62
+step g S strict order 0,0,0,1,1,1,1,1,1 cut 11 again 20 = s.0 open x /x wc = fd 0; s.1 open y /y wc = fd 1; 1.0 write y 62 = count 1; / dir; /x file 0; /y file 1 62
+step g S strict order 0,0,0,1,1,1,1,1,1 cut 11 again 27 = s.0 open x /x wc = fd 0; s.1 open y /y wc = fd 1; 1.0 write y 62 = count 1; / dir; /x file 0; /y file 1 62
+step g S strict order 0,0,0,1,1,1,1,1,1 cut 11 again 28 = s.0 open x /x wc = fd 0; s.1 open y /y wc = fd 1; 1.0 write y 62 = count 1; / dir; /x file 0; /y file 1 62
+step g S strict order 0,0,0,1,1,1,1,1,1 cut 11 again 29 = s.0 open x /x wc = fd 0; s.1 open y /y wc = fd 1; 1.0 write y 62 = count 1; / dir; /x file 0; /y file 1 62
+step g S strict order 0,0,0,1,1,1,1,1,1 cut 11 again 40 = s.0 open x /x wc = fd 0; s.1 open y /y wc = fd 1; 1.0 write y 62 = count 1; / dir; /x file 0; /y file 1 62
+step g S strict order 0,0,0,1,1,1,1,1,1 cut 11 again 60 = s.0 open x /x wc = fd 0; s.1 open y /y wc = fd 1; 1.0 write y 62 = count 1; / dir; /x file 0; /y file 1 62
+step g S strict order 0,0,0,1,1,1,1,1,1 cut 11 again 100 = s.0 open x /x wc = fd 0; s.1 open y /y wc = fd 1; 1.0 write y 62 = count 1; / dir; /x file 0; /y file 1 62
+step g S strict order 0,0,0,1,1,1,1,1,1 cut 11 again 1000000 = s.0 open x /x wc = fd 0; s.1 open y /y wc = fd 1; 1.0 write y 62 = count 1; / dir; /x file 0; /y file 1 62
+step g S strict order 0,0,0,1,1,1,1,1,1 cut 11 again 1,2,3 = s.0 open x /x wc = fd 0; s.1 open y /y wc = fd 1; 1.0 write y 62 = count 1; / dir; /x file 0; /y file 1 62
+step g S strict order 0,0,0,1,1,1,1,1,1 cut 11 again 7,0,30,30,30,1,1,2 = s.0 open x /x wc = fd 0; s.1 open y /y wc = fd 1; 1.0 write y 62 = count 1; / dir; /x file 0; /y file 1 62
+step g S strict again = splitfs: usage
+step g S strict again  = splitfs: usage
+step g S strict again 1,2,3,4,5,6,7,8,9 = splitfs: usage
+step g S strict again 1 stop 1 = splitfs: usage
+step g S strict choose odd again 1 = splitfs: usage
+step g S strict again 1,a = splitfs: usage
+step g S strict again 1, = splitfs: usage
 ";
 
 const WORDS: &str = "\
@@ -114,7 +139,7 @@ fn long_order(alloc: Global, ones: u32, told: &str) -> Result<String, AllocError
 
 #[test]
 fn cut_behind_events(rt: HostRuntime) -> Result<(), Fail> {
-    assert_rows(&rt, CUT, 7, &session_told)?;
+    assert_rows(&rt, CUT, 8, &session_told)?;
     Ok(())
 }
 
